@@ -1,0 +1,145 @@
+-- The tests of a game, place by place and rule by rule.
+use Rattle.std.proofs.Common.{◌≡◌, ℕ, zero, suc, ◌+◌, ◌-◌, ◌*◌, ◌/◌, ◌%◌, ◌^◌, ◌<◌, ◌≤◌, true, false, not, ◌||◌, leb, List, [], ◌∷◌, length, take, drop, get_or, sum, refl, sym, ap, subst, ◌∙◌, arith, inl, inr}
+use Rattle.std.proofs.lemmas.List.Elements.{All-from_recursion}
+use Rattle.std.proofs.lemmas.List.Sums.{sum_by-take-drop, sum_by-drop_more}
+use Rattle.std.proofs.lemmas.Nat.{shr-shr}
+use Rattle.std.proofs.lemmas.Bool.{cases_lt, or_cases, both_ways, not-true, and_parts, and_from, and_left, and_right, le-leb, lt-leb, eqb-true, or_left, or_right, not_from_false, false_from_ne_true}
+use Rattle.council_game.specs.Votes.{RuleView, Votes, IsRule, IsVotes, rule_at, has, without, weight, wins, each_needed, minimal}
+use Rattle.std.proofs.lemmas.List.{length-map, get_or-map, take_all}
+use Rattle.council_game.specs.declared.rule.Rule.{Rule}
+use Rattle.council_game.specs.Rules.{rule_view, rule_views}
+use Rattle.council_game.specs.Weighing.{votes}
+use Rattle.council_game.proofs.Weights.{weight-more, weight-le, weight-without}
+
+-- a needed place: without it the set loses
+pub needed-at : (v : Votes) (c k q : ℕ) → each_needed v c k ≡ true → q < k → has v.members q c ≡ true → wins v.rules (without v.members q c) ≡ true → ⊥
+unfolding each_needed
+needed-at v c zero q h below inside win = omega arith
+needed-at v c (suc k) q h below inside win =
+    let parts = and_parts (not (has v.members k c) || not (wins v.rules (without v.members k c))) (each_needed v c k) h in
+    elim (cases_lt q k) [
+      | inl less ↦ needed-at v c k q parts.1 less inside win
+      | inr more ↦
+          let e : k ≡ q = omega arith in
+          let here : (not (has v.members q c) || not (wins v.rules (without v.members q c))) ≡ true =
+          subst (λ (i : ℕ). (not (has v.members i c) || not (wins v.rules (without v.members i c))) ≡ true) e parts.0 in
+          elim (or_cases _ _ here) [
+            | inl a ↦ both_ways _ (not-true _ a) inside
+            | inr b ↦ both_ways _ (not-true _ b) win
+          ]
+    ]
+
+fixed-half : (x k p : ℕ) → p < k → x / 2 ^ (k - p) ≡ x / 2 ^ (k - (p + 1)) / 2
+fixed-half x k p below =
+    let e : k - p ≡ (k - (p + 1)) + 1 = omega arith in
+    ap (λ (i : ℕ). x / 2 ^ i) e ∙ sym (shr-shr x (k - (p + 1)) 1)
+
+weight-next : (ws : List ℕ) (n m c p : ℕ) → m ≡ n → length ws ≡ n → p < n → weight (take (p + 1) ws) (c / 2 ^ (m - (p + 1))) ≡ weight (take p ws) (c / 2 ^ (m - p)) + c / 2 ^ (m - 1 - p) % 2 * get_or ws p 0
+weight-next ws n m c p e long below =
+    let y : c / 2 ^ (m - p) ≡ c / 2 ^ (m - (p + 1)) / 2 = fixed-half c m p (omega arith) in
+    let i : m - 1 - p ≡ m - (p + 1) = omega arith in
+    let whole : 2 * (c / 2 ^ (m - (p + 1)) / 2) + c / 2 ^ (m - (p + 1)) % 2 ≡ c / 2 ^ (m - (p + 1)) = omega arith in
+    let more = weight-more ws p (c / 2 ^ (m - (p + 1)) / 2) (c / 2 ^ (m - (p + 1)) % 2) (omega arith) (omega arith) in
+    ap (weight (take (p + 1) ws)) (sym whole) ∙ more ∙ rw (y, i) refl
+
+pub weight-in : (ws : List ℕ) (n m c p s t : ℕ) → m ≡ n → length ws ≡ n → p < n → s ≡ weight (take p ws) (c / 2 ^ (m - p)) → c / 2 ^ (m - 1 - p) % 2 ≡ 1 → t ≡ s + get_or ws p 0 → t ≡ weight (take (p + 1) ws) (c / 2 ^ (m - (p + 1)))
+weight-in ws n m c p s t e long below is odd sums =
+    let next = weight-next ws n m c p e long below in
+    let next' : weight (take (p + 1) ws) (c / 2 ^ (m - (p + 1))) ≡ weight (take p ws) (c / 2 ^ (m - p)) + 1 * get_or ws p 0 = rw odd at next in
+    omega (arith, next', is, sums)
+
+pub weight-out : (ws : List ℕ) (n m c p s t : ℕ) → m ≡ n → length ws ≡ n → p < n → s ≡ weight (take p ws) (c / 2 ^ (m - p)) → (c / 2 ^ (m - 1 - p) % 2 ≡ 1 → ⊥) → t ≡ s → t ≡ weight (take (p + 1) ws) (c / 2 ^ (m - (p + 1)))
+weight-out ws n m c p s t e long below is even sums =
+    let next = weight-next ws n m c p e long below in
+    let z : c / 2 ^ (m - 1 - p) % 2 ≡ 0 = omega arith in
+    let next' : weight (take (p + 1) ws) (c / 2 ^ (m - (p + 1))) ≡ weight (take p ws) (c / 2 ^ (m - p)) + 0 * get_or ws p 0 = rw z at next in
+    omega (arith, next', is, sums)
+
+pub rule-is : (v : Votes) (i : ℕ) → IsVotes v → i < length v.rules → IsRule v.members (rule_at v.rules i)
+rule-is v i game below = All-from_recursion (IsRule v.members) v.rules game.4 i _ below
+
+pub partial-fits : (ws : List ℕ) (p x : ℕ) → p < length ws → weight (take p ws) x + get_or ws p 0 ≤ sum ws
+partial-fits ws p x below =
+    let cut : sum (take p ws) + sum (drop p ws) ≡ sum ws = sum_by-take-drop (λ (y : ℕ). y) ws p in
+    let here : sum (drop p ws) ≡ get_or ws p 0 + sum (drop (p + 1) ws) = sum_by-drop_more (λ (y : ℕ). y) ws p 0 below in
+    let most : weight (take p ws) x ≤ sum (take p ws) = weight-le (take p ws) x in
+    omega (arith, cut, here, most)
+
+pub weight-all : (ws : List ℕ) (p c s : ℕ) → length ws ≤ p → s ≡ weight (take p ws) (c / 2 ^ (length ws - p)) → s ≡ weight ws c
+weight-all ws p c s le is =
+    let none : length ws - p ≡ 0 = omega arith in
+    let whole : c / 2 ^ (length ws - p) ≡ c = ap (λ (i : ℕ). c / 2 ^ i) none ∙ (let z : c / 2 ^ 0 ≡ c = omega arith in z) in
+    is ∙ ap (λ (l : List ℕ). weight l (c / 2 ^ (length ws - p))) (take_all p ws le) ∙ ap (weight ws) whole
+
+pub wins-lost : (rs : List RuleView) (i c : ℕ) → i < length rs → weight (rule_at rs i).weights c < (rule_at rs i).quota → wins rs c ≡ false
+unfolding wins
+wins-lost [] i c below less = absurd (omega arith)
+wins-lost (r ∷ rs) zero c below less = and_left (leb r.quota (weight r.weights c)) (wins rs c) (lt-leb r.quota (weight r.weights c) less)
+wins-lost (r ∷ rs) (suc i) c below less = and_right (leb r.quota (weight r.weights c)) (wins rs c) (wins-lost rs i c (omega arith) less)
+
+pub wins-next : (rs : List RuleView) (i c : ℕ) → i < length rs → wins (take i rs) c ≡ true → (rule_at rs i).quota ≤ weight (rule_at rs i).weights c → wins (take (suc i) rs) c ≡ true
+unfolding wins
+wins-next [] i c below won more = absurd (omega arith)
+wins-next (r ∷ rs) zero c below won more = and_from (leb r.quota (weight r.weights c)) true (le-leb r.quota (weight r.weights c) more) refl
+wins-next (r ∷ rs) (suc i) c below won more =
+    let parts = and_parts (leb r.quota (weight r.weights c)) (wins (take i rs) c) won in
+    and_from (leb r.quota (weight r.weights c)) (wins (take (suc i) rs) c) parts.0 (wins-next rs i c (omega arith) parts.1 more)
+
+pub not-minimal : (v : Votes) (c p : ℕ) → p < v.members → has v.members p c ≡ true → wins v.rules (without v.members p c) ≡ true → minimal v c ≡ false
+unfolding minimal
+not-minimal v c p below inside won =
+    false_from_ne_true _ (λ min.
+    let parts = and_parts (wins v.rules c) (each_needed v c v.members) min in
+    needed-at v c v.members p parts.1 below inside won)
+
+pub needed-out : (v : Votes) (c p : ℕ) → each_needed v c p ≡ true → has v.members p c ≡ false → each_needed v c (p + 1) ≡ true
+unfolding each_needed
+needed-out v c p needed out =
+    let suc_is : p + 1 ≡ suc p = omega arith in
+    ap (each_needed v c) suc_is ∙ and_from _ _ (or_left _ _ (not_from_false _ out)) needed
+
+pub needed-lost : (v : Votes) (c p : ℕ) → each_needed v c p ≡ true → wins v.rules (without v.members p c) ≡ false → each_needed v c (p + 1) ≡ true
+unfolding each_needed
+needed-lost v c p needed lost =
+    let suc_is : p + 1 ≡ suc p = omega arith in
+    ap (each_needed v c) suc_is ∙ and_from _ _ (or_right (not (has v.members p c)) _ (not_from_false _ lost)) needed
+
+pub is-minimal : (v : Votes) (c p : ℕ) → p ≡ v.members → wins v.rules c ≡ true → each_needed v c p ≡ true → true ≡ minimal v c
+unfolding minimal
+is-minimal v c p e won needed = sym (and_from _ _ won (ap (each_needed v c) (sym e) ∙ needed))
+
+pub lost-not_minimal : (v : Votes) (c : ℕ) → wins v.rules c ≡ false → false ≡ minimal v c
+unfolding minimal
+lost-not_minimal v c lost = sym (and_left _ _ lost)
+
+-- ---- rules as the code holds them
+pub rule-at : (rules : List Rule) (i : ℕ) (x : Rule) → i < length rules → x ≡ get_or rules i x → rule_at (rule_views rules) i ≡ rule_view x
+rule-at rules i x below at = get_or-map rule_view rules i x _ below ∙ ap rule_view (sym at)
+
+pub count-rules : (rules : List Rule) → length (rule_views rules) ≡ length rules
+count-rules rules = length-map rules rule_view
+
+pub held-rule : (n : ℕ) (rules : List Rule) (i : ℕ) (x : Rule) → IsVotes (votes n rules) → i < length rules → x ≡ get_or rules i x → IsRule n (rule_view x)
+held-rule n rules i x game below at =
+    subst (IsRule n) (rule-at rules i x below at) (rule-is (votes n rules) i game (omega (arith, count-rules rules)))
+
+-- a rule's weight of a coalition without one of its places
+pub sum-without : (n : ℕ) (r : RuleView) (c p s : ℕ) → IsRule n r → p < n → has n p c ≡ true → s ≡ weight r.weights c → s - get_or r.weights p 0 ≡ weight r.weights (without n p c)
+unfolding has without
+sum-without n r c p s is below inside sums =
+    let len : length r.weights ≡ n = is.0 in
+    let digit : c / 2 ^ (length r.weights - 1 - p) % 2 ≡ 1 = ap (λ (m : ℕ). c / 2 ^ (m - 1 - p) % 2) len ∙ eqb-true _ _ inside in
+    let w : weight r.weights (c - 2 ^ (length r.weights - 1 - p)) + get_or r.weights p 0 ≡ weight r.weights c = weight-without r.weights p c (omega arith) digit in
+    let moved : weight r.weights (c - 2 ^ (length r.weights - 1 - p)) ≡ weight r.weights (c - 2 ^ (n - 1 - p)) = ap (λ (m : ℕ). weight r.weights (c - 2 ^ (m - 1 - p))) len in
+    omega (arith, w, moved, sums)
+
+pub lost-by : (rs : List RuleView) (i c : ℕ) (r : RuleView) → i < length rs → rule_at rs i ≡ r → weight r.weights c < r.quota → wins rs c ≡ false
+lost-by rs i c r below at less = wins-lost rs i c below (subst (λ (x : RuleView). weight x.weights c < x.quota) (sym at) less)
+
+pub next-by : (rs : List RuleView) (i c : ℕ) (r : RuleView) → i < length rs → rule_at rs i ≡ r → wins (take i rs) c ≡ true → r.quota ≤ weight r.weights c → wins (take (i + 1) rs) c ≡ true
+next-by rs i c r below at won more =
+    let suc_is : i + 1 ≡ suc i = omega arith in
+    ap (λ (k : ℕ). wins (take k rs) c) suc_is ∙ wins-next rs i c below won (subst (λ (x : RuleView). x.quota ≤ weight x.weights c) (sym at) more)
+
+pub wins-all : (rs : List RuleView) (i c : ℕ) → length rs ≤ i → wins (take i rs) c ≡ true → wins rs c ≡ true
+wins-all rs i c le won = ap (λ (l : List RuleView). wins l c) (sym (take_all i rs le)) ∙ won

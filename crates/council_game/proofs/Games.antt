@@ -1,0 +1,132 @@
+-- The votes of a game.
+use Rattle.std.proofs.Common.{◌≡◌, ℕ, ◌*◌, ◌<◌, ◌≤◌, Bool, true, false, not, ◌||◌, ltb, List, [], ◌∷◌, length, get_or, map, sum, refl, sym, ap, ◌∙◌, subst, arith, inl, inr, Option, Some, None, Result, Ok}
+use Rattle.std.specs.List.{AllByRecursion, list_any, range_with_len, position, position_or_len}
+use Rattle.std.proofs.lemmas.List.FromFn.{length-range_with_len}
+use Rattle.std.specs.Option.{option_map_or}
+use Rattle.std.proofs.lemmas.List.{length-map, get_or_default}
+use Rattle.std.proofs.lemmas.List.Elements.{recursion_from_All}
+use Rattle.std.proofs.lemmas.List.Sums.{sum_by-le, fails_before_first}
+use Rattle.std.proofs.lemmas.Bool.{cases_lt, or_parts, ltb-false, lt-ltb, cond-true}
+use Rattle.council_game.specs.declared.fault.GameFault.{GameFault}
+use Rattle.council_game.specs.declared.fault.GameFault.TheVariants.{Title, Members, Name, SameName, Weight, QuotaRange}
+use Rattle.council_game.specs.Fault.{◌>>=◌, refuse, refuse_at}
+use Rattle.council_game.specs.Votes.{RuleView, IsRule, IsRanked, IsVotes}
+use Rattle.council_game.specs.Ranks.{places, rank_places, rule_by_rank, members_by_rank, weights_at}
+use Rattle.council_game.specs.Game.{GameView, IsGame, made_game, first_weights, votes_of, is_title, is_name, is_repeat, is_heavy, has_bad_quota}
+use Rattle.council_game.proofs.Rankings.{ranking-sum, ranking-falls, length-weights_by_rank, length-rank_places, places-at}
+use Rattle.council_game.proofs.Order.{ranking}
+
+-- ---- what a game that was made has passed
+refused : {B : Type 0} (b : Bool) (fault : GameFault) (k : Unit {0} → Result B GameFault) (y : B) → (refuse b fault >>= k) ≡ Ok y → (b ≡ false) × (k tt ≡ Ok y)
+refused true fault k y h = absurd (cc)
+refused false fault k y h = (refl, h)
+
+refused_at : {B : Type 0} (fault : ℕ → GameFault) (o : Option ℕ) (k : Unit {0} → Result B GameFault) (y : B) → (refuse_at fault o >>= k) ≡ Ok y → (o ≡ None) × (k tt ≡ Ok y)
+refused_at fault None k y h = (refl, h)
+refused_at fault (Some i) k y h = absurd (cc)
+
+ok-same : {A E : Type 0} (x y : A) → ◌≡◌ {A = Result A E} (Ok x) (Ok y) → x ≡ y
+ok-same x y h = cc
+
+pub record Passed (g : GameView) : Type 0 where
+  pub members : (ltb (length g.names) 1 || ltb 40 (length g.names)) ≡ false
+  pub weights : position (is_heavy g.rules) (range_with_len 0 (length g.names)) ≡ None
+  pub quotas : list_any has_bad_quota g.rules ≡ false
+  pub ranks : g.ranks ≡ rank_places (first_weights g.rules)
+
+pub passed : (g : GameView) → made_game g.title g.names g.rules ≡ Ok g → Passed g
+unfolding made_game
+passed g h =
+    let made : GameView = record { title = g.title; names = g.names; rules = g.rules; ranks = rank_places (first_weights g.rules) } in
+    let last : Unit {0} → Result GameView GameFault = λ _. Ok made in
+    let quotas : Unit {0} → Result GameView GameFault = λ _. refuse (list_any has_bad_quota g.rules) QuotaRange >>= last in
+    let weights : Unit {0} → Result GameView GameFault = λ _. refuse_at Weight (position (is_heavy g.rules) (range_with_len 0 (length g.names))) >>= quotas in
+    let repeats : Unit {0} → Result GameView GameFault = λ _. refuse_at SameName (position (is_repeat g.names) (places g.names)) >>= weights in
+    let names : Unit {0} → Result GameView GameFault = λ _. refuse_at Name (position (λ name. not (is_name name)) g.names) >>= repeats in
+    let members : Unit {0} → Result GameView GameFault = λ _. refuse (ltb (length g.names) 1 || ltb 40 (length g.names)) Members >>= names in
+    let a = refused (option_map_or (λ t. not (is_title t)) g.title false) Title members g h in
+    let b = refused (ltb (length g.names) 1 || ltb 40 (length g.names)) Members names g a.1 in
+    let c = refused_at Name (position (λ name. not (is_name name)) g.names) repeats g b.1 in
+    let d = refused_at SameName (position (is_repeat g.names) (places g.names)) weights g c.1 in
+    let e = refused_at Weight (position (is_heavy g.rules) (range_with_len 0 (length g.names))) quotas g d.1 in
+    let f = refused (list_any has_bad_quota g.rules) QuotaRange last g e.1 in
+    record {
+      members = b.0;
+      weights = e.0;
+      quotas = f.0;
+      ranks = sym (ap (λ (v : GameView). v.ranks) (ok-same made g f.1));
+    }
+
+-- ---- no weight is above the limit
+some-none : (i : ℕ) → ◌≡◌ {A = Option ℕ} (Some i) None → ⊥
+some-none i h = cc
+
+pub position-none : (f : ℕ → Bool) (n : ℕ) → position f (range_with_len 0 n) ≡ None → (i : ℕ) → i < n → f i ≡ false
+position-none f n none i lt =
+    let len = length-range_with_len 0 n in
+    elim (cases_lt (position_or_len f (range_with_len 0 n)) (length (range_with_len 0 n))) [
+      | inl found ↦ absurd (some-none _ (sym (cond-true _ (Some (position_or_len f (range_with_len 0 n))) None (lt-ltb _ _ found)) ∙ none))
+      | inr all ↦ ap f (sym (places-at n i 0 lt)) ∙ fails_before_first f (range_with_len 0 n) i 0 (omega (arith, len))
+    ]
+
+none-any : {X : Type 0} (f : X → Bool) (xs : List X) → list_any f xs ≡ false → AllByRecursion (λ x. f x ≡ false) xs
+none-any f [] h = tt
+none-any f (x ∷ xs) h = let parts = or_parts (f x) (list_any f xs) h in (parts.0, none-any f xs parts.1)
+
+-- the weights of each rule are in range
+pub light-rules : (n : ℕ) (rs : List RuleView) → ((i : ℕ) → i < n → is_heavy rs i ≡ false) → AllByRecursion (λ r. (i : ℕ) → i < n → get_or r.weights i 0 ≤ 1000000000000) rs
+light-rules n [] h = tt
+light-rules n (r ∷ rs) h = (
+  λ i lt. ltb-false _ _ (or_parts (ltb 1000000000000 (get_or r.weights i 0)) (is_heavy rs i) (h i lt)).0,
+  light-rules n rs (λ i lt. (or_parts (ltb 1000000000000 (get_or r.weights i 0)) (is_heavy rs i) (h i lt)).1),
+)
+
+pub light-sum : (n : ℕ) (ws : List ℕ) → length ws ≡ n → n ≤ 40 → ((i : ℕ) → i < n → get_or ws i 0 ≤ 1000000000000) → sum ws ≤ 40000000000000
+light-sum n ws len few light =
+    let most : sum ws ≤ length ws * 1000000000000 = sum_by-le (λ x. x) 1000000000000 ws (λ k d lt. let e : get_or ws k d ≡ get_or ws k 0 = get_or_default ws k d 0 lt in omega (arith, light k (omega arith))) in
+    omega arith
+
+-- ---- the rules by rank
+rule-votes : (n : ℕ) (first : List ℕ) (r : RuleView) → n ≤ 40 → length first ≡ n → length r.weights ≡ n → ((i : ℕ) → i < n → get_or r.weights i 0 ≤ 1000000000000) → has_bad_quota r ≡ false → IsRule n (rule_by_rank (rank_places first) r)
+rule-votes n first r few len len2 light quota =
+    let found = ranking first in
+    let same : sum (weights_at r.weights (members_by_rank (rank_places first))) ≡ sum r.weights = ranking-sum first found.0 r.weights found.1 (omega arith) in
+    let least = or_parts (ltb r.quota 1) (ltb (sum r.weights) r.quota) quota in
+    let one : 1 ≤ r.quota = ltb-false _ _ least.0 in
+    let most : r.quota ≤ sum r.weights = ltb-false _ _ least.1 in
+    let bound = light-sum n r.weights len2 few light in
+    (length-weights_by_rank (rank_places first) r.weights ∙ length-rank_places first ∙ len, one, omega (arith, same), omega (arith, same))
+
+rules-votes : (n : ℕ) (first : List ℕ) (rs : List RuleView) → n ≤ 40 → length first ≡ n → AllByRecursion (λ r. length r.weights ≡ n) rs → AllByRecursion (λ r. (i : ℕ) → i < n → get_or r.weights i 0 ≤ 1000000000000) rs → AllByRecursion (λ r. has_bad_quota r ≡ false) rs → AllByRecursion (IsRule n) (map (rule_by_rank (rank_places first)) rs)
+rules-votes n first [] few len full light quotas = tt
+rules-votes n first (r ∷ rs) few len full light quotas = (rule-votes n first r few len full.0 light.0 quotas.0, rules-votes n first rs few len full.1 light.1 quotas.1)
+
+rules-ranked : (rs : List RuleView) → IsRanked (map (rule_by_rank (rank_places (first_weights rs))) rs)
+rules-ranked [] = tt
+rules-ranked (r ∷ rs) = λ a b le lt.
+    let found = ranking r.weights in
+    let len = length-weights_by_rank (rank_places r.weights) r.weights ∙ length-rank_places r.weights in
+    ranking-falls r.weights found.0 a b found.1 le (omega arith)
+
+pub first-full : (n : ℕ) (rs : List RuleView) → 0 < length rs → AllByRecursion (λ r. length r.weights ≡ n) rs → length (first_weights rs) ≡ n
+first-full n [] some full = absurd (omega arith)
+first-full n (r ∷ rs) some full = full.0
+
+-- the votes of each game are a ranked game
+pub votes-are : (g : GameView) → IsGame g → IsVotes (votes_of g)
+votes-are g game =
+    let p = passed g game.made in
+    let n : ℕ = length g.names in
+    let sizes = or_parts (ltb (length g.names) 1) (ltb 40 (length g.names)) p.members in
+    let one : 1 ≤ length g.names = ltb-false _ _ sizes.0 in
+    let few : length g.names ≤ 40 = ltb-false _ _ sizes.1 in
+    let full = recursion_from_All (λ (r : RuleView). length r.weights ≡ length g.names) g.rules game.full in
+    let light = light-rules (length g.names) g.rules (position-none (is_heavy g.rules) (length g.names) p.weights) in
+    let quotas = none-any has_bad_quota g.rules p.quotas in
+    let len = first-full (length g.names) g.rules game.has_rule full in
+    let count : length (map (rule_by_rank g.ranks) g.rules) ≡ length g.rules = length-map g.rules (rule_by_rank g.ranks) in
+    let all : AllByRecursion (IsRule (length g.names)) (map (rule_by_rank g.ranks) g.rules) =
+    subst (λ (ranks : List ℕ). AllByRecursion (IsRule (length g.names)) (map (rule_by_rank ranks) g.rules)) (sym p.ranks) (rules-votes (length g.names) (first_weights g.rules) g.rules few len full light quotas) in
+    let up : IsRanked (map (rule_by_rank g.ranks) g.rules) =
+    subst (λ (ranks : List ℕ). IsRanked (map (rule_by_rank ranks) g.rules)) (sym p.ranks) (rules-ranked g.rules) in
+    (one, few, omega (arith, count, game.has_rule), omega (arith, count, game.few_rules), all, up)

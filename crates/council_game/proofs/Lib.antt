@@ -1,0 +1,15 @@
+pub mod Lists
+pub mod Names
+pub mod RuleLists
+pub mod Rankings
+pub mod Order
+pub mod Sorting
+pub mod Games
+pub mod Making
+pub mod Weights
+pub mod GameTests
+pub mod Monotone
+pub mod Subsets
+pub mod Listing
+pub mod Sizes
+pub mod RankPlaces

@@ -1,0 +1,115 @@
+-- The list of minimal coalitions.
+use Rattle.std.proofs.Common.{◌≡◌, ◌≢◌, ℕ, zero, suc, ◌+◌, ◌-◌, ◌*◌, ◌/◌, ◌%◌, ◌^◌, ◌<◌, ◌≤◌, Bool, true, false, leb, List, [], ◌∷◌, ◌++◌, length, sum, refl, sym, ap, ◌∙◌, subst, arith, inl, inr}
+use Rattle.std.specs.List.{AllByRecursion, All, AllPairs, filter}
+use Rattle.std.proofs.lemmas.Nat.{pow_pos, div-mul-add, one_shl}
+use Rattle.std.proofs.lemmas.List.{append_assoc, append-nil}
+use Rattle.std.proofs.Math.Nat.{pow-suc, pow-le-pow_right}
+use Rattle.std.proofs.lemmas.List.Elements.{All-cons, All-nil, All-weaker, filter_passes}
+use Rattle.std.proofs.lemmas.List.Kept.{AllPairs-cons, AllPairs-filter}
+use Rattle.std.proofs.lemmas.List.Sums.{sum_by-cons}
+use Rattle.std.proofs.lemmas.Bool.{and_parts, and_from, le-leb, leb-true, cases_Bool, cases_eq, both_ways, cond-true, cond-false}
+use Rattle.council_game.specs.Votes.{RuleView, Votes, IsRule, IsVotes, weight, wins, minimal, down, minimal_below, minimal_coalitions}
+use Rattle.council_game.specs.Laws.{IsListing}
+use Rattle.council_game.proofs.Weights.{weight-skip, weight-zero}
+use Rattle.council_game.proofs.Monotone.{minimal-below_winning}
+
+-- all members together weigh all
+weight-full : (ws : List ℕ) → weight ws (2 ^ length ws - 1) ≡ sum ws
+unfolding weight
+weight-full [] = refl
+weight-full (w ∷ vs) =
+    let double : 2 ^ suc (length vs) ≡ 2 ^ length vs * 2 = pow-suc 2 (length vs) in
+    let pos : 0 < 2 ^ length vs = pow_pos (length vs) in
+    let e : 2 ^ suc (length vs) - 1 ≡ 1 * 2 ^ length vs + (2 ^ length vs - 1) = omega arith in
+    let top : (2 ^ suc (length vs) - 1) / 2 ^ length vs ≡ 1 = ap (λ (i : ℕ). i / 2 ^ length vs) e ∙ div-mul-add 1 (2 ^ length vs) (2 ^ length vs - 1) (omega arith) in
+    let digit : (2 ^ suc (length vs) - 1) / 2 ^ length vs % 2 ≡ 1 = ap (λ (i : ℕ). i % 2) top in
+    let rest : weight vs (2 ^ suc (length vs) - 1) ≡ sum vs = ap (weight vs) e ∙ weight-skip vs 1 (2 ^ length vs - 1) ∙ weight-full vs in
+    let s : sum (w ∷ vs) ≡ w + sum vs = sum_by-cons (λ (y : ℕ). y) w vs in
+    rw (digit) (omega (arith, rest, s))
+
+wins-full : (n : ℕ) (rs : List RuleView) → AllByRecursion (IsRule n) rs → wins rs (2 ^ n - 1) ≡ true
+unfolding wins
+wins-full n [] all = refl
+wins-full n (r ∷ rs) all =
+    let len : length r.weights ≡ n = all.0.0 in
+    let full : weight r.weights (2 ^ n - 1) ≡ sum r.weights = ap (λ (m : ℕ). weight r.weights (2 ^ m - 1)) (sym len) ∙ weight-full r.weights in
+    and_from (leb r.quota (weight r.weights (2 ^ n - 1))) (wins rs (2 ^ n - 1)) (le-leb r.quota (weight r.weights (2 ^ n - 1)) (omega (arith, full, all.0.2))) (wins-full n rs all.1)
+
+-- the empty coalition loses
+none-wins : (n : ℕ) (rs : List RuleView) → AllByRecursion (IsRule n) rs → 1 ≤ length rs → wins rs 0 ≡ true → ⊥
+unfolding wins
+none-wins n [] all some h = omega arith
+none-wins n (r ∷ rs) all some h =
+    let parts = and_parts (leb r.quota (weight r.weights 0)) (wins rs 0) h in
+    let quota : r.quota ≤ weight r.weights 0 = leb-true _ _ parts.0 in
+    let zero_is = weight-zero r.weights in
+    omega (arith, quota, zero_is, all.0.1)
+
+down-below : (n m : ℕ) → n ≤ m → All (λ c. c < m) (down n)
+unfolding down
+down-below zero m le = All-nil (λ c. c < m)
+down-below (suc n) m le = All-cons (λ c. c < m) n (down n) (omega arith) (down-below n m (omega arith))
+
+down-descends : (n : ℕ) → AllPairs (λ a b. b < a) (down n)
+unfolding down
+down-descends zero = λ i j d less lt. absurd (omega arith)
+down-descends (suc n) = AllPairs-cons (λ a b. b < a) n (down n) (down-below n n (omega arith)) (down-descends n)
+
+some-left : (p : ℕ → Bool) (n m : ℕ) → m < n → p m ≡ true → 0 < length (filter p (down n))
+unfolding down
+some-left p zero m lt h = absurd (omega arith)
+some-left p (suc n) m lt h =
+    elim (cases_Bool (p n)) [
+      | inl is ↦ subst (λ (l : List ℕ). 0 < length l) (sym (cond-true (p n) (n ∷ filter p (down n)) (filter p (down n)) is)) (omega arith)
+      | inr isnt ↦
+          subst (λ (l : List ℕ). 0 < length l) (sym (cond-false (p n) (n ∷ filter p (down n)) (filter p (down n)) isnt))
+          (some-left p n m (elim (cases_eq m n) [
+            | inl same ↦ absurd (both_ways _ isnt (ap p (sym same) ∙ h))
+            | inr other ↦ omega arith
+          ]) h)
+    ]
+
+pub listing-is : (v : Votes) → IsVotes v → IsListing v
+unfolding minimal_coalitions minimal_below minimal
+listing-is v game =
+    let pos : 0 < 2 ^ v.members = pow_pos v.members in
+    let found = minimal-below_winning v (2 ^ v.members) (2 ^ v.members - 1) (omega arith) (wins-full v.members v.rules game.4) in
+    record {
+      some = some-left (minimal v) (2 ^ v.members) found.0 (omega (arith, found.1)) found.2;
+      descending = AllPairs-filter (λ a b. b < a) (minimal v) (down (2 ^ v.members)) (down-descends (2 ^ v.members));
+      none_empty = All-weaker (λ c. minimal v c ≡ true) (λ c. c ≢ 0) (λ c min e. none-wins v.members v.rules game.4 game.2 (ap (wins v.rules) (sym e) ∙ (and_parts _ _ min).0)) (filter (minimal v) (down (2 ^ v.members))) (filter_passes (minimal v) (down (2 ^ v.members)));
+    }
+
+-- ---- the list, filled from above
+pub listed-start : (v : Votes) (xs : List ℕ) (n : ℕ) → xs ≡ [] → n ≡ v.members → n ≤ 20 → (xs ++ minimal_below v (1 * 2 ^ n % 2 ^ 64) ≡ minimal_coalitions v) × (1 * 2 ^ n % 2 ^ 64 ≤ 2 ^ 20)
+unfolding minimal_coalitions
+listed-start v xs n none e few =
+    let shl : 1 * 2 ^ n % 2 ^ 64 ≡ 2 ^ n = one_shl n 64 (omega arith) in
+    let most : 2 ^ n ≤ 2 ^ 20 = (let two : 0 < 2 = omega arith in pow-le-pow_right two few) in
+    (ap (λ (l : List ℕ). l ++ minimal_below v (1 * 2 ^ n % 2 ^ 64)) none ∙ ap (minimal_below v) shl ∙ ap (λ (m : ℕ). minimal_below v (2 ^ m)) e, omega (arith, shl, most))
+
+pub listed-more : (v : Votes) (xs ys all : List ℕ) (m c : ℕ) → 0 < m → c ≡ m - 1 → minimal v c ≡ true → ys ≡ xs ++ c ∷ [] → xs ++ minimal_below v m ≡ all → ys ++ minimal_below v (m - 1) ≡ all
+unfolding minimal_below down
+listed-more v xs ys all m c pos is min pushed h =
+    let e : m ≡ suc (m - 1) = omega arith in
+    let first : minimal v (m - 1) ≡ true = ap (minimal v) (sym is) ∙ min in
+    let more : minimal_below v m ≡ (m - 1) ∷ minimal_below v (m - 1) = ap (minimal_below v) e ∙ cond-true (minimal v (m - 1)) _ _ first in
+    ap (λ (l : List ℕ). l ++ minimal_below v (m - 1)) pushed
+    ∙ append_assoc xs (c ∷ []) (minimal_below v (m - 1))
+    ∙ ap (λ (i : ℕ). xs ++ (i ∷ minimal_below v (m - 1))) is
+    ∙ ap (λ (l : List ℕ). xs ++ l) (sym more)
+    ∙ h
+
+pub listed-less : (v : Votes) (xs all : List ℕ) (m c : ℕ) → 0 < m → c ≡ m - 1 → minimal v c ≡ false → xs ++ minimal_below v m ≡ all → xs ++ minimal_below v (m - 1) ≡ all
+unfolding minimal_below down
+listed-less v xs all m c pos is fails h =
+    let e : m ≡ suc (m - 1) = omega arith in
+    let out : minimal v (m - 1) ≡ false = ap (minimal v) (sym is) ∙ fails in
+    let same : minimal_below v m ≡ minimal_below v (m - 1) = ap (minimal_below v) e ∙ cond-false (minimal v (m - 1)) _ _ out in
+    ap (λ (l : List ℕ). xs ++ l) (sym same) ∙ h
+
+pub listed-all : (v : Votes) (xs all : List ℕ) (m : ℕ) → m ≤ 0 → xs ++ minimal_below v m ≡ all → xs ≡ all
+unfolding minimal_below down
+listed-all v xs all m le h =
+    let e : m ≡ 0 = omega arith in
+    sym (append-nil xs) ∙ ap (λ (i : ℕ). xs ++ minimal_below v i) (sym e) ∙ h

@@ -1,0 +1,191 @@
+-- The tables of a game that is made.
+use Rattle.std.proofs.Common.{◌≡◌, ℕ, ◌-◌, ◌^◌, ◌<◌, ◌≤◌, min, eqb, List, [], ◌∷◌, length, get_or, map, sum, refl, sym, ap, ◌∙◌, subst, arith, All, Option, Ok, String, Global, string_bytes, option_map}
+use Rattle.std.specs.List.{AllByRecursion}
+use Rattle.std.proofs.lemmas.List.{length-map, get_or-map, same_lists, get_or_default}
+use Rattle.std.proofs.lemmas.List.FromFn.{length-range_with_len}
+use Rattle.std.proofs.lemmas.List.Elements.{recursion_from_All}
+use Rattle.std.proofs.lemmas.List.Sums.{position_or_len_is}
+use Rattle.std.proofs.lemmas.List.Sorted.{All-permutation}
+use Rattle.std.proofs.lemmas.Bool.{ne_eqb, eq-eqb, ltb-false, or_parts}
+use Rattle.council_game.specs.declared.rule.Rule.{Rule}
+use Rattle.council_game.specs.Votes.{RuleView, IsVotes, rule_at}
+use Rattle.council_game.specs.Weighing.{votes}
+use Rattle.council_game.specs.Ranks.{places, place_in, member_at, rank_place, rank_places, members_by_rank, rule_along, rule_by_rank}
+use Rattle.council_game.specs.Rules.{rule_view, rule_views}
+use Rattle.council_game.specs.Game.{GameView, IsGame, made_game, first_weights, total, is_heavy, votes_of}
+use Rattle.council_game.specs.Parts.{game_of_parts}
+use Rattle.council_game.proofs.RuleLists.{All_map, held_full}
+use Rattle.council_game.proofs.Lists.{length_map as map_length}
+use Rattle.council_game.proofs.Rankings.{IsRanking, ranking-member_at, ranking-below, ranking-is, ranking-length, rank-of, rank_places-at, length-rank_places, place-found, places-at, places-below}
+use Rattle.council_game.proofs.Order.{ranking}
+use Rattle.council_game.proofs.GameTests.{held-rule, rule-at}
+use Rattle.council_game.proofs.Games.{passed, votes-are, first-full, light-rules, light-sum, position-none}
+
+-- the place of each member in a ranking is its rank place
+ranking-places : (ws qs : List ℕ) → IsRanking ws qs → map (place_in qs) (places qs) ≡ rank_places ws
+ranking-places ws qs r =
+    let len = ranking-length ws qs r in
+    let len2 = length-rank_places ws in
+    let len3 = length-range_with_len 0 (length qs) in
+    let len4 : length (map (place_in qs) (places qs)) ≡ length qs = length-map (places qs) (place_in qs) ∙ len3 in
+    same_lists (map (place_in qs) (places qs)) (rank_places ws) (len4 ∙ len ∙ sym len2)
+    (λ i d lt.
+    let below : i < length ws = omega (arith, len4, len) in
+    let found = place-found ws qs i r below in
+    let own : rank_place ws i ≡ found.0 = ap (rank_place ws) (sym found.2) ∙ rank-of ws qs found.0 r found.1 in
+    let first : place_in qs i ≡ found.0 =
+    position_or_len_is (λ y. eqb y i) qs found.0 0 (omega (arith, found.1))
+    (λ k less. ne_eqb _ _ (λ e.
+    let in' : k < length qs = omega (arith, less, found.1) in
+    let other : rank_place ws i ≡ k = ap (rank_place ws) (sym e) ∙ rank-of ws qs k r in' in
+    omega (arith, own, other, less)))
+    (λ _. eq-eqb _ _ found.2) in
+    get_or-map (place_in qs) (places qs) i 0 d (omega (arith, len4, len3))
+    ∙ ap (place_in qs) (places-at (length qs) i 0 (omega (arith, len4)))
+    ∙ first ∙ sym own ∙ sym (rank_places-at ws i below)
+    ∙ get_or_default (rank_places ws) i 0 d (omega (arith, len2)))
+
+pub order-places : (ws os : List ℕ) → os ≡ members_by_rank (rank_places ws) → map (place_in os) (places os) ≡ rank_places ws
+order-places ws os e =
+    let found = ranking ws in
+    ap (λ (l : List ℕ). map (place_in l) (places l)) (e ∙ sym (ranking-is ws found.0 found.1)) ∙ ranking-places ws found.0 found.1
+
+pub order-below : (ws os : List ℕ) → os ≡ members_by_rank (rank_places ws) → All (λ i. i < length ws) os
+order-below ws os e =
+    let found = ranking ws in
+    let all : All (λ i. i < length ws) found.0 = All-permutation (λ i. i < length ws) (places ws) found.0 found.1.each (places-below (length ws)) in
+    subst (λ (l : List ℕ). All (λ i. i < length ws) l) (ranking-is ws found.0 found.1 ∙ sym e) all
+
+first-length : (rules : List Rule) (n : ℕ) → 0 < length rules → All (λ r. length r.weights.items ≡ n) rules → length (first_weights (rule_views rules)) ≡ n
+first-length [] n some full = absurd (omega arith)
+first-length (r ∷ rs) n some full = full 0 r (omega arith)
+
+pub order-fits : (rules : List Rule) (n : ℕ) (os : List ℕ) → 0 < length rules → All (λ r. length r.weights.items ≡ n) rules → os ≡ members_by_rank (rank_places (first_weights (rule_views rules))) → All (λ r. All (λ i. i < length r.weights.items) os) rules
+order-fits rules n os some full e k d lt j i below =
+    let len = first-length rules n some full in
+    let here = full k d lt in
+    let h = order-below (first_weights (rule_views rules)) os e j i below in
+    omega (arith, len, here, h)
+
+-- no total is too great
+light-sums : (n : ℕ) (rs : List RuleView) → n ≤ 40 → AllByRecursion (λ r. length r.weights ≡ n) rs → AllByRecursion (λ r. (i : ℕ) → i < n → get_or r.weights i 0 ≤ 1000000000000) rs → AllByRecursion (λ r. total r ≤ 40000000000000) rs
+light-sums n [] few full light = tt
+light-sums n (r ∷ rs) few full light = (light-sum n r.weights full.0 few light.0, light-sums n rs few full.1 light.1)
+
+pub sums-fit : (g : GameView) → IsGame g → AllByRecursion (λ r. total r ≤ 40000000000000) g.rules
+sums-fit g game =
+    let p = passed g game.made in
+    let few : length g.names ≤ 40 = ltb-false _ _ (or_parts _ _ p.members).1 in
+    light-sums (length g.names) g.rules few
+    (recursion_from_All (λ (r : RuleView). length r.weights ≡ length g.names) g.rules game.full)
+    (light-rules (length g.names) g.rules (position-none (is_heavy g.rules) (length g.names) p.weights))
+
+capped : (rules : List Rule) → AllByRecursion (λ r. total r ≤ 40000000000000) (rule_views rules) → map (λ r. min (sum r.weights.items) (2 ^ 64 - 1)) rules ≡ map total (rule_views rules)
+capped [] fit = refl
+capped (r ∷ rs) fit =
+    let here : min (sum r.weights.items) (2 ^ 64 - 1) ≡ sum r.weights.items = (let f : sum r.weights.items ≤ 40000000000000 = fit.0 in omega arith) in
+    ap (λ (x : ℕ). x ∷ map (λ (q : Rule). min (sum q.weights.items) (2 ^ 64 - 1)) rs) here ∙ ap (λ (l : List ℕ). sum r.weights.items ∷ l) (capped rs fit.1)
+
+pub totals-are : (g : GameView) (rules : List Rule) (ts : List ℕ) → IsGame g → g.rules ≡ rule_views rules → ts ≡ map (λ r. min (sum r.weights.items) (2 ^ 64 - 1)) rules → ts ≡ map total (rule_views rules)
+totals-are g rules ts game same e = e ∙ capped rules (subst (AllByRecursion (λ r. total r ≤ 40000000000000)) same (sums-fit g game))
+
+pub ranked-are : (rs xs : List RuleView) (ks os : List ℕ) → os ≡ members_by_rank ks → xs ≡ map (rule_along os) rs → xs ≡ map (rule_by_rank ks) rs
+ranked-are rs xs ks os e h = h ∙ ap (λ (l : List ℕ). map (rule_along l) rs) e
+
+pub made-game : (title : Option (String Global)) (names ns : List (String Global)) (rules rs : List Rule) (ks : List ℕ) → ns ≡ names → rs ≡ rules → ks ≡ rank_places (first_weights (rule_views rules))
+    → made_game (option_map string_bytes title) (map string_bytes ns) (rule_views rs) ≡ Ok (record { title = option_map string_bytes title; names = map string_bytes ns; rules = rule_views rs; ranks = rank_places (first_weights (rule_views rs)) })
+    → made_game (option_map string_bytes title) (map string_bytes names) (rule_views rules) ≡ Ok (game_of_parts title names rules ks)
+made-game title names ns rules rs ks en er ek h = rw (ek, ← en, ← er) h
+
+pub is-game : (title : Option (String Global)) (names : List (String Global)) (rules : List Rule) (ks : List ℕ) → 0 < length rules → length rules ≤ 4 → All (λ r. length r.weights.items ≡ length names) rules
+    → made_game (option_map string_bytes title) (map string_bytes names) (rule_views rules) ≡ Ok (game_of_parts title names rules ks) → IsGame (game_of_parts title names rules ks)
+is-game title names rules ks some few full made =
+    let count = map_length rule_view rules in
+    let size = map_length string_bytes names in
+    record {
+      made = made;
+      has_rule = omega (arith, count);
+      few_rules = omega (arith, count);
+      full = rw size (All_map (λ r. length r.weights ≡ length names) rule_view rules full);
+    }
+
+-- ---- places and members
+pub record RanksAre (n : ℕ) (ranks : List ℕ) : Type 0 where
+  pub count : length ranks ≡ n
+  pub place_below : (i : ℕ) → i < n → get_or ranks i 0 < n
+  pub member_back : (i : ℕ) → i < n → member_at ranks (get_or ranks i 0) ≡ i
+  pub member_below : (p : ℕ) → p < n → member_at ranks p < n
+  pub place_back : (p : ℕ) → p < n → get_or ranks (member_at ranks p) 0 ≡ p
+
+ranks-of : (ws : List ℕ) → RanksAre (length ws) (rank_places ws)
+ranks-of ws =
+    let found = ranking ws in
+    let qs : List ℕ = found.0 in
+    let r = found.1 in
+    let len = ranking-length ws found.0 found.1 in
+    record {
+      count = length-rank_places ws;
+      place_below = λ i lt.
+          let at = place-found ws found.0 i found.1 lt in
+          let own : rank_place ws i ≡ at.0 = ap (rank_place ws) (sym at.2) ∙ rank-of ws found.0 at.0 found.1 at.1 in
+          let here = rank_places-at ws i lt in
+          omega (arith, own, here, at.1, len);
+      member_back = λ i lt.
+          let at = place-found ws found.0 i found.1 lt in
+          let own : rank_place ws i ≡ at.0 = ap (rank_place ws) (sym at.2) ∙ rank-of ws found.0 at.0 found.1 at.1 in
+          let here : get_or (rank_places ws) i 0 ≡ at.0 = rank_places-at ws i lt ∙ own in
+          ap (member_at (rank_places ws)) here ∙ ranking-member_at ws found.0 at.0 found.1 at.1 ∙ at.2;
+      member_below = λ p lt.
+          let in' : p < length found.0 = omega (arith, len) in
+          let at = ranking-member_at ws found.0 p found.1 in' in
+          let below = ranking-below ws found.0 p found.1 in' in
+          omega (arith, at, below);
+      place_back = λ p lt.
+          let in' : p < length found.0 = omega (arith, len) in
+          let below = ranking-below ws found.0 p found.1 in' in
+          ap (λ (i : ℕ). get_or (rank_places ws) i 0) (ranking-member_at ws found.0 p found.1 in') ∙ rank_places-at ws (get_or found.0 p 0) below ∙ rank-of ws found.0 p found.1 in';
+    }
+
+-- in each game the ranks are a permutation, and `member_at` goes back
+pub ranks-are : (g : GameView) → IsGame g → RanksAre (length g.names) g.ranks
+ranks-are g game =
+    let p = passed g game.made in
+    let full = recursion_from_All (λ (r : RuleView). length r.weights ≡ length g.names) g.rules game.full in
+    let len = first-full (length g.names) g.rules game.has_rule full in
+    subst (λ (n : ℕ). RanksAre n g.ranks) len (subst (RanksAre (length (first_weights g.rules))) (sym p.ranks) (ranks-of (first_weights g.rules)))
+
+pub held-votes : (g : GameView) (n : ℕ) (ranked : List Rule) → IsGame g → n ≡ length g.names → rule_views ranked ≡ (votes_of g).rules → IsVotes (votes n ranked)
+held-votes g n ranked game count same =
+    subst (λ (rs : List RuleView). IsVotes (record { members = n; rules = rs })) (sym same)
+    (subst (λ (m : ℕ). IsVotes (record { members = m; rules = (votes_of g).rules })) (sym count) (votes-are g game))
+
+-- the members by rank, as a table
+pub order-at : (g : GameView) (os : List ℕ) (p : ℕ) → RanksAre (length g.names) g.ranks → os ≡ members_by_rank g.ranks → p < length g.names → (length os ≡ length g.names) × (get_or os p 0 ≡ member_at g.ranks p)
+order-at g os p are e lt =
+    let len = length-range_with_len 0 (length g.ranks) in
+    let size : length os ≡ length g.names = ap length e ∙ length-map (places g.ranks) (member_at g.ranks) ∙ len ∙ are.count in
+    (size, ap (λ (l : List ℕ). get_or l p 0) e ∙ get_or-map (member_at g.ranks) (places g.ranks) p 0 0 (omega (arith, len, are.count)) ∙ ap (member_at g.ranks) (places-at (length g.ranks) p 0 (omega (arith, are.count))))
+
+pub names-count : (names : List (String Global)) (n : ℕ) → n ≡ length names → n ≡ length (map string_bytes names)
+names-count names n e = e ∙ sym (map_length string_bytes names)
+
+-- a rule by rank, as the code holds it, is short and light
+pub held-weights : (g : GameView) (ranked : List Rule) (i : ℕ) (x : Rule) → IsGame g → rule_views ranked ≡ (votes_of g).rules → i < length g.rules → x ≡ get_or ranked i x → (length x.weights.items ≤ 40) × (sum x.weights.items ≤ 40000000000000)
+held-weights g ranked i x game same lt at =
+    let v = held-votes g (length g.names) ranked game refl same in
+    let count : length ranked ≡ length g.rules = sym (map_length rule_view ranked) ∙ ap length same ∙ length-map g.rules (rule_by_rank g.ranks) in
+    let is = held-rule (length g.names) ranked i x v (omega (arith, count)) at in
+    (omega (arith, is.0, v.1), is.3)
+
+pub held-full : (g : GameView) (ranked : List Rule) (i : ℕ) (x : Rule) → IsGame g → rule_views ranked ≡ (votes_of g).rules → i < length g.rules → x ≡ get_or ranked i x → (length x.weights.items ≡ length g.names) × (rule_at (votes_of g).rules i ≡ rule_view x)
+held-full g ranked i x game same lt at =
+    let v = held-votes g (length g.names) ranked game refl same in
+    let count : length ranked ≡ length g.rules = sym (map_length rule_view ranked) ∙ ap length same ∙ length-map g.rules (rule_by_rank g.ranks) in
+    let is = held-rule (length g.names) ranked i x v (omega (arith, count)) at in
+    (is.0, ap (λ (l : List RuleView). rule_at l i) (sym same) ∙ rule-at ranked i x (omega (arith, count)) at)
+
+pub file-full : (g : GameView) (rules : List Rule) (i : ℕ) (x : Rule) → IsGame g → g.rules ≡ rule_views rules → i < length g.rules → x ≡ get_or rules i x → length x.weights.items ≡ length g.names
+file-full g rules i x game same lt at =
+    let full = subst (λ (l : List RuleView). All (λ r. length r.weights ≡ length g.names) l) same game.full in
+    let here = held_full rules (length g.names) full i x (omega (arith, ap length same, map_length rule_view rules)) in
+    ap (λ (r : Rule). length r.weights.items) at ∙ here

@@ -1,0 +1,58 @@
+-- The size of a coalition by its binary digits.
+use Rattle.std.proofs.Common.{◌≡◌, ℕ, zero, suc, ◌+◌, ◌-◌, ◌*◌, ◌/◌, ◌%◌, ◌^◌, ◌<◌, ◌≤◌, cond, eqb, List, ◌∷◌, length, refl, sym, ap, ◌∙◌, arith, inl, inr, count_ones, filter, true, pow_mono, add-one}
+use Rattle.std.specs.List.{range_with_len}
+use Rattle.std.proofs.lemmas.Nat.{ones_cat, ones-le, mod-pow-add}
+use Rattle.std.specs.Int.Count.{ones-ones}
+use Rattle.std.proofs.Math.Nat.{mod-eq_of_lt, mod-lt, div-mul-le_self, mul-le-mul_right}
+use Rattle.std.proofs.lemmas.Nat.{pow_pos}
+use Rattle.std.proofs.lemmas.Bool.{cases_Bool, cond-true, cond-false, eqb-true, eq-eqb, both_ways}
+use Rattle.council_game.specs.Votes.{has, size, places_of}
+
+bit-ones : (b : ℕ) → b < 2 → count_ones b ≡ b
+bit-ones zero h = let le = ones-le 0 0 (omega arith) in omega arith
+bit-ones (suc zero) h = ones-ones 1
+bit-ones (suc (suc b)) h = absurd (omega arith)
+
+-- of the n places from a on, as many are in c as its n lowest digits have ones
+size-from : (m a n c : ℕ) → m ≡ a + n → length (filter (λ p. has m p c) (range_with_len a n)) ≡ count_ones (c % 2 ^ n)
+unfolding has
+size-from m a zero c e = let z : c % 2 ^ 0 ≡ 0 = omega arith in sym (ap count_ones z ∙ bit-ones 0 (omega arith))
+size-from m a (suc n) c e =
+    let rest = size-from m (a + 1) n c (omega arith) in
+    let place : m - 1 - a ≡ n = omega arith in
+    let one_more : suc n ≡ 1 + n = omega arith in
+    let bit : c / 2 ^ n % 2 < 2 = omega arith in
+    let parts : c % 2 ^ suc n ≡ c / 2 ^ n % 2 * 2 ^ n + c % 2 ^ n = ap (λ (k : ℕ). c % 2 ^ k) one_more ∙ mod-pow-add c 1 n in
+    let both : count_ones (c % 2 ^ suc n) ≡ c / 2 ^ n % 2 + count_ones (c % 2 ^ n) =
+    ap count_ones parts ∙ ones_cat n (c / 2 ^ n % 2) (c % 2 ^ n) (mod-lt c (pow_pos n)) ∙ ap (λ (k : ℕ). k + count_ones (c % 2 ^ n)) (bit-ones (c / 2 ^ n % 2) bit) in
+    let others : List ℕ = filter (λ p. has m p c) (range_with_len (a + 1) n) in
+    elim (cases_Bool (has m a c)) [
+      | inl in' ↦
+          let digit : c / 2 ^ n % 2 ≡ 1 = ap (λ (k : ℕ). c / 2 ^ k % 2) (sym place) ∙ eqb-true _ _ in' in
+          let more : length (a ∷ others) ≡ suc (length others) = refl in
+          ap length (cond-true (has m a c) (a ∷ others) others in') ∙ more ∙ omega (arith, rest, both, digit)
+      | inr out ↦
+          let not_one : c / 2 ^ n % 2 ≡ 1 → ⊥ = λ e. both_ways _ out (eq-eqb _ _ (ap (λ (k : ℕ). c / 2 ^ k % 2) place ∙ e)) in
+          let digit : c / 2 ^ n % 2 ≡ 0 = omega (arith, bit, not_one) in
+          ap length (cond-false (has m a c) (a ∷ others) others out) ∙ omega (arith, rest, both, digit)
+    ]
+
+pub size-ones : (n c : ℕ) → c < 2 ^ n → size n c ≡ count_ones c
+size-ones n c below = size-from n 0 n c (omega arith) ∙ ap count_ones (mod-eq_of_lt below)
+
+-- a place's digit, as the code makes it
+pub digit-shifted : (n p : ℕ) → n ≤ 40 → p < n → 1 * 2 ^ (n - 1 - p) % 18446744073709551616 ≡ 2 ^ (n - 1 - p)
+digit-shifted n p few below =
+    let low : 2 ^ (n - 1 - p) ≤ 2 ^ 39 = pow_mono (let le : n - 1 - p ≤ 39 = omega arith in le) in
+    let e : 1 * 2 ^ (n - 1 - p) ≡ 2 ^ (n - 1 - p) = omega arith in
+    ap (λ (k : ℕ). k % 18446744073709551616) e ∙ mod-eq_of_lt (omega (arith, low))
+
+-- a number is at least the digit of a place that is in it
+pub has-least : (n p c : ℕ) → has n p c ≡ true → 2 ^ (n - 1 - p) ≤ c
+unfolding has
+has-least n p c in' =
+    let digit : c / 2 ^ (n - 1 - p) % 2 ≡ 1 = eqb-true _ _ in' in
+    let some : 1 ≤ c / 2 ^ (n - 1 - p) = omega arith in
+    let whole : c / 2 ^ (n - 1 - p) * 2 ^ (n - 1 - p) ≤ c = div-mul-le_self c (2 ^ (n - 1 - p)) in
+    let times : 1 * 2 ^ (n - 1 - p) ≤ c / 2 ^ (n - 1 - p) * 2 ^ (n - 1 - p) = mul-le-mul_right (2 ^ (n - 1 - p)) some in
+    omega (arith, whole, times)

@@ -1,0 +1,128 @@
+-- The weight of a coalition, split at a prefix of its places.
+use Rattle.std.proofs.Common.{◌≡◌, ℕ, zero, suc, ◌+◌, ◌-◌, ◌*◌, ◌/◌, ◌%◌, ◌^◌, ◌<◌, ◌≤◌, List, [], ◌∷◌, ◌++◌, length, take, drop, get_or, sum, refl, sym, ap, ◌∙◌, arith}
+use Rattle.std.proofs.lemmas.Nat.Bits.{bit_at_cat_low, bit_at_cat_high, bit_at-lt, bit_at-zero}
+use Rattle.std.proofs.lemmas.Nat.{div-add-mod', mod_below, pow_pos, mul-le, div-mul-add, mod-mul-add}
+use Rattle.std.proofs.lemmas.List.{length-append, take-append-drop, length-drop, take_more}
+use Rattle.std.proofs.lemmas.List.Sums.{sum_by-cons}
+use Rattle.std.proofs.Math.Nat.{pow-suc, div-mul-le_self}
+use Rattle.council_game.specs.Votes.{weight}
+
+-- digits above the places of vs weigh nothing
+pub weight-skip : (vs : List ℕ) (x r : ℕ) → weight vs (x * 2 ^ length vs + r) ≡ weight vs r
+unfolding weight
+weight-skip [] x r = refl
+weight-skip (v ∷ vs) x r =
+    let e : x * 2 ^ suc (length vs) + r ≡ (2 * x) * 2 ^ length vs + r = rw (pow-suc 2 (length vs)) (omega arith) in
+    let top : (x * 2 ^ suc (length vs) + r) / 2 ^ length vs % 2 ≡ r / 2 ^ length vs % 2 = bit_at_cat_low x (suc (length vs)) r (length vs) (omega arith) in
+    let tail : weight vs (x * 2 ^ suc (length vs) + r) ≡ weight vs r = ap (weight vs) e ∙ weight-skip vs (2 * x) r in
+    rw (top, tail) refl
+
+-- the digits of two lists of places side by side
+pub weight-cat : (ws vs : List ℕ) (x r : ℕ) → r < 2 ^ length vs → weight (ws ++ vs) (x * 2 ^ length vs + r) ≡ weight ws x + weight vs r
+unfolding weight
+weight-cat [] vs x r h = weight-skip vs x r ∙ omega arith
+weight-cat (w ∷ ws) vs x r h =
+    let e : length (ws ++ vs) ≡ length ws + length vs = length-append ws vs in
+    let k : length (ws ++ vs) - length vs ≡ length ws = omega arith in
+    let top : (x * 2 ^ length vs + r) / 2 ^ length (ws ++ vs) % 2 ≡ x / 2 ^ (length (ws ++ vs) - length vs) % 2 = bit_at_cat_high x (length vs) r (length (ws ++ vs)) h (omega arith) in
+    let top' : (x * 2 ^ length vs + r) / 2 ^ length (ws ++ vs) % 2 ≡ x / 2 ^ length ws % 2 = top ∙ ap (λ (i : ℕ). x / 2 ^ i % 2) k in
+    let tail = weight-cat ws vs x r h in
+    rw (top', tail) (omega arith)
+
+pub weight-le : (ws : List ℕ) (c : ℕ) → weight ws c ≤ sum ws
+unfolding weight
+weight-le [] c = omega arith
+weight-le (w ∷ ws) c =
+    let d : c / 2 ^ length ws % 2 < 2 = bit_at-lt c (length ws) in
+    let t = weight-le ws c in
+    let m : c / 2 ^ length ws % 2 * w ≤ 1 * w = mul-le (c / 2 ^ length ws % 2) w 1 w (omega arith) (omega arith) in
+    let s : sum (w ∷ ws) ≡ w + sum ws = sum_by-cons (λ (y : ℕ). y) w ws in
+    omega (arith, m, t, s)
+
+pub weight-zero : (ws : List ℕ) → weight ws 0 ≡ 0
+unfolding weight
+weight-zero [] = refl
+weight-zero (w ∷ ws) =
+    let d : 0 / 2 ^ length ws % 2 ≡ 0 = bit_at-zero (length ws) in
+    let t = weight-zero ws in
+    rw (d, t) (omega arith)
+
+-- a coalition's weight is that of its first p places and that of the rest
+pub weight-at : (ws : List ℕ) (p c : ℕ) → p ≤ length ws → weight ws c ≡ weight (take p ws) (c / 2 ^ (length ws - p)) + weight (drop p ws) (c % 2 ^ (length ws - p))
+weight-at ws p c h =
+    let e : length (drop p ws) ≡ length ws - p = length-drop p ws in
+    let k = 2 ^ (length ws - p) in
+    let pos : 0 < 2 ^ (length ws - p) = pow_pos (length ws - p) in
+    let low : c % 2 ^ (length ws - p) < 2 ^ (length ws - p) = mod_below c (2 ^ (length ws - p)) pos in
+    let low' : c % 2 ^ (length ws - p) < 2 ^ length (drop p ws) = rw e low in
+    let cat = weight-cat (take p ws) (drop p ws) (c / 2 ^ (length ws - p)) (c % 2 ^ (length ws - p)) low' in
+    let split : c / 2 ^ (length ws - p) * 2 ^ (length ws - p) + c % 2 ^ (length ws - p) ≡ c = div-add-mod' c (2 ^ (length ws - p)) in
+    ap (λ (l : List ℕ). weight l c) (sym (take-append-drop p ws))
+    ∙ ap (weight (take p ws ++ drop p ws)) (sym split)
+    ∙ ap (λ (i : ℕ). weight (take p ws ++ drop p ws) (c / 2 ^ (length ws - p) * 2 ^ i + c % 2 ^ (length ws - p))) (sym e)
+    ∙ cat
+
+-- a prefix with zeros after it weighs what its places weigh
+pub weight-prefix : (ws : List ℕ) (p x : ℕ) → p ≤ length ws → weight ws (x * 2 ^ (length ws - p)) ≡ weight (take p ws) x
+weight-prefix ws p x h =
+    let pos : 0 < 2 ^ (length ws - p) = pow_pos (length ws - p) in
+    let e : x * 2 ^ (length ws - p) + 0 ≡ x * 2 ^ (length ws - p) = omega arith in
+    let d : x * 2 ^ (length ws - p) / 2 ^ (length ws - p) ≡ x = ap (λ (i : ℕ). i / 2 ^ (length ws - p)) (sym e) ∙ div-mul-add x (2 ^ (length ws - p)) 0 pos in
+    let m : x * 2 ^ (length ws - p) % 2 ^ (length ws - p) ≡ 0 = ap (λ (i : ℕ). i % 2 ^ (length ws - p)) (sym e) ∙ mod-mul-add x (2 ^ (length ws - p)) 0 pos in
+    weight-at ws p (x * 2 ^ (length ws - p)) h
+    ∙ ap (λ (i : ℕ). weight (take p ws) i + weight (drop p ws) (x * 2 ^ (length ws - p) % 2 ^ (length ws - p))) d
+    ∙ ap (λ (i : ℕ). weight (take p ws) x + weight (drop p ws) i) m
+    ∙ (let z : weight (drop p ws) 0 ≡ 0 = weight-zero (drop p ws) in omega (arith, z))
+
+-- one place more
+pub weight-more : (ws : List ℕ) (p x b : ℕ) → p < length ws → b < 2 → weight (take (p + 1) ws) (2 * x + b) ≡ weight (take p ws) x + b * get_or ws p 0
+unfolding weight
+weight-more ws p x b h below =
+    let e : x * 2 ^ length (get_or ws p 0 ∷ []) + b ≡ 2 * x + b = omega arith in
+    let one : b / 2 ^ 0 % 2 ≡ b = omega arith in
+    ap (λ (l : List ℕ). weight l (2 * x + b)) (take_more ws p 0 h)
+    ∙ ap (weight (take p ws ++ get_or ws p 0 ∷ [])) (sym e)
+    ∙ weight-cat (take p ws) (get_or ws p 0 ∷ []) x b (omega arith)
+    ∙ (let z : weight (get_or ws p 0 ∷ []) b ≡ b * get_or ws p 0 = rw one (omega arith) in omega (arith, z))
+
+-- without a lower digit that is set, what stands above it stays
+above-kept : (c b h : ℕ) → b < h → c / 2 ^ b % 2 ≡ 1 → (c - 2 ^ b) / 2 ^ h ≡ c / 2 ^ h
+above-kept c b h below set' =
+    let pos : 0 < 2 ^ h = pow_pos h in
+    let posb : 0 < 2 ^ b = pow_pos b in
+    let split : c / 2 ^ h * 2 ^ h + c % 2 ^ h ≡ c = div-add-mod' c (2 ^ h) in
+    let low : c % 2 ^ h < 2 ^ h = mod_below c (2 ^ h) pos in
+    let digit : (c / 2 ^ h * 2 ^ h + c % 2 ^ h) / 2 ^ b % 2 ≡ c % 2 ^ h / 2 ^ b % 2 = bit_at_cat_low (c / 2 ^ h) h (c % 2 ^ h) b below in
+    let one : c % 2 ^ h / 2 ^ b % 2 ≡ 1 = sym digit ∙ ap (λ (i : ℕ). i / 2 ^ b % 2) split ∙ set' in
+    let some : 1 ≤ c % 2 ^ h / 2 ^ b = omega arith in
+    let up : 1 * 2 ^ b ≤ c % 2 ^ h / 2 ^ b * 2 ^ b = mul-le 1 (2 ^ b) (c % 2 ^ h / 2 ^ b) (2 ^ b) some (omega arith) in
+    let there : c % 2 ^ h / 2 ^ b * 2 ^ b ≤ c % 2 ^ h = div-mul-le_self (c % 2 ^ h) (2 ^ b) in
+    let e : c - 2 ^ b ≡ c / 2 ^ h * 2 ^ h + (c % 2 ^ h - 2 ^ b) = omega arith in
+    ap (λ (i : ℕ). i / 2 ^ h) e ∙ div-mul-add (c / 2 ^ h) (2 ^ h) (c % 2 ^ h - 2 ^ b) (omega arith)
+
+-- a set without one of its places weighs less by that place's weight
+pub weight-without : (ws : List ℕ) (q c : ℕ) → q < length ws → c / 2 ^ (length ws - 1 - q) % 2 ≡ 1 → weight ws (c - 2 ^ (length ws - 1 - q)) + get_or ws q 0 ≡ weight ws c
+unfolding weight
+weight-without [] q c below set' = absurd (omega arith)
+weight-without (w ∷ vs) zero c below set' =
+    let h : ℕ = length vs in
+    let place : suc (length vs) - 1 - 0 ≡ length vs = omega arith in
+    let set2 : c / 2 ^ length vs % 2 ≡ 1 = ap (λ (i : ℕ). c / 2 ^ i % 2) (sym place) ∙ set' in
+    let pos : 0 < 2 ^ length vs = pow_pos (length vs) in
+    let split : c / 2 ^ length vs * 2 ^ length vs + c % 2 ^ length vs ≡ c = div-add-mod' c (2 ^ length vs) in
+    let low : c % 2 ^ length vs < 2 ^ length vs = mod_below c (2 ^ length vs) pos in
+    let up : 1 * 2 ^ length vs ≤ c / 2 ^ length vs * 2 ^ length vs = mul-le 1 (2 ^ length vs) (c / 2 ^ length vs) (2 ^ length vs) (omega arith) (omega arith) in
+    let te : (c / 2 ^ length vs - 1 + 1) ≡ c / 2 ^ length vs = omega arith in
+    let prod : (c / 2 ^ length vs - 1 + 1) * 2 ^ length vs ≡ c / 2 ^ length vs * 2 ^ length vs = ap (λ (i : ℕ). i * 2 ^ length vs) te in
+    let e : c - 2 ^ length vs ≡ (c / 2 ^ length vs - 1) * 2 ^ length vs + c % 2 ^ length vs = omega arith in
+    let top : (c - 2 ^ length vs) / 2 ^ length vs ≡ c / 2 ^ length vs - 1 = ap (λ (i : ℕ). i / 2 ^ length vs) e ∙ div-mul-add (c / 2 ^ length vs - 1) (2 ^ length vs) (c % 2 ^ length vs) low in
+    let digit : (c - 2 ^ length vs) / 2 ^ length vs % 2 ≡ 0 = ap (λ (i : ℕ). i % 2) top ∙ (let z : (c / 2 ^ length vs - 1) % 2 ≡ 0 = omega arith in z) in
+    let rest : weight vs (c - 2 ^ length vs) ≡ weight vs c =
+    ap (weight vs) e ∙ weight-skip vs (c / 2 ^ length vs - 1) (c % 2 ^ length vs) ∙ sym (weight-skip vs (c / 2 ^ length vs) (c % 2 ^ length vs)) ∙ ap (weight vs) split in
+    rw (place, digit, rest, set2) (omega arith)
+weight-without (w ∷ vs) (suc q) c below set' =
+    let place : suc (length vs) - 1 - suc q ≡ length vs - 1 - q = omega arith in
+    let set2 : c / 2 ^ (length vs - 1 - q) % 2 ≡ 1 = ap (λ (i : ℕ). c / 2 ^ i % 2) (sym place) ∙ set' in
+    let kept : (c - 2 ^ (length vs - 1 - q)) / 2 ^ length vs ≡ c / 2 ^ length vs = above-kept c (length vs - 1 - q) (length vs) (omega arith) set2 in
+    let rest = weight-without vs q c (omega arith) set2 in
+    rw (place, kept) (omega (arith, rest))

@@ -1,0 +1,18 @@
+use Rattle.std.proofs.Common.{◌-◌, sym, ◌∙◌, ap, subst, ℕ, ◌≤◌, ◌^◌, arith, cond}
+use Rattle.std.proofs.lemmas.Bool.{cond-true}
+use Rattle.council_game.specs.Votes.{has, without}
+use Rattle.council_game.proofs.Sizes.{digit-shifted, has-least}
+use Rattle.council_game.proofs.coalition.Coalition.without.Goals as goal
+
+pub overflow_sub-self-inside : goal.overflow_sub-self-inside
+overflow_sub-self-inside c =
+    let digit = digit-shifted c.args.members c.args.place c.requires.few c.requires.place in
+    let least = has-least c.args.members c.args.place c.args.self (sym c.has.ensures ∙ c.if-has.true) in
+    rw (digit, c.self.view_is) least
+
+pub returns-then-has : goal.returns-then-has
+unfolding without
+returns-then-has c =
+    let digit = digit-shifted c.args.members c.args.place c.requires.few c.requires.place in
+    let in' = sym c.has.ensures ∙ c.if-has.true in
+    rw (digit, c.self.view_is) (sym (cond-true _ _ _ in'))

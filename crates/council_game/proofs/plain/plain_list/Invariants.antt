@@ -1,0 +1,10 @@
+use Rattle.std.proofs.Common.{◌≡◌, ◌≤◌, ◌++◌, ◌^◌}
+use Rattle.council_game.specs.Votes.{minimal_below, minimal_coalitions}
+use Rattle.council_game.specs.Game.{votes_of}
+use Rattle.council_game.proofs.plain.plain_list.Given as goal
+
+abbrev pub invariant-loop-mask : goal.invariant-loop-mask
+invariant-loop-mask l = record {
+  range : l.mask ≤ 2 ^ 20;
+  done : l.list.items ++ minimal_below (votes_of l.game) l.mask ≡ minimal_coalitions (votes_of l.game);
+}

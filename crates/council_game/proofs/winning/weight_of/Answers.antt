@@ -1,0 +1,24 @@
+use Rattle.std.proofs.Common.{refl, arith, length, ◌/◌, ◌^◌, ◌-◌}
+use Rattle.council_game.specs.Votes.{weight}
+use Rattle.council_game.proofs.GameTests.{weight-in, weight-out, partial-fits, weight-all}
+use Rattle.council_game.proofs.winning.weight_of.Goals as goal
+use Rattle.council_game.proofs.winning.weight_of.Goals.{then-mask-members-eq1, else-mask-members-eq1}
+
+pub loop-place-init : goal.loop-place-init
+unfolding weight
+loop-place-init c = refl
+
+pub overflow_add-sum : goal.overflow_add-sum
+overflow_add-sum c =
+    let fits = partial-fits c.args.weights.now c.loop-place.place (c.args.mask / 2 ^ (length c.args.weights.now - c.loop-place.place)) (omega arith) in
+    omega (arith, fits, c.loop-place.invariant, c.requires.fits)
+
+pub loop-place-preserved : goal.loop-place-preserved
+loop-place-preserved c =
+    elim c.if-mask-members-eq1.branch [
+      | then-mask-members-eq1 w ↦ weight-in c.args.weights.now (length c.args.weights.now) _ c.args.mask c.loop-place.place c.loop-place.sum _ refl refl (omega arith) c.loop-place.invariant w.if-mask-members-eq1.true w.sum-is
+      | else-mask-members-eq1 w ↦ weight-out c.args.weights.now (length c.args.weights.now) _ c.args.mask c.loop-place.place c.loop-place.sum _ refl refl (omega arith) c.loop-place.invariant w.if-mask-members-eq1.false w.sum-is
+    ]
+
+pub returns : goal.returns
+returns c = weight-all c.args.weights.now c.loop-place.place c.args.mask c.loop-place.sum (omega arith) c.loop-place.invariant

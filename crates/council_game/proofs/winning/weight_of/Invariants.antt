@@ -1,0 +1,6 @@
+use Rattle.std.proofs.Common.{◌≡◌, ◌-◌, ◌/◌, ◌^◌, take}
+use Rattle.council_game.specs.Votes.{weight}
+use Rattle.council_game.proofs.winning.weight_of.Given as goal
+
+abbrev pub invariant-loop-place : goal.invariant-loop-place
+invariant-loop-place l = l.sum ≡ weight (take l.place l.weights) (l.mask / 2 ^ (l.members - l.place))

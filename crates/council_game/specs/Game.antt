@@ -1,0 +1,76 @@
+-- What a game is, and the checks that make one.
+use Rattle.std.specs.Prelude.{◌≡◌, ◌<◌, ◌≤◌, All, ℕ, Bool, false, not, ◌&&◌, ◌||◌, ◌==◌, nat_lt, nat_le, nat_eq, List, [], ◌∷◌, length, take, map, sum, position, slice_index, slice_index_or, Option, Result, Ok}
+use Rattle.std.specs.List.{list_any, list_all, range_with_len}
+use Rattle.std.specs.Option.{option_map_or}
+use Rattle.std.specs.Cmp.Lexicographic.{pointwise}
+use Rattle.council_game.specs.declared.fault.GameFault.{GameFault}
+use Rattle.council_game.specs.declared.fault.GameFault.TheVariants.{Title, Members, Name, SameName, Weight, QuotaRange}
+use Rattle.council_game.specs.Fault.{◌>>=◌, Done, refuse, refuse_at}
+use Rattle.council_game.specs.Votes.{RuleView, Votes}
+use Rattle.council_game.specs.Ranks.{places, rank_places, rule_by_rank}
+
+pub record GameView : Type 0 where
+  pub title : Option (List ℕ)
+  pub names : List (List ℕ)
+  pub rules : List RuleView
+  pub ranks : List ℕ
+
+-- no byte below 0x20 and no byte 0x7F
+abbrev pub is_plain : List ℕ → Bool
+is_plain bs = list_all (λ b. nat_le 32 b && not (b == 127)) bs
+
+abbrev pub is_title : List ℕ → Bool
+is_title bs = nat_le (length bs) 200 && is_plain bs
+
+abbrev pub is_name : List ℕ → Bool
+is_name bs = (nat_le 1 (length bs) && nat_le (length bs) 64) && is_plain bs
+
+-- an earlier member has the name of member k
+abbrev pub is_repeat : List (List ℕ) → ℕ → Bool
+is_repeat names k = list_any (pointwise nat_eq (slice_index_or names k [])) (take k names)
+
+-- a weight of member k is above the limit
+abbrev pub is_heavy : List RuleView → ℕ → Bool
+is_heavy rules k = list_any (λ r. nat_lt 1000000000000 (slice_index r.weights k)) rules
+
+abbrev pub has_bad_quota : RuleView → Bool
+has_bad_quota r = nat_lt r.quota 1 || nat_lt (sum r.weights) r.quota
+
+-- the weights of a rule together
+abbrev pub total : RuleView → ℕ
+total r = sum r.weights
+
+abbrev pub first_weights : List RuleView → List ℕ
+first_weights [] = []
+first_weights (r ∷ rs) = r.weights
+
+abbrev pub check_names : List (List ℕ) → Done
+check_names names = refuse_at Name (position (λ name. not (is_name name)) names)
+
+abbrev pub check_repeats : List (List ℕ) → Done
+check_repeats names = refuse_at SameName (position (is_repeat names) (places names))
+
+abbrev pub check_weights : List RuleView → ℕ → Done
+check_weights rules n = refuse_at Weight (position (is_heavy rules) (range_with_len 0 n))
+
+-- the game, or the first fault
+unfoldable pub made_game : Option (List ℕ) → List (List ℕ) → List RuleView → Result GameView GameFault
+made_game title names rules = do
+  _ ← refuse (option_map_or (λ t. not (is_title t)) title false) Title
+  _ ← refuse (nat_lt (length names) 1 || nat_lt 40 (length names)) Members
+  _ ← check_names names
+  _ ← check_repeats names
+  _ ← check_weights rules (length names)
+  _ ← refuse (list_any has_bad_quota rules) QuotaRange
+  Ok (record { title = title; names = names; rules = rules; ranks = rank_places (first_weights rules) })
+
+-- What is a game: its checks pass, and it has 1 to 4 rules, each with a weight for each member.
+pub record IsGame (g : GameView) : Type 0 where
+  pub made : made_game g.title g.names g.rules ≡ Ok g
+  pub has_rule : 0 < length g.rules
+  pub few_rules : length g.rules ≤ 4
+  pub full : All (λ r. length r.weights ≡ length g.names) g.rules
+
+-- the votes of a game: its rules by rank
+abbrev pub votes_of : GameView → Votes
+votes_of g = record { members = length g.names; rules = map (rule_by_rank g.ranks) g.rules }

@@ -1,0 +1,11 @@
+pub mod Fault
+pub mod Faults
+pub mod Votes
+pub mod Ranks
+pub mod Game
+pub mod Rules
+pub mod Standings
+pub mod Parts
+pub mod View
+pub mod Weighing
+pub mod Laws

@@ -1,0 +1,79 @@
+-- Weighted voting games as plain data, and their minimal winning coalitions.
+use Rattle.std.specs.Prelude.{ℕ, zero, suc, ◌+◌, ◌-◌, ◌*◌, ◌/◌, ◌%◌, ◌^◌, Bool, true, not, ◌&&◌, ◌||◌, ◌==◌, nat_le, List, [], ◌∷◌, length, ◌≡◌, ◌≤◌, ◌<◌, slice_index, slice_index_or, ⊤}
+use Rattle.std.specs.List.{filter, sum, range_with_len, AllByRecursion}
+
+-- a quota, and a weight for each member: in a game by the file's order, in its votes by rank
+pub record RuleView : Type 0 where
+  pub quota : ℕ
+  pub weights : List ℕ
+
+-- a game of n members, its rules over one order of places, the heaviest first
+pub record Votes : Type 0 where
+  pub members : ℕ
+  pub rules : List RuleView
+
+-- rule number i
+abbrev pub rule_at : List RuleView → ℕ → RuleView
+rule_at rs i = slice_index_or rs i (record { quota = 0; weights = [] })
+
+-- each rule weighs each member, and its quota can be met
+abbrev pub IsRule : ℕ → RuleView → Type 0
+IsRule n r = (length r.weights ≡ n) × (1 ≤ r.quota) × (r.quota ≤ sum r.weights) × (sum r.weights ≤ 40000000000000)
+
+-- heavier places come first
+abbrev pub IsRanked : List RuleView → Type 0
+IsRanked [] = ⊤
+IsRanked (r ∷ rs) = (a b : ℕ) → a ≤ b → b < length r.weights → slice_index r.weights b ≤ slice_index r.weights a
+
+-- 1 to 40 members, 1 to 4 rules, and the places ranked by the first
+abbrev pub IsVotes : Votes → Type 0
+IsVotes v = (1 ≤ v.members) × (v.members ≤ 40) × (1 ≤ length v.rules) × (length v.rules ≤ 4) × AllByRecursion (IsRule v.members) v.rules × IsRanked v.rules
+
+-- in a game of n members, place p is in c where this binary digit of c is 1
+unfoldable pub has : ℕ → ℕ → ℕ → Bool
+has n p c = c / 2 ^ (n - 1 - p) % 2 == 1
+
+-- c without place p, which is in c
+unfoldable pub without : ℕ → ℕ → ℕ → ℕ
+without n p c = c - 2 ^ (n - 1 - p)
+
+-- the places that are in c, the heaviest first
+abbrev pub places_of : ℕ → ℕ → List ℕ
+places_of n c = filter (λ p. has n p c) (range_with_len 0 n)
+
+-- how many places are in c
+abbrev pub size : ℕ → ℕ → ℕ
+size n c = length (places_of n c)
+
+-- the sum of the weights of the places in c: the last of n places is the lowest digit
+unfoldable pub weight : List ℕ → ℕ → ℕ
+weight [] c = 0
+weight (w ∷ ws) c = c / 2 ^ length ws % 2 * w + weight ws c
+
+-- c wins where it meets each rule's quota
+unfoldable pub wins : List RuleView → ℕ → Bool
+wins [] c = true
+wins (r ∷ rs) c = nat_le r.quota (weight r.weights c) && wins rs c
+
+-- of the first k places, each that is in c is needed: without it c loses
+unfoldable pub each_needed : Votes → ℕ → ℕ → Bool
+each_needed v c zero = true
+each_needed v c (suc p) =
+    (not (has v.members p c) || not (wins v.rules (without v.members p c))) && each_needed v c p
+
+-- a minimal winning coalition wins, and loses without any one of its members
+unfoldable pub minimal : Votes → ℕ → Bool
+minimal v c = wins v.rules c && each_needed v c v.members
+
+-- n - 1, .., 1, 0
+unfoldable pub down : ℕ → List ℕ
+down zero = []
+down (suc n) = n ∷ down n
+
+-- the minimal winning coalitions below a number, in listing order
+unfoldable pub minimal_below : Votes → ℕ → List ℕ
+minimal_below v bound = filter (minimal v) (down bound)
+
+-- all of them
+unfoldable pub minimal_coalitions : Votes → List ℕ
+minimal_coalitions v = minimal_below v (2 ^ v.members)

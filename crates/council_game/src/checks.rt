@@ -1,0 +1,158 @@
+//! The checks of a game, in their order.
+ghost use Rattle.std.specs.Prelude.{◌≡◌, ◌≤◌, ◌<◌, ◌^◌, length, map, not, string_bytes, sum, take, min, ◌-◌, position, nat_eq, nat_lt, slice_index, IfSome};
+ghost use Rattle.std.specs.List.{list_any, range_with_len};
+ghost use Rattle.std.specs.Cmp.Lexicographic.{pointwise};
+ghost use Rattle.council_game.specs.Game.{is_plain, is_title, is_name, is_repeat, check_names, check_repeats, check_weights, is_heavy, has_bad_quota};
+ghost use Rattle.council_game.specs.Rules.{rule_view, rule_views};
+
+use crate::{GameFault, Rule};
+
+fn is_plain(text: &str) -> bool
+    ensures { result ≡ is_plain text.now }
+{
+    text.as_bytes().iter().all(|b| *b >= 32 && *b != 127)
+}
+
+pub(crate) fn is_title(text: &str) -> bool
+    ensures { result ≡ is_title text.now }
+{
+    text.len() <= 200 && is_plain(text)
+}
+
+fn is_name(text: &str) -> bool
+    ensures { result ≡ is_name text.now }
+{
+    1 <= text.len() && text.len() <= 64 && is_plain(text)
+}
+
+/// The place of the first name that is refused.
+fn first_bad_name(names: &[String]) -> Option<usize>
+    ensures { result ≡ position (λ name. not (is_name (string_bytes name))) names.now }
+{
+    names.iter().position(|name| !is_name(name.as_str()))
+}
+
+/// The first member, from 1, whose name is refused.
+#[tactic(auto, using(crate::proofs::Lists::position_map))]
+pub(crate) fn check_names(names: &[String]) -> Result<(), GameFault>
+    requires { length names.now ≤ 40 }
+    ensures { result ≡ check_names (map string_bytes names.now) }
+{
+    match first_bad_name(names) {
+        Some(k) => Err(GameFault::Name {
+            member: k as u8 + 1,
+        }),
+        None => Ok(()),
+    }
+}
+
+/// One of the names is this one.
+fn has_name(names: &[String], name: &str) -> bool
+    ensures { result ≡ list_any (λ other. pointwise nat_eq name.now (string_bytes other)) names.now }
+{
+    names.iter().any(|other| name == other.as_str())
+}
+
+/// An earlier member has the name of this one.
+fn is_repeat(names: &[String], k: usize) -> bool
+    requires { k < length names.now }
+    ensures { result ≡ is_repeat (map string_bytes names.now) k }
+{
+    has_name(&names[..k], names[k].as_str())
+}
+
+/// The place of the first name that stands before.
+fn first_repeat(names: &[String]) -> Option<usize>
+    ensures place { result ≡ position (is_repeat (map string_bytes names.now)) (range_with_len 0 (length names.now)) }
+    ensures bound { IfSome result (λ k. k < length names.now) }
+{
+    (0..names.len()).position(|k| is_repeat(names, k))
+}
+
+/// The first member, from 1, that repeats a name.
+#[tactic(auto, using(crate::proofs::Lists::length_map))]
+pub(crate) fn check_repeats(names: &[String]) -> Result<(), GameFault>
+    requires { length names.now ≤ 40 }
+    ensures { result ≡ check_repeats (map string_bytes names.now) }
+{
+    match first_repeat(names) {
+        Some(k) => Err(GameFault::SameName {
+            member: k as u8 + 1,
+        }),
+        None => Ok(()),
+    }
+}
+
+/// The rule gives this member a weight above the limit.
+fn is_over(rule: &Rule, k: usize) -> bool
+    ensures { result ≡ nat_lt 1000000000000 (slice_index rule.now.weights.items k) }
+{
+    match rule.weights.get(k) {
+        Some(weight) => 1_000_000_000_000 < *weight,
+        None => false,
+    }
+}
+
+fn any_over(rules: &[Rule], k: usize) -> bool
+    ensures { result ≡ list_any (λ r. nat_lt 1000000000000 (slice_index r.weights.items k)) rules.now }
+{
+    rules.iter().any(|rule| is_over(rule, k))
+}
+
+/// Some rule gives this member a weight above the limit.
+#[tactic(auto, using(crate::proofs::Lists::list_any_map))]
+fn is_heavy(rules: &[Rule], k: usize) -> bool
+    ensures { result ≡ is_heavy (rule_views rules.now) k }
+{
+    any_over(rules, k)
+}
+
+fn first_heavy(rules: &[Rule], members: usize) -> Option<usize>
+    ensures place { result ≡ position (is_heavy (rule_views rules.now)) (range_with_len 0 members) }
+    ensures bound { IfSome result (λ k. k < members) }
+{
+    (0..members).position(|k| is_heavy(rules, k))
+}
+
+/// The first member, from 1, with a weight above the limit.
+pub(crate) fn check_weights(rules: &[Rule], members: usize) -> Result<(), GameFault>
+    requires { members ≤ 40 }
+    ensures { result ≡ check_weights (rule_views rules.now) members }
+{
+    match first_heavy(rules, members) {
+        Some(k) => Err(GameFault::Weight {
+            member: k as u8 + 1,
+        }),
+        None => Ok(()),
+    }
+}
+
+/// The total of the weights, or the greatest number where it is greater.
+pub(crate) fn capped_total(weights: &[u64]) -> u64
+    ensures { result ≡ min (sum weights.now) (2 ^ 64 - 1) }
+{
+    let mut total: u64 = 0;
+    for weight in weights {
+        total = total.saturating_add(*weight);
+    }
+    total
+}
+
+fn has_bad_quota(rule: &Rule) -> bool
+    ensures { result ≡ has_bad_quota (rule_view rule.now) }
+{
+    rule.quota < 1 || capped_total(&rule.weights) < rule.quota
+}
+
+fn any_bad_quota(rules: &[Rule]) -> bool
+    ensures { result ≡ list_any (λ r. has_bad_quota (rule_view r)) rules.now }
+{
+    rules.iter().any(|rule| has_bad_quota(rule))
+}
+
+#[tactic(auto, using(crate::proofs::Lists::list_any_map))]
+pub(crate) fn has_quota_fault(rules: &[Rule]) -> bool
+    ensures { result ≡ list_any has_bad_quota (rule_views rules.now) }
+{
+    any_bad_quota(rules)
+}

@@ -1,0 +1,74 @@
+//! Coalitions.
+ghost use Rattle.std.specs.Prelude.{◌≡◌, ◌^◌, ◌<◌, ◌≤◌, ◌-◌, ℕ, cond};
+ghost use Rattle.council_game.specs.Votes.{has, without, size};
+
+use std::marker::Model;
+
+/// A set of members as a number below 2^40, its rank mask: in a game of n members the binary
+/// digit n - 1 - p says whether the member of rank place p is in. A clause sees the number.
+#[derive(Clone, Copy, Debug, PartialEq, Eq)]
+pub struct Coalition {
+    mask: u64,
+}
+
+impl Model for Coalition {
+    ghost use Rattle.std.specs.Prelude.{ℕ, ◌<◌, ◌^◌};
+
+    ghost Value = { ℕ };
+
+    ghost view = { λ c. c.mask };
+
+    ghost invariant = { λ c. c.mask < 2 ^ 40 };
+
+    ghost inverse = { λ m. record { mask = m } };
+}
+
+impl Coalition {
+    /// The coalition with this rank mask.
+    pub fn of_mask(mask: u64) -> Coalition
+        requires { mask < 2 ^ 40 }
+        ensures { result ≡ mask }
+    {
+        Coalition { mask }
+    }
+
+    /// The rank mask.
+    pub fn mask(self) -> u64
+        ensures same { result ≡ self }
+        ensures bound { result < 2 ^ 40 }
+    {
+        self.mask
+    }
+
+    /// In a game of so many members, whether the member of this rank place is in.
+    pub fn has(self, members: usize, place: usize) -> bool
+        requires few { members ≤ 40 }
+        requires place { place < members }
+        ensures { result ≡ has members place self }
+    {
+        (self.mask >> (members - 1 - place)) % 2 == 1
+    }
+
+    /// The coalition without the member of this rank place; the same where that member is not in.
+    pub fn without(self, members: usize, place: usize) -> Coalition
+        requires few { members ≤ 40 }
+        requires place { place < members }
+        ensures { result ≡ cond (has members place self) (without members place self) self }
+    {
+        if self.has(members, place) {
+            Coalition {
+                mask: self.mask - (1 << (members - 1 - place)),
+            }
+        } else {
+            self
+        }
+    }
+
+    /// How many members are in, 0 to 40.
+    pub fn size(self) -> u8
+        ensures size { (n : ℕ) → self < 2 ^ n → result ≡ size n self }
+        ensures bound { result ≤ 40 }
+    {
+        self.mask.count_ones() as u8
+    }
+}

@@ -1,0 +1,103 @@
+//! Why a game was refused.
+ghost use Rattle.std.specs.Prelude.{◌≡◌};
+ghost use Rattle.council_game.specs.declared.fault.GameFault.TheVariants.{Memory};
+ghost use Rattle.council_game.specs.Faults.{number_of};
+
+use crate::memory;
+use std::alloc::{AllocError, AllocFailed};
+use thiserror::Error;
+
+/// The first fault of a game. Members are numbered from 1, in the order of the file.
+#[derive(Clone, Copy, Debug, Error, PartialEq, Eq)]
+pub enum GameFault {
+    /// A read of the game file answered an error.
+    #[error("the game file cannot be read")]
+    Read,
+    /// More than 65,536 bytes.
+    #[error("the game file is longer than 65536 bytes")]
+    TooLong,
+    /// Not UTF-8, or not TOML.
+    #[error("the game file is not TOML")]
+    Text,
+    /// A key that no game file has.
+    #[error("unknown key")]
+    UnknownKey,
+    /// Not a string of at most 200 bytes without control characters.
+    #[error("bad title")]
+    Title,
+    /// No quota, or not an integer.
+    #[error("bad quota")]
+    Quota,
+    /// Not a list of 1 to 40 members.
+    #[error("bad member list")]
+    Members,
+    /// Not a string of 1 to 64 bytes without control characters.
+    #[error("bad name of member {member}")]
+    Name { member: u8 },
+    /// A name that an earlier member has.
+    #[error("member {member} repeats a name")]
+    SameName { member: u8 },
+    /// Not an integer from 0 to 10^12.
+    #[error("bad weight of member {member}")]
+    Weight { member: u8 },
+    /// A quota below 1, or above the total of its rule's weights.
+    #[error("quota out of range")]
+    QuotaRange,
+    /// A bracket text that breaks its grammar.
+    #[error("bad bracket text")]
+    Bracket,
+    /// Rules that are not 1 to 4, or stand beside the keys of a lone rule.
+    #[error("bad rules")]
+    Rules,
+    /// A growth was refused.
+    #[error("out of memory")]
+    Memory,
+}
+
+impl GameFault {
+    /// The number of the fault, from 1 to 14.
+    pub fn number(self) -> u8
+        ensures { result ≡ number_of self }
+    {
+        match self {
+            GameFault::Read => 1,
+            GameFault::TooLong => 2,
+            GameFault::Text => 3,
+            GameFault::UnknownKey => 4,
+            GameFault::Title => 5,
+            GameFault::Quota => 6,
+            GameFault::Members => 7,
+            GameFault::Name { .. } => 8,
+            GameFault::SameName { .. } => 9,
+            GameFault::Weight { .. } => 10,
+            GameFault::QuotaRange => 11,
+            GameFault::Bracket => 12,
+            GameFault::Rules => 13,
+            GameFault::Memory => 14,
+        }
+    }
+}
+
+impl From<AllocError> for GameFault {
+    ghost from_gives = { λ _ e. e ≡ Memory };
+
+    fn from(_e: AllocError) -> GameFault {
+        GameFault::Memory
+    }
+}
+
+impl<T: Drop> From<AllocFailed<T>> for GameFault {
+    ghost from_gives = { λ _ e. e ≡ Memory };
+
+    fn from(_e: AllocFailed<T>) -> GameFault {
+        GameFault::Memory
+    }
+}
+
+impl From<memory::Memory> for GameFault {
+    ghost from_gives = { λ _ e. e ≡ Memory };
+
+    fn from(_e: memory::Memory) -> GameFault {
+        GameFault::Memory
+    }
+}

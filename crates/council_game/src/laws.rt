@@ -1,0 +1,13 @@
+//! Laws of games: what the definitions say, with nothing to run.
+ghost use Rattle.council_game.specs.Votes.{Votes, IsVotes};
+ghost use Rattle.council_game.specs.Laws.{ProperSubsetsLose, IsListing};
+
+/// No proper subset of a minimal coalition wins.
+pub fn proper_subsets_lose()
+    ensures { (v : Votes) → IsVotes v → ProperSubsetsLose v }
+{}
+
+/// There is a minimal coalition; their list descends, each once, and none is empty.
+pub fn minimal_coalitions_are_listed()
+    ensures { (v : Votes) → IsVotes v → IsListing v }
+{}

@@ -1,0 +1,20 @@
+//! Weighted voting games.
+#![tactic(auto)]
+
+mod checks;
+mod coalition;
+mod fault;
+mod game;
+pub mod laws;
+mod memory;
+mod plain;
+mod ranks;
+mod rule;
+mod winning;
+
+pub use coalition::Coalition;
+pub use fault::GameFault;
+pub use game::Game;
+pub use memory::Memory;
+pub use plain::plain_list;
+pub use rule::Rule;

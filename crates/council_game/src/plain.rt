@@ -1,0 +1,23 @@
+//! All minimal coalitions, by trying each.
+ghost use Rattle.std.specs.Prelude.{◌≡◌, ◌≤◌, length, IfOk};
+ghost use Rattle.council_game.specs.Votes.{minimal_coalitions};
+ghost use Rattle.council_game.specs.Game.{votes_of};
+
+use crate::{Coalition, Game, Memory};
+use std::alloc::Global;
+
+/// The minimal winning coalitions of a game of at most 20 members, in listing order, by trying each coalition.
+pub fn plain_list(alloc: Global, game: &Game) -> Result<Vec<Coalition>, Memory>
+    requires { length game.now.names ≤ 20 }
+    ensures { IfOk result (λ v. v.items ≡ minimal_coalitions (votes_of game.now)) }
+{
+    let members = game.members();
+    let mut list = Vec::new(alloc);
+    for mask in (0..1 << members).rev() {
+        let coalition = Coalition::of_mask(mask);
+        if game.is_minimal(coalition) {
+            list.push(coalition)?;
+        }
+    }
+    Ok(list)
+}

@@ -1,0 +1,107 @@
+//! Whether a coalition wins, and whether it is minimal.
+ghost use Rattle.std.specs.Prelude.{◌≡◌, ◌+◌, ◌-◌, ◌^◌, ◌<◌, ◌≤◌, ℕ, length, slice_index, sum, true};
+ghost use Rattle.council_game.specs.Votes.{IsVotes, rule_at, weight, has, without, wins, minimal};
+ghost use Rattle.council_game.specs.Rules.{rule_view, rule_views};
+ghost use Rattle.council_game.specs.Weighing.{votes, IsWeighed};
+
+use crate::Rule;
+
+/// A coalition, and its weight under each rule.
+#[derive(Drop)]
+pub(crate) struct Weighed {
+    pub(crate) mask: u64,
+    pub(crate) sums: [u64; 4],
+}
+
+/// The weight of a coalition: the last place is the lowest digit.
+pub(crate) fn weight_of(weights: &[u64], mask: u64) -> u64
+    requires few { length weights.now ≤ 40 }
+    requires fits { sum weights.now ≤ 40000000000000 }
+    ensures { result ≡ weight weights.now mask }
+{
+    let members = weights.len();
+    let mut sum = 0;
+    for place in 0..members {
+        if (mask >> (members - 1 - place)) % 2 == 1 {
+            sum += weights[place];
+        }
+    }
+    sum
+}
+
+/// The coalition with its weights.
+fn weigh(rules: &[Rule], members: usize, mask: u64) -> Weighed
+    requires { IsVotes (votes members rules.now) }
+    ensures weighed { IsWeighed (rule_views rules.now) result }
+    ensures same { result.mask ≡ mask }
+{
+    let mut sums = [0; 4];
+    for r in 0..rules.len() {
+        let rule = &rules[r];
+        sums[r] = weight_of(&rule.weights, mask);
+    }
+    Weighed { mask, sums }
+}
+
+fn wins_weighed(rules: &[Rule], members: usize, weighed: &Weighed) -> bool
+    requires votes { IsVotes (votes members rules.now) }
+    requires weighed { IsWeighed (rule_views rules.now) weighed.now }
+    ensures { result ≡ wins (rule_views rules.now) weighed.now.mask }
+{
+    for r in 0..rules.len() {
+        let rule = &rules[r];
+        if weighed.sums[r] < rule.quota {
+            return false;
+        }
+    }
+    true
+}
+
+/// Whether a coalition still wins without a place that is in it.
+fn wins_without(rules: &[Rule], members: usize, weighed: &Weighed, place: usize) -> bool
+    requires votes { IsVotes (votes members rules.now) }
+    requires weighed { IsWeighed (rule_views rules.now) weighed.now }
+    requires place { place < members }
+    requires inside { has members place weighed.now.mask ≡ true }
+    ensures { result ≡ wins (rule_views rules.now) (without members place weighed.now.mask) }
+{
+    for r in 0..rules.len() {
+        let rule = &rules[r];
+        if weighed.sums[r].saturating_sub(rule.weights[place]) < rule.quota {
+            return false;
+        }
+    }
+    true
+}
+
+pub(crate) fn wins(rules: &[Rule], members: usize, mask: u64) -> bool
+    requires { IsVotes (votes members rules.now) }
+    ensures { result ≡ wins (rule_views rules.now) mask }
+{
+    let weighed = weigh(rules, members, mask);
+    wins_weighed(rules, members, &weighed)
+}
+
+fn has(members: usize, place: usize, mask: u64) -> bool
+    requires few { members ≤ 40 }
+    requires place { place < members }
+    ensures { result ≡ has members place mask }
+{
+    (mask >> (members - 1 - place)) % 2 == 1
+}
+
+pub(crate) fn is_minimal(rules: &[Rule], members: usize, mask: u64) -> bool
+    requires { IsVotes (votes members rules.now) }
+    ensures { result ≡ minimal (votes members rules.now) mask }
+{
+    let weighed = weigh(rules, members, mask);
+    if !wins_weighed(rules, members, &weighed) {
+        return false;
+    }
+    for place in 0..members {
+        if has(members, place, mask) && wins_without(rules, members, &weighed, place) {
+            return false;
+        }
+    }
+    true
+}
