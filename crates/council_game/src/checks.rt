@@ -13,7 +13,8 @@ fn is_plain(text: &str) -> bool
     text.as_bytes().iter().all(|b| *b >= 32 && *b != 127)
 }
 
-pub(crate) fn is_title(text: &str) -> bool
+/// Whether a text can be a title: at most 200 bytes, none below 0x20 and none 0x7F.
+pub fn is_title(text: &str) -> bool
     ensures { result ≡ is_title text.now }
 {
     text.len() <= 200 && is_plain(text)

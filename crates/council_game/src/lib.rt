@@ -12,6 +12,7 @@ mod ranks;
 mod rule;
 mod winning;
 
+pub use checks::is_title;
 pub use coalition::Coalition;
 pub use fault::GameFault;
 pub use game::Game;

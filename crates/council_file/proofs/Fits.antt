@@ -1,0 +1,74 @@
+-- The rules of a tree that passed the checks fit a game.
+use Rattle.std.proofs.Common.{◌≡◌, ◌≢◌, ℕ, ◌<◌, ◌≤◌, Bool, true, false, not, ◌&&◌, ◌||◌, List, [], ◌∷◌, length, map, Option, Some, None, is_some, codes, refl, sym, ap, ◌∙◌, arith, All, zero, suc, inl, inr, String, Global, string_bytes, nat_le}
+use Rattle.std.specs.List.{list_all, range_with_len}
+use Rattle.std.specs.Option.{option_map_or}
+use Rattle.std.proofs.lemmas.Bool.{cases_Bool, false≢true, and_parts, leb-true}
+use Rattle.std.proofs.lemmas.List.FromFn.{length-map-range_with_len}
+use Rattle.toml.specs.Data.{Data, Members, get_member, as_integer}
+use Rattle.council_game.specs.declared.rule.Rule.{Rule}
+use Rattle.council_game.specs.Votes.{RuleView}
+use Rattle.council_game.specs.Rules.{rule_view, rule_views}
+use Rattle.council_game.proofs.Lists.{length_map}
+use Rattle.council_game.proofs.RuleLists.{All_map, held_full}
+use Rattle.council_file.specs.File.{has, some_has, elements_at, are_quotas, breaks_rules, lacks_quota, member_list, only_rule, rule_at, rules_of, name_of}
+
+quotas_pass : (q qs aq w v : Bool) → q ≡ false → not qs ≡ false → ((q && qs) || (qs && not aq) || (q && w) || (qs && v)) ≡ false → aq ≡ true
+quotas_pass true qs aq w v a b h = absurd (false≢true (sym a))
+quotas_pass false false aq w v a b h = absurd (false≢true (sym b))
+quotas_pass false true true w v a b h = refl
+quotas_pass false true false w v a b h = absurd (false≢true (sym h))
+
+none_gives : (f : Data → Bool) (o : Option Data) (d : Bool) → is_some o ≡ false → option_map_or f o d ≡ d
+none_gives f None d h = refl
+none_gives f (Some x) d h = absurd (false≢true (sym h))
+
+counted : (ds : List Data) → are_quotas ds ≡ true → (0 < length ds) × (length ds ≤ 4)
+counted ds h =
+    let (count, each) = and_parts (nat_le 1 (length ds) && nat_le (length ds) 4) _ h in
+    let (some, few) = and_parts (nat_le 1 (length ds)) (nat_le (length ds) 4) count in
+    (omega (arith, leb-true _ _ some), leb-true _ _ few)
+
+pub rules_count : (t : Members) → breaks_rules t ≡ false → lacks_quota t ≡ false → (0 < length (rules_of t)) × (length (rules_of t) ≤ 4)
+rules_count t ok quota =
+    elim (cases_Bool (has (codes "quota") t)) [
+      | inl lone ↦ rw lone (omega arith, omega arith)
+      | inr many ↦
+          let listed = sym (none_gives _ (get_member (codes "quota") t) _ many) ∙ quota in
+          let pass = quotas_pass (has (codes "quota") t) (has (codes "quotas") t) (are_quotas (elements_at (codes "quotas") t)) (some_has (codes "weights") t) (some_has (codes "weight") t) many listed ok in
+          let n = length (elements_at (codes "quotas") t) in
+          rw (many, length-map-range_with_len (rule_at t n) 0 n) (counted (elements_at (codes "quotas") t) pass)
+    ]
+
+only_full : (t : Members) → length (only_rule t).weights ≡ length (member_list t)
+unfolding only_rule
+only_full t = length_map _ (member_list t)
+
+at_full : (t : Members) (n r : ℕ) → length (rule_at t n r).weights ≡ length (member_list t)
+unfolding rule_at
+at_full t n r = length_map _ (member_list t)
+
+lone_full : (t : Members) → All (λ r. length r.weights ≡ length (member_list t)) (only_rule t ∷ [])
+lone_full t zero d h = only_full t
+lone_full t (suc k) d h = absurd (omega arith)
+
+pub rules_full : (t : Members) → All (λ r. length r.weights ≡ length (member_list t)) (rules_of t)
+rules_full t =
+    elim (cases_Bool (has (codes "quota") t)) [
+      | inl lone ↦ rw lone (lone_full t)
+      | inr many ↦
+          let n = length (elements_at (codes "quotas") t) in
+          rw many (All_map (λ r. length r.weights ≡ length (member_list t)) (rule_at t n) (range_with_len 0 n) (λ k r h. at_full t n _))
+    ]
+
+-- what the code holds
+pub held_count : (rules : List Rule) (t : Members) → rule_views rules ≡ rules_of t → breaks_rules t ≡ false → lacks_quota t ≡ false → (0 < length rules) × (length rules ≤ 4)
+held_count rules t same ok quota =
+    let count = rules_count t ok quota in
+    let len : length rules ≡ length (rules_of t) = sym (length_map rule_view rules) ∙ ap (λ (rs : List RuleView). length rs) same in
+    (omega (arith, len, count.0), omega (arith, len, count.1))
+
+pub all_held : (rules : List Rule) (t : Members) (names : List (String Global)) (ds : List Data) → rule_views rules ≡ rules_of t → ds ≡ member_list t → map string_bytes names ≡ map name_of ds
+    → All (λ r. length r.weights.items ≡ length names) rules
+all_held rules t names ds same members named =
+    let len : length (member_list t) ≡ length names = ap (λ (xs : List Data). length xs) (sym members) ∙ sym (length_map name_of ds) ∙ ap (λ (xs : List (List ℕ)). length xs) (sym named) ∙ length_map string_bytes names in
+    held_full rules (length names) (rw (same, ← len) (rules_full t))

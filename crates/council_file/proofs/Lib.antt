@@ -1,0 +1,4 @@
+pub mod Views
+pub mod Text
+pub mod Fits
+pub mod Stops

@@ -1,0 +1,142 @@
+-- The game that a file is, or the first fault.
+use Rattle.std.specs.Prelude.{codes, ℕ, ℤ, pos, negsuc, ◌^◌, ◌-◌, Bool, true, false, not, ◌&&◌, ◌||◌, ◌==◌, nat_lt, nat_le, nat_eq, List, [], ◌∷◌, length, map, slice_index, slice_get, Option, Some, None, Result, Ok, Err, is_some, is_none, unwrap_or, option_map, option_and_then, ok_or, if◌then◌else◌}
+use Rattle.std.specs.List.{list_any, list_all, filter_map, range_with_len}
+use Rattle.std.specs.Option.{option_map_or}
+use Rattle.std.specs.Str.{is_utf8}
+use Rattle.std.specs.Cmp.Lexicographic.{pointwise}
+use Rattle.toml.specs.Data.{Data, Items, no_items, item, Members, no_members, member, get_member, get, as_str, as_integer, as_array, as_table}
+use Rattle.toml.specs.Parse.{parse_document}
+use Rattle.council_game.specs.declared.fault.GameFault.{GameFault}
+use Rattle.council_game.specs.declared.fault.GameFault.TheVariants.{TooLong, Text, UnknownKey, Title, Quota, Rules, Members as NoMembers}
+use Rattle.council_game.specs.Fault.{◌>>=◌, refuse}
+use Rattle.council_game.specs.Votes.{RuleView}
+use Rattle.council_game.specs.Game.{GameView, is_title, made_game}
+
+-- the elements of an array, and the keys of a table
+abbrev pub elements : Items → List Data
+elements no_items = []
+elements (item d ds) = d ∷ elements ds
+
+abbrev pub keys : Members → List (List ℕ)
+keys no_members = []
+keys (member k d ms) = k ∷ keys ms
+
+-- ---- what stands in the tree
+
+abbrev pub top_keys : List (List ℕ)
+top_keys = codes "title" ∷ codes "quota" ∷ codes "quotas" ∷ codes "member" ∷ []
+
+abbrev pub member_keys : List (List ℕ)
+member_keys = codes "name" ∷ codes "weight" ∷ codes "weights" ∷ []
+
+abbrev pub has_other_key : List (List ℕ) → Members → Bool
+has_other_key known t = list_any (λ k. not (list_any (pointwise nat_eq k) known)) (keys t)
+
+-- the elements of an array, and none of any other value
+abbrev pub elements_of : Data → List Data
+elements_of d = option_map_or elements (as_array d) []
+
+abbrev pub elements_at : List ℕ → Members → List Data
+elements_at k t = option_map_or elements_of (get_member k t) []
+
+abbrev pub member_list : Members → List Data
+member_list t = elements_at (codes "member") t
+
+-- some member has the key
+abbrev pub some_has : List ℕ → Members → Bool
+some_has k t = list_any (λ d. is_some (get k d)) (member_list t)
+
+abbrev pub has : List ℕ → Members → Bool
+has k t = is_some (get_member k t)
+
+-- ---- the checks, in their order
+
+abbrev pub has_unknown_key : Members → Bool
+has_unknown_key t = has_other_key top_keys t || list_any (λ d. option_map_or (has_other_key member_keys) (as_table d) false) (member_list t)
+
+-- no title, or one that is a title
+abbrev pub title_from : Option Data → Result (Option (List ℕ)) GameFault
+title_from None = Ok None
+title_from (Some d) = option_map_or (λ s. if is_title s then Ok (Some s) else Err Title) (as_str d) (Err Title)
+
+abbrev pub title_of : Members → Result (Option (List ℕ)) GameFault
+title_of t = title_from (get_member (codes "title") t)
+
+-- 1 to 4 integers
+abbrev pub are_quotas : List Data → Bool
+are_quotas ds = (nat_le 1 (length ds) && nat_le (length ds) 4) && list_all (λ d. is_some (as_integer d)) ds
+
+abbrev pub breaks_rules : Members → Bool
+breaks_rules t = (has (codes "quota") t && has (codes "quotas") t)
+    || (has (codes "quotas") t && not (are_quotas (elements_at (codes "quotas") t)))
+    || (has (codes "quota") t && some_has (codes "weights") t)
+    || (has (codes "quotas") t && some_has (codes "weight") t)
+
+abbrev pub lacks_quota : Members → Bool
+lacks_quota t = option_map_or (λ d. is_none (as_integer d)) (get_member (codes "quota") t) (not (has (codes "quotas") t))
+
+-- 1 to 40 tables
+abbrev pub are_members : List Data → Bool
+are_members ds = (nat_le 1 (length ds) && nat_le (length ds) 40) && list_all (λ d. is_some (as_table d)) ds
+
+-- ---- the values
+
+-- the name of a member. One that is missing or no string is empty, and no name is empty.
+unfoldable pub name_of : Data → List ℕ
+name_of d = unwrap_or (option_and_then as_str (get (codes "name") d)) []
+
+-- A quota below 0 is out of range as 0 is.
+abbrev pub whole_quota : ℤ → ℕ
+whole_quota (pos n) = n
+whole_quota (negsuc n) = 0
+
+-- A weight below 0 is out of range as one above the limit is.
+abbrev pub whole_weight : ℤ → ℕ
+whole_weight (pos n) = n
+whole_weight (negsuc n) = 2 ^ 64 - 1
+
+-- the integer, or else the number, which is out of range
+abbrev pub weight_from : Option Data → ℕ
+weight_from d = option_map_or whole_weight (option_and_then as_integer d) (2 ^ 64 - 1)
+
+-- the weight of a member in a game of one rule
+unfoldable pub only_weight : Data → ℕ
+only_weight d = weight_from (get (codes "weight") d)
+
+-- the weight of a member under rule r of n
+unfoldable pub weight_under : ℕ → ℕ → Data → ℕ
+weight_under n r d = let ws = option_map_or elements_of (get (codes "weights") d) [] in if length ws == n then weight_from (slice_get ws r) else 2 ^ 64 - 1
+
+abbrev pub quota_from : Option Data → ℕ
+quota_from d = option_map_or whole_quota (option_and_then as_integer d) 0
+
+unfoldable pub only_rule : Members → RuleView
+only_rule t = record { quota = quota_from (get_member (codes "quota") t); weights = map only_weight (member_list t) }
+
+-- rule r of n
+unfoldable pub rule_at : Members → ℕ → ℕ → RuleView
+rule_at t n r = record { quota = quota_from (slice_get (elements_at (codes "quotas") t) r); weights = map (weight_under n r) (member_list t) }
+
+abbrev pub rules_of : Members → List RuleView
+rules_of t = if has (codes "quota") t then only_rule t ∷ []
+    else (let n = length (elements_at (codes "quotas") t) in map (rule_at t n) (range_with_len 0 n))
+
+-- ---- the whole
+
+unfoldable pub tree_of : List ℕ → Result Members GameFault
+tree_of bytes = do
+  _ ← refuse (nat_lt 65536 (length bytes)) TooLong
+  _ ← refuse (not (is_utf8 bytes)) Text
+  ok_or (parse_document bytes) Text
+
+unfoldable pub game_of_tree : Members → Result GameView GameFault
+game_of_tree t = do
+  _ ← refuse (has_unknown_key t) UnknownKey
+  title ← title_of t
+  _ ← refuse (breaks_rules t) Rules
+  _ ← refuse (lacks_quota t) Quota
+  _ ← refuse (not (are_members (member_list t))) NoMembers
+  made_game title (map name_of (member_list t)) (rules_of t)
+
+unfoldable pub game_of : List ℕ → Result GameView GameFault
+game_of bytes = tree_of bytes >>= game_of_tree

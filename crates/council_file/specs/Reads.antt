@@ -1,0 +1,28 @@
+-- What a reader gave.
+use Rattle.std.specs.Prelude.{◌≡◌, ◌<◌, ◌≤◌, ℕ, List, length, Option, ◌⊎◌, ◌++◌, Ok, Err}
+use Rattle.council_game.specs.declared.fault.GameFault.{GameFault}
+use Rattle.council_game.specs.declared.fault.GameFault.TheVariants.{Read, Memory}
+use Rattle.council_file.specs.File.{game_of}
+use Rattle.std.specs.Io.KnownBytes.{Consumes, IsAtEnd}
+
+-- the vector grew by n bytes, which the reader gave
+abbrev pub GrewBy : Option (List ℕ) → Option (List ℕ) → List ℕ → List ℕ → ℕ → Type 0
+GrewBy before after old new n = (more : List ℕ) × Consumes before after more × (new ≡ old ++ more) × (length more ≡ n)
+
+-- the reader gave these bytes: up to its end, or one more than a game file may have
+pub record Gave (before after : Option (List ℕ)) (bytes : List ℕ) : Type 0 where
+  pub given : Consumes before after bytes
+  pub enough : IsAtEnd after ⊎ (65536 < length bytes)
+  pub most : length bytes ≤ 65537
+
+-- The fault is that of the bytes that the reader gave, unless a read failed or memory ran out.
+abbrev pub FailsSo : Option (List ℕ) → Option (List ℕ) → GameFault → Type 0
+FailsSo before after Read = Unit {0}
+FailsSo before after Memory = Unit {0}
+FailsSo before after fault = (bytes : List ℕ) × Gave before after bytes × (game_of bytes ≡ Err fault)
+
+-- A read failed, or memory ran out.
+abbrev pub IsStop : GameFault → Type 0
+IsStop Read = Unit {0}
+IsStop Memory = Unit {0}
+IsStop fault = ⊥

@@ -1,0 +1,64 @@
+//! The keys that a file may have.
+ghost use Rattle.std.specs.Prelude.{◌≡◌, nat_eq, not, map, string_bytes, false};
+ghost use Rattle.std.specs.Option.{option_map_or};
+ghost use Rattle.std.specs.List.{list_any};
+ghost use Rattle.std.specs.Map.{keys_of};
+ghost use Rattle.std.specs.Cmp.Lexicographic.{pointwise};
+ghost use Rattle.toml.specs.Data.{as_table};
+ghost use Rattle.toml.specs.View.{view, table_view};
+ghost use Rattle.council_file.specs.File.{top_keys, member_keys, has_other_key};
+
+use toml::{Table, Value};
+
+fn is_top_key(key: &str) -> bool
+    ensures { result ≡ list_any (pointwise nat_eq key.now) top_keys }
+{
+    key == "title" || (key == "quota" || (key == "quotas" || key == "member"))
+}
+
+fn is_member_key(key: &str) -> bool
+    ensures { result ≡ list_any (pointwise nat_eq key.now) member_keys }
+{
+    key == "name" || (key == "weight" || key == "weights")
+}
+
+fn any_other_top_key(table: &Table) -> bool
+    ensures { result ≡ list_any (λ k. not (list_any (pointwise nat_eq (string_bytes k)) top_keys)) (keys_of table.now.entries) }
+{
+    table.keys().any(|key| !is_top_key(key.as_str()))
+}
+
+fn any_other_member_key(table: &Table) -> bool
+    ensures { result ≡ list_any (λ k. not (list_any (pointwise nat_eq (string_bytes k)) member_keys)) (keys_of table.now.entries) }
+{
+    table.keys().any(|key| !is_member_key(key.as_str()))
+}
+
+#[tactic(auto, using(crate::proofs::Views::other_key))]
+pub(crate) fn has_other_top_key(table: &Table) -> bool
+    ensures { result ≡ has_other_key top_keys (table_view table.now) }
+{
+    any_other_top_key(table)
+}
+
+#[tactic(auto, using(crate::proofs::Views::other_key))]
+fn has_other_member_key(table: &Table) -> bool
+    ensures { result ≡ has_other_key member_keys (table_view table.now) }
+{
+    any_other_member_key(table)
+}
+
+fn is_odd_member(member: &Value) -> bool
+    ensures { result ≡ option_map_or (has_other_key member_keys) (as_table (view member.now)) false }
+{
+    match member.as_table() {
+        Some(table) => has_other_member_key(table),
+        None => false,
+    }
+}
+
+pub(crate) fn any_odd_member(members: &[Value]) -> bool
+    ensures { result ≡ list_any (λ v. option_map_or (has_other_key member_keys) (as_table (view v)) false) members.now }
+{
+    members.iter().any(|member| is_odd_member(member))
+}

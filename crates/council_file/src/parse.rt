@@ -1,0 +1,55 @@
+//! The game of the bytes of a file.
+ghost use Rattle.std.specs.Prelude.{◌≡◌, option_map, string_bytes, IfOk};
+ghost use Rattle.toml.specs.View.{table_view};
+ghost use Rattle.council_game.specs.Fault.{Answers};
+ghost use Rattle.council_file.specs.File.{game_of, game_of_tree};
+
+use crate::parts::{
+    are_members, breaks_rules, has_unknown_key, lacks_quota, member_list, names_of, rules_of,
+    title_of,
+};
+use crate::tree::tree_of;
+use council_game::{Game, GameFault};
+use std::alloc::{AllocError, Global};
+use toml::Table;
+
+fn copied(alloc: Global, title: Option<&str>) -> Result<Option<String>, AllocError>
+    ensures { IfOk result (λ t. option_map string_bytes t ≡ option_map (λ s. s.now) title.entry) }
+{
+    match title {
+        Some(text) => Ok(Some(String::from_str(alloc, text)?)),
+        None => Ok(None),
+    }
+}
+
+#[tactic(auto, unfolding(crate::specs::File::game_of_tree))]
+fn game_of_tree(alloc: Global, table: &Table) -> Result<Game, GameFault>
+    ensures { Answers result (game_of_tree (table_view table.now)) }
+{
+    if has_unknown_key(table) {
+        return Err(GameFault::UnknownKey);
+    }
+    let title = title_of(table)?;
+    if breaks_rules(table) {
+        return Err(GameFault::Rules);
+    }
+    if lacks_quota(table) {
+        return Err(GameFault::Quota);
+    }
+    if !are_members(member_list(table)) {
+        return Err(GameFault::Members);
+    }
+    let title = copied(alloc, title)?;
+    let names = names_of(alloc, member_list(table))?;
+    let rules = rules_of(alloc, table)?;
+    Game::with_rules(alloc, title, names, rules)
+}
+
+/// The game of the bytes, or the first fault.
+#[tactic(auto, unfolding(crate::specs::File::game_of))]
+pub fn parse_game(alloc: Global, bytes: &[u8]) -> Result<Game, GameFault>
+    ensures { Answers result (game_of bytes.now) }
+{
+    let table = tree_of(alloc, bytes)?;
+    game_of_tree(alloc, &table)
+}

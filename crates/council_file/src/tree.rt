@@ -1,0 +1,78 @@
+//! What stands in a tree of toml.
+ghost use Rattle.std.specs.Prelude.{◌≡◌, Ok, Err, option_map, length, map, is_some, true, []};
+ghost use Rattle.std.specs.Option.{option_map_or};
+ghost use Rattle.std.specs.List.{list_any};
+ghost use Rattle.toml.specs.Data.{get_member, get, as_array};
+ghost use Rattle.toml.specs.View.{view, table_view};
+ghost use Rattle.council_game.specs.Fault.{Gives};
+ghost use Rattle.council_file.specs.File.{tree_of, elements_at, elements_of, has};
+
+use council_game::GameFault;
+use std::alloc::Global;
+use toml::{Table, Value};
+
+/// The tree of a text.
+#[tactic(auto, unfolding(crate::specs::File::tree_of))]
+pub(crate) fn tree_of(alloc: Global, bytes: &[u8]) -> Result<Table, GameFault>
+    ensures { Gives table_view result (tree_of bytes.now) }
+{
+    if 65_536 < bytes.len() {
+        return Err(GameFault::TooLong);
+    }
+    let text = match str::from_utf8(bytes) {
+        Ok(text) => text,
+        Err(_) => return Err(GameFault::Text),
+    };
+    match toml::table_from_str(alloc, text) {
+        Ok(table) => Ok(table),
+        Err(e) if e.is_memory() => Err(GameFault::Memory),
+        Err(_) => Err(GameFault::Text),
+    }
+}
+
+/// The value at a key.
+pub(crate) fn value_at<'a>(table: &'a Table, key: &str) -> Option<&'a Value>
+    ensures { option_map (λ v. view v.now) result ≡ get_member key.now (table_view table.now) }
+{
+    table.get(key)
+}
+
+/// The key is there.
+pub(crate) fn has(table: &Table, key: &str) -> bool
+    ensures { result ≡ has key.now (table_view table.now) }
+{
+    value_at(table, key).is_some()
+}
+
+/// The elements of an array, and none of any other value.
+pub(crate) fn elements_of(value: &Value) -> &[Value]
+    ensures { map view result.now ≡ elements_of (view value.now) }
+{
+    match value {
+        Value::Array(items) => items.as_slice(),
+        _ => &[],
+    }
+}
+
+/// The elements of the array at a key, and none of any other value.
+pub(crate) fn elements_at<'a>(table: &'a Table, key: &str) -> &'a [Value]
+    ensures { map view result.now ≡ elements_at key.now (table_view table.now) }
+{
+    match value_at(table, key) {
+        Some(value) => elements_of(value),
+        None => &[],
+    }
+}
+
+fn member_has(member: &Value, key: &str) -> bool
+    ensures { result ≡ is_some (get key.now (view member.now)) }
+{
+    member.get(key).is_some()
+}
+
+/// Some member has the key.
+pub(crate) fn some_has(members: &[Value], key: &str) -> bool
+    ensures { result ≡ list_any (λ v. is_some (get key.now (view v))) members.now }
+{
+    members.iter().any(|member| member_has(member, key))
+}
