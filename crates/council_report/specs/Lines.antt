@@ -1,0 +1,58 @@
+-- The lines of a report, as bytes.
+use Rattle.std.specs.Prelude.{ℕ, Bool, List, [], ◌∷◌, ◌++◌, ◌==◌, nat_lt, if◌then◌else◌, map, length, codes, decimal, slice_index, slice_index_or, Option}
+use Rattle.std.specs.List.{flat_map, join_with_byte, range_with_len}
+use Rattle.std.specs.Option.{option_map_or}
+use Rattle.council_game.specs.Votes.{RuleView, weight, places_of, size}
+use Rattle.council_game.specs.Ranks.{member_at, places}
+use Rattle.council_game.specs.Game.{GameView, votes_of, total}
+
+-- a field after a TAB
+abbrev pub tabbed : List ℕ → List ℕ
+tabbed field = 9 ∷ field
+
+-- a word, each field after a TAB, and LF
+abbrev pub line : List ℕ → List (List ℕ) → List ℕ
+line word fields = word ++ flat_map tabbed fields ++ 10 ∷ []
+
+-- a value for each rule, in decimal, joined by `/`
+abbrev pub slashed : List ℕ → List ℕ
+slashed values = join_with_byte 47 (map decimal values)
+
+abbrev pub quotas : GameView → List ℕ
+quotas g = map (λ r. r.quota) g.rules
+
+abbrev pub totals : GameView → List ℕ
+totals g = map total g.rules
+
+-- the weights of member i, one for each rule
+abbrev pub weights_of_member : GameView → ℕ → List ℕ
+weights_of_member g i = map (λ r. slice_index r.weights i) g.rules
+
+-- the weights of coalition c, one for each rule
+abbrev pub weights_of_coalition : GameView → ℕ → List ℕ
+weights_of_coalition g c = map (λ r. weight r.weights c) (votes_of g).rules
+
+abbrev pub name_of : GameView → ℕ → List ℕ
+name_of g i = slice_index_or g.names i []
+
+-- the names of the members of coalition c, in rank order
+abbrev pub names_of : GameView → ℕ → List (List ℕ)
+names_of g c = map (λ p. name_of g (member_at g.ranks p)) (places_of (length g.names) c)
+
+unfoldable pub title_line : GameView → List ℕ
+title_line g = option_map_or (λ title. line (codes "title") (title ∷ [])) g.title []
+
+unfoldable pub members_line : GameView → List ℕ
+members_line g = line (codes "members") (decimal (length g.names) ∷ [])
+
+unfoldable pub quota_line : GameView → List ℕ
+quota_line g = line (codes "quota") (slashed (quotas g) ∷ [])
+
+unfoldable pub total_line : GameView → List ℕ
+total_line g = line (codes "total") (slashed (totals g) ∷ [])
+
+unfoldable pub minimal_line : List ℕ → List ℕ
+minimal_line list = line (codes "minimal") (decimal (length list) ∷ [])
+
+unfoldable pub coalition_line : GameView → ℕ → List ℕ
+coalition_line g c = line (codes "coalition") (decimal (size (length g.names) c) ∷ slashed (weights_of_coalition g c) ∷ names_of g c)

@@ -1,0 +1,94 @@
+//! The lines of a report, one function for each kind.
+ghost use Rattle.std.specs.Prelude.{◌≡◌, ◌++◌, ◌^◌, ◌<◌, ◌≤◌, ◌∷◌, [], ℕ, length, OnOk, codes, slice_get, Option, Some, option_map};
+ghost use Rattle.std.specs.List.{flat_map};
+ghost use Rattle.council_report.specs.Lines.{tabbed, title_line, members_line, quota_line, total_line, minimal_line, coalition_line, name_of, names_of};
+
+use crate::text::{push_field, push_number, push_values};
+use council_game::{Coalition, Game};
+use std::alloc::AllocError;
+
+fn end_line(out: &mut Vec<u8>) -> Result<(), AllocError>
+    ensures { OnOk result (out.new.items ≡ out.old.items ++ 10 ∷ []) }
+{
+    out.push(b'\n')?;
+    Ok(())
+}
+
+/// `title`, the title; no line where there is none.
+#[tactic(auto, unfolding(crate::specs::Lines::title_line))]
+pub(crate) fn push_title(out: &mut Vec<u8>, game: &Game) -> Result<(), AllocError>
+    ensures { OnOk result (out.new.items ≡ out.old.items ++ title_line game.now) }
+{
+    let Some(title) = game.title() else {
+        return Ok(());
+    };
+    out.extend_from_slice(b"title")?;
+    push_field(out, title.as_bytes())?;
+    end_line(out)
+}
+
+/// `members`, the number of members.
+#[tactic(auto, unfolding(crate::specs::Lines::members_line))]
+pub(crate) fn push_members(out: &mut Vec<u8>, game: &Game) -> Result<(), AllocError>
+    ensures { OnOk result (out.new.items ≡ out.old.items ++ members_line game.now) }
+{
+    out.extend_from_slice(b"members")?;
+    push_number(out, game.members() as u64)?;
+    end_line(out)
+}
+
+/// `quota`, the quota of each rule.
+#[tactic(auto, unfolding(crate::specs::Lines::quota_line))]
+pub(crate) fn push_quota(out: &mut Vec<u8>, game: &Game) -> Result<(), AllocError>
+    ensures { OnOk result (out.new.items ≡ out.old.items ++ quota_line game.now) }
+{
+    out.extend_from_slice(b"quota")?;
+    push_values(out, game.rules(), |r| game.rule_quota(r))?;
+    end_line(out)
+}
+
+/// `total`, the total of each rule's weights.
+#[tactic(auto, unfolding(crate::specs::Lines::total_line))]
+pub(crate) fn push_total(out: &mut Vec<u8>, game: &Game) -> Result<(), AllocError>
+    ensures { OnOk result (out.new.items ≡ out.old.items ++ total_line game.now) }
+{
+    out.extend_from_slice(b"total")?;
+    push_values(out, game.rules(), |r| game.rule_total(r))?;
+    end_line(out)
+}
+
+/// `minimal`, the number of minimal winning coalitions.
+#[tactic(auto, unfolding(crate::specs::Lines::minimal_line))]
+pub(crate) fn push_minimal(out: &mut Vec<u8>, list: &[Coalition]) -> Result<(), AllocError>
+    ensures { OnOk result (out.new.items ≡ out.old.items ++ minimal_line list.now) }
+{
+    out.extend_from_slice(b"minimal")?;
+    push_number(out, list.len() as u64)?;
+    end_line(out)
+}
+
+/// The names of a coalition's members in rank order.
+fn push_names(out: &mut Vec<u8>, game: &Game, coalition: Coalition) -> Result<(), AllocError>
+    ensures { OnOk result (out.new.items ≡ out.old.items ++ flat_map tabbed (names_of game.now coalition)) }
+{
+    let members = game.members();
+    for place in 0..members {
+        if coalition.has(members, place) {
+            push_field(out, game.name(game.member_at(place)).as_bytes())?;
+        }
+    }
+    Ok(())
+}
+
+/// `coalition`, its size, its weight under each rule, the names of its members in rank order.
+#[tactic(auto, unfolding(crate::specs::Lines::coalition_line))]
+pub(crate) fn push_coalition(out: &mut Vec<u8>, game: &Game, coalition: Coalition) -> Result<(), AllocError>
+    requires { coalition < 2 ^ length game.now.names }
+    ensures { OnOk result (out.new.items ≡ out.old.items ++ coalition_line game.now coalition) }
+{
+    out.extend_from_slice(b"coalition")?;
+    push_number(out, u64::from(coalition.size()))?;
+    push_values(out, game.rules(), |r| game.rule_weight_of(r, coalition))?;
+    push_names(out, game, coalition)?;
+    end_line(out)
+}

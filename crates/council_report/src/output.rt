@@ -1,0 +1,107 @@
+//! The block through which a report goes to its writer.
+ghost use Rattle.std.specs.Prelude.{◌≡◌, ◌≤◌, ◌<◌, ◌^◌, ◌+◌, [], ℕ, length, take, IfOk, IfErr, OnOk};
+ghost use Rattle.std.specs.Io.KnownBytes.{Appends, Keeps};
+
+use std::alloc::{AllocError, Global};
+use std::io::Write;
+
+/// The bytes of a block.
+const ROOM: usize = 65_536;
+
+/// The bytes that are kept free for the next line, which is no longer.
+const LINE: usize = 4_096;
+
+/// A write or the flush failed after the writer had taken so many bytes.
+#[derive(Clone, Copy, Debug, PartialEq, Eq)]
+pub struct WriteFault {
+    pub written: u64,
+}
+
+/// Hands the bytes to the writer. A write that takes a part is followed by one for the rest; one that
+/// fails, for whatever cause, or takes nothing is the end.
+fn write_whole<W: Write>(writer: &mut W, bytes: &[u8]) -> Result<(), WriteFault>
+    ensures ok { OnOk result (Appends (W.contents writer.old) (W.contents writer.new) bytes.now) }
+    ensures within { IfErr result (λ fault. fault.written ≤ length bytes.now) }
+    ensures err { IfErr result (λ fault. Appends (W.contents writer.old) (W.contents writer.new) (take fault.written bytes.now)) }
+{
+    let mut written = 0;
+    while written < bytes.len() {
+        match writer.write(&bytes[written..]) {
+            Ok(0) | Err(_) => {
+                return Err(WriteFault {
+                    written: written as u64,
+                });
+            }
+            Ok(count) => written += count,
+        }
+    }
+    Ok(())
+}
+
+/// Bytes on their way to a writer, and the number of those that it took before.
+#[derive(Drop)]
+pub(crate) struct Block {
+    pub(crate) bytes: Vec<u8>,
+    pub(crate) written: u64,
+}
+
+impl Block {
+    ghost use Rattle.council_report.specs.Told.{told, Tells, Stopped, StoppedIn};
+
+    /// An empty block with all its room.
+    pub(crate) fn new(alloc: Global) -> Result<Block, AllocError>
+        ensures { IfOk result (λ block. (block.bytes.items ≡ []) × (block.written ≡ 0)) }
+    {
+        Ok(Block {
+            bytes: Vec::with_capacity(alloc, ROOM)?,
+            written: 0,
+        })
+    }
+
+    /// Hands all bytes to the writer. A report of 2^64 bytes, which no run makes, is where it stops.
+    fn drain<W: Write>(&mut self, writer: &mut W) -> Result<(), WriteFault>
+        ensures ok { OnOk result (Tells (told (W.contents writer.old) self.old) (told (W.contents writer.new) self.new) []) }
+        ensures empty { OnOk result (self.new.bytes.items ≡ []) }
+        ensures err { IfErr result (λ fault. Stopped (told (W.contents writer.old) self.old) (W.contents writer.new) fault.written) }
+    {
+        let before = self.written;
+        let Some(after) = before.checked_add(self.bytes.len() as u64) else {
+            return Err(WriteFault { written: before });
+        };
+        match write_whole(writer, &self.bytes) {
+            Ok(()) => {
+                self.bytes.clear();
+                self.written = after;
+                Ok(())
+            }
+            Err(fault) => Err(WriteFault {
+                written: before + fault.written,
+            }),
+        }
+    }
+
+    /// Makes room for a line: where the next might not fit, all bytes go to the writer.
+    pub(crate) fn settle<W: Write>(&mut self, writer: &mut W) -> Result<(), WriteFault>
+        ensures ok { OnOk result (Tells (told (W.contents writer.old) self.old) (told (W.contents writer.new) self.new) []) }
+        ensures err { IfErr result (λ fault. Stopped (told (W.contents writer.old) self.old) (W.contents writer.new) fault.written) }
+    {
+        if self.bytes.len() + LINE <= ROOM {
+            return Ok(());
+        }
+        self.drain(writer)
+    }
+
+    /// Hands the last bytes to the writer, and flushes it once.
+    pub(crate) fn finish<W: Write>(mut self, writer: &mut W) -> Result<u64, WriteFault>
+        ensures ok { IfOk result (λ count. (count ≡ self.written + length self.bytes.items) × Keeps (told (W.contents writer.old) self).bytes (W.contents writer.new)) }
+        ensures err { IfErr result (λ fault. Stopped (told (W.contents writer.old) self) (W.contents writer.new) fault.written) }
+    {
+        self.drain(writer)?;
+        match writer.flush() {
+            Ok(()) => Ok(self.written),
+            Err(_) => Err(WriteFault {
+                written: self.written,
+            }),
+        }
+    }
+}
