@@ -2,3 +2,4 @@ pub mod Views
 pub mod Text
 pub mod Fits
 pub mod Stops
+pub mod Joins

@@ -1,2 +1,4 @@
 pub mod File
 pub mod Reads
+pub mod Joined
+pub mod Notation

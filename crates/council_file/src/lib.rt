@@ -1,11 +1,15 @@
 //! The game that a file holds.
 #![tactic(auto)]
 
+mod joined;
 mod keys;
+mod notation;
 mod parse;
 mod parts;
 mod reading;
 mod tree;
 
+pub use joined::{push_decimal, push_joined};
+pub use notation::write_notation;
 pub use parse::parse_game;
 pub use reading::read_game;

@@ -1,0 +1,33 @@
+//! Numbers in a row, put at the end of the bytes that are there.
+ghost use Rattle.std.specs.Prelude.{◌≡◌, ◌++◌, ◌<◌, ℕ, List, OnOk, decimal, length};
+ghost use Rattle.council_file.specs.Joined.{joined_numbers, GivesEach};
+
+use itoa::Buffer;
+use std::alloc::AllocError;
+
+/// A number in decimal.
+pub fn push_decimal(out: &mut Vec<u8>, number: u64) -> Result<(), AllocError>
+    ensures { OnOk result (out.new.items ≡ out.old.items ++ decimal number) }
+{
+    let mut buffer = Buffer::new();
+    out.extend_from_slice(buffer.format(number).as_bytes())
+}
+
+/// So many values in decimal, with the separator between each two. After want of memory a part may be there.
+pub fn push_joined<F: Fn(usize) -> u64>(
+    out: &mut Vec<u8>,
+    separator: &[u8],
+    count: usize,
+    value: F,
+) -> Result<(), AllocError>
+    requires { (r : ℕ) → r < count → F.pre value r }
+    ensures { (vs : List ℕ) → length vs ≡ count → GivesEach (F.post value) vs → OnOk result (out.new.items ≡ out.old.items ++ joined_numbers separator.now vs) }
+{
+    for r in 0..count {
+        if 0 < r {
+            out.extend_from_slice(separator)?;
+        }
+        push_decimal(out, value(r))?;
+    }
+    Ok(())
+}
