@@ -1,3 +1,3 @@
-pub mod Slashes
 pub mod Names
 pub mod Holding
+pub mod Telling

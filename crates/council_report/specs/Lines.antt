@@ -1,10 +1,12 @@
 -- The lines of a report, as bytes.
 use Rattle.std.specs.Prelude.{ℕ, Bool, List, [], ◌∷◌, ◌++◌, ◌==◌, nat_lt, if◌then◌else◌, map, length, codes, decimal, slice_index, slice_index_or, Option}
-use Rattle.std.specs.List.{flat_map, join_with_byte, range_with_len}
+use Rattle.std.specs.List.{flat_map, range_with_len}
 use Rattle.std.specs.Option.{option_map_or}
 use Rattle.council_game.specs.Votes.{RuleView, weight, places_of, size}
 use Rattle.council_game.specs.Ranks.{member_at, places}
 use Rattle.council_game.specs.Game.{GameView, votes_of, total}
+use Rattle.council_file.specs.Joined.{joined_numbers}
+use Rattle.council_file.specs.Notation.{notation}
 
 -- a field after a TAB
 abbrev pub tabbed : List ℕ → List ℕ
@@ -16,7 +18,7 @@ line word fields = word ++ flat_map tabbed fields ++ 10 ∷ []
 
 -- a value for each rule, in decimal, joined by `/`
 abbrev pub slashed : List ℕ → List ℕ
-slashed values = join_with_byte 47 (map decimal values)
+slashed values = joined_numbers (codes "/") values
 
 abbrev pub quotas : GameView → List ℕ
 quotas g = map (λ r. r.quota) g.rules
@@ -50,6 +52,10 @@ quota_line g = line (codes "quota") (slashed (quotas g) ∷ [])
 
 unfoldable pub total_line : GameView → List ℕ
 total_line g = line (codes "total") (slashed (totals g) ∷ [])
+
+-- the notation of a rule
+unfoldable pub notation_line : RuleView → List ℕ
+notation_line r = line (codes "notation") (notation r ∷ [])
 
 unfoldable pub minimal_line : List ℕ → List ℕ
 minimal_line list = line (codes "minimal") (decimal (length list) ∷ [])

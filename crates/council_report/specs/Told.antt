@@ -27,6 +27,11 @@ pub record Stopped (before : Told) (held : Option (List ℕ)) (written : ℕ) : 
   pub within : written ≤ before.count
   pub holds : HoldsBut before.bytes held (before.count - written)
 
--- it stopped somewhere in this text
-abbrev pub StoppedIn : Told → List ℕ → Option (List ℕ) → ℕ → Type 0
-StoppedIn before text held written = (k : ℕ) × (at : Told) × Tells before at (take k text) × Stopped at held written
+-- it stopped somewhere in this text: after its front was told
+pub record StoppedIn (before : Told) (text : List ℕ) (held : Option (List ℕ)) (written : ℕ) : Type 0 where
+  pub front : List ℕ
+  pub rest : List ℕ
+  pub at : Told
+  pub whole : front ++ rest ≡ text
+  pub tells : Tells before at front
+  pub stopped : Stopped at held written

@@ -1,0 +1,72 @@
+-- Texts told one after another, and where one stops.
+use Rattle.std.proofs.Common.{◌≡◌, ◌≤◌, ◌+◌, ◌-◌, ◌++◌, ℕ, List, [], ◌∷◌, length, take, Option, Some, None, option_map, refl, sym, ap, ◌∙◌, arith, append_assoc, length-append, subst}
+use Rattle.std.specs.Io.KnownBytes.{Appends}
+use Rattle.std.proofs.KnownBytes.{Appends-trans}
+use Rattle.std.proofs.Math.Seq.{take-append-add}
+use Rattle.std.proofs.lemmas.List.{append-nil, take-append-le}
+use Rattle.council_report.specs.Told.{Told, told, Tells, HoldsBut, Stopped, StoppedIn}
+use Rattle.council_report.specs.declared.output.Block.{Block}
+
+pub tells-then : (a b c : Told) (x y : List ℕ) → Tells a b x → Tells b c y → Tells a c (x ++ y)
+tells-then a b c x y first next = record {
+      bytes = Appends-trans a.bytes b.bytes c.bytes x y first.bytes next.bytes;
+      count = omega (arith, first.count, next.count, length-append x y);
+    }
+
+pub tells-same : (a b c : Told) (x : List ℕ) → Tells a b x → Tells b c [] → Tells a c x
+tells-same a b c x first next = subst (Tells a c) (append-nil x) (tells-then a b c x [] first next)
+
+appends-block : (contents : Option (List ℕ)) (old new text : List ℕ) → new ≡ old ++ text → Appends (option_map (λ held. held ++ old) contents) (option_map (λ held. held ++ new) contents) text
+appends-block None old new text more = tt
+appends-block (Some held) old new text more = ap (λ (t : List ℕ). held ++ t) more ∙ sym (append_assoc held old text)
+
+-- a text at the end of the block
+pub tells-block : (contents : Option (List ℕ)) (a b : Block) (text : List ℕ) → b.written ≡ a.written → b.bytes.items ≡ a.bytes.items ++ text → Tells (told contents a) (told contents b) text
+tells-block contents a b text same more = record {
+      bytes = appends-block contents a.bytes.items b.bytes.items text more;
+      count =
+        let long = ap (λ (t : List ℕ). length t) more in
+        omega (arith, same, long, length-append a.bytes.items text);
+    }
+
+pub stopped-first : (a : Told) (x y : List ℕ) (held : Option (List ℕ)) (n : ℕ) → StoppedIn a x held n → StoppedIn a (x ++ y) held n
+stopped-first a x y held n s = record {
+      front = s.front;
+      rest = s.rest ++ y;
+      at = s.at;
+      whole = sym (append_assoc s.front s.rest y) ∙ ap (λ (t : List ℕ). t ++ y) s.whole;
+      tells = s.tells;
+      stopped = s.stopped;
+    }
+
+pub stopped-next : (a b : Told) (x y : List ℕ) (held : Option (List ℕ)) (n : ℕ) → Tells a b x → StoppedIn b y held n → StoppedIn a (x ++ y) held n
+stopped-next a b x y held n first s = record {
+      front = x ++ s.front;
+      rest = s.rest;
+      at = s.at;
+      whole = append_assoc x s.front s.rest ∙ ap (λ (t : List ℕ). x ++ t) s.whole;
+      tells = tells-then a b s.at x s.front first s.tells;
+      stopped = s.stopped;
+    }
+
+-- it stopped once all of the text was told
+pub stopped-after : (a b : Told) (x : List ℕ) (held : Option (List ℕ)) (n : ℕ) → Tells a b x → Stopped b held n → StoppedIn a x held n
+stopped-after a b x held n tells stopped = record { front = x; rest = []; at = b; whole = append-nil x; tells = tells; stopped = stopped }
+
+-- a growth of the block was refused: the writer holds what it held
+holds-block : (contents : Option (List ℕ)) (bytes : List ℕ) → HoldsBut (option_map (λ held. held ++ bytes) contents) contents (length bytes)
+holds-block None bytes = tt
+holds-block (Some held) bytes =
+    let n : length (held ++ bytes) - length bytes ≡ length held + 0 = omega (arith, length-append held bytes) in
+    sym (append-nil held) ∙ sym (ap (λ (k : ℕ). take k (held ++ bytes)) n ∙ take-append-add held bytes 0)
+
+pub stopped-here : (contents : Option (List ℕ)) (a : Block) → Stopped (told contents a) contents a.written
+stopped-here contents a = record {
+      within = omega arith;
+      holds =
+        let rest : length a.bytes.items ≡ (a.written + length a.bytes.items) - a.written = omega arith in
+        subst (HoldsBut (told contents a).bytes contents) rest (holds-block contents a.bytes.items);
+    }
+
+pub stopped-before : (a : Told) (x : List ℕ) (held : Option (List ℕ)) (n : ℕ) → Tells a a [] → Stopped a held n → StoppedIn a x held n
+stopped-before a x held n same stopped = record { front = []; rest = x; at = a; whole = refl; tells = same; stopped = stopped }
