@@ -1,0 +1,12 @@
+pub mod AddUp
+pub mod Digits
+pub mod LowestTerms
+pub mod Members
+pub mod Printed
+pub mod Quotients
+pub mod Sound
+pub mod Sums
+pub mod Tallies
+pub mod Units
+pub mod Unique
+pub mod Walks

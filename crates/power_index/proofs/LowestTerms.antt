@@ -1,0 +1,80 @@
+-- The greatest common divisor by search is the one that Euclid's algorithm finds, and what it gives is in lowest terms.
+use Rattle.std.proofs.Common.{◌≡◌, ℕ, zero, suc, ◌/◌, ◌%◌, ◌<◌, ◌≤◌, ◌==◌, true, sym, ap, subst, arith, inl, inr}
+use Rattle.std.specs.Int.{IsGcd, ◌∣◌}
+use Rattle.std.proofs.lemmas.Nat.Gcd.{IsGcd-from_zero, IsGcd-from_mod, le_from_IsGcd, le_of_dvd, dvd_of_mod-eq-zero, mod-eq-zero_of_dvd}
+use Rattle.std.proofs.lemmas.Bool.{cases_Bool, cases_eq, cond-true, cond-false, and_parts, and_from, eqb-true, eq-eqb, both_ways}
+use Rattle.std.proofs.Math.Nat.{mod-lt, one-dvd}
+use Rattle.power_index.specs.Fractions.{divides_both, common_divisor_up_to, greatest_common_divisor, lowest_terms, IsLowestOf, HasLowestTerms}
+use Rattle.power_index.proofs.Quotients.{gcd-pos, quotient-pos, same_fraction, coprime}
+use Rattle.power_index.proofs.Unique.{lowest-unique}
+
+from-test : (a b d : ℕ) → divides_both a b d ≡ true → (d ∣ a) × (d ∣ b)
+from-test a b d h =
+    let parts = and_parts (a % d == 0) (b % d == 0) h in
+    (dvd_of_mod-eq-zero d (eqb-true _ _ parts.0), dvd_of_mod-eq-zero d (eqb-true _ _ parts.1))
+
+to-test : (a b d : ℕ) → d ∣ a → d ∣ b → divides_both a b d ≡ true
+to-test a b d da db = and_from (a % d == 0) (b % d == 0) (eq-eqb _ _ (mod-eq-zero_of_dvd d da)) (eq-eqb _ _ (mod-eq-zero_of_dvd d db))
+
+-- what the search finds divides both
+found-divides : (a b n : ℕ) → (common_divisor_up_to a b n ∣ a) × (common_divisor_up_to a b n ∣ b)
+unfolding common_divisor_up_to
+found-divides a b zero = (one-dvd a, one-dvd b)
+found-divides a b (suc n) = elim (cases_Bool (divides_both a b (suc n))) [
+  | inl divides ↦ subst (λ (d : ℕ). (d ∣ a) × (d ∣ b)) (sym (cond-true (divides_both a b (suc n)) (suc n) (common_divisor_up_to a b n) divides)) (from-test a b (suc n) divides)
+  | inr fails ↦ subst (λ (d : ℕ). (d ∣ a) × (d ∣ b)) (sym (cond-false (divides_both a b (suc n)) (suc n) (common_divisor_up_to a b n) fails)) (found-divides a b n)
+]
+
+-- and no common divisor that it came by is greater
+found-greatest : (a b n d : ℕ) → 0 < d → d ≤ n → d ∣ a → d ∣ b → d ≤ common_divisor_up_to a b n
+unfolding common_divisor_up_to
+found-greatest a b zero d pos le da db = absurd (omega arith)
+found-greatest a b (suc n) d pos le da db = elim (cases_Bool (divides_both a b (suc n))) [
+  | inl divides ↦ let e = cond-true (divides_both a b (suc n)) (suc n) (common_divisor_up_to a b n) divides in omega (arith, e)
+  | inr fails ↦
+      let e = cond-false (divides_both a b (suc n)) (suc n) (common_divisor_up_to a b n) fails in
+      elim (cases_eq d (suc n)) [
+        | inl same ↦ absurd (both_ways _ fails (subst (λ (k : ℕ). divides_both a b k ≡ true) same (to-test a b d da db)))
+        | inr other ↦ let rest = found-greatest a b n d pos (omega arith) da db in omega (arith, e, rest)
+      ]
+]
+
+pub gcd-is : (a b g : ℕ) → 0 < b → IsGcd a b g → greatest_common_divisor a b ≡ g
+gcd-is a b g pos h =
+    let g-pos = gcd-pos a b g pos h in
+    let up = found-greatest a b b g g-pos (le_of_dvd pos h.1) h.0 h.1 in
+    let both = found-divides a b b in
+    let down = le_from_IsGcd a b g (greatest_common_divisor a b) h g-pos both.0 both.1 in
+    omega (arith, up, down)
+
+-- two numbers have a greatest common divisor
+some-gcd : (n a b : ℕ) → b ≤ n → (g : ℕ) × IsGcd a b g
+some-gcd n a zero le = (a, IsGcd-from_zero a 0 (omega arith))
+some-gcd zero a (suc b) le = absurd (omega arith)
+some-gcd (suc n) a (suc b) le =
+    let less : a % suc b < suc b = mod-lt a (omega arith) in
+    let rest = some-gcd n (suc b) (a % suc b) (omega (arith, less)) in
+    (rest.0, IsGcd-from_mod a (suc b) rest.0 rest.1)
+
+-- dividing by the greatest common divisor gives lowest terms
+pub divided-is_lowest : (a b g : ℕ) → 0 < b → IsGcd a b g → IsLowestOf (a, b) (a / g, b / g)
+divided-is_lowest a b g pos h = record {
+  positive = quotient-pos b g pos h.1;
+  same = same_fraction a b g h.0 h.1;
+  lowest = coprime a b g (gcd-pos a b g pos h) h;
+}
+
+pub divided-is_terms : (a b g : ℕ) → 0 < b → IsGcd a b g → ◌≡◌ {A = ℕ × ℕ} (a / g, b / g) (lowest_terms (a, b))
+unfolding lowest_terms
+divided-is_terms a b g pos h = ap {B = ℕ × ℕ} (λ (d : ℕ). (a / d, b / d)) (sym (gcd-is a b g pos h))
+
+pub lowest_terms-lowest : (p : ℕ × ℕ) → 0 < p.1 → IsLowestOf p (lowest_terms p)
+lowest_terms-lowest p pos =
+    let found = some-gcd p.1 p.0 p.1 (omega arith) in
+    subst (IsLowestOf p) (divided-is_terms p.0 p.1 found.0 pos found.1) (divided-is_lowest p.0 p.1 found.0 pos found.1)
+
+pub lowest_terms-only : (p q : ℕ × ℕ) → 0 < p.1 → IsLowestOf p q → q ≡ lowest_terms p
+lowest_terms-only p q pos h = lowest-unique p q (lowest_terms p) pos h (lowest_terms-lowest p pos)
+
+pub has_lowest_terms : (p : ℕ × ℕ) → 0 < p.1 → HasLowestTerms p
+has_lowest_terms p pos = record { lowest = lowest_terms-lowest p pos; only = λ q h. lowest_terms-only p q pos h }

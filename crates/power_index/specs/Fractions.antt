@@ -1,0 +1,77 @@
+-- Fractions as pairs of a top and a bottom, their lowest terms, and how one is printed.
+use Rattle.std.specs.Prelude.{◌≡◌, ℕ, zero, suc, ◌+◌, ◌*◌, ◌/◌, ◌%◌, ◌<◌, ◌≤◌, ◌==◌, ◌&&◌, Bool, cond, List, [], ◌∷◌}
+use Rattle.std.specs.Int.{◌∣◌}
+use Rattle.power_index.specs.declared.fraction.Fraction.{Fraction}
+
+-- a fraction as a pair
+abbrev pub pair_of : Fraction → ℕ × ℕ
+pair_of f = (f.top, f.bottom)
+
+-- two pairs are the same fraction
+abbrev pub SameFraction : ℕ × ℕ → ℕ × ℕ → Type 0
+SameFraction p q = p.0 * q.1 ≡ q.0 * p.1
+
+-- t and u have no common divisor above 1
+abbrev pub Coprime : ℕ → ℕ → Type 0
+Coprime t u = (d : ℕ) → d ∣ t → d ∣ u → d ≤ 1
+
+-- q is the fraction p in lowest terms
+pub record IsLowestOf (p q : ℕ × ℕ) : Type 0 where
+  pub positive : 0 < q.1
+  pub same : SameFraction q p
+  pub lowest : Coprime q.0 q.1
+
+-- a number that divides both a and b
+abbrev pub divides_both : ℕ → ℕ → ℕ → Bool
+divides_both a b d = (a % d == 0) && (b % d == 0)
+
+-- the greatest number from 1 to n that divides both a and b
+unfoldable pub common_divisor_up_to : ℕ → ℕ → ℕ → ℕ
+common_divisor_up_to a b zero = 1
+common_divisor_up_to a b (suc n) = cond (divides_both a b (suc n)) (suc n) (common_divisor_up_to a b n)
+
+-- the greatest common divisor of a and b, where b is above 0
+abbrev pub greatest_common_divisor : ℕ → ℕ → ℕ
+greatest_common_divisor a b = common_divisor_up_to a b b
+
+-- a pair with a bottom above 0 in lowest terms
+unfoldable pub lowest_terms : ℕ × ℕ → ℕ × ℕ
+lowest_terms p = (p.0 / greatest_common_divisor p.0 p.1, p.1 / greatest_common_divisor p.0 p.1)
+
+-- lowest terms are lowest, and a fraction has one form in lowest terms
+pub record HasLowestTerms (p : ℕ × ℕ) : Type 0 where
+  pub lowest : IsLowestOf p (lowest_terms p)
+  pub only : (q : ℕ × ℕ) → IsLowestOf p q → q ≡ lowest_terms p
+
+-- the sum of two pairs
+abbrev pub pair_plus : ℕ × ℕ → ℕ × ℕ → ℕ × ℕ
+pair_plus p q = (p.0 * q.1 + q.0 * p.1, p.1 * q.1)
+
+-- the sum of a list of pairs
+abbrev pub pair_sum : List (ℕ × ℕ) → ℕ × ℕ
+pair_sum [] = (0, 1)
+pair_sum (p ∷ ps) = pair_plus p (pair_sum ps)
+
+-- pairs that add up to 1
+pub record AddUpToOne (pairs : List (ℕ × ℕ)) : Type 0 where
+  pub positive : 0 < (pair_sum pairs).1
+  pub one : SameFraction (pair_sum pairs) (1, 1)
+
+-- the sum of the unit fractions of a list of sizes: (0, 1), and a size s takes (a, b) to (a * s + b, b * s)
+abbrev pub unit_sum : List ℕ → ℕ × ℕ
+unit_sum [] = (0, 1)
+unit_sum (s ∷ ss) = ((unit_sum ss).0 * s + (unit_sum ss).1, (unit_sum ss).1 * s)
+
+-- a digit as its code
+abbrev pub digit : ℕ → ℕ
+digit n = 48 + n % 10
+
+-- a number of millionths: one digit, a point and six digits
+abbrev pub millionths : ℕ → List ℕ
+millionths m =
+    digit (m / 1000000) ∷ 46 ∷ digit (m / 100000) ∷ digit (m / 10000) ∷ digit (m / 1000)
+    ∷ digit (m / 100) ∷ digit (m / 10) ∷ digit m ∷ []
+
+-- a fraction as six decimals, cut off
+abbrev pub decimals : ℕ × ℕ → List ℕ
+decimals p = millionths (1000000 * p.0 / p.1)

@@ -1,0 +1,4 @@
+pub mod Counting
+pub mod Tables
+pub mod Fractions
+pub mod Indices

@@ -1,0 +1,69 @@
+//! Fractions in lowest terms, and their decimals.
+ghost use Rattle.power_index.specs.Fractions.{IsLowestOf, decimals, digit, lowest_terms, pair_of};
+ghost use Rattle.std.specs.Int.{IsGcd};
+ghost use Rattle.std.specs.Prelude.{◌≡◌, ◌<◌, ◌≤◌, ◌^◌};
+
+/// A fraction: `top / bottom`.
+#[derive(Clone, Copy, Debug, PartialEq, Eq)]
+pub struct Fraction {
+    pub top: u128,
+    pub bottom: u128,
+}
+
+/// The greatest common divisor, by Euclid's algorithm.
+fn gcd(a: u128, b: u128) -> u128
+    ensures { IsGcd a b result }
+{
+    let mut x = a;
+    let mut y = b;
+    while y != 0 {
+        let rest = x % y;
+        x = y;
+        y = rest;
+    }
+    x
+}
+
+/// The fraction `top / bottom` in lowest terms: no number above 1 divides both. A top of 0 gives 0/1.
+pub fn lowest(top: u128, bottom: u128) -> Fraction
+    requires { 0 < bottom }
+    ensures lowest { IsLowestOf (top, bottom) (pair_of result) }
+    ensures terms { pair_of result ≡ lowest_terms (top, bottom) }
+    ensures small { result.bottom ≤ bottom }
+{
+    let divisor = gcd(top, bottom);
+    Fraction {
+        top: top / divisor,
+        bottom: bottom / divisor,
+    }
+}
+
+/// The last decimal digit of a number, as its code.
+fn digit_of(n: u128) -> u8
+    ensures { result ≡ digit n }
+{
+    b'0' + (n % 10) as u8
+}
+
+impl Fraction {
+    /// A fraction from 0 to 1 as one digit, a point and six digits: the millionths are cut off and
+    /// not rounded.
+    pub fn decimals(&self) -> [u8; 8]
+        requires positive { 0 < self.now.bottom }
+        requires at_most_one { self.now.top ≤ self.now.bottom }
+        requires small { self.now.bottom ≤ 10 ^ 30 }
+        ensures { result ≡ decimals (pair_of self.now) }
+    {
+        let millionths = 1_000_000 * self.top / self.bottom;
+        [
+            digit_of(millionths / 1_000_000),
+            b'.',
+            digit_of(millionths / 100_000),
+            digit_of(millionths / 10_000),
+            digit_of(millionths / 1000),
+            digit_of(millionths / 100),
+            digit_of(millionths / 10),
+            digit_of(millionths),
+        ]
+    }
+}

@@ -1,0 +1,23 @@
+//! Laws of the definitions, with nothing to run: each index adds up to 1, and what lowest terms are.
+ghost use Rattle.council_game.specs.Game.{GameView, IsGame};
+ghost use Rattle.power_index.specs.Counting.{AreCoalitions, members};
+ghost use Rattle.power_index.specs.Fractions.{AddUpToOne, HasLowestTerms};
+ghost use Rattle.power_index.specs.Indices.{deegan_packel, public_good};
+ghost use Rattle.std.specs.Prelude.{ℕ, ◌<◌, List, length, map};
+
+/// Over a list that is not empty and has no empty coalition, the Deegan-Packel indices of a game's
+/// members add up to 1.
+pub fn deegan_packel_adds_up()
+    ensures { (g : GameView) (list : List ℕ) → IsGame g → 0 < length list → AreCoalitions g list → AddUpToOne (map (deegan_packel g list) (members g)) }
+{}
+
+/// Over a list that is not empty and has no empty coalition, the public good indices of a game's
+/// members add up to 1.
+pub fn public_good_adds_up()
+    ensures { (g : GameView) (list : List ℕ) → IsGame g → 0 < length list → AreCoalitions g list → AddUpToOne (map (public_good g list) (members g)) }
+{}
+
+/// A pair with a bottom above 0 has one form in lowest terms, and it is the one that is computed.
+pub fn lowest_terms_are_unique()
+    ensures { (p : ℕ × ℕ) → 0 < p.1 → HasLowestTerms p }
+{}

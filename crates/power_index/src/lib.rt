@@ -1,0 +1,17 @@
+//! Counts of coalitions, fractions in lowest terms, and the two power indices that rest on minimal
+//! winning coalitions: Deegan and Packel's (1978) and Holler and Packel's public good index (1983).
+//!
+//! Nothing here takes memory.
+#![tactic(auto)]
+
+mod counts;
+mod fraction;
+mod indices;
+pub mod laws;
+mod tally;
+#[cfg(test)]
+mod tests;
+
+pub use counts::Counts;
+pub use fraction::{Fraction, lowest};
+pub use indices::{deegan_packel, public_good};
