@@ -1,14 +1,12 @@
 -- The numbers that share a prefix, and which of them can be minimal.
-use Rattle.std.proofs.Common.{◌≡◌, ℕ, zero, suc, ◌+◌, ◌-◌, ◌*◌, ◌/◌, ◌%◌, ◌^◌, ◌<◌, ◌≤◌, Bool, true, false, not, ◌&&◌, ◌||◌, eqb, leb, List, [], ◌∷◌, ◌++◌, length, take, drop, get_or, sum, refl, sym, ap, ◌∙◌, subst, arith, rules, inl, inr, ⊎_elim, cond}
+use Rattle.std.proofs.Common.{◌≡◌, ℕ, zero, suc, ◌+◌, ◌-◌, ◌*◌, ◌/◌, ◌%◌, ◌^◌, ◌<◌, ◌≤◌, Bool, true, false, List, [], ◌∷◌, length, take, drop, sum, refl, sym, ap, ◌∙◌, subst, arith, inl, inr, cond}
 use Rattle.std.specs.List.{filter, AllByRecursion}
-use Rattle.std.proofs.lemmas.Nat.Bits.{bit_at_cat_low, bit_at_cat_high, bit_at-lt, bit_at-zero}
-use Rattle.std.proofs.lemmas.Nat.{div-add-mod', div-mul-add, mod-mul-add, mod_below, pow_pos, pow-add, mul-le}
-use Rattle.std.proofs.lemmas.List.{length-append, take-append-drop, length-drop}
-use Rattle.std.proofs.Math.Nat.{pow-suc, pow-le-pow_right}
-use Rattle.std.proofs.lemmas.Bool.{cases_lt, cases_eq, and_left, and_right, and_from, and_parts, le-leb, lt-leb, leb-true, eq-eqb, eqb-true, cond-false, false_from_ne_true, not_from_true, not_from_false, or_cases, not-true, true≢false, both_ways}
-use Rattle.council_game.specs.Votes.{RuleView, Votes, IsRule, has, without, weight, wins, each_needed, minimal, down, minimal_below}
+use Rattle.std.proofs.lemmas.Nat.{div-mul-add}
+use Rattle.std.proofs.Math.Nat.{pow-suc}
+use Rattle.std.proofs.lemmas.Bool.{cases_lt, and_from, and_parts, le-leb, leb-true, cond-false}
+use Rattle.council_game.specs.Votes.{RuleView, IsRule, weight, wins, down}
 use Rattle.mwc_walk.specs.Places.{reaches, wins_at}
-use Rattle.council_game.proofs.Weights.{weight-at, weight-le, weight-zero, weight-prefix}
+use Rattle.council_game.proofs.Weights.{weight-at, weight-le, weight-prefix}
 
 -- ---- the descending count, filtered
 -- numbers that fail the test may be left out at the top

@@ -1,13 +1,13 @@
 -- In a game of one rule, what wins first on the way down is minimal.
-use Rattle.std.proofs.Common.{◌≡◌, ℕ, zero, suc, ◌+◌, ◌-◌, ◌*◌, ◌/◌, ◌%◌, ◌^◌, ◌<◌, ◌≤◌, Bool, true, false, not, ◌&&◌, ◌||◌, cond, eqb, leb, ltb, List, [], ◌∷◌, ◌++◌, length, take, drop, get_or, sum, refl, sym, ap, ◌∙◌, subst, arith, rules, inl, inr}
+use Rattle.std.proofs.Common.{◌≡◌, ℕ, zero, suc, ◌+◌, ◌-◌, ◌*◌, ◌/◌, ◌%◌, ◌^◌, ◌<◌, ◌≤◌, Bool, true, false, eqb, List, [], ◌∷◌, length, take, get_or, refl, sym, ap, ◌∙◌, arith, inl, inr}
 use Rattle.std.specs.List.{AllByRecursion, filter}
 use Rattle.std.proofs.lemmas.Nat.Bits.{bit_at_cat_low, bit_at-zero}
-use Rattle.std.proofs.lemmas.Nat.{shr-shr, shl-shr, pow_pos, mul-le}
-use Rattle.std.proofs.Math.Nat.{pow-suc, pow-le-pow_right}
-use Rattle.std.proofs.lemmas.Bool.{and_parts, and_from, and_left, or_right, or_left, le-leb, leb-true, leb-false, lt-leb, lt-ltb, le-ltb, eqb-true, cases_lt, cases_Bool, both_ways, false_from_ne_true, true_from_ne_false, cond-true, cond-false, cond_both, not_from_false}
+use Rattle.std.proofs.lemmas.Nat.{shr-shr, shl-shr, mul-le}
+use Rattle.std.proofs.Math.Nat.{pow-le-pow_right}
+use Rattle.std.proofs.lemmas.Bool.{and_from, and_left, or_right, or_left, le-leb, lt-leb, eqb-true, cases_lt, cases_Bool, both_ways, cond_both, not_from_false}
 use Rattle.council_game.specs.Votes.{RuleView, Votes, IsRule, IsRanked, IsVotes, has, without, weight, wins, each_needed, minimal, down, minimal_below, minimal_coalitions}
 use Rattle.mwc_walk.specs.Slices.{in_slice, slice}
-use Rattle.mwc_walk.specs.Places.{reaches, wins_at}
+use Rattle.mwc_walk.specs.Places.{wins_at}
 use Rattle.council_game.proofs.Weights.{weight-more, weight-prefix, weight-without, weight-zero}
 use Rattle.mwc_walk.proofs.Blocks.{wins-prefix}
 

@@ -1,14 +1,14 @@
 -- What is left of a slice, at a place of the walk.
-use Rattle.std.proofs.Common.{◌≡◌, ℕ, zero, suc, ◌+◌, ◌-◌, ◌*◌, ◌/◌, ◌%◌, ◌^◌, ◌<◌, ◌≤◌, Bool, true, false, not, ◌&&◌, ◌||◌, eqb, leb, List, [], ◌∷◌, ◌++◌, length, take, drop, get_or, sum, refl, sym, ap, ◌∙◌, subst, arith, rules, inl, inr, ⊎_elim, cond}
-use Rattle.std.specs.List.{filter, AllByRecursion}
+use Rattle.std.proofs.Common.{◌≡◌, ℕ, zero, suc, ◌+◌, ◌-◌, ◌*◌, ◌/◌, ◌%◌, ◌^◌, ◌<◌, ◌≤◌, Bool, true, false, not, ◌||◌, eqb, List, [], ◌∷◌, sym, ap, ◌∙◌, subst, arith, inl, inr, cond}
+use Rattle.std.specs.List.{filter}
 use Rattle.std.proofs.lemmas.Nat.Bits.{bit_at_cat_low}
-use Rattle.std.proofs.lemmas.Nat.{div-add-mod', div-mul-add, mod-mul-add, mod_below, pow_pos, pow-add, mul-le, shr-shr}
-use Rattle.std.proofs.Math.Nat.{pow-suc, lt-div-mul-add, div-mul-le_self}
-use Rattle.std.proofs.lemmas.Bool.{cases_lt, cases_Bool, cases_order, and_left, and_right, and_from, and_parts, eq-eqb, eqb-true, ne_eqb, cond-false, cond-true, false_from_ne_true, not_from_true, not_from_false, or_cases, not-true, true≢false, both_ways}
-use Rattle.council_game.specs.Votes.{RuleView, Votes, IsRule, IsVotes, has, without, weight, wins, each_needed, minimal, down, minimal_below, minimal_coalitions}
+use Rattle.std.proofs.lemmas.Nat.{div-mul-add, pow_pos, pow-add, mul-le}
+use Rattle.std.proofs.Math.Nat.{lt-div-mul-add, div-mul-le_self}
+use Rattle.std.proofs.lemmas.Bool.{cases_lt, cases_Bool, and_left, and_parts, eq-eqb, ne_eqb, cond-false, cond-true, false_from_ne_true, or_cases, not-true, both_ways}
+use Rattle.council_game.specs.Votes.{Votes, IsVotes, has, without, wins, each_needed, minimal, down, minimal_below, minimal_coalitions}
 use Rattle.mwc_walk.specs.Slices.{in_slice, slice}
 use Rattle.mwc_walk.specs.Places.{left_below, reaches, wins_at}
-use Rattle.mwc_walk.proofs.Blocks.{filter-down_skip, filter-down_take, some_digit, wins-prefix, wins-below, loses-below}
+use Rattle.mwc_walk.proofs.Blocks.{filter-down_skip, filter-down_take, some_digit, wins-below, loses-below}
 
 -- a needed place: without it the set loses
 pub needed-at : (v : Votes) (c k q : ℕ) → each_needed v c k ≡ true → q < k → has v.members q c ≡ true → wins v.rules (without v.members q c) ≡ true → ⊥
@@ -29,12 +29,12 @@ needed-at v c (suc k) q h below inside win =
     ]
 
 -- numbers of one block have one prefix
-block-prefix : (x h c : ℕ) → x * 2 ^ h ≤ c → c < x * 2 ^ h + 2 ^ h → c / 2 ^ h ≡ x
+pub block-prefix : (x h c : ℕ) → x * 2 ^ h ≤ c → c < x * 2 ^ h + 2 ^ h → c / 2 ^ h ≡ x
 block-prefix x h c low high =
     let e : c ≡ x * 2 ^ h + (c - x * 2 ^ h) = omega arith in
     ap (λ (i : ℕ). i / 2 ^ h) e ∙ div-mul-add x (2 ^ h) (c - x * 2 ^ h) (omega arith)
 
-next-block : (x h : ℕ) → (x + 1) * 2 ^ h ≡ x * 2 ^ h + 2 ^ h
+pub next-block : (x h : ℕ) → (x + 1) * 2 ^ h ≡ x * 2 ^ h + 2 ^ h
 next-block x h = omega arith
 
 -- below a winning prefix nothing is minimal but the prefix with zeros
@@ -96,7 +96,7 @@ left-take v k j c h inside =
     ∙ cond-true (eqb (c / 2 ^ (v.members - k)) (2 ^ k - 1 - j)) _ _ (eq-eqb _ _ inside)
 
 -- numbers outside the slice may be left out at the top
-filter-filter_skip : (q p : ℕ → Bool) (low more : ℕ) → ((c : ℕ) → low ≤ c → c < low + more → q c ≡ false) → filter q (filter p (down (low + more))) ≡ filter q (filter p (down low))
+pub filter-filter_skip : (q p : ℕ → Bool) (low more : ℕ) → ((c : ℕ) → low ≤ c → c < low + more → q c ≡ false) → filter q (filter p (down (low + more))) ≡ filter q (filter p (down low))
 unfolding down
 filter-filter_skip q p low zero fails = ap (λ (i : ℕ). filter q (filter p (down i))) (let e : low + 0 ≡ low = omega arith in e)
 filter-filter_skip q p low (suc more) fails =

@@ -1,13 +1,13 @@
 -- The lanes of the walk stand for the rules of the game, at a prefix.
-use Rattle.std.proofs.Common.{◌≡◌, ℕ, zero, suc, ◌+◌, ◌-◌, ◌*◌, ◌/◌, ◌%◌, ◌^◌, ◌<◌, ◌≤◌, Bool, true, false, ◌&&◌, eqb, leb, List, [], ◌∷◌, ◌++◌, map, length, take, drop, get_or, replicate, sum, refl, sym, ap, ◌∙◌, subst, arith, rules}
+use Rattle.std.proofs.Common.{◌≡◌, ℕ, zero, suc, ◌+◌, ◌-◌, ◌*◌, ◌^◌, ◌<◌, ◌≤◌, leb, List, [], ◌∷◌, map, length, take, drop, get_or, replicate, sum, refl, sym, ap, ◌∙◌, arith}
 use Rattle.std.proofs.lemmas.Bool.Decides.{nat_tests}
-use Rattle.std.specs.List.{list_all, AllZip, All}
-use Rattle.std.proofs.lemmas.List.{take_more, drop_more, drop_all, length-take-le, ext_get_or, get_or-take}
-use Rattle.std.proofs.lemmas.List.Sums.{sum_by-cons, sum_by-take-drop, sum_by-drop_more}
+use Rattle.std.specs.List.{list_all, All}
+use Rattle.std.proofs.lemmas.List.{drop_all, length-take-le, ext_get_or, get_or-take}
+use Rattle.std.proofs.lemmas.List.Sums.{sum_by-take-drop, sum_by-drop_more}
 use Rattle.std.proofs.lemmas.List.Elements.{All-nil, All-cons}
 use Rattle.mwc_walk.specs.declared.lane.Lane.{Lane}
 use Rattle.mwc_walk.specs.Lanes.{lane_reaches, lane_wins, lane_with, lane_without}
-use Rattle.council_game.specs.Votes.{RuleView, Votes, IsRule, IsVotes, weight, rule_at}
+use Rattle.council_game.specs.Votes.{RuleView, weight, rule_at}
 use Rattle.council_game.proofs.Weights.{weight-more, weight-le, weight-zero}
 use Rattle.mwc_walk.specs.Places.{reaches, wins_at, LaneIs, LanesAre}
 

@@ -1,6 +1,5 @@
 -- The tables of the walk, one lane for each rule.
-use Rattle.std.specs.Prelude.{ℕ, ◌+◌, ◌-◌, ◌≡◌, ◌≤◌, ◌<◌, Bool, nat_le, List, map, slice_index}
-use Rattle.std.specs.List.{list_all}
+use Rattle.std.specs.Prelude.{ℕ, ◌+◌, ◌-◌, Bool, nat_le, slice_index}
 use Rattle.mwc_walk.specs.declared.lane.Lane.{Lane}
 
 -- with what may still come from place p on, the quota can be met

@@ -1,12 +1,14 @@
 -- A walk by its fields.
-use Rattle.council_game.specs.Game.{votes_of}
 use Rattle.std.specs.Prelude.{◌≡◌, true}
+use Rattle.council_game.specs.Game.{votes_of}
 use Rattle.mwc_walk.specs.declared.walk.Walk.TheInside.{Inside}
-use Rattle.mwc_walk.specs.Walking.{Walking}
+use Rattle.mwc_walk.specs.WalkView.{WalkView}
 use Rattle.mwc_walk.specs.Cursor.{CursorIs, left}
 
-abbrev pub walking_of : Inside → Walking
-walking_of a = record { votes = (votes_of a.game.now); bits = a.cursor.bits; number = a.cursor.slice; to_come = left (votes_of a.game.now) a.cursor; visits = a.cursor.visits }
+abbrev pub walk_view : Inside → WalkView
+walk_view w = record { votes = votes_of w.game.now; bits = w.cursor.bits; number = w.cursor.number; to_come = left (votes_of w.game.now) w.cursor; visits = w.cursor.visits }
 
-abbrev pub IsWalking : Inside → Type 0
-IsWalking a = CursorIs (votes_of a.game.now) a.cursor × (a.cursor.fresh ≡ true → a.cursor.place ≡ a.cursor.bits)
+-- between two calls no descent is under way
+pub record IsInside (w : Inside) : Type 0 where
+  pub cursor : CursorIs (votes_of w.game.now) w.cursor
+  pub rests : w.cursor.fresh ≡ true → w.cursor.place ≡ w.cursor.bits

@@ -1,4 +1,4 @@
-use Rattle.std.proofs.Common.{◌<◌, List, [], length, get_or, arith}
+use Rattle.std.proofs.Common.{◌<◌, [], length, get_or, arith}
 use Rattle.std.proofs.lemmas.List.{get_or_default}
 use Rattle.std.proofs.lemmas.List.Edits.{map_over_more}
 use Rattle.mwc_walk.specs.Lanes.{lane_without}

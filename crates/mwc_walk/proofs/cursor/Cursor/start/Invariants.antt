@@ -3,7 +3,7 @@ use Rattle.std.proofs.Common.{◌≡◌, ℕ, ◌<◌, ◌≤◌, ◌/◌, ◌^�
 use Rattle.mwc_walk.specs.declared.lane.Lane.{Lane}
 use Rattle.council_game.specs.Votes.{rule_at}
 use Rattle.mwc_walk.specs.Places.{LaneIs, LanesAre}
-use Rattle.mwc_walk.proofs.cursor.start.Given as goal
+use Rattle.mwc_walk.proofs.cursor.Cursor.start.Given as goal
 
 abbrev pub invariant-loop-rule : goal.invariant-loop-rule
 invariant-loop-rule l = record {
