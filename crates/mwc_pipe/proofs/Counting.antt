@@ -1,0 +1,191 @@
+-- The counts of a history and the items inside.
+use Rattle.std.proofs.Common.{◌≡◌, ℕ, ◌-◌, ◌<◌, ◌==◌, Bool, true, false, List, [], ◌∷◌, ◌++◌, length, None, slice_get, if◌then◌else◌, refl, ap, sym, ◌∙◌, arith, drop, append_assoc, length-append, suc, not}
+use Rattle.std.proofs.lemmas.Bool.Decides.{nat_tests}
+use Rattle.std.proofs.Math.Bool.{or-false, or-true}
+use Rattle.std.specs.List.{filter}
+use Rattle.std.proofs.lemmas.List.{append-nil}
+use Rattle.std.proofs.lemmas.List.Elements.{filter_map-append}
+use Rattle.std.proofs.lemmas.List.Sums.{length-filter}
+use Rattle.std.proofs.lemmas.List.Folds.{list_any-append}
+use Rattle.mwc_pipe.specs.declared.step.Step.{Step}
+use Rattle.mwc_pipe.specs.declared.step.Step.TheVariants.{Put, Take, Close}
+use Rattle.mwc_pipe.specs.declared.reply.Reply.{Reply}
+use Rattle.mwc_pipe.specs.declared.reply.Reply.TheVariants.{Accepted, Full, Closed, Item, Empty, Ended, First, Again}
+use Rattle.mwc_pipe.specs.History.{Event, item_in, item_out, is_accepted_put, is_answered_take, is_close, accepted, answered, came, gone, reply_of_take, reply_to, history_after}
+use Rattle.mwc_pipe.specs.PipeView.{PipeView, Leaves, IsStep}
+use Rattle.mwc_pipe.specs.Calls.{reply_of_taken, reply_of_close, TakesOut}
+use Rattle.mwc_pipe.specs.declared.taken.Taken.{Taken}
+use Rattle.mwc_pipe.specs.declared.taken.Taken.TheVariants as taken
+
+pub get_after : {X : Type 0} (xs ys : List X) → slice_get (xs ++ ys) (length xs) ≡ slice_get ys 0
+get_after [] ys = refl
+get_after (x ∷ xs) ys = get_after xs ys
+
+module _ {T : Type 0} where
+  -- one more step comes after the history of the others
+  pub history_after_more : (capacity : ℕ) (past : List (Event T)) (steps : List (Step T)) (step : Step T) →
+      history_after capacity past (steps ++ step ∷ [])
+      ≡ history_after capacity past steps ++ (step, reply_to capacity (history_after capacity past steps) step) ∷ []
+  history_after_more capacity past [] step = refl
+  history_after_more capacity past (s ∷ ss) step = history_after_more capacity (past ++ (s, reply_to capacity past s) ∷ []) ss step
+
+  accepted_filter : (past : List (Event T)) → length (filter is_accepted_put past) ≡ length (came past)
+  accepted_filter [] = refl
+  accepted_filter ((Put x, Accepted) ∷ past) = ap suc (accepted_filter past)
+  accepted_filter (_ ∷ past) = accepted_filter past
+
+  answered_filter : (past : List (Event T)) → length (filter is_answered_take past) ≡ length (gone past)
+  answered_filter [] = refl
+  answered_filter ((Take, Item x) ∷ past) = ap suc (answered_filter past)
+  answered_filter (_ ∷ past) = answered_filter past
+
+  -- the number of accepted puts is the length of the list of accepted items
+  pub accepted_is : (past : List (Event T)) → accepted past ≡ length (came past)
+  accepted_is past = sym (length-filter is_accepted_put past) ∙ accepted_filter past
+
+  -- the number of answered takes is the length of the list of items taken
+  pub answered_is : (past : List (Event T)) → answered past ≡ length (gone past)
+  answered_is past = sym (length-filter is_answered_take past) ∙ answered_filter past
+
+  -- what a Put finds inside by counting
+  pub inside_count : (past : List (Event T)) (pipe : PipeView T) → Leaves past pipe → accepted past - answered past ≡ length pipe.inside
+  inside_count past pipe leaves =
+      omega (arith, accepted_is past, answered_is past, length-append (gone past) pipe.inside, ap length leaves.lawful)
+
+  -- what a Take finds by its number among the accepted items
+  pub oldest : (past : List (Event T)) (pipe : PipeView T) → Leaves past pipe →
+      slice_get (came past) (answered past) ≡ slice_get pipe.inside 0
+  oldest past pipe leaves = rw (answered_is past, ← leaves.lawful) (get_after (gone past) pipe.inside)
+
+  -- the reply, seen from what is inside
+  abbrev pub reply_in : PipeView T → Step T → Reply T
+  reply_in pipe (Put x) = if pipe.closed then Closed else (if length pipe.inside == pipe.capacity then Full else Accepted)
+  reply_in pipe Take = reply_of_take (slice_get pipe.inside 0) pipe.closed
+  reply_in pipe Close = if pipe.closed then Again else First
+
+  -- what is inside after the step
+  abbrev pub stepped : PipeView T → Step T → PipeView T
+  stepped pipe (Put x) =
+      if pipe.closed then pipe
+      else (if length pipe.inside == pipe.capacity then pipe else (record pipe { inside = pipe.inside ++ x ∷ [] }))
+  stepped pipe Take = record pipe { inside = drop 1 pipe.inside }
+  stepped pipe Close = record pipe { closed = true }
+
+  -- counting gives the reply that the items inside give
+  pub reply_is : (past : List (Event T)) (pipe : PipeView T) (step : Step T) → Leaves past pipe →
+      reply_to pipe.capacity past step ≡ reply_in pipe step
+  reply_is past pipe (Put x) leaves = rw (← leaves.closed, inside_count past pipe leaves) refl
+  reply_is past pipe Take leaves = rw (← leaves.closed, oldest past pipe leaves) refl
+  reply_is past pipe Close leaves = rw (← leaves.closed) refl
+
+  -- a step that neither takes in nor gives out
+  leaves_still : (past : List (Event T)) (pipe : PipeView T) (event : Event T) → Leaves past pipe →
+      item_in event ≡ None → item_out event ≡ None → is_close event.0 ≡ false → Leaves (past ++ event ∷ []) pipe
+  leaves_still past pipe event leaves no_in no_out no_close = record {
+    lawful = rw (filter_map-append item_in past (event ∷ []), filter_map-append item_out past (event ∷ []), no_in, no_out, append-nil, append-nil) leaves.lawful;
+    closed = rw (list_any-append (λ event. is_close event.0) past (event ∷ []), no_close, or-false) leaves.closed;
+  }
+
+  -- a put that is accepted
+  leaves_more : (past : List (Event T)) (pipe : PipeView T) (x : T) → Leaves past pipe →
+      Leaves (past ++ (Put x, Accepted) ∷ []) (record pipe { inside = pipe.inside ++ x ∷ [] })
+  leaves_more past pipe x leaves = record {
+    lawful =
+        rw (filter_map-append item_in past ((Put x, Accepted) ∷ []), filter_map-append item_out past ((Put x, Accepted) ∷ []), append-nil, ← append_assoc, leaves.lawful) refl;
+    closed = rw (list_any-append (λ event. is_close event.0) past ((Put x, Accepted) ∷ []), or-false) leaves.closed;
+  }
+
+  -- a take that is answered by an item
+  leaves_less : (past : List (Event T)) (pipe : PipeView T) (x : T) (xs : List T) → Leaves past pipe → pipe.inside ≡ x ∷ xs →
+      Leaves (past ++ (Take, Item x) ∷ []) (record pipe { inside = xs })
+  leaves_less past pipe x xs leaves e = record {
+    lawful =
+        rw (filter_map-append item_in past ((Take, Item x) ∷ []), filter_map-append item_out past ((Take, Item x) ∷ []), append-nil, append_assoc) (rw e at leaves.lawful);
+    closed = rw (list_any-append (λ event. is_close event.0) past ((Take, Item x) ∷ []), or-false) leaves.closed;
+  }
+
+  -- a close
+  pub leaves_closed : (past : List (Event T)) (pipe : PipeView T) (reply : Reply T) → Leaves past pipe →
+      Leaves (past ++ (Close, reply) ∷ []) (record pipe { closed = true })
+  leaves_closed past pipe reply leaves = record {
+    lawful =
+        rw (filter_map-append item_in past ((Close, reply) ∷ []), filter_map-append item_out past ((Close, reply) ∷ []), append-nil, append-nil) leaves.lawful;
+    closed = rw (list_any-append (λ event. is_close event.0) past ((Close, reply) ∷ []), or-true) refl;
+  }
+
+  abbrev pub holding : ℕ → List T → Bool → PipeView T
+  holding capacity inside closed = record { capacity = capacity; inside = inside; closed = closed }
+
+  -- the step leads from what a pipe holds to what it holds then
+  leaves_put : (past : List (Event T)) (n : ℕ) (xs : List T) (x : T) (closed full : Bool) → Leaves past (holding n xs closed) →
+      (length xs == n) ≡ full →
+      Leaves (past ++ (Put x, reply_in (holding n xs closed) (Put x)) ∷ []) (stepped (holding n xs closed) (Put x))
+  leaves_put past n xs x true full leaves e = leaves_still past (holding n xs true) (Put x, Closed) leaves refl refl refl
+  leaves_put past n xs x false true leaves e = rw e (leaves_still past (holding n xs false) (Put x, Full) leaves refl refl refl)
+  leaves_put past n xs x false false leaves e = rw e (leaves_more past (holding n xs false) x leaves)
+
+  leaves_take : (past : List (Event T)) (n : ℕ) (xs : List T) (closed : Bool) → Leaves past (holding n xs closed) →
+      Leaves (past ++ (Take, reply_in (holding n xs closed) Take) ∷ []) (stepped (holding n xs closed) Take)
+  leaves_take past n [] true leaves = leaves_still past (holding n [] true) (Take, Ended) leaves refl refl refl
+  leaves_take past n [] false leaves = leaves_still past (holding n [] false) (Take, Empty) leaves refl refl refl
+  leaves_take past n (x ∷ xs) closed leaves = leaves_less past (holding n (x ∷ xs) closed) x xs leaves refl
+
+  pub leaves_step : (past : List (Event T)) (pipe : PipeView T) (step : Step T) → Leaves past pipe →
+      Leaves (past ++ (step, reply_in pipe step) ∷ []) (stepped pipe step)
+  leaves_step past pipe (Put x) leaves = leaves_put past pipe.capacity pipe.inside x pipe.closed _ leaves refl
+  leaves_step past pipe Take leaves = leaves_take past pipe.capacity pipe.inside pipe.closed leaves
+  leaves_step past pipe Close leaves = leaves_closed past pipe _ leaves
+
+  capacity_put : (pipe : PipeView T) (x : T) (b f : Bool) → pipe.closed ≡ b → (length pipe.inside == pipe.capacity) ≡ f →
+      (stepped pipe (Put x)).capacity ≡ pipe.capacity
+  capacity_put pipe x true f eb ef = rw eb refl
+  capacity_put pipe x false true eb ef = rw (eb, ef) refl
+  capacity_put pipe x false false eb ef = rw (eb, ef) refl
+
+  -- no step changes the capacity
+  pub capacity_stays : (pipe : PipeView T) (step : Step T) → (stepped pipe step).capacity ≡ pipe.capacity
+  capacity_stays pipe (Put x) = capacity_put pipe x _ _ refl refl
+  capacity_stays pipe Take = refl
+  capacity_stays pipe Close = refl
+
+  -- an answer and a new state that the items inside give are a step
+  pub is_step : (old new : PipeView T) (step : Step T) (reply : Reply T) →
+      reply ≡ reply_in old step → new ≡ stepped old step → IsStep old step reply new
+  is_step old new step reply er en = record {
+    answers = λ past leaves. er ∙ sym (reply_is past old step leaves);
+    leads = λ past leaves. rw (er, en) (leaves_step past old step leaves);
+    same = rw en (capacity_stays old step);
+  }
+
+  -- the steps one by one
+
+  pub closed_step : (pipe : PipeView T) (x : T) → pipe.closed ≡ true → IsStep pipe (Put x) Closed pipe
+  closed_step pipe x ec = is_step pipe pipe (Put x) Closed (rw ec refl) (sym (ap (λ b. if b then pipe else (if length pipe.inside == pipe.capacity then pipe else (record pipe { inside = pipe.inside ++ x ∷ [] }))) ec))
+
+  pub full_step : (pipe : PipeView T) (x : T) → pipe.closed ≡ false → length pipe.inside ≡ pipe.capacity → IsStep pipe (Put x) Full pipe
+  full_step pipe x ec ef =
+      let full : (length pipe.inside == pipe.capacity) ≡ true = grind (arith, nat_tests) in
+      is_step pipe pipe (Put x) Full (rw (ec, full) refl)
+      (sym (ap (λ b. if b then pipe else (if length pipe.inside == pipe.capacity then pipe else (record pipe { inside = pipe.inside ++ x ∷ [] }))) ec
+      ∙ ap (λ b. if b then pipe else (record pipe { inside = pipe.inside ++ x ∷ [] })) full))
+
+  pub accepted_step : (pipe new : PipeView T) (x : T) → pipe.closed ≡ false → length pipe.inside < pipe.capacity →
+      new ≡ record pipe { inside = pipe.inside ++ x ∷ [] } → IsStep pipe (Put x) Accepted new
+  accepted_step pipe new x ec less en =
+      let full : (length pipe.inside == pipe.capacity) ≡ false = grind (arith, nat_tests) in
+      is_step pipe new (Put x) Accepted (rw (ec, full) refl)
+      (en ∙ sym (ap (λ b. if b then pipe else (if length pipe.inside == pipe.capacity then pipe else (record pipe { inside = pipe.inside ++ x ∷ [] }))) ec
+      ∙ ap (λ b. if b then pipe else (record pipe { inside = pipe.inside ++ x ∷ [] })) full))
+
+  pub take_step : (old new : PipeView T) (outcome : Taken T) → TakesOut old outcome new → IsStep old Take (reply_of_taken outcome) new
+  take_step old new (taken.Item x) e = is_step old new Take (Item x) (rw e refl) (rw e refl)
+  take_step old new taken.Empty e = is_step old new Take Empty (rw (e.0, e.1) refl) (e.2 ∙ ap (λ xs. holding old.capacity xs old.closed) e.0 ∙ sym (ap (λ xs. holding old.capacity (drop 1 xs) old.closed) e.0))
+  take_step old new taken.Ended e = is_step old new Take Ended (rw (e.0, e.1) refl) (e.2 ∙ ap (λ xs. holding old.capacity xs old.closed) e.0 ∙ sym (ap (λ xs. holding old.capacity (drop 1 xs) old.closed) e.0))
+
+  close_reply : (closed first : Bool) → first ≡ not closed → (reply_of_close {T = T} first) ≡ (if closed then Again else First)
+  close_reply true first e = rw e refl
+  close_reply false first e = rw e refl
+
+  pub close_step : (old new : PipeView T) (first : Bool) → first ≡ not old.closed → new ≡ record old { closed = true } →
+      IsStep old Close (reply_of_close first) new
+  close_step old new first ef en = is_step old new Close (reply_of_close first) (close_reply old.closed first ef) en

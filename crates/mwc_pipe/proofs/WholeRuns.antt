@@ -1,0 +1,213 @@
+-- What holds after every list of steps.
+use Rattle.std.proofs.Common.{◌≡◌, ◌≢◌, ℕ, ◌+◌, ◌<◌, ◌≤◌, ◌==◌, Bool, true, false, ◌||◌, List, [], ◌∷◌, ◌++◌, length, Option, Some, None, slice_get, take, refl, ap, sym, ◌∙◌, arith, suc, zero, length-append, length-drop, get_or, zero-add, add-zero}
+use Rattle.std.proofs.Math.Bool.{or-false, or-true, or_assoc}
+use Rattle.std.proofs.lemmas.Bool.{eqb-false}
+use Rattle.std.specs.List.{list_any, filter_map}
+use Rattle.std.specs.Option.{option_to_list}
+use Rattle.std.proofs.lemmas.List.{map-append, take_more}
+use Rattle.std.proofs.lemmas.List.Elements.{filter_map-append}
+use Rattle.std.proofs.lemmas.Option.{slice_get-map}
+use Rattle.std.proofs.lemmas.List.Folds.{list_any-append}
+use Rattle.mwc_pipe.specs.declared.step.Step.{Step}
+use Rattle.mwc_pipe.specs.declared.step.Step.TheVariants.{Put, Take, Close}
+use Rattle.mwc_pipe.specs.declared.reply.Reply.{Reply}
+use Rattle.mwc_pipe.specs.History.{Event, item_in, item_out, is_close, shut, came, gone, reply_to, history_after, history, replies, Lawful}
+use Rattle.mwc_pipe.specs.PipeView.{PipeView, Leaves, IsStep}
+use Rattle.mwc_pipe.specs.Laws.{NothingIsLost, NothingEntersAfterClose, EachReplyIsCounted, HasPast}
+use Rattle.mwc_pipe.specs.declared.reply.Reply.TheVariants.{Accepted, First}
+use Rattle.mwc_pipe.proofs.Counting.{holding, leaves_closed, history_after_more, stepped, reply_is, leaves_step, capacity_stays, get_after}
+
+get_first : {X : Type 0} (xs ys : List X) (k : ℕ) (x : X) → slice_get xs k ≡ Some x → slice_get (xs ++ ys) k ≡ Some x
+get_first [] ys k x e = absurd (cc)
+get_first (y ∷ xs) ys zero x e = e
+get_first (y ∷ xs) ys (suc k) x e = get_first xs ys k x e
+
+one_out : {X Y : Type 0} (f : X → Option Y) (x : X) (o : Option Y) → f x ≡ o → option_to_list o ≡ filter_map f (x ∷ [])
+one_out f x (Some y) e = rw e refl
+one_out f x None e = rw e refl
+
+module _ {T : Type 0} where
+  -- a pipe of this capacity may hold what the past left
+  pub record Kept (capacity : ℕ) (past : List (Event T)) : Type 0 where
+    pub pipe : PipeView T
+    pub leaves : Leaves past pipe
+    pub same : pipe.capacity ≡ capacity
+    pub short : length pipe.inside ≤ pipe.capacity
+
+  short_put : (pipe : PipeView T) (x : T) (closed full : Bool) → pipe.closed ≡ closed → (length pipe.inside == pipe.capacity) ≡ full →
+      length pipe.inside ≤ pipe.capacity → length (stepped pipe (Put x)).inside ≤ pipe.capacity
+  short_put pipe x true full ec ef short = rw ec short
+  short_put pipe x false true ec ef short = rw (ec, ef) short
+  short_put pipe x false false ec ef short =
+      let other : length pipe.inside ≢ pipe.capacity = eqb-false _ _ ef in
+      rw (ec, ef, length-append) (omega arith)
+
+  -- no step leaves more inside than the capacity
+  short_step : (pipe : PipeView T) (step : Step T) → length pipe.inside ≤ pipe.capacity → length (stepped pipe step).inside ≤ pipe.capacity
+  short_step pipe (Put x) short = short_put pipe x _ _ refl refl short
+  short_step pipe Take short = omega (arith, length-drop 1 pipe.inside)
+  short_step pipe Close short = short
+
+  kept_step : (capacity : ℕ) (past : List (Event T)) (step : Step T) → Kept capacity past →
+      Kept capacity (past ++ (step, reply_to capacity past step) ∷ [])
+  kept_step capacity past step kept = record {
+    pipe = stepped kept.pipe step;
+    leaves = rw (← kept.same, reply_is past kept.pipe step kept.leaves) (leaves_step past kept.pipe step kept.leaves);
+    same = capacity_stays kept.pipe step ∙ kept.same;
+    short = rw (capacity_stays kept.pipe step) (short_step kept.pipe step kept.short);
+  }
+
+  pub kept_after : (capacity : ℕ) (past : List (Event T)) (steps : List (Step T)) → Kept capacity past → Kept capacity (history_after capacity past steps)
+  kept_after capacity past [] kept = kept
+  kept_after capacity past (step ∷ steps) kept = kept_after capacity (past ++ (step, reply_to capacity past step) ∷ []) steps (kept_step capacity past step kept)
+
+  pub kept_history : (capacity : ℕ) (steps : List (Step T)) → Kept capacity (history capacity steps)
+  kept_history capacity steps = kept_after capacity [] steps (record {
+    pipe = record { capacity = capacity; inside = []; closed = false };
+    leaves = record { lawful = refl; closed = refl };
+    same = refl;
+    short = omega arith;
+  })
+
+  kept_rest : (capacity : ℕ) (past : List (Event T)) → Kept capacity past →
+      (rest : List T) × Lawful (came past) (gone past) rest × (length rest ≤ capacity)
+  kept_rest capacity past kept = (kept.pipe.inside, kept.leaves.lawful, omega (arith, kept.same, kept.short))
+
+  pub nothing_is_lost_lem : (capacity : ℕ) (steps : List (Step T)) → NothingIsLost capacity steps
+  nothing_is_lost_lem capacity steps = kept_rest capacity _ (kept_history capacity steps)
+
+  -- a close among the steps is a close in the history
+  pub shut_after : (capacity : ℕ) (past : List (Event T)) (steps : List (Step T)) →
+      shut (history_after capacity past steps) ≡ (shut past || list_any is_close steps)
+  shut_after capacity past [] = sym (or-false (shut past))
+  shut_after capacity past (step ∷ steps) =
+      shut_after capacity (past ++ (step, reply_to capacity past step) ∷ []) steps
+      ∙ rw (list_any-append (λ event. is_close event.0) past ((step, reply_to capacity past step) ∷ []), or-false) (or_assoc (shut past) (is_close step) (list_any is_close steps))
+
+  -- what stands in the past stands in the history
+  get_past : (capacity : ℕ) (past : List (Event T)) (steps : List (Step T)) (k : ℕ) (event : Event T) →
+      slice_get past k ≡ Some event → slice_get (history_after capacity past steps) k ≡ Some event
+  get_past capacity past [] k event e = e
+  get_past capacity past (step ∷ steps) k event e = get_past capacity (past ++ (step, reply_to capacity past step) ∷ []) steps k event (get_first past _ k event e)
+
+  -- the event at place k is the step at place k and the reply to it after the first k steps
+  pub event_at : (capacity : ℕ) (past : List (Event T)) (steps : List (Step T)) (k : ℕ) (step : Step T) →
+      slice_get steps k ≡ Some step →
+      slice_get (history_after capacity past steps) (length past + k)
+      ≡ Some (step, reply_to capacity (history_after capacity past (take k steps)) step)
+  event_at capacity past [] k step e = absurd (cc)
+  event_at capacity past (s ∷ steps) zero step e =
+      let same : s ≡ step = cc in
+      rw (add-zero, ← same) (get_past capacity _ steps (length past) (s, reply_to capacity past s) (get_after past _))
+  event_at capacity past (s ∷ steps) (suc k) step e =
+      let more = event_at capacity (past ++ (s, reply_to capacity past s) ∷ []) steps k step e in
+      let place : length (past ++ (s, reply_to capacity past s) ∷ []) + k ≡ length past + suc k = omega (arith, length-append past ((s, reply_to capacity past s) ∷ [])) in
+      rw (← place) more
+
+  close_before : (steps : List (Step T)) (i k : ℕ) → i < k → slice_get steps i ≡ Some Close → list_any is_close (take k steps) ≡ true
+  close_before [] i k less e = absurd (cc)
+  close_before (s ∷ steps) i zero less e = absurd (omega arith)
+  close_before (s ∷ steps) zero (suc k) less e = let same : s ≡ Close = cc in rw same refl
+  close_before (s ∷ steps) (suc i) (suc k) less e = rw (close_before steps i k (omega arith) e, or-true) refl
+
+  pub nothing_enters_after_close_lem : (capacity : ℕ) (steps : List (Step T)) → NothingEntersAfterClose steps (replies capacity steps)
+  nothing_enters_after_close_lem capacity steps i k x less close put =
+      let event = event_at capacity [] steps k (Put x) put in
+      let was_shut = shut_after capacity [] (take k steps) ∙ close_before steps i k less close in
+      rw (slice_get-map, ← zero-add k, event, was_shut) refl
+
+  -- what stands after these steps
+  pub record Replayed (capacity : ℕ) (steps : List (Step T)) (given : List (Reply T)) (ins outs : List T) (pipe : PipeView T) : Type 0 where
+    pub given_is : given ≡ replies capacity steps
+    pub ins_is : ins ≡ came (history capacity steps)
+    pub outs_is : outs ≡ gone (history capacity steps)
+    pub leaves : Leaves (history capacity steps) pipe
+    pub same : pipe.capacity ≡ capacity
+
+  pub replayed_none : (capacity : ℕ) → Replayed capacity [] [] [] [] (record { capacity = capacity; inside = []; closed = false })
+  replayed_none capacity = record {
+    given_is = refl;
+    ins_is = refl;
+    outs_is = refl;
+    leaves = record { lawful = refl; closed = refl };
+    same = refl;
+  }
+
+  -- one step more
+  pub replayed_more : (capacity : ℕ) (steps : List (Step T)) (given : List (Reply T)) (ins outs : List T) (old new : PipeView T) (step : Step T) (reply : Reply T) →
+      Replayed capacity steps given ins outs old → IsStep old step reply new →
+      Replayed capacity (steps ++ step ∷ []) (given ++ reply ∷ []) (ins ++ option_to_list (item_in (step, reply))) (outs ++ option_to_list (item_out (step, reply))) new
+  replayed_more capacity steps given ins outs old new step reply so_far next =
+      let past : List (Event T) = history capacity steps in
+      let answer : reply ≡ reply_to capacity past step = next.answers past so_far.leaves ∙ ap (λ n. reply_to n past step) so_far.same in
+      let longer : history capacity (steps ++ step ∷ []) ≡ past ++ (step, reply) ∷ [] =
+      history_after_more capacity [] steps step ∙ ap (λ r. past ++ (step, r) ∷ []) (sym answer) in
+      record {
+        given_is = rw (longer, map-append, so_far.given_is) refl;
+        ins_is = rw (longer, filter_map-append, so_far.ins_is) (ap (λ xs. came past ++ xs) (one_out item_in (step, reply) _ refl));
+        outs_is = rw (longer, filter_map-append, so_far.outs_is) (ap (λ xs. gone past ++ xs) (one_out item_out (step, reply) _ refl));
+        leaves = rw longer (next.leads past so_far.leaves);
+        same = next.same ∙ so_far.same;
+      }
+
+  -- the pipe is closed where a close stands among the steps
+  pub replayed_closed : (capacity : ℕ) (steps : List (Step T)) (given : List (Reply T)) (ins outs : List T) (pipe : PipeView T) →
+      Replayed capacity steps given ins outs pipe → pipe.closed ≡ list_any is_close steps
+  replayed_closed capacity steps given ins outs pipe so_far = so_far.leaves.closed ∙ shut_after capacity [] steps
+
+  -- at most the capacity is inside
+  pub replayed_short : (capacity : ℕ) (steps : List (Step T)) (given : List (Reply T)) (ins outs : List T) (pipe : PipeView T) →
+      Replayed capacity steps given ins outs pipe → length pipe.inside ≤ capacity
+  replayed_short capacity steps given ins outs pipe so_far =
+      let past : List (Event T) = history capacity steps in
+      let (rest, lawful, short) = nothing_is_lost_lem capacity steps in
+      omega (arith, short, ap length lawful, ap length so_far.leaves.lawful, length-append (gone past) rest, length-append (gone past) pipe.inside)
+
+  -- the same, for a loop over the steps
+  pub replayed_next : (capacity : ℕ) (steps : List (Step T)) (i : ℕ) (given given' : List (Reply T)) (ins ins' outs outs' : List T)
+      (old new : PipeView T) (step : Step T) (reply : Reply T) (in_item out_item : Option T) →
+      Replayed capacity (take i steps) given ins outs old → IsStep old step reply new →
+      i < length steps → step ≡ get_or steps i step →
+      given' ≡ given ++ reply ∷ [] →
+      in_item ≡ item_in (step, reply) → ins' ≡ ins ++ option_to_list in_item →
+      out_item ≡ item_out (step, reply) → outs' ≡ outs ++ option_to_list out_item →
+      Replayed capacity (take (i + 1) steps) given' ins' outs' new
+  replayed_next capacity steps i given given' ins ins' outs outs' old new step reply in_item out_item so_far next less at eg ei eins eo eouts =
+      let longer : take (i + 1) steps ≡ take i steps ++ step ∷ [] =
+      take_more steps i step less ∙ ap (λ s. take i steps ++ s ∷ []) (sym at) in
+      rw (longer, eg, eins, ei, eouts, eo) (replayed_more capacity (take i steps) given ins outs old new step reply so_far next)
+
+  pub each_reply_is_counted_lem : (capacity : ℕ) (steps : List (Step T)) → EachReplyIsCounted capacity steps
+  each_reply_is_counted_lem capacity steps k step at =
+      let event = event_at capacity [] steps k step at in
+      rw (slice_get-map, ← zero-add k, event, zero-add) refl
+
+  -- the history of a pipe that is only filled
+  abbrev filled : List T → List (Event T)
+  filled [] = []
+  filled (x ∷ xs) = (Put x, Accepted) ∷ filled xs
+
+  came_filled : (xs : List T) → came (filled xs) ≡ xs
+  came_filled [] = refl
+  came_filled (x ∷ xs) = ap (λ ys. x ∷ ys) (came_filled xs)
+
+  gone_filled : (xs : List T) → gone (filled xs) ≡ []
+  gone_filled [] = refl
+  gone_filled (x ∷ xs) = gone_filled xs
+
+  shut_filled : (xs : List T) → shut (filled xs) ≡ false
+  shut_filled [] = refl
+  shut_filled (x ∷ xs) = shut_filled xs
+
+  leaves_filled : (capacity : ℕ) (xs : List T) → Leaves (filled xs) (holding capacity xs false)
+  leaves_filled capacity xs = record {
+    lawful = ap (λ ys. ys ++ xs) (gone_filled xs) ∙ sym (came_filled xs);
+    closed = sym (shut_filled xs);
+  }
+
+  past_of : (capacity : ℕ) (xs : List T) (closed : Bool) → HasPast (holding capacity xs closed)
+  past_of capacity xs false = (filled xs, leaves_filled capacity xs)
+  past_of capacity xs true = (filled xs ++ (Close, First) ∷ [], leaves_closed (filled xs) (holding capacity xs false) First (leaves_filled capacity xs))
+
+  pub each_pipe_has_a_past_lem : (pipe : PipeView T) → HasPast pipe
+  each_pipe_has_a_past_lem pipe = past_of pipe.capacity pipe.inside pipe.closed

@@ -1,0 +1,6 @@
+use Rattle.std.proofs.Common.{rules}
+use Rattle.mwc_pipe.proofs.Counting.{take_step}
+use Rattle.mwc_pipe.proofs.pipe.Pipe.take.Goals as goal
+
+pub returns-clause-step : goal.returns-clause-step
+returns-clause-step g c = take_step _ _ _ (search rules)

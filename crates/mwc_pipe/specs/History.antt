@@ -1,0 +1,82 @@
+-- The replies of a pipe, by counting over the history. There is no queue here.
+use Rattle.std.specs.Prelude.{◌≡◌, ℕ, ◌-◌, ◌==◌, Bool, true, false, List, [], ◌∷◌, ◌++◌, Option, Some, None, slice_get, count_by, map, if◌then◌else◌}
+use Rattle.std.specs.List.{filter_map, list_any}
+use Rattle.mwc_pipe.specs.declared.step.Step.{Step}
+use Rattle.mwc_pipe.specs.declared.step.Step.TheVariants.{Put, Take, Close}
+use Rattle.mwc_pipe.specs.declared.reply.Reply.{Reply}
+use Rattle.mwc_pipe.specs.declared.reply.Reply.TheVariants.{Accepted, Full, Closed, Item, Empty, Ended, First, Again}
+
+-- a step and the reply to it
+abbrev pub Event : Type 0 → Type 0
+Event T = Step T × Reply T
+
+module _ {T : Type 0} where
+  -- the item of a put that was accepted
+  abbrev pub item_in : Event T → Option T
+  item_in (Put x, Accepted) = Some x
+  item_in _ = None
+
+  -- the item that a take was answered by
+  abbrev pub item_out : Event T → Option T
+  item_out (Take, Item x) = Some x
+  item_out _ = None
+
+  abbrev pub is_accepted_put : Event T → Bool
+  is_accepted_put (Put x, Accepted) = true
+  is_accepted_put _ = false
+
+  abbrev pub is_answered_take : Event T → Bool
+  is_answered_take (Take, Item x) = true
+  is_answered_take _ = false
+
+  abbrev pub is_close : Step T → Bool
+  is_close Close = true
+  is_close _ = false
+
+  -- the number of puts accepted so far
+  abbrev pub accepted : List (Event T) → ℕ
+  accepted past = count_by is_accepted_put past
+
+  -- the number of takes answered by an item so far
+  abbrev pub answered : List (Event T) → ℕ
+  answered past = count_by is_answered_take past
+
+  -- whether there was a close
+  abbrev pub shut : List (Event T) → Bool
+  shut past = list_any (λ event. is_close event.0) past
+
+  -- the accepted items, in step order
+  abbrev pub came : List (Event T) → List T
+  came past = filter_map item_in past
+
+  -- the items taken, in step order
+  abbrev pub gone : List (Event T) → List T
+  gone past = filter_map item_out past
+
+  -- the reply to a take: this item, or none is there
+  abbrev pub reply_of_take : Option T → Bool → Reply T
+  reply_of_take (Some x) closed = Item x
+  reply_of_take None closed = if closed then Ended else Empty
+
+  -- the reply to a step after this past
+  abbrev pub reply_to : ℕ → List (Event T) → Step T → Reply T
+  reply_to capacity past (Put x) = if shut past then Closed else (if accepted past - answered past == capacity then Full else Accepted)
+  reply_to capacity past Take = reply_of_take (slice_get (came past) (answered past)) (shut past)
+  reply_to capacity past Close = if shut past then Again else First
+
+  -- the past, and after it these steps, each with its reply
+  abbrev pub history_after : ℕ → List (Event T) → List (Step T) → List (Event T)
+  history_after capacity past [] = past
+  history_after capacity past (step ∷ steps) = history_after capacity (past ++ (step, reply_to capacity past step) ∷ []) steps
+
+  -- the steps, each with its reply
+  abbrev pub history : ℕ → List (Step T) → List (Event T)
+  history capacity steps = history_after capacity [] steps
+
+  -- the replies to the steps
+  abbrev pub replies : ℕ → List (Step T) → List (Reply T)
+  replies capacity steps = map (λ event. event.1) (history capacity steps)
+
+  -- what was taken followed by what is inside is what was accepted
+  abbrev pub Lawful : List T → List T → List T → Type 0
+  Lawful came gone inside = gone ++ inside ≡ came

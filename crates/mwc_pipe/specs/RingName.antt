@@ -1,0 +1,16 @@
+-- Which ring an end is of.
+use Rattle.std.specs.Prelude.{ℕ, refl}
+use Rattle.std.specs.Coded.{Coded, code_by, coded×, coded_ℕ}
+use denote.RawPtr.{Ptr, coded_ptr}
+use Rattle.rtrb.specs.Shared.{Names}
+
+-- where the ring lies, and the names of its parts: the two ends of one ring have the same
+pub record RingName : Type 0 where
+  pub words : Ptr
+  pub slots : Ptr
+  pub names : Names
+
+abbrev pub ring_name_code : Coded RingName
+ring_name_code =
+    code_by (Ptr × (Ptr × Names)) (coded× coded_ptr (coded× coded_ptr (coded× coded_ℕ (coded× coded_ℕ coded_ℕ))))
+    (λ r. (r.words, (r.slots, r.names))) (λ p. record { words = p.0; slots = p.1.0; names = p.1.1 }) (λ _. refl)

@@ -1,0 +1,26 @@
+//! Laws of the definitions, each the contract of a function that does nothing.
+ghost use Rattle.std.specs.Prelude.{ℕ, List};
+ghost use Rattle.mwc_pipe.specs.History.{replies};
+ghost use Rattle.mwc_pipe.specs.Laws.{NothingIsLost, NothingEntersAfterClose, EachReplyIsCounted, HasPast};
+ghost use Rattle.mwc_pipe.specs.PipeView.{PipeView};
+ghost use Rattle.mwc_pipe.specs.declared.step.Step.{Step};
+
+/// What came out is the beginning of what went in, and at most `capacity` items are left.
+pub fn nothing_is_lost<T>()
+    ensures { (capacity : ℕ) (steps : List (Step T)) → NothingIsLost capacity steps }
+{}
+
+/// Each put after a close is answered Closed.
+pub fn nothing_enters_after_close<T>()
+    ensures { (capacity : ℕ) (steps : List (Step T)) → NothingEntersAfterClose steps (replies capacity steps) }
+{}
+
+/// The reply to a step is counted from the steps before it and the replies to them.
+pub fn each_reply_is_counted<T>()
+    ensures { (capacity : ℕ) (steps : List (Step T)) → EachReplyIsCounted capacity steps }
+{}
+
+/// Whatever a pipe holds, some history leaves it so.
+pub fn each_pipe_has_a_past<T>()
+    ensures { (pipe : PipeView T) → HasPast pipe }
+{}

@@ -1,0 +1,93 @@
+//! The end of a ring that words are put into.
+ghost use Rattle.std.specs.Prelude.{◌≡◌, ◌<◌, [], ◌∷◌, ◌++◌, false, length, IfOk, OnOk, IfErr, IsOk};
+ghost use Rattle.mwc_pipe.specs.Refusal.{handed_back, broken_after};
+ghost use Rattle.mwc_pipe.specs.RingName.{RingName};
+
+use crate::closed::{Closed, Unfinished};
+use crate::pipe_in::PipeIn;
+use crate::refused::Refused;
+use crate::word::Word;
+use rtrb::{Producer, PushError};
+use std::marker::Model;
+
+/// The end of a ring that words are put into. Contracts see which ring it is of, the capacity,
+/// and the words that it accepted.
+#[derive(Drop)]
+pub struct RingIn {
+    pub(crate) producer: Producer<Word>,
+}
+
+impl Model for RingIn {
+    ghost use Rattle.std.specs.Prelude.{◌≤◌, ◌+◌, length};
+    ghost use Rattle.mwc_pipe.specs.RingViews.{RingInView, ring_of_producer};
+    ghost use Rattle.rtrb.specs.Ring.{sent, known_free, producer_capacity};
+
+    ghost Value = { RingInView };
+
+    ghost view = { λ r. record { ring = ring_of_producer r.producer; capacity = producer_capacity r.producer; accepted = sent r.producer } };
+
+    ghost invariant = { λ r. producer_capacity r.producer ≤ length (sent r.producer) + known_free r.producer };
+}
+
+impl RingIn {
+    /// Puts a word in, behind all others. The first `capacity` puts of a ring succeed. It takes
+    /// no memory.
+    ///
+    /// # Errors
+    ///
+    /// Hands the word back where the ring is full.
+    pub fn put(&mut self, word: Word) -> Result<(), Word>
+        ensures ok { OnOk result (self.new ≡ record self.old { accepted = self.old.accepted ++ word ∷ [] }) }
+        ensures full { IfErr result (λ w. (w ≡ word) × (self.new ≡ self.old)) }
+        ensures room { length self.old.accepted < self.old.capacity → IsOk result }
+    {
+        match self.producer.push(word) {
+            Ok(()) => Ok(()),
+            Err(PushError::Full(word)) => Err(word),
+        }
+    }
+
+    /// Closes the ring. The end is gone, so that no word can be put in after it. It takes no
+    /// memory.
+    ///
+    /// # Errors
+    ///
+    /// Unfinished where the ring could not be finished. It can then never be ended.
+    pub fn close(self) -> Result<Closed, Unfinished>
+        ensures { IfOk result (λ c. (c.ring ≡ self.ring) × (c.accepted ≡ self.accepted)) }
+    {
+        let RingIn { producer } = self;
+        match producer.finish() {
+            Some(finished) => Ok(Closed { finished }),
+            None => Err(Unfinished),
+        }
+    }
+}
+
+impl PipeIn<Word> for RingIn {
+    ghost Identity = { RingName };
+
+    ghost identity = { λ r. r.ring };
+
+    ghost accepted = { λ r. r.accepted };
+
+    ghost broken = { λ _. false };
+
+    /// Puts a word in, behind all others.
+    ///
+    /// # Errors
+    ///
+    /// Full where the ring is full, and no other refusal: a ring is never broken.
+    fn put(&mut self, item: Word) -> Result<(), Refused<Word>>
+        ensures identity { self.new.ring ≡ self.old.ring }
+        ensures ok { OnOk result ((self.new.accepted ≡ self.old.accepted ++ item ∷ []) × (false ≡ false)) }
+        ensures refused { IfErr result (λ e. (handed_back e ≡ item) × (self.new.accepted ≡ self.old.accepted) × (false ≡ broken_after e false)) }
+        ensures full { IfErr result (λ e. (e ≡ Refused.Full item) × (self.new ≡ self.old)) }
+        ensures room { length self.old.accepted < self.old.capacity → IsOk result }
+    {
+        match RingIn::put(self, item) {
+            Ok(()) => Ok(()),
+            Err(word) => Err(Refused::Full(word)),
+        }
+    }
+}

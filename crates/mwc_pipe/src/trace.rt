@@ -1,0 +1,140 @@
+//! A whole history of a pipe.
+ghost use Rattle.std.specs.Prelude.{◌≡◌, ◌≤◌, ◌^◌, ◌++◌, length, IfOk, OnOk};
+ghost use Rattle.std.specs.Option.{option_to_list};
+ghost use Rattle.std.specs.List.{list_any};
+ghost use Rattle.mwc_pipe.specs.PipeView.{IsStep};
+ghost use Rattle.mwc_pipe.specs.History.{history, replies, came, gone, is_close, item_in, item_out, Lawful};
+ghost use Rattle.mwc_pipe.specs.Laws.{NothingEntersAfterClose};
+
+use crate::pipe::Pipe;
+use crate::refused::Refused;
+use crate::reply::Reply;
+use crate::step::Step;
+use crate::taken::Taken;
+use council_game::Memory;
+use std::alloc::Global;
+
+/// What a pipe made of a list of steps.
+#[derive(Drop)]
+pub struct Trace<T> {
+    /// The reply to each step.
+    pub replies: Vec<Reply<T>>,
+    /// The items that were accepted, in step order.
+    pub came: Vec<T>,
+    /// The items that were taken, in step order.
+    pub gone: Vec<T>,
+    /// The items that are left, oldest first.
+    pub inside: Vec<T>,
+    /// Whether there was a close.
+    pub closed: bool,
+}
+
+/// Serves the steps, one after another, by a new pipe with room for 1 to 2^23 items: what came
+/// out followed by what is inside is what went in, and nothing enters after a close.
+///
+/// # Errors
+///
+/// Memory where a growth was refused.
+pub fn replay<T: Copy>(alloc: Global, capacity: u32, steps: &[Step<T>]) -> Result<Trace<T>, Memory>
+    requires { (1 ≤ capacity) × (capacity ≤ 2 ^ 23) }
+    ensures replies { IfOk result (λ trace. trace.replies.items ≡ replies capacity steps.now) }
+    ensures came { IfOk result (λ trace. trace.came.items ≡ came (history capacity steps.now)) }
+    ensures gone { IfOk result (λ trace. trace.gone.items ≡ gone (history capacity steps.now)) }
+    ensures lawful { IfOk result (λ trace. Lawful trace.came.items trace.gone.items trace.inside.items) }
+    ensures room { IfOk result (λ trace. length trace.inside.items ≤ capacity) }
+    ensures shut { IfOk result (λ trace. NothingEntersAfterClose steps.now trace.replies.items) }
+    ensures closed { IfOk result (λ trace. trace.closed ≡ list_any is_close steps.now) }
+{
+    let mut pipe = Pipe::new(alloc, capacity);
+    let mut replies = Vec::new(alloc);
+    let mut came = Vec::new(alloc);
+    let mut gone = Vec::new(alloc);
+    for step in steps {
+        let reply = serve(&mut pipe, *step)?;
+        keep(&mut came, accepted_item(*step, reply))?;
+        keep(&mut gone, taken_item(*step, reply))?;
+        replies.push(reply)?;
+    }
+    let closed = pipe.is_closed();
+    let inside = items_of(alloc, pipe)?;
+    Ok(Trace {
+        replies,
+        came,
+        gone,
+        inside,
+        closed,
+    })
+}
+
+/// One step. Only a put may fail for memory.
+fn serve<T: Copy>(pipe: &mut Pipe<T>, step: Step<T>) -> Result<Reply<T>, Memory>
+    ensures { IfOk result (λ reply. IsStep pipe.old step reply pipe.new) }
+{
+    match step {
+        Step::Put(item) => match pipe.put(item) {
+            Ok(()) => Ok(Reply::Accepted),
+            Err(Refused::Closed(_)) => Ok(Reply::Closed),
+            Err(Refused::Full(_)) => Ok(Reply::Full),
+            Err(Refused::Memory(_)) => Err(Memory),
+        },
+        Step::Take => match pipe.take() {
+            Taken::Item(item) => Ok(Reply::Item(item)),
+            Taken::Empty => Ok(Reply::Empty),
+            Taken::Ended => Ok(Reply::Ended),
+        },
+        Step::Close => {
+            if pipe.close() {
+                Ok(Reply::First)
+            } else {
+                Ok(Reply::Again)
+            }
+        }
+    }
+}
+
+/// The item of a put that was accepted.
+fn accepted_item<T: Copy>(step: Step<T>, reply: Reply<T>) -> Option<T>
+    ensures { result ≡ item_in (step, reply) }
+{
+    match step {
+        Step::Put(item) => match reply {
+            Reply::Accepted => Some(item),
+            _ => None,
+        },
+        _ => None,
+    }
+}
+
+/// The item that a take was answered by.
+fn taken_item<T: Copy>(step: Step<T>, reply: Reply<T>) -> Option<T>
+    ensures { result ≡ item_out (step, reply) }
+{
+    match step {
+        Step::Take => match reply {
+            Reply::Item(item) => Some(item),
+            _ => None,
+        },
+        _ => None,
+    }
+}
+
+/// Notes the item, if there is one.
+fn keep<T: Copy>(items: &mut Vec<T>, item: Option<T>) -> Result<(), Memory>
+    ensures { OnOk result (items.new.items ≡ items.old.items ++ option_to_list item) }
+{
+    if let Some(item) = item {
+        items.push(item)?;
+    }
+    Ok(())
+}
+
+/// What is left inside, oldest first.
+fn items_of<T: Copy>(alloc: Global, mut pipe: Pipe<T>) -> Result<Vec<T>, Memory>
+    ensures { IfOk result (λ items. items.items ≡ pipe.inside) }
+{
+    let mut items = Vec::new(alloc);
+    while let Taken::Item(item) = pipe.take() {
+        items.push(item)?;
+    }
+    Ok(items)
+}
