@@ -1,3 +1,5 @@
 pub mod Names
 pub mod Holding
 pub mod Telling
+pub mod Rows
+pub mod Turns

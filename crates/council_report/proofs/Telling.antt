@@ -68,5 +68,5 @@ stopped-here contents a = record {
         subst (HoldsBut (told contents a).bytes contents) rest (holds-block contents a.bytes.items);
     }
 
-pub stopped-before : (a : Told) (x : List ℕ) (held : Option (List ℕ)) (n : ℕ) → Tells a a [] → Stopped a held n → StoppedIn a x held n
-stopped-before a x held n same stopped = record { front = []; rest = x; at = a; whole = refl; tells = same; stopped = stopped }
+pub tells-nothing : (contents : Option (List ℕ)) (a : Block) → Tells (told contents a) (told contents a) []
+tells-nothing contents a = tells-block contents a a [] refl (sym (append-nil a.bytes.items))

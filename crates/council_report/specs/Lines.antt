@@ -1,10 +1,13 @@
 -- The lines of a report, as bytes.
-use Rattle.std.specs.Prelude.{ℕ, Bool, List, [], ◌∷◌, ◌++◌, ◌==◌, nat_lt, if◌then◌else◌, map, length, codes, decimal, slice_index, slice_index_or, Option}
+use Rattle.std.specs.Prelude.{◌≡◌, ℕ, Bool, List, [], ◌∷◌, ◌++◌, ◌==◌, nat_lt, if◌then◌else◌, map, length, codes, decimal, slice_index, slice_index_or, Option}
 use Rattle.std.specs.List.{flat_map, range_with_len}
 use Rattle.std.specs.Option.{option_map_or}
 use Rattle.council_game.specs.Votes.{RuleView, weight, places_of, size}
 use Rattle.council_game.specs.Ranks.{member_at, places}
 use Rattle.council_game.specs.Game.{GameView, votes_of, total}
+use Rattle.power_index.specs.Counting.{members, count_of_size, count_of_member, count_of_member_size}
+use Rattle.power_index.specs.Fractions.{lowest_terms, decimals}
+use Rattle.power_index.specs.Indices.{deegan_packel, public_good}
 use Rattle.council_file.specs.Joined.{joined_numbers}
 use Rattle.council_file.specs.Notation.{notation}
 
@@ -62,3 +65,33 @@ minimal_line list = line (codes "minimal") (decimal (length list) ∷ [])
 
 unfoldable pub coalition_line : GameView → ℕ → List ℕ
 coalition_line g c = line (codes "coalition") (decimal (size (length g.names) c) ∷ slashed (weights_of_coalition g c) ∷ names_of g c)
+
+-- size s, how many of the coalitions have it, and for each member how many of those contain it; no line where none has it
+unfoldable pub size_line : GameView → List ℕ → ℕ → List ℕ
+size_line g list s = if count_of_size g s list == 0 then [] else
+    line (codes "size") (decimal s ∷ decimal (count_of_size g s list) ∷ map (λ i. decimal (count_of_member_size g i s list)) (members g))
+
+-- a fraction in lowest terms
+abbrev pub fraction_text : ℕ × ℕ → List ℕ
+fraction_text p = decimal (lowest_terms p).0 ++ 47 ∷ decimal (lowest_terms p).1
+
+-- a fraction as one digit, a point and six digits, cut off
+abbrev pub decimals_text : ℕ × ℕ → List ℕ
+decimals_text p = decimals (lowest_terms p)
+
+-- member i: name, weights, how many of the coalitions contain it
+abbrev pub member_fields : GameView → List ℕ → ℕ → List (List ℕ)
+member_fields g list i = name_of g i ∷ slashed (weights_of_member g i) ∷ decimal (count_of_member g i list) ∷ []
+
+-- the two indices of member i over the coalitions
+abbrev pub index_fields : GameView → List ℕ → ℕ → List (List ℕ)
+index_fields g list i =
+    fraction_text (deegan_packel g list i) ∷ decimals_text (deegan_packel g list i)
+    ∷ fraction_text (public_good g list i) ∷ decimals_text (public_good g list i) ∷ []
+
+unfoldable pub member_line : GameView → List ℕ → ℕ → List ℕ
+member_line g list i = line (codes "member") (member_fields g list i ++ index_fields g list i)
+
+-- new is old with the two fields of an index at its end
+abbrev pub AppendsIndex : List ℕ → List ℕ → ℕ × ℕ → Type 0
+AppendsIndex old new p = new ≡ old ++ tabbed (fraction_text p) ++ tabbed (decimals_text p)

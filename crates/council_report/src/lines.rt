@@ -7,7 +7,8 @@ use crate::text::{push_field, push_number, push_values};
 use council_game::{Coalition, Game};
 use std::alloc::AllocError;
 
-fn end_line(out: &mut Vec<u8>) -> Result<(), AllocError>
+/// The end of a line.
+pub(crate) fn end_line(out: &mut Vec<u8>) -> Result<(), AllocError>
     ensures { OnOk result (out.new.items ≡ out.old.items ++ 10 ∷ []) }
 {
     out.push(b'\n')?;

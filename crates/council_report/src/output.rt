@@ -80,6 +80,15 @@ impl Block {
         }
     }
 
+    /// Stops before a line that has no room, which no line needs: the writer has what it took before.
+    pub(crate) fn stopped(&self) -> WriteFault
+        ensures { result.written ≡ self.now.written }
+    {
+        WriteFault {
+            written: self.written,
+        }
+    }
+
     /// Makes room for a line: where the next might not fit, all bytes go to the writer.
     pub(crate) fn settle<W: Write>(&mut self, writer: &mut W) -> Result<(), WriteFault>
         ensures ok { OnOk result (Tells (told (W.contents writer.old) self.old) (told (W.contents writer.new) self.new) []) }

@@ -1,0 +1,44 @@
+-- A row of texts told one after another: one more, and where it stops.
+use Rattle.std.proofs.Common.{◌≡◌, ◌≤◌, ◌+◌, ◌++◌, ℕ, List, [], ◌∷◌, length, take, drop, Option, sym, ap, ◌∙◌, subst}
+use Rattle.std.specs.List.{flat_map}
+use Rattle.std.proofs.lemmas.Grind.{flat_map-append}
+use Rattle.std.proofs.lemmas.List.{take_all, take-append-drop}
+use Rattle.council_report.specs.Told.{Told, told, Tells, Stopped, StoppedIn}
+use Rattle.council_report.specs.declared.output.Block.{Block}
+use Rattle.council_report.proofs.Rows.{rows-more}
+use Rattle.council_report.proofs.Telling.{tells-then, tells-same, tells-block, stopped-after, stopped-first, stopped-here}
+
+-- the texts of the first i of xs were told, and that of one more is in the block
+pub record Turn {X : Type 0} (a : Told) (f : X → List ℕ) (xs : List X) (i : ℕ) (x : X) (contents : Option (List ℕ)) (old new : Block) : Type 0 where
+  pub before : Tells a (told contents old) (flat_map f (take i xs))
+  pub same : new.written ≡ old.written
+  pub more : new.bytes.items ≡ old.bytes.items ++ f x
+  pub next : take (i + 1) xs ≡ take i xs ++ x ∷ []
+
+pub turn-told : {X : Type 0} (a : Told) (f : X → List ℕ) (xs : List X) (i : ℕ) (x : X) (contents : Option (List ℕ)) (old new : Block) → Turn a f xs i x contents old new → Tells a (told contents new) (flat_map f (take (i + 1) xs))
+turn-told a f xs i x contents old new t =
+    subst (Tells a (told contents new)) (sym (rows-more f (take i xs) x) ∙ ap (flat_map f) (sym t.next))
+    (tells-then a (told contents old) (told contents new) (flat_map f (take i xs)) (f x) t.before (tells-block contents old new (f x) t.same t.more))
+
+-- it went on
+pub turn-settled : {X : Type 0} (a b : Told) (f : X → List ℕ) (xs : List X) (i : ℕ) (x : X) (contents : Option (List ℕ)) (old new : Block) → Turn a f xs i x contents old new → Tells (told contents new) b [] → Tells a b (flat_map f (take (i + 1) xs))
+turn-settled a b f xs i x contents old new t settled =
+    tells-same a (told contents new) b (flat_map f (take (i + 1) xs)) (turn-told a f xs i x contents old new t) settled
+
+-- what was told first, and the rest of the texts
+rest-told : {X : Type 0} (f : X → List ℕ) (xs : List X) (i : ℕ) → flat_map f (take i xs) ++ flat_map f (drop i xs) ≡ flat_map f xs
+rest-told f xs i = sym (flat_map-append f (take i xs) (drop i xs)) ∙ ap (flat_map f) (take-append-drop i xs)
+
+-- it stopped after the first i
+pub stopped-at : {X : Type 0} (a b : Told) (f : X → List ℕ) (xs : List X) (i : ℕ) (held : Option (List ℕ)) (n : ℕ) → Tells a b (flat_map f (take i xs)) → Stopped b held n → StoppedIn a (flat_map f xs) held n
+stopped-at a b f xs i held n tells stopped =
+    let Stops : List ℕ → Type 0 = λ t. StoppedIn a t held n in
+    subst Stops (rest-told f xs i) (stopped-first a (flat_map f (take i xs)) (flat_map f (drop i xs)) held n (stopped-after a b (flat_map f (take i xs)) held n tells stopped))
+
+-- it stopped before a text that had no room
+pub stopped-full : {X : Type 0} (a : Told) (f : X → List ℕ) (xs : List X) (i : ℕ) (contents : Option (List ℕ)) (block : Block) (n : ℕ) → Tells a (told contents block) (flat_map f (take i xs)) → n ≡ block.written → StoppedIn a (flat_map f xs) contents n
+stopped-full a f xs i contents block n tells is =
+    stopped-at a (told contents block) f xs i contents n tells (subst (Stopped (told contents block) contents) (sym is) (stopped-here contents block))
+
+pub all-told : {X : Type 0} (a b : Told) (f : X → List ℕ) (xs : List X) (i : ℕ) → length xs ≤ i → Tells a b (flat_map f (take i xs)) → Tells a b (flat_map f xs)
+all-told a b f xs i le tells = subst (Tells a b) (ap (flat_map f) (take_all i xs le)) tells

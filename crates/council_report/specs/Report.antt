@@ -1,0 +1,34 @@
+-- The report of a game, as a function of its title, names and numbers and of its minimal winning coalitions.
+use Rattle.std.specs.Prelude.{ℕ, Bool, List, [], ◌++◌, if◌then◌else◌, length}
+use Rattle.std.specs.List.{flat_map, range_with_len}
+use Rattle.council_game.specs.Votes.{minimal_coalitions}
+use Rattle.council_game.specs.Game.{GameView, votes_of}
+use Rattle.power_index.specs.Counting.{members}
+use Rattle.council_report.specs.declared.shown.Shown.{Shown}
+use Rattle.council_report.specs.Lines.{title_line, members_line, quota_line, total_line, notation_line, minimal_line, coalition_line, size_line, member_line}
+
+abbrev pub notation_lines : Shown → GameView → List ℕ
+notation_lines shown g = if shown.notation then flat_map notation_line g.rules else []
+
+-- the lines before those of the coalitions
+abbrev pub heading : Shown → GameView → List ℕ → List ℕ
+heading shown g list =
+    title_line g ++ members_line g ++ quota_line g ++ total_line g
+    ++ notation_lines shown g ++ minimal_line list
+
+abbrev pub coalition_lines : Shown → GameView → List ℕ → List ℕ
+coalition_lines shown g list = if shown.list then flat_map (coalition_line g) list else []
+
+abbrev pub size_lines : Shown → GameView → List ℕ → List ℕ
+size_lines shown g list = if shown.sizes then flat_map (size_line g list) (range_with_len 1 (length g.names)) else []
+
+abbrev pub member_lines : GameView → List ℕ → List ℕ
+member_lines g list = flat_map (member_line g list) (members g)
+
+-- the report over a list of coalitions
+abbrev pub report_over : Shown → GameView → List ℕ → List ℕ
+report_over shown g list = heading shown g list ++ coalition_lines shown g list ++ size_lines shown g list ++ member_lines g list
+
+-- the report of a game
+abbrev pub report : Shown → GameView → List ℕ
+report shown g = report_over shown g (minimal_coalitions (votes_of g))

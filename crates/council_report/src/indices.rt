@@ -1,0 +1,152 @@
+//! The lines of sizes and of members.
+ghost use Rattle.std.specs.Prelude.{◌≡◌, ◌++◌, ◌<◌, ◌≤◌, ◌^◌, ◌∷◌, [], ℕ, length, map, OnOk, codes, decimal};
+ghost use Rattle.std.specs.List.{flat_map};
+ghost use Rattle.power_index.specs.Counting.{members, count_of_member, count_of_member_size};
+ghost use Rattle.power_index.specs.Indices.{deegan_packel, public_good};
+ghost use Rattle.power_index.specs.Fractions.{pair_of, decimals};
+ghost use Rattle.council_report.specs.Lines.{tabbed, slashed, weights_of_member, size_line, member_line, member_fields, index_fields, AppendsIndex};
+
+use crate::lines::end_line;
+use crate::listing::Listing;
+use crate::text::{push_field, push_number, push_values};
+use council_game::Game;
+use itoa::Buffer;
+use power_index::{Fraction, deegan_packel, public_good};
+use std::alloc::AllocError;
+
+/// A field `top/bottom`.
+fn push_fraction(out: &mut Vec<u8>, fraction: Fraction) -> Result<(), AllocError>
+    ensures { OnOk result (out.new.items ≡ out.old.items ++ tabbed (decimal fraction.top ++ 47 ∷ decimal fraction.bottom)) }
+{
+    let mut buffer = Buffer::new();
+    push_field(out, buffer.format(fraction.top).as_bytes())?;
+    out.push(b'/')?;
+    out.extend_from_slice(buffer.format(fraction.bottom).as_bytes())
+}
+
+/// Two fields: an index as a fraction and as decimals.
+fn push_index(out: &mut Vec<u8>, index: Fraction) -> Result<(), AllocError>
+    requires positive { 0 < index.bottom }
+    requires at_most_one { index.top ≤ index.bottom }
+    requires small { index.bottom ≤ 10 ^ 30 }
+    ensures { OnOk result (out.new.items ≡ out.old.items ++ tabbed (decimal index.top ++ 47 ∷ decimal index.bottom) ++ tabbed (decimals (pair_of index))) }
+{
+    push_fraction(out, index)?;
+    push_field(out, &index.decimals())
+}
+
+/// The Deegan-Packel index of a member.
+fn push_deegan_packel(
+    out: &mut Vec<u8>,
+    listing: &Listing<'_>,
+    member: usize,
+) -> Result<(), AllocError>
+    requires { member < length listing.now.game.now.names }
+    ensures { OnOk result (AppendsIndex out.old.items out.new.items (deegan_packel listing.now.game.now listing.now.list.now member)) }
+{
+    push_index(out, deegan_packel(&listing.counts, member))
+}
+
+/// The public good index of a member.
+fn push_public_good(
+    out: &mut Vec<u8>,
+    listing: &Listing<'_>,
+    member: usize,
+) -> Result<(), AllocError>
+    requires { member < length listing.now.game.now.names }
+    ensures { OnOk result (AppendsIndex out.old.items out.new.items (public_good listing.now.game.now listing.now.list.now member)) }
+{
+    push_index(out, public_good(&listing.counts, member))
+}
+
+/// For each member, how many coalitions of a size contain it.
+fn push_counts(out: &mut Vec<u8>, listing: &Listing<'_>, size: usize) -> Result<(), AllocError>
+    requires { size ≤ length listing.now.game.now.names }
+    ensures { OnOk result (out.new.items ≡ out.old.items ++ flat_map tabbed (map (λ i. decimal (count_of_member_size listing.now.game.now i size listing.now.list.now)) (members listing.now.game.now))) }
+{
+    for member in 0..listing.game.members() {
+        push_number(out, u64::from(listing.counts.of_member_size(member, size)))?;
+    }
+    Ok(())
+}
+
+/// `size`, a size, how many coalitions have it, and how many of those contain each member; no line where none has it.
+#[tactic(auto, unfolding(crate::specs::Lines::size_line))]
+pub(crate) fn push_size(out: &mut Vec<u8>, listing: &Listing<'_>, size: usize) -> Result<(), AllocError>
+    requires { size ≤ length listing.now.game.now.names }
+    ensures { OnOk result (out.new.items ≡ out.old.items ++ size_line listing.now.game.now listing.now.list.now size) }
+{
+    let count = listing.counts.of_size(size);
+    if count == 0 {
+        return Ok(());
+    }
+    out.extend_from_slice(b"size")?;
+    push_number(out, size as u64)?;
+    push_number(out, u64::from(count))?;
+    push_counts(out, listing, size)?;
+    end_line(out)
+}
+
+/// How many coalitions contain a member.
+fn push_count(
+    out: &mut Vec<u8>,
+    listing: &Listing<'_>,
+    member: usize,
+) -> Result<(), AllocError>
+    requires { member < length listing.now.game.now.names }
+    ensures { OnOk result (out.new.items ≡ out.old.items ++ tabbed (decimal (count_of_member listing.now.game.now member listing.now.list.now))) }
+{
+    push_number(out, u64::from(listing.counts.of_member(member)))
+}
+
+/// The weights of a member, one for each rule.
+fn push_weights(out: &mut Vec<u8>, game: &Game, member: usize) -> Result<(), AllocError>
+    requires { member < length game.now.names }
+    ensures { OnOk result (out.new.items ≡ out.old.items ++ tabbed (slashed (weights_of_member game.now member))) }
+{
+    push_values(out, game.rules(), |r| game.rule_weight(r, member))
+}
+
+/// A member's name, its weights, and how many coalitions contain it.
+fn push_member_counts(
+    out: &mut Vec<u8>,
+    listing: &Listing<'_>,
+    member: usize,
+) -> Result<(), AllocError>
+    requires { member < length listing.now.game.now.names }
+    ensures { OnOk result (out.new.items ≡ out.old.items ++ flat_map tabbed (member_fields listing.now.game.now listing.now.list.now member)) }
+{
+    let game = listing.game;
+    push_field(out, game.name(member).as_bytes())?;
+    push_weights(out, game, member)?;
+    push_count(out, listing, member)
+}
+
+/// Both indices of a member.
+fn push_indices(
+    out: &mut Vec<u8>,
+    listing: &Listing<'_>,
+    member: usize,
+) -> Result<(), AllocError>
+    requires { member < length listing.now.game.now.names }
+    ensures { OnOk result (out.new.items ≡ out.old.items ++ flat_map tabbed (index_fields listing.now.game.now listing.now.list.now member)) }
+{
+    push_deegan_packel(out, listing, member)?;
+    push_public_good(out, listing, member)
+}
+
+/// `member`, a name, its weights, how many coalitions contain it, and its two indices.
+#[tactic(auto, unfolding(crate::specs::Lines::member_line))]
+pub(crate) fn push_member(
+    out: &mut Vec<u8>,
+    listing: &Listing<'_>,
+    member: usize,
+) -> Result<(), AllocError>
+    requires { member < length listing.now.game.now.names }
+    ensures { OnOk result (out.new.items ≡ out.old.items ++ member_line listing.now.game.now listing.now.list.now member) }
+{
+    out.extend_from_slice(b"member")?;
+    push_member_counts(out, listing, member)?;
+    push_indices(out, listing, member)?;
+    end_line(out)
+}
