@@ -3,3 +3,4 @@ pub mod Holding
 pub mod Telling
 pub mod Rows
 pub mod Turns
+pub mod Wholes

@@ -1,5 +1,5 @@
 -- Texts told one after another, and where one stops.
-use Rattle.std.proofs.Common.{◌≡◌, ◌≤◌, ◌+◌, ◌-◌, ◌++◌, ℕ, List, [], ◌∷◌, length, take, Option, Some, None, option_map, refl, sym, ap, ◌∙◌, arith, append_assoc, length-append, subst}
+use Rattle.std.proofs.Common.{◌≡◌, ◌≤◌, ◌+◌, ◌-◌, ◌++◌, ℕ, List, [], ◌∷◌, length, take, Option, Some, None, Result, Ok, Err, IfErr, option_map, refl, sym, ap, ◌∙◌, arith, append_assoc, length-append, subst}
 use Rattle.std.specs.Io.KnownBytes.{Appends}
 use Rattle.std.proofs.KnownBytes.{Appends-trans}
 use Rattle.std.proofs.Math.Seq.{take-append-add}
@@ -70,3 +70,7 @@ stopped-here contents a = record {
 
 pub tells-nothing : (contents : Option (List ℕ)) (a : Block) → Tells (told contents a) (told contents a) []
 tells-nothing contents a = tells-block contents a a [] refl (sym (append-nil a.bytes.items))
+
+pub err-map : {T E : Type 0} {P Q : E → Type 0} (r : Result T E) → ((e : E) → P e → Q e) → IfErr r P → IfErr r Q
+err-map (Ok x) more h = tt
+err-map (Err e) more h = more e h

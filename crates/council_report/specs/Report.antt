@@ -25,10 +25,14 @@ size_lines shown g list = if shown.sizes then flat_map (size_line g list) (range
 abbrev pub member_lines : GameView → List ℕ → List ℕ
 member_lines g list = flat_map (member_line g list) (members g)
 
+-- the lines after the heading
+abbrev pub lines : Shown → GameView → List ℕ → List ℕ
+lines shown g list = coalition_lines shown g list ++ size_lines shown g list ++ member_lines g list
+
 -- the report over a list of coalitions
 abbrev pub report_over : Shown → GameView → List ℕ → List ℕ
-report_over shown g list = heading shown g list ++ coalition_lines shown g list ++ size_lines shown g list ++ member_lines g list
+report_over shown g list = heading shown g list ++ lines shown g list
 
--- the report of a game
+-- the report of a game: that over its minimal winning coalitions
 abbrev pub report : Shown → GameView → List ℕ
 report shown g = report_over shown g (minimal_coalitions (votes_of g))

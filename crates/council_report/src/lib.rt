@@ -1,13 +1,17 @@
 //! The report of a game, line by line.
 #![tactic(auto)]
 
+mod fault;
 mod heading;
 mod indices;
 mod lines;
 mod listing;
 mod output;
+mod report;
 mod shown;
 mod stream;
 mod text;
 
+pub use fault::ReportFault;
+pub use report::write_report;
 pub use shown::Shown;

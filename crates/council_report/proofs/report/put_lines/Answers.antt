@@ -1,0 +1,25 @@
+use Rattle.std.proofs.Common.{◌++◌, ℕ, List}
+use Rattle.std.proofs.lemmas.Result.{err_from_is_err_and}
+use Rattle.council_report.specs.Report.{coalition_lines, size_lines, member_lines}
+use Rattle.council_report.proofs.Telling.{tells-then, stopped-first, stopped-next, err-map}
+use Rattle.council_report.proofs.report.put_lines.Goals as goal
+
+pub returns-in_err-put_shown_sizes-clause-err : goal.returns-in_err-put_shown_sizes-clause-err
+returns-in_err-put_shown_sizes-clause-err g c =
+    let coalitions : List ℕ = coalition_lines c.args.shown c.args.listing.now.game.now c.args.listing.now.list.now in
+    let sizes : List ℕ = size_lines c.args.shown c.args.listing.now.game.now c.args.listing.now.list.now in
+    let p = err_from_is_err_and c.from_residual-in_err-put_shown_sizes.result c.from_residual-in_err-put_shown_sizes.ensures.1 in
+    let stopped =
+        stopped-first _ (coalitions ++ sizes) (member_lines c.args.listing.now.game.now c.args.listing.now.list.now) _ _
+        (stopped-next _ _ coalitions sizes _ _ c.in_ok-put_shown_coalitions.ensures.ok c.in_err-put_shown_sizes.ensures.err)
+    in
+    rw (p.1, p.2) stopped
+
+pub returns-clause-err : goal.returns-clause-err
+returns-clause-err g c =
+    let coalitions : List ℕ = coalition_lines c.args.shown c.args.listing.now.game.now c.args.listing.now.list.now in
+    let sizes : List ℕ = size_lines c.args.shown c.args.listing.now.game.now c.args.listing.now.list.now in
+    let before = tells-then _ _ _ coalitions sizes c.in_ok-put_shown_coalitions.ensures.ok c.in_ok-put_shown_sizes.ensures.ok in
+    err-map c.put_members.result
+    (λ fault stopped. stopped-next _ _ (coalitions ++ sizes) (member_lines c.args.listing.now.game.now c.args.listing.now.list.now) _ _ before stopped)
+    c.put_members.ensures.err
