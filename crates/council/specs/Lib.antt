@@ -1,0 +1,4 @@
+pub mod Shows
+pub mod Status
+pub mod Run
+pub mod Listed

@@ -1,0 +1,19 @@
+-- The minimal winning coalitions of a game, where there are at most so many.
+use Rattle.std.specs.Prelude.{◌≡◌, ◌<◌, ◌≤◌, ℕ, List, length}
+use Rattle.council_game.specs.Votes.{minimal_coalitions}
+use Rattle.council_game.specs.Game.{GameView, votes_of}
+use Rattle.council.specs.declared.fault.Cause.{Cause}
+use Rattle.council.specs.declared.fault.Cause.TheVariants.{Game, TooMany, Write, Memory}
+use Rattle.council.specs.Run.{count_of}
+
+-- the list is all of them, and there are at most so many
+pub record IsListed (g : GameView) (most : ℕ) (list : List ℕ) : Type 0 where
+  pub all : list ≡ minimal_coalitions (votes_of g)
+  pub few : length list ≤ most
+
+-- there are more, or memory ran out
+abbrev pub IsUnlisted : GameView → ℕ → Cause → Type 0
+IsUnlisted g most (Game fault) = ⊥
+IsUnlisted g most TooMany = most < count_of g
+IsUnlisted g most Write = ⊥
+IsUnlisted g most Memory = Unit {0}

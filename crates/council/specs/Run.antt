@@ -1,0 +1,49 @@
+-- What a run reads, writes and answers.
+use Rattle.std.specs.Prelude.{◌≡◌, ◌<◌, ◌≤◌, ℕ, List, length, take, Option, Ok, Err}
+use Rattle.std.specs.Io.KnownBytes.{Appends, Keeps}
+use Rattle.council_game.specs.declared.fault.GameFault.TheVariants as game
+use Rattle.council_game.specs.Votes.{minimal_coalitions}
+use Rattle.council_game.specs.Game.{GameView, votes_of}
+use Rattle.council_file.specs.File.{game_of}
+use Rattle.council_file.specs.Reads.{Gave}
+use Rattle.council_report.specs.Report.{report}
+use Rattle.council.specs.declared.options.Options.{Options}
+use Rattle.council.specs.declared.fault.Cause.{Cause}
+use Rattle.council.specs.declared.fault.Cause.TheVariants as cause
+use Rattle.council.specs.Shows.{shown_of}
+
+-- Where a run stands: what the reader had left before and after, and what the writer held.
+pub record Ends : Type 0 where
+  pub unread : Option (List ℕ)
+  pub left : Option (List ℕ)
+  pub before : Option (List ℕ)
+  pub after : Option (List ℕ)
+
+-- the reader gave the bytes of this game
+abbrev pub ReadsGame : Ends → GameView → Type 0
+ReadsGame at g = (bytes : List ℕ) × Gave at.unread at.left bytes × (game_of bytes ≡ Ok g)
+
+-- the number of minimal winning coalitions of a game
+abbrev pub count_of : GameView → ℕ
+count_of g = length (minimal_coalitions (votes_of g))
+
+-- A run that succeeds wrote the report of the game that it read, and nothing else; the game has no more coalitions than asked for.
+abbrev pub Reports : Options → Ends → ℕ → Type 0
+Reports options at len =
+    (g : GameView) × ReadsGame at g × (count_of g ≤ options.most)
+    × (len ≡ length (report (shown_of options) g)) × Appends at.before at.after (report (shown_of options) g)
+
+abbrev pub WritesNothing : Ends → ℕ → Type 0
+WritesNothing at written = (written ≡ 0) × Keeps at.before at.after
+
+-- A run that stops wrote nothing, or the first bytes of the report; the fault of a game is that of the bytes read.
+abbrev pub Stops : Options → Ends → Cause → ℕ → Type 0
+Stops options at (cause.Game game.Read) written = WritesNothing at written
+Stops options at (cause.Game game.Memory) written = WritesNothing at written
+Stops options at (cause.Game fault) written =
+    WritesNothing at written × ((bytes : List ℕ) × Gave at.unread at.left bytes × (game_of bytes ≡ Err fault))
+Stops options at cause.TooMany written = WritesNothing at written × ((g : GameView) × ReadsGame at g × (options.most < count_of g))
+Stops options at cause.Memory written = WritesNothing at written
+Stops options at cause.Write written =
+    (g : GameView) × ReadsGame at g × (count_of g ≤ options.most)
+    × (written ≤ length (report (shown_of options) g)) × Appends at.before at.after (take written (report (shown_of options) g))

@@ -1,0 +1,75 @@
+//! `council` reads a weighted voting game and prints its minimal winning coalitions and the power
+//! indices that rest on them.
+#![tactic(auto)]
+
+mod fault;
+mod options;
+mod run;
+mod words;
+
+pub use fault::{Cause, RunFault, status};
+pub use options::Options;
+pub use run::run;
+
+use clap::error::ErrorKind;
+use std::fs;
+use std::io;
+use std::process::ExitCode;
+use words::{Wanted, WordsFault, read_words};
+
+/// Says on standard error why the program stops, and with which status.
+fn stop(rt: &impl Eprint, fault: RunFault) -> ExitCode {
+    let cause = fault.cause;
+    let _ = eprintln!(rt; "council: {cause}");
+    ExitCode::from(status(&fault))
+}
+
+fn out_of_memory(rt: &impl Eprint) -> ExitCode {
+    let _ = eprintln!(rt; "council: out of memory");
+    ExitCode::from(5)
+}
+
+/// Runs on the file, or on standard input where none is named.
+fn run_on(rt: &HostRuntime, wanted: &Wanted<'_>) -> ExitCode {
+    let alloc = rt.alloc();
+    let mut writer = io::writer(rt);
+    let answer = match wanted.file {
+        Some(path) => match fs::open(rt, path) {
+            Ok(mut file) => run(alloc, &mut file, &wanted.options, &mut writer),
+            Err(_) => {
+                let _ = eprintln!(rt; "council: the game file cannot be opened");
+                return ExitCode::from(1);
+            }
+        },
+        None => run(alloc, &mut rt.reader(), &wanted.options, &mut writer),
+    };
+    match answer {
+        Ok(_) => ExitCode::SUCCESS,
+        Err(fault) => stop(rt, fault),
+    }
+}
+
+fn main(rt: HostRuntime) -> ExitCode {
+    let alloc = rt.alloc();
+    let words = match std::env::args(&rt) {
+        Ok(words) => words,
+        Err(_) => return out_of_memory(&rt),
+    };
+    let words: Vec<String> = match words.collect(alloc) {
+        Ok(words) => words,
+        Err(_) => return out_of_memory(&rt),
+    };
+    match read_words(alloc, words.as_slice()) {
+        Ok(wanted) => run_on(&rt, &wanted),
+        Err(WordsFault::Parse(error)) => {
+            if error.kind() == ErrorKind::OutOfMemory {
+                return out_of_memory(&rt);
+            }
+            if error.print(&rt).is_err() {
+                return ExitCode::from(5);
+            }
+            ExitCode::from(if error.use_stderr() { 2 } else { 0 })
+        }
+        Err(WordsFault::Range) => ExitCode::from(2),
+    }
+}
