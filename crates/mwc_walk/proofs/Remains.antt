@@ -14,7 +14,7 @@ use Rattle.mwc_walk.specs.Cursor.{bound, left, CursorIs}
 use Rattle.mwc_walk.proofs.Steps.{rest-most}
 
 -- a list that ends with another
-pub record EndsWith (whole end : List ℕ) : Type 0 where
+record EndsWith (whole end : List ℕ) : Type 0 where
   pub front : List ℕ
   pub joined : whole ≡ front ++ end
 

@@ -11,7 +11,7 @@ use Rattle.mwc_walk.specs.Places.{left_below, reaches, wins_at}
 use Rattle.mwc_walk.proofs.Blocks.{filter-down_skip, filter-down_take, some_digit, wins-below, loses-below}
 
 -- a needed place: without it the set loses
-pub needed-at : (v : Votes) (c k q : ℕ) → each_needed v c k ≡ true → q < k → has v.members q c ≡ true → wins v.rules (without v.members q c) ≡ true → ⊥
+needed-at : (v : Votes) (c k q : ℕ) → each_needed v c k ≡ true → q < k → has v.members q c ≡ true → wins v.rules (without v.members q c) ≡ true → ⊥
 unfolding each_needed
 needed-at v c zero q h below inside win = omega arith
 needed-at v c (suc k) q h below inside win =

@@ -16,7 +16,7 @@ pub first-number : (k j : ℕ) → k ≤ 10 → 1 * 2 ^ k % 2 ^ 64 - 1 - j ≡ 2
 first-number k j le = ap (λ (i : ℕ). i - 1 - j) (one_shl k 64 (omega arith))
 
 -- one fixed place more
-pub fixed-half : (x k p : ℕ) → p < k → x / 2 ^ (k - p) ≡ x / 2 ^ (k - (p + 1)) / 2
+fixed-half : (x k p : ℕ) → p < k → x / 2 ^ (k - p) ≡ x / 2 ^ (k - (p + 1)) / 2
 fixed-half x k p below =
     let e : k - p ≡ (k - (p + 1)) + 1 = omega arith in
     ap (λ (i : ℕ). x / 2 ^ i) e ∙ sym (shr-shr x (k - (p + 1)) 1)

@@ -14,7 +14,7 @@ use Rattle.mwc_walk.specs.Lanes.{lane_with, lane_without, lane_reaches, lane_win
 use Rattle.council_game.specs.Votes.{RuleView, Votes, IsRule, weight, minimal}
 use Rattle.mwc_walk.specs.Slices.{slice}
 use Rattle.mwc_walk.specs.Places.{left_below, reaches, wins_at, LanesAre}
-use Rattle.mwc_walk.specs.Cursor.{bound, left, steps_left, CursorIs, Gives, Ends, Steps}
+use Rattle.mwc_walk.specs.Cursor.{bound, left, steps_left, CursorIs, Steps}
 use Rattle.council_game.proofs.Weights.{weight-more}
 use Rattle.mwc_walk.proofs.Rest.{left-dead, left-won, left-drop, left-take, left-none}
 use Rattle.mwc_walk.proofs.One.{one-minimal, won-odd, empty-loses, slice-short, in-slice}
@@ -33,7 +33,7 @@ half-shift x k p le =
     let e : 1 + (p - k) ≡ p + 1 - k = omega arith in
     shr-shr x 1 (p - k) ∙ ap (λ (i : ℕ). x / 2 ^ i) e
 
-pub wins-more : (n p y b : ℕ) (rs : List RuleView) → p < n → b < 2 → AllByRecursion (IsRule n) rs → wins_at rs p y ≡ true → wins_at rs (p + 1) (2 * y + b) ≡ true
+wins-more : (n p y b : ℕ) (rs : List RuleView) → p < n → b < 2 → AllByRecursion (IsRule n) rs → wins_at rs p y ≡ true → wins_at rs (p + 1) (2 * y + b) ≡ true
 unfolding wins_at
 wins-more n p y b [] below digit all h = refl
 wins-more n p y b (r ∷ rs) below digit all h =
@@ -489,29 +489,3 @@ rest-most v a is rests one =
     (λ f. let e : a.place ≡ a.bits = rests f in cond_both (reaches v.rules a.place a.prefix) (a.place - a.bits) 0 (λ i. i ≡ 0) (λ _. omega arith) (λ _. refl))
     (λ _. refl) in
     omega (arith, rw extra at before)
-
--- what comes after steps that give nothing
-pub gives-after : (v : Votes) (a b c : Cursor) (m : ℕ) → b.bits ≡ a.bits → b.number ≡ a.number → a.visits ≤ b.visits → left v b ≡ left v a → Gives v b m c → Gives v a m c
-gives-after v a b c m bits number counted same gives = record {
-  follows = record {
-    is = gives.follows.is;
-    bits = gives.follows.bits ∙ bits;
-    number = gives.follows.number ∙ number;
-    counted = omega (arith, gives.follows.counted);
-  };
-  first = sym same ∙ gives.first;
-  stale = gives.stale;
-}
-
-pub ends-after : (v : Votes) (a b c : Cursor) → b.bits ≡ a.bits → b.number ≡ a.number → a.visits ≤ b.visits → left v b ≡ left v a → Ends v b c → Ends v a c
-ends-after v a b c bits number counted same ends = record {
-  follows = record {
-    is = ends.follows.is;
-    bits = ends.follows.bits ∙ bits;
-    number = ends.follows.number ∙ number;
-    counted = omega (arith, ends.follows.counted);
-  };
-  none = sym same ∙ ends.none;
-  none_after = ends.none_after;
-  stale = ends.stale;
-}

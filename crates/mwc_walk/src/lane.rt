@@ -41,7 +41,8 @@ impl Lane {
 fn weights_of(game: &Game, rule: usize) -> [u64; 40]
     requires { rule < length game.now.rules }
     ensures long { length result ≡ 40 }
-    ensures same { (q : ℕ) → q < (votes_of game.now).members → slice_index result q ≡ slice_index (rule_at (votes_of game.now).rules rule).weights q }
+    ensures same { (q : ℕ) → q < (votes_of game.now).members →
+        slice_index result q ≡ slice_index (rule_at (votes_of game.now).rules rule).weights q }
 {
     let members = game.members();
     let mut weights = [0; 40];

@@ -41,7 +41,13 @@ impl<'a> Walk<'a> {
         requires few { bits ≤ 10 }
         requires bits { bits ≤ length game.now.names }
         requires slice { j < 2 ^ bits }
-        ensures { result ≡ record { votes = votes_of game.now; bits = bits; number = j; to_come = slice (votes_of game.now) bits j; visits = bits } }
+        ensures { result ≡ record {
+          votes = votes_of game.now;
+          bits = bits;
+          number = j;
+          to_come = slice (votes_of game.now) bits j;
+          visits = bits;
+        } }
     {
         Walk {
             game,
@@ -51,7 +57,8 @@ impl<'a> Walk<'a> {
 
     /// The next coalition of the slice; none at its end, and ever after.
     pub fn next(&mut self) -> Option<Coalition>
-        ensures next { MatchOption result ((self.old.to_come ≡ []) × (self.new.to_come ≡ [])) (λ c. self.old.to_come ≡ c ∷ self.new.to_come) }
+        ensures next { MatchOption result ((self.old.to_come ≡ []) × (self.new.to_come ≡ []))
+            (λ c. self.old.to_come ≡ c ∷ self.new.to_come) }
         ensures votes { self.new.votes ≡ self.old.votes }
         ensures bits { self.new.bits ≡ self.old.bits }
         ensures number { self.new.number ≡ self.old.number }
@@ -64,13 +71,15 @@ impl<'a> Walk<'a> {
     /// decision between in and out at a later place; coming back to leave its member out is the same
     /// visit. The count stays at the greatest number that it can hold.
     ///
-    /// It is never below the number of coalitions given. With one rule it is at most `bits`, and
-    /// for each coalition given the number of places that are not fixed.
+    /// It is never below the number of coalitions given. With one rule it is at most `bits` plus,
+    /// for each coalition given, the number of places that are not fixed.
     pub fn visits(&self) -> u64
         ensures count { result ≡ self.now.visits }
-        ensures rest { self.now.to_come ≡ drop (given self.now) (slice self.now.votes self.now.bits self.now.number) }
+        ensures rest { self.now.to_come ≡
+            drop (given self.now) (slice self.now.votes self.now.bits self.now.number) }
         ensures least { given self.now ≤ result }
-        ensures most { length self.now.votes.rules ≡ 1 → result ≤ self.now.bits + (self.now.votes.members - self.now.bits) * given self.now }
+        ensures most { length self.now.votes.rules ≡ 1 →
+            result ≤ self.now.bits + (self.now.votes.members - self.now.bits) * given self.now }
     {
         self.cursor.visits
     }
