@@ -2,14 +2,17 @@
 use Rattle.std.specs.Prelude.{◌≡◌, ◌<◌, ◌≤◌, ℕ, List, length}
 use Rattle.council_game.specs.Votes.{minimal_coalitions}
 use Rattle.council_game.specs.Game.{GameView, votes_of}
+use Rattle.power_index.specs.Counting.{AreCoalitions}
 use Rattle.council.specs.declared.fault.Cause.{Cause}
 use Rattle.council.specs.declared.fault.Cause.TheVariants.{Game, TooMany, Write, Memory}
 use Rattle.council.specs.Run.{count_of}
 
--- the list is all of them, and there are at most so many
+-- the list is all of them: there is one, there are at most so many, and they are coalitions of the game, none of them empty
 pub record IsListed (g : GameView) (most : ℕ) (list : List ℕ) : Type 0 where
   pub all : list ≡ minimal_coalitions (votes_of g)
+  pub some : 1 ≤ length list
   pub few : length list ≤ most
+  pub coalitions : AreCoalitions g list
 
 -- there are more, or memory ran out
 abbrev pub IsUnlisted : GameView → ℕ → Cause → Type 0

@@ -7,14 +7,12 @@ mod options;
 mod run;
 mod words;
 
+use clap::error::ErrorKind;
 pub use fault::{Cause, RunFault, status};
 pub use options::Options;
 pub use run::run;
-
-use clap::error::ErrorKind;
-use std::fs;
-use std::io;
 use std::process::ExitCode;
+use std::{fs, io};
 use words::{Wanted, WordsFault, read_words};
 
 /// Says on standard error why the program stops, and with which status.

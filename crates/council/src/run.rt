@@ -18,6 +18,8 @@ fn list(alloc: Global, game: &Game, most: u32) -> Result<Vec<Coalition>, Cause>
     ensures ok { IfOk result (λ v. IsListed game.now most v.items) }
     ensures err { IfErr result (IsUnlisted game.now most) }
 {
+    let members = game.members();
+    prove!(0 < members);
     match list_slice(alloc, game, 0, 0, most + 1) {
         Ok(list) if list.len() <= most as usize => Ok(list),
         Ok(_) => Err(Cause::TooMany),

@@ -4,7 +4,7 @@ use Rattle.std.specs.List.{AllByRecursion, All, AllPairs, filter}
 use Rattle.std.proofs.lemmas.Nat.{pow_pos, div-mul-add, one_shl}
 use Rattle.std.proofs.lemmas.List.{append_assoc, append-nil}
 use Rattle.std.proofs.Math.Nat.{pow-suc, pow-le-pow_right}
-use Rattle.std.proofs.lemmas.List.Elements.{All-cons, All-nil, All-weaker, filter_passes}
+use Rattle.std.proofs.lemmas.List.Elements.{All-cons, All-nil, All-weaker, All-filter, filter_passes}
 use Rattle.std.proofs.lemmas.List.Kept.{AllPairs-cons, AllPairs-filter}
 use Rattle.std.proofs.lemmas.List.Sums.{sum_by-cons}
 use Rattle.std.proofs.lemmas.Bool.{and_parts, and_from, le-leb, leb-true, cases_Bool, cases_eq, both_ways, cond-true, cond-false}
@@ -76,6 +76,7 @@ listing-is v game =
     let found = minimal-below_winning v (2 ^ v.members) (2 ^ v.members - 1) (omega arith) (wins-full v.members v.rules game.4) in
     record {
       some = some-left (minimal v) (2 ^ v.members) found.0 (omega (arith, found.1)) found.2;
+      below = All-filter (minimal v) (λ c. c < 2 ^ v.members) (down (2 ^ v.members)) (down-below (2 ^ v.members) (2 ^ v.members) (omega arith));
       descending = AllPairs-filter (λ a b. b < a) (minimal v) (down (2 ^ v.members)) (down-descends (2 ^ v.members));
       none_empty = All-weaker (λ c. minimal v c ≡ true) (λ c. c ≢ 0) (λ c min e. none-wins v.members v.rules game.4 game.2 (ap (wins v.rules) (sym e) ∙ (and_parts _ _ min).0)) (filter (minimal v) (down (2 ^ v.members))) (filter_passes (minimal v) (down (2 ^ v.members)));
     }

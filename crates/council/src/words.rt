@@ -1,0 +1,133 @@
+//! The words of the command line.
+use crate::options::Options;
+use clap::{Arg, ArgAction, ArgMatches, Command, Error, value_parser};
+use std::alloc::Global;
+
+/// Why a command line was refused.
+#[derive(Debug, Drop)]
+pub(crate) enum WordsFault {
+    /// By the parser, which also answers `--help` and `--version` so.
+    Parse(Error),
+    /// By a range, which the parser's own ranges do not let happen.
+    Range,
+}
+
+/// The file, and what to do with it.
+#[derive(Debug, Drop)]
+pub(crate) struct Wanted<'a> {
+    pub(crate) file: Option<&'a str>,
+    pub(crate) options: Options,
+}
+
+const ABOUT: &str =
+    "Lists the minimal winning coalitions of a weighted voting game, and computes two power indices that rest on them: the Deegan-Packel index and the public good index (Holler and Packel), as exact fractions and as six decimals that are cut off.";
+
+const FORMS: &str = "A game file has one of two forms:
+
+  quota = 51                       [51; 50, 49, 1]
+  [[member]]
+  name = \"A\"
+  weight = 50
+  [[member]]
+  name = \"B\"
+  weight = 49
+  [[member]]
+  name = \"C\"
+  weight = 1
+
+The first is TOML; a title, and up to 4 rules by quotas and weights, may stand in it. The second names
+the members 1, 2, 3. There are 1 to 40 members, each weight is from 0 to 1000000000000.
+
+The status is 0 where the report was written, 1 where the game file cannot be opened or read,
+2 where the command line is wrong, 3 where the file has no game, 4 where the game has more than
+--most coalitions, 5 where memory, a thread or the output failed.";
+
+fn number_option<'a>(
+    alloc: Global,
+    name: &'a str,
+    value: &'a str,
+    default: &'a str,
+    help: &'a str,
+) -> Arg<'a> {
+    Arg::new(alloc, name)
+        .long(name)
+        .value_name(value)
+        .help(help)
+        .action(ArgAction::Set)
+        .default_value(default)
+}
+
+fn flag<'a>(alloc: Global, name: &'a str, help: &'a str) -> Arg<'a> {
+    Arg::new(alloc, name)
+        .long(name)
+        .help(help)
+        .action(ArgAction::SetTrue)
+}
+
+fn numbers<'a>(alloc: Global, command: Command<'a>) -> Result<Command<'a>, Error> {
+    let workers = number_option(alloc, "workers", "N", "4", "Worker threads, 1 to 16").value_parser(
+        value_parser!(u8).range(1..=16),
+    );
+    let bits = number_option(
+        alloc,
+        "bits",
+        "K",
+        "6",
+        "The heaviest members that are fixed in each worker's slice, 0 to 10",
+    )
+    .value_parser(value_parser!(u8).range(0..=10));
+    let most = number_option(
+        alloc,
+        "most",
+        "N",
+        "1000000",
+        "The greatest number of coalitions, 1 to 4000000",
+    )
+    .value_parser(value_parser!(u32).range(1..=4_000_000));
+    Ok(command.arg(workers)?.arg(bits)?.arg(most)?)
+}
+
+fn command<'a>(alloc: Global) -> Result<Command<'a>, Error> {
+    let file = Arg::new(alloc, "FILE").help("The game file; standard input without it");
+    let command = Command::new(alloc, "council")
+        .version("1.0.0")
+        .about(ABOUT)
+        .after_help(FORMS)
+        .arg(file)?;
+    let command = numbers(alloc, command)?
+        .arg(flag(alloc, "list", "A line for each minimal winning coalition"))?
+        .arg(flag(alloc, "sizes", "A line for each size of a coalition"))?
+        .arg(flag(alloc, "notation", "A line [q; w1, .., wn] for each rule"))?;
+    Ok(command)
+}
+
+/// The options of a parse; none where a number is missing or out of its range.
+fn options_of(matches: &ArgMatches<'_>) -> Option<Options> {
+    let workers = matches.get_one::<u8>("workers")?;
+    let bits = matches.get_one::<u8>("bits")?;
+    let most = matches.get_one::<u32>("most")?;
+    if workers < 1 || 16 < workers || 10 < bits || most < 1 || 4_000_000 < most {
+        return None;
+    }
+    Some(Options {
+        workers,
+        bits,
+        most,
+        list: matches.get_flag("list"),
+        sizes: matches.get_flag("sizes"),
+        notation: matches.get_flag("notation"),
+    })
+}
+
+/// Reads a command line, its first word the name of the program. Numbers are in their ranges.
+pub(crate) fn read_words<'a>(alloc: Global, words: &'a [String]) -> Result<Wanted<'a>, WordsFault> {
+    let command = command(alloc).map_err(WordsFault::Parse)?;
+    let matches = command
+        .try_get_matches_from(words)
+        .map_err(WordsFault::Parse)?;
+    let options = options_of(&matches).ok_or(WordsFault::Range)?;
+    Ok(Wanted {
+        file: matches.get_str("FILE"),
+        options,
+    })
+}
