@@ -8,12 +8,10 @@ file of the plain form that examples/ has: a key and its value on a line, each v
 it, and one [[member]] header for each member. It checks nothing else: it is for files that are
 right. Plain Python 3, whole numbers and exact fractions alone.
 
-The reports of examples/ were made by it, and are made again by
+The reports of examples/ were made by it, and are made again, in about a minute, by
 
-    for game in examples/*.toml examples/*.txt; do python3 tests/oracle.py "$game" >"${game%.*}.tsv"; done
-
-where board.toml and board.txt have reports of their own (board.tsv and board.txt.tsv). The two
-games of 27 members take some minutes.
+    for game in examples/*.toml; do python3 tests/oracle.py "$game" >"${game%.toml}.tsv"; done
+    python3 tests/oracle.py examples/board.txt >examples/board.txt.tsv
 """
 import json
 import re
