@@ -35,7 +35,7 @@ game_file() {
 # the least number of microseconds that a command takes; its output goes to $answer
 answer=$temp/answer
 best() {
-    local least= run start end micros
+    local least='' run start end micros
     for ((run = 0; run < runs; run++)); do
         start=$EPOCHREALTIME
         "$@" >"$answer"

@@ -8,6 +8,7 @@ if [ $# -lt 1 ] || [ ! -x "$1" ]; then
     exit 1
 fi
 program=$(cd "$(dirname "$1")" && pwd)/$(basename "$1")
+# shellcheck disable=SC2034
 top=$(cd "$(dirname "${BASH_SOURCE[0]}")/.." && pwd)
 temp=$(mktemp -d)
 trap 'rm -rf "$temp"' EXIT

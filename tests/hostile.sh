@@ -2,7 +2,9 @@
 # Refuses the program's allocations, one after the other, and then each from one on, until no
 # refusal is met. Each time the program says that it is out of memory, or that a worker could not be
 # started, with status 5, that one line on standard error and nothing on standard output; or it does
-# exactly what it does with ample memory. The library that refuses is hostile/refuse.c, compiled here.
+# exactly what it does with ample memory. At a fault of the command line it may also tell less of the
+# fault, on standard error and with status 2. The library that refuses is hostile/refuse.c, compiled
+# here.
 . "$(dirname "$0")/common.sh"
 
 if ! cc -O2 -Wall -Wextra -shared -fPIC -o "$temp/refuse.so" "$top/tests/hostile/refuse.c" 2>"$temp/cc"; then
@@ -47,9 +49,14 @@ hostile() {
     status=$?
 }
 
+# Whether standard error holds a text that is shorter than with ample memory.
+is_shorter() {
+    [ -s "$temp/err" ] && [ "$(wc -c <"$temp/err")" -lt "$(wc -c <"$temp/ample.err")" ]
+}
+
 # sweep NAME WORDS..
 sweep() {
-    local name=$1 ample how number why memory start same
+    local name=$1 ample how number why memory start same shorter said
     shift
     run "$@" </dev/null
     ample=$status
@@ -60,6 +67,7 @@ sweep() {
         memory=0
         start=0
         same=0
+        shorter=0
         for ((number = 1; number <= 100000; number++)); do
             hostile "$how=$number" "$@"
             if [ "$status" -eq 5 ] && [ ! -s "$temp/out" ] && [ -s "$temp/said" ] && cmp -s "$temp/err" "$temp/memory"; then
@@ -69,6 +77,8 @@ sweep() {
             elif [ "$status" -eq "$ample" ] && cmp -s "$temp/out" "$temp/ample.out" && cmp -s "$temp/err" "$temp/ample.err"; then
                 [ -s "$temp/said" ] || break
                 same=$((same + 1))
+            elif [ "$status" -eq 2 ] && [ "$ample" -eq 2 ] && [ ! -s "$temp/out" ] && [ -s "$temp/said" ] && is_shorter; then
+                shorter=$((shorter + 1))
             else
                 why="$how=$number: status $status, $(wc -c <"$temp/out") bytes of output, $(head -n 1 "$temp/err")"
                 break
@@ -78,7 +88,9 @@ sweep() {
             why="no allocation was seen, so none was refused"
         fi
         if [ -z "$why" ]; then
-            ok "$name, $how 1 to $((number - 1)): $memory out of memory, $start not started, $same as with ample memory"
+            said="$memory out of memory, $start not started, $same as with ample memory"
+            [ "$shorter" -eq 0 ] || said="$said, $shorter with a shorter text"
+            ok "$name, $how 1 to $((number - 1)): $said"
         else
             failed "$name, $how" "$why"
         fi

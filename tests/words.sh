@@ -74,3 +74,10 @@ refused_words --order
 refused_words -x
 refused_words --list=yes
 refused_words missing.toml --workers 0
+refused_words $'\377'
+refused_words $'g.toml\377' --list
+
+run ''
+refused "an empty word as FILE" 1 "the game file cannot be opened"
+run missing.toml --list --workers 16
+refused "good words and a FILE that is not there" 1 "the game file cannot be opened"
