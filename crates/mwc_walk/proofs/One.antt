@@ -1,0 +1,129 @@
+-- In a game of one rule, what wins first on the way down is minimal.
+use Rattle.std.proofs.Common.{◌≡◌, ℕ, zero, suc, ◌+◌, ◌-◌, ◌*◌, ◌/◌, ◌%◌, ◌^◌, ◌<◌, ◌≤◌, Bool, true, false, eqb, List, [], ◌∷◌, length, take, get_or, refl, sym, ap, ◌∙◌, arith, inl, inr}
+use Rattle.std.specs.List.{AllByRecursion, filter}
+use Rattle.std.proofs.lemmas.Nat.Bits.{bit_at_cat_low, bit_at-zero}
+use Rattle.std.proofs.lemmas.Nat.{shr-shr, shl-shr, mul-le}
+use Rattle.std.proofs.Math.Nat.{pow-le-pow_right}
+use Rattle.std.proofs.lemmas.Bool.{and_from, and_left, or_right, or_left, le-leb, lt-leb, eqb-true, cases_lt, cases_Bool, both_ways, cond_both, not_from_false}
+use Rattle.council_game.specs.Votes.{RuleView, Votes, IsRule, IsRanked, IsVotes, has, without, weight, wins, each_needed, minimal, down, minimal_below, minimal_coalitions}
+use Rattle.mwc_walk.specs.Slices.{in_slice, slice}
+use Rattle.mwc_walk.specs.Places.{wins_at}
+use Rattle.council_game.proofs.Weights.{weight-more, weight-prefix, weight-without, weight-zero}
+use Rattle.mwc_walk.proofs.Blocks.{wins-prefix}
+
+each_needed-from : (v : Votes) (c k : ℕ) → ((q : ℕ) → q < k → has v.members q c ≡ true → wins v.rules (without v.members q c) ≡ false) → each_needed v c k ≡ true
+unfolding each_needed
+each_needed-from v c zero loses = refl
+each_needed-from v c (suc k) loses =
+    and_from _ _
+    (elim (cases_Bool (has v.members k c)) [
+      | inl in' ↦ or_right _ _ (not_from_false _ (loses k (omega arith) in'))
+      | inr out ↦ or_left _ _ (not_from_false _ out)
+    ])
+    (each_needed-from v c k (λ q below in'. loses q (omega arith) in'))
+
+-- places past the prefix are not in it
+place-before : (n p x q : ℕ) → p ≤ n → q < n → has n q (x * 2 ^ (n - p)) ≡ true → q < p
+unfolding has
+place-before n p x q le below in' =
+    elim (cases_lt q p) [
+      | inl less ↦ less
+      | inr past ↦
+          let zero_more : x * 2 ^ (n - p) + 0 ≡ x * 2 ^ (n - p) = omega arith in
+          let digit : (x * 2 ^ (n - p) + 0) / 2 ^ (n - 1 - q) % 2 ≡ 0 / 2 ^ (n - 1 - q) % 2 = bit_at_cat_low x (n - p) 0 (n - 1 - q) (omega arith) in
+          let none : x * 2 ^ (n - p) / 2 ^ (n - 1 - q) % 2 ≡ 0 = ap (λ (i : ℕ). i / 2 ^ (n - 1 - q) % 2) (sym zero_more) ∙ digit ∙ bit_at-zero (n - 1 - q) in
+          let some : x * 2 ^ (n - p) / 2 ^ (n - 1 - q) % 2 ≡ 1 = eqb-true _ _ in' in
+          absurd (omega (arith, none, some))
+    ]
+
+one-loses : (n p x q : ℕ) (rs : List RuleView) → length rs ≡ 1 → AllByRecursion (IsRule n) rs → IsRanked rs → 0 < p → p ≤ n → wins_at rs (p - 1) (x / 2) ≡ false → q < n → has n q (x * 2 ^ (n - p)) ≡ true → wins rs (without n q (x * 2 ^ (n - p))) ≡ false
+unfolding wins wins_at has without
+one-loses n p x q [] one all ranked pos le lost below in' = absurd (omega (arith, one))
+one-loses n p x q (r ∷ s ∷ rs) one all ranked pos le lost below in' = absurd (omega (arith, one))
+one-loses n p x q (r ∷ []) one all ranked pos le lost below in' =
+    let long : length r.weights ≡ n = all.0.0 in
+    let before : q < p = place-before n p x q le below in' in
+    let some : x * 2 ^ (n - p) / 2 ^ (n - 1 - q) % 2 ≡ 1 = eqb-true _ _ in' in
+    let less = weight-without r.weights q (x * 2 ^ (n - p)) (omega arith) (rw long some) in
+    let less' : weight r.weights (x * 2 ^ (n - p) - 2 ^ (n - 1 - q)) + get_or r.weights q 0 ≡ weight r.weights (x * 2 ^ (n - p)) = rw long at less in
+    let whole : weight r.weights (x * 2 ^ (n - p)) ≡ weight (take p r.weights) x = ap (λ (m : ℕ). weight r.weights (x * 2 ^ (m - p))) (sym long) ∙ weight-prefix r.weights p x (omega arith) in
+    let pe : p - 1 + 1 ≡ p = omega arith in
+    let xe : 2 * (x / 2) + x % 2 ≡ x = omega arith in
+    let more : weight (take (p - 1 + 1) r.weights) (2 * (x / 2) + x % 2) ≡ weight (take (p - 1) r.weights) (x / 2) + x % 2 * get_or r.weights (p - 1) 0 = weight-more r.weights (p - 1) (x / 2) (x % 2) (omega arith) (omega arith) in
+    let more' : weight (take p r.weights) x ≡ weight (take (p - 1) r.weights) (x / 2) + x % 2 * get_or r.weights (p - 1) 0 = rw (pe, xe) at more in
+    let most : x % 2 * get_or r.weights (p - 1) 0 ≤ 1 * get_or r.weights (p - 1) 0 = mul-le (x % 2) (get_or r.weights (p - 1) 0) 1 (get_or r.weights (p - 1) 0) (omega arith) (omega arith) in
+    let heavier : get_or r.weights (p - 1) 0 ≤ get_or r.weights q 0 = ranked q (p - 1) (omega arith) (omega arith) in
+    let short : weight (take (p - 1) r.weights) (x / 2) < r.quota =
+    elim (cases_lt (weight (take (p - 1) r.weights) (x / 2)) r.quota) [
+      | inl less ↦ less
+      | inr won ↦ absurd (both_ways _ lost (and_from _ _ (le-leb _ _ won) refl))
+    ] in
+    let loses : weight r.weights (x * 2 ^ (n - p) - 2 ^ (n - 1 - q)) < r.quota = omega (arith, less', whole, more', most, heavier, short) in
+    and_left _ _ (lt-leb _ _ loses)
+
+pub one-minimal : (v : Votes) (p x : ℕ) → IsVotes v → length v.rules ≡ 1 → 0 < p → p ≤ v.members → wins_at v.rules p x ≡ true → wins_at v.rules (p - 1) (x / 2) ≡ false → minimal v (x * 2 ^ (v.members - p)) ≡ true
+unfolding minimal
+one-minimal v p x game one pos le won lost =
+    and_from _ _
+    (wins-prefix v.members p x v.rules le game.4 ∙ won)
+    (each_needed-from v (x * 2 ^ (v.members - p)) v.members (λ q below in'. one-loses v.members p x q v.rules one game.4 game.5 pos le lost below in'))
+
+-- a prefix that wins first by its last place has that place in it
+same-even : (n p y : ℕ) (rs : List RuleView) → p < n → AllByRecursion (IsRule n) rs → wins_at rs (p + 1) (2 * y) ≡ wins_at rs p y
+unfolding wins_at
+same-even n p y [] below all = refl
+same-even n p y (r ∷ rs) below all =
+    let long : length r.weights ≡ n = all.0.0 in
+    let more : weight (take (p + 1) r.weights) (2 * y + 0) ≡ weight (take p r.weights) y + 0 * get_or r.weights p 0 = weight-more r.weights p y 0 (omega arith) (omega arith) in
+    let e : 2 * y + 0 ≡ 2 * y = omega arith in
+    let more' : weight (take (p + 1) r.weights) (2 * y) ≡ weight (take p r.weights) y = ap (weight (take (p + 1) r.weights)) (sym e) ∙ more ∙ (let z : weight (take p r.weights) y + 0 * get_or r.weights p 0 ≡ weight (take p r.weights) y = omega arith in z) in
+    let rest = same-even n p y rs below all.1 in
+    rw (more', rest) refl
+
+pub won-odd : (n p x : ℕ) (rs : List RuleView) → 0 < p → p ≤ n → AllByRecursion (IsRule n) rs → wins_at rs p x ≡ true → wins_at rs (p - 1) (x / 2) ≡ false → x % 2 ≡ 1
+won-odd n p x rs pos le all won lost =
+    elim (cases_lt 0 (x % 2)) [
+      | inl some ↦ omega arith
+      | inr none ↦
+          let pe : p - 1 + 1 ≡ p = omega arith in
+          let xe : 2 * (x / 2) ≡ x = omega arith in
+          let same = same-even n (p - 1) (x / 2) rs (omega arith) all in
+          absurd (both_ways _ lost (sym same ∙ ap (λ (i : ℕ). wins_at rs i (2 * (x / 2))) pe ∙ ap (wins_at rs p) xe ∙ won))
+    ]
+
+-- no places win nothing
+pub empty-loses : (n : ℕ) (rs : List RuleView) → 1 ≤ length rs → AllByRecursion (IsRule n) rs → wins_at rs 0 0 ≡ false
+unfolding wins_at
+empty-loses n [] some all = absurd (omega (arith, some))
+empty-loses n (r ∷ rs) some all =
+    let q : 1 ≤ r.quota = all.0.1 in
+    let z : weight (take 0 r.weights) 0 ≡ 0 = weight-zero (take 0 r.weights) in
+    let loses : weight (take 0 r.weights) 0 < r.quota = omega (arith, q, z) in
+    and_left _ _ (lt-leb _ _ loses)
+
+filter-short : (p : ℕ → Bool) (xs : List ℕ) → length (filter p xs) ≤ length xs
+filter-short p [] = omega arith
+filter-short p (x ∷ xs) =
+    let rest = filter-short p xs in
+    cond_both (p x) (x ∷ filter p xs) (filter p xs) (λ l. length l ≤ length (x ∷ xs)) (λ _. omega (arith, rest)) (λ _. omega (arith, rest))
+
+length-down : (n : ℕ) → length (down n) ≡ n
+unfolding down
+length-down zero = refl
+length-down (suc n) = ap (λ (i : ℕ). suc i) (length-down n)
+
+-- a slice is shorter than a count of visits can grow
+pub slice-short : (v : Votes) (k j : ℕ) → v.members ≤ 40 → length (slice v k j) ≤ 2 ^ 40
+unfolding slice in_slice minimal_coalitions minimal_below
+slice-short v k j le =
+    let a = filter-short (λ c. eqb (c / 2 ^ (v.members - k)) (2 ^ k - 1 - j)) (filter (minimal v) (down (2 ^ v.members))) in
+    let b = filter-short (minimal v) (down (2 ^ v.members)) in
+    let c : length (down (2 ^ v.members)) ≡ 2 ^ v.members = length-down (2 ^ v.members) in
+    let d : 2 ^ v.members ≤ 2 ^ 40 = pow-le-pow_right (let z : 0 < 2 = omega arith in z) le in
+    omega (arith, a, b, c, d)
+
+-- a winning prefix as a number of the slice
+pub in-slice : (n k p x : ℕ) → k ≤ p → p ≤ n → x * 2 ^ (n - p) / 2 ^ (n - k) ≡ x / 2 ^ (p - k)
+in-slice n k p x low high =
+    let e : n - k ≡ (n - p) + (p - k) = omega arith in
+    ap (λ (i : ℕ). x * 2 ^ (n - p) / 2 ^ i) e ∙ sym (shr-shr (x * 2 ^ (n - p)) (n - p) (p - k)) ∙ ap (λ (i : ℕ). i / 2 ^ (p - k)) (shl-shr x (n - p))

@@ -1,0 +1,76 @@
+-- What is still to come is the end of the slice.
+use Rattle.std.proofs.Common.{◌≡◌, ℕ, zero, suc, ◌+◌, ◌-◌, ◌*◌, ◌/◌, ◌^◌, ◌≤◌, Bool, true, cond, eqb, List, [], ◌∷◌, ◌++◌, length, drop, sym, ap, ◌∙◌, arith, inl, inr}
+use Rattle.std.specs.List.{filter}
+use Rattle.std.proofs.Math.Nat.{mul-add}
+use Rattle.std.proofs.Math.Seq.{drop-append_seam}
+use Rattle.std.proofs.lemmas.Bool.{cases_Bool, cond-true, cond-false, cond_both}
+use Rattle.std.proofs.lemmas.List.{length-append}
+use Rattle.std.proofs.lemmas.Nat.{mul-le, pow-add}
+use Rattle.council_game.specs.Votes.{Votes, minimal, down, minimal_below, minimal_coalitions}
+use Rattle.mwc_walk.specs.Slices.{in_slice, slice}
+use Rattle.mwc_walk.specs.Places.{left_below}
+use Rattle.mwc_walk.specs.declared.cursor.Cursor.{Cursor}
+use Rattle.mwc_walk.specs.Cursor.{bound, left, CursorIs}
+use Rattle.mwc_walk.proofs.Steps.{rest-most}
+
+-- a list that ends with another
+record EndsWith (whole end : List ℕ) : Type 0 where
+  pub front : List ℕ
+  pub joined : whole ≡ front ++ end
+
+ends-more : (b : Bool) (x : ℕ) (whole end : List ℕ) → EndsWith whole end → EndsWith (cond b (x ∷ whole) whole) end
+ends-more b x whole end is =
+    elim (cases_Bool b) [
+      | inl yes' ↦ record { front = x ∷ is.front; joined = cond-true b (x ∷ whole) whole yes' ∙ ap (λ (l : List ℕ). x ∷ l) is.joined }
+      | inr no' ↦ record { front = is.front; joined = cond-false b (x ∷ whole) whole no' ∙ is.joined }
+    ]
+
+-- of two descending counts, filtered, the longer ends with the shorter
+filter-ends : (q p : ℕ → Bool) (low more : ℕ) → EndsWith (filter q (filter p (down (low + more)))) (filter q (filter p (down low)))
+unfolding down
+filter-ends q p low zero = record { front = []; joined = ap (λ (i : ℕ). filter q (filter p (down i))) (let e : low + 0 ≡ low = omega arith in e) }
+filter-ends q p low (suc more) =
+    let e : suc (low + more) ≡ low + suc more = omega arith in
+    let rest = filter-ends q p low more in
+    let here : EndsWith (filter q (filter p (down (suc (low + more))))) (filter q (filter p (down low))) =
+    elim (cases_Bool (p (low + more))) [
+      | inl yes' ↦ rw yes' (ends-more (q (low + more)) (low + more) (filter q (filter p (down (low + more)))) (filter q (filter p (down low))) rest)
+      | inr no' ↦ rw no' rest
+    ] in
+    rw (← e) here
+
+left-ends : (v : Votes) (k j b : ℕ) → b ≤ 2 ^ v.members → EndsWith (slice v k j) (left_below v k j b)
+unfolding left_below minimal_below in_slice slice minimal_coalitions
+left-ends v k j b le =
+    let e : b + (2 ^ v.members - b) ≡ 2 ^ v.members = omega arith in
+    let ends = filter-ends (λ c. eqb (c / 2 ^ (v.members - k)) (2 ^ k - 1 - j)) (minimal v) b (2 ^ v.members - b) in
+    rw e at ends
+
+bound-below : (v : Votes) (a : Cursor) → CursorIs v a → bound a ≤ 2 ^ v.members
+bound-below v a is =
+    let to : a.place ≤ v.members = is.to in
+    let whole : 2 ^ v.members ≡ 2 ^ a.place * 2 ^ (v.members - a.place) = ap (λ (i : ℕ). 2 ^ i) (let e : v.members ≡ a.place + (v.members - a.place) = omega arith in e) ∙ pow-add 2 a.place (v.members - a.place) in
+    let one : cond a.fresh 1 0 ≤ 1 = cond_both a.fresh 1 0 (λ i. i ≤ 1) (λ _. omega arith) (λ _. omega arith) in
+    let most = mul-le (a.prefix + cond a.fresh 1 0) (2 ^ (v.members - a.place)) (2 ^ a.place) (2 ^ (v.members - a.place)) (omega (arith, one, is.short)) (omega arith) in
+    rw (is.members, whole) most
+
+drop-front : (whole end : List ℕ) → EndsWith whole end → end ≡ drop (length whole - length end) whole
+drop-front whole end is =
+    let size : length whole ≡ length is.front + length end = ap length is.joined ∙ length-append is.front end in
+    let cut : length whole - length end ≡ length is.front = omega (arith, size) in
+    sym (ap (λ (i : ℕ). drop i whole) cut ∙ ap (drop (length is.front)) is.joined ∙ drop-append_seam is.front end)
+
+-- what is still to come is the slice, less as many of its first as were given
+pub rest-is : (v : Votes) (a : Cursor) → CursorIs v a → left v a ≡ drop (length (slice v a.bits a.number) - length (left v a)) (slice v a.bits a.number)
+rest-is v a is = drop-front _ _ (left-ends v a.bits a.number (bound a) (bound-below v a is))
+
+-- with one rule, the visits are bounded by what was given
+pub visits-most : (v : Votes) (a : Cursor) → CursorIs v a → (a.fresh ≡ true → a.place ≡ a.bits) → length v.rules ≡ 1 → a.visits ≤ a.bits + (v.members - a.bits) * (length (slice v a.bits a.number) - length (left v a))
+visits-most v a is rests one =
+    let most = rest-most v a is rests one in
+    let ends = left-ends v a.bits a.number (bound a) (bound-below v a is) in
+    let size : length (slice v a.bits a.number) ≡ length ends.front + length (left v a) = ap length ends.joined ∙ length-append ends.front (left v a) in
+    let whole : length (slice v a.bits a.number) ≡ length (slice v a.bits a.number) - length (left v a) + length (left v a) = omega (arith, size) in
+    let parts : (v.members - a.bits) * length (slice v a.bits a.number) ≡ (v.members - a.bits) * (length (slice v a.bits a.number) - length (left v a)) + (v.members - a.bits) * length (left v a) =
+    ap (λ (i : ℕ). (v.members - a.bits) * i) whole ∙ mul-add (v.members - a.bits) (length (slice v a.bits a.number) - length (left v a)) (length (left v a)) in
+    omega (arith, most, parts)

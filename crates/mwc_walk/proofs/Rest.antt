@@ -1,0 +1,141 @@
+-- What is left of a slice, at a place of the walk.
+use Rattle.std.proofs.Common.{◌≡◌, ℕ, zero, suc, ◌+◌, ◌-◌, ◌*◌, ◌/◌, ◌%◌, ◌^◌, ◌<◌, ◌≤◌, Bool, true, false, not, ◌||◌, eqb, List, [], ◌∷◌, sym, ap, ◌∙◌, subst, arith, inl, inr, cond}
+use Rattle.std.specs.List.{filter}
+use Rattle.std.proofs.lemmas.Nat.Bits.{bit_at_cat_low}
+use Rattle.std.proofs.lemmas.Nat.{div-mul-add, pow_pos, pow-add, mul-le}
+use Rattle.std.proofs.Math.Nat.{lt-div-mul-add, div-mul-le_self}
+use Rattle.std.proofs.lemmas.Bool.{cases_lt, cases_Bool, and_left, and_parts, eq-eqb, ne_eqb, cond-false, cond-true, false_from_ne_true, or_cases, not-true, both_ways}
+use Rattle.council_game.specs.Votes.{Votes, IsVotes, has, without, wins, each_needed, minimal, down, minimal_below, minimal_coalitions}
+use Rattle.mwc_walk.specs.Slices.{in_slice, slice}
+use Rattle.mwc_walk.specs.Places.{left_below, reaches, wins_at}
+use Rattle.mwc_walk.proofs.Blocks.{filter-down_skip, filter-down_take, some_digit, wins-below, loses-below}
+
+-- a needed place: without it the set loses
+needed-at : (v : Votes) (c k q : ℕ) → each_needed v c k ≡ true → q < k → has v.members q c ≡ true → wins v.rules (without v.members q c) ≡ true → ⊥
+unfolding each_needed
+needed-at v c zero q h below inside win = omega arith
+needed-at v c (suc k) q h below inside win =
+    let parts = and_parts (not (has v.members k c) || not (wins v.rules (without v.members k c))) (each_needed v c k) h in
+    elim (cases_lt q k) [
+      | inl less ↦ needed-at v c k q parts.1 less inside win
+      | inr more ↦
+          let e : k ≡ q = omega arith in
+          let here : (not (has v.members q c) || not (wins v.rules (without v.members q c))) ≡ true =
+          subst (λ (i : ℕ). (not (has v.members i c) || not (wins v.rules (without v.members i c))) ≡ true) e parts.0 in
+          elim (or_cases _ _ here) [
+            | inl a ↦ both_ways _ (not-true _ a) inside
+            | inr b ↦ both_ways _ (not-true _ b) win
+          ]
+    ]
+
+-- numbers of one block have one prefix
+pub block-prefix : (x h c : ℕ) → x * 2 ^ h ≤ c → c < x * 2 ^ h + 2 ^ h → c / 2 ^ h ≡ x
+block-prefix x h c low high =
+    let e : c ≡ x * 2 ^ h + (c - x * 2 ^ h) = omega arith in
+    ap (λ (i : ℕ). i / 2 ^ h) e ∙ div-mul-add x (2 ^ h) (c - x * 2 ^ h) (omega arith)
+
+pub next-block : (x h : ℕ) → (x + 1) * 2 ^ h ≡ x * 2 ^ h + 2 ^ h
+next-block x h = omega arith
+
+-- below a winning prefix nothing is minimal but the prefix with zeros
+above-not_minimal : (v : Votes) (p x c : ℕ) → IsVotes v → p ≤ v.members → wins_at v.rules p x ≡ true → x * 2 ^ (v.members - p) < c → c < x * 2 ^ (v.members - p) + 2 ^ (v.members - p) → minimal v c ≡ true → ⊥
+unfolding minimal has without
+above-not_minimal v p x c game le win low high min =
+    let h : ℕ = v.members - p in
+    let parts = and_parts (wins v.rules c) (each_needed v c v.members) min in
+    let r : ℕ = c - x * 2 ^ (v.members - p) in
+    let found = some_digit (v.members - p) (c - x * 2 ^ (v.members - p)) (omega arith) (omega arith) in
+    let b : ℕ = found.0 in
+    let below : found.0 < v.members - p = found.1 in
+    let small : 2 ^ found.0 ≤ c - x * 2 ^ (v.members - p) = found.2 in
+    let e : c ≡ x * 2 ^ (v.members - p) + (c - x * 2 ^ (v.members - p)) = omega arith in
+    let digit : c / 2 ^ found.0 % 2 ≡ 1 =
+    ap (λ (i : ℕ). i / 2 ^ found.0 % 2) e ∙ bit_at_cat_low x (v.members - p) (c - x * 2 ^ (v.members - p)) found.0 found.1 ∙ found.3 in
+    let place : v.members - 1 - (v.members - 1 - found.0) ≡ found.0 = omega arith in
+    let inside : eqb (c / 2 ^ (v.members - 1 - (v.members - 1 - found.0)) % 2) 1 ≡ true =
+    eq-eqb _ _ (ap (λ (i : ℕ). c / 2 ^ i % 2) place ∙ digit) in
+    let prefix : (c - 2 ^ found.0) / 2 ^ (v.members - p) ≡ x = block-prefix x (v.members - p) (c - 2 ^ found.0) (omega arith) (omega arith) in
+    let prefix' : (c - 2 ^ (v.members - 1 - (v.members - 1 - found.0))) / 2 ^ (v.members - p) ≡ x = ap (λ (i : ℕ). (c - 2 ^ i) / 2 ^ (v.members - p)) place ∙ prefix in
+    let still : wins v.rules (c - 2 ^ (v.members - 1 - (v.members - 1 - found.0))) ≡ true =
+    wins-below v.members p (c - 2 ^ (v.members - 1 - (v.members - 1 - found.0))) v.rules le game.4 (ap (wins_at v.rules p) prefix' ∙ win) in
+    needed-at v c v.members (v.members - 1 - found.0) parts.1 (omega (arith, game.0)) inside still
+
+-- a prefix that cannot reach some quota has nothing below it
+pub left-dead : (v : Votes) (k j p x : ℕ) → IsVotes v → p ≤ v.members → reaches v.rules p x ≡ false → left_below v k j ((x + 1) * 2 ^ (v.members - p)) ≡ left_below v k j (x * 2 ^ (v.members - p))
+unfolding left_below minimal_below
+left-dead v k j p x game le dead =
+    let fails : (c : ℕ) → x * 2 ^ (v.members - p) ≤ c → c < x * 2 ^ (v.members - p) + 2 ^ (v.members - p) → minimal v c ≡ false =
+    λ c low high. unfold minimal in and_left _ _ (false_from_ne_true _ (λ w.
+    both_ways _ dead (ap (reaches v.rules p) (sym (block-prefix x (v.members - p) c low high)) ∙ loses-below v.members p c v.rules le game.4 w))) in
+    ap (in_slice v k j) (
+    ap (λ (i : ℕ). filter (minimal v) (down i)) (next-block x (v.members - p))
+    ∙ filter-down_skip (minimal v) (x * 2 ^ (v.members - p)) (2 ^ (v.members - p)) fails)
+
+-- below a winning prefix only the prefix with zeros is left
+pub left-won : (v : Votes) (k j p x : ℕ) → IsVotes v → p ≤ v.members → wins_at v.rules p x ≡ true → left_below v k j ((x + 1) * 2 ^ (v.members - p)) ≡ left_below v k j (x * 2 ^ (v.members - p) + 1)
+unfolding left_below minimal_below
+left-won v k j p x game le win =
+    let pos : 0 < 2 ^ (v.members - p) = pow_pos (v.members - p) in
+    let e : (x + 1) * 2 ^ (v.members - p) ≡ (x * 2 ^ (v.members - p) + 1) + (2 ^ (v.members - p) - 1) = omega (arith, next-block x (v.members - p)) in
+    ap (in_slice v k j) (
+    ap (λ (i : ℕ). filter (minimal v) (down i)) e
+    ∙ filter-down_skip (minimal v) (x * 2 ^ (v.members - p) + 1) (2 ^ (v.members - p) - 1)
+    (λ c low high. false_from_ne_true _ (above-not_minimal v p x c game le win (omega arith) (omega arith))))
+
+-- c itself, where it is not minimal
+pub left-drop : (v : Votes) (k j c : ℕ) → minimal v c ≡ false → left_below v k j (c + 1) ≡ left_below v k j c
+unfolding left_below minimal_below
+left-drop v k j c h =
+    ap (in_slice v k j) (filter-down_skip (minimal v) c 1 (λ d low high. ap (minimal v) (let e : d ≡ c = omega arith in e) ∙ h))
+
+-- c itself, where it is minimal and in the slice
+pub left-take : (v : Votes) (k j c : ℕ) → minimal v c ≡ true → c / 2 ^ (v.members - k) ≡ 2 ^ k - 1 - j → left_below v k j (c + 1) ≡ c ∷ left_below v k j c
+unfolding left_below minimal_below in_slice
+left-take v k j c h inside =
+    ap (λ (l : List ℕ). filter (λ d. eqb (d / 2 ^ (v.members - k)) (2 ^ k - 1 - j)) l) (filter-down_take (minimal v) c h)
+    ∙ cond-true (eqb (c / 2 ^ (v.members - k)) (2 ^ k - 1 - j)) _ _ (eq-eqb _ _ inside)
+
+-- numbers outside the slice may be left out at the top
+pub filter-filter_skip : (q p : ℕ → Bool) (low more : ℕ) → ((c : ℕ) → low ≤ c → c < low + more → q c ≡ false) → filter q (filter p (down (low + more))) ≡ filter q (filter p (down low))
+unfolding down
+filter-filter_skip q p low zero fails = ap (λ (i : ℕ). filter q (filter p (down i))) (let e : low + 0 ≡ low = omega arith in e)
+filter-filter_skip q p low (suc more) fails =
+    let e : low + suc more ≡ suc (low + more) = omega arith in
+    let here : q (low + more) ≡ false = fails (low + more) (omega arith) (omega arith) in
+    let rest = filter-filter_skip q p low more (λ c above below. fails c above (omega arith)) in
+    ap (λ (i : ℕ). filter q (filter p (down i))) e
+    ∙ (elim (cases_Bool (p (low + more))) [
+      | inl is ↦ ap (λ (b : Bool). filter q (cond b ((low + more) ∷ filter p (down (low + more))) (filter p (down (low + more))))) is ∙ cond-false (q (low + more)) _ _ here
+      | inr isnt ↦ ap (λ (b : Bool). filter q (cond b ((low + more) ∷ filter p (down (low + more))) (filter p (down (low + more))))) isnt
+    ])
+    ∙ rest
+
+-- where the walk starts, the whole slice is left
+pub left-all : (v : Votes) (k j : ℕ) → k ≤ v.members → j < 2 ^ k → left_below v k j ((2 ^ k - 1 - j + 1) * 2 ^ (v.members - k)) ≡ slice v k j
+unfolding left_below minimal_below in_slice slice minimal_coalitions
+left-all v k j le below =
+    let x : ℕ = 2 ^ k - 1 - j in
+    let whole : 2 ^ v.members ≡ 2 ^ k * 2 ^ (v.members - k) = ap (λ (i : ℕ). 2 ^ i) (let e : v.members ≡ k + (v.members - k) = omega arith in e) ∙ pow-add 2 k (v.members - k) in
+    let m : (2 ^ k - 1 - j + 1) * 2 ^ (v.members - k) ≤ 2 ^ k * 2 ^ (v.members - k) = mul-le (2 ^ k - 1 - j + 1) (2 ^ (v.members - k)) (2 ^ k) (2 ^ (v.members - k)) (omega arith) (omega arith) in
+    let fails : (c : ℕ) → (2 ^ k - 1 - j + 1) * 2 ^ (v.members - k) ≤ c → eqb (c / 2 ^ (v.members - k)) (2 ^ k - 1 - j) ≡ false =
+    λ c low. ne_eqb _ _ (λ e.
+    let pos : 0 < 2 ^ (v.members - k) = pow_pos (v.members - k) in
+    let up : c < c / 2 ^ (v.members - k) * 2 ^ (v.members - k) + 2 ^ (v.members - k) = lt-div-mul-add pos in
+    let up' : c < (2 ^ k - 1 - j) * 2 ^ (v.members - k) + 2 ^ (v.members - k) = subst (λ (i : ℕ). c < i * 2 ^ (v.members - k) + 2 ^ (v.members - k)) e up in
+    omega (arith, next-block (2 ^ k - 1 - j) (v.members - k))) in
+    let e : (2 ^ k - 1 - j + 1) * 2 ^ (v.members - k) + (2 ^ v.members - (2 ^ k - 1 - j + 1) * 2 ^ (v.members - k)) ≡ 2 ^ v.members = omega arith in
+    sym (filter-filter_skip (λ c. eqb (c / 2 ^ (v.members - k)) (2 ^ k - 1 - j)) (minimal v) ((2 ^ k - 1 - j + 1) * 2 ^ (v.members - k)) (2 ^ v.members - (2 ^ k - 1 - j + 1) * 2 ^ (v.members - k)) (λ c low high. fails c low))
+    ∙ ap (λ (i : ℕ). filter (λ c. eqb (c / 2 ^ (v.members - k)) (2 ^ k - 1 - j)) (filter (minimal v) (down i))) e
+
+-- where it ends, nothing is
+pub left-none : (v : Votes) (k j : ℕ) → left_below v k j ((2 ^ k - 1 - j) * 2 ^ (v.members - k)) ≡ []
+unfolding left_below minimal_below in_slice down
+left-none v k j =
+    let pos : 0 < 2 ^ (v.members - k) = pow_pos (v.members - k) in
+    let fails : (c : ℕ) → c < (2 ^ k - 1 - j) * 2 ^ (v.members - k) → eqb (c / 2 ^ (v.members - k)) (2 ^ k - 1 - j) ≡ false =
+    λ c high. ne_eqb _ _ (λ e.
+    let up : c / 2 ^ (v.members - k) * 2 ^ (v.members - k) ≤ c = div-mul-le_self c (2 ^ (v.members - k)) in
+    let up' : (2 ^ k - 1 - j) * 2 ^ (v.members - k) ≤ c = subst (λ (i : ℕ). i * 2 ^ (v.members - k) ≤ c) e up in
+    omega arith) in
+    ap (λ (i : ℕ). filter (λ c. eqb (c / 2 ^ (v.members - k)) (2 ^ k - 1 - j)) (filter (minimal v) (down i))) (let e : (2 ^ k - 1 - j) * 2 ^ (v.members - k) ≡ 0 + (2 ^ k - 1 - j) * 2 ^ (v.members - k) = omega arith in e)
+    ∙ filter-filter_skip (λ c. eqb (c / 2 ^ (v.members - k)) (2 ^ k - 1 - j)) (minimal v) 0 ((2 ^ k - 1 - j) * 2 ^ (v.members - k)) (λ c low high. fails c (omega arith))

@@ -1,0 +1,16 @@
+use Rattle.council_game.specs.Game.{votes_of}
+use Rattle.std.proofs.Common.{◌≡◌, ◌≤◌}
+use Rattle.mwc_walk.specs.Cursor.{CursorIs, left, steps_left}
+use Rattle.mwc_walk.proofs.cursor.Cursor.next.Given as goal
+
+abbrev pub invariant-steps : goal.invariant-steps
+invariant-steps l = record {
+  is : CursorIs (votes_of l.game) l.self;
+  bits : l.self.bits ≡ l.initial.self.bits;
+  number : l.self.number ≡ l.initial.self.number;
+  counted : l.initial.self.visits ≤ l.self.visits;
+  same : left (votes_of l.game) l.self ≡ left (votes_of l.game) l.initial.self;
+}
+
+abbrev pub decreases-steps : goal.decreases-steps
+decreases-steps l = steps_left l.self

@@ -1,0 +1,41 @@
+use Rattle.council_game.specs.Game.{votes_of}
+use Rattle.std.proofs.Common.{◌≡◌, ◌≤◌, length, take, arith, refl}
+use Rattle.mwc_walk.proofs.Tables.{fits-in}
+use Rattle.mwc_walk.proofs.Steps.{part-taken, part-room}
+use Rattle.mwc_walk.proofs.Start.{first-lanes, first-number, fixed-in, fixed-pass, starts}
+use Rattle.mwc_walk.proofs.cursor.Cursor.start.Goals as goal
+use Rattle.mwc_walk.proofs.cursor.Cursor.start.Goals.{then-prefix-bits-eq1, else-prefix-bits-eq1}
+
+pub loop-place-init : goal.loop-place-init
+loop-place-init c = record {
+  room = omega (arith, c.rules-rules.ensures.votes, c.loop-rule.invariant.long, c.members-members.ensures.votes.3);
+  are = first-lanes (votes_of c.args.game.now) c.args.bits c.args.number c.rules-rules.result c.loop-rule.lanes c.members-members.ensures.votes c.rules-rules.ensures.votes c.loop-rule.invariant.long c.requires.few
+      (λ i below d. c.loop-rule.invariant.done i (omega arith) d);
+}
+
+pub take_in-requires-clause-fits : goal.take_in-requires-clause-fits
+take_in-requires-clause-fits c =
+    fits-in (votes_of c.args.game.now).members c.loop-place.place _ (votes_of c.args.game.now).rules (take c.rules-rules.result c.loop-place.lanes) (omega arith) c.loop-place.invariant.are
+
+pub loop-place-preserved : goal.loop-place-preserved
+loop-place-preserved c =
+    elim c.if-prefix-bits-eq1.branch [
+      | then-prefix-bits-eq1 w ↦
+          let room : c.rules-rules.result ≤ length c.loop-place.lanes = c.loop-place.invariant.room in
+          record {
+            room = rw w.lanes-is (part-room _ _ _ _ _ w.take_in.ensures room);
+            are = rw (w.lanes-is, part-taken _ _ _ _ _ w.take_in.ensures room) (fixed-in (votes_of c.args.game.now).members c.args.bits c.loop-place.place _ (votes_of c.args.game.now).rules _ c.loop-place-test.true c.requires.bits w.if-prefix-bits-eq1.true c.loop-place.invariant.are);
+          }
+      | else-prefix-bits-eq1 w ↦ record {
+        room = rw w.lanes-is c.loop-place.invariant.room;
+        are = rw w.lanes-is (fixed-pass (votes_of c.args.game.now).members c.args.bits c.loop-place.place _ (votes_of c.args.game.now).rules _ c.loop-place-test.true c.requires.bits w.if-prefix-bits-eq1.false c.loop-place.invariant.are);
+      }
+    ]
+
+pub returns : goal.returns
+returns c =
+    let e : c.loop-place.place ≡ c.args.bits = omega arith in
+    starts (votes_of c.args.game.now) c.args.bits c.args.number _ c.members-members.ensures.votes c.requires.bits c.requires.number c.members-members.ensures.count c.rules-rules.ensures.votes
+    c.loop-place.invariant.room
+    (rw e at c.loop-place.invariant.are)
+    (first-number c.args.bits c.args.number c.requires.few) refl refl refl refl refl

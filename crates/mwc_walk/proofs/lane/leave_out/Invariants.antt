@@ -1,0 +1,6 @@
+use Rattle.std.proofs.Common.{◌≡◌, ◌++◌, map, take, drop}
+use Rattle.mwc_walk.specs.Lanes.{lane_without}
+use Rattle.mwc_walk.proofs.lane.leave_out.Given as goal
+
+abbrev pub invariant-loop-lane : goal.invariant-loop-lane
+invariant-loop-lane l = l.lanes ≡ map (lane_without l.place) (take l.lane-index l.initial.lanes) ++ drop l.lane-index l.initial.lanes

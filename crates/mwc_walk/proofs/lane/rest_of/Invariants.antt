@@ -1,0 +1,8 @@
+use Rattle.std.proofs.Common.{◌≡◌, ℕ, ◌≤◌, slice_index, drop, take, sum, length}
+use Rattle.mwc_walk.proofs.lane.rest_of.Given as goal
+
+abbrev pub invariant-loop-place : goal.invariant-loop-place
+invariant-loop-place l = record {
+  long : length l.rest ≡ 41;
+  done : (q : ℕ) → l.place ≤ q → q ≤ l.members → slice_index l.rest q ≡ sum (drop q (take l.members l.weights));
+}

@@ -1,0 +1,31 @@
+-- A place of the walk: x is the number of the first p places.
+use Rattle.std.specs.Prelude.{ℕ, ◌+◌, ◌≡◌, ◌≤◌, ◌<◌, Bool, true, ◌&&◌, nat_le, List, [], ◌∷◌, take, drop, slice_index}
+use Rattle.std.specs.List.{sum, AllZip}
+use Rattle.mwc_walk.specs.declared.lane.Lane.{Lane}
+use Rattle.council_game.specs.Votes.{Votes, RuleView, IsRule, weight, minimal_below}
+use Rattle.mwc_walk.specs.Slices.{in_slice}
+
+-- what is left of slice j when the numbers below a bound are left
+unfoldable pub left_below : Votes → ℕ → ℕ → ℕ → List ℕ
+left_below v k j bound = in_slice v k j (minimal_below v bound)
+
+-- with what may still come, each rule's quota can be met
+unfoldable pub reaches : List RuleView → ℕ → ℕ → Bool
+reaches [] p x = true
+reaches (r ∷ rs) p x = nat_le r.quota (weight (take p r.weights) x + sum (drop p r.weights)) && reaches rs p x
+
+-- the first p places win by themselves
+unfoldable pub wins_at : List RuleView → ℕ → ℕ → Bool
+wins_at [] p x = true
+wins_at (r ∷ rs) p x = nat_le r.quota (weight (take p r.weights) x) && wins_at rs p x
+
+-- lane l is that of rule r, at the prefix x of p places
+pub record LaneIs (n p x : ℕ) (r : RuleView) (l : Lane) : Type 0 where
+  pub rule : IsRule n r
+  pub quota : l.quota ≡ r.quota
+  pub weights : (q : ℕ) → q < n → slice_index l.weights q ≡ slice_index r.weights q
+  pub rest : (q : ℕ) → q ≤ n → slice_index l.rest q ≡ sum (drop q r.weights)
+  pub sum_is : l.sum ≡ weight (take p r.weights) x
+
+abbrev pub LanesAre : ℕ → ℕ → ℕ → List RuleView → List Lane → Type 0
+LanesAre n p x rs ls = AllZip (LaneIs n p x) rs ls

@@ -1,0 +1,14 @@
+-- A walk by its fields.
+use Rattle.std.specs.Prelude.{◌≡◌, true}
+use Rattle.council_game.specs.Game.{votes_of}
+use Rattle.mwc_walk.specs.declared.walk.Walk.TheInside.{Inside}
+use Rattle.mwc_walk.specs.WalkView.{WalkView}
+use Rattle.mwc_walk.specs.Cursor.{CursorIs, left}
+
+abbrev pub walk_view : Inside → WalkView
+walk_view w = record { votes = votes_of w.game.now; bits = w.cursor.bits; number = w.cursor.number; to_come = left (votes_of w.game.now) w.cursor; visits = w.cursor.visits }
+
+-- between two calls no descent is under way
+pub record IsInside (w : Inside) : Type 0 where
+  pub cursor : CursorIs (votes_of w.game.now) w.cursor
+  pub rests : w.cursor.fresh ≡ true → w.cursor.place ≡ w.cursor.bits

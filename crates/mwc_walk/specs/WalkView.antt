@@ -1,0 +1,16 @@
+-- What a contract sees of a walk.
+use Rattle.std.specs.Prelude.{ℕ, ◌-◌, List, length}
+use Rattle.council_game.specs.Votes.{Votes}
+use Rattle.mwc_walk.specs.Slices.{slice}
+
+-- the votes of the game, the bits and the number of the slice, the coalitions that are still to come, and the count of visits
+pub record WalkView : Type 0 where
+  pub votes : Votes
+  pub bits : ℕ
+  pub number : ℕ
+  pub to_come : List ℕ
+  pub visits : ℕ
+
+-- how many coalitions were given so far: those of the slice less those to come
+abbrev pub given : WalkView → ℕ
+given w = length (slice w.votes w.bits w.number) - length w.to_come

@@ -1,0 +1,103 @@
+//! What the walk knows of each rule.
+ghost use Rattle.std.specs.Prelude.{◌≡◌, ◌+◌, ◌^◌, ◌<◌, ◌≤◌, ℕ, length, take, drop, map, slice_index};
+ghost use Rattle.std.specs.List.{list_all, All, sum};
+ghost use Rattle.council_game.specs.Game.{votes_of};
+ghost use Rattle.council_game.specs.Votes.{rule_at};
+ghost use Rattle.mwc_walk.specs.Places.{LaneIs};
+ghost use Rattle.mwc_walk.specs.Lanes.{lane_reaches, lane_wins, lane_with, lane_without};
+
+use council_game::Game;
+
+/// What the walk knows of one rule.
+#[derive(Clone, Copy)]
+pub(crate) struct Lane {
+    pub(crate) quota: u64,
+    /// The weight of the members that are in.
+    pub(crate) sum: u64,
+    /// The weights, in rank order.
+    pub(crate) weights: [u64; 40],
+    /// What the places from each one on weigh together.
+    pub(crate) rest: [u64; 41],
+}
+
+impl Lane {
+    /// The lane of a rule, with no member in.
+    pub(crate) fn new(game: &Game, rule: usize) -> Lane
+        requires { rule < length game.now.rules }
+        ensures { LaneIs (votes_of game.now).members 0 0 (rule_at (votes_of game.now).rules rule) result }
+    {
+        let members = game.members();
+        let weights = weights_of(game, rule);
+        Lane {
+            quota: game.rule_quota(rule),
+            sum: 0,
+            weights,
+            rest: rest_of(&weights, members),
+        }
+    }
+}
+
+/// The weights of a rule, in rank order.
+fn weights_of(game: &Game, rule: usize) -> [u64; 40]
+    requires { rule < length game.now.rules }
+    ensures long { length result ≡ 40 }
+    ensures same { (q : ℕ) → q < (votes_of game.now).members →
+        slice_index result q ≡ slice_index (rule_at (votes_of game.now).rules rule).weights q }
+{
+    let members = game.members();
+    let mut weights = [0; 40];
+    for place in 0..members {
+        weights[place] = game.rule_weight(rule, game.member_at(place));
+    }
+    weights
+}
+
+/// What the places from each one on weigh together.
+fn rest_of(weights: &[u64; 40], members: usize) -> [u64; 41]
+    requires members { members ≤ 40 }
+    requires fits { sum (take members weights.now) < 2 ^ 64 }
+    ensures { (q : ℕ) → q ≤ members → slice_index result q ≡ sum (drop q (take members weights.now)) }
+{
+    let mut rest = [0; 41];
+    for place in (0..members).rev() {
+        rest[place] = weights[place] + rest[place + 1];
+    }
+    rest
+}
+
+/// Whether each quota can still be met, by all members from a place on.
+pub(crate) fn all_reach(lanes: &[Lane], place: usize) -> bool
+    requires { place ≤ 40 }
+    ensures { result ≡ list_all (lane_reaches place) lanes.now }
+{
+    lanes.iter().all(|lane| lane.quota.saturating_sub(lane.sum) <= lane.rest[place])
+}
+
+/// Whether each quota is met.
+pub(crate) fn all_win(lanes: &[Lane]) -> bool
+    ensures { result ≡ list_all lane_wins lanes.now }
+{
+    lanes.iter().all(|lane| lane.quota <= lane.sum)
+}
+
+/// Takes the member of a place in.
+pub(crate) fn take_in(lanes: &mut [Lane], place: usize)
+    requires place { place < 40 }
+    requires fits { All (λ l. l.sum + slice_index l.weights place < 2 ^ 64) lanes.old }
+    ensures { lanes.new ≡ map (lane_with place) lanes.old }
+{
+    for lane in lanes.iter_mut() {
+        lane.sum += lane.weights[place];
+    }
+}
+
+/// Leaves the member of a place out again.
+pub(crate) fn leave_out(lanes: &mut [Lane], place: usize)
+    requires place { place < 40 }
+    requires fits { All (λ l. slice_index l.weights place ≤ l.sum) lanes.old }
+    ensures { lanes.new ≡ map (lane_without place) lanes.old }
+{
+    for lane in lanes.iter_mut() {
+        lane.sum -= lane.weights[place];
+    }
+}

@@ -1,0 +1,35 @@
+//! A slice as a list.
+ghost use Rattle.std.specs.Prelude.{◌≡◌, ◌≤◌, ◌<◌, ◌^◌, length, take, IfOk};
+ghost use Rattle.council_game.specs.Game.{votes_of};
+ghost use Rattle.mwc_walk.specs.Slices.{slice};
+
+use crate::Walk;
+use council_game::{Coalition, Game, Memory};
+use std::alloc::Global;
+
+/// The first `most` coalitions of slice `j` at so many bits, in listing order, or all of them where
+/// there are no more; `Memory` where a growth was refused.
+///
+/// There are at most 10 bits, and no more than members; `j` is below 2^bits.
+pub fn list_slice(
+    alloc: Global,
+    game: &Game,
+    bits: u8,
+    j: u16,
+    most: u32,
+) -> Result<Vec<Coalition>, Memory>
+    requires few { bits ≤ 10 }
+    requires bits { bits ≤ length game.now.names }
+    requires slice { j < 2 ^ bits }
+    ensures { IfOk result (λ v. v.items ≡ take most (slice (votes_of game.now) bits j)) }
+{
+    let mut walk = Walk::new(game, bits, j);
+    let mut list = Vec::new(alloc);
+    for _ in 0..most {
+        match walk.next() {
+            Some(coalition) => list.push(coalition)?,
+            None => break,
+        }
+    }
+    Ok(list)
+}

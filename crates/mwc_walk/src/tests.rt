@@ -1,0 +1,187 @@
+//! Worked games, and games that only a pruned walk can end.
+use crate::{Walk, list_slice, slice_count};
+use council_game::{Coalition, Game, GameFault, Rule, plain_list};
+use std::alloc::{AllocError, Global};
+
+fn names(alloc: Global, members: usize) -> Result<Vec<String>, AllocError> {
+    let mut names = Vec::new(alloc);
+    for member in 0..members {
+        names.push(format!(in alloc; "M{member}")?)?;
+    }
+    Ok(names)
+}
+
+fn weights(alloc: Global, weights: &[u64]) -> Result<Vec<u64>, AllocError> {
+    let mut own = Vec::new(alloc);
+    for weight in weights {
+        own.push(*weight)?;
+    }
+    Ok(own)
+}
+
+fn game(alloc: Global, quota: u64, of: &[u64]) -> Result<Game, GameFault> {
+    let names = names(alloc, of.len())?;
+    let weights = weights(alloc, of)?;
+    if weights.len() != names.len() {
+        return Err(GameFault::Members);
+    }
+    Game::new(alloc, None, names, weights, quota)
+}
+
+/// The slices at so many bits, joined.
+fn joined(alloc: Global, game: &Game, bits: u8) -> Result<Vec<Coalition>, GameFault> {
+    let mut joined = Vec::new(alloc);
+    if 10 < bits || game.members() < bits as usize {
+        return Ok(joined);
+    }
+    for j in 0..slice_count(bits) {
+        for coalition in &list_slice(alloc, game, bits, j, u32::MAX)? {
+            joined.push(*coalition)?;
+        }
+    }
+    Ok(joined)
+}
+
+fn masks(alloc: Global, list: &[Coalition]) -> Result<Vec<u64>, AllocError> {
+    let mut masks = Vec::new(alloc);
+    for coalition in list {
+        masks.push(coalition.mask())?;
+    }
+    Ok(masks)
+}
+
+/// How many coalitions a walk gives up to its end.
+fn count(walk: &mut Walk<'_>) -> u64 {
+    let mut count: u64 = 0;
+    for _ in 0..u64::MAX {
+        if walk.next().is_none() {
+            break;
+        }
+        count = count.saturating_add(1);
+    }
+    count
+}
+
+#[test]
+fn slices_of_a_worked_game(rt: HostRuntime) -> Result<(), GameFault> {
+    let alloc = rt.alloc();
+    let game = game(alloc, 51, &[35, 20, 15, 15, 15])?;
+    assert!(rt; game.members() == 5);
+    assert_eq!(rt; slice_count(2), 4);
+    let slices = [
+        [24].as_slice(),
+        [22, 21, 19].as_slice(),
+        [15].as_slice(),
+        [].as_slice(),
+    ];
+    for j in 0..4 {
+        let list = list_slice(alloc, &game, 2, j, 9)?;
+        assert_eq!(rt;
+            masks(alloc, &list)?.as_slice(),
+            slices[j as usize],
+            "slice {j}"
+        );
+    }
+    let two = list_slice(alloc, &game, 2, 1, 2)?;
+    assert_eq!(rt; masks(alloc, &two)?.as_slice(), [22, 21].as_slice());
+    Ok(())
+}
+
+/// The visits, counted by hand: two fixed places, then five decisions in the second slice.
+#[test]
+fn a_walk_makes_few_visits(rt: HostRuntime) -> Result<(), GameFault> {
+    let alloc = rt.alloc();
+    let game = game(alloc, 51, &[35, 20, 15, 15, 15])?;
+    assert!(rt; game.members() == 5);
+    let mut first = Walk::new(&game, 2, 0);
+    assert_eq!(rt; first.next(), Some(Coalition::of_mask(24)));
+    assert_eq!(rt; first.visits(), 2);
+    let mut second = Walk::new(&game, 2, 1);
+    assert_eq!(rt; count(&mut second), 3);
+    assert_eq!(rt; second.visits(), 7);
+    let mut last = Walk::new(&game, 2, 3);
+    assert_eq!(rt; last.next(), None);
+    assert_eq!(rt; last.next(), None);
+    assert_eq!(rt; last.visits(), 2);
+    Ok(())
+}
+
+#[test]
+fn one_member_is_one_visit(rt: HostRuntime) -> Result<(), GameFault> {
+    let game = game(rt.alloc(), 1, &[1])?;
+    assert!(rt; game.members() == 1);
+    for bits in 0..2 {
+        let mut walk = Walk::new(&game, bits, 0);
+        assert_eq!(rt; walk.next(), Some(Coalition::of_mask(1)));
+        assert_eq!(rt; walk.visits(), 1);
+    }
+    Ok(())
+}
+
+#[test]
+fn forty_equal_members(rt: HostRuntime) -> Result<(), GameFault> {
+    let alloc = rt.alloc();
+    let all = game(alloc, 40, &[1; 40])?;
+    let mut walk = Walk::new(&all, 0, 0);
+    assert_eq!(rt; count(&mut walk), 1);
+    assert_eq!(rt; walk.visits(), 40);
+    let pairs = game(alloc, 2, &[1; 40])?;
+    assert_eq!(rt; list_slice(alloc, &pairs, 0, 0, u32::MAX)?.len(), 780);
+    let sixes = game(alloc, 6, &[1; 40])?;
+    assert_eq!(rt;
+        list_slice(alloc, &sixes, 0, 0, 1_000_001)?.len(),
+        1_000_001
+    );
+    assert_eq!(rt; count(&mut Walk::new(&sixes, 0, 0)), 3_838_380);
+    Ok(())
+}
+
+#[test]
+fn with_several_rules_a_winner_may_not_be_minimal(rt: HostRuntime) -> Result<(), GameFault> {
+    let alloc = rt.alloc();
+    let first = Rule {
+        quota: 3,
+        weights: weights(alloc, &[2, 2, 1])?,
+    };
+    let second = Rule {
+        quota: 1,
+        weights: weights(alloc, &[0, 0, 1])?,
+    };
+    let names = names(alloc, 3)?;
+    assert!(rt; names.len() == 3 && first.weights.len() == 3 && second.weights.len() == 3);
+    let game = Game::with_rules(alloc, None, names, vec![in alloc; first, second]?)?;
+    let mut walk = Walk::new(&game, 0, 0);
+    assert_eq!(rt; walk.next(), Some(Coalition::of_mask(5)));
+    assert_eq!(rt; walk.next(), Some(Coalition::of_mask(3)));
+    assert_eq!(rt; walk.next(), None);
+    Ok(())
+}
+
+#[test]
+fn the_slices_joined_are_the_plain_list(rt: HostRuntime) -> Result<(), GameFault> {
+    let alloc = rt.alloc();
+    let games = [
+        (51, [50, 49, 1].as_slice()),
+        (12, [4, 4, 4, 2, 2, 1].as_slice()),
+        (39, [7, 7, 7, 7, 7, 1, 1, 1, 1, 1, 1, 1, 1, 1, 1].as_slice()),
+        (51, [35, 20, 15, 15, 15].as_slice()),
+        (1, [1].as_slice()),
+        (1, [1, 0, 1].as_slice()),
+    ];
+    for (quota, weights) in games {
+        let game = game(alloc, quota, weights)?;
+        assert!(rt; game.members() <= 20);
+        let plain = plain_list(alloc, &game)?;
+        for bits in 0..11 {
+            if bits as usize <= game.members() {
+                let joined = joined(alloc, &game, bits)?;
+                assert_eq!(rt;
+                    joined.as_slice(),
+                    plain.as_slice(),
+                    "quota {quota}, {bits} bits"
+                );
+            }
+        }
+    }
+    Ok(())
+}

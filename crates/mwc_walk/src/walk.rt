@@ -1,0 +1,86 @@
+//! A walk over the minimal winning coalitions of a slice.
+ghost use Rattle.std.specs.Prelude.{◌≡◌, ◌+◌, ◌-◌, ◌*◌, ◌^◌, ◌<◌, ◌≤◌, [], ◌∷◌, drop, length, MatchOption};
+ghost use Rattle.council_game.specs.Game.{votes_of};
+ghost use Rattle.mwc_walk.specs.Slices.{slice};
+ghost use Rattle.mwc_walk.specs.WalkView.{given};
+
+use crate::cursor::Cursor;
+use council_game::{Coalition, Game};
+use std::marker::Model;
+
+/// A walk over the minimal winning coalitions of one slice, in listing order, which stops at each
+/// and goes on. It takes no memory, and a visit costs the same for any number of members.
+///
+/// Contracts see the votes of its game, the bits, the number of its slice, the coalitions that are
+/// still to come, and the count of visits.
+#[derive(Drop)]
+pub struct Walk<'a> {
+    game: &'a Game,
+    cursor: Cursor,
+}
+
+impl<'a> Model for Walk<'a> {
+    ghost use Rattle.mwc_walk.specs.WalkView.{WalkView};
+
+    ghost Value = { WalkView };
+
+    ghost use Rattle.mwc_walk.specs.WalkInside.{walk_view, IsInside};
+
+    ghost view = { walk_view };
+
+    ghost invariant = { IsInside };
+}
+
+impl<'a> Walk<'a> {
+    /// The walk over slice `j` of a game at so many bits, with the whole slice to come: the minimal
+    /// winning coalitions whose first `bits` places are those of the number 2^bits - 1 - j.
+    ///
+    /// There are at most 10 bits, and no more than members; `j` is below 2^bits. The check of each
+    /// fixed place is a visit.
+    pub fn new(game: &'a Game, bits: u8, j: u16) -> Walk<'a>
+        requires few { bits ≤ 10 }
+        requires bits { bits ≤ length game.now.names }
+        requires slice { j < 2 ^ bits }
+        ensures { result ≡ record {
+          votes = votes_of game.now;
+          bits = bits;
+          number = j;
+          to_come = slice (votes_of game.now) bits j;
+          visits = bits;
+        } }
+    {
+        Walk {
+            game,
+            cursor: Cursor::start(game, bits, j),
+        }
+    }
+
+    /// The next coalition of the slice; none at its end, and ever after.
+    pub fn next(&mut self) -> Option<Coalition>
+        ensures next { MatchOption result ((self.old.to_come ≡ []) × (self.new.to_come ≡ []))
+            (λ c. self.old.to_come ≡ c ∷ self.new.to_come) }
+        ensures votes { self.new.votes ≡ self.old.votes }
+        ensures bits { self.new.bits ≡ self.old.bits }
+        ensures number { self.new.number ≡ self.old.number }
+        ensures counted { self.old.visits ≤ self.new.visits }
+    {
+        self.cursor.next(self.game)
+    }
+
+    /// How many visits there were: the check of one of the fixed places is one, and so is the
+    /// decision between in and out at a later place; coming back to leave its member out is the same
+    /// visit. The count stays at the greatest number that it can hold.
+    ///
+    /// It is never below the number of coalitions given. With one rule it is at most `bits` plus,
+    /// for each coalition given, the number of places that are not fixed.
+    pub fn visits(&self) -> u64
+        ensures count { result ≡ self.now.visits }
+        ensures rest { self.now.to_come ≡
+            drop (given self.now) (slice self.now.votes self.now.bits self.now.number) }
+        ensures least { given self.now ≤ result }
+        ensures most { length self.now.votes.rules ≡ 1 →
+            result ≤ self.now.bits + (self.now.votes.members - self.now.bits) * given self.now }
+    {
+        self.cursor.visits
+    }
+}
