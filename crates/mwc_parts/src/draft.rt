@@ -1,5 +1,5 @@
 //! A part as its words come.
-ghost use Rattle.std.specs.Prelude.{◌≡◌, [], ◌∷◌, ◌++◌, List, false, length, IfOk, OnOk};
+ghost use Rattle.std.specs.Prelude.{◌≡◌, [], ◌∷◌, ◌++◌, List, false, length, IfOk, OnOk, true};
 ghost use Rattle.mwc_pipe.specs.declared.word.Word.{Word};
 ghost use Rattle.mwc_parts.specs.Pieces.{ones, dones};
 ghost use Rattle.mwc_parts.specs.Settled.{is_cut, Keeps};
@@ -50,6 +50,15 @@ impl Draft {
         if self.keep(word).is_err() {
             self.lost = true;
         }
+    }
+
+    /// Something is lost: nothing is kept from here on.
+    pub fn lose(&mut self)
+        ensures keeps { (words : List Word) → Keeps words self.old → Keeps words self.new }
+        ensures lost { self.new.lost ≡ true }
+        ensures cut { self.new.cut ≡ self.old.cut }
+    {
+        self.lost = true;
     }
 
     /// Keeps what the word tells of coalitions. A count that does not fit is told as want of
