@@ -1,13 +1,12 @@
 -- The end of gathering.
-use Rattle.std.specs.Prelude.{◌≡◌, ℕ, zero, suc, ◌+◌, ◌<◌, ◌≤◌, Bool, true, false, List, [], ◌∷◌, ◌++◌, Option, Some, None, cond, Result, Ok, Err, All, length, map, refl}
-use Rattle.std.specs.List.{AllZip, range_with_len}
+use Rattle.std.specs.Prelude.{◌≡◌, ℕ, suc, ◌<◌, ◌≤◌, Bool, true, false, List, [], ◌∷◌, ◌++◌, Option, Some, None, cond, Err, All, length, map, refl}
+use Rattle.std.specs.List.{AllZip}
 use Rattle.std.specs.Option.{is_some}
 use Rattle.std.proofs.Common.{get_or, append_assoc, ap, subst, arith, sym, ◌∙◌}
 use Rattle.std.proofs.lemmas.List.{length-map, map_push}
-use Rattle.std.proofs.lemmas.List.Elements.{All-head, All-tail, All-cons, All-push, All-rest}
-use Rattle.std.proofs.lemmas.Bool.{false≢true}
+use Rattle.std.proofs.lemmas.List.Elements.{All-head, All-tail, All-cons, All-push}
 use Rattle.mwc_parts.specs.Slicing.{Slicing}
-use Rattle.mwc_parts.specs.Sums.{sum_of, times}
+use Rattle.mwc_parts.specs.Sums.{sum_of}
 use Rattle.mwc_parts.specs.Wording.{total}
 use Rattle.mwc_parts.specs.Deals.{Dealt, AscendsFrom}
 use Rattle.mwc_parts.specs.Dealing.{Seat, IsWell, givens, IsFresh}
@@ -19,7 +18,7 @@ use Rattle.mwc_parts.specs.declared.met.Met.{Met}
 use Rattle.mwc_parts.specs.declared.fault.GatherFault.{GatherFault}
 use Rattle.mwc_parts.specs.declared.fault.GatherFault.TheVariants.{TooMany, Start, Memory, Ring}
 use Rattle.mwc_parts.proofs.Turns as turns
-use Rattle.mwc_parts.proofs.Firsts.{each_within, dealt_once, dealt_total, dealt_ascends, share_begins}
+use Rattle.mwc_parts.proofs.Firsts.{each_within, dealt_total, dealt_ascends, share_begins}
 use Rattle.mwc_parts.proofs.Readings.{length-joined}
 use Rattle.mwc_gather.specs.declared.desk.Desk.{Desk}
 use Rattle.mwc_gather.specs.Desks.{seat, seats, DealsTo, Finished}

@@ -1,8 +1,8 @@
 -- The words of a slice as far as they were sent.
 use Rattle.std.specs.Prelude.{◌≡◌, ℕ, ◌+◌, ◌-◌, ◌≤◌, nat_lt, Bool, true, false, if◌then◌else◌, List, [], ◌∷◌, ◌++◌, length, map, take, refl}
 use mathlib.Core.List.{IsPrefix}
-use Rattle.std.proofs.Common.{ap, arith, append_assoc, sym, ◌∙◌, rules}
-use Rattle.std.proofs.lemmas.List.{map-append, length-append, take-append-le}
+use Rattle.std.proofs.Common.{ap, arith, append_assoc, sym, ◌∙◌}
+use Rattle.std.proofs.lemmas.List.{map-append, length-append}
 use Rattle.std.proofs.Math.Seq.{take-append_seam, take-append-add}
 use Rattle.mwc_pipe.specs.declared.word.Word.{Word}
 use Rattle.mwc_pipe.specs.declared.word.Word.TheVariants.{Open, One, Done}

@@ -8,7 +8,7 @@ use Rattle.council_game.specs.Game.{GameView, votes_of}
 use Rattle.mwc_walk.specs.Slices.{slice}
 use Rattle.mwc_walk.proofs.Joined.{slices-joined}
 use Rattle.mwc_parts.specs.Slicing.{Slicing}
-use Rattle.mwc_parts.specs.Parts.{IsPart, HasPieces, piece}
+use Rattle.mwc_parts.specs.Parts.{IsPart, HasPieces}
 use Rattle.mwc_parts.specs.declared.part.Part.{Part}
 use Rattle.mwc_parts.specs.Pieces.{joined}
 use Rattle.mwc_parts.proofs.Readings.{length-joined, piece_is}

@@ -1,5 +1,4 @@
 -- What is asked of the workers.
-use Rattle.std.specs.Prelude.{ℕ}
 use Rattle.mwc_parts.specs.Slicing.{Slicing}
 use Rattle.mwc_gather.specs.Slicings.{slicing}
 use Rattle.mwc_gather.specs.declared.order.Order.{Order}

@@ -1,4 +1,4 @@
-use Rattle.std.proofs.Common.{◌≡◌, ◌<◌, length, ℕ, arith}
+use Rattle.std.proofs.Common.{◌≡◌, ◌<◌, length, arith}
 use Rattle.mwc_gather.proofs.Deals.{first_of_place, deal_starts, firsts_end}
 use Rattle.mwc_gather.proofs.dealing.deal_first.Goals as goal
 

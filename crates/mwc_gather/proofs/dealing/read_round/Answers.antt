@@ -1,4 +1,4 @@
-use Rattle.std.proofs.Common.{◌≡◌, ◌<◌, length, arith}
+use Rattle.std.proofs.Common.{◌<◌, length, arith}
 use Rattle.mwc_gather.proofs.Deals.{turn_of}
 use Rattle.mwc_gather.proofs.dealing.read_round.Goals as goal
 

@@ -1,4 +1,4 @@
-use Rattle.std.proofs.Common.{◌≡◌, List, subst, sym, ap, ◌∙◌, rules, arith}
+use Rattle.std.proofs.Common.{List, subst, sym, ap, ◌∙◌, rules}
 use Rattle.std.specs.Prelude.{All}
 use Rattle.std.proofs.lemmas.List.Elements.{All-push}
 use Rattle.mwc_parts.specs.declared.met.Met.{Met}

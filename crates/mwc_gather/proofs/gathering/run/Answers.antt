@@ -1,7 +1,8 @@
-use Rattle.std.proofs.Common.{◌≡◌, ℕ, ◌<◌, ◌≤◌, ◌++◌, List, length, take, drop, subst, ap, sym, ◌∙◌, arith, refl}
+use Rattle.std.proofs.Common.{rules, ◌≡◌, ℕ, ◌<◌, ◌≤◌, ◌++◌, List, length, take, drop, subst, ap, sym, ◌∙◌, arith}
 use Rattle.std.specs.Prelude.{All}
 use Rattle.std.specs.Option.{is_some}
 use Rattle.std.proofs.lemmas.List.{take_at}
+use Rattle.std.proofs.Math.Pow.{pow_mono}
 use Rattle.mwc_parts.specs.Slicing.{Slicing}
 use Rattle.mwc_parts.specs.Sums.{sum_of}
 use Rattle.mwc_parts.specs.Wording.{total}
@@ -11,6 +12,7 @@ use Rattle.mwc_parts.proofs.Firsts.{dealt_once, dealt_no_other}
 use Rattle.mwc_gather.specs.declared.desk.Desk.{Desk}
 use Rattle.council_game.specs.Votes.{minimal_coalitions}
 use Rattle.council_game.specs.Game.{GameView, votes_of}
+use Rattle.mwc_parts.specs.Fault.{OnTooMany}
 use Rattle.mwc_gather.specs.Slicings.{slicing}
 use Rattle.mwc_gather.specs.Orders.{slicing_of}
 use Rattle.mwc_gather.specs.Gathering.{all_total}
@@ -121,3 +123,21 @@ returns-clause-gathers g c =
       few = omega arith;
       whole = rw c.slice_count-slices.ensures (whole c.args.guarded.now c.args.bits c.requires.bits.0 c.requires.bits.1);
     }
+
+pub new-marks-requires : goal.new-marks-requires
+new-marks-requires g c = rw c.slice_count-slices.ensures (pow_mono {i = 0} {j = c.args.bits} (omega arith), pow_mono {i = c.args.bits} {j = 10} c.requires.bits.0)
+
+pub read_all-stopped-requires-clause-all_of : goal.read_all-stopped-requires-clause-all_of
+read_all-stopped-requires-clause-all_of g c =
+    let order = c.new-order.ensures in
+    let same : slicing_of c.new-order.result ≡ slicing c.args.guarded.now c.args.bits = ap (λ (x : GameView). slicing x c.new-order.result.bits) order.game ∙ ap (λ (b : ℕ). slicing c.args.guarded.now b) order.bits in
+    rw (c.as_mut_slice.ensures.value, same, order.most) c.open_all-met.ensures.order
+
+pub returns-in_err-parts-clause-many : goal.returns-in_err-parts-clause-many
+returns-in_err-parts-clause-many g c =
+    let order = c.new-order.ensures in
+    let G : Slicing = slicing_of c.new-order.result in
+    let same : G ≡ slicing c.args.guarded.now c.args.bits = ap (λ (x : GameView). slicing x c.new-order.result.bits) order.game ∙ ap (λ (b : ℕ). slicing c.args.guarded.now b) order.bits in
+    let all_of : length (minimal_coalitions (votes_of c.args.guarded.now)) ≡ all_total (slicing c.args.guarded.now c.args.bits) = all_total_is c.args.guarded.now c.args.bits c.requires.bits.0 c.requires.bits.1 in
+    subst (λ (n : ℕ). OnTooMany c.from_residual.result (c.args.most < n)) (ap all_total same ∙ sym all_of)
+    (subst (λ (m : ℕ). OnTooMany c.from_residual.result (m < all_total G)) order.most (search rules))

@@ -1,4 +1,4 @@
-use Rattle.std.proofs.Common.{◌≡◌, List, subst, ◌∙◌, refl}
+use Rattle.std.proofs.Common.{List, subst, ◌∙◌, refl}
 use Rattle.mwc_pipe.specs.declared.word.Word.{Word}
 use Rattle.mwc_parts.specs.Settled.{Keeps}
 use Rattle.mwc_gather.specs.Orders.{slicing_of}
