@@ -1,7 +1,7 @@
 //! Counts of a list of coalitions, by member and by size.
 ghost use Rattle.council_game.specs.Votes.{has};
 ghost use Rattle.power_index.specs.Counting.{AreCoalitions};
-ghost use Rattle.power_index.specs.Tables.{AreCounts, no_tally, table_memberships, table_of_member, table_of_member_size, table_of_size, table_total, with_one};
+ghost use Rattle.power_index.specs.Tables.{AreCounts, AreSound, no_tally, table_memberships, table_of_member, table_of_member_size, table_of_size, table_total, with_one};
 ghost use Rattle.std.specs.Prelude.{◌≡◌, ℕ, ◌<◌, ◌≤◌, ◌^◌, cond, length, slice_index, slice_index_or};
 
 use crate::tally::Tally;
@@ -80,11 +80,11 @@ impl Counts {
         }
     }
 
-    /// The number of members of the game, 1 to 40.
+    /// The number of members of the game, 1 to 40, and what all counts keep: there are 1 to
+    /// 4,000,000 coalitions, and the fractions of each member add up to at most 1.
     pub fn members(&self) -> usize
         ensures members { result ≡ self.now.members }
-        ensures some { 1 ≤ result }
-        ensures few { result ≤ 40 }
+        ensures sound { AreSound self.now }
     {
         self.members
     }
