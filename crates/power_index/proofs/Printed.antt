@@ -1,12 +1,11 @@
 -- The fractions that the code makes, as the indices.
-use Rattle.std.proofs.Common.{◌≡◌, ◌∙◌, ℕ, ◌*◌, ◌/◌, ◌<◌, ◌≤◌, List, length, get_or, sym, ap, arith}
-use Rattle.std.specs.List.{filter, sum_by, range_with_len, AllByRecursion}
+use Rattle.std.proofs.Common.{◌≡◌, ◌∙◌, ℕ, ◌*◌, ◌<◌, ◌≤◌, List, length, get_or, sym, ap, arith}
+use Rattle.std.specs.List.{sum_by, range_with_len}
 use Rattle.std.proofs.Math.Nat.{le_of_mul-le-mul_right, mul-le-mul, mul-pos}
-use Rattle.std.proofs.lemmas.List.{length-map}
 use Rattle.std.proofs.lemmas.List.Sums.{get_or-le-sum_by}
 use Rattle.std.proofs.lemmas.List.FromFn.{length-range_with_len, get_or-range_with_len}
 use Rattle.council_game.specs.Game.{GameView}
-use Rattle.power_index.specs.Counting.{members, contains, size_of, count_of_member}
+use Rattle.power_index.specs.Counting.{members, count_of_member}
 use Rattle.power_index.specs.Tables.{Tables, denominator, weighed, AreCounts, table_total, table_of_member, table_of_member_size, table_memberships}
 use Rattle.power_index.specs.Fractions.{IsLowestOf}
 use Rattle.power_index.specs.Indices.{deegan_packel, public_good, sizes_of_member}

@@ -1,5 +1,5 @@
 -- Tables that hold the counts of a list are sound.
-use Rattle.std.proofs.Common.{◌≡◌, ◌∙◌, ◌==◌, ◌&&◌, ℕ, ◌<◌, ◌≤◌, List, [], ◌∷◌, length, get_or, take, Bool, true, ap, refl, arith, subst, suc}
+use Rattle.std.proofs.Common.{◌≡◌, ◌∙◌, ◌==◌, ◌&&◌, ℕ, ◌<◌, ◌≤◌, List, [], ◌∷◌, length, get_or, take, true, ap, refl, arith, subst, suc}
 use Rattle.std.specs.List.{filter, sum_by, range_with_len}
 use Rattle.std.proofs.lemmas.List.{take_all}
 use Rattle.council_game.specs.Game.{GameView, IsGame}
