@@ -1,11 +1,10 @@
 use Rattle.std.proofs.Common.{◌≡◌, ◌∙◌, ◌-◌, ◌*◌, ◌+◌, ◌/◌, ◌≤◌, sym, ap, arith, subst, ℕ}
-use Rattle.power_index.specs.Tables.{table_of_member_size, table_total}
+use Rattle.power_index.specs.Tables.{denominator, weighed, table_of_member_size, table_total}
 use Rattle.power_index.specs.Fractions.{IsLowestOf}
 use Rattle.power_index.proofs.Printed.{deegan-packel-is, deegan-packel-le, deegan-packel-bottom}
 use Rattle.std.proofs.Math.Nat.{div-le_self, mul-le-mul}
 use Rattle.power_index.proofs.Units.{weighed-more}
 use Rattle.power_index.proofs.LowestTerms.{lowest_terms-only}
-use Rattle.power_index.specs.Tables.{weighed, denominator}
 use Rattle.power_index.proofs.indices.deegan_packel.Goals as goal
 
 pub loop-size-preserved : goal.loop-size-preserved
