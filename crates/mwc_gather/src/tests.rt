@@ -3,13 +3,12 @@ use super::*;
 use council_game::{Coalition, Game, GameFault};
 use mwc_pipe::{Batch, PipeIn, Taken, Word, ring};
 use std::alloc::{AllocError, Global};
-use std::hint;
 use std::process::Abort;
 use std::sync::Wait;
 use std::sync::atomic::{AtomicU64, Ordering};
 use std::test::Fail;
-use std::thread;
 use std::thread::Threads;
+use std::{hint, thread};
 
 /// How often a worker looks for another before it gives up.
 const TURNS: u32 = 100_000_000;
@@ -53,14 +52,7 @@ fn gathered<R: Threads + Wait + Abort + Sync, G: Gate + Sync>(
     assert!(rt; bits <= 10 && bits as usize <= game.members());
     assert!(rt; 1 <= workers && workers <= 16);
     assert!(rt; 1 <= most && most <= 4_000_000);
-    gather(
-        rt,
-        alloc,
-        &Guarded::new(game, gate),
-        bits,
-        workers,
-        most,
-    )
+    gather(rt, alloc, &Guarded::new(game, gate), bits, workers, most)
 }
 
 /// The coalitions that are gathered, in order.
@@ -91,9 +83,15 @@ fn parts_of_one_worker(rt: HostRuntime) -> Result<(), Fail> {
     let part = &gathered.parts[0];
     assert_eq!(rt; part.slices.as_slice(), [0, 1, 2, 3].as_slice());
     assert_eq!(rt; part.ends.as_slice(), [1, 4, 5, 5].as_slice());
-    assert_eq!(rt; masks(rt.alloc(), &part.got)?.as_slice(), [24, 22, 21, 19, 15].as_slice());
+    assert_eq!(rt;
+        masks(rt.alloc(), &part.got)?.as_slice(),
+        [24, 22, 21, 19, 15].as_slice()
+    );
     let list = gathered.in_order(rt.alloc())?;
-    assert_eq!(rt; masks(rt.alloc(), &list)?.as_slice(), [24, 22, 21, 19, 15].as_slice());
+    assert_eq!(rt;
+        masks(rt.alloc(), &list)?.as_slice(),
+        [24, 22, 21, 19, 15].as_slice()
+    );
     Ok(())
 }
 
@@ -103,7 +101,11 @@ fn gathers_the_same_list(rt: HostRuntime) -> Result<(), Fail> {
     for workers in 1..17 {
         for bits in 0..6 {
             let list = listed(&rt, rt.alloc(), &game, &NoGate, bits, workers, 5)?;
-            assert_eq!(rt; list.as_slice(), [24, 22, 21, 19, 15].as_slice(), "{workers} {bits}");
+            assert_eq!(rt;
+                list.as_slice(),
+                [24, 22, 21, 19, 15].as_slice(),
+                "{workers} {bits}"
+            );
         }
     }
     Ok(())
@@ -202,7 +204,11 @@ fn each_slice_passes_once(rt: HostRuntime) -> Result<(), Fail> {
     for workers in 1..17 {
         let passes = Passes::none();
         let list = listed(&rt, rt.alloc(), &game, &passes, 2, workers, 5)?;
-        assert_eq!(rt; list.as_slice(), [24, 22, 21, 19, 15].as_slice(), "{workers}");
+        assert_eq!(rt;
+            list.as_slice(),
+            [24, 22, 21, 19, 15].as_slice(),
+            "{workers}"
+        );
         assert_eq!(rt; passes.counts(), [1, 1, 1, 1], "{workers}");
     }
     Ok(())
@@ -312,7 +318,10 @@ fn held_worker_gets_no_more(rt: HostRuntime) -> Result<(), Fail> {
             assert!(rt; second.starts_with(&[1]), "held {held}");
         }
         let list = gathered.in_order(rt.alloc())?;
-        assert_eq!(rt; masks(rt.alloc(), &list)?.as_slice(), [24, 22, 21, 19, 15].as_slice());
+        assert_eq!(rt;
+            masks(rt.alloc(), &list)?.as_slice(),
+            [24, 22, 21, 19, 15].as_slice()
+        );
     }
     Ok(())
 }
@@ -336,7 +345,10 @@ fn sends_a_slice(rt: HostRuntime) -> Result<(), Fail> {
         assert_eq!(rt; pipe.take(), Taken::Item(Word::Open(1)));
         for mask in [22, 21, 19] {
             assert!(rt; mask < 32);
-            assert_eq!(rt; pipe.take(), Taken::Item(Word::One(Coalition::of_mask(mask))));
+            assert_eq!(rt;
+                pipe.take(),
+                Taken::Item(Word::One(Coalition::of_mask(mask)))
+            );
         }
         if left > 3 {
             assert_eq!(rt; pipe.take(), Taken::Item(Word::Done(1)));
