@@ -60,16 +60,16 @@ first_at {g} {most} {early} {stopped} {stops} {marks} {after} desks k d t l e h 
 
 pub deal_starts : {g : Slicing} {most : ℕ} (early : Bool) (marks : List (Option ℕ)) (desks : List Desk) → AllOf g most desks → All IsFresh (seats desks) → marks ≡ replicate g.slices None → DealsFirst g most early marks early 0 desks
 deal_starts {g} {most} early marks desks a f e = record {
-    all_of = a;
-    firsts = subst (λ (m : List (Option ℕ)). FirstDeals g.slices 0 early m early (seats desks)) (sym e) (firsts.begin g.slices early (seats desks) f);
-    to_come = λ k d low high. fresh_at desks f k d high;
-  }
+  all_of = a;
+  firsts = subst (λ (m : List (Option ℕ)). FirstDeals g.slices 0 early m early (seats desks)) (sym e) (firsts.begin g.slices early (seats desks) f);
+  to_come = λ k d low high. fresh_at desks f k d high;
+}
 
 pub deal_goes_on : {g : Slicing} {most : ℕ} {early stopped : Bool} {marks : List (Option ℕ)} (k : ℕ) (desks : List Desk) → k ≡ length desks → DealsFirst g most early marks stopped k desks → DealsTo g most early marks stopped desks
 deal_goes_on {g} {most} {early} {stopped} {marks} k desks e h = record {
-    all_of = h.all_of;
-    dealing = subst (λ (k : ℕ). Dealing g.slices k early marks stopped (seats desks)) e h.firsts.deal;
-  }
+  all_of = h.all_of;
+  dealing = subst (λ (k : ℕ). Dealing g.slices k early marks stopped (seats desks)) e h.firsts.deal;
+}
 
 pub first_slices : {g : Slicing} {most : ℕ} {early stopped : Bool} {marks : List (Option ℕ)} {k : ℕ} {desks : List Desk} (d : Desk) (i : ℕ) → i < length desks → d ≡ get_or desks i d → DealsFirst g most early marks stopped k desks → length marks ≡ 2 ^ d.worker.promise.order.bits
 first_slices {g} {most} {early} {stopped} {marks} {k} {desks} d i l e h =

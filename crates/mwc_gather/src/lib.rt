@@ -11,6 +11,8 @@ mod order;
 mod promise;
 mod send;
 mod sent;
+#[cfg(test)]
+mod tests;
 mod worker;
 
 pub use gathering::gather;

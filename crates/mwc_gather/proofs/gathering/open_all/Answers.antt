@@ -17,8 +17,7 @@ returns-in-Err-clause-many g c =
 pub loop-worker-preserved : goal.loop-worker-preserved
 loop-worker-preserved g c =
     let game : Slicing = slicing c.args.guarded.now c.args.bits in
-    let i = c.loop-worker.invariant in
-    (
+    let i = c.loop-worker.invariant in (
       search rules,
       search rules,
       subst (λ (w : List Desk). AllOf game c.args.most w) (sym c.push_reserved.ensures.items) (All-push (IsOf game c.args.most) c.loop-worker.desks.items c.in-Ok.desk i.2 c.in-Ok.ensures.order),
