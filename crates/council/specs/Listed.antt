@@ -3,8 +3,9 @@ use Rattle.std.specs.Prelude.{◌≡◌, ◌<◌, ◌≤◌, ℕ, List, length}
 use Rattle.council_game.specs.Votes.{minimal_coalitions}
 use Rattle.council_game.specs.Game.{GameView, votes_of}
 use Rattle.power_index.specs.Counting.{AreCoalitions}
+use Rattle.mwc_parts.specs.declared.fault.GatherFault.TheVariants as gather
 use Rattle.council.specs.declared.fault.Cause.{Cause}
-use Rattle.council.specs.declared.fault.Cause.TheVariants.{Game, TooMany, Write, Memory}
+use Rattle.council.specs.declared.fault.Cause.TheVariants.{Game, Gather, Write, Memory}
 use Rattle.council.specs.Run.{count_of}
 
 -- the list is all of them: there is one, there are at most so many, and they are coalitions of the game, none of them empty
@@ -14,9 +15,10 @@ pub record IsListed (g : GameView) (most : ℕ) (list : List ℕ) : Type 0 where
   pub few : length list ≤ most
   pub coalitions : AreCoalitions g list
 
--- there are more, or memory ran out
+-- there are more, or the gatherer or a growth was refused
 abbrev pub IsUnlisted : GameView → ℕ → Cause → Type 0
 IsUnlisted g most (Game fault) = ⊥
-IsUnlisted g most TooMany = most < count_of g
+IsUnlisted g most (Gather gather.TooMany) = most < count_of g
+IsUnlisted g most (Gather fault) = Unit {0}
 IsUnlisted g most Write = ⊥
 IsUnlisted g most Memory = Unit {0}

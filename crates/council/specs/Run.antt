@@ -7,6 +7,7 @@ use Rattle.council_game.specs.Game.{GameView, votes_of}
 use Rattle.council_file.specs.File.{game_of}
 use Rattle.council_file.specs.Reads.{Gave}
 use Rattle.council_report.specs.Report.{report}
+use Rattle.mwc_parts.specs.declared.fault.GatherFault.TheVariants as gather
 use Rattle.council.specs.declared.options.Options.{Options}
 use Rattle.council.specs.declared.fault.Cause.{Cause}
 use Rattle.council.specs.declared.fault.Cause.TheVariants as cause
@@ -42,7 +43,8 @@ Stops options at (cause.Game game.Read) written = WritesNothing at written
 Stops options at (cause.Game game.Memory) written = WritesNothing at written
 Stops options at (cause.Game fault) written =
     WritesNothing at written × ((bytes : List ℕ) × Gave at.unread at.left bytes × (game_of bytes ≡ Err fault))
-Stops options at cause.TooMany written = WritesNothing at written × ((g : GameView) × ReadsGame at g × (options.most < count_of g))
+Stops options at (cause.Gather gather.TooMany) written = WritesNothing at written × ((g : GameView) × ReadsGame at g × (options.most < count_of g))
+Stops options at (cause.Gather fault) written = WritesNothing at written
 Stops options at cause.Memory written = WritesNothing at written
 Stops options at cause.Write written =
     (g : GameView) × ReadsGame at g × (count_of g ≤ options.most)

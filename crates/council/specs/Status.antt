@@ -1,6 +1,7 @@
 -- The status that the program ends with.
 use Rattle.std.specs.Prelude.{ℕ}
 use Rattle.council_game.specs.declared.fault.GameFault.TheVariants as game
+use Rattle.mwc_parts.specs.declared.fault.GatherFault.TheVariants as gather
 use Rattle.council.specs.declared.fault.Cause.{Cause}
 use Rattle.council.specs.declared.fault.Cause.TheVariants as cause
 
@@ -8,6 +9,14 @@ abbrev pub status_of : Cause → ℕ
 status_of (cause.Game game.Read) = 1
 status_of (cause.Game game.Memory) = 5
 status_of (cause.Game fault) = 3
-status_of cause.TooMany = 4
+status_of (cause.Gather gather.TooMany) = 4
+status_of (cause.Gather fault) = 5
 status_of cause.Write = 5
 status_of cause.Memory = 5
+
+-- the number of a cause
+abbrev pub number_of : Cause → ℕ
+number_of (cause.Game fault) = 1
+number_of (cause.Gather fault) = 2
+number_of cause.Write = 3
+number_of cause.Memory = 4

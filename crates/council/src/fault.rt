@@ -1,8 +1,9 @@
 //! Why a run stopped.
 ghost use Rattle.std.specs.Prelude.{◌≡◌};
-ghost use Rattle.council.specs.Status.{status_of};
+ghost use Rattle.council.specs.Status.{number_of, status_of};
 
 use council_game::GameFault;
+use mwc_gather::GatherFault;
 use thiserror::Error;
 
 /// Why a run stopped.
@@ -11,9 +12,9 @@ pub enum Cause {
     /// The file has no game, or could not be read.
     #[error("{0}")]
     Game(GameFault),
-    /// The game has more minimal winning coalitions than a run keeps.
-    #[error("too many minimal winning coalitions")]
-    TooMany,
+    /// The minimal winning coalitions could not be gathered, or are more than a run keeps.
+    #[error("{0}")]
+    Gather(GatherFault),
     /// The writer failed.
     #[error("output failed")]
     Write,
@@ -29,6 +30,20 @@ pub struct RunFault {
     pub written: u64,
 }
 
+impl Cause {
+    /// The number of the cause: 1 to 4, in the order in which they are met but for the last two.
+    pub fn number(self) -> u8
+        ensures { result ≡ number_of self }
+    {
+        match self {
+            Cause::Game(_) => 1,
+            Cause::Gather(_) => 2,
+            Cause::Write => 3,
+            Cause::Memory => 4,
+        }
+    }
+}
+
 impl RunFault {
     /// A fault before anything was written.
     pub(crate) fn early(cause: Cause) -> RunFault
@@ -39,7 +54,8 @@ impl RunFault {
 }
 
 /// The status that the program ends with: 1 where the game file could not be read, 3 for any other
-/// fault of the game, 4 for too many coalitions, 5 for want of memory or a writer that failed.
+/// fault of the game, 4 for too many coalitions, 5 for want of memory, for a thread
+/// or a ring that failed, and for a writer that failed.
 pub fn status(fault: &RunFault) -> u8
     ensures { result ≡ status_of fault.now.cause }
 {
@@ -47,7 +63,7 @@ pub fn status(fault: &RunFault) -> u8
         Cause::Game(GameFault::Read) => 1,
         Cause::Game(GameFault::Memory) => 5,
         Cause::Game(_) => 3,
-        Cause::TooMany => 4,
-        Cause::Write | Cause::Memory => 5,
+        Cause::Gather(GatherFault::TooMany) => 4,
+        Cause::Gather(_) | Cause::Write | Cause::Memory => 5,
     }
 }

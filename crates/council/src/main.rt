@@ -9,9 +9,13 @@ mod words;
 
 use clap::error::ErrorKind;
 pub use fault::{Cause, RunFault, status};
+use mwc_gather::NoGate;
 pub use options::Options;
 pub use run::run;
 use std::process::ExitCode;
+use std::rt::Files;
+use std::sync::Wait;
+use std::thread::Threads;
 use std::{fs, io};
 use words::{Wanted, WordsFault, read_words};
 
@@ -28,18 +32,28 @@ fn out_of_memory(rt: &impl Eprint) -> ExitCode {
 }
 
 /// Runs on the file, or on standard input where none is named.
-fn run_on(rt: &HostRuntime, wanted: &Wanted<'_>) -> ExitCode {
+fn run_on<R: AllocGlobal + Files + Input + Print + Eprint + Threads + Wait + Sync>(
+    rt: &R,
+    wanted: &Wanted<'_>,
+) -> ExitCode {
     let alloc = rt.alloc();
     let mut writer = io::writer(rt);
     let answer = match wanted.file {
         Some(path) => match fs::open(rt, path) {
-            Ok(mut file) => run(alloc, &mut file, &wanted.options, &mut writer),
+            Ok(mut file) => run(rt, alloc, &mut file, &wanted.options, &NoGate, &mut writer),
             Err(_) => {
                 let _ = eprintln!(rt; "council: the game file cannot be opened");
                 return ExitCode::from(1);
             }
         },
-        None => run(alloc, &mut rt.reader(), &wanted.options, &mut writer),
+        None => run(
+            rt,
+            alloc,
+            &mut rt.reader(),
+            &wanted.options,
+            &NoGate,
+            &mut writer,
+        ),
     };
     match answer {
         Ok(_) => ExitCode::SUCCESS,

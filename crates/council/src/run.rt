@@ -8,35 +8,47 @@ use crate::options::Options;
 use council_file::read_game;
 use council_game::{Coalition, Game};
 use council_report::{ReportFault, write_report};
-use mwc_walk::list_slice;
+use mwc_gather::{Gate, Guarded, gather};
 use std::alloc::Global;
 use std::io::{Read, Write};
+use std::sync::Wait;
+use std::thread::Threads;
 
 /// The minimal winning coalitions of a game in listing order, where there are at most so many.
-fn list(alloc: Global, game: &Game, most: u32) -> Result<Vec<Coalition>, Cause>
-    requires { most ≤ 4000000 }
-    ensures ok { IfOk result (λ v. IsListed game.now most v.items) }
-    ensures err { IfErr result (IsUnlisted game.now most) }
+fn list<T: Threads + Wait + Sync, G: Gate + Sync>(
+    rt: &T,
+    alloc: Global,
+    game: &Game,
+    options: &Options,
+    gate: &G,
+) -> Result<Vec<Coalition>, Cause>
+    ensures ok { IfOk result (λ v. IsListed game.now options.now.most v.items) }
+    ensures err { IfErr result (IsUnlisted game.now options.now.most) }
 {
-    let members = game.members();
-    prove!(0 < members);
-    match list_slice(alloc, game, 0, 0, most + 1) {
-        Ok(list) if list.len() <= most as usize => Ok(list),
-        Ok(_) => Err(Cause::TooMany),
-        Err(_) => Err(Cause::Memory),
+    let bits = options.bits.min(game.members() as u8);
+    let guarded = Guarded::new(game, gate);
+    match gather(rt, alloc, &guarded, bits, options.workers, options.most) {
+        Ok(gathered) => match gathered.in_order(alloc) {
+            Ok(list) => Ok(list),
+            Err(_) => Err(Cause::Memory),
+        },
+        Err(fault) => Err(Cause::Gather(fault)),
     }
 }
 
-/// Reads a game, lists its minimal winning coalitions, and writes its report and nothing else. The
-/// answer is the number of bytes written.
+/// Reads a game, lists its minimal winning coalitions by worker threads, and writes its report and
+/// nothing else. The answer is the number of bytes written. It may wait for its workers.
 ///
 /// All that takes memory is done before the first byte is written, so that only after `Write` the writer
 /// took some bytes: the first ones of the report. A write that takes a part is followed by one for
-/// the rest; one that fails, for whatever cause, or takes nothing, and the one flush, are `Write`.
-pub fn run<R: Read, W: Write>(
+/// the rest; one that fails, for whatever cause, or takes nothing is `Write`, and so is a flush that
+/// fails, of which there is one, at the end.
+pub fn run<T: Threads + Wait + Sync, R: Read, W: Write, G: Gate + Sync>(
+    rt: &T,
     alloc: Global,
     reader: &mut R,
     options: &Options,
+    gate: &G,
     writer: &mut W,
 ) -> Result<u64, RunFault>
     ensures ok { IfOk result (λ len. Reports options.now (record { unread = R.remaining reader.old; left = R.remaining reader.new; before = W.contents writer.old; after = W.contents writer.new }) len) }
@@ -46,7 +58,7 @@ pub fn run<R: Read, W: Write>(
         Ok(game) => game,
         Err(fault) => return Err(RunFault::early(Cause::Game(fault))),
     };
-    let list = match list(alloc, &game, options.most) {
+    let list = match list(rt, alloc, &game, options, gate) {
         Ok(list) => list,
         Err(cause) => return Err(RunFault::early(cause)),
     };

@@ -10,6 +10,7 @@ use crate::taken::Taken;
 use std::alloc::Global;
 use std::collections::VecDeque;
 use std::marker::Model;
+use std::mem;
 
 /// A bounded queue that can be closed, in one thread. Contracts see its capacity, the items
 /// inside, oldest first, and whether it is closed.
@@ -87,9 +88,7 @@ impl<T> Pipe<T> {
         ensures closed { self.new ≡ record self.old { closed = true } }
         ensures step { IsStep self.old Close (reply_of_close result) self.new }
     {
-        let first = !self.closed;
-        self.closed = true;
-        first
+        !mem::replace(&mut self.closed, true)
     }
 
     /// How many items are inside.

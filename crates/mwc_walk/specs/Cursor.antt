@@ -20,11 +20,11 @@ left v c = left_below v c.bits c.number (bound c)
 abbrev pub steps_left : Cursor → ℕ
 steps_left c = 128 * bound c + cond c.fresh (c.members - c.place) (64 + c.place)
 
--- whether the way to a fresh prefix had a visit of its own: its last place is in, or is the last fixed one
+-- the visits that a fresh prefix came by: one where its last member was taken in, those of the fixed places at their end
 abbrev pub new_visit : Cursor → ℕ
 new_visit c = cond c.fresh (cond (ltb c.bits c.place) (c.prefix % 2) c.bits) 0
 
--- the visits on the way down to a fresh prefix, which leads to a coalition where it can still meet each quota
+-- the visits on the way down to a fresh prefix that can still meet each quota: a coalition is still to be given for them
 abbrev pub open_visits : Votes → Cursor → ℕ
 open_visits v c = cond c.fresh (cond (reaches v.rules c.place c.prefix) (c.place - c.bits) 0) 0
 

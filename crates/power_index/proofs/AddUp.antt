@@ -11,7 +11,8 @@ use Rattle.power_index.specs.Fractions.{unit_sum, pair_sum, AddUpToOne}
 use Rattle.power_index.specs.Indices.{deegan_packel, public_good, sizes_of_member}
 use Rattle.power_index.proofs.Sums.{sum-map, sum-cong, swap}
 use Rattle.power_index.proofs.Members.{few-members, members-of, memberships, sizes-some, sizes-within, size-pos, size-le}
-use Rattle.power_index.proofs.Units.{over_common, each_divides, divides, bottom_pos, denominator}
+use Rattle.power_index.proofs.Units.{over_common, each_divides, divides, bottom_pos}
+use Rattle.power_index.specs.Tables.{denominator}
 
 -- pairs that are w i over one bottom k add up to the sum of w over k
 over_one : (k : ℕ) (q : ℕ → ℕ × ℕ) (w : ℕ → ℕ) → ((i : ℕ) → (q i).0 * k ≡ w i * (q i).1) → (is : List ℕ)

@@ -2,6 +2,7 @@ pub mod AddUp
 pub mod Digits
 pub mod LowestTerms
 pub mod Members
+pub mod Minimal
 pub mod Printed
 pub mod Quotients
 pub mod Sound
@@ -10,3 +11,4 @@ pub mod Tallies
 pub mod Units
 pub mod Unique
 pub mod Walks
+pub mod Weights

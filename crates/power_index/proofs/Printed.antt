@@ -1,30 +1,17 @@
 -- The fractions that the code makes, as the indices.
-use Rattle.std.proofs.Common.{◌≡◌, ◌∙◌, ℕ, ◌*◌, ◌/◌, ◌<◌, ◌≤◌, List, length, get_or, sym, ap, arith}
-use Rattle.std.specs.List.{filter, sum_by, range_with_len, AllByRecursion}
+use Rattle.std.proofs.Common.{◌≡◌, ◌∙◌, ℕ, ◌*◌, ◌<◌, ◌≤◌, List, length, get_or, sym, ap, arith}
+use Rattle.std.specs.List.{sum_by, range_with_len}
 use Rattle.std.proofs.Math.Nat.{le_of_mul-le-mul_right, mul-le-mul, mul-pos}
-use Rattle.std.proofs.lemmas.List.{length-map}
 use Rattle.std.proofs.lemmas.List.Sums.{get_or-le-sum_by}
 use Rattle.std.proofs.lemmas.List.FromFn.{length-range_with_len, get_or-range_with_len}
 use Rattle.council_game.specs.Game.{GameView}
-use Rattle.power_index.specs.Counting.{members, contains, size_of, count_of_member}
-use Rattle.power_index.specs.Tables.{Tables, AreCounts, table_total, table_of_member, table_of_member_size, table_memberships}
+use Rattle.power_index.specs.Counting.{members, count_of_member}
+use Rattle.power_index.specs.Tables.{Tables, denominator, weighed, AreCounts, table_total, table_of_member, table_of_member_size, table_memberships}
 use Rattle.power_index.specs.Fractions.{IsLowestOf}
 use Rattle.power_index.specs.Indices.{deegan_packel, public_good, sizes_of_member}
 use Rattle.power_index.proofs.Sums.{sum-range}
-use Rattle.power_index.proofs.Members.{sizes-within, count-sizes}
-use Rattle.power_index.proofs.Sound.{length-filter-le}
-use Rattle.power_index.proofs.Units.{denominator, weighed, weighed_sum, mean, sum_few, bottom_pos}
-
-within : (g : GameView) (list : List ℕ) (t : Tables) (i : ℕ) → i < t.members → AreCounts g list t → AllByRecursion (λ s. (0 < s) × (s ≤ length g.names)) (sizes_of_member g list i)
-within g list t i lt h = sizes-within g list i (omega (arith, h.members))
-
-weight : (g : GameView) (list : List ℕ) (t : Tables) (i : ℕ) → i < t.members → AreCounts g list t
-    → weighed denominator (table_of_member_size t i) t.members ≡ sum_by (λ s. denominator / s) (sizes_of_member g list i)
-weight g list t i lt h =
-    ap (weighed denominator (table_of_member_size t i)) h.members
-    ∙ weighed_sum (table_of_member_size t i) (length g.names) (sizes_of_member g list i)
-    (λ s le. h.of_member_size i s lt (omega (arith, h.members)) ∙ count-sizes (contains g i) (size_of g) s list)
-    (within g list t i lt h)
+use Rattle.power_index.proofs.Units.{mean, bottom_pos}
+use Rattle.power_index.proofs.Weights.{within, weight}
 
 pub deegan-packel-is : (g : GameView) (list : List ℕ) (t : Tables) (i top bottom : ℕ) → i < t.members → t.members ≤ 40 → AreCounts g list t
     → IsLowestOf (weighed denominator (table_of_member_size t i) t.members, denominator * table_total t) (top, bottom) → IsLowestOf (deegan_packel g list i) (top, bottom)
@@ -46,15 +33,10 @@ at-most-one sum whole top bottom pos le same =
     let both : top * whole ≤ bottom * whole = omega (arith, up, same) in
     le_of_mul-le-mul_right both pos
 
-pub deegan-packel-le : (g : GameView) (list : List ℕ) (t : Tables) (i top bottom : ℕ) → i < t.members → 1 ≤ table_total t → AreCounts g list t
+pub deegan-packel-le : (t : Tables) (i top bottom : ℕ) → 1 ≤ table_total t → weighed denominator (table_of_member_size t i) t.members ≤ denominator * table_total t
     → IsLowestOf (weighed denominator (table_of_member_size t i) t.members, denominator * table_total t) (top, bottom) → top ≤ bottom
-deegan-packel-le g list t i top bottom lt some h is =
-    let w = weight g list t i lt h in
-    let few = sum_few denominator (sizes_of_member g list i) in
-    let len = length-map (filter (contains g i) list) (size_of g) in
-    let less = length-filter-le (contains g i) list in
-    at-most-one (weighed denominator (table_of_member_size t i) t.members) (denominator * table_total t) top bottom (omega arith)
-    (omega (arith, w, few, len, less, h.total)) is.same
+deegan-packel-le t i top bottom some light is =
+    at-most-one (weighed denominator (table_of_member_size t i) t.members) (denominator * table_total t) top bottom (omega arith) light is.same
 
 memberships-are : (g : GameView) (list : List ℕ) (t : Tables) → AreCounts g list t → table_memberships t ≡ sum_by (λ j. count_of_member g j list) (members g)
 memberships-are g list t h =

@@ -1,21 +1,18 @@
 -- Tables that hold the counts of a list are sound.
-use Rattle.std.proofs.Common.{◌≡◌, ◌∙◌, ◌==◌, ◌&&◌, ℕ, ◌<◌, ◌≤◌, List, [], ◌∷◌, length, get_or, take, Bool, true, ap, refl, arith, subst, suc}
+use Rattle.std.proofs.Common.{◌≡◌, ◌∙◌, ◌==◌, ◌&&◌, ℕ, ◌<◌, ◌≤◌, List, [], ◌∷◌, length, get_or, take, true, ap, refl, arith, subst, suc}
 use Rattle.std.specs.List.{filter, sum_by, range_with_len}
 use Rattle.std.proofs.lemmas.List.{take_all}
-use Rattle.std.proofs.lemmas.List.Sums.{count_by-le-length, length-filter}
 use Rattle.council_game.specs.Game.{GameView, IsGame}
 use Rattle.council_game.proofs.Games.{votes-are}
 use Rattle.power_index.specs.declared.tally.Tally.{Tally}
 use Rattle.power_index.specs.Counting.{members, contains, size_of, count_of_member, AreCoalitions}
 use Rattle.power_index.specs.Tables.{Tables, AreCounts, AreSound, no_tally, table_of_member}
-use Rattle.power_index.proofs.Sums.{sum-range}
+use Rattle.power_index.proofs.Sums.{length-filter-le, sum-range}
 use Rattle.power_index.proofs.Members.{few-members, memberships, sizes-some}
 use Rattle.power_index.proofs.Tallies.{Tallies}
+use Rattle.power_index.proofs.Weights.{weight-light}
 
-pub length-filter-le : (p : ℕ → Bool) (list : List ℕ) → length (filter p list) ≤ length list
-length-filter-le p list = let a = length-filter p list in let b = count_by-le-length p list in omega (arith, a, b)
-
-pub filter-all : (list : List ℕ) → length (filter (λ (c : ℕ). true) list) ≡ length list
+filter-all : (list : List ℕ) → length (filter (λ (c : ℕ). true) list) ≡ length list
 filter-all [] = refl
 filter-all (c ∷ cs) = ap (λ n. suc n) (filter-all cs)
 
@@ -51,4 +48,5 @@ counts-sound g list t game some few within h = record {
       let d = memberships g list game in
       let e = sizes-some g list (few-members g game) within in
       omega (arith, a, b, d, e));
+  light = λ i lt. weight-light g list t i lt h;
 }

@@ -1,5 +1,5 @@
 -- Tables of counts, and when they hold the counts of a list of coalitions.
-use Rattle.std.specs.Prelude.{ℕ, ◌+◌, ◌≡◌, ◌≤◌, ◌<◌, List, [], length, slice_index, slice_index_or, slice_set, sum_by}
+use Rattle.std.specs.Prelude.{ℕ, zero, suc, ◌+◌, ◌*◌, ◌/◌, ◌≡◌, ◌≤◌, ◌<◌, List, [], length, slice_index, slice_index_or, slice_set, sum_by}
 use Rattle.std.specs.List.{range_with_len}
 use Rattle.council_game.specs.Game.{GameView}
 use Rattle.power_index.specs.Counting.{count_of_size, count_of_member, count_of_member_size}
@@ -35,6 +35,15 @@ table_of_member_size t i s = slice_index (slice_index_or t.each i no_tally).size
 abbrev pub table_memberships : Tables → ℕ
 table_memberships t = sum_by (table_of_member t) (range_with_len 0 t.members)
 
+-- the least common multiple of the sizes 1 to 40
+abbrev pub denominator : ℕ
+denominator = 5342931457063200
+
+-- the sum of f s * (d / s) for s from 1 to n: f s fractions 1 / s each, over a denominator d
+abbrev pub weighed : ℕ → (ℕ → ℕ) → ℕ → ℕ
+weighed d f zero = 0
+weighed d f (suc n) = weighed d f n + f (suc n) * (d / suc n)
+
 -- the tables hold the counts of a list of coalitions of a game
 pub record AreCounts (g : GameView) (list : List ℕ) (t : Tables) : Type 0 where
   pub members : t.members ≡ length g.names
@@ -53,3 +62,4 @@ pub record AreSound (t : Tables) : Type 0 where
   pub few_of_member : (i : ℕ) → i < t.members → table_of_member t i ≤ 4000000
   pub few_of_member_size : (i s : ℕ) → i < t.members → s ≤ t.members → table_of_member_size t i s ≤ 4000000
   pub memberships : 1 ≤ table_memberships t
+  pub light : (i : ℕ) → i < t.members → weighed denominator (table_of_member_size t i) t.members ≤ denominator * table_total t

@@ -1,7 +1,7 @@
 //! Counts of a list of coalitions, by member and by size.
 ghost use Rattle.council_game.specs.Votes.{has};
 ghost use Rattle.power_index.specs.Counting.{AreCoalitions};
-ghost use Rattle.power_index.specs.Tables.{AreCounts, no_tally, table_memberships, table_of_member, table_of_member_size, table_of_size, table_total, with_one};
+ghost use Rattle.power_index.specs.Tables.{AreCounts, AreSound, no_tally, table_memberships, table_of_member, table_of_member_size, table_of_size, table_total, with_one};
 ghost use Rattle.std.specs.Prelude.{◌≡◌, ℕ, ◌<◌, ◌≤◌, ◌^◌, cond, length, slice_index, slice_index_or};
 
 use crate::tally::Tally;
@@ -40,8 +40,7 @@ fn add_to_places(members: usize, coalition: Coalition, size: usize, by_place: &m
     let mut rest = coalition;
     while rest.mask() != 0 {
         let place = members - 1 - rest.mask().trailing_zeros() as usize;
-        let tally = &mut by_place[place];
-        tally.add(size);
+        by_place[place].add(size);
         rest = rest.without(members, place);
     }
 }
@@ -52,7 +51,8 @@ fn by_member(game: &Game, by_place: &[Tally; 40]) -> [Tally; 40]
 {
     let mut each = [Tally::new(); 40];
     for i in 0..game.members() {
-        each[i] = by_place[game.place_of(i)];
+        let place = game.place_of(i);
+        each[i] = by_place[place];
     }
     each
 }
@@ -69,7 +69,7 @@ impl Counts {
         let mut all = Tally::new();
         let mut by_place = [Tally::new(); 40];
         for coalition in list {
-            let size = coalition.size() as usize;
+            let size = usize::from(coalition.size());
             all.add(size);
             add_to_places(members, *coalition, size, &mut by_place);
         }
@@ -80,11 +80,11 @@ impl Counts {
         }
     }
 
-    /// The number of members of the game, 1 to 40.
+    /// The number of members of the game, 1 to 40, and what all counts keep: there are 1 to
+    /// 4,000,000 coalitions, and the fractions of each member add up to at most 1.
     pub fn members(&self) -> usize
         ensures members { result ≡ self.now.members }
-        ensures some { 1 ≤ result }
-        ensures few { result ≤ 40 }
+        ensures sound { AreSound self.now }
     {
         self.members
     }
@@ -115,8 +115,7 @@ impl Counts {
         ensures few { result ≤ 4000000 }
     {
         let each = &self.each;
-        let tally = &each[member];
-        tally.total
+        each[member].total
     }
 
     /// The number of coalitions with so many members that contain a member.
@@ -127,8 +126,7 @@ impl Counts {
         ensures few { result ≤ 4000000 }
     {
         let each = &self.each;
-        let tally = &each[member];
-        tally.sizes[size]
+        each[member].sizes[size]
     }
 
     /// The numbers of all members, added.

@@ -1,5 +1,6 @@
 //! Laws of the definitions, with nothing to run: each index adds up to 1, and what lowest terms are.
-ghost use Rattle.council_game.specs.Game.{GameView, IsGame};
+ghost use Rattle.council_game.specs.Game.{GameView, IsGame, votes_of};
+ghost use Rattle.council_game.specs.Votes.{minimal_coalitions};
 ghost use Rattle.power_index.specs.Counting.{AreCoalitions, members};
 ghost use Rattle.power_index.specs.Fractions.{AddUpToOne, HasLowestTerms};
 ghost use Rattle.power_index.specs.Indices.{deegan_packel, public_good};
@@ -15,6 +16,12 @@ pub fn deegan_packel_adds_up()
 /// members add up to 1.
 pub fn public_good_adds_up()
     ensures { (g : GameView) (list : List ℕ) → IsGame g → 0 < length list → AreCoalitions g list → AddUpToOne (map (public_good g list) (members g)) }
+{}
+
+/// The minimal winning coalitions of a game are such a list: there is one, and none is empty.
+pub fn minimal_coalitions_can_be_counted()
+    ensures some { (g : GameView) → IsGame g → 0 < length (minimal_coalitions (votes_of g)) }
+    ensures coalitions { (g : GameView) → IsGame g → AreCoalitions g (minimal_coalitions (votes_of g)) }
 {}
 
 /// A pair with a bottom above 0 has one form in lowest terms, and it is the one that is computed.

@@ -1,12 +1,11 @@
-use Rattle.std.proofs.Common.{arith, ◌≤◌, ◌<◌, length, ◌∙◌}
-use Rattle.council_game.specs.Game.{votes_of}
-use Rattle.council.proofs.Whole.{listed-all, listed-more}
+use Rattle.std.proofs.Common.{◌≡◌, ◌∙◌, ap, sym}
+use Rattle.council_game.specs.Game.{GameView, votes_of}
+use Rattle.mwc_walk.specs.Slices.{slice}
+use Rattle.council.proofs.Whole.{is-listed}
 use Rattle.council.proofs.run.list.Goals as goal
 
-pub returns-in-Ok-clause-ok : goal.returns-in-Ok-clause-ok
-returns-in-Ok-clause-ok c =
-    listed-all c.args.game.now c.in-Ok.list.items c.args.most c.members-members.ensures.votes c.in-Ok.ensures
-    (omega (arith, c.if-len-most.true, c.len.ensures, c.in-Ok.list.ok.0))
-
-pub returns-in-Ok-2-clause-err : goal.returns-in-Ok-2-clause-err
-returns-in-Ok-2-clause-err c = ?
+pub returns-in-Ok-in_order-clause-ok : goal.returns-in-Ok-in_order-clause-ok
+returns-in-Ok-in_order-clause-ok g c =
+    let gathers = rw c.new-guarded.ensures at c.in-Ok.ensures.gathers in
+    let all = c.in-Ok-in_order.ensures (slice (votes_of c.args.game.now) c.min-bits.result) gathers.pieces ∙ gathers.whole in
+    is-listed c.args.game.now c.in-Ok-in_order.list.items c.args.options.now.most c.members.ensures.game all gathers.few

@@ -1,10 +1,25 @@
-use Rattle.std.proofs.Common.{◌≡◌, ◌∙◌, ◌-◌, ◌*◌, ap, arith, subst, ℕ}
-use Rattle.power_index.specs.Tables.{table_of_member_size, table_total}
+use Rattle.std.proofs.Common.{◌≡◌, ◌∙◌, ◌-◌, ◌*◌, ◌+◌, ◌/◌, ◌≤◌, sym, ap, arith, subst, ℕ}
+use Rattle.power_index.specs.Tables.{denominator, weighed, table_of_member_size, table_total}
 use Rattle.power_index.specs.Fractions.{IsLowestOf}
 use Rattle.power_index.proofs.Printed.{deegan-packel-is, deegan-packel-le, deegan-packel-bottom}
+use Rattle.std.proofs.Math.Nat.{div-le_self, mul-le-mul}
+use Rattle.power_index.proofs.Units.{weighed-more}
 use Rattle.power_index.proofs.LowestTerms.{lowest_terms-only}
-use Rattle.power_index.proofs.Units.{weighed, denominator}
 use Rattle.power_index.proofs.indices.deegan_packel.Goals as goal
+
+pub loop-size-preserved : goal.loop-size-preserved
+loop-size-preserved c =
+    let size : ℕ = c.loop-size.size in
+    let of_size : ℕ → ℕ = table_of_member_size c.args.counts.now c.args.member in
+    let own : c.from.result ≡ of_size size = c.from.ensures ∙ c.of_member_size.ensures.count in
+    let more = weighed-more denominator of_size size (omega arith) in
+    let part : denominator / size ≤ denominator = div-le_self denominator size in
+    let few : c.from.result ≤ 4000000 = omega (arith, c.of_member_size.ensures.few, c.from.ensures) in
+    let light : c.from.result * (denominator / size) ≤ 4000000 * denominator = mul-le-mul few part in
+    record {
+      sum = ap (λ v. v + c.from.result * (denominator / size)) c.loop-size.invariant.sum ∙ ap (λ v. weighed denominator of_size (size - 1) + v * (denominator / size)) own ∙ sym more;
+      small = (let before = c.loop-size.invariant.small in omega (arith, before, light));
+    }
 
 sum-is : (c : goal.After-lowest) → c.loop-size.sum ≡ weighed denominator (table_of_member_size c.args.counts.now c.args.member) c.args.counts.now.members
 sum-is c =
@@ -23,7 +38,8 @@ pub returns-clause-index : goal.returns-clause-index
 returns-clause-index c g list h = deegan-packel-is g list c.args.counts.now c.args.member _ _ c.requires (omega arith) h (made c)
 
 pub returns-clause-at_most_one : goal.returns-clause-at_most_one
-returns-clause-at_most_one c g list h = deegan-packel-le g list c.args.counts.now c.args.member _ _ c.requires (omega arith) h (made c)
+returns-clause-at_most_one c =
+    let sound = c.members-size-end.ensures.sound in deegan-packel-le c.args.counts.now c.args.member _ _ sound.some (sound.light c.args.member c.requires) (made c)
 
 pub returns-clause-terms : goal.returns-clause-terms
 returns-clause-terms c g list h =

@@ -1,6 +1,6 @@
 use Rattle.std.proofs.Common.{◌*◌, ◌≡◌, ◌≤◌, ◌-◌}
 use Rattle.power_index.specs.Tables.{table_of_member_size}
-use Rattle.power_index.proofs.Units.{weighed}
+use Rattle.power_index.specs.Tables.{weighed}
 use Rattle.power_index.proofs.indices.deegan_packel.Given as goal
 
 abbrev pub invariant-loop-size : goal.invariant-loop-size

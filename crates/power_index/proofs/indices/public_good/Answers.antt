@@ -14,7 +14,7 @@ pub returns-clause-index : goal.returns-clause-index
 returns-clause-index c g list h = public-good-is g list c.args.counts.now c.args.member _ _ c.requires h (made c)
 
 pub returns-clause-at_most_one : goal.returns-clause-at_most_one
-returns-clause-at_most_one c g list h =
+returns-clause-at_most_one c =
     public-good-le c.args.counts.now c.args.member _ _ c.requires (let p = c.memberships.ensures in omega (arith, p.some, p.sum)) (made c)
 
 pub returns-clause-terms : goal.returns-clause-terms

@@ -25,19 +25,19 @@ add-requires-clause-sizes c = (tallies-few _ _ _ _ _ c.loop-coalition-test.true 
 pub add_to_places-requires-clause-room : goal.add_to_places-requires-clause-room
 add_to_places-requires-clause-room c p lt =
     let few = tallies-few _ _ _ _ _ c.loop-coalition-test.true c.requires.few (c.loop-coalition.invariant.each p (omega arith)) in
-    (few.0, few.1 c.size-size.result (omega arith))
+    (few.0, few.1 c.from-size.result (omega arith))
 
 pub loop-coalition-preserved : goal.loop-coalition-preserved
 loop-coalition-preserved c =
     let item : c.coalition-item.result ≡ get_or c.args.list.now c.loop-coalition.coalition-index 0 = c.coalition-item.is ∙ get_or_default c.args.list.now c.loop-coalition.coalition-index c.coalition-item.result 0 c.loop-coalition-test.true in
     let low = c.requires.coalitions c.loop-coalition.coalition-index 0 c.loop-coalition-test.true in
     let below : c.coalition-item.result < 2 ^ length c.args.game.now.names = subst (λ (x : ℕ). x < 2 ^ length c.args.game.now.names) (sym item) low.1 in
-    let size : c.size-size.result ≡ size_of c.args.game.now (get_or c.args.list.now c.loop-coalition.coalition-index 0) = c.size-size.ensures.size (length c.args.game.now.names) below ∙ ap (size_of c.args.game.now) item in
+    let size : c.from-size.result ≡ size_of c.args.game.now (get_or c.args.list.now c.loop-coalition.coalition-index 0) = c.from-size.ensures ∙ c.size.ensures.size (length c.args.game.now.names) below ∙ ap (size_of c.args.game.now) item in
     let same : (p : ℕ) → has c.members-members.result p c.coalition-item.result ≡ has (length c.args.game.now.names) p (get_or c.args.list.now c.loop-coalition.coalition-index 0) = λ p. ap (λ (n : ℕ). has n p c.coalition-item.result) c.members-members.ensures.count ∙ ap (has (length c.args.game.now.names) p) item in
-    let more : (p : ℕ) → Tally = λ p. with_one (get_or c.loop-coalition.by_place p no_tally) c.size-size.result in
+    let more : (p : ℕ) → Tally = λ p. with_one (get_or c.loop-coalition.by_place p no_tally) c.from-size.result in
     record {
-      all = tallies-step _ _ _ _ c.size-size.result _ _ c.loop-coalition-test.true size (omega arith) c.add.ensures c.loop-coalition.invariant.all;
-      each = λ p lt. tallies-step _ _ _ _ c.size-size.result _ _ c.loop-coalition-test.true size (omega arith)
+      all = tallies-step _ _ _ _ c.from-size.result _ _ c.loop-coalition-test.true size (omega arith) c.add.ensures c.loop-coalition.invariant.all;
+      each = λ p lt. tallies-step _ _ _ _ c.from-size.result _ _ c.loop-coalition-test.true size (omega arith)
           (c.add_to_places.ensures p (omega arith) ∙ ap (λ (b : Bool). cond b (more p) (get_or c.loop-coalition.by_place p no_tally)) (same p))
           (c.loop-coalition.invariant.each p lt);
     }

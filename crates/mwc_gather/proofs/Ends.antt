@@ -1,0 +1,160 @@
+-- The end of gathering.
+use Rattle.std.specs.Prelude.{◌≡◌, ℕ, suc, ◌<◌, ◌≤◌, Bool, true, false, List, [], ◌∷◌, ◌++◌, Option, Some, None, cond, Err, All, length, map, refl}
+use Rattle.std.specs.List.{AllZip}
+use Rattle.std.specs.Option.{is_some}
+use Rattle.std.proofs.Common.{get_or, append_assoc, ap, subst, arith, sym, ◌∙◌}
+use Rattle.std.proofs.lemmas.List.{length-map, map_push}
+use Rattle.std.proofs.lemmas.List.Elements.{All-head, All-tail, All-cons, All-push}
+use Rattle.mwc_parts.specs.Slicing.{Slicing}
+use Rattle.mwc_parts.specs.Sums.{sum_of}
+use Rattle.mwc_parts.specs.Wording.{total}
+use Rattle.mwc_parts.specs.Deals.{Dealt, AscendsFrom}
+use Rattle.mwc_parts.specs.Dealing.{Seat, IsWell, givens, IsFresh}
+use Rattle.mwc_parts.specs.Parts.{IsPart, shares}
+use Rattle.mwc_parts.specs.Fault.{fault_of, also}
+use Rattle.mwc_parts.specs.Fault.{OnTooMany}
+use Rattle.mwc_parts.specs.declared.part.Part.{Part}
+use Rattle.mwc_parts.specs.declared.met.Met.{Met}
+use Rattle.mwc_parts.specs.declared.fault.GatherFault.{GatherFault}
+use Rattle.mwc_parts.specs.declared.fault.GatherFault.TheVariants.{TooMany, Start, Memory, Ring}
+use Rattle.mwc_parts.proofs.Turns as turns
+use Rattle.mwc_parts.proofs.Firsts.{each_within, dealt_total, dealt_ascends, share_begins}
+use Rattle.mwc_parts.proofs.Readings.{length-joined}
+use Rattle.mwc_gather.specs.declared.desk.Desk.{Desk}
+use Rattle.mwc_gather.specs.Desks.{seat, seats, DealsTo, Finished}
+use Rattle.mwc_gather.specs.Gathering.{all_total}
+
+module _ {X Y : Type 0} where
+  all_of_map : (P : Y → Type 0) (f : X → Y) (xs : List X) → All P (map f xs) → All (λ x. P (f x)) xs
+  all_of_map P f [] a = λ k d l. absurd (omega arith)
+  all_of_map P f (x ∷ xs) a = All-cons (λ x. P (f x)) x xs (All-head P (f x) (map f xs) a) (all_of_map P f xs (All-tail P (f x) (map f xs) a))
+
+pub desks_within : {g : Slicing} {most : ℕ} {early stopped : Bool} {marks : List (Option ℕ)} (desks : List Desk) → DealsTo g most early marks stopped desks → All (λ (d : Desk). total g d.given.items ≤ all_total g) desks
+desks_within {g} desks h =
+    all_of_map (λ (s : Seat). total g s.given ≤ all_total g) seat desks
+    (all_of_map (λ (s : List ℕ). total g s ≤ all_total g) (λ (s : Seat). s.given) (seats desks) (each_within g (seats desks) h.dealing))
+
+zip_shares : (g : Slicing) (desks : List Desk) (parts : List Part) → AllZip (Finished g) desks parts → shares parts ≡ givens (seats desks)
+zip_shares g [] [] z = refl
+zip_shares g [] (p ∷ parts) z = absurd z
+zip_shares g (d ∷ desks) [] z = absurd z
+zip_shares g (d ∷ desks) (p ∷ parts) z = let f = z.0 in ap (λ (x : List ℕ). x ∷ shares parts) f.slices ∙ ap (λ (xs : List (List ℕ)). d.given.items ∷ xs) (zip_shares g desks parts z.1)
+
+pub zip_length : (g : Slicing) (desks : List Desk) (parts : List Part) → AllZip (Finished g) desks parts → length parts ≡ length desks
+zip_length g [] [] z = refl
+zip_length g [] (p ∷ parts) z = absurd z
+zip_length g (d ∷ desks) [] z = absurd z
+zip_length g (d ∷ desks) (p ∷ parts) z = ap (λ (n : ℕ). suc n) (zip_length g desks parts z.1)
+
+zip_well : (g : Slicing) (desks : List Desk) (parts : List Part) → AllZip (Finished g) desks parts → All IsWell (seats desks)
+zip_well g [] [] z = λ k d l. absurd (omega arith)
+zip_well g [] (p ∷ parts) z = absurd z
+zip_well g (d ∷ desks) [] z = absurd z
+zip_well g (d ∷ desks) (p ∷ parts) z = let f = z.0 in All-cons IsWell (seat d) (seats desks) f.well (zip_well g desks parts z.1)
+
+zip_told : (g : Slicing) (desks : List Desk) (parts : List Part) → AllZip (Finished g) desks parts → All (λ (s : Seat). s.told ≡ true) (seats desks)
+zip_told g [] [] z = λ k d l. absurd (omega arith)
+zip_told g [] (p ∷ parts) z = absurd z
+zip_told g (d ∷ desks) [] z = absurd z
+zip_told g (d ∷ desks) (p ∷ parts) z = let f = z.0 in All-cons (λ (s : Seat). s.told ≡ true) (seat d) (seats desks) f.told (zip_told g desks parts z.1)
+
+pub zip_parts : (g : Slicing) (desks : List Desk) (parts : List Part) → AllZip (Finished g) desks parts → All (IsPart g) parts
+zip_parts g [] [] z = λ k d l. absurd (omega arith)
+zip_parts g [] (p ∷ parts) z = absurd z
+zip_parts g (d ∷ desks) [] z = absurd z
+zip_parts g (d ∷ desks) (p ∷ parts) z = let f = z.0 in All-cons (IsPart g) p parts f.part (zip_parts g desks parts z.1)
+
+zip_sum : (g : Slicing) (desks : List Desk) (parts : List Part) → AllZip (Finished g) desks parts → sum_of (λ (p : Part). length p.got.items) parts ≡ sum_of (total g) (shares parts)
+zip_sum g [] [] z = refl
+zip_sum g [] (p ∷ parts) z = absurd z
+zip_sum g (d ∷ desks) [] z = absurd z
+zip_sum g (d ∷ desks) (p ∷ parts) z =
+    let f = z.0 in let r = f.part in
+    let a = ap length r.0 in let b = length-joined g p.slices.items in
+    let c = zip_sum g desks parts z.1 in
+    omega arith
+
+-- where all workers have finished, all slices are dealt
+pub end_dealt : {g : Slicing} {most : ℕ} {early stopped : Bool} {marks : List (Option ℕ)} (desks : List Desk) (parts : List Part) → DealsTo g most early marks stopped desks → early ≡ false → 0 < length desks → AllZip (Finished g) desks parts → Dealt g.slices (shares parts)
+end_dealt {g} {most} {early} {stopped} {marks} desks parts h e l z =
+    let n = length-map desks seat in
+    let d = turns.all_dealt (seats desks) e (omega arith) h.dealing (zip_well g desks parts z) (zip_told g desks parts z) in
+    subst (λ (s : List (List ℕ)). Dealt g.slices s) (sym (zip_shares g desks parts z)) d
+
+pub end_sum : (g : Slicing) (desks : List Desk) (parts : List Part) → AllZip (Finished g) desks parts → Dealt g.slices (shares parts) → sum_of (λ (p : Part). length p.got.items) parts ≡ all_total g
+end_sum g desks parts z d = zip_sum g desks parts z ∙ dealt_total g d
+
+pub end_ascends : {n : ℕ} (parts : List Part) → Dealt n (shares parts) → All (λ (p : Part). AscendsFrom 0 p.slices.items) parts
+end_ascends parts d = all_of_map (AscendsFrom 0) (λ (p : Part). p.slices.items) parts (dealt_ascends d)
+
+pub fresh_push : (desks : List Desk) (d : Desk) → All IsFresh (seats desks) → IsFresh (seat d) → All IsFresh (seats (desks ++ d ∷ []))
+fresh_push desks d a f = subst (λ (w : List Seat). All IsFresh w) (sym (map_push seat desks d)) (All-push IsFresh (seats desks) (seat d) a f)
+
+pub note_other : (m : Met) (why : GatherFault) → OnTooMany {A = Desk} (Err why) ⊥ → m.many ≡ false → (also m why).many ≡ false
+note_other m TooMany f e = absurd f
+note_other m Start f e = e
+note_other m Memory f e = e
+note_other m Ring f e = e
+
+pub note_many : (m : Met) (why : GatherFault) (P : Type 0) → OnTooMany {A = Part} (Err why) P → (m.many ≡ true → P) → (also m why).many ≡ true → P
+note_many m TooMany P f h e = f
+note_many m Start P f h e = h e
+note_many m Memory P f h e = h e
+note_many m Ring P f h e = h e
+
+noted_memory : (a : Bool) → cond a (Some Start) (Some Memory) ≡ None → ⊥
+noted_memory true e = cc
+noted_memory false e = cc
+
+noted_ring : (a b : Bool) → cond a (Some Start) (cond b (Some Memory) (Some Ring)) ≡ None → ⊥
+noted_ring true b e = cc
+noted_ring false true e = cc
+noted_ring false false e = cc
+
+noted_many : (a b c : Bool) → cond a (Some Start) (cond b (Some Memory) (cond c (Some Ring) (Some TooMany))) ≡ None → ⊥
+noted_many true b c e = cc
+noted_many false true c e = cc
+noted_many false false true e = cc
+noted_many false false false e = cc
+
+pub noted : (m : Met) (why : GatherFault) → fault_of (also m why) ≡ None → ⊥
+noted m Start e = cc
+noted m Memory e = noted_memory m.start e
+noted m Ring e = noted_ring m.start m.memory e
+noted m TooMany e = noted_many m.start m.memory m.ring e
+
+pub head_of : {X : Type 0} (P : X → Type 0) (x : X) (xs ys : List X) → ys ≡ x ∷ xs → All P ys → P x
+head_of {X} P x xs ys e a = All-head P x xs (subst (λ (l : List X). All P l) e a)
+
+pub on_mono : (why : GatherFault) (P Q : Type 0) → (P → Q) → OnTooMany {A = Part} (Err why) P → OnTooMany {A = Part} (Err why) Q
+on_mono TooMany P Q f p = f p
+on_mono Start P Q f p = tt
+on_mono Memory P Q f p = tt
+on_mono Ring P Q f p = tt
+
+pub one_done : (done rest old all : List Desk) (d : Desk) → old ≡ d ∷ rest → done ++ old ≡ all → (done ++ d ∷ []) ++ rest ≡ all
+one_done done rest old all d e f = append_assoc done (d ∷ []) rest ∙ ap (λ (w : List Desk). done ++ w) (sym e) ∙ f
+
+pub not_noted : (m after : Met) (why : GatherFault) (P : Type 0) → after ≡ also m why → fault_of after ≡ None → P
+not_noted m after why P e f = absurd (noted m why (sym (ap fault_of e) ∙ f))
+
+zip_push : (g : Slicing) (done : List Desk) (parts : List Part) (d : Desk) (p : Part) → AllZip (Finished g) done parts → Finished g d p → AllZip (Finished g) (done ++ d ∷ []) (parts ++ p ∷ [])
+zip_push g [] [] d p z f = (f, z)
+zip_push g [] (q ∷ parts) d p z f = absurd z
+zip_push g (e ∷ done) [] d p z f = absurd z
+zip_push g (e ∷ done) (q ∷ parts) d p z f = (z.0, zip_push g done parts d p z.1 f)
+
+pub zip_more : (g : Slicing) (done : List Desk) (parts after : List Part) (d : Desk) (p : Part) → after ≡ parts ++ p ∷ [] → Finished g d p → AllZip (Finished g) done parts → AllZip (Finished g) (done ++ d ∷ []) after
+zip_more g done parts after d p e f z = subst (λ (w : List Part). AllZip (Finished g) (done ++ d ∷ []) w) (sym e) (zip_push g done parts d p z f)
+
+-- where no fault was met, all slices are dealt to the parts
+pub ends_well : {g : Slicing} {most : ℕ} {early stopped : Bool} {marks : List (Option ℕ)} (desks taken : List Desk) (parts : List Part) (start : Met) (f : Option GatherFault) → DealsTo g most early marks stopped desks → taken ≡ desks → early ≡ is_some f → f ≡ fault_of start → fault_of start ≡ None → 0 < length desks → AllZip (Finished g) taken parts → Dealt g.slices (shares parts) × AllZip (Finished g) desks parts
+ends_well {g} desks taken parts start f h e a b n l z =
+    let w = subst (λ (x : List Desk). AllZip (Finished g) x parts) e z in
+    (end_dealt desks parts h (a ∙ ap is_some (b ∙ n)) l w, w)
+
+pub end_begins : {g : Slicing} {most : ℕ} {early stopped : Bool} {marks : List (Option ℕ)} (desks : List Desk) (parts : List Part) → DealsTo g most early marks stopped desks → early ≡ false → AllZip (Finished g) desks parts → (w : ℕ) → w < length desks → w < g.slices → (rest : List ℕ) × (get_or (shares parts) w [] ≡ w ∷ rest)
+end_begins {g} desks parts h e z w a b =
+    let n = length-map desks seat in
+    let r = share_begins (seats desks) h.dealing (h.dealing.stops e (zip_well g desks parts z)) (omega arith) w a b in
+    (r.0, ap (λ (s : List (List ℕ)). get_or s w []) (zip_shares g desks parts z) ∙ r.1)

@@ -1,0 +1,7 @@
+pub mod Slices
+pub mod Wordings
+pub mod Words
+pub mod Joins
+pub mod Deals
+pub mod Ends
+pub mod Wholes

@@ -1,0 +1,37 @@
+-- The slices of a game and its minimal winning coalitions.
+use Rattle.std.specs.Prelude.{◌≡◌, ℕ, ◌≤◌, ◌^◌, List, ◌∷◌, length, slice_range, All}
+use Rattle.std.specs.List.{range_with_len, flat_map}
+use Rattle.std.proofs.Common.{get_or, ap, sym, ◌∙◌}
+use Rattle.std.proofs.lemmas.List.Elements.{All-weaker}
+use Rattle.council_game.specs.Votes.{minimal_coalitions}
+use Rattle.council_game.specs.Game.{GameView, votes_of}
+use Rattle.mwc_walk.specs.Slices.{slice}
+use Rattle.mwc_walk.proofs.Joined.{slices-joined}
+use Rattle.mwc_parts.specs.Slicing.{Slicing}
+use Rattle.mwc_parts.specs.Parts.{IsPart, HasPieces}
+use Rattle.mwc_parts.specs.declared.part.Part.{Part}
+use Rattle.mwc_parts.specs.Pieces.{joined}
+use Rattle.mwc_parts.proofs.Readings.{length-joined, piece_is}
+use Rattle.mwc_gather.specs.Slicings.{slicing}
+use Rattle.mwc_gather.specs.Gathering.{all_total}
+
+pub whole : (game : GameView) (bits : ℕ) → bits ≤ 10 → bits ≤ length game.names → flat_map (slice (votes_of game) bits) (range_with_len 0 (2 ^ bits)) ≡ minimal_coalitions (votes_of game)
+whole game bits few within = slices-joined (votes_of game) bits few within
+
+-- the slices have as many coalitions as there are
+pub all_total_is : (game : GameView) (bits : ℕ) → bits ≤ 10 → bits ≤ length game.names → length (minimal_coalitions (votes_of game)) ≡ all_total (slicing game bits)
+all_total_is game bits few within =
+    sym (ap (λ (l : List ℕ). length l) (whole game bits few within)) ∙ length-joined (slicing game bits) (range_with_len 0 (2 ^ bits))
+
+-- each piece of a part is the slice of its number
+has_pieces : (g : Slicing) (p : Part) → IsPart g p → HasPieces g.slice p
+has_pieces g p part m l =
+    ap (λ (w : List ℕ). slice_range w (get_or (0 ∷ p.ends.items) m 0) (get_or p.ends.items m 0)) part.0
+    ∙ ap (λ (w : List ℕ). slice_range (joined g p.slices.items) (get_or (0 ∷ w) m 0) (get_or w m 0)) part.1
+    ∙ piece_is g p.slices.items m l
+
+pub all_pieces : (g : Slicing) (parts : List Part) → All (IsPart g) parts → All (HasPieces g.slice) parts
+all_pieces g parts a = All-weaker (IsPart g) (HasPieces g.slice) (has_pieces g) parts a
+
+pub all_joined : (g : Slicing) (parts : List Part) → All (IsPart g) parts → All (λ (p : Part). p.got.items ≡ flat_map g.slice p.slices.items) parts
+all_joined g parts a = All-weaker (IsPart g) (λ (p : Part). p.got.items ≡ flat_map g.slice p.slices.items) (λ p part. part.0) parts a

@@ -1,0 +1,21 @@
+-- One more slice.
+use Rattle.std.specs.Prelude.{◌≡◌, ℕ, ◌+◌, List, [], ◌∷◌, ◌++◌, length, refl}
+use Rattle.std.proofs.Common.{ap, arith, append_assoc, sym, ◌∙◌}
+use Rattle.std.proofs.lemmas.List.{append-nil}
+use Rattle.mwc_parts.specs.Slicing.{Slicing}
+use Rattle.mwc_pipe.specs.declared.word.Word.{Word}
+use Rattle.mwc_pipe.specs.declared.word.Word.TheVariants.{Open}
+use Rattle.mwc_parts.specs.Wording.{opens, wording, total, slice_words}
+
+pub opens-more : (s : List ℕ) (j : ℕ) → opens (s ++ j ∷ []) ≡ opens s ++ Open j ∷ []
+opens-more [] j = refl
+opens-more (i ∷ s) j = ap (λ (w : List Word). Open i ∷ w) (opens-more s j)
+
+pub wording-more : (g : Slicing) (s : List ℕ) (j : ℕ) → wording g (s ++ j ∷ []) ≡ wording g s ++ slice_words g j
+wording-more g [] j = append-nil (slice_words g j)
+wording-more g (i ∷ s) j =
+    ap (λ (w : List Word). slice_words g i ++ w) (wording-more g s j) ∙ sym (append_assoc (slice_words g i) (wording g s) (slice_words g j))
+
+pub total-more : (g : Slicing) (s : List ℕ) (j : ℕ) → total g (s ++ j ∷ []) ≡ total g s + length (g.slice j)
+total-more g [] j = omega arith
+total-more g (i ∷ s) j = let e = total-more g s j in omega arith

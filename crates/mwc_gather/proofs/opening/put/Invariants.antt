@@ -1,0 +1,5 @@
+use Rattle.std.proofs.Common.{◌≡◌}
+use Rattle.mwc_gather.proofs.opening.put.Given as goal
+
+abbrev pub invariant-loop : goal.invariant-loop
+invariant-loop g l = (l.task ≡ l.initial.task) × (l.tasks ≡ l.initial.tasks)

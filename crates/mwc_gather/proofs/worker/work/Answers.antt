@@ -1,0 +1,28 @@
+use Rattle.std.specs.Prelude.{◌≡◌, ◌+◌, List, [], ◌∷◌, ◌++◌, length}
+use Rattle.std.proofs.Common.{rules, arith, sym, ◌∙◌, ap}
+use Rattle.mwc_pipe.specs.declared.word.Word.{Word}
+use Rattle.mwc_pipe.specs.declared.word.Word.TheVariants.{Open}
+use Rattle.mwc_parts.specs.Slicing.{Slicing}
+use Rattle.mwc_parts.specs.Wording.{slice_words, total}
+use Rattle.mwc_gather.specs.Slicings.{slicing}
+use Rattle.mwc_gather.proofs.Wordings.{opens-more, wording-more, total-more}
+use Rattle.mwc_gather.proofs.worker.work.Goals as goal
+
+pub loop-preserved : goal.loop-preserved
+loop-preserved g c =
+    let game : Slicing = slicing c.args.guarded.now c.args.bits in let j = c.in-Some-next_task.slice in
+    let inv = c.loop.invariant.3 in
+    let task = c.in-Some-next_task.ensures.taken in
+    let sends = c.in-Whole.ensures.sends in
+    let sum = inv.3 in let few = sends.1 in let rest = sends.2 in
+    let more : total game (inv.0 ++ j ∷ []) ≡ total game inv.0 + length (game.slice j) = total-more game inv.0 j in (
+      search rules,
+      search rules,
+      omega arith,
+      (
+        inv.0 ++ j ∷ [],
+        task.1 ∙ ap (λ (w : List Word). w ++ Open j ∷ []) inv.1 ∙ sym (opens-more inv.0 j),
+        sends.0 ∙ ap (λ (w : List Word). w ++ slice_words game j) inv.2 ∙ sym (wording-more game inv.0 j),
+        omega arith,
+      ),
+    )

@@ -1,0 +1,11 @@
+use Rattle.std.proofs.Common.{◌≡◌, ℕ, ◌+◌, ◌<◌, List}
+use Rattle.mwc_parts.specs.Wording.{opens, wording, total}
+use Rattle.mwc_gather.specs.Slicings.{slicing}
+use Rattle.mwc_gather.proofs.worker.work.Given as goal
+
+abbrev pub invariant-loop : goal.invariant-loop
+invariant-loop g l =
+    (l.out.ring ≡ l.initial.out.ring)
+    × (l.tasks.ring ≡ l.initial.tasks.ring)
+    × (0 < l.left)
+    × ((s : List ℕ) × (l.tasks.taken ≡ opens s) × (l.out.accepted ≡ wording (slicing l.guarded l.bits) s) × (total (slicing l.guarded l.bits) s + l.left ≡ l.most + 1))

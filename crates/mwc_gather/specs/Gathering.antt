@@ -1,0 +1,27 @@
+-- What gathering answers.
+use Rattle.std.specs.Prelude.{◌≡◌, ℕ, ◌<◌, ◌≤◌, ◌^◌, List, [], ◌∷◌, length, All, slice_index_or}
+use Rattle.std.specs.List.{flat_map, range_with_len}
+use Rattle.council_game.specs.Votes.{Votes, minimal_coalitions}
+use Rattle.mwc_walk.specs.Slices.{slice}
+use Rattle.mwc_parts.specs.Slicing.{Slicing}
+use Rattle.mwc_parts.specs.Wording.{total}
+use Rattle.mwc_parts.specs.Deals.{AscendsFrom}
+use Rattle.mwc_parts.specs.Parts.{HasPieces, shares}
+use Rattle.mwc_parts.specs.declared.part.Part.{Part}
+use Rattle.mwc_parts.specs.declared.gathered.Gathered.{Gathered}
+
+-- how many coalitions all slices have
+abbrev pub all_total : Slicing → ℕ
+all_total g = total g (range_with_len 0 g.slices)
+
+-- what is answered: a part for each worker, each with the coalitions of its slices, which ascend; worker w begins with slice w;
+-- and all slices in their order are the minimal winning coalitions, of which there are at most so many
+pub record Gathers (v : Votes) (bits workers most : ℕ) (r : Gathered) : Type 0 where
+  pub a_part_each : length r.parts.items ≡ workers
+  pub slices : r.slices ≡ 2 ^ bits
+  pub pieces : All (HasPieces (slice v bits)) r.parts.items
+  pub joined : All (λ (p : Part). p.got.items ≡ flat_map (slice v bits) p.slices.items) r.parts.items
+  pub ascend : All (λ (p : Part). AscendsFrom 0 p.slices.items) r.parts.items
+  pub begins : (w : ℕ) → w < workers → w < 2 ^ bits → (rest : List ℕ) × (slice_index_or (shares r.parts.items) w [] ≡ w ∷ rest)
+  pub few : length (minimal_coalitions v) ≤ most
+  pub whole : flat_map (slice v bits) (range_with_len 0 r.slices) ≡ minimal_coalitions v

@@ -1,0 +1,5 @@
+pub mod Slicings
+pub mod Sending
+pub mod Orders
+pub mod Desks
+pub mod Gathering

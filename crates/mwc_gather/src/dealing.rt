@@ -1,0 +1,159 @@
+//! Dealing slices to the workers while they run.
+ghost use Rattle.std.specs.Prelude.{◌≡◌, ◌<◌, ◌≤◌, ◌^◌, All, length, replicate, true, false};
+ghost use Rattle.mwc_parts.specs.Dealing.{Turns, IsFresh};
+ghost use Rattle.mwc_gather.specs.Orders.{slicing_of};
+ghost use Rattle.mwc_gather.specs.Desks.{seat, seats, AllOf, DealsTo, DealsFirst};
+
+use crate::desk::Desk;
+use crate::order::Order;
+use mwc_parts::Marks;
+use mwc_pipe::Word;
+use std::sync::Wait;
+use std::thread;
+
+/// What a turn of one worker, or of all of them, came to: whether the deal stops, and whether a word
+/// was there.
+#[derive(Clone, Copy)]
+struct Progress {
+    stopped: bool,
+    moved: bool,
+}
+
+/// Gives the worker the lowest slice without a holder, or tells it that there are no more. In a deal
+/// that is stopped nothing is given.
+fn deal<R: Wait>(rt: &R, marks: &mut Marks, stopped: bool, desk: &mut Desk, worker: u8) -> bool
+    requires slices { length marks.old ≡ 2 ^ desk.old.worker.promise.order.bits }
+    requires worker { worker < 16 }
+    ensures worker { desk.new.worker.promise ≡ desk.old.worker.promise }
+    ensures turns { Turns true marks.old stopped (seat desk.old) worker marks.new result (seat desk.new) }
+{
+    if desk.told {
+        return stopped;
+    }
+    if stopped || !desk.ready() {
+        desk.tell(rt);
+        return true;
+    }
+    match marks.lowest() {
+        Some(slice) => {
+            if !marks.give(slice, worker) {
+                unreachable!()
+            }
+            desk.assign(rt, slice);
+        }
+        None => desk.tell(rt),
+    }
+    false
+}
+
+/// Whether the deal stops: it stays stopped, and a loss or a cut stops it.
+fn stops(stopped: bool, lost: bool, cut: bool) -> bool
+    ensures stays { stopped ≡ true → result ≡ true }
+    ensures goes_on { stopped ≡ false → lost ≡ false → cut ≡ false → result ≡ false }
+{
+    stopped || lost || cut
+}
+
+/// Takes a word of the worker, and deals to it where it has finished a slice.
+fn turn<R: Wait>(rt: &R, marks: &mut Marks, stopped: bool, desk: &mut Desk, worker: u8) -> Progress
+    requires slices { length marks.old ≡ 2 ^ desk.old.worker.promise.order.bits }
+    requires worker { worker < 16 }
+    ensures worker { desk.new.worker.promise ≡ desk.old.worker.promise }
+    ensures turns { Turns false marks.old stopped (seat desk.old) worker marks.new result.stopped (seat desk.new) }
+{
+    let word = desk.read();
+    let moved = word.is_some();
+    let stop = stops(stopped, desk.draft.lost, desk.draft.cut);
+    match word {
+        Some(Word::Done(_)) => {
+            let stopped = deal(rt, marks, stop, desk, worker);
+            Progress { stopped, moved }
+        }
+        Some(Word::End { cut: _ }) => {
+            desk.ended = true;
+            Progress {
+                stopped: stop,
+                moved,
+            }
+        }
+        _ => Progress {
+            stopped: stop,
+            moved,
+        },
+    }
+}
+
+/// Deals one slice to each worker, and says whether the deal is stopped.
+fn deal_first<R: Wait>(
+    rt: &R,
+    order: &Order,
+    early: bool,
+    marks: &mut Marks,
+    desks: &mut [Desk],
+) -> bool
+    requires few { length desks.old ≤ 16 }
+    requires all_of { AllOf (slicing_of order.now) order.now.most desks.old }
+    requires fresh { All IsFresh (seats desks.old) }
+    requires marks { marks.old ≡ replicate (2 ^ order.now.bits) None }
+    ensures { DealsFirst (slicing_of order.now) order.now.most early marks.new result (length desks.old) desks.new }
+{
+    let mut stopped = early;
+    for i in 0..desks.len() {
+        stopped = deal(rt, marks, stopped, &mut desks[i], i as u8);
+    }
+    stopped
+}
+
+/// Reads at most one word of each ring, and says whether a worker has still to send its End.
+fn read_round<R: Wait>(
+    rt: &R,
+    order: &Order,
+    early: bool,
+    marks: &mut Marks,
+    stopped: bool,
+    desks: &mut [Desk],
+) -> (bool, Progress)
+    requires few { length desks.old ≤ 16 }
+    requires deals { DealsTo (slicing_of order.now) order.now.most early marks.old stopped desks.old }
+    ensures { DealsTo (slicing_of order.now) order.now.most early marks.new result.1.stopped desks.new }
+{
+    let mut running = false;
+    let mut moved = false;
+    let mut stopped = stopped;
+    for i in 0..desks.len() {
+        let progress = turn(rt, marks, stopped, &mut desks[i], i as u8);
+        stopped = progress.stopped;
+        moved |= progress.moved;
+        running |= !desks[i].ended;
+    }
+    (running, Progress { stopped, moved })
+}
+
+/// Deals the slices and reads the rings in turn, until each worker has sent its End. Where no word
+/// is there it yields.
+pub(crate) fn read_all<R: Wait>(
+    rt: &R,
+    order: &Order,
+    early: bool,
+    marks: &mut Marks,
+    desks: &mut [Desk],
+) -> bool
+    requires few { length desks.old ≤ 16 }
+    requires all_of { AllOf (slicing_of order.now) order.now.most desks.old }
+    requires fresh { All IsFresh (seats desks.old) }
+    requires marks { marks.old ≡ replicate (2 ^ order.now.bits) None }
+    ensures { DealsTo (slicing_of order.now) order.now.most early marks.new result desks.new }
+{
+    let mut stopped = deal_first(rt, order, early, marks, desks);
+    for _ in rt.forever() {
+        let (running, progress) = read_round(rt, order, early, marks, stopped, desks);
+        stopped = progress.stopped;
+        if !running {
+            return stopped;
+        }
+        if !progress.moved {
+            thread::yield_now();
+        }
+    }
+    unreachable!()
+}

@@ -1,0 +1,165 @@
+//! Workers that run beside each other.
+ghost use Rattle.std.specs.Prelude.{◌≡◌, ◌<◌, ◌≤◌, ◌^◌, [], All, None, false, IfOk, length, vec_len};
+ghost use Rattle.std.specs.List.{AllZip};
+ghost use Rattle.council_game.specs.Votes.{minimal_coalitions};
+ghost use Rattle.council_game.specs.Game.{votes_of};
+ghost use Rattle.mwc_parts.specs.Wording.{total};
+ghost use Rattle.mwc_parts.specs.Dealing.{IsFresh};
+ghost use Rattle.mwc_parts.specs.Fault.{fault_of, OnTooMany};
+ghost use Rattle.mwc_gather.specs.Slicings.{slicing};
+ghost use Rattle.mwc_gather.specs.Orders.{slicing_of};
+ghost use Rattle.mwc_gather.specs.Desks.{AllOf, Finished, seats};
+ghost use Rattle.mwc_gather.specs.Gathering.{all_total, Gathers};
+
+use crate::dealing::read_all;
+use crate::desk::Desk;
+use crate::guarded::{Gate, Guarded};
+use crate::opening::finish_part;
+use crate::order::Order;
+use mwc_parts::{GatherFault, Gathered, Marks, Met, Part, fits};
+use mwc_walk::slice_count;
+use std::alloc::Global;
+use std::sync::Wait;
+use std::thread;
+use std::thread::{Scope, Threads};
+
+/// Lists the minimal winning coalitions of the game by workers that run beside each other, each in
+/// a thread of its own, where there are at most `most`: slice w goes first to worker w, and then the
+/// lowest slice that no worker has to the one that has finished its own. It returns once all workers
+/// have ended.
+///
+/// There are at most 10 bits, and no more than members; 1 to 16 workers; `most` is 1 to 4,000,000.
+///
+/// # Errors
+///
+/// The first of Start, Memory, Ring and TooMany that was met. Where none of the first three was, it
+/// is TooMany exactly where the game has more than `most` minimal winning coalitions. After any of
+/// them no further slice is given, and nothing is kept.
+pub fn gather<R: Threads + Wait + Sync, G: Gate + Sync>(
+    rt: &R,
+    alloc: Global,
+    guarded: &Guarded<'_, G>,
+    bits: u8,
+    workers: u8,
+    most: u32,
+) -> Result<Gathered, GatherFault>
+    requires bits { (bits ≤ 10) × (bits ≤ length guarded.now.names) }
+    requires workers { (1 ≤ workers) × (workers ≤ 16) }
+    requires most { (1 ≤ most) × (most ≤ 4000000) }
+    ensures gathers { IfOk result (Gathers (votes_of guarded.now) bits workers most) }
+    ensures many { OnTooMany result (most < length (minimal_coalitions (votes_of guarded.now))) }
+{
+    let own = guarded.share();
+    thread::scope(
+        thread::scope_env(),
+        rt,
+        move |scope| -> Result<Gathered, GatherFault>
+            requires bits { (bits ≤ 10) × (bits ≤ length own.names) }
+            requires workers { (1 ≤ workers) × (workers ≤ 16) }
+            requires most { (1 ≤ most) × (most ≤ 4000000) }
+            ensures gathers { IfOk result (Gathers (votes_of own.entry) bits workers most) }
+            ensures many { OnTooMany result (most < length (minimal_coalitions (votes_of own.entry))) }
+        { run(scope, rt, alloc, &own, bits, workers, most) },
+    )
+}
+
+/// Starts the workers, deals the slices while they run, and joins them.
+fn run<'s, E, R: Threads + Wait + Sync, G: Gate + Sync>(
+    scope: &Scope<'s, E>,
+    rt: &'s R,
+    alloc: Global,
+    guarded: &Guarded<'s, G>,
+    bits: u8,
+    workers: u8,
+    most: u32,
+) -> Result<Gathered, GatherFault>
+    requires bits { (bits ≤ 10) × (bits ≤ length guarded.now.names) }
+    requires workers { (1 ≤ workers) × (workers ≤ 16) }
+    requires most { (1 ≤ most) × (most ≤ 4000000) }
+    ensures gathers { IfOk result (Gathers (votes_of guarded.now) bits workers most) }
+    ensures many { OnTooMany result (most < length (minimal_coalitions (votes_of guarded.now))) }
+{
+    let order = Order::new(guarded, bits, most);
+    let slices = slice_count(bits);
+    let mut desks = Vec::new(alloc);
+    let met = open_all(scope, rt, alloc, guarded, bits, workers, most, &mut desks);
+    let early = met.fault().is_some();
+    let mut marks = Marks::new(slices);
+    let _stopped = read_all(rt, &order, early, &mut marks, desks.as_mut_slice());
+    let parts = finish_all(rt, alloc, &order, desks, met)?;
+    if !fits(parts.as_slice(), most) {
+        return Err(GatherFault::TooMany);
+    }
+    Ok(Gathered { parts, slices })
+}
+
+/// Starts the workers, until one cannot be started. Room for the desks is made first.
+fn open_all<'s, E, R: Threads + Wait + Sync, G: Gate + Sync>(
+    scope: &Scope<'s, E>,
+    rt: &'s R,
+    alloc: Global,
+    guarded: &Guarded<'s, G>,
+    bits: u8,
+    workers: u8,
+    most: u32,
+    desks: &mut Vec<Desk>,
+) -> Met
+    requires bits { (bits ≤ 10) × (bits ≤ length guarded.now.names) }
+    requires workers { workers ≤ 16 }
+    requires most { (1 ≤ most) × (most ≤ 4000000) }
+    requires none { desks.old.items ≡ [] }
+    ensures few { vec_len desks.new ≤ workers }
+    ensures all { fault_of result ≡ None → vec_len desks.new ≡ workers }
+    ensures many { result.many ≡ false }
+    ensures order { AllOf (slicing guarded.now bits) most desks.new.items }
+    ensures fresh { All IsFresh (seats desks.new.items) }
+{
+    let mut met = Met::nothing();
+    if desks.reserve(usize::from(workers)).is_err() {
+        met.note(GatherFault::Memory);
+        return met;
+    }
+    for worker in 0..workers {
+        match Desk::open(scope, rt, alloc, guarded, bits, worker, most) {
+            Ok(desk) => desks.push_reserved(desk),
+            Err(why) => {
+                met.note(why);
+                return met;
+            }
+        }
+    }
+    met
+}
+
+/// Joins all workers, and gives the part of each, or the fault that goes before the others.
+fn finish_all<R: Threads>(
+    rt: &R,
+    alloc: Global,
+    order: &Order,
+    desks: Vec<Desk>,
+    start: Met,
+) -> Result<Vec<Part>, GatherFault>
+    requires all { AllOf (slicing_of order.now) order.now.most desks.items }
+    requires within { All (λ d. total (slicing_of order.now) d.given.items ≤ all_total (slicing_of order.now)) desks.items }
+    requires start { start.many ≡ false }
+    ensures none { IfOk result (λ v. fault_of start ≡ None) }
+    ensures parts { IfOk result (λ v. AllZip (Finished (slicing_of order.now)) desks.items v.items) }
+    ensures many { OnTooMany result (order.now.most < all_total (slicing_of order.now)) }
+{
+    let mut met = start;
+    let mut parts = Vec::new(alloc);
+    for desk in desks {
+        match finish_part(desk, rt) {
+            Ok(part) => {
+                if parts.push(part).is_err() {
+                    met.note(GatherFault::Memory);
+                }
+            }
+            Err(why) => met.note(why),
+        }
+    }
+    match met.fault() {
+        Some(why) => Err(why),
+        None => Ok(parts),
+    }
+}

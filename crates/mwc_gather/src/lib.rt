@@ -1,0 +1,23 @@
+//! Workers that list the minimal winning coalitions of a game beside each other, slice by slice on
+//! demand, and send them through rings.
+#![tactic(auto)]
+
+mod dealing;
+mod desk;
+mod gathering;
+mod guarded;
+mod opening;
+mod order;
+mod promise;
+mod send;
+mod sent;
+#[cfg(test)]
+mod tests;
+mod worker;
+
+pub use gathering::gather;
+pub use guarded::{Gate, Guarded, NoGate};
+pub use mwc_parts::{GatherFault, Gathered, Marks, Part};
+pub use send::send_slice;
+pub use sent::Sent;
+pub use worker::work;

@@ -1,0 +1,220 @@
+//! A desk's calls.
+ghost use Rattle.std.specs.Prelude.{◌≡◌, ◌≢◌, ◌+◌, ◌<◌, ◌≤◌, ◌^◌, ◌++◌, ◌∷◌, [], List, IfOk, IsTrue, IsFalse, true, false, length, vec_len, vec_capacity};
+ghost use Rattle.mwc_pipe.specs.declared.word.Word.{Word};
+ghost use Rattle.mwc_parts.specs.Wording.{total};
+ghost use Rattle.mwc_parts.specs.Dealing.{IsFresh};
+ghost use Rattle.mwc_parts.specs.Fault.{OnTooMany};
+ghost use Rattle.mwc_parts.specs.Settled.{Keeps, IsWhole};
+ghost use Rattle.mwc_gather.specs.Slicings.{slicing};
+ghost use Rattle.mwc_gather.specs.Sending.{Worked};
+ghost use Rattle.mwc_gather.specs.Orders.{slicing_of};
+ghost use Rattle.mwc_gather.specs.Desks.{IsOf, seat, Finished};
+
+use crate::desk::Desk;
+use crate::guarded::{Gate, Guarded};
+use crate::order::Order;
+use crate::promise::{Answer, Task};
+use crate::worker::work;
+use mwc_parts::{Draft, GatherFault, Part, settle};
+use mwc_pipe::{Rest, RingIn, Word, ring};
+use mwc_walk::slice_count;
+use std::alloc::Global;
+use std::snapshot::Snapshot;
+use std::sync::Wait;
+use std::thread;
+use std::thread::{Scope, Threads};
+
+/// How many words a worker may be ahead of the gatherer.
+const WORDS: usize = 64;
+
+/// How many tasks a worker may be behind it.
+const TASKS: usize = 2;
+
+impl Desk {
+    /// Makes room for what is kept of a worker, and starts it.
+    pub fn open<'s, E, R: Threads + Wait + Sync, G: Gate + Sync>(
+        scope: &Scope<'s, E>,
+        rt: &'s R,
+        alloc: Global,
+        guarded: &Guarded<'s, G>,
+        bits: u8,
+        worker: u8,
+        most: u32,
+    ) -> Result<Desk, GatherFault>
+        requires bits { (bits ≤ 10) × (bits ≤ length guarded.now.names) }
+        requires worker { worker < 16 }
+        requires most { (1 ≤ most) × (most ≤ 4000000) }
+        ensures order { IfOk result (IsOf (slicing guarded.now bits) most) }
+        ensures fresh { IfOk result (λ d. IsFresh (seat d)) }
+        ensures many { OnTooMany result ⊥ }
+    {
+        let slices = slice_count(bits);
+        let mut given = Vec::new(alloc);
+        if given.reserve(usize::from(slices)).is_err() {
+            return Err(GatherFault::Memory);
+        }
+        let Ok(draft) = Draft::new(alloc, slices) else {
+            return Err(GatherFault::Memory);
+        };
+        let Ok((out, words)) = ring(alloc, WORDS) else {
+            return Err(GatherFault::Memory);
+        };
+        let Ok((tasks, list)) = ring(alloc, TASKS) else {
+            return Err(GatherFault::Memory);
+        };
+        let task = Task {
+            order: Order::new(guarded, bits, most),
+            out: Snapshot::of(&out),
+            tasks: Snapshot::of(&list),
+        };
+        let own = guarded.share();
+        let body = move || -> Answer
+            requires bits { (bits ≤ 10) × (bits ≤ length own.names) }
+            requires worker { worker < 16 }
+            requires most { (1 ≤ most) × (most ≤ 4000000) }
+            requires fresh { (out.accepted ≡ []) × (list.taken ≡ []) }
+            ensures { Worked (slicing own.entry bits) most out list result }
+        { work(rt, &own, bits, worker, most, out, list) };
+        let Ok(worker) = scope.spawn_with(task, body) else {
+            return Err(GatherFault::Start);
+        };
+        Ok(Desk {
+            worker,
+            words,
+            tasks,
+            given,
+            told: false,
+            ended: false,
+            draft,
+        })
+    }
+
+    /// Whether there is room for one more slice; where there is none, that is a loss.
+    pub fn ready(&mut self) -> bool
+        ensures worker { self.new.worker.promise ≡ self.old.worker.promise }
+        ensures room { IsTrue result → (vec_len self.new.given < vec_capacity self.new.given) × (self.new.draft.lost ≡ self.old.draft.lost) }
+        ensures lost { IsFalse result → self.new.draft.lost ≡ true }
+        ensures same { (self.new.given.items ≡ self.old.given.items) × (self.new.told ≡ self.old.told) × (self.new.draft.cut ≡ self.old.draft.cut) }
+    {
+        if self.given.reserve(1).is_err() {
+            self.draft.lose();
+            return false;
+        }
+        true
+    }
+
+    /// Gives the worker a slice.
+    pub fn assign<R: Wait>(&mut self, rt: &R, slice: u16)
+        requires slice { slice < 2 ^ self.old.worker.promise.order.bits }
+        requires room { vec_len self.old.given < vec_capacity self.old.given }
+        requires told { self.old.told ≡ false }
+        ensures worker { self.new.worker.promise ≡ self.old.worker.promise }
+        ensures given { self.new.given.items ≡ self.old.given.items ++ slice ∷ [] }
+        ensures same { (self.new.told ≡ false) × (self.new.draft.lost ≡ self.old.draft.lost) × (self.new.draft.cut ≡ self.old.draft.cut) }
+    {
+        self.given.push_reserved(slice);
+        put(rt, &mut self.tasks, Word::Open(slice));
+    }
+
+    /// Tells the worker that there are no more.
+    pub fn tell<R: Wait>(&mut self, rt: &R)
+        requires { self.old.told ≡ false }
+        ensures worker { self.new.worker.promise ≡ self.old.worker.promise }
+        ensures told { self.new.told ≡ true }
+        ensures same { (self.new.given.items ≡ self.old.given.items) × (self.new.draft.lost ≡ self.old.draft.lost) × (self.new.draft.cut ≡ self.old.draft.cut) }
+    {
+        put(rt, &mut self.tasks, Word::End { cut: false });
+        self.told = true;
+    }
+
+    /// Takes a word where there is one, and keeps what it tells.
+    pub fn read(&mut self) -> Option<Word>
+        ensures worker { self.new.worker.promise ≡ self.old.worker.promise }
+        ensures same { (self.new.given.items ≡ self.old.given.items) × (self.new.told ≡ self.old.told) }
+        ensures lost { self.new.draft.lost ≡ false → self.old.draft.lost ≡ false }
+        ensures cut { self.new.draft.cut ≡ false → self.old.draft.cut ≡ false }
+    {
+        let word = self.words.take()?;
+        let again = word;
+        self.draft.hear(again);
+        Some(word)
+    }
+
+    /// Joins the worker, and keeps what is left of its words.
+    fn finish<R: Threads>(self, rt: &R) -> Result<(Vec<u16>, Draft), GatherFault>
+        ensures given { IfOk result (λ r. r.0.items ≡ self.given.items) }
+        ensures whole { IfOk result (λ r. IsWhole (slicing_of self.worker.promise.order) self.worker.promise.order.most self.given.items self.told r.1) }
+        ensures lost { IfOk result (λ r. r.1.lost ≡ false → self.draft.lost ≡ false) }
+        ensures cut { IfOk result (λ r. r.1.cut ≡ false → self.draft.cut ≡ false) }
+        ensures many { OnTooMany result ⊥ }
+    {
+        let Desk {
+            worker,
+            words,
+            tasks,
+            given,
+            told: _,
+            ended: _,
+            draft,
+        } = self;
+        let mut draft = draft;
+        let (closed, list) = worker.join(rt);
+        let Ok(told) = tasks.close() else {
+            return Err(ring_fault(&draft));
+        };
+        let _left = list.end(told);
+        let Ok(closed) = closed else {
+            return Err(ring_fault(&draft));
+        };
+        drain(words.end(closed), &mut draft);
+        Ok((given, draft))
+    }
+}
+
+/// Joins the worker of a desk, and gives its part.
+pub(crate) fn finish_part<R: Threads>(desk: Desk, rt: &R) -> Result<Part, GatherFault>
+    ensures part { IfOk result (Finished (slicing_of desk.worker.promise.order) desk) }
+    ensures many { OnTooMany result (desk.worker.promise.order.most < total (slicing_of desk.worker.promise.order) desk.given.items) }
+{
+    let (given, draft) = desk.finish(rt)?;
+    settle(given, draft)
+}
+
+/// The fault where a ring could not be finished, unless something was lost before.
+fn ring_fault(draft: &Draft) -> GatherFault
+    ensures { result ≢ GatherFault.TooMany }
+{
+    if draft.lost {
+        GatherFault::Memory
+    } else {
+        GatherFault::Ring
+    }
+}
+
+/// Puts a task into the ring, and waits while it is full.
+fn put<R: Wait>(rt: &R, tasks: &mut RingIn, task: Word)
+    ensures ring { tasks.new.ring ≡ tasks.old.ring }
+    ensures accepted { tasks.new.accepted ≡ tasks.old.accepted ++ task ∷ [] }
+{
+    let mut task = task;
+    for _ in rt.forever() {
+        match tasks.put(task) {
+            Ok(()) => return,
+            Err(back) => task = back,
+        }
+        thread::yield_now();
+    }
+    unreachable!()
+}
+
+/// Keeps all words that are left.
+fn drain(rest: Rest, draft: &mut Draft)
+    ensures keeps { (words : List Word) → Keeps words draft.old → Keeps (words ++ rest) draft.new }
+    ensures lost { draft.new.lost ≡ false → draft.old.lost ≡ false }
+    ensures cut { draft.new.cut ≡ false → draft.old.cut ≡ false }
+{
+    let mut rest = rest;
+    while let Some(word) = rest.next() {
+        draft.hear(word);
+    }
+}

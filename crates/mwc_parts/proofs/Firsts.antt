@@ -1,0 +1,159 @@
+-- The first deals, and what the end of the deal tells.
+use Rattle.std.specs.Prelude.{◌≡◌, ◌⊎◌, ℕ, zero, suc, ◌+◌, ◌<◌, ◌≤◌, Bool, true, false, cond, List, [], ◌∷◌, ◌++◌, Option, None, IsSome, length, map, replicate, All, refl}
+use Rattle.std.specs.List.{range_with_len}
+use Rattle.std.proofs.Common.{set, get_or, ap, subst, arith, sym, ◌∙◌, inl, inr}
+use Rattle.std.proofs.lemmas.Bool.{false≢true, eq-eqb, ne_eqb}
+use Rattle.std.proofs.lemmas.List.{length-append, get_or_append_left, get_or_push}
+use Rattle.std.proofs.lemmas.List.Elements.{All-head, All-tail, All-cons, All-weaker}
+use Rattle.mwc_parts.specs.Slicing.{Slicing}
+use Rattle.mwc_parts.specs.Sums.{sum_of, times}
+use Rattle.mwc_parts.specs.Wording.{total}
+use Rattle.mwc_parts.specs.Deals.{held_from, held, Dealt, AscendsFrom}
+use Rattle.mwc_parts.specs.Dealing.{Seat, givens, Dealing, Turns, FirstDeals, IsFresh}
+use Rattle.mwc_parts.proofs.Deals.{shares_sum, each_once, no_other, held_ascends, one_of_sum, sum_range_le}
+use Rattle.mwc_parts.proofs.Turns.{turn_nothing, turn_one, none_free, still, share_at}
+
+no_shares : (seats : List Seat) (from : ℕ) → All IsFresh seats → givens seats ≡ map (held []) (range_with_len from (length seats))
+no_shares [] from a = refl
+no_shares (s ∷ seats) from a =
+    let h = All-head IsFresh s seats a in
+    ap (λ (x : List ℕ). x ∷ givens seats) h.0 ∙ ap (λ (xs : List (List ℕ)). [] ∷ xs) (no_shares seats (from + 1) (All-tail IsFresh s seats a))
+
+-- before the first deal
+pub begin : (n : ℕ) (early : Bool) (seats : List Seat) → All IsFresh seats → FirstDeals n 0 early (replicate n None) early seats
+begin n early seats a = record {
+  deal = record {
+    holders = [];
+    free = n;
+    marks_are = refl;
+    all_slices = omega arith;
+    by_workers = λ k d l. absurd (omega arith);
+    given_are = no_shares seats 0 a;
+    told_late = All-weaker IsFresh (λ (s : Seat). s.told ≡ true → (n ≡ 0) ⊎ (early ≡ true)) (λ x h q. absurd (false≢true (sym h.1 ∙ q))) seats a;
+    stops = λ z w. z;
+    begins = λ z w l m. absurd (omega arith);
+  };
+  at_most = omega arith;
+}
+
+near : (m n : ℕ) → m < n + 1 → (m < n) ⊎ (m ≡ n)
+near m n l = grind arith
+
+reached : (k n m : ℕ) → k < n → ((w : ℕ) → w < k → w < n → w < m) → k ≤ m
+reached zero n m l h = omega arith
+reached (suc k) n m l h = let q = h k (omega arith) (omega arith) in omega arith
+
+-- the first deal to worker k
+pub first_turn : {n : ℕ} {early stopped stops : Bool} {marks after : List (Option ℕ)} (seats : List Seat) (k : ℕ) (s t : Seat) → k < length seats → s ≡ get_or seats k s → s.told ≡ false
+    → FirstDeals n k early marks stopped seats → Turns true marks stopped s k after stops t → FirstDeals n (k + 1) early after stops (set seats k t)
+unfolding turn_nothing turn_one
+first_turn {n} {early} {stopped} {stops} {marks} {after} seats k s t l e fresh f r =
+    let d = f.deal in let most = f.at_most in
+    elim r.gives [
+      | inl g ↦
+          let x : Dealing n k early after stops (set seats k t) = turn_nothing seats k s t l e d r.lost_stays r.cut_stays r.goes_on r.stays g in
+          let full : stops ≡ false → d.free ≡ 0
+          = λ z. elim (g.why refl fresh) [
+            | inl all ↦ none_free d.holders d.free (subst (λ (m : List (Option ℕ)). All IsSome m) d.marks_are all)
+            | inr y ↦ absurd (false≢true (sym z ∙ y))
+          ] in
+          record {
+            deal = record {
+              holders = d.holders;
+              free = d.free;
+              marks_are = x.marks_are;
+              all_slices = x.all_slices;
+              by_workers = x.by_workers;
+              given_are = x.given_are;
+              told_late = x.told_late;
+              stops = x.stops;
+              begins = λ z w v u.
+                  elim (near w k v) [
+                    | inl b ↦ d.begins (still stopped stops r.stays z) w b u
+                    | inr b ↦ let q = full z in let a : length d.holders + d.free ≡ n = d.all_slices in absurd (omega arith)
+                  ];
+            };
+            at_most = omega arith;
+          }
+      | inr g ↦
+          let hs : List ℕ = d.holders in
+          let x : Dealing n k early after stops (set seats k t) = turn_one seats k s t l e d r.lost_stays r.cut_stays r.goes_on r.stays g in
+          let longer : length (hs ++ k ∷ []) ≡ length hs + 1 = length-append hs (k ∷ []) in
+          record {
+            deal = record {
+              holders = hs ++ k ∷ [];
+              free = x.free;
+              marks_are = x.marks_are;
+              all_slices = x.all_slices;
+              by_workers = x.by_workers;
+              given_are = x.given_are;
+              told_late = x.told_late;
+              stops = x.stops;
+              begins = λ z w v u.
+                  let go : stopped ≡ false = still stopped stops r.stays z in
+                  elim (near w k v) [
+                    | inl b ↦ let old = d.begins go w b u in let m : w < length hs = old.0 in (omega arith, get_or_append_left hs (k ∷ []) 0 w m ∙ old.1)
+                    | inr b ↦
+                        let m : k ≤ length hs = reached k n (length hs) (omega arith) (λ i v u. let o = d.begins go i v u in o.0) in
+                        let q : length hs ≡ w = omega arith in
+                        (omega arith, get_or_push hs k 0 w q ∙ sym b)
+                  ];
+            };
+            at_most = omega arith;
+          }
+    ]
+
+-- who told what at the end
+pub dealt_once : {n : ℕ} {shares : List (List ℕ)} (j : ℕ) → Dealt n shares → j < n → sum_of (times j) shares ≡ 1
+dealt_once {n} {shares} j d l =
+    let a : length d.holders ≡ n = d.each_held in
+    ap (sum_of (times j)) d.shares_are ∙ each_once j (length shares) d.holders d.by_workers (omega arith)
+
+pub dealt_no_other : {n : ℕ} {shares : List (List ℕ)} (j : ℕ) → Dealt n shares → n ≤ j → sum_of (times j) shares ≡ 0
+dealt_no_other {n} {shares} j d l =
+    let a : length d.holders ≡ n = d.each_held in
+    ap (sum_of (times j)) d.shares_are ∙ no_other j (length shares) d.holders d.by_workers (omega arith)
+
+pub dealt_total : {n : ℕ} {shares : List (List ℕ)} (g : Slicing) → Dealt n shares → sum_of (total g) shares ≡ total g (range_with_len 0 n)
+dealt_total {n} {shares} g d =
+    ap (sum_of (total g)) d.shares_are ∙ shares_sum (λ j. length (g.slice j)) (length shares) d.holders d.by_workers ∙ ap (λ (m : ℕ). total g (range_with_len 0 m)) d.each_held
+
+all_ascend : (hs ws : List ℕ) → All (AscendsFrom 0) (map (held hs) ws)
+all_ascend hs [] = λ k d l. absurd (omega arith)
+all_ascend hs (w ∷ ws) = All-cons (AscendsFrom 0) (held hs w) (map (held hs) ws) (held_ascends w 0 hs) (all_ascend hs ws)
+
+pub dealt_ascends : {n : ℕ} {shares : List (List ℕ)} → Dealt n shares → All (AscendsFrom 0) shares
+dealt_ascends {n} {shares} d = subst (λ (l : List (List ℕ)). All (AscendsFrom 0) l) (sym d.shares_are) (all_ascend d.holders (range_with_len 0 (length shares)))
+
+-- no worker was given more than all slices
+pub each_within : {n k : ℕ} {early stopped : Bool} {marks : List (Option ℕ)} (g : Slicing) (seats : List Seat) → Dealing n k early marks stopped seats → All (λ (s : List ℕ). total g s ≤ total g (range_with_len 0 n)) (givens seats)
+each_within {n} g seats d =
+    let a : sum_of (total g) (givens seats) ≡ total g (range_with_len 0 (length d.holders)) = ap (sum_of (total g)) d.given_are ∙ shares_sum (λ j. length (g.slice j)) (length seats) d.holders d.by_workers in
+    let q : length d.holders + d.free ≡ n = d.all_slices in
+    let m : total g (range_with_len 0 (length d.holders)) ≤ total g (range_with_len 0 n) = sum_range_le (λ j. length (g.slice j)) 0 (length d.holders) n (omega arith) in
+    All-weaker (λ (s : List ℕ). total g s ≤ sum_of (total g) (givens seats)) (λ (s : List ℕ). total g s ≤ total g (range_with_len 0 n)) (λ s l. omega arith) (givens seats) (one_of_sum (total g) (givens seats))
+
+-- the first slice that a worker holds
+begins_with : (w j : ℕ) (hs : List ℕ) (m : ℕ) → j + m ≡ w → m < length hs → ((v : ℕ) → v < m + 1 → get_or hs v 0 ≡ j + v) → (rest : List ℕ) × (held_from w j hs ≡ w ∷ rest)
+begins_with w j [] m e l h = absurd (omega arith)
+begins_with w j (x ∷ hs) zero e l h =
+    let q : x ≡ j + 0 = h 0 (omega arith) in
+    let a : w ≡ x = omega arith in
+    let b : j ≡ w = omega arith in
+    (held_from w (j + 1) hs, ap (λ (t : Bool). cond t (j ∷ held_from w (j + 1) hs) (held_from w (j + 1) hs)) (eq-eqb w x a) ∙ ap (λ (i : ℕ). i ∷ held_from w (j + 1) hs) b)
+begins_with w j (x ∷ hs) (suc m) e l h =
+    let q : x ≡ j + 0 = h 0 (omega arith) in
+    let r = begins_with w (j + 1) hs m (omega arith) (omega arith) (λ v b. let o = h (suc v) (omega arith) in omega arith) in
+    (r.0, ap (λ (t : Bool). cond t (j ∷ held_from w (j + 1) hs) (held_from w (j + 1) hs)) (ne_eqb w x (λ z. omega arith)) ∙ r.1)
+
+pub first_held : (hs : List ℕ) (w : ℕ) → w < length hs → ((v : ℕ) → v < w + 1 → get_or hs v 0 ≡ v) → (rest : List ℕ) × (held hs w ≡ w ∷ rest)
+first_held hs w l h =
+    begins_with w 0 hs w (omega arith) l (λ v b. let o = h v b in omega arith)
+
+-- worker w begins with slice w, for each w below both counts
+pub share_begins : {n k : ℕ} {early stopped : Bool} {marks : List (Option ℕ)} (seats : List Seat) → Dealing n k early marks stopped seats → stopped ≡ false → k ≡ length seats → (w : ℕ) → w < k → w < n → (rest : List ℕ) × (get_or (givens seats) w [] ≡ w ∷ rest)
+share_begins seats d z e w a b =
+    let o = d.begins z w a b in
+    let h = first_held d.holders w o.0 (λ v u. let q = d.begins z v (omega arith) (omega arith) in q.1) in
+    let zero : 0 + w ≡ w = omega arith in
+    (h.0, ap (λ (s : List (List ℕ)). get_or s w []) d.given_are ∙ share_at d.holders 0 (length seats) w (omega arith) ∙ ap (held d.holders) zero ∙ h.1)

@@ -1,0 +1,114 @@
+-- What the words of whole slices tell.
+use Rattle.std.specs.Prelude.{◌≡◌, ℕ, zero, suc, ◌+◌, ◌-◌, ◌<◌, ◌≤◌, Bool, false, List, [], ◌∷◌, ◌++◌, length, map, take, drop, refl}
+use Rattle.std.proofs.Common.{get_or, subst, ap, arith, sym, ◌∙◌, append_assoc}
+use Rattle.std.proofs.lemmas.List.{append-nil, length-append, drop_at, take_at}
+use Rattle.mwc_parts.specs.Slicing.{Slicing}
+use Rattle.mwc_pipe.specs.declared.word.Word.{Word}
+use Rattle.mwc_pipe.specs.declared.word.Word.TheVariants.{Open, One, Done, End}
+use Rattle.mwc_parts.specs.Wording.{wording, total}
+use Rattle.mwc_parts.specs.Settled.{AllSent}
+use Rattle.mwc_parts.specs.Pieces.{ones, dones, joined, ends_from, Rises}
+
+ones-slice : (j : ℕ) (l : List ℕ) (rest : List Word) → ones (((Open j ∷ map One l) ++ Done j ∷ []) ++ rest) ≡ l ++ ones rest
+ones-slice j [] rest = refl
+ones-slice j (c ∷ l) rest = ap (λ (w : List ℕ). c ∷ w) (ones-slice j l rest)
+
+dones-slice : (n j : ℕ) (l : List ℕ) (rest : List Word) → dones n (((Open j ∷ map One l) ++ Done j ∷ []) ++ rest) ≡ (n + length l) ∷ dones (n + length l) rest
+dones-slice n j [] rest = let e : n ≡ n + 0 = omega arith in ap (λ (m : ℕ). m ∷ dones m rest) e
+dones-slice n j (c ∷ l) rest =
+    let e : (n + 1) + length l ≡ n + suc (length l) = omega arith in
+    dones-slice (n + 1) j l rest ∙ ap (λ (m : ℕ). m ∷ dones m rest) e
+
+-- the coalitions that a wording tells are its slices joined
+pub ones-wording : (g : Slicing) (s : List ℕ) → ones (wording g s) ≡ joined g s
+ones-wording g [] = refl
+ones-wording g (j ∷ s) = ones-slice j (g.slice j) (wording g s) ∙ ap (λ (w : List ℕ). g.slice j ++ w) (ones-wording g s)
+
+-- and its Done words stand where the slices end
+pub dones-wording : (g : Slicing) (n : ℕ) (s : List ℕ) → dones n (wording g s) ≡ ends_from g n s
+dones-wording g n [] = refl
+dones-wording g n (j ∷ s) =
+    dones-slice n j (g.slice j) (wording g s) ∙ ap (λ (w : List ℕ). (n + length (g.slice j)) ∷ w) (dones-wording g (n + length (g.slice j)) s)
+
+pub length-joined : (g : Slicing) (s : List ℕ) → length (joined g s) ≡ total g s
+length-joined g [] = refl
+length-joined g (j ∷ s) = let a = length-append (g.slice j) (joined g s) in let b = length-joined g s in omega arith
+
+pub length-ends : (g : Slicing) (n : ℕ) (s : List ℕ) → length (ends_from g n s) ≡ length s
+length-ends g n [] = refl
+length-ends g n (j ∷ s) = ap (λ (k : ℕ). suc k) (length-ends g (n + length (g.slice j)) s)
+
+middle : (pre l rest : List ℕ) (n m : ℕ) → length pre ≡ n → n + length l ≡ m → take (m - n) (drop n (pre ++ (l ++ rest))) ≡ l
+middle pre l rest n m e f =
+    let a : m - n ≡ length l = omega arith in
+    ap (λ (w : List ℕ). take (m - n) w) (drop_at pre (l ++ rest) n e) ∙ take_at l rest (m - n) (sym a)
+
+-- what stands between two ends is the slice
+piece_from : (g : Slicing) (pre : List ℕ) (n : ℕ) (s : List ℕ) (m : ℕ) → length pre ≡ n → m < length s → take (get_or (ends_from g n s) m 0 - get_or (n ∷ ends_from g n s) m 0) (drop (get_or (n ∷ ends_from g n s) m 0) (pre ++ joined g s)) ≡ g.slice (get_or s m 0)
+piece_from g pre n [] m e l = absurd (omega arith)
+piece_from g pre n (j ∷ s) zero e l = middle pre (g.slice j) (joined g s) n (n + length (g.slice j)) e refl
+piece_from g pre n (j ∷ s) (suc m) e l =
+    let k = n + length (g.slice j) in
+    let f : length (pre ++ g.slice j) ≡ k = let q = length-append pre (g.slice j) in omega arith in
+    ap (λ (w : List ℕ). take (get_or (ends_from g k s) m 0 - get_or (k ∷ ends_from g k s) m 0) (drop (get_or (k ∷ ends_from g k s) m 0) w)) (sym (append_assoc pre (g.slice j) (joined g s)))
+    ∙ piece_from g (pre ++ g.slice j) k s m f (omega arith)
+
+pub piece_is : (g : Slicing) (s : List ℕ) (m : ℕ) → m < length s → take (get_or (ends_from g 0 s) m 0 - get_or (0 ∷ ends_from g 0 s) m 0) (drop (get_or (0 ∷ ends_from g 0 s) m 0) (joined g s)) ≡ g.slice (get_or s m 0)
+piece_is g s m l = piece_from g [] 0 s m refl l
+
+-- the ends of slices never fall
+rises_from : (g : Slicing) (n : ℕ) (s : List ℕ) (m : ℕ) → m < length (ends_from g n s) → (get_or (n ∷ ends_from g n s) m 0 ≤ get_or (ends_from g n s) m 0) × (get_or (ends_from g n s) m 0 ≤ n + total g s)
+rises_from g n [] m l = absurd (omega arith)
+rises_from g n (j ∷ s) zero l = (omega arith, omega arith)
+rises_from g n (j ∷ s) (suc m) l =
+    let r = rises_from g (n + length (g.slice j)) s m (omega arith) in
+    let a = r.1 in
+    (r.0, omega arith)
+
+last_from : (g : Slicing) (n : ℕ) (s : List ℕ) → get_or (n ∷ ends_from g n s) (length (ends_from g n s)) 0 ≡ n + total g s
+last_from g n [] = omega arith
+last_from g n (j ∷ s) = let r = last_from g (n + length (g.slice j)) s in omega arith
+
+-- words joined
+pub ones-append : (xs ys : List Word) → ones (xs ++ ys) ≡ ones xs ++ ones ys
+ones-append [] ys = refl
+ones-append (Open j ∷ xs) ys = ones-append xs ys
+ones-append (One c ∷ xs) ys = ap (λ (w : List ℕ). c ∷ w) (ones-append xs ys)
+ones-append (Done j ∷ xs) ys = ones-append xs ys
+ones-append (End cut ∷ xs) ys = ones-append xs ys
+
+pub dones-append : (n : ℕ) (xs ys : List Word) → dones n (xs ++ ys) ≡ dones n xs ++ dones (n + length (ones xs)) ys
+dones-append n [] ys = let e : n ≡ n + 0 = omega arith in ap (λ (m : ℕ). dones m ys) e
+dones-append n (Open j ∷ xs) ys = dones-append n xs ys
+dones-append n (One c ∷ xs) ys =
+    let e : (n + 1) + length (ones xs) ≡ n + suc (length (ones xs)) = omega arith in
+    dones-append (n + 1) xs ys ∙ ap (λ (m : ℕ). dones (n + 1) xs ++ dones m ys) e
+dones-append n (Done j ∷ xs) ys = ap (λ (w : List ℕ). n ∷ w) (dones-append n xs ys)
+dones-append n (End cut ∷ xs) ys = dones-append n xs ys
+
+-- a part's fields, of the slices s
+pub record Reads (g : Slicing) (s got ends : List ℕ) : Type 0 where
+  pub joins : got ≡ joined g s
+  pub ends_are : ends ≡ ends_from g 0 s
+
+pub reads : {g : Slicing} {most : ℕ} {s : List ℕ} {told : Bool} {words : List Word} (got ends : List ℕ) → AllSent g most s told words → got ≡ ones words → ends ≡ dones 0 words → Reads g s got ends
+reads {g} {most} {s} {told} {words} got ends sent a b = record {
+  joins = a ∙ ap ones sent.words_are ∙ ones-append (wording g s) (End false ∷ []) ∙ append-nil (ones (wording g s)) ∙ ones-wording g s;
+  ends_are = b ∙ ap (dones 0) sent.words_are ∙ dones-append 0 (wording g s) (End false ∷ []) ∙ append-nil (dones 0 (wording g s)) ∙ dones-wording g 0 s;
+}
+
+pub one_end_each : {g : Slicing} {s got ends : List ℕ} → Reads g s got ends → length ends ≡ length s
+one_end_each {g} {s} {got} {ends} r = ap length r.ends_are ∙ length-ends g 0 s
+
+pub ends_rise : {g : Slicing} {s got ends : List ℕ} → Reads g s got ends → Rises ends (length got)
+ends_rise {g} {s} {got} {ends} r =
+    subst (λ (w : List ℕ). Rises w (length got)) (sym r.ends_are)
+    (subst (λ (w : List ℕ). Rises (ends_from g 0 s) (length w)) (sym r.joins)
+    (λ m l. let h = rises_from g 0 s m l in let k = length-joined g s in let a = h.1 in (h.0, omega arith)))
+
+pub last_end : {g : Slicing} {s got ends : List ℕ} → Reads g s got ends → get_or (0 ∷ ends) (length ends) 0 ≡ length got
+last_end {g} {s} {got} {ends} r =
+    let e = ap (λ (w : List ℕ). get_or (0 ∷ w) (length w) 0) r.ends_are in
+    let f = ap length r.joins in
+    let h = last_from g 0 s in let k = length-joined g s in
+    omega arith

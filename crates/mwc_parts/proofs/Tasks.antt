@@ -1,0 +1,46 @@
+-- What was taken of the tasks that were given.
+use Rattle.std.specs.Prelude.{◌≡◌, ℕ, ◌+◌, ◌<◌, ◌≤◌, Bool, true, false, List, [], ◌∷◌, ◌++◌, length, All, refl}
+use Rattle.std.proofs.Common.{ap, arith}
+use Rattle.std.proofs.lemmas.List.Elements.{All-head, All-tail}
+use Rattle.mwc_parts.specs.Slicing.{Slicing}
+use Rattle.mwc_pipe.specs.declared.word.Word.{Word}
+use Rattle.mwc_pipe.specs.declared.word.Word.TheVariants.{Open, One, Done, End}
+use Rattle.mwc_parts.specs.Wording.{opens, told_words, IsLast, total}
+
+-- no word that ends the work is a task that gives a slice
+not_last : (n j : ℕ) (last : Word) → last ≡ Open j → j < n → IsLast n last → ⊥
+not_last n j (Open i) e l h = let q : i ≡ j = cc in omega arith
+not_last n j (One c) e l h = cc
+not_last n j (Done c) e l h = cc
+not_last n j (End c) e l h = cc
+
+-- who took the word that ends the work took all slices that were given, and was told
+pub all_taken : (n : ℕ) (s given : List ℕ) (last : Word) (left : List Word) (told : Bool) → All (λ j. j < n) given → IsLast n last → (opens s ++ last ∷ []) ++ left ≡ opens given ++ told_words told → (s ≡ given) × (told ≡ true)
+all_taken n [] [] last left true a h e = (refl, refl)
+all_taken n [] [] last left false a h e = cc
+all_taken n [] (j ∷ given) last left told a h e =
+    let q : last ≡ Open j = cc in absurd (not_last n j last q (All-head (λ j. j < n) j given a) h)
+all_taken n (i ∷ s) [] last left true a h e = cc
+all_taken n (i ∷ s) [] last left false a h e = cc
+all_taken n (i ∷ s) (j ∷ given) last left told a h e =
+    let q : i ≡ j = cc in
+    let r : (opens s ++ last ∷ []) ++ left ≡ opens given ++ told_words told = cc in
+    let t = all_taken n s given last left told (All-tail (λ j. j < n) j given a) h r in
+    let u = t.0 in
+    (cc, t.1)
+
+-- the slices that were taken before the cut, and the one that was cut, were given first
+pub cut_taken : (g : Slicing) (s given : List ℕ) (slice : ℕ) (left : List Word) (told : Bool) → (opens s ++ Open slice ∷ []) ++ left ≡ opens given ++ told_words told → total g s + length (g.slice slice) ≤ total g given
+cut_taken g [] [] slice left true e = cc
+cut_taken g [] [] slice left false e = cc
+cut_taken g [] (j ∷ given) slice left told e =
+    let q : slice ≡ j = cc in
+    let r = ap (λ (k : ℕ). length (g.slice k)) q in omega arith
+cut_taken g (i ∷ s) [] slice left true e = cc
+cut_taken g (i ∷ s) [] slice left false e = cc
+cut_taken g (i ∷ s) (j ∷ given) slice left told e =
+    let q : i ≡ j = cc in
+    let f = ap (λ (k : ℕ). length (g.slice k)) q in
+    let r : (opens s ++ Open slice ∷ []) ++ left ≡ opens given ++ told_words told = cc in
+    let t = cut_taken g s given slice left told r in
+    omega arith

@@ -1,0 +1,8 @@
+use Rattle.std.proofs.Common.{◌≡◌, ℕ, List}
+use Rattle.std.specs.Prelude.{All}
+use Rattle.std.specs.List.{flat_map, range_with_len}
+use Rattle.mwc_parts.specs.Parts.{HasPieces}
+use Rattle.mwc_parts.proofs.gathered.Gathered.in_order.Given as goal
+
+abbrev pub invariant-loop-j : goal.invariant-loop-j
+invariant-loop-j l = (slice : ℕ → List ℕ) → All (HasPieces slice) l.self.parts.items → l.all.items ≡ flat_map slice (range_with_len 0 l.j)

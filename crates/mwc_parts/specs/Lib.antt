@@ -1,0 +1,10 @@
+pub mod Slicing
+pub mod Sums
+pub mod Table
+pub mod Wording
+pub mod Deals
+pub mod Dealing
+pub mod Pieces
+pub mod Parts
+pub mod Fault
+pub mod Settled

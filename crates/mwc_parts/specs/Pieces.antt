@@ -1,0 +1,35 @@
+-- What a part says of its slices.
+use Rattle.std.specs.Prelude.{ℕ, ◌+◌, ◌<◌, ◌≤◌, List, [], ◌∷◌, length, slice_index}
+use Rattle.std.specs.List.{flat_map}
+use Rattle.mwc_parts.specs.Slicing.{Slicing}
+use Rattle.mwc_pipe.specs.declared.word.Word.{Word}
+use Rattle.mwc_pipe.specs.declared.word.Word.TheVariants.{Open, One, Done, End}
+
+-- the coalitions that words tell
+abbrev pub ones : List Word → List ℕ
+ones [] = []
+ones (Open j ∷ ws) = ones ws
+ones (One c ∷ ws) = c ∷ ones ws
+ones (Done j ∷ ws) = ones ws
+ones (End cut ∷ ws) = ones ws
+
+-- how many coalitions stand before each Done, where n stood before the first word
+abbrev pub dones : ℕ → List Word → List ℕ
+dones n [] = []
+dones n (Open j ∷ ws) = dones n ws
+dones n (One c ∷ ws) = dones (n + 1) ws
+dones n (Done j ∷ ws) = n ∷ dones n ws
+dones n (End cut ∷ ws) = dones n ws
+
+-- the slices joined
+abbrev pub joined : Slicing → List ℕ → List ℕ
+joined g js = flat_map (g.slice) js
+
+-- where each slice ends, in the slices joined
+abbrev pub ends_from : Slicing → ℕ → List ℕ → List ℕ
+ends_from g n [] = []
+ends_from g n (j ∷ js) = (n + length (g.slice j)) ∷ ends_from g (n + length (g.slice j)) js
+
+-- the ends never fall, and none is beyond n
+abbrev pub Rises : List ℕ → ℕ → Type 0
+Rises ends n = (m : ℕ) → m < length ends → (slice_index (0 ∷ ends) m ≤ slice_index ends m) × (slice_index ends m ≤ n)

@@ -1,0 +1,59 @@
+-- The words that a worker sends.
+use Rattle.std.specs.Prelude.{◌≡◌, ℕ, ◌+◌, ◌≤◌, Bool, true, false, List, [], ◌∷◌, ◌++◌, length, map, take}
+use Rattle.mwc_parts.specs.Sums.{sum_of}
+use Rattle.mwc_parts.specs.Slicing.{Slicing}
+use Rattle.mwc_pipe.specs.declared.word.Word.{Word}
+use Rattle.mwc_pipe.specs.declared.word.Word.TheVariants.{Open, One, Done, End}
+
+-- the words of a slice
+abbrev pub slice_words : Slicing → ℕ → List Word
+slice_words g j = (Open j ∷ map One (g.slice j)) ++ Done j ∷ []
+
+-- the words of a slice that is cut after n coalitions
+abbrev pub cut_words : Slicing → ℕ → ℕ → List Word
+cut_words g j n = Open j ∷ map One (take n (g.slice j))
+
+-- the words of the slices, one after another
+abbrev pub wording : Slicing → List ℕ → List Word
+wording g [] = []
+wording g (j ∷ js) = slice_words g j ++ wording g js
+
+-- how many coalitions the slices have in all
+abbrev pub total : Slicing → List ℕ → ℕ
+total g js = sum_of (λ j. length (g.slice j)) js
+
+-- the tasks that give these slices
+abbrev pub opens : List ℕ → List Word
+opens [] = []
+opens (j ∷ js) = Open j ∷ opens js
+
+-- the word that says that there are no more, where it was said
+abbrev pub told_words : Bool → List Word
+told_words false = []
+told_words true = End false ∷ []
+
+-- whether a task ends the work
+abbrev pub IsLast : ℕ → Word → Type 0
+IsLast n (Open j) = n ≤ j
+IsLast n (One c) = Unit {0}
+IsLast n (Done j) = Unit {0}
+IsLast n (End cut) = Unit {0}
+
+-- all slices that the tasks gave, and the end
+pub record Whole (g : Slicing) (most : ℕ) (tasks words : List Word) : Type 0 where
+  pub slices : List ℕ
+  pub last : Word
+  pub tasks_are : tasks ≡ opens slices ++ last ∷ []
+  pub ends : IsLast g.slices last
+  pub few : total g slices ≤ most
+  pub words_are : words ≡ wording g slices ++ End false ∷ []
+
+-- the slices up to coalition number most + 1, and the end
+pub record Cut (g : Slicing) (most : ℕ) (tasks words : List Word) : Type 0 where
+  pub slices : List ℕ
+  pub slice : ℕ
+  pub count : ℕ
+  pub tasks_are : tasks ≡ opens slices ++ Open slice ∷ []
+  pub full : total g slices + count ≡ most + 1
+  pub within : count ≤ length (g.slice slice)
+  pub words_are : words ≡ (wording g slices ++ cut_words g slice count) ++ End true ∷ []

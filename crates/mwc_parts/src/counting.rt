@@ -1,0 +1,20 @@
+//! How many coalitions stand in all parts.
+ghost use Rattle.std.specs.Prelude.{◌≡◌, ◌<◌, ◌≤◌, length, true, false};
+ghost use Rattle.mwc_parts.specs.Sums.{sum_of};
+
+use crate::part::Part;
+
+/// Whether all parts have at most `most` coalitions.
+pub fn fits(parts: &[Part], most: u32) -> bool
+    ensures few { result ≡ true → sum_of (λ p. length p.got.items) parts.now ≤ most }
+    ensures many { result ≡ false → most < sum_of (λ p. length p.got.items) parts.now }
+{
+    let mut left = most as usize;
+    for part in parts {
+        if part.got.len() > left {
+            return false;
+        }
+        left -= part.got.len();
+    }
+    true
+}

@@ -1,0 +1,93 @@
+//! A part as its words come.
+ghost use Rattle.std.specs.Prelude.{◌≡◌, [], ◌∷◌, ◌++◌, List, false, length, IfOk, OnOk, true};
+ghost use Rattle.mwc_pipe.specs.declared.word.Word.{Word};
+ghost use Rattle.mwc_parts.specs.Pieces.{ones, dones};
+ghost use Rattle.mwc_parts.specs.Settled.{is_cut, Keeps};
+
+use council_game::{Coalition, Memory};
+use mwc_pipe::Word;
+use std::alloc::Global;
+
+/// What is kept of the words of a worker as they come.
+#[derive(Drop)]
+pub struct Draft {
+    /// How many coalitions had come at the end of each slice.
+    pub ends: Vec<u32>,
+    /// The coalitions that have come.
+    pub got: Vec<Coalition>,
+    /// Whether a word told of a cut.
+    pub cut: bool,
+    /// Whether something was lost for want of memory. Nothing is kept from then on.
+    pub lost: bool,
+}
+
+impl Draft {
+    /// The draft of no words, with room for so many slices; `Memory` where there was none.
+    pub fn new(alloc: Global, slices: u16) -> Result<Draft, Memory>
+        ensures { IfOk result (λ d. Keeps [] d × (d.lost ≡ false) × (d.cut ≡ false)) }
+    {
+        let mut ends = Vec::new(alloc);
+        ends.reserve(usize::from(slices))?;
+        Ok(Draft {
+            ends,
+            got: Vec::new(alloc),
+            cut: false,
+            lost: false,
+        })
+    }
+
+    /// Keeps one more word.
+    pub fn hear(&mut self, word: Word)
+        ensures keeps { (words : List Word) → Keeps words self.old → Keeps (words ++ word ∷ []) self.new }
+        ensures lost { self.new.lost ≡ false → self.old.lost ≡ false }
+        ensures cut { self.new.cut ≡ false → self.old.cut ≡ false }
+    {
+        let again = word;
+        self.cut |= tells_cut(again);
+        if self.lost {
+            return;
+        }
+        if self.keep(word).is_err() {
+            self.lost = true;
+        }
+    }
+
+    /// Something is lost: nothing is kept from here on.
+    pub fn lose(&mut self)
+        ensures keeps { (words : List Word) → Keeps words self.old → Keeps words self.new }
+        ensures lost { self.new.lost ≡ true }
+        ensures cut { self.new.cut ≡ self.old.cut }
+    {
+        self.lost = true;
+    }
+
+    /// Keeps what the word tells of coalitions. A count that does not fit is told as want of
+    /// memory: so many coalitions would take more than 32 GB.
+    fn keep(&mut self, word: Word) -> Result<(), Memory>
+        ensures got { OnOk result (self.new.got.items ≡ self.old.got.items ++ ones (word ∷ [])) }
+        ensures ends { OnOk result (self.new.ends.items ≡ self.old.ends.items ++ dones (length self.old.got.items) (word ∷ [])) }
+        ensures same { (self.new.cut ≡ self.old.cut) × (self.new.lost ≡ self.old.lost) }
+    {
+        match word {
+            Word::One(coalition) => self.got.push(coalition)?,
+            Word::Done(_) => {
+                let Ok(end) = u32::try_from(self.got.len()) else {
+                    return Err(Memory);
+                };
+                self.ends.push(end)?;
+            }
+            _ => {}
+        }
+        Ok(())
+    }
+}
+
+/// Whether a word tells of a cut.
+fn tells_cut(word: Word) -> bool
+    ensures { result ≡ is_cut word }
+{
+    match word {
+        Word::End { cut } => cut,
+        _ => false,
+    }
+}

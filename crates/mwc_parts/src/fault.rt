@@ -1,0 +1,20 @@
+//! Why nothing was gathered.
+use thiserror::Error;
+
+/// Why nothing was gathered. Where several hold, Start goes before Memory, Memory before Ring, and
+/// Ring before TooMany.
+#[derive(Clone, Copy, Debug, Eq, Error, PartialEq)]
+pub enum GatherFault {
+    /// The game has more minimal winning coalitions than were asked for.
+    #[error("too many minimal winning coalitions")]
+    TooMany,
+    /// A thread could not be started, whatever the cause.
+    #[error("a worker could not be started")]
+    Start,
+    /// A growth was refused.
+    #[error("out of memory")]
+    Memory,
+    /// A ring could not be finished.
+    #[error("a ring could not be finished")]
+    Ring,
+}

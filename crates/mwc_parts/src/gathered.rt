@@ -1,0 +1,50 @@
+//! All parts.
+ghost use Rattle.std.specs.Prelude.{◌≡◌, ℕ, ◌<◌, List, All, IfOk};
+ghost use Rattle.std.specs.List.{flat_map, range_with_len};
+ghost use Rattle.mwc_parts.specs.Parts.{HasPieces, EachOnce, NoOther};
+
+use crate::part::Part;
+use council_game::{Coalition, Memory};
+use std::alloc::Global;
+
+/// The parts of all workers, in which slices 0 to the last stand once each.
+#[derive(Drop)]
+pub struct Gathered {
+    /// The part of each worker.
+    pub parts: Vec<Part>,
+    /// How many slices there are.
+    pub slices: u16,
+    ghost each_once: { EachOnce slices parts.items },
+    ghost no_other: { NoOther slices parts.items },
+}
+
+impl Gathered {
+    /// The pieces of all parts in the order of their slices: after `gather`, all minimal winning
+    /// coalitions in listing order.
+    ///
+    /// # Errors
+    ///
+    /// Memory where a growth was refused.
+    pub fn in_order(&self, alloc: Global) -> Result<Vec<Coalition>, Memory>
+        ensures { (slice : ℕ → List ℕ) → All (HasPieces slice) self.now.parts.items → IfOk result (λ all. all.items ≡ flat_map slice (range_with_len 0 self.now.slices)) }
+    {
+        let mut all = Vec::new(alloc);
+        for j in 0..self.slices {
+            all.extend_from_slice(self.piece(j))?;
+        }
+        Ok(all)
+    }
+
+    /// The piece of a slice.
+    fn piece(&self, j: u16) -> &[Coalition]
+        requires { j < self.now.slices }
+        ensures { (slice : ℕ → List ℕ) → All (HasPieces slice) self.now.parts.items → result.now ≡ slice j }
+    {
+        for part in &self.parts {
+            if let Some(m) = part.place(j) {
+                return part.piece(m);
+            }
+        }
+        unreachable!()
+    }
+}

@@ -1,0 +1,21 @@
+//! How slices are dealt to workers, and what is kept of the words that they send.
+#![tactic(auto)]
+
+mod counting;
+mod draft;
+mod fault;
+mod gathered;
+mod marks;
+mod met;
+mod part;
+mod places;
+mod settling;
+
+pub use counting::fits;
+pub use draft::Draft;
+pub use fault::GatherFault;
+pub use gathered::Gathered;
+pub use marks::Marks;
+pub use met::Met;
+pub use part::Part;
+pub use settling::settle;

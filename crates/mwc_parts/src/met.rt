@@ -1,0 +1,59 @@
+//! What was met, and which fault is answered.
+ghost use Rattle.std.specs.Prelude.{◌≡◌, false};
+ghost use Rattle.mwc_parts.specs.Fault.{fault_of, also};
+
+use crate::fault::GatherFault;
+
+/// Which faults were met.
+#[derive(Clone, Copy, Debug)]
+pub struct Met {
+    pub start: bool,
+    pub memory: bool,
+    pub ring: bool,
+    pub many: bool,
+}
+
+impl Met {
+    /// Nothing was met.
+    pub fn nothing() -> Met
+        ensures { result ≡ record { start = false; memory = false; ring = false; many = false } }
+    {
+        Met {
+            start: false,
+            memory: false,
+            ring: false,
+            many: false,
+        }
+    }
+
+    /// This fault was met too.
+    pub fn note(&mut self, fault: GatherFault)
+        ensures { self.new ≡ also self.old fault }
+    {
+        match fault {
+            GatherFault::TooMany => self.many = true,
+            GatherFault::Start => self.start = true,
+            GatherFault::Memory => self.memory = true,
+            GatherFault::Ring => self.ring = true,
+        }
+    }
+
+    /// The fault that is answered: Start before Memory, Memory before Ring, Ring before TooMany.
+    pub fn fault(&self) -> Option<GatherFault>
+        ensures { result ≡ fault_of self.now }
+    {
+        if self.start {
+            return Some(GatherFault::Start);
+        }
+        if self.memory {
+            return Some(GatherFault::Memory);
+        }
+        if self.ring {
+            return Some(GatherFault::Ring);
+        }
+        if self.many {
+            return Some(GatherFault::TooMany);
+        }
+        None
+    }
+}

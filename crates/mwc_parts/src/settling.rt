@@ -1,0 +1,37 @@
+//! The part of a worker that has ended.
+ghost use Rattle.std.specs.Prelude.{◌≡◌, ◌<◌, ℕ, Bool, true, false, IfOk};
+ghost use Rattle.mwc_parts.specs.Slicing.{Slicing};
+ghost use Rattle.mwc_parts.specs.Wording.{total};
+ghost use Rattle.mwc_parts.specs.Parts.{IsPart};
+ghost use Rattle.mwc_parts.specs.Fault.{OnTooMany};
+ghost use Rattle.mwc_parts.specs.Settled.{IsWhole};
+
+use crate::draft::Draft;
+use crate::fault::GatherFault;
+use crate::part::Part;
+
+/// The part of a worker that was given these slices and has ended. Of a cut sending nothing is
+/// kept.
+///
+/// # Errors
+///
+/// Memory where words were lost, else TooMany where the sending was cut.
+pub fn settle(given: Vec<u16>, draft: Draft) -> Result<Part, GatherFault>
+    requires { (g : Slicing) × (most : ℕ) × (told : Bool) × IsWhole g most given.items told draft }
+    ensures slices { IfOk result (λ p. p.slices.items ≡ given.items) }
+    ensures part { IfOk result (λ p. (g : Slicing) (most : ℕ) (told : Bool) → IsWhole g most given.items told draft → IsPart g p × (told ≡ true)) }
+    ensures well { IfOk result (λ p. (draft.lost ≡ false) × (draft.cut ≡ false)) }
+    ensures many { (g : Slicing) (most : ℕ) (told : Bool) → IsWhole g most given.items told draft → OnTooMany result (most < total g given.items) }
+{
+    if draft.lost {
+        return Err(GatherFault::Memory);
+    }
+    if draft.cut {
+        return Err(GatherFault::TooMany);
+    }
+    Ok(Part {
+        slices: given,
+        ends: draft.ends,
+        got: draft.got,
+    })
+}
