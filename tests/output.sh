@@ -11,6 +11,22 @@ if [ -e /dev/full ]; then
         : >"$temp/out"
         refused "$name${words:+ with $words}" 5 "output failed"
     done
+    for word in --help --version; do
+        timeout "$seconds" "$program" "$word" >/dev/full 2>"$temp/err"
+        status=$?
+        : >"$temp/out"
+        refused "$name with $word" 5 "output failed"
+    done
+    # a fault keeps its status where it cannot be told
+    for words in "$temp/missing 1" "--workers=0 2"; do
+        timeout "$seconds" "$program" "${words% *}" >"$temp/out" 2>/dev/full
+        status=$?
+        if [ "$status" -eq "${words##* }" ] && [ ! -s "$temp/out" ]; then
+            ok "/dev/full as standard error, status ${words##* }"
+        else
+            failed "/dev/full as standard error, status ${words##* }" "status $status"
+        fi
+    done
 else
     ok "$name (there is no /dev/full: not run)"
 fi
