@@ -1,0 +1,96 @@
+# What the test scripts share. Each is run as `bash tests/NAME.sh PROGRAM`, and begins by reading this
+# file. It prints a line `ok NAME` or `FAILED NAME: why` for each test.
+# shellcheck shell=bash
+set -u
+export LC_ALL=C
+if [ $# -lt 1 ] || [ ! -x "$1" ]; then
+    echo "FAILED $(basename "$0"): the first argument must be the built program" >&2
+    exit 1
+fi
+program=$(cd "$(dirname "$1")" && pwd)/$(basename "$1")
+# shellcheck disable=SC2034
+top=$(cd "$(dirname "${BASH_SOURCE[0]}")/.." && pwd)
+temp=$(mktemp -d)
+trap 'rm -rf "$temp"' EXIT
+
+# The seconds that one run may take.
+seconds=${SECONDS_EACH:-60}
+
+ok() {
+    echo "ok $1"
+}
+
+failed() {
+    echo "FAILED $1: $2"
+}
+
+# Runs the program on the words, with the standard input of this call, and keeps its status, its
+# standard output and its standard error.
+run() {
+    timeout "$seconds" "$program" "$@" >"$temp/out" 2>"$temp/err"
+    status=$?
+}
+
+# Whether the last run ended with status 0 and nothing on standard error.
+succeeded() {
+    if [ "$status" -ne 0 ]; then
+        failed "$1" "status $status: $(head -n 1 "$temp/err")"
+    elif [ -s "$temp/err" ]; then
+        failed "$1" "standard error holds: $(head -n 1 "$temp/err")"
+    else
+        return 0
+    fi
+    return 1
+}
+
+# Whether the last run printed what the file $2 holds, and nothing else.
+printed() {
+    if succeeded "$1"; then
+        if cmp -s "$temp/out" "$2"; then
+            ok "$1"
+        else
+            failed "$1" "the report differs: $(diff "$temp/out" "$2" | head -n 4 | tr '\n' ';')"
+        fi
+    fi
+}
+
+# Whether the last run printed the standard input of this call, in which " | " stands for a TAB.
+printed_lines() {
+    sed "s/ | /$(printf '\t')/g" >"$temp/wanted"
+    printed "$1" "$temp/wanted"
+}
+
+# Whether the last run ended with the status $2, printed nothing, and wrote to standard error the
+# one line `council: $3`.
+refused() {
+    printf 'council: %s\n' "$3" >"$temp/wanted"
+    if [ "$status" -ne "$2" ]; then
+        failed "$1" "status $status in place of $2: $(head -n 1 "$temp/err")"
+    elif [ -s "$temp/out" ]; then
+        failed "$1" "standard output holds: $(head -n 1 "$temp/out")"
+    elif ! cmp -s "$temp/err" "$temp/wanted"; then
+        failed "$1" "standard error holds: $(head -n 2 "$temp/err" | tr '\n' ';')"
+    else
+        ok "$1"
+    fi
+}
+
+# The notation of a game of $1 members of weight 1 with the quota $2.
+equal_members() {
+    local members=$1 text="[$2; 1" member
+    for ((member = 1; member < members; member++)); do
+        text="$text, 1"
+    done
+    echo "$text]"
+}
+
+# A game file with the quota $1 and members A, B, C, .. of the weights that follow.
+game_file() {
+    echo "quota = $1"
+    shift
+    local member=0 names=ABCDEFGHIJKLMNOPQRSTUVWXYZ weight
+    for weight in "$@"; do
+        printf '[[member]]\nname = "%s"\nweight = %s\n' "${names:member:1}" "$weight"
+        member=$((member + 1))
+    done
+}

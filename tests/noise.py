@@ -1,0 +1,142 @@
+#!/usr/bin/env python3
+"""Runs the program on files that are noise.
+
+    noise.py PROGRAM COUNT SEED
+
+makes COUNT files from the games of examples/, each by some flips, cuts, repeats and joins of bytes,
+and runs PROGRAM on each, as FILE or on standard input and with options of all kinds. Whatever the
+file, the program ends by itself within a second, with a status from 0 to 5. At 0 there is a report
+on standard output and nothing on standard error; at any other status there is one line on standard
+error, which begins with `council: `, and nothing on standard output. The same SEED makes the same
+files. A file that fails is kept, and its name is printed.
+
+A long run: python3 tests/noise.py crates/council/out/council 20000 $RANDOM
+"""
+import glob
+import os
+import random
+import re
+import subprocess
+import sys
+import tempfile
+import time
+from collections import Counter
+
+# A run that takes longer is tried again, as other work may have held it up; three in a row fail.
+SECONDS = 1.0
+TRIES = 3
+# Bytes that mean something in one of the two forms.
+TELLING = [b"[", b"]", b"[[", b"]]", b"=", b"\n", b"\r\n", b'"', b"'", b'"""', b"#", b",", b";", b".", b"-", b"{", b"}",
+           b"0", b"9", b"1000000000000", b"9223372036854775807", b"1e3", b"inf", b"0x10", b"1_0", b"\\u0000", b"\\",
+           b"\x00", b"\x7f", b"\x80", b"\xff", b"\xef\xbb\xbf", b"\t", b" ",
+           b"quota", b"quotas", b"weight", b"weights", b"member", b"[[member]]\n", b"name", b"title = "]
+
+
+def noisy(rng, games):
+    text = bytearray(rng.choice(games))
+    for _ in range(rng.choice([0, 1, 1, 1, 2, 2, 3, 5, 8, 20])):
+        at = rng.randrange(len(text) + 1)
+        end = min(len(text), at + rng.choice([1, 1, 1, 2, 5, 20, 100]))
+        kind = rng.randrange(8)
+        if kind == 0 and at < len(text):
+            text[at] ^= 1 << rng.randrange(8)
+        elif kind == 1 and at < len(text):
+            text[at] = rng.randrange(256)
+        elif kind == 2:
+            del text[at:end]
+        elif kind == 3:
+            text[at:at] = rng.choice(TELLING)
+        elif kind == 4:
+            text[at:at] = text[at:end] * rng.choice([1, 1, 2, 10])
+        elif kind == 5:
+            text = text[:at] if rng.randrange(2) else text[at:]
+        elif kind == 6:
+            other = rng.choice(games)
+            text[at:] = other[rng.randrange(len(other) + 1):]
+        else:
+            # another number in place of one
+            numbers = list(re.finditer(rb"[0-9]+", text))
+            if numbers:
+                it = rng.choice(numbers)
+                text[it.start():it.end()] = str(rng.choice([0, 1, 2, rng.randrange(100), rng.randrange(10 ** 13)])).encode()
+    return bytes(text)
+
+
+def options(rng):
+    words = [word for word in ("--list", "--sizes", "--notation") if rng.randrange(3) == 0]
+    if rng.randrange(2):
+        words += ["--workers", str(rng.randrange(1, 17))]
+    if rng.randrange(2):
+        words += ["--bits", str(rng.randrange(11))]
+    if rng.randrange(4) == 0:
+        words += ["--most", str(rng.choice([1, 10, 1000, 200000]))]
+    return words
+
+
+def run(program, file, words, by_name):
+    """What is wrong with the run, the status, and the seconds."""
+    start = time.monotonic()
+    with open(file, "rb") as it:
+        try:
+            made = subprocess.run([program, *words, *([file] if by_name else [])], stdin=subprocess.DEVNULL if by_name else it,
+                                  stdout=subprocess.PIPE, stderr=subprocess.PIPE, timeout=20)
+        except subprocess.TimeoutExpired:
+            return "it had not ended after 20 seconds", None, 20.0
+    took = time.monotonic() - start
+    status, out, err = made.returncode, made.stdout, made.stderr
+    why = None
+    if status < 0:
+        why = f"signal {-status}"
+    elif status > 5 or status == 2:
+        why = f"status {status}"
+    elif status == 0:
+        if err:
+            why = f"standard error holds {err[:80]!r}"
+        elif not out.endswith(b"\n") or not out.startswith((b"title\t", b"members\t")):
+            why = f"the report begins with {out[:80]!r}"
+    elif out:
+        why = f"status {status} and standard output holds {out[:80]!r}"
+    elif not re.fullmatch(rb"council: [^\n]+\n", err):
+        why = f"status {status} and standard error holds {err[:80]!r}"
+    return why, status, took
+
+
+def main(words):
+    if len(words) != 3:
+        sys.exit("usage: noise.py PROGRAM COUNT SEED")
+    program, count, seed = os.path.abspath(words[0]), int(words[1]), int(words[2])
+    rng = random.Random(seed)
+    here = os.path.dirname(os.path.abspath(__file__))
+    games = []
+    for file in sorted(glob.glob(f"{here}/../examples/*.toml") + glob.glob(f"{here}/../examples/*.txt")):
+        with open(file, "rb") as it:
+            games.append(it.read())
+    statuses, longest, failed = Counter(), 0.0, 0
+    room = tempfile.mkdtemp(prefix="noise-")
+    for number in range(count):
+        file = f"{room}/{seed}-{number}"
+        with open(file, "wb") as it:
+            it.write(noisy(rng, games))
+        chosen, by_name = options(rng), bool(rng.randrange(2))
+        for _ in range(TRIES):
+            why, status, took = run(program, file, chosen, by_name)
+            if why or took <= SECONDS:
+                break
+        statuses[status] += 1
+        longest = max(longest, took)
+        if not why and took > SECONDS:
+            why = f"it took {took:.1f} seconds"
+        if why:
+            failed += 1
+            print(f"FAILED noise {number} of seed {seed}: {why}: {file} {' '.join(chosen)}{'' if by_name else ' <'}", flush=True)
+        else:
+            os.remove(file)
+    if not failed:
+        os.rmdir(room)
+        met = ", ".join(f"{number} of status {status}" for status, number in sorted(statuses.items()))
+        print(f"ok noise: {count} files of seed {seed}: {met}; the longest run took {longest:.2f} seconds")
+    return 1 if failed else 0
+
+
+if __name__ == "__main__":
+    sys.exit(main(sys.argv[1:]))

@@ -1,0 +1,83 @@
+#!/usr/bin/env bash
+# The words of the command line.
+. "$(dirname "$0")/common.sh"
+cd "$temp" || exit 1
+cp "$top/examples/board.toml" g.toml
+cp "$top/examples/board.toml" a.toml
+cp "$top/examples/board.toml" b.toml
+report=$top/examples/board.tsv
+
+for word in --help --version; do
+    run "$word" </dev/null
+    if succeeded "$word"; then
+        if [ -s "$temp/out" ]; then ok "$word"; else failed "$word" "nothing was printed"; fi
+    fi
+done
+# what a newcomer looks for
+run --help </dev/null
+for word in --workers --bits --most --list --sizes --notation --version FILE; do
+    if grep -q -e "$word" "$temp/out"; then
+        ok "--help tells of $word"
+    else
+        failed "--help tells of $word" "it does not"
+    fi
+done
+
+run <g.toml
+printed "no words" "$report"
+run g.toml
+printed "FILE" "$report"
+run g.toml --workers 16 --bits 0 --most 4000000
+printed "the greatest workers, the least bits, the greatest most" "$report"
+run g.toml --workers 1 --bits 10 --most 2
+printed "the least workers, the greatest bits" "$report"
+run g.toml --notation --list --sizes
+if succeeded "the flags"; then
+    if [ "$(cut -f 1 "$temp/out" | uniq | tr '\n' ' ')" = "members quota total notation minimal coalition size member " ]; then
+        ok "the flags"
+    else
+        failed "the flags" "the lines are $(cut -f 1 "$temp/out" | uniq | tr '\n' ' ')"
+    fi
+fi
+
+# The command line is refused before anything is read: status 2, and nothing on standard output.
+refused_words() {
+    run "$@" <g.toml
+    if [ "$status" -ne 2 ]; then
+        failed "$*" "status $status in place of 2"
+    elif [ -s "$temp/out" ]; then
+        failed "$*" "standard output holds: $(head -n 1 "$temp/out")"
+    elif [ ! -s "$temp/err" ]; then
+        failed "$*" "standard error is empty"
+    else
+        ok "refused: $*"
+    fi
+}
+refused_words --workers 0
+refused_words --workers 17
+refused_words --workers -1
+refused_words --workers 256
+refused_words --workers x
+refused_words --workers ''
+refused_words --workers
+refused_words --bits 11
+refused_words --bits -1
+refused_words --bits x
+refused_words --bits
+refused_words --most 0
+refused_words --most 4000001
+refused_words --most 18446744073709551617
+refused_words --most x
+refused_words --most
+refused_words a.toml b.toml
+refused_words --order
+refused_words -x
+refused_words --list=yes
+refused_words missing.toml --workers 0
+refused_words $'\377'
+refused_words $'g.toml\377' --list
+
+run ''
+refused "an empty word as FILE" 1 "the game file cannot be opened"
+run missing.toml --list --workers 16
+refused "good words and a FILE that is not there" 1 "the game file cannot be opened"
