@@ -9,6 +9,8 @@ mod parse;
 mod parts;
 mod reading;
 mod scanner;
+#[cfg(test)]
+mod tests;
 mod token;
 mod tree;
 
