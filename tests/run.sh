@@ -17,10 +17,10 @@ count() {
     log=$(mktemp)
     "$@" 2>&1 </dev/null | tee "$log"
     status=${PIPESTATUS[0]}
-    passed=$((passed + $(grep -c '^ok ' "$log")))
-    found=$(grep -c '^FAILED ' "$log")
+    passed=$((passed + $(grep -ac '^ok ' "$log")))
+    found=$(grep -ac '^FAILED ' "$log")
     failed=$((failed + found))
-    if [ "$found" -eq 0 ] && { [ "$status" -ne 0 ] || ! grep -q '^ok ' "$log"; }; then
+    if [ "$found" -eq 0 ] && { [ "$status" -ne 0 ] || ! grep -aq '^ok ' "$log"; }; then
         echo "FAILED $*: it ended with status $status"
         failed=$((failed + 1))
     fi

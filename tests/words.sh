@@ -42,15 +42,17 @@ fi
 
 # The command line is refused before anything is read: status 2, and nothing on standard output.
 refused_words() {
+    local name
+    name="refused:$(printf ' %q' "$@")"
     run "$@" <g.toml
     if [ "$status" -ne 2 ]; then
-        failed "$*" "status $status in place of 2"
+        failed "$name" "status $status in place of 2: $(head -n 1 "$temp/err")"
     elif [ -s "$temp/out" ]; then
-        failed "$*" "standard output holds: $(head -n 1 "$temp/out")"
+        failed "$name" "standard output holds: $(head -n 1 "$temp/out")"
     elif [ ! -s "$temp/err" ]; then
-        failed "$*" "standard error is empty"
+        failed "$name" "standard error is empty"
     else
-        ok "refused: $*"
+        ok "$name"
     fi
 }
 refused_words --workers 0
