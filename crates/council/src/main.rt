@@ -5,6 +5,8 @@
 mod fault;
 mod options;
 mod run;
+#[cfg(test)]
+mod tests;
 mod words;
 
 use clap::error::ErrorKind;
@@ -29,6 +31,15 @@ fn stop(rt: &impl Eprint, fault: RunFault) -> ExitCode {
 fn out_of_memory(rt: &impl Eprint) -> ExitCode {
     let _ = eprintln!(rt; "council: out of memory");
     ExitCode::from(5)
+}
+
+/// Says why the words of the command line are not to be had.
+fn no_words(rt: &impl Eprint, error: io::Error) -> ExitCode {
+    if error.kind() == io::ErrorKind::OutOfMemory {
+        return out_of_memory(rt);
+    }
+    let _ = eprintln!(rt; "council: the command line is not UTF-8");
+    ExitCode::from(2)
 }
 
 /// Runs on the file, or on standard input where none is named.
@@ -65,7 +76,7 @@ fn main(rt: HostRuntime) -> ExitCode {
     let alloc = rt.alloc();
     let words = match std::env::args(&rt) {
         Ok(words) => words,
-        Err(_) => return out_of_memory(&rt),
+        Err(error) => return no_words(&rt, error),
     };
     let words: Vec<String> = match words.collect(alloc) {
         Ok(words) => words,

@@ -1,10 +1,10 @@
 -- The rules of a tree that passed the checks fit a game.
-use Rattle.std.proofs.Common.{◌≡◌, ◌≢◌, ℕ, ◌<◌, ◌≤◌, Bool, true, false, not, ◌&&◌, ◌||◌, List, [], ◌∷◌, length, map, Option, Some, None, is_some, codes, refl, sym, ap, ◌∙◌, arith, All, zero, suc, inl, inr, String, Global, string_bytes, nat_le}
-use Rattle.std.specs.List.{list_all, range_with_len}
+use Rattle.std.proofs.Common.{◌≡◌, ℕ, ◌<◌, ◌≤◌, Bool, true, false, not, ◌&&◌, ◌||◌, List, [], ◌∷◌, length, map, Option, Some, None, is_some, codes, refl, sym, ap, ◌∙◌, arith, All, zero, suc, inl, inr, String, Global, string_bytes, nat_le}
+use Rattle.std.specs.List.{range_with_len}
 use Rattle.std.specs.Option.{option_map_or}
 use Rattle.std.proofs.lemmas.Bool.{cases_Bool, false≢true, and_parts, leb-true}
 use Rattle.std.proofs.lemmas.List.FromFn.{length-map-range_with_len}
-use Rattle.toml.specs.Data.{Data, Members, get_member, as_integer}
+use Rattle.toml.specs.Data.{Data, Members, get_member}
 use Rattle.council_game.specs.declared.rule.Rule.{Rule}
 use Rattle.council_game.specs.Votes.{RuleView}
 use Rattle.council_game.specs.Rules.{rule_view, rule_views}

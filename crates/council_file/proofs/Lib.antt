@@ -3,3 +3,5 @@ pub mod Text
 pub mod Fits
 pub mod Stops
 pub mod Joins
+pub mod Digits
+pub mod Weights

@@ -1,23 +1,23 @@
 -- The tree of a text.
-use Rattle.std.proofs.Common.{◌≡◌, ◌≤◌, List, ℕ, length, Bool, true, false, Option, Some, None, Ok, Err, refl, ap, arith, inl, inr}
+use Rattle.std.proofs.Common.{◌≡◌, List, ℕ, Some, Ok, Err, refl, inl, inr}
 use Rattle.std.specs.Str.{IsUtf8, is_utf8}
-use Rattle.std.proofs.lemmas.Bool.{cases_Bool, le-ltb}
+use Rattle.std.proofs.lemmas.Bool.{cases_Bool}
 use Rattle.std.proofs.lemmas.Str.{IsUtf8-from_is_utf8, is_utf8-from_IsUtf8}
 use Rattle.toml.specs.Data.{Members}
 use Rattle.toml.specs.Parse.{parse_document}
 use Rattle.council_game.specs.declared.fault.GameFault.TheVariants.{Text}
 use Rattle.council_file.specs.File.{tree_of}
 
-pub not_text : (bytes : List ℕ) → length bytes ≤ 65536 → ¬ (IsUtf8 bytes) → tree_of bytes ≡ Err Text
+pub not_text : (bytes : List ℕ) → ¬ (IsUtf8 bytes) → tree_of bytes ≡ Err Text
 unfolding tree_of
-not_text bytes short bad =
+not_text bytes bad =
     elim (cases_Bool (is_utf8 bytes)) [
       | inl valid ↦ absurd (bad (IsUtf8-from_is_utf8 bytes valid))
-      | inr broken ↦ rw (le-ltb 65536 (length bytes) short, broken) refl
+      | inr broken ↦ rw broken refl
     ]
 
-pub is_text : (bytes text : List ℕ) (t : Members) → length bytes ≤ 65536 → text ≡ bytes → IsUtf8 bytes → parse_document text ≡ Some t → tree_of bytes ≡ Ok t
+pub is_text : (bytes text : List ℕ) (t : Members) → text ≡ bytes → IsUtf8 bytes → parse_document text ≡ Some t → tree_of bytes ≡ Ok t
 unfolding tree_of
-is_text bytes text t short same good read =
+is_text bytes text t same good read =
     let found : parse_document bytes ≡ Some t = rw (← same) read in
-    rw (le-ltb 65536 (length bytes) short, is_utf8-from_IsUtf8 bytes good, found) refl
+    rw (is_utf8-from_IsUtf8 bytes good, found) refl

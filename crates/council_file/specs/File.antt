@@ -1,6 +1,6 @@
 -- The game that a file is, or the first fault.
-use Rattle.std.specs.Prelude.{codes, ℕ, ℤ, pos, negsuc, ◌^◌, ◌-◌, Bool, true, false, not, ◌&&◌, ◌||◌, ◌==◌, nat_lt, nat_le, nat_eq, List, [], ◌∷◌, length, map, slice_index, slice_get, Option, Some, None, Result, Ok, Err, is_some, is_none, unwrap_or, option_map, option_and_then, ok_or, if◌then◌else◌}
-use Rattle.std.specs.List.{list_any, list_all, filter_map, range_with_len}
+use Rattle.std.specs.Prelude.{codes, ℕ, ℤ, pos, negsuc, ◌^◌, ◌-◌, Bool, false, not, ◌&&◌, ◌||◌, ◌==◌, nat_lt, nat_le, nat_eq, List, [], ◌∷◌, length, map, slice_get, Option, Some, None, Result, Ok, Err, is_some, is_none, unwrap_or, option_and_then, ok_or, if◌then◌else◌}
+use Rattle.std.specs.List.{list_any, list_all, range_with_len}
 use Rattle.std.specs.Option.{option_map_or}
 use Rattle.std.specs.Str.{is_utf8}
 use Rattle.std.specs.Cmp.Lexicographic.{pointwise}
@@ -11,6 +11,7 @@ use Rattle.council_game.specs.declared.fault.GameFault.TheVariants.{TooLong, Tex
 use Rattle.council_game.specs.Fault.{◌>>=◌, refuse}
 use Rattle.council_game.specs.Votes.{RuleView}
 use Rattle.council_game.specs.Game.{GameView, is_title, made_game}
+use Rattle.council_file.specs.Bracket.{is_bracket, game_of_bracket}
 
 -- the elements of an array, and the keys of a table
 abbrev pub elements : Items → List Data
@@ -125,7 +126,6 @@ rules_of t = if has (codes "quota") t then only_rule t ∷ []
 
 unfoldable pub tree_of : List ℕ → Result Members GameFault
 tree_of bytes = do
-  _ ← refuse (nat_lt 65536 (length bytes)) TooLong
   _ ← refuse (not (is_utf8 bytes)) Text
   ok_or (parse_document bytes) Text
 
@@ -138,5 +138,8 @@ game_of_tree t = do
   _ ← refuse (not (are_members (member_list t))) NoMembers
   made_game title (map name_of (member_list t)) (rules_of t)
 
+-- a bracket text, or else a TOML document
 unfoldable pub game_of : List ℕ → Result GameView GameFault
-game_of bytes = tree_of bytes >>= game_of_tree
+game_of bytes = do
+  _ ← refuse (nat_lt 65536 (length bytes)) TooLong
+  if is_bracket bytes then game_of_bracket bytes else (tree_of bytes >>= game_of_tree)

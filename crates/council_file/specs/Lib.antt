@@ -1,3 +1,5 @@
+pub mod Bracket
+pub mod Scan
 pub mod File
 pub mod Reads
 pub mod Joined

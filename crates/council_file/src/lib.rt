@@ -1,12 +1,17 @@
 //! The game that a file holds.
 #![tactic(auto)]
 
+mod bracket;
 mod joined;
 mod keys;
 mod notation;
 mod parse;
 mod parts;
 mod reading;
+mod scanner;
+#[cfg(test)]
+mod tests;
+mod token;
 mod tree;
 
 pub use joined::{push_decimal, push_joined};

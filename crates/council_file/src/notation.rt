@@ -16,7 +16,12 @@ fn notation_of(alloc: Global, game: &Game, rule: usize) -> Result<Vec<u8>, Alloc
     text.extend_from_slice(b"[")?;
     push_decimal(&mut text, game.rule_quota(rule))?;
     text.extend_from_slice(b"; ")?;
-    push_joined(&mut text, b", ", game.members(), |i| game.rule_weight(rule, i))?;
+    push_joined(
+        &mut text,
+        b", ",
+        game.members(),
+        |i| game.rule_weight(rule, i),
+    )?;
     text.extend_from_slice(b"]")?;
     Ok(text)
 }

@@ -4,6 +4,7 @@ ghost use Rattle.toml.specs.View.{table_view};
 ghost use Rattle.council_game.specs.Fault.{Answers};
 ghost use Rattle.council_file.specs.File.{game_of, game_of_tree};
 
+use crate::bracket::{game_of_bracket, is_bracket};
 use crate::parts::{
     are_members, breaks_rules, has_unknown_key, lacks_quota, member_list, names_of, rules_of,
     title_of,
@@ -50,6 +51,12 @@ fn game_of_tree(alloc: Global, table: &Table) -> Result<Game, GameFault>
 pub fn parse_game(alloc: Global, bytes: &[u8]) -> Result<Game, GameFault>
     ensures { Answers result (game_of bytes.now) }
 {
+    if 65_536 < bytes.len() {
+        return Err(GameFault::TooLong);
+    }
+    if is_bracket(bytes) {
+        return game_of_bracket(alloc, bytes);
+    }
     let table = tree_of(alloc, bytes)?;
     game_of_tree(alloc, &table)
 }

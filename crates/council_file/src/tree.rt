@@ -16,9 +16,6 @@ use toml::{Table, Value};
 pub(crate) fn tree_of(alloc: Global, bytes: &[u8]) -> Result<Table, GameFault>
     ensures { Gives table_view result (tree_of bytes.now) }
 {
-    if 65_536 < bytes.len() {
-        return Err(GameFault::TooLong);
-    }
     let text = match str::from_utf8(bytes) {
         Ok(text) => text,
         Err(_) => return Err(GameFault::Text),

@@ -22,7 +22,7 @@ use Rattle.mwc_parts.proofs.Firsts.{each_within, dealt_total, dealt_ascends, sha
 use Rattle.mwc_parts.proofs.Readings.{length-joined}
 use Rattle.mwc_gather.specs.declared.desk.Desk.{Desk}
 use Rattle.mwc_gather.specs.Desks.{seat, seats, DealsTo, Finished}
-use Rattle.mwc_gather.specs.Gathering.{all_total}
+use Rattle.mwc_gather.specs.Gathering.{all_total, Complete}
 
 module _ {X Y : Type 0} where
   all_of_map : (P : Y → Type 0) (f : X → Y) (xs : List X) → All P (map f xs) → All (λ x. P (f x)) xs
@@ -64,14 +64,12 @@ zip_parts g [] (p ∷ parts) z = absurd z
 zip_parts g (d ∷ desks) [] z = absurd z
 zip_parts g (d ∷ desks) (p ∷ parts) z = let f = z.0 in All-cons (IsPart g) p parts f.part (zip_parts g desks parts z.1)
 
-zip_sum : (g : Slicing) (desks : List Desk) (parts : List Part) → AllZip (Finished g) desks parts → sum_of (λ (p : Part). length p.got.items) parts ≡ sum_of (total g) (shares parts)
-zip_sum g [] [] z = refl
-zip_sum g [] (p ∷ parts) z = absurd z
-zip_sum g (d ∷ desks) [] z = absurd z
-zip_sum g (d ∷ desks) (p ∷ parts) z =
-    let f = z.0 in let r = f.part in
-    let a = ap length r.0 in let b = length-joined g p.slices.items in
-    let c = zip_sum g desks parts z.1 in
+parts_sum : (g : Slicing) (parts : List Part) → All (IsPart g) parts → sum_of (λ (p : Part). length p.got.items) parts ≡ sum_of (total g) (shares parts)
+parts_sum g [] a = refl
+parts_sum g (p ∷ parts) a =
+    let part = All-head (IsPart g) p parts a in
+    let x = ap length part.0 in let b = length-joined g p.slices.items in
+    let c = parts_sum g parts (All-tail (IsPart g) p parts a) in
     omega arith
 
 -- where all workers have finished, all slices are dealt
@@ -81,8 +79,9 @@ end_dealt {g} {most} {early} {stopped} {marks} desks parts h e l z =
     let d = turns.all_dealt (seats desks) e (omega arith) h.dealing (zip_well g desks parts z) (zip_told g desks parts z) in
     subst (λ (s : List (List ℕ)). Dealt g.slices s) (sym (zip_shares g desks parts z)) d
 
-pub end_sum : (g : Slicing) (desks : List Desk) (parts : List Part) → AllZip (Finished g) desks parts → Dealt g.slices (shares parts) → sum_of (λ (p : Part). length p.got.items) parts ≡ all_total g
-end_sum g desks parts z d = zip_sum g desks parts z ∙ dealt_total g d
+-- all parts have as many coalitions as the slices
+pub complete_sum : {g : Slicing} {workers : ℕ} {parts : List Part} → Complete g workers parts → sum_of (λ (p : Part). length p.got.items) parts ≡ all_total g
+complete_sum {g} {workers} {parts} c = parts_sum g parts c.are_parts ∙ dealt_total g c.dealt
 
 pub end_ascends : {n : ℕ} (parts : List Part) → Dealt n (shares parts) → All (λ (p : Part). AscendsFrom 0 p.slices.items) parts
 end_ascends parts d = all_of_map (AscendsFrom 0) (λ (p : Part). p.slices.items) parts (dealt_ascends d)
@@ -158,3 +157,15 @@ end_begins {g} desks parts h e z w a b =
     let n = length-map desks seat in
     let r = share_begins (seats desks) h.dealing (h.dealing.stops e (zip_well g desks parts z)) (omega arith) w a b in
     (r.0, ap (λ (s : List (List ℕ)). get_or s w []) (zip_shares g desks parts z) ∙ r.1)
+
+-- where no fault was met, the parts are complete
+pub completes : {g : Slicing} {most workers : ℕ} {early stopped : Bool} {marks : List (Option ℕ)} (desks taken : List Desk) (parts : List Part) (start : Met) (f : Option GatherFault) → DealsTo g most early marks stopped desks → taken ≡ desks → early ≡ is_some f → f ≡ fault_of start → fault_of start ≡ None → 0 < length desks → length desks ≡ workers → AllZip (Finished g) taken parts → Complete g workers parts
+completes {g} {most} {workers} desks taken parts start f h e a b n l k z =
+    let both = ends_well desks taken parts start f h e a b n l z in
+    let same = zip_length g desks parts both.1 in
+    record {
+      a_part_each = omega arith;
+      dealt = both.0;
+      are_parts = zip_parts g desks parts both.1;
+      begins = λ w below slice. end_begins desks parts h (a ∙ ap is_some (b ∙ n)) both.1 w (omega arith) slice;
+    }

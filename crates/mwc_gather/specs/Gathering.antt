@@ -5,8 +5,8 @@ use Rattle.council_game.specs.Votes.{Votes, minimal_coalitions}
 use Rattle.mwc_walk.specs.Slices.{slice}
 use Rattle.mwc_parts.specs.Slicing.{Slicing}
 use Rattle.mwc_parts.specs.Wording.{total}
-use Rattle.mwc_parts.specs.Deals.{AscendsFrom}
-use Rattle.mwc_parts.specs.Parts.{HasPieces, shares}
+use Rattle.mwc_parts.specs.Deals.{Dealt, AscendsFrom}
+use Rattle.mwc_parts.specs.Parts.{IsPart, HasPieces, EachOnce, NoOther, shares}
 use Rattle.mwc_parts.specs.declared.part.Part.{Part}
 use Rattle.mwc_parts.specs.declared.gathered.Gathered.{Gathered}
 
@@ -14,14 +14,25 @@ use Rattle.mwc_parts.specs.declared.gathered.Gathered.{Gathered}
 abbrev pub all_total : Slicing → ℕ
 all_total g = total g (range_with_len 0 g.slices)
 
--- what is answered: a part for each worker, each with the coalitions of its slices, which ascend; worker w begins with slice w;
+-- the parts of all workers: all slices are dealt to them, each has the coalitions of its slices, and worker w begins with slice w
+pub record Complete (g : Slicing) (workers : ℕ) (parts : List Part) : Type 0 where
+  pub a_part_each : length parts ≡ workers
+  pub dealt : Dealt g.slices (shares parts)
+  pub are_parts : All (IsPart g) parts
+  pub begins : (w : ℕ) → w < workers → w < g.slices → (rest : List ℕ) × (slice_index_or (shares parts) w [] ≡ w ∷ rest)
+
+-- what is answered: a part for each worker; the slices stand in the parts, each once, and no other number does; in each part the slices ascend,
+-- each has an end, and each piece is the slice of its number; worker w begins with slice w;
 -- and all slices in their order are the minimal winning coalitions, of which there are at most so many
 pub record Gathers (v : Votes) (bits workers most : ℕ) (r : Gathered) : Type 0 where
   pub a_part_each : length r.parts.items ≡ workers
   pub slices : r.slices ≡ 2 ^ bits
+  pub each_once : EachOnce (2 ^ bits) r.parts.items
+  pub no_other : NoOther (2 ^ bits) r.parts.items
+  pub ascend : All (λ (p : Part). AscendsFrom 0 p.slices.items) r.parts.items
+  pub ends : All (λ (p : Part). length p.ends.items ≡ length p.slices.items) r.parts.items
   pub pieces : All (HasPieces (slice v bits)) r.parts.items
   pub joined : All (λ (p : Part). p.got.items ≡ flat_map (slice v bits) p.slices.items) r.parts.items
-  pub ascend : All (λ (p : Part). AscendsFrom 0 p.slices.items) r.parts.items
   pub begins : (w : ℕ) → w < workers → w < 2 ^ bits → (rest : List ℕ) × (slice_index_or (shares r.parts.items) w [] ≡ w ∷ rest)
   pub few : length (minimal_coalitions v) ≤ most
   pub whole : flat_map (slice v bits) (range_with_len 0 r.slices) ≡ minimal_coalitions v

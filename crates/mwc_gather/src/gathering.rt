@@ -9,12 +9,12 @@ ghost use Rattle.mwc_parts.specs.Fault.{fault_of, OnTooMany};
 ghost use Rattle.mwc_gather.specs.Slicings.{slicing};
 ghost use Rattle.mwc_gather.specs.Orders.{slicing_of};
 ghost use Rattle.mwc_gather.specs.Desks.{AllOf, Finished, seats};
-ghost use Rattle.mwc_gather.specs.Gathering.{all_total, Gathers};
+ghost use Rattle.mwc_gather.specs.Gathering.{all_total, Complete, Gathers};
 
+use crate::calls::finish_part;
 use crate::dealing::read_all;
 use crate::desk::Desk;
 use crate::guarded::{Gate, Guarded};
-use crate::opening::finish_part;
 use crate::order::Order;
 use mwc_parts::{GatherFault, Gathered, Marks, Met, Part, fits};
 use mwc_walk::slice_count;
@@ -80,17 +80,29 @@ fn run<'s, E, R: Threads + Wait + Sync, G: Gate + Sync>(
     ensures many { OnTooMany result (most < length (minimal_coalitions (votes_of guarded.now))) }
 {
     let order = Order::new(guarded, bits, most);
-    let slices = slice_count(bits);
     let mut desks = Vec::new(alloc);
     let met = open_all(scope, rt, alloc, guarded, bits, workers, most, &mut desks);
     let early = met.fault().is_some();
-    let mut marks = Marks::new(slices);
+    let mut marks = Marks::new(slice_count(bits));
     let _stopped = read_all(rt, &order, early, &mut marks, desks.as_mut_slice());
     let parts = finish_all(rt, alloc, &order, desks, met)?;
-    if !fits(parts.as_slice(), most) {
+    all_of(&order, workers, parts)
+}
+
+/// All that was gathered, unless there is more than was asked for.
+fn all_of(order: &Order, workers: u8, parts: Vec<Part>) -> Result<Gathered, GatherFault>
+    requires bits { (order.now.bits ≤ 10) × (order.now.bits ≤ length order.now.game.value.names) }
+    requires complete { Complete (slicing_of order.now) workers parts.items }
+    ensures gathers { IfOk result (Gathers (votes_of order.now.game.value) order.now.bits workers order.now.most) }
+    ensures many { OnTooMany result (order.now.most < length (minimal_coalitions (votes_of order.now.game.value))) }
+{
+    if !fits(parts.as_slice(), order.most) {
         return Err(GatherFault::TooMany);
     }
-    Ok(Gathered { parts, slices })
+    Ok(Gathered {
+        parts,
+        slices: slice_count(order.bits),
+    })
 }
 
 /// Starts the workers, until one cannot be started. Room for the desks is made first.

@@ -2,11 +2,11 @@
 //! demand, and send them through rings.
 #![tactic(auto)]
 
+mod calls;
 mod dealing;
 mod desk;
 mod gathering;
 mod guarded;
-mod opening;
 mod order;
 mod promise;
 mod send;

@@ -1,5 +1,5 @@
 -- Which ring an end is of.
-use Rattle.std.specs.Prelude.{ℕ, refl}
+use Rattle.std.specs.Prelude.{refl}
 use Rattle.std.specs.Coded.{Coded, code_by, coded×, coded_ℕ}
 use denote.RawPtr.{Ptr, coded_ptr}
 use Rattle.rtrb.specs.Shared.{Names}

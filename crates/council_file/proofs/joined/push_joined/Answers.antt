@@ -1,4 +1,4 @@
-use Rattle.std.proofs.Common.{◌≡◌, ℕ, List, ◌<◌, arith, ap, ◌∙◌, ◌++◌, take, length}
+use Rattle.std.proofs.Common.{ℕ, List, ◌<◌, arith, ap, ◌∙◌, ◌++◌, length}
 use Rattle.std.proofs.lemmas.List.{take_all}
 use Rattle.council_file.specs.Joined.{joined_numbers}
 use Rattle.council_file.proofs.Joins.{put-first, put-more}

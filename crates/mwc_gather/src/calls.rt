@@ -1,4 +1,4 @@
-//! A desk's calls.
+//! What the gatherer does with a desk.
 ghost use Rattle.std.specs.Prelude.{◌≡◌, ◌≢◌, ◌+◌, ◌<◌, ◌≤◌, ◌^◌, ◌++◌, ◌∷◌, [], List, IfOk, IsTrue, IsFalse, true, false, length, vec_len, vec_capacity};
 ghost use Rattle.mwc_pipe.specs.declared.word.Word.{Word};
 ghost use Rattle.mwc_parts.specs.Wording.{total};

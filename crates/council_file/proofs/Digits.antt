@@ -1,0 +1,114 @@
+-- The parts of a text, from its front.
+use Rattle.std.proofs.lemmas.List.{map_push, take_all}
+use Rattle.std.proofs.lemmas.List.FromFn.{map-range_with_len_more, length-map-range_with_len}
+use Rattle.council_game.proofs.Lists.{length_map}
+use Rattle.std.specs.List.{range_with_len}
+use Rattle.std.proofs.Common.{String, Global, string_bytes, map, decimal, ◌≡◌, ℕ, ◌+◌, ◌-◌, ◌*◌, ◌^◌, ◌<◌, ◌≤◌, zero, suc, List, [], ◌∷◌, ◌++◌, length, take, drop, get_or, Bool, true, false, refl, sym, ap, ◌∙◌, arith}
+use Rattle.std.specs.Char.{is_ascii_digit, digit_value}
+use Rattle.std.specs.Str.Parse.{AllDigits, digits_value}
+use Rattle.std.proofs.lemmas.Bool.{false≢true}
+use Rattle.std.proofs.lemmas.Bool.Decides.{nat_tests}
+use Rattle.std.proofs.lemmas.Str.Parse.{digit_from_value, digits_value_short, digits_value-take-le, numerals_by_value, tells_digits}
+use Rattle.std.proofs.lemmas.Int.Digits.{digits_value_more}
+use Rattle.council_file.specs.Bracket.{number, mark, parts, is_blank, begins_with_digit, with_digit}
+use Rattle.council_file.specs.Scan.{begins_with_blank}
+
+digit_test : (c : ℕ) → digit_value c < 10 → is_ascii_digit c ≡ true
+digit_test c h = let r = digit_from_value c h in grind (arith, nat_tests)
+
+blank_no_digit : (b : ℕ) → is_blank b ≡ true → is_ascii_digit b ≡ false
+blank_no_digit b h = grind (arith, nat_tests)
+
+parts-blank : (b : ℕ) (bs : List ℕ) → is_blank b ≡ true → parts (b ∷ bs) ≡ parts bs
+unfolding parts
+parts-blank b bs blank = rw (blank_no_digit b blank, blank) refl
+
+parts-mark : (b : ℕ) (bs : List ℕ) → is_ascii_digit b ≡ false → is_blank b ≡ false → parts (b ∷ bs) ≡ mark b ∷ parts bs
+unfolding parts
+parts-mark b bs other full = rw (other, full) refl
+
+parts-digit : (d : ℕ) (bs : List ℕ) → is_ascii_digit d ≡ true → parts (d ∷ bs) ≡ with_digit d (begins_with_digit bs) (parts bs)
+unfolding parts
+parts-digit d bs h = rw h refl
+
+-- digits, and no digit behind them, are one number
+pub parts-number : (d : ℕ) (ds rest : List ℕ) → AllDigits 10 (d ∷ ds) → begins_with_digit rest ≡ false → parts ((d ∷ ds) ++ rest) ≡ number (d ∷ ds) ∷ parts rest
+parts-number d [] rest whole stop = parts-digit d rest (digit_test d whole.0) ∙ ap (λ (j : Bool). with_digit d j (parts rest)) stop
+parts-number d (e ∷ ds) rest whole stop =
+    parts-digit d (e ∷ (ds ++ rest)) (digit_test d whole.0)
+    ∙ ap (λ (j : Bool). with_digit d j (parts (e ∷ (ds ++ rest)))) (digit_test e whole.1.0)
+    ∙ ap (with_digit d true) (parts-number e ds rest whole.1 stop)
+
+take-drop : (n : ℕ) (bs : List ℕ) → take n bs ++ drop n bs ≡ bs
+take-drop zero bs = refl
+take-drop (suc n) [] = refl
+take-drop (suc n) (b ∷ bs) = ap (λ (t : List ℕ). b ∷ t) (take-drop n bs)
+
+number_in_front : (b : ℕ) (bs : List ℕ) (n : ℕ) → is_ascii_digit b ≡ true → AllDigits 10 (take n (b ∷ bs)) → begins_with_digit (drop n (b ∷ bs)) ≡ false → parts (b ∷ bs) ≡ number (take n (b ∷ bs)) ∷ parts (drop n (b ∷ bs))
+number_in_front b bs zero digit whole stop = absurd (false≢true (sym stop ∙ digit))
+number_in_front b bs (suc n) digit whole stop = ap (λ (t : List ℕ). parts (b ∷ t)) (sym (take-drop n bs)) ∙ parts-number b (take n bs) (drop n bs) whole stop
+
+digit_value-minus : (c : ℕ) → digit_value c < 10 → digit_value c ≡ c - 48
+digit_value-minus c h = let r = digit_from_value c h in grind (arith, nat_tests)
+
+all_at : (ds : List ℕ) (i : ℕ) → AllDigits 10 ds → i < length ds → digit_value (get_or ds i 0) < 10
+all_at [] i whole below = absurd (omega arith)
+all_at (d ∷ ds) zero whole below = whole.0
+all_at (d ∷ ds) (suc i) whole below = all_at ds i whole.1 (omega arith)
+
+pub digits_more : (ds : List ℕ) (i : ℕ) → AllDigits 10 ds → i < length ds → digits_value 10 (take (i + 1) ds) ≡ digits_value 10 (take i ds) * 10 + (get_or ds i 0 - 48)
+digits_more ds i whole below = digits_value_more 10 ds i below ∙ ap (λ (d : ℕ). digits_value 10 (take i ds) * 10 + d) (digit_value-minus _ (all_at ds i whole below))
+
+pub digits_fit : (ds : List ℕ) (i : ℕ) → AllDigits 10 ds → length ds ≤ 18 → i < length ds → digits_value 10 (take i ds) * 10 + (get_or ds i 0 - 48) < 10 ^ 18
+digits_fit ds i whole short below =
+    let small = digits_value_short (numerals_by_value (AllDigits 10) tells_digits) ds 18 whole short in
+    let part = digits_value-take-le 10 ds (i + 1) (omega arith) in
+    let more = digits_more ds i whole below in
+    omega (arith, small, part, more)
+
+pub digits_more_whole : (bs : List ℕ) (n : ℕ) → AllDigits 10 (take n bs) → n < length bs → digit_value (get_or bs n 0) < 10 → AllDigits 10 (take (n + 1) bs)
+digits_more_whole [] n whole below one = absurd (omega arith)
+digits_more_whole (b ∷ bs) zero whole below one = (one, tt)
+digits_more_whole (b ∷ bs) (suc n) whole below one = let k : suc n + 1 ≡ suc (n + 1) = omega arith in rw k (whole.0, digits_more_whole bs n whole.1 (omega arith) one)
+
+pub stops_at : (bs : List ℕ) (n : ℕ) → is_ascii_digit (get_or bs n 0) ≡ false → begins_with_digit (drop n bs) ≡ false
+stops_at [] zero h = refl
+stops_at [] (suc n) h = refl
+stops_at (b ∷ bs) zero h = h
+stops_at (b ∷ bs) (suc n) h = stops_at bs n h
+
+pub stops_behind : (bs : List ℕ) (n : ℕ) → length bs ≤ n → begins_with_digit (drop n bs) ≡ false
+stops_behind [] zero h = refl
+stops_behind [] (suc n) h = refl
+stops_behind (b ∷ bs) zero h = absurd (omega arith)
+stops_behind (b ∷ bs) (suc n) h = stops_behind bs n (omega arith)
+
+pub digit_low : (ds : List ℕ) (i : ℕ) → AllDigits 10 ds → i < length ds → 48 ≤ get_or ds i 0
+digit_low ds i whole below = (digit_from_value _ (all_at ds i whole below)).0
+
+-- one name more
+pub names_more : (names : List (String Global)) (name : String Global) (k : ℕ) → map string_bytes names ≡ map decimal (range_with_len 1 k) → string_bytes name ≡ decimal (k + 1) → map string_bytes (names ++ name ∷ []) ≡ map decimal (range_with_len 1 (k + 1))
+names_more names name k before this = rw (map_push string_bytes names name, map-range_with_len_more decimal 1 k (k + 1) (omega arith), before, this) refl
+
+rest_of : (b : ℕ) (bs : List ℕ) → take (length (b ∷ bs) - 1) (drop 1 (b ∷ bs)) ≡ bs
+rest_of b bs = take_all (length (b ∷ bs) - 1) bs (omega arith)
+
+pub parts_end : (bs : List ℕ) → length bs < 1 → parts bs ≡ []
+unfolding parts
+parts_end [] h = refl
+parts_end (b ∷ bs) h = absurd (omega arith)
+
+pub parts_behind_blank : (bs : List ℕ) → 1 ≤ length bs → is_blank (get_or bs 0 0) ≡ true → parts bs ≡ parts (take (length bs - 1) (drop 1 bs))
+parts_behind_blank [] some blank = absurd (omega arith)
+parts_behind_blank (b ∷ bs) some blank = parts-blank b bs blank ∙ ap parts (sym (rest_of b bs))
+
+pub parts_behind_mark : (bs : List ℕ) → 1 ≤ length bs → is_ascii_digit (get_or bs 0 0) ≡ false → begins_with_blank bs ≡ false → parts bs ≡ mark (get_or bs 0 0) ∷ parts (take (length bs - 1) (drop 1 bs))
+parts_behind_mark [] some other full = absurd (omega arith)
+parts_behind_mark (b ∷ bs) some other full = parts-mark b bs other full ∙ ap (λ (t : List ℕ). mark b ∷ parts t) (sym (rest_of b bs))
+
+pub parts_behind_number : (bs : List ℕ) (n : ℕ) → 1 ≤ length bs → is_ascii_digit (get_or bs 0 0) ≡ true → AllDigits 10 (take n bs) → begins_with_digit (drop n bs) ≡ false → parts bs ≡ number (take n bs) ∷ parts (drop n bs)
+parts_behind_number [] n some digit whole stop = absurd (omega arith)
+parts_behind_number (b ∷ bs) n some digit whole stop = number_in_front b bs n digit whole stop
+
+pub names_count : (names : List (String Global)) (n : ℕ) → map string_bytes names ≡ map decimal (range_with_len 1 n) → n ≡ length names
+names_count names n same = sym (length-map-range_with_len decimal 1 n) ∙ ap (λ (xs : List (List ℕ)). length xs) (sym same) ∙ length_map string_bytes names

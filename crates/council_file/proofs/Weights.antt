@@ -1,0 +1,173 @@
+-- The weights of a bracket text, from its front.
+use Rattle.std.proofs.Common.{◌≡◌, ℕ, List, [], ◌∷◌, ◌++◌, Option, Some, None, option_map, option_and_then, ◌≢◌, false, refl, sym, ap, ◌∙◌, append_assoc}
+use Rattle.council_game.specs.Votes.{RuleView}
+use Rattle.council_file.specs.declared.token.Token.{Token}
+use Rattle.council_file.specs.declared.token.Token.TheVariants.{Number, Opening, Closing, Comma, Semicolon, Other}
+use Rattle.council_file.specs.Bracket.{Part, number, opening, closing, comma, semicolon, other, value_of, before, weights_of, rule_of, begins_bracket}
+use Rattle.council_file.specs.Scan.{part, first_number, after_opening, after_semicolon, begins_with_number}
+
+-- a weight, and the weights behind it
+abbrev pub behind : ℕ → List Part → Option (List ℕ)
+behind n (closing ∷ []) = Some (n ∷ [])
+behind n (comma ∷ ps) = option_map (λ ws. n ∷ ws) (weights_of ps)
+behind n ps = None
+
+abbrev from_number : Option (ℕ × List Part) → Option (List ℕ)
+from_number None = None
+from_number (Some f) = behind f.0 f.1
+
+last_weight : (o : Option ℕ) → before o (Some []) ≡ from_number (option_map (λ n. (n, closing ∷ [])) o)
+last_weight None = refl
+last_weight (Some n) = refl
+
+one_weight : (o : Option ℕ) (ps : List Part) → before o (weights_of ps) ≡ from_number (option_map (λ n. (n, comma ∷ ps)) o)
+one_weight None ps = refl
+one_weight (Some n) ps = refl
+
+no_weight : (o : Option ℕ) (ps : List Part) → ((n : ℕ) → behind n ps ≡ None) → None ≡ from_number (option_map (λ n. (n, ps)) o)
+no_weight None ps h = refl
+no_weight (Some n) ps h = sym (h n)
+
+by_number : (ps : List Part) → weights_of ps ≡ from_number (first_number ps)
+unfolding weights_of
+by_number [] = refl
+by_number (opening ∷ ps) = refl
+by_number (closing ∷ ps) = refl
+by_number (comma ∷ ps) = refl
+by_number (semicolon ∷ ps) = refl
+by_number (other ∷ ps) = refl
+by_number (number ds ∷ []) = no_weight (value_of ds) _ (λ n. refl)
+by_number (number ds ∷ number es ∷ ps) = no_weight (value_of ds) _ (λ n. refl)
+by_number (number ds ∷ opening ∷ ps) = no_weight (value_of ds) _ (λ n. refl)
+by_number (number ds ∷ closing ∷ []) = last_weight (value_of ds)
+by_number (number ds ∷ closing ∷ p ∷ ps) = no_weight (value_of ds) _ (λ n. refl)
+by_number (number ds ∷ comma ∷ ps) = one_weight (value_of ds) ps
+by_number (number ds ∷ semicolon ∷ ps) = no_weight (value_of ds) _ (λ n. refl)
+by_number (number ds ∷ other ∷ ps) = no_weight (value_of ds) _ (λ n. refl)
+
+joined_front : (front : List ℕ) (n : ℕ) (o : Option (List ℕ)) → option_map (λ ws. front ++ ws) (option_map (λ ws. n ∷ ws) o) ≡ option_map (λ ws. (front ++ n ∷ []) ++ ws) o
+joined_front front n None = refl
+joined_front front n (Some ws) = ap (λ (vs : List ℕ). Some vs) (sym (append_assoc front (n ∷ []) ws))
+
+-- front stands before the weights of the parts that are left
+abbrev pub Reads : List Part → List ℕ → List Part → Type 0
+Reads text front left = weights_of text ≡ option_map (λ ws. front ++ ws) (weights_of left)
+
+one_more : (text left ps : List Part) (front : List ℕ) (n : ℕ) → Reads text front left → first_number left ≡ Some (n, comma ∷ ps) → Reads text (front ++ n ∷ []) ps
+one_more text left ps front n before now = before ∙ ap (option_map (λ ws. front ++ ws)) (by_number left ∙ ap from_number now) ∙ joined_front front n (weights_of ps)
+
+all_read : (text left : List Part) (front : List ℕ) (n : ℕ) → Reads text front left → first_number left ≡ Some (n, closing ∷ []) → Some (front ++ n ∷ []) ≡ weights_of text
+all_read text left front n before now = sym (before ∙ ap (option_map (λ ws. front ++ ws)) (by_number left ∙ ap from_number now))
+
+pub no_number : (text left : List Part) (front : List ℕ) → Reads text front left → None ≡ first_number left → None ≡ weights_of text
+no_number text left front before now = sym (before ∙ ap (option_map (λ ws. front ++ ws)) (by_number left ∙ ap from_number (sym now)))
+
+no_more : (text left ps : List Part) (front : List ℕ) (n : ℕ) → Reads text front left → first_number left ≡ Some (n, ps) → behind n ps ≡ None → None ≡ weights_of text
+no_more text left ps front n before now none = sym (before ∙ ap (option_map (λ ws. front ++ ws)) (by_number left ∙ ap from_number now ∙ none))
+
+-- any token but a comma and a closing bracket ends the reading
+stray : (t : Token) (n : ℕ) (ps : List Part) → (t ≢ Comma) → (t ≢ Closing) → behind n (part t ∷ ps) ≡ None
+stray (Number ds) n ps no_comma no_closing = refl
+stray Opening n ps no_comma no_closing = refl
+stray Closing n ps no_comma no_closing = absurd (no_closing refl)
+stray Comma n ps no_comma no_closing = absurd (no_comma refl)
+stray Semicolon n ps no_comma no_closing = refl
+stray Other n ps no_comma no_closing = refl
+
+-- what the token behind a weight makes of the text
+pub after_comma : (text left rest ps : List Part) (front : List ℕ) (n : ℕ) (t : Token) → Reads text front left → Some (n, rest) ≡ first_number left → rest ≡ part t ∷ ps → t ≡ Comma → Reads text (front ++ n ∷ []) ps
+after_comma text left rest ps front n t before now is comma_is = one_more text left ps front n before (sym now ∙ ap (λ (qs : List Part). Some (n, qs)) (is ∙ ap (λ (u : Token). part u ∷ ps) comma_is))
+
+pub after_closing : (text left rest ps : List Part) (front : List ℕ) (n : ℕ) (t : Token) → Reads text front left → Some (n, rest) ≡ first_number left → rest ≡ part t ∷ ps → t ≡ Closing → ps ≡ [] → Some (front ++ n ∷ []) ≡ weights_of text
+after_closing text left rest ps front n t before now is closing_is end = all_read text left front n before (sym now ∙ ap (λ (qs : List Part). Some (n, qs)) (is ∙ ap (λ (u : Token). part u ∷ ps) closing_is ∙ ap (λ (qs : List Part). closing ∷ qs) end))
+
+pub after_closing_more : (text left rest ps us : List Part) (front : List ℕ) (n : ℕ) (t u : Token) → Reads text front left → Some (n, rest) ≡ first_number left → rest ≡ part t ∷ ps → t ≡ Closing → ps ≡ part u ∷ us → None ≡ weights_of text
+after_closing_more text left rest ps us front n t u before now is closing_is more = no_more text left (closing ∷ part u ∷ us) front n before (sym now ∙ ap (λ (qs : List Part). Some (n, qs)) (is ∙ ap (λ (v : Token). part v ∷ ps) closing_is ∙ ap (λ (qs : List Part). closing ∷ qs) more)) refl
+
+pub after_nothing : (text left rest : List Part) (front : List ℕ) (n : ℕ) → Reads text front left → Some (n, rest) ≡ first_number left → rest ≡ [] → None ≡ weights_of text
+after_nothing text left rest front n before now end = no_more text left [] front n before (sym now ∙ ap (λ (qs : List Part). Some (n, qs)) end) refl
+
+pub after_stray : (text left rest ps : List Part) (front : List ℕ) (n : ℕ) (t : Token) → Reads text front left → Some (n, rest) ≡ first_number left → rest ≡ part t ∷ ps → (t ≢ Comma) → (t ≢ Closing) → None ≡ weights_of text
+after_stray text left rest ps front n t before now is no_comma no_closing = no_more text left (part t ∷ ps) front n before (sym now ∙ ap (λ (qs : List Part). Some (n, qs)) is) (stray t n ps no_comma no_closing)
+
+-- ---- the rule
+
+abbrev with_weights : ℕ → Option (List ℕ) → Option RuleView
+with_weights q weights = option_map (λ ws. record { quota = q; weights = ws }) weights
+
+abbrev behind_quota : ℕ × List Part → Option RuleView
+behind_quota f = option_and_then (λ ps. with_weights f.0 (weights_of ps)) (after_semicolon f.1)
+
+abbrev behind_opening : List Part → Option RuleView
+behind_opening ps = option_and_then behind_quota (first_number ps)
+
+no_semicolon : (o : Option ℕ) (ps : List Part) → after_semicolon ps ≡ None → None ≡ option_and_then behind_quota (option_map (λ n. (n, ps)) o)
+no_semicolon None ps h = refl
+no_semicolon (Some n) ps h = sym (ap (option_and_then (λ qs. with_weights n (weights_of qs))) h)
+
+one_quota : (o : Option ℕ) (ps : List Part) → option_and_then (λ q. with_weights q (weights_of ps)) o ≡ option_and_then behind_quota (option_map (λ n. (n, semicolon ∷ ps)) o)
+one_quota None ps = refl
+one_quota (Some n) ps = refl
+
+rule_by_steps : (ps : List Part) → rule_of ps ≡ option_and_then behind_opening (after_opening ps)
+unfolding rule_of
+rule_by_steps [] = refl
+rule_by_steps (number ds ∷ ps) = refl
+rule_by_steps (closing ∷ ps) = refl
+rule_by_steps (comma ∷ ps) = refl
+rule_by_steps (semicolon ∷ ps) = refl
+rule_by_steps (other ∷ ps) = refl
+rule_by_steps (opening ∷ []) = refl
+rule_by_steps (opening ∷ opening ∷ ps) = refl
+rule_by_steps (opening ∷ closing ∷ ps) = refl
+rule_by_steps (opening ∷ comma ∷ ps) = refl
+rule_by_steps (opening ∷ semicolon ∷ ps) = refl
+rule_by_steps (opening ∷ other ∷ ps) = refl
+rule_by_steps (opening ∷ number ds ∷ []) = no_semicolon (value_of ds) _ refl
+rule_by_steps (opening ∷ number ds ∷ number es ∷ ps) = no_semicolon (value_of ds) _ refl
+rule_by_steps (opening ∷ number ds ∷ opening ∷ ps) = no_semicolon (value_of ds) _ refl
+rule_by_steps (opening ∷ number ds ∷ closing ∷ ps) = no_semicolon (value_of ds) _ refl
+rule_by_steps (opening ∷ number ds ∷ comma ∷ ps) = no_semicolon (value_of ds) _ refl
+rule_by_steps (opening ∷ number ds ∷ semicolon ∷ ps) = one_quota (value_of ds) ps
+rule_by_steps (opening ∷ number ds ∷ other ∷ ps) = no_semicolon (value_of ds) _ refl
+
+pub rule_without_opening : (ps : List Part) → after_opening ps ≡ None → None ≡ rule_of ps
+rule_without_opening ps h = sym (rule_by_steps ps ∙ ap (option_and_then behind_opening) h)
+
+pub rule_without_quota : (ps qs : List Part) → after_opening ps ≡ Some qs → first_number qs ≡ None → None ≡ rule_of ps
+rule_without_quota ps qs h k = sym (rule_by_steps ps ∙ ap (option_and_then behind_opening) h ∙ ap (option_and_then behind_quota) k)
+
+pub rule_without_semicolon : (ps qs rs : List Part) (q : ℕ) → after_opening ps ≡ Some qs → first_number qs ≡ Some (q, rs) → after_semicolon rs ≡ None → None ≡ rule_of ps
+rule_without_semicolon ps qs rs q h k l = sym (rule_by_steps ps ∙ ap (option_and_then behind_opening) h ∙ ap (option_and_then behind_quota) k ∙ ap (option_and_then (λ ts. with_weights q (weights_of ts))) l)
+
+pub rule_is : (ps qs rs ts : List Part) (q : ℕ) (weights : Option (List ℕ)) → after_opening ps ≡ Some qs → first_number qs ≡ Some (q, rs) → after_semicolon rs ≡ Some ts → weights ≡ weights_of ts → option_map (λ ws. record { quota = q; weights = ws }) weights ≡ rule_of ps
+rule_is ps qs rs ts q weights h k l m = ap (with_weights q) m ∙ sym (rule_by_steps ps ∙ ap (option_and_then behind_opening) h ∙ ap (option_and_then behind_quota) k ∙ ap (option_and_then (λ us. with_weights q (weights_of us))) l)
+
+-- ---- which file is a bracket text
+
+pub not_begun : (ps : List Part) → after_opening ps ≡ None → false ≡ begins_bracket ps
+not_begun [] h = refl
+not_begun (number ds ∷ ps) h = refl
+not_begun (opening ∷ ps) h = absurd (cc h)
+not_begun (closing ∷ ps) h = refl
+not_begun (comma ∷ ps) h = refl
+not_begun (semicolon ∷ ps) h = refl
+not_begun (other ∷ ps) h = refl
+
+begun_behind : (ps : List Part) → begins_with_number ps ≡ begins_bracket (opening ∷ ps)
+begun_behind [] = refl
+begun_behind (number ds ∷ ps) = refl
+begun_behind (opening ∷ ps) = refl
+begun_behind (closing ∷ ps) = refl
+begun_behind (comma ∷ ps) = refl
+begun_behind (semicolon ∷ ps) = refl
+begun_behind (other ∷ ps) = refl
+
+pub begun : (ps qs : List Part) → after_opening ps ≡ Some qs → begins_with_number qs ≡ begins_bracket ps
+begun [] qs h = absurd (cc h)
+begun (number ds ∷ ps) qs h = absurd (cc h)
+begun (opening ∷ ps) qs h = let e : qs ≡ ps = cc h in rw e (begun_behind ps)
+begun (closing ∷ ps) qs h = absurd (cc h)
+begun (comma ∷ ps) qs h = absurd (cc h)
+begun (semicolon ∷ ps) qs h = absurd (cc h)
+begun (other ∷ ps) qs h = absurd (cc h)

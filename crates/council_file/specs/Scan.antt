@@ -1,0 +1,45 @@
+-- What the scanner of a bracket text gives.
+use Rattle.std.specs.Prelude.{ℕ, Bool, true, false, List, [], ◌∷◌, Option, Some, None, option_map}
+use Rattle.std.specs.Str.Parse.{AllDigits}
+use Rattle.council_file.specs.declared.token.Token.{Token}
+use Rattle.council_file.specs.declared.token.Token.TheVariants.{Number, Opening, Closing, Comma, Semicolon, Other}
+use Rattle.council_file.specs.Bracket.{Part, number, opening, closing, comma, semicolon, other, is_blank, value_of}
+
+abbrev pub part : Token → Part
+part (Number digits) = number digits.now
+part Opening = opening
+part Closing = closing
+part Comma = comma
+part Semicolon = semicolon
+part Other = other
+
+abbrev pub begins_with_blank : List ℕ → Bool
+begins_with_blank [] = false
+begins_with_blank (b ∷ bs) = is_blank b
+
+-- a number has digits
+abbrev pub IsWhole : Token → Type 0
+IsWhole (Number digits) = AllDigits 10 digits.now
+IsWhole Opening = Unit {0}
+IsWhole Closing = Unit {0}
+IsWhole Comma = Unit {0}
+IsWhole Semicolon = Unit {0}
+IsWhole Other = Unit {0}
+
+-- the number that stands first, and the parts behind it
+abbrev pub first_number : List Part → Option (ℕ × List Part)
+first_number (number ds ∷ ps) = option_map (λ n. (n, ps)) (value_of ds)
+first_number ps = None
+
+-- the parts behind a mark that stands first
+abbrev pub after_opening : List Part → Option (List Part)
+after_opening (opening ∷ ps) = Some ps
+after_opening ps = None
+
+abbrev pub after_semicolon : List Part → Option (List Part)
+after_semicolon (semicolon ∷ ps) = Some ps
+after_semicolon ps = None
+
+abbrev pub begins_with_number : List Part → Bool
+begins_with_number (number ds ∷ ps) = true
+begins_with_number ps = false

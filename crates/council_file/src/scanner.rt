@@ -1,0 +1,147 @@
+//! A scanner that gives a bracket text part by part.
+ghost use Rattle.std.specs.Prelude.{◌≡◌, ◌≤◌, ◌<◌, ◌^◌, [], ◌∷◌, List, length, take, drop, true, false, IfSome, MatchOption, option_map, Some, None, if◌then◌else◌};
+ghost use Rattle.std.specs.Str.Parse.{AllDigits, digits_value};
+ghost use Rattle.council_file.specs.Bracket.{Part, parts, is_blank, mark, begins_with_digit, value_of};
+ghost use Rattle.council_file.specs.Scan.{after_opening, after_semicolon, begins_with_number, begins_with_blank, part, IsWhole, first_number};
+
+use crate::token::Token;
+use std::marker::Model;
+
+fn is_blank(byte: u8) -> bool
+    ensures { result ≡ is_blank byte }
+{
+    byte == b' ' || byte == b'\t' || byte == b'\n' || byte == b'\r'
+}
+
+fn mark(byte: u8) -> Token<'static>
+    ensures is { part result ≡ mark byte }
+    ensures whole { IsWhole result }
+{
+    match byte {
+        b'[' => Token::Opening,
+        b']' => Token::Closing,
+        b',' => Token::Comma,
+        b';' => Token::Semicolon,
+        _ => Token::Other,
+    }
+}
+
+/// How many digits stand first.
+fn digits_in_front(bytes: &[u8]) -> usize
+    ensures within { result ≤ length bytes.now }
+    ensures digits { AllDigits 10 (take result bytes.now) }
+    ensures all { begins_with_digit (drop result bytes.now) ≡ false }
+{
+    let mut n = 0;
+    while n < bytes.len() && bytes[n].is_ascii_digit() {
+        n += 1;
+    }
+    n
+}
+
+/// The text from its first byte that is not blank.
+fn after_blanks(text: &[u8]) -> &[u8]
+    ensures same { parts result.now ≡ parts text.now }
+    ensures all { begins_with_blank result.now ≡ false }
+{
+    let mut left = text;
+    while let [first, rest @ ..] = left {
+        if !is_blank(*first) {
+            break;
+        }
+        left = rest;
+    }
+    left
+}
+
+/// The first part of a text that begins with no blank, and what is left behind it.
+fn first_part(text: &[u8]) -> Option<(Token<'_>, &[u8])>
+    requires { begins_with_blank text.now ≡ false }
+    ensures is { MatchOption result (parts text.now ≡ []) (λ f. parts text.now ≡ part f.0 ∷ parts f.1.now) }
+    ensures whole { IfSome result (λ f. IsWhole f.0) }
+{
+    match text {
+        [] => None,
+        [first, ..] if first.is_ascii_digit() => {
+            let (digits, rest) = text.split_at(digits_in_front(text));
+            Some((Token::Number(digits), rest))
+        }
+        [first, rest @ ..] => Some((mark(*first), rest)),
+    }
+}
+
+/// The value of 1 to 18 digits.
+fn value_of(digits: &[u8]) -> Option<u64>
+    requires { AllDigits 10 digits.now }
+    ensures { result ≡ value_of digits.now }
+{
+    if 18 < digits.len() {
+        return None;
+    }
+    let mut value: u64 = 0;
+    for digit in digits {
+        value = value * 10 + (*digit - b'0') as u64;
+    }
+    Some(value)
+}
+
+/// What is left of a text. Contracts see it as its parts.
+#[derive(Drop)]
+pub(crate) struct Scanner<'a> {
+    left: &'a [u8],
+}
+
+impl<'a> Model for Scanner<'a> {
+    ghost Value = { List Part };
+
+    ghost view = { λ s. parts s.left.now };
+}
+
+impl<'a> Scanner<'a> {
+    pub(crate) fn new(text: &'a [u8]) -> Self
+        ensures { result ≡ parts text.now }
+    {
+        Scanner { left: text }
+    }
+
+    /// The next part.
+    pub(crate) fn next(&mut self) -> Option<Token<'a>>
+        ensures is { MatchOption result ((self.old ≡ []) × (self.new ≡ [])) (λ t. self.old ≡ part t ∷ self.new) }
+        ensures whole { IfSome result IsWhole }
+    {
+        let (token, left) = first_part(after_blanks(self.left))?;
+        self.left = left;
+        Some(token)
+    }
+
+    /// Takes the next part, and says whether it is `[`.
+    pub(crate) fn take_opening(&mut self) -> bool
+        ensures { after_opening self.old ≡ (if result then Some self.new else None) }
+    {
+        matches!(self.next(), Some(Token::Opening))
+    }
+
+    /// Takes the next part, and says whether it is `;`.
+    pub(crate) fn take_semicolon(&mut self) -> bool
+        ensures { after_semicolon self.old ≡ (if result then Some self.new else None) }
+    {
+        matches!(self.next(), Some(Token::Semicolon))
+    }
+
+    /// Takes the next part, and says whether it is a number.
+    pub(crate) fn take_digits(&mut self) -> bool
+        ensures { result ≡ begins_with_number self.old }
+    {
+        matches!(self.next(), Some(Token::Number(_)))
+    }
+
+    /// The number that stands next, if it has 1 to 18 digits.
+    pub(crate) fn number(&mut self) -> Option<u64>
+        ensures { option_map (λ n. (n, self.new)) result ≡ first_number self.old }
+    {
+        match self.next() {
+            Some(Token::Number(digits)) => value_of(digits),
+            _ => None,
+        }
+    }
+}
