@@ -5,3 +5,5 @@ pub mod Stops
 pub mod Joins
 pub mod Digits
 pub mod Weights
+pub mod Named
+pub mod ReadsBack

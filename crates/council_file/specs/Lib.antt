@@ -4,3 +4,4 @@ pub mod File
 pub mod Reads
 pub mod Joined
 pub mod Notation
+pub mod Laws

@@ -4,6 +4,7 @@
 mod bracket;
 mod joined;
 mod keys;
+pub mod laws;
 mod notation;
 mod parse;
 mod parts;

@@ -5,7 +5,7 @@ use Rattle.council_file.proofs.scanner.value_of.Goals as goal
 
 pub overflow_mul-value : goal.overflow_mul-value
 overflow_mul-value c =
-    let fit = digits_fit c.args.digits.now c.loop-digit.digit-index c.requires c.if-digits-gt18.false c.loop-digit-test.true in
+    let fit = digits_fit c.args.digits.now c.loop-digit.digit-index c.requires (omega arith) c.loop-digit-test.true in
     let now : c.loop-digit.value ≡ digits_value 10 (take c.loop-digit.digit-index c.args.digits.now) = c.loop-digit.invariant in
     omega (arith, fit, now)
 
@@ -14,7 +14,7 @@ overflow_sub-value c = digit_low c.args.digits.now c.loop-digit.digit-index c.re
 
 pub overflow_add-value : goal.overflow_add-value
 overflow_add-value c =
-    let fit = digits_fit c.args.digits.now c.loop-digit.digit-index c.requires c.if-digits-gt18.false c.loop-digit-test.true in
+    let fit = digits_fit c.args.digits.now c.loop-digit.digit-index c.requires (omega arith) c.loop-digit-test.true in
     let now : c.loop-digit.value ≡ digits_value 10 (take c.loop-digit.digit-index c.args.digits.now) = c.loop-digit.invariant in
     omega (arith, fit, now)
 

@@ -1,0 +1,67 @@
+-- The game of a rule without names passes the checks of a game.
+use Rattle.std.proofs.Common.{◌≡◌, ◌≢◌, ℕ, ◌+◌, ◌<◌, ◌≤◌, suc, List, [], ◌∷◌, length, get_or, decimal, Bool, true, false, not, ◌&&◌, ◌==◌, nat_le, nat_eq, None, inl, inr, refl, sym, ap, ◌∙◌, arith}
+use Rattle.std.specs.List.{position, position_or_len, range_with_len}
+use Rattle.std.specs.Char.{digit_value}
+use Rattle.std.specs.Str.Parse.{AllDigits}
+use Rattle.std.specs.Cmp.Lexicographic.{pointwise, same_text}
+use Rattle.std.proofs.lemmas.Bool.{cases_Bool, le-ltb}
+use Rattle.std.proofs.lemmas.Bool.Decides.{nat_tests}
+use Rattle.std.proofs.lemmas.Str.Parse.{digit_from_value}
+use Rattle.std.proofs.lemmas.Fmt.{decimal_is_IsNumeral, length-decimal-le, decimal_injective}
+use Rattle.std.proofs.lemmas.List.Folds.{list_any_none}
+use Rattle.std.proofs.lemmas.List.FromFn.{length-range_with_len, length-map-range_with_len, get_or-range_with_len, get_or-map-range_with_len, take-map-range_with_len}
+use Rattle.council_game.specs.Game.{is_plain, is_name, is_repeat}
+use Rattle.council_file.specs.Bracket.{counted_names}
+
+stops_nowhere : {X : Type 0} (p : X → Bool) (xs : List X) → ((i : ℕ) (d : X) → i < length xs → p (get_or xs i d) ≡ false) → position_or_len p xs ≡ length xs
+stops_nowhere p [] h = refl
+stops_nowhere p (x ∷ xs) h = rw (h 0 x (omega arith), stops_nowhere p xs (λ i d lt. h (suc i) d (omega arith))) (omega arith)
+
+pub position_nowhere : {X : Type 0} (p : X → Bool) (xs : List X) → ((i : ℕ) (d : X) → i < length xs → p (get_or xs i d) ≡ false) → position p xs ≡ None
+position_nowhere p xs h = rw (stops_nowhere p xs h, le-ltb (length xs) (length xs) (omega arith)) refl
+
+plain_digit : (b : ℕ) → digit_value b < 10 → (nat_le 32 b && not (b == 127)) ≡ true
+plain_digit b h = let r = digit_from_value b h in grind (arith, nat_tests)
+
+plain_digits : (ds : List ℕ) → AllDigits 10 ds → is_plain ds ≡ true
+plain_digits [] h = refl
+plain_digits (d ∷ ds) h = rw (plain_digit d h.0, plain_digits ds h.1) refl
+
+name_test : (ds : List ℕ) → AllDigits 10 ds → 0 < length ds → length ds ≤ 64 → is_name ds ≡ true
+name_test ds whole some few = rw (plain_digits ds whole) (grind (arith, nat_tests))
+
+decimal_name : (k : ℕ) → k ≤ 40 → is_name (decimal k) ≡ true
+decimal_name k few =
+    let numeral = decimal_is_IsNumeral k (omega arith) in
+    name_test (decimal k) numeral.0.1 numeral.0.0 (omega (arith, length-decimal-le 2 k (omega arith) (omega arith) (omega arith)))
+
+name_at : (n i : ℕ) (d : List ℕ) → i < n → get_or (counted_names n) i d ≡ decimal (1 + i)
+name_at n i d below = get_or-map-range_with_len decimal 1 n i (1 + i) d below refl
+
+pub names_pass : (n : ℕ) → n ≤ 40 → position (λ name. not (is_name name)) (counted_names n) ≡ None
+names_pass n few = position_nowhere (λ name. not (is_name name)) (counted_names n)
+    (λ i d lt.
+    let below : i < n = omega (arith, length-map-range_with_len decimal 1 n) in
+    ap (λ (t : List ℕ). not (is_name t)) (name_at n i d below) ∙ ap not (decimal_name (1 + i) (omega arith)))
+
+other_name : (j k : ℕ) → j ≤ 40 → k ≤ 40 → (j ≢ k) → pointwise nat_eq (decimal j) (decimal k) ≡ false
+other_name j k small few other =
+    elim (cases_Bool (pointwise nat_eq (decimal j) (decimal k))) [
+      | inl same ↦ absurd (other (decimal_injective j k (omega arith) (omega arith) (same_text (decimal j) (decimal k) (sym same))))
+      | inr differs ↦ differs
+    ]
+
+no_repeat : (n k : ℕ) → n ≤ 40 → k < n → is_repeat (counted_names n) k ≡ false
+no_repeat n k few below =
+    rw (name_at n k [] below, take-map-range_with_len decimal 1 n k (omega arith))
+    (list_any_none (pointwise nat_eq (decimal (1 + k))) (counted_names k)
+    (λ i d lt.
+    let here : i < k = omega (arith, length-map-range_with_len decimal 1 k) in
+    ap (pointwise nat_eq (decimal (1 + k))) (name_at k i d here) ∙ other_name (1 + k) (1 + i) (omega arith) (omega arith) (omega arith)))
+
+pub repeats_pass : (n m : ℕ) → n ≤ 40 → m ≡ n → position (is_repeat (counted_names n)) (range_with_len 0 m) ≡ None
+repeats_pass n m few same = position_nowhere (is_repeat (counted_names n)) (range_with_len 0 m)
+    (λ i d lt.
+    let below : i < m = omega (arith, length-range_with_len 0 m) in
+    let at : get_or (range_with_len 0 m) i d ≡ i = get_or-range_with_len 0 m i d below ∙ omega arith in
+    ap (is_repeat (counted_names n)) at ∙ no_repeat n i few (omega arith))

@@ -1,0 +1,240 @@
+-- The notation of a rule is read as the game of this rule.
+use Rattle.std.proofs.Common.{◌≡◌, ℕ, ◌+◌, ◌*◌, ◌^◌, ◌<◌, ◌≤◌, zero, suc, List, [], ◌∷◌, ◌++◌, length, get_or, codes, decimal, sum, Bool, true, false, not, ◌||◌, nat_le, nat_lt, Option, Some, None, option_map, option_and_then, ok_or, Result, Ok, refl, sym, ap, ◌∙◌, arith, append_assoc, length-append}
+use Rattle.std.specs.List.{AllByRecursion, list_any, position, range_with_len}
+use Rattle.std.specs.Str.Parse.{AllDigits}
+use Rattle.std.proofs.lemmas.Bool.{false≢true, or_parts, le-ltb, ltb-false}
+use Rattle.std.proofs.lemmas.Fmt.{decimal_is_IsNumeral, length-decimal-le}
+use Rattle.std.proofs.lemmas.List.FromFn.{length-range_with_len, length-map-range_with_len, get_or-range_with_len}
+use Rattle.council_game.specs.declared.fault.GameFault.{GameFault}
+use Rattle.council_game.specs.declared.fault.GameFault.TheVariants.{Members, Name, SameName, Weight, QuotaRange, Bracket}
+use Rattle.council_game.specs.Fault.{◌>>=◌, refuse, refuse_at}
+use Rattle.council_game.specs.Votes.{RuleView, rule_at}
+use Rattle.council_game.specs.Ranks.{places, rank_places}
+use Rattle.council_game.specs.Game.{GameView, IsGame, made_game, is_name, is_repeat, is_heavy, has_bad_quota}
+use Rattle.council_game.proofs.Games.{passed, position-none, light-rules, light-sum}
+use Rattle.council_file.specs.Bracket.{Part, number, opening, closing, comma, semicolon, parts, value_of, before, weights_of, rule_of, is_bracket, begins_bracket, begins_with_digit, game_of_bracket, counted_names, nameless_game}
+use Rattle.council_file.specs.File.{game_of}
+use Rattle.council_file.specs.Joined.{joined_numbers}
+use Rattle.council_file.specs.Notation.{notation}
+use Rattle.council_file.specs.Laws.{lone_game, NotationReadsBack}
+use Rattle.council_file.proofs.Digits.{parts-number}
+use Rattle.council_file.proofs.Named.{position_nowhere, names_pass, repeats_pass}
+
+-- ---- numbers
+
+parts-digits : (ds rest : List ℕ) → 0 < length ds → AllDigits 10 ds → begins_with_digit rest ≡ false → parts (ds ++ rest) ≡ number ds ∷ parts rest
+parts-digits [] rest some whole stop = absurd (omega arith)
+parts-digits (d ∷ ds) rest some whole stop = parts-number d ds rest whole stop
+
+parts-decimal : (n : ℕ) (rest : List ℕ) → n < 10 ^ 18 → begins_with_digit rest ≡ false → parts (decimal n ++ rest) ≡ number (decimal n) ∷ parts rest
+parts-decimal n rest small stop =
+    let numeral = decimal_is_IsNumeral n (omega arith) in
+    parts-digits (decimal n) rest numeral.0.0 numeral.0.1 stop
+
+short : (n : ℕ) → n < 10 ^ 18 → length (decimal n) ≤ 18
+short n small = length-decimal-le 18 n (omega arith) small (omega arith)
+
+leb-short : (a b : ℕ) → a ≤ b → nat_le a b ≡ true
+leb-short a b h = grind (arith, h)
+
+value_is : (n : ℕ) → n < 10 ^ 18 → value_of (decimal n) ≡ Some n
+value_is n small = rw (leb-short (length (decimal n)) 18 (short n small)) (ap (λ (m : ℕ). Some m) ((decimal_is_IsNumeral n (omega arith)).1))
+
+-- ---- the weights
+
+behind_comma : (text : List ℕ) → parts (codes ", " ++ text) ≡ comma ∷ parts text
+unfolding parts
+behind_comma text = refl
+
+closes : parts (codes "]") ≡ closing ∷ []
+unfolding parts
+closes = refl
+
+last_is : (w : ℕ) → w < 10 ^ 18 → weights_of (number (decimal w) ∷ closing ∷ []) ≡ Some (w ∷ [])
+unfolding weights_of
+last_is w small = ap (λ (o : Option ℕ). before o (Some [])) (value_is w small)
+
+next_is : (w : ℕ) (ps : List Part) (ws : List ℕ) → w < 10 ^ 18 → weights_of ps ≡ Some ws → weights_of (number (decimal w) ∷ comma ∷ ps) ≡ Some (w ∷ ws)
+unfolding weights_of
+next_is w ps ws small rest = ap (λ (o : Option ℕ). before o (weights_of ps)) (value_is w small) ∙ ap (before (Some w)) rest
+
+weights_read : (w : ℕ) (ws : List ℕ) → AllByRecursion (λ v. v < 10 ^ 18) (w ∷ ws) → weights_of (parts (joined_numbers (codes ", ") (w ∷ ws) ++ codes "]")) ≡ Some (w ∷ ws)
+weights_read w [] small = ap weights_of (parts-decimal w (codes "]") small.0 refl ∙ ap (λ (ps : List Part). number (decimal w) ∷ ps) closes) ∙ last_is w small.0
+weights_read w (v ∷ ws) small =
+    let rest : List ℕ = joined_numbers (codes ", ") (v ∷ ws) in
+    let regrouped : joined_numbers (codes ", ") (w ∷ v ∷ ws) ++ codes "]" ≡ decimal w ++ (codes ", " ++ (rest ++ codes "]")) =
+    append_assoc (decimal w) (codes ", " ++ rest) (codes "]") ∙ ap (λ (t : List ℕ). decimal w ++ t) (append_assoc (codes ", ") rest (codes "]")) in
+    ap (λ (t : List ℕ). weights_of (parts t)) regrouped
+    ∙ ap weights_of (parts-decimal w (codes ", " ++ (rest ++ codes "]")) small.0 refl ∙ ap (λ (ps : List Part). number (decimal w) ∷ ps) (behind_comma (rest ++ codes "]")))
+    ∙ next_is w (parts (rest ++ codes "]")) (v ∷ ws) small.0 (weights_read v ws small.1)
+
+joined_short : (ws : List ℕ) → AllByRecursion (λ v. v < 10 ^ 18) ws → length (joined_numbers (codes ", ") ws) ≤ 20 * length ws
+joined_short [] small = omega arith
+joined_short (w ∷ []) small = omega (arith, short w small.0)
+joined_short (w ∷ v ∷ ws) small =
+    let rest = joined_short (v ∷ ws) small.1 in
+    let all = length-append (decimal w) (codes ", " ++ joined_numbers (codes ", ") (v ∷ ws)) in
+    let two = length-append (codes ", ") (joined_numbers (codes ", ") (v ∷ ws)) in
+    omega (arith, short w small.0, rest, all, two)
+
+-- ---- the text
+
+-- a rule as each game of at most 40 members has it
+record Fits (n : ℕ) (r : RuleView) : Type 0 where
+  some : 0 < n
+  few : n ≤ 40
+  full : length r.weights ≡ n
+  light : (i : ℕ) → i < n → get_or r.weights i 0 ≤ 1000000000000
+  quota : has_bad_quota r ≡ false
+
+quota_small : (n : ℕ) (r : RuleView) → Fits n r → r.quota < 10 ^ 18
+quota_small n r fits =
+    let most = light-sum n r.weights fits.full fits.few fits.light in
+    let least = ltb-false _ _ (or_parts (nat_lt r.quota 1) (nat_lt (sum r.weights) r.quota) fits.quota).1 in
+    omega (arith, most, least)
+
+all_small : (ws : List ℕ) → ((i : ℕ) → i < length ws → get_or ws i 0 ≤ 1000000000000) → AllByRecursion (λ v. v < 10 ^ 18) ws
+all_small [] h = tt
+all_small (w ∷ ws) h = (omega (arith, h 0 (omega arith)), all_small ws (λ i lt. h (suc i) (omega arith)))
+
+weights_small : (n : ℕ) (r : RuleView) → Fits n r → AllByRecursion (λ v. v < 10 ^ 18) r.weights
+weights_small n r fits = all_small r.weights (λ i lt. fits.light i (omega (arith, fits.full)))
+
+tail_of : RuleView → List ℕ
+tail_of r = joined_numbers (codes ", ") r.weights ++ codes "]"
+
+opens : (text : List ℕ) → parts (codes "[" ++ text) ≡ opening ∷ parts text
+unfolding parts
+opens text = refl
+
+behind_semicolon : (text : List ℕ) → parts (codes "; " ++ text) ≡ semicolon ∷ parts text
+unfolding parts
+behind_semicolon text = refl
+
+regrouped_text : (a b c d e : List ℕ) → a ++ b ++ c ++ d ++ e ≡ a ++ (b ++ (c ++ (d ++ e)))
+regrouped_text a b c d e = simp append_assoc
+
+text_parts : (r : RuleView) → r.quota < 10 ^ 18 → parts (notation r) ≡ opening ∷ number (decimal r.quota) ∷ semicolon ∷ parts (tail_of r)
+unfolding notation tail_of
+text_parts r small =
+    ap parts (regrouped_text (codes "[") (decimal r.quota) (codes "; ") (joined_numbers (codes ", ") r.weights) (codes "]"))
+    ∙ opens (decimal r.quota ++ (codes "; " ++ (joined_numbers (codes ", ") r.weights ++ codes "]")))
+    ∙ ap (λ (ps : List Part). opening ∷ ps) (parts-decimal r.quota (codes "; " ++ (joined_numbers (codes ", ") r.weights ++ codes "]")) small refl)
+    ∙ ap (λ (ps : List Part). opening ∷ number (decimal r.quota) ∷ ps) (behind_semicolon (joined_numbers (codes ", ") r.weights ++ codes "]"))
+
+tail_weights : (ws : List ℕ) → 0 < length ws → AllByRecursion (λ v. v < 10 ^ 18) ws → weights_of (parts (joined_numbers (codes ", ") ws ++ codes "]")) ≡ Some ws
+tail_weights [] some small = absurd (omega arith)
+tail_weights (w ∷ ws) some small = weights_read w ws small
+
+tail_read : (n : ℕ) (r : RuleView) → Fits n r → weights_of (parts (tail_of r)) ≡ Some r.weights
+unfolding tail_of
+tail_read n r fits = tail_weights r.weights (omega (arith, fits.full, fits.some)) (weights_small n r fits)
+
+rule_parts : (q : ℕ) (ps : List Part) (ws : List ℕ) → q < 10 ^ 18 → weights_of ps ≡ Some ws → rule_of (opening ∷ number (decimal q) ∷ semicolon ∷ ps) ≡ Some (record { quota = q; weights = ws })
+unfolding rule_of
+rule_parts q ps ws small rest =
+    ap (option_and_then (λ k. option_map (λ vs. record { quota = k; weights = vs }) (weights_of ps))) (value_is q small)
+    ∙ ap (option_map (λ vs. record { quota = q; weights = vs })) rest
+
+rule_read : (n : ℕ) (r : RuleView) → Fits n r → rule_of (parts (notation r)) ≡ Some r
+rule_read n r fits = ap rule_of (text_parts r (quota_small n r fits)) ∙ rule_parts r.quota (parts (tail_of r)) r.weights (quota_small n r fits) (tail_read n r fits)
+
+lengths_of_five : (a b c d e : List ℕ) → length (a ++ b ++ c ++ d ++ e) ≡ length a + (length b + (length c + (length d + length e)))
+lengths_of_five a b c d e = simp length-append (omega arith)
+
+text_short : (n : ℕ) (r : RuleView) → Fits n r → length (notation r) ≤ 65536
+unfolding notation
+text_short n r fits =
+    let all = lengths_of_five (codes "[") (decimal r.quota) (codes "; ") (joined_numbers (codes ", ") r.weights) (codes "]") in
+    let quota = short r.quota (quota_small n r fits) in
+    let weights = joined_short r.weights (weights_small n r fits) in
+    omega (arith, all, quota, weights, fits.full, fits.few)
+
+-- ---- the game
+
+pass : {B : Type 0} (b : Bool) (fault : GameFault) (k : Unit {0} → Result B GameFault) → b ≡ false → (refuse b fault >>= k) ≡ k tt
+pass true fault k h = absurd (false≢true (sym h))
+pass false fault k h = refl
+
+pass_at : {B : Type 0} (fault : ℕ → GameFault) (o : Option ℕ) (k : Unit {0} → Result B GameFault) → o ≡ None → (refuse_at fault o >>= k) ≡ k tt
+pass_at fault None k h = refl
+pass_at fault (Some i) k h = absurd (cc)
+
+made_by : (names : List (List ℕ)) (r : RuleView) → (nat_lt (length names) 1 || nat_lt 40 (length names)) ≡ false → position (λ name. not (is_name name)) names ≡ None → position (is_repeat names) (places names) ≡ None
+    → position (is_heavy (r ∷ [])) (range_with_len 0 (length names)) ≡ None → list_any has_bad_quota (r ∷ []) ≡ false
+    → made_game None names (r ∷ []) ≡ Ok (record { title = None; names = names; rules = r ∷ []; ranks = rank_places r.weights })
+unfolding made_game
+made_by names r members named other light quota =
+    let made : GameView = record { title = None; names = names; rules = r ∷ []; ranks = rank_places r.weights } in
+    let last : Unit {0} → Result GameView GameFault = λ _. Ok made in
+    let quotas : Unit {0} → Result GameView GameFault = λ _. refuse (list_any has_bad_quota (r ∷ [])) QuotaRange >>= last in
+    let weights : Unit {0} → Result GameView GameFault = λ _. refuse_at Weight (position (is_heavy (r ∷ [])) (range_with_len 0 (length names))) >>= quotas in
+    let repeats : Unit {0} → Result GameView GameFault = λ _. refuse_at SameName (position (is_repeat names) (places names)) >>= weights in
+    let each : Unit {0} → Result GameView GameFault = λ _. refuse_at Name (position (λ name. not (is_name name)) names) >>= repeats in
+    pass (nat_lt (length names) 1 || nat_lt 40 (length names)) Members each members
+    ∙ pass_at Name (position (λ name. not (is_name name)) names) repeats named
+    ∙ pass_at SameName (position (is_repeat names) (places names)) weights other
+    ∙ pass_at Weight (position (is_heavy (r ∷ [])) (range_with_len 0 (length names))) quotas light
+    ∙ pass (list_any has_bad_quota (r ∷ [])) QuotaRange last quota
+
+count_passes : (n m : ℕ) → m ≡ n → 0 < n → n ≤ 40 → (nat_lt m 1 || nat_lt 40 m) ≡ false
+count_passes n m same some few = rw (le-ltb m 1 (omega arith), le-ltb 40 m (omega arith)) refl
+
+weights_pass : (n m : ℕ) (r : RuleView) → m ≡ n → Fits n r → position (is_heavy (r ∷ [])) (range_with_len 0 m) ≡ None
+weights_pass n m r same fits = position_nowhere (is_heavy (r ∷ [])) (range_with_len 0 m)
+    (λ i d lt.
+    let below : i < m = omega (arith, length-range_with_len 0 m) in
+    let at : get_or (range_with_len 0 m) i d ≡ i = get_or-range_with_len 0 m i d below ∙ omega arith in
+    ap (is_heavy (r ∷ [])) at ∙ ap (λ (b : Bool). b || false) (le-ltb 1000000000000 (get_or r.weights i 0) (fits.light i (omega arith))))
+
+made : (n : ℕ) (r : RuleView) → Fits n r → nameless_game r ≡ Ok (lone_game r)
+made n r fits =
+    let few : length r.weights ≤ 40 = omega (arith, fits.full, fits.few) in
+    let count = length-map-range_with_len decimal 1 (length r.weights) in
+    made_by (counted_names (length r.weights)) r
+    (count_passes n _ (count ∙ fits.full) fits.some fits.few)
+    (names_pass (length r.weights) few)
+    (repeats_pass (length r.weights) _ few count)
+    (weights_pass n _ r (count ∙ fits.full) fits)
+    (ap (λ (b : Bool). b || false) fits.quota)
+
+bracket_game : (text : List ℕ) (r : RuleView) → rule_of (parts text) ≡ Some r → game_of_bracket text ≡ nameless_game r
+unfolding game_of_bracket
+bracket_game text r h = ap (λ (o : Option RuleView). ok_or o Bracket >>= nameless_game) h
+
+file_game : (text : List ℕ) → length text ≤ 65536 → is_bracket text ≡ true → game_of text ≡ game_of_bracket text
+unfolding game_of
+file_game text few h = rw (le-ltb 65536 (length text) few, h) refl
+
+rule_game : (n : ℕ) (r : RuleView) → Fits n r → game_of (notation r) ≡ Ok (lone_game r)
+rule_game n r fits =
+    file_game (notation r) (text_short n r fits) (ap begins_bracket (text_parts r (quota_small n r fits)))
+    ∙ bracket_game (notation r) r (rule_read n r fits)
+    ∙ made n r fits
+
+-- ---- each rule of a game
+
+at_index : {X : Type 0} (P : X → Type 0) (xs : List X) (i : ℕ) (d : X) → AllByRecursion P xs → i < length xs → P (get_or xs i d)
+at_index P [] i d each below = absurd (omega arith)
+at_index P (x ∷ xs) zero d each below = each.0
+at_index P (x ∷ xs) (suc i) d each below = at_index P xs i d each.1 (omega arith)
+
+none_bad : (rs : List RuleView) → list_any has_bad_quota rs ≡ false → AllByRecursion (λ r. has_bad_quota r ≡ false) rs
+none_bad [] h = tt
+none_bad (r ∷ rs) h = let both = or_parts (has_bad_quota r) (list_any has_bad_quota rs) h in (both.0, none_bad rs both.1)
+
+fits_at : (g : GameView) (k : ℕ) → IsGame g → k < length g.rules → Fits (length g.names) (rule_at g.rules k)
+fits_at g k game below =
+    let p = passed g game.made in
+    let count = or_parts (nat_lt (length g.names) 1) (nat_lt 40 (length g.names)) p.members in
+    let none : RuleView = record { quota = 0; weights = [] } in
+    record {
+      some = ltb-false _ _ count.0;
+      few = ltb-false _ _ count.1;
+      full = game.full k none below;
+      light = at_index (λ r. (i : ℕ) → i < length g.names → get_or r.weights i 0 ≤ 1000000000000) g.rules k none (light-rules (length g.names) g.rules (position-none (is_heavy g.rules) (length g.names) p.weights)) below;
+      quota = at_index (λ r. has_bad_quota r ≡ false) g.rules k none (none_bad g.rules p.quotas) below;
+    }
+
+pub reads_back : (g : GameView) → IsGame g → NotationReadsBack g
+reads_back g game k below = rule_game (length g.names) (rule_at g.rules k) (fits_at g k game below)
