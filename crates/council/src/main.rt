@@ -9,6 +9,7 @@ mod run;
 mod tests;
 mod words;
 
+use clap::Error;
 use clap::error::ErrorKind;
 pub use fault::{Cause, RunFault, status};
 use mwc_gather::NoGate;
@@ -40,6 +41,22 @@ fn no_words(rt: &impl Eprint, error: io::Error) -> ExitCode {
     }
     let _ = eprintln!(rt; "council: the command line is not UTF-8");
     ExitCode::from(2)
+}
+
+/// Prints what the parser of the command line says: a fault, or the text of `--help` or `--version`.
+fn refuse(rt: &(impl Print + Eprint), error: &Error) -> ExitCode {
+    if error.kind() == ErrorKind::OutOfMemory {
+        return out_of_memory(rt);
+    }
+    let printed = error.print(rt).is_ok();
+    if error.use_stderr() {
+        return ExitCode::from(2);
+    }
+    if printed {
+        return ExitCode::SUCCESS;
+    }
+    let _ = eprintln!(rt; "council: output failed");
+    ExitCode::from(5)
 }
 
 /// Runs on the file, or on standard input where none is named.
@@ -84,15 +101,10 @@ fn main(rt: HostRuntime) -> ExitCode {
     };
     match read_words(alloc, words.as_slice()) {
         Ok(wanted) => run_on(&rt, &wanted),
-        Err(WordsFault::Parse(error)) => {
-            if error.kind() == ErrorKind::OutOfMemory {
-                return out_of_memory(&rt);
-            }
-            if error.print(&rt).is_err() {
-                return ExitCode::from(5);
-            }
-            ExitCode::from(if error.use_stderr() { 2 } else { 0 })
+        Err(WordsFault::Parse(error)) => refuse(&rt, &error),
+        Err(WordsFault::Range) => {
+            let _ = eprintln!(rt; "council: a number of the command line is out of range");
+            ExitCode::from(2)
         }
-        Err(WordsFault::Range) => ExitCode::from(2),
     }
 }
