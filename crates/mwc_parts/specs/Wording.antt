@@ -1,5 +1,5 @@
 -- The words that a worker sends.
-use Rattle.std.specs.Prelude.{◌≡◌, ℕ, ◌+◌, ◌≤◌, Bool, true, false, List, [], ◌∷◌, ◌++◌, length, map, take}
+use Rattle.std.specs.Prelude.{◌≡◌, ℕ, ◌+◌, ◌<◌, ◌≤◌, Bool, true, false, List, [], ◌∷◌, ◌++◌, length, map, take}
 use Rattle.mwc_parts.specs.Sums.{sum_of}
 use Rattle.mwc_parts.specs.Slicing.{Slicing}
 use Rattle.mwc_pipe.specs.declared.word.Word.{Word}
@@ -48,12 +48,13 @@ pub record Whole (g : Slicing) (most : ℕ) (tasks words : List Word) : Type 0 w
   pub few : total g slices ≤ most
   pub words_are : words ≡ wording g slices ++ End false ∷ []
 
--- the slices up to coalition number most + 1, and the end
+-- the slices up to their coalition number most + 1, and the end
 pub record Cut (g : Slicing) (most : ℕ) (tasks words : List Word) : Type 0 where
   pub slices : List ℕ
   pub slice : ℕ
   pub count : ℕ
   pub tasks_are : tasks ≡ opens slices ++ Open slice ∷ []
+  pub some : 0 < count
   pub full : total g slices + count ≡ most + 1
   pub within : count ≤ length (g.slice slice)
   pub words_are : words ≡ (wording g slices ++ cut_words g slice count) ++ End true ∷ []

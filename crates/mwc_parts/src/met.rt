@@ -7,9 +7,13 @@ use crate::fault::GatherFault;
 /// Which faults were met.
 #[derive(Clone, Copy, Debug)]
 pub struct Met {
+    /// A worker could not be started.
     pub start: bool,
+    /// A growth was refused.
     pub memory: bool,
+    /// A ring could not be finished.
     pub ring: bool,
+    /// There are more coalitions than were asked for.
     pub many: bool,
 }
 
