@@ -1,5 +1,5 @@
 //! What the gatherer does with a desk.
-ghost use Rattle.std.specs.Prelude.{◌≡◌, ◌≢◌, ◌+◌, ◌<◌, ◌≤◌, ◌^◌, ◌++◌, ◌∷◌, [], List, IfOk, IsTrue, IsFalse, true, false, length, vec_len, vec_capacity};
+ghost use Rattle.std.specs.Prelude.{◌≡◌, ◌≢◌, ◌+◌, ◌<◌, ◌≤◌, ◌^◌, ◌++◌, ◌∷◌, [], List, IfOk, IsTrue, IsFalse, MatchOption, true, false, length, vec_len, vec_capacity};
 ghost use Rattle.mwc_pipe.specs.declared.word.Word.{Word};
 ghost use Rattle.mwc_parts.specs.Wording.{total};
 ghost use Rattle.mwc_parts.specs.Dealing.{IsFresh};
@@ -131,6 +131,7 @@ impl Desk {
     pub fn read(&mut self) -> Option<Word>
         ensures worker { self.new.worker.promise ≡ self.old.worker.promise }
         ensures same { (self.new.given.items ≡ self.old.given.items) × (self.new.told ≡ self.old.told) }
+        ensures taken { MatchOption result (self.new.words.taken ≡ self.old.words.taken) (λ w. self.new.words.taken ≡ self.old.words.taken ++ w ∷ []) }
         ensures lost { self.new.draft.lost ≡ false → self.old.draft.lost ≡ false }
         ensures cut { self.new.draft.cut ≡ false → self.old.draft.cut ≡ false }
     {
