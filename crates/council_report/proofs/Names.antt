@@ -33,9 +33,9 @@ name-in g c k a in' =
     let here : cond (has (length g.names) k c) (k ∷ []) [] ≡ k ∷ [] = cond-true (has (length g.names) k c) (k ∷ []) [] in' in
     append_assoc a (names_before g c k) (tabbed (name_of g (member_at g.ranks k)))
     ∙ ap (λ (t : List ℕ). a ++ t)
-      (ap (λ (t : List ℕ). names_before g c k ++ t) (sym (append-nil (tabbed (name_of g (member_at g.ranks k)))))
-      ∙ ap (λ (ps : List ℕ). names_before g c k ++ flat_map tabbed (map (λ p. name_of g (member_at g.ranks p)) ps)) (sym here)
-      ∙ sym (names-more g c k))
+    (ap (λ (t : List ℕ). names_before g c k ++ t) (sym (append-nil (tabbed (name_of g (member_at g.ranks k)))))
+    ∙ ap (λ (ps : List ℕ). names_before g c k ++ flat_map tabbed (map (λ p. name_of g (member_at g.ranks p)) ps)) (sym here)
+    ∙ sym (names-more g c k))
 
 pub name-out : (g : GameView) (c k : ℕ) → has (length g.names) k c ≡ false → names_before g c k ≡ names_before g c (k + 1)
 name-out g c k out =

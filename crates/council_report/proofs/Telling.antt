@@ -9,9 +9,9 @@ use Rattle.council_report.specs.declared.output.Block.{Block}
 
 pub tells-then : (a b c : Told) (x y : List ℕ) → Tells a b x → Tells b c y → Tells a c (x ++ y)
 tells-then a b c x y first next = record {
-      bytes = Appends-trans a.bytes b.bytes c.bytes x y first.bytes next.bytes;
-      count = omega (arith, first.count, next.count, length-append x y);
-    }
+  bytes = Appends-trans a.bytes b.bytes c.bytes x y first.bytes next.bytes;
+  count = omega (arith, first.count, next.count, length-append x y);
+}
 
 pub tells-same : (a b c : Told) (x : List ℕ) → Tells a b x → Tells b c [] → Tells a c x
 tells-same a b c x first next = subst (Tells a c) (append-nil x) (tells-then a b c x [] first next)
@@ -23,31 +23,31 @@ appends-block (Some held) old new text more = ap (λ (t : List ℕ). held ++ t) 
 -- a text at the end of the block
 pub tells-block : (contents : Option (List ℕ)) (a b : Block) (text : List ℕ) → b.written ≡ a.written → b.bytes.items ≡ a.bytes.items ++ text → Tells (told contents a) (told contents b) text
 tells-block contents a b text same more = record {
-      bytes = appends-block contents a.bytes.items b.bytes.items text more;
-      count =
-        let long = ap (λ (t : List ℕ). length t) more in
-        omega (arith, same, long, length-append a.bytes.items text);
-    }
+  bytes = appends-block contents a.bytes.items b.bytes.items text more;
+  count =
+      let long = ap (λ (t : List ℕ). length t) more in
+      omega (arith, same, long, length-append a.bytes.items text);
+}
 
 pub stopped-first : (a : Told) (x y : List ℕ) (held : Option (List ℕ)) (n : ℕ) → StoppedIn a x held n → StoppedIn a (x ++ y) held n
 stopped-first a x y held n s = record {
-      front = s.front;
-      rest = s.rest ++ y;
-      at = s.at;
-      whole = sym (append_assoc s.front s.rest y) ∙ ap (λ (t : List ℕ). t ++ y) s.whole;
-      tells = s.tells;
-      stopped = s.stopped;
-    }
+  front = s.front;
+  rest = s.rest ++ y;
+  at = s.at;
+  whole = sym (append_assoc s.front s.rest y) ∙ ap (λ (t : List ℕ). t ++ y) s.whole;
+  tells = s.tells;
+  stopped = s.stopped;
+}
 
 pub stopped-next : (a b : Told) (x y : List ℕ) (held : Option (List ℕ)) (n : ℕ) → Tells a b x → StoppedIn b y held n → StoppedIn a (x ++ y) held n
 stopped-next a b x y held n first s = record {
-      front = x ++ s.front;
-      rest = s.rest;
-      at = s.at;
-      whole = append_assoc x s.front s.rest ∙ ap (λ (t : List ℕ). x ++ t) s.whole;
-      tells = tells-then a b s.at x s.front first s.tells;
-      stopped = s.stopped;
-    }
+  front = x ++ s.front;
+  rest = s.rest;
+  at = s.at;
+  whole = append_assoc x s.front s.rest ∙ ap (λ (t : List ℕ). x ++ t) s.whole;
+  tells = tells-then a b s.at x s.front first s.tells;
+  stopped = s.stopped;
+}
 
 -- it stopped once all of the text was told
 pub stopped-after : (a b : Told) (x : List ℕ) (held : Option (List ℕ)) (n : ℕ) → Tells a b x → Stopped b held n → StoppedIn a x held n
@@ -62,11 +62,11 @@ holds-block (Some held) bytes =
 
 pub stopped-here : (contents : Option (List ℕ)) (a : Block) → Stopped (told contents a) contents a.written
 stopped-here contents a = record {
-      within = omega arith;
-      holds =
-        let rest : length a.bytes.items ≡ (a.written + length a.bytes.items) - a.written = omega arith in
-        subst (HoldsBut (told contents a).bytes contents) rest (holds-block contents a.bytes.items);
-    }
+  within = omega arith;
+  holds =
+      let rest : length a.bytes.items ≡ (a.written + length a.bytes.items) - a.written = omega arith in
+      subst (HoldsBut (told contents a).bytes contents) rest (holds-block contents a.bytes.items);
+}
 
 pub tells-nothing : (contents : Option (List ℕ)) (a : Block) → Tells (told contents a) (told contents a) []
 tells-nothing contents a = tells-block contents a a [] refl (sym (append-nil a.bytes.items))

@@ -45,7 +45,8 @@ stopped-whole before held block heading lines n none is s =
     let within : n ≤ length heading + length s.front = omega (arith, s.stopped.within, count) in
     let text : heading ++ lines ≡ (heading ++ s.front) ++ s.rest = ap (λ (t : List ℕ). heading ++ t) (sym s.whole) ∙ sym (append_assoc heading s.front s.rest) in
     let first : take n (heading ++ lines) ≡ take n (heading ++ s.front) =
-      ap (take n) text ∙ take-append-le n (heading ++ s.front) s.rest (omega (arith, within, length-append heading s.front)) in
-    let tells : Appends (option_map (λ h. h ++ heading) before) s.at.bytes s.front = subst (λ (t : List ℕ). Appends (option_map (λ h. h ++ t) before) s.at.bytes s.front) is s.tells.bytes in
-    (omega (arith, within, all, length-append heading lines, length-append s.front s.rest),
-     subst (Appends before held) (sym first) (appends-part before s.at.bytes held heading s.front n (s.at.count - n) tells within (omega (arith, count)) s.stopped.holds))
+    ap (take n) text ∙ take-append-le n (heading ++ s.front) s.rest (omega (arith, within, length-append heading s.front)) in
+    let tells : Appends (option_map (λ h. h ++ heading) before) s.at.bytes s.front = subst (λ (t : List ℕ). Appends (option_map (λ h. h ++ t) before) s.at.bytes s.front) is s.tells.bytes in (
+      omega (arith, within, all, length-append heading lines, length-append s.front s.rest),
+      subst (Appends before held) (sym first) (appends-part before s.at.bytes held heading s.front n (s.at.count - n) tells within (omega (arith, count)) s.stopped.holds),
+    )

@@ -72,7 +72,11 @@ fn push_counts(out: &mut Vec<u8>, listing: &Listing<'_>, size: usize) -> Result<
 
 /// `size`, a size, how many coalitions have it, and how many of those contain each member; no line where none has it.
 #[tactic(auto, unfolding(crate::specs::Lines::size_line))]
-pub(crate) fn push_size(out: &mut Vec<u8>, listing: &Listing<'_>, size: usize) -> Result<(), AllocError>
+pub(crate) fn push_size(
+    out: &mut Vec<u8>,
+    listing: &Listing<'_>,
+    size: usize,
+) -> Result<(), AllocError>
     requires { size ≤ length listing.now.game.now.names }
     ensures { OnOk result (out.new.items ≡ out.old.items ++ size_line listing.now.game.now listing.now.list.now size) }
 {
@@ -88,11 +92,7 @@ pub(crate) fn push_size(out: &mut Vec<u8>, listing: &Listing<'_>, size: usize) -
 }
 
 /// How many coalitions contain a member.
-fn push_count(
-    out: &mut Vec<u8>,
-    listing: &Listing<'_>,
-    member: usize,
-) -> Result<(), AllocError>
+fn push_count(out: &mut Vec<u8>, listing: &Listing<'_>, member: usize) -> Result<(), AllocError>
     requires { member < length listing.now.game.now.names }
     ensures { OnOk result (out.new.items ≡ out.old.items ++ tabbed (decimal (count_of_member listing.now.game.now member listing.now.list.now))) }
 {
@@ -123,11 +123,7 @@ fn push_member_counts(
 }
 
 /// Both indices of a member.
-fn push_indices(
-    out: &mut Vec<u8>,
-    listing: &Listing<'_>,
-    member: usize,
-) -> Result<(), AllocError>
+fn push_indices(out: &mut Vec<u8>, listing: &Listing<'_>, member: usize) -> Result<(), AllocError>
     requires { member < length listing.now.game.now.names }
     ensures { OnOk result (out.new.items ≡ out.old.items ++ flat_map tabbed (index_fields listing.now.game.now listing.now.list.now member)) }
 {

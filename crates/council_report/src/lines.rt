@@ -83,7 +83,11 @@ fn push_names(out: &mut Vec<u8>, game: &Game, coalition: Coalition) -> Result<()
 
 /// `coalition`, its size, its weight under each rule, the names of its members in rank order.
 #[tactic(auto, unfolding(crate::specs::Lines::coalition_line))]
-pub(crate) fn push_coalition(out: &mut Vec<u8>, game: &Game, coalition: Coalition) -> Result<(), AllocError>
+pub(crate) fn push_coalition(
+    out: &mut Vec<u8>,
+    game: &Game,
+    coalition: Coalition,
+) -> Result<(), AllocError>
     requires { coalition < 2 ^ length game.now.names }
     ensures { OnOk result (out.new.items ≡ out.old.items ++ coalition_line game.now coalition) }
 {

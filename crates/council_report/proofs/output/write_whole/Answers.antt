@@ -12,6 +12,7 @@ appends_more a b c xs i n h k = subst (λ t. Appends a c t) (sym (take-add i n x
 pub loop-written-preserved : goal.loop-written-preserved
 loop-written-preserved g c =
     let bound = c.in-Ok.ensures.bound in
-    let whole = take_all (length c.args.bytes.now - c.loop-written.written) (drop c.loop-written.written c.args.bytes.now) (omega (arith, length-drop c.loop-written.written c.args.bytes.now)) in
-    (omega (arith, bound, length-drop c.loop-written.written c.args.bytes.now),
-     appends_more _ _ _ c.args.bytes.now c.loop-written.written c.in-Ok.count c.loop-written.invariant.1 (rw whole at c.in-Ok.ensures.bytes))
+    let whole = take_all (length c.args.bytes.now - c.loop-written.written) (drop c.loop-written.written c.args.bytes.now) (omega (arith, length-drop c.loop-written.written c.args.bytes.now)) in (
+      omega (arith, bound, length-drop c.loop-written.written c.args.bytes.now),
+      appends_more _ _ _ c.args.bytes.now c.loop-written.written c.in-Ok.count c.loop-written.invariant.1 (rw whole at c.in-Ok.ensures.bytes),
+    )

@@ -10,8 +10,8 @@ returns-in_err-put_shown_sizes-clause-err g c =
     let sizes : List ℕ = size_lines c.args.shown c.args.listing.now.game.now c.args.listing.now.list.now in
     let p = err_from_is_err_and c.from_residual-in_err-put_shown_sizes.result c.from_residual-in_err-put_shown_sizes.ensures.1 in
     let stopped =
-        stopped-first _ (coalitions ++ sizes) (member_lines c.args.listing.now.game.now c.args.listing.now.list.now) _ _
-        (stopped-next _ _ coalitions sizes _ _ c.in_ok-put_shown_coalitions.ensures.ok c.in_err-put_shown_sizes.ensures.err)
+    stopped-first _ (coalitions ++ sizes) (member_lines c.args.listing.now.game.now c.args.listing.now.list.now) _ _
+    (stopped-next _ _ coalitions sizes _ _ c.in_ok-put_shown_coalitions.ensures.ok c.in_err-put_shown_sizes.ensures.err)
     in
     rw (p.1, p.2) stopped
 

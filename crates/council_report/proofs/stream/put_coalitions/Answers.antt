@@ -27,10 +27,10 @@ returns-in_err-settle-in-Ok-clause-err g c =
     let next = take_more c.args.listing.now.list.now c.loop-coalition.coalition-index c.coalition-item.result c.loop-coalition-test.true ∙ ap (λ (x : ℕ). take c.loop-coalition.coalition-index c.args.listing.now.list.now ++ x ∷ []) (sym c.coalition-item.is) in
     let p = err_from_is_err_and c.from_residual.result c.from_residual.ensures.1 in
     let stopped =
-        stopped-at _ _ (coalition_line c.args.listing.now.game.now) (c.args.listing.now.list.now) (c.loop-coalition.coalition-index + 1) _ _
-        (turn-told _ (coalition_line c.args.listing.now.game.now) (c.args.listing.now.list.now) c.loop-coalition.coalition-index c.coalition-item.result (g.W.Write.contents c.loop-coalition.writer) c.loop-coalition.block (record { bytes = c.push_coalition.new.out; written = c.loop-coalition.block.written })
-          (record { before = c.loop-coalition.invariant; same = refl; more = c.in-Ok.ensures; next = next }))
-        c.in_err-settle-in-Ok.ensures.err
+    stopped-at _ _ (coalition_line c.args.listing.now.game.now) (c.args.listing.now.list.now) (c.loop-coalition.coalition-index + 1) _ _
+    (turn-told _ (coalition_line c.args.listing.now.game.now) (c.args.listing.now.list.now) c.loop-coalition.coalition-index c.coalition-item.result (g.W.Write.contents c.loop-coalition.writer) c.loop-coalition.block (record { bytes = c.push_coalition.new.out; written = c.loop-coalition.block.written })
+    (record { before = c.loop-coalition.invariant; same = refl; more = c.in-Ok.ensures; next = next }))
+    c.in_err-settle-in-Ok.ensures.err
     in
     rw (p.1, p.2) stopped
 

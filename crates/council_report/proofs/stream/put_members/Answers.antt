@@ -35,10 +35,10 @@ returns-in_err-settle-in-Ok-clause-err g c =
     let next = take_more xs c.loop-member.member 0 below ∙ ap (λ (x : ℕ). take c.loop-member.member xs ++ x ∷ []) (at ∙ omega arith) in
     let p = err_from_is_err_and c.from_residual.result c.from_residual.ensures.1 in
     let stopped =
-        stopped-at _ _ (member_line c.args.listing.now.game.now c.args.listing.now.list.now) (members c.args.listing.now.game.now) (c.loop-member.member + 1) _ _
-        (turn-told _ (member_line c.args.listing.now.game.now c.args.listing.now.list.now) (members c.args.listing.now.game.now) c.loop-member.member c.loop-member.member (g.W.Write.contents c.loop-member.writer) c.loop-member.block (record { bytes = c.push_member.new.out; written = c.loop-member.block.written })
-          (record { before = c.loop-member.invariant; same = refl; more = c.in-Ok.ensures; next = next }))
-        c.in_err-settle-in-Ok.ensures.err
+    stopped-at _ _ (member_line c.args.listing.now.game.now c.args.listing.now.list.now) (members c.args.listing.now.game.now) (c.loop-member.member + 1) _ _
+    (turn-told _ (member_line c.args.listing.now.game.now c.args.listing.now.list.now) (members c.args.listing.now.game.now) c.loop-member.member c.loop-member.member (g.W.Write.contents c.loop-member.writer) c.loop-member.block (record { bytes = c.push_member.new.out; written = c.loop-member.block.written })
+    (record { before = c.loop-member.invariant; same = refl; more = c.in-Ok.ensures; next = next }))
+    c.in_err-settle-in-Ok.ensures.err
     in
     rw (p.1, p.2) stopped
 

@@ -36,10 +36,10 @@ returns-in_err-settle-in-Ok-clause-err g c =
     let next = take_more xs (c.loop-size.size - 1) 0 below ∙ ap (λ (x : ℕ). take (c.loop-size.size - 1) xs ++ x ∷ []) (at ∙ omega (arith, c.loop-size.auto.size)) in
     let p = err_from_is_err_and c.from_residual.result c.from_residual.ensures.1 in
     let stopped =
-        stopped-at _ _ (size_line c.args.listing.now.game.now c.args.listing.now.list.now) (range_with_len 1 (length c.args.listing.now.game.now.names)) ((c.loop-size.size - 1) + 1) _ _
-        (turn-told _ (size_line c.args.listing.now.game.now c.args.listing.now.list.now) (range_with_len 1 (length c.args.listing.now.game.now.names)) (c.loop-size.size - 1) c.loop-size.size (g.W.Write.contents c.loop-size.writer) c.loop-size.block (record { bytes = c.push_size.new.out; written = c.loop-size.block.written })
-          (record { before = c.loop-size.invariant; same = refl; more = c.in-Ok.ensures; next = next }))
-        c.in_err-settle-in-Ok.ensures.err
+    stopped-at _ _ (size_line c.args.listing.now.game.now c.args.listing.now.list.now) (range_with_len 1 (length c.args.listing.now.game.now.names)) ((c.loop-size.size - 1) + 1) _ _
+    (turn-told _ (size_line c.args.listing.now.game.now c.args.listing.now.list.now) (range_with_len 1 (length c.args.listing.now.game.now.names)) (c.loop-size.size - 1) c.loop-size.size (g.W.Write.contents c.loop-size.writer) c.loop-size.block (record { bytes = c.push_size.new.out; written = c.loop-size.block.written })
+    (record { before = c.loop-size.invariant; same = refl; more = c.in-Ok.ensures; next = next }))
+    c.in_err-settle-in-Ok.ensures.err
     in
     rw (p.1, p.2) stopped
 

@@ -15,5 +15,5 @@ returns-in-Err-clause-err g c =
     record {
       within = omega (arith, within);
       holds = subst (HoldsBut (told (g.W.Write.contents c.args.writer.now) c.args.self.now).bytes (g.W.Write.contents c.write_whole.new.writer)) rest
-        (holds-part (g.W.Write.contents c.args.writer.now) (g.W.Write.contents c.write_whole.new.writer) bytes done within part);
+          (holds-part (g.W.Write.contents c.args.writer.now) (g.W.Write.contents c.write_whole.new.writer) bytes done within part);
     }
