@@ -8,6 +8,7 @@ pub mod Games
 pub mod Making
 pub mod Weights
 pub mod GameTests
+pub mod Meanings
 pub mod Monotone
 pub mod Subsets
 pub mod Listing

@@ -1,7 +1,15 @@
 -- What the laws say of every game.
-use Rattle.std.specs.Prelude.{ℕ, ◌^◌, ◌≡◌, ◌≢◌, ◌<◌, true, false, length}
-use Rattle.std.specs.List.{All, AllPairs}
-use Rattle.council_game.specs.Votes.{Votes, has, wins, minimal, minimal_coalitions}
+use Rattle.std.specs.Prelude.{ℕ, ◌^◌, ◌≡◌, ◌≢◌, ◌<◌, ◌↔◌, true, false, List, length, map, slice_index}
+use Rattle.std.specs.List.{All, AllPairs, sum}
+use Rattle.council_game.specs.Votes.{Votes, has, without, weight, places_of, wins, minimal, minimal_coalitions}
+
+-- a coalition weighs what its members weigh together
+abbrev pub WeighsItsMembers : Type 0
+WeighsItsMembers = (ws : List ℕ) (c : ℕ) → weight ws c ≡ sum (map (λ p. slice_index ws p) (places_of (length ws) c))
+
+-- a coalition is minimal exactly where it wins, and loses without any one of its members
+abbrev pub NeedsEachMember : Votes → Type 0
+NeedsEachMember v = (c : ℕ) → (minimal v c ≡ true) ↔ ((wins v.rules c ≡ true) × ((p : ℕ) → p < v.members → has v.members p c ≡ true → wins v.rules (without v.members p c) ≡ false))
 
 -- in a game of n members, each place of a is in c, and c is not a
 abbrev pub IsProperSubset : ℕ → ℕ → ℕ → Type 0

@@ -1,6 +1,16 @@
 //! Laws of games: what the definitions say, with nothing to run.
 ghost use Rattle.council_game.specs.Votes.{Votes, IsVotes};
-ghost use Rattle.council_game.specs.Laws.{ProperSubsetsLose, IsListing};
+ghost use Rattle.council_game.specs.Laws.{WeighsItsMembers, NeedsEachMember, ProperSubsetsLose, IsListing};
+
+/// A coalition weighs what its members weigh together.
+pub fn coalitions_weigh_their_members()
+    ensures { WeighsItsMembers }
+{}
+
+/// A coalition is minimal exactly where it wins, and loses without any one of its members.
+pub fn minimal_coalitions_need_each_member()
+    ensures { (v : Votes) → NeedsEachMember v }
+{}
 
 /// No proper subset of a minimal coalition wins.
 pub fn proper_subsets_lose()
