@@ -94,3 +94,22 @@ game_file() {
         member=$((member + 1))
     done
 }
+
+# The game file of two rules over the members A, B, C, D: 5 of 3, 2, 2, 1 and 3 of 1, 1, 1, 1.
+two_rules() {
+    cat <<'END'
+quotas = [5, 3]
+member = [
+    {name = "A", weights = [3, 1]}, {name = "B", weights = [2, 1]},
+    {name = "C", weights = [2, 1]}, {name = "D", weights = [1, 1]},
+]
+END
+}
+
+# Compiles the library that refuses allocations to $temp/refuse.so.
+compile_refuse() {
+    if ! cc -O2 -Wall -Wextra -shared -fPIC -o "$temp/refuse.so" "$top/tests/hostile/refuse.c" 2>"$temp/cc"; then
+        failed "hostile/refuse.c is compiled" "$(head -n 1 "$temp/cc")"
+        exit 1
+    fi
+}

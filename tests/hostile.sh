@@ -3,36 +3,17 @@
 # refusal is met. Each time the program says that it is out of memory, or that a worker could not be
 # started, with status 5, that one line on standard error and nothing on standard output; or it does
 # exactly what it does with ample memory. At a fault of the command line it may also tell less of the
-# fault, on standard error and with status 2. The library that refuses is hostile/refuse.c, compiled
-# here.
+# fault, on standard error and with status 2. The library that refuses is hostile/refuse.c.
 . "$(dirname "$0")/common.sh"
 
-if ! cc -O2 -Wall -Wextra -shared -fPIC -o "$temp/refuse.so" "$top/tests/hostile/refuse.c" 2>"$temp/cc"; then
-    failed "hostile/refuse.c is compiled" "$(head -n 1 "$temp/cc")"
-    exit 1
-fi
-
-# a game of two rules, with a title
-cat >"$temp/two.toml" <<'END'
-title = "Two rules"
-quotas = [5, 3]
-member = [
-    {name = "A", weights = [3, 1]}, {name = "B", weights = [2, 1]},
-    {name = "C", weights = [2, 1]}, {name = "D", weights = [1, 1]},
-]
-END
+compile_refuse
+{
+    echo 'title = "Two rules"'
+    two_rules
+} >"$temp/two.toml"
 echo '[51; 35, 20, 15, 15, 15]' >"$temp/five.txt"
-cat >"$temp/five.toml" <<'END'
-quota = 51
-member = [
-    {name = "A", weight = 35}, {name = "B", weight = 20}, {name = "C", weight = 15},
-    {name = "D", weight = 15}, {name = "E", weight = 15},
-]
-END
-cat >"$temp/fault.toml" <<'END'
-quota = 51
-member = [{name = "A", weight = 50}, {name = "B", weight = 49}, {name = "A", weight = 1}]
-END
+game_file 51 35 20 15 15 15 >"$temp/five.toml"
+game_file 51 50 49 1 | sed 's/"C"/"A"/' >"$temp/fault.toml"
 
 printf 'council: out of memory\n' >"$temp/memory"
 printf 'council: a worker could not be started\n' >"$temp/start"

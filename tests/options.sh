@@ -190,13 +190,7 @@ member | A | 50 | 2 | 1/2 | 0.500000 | 1/2 | 0.500000
 member | B | 49 | 1 | 1/4 | 0.250000 | 1/4 | 0.250000
 END
 
-cat >"$temp/two.toml" <<'END'
-quotas = [5, 3]
-member = [
-    {name = "A", weights = [3, 1]}, {name = "B", weights = [2, 1]},
-    {name = "C", weights = [2, 1]}, {name = "D", weights = [1, 1]},
-]
-END
+two_rules >"$temp/two.toml"
 run "$temp/two.toml" --list --notation
 printed_lines "two rules" <<'END'
 members | 4

@@ -1,5 +1,5 @@
 #!/usr/bin/env bash
-# Runs the tests of this folder on the built program:
+# Runs the tests of this folder on the built program, and refusals.sh on the built tests of the crates:
 #
 #     tests/run.sh PROGRAM
 #
@@ -31,7 +31,7 @@ if [ ! -x "$program" ]; then
     echo "FAILED tests: there is no program $program"
     failed=1
 else
-    for test in examples options workers words faults prefixes output limits hostile; do
+    for test in examples options workers words faults prefixes output limits hostile refusals; do
         count bash "tests/$test.sh" "$program"
     done
     count python3 tests/noise.py "$program" 300 1

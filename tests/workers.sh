@@ -2,20 +2,8 @@
 # Neither the number of workers nor that of fixed places changes a byte of the report.
 . "$(dirname "$0")/common.sh"
 
-cat >"$temp/five.toml" <<'END'
-quota = 51
-member = [
-    {name = "A", weight = 35}, {name = "B", weight = 20}, {name = "C", weight = 15},
-    {name = "D", weight = 15}, {name = "E", weight = 15},
-]
-END
-cat >"$temp/two.toml" <<'END'
-quotas = [5, 3]
-member = [
-    {name = "A", weights = [3, 1]}, {name = "B", weights = [2, 1]},
-    {name = "C", weights = [2, 1]}, {name = "D", weights = [1, 1]},
-]
-END
+game_file 51 35 20 15 15 15 >"$temp/five.toml"
+two_rules >"$temp/two.toml"
 echo '[51; 50, 49, 1]' >"$temp/board.txt"
 cp "$top/examples/ec-1986.toml" "$temp"
 

@@ -8,6 +8,9 @@
  * the program. What it takes later counts, as the memory of a thread that starts. At the first
  * refusal one line, `refuse: allocation 3`, goes to the file descriptor REFUSE_TO, or to standard
  * error where it is not set.
+ *
+ * With REFUSE_CALL=1 only one call of the program is met: the allocations count from the line `call`
+ * that it writes to standard output until it writes there again.
  */
 #define _GNU_SOURCE
 #include <dlfcn.h>
@@ -15,6 +18,8 @@
 #include <stdatomic.h>
 #include <stddef.h>
 #include <stdlib.h>
+#include <string.h>
+#include <sys/syscall.h>
 #include <unistd.h>
 
 /* The C library's own, under the names that no preloaded library takes from them. */
@@ -28,6 +33,7 @@ static atomic_ulong allocations;
 static atomic_int told;
 static unsigned long refuse_at, refuse_from;
 static int refuse_to = STDERR_FILENO;
+static int one_call;
 
 static void tell(unsigned long number)
 {
@@ -96,6 +102,13 @@ int posix_memalign(void **made, size_t align, size_t size)
 	return 0;
 }
 
+ssize_t write(int to, const void *bytes, size_t length)
+{
+	if (one_call && to == STDOUT_FILENO)
+		atomic_store(&counting, length >= 4 && !memcmp(bytes, "call", 4));
+	return syscall(SYS_write, to, bytes, length);
+}
+
 static unsigned long number_in(const char *name)
 {
 	const char *text = getenv(name);
@@ -110,7 +123,8 @@ static int counted_main(int words, char **word, char **environment)
 	refuse_from = number_in("REFUSE_FROM");
 	if (getenv("REFUSE_TO"))
 		refuse_to = (int)number_in("REFUSE_TO");
-	atomic_store(&counting, 1);
+	one_call = getenv("REFUSE_CALL") != NULL;
+	atomic_store(&counting, !one_call);
 	int status = program(words, word, environment);
 	atomic_store(&counting, 0);
 	return status;

@@ -1,4 +1,6 @@
 //! Worked reports, command lines, statuses, and readers and writers that fail.
+mod refusals;
+
 ghost use Rattle.std.specs.Prelude.{◌≤◌, ◌<◌};
 
 use crate::words::{WordsFault, read_words};
@@ -83,11 +85,9 @@ fn most(most: u32) -> Options
     }
 }
 
-#[test]
-fn writes_the_worked_reports(rt: HostRuntime) -> Result<(), Fail> {
-    assert_eq!(rt; BOARD_REPORT.len(), 158);
-    let alloc = rt.alloc();
-    let cases: [(&[u8], Options, &[u8]); 8] = [
+/// Worked games, each with its options and its report.
+fn worked() -> [(&'static [u8], Options, &'static [u8]); 8] {
+    [
         (BOARD, plain(), BOARD_REPORT),
         (
             BOARD,
@@ -120,13 +120,78 @@ fn writes_the_worked_reports(rt: HostRuntime) -> Result<(), Fail> {
             plain(),
             b"members\t6\nquota\t12\ntotal\t17\nminimal\t4\nmember\t1\t4\t3\t5/24\t0.208333\t1/5\t0.200000\nmember\t2\t4\t3\t5/24\t0.208333\t1/5\t0.200000\nmember\t3\t4\t3\t5/24\t0.208333\t1/5\t0.200000\nmember\t4\t2\t3\t3/16\t0.187500\t1/5\t0.200000\nmember\t5\t2\t3\t3/16\t0.187500\t1/5\t0.200000\nmember\t6\t1\t0\t0/1\t0.000000\t0/1\t0.000000\n",
         ),
-    ];
-    for (file, options, report) in cases {
+    ]
+}
+
+#[test]
+fn writes_the_worked_reports(rt: HostRuntime) -> Result<(), Fail> {
+    assert_eq!(rt; BOARD_REPORT.len(), 158);
+    let alloc = rt.alloc();
+    for (file, options, report) in worked() {
         let mut reader = file;
         let mut written = Vec::new(alloc);
         let answer = run(&rt, alloc, &mut reader, &options, &NoGate, &mut written);
         assert_eq!(rt; written.as_slice(), report);
         assert!(rt; answer == Ok(report.len() as u64));
+    }
+    Ok(())
+}
+
+/// A writer that looks whether the bytes that it takes are those that it awaits, and takes no memory:
+/// all of each write or, with a number to begin with, a part whose length is drawn anew each time.
+#[derive(Drop)]
+struct Awaiting<'a> {
+    awaited: &'a [u8],
+    differs: bool,
+    calls: u32,
+    part: Option<u32>,
+}
+
+impl Awaiting<'_> {
+    /// How many of so many bytes are taken.
+    fn count(&mut self, length: usize) -> usize {
+        match self.part {
+            Some(drawn) if length > 0 => {
+                let drawn = drawn.wrapping_mul(1_664_525).wrapping_add(1_013_904_223);
+                self.part = Some(drawn);
+                1 + (drawn >> 16) as usize % length
+            }
+            _ => length,
+        }
+    }
+}
+
+impl Write for Awaiting<'_> {
+    fn write(&mut self, bytes: &[u8]) -> io::Result<usize> {
+        self.calls = self.calls.saturating_add(1);
+        let count = self.count(bytes.len()).min(bytes.len());
+        match self.awaited.strip_prefix(&bytes[..count]) {
+            Some(rest) => self.awaited = rest,
+            None => self.differs = true,
+        }
+        Ok(count)
+    }
+
+    fn flush(&mut self) -> io::Result<()> {
+        Ok(())
+    }
+}
+
+#[test]
+fn writes_through_parts_of_any_length(rt: HostRuntime) -> Result<(), Fail> {
+    for seed in 0..100 {
+        for (file, options, report) in worked() {
+            let mut reader = file;
+            let mut writer = Awaiting {
+                awaited: report,
+                differs: false,
+                calls: 0,
+                part: Some(seed),
+            };
+            let answer = run(&rt, rt.alloc(), &mut reader, &options, &NoGate, &mut writer);
+            assert!(rt; answer == Ok(report.len() as u64), "{seed}");
+            assert!(rt; writer.awaited.is_empty() && !writer.differs, "{seed}");
+        }
     }
     Ok(())
 }
@@ -228,7 +293,7 @@ fn writes_through_parts_and_one_flush(rt: HostRuntime) -> Result<(), Fail> {
     Ok(())
 }
 
-/// A reader that gives so many bytes of the board's file, and then an error.
+/// A reader that gives the board's file byte by byte, and fails after so many.
 #[derive(Drop)]
 struct Cut {
     given: usize,
@@ -238,10 +303,10 @@ struct Cut {
 
 impl Read for Cut {
     fn read(&mut self, buffer: &mut [u8]) -> io::Result<usize> {
-        if self.given >= self.end || self.given >= BOARD.len() {
+        if self.given >= self.end {
             return Err(Error::from(self.kind));
         }
-        if buffer.is_empty() {
+        if self.given >= BOARD.len() || buffer.is_empty() {
             return Ok(0);
         }
         buffer[0] = BOARD[self.given];
@@ -253,8 +318,9 @@ impl Read for Cut {
 #[test]
 fn a_failing_reader_is_the_fault_of_the_game(rt: HostRuntime) -> Result<(), Fail> {
     let alloc = rt.alloc();
+    let length = BOARD.len();
     for kind in [ErrorKind::Interrupted, ErrorKind::Other] {
-        for end in 0..BOARD.len() {
+        for end in 0..length + 2 {
             let mut reader = Cut {
                 given: 0,
                 end,
@@ -262,12 +328,17 @@ fn a_failing_reader_is_the_fault_of_the_game(rt: HostRuntime) -> Result<(), Fail
             };
             let mut written = Vec::new(alloc);
             let answer = run(&rt, alloc, &mut reader, &plain(), &NoGate, &mut written);
-            let wanted = RunFault {
+            let fault = RunFault {
                 cause: Cause::Game(GameFault::Read),
                 written: 0,
             };
-            assert!(rt; answer == Err(wanted), "{end}");
-            assert!(rt; written.is_empty(), "{end}");
+            if end <= length {
+                assert!(rt; answer == Err(fault), "{end}");
+                assert!(rt; written.is_empty(), "{end}");
+            } else {
+                assert!(rt; answer == Ok(158));
+                assert_eq!(rt; written.as_slice(), BOARD_REPORT);
+            }
         }
     }
     Ok(())

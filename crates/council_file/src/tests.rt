@@ -1,4 +1,6 @@
 //! Game files with the games or faults that they are.
+mod refusals;
+
 use crate::{parse_game, read_game, write_notation};
 use council_game::{Game, GameFault};
 use std::alloc::Global;

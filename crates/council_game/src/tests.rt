@@ -1,4 +1,6 @@
 //! Worked games.
+mod refusals;
+
 use crate::{Coalition, Game, GameFault, Rule, plain_list};
 use std::alloc::Global;
 use std::process::Abort;

@@ -1,4 +1,6 @@
 //! Rows worked by hand, and workers that are held by their gates.
+mod refusals;
+
 use super::*;
 use council_game::{Coalition, Game, GameFault};
 use mwc_pipe::{Batch, PipeIn, Taken, Word, ring};

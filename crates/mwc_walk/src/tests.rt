@@ -1,4 +1,6 @@
 //! Worked games, and games that only a pruned walk can end.
+mod refusals;
+
 use crate::{Walk, list_slice, slice_count};
 use council_game::{Coalition, Game, GameFault, Rule, plain_list};
 use std::alloc::{AllocError, Global};

@@ -1,5 +1,8 @@
 //! Worked games: their counts, both indices and the decimals.
-ghost use Rattle.std.specs.Prelude.{◌<◌, ◌≤◌, ◌^◌};
+mod refusals;
+
+ghost use Rattle.std.specs.Prelude.{◌<◌, ◌≤◌, ◌^◌, IfOk};
+ghost use Rattle.power_index.specs.Counting.{AreCoalitions};
 
 use crate::{Counts, Fraction, deegan_packel, lowest, public_good};
 use council_game::{Coalition, Game, plain_list};
@@ -18,11 +21,18 @@ fn game(alloc: Global, quota: u64, weights: &[u64]) -> Result<Game, Fail> {
     Ok(Game::new(alloc, None, names, own, quota)?)
 }
 
+/// The minimal winning coalitions of a small game.
+fn minimal(rt: &impl Abort, alloc: Global, game: &Game) -> Result<Vec<Coalition>, Fail>
+    ensures { IfOk result (λ v. AreCoalitions game.now v.items) }
+{
+    assert!(rt; game.members() <= 20);
+    Ok(plain_list(alloc, game)?)
+}
+
 /// The counts of all minimal winning coalitions of a small game.
 fn counts(rt: &impl Abort, alloc: Global, quota: u64, weights: &[u64]) -> Result<Counts, Fail> {
     let game = game(alloc, quota, weights)?;
-    assert!(rt; game.members() <= 20);
-    let list = plain_list(alloc, &game)?;
+    let list = minimal(rt, alloc, &game)?;
     assert!(rt; 1 <= list.len());
     assert!(rt; list.len() <= 4_000_000);
     Ok(Counts::of(&game, &list))

@@ -1,0 +1,71 @@
+//! The calls that take memory. `tests/refusals.sh` refuses the allocations between the line `call` and
+//! the line of the answer, one after the other.
+use super::*;
+use std::io::Print;
+
+/// Tells the answer of a call that makes a game: what is shown of the game here, or want of memory.
+fn tells_game<R: Abort + Print>(
+    rt: &R,
+    alloc: Global,
+    answer: Result<Game, GameFault>,
+    wanted: &str,
+) -> Result<(), Fail> {
+    if let Err(fault) = &answer {
+        rt.println("out of memory")?;
+        assert_eq!(rt; *fault, GameFault::Memory);
+        return Ok(());
+    }
+    rt.println("worked")?;
+    assert_eq!(rt; shown(alloc, answer)?.as_str(), wanted);
+    Ok(())
+}
+
+#[test]
+fn parses_toml(rt: HostRuntime) -> Result<(), Fail> {
+    let file =
+        "title = \"Board\"\nquotas = [51, 2]\nmember = [{name = \"A\", weights = [50, 1]}, {name = \"B\", weights = [49, 1]}]";
+    rt.println("call")?;
+    let answer = parse_game(rt.alloc(), file.as_bytes());
+    tells_game(&rt, rt.alloc(), answer, "Board: A B [51; 50, 49] [2; 1, 1]")
+}
+
+#[test]
+fn parses_brackets(rt: HostRuntime) -> Result<(), Fail> {
+    rt.println("call")?;
+    let answer = parse_game(rt.alloc(), b"[51; 50, 49, 1]");
+    tells_game(&rt, rt.alloc(), answer, "1 2 3 [51; 50, 49, 1]")
+}
+
+#[test]
+fn reads_pieces(rt: HostRuntime) -> Result<(), Fail> {
+    let mut reader = Piecemeal {
+        left: BOARD.as_bytes(),
+        at_once: 7,
+        error: None,
+    };
+    rt.println("call")?;
+    let answer = read_game(rt.alloc(), &mut reader);
+    tells_game(&rt, rt.alloc(), answer, "A B C [51; 50, 49, 1]")
+}
+
+#[test]
+fn writes_notation(rt: HostRuntime) -> Result<(), Fail> {
+    let alloc = rt.alloc();
+    let Ok(game) = parse_game(alloc, BOARD.as_bytes()) else {
+        return Err(Fail::from("the game was refused"));
+    };
+    let mut out = Vec::new(alloc);
+    out.push(b'x')?;
+    assert!(rt; 0 < game.rules());
+    rt.println("call")?;
+    match write_notation(&game, 0, &mut out) {
+        Ok(()) => rt.println("worked")?,
+        Err(_) => {
+            rt.println("out of memory")?;
+            assert_eq!(rt; out.as_slice(), b"x".as_slice());
+            write_notation(&game, 0, &mut out)?;
+        }
+    }
+    assert_eq!(rt; out.as_slice(), b"x[51; 50, 49, 1]".as_slice());
+    Ok(())
+}

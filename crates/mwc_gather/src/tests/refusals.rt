@@ -1,0 +1,97 @@
+//! The calls that take memory, and one that takes none. `tests/refusals.sh` refuses the allocations
+//! between the line `call` and the line of the answer.
+use super::*;
+use std::io::Print;
+
+#[test]
+fn gathers(rt: HostRuntime) -> Result<(), Fail> {
+    let game = five(rt.alloc())?;
+    let passes = Passes::none();
+    rt.println("call")?;
+    let answer = gathered(&rt, rt.alloc(), &game, &passes, 2, 3, 5);
+    match answer {
+        Ok(gathered) => {
+            rt.println("worked")?;
+            assert_eq!(rt; gathered.parts.len(), 3);
+            assert_eq!(rt; passes.counts(), [1, 1, 1, 1]);
+        }
+        Err(GatherFault::Memory) => rt.println("out of memory")?,
+        Err(fault) => {
+            rt.println("not started")?;
+            assert!(rt; matches!(fault, GatherFault::Start));
+        }
+    }
+    let counts = passes.counts();
+    for _ in 0..1000 {
+        thread::yield_now();
+    }
+    assert_eq!(rt; passes.counts(), counts);
+    let list = listed(&rt, rt.alloc(), &game, &NoGate, 2, 3, 5)?;
+    assert_eq!(rt; list.as_slice(), [24, 22, 21, 19, 15].as_slice());
+    Ok(())
+}
+
+#[test]
+fn puts_parts_in_order(rt: HostRuntime) -> Result<(), Fail> {
+    let game = five(rt.alloc())?;
+    let gathered = gathered(&rt, rt.alloc(), &game, &NoGate, 2, 3, 5)?;
+    rt.println("call")?;
+    let answer = gathered.in_order(rt.alloc());
+    match &answer {
+        Ok(_) => rt.println("worked")?,
+        Err(_) => rt.println("out of memory")?,
+    }
+    let list = match answer {
+        Ok(list) => list,
+        Err(_) => gathered.in_order(rt.alloc())?,
+    };
+    assert_eq!(rt;
+        masks(rt.alloc(), &list)?.as_slice(),
+        [24, 22, 21, 19, 15].as_slice()
+    );
+    Ok(())
+}
+
+#[test]
+fn sends_into_a_batch(rt: HostRuntime) -> Result<(), Fail> {
+    let game = five(rt.alloc())?;
+    assert!(rt; game.members() == 5);
+    let guarded = Guarded::new(&game, &NoGate);
+    let mut batch = Batch::new(rt.alloc(), 16);
+    rt.println("call")?;
+    let sent = send_slice(&rt, &guarded, 2, 1, 1, 6, &mut batch);
+    if sent == Sent::Refused {
+        rt.println("out of memory")?;
+    } else {
+        rt.println("worked")?;
+        assert_eq!(rt; sent, Sent::Whole { left: 3 });
+    }
+    let words = [
+        Word::Open(1),
+        Word::One(Coalition::of_mask(22)),
+        Word::One(Coalition::of_mask(21)),
+        Word::One(Coalition::of_mask(19)),
+        Word::Done(1),
+    ];
+    let mut pipe = batch.close();
+    let count = pipe.len() as usize;
+    assert_eq!(rt; count == words.len(), sent != Sent::Refused);
+    for word in words.iter().take(count) {
+        assert_eq!(rt; pipe.take(), Taken::Item(*word));
+    }
+    assert_eq!(rt; pipe.take(), Taken::Ended);
+    Ok(())
+}
+
+#[test]
+fn marks_without_memory(rt: HostRuntime) -> Result<(), Fail> {
+    rt.println("call")?;
+    let mut marks = Marks::new(2);
+    assert!(rt; marks.give(0, 3));
+    assert!(rt; !marks.give(0, 4));
+    assert_eq!(rt; marks.holder(0), Some(3));
+    assert_eq!(rt; marks.holder(1), None);
+    assert!(rt; !marks.all_given());
+    rt.println("worked")?;
+    Ok(())
+}

@@ -1,0 +1,39 @@
+//! The calls that take memory, and those that take none. `tests/refusals.sh` refuses the allocations
+//! between the line `call` and the line of the answer.
+use super::*;
+use std::io::Print;
+use std::test::Fail;
+
+#[test]
+fn lists_a_slice(rt: HostRuntime) -> Result<(), Fail> {
+    let alloc = rt.alloc();
+    let game = game(alloc, 51, &[35, 20, 15, 15, 15])?;
+    assert!(rt; game.members() == 5);
+    rt.println("call")?;
+    match list_slice(alloc, &game, 0, 0, 9) {
+        Ok(list) => {
+            rt.println("worked")?;
+            assert_eq!(rt;
+                masks(alloc, &list)?.as_slice(),
+                [24, 22, 21, 19, 15].as_slice()
+            );
+        }
+        Err(_) => rt.println("out of memory")?,
+    }
+    Ok(())
+}
+
+#[test]
+fn walks_without_memory(rt: HostRuntime) -> Result<(), Fail> {
+    let game = game(rt.alloc(), 51, &[35, 20, 15, 15, 15])?;
+    assert!(rt; game.members() == 5);
+    rt.println("call")?;
+    let mut walk = Walk::new(&game, 2, 1);
+    for mask in [22, 21, 19] {
+        assert_eq!(rt; walk.next(), Some(Coalition::of_mask(mask)));
+    }
+    assert_eq!(rt; walk.next(), None);
+    assert_eq!(rt; walk.visits(), 7);
+    rt.println("worked")?;
+    Ok(())
+}

@@ -1,0 +1,99 @@
+#!/usr/bin/env bash
+# Makes the library's calls while their allocations are refused, one after the other, and then all
+# from one on. Each call is a test of its crate, in src/tests/refusals.rt, that prints `call` before
+# it and its answer after it, `worked`, `out of memory` or `not started`, looks whether all stands as
+# it must after that answer, and fails if not. Where no allocation was refused the answer is the
+# worked one. Where all from one on were, it is want of memory or, for calls that start threads, that
+# one did not start; where one alone was, it may also be the worked one, since a list that collects
+# with a hint of its length tries again with less. The built tests of the crates are run, and the
+# library that refuses is hostile/refuse.c.
+. "$(dirname "$0")/common.sh"
+
+compile_refuse
+crates=$top/crates
+
+# Makes the call of the test $3 of the crate $2 with the allocations refused that $1 names, and keeps
+# its answer and its status, and in $temp/said what refuse.c says.
+call() {
+    : >"$temp/said"
+    timeout -k 5 "$seconds" env "$1" REFUSE_CALL=1 REFUSE_TO=9 LD_PRELOAD="$temp/refuse.so" \
+        "$crates/$2/out/$2_tests" "tests::refusals::$3" >"$temp/out" 2>"$temp/err" 9>"$temp/said" </dev/null
+    status=$?
+    answer=$(sed -n 2p "$temp/out")
+}
+
+# Whether the last call ended, and answered `worked` where no allocation was refused, and else one of
+# these answers. It says why not.
+answers() {
+    local wanted
+    if [ "$status" -ne 0 ]; then
+        why="status $status: $(head -n 1 "$temp/err")"
+        return 1
+    fi
+    [ -s "$temp/said" ] || set -- worked
+    for wanted in "$@"; do
+        [ "$answer" != "$wanted" ] || return 0
+    done
+    why="the answer is: $answer"
+    return 1
+}
+
+# sweep HOW CRATE TEST ANSWER..: the call answers so while allocations are refused, as long as one is.
+sweep() {
+    local how=$1 name="$2 $3, $1" number why='' counts
+    : >"$temp/answers"
+    for ((number = 1; number <= 10000; number++)); do
+        call "$how=$number" "$2" "$3"
+        answers "${@:4}" || break
+        [ -s "$temp/said" ] || break
+        echo "$answer" >>"$temp/answers"
+    done
+    if [ -z "$why" ] && [ "$number" -eq 1 ]; then
+        why="no allocation was seen, so none was refused"
+    fi
+    if [ -z "$why" ]; then
+        counts=$(sort "$temp/answers" | uniq -c | sed 's/^ *//' | tr '\n' ',' | sed 's/,$//; s/,/, /g')
+        ok "$name 1 to $((number - 1)): $counts"
+    else
+        failed "$name $number" "$why"
+    fi
+}
+
+# takes_memory CRATE TEST [ANSWER]: where allocations are refused, the call answers want of memory, or so.
+takes_memory() {
+    sweep REFUSE_AT "$1" "$2" "out of memory" worked "${@:3}"
+    sweep REFUSE_FROM "$1" "$2" "out of memory" "${@:3}"
+}
+
+# takes_none CRATE TEST: the call works while all allocations are refused.
+takes_none() {
+    local why=''
+    call REFUSE_FROM=1 "$1" "$2"
+    if answers worked; then
+        ok "$1 $2, REFUSE_FROM 1"
+    else
+        failed "$1 $2, REFUSE_FROM 1" "$why"
+    fi
+}
+
+takes_memory council_game makes_a_game
+takes_memory council_game makes_a_game_of_two_rules
+takes_memory council_game lists_plainly
+takes_memory council_file parses_toml
+takes_memory council_file parses_brackets
+takes_memory council_file reads_pieces
+takes_memory council_file writes_notation
+takes_memory mwc_walk lists_a_slice
+takes_none mwc_walk walks_without_memory
+takes_memory mwc_pipe puts_into_a_pipe
+takes_memory mwc_pipe puts_into_a_batch
+takes_memory mwc_pipe replays
+takes_memory mwc_pipe makes_a_ring
+takes_none mwc_pipe moves_words_without_memory
+takes_none power_index counts_without_memory
+takes_memory mwc_gather gathers "not started"
+takes_memory mwc_gather puts_parts_in_order
+takes_memory mwc_gather sends_into_a_batch
+takes_none mwc_gather marks_without_memory
+takes_memory council runs_on_brackets "not started"
+takes_memory council runs_on_toml "not started"
