@@ -94,7 +94,7 @@ impl Desk {
         ensures worker { self.new.worker.promise ≡ self.old.worker.promise }
         ensures room { IsTrue result → (vec_len self.new.given < vec_capacity self.new.given) × (self.new.draft.lost ≡ self.old.draft.lost) }
         ensures lost { IsFalse result → self.new.draft.lost ≡ true }
-        ensures same { (self.new.given.items ≡ self.old.given.items) × (self.new.told ≡ self.old.told) × (self.new.draft.cut ≡ self.old.draft.cut) }
+        ensures same { (self.new.given.items ≡ self.old.given.items) × (self.new.told ≡ self.old.told) × (self.new.ended ≡ self.old.ended) × (self.new.draft.cut ≡ self.old.draft.cut) }
     {
         if self.given.reserve(1).is_err() {
             self.draft.lose();
@@ -110,7 +110,7 @@ impl Desk {
         requires told { self.old.told ≡ false }
         ensures worker { self.new.worker.promise ≡ self.old.worker.promise }
         ensures given { self.new.given.items ≡ self.old.given.items ++ slice ∷ [] }
-        ensures same { (self.new.told ≡ false) × (self.new.draft.lost ≡ self.old.draft.lost) × (self.new.draft.cut ≡ self.old.draft.cut) }
+        ensures same { (self.new.told ≡ false) × (self.new.ended ≡ self.old.ended) × (self.new.draft.lost ≡ self.old.draft.lost) × (self.new.draft.cut ≡ self.old.draft.cut) }
     {
         self.given.push_reserved(slice);
         put(rt, &mut self.tasks, Word::Open(slice));
@@ -121,7 +121,7 @@ impl Desk {
         requires { self.old.told ≡ false }
         ensures worker { self.new.worker.promise ≡ self.old.worker.promise }
         ensures told { self.new.told ≡ true }
-        ensures same { (self.new.given.items ≡ self.old.given.items) × (self.new.draft.lost ≡ self.old.draft.lost) × (self.new.draft.cut ≡ self.old.draft.cut) }
+        ensures same { (self.new.given.items ≡ self.old.given.items) × (self.new.ended ≡ self.old.ended) × (self.new.draft.lost ≡ self.old.draft.lost) × (self.new.draft.cut ≡ self.old.draft.cut) }
     {
         put(rt, &mut self.tasks, Word::End { cut: false });
         self.told = true;
@@ -130,7 +130,7 @@ impl Desk {
     /// Takes a word where there is one, and keeps what it tells.
     pub fn read(&mut self) -> Option<Word>
         ensures worker { self.new.worker.promise ≡ self.old.worker.promise }
-        ensures same { (self.new.given.items ≡ self.old.given.items) × (self.new.told ≡ self.old.told) }
+        ensures same { (self.new.given.items ≡ self.old.given.items) × (self.new.told ≡ self.old.told) × (self.new.ended ≡ self.old.ended) }
         ensures taken { MatchOption result (self.new.words.taken ≡ self.old.words.taken) (λ w. self.new.words.taken ≡ self.old.words.taken ++ w ∷ []) }
         ensures lost { self.new.draft.lost ≡ false → self.old.draft.lost ≡ false }
         ensures cut { self.new.draft.cut ≡ false → self.old.draft.cut ≡ false }
