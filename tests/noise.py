@@ -5,8 +5,9 @@
 
 makes COUNT files from the games of examples/, each by some flips, cuts, repeats and joins of bytes,
 and runs PROGRAM on each, as FILE or on standard input and with options of all kinds. Whatever the
-file, the program ends by itself within a second (of the clock, or of processor time where other work
-holds it up), with a status from 0 to 5 that is not 2. At 0 there is a report
+file, the program ends by itself within a second, of the clock or of processor time, or on a slower or
+busier machine within three times what the slowest of the untouched games takes there, with a status
+from 0 to 5 that is not 2. At 0 there is a report
 on standard output and nothing on standard error; at any other status there is one line on standard
 error, which begins with `council: `, and nothing on standard output. The same SEED makes the same
 files. A file that fails is kept, and its name is printed.
@@ -24,9 +25,14 @@ import tempfile
 import time
 from collections import Counter
 
-# A run that takes longer, by the clock and in processor time, is tried again; three in a row fail.
+# A run that takes longer, by the clock and in processor time, is tried again. After three in a row it
+# may take so many times what the slowest untouched game takes.
 SECONDS = 1.0
 TRIES = 3
+TIMES = 3
+# After so many seconds a run has not ended. Where other work holds all processors, each hand-over of a
+# full ring waits for its turn, so a long list may take half a minute.
+HANGS = 120
 # Bytes that mean something in one of the two forms.
 TELLING = [b"[", b"]", b"[[", b"]]", b"=", b"\n", b"\r\n", b'"', b"'", b'"""', b"#", b",", b";", b".", b"-", b"{", b"}",
            b"0", b"9", b"1000000000000", b"9223372036854775807", b"1e3", b"inf", b"0x10", b"1_0", b"\\u0000", b"\\",
@@ -87,9 +93,9 @@ def run(program, file, words, by_name):
     with open(file, "rb") as it:
         try:
             made = subprocess.run([program, *words, *([file] if by_name else [])], stdin=subprocess.DEVNULL if by_name else it,
-                                  stdout=subprocess.PIPE, stderr=subprocess.PIPE, timeout=20)
+                                  stdout=subprocess.PIPE, stderr=subprocess.PIPE, timeout=HANGS)
         except subprocess.TimeoutExpired:
-            return "it had not ended after 20 seconds", None, 20.0
+            return f"it had not ended after {HANGS} seconds", None, float(HANGS)
     took = min(time.monotonic() - start, processor_time() - used)
     status, out, err = made.returncode, made.stdout, made.stderr
     why = None
@@ -116,7 +122,8 @@ def main(words):
     rng = random.Random(seed)
     here = os.path.dirname(os.path.abspath(__file__))
     games = []
-    for file in sorted(glob.glob(f"{here}/../examples/*.toml") + glob.glob(f"{here}/../examples/*.txt")):
+    untouched = sorted(glob.glob(f"{here}/../examples/*.toml") + glob.glob(f"{here}/../examples/*.txt"))
+    for file in untouched:
         with open(file, "rb") as it:
             games.append(it.read())
     statuses, longest, failed = Counter(), 0.0, 0
@@ -133,7 +140,9 @@ def main(words):
         statuses[status] += 1
         longest = max(longest, took)
         if not why and took > SECONDS:
-            why = f"it took {took:.1f} seconds"
+            slowest = max(run(program, game, chosen, True)[2] for game in untouched)
+            if took > TIMES * slowest:
+                why = f"it took {took:.1f} seconds, and the slowest untouched game {slowest:.1f}"
         if why:
             failed += 1
             print(f"FAILED noise {number} of seed {seed}: {why}: {file} {' '.join(chosen)}{'' if by_name else ' <'}", flush=True)
