@@ -4,8 +4,7 @@
 # it and its answer after it, `worked`, `out of memory` or `not started`, looks whether all stands as
 # it must after that answer, and fails if not. Where no allocation was refused the answer is the
 # worked one. Where one was, it is want of memory or, for calls that start threads, that one did not
-# start; a call that collects lists may also work where one alone was, since `collect` tries again
-# with less than its hint. The built tests of the crates are run, and the library that refuses is
+# start; no call works then. The built tests of the crates are run, and the library that refuses is
 # hostile/refuse.c.
 . "$(dirname "$0")/common.sh"
 
@@ -65,12 +64,6 @@ takes_memory() {
     sweep REFUSE_FROM "$1" "$2" "out of memory" "${@:3}"
 }
 
-# collects CRATE TEST [ANSWER]: the same of a call that collects lists, which may work where one alone is.
-collects() {
-    sweep REFUSE_AT "$1" "$2" "out of memory" worked "${@:3}"
-    sweep REFUSE_FROM "$1" "$2" "out of memory" "${@:3}"
-}
-
 # takes_none CRATE TEST: the call works while all allocations are refused.
 takes_none() {
     local why=''
@@ -82,12 +75,12 @@ takes_none() {
     fi
 }
 
-collects council_game makes_a_game
-collects council_game makes_a_game_of_two_rules
+takes_memory council_game makes_a_game
+takes_memory council_game makes_a_game_of_two_rules
 takes_memory council_game lists_plainly
-collects council_file parses_toml
-collects council_file parses_brackets
-collects council_file reads_pieces
+takes_memory council_file parses_toml
+takes_memory council_file parses_brackets
+takes_memory council_file reads_pieces
 takes_memory council_file writes_notation
 takes_memory mwc_walk lists_a_slice
 takes_none mwc_walk walks_without_memory
@@ -101,5 +94,5 @@ takes_memory mwc_gather gathers "not started"
 takes_memory mwc_gather puts_parts_in_order
 takes_memory mwc_gather sends_into_a_batch
 takes_none mwc_gather marks_without_memory
-collects council runs_on_brackets "not started"
-collects council runs_on_toml "not started"
+takes_memory council runs_on_brackets "not started"
+takes_memory council runs_on_toml "not started"

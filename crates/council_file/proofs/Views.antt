@@ -1,5 +1,5 @@
 -- A table and an array of toml as lists.
-use Rattle.std.proofs.Common.{zero-add, ◌≡◌, ℕ, List, [], ◌∷◌, ◌++◌, ◌+◌, map, String, Global, string_bytes, nat_eq, not, Bool, ◌&&◌, refl, ap}
+use Rattle.std.proofs.Common.{◌≡◌, ℕ, List, [], ◌∷◌, ◌++◌, ◌+◌, map, String, Global, string_bytes, nat_eq, not, Bool, ◌&&◌, refl, ap}
 use Rattle.std.specs.Map.{keys_of}
 use Rattle.toml.specs.Data.{Data}
 use Rattle.toml.specs.View.{view, items_view, members_view}
@@ -7,12 +7,11 @@ use Rattle.toml.specs.declared.value.Value.{Value}
 use Rattle.council_file.specs.File.{elements, keys, has_other_key}
 use Rattle.std.specs.List.{list_any, list_all, range_with_len}
 use Rattle.std.proofs.lemmas.List.{map_push}
-use Rattle.std.proofs.lemmas.List.FromFn.{map-range_with_len_more}
 use Rattle.council_game.specs.declared.rule.Rule.{Rule}
 use Rattle.council_game.specs.Votes.{RuleView}
 use Rattle.council_game.specs.Rules.{rule_view, rule_views}
 use Rattle.std.specs.Cmp.Lexicographic.{pointwise}
-use Rattle.council_game.proofs.Lists.{list_any_map}
+use Rattle.council_game.proofs.Lists.{list_any_map, map_one_more}
 
 pub elements_view : (vs : List Value) → elements (items_view vs) ≡ map view vs
 elements_view [] = refl
@@ -34,4 +33,4 @@ map_map g f [] = refl
 map_map {C = C} g f (x ∷ xs) = ap (λ (ys : List C). g (f x) ∷ ys) (map_map g f xs)
 
 pub rules_more : (f : ℕ → RuleView) (rules : List Rule) (rule : Rule) (r : ℕ) → rule_views rules ≡ map f (range_with_len 0 r) → rule_view rule ≡ f r → rule_views (rules ++ rule ∷ []) ≡ map f (range_with_len 0 (r + 1))
-rules_more f rules rule r before this = rw (map_push rule_view rules rule, map-range_with_len_more f 0 r r (zero-add r), before, this) refl
+rules_more f rules rule r before this = rw (map_push rule_view rules rule, map_one_more f r, before, this) refl

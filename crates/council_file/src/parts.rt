@@ -172,7 +172,7 @@ fn name_of(member: &Value) -> &str
 pub(crate) fn names_of(alloc: Global, members: &[Value]) -> Result<Vec<String>, AllocError>
     ensures { IfOk result (λ v. map string_bytes v.items ≡ map name_of (map view members.now)) }
 {
-    let mut names = Vec::new(alloc);
+    let mut names = Vec::with_capacity(alloc, members.len())?;
     for member in members {
         names.push(String::from_str(alloc, name_of(member))?)?;
     }
@@ -183,7 +183,7 @@ pub(crate) fn names_of(alloc: Global, members: &[Value]) -> Result<Vec<String>, 
 fn only_weights(alloc: Global, members: &[Value]) -> Result<Vec<u64>, AllocError>
     ensures { IfOk result (λ v. v.items ≡ map only_weight (map view members.now)) }
 {
-    let mut weights = Vec::new(alloc);
+    let mut weights = Vec::with_capacity(alloc, members.len())?;
     for member in members {
         weights.push(only_weight(member))?;
     }
@@ -198,7 +198,11 @@ fn weights_under(
 ) -> Result<Vec<u64>, AllocError>
     ensures { IfOk result (λ v. v.items ≡ map (λ m. weight_under n r (view m)) members.now) }
 {
-    members.iter().map(|m| weight_under(m, n, r)).collect(alloc)
+    let mut weights = Vec::with_capacity(alloc, members.len())?;
+    for member in members {
+        weights.push(weight_under(member, n, r))?;
+    }
+    Ok(weights)
 }
 
 #[tactic(auto, using(crate::proofs::Views::map_map), unfolding(crate::specs::File::only_rule))]
@@ -228,7 +232,7 @@ fn rule_at(alloc: Global, table: &Table, n: usize, r: usize) -> Result<Rule, All
 fn rules_at(alloc: Global, table: &Table, n: usize) -> Result<Vec<Rule>, AllocError>
     ensures { IfOk result (λ v. rule_views v.items ≡ map (rule_at (table_view table.now) n) (range_with_len 0 n)) }
 {
-    let mut rules = Vec::new(alloc);
+    let mut rules = Vec::with_capacity(alloc, n)?;
     for r in 0..n {
         rules.push(rule_at(alloc, table, n, r)?)?;
     }
