@@ -288,6 +288,33 @@ fn read(
     shown(alloc, read_game(alloc, &mut reader))
 }
 
+/// Gives a blank at each read, without end, and counts the reads.
+#[derive(Drop)]
+struct Blanks {
+    reads: u64,
+}
+
+impl io::Read for Blanks {
+    fn read(&mut self, buf: &mut [u8]) -> io::Result<usize> {
+        self.reads = self.reads.saturating_add(1);
+        let Some(first) = buf.first_mut() else {
+            return Ok(0);
+        };
+        *first = b' ';
+        Ok(1)
+    }
+}
+
+#[test]
+fn reads_65_537_times_at_most(rt: HostRuntime) -> Result<(), Fail> {
+    let alloc = rt.alloc();
+    let mut reader = Blanks { reads: 0 };
+    let said = shown(alloc, read_game(alloc, &mut reader))?;
+    assert_eq!(rt; said.as_str(), "the game file is longer than 65536 bytes");
+    assert_eq!(rt; reader.reads, 65_537);
+    Ok(())
+}
+
 #[test]
 fn readers(rt: HostRuntime) -> Result<(), Fail> {
     let alloc = rt.alloc();

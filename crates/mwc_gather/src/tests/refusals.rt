@@ -92,6 +92,8 @@ fn marks_without_memory(rt: HostRuntime) -> Result<(), Fail> {
     assert_eq!(rt; marks.holder(0), Some(3));
     assert_eq!(rt; marks.holder(1), None);
     assert!(rt; !marks.all_given());
+    assert!(rt; marks.give(1, 3));
+    assert!(rt; marks.all_given());
     rt.println("worked")?;
     Ok(())
 }
