@@ -11,7 +11,7 @@ use Rattle.council_game.specs.Fault.{◌>>=◌, refuse, refuse_at}
 use Rattle.council_game.specs.Votes.{RuleView, rule_at}
 use Rattle.council_game.specs.Ranks.{places, rank_places}
 use Rattle.council_game.specs.Game.{GameView, IsGame, made_game, is_name, is_repeat, is_heavy, has_bad_quota}
-use Rattle.council_game.proofs.Games.{passed, position-none, light-rules, light-sum}
+use Rattle.council_game.proofs.Games.{passed, none-any, light-weights, light-sum}
 use Rattle.council_file.specs.Bracket.{Part, number, opening, closing, comma, semicolon, parts, value_of, before, weights_of, rule_of, is_bracket, begins_bracket, begins_with_digit, game_of_bracket, counted_names, nameless_game}
 use Rattle.council_file.specs.File.{game_of}
 use Rattle.council_file.specs.Joined.{joined_numbers}
@@ -219,10 +219,6 @@ at_index P [] i d each below = absurd (omega arith)
 at_index P (x ∷ xs) zero d each below = each.0
 at_index P (x ∷ xs) (suc i) d each below = at_index P xs i d each.1 (omega arith)
 
-none_bad : (rs : List RuleView) → list_any has_bad_quota rs ≡ false → AllByRecursion (λ r. has_bad_quota r ≡ false) rs
-none_bad [] h = tt
-none_bad (r ∷ rs) h = let both = or_parts (has_bad_quota r) (list_any has_bad_quota rs) h in (both.0, none_bad rs both.1)
-
 fits_at : (g : GameView) (k : ℕ) → IsGame g → k < length g.rules → Fits (length g.names) (rule_at g.rules k)
 fits_at g k game below =
     let p = passed g game.made in
@@ -232,8 +228,8 @@ fits_at g k game below =
       some = ltb-false _ _ count.0;
       few = ltb-false _ _ count.1;
       full = game.full k none below;
-      light = at_index (λ r. (i : ℕ) → i < length g.names → get_or r.weights i 0 ≤ 1000000000000) g.rules k none (light-rules (length g.names) g.rules (position-none (is_heavy g.rules) (length g.names) p.weights)) below;
-      quota = at_index (λ r. has_bad_quota r ≡ false) g.rules k none (none_bad g.rules p.quotas) below;
+      light = at_index (λ r. (i : ℕ) → i < length g.names → get_or r.weights i 0 ≤ 1000000000000) g.rules k none (light-weights g game) below;
+      quota = at_index (λ r. has_bad_quota r ≡ false) g.rules k none (none-any has_bad_quota g.rules p.quotas) below;
     }
 
 pub reads_back : (g : GameView) → IsGame g → NotationReadsBack g

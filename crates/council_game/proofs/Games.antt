@@ -3,10 +3,10 @@ use Rattle.std.proofs.Common.{◌≡◌, ℕ, ◌*◌, ◌<◌, ◌≤◌, Bool,
 use Rattle.std.specs.List.{AllByRecursion, list_any, range_with_len, position, position_or_len}
 use Rattle.std.proofs.lemmas.List.FromFn.{length-range_with_len}
 use Rattle.std.specs.Option.{option_map_or}
-use Rattle.std.proofs.lemmas.List.{length-map, get_or_default}
+use Rattle.std.proofs.lemmas.List.{length-map, get_or_default, get_or_past}
 use Rattle.std.proofs.lemmas.List.Elements.{recursion_from_All}
 use Rattle.std.proofs.lemmas.List.Sums.{sum_by-le, fails_before_first}
-use Rattle.std.proofs.lemmas.Bool.{cases_lt, or_parts, ltb-false, lt-ltb, cond-true}
+use Rattle.std.proofs.lemmas.Bool.{cases_lt, or_parts, and_parts, not-false, leb-true, ltb-false, lt-ltb, cond-true}
 use Rattle.council_game.specs.declared.fault.GameFault.{GameFault}
 use Rattle.council_game.specs.declared.fault.GameFault.TheVariants.{Title, Members, Name, SameName, Weight, QuotaRange}
 use Rattle.council_game.specs.Fault.{◌>>=◌, refuse, refuse_at}
@@ -30,6 +30,7 @@ ok-same x y h = cc
 
 pub record Passed (g : GameView) : Type 0 where
   pub members : (ltb (length g.names) 1 || ltb 40 (length g.names)) ≡ false
+  pub names : position (λ name. not (is_name name)) g.names ≡ None
   pub weights : position (is_heavy g.rules) (range_with_len 0 (length g.names)) ≡ None
   pub quotas : list_any has_bad_quota g.rules ≡ false
   pub ranks : g.ranks ≡ rank_places (first_weights g.rules)
@@ -52,6 +53,7 @@ passed g h =
     let f = refused (list_any has_bad_quota g.rules) QuotaRange last g e.1 in
     record {
       members = b.0;
+      names = c.0;
       weights = e.0;
       quotas = f.0;
       ranks = sym (ap (λ (v : GameView). v.ranks) (ok-same made g f.1));
@@ -61,25 +63,49 @@ passed g h =
 some-none : (i : ℕ) → ◌≡◌ {A = Option ℕ} (Some i) None → ⊥
 some-none i h = cc
 
-pub position-none : (f : ℕ → Bool) (n : ℕ) → position f (range_with_len 0 n) ≡ None → (i : ℕ) → i < n → f i ≡ false
+-- a test that finds no entry was tried on all
+none-found : {X : Type 0} (f : X → Bool) (xs : List X) → position f xs ≡ None → length xs ≤ position_or_len f xs
+none-found f xs none = elim (cases_lt (position_or_len f xs) (length xs)) [
+  | inl found ↦ absurd (some-none _ (sym (cond-true _ (Some (position_or_len f xs)) None (lt-ltb _ _ found)) ∙ none))
+  | inr all ↦ all
+]
+
+position-none : (f : ℕ → Bool) (n : ℕ) → position f (range_with_len 0 n) ≡ None → (i : ℕ) → i < n → f i ≡ false
 position-none f n none i lt =
     let len = length-range_with_len 0 n in
-    elim (cases_lt (position_or_len f (range_with_len 0 n)) (length (range_with_len 0 n))) [
-      | inl found ↦ absurd (some-none _ (sym (cond-true _ (Some (position_or_len f (range_with_len 0 n))) None (lt-ltb _ _ found)) ∙ none))
-      | inr all ↦ ap f (sym (places-at n i 0 lt)) ∙ fails_before_first f (range_with_len 0 n) i 0 (omega (arith, len))
-    ]
+    let all = none-found f (range_with_len 0 n) none in
+    ap f (sym (places-at n i 0 lt)) ∙ fails_before_first f (range_with_len 0 n) i 0 (omega (arith, len, all, lt))
 
-none-any : {X : Type 0} (f : X → Bool) (xs : List X) → list_any f xs ≡ false → AllByRecursion (λ x. f x ≡ false) xs
+-- no name is longer than 64 bytes
+name-fits : (name : List ℕ) → not (is_name name) ≡ false → length name ≤ 64
+name-fits name h =
+    let parts = and_parts _ _ (and_parts _ _ (not-false (is_name name) h)).0 in
+    leb-true (length name) 64 parts.1
+
+pub names-fit : (g : GameView) → IsGame g → (i : ℕ) → length (get_or g.names i []) ≤ 64
+names-fit g game i = elim (cases_lt i (length g.names)) [
+  | inl lt ↦
+      let found = none-found (λ name. not (is_name name)) g.names (passed g game.made).names in
+      name-fits (get_or g.names i []) (fails_before_first (λ name. not (is_name name)) g.names i [] (omega (arith, found, lt)))
+  | inr past ↦
+      let none = ap (λ (name : List ℕ). length name) (get_or_past g.names i [] past) in
+      omega (arith, none)
+]
+
+pub none-any : {X : Type 0} (f : X → Bool) (xs : List X) → list_any f xs ≡ false → AllByRecursion (λ x. f x ≡ false) xs
 none-any f [] h = tt
 none-any f (x ∷ xs) h = let parts = or_parts (f x) (list_any f xs) h in (parts.0, none-any f xs parts.1)
 
 -- the weights of each rule are in range
-pub light-rules : (n : ℕ) (rs : List RuleView) → ((i : ℕ) → i < n → is_heavy rs i ≡ false) → AllByRecursion (λ r. (i : ℕ) → i < n → get_or r.weights i 0 ≤ 1000000000000) rs
+light-rules : (n : ℕ) (rs : List RuleView) → ((i : ℕ) → i < n → is_heavy rs i ≡ false) → AllByRecursion (λ r. (i : ℕ) → i < n → get_or r.weights i 0 ≤ 1000000000000) rs
 light-rules n [] h = tt
 light-rules n (r ∷ rs) h = (
   λ i lt. ltb-false _ _ (or_parts (ltb 1000000000000 (get_or r.weights i 0)) (is_heavy rs i) (h i lt)).0,
   light-rules n rs (λ i lt. (or_parts (ltb 1000000000000 (get_or r.weights i 0)) (is_heavy rs i) (h i lt)).1),
 )
+
+pub light-weights : (g : GameView) → IsGame g → AllByRecursion (λ r. (i : ℕ) → i < length g.names → get_or r.weights i 0 ≤ 1000000000000) g.rules
+light-weights g game = light-rules (length g.names) g.rules (position-none (is_heavy g.rules) (length g.names) (passed g game.made).weights)
 
 pub light-sum : (n : ℕ) (ws : List ℕ) → length ws ≡ n → n ≤ 40 → ((i : ℕ) → i < n → get_or ws i 0 ≤ 1000000000000) → sum ws ≤ 40000000000000
 light-sum n ws len few light =
@@ -121,7 +147,7 @@ votes-are g game =
     let one : 1 ≤ length g.names = ltb-false _ _ sizes.0 in
     let few : length g.names ≤ 40 = ltb-false _ _ sizes.1 in
     let full = recursion_from_All (λ (r : RuleView). length r.weights ≡ length g.names) g.rules game.full in
-    let light = light-rules (length g.names) g.rules (position-none (is_heavy g.rules) (length g.names) p.weights) in
+    let light = light-weights g game in
     let quotas = none-any has_bad_quota g.rules p.quotas in
     let len = first-full (length g.names) g.rules game.has_rule full in
     let count : length (map (rule_by_rank g.ranks) g.rules) ≡ length g.rules = length-map g.rules (rule_by_rank g.ranks) in

@@ -12,14 +12,14 @@ use Rattle.council_game.specs.Votes.{RuleView, IsVotes, rule_at}
 use Rattle.council_game.specs.Weighing.{votes}
 use Rattle.council_game.specs.Ranks.{places, place_in, member_at, rank_place, rank_places, members_by_rank, rule_along, rule_by_rank}
 use Rattle.council_game.specs.Rules.{rule_view, rule_views}
-use Rattle.council_game.specs.Game.{GameView, IsGame, made_game, first_weights, total, is_heavy, votes_of}
+use Rattle.council_game.specs.Game.{GameView, IsGame, made_game, first_weights, total, votes_of}
 use Rattle.council_game.specs.Parts.{game_of_parts}
 use Rattle.council_game.proofs.RuleLists.{All_map, held_full}
 use Rattle.council_game.proofs.Lists.{length_map as map_length}
 use Rattle.council_game.proofs.Rankings.{IsRanking, ranking-member_at, ranking-below, ranking-is, ranking-length, rank-of, rank_places-at, length-rank_places, place-found, places-at, places-below}
 use Rattle.council_game.proofs.Order.{ranking}
 use Rattle.council_game.proofs.GameTests.{held-rule, rule-at}
-use Rattle.council_game.proofs.Games.{passed, votes-are, first-full, light-rules, light-sum, position-none}
+use Rattle.council_game.proofs.Games.{passed, votes-are, first-full, light-weights, light-sum}
 
 -- the place of each member in a ranking is its rank place
 ranking-places : (ws qs : List ℕ) → IsRanking ws qs → map (place_in qs) (places qs) ≡ rank_places ws
@@ -78,7 +78,7 @@ sums-fit g game =
     let few : length g.names ≤ 40 = ltb-false _ _ (or_parts _ _ p.members).1 in
     light-sums (length g.names) g.rules few
     (recursion_from_All (λ (r : RuleView). length r.weights ≡ length g.names) g.rules game.full)
-    (light-rules (length g.names) g.rules (position-none (is_heavy g.rules) (length g.names) p.weights))
+    (light-weights g game)
 
 capped : (rules : List Rule) → AllByRecursion (λ r. total r ≤ 40000000000000) (rule_views rules) → map (λ r. min (sum r.weights.items) (2 ^ 64 - 1)) rules ≡ map total (rule_views rules)
 capped [] fit = refl

@@ -1,3 +1,4 @@
+pub mod Bounds
 pub mod Names
 pub mod Holding
 pub mod Telling

@@ -5,6 +5,7 @@ pub mod Members
 pub mod Minimal
 pub mod Printed
 pub mod Quotients
+pub mod Small
 pub mod Sound
 pub mod Sums
 pub mod Tallies

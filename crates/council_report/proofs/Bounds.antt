@@ -1,0 +1,136 @@
+-- No line of coalitions, sizes or members is longer than the room that a block keeps for it.
+use Rattle.std.proofs.Common.{◌≡◌, ℕ, ◌+◌, ◌*◌, ◌^◌, ◌<◌, ◌≤◌, ◌++◌, List, [], ◌∷◌, length, get_or, map, codes, decimal, Bool, true, false, cond, ◌==◌, ◌&&◌, arith, length-append}
+use Rattle.std.specs.List.{AllByRecursion, flat_map, filter, range_with_len}
+use Rattle.std.proofs.lemmas.Fmt.{length-decimal-le, length-decimal-le_wide}
+use Rattle.std.proofs.lemmas.List.{length-map}
+use Rattle.std.proofs.lemmas.List.FromFn.{length-range_with_len}
+use Rattle.council_game.specs.Votes.{RuleView, IsRule, places_of, size, weight}
+use Rattle.council_game.specs.Ranks.{member_at}
+use Rattle.council_game.specs.Game.{GameView, IsGame, votes_of}
+use Rattle.council_game.proofs.Games.{names-fit, votes-are, light-weights}
+use Rattle.council_game.proofs.Weights.{weight-le}
+use Rattle.council_file.specs.Joined.{joined, joined_numbers}
+use Rattle.power_index.specs.Counting.{members, contains, size_of, count_of_size, count_of_member_size}
+use Rattle.power_index.specs.Fractions.{lowest_terms}
+use Rattle.power_index.specs.Indices.{deegan_packel, public_good}
+use Rattle.power_index.proofs.Sums.{length-filter-le}
+use Rattle.power_index.proofs.Members.{few-members, size-le}
+use Rattle.power_index.proofs.Small.{deegan_packel-small, public_good-small}
+use Rattle.council_report.specs.Lines.{tabbed, line, slashed, name_of, names_of, weights_of_coalition, weights_of_member, member_fields, index_fields, coalition_line, size_line, member_line}
+
+-- a field of a line
+abbrev IsField : List ℕ → Type 0
+IsField field = length field ≤ 84
+
+tabbed-fits : (fields : List (List ℕ)) → AllByRecursion IsField fields → length (flat_map tabbed fields) ≤ length fields * 85
+tabbed-fits [] h = omega arith
+tabbed-fits (f ∷ fs) h =
+    let first : length f ≤ 84 = h.0 in
+    let rest = tabbed-fits fs h.1 in
+    omega (arith, first, rest, length-append (tabbed f) (flat_map tabbed fs))
+
+-- a line of at most 42 fields
+line-fits : (word : List ℕ) (fields : List (List ℕ)) → length word ≤ 9 → length fields ≤ 42 → AllByRecursion IsField fields → length (line word fields) ≤ 4096
+line-fits word fields short few h =
+    let fit = tabbed-fits fields h in
+    let whole : length (line word fields) ≡ length (word ++ flat_map tabbed fields) + 1 = length-append (word ++ flat_map tabbed fields) (10 ∷ []) in
+    omega (arith, fit, short, few, whole, length-append word (flat_map tabbed fields))
+
+-- ---- fields of numbers
+number-fits : (n : ℕ) → n < 2 ^ 64 → length (decimal n) ≤ 20
+number-fits n h = length-decimal-le 20 n (omega arith) (omega arith) h
+
+number-field : (n : ℕ) → n < 2 ^ 64 → IsField (decimal n)
+number-field n h = let fit = number-fits n h in omega (arith, fit)
+
+slashed-length : (values : List ℕ) → AllByRecursion (λ v. v < 2 ^ 64) values → length (slashed values) ≤ length values * 21
+slashed-length [] h = omega arith
+slashed-length (v ∷ []) h = let first = number-fits v h.0 in omega (arith, first)
+slashed-length (v ∷ w ∷ vs) h =
+    let first = number-fits v h.0 in
+    let rest = slashed-length (w ∷ vs) h.1 in
+    omega (arith, first, rest, length-append (decimal v) (codes "/" ++ slashed (w ∷ vs)), length-append (codes "/") (slashed (w ∷ vs)))
+
+-- a value for each of 4 rules at most
+slashed-fits : (values : List ℕ) → length values ≤ 4 → AllByRecursion (λ v. v < 2 ^ 64) values → IsField (slashed values)
+slashed-fits values few h = let fit = slashed-length values h in omega (arith, fit, few)
+
+fraction-fits : (top bottom : ℕ) → top < 10 ^ 24 → bottom < 10 ^ 24 → IsField (decimal top ++ 47 ∷ decimal bottom)
+fraction-fits top bottom a b =
+    let first = length-decimal-le_wide 24 top (omega arith) a (omega arith) in
+    let last = length-decimal-le_wide 24 bottom (omega arith) b (omega arith) in
+    omega (arith, first, last, length-append (decimal top) (47 ∷ decimal bottom))
+
+-- ---- rows of fields
+each-field : {X : Type 0} (f : X → List ℕ) → ((x : X) → IsField (f x)) → (xs : List X) → AllByRecursion IsField (map f xs)
+each-field f h [] = tt
+each-field f h (x ∷ xs) = (h x, each-field f h xs)
+
+weighed-values : (n c : ℕ) (rs : List RuleView) → AllByRecursion (IsRule n) rs → AllByRecursion (λ v. v < 2 ^ 64) (map (λ r. weight r.weights c) rs)
+weighed-values n c [] h = tt
+weighed-values n c (r ∷ rs) h =
+    let most = weight-le r.weights c in
+    let sum = h.0.3 in
+    (omega (arith, most, sum), weighed-values n c rs h.1)
+
+own-values : (i n : ℕ) (rs : List RuleView) → i < n → AllByRecursion (λ r. (k : ℕ) → k < n → get_or r.weights k 0 ≤ 1000000000000) rs → AllByRecursion (λ v. v < 2 ^ 64) (map (λ r. get_or r.weights i 0) rs)
+own-values i n [] lt h = tt
+own-values i n (r ∷ rs) lt h = let most = h.0 i lt in (omega (arith, most), own-values i n rs lt h.1)
+
+name-fits : (g : GameView) → IsGame g → (i : ℕ) → IsField (name_of g i)
+name-fits g game i = let fit = names-fit g game i in omega (arith, fit)
+
+-- ---- the lines
+pub coalition-fits : (g : GameView) → IsGame g → (c : ℕ) → length (coalition_line g c) ≤ 4096
+unfolding coalition_line
+coalition-fits g game c =
+    let votes = votes-are g game in
+    let few : length (votes_of g).rules ≤ 4 = votes.3 in
+    let each : AllByRecursion (IsRule (length g.names)) (votes_of g).rules = votes.4 in
+    let some = size-le (length g.names) c in
+    let forty = few-members g game in
+    let rules = length-map (votes_of g).rules (λ r. weight r.weights c) in
+    let names = length-map (places_of (length g.names) c) (λ p. name_of g (member_at g.ranks p)) in
+    line-fits (codes "coalition") (decimal (size (length g.names) c) ∷ slashed (weights_of_coalition g c) ∷ names_of g c) (omega arith) (omega (arith, names, some, forty)) (
+      number-field (size (length g.names) c) (omega (arith, some, forty)),
+      (
+        slashed-fits (weights_of_coalition g c) (omega (arith, rules, few)) (weighed-values (length g.names) c (votes_of g).rules each),
+        each-field (λ p. name_of g (member_at g.ranks p)) (λ p. name-fits g game (member_at g.ranks p)) (places_of (length g.names) c),
+      ),
+    )
+
+count-field : (p : ℕ → Bool) (list : List ℕ) → length list ≤ 4000000 → IsField (decimal (length (filter p list)))
+count-field p list few = let less = length-filter-le p list in number-field (length (filter p list)) (omega (arith, less, few))
+
+shown-fits : (b : Bool) (text : List ℕ) → length text ≤ 4096 → length (cond b [] text) ≤ 4096
+shown-fits true text h = omega arith
+shown-fits false text h = h
+
+pub size-fits : (g : GameView) → IsGame g → (list : List ℕ) → length list ≤ 4000000 → (s : ℕ) → s ≤ length g.names → length (size_line g list s) ≤ 4096
+unfolding size_line
+size-fits g game list few s le =
+    let forty = few-members g game in
+    let count : ℕ → List ℕ = λ i. decimal (count_of_member_size g i s list) in
+    let long = length-map (members g) count in
+    let all = length-range_with_len 0 (length g.names) in
+    shown-fits (count_of_size g s list == 0) (line (codes "size") (decimal s ∷ decimal (count_of_size g s list) ∷ map count (members g)))
+    (line-fits (codes "size") (decimal s ∷ decimal (count_of_size g s list) ∷ map count (members g)) (omega arith) (omega (arith, long, all, forty)) (
+      number-field s (omega (arith, le, forty)),
+      (
+        count-field (λ c. size_of g c == s) list few,
+        each-field count (λ i. count-field (λ c. contains g i c && (size_of g c == s)) list few) (members g),
+      ),
+    ))
+
+pub member-fits : (g : GameView) → IsGame g → (list : List ℕ) → 1 ≤ length list → length list ≤ 4000000 → (i : ℕ) → i < length g.names → length (member_line g list i) ≤ 4096
+unfolding member_line
+member-fits g game list some few i lt =
+    let deegan = deegan_packel-small g list i game some few in
+    let public = public_good-small g list i game few in
+    let rules = length-map g.rules (λ r. get_or r.weights i 0) in
+    let weights = slashed-fits (weights_of_member g i) (omega (arith, rules, game.few_rules)) (own-values i (length g.names) g.rules lt (light-weights g game)) in
+    let first = fraction-fits (lowest_terms (deegan_packel g list i)).0 (lowest_terms (deegan_packel g list i)).1 deegan.0 deegan.1 in
+    let second = fraction-fits (lowest_terms (public_good g list i)).0 (lowest_terms (public_good g list i)).1 public.0 public.1 in
+    let indices : AllByRecursion IsField (index_fields g list i) = (first, (omega arith, (second, (omega arith, tt)))) in
+    line-fits (codes "member") (member_fields g list i ++ index_fields g list i) (omega arith) (omega arith)
+    (name-fits g game i, (weights, (count-field (contains g i) list few, indices)))
