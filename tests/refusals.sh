@@ -91,6 +91,7 @@ takes_memory mwc_pipe makes_a_ring
 takes_none mwc_pipe moves_words_without_memory
 takes_none power_index counts_without_memory
 takes_memory mwc_gather gathers "not started"
+takes_memory mwc_gather gathers_too_many "not started"
 takes_memory mwc_gather puts_parts_in_order
 takes_memory mwc_gather sends_into_a_batch
 takes_none mwc_gather marks_without_memory

@@ -73,7 +73,7 @@ fn numbers<'a>(alloc: Global, command: Command<'a>) -> Result<Command<'a>, Error
         "bits",
         "K",
         "6",
-        "The heaviest members that are fixed in each worker's slice, 0 to 10",
+        "How many of the heaviest members are fixed in each slice, 0 to 10",
     )
     .value_parser(value_parser!(u8).range(0..=10));
     let most = number_option(

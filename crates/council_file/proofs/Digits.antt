@@ -71,18 +71,6 @@ digits_more_whole [] n whole below one = absurd (omega arith)
 digits_more_whole (b ∷ bs) zero whole below one = (one, tt)
 digits_more_whole (b ∷ bs) (suc n) whole below one = let k : suc n + 1 ≡ suc (n + 1) = omega arith in rw k (whole.0, digits_more_whole bs n whole.1 (omega arith) one)
 
-pub stops_at : (bs : List ℕ) (n : ℕ) → is_ascii_digit (get_or bs n 0) ≡ false → begins_with_digit (drop n bs) ≡ false
-stops_at [] zero h = refl
-stops_at [] (suc n) h = refl
-stops_at (b ∷ bs) zero h = h
-stops_at (b ∷ bs) (suc n) h = stops_at bs n h
-
-pub stops_behind : (bs : List ℕ) (n : ℕ) → length bs ≤ n → begins_with_digit (drop n bs) ≡ false
-stops_behind [] zero h = refl
-stops_behind [] (suc n) h = refl
-stops_behind (b ∷ bs) zero h = absurd (omega arith)
-stops_behind (b ∷ bs) (suc n) h = stops_behind bs n (omega arith)
-
 pub digit_low : (ds : List ℕ) (i : ℕ) → AllDigits 10 ds → i < length ds → 48 ≤ get_or ds i 0
 digit_low ds i whole below = (digit_from_value _ (all_at ds i whole below)).0
 

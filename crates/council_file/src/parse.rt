@@ -46,7 +46,11 @@ fn game_of_tree(alloc: Global, table: &Table) -> Result<Game, GameFault>
     Game::with_rules(alloc, title, names, rules)
 }
 
-/// The game of the bytes, or the first fault.
+/// The game of the bytes of a game file, TOML or bracket text, or the first fault.
+///
+/// # Errors
+///
+/// The first fault of the file in the order of its checks; or Memory where a growth was refused.
 #[tactic(auto, unfolding(crate::specs::File::game_of))]
 pub fn parse_game(alloc: Global, bytes: &[u8]) -> Result<Game, GameFault>
     ensures { Answers result (game_of bytes.now) }

@@ -43,7 +43,13 @@ fn read_bytes<R: Read>(alloc: Global, reader: &mut R) -> Result<Vec<u8>, GameFau
     Ok(bytes)
 }
 
-/// The game of the bytes that the reader gives, or the first fault.
+/// The game of the bytes that the reader gives, or the first fault. It reads up to the end, or until
+/// 65,537 bytes have come.
+///
+/// # Errors
+///
+/// TooLong where 65,537 bytes came; Read where a read failed before that, for whatever cause, an
+/// interruption too; else those of `parse_game` over the bytes.
 #[tactic(auto, using(crate::proofs::Stops::stop_fails))]
 pub fn read_game<R: Read>(alloc: Global, reader: &mut R) -> Result<Game, GameFault>
     ensures { MatchResult result

@@ -29,7 +29,8 @@ needed-at v c (suc k) q h below inside win =
           ]
     ]
 
-fixed-half : (x k p : ℕ) → p < k → x / 2 ^ (k - p) ≡ x / 2 ^ (k - (p + 1)) / 2
+-- the digits above a place, and above the next
+pub fixed-half : (x k p : ℕ) → p < k → x / 2 ^ (k - p) ≡ x / 2 ^ (k - (p + 1)) / 2
 fixed-half x k p below =
     let e : k - p ≡ (k - (p + 1)) + 1 = omega arith in
     ap (λ (i : ℕ). x / 2 ^ i) e ∙ sym (shr-shr x (k - (p + 1)) 1)

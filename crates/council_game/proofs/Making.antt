@@ -177,13 +177,6 @@ held-weights g ranked i x game same lt at =
     let is = held-rule (length g.names) ranked i x v (omega (arith, count)) at in
     (omega (arith, is.0, v.1), is.3)
 
-pub held-full : (g : GameView) (ranked : List Rule) (i : ℕ) (x : Rule) → IsGame g → rule_views ranked ≡ (votes_of g).rules → i < length g.rules → x ≡ get_or ranked i x → (length x.weights.items ≡ length g.names) × (rule_at (votes_of g).rules i ≡ rule_view x)
-held-full g ranked i x game same lt at =
-    let v = held-votes g (length g.names) ranked game refl same in
-    let count : length ranked ≡ length g.rules = sym (map_length rule_view ranked) ∙ ap length same ∙ length-map g.rules (rule_by_rank g.ranks) in
-    let is = held-rule (length g.names) ranked i x v (omega (arith, count)) at in
-    (is.0, ap (λ (l : List RuleView). rule_at l i) (sym same) ∙ rule-at ranked i x (omega (arith, count)) at)
-
 pub file-full : (g : GameView) (rules : List Rule) (i : ℕ) (x : Rule) → IsGame g → g.rules ≡ rule_views rules → i < length g.rules → x ≡ get_or rules i x → length x.weights.items ≡ length g.names
 file-full g rules i x game same lt at =
     let full = subst (λ (l : List RuleView). All (λ r. length r.weights ≡ length g.names) l) same game.full in

@@ -16,16 +16,6 @@ weight-mono (w ∷ ws) a c sub =
     let rest = weight-mono ws a c (λ i below. sub i (omega arith)) in
     omega (arith, prod, rest)
 
-pub wins-mono : (n a c : ℕ) (rs : List RuleView) → AllByRecursion (IsRule n) rs → ((i : ℕ) → i < n → a / 2 ^ i % 2 ≤ c / 2 ^ i % 2) → wins rs a ≡ true → wins rs c ≡ true
-unfolding wins
-wins-mono n a c [] all sub h = refl
-wins-mono n a c (r ∷ rs) all sub h =
-    let parts = and_parts (leb r.quota (weight r.weights a)) (wins rs a) h in
-    let long : length r.weights ≡ n = all.0.0 in
-    let q : r.quota ≤ weight r.weights a = leb-true _ _ parts.0 in
-    let more : weight r.weights a ≤ weight r.weights c = weight-mono r.weights a c (λ i below. sub i (omega arith)) in
-    and_from (leb r.quota (weight r.weights c)) (wins rs c) (le-leb r.quota (weight r.weights c) (omega (arith, q, more))) (wins-mono n a c rs all.1 sub parts.1)
-
 -- some place is not needed
 spare : (v : Votes) (c k : ℕ) → each_needed v c k ≡ false → (q : ℕ) × (q < k) × (has v.members q c ≡ true) × (wins v.rules (without v.members q c) ≡ true)
 unfolding each_needed

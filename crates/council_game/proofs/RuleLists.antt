@@ -5,18 +5,6 @@ use Rattle.council_game.specs.Game.{first_weights}
 use Rattle.council_game.specs.Rules.{rule_view, rule_views}
 use Rattle.council_game.proofs.Lists.{length_map, get_or_map}
 
-pub some_rules : (rules : List Rule) → 0 < length (rule_views rules) → 0 < length rules
-some_rules rules h = omega (arith, length_map rule_view rules)
-
-pub first_full : (rules : List Rule) (rule : Rule) (n : ℕ) → rule ≡ get_or rules 0 rule → 0 < length (rule_views rules)
-    → All (λ r. length r.weights ≡ n) (rule_views rules) → length rule.weights.items ≡ n
-first_full [] rule n at some full = absurd (omega arith)
-first_full (r ∷ rs) rule n at some full = rw at (full 0 (rule_view r) some)
-
-pub first_is : (rules : List Rule) (rule : Rule) → rule ≡ get_or rules 0 rule → 0 < length (rule_views rules) → rule.weights.items ≡ first_weights (rule_views rules)
-first_is [] rule at some = absurd (omega arith)
-first_is (r ∷ rs) rule at some = rw at refl
-
 -- the rules that the code holds are as full as the records say
 pub held_full : (rules : List Rule) (n : ℕ) → All (λ r. length r.weights ≡ n) (rule_views rules) → All (λ r. length r.weights.items ≡ n) rules
 held_full rules n full k d h =

@@ -24,7 +24,7 @@ impl Model for Coalition {
 }
 
 impl Coalition {
-    /// The coalition with this rank mask.
+    /// The coalition with this rank mask, a number below 2^40.
     pub fn of_mask(mask: u64) -> Coalition
         requires { mask < 2 ^ 40 }
         ensures { result ≡ mask }
@@ -32,7 +32,7 @@ impl Coalition {
         Coalition { mask }
     }
 
-    /// The rank mask.
+    /// The rank mask, a number below 2^40.
     pub fn mask(self) -> u64
         ensures same { result ≡ self }
         ensures bound { result < 2 ^ 40 }
@@ -40,7 +40,8 @@ impl Coalition {
         self.mask
     }
 
-    /// In a game of so many members, whether the member of this rank place is in.
+    /// In a game of so many members, at most 40, whether the member of this rank place is in. Places
+    /// count from 0, the heaviest first.
     pub fn has(self, members: usize, place: usize) -> bool
         requires few { members ≤ 40 }
         requires place { place < members }
@@ -49,7 +50,8 @@ impl Coalition {
         (self.mask >> (members - 1 - place)) % 2 == 1
     }
 
-    /// The coalition without the member of this rank place; the same where that member is not in.
+    /// In a game of so many members, at most 40, the coalition without the member of this rank place;
+    /// the same where that member is not in.
     pub fn without(self, members: usize, place: usize) -> Coalition
         requires few { members ≤ 40 }
         requires place { place < members }

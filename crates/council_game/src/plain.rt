@@ -7,6 +7,10 @@ use crate::{Coalition, Game, Memory};
 use std::alloc::Global;
 
 /// The minimal winning coalitions of a game of at most 20 members, in listing order, by trying each coalition.
+///
+/// # Errors
+///
+/// Memory where a growth was refused.
 pub fn plain_list(alloc: Global, game: &Game) -> Result<Vec<Coalition>, Memory>
     requires { length game.now.names ≤ 20 }
     ensures { IfOk result (λ v. v.items ≡ minimal_coalitions (votes_of game.now)) }

@@ -7,12 +7,6 @@ use Rattle.std.proofs.lemmas.List.{take-append-le}
 use Rattle.council_report.specs.Told.{Told, told, Tells, HoldsBut, Stopped, StoppedIn}
 use Rattle.council_report.specs.declared.output.Block.{Block}
 
-pub appends-kept : (a b c : Option (List ℕ)) (text : List ℕ) → Appends a b text → Keeps b c → Appends a c text
-appends-kept None b c text more same = tt
-appends-kept (Some xs) None c text more same = absurd more
-appends-kept (Some xs) (Some ys) None text more same = absurd same
-appends-kept (Some xs) (Some ys) (Some zs) text more same = same ∙ more
-
 -- the block held the heading, and the writer what it held before
 appends-heading : (contents : Option (List ℕ)) (heading : List ℕ) → Appends contents (option_map (λ held. held ++ heading) contents) heading
 appends-heading None heading = tt

@@ -21,11 +21,6 @@ all_of_set g most desks i d t l e p a =
     let o : P d = subst P (sym e) (a i d l) in
     All-set P desks i t (ap (λ (x : Task). slicing_of x.order) p ∙ o.0, ap (λ (x : Task). x.order.most) p ∙ o.1) a
 
-slices_at : (g : Slicing) (most : ℕ) (desks : List Desk) (i : ℕ) (d : Desk) → i < length desks → d ≡ get_or desks i d → AllOf g most desks → 2 ^ d.worker.promise.order.bits ≡ g.slices
-slices_at g most desks i d l e a =
-    let o : IsOf g most d = subst (IsOf g most) (sym e) (a i d l) in
-    ap (λ (x : Slicing). x.slices) o.0
-
 fresh_at : (desks : List Desk) → All IsFresh (seats desks) → (k : ℕ) (d : Desk) → k < length desks → (get_or desks k d).told ≡ false
 fresh_at [] f k d l = absurd (omega arith)
 fresh_at (x ∷ desks) f zero d l = let h = All-head IsFresh (seat x) (seats desks) f in h.1
@@ -64,20 +59,6 @@ deal_starts {g} {most} early marks desks a f e = record {
   firsts = subst (λ (m : List (Option ℕ)). FirstDeals g.slices 0 early m early (seats desks)) (sym e) (firsts.begin g.slices early (seats desks) f);
   to_come = λ k d low high. fresh_at desks f k d high;
 }
-
-pub deal_goes_on : {g : Slicing} {most : ℕ} {early stopped : Bool} {marks : List (Option ℕ)} (k : ℕ) (desks : List Desk) → k ≡ length desks → DealsFirst g most early marks stopped k desks → DealsTo g most early marks stopped desks
-deal_goes_on {g} {most} {early} {stopped} {marks} k desks e h = record {
-  all_of = h.all_of;
-  dealing = subst (λ (k : ℕ). Dealing g.slices k early marks stopped (seats desks)) e h.firsts.deal;
-}
-
-pub first_slices : {g : Slicing} {most : ℕ} {early stopped : Bool} {marks : List (Option ℕ)} {k : ℕ} {desks : List Desk} (d : Desk) (i : ℕ) → i < length desks → d ≡ get_or desks i d → DealsFirst g most early marks stopped k desks → length marks ≡ 2 ^ d.worker.promise.order.bits
-first_slices {g} {most} {early} {stopped} {marks} {k} {desks} d i l e h =
-    turns.marks_length h.firsts.deal ∙ sym (slices_at g most desks i d l e h.all_of)
-
-pub turn_slices : {g : Slicing} {most : ℕ} {early stopped : Bool} {marks : List (Option ℕ)} {desks : List Desk} (d : Desk) (i : ℕ) → i < length desks → d ≡ get_or desks i d → DealsTo g most early marks stopped desks → length marks ≡ 2 ^ d.worker.promise.order.bits
-turn_slices {g} {most} {early} {stopped} {marks} {desks} d i l e h =
-    turns.marks_length h.dealing ∙ sym (slices_at g most desks i d l e h.all_of)
 
 -- the same, of what stands at a place
 pub turn_of : {g : Slicing} {most : ℕ} {early stopped stops : Bool} {marks after : List (Option ℕ)} (desks : List Desk) (i : ℕ) (x t : Desk) → i < length desks

@@ -1,5 +1,5 @@
 -- What the sending of one slice, and a worker, answer.
-use Rattle.std.specs.Prelude.{◌≡◌, ℕ, ◌+◌, ◌<◌, ◌≤◌, nat_lt, Bool, true, List, [], ◌∷◌, ◌++◌, length, ◌⊎◌, Result, Ok, Err, if◌then◌else◌}
+use Rattle.std.specs.Prelude.{◌≡◌, ℕ, ◌+◌, ◌<◌, ◌≤◌, nat_lt, Bool, true, List, [], ◌∷◌, ◌++◌, length, ◌⊎◌, Result, Ok, Err, if◌then◌else◌, ⊤}
 use mathlib.Core.List.{IsPrefix}
 use Rattle.mwc_parts.specs.Slicing.{Slicing}
 use Rattle.mwc_parts.specs.Wording.{slice_words, cut_words, IsLast, Whole, Cut}
@@ -21,6 +21,12 @@ Sends g j left before after broken (sent.Whole rest) =
 Sends g j left before after broken sent.Cut = (after ≡ before ++ cut_words g j left) × (left ≤ length (g.slice j))
 Sends g j left before after broken sent.Refused =
     (broken ≡ true) × ((words : List Word) × (after ≡ before ++ words) × IsPrefix words (sending g j left))
+
+-- a sending that was not refused leaves the pipe as broken as it was, or as whole
+abbrev pub Unbroken : Bool → Bool → Sent → Type 0
+Unbroken before after (sent.Whole rest) = after ≡ before
+Unbroken before after sent.Cut = after ≡ before
+Unbroken before after sent.Refused = ⊤
 
 -- what the closed end of a worker tells: a whole or a cut sending of the slices that its tasks gave, and both ends are of its rings
 abbrev pub Worked : Slicing → ℕ → RingInView → RingOutView → Result ClosedView Unfinished × RingOutView → Type 0

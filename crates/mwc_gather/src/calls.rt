@@ -50,18 +50,10 @@ impl Desk {
     {
         let slices = slice_count(bits);
         let mut given = Vec::new(alloc);
-        if given.reserve(usize::from(slices)).is_err() {
-            return Err(GatherFault::Memory);
-        }
-        let Ok(draft) = Draft::new(alloc, slices) else {
-            return Err(GatherFault::Memory);
-        };
-        let Ok((out, words)) = ring(alloc, WORDS) else {
-            return Err(GatherFault::Memory);
-        };
-        let Ok((tasks, list)) = ring(alloc, TASKS) else {
-            return Err(GatherFault::Memory);
-        };
+        given.reserve(usize::from(slices))?;
+        let draft = Draft::new(alloc, slices)?;
+        let (out, words) = ring(alloc, WORDS)?;
+        let (tasks, list) = ring(alloc, TASKS)?;
         let task = Task {
             order: Order::new(guarded, bits, most),
             out: Snapshot::of(&out),

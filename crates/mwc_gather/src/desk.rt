@@ -8,16 +8,21 @@ use mwc_parts::Draft;
 use mwc_pipe::{RingIn, RingOut};
 use std::thread::PromisedHandle;
 
-/// One worker, the gatherer's ends of its two rings, the slices that it was given, whether it was
-/// told that there are no more, and what is kept of its words.
+/// The gatherer's side of one worker.
 #[derive(Drop)]
 pub(crate) struct Desk {
     pub worker: PromisedHandle<Answer, Task>,
+    /// The end that its words come from.
     pub words: RingOut,
+    /// The end that its tasks are put into.
     pub tasks: RingIn,
+    /// The slices that it was given, in that order.
     pub given: Vec<u16>,
+    /// Whether it was told that there are no more.
     pub told: bool,
+    /// Whether it has sent its End.
     pub ended: bool,
+    /// What is kept of its words.
     pub draft: Draft,
     ghost words_ring: { words.ring ≡ worker.promise.out.value.ring },
     ghost tasks_ring: { worker.promise.tasks.value.ring ≡ tasks.ring },

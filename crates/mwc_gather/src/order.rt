@@ -11,8 +11,11 @@ use std::snapshot::Snapshot;
 /// coalitions.
 #[derive(Drop)]
 pub(crate) struct Order {
+    /// The game, for proofs alone.
     pub game: Snapshot<Game>,
+    /// How many of the heaviest members are fixed in each slice, 0 to 10.
     pub bits: u8,
+    /// How many coalitions are wanted at most, 1 to 4,000,000.
     pub most: u32,
 }
 

@@ -13,8 +13,11 @@ pub(crate) type Answer = (Result<Closed, Unfinished>, RingOut);
 /// What a worker was given, for proofs alone.
 #[derive(Drop)]
 pub(crate) struct Task {
+    /// What was asked of it.
     pub order: Order,
+    /// The end that its words go into, as it was at the start.
     pub out: Snapshot<RingIn>,
+    /// The end that its tasks come from, as it was at the start.
     pub tasks: Snapshot<RingOut>,
 }
 

@@ -1,7 +1,7 @@
 //! Sending the words of a slice.
 ghost use Rattle.std.specs.Prelude.{◌≡◌, ◌<◌, ◌≤◌, ◌^◌, ◌++◌, ◌∷◌, [], IsTrue, IsFalse, true, length};
 ghost use Rattle.mwc_gather.specs.Slicings.{slicing};
-ghost use Rattle.mwc_gather.specs.Sending.{Sends};
+ghost use Rattle.mwc_gather.specs.Sending.{Sends, Unbroken};
 
 use crate::guarded::{Gate, Guarded};
 use crate::sent::Sent;
@@ -48,6 +48,7 @@ pub fn send_slice<R: Wait, P: PipeIn<Word>, G: Gate>(
     requires left { (0 < left) × (left ≤ 4000001) }
     ensures identity { P.identity out.new ≡ P.identity out.old }
     ensures sends { Sends (slicing guarded.now bits) slice left (P.accepted out.old) (P.accepted out.new) (P.broken out.new) result }
+    ensures unbroken { Unbroken (P.broken out.old) (P.broken out.new) result }
 {
     let game = guarded.pass(worker, slice);
     let mut walk = Walk::new(game, bits, slice);

@@ -17,10 +17,6 @@ module _ {X : Type 0} where
       let t = ap (λ (k : ℕ). sum_of f (take k (x ∷ xs))) e in
       omega arith
 
-  pub sum_of-append : (f : X → ℕ) (xs ys : List X) → sum_of f (xs ++ ys) ≡ sum_of f xs + sum_of f ys
-  sum_of-append f [] ys = omega arith
-  sum_of-append f (x ∷ xs) ys = let r = sum_of-append f xs ys in omega arith
-
   pub sum_of-map : {Y : Type 0} (f : Y → ℕ) (h : X → Y) (xs : List X) → sum_of f (map h xs) ≡ sum_of (λ x. f (h x)) xs
   sum_of-map f h [] = refl
   sum_of-map f h (x ∷ xs) = let r = sum_of-map f h xs in omega arith

@@ -1,4 +1,8 @@
 //! Why nothing was gathered.
+ghost use Rattle.std.specs.Prelude.{◌≡◌};
+ghost use Rattle.mwc_parts.specs.declared.fault.GatherFault.TheVariants.{Memory};
+
+use std::alloc::AllocError;
 use thiserror::Error;
 
 /// Why nothing was gathered. Where several hold, Start goes before Memory, Memory before Ring, and
@@ -17,4 +21,20 @@ pub enum GatherFault {
     /// A ring could not be finished.
     #[error("a ring could not be finished")]
     Ring,
+}
+
+impl From<AllocError> for GatherFault {
+    ghost from_gives = { λ _ e. e ≡ Memory };
+
+    fn from(_e: AllocError) -> GatherFault {
+        GatherFault::Memory
+    }
+}
+
+impl From<council_game::Memory> for GatherFault {
+    ghost from_gives = { λ _ e. e ≡ Memory };
+
+    fn from(_e: council_game::Memory) -> GatherFault {
+        GatherFault::Memory
+    }
 }

@@ -124,15 +124,6 @@ module _ {T : Type 0} where
     pub leaves : Leaves (history capacity steps) pipe
     pub same : pipe.capacity ≡ capacity
 
-  pub replayed_none : (capacity : ℕ) → Replayed capacity [] [] [] [] (record { capacity = capacity; inside = []; closed = false })
-  replayed_none capacity = record {
-    given_is = refl;
-    ins_is = refl;
-    outs_is = refl;
-    leaves = record { lawful = refl; closed = refl };
-    same = refl;
-  }
-
   -- one step more
   pub replayed_more : (capacity : ℕ) (steps : List (Step T)) (given : List (Reply T)) (ins outs : List T) (old new : PipeView T) (step : Step T) (reply : Reply T) →
       Replayed capacity steps given ins outs old → IsStep old step reply new →

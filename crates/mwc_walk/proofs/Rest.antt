@@ -6,27 +6,10 @@ use Rattle.std.proofs.lemmas.Nat.{div-mul-add, pow_pos, pow-add, mul-le}
 use Rattle.std.proofs.Math.Nat.{lt-div-mul-add, div-mul-le_self}
 use Rattle.std.proofs.lemmas.Bool.{cases_lt, cases_Bool, and_left, and_parts, eq-eqb, ne_eqb, cond-false, cond-true, false_from_ne_true, or_cases, not-true, both_ways}
 use Rattle.council_game.specs.Votes.{Votes, IsVotes, has, without, wins, each_needed, minimal, down, minimal_below, minimal_coalitions}
+use Rattle.council_game.proofs.GameTests.{needed-at}
 use Rattle.mwc_walk.specs.Slices.{in_slice, slice}
 use Rattle.mwc_walk.specs.Places.{left_below, reaches, wins_at}
 use Rattle.mwc_walk.proofs.Blocks.{filter-down_skip, filter-down_take, some_digit, wins-below, loses-below}
-
--- a needed place: without it the set loses
-needed-at : (v : Votes) (c k q : ℕ) → each_needed v c k ≡ true → q < k → has v.members q c ≡ true → wins v.rules (without v.members q c) ≡ true → ⊥
-unfolding each_needed
-needed-at v c zero q h below inside win = omega arith
-needed-at v c (suc k) q h below inside win =
-    let parts = and_parts (not (has v.members k c) || not (wins v.rules (without v.members k c))) (each_needed v c k) h in
-    elim (cases_lt q k) [
-      | inl less ↦ needed-at v c k q parts.1 less inside win
-      | inr more ↦
-          let e : k ≡ q = omega arith in
-          let here : (not (has v.members q c) || not (wins v.rules (without v.members q c))) ≡ true =
-          subst (λ (i : ℕ). (not (has v.members i c) || not (wins v.rules (without v.members i c))) ≡ true) e parts.0 in
-          elim (or_cases _ _ here) [
-            | inl a ↦ both_ways _ (not-true _ a) inside
-            | inr b ↦ both_ways _ (not-true _ b) win
-          ]
-    ]
 
 -- numbers of one block have one prefix
 pub block-prefix : (x h c : ℕ) → x * 2 ^ h ≤ c → c < x * 2 ^ h + 2 ^ h → c / 2 ^ h ≡ x

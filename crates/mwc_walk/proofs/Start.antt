@@ -7,6 +7,7 @@ use Rattle.mwc_walk.specs.declared.cursor.Cursor.{Cursor}
 use Rattle.mwc_walk.specs.Lanes.{lane_with}
 use Rattle.council_game.specs.Votes.{RuleView, Votes, IsVotes, rule_at}
 use Rattle.mwc_walk.specs.Slices.{slice}
+use Rattle.council_game.proofs.GameTests.{fixed-half}
 use Rattle.mwc_walk.specs.Places.{left_below, LaneIs, LanesAre}
 use Rattle.mwc_walk.specs.Cursor.{bound, left, Starts}
 use Rattle.mwc_walk.proofs.Rest.{left-all}
@@ -16,11 +17,6 @@ pub first-number : (k j : ℕ) → k ≤ 10 → 1 * 2 ^ k % 2 ^ 64 - 1 - j ≡ 2
 first-number k j le = ap (λ (i : ℕ). i - 1 - j) (one_shl k 64 (omega arith))
 
 -- one fixed place more
-fixed-half : (x k p : ℕ) → p < k → x / 2 ^ (k - p) ≡ x / 2 ^ (k - (p + 1)) / 2
-fixed-half x k p below =
-    let e : k - p ≡ (k - (p + 1)) + 1 = omega arith in
-    ap (λ (i : ℕ). x / 2 ^ i) e ∙ sym (shr-shr x (k - (p + 1)) 1)
-
 pub fixed-in : (n k p x : ℕ) (rs : List RuleView) (ls : List Lane) → p < k → k ≤ n → x / 2 ^ (k - 1 - p) % 2 ≡ 1 → LanesAre n p (x / 2 ^ (k - p)) rs ls → LanesAre n (p + 1) (x / 2 ^ (k - (p + 1))) rs (map (lane_with p) ls)
 fixed-in n k p x rs ls below le odd are =
     let e : k - 1 - p ≡ k - (p + 1) = omega arith in

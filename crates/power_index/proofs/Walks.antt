@@ -14,15 +14,6 @@ pub record Walked (n c size : ℕ) (old now : List Tally) (rest : ℕ) : Type 0 
   pub waiting : (p : ℕ) → p < n → has n p rest ≡ true → get_or now p no_tally ≡ get_or old p no_tally
   pub done : (p : ℕ) → p < n → has n p rest ≡ false → get_or now p no_tally ≡ cond (has n p c) (with_one (get_or old p no_tally) size) (get_or old p no_tally)
 
-pub walked-none : (n c size : ℕ) (old : List Tally) → length old ≡ 40 → c < 2 ^ n → Walked n c size old old c
-walked-none n c size old long below = record {
-  below = below;
-  long = long;
-  inside = λ p lt h. h;
-  waiting = λ p lt h. refl;
-  done = λ p lt out. sym (cond-false (has n p c) (with_one (get_or old p no_tally) size) (get_or old p no_tally) out);
-}
-
 without-le : (n q c : ℕ) → without n q c ≤ c
 unfolding without
 without-le n q c = omega arith

@@ -6,7 +6,9 @@ ghost use Rattle.std.specs.Prelude.{◌≡◌, ◌<◌, ◌≤◌, ◌^◌};
 /// A fraction: `top / bottom`.
 #[derive(Clone, Copy, Debug, PartialEq, Eq)]
 pub struct Fraction {
+    /// The number above the line.
     pub top: u128,
+    /// The number below the line, above 0 in the fractions that calls give.
     pub bottom: u128,
 }
 

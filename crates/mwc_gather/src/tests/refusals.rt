@@ -31,6 +31,20 @@ fn gathers(rt: HostRuntime) -> Result<(), Fail> {
     Ok(())
 }
 
+/// Where the list is too long and something is refused, the refusal is told.
+#[test]
+fn gathers_too_many(rt: HostRuntime) -> Result<(), Fail> {
+    let game = five(rt.alloc())?;
+    rt.println("call")?;
+    match gathered(&rt, rt.alloc(), &game, &NoGate, 2, 3, 4) {
+        Err(GatherFault::TooMany) => rt.println("worked")?,
+        Err(GatherFault::Memory) => rt.println("out of memory")?,
+        Err(GatherFault::Start) => rt.println("not started")?,
+        _ => rt.println("another answer")?,
+    }
+    Ok(())
+}
+
 #[test]
 fn puts_parts_in_order(rt: HostRuntime) -> Result<(), Fail> {
     let game = five(rt.alloc())?;

@@ -11,7 +11,11 @@ fn counts_without_memory(rt: HostRuntime) -> Result<(), Fail> {
     rt.println("call")?;
     let counts = Counts::of(&game, &list);
     assert_eq!(rt; counts.members(), 5);
+    assert_eq!(rt; counts.total(), 5);
     assert_eq!(rt; counts.of_size(3), 3);
+    assert_eq!(rt; counts.of_member_size(1, 3), 0);
+    let half = lowest(6, 12);
+    assert_eq!(rt; (half.top, half.bottom), (1, 2));
     assert_member(
         &rt,
         &counts,

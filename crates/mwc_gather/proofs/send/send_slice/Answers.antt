@@ -17,7 +17,7 @@ returns-then-not-send-clause-sends g c =
 pub returns-then-not-send-2-clause-sends : goal.returns-then-not-send-2-clause-sends
 returns-then-not-send-2-clause-sends g c =
     let game : Slicing = slicing c.args.guarded.now c.args.bits in
-    let inv = c.loop-coalition.invariant.2 in
+    let inv = c.loop-coalition.invariant.3 in
     let sum = inv.2 in
     let few : length inv.0 ≤ c.args.left = omega arith in
     let refused = c.if-not-send-2.ensures.refused (search rules) in (
@@ -32,7 +32,7 @@ returns-then-not-send-2-clause-sends g c =
 pub returns-then-not-send-3-clause-sends : goal.returns-then-not-send-3-clause-sends
 returns-then-not-send-3-clause-sends g c =
     let game : Slicing = slicing c.args.guarded.now c.args.bits in
-    let inv = c.loop-coalition.invariant.2 in
+    let inv = c.loop-coalition.invariant.3 in
     let sum = inv.2 in
     let few : length inv.0 ≤ c.args.left = omega arith in
     let refused = c.if-not-send-3.ensures.refused (search rules) in (
@@ -47,7 +47,7 @@ returns-then-not-send-3-clause-sends g c =
 pub returns-then-left-eq0-clause-sends : goal.returns-then-left-eq0-clause-sends
 returns-then-left-eq0-clause-sends g c =
     let game : Slicing = slicing c.args.guarded.now c.args.bits in
-    let inv = c.loop-coalition.invariant.2 in
+    let inv = c.loop-coalition.invariant.3 in
     let all : List ℕ = game.slice c.args.slice in
     let given : List ℕ = inv.0 ++ c.in-Some.coalition ∷ [] in
     let rest : List ℕ = c.next.new.self.to_come in
@@ -65,7 +65,7 @@ returns-then-left-eq0-clause-sends g c =
 pub loop-coalition-preserved : goal.loop-coalition-preserved
 loop-coalition-preserved g c =
     let game : Slicing = slicing c.args.guarded.now c.args.bits in
-    let inv = c.loop-coalition.invariant.2 in
+    let inv = c.loop-coalition.invariant.3 in
     let all : List ℕ = game.slice c.args.slice in
     let given : List ℕ = inv.0 ++ c.in-Some.coalition ∷ [] in
     let rest : List ℕ = c.next.new.self.to_come in
@@ -75,6 +75,7 @@ loop-coalition-preserved g c =
     let first : Word = Open c.args.slice in
     let sum = inv.2 in (
       search rules,
+      sent.1 ∙ c.loop-coalition.invariant.1,
       omega arith,
       (
         given,

@@ -8,6 +8,7 @@ use Rattle.mwc_gather.proofs.send.send_slice.Given as goal
 abbrev pub invariant-loop-coalition : goal.invariant-loop-coalition
 invariant-loop-coalition g l =
     (g.P.PipeIn.identity l.out ≡ g.P.PipeIn.identity l.fn.out)
+    × (g.P.PipeIn.broken l.out ≡ g.P.PipeIn.broken l.fn.out)
     × (0 < l.left)
     × ((given : List ℕ)
     × (slice (votes_of l.guarded) l.bits l.slice ≡ given ++ l.walk.to_come)
