@@ -1,13 +1,15 @@
 //! Numbers in a row, put at the end of the bytes that are there.
 ghost use Rattle.std.specs.Prelude.{◌≡◌, ◌++◌, ◌<◌, ℕ, List, OnOk, decimal, length};
 ghost use Rattle.council_file.specs.Joined.{joined_numbers, GivesEach};
+ghost use Rattle.council_file.specs.Room.{Takes};
 
 use itoa::Buffer;
 use std::alloc::AllocError;
 
 /// A number in decimal.
 pub fn push_decimal(out: &mut Vec<u8>, number: u64) -> Result<(), AllocError>
-    ensures { OnOk result (out.new.items ≡ out.old.items ++ decimal number) }
+    ensures items { OnOk result (out.new.items ≡ out.old.items ++ decimal number) }
+    ensures room { Takes out.old out.new result (decimal number) }
 {
     let mut buffer = Buffer::new();
     out.extend_from_slice(buffer.format(number).as_bytes())
@@ -21,7 +23,8 @@ pub fn push_joined<F: Fn(usize) -> u64>(
     value: F,
 ) -> Result<(), AllocError>
     requires { (r : ℕ) → r < count → F.pre value r }
-    ensures { (vs : List ℕ) → length vs ≡ count → GivesEach (F.post value) vs → OnOk result (out.new.items ≡ out.old.items ++ joined_numbers separator.now vs) }
+    ensures items { (vs : List ℕ) → length vs ≡ count → GivesEach (F.post value) vs → OnOk result (out.new.items ≡ out.old.items ++ joined_numbers separator.now vs) }
+    ensures room { (vs : List ℕ) → length vs ≡ count → GivesEach (F.post value) vs → Takes out.old out.new result (joined_numbers separator.now vs) }
 {
     for r in 0..count {
         if 0 < r {

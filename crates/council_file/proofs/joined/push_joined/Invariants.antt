@@ -1,7 +1,14 @@
-use Rattle.std.proofs.Common.{◌≡◌, ◌++◌, ℕ, List, length, take}
+use Rattle.std.proofs.Common.{◌≡◌, ◌++◌, ◌≤◌, ℕ, List, length, take, Vec}
+use Rattle.std.specs.Global.{Global}
+use Rattle.std.specs.Vec.{vec_capacity}
 use Rattle.council_file.specs.Joined.{joined_numbers}
 use Rattle.council_file.specs.Joined.{GivesEach}
 use Rattle.council_file.proofs.joined.push_joined.Given as goal
 
+-- the first r values are there, and the room stays or grows
+pub record FirstPut (gives : ℕ → ℕ → Type 0) (count : ℕ) (separator : List ℕ) (old new : Vec ℕ Global) (r : ℕ) : Type 0 where
+  pub items : (vs : List ℕ) → length vs ≡ count → GivesEach gives vs → new.items ≡ old.items ++ joined_numbers separator (take r vs)
+  pub capacity : vec_capacity old ≤ vec_capacity new
+
 abbrev pub invariant-loop-r : goal.invariant-loop-r
-invariant-loop-r g l = (vs : List ℕ) → length vs ≡ l.count → GivesEach (goal.F-post g l.value) vs → l.out.items ≡ l.initial.out.items ++ joined_numbers l.separator (take l.r vs)
+invariant-loop-r g l = FirstPut (goal.F-post g l.value) l.count l.separator l.initial.out l.out l.r

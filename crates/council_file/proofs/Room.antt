@@ -1,0 +1,13 @@
+-- A text that is refused behind others.
+use Rattle.std.proofs.Common.{◌≡◌, ◌≤◌, ◌+◌, ◌++◌, ℕ, List, length, Vec, Result, Ok, Err, ap, arith, length-append}
+use Rattle.std.specs.Global.{Global}
+use Rattle.std.specs.Vec.{vec_capacity}
+use Rattle.council_file.specs.Room.{Takes}
+
+-- where y is refused after x was put, so is each text that is no shorter than both
+pub takes-not : {E F : Type 0} {old now new : Vec ℕ Global} {r : Result (Unit {0}) E} {e : F} {y z : List ℕ} (x : List ℕ) → Takes now new (Err e) y → vec_capacity old ≤ vec_capacity now → now.items ≡ old.items ++ x → length x + length y ≤ length z → Takes old new r z
+takes-not {r = Ok u} x refused kept items within = record { capacity = omega (arith, kept, refused.capacity); full = tt }
+takes-not {old} {r = Err d} x refused kept items within = record {
+  capacity = omega (arith, kept, refused.capacity);
+  full = let long = ap (λ (t : List ℕ). length t) items in omega (arith, kept, refused.full, long, within, length-append old.items x);
+}
