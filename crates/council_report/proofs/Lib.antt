@@ -1,4 +1,5 @@
 pub mod Bounds
+pub mod Room
 pub mod Names
 pub mod Holding
 pub mod Telling

@@ -1,5 +1,5 @@
 -- The names of a coalition's members, as far as a pass over the places has come.
-use Rattle.std.proofs.Common.{◌≡◌, ◌∙◌, ℕ, Bool, true, false, cond, ◌+◌, ◌<◌, ◌++◌, List, [], ◌∷◌, map, length, ap, sym, arith, filter, append_assoc}
+use Rattle.std.proofs.Common.{◌≡◌, ◌∙◌, ℕ, Bool, true, false, cond, ◌+◌, ◌<◌, ◌≤◌, ◌++◌, List, [], ◌∷◌, map, length, ap, sym, arith, filter, append_assoc, length-append}
 use Rattle.std.specs.List.{range_with_len, flat_map}
 use Rattle.std.proofs.lemmas.Bool.{cond-true, cond-false}
 use Rattle.std.proofs.lemmas.Grind.{flat_map-append}
@@ -9,6 +9,7 @@ use Rattle.council_game.specs.Votes.{has}
 use Rattle.council_game.specs.Ranks.{member_at}
 use Rattle.council_game.specs.Game.{GameView}
 use Rattle.council_report.specs.Lines.{tabbed, name_of}
+use Rattle.council_report.proofs.Room.{grows}
 
 -- those of the first k places, each after a TAB
 abbrev pub names_before : GameView → ℕ → ℕ → List ℕ
@@ -43,3 +44,16 @@ name-out g c k out =
     sym (append-nil (names_before g c k))
     ∙ ap (λ (ps : List ℕ). names_before g c k ++ flat_map tabbed (map (λ p. name_of g (member_at g.ranks p)) ps)) (sym none)
     ∙ sym (names-more g c k)
+
+names-within : (g : GameView) (c k n : ℕ) → k ≤ n → length (names_before g c k) ≤ length (names_before g c n)
+names-within g c k n le =
+    let step : (m : ℕ) → length (names_before g c m) ≤ length (names_before g c (m + 1)) = λ m.
+    let more = ap (λ (t : List ℕ). length t) (names-more g c m) in
+    omega (arith, more, length-append (names_before g c m) (flat_map tabbed (map (λ p. name_of g (member_at g.ranks p)) (cond (has (length g.names) m c) (m ∷ []) [])))) in
+    grows (λ m. length (names_before g c m)) step k n le
+
+-- a further name and those before it are no longer than all of them
+pub name-within : (g : GameView) (c k n : ℕ) → has (length g.names) k c ≡ true → k < n → length (names_before g c k) + length (tabbed (name_of g (member_at g.ranks k))) ≤ length (names_before g c n)
+name-within g c k n in' below =
+    let more = ap (λ (t : List ℕ). length t) (name-in g c k [] in') in
+    omega (arith, more, names-within g c (k + 1) n (omega arith), length-append (names_before g c k) (tabbed (name_of g (member_at g.ranks k))))

@@ -1,9 +1,9 @@
 -- The lines of a report, as bytes.
-use Rattle.std.specs.Prelude.{◌≡◌, ℕ, Bool, List, [], ◌∷◌, ◌++◌, ◌==◌, nat_lt, if◌then◌else◌, map, length, codes, decimal, slice_index, slice_index_or, Option}
-use Rattle.std.specs.List.{flat_map, range_with_len}
+use Rattle.std.specs.Prelude.{ℕ, List, [], ◌∷◌, ◌++◌, ◌==◌, if◌then◌else◌, map, length, codes, decimal, slice_index, slice_index_or}
+use Rattle.std.specs.List.{flat_map}
 use Rattle.std.specs.Option.{option_map_or}
 use Rattle.council_game.specs.Votes.{RuleView, weight, places_of, size}
-use Rattle.council_game.specs.Ranks.{member_at, places}
+use Rattle.council_game.specs.Ranks.{member_at}
 use Rattle.council_game.specs.Game.{GameView, votes_of, total}
 use Rattle.power_index.specs.Counting.{members, count_of_size, count_of_member, count_of_member_size}
 use Rattle.power_index.specs.Fractions.{lowest_terms, decimals}
@@ -92,6 +92,10 @@ index_fields g list i =
 unfoldable pub member_line : GameView → List ℕ → ℕ → List ℕ
 member_line g list i = line (codes "member") (member_fields g list i ++ index_fields g list i)
 
--- new is old with the two fields of an index at its end
-abbrev pub AppendsIndex : List ℕ → List ℕ → ℕ × ℕ → Type 0
-AppendsIndex old new p = new ≡ old ++ tabbed (fraction_text p) ++ tabbed (decimals_text p)
+-- a fraction and its decimals, as two fields
+abbrev pub fraction_fields : ℕ × ℕ → List ℕ
+fraction_fields p = tabbed (decimal p.0 ++ 47 ∷ decimal p.1) ++ tabbed (decimals p)
+
+-- an index in lowest terms and its decimals, as two fields
+abbrev pub index_text : ℕ × ℕ → List ℕ
+index_text p = fraction_fields (lowest_terms p)

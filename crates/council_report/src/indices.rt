@@ -4,7 +4,8 @@ ghost use Rattle.std.specs.List.{flat_map};
 ghost use Rattle.power_index.specs.Counting.{members, count_of_member, count_of_member_size};
 ghost use Rattle.power_index.specs.Indices.{deegan_packel, public_good};
 ghost use Rattle.power_index.specs.Fractions.{pair_of, decimals};
-ghost use Rattle.council_report.specs.Lines.{tabbed, slashed, weights_of_member, size_line, member_line, member_fields, index_fields, AppendsIndex};
+ghost use Rattle.council_file.specs.Room.{Takes};
+ghost use Rattle.council_report.specs.Lines.{tabbed, slashed, weights_of_member, size_line, member_line, member_fields, index_fields, fraction_fields, index_text};
 
 use crate::lines::end_line;
 use crate::listing::Listing;
@@ -16,7 +17,8 @@ use std::alloc::AllocError;
 
 /// A field `top/bottom`.
 fn push_fraction(out: &mut Vec<u8>, fraction: Fraction) -> Result<(), AllocError>
-    ensures { OnOk result (out.new.items ≡ out.old.items ++ tabbed (decimal fraction.top ++ 47 ∷ decimal fraction.bottom)) }
+    ensures items { OnOk result (out.new.items ≡ out.old.items ++ tabbed (decimal fraction.top ++ 47 ∷ decimal fraction.bottom)) }
+    ensures room { Takes out.old out.new result (tabbed (decimal fraction.top ++ 47 ∷ decimal fraction.bottom)) }
 {
     let mut buffer = Buffer::new();
     push_field(out, buffer.format(fraction.top).as_bytes())?;
@@ -29,7 +31,8 @@ fn push_index(out: &mut Vec<u8>, index: Fraction) -> Result<(), AllocError>
     requires positive { 0 < index.bottom }
     requires at_most_one { index.top ≤ index.bottom }
     requires small { index.bottom ≤ 10 ^ 30 }
-    ensures { OnOk result (out.new.items ≡ out.old.items ++ tabbed (decimal index.top ++ 47 ∷ decimal index.bottom) ++ tabbed (decimals (pair_of index))) }
+    ensures items { OnOk result (out.new.items ≡ out.old.items ++ fraction_fields (pair_of index)) }
+    ensures room { Takes out.old out.new result (fraction_fields (pair_of index)) }
 {
     push_fraction(out, index)?;
     push_field(out, &index.decimals())
@@ -42,7 +45,8 @@ fn push_deegan_packel(
     member: usize,
 ) -> Result<(), AllocError>
     requires { member < length listing.now.game.now.names }
-    ensures { OnOk result (AppendsIndex out.old.items out.new.items (deegan_packel listing.now.game.now listing.now.list.now member)) }
+    ensures items { OnOk result (out.new.items ≡ out.old.items ++ index_text (deegan_packel listing.now.game.now listing.now.list.now member)) }
+    ensures room { Takes out.old out.new result (index_text (deegan_packel listing.now.game.now listing.now.list.now member)) }
 {
     push_index(out, deegan_packel(&listing.counts, member))
 }
@@ -54,7 +58,8 @@ fn push_public_good(
     member: usize,
 ) -> Result<(), AllocError>
     requires { member < length listing.now.game.now.names }
-    ensures { OnOk result (AppendsIndex out.old.items out.new.items (public_good listing.now.game.now listing.now.list.now member)) }
+    ensures items { OnOk result (out.new.items ≡ out.old.items ++ index_text (public_good listing.now.game.now listing.now.list.now member)) }
+    ensures room { Takes out.old out.new result (index_text (public_good listing.now.game.now listing.now.list.now member)) }
 {
     push_index(out, public_good(&listing.counts, member))
 }
@@ -62,7 +67,8 @@ fn push_public_good(
 /// For each member, how many coalitions of a size contain it.
 fn push_counts(out: &mut Vec<u8>, listing: &Listing<'_>, size: usize) -> Result<(), AllocError>
     requires { size ≤ length listing.now.game.now.names }
-    ensures { OnOk result (out.new.items ≡ out.old.items ++ flat_map tabbed (map (λ i. decimal (count_of_member_size listing.now.game.now i size listing.now.list.now)) (members listing.now.game.now))) }
+    ensures items { OnOk result (out.new.items ≡ out.old.items ++ flat_map tabbed (map (λ i. decimal (count_of_member_size listing.now.game.now i size listing.now.list.now)) (members listing.now.game.now))) }
+    ensures room { Takes out.old out.new result (flat_map tabbed (map (λ i. decimal (count_of_member_size listing.now.game.now i size listing.now.list.now)) (members listing.now.game.now))) }
 {
     for member in 0..listing.game.members() {
         push_number(out, u64::from(listing.counts.of_member_size(member, size)))?;
@@ -78,7 +84,8 @@ pub(crate) fn push_size(
     size: usize,
 ) -> Result<(), AllocError>
     requires { size ≤ length listing.now.game.now.names }
-    ensures { OnOk result (out.new.items ≡ out.old.items ++ size_line listing.now.game.now listing.now.list.now size) }
+    ensures items { OnOk result (out.new.items ≡ out.old.items ++ size_line listing.now.game.now listing.now.list.now size) }
+    ensures room { Takes out.old out.new result (size_line listing.now.game.now listing.now.list.now size) }
 {
     let count = listing.counts.of_size(size);
     if count == 0 {
@@ -94,7 +101,8 @@ pub(crate) fn push_size(
 /// How many coalitions contain a member.
 fn push_count(out: &mut Vec<u8>, listing: &Listing<'_>, member: usize) -> Result<(), AllocError>
     requires { member < length listing.now.game.now.names }
-    ensures { OnOk result (out.new.items ≡ out.old.items ++ tabbed (decimal (count_of_member listing.now.game.now member listing.now.list.now))) }
+    ensures items { OnOk result (out.new.items ≡ out.old.items ++ tabbed (decimal (count_of_member listing.now.game.now member listing.now.list.now))) }
+    ensures room { Takes out.old out.new result (tabbed (decimal (count_of_member listing.now.game.now member listing.now.list.now))) }
 {
     push_number(out, u64::from(listing.counts.of_member(member)))
 }
@@ -102,7 +110,8 @@ fn push_count(out: &mut Vec<u8>, listing: &Listing<'_>, member: usize) -> Result
 /// The weights of a member, one for each rule.
 fn push_weights(out: &mut Vec<u8>, game: &Game, member: usize) -> Result<(), AllocError>
     requires { member < length game.now.names }
-    ensures { OnOk result (out.new.items ≡ out.old.items ++ tabbed (slashed (weights_of_member game.now member))) }
+    ensures items { OnOk result (out.new.items ≡ out.old.items ++ tabbed (slashed (weights_of_member game.now member))) }
+    ensures room { Takes out.old out.new result (tabbed (slashed (weights_of_member game.now member))) }
 {
     push_values(out, game.rules(), |r| game.rule_weight(r, member))
 }
@@ -114,7 +123,8 @@ fn push_member_counts(
     member: usize,
 ) -> Result<(), AllocError>
     requires { member < length listing.now.game.now.names }
-    ensures { OnOk result (out.new.items ≡ out.old.items ++ flat_map tabbed (member_fields listing.now.game.now listing.now.list.now member)) }
+    ensures items { OnOk result (out.new.items ≡ out.old.items ++ flat_map tabbed (member_fields listing.now.game.now listing.now.list.now member)) }
+    ensures room { Takes out.old out.new result (flat_map tabbed (member_fields listing.now.game.now listing.now.list.now member)) }
 {
     let game = listing.game;
     push_field(out, game.name(member).as_bytes())?;
@@ -125,7 +135,8 @@ fn push_member_counts(
 /// Both indices of a member.
 fn push_indices(out: &mut Vec<u8>, listing: &Listing<'_>, member: usize) -> Result<(), AllocError>
     requires { member < length listing.now.game.now.names }
-    ensures { OnOk result (out.new.items ≡ out.old.items ++ flat_map tabbed (index_fields listing.now.game.now listing.now.list.now member)) }
+    ensures items { OnOk result (out.new.items ≡ out.old.items ++ flat_map tabbed (index_fields listing.now.game.now listing.now.list.now member)) }
+    ensures room { Takes out.old out.new result (flat_map tabbed (index_fields listing.now.game.now listing.now.list.now member)) }
 {
     push_deegan_packel(out, listing, member)?;
     push_public_good(out, listing, member)
@@ -139,7 +150,8 @@ pub(crate) fn push_member(
     member: usize,
 ) -> Result<(), AllocError>
     requires { member < length listing.now.game.now.names }
-    ensures { OnOk result (out.new.items ≡ out.old.items ++ member_line listing.now.game.now listing.now.list.now member) }
+    ensures items { OnOk result (out.new.items ≡ out.old.items ++ member_line listing.now.game.now listing.now.list.now member) }
+    ensures room { Takes out.old out.new result (member_line listing.now.game.now listing.now.list.now member) }
 {
     out.extend_from_slice(b"member")?;
     push_member_counts(out, listing, member)?;

@@ -1,7 +1,8 @@
 //! The lines of a report, one function for each kind.
 ghost use Rattle.std.specs.Prelude.{◌≡◌, ◌++◌, ◌^◌, ◌<◌, ◌≤◌, ◌∷◌, [], ℕ, length, OnOk, codes, slice_get, Option, Some, option_map};
 ghost use Rattle.std.specs.List.{flat_map};
-ghost use Rattle.council_report.specs.Lines.{tabbed, title_line, members_line, quota_line, total_line, minimal_line, coalition_line, name_of, names_of};
+ghost use Rattle.council_file.specs.Room.{Takes};
+ghost use Rattle.council_report.specs.Lines.{tabbed, slashed, weights_of_coalition, title_line, members_line, quota_line, total_line, minimal_line, coalition_line, name_of, names_of};
 
 use crate::text::{push_field, push_number, push_values};
 use council_game::{Coalition, Game};
@@ -9,7 +10,8 @@ use std::alloc::AllocError;
 
 /// The end of a line.
 pub(crate) fn end_line(out: &mut Vec<u8>) -> Result<(), AllocError>
-    ensures { OnOk result (out.new.items ≡ out.old.items ++ 10 ∷ []) }
+    ensures items { OnOk result (out.new.items ≡ out.old.items ++ 10 ∷ []) }
+    ensures room { Takes out.old out.new result (10 ∷ []) }
 {
     out.push(b'\n')?;
     Ok(())
@@ -68,9 +70,22 @@ pub(crate) fn push_minimal(out: &mut Vec<u8>, list: &[Coalition]) -> Result<(), 
     end_line(out)
 }
 
+/// The weights of a coalition, one for each rule.
+fn push_coalition_weights(
+    out: &mut Vec<u8>,
+    game: &Game,
+    coalition: Coalition,
+) -> Result<(), AllocError>
+    ensures items { OnOk result (out.new.items ≡ out.old.items ++ tabbed (slashed (weights_of_coalition game.now coalition))) }
+    ensures room { Takes out.old out.new result (tabbed (slashed (weights_of_coalition game.now coalition))) }
+{
+    push_values(out, game.rules(), |r| game.rule_weight_of(r, coalition))
+}
+
 /// The names of a coalition's members in rank order.
 fn push_names(out: &mut Vec<u8>, game: &Game, coalition: Coalition) -> Result<(), AllocError>
-    ensures { OnOk result (out.new.items ≡ out.old.items ++ flat_map tabbed (names_of game.now coalition)) }
+    ensures items { OnOk result (out.new.items ≡ out.old.items ++ flat_map tabbed (names_of game.now coalition)) }
+    ensures room { Takes out.old out.new result (flat_map tabbed (names_of game.now coalition)) }
 {
     let members = game.members();
     for place in 0..members {
@@ -89,11 +104,12 @@ pub(crate) fn push_coalition(
     coalition: Coalition,
 ) -> Result<(), AllocError>
     requires { coalition < 2 ^ length game.now.names }
-    ensures { OnOk result (out.new.items ≡ out.old.items ++ coalition_line game.now coalition) }
+    ensures items { OnOk result (out.new.items ≡ out.old.items ++ coalition_line game.now coalition) }
+    ensures room { Takes out.old out.new result (coalition_line game.now coalition) }
 {
     out.extend_from_slice(b"coalition")?;
     push_number(out, u64::from(coalition.size()))?;
-    push_values(out, game.rules(), |r| game.rule_weight_of(r, coalition))?;
+    push_coalition_weights(out, game, coalition)?;
     push_names(out, game, coalition)?;
     end_line(out)
 }

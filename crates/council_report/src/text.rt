@@ -1,6 +1,7 @@
 //! Fields of a line, each put at the end of the bytes that are there.
 ghost use Rattle.std.specs.Prelude.{◌≡◌, ◌++◌, ◌∷◌, ◌<◌, ℕ, List, OnOk, decimal, length};
 ghost use Rattle.council_file.specs.Joined.{GivesEach};
+ghost use Rattle.council_file.specs.Room.{Takes};
 ghost use Rattle.council_report.specs.Lines.{tabbed, slashed};
 
 use council_file::{push_decimal, push_joined};
@@ -8,7 +9,8 @@ use std::alloc::AllocError;
 
 /// A field of bytes.
 pub(crate) fn push_field(out: &mut Vec<u8>, field: &[u8]) -> Result<(), AllocError>
-    ensures { OnOk result (out.new.items ≡ out.old.items ++ tabbed field.now) }
+    ensures items { OnOk result (out.new.items ≡ out.old.items ++ tabbed field.now) }
+    ensures room { Takes out.old out.new result (tabbed field.now) }
 {
     out.push(b'\t')?;
     out.extend_from_slice(field)
@@ -16,7 +18,8 @@ pub(crate) fn push_field(out: &mut Vec<u8>, field: &[u8]) -> Result<(), AllocErr
 
 /// A field of one number.
 pub(crate) fn push_number(out: &mut Vec<u8>, number: u64) -> Result<(), AllocError>
-    ensures { OnOk result (out.new.items ≡ out.old.items ++ tabbed (decimal number)) }
+    ensures items { OnOk result (out.new.items ≡ out.old.items ++ tabbed (decimal number)) }
+    ensures room { Takes out.old out.new result (tabbed (decimal number)) }
 {
     out.push(b'\t')?;
     push_decimal(out, number)
@@ -29,7 +32,8 @@ pub(crate) fn push_values<F: Fn(usize) -> u64>(
     value: F,
 ) -> Result<(), AllocError>
     requires { (r : ℕ) → r < rules → F.pre value r }
-    ensures { (vs : List ℕ) → length vs ≡ rules → GivesEach (F.post value) vs → OnOk result (out.new.items ≡ out.old.items ++ tabbed (slashed vs)) }
+    ensures items { (vs : List ℕ) → length vs ≡ rules → GivesEach (F.post value) vs → OnOk result (out.new.items ≡ out.old.items ++ tabbed (slashed vs)) }
+    ensures room { (vs : List ℕ) → length vs ≡ rules → GivesEach (F.post value) vs → Takes out.old out.new result (tabbed (slashed vs)) }
 {
     out.push(b'\t')?;
     push_joined(out, b"/", rules, value)

@@ -1,4 +1,4 @@
-use Rattle.std.proofs.Common.{◌≡◌, ◌+◌, ◌<◌, ◌++◌, ℕ, List, ◌∷◌, [], length, take, arith, ap, ◌∙◌, sym}
+use Rattle.std.proofs.Common.{◌<◌, ◌++◌, ℕ, List, length, take, arith, ap, ◌∙◌, sym}
 use Rattle.std.specs.List.{flat_map}
 use Rattle.std.proofs.lemmas.List.{take_more, take_all}
 use Rattle.council_game.specs.Votes.{RuleView, rule_at}

@@ -1,9 +1,10 @@
-use Rattle.std.proofs.Common.{◌≡◌, ◌+◌, ◌<◌, zero-add, ◌++◌, ℕ, List, ◌∷◌, [], length, map, decimal, arith, ap, ◌∙◌, sym, refl}
+use Rattle.std.proofs.Common.{◌≡◌, ◌<◌, zero-add, ◌++◌, ℕ, List, length, map, decimal, arith, ap, ◌∙◌, sym}
 use Rattle.std.specs.List.{flat_map, range_with_len}
 use Rattle.std.proofs.lemmas.List.FromFn.{map-range_with_len_more}
 use Rattle.power_index.specs.Counting.{count_of_member_size}
 use Rattle.council_report.specs.Lines.{tabbed}
-use Rattle.council_report.proofs.Rows.{put-row}
+use Rattle.council_file.proofs.Room.{takes-not}
+use Rattle.council_report.proofs.Rows.{put-row, field-within}
 use Rattle.council_report.proofs.indices.push_counts.Goals as goal
 
 pub loop-member-preserved : goal.loop-member-preserved
@@ -14,12 +15,26 @@ loop-member-preserved c =
     let members = c.args.listing.now.counted.members in
     let inside : k < length c.args.listing.now.game.now.names = omega (arith, c.loop-member-test.true, c.members-member-end.ensures.count) in
     let count = c.of_member_size.ensures.count ∙ c.args.listing.now.counted.of_member_size k c.args.size (omega (arith, members, inside)) (omega (arith, members, c.requires)) in
-    rw (c.loop-member.invariant, c.from.ensures, count) at c.in_ok-push_number.ensures
-    ∙ put-row tabbed start (map text (range_with_len 0 k)) (text k)
-    ∙ ap (λ (ts : List (List ℕ)). start ++ flat_map tabbed ts) (sym (map-range_with_len_more text 0 k k (zero-add k)))
+    record {
+      items = rw (c.loop-member.invariant.items, c.from.ensures, count) at c.in_ok-push_number.ensures.items
+          ∙ put-row tabbed start (map text (range_with_len 0 k)) (text k)
+          ∙ ap (λ (ts : List (List ℕ)). start ++ flat_map tabbed ts) (sym (map-range_with_len_more text 0 k k (zero-add k)));
+      capacity = omega (arith, c.loop-member.invariant.capacity, c.in_ok-push_number.ensures.room.capacity);
+    }
 
-pub returns : goal.returns
-returns c =
+pub returns-clause-items : goal.returns-clause-items
+returns-clause-items c =
     let n : c.loop-member.member ≡ length c.args.listing.now.game.now.names = omega (arith, c.members-member-end.ensures.count, c.loop-member-test.false, c.loop-member.auto.member-end) in
-    c.loop-member.invariant
+    c.loop-member.invariant.items
     ∙ ap (λ (k : ℕ). c.args.out.now.items ++ flat_map tabbed (map (λ i. decimal (count_of_member_size c.args.listing.now.game.now i c.args.size c.args.listing.now.list.now)) (range_with_len 0 k))) n
+
+pub returns-in_err-push_number-clause-room : goal.returns-in_err-push_number-clause-room
+returns-in_err-push_number-clause-room c =
+    let text : ℕ → List ℕ = λ i. decimal (count_of_member_size c.args.listing.now.game.now i c.args.size c.args.listing.now.list.now) in
+    let k : ℕ = c.loop-member.member in
+    let members = c.args.listing.now.counted.members in
+    let inside : k < length c.args.listing.now.game.now.names = omega (arith, c.loop-member-test.true, c.members-member-end.ensures.count) in
+    let count = c.of_member_size.ensures.count ∙ c.args.listing.now.counted.of_member_size k c.args.size (omega (arith, members, inside)) (omega (arith, members, c.requires)) in
+    let refused = rw (c.from.ensures, count) at c.in_err-push_number.ensures.room in
+    takes-not (flat_map tabbed (map text (range_with_len 0 k))) refused c.loop-member.invariant.capacity c.loop-member.invariant.items
+    (field-within text k (length c.args.listing.now.game.now.names) inside)

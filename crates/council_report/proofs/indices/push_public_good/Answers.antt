@@ -1,9 +1,14 @@
-use Rattle.std.proofs.Common.{◌≡◌, ◌++◌, ◌∷◌, ℕ, OnOk, decimal, subst}
-use Rattle.power_index.specs.Fractions.{decimals}
-use Rattle.council_report.specs.Lines.{tabbed}
+use Rattle.std.proofs.Common.{◌≡◌, ◌++◌, ℕ, OnOk, subst}
+use Rattle.council_file.specs.Room.{Takes}
+use Rattle.council_report.specs.Lines.{fraction_fields}
 use Rattle.council_report.proofs.indices.push_public_good.Goals as goal
 
-pub returns : goal.returns
-returns c =
-    let Puts : ℕ × ℕ → Type 0 = λ q. OnOk c.push_index.result (c.push_index.new.out.items ≡ c.args.out.now.items ++ tabbed (decimal q.0 ++ 47 ∷ decimal q.1) ++ tabbed (decimals q)) in
-    subst Puts (c.public_good.ensures.terms c.args.listing.now.game.now c.args.listing.now.list.now c.args.listing.now.counted) c.push_index.ensures
+pub returns-clause-items : goal.returns-clause-items
+returns-clause-items c =
+    let Puts : ℕ × ℕ → Type 0 = λ q. OnOk c.push_index.result (c.push_index.new.out.items ≡ c.args.out.now.items ++ fraction_fields q) in
+    subst Puts (c.public_good.ensures.terms c.args.listing.now.game.now c.args.listing.now.list.now c.args.listing.now.counted) c.push_index.ensures.items
+
+pub returns-clause-room : goal.returns-clause-room
+returns-clause-room c =
+    let Has : ℕ × ℕ → Type 0 = λ q. Takes c.args.out.now c.push_index.new.out c.push_index.result (fraction_fields q) in
+    subst Has (c.public_good.ensures.terms c.args.listing.now.game.now c.args.listing.now.list.now c.args.listing.now.counted) c.push_index.ensures.room

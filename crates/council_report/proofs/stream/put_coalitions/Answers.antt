@@ -1,12 +1,9 @@
-use Rattle.std.proofs.Common.{◌≡◌, ◌+◌, ◌-◌, ◌<◌, ◌++◌, ◌∷◌, [], ℕ, List, take, length, arith, refl, sym, ap, ◌∙◌}
-use Rattle.std.specs.List.{range_with_len}
+use Rattle.std.proofs.Common.{◌+◌, ◌++◌, ◌∷◌, [], ℕ, take, refl, sym, ap, ◌∙◌}
 use Rattle.std.proofs.lemmas.Result.{err_from_is_err_and}
 use Rattle.std.proofs.lemmas.List.{take_more}
-use Rattle.std.proofs.lemmas.List.FromFn.{length-range_with_len, get_or-range_with_len}
-use Rattle.power_index.specs.Counting.{members}
 use Rattle.council_report.specs.Lines.{coalition_line}
 use Rattle.council_report.proofs.Telling.{tells-nothing}
-use Rattle.council_report.proofs.Turns.{Turn, turn-settled, turn-told, stopped-at, stopped-full, all-told}
+use Rattle.council_report.proofs.Turns.{turn-settled, turn-told, stopped-at, stopped-full, all-told}
 use Rattle.council_report.proofs.stream.put_coalitions.Goals as goal
 
 pub loop-coalition-init : goal.loop-coalition-init
@@ -16,7 +13,7 @@ pub loop-coalition-preserved : goal.loop-coalition-preserved
 loop-coalition-preserved g c =
     let next = take_more c.args.listing.now.list.now c.loop-coalition.coalition-index c.coalition-item.result c.loop-coalition-test.true ∙ ap (λ (x : ℕ). take c.loop-coalition.coalition-index c.args.listing.now.list.now ++ x ∷ []) (sym c.coalition-item.is) in
     turn-settled _ _ (coalition_line c.args.listing.now.game.now) (c.args.listing.now.list.now) c.loop-coalition.coalition-index c.coalition-item.result (g.W.Write.contents c.loop-coalition.writer) c.loop-coalition.block (record { bytes = c.push_coalition.new.out; written = c.loop-coalition.block.written })
-    (record { before = c.loop-coalition.invariant; same = refl; more = c.in-Ok.ensures; next = next }) c.in_ok-settle-in-Ok.ensures.ok
+    (record { before = c.loop-coalition.invariant; same = refl; more = c.in-Ok.ensures.items; next = next }) c.in_ok-settle-in-Ok.ensures.ok
 
 pub returns-in-Err-clause-err : goal.returns-in-Err-clause-err
 returns-in-Err-clause-err g c =
@@ -29,7 +26,7 @@ returns-in_err-settle-in-Ok-clause-err g c =
     let stopped =
     stopped-at _ _ (coalition_line c.args.listing.now.game.now) (c.args.listing.now.list.now) (c.loop-coalition.coalition-index + 1) _ _
     (turn-told _ (coalition_line c.args.listing.now.game.now) (c.args.listing.now.list.now) c.loop-coalition.coalition-index c.coalition-item.result (g.W.Write.contents c.loop-coalition.writer) c.loop-coalition.block (record { bytes = c.push_coalition.new.out; written = c.loop-coalition.block.written })
-    (record { before = c.loop-coalition.invariant; same = refl; more = c.in-Ok.ensures; next = next }))
+    (record { before = c.loop-coalition.invariant; same = refl; more = c.in-Ok.ensures.items; next = next }))
     c.in_err-settle-in-Ok.ensures.err
     in
     rw (p.1, p.2) stopped

@@ -1,12 +1,11 @@
-use Rattle.std.proofs.Common.{◌≡◌, ◌+◌, ◌-◌, ◌<◌, ◌++◌, ◌∷◌, [], ℕ, List, take, length, arith, refl, sym, ap, ◌∙◌}
+use Rattle.std.proofs.Common.{◌≡◌, ◌+◌, ◌-◌, ◌<◌, ◌++◌, ◌∷◌, [], ℕ, List, take, length, arith, refl, ap, ◌∙◌}
 use Rattle.std.specs.List.{range_with_len}
 use Rattle.std.proofs.lemmas.Result.{err_from_is_err_and}
 use Rattle.std.proofs.lemmas.List.{take_more}
 use Rattle.std.proofs.lemmas.List.FromFn.{length-range_with_len, get_or-range_with_len}
-use Rattle.power_index.specs.Counting.{members}
 use Rattle.council_report.specs.Lines.{size_line}
 use Rattle.council_report.proofs.Telling.{tells-nothing}
-use Rattle.council_report.proofs.Turns.{Turn, turn-settled, turn-told, stopped-at, stopped-full, all-told}
+use Rattle.council_report.proofs.Turns.{turn-settled, turn-told, stopped-at, stopped-full, all-told}
 use Rattle.council_report.proofs.stream.put_sizes.Goals as goal
 
 pub loop-size-init : goal.loop-size-init
@@ -21,7 +20,7 @@ loop-size-preserved g c =
     let next = take_more xs (c.loop-size.size - 1) 0 below ∙ ap (λ (x : ℕ). take (c.loop-size.size - 1) xs ++ x ∷ []) (at ∙ omega (arith, c.loop-size.auto.size)) in
     let same : c.loop-size.size - 1 + 1 ≡ c.loop-size.size + 1 - 1 = omega (arith, c.loop-size.auto.size) in
     rw (← same) (turn-settled _ _ (size_line c.args.listing.now.game.now c.args.listing.now.list.now) (range_with_len 1 (length c.args.listing.now.game.now.names)) (c.loop-size.size - 1) c.loop-size.size (g.W.Write.contents c.loop-size.writer) c.loop-size.block (record { bytes = c.push_size.new.out; written = c.loop-size.block.written })
-    (record { before = c.loop-size.invariant; same = refl; more = c.in-Ok.ensures; next = next }) c.in_ok-settle-in-Ok.ensures.ok)
+    (record { before = c.loop-size.invariant; same = refl; more = c.in-Ok.ensures.items; next = next }) c.in_ok-settle-in-Ok.ensures.ok)
 
 pub returns-in-Err-clause-err : goal.returns-in-Err-clause-err
 returns-in-Err-clause-err g c =
@@ -38,7 +37,7 @@ returns-in_err-settle-in-Ok-clause-err g c =
     let stopped =
     stopped-at _ _ (size_line c.args.listing.now.game.now c.args.listing.now.list.now) (range_with_len 1 (length c.args.listing.now.game.now.names)) ((c.loop-size.size - 1) + 1) _ _
     (turn-told _ (size_line c.args.listing.now.game.now c.args.listing.now.list.now) (range_with_len 1 (length c.args.listing.now.game.now.names)) (c.loop-size.size - 1) c.loop-size.size (g.W.Write.contents c.loop-size.writer) c.loop-size.block (record { bytes = c.push_size.new.out; written = c.loop-size.block.written })
-    (record { before = c.loop-size.invariant; same = refl; more = c.in-Ok.ensures; next = next }))
+    (record { before = c.loop-size.invariant; same = refl; more = c.in-Ok.ensures.items; next = next }))
     c.in_err-settle-in-Ok.ensures.err
     in
     rw (p.1, p.2) stopped
