@@ -39,10 +39,10 @@ fn list<T: Threads + Wait + Sync, G: Gate + Sync>(
 /// Reads a game, lists its minimal winning coalitions by worker threads, and writes its report and
 /// nothing else. The answer is the number of bytes written. It may wait for its workers.
 ///
-/// All that takes memory is done before the first byte is written, so that only after `Write` the writer
-/// took some bytes: the first ones of the report. A write that takes a part is followed by one for
-/// the rest; one that fails, for whatever cause, or takes nothing is `Write`, and so is a flush that
-/// fails, of which there is one, at the end.
+/// No byte goes out before all memory is there: after each fault but `Write` the writer took nothing, and
+/// after `Write` it has the first bytes of the report. A writer that takes fewer bytes than it is given is
+/// asked again for those that are left. A write that takes none or fails, whatever the cause, ends the
+/// run by `Write`; so does the flush, of which there is one, after the last byte.
 pub fn run<T: Threads + Wait + Sync, R: Read, W: Write, G: Gate + Sync>(
     rt: &T,
     alloc: Global,

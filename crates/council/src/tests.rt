@@ -197,6 +197,7 @@ fn writes_through_parts_of_any_length(rt: HostRuntime) -> Result<(), Fail> {
 }
 
 /// A writer that takes so many bytes, at most so many a call, and then fails.
+#[derive(Drop)]
 struct Narrow {
     taken: Vec<u8>,
     room: usize,
@@ -248,13 +249,6 @@ fn tells_what_a_failing_writer_took(rt: HostRuntime) -> Result<(), Fail> {
             };
             assert!(rt; answer == Err(wanted), "{room}");
             assert_eq!(rt; writer.taken.as_slice(), &BOARD_REPORT[..room]);
-            let Narrow {
-                taken: _,
-                room: _,
-                step: _,
-                kind: _,
-                flushes: _,
-            } = writer;
         }
     }
     Ok(())
@@ -281,13 +275,6 @@ fn writes_through_parts_and_one_flush(rt: HostRuntime) -> Result<(), Fail> {
             let wanted = if flushes { Ok(158) } else { Err(fault) };
             assert!(rt; answer == wanted, "{step}");
             assert_eq!(rt; writer.taken.as_slice(), BOARD_REPORT);
-            let Narrow {
-                taken: _,
-                room: _,
-                step: _,
-                kind: _,
-                flushes: _,
-            } = writer;
         }
     }
     Ok(())

@@ -65,7 +65,7 @@ unfoldable pub rule_of : List Part → Option RuleView
 rule_of (opening ∷ number ds ∷ semicolon ∷ ps) = option_and_then (λ q. option_map (λ ws. record { quota = q; weights = ws }) (weights_of ps)) (value_of ds)
 rule_of ps = None
 
--- The first byte that is not blank is [ and the next is a digit.
+-- It begins with [ and a digit, but for blanks.
 abbrev pub begins_bracket : List Part → Bool
 begins_bracket (opening ∷ number ds ∷ ps) = true
 begins_bracket ps = false

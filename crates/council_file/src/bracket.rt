@@ -9,7 +9,7 @@ use crate::token::Token;
 use council_game::{Game, GameFault, Rule};
 use std::alloc::{AllocError, Global};
 
-/// The first byte that is not blank is `[` and the next is a digit.
+/// Whether a text is in brackets: it begins with `[` and a digit, but for blanks.
 pub(crate) fn is_bracket(bytes: &[u8]) -> bool
     ensures { result ≡ is_bracket bytes.now }
 {

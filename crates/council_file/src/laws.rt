@@ -2,8 +2,8 @@
 ghost use Rattle.council_game.specs.Game.{GameView, IsGame};
 ghost use Rattle.council_file.specs.Laws.{NotationReadsBack};
 
-/// The notation of a rule of a game is read as the game of one rule with its quota and weights, no
-/// title, and the names 1 to n.
+/// Who reads the notation of a rule of a game gets a game of that rule alone, whose members are named 1,
+/// 2, .. and which has no title.
 pub fn notation_reads_back()
     ensures { (g : GameView) → IsGame g → NotationReadsBack g }
 {}

@@ -4,8 +4,8 @@ ghost use Rattle.council_game.specs.Votes.{has, without, size};
 
 use std::marker::Model;
 
-/// A set of members as a number below 2^40, its rank mask: in a game of n members the binary
-/// digit n - 1 - p says whether the member of rank place p is in. A clause sees the number.
+/// A set of members. It is held as its rank mask, a number of 40 binary digits: among n members, the
+/// member of rank place p is in where digit n - 1 - p is 1. A clause sees the number.
 #[derive(Clone, Copy, Debug, PartialEq, Eq)]
 pub struct Coalition {
     mask: u64,

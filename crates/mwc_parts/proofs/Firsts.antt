@@ -150,7 +150,7 @@ pub first_held : (hs : List ℕ) (w : ℕ) → w < length hs → ((v : ℕ) → 
 first_held hs w l h =
     begins_with w 0 hs w (omega arith) l (λ v b. let o = h v b in omega arith)
 
--- worker w begins with slice w, for each w below both counts
+-- the first slice of worker w is slice w, where there are so many slices and workers
 pub share_begins : {n k : ℕ} {early stopped : Bool} {marks : List (Option ℕ)} (seats : List Seat) → Dealing n k early marks stopped seats → stopped ≡ false → k ≡ length seats → (w : ℕ) → w < k → w < n → (rest : List ℕ) × (get_or (givens seats) w [] ≡ w ∷ rest)
 share_begins seats d z e w a b =
     let o = d.begins z w a b in

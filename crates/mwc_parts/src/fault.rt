@@ -5,8 +5,8 @@ ghost use Rattle.mwc_parts.specs.declared.fault.GatherFault.TheVariants.{Memory}
 use std::alloc::AllocError;
 use thiserror::Error;
 
-/// Why nothing was gathered. Where several hold, Start goes before Memory, Memory before Ring, and
-/// Ring before TooMany.
+/// Why nothing was gathered. Of several causes the one is told that comes first in this order: Start,
+/// Memory, Ring, TooMany.
 #[derive(Clone, Copy, Debug, Eq, Error, PartialEq)]
 pub enum GatherFault {
     /// The game has more minimal winning coalitions than were asked for.

@@ -19,8 +19,8 @@ pub struct Gathered {
 }
 
 impl Gathered {
-    /// The pieces of all parts in the order of their slices: after `gather`, all minimal winning
-    /// coalitions in listing order.
+    /// The coalitions of all parts, slice after slice: after `gather`, all minimal winning coalitions in
+    /// listing order.
     ///
     /// # Errors
     ///

@@ -11,6 +11,6 @@ pub record WalkView : Type 0 where
   pub to_come : List ℕ
   pub visits : ℕ
 
--- how many coalitions were given so far: those of the slice less those to come
+-- how many coalitions of the slice were given: all but those to come
 abbrev pub given : WalkView → ℕ
 given w = length (slice w.votes w.bits w.number) - length w.to_come

@@ -68,9 +68,10 @@ impl<'a> Walk<'a> {
         self.cursor.next(self.game)
     }
 
-    /// How many visits there were: the check of one of the fixed places is one, and so is the
-    /// decision between in and out at a later place; coming back to leave its member out is the same
-    /// visit. The count stays at the greatest number that it can hold.
+    /// How many visits there were. Each fixed place is visited once, when it is checked, and a later place
+    /// each time that the walk comes to it from above to decide whether its member is in; the decision
+    /// to leave the member out after all belongs to that visit. The count stays at the greatest number
+    /// that it can hold.
     ///
     /// It is never below the number of coalitions given. With one rule it is at most `bits` plus,
     /// for each coalition given, the number of places that are not fixed.

@@ -57,7 +57,7 @@ pub record AddUpToOne (pairs : List (ℕ × ℕ)) : Type 0 where
   pub positive : 0 < (pair_sum pairs).1
   pub one : SameFraction (pair_sum pairs) (1, 1)
 
--- the sum of the unit fractions of a list of sizes: (0, 1), and a size s takes (a, b) to (a * s + b, b * s)
+-- the sum of 1 / s over a list of sizes: a / b and 1 / s together are (a * s + b) / (b * s)
 abbrev pub unit_sum : List ℕ → ℕ × ℕ
 unit_sum [] = (0, 1)
 unit_sum (s ∷ ss) = ((unit_sum ss).0 * s + (unit_sum ss).1, (unit_sum ss).1 * s)

@@ -6,14 +6,14 @@ ghost use Rattle.power_index.specs.Fractions.{AddUpToOne, HasLowestTerms};
 ghost use Rattle.power_index.specs.Indices.{deegan_packel, public_good};
 ghost use Rattle.std.specs.Prelude.{ℕ, ◌<◌, List, length, map};
 
-/// Over a list that is not empty and has no empty coalition, the Deegan-Packel indices of a game's
-/// members add up to 1.
+/// The Deegan-Packel indices of a game's members add up to 1, over each list of coalitions that are not
+/// empty, if there is one in it.
 pub fn deegan_packel_adds_up()
     ensures { (g : GameView) (list : List ℕ) → IsGame g → 0 < length list → AreCoalitions g list → AddUpToOne (map (deegan_packel g list) (members g)) }
 {}
 
-/// Over a list that is not empty and has no empty coalition, the public good indices of a game's
-/// members add up to 1.
+/// The public good indices of a game's members add up to 1, over each list of coalitions that are not
+/// empty, if there is one in it.
 pub fn public_good_adds_up()
     ensures { (g : GameView) (list : List ℕ) → IsGame g → 0 < length list → AreCoalitions g list → AddUpToOne (map (public_good g list) (members g)) }
 {}
