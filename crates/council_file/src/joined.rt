@@ -1,5 +1,6 @@
 //! Numbers in a row, put at the end of the bytes that are there.
-ghost use Rattle.std.specs.Prelude.{◌≡◌, ◌++◌, ◌<◌, ℕ, List, OnOk, decimal, length};
+ghost use Rattle.std.specs.Prelude.{◌≡◌, ◌++◌, ◌<◌, ◌≤◌, ℕ, List, OnOk, decimal, length};
+ghost use Rattle.std.specs.Vec.{vec_capacity};
 ghost use Rattle.council_file.specs.Joined.{joined_numbers, GivesEach};
 ghost use Rattle.council_file.specs.Room.{Takes};
 
@@ -24,6 +25,7 @@ pub fn push_joined<F: Fn(usize) -> u64>(
 ) -> Result<(), AllocError>
     requires { (r : ℕ) → r < count → F.pre value r }
     ensures items { (vs : List ℕ) → length vs ≡ count → GivesEach (F.post value) vs → OnOk result (out.new.items ≡ out.old.items ++ joined_numbers separator.now vs) }
+    ensures capacity { vec_capacity out.old ≤ vec_capacity out.new }
     ensures room { (vs : List ℕ) → length vs ≡ count → GivesEach (F.post value) vs → Takes out.old out.new result (joined_numbers separator.now vs) }
 {
     for r in 0..count {

@@ -1,5 +1,6 @@
 //! The notation of a rule.
-ghost use Rattle.std.specs.Prelude.{◌≡◌, ◌<◌, ◌++◌, length, OnOk, OnErr, IfOk};
+ghost use Rattle.std.specs.Prelude.{◌≡◌, ◌<◌, ◌≤◌, ◌++◌, length, OnOk, OnErr, IfOk};
+ghost use Rattle.std.specs.Vec.{vec_capacity};
 ghost use Rattle.council_game.specs.Votes.{rule_at};
 ghost use Rattle.council_file.specs.Notation.{notation};
 
@@ -32,6 +33,7 @@ pub fn write_notation(game: &Game, rule: usize, out: &mut Vec<u8>) -> Result<(),
     requires { rule < length game.now.rules }
     ensures ok { OnOk result (out.new.items ≡ out.old.items ++ notation (rule_at game.now.rules rule)) }
     ensures err { OnErr result (out.new.items ≡ out.old.items) }
+    ensures capacity { vec_capacity out.old ≤ vec_capacity out.new }
 {
     let alloc = *out.allocator();
     let text = notation_of(alloc, game, rule)?;
