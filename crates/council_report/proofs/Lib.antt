@@ -6,3 +6,5 @@ pub mod Telling
 pub mod Rows
 pub mod Turns
 pub mod Wholes
+pub mod Bounds
+pub mod Lasting

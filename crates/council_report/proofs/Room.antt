@@ -19,6 +19,3 @@ pub grows : (f : ℕ → ℕ) → ((k : ℕ) → f k ≤ f (k + 1)) → (k n : �
 grows f more k n le =
     let at : f (k + (n - k)) ≡ f n = ap f (omega (arith, le)) in
     omega (arith, further f more k (n - k), at)
-
-pub room-is : {v w : Vec ℕ Global} → v ≡ w → vec_capacity v ≡ vec_capacity w
-room-is same = ap (λ (v : Vec ℕ Global). vec_capacity v) same

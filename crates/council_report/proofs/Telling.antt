@@ -53,21 +53,6 @@ stopped-next a b x y held n first s = record {
 pub stopped-after : (a b : Told) (x : List ℕ) (held : Option (List ℕ)) (n : ℕ) → Tells a b x → Stopped b held n → StoppedIn a x held n
 stopped-after a b x held n tells stopped = record { front = x; rest = []; at = b; whole = append-nil x; tells = tells; stopped = stopped }
 
--- a growth of the block was refused: the writer holds what it held
-holds-block : (contents : Option (List ℕ)) (bytes : List ℕ) → HoldsBut (option_map (λ held. held ++ bytes) contents) contents (length bytes)
-holds-block None bytes = tt
-holds-block (Some held) bytes =
-    let n : length (held ++ bytes) - length bytes ≡ length held + 0 = omega (arith, length-append held bytes) in
-    sym (append-nil held) ∙ sym (ap (λ (k : ℕ). take k (held ++ bytes)) n ∙ take-append-add held bytes 0)
-
-pub stopped-here : (contents : Option (List ℕ)) (a : Block) → Stopped (told contents a) contents a.written
-stopped-here contents a = record {
-  within = omega arith;
-  holds =
-      let rest : length a.bytes.items ≡ (a.written + length a.bytes.items) - a.written = omega arith in
-      subst (HoldsBut (told contents a).bytes contents) rest (holds-block contents a.bytes.items);
-}
-
 pub tells-nothing : (contents : Option (List ℕ)) (a : Block) → Tells (told contents a) (told contents a) []
 tells-nothing contents a = tells-block contents a a [] refl (sym (append-nil a.bytes.items))
 

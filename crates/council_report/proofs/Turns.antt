@@ -6,7 +6,7 @@ use Rattle.std.proofs.lemmas.List.{take_all, take-append-drop}
 use Rattle.council_report.specs.Told.{Told, told, Tells, Stopped, StoppedIn}
 use Rattle.council_report.specs.declared.output.Block.{Block}
 use Rattle.council_report.proofs.Rows.{rows-more}
-use Rattle.council_report.proofs.Telling.{tells-then, tells-same, tells-block, stopped-after, stopped-first, stopped-here}
+use Rattle.council_report.proofs.Telling.{tells-then, tells-same, tells-block, stopped-after, stopped-first}
 
 -- the texts of the first i of xs were told, and that of one more is in the block
 pub record Turn {X : Type 0} (a : Told) (f : X → List ℕ) (xs : List X) (i : ℕ) (x : X) (contents : Option (List ℕ)) (old new : Block) : Type 0 where
@@ -34,11 +34,6 @@ pub stopped-at : {X : Type 0} (a b : Told) (f : X → List ℕ) (xs : List X) (i
 stopped-at a b f xs i held n tells stopped =
     let Stops : List ℕ → Type 0 = λ t. StoppedIn a t held n in
     subst Stops (rest-told f xs i) (stopped-first a (flat_map f (take i xs)) (flat_map f (drop i xs)) held n (stopped-after a b (flat_map f (take i xs)) held n tells stopped))
-
--- it stopped before a text that had no room
-pub stopped-full : {X : Type 0} (a : Told) (f : X → List ℕ) (xs : List X) (i : ℕ) (contents : Option (List ℕ)) (block : Block) (n : ℕ) → Tells a (told contents block) (flat_map f (take i xs)) → n ≡ block.written → StoppedIn a (flat_map f xs) contents n
-stopped-full a f xs i contents block n tells is =
-    stopped-at a (told contents block) f xs i contents n tells (subst (Stopped (told contents block) contents) (sym is) (stopped-here contents block))
 
 pub all-told : {X : Type 0} (a b : Told) (f : X → List ℕ) (xs : List X) (i : ℕ) → length xs ≤ i → Tells a b (flat_map f (take i xs)) → Tells a b (flat_map f xs)
 all-told a b f xs i le tells = subst (Tells a b) (ap (flat_map f) (take_all i xs le)) tells

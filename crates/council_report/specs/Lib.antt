@@ -1,4 +1,5 @@
 pub mod Lines
 pub mod Told
+pub mod Ready
 pub mod Report
 pub mod Outcome

@@ -1,6 +1,7 @@
 //! The lines before those of the coalitions.
-ghost use Rattle.std.specs.Prelude.{◌≡◌, ◌++◌, ◌<◌, [], length, OnOk, codes, if◌then◌else◌};
+ghost use Rattle.std.specs.Prelude.{◌≡◌, ◌++◌, ◌<◌, ◌≤◌, [], length, OnOk, codes, if◌then◌else◌};
 ghost use Rattle.std.specs.List.{flat_map};
+ghost use Rattle.std.specs.Vec.{vec_capacity};
 ghost use Rattle.council_game.specs.Votes.{rule_at};
 ghost use Rattle.council_file.specs.Notation.{notation};
 ghost use Rattle.council_report.specs.Lines.{tabbed, notation_line};
@@ -15,7 +16,8 @@ use council_game::{Coalition, Game, Memory};
 #[tactic(auto, unfolding(crate::specs::Lines::notation_line))]
 fn push_notation(out: &mut Vec<u8>, game: &Game, rule: usize) -> Result<(), Memory>
     requires { rule < length game.now.rules }
-    ensures { OnOk result (out.new.items ≡ out.old.items ++ notation_line (rule_at game.now.rules rule)) }
+    ensures items { OnOk result (out.new.items ≡ out.old.items ++ notation_line (rule_at game.now.rules rule)) }
+    ensures capacity { vec_capacity out.old ≤ vec_capacity out.new }
 {
     out.extend_from_slice(b"notation\t")?;
     write_notation(game, rule, out)?;
@@ -24,7 +26,8 @@ fn push_notation(out: &mut Vec<u8>, game: &Game, rule: usize) -> Result<(), Memo
 }
 
 fn push_each_notation(out: &mut Vec<u8>, game: &Game) -> Result<(), Memory>
-    ensures { OnOk result (out.new.items ≡ out.old.items ++ flat_map notation_line game.now.rules) }
+    ensures items { OnOk result (out.new.items ≡ out.old.items ++ flat_map notation_line game.now.rules) }
+    ensures capacity { vec_capacity out.old ≤ vec_capacity out.new }
 {
     for rule in 0..game.rules() {
         push_notation(out, game, rule)?;
@@ -34,7 +37,8 @@ fn push_each_notation(out: &mut Vec<u8>, game: &Game) -> Result<(), Memory>
 
 /// A line for the notation of each rule, where they are shown.
 fn push_notations(out: &mut Vec<u8>, game: &Game, shown: Shown) -> Result<(), Memory>
-    ensures { OnOk result (out.new.items ≡ out.old.items ++ notation_lines shown game.now) }
+    ensures items { OnOk result (out.new.items ≡ out.old.items ++ notation_lines shown game.now) }
+    ensures capacity { vec_capacity out.old ≤ vec_capacity out.new }
 {
     if shown.notation {
         push_each_notation(out, game)
@@ -50,7 +54,8 @@ pub(crate) fn push_heading(
     list: &[Coalition],
     shown: Shown,
 ) -> Result<(), Memory>
-    ensures { OnOk result (out.new.items ≡ out.old.items ++ heading shown game.now list.now) }
+    ensures items { OnOk result (out.new.items ≡ out.old.items ++ heading shown game.now list.now) }
+    ensures capacity { vec_capacity out.old ≤ vec_capacity out.new }
 {
     push_title(out, game)?;
     push_members(out, game)?;

@@ -1,6 +1,7 @@
 //! The lines of a report, one function for each kind.
 ghost use Rattle.std.specs.Prelude.{◌≡◌, ◌++◌, ◌^◌, ◌<◌, ◌≤◌, ◌∷◌, [], ℕ, length, OnOk, codes, slice_get, Option, Some, option_map};
 ghost use Rattle.std.specs.List.{flat_map};
+ghost use Rattle.std.specs.Vec.{vec_capacity};
 ghost use Rattle.council_file.specs.Room.{Takes};
 ghost use Rattle.council_report.specs.Lines.{tabbed, slashed, weights_of_coalition, title_line, members_line, quota_line, total_line, minimal_line, coalition_line, name_of, names_of};
 
@@ -20,7 +21,8 @@ pub(crate) fn end_line(out: &mut Vec<u8>) -> Result<(), AllocError>
 /// `title`, the title; no line where there is none.
 #[tactic(auto, unfolding(crate::specs::Lines::title_line))]
 pub(crate) fn push_title(out: &mut Vec<u8>, game: &Game) -> Result<(), AllocError>
-    ensures { OnOk result (out.new.items ≡ out.old.items ++ title_line game.now) }
+    ensures items { OnOk result (out.new.items ≡ out.old.items ++ title_line game.now) }
+    ensures capacity { vec_capacity out.old ≤ vec_capacity out.new }
 {
     let Some(title) = game.title() else {
         return Ok(());
@@ -33,7 +35,8 @@ pub(crate) fn push_title(out: &mut Vec<u8>, game: &Game) -> Result<(), AllocErro
 /// `members`, the number of members.
 #[tactic(auto, unfolding(crate::specs::Lines::members_line))]
 pub(crate) fn push_members(out: &mut Vec<u8>, game: &Game) -> Result<(), AllocError>
-    ensures { OnOk result (out.new.items ≡ out.old.items ++ members_line game.now) }
+    ensures items { OnOk result (out.new.items ≡ out.old.items ++ members_line game.now) }
+    ensures capacity { vec_capacity out.old ≤ vec_capacity out.new }
 {
     out.extend_from_slice(b"members")?;
     push_number(out, game.members() as u64)?;
@@ -43,7 +46,8 @@ pub(crate) fn push_members(out: &mut Vec<u8>, game: &Game) -> Result<(), AllocEr
 /// `quota`, the quota of each rule.
 #[tactic(auto, unfolding(crate::specs::Lines::quota_line))]
 pub(crate) fn push_quota(out: &mut Vec<u8>, game: &Game) -> Result<(), AllocError>
-    ensures { OnOk result (out.new.items ≡ out.old.items ++ quota_line game.now) }
+    ensures items { OnOk result (out.new.items ≡ out.old.items ++ quota_line game.now) }
+    ensures capacity { vec_capacity out.old ≤ vec_capacity out.new }
 {
     out.extend_from_slice(b"quota")?;
     push_values(out, game.rules(), |r| game.rule_quota(r))?;
@@ -53,7 +57,8 @@ pub(crate) fn push_quota(out: &mut Vec<u8>, game: &Game) -> Result<(), AllocErro
 /// `total`, the total of each rule's weights.
 #[tactic(auto, unfolding(crate::specs::Lines::total_line))]
 pub(crate) fn push_total(out: &mut Vec<u8>, game: &Game) -> Result<(), AllocError>
-    ensures { OnOk result (out.new.items ≡ out.old.items ++ total_line game.now) }
+    ensures items { OnOk result (out.new.items ≡ out.old.items ++ total_line game.now) }
+    ensures capacity { vec_capacity out.old ≤ vec_capacity out.new }
 {
     out.extend_from_slice(b"total")?;
     push_values(out, game.rules(), |r| game.rule_total(r))?;
@@ -63,7 +68,8 @@ pub(crate) fn push_total(out: &mut Vec<u8>, game: &Game) -> Result<(), AllocErro
 /// `minimal`, the number of minimal winning coalitions.
 #[tactic(auto, unfolding(crate::specs::Lines::minimal_line))]
 pub(crate) fn push_minimal(out: &mut Vec<u8>, list: &[Coalition]) -> Result<(), AllocError>
-    ensures { OnOk result (out.new.items ≡ out.old.items ++ minimal_line list.now) }
+    ensures items { OnOk result (out.new.items ≡ out.old.items ++ minimal_line list.now) }
+    ensures capacity { vec_capacity out.old ≤ vec_capacity out.new }
 {
     out.extend_from_slice(b"minimal")?;
     push_number(out, list.len() as u64)?;

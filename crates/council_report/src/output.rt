@@ -1,5 +1,6 @@
 //! The block through which a report goes to its writer.
 ghost use Rattle.std.specs.Prelude.{◌≡◌, ◌≤◌, ◌<◌, ◌^◌, ◌+◌, [], ℕ, length, take, IfOk, IfErr, OnOk};
+ghost use Rattle.std.specs.Vec.{vec_capacity};
 ghost use Rattle.std.specs.Io.KnownBytes.{Appends, Keeps};
 
 use std::alloc::{AllocError, Global};
@@ -47,10 +48,12 @@ pub(crate) struct Block {
 
 impl Block {
     ghost use Rattle.council_report.specs.Told.{told, Tells, Stopped, StoppedIn};
+    ghost use Rattle.council_report.specs.Ready.{HasRoom, IsReady};
 
     /// An empty block with all its room.
     pub(crate) fn new(alloc: Global) -> Result<Block, AllocError>
-        ensures { IfOk result (λ block. (block.bytes.items ≡ []) × (block.written ≡ 0)) }
+        ensures empty { IfOk result (λ block. (block.bytes.items ≡ []) × (block.written ≡ 0)) }
+        ensures room { IfOk result HasRoom }
     {
         Ok(Block {
             bytes: Vec::with_capacity(alloc, ROOM)?,
@@ -62,6 +65,7 @@ impl Block {
     fn drain<W: Write>(&mut self, writer: &mut W) -> Result<(), WriteFault>
         ensures ok { OnOk result (Tells (told (W.contents writer.old) self.old) (told (W.contents writer.new) self.new) []) }
         ensures empty { OnOk result (self.new.bytes.items ≡ []) }
+        ensures capacity { vec_capacity self.new.bytes ≡ vec_capacity self.old.bytes }
         ensures err { IfErr result (λ fault. Stopped (told (W.contents writer.old) self.old) (W.contents writer.new) fault.written) }
     {
         let before = self.written;
@@ -80,18 +84,10 @@ impl Block {
         }
     }
 
-    /// Stops before a line that has no room, which no line needs: the writer has what it took before.
-    pub(crate) fn stopped(&self) -> WriteFault
-        ensures { result.written ≡ self.now.written }
-    {
-        WriteFault {
-            written: self.written,
-        }
-    }
-
-    /// Makes room for a line: where the next might not fit, all bytes go to the writer.
+    /// Makes ready for a line: where the next might not fit, all bytes go to the writer.
     pub(crate) fn settle<W: Write>(&mut self, writer: &mut W) -> Result<(), WriteFault>
         ensures ok { OnOk result (Tells (told (W.contents writer.old) self.old) (told (W.contents writer.new) self.new) []) }
+        ensures ready { OnOk result (HasRoom self.old → IsReady self.new) }
         ensures err { IfErr result (λ fault. Stopped (told (W.contents writer.old) self.old) (W.contents writer.new) fault.written) }
     {
         if self.bytes.len() + LINE <= ROOM {

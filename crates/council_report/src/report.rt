@@ -1,10 +1,10 @@
 //! A report, written whole.
-ghost use Rattle.std.specs.Prelude.{◌≡◌, ◌+◌, ◌^◌, ◌<◌, ◌≤◌, ◌++◌, ℕ, [], length, IfOk, IfErr, OnOk};
-ghost use Rattle.std.specs.List.{All};
+ghost use Rattle.std.specs.Prelude.{◌≡◌, ◌+◌, ◌≤◌, ◌++◌, ℕ, [], length, IfOk, IfErr, OnOk};
 ghost use Rattle.std.specs.Io.KnownBytes.{Appends};
 ghost use Rattle.power_index.specs.Counting.{AreCoalitions};
 ghost use Rattle.council_report.specs.Report.{coalition_lines, size_lines, member_lines, lines, report_over};
 ghost use Rattle.council_report.specs.Told.{told, Tells, StoppedIn};
+ghost use Rattle.council_report.specs.Ready.{HasRoom, IsReady};
 ghost use Rattle.council_report.specs.Outcome.{Falls};
 
 use crate::Shown;
@@ -25,8 +25,9 @@ fn put_shown_coalitions<W: Write>(
     listing: &Listing<'_>,
     shown: Shown,
 ) -> Result<(), WriteFault>
-    requires { All (λ c. c < 2 ^ length listing.now.game.now.names) listing.now.list.now }
+    requires { IsReady block.old }
     ensures ok { OnOk result (Tells (told (W.contents writer.old) block.old) (told (W.contents writer.new) block.new) (coalition_lines shown listing.now.game.now listing.now.list.now)) }
+    ensures ready { OnOk result (IsReady block.new) }
     ensures err { IfErr result (λ fault. StoppedIn (told (W.contents writer.old) block.old) (coalition_lines shown listing.now.game.now listing.now.list.now) (W.contents writer.new) fault.written) }
 {
     if shown.list {
@@ -43,7 +44,9 @@ fn put_shown_sizes<W: Write>(
     listing: &Listing<'_>,
     shown: Shown,
 ) -> Result<(), WriteFault>
+    requires { IsReady block.old }
     ensures ok { OnOk result (Tells (told (W.contents writer.old) block.old) (told (W.contents writer.new) block.new) (size_lines shown listing.now.game.now listing.now.list.now)) }
+    ensures ready { OnOk result (IsReady block.new) }
     ensures err { IfErr result (λ fault. StoppedIn (told (W.contents writer.old) block.old) (size_lines shown listing.now.game.now listing.now.list.now) (W.contents writer.new) fault.written) }
 {
     if shown.sizes {
@@ -60,8 +63,9 @@ fn put_lines<W: Write>(
     listing: &Listing<'_>,
     shown: Shown,
 ) -> Result<(), WriteFault>
-    requires { All (λ c. c < 2 ^ length listing.now.game.now.names) listing.now.list.now }
+    requires { IsReady block.old }
     ensures ok { OnOk result (Tells (told (W.contents writer.old) block.old) (told (W.contents writer.new) block.new) (lines shown listing.now.game.now listing.now.list.now)) }
+    ensures ready { OnOk result (IsReady block.new) }
     ensures err { IfErr result (λ fault. StoppedIn (told (W.contents writer.old) block.old) (lines shown listing.now.game.now listing.now.list.now) (W.contents writer.new) fault.written) }
 {
     put_shown_coalitions(block, writer, listing, shown)?;
@@ -76,11 +80,12 @@ fn send<W: Write>(
     listing: &Listing<'_>,
     shown: Shown,
 ) -> Result<u64, WriteFault>
-    requires { All (λ c. c < 2 ^ length listing.now.game.now.names) listing.now.list.now }
+    requires { HasRoom block }
     ensures count { IfOk result (λ count. count ≡ (told (W.contents writer.old) block).count + length (lines shown listing.now.game.now listing.now.list.now)) }
     ensures ok { OnOk result (Appends (told (W.contents writer.old) block).bytes (W.contents writer.new) (lines shown listing.now.game.now listing.now.list.now)) }
     ensures err { IfErr result (λ fault. StoppedIn (told (W.contents writer.old) block) (lines shown listing.now.game.now listing.now.list.now) (W.contents writer.new) fault.written) }
 {
+    block.settle(writer)?;
     put_lines(&mut block, writer, listing, shown)?;
     block.finish(writer)
 }
@@ -108,6 +113,7 @@ pub fn write_report<W: Write>(
     push_heading(&mut block.bytes, game, list, shown)?;
     let listing = Listing {
         game,
+        members: game.members(),
         list,
         counts: Counts::of(game, list),
     };

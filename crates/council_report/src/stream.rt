@@ -1,9 +1,10 @@
 //! The lines of a report on their way to its writer.
-ghost use Rattle.std.specs.Prelude.{◌≡◌, ◌^◌, ◌<◌, ◌≤◌, ℕ, [], length, IfOk, IfErr, OnOk};
-ghost use Rattle.std.specs.List.{All, flat_map, range_with_len};
+ghost use Rattle.std.specs.Prelude.{length, IfErr, OnOk};
+ghost use Rattle.std.specs.List.{flat_map, range_with_len};
 ghost use Rattle.power_index.specs.Counting.{members};
 ghost use Rattle.council_report.specs.Lines.{coalition_line, size_line, member_line};
 ghost use Rattle.council_report.specs.Told.{told, Tells, StoppedIn};
+ghost use Rattle.council_report.specs.Ready.{IsReady};
 
 use crate::indices::{push_member, push_size};
 use crate::lines::push_coalition;
@@ -17,14 +18,15 @@ pub(crate) fn put_coalitions<W: Write>(
     writer: &mut W,
     listing: &Listing<'_>,
 ) -> Result<(), WriteFault>
-    requires { All (λ c. c < 2 ^ length listing.now.game.now.names) listing.now.list.now }
+    requires { IsReady block.old }
     ensures ok { OnOk result (Tells (told (W.contents writer.old) block.old) (told (W.contents writer.new) block.new) (flat_map (coalition_line listing.now.game.now) listing.now.list.now)) }
+    ensures ready { OnOk result (IsReady block.new) }
     ensures err { IfErr result (λ fault. StoppedIn (told (W.contents writer.old) block.old) (flat_map (coalition_line listing.now.game.now) listing.now.list.now) (W.contents writer.new) fault.written) }
 {
     for coalition in listing.list {
         match push_coalition(&mut block.bytes, listing.game, *coalition) {
             Ok(()) => block.settle(writer)?,
-            Err(_) => return Err(block.stopped()),
+            Err(_) => unreachable!(),
         }
     }
     Ok(())
@@ -36,13 +38,15 @@ pub(crate) fn put_sizes<W: Write>(
     writer: &mut W,
     listing: &Listing<'_>,
 ) -> Result<(), WriteFault>
+    requires { IsReady block.old }
     ensures ok { OnOk result (Tells (told (W.contents writer.old) block.old) (told (W.contents writer.new) block.new) (flat_map (size_line listing.now.game.now listing.now.list.now) (range_with_len 1 (length listing.now.game.now.names)))) }
+    ensures ready { OnOk result (IsReady block.new) }
     ensures err { IfErr result (λ fault. StoppedIn (told (W.contents writer.old) block.old) (flat_map (size_line listing.now.game.now listing.now.list.now) (range_with_len 1 (length listing.now.game.now.names))) (W.contents writer.new) fault.written) }
 {
-    for size in 1..listing.game.members() + 1 {
+    for size in 1..listing.members + 1 {
         match push_size(&mut block.bytes, listing, size) {
             Ok(()) => block.settle(writer)?,
-            Err(_) => return Err(block.stopped()),
+            Err(_) => unreachable!(),
         }
     }
     Ok(())
@@ -54,13 +58,15 @@ pub(crate) fn put_members<W: Write>(
     writer: &mut W,
     listing: &Listing<'_>,
 ) -> Result<(), WriteFault>
+    requires { IsReady block.old }
     ensures ok { OnOk result (Tells (told (W.contents writer.old) block.old) (told (W.contents writer.new) block.new) (flat_map (member_line listing.now.game.now listing.now.list.now) (members listing.now.game.now))) }
+    ensures ready { OnOk result (IsReady block.new) }
     ensures err { IfErr result (λ fault. StoppedIn (told (W.contents writer.old) block.old) (flat_map (member_line listing.now.game.now listing.now.list.now) (members listing.now.game.now)) (W.contents writer.new) fault.written) }
 {
-    for member in 0..listing.game.members() {
+    for member in 0..listing.members {
         match push_member(&mut block.bytes, listing, member) {
             Ok(()) => block.settle(writer)?,
-            Err(_) => return Err(block.stopped()),
+            Err(_) => unreachable!(),
         }
     }
     Ok(())

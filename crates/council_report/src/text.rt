@@ -1,5 +1,6 @@
 //! Fields of a line, each put at the end of the bytes that are there.
-ghost use Rattle.std.specs.Prelude.{◌≡◌, ◌++◌, ◌∷◌, ◌<◌, ℕ, List, OnOk, decimal, length};
+ghost use Rattle.std.specs.Prelude.{◌≡◌, ◌++◌, ◌∷◌, ◌<◌, ◌≤◌, ℕ, List, OnOk, decimal, length};
+ghost use Rattle.std.specs.Vec.{vec_capacity};
 ghost use Rattle.council_file.specs.Joined.{GivesEach};
 ghost use Rattle.council_file.specs.Room.{Takes};
 ghost use Rattle.council_report.specs.Lines.{tabbed, slashed};
@@ -33,6 +34,7 @@ pub(crate) fn push_values<F: Fn(usize) -> u64>(
 ) -> Result<(), AllocError>
     requires { (r : ℕ) → r < rules → F.pre value r }
     ensures items { (vs : List ℕ) → length vs ≡ rules → GivesEach (F.post value) vs → OnOk result (out.new.items ≡ out.old.items ++ tabbed (slashed vs)) }
+    ensures capacity { vec_capacity out.old ≤ vec_capacity out.new }
     ensures room { (vs : List ℕ) → length vs ≡ rules → GivesEach (F.post value) vs → Takes out.old out.new result (tabbed (slashed vs)) }
 {
     out.push(b'\t')?;

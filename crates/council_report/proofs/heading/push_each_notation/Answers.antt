@@ -11,11 +11,14 @@ loop-rule-preserved c =
     let rules : List RuleView = c.args.game.now.rules in
     let start : List ℕ = c.args.out.now.items in
     let below : c.loop-rule.rule < length rules = omega (arith, c.loop-rule-test.true, c.rules-rule-end.ensures.count) in
-    rw c.loop-rule.invariant at c.in_ok-push_notation.ensures
-    ∙ put-row notation_line start (take c.loop-rule.rule rules) (rule_at rules c.loop-rule.rule)
-    ∙ ap (λ (rs : List RuleView). start ++ flat_map notation_line rs) (sym (take_more rules c.loop-rule.rule _ below))
+    record {
+      items = rw c.loop-rule.invariant.items at c.in_ok-push_notation.ensures.items
+          ∙ put-row notation_line start (take c.loop-rule.rule rules) (rule_at rules c.loop-rule.rule)
+          ∙ ap (λ (rs : List RuleView). start ++ flat_map notation_line rs) (sym (take_more rules c.loop-rule.rule _ below));
+      capacity = omega (arith, c.loop-rule.invariant.capacity, c.in_ok-push_notation.ensures.capacity);
+    }
 
-pub returns : goal.returns
-returns c =
-    c.loop-rule.invariant
+pub returns-clause-items : goal.returns-clause-items
+returns-clause-items c =
+    c.loop-rule.invariant.items
     ∙ ap (λ (rs : List RuleView). c.args.out.now.items ++ flat_map notation_line rs) (take_all c.loop-rule.rule c.args.game.now.rules (omega (arith, c.loop-rule-test.false, c.rules-rule-end.ensures.count)))

@@ -1,9 +1,8 @@
 use Rattle.std.proofs.Common.{◌≡◌, ℕ, ap, sym, ◌∙◌, refl, arith, length}
 use Rattle.council_game.specs.Votes.{has}
 use Rattle.council_game.specs.Game.{GameView}
-use Rattle.council_file.proofs.Room.{takes-not}
+use Rattle.council_file.proofs.Room.{takes-not, room-is}
 use Rattle.council_report.proofs.Names.{name-in, name-out, name-within, names_before}
-use Rattle.council_report.proofs.Room.{room-is}
 use Rattle.council_report.proofs.lines.push_names.Goals as goal
 use Rattle.council_report.proofs.lines.push_names.Goals.{then-has+in_ok-push_field, else-has}
 

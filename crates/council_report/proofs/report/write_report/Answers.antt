@@ -6,13 +6,13 @@ use Rattle.council_report.proofs.report.write_report.Goals as goal
 pub returns-in-Ok-clause-ok : goal.returns-in-Ok-clause-ok
 returns-in-Ok-clause-ok g c =
     let first : List ℕ = heading c.args.shown c.args.game.now c.args.list.now in
-    let is = c.in_ok-push_heading.ensures ∙ ap (λ (t : List ℕ). t ++ first) c.in_ok-block.ensures.0 in
+    let is = c.in_ok-push_heading.ensures.items ∙ ap (λ (t : List ℕ). t ++ first) c.in_ok-block.ensures.empty.0 in
     appends-whole (g.W.Write.contents c.args.writer.now) (g.W.Write.contents c.send.new.writer) (record { bytes = c.push_heading.new.out; written = c.in_ok-block.block.written })
     first (lines c.args.shown c.args.game.now c.args.list.now) is c.in-Ok.ensures.ok
 
 pub returns-in-Err-clause-err : goal.returns-in-Err-clause-err
 returns-in-Err-clause-err g c =
     let first : List ℕ = heading c.args.shown c.args.game.now c.args.list.now in
-    let is = c.in_ok-push_heading.ensures ∙ ap (λ (t : List ℕ). t ++ first) c.in_ok-block.ensures.0 in
+    let is = c.in_ok-push_heading.ensures.items ∙ ap (λ (t : List ℕ). t ++ first) c.in_ok-block.ensures.empty.0 in
     stopped-whole (g.W.Write.contents c.args.writer.now) (g.W.Write.contents c.send.new.writer) (record { bytes = c.push_heading.new.out; written = c.in_ok-block.block.written })
-    first (lines c.args.shown c.args.game.now c.args.list.now) c.in-Err.fault.written c.in_ok-block.ensures.1 is c.in-Err.ensures.err
+    first (lines c.args.shown c.args.game.now c.args.list.now) c.in-Err.fault.written c.in_ok-block.ensures.empty.1 is c.in-Err.ensures.err

@@ -1,10 +1,11 @@
 use Rattle.std.proofs.Common.{take}
 use Rattle.std.specs.List.{flat_map}
 use Rattle.council_report.specs.Lines.{coalition_line}
-use Rattle.council_report.specs.Told.{told, Tells}
+use Rattle.council_report.specs.Told.{told}
+use Rattle.council_report.proofs.Lasting.{Lasts}
 use Rattle.council_report.proofs.stream.put_coalitions.Given as goal
 
 abbrev pub invariant-loop-coalition : goal.invariant-loop-coalition
 invariant-loop-coalition g l =
-    Tells (told (g.W.Write.contents l.initial.writer) l.initial.block) (told (g.W.Write.contents l.writer) l.block)
+    Lasts (told (g.W.Write.contents l.initial.writer) l.initial.block) (g.W.Write.contents l.writer) l.block
     (flat_map (coalition_line l.listing.game.now) (take l.coalition-index l.listing.list.now))

@@ -2,10 +2,11 @@ use Rattle.std.specs.List.{flat_map}
 use Rattle.std.proofs.Common.{take}
 use Rattle.power_index.specs.Counting.{members}
 use Rattle.council_report.specs.Lines.{member_line}
-use Rattle.council_report.specs.Told.{told, Tells}
+use Rattle.council_report.specs.Told.{told}
+use Rattle.council_report.proofs.Lasting.{Lasts}
 use Rattle.council_report.proofs.stream.put_members.Given as goal
 
 abbrev pub invariant-loop-member : goal.invariant-loop-member
 invariant-loop-member g l =
-    Tells (told (g.W.Write.contents l.initial.writer) l.initial.block) (told (g.W.Write.contents l.writer) l.block)
+    Lasts (told (g.W.Write.contents l.initial.writer) l.initial.block) (g.W.Write.contents l.writer) l.block
     (flat_map (member_line l.listing.game.now l.listing.list.now) (take l.member (members l.listing.game.now)))

@@ -1,10 +1,11 @@
 use Rattle.std.specs.List.{flat_map, range_with_len}
 use Rattle.std.proofs.Common.{◌-◌, take, length}
 use Rattle.council_report.specs.Lines.{size_line}
-use Rattle.council_report.specs.Told.{told, Tells}
+use Rattle.council_report.specs.Told.{told}
+use Rattle.council_report.proofs.Lasting.{Lasts}
 use Rattle.council_report.proofs.stream.put_sizes.Given as goal
 
 abbrev pub invariant-loop-size : goal.invariant-loop-size
 invariant-loop-size g l =
-    Tells (told (g.W.Write.contents l.initial.writer) l.initial.block) (told (g.W.Write.contents l.writer) l.block)
+    Lasts (told (g.W.Write.contents l.initial.writer) l.initial.block) (g.W.Write.contents l.writer) l.block
     (flat_map (size_line l.listing.game.now l.listing.list.now) (take (l.size - 1) (range_with_len 1 (length l.listing.game.now.names))))
