@@ -6,5 +6,4 @@ pub mod Telling
 pub mod Rows
 pub mod Turns
 pub mod Wholes
-pub mod Bounds
 pub mod Lasting

@@ -12,14 +12,15 @@ const ROOM: usize = 65_536;
 /// The bytes that are kept free for the next line, which is no longer.
 const LINE: usize = 4_096;
 
-/// A write or the flush failed after the writer had taken so many bytes.
+/// A write or the flush failed.
 #[derive(Clone, Copy, Debug, PartialEq, Eq)]
 pub struct WriteFault {
+    /// How many bytes the writer had taken.
     pub written: u64,
 }
 
-/// Hands the bytes to the writer. A write that takes a part is followed by one for the rest; one that
-/// fails, for whatever cause, or takes nothing is the end.
+/// Hands the bytes to the writer, and asks it again for those that are left where it takes fewer. A
+/// write that takes none or fails, whatever the cause, is the end.
 fn write_whole<W: Write>(writer: &mut W, bytes: &[u8]) -> Result<(), WriteFault>
     ensures ok { OnOk result (Appends (W.contents writer.old) (W.contents writer.new) bytes.now) }
     ensures within { IfErr result (λ fault. fault.written ≤ length bytes.now) }

@@ -93,8 +93,12 @@ fn send<W: Write>(
 /// Writes the report of a game over a list of 1 to 4,000,000 of its coalitions, none of them empty, and
 /// flushes once. The answer is the number of bytes.
 ///
-/// All that takes memory is done before the first byte is written, so that after `Memory` nothing was
-/// written. `Write` tells how many bytes the writer took: the first ones of the report, and no others.
+/// No byte goes out before all memory is there.
+///
+/// # Errors
+///
+/// Memory where a growth was refused; nothing was written then. Write where a write or the flush failed,
+/// or a write took nothing; it tells how many bytes the writer took, which are the first ones of the report.
 pub fn write_report<W: Write>(
     alloc: Global,
     game: &Game,

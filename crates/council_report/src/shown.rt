@@ -1,3 +1,5 @@
+//! Which lines a report shows.
+
 /// Which lines a report shows beside those that each report has.
 #[derive(Clone, Copy, Debug, PartialEq, Eq)]
 pub struct Shown {

@@ -30,7 +30,7 @@ loop-member-preserved g c =
 pub unreachable-requires : goal.unreachable-requires
 unreachable-requires g c =
     let game : GameView = c.args.listing.now.game.now in
-    ready-takes c.loop-member.invariant.ready c.in-Err.ensures.room (member-fits game c.args.listing.now.is_game c.args.listing.now.list.now c.args.listing.now.some c.args.listing.now.few c.args.listing.now.coalitions c.loop-member.member (omega (arith, c.loop-member-test.true, c.args.listing.now.all_members)))
+    ready-takes c.loop-member.invariant.ready c.in-Err.ensures.room (member-fits game c.args.listing.now.is_game c.args.listing.now.list.now c.args.listing.now.some c.args.listing.now.few c.loop-member.member (omega (arith, c.loop-member-test.true, c.args.listing.now.all_members)))
 
 pub returns-in_err-settle-in-Ok-clause-err : goal.returns-in_err-settle-in-Ok-clause-err
 returns-in_err-settle-in-Ok-clause-err g c =
