@@ -1,6 +1,6 @@
 //! A run: from the bytes of a game to its report.
-ghost use Rattle.std.specs.Prelude.{◌≡◌, ◌<◌, ◌≤◌, length, IfOk, IfErr, MatchResult};
-ghost use Rattle.council.specs.Run.{Ends, Reports, Stops};
+ghost use Rattle.std.specs.Prelude.{◌<◌, IfOk, IfErr};
+ghost use Rattle.council.specs.Run.{Reports, Stops};
 ghost use Rattle.council.specs.Listed.{IsListed, IsUnlisted};
 
 use crate::fault::{Cause, RunFault};

@@ -1,10 +1,10 @@
 -- The weights of a bracket text, from its front.
-use Rattle.std.proofs.Common.{◌≡◌, ℕ, List, [], ◌∷◌, ◌++◌, Option, Some, None, option_map, option_and_then, ◌≢◌, false, refl, sym, ap, ◌∙◌, append_assoc}
+use Rattle.std.proofs.Common.{◌≡◌, ℕ, List, [], ◌∷◌, ◌++◌, Option, Some, None, option_map, option_and_then, ◌≢◌, refl, sym, ap, ◌∙◌, append_assoc}
 use Rattle.council_game.specs.Votes.{RuleView}
 use Rattle.council_file.specs.declared.token.Token.{Token}
 use Rattle.council_file.specs.declared.token.Token.TheVariants.{Number, Opening, Closing, Comma, Semicolon, Other}
-use Rattle.council_file.specs.Bracket.{Part, number, opening, closing, comma, semicolon, other, value_of, before, weights_of, rule_of, begins_bracket}
-use Rattle.council_file.specs.Scan.{part, first_number, after_opening, after_semicolon, begins_with_number}
+use Rattle.council_file.specs.Bracket.{Part, number, opening, closing, comma, semicolon, other, value_of, before, weights_of, rule_of}
+use Rattle.council_file.specs.Scan.{part, first_number, after_opening, after_semicolon}
 
 -- a weight, and the weights behind it
 abbrev pub behind : ℕ → List Part → Option (List ℕ)

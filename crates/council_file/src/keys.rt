@@ -1,5 +1,5 @@
 //! The keys that a file may have.
-ghost use Rattle.std.specs.Prelude.{◌≡◌, nat_eq, not, map, string_bytes, false};
+ghost use Rattle.std.specs.Prelude.{◌≡◌, nat_eq, not, string_bytes, false};
 ghost use Rattle.std.specs.Option.{option_map_or};
 ghost use Rattle.std.specs.List.{list_any};
 ghost use Rattle.std.specs.Map.{keys_of};

@@ -1,11 +1,10 @@
 //! The parts of a game in a tree, and the checks of their form.
-ghost use Rattle.std.specs.Prelude.{◌≡◌, ◌-◌, ◌^◌, ◌==◌, Bool, Option, Some, Ok, Err, option_map, length, map, is_some, is_none, not, true, false, [], nat_le, ◌&&◌, ◌||◌, option_and_then, slice_get, codes, if◌then◌else◌, IfOk, string_bytes, ◌∷◌};
+ghost use Rattle.std.specs.Prelude.{◌≡◌, ◌-◌, ◌==◌, Option, Some, Ok, Err, option_map, map, is_some, not, [], ◌&&◌, ◌||◌, slice_get, codes, IfOk, string_bytes, ◌∷◌};
 ghost use Rattle.std.specs.List.{list_any, list_all, range_with_len};
-ghost use Rattle.std.specs.Option.{option_map_or};
-ghost use Rattle.toml.specs.Data.{get_member, get, as_array, as_integer, as_table, as_str};
+ghost use Rattle.toml.specs.Data.{get, as_integer, as_table, as_str};
 ghost use Rattle.toml.specs.View.{view, table_view};
 ghost use Rattle.council_game.specs.Fault.{Gives};
-ghost use Rattle.council_file.specs.File.{elements, elements_at, member_list, has_unknown_key, title_from, title_of, are_quotas, has, elements_of, breaks_rules, lacks_quota, are_members, name_of, whole_quota, whole_weight, weight_from, quota_from, only_weight, weight_under, only_rule, rule_at, rules_of};
+ghost use Rattle.council_file.specs.File.{elements_at, member_list, has_unknown_key, title_from, title_of, are_quotas, has, elements_of, breaks_rules, lacks_quota, are_members, name_of, weight_from, quota_from, only_weight, weight_under, only_rule, rule_at, rules_of};
 ghost use Rattle.council_game.specs.Rules.{rule_view, rule_views};
 
 use crate::keys::{any_odd_member, has_other_top_key};

@@ -1,6 +1,6 @@
 //! The bytes of a reader, and their game.
-ghost use Rattle.std.specs.Prelude.{◌≡◌, ◌≢◌, ◌≤◌, ◌<◌, ℕ, List, length, IfOk, IfErr, MatchResult, Ok};
-ghost use Rattle.std.specs.Io.KnownBytes.{Consumes, IsAtEnd};
+ghost use Rattle.std.specs.Prelude.{◌≡◌, ◌≤◌, ◌<◌, ℕ, List, IfOk, IfErr, MatchResult, Ok};
+ghost use Rattle.std.specs.Io.KnownBytes.{IsAtEnd};
 ghost use Rattle.council_file.specs.File.{game_of};
 ghost use Rattle.council_file.specs.Reads.{GrewBy, Gave, FailsSo, IsStop};
 

@@ -1,8 +1,7 @@
 //! What stands in a tree of toml.
-ghost use Rattle.std.specs.Prelude.{◌≡◌, Ok, Err, option_map, length, map, is_some, true, []};
-ghost use Rattle.std.specs.Option.{option_map_or};
+ghost use Rattle.std.specs.Prelude.{◌≡◌, Ok, Err, option_map, map, is_some, []};
 ghost use Rattle.std.specs.List.{list_any};
-ghost use Rattle.toml.specs.Data.{get_member, get, as_array};
+ghost use Rattle.toml.specs.Data.{get_member, get};
 ghost use Rattle.toml.specs.View.{view, table_view};
 ghost use Rattle.council_game.specs.Fault.{Gives};
 ghost use Rattle.council_file.specs.File.{tree_of, elements_at, elements_of, has};

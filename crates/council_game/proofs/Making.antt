@@ -8,7 +8,7 @@ use Rattle.std.proofs.lemmas.List.Sums.{position_or_len_is}
 use Rattle.std.proofs.lemmas.List.Sorted.{All-permutation}
 use Rattle.std.proofs.lemmas.Bool.{ne_eqb, eq-eqb, ltb-false, or_parts}
 use Rattle.council_game.specs.declared.rule.Rule.{Rule}
-use Rattle.council_game.specs.Votes.{RuleView, IsVotes, rule_at}
+use Rattle.council_game.specs.Votes.{RuleView, IsVotes}
 use Rattle.council_game.specs.Weighing.{votes}
 use Rattle.council_game.specs.Ranks.{places, place_in, member_at, rank_place, rank_places, members_by_rank, rule_along, rule_by_rank}
 use Rattle.council_game.specs.Rules.{rule_view, rule_views}
@@ -18,7 +18,7 @@ use Rattle.council_game.proofs.RuleLists.{All_map, held_full}
 use Rattle.council_game.proofs.Lists.{length_map as map_length}
 use Rattle.council_game.proofs.Rankings.{IsRanking, ranking-member_at, ranking-below, ranking-is, ranking-length, rank-of, rank_places-at, length-rank_places, place-found, places-at, places-below}
 use Rattle.council_game.proofs.Order.{ranking}
-use Rattle.council_game.proofs.GameTests.{held-rule, rule-at}
+use Rattle.council_game.proofs.GameTests.{held-rule}
 use Rattle.council_game.proofs.Games.{passed, votes-are, first-full, light-weights, light-sum}
 
 -- the place of each member in a ranking is its rank place

@@ -1,10 +1,9 @@
 -- Laws of games: monotone weights, minimal coalitions.
-use Rattle.std.proofs.Common.{◌≡◌, ℕ, zero, suc, ◌-◌, ◌*◌, ◌/◌, ◌%◌, ◌^◌, ◌<◌, ◌≤◌, true, false, not, ◌||◌, leb, List, [], ◌∷◌, length, refl, sym, ap, ◌∙◌, arith, inl, inr}
-use Rattle.std.specs.List.{AllByRecursion}
+use Rattle.std.proofs.Common.{◌≡◌, ℕ, zero, suc, ◌-◌, ◌*◌, ◌/◌, ◌%◌, ◌^◌, ◌<◌, ◌≤◌, true, false, not, ◌||◌, List, [], ◌∷◌, length, refl, sym, ap, ◌∙◌, arith, inl, inr}
 use Rattle.std.proofs.lemmas.Nat.{mul-le, pow_pos}
-use Rattle.std.proofs.lemmas.Bool.{and_parts, and_from, le-leb, leb-true, eqb-true, cases_Bool, cases_lt, both_ways, and_cases, or_parts, not-false}
+use Rattle.std.proofs.lemmas.Bool.{and_from, eqb-true, cases_Bool, cases_lt, both_ways, and_cases, or_parts, not-false}
 use Rattle.std.proofs.lemmas.Nat.Bits.{bit_at-zero}
-use Rattle.council_game.specs.Votes.{RuleView, Votes, IsRule, has, without, weight, wins, each_needed, minimal}
+use Rattle.council_game.specs.Votes.{Votes, has, without, weight, wins, each_needed, minimal}
 
 -- fewer members weigh no more
 pub weight-mono : (ws : List ℕ) (a c : ℕ) → ((i : ℕ) → i < length ws → a / 2 ^ i % 2 ≤ c / 2 ^ i % 2) → weight ws a ≤ weight ws c

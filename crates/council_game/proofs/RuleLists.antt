@@ -1,7 +1,6 @@
 -- The rules of a game as records, and as the code holds them.
-use Rattle.std.proofs.Common.{◌≡◌, ℕ, ◌<◌, zero, suc, List, [], ◌∷◌, length, get_or, map, refl, arith, All}
+use Rattle.std.proofs.Common.{◌≡◌, ℕ, zero, suc, List, [], ◌∷◌, length, map, arith, All}
 use Rattle.council_game.specs.declared.rule.Rule.{Rule}
-use Rattle.council_game.specs.Game.{first_weights}
 use Rattle.council_game.specs.Rules.{rule_view, rule_views}
 use Rattle.council_game.proofs.Lists.{length_map, get_or_map}
 

@@ -1,12 +1,12 @@
 -- The size of a coalition by its binary digits.
-use Rattle.std.proofs.Common.{◌≡◌, ℕ, zero, suc, ◌+◌, ◌-◌, ◌*◌, ◌/◌, ◌%◌, ◌^◌, ◌<◌, ◌≤◌, cond, eqb, List, ◌∷◌, length, refl, sym, ap, ◌∙◌, arith, inl, inr, count_ones, filter, true, pow_mono, add-one}
+use Rattle.std.proofs.Common.{◌≡◌, ℕ, zero, suc, ◌+◌, ◌-◌, ◌*◌, ◌/◌, ◌%◌, ◌^◌, ◌<◌, ◌≤◌, List, ◌∷◌, length, refl, sym, ap, ◌∙◌, arith, inl, inr, count_ones, filter, true, pow_mono}
 use Rattle.std.specs.List.{range_with_len}
 use Rattle.std.proofs.lemmas.Nat.{ones_cat, ones-le, mod-pow-add}
 use Rattle.std.specs.Int.Count.{ones-ones}
 use Rattle.std.proofs.Math.Nat.{mod-eq_of_lt, mod-lt, div-mul-le_self, mul-le-mul_right}
 use Rattle.std.proofs.lemmas.Nat.{pow_pos}
 use Rattle.std.proofs.lemmas.Bool.{cases_Bool, cond-true, cond-false, eqb-true, eq-eqb, both_ways}
-use Rattle.council_game.specs.Votes.{has, size, places_of}
+use Rattle.council_game.specs.Votes.{has, size}
 
 bit-ones : (b : ℕ) → b < 2 → count_ones b ≡ b
 bit-ones zero h = let le = ones-le 0 0 (omega arith) in omega arith

@@ -1,5 +1,5 @@
 //! The checks of a game, in their order.
-ghost use Rattle.std.specs.Prelude.{◌≡◌, ◌≤◌, ◌<◌, ◌^◌, length, map, not, string_bytes, sum, take, min, ◌-◌, position, nat_eq, nat_lt, slice_index, IfSome};
+ghost use Rattle.std.specs.Prelude.{◌≡◌, ◌≤◌, ◌<◌, ◌^◌, length, map, not, string_bytes, sum, min, ◌-◌, position, nat_eq, nat_lt, slice_index, IfSome};
 ghost use Rattle.std.specs.List.{list_any, range_with_len};
 ghost use Rattle.std.specs.Cmp.Lexicographic.{pointwise};
 ghost use Rattle.council_game.specs.Game.{is_plain, is_title, is_name, is_repeat, check_names, check_repeats, check_weights, is_heavy, has_bad_quota};

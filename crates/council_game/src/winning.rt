@@ -1,7 +1,7 @@
 //! Whether a coalition wins, and whether it is minimal.
-ghost use Rattle.std.specs.Prelude.{◌≡◌, ◌+◌, ◌-◌, ◌^◌, ◌<◌, ◌≤◌, ℕ, length, slice_index, sum, true};
-ghost use Rattle.council_game.specs.Votes.{IsVotes, rule_at, weight, has, without, wins, minimal};
-ghost use Rattle.council_game.specs.Rules.{rule_view, rule_views};
+ghost use Rattle.std.specs.Prelude.{◌≡◌, ◌+◌, ◌-◌, ◌<◌, ◌≤◌, length, sum, true};
+ghost use Rattle.council_game.specs.Votes.{IsVotes, weight, has, without, wins, minimal};
+ghost use Rattle.council_game.specs.Rules.{rule_views};
 ghost use Rattle.council_game.specs.Weighing.{votes, IsWeighed};
 
 use crate::Rule;

@@ -1,6 +1,6 @@
 -- No line of coalitions, sizes or members is longer than the room that a block keeps for it.
 use Rattle.std.proofs.Common.{◌≡◌, ℕ, ◌+◌, ◌*◌, ◌^◌, ◌<◌, ◌≤◌, ◌++◌, List, [], ◌∷◌, length, get_or, map, codes, decimal, Bool, true, false, cond, ◌==◌, ◌&&◌, arith, length-append}
-use Rattle.std.specs.List.{AllByRecursion, flat_map, filter, range_with_len}
+use Rattle.std.specs.List.{AllByRecursion, flat_map, filter}
 use Rattle.std.proofs.lemmas.Fmt.{length-decimal-le, length-decimal-le_wide}
 use Rattle.std.proofs.lemmas.List.{length-map}
 use Rattle.std.proofs.lemmas.List.FromFn.{length-range_with_len}
@@ -9,7 +9,6 @@ use Rattle.council_game.specs.Ranks.{member_at}
 use Rattle.council_game.specs.Game.{GameView, IsGame, votes_of}
 use Rattle.council_game.proofs.Games.{names-fit, votes-are, light-weights}
 use Rattle.council_game.proofs.Weights.{weight-le}
-use Rattle.council_file.specs.Joined.{joined, joined_numbers}
 use Rattle.power_index.specs.Counting.{members, contains, size_of, count_of_size, count_of_member_size}
 use Rattle.power_index.specs.Fractions.{lowest_terms}
 use Rattle.power_index.specs.Indices.{deegan_packel, public_good}

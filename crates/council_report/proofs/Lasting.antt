@@ -1,9 +1,9 @@
 -- Lines told one after another, through a block that stays ready.
-use Rattle.std.proofs.Common.{◌≤◌, ℕ, List, length, Option, Result, Err, Vec, arith}
+use Rattle.std.proofs.Common.{◌≤◌, ℕ, List, length, Option, Err, Vec, arith}
 use Rattle.std.specs.Global.{Global}
 use Rattle.council_file.specs.Room.{Takes}
 use Rattle.council_report.specs.Told.{Told, told, Tells}
-use Rattle.council_report.specs.Ready.{HasRoom, IsReady}
+use Rattle.council_report.specs.Ready.{IsReady}
 use Rattle.council_report.specs.declared.output.Block.{Block}
 
 -- a text was told, and the block is ready for a line

@@ -1,10 +1,9 @@
 -- Texts told one after another, and where one stops.
-use Rattle.std.proofs.Common.{◌≡◌, ◌≤◌, ◌+◌, ◌-◌, ◌++◌, ℕ, List, [], ◌∷◌, length, take, Option, Some, None, Result, Ok, Err, IfErr, option_map, refl, sym, ap, ◌∙◌, arith, append_assoc, length-append, subst}
+use Rattle.std.proofs.Common.{◌≡◌, ◌++◌, ℕ, List, [], length, Option, Some, None, Result, Ok, Err, IfErr, option_map, refl, sym, ap, ◌∙◌, arith, append_assoc, length-append, subst}
 use Rattle.std.specs.Io.KnownBytes.{Appends}
 use Rattle.std.proofs.KnownBytes.{Appends-trans}
-use Rattle.std.proofs.Math.Seq.{take-append-add}
-use Rattle.std.proofs.lemmas.List.{append-nil, take-append-le}
-use Rattle.council_report.specs.Told.{Told, told, Tells, HoldsBut, Stopped, StoppedIn}
+use Rattle.std.proofs.lemmas.List.{append-nil}
+use Rattle.council_report.specs.Told.{Told, told, Tells, Stopped, StoppedIn}
 use Rattle.council_report.specs.declared.output.Block.{Block}
 
 pub tells-then : (a b c : Told) (x y : List ℕ) → Tells a b x → Tells b c y → Tells a c (x ++ y)

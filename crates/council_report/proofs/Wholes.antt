@@ -1,10 +1,10 @@
 -- A report as a heading and the lines after it.
-use Rattle.std.proofs.Common.{◌≡◌, ◌≤◌, ◌+◌, ◌-◌, ◌++◌, ℕ, List, [], length, take, Option, Some, None, option_map, refl, sym, ap, ◌∙◌, arith, append_assoc, length-append, subst}
-use Rattle.std.specs.Io.KnownBytes.{Appends, Keeps}
+use Rattle.std.proofs.Common.{◌≡◌, ◌≤◌, ◌+◌, ◌-◌, ◌++◌, ℕ, List, length, take, Option, Some, None, option_map, refl, sym, ap, ◌∙◌, arith, append_assoc, length-append, subst}
+use Rattle.std.specs.Io.KnownBytes.{Appends}
 use Rattle.std.proofs.KnownBytes.{Appends-trans}
 use Rattle.std.proofs.Math.Seq.{take-append-add}
 use Rattle.std.proofs.lemmas.List.{take-append-le}
-use Rattle.council_report.specs.Told.{Told, told, Tells, HoldsBut, Stopped, StoppedIn}
+use Rattle.council_report.specs.Told.{told, HoldsBut, StoppedIn}
 use Rattle.council_report.specs.declared.output.Block.{Block}
 
 -- the block held the heading, and the writer what it held before

@@ -1,10 +1,10 @@
 //! The lines before those of the coalitions.
-ghost use Rattle.std.specs.Prelude.{◌≡◌, ◌++◌, ◌<◌, ◌≤◌, [], length, OnOk, codes, if◌then◌else◌};
+ghost use Rattle.std.specs.Prelude.{◌≡◌, ◌++◌, ◌<◌, ◌≤◌, length, OnOk};
 ghost use Rattle.std.specs.List.{flat_map};
 ghost use Rattle.std.specs.Vec.{vec_capacity};
 ghost use Rattle.council_game.specs.Votes.{rule_at};
 ghost use Rattle.council_file.specs.Notation.{notation};
-ghost use Rattle.council_report.specs.Lines.{tabbed, notation_line};
+ghost use Rattle.council_report.specs.Lines.{notation_line};
 ghost use Rattle.council_report.specs.Report.{heading, notation_lines};
 
 use crate::Shown;

@@ -1,5 +1,5 @@
 //! The lines of sizes and of members.
-ghost use Rattle.std.specs.Prelude.{◌≡◌, ◌++◌, ◌<◌, ◌≤◌, ◌^◌, ◌∷◌, [], ℕ, length, map, OnOk, codes, decimal};
+ghost use Rattle.std.specs.Prelude.{◌≡◌, ◌++◌, ◌<◌, ◌≤◌, ◌^◌, ◌∷◌, length, map, OnOk, decimal};
 ghost use Rattle.std.specs.List.{flat_map};
 ghost use Rattle.power_index.specs.Counting.{members, count_of_member, count_of_member_size};
 ghost use Rattle.power_index.specs.Indices.{deegan_packel, public_good};

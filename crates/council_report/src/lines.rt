@@ -1,9 +1,9 @@
 //! The lines of a report, one function for each kind.
-ghost use Rattle.std.specs.Prelude.{◌≡◌, ◌++◌, ◌^◌, ◌<◌, ◌≤◌, ◌∷◌, [], ℕ, length, OnOk, codes, slice_get, Option, Some, option_map};
+ghost use Rattle.std.specs.Prelude.{◌≡◌, ◌++◌, ◌^◌, ◌<◌, ◌≤◌, ◌∷◌, [], length, OnOk, Some};
 ghost use Rattle.std.specs.List.{flat_map};
 ghost use Rattle.std.specs.Vec.{vec_capacity};
 ghost use Rattle.council_file.specs.Room.{Takes};
-ghost use Rattle.council_report.specs.Lines.{tabbed, slashed, weights_of_coalition, title_line, members_line, quota_line, total_line, minimal_line, coalition_line, name_of, names_of};
+ghost use Rattle.council_report.specs.Lines.{tabbed, slashed, weights_of_coalition, title_line, members_line, quota_line, total_line, minimal_line, coalition_line, names_of};
 
 use crate::text::{push_field, push_number, push_values};
 use council_game::{Coalition, Game};

@@ -1,5 +1,5 @@
 //! The block through which a report goes to its writer.
-ghost use Rattle.std.specs.Prelude.{◌≡◌, ◌≤◌, ◌<◌, ◌^◌, ◌+◌, [], ℕ, length, take, IfOk, IfErr, OnOk};
+ghost use Rattle.std.specs.Prelude.{◌≡◌, ◌≤◌, ◌<◌, ◌+◌, [], length, take, IfOk, IfErr, OnOk};
 ghost use Rattle.std.specs.Vec.{vec_capacity};
 ghost use Rattle.std.specs.Io.KnownBytes.{Appends, Keeps};
 
@@ -48,7 +48,7 @@ pub(crate) struct Block {
 }
 
 impl Block {
-    ghost use Rattle.council_report.specs.Told.{told, Tells, Stopped, StoppedIn};
+    ghost use Rattle.council_report.specs.Told.{told, Tells, Stopped};
     ghost use Rattle.council_report.specs.Ready.{HasRoom, IsReady};
 
     /// An empty block with all its room.

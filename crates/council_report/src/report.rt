@@ -1,8 +1,8 @@
 //! A report, written whole.
-ghost use Rattle.std.specs.Prelude.{◌≡◌, ◌+◌, ◌≤◌, ◌++◌, ℕ, [], length, IfOk, IfErr, OnOk};
+ghost use Rattle.std.specs.Prelude.{◌≡◌, ◌+◌, ◌≤◌, length, IfOk, IfErr, OnOk};
 ghost use Rattle.std.specs.Io.KnownBytes.{Appends};
 ghost use Rattle.power_index.specs.Counting.{AreCoalitions};
-ghost use Rattle.council_report.specs.Report.{coalition_lines, size_lines, member_lines, lines, report_over};
+ghost use Rattle.council_report.specs.Report.{coalition_lines, size_lines, lines, report_over};
 ghost use Rattle.council_report.specs.Told.{told, Tells, StoppedIn};
 ghost use Rattle.council_report.specs.Ready.{HasRoom, IsReady};
 ghost use Rattle.council_report.specs.Outcome.{Falls};

@@ -1,5 +1,5 @@
 //! Workers that run beside each other.
-ghost use Rattle.std.specs.Prelude.{◌≡◌, ◌<◌, ◌≤◌, ◌^◌, [], All, None, false, IfOk, length, vec_len};
+ghost use Rattle.std.specs.Prelude.{◌≡◌, ◌<◌, ◌≤◌, [], All, None, false, IfOk, length, vec_len};
 ghost use Rattle.std.specs.List.{AllZip};
 ghost use Rattle.council_game.specs.Votes.{minimal_coalitions};
 ghost use Rattle.council_game.specs.Game.{votes_of};

@@ -2,7 +2,7 @@
 use Rattle.std.specs.Prelude.{◌≡◌, ◌⊎◌, ℕ, zero, suc, ◌+◌, ◌<◌, Bool, true, false, List, [], ◌∷◌, ◌++◌, Option, Some, None, IsSome, length, map, replicate, All, refl}
 use Rattle.std.specs.List.{range_with_len}
 use Rattle.std.proofs.Common.{set, get_or, ap, subst, arith, sym, ◌∙◌, inl, inr}
-use Rattle.std.proofs.lemmas.List.{length-set, length-map, length-replicate, length-append, get_or_append_left, map-set}
+use Rattle.std.proofs.lemmas.List.{length-set, length-map, length-append, get_or_append_left, map-set}
 use Rattle.std.proofs.lemmas.Bool.{false≢true}
 use Rattle.std.proofs.lemmas.List.Elements.{All-head, All-tail, All-cons, All-weaker, All-set, All-push}
 use Rattle.mwc_parts.specs.Table.{IsFirstFree}

@@ -1,10 +1,10 @@
 -- What is left of a slice, at a place of the walk.
-use Rattle.std.proofs.Common.{◌≡◌, ℕ, zero, suc, ◌+◌, ◌-◌, ◌*◌, ◌/◌, ◌%◌, ◌^◌, ◌<◌, ◌≤◌, Bool, true, false, not, ◌||◌, eqb, List, [], ◌∷◌, sym, ap, ◌∙◌, subst, arith, inl, inr, cond}
+use Rattle.std.proofs.Common.{◌≡◌, ℕ, zero, suc, ◌+◌, ◌-◌, ◌*◌, ◌/◌, ◌%◌, ◌^◌, ◌<◌, ◌≤◌, Bool, true, false, eqb, List, [], ◌∷◌, sym, ap, ◌∙◌, subst, arith, inl, inr, cond}
 use Rattle.std.specs.List.{filter}
 use Rattle.std.proofs.lemmas.Nat.Bits.{bit_at_cat_low}
 use Rattle.std.proofs.lemmas.Nat.{div-mul-add, pow_pos, pow-add, mul-le}
 use Rattle.std.proofs.Math.Nat.{lt-div-mul-add, div-mul-le_self}
-use Rattle.std.proofs.lemmas.Bool.{cases_lt, cases_Bool, and_left, and_parts, eq-eqb, ne_eqb, cond-false, cond-true, false_from_ne_true, or_cases, not-true, both_ways}
+use Rattle.std.proofs.lemmas.Bool.{cases_Bool, and_left, and_parts, eq-eqb, ne_eqb, cond-false, cond-true, false_from_ne_true, both_ways}
 use Rattle.council_game.specs.Votes.{Votes, IsVotes, has, without, wins, each_needed, minimal, down, minimal_below, minimal_coalitions}
 use Rattle.council_game.proofs.GameTests.{needed-at}
 use Rattle.mwc_walk.specs.Slices.{in_slice, slice}

@@ -1,6 +1,6 @@
 -- How large the numbers of an index are in lowest terms.
-use Rattle.std.proofs.Common.{◌≡◌, ℕ, ◌*◌, ◌/◌, ◌^◌, ◌<◌, ◌≤◌, List, length, get_or, subst, arith}
-use Rattle.std.specs.List.{filter, sum_by, range_with_len}
+use Rattle.std.proofs.Common.{ℕ, ◌*◌, ◌/◌, ◌^◌, ◌<◌, ◌≤◌, List, length, get_or, subst, arith}
+use Rattle.std.specs.List.{filter, sum_by}
 use Rattle.std.proofs.Math.Nat.{div-le_self, mul-pos}
 use Rattle.std.proofs.lemmas.List.{length-map}
 use Rattle.std.proofs.lemmas.List.Sums.{sum_by-le}

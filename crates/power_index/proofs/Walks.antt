@@ -1,6 +1,6 @@
 -- One walk over the places of a coalition, that counts it at each.
-use Rattle.std.proofs.Common.{◌≡◌, ◌∙◌, ℕ, ◌^◌, ◌<◌, ◌≤◌, List, length, get_or, set, cond, true, false, sym, ap, subst, refl, arith, get_or-set_same, get_or-set_other, length-set, inl, inr}
-use Rattle.std.proofs.lemmas.Bool.{cases_eq, cond-true, cond-false, both_ways}
+use Rattle.std.proofs.Common.{◌≡◌, ◌∙◌, ℕ, ◌^◌, ◌<◌, ◌≤◌, List, length, get_or, set, cond, true, false, sym, ap, subst, arith, get_or-set_same, get_or-set_other, length-set, inl, inr}
+use Rattle.std.proofs.lemmas.Bool.{cases_eq, cond-true, both_ways}
 use Rattle.council_game.specs.Votes.{has, without}
 use Rattle.power_index.specs.declared.tally.Tally.{Tally}
 use Rattle.power_index.specs.Tables.{with_one, no_tally}

@@ -1,4 +1,4 @@
-use Rattle.std.proofs.Common.{ℕ, List, Option, ◌+◌, ◌-◌, sym, subst, take, drop, arith, length-drop, ◌≤◌, length}
+use Rattle.std.proofs.Common.{ℕ, List, Option, ◌+◌, ◌-◌, sym, subst, take, drop, arith, length-drop, length}
 use Rattle.std.proofs.KnownBytes.{Appends-trans}
 use Rattle.std.proofs.lemmas.List.{take_all}
 use Rattle.std.proofs.Math.Seq.{take-add}

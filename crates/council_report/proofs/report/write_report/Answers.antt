@@ -1,4 +1,4 @@
-use Rattle.std.proofs.Common.{◌≡◌, ◌++◌, ℕ, List, ap, ◌∙◌}
+use Rattle.std.proofs.Common.{◌++◌, ℕ, List, ap, ◌∙◌}
 use Rattle.council_report.specs.Report.{heading, lines}
 use Rattle.council_report.proofs.Wholes.{appends-whole, stopped-whole}
 use Rattle.council_report.proofs.report.write_report.Goals as goal

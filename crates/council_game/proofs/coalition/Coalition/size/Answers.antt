@@ -1,4 +1,4 @@
-use Rattle.std.proofs.Common.{sym, ◌∙◌, ap, subst, ℕ, ◌<◌, ◌^◌, count_ones}
+use Rattle.std.proofs.Common.{sym, ◌∙◌, ap, count_ones}
 use Rattle.std.proofs.lemmas.Nat.{ones-le}
 use Rattle.council_game.proofs.Sizes.{size-ones}
 use Rattle.council_game.proofs.coalition.Coalition.size.Goals as goal

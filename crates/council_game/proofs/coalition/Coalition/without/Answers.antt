@@ -1,6 +1,6 @@
-use Rattle.std.proofs.Common.{◌-◌, sym, ◌∙◌, ap, subst, ℕ, ◌≤◌, ◌^◌, arith, cond}
+use Rattle.std.proofs.Common.{sym, ◌∙◌}
 use Rattle.std.proofs.lemmas.Bool.{cond-true}
-use Rattle.council_game.specs.Votes.{has, without}
+use Rattle.council_game.specs.Votes.{without}
 use Rattle.council_game.proofs.Sizes.{digit-shifted, has-least}
 use Rattle.council_game.proofs.coalition.Coalition.without.Goals as goal
 
