@@ -1,9 +1,10 @@
 -- No line of coalitions, sizes or members is longer than the room that a block keeps for it.
-use Rattle.std.proofs.Common.{◌≡◌, ℕ, ◌+◌, ◌*◌, ◌^◌, ◌<◌, ◌≤◌, ◌++◌, List, [], ◌∷◌, length, get_or, map, codes, decimal, Bool, true, false, cond, ◌==◌, ◌&&◌, arith, length-append}
-use Rattle.std.specs.List.{AllByRecursion, flat_map, filter}
+use Rattle.std.proofs.Common.{◌≡◌, ℕ, ◌+◌, ◌*◌, ◌^◌, ◌<◌, ◌≤◌, ◌++◌, List, [], ◌∷◌, length, get_or, map, codes, decimal, Bool, true, false, cond, ◌==◌, ◌&&◌, arith, length-append, subst, sym}
+use Rattle.std.specs.List.{AllByRecursion, flat_map, filter, range_with_len}
 use Rattle.std.proofs.lemmas.Fmt.{length-decimal-le, length-decimal-le_wide}
 use Rattle.std.proofs.lemmas.List.{length-map}
-use Rattle.std.proofs.lemmas.List.FromFn.{length-range_with_len}
+use Rattle.std.proofs.lemmas.List.FromFn.{length-range_with_len, get_or-range_with_len}
+use Rattle.std.proofs.lemmas.List.Elements.{recursion_from_All}
 use Rattle.council_game.specs.Votes.{RuleView, IsRule, places_of, size, weight}
 use Rattle.council_game.specs.Ranks.{member_at}
 use Rattle.council_game.specs.Game.{GameView, IsGame, votes_of}
@@ -15,6 +16,8 @@ use Rattle.power_index.specs.Indices.{deegan_packel, public_good}
 use Rattle.power_index.proofs.Sums.{length-filter-le}
 use Rattle.power_index.proofs.Members.{few-members, size-le}
 use Rattle.power_index.proofs.Small.{deegan_packel-small, public_good-small}
+use Rattle.council_report.specs.declared.shown.Shown.{Shown}
+use Rattle.council_report.specs.Report.{coalition_lines, size_lines, member_lines, lines}
 use Rattle.council_report.specs.Lines.{tabbed, line, slashed, name_of, names_of, weights_of_coalition, weights_of_member, member_fields, index_fields, coalition_line, size_line, member_line}
 
 -- a field of a line
@@ -133,3 +136,47 @@ member-fits g game list some few i lt =
     let indices : AllByRecursion IsField (index_fields g list i) = (first, (omega arith, (second, (omega arith, tt)))) in
     line-fits (codes "member") (member_fields g list i ++ index_fields g list i) (omega arith) (omega arith)
     (name-fits g game i, (weights, (count-field (contains g i) list few, indices)))
+
+-- ---- the lines together
+rows-fit : {X : Type 0} (f : X → List ℕ) (xs : List X) → AllByRecursion (λ x. length (f x) ≤ 4096) xs → length (flat_map f xs) ≤ length xs * 4096
+rows-fit f [] h = omega arith
+rows-fit f (x ∷ xs) h =
+    let first : length (f x) ≤ 4096 = h.0 in
+    let rest = rows-fit f xs h.1 in
+    omega (arith, first, rest, length-append (f x) (flat_map f xs))
+
+each-coalition : (g : GameView) → IsGame g → (list : List ℕ) → AllByRecursion (λ c. length (coalition_line g c) ≤ 4096) list
+each-coalition g game [] = tt
+each-coalition g game (c ∷ cs) = (coalition-fits g game c, each-coalition g game cs)
+
+-- what fits from a on, n numbers
+each-number : (f : ℕ → List ℕ) (a n : ℕ) → ((k : ℕ) → k < n → length (f (a + k)) ≤ 4096) → AllByRecursion (λ k. length (f k) ≤ 4096) (range_with_len a n)
+each-number f a n h = recursion_from_All (λ k. length (f k) ≤ 4096) (range_with_len a n) (λ i d lt.
+    let long = length-range_with_len a n in
+    let at = get_or-range_with_len a n i d (omega (arith, long, lt)) in
+    subst (λ k. length (f k) ≤ 4096) (sym at) (h i (omega (arith, long, lt))))
+
+chosen-fits : (b : Bool) (text : List ℕ) (n : ℕ) → length text ≤ n → length (cond b text []) ≤ n
+chosen-fits true text n h = h
+chosen-fits false text n h = omega arith
+
+-- 4000080 lines at most
+pub lines-fit : (shown : Shown) (g : GameView) → IsGame g → (list : List ℕ) → 1 ≤ length list → length list ≤ 4000000 → length (lines shown g list) ≤ 20000000000
+lines-fit shown g game list some few =
+    let n : ℕ = length g.names in
+    let forty = few-members g game in
+    let coalitions : length (coalition_lines shown g list) ≤ 16384000000 =
+    let fit = rows-fit (coalition_line g) list (each-coalition g game list) in
+    chosen-fits shown.list (flat_map (coalition_line g) list) 16384000000 (omega (arith, fit, few)) in
+    let sizes : length (size_lines shown g list) ≤ 163840 =
+    let fit = rows-fit (size_line g list) (range_with_len 1 n) (each-number (size_line g list) 1 n (λ k lt. size-fits g game list few (1 + k) (omega (arith, lt)))) in
+    let long = length-range_with_len 1 n in
+    chosen-fits shown.sizes (flat_map (size_line g list) (range_with_len 1 n)) 163840 (omega (arith, fit, long, forty)) in
+    let members : length (member_lines g list) ≤ 163840 =
+    let fit = rows-fit (member_line g list) (range_with_len 0 n) (each-number (member_line g list) 0 n (λ k lt. member-fits g game list some few (0 + k) (omega (arith, lt)))) in
+    let long = length-range_with_len 0 n in
+    omega (arith, fit, long, forty) in
+    let first = length-append (coalition_lines shown g list ++ size_lines shown g list) (member_lines g list) in
+    let second = length-append (coalition_lines shown g list) (size_lines shown g list) in
+    let whole : length (lines shown g list) ≡ length (coalition_lines shown g list) + length (size_lines shown g list) + length (member_lines g list) = omega (arith, first, second) in
+    omega (arith, coalitions, sizes, members, whole)

@@ -1,9 +1,9 @@
 -- Rows of texts, one text more.
-use Rattle.std.proofs.Common.{◌≡◌, ℕ, ◌+◌, ◌<◌, ◌≤◌, ◌++◌, length, length-append, zero-add, List, [], ◌∷◌, map, sym, ap, ◌∙◌, append_assoc, refl, arith}
+use Rattle.std.proofs.Common.{◌≡◌, ℕ, ◌+◌, ◌<◌, ◌≤◌, ◌++◌, length, length-append, zero-add, List, [], ◌∷◌, take, map, sym, ap, ◌∙◌, append_assoc, refl, arith}
 use Rattle.std.specs.List.{flat_map, range_with_len}
 use Rattle.std.proofs.lemmas.Grind.{flat_map-append}
-use Rattle.std.proofs.lemmas.List.{map-id, append-nil}
-use Rattle.std.proofs.lemmas.List.FromFn.{map-range_with_len_more}
+use Rattle.std.proofs.lemmas.List.{map-id, append-nil, take_more}
+use Rattle.std.proofs.lemmas.List.FromFn.{map-range_with_len_more, length-range_with_len, get_or-range_with_len}
 use Rattle.council_report.specs.Lines.{tabbed}
 use Rattle.council_report.proofs.Room.{grows}
 
@@ -14,6 +14,13 @@ range-more a k =
 
 pub rows-more : {X : Type 0} (f : X → List ℕ) (xs : List X) (x : X) → flat_map f (xs ++ x ∷ []) ≡ flat_map f xs ++ f x
 rows-more f xs x = flat_map-append f xs (x ∷ []) ∙ ap (λ (t : List ℕ). flat_map f xs ++ t) (append-nil (f x))
+
+-- one number more of those from a on
+pub range-next : (a n k j : ℕ) → a + k ≡ j → k < n → take (k + 1) (range_with_len a n) ≡ take k (range_with_len a n) ++ j ∷ []
+range-next a n k j is below =
+    let long = length-range_with_len a n in
+    let at = get_or-range_with_len a n k 0 below in
+    take_more (range_with_len a n) k 0 (omega (arith, long, below)) ∙ ap (λ (x : ℕ). take k (range_with_len a n) ++ x ∷ []) (at ∙ is)
 
 -- one text more, after what is there
 pub put-row : {X : Type 0} (f : X → List ℕ) (a : List ℕ) (xs : List X) (x : X) → (a ++ flat_map f xs) ++ f x ≡ a ++ flat_map f (xs ++ x ∷ [])

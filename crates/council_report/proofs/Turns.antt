@@ -1,9 +1,10 @@
 -- A row of texts told one after another: one more, and where it stops.
-use Rattle.std.proofs.Common.{◌≡◌, ◌≤◌, ◌+◌, ◌++◌, ℕ, List, [], ◌∷◌, length, take, drop, Option, sym, ap, ◌∙◌, subst}
+use Rattle.std.proofs.Common.{◌≡◌, ◌<◌, ◌≤◌, ◌+◌, ◌^◌, ◌++◌, ℕ, List, [], ◌∷◌, length, take, drop, Option, sym, ap, ◌∙◌, subst, arith, length-append}
 use Rattle.std.specs.List.{flat_map}
 use Rattle.std.proofs.lemmas.Grind.{flat_map-append}
 use Rattle.std.proofs.lemmas.List.{take_all, take-append-drop}
 use Rattle.council_report.specs.Told.{Told, told, Tells, Stopped, StoppedIn}
+use Rattle.council_report.specs.Ready.{CanCount}
 use Rattle.council_report.specs.declared.output.Block.{Block}
 use Rattle.council_report.proofs.Rows.{rows-more}
 use Rattle.council_report.proofs.Telling.{tells-then, tells-same, tells-block, stopped-after, stopped-first}
@@ -34,6 +35,13 @@ pub stopped-at : {X : Type 0} (a b : Told) (f : X → List ℕ) (xs : List X) (i
 stopped-at a b f xs i held n tells stopped =
     let Stops : List ℕ → Type 0 = λ t. StoppedIn a t held n in
     subst Stops (rest-told f xs i) (stopped-first a (flat_map f (take i xs)) (flat_map f (drop i xs)) held n (stopped-after a b (flat_map f (take i xs)) held n tells stopped))
+
+-- the number of bytes told so far is no greater than with all the texts
+pub turn-counts : {X : Type 0} (a : Told) (f : X → List ℕ) (xs : List X) (i : ℕ) (x : X) (contents : Option (List ℕ)) (old new : Block) → Turn a f xs i x contents old new → a.count + length (flat_map f xs) < 2 ^ 64 → CanCount new []
+turn-counts a f xs i x contents old new t few =
+    let now = turn-told a f xs i x contents old new t in
+    let whole = ap (λ (text : List ℕ). length text) (rest-told f xs (i + 1)) in
+    omega (arith, now.count, few, whole, length-append (flat_map f (take (i + 1) xs)) (flat_map f (drop (i + 1) xs)))
 
 pub all-told : {X : Type 0} (a b : Told) (f : X → List ℕ) (xs : List X) (i : ℕ) → length xs ≤ i → Tells a b (flat_map f (take i xs)) → Tells a b (flat_map f xs)
 all-told a b f xs i le tells = subst (Tells a b) (ap (flat_map f) (take_all i xs le)) tells

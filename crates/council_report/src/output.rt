@@ -49,7 +49,7 @@ pub(crate) struct Block {
 
 impl Block {
     ghost use Rattle.council_report.specs.Told.{told, Tells, Stopped};
-    ghost use Rattle.council_report.specs.Ready.{HasRoom, IsReady};
+    ghost use Rattle.council_report.specs.Ready.{HasRoom, IsReady, CanCount};
 
     /// An empty block with all its room.
     pub(crate) fn new(alloc: Global) -> Result<Block, AllocError>
@@ -62,17 +62,16 @@ impl Block {
         })
     }
 
-    /// Hands all bytes to the writer. A report of 2^64 bytes, which no run makes, is where it stops.
+    /// Hands all bytes to the writer.
     fn drain<W: Write>(&mut self, writer: &mut W) -> Result<(), WriteFault>
+        requires { CanCount self.old [] }
         ensures ok { OnOk result (Tells (told (W.contents writer.old) self.old) (told (W.contents writer.new) self.new) []) }
         ensures empty { OnOk result (self.new.bytes.items ≡ []) }
         ensures capacity { vec_capacity self.new.bytes ≡ vec_capacity self.old.bytes }
         ensures err { IfErr result (λ fault. Stopped (told (W.contents writer.old) self.old) (W.contents writer.new) fault.written) }
     {
         let before = self.written;
-        let Some(after) = before.checked_add(self.bytes.len() as u64) else {
-            return Err(WriteFault { written: before });
-        };
+        let after = before + self.bytes.len() as u64;
         match write_whole(writer, &self.bytes) {
             Ok(()) => {
                 self.bytes.clear();
@@ -87,6 +86,7 @@ impl Block {
 
     /// Makes ready for a line: where the next might not fit, all bytes go to the writer.
     pub(crate) fn settle<W: Write>(&mut self, writer: &mut W) -> Result<(), WriteFault>
+        requires { CanCount self.old [] }
         ensures ok { OnOk result (Tells (told (W.contents writer.old) self.old) (told (W.contents writer.new) self.new) []) }
         ensures ready { OnOk result (HasRoom self.old → IsReady self.new) }
         ensures err { IfErr result (λ fault. Stopped (told (W.contents writer.old) self.old) (W.contents writer.new) fault.written) }
@@ -99,6 +99,7 @@ impl Block {
 
     /// Hands the last bytes to the writer, and flushes it once.
     pub(crate) fn finish<W: Write>(mut self, writer: &mut W) -> Result<u64, WriteFault>
+        requires { CanCount self [] }
         ensures ok { IfOk result (λ count. (count ≡ self.written + length self.bytes.items) × Keeps (told (W.contents writer.old) self).bytes (W.contents writer.new)) }
         ensures err { IfErr result (λ fault. Stopped (told (W.contents writer.old) self) (W.contents writer.new) fault.written) }
     {

@@ -4,7 +4,7 @@ ghost use Rattle.std.specs.Io.KnownBytes.{Appends};
 ghost use Rattle.power_index.specs.Counting.{AreCoalitions};
 ghost use Rattle.council_report.specs.Report.{coalition_lines, size_lines, lines, report_over};
 ghost use Rattle.council_report.specs.Told.{told, Tells, StoppedIn};
-ghost use Rattle.council_report.specs.Ready.{HasRoom, IsReady};
+ghost use Rattle.council_report.specs.Ready.{HasRoom, IsReady, CanCount};
 ghost use Rattle.council_report.specs.Outcome.{Falls};
 
 use crate::Shown;
@@ -25,7 +25,8 @@ fn put_shown_coalitions<W: Write>(
     listing: &Listing<'_>,
     shown: Shown,
 ) -> Result<(), WriteFault>
-    requires { IsReady block.old }
+    requires ready { IsReady block.old }
+    requires counted { CanCount block.old (coalition_lines shown listing.now.game.now listing.now.list.now) }
     ensures ok { OnOk result (Tells (told (W.contents writer.old) block.old) (told (W.contents writer.new) block.new) (coalition_lines shown listing.now.game.now listing.now.list.now)) }
     ensures ready { OnOk result (IsReady block.new) }
     ensures err { IfErr result (λ fault. StoppedIn (told (W.contents writer.old) block.old) (coalition_lines shown listing.now.game.now listing.now.list.now) (W.contents writer.new) fault.written) }
@@ -44,7 +45,8 @@ fn put_shown_sizes<W: Write>(
     listing: &Listing<'_>,
     shown: Shown,
 ) -> Result<(), WriteFault>
-    requires { IsReady block.old }
+    requires ready { IsReady block.old }
+    requires counted { CanCount block.old (size_lines shown listing.now.game.now listing.now.list.now) }
     ensures ok { OnOk result (Tells (told (W.contents writer.old) block.old) (told (W.contents writer.new) block.new) (size_lines shown listing.now.game.now listing.now.list.now)) }
     ensures ready { OnOk result (IsReady block.new) }
     ensures err { IfErr result (λ fault. StoppedIn (told (W.contents writer.old) block.old) (size_lines shown listing.now.game.now listing.now.list.now) (W.contents writer.new) fault.written) }
@@ -63,7 +65,8 @@ fn put_lines<W: Write>(
     listing: &Listing<'_>,
     shown: Shown,
 ) -> Result<(), WriteFault>
-    requires { IsReady block.old }
+    requires ready { IsReady block.old }
+    requires counted { CanCount block.old (lines shown listing.now.game.now listing.now.list.now) }
     ensures ok { OnOk result (Tells (told (W.contents writer.old) block.old) (told (W.contents writer.new) block.new) (lines shown listing.now.game.now listing.now.list.now)) }
     ensures ready { OnOk result (IsReady block.new) }
     ensures err { IfErr result (λ fault. StoppedIn (told (W.contents writer.old) block.old) (lines shown listing.now.game.now listing.now.list.now) (W.contents writer.new) fault.written) }
@@ -80,7 +83,8 @@ fn send<W: Write>(
     listing: &Listing<'_>,
     shown: Shown,
 ) -> Result<u64, WriteFault>
-    requires { HasRoom block }
+    requires room { HasRoom block }
+    requires counted { CanCount block (lines shown listing.now.game.now listing.now.list.now) }
     ensures count { IfOk result (λ count. count ≡ (told (W.contents writer.old) block).count + length (lines shown listing.now.game.now listing.now.list.now)) }
     ensures ok { OnOk result (Appends (told (W.contents writer.old) block).bytes (W.contents writer.new) (lines shown listing.now.game.now listing.now.list.now)) }
     ensures err { IfErr result (λ fault. StoppedIn (told (W.contents writer.old) block) (lines shown listing.now.game.now listing.now.list.now) (W.contents writer.new) fault.written) }

@@ -4,7 +4,7 @@ ghost use Rattle.std.specs.List.{flat_map, range_with_len};
 ghost use Rattle.power_index.specs.Counting.{members};
 ghost use Rattle.council_report.specs.Lines.{coalition_line, size_line, member_line};
 ghost use Rattle.council_report.specs.Told.{told, Tells, StoppedIn};
-ghost use Rattle.council_report.specs.Ready.{IsReady};
+ghost use Rattle.council_report.specs.Ready.{IsReady, CanCount};
 
 use crate::indices::{push_member, push_size};
 use crate::lines::push_coalition;
@@ -18,7 +18,8 @@ pub(crate) fn put_coalitions<W: Write>(
     writer: &mut W,
     listing: &Listing<'_>,
 ) -> Result<(), WriteFault>
-    requires { IsReady block.old }
+    requires ready { IsReady block.old }
+    requires counted { CanCount block.old (flat_map (coalition_line listing.now.game.now) listing.now.list.now) }
     ensures ok { OnOk result (Tells (told (W.contents writer.old) block.old) (told (W.contents writer.new) block.new) (flat_map (coalition_line listing.now.game.now) listing.now.list.now)) }
     ensures ready { OnOk result (IsReady block.new) }
     ensures err { IfErr result (λ fault. StoppedIn (told (W.contents writer.old) block.old) (flat_map (coalition_line listing.now.game.now) listing.now.list.now) (W.contents writer.new) fault.written) }
@@ -38,7 +39,8 @@ pub(crate) fn put_sizes<W: Write>(
     writer: &mut W,
     listing: &Listing<'_>,
 ) -> Result<(), WriteFault>
-    requires { IsReady block.old }
+    requires ready { IsReady block.old }
+    requires counted { CanCount block.old (flat_map (size_line listing.now.game.now listing.now.list.now) (range_with_len 1 (length listing.now.game.now.names))) }
     ensures ok { OnOk result (Tells (told (W.contents writer.old) block.old) (told (W.contents writer.new) block.new) (flat_map (size_line listing.now.game.now listing.now.list.now) (range_with_len 1 (length listing.now.game.now.names)))) }
     ensures ready { OnOk result (IsReady block.new) }
     ensures err { IfErr result (λ fault. StoppedIn (told (W.contents writer.old) block.old) (flat_map (size_line listing.now.game.now listing.now.list.now) (range_with_len 1 (length listing.now.game.now.names))) (W.contents writer.new) fault.written) }
@@ -58,7 +60,8 @@ pub(crate) fn put_members<W: Write>(
     writer: &mut W,
     listing: &Listing<'_>,
 ) -> Result<(), WriteFault>
-    requires { IsReady block.old }
+    requires ready { IsReady block.old }
+    requires counted { CanCount block.old (flat_map (member_line listing.now.game.now listing.now.list.now) (members listing.now.game.now)) }
     ensures ok { OnOk result (Tells (told (W.contents writer.old) block.old) (told (W.contents writer.new) block.new) (flat_map (member_line listing.now.game.now listing.now.list.now) (members listing.now.game.now))) }
     ensures ready { OnOk result (IsReady block.new) }
     ensures err { IfErr result (λ fault. StoppedIn (told (W.contents writer.old) block.old) (flat_map (member_line listing.now.game.now listing.now.list.now) (members listing.now.game.now)) (W.contents writer.new) fault.written) }

@@ -1,5 +1,6 @@
-use Rattle.std.proofs.Common.{◌++◌, ℕ, List, ap, ◌∙◌}
+use Rattle.std.proofs.Common.{◌++◌, ℕ, List, ap, ◌∙◌, arith}
 use Rattle.council_report.specs.Report.{heading, lines}
+use Rattle.council_report.proofs.Bounds.{lines-fit}
 use Rattle.council_report.proofs.Wholes.{appends-whole, stopped-whole}
 use Rattle.council_report.proofs.report.write_report.Goals as goal
 
@@ -16,3 +17,11 @@ returns-in-Err-clause-err g c =
     let is = c.in_ok-push_heading.ensures.items ∙ ap (λ (t : List ℕ). t ++ first) c.in_ok-block.ensures.empty.0 in
     stopped-whole (g.W.Write.contents c.args.writer.now) (g.W.Write.contents c.send.new.writer) (record { bytes = c.push_heading.new.out; written = c.in_ok-block.block.written })
     first (lines c.args.shown c.args.game.now c.args.list.now) c.in-Err.fault.written c.in_ok-block.ensures.empty.1 is c.in-Err.ensures.err
+
+pub send-requires-clause-counted : goal.send-requires-clause-counted
+send-requires-clause-counted g c =
+    let lines = lines-fit c.args.shown c.args.game.now c.members.ensures.game c.args.list.now c.requires.some c.requires.few in
+    let bytes = c.push_heading.new.out.ok in
+    let small = c.push_heading.new.out.small in
+    let none = c.in_ok-block.ensures.empty.1 in
+    omega (arith, lines, bytes, small, none)

@@ -1,31 +1,33 @@
-use Rattle.std.proofs.Common.{◌+◌, ◌<◌, ◌++◌, ◌∷◌, [], ℕ, List, take, length, arith, refl, ap, ◌∙◌}
+use Rattle.std.proofs.Common.{◌+◌, length, arith, refl}
 use Rattle.std.proofs.lemmas.Result.{err_from_is_err_and}
-use Rattle.std.proofs.lemmas.List.{take_more}
-use Rattle.std.proofs.lemmas.List.FromFn.{length-range_with_len, get_or-range_with_len}
+use Rattle.std.proofs.lemmas.List.FromFn.{length-range_with_len}
 use Rattle.power_index.specs.Counting.{members}
 use Rattle.council_game.specs.Game.{GameView}
 use Rattle.council_report.specs.Lines.{member_line}
 use Rattle.council_report.proofs.Bounds.{member-fits}
 use Rattle.council_report.proofs.Lasting.{ready-takes}
+use Rattle.council_report.proofs.Rows.{range-next}
 use Rattle.council_report.proofs.Telling.{tells-nothing}
-use Rattle.council_report.proofs.Turns.{turn-settled, turn-told, stopped-at, all-told}
+use Rattle.council_report.proofs.Turns.{turn-settled, turn-told, turn-counts, stopped-at, all-told}
 use Rattle.council_report.proofs.stream.put_members.Goals as goal
 
 pub loop-member-init : goal.loop-member-init
-loop-member-init g c = record { tells = tells-nothing (g.W.Write.contents c.args.writer.now) c.args.block.now; ready = c.requires }
+loop-member-init g c = record { tells = tells-nothing (g.W.Write.contents c.args.writer.now) c.args.block.now; ready = c.requires.ready }
 
 pub loop-member-preserved : goal.loop-member-preserved
 loop-member-preserved g c =
-    let xs : List ℕ = members c.args.listing.now.game.now in
-    let long = length-range_with_len 0 (length c.args.listing.now.game.now.names) in
-    let below : c.loop-member.member < length xs = omega (arith, long, c.loop-member-test.true, c.args.listing.now.all_members) in
-    let at = get_or-range_with_len 0 (length c.args.listing.now.game.now.names) c.loop-member.member 0 (omega (arith, long, below)) in
-    let next = take_more xs c.loop-member.member 0 below ∙ ap (λ (x : ℕ). take c.loop-member.member xs ++ x ∷ []) (at ∙ omega arith) in
+    let next = range-next 0 (length c.args.listing.now.game.now.names) c.loop-member.member c.loop-member.member (omega arith) (omega (arith, c.loop-member-test.true, c.args.listing.now.all_members)) in
     record {
       tells = turn-settled _ _ (member_line c.args.listing.now.game.now c.args.listing.now.list.now) (members c.args.listing.now.game.now) c.loop-member.member c.loop-member.member (g.W.Write.contents c.loop-member.writer) c.loop-member.block (record { bytes = c.push_member.new.out; written = c.loop-member.block.written })
           (record { before = c.loop-member.invariant.tells; same = refl; more = c.in-Ok.ensures.items; next = next }) c.in_ok-settle-in-Ok.ensures.ok;
       ready = c.in_ok-settle-in-Ok.ensures.ready (omega (arith, c.loop-member.invariant.ready.room, c.in-Ok.ensures.room.capacity));
     }
+
+pub settle-requires : goal.settle-requires
+settle-requires g c =
+    let next = range-next 0 (length c.args.listing.now.game.now.names) c.loop-member.member c.loop-member.member (omega arith) (omega (arith, c.loop-member-test.true, c.args.listing.now.all_members)) in
+    turn-counts _ (member_line c.args.listing.now.game.now c.args.listing.now.list.now) (members c.args.listing.now.game.now) c.loop-member.member c.loop-member.member (g.W.Write.contents c.loop-member.writer) c.loop-member.block (record { bytes = c.push_member.new.out; written = c.loop-member.block.written })
+    (record { before = c.loop-member.invariant.tells; same = refl; more = c.in-Ok.ensures.items; next = next }) c.requires.counted
 
 pub unreachable-requires : goal.unreachable-requires
 unreachable-requires g c =
@@ -34,11 +36,7 @@ unreachable-requires g c =
 
 pub returns-in_err-settle-in-Ok-clause-err : goal.returns-in_err-settle-in-Ok-clause-err
 returns-in_err-settle-in-Ok-clause-err g c =
-    let xs : List ℕ = members c.args.listing.now.game.now in
-    let long = length-range_with_len 0 (length c.args.listing.now.game.now.names) in
-    let below : c.loop-member.member < length xs = omega (arith, long, c.loop-member-test.true, c.args.listing.now.all_members) in
-    let at = get_or-range_with_len 0 (length c.args.listing.now.game.now.names) c.loop-member.member 0 (omega (arith, long, below)) in
-    let next = take_more xs c.loop-member.member 0 below ∙ ap (λ (x : ℕ). take c.loop-member.member xs ++ x ∷ []) (at ∙ omega arith) in
+    let next = range-next 0 (length c.args.listing.now.game.now.names) c.loop-member.member c.loop-member.member (omega arith) (omega (arith, c.loop-member-test.true, c.args.listing.now.all_members)) in
     let p = err_from_is_err_and c.from_residual.result c.from_residual.ensures.1 in
     let stopped =
     stopped-at _ _ (member_line c.args.listing.now.game.now c.args.listing.now.list.now) (members c.args.listing.now.game.now) (c.loop-member.member + 1) _ _

@@ -1,36 +1,38 @@
-use Rattle.std.proofs.Common.{◌≡◌, ◌+◌, ◌-◌, ◌<◌, ◌++◌, ◌∷◌, [], ℕ, List, take, length, arith, refl, ap, ◌∙◌}
+use Rattle.std.proofs.Common.{◌≡◌, ◌+◌, ◌-◌, length, arith, refl}
 use Rattle.std.specs.List.{range_with_len}
 use Rattle.std.proofs.lemmas.Result.{err_from_is_err_and}
-use Rattle.std.proofs.lemmas.List.{take_more}
-use Rattle.std.proofs.lemmas.List.FromFn.{length-range_with_len, get_or-range_with_len}
+use Rattle.std.proofs.lemmas.List.FromFn.{length-range_with_len}
 use Rattle.power_index.proofs.Members.{few-members}
 use Rattle.council_game.specs.Game.{GameView}
 use Rattle.council_report.specs.Lines.{size_line}
 use Rattle.council_report.proofs.Bounds.{size-fits}
 use Rattle.council_report.proofs.Lasting.{ready-takes}
+use Rattle.council_report.proofs.Rows.{range-next}
 use Rattle.council_report.proofs.Telling.{tells-nothing}
-use Rattle.council_report.proofs.Turns.{turn-settled, turn-told, stopped-at, all-told}
+use Rattle.council_report.proofs.Turns.{turn-settled, turn-told, turn-counts, stopped-at, all-told}
 use Rattle.council_report.proofs.stream.put_sizes.Goals as goal
 
 pub loop-size-init : goal.loop-size-init
-loop-size-init g c = record { tells = tells-nothing (g.W.Write.contents c.args.writer.now) c.args.block.now; ready = c.requires }
+loop-size-init g c = record { tells = tells-nothing (g.W.Write.contents c.args.writer.now) c.args.block.now; ready = c.requires.ready }
 
 pub overflow_add-size-end : goal.overflow_add-size-end
 overflow_add-size-end g c = omega (arith, few-members c.args.listing.now.game.now c.args.listing.now.is_game, c.args.listing.now.all_members)
 
 pub loop-size-preserved : goal.loop-size-preserved
 loop-size-preserved g c =
-    let xs : List ℕ = range_with_len 1 (length c.args.listing.now.game.now.names) in
-    let long = length-range_with_len 1 (length c.args.listing.now.game.now.names) in
-    let below : (c.loop-size.size - 1) < length xs = omega (arith, long, c.loop-size-test.true, c.loop-size.auto.size, c.args.listing.now.all_members) in
-    let at = get_or-range_with_len 1 (length c.args.listing.now.game.now.names) (c.loop-size.size - 1) 0 (omega (arith, long, below)) in
-    let next = take_more xs (c.loop-size.size - 1) 0 below ∙ ap (λ (x : ℕ). take (c.loop-size.size - 1) xs ++ x ∷ []) (at ∙ omega (arith, c.loop-size.auto.size)) in
+    let next = range-next 1 (length c.args.listing.now.game.now.names) (c.loop-size.size - 1) c.loop-size.size (omega (arith, c.loop-size.auto.size)) (omega (arith, c.loop-size-test.true, c.loop-size.auto.size, c.args.listing.now.all_members)) in
     let same : c.loop-size.size - 1 + 1 ≡ c.loop-size.size + 1 - 1 = omega (arith, c.loop-size.auto.size) in
     record {
       tells = rw (← same) (turn-settled _ _ (size_line c.args.listing.now.game.now c.args.listing.now.list.now) (range_with_len 1 (length c.args.listing.now.game.now.names)) (c.loop-size.size - 1) c.loop-size.size (g.W.Write.contents c.loop-size.writer) c.loop-size.block (record { bytes = c.push_size.new.out; written = c.loop-size.block.written })
           (record { before = c.loop-size.invariant.tells; same = refl; more = c.in-Ok.ensures.items; next = next }) c.in_ok-settle-in-Ok.ensures.ok);
       ready = c.in_ok-settle-in-Ok.ensures.ready (omega (arith, c.loop-size.invariant.ready.room, c.in-Ok.ensures.room.capacity));
     }
+
+pub settle-requires : goal.settle-requires
+settle-requires g c =
+    let next = range-next 1 (length c.args.listing.now.game.now.names) (c.loop-size.size - 1) c.loop-size.size (omega (arith, c.loop-size.auto.size)) (omega (arith, c.loop-size-test.true, c.loop-size.auto.size, c.args.listing.now.all_members)) in
+    turn-counts _ (size_line c.args.listing.now.game.now c.args.listing.now.list.now) (range_with_len 1 (length c.args.listing.now.game.now.names)) (c.loop-size.size - 1) c.loop-size.size (g.W.Write.contents c.loop-size.writer) c.loop-size.block (record { bytes = c.push_size.new.out; written = c.loop-size.block.written })
+    (record { before = c.loop-size.invariant.tells; same = refl; more = c.in-Ok.ensures.items; next = next }) c.requires.counted
 
 pub unreachable-requires : goal.unreachable-requires
 unreachable-requires g c =
@@ -39,11 +41,7 @@ unreachable-requires g c =
 
 pub returns-in_err-settle-in-Ok-clause-err : goal.returns-in_err-settle-in-Ok-clause-err
 returns-in_err-settle-in-Ok-clause-err g c =
-    let xs : List ℕ = range_with_len 1 (length c.args.listing.now.game.now.names) in
-    let long = length-range_with_len 1 (length c.args.listing.now.game.now.names) in
-    let below : (c.loop-size.size - 1) < length xs = omega (arith, long, c.loop-size-test.true, c.loop-size.auto.size, c.args.listing.now.all_members) in
-    let at = get_or-range_with_len 1 (length c.args.listing.now.game.now.names) (c.loop-size.size - 1) 0 (omega (arith, long, below)) in
-    let next = take_more xs (c.loop-size.size - 1) 0 below ∙ ap (λ (x : ℕ). take (c.loop-size.size - 1) xs ++ x ∷ []) (at ∙ omega (arith, c.loop-size.auto.size)) in
+    let next = range-next 1 (length c.args.listing.now.game.now.names) (c.loop-size.size - 1) c.loop-size.size (omega (arith, c.loop-size.auto.size)) (omega (arith, c.loop-size-test.true, c.loop-size.auto.size, c.args.listing.now.all_members)) in
     let p = err_from_is_err_and c.from_residual.result c.from_residual.ensures.1 in
     let stopped =
     stopped-at _ _ (size_line c.args.listing.now.game.now c.args.listing.now.list.now) (range_with_len 1 (length c.args.listing.now.game.now.names)) ((c.loop-size.size - 1) + 1) _ _
