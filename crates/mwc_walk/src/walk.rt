@@ -9,8 +9,9 @@ use council_game::{Coalition, Game};
 use std::marker::Model;
 
 /// A walk over the minimal winning coalitions of one slice, in listing order, which stops at each
-/// and goes on. It takes no memory. Under one rule a visit costs the same for any number of members;
-/// under several, each winning set that it meets is tried without each of its members.
+/// and goes on. It takes no memory. Under one rule a visit past the fixed places costs the same for any
+/// number of members; a set that wins at the fixed places, and under several rules each winning set
+/// that it meets, is tried without each of its members.
 ///
 /// Contracts see the votes of its game, the bits, the number of its slice, the coalitions that are
 /// still to come, and the count of visits.
