@@ -84,6 +84,7 @@ takes_memory council_file reads_pieces
 takes_memory council_file writes_notation
 takes_memory mwc_walk lists_a_slice
 takes_none mwc_walk walks_without_memory
+takes_none mwc_walk walks_under_two_rules_without_memory
 takes_memory mwc_pipe puts_into_a_pipe
 takes_memory mwc_pipe puts_into_a_batch
 takes_memory mwc_pipe replays

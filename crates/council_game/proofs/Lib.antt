@@ -14,3 +14,4 @@ pub mod Subsets
 pub mod Listing
 pub mod Sizes
 pub mod RankPlaces
+pub mod Digits

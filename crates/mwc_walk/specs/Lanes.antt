@@ -9,6 +9,10 @@ lane_reaches p l = nat_le (l.quota - l.sum) (slice_index l.rest p)
 abbrev pub lane_wins : Lane → Bool
 lane_wins l = nat_le l.quota l.sum
 
+-- the quota is met without place p, which is in
+abbrev pub lane_wins_without : ℕ → Lane → Bool
+lane_wins_without p l = nat_le l.quota (l.sum - slice_index l.weights p)
+
 abbrev pub lane_with : ℕ → Lane → Lane
 lane_with p l = record l { sum = l.sum + slice_index l.weights p }
 

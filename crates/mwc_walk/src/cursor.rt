@@ -5,7 +5,7 @@ ghost use Rattle.council_game.specs.Votes.{minimal};
 ghost use Rattle.mwc_walk.specs.Places.{wins_at};
 ghost use Rattle.mwc_walk.specs.Cursor.{CursorIs, Steps, Runs, Starts};
 
-use crate::lane::{Lane, all_reach, all_win, leave_out, take_in};
+use crate::lane::{Lane, all_reach, all_win, all_win_without, leave_out, take_in};
 use crate::step::Step;
 use council_game::{Coalition, Game};
 
@@ -119,7 +119,8 @@ impl Cursor {
     }
 
     /// Whether a winning prefix, with no more members, is minimal. With one rule it is, past the
-    /// fixed places: without its last member it lost, and no other is lighter.
+    /// fixed places: without its last member it lost, and no other is lighter. Else each member that
+    /// is in is tried, the last by rank first, by the weights that the lanes hold.
     fn is_minimal(&self, game: &Game, coalition: Coalition) -> bool
         requires is { CursorIs (votes_of game.now) self.now }
         requires won { wins_at (votes_of game.now).rules self.now.place self.now.prefix ≡ true }
@@ -129,7 +130,15 @@ impl Cursor {
         if self.rules == 1 && self.place > self.bits {
             return true;
         }
-        game.is_minimal(coalition)
+        let mut rest = coalition;
+        while rest.mask() != 0 {
+            let place = self.members - 1 - rest.mask().trailing_zeros() as usize;
+            if all_win_without(&self.lanes[..self.rules], place) {
+                return false;
+            }
+            rest = rest.without(self.members, place);
+        }
+        true
     }
 
     /// Comes back: leaves the last member out, where it is in, or goes up by one place.

@@ -4,7 +4,7 @@ ghost use Rattle.std.specs.List.{list_all, All, sum};
 ghost use Rattle.council_game.specs.Game.{votes_of};
 ghost use Rattle.council_game.specs.Votes.{rule_at};
 ghost use Rattle.mwc_walk.specs.Places.{LaneIs};
-ghost use Rattle.mwc_walk.specs.Lanes.{lane_reaches, lane_wins, lane_with, lane_without};
+ghost use Rattle.mwc_walk.specs.Lanes.{lane_reaches, lane_wins, lane_wins_without, lane_with, lane_without};
 
 use council_game::Game;
 
@@ -78,6 +78,14 @@ pub(crate) fn all_win(lanes: &[Lane]) -> bool
     ensures { result ≡ list_all lane_wins lanes.now }
 {
     lanes.iter().all(|lane| lane.quota <= lane.sum)
+}
+
+/// Whether each quota is met without the member of a place, which is in.
+pub(crate) fn all_win_without(lanes: &[Lane], place: usize) -> bool
+    requires { place < 40 }
+    ensures { result ≡ list_all (lane_wins_without place) lanes.now }
+{
+    lanes.iter().all(|lane| lane.quota <= lane.sum.saturating_sub(lane.weights[place]))
 }
 
 /// Takes the member of a place in.

@@ -138,9 +138,8 @@ fn forty_equal_members(rt: HostRuntime) -> Result<(), GameFault> {
     Ok(())
 }
 
-#[test]
-fn with_several_rules_a_winner_may_not_be_minimal(rt: HostRuntime) -> Result<(), GameFault> {
-    let alloc = rt.alloc();
+/// A game of three members and two rules, in which all members together win, and are not minimal.
+fn two_rules(alloc: Global) -> Result<Game, GameFault> {
     let first = Rule {
         quota: 3,
         weights: weights(alloc, &[2, 2, 1])?,
@@ -150,12 +149,24 @@ fn with_several_rules_a_winner_may_not_be_minimal(rt: HostRuntime) -> Result<(),
         weights: weights(alloc, &[0, 0, 1])?,
     };
     let names = names(alloc, 3)?;
-    assert!(rt; names.len() == 3 && first.weights.len() == 3 && second.weights.len() == 3);
-    let game = Game::with_rules(alloc, None, names, vec![in alloc; first, second]?)?;
+    if names.len() != 3 || first.weights.len() != 3 || second.weights.len() != 3 {
+        return Err(GameFault::Members);
+    }
+    Game::with_rules(alloc, None, names, vec![in alloc; first, second]?)
+}
+
+/// The visits, counted by hand: three decisions for all members, who win and are not minimal, one for
+/// the first and the last, and two for the second and the last.
+#[test]
+fn with_several_rules_a_winner_may_not_be_minimal(rt: HostRuntime) -> Result<(), GameFault> {
+    let game = two_rules(rt.alloc())?;
     let mut walk = Walk::new(&game, 0, 0);
     assert_eq!(rt; walk.next(), Some(Coalition::of_mask(5)));
+    assert_eq!(rt; walk.visits(), 4);
     assert_eq!(rt; walk.next(), Some(Coalition::of_mask(3)));
+    assert_eq!(rt; walk.visits(), 6);
     assert_eq!(rt; walk.next(), None);
+    assert_eq!(rt; walk.visits(), 6);
     Ok(())
 }
 

@@ -37,3 +37,17 @@ fn walks_without_memory(rt: HostRuntime) -> Result<(), Fail> {
     rt.println("worked")?;
     Ok(())
 }
+
+#[test]
+fn walks_under_two_rules_without_memory(rt: HostRuntime) -> Result<(), Fail> {
+    let game = two_rules(rt.alloc())?;
+    rt.println("call")?;
+    let mut walk = Walk::new(&game, 0, 0);
+    for mask in [5, 3] {
+        assert_eq!(rt; walk.next(), Some(Coalition::of_mask(mask)));
+    }
+    assert_eq!(rt; walk.next(), None);
+    assert_eq!(rt; walk.visits(), 6);
+    rt.println("worked")?;
+    Ok(())
+}

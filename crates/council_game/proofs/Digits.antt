@@ -1,0 +1,94 @@
+-- Taking a place away from a coalition leaves its other places.
+use Rattle.std.proofs.Common.{◌≡◌, ◌≢◌, ◌∙◌, ℕ, ◌+◌, ◌-◌, ◌*◌, ◌/◌, ◌%◌, ◌^◌, ◌<◌, ◌≤◌, ◌==◌, true, false, zero, suc, sym, ap, subst, arith, eq-eqb, inl, inr}
+use Rattle.std.specs.Int.{w64, trailing_zeros}
+use Rattle.std.proofs.lemmas.Nat.Bits.{bit_at-trailing_zeros, bit_at_above, bit_at_cat_low, bit_at_cat_high, bit_at-suc, bit_at-zero}
+use Rattle.std.proofs.lemmas.Nat.{pow_pos}
+use Rattle.std.proofs.lemmas.Bool.{cases_lt, eqb-true}
+use Rattle.std.proofs.Math.Nat.{mod-lt, div-add-mod}
+use Rattle.std.proofs.Math.Pow.{pow_mono}
+use Rattle.council_game.specs.Votes.{has, without}
+
+-- a number whose digit k is 1, with that digit and without
+record Split (c k : ℕ) : Type 0 where
+  high : ℕ
+  low : ℕ
+  small : low < 2 ^ k
+  with_digit : c ≡ (2 * high + 1) * 2 ^ k + low
+  without_digit : c - 2 ^ k ≡ 2 * high * 2 ^ k + low
+
+split : (c k : ℕ) → c / 2 ^ k % 2 ≡ 1 → Split c k
+split c k one =
+    let odd : c / 2 ^ k ≡ 2 * (c / 2 ^ k / 2) + 1 = omega (arith, one) in
+    let parts : c ≡ c / 2 ^ k * 2 ^ k + c % 2 ^ k = (let e = div-add-mod c (2 ^ k) in omega (arith, e)) in
+    let whole : c ≡ (2 * (c / 2 ^ k / 2) + 1) * 2 ^ k + c % 2 ^ k = parts ∙ ap (λ (a : ℕ). a * 2 ^ k + c % 2 ^ k) odd in
+    record {
+      high = c / 2 ^ k / 2;
+      low = c % 2 ^ k;
+      small = mod-lt c (pow_pos k);
+      with_digit = whole;
+      without_digit = less c (c / 2 ^ k / 2) (2 ^ k) (c % 2 ^ k) whole;
+    }
+  where
+    less : (c h m r : ℕ) → c ≡ (2 * h + 1) * m + r → c - m ≡ 2 * h * m + r
+    less c h m r e = omega (arith, e)
+
+-- the digits above the lowest are those of the half
+above-lowest : (h i : ℕ) → 0 < i → (2 * h + 1) / 2 ^ i % 2 ≡ 2 * h / 2 ^ i % 2
+above-lowest h zero pos = absurd (omega arith)
+above-lowest h (suc i) pos =
+    let odd : (2 * h + 1) / 2 ≡ h = omega arith in
+    let even : 2 * h / 2 ≡ h = omega arith in
+    bit_at-suc (2 * h + 1) i ∙ ap (λ (x : ℕ). x / 2 ^ i % 2) (odd ∙ sym even) ∙ sym (bit_at-suc (2 * h) i)
+
+digit-kept : (c k i : ℕ) → c / 2 ^ k % 2 ≡ 1 → i ≢ k → (c - 2 ^ k) / 2 ^ i % 2 ≡ c / 2 ^ i % 2
+digit-kept c k i one other =
+    let s = split c k one in
+    let left : (c - 2 ^ k) / 2 ^ i % 2 ≡ (2 * s.high * 2 ^ k + s.low) / 2 ^ i % 2 = ap (λ (x : ℕ). x / 2 ^ i % 2) s.without_digit in
+    let right : c / 2 ^ i % 2 ≡ ((2 * s.high + 1) * 2 ^ k + s.low) / 2 ^ i % 2 = ap (λ (x : ℕ). x / 2 ^ i % 2) s.with_digit in
+    elim (cases_lt i k) [
+      | inl lower ↦ left ∙ bit_at_cat_low (2 * s.high) k s.low i lower ∙ sym (right ∙ bit_at_cat_low (2 * s.high + 1) k s.low i lower)
+      | inr not_lower ↦
+          let e = above-lowest s.high (i - k) (omega (arith, other, not_lower)) in
+          left ∙ bit_at_cat_high (2 * s.high) k s.low i s.small not_lower ∙ sym e ∙ sym (right ∙ bit_at_cat_high (2 * s.high + 1) k s.low i s.small not_lower)
+    ]
+
+digit-gone : (c k : ℕ) → c / 2 ^ k % 2 ≡ 1 → (c - 2 ^ k) / 2 ^ k % 2 ≡ 0
+digit-gone c k one =
+    let s = split c k one in
+    let zero-up : k - k ≡ 0 = omega arith in
+    ap (λ (x : ℕ). x / 2 ^ k % 2) s.without_digit ∙ bit_at_cat_high (2 * s.high) k s.low k s.small (omega arith)
+    ∙ ap (λ (i : ℕ). 2 * s.high / 2 ^ i % 2) zero-up ∙ omega arith
+
+pub has-kept : (n p q c : ℕ) → p < n → q < n → p ≢ q → has n q c ≡ true → has n p (without n q c) ≡ has n p c
+unfolding has without
+has-kept n p q c lp lq other in' = ap (λ (x : ℕ). x == 1) (digit-kept c (n - 1 - q) (n - 1 - p) (eqb-true _ _ in') (λ e. other (omega arith)))
+
+pub has-gone : (n q c : ℕ) → has n q c ≡ true → has n q (without n q c) ≡ false
+unfolding has without
+has-gone n q c in' = ap (λ (x : ℕ). x == 1) (digit-gone c (n - 1 - q) (eqb-true _ _ in'))
+
+pub has-none : (n p : ℕ) → has n p 0 ≡ false
+unfolding has
+has-none n p = ap (λ (x : ℕ). x == 1) (bit_at-zero (n - 1 - p))
+
+-- the lowest place of a coalition that is not empty
+pub lowest-place : (n c : ℕ) → n ≤ 40 → 0 < c → c < 2 ^ n → (trailing_zeros w64 c < n) × (has n (n - 1 - trailing_zeros w64 c) c ≡ true)
+unfolding has
+lowest-place n c few pos below =
+    let up : 2 ^ n ≤ 2 ^ 40 = pow_mono few in
+    let wide : c < 2 ^ 64 = omega arith in
+    let z = bit_at-trailing_zeros w64 c pos wide in
+    elim (cases_lt (trailing_zeros w64 c) n) [
+      | inl lt ↦
+          let place : n - 1 - (n - 1 - trailing_zeros w64 c) ≡ trailing_zeros w64 c = omega arith in
+          (lt, eq-eqb (c / 2 ^ (n - 1 - (n - 1 - trailing_zeros w64 c)) % 2) 1 (ap (λ k. c / 2 ^ k % 2) place ∙ z.1))
+      | inr le ↦ let none = bit_at_above c n (trailing_zeros w64 c) below le in absurd (omega (arith, none, z.1))
+    ]
+
+-- the same of a number that is equal to it
+pub next-place : (n rest mask : ℕ) → n ≤ 40 → mask ≡ rest → 0 < rest → rest < 2 ^ n → (trailing_zeros w64 mask < n) × (has n (n - 1 - trailing_zeros w64 mask) rest ≡ true)
+next-place n rest mask few same pos below = subst (λ (m : ℕ). (trailing_zeros w64 m < n) × (has n (n - 1 - trailing_zeros w64 m) rest ≡ true)) (sym same) (lowest-place n rest few pos below)
+
+pub without-less : (n q c : ℕ) → 0 < c → without n q c < c
+unfolding without
+without-less n q c pos = let digit = pow_pos (n - 1 - q) in omega (arith, digit)

@@ -1,0 +1,96 @@
+-- Whether each member of a coalition is needed, told from the lanes, one member after another.
+use Rattle.std.proofs.Common.{◌≡◌, ℕ, ◌-◌, ◌*◌, ◌^◌, ◌<◌, ◌≤◌, leb, true, false, List, [], ◌∷◌, length, take, get_or, refl, sym, ap, ◌∙◌, subst, arith, cond, inl, inr}
+use Rattle.std.specs.List.{list_all}
+use Rattle.std.proofs.lemmas.Bool.{cases_eq, cond-true, both_ways}
+use Rattle.council_game.specs.Votes.{RuleView, Votes, has, without, weight, wins, minimal}
+use Rattle.std.specs.Int.{w64, trailing_zeros}
+use Rattle.council_game.proofs.Digits.{has-kept, has-gone, has-none, next-place, without-less}
+use Rattle.council_game.proofs.GameTests.{sum-without}
+use Rattle.council_game.proofs.Meanings.{needs-each-member}
+use Rattle.council_game.proofs.Weights.{weight-prefix}
+use Rattle.mwc_walk.specs.declared.lane.Lane.{Lane}
+use Rattle.mwc_walk.specs.declared.cursor.Cursor.{Cursor}
+use Rattle.mwc_walk.specs.Lanes.{lane_wins_without}
+use Rattle.mwc_walk.specs.Places.{LaneIs, LanesAre}
+use Rattle.mwc_walk.specs.Cursor.{CursorIs}
+
+-- at the prefix x of p places, the lanes tell whether it wins without one of them
+pub lanes-without : (n p x q : ℕ) (rs : List RuleView) (ls : List Lane) → p ≤ n → q < n → has n q (x * 2 ^ (n - p)) ≡ true → LanesAre n p x rs ls → list_all (lane_wins_without q) ls ≡ wins rs (without n q (x * 2 ^ (n - p)))
+unfolding wins
+lanes-without n p x q [] [] le below inside are = refl
+lanes-without n p x q [] (l ∷ ls) le below inside are = elim are [ ]
+lanes-without n p x q (r ∷ rs) [] le below inside are = elim are [ ]
+lanes-without n p x q (r ∷ rs) (l ∷ ls) le below inside are =
+    let is : LaneIs n p x r l = are.0 in
+    let long : length r.weights ≡ n = is.rule.0 in
+    let more = lanes-without n p x q rs ls le below inside are.1 in
+    let whole : weight r.weights (x * 2 ^ (n - p)) ≡ weight (take p r.weights) x =
+    ap (λ (m : ℕ). weight r.weights (x * 2 ^ (m - p))) (sym long) ∙ weight-prefix r.weights p x (omega arith) in
+    let less : l.sum - get_or r.weights q 0 ≡ weight r.weights (without n q (x * 2 ^ (n - p))) =
+    sum-without n r (x * 2 ^ (n - p)) q l.sum is.rule below inside (is.sum_is ∙ sym whole) in
+    let here : leb l.quota (l.sum - get_or l.weights q 0) ≡ leb r.quota (weight r.weights (without n q (x * 2 ^ (n - p)))) =
+    rw (is.quota, is.weights q below, less) refl in
+    rw (here, more) refl
+
+-- of the places of c, those that are not in rest are needed
+pub record Tried (v : Votes) (c rest : ℕ) : Type 0 where
+  pub below : rest < 2 ^ v.members
+  pub inside : (q : ℕ) → q < v.members → has v.members q rest ≡ true → has v.members q c ≡ true
+  pub needed : (q : ℕ) → q < v.members → has v.members q c ≡ true → has v.members q rest ≡ false → wins v.rules (without v.members q c) ≡ false
+
+pub tried-none : (v : Votes) (c : ℕ) → c < 2 ^ v.members → Tried v c c
+tried-none v c below = record {
+  below = below;
+  inside = λ q lt in'. in';
+  needed = λ q lt in' out. absurd (both_ways _ out in');
+}
+
+pub tried-more : (v : Votes) (c rest left q : ℕ) → 0 < rest → q < v.members → has v.members q rest ≡ true → left ≡ without v.members q rest → wins v.rules (without v.members q c) ≡ false → Tried v c rest → Tried v c left
+tried-more v c rest left q pos below in' is lost tried =
+    subst (Tried v c) (sym is) (record {
+      below = let less = without-less v.members q rest pos in omega (arith, less, tried.below);
+      inside = λ p lt still. elim (cases_eq p q) [
+        | inl same ↦ absurd (both_ways _ (gone p same) still)
+        | inr other ↦ tried.inside p lt (sym (has-kept v.members p q rest lt below other in') ∙ still)
+      ];
+      needed = λ p lt inside out. elim (cases_eq p q) [
+        | inl same ↦ ap (λ (i : ℕ). wins v.rules (without v.members i c)) same ∙ lost
+        | inr other ↦ tried.needed p lt inside (sym (has-kept v.members p q rest lt below other in') ∙ out)
+      ];
+    })
+  where
+    gone : (p : ℕ) → p ≡ q → has v.members p (without v.members q rest) ≡ false
+    gone p same = ap (λ (i : ℕ). has v.members i (without v.members q rest)) same ∙ has-gone v.members q rest in'
+
+pub tried-all : (v : Votes) (c rest : ℕ) → rest ≡ 0 → wins v.rules c ≡ true → Tried v c rest → minimal v c ≡ true
+tried-all v c rest none won tried =
+    (needs-each-member v c).1 (won, λ q lt in'. tried.needed q lt in' (ap (has v.members q) none ∙ has-none v.members q))
+
+-- the last place of rest, as the cursor computes it
+pub record LastPlace (v : Votes) (a : Cursor) (rest mask : ℕ) : Type 0 where
+  pub small : trailing_zeros w64 mask < a.members
+  pub below : a.members - 1 - trailing_zeros w64 mask < v.members
+  pub inside : has v.members (a.members - 1 - trailing_zeros w64 mask) rest ≡ true
+  pub left : cond (has a.members (a.members - 1 - trailing_zeros w64 mask) rest) (without a.members (a.members - 1 - trailing_zeros w64 mask) rest) rest
+      ≡ without v.members (a.members - 1 - trailing_zeros w64 mask) rest
+
+pub last-place : (v : Votes) (a : Cursor) (c rest mask : ℕ) → CursorIs v a → mask ≡ rest → 0 < rest → Tried v c rest → LastPlace v a rest mask
+last-place v a c rest mask is same pos tried =
+    let few : a.members ≤ 40 = omega (arith, is.members, is.game.1) in
+    let short : rest < 2 ^ a.members = subst (λ (n : ℕ). rest < 2 ^ n) (sym is.members) tried.below in
+    let next = next-place a.members rest mask few same pos short in
+    record {
+      small = next.0;
+      below = omega (arith, next.0, is.members);
+      inside = subst (λ (n : ℕ). has n (a.members - 1 - trailing_zeros w64 mask) rest ≡ true) is.members next.1;
+      left =
+          cond-true (has a.members (a.members - 1 - trailing_zeros w64 mask) rest) (without a.members (a.members - 1 - trailing_zeros w64 mask) rest) rest next.1
+          ∙ ap (λ (n : ℕ). without n (a.members - 1 - trailing_zeros w64 mask) rest) is.members;
+    }
+
+-- what the lanes say of the coalition without a place that is in it
+pub wins-without : (v : Votes) (a : Cursor) (c q : ℕ) → CursorIs v a → c ≡ a.prefix * 2 ^ (v.members - a.place) → q < v.members → has v.members q c ≡ true →
+    list_all (lane_wins_without q) (take a.rules a.lanes) ≡ wins v.rules (without v.members q c)
+wins-without v a c q is mask below inside =
+    lanes-without v.members a.place a.prefix q v.rules (take a.rules a.lanes) is.to below (ap (has v.members q) (sym mask) ∙ inside) is.lanes
+    ∙ ap (λ (m : ℕ). wins v.rules (without v.members q m)) (sym mask)
