@@ -21,10 +21,10 @@ use Rattle.council_report.specs.Report.{coalition_lines, size_lines, member_line
 use Rattle.council_report.specs.Lines.{tabbed, line, slashed, name_of, names_of, weights_of_coalition, weights_of_member, member_fields, index_fields, coalition_line, size_line, member_line}
 
 -- a field of a line
-abbrev IsField : List ℕ → Type 0
+abbrev pub IsField : List ℕ → Type 0
 IsField field = length field ≤ 84
 
-tabbed-fits : (fields : List (List ℕ)) → AllByRecursion IsField fields → length (flat_map tabbed fields) ≤ length fields * 85
+pub tabbed-fits : (fields : List (List ℕ)) → AllByRecursion IsField fields → length (flat_map tabbed fields) ≤ length fields * 85
 tabbed-fits [] h = omega arith
 tabbed-fits (f ∷ fs) h =
     let first : length f ≤ 84 = h.0 in
@@ -64,7 +64,7 @@ fraction-fits top bottom a b =
     omega (arith, first, last, length-append (decimal top) (47 ∷ decimal bottom))
 
 -- ---- rows of fields
-each-field : {X : Type 0} (f : X → List ℕ) → ((x : X) → IsField (f x)) → (xs : List X) → AllByRecursion IsField (map f xs)
+pub each-field : {X : Type 0} (f : X → List ℕ) → ((x : X) → IsField (f x)) → (xs : List X) → AllByRecursion IsField (map f xs)
 each-field f h [] = tt
 each-field f h (x ∷ xs) = (h x, each-field f h xs)
 
@@ -79,7 +79,7 @@ own-values : (i n : ℕ) (rs : List RuleView) → i < n → AllByRecursion (λ r
 own-values i n [] lt h = tt
 own-values i n (r ∷ rs) lt h = let most = h.0 i lt in (omega (arith, most), own-values i n rs lt h.1)
 
-name-fits : (g : GameView) → IsGame g → (i : ℕ) → IsField (name_of g i)
+pub name-fits : (g : GameView) → IsGame g → (i : ℕ) → IsField (name_of g i)
 name-fits g game i = let fit = names-fit g game i in omega (arith, fit)
 
 -- ---- the lines

@@ -1,9 +1,11 @@
 pub mod Bounds
 pub mod Room
-pub mod Names
 pub mod Holding
 pub mod Telling
 pub mod Rows
 pub mod Turns
 pub mod Wholes
 pub mod Lasting
+pub mod Beginnings
+pub mod SharedLines
+pub mod Differences

@@ -3,3 +3,4 @@ pub mod Told
 pub mod Ready
 pub mod Report
 pub mod Outcome
+pub mod Shared

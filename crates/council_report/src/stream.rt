@@ -1,31 +1,41 @@
 //! The lines of a report on their way to its writer.
 ghost use Rattle.std.specs.Prelude.{length, IfErr, OnOk};
 ghost use Rattle.std.specs.List.{flat_map, range_with_len};
-ghost use Rattle.power_index.specs.Counting.{members};
+ghost use Rattle.power_index.specs.Counting.{members, AreCoalitions};
 ghost use Rattle.council_report.specs.Lines.{coalition_line, size_line, member_line};
+ghost use Rattle.council_report.specs.Shared.{IsReadyLine};
 ghost use Rattle.council_report.specs.Told.{told, Tells, StoppedIn};
 ghost use Rattle.council_report.specs.Ready.{IsReady, CanCount};
 
 use crate::indices::{push_member, push_size};
-use crate::lines::push_coalition;
 use crate::listing::Listing;
 use crate::output::{Block, WriteFault};
+use crate::shared::SharedLine;
+use council_game::{Coalition, Game};
 use std::io::Write;
 
-/// A line for each coalition.
+/// A line for each coalition, in the order of the list, whichever that is.
 pub(crate) fn put_coalitions<W: Write>(
     block: &mut Block,
     writer: &mut W,
-    listing: &Listing<'_>,
+    game: &Game,
+    list: &[Coalition],
+    line: &mut SharedLine,
 ) -> Result<(), WriteFault>
+    requires coalitions { AreCoalitions game.now list.now }
+    requires line { IsReadyLine game.now line.old }
     requires ready { IsReady block.old }
-    requires counted { CanCount block.old (flat_map (coalition_line listing.now.game.now) listing.now.list.now) }
-    ensures ok { OnOk result (Tells (told (W.contents writer.old) block.old) (told (W.contents writer.new) block.new) (flat_map (coalition_line listing.now.game.now) listing.now.list.now)) }
+    requires counted { CanCount block.old (flat_map (coalition_line game.now) list.now) }
+    ensures ok { OnOk result (Tells (told (W.contents writer.old) block.old)
+        (told (W.contents writer.new) block.new) (flat_map (coalition_line game.now) list.now)) }
     ensures ready { OnOk result (IsReady block.new) }
-    ensures err { IfErr result (λ fault. StoppedIn (told (W.contents writer.old) block.old) (flat_map (coalition_line listing.now.game.now) listing.now.list.now) (W.contents writer.new) fault.written) }
+    ensures line { OnOk result (IsReadyLine game.now line.new) }
+    ensures err { IfErr result (λ fault. StoppedIn (told (W.contents writer.old) block.old)
+        (flat_map (coalition_line game.now) list.now) (W.contents writer.new) fault.written) }
 {
-    for coalition in listing.list {
-        match push_coalition(&mut block.bytes, listing.game, *coalition) {
+    for coalition in list {
+        line.move_to(game, *coalition);
+        match line.push(&mut block.bytes, game) {
             Ok(()) => block.settle(writer)?,
             Err(_) => unreachable!(),
         }

@@ -20,7 +20,7 @@ returns-in-Err-clause-err g c =
 
 pub send-requires-clause-counted : goal.send-requires-clause-counted
 send-requires-clause-counted g c =
-    let lines = lines-fit c.args.shown c.args.game.now c.members.ensures.game c.args.list.now c.requires.some c.requires.few in
+    let lines = lines-fit c.args.shown c.args.game.now c.members-members.ensures.game c.args.list.now c.requires.some c.requires.few in
     let bytes = c.push_heading.new.out.ok in
     let small = c.push_heading.new.out.small in
     let none = c.in_ok-block.ensures.empty.1 in

@@ -1,11 +1,14 @@
 use Rattle.std.proofs.Common.{take}
 use Rattle.std.specs.List.{flat_map}
 use Rattle.council_report.specs.Lines.{coalition_line}
+use Rattle.council_report.specs.Shared.{IsReadyLine}
 use Rattle.council_report.specs.Told.{told}
 use Rattle.council_report.proofs.Lasting.{Lasts}
 use Rattle.council_report.proofs.stream.put_coalitions.Given as goal
 
 abbrev pub invariant-loop-coalition : goal.invariant-loop-coalition
-invariant-loop-coalition g l =
-    Lasts (told (g.W.Write.contents l.initial.writer) l.initial.block) (g.W.Write.contents l.writer) l.block
-    (flat_map (coalition_line l.listing.game.now) (take l.coalition-index l.listing.list.now))
+invariant-loop-coalition g l = record {
+  lasts : Lasts (told (g.W.Write.contents l.initial.writer) l.initial.block) (g.W.Write.contents l.writer) l.block
+      (flat_map (coalition_line l.game) (take l.coalition-index l.list));
+  line : IsReadyLine l.game l.line;
+}

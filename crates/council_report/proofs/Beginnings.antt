@@ -1,0 +1,184 @@
+-- The places of a coalition, one by one, and what their members add to a line.
+use Rattle.std.proofs.Common.{◌≡◌, ℕ, zero, suc, ◌+◌, ◌-◌, ◌<◌, ◌≤◌, ◌++◌, Bool, true, false, cond, List, [], ◌∷◌, length, map, sum, filter, slice_index, refl, sym, ap, ◌∙◌, arith, append_assoc, inl, inr}
+use Rattle.std.specs.List.{flat_map, range_with_len, AllByRecursion}
+use Rattle.std.proofs.lemmas.Bool.{cases_lt, cond-true, cond-false}
+use Rattle.std.proofs.lemmas.Grind.{flat_map-append}
+use Rattle.std.proofs.lemmas.List.{map-append, map-id, append-nil, length-map, get_or_past}
+use Rattle.std.proofs.lemmas.List.Elements.{All-from_recursion}
+use Rattle.std.proofs.lemmas.List.FromFn.{filter_of_map_range_with_len_more, length-range_with_len}
+use Rattle.std.proofs.lemmas.List.Sums.{sum_by-append, sum_by-cons}
+use Rattle.council_game.specs.Votes.{RuleView, IsRule, has, weight, rule_at}
+use Rattle.council_game.specs.Game.{GameView, IsGame, votes_of}
+use Rattle.council_game.proofs.Games.{votes-are}
+use Rattle.council_game.proofs.Meanings.{weighs-its-members}
+use Rattle.council_game.proofs.Weights.{weight-le}
+use Rattle.power_index.proofs.Sums.{length-filter-le}
+use Rattle.council_report.specs.Lines.{tabbed, names_of}
+use Rattle.council_report.specs.Shared.{places_before, name_at, fields_of, weights_under, weight_of_places, NoneFrom, SameBefore}
+use Rattle.council_report.proofs.Bounds.{tabbed-fits, each-field, name-fits}
+
+filter-more : (p : ℕ → Bool) (k : ℕ) → filter p (range_with_len 0 (k + 1)) ≡ filter p (range_with_len 0 k) ++ cond (p k) (k ∷ []) []
+filter-more p k =
+    let e = filter_of_map_range_with_len_more p (λ x. x) 0 k k (omega arith) in
+    simp map-id at e
+
+-- ---- the places before one
+before-more : (n c k : ℕ) → places_before n c (k + 1) ≡ places_before n c k ++ cond (has n k c) (k ∷ []) []
+unfolding places_before
+before-more n c k = filter-more (λ p. has n p c) k
+
+pub before-none : (n c : ℕ) → places_before n c 0 ≡ []
+unfolding places_before
+before-none n c = refl
+
+pub before-in : (n c k : ℕ) → has n k c ≡ true → places_before n c (k + 1) ≡ places_before n c k ++ k ∷ []
+before-in n c k in' = before-more n c k ∙ ap (λ (ps : List ℕ). places_before n c k ++ ps) (cond-true (has n k c) (k ∷ []) [] in')
+
+pub before-out : (n c k : ℕ) → has n k c ≡ false → places_before n c (k + 1) ≡ places_before n c k
+before-out n c k out =
+    before-more n c k ∙ ap (λ (ps : List ℕ). places_before n c k ++ ps) (cond-false (has n k c) (k ∷ []) [] out)
+    ∙ append-nil (places_before n c k)
+
+-- two coalitions with the same of them
+pub before-same : (n a b k : ℕ) → SameBefore n k a b → places_before n a k ≡ places_before n b k
+before-same n a b zero same = before-none n a ∙ sym (before-none n b)
+before-same n a b (suc k) same =
+    let first = before-same n a b k (λ p below. same p (omega (arith, below))) in
+    let last = same k (omega arith) in
+    let next : suc k ≡ k + 1 = omega arith in
+    ap (places_before n a) next ∙ before-more n a k
+    ∙ ap (λ (ps : List ℕ). ps ++ cond (has n k a) (k ∷ []) []) first
+    ∙ ap (λ (b' : Bool). places_before n b k ++ cond b' (k ∷ []) []) last
+    ∙ sym (before-more n b k) ∙ ap (places_before n b) (sym next)
+
+-- m places more, none of them in
+before-further : (n c k m : ℕ) → NoneFrom n k c → k + m ≤ n → places_before n c (k + m) ≡ places_before n c k
+before-further n c k zero none le = ap (places_before n c) (let e : k + zero ≡ k = omega arith in e)
+before-further n c k (suc m) none le =
+    let next : k + suc m ≡ k + m + 1 = omega arith in
+    ap (places_before n c) next ∙ before-out n c (k + m) (none (k + m) (omega arith) (omega (arith, le)))
+    ∙ before-further n c k m none (omega (arith, le))
+
+-- those before k are all
+pub before-all : (n c k : ℕ) → k ≤ n → NoneFrom n k c → places_before n c n ≡ places_before n c k
+before-all n c k le none =
+    let m = n - k in
+    let e : k + m ≡ n = omega (arith, le) in
+    ap (places_before n c) (sym e) ∙ before-further n c k m none (omega (arith, e))
+
+-- those of m places more come behind
+before-split : (n c k m : ℕ) → (rest : List ℕ) × (places_before n c (k + m) ≡ places_before n c k ++ rest)
+before-split n c k zero = ([], ap (places_before n c) (let e : k + zero ≡ k = omega arith in e) ∙ sym (append-nil (places_before n c k)))
+before-split n c k (suc m) =
+    let s = before-split n c k m in
+    let next : k + suc m ≡ k + m + 1 = omega arith in
+    let more : List ℕ = cond (has n (k + m) c) ((k + m) ∷ []) [] in (
+      s.0 ++ more,
+      ap (places_before n c) next ∙ before-more n c (k + m) ∙ ap (λ (ps : List ℕ). ps ++ more) s.1
+          ∙ append_assoc (places_before n c k) s.0 more,
+    )
+
+pub before-front : (n c k j : ℕ) → k ≤ j → (rest : List ℕ) × (places_before n c j ≡ places_before n c k ++ rest)
+before-front n c k j le =
+    let s = before-split n c k (j - k) in
+    let e : k + (j - k) ≡ j = omega (arith, le) in
+    (s.0, ap (places_before n c) (sym e) ∙ s.1)
+
+before-few : (n c k : ℕ) → length (places_before n c k) ≤ k
+unfolding places_before
+before-few n c k = let less = length-filter-le (λ p. has n p c) (range_with_len 0 k) in omega (arith, less, length-range_with_len 0 k)
+
+-- ---- the names
+pub fields-append : (g : GameView) (ps qs : List ℕ) → fields_of g (ps ++ qs) ≡ fields_of g ps ++ fields_of g qs
+unfolding fields_of
+fields-append g ps qs =
+    ap (flat_map tabbed) (map-append (λ p. name_at g p) ps qs)
+    ∙ flat_map-append tabbed (map (λ p. name_at g p) ps) (map (λ p. name_at g p) qs)
+
+pub fields-more : (g : GameView) (ps : List ℕ) (p : ℕ) → fields_of g (ps ++ p ∷ []) ≡ fields_of g ps ++ tabbed (name_at g p)
+unfolding fields_of
+fields-more g ps p = fields-append g ps (p ∷ []) ∙ ap (λ (t : List ℕ). fields_of g ps ++ t) (append-nil (tabbed (name_at g p)))
+
+pub fields-none : (g : GameView) → fields_of g [] ≡ []
+unfolding fields_of
+fields-none g = refl
+
+pub fields-all : (g : GameView) (c : ℕ) → fields_of g (places_before (length g.names) c (length g.names)) ≡ flat_map tabbed (names_of g c)
+unfolding fields_of places_before
+fields-all g c = refl
+
+pub fields-fit : (g : GameView) → IsGame g → (c k : ℕ) → k ≤ 40 → length (fields_of g (places_before (length g.names) c k)) ≤ 3400
+unfolding fields_of
+fields-fit g game c k few =
+    let ps : List ℕ = places_before (length g.names) c k in
+    let name : ℕ → List ℕ = λ p. name_at g p in
+    let fit = tabbed-fits (map name ps) (each-field name (λ p. name-fits g game _) ps) in
+    omega (arith, fit, length-map ps name, before-few (length g.names) c k, few)
+
+-- ---- the weights
+weights-append : (g : GameView) (r : ℕ) (ps qs : List ℕ) → weight_of_places g r (ps ++ qs) ≡ weight_of_places g r ps + weight_of_places g r qs
+unfolding weight_of_places
+weights-append g r ps qs =
+    let w : ℕ → ℕ = λ p. slice_index (weights_under g r) p in
+    ap (λ (t : List ℕ). sum t) (map-append w ps qs) ∙ sum_by-append (λ (y : ℕ). y) (map w ps) (map w qs)
+
+pub weights-none : (g : GameView) (r : ℕ) → weight_of_places g r [] ≡ 0
+unfolding weight_of_places
+weights-none g r = refl
+
+pub weights-more : (g : GameView) (r : ℕ) (ps : List ℕ) (p : ℕ) → weight_of_places g r (ps ++ p ∷ []) ≡ weight_of_places g r ps + slice_index (weights_under g r) p
+unfolding weight_of_places
+weights-more g r ps p =
+    let w : ℕ → ℕ = λ q. slice_index (weights_under g r) q in
+    let last : weight_of_places g r (p ∷ []) ≡ w p + sum (map w []) = sum_by-cons (λ (y : ℕ). y) (w p) (map w []) in
+    omega (arith, weights-append g r ps (p ∷ []), last, weights-none g r)
+
+-- a rule of the game
+pub rule-is : (g : GameView) → IsGame g → (r : ℕ) → r < length g.rules → IsRule (length g.names) (rule_at (votes_of g).rules r)
+rule-is g game r lt =
+    let votes = votes-are g game in
+    let each : AllByRecursion (IsRule (length g.names)) (votes_of g).rules = votes.4 in
+    let long : length (votes_of g).rules ≡ length g.rules = length-map g.rules _ in
+    All-from_recursion (IsRule (length g.names)) (votes_of g).rules each r _ (omega (arith, long, lt))
+
+pub weights-all : (g : GameView) → IsGame g → (r c : ℕ) → r < length g.rules → weight_of_places g r (places_before (length g.names) c (length g.names)) ≡ weight (rule_at (votes_of g).rules r).weights c
+unfolding weight_of_places weights_under places_before
+weights-all g game r c lt =
+    let rule = rule-is g game r lt in
+    let ws : List ℕ = (rule_at (votes_of g).rules r).weights in
+    ap (λ (n : ℕ). sum (map (λ p. slice_index ws p) (filter (λ p. has n p c) (range_with_len 0 n)))) (sym rule.0)
+    ∙ sym (weighs-its-members ws c)
+
+-- where there is no rule, nothing weighs anything
+pub under-none : (g : GameView) (r p : ℕ) → length g.rules ≤ r → slice_index (weights_under g r) p ≡ 0
+unfolding weights_under
+under-none g r p past =
+    let long : length (votes_of g).rules ≡ length g.rules = length-map g.rules _ in
+    let none : rule_at (votes_of g).rules r ≡ record { quota = 0; weights = [] } = get_or_past (votes_of g).rules r _ (omega (arith, long, past)) in
+    ap (λ (v : RuleView). slice_index v.weights p) none
+
+weights-past : (g : GameView) (r : ℕ) → length g.rules ≤ r → (ps : List ℕ) → weight_of_places g r ps ≡ 0
+weights-past g r past [] = weights-none g r
+weights-past g r past (p ∷ ps) =
+    let first = weights-append g r (p ∷ []) ps in
+    let alone = weights-more g r [] p in
+    let light = under-none g r p past in
+    omega (arith, first, alone, light, weights-none g r, weights-past g r past ps)
+
+pub weights-light : (g : GameView) → IsGame g → (r c k : ℕ) → k ≤ length g.names → weight_of_places g r (places_before (length g.names) c k) ≤ 40000000000000
+weights-light g game r c k le =
+    let n : ℕ = length g.names in
+    elim (cases_lt r (length g.rules)) [
+      | inl lt ↦
+          let rule = rule-is g game r lt in
+          let front = before-front n c k n le in
+          let whole = ap (weight_of_places g r) front.1 ∙ weights-append g r (places_before n c k) front.0 in
+          let most = weight-le (rule_at (votes_of g).rules r).weights c in
+          omega (arith, whole, weights-all g game r c lt, most, rule.3)
+      | inr past ↦ omega (arith, weights-past g r past (places_before n c k))
+    ]
+
+-- a rule's weights by rank
+pub under-is : (g : GameView) (r : ℕ) → weights_under g r ≡ (rule_at (votes_of g).rules r).weights
+unfolding weights_under
+under-is g r = refl

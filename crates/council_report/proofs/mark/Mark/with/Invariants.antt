@@ -1,0 +1,10 @@
+use Rattle.std.proofs.Common.{◌≡◌, ◌+◌, ◌<◌, ◌≤◌, ℕ, length, slice_index}
+use Rattle.council_report.proofs.mark.Mark.with.Given as goal
+
+-- the first so many were added
+abbrev pub invariant-loop-rule : goal.invariant-loop-rule
+invariant-loop-rule l = record {
+  long : length l.weights ≡ 4;
+  done : (r : ℕ) → r < l.rule → slice_index l.weights r ≡ slice_index l.self.weights r + slice_index l.seat.weights r;
+  rest : (r : ℕ) → l.rule ≤ r → slice_index l.weights r ≡ slice_index l.self.weights r;
+}

@@ -1,0 +1,25 @@
+use Rattle.std.proofs.Common.{◌≡◌, ◌-◌, ◌≤◌, ℕ, subst, sym, ap, ◌∙◌, arith, bit_xor}
+use Rattle.std.specs.Int.{w64, leading_zeros}
+use Rattle.council_report.specs.Shared.{SameBefore}
+use Rattle.council_report.proofs.Differences.{Differs, differs}
+use Rattle.council_report.proofs.places.first_difference.Goals as goal
+
+-- the same of their masks
+masks-differ : (n a b x y : ℕ) → x ≡ a → y ≡ b → Differs n a b (bit_xor a b) → Differs n a b (bit_xor x y)
+masks-differ n a b x y first second = subst (Differs n a b) (ap (λ (u : ℕ). bit_xor u b) (sym first) ∙ ap (bit_xor x) (sym second))
+
+-- so many places are the same
+shared : (n a b x : ℕ) → Differs n a b x → (64 - leading_zeros w64 x ≤ n) × SameBefore n (n - (64 - leading_zeros w64 x)) a b
+shared n a b x d =
+    let digits : d.digits ≡ 64 - leading_zeros w64 x = omega (arith, d.count) in
+    subst (λ (m : ℕ). (m ≤ n) × SameBefore n (n - m) a b) digits (d.within, d.same)
+
+pub overflow_sub-result : goal.overflow_sub-result
+overflow_sub-result c =
+    let d = masks-differ c.args.members c.args.a c.args.b c.mask.result c.mask-2.result c.mask.ensures.same c.mask-2.ensures.same (differs c.args.members c.args.a c.args.b c.requires.few c.requires.a_below c.requires.b_below) in
+    (shared c.args.members c.args.a c.args.b (bit_xor c.mask.result c.mask-2.result) d).0
+
+pub returns-clause-same : goal.returns-clause-same
+returns-clause-same c =
+    let d = masks-differ c.args.members c.args.a c.args.b c.mask.result c.mask-2.result c.mask.ensures.same c.mask-2.ensures.same (differs c.args.members c.args.a c.args.b c.requires.few c.requires.a_below c.requires.b_below) in
+    (shared c.args.members c.args.a c.args.b (bit_xor c.mask.result c.mask-2.result) d).1

@@ -1,0 +1,14 @@
+use Rattle.std.proofs.Common.{arith}
+use Rattle.council_report.proofs.SharedLines.{line-kept, no_mark}
+use Rattle.council_report.proofs.shared.SharedLine.keep.Goals as goal
+
+pub offset_bounds-self-shared : goal.offset_bounds-self-shared
+offset_bounds-self-shared c = omega (arith, c.requires.line.few, c.requires.line.within, c.requires.within)
+
+pub bounds-self-shared : goal.bounds-self-shared
+bounds-self-shared c = omega (arith, c.requires.line.few, c.requires.line.within, c.requires.within)
+
+pub returns-clause-line : goal.returns-clause-line
+returns-clause-line c =
+    line-kept c.args.game.now c.args.self.now c.truncate.new.self c.args.shared c.args.coalition no_mark c.requires.line c.requires.within c.requires.same
+    c.truncate.ensures.items c.truncate.ensures.capacity

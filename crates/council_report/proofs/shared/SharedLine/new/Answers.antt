@@ -1,0 +1,13 @@
+use Rattle.std.proofs.Common.{◌^◌, ◌<◌, length, refl, arith}
+use Rattle.std.proofs.lemmas.Nat.{pow_pos}
+use Rattle.council_report.proofs.SharedLines.{line-first, none-mark}
+use Rattle.council_report.proofs.shared.SharedLine.new.Goals as goal
+
+pub returns : goal.returns
+returns c =
+    let zero : 0 < 2 ^ length c.args.game.now.names = pow_pos (length c.args.game.now.names) in
+    record {
+      is = line-first c.args.game.now _ c.requires c.in_ok-seats_of.ensures refl c.in_ok-with_capacity.ensures.items (omega (arith, c.in_ok-with_capacity.ensures.exact)) refl
+          (λ d. none-mark c.args.game.now c.none.result c.none.ensures.length c.none.ensures.long c.none.ensures.weights);
+      below = omega (arith, zero, c.of_mask.ensures);
+    }

@@ -1,0 +1,47 @@
+//! How long a line's names are at a place, and what their members weigh.
+ghost use Rattle.std.specs.Prelude.{◌≡◌, ◌+◌, ◌^◌, ◌<◌, ℕ, length, slice_index};
+
+use crate::seat::Seat;
+
+/// How long the names of the members before a place are, and what these weigh under each rule.
+#[derive(Clone, Copy)]
+pub(crate) struct Mark {
+    pub(crate) length: usize,
+    pub(crate) weights: [u64; 4],
+}
+
+impl Mark {
+    /// The mark of no member.
+    pub(crate) fn none() -> Mark
+        ensures length { result.length ≡ 0 }
+        ensures long { length result.weights ≡ 4 }
+        ensures weights { (r : ℕ) → slice_index result.weights r ≡ 0 }
+    {
+        Mark {
+            length: 0,
+            weights: [0; 4],
+        }
+    }
+
+    /// The mark with one member more.
+    pub(crate) fn with(self, seat: &Seat) -> Mark
+        requires length { self.length + length seat.now.field.items < 2 ^ 64 }
+        requires long { length self.weights ≡ 4 }
+        requires seat_long { length seat.now.weights ≡ 4 }
+        requires weights { (r : ℕ) → r < 4 →
+            slice_index self.weights r + slice_index seat.now.weights r < 2 ^ 64 }
+        ensures length { result.length ≡ self.length + length seat.now.field.items }
+        ensures long { length result.weights ≡ 4 }
+        ensures weights { (r : ℕ) → r < 4 →
+            slice_index result.weights r ≡ slice_index self.weights r + slice_index seat.now.weights r }
+    {
+        let mut weights = self.weights;
+        for rule in 0..4 {
+            weights[rule] += seat.weights[rule];
+        }
+        Mark {
+            length: self.length + seat.field.len(),
+            weights,
+        }
+    }
+}

@@ -1,0 +1,28 @@
+//! Which places two coalitions have in common.
+ghost use Rattle.std.specs.Prelude.{◌^◌, ◌<◌, ◌≤◌, length};
+ghost use Rattle.council_report.specs.Shared.{NoneFrom, SameBefore};
+
+use council_game::Coalition;
+
+/// The first place, of so many, at which two coalitions differ; the number of places where they are the same.
+pub(crate) fn first_difference(members: usize, a: Coalition, b: Coalition) -> usize
+    requires few { members ≤ 40 }
+    requires a_below { a < 2 ^ members }
+    requires b_below { b < 2 ^ members }
+    ensures within { result ≤ members }
+    ensures same { SameBefore members result a b }
+{
+    let digits = 64 - (a.mask() ^ b.mask()).leading_zeros() as usize;
+    members - digits
+}
+
+/// The place behind the last one that is in a coalition.
+pub(crate) fn past_last(members: usize, coalition: Coalition) -> usize
+    requires few { members ≤ 40 }
+    requires some { 0 < coalition }
+    requires below { coalition < 2 ^ members }
+    ensures within { result ≤ members }
+    ensures none { NoneFrom members result coalition }
+{
+    members - coalition.mask().trailing_zeros() as usize
+}

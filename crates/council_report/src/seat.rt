@@ -1,0 +1,62 @@
+//! What a member adds to the line of a coalition.
+ghost use Rattle.std.specs.Prelude.{◌≡◌, ◌<◌, ℕ, length, slice_index, IfOk};
+ghost use Rattle.council_game.specs.Game.{IsGame};
+ghost use Rattle.council_report.specs.Shared.{IsSeat, AreSeats, weights_under};
+
+use crate::text::push_field;
+use council_game::Game;
+use std::alloc::{AllocError, Global};
+
+/// What the member of a rank place adds to the line of a coalition.
+#[derive(Drop)]
+pub(crate) struct Seat {
+    /// A TAB and its name.
+    pub(crate) field: Vec<u8>,
+    /// Its weight under each rule, and 0 past the last.
+    pub(crate) weights: [u64; 4],
+}
+
+/// The weights of the member of a rank place, one for each rule, and 0 past the last.
+fn weights_at(game: &Game, place: usize) -> [u64; 4]
+    requires game { IsGame game.now }
+    requires place { place < length game.now.names }
+    ensures long { length result ≡ 4 }
+    ensures weights { (r : ℕ) → r < 4 →
+        slice_index result r ≡ slice_index (weights_under game.now r) place }
+{
+    let member = game.member_at(place);
+    let mut weights = [0; 4];
+    for rule in 0..game.rules() {
+        weights[rule] = game.rule_weight(rule, member);
+    }
+    weights
+}
+
+impl Seat {
+    /// The seat of a rank place.
+    fn new(alloc: Global, game: &Game, place: usize) -> Result<Seat, AllocError>
+        requires game { IsGame game.now }
+        requires place { place < length game.now.names }
+        ensures { IfOk result (IsSeat game.now place) }
+    {
+        let name = game.name(game.member_at(place));
+        let mut field = Vec::with_capacity(alloc, 1 + name.len())?;
+        push_field(&mut field, name.as_bytes())?;
+        Ok(Seat {
+            field,
+            weights: weights_at(game, place),
+        })
+    }
+}
+
+/// The seats of a game's members, by rank.
+pub(crate) fn seats_of(alloc: Global, game: &Game) -> Result<Vec<Seat>, AllocError>
+    ensures { IfOk result (λ seats. AreSeats game.now (length game.now.names) seats.items) }
+{
+    let members = game.members();
+    let mut seats = Vec::with_capacity(alloc, members)?;
+    for place in 0..members {
+        seats.push(Seat::new(alloc, game, place)?)?;
+    }
+    Ok(seats)
+}

@@ -1,0 +1,168 @@
+//! A line that one coalition shares with the next.
+ghost use Rattle.std.specs.Prelude.{◌≡◌, ◌++◌, ◌+◌, ◌^◌, ◌<◌, ◌≤◌, true, false, length, IfOk, OnOk};
+ghost use Rattle.std.specs.List.{flat_map};
+ghost use Rattle.council_game.specs.Game.{IsGame, votes_of};
+ghost use Rattle.council_game.specs.Votes.{has, rule_at, weight};
+ghost use Rattle.council_file.specs.Room.{Takes};
+ghost use Rattle.council_report.specs.Lines.{coalition_line, tabbed, slashed, weights_of_coalition, names_of};
+ghost use Rattle.council_report.specs.Shared.{IsLine, IsReadyLine, IsWholeLine, NoneFrom, SameBefore};
+
+use crate::lines::end_line;
+use crate::mark::Mark;
+use crate::places::{first_difference, past_last};
+use crate::seat::{Seat, seats_of};
+use crate::text::{push_number, push_values};
+use council_game::{Coalition, Game};
+use std::alloc::{AllocError, Global};
+
+/// The bytes that are kept for the names of a line.
+const ROOM: usize = 4_096;
+
+/// The line of a coalition, with a mark at each place up to its last member. What the next coalition
+/// shares with it is kept, and only what follows is made anew; in listing order this is little.
+#[derive(Drop)]
+pub(crate) struct SharedLine {
+    /// What each member adds, by rank.
+    pub(crate) seats: Vec<Seat>,
+    /// The coalition whose line this is.
+    pub(crate) coalition: Coalition,
+    /// The names of its members, each after a TAB.
+    pub(crate) names: Vec<u8>,
+    /// How many places were looked at: no member comes behind.
+    pub(crate) end: usize,
+    /// How long the names before each place are, and what their members weigh.
+    pub(crate) marks: [Mark; 41],
+}
+
+impl SharedLine {
+    /// The line of no member, with room for those of all.
+    pub(crate) fn new(alloc: Global, game: &Game) -> Result<SharedLine, AllocError>
+        requires { IsGame game.now }
+        ensures { IfOk result (IsReadyLine game.now) }
+    {
+        Ok(SharedLine {
+            seats: seats_of(alloc, game)?,
+            coalition: Coalition::of_mask(0),
+            names: Vec::with_capacity(alloc, ROOM)?,
+            end: 0,
+            marks: [Mark::none(); 41],
+        })
+    }
+
+    /// Keeps what comes before a place, as the beginning of another coalition's line.
+    fn keep(&mut self, shared: usize, coalition: Coalition, game: &Game)
+        requires line { IsLine game.now self.old }
+        requires within { shared ≤ self.old.end }
+        requires same { SameBefore (length game.now.names) shared self.old.coalition coalition }
+        ensures line { IsLine game.now self.new }
+        ensures coalition { self.new.coalition ≡ coalition }
+        ensures end { self.new.end ≡ shared }
+    {
+        self.names.truncate(self.marks[shared].length);
+        self.end = shared;
+        self.coalition = coalition;
+    }
+
+    /// Takes in the next place, where no member of it is in.
+    fn pass(&mut self, game: &Game)
+        requires line { IsLine game.now self.old }
+        requires more { self.old.end < length game.now.names }
+        requires out { has (length game.now.names) self.old.end self.old.coalition ≡ false }
+        ensures line { IsLine game.now self.new }
+        ensures coalition { self.new.coalition ≡ self.old.coalition }
+        ensures end { self.new.end ≡ self.old.end + 1 }
+    {
+        let mark = self.marks[self.end];
+        self.end += 1;
+        self.marks[self.end] = mark;
+    }
+
+    /// Takes in the next place, whose member is in.
+    fn add(&mut self, game: &Game)
+        requires line { IsLine game.now self.old }
+        requires more { self.old.end < length game.now.names }
+        requires inside { has (length game.now.names) self.old.end self.old.coalition ≡ true }
+        ensures line { IsLine game.now self.new }
+        ensures coalition { self.new.coalition ≡ self.old.coalition }
+        ensures end { self.new.end ≡ self.old.end + 1 }
+    {
+        let seat = &self.seats[self.end];
+        let mark = self.marks[self.end];
+        let mark = mark.with(seat);
+        match self.names.extend_from_slice(&seat.field) {
+            Ok(()) => {}
+            Err(_) => unreachable!(),
+        }
+        self.end += 1;
+        self.marks[self.end] = mark;
+    }
+
+    /// Moves on to the line of another coalition, whichever that is.
+    pub(crate) fn move_to(&mut self, game: &Game, coalition: Coalition)
+        requires ready { IsReadyLine game.now self.old }
+        requires some { 0 < coalition }
+        requires below { coalition < 2 ^ length game.now.names }
+        ensures { IsWholeLine game.now coalition self.new }
+    {
+        let members = game.members();
+        let last = past_last(members, coalition);
+        let shared = first_difference(members, self.coalition, coalition);
+        self.keep(shared.min(self.end), coalition, game);
+        while self.end < last {
+            if coalition.has(members, self.end) {
+                self.add(game);
+            } else {
+                self.pass(game);
+            }
+        }
+    }
+
+    /// The weight of the coalition under a rule.
+    fn weight_under(&self, game: &Game, rule: usize) -> u64
+        requires line { IsWholeLine game.now self.now.coalition self.now }
+        requires rule { rule < length game.now.rules }
+        ensures { result ≡ weight (rule_at (votes_of game.now).rules rule).weights self.now.coalition }
+    {
+        let mark = self.marks[self.end];
+        mark.weights[rule]
+    }
+
+    /// The weights of the coalition, one for each rule.
+    fn push_weights(&self, out: &mut Vec<u8>, game: &Game) -> Result<(), AllocError>
+        requires { IsWholeLine game.now self.now.coalition self.now }
+        ensures items { OnOk result (out.new.items ≡ out.old.items
+            ++ tabbed (slashed (weights_of_coalition game.now self.now.coalition))) }
+        ensures room { Takes out.old out.new result
+            (tabbed (slashed (weights_of_coalition game.now self.now.coalition))) }
+    {
+        push_values(out, game.rules(), |r| self.weight_under(game, r))
+    }
+
+    /// The names of the coalition's members, in rank order.
+    fn push_names(&self, out: &mut Vec<u8>, game: &Game) -> Result<(), AllocError>
+        requires { IsWholeLine game.now self.now.coalition self.now }
+        ensures items { OnOk result (out.new.items ≡ out.old.items
+            ++ flat_map tabbed (names_of game.now self.now.coalition)) }
+        ensures room { Takes out.old out.new result
+            (flat_map tabbed (names_of game.now self.now.coalition)) }
+    {
+        out.extend_from_slice(&self.names)
+    }
+
+    /// Puts the line: `coalition`, its size, its weight under each rule, the names of its members in
+    /// rank order.
+    #[tactic(auto, unfolding(crate::specs::Lines::coalition_line))]
+    pub(crate) fn push(&self, out: &mut Vec<u8>, game: &Game) -> Result<(), AllocError>
+        requires line { IsWholeLine game.now self.now.coalition self.now }
+        requires below { self.now.coalition < 2 ^ length game.now.names }
+        ensures items { OnOk result
+            (out.new.items ≡ out.old.items ++ coalition_line game.now self.now.coalition) }
+        ensures room { Takes out.old out.new result (coalition_line game.now self.now.coalition) }
+    {
+        out.extend_from_slice(b"coalition")?;
+        push_number(out, u64::from(self.coalition.size()))?;
+        self.push_weights(out, game)?;
+        self.push_names(out, game)?;
+        end_line(out)
+    }
+}
