@@ -1,40 +1,50 @@
--- Tables that hold the counts of a list are sound.
-use Rattle.std.proofs.Common.{◌≡◌, ◌∙◌, ◌==◌, ◌&&◌, ℕ, ◌<◌, ◌≤◌, List, [], ◌∷◌, length, get_or, take, true, ap, refl, arith, subst, suc}
-use Rattle.std.specs.List.{filter, sum_by, range_with_len}
-use Rattle.std.proofs.lemmas.List.{take_all}
+-- Tables that hold the tallies of a list hold its counts, and what holds of counts.
+use Rattle.std.proofs.Common.{◌≡◌, ◌∙◌, ◌==◌, ◌&&◌, ℕ, ◌+◌, ◌^◌, ◌<◌, ◌≤◌, List, [], ◌∷◌, ◌++◌, length, get_or, replicate, cond, true, sym, ap, refl, arith, subst, suc, length-append}
+use Rattle.std.specs.List.{All, filter, sum_by, range_with_len}
+use Rattle.std.proofs.lemmas.List.{get_or-replicate}
+use Rattle.std.proofs.lemmas.List.Elements.{All-append, All-push}
+use Rattle.council_game.specs.Votes.{has, size}
 use Rattle.council_game.specs.Game.{GameView, IsGame}
 use Rattle.council_game.proofs.Games.{votes-are}
+use Rattle.council_game.proofs.Making.{ranks-are}
 use Rattle.power_index.specs.declared.tally.Tally.{Tally}
 use Rattle.power_index.specs.Counting.{members, contains, size_of, count_of_member, AreCoalitions}
-use Rattle.power_index.specs.Tables.{Tables, AreCounts, AreSound, no_tally, table_of_member}
+use Rattle.power_index.specs.Tables.{Tables, Tallies, AllTallies, AreTallies, AreOf, AreOfOneGame, AreOfSomeList, AreCounts, AreWithin, IsJoined, no_tally, with_one, tally_total, table_total, table_of_member}
 use Rattle.power_index.proofs.Sums.{length-filter-le, sum-range}
-use Rattle.power_index.proofs.Members.{few-members, memberships, sizes-some}
-use Rattle.power_index.proofs.Tallies.{Tallies}
+use Rattle.power_index.proofs.Members.{few-members, memberships, sizes-some, size-le}
+use Rattle.power_index.proofs.Tallies.{tallies-total, tallies-few, tallies-more, tallies-join}
 use Rattle.power_index.proofs.Weights.{weight-light}
 
 filter-all : (list : List ℕ) → length (filter (λ (c : ℕ). true) list) ≡ length list
 filter-all [] = refl
 filter-all (c ∷ cs) = ap (λ n. suc n) (filter-all cs)
 
-pub counts-hold : (g : GameView) (list : List ℕ) (k m : ℕ) (all : Tally) (each : List Tally) → m ≡ length g.names → length g.names ≤ 40 → length list ≤ k
-    → Tallies (size_of g) (λ c. true) (take k list) all
-    → ((i : ℕ) → i < length g.names → Tallies (size_of g) (contains g i) (take k list) (get_or each i no_tally))
-    → AreCounts g list (record { members = m; all = all; each = each })
-counts-hold g list k m all each m-is few whole h hs =
-    let e : take k list ≡ list = take_all k list whole in
-    let all' : Tallies (size_of g) (λ c. true) list all = subst (λ l. Tallies (size_of g) (λ c. true) l all) e h in
-    let each' : (i : ℕ) → i < length g.names → Tallies (size_of g) (contains g i) list (get_or each i no_tally) = λ i lt. subst (λ l. Tallies (size_of g) (contains g i) l (get_or each i no_tally)) e (hs i lt) in
+-- the tally of a member's coalitions
+member-tallies : (g : GameView) (list : List ℕ) (t : Tables) (i : ℕ) → i < t.members → AreTallies g list t → Tallies (length g.names) (contains g i) list (get_or t.each (get_or t.ranks i 0) no_tally)
+member-tallies g list t i lt h =
+    subst (λ (p : ℕ). Tallies (length g.names) (contains g i) list (get_or t.each p no_tally)) (sym (h.of_game.ranks i lt))
+    (h.tallies.each (get_or g.ranks i 0) ((ranks-are g h.of_game.is_game).place_below i (omega (arith, h.of_game.members))))
+
+-- how many were counted
+pub total-is : (g : GameView) (list : List ℕ) (t : Tables) → AreTallies g list t → table_total t ≡ length list
+total-is g list t h =
+    let few = few-members g h.of_game.is_game in
+    ap (λ (n : ℕ). tally_total n t.all) h.of_game.members ∙ (tallies-total (length g.names) (λ c. true) list t.all few h.tallies.all ∙ filter-all list)
+
+pub tallies-are_counts : (g : GameView) (list : List ℕ) (t : Tables) → AreTallies g list t → AreCounts g list t
+tallies-are_counts g list t h =
+    let few = few-members g h.of_game.is_game in
     record {
-      members = m-is;
-      total = all'.total ∙ filter-all list;
-      of_size = λ s le. all'.sizes s (omega (arith, m-is));
-      of_member = λ i lt. (each' i (omega (arith, m-is))).total;
-      of_member_size = λ i s lt le. (each' i (omega (arith, m-is))).sizes s (omega (arith, m-is));
+      members = h.of_game.members;
+      total = total-is g list t h;
+      of_size = λ s le. h.tallies.all.sizes s (omega (arith, h.of_game.members));
+      of_member = λ i lt. ap (λ (n : ℕ). tally_total n (get_or t.each (get_or t.ranks i 0) no_tally)) h.of_game.members ∙ tallies-total (length g.names) (contains g i) list _ few (member-tallies g list t i lt h);
+      of_member_size = λ i s lt le. (member-tallies g list t i lt h).sizes s (omega (arith, h.of_game.members));
     }
 
-pub counts-sound : (g : GameView) (list : List ℕ) (t : Tables) → IsGame g → 1 ≤ length list → length list ≤ 4000000 → AreCoalitions g list
-    → AreCounts g list t → AreSound t
-counts-sound g list t game some few within h = record {
+pub counts-sound : (most : ℕ) (g : GameView) (list : List ℕ) (t : Tables) → IsGame g → 1 ≤ length list → length list ≤ most → AreCoalitions g list
+    → AreCounts g list t → AreWithin most t
+counts-sound most g list t game some few within h = record {
   some_members = (let votes = votes-are g game in omega (arith, h.members, votes.0));
   few_members = (let few = few-members g game in omega (arith, h.members, few));
   some = omega (arith, h.total);
@@ -49,4 +59,174 @@ counts-sound g list t game some few within h = record {
       let e = sizes-some g list (few-members g game) within in
       omega (arith, a, b, d, e));
   light = λ i lt. weight-light g list t i lt h;
+}
+
+-- the tables of some list hold its counts
+pub some-counts : (t : Tables) (h : AreOfSomeList t) → AreCounts h.game h.list t
+some-counts t h = tallies-are_counts h.game h.list t h.tallies
+
+pub some-within : (most : ℕ) (t : Tables) → AreOfSomeList t → 1 ≤ table_total t → table_total t ≤ most → AreWithin most t
+some-within most t h some few =
+    let counts = some-counts t h in
+    counts-sound most h.game h.list t h.tallies.of_game.is_game (omega (arith, some, counts.total)) (omega (arith, few, counts.total)) h.coalitions counts
+
+pub some-members : (t : Tables) → AreOfSomeList t → (1 ≤ t.members) × (t.members ≤ 40)
+some-members t h =
+    let votes = votes-are h.game h.tallies.of_game.is_game in
+    let few = few-members h.game h.tallies.of_game.is_game in
+    (omega (arith, h.tallies.of_game.members, votes.0), omega (arith, h.tallies.of_game.members, few))
+
+pub some-total : (t : Tables) → AreOfSomeList t → table_total t ≤ 2 ^ 40
+some-total t h = let counts = some-counts t h in omega (arith, counts.total, h.few)
+
+pub some-of_size : (t : Tables) (s : ℕ) → s ≤ t.members → AreOfSomeList t → get_or t.all.sizes s 0 ≤ table_total t
+some-of_size t s le h =
+    let counts = some-counts t h in
+    let a = counts.of_size s le in
+    let b = length-filter-le (λ c. size_of h.game c == s) h.list in
+    omega (arith, a, b, counts.total)
+
+pub some-of_member : (t : Tables) (i : ℕ) → i < t.members → AreOfSomeList t → table_of_member t i ≤ table_total t
+some-of_member t i lt h =
+    let counts = some-counts t h in
+    let a = counts.of_member i lt in
+    let b = length-filter-le (contains h.game i) h.list in
+    omega (arith, a, b, counts.total)
+
+pub some-of_member_size : (t : Tables) (i s : ℕ) → i < t.members → s ≤ t.members → AreOfSomeList t → get_or (get_or t.each (get_or t.ranks i 0) no_tally).sizes s 0 ≤ table_total t
+some-of_member_size t i s lt le h =
+    let counts = some-counts t h in
+    let a = counts.of_member_size i s lt le in
+    let b = length-filter-le (λ c. contains h.game i c && (size_of h.game c == s)) h.list in
+    omega (arith, a, b, counts.total)
+
+-- a member's place is one of the places
+pub some-place : (t : Tables) (i : ℕ) → i < t.members → AreOfSomeList t → get_or t.ranks i 0 < t.members
+some-place t i lt h =
+    let below = (ranks-are h.game h.tallies.of_game.is_game).place_below i (omega (arith, h.tallies.of_game.members)) in
+    let same = h.tallies.of_game.ranks i lt in
+    omega (arith, below, same, h.tallies.of_game.members)
+
+-- no number of a place is greater than the list is long
+pub some-of_place : (t : Tables) (p s : ℕ) → p < t.members → s ≤ 40 → AreOfSomeList t → get_or (get_or t.each p no_tally).sizes s 0 ≤ 2 ^ 40
+some-of_place t p s lt le h =
+    let few = tallies-few (length h.game.names) (has (length h.game.names) p) h.list (get_or t.each p no_tally) s le (h.tallies.tallies.each p (omega (arith, h.tallies.of_game.members))) in
+    omega (arith, few, h.few)
+
+pub some-of_all : (t : Tables) (s : ℕ) → s ≤ 40 → AreOfSomeList t → get_or t.all.sizes s 0 ≤ 2 ^ 40
+some-of_all t s le h =
+    let few = tallies-few (length h.game.names) (λ c. true) h.list t.all s le h.tallies.tallies.all in
+    omega (arith, few, h.few)
+
+-- no coalition is counted
+pub none-hold : (g : GameView) (m : ℕ) (ranks : List ℕ) (all one : Tally) → IsGame g → m ≡ length g.names → ((i : ℕ) → i < m → get_or ranks i 0 ≡ get_or g.ranks i 0)
+    → Tallies (length g.names) (λ c. true) [] all → ((p : ℕ) → Tallies (length g.names) (has (length g.names) p) [] one)
+    → AreTallies g [] (record { members = m; ranks = ranks; all = all; each = replicate 40 one })
+none-hold g m ranks all one game m-is same whole each = record {
+  of_game = record { is_game = game; members = m-is; ranks = same };
+  tallies = record {
+    all = whole;
+    each = λ p lt. (let few = few-members g game in subst (Tallies (length g.names) (has (length g.names) p) []) (sym (get_or-replicate 40 p one no_tally (omega (arith, lt, few)))) (each p));
+  };
+}
+
+pub none-some : (g : GameView) (t : Tables) → AreTallies g [] t → AreOfSomeList t
+none-some g t h = record { game = g; list = []; coalitions = λ k d lt. absurd (omega arith); few = omega arith; tallies = h }
+
+-- one coalition more
+pub more-hold : (g : GameView) (list : List ℕ) (t : Tables) (c s : ℕ) (all : Tally) (each : List Tally) → s ≡ size t.members c → all ≡ with_one t.all s
+    → ((p : ℕ) → p < t.members → get_or each p no_tally ≡ cond (has t.members p c) (with_one (get_or t.each p no_tally) s) (get_or t.each p no_tally))
+    → AreTallies g list t → AreTallies g (list ++ c ∷ []) (record { members = t.members; ranks = t.ranks; all = all; each = each })
+more-hold g list t c s all each s-is all-is each-is h =
+    let few = few-members g h.of_game.is_game in
+    let same : s ≡ size (length g.names) c = s-is ∙ ap (λ (n : ℕ). size n c) h.of_game.members in
+    let le = size-le (length g.names) c in
+    let small : s ≤ 40 = omega (arith, same, le, few) in
+    record {
+      of_game = record { is_game = h.of_game.is_game; members = h.of_game.members; ranks = h.of_game.ranks };
+      tallies = record {
+        all = tallies-more (length g.names) (λ c. true) list c s t.all all same small all-is h.tallies.all;
+        each = λ p lt. tallies-more (length g.names) (has (length g.names) p) list c s (get_or t.each p no_tally) (get_or each p no_tally) same small
+            (each-is p (omega (arith, h.of_game.members, lt)) ∙ ap (λ (n : ℕ). cond (has n p c) (with_one (get_or t.each p no_tally) s) (get_or t.each p no_tally)) h.of_game.members)
+            (h.tallies.each p lt);
+      };
+    }
+
+pub more-some : (t u : Tables) (c : ℕ) (h : AreOfSomeList t) → 0 < c → c < 2 ^ t.members → table_total t < 2 ^ 40 → AreTallies h.game (h.list ++ c ∷ []) u → AreOfSomeList u
+more-some t u c h some below room more = record {
+  game = h.game;
+  list = h.list ++ c ∷ [];
+  coalitions = All-push (λ c. (0 < c) × (c < 2 ^ length h.game.names)) h.list c h.coalitions (some, subst (λ (n : ℕ). c < 2 ^ n) h.tallies.of_game.members below);
+  few = (let total = total-is h.game h.list t h.tallies in let long = length-append h.list (c ∷ []) in omega (arith, total, long, room));
+  tallies = more;
+}
+
+-- two lists, one after the other
+pub join-hold : (g : GameView) (first second : List ℕ) (s t : Tables) (all : Tally) (each : List Tally) → length all.sizes ≡ 41
+    → ((k : ℕ) → k ≤ 40 → get_or all.sizes k 0 ≡ get_or s.all.sizes k 0 + get_or t.all.sizes k 0)
+    → ((p : ℕ) → p < s.members → IsJoined (get_or s.each p no_tally) (get_or t.each p no_tally) (get_or each p no_tally))
+    → AreTallies g first s → AreTallies g second t → AreTallies g (first ++ second) (record { members = s.members; ranks = s.ranks; all = all; each = each })
+join-hold g first second s t all each long sum each-is a b = record {
+  of_game = record { is_game = a.of_game.is_game; members = a.of_game.members; ranks = a.of_game.ranks };
+  tallies = record {
+    all = tallies-join (length g.names) (λ c. true) first second s.all t.all all long sum a.tallies.all b.tallies.all;
+    each = λ p lt. (let one = each-is p (omega (arith, lt, a.of_game.members)) in tallies-join (length g.names) (has (length g.names) p) first second _ _ _ one.long one.sizes (a.tallies.each p lt) (b.tallies.each p lt));
+  };
+}
+
+-- the tables of a list of a game are those of the list in another game with the same rank places
+pub of-first : (s t : Tables) (g g' : GameView) (first second : List ℕ) → AreOfOneGame s t → AreTallies g first s → AreTallies g' second t → AreTallies g second t
+of-first s t g g' first second one a b =
+    let names : length g'.names ≡ length g.names = omega (arith, a.of_game.members, b.of_game.members, one.members) in
+    record {
+      of_game = record {
+        is_game = a.of_game.is_game;
+        members = b.of_game.members ∙ names;
+        ranks = λ i lt. (let below : i < s.members = omega (arith, lt, one.members) in one.ranks i below ∙ a.of_game.ranks i below);
+      };
+      tallies = subst (λ (n : ℕ). AllTallies n second t) names b.tallies;
+    }
+
+pub join-some : (s t u : Tables) (a : AreOfSomeList s) (b : AreOfSomeList t) → AreOfOneGame s t → table_total s + table_total t ≤ 2 ^ 40
+    → (AreTallies a.game b.list t → AreTallies a.game (a.list ++ b.list) u) → AreOfSomeList u
+join-some s t u a b one room made =
+    let moved = of-first s t a.game b.game a.list b.list one a.tallies b.tallies in
+    let names : length b.game.names ≡ length a.game.names = omega (arith, a.tallies.of_game.members, b.tallies.of_game.members, one.members) in
+    let others : AreCoalitions a.game b.list = subst (λ (n : ℕ). All (λ c. (0 < c) × (c < 2 ^ n)) b.list) names b.coalitions in
+    record {
+      game = a.game;
+      list = a.list ++ b.list;
+      coalitions = All-append (λ c. (0 < c) × (c < 2 ^ length a.game.names)) a.list b.list a.coalitions others;
+      few =
+          (let first = total-is a.game a.list s a.tallies in
+          let second = total-is b.game b.list t b.tallies in
+          let long = length-append a.list b.list in
+          omega (arith, first, second, long, room));
+      tallies = made moved;
+    }
+
+-- what was counted in all
+pub more-total : (t u : Tables) (c : ℕ) (h : AreOfSomeList t) → AreTallies h.game (h.list ++ c ∷ []) u → table_total u ≡ table_total t + 1
+more-total t u c h more =
+    let old = total-is h.game h.list t h.tallies in
+    let new = total-is h.game (h.list ++ c ∷ []) u more in
+    let long = length-append h.list (c ∷ []) in
+    omega (arith, old, new, long)
+
+pub join-total : (s t u : Tables) (a : AreOfSomeList s) (b : AreOfSomeList t) → AreOfOneGame s t → (AreTallies a.game b.list t → AreTallies a.game (a.list ++ b.list) u) → table_total u ≡ table_total s + table_total t
+join-total s t u a b one made =
+    let moved = of-first s t a.game b.game a.list b.list one a.tallies b.tallies in
+    let first = total-is a.game a.list s a.tallies in
+    let second = total-is b.game b.list t b.tallies in
+    let both = total-is a.game (a.list ++ b.list) u (made moved) in
+    let long = length-append a.list b.list in
+    omega (arith, first, second, both, long)
+
+pub one-game : (t : Tables) (all : Tally) (each : List Tally) → AreOfOneGame t (record { members = t.members; ranks = t.ranks; all = all; each = each })
+one-game t all each = record { members = refl; ranks = λ i lt. refl }
+
+pub same-game : (s t u : Tables) → AreOfOneGame s t → AreOfOneGame t u → AreOfOneGame s u
+same-game s t u a b = record {
+  members = b.members ∙ a.members;
+  ranks = λ i lt. b.ranks i (omega (arith, lt, a.members)) ∙ a.ranks i lt;
 }

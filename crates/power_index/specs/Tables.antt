@@ -1,35 +1,50 @@
 -- Tables of counts, and when they hold the counts of a list of coalitions.
-use Rattle.std.specs.Prelude.{ℕ, zero, suc, ◌+◌, ◌*◌, ◌/◌, ◌≡◌, ◌≤◌, ◌<◌, List, [], length, slice_index, slice_index_or, slice_set, sum_by}
-use Rattle.std.specs.List.{range_with_len}
-use Rattle.council_game.specs.Game.{GameView}
-use Rattle.power_index.specs.Counting.{count_of_size, count_of_member, count_of_member_size}
+use Rattle.std.specs.Prelude.{ℕ, zero, suc, ◌+◌, ◌*◌, ◌/◌, ◌^◌, ◌≡◌, ◌≤◌, ◌<◌, ◌==◌, ◌&&◌, Bool, true, List, [], length, slice_index, slice_index_or, slice_set, sum_by}
+use Rattle.std.specs.List.{filter, range_with_len}
+use Rattle.council_game.specs.Votes.{has, size}
+use Rattle.council_game.specs.Game.{GameView, IsGame}
+use Rattle.power_index.specs.Counting.{AreCoalitions, count_of_size, count_of_member, count_of_member_size}
 use Rattle.power_index.specs.declared.tally.Tally.{Tally}
 
--- the tallies of all coalitions, and of those of each member
+-- the rank place of each member, the tally of all coalitions, and by rank place those of each member's
 pub record Tables : Type 0 where
   pub members : ℕ
+  pub ranks : List ℕ
   pub all : Tally
   pub each : List Tally
 
 abbrev pub no_tally : Tally
-no_tally = record { total = 0; sizes = [] }
+no_tally = record { sizes = [] }
 
 -- a tally with one coalition more, of size s
 abbrev pub with_one : Tally → ℕ → Tally
-with_one t s = record { total = t.total + 1; sizes = slice_set t.sizes s (slice_index t.sizes s + 1) }
+with_one t s = record { sizes = slice_set t.sizes s (slice_index t.sizes s + 1) }
+
+-- a tally has the numbers of two, added size by size
+pub record IsJoined (s t u : Tally) : Type 0 where
+  pub long : length u.sizes ≡ 41
+  pub sizes : (k : ℕ) → k ≤ 40 → slice_index u.sizes k ≡ slice_index s.sizes k + slice_index t.sizes k
+
+-- the numbers of the sizes 0 to n, added
+abbrev pub tally_total : ℕ → Tally → ℕ
+tally_total n t = sum_by (slice_index t.sizes) (range_with_len 0 (n + 1))
+
+-- the tally of the coalitions that contain member i
+abbrev pub tally_of_member : Tables → ℕ → Tally
+tally_of_member t i = slice_index_or t.each (slice_index t.ranks i) no_tally
 
 -- what the tables say
 abbrev pub table_total : Tables → ℕ
-table_total t = t.all.total
+table_total t = tally_total t.members t.all
 
 abbrev pub table_of_size : Tables → ℕ → ℕ
 table_of_size t s = slice_index t.all.sizes s
 
 abbrev pub table_of_member : Tables → ℕ → ℕ
-table_of_member t i = (slice_index_or t.each i no_tally).total
+table_of_member t i = tally_total t.members (tally_of_member t i)
 
 abbrev pub table_of_member_size : Tables → ℕ → ℕ → ℕ
-table_of_member_size t i s = slice_index (slice_index_or t.each i no_tally).sizes s
+table_of_member_size t i s = slice_index (tally_of_member t i).sizes s
 
 -- the numbers of all members, added
 abbrev pub table_memberships : Tables → ℕ
@@ -52,14 +67,52 @@ pub record AreCounts (g : GameView) (list : List ℕ) (t : Tables) : Type 0 wher
   pub of_member : (i : ℕ) → i < t.members → table_of_member t i ≡ count_of_member g i list
   pub of_member_size : (i s : ℕ) → i < t.members → s ≤ t.members → table_of_member_size t i s ≡ count_of_member_size g i s list
 
--- what holds of the tables of 1 to 4000000 coalitions, none of them empty
-pub record AreSound (t : Tables) : Type 0 where
+-- a tally counts those of a list, coalitions of n members, that pass a test, by size
+pub record Tallies (n : ℕ) (p : ℕ → Bool) (list : List ℕ) (t : Tally) : Type 0 where
+  pub long : length t.sizes ≡ 41
+  pub sizes : (s : ℕ) → s ≤ 40 → slice_index t.sizes s ≡ length (filter (λ c. p c && (size n c == s)) list)
+
+-- the tallies are those of a list: of all, and of those that contain each rank place
+pub record AllTallies (n : ℕ) (list : List ℕ) (t : Tables) : Type 0 where
+  pub all : Tallies n (λ _. true) list t.all
+  pub each : (p : ℕ) → p < n → Tallies n (has n p) list (slice_index_or t.each p no_tally)
+
+-- the tables are those of a game
+pub record AreOf (g : GameView) (t : Tables) : Type 0 where
+  pub is_game : IsGame g
+  pub members : t.members ≡ length g.names
+  pub ranks : (i : ℕ) → i < t.members → slice_index t.ranks i ≡ slice_index g.ranks i
+
+-- the tables hold a list of coalitions of a game as they are counted, by rank place
+pub record AreTallies (g : GameView) (list : List ℕ) (t : Tables) : Type 0 where
+  pub of_game : AreOf g t
+  pub tallies : AllTallies (length g.names) list t
+
+-- two tables are of games with as many members and the same rank places
+pub record AreOfOneGame (s t : Tables) : Type 0 where
+  pub members : t.members ≡ s.members
+  pub ranks : (i : ℕ) → i < s.members → slice_index t.ranks i ≡ slice_index s.ranks i
+
+-- what holds of the tables of 1 to so many coalitions, none of them empty
+pub record AreWithin (most : ℕ) (t : Tables) : Type 0 where
   pub some_members : 1 ≤ t.members
   pub few_members : t.members ≤ 40
   pub some : 1 ≤ table_total t
-  pub few : table_total t ≤ 4000000
-  pub few_of_size : (s : ℕ) → s ≤ t.members → table_of_size t s ≤ 4000000
-  pub few_of_member : (i : ℕ) → i < t.members → table_of_member t i ≤ 4000000
-  pub few_of_member_size : (i s : ℕ) → i < t.members → s ≤ t.members → table_of_member_size t i s ≤ 4000000
+  pub few : table_total t ≤ most
+  pub few_of_size : (s : ℕ) → s ≤ t.members → table_of_size t s ≤ most
+  pub few_of_member : (i : ℕ) → i < t.members → table_of_member t i ≤ most
+  pub few_of_member_size : (i s : ℕ) → i < t.members → s ≤ t.members → table_of_member_size t i s ≤ most
   pub memberships : 1 ≤ table_memberships t
   pub light : (i : ℕ) → i < t.members → weighed denominator (table_of_member_size t i) t.members ≤ denominator * table_total t
+
+-- what holds of the tables of 1 to 4000000 coalitions, none of them empty
+abbrev pub AreSound : Tables → Type 0
+AreSound t = AreWithin 4000000 t
+
+-- the tables are those of some list of coalitions of a game: no game has more than 2 ^ 40
+pub record AreOfSomeList (t : Tables) : Type 0 where
+  pub game : GameView
+  pub list : List ℕ
+  pub coalitions : AreCoalitions game list
+  pub few : length list ≤ 2 ^ 40
+  pub tallies : AreTallies game list t

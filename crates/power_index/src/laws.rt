@@ -4,7 +4,8 @@ ghost use Rattle.council_game.specs.Votes.{minimal_coalitions};
 ghost use Rattle.power_index.specs.Counting.{AreCoalitions, members};
 ghost use Rattle.power_index.specs.Fractions.{AddUpToOne, HasLowestTerms};
 ghost use Rattle.power_index.specs.Indices.{deegan_packel, public_good};
-ghost use Rattle.std.specs.Prelude.{ℕ, ◌<◌, List, length, map};
+ghost use Rattle.power_index.specs.Tables.{AreCounts, AreTallies, Tables};
+ghost use Rattle.std.specs.Prelude.{ℕ, ◌<◌, ◌≤◌, ◌^◌, ◌++◌, List, length, map};
 
 /// The Deegan-Packel indices of a game's members add up to 1, over each list of coalitions that are not
 /// empty, if there is one in it.
@@ -18,8 +19,10 @@ pub fn public_good_adds_up()
     ensures { (g : GameView) (list : List ℕ) → IsGame g → 0 < length list → AreCoalitions g list → AddUpToOne (map (public_good g list) (members g)) }
 {}
 
-/// The minimal winning coalitions of a game are such a list: there is one, and none is empty.
+/// The minimal winning coalitions of a game are such a list: there is one, none is empty, and there
+/// are at most 2^40.
 pub fn minimal_coalitions_can_be_counted()
+    ensures few { (g : GameView) → IsGame g → length (minimal_coalitions (votes_of g)) ≤ 2 ^ 40 }
     ensures some { (g : GameView) → IsGame g → 0 < length (minimal_coalitions (votes_of g)) }
     ensures coalitions { (g : GameView) → IsGame g → AreCoalitions g (minimal_coalitions (votes_of g)) }
 {}
@@ -27,4 +30,10 @@ pub fn minimal_coalitions_can_be_counted()
 /// A pair with a bottom above 0 has one form in lowest terms, and it is the one that is computed.
 pub fn lowest_terms_are_unique()
     ensures { (p : ℕ × ℕ) → 0 < p.1 → HasLowestTerms p }
+{}
+
+/// Tables that hold a list of coalitions of a game as they are counted, by rank place, hold its
+/// counts.
+pub fn tallies_are_counts()
+    ensures { (g : GameView) (list : List ℕ) (t : Tables) → AreTallies g list t → AreCounts g list t }
 {}

@@ -11,7 +11,9 @@ pub mod laws;
 mod tally;
 #[cfg(test)]
 mod tests;
+mod wide_counts;
 
 pub use counts::Counts;
 pub use fraction::{Fraction, lowest};
 pub use indices::{deegan_packel, public_good};
+pub use wide_counts::WideCounts;

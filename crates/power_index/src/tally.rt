@@ -1,35 +1,53 @@
 //! Tallies of coalitions by size.
-ghost use Rattle.power_index.specs.Tables.{with_one};
-ghost use Rattle.std.specs.Prelude.{◌≡◌, ℕ, ◌<◌, ◌≤◌, length, slice_index};
+ghost use Rattle.power_index.specs.Tables.{IsJoined, tally_total, with_one};
+ghost use Rattle.std.specs.Prelude.{◌≡◌, ℕ, ◌+◌, ◌<◌, ◌≤◌, ◌^◌, length, slice_index};
 
-/// How many coalitions were counted, in all and of each size from 0 to 40.
+/// How many coalitions of each size from 0 to 40 were counted. How many there are in all is added up
+/// where it is asked for.
 #[derive(Clone, Copy)]
 pub struct Tally {
-    pub total: u32,
-    pub sizes: [u32; 41],
+    pub sizes: [u64; 41],
 }
 
 impl Tally {
     /// The tally of no coalition.
     pub fn new() -> Tally
-        ensures total { result.total ≡ 0 }
         ensures long { length result.sizes ≡ 41 }
         ensures sizes { (s : ℕ) → slice_index result.sizes s ≡ 0 }
     {
-        Tally {
-            total: 0,
-            sizes: [0; 41],
-        }
+        Tally { sizes: [0; 41] }
     }
 
     /// Counts one more coalition, of this size.
     pub fn add(&mut self, size: usize)
         requires size { size ≤ 40 }
-        requires total { self.old.total < 4000000 }
-        requires sizes { slice_index self.old.sizes size < 4000000 }
+        requires room { slice_index self.old.sizes size ≤ 2 ^ 40 }
         ensures { self.new ≡ with_one self.old size }
     {
-        self.total += 1;
         self.sizes[size] += 1;
+    }
+
+    /// Adds the numbers of another tally, size by size.
+    pub fn join(&mut self, other: &Tally)
+        requires { (s : ℕ) → s ≤ 40 →
+            slice_index self.old.sizes s + slice_index other.now.sizes s < 2 ^ 64 }
+        ensures { IsJoined self.old other.now self.new }
+    {
+        for size in 0..41 {
+            self.sizes[size] += other.sizes[size];
+        }
+    }
+
+    /// How many coalitions of these sizes there are: 0 to so many members.
+    pub fn total(&self, members: usize) -> u64
+        requires members { members ≤ 40 }
+        requires room { tally_total members self.now ≤ 2 ^ 40 }
+        ensures { result ≡ tally_total members self.now }
+    {
+        let mut total = 0;
+        for size in 0..members + 1 {
+            total += self.sizes[size];
+        }
+        total
     }
 }

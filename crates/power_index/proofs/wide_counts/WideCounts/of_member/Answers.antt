@@ -1,0 +1,36 @@
+use Rattle.std.proofs.Common.{arith}
+use Rattle.power_index.proofs.Sound.{some-members, some-place, some-of_member, some-total}
+use Rattle.power_index.proofs.wide_counts.WideCounts.of_member.Goals as goal
+
+pub offset_bounds-self-inside-member : goal.offset_bounds-self-inside-member
+offset_bounds-self-inside-member c = let few = some-members _ c.self.invariant in let member = rw (← c.self.view_is) at c.requires in omega (arith, few.1, member)
+
+pub offset_bounds-each-self-inside : goal.offset_bounds-each-self-inside
+offset_bounds-each-self-inside c =
+    let few = some-members _ c.self.invariant in
+    let member = rw (← c.self.view_is) at c.requires in
+    let place = some-place _ c.args.member member c.self.invariant in
+    omega (arith, few.1, place)
+
+pub bounds-each-self-inside : goal.bounds-each-self-inside
+bounds-each-self-inside c =
+    let few = some-members _ c.self.invariant in
+    let member = rw (← c.self.view_is) at c.requires in
+    let place = some-place _ c.args.member member c.self.invariant in
+    omega (arith, few.1, place)
+
+pub total-requires-clause-members : goal.total-requires-clause-members
+total-requires-clause-members c = (some-members _ c.self.invariant).1
+
+pub total-requires-clause-room : goal.total-requires-clause-room
+total-requires-clause-room c =
+    let member = rw (← c.self.view_is) at c.requires in
+    let less = some-of_member _ c.args.member member c.self.invariant in
+    let few = some-total _ c.self.invariant in
+    omega (arith, less, few)
+
+pub returns-clause-few : goal.returns-clause-few
+returns-clause-few c =
+    let member = rw (← c.self.view_is) at c.requires in
+    let less = some-of_member _ c.args.member member c.self.invariant in
+    rw (← c.self.view_is) (omega (arith, less, c.total.ensures))

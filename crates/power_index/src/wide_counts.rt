@@ -1,0 +1,224 @@
+//! Counts of coalitions, by member and by size, with no bound but that of a game.
+ghost use Rattle.council_game.specs.Game.{GameView};
+ghost use Rattle.council_game.specs.Votes.{has};
+ghost use Rattle.power_index.specs.Counting.{AreCoalitions};
+ghost use Rattle.power_index.specs.Tables.{AreCounts, AreOf, AreOfOneGame, AreTallies, AreWithin};
+ghost use Rattle.power_index.specs.Tables.{IsJoined, no_tally, table_memberships, table_of_member};
+ghost use Rattle.power_index.specs.Tables.{table_of_member_size, table_of_size, table_total, with_one};
+ghost use Rattle.std.specs.Prelude.{◌≡◌, ℕ, ◌+◌, ◌*◌, ◌<◌, ◌≤◌, ◌^◌, cond, List, [], ◌∷◌, ◌++◌, length, slice_index, slice_index_or, All};
+
+use crate::tally::Tally;
+use council_game::{Coalition, Game};
+use std::marker::Model;
+
+/// The counts of a list of coalitions of a game, none of them empty: how many there are, how many
+/// have each size, how many contain each member, and how many have each size among those. They are
+/// counted one by one, and the counts of two lists can be added.
+///
+/// The numbers have 64 bits. No game of 40 members has more than 2^40 coalitions, so nothing that
+/// is counted once is ever too many. Contracts see the tables.
+#[derive(Drop)]
+pub struct WideCounts {
+    members: usize,
+    /// The rank place of each member, in file order.
+    ranks: [usize; 40],
+    /// The tally of all coalitions.
+    all: Tally,
+    /// The tallies of the coalitions that contain each member, by rank place.
+    each: [Tally; 40],
+}
+
+impl Model for WideCounts {
+    ghost use Rattle.power_index.specs.Tables.{AreOfSomeList, Tables};
+
+    ghost Value = { Tables };
+
+    ghost view = { λ c. record {
+      members = c.members;
+      ranks = c.ranks;
+      all = c.all;
+      each = c.each;
+    } };
+
+    ghost invariant = { λ c. AreOfSomeList (record {
+      members = c.members;
+      ranks = c.ranks;
+      all = c.all;
+      each = c.each;
+    }) };
+}
+
+/// Counts a coalition at each place that is in it: one step for each binary digit 1 of its mask.
+fn add_to_places(members: usize, coalition: Coalition, size: usize, by_place: &mut [Tally; 40])
+    requires few { members ≤ 40 }
+    requires below { coalition < 2 ^ members }
+    requires size { size ≤ 40 }
+    requires room { (p : ℕ) → p < members →
+        slice_index (slice_index_or by_place.old p no_tally).sizes size ≤ 2 ^ 40 }
+    ensures { (p : ℕ) → p < members → slice_index_or by_place.new p no_tally ≡
+        cond (has members p coalition)
+        (with_one (slice_index_or by_place.old p no_tally) size)
+        (slice_index_or by_place.old p no_tally) }
+{
+    let mut rest = coalition.mask();
+    while rest != 0 {
+        let place = members - 1 - rest.trailing_zeros() as usize;
+        by_place[place].add(size);
+        rest &= rest - 1;
+    }
+}
+
+/// Adds the numbers of other tallies, place by place.
+fn join_places(members: usize, by_place: &mut [Tally; 40], other: &[Tally; 40])
+    requires few { members ≤ 40 }
+    requires room { (p s : ℕ) → p < members → s ≤ 40 →
+        slice_index (slice_index_or by_place.old p no_tally).sizes s +
+        slice_index (slice_index_or other.now p no_tally).sizes s < 2 ^ 64 }
+    ensures { (p : ℕ) → p < members →
+        IsJoined (slice_index_or by_place.old p no_tally) (slice_index_or other.now p no_tally)
+        (slice_index_or by_place.new p no_tally) }
+{
+    for place in 0..members {
+        by_place[place].join(&other[place]);
+    }
+}
+
+impl WideCounts {
+    /// The counts of no coalition of a game.
+    pub fn none(game: &Game) -> WideCounts
+        ensures tallies { AreTallies game.now [] result }
+        ensures counts { AreCounts game.now [] result }
+    {
+        let members = game.members();
+        let mut ranks = [0; 40];
+        for i in 0..members {
+            ranks[i] = game.place_of(i);
+        }
+        let none = Tally::new();
+        WideCounts {
+            members,
+            ranks,
+            all: none,
+            each: [none; 40],
+        }
+    }
+
+    /// Counts one coalition more. Where these were the counts of a list, they are then those of the
+    /// list with the coalition at its end.
+    pub fn count(&mut self, coalition: Coalition)
+        requires some { 0 < coalition }
+        requires below { coalition < 2 ^ self.old.members }
+        requires room { table_total self.old < 2 ^ 40 }
+        ensures game { AreOfOneGame self.old self.new }
+        ensures total { table_total self.new ≡ table_total self.old + 1 }
+        ensures tallies { (g : GameView) (list : List ℕ) → AreTallies g list self.old →
+            AreTallies g (list ++ coalition ∷ []) self.new }
+    {
+        let size = usize::from(coalition.size());
+        self.all.add(size);
+        add_to_places(self.members, coalition, size, &mut self.each);
+    }
+
+    /// Counts a row of coalitions more.
+    pub fn count_row(&mut self, row: &[Coalition])
+        requires coalitions { All (λ c. (0 < c) × (c < 2 ^ self.old.members)) row.now }
+        requires room { table_total self.old + length row.now ≤ 2 ^ 40 }
+        ensures game { AreOfOneGame self.old self.new }
+        ensures total { table_total self.new ≡ table_total self.old + length row.now }
+        ensures tallies { (g : GameView) (list : List ℕ) → AreTallies g list self.old →
+            AreTallies g (list ++ row.now) self.new }
+    {
+        for coalition in row {
+            self.count(*coalition);
+        }
+    }
+
+    /// Adds the counts of another list of coalitions of the same game: these are then the counts of
+    /// both lists, one after the other.
+    pub fn add(&mut self, other: &WideCounts)
+        requires game { AreOfOneGame self.old other.now }
+        requires room { table_total self.old + table_total other.now ≤ 2 ^ 40 }
+        ensures game { AreOfOneGame self.old self.new }
+        ensures total { table_total self.new ≡ table_total self.old + table_total other.now }
+        ensures tallies { (g : GameView) (first second : List ℕ) → AreTallies g first self.old →
+            AreTallies g second other.now → AreTallies g (first ++ second) self.new }
+    {
+        self.all.join(&other.all);
+        join_places(self.members, &mut self.each, &other.each);
+    }
+
+    /// Counts the coalitions of a list, none of them empty, in one pass.
+    pub fn of(game: &Game, list: &[Coalition]) -> WideCounts
+        requires few { length list.now ≤ 2 ^ 40 }
+        requires coalitions { AreCoalitions game.now list.now }
+        ensures tallies { AreTallies game.now list.now result }
+        ensures counts { AreCounts game.now list.now result }
+    {
+        let mut counts = WideCounts::none(game);
+        counts.count_row(list);
+        counts
+    }
+
+    /// The number of members of the game, 1 to 40, and what holds where any coalition was counted:
+    /// the numbers are at most 2^40, and the fractions of each member add up to at most 1.
+    pub fn members(&self) -> usize
+        ensures members { result ≡ self.now.members }
+        ensures some { 1 ≤ result }
+        ensures few { result ≤ 40 }
+        ensures within { 1 ≤ table_total self.now → AreWithin (2 ^ 40) self.now }
+    {
+        self.members
+    }
+
+    /// The number of coalitions, at most 2^40.
+    pub fn total(&self) -> u64
+        ensures total { result ≡ table_total self.now }
+        ensures few { result ≤ 2 ^ 40 }
+    {
+        self.all.total(self.members)
+    }
+
+    /// The number of coalitions with so many members.
+    pub fn of_size(&self, size: usize) -> u64
+        requires { size ≤ self.now.members }
+        ensures count { result ≡ table_of_size self.now size }
+        ensures few { result ≤ table_total self.now }
+    {
+        let all = &self.all;
+        all.sizes[size]
+    }
+
+    /// The number of coalitions that contain a member, given by its place in the file.
+    pub fn of_member(&self, member: usize) -> u64
+        requires { member < self.now.members }
+        ensures count { result ≡ table_of_member self.now member }
+        ensures few { result ≤ table_total self.now }
+    {
+        let each = &self.each;
+        each[self.ranks[member]].total(self.members)
+    }
+
+    /// The number of coalitions with so many members that contain a member.
+    pub fn of_member_size(&self, member: usize, size: usize) -> u64
+        requires member { member < self.now.members }
+        requires size { size ≤ self.now.members }
+        ensures count { result ≡ table_of_member_size self.now member size }
+        ensures few { result ≤ table_total self.now }
+    {
+        let each = &self.each;
+        each[self.ranks[member]].sizes[size]
+    }
+
+    /// The numbers of all members, added.
+    pub(crate) fn memberships(&self) -> u64
+        ensures sum { result ≡ table_memberships self.now }
+        ensures some { 1 ≤ table_total self.now → 1 ≤ result }
+        ensures few { result ≤ 40 * 2 ^ 40 }
+    {
+        let mut sum = 0;
+        for i in 0..self.members {
+            sum += self.of_member(i);
+        }
+        sum
+    }
+}
