@@ -1,5 +1,5 @@
 //! All parts.
-ghost use Rattle.std.specs.Prelude.{◌≡◌, ℕ, ◌<◌, List, All, IfOk};
+ghost use Rattle.std.specs.Prelude.{◌≡◌, ℕ, ◌<◌, List, All, IfOk, map};
 ghost use Rattle.std.specs.List.{flat_map, range_with_len};
 ghost use Rattle.mwc_parts.specs.Parts.{HasPieces, EachOnce, NoOther};
 
@@ -33,6 +33,25 @@ impl Gathered {
             all.extend_from_slice(self.piece(j))?;
         }
         Ok(all)
+    }
+
+    /// The coalitions of each slice where they lie, slice after slice: joined, they are what
+    /// `in_order` gives. Only the row of pieces takes memory, and no coalition is copied.
+    ///
+    /// # Errors
+    ///
+    /// Memory where a growth was refused.
+    pub fn pieces(&self, alloc: Global) -> Result<Vec<&[Coalition]>, Memory>
+        ensures each { (slice : ℕ → List ℕ) → All (HasPieces slice) self.now.parts.items
+            → IfOk result (λ row. map (λ p. p.now) row.items ≡ map slice (range_with_len 0 self.now.slices)) }
+        ensures joined { (slice : ℕ → List ℕ) → All (HasPieces slice) self.now.parts.items
+            → IfOk result (λ row. flat_map (λ p. p.now) row.items ≡ flat_map slice (range_with_len 0 self.now.slices)) }
+    {
+        let mut row = Vec::new(alloc);
+        for number in 0..self.slices {
+            row.push(self.piece(number))?;
+        }
+        Ok(row)
     }
 
     /// The piece of a slice.
