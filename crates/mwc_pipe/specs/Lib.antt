@@ -4,5 +4,6 @@ pub mod PipeView
 pub mod Calls
 pub mod BatchView
 pub mod Refusal
+pub mod Rows
 pub mod RingName
 pub mod RingViews

@@ -1,11 +1,15 @@
 //! The end of a ring that words are put into.
-ghost use Rattle.std.specs.Prelude.{◌≡◌, ◌<◌, [], ◌∷◌, ◌++◌, false, length, IfOk, OnOk, IfErr, IsOk};
+ghost use Rattle.std.specs.Prelude.{◌≡◌, ◌+◌, ◌<◌, ◌≤◌, List, [], ◌∷◌, ◌++◌, false, length, take, IfOk, OnOk, IfErr, IsOk};
+ghost use Rattle.mwc_pipe.specs.declared.word.Word.{Word};
+ghost use Rattle.mwc_pipe.specs.History.{Event, came};
+ghost use Rattle.mwc_pipe.specs.Rows.{StopsAt, puts_of};
 ghost use Rattle.mwc_pipe.specs.Refusal.{handed_back, broken_after};
 ghost use Rattle.mwc_pipe.specs.RingName.{RingName};
 
 use crate::closed::{Closed, Unfinished};
 use crate::pipe_in::PipeIn;
 use crate::refused::Refused;
+use crate::stopped::Stopped;
 use crate::word::Word;
 use rtrb::{Producer, PushError};
 use std::marker::Model;
@@ -45,6 +49,21 @@ impl RingIn {
             Ok(()) => Ok(()),
             Err(PushError::Full(word)) => Err(word),
         }
+    }
+
+    /// Puts the words of a row in, as many of them as there is room for, in their order, and says how
+    /// many. It stops short only where the ring is full as far as this end knows; the first `capacity`
+    /// words of a ring are taken in at once. However many they are, they come in by one store. It
+    /// takes no memory.
+    pub fn put_some(&mut self, words: &[Word]) -> usize
+        ensures count { result ≤ length words.now }
+        ensures accepted { self.new ≡ record self.old { accepted = self.old.accepted ++ take result words.now } }
+        ensures room { length self.new.accepted < self.old.capacity → result ≡ length words.now }
+        ensures story { (past : List (Event Word)) → came past ≡ self.old.accepted
+            → came (past ++ puts_of words.now result) ≡ self.new.accepted }
+    {
+        let (accepted, _) = self.producer.push_partial_slice(words);
+        accepted.len()
     }
 
     /// Closes the ring. The end is gone, so that no word can be put in after it. It takes no
@@ -88,6 +107,30 @@ impl PipeIn<Word> for RingIn {
         match RingIn::put(self, item) {
             Ok(()) => Ok(()),
             Err(word) => Err(Refused::Full(word)),
+        }
+    }
+
+    /// Puts the words of a row in by one store.
+    ///
+    /// # Errors
+    ///
+    /// Full where the ring has no room for all of them, and no other refusal.
+    fn put_some(&mut self, items: &[Word]) -> Result<(), Stopped<Word>>
+        ensures identity { self.new.ring ≡ self.old.ring }
+        ensures all { OnOk result ((self.new.accepted ≡ self.old.accepted ++ items.now) × (false ≡ false)) }
+        ensures stopped { IfErr result (λ e. StopsAt items.now e
+            × (self.new.accepted ≡ self.old.accepted ++ take e.accepted items.now)
+            × (false ≡ broken_after e.why false)) }
+        ensures full { IfErr result (λ e. e.why ≡ Refused.Full (handed_back e.why)) }
+        ensures room { length self.old.accepted + length items.now ≤ self.old.capacity → IsOk result }
+    {
+        let accepted = RingIn::put_some(self, items);
+        match items.get(accepted) {
+            Some(word) => Err(Stopped {
+                accepted,
+                why: Refused::Full(*word),
+            }),
+            None => Ok(()),
         }
     }
 }

@@ -1,6 +1,8 @@
 //! The end of a ring that words are taken from.
-ghost use Rattle.std.specs.Prelude.{◌≡◌, [], ◌∷◌, ◌++◌, MatchOption};
-ghost use Rattle.mwc_pipe.specs.History.{Lawful};
+ghost use Rattle.std.specs.Prelude.{◌≡◌, ◌≤◌, nat_lt, List, [], ◌∷◌, ◌++◌, length, take, drop, MatchOption};
+ghost use Rattle.mwc_pipe.specs.declared.word.Word.{Word};
+ghost use Rattle.mwc_pipe.specs.History.{Event, gone, Lawful};
+ghost use Rattle.mwc_pipe.specs.Rows.{takes_of};
 
 use crate::closed::Closed;
 use crate::rest::Rest;
@@ -30,6 +32,19 @@ impl RingOut {
         ensures { MatchOption result (self.new ≡ self.old) (λ w. self.new ≡ record self.old { taken = self.old.taken ++ w ∷ [] }) }
     {
         self.consumer.pop().ok()
+    }
+
+    /// Takes the oldest words into the front of a row, as many as are known and the row has room for,
+    /// and says how many. The rest of the row stays. However many they are, they go by one store. It
+    /// takes no memory.
+    pub fn take_some(&mut self, into: &mut [Word]) -> usize
+        ensures count { result ≤ length into.old }
+        ensures taken { self.new ≡ record self.old { taken = self.old.taken ++ take result into.new } }
+        ensures rest { drop result into.new ≡ drop result into.old }
+        ensures story { (past : List (Event Word)) → gone past ≡ self.old.taken
+            → gone (past ++ takes_of (take result into.new) (nat_lt result (length into.old))) ≡ self.new.taken }
+    {
+        self.consumer.pop_partial_slice(into)
     }
 
     /// Meets the closed end of the same ring: what was taken and what is left is what was

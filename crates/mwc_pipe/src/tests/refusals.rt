@@ -85,6 +85,34 @@ fn puts_into_a_batch(rt: HostRuntime) -> Result<(), Fail> {
 }
 
 #[test]
+fn puts_a_row_into_a_batch(rt: HostRuntime) -> Result<(), Fail> {
+    let mut batch = Batch::new(rt.alloc(), 100);
+    rt.println("call")?;
+    let answer = batch.put_some(&TASKS);
+    match &answer {
+        Ok(()) => rt.println("worked")?,
+        Err(_) => rt.println("out of memory")?,
+    }
+    let mut pipe = batch.close();
+    let (left, right) = TASKS.split_at(TASKS.len().min(pipe.len() as usize));
+    match answer {
+        Ok(()) => assert_eq!(rt; left.len(), 6),
+        Err(stopped) => {
+            assert_eq!(rt; stopped.accepted, left.len());
+            assert_eq!(rt;
+                Some(&stopped.why),
+                right.first().copied().map(Refused::Memory).as_ref()
+            );
+        }
+    }
+    for word in left {
+        assert_eq!(rt; pipe.take(), Taken::Item(*word));
+    }
+    assert_eq!(rt; pipe.take(), Taken::Ended);
+    Ok(())
+}
+
+#[test]
 fn replays(rt: HostRuntime) -> Result<(), Fail> {
     rt.println("call")?;
     match replay(rt.alloc(), 2, &STEPS) {
@@ -119,8 +147,12 @@ fn moves_words_without_memory(rt: HostRuntime) -> Result<(), Fail> {
     assert_eq!(rt; to.put(Word::Done(0)), Ok(()));
     assert_eq!(rt; to.put(END), Err(END));
     assert_eq!(rt; from.take(), Some(Word::Open(0)));
+    assert_eq!(rt; to.put_some(&TASKS), 1);
+    let mut row = [END; 1];
+    assert_eq!(rt; from.take_some(&mut row), 1);
+    assert_eq!(rt; row, [Word::Done(0)]);
     let mut rest = from.end(to.close()?);
-    assert_eq!(rt; rest.next(), Some(Word::Done(0)));
+    assert_eq!(rt; rest.next(), Some(Word::Open(0)));
     assert_eq!(rt; rest.next(), None);
     rt.println("worked")?;
     Ok(())
