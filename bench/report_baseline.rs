@@ -108,17 +108,17 @@ fn numbers(words: &str) -> Option<Vec<u64>> {
         .collect()
 }
 
-/// One rule, its weights in rank order.
-struct Lane {
-    quota: u64,
-    weights: [u64; 40],
-    /// What the places from each one on weigh together.
-    rest: [u64; 41],
-}
+/// A number for each rule, and zeros past the last.
+type Sums = [u64; 4];
 
 struct Walk {
-    lanes: Vec<Lane>,
+    rules: usize,
     members: usize,
+    quotas: Sums,
+    /// The weights at each rank place.
+    weights: [Sums; 40],
+    /// What the places from each one on weigh together.
+    rest: [Sums; 41],
     most: usize,
     found: Vec<u64>,
 }
@@ -126,51 +126,41 @@ struct Walk {
 impl Walk {
     fn new(game: &Game, most: usize) -> Walk {
         let members = game.names.len();
-        let lanes = game
-            .rules
-            .iter()
-            .map(|rule| {
-                let mut lane = Lane {
-                    quota: rule.quota,
-                    weights: [0; 40],
-                    rest: [0; 41],
-                };
-                for place in (0..members).rev() {
-                    lane.weights[place] = rule.weights[game.ranked[place]];
-                    lane.rest[place] = lane.rest[place + 1] + lane.weights[place];
-                }
-                lane
-            })
-            .collect();
-        Walk {
-            lanes,
+        let mut walk = Walk {
+            rules: game.rules.len(),
             members,
+            quotas: [0; 4],
+            weights: [[0; 4]; 40],
+            rest: [[0; 4]; 41],
             most,
             found: Vec::new(),
+        };
+        for (r, rule) in game.rules.iter().enumerate() {
+            walk.quotas[r] = rule.quota;
+            for place in (0..members).rev() {
+                walk.weights[place][r] = rule.weights[game.ranked[place]];
+                walk.rest[place][r] = walk.rest[place + 1][r] + walk.weights[place][r];
+            }
         }
+        walk
     }
 
-    fn is_minimal(&self, mask: u64, sums: &[u64; 4]) -> bool {
-        self.lanes.len() == 1
-            || (0..self.members).all(|place| {
-                mask >> (self.members - 1 - place) & 1 == 0
-                    || self
-                        .lanes
-                        .iter()
-                        .zip(sums)
-                        .any(|(lane, sum)| sum - lane.weights[place] < lane.quota)
-            })
+    fn meets_all(&self, sum: impl Fn(usize) -> u64) -> bool {
+        (0..self.rules).all(|r| self.quotas[r] <= sum(r))
+    }
+
+    /// Whether a winning coalition loses without each one of its members. The lightest by the first
+    /// rule are tried first. With one rule it does: it lost before its last member came in.
+    fn is_minimal(&self, mask: u64, sums: &Sums) -> bool {
+        self.rules == 1
+            || places(mask, self.members)
+                .all(|place| !self.meets_all(|r| sums[r] - self.weights[place][r]))
     }
 
     /// Lists what stands below the prefix of `place` places that `mask` is. Answers whether there is
     /// still room for more.
-    fn decide(&mut self, place: usize, mask: u64, sums: [u64; 4]) -> bool {
-        if self
-            .lanes
-            .iter()
-            .zip(&sums)
-            .all(|(lane, sum)| *sum >= lane.quota)
-        {
+    fn decide(&mut self, place: usize, mask: u64, sums: Sums) -> bool {
+        if self.meets_all(|r| sums[r]) {
             if self.is_minimal(mask, &sums) {
                 if self.found.len() == self.most {
                     return false;
@@ -179,21 +169,40 @@ impl Walk {
             }
             return true;
         }
-        if self
-            .lanes
-            .iter()
-            .zip(&sums)
-            .any(|(lane, sum)| sum + lane.rest[place] < lane.quota)
-        {
+        if !self.meets_all(|r| sums[r] + self.rest[place][r]) {
             return true;
         }
         let mut more = sums;
-        for (sum, lane) in more.iter_mut().zip(&self.lanes) {
-            *sum += lane.weights[place];
+        for r in 0..self.rules {
+            more[r] += self.weights[place][r];
         }
         self.decide(place + 1, mask | 1 << (self.members - 1 - place), more)
             && self.decide(place + 1, mask, sums)
     }
+}
+
+/// The places that are in, the last first.
+fn places(mask: u64, members: usize) -> impl Iterator<Item = usize> {
+    let mut left = mask;
+    std::iter::from_fn(move || {
+        (left != 0).then(|| {
+            let digit = left.trailing_zeros() as usize;
+            left &= left - 1;
+            members - 1 - digit
+        })
+    })
+}
+
+/// How many coalitions of each size contain the member of each rank place.
+fn count(list: &[u64], members: usize) -> [[u32; 41]; 40] {
+    let mut counts = [[0; 41]; 40];
+    for &mask in list {
+        let size = mask.count_ones() as usize;
+        for place in places(mask, members) {
+            counts[place][size] += 1;
+        }
+    }
+    counts
 }
 
 fn joined(values: impl Iterator<Item = u64>) -> String {
@@ -218,6 +227,25 @@ fn fraction(top: u128, bottom: u128) -> String {
     )
 }
 
+fn write_coalition(game: &Game, mask: u64, out: &mut impl Write) -> io::Result<()> {
+    let members = game.names.len();
+    let inside = || {
+        (0..members)
+            .filter(|place| mask >> (members - 1 - place) & 1 == 1)
+            .map(|place| game.ranked[place])
+    };
+    write!(out, "coalition\t{}\t", mask.count_ones())?;
+    for (number, rule) in game.rules.iter().enumerate() {
+        let weight: u64 = inside().map(|member| rule.weights[member]).sum();
+        write!(out, "{}{weight}", if number == 0 { "" } else { "/" })?;
+    }
+    for member in inside() {
+        out.write_all(b"\t")?;
+        out.write_all(game.names[member].as_bytes())?;
+    }
+    out.write_all(b"\n")
+}
+
 fn write_report(
     game: &Game,
     list: &[u64],
@@ -240,32 +268,19 @@ fn write_report(
         joined(game.rules.iter().map(|rule| rule.weights.iter().sum()))
     )?;
     writeln!(out, "minimal\t{}", list.len())?;
-    let mut counts = [[0_u32; 41]; 40];
-    for &mask in list {
-        let size = mask.count_ones() as usize;
-        let inside = || (0..members).filter(|place| mask >> (members - 1 - place) & 1 == 1);
-        for place in inside() {
-            counts[game.ranked[place]][size] += 1;
-        }
-        if with_list {
-            write!(out, "coalition\t{size}\t")?;
-            for (number, rule) in game.rules.iter().enumerate() {
-                let weight: u64 = inside().map(|place| rule.weights[game.ranked[place]]).sum();
-                write!(out, "{}{weight}", if number == 0 { "" } else { "/" })?;
-            }
-            for place in inside() {
-                out.write_all(b"\t")?;
-                out.write_all(game.names[game.ranked[place]].as_bytes())?;
-            }
-            out.write_all(b"\n")?;
+    let counts = count(list, members);
+    if with_list {
+        for &mask in list {
+            write_coalition(game, mask, out)?;
         }
     }
     let seats: u32 = list.iter().map(|mask| mask.count_ones()).sum();
     for (member, name) in game.names.iter().enumerate() {
+        let place = game.ranked.iter().position(|other| *other == member).unwrap_or(0);
         let weight = joined(game.rules.iter().map(|rule| rule.weights[member]));
-        let count: u32 = counts[member].iter().sum();
+        let count: u32 = counts[place].iter().sum();
         let shares = (1..=40)
-            .map(|size| u128::from(counts[member][size]) * (COMMON / size as u128))
+            .map(|size| u128::from(counts[place][size]) * (COMMON / size as u128))
             .sum();
         let deegan_packel = fraction(shares, list.len() as u128 * COMMON);
         let public_good = fraction(u128::from(count), u128::from(seats));
