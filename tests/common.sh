@@ -1,5 +1,6 @@
 # What the test scripts share. Each is run as `bash tests/NAME.sh PROGRAM`, and begins by reading this
-# file. It prints a line `ok NAME` or `FAILED NAME: why` for each test.
+# file. It prints a line `ok NAME` or `FAILED NAME: why` for each test, or `skipped NAME: why` for one
+# that can't be run here.
 # shellcheck shell=bash
 set -u
 export LC_ALL=C
@@ -22,6 +23,20 @@ ok() {
 
 failed() {
     echo "FAILED $1: $2"
+}
+
+skipped() {
+    echo "skipped $1: $2"
+}
+
+# needs COMMAND NAME..: whether there is such a command; where not, the tests of these names are skipped.
+needs() {
+    local command=$1 name
+    command -v "$command" >/dev/null && return 0
+    for name in "${@:2}"; do
+        skipped "$name" "the command $command was not found"
+    done
+    return 1
 }
 
 # Runs the program on the words, with the standard input of this call, and keeps its status, its
@@ -106,8 +121,10 @@ member = [
 END
 }
 
-# Compiles the library that refuses allocations to $temp/refuse.so.
+# Compiles the library that refuses allocations to $temp/refuse.so; where there is no compiler, the
+# script ends here.
 compile_refuse() {
+    needs cc "$(basename "$0")" || exit 0
     if ! cc -O2 -Wall -Wextra -shared -fPIC -o "$temp/refuse.so" "$top/tests/hostile/refuse.c" 2>"$temp/cc"; then
         failed "hostile/refuse.c is compiled" "$(head -n 1 "$temp/cc")"
         exit 1

@@ -56,5 +56,5 @@ if [ -n "$first" ] && taskset -c "$first" true 2>/dev/null; then
     status=$?
     refused "$name, refused" 4 "$many"
 else
-    ok "$name (there is no taskset: not run)"
+    skipped "$name" "the command taskset was not found, or no processor can be chosen"
 fi

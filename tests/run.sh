@@ -3,13 +3,18 @@
 #
 #     tests/run.sh PROGRAM
 #
-# Each prints `ok NAME` or `FAILED NAME: why`. The last line is `N passed, M failed`, and the status
-# is not 0 if any failed.
+# Each prints `ok NAME` or `FAILED NAME: why`, or `skipped NAME: why` for a test that can't be run on
+# this machine. The last line is `N passed, M failed`, with `, K skipped` behind it where some were, and
+# the status is not 0 if any failed.
+#
+# A machine must have bash, python3, cc (to refuse allocations), taskset (for runs on one processor),
+# and the toolchain's rt; what is missing is said, and what wants it is skipped.
 set -u
 cd "$(dirname "$0")/.." || exit 1
 program=${1:-crates/council/out/council}
 passed=0
 failed=0
+skipped=0
 
 # Runs a command, shows what it prints, and counts its lines.
 count() {
@@ -20,7 +25,8 @@ count() {
     passed=$((passed + $(grep -ac '^ok ' "$log")))
     found=$(grep -ac '^FAILED ' "$log")
     failed=$((failed + found))
-    if [ "$found" -eq 0 ] && { [ "$status" -ne 0 ] || ! grep -aq '^ok ' "$log"; }; then
+    skipped=$((skipped + $(grep -ac '^skipped ' "$log")))
+    if [ "$found" -eq 0 ] && { [ "$status" -ne 0 ] || ! grep -aqE '^(ok|skipped) ' "$log"; }; then
         echo "FAILED $*: it ended with status $status"
         failed=$((failed + 1))
     fi
@@ -31,10 +37,19 @@ if [ ! -x "$program" ]; then
     echo "FAILED tests: there is no program $program"
     failed=1
 else
-    for test in examples options workers words faults prefixes output limits hostile refusals; do
+    for test in examples options workers words faults prefixes output limits launcher hostile refusals; do
         count bash "tests/$test.sh" "$program"
     done
-    count python3 tests/noise.py "$program" 300 1
+    if command -v python3 >/dev/null; then
+        count python3 tests/noise.py "$program" 300 1
+    else
+        echo "skipped noise: the command python3 was not found"
+        skipped=$((skipped + 1))
+    fi
 fi
-echo "$passed passed, $failed failed"
+if [ "$skipped" -eq 0 ]; then
+    echo "$passed passed, $failed failed"
+else
+    echo "$passed passed, $failed failed, $skipped skipped"
+fi
 [ "$failed" -eq 0 ]
