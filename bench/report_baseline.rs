@@ -72,7 +72,7 @@ impl Game {
         let mut names = Vec::new();
         let mut rules: Vec<Rule> = Vec::new();
         for line in text.lines().map(str::trim) {
-            if line.is_empty() || line == "[[member]]" {
+            if line.is_empty() || line.starts_with('#') || line == "[[member]]" {
                 continue;
             }
             let (key, value) = line.split_once('=')?;

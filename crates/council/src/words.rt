@@ -38,6 +38,20 @@ const FORMS: &str = "A game file has one of two forms:
 The first is TOML; a title, and up to 4 rules by quotas and weights, may stand in it. The second names
 the members 1, 2, 3. There are 1 to 40 members, each weight is from 0 to 1000000000000.
 
+The report has these lines. The fields of a line are separated by one TAB; under several rules a quota,
+a total or a weight has one value for each rule, with / between them.
+
+  title      the title, where the file has one
+  members    the number of members
+  quota      the quota
+  total      the total of the weights
+  notation   [q; w1, .., wn], a line for each rule (--notation)
+  minimal    the number of minimal winning coalitions
+  coalition  its size, its weight, and its members' names, the heaviest first (--list)
+  size       a size, how many coalitions have it, and how many of those contain each member (--sizes)
+  member     a name, its weight, how many coalitions contain the member, the Deegan-Packel index as a
+             fraction and as decimals, and the public good index likewise
+
 The status is 0 where the report was written, 1 where the game file cannot be opened or read,
 2 where the command line is wrong, 3 where the file has no game, 4 where the game has more than
 --most coalitions, 5 where memory, a thread or the output failed.";
@@ -90,7 +104,7 @@ fn numbers<'a>(alloc: Global, command: Command<'a>) -> Result<Command<'a>, Error
 fn command<'a>(alloc: Global) -> Result<Command<'a>, Error> {
     let file = Arg::new(alloc, "FILE").help("The game file; standard input without it");
     let command = Command::new(alloc, "council")
-        .version("1.0.0")
+        .version("1.1.0")
         .about(ABOUT)
         .after_help(FORMS)
         .arg(file)?;

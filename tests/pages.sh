@@ -1,0 +1,92 @@
+#!/usr/bin/env bash
+# The manual page, the completions, the version and the texts of docs/FORMATS.md, against the program.
+. "$(dirname "$0")/common.sh"
+
+run --help </dev/null
+cp "$temp/out" "$temp/help"
+sed -n '/^Options:/,/^A game file/p' "$temp/help" | grep -oE '(^|[ ,])-(-[a-z]+|[a-zA-Z])\b' | tr -d ' ,' | sort -u >"$temp/options"
+if [ "$(wc -l <"$temp/options")" -ge 10 ]; then
+    ok "--help has options"
+else
+    failed "--help has options" "$(tr '\n' ' ' <"$temp/options")"
+fi
+
+# same_options NAME: whether $temp/found has each option of --help, and no other.
+same_options() {
+    if sort -u "$temp/found" | cmp -s - "$temp/options"; then
+        ok "the options of $1"
+    else
+        failed "the options of $1" "$(sort -u "$temp/found" | diff - "$temp/options" | grep '^[<>]' | tr '\n' ' ')"
+    fi
+}
+
+sed -n '/^\.SH OPTIONS/,/^\.SH "GAME FILE"/p' "$top/docs/council.1" | sed 's/\\-/-/g' |
+    grep -A1 '^\.TP' | grep -oE -e '-(-[a-z]+|[a-zA-Z])\b' >"$temp/found"
+same_options docs/council.1
+grep -oE 'compgen -W "--workers[^"]*"' "$top/completions/council.bash" | grep -oE -e '-(-[a-z]+|[a-zA-Z])\b' | grep -v '^-W' >"$temp/found"
+same_options completions/council.bash
+grep -oE "^    '(\([^)]*\))?(--[a-z]+|'?\{[^}]*\})" "$top/completions/_council" | sed 's/([^)]*)//' | grep -oE -e '-(-[a-z]+|[a-zA-Z])\b' >"$temp/found"
+same_options completions/_council
+{
+    grep -oE -e '-l [a-z]+' "$top/completions/council.fish" | sed 's/-l /--/'
+    grep -oE -e '-s [a-zA-Z]' "$top/completions/council.fish" | sed 's/-s /-/'
+} >"$temp/found"
+same_options completions/council.fish
+sed -n '/^| Option/,/^$/p' "$top/README.md" | cut -d '|' -f 2 | grep -oE -e '-(-[a-z]+|[a-zA-Z])\b' >"$temp/found"
+same_options README.md
+
+if needs bash "completions/council.bash completes"; then
+    # shellcheck disable=SC2016
+    bash -c '. "$1"; COMP_WORDS=(council --wor); COMP_CWORD=1; _council; echo "${COMPREPLY[*]}"
+        COMP_WORDS=(council --bits 1); COMP_CWORD=2; _council; echo "${COMPREPLY[*]}"' bash "$top/completions/council.bash" >"$temp/out" 2>"$temp/err"
+    if [ "$(tr '\n' ' ' <"$temp/out")" = "--workers 1 10 " ] && [ ! -s "$temp/err" ]; then
+        ok "completions/council.bash completes"
+    else
+        failed "completions/council.bash completes" "$(cat "$temp/out" "$temp/err" | tr '\n' ' ')"
+    fi
+fi
+if needs zsh "completions/_council is read by zsh"; then
+    if zsh -n "$top/completions/_council"; then ok "completions/_council is read by zsh"; else failed "completions/_council is read by zsh" "it is not"; fi
+fi
+if needs fish "completions/council.fish is read by fish"; then
+    if fish -n "$top/completions/council.fish"; then ok "completions/council.fish is read by fish"; else failed "completions/council.fish is read by fish" "it is not"; fi
+fi
+if command -v mandoc >/dev/null; then
+    said=$(mandoc -T lint -W warning "$top/docs/council.1" 2>&1)
+elif command -v groff >/dev/null && command -v man >/dev/null; then
+    said=$(MANROFFSEQ='' man --warnings -E UTF-8 -l -Tutf8 -Z "$top/docs/council.1" 2>&1 >/dev/null)
+else
+    said=skipped
+fi
+case $said in
+'') ok "docs/council.1 has no warnings" ;;
+skipped) skipped "docs/council.1 has no warnings" "neither mandoc nor man with groff was found" ;;
+*) failed "docs/council.1 has no warnings" "$(head -n 2 <<<"$said" | tr '\n' ' ')" ;;
+esac
+
+# ---- one version
+run --version </dev/null
+version=$(sed 's/^council //' "$temp/out")
+has_version() {
+    if grep -qF "$2" "$top/$1"; then ok "the version in $1"; else failed "the version in $1" "it is not $version"; fi
+}
+has_version README.md "version $version"
+has_version CITATION.cff "version: $version"
+has_version docs/council.1 "council $version"
+has_version CHANGELOG.md "## $version"
+
+# ---- each text that the program prints stands in docs/FORMATS.md
+sed -n 's/.*#\[error("\(.*\)")\].*/\1/p' "$top"/crates/council_game/src/fault.rt "$top"/crates/mwc_parts/src/fault.rt \
+    "$top"/crates/council/src/fault.rt "$top"/crates/council_run/src/fault.rt "$top"/crates/mwc_tally/src/*.rt 2>/dev/null |
+    grep -v '^{0}$' >"$temp/texts"
+sed -n 's/.*eprintln!(rt; "council: \([^{"]*\)".*/\1/p' "$top"/crates/council/src/*.rt >>"$temp/texts"
+sort -u "$temp/texts" >"$temp/each"
+while IFS= read -r text; do
+    # a text with a number in it stands there by an example
+    pattern=$(sed 's/[][().*]/\\&/g; s/{[^}]*}/[0-9]+/g' <<<"$text")
+    if grep -qE -e "\`$pattern\`" "$top/docs/FORMATS.md"; then
+        ok "docs/FORMATS.md has: $text"
+    else
+        failed "docs/FORMATS.md has: $text" "it does not"
+    fi
+done <"$temp/each"
