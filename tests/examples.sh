@@ -3,10 +3,13 @@
 . "$(dirname "$0")/common.sh"
 
 for game in "$top"/examples/*.toml "$top"/examples/*.txt; do
+    words=()
+    # more coalitions than a run keeps
+    case $game in *-lisbon.toml) words=(--tally) ;; esac
     report=${game%.toml}.tsv
     name=$(basename "$game")
-    run "$game"
+    run "${words[@]}" "$game"
     printed "example $name" "$report"
-    run <"$game"
+    run "${words[@]}" <"$game"
     printed "example $name on standard input" "$report"
 done

@@ -83,6 +83,7 @@ takes_memory council_file parses_brackets
 takes_memory council_file reads_pieces
 takes_memory council_file writes_notation
 takes_memory mwc_walk lists_a_slice
+takes_memory mwc_walk lists_all
 takes_none mwc_walk walks_without_memory
 takes_none mwc_walk walks_under_two_rules_without_memory
 takes_memory mwc_pipe puts_into_a_pipe
@@ -96,5 +97,5 @@ takes_memory mwc_gather gathers_too_many "not started"
 takes_memory mwc_gather puts_parts_in_order
 takes_memory mwc_gather sends_into_a_batch
 takes_none mwc_gather marks_without_memory
-takes_memory council runs_on_brackets "not started"
-takes_memory council runs_on_toml "not started"
+takes_memory council_run runs_on_brackets "not started"
+takes_memory council_run runs_on_toml "not started"

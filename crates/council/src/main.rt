@@ -2,19 +2,14 @@
 //! indices that rest on them.
 #![tactic(auto)]
 
-mod fault;
-mod options;
-mod run;
 #[cfg(test)]
 mod tests;
 mod words;
 
 use clap::Error;
 use clap::error::ErrorKind;
-pub use fault::{Cause, RunFault, status};
+pub use council_run::{Cause, Options, RunFault, run, status};
 use mwc_gather::NoGate;
-pub use options::Options;
-pub use run::run;
 use std::process::ExitCode;
 use std::rt::Files;
 use std::sync::Wait;

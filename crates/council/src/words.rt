@@ -1,5 +1,5 @@
 //! The words of the command line.
-use crate::options::Options;
+use crate::Options;
 use clap::{Arg, ArgAction, ArgMatches, Command, Error, value_parser};
 use std::alloc::Global;
 

@@ -1,7 +1,7 @@
 //! Worked games, and games that only a pruned walk can end.
 mod refusals;
 
-use crate::{Walk, list_slice, slice_count};
+use crate::{Walk, list_all, list_slice, slice_count};
 use council_game::{Coalition, Game, GameFault, Rule, plain_list};
 use std::alloc::{AllocError, Global};
 
@@ -86,6 +86,23 @@ fn slices_of_a_worked_game(rt: HostRuntime) -> Result<(), GameFault> {
     }
     let two = list_slice(alloc, &game, 2, 1, 2)?;
     assert_eq!(rt; masks(alloc, &two)?.as_slice(), [22, 21].as_slice());
+    Ok(())
+}
+
+#[test]
+fn all_of_a_worked_game(rt: HostRuntime) -> Result<(), GameFault> {
+    let alloc = rt.alloc();
+    let game = game(alloc, 51, &[35, 20, 15, 15, 15])?;
+    for most in [5, 6, 4_000_000] {
+        let all = list_all(alloc, &game, most)?.expect(&rt, "at most so many");
+        assert_eq!(rt;
+            masks(alloc, &all)?.as_slice(),
+            [24, 22, 21, 19, 15].as_slice()
+        );
+    }
+    for most in [0, 1, 4] {
+        assert!(rt; list_all(alloc, &game, most)?.is_none(), "{most}");
+    }
     Ok(())
 }
 

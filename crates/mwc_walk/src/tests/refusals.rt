@@ -24,6 +24,25 @@ fn lists_a_slice(rt: HostRuntime) -> Result<(), Fail> {
 }
 
 #[test]
+fn lists_all(rt: HostRuntime) -> Result<(), Fail> {
+    let alloc = rt.alloc();
+    let game = game(alloc, 51, &[35, 20, 15, 15, 15])?;
+    rt.println("call")?;
+    match list_all(alloc, &game, 9) {
+        Ok(list) => {
+            rt.println("worked")?;
+            let list = list.expect(&rt, "at most nine");
+            assert_eq!(rt;
+                masks(alloc, &list)?.as_slice(),
+                [24, 22, 21, 19, 15].as_slice()
+            );
+        }
+        Err(_) => rt.println("out of memory")?,
+    }
+    Ok(())
+}
+
+#[test]
 fn walks_without_memory(rt: HostRuntime) -> Result<(), Fail> {
     let game = game(rt.alloc(), 51, &[35, 20, 15, 15, 15])?;
     assert!(rt; game.members() == 5);

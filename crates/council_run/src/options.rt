@@ -25,7 +25,7 @@ pub struct Options {
 
 impl Options {
     ghost use Rattle.std.specs.Prelude.{◌≡◌};
-    ghost use Rattle.council.specs.Shows.{shown_of};
+    ghost use Rattle.council_run.specs.Shows.{shown_of};
 
     /// The lines that the report shows beside those that each report has.
     pub fn shown(&self) -> Shown

@@ -4,9 +4,9 @@ use Rattle.council_game.specs.Votes.{minimal_coalitions}
 use Rattle.council_game.specs.Game.{GameView, votes_of}
 use Rattle.power_index.specs.Counting.{AreCoalitions}
 use Rattle.mwc_parts.specs.declared.fault.GatherFault.TheVariants as gather
-use Rattle.council.specs.declared.fault.Cause.{Cause}
-use Rattle.council.specs.declared.fault.Cause.TheVariants.{Game, Gather, Write, Memory}
-use Rattle.council.specs.Run.{count_of}
+use Rattle.council_run.specs.declared.fault.Cause.{Cause}
+use Rattle.council_run.specs.declared.fault.Cause.TheVariants.{Game, Gather, Write, Memory}
+use Rattle.council_run.specs.Run.{count_of}
 
 -- the list is all of them: there is one, there are at most so many, and they are coalitions of the game, none of them empty
 pub record IsListed (g : GameView) (most : ℕ) (list : List ℕ) : Type 0 where

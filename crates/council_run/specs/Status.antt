@@ -2,8 +2,8 @@
 use Rattle.std.specs.Prelude.{ℕ}
 use Rattle.council_game.specs.declared.fault.GameFault.TheVariants as game
 use Rattle.mwc_parts.specs.declared.fault.GatherFault.TheVariants as gather
-use Rattle.council.specs.declared.fault.Cause.{Cause}
-use Rattle.council.specs.declared.fault.Cause.TheVariants as cause
+use Rattle.council_run.specs.declared.fault.Cause.{Cause}
+use Rattle.council_run.specs.declared.fault.Cause.TheVariants as cause
 
 abbrev pub status_of : Cause → ℕ
 status_of (cause.Game game.Read) = 1

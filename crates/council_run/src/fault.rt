@@ -1,6 +1,6 @@
 //! Why a run stopped.
 ghost use Rattle.std.specs.Prelude.{◌≡◌};
-ghost use Rattle.council.specs.Status.{number_of, status_of};
+ghost use Rattle.council_run.specs.Status.{number_of, status_of};
 
 use council_game::GameFault;
 use mwc_gather::GatherFault;

@@ -8,10 +8,10 @@ use Rattle.council_file.specs.File.{game_of}
 use Rattle.council_file.specs.Reads.{Gave}
 use Rattle.council_report.specs.Report.{report}
 use Rattle.mwc_parts.specs.declared.fault.GatherFault.TheVariants as gather
-use Rattle.council.specs.declared.options.Options.{Options}
-use Rattle.council.specs.declared.fault.Cause.{Cause}
-use Rattle.council.specs.declared.fault.Cause.TheVariants as cause
-use Rattle.council.specs.Shows.{shown_of}
+use Rattle.council_run.specs.declared.options.Options.{Options}
+use Rattle.council_run.specs.declared.fault.Cause.{Cause}
+use Rattle.council_run.specs.declared.fault.Cause.TheVariants as cause
+use Rattle.council_run.specs.Shows.{shown_of}
 
 -- Where a run stands: what the reader had left before and after, and what the writer held.
 pub record Ends : Type 0 where

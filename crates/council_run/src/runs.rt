@@ -1,7 +1,7 @@
 //! A run: from the bytes of a game to its report.
 ghost use Rattle.std.specs.Prelude.{◌<◌, IfOk, IfErr};
-ghost use Rattle.council.specs.Run.{Reports, Stops};
-ghost use Rattle.council.specs.Listed.{IsListed, IsUnlisted};
+ghost use Rattle.council_run.specs.Run.{Reports, Stops};
+ghost use Rattle.council_run.specs.Listed.{IsListed, IsUnlisted};
 
 use crate::fault::{Cause, RunFault};
 use crate::options::Options;

@@ -1,5 +1,5 @@
 -- The lines that a report shows under the options of a run.
-use Rattle.council.specs.declared.options.Options.{Options}
+use Rattle.council_run.specs.declared.options.Options.{Options}
 use Rattle.council_report.specs.declared.shown.Shown.{Shown}
 
 abbrev pub shown_of : Options → Shown

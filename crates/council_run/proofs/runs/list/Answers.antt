@@ -1,8 +1,8 @@
 use Rattle.std.proofs.Common.{◌≡◌, ◌∙◌, ap, sym}
 use Rattle.council_game.specs.Game.{GameView, votes_of}
 use Rattle.mwc_walk.specs.Slices.{slice}
-use Rattle.council.proofs.Whole.{is-listed}
-use Rattle.council.proofs.run.list.Goals as goal
+use Rattle.council_run.proofs.Whole.{is-listed}
+use Rattle.council_run.proofs.runs.list.Goals as goal
 
 pub returns-in-Ok-in_order-clause-ok : goal.returns-in-Ok-in_order-clause-ok
 returns-in-Ok-in_order-clause-ok g c =

@@ -1,0 +1,35 @@
+-- The one slice at no bits, and the list of all coalitions that it is.
+use Rattle.std.proofs.Common.{◌≡◌, ◌^◌, ◌<◌, ◌≤◌, ◌++◌, ◌∷◌, [], ℕ, List, All, length, sym, ap, subst, ◌∙◌, append-nil, length-append, arith}
+use Rattle.council_game.specs.Votes.{IsVotes, Votes, minimal_coalitions}
+use Rattle.council_game.specs.Game.{GameView, votes_of}
+use Rattle.council_game.proofs.Listing.{listing-is}
+use Rattle.mwc_walk.specs.Slices.{slice}
+use Rattle.mwc_walk.specs.Listed.{ListsAll}
+use Rattle.mwc_walk.proofs.Joined.{slices-joined}
+
+-- at no bits there is one slice, which is the whole
+pub one-slice : (v : Votes) → IsVotes v → slice v 0 0 ≡ minimal_coalitions v
+one-slice v game = sym (append-nil (slice v 0 0)) ∙ slices-joined v 0 (omega arith) (omega arith)
+
+-- a walk at its end gave all
+pub lists-all : (g : GameView) (most : ℕ) (list : List ℕ) → IsVotes (votes_of g) → list ++ [] ≡ slice (votes_of g) 0 0 → length list ≤ most → ListsAll g most list
+lists-all g most list game joined few =
+    let whole : list ≡ minimal_coalitions (votes_of g) = sym (append-nil list) ∙ joined ∙ one-slice (votes_of g) game in
+    let listing = listing-is (votes_of g) game in
+    record {
+      all = whole;
+      some = omega (arith, listing.some, ap length whole);
+      few = few;
+      coalitions = subst (All (λ (c : ℕ). (0 < c) × (c < 2 ^ length g.names))) (sym whole) (λ k d lt.
+          let not-empty = listing.none_empty k d lt in
+          (omega (arith, not-empty), listing.below k d lt));
+    }
+
+-- a walk with more to come has more
+pub more-than : (v : Votes) (most c : ℕ) (list rest to_come : List ℕ) → IsVotes v → list ++ to_come ≡ slice v 0 0 → to_come ≡ c ∷ rest → most ≤ length list → most < length (minimal_coalitions v)
+more-than v most c list rest to_come game joined next many =
+    let whole : list ++ to_come ≡ minimal_coalitions v = joined ∙ one-slice v game in
+    let all = ap length whole in
+    let parts = length-append list to_come in
+    let some = ap length next in
+    omega (arith, all, parts, some, many)
