@@ -230,3 +230,6 @@ same-game s t u a b = record {
   members = b.members ∙ a.members;
   ranks = λ i lt. b.ranks i (omega (arith, lt, a.members)) ∙ a.ranks i lt;
 }
+
+pub other-way : (s t : Tables) → AreOfOneGame s t → AreOfOneGame t s
+other-way s t a = record { members = sym a.members; ranks = λ i lt. sym (a.ranks i (omega (arith, lt, a.members))) }

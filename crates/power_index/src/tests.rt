@@ -1,7 +1,8 @@
 //! Worked games: their counts, both indices and the decimals.
 mod refusals;
+mod wide;
 
-ghost use Rattle.std.specs.Prelude.{◌<◌, ◌≤◌, ◌^◌, IfOk};
+ghost use Rattle.std.specs.Prelude.{◌<◌, ◌≤◌, ◌^◌, IfOk, length};
 ghost use Rattle.power_index.specs.Counting.{AreCoalitions};
 
 use crate::{Counts, Fraction, deegan_packel, lowest, public_good};
@@ -27,6 +28,28 @@ fn minimal(rt: &impl Abort, alloc: Global, game: &Game) -> Result<Vec<Coalition>
 {
     assert!(rt; game.members() <= 20);
     Ok(plain_list(alloc, game)?)
+}
+
+/// The coalitions of a game that these masks give.
+fn coalitions(
+    rt: &impl Abort,
+    alloc: Global,
+    game: &Game,
+    masks: &[u64],
+) -> Result<Vec<Coalition>, Fail>
+    ensures coalitions { IfOk result (λ v. AreCoalitions game.now v.items) }
+    ensures length { IfOk result (λ v. length v.items ≤ 1000) }
+{
+    let members = game.members();
+    let mut list = Vec::new(alloc);
+    for mask in masks {
+        assert!(rt; 0 < *mask);
+        assert!(rt; *mask < 1_099_511_627_776);
+        assert!(rt; *mask < 1 << members);
+        list.push(Coalition::of_mask(*mask))?;
+    }
+    assert!(rt; list.len() <= 1000);
+    Ok(list)
 }
 
 /// The counts of all minimal winning coalitions of a small game.

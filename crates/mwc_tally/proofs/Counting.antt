@@ -1,0 +1,131 @@
+-- Slices counted one after the other, and in any order.
+use Rattle.std.proofs.Common.{◌≡◌, ◌∙◌, ◌==◌, ℕ, ◌+◌, ◌-◌, ◌/◌, ◌^◌, ◌<◌, ◌≤◌, zero, suc, Bool, List, [], ◌∷◌, ◌++◌, length, get_or, sym, ap, refl, arith, subst, length-append}
+use Rattle.std.specs.List.{All, filter, flat_map, range_with_len, sum_by}
+use Rattle.std.specs.List.Sorted.{IsPermutation}
+use Rattle.std.proofs.lemmas.List.{append_assoc, append-nil}
+use Rattle.std.proofs.lemmas.List.Elements.{All-filter, All-head, filter-append}
+use Rattle.std.proofs.lemmas.List.FromFn.{fill_by_all, length-range_with_len, get_or-range_with_len}
+use Rattle.std.proofs.lemmas.List.Concat.{flat_map-append, length-flat_map}
+use Rattle.std.proofs.lemmas.List.Sums.{sum_by-cons}
+use Rattle.std.proofs.lemmas.List.Sorted.{sum_by-IsPermutation}
+use Rattle.council_game.specs.Game.{GameView, IsGame, votes_of}
+use Rattle.council_game.specs.Votes.{has, size, minimal_coalitions}
+use Rattle.mwc_walk.specs.Slices.{slice, in_slice}
+use Rattle.mwc_walk.proofs.Joined.{slices-joined}
+use Rattle.power_index.specs.Counting.{AreCoalitions}
+use Rattle.power_index.specs.Tables.{Tables, Tallies, AllTallies, AreTallies, AreOf, AreOfOneGame, AreCounts, table_total, no_tally}
+use Rattle.power_index.proofs.Minimal.{minimal-are-coalitions, minimal-few}
+use Rattle.power_index.proofs.Sound.{total-is, tallies-are_counts}
+use Rattle.power_index.proofs.Sums.{length-filter-le}
+use Rattle.power_index.proofs.Tallies.{range-more, sum_by-range-more, sum_by-range-le}
+use Rattle.mwc_tally.specs.Shares.{CountedUpTo}
+
+-- a slice is a part of the list
+pub slice-are-coalitions : (g : GameView) (bits j : ℕ) → IsGame g → AreCoalitions g (slice (votes_of g) bits j)
+unfolding slice in_slice
+slice-are-coalitions g bits j game = All-filter _ (λ c. (0 < c) × (c < 2 ^ length g.names)) (minimal_coalitions (votes_of g)) (minimal-are-coalitions g game)
+
+pub slice-few : (g : GameView) (bits j : ℕ) → IsGame g → length (slice (votes_of g) bits j) ≤ 2 ^ 40
+unfolding slice in_slice
+slice-few g bits j game =
+    let less = length-filter-le (λ c. c / 2 ^ (length g.names - bits) == 2 ^ bits - 1 - j) (minimal_coalitions (votes_of g)) in
+    let few = minimal-few g game in
+    omega (arith, less, few)
+
+-- a walk that is counted as it goes
+pub counted-start : (g : GameView) (whole : List ℕ) (t : Tables) → AreTallies g [] t → CountedUpTo g whole whole t
+counted-start g whole t h = record { before = []; joined = refl; tallies = h }
+
+pub counted-step : (g : GameView) (whole rest : List ℕ) (c : ℕ) (t u : Tables) → ((list : List ℕ) → AreTallies g list t → AreTallies g (list ++ c ∷ []) u) → CountedUpTo g whole (c ∷ rest) t → CountedUpTo g whole rest u
+counted-step g whole rest c t u more h = record {
+  before = h.before ++ c ∷ [];
+  joined = append_assoc h.before (c ∷ []) rest ∙ h.joined;
+  tallies = more h.before h.tallies;
+}
+
+pub counted-all : (g : GameView) (whole : List ℕ) (t : Tables) → CountedUpTo g whole [] t → AreTallies g whole t
+counted-all g whole t h = subst (λ (l : List ℕ). AreTallies g l t) (sym (append-nil h.before) ∙ h.joined) h.tallies
+
+pub counted-room : (g : GameView) (whole rest : List ℕ) (c : ℕ) (t : Tables) → length whole ≤ 2 ^ 40 → CountedUpTo g whole (c ∷ rest) t → table_total t < 2 ^ 40
+counted-room g whole rest c t few h =
+    let total = total-is g h.before t h.tallies in
+    let long = length-append h.before (c ∷ rest) in
+    let same = ap (λ (l : List ℕ). length l) h.joined in
+    omega (arith, total, long, same, few)
+
+later : (P : ℕ → Type 0) (before rest : List ℕ) (c : ℕ) → All P (before ++ c ∷ rest) → P c
+later P [] rest c h = h 0 0 (omega arith)
+later P (b ∷ bs) rest c h = later P bs rest c (λ k d lt. h (suc k) d (omega (arith, lt)))
+
+pub counted-next : (g : GameView) (P : ℕ → Type 0) (whole rest : List ℕ) (c : ℕ) (t : Tables) → All P whole → CountedUpTo g whole (c ∷ rest) t → P c
+counted-next g P whole rest c t all h = later P h.before rest c (subst (All P) (sym h.joined) all)
+
+-- tables of one game
+pub of-one-game : (g : GameView) (a b : List ℕ) (s t : Tables) → AreTallies g a s → AreTallies g b t → AreOfOneGame s t
+of-one-game g a b s t h k = record {
+  members = k.of_game.members ∙ sym h.of_game.members;
+  ranks = λ i lt. k.of_game.ranks i (omega (arith, lt, h.of_game.members, k.of_game.members)) ∙ sym (h.of_game.ranks i lt);
+}
+
+-- all slices are the whole list
+pub all-slices : (g : GameView) (bits : ℕ) → IsGame g → bits ≤ 10 → bits ≤ length g.names → flat_map (slice (votes_of g) bits) (range_with_len 0 (2 ^ bits)) ≡ minimal_coalitions (votes_of g)
+all-slices g bits game few le = slices-joined (votes_of g) bits few le
+
+-- the first j slices and slice j are not too many
+pub slices-room : (g : GameView) (bits j : ℕ) → IsGame g → bits ≤ 10 → bits ≤ length g.names → j < 2 ^ bits
+    → length (flat_map (slice (votes_of g) bits) (range_with_len 0 j)) + length (slice (votes_of g) bits j) ≤ 2 ^ 40
+slices-room g bits j game few le lt =
+    let f : ℕ → ℕ = λ i. length (slice (votes_of g) bits i) in
+    let first = length-flat_map (slice (votes_of g) bits) (range_with_len 0 j) in
+    let whole = length-flat_map (slice (votes_of g) bits) (range_with_len 0 (2 ^ bits)) in
+    let same = ap (λ (l : List ℕ). length l) (all-slices g bits game few le) in
+    let more = sum_by-range-more f j in
+    let less = sum_by-range-le f (j + 1) (2 ^ bits) (omega (arith, lt)) in
+    let most = minimal-few g game in
+    omega (arith, first, whole, same, more, less, most)
+
+pub slices-more : (g : GameView) (bits j : ℕ) → flat_map (slice (votes_of g) bits) (range_with_len 0 j) ++ slice (votes_of g) bits j ≡ flat_map (slice (votes_of g) bits) (range_with_len 0 (j + 1))
+slices-more g bits j =
+    let one : slice (votes_of g) bits j ≡ flat_map (slice (votes_of g) bits) ((0 + j) ∷ []) = sym (append-nil _) ∙ ap (λ (i : ℕ). slice (votes_of g) bits i ++ []) (omega arith) in
+    ap (λ (l : List ℕ). flat_map (slice (votes_of g) bits) (range_with_len 0 j) ++ l) one
+    ∙ sym (flat_map-append (slice (votes_of g) bits) (range_with_len 0 j) ((0 + j) ∷ []))
+    ∙ ap (flat_map (slice (votes_of g) bits)) (sym (range-more 0 j))
+
+-- how many of a joined list pass a test
+pass-flat_map : (q : ℕ → Bool) (f : ℕ → List ℕ) (xs : List ℕ) → length (filter q (flat_map f xs)) ≡ sum_by (λ x. length (filter q (f x))) xs
+pass-flat_map q f [] = refl
+pass-flat_map q f (x ∷ xs) =
+    let both = ap (λ (l : List ℕ). length l) (filter-append q (f x) (flat_map f xs)) in
+    let long = length-append (filter q (f x)) (filter q (flat_map f xs)) in
+    let rest = pass-flat_map q f xs in
+    let e = sum_by-cons (λ y. length (filter q (f y))) x xs in
+    omega (arith, both, long, rest, e)
+
+pass-permutation : (q : ℕ → Bool) (f : ℕ → List ℕ) (xs ys : List ℕ) → IsPermutation xs ys → length (filter q (flat_map f xs)) ≡ length (filter q (flat_map f ys))
+pass-permutation q f xs ys h = pass-flat_map q f xs ∙ sym (sum_by-IsPermutation (λ x. length (filter q (f x))) xs ys h) ∙ sym (pass-flat_map q f ys)
+
+-- slices in another order have the same counts
+pub permuted : (g : GameView) (f : ℕ → List ℕ) (xs ys : List ℕ) (t : Tables) → IsPermutation xs ys → AreTallies g (flat_map f xs) t → AreTallies g (flat_map f ys) t
+permuted g f xs ys t same h = record {
+  of_game = h.of_game;
+  tallies = record {
+    all = record { long = h.tallies.all.long; sizes = λ s le. h.tallies.all.sizes s le ∙ pass-permutation _ f xs ys same };
+    each = λ p lt. (let own = h.tallies.each p lt in record { long = own.long; sizes = λ s le. own.sizes s le ∙ pass-permutation _ f xs ys same });
+  };
+}
+
+-- the slices, each once, have the counts of the whole list
+pub whole-counts : (g : GameView) (bits : ℕ) (taken : List ℕ) (t : Tables) → bits ≤ 10 → bits ≤ length g.names → IsPermutation taken (range_with_len 0 (2 ^ bits)) → AreTallies g (flat_map (slice (votes_of g) bits) taken) t
+    → AreCounts g (minimal_coalitions (votes_of g)) t
+whole-counts g bits taken t few le same h =
+    subst (λ (l : List ℕ). AreCounts g l t) (all-slices g bits h.of_game.is_game few le) (tallies-are_counts g _ t (permuted g (slice (votes_of g) bits) taken (range_with_len 0 (2 ^ bits)) t same h))
+
+-- a list with the numbers 0, 1, .. at its places
+pub is-range : (row : List ℕ) (n : ℕ) → length row ≡ n → ((k : ℕ) → k < n → get_or row k 0 ≡ k) → row ≡ range_with_len 0 n
+is-range row n long each =
+    fill_by_all (λ k. k) row n 0 long each
+    ∙ sym (fill_by_all (λ k. k) (range_with_len 0 n) n 0 (length-range_with_len 0 n) (λ k lt. get_or-range_with_len 0 n k 0 lt ∙ omega arith))
+
+-- the first of what a loop has left
+pub first-of : {X : Type 0} (P : X → Type 0) (x : X) (rest all : List X) → all ≡ x ∷ rest → All P all → P x
+first-of P x rest all step h = All-head P x rest (subst (All P) step h)

@@ -1,0 +1,14 @@
+//! Counts of the minimal winning coalitions of a game, which is walked slice by slice: nothing is
+//! kept of a coalition but that it was counted, so there may be any number of them.
+#![tactic(auto)]
+
+mod all;
+mod share;
+mod slice;
+#[cfg(test)]
+mod tests;
+mod watch;
+
+pub use all::tally;
+pub use slice::tally_slice;
+pub use watch::{NoWatch, Watch};

@@ -1,0 +1,84 @@
+//! Counts of worked games, by one thread and by several.
+ghost use Rattle.std.specs.Prelude.{◌≤◌};
+
+use crate::{NoWatch, Watch, tally, tally_slice};
+use council_game::Game;
+use power_index::WideCounts;
+use std::alloc::Global;
+use std::process::Abort;
+use std::sync::atomic::{AtomicU64, Ordering};
+use std::test::Fail;
+
+/// A game of members named 0, 1, ..
+fn game(alloc: Global, quota: u64, weights: &[u64]) -> Result<Game, Fail> {
+    let mut names = Vec::new(alloc);
+    let mut own = Vec::new(alloc);
+    for (i, weight) in weights.iter().enumerate() {
+        names.push(format!(in alloc; "{i}")?)?;
+        own.push(*weight)?;
+    }
+    Ok(Game::new(alloc, None, names, own, quota)?)
+}
+
+/// How many slices were counted.
+struct Counted(AtomicU64);
+
+impl Watch for Counted {
+    fn counted(&self, _slice: u16) {
+        self.0.fetch_add(1, Ordering::SeqCst);
+    }
+}
+
+/// The counts of the five members of weights 35, 20, 15, 15, 15 with quota 51.
+fn assert_of_five(rt: &impl Abort, counts: &WideCounts) {
+    assert_eq!(rt; counts.members(), 5);
+    assert_eq!(rt; counts.total(), 5);
+    for (size, count) in [0, 0, 1, 3, 1, 0].iter().enumerate() {
+        assert!(rt; size <= 5);
+        assert_eq!(rt; counts.of_size(size), *count);
+    }
+    for (member, count) in [4, 2, 3, 3, 3].iter().enumerate() {
+        assert!(rt; member < 5);
+        assert_eq!(rt; counts.of_member(member), *count);
+    }
+}
+
+#[test]
+fn five_members_by_any_threads_and_bits(rt: HostRuntime) -> Result<(), Fail> {
+    let game = game(rt.alloc(), 51, &[35, 20, 15, 15, 15])?;
+    assert_eq!(rt; game.members(), 5);
+    for bits in 0..6u8 {
+        for workers in [1, 2, 4, 16] {
+            let counted = Counted(AtomicU64::new(0));
+            let counts = tally(&rt, rt.alloc(), &game, bits, workers, &counted)?;
+            assert_of_five(&rt, &counts);
+            assert_eq!(rt; counted.0.load(Ordering::SeqCst), 1 << bits);
+        }
+    }
+    Ok(())
+}
+
+#[test]
+fn one_slice(rt: HostRuntime) -> Result<(), Fail> {
+    let game = game(rt.alloc(), 51, &[35, 20, 15, 15, 15])?;
+    assert_eq!(rt; game.members(), 5);
+    let counts = tally_slice(&game, 2, 1);
+    assert_eq!(rt; counts.members(), 5);
+    assert_eq!(rt; counts.total(), 3);
+    assert_eq!(rt; counts.of_member(0), 3);
+    assert_eq!(rt; counts.of_member(1), 0);
+    Ok(())
+}
+
+#[test]
+fn five_of_forty_win(rt: HostRuntime) -> Result<(), Fail> {
+    let game = game(rt.alloc(), 5, &[1; 40])?;
+    assert_eq!(rt; game.members(), 40);
+    let counts = tally(&rt, rt.alloc(), &game, 6, 4, &NoWatch)?;
+    assert_eq!(rt; counts.members(), 40);
+    assert_eq!(rt; counts.total(), 658_008);
+    for member in 0..40 {
+        assert_eq!(rt; counts.of_member(member), 82_251);
+    }
+    Ok(())
+}
