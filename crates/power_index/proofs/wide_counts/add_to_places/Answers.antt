@@ -1,6 +1,5 @@
-use Rattle.std.proofs.Common.{◌≡◌, ◌∙◌, ℕ, ◌-◌, ◌<◌, ◌≤◌, ◌^◌, arith, subst, sym, get_or, true}
+use Rattle.std.proofs.Common.{◌≡◌, ℕ, ◌-◌, ◌≤◌, ◌^◌, arith, subst, sym, get_or}
 use Rattle.std.specs.Int.{w64, trailing_zeros}
-use Rattle.council_game.specs.Votes.{has, without}
 use Rattle.power_index.specs.declared.tally.Tally.{Tally}
 use Rattle.power_index.proofs.Digits.{lowest-place, lowest-cleared, without-less}
 use Rattle.power_index.proofs.Walks.{Walked, walked-start, walked-step, walked-all}

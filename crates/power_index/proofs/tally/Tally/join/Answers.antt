@@ -1,4 +1,4 @@
-use Rattle.std.proofs.Common.{◌≡◌, ◌∙◌, ℕ, ◌+◌, ◌<◌, ◌≤◌, ap, arith, get_or, set, length-set, get_or-set_same, get_or-set_other, below_more}
+use Rattle.std.proofs.Common.{◌≡◌, ◌∙◌, ℕ, ◌+◌, ap, arith, get_or, set, length-set, get_or-set_same, get_or-set_other, below_more}
 use Rattle.power_index.proofs.tally.Tally.join.Goals as goal
 
 pub overflow_add-self : goal.overflow_add-self

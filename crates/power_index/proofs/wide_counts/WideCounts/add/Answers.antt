@@ -1,6 +1,6 @@
-use Rattle.std.proofs.Common.{arith, ◌++◌, ◌≤◌, ◌+◌, ◌^◌, ℕ, List}
+use Rattle.std.proofs.Common.{arith, ◌++◌, ℕ, List}
 use Rattle.council_game.specs.Game.{GameView}
-use Rattle.power_index.specs.Tables.{Tables, AreTallies, AreOfOneGame, table_total}
+use Rattle.power_index.specs.Tables.{AreTallies}
 use Rattle.power_index.proofs.Sound.{some-of_all, some-of_place, some-members, join-hold, join-some, join-total}
 use Rattle.power_index.proofs.wide_counts.WideCounts.add.Goals as goal
 

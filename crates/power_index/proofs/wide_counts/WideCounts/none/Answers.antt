@@ -1,6 +1,5 @@
-use Rattle.std.proofs.Common.{arith, ap, set, [], length, length-set, get_or-set_same, get_or-set_other, get_or, below_more, ◌≡◌, ◌∙◌, ℕ, replicate}
-use Rattle.council_game.specs.Votes.{has}
-use Rattle.power_index.specs.Tables.{Tables, AreTallies}
+use Rattle.std.proofs.Common.{arith, set, [], length-set, get_or-set_same, get_or-set_other, get_or, below_more, ◌≡◌, ◌∙◌, ℕ, replicate}
+use Rattle.power_index.specs.Tables.{AreTallies}
 use Rattle.power_index.proofs.Tallies.{tallies-none}
 use Rattle.power_index.proofs.Sound.{none-hold, none-some, tallies-are_counts}
 use Rattle.power_index.proofs.wide_counts.WideCounts.none.Goals as goal

@@ -1,0 +1,112 @@
+-- Parts of a list that lies in pieces.
+use Rattle.std.proofs.Common.{◌≡◌, ◌∙◌, ℕ, ◌+◌, ◌-◌, ◌*◌, ◌/◌, ◌%◌, ◌^◌, ◌<◌, ◌≤◌, zero, suc, min, List, [], ◌∷◌, ◌++◌, length, get_or, take, drop, sym, ap, refl, arith, subst, length-append, length-drop, inl, inr}
+use Rattle.std.specs.List.{All, flat_map}
+use Rattle.std.proofs.lemmas.List.{take_all, take_more, drop_all, length-take, take-append-drop, take-append-le, drop-append-le, append-nil}
+use Rattle.std.proofs.lemmas.List.Elements.{All-drop, All-take}
+use Rattle.std.proofs.lemmas.List.Concat.{flat_map-append}
+use Rattle.std.proofs.lemmas.List.Folds.{length-flat_map-take}
+use Rattle.std.proofs.lemmas.Bool.{cases_lt}
+use Rattle.std.proofs.Math.Nat.{div-add-mod, mod-lt}
+
+pub drop-append : (n : ℕ) (xs ys : List ℕ) → drop n (xs ++ ys) ≡ drop n xs ++ drop (n - length xs) ys
+drop-append zero xs ys = let e : 0 ≡ 0 - length xs = omega arith in ap (λ (k : ℕ). xs ++ drop k ys) e
+drop-append (suc n) [] ys = let e : suc n ≡ suc n - length {A = ℕ} [] = omega arith in ap (λ (k : ℕ). drop k ys) e
+drop-append (suc n) (x ∷ xs) ys =
+    let e : n - length xs ≡ suc n - suc (length xs) = omega arith in
+    drop-append n xs ys ∙ ap (λ (k : ℕ). drop n xs ++ drop k ys) e
+
+pub take-append : (n : ℕ) (xs ys : List ℕ) → take n (xs ++ ys) ≡ take n xs ++ take (n - length xs) ys
+take-append zero xs ys = let e : 0 ≡ 0 - length xs = omega arith in ap (λ (k : ℕ). take k ys) e
+take-append (suc n) [] ys = let e : suc n ≡ suc n - length {A = ℕ} [] = omega arith in ap (λ (k : ℕ). take k ys) e
+take-append (suc n) (x ∷ xs) ys =
+    let e : n - length xs ≡ suc n - suc (length xs) = omega arith in
+    ap (λ (l : List ℕ). x ∷ l) (take-append n xs ys) ∙ ap (λ (k : ℕ). x ∷ (take n xs ++ take k ys)) e
+
+pub drop-min : (n : ℕ) (xs : List ℕ) → drop (min n (length xs)) xs ≡ drop n xs
+drop-min n xs = elim (cases_lt n (length xs)) [
+  | inl lt ↦ let e : min n (length xs) ≡ n = omega arith in ap (λ (k : ℕ). drop k xs) e
+  | inr le ↦ let e : length xs ≤ min n (length xs) = omega arith in drop_all _ xs e ∙ sym (drop_all n xs le)
+]
+
+pub take-min : (n : ℕ) (xs : List ℕ) → take (min n (length xs)) xs ≡ take n xs
+take-min n xs = elim (cases_lt n (length xs)) [
+  | inl lt ↦ let e : min n (length xs) ≡ n = omega arith in ap (λ (k : ℕ). take k xs) e
+  | inr le ↦ let e : length xs ≤ min n (length xs) = omega arith in take_all _ xs e ∙ sym (take_all n xs le)
+]
+
+pub take-plus : (m n : ℕ) (xs : List ℕ) → take (m + n) xs ≡ take m xs ++ take n (drop m xs)
+take-plus zero n xs = let e : 0 + n ≡ n = omega arith in ap (λ (k : ℕ). take k xs) e
+take-plus (suc m) n [] = take-none (suc m + n) ∙ sym (take-none n)
+  where
+    take-none : (k : ℕ) → take {A = ℕ} k [] ≡ []
+    take-none zero = refl
+    take-none (suc k) = refl
+take-plus (suc m) n (x ∷ xs) =
+    let e : suc m + n ≡ suc (m + n) = omega arith in
+    ap (λ (k : ℕ). take k (x ∷ xs)) e ∙ ap (λ (l : List ℕ). x ∷ l) (take-plus m n xs)
+
+-- one piece more of a part
+pub part-more : (skip most s l : ℕ) (xs piece : List ℕ) → s ≡ skip - length xs → l ≡ most - length (drop skip xs)
+    → take most (drop skip (xs ++ piece)) ≡ take most (drop skip xs) ++ take l (drop s piece)
+part-more skip most s l xs piece s-is l-is =
+    ap (take most) (drop-append skip xs piece)
+    ∙ take-append most (drop skip xs) (drop (skip - length xs) piece)
+    ∙ ap (λ (k : ℕ). take most (drop skip xs) ++ take k (drop (skip - length xs) piece)) (sym l-is)
+    ∙ ap (λ (k : ℕ). take most (drop skip xs) ++ take l (drop k piece)) (sym s-is)
+
+-- what is left to skip and to take after it
+pub part-left : (skip most s l : ℕ) (xs piece : List ℕ) → s ≡ skip - length xs → l ≡ most - length (drop skip xs)
+    → (s - length piece ≡ skip - length (xs ++ piece)) × (l - (length piece - s) ≡ most - length (drop skip (xs ++ piece)))
+part-left skip most s l xs piece s-is l-is =
+    let long = length-append xs piece in
+    let before = length-drop skip xs in
+    let after = length-drop skip (xs ++ piece) in
+    (omega (arith, long, s-is), omega (arith, long, before, after, s-is, l-is))
+
+pub part-length : (skip most : ℕ) (xs : List ℕ) → length (take most (drop skip xs)) ≤ length xs
+part-length skip most xs = let a = length-take most (drop skip xs) in let b = length-drop skip xs in omega (arith, a, b)
+
+-- all parts are long enough together
+pub parts-reach : (total threads : ℕ) → 0 < threads → total ≤ threads * (total / threads + 1)
+parts-reach total threads pos = let e = div-add-mod total threads in let lt = mod-lt total pos in go (total / threads) e lt
+  where
+    go : (q : ℕ) → threads * q + total % threads ≡ total → total % threads < threads → total ≤ threads * (q + 1)
+    go q e lt = omega (arith, e, lt)
+
+-- the pieces up to one more
+pub pieces-more : {X : Type 0} (f : X → List ℕ) (xs : List X) (k : ℕ) (x : X) → k < length xs → x ≡ get_or xs k x → flat_map f (take (k + 1) xs) ≡ flat_map f (take k xs) ++ f x
+pieces-more f xs k x lt is =
+    ap (flat_map f) (take_more xs k x lt)
+    ∙ flat_map-append f (take k xs) (get_or xs k x ∷ [])
+    ∙ ap (λ (l : List ℕ). flat_map f (take k xs) ++ l) (append-nil (f (get_or xs k x)) ∙ ap f (sym is))
+
+all-front : (P : ℕ → Type 0) (a b : List ℕ) → All P (a ++ b) → All P a
+all-front P a b h =
+    let e : take (length a) (a ++ b) ≡ a = take-append-le (length a) a b (omega arith) ∙ take_all (length a) a (omega arith) in
+    subst (All P) e (All-take P (length a) (a ++ b) h)
+
+all-back : (P : ℕ → Type 0) (a b : List ℕ) → All P (a ++ b) → All P b
+all-back P a b h =
+    let e : drop (length a) (a ++ b) ≡ b = drop-append-le (length a) a b (omega arith) ∙ ap (λ (l : List ℕ). l ++ b) (drop_all (length a) a (omega arith)) in
+    subst (All P) e (All-drop P (length a) (a ++ b) h)
+
+-- what holds of all holds of a piece
+pub piece-all : {X : Type 0} (P : ℕ → Type 0) (f : X → List ℕ) (xs : List X) (k : ℕ) (x : X) → k < length xs → x ≡ get_or xs k x → All P (flat_map f xs) → All P (f x)
+piece-all P f xs k x lt is h =
+    let cut : flat_map f xs ≡ flat_map f (take (k + 1) xs) ++ flat_map f (drop (k + 1) xs) = ap (flat_map f) (sym (take-append-drop (k + 1) xs)) ∙ flat_map-append f (take (k + 1) xs) (drop (k + 1) xs) in
+    all-back P (flat_map f (take k xs)) (f x) (subst (All P) (pieces-more f xs k x lt is) (all-front P _ _ (subst (All P) cut h)))
+
+-- a piece and those before it are no longer than all
+pub pieces-length : {X : Type 0} (f : X → List ℕ) (xs : List X) (k : ℕ) (x : X) → k < length xs → x ≡ get_or xs k x → length (flat_map f (take k xs)) + length (f x) ≤ length (flat_map f xs)
+pieces-length f xs k x lt is = let e = length-flat_map-take f xs k x lt in let same = ap (λ y. length (f y)) is in omega (arith, e, same)
+
+-- the row that is read of a piece
+pub row-is : (piece : List ℕ) (s l a m : ℕ) → a ≡ min s (length piece) → m ≡ min l (length (take (length piece - a) (drop a piece)))
+    → take m (take (length piece - a) (drop a piece)) ≡ take l (drop s piece)
+row-is piece s l a m a-is m-is =
+    let long = length-drop a piece in
+    let rest : take (length piece - a) (drop a piece) ≡ drop s piece = take_all (length piece - a) (drop a piece) (omega (arith, long)) ∙ (ap (λ (k : ℕ). drop k piece) a-is ∙ drop-min s piece) in
+    ap (λ (k : ℕ). take k (take (length piece - a) (drop a piece))) m-is ∙ take-min l (take (length piece - a) (drop a piece)) ∙ ap (take l) rest
+
+pub rest-length : (piece : List ℕ) (s a : ℕ) → a ≡ min s (length piece) → length (take (length piece - a) (drop a piece)) ≡ length piece - s
+rest-length piece s a a-is = let one = length-take (length piece - a) (drop a piece) in let other = length-drop a piece in omega (arith, one, other, a-is)
