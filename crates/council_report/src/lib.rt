@@ -14,6 +14,8 @@ mod seat;
 mod shared;
 mod shown;
 mod stream;
+#[cfg(test)]
+mod tests;
 mod text;
 
 pub use fault::ReportFault;

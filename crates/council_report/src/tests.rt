@@ -1,0 +1,164 @@
+//! A listing against lines that are made independently, in several orders.
+ghost use Rattle.std.specs.Prelude.{◌≡◌, length, IfOk};
+ghost use Rattle.power_index.specs.Counting.{AreCoalitions};
+
+use crate::{Shown, write_report};
+use council_file::parse_game;
+use council_game::{Coalition, Game};
+use std::alloc::{AllocError, Global};
+use std::test::Fail;
+
+/// A game of three rules. Its members stand in the opposite order of their rank.
+const GAME: &str = "quotas = [140, 7, 1]
+[[member]]
+name = \"Northumbria of the North\"
+weights = [14, 1, 947000000]
+[[member]]
+name = \"Mercia\"
+weights = [15, 1, 2800000]
+[[member]]
+name = \"L\"
+weights = [16, 1, 1090000]
+[[member]]
+name = \"Kent\"
+weights = [17, 1, 190000]
+[[member]]
+name = \"J\"
+weights = [18, 1, 27100]
+[[member]]
+name = \"Iberia and the Balearic Islands\"
+weights = [19, 1, 3520]
+[[member]]
+name = \"H\"
+weights = [20, 1, 433]
+[[member]]
+name = \"Gaul\"
+weights = [21, 1, 514000000]
+[[member]]
+name = \"Far Away Islands\"
+weights = [22, 1, 59500000]
+[[member]]
+name = \"Eire\"
+weights = [23, 1, 6760000]
+[[member]]
+name = \"D\"
+weights = [24, 1, 757000]
+[[member]]
+name = \"Caledonia the Greater\"
+weights = [25, 1, 83800]
+[[member]]
+name = \"Bo\"
+weights = [26, 1, 9190]
+[[member]]
+name = \"Alba\"
+weights = [27, 1, 0]
+";
+
+/// Its names and weights by rank.
+const NAMES: [&str; 14] = [
+    "Alba",
+    "Bo",
+    "Caledonia the Greater",
+    "D",
+    "Eire",
+    "Far Away Islands",
+    "Gaul",
+    "H",
+    "Iberia and the Balearic Islands",
+    "J",
+    "Kent",
+    "L",
+    "Mercia",
+    "Northumbria of the North",
+];
+
+const WEIGHTS: [[u64; 14]; 3] = [
+    [27, 26, 25, 24, 23, 22, 21, 20, 19, 18, 17, 16, 15, 14],
+    [1; 14],
+    [
+        0,
+        9190,
+        83_800,
+        757_000,
+        6_760_000,
+        59_500_000,
+        514_000_000,
+        433,
+        3520,
+        27_100,
+        190_000,
+        1_090_000,
+        2_800_000,
+        947_000_000,
+    ],
+];
+
+/// The minimal winning coalitions of a game of 14 members: in listing order at step 16383, in its
+/// opposite at step 1, and at other odd steps in other orders.
+fn coalitions(alloc: Global, game: &Game, step: u64) -> Result<Vec<Coalition>, AllocError>
+    requires { length game.now.names ≡ 14 }
+    ensures { IfOk result (λ v. AreCoalitions game.now v.items) }
+{
+    let mut list = Vec::new(alloc);
+    for k in 1..16_384_u64 {
+        let mask = k.wrapping_mul(step) % 16_384;
+        if mask != 0 && game.is_minimal(Coalition::of_mask(mask)) {
+            list.push(Coalition::of_mask(mask))?;
+        }
+    }
+    Ok(list)
+}
+
+/// The lines of these coalitions, each made for itself.
+fn lines(alloc: Global, list: &[Coalition]) -> Result<Vec<u8>, AllocError> {
+    let mut lines = Vec::new(alloc);
+    for coalition in list {
+        let mut size = 0_u64;
+        let mut sums = [0_u64; 3];
+        let mut names = Vec::new(alloc);
+        for place in 0..14 {
+            if (coalition.mask() >> (13 - place)) % 2 == 1 {
+                size = size.wrapping_add(1);
+                for rule in 0..3 {
+                    sums[rule] = sums[rule].wrapping_add(WEIGHTS[rule][place]);
+                }
+                names.push(b'\t')?;
+                names.extend_from_slice(NAMES[place].as_bytes())?;
+            }
+        }
+        let head = format!(in alloc; "coalition\t{size}\t{}/{}/{}", sums[0], sums[1], sums[2])?;
+        lines.extend_from_slice(head.as_bytes())?;
+        lines.extend_from_slice(&names)?;
+        lines.push(b'\n')?;
+    }
+    Ok(lines)
+}
+
+const HEADING: &[u8] = b"members\t14\nquota\t140/7/1\ntotal\t287/14/1532221043\nminimal\t2650\n";
+
+#[test]
+fn lists_in_any_order(rt: HostRuntime) -> Result<(), Fail> {
+    let alloc = rt.alloc();
+    let Ok(game) = parse_game(alloc, GAME.as_bytes()) else {
+        return Err(Fail::from("the game was refused"));
+    };
+    assert!(rt; game.members() == 14);
+    for step in [16_383, 1, 4_097, 5, 11_111] {
+        let list = coalitions(alloc, &game, step)?;
+        assert!(rt; list.len() == 2_650);
+        let mut written = Vec::new(alloc);
+        let shown = Shown {
+            list: true,
+            sizes: false,
+            notation: false,
+        };
+        let answer = write_report(alloc, &game, &list, shown, &mut written);
+        assert!(rt; answer == Ok(written.len() as u64));
+        let mut wanted = Vec::from_slice(alloc, HEADING)?;
+        let lines = lines(alloc, &list)?;
+        assert!(rt; 65_536 < lines.len());
+        wanted.extend_from_slice(&lines)?;
+        assert!(rt; written.starts_with(&wanted));
+    }
+    Ok(())
+}
