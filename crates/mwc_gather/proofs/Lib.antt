@@ -1,4 +1,5 @@
 pub mod Slices
+pub mod Rows
 pub mod Wordings
 pub mod Words
 pub mod Joins

@@ -1,14 +1,15 @@
 -- The words of a slice as far as they were sent.
-use Rattle.std.specs.Prelude.{◌≡◌, ℕ, ◌+◌, ◌-◌, ◌≤◌, nat_lt, Bool, true, false, if◌then◌else◌, List, [], ◌∷◌, ◌++◌, length, map, take, refl}
+use Rattle.std.specs.Prelude.{◌≡◌, ℕ, ◌+◌, ◌-◌, ◌<◌, ◌≤◌, nat_lt, Bool, true, false, if◌then◌else◌, List, [], ◌∷◌, ◌++◌, length, map, take, refl}
 use mathlib.Core.List.{IsPrefix}
-use Rattle.std.proofs.Common.{ap, arith, append_assoc, sym, ◌∙◌}
-use Rattle.std.proofs.lemmas.List.{map-append, length-append}
+use Rattle.std.proofs.Common.{ap, subst, arith, append_assoc, sym, ◌∙◌}
+use Rattle.std.proofs.lemmas.Bool.Decides.{nat_tests}
+use Rattle.std.proofs.lemmas.List.{append-nil, map-append, length-append}
 use Rattle.std.proofs.Math.Seq.{take-append_seam, take-append-add}
 use Rattle.mwc_pipe.specs.declared.word.Word.{Word}
 use Rattle.mwc_pipe.specs.declared.word.Word.TheVariants.{Open, One, Done}
 use Rattle.mwc_parts.specs.Slicing.{Slicing}
 use Rattle.mwc_parts.specs.Wording.{slice_words, cut_words}
-use Rattle.mwc_gather.specs.Sending.{sending}
+use Rattle.mwc_gather.specs.Sending.{sending, SendsFirst}
 
 module _ {W : Type 0} (one : ℕ → W) where
   -- what was sent is a beginning of all words
@@ -58,3 +59,19 @@ starts_sending g j left given rest e l = starts_by g j left given rest (nat_lt (
 -- nothing that was sent is a beginning too
 pub nothing_sent : (g : Slicing) (j left : ℕ) → IsPrefix [] (sending g j left)
 nothing_sent g j left = (sending g j left, refl)
+
+-- one more coalition of a row that is sent
+pub one_more_first : (before after rest : List Word) (j : ℕ) (given : List ℕ) (c : ℕ) → SendsFirst before ((Open j ∷ map One given) ++ One c ∷ []) after rest → SendsFirst before (Open j ∷ map One (given ++ c ∷ [])) after rest
+one_more_first before after rest j given c s =
+    (s.0, s.1, s.2 ∙ ap (λ (w : List Word). Open j ∷ w) (sym (map-append One given (c ∷ []))))
+
+whole_by : (g : Slicing) (j left : ℕ) (b : Bool) → nat_lt (length (g.slice j)) left ≡ b → length (g.slice j) < left → IsPrefix (slice_words g j) (if b then slice_words g j else cut_words g j left)
+whole_by g j left true e l = ([], append-nil (slice_words g j))
+whole_by g j left false e l = absurd (grind (arith, nat_tests))
+
+-- the words of a whole slice are its sending
+pub whole_starts : (g : Slicing) (j left : ℕ) (given : List ℕ) → g.slice j ≡ given → length given < left → IsPrefix ((Open j ∷ map One given) ++ Done j ∷ []) (sending g j left)
+unfolding sending
+whole_starts g j left given e l =
+    let short : length (g.slice j) < left = let n : length (g.slice j) ≡ length given = ap (λ (w : List ℕ). length w) e in omega arith in
+    subst (λ (w : List ℕ). IsPrefix ((Open j ∷ map One w) ++ Done j ∷ []) (if nat_lt (length (g.slice j)) left then slice_words g j else cut_words g j left)) e (whole_by g j left (nat_lt (length (g.slice j)) left) refl short)

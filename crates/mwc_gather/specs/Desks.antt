@@ -1,12 +1,19 @@
 -- What the workers of some desks were given.
 use Rattle.std.specs.Prelude.{◌≡◌, ℕ, Bool, true, false, List, Option, All, length, map}
 use Rattle.std.specs.List.{AllWithin}
+use Rattle.mwc_pipe.specs.declared.word.Word.{Word}
+use Rattle.mwc_pipe.specs.declared.word.Word.TheVariants.{Done}
 use Rattle.mwc_parts.specs.Slicing.{Slicing}
 use Rattle.mwc_parts.specs.Parts.{IsPart}
 use Rattle.mwc_parts.specs.declared.part.Part.{Part}
 use Rattle.mwc_parts.specs.Dealing.{Seat, IsWell, Dealing, FirstDeals}
 use Rattle.mwc_gather.specs.Orders.{slicing_of}
 use Rattle.mwc_gather.specs.declared.desk.Desk.{Desk}
+
+-- whether a word tells that a slice is whole
+abbrev pub is_done : Word → Bool
+is_done (Done j) = true
+is_done _ = false
 
 -- the worker was given this game and this limit
 abbrev pub IsOf : Slicing → ℕ → Desk → Type 0

@@ -1,5 +1,6 @@
 //! What the gatherer does with a desk.
-ghost use Rattle.std.specs.Prelude.{◌≡◌, ◌≢◌, ◌+◌, ◌<◌, ◌≤◌, ◌^◌, ◌++◌, ◌∷◌, [], List, IfOk, IsTrue, IsFalse, MatchOption, true, false, length, vec_len, vec_capacity};
+ghost use Rattle.std.specs.Prelude.{◌≡◌, ◌≢◌, ◌+◌, ◌<◌, ◌≤◌, ◌^◌, ◌++◌, ◌∷◌, [], List, IfOk, IsTrue, IsFalse, true, false, length, take, vec_len, vec_capacity};
+ghost use Rattle.std.specs.List.{list_any};
 ghost use Rattle.mwc_pipe.specs.declared.word.Word.{Word};
 ghost use Rattle.mwc_parts.specs.Wording.{total};
 ghost use Rattle.mwc_parts.specs.Dealing.{IsFresh};
@@ -8,20 +9,20 @@ ghost use Rattle.mwc_parts.specs.Settled.{Keeps, IsWhole};
 ghost use Rattle.mwc_gather.specs.Slicings.{slicing};
 ghost use Rattle.mwc_gather.specs.Sending.{Worked};
 ghost use Rattle.mwc_gather.specs.Orders.{slicing_of};
-ghost use Rattle.mwc_gather.specs.Desks.{IsOf, seat, Finished};
+ghost use Rattle.mwc_gather.specs.Desks.{IsOf, is_done, seat, Finished};
 
 use crate::desk::Desk;
 use crate::guarded::{Gate, Guarded};
 use crate::order::Order;
 use crate::promise::{Answer, Task};
-use crate::worker::work;
+use crate::waiting::{Bell, Bells, Patience};
+use crate::worker::work_beside;
 use mwc_parts::{Draft, GatherFault, Part, settle};
 use mwc_pipe::{Rest, RingIn, Word, ring};
 use mwc_walk::slice_count;
 use std::alloc::Global;
 use std::snapshot::Snapshot;
 use std::sync::Wait;
-use std::thread;
 use std::thread::{Scope, Threads};
 
 /// How many words a worker may be ahead of the gatherer.
@@ -40,6 +41,7 @@ impl Desk {
         bits: u8,
         worker: u8,
         most: u32,
+        bells: &'s Bells,
     ) -> Result<Desk, GatherFault>
         requires bits { (bits ≤ 10) × (bits ≤ length guarded.now.names) }
         requires worker { worker < 16 }
@@ -60,13 +62,15 @@ impl Desk {
             tasks: Snapshot::of(&list),
         };
         let own = guarded.share();
+        let bell = &bells.workers[usize::from(worker)];
+        let gatherer = &bells.gatherer;
         let body = move || -> Answer
             requires bits { (bits ≤ 10) × (bits ≤ length own.names) }
             requires worker { worker < 16 }
             requires most { (1 ≤ most) × (most ≤ 4000000) }
             requires fresh { (out.accepted ≡ []) × (list.taken ≡ []) }
             ensures { Worked (slicing own.entry bits) most out list result }
-        { work(rt, &own, bits, worker, most, out, list) };
+        { work_beside(rt, &own, bits, worker, most, out, list, bell, gatherer) };
         let Ok(worker) = scope.spawn_with(task, body) else {
             return Err(GatherFault::Start);
         };
@@ -75,6 +79,7 @@ impl Desk {
             words,
             tasks,
             given,
+            idle: true,
             told: false,
             ended: false,
             draft,
@@ -96,7 +101,7 @@ impl Desk {
     }
 
     /// Gives the worker a slice.
-    pub fn assign<R: Wait>(&mut self, rt: &R, slice: u16)
+    pub fn assign<R: Wait>(&mut self, rt: &R, slice: u16, own: &Bell, other: &Bell)
         requires slice { slice < 2 ^ self.old.worker.promise.order.bits }
         requires room { vec_len self.old.given < vec_capacity self.old.given }
         requires told { self.old.told ≡ false }
@@ -105,32 +110,37 @@ impl Desk {
         ensures same { (self.new.told ≡ false) × (self.new.ended ≡ self.old.ended) × (self.new.draft.lost ≡ self.old.draft.lost) × (self.new.draft.cut ≡ self.old.draft.cut) }
     {
         self.given.push_reserved(slice);
-        put(rt, &mut self.tasks, Word::Open(slice));
+        put(rt, &mut self.tasks, Word::Open(slice), own, other);
+        self.idle = false;
     }
 
     /// Tells the worker that there are no more.
-    pub fn tell<R: Wait>(&mut self, rt: &R)
+    pub fn tell<R: Wait>(&mut self, rt: &R, own: &Bell, other: &Bell)
         requires { self.old.told ≡ false }
         ensures worker { self.new.worker.promise ≡ self.old.worker.promise }
         ensures told { self.new.told ≡ true }
         ensures same { (self.new.given.items ≡ self.old.given.items) × (self.new.ended ≡ self.old.ended) × (self.new.draft.lost ≡ self.old.draft.lost) × (self.new.draft.cut ≡ self.old.draft.cut) }
     {
-        put(rt, &mut self.tasks, Word::End { cut: false });
+        put(rt, &mut self.tasks, Word::End { cut: false }, own, other);
         self.told = true;
     }
 
-    /// Takes a word where there is one, and keeps what it tells.
-    pub fn read(&mut self) -> Option<Word>
+    /// Takes all words that are there into the front of the row, keeps what they tell, and says how
+    /// many they are.
+    pub fn read(&mut self, row: &mut [Word]) -> usize
         ensures worker { self.new.worker.promise ≡ self.old.worker.promise }
-        ensures same { (self.new.given.items ≡ self.old.given.items) × (self.new.told ≡ self.old.told) × (self.new.ended ≡ self.old.ended) }
-        ensures taken { MatchOption result (self.new.words.taken ≡ self.old.words.taken) (λ w. self.new.words.taken ≡ self.old.words.taken ++ w ∷ []) }
+        ensures same { (self.new.given.items ≡ self.old.given.items) × (self.new.told ≡ self.old.told) }
+        ensures taken { (result ≤ length row.new) × (self.new.words.taken ≡ self.old.words.taken ++ take result row.new) }
         ensures lost { self.new.draft.lost ≡ false → self.old.draft.lost ≡ false }
         ensures cut { self.new.draft.cut ≡ false → self.old.draft.cut ≡ false }
     {
-        let word = self.words.take()?;
-        let again = word;
-        self.draft.hear(again);
-        Some(word)
+        let count = self.words.take_some(row);
+        let words = &row[..count];
+        self.draft.hear_row(words);
+        let (done, ended) = told_by(words);
+        self.idle |= done;
+        self.ended |= ended;
+        count
     }
 
     /// Joins the worker, and keeps what is left of its words.
@@ -146,6 +156,7 @@ impl Desk {
             words,
             tasks,
             given,
+            idle: _,
             told: _,
             ended: _,
             draft,
@@ -184,20 +195,40 @@ fn ring_fault(draft: &Draft) -> GatherFault
     }
 }
 
-/// Puts a task into the ring, and waits while it is full.
-fn put<R: Wait>(rt: &R, tasks: &mut RingIn, task: Word)
+/// Puts a task into the ring, and waits at `own` while it is full; then rings `other`.
+fn put<R: Wait>(rt: &R, tasks: &mut RingIn, task: Word, own: &Bell, other: &Bell)
     ensures ring { tasks.new.ring ≡ tasks.old.ring }
     ensures accepted { tasks.new.accepted ≡ tasks.old.accepted ++ task ∷ [] }
 {
     let mut task = task;
+    let mut patience = Patience::new();
     for _ in rt.forever() {
         match tasks.put(task) {
-            Ok(()) => return,
+            Ok(()) => {
+                other.ring();
+                return;
+            }
             Err(back) => task = back,
         }
-        thread::yield_now();
+        patience.wait(rt, own);
     }
     unreachable!()
+}
+
+/// Whether one of the words tells that a slice is whole, and whether one of them is an End.
+fn told_by(words: &[Word]) -> (bool, bool)
+    ensures done { result.0 ≡ list_any is_done words.now }
+{
+    let mut done = false;
+    let mut ended = false;
+    for word in words {
+        match word {
+            Word::Done(_) => done = true,
+            Word::End { cut: _ } => ended = true,
+            _ => {}
+        }
+    }
+    (done, ended)
 }
 
 /// Keeps all words that are left.

@@ -6,10 +6,10 @@ ghost use Rattle.mwc_gather.specs.Desks.{seat, seats, AllOf, DealsTo, DealsFirst
 
 use crate::desk::Desk;
 use crate::order::Order;
+use crate::waiting::{Bell, Bells, Patience};
 use mwc_parts::Marks;
 use mwc_pipe::Word;
 use std::sync::Wait;
-use std::thread;
 
 /// What a turn of one worker, or of all of them, came to: whether the deal stops, and whether a word
 /// was there.
@@ -21,7 +21,15 @@ struct Progress {
 
 /// Gives the worker the lowest slice without a holder, or tells it that there are no more. In a deal
 /// that is stopped nothing is given.
-fn deal<R: Wait>(rt: &R, marks: &mut Marks, stopped: bool, desk: &mut Desk, worker: u8) -> bool
+fn deal<R: Wait>(
+    rt: &R,
+    marks: &mut Marks,
+    stopped: bool,
+    desk: &mut Desk,
+    worker: u8,
+    own: &Bell,
+    other: &Bell,
+) -> bool
     requires slices { length marks.old ≡ 2 ^ desk.old.worker.promise.order.bits }
     requires worker { worker < 16 }
     ensures worker { desk.new.worker.promise ≡ desk.old.worker.promise }
@@ -31,7 +39,7 @@ fn deal<R: Wait>(rt: &R, marks: &mut Marks, stopped: bool, desk: &mut Desk, work
         return stopped;
     }
     if stopped || !desk.ready() {
-        desk.tell(rt);
+        desk.tell(rt, own, other);
         return true;
     }
     match marks.lowest() {
@@ -39,9 +47,9 @@ fn deal<R: Wait>(rt: &R, marks: &mut Marks, stopped: bool, desk: &mut Desk, work
             if !marks.give(slice, worker) {
                 unreachable!()
             }
-            desk.assign(rt, slice);
+            desk.assign(rt, slice, own, other);
         }
-        None => desk.tell(rt),
+        None => desk.tell(rt, own, other),
     }
     false
 }
@@ -54,33 +62,33 @@ fn stops(stopped: bool, lost: bool, cut: bool) -> bool
     stopped || lost || cut
 }
 
-/// Takes a word of the worker, and deals to it where it has finished a slice.
-fn turn<R: Wait>(rt: &R, marks: &mut Marks, stopped: bool, desk: &mut Desk, worker: u8) -> Progress
+/// Takes the words of the worker that are there, and deals to it where it has finished its slices.
+fn turn<R: Wait>(
+    rt: &R,
+    marks: &mut Marks,
+    stopped: bool,
+    desk: &mut Desk,
+    worker: u8,
+    row: &mut [Word],
+    own: &Bell,
+    other: &Bell,
+) -> Progress
     requires slices { length marks.old ≡ 2 ^ desk.old.worker.promise.order.bits }
     requires worker { worker < 16 }
     ensures worker { desk.new.worker.promise ≡ desk.old.worker.promise }
     ensures turns { Turns false marks.old stopped (seat desk.old) worker marks.new result.stopped (seat desk.new) }
 {
-    let word = desk.read();
-    let moved = word.is_some();
-    let stop = stops(stopped, desk.draft.lost, desk.draft.cut);
-    match word {
-        Some(Word::Done(_)) => {
-            let stopped = deal(rt, marks, stop, desk, worker);
-            Progress { stopped, moved }
-        }
-        Some(Word::End { cut: _ }) => {
-            desk.ended = true;
-            Progress {
-                stopped: stop,
-                moved,
-            }
-        }
-        _ => Progress {
-            stopped: stop,
-            moved,
-        },
+    let moved = desk.read(row) > 0;
+    if moved {
+        other.ring();
     }
+    let stop = stops(stopped, desk.draft.lost, desk.draft.cut);
+    let stopped = if desk.idle {
+        deal(rt, marks, stop, desk, worker, own, other)
+    } else {
+        stop
+    };
+    Progress { stopped, moved }
 }
 
 /// Deals one slice to each worker, and says whether the deal is stopped.
@@ -90,6 +98,7 @@ fn deal_first<R: Wait>(
     early: bool,
     marks: &mut Marks,
     desks: &mut [Desk],
+    bells: &Bells,
 ) -> bool
     requires few { length desks.old ≤ 16 }
     requires all_of { AllOf (slicing_of order.now) order.now.most desks.old }
@@ -99,12 +108,21 @@ fn deal_first<R: Wait>(
 {
     let mut stopped = early;
     for i in 0..desks.len() {
-        stopped = deal(rt, marks, stopped, &mut desks[i], i as u8);
+        let other = &bells.workers[i];
+        stopped = deal(
+            rt,
+            marks,
+            stopped,
+            &mut desks[i],
+            i as u8,
+            &bells.gatherer,
+            other,
+        );
     }
     stopped
 }
 
-/// Reads at most one word of each ring, and says whether a worker has still to send its End.
+/// Reads the words that are there of each ring, and says whether a worker has still to send its End.
 fn read_round<R: Wait>(
     rt: &R,
     order: &Order,
@@ -112,6 +130,8 @@ fn read_round<R: Wait>(
     marks: &mut Marks,
     stopped: bool,
     desks: &mut [Desk],
+    row: &mut [Word],
+    bells: &Bells,
 ) -> (bool, Progress)
     requires few { length desks.old ≤ 16 }
     requires deals { DealsTo (slicing_of order.now) order.now.most early marks.old stopped desks.old }
@@ -121,7 +141,17 @@ fn read_round<R: Wait>(
     let mut moved = false;
     let mut stopped = stopped;
     for i in 0..desks.len() {
-        let progress = turn(rt, marks, stopped, &mut desks[i], i as u8);
+        let other = &bells.workers[i];
+        let progress = turn(
+            rt,
+            marks,
+            stopped,
+            &mut desks[i],
+            i as u8,
+            row,
+            &bells.gatherer,
+            other,
+        );
         stopped = progress.stopped;
         moved |= progress.moved;
         running |= !desks[i].ended;
@@ -130,13 +160,14 @@ fn read_round<R: Wait>(
 }
 
 /// Deals the slices and reads the rings in turn, until each worker has sent its End. Where no word
-/// is there it yields.
+/// is there it waits.
 pub(crate) fn read_all<R: Wait>(
     rt: &R,
     order: &Order,
     early: bool,
     marks: &mut Marks,
     desks: &mut [Desk],
+    bells: &Bells,
 ) -> bool
     requires few { length desks.old ≤ 16 }
     requires all_of { AllOf (slicing_of order.now) order.now.most desks.old }
@@ -144,15 +175,21 @@ pub(crate) fn read_all<R: Wait>(
     requires marks { marks.old ≡ replicate (2 ^ order.now.bits) None }
     ensures { DealsTo (slicing_of order.now) order.now.most early marks.new result desks.new }
 {
-    let mut stopped = deal_first(rt, order, early, marks, desks);
+    let mut row = [Word::Open(0); 64];
+    let mut patience = Patience::new();
+    let mut stopped = deal_first(rt, order, early, marks, desks, bells);
     for _ in rt.forever() {
-        let (running, progress) = read_round(rt, order, early, marks, stopped, desks);
+        let (running, progress) = read_round(
+            rt, order, early, marks, stopped, desks, &mut row, bells,
+        );
         stopped = progress.stopped;
         if !running {
             return stopped;
         }
-        if !progress.moved {
-            thread::yield_now();
+        if progress.moved {
+            patience.renew();
+        } else {
+            patience.wait(rt, &bells.gatherer);
         }
     }
     unreachable!()

@@ -18,6 +18,8 @@ pub(crate) struct Desk {
     pub tasks: RingIn,
     /// The slices that it was given, in that order.
     pub given: Vec<u16>,
+    /// Whether it has finished all slices that it was given.
+    pub idle: bool,
     /// Whether it was told that there are no more.
     pub told: bool,
     /// Whether it has sent its End.

@@ -16,6 +16,7 @@ use crate::dealing::read_all;
 use crate::desk::Desk;
 use crate::guarded::{Gate, Guarded};
 use crate::order::Order;
+use crate::waiting::Bells;
 use mwc_parts::{GatherFault, Gathered, Marks, Met, Part, fits};
 use mwc_walk::slice_count;
 use std::alloc::Global;
@@ -50,6 +51,8 @@ pub fn gather<R: Threads + Wait + Sync, G: Gate + Sync>(
     ensures many { OnTooMany result (most < length (minimal_coalitions (votes_of guarded.now))) }
 {
     let own = guarded.share();
+    let bells = Bells::new();
+    let shared = &bells;
     thread::scope(
         thread::scope_env(),
         rt,
@@ -59,7 +62,7 @@ pub fn gather<R: Threads + Wait + Sync, G: Gate + Sync>(
             requires most { (1 ≤ most) × (most ≤ 4000000) }
             ensures gathers { IfOk result (Gathers (votes_of own.entry) bits workers most) }
             ensures many { OnTooMany result (most < length (minimal_coalitions (votes_of own.entry))) }
-        { run(scope, rt, alloc, &own, bits, workers, most) },
+        { run(scope, rt, alloc, &own, bits, workers, most, shared) },
     )
 }
 
@@ -72,6 +75,7 @@ fn run<'s, E, R: Threads + Wait + Sync, G: Gate + Sync>(
     bits: u8,
     workers: u8,
     most: u32,
+    bells: &'s Bells,
 ) -> Result<Gathered, GatherFault>
     requires bits { (bits ≤ 10) × (bits ≤ length guarded.now.names) }
     requires workers { (1 ≤ workers) × (workers ≤ 16) }
@@ -81,10 +85,12 @@ fn run<'s, E, R: Threads + Wait + Sync, G: Gate + Sync>(
 {
     let order = Order::new(guarded, bits, most);
     let mut desks = Vec::new(alloc);
-    let met = open_all(scope, rt, alloc, guarded, bits, workers, most, &mut desks);
+    let met = open_all(
+        scope, rt, alloc, guarded, bits, workers, most, &mut desks, bells,
+    );
     let early = met.fault().is_some();
     let mut marks = Marks::new(slice_count(bits));
-    let _stopped = read_all(rt, &order, early, &mut marks, desks.as_mut_slice());
+    let _stopped = read_all(rt, &order, early, &mut marks, desks.as_mut_slice(), bells);
     let parts = finish_all(rt, alloc, &order, desks, met)?;
     all_of(&order, workers, parts)
 }
@@ -115,6 +121,7 @@ fn open_all<'s, E, R: Threads + Wait + Sync, G: Gate + Sync>(
     workers: u8,
     most: u32,
     desks: &mut Vec<Desk>,
+    bells: &'s Bells,
 ) -> Met
     requires bits { (bits ≤ 10) × (bits ≤ length guarded.now.names) }
     requires workers { workers ≤ 16 }
@@ -132,7 +139,7 @@ fn open_all<'s, E, R: Threads + Wait + Sync, G: Gate + Sync>(
         return met;
     }
     for worker in 0..workers {
-        match Desk::open(scope, rt, alloc, guarded, bits, worker, most) {
+        match Desk::open(scope, rt, alloc, guarded, bits, worker, most, bells) {
             Ok(desk) => desks.push_reserved(desk),
             Err(why) => {
                 met.note(why);

@@ -9,10 +9,12 @@ mod gathering;
 mod guarded;
 mod order;
 mod promise;
+mod row;
 mod send;
 mod sent;
 #[cfg(test)]
 mod tests;
+mod waiting;
 mod worker;
 
 pub use gathering::gather;

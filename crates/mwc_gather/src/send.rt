@@ -1,32 +1,78 @@
 //! Sending the words of a slice.
 ghost use Rattle.std.specs.Prelude.{◌≡◌, ◌<◌, ◌≤◌, ◌^◌, ◌++◌, ◌∷◌, [], IsTrue, IsFalse, true, length};
 ghost use Rattle.mwc_gather.specs.Slicings.{slicing};
-ghost use Rattle.mwc_gather.specs.Sending.{Sends, Unbroken};
+ghost use Rattle.mwc_gather.specs.Sending.{Sends, Unbroken, SendsFirst, SendsSome};
 
 use crate::guarded::{Gate, Guarded};
+use crate::row::Row;
 use crate::sent::Sent;
+use crate::waiting::{Bell, Patience};
 use mwc_pipe::{PipeIn, Refused, Word};
 use mwc_walk::Walk;
 use std::sync::Wait;
-use std::thread;
 
-/// Puts the word in, and waits while the pipe is full; false where the pipe refuses it for good.
-pub(crate) fn send<R: Wait, P: PipeIn<Word>>(rt: &R, word: Word, out: &mut P) -> bool
+/// Puts the words in, and waits while the pipe is full; false where the pipe refuses one for good.
+/// It rings `other` for what it has put in, and sleeps at `own`.
+pub(crate) fn send<R: Wait, P: PipeIn<Word>>(
+    rt: &R,
+    words: &[Word],
+    out: &mut P,
+    own: &Bell,
+    other: &Bell,
+) -> bool
     ensures identity { P.identity out.new ≡ P.identity out.old }
-    ensures sent { IsTrue result → (P.accepted out.new ≡ P.accepted out.old ++ word ∷ []) × (P.broken out.new ≡ P.broken out.old) }
-    ensures refused { IsFalse result → (P.accepted out.new ≡ P.accepted out.old) × (P.broken out.new ≡ true) }
+    ensures sent { IsTrue result → (P.accepted out.new ≡ P.accepted out.old ++ words.now) × (P.broken out.new ≡ P.broken out.old) }
+    ensures refused { IsFalse result → SendsSome (P.accepted out.old) words.now (P.accepted out.new) × (P.broken out.new ≡ true) }
 {
-    let mut word = word;
+    let mut patience = Patience::new();
+    let mut rest = words;
     for _ in rt.forever() {
-        match out.put(word) {
-            Ok(()) => return true,
-            Err(Refused::Full(back)) => word = back,
-            Err(Refused::Closed(_)) => return false,
-            Err(Refused::Memory(_)) => return false,
+        let stopped = match out.put_some(rest) {
+            Ok(()) => {
+                other.ring();
+                return true;
+            }
+            Err(stopped) => stopped,
+        };
+        match stopped.why {
+            Refused::Closed(_) => return false,
+            Refused::Memory(_) => return false,
+            Refused::Full(_) => {}
         }
-        thread::yield_now();
+        rest = &rest[stopped.accepted..];
+        if stopped.accepted > 0 {
+            patience.renew();
+            other.ring();
+        }
+        patience.wait(rt, own);
     }
     unreachable!()
+}
+
+/// Adds the word to the row, which is sent first where it is full; false where the pipe refuses a
+/// word for good.
+fn add<R: Wait, P: PipeIn<Word>>(
+    rt: &R,
+    row: &mut Row,
+    word: Word,
+    out: &mut P,
+    own: &Bell,
+    other: &Bell,
+) -> bool
+    ensures identity { P.identity out.new ≡ P.identity out.old }
+    ensures added { IsTrue result → SendsFirst (P.accepted out.old) (row.old ++ word ∷ []) (P.accepted out.new) row.new × (P.broken out.new ≡ P.broken out.old) }
+    ensures refused { IsFalse result → SendsSome (P.accepted out.old) row.old (P.accepted out.new) × (P.broken out.new ≡ true) }
+{
+    if !row.is_full() {
+        row.push(word);
+        return true;
+    }
+    if !send(rt, row.words(), out, own, other) {
+        return false;
+    }
+    row.clear();
+    row.push(word);
+    true
 }
 
 /// Passes the gate, and sends the words of a slice, but of its coalitions no more than the first
@@ -50,22 +96,52 @@ pub fn send_slice<R: Wait, P: PipeIn<Word>, G: Gate>(
     ensures sends { Sends (slicing guarded.now bits) slice left (P.accepted out.old) (P.accepted out.new) (P.broken out.new) result }
     ensures unbroken { Unbroken (P.broken out.old) (P.broken out.new) result }
 {
+    let own = Bell::new();
+    let other = Bell::new();
+    send_rows(rt, guarded, bits, slice, worker, left, out, &own, &other)
+}
+
+/// As `send_slice`. It rings `other` for what it has put in, and sleeps at `own`.
+pub(crate) fn send_rows<R: Wait, P: PipeIn<Word>, G: Gate>(
+    rt: &R,
+    guarded: &Guarded<'_, G>,
+    bits: u8,
+    slice: u16,
+    worker: u8,
+    left: u32,
+    out: &mut P,
+    own: &Bell,
+    other: &Bell,
+) -> Sent
+    requires bits { (bits ≤ 10) × (bits ≤ length guarded.now.names) }
+    requires slice { slice < 2 ^ bits }
+    requires worker { worker < 16 }
+    requires left { (0 < left) × (left ≤ 4000001) }
+    ensures identity { P.identity out.new ≡ P.identity out.old }
+    ensures sends { Sends (slicing guarded.now bits) slice left (P.accepted out.old) (P.accepted out.new) (P.broken out.new) result }
+    ensures unbroken { Unbroken (P.broken out.old) (P.broken out.new) result }
+{
     let game = guarded.pass(worker, slice);
     let mut walk = Walk::new(game, bits, slice);
-    if !send(rt, Word::Open(slice), out) {
-        return Sent::Refused;
-    }
+    let mut row = Row::new();
+    row.push(Word::Open(slice));
     let mut left = left;
     while let Some(coalition) = walk.next() {
-        if !send(rt, Word::One(coalition), out) {
+        if !add(rt, &mut row, Word::One(coalition), out, own, other) {
             return Sent::Refused;
         }
         left -= 1;
         if left == 0 {
+            if !send(rt, row.words(), out, own, other) {
+                return Sent::Refused;
+            }
             return Sent::Cut;
         }
     }
-    if !send(rt, Word::Done(slice), out) {
+    if !add(rt, &mut row, Word::Done(slice), out, own, other) {
+        return Sent::Refused;
+    }
+    if !send(rt, row.words(), out, own, other) {
         return Sent::Refused;
     }
     Sent::Whole { left }

@@ -5,36 +5,51 @@ ghost use Rattle.mwc_gather.specs.Sending.{Worked, TakesLast, TakesTask};
 ghost use Rattle.mwc_pipe.specs.declared.word.Word.TheVariants.{End};
 
 use crate::guarded::{Gate, Guarded};
-use crate::send::{send, send_slice};
+use crate::send::{send, send_rows};
 use crate::sent::Sent;
+use crate::waiting::{Bell, Patience};
 use mwc_pipe::{Closed, RingIn, RingOut, Unfinished, Word};
 use mwc_walk::slice_count;
 use std::sync::Wait;
-use std::thread;
 
 /// Waits for the next slice; none where the work ends.
-fn next_task<R: Wait>(rt: &R, slices: u16, tasks: &mut RingOut) -> Option<u16>
+fn next_task<R: Wait>(
+    rt: &R,
+    slices: u16,
+    tasks: &mut RingOut,
+    own: &Bell,
+    other: &Bell,
+) -> Option<u16>
     ensures ring { tasks.new.ring ≡ tasks.old.ring }
     ensures taken { MatchOption result (TakesLast slices tasks.old.taken tasks.new.taken) (λ j. TakesTask slices j tasks.old.taken tasks.new.taken) }
 {
+    let mut patience = Patience::new();
     for _ in rt.forever() {
         if let Some(task) = tasks.take() {
+            other.ring();
             return match task {
                 Word::Open(slice) => { if slice < slices { Some(slice) } else { None } }
                 _ => None,
             };
         }
-        thread::yield_now();
+        patience.wait(rt, own);
     }
     unreachable!()
 }
 
 /// Sends the End and closes.
-fn finish<R: Wait>(rt: &R, out: RingIn, cut: bool) -> Result<Closed, Unfinished>
+fn finish<R: Wait>(
+    rt: &R,
+    out: RingIn,
+    cut: bool,
+    own: &Bell,
+    other: &Bell,
+) -> Result<Closed, Unfinished>
     ensures { IfOk result (λ c. (c.ring ≡ out.ring) × (c.accepted ≡ out.accepted ++ End cut ∷ [])) }
 {
     let mut out = out;
-    if !send(rt, Word::End { cut }, &mut out) {
+    let end = [Word::End { cut }];
+    if !send(rt, end.as_slice(), &mut out, own, other) {
         unreachable!()
     }
     out.close()
@@ -65,17 +80,40 @@ pub fn work<R: Wait, G: Gate>(
     requires fresh { (out.accepted ≡ []) × (tasks.taken ≡ []) }
     ensures { Worked (slicing guarded.now bits) most out tasks result }
 {
+    let own = Bell::new();
+    let other = Bell::new();
+    work_beside(rt, guarded, bits, worker, most, out, tasks, &own, &other)
+}
+
+/// As `work`. It rings `other` for what it has put in or taken, and sleeps at `own`.
+pub(crate) fn work_beside<R: Wait, G: Gate>(
+    rt: &R,
+    guarded: &Guarded<'_, G>,
+    bits: u8,
+    worker: u8,
+    most: u32,
+    out: RingIn,
+    tasks: RingOut,
+    own: &Bell,
+    other: &Bell,
+) -> (Result<Closed, Unfinished>, RingOut)
+    requires bits { (bits ≤ 10) × (bits ≤ length guarded.now.names) }
+    requires worker { worker < 16 }
+    requires most { (1 ≤ most) × (most ≤ 4000000) }
+    requires fresh { (out.accepted ≡ []) × (tasks.taken ≡ []) }
+    ensures { Worked (slicing guarded.now bits) most out tasks result }
+{
     let slices = slice_count(bits);
     let mut out = out;
     let mut tasks = tasks;
     let mut left = most + 1;
     for _ in rt.forever() {
-        let Some(slice) = next_task(rt, slices, &mut tasks) else {
-            return (finish(rt, out, false), tasks);
+        let Some(slice) = next_task(rt, slices, &mut tasks, own, other) else {
+            return (finish(rt, out, false, own, other), tasks);
         };
-        match send_slice(rt, guarded, bits, slice, worker, left, &mut out) {
+        match send_rows(rt, guarded, bits, slice, worker, left, &mut out, own, other) {
             Sent::Whole { left: rest } => left = rest,
-            Sent::Cut => return (finish(rt, out, true), tasks),
+            Sent::Cut => return (finish(rt, out, true, own, other), tasks),
             Sent::Refused => unreachable!(),
         }
     }

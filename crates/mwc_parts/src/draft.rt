@@ -52,6 +52,20 @@ impl Draft {
         }
     }
 
+    /// Keeps the words of a row, for whose coalitions room is made once.
+    pub fn hear_row(&mut self, row: &[Word])
+        ensures keeps { (words : List Word) → Keeps words self.old → Keeps (words ++ row.now) self.new }
+        ensures lost { self.new.lost ≡ false → self.old.lost ≡ false }
+        ensures cut { self.new.cut ≡ false → self.old.cut ≡ false }
+    {
+        if self.got.reserve(row.len()).is_err() {
+            self.lost = true;
+        }
+        for word in row {
+            self.hear(*word);
+        }
+    }
+
     /// Something is lost: nothing is kept from here on.
     pub fn lose(&mut self)
         ensures keeps { (words : List Word) → Keeps words self.old → Keeps words self.new }

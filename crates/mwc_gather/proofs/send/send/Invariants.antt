@@ -1,9 +1,11 @@
 use Rattle.std.proofs.Common.{◌≡◌}
+use Rattle.mwc_gather.specs.Sending.{SendsFirst}
 use Rattle.mwc_gather.proofs.send.send.Given as goal
 
 abbrev pub invariant-loop : goal.invariant-loop
 invariant-loop g l =
-    (l.word ≡ l.initial.word)
-    × (g.P.PipeIn.identity l.out ≡ g.P.PipeIn.identity l.initial.out)
-    × (g.P.PipeIn.accepted l.out ≡ g.P.PipeIn.accepted l.initial.out)
-    × (g.P.PipeIn.broken l.out ≡ g.P.PipeIn.broken l.initial.out)
+    record {
+      same : g.P.PipeIn.identity l.out ≡ g.P.PipeIn.identity l.initial.out;
+      first : SendsFirst (g.P.PipeIn.accepted l.initial.out) l.words (g.P.PipeIn.accepted l.out) l.rest;
+      broken : g.P.PipeIn.broken l.out ≡ g.P.PipeIn.broken l.initial.out;
+    }

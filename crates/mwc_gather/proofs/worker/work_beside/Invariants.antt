@@ -1,7 +1,7 @@
 use Rattle.std.proofs.Common.{◌≡◌, ℕ, ◌+◌, ◌<◌, List}
 use Rattle.mwc_parts.specs.Wording.{opens, wording, total}
 use Rattle.mwc_gather.specs.Slicings.{slicing}
-use Rattle.mwc_gather.proofs.worker.work.Given as goal
+use Rattle.mwc_gather.proofs.worker.work_beside.Given as goal
 
 abbrev pub invariant-loop : goal.invariant-loop
 invariant-loop g l =

@@ -6,7 +6,7 @@ use Rattle.mwc_parts.specs.Slicing.{Slicing}
 use Rattle.mwc_parts.specs.Wording.{slice_words, total}
 use Rattle.mwc_gather.specs.Slicings.{slicing}
 use Rattle.mwc_gather.proofs.Wordings.{opens-more, wording-more, total-more}
-use Rattle.mwc_gather.proofs.worker.work.Goals as goal
+use Rattle.mwc_gather.proofs.worker.work_beside.Goals as goal
 
 pub loop-preserved : goal.loop-preserved
 loop-preserved g c =
