@@ -142,3 +142,44 @@ equal_members 41 1 | fault "a bracket text of 41 members" "$list"
     for ((i = 1; i < 41; i++)); do echo ', 1'; done
     echo ']'
 } | fault "41 members before a weight above the limit" "$list"
+
+# ---- each form that TOML has for an integer
+for quota in 51 +51 5_1 0x33 0o63 0b110011 0x0033; do
+    run <<<"quota = $quota"$'\n'"$three"
+    if succeeded "quota = $quota"; then
+        if [ "$(sed -n 's/^quota\t//p' "$temp/out")" = 51 ]; then ok "quota = $quota"; else failed "quota = $quota" "$(sed -n 2p "$temp/out")"; fi
+    fi
+done
+for quota in 051 _51 51_ 5__1 0X33 0x 5e1 51.; do
+    run <<<"quota = $quota"$'\n'"$three"
+    if [ "$status" -eq 3 ] && [ ! -s "$temp/out" ]; then ok "no integer: $quota"; else failed "no integer: $quota" "status $status"; fi
+done
+
+# ---- arrays in each other: 80 deep they are read, and more are not TOML
+nested() {
+    printf 'quota = 51\nmember = '
+    printf "%$1s" '' | tr ' ' '['
+    printf "%$1s" '' | tr ' ' ']'
+    echo
+}
+nested 80 | fault "arrays 80 deep" "$list"
+nested 81 | fault "arrays 81 deep" "the game file is not TOML"
+nested 5000 | fault "arrays 5000 deep" "the game file is not TOML"
+
+# ---- long files that hold a game
+padded() {
+    printf 'quota = 51\n%s\n#' "$three"
+    printf "%$(($1 - 12 - ${#three} - 1))s" ''
+}
+for length in 4096 4097 30000 65000 65536; do
+    padded "$length" >"$temp/game"
+    run "$temp/game"
+    if [ "$(wc -c <"$temp/game")" -ne "$length" ]; then
+        failed "a file of $length bytes" "it has $(wc -c <"$temp/game")"
+    else
+        succeeded "a file of $length bytes" && ok "a file of $length bytes"
+    fi
+    run <"$temp/game"
+    succeeded "$length bytes on standard input" && ok "$length bytes on standard input"
+done
+padded 65537 | fault "a file of 65537 bytes" "$long"

@@ -28,7 +28,7 @@ if [ -e /dev/full ]; then
         fi
     done
 else
-    ok "$name (there is no /dev/full: not run)"
+    skipped "$name" "there is no /dev/full"
 fi
 
 name="a closed standard output"

@@ -37,14 +37,17 @@ if [ ! -x "$program" ]; then
     echo "FAILED tests: there is no program $program"
     failed=1
 else
-    for test in examples options workers words faults prefixes output limits launcher hostile refusals; do
+    for test in examples options workers words faults prefixes output limits launcher pages using hostile refusals; do
         count bash "tests/$test.sh" "$program"
     done
     if command -v python3 >/dev/null; then
         count python3 tests/noise.py "$program" 300 1
+        count python3 tests/random_games.py "$program" 150 1
     else
-        echo "skipped noise: the command python3 was not found"
-        skipped=$((skipped + 1))
+        for test in noise random_games; do
+            echo "skipped $test: the command python3 was not found"
+            skipped=$((skipped + 1))
+        done
     fi
 fi
 if [ "$skipped" -eq 0 ]; then

@@ -15,7 +15,7 @@ for word in --help --version; do
 done
 # what a newcomer looks for
 run --help </dev/null
-for word in --workers --bits --most --list --sizes --notation --version FILE; do
+for word in --workers --bits --most --list --sizes --notation --version FILE title members quota total minimal coalition size member; do
     if grep -q -e "$word" "$temp/out"; then
         ok "--help tells of $word"
     else
@@ -83,3 +83,36 @@ run ''
 refused "an empty word as FILE" 1 "the game file cannot be opened"
 run missing.toml --list --workers 16
 refused "good words and a FILE that is not there" 1 "the game file cannot be opened"
+
+# ---- words that look like others
+run - --list
+refused "- is a FILE like another" 1 "the game file cannot be opened"
+refused_words -w 2
+refused_words --worker
+run -- g.toml
+printed "a FILE behind --" "$report"
+run --workers=3 --bits=2 --most=2 g.toml
+printed "options with =" "$report"
+run $'\377'
+if [ "$status" -eq 2 ] && [ ! -s "$temp/out" ] && [ "$(cat "$temp/err")" = "council: the command line is not UTF-8" ]; then
+    ok "a word that is not UTF-8"
+else
+    failed "a word that is not UTF-8" "status $status: $(head -n 1 "$temp/err")"
+fi
+
+# ---- --help and --version, byte by byte
+for word in --help -h; do
+    run "$word" </dev/null
+    printed "$word, byte by byte" "$top/tests/words/help.txt"
+done
+for word in --version -V; do
+    run "$word" </dev/null
+    printed "$word, byte by byte" "$top/tests/words/version.txt"
+done
+
+# ---- the samples of docs/FORMATS.md
+awk '/^```/ { inside = !inside; next } inside' "$top/docs/FORMATS.md" | awk '/^quota = 51/, /^weight = 1$/' >"$temp/sample.toml"
+run "$temp/sample.toml"
+printed "the sample game file of docs/FORMATS.md" "$report"
+run <<<"$(grep -oE '\*\*Bracket text\*\*: `[^`]*`' "$top/docs/FORMATS.md" | cut -d '`' -f 2)"
+printed "the sample bracket text of docs/FORMATS.md" "$top/examples/board.txt.tsv"
