@@ -21,6 +21,7 @@ fn game(alloc: Global, quota: u64, weights: &[u64]) -> Result<Game, Fail> {
 }
 
 /// How many slices were counted.
+#[derive(Drop)]
 struct Counted(AtomicU64);
 
 impl Watch for Counted {

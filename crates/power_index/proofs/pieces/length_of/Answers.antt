@@ -1,4 +1,4 @@
-use Rattle.std.proofs.Common.{◌∙◌, length, length-append, ap, arith, take, ℕ, List}
+use Rattle.std.proofs.Common.{length, length-append, ap, arith, take, ℕ, List}
 use Rattle.std.specs.List.{flat_map}
 use Rattle.power_index.proofs.Parts.{pieces-more, pieces-length}
 use Rattle.power_index.proofs.pieces.length_of.Goals as goal

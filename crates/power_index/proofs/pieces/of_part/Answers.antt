@@ -1,4 +1,4 @@
-use Rattle.std.proofs.Common.{◌≡◌, ◌∙◌, ◌+◌, ◌-◌, ◌++◌, ◌<◌, ◌≤◌, ◌^◌, length, length-append, take, drop, sym, ap, arith, ℕ, List, subst}
+use Rattle.std.proofs.Common.{◌∙◌, ◌-◌, ◌++◌, ◌<◌, ◌^◌, length, length-append, take, drop, sym, ap, arith, ℕ, List, subst}
 use Rattle.std.specs.List.{All, flat_map}
 use Rattle.std.proofs.lemmas.List.Elements.{All-drop, All-take}
 use Rattle.power_index.specs.Tables.{AreTallies}

@@ -1,7 +1,7 @@
-use Rattle.std.proofs.Common.{◌≡◌, ◌∙◌, ◌+◌, ◌*◌, ◌/◌, ◌++◌, ◌≤◌, length, length-append, take, drop, sym, ap, arith, ℕ, List, subst}
+use Rattle.std.proofs.Common.{◌≡◌, ◌∙◌, ◌+◌, ◌*◌, ◌/◌, ◌≤◌, length, length-append, take, drop, sym, ap, arith, ℕ, List, subst}
 use Rattle.std.specs.List.{flat_map}
 use Rattle.std.proofs.lemmas.List.{take_all, length-take}
-use Rattle.power_index.specs.Tables.{AreTallies, AreCounts}
+use Rattle.power_index.specs.Tables.{AreTallies}
 use Rattle.power_index.proofs.Sound.{total-is, tallies-are_counts}
 use Rattle.power_index.proofs.Parts.{take-plus, parts-reach}
 use Rattle.power_index.proofs.wide_counts.WideCounts.of_pieces.Goals as goal
