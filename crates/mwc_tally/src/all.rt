@@ -1,38 +1,45 @@
 //! The counts of all slices.
-ghost use Rattle.std.specs.Prelude.{◌≡◌, ◌≤◌, ◌<◌, ◌^◌, All, length, IfOk};
+ghost use Rattle.std.specs.Prelude.{◌≡◌, ◌≤◌, ◌<◌, ◌^◌, All, length, vec_len, vec_capacity, IfOk, MatchOption, ⊤};
 ghost use Rattle.council_game.specs.Game.{votes_of};
 ghost use Rattle.council_game.specs.Votes.{minimal_coalitions};
 ghost use Rattle.power_index.specs.Tables.{AreCounts};
 ghost use Rattle.mwc_tally.specs.Shares.{IsShare};
+ghost use Rattle.mwc_tally.specs.Threads.{IsGiven};
 
+use crate::fault::TallyFault;
 use crate::share::Share;
 use crate::slice::tally_slice;
 use crate::watch::Watch;
+use crate::work::{Given, Work};
 use council_game::{Game, Memory};
 use mwc_walk::slice_count;
 use power_index::WideCounts;
 use std::alloc::Global;
-use std::sync::atomic::{AtomicU64, Ordering};
+use std::sync::Wait;
+use std::sync::atomic::AtomicU64;
 use std::thread;
-use std::thread::Threads;
+use std::thread::{PromisedHandle, Scope, Threads};
+
+/// A thread that was started.
+type Started = PromisedHandle<Result<Share, Memory>, Given>;
 
 /// The counts of all minimal winning coalitions of a game, by so many threads, each of which takes
-/// the next slice that nobody took yet, until none is left.
+/// the next slice that nobody took yet, until none is left. It waits for their end.
 ///
-/// There are at most 10 bits, and no more than members; 1 to 16 threads. A thread that can not be
-/// started leaves its slices to the others.
+/// There are at most 10 bits, and no more than members; 1 to 16 threads.
 ///
 /// # Errors
 ///
-/// `Memory` where a growth was refused.
-pub fn tally<R: Threads + Sync, W: Watch + Sync>(
+/// `Start` where a thread could not be started, else `Memory` where a growth was refused. After
+/// either nobody takes a further slice.
+pub fn tally<R: Threads + Wait + Sync, W: Watch + Sync>(
     rt: &R,
     alloc: Global,
     game: &Game,
     bits: u8,
     workers: u8,
     watch: &W,
-) -> Result<WideCounts, Memory>
+) -> Result<WideCounts, TallyFault>
     requires few { bits ≤ 10 }
     requires bits { bits ≤ length game.now.names }
     requires workers { (1 ≤ workers) × (workers ≤ 16) }
@@ -40,61 +47,106 @@ pub fn tally<R: Threads + Sync, W: Watch + Sync>(
         (λ c. AreCounts game.now (minimal_coalitions (votes_of game.now)) c) }
 {
     let next = AtomicU64::new(0);
-    let next = &next;
-    let work = move |_worker: usize| -> Result<Share, Memory>
-        requires few { bits ≤ 10 }
-        requires bits { bits ≤ length game.now.names }
-        ensures { IfOk result (IsShare game.entry.now bits) }
-    { count_next(alloc, game, bits, next, watch) };
-    let shares = thread::map_indices(rt, alloc, usize::from(workers), &work)?;
-    match joined(alloc, game, bits, shares)?.whole(game, bits) {
+    let work = Work::new(game, &next, watch);
+    let share = thread::scope(
+        thread::scope_env(),
+        rt,
+        move |scope| -> Result<Share, TallyFault>
+            requires few { bits ≤ 10 }
+            requires bits { bits ≤ length work.names }
+            ensures { IfOk result (IsShare work.entry bits) }
+        { count_beside(scope, rt, alloc, &work, bits, workers) },
+    )?;
+    match share.whole(game, bits) {
         Some(counts) => Ok(counts),
         None => Ok(one_by_one(game, bits)),
     }
 }
 
-/// Counts the next slice that nobody took yet, until none is left.
-fn count_next<W: Watch>(
+/// Starts a thread; none where it could not be started.
+fn start<'s, E, W: Watch + Sync>(
+    scope: &Scope<'s, E>,
     alloc: Global,
-    game: &Game,
+    work: &Work<'s, W>,
     bits: u8,
-    next: &AtomicU64,
-    watch: &W,
-) -> Result<Share, Memory>
+) -> Option<Started>
     requires few { bits ≤ 10 }
-    requires bits { bits ≤ length game.now.names }
-    ensures { IfOk result (IsShare game.now bits) }
+    requires bits { bits ≤ length work.now.names }
+    ensures { MatchOption result ⊤ (λ t. IsGiven work.now bits t.promise) }
 {
-    let slices = slice_count(bits);
-    let mut share = Share::none(alloc, game, bits);
-    for _ in 0..slices {
-        let ticket = next.fetch_add(1, Ordering::SeqCst);
-        if ticket >= u64::from(slices) {
-            break;
+    let own = work.share();
+    let given = Given {
+        game: own.seen(),
+        bits,
+    };
+    let body = move || -> Result<Share, Memory>
+        requires few { bits ≤ 10 }
+        requires bits { bits ≤ length own.names }
+        ensures { IfOk result (IsShare own.entry bits) }
+    { own.run(alloc, bits) };
+    match scope.spawn_with(given, body) {
+        Ok(thread) => Some(thread),
+        Err(_) => None,
+    }
+}
+
+/// Starts the threads, and adds what they counted.
+fn count_beside<'s, E, R: Threads, W: Watch + Sync>(
+    scope: &Scope<'s, E>,
+    rt: &R,
+    alloc: Global,
+    work: &Work<'s, W>,
+    bits: u8,
+    workers: u8,
+) -> Result<Share, TallyFault>
+    requires few { bits ≤ 10 }
+    requires bits { bits ≤ length work.now.names }
+    ensures { IfOk result (IsShare work.now bits) }
+{
+    let mut threads = Vec::new(alloc);
+    threads.reserve(usize::from(workers))?;
+    let mut met = None;
+    for _ in 0..workers {
+        match start(scope, alloc, work, bits) {
+            Some(thread) => threads.push_reserved(thread),
+            None => {
+                work.stop(bits);
+                met = Some(TallyFault::Start);
+                break;
+            }
         }
-        let slice = ticket as u16;
-        share.add(game, bits, &[slice], &tally_slice(game, bits, slice))?;
-        watch.counted(slice);
+    }
+    let (share, lost) = joined(rt, alloc, work, bits, threads);
+    if let Some(fault) = met {
+        return Err(fault);
+    }
+    if lost {
+        return Err(TallyFault::Memory);
     }
     Ok(share)
 }
 
-/// The shares of all threads as one.
-fn joined(
+/// Joins the threads: what they counted together, and whether any of it was lost for want of memory.
+fn joined<R: Threads, W: Watch>(
+    rt: &R,
     alloc: Global,
-    game: &Game,
+    work: &Work<'_, W>,
     bits: u8,
-    shares: Vec<Result<Share, Memory>>,
-) -> Result<Share, Memory>
-    requires { All (λ share. IfOk share (IsShare game.now bits)) shares.items }
-    ensures { IfOk result (IsShare game.now bits) }
+    threads: Vec<Started>,
+) -> (Share, bool)
+    requires { All (λ t. IsGiven work.now bits t.promise) threads.items }
+    ensures { IsShare work.now bits result.0 }
 {
+    let game = work.game();
     let mut all = Share::none(alloc, game, bits);
-    for share in shares {
-        let share = share?;
-        all.add(game, bits, &share.taken, &share.counts)?;
+    let mut lost = false;
+    for thread in threads {
+        match thread.join(rt) {
+            Ok(share) => lost |= all.add(game, bits, &share.taken, &share.counts).is_err(),
+            Err(_) => lost = true,
+        }
     }
-    Ok(all)
+    (all, lost)
 }
 
 /// The counts of all slices, one after the other.

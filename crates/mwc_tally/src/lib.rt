@@ -3,12 +3,15 @@
 #![tactic(auto)]
 
 mod all;
+mod fault;
 mod share;
 mod slice;
 #[cfg(test)]
 mod tests;
 mod watch;
+mod work;
 
 pub use all::tally;
+pub use fault::TallyFault;
 pub use slice::tally_slice;
 pub use watch::{NoWatch, Watch};

@@ -35,7 +35,8 @@ impl Share {
     }
 
     /// Adds the counts of further slices. Where there were more than any game has, nothing is
-    /// added; whoever looks at the slices that were taken finds some missing.
+    /// added; whoever looks at the slices that were taken finds some missing. Nor is anything added
+    /// where a growth was refused.
     pub(crate) fn add(
         &mut self,
         game: &Game,
@@ -45,7 +46,7 @@ impl Share {
     ) -> Result<(), Memory>
         requires own { IsShare game.now bits self.old }
         requires more { AreTallies game.now (flat_map (slice (votes_of game.now) bits) taken.now) counts.now }
-        ensures { IfOk result (λ u. IsShare game.now bits self.new) }
+        ensures { IsShare game.now bits self.new }
     {
         if self.counts.total() + counts.total() > MOST {
             return Ok(());

@@ -1,11 +1,11 @@
-use Rattle.std.proofs.Common.{IfOk}
 use Rattle.std.specs.Prelude.{All}
 use Rattle.std.specs.Vec.Iter.{into_iter_items}
 use Rattle.mwc_tally.specs.Shares.{IsShare}
+use Rattle.mwc_tally.specs.Threads.{IsGiven}
 use Rattle.mwc_tally.proofs.all.joined.Given as goal
 
-abbrev pub invariant-loop-share : goal.invariant-loop-share
-invariant-loop-share l = record {
-  all : IsShare l.game l.bits l.all;
-  rest : All (λ share. IfOk share (IsShare l.game l.bits)) (into_iter_items l.share-iterator);
+abbrev pub invariant-loop-thread : goal.invariant-loop-thread
+invariant-loop-thread g l = record {
+  all : IsShare l.work l.bits l.all;
+  rest : All (λ t. IsGiven l.work l.bits t.promise) (into_iter_items l.thread-iterator);
 }
