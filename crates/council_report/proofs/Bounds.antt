@@ -15,7 +15,7 @@ use Rattle.power_index.specs.Fractions.{lowest_terms}
 use Rattle.power_index.specs.Indices.{deegan_packel, public_good}
 use Rattle.power_index.proofs.Sums.{length-filter-le}
 use Rattle.power_index.proofs.Members.{few-members, size-le}
-use Rattle.power_index.proofs.Small.{deegan_packel-small, public_good-small}
+use Rattle.power_index.proofs.Small.{deegan_packel-wide, public_good-wide}
 use Rattle.council_report.specs.declared.shown.Shown.{Shown}
 use Rattle.council_report.specs.Report.{coalition_lines, size_lines, member_lines, lines}
 use Rattle.council_report.specs.Lines.{tabbed, line, slashed, name_of, names_of, weights_of_coalition, weights_of_member, member_fields, index_fields, coalition_line, size_line, member_line}
@@ -57,10 +57,10 @@ slashed-length (v ∷ w ∷ vs) h =
 slashed-fits : (values : List ℕ) → length values ≤ 4 → AllByRecursion (λ v. v < 2 ^ 64) values → IsField (slashed values)
 slashed-fits values few h = let fit = slashed-length values h in omega (arith, fit, few)
 
-fraction-fits : (top bottom : ℕ) → top < 10 ^ 24 → bottom < 10 ^ 24 → IsField (decimal top ++ 47 ∷ decimal bottom)
+fraction-fits : (top bottom : ℕ) → top < 10 ^ 28 → bottom < 10 ^ 28 → IsField (decimal top ++ 47 ∷ decimal bottom)
 fraction-fits top bottom a b =
-    let first = length-decimal-le_wide 24 top (omega arith) a (omega arith) in
-    let last = length-decimal-le_wide 24 bottom (omega arith) b (omega arith) in
+    let first = length-decimal-le_wide 28 top (omega arith) a (omega arith) in
+    let last = length-decimal-le_wide 28 bottom (omega arith) b (omega arith) in
     omega (arith, first, last, length-append (decimal top) (47 ∷ decimal bottom))
 
 -- ---- rows of fields
@@ -101,14 +101,14 @@ coalition-fits g game c =
       ),
     )
 
-count-field : (p : ℕ → Bool) (list : List ℕ) → length list ≤ 4000000 → IsField (decimal (length (filter p list)))
+count-field : (p : ℕ → Bool) (list : List ℕ) → length list ≤ 2 ^ 40 → IsField (decimal (length (filter p list)))
 count-field p list few = let less = length-filter-le p list in number-field (length (filter p list)) (omega (arith, less, few))
 
 shown-fits : (b : Bool) (text : List ℕ) → length text ≤ 4096 → length (cond b [] text) ≤ 4096
 shown-fits true text h = omega arith
 shown-fits false text h = h
 
-pub size-fits : (g : GameView) → IsGame g → (list : List ℕ) → length list ≤ 4000000 → (s : ℕ) → s ≤ length g.names → length (size_line g list s) ≤ 4096
+pub size-fits : (g : GameView) → IsGame g → (list : List ℕ) → length list ≤ 2 ^ 40 → (s : ℕ) → s ≤ length g.names → length (size_line g list s) ≤ 4096
 unfolding size_line
 size-fits g game list few s le =
     let forty = few-members g game in
@@ -124,11 +124,11 @@ size-fits g game list few s le =
       ),
     ))
 
-pub member-fits : (g : GameView) → IsGame g → (list : List ℕ) → 1 ≤ length list → length list ≤ 4000000 → (i : ℕ) → i < length g.names → length (member_line g list i) ≤ 4096
+pub member-fits : (g : GameView) → IsGame g → (list : List ℕ) → 1 ≤ length list → length list ≤ 2 ^ 40 → (i : ℕ) → i < length g.names → length (member_line g list i) ≤ 4096
 unfolding member_line
 member-fits g game list some few i lt =
-    let deegan = deegan_packel-small g list i game some few in
-    let public = public_good-small g list i game few in
+    let deegan = deegan_packel-wide g list i game some few in
+    let public = public_good-wide g list i game few in
     let rules = length-map g.rules (λ r. get_or r.weights i 0) in
     let weights = slashed-fits (weights_of_member g i) (omega (arith, rules, game.few_rules)) (own-values i (length g.names) g.rules lt (light-weights g game)) in
     let first = fraction-fits (lowest_terms (deegan_packel g list i)).0 (lowest_terms (deegan_packel g list i)).1 deegan.0 deegan.1 in
@@ -160,14 +160,14 @@ chosen-fits : (b : Bool) (text : List ℕ) (n : ℕ) → length text ≤ n → l
 chosen-fits true text n h = h
 chosen-fits false text n h = omega arith
 
--- 4000080 lines at most
-pub lines-fit : (shown : Shown) (g : GameView) → IsGame g → (list : List ℕ) → 1 ≤ length list → length list ≤ 4000000 → length (lines shown g list) ≤ 20000000000
+-- 2^40 + 80 lines at most
+pub lines-fit : (shown : Shown) (g : GameView) → IsGame g → (list : List ℕ) → 1 ≤ length list → length list ≤ 2 ^ 40 → length (lines shown g list) ≤ 2 ^ 53
 lines-fit shown g game list some few =
     let n : ℕ = length g.names in
     let forty = few-members g game in
-    let coalitions : length (coalition_lines shown g list) ≤ 16384000000 =
+    let coalitions : length (coalition_lines shown g list) ≤ 2 ^ 52 =
     let fit = rows-fit (coalition_line g) list (each-coalition g game list) in
-    chosen-fits shown.list (flat_map (coalition_line g) list) 16384000000 (omega (arith, fit, few)) in
+    chosen-fits shown.list (flat_map (coalition_line g) list) (2 ^ 52) (omega (arith, fit, few)) in
     let sizes : length (size_lines shown g list) ≤ 163840 =
     let fit = rows-fit (size_line g list) (range_with_len 1 n) (each-number (size_line g list) 1 n (λ k lt. size-fits g game list few (1 + k) (omega (arith, lt)))) in
     let long = length-range_with_len 1 n in

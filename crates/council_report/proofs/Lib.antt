@@ -9,3 +9,4 @@ pub mod Lasting
 pub mod Beginnings
 pub mod SharedLines
 pub mod Differences
+pub mod Joins

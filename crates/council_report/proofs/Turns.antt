@@ -7,7 +7,7 @@ use Rattle.council_report.specs.Told.{Told, told, Tells, Stopped, StoppedIn}
 use Rattle.council_report.specs.Ready.{CanCount}
 use Rattle.council_report.specs.declared.output.Block.{Block}
 use Rattle.council_report.proofs.Rows.{rows-more}
-use Rattle.council_report.proofs.Telling.{tells-then, tells-same, tells-block, stopped-after, stopped-first}
+use Rattle.council_report.proofs.Telling.{tells-then, tells-same, tells-block, stopped-after, stopped-first, stopped-next}
 
 -- the texts of the first i of xs were told, and that of one more is in the block
 pub record Turn {X : Type 0} (a : Told) (f : X → List ℕ) (xs : List X) (i : ℕ) (x : X) (contents : Option (List ℕ)) (old new : Block) : Type 0 where
@@ -45,3 +45,24 @@ turn-counts a f xs i x contents old new t few =
 
 pub all-told : {X : Type 0} (a b : Told) (f : X → List ℕ) (xs : List X) (i : ℕ) → length xs ≤ i → Tells a b (flat_map f (take i xs)) → Tells a b (flat_map f xs)
 all-told a b f xs i le tells = subst (Tells a b) (ap (flat_map f) (take_all i xs le)) tells
+
+-- ---- whole parts: each told, by what may take several steps
+pub part-told : {X : Type 0} (a b c : Told) (f : X → List ℕ) (xs : List X) (i : ℕ) (x : X) → take (i + 1) xs ≡ take i xs ++ x ∷ [] → Tells a b (flat_map f (take i xs)) → Tells b c (f x) → Tells a c (flat_map f (take (i + 1) xs))
+part-told a b c f xs i x next before more =
+    subst (Tells a c) (sym (rows-more f (take i xs) x) ∙ ap (flat_map f) (sym next)) (tells-then a b c (flat_map f (take i xs)) (f x) before more)
+
+-- the first i, one more, and the others
+part-rest : {X : Type 0} (f : X → List ℕ) (xs : List X) (i : ℕ) (x : X) → take (i + 1) xs ≡ take i xs ++ x ∷ [] → (flat_map f (take i xs) ++ f x) ++ flat_map f (drop (i + 1) xs) ≡ flat_map f xs
+part-rest f xs i x next =
+    ap (λ (t : List ℕ). t ++ flat_map f (drop (i + 1) xs)) (sym (rows-more f (take i xs) x) ∙ ap (flat_map f) (sym next)) ∙ rest-told f xs (i + 1)
+
+pub part-stopped : {X : Type 0} (a b : Told) (f : X → List ℕ) (xs : List X) (i : ℕ) (x : X) (held : Option (List ℕ)) (n : ℕ) → take (i + 1) xs ≡ take i xs ++ x ∷ [] → Tells a b (flat_map f (take i xs)) → StoppedIn b (f x) held n → StoppedIn a (flat_map f xs) held n
+part-stopped a b f xs i x held n next before stopped =
+    let Stops : List ℕ → Type 0 = λ t. StoppedIn a t held n in
+    subst Stops (part-rest f xs i x next)
+    (stopped-first a (flat_map f (take i xs) ++ f x) (flat_map f (drop (i + 1) xs)) held n (stopped-next a b (flat_map f (take i xs)) (f x) held n before stopped))
+
+pub part-counts : {X : Type 0} (a b : Told) (f : X → List ℕ) (xs : List X) (i : ℕ) (x : X) → take (i + 1) xs ≡ take i xs ++ x ∷ [] → Tells a b (flat_map f (take i xs)) → a.count + length (flat_map f xs) < 2 ^ 64 → b.count + length (f x) < 2 ^ 64
+part-counts a b f xs i x next before few =
+    let whole = ap (λ (text : List ℕ). length text) (part-rest f xs i x next) in
+    omega (arith, before.count, few, whole, length-append (flat_map f (take i xs) ++ f x) (flat_map f (drop (i + 1) xs)), length-append (flat_map f (take i xs)) (f x))

@@ -1,3 +1,4 @@
+pub mod Counted
 pub mod Lines
 pub mod Told
 pub mod Ready

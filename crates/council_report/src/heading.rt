@@ -1,5 +1,5 @@
 //! The lines before those of the coalitions.
-ghost use Rattle.std.specs.Prelude.{◌≡◌, ◌++◌, ◌<◌, ◌≤◌, length, OnOk};
+ghost use Rattle.std.specs.Prelude.{◌≡◌, ◌++◌, ◌<◌, ◌≤◌, ℕ, List, length, OnOk};
 ghost use Rattle.std.specs.List.{flat_map};
 ghost use Rattle.std.specs.Vec.{vec_capacity};
 ghost use Rattle.council_game.specs.Votes.{rule_at};
@@ -10,7 +10,7 @@ ghost use Rattle.council_report.specs.Report.{heading, notation_lines};
 use crate::Shown;
 use crate::lines::{end_line, push_members, push_minimal, push_quota, push_title, push_total};
 use council_file::write_notation;
-use council_game::{Coalition, Game, Memory};
+use council_game::{Game, Memory};
 
 /// `notation`, a rule as `[q; w1, .., wn]`.
 #[tactic(auto, unfolding(crate::specs::Lines::notation_line))]
@@ -47,14 +47,16 @@ fn push_notations(out: &mut Vec<u8>, game: &Game, shown: Shown) -> Result<(), Me
     }
 }
 
-/// The lines before those of the coalitions.
+/// The lines before those of the coalitions, of which there are so many.
 pub(crate) fn push_heading(
     out: &mut Vec<u8>,
     game: &Game,
-    list: &[Coalition],
+    count: u64,
     shown: Shown,
 ) -> Result<(), Memory>
-    ensures items { OnOk result (out.new.items ≡ out.old.items ++ heading shown game.now list.now) }
+    ghost list: { List ℕ }
+    requires { length list ≡ count }
+    ensures items { OnOk result (out.new.items ≡ out.old.items ++ heading shown game.now list) }
     ensures capacity { vec_capacity out.old ≤ vec_capacity out.new }
 {
     push_title(out, game)?;
@@ -62,6 +64,6 @@ pub(crate) fn push_heading(
     push_quota(out, game)?;
     push_total(out, game)?;
     push_notations(out, game, shown)?;
-    push_minimal(out, list)?;
+    push_minimal(out, count)?;
     Ok(())
 }

@@ -1,18 +1,19 @@
 //! The lines of sizes and of members.
-ghost use Rattle.std.specs.Prelude.{◌≡◌, ◌++◌, ◌<◌, ◌≤◌, ◌^◌, ◌∷◌, length, map, OnOk, decimal};
+ghost use Rattle.std.specs.Prelude.{◌≡◌, ◌++◌, ◌<◌, ◌≤◌, ◌^◌, ◌∷◌, ℕ, List, length, map, OnOk, decimal};
 ghost use Rattle.std.specs.List.{flat_map};
 ghost use Rattle.power_index.specs.Counting.{members, count_of_member, count_of_member_size};
 ghost use Rattle.power_index.specs.Indices.{deegan_packel, public_good};
 ghost use Rattle.power_index.specs.Fractions.{pair_of, decimals};
 ghost use Rattle.council_file.specs.Room.{Takes};
+ghost use Rattle.council_report.specs.Counted.{IsCounted};
 ghost use Rattle.council_report.specs.Lines.{tabbed, slashed, weights_of_member, size_line, member_line, member_fields, index_fields, fraction_fields, index_text};
 
+use crate::counted::Counted;
 use crate::lines::end_line;
-use crate::listing::Listing;
 use crate::text::{push_field, push_number, push_values};
 use council_game::Game;
 use itoa::Buffer;
-use power_index::{Fraction, deegan_packel, public_good};
+use power_index::Fraction;
 use std::alloc::AllocError;
 
 /// A field `top/bottom`.
@@ -41,37 +42,43 @@ fn push_index(out: &mut Vec<u8>, index: Fraction) -> Result<(), AllocError>
 /// The Deegan-Packel index of a member.
 fn push_deegan_packel(
     out: &mut Vec<u8>,
-    listing: &Listing<'_>,
+    counted: &Counted<'_>,
     member: usize,
 ) -> Result<(), AllocError>
-    requires { member < length listing.now.game.now.names }
-    ensures items { OnOk result (out.new.items ≡ out.old.items ++ index_text (deegan_packel listing.now.game.now listing.now.list.now member)) }
-    ensures room { Takes out.old out.new result (index_text (deegan_packel listing.now.game.now listing.now.list.now member)) }
+    ghost list: { List ℕ }
+    requires list { IsCounted counted.now.game.now list counted.now.counts.now }
+    requires member { member < length counted.now.game.now.names }
+    ensures items { OnOk result (out.new.items ≡ out.old.items ++ index_text (deegan_packel counted.now.game.now list member)) }
+    ensures room { Takes out.old out.new result (index_text (deegan_packel counted.now.game.now list member)) }
 {
-    push_index(out, deegan_packel(&listing.counts, member))
+    push_index(out, counted.counts.deegan_packel(member))
 }
 
 /// The public good index of a member.
 fn push_public_good(
     out: &mut Vec<u8>,
-    listing: &Listing<'_>,
+    counted: &Counted<'_>,
     member: usize,
 ) -> Result<(), AllocError>
-    requires { member < length listing.now.game.now.names }
-    ensures items { OnOk result (out.new.items ≡ out.old.items ++ index_text (public_good listing.now.game.now listing.now.list.now member)) }
-    ensures room { Takes out.old out.new result (index_text (public_good listing.now.game.now listing.now.list.now member)) }
+    ghost list: { List ℕ }
+    requires list { IsCounted counted.now.game.now list counted.now.counts.now }
+    requires member { member < length counted.now.game.now.names }
+    ensures items { OnOk result (out.new.items ≡ out.old.items ++ index_text (public_good counted.now.game.now list member)) }
+    ensures room { Takes out.old out.new result (index_text (public_good counted.now.game.now list member)) }
 {
-    push_index(out, public_good(&listing.counts, member))
+    push_index(out, counted.counts.public_good(member))
 }
 
 /// For each member, how many coalitions of a size contain it.
-fn push_counts(out: &mut Vec<u8>, listing: &Listing<'_>, size: usize) -> Result<(), AllocError>
-    requires { size ≤ length listing.now.game.now.names }
-    ensures items { OnOk result (out.new.items ≡ out.old.items ++ flat_map tabbed (map (λ i. decimal (count_of_member_size listing.now.game.now i size listing.now.list.now)) (members listing.now.game.now))) }
-    ensures room { Takes out.old out.new result (flat_map tabbed (map (λ i. decimal (count_of_member_size listing.now.game.now i size listing.now.list.now)) (members listing.now.game.now))) }
+fn push_counts(out: &mut Vec<u8>, counted: &Counted<'_>, size: usize) -> Result<(), AllocError>
+    ghost list: { List ℕ }
+    requires list { IsCounted counted.now.game.now list counted.now.counts.now }
+    requires size { size ≤ length counted.now.game.now.names }
+    ensures items { OnOk result (out.new.items ≡ out.old.items ++ flat_map tabbed (map (λ i. decimal (count_of_member_size counted.now.game.now i size list)) (members counted.now.game.now))) }
+    ensures room { Takes out.old out.new result (flat_map tabbed (map (λ i. decimal (count_of_member_size counted.now.game.now i size list)) (members counted.now.game.now))) }
 {
-    for member in 0..listing.game.members() {
-        push_number(out, u64::from(listing.counts.of_member_size(member, size)))?;
+    for member in 0..counted.game.members() {
+        push_number(out, counted.counts.of_member_size(member, size))?;
     }
     Ok(())
 }
@@ -80,31 +87,35 @@ fn push_counts(out: &mut Vec<u8>, listing: &Listing<'_>, size: usize) -> Result<
 #[tactic(auto, unfolding(crate::specs::Lines::size_line))]
 pub(crate) fn push_size(
     out: &mut Vec<u8>,
-    listing: &Listing<'_>,
+    counted: &Counted<'_>,
     size: usize,
 ) -> Result<(), AllocError>
-    requires { size ≤ length listing.now.game.now.names }
-    ensures items { OnOk result (out.new.items ≡ out.old.items ++ size_line listing.now.game.now listing.now.list.now size) }
-    ensures room { Takes out.old out.new result (size_line listing.now.game.now listing.now.list.now size) }
+    ghost list: { List ℕ }
+    requires list { IsCounted counted.now.game.now list counted.now.counts.now }
+    requires size { size ≤ length counted.now.game.now.names }
+    ensures items { OnOk result (out.new.items ≡ out.old.items ++ size_line counted.now.game.now list size) }
+    ensures room { Takes out.old out.new result (size_line counted.now.game.now list size) }
 {
-    let count = listing.counts.of_size(size);
+    let count = counted.counts.of_size(size);
     if count == 0 {
         return Ok(());
     }
     out.extend_from_slice(b"size")?;
     push_number(out, size as u64)?;
-    push_number(out, u64::from(count))?;
-    push_counts(out, listing, size)?;
+    push_number(out, count)?;
+    push_counts(out, counted, size)?;
     end_line(out)
 }
 
 /// How many coalitions contain a member.
-fn push_count(out: &mut Vec<u8>, listing: &Listing<'_>, member: usize) -> Result<(), AllocError>
-    requires { member < length listing.now.game.now.names }
-    ensures items { OnOk result (out.new.items ≡ out.old.items ++ tabbed (decimal (count_of_member listing.now.game.now member listing.now.list.now))) }
-    ensures room { Takes out.old out.new result (tabbed (decimal (count_of_member listing.now.game.now member listing.now.list.now))) }
+fn push_count(out: &mut Vec<u8>, counted: &Counted<'_>, member: usize) -> Result<(), AllocError>
+    ghost list: { List ℕ }
+    requires list { IsCounted counted.now.game.now list counted.now.counts.now }
+    requires member { member < length counted.now.game.now.names }
+    ensures items { OnOk result (out.new.items ≡ out.old.items ++ tabbed (decimal (count_of_member counted.now.game.now member list))) }
+    ensures room { Takes out.old out.new result (tabbed (decimal (count_of_member counted.now.game.now member list))) }
 {
-    push_number(out, u64::from(listing.counts.of_member(member)))
+    push_number(out, counted.counts.of_member(member))
 }
 
 /// The weights of a member, one for each rule.
@@ -119,42 +130,48 @@ fn push_weights(out: &mut Vec<u8>, game: &Game, member: usize) -> Result<(), All
 /// A member's name, its weights, and how many coalitions contain it.
 fn push_member_counts(
     out: &mut Vec<u8>,
-    listing: &Listing<'_>,
+    counted: &Counted<'_>,
     member: usize,
 ) -> Result<(), AllocError>
-    requires { member < length listing.now.game.now.names }
-    ensures items { OnOk result (out.new.items ≡ out.old.items ++ flat_map tabbed (member_fields listing.now.game.now listing.now.list.now member)) }
-    ensures room { Takes out.old out.new result (flat_map tabbed (member_fields listing.now.game.now listing.now.list.now member)) }
+    ghost list: { List ℕ }
+    requires list { IsCounted counted.now.game.now list counted.now.counts.now }
+    requires member { member < length counted.now.game.now.names }
+    ensures items { OnOk result (out.new.items ≡ out.old.items ++ flat_map tabbed (member_fields counted.now.game.now list member)) }
+    ensures room { Takes out.old out.new result (flat_map tabbed (member_fields counted.now.game.now list member)) }
 {
-    let game = listing.game;
+    let game = counted.game;
     push_field(out, game.name(member).as_bytes())?;
     push_weights(out, game, member)?;
-    push_count(out, listing, member)
+    push_count(out, counted, member)
 }
 
 /// Both indices of a member.
-fn push_indices(out: &mut Vec<u8>, listing: &Listing<'_>, member: usize) -> Result<(), AllocError>
-    requires { member < length listing.now.game.now.names }
-    ensures items { OnOk result (out.new.items ≡ out.old.items ++ flat_map tabbed (index_fields listing.now.game.now listing.now.list.now member)) }
-    ensures room { Takes out.old out.new result (flat_map tabbed (index_fields listing.now.game.now listing.now.list.now member)) }
+fn push_indices(out: &mut Vec<u8>, counted: &Counted<'_>, member: usize) -> Result<(), AllocError>
+    ghost list: { List ℕ }
+    requires list { IsCounted counted.now.game.now list counted.now.counts.now }
+    requires member { member < length counted.now.game.now.names }
+    ensures items { OnOk result (out.new.items ≡ out.old.items ++ flat_map tabbed (index_fields counted.now.game.now list member)) }
+    ensures room { Takes out.old out.new result (flat_map tabbed (index_fields counted.now.game.now list member)) }
 {
-    push_deegan_packel(out, listing, member)?;
-    push_public_good(out, listing, member)
+    push_deegan_packel(out, counted, member)?;
+    push_public_good(out, counted, member)
 }
 
 /// `member`, a name, its weights, how many coalitions contain it, and its two indices.
 #[tactic(auto, unfolding(crate::specs::Lines::member_line))]
 pub(crate) fn push_member(
     out: &mut Vec<u8>,
-    listing: &Listing<'_>,
+    counted: &Counted<'_>,
     member: usize,
 ) -> Result<(), AllocError>
-    requires { member < length listing.now.game.now.names }
-    ensures items { OnOk result (out.new.items ≡ out.old.items ++ member_line listing.now.game.now listing.now.list.now member) }
-    ensures room { Takes out.old out.new result (member_line listing.now.game.now listing.now.list.now member) }
+    ghost list: { List ℕ }
+    requires list { IsCounted counted.now.game.now list counted.now.counts.now }
+    requires member { member < length counted.now.game.now.names }
+    ensures items { OnOk result (out.new.items ≡ out.old.items ++ member_line counted.now.game.now list member) }
+    ensures room { Takes out.old out.new result (member_line counted.now.game.now list member) }
 {
     out.extend_from_slice(b"member")?;
-    push_member_counts(out, listing, member)?;
-    push_indices(out, listing, member)?;
+    push_member_counts(out, counted, member)?;
+    push_indices(out, counted, member)?;
     end_line(out)
 }

@@ -1,11 +1,11 @@
 //! The report of a game, line by line.
 #![tactic(auto)]
 
+mod counted;
 mod fault;
 mod heading;
 mod indices;
 mod lines;
-mod listing;
 mod mark;
 mod output;
 mod places;
@@ -19,5 +19,5 @@ mod tests;
 mod text;
 
 pub use fault::ReportFault;
-pub use report::write_report;
+pub use report::{write_report, write_report_of, write_tally};
 pub use shown::Shown;

@@ -1,12 +1,12 @@
 //! The lines of a report, one function for each kind.
-ghost use Rattle.std.specs.Prelude.{◌≡◌, ◌++◌, ◌^◌, ◌<◌, ◌≤◌, ◌∷◌, [], length, OnOk, Some};
+ghost use Rattle.std.specs.Prelude.{◌≡◌, ◌++◌, ◌^◌, ◌<◌, ◌≤◌, ◌∷◌, [], ℕ, List, length, OnOk, Some};
 ghost use Rattle.std.specs.List.{flat_map};
 ghost use Rattle.std.specs.Vec.{vec_capacity};
 ghost use Rattle.council_file.specs.Room.{Takes};
 ghost use Rattle.council_report.specs.Lines.{tabbed, slashed, weights_of_coalition, title_line, members_line, quota_line, total_line, minimal_line, coalition_line, names_of};
 
 use crate::text::{push_field, push_number, push_values};
-use council_game::{Coalition, Game};
+use council_game::Game;
 use std::alloc::AllocError;
 
 /// The end of a line.
@@ -67,11 +67,13 @@ pub(crate) fn push_total(out: &mut Vec<u8>, game: &Game) -> Result<(), AllocErro
 
 /// `minimal`, the number of minimal winning coalitions.
 #[tactic(auto, unfolding(crate::specs::Lines::minimal_line))]
-pub(crate) fn push_minimal(out: &mut Vec<u8>, list: &[Coalition]) -> Result<(), AllocError>
-    ensures items { OnOk result (out.new.items ≡ out.old.items ++ minimal_line list.now) }
+pub(crate) fn push_minimal(out: &mut Vec<u8>, count: u64) -> Result<(), AllocError>
+    ghost list: { List ℕ }
+    requires { length list ≡ count }
+    ensures items { OnOk result (out.new.items ≡ out.old.items ++ minimal_line list) }
     ensures capacity { vec_capacity out.old ≤ vec_capacity out.new }
 {
     out.extend_from_slice(b"minimal")?;
-    push_number(out, list.len() as u64)?;
+    push_number(out, count)?;
     end_line(out)
 }

@@ -1,22 +1,28 @@
 //! A report, written whole.
-ghost use Rattle.std.specs.Prelude.{◌≡◌, ◌+◌, ◌≤◌, length, IfOk, IfErr, OnOk};
+ghost use Rattle.std.specs.Prelude.{◌≡◌, ◌+◌, ◌≤◌, ◌^◌, true, false, ℕ, List, length, All, IfOk, IfErr, OnOk};
+ghost use Rattle.std.specs.List.{flat_map};
 ghost use Rattle.std.specs.Io.KnownBytes.{Appends};
+ghost use Rattle.council_game.specs.Game.{votes_of};
+ghost use Rattle.council_game.specs.Votes.{minimal_coalitions};
 ghost use Rattle.power_index.specs.Counting.{AreCoalitions};
-ghost use Rattle.council_report.specs.Report.{coalition_lines, size_lines, lines, report_over};
+ghost use Rattle.power_index.specs.Tables.{AreCounts};
+ghost use Rattle.council_report.specs.Counted.{IsCounted};
+ghost use Rattle.council_report.specs.Report.{coalition_lines, size_lines, lines, report, report_over};
 ghost use Rattle.council_report.specs.Shared.{IsReadyLine};
 ghost use Rattle.council_report.specs.Told.{told, Tells, StoppedIn};
 ghost use Rattle.council_report.specs.Ready.{HasRoom, IsReady, CanCount};
 ghost use Rattle.council_report.specs.Outcome.{Falls};
 
 use crate::Shown;
+use crate::counted::Counted;
 use crate::fault::ReportFault;
 use crate::heading::push_heading;
-use crate::listing::Listing;
 use crate::output::{Block, WriteFault};
 use crate::shared::SharedLine;
-use crate::stream::{put_coalitions, put_members, put_sizes};
+use crate::stream::{put_members, put_pieces, put_sizes};
 use council_game::{Coalition, Game};
-use power_index::Counts;
+use power_index::WideCounts;
+use power_index::laws::minimal_coalitions_can_be_counted;
 use std::alloc::Global;
 use std::io::Write;
 
@@ -24,19 +30,25 @@ use std::io::Write;
 fn put_shown_coalitions<W: Write>(
     block: &mut Block,
     writer: &mut W,
-    listing: &Listing<'_>,
+    game: &Game,
+    pieces: &[&[Coalition]],
     line: &mut SharedLine,
     shown: Shown,
 ) -> Result<(), WriteFault>
-    requires line { IsReadyLine listing.now.game.now line.old }
+    ghost list: { List ℕ }
+    requires pieces { shown.list ≡ true → flat_map (λ p. p.now) pieces.now ≡ list }
+    requires coalitions { shown.list ≡ true → AreCoalitions game.now list }
+    requires line { IsReadyLine game.now line.old }
     requires ready { IsReady block.old }
-    requires counted { CanCount block.old (coalition_lines shown listing.now.game.now listing.now.list.now) }
-    ensures ok { OnOk result (Tells (told (W.contents writer.old) block.old) (told (W.contents writer.new) block.new) (coalition_lines shown listing.now.game.now listing.now.list.now)) }
+    requires counted { CanCount block.old (coalition_lines shown game.now list) }
+    ensures ok { OnOk result (Tells (told (W.contents writer.old) block.old)
+        (told (W.contents writer.new) block.new) (coalition_lines shown game.now list)) }
     ensures ready { OnOk result (IsReady block.new) }
-    ensures err { IfErr result (λ fault. StoppedIn (told (W.contents writer.old) block.old) (coalition_lines shown listing.now.game.now listing.now.list.now) (W.contents writer.new) fault.written) }
+    ensures err { IfErr result (λ fault. StoppedIn (told (W.contents writer.old) block.old)
+        (coalition_lines shown game.now list) (W.contents writer.new) fault.written) }
 {
     if shown.list {
-        put_coalitions(block, writer, listing.game, listing.list, line)
+        put_pieces(block, writer, game, pieces, line)
     } else {
         Ok(())
     }
@@ -46,17 +58,21 @@ fn put_shown_coalitions<W: Write>(
 fn put_shown_sizes<W: Write>(
     block: &mut Block,
     writer: &mut W,
-    listing: &Listing<'_>,
+    counted: &Counted<'_>,
     shown: Shown,
 ) -> Result<(), WriteFault>
+    ghost list: { List ℕ }
+    requires list { IsCounted counted.now.game.now list counted.now.counts.now }
     requires ready { IsReady block.old }
-    requires counted { CanCount block.old (size_lines shown listing.now.game.now listing.now.list.now) }
-    ensures ok { OnOk result (Tells (told (W.contents writer.old) block.old) (told (W.contents writer.new) block.new) (size_lines shown listing.now.game.now listing.now.list.now)) }
+    requires counted { CanCount block.old (size_lines shown counted.now.game.now list) }
+    ensures ok { OnOk result (Tells (told (W.contents writer.old) block.old)
+        (told (W.contents writer.new) block.new) (size_lines shown counted.now.game.now list)) }
     ensures ready { OnOk result (IsReady block.new) }
-    ensures err { IfErr result (λ fault. StoppedIn (told (W.contents writer.old) block.old) (size_lines shown listing.now.game.now listing.now.list.now) (W.contents writer.new) fault.written) }
+    ensures err { IfErr result (λ fault. StoppedIn (told (W.contents writer.old) block.old)
+        (size_lines shown counted.now.game.now list) (W.contents writer.new) fault.written) }
 {
     if shown.sizes {
-        put_sizes(block, writer, listing)
+        put_sizes(block, writer, counted)
     } else {
         Ok(())
     }
@@ -66,40 +82,154 @@ fn put_shown_sizes<W: Write>(
 fn put_lines<W: Write>(
     block: &mut Block,
     writer: &mut W,
-    listing: &Listing<'_>,
+    counted: &Counted<'_>,
+    pieces: &[&[Coalition]],
     line: &mut SharedLine,
     shown: Shown,
 ) -> Result<(), WriteFault>
-    requires line { IsReadyLine listing.now.game.now line.old }
+    ghost list: { List ℕ }
+    requires list { IsCounted counted.now.game.now list counted.now.counts.now }
+    requires pieces { shown.list ≡ true → flat_map (λ p. p.now) pieces.now ≡ list }
+    requires coalitions { shown.list ≡ true → AreCoalitions counted.now.game.now list }
+    requires line { IsReadyLine counted.now.game.now line.old }
     requires ready { IsReady block.old }
-    requires counted { CanCount block.old (lines shown listing.now.game.now listing.now.list.now) }
-    ensures ok { OnOk result (Tells (told (W.contents writer.old) block.old) (told (W.contents writer.new) block.new) (lines shown listing.now.game.now listing.now.list.now)) }
+    requires counted { CanCount block.old (lines shown counted.now.game.now list) }
+    ensures ok { OnOk result (Tells (told (W.contents writer.old) block.old)
+        (told (W.contents writer.new) block.new) (lines shown counted.now.game.now list)) }
     ensures ready { OnOk result (IsReady block.new) }
-    ensures err { IfErr result (λ fault. StoppedIn (told (W.contents writer.old) block.old) (lines shown listing.now.game.now listing.now.list.now) (W.contents writer.new) fault.written) }
+    ensures err { IfErr result (λ fault. StoppedIn (told (W.contents writer.old) block.old)
+        (lines shown counted.now.game.now list) (W.contents writer.new) fault.written) }
 {
-    put_shown_coalitions(block, writer, listing, line, shown)?;
-    put_shown_sizes(block, writer, listing, shown)?;
-    put_members(block, writer, listing)
+    put_shown_coalitions(block, writer, counted.game, pieces, line, shown)?;
+    put_shown_sizes(block, writer, counted, shown)?;
+    put_members(block, writer, counted)
 }
 
 /// The lines after the heading, and the flush.
 fn send<W: Write>(
     mut block: Block,
     writer: &mut W,
-    listing: &Listing<'_>,
+    counted: &Counted<'_>,
+    pieces: &[&[Coalition]],
     mut line: SharedLine,
     shown: Shown,
 ) -> Result<u64, WriteFault>
-    requires line { IsReadyLine listing.now.game.now line }
+    ghost list: { List ℕ }
+    requires list { IsCounted counted.now.game.now list counted.now.counts.now }
+    requires pieces { shown.list ≡ true → flat_map (λ p. p.now) pieces.now ≡ list }
+    requires coalitions { shown.list ≡ true → AreCoalitions counted.now.game.now list }
+    requires line { IsReadyLine counted.now.game.now line }
     requires room { HasRoom block }
-    requires counted { CanCount block (lines shown listing.now.game.now listing.now.list.now) }
-    ensures count { IfOk result (λ count. count ≡ (told (W.contents writer.old) block).count + length (lines shown listing.now.game.now listing.now.list.now)) }
-    ensures ok { OnOk result (Appends (told (W.contents writer.old) block).bytes (W.contents writer.new) (lines shown listing.now.game.now listing.now.list.now)) }
-    ensures err { IfErr result (λ fault. StoppedIn (told (W.contents writer.old) block) (lines shown listing.now.game.now listing.now.list.now) (W.contents writer.new) fault.written) }
+    requires counted { CanCount block (lines shown counted.now.game.now list) }
+    ensures count { IfOk result (λ count. count ≡ (told (W.contents writer.old) block).count
+        + length (lines shown counted.now.game.now list)) }
+    ensures ok { OnOk result (Appends (told (W.contents writer.old) block).bytes
+        (W.contents writer.new) (lines shown counted.now.game.now list)) }
+    ensures err { IfErr result (λ fault. StoppedIn (told (W.contents writer.old) block)
+        (lines shown counted.now.game.now list) (W.contents writer.new) fault.written) }
 {
     block.settle(writer)?;
-    put_lines(&mut block, writer, listing, &mut line, shown)?;
+    put_lines(&mut block, writer, counted, pieces, &mut line, shown)?;
     block.finish(writer)
+}
+
+/// Writes the report of a game over a list of its coalitions with these counts. The list need be there,
+/// in pieces, only where it is shown.
+fn write_over<W: Write>(
+    alloc: Global,
+    counted: &Counted<'_>,
+    pieces: &[&[Coalition]],
+    shown: Shown,
+    writer: &mut W,
+) -> Result<u64, ReportFault>
+    ghost list: { List ℕ }
+    requires list { IsCounted counted.now.game.now list counted.now.counts.now }
+    requires pieces { shown.list ≡ true → flat_map (λ p. p.now) pieces.now ≡ list }
+    requires coalitions { shown.list ≡ true → AreCoalitions counted.now.game.now list }
+    ensures count { IfOk result (λ count. count ≡ length (report_over shown counted.now.game.now list)) }
+    ensures ok { OnOk result (Appends (W.contents writer.old) (W.contents writer.new)
+        (report_over shown counted.now.game.now list)) }
+    ensures err { IfErr result (Falls (W.contents writer.old) (W.contents writer.new)
+        (report_over shown counted.now.game.now list)) }
+{
+    let game = counted.game;
+    let mut block = Block::new(alloc)?;
+    push_heading(&mut block.bytes, game, counted.counts.total(), shown)?;
+    let line = SharedLine::new(alloc, game)?;
+    match send(block, writer, counted, pieces, line, shown) {
+        Ok(count) => Ok(count),
+        Err(fault) => Err(ReportFault::Write {
+            written: fault.written,
+        }),
+    }
+}
+
+/// Writes the report of a game over a list of 1 to 2^40 of its coalitions, none of them empty, and
+/// flushes once. The list is in pieces, which stand in its order, and its counts are known already.
+/// The answer is the number of bytes.
+///
+/// No byte goes out before all memory is there.
+///
+/// # Errors
+///
+/// As for `write_report`.
+pub fn write_report_of<W: Write>(
+    alloc: Global,
+    game: &Game,
+    pieces: &[&[Coalition]],
+    counts: &WideCounts,
+    shown: Shown,
+    writer: &mut W,
+) -> Result<u64, ReportFault>
+    requires some { 1 ≤ length (flat_map (λ p. p.now) pieces.now) }
+    requires few { length (flat_map (λ p. p.now) pieces.now) ≤ 2 ^ 40 }
+    requires coalitions { AreCoalitions game.now (flat_map (λ p. p.now) pieces.now) }
+    requires counts { AreCounts game.now (flat_map (λ p. p.now) pieces.now) counts.now }
+    ensures count { IfOk result (λ count. count ≡
+        length (report_over shown game.now (flat_map (λ p. p.now) pieces.now))) }
+    ensures ok { OnOk result (Appends (W.contents writer.old) (W.contents writer.new)
+        (report_over shown game.now (flat_map (λ p. p.now) pieces.now))) }
+    ensures err { IfErr result (Falls (W.contents writer.old) (W.contents writer.new)
+        (report_over shown game.now (flat_map (λ p. p.now) pieces.now))) }
+{
+    let counted = Counted {
+        game,
+        members: game.members(),
+        counts,
+    };
+    write_over(alloc, &counted, pieces, shown, writer)
+}
+
+/// Writes the report of a game, with no line for a coalition, from the counts of its minimal winning
+/// coalitions alone, however many these are, and flushes once. The answer is the number of bytes.
+///
+/// No byte goes out before all memory is there.
+///
+/// # Errors
+///
+/// As for `write_report`.
+pub fn write_tally<W: Write>(
+    alloc: Global,
+    game: &Game,
+    counts: &WideCounts,
+    shown: Shown,
+    writer: &mut W,
+) -> Result<u64, ReportFault>
+    requires unlisted { shown.list ≡ false }
+    requires counts { AreCounts game.now (minimal_coalitions (votes_of game.now)) counts.now }
+    ensures count { IfOk result (λ count. count ≡ length (report shown game.now)) }
+    ensures ok { OnOk result (Appends (W.contents writer.old) (W.contents writer.new)
+        (report shown game.now)) }
+    ensures err { IfErr result (Falls (W.contents writer.old) (W.contents writer.new)
+        (report shown game.now)) }
+{
+    minimal_coalitions_can_be_counted();
+    let counted = Counted {
+        game,
+        members: game.members(),
+        counts,
+    };
+    write_over(alloc, &counted, &[], shown, writer)
 }
 
 /// Writes the report of a game over a list of 1 to 4,000,000 of its coalitions, none of them empty, and
@@ -125,20 +255,6 @@ pub fn write_report<W: Write>(
     ensures ok { OnOk result (Appends (W.contents writer.old) (W.contents writer.new) (report_over shown game.now list.now)) }
     ensures err { IfErr result (Falls (W.contents writer.old) (W.contents writer.new) (report_over shown game.now list.now)) }
 {
-    let members = game.members();
-    let mut block = Block::new(alloc)?;
-    push_heading(&mut block.bytes, game, list, shown)?;
-    let line = SharedLine::new(alloc, game)?;
-    let listing = Listing {
-        game,
-        members,
-        list,
-        counts: Counts::of(game, list),
-    };
-    match send(block, writer, &listing, line, shown) {
-        Ok(count) => Ok(count),
-        Err(fault) => Err(ReportFault::Write {
-            written: fault.written,
-        }),
-    }
+    let counts = WideCounts::of(game, list);
+    write_report_of(alloc, game, &[list], &counts, shown, writer)
 }

@@ -1,14 +1,15 @@
 //! The lines of a report on their way to its writer.
-ghost use Rattle.std.specs.Prelude.{length, IfErr, OnOk};
+ghost use Rattle.std.specs.Prelude.{ℕ, List, length, All, IfErr, OnOk};
 ghost use Rattle.std.specs.List.{flat_map, range_with_len};
 ghost use Rattle.power_index.specs.Counting.{members, AreCoalitions};
+ghost use Rattle.council_report.specs.Counted.{IsCounted};
 ghost use Rattle.council_report.specs.Lines.{coalition_line, size_line, member_line};
 ghost use Rattle.council_report.specs.Shared.{IsReadyLine};
 ghost use Rattle.council_report.specs.Told.{told, Tells, StoppedIn};
 ghost use Rattle.council_report.specs.Ready.{IsReady, CanCount};
 
+use crate::counted::Counted;
 use crate::indices::{push_member, push_size};
-use crate::listing::Listing;
 use crate::output::{Block, WriteFault};
 use crate::shared::SharedLine;
 use council_game::{Coalition, Game};
@@ -43,20 +44,46 @@ pub(crate) fn put_coalitions<W: Write>(
     Ok(())
 }
 
+/// A line for each coalition, piece after piece.
+pub(crate) fn put_pieces<W: Write>(
+    block: &mut Block,
+    writer: &mut W,
+    game: &Game,
+    pieces: &[&[Coalition]],
+    line: &mut SharedLine,
+) -> Result<(), WriteFault>
+    requires coalitions { All (λ p. AreCoalitions game.now p.now) pieces.now }
+    requires line { IsReadyLine game.now line.old }
+    requires ready { IsReady block.old }
+    requires counted { CanCount block.old (flat_map (λ p. flat_map (coalition_line game.now) p.now) pieces.now) }
+    ensures ok { OnOk result (Tells (told (W.contents writer.old) block.old)
+        (told (W.contents writer.new) block.new) (flat_map (λ p. flat_map (coalition_line game.now) p.now) pieces.now)) }
+    ensures ready { OnOk result (IsReady block.new) }
+    ensures err { IfErr result (λ fault. StoppedIn (told (W.contents writer.old) block.old)
+        (flat_map (λ p. flat_map (coalition_line game.now) p.now) pieces.now) (W.contents writer.new) fault.written) }
+{
+    for piece in pieces {
+        put_coalitions(block, writer, game, piece, line)?;
+    }
+    Ok(())
+}
+
 /// A line for each size that some coalition has.
 pub(crate) fn put_sizes<W: Write>(
     block: &mut Block,
     writer: &mut W,
-    listing: &Listing<'_>,
+    counted: &Counted<'_>,
 ) -> Result<(), WriteFault>
+    ghost list: { List ℕ }
+    requires list { IsCounted counted.now.game.now list counted.now.counts.now }
     requires ready { IsReady block.old }
-    requires counted { CanCount block.old (flat_map (size_line listing.now.game.now listing.now.list.now) (range_with_len 1 (length listing.now.game.now.names))) }
-    ensures ok { OnOk result (Tells (told (W.contents writer.old) block.old) (told (W.contents writer.new) block.new) (flat_map (size_line listing.now.game.now listing.now.list.now) (range_with_len 1 (length listing.now.game.now.names)))) }
+    requires counted { CanCount block.old (flat_map (size_line counted.now.game.now list) (range_with_len 1 (length counted.now.game.now.names))) }
+    ensures ok { OnOk result (Tells (told (W.contents writer.old) block.old) (told (W.contents writer.new) block.new) (flat_map (size_line counted.now.game.now list) (range_with_len 1 (length counted.now.game.now.names)))) }
     ensures ready { OnOk result (IsReady block.new) }
-    ensures err { IfErr result (λ fault. StoppedIn (told (W.contents writer.old) block.old) (flat_map (size_line listing.now.game.now listing.now.list.now) (range_with_len 1 (length listing.now.game.now.names))) (W.contents writer.new) fault.written) }
+    ensures err { IfErr result (λ fault. StoppedIn (told (W.contents writer.old) block.old) (flat_map (size_line counted.now.game.now list) (range_with_len 1 (length counted.now.game.now.names))) (W.contents writer.new) fault.written) }
 {
-    for size in 1..listing.members + 1 {
-        match push_size(&mut block.bytes, listing, size) {
+    for size in 1..counted.members + 1 {
+        match push_size(&mut block.bytes, counted, size) {
             Ok(()) => block.settle(writer)?,
             Err(_) => unreachable!(),
         }
@@ -68,16 +95,18 @@ pub(crate) fn put_sizes<W: Write>(
 pub(crate) fn put_members<W: Write>(
     block: &mut Block,
     writer: &mut W,
-    listing: &Listing<'_>,
+    counted: &Counted<'_>,
 ) -> Result<(), WriteFault>
+    ghost list: { List ℕ }
+    requires list { IsCounted counted.now.game.now list counted.now.counts.now }
     requires ready { IsReady block.old }
-    requires counted { CanCount block.old (flat_map (member_line listing.now.game.now listing.now.list.now) (members listing.now.game.now)) }
-    ensures ok { OnOk result (Tells (told (W.contents writer.old) block.old) (told (W.contents writer.new) block.new) (flat_map (member_line listing.now.game.now listing.now.list.now) (members listing.now.game.now))) }
+    requires counted { CanCount block.old (flat_map (member_line counted.now.game.now list) (members counted.now.game.now)) }
+    ensures ok { OnOk result (Tells (told (W.contents writer.old) block.old) (told (W.contents writer.new) block.new) (flat_map (member_line counted.now.game.now list) (members counted.now.game.now))) }
     ensures ready { OnOk result (IsReady block.new) }
-    ensures err { IfErr result (λ fault. StoppedIn (told (W.contents writer.old) block.old) (flat_map (member_line listing.now.game.now listing.now.list.now) (members listing.now.game.now)) (W.contents writer.new) fault.written) }
+    ensures err { IfErr result (λ fault. StoppedIn (told (W.contents writer.old) block.old) (flat_map (member_line counted.now.game.now list) (members counted.now.game.now)) (W.contents writer.new) fault.written) }
 {
-    for member in 0..listing.members {
-        match push_member(&mut block.bytes, listing, member) {
+    for member in 0..counted.members {
+        match push_member(&mut block.bytes, counted, member) {
             Ok(()) => block.settle(writer)?,
             Err(_) => unreachable!(),
         }

@@ -2,9 +2,11 @@
 ghost use Rattle.std.specs.Prelude.{◌≡◌, length, IfOk};
 ghost use Rattle.power_index.specs.Counting.{AreCoalitions};
 
-use crate::{Shown, write_report};
+use crate::{Shown, write_report, write_report_of, write_tally};
 use council_file::parse_game;
-use council_game::{Coalition, Game};
+use council_game::{Coalition, Game, plain_list};
+use power_index::WideCounts;
+use power_index::laws::{minimal_coalitions_can_be_counted, tallies_are_counts};
 use std::alloc::{AllocError, Global};
 use std::test::Fail;
 
@@ -160,5 +162,72 @@ fn lists_in_any_order(rt: HostRuntime) -> Result<(), Fail> {
         wanted.extend_from_slice(&lines)?;
         assert!(rt; written.starts_with(&wanted));
     }
+    Ok(())
+}
+
+const HEADING_TWICE: &[u8] =
+    b"members\t14\nquota\t140/7/1\ntotal\t287/14/1532221043\nminimal\t5300\n";
+
+#[test]
+fn lists_in_pieces(rt: HostRuntime) -> Result<(), Fail> {
+    let alloc = rt.alloc();
+    let Ok(game) = parse_game(alloc, GAME.as_bytes()) else {
+        return Err(Fail::from("the game was refused"));
+    };
+    assert!(rt; game.members() == 14);
+    let first = coalitions(alloc, &game, 16_383)?;
+    let second = coalitions(alloc, &game, 5)?;
+    assert!(rt; first.len() == 2_650 && second.len() == 2_650);
+    let mut counts = WideCounts::none(&game);
+    counts.count_row(&first);
+    counts.count_row(&second);
+    tallies_are_counts();
+    let mut written = Vec::new(alloc);
+    let shown = Shown {
+        list: true,
+        sizes: false,
+        notation: false,
+    };
+    let answer = write_report_of(
+        alloc,
+        &game,
+        &[&first, &second],
+        &counts,
+        shown,
+        &mut written,
+    );
+    assert!(rt; answer == Ok(written.len() as u64));
+    let mut wanted = Vec::from_slice(alloc, HEADING_TWICE)?;
+    wanted.extend_from_slice(&lines(alloc, &first)?)?;
+    wanted.extend_from_slice(&lines(alloc, &second)?)?;
+    assert!(rt; written.starts_with(&wanted));
+    Ok(())
+}
+
+#[test]
+fn tallies_as_it_reports(rt: HostRuntime) -> Result<(), Fail> {
+    let alloc = rt.alloc();
+    let Ok(game) = parse_game(alloc, GAME.as_bytes()) else {
+        return Err(Fail::from("the game was refused"));
+    };
+    assert!(rt; game.members() == 14);
+    let Ok(list) = plain_list(alloc, &game) else {
+        return Err(Fail::from("out of memory"));
+    };
+    assert!(rt; list.len() == 2_650);
+    minimal_coalitions_can_be_counted();
+    let shown = Shown {
+        list: false,
+        sizes: true,
+        notation: true,
+    };
+    let mut reported = Vec::new(alloc);
+    let answer = write_report(alloc, &game, &list, shown, &mut reported);
+    assert!(rt; answer == Ok(reported.len() as u64));
+    let mut tallied = Vec::new(alloc);
+    let counts = WideCounts::of(&game, &list);
+    let answer = write_tally(alloc, &game, &counts, shown, &mut tallied);
+    assert!(rt; answer == Ok(reported.len() as u64));
+    assert!(rt; tallied.as_slice() == reported.as_slice());
     Ok(())
 }

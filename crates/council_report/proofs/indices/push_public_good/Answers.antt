@@ -4,11 +4,11 @@ use Rattle.council_report.specs.Lines.{fraction_fields}
 use Rattle.council_report.proofs.indices.push_public_good.Goals as goal
 
 pub returns-clause-items : goal.returns-clause-items
-returns-clause-items c =
+returns-clause-items g c =
     let Puts : ℕ × ℕ → Type 0 = λ q. OnOk c.push_index.result (c.push_index.new.out.items ≡ c.args.out.now.items ++ fraction_fields q) in
-    subst Puts (c.public_good.ensures.terms c.args.listing.now.game.now c.args.listing.now.list.now c.args.listing.now.counted) c.push_index.ensures.items
+    subst Puts (c.public_good.ensures.terms c.args.counted.now.game.now g.list c.requires.0.counts) c.push_index.ensures.items
 
 pub returns-clause-room : goal.returns-clause-room
-returns-clause-room c =
+returns-clause-room g c =
     let Has : ℕ × ℕ → Type 0 = λ q. Takes c.args.out.now c.push_index.new.out c.push_index.result (fraction_fields q) in
-    subst Has (c.public_good.ensures.terms c.args.listing.now.game.now c.args.listing.now.list.now c.args.listing.now.counted) c.push_index.ensures.room
+    subst Has (c.public_good.ensures.terms c.args.counted.now.game.now g.list c.requires.0.counts) c.push_index.ensures.room

@@ -6,20 +6,20 @@ use Rattle.council_report.proofs.report.put_lines.Goals as goal
 
 pub returns-in_err-put_shown_sizes-clause-err : goal.returns-in_err-put_shown_sizes-clause-err
 returns-in_err-put_shown_sizes-clause-err g c =
-    let coalitions : List ℕ = coalition_lines c.args.shown c.args.listing.now.game.now c.args.listing.now.list.now in
-    let sizes : List ℕ = size_lines c.args.shown c.args.listing.now.game.now c.args.listing.now.list.now in
+    let coalitions : List ℕ = coalition_lines c.args.shown c.args.counted.now.game.now g.list in
+    let sizes : List ℕ = size_lines c.args.shown c.args.counted.now.game.now g.list in
     let p = err_from_is_err_and c.from_residual-in_err-put_shown_sizes.result c.from_residual-in_err-put_shown_sizes.ensures.1 in
     let stopped =
-    stopped-first _ (coalitions ++ sizes) (member_lines c.args.listing.now.game.now c.args.listing.now.list.now) _ _
+    stopped-first _ (coalitions ++ sizes) (member_lines c.args.counted.now.game.now g.list) _ _
     (stopped-next _ _ coalitions sizes _ _ c.in_ok-put_shown_coalitions.ensures.ok c.in_err-put_shown_sizes.ensures.err)
     in
     rw (p.1, p.2) stopped
 
 pub returns-clause-err : goal.returns-clause-err
 returns-clause-err g c =
-    let coalitions : List ℕ = coalition_lines c.args.shown c.args.listing.now.game.now c.args.listing.now.list.now in
-    let sizes : List ℕ = size_lines c.args.shown c.args.listing.now.game.now c.args.listing.now.list.now in
+    let coalitions : List ℕ = coalition_lines c.args.shown c.args.counted.now.game.now g.list in
+    let sizes : List ℕ = size_lines c.args.shown c.args.counted.now.game.now g.list in
     let before = tells-then _ _ _ coalitions sizes c.in_ok-put_shown_coalitions.ensures.ok c.in_ok-put_shown_sizes.ensures.ok in
     err-map c.put_members.result
-    (λ fault stopped. stopped-next _ _ (coalitions ++ sizes) (member_lines c.args.listing.now.game.now c.args.listing.now.list.now) _ _ before stopped)
+    (λ fault stopped. stopped-next _ _ (coalitions ++ sizes) (member_lines c.args.counted.now.game.now g.list) _ _ before stopped)
     c.put_members.ensures.err

@@ -9,4 +9,7 @@ use Rattle.council_report.proofs.stream.put_members.Given as goal
 abbrev pub invariant-loop-member : goal.invariant-loop-member
 invariant-loop-member g l =
     Lasts (told (g.W.Write.contents l.initial.writer) l.initial.block) (g.W.Write.contents l.writer) l.block
-    (flat_map (member_line l.listing.game.now l.listing.list.now) (take l.member (members l.listing.game.now)))
+    (flat_map (member_line l.counted.game.now g.list) (take l.member (members l.counted.game.now)))
+
+abbrev pub ghost-push_member : goal.ghost-push_member
+ghost-push_member g a = g.list

@@ -8,4 +8,7 @@ use Rattle.council_report.proofs.stream.put_sizes.Given as goal
 abbrev pub invariant-loop-size : goal.invariant-loop-size
 invariant-loop-size g l =
     Lasts (told (g.W.Write.contents l.initial.writer) l.initial.block) (g.W.Write.contents l.writer) l.block
-    (flat_map (size_line l.listing.game.now l.listing.list.now) (take (l.size - 1) (range_with_len 1 (length l.listing.game.now.names))))
+    (flat_map (size_line l.counted.game.now g.list) (take (l.size - 1) (range_with_len 1 (length l.counted.game.now.names))))
+
+abbrev pub ghost-push_size : goal.ghost-push_size
+ghost-push_size g a = g.list

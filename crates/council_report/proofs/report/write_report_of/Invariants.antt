@@ -1,0 +1,5 @@
+use Rattle.std.specs.List.{flat_map}
+use Rattle.council_report.proofs.report.write_report_of.Given as goal
+
+abbrev pub ghost-write_over : goal.ghost-write_over
+ghost-write_over g a = flat_map (λ p. p.now) a.pieces.now

@@ -1,0 +1,17 @@
+//! A game with the counts of a list of its coalitions.
+ghost use Rattle.std.specs.Prelude.{◌≡◌, length};
+ghost use Rattle.council_game.specs.Game.{IsGame};
+
+use council_game::Game;
+use power_index::WideCounts;
+
+/// A game, the number of its members, and the counts of a list of its coalitions, none of them empty.
+/// The list itself need not be there.
+#[derive(Drop)]
+pub(crate) struct Counted<'a> {
+    pub(crate) game: &'a Game,
+    pub(crate) members: usize,
+    pub(crate) counts: &'a WideCounts,
+    ghost is_game: { IsGame game.now },
+    ghost all_members: { members ≡ length game.now.names },
+}
