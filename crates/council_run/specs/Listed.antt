@@ -1,8 +1,12 @@
 -- The minimal winning coalitions of a game, where there are at most so many.
 use Rattle.std.specs.Prelude.{◌≡◌, ◌<◌, ◌≤◌, ℕ, List, length}
+use Rattle.std.specs.List.{All, flat_map, range_with_len}
 use Rattle.council_game.specs.Votes.{minimal_coalitions}
-use Rattle.council_game.specs.Game.{GameView, votes_of}
+use Rattle.council_game.specs.Game.{GameView, IsGame, votes_of}
 use Rattle.power_index.specs.Counting.{AreCoalitions}
+use Rattle.mwc_walk.specs.Slices.{slice}
+use Rattle.mwc_parts.specs.Parts.{HasPieces}
+use Rattle.mwc_parts.specs.declared.gathered.Gathered.{Gathered}
 use Rattle.mwc_parts.specs.declared.fault.GatherFault.TheVariants as gather
 use Rattle.council_run.specs.declared.fault.Cause.{Cause}
 use Rattle.council_run.specs.declared.fault.Cause.TheVariants.{Game, Gather, Write, Memory}
@@ -14,6 +18,14 @@ pub record IsListed (g : GameView) (most : ℕ) (list : List ℕ) : Type 0 where
   pub some : 1 ≤ length list
   pub few : length list ≤ most
   pub coalitions : AreCoalitions g list
+
+-- what the workers listed is all of them, slice by slice, and there are at most so many
+pub record IsGathered (g : GameView) (most : ℕ) (r : Gathered) : Type 0 where
+  pub game : IsGame g
+  pub bits : ℕ
+  pub pieces : All (HasPieces (slice (votes_of g) bits)) r.parts.items
+  pub whole : flat_map (slice (votes_of g) bits) (range_with_len 0 r.slices) ≡ minimal_coalitions (votes_of g)
+  pub few : count_of g ≤ most
 
 -- there are more, or the gatherer or a growth was refused
 abbrev pub IsUnlisted : GameView → ℕ → Cause → Type 0

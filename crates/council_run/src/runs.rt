@@ -1,39 +1,53 @@
 //! A run: from the bytes of a game to its report.
 ghost use Rattle.std.specs.Prelude.{◌<◌, IfOk, IfErr};
+ghost use Rattle.std.specs.List.{flat_map};
 ghost use Rattle.council_run.specs.Run.{Reports, Stops};
-ghost use Rattle.council_run.specs.Listed.{IsListed, IsUnlisted};
+ghost use Rattle.council_run.specs.Listed.{IsGathered, IsListed, IsUnlisted};
 
 use crate::fault::{Cause, RunFault};
 use crate::options::Options;
 use council_file::read_game;
-use council_game::{Coalition, Game};
-use council_report::{ReportFault, write_report};
+use council_game::{Coalition, Game, Memory};
+use council_report::{ReportFault, write_report_of};
 use mwc_gather::{Gate, Guarded, gather};
+use mwc_parts::Gathered;
+use power_index::WideCounts;
 use std::alloc::Global;
 use std::io::{Read, Write};
 use std::sync::Wait;
 use std::thread::Threads;
 
-/// The minimal winning coalitions of a game in listing order, where there are at most so many.
-fn list<T: Threads + Wait + Sync, G: Gate + Sync>(
+/// The minimal winning coalitions of a game, as its workers listed them, where there are at most so many.
+fn gathered<T: Threads + Wait + Sync, G: Gate + Sync>(
     rt: &T,
     alloc: Global,
     game: &Game,
     options: &Options,
     gate: &G,
-) -> Result<Vec<Coalition>, Cause>
-    ensures ok { IfOk result (λ v. IsListed game.now options.now.most v.items) }
+) -> Result<Gathered, Cause>
+    ensures ok { IfOk result (IsGathered game.now options.now.most) }
     ensures err { IfErr result (IsUnlisted game.now options.now.most) }
 {
     let bits = options.bits.min(game.members() as u8);
     let guarded = Guarded::new(game, gate);
     match gather(rt, alloc, &guarded, bits, options.workers, options.most) {
-        Ok(gathered) => match gathered.in_order(alloc) {
-            Ok(list) => Ok(list),
-            Err(_) => Err(Cause::Memory),
-        },
+        Ok(gathered) => Ok(gathered),
         Err(fault) => Err(Cause::Gather(fault)),
     }
+}
+
+/// The pieces that lie in the parts of the workers, slice after slice: joined, they are all minimal winning
+/// coalitions of the game in listing order.
+fn pieces<'a>(
+    alloc: Global,
+    game: &Game,
+    gathered: &'a Gathered,
+    most: u32,
+) -> Result<Vec<&'a [Coalition]>, Memory>
+    requires { IsGathered game.now most gathered.now }
+    ensures { IfOk result (λ row. IsListed game.now most (flat_map (λ p. p.now) row.items)) }
+{
+    gathered.pieces(alloc)
 }
 
 /// Reads a game, lists its minimal winning coalitions by worker threads, and writes its report and
@@ -58,11 +72,17 @@ pub fn run<T: Threads + Wait + Sync, R: Read, W: Write, G: Gate + Sync>(
         Ok(game) => game,
         Err(fault) => return Err(RunFault::early(Cause::Game(fault))),
     };
-    let list = match list(rt, alloc, &game, options, gate) {
-        Ok(list) => list,
+    let gathered = match gathered(rt, alloc, &game, options, gate) {
+        Ok(gathered) => gathered,
         Err(cause) => return Err(RunFault::early(cause)),
     };
-    match write_report(alloc, &game, &list, options.shown(), writer) {
+    let Ok(pieces) = pieces(alloc, &game, &gathered, options.most) else {
+        return Err(RunFault::early(Cause::Memory));
+    };
+    let Ok(counts) = WideCounts::of_pieces(rt, alloc, &game, &pieces, options.workers) else {
+        return Err(RunFault::early(Cause::Memory));
+    };
+    match write_report_of(alloc, &game, &pieces, &counts, options.shown(), writer) {
         Ok(count) => Ok(count),
         Err(ReportFault::Memory) => Err(RunFault::early(Cause::Memory)),
         Err(ReportFault::Write { written }) => Err(RunFault {
