@@ -25,7 +25,7 @@ fn game(alloc: Global, quota: u64, weights: &[u64]) -> Result<Game, Fail> {
 struct Counted(AtomicU64);
 
 impl Watch for Counted {
-    fn counted(&self, _slice: u16) {
+    fn counted(&self, _slice: u16, _slices: u16) {
         self.0.fetch_add(1, Ordering::SeqCst);
     }
 }

@@ -2,8 +2,9 @@
 
 /// Who is told of each slice that was counted.
 pub trait Watch {
-    /// Slice `slice` was counted. The thread that counted it calls this, so calls may overlap.
-    fn counted(&self, slice: u16);
+    /// Slice `slice`, one of so many, was counted. The thread that counted it calls this, so calls
+    /// may overlap.
+    fn counted(&self, slice: u16, slices: u16);
 }
 
 /// Nobody is told.
@@ -11,5 +12,5 @@ pub trait Watch {
 pub struct NoWatch;
 
 impl Watch for NoWatch {
-    fn counted(&self, _slice: u16) {}
+    fn counted(&self, _slice: u16, _slices: u16) {}
 }

@@ -100,7 +100,7 @@ impl<'a, W: Watch> Work<'a, W> {
                 &[slice],
                 &tally_slice(self.game, bits, slice),
             )?;
-            self.watch.counted(slice);
+            self.watch.counted(slice, slices);
         }
         Ok(share)
     }
