@@ -64,7 +64,7 @@ some-none : (i : ℕ) → ◌≡◌ {A = Option ℕ} (Some i) None → ⊥
 some-none i h = cc
 
 -- a test that finds no entry was tried on all
-none-found : {X : Type 0} (f : X → Bool) (xs : List X) → position f xs ≡ None → length xs ≤ position_or_len f xs
+pub none-found : {X : Type 0} (f : X → Bool) (xs : List X) → position f xs ≡ None → length xs ≤ position_or_len f xs
 none-found f xs none = elim (cases_lt (position_or_len f xs) (length xs)) [
   | inl found ↦ absurd (some-none _ (sym (cond-true _ (Some (position_or_len f xs)) None (lt-ltb _ _ found)) ∙ none))
   | inr all ↦ all

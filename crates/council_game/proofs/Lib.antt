@@ -15,3 +15,4 @@ pub mod Listing
 pub mod Sizes
 pub mod RankPlaces
 pub mod Digits
+pub mod Bounds

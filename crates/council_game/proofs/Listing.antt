@@ -1,5 +1,5 @@
 -- The list of minimal coalitions.
-use Rattle.std.proofs.Common.{◌≡◌, ◌≢◌, ℕ, zero, suc, ◌+◌, ◌-◌, ◌*◌, ◌/◌, ◌%◌, ◌^◌, ◌<◌, ◌≤◌, Bool, true, false, leb, List, [], ◌∷◌, ◌++◌, length, sum, refl, sym, ap, ◌∙◌, subst, arith, inl, inr}
+use Rattle.std.proofs.Common.{◌≡◌, ◌≢◌, ℕ, zero, suc, ◌+◌, ◌-◌, ◌*◌, ◌/◌, ◌%◌, ◌^◌, ◌<◌, ◌≤◌, Bool, true, false, not, leb, List, [], ◌∷◌, ◌++◌, length, sum, refl, sym, ap, ◌∙◌, subst, arith, inl, inr}
 use Rattle.std.specs.List.{AllByRecursion, All, AllPairs, filter}
 use Rattle.std.proofs.lemmas.Nat.{pow_pos, div-mul-add, one_shl}
 use Rattle.std.proofs.lemmas.List.{append_assoc, append-nil}
@@ -7,6 +7,7 @@ use Rattle.std.proofs.Math.Nat.{pow-suc, pow-le-pow_right}
 use Rattle.std.proofs.lemmas.List.Elements.{All-cons, All-nil, All-weaker, All-filter, filter_passes}
 use Rattle.std.proofs.lemmas.List.Kept.{AllPairs-cons, AllPairs-filter}
 use Rattle.std.proofs.lemmas.List.Sums.{sum_by-cons}
+use Rattle.std.proofs.lemmas.List.Filters.{length-filter_both}
 use Rattle.std.proofs.lemmas.Bool.{and_parts, and_from, le-leb, leb-true, cases_Bool, cases_eq, both_ways, cond-true, cond-false}
 use Rattle.council_game.specs.Votes.{RuleView, Votes, IsRule, IsVotes, weight, wins, minimal, down, minimal_below, minimal_coalitions}
 use Rattle.council_game.specs.Laws.{IsListing}
@@ -69,6 +70,11 @@ some-left p (suc n) m lt h =
           ]) h)
     ]
 
+length-down : (n : ℕ) → length (down n) ≡ n
+unfolding down
+length-down zero = refl
+length-down (suc n) = ap (λ (k : ℕ). suc k) (length-down n)
+
 pub listing-is : (v : Votes) → IsVotes v → IsListing v
 unfolding minimal_coalitions minimal_below minimal
 listing-is v game =
@@ -76,6 +82,7 @@ listing-is v game =
     let found = minimal-below_winning v (2 ^ v.members) (2 ^ v.members - 1) (omega arith) (wins-full v.members v.rules game.4) in
     record {
       some = some-left (minimal v) (2 ^ v.members) found.0 (omega (arith, found.1)) found.2;
+      few = (let parts = length-filter_both (minimal v) (λ c. not (minimal v c)) (λ c. refl) (down (2 ^ v.members)) in let all = length-down (2 ^ v.members) in omega (arith, parts, all));
       below = All-filter (minimal v) (λ c. c < 2 ^ v.members) (down (2 ^ v.members)) (down-below (2 ^ v.members) (2 ^ v.members) (omega arith));
       descending = AllPairs-filter (λ a b. b < a) (minimal v) (down (2 ^ v.members)) (down-descends (2 ^ v.members));
       none_empty = All-weaker (λ c. minimal v c ≡ true) (λ c. c ≢ 0) (λ c min e. none-wins v.members v.rules game.4 game.2 (ap (wins v.rules) (sym e) ∙ (and_parts _ _ min).0)) (filter (minimal v) (down (2 ^ v.members))) (filter_passes (minimal v) (down (2 ^ v.members)));

@@ -1,5 +1,5 @@
 -- What the laws say of every game.
-use Rattle.std.specs.Prelude.{ℕ, ◌^◌, ◌≡◌, ◌≢◌, ◌<◌, ◌↔◌, true, false, List, length, map, slice_index}
+use Rattle.std.specs.Prelude.{ℕ, ◌^◌, ◌≡◌, ◌≢◌, ◌<◌, ◌≤◌, ◌↔◌, true, false, List, length, map, slice_index}
 use Rattle.std.specs.List.{All, AllPairs, sum}
 use Rattle.council_game.specs.Votes.{Votes, has, without, weight, places_of, wins, minimal, minimal_coalitions}
 
@@ -19,9 +19,11 @@ IsProperSubset n a c = ((p : ℕ) → p < n → has n p a ≡ true → has n p c
 abbrev pub ProperSubsetsLose : Votes → Type 0
 ProperSubsetsLose v = (a c : ℕ) → a < 2 ^ v.members → c < 2 ^ v.members → minimal v c ≡ true → IsProperSubset v.members a c → wins v.rules a ≡ false
 
--- the list of minimal coalitions is not empty, strictly descending, and has coalitions of the game alone, none of them empty
+-- the list of minimal coalitions is not empty, no longer than the game has coalitions, strictly descending, and has
+-- coalitions of the game alone, none of them empty
 pub record IsListing (v : Votes) : Type 0 where
   pub some : 0 < length (minimal_coalitions v)
+  pub few : length (minimal_coalitions v) ≤ 2 ^ v.members
   pub descending : AllPairs (λ a b. b < a) (minimal_coalitions v)
   pub none_empty : All (λ c. c ≢ 0) (minimal_coalitions v)
   pub below : All (λ c. c < 2 ^ v.members) (minimal_coalitions v)
