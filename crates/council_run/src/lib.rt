@@ -5,9 +5,12 @@
 mod fault;
 mod options;
 mod runs;
+mod tallies;
 #[cfg(test)]
 mod tests;
 
 pub use fault::{Cause, RunFault, status};
 pub use options::Options;
+pub use mwc_tally::{NoWatch, Watch};
 pub use runs::run;
+pub use tallies::tally;

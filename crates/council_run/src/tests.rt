@@ -3,7 +3,7 @@ mod refusals;
 
 ghost use Rattle.std.specs.Prelude.{◌≤◌, ◌<◌};
 
-use crate::{Cause, Options, RunFault, run, status};
+use crate::{Cause, NoWatch, Options, RunFault, run, status, tally};
 use council_game::GameFault;
 use mwc_gather::{Gate, GatherFault, NoGate};
 use std::alloc::Global;
@@ -327,6 +327,17 @@ fn a_failing_reader_is_the_fault_of_the_game(rt: HostRuntime) -> Result<(), Fail
             }
         }
     }
+    Ok(())
+}
+
+/// A tally writes the same report, whatever the greatest number is.
+#[test]
+fn a_tally_writes_the_same_report(rt: HostRuntime) -> Result<(), Fail> {
+    let mut input: &[u8] = BOARD;
+    let mut report = Vec::new(rt.alloc());
+    let count = tally(&rt, rt.alloc(), &mut input, &most(1), &NoWatch, &mut report);
+    assert_eq!(rt; report.as_slice(), BOARD_REPORT);
+    assert_eq!(rt; count, Ok(BOARD_REPORT.len() as u64));
     Ok(())
 }
 

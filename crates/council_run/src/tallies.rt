@@ -1,0 +1,86 @@
+//! A tally: a run that keeps no coalition.
+ghost use Rattle.std.specs.Prelude.{◌≡◌, IfOk, IfErr};
+ghost use Rattle.council_game.specs.Game.{votes_of};
+ghost use Rattle.council_game.specs.Votes.{minimal_coalitions};
+ghost use Rattle.power_index.specs.Tables.{AreCounts};
+ghost use Rattle.council_run.specs.Tallied.{IsUncounted, StopsTally, Tallies, unlisted};
+
+use crate::fault::{Cause, RunFault};
+use crate::options::Options;
+use council_file::read_game;
+use council_game::Game;
+use council_report::{ReportFault, Shown, write_tally};
+use mwc_gather::GatherFault;
+use mwc_tally::{TallyFault, Watch};
+use power_index::WideCounts;
+use std::alloc::Global;
+use std::io::{Read, Write};
+use std::sync::Wait;
+use std::thread::Threads;
+
+/// The lines that the report of a tally shows: none for a coalition.
+fn unlisted(options: &Options) -> Shown
+    ensures { result ≡ unlisted options.now }
+{
+    Shown {
+        list: false,
+        sizes: options.sizes,
+        notation: options.notation,
+    }
+}
+
+/// The counts of all minimal winning coalitions of a game.
+fn count<T: Threads + Wait + Sync, V: Watch + Sync>(
+    rt: &T,
+    alloc: Global,
+    game: &Game,
+    options: &Options,
+    watch: &V,
+) -> Result<WideCounts, Cause>
+    ensures ok { IfOk result
+        (λ c. AreCounts game.now (minimal_coalitions (votes_of game.now)) c) }
+    ensures err { IfErr result IsUncounted }
+{
+    let bits = options.bits.min(game.members() as u8);
+    match mwc_tally::tally(rt, alloc, game, bits, options.workers, watch) {
+        Ok(counts) => Ok(counts),
+        Err(TallyFault::Memory) => Err(Cause::Memory),
+        Err(TallyFault::Start) => Err(Cause::Gather(GatherFault::Start)),
+    }
+}
+
+/// Reads a game, counts its minimal winning coalitions by worker threads, however many these are, and
+/// writes its report, with no line for a coalition, and nothing else. No coalition is kept, so the
+/// memory does not grow with their number, and `most` and `list` of the options are not looked at. The
+/// answer is the number of bytes written. It may wait for its workers.
+///
+/// Of the bytes that go out and of the faults all holds that holds of `run`; there are never too many
+/// coalitions.
+pub fn tally<T: Threads + Wait + Sync, R: Read, W: Write, V: Watch + Sync>(
+    rt: &T,
+    alloc: Global,
+    reader: &mut R,
+    options: &Options,
+    watch: &V,
+    writer: &mut W,
+) -> Result<u64, RunFault>
+    ensures ok { IfOk result (λ len. Tallies options.now (record { unread = R.remaining reader.old; left = R.remaining reader.new; before = W.contents writer.old; after = W.contents writer.new }) len) }
+    ensures err { IfErr result (λ fault. StopsTally options.now (record { unread = R.remaining reader.old; left = R.remaining reader.new; before = W.contents writer.old; after = W.contents writer.new }) fault.cause fault.written) }
+{
+    let game = match read_game(alloc, reader) {
+        Ok(game) => game,
+        Err(fault) => return Err(RunFault::early(Cause::Game(fault))),
+    };
+    let counts = match count(rt, alloc, &game, options, watch) {
+        Ok(counts) => counts,
+        Err(cause) => return Err(RunFault::early(cause)),
+    };
+    match write_tally(alloc, &game, &counts, unlisted(options), writer) {
+        Ok(count) => Ok(count),
+        Err(ReportFault::Memory) => Err(RunFault::early(Cause::Memory)),
+        Err(ReportFault::Write { written }) => Err(RunFault {
+            cause: Cause::Write,
+            written,
+        }),
+    }
+}
