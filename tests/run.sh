@@ -41,10 +41,11 @@ else
         count bash "tests/$test.sh" "$program"
     done
     if command -v python3 >/dev/null; then
+        count python3 tests/memory_source.py
         count python3 tests/noise.py "$program" 300 1
         count python3 tests/random_games.py "$program" 150 1
     else
-        for test in noise random_games; do
+        for test in memory_source noise random_games; do
             echo "skipped $test: the command python3 was not found"
             skipped=$((skipped + 1))
         done
