@@ -1,10 +1,11 @@
 -- Turns of desks.
-use Rattle.std.specs.Prelude.{◌≡◌, ℕ, ◌+◌, ◌<◌, Bool, true, false, zero, suc, [], ◌∷◌, List, Option, None, All, length, replicate}
+use Rattle.std.specs.Prelude.{◌≡◌, ℕ, ◌+◌, ◌<◌, Bool, true, false, ◌||◌, zero, suc, [], ◌∷◌, List, Option, None, All, length, replicate}
 use Rattle.std.proofs.Common.{set, get_or, ap, subst, arith, sym, ◌∙◌}
+use Rattle.std.proofs.Math.Bool.{or-false}
 use Rattle.std.proofs.lemmas.List.{length-set, map-set, get_or-set_other, length-map, get_or_default}
 use Rattle.std.proofs.lemmas.List.Elements.{All-set, All-head, All-tail}
 use Rattle.mwc_parts.specs.Slicing.{Slicing}
-use Rattle.mwc_parts.specs.Dealing.{Seat, Dealing, Turns, FirstDeals, IsFresh}
+use Rattle.mwc_parts.specs.Dealing.{Seat, Dealing, Turns, FirstDeals, IsFresh, is_ill}
 use Rattle.mwc_parts.proofs.Turns as turns
 use Rattle.mwc_parts.proofs.Firsts as firsts
 use Rattle.mwc_gather.specs.declared.promise.Task.{Task}
@@ -21,15 +22,19 @@ all_of_set g most desks i d t l e p a =
     let o : P d = subst P (sym e) (a i d l) in
     All-set P desks i t (ap (λ (x : Task). slicing_of x.order) p ∙ o.0, ap (λ (x : Task). x.order.most) p ∙ o.1) a
 
-fresh_at : (desks : List Desk) → All IsFresh (seats desks) → (k : ℕ) (d : Desk) → k < length desks → (get_or desks k d).told ≡ false
+fresh_at : (desks : List Desk) → All IsFresh (seats desks) → (k : ℕ) (d : Desk) → k < length desks → IsFresh (seat (get_or desks k d))
 fresh_at [] f k d l = absurd (omega arith)
-fresh_at (x ∷ desks) f zero d l = let h = All-head IsFresh (seat x) (seats desks) f in h.1
+fresh_at (x ∷ desks) f zero d l = All-head IsFresh (seat x) (seats desks) f
 fresh_at (x ∷ desks) f (suc k) d l = fresh_at desks (All-tail IsFresh (seat x) (seats desks) f) k d (omega arith)
 
+-- a fresh desk does not stop the deal
+pub fresh_goes : (stopped : Bool) (d : Desk) → IsFresh (seat d) → (stopped || is_ill (seat d)) ≡ stopped
+fresh_goes stopped d f = ap (λ (b : Bool). stopped || b) (turns.not_ill (seat d) f.well) ∙ or-false stopped
+
 -- a turn of desk i
-pub turn_at : {g : Slicing} {most : ℕ} {early stopped stops : Bool} {marks after : List (Option ℕ)} (desks : List Desk) (i : ℕ) (d t : Desk) → i < length desks → d ≡ get_or desks i d
-    → DealsTo g most early marks stopped desks → t.worker.promise ≡ d.worker.promise → Turns false marks stopped (seat d) i after stops (seat t) → DealsTo g most early after stops (set desks i t)
-turn_at {g} {most} {early} {stopped} {stops} {marks} {after} desks i d t l e h p r =
+pub turn_at : {g : Slicing} {most : ℕ} {done early stopped stops : Bool} {marks after : List (Option ℕ)} (desks : List Desk) (i : ℕ) (d t : Desk) → i < length desks → d ≡ get_or desks i d
+    → DealsTo g most early marks stopped desks → t.worker.promise ≡ d.worker.promise → Turns done marks stopped (seat d) i after stops (seat t) → DealsTo g most early after stops (set desks i t)
+turn_at {g} {most} {done} {early} {stopped} {stops} {marks} {after} desks i d t l e h p r =
     let n = length-map desks seat in
     let same : length (set desks i t) ≡ length desks = length-set desks i t in
     let x = turns.turn (seats desks) i (seat d) (seat t) (omega arith) (seat_at desks i d l e) h.dealing r in
@@ -41,16 +46,16 @@ turn_at {g} {most} {early} {stopped} {stops} {marks} {after} desks i d t l e h p
 
 -- the first deal to desk k
 pub first_at : {g : Slicing} {most : ℕ} {early stopped stops : Bool} {marks after : List (Option ℕ)} (desks : List Desk) (k : ℕ) (d t : Desk) → k < length desks → d ≡ get_or desks k d
-    → DealsFirst g most early marks stopped k desks → t.worker.promise ≡ d.worker.promise → Turns true marks stopped (seat d) k after stops (seat t) → DealsFirst g most early after stops (k + 1) (set desks k t)
+    → DealsFirst g most early marks stopped k desks → t.worker.promise ≡ d.worker.promise → Turns false marks stopped (seat d) k after stops (seat t) → DealsFirst g most early after stops (k + 1) (set desks k t)
 first_at {g} {most} {early} {stopped} {stops} {marks} {after} desks k d t l e h p r =
     let n = length-map desks seat in
     let same : length (set desks k t) ≡ length desks = length-set desks k t in
-    let fresh : d.told ≡ false = subst (λ (x : Desk). x.told ≡ false) (sym e) (h.to_come k d (omega arith) l) in
+    let fresh : IsFresh (seat d) = subst (λ (x : Desk). IsFresh (seat x)) (sym e) (h.to_come k d (omega arith) l) in
     let x = firsts.first_turn (seats desks) k (seat d) (seat t) (omega arith) (seat_at desks k d l e) fresh h.firsts r in
     record {
       all_of = all_of_set g most desks k d t l e p h.all_of;
       firsts = subst (λ (w : List Seat). FirstDeals g.slices (k + 1) early after stops w) (sym (map-set seat desks k t)) x;
-      to_come = λ q a low high. subst (λ (x : Desk). x.told ≡ false) (sym (get_or-set_other desks k q t a (λ z. omega arith))) (h.to_come q a (omega arith) (omega arith));
+      to_come = λ q a low high. subst (λ (x : Desk). IsFresh (seat x)) (sym (get_or-set_other desks k q t a (λ z. omega arith))) (h.to_come q a (omega arith) (omega arith));
     }
 
 pub deal_starts : {g : Slicing} {most : ℕ} (early : Bool) (marks : List (Option ℕ)) (desks : List Desk) → AllOf g most desks → All IsFresh (seats desks) → marks ≡ replicate g.slices None → DealsFirst g most early marks early 0 desks
@@ -61,12 +66,12 @@ deal_starts {g} {most} early marks desks a f e = record {
 }
 
 -- the same, of what stands at a place
-pub turn_of : {g : Slicing} {most : ℕ} {early stopped stops : Bool} {marks after : List (Option ℕ)} (desks : List Desk) (i : ℕ) (x t : Desk) → i < length desks
-    → DealsTo g most early marks stopped desks → t.worker.promise ≡ (get_or desks i x).worker.promise → Turns false marks stopped (seat (get_or desks i x)) i after stops (seat t) → DealsTo g most early after stops (set desks i t)
+pub turn_of : {g : Slicing} {most : ℕ} {done early stopped stops : Bool} {marks after : List (Option ℕ)} (desks : List Desk) (i : ℕ) (x t : Desk) → i < length desks
+    → DealsTo g most early marks stopped desks → t.worker.promise ≡ (get_or desks i x).worker.promise → Turns done marks stopped (seat (get_or desks i x)) i after stops (seat t) → DealsTo g most early after stops (set desks i t)
 turn_of desks i x t l h p r = turn_at desks i (get_or desks i x) t l (get_or_default desks i x (get_or desks i x) l) h p r
 
 pub first_of_place : {g : Slicing} {most : ℕ} {early stopped stops : Bool} {marks after : List (Option ℕ)} (desks : List Desk) (k : ℕ) (x t : Desk) → k < length desks
-    → DealsFirst g most early marks stopped k desks → t.worker.promise ≡ (get_or desks k x).worker.promise → Turns true marks stopped (seat (get_or desks k x)) k after stops (seat t) → DealsFirst g most early after stops (k + 1) (set desks k t)
+    → DealsFirst g most early marks stopped k desks → t.worker.promise ≡ (get_or desks k x).worker.promise → Turns false marks stopped (seat (get_or desks k x)) k after stops (seat t) → DealsFirst g most early after stops (k + 1) (set desks k t)
 first_of_place desks k x t l h p r = first_at desks k (get_or desks k x) t l (get_or_default desks k x (get_or desks k x) l) h p r
 
 pub firsts_end : {g : Slicing} {most : ℕ} {early stopped : Bool} {marks : List (Option ℕ)} (k m : ℕ) (desks : List Desk) → k ≡ m → DealsFirst g most early marks stopped k desks → DealsFirst g most early marks stopped m desks

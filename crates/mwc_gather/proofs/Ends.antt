@@ -155,7 +155,7 @@ ends_well {g} desks taken parts start f h e a b n l z =
 pub end_begins : {g : Slicing} {most : ℕ} {early stopped : Bool} {marks : List (Option ℕ)} (desks : List Desk) (parts : List Part) → DealsTo g most early marks stopped desks → early ≡ false → AllZip (Finished g) desks parts → (w : ℕ) → w < length desks → w < g.slices → (rest : List ℕ) × (get_or (shares parts) w [] ≡ w ∷ rest)
 end_begins {g} desks parts h e z w a b =
     let n = length-map desks seat in
-    let r = share_begins (seats desks) h.dealing (h.dealing.stops e (zip_well g desks parts z)) (omega arith) w a b in
+    let r = share_begins (seats desks) h.dealing (turns.well_goes_on (seats desks) e h.dealing (zip_well g desks parts z)) (omega arith) w a b in
     (r.0, ap (λ (s : List (List ℕ)). get_or s w []) (zip_shares g desks parts z) ∙ r.1)
 
 -- where no fault was met, the parts are complete

@@ -1,14 +1,43 @@
 -- Words that are put and read.
-use Rattle.std.specs.Prelude.{◌≡◌, ℕ, Bool, true, false, List, [], ◌∷◌, ◌++◌}
-use Rattle.std.proofs.Common.{ap, sym, ◌∙◌}
+use Rattle.std.specs.Prelude.{◌≡◌, ℕ, ◌+◌, ◌≤◌, Bool, true, false, ◌||◌, cond, List, [], ◌∷◌, ◌++◌, count_by, refl}
+use Rattle.std.specs.List.{list_any}
+use Rattle.std.proofs.Common.{ap, arith, sym, ◌∙◌}
+use Rattle.std.proofs.lemmas.List.Sums.{sum_by-append, sum_by-cons}
 use Rattle.std.proofs.lemmas.Bool.{false≢true}
 use Rattle.std.proofs.lemmas.List.{append-nil}
 use Rattle.mwc_pipe.specs.declared.word.Word.{Word}
-use Rattle.mwc_pipe.specs.declared.word.Word.TheVariants.{Open}
-use Rattle.mwc_parts.specs.Wording.{opens, told_words}
+use Rattle.mwc_pipe.specs.declared.word.Word.TheVariants.{Open, One, Done, End}
+use Rattle.mwc_parts.specs.Wording.{opens, told_words, is_done}
 use Rattle.mwc_gather.proofs.Wordings.{opens-more}
 
 pub opens_given : (accepted : List Word) (given : List ℕ) (told : Bool) (j : ℕ) → told ≡ false → accepted ≡ opens given ++ told_words told → accepted ++ Open j ∷ [] ≡ opens (given ++ j ∷ []) ++ told_words told
 opens_given accepted given true j z e = absurd (false≢true (sym z))
 opens_given accepted given false j z e =
     ap (λ (w : List Word). w ++ Open j ∷ []) (e ∙ append-nil (opens given)) ∙ sym (opens-more given j) ∙ sym (append-nil (opens (given ++ j ∷ [])))
+
+-- the words that tell that a slice is whole
+done_more : (before row : List Word) → count_by is_done (before ++ row) ≡ count_by is_done before + count_by is_done row
+done_more before row = sum_by-append (λ (w : Word). cond (is_done w) 1 0) before row
+
+done_counts : (row : List Word) → list_any is_done row ≡ true → 1 ≤ count_by is_done row
+done_counts [] e = absurd (false≢true e)
+done_counts (Done j ∷ row) e = let s = sum_by-cons (λ (w : Word). cond (is_done w) 1 0) (Done j) row in omega arith
+done_counts (Open j ∷ row) e = let s = sum_by-cons (λ (w : Word). cond (is_done w) 1 0) (Open j) row in let r = done_counts row e in omega arith
+done_counts (One j ∷ row) e = let s = sum_by-cons (λ (w : Word). cond (is_done w) 1 0) (One j) row in let r = done_counts row e in omega arith
+done_counts (End j ∷ row) e = let s = sum_by-cons (λ (w : Word). cond (is_done w) 1 0) (End j) row in let r = done_counts row e in omega arith
+
+-- a worker that had one slice at most still to finish has no more of them after it sent more words
+pub ahead_more : (n : ℕ) (before row after : List Word) → after ≡ before ++ row → n ≤ count_by is_done before + 1 → n ≤ count_by is_done after + 1
+ahead_more n before row after e l =
+    let a : count_by is_done after ≡ count_by is_done (before ++ row) = ap (λ (w : List Word). count_by is_done w) e in
+    let m = done_more before row in omega arith
+
+-- and none where it was idle, or has said that it is done
+pub idle_more : (n : ℕ) (idle now : Bool) (before row after : List Word) → after ≡ before ++ row → now ≡ (idle || list_any is_done row)
+    → n ≤ count_by is_done before + 1 → (idle ≡ true → n ≤ count_by is_done before) → now ≡ true → n ≤ count_by is_done after
+idle_more n true now before row after e f l i z =
+    let a : count_by is_done after ≡ count_by is_done (before ++ row) = ap (λ (w : List Word). count_by is_done w) e in
+    let m = done_more before row in let k : n ≤ count_by is_done before = i refl in omega arith
+idle_more n false now before row after e f l i z =
+    let a : count_by is_done after ≡ count_by is_done (before ++ row) = ap (λ (w : List Word). count_by is_done w) e in
+    let m = done_more before row in let k = done_counts row (sym f ∙ z) in omega arith

@@ -1,19 +1,12 @@
 -- What the workers of some desks were given.
 use Rattle.std.specs.Prelude.{◌≡◌, ℕ, Bool, true, false, List, Option, All, length, map}
 use Rattle.std.specs.List.{AllWithin}
-use Rattle.mwc_pipe.specs.declared.word.Word.{Word}
-use Rattle.mwc_pipe.specs.declared.word.Word.TheVariants.{Done}
 use Rattle.mwc_parts.specs.Slicing.{Slicing}
 use Rattle.mwc_parts.specs.Parts.{IsPart}
 use Rattle.mwc_parts.specs.declared.part.Part.{Part}
-use Rattle.mwc_parts.specs.Dealing.{Seat, IsWell, Dealing, FirstDeals}
+use Rattle.mwc_parts.specs.Dealing.{Seat, IsWell, IsFresh, Dealing, FirstDeals}
 use Rattle.mwc_gather.specs.Orders.{slicing_of}
 use Rattle.mwc_gather.specs.declared.desk.Desk.{Desk}
-
--- whether a word tells that a slice is whole
-abbrev pub is_done : Word → Bool
-is_done (Done j) = true
-is_done _ = false
 
 -- the worker was given this game and this limit
 abbrev pub IsOf : Slicing → ℕ → Desk → Type 0
@@ -23,7 +16,7 @@ abbrev pub AllOf : Slicing → ℕ → List Desk → Type 0
 AllOf g most desks = All (IsOf g most) desks
 
 abbrev pub seat : Desk → Seat
-seat d = record { given = d.given.items; told = d.told; lost = d.draft.lost; cut = d.draft.cut }
+seat d = record { given = d.given.items; idle = d.idle; told = d.told; lost = d.draft.lost; cut = d.draft.cut }
 
 abbrev pub seats : List Desk → List Seat
 seats desks = map seat desks
@@ -44,4 +37,4 @@ pub record DealsTo (g : Slicing) (most : ℕ) (early : Bool) (marks : List (Opti
 pub record DealsFirst (g : Slicing) (most : ℕ) (early : Bool) (marks : List (Option ℕ)) (stopped : Bool) (k : ℕ) (desks : List Desk) : Type 0 where
   pub all_of : AllOf g most desks
   pub firsts : FirstDeals g.slices k early marks stopped (seats desks)
-  pub to_come : AllWithin (λ (d : Desk). d.told ≡ false) desks k (length desks)
+  pub to_come : AllWithin (λ (d : Desk). IsFresh (seat d)) desks k (length desks)

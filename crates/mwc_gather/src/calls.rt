@@ -1,15 +1,15 @@
 //! What the gatherer does with a desk.
-ghost use Rattle.std.specs.Prelude.{◌≡◌, ◌≢◌, ◌+◌, ◌<◌, ◌≤◌, ◌^◌, ◌++◌, ◌∷◌, [], List, IfOk, IsTrue, IsFalse, true, false, length, take, vec_len, vec_capacity};
+ghost use Rattle.std.specs.Prelude.{◌≡◌, ◌||◌, ◌+◌, ◌<◌, ◌≤◌, ◌^◌, ◌++◌, ◌∷◌, [], List, IfOk, IfErr, if◌then◌else◌, IsTrue, IsFalse, true, false, length, take, vec_len, vec_capacity};
 ghost use Rattle.std.specs.List.{list_any};
 ghost use Rattle.mwc_pipe.specs.declared.word.Word.{Word};
-ghost use Rattle.mwc_parts.specs.Wording.{total};
+ghost use Rattle.mwc_parts.specs.Wording.{total, is_done};
 ghost use Rattle.mwc_parts.specs.Dealing.{IsFresh};
 ghost use Rattle.mwc_parts.specs.Fault.{OnTooMany};
 ghost use Rattle.mwc_parts.specs.Settled.{Keeps, IsWhole};
 ghost use Rattle.mwc_gather.specs.Slicings.{slicing};
 ghost use Rattle.mwc_gather.specs.Sending.{Worked};
 ghost use Rattle.mwc_gather.specs.Orders.{slicing_of};
-ghost use Rattle.mwc_gather.specs.Desks.{IsOf, is_done, seat, Finished};
+ghost use Rattle.mwc_gather.specs.Desks.{IsOf, seat, Finished};
 
 use crate::desk::Desk;
 use crate::guarded::{Gate, Guarded};
@@ -92,6 +92,7 @@ impl Desk {
         ensures room { IsTrue result → (vec_len self.new.given < vec_capacity self.new.given) × (self.new.draft.lost ≡ self.old.draft.lost) }
         ensures lost { IsFalse result → self.new.draft.lost ≡ true }
         ensures same { (self.new.given.items ≡ self.old.given.items) × (self.new.told ≡ self.old.told) × (self.new.ended ≡ self.old.ended) × (self.new.draft.cut ≡ self.old.draft.cut) }
+        ensures words { (self.new.words.taken ≡ self.old.words.taken) × (self.new.idle ≡ self.old.idle) }
     {
         if self.given.reserve(1).is_err() {
             self.draft.lose();
@@ -100,14 +101,16 @@ impl Desk {
         true
     }
 
-    /// Gives the worker a slice.
+    /// Gives the worker a slice, once it has finished all that it was given.
     pub fn assign<R: Wait>(&mut self, rt: &R, slice: u16, own: &Bell, other: &Bell)
         requires slice { slice < 2 ^ self.old.worker.promise.order.bits }
         requires room { vec_len self.old.given < vec_capacity self.old.given }
         requires told { self.old.told ≡ false }
+        requires idle { self.old.idle ≡ true }
         ensures worker { self.new.worker.promise ≡ self.old.worker.promise }
         ensures given { self.new.given.items ≡ self.old.given.items ++ slice ∷ [] }
         ensures same { (self.new.told ≡ false) × (self.new.ended ≡ self.old.ended) × (self.new.draft.lost ≡ self.old.draft.lost) × (self.new.draft.cut ≡ self.old.draft.cut) }
+        ensures words { (self.new.words.taken ≡ self.old.words.taken) × (self.new.idle ≡ false) }
     {
         self.given.push_reserved(slice);
         put(rt, &mut self.tasks, Word::Open(slice), own, other);
@@ -120,6 +123,7 @@ impl Desk {
         ensures worker { self.new.worker.promise ≡ self.old.worker.promise }
         ensures told { self.new.told ≡ true }
         ensures same { (self.new.given.items ≡ self.old.given.items) × (self.new.ended ≡ self.old.ended) × (self.new.draft.lost ≡ self.old.draft.lost) × (self.new.draft.cut ≡ self.old.draft.cut) }
+        ensures words { (self.new.words.taken ≡ self.old.words.taken) × (self.new.idle ≡ self.old.idle) }
     {
         put(rt, &mut self.tasks, Word::End { cut: false }, own, other);
         self.told = true;
@@ -130,6 +134,7 @@ impl Desk {
     pub fn read(&mut self, row: &mut [Word]) -> usize
         ensures worker { self.new.worker.promise ≡ self.old.worker.promise }
         ensures same { (self.new.given.items ≡ self.old.given.items) × (self.new.told ≡ self.old.told) }
+        ensures idle { self.new.idle ≡ (self.old.idle || list_any is_done (take result row.new)) }
         ensures taken { (result ≤ length row.new) × (self.new.words.taken ≡ self.old.words.taken ++ take result row.new) }
         ensures lost { self.new.draft.lost ≡ false → self.old.draft.lost ≡ false }
         ensures cut { self.new.draft.cut ≡ false → self.old.draft.cut ≡ false }
@@ -150,6 +155,7 @@ impl Desk {
         ensures lost { IfOk result (λ r. r.1.lost ≡ false → self.draft.lost ≡ false) }
         ensures cut { IfOk result (λ r. r.1.cut ≡ false → self.draft.cut ≡ false) }
         ensures many { OnTooMany result ⊥ }
+        ensures ring { IfErr result (λ e. e ≡ (if self.draft.lost then GatherFault.Memory else GatherFault.Ring)) }
     {
         let Desk {
             worker,
@@ -179,6 +185,7 @@ impl Desk {
 pub(crate) fn finish_part<R: Threads>(desk: Desk, rt: &R) -> Result<Part, GatherFault>
     ensures part { IfOk result (Finished (slicing_of desk.worker.promise.order) desk) }
     ensures many { OnTooMany result (desk.worker.promise.order.most < total (slicing_of desk.worker.promise.order) desk.given.items) }
+    ensures memory { desk.draft.lost ≡ true → result ≡ Err GatherFault.Memory }
 {
     let (given, draft) = desk.finish(rt)?;
     settle(given, draft)
@@ -186,7 +193,7 @@ pub(crate) fn finish_part<R: Threads>(desk: Desk, rt: &R) -> Result<Part, Gather
 
 /// The fault where a ring could not be finished, unless something was lost before.
 fn ring_fault(draft: &Draft) -> GatherFault
-    ensures { result ≢ GatherFault.TooMany }
+    ensures { result ≡ (if draft.now.lost then GatherFault.Memory else GatherFault.Ring) }
 {
     if draft.lost {
         GatherFault::Memory

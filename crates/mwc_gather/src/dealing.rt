@@ -1,6 +1,9 @@
 //! Dealing slices to the workers while they run.
-ghost use Rattle.std.specs.Prelude.{◌≡◌, ◌<◌, ◌≤◌, ◌^◌, All, length, replicate, true, false};
-ghost use Rattle.mwc_parts.specs.Dealing.{Turns, IsFresh};
+ghost use Rattle.std.specs.Prelude.{◌≡◌, ◌<◌, ◌≤◌, ◌^◌, ◌||◌, ◌++◌, List, All, length, replicate, false};
+ghost use Rattle.std.specs.List.{list_any};
+ghost use Rattle.mwc_pipe.specs.declared.word.Word.{Word};
+ghost use Rattle.mwc_parts.specs.Wording.{is_done};
+ghost use Rattle.mwc_parts.specs.Dealing.{Turns, IsFresh, is_ill};
 ghost use Rattle.mwc_gather.specs.Orders.{slicing_of};
 ghost use Rattle.mwc_gather.specs.Desks.{seat, seats, AllOf, DealsTo, DealsFirst};
 
@@ -19,8 +22,8 @@ struct Progress {
     moved: bool,
 }
 
-/// Gives the worker the lowest slice without a holder, or tells it that there are no more. In a deal
-/// that is stopped nothing is given.
+/// Gives the worker, where it has finished its slices, the lowest slice without a holder, or tells it
+/// that there are no more. In a deal that is stopped nothing is given.
 fn deal<R: Wait>(
     rt: &R,
     marks: &mut Marks,
@@ -32,10 +35,15 @@ fn deal<R: Wait>(
 ) -> bool
     requires slices { length marks.old ≡ 2 ^ desk.old.worker.promise.order.bits }
     requires worker { worker < 16 }
+    requires stops { (stopped || is_ill (seat desk.old)) ≡ stopped }
     ensures worker { desk.new.worker.promise ≡ desk.old.worker.promise }
-    ensures turns { Turns true marks.old stopped (seat desk.old) worker marks.new result (seat desk.new) }
+    ensures words { desk.new.words.taken ≡ desk.old.words.taken }
+    ensures turns { Turns false marks.old stopped (seat desk.old) worker marks.new result (seat desk.new) }
 {
     if desk.told {
+        return stopped;
+    }
+    if !desk.idle {
         return stopped;
     }
     if stopped || !desk.ready() {
@@ -54,12 +62,14 @@ fn deal<R: Wait>(
     false
 }
 
-/// Whether the deal stops: it stays stopped, and a loss or a cut stops it.
+/// Whether the deal stops: it stays stopped, and a loss or a cut stops it, and nothing else.
 fn stops(stopped: bool, lost: bool, cut: bool) -> bool
-    ensures stays { stopped ≡ true → result ≡ true }
-    ensures goes_on { stopped ≡ false → lost ≡ false → cut ≡ false → result ≡ false }
+    ensures { result ≡ (stopped || (lost || cut)) }
 {
-    stopped || lost || cut
+    if stopped {
+        return true;
+    }
+    lost || cut
 }
 
 /// Takes the words of the worker that are there, and deals to it where it has finished its slices.
@@ -76,19 +86,19 @@ fn turn<R: Wait>(
     requires slices { length marks.old ≡ 2 ^ desk.old.worker.promise.order.bits }
     requires worker { worker < 16 }
     ensures worker { desk.new.worker.promise ≡ desk.old.worker.promise }
-    ensures turns { Turns false marks.old stopped (seat desk.old) worker marks.new result.stopped (seat desk.new) }
+    ensures turns { (words : List Word) × (desk.new.words.taken ≡ desk.old.words.taken ++ words)
+        × Turns (list_any is_done words) marks.old stopped (seat desk.old) worker marks.new result.stopped (seat desk.new) }
 {
-    let moved = desk.read(row) > 0;
-    if moved {
+    let count = desk.read(row);
+    if count > 0 {
         other.ring();
     }
     let stop = stops(stopped, desk.draft.lost, desk.draft.cut);
-    let stopped = if desk.idle {
-        deal(rt, marks, stop, desk, worker, own, other)
-    } else {
-        stop
-    };
-    Progress { stopped, moved }
+    let stopped = deal(rt, marks, stop, desk, worker, own, other);
+    Progress {
+        stopped,
+        moved: count > 0,
+    }
 }
 
 /// Deals one slice to each worker, and says whether the deal is stopped.

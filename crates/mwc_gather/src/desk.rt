@@ -1,6 +1,6 @@
 //! The gatherer's side of one worker.
-ghost use Rattle.std.specs.Prelude.{◌≡◌, ◌<◌, ◌^◌, ◌++◌, All};
-ghost use Rattle.mwc_parts.specs.Wording.{opens, told_words};
+ghost use Rattle.std.specs.Prelude.{◌≡◌, ◌+◌, ◌<◌, ◌≤◌, ◌^◌, ◌++◌, All, count_by, length, true};
+ghost use Rattle.mwc_parts.specs.Wording.{opens, told_words, is_done};
 ghost use Rattle.mwc_parts.specs.Settled.{Keeps};
 
 use crate::promise::{Answer, Task};
@@ -30,5 +30,7 @@ pub(crate) struct Desk {
     ghost tasks_ring: { worker.promise.tasks.value.ring ≡ tasks.ring },
     ghost keeps: { Keeps words.taken draft },
     ghost tasks_are: { tasks.accepted ≡ opens given.items ++ told_words told },
+    ghost one_ahead: { length given.items ≤ count_by is_done words.taken + 1 },
+    ghost idle_is_done: { idle ≡ true → length given.items ≤ count_by is_done words.taken },
     ghost below: { All (λ j. j < 2 ^ worker.promise.order.bits) given.items },
 }

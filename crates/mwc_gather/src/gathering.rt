@@ -1,5 +1,6 @@
 //! Workers that run beside each other.
-ghost use Rattle.std.specs.Prelude.{◌≡◌, ◌<◌, ◌≤◌, [], All, None, false, IfOk, length, vec_len};
+ghost use Rattle.std.specs.Prelude.{◌≡◌, ◌<◌, ◌≤◌, [], All, Bool, List, ℕ, Option, None, false, IfOk, length, vec_len};
+ghost use Rattle.std.specs.Option.{is_some};
 ghost use Rattle.std.specs.List.{AllZip};
 ghost use Rattle.council_game.specs.Votes.{minimal_coalitions};
 ghost use Rattle.council_game.specs.Game.{votes_of};
@@ -8,7 +9,7 @@ ghost use Rattle.mwc_parts.specs.Dealing.{IsFresh};
 ghost use Rattle.mwc_parts.specs.Fault.{fault_of, OnTooMany};
 ghost use Rattle.mwc_gather.specs.Slicings.{slicing};
 ghost use Rattle.mwc_gather.specs.Orders.{slicing_of};
-ghost use Rattle.mwc_gather.specs.Desks.{AllOf, Finished, seats};
+ghost use Rattle.mwc_gather.specs.Desks.{AllOf, DealsTo, Finished, seats};
 ghost use Rattle.mwc_gather.specs.Gathering.{all_total, Complete, Gathers};
 
 use crate::calls::finish_part;
@@ -161,6 +162,8 @@ fn finish_all<R: Threads>(
     requires all { AllOf (slicing_of order.now) order.now.most desks.items }
     requires within { All (λ d. total (slicing_of order.now) d.given.items ≤ all_total (slicing_of order.now)) desks.items }
     requires start { start.many ≡ false }
+    requires dealt { (marks : List (Option ℕ)) × (stopped : Bool)
+        × DealsTo (slicing_of order.now) order.now.most (is_some (fault_of start)) marks stopped desks.items }
     ensures none { IfOk result (λ v. fault_of start ≡ None) }
     ensures parts { IfOk result (λ v. AllZip (Finished (slicing_of order.now)) desks.items v.items) }
     ensures many { OnTooMany result (order.now.most < all_total (slicing_of order.now)) }

@@ -94,6 +94,15 @@ fn parts_of_one_worker(rt: HostRuntime) -> Result<(), Fail> {
         masks(rt.alloc(), &list)?.as_slice(),
         [24, 22, 21, 19, 15].as_slice()
     );
+    let pieces = gathered.pieces(rt.alloc())?;
+    assert_eq!(rt; pieces.len(), 4);
+    assert_eq!(rt; masks(rt.alloc(), pieces[0])?.as_slice(), [24].as_slice());
+    assert_eq!(rt;
+        masks(rt.alloc(), pieces[1])?.as_slice(),
+        [22, 21, 19].as_slice()
+    );
+    assert_eq!(rt; masks(rt.alloc(), pieces[2])?.as_slice(), [15].as_slice());
+    assert_eq!(rt; pieces[3].len(), 0);
     Ok(())
 }
 

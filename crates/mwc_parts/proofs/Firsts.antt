@@ -1,7 +1,8 @@
 -- The first deals, and what the end of the deal tells.
-use Rattle.std.specs.Prelude.{◌≡◌, ◌⊎◌, ℕ, zero, suc, ◌+◌, ◌<◌, ◌≤◌, Bool, true, false, cond, List, [], ◌∷◌, ◌++◌, Option, None, IsSome, length, map, replicate, All, refl}
+use Rattle.std.specs.Prelude.{◌≡◌, ◌⊎◌, ℕ, zero, suc, ◌+◌, ◌<◌, ◌≤◌, Bool, true, false, ◌||◌, cond, List, [], ◌∷◌, ◌++◌, Option, None, IsSome, length, map, replicate, All, refl}
 use Rattle.std.specs.List.{range_with_len}
 use Rattle.std.proofs.Common.{set, get_or, ap, subst, arith, sym, ◌∙◌, inl, inr}
+use Rattle.std.proofs.Math.Bool.{or-false}
 use Rattle.std.proofs.lemmas.Bool.{false≢true, eq-eqb, ne_eqb}
 use Rattle.std.proofs.lemmas.List.{length-append, get_or_append_left, get_or_push}
 use Rattle.std.proofs.lemmas.List.Elements.{All-head, All-tail, All-cons, All-weaker}
@@ -9,15 +10,15 @@ use Rattle.mwc_parts.specs.Slicing.{Slicing}
 use Rattle.mwc_parts.specs.Sums.{sum_of, times}
 use Rattle.mwc_parts.specs.Wording.{total}
 use Rattle.mwc_parts.specs.Deals.{held_from, held, Dealt, AscendsFrom}
-use Rattle.mwc_parts.specs.Dealing.{Seat, givens, Dealing, Turns, FirstDeals, IsFresh}
+use Rattle.mwc_parts.specs.Dealing.{Seat, IsWell, is_ill, givens, Dealing, Turns, FirstDeals, IsFresh}
 use Rattle.mwc_parts.proofs.Deals.{shares_sum, each_once, no_other, held_ascends, one_of_sum, sum_range_le}
-use Rattle.mwc_parts.proofs.Turns.{turn_nothing, turn_one, none_free, still, share_at}
+use Rattle.mwc_parts.proofs.Turns.{turn_nothing, turn_one, none_free, none_ill, stays_by, still, share_at}
 
 no_shares : (seats : List Seat) (from : ℕ) → All IsFresh seats → givens seats ≡ map (held []) (range_with_len from (length seats))
 no_shares [] from a = refl
 no_shares (s ∷ seats) from a =
     let h = All-head IsFresh s seats a in
-    ap (λ (x : List ℕ). x ∷ givens seats) h.0 ∙ ap (λ (xs : List (List ℕ)). [] ∷ xs) (no_shares seats (from + 1) (All-tail IsFresh s seats a))
+    ap (λ (x : List ℕ). x ∷ givens seats) h.none_given ∙ ap (λ (xs : List (List ℕ)). [] ∷ xs) (no_shares seats (from + 1) (All-tail IsFresh s seats a))
 
 -- before the first deal
 pub begin : (n : ℕ) (early : Bool) (seats : List Seat) → All IsFresh seats → FirstDeals n 0 early (replicate n None) early seats
@@ -29,8 +30,9 @@ begin n early seats a = record {
     all_slices = omega arith;
     by_workers = λ k d l. absurd (omega arith);
     given_are = no_shares seats 0 a;
-    told_late = All-weaker IsFresh (λ (s : Seat). s.told ≡ true → (n ≡ 0) ⊎ (early ≡ true)) (λ x h q. absurd (false≢true (sym h.1 ∙ q))) seats a;
-    stops = λ z w. z;
+    told_late = All-weaker IsFresh (λ (s : Seat). s.told ≡ true → (n ≡ 0) ⊎ (early ≡ true)) (λ x h q. absurd (false≢true (sym h.not_told ∙ q))) seats a;
+    stops_are = sym (ap (λ (b : Bool). early || b) (none_ill seats (All-weaker IsFresh IsWell (λ x h. h.well) seats a)) ∙ or-false early);
+    none_early = λ z. refl;
     begins = λ z w l m. absurd (omega arith);
   };
   at_most = omega arith;
@@ -44,18 +46,21 @@ reached zero n m l h = omega arith
 reached (suc k) n m l h = let q = h k (omega arith) (omega arith) in omega arith
 
 -- the first deal to worker k
-pub first_turn : {n : ℕ} {early stopped stops : Bool} {marks after : List (Option ℕ)} (seats : List Seat) (k : ℕ) (s t : Seat) → k < length seats → s ≡ get_or seats k s → s.told ≡ false
-    → FirstDeals n k early marks stopped seats → Turns true marks stopped s k after stops t → FirstDeals n (k + 1) early after stops (set seats k t)
+pub first_turn : {n : ℕ} {early stopped stops : Bool} {marks after : List (Option ℕ)} (seats : List Seat) (k : ℕ) (s t : Seat) → k < length seats → s ≡ get_or seats k s → IsFresh s
+    → FirstDeals n k early marks stopped seats → Turns false marks stopped s k after stops t → FirstDeals n (k + 1) early after stops (set seats k t)
 unfolding turn_nothing turn_one
 first_turn {n} {early} {stopped} {stops} {marks} {after} seats k s t l e fresh f r =
     let d = f.deal in let most = f.at_most in
     elim r.gives [
       | inl g ↦
-          let x : Dealing n k early after stops (set seats k t) = turn_nothing seats k s t l e d r.lost_stays r.cut_stays r.goes_on r.stays g in
+          let x : Dealing n k early after stops (set seats k t) = turn_nothing seats k s t l e d r.lost_stays r.cut_stays r.stops_are g in
           let full : stops ≡ false → d.free ≡ 0
-          = λ z. elim (g.why refl fresh) [
-            | inl all ↦ none_free d.holders d.free (subst (λ (m : List (Option ℕ)). All IsSome m) d.marks_are all)
-            | inr y ↦ absurd (false≢true (sym z ∙ y))
+          = λ z. elim (g.told_if (g.why (g.idle_is ∙ or-false s.idle ∙ fresh.idle))) [
+            | inl old ↦ absurd (false≢true (sym fresh.not_told ∙ old))
+            | inr why ↦ elim why [
+                | inl all ↦ none_free d.holders d.free (subst (λ (m : List (Option ℕ)). All IsSome m) d.marks_are all)
+                | inr y ↦ absurd (false≢true (sym z ∙ y))
+              ]
           ] in
           record {
             deal = record {
@@ -66,10 +71,11 @@ first_turn {n} {early} {stopped} {stops} {marks} {after} seats k s t l e fresh f
               by_workers = x.by_workers;
               given_are = x.given_are;
               told_late = x.told_late;
-              stops = x.stops;
+              stops_are = x.stops_are;
+              none_early = x.none_early;
               begins = λ z w v u.
                   elim (near w k v) [
-                    | inl b ↦ d.begins (still stopped stops r.stays z) w b u
+                    | inl b ↦ d.begins (still stopped stops (stays_by stopped stops (is_ill t) r.stops_are) z) w b u
                     | inr b ↦ let q = full z in let a : length d.holders + d.free ≡ n = d.all_slices in absurd (omega arith)
                   ];
             };
@@ -77,7 +83,7 @@ first_turn {n} {early} {stopped} {stops} {marks} {after} seats k s t l e fresh f
           }
       | inr g ↦
           let hs : List ℕ = d.holders in
-          let x : Dealing n k early after stops (set seats k t) = turn_one seats k s t l e d r.lost_stays r.cut_stays r.goes_on r.stays g in
+          let x : Dealing n k early after stops (set seats k t) = turn_one seats k s t l e d r.lost_stays r.cut_stays r.stops_are g in
           let longer : length (hs ++ k ∷ []) ≡ length hs + 1 = length-append hs (k ∷ []) in
           record {
             deal = record {
@@ -88,9 +94,10 @@ first_turn {n} {early} {stopped} {stops} {marks} {after} seats k s t l e fresh f
               by_workers = x.by_workers;
               given_are = x.given_are;
               told_late = x.told_late;
-              stops = x.stops;
+              stops_are = x.stops_are;
+              none_early = x.none_early;
               begins = λ z w v u.
-                  let go : stopped ≡ false = still stopped stops r.stays z in
+                  let go : stopped ≡ false = still stopped stops (stays_by stopped stops (is_ill t) r.stops_are) z in
                   elim (near w k v) [
                     | inl b ↦ let old = d.begins go w b u in let m : w < length hs = old.0 in (omega arith, get_or_append_left hs (k ∷ []) 0 w m ∙ old.1)
                     | inr b ↦

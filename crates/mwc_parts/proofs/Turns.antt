@@ -1,13 +1,14 @@
 -- One turn of the deal.
-use Rattle.std.specs.Prelude.{◌≡◌, ◌⊎◌, ℕ, zero, suc, ◌+◌, ◌<◌, Bool, true, false, List, [], ◌∷◌, ◌++◌, Option, Some, None, IsSome, length, map, replicate, All, refl}
-use Rattle.std.specs.List.{range_with_len}
+use Rattle.std.specs.Prelude.{◌≡◌, ◌⊎◌, ℕ, zero, suc, ◌+◌, ◌<◌, Bool, true, false, ◌||◌, List, [], ◌∷◌, ◌++◌, Option, Some, None, IsSome, length, map, replicate, All, refl}
+use Rattle.std.specs.List.{range_with_len, list_any}
 use Rattle.std.proofs.Common.{set, get_or, ap, subst, arith, sym, ◌∙◌, inl, inr}
 use Rattle.std.proofs.lemmas.List.{length-set, length-map, length-append, get_or_append_left, map-set}
+use Rattle.std.proofs.Math.Bool.{or_assoc, or-false}
 use Rattle.std.proofs.lemmas.Bool.{false≢true}
 use Rattle.std.proofs.lemmas.List.Elements.{All-head, All-tail, All-cons, All-weaker, All-set, All-push}
 use Rattle.mwc_parts.specs.Table.{IsFirstFree}
 use Rattle.mwc_parts.specs.Deals.{held, shares_by, Dealt}
-use Rattle.mwc_parts.specs.Dealing.{Seat, IsWell, givens, Dealing, GivesNothing, GivesOne, Turns}
+use Rattle.mwc_parts.specs.Dealing.{Seat, IsWell, is_ill, givens, Dealing, GivesNothing, GivesOne, Turns}
 use Rattle.mwc_parts.proofs.Deals.{deal_from}
 
 -- the first free slice is the one after those that have a holder
@@ -65,12 +66,55 @@ given_is hs seats i s g l e =
     let z : 0 + i ≡ i = omega arith in
     map_at (λ (s : Seat). s.given) seats i s [] l e ∙ ap (λ (w : List (List ℕ)). get_or w i []) g ∙ share_at hs 0 (length seats) i l ∙ ap (held hs) z
 
-pub stops_then : {early : Bool} (seats : List Seat) (stopped stops : Bool) (i : ℕ) (s t : Seat) → i < length seats → s ≡ get_or seats i s
-    → (t.lost ≡ false → s.lost ≡ false) → (t.cut ≡ false → s.cut ≡ false) → (stopped ≡ false → IsWell t → stops ≡ false)
-    → (early ≡ false → All IsWell seats → stopped ≡ false) → early ≡ false → All IsWell (set seats i t) → stops ≡ false
-stops_then seats stopped stops i s t l e lost cut on h z a =
-    let w = all_at_set IsWell seats i t l a in
-    on (h z (all_unset IsWell seats i s t l e (lost w.0, cut w.1) a)) w
+-- a refusal that was met stays met
+or_stays : (a b c d : Bool) → (c ≡ false → a ≡ false) → (d ≡ false → b ≡ false) → (a || b) ≡ true → (c || d) ≡ true
+or_stays a b true d p q e = refl
+or_stays a b false true p q e = refl
+or_stays a b false false p q e = let x = p refl in let y = q refl in sym (ap (λ (z : Bool). z || b) x ∙ y) ∙ e
+
+pub ill_stays : (s t : Seat) → (t.lost ≡ false → s.lost ≡ false) → (t.cut ≡ false → s.cut ≡ false) → is_ill s ≡ true → is_ill t ≡ true
+ill_stays s t lost cut e = or_stays s.lost s.cut t.lost t.cut lost cut e
+
+pub not_ill : (s : Seat) → IsWell s → is_ill s ≡ false
+not_ill s w = ap (λ (z : Bool). z || s.cut) w.0 ∙ w.1
+
+or_moves : (a b c : Bool) → (c ≡ true → a ≡ true) → (a || b) ≡ ((c || b) || a)
+or_moves true b true h = refl
+or_moves true true false h = refl
+or_moves true false false h = refl
+or_moves false b true h = absurd (false≢true (h refl))
+or_moves false true false h = refl
+or_moves false false false h = refl
+
+ill_set : (seats : List Seat) (i : ℕ) (s t : Seat) → i < length seats → s ≡ get_or seats i s → (is_ill s ≡ true → is_ill t ≡ true)
+    → list_any is_ill (set seats i t) ≡ (list_any is_ill seats || is_ill t)
+ill_set [] i s t l e h = absurd (omega arith)
+ill_set (x ∷ seats) zero s t l e h = or_moves (is_ill t) (list_any is_ill seats) (is_ill x) (λ q. h (ap is_ill e ∙ q))
+ill_set (x ∷ seats) (suc i) s t l e h =
+    ap (λ (b : Bool). is_ill x || b) (ill_set seats i s t (omega arith) e h) ∙ sym (or_assoc (is_ill x) (list_any is_ill seats) (is_ill t))
+
+or_within : (a b : Bool) → (a ≡ true → b ≡ true) → (a || b) ≡ b
+or_within true b h = sym (h refl)
+or_within false b h = refl
+
+-- the deal is stopped exactly where it should be after a turn too
+pub stops_then : (early : Bool) (seats : List Seat) (stopped stops : Bool) (i : ℕ) (s t : Seat) → i < length seats → s ≡ get_or seats i s
+    → (t.lost ≡ false → s.lost ≡ false) → (t.cut ≡ false → s.cut ≡ false) → stops ≡ (stopped || is_ill t)
+    → stopped ≡ (early || list_any is_ill seats) → stops ≡ (early || list_any is_ill (set seats i t))
+stops_then early seats stopped stops i s t l e lost cut on h =
+    on ∙ ap (λ (b : Bool). b || is_ill t) h ∙ or_assoc early (list_any is_ill seats) (is_ill t)
+    ∙ ap (λ (b : Bool). early || b) (sym (ill_set seats i s t l e (ill_stays s t lost cut)))
+
+pub stays_by : (a b x : Bool) → b ≡ (a || x) → a ≡ true → b ≡ true
+stays_by a b x e h = e ∙ ap (λ (z : Bool). z || x) h
+
+pub none_ill : (seats : List Seat) → All IsWell seats → list_any is_ill seats ≡ false
+none_ill [] a = refl
+none_ill (s ∷ seats) a = ap (λ (z : Bool). z || list_any is_ill seats) (not_ill s (All-head IsWell s seats a)) ∙ none_ill seats (All-tail IsWell s seats a)
+
+-- where no start failed and no refusal was met, the deal goes on
+pub well_goes_on : {n k : ℕ} {early stopped : Bool} {marks : List (Option ℕ)} (seats : List Seat) → early ≡ false → Dealing n k early marks stopped seats → All IsWell seats → stopped ≡ false
+well_goes_on seats z d a = d.stops_are ∙ ap (λ (b : Bool). b || list_any is_ill seats) z ∙ none_ill seats a
 
 pub still : (a b : Bool) → (a ≡ true → b ≡ true) → b ≡ false → a ≡ false
 still true b h e = let q = h refl in cc
@@ -84,11 +128,12 @@ pub at_read : (P : Seat → Type 0) (seats : List Seat) (i : ℕ) (s : Seat) →
 at_read P seats i s l e a = subst P (sym e) (a i s l)
 
 -- nothing was given
-unfoldable pub turn_nothing : {n k : ℕ} {asked early stopped stops : Bool} {marks after : List (Option ℕ)} (seats : List Seat) (i : ℕ) (s t : Seat) → i < length seats → s ≡ get_or seats i s
+unfoldable pub turn_nothing : {n k : ℕ} {done early stopped stops : Bool} {marks after : List (Option ℕ)} (seats : List Seat) (i : ℕ) (s t : Seat) → i < length seats → s ≡ get_or seats i s
     → Dealing n k early marks stopped seats
-    → (t.lost ≡ false → s.lost ≡ false) → (t.cut ≡ false → s.cut ≡ false) → (stopped ≡ false → IsWell t → stops ≡ false) → (stopped ≡ true → stops ≡ true)
-    → GivesNothing asked marks s after stops t → Dealing n k early after stops (set seats i t)
-turn_nothing {n} {k} {asked} {early} {stopped} {stops} {marks} {after} seats i s t l e d lost cut on stays g =
+    → (t.lost ≡ false → s.lost ≡ false) → (t.cut ≡ false → s.cut ≡ false) → stops ≡ (stopped || is_ill t)
+    → GivesNothing done marks s after stops t → Dealing n k early after stops (set seats i t)
+turn_nothing {n} {k} {done} {early} {stopped} {stops} {marks} {after} seats i s t l e d lost cut on g =
+    let stays : stopped ≡ true → stops ≡ true = stays_by stopped stops (is_ill t) on in
     let same : length (set seats i t) ≡ length seats = length-set seats i t in
     record {
       holders = d.holders;
@@ -103,7 +148,8 @@ turn_nothing {n} {k} {asked} {early} {stopped} {stops} {marks} {after} seats i s
             | inr why ↦ elim why [ inl all ↦ inl (none_free d.holders d.free (subst (λ (m : List (Option ℕ)). All IsSome m) d.marks_are all)) | inr z ↦ inr z ]
           ])
           (All-weaker (λ (s : Seat). s.told ≡ true → (d.free ≡ 0) ⊎ (stopped ≡ true)) (λ (s : Seat). s.told ≡ true → (d.free ≡ 0) ⊎ (stops ≡ true)) (λ x h q. later (d.free ≡ 0) stopped stops stays (h q)) seats d.told_late);
-      stops = stops_then seats stopped stops i s t l e lost cut on d.stops;
+      stops_are = stops_then early seats stopped stops i s t l e lost cut on d.stops_are;
+      none_early = d.none_early;
       begins = λ z. d.begins (still stopped stops stays z);
     }
 
@@ -112,11 +158,12 @@ above zero l = absurd (omega arith)
 above (suc f) l = (f, refl)
 
 -- the lowest slice was given
-unfoldable pub turn_one : {n k : ℕ} {early stopped stops : Bool} {marks after : List (Option ℕ)} (seats : List Seat) (i : ℕ) (s t : Seat) → i < length seats → s ≡ get_or seats i s
+unfoldable pub turn_one : {n k : ℕ} {done early stopped stops : Bool} {marks after : List (Option ℕ)} (seats : List Seat) (i : ℕ) (s t : Seat) → i < length seats → s ≡ get_or seats i s
     → Dealing n k early marks stopped seats
-    → (t.lost ≡ false → s.lost ≡ false) → (t.cut ≡ false → s.cut ≡ false) → (stopped ≡ false → IsWell t → stops ≡ false) → (stopped ≡ true → stops ≡ true)
-    → GivesOne marks stopped s i after t → Dealing n k early after stops (set seats i t)
-turn_one {n} {k} {early} {stopped} {stops} {marks} {after} seats i s t l e d lost cut on stays g =
+    → (t.lost ≡ false → s.lost ≡ false) → (t.cut ≡ false → s.cut ≡ false) → stops ≡ (stopped || is_ill t)
+    → GivesOne done marks stops s i after t → Dealing n k early after stops (set seats i t)
+turn_one {n} {k} {done} {early} {stopped} {stops} {marks} {after} seats i s t l e d lost cut on g =
+    let stays : stopped ≡ true → stops ≡ true = stays_by stopped stops (is_ill t) on in
     let same : length (set seats i t) ≡ length seats = length-set seats i t in
     let hs : List ℕ = d.holders in
     let z : 0 + i ≡ i = omega arith in
@@ -143,20 +190,52 @@ turn_one {n} {k} {early} {stopped} {stops} {marks} {after} seats i s t l e d los
           (λ q. absurd (false≢true (sym g.told_not ∙ q)))
           (All-weaker (λ (s : Seat). s.told ≡ true → (d.free ≡ 0) ⊎ (stopped ≡ true)) (λ (s : Seat). s.told ≡ true → (f ≡ 0) ⊎ (stops ≡ true))
           (λ x h q. elim (h q) [ inl none ↦ absurd (omega arith) | inr y ↦ inr (stays y) ]) seats d.told_late);
-      stops = stops_then seats stopped stops i s t l e lost cut on d.stops;
+      stops_are = stops_then early seats stopped stops i s t l e lost cut on d.stops_are;
+      none_early = λ z. absurd (false≢true (sym g.goes_on ∙ stays (stays_by early stopped (list_any is_ill seats) d.stops_are z)));
       begins = λ z w v u.
           let old = d.begins (still stopped stops stays z) w v u in
           let m : w < length hs = old.0 in
           (omega arith, get_or_append_left hs (i ∷ []) 0 w m ∙ old.1);
     }
 
+-- words are read, and then a slice is given or not
+pub read_then_deal : {done stopped stop stops : Bool} {marks after : List (Option ℕ)} (s u t : Seat) (w : ℕ) → u.given ≡ s.given → u.told ≡ s.told → u.idle ≡ (s.idle || done)
+    → (u.lost ≡ false → s.lost ≡ false) → (u.cut ≡ false → s.cut ≡ false) → stop ≡ (stopped || is_ill u)
+    → Turns false marks stop u w after stops t → Turns done marks stopped s w after stops t
+read_then_deal {done} {stopped} {stop} {stops} {marks} {after} s u t w given told idle lost cut e r =
+    let now : (u.idle || false) ≡ (s.idle || done) = or-false u.idle ∙ idle in
+    record {
+      lost_stays = λ z. lost (r.lost_stays z);
+      cut_stays = λ z. cut (r.cut_stays z);
+      stops_are = r.stops_are ∙ ap (λ (b : Bool). b || is_ill t) e ∙ or_assoc stopped (is_ill u) (is_ill t)
+          ∙ ap (λ (b : Bool). stopped || b) (or_within (is_ill u) (is_ill t) (ill_stays u t r.lost_stays r.cut_stays));
+      gives = elim r.gives [
+        | inl g ↦ inl (record {
+            marks_stay = g.marks_stay;
+            given_stay = g.given_stay ∙ given;
+            idle_is = g.idle_is ∙ now;
+            told_if = λ z. elim (g.told_if z) [ inl old ↦ inl (sym told ∙ old) | inr why ↦ inr why ];
+            why = g.why;
+          })
+        | inr g ↦ inr (record {
+            slice = g.slice;
+            goes_on = g.goes_on;
+            finished = sym now ∙ g.finished;
+            lowest = g.lowest;
+            marked = g.marked;
+            given = g.given ∙ ap (λ (v : List ℕ). v ++ g.slice ∷ []) given;
+            told_not = g.told_not;
+          })
+      ];
+    }
+
 -- a turn keeps the deal
-pub turn : {n k : ℕ} {asked early stopped stops : Bool} {marks after : List (Option ℕ)} (seats : List Seat) (i : ℕ) (s t : Seat) → i < length seats → s ≡ get_or seats i s
-    → Dealing n k early marks stopped seats → Turns asked marks stopped s i after stops t → Dealing n k early after stops (set seats i t)
+pub turn : {n k : ℕ} {done early stopped stops : Bool} {marks after : List (Option ℕ)} (seats : List Seat) (i : ℕ) (s t : Seat) → i < length seats → s ≡ get_or seats i s
+    → Dealing n k early marks stopped seats → Turns done marks stopped s i after stops t → Dealing n k early after stops (set seats i t)
 turn seats i s t l e d r =
     elim r.gives [
-      | inl g ↦ turn_nothing seats i s t l e d r.lost_stays r.cut_stays r.goes_on r.stays g
-      | inr g ↦ turn_one seats i s t l e d r.lost_stays r.cut_stays r.goes_on r.stays g
+      | inl g ↦ turn_nothing seats i s t l e d r.lost_stays r.cut_stays r.stops_are g
+      | inr g ↦ turn_one seats i s t l e d r.lost_stays r.cut_stays r.stops_are g
     ]
 
 none_left : {free : ℕ} {stopped : Bool} (seats : List Seat) → 0 < length seats → stopped ≡ false → All (λ (s : Seat). s.told ≡ true → (free ≡ 0) ⊎ (stopped ≡ true)) seats → All (λ (s : Seat). s.told ≡ true) seats → free ≡ 0
@@ -172,7 +251,7 @@ pub all_dealt : {n k : ℕ} {stopped early : Bool} {marks : List (Option ℕ)} (
     → Dealing n k early marks stopped seats → All IsWell seats → All (λ (s : Seat). s.told ≡ true) seats → Dealt n (givens seats)
 all_dealt {n} {k} {stopped} {early} {marks} seats z l d well told =
     let same : length (givens seats) ≡ length seats = length-map seats (λ (s : Seat). s.given) in
-    let go : stopped ≡ false = d.stops z well in
+    let go : stopped ≡ false = well_goes_on seats z d well in
     let none : d.free ≡ 0 = none_left seats l go d.told_late told in
     let sum : length d.holders + d.free ≡ n = d.all_slices in
     record {

@@ -1,14 +1,21 @@
 -- How the slices are dealt.
-use Rattle.std.specs.Prelude.{◌≡◌, ◌⊎◌, ℕ, ◌+◌, ◌<◌, ◌≤◌, Bool, true, false, List, [], ◌∷◌, ◌++◌, Option, Some, None, IsSome, length, map, replicate, All, slice_index, slice_set}
+use Rattle.std.specs.Prelude.{◌≡◌, ◌⊎◌, ℕ, ◌+◌, ◌<◌, ◌≤◌, Bool, true, false, ◌||◌, List, [], ◌∷◌, ◌++◌, Option, Some, None, IsSome, length, map, replicate, All, slice_index, slice_set}
+use Rattle.std.specs.List.{list_any}
 use Rattle.mwc_parts.specs.Table.{IsFirstFree}
 use Rattle.mwc_parts.specs.Deals.{shares_by}
 
--- what is known of one worker: the slices that it was given, whether it was told that there are no more, whether something was lost, and whether it was cut
+-- what is known of one worker: the slices that it was given, whether it has finished them all, whether it was told that there are no more, whether
+-- something was lost, and whether it was cut
 pub record Seat : Type 0 where
   pub given : List ℕ
+  pub idle : Bool
   pub told : Bool
   pub lost : Bool
   pub cut : Bool
+
+-- whether a refusal was met there
+abbrev pub is_ill : Seat → Bool
+is_ill s = s.lost || s.cut
 
 -- no refusal was met there
 abbrev pub IsWell : Seat → Type 0
@@ -18,7 +25,8 @@ IsWell s = (s.lost ≡ false) × (s.cut ≡ false)
 abbrev pub givens : List Seat → List (List ℕ)
 givens seats = map (λ (s : Seat). s.given) seats
 
--- the slices 0 to n - 1 are dealt in order, the first k of them to workers 0 to k - 1, until they are all given or the deal is stopped
+-- the slices 0 to n - 1 are dealt in order, the first k of them to workers 0 to k - 1, until they are all given or the deal is stopped;
+-- it is stopped exactly where a start failed early, something was lost, or a cut was told; and where a start failed nothing is given
 pub record Dealing (n k : ℕ) (early : Bool) (marks : List (Option ℕ)) (stopped : Bool) (seats : List Seat) : Type 0 where
   pub holders : List ℕ
   pub free : ℕ
@@ -27,32 +35,34 @@ pub record Dealing (n k : ℕ) (early : Bool) (marks : List (Option ℕ)) (stopp
   pub by_workers : All (λ h. h < length seats) holders
   pub given_are : givens seats ≡ shares_by holders (length seats)
   pub told_late : All (λ (s : Seat). s.told ≡ true → (free ≡ 0) ⊎ (stopped ≡ true)) seats
-  pub stops : early ≡ false → All IsWell seats → stopped ≡ false
+  pub stops_are : stopped ≡ (early || list_any is_ill seats)
+  pub none_early : early ≡ true → holders ≡ []
   pub begins : stopped ≡ false → (w : ℕ) → w < k → w < n → (w < length holders) × (slice_index holders w ≡ w)
 
--- nothing is given; where the worker has asked, since all is given or the deal is stopped
-pub record GivesNothing (asked : Bool) (marks : List (Option ℕ)) (s : Seat) (after : List (Option ℕ)) (stopped : Bool) (t : Seat) : Type 0 where
+-- nothing is given: the worker has not finished its slices, or it is told that there are no more, since all is given or the deal is stopped
+pub record GivesNothing (done : Bool) (marks : List (Option ℕ)) (s : Seat) (after : List (Option ℕ)) (stopped : Bool) (t : Seat) : Type 0 where
   pub marks_stay : after ≡ marks
   pub given_stay : t.given ≡ s.given
+  pub idle_is : t.idle ≡ (s.idle || done)
   pub told_if : t.told ≡ true → (s.told ≡ true) ⊎ (All IsSome marks ⊎ (stopped ≡ true))
-  pub why : asked ≡ true → s.told ≡ false → All IsSome marks ⊎ (stopped ≡ true)
+  pub why : t.idle ≡ true → t.told ≡ true
 
--- the lowest slice without a holder is given to worker w, in a deal that is not stopped
-pub record GivesOne (marks : List (Option ℕ)) (stopped : Bool) (s : Seat) (w : ℕ) (after : List (Option ℕ)) (t : Seat) : Type 0 where
+-- the lowest slice without a holder is given to worker w, which has finished its slices, in a deal that is not stopped
+pub record GivesOne (done : Bool) (marks : List (Option ℕ)) (stopped : Bool) (s : Seat) (w : ℕ) (after : List (Option ℕ)) (t : Seat) : Type 0 where
   pub slice : ℕ
-  pub not_stopped : stopped ≡ false
+  pub goes_on : stopped ≡ false
+  pub finished : (s.idle || done) ≡ true
   pub lowest : IsFirstFree marks slice
   pub marked : after ≡ slice_set marks slice (Some w)
   pub given : t.given ≡ s.given ++ slice ∷ []
   pub told_not : t.told ≡ false
 
--- one turn of worker w
-pub record Turns (asked : Bool) (marks : List (Option ℕ)) (stopped : Bool) (s : Seat) (w : ℕ) (after : List (Option ℕ)) (stops : Bool) (t : Seat) : Type 0 where
+-- one turn of worker w, in which it has, or has not, said that a slice is done: a loss or a cut that is met in it stops the deal before anything is given
+pub record Turns (done : Bool) (marks : List (Option ℕ)) (stopped : Bool) (s : Seat) (w : ℕ) (after : List (Option ℕ)) (stops : Bool) (t : Seat) : Type 0 where
   pub lost_stays : t.lost ≡ false → s.lost ≡ false
   pub cut_stays : t.cut ≡ false → s.cut ≡ false
-  pub goes_on : stopped ≡ false → IsWell t → stops ≡ false
-  pub stays : stopped ≡ true → stops ≡ true
-  pub gives : GivesNothing asked marks s after stops t ⊎ GivesOne marks stopped s w after t
+  pub stops_are : stops ≡ (stopped || is_ill t)
+  pub gives : GivesNothing done marks s after stops t ⊎ GivesOne done marks stops s w after t
 
 -- the first k workers were dealt to, one slice each at most
 pub record FirstDeals (n k : ℕ) (early : Bool) (marks : List (Option ℕ)) (stopped : Bool) (seats : List Seat) : Type 0 where
@@ -60,5 +70,8 @@ pub record FirstDeals (n k : ℕ) (early : Bool) (marks : List (Option ℕ)) (st
   pub at_most : length deal.holders ≤ k
 
 -- not dealt to yet
-abbrev pub IsFresh : Seat → Type 0
-IsFresh s = (s.given ≡ []) × (s.told ≡ false)
+pub record IsFresh (s : Seat) : Type 0 where
+  pub none_given : s.given ≡ []
+  pub idle : s.idle ≡ true
+  pub not_told : s.told ≡ false
+  pub well : IsWell s

@@ -1,5 +1,5 @@
 -- The words that a worker sends.
-use Rattle.std.specs.Prelude.{◌≡◌, ℕ, ◌+◌, ◌<◌, ◌≤◌, Bool, true, false, List, [], ◌∷◌, ◌++◌, length, map, take}
+use Rattle.std.specs.Prelude.{◌≡◌, ℕ, ◌+◌, ◌<◌, ◌≤◌, Bool, true, false, List, [], ◌∷◌, ◌++◌, length, map, take, All}
 use Rattle.mwc_parts.specs.Sums.{sum_of}
 use Rattle.mwc_parts.specs.Slicing.{Slicing}
 use Rattle.mwc_pipe.specs.declared.word.Word.{Word}
@@ -32,6 +32,11 @@ abbrev pub told_words : Bool → List Word
 told_words false = []
 told_words true = End false ∷ []
 
+-- whether a word tells that a slice is whole
+abbrev pub is_done : Word → Bool
+is_done (Done j) = true
+is_done _ = false
+
 -- whether a task ends the work
 abbrev pub IsLast : ℕ → Word → Type 0
 IsLast n (Open j) = n ≤ j
@@ -44,6 +49,7 @@ pub record Whole (g : Slicing) (most : ℕ) (tasks words : List Word) : Type 0 w
   pub slices : List ℕ
   pub last : Word
   pub tasks_are : tasks ≡ opens slices ++ last ∷ []
+  pub below : All (λ j. j < g.slices) slices
   pub ends : IsLast g.slices last
   pub few : total g slices ≤ most
   pub words_are : words ≡ wording g slices ++ End false ∷ []
@@ -54,6 +60,8 @@ pub record Cut (g : Slicing) (most : ℕ) (tasks words : List Word) : Type 0 whe
   pub slice : ℕ
   pub count : ℕ
   pub tasks_are : tasks ≡ opens slices ++ Open slice ∷ []
+  pub below : All (λ j. j < g.slices) slices
+  pub last_below : slice < g.slices
   pub some : 0 < count
   pub full : total g slices + count ≡ most + 1
   pub within : count ≤ length (g.slice slice)

@@ -59,7 +59,7 @@ impl Draft {
         ensures cut { self.new.cut ≡ false → self.old.cut ≡ false }
     {
         if self.got.reserve(row.len()).is_err() {
-            self.lost = true;
+            self.lose();
         }
         for word in row {
             self.hear(*word);

@@ -67,6 +67,28 @@ fn puts_parts_in_order(rt: HostRuntime) -> Result<(), Fail> {
 }
 
 #[test]
+fn finds_the_pieces(rt: HostRuntime) -> Result<(), Fail> {
+    let game = five(rt.alloc())?;
+    let gathered = gathered(&rt, rt.alloc(), &game, &NoGate, 2, 3, 5)?;
+    rt.println("call")?;
+    let answer = gathered.pieces(rt.alloc());
+    match &answer {
+        Ok(_) => rt.println("worked")?,
+        Err(_) => rt.println("out of memory")?,
+    }
+    let pieces = match answer {
+        Ok(pieces) => pieces,
+        Err(_) => gathered.pieces(rt.alloc())?,
+    };
+    let mut lens = Vec::new(rt.alloc());
+    for piece in &pieces {
+        lens.push(piece.len())?;
+    }
+    assert_eq!(rt; lens.as_slice(), [1, 3, 1, 0].as_slice());
+    Ok(())
+}
+
+#[test]
 fn sends_into_a_batch(rt: HostRuntime) -> Result<(), Fail> {
     let game = five(rt.alloc())?;
     assert!(rt; game.members() == 5);

@@ -1,15 +1,17 @@
 use Rattle.std.proofs.Common.{rules, ◌≡◌, ℕ, ◌<◌, ◌≤◌, ◌++◌, List, length, take, drop, subst, ap, sym, ◌∙◌, arith}
-use Rattle.std.specs.Prelude.{All}
+use Rattle.std.specs.Prelude.{All, Bool}
+use Rattle.std.specs.Option.{is_some}
 use Rattle.std.proofs.lemmas.List.{take_at}
 use Rattle.std.proofs.Math.Pow.{pow_mono}
 use Rattle.council_game.specs.Game.{GameView}
 use Rattle.mwc_parts.specs.Slicing.{Slicing}
 use Rattle.mwc_parts.specs.Wording.{total}
-use Rattle.mwc_parts.specs.Fault.{OnTooMany}
+use Rattle.mwc_parts.specs.Fault.{OnTooMany, fault_of}
 use Rattle.mwc_gather.specs.declared.order.Order.{Order}
 use Rattle.mwc_gather.specs.declared.desk.Desk.{Desk}
 use Rattle.mwc_gather.specs.Slicings.{slicing}
 use Rattle.mwc_gather.specs.Orders.{slicing_of}
+use Rattle.mwc_gather.specs.Desks.{DealsTo}
 use Rattle.mwc_gather.specs.Gathering.{all_total}
 use Rattle.mwc_gather.proofs.Wholes.{all_total_is}
 use Rattle.mwc_gather.proofs.Ends.{desks_within, completes}
@@ -42,6 +44,22 @@ finish_all-requires-clause-within g c =
     let e = written new c.open_all-met.new.desks.items n (omega arith) in
     let game : Slicing = slicing_of c.new-order.result in
     subst (λ (w : List Desk). All (λ (d : Desk). total game d.given.items ≤ all_total game) w) (sym e) (desks_within new c.read_all-stopped.ensures)
+
+pub finish_all-requires-clause-dealt : goal.finish_all-requires-clause-dealt
+finish_all-requires-clause-dealt g c =
+    let new : List Desk = c.read_all-stopped.new.desks in
+    let n : ℕ = c.open_all-met.new.desks.len in
+    let v = ap length c.as_mut_slice.ensures.value in
+    let au = c.read_all-stopped.auto.desks in
+    let ok = c.open_all-met.new.desks.ok in
+    let e = written new c.open_all-met.new.desks.items n (omega arith) in
+    let order : Order = c.new-order.result in
+    let early = c.is_some-early.ensures ∙ ap is_some c.fault.ensures in (
+      c.read_all-stopped.new.marks,
+      c.read_all-stopped.result,
+      subst (λ (w : List Desk). DealsTo (slicing_of order) order.most (is_some (fault_of c.open_all-met.result)) c.read_all-stopped.new.marks c.read_all-stopped.result w) (sym e)
+          (subst (λ (b : Bool). DealsTo (slicing_of order) order.most b c.read_all-stopped.new.marks c.read_all-stopped.result new) early c.read_all-stopped.ensures),
+    )
 
 pub returns-in_err-parts-clause-many : goal.returns-in_err-parts-clause-many
 returns-in_err-parts-clause-many g c =

@@ -21,8 +21,8 @@ returns-then-not-add-clause-sends g c =
     let refused = c.if-not-add.ensures.refused (search rules) in (
       refused.1,
       some_starts before row (g.P.PipeIn.accepted c.add.new.out) (sending game c.args.slice c.args.left)
-      (some_of_rest before row (g.P.PipeIn.accepted c.loop-coalition.out) c.loop-coalition.row (g.P.PipeIn.accepted c.add.new.out) s.3 refused.0)
-      (starts_sending game c.args.slice c.args.left s.0 c.loop-coalition.walk.to_come s.1 few),
+          (some_of_rest before row (g.P.PipeIn.accepted c.loop-coalition.out) c.loop-coalition.row (g.P.PipeIn.accepted c.add.new.out) s.3 refused.0)
+          (starts_sending game c.args.slice c.args.left s.0 c.loop-coalition.walk.to_come s.1 few),
     )
 
 pub returns-then-not-send-clause-sends : goal.returns-then-not-send-clause-sends
@@ -42,12 +42,12 @@ returns-then-not-send-clause-sends g c =
     let added = c.if-not-add.ensures.added (search rules) in
     let first : SendsFirst before (Open c.args.slice ∷ map One given) mid c.add.new.row
     = one_more_first before mid c.add.new.row c.args.slice s.0 c.in-Some.coalition
-      (first_added before (Open c.args.slice ∷ map One s.0) (g.P.PipeIn.accepted c.loop-coalition.out) c.loop-coalition.row (One c.in-Some.coalition ∷ []) mid c.add.new.row s.3 added.0) in
+    (first_added before (Open c.args.slice ∷ map One s.0) (g.P.PipeIn.accepted c.loop-coalition.out) c.loop-coalition.row (One c.in-Some.coalition ∷ []) mid c.add.new.row s.3 added.0) in
     let refused = c.if-not-send.ensures.refused (search rules) in (
       refused.1,
       some_starts before (Open c.args.slice ∷ map One given) after (sending game c.args.slice c.args.left)
-      (some_of_rest before (Open c.args.slice ∷ map One given) mid c.add.new.row after first (subst (λ (w : List Word). SendsSome mid w after) c.words.ensures refused.0))
-      (starts_sending game c.args.slice c.args.left given rest split few),
+          (some_of_rest before (Open c.args.slice ∷ map One given) mid c.add.new.row after first (subst (λ (w : List Word). SendsSome mid w after) c.words.ensures refused.0))
+          (starts_sending game c.args.slice c.args.left given rest split few),
     )
 
 pub returns-then-left-eq0-clause-sends : goal.returns-then-left-eq0-clause-sends
@@ -67,10 +67,10 @@ returns-then-left-eq0-clause-sends g c =
     let added = c.if-not-add.ensures.added (search rules) in
     let first : SendsFirst before (Open c.args.slice ∷ map One given) mid c.add.new.row
     = one_more_first before mid c.add.new.row c.args.slice s.0 c.in-Some.coalition
-      (first_added before (Open c.args.slice ∷ map One s.0) (g.P.PipeIn.accepted c.loop-coalition.out) c.loop-coalition.row (One c.in-Some.coalition ∷ []) mid c.add.new.row s.3 added.0) in
+    (first_added before (Open c.args.slice ∷ map One s.0) (g.P.PipeIn.accepted c.loop-coalition.out) c.loop-coalition.row (One c.in-Some.coalition ∷ []) mid c.add.new.row s.3 added.0) in
     let sent = c.if-not-send.ensures.sent (search rules) in (
       first_all before (Open c.args.slice ∷ map One given) mid c.add.new.row after first (sent.0 ∙ ap (λ (w : List Word). mid ++ w) c.words.ensures)
-      ∙ ap (λ (w : List ℕ). before ++ (Open c.args.slice ∷ map One w)) (sym (taken all given rest c.args.left split count)),
+          ∙ ap (λ (w : List ℕ). before ++ (Open c.args.slice ∷ map One w)) (sym (taken all given rest c.args.left split count)),
       within all given rest c.args.left split count,
     )
 
@@ -95,7 +95,7 @@ loop-coalition-preserved g c =
         given_more all s.0 c.loop-coalition.walk.to_come rest c.in-Some.coalition s.1 c.in-Some.ensures.next,
         omega arith,
         one_more_first before mid c.add.new.row c.args.slice s.0 c.in-Some.coalition
-        (first_added before (Open c.args.slice ∷ map One s.0) (g.P.PipeIn.accepted c.loop-coalition.out) c.loop-coalition.row (One c.in-Some.coalition ∷ []) mid c.add.new.row s.3 added.0),
+            (first_added before (Open c.args.slice ∷ map One s.0) (g.P.PipeIn.accepted c.loop-coalition.out) c.loop-coalition.row (One c.in-Some.coalition ∷ []) mid c.add.new.row s.3 added.0),
       );
     }
 
@@ -110,8 +110,8 @@ returns-then-not-add-2-clause-sends g c =
     let refused = c.if-not-add-2.ensures.refused (search rules) in (
       refused.1,
       some_starts before row (g.P.PipeIn.accepted c.add-2.new.out) (sending game c.args.slice c.args.left)
-      (some_of_rest before row (g.P.PipeIn.accepted c.loop-coalition.out) c.loop-coalition.row (g.P.PipeIn.accepted c.add-2.new.out) s.3 refused.0)
-      (starts_sending game c.args.slice c.args.left s.0 c.loop-coalition.walk.to_come s.1 few),
+          (some_of_rest before row (g.P.PipeIn.accepted c.loop-coalition.out) c.loop-coalition.row (g.P.PipeIn.accepted c.add-2.new.out) s.3 refused.0)
+          (starts_sending game c.args.slice c.args.left s.0 c.loop-coalition.walk.to_come s.1 few),
     )
 
 pub returns-then-not-send-2-clause-sends : goal.returns-then-not-send-2-clause-sends
@@ -130,8 +130,8 @@ returns-then-not-send-2-clause-sends g c =
     let refused = c.if-not-send-2.ensures.refused (search rules) in (
       refused.1,
       some_starts before row after (sending game c.args.slice c.args.left)
-      (some_of_rest before row mid c.add-2.new.row after first (subst (λ (w : List Word). SendsSome mid w after) c.words-2.ensures refused.0))
-      (whole_starts game c.args.slice c.args.left s.0 all (let sum = s.2 in omega arith)),
+          (some_of_rest before row mid c.add-2.new.row after first (subst (λ (w : List Word). SendsSome mid w after) c.words-2.ensures refused.0))
+          (whole_starts game c.args.slice c.args.left s.0 all (let sum = s.2 in omega arith)),
     )
 
 pub returns-clause-sends : goal.returns-clause-sends
@@ -151,7 +151,7 @@ returns-clause-sends g c =
     let sent = c.if-not-send-2.ensures.sent (search rules) in
     let sum = s.2 in (
       first_all before row mid c.add-2.new.row after first (sent.0 ∙ ap (λ (w : List Word). mid ++ w) c.words-2.ensures)
-      ∙ ap (λ (w : List ℕ). before ++ ((Open c.args.slice ∷ map One w) ++ Done c.args.slice ∷ [])) (sym all),
+          ∙ ap (λ (w : List ℕ). before ++ ((Open c.args.slice ∷ map One w) ++ Done c.args.slice ∷ [])) (sym all),
       omega arith,
       omega arith,
     )

@@ -1,5 +1,6 @@
-use Rattle.std.specs.Prelude.{◌≡◌, ◌+◌, List, [], ◌∷◌, ◌++◌, length}
+use Rattle.std.specs.Prelude.{◌≡◌, ℕ, ◌+◌, ◌<◌, List, [], ◌∷◌, ◌++◌, length}
 use Rattle.std.proofs.Common.{rules, arith, sym, ◌∙◌, ap}
+use Rattle.std.proofs.lemmas.List.Elements.{All-push}
 use Rattle.mwc_pipe.specs.declared.word.Word.{Word}
 use Rattle.mwc_pipe.specs.declared.word.Word.TheVariants.{Open}
 use Rattle.mwc_parts.specs.Slicing.{Slicing}
@@ -14,6 +15,8 @@ loop-preserved g c =
     let inv = c.loop.invariant.3 in
     let task = c.in-Some-next_task.ensures.taken in
     let sends = c.in-Whole.ensures.sends in
+    let count = c.slice_count-slices.ensures in let first = task.0 in
+    let low : j < game.slices = omega arith in
     let sum = inv.3 in let few = sends.1 in let rest = sends.2 in
     let more : total game (inv.0 ++ j ∷ []) ≡ total game inv.0 + length (game.slice j) = total-more game inv.0 j in (
       search rules,
@@ -24,5 +27,6 @@ loop-preserved g c =
         task.1 ∙ ap (λ (w : List Word). w ++ Open j ∷ []) inv.1 ∙ sym (opens-more inv.0 j),
         sends.0 ∙ ap (λ (w : List Word). w ++ slice_words game j) inv.2 ∙ sym (wording-more game inv.0 j),
         omega arith,
+        All-push (λ (i : ℕ). i < game.slices) inv.0 j inv.4 low,
       ),
     )
