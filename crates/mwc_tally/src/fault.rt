@@ -10,7 +10,7 @@ pub enum TallyFault {
     #[error("out of memory")]
     Memory,
     /// A thread could not be started.
-    #[error("a worker did not start")]
+    #[error("a worker could not be started")]
     Start,
 }
 
