@@ -2,18 +2,22 @@
 //! indices that rest on them.
 #![tactic(auto)]
 
+mod progress;
 #[cfg(test)]
 mod tests;
 mod words;
 
 use clap::Error;
 use clap::error::ErrorKind;
-pub use council_run::{Cause, Options, RunFault, run, status};
+pub use council_run::{Cause, Options, RunFault, run, status, tally};
 use mwc_gather::NoGate;
+use progress::Progress;
+use std::io::IsTerminal;
 use std::process::ExitCode;
 use std::rt::Files;
 use std::sync::Wait;
 use std::thread::Threads;
+use std::time::Clock;
 use std::{fs, io};
 use words::{Wanted, WordsFault, read_words};
 
@@ -54,33 +58,45 @@ fn refuse(rt: &(impl Print + Eprint), error: &Error) -> ExitCode {
     ExitCode::from(5)
 }
 
-/// Runs on the file, or on standard input where none is named.
-fn run_on<R: AllocGlobal + Files + Input + Print + Eprint + Threads + Wait + Sync>(
+/// Runs on what is read, and writes to standard output; `terminal` tells whether standard error is a
+/// terminal.
+fn run_on<R: AllocGlobal + Print + Eprint + Clock + Threads + Wait + Sync, I: io::Read>(
     rt: &R,
     wanted: &Wanted<'_>,
+    terminal: bool,
+    reader: &mut I,
 ) -> ExitCode {
     let alloc = rt.alloc();
     let mut writer = io::writer(rt);
-    let answer = match wanted.file {
-        Some(path) => match fs::open(rt, path) {
-            Ok(mut file) => run(rt, alloc, &mut file, &wanted.options, &NoGate, &mut writer),
-            Err(_) => {
-                let _ = eprintln!(rt; "council: the game file cannot be opened");
-                return ExitCode::from(1);
-            }
-        },
-        None => run(
-            rt,
-            alloc,
-            &mut rt.reader(),
-            &wanted.options,
-            &NoGate,
-            &mut writer,
-        ),
+    let answer = if wanted.tally {
+        let progress = Progress::new(rt, terminal);
+        let answer = tally(rt, alloc, reader, &wanted.options, &progress, &mut writer);
+        progress.wipe();
+        answer
+    } else {
+        run(rt, alloc, reader, &wanted.options, &NoGate, &mut writer)
     };
     match answer {
         Ok(_) => ExitCode::SUCCESS,
         Err(fault) => stop(rt, fault),
+    }
+}
+
+/// Runs on the file, or on standard input where none is named.
+fn run_on_file<R: AllocGlobal + Files + Input + Print + Eprint + Clock + Threads + Wait + Sync>(
+    rt: &R,
+    wanted: &Wanted<'_>,
+    terminal: bool,
+) -> ExitCode {
+    match wanted.file {
+        Some(path) => match fs::open(rt, path) {
+            Ok(mut file) => run_on(rt, wanted, terminal, &mut file),
+            Err(_) => {
+                let _ = eprintln!(rt; "council: the game file cannot be opened");
+                ExitCode::from(1)
+            }
+        },
+        None => run_on(rt, wanted, terminal, &mut rt.reader()),
     }
 }
 
@@ -95,7 +111,7 @@ fn main(rt: HostRuntime) -> ExitCode {
         Err(_) => return out_of_memory(&rt),
     };
     match read_words(alloc, words.as_slice()) {
-        Ok(wanted) => run_on(&rt, &wanted),
+        Ok(wanted) => run_on_file(&rt, &wanted, rt.stderr().is_terminal()),
         Err(WordsFault::Parse(error)) => refuse(&rt, &error),
         Err(WordsFault::Range) => {
             let _ = eprintln!(rt; "council: a number of the command line is out of range");

@@ -53,9 +53,25 @@ fn reads_command_lines(rt: HostRuntime) -> Result<(), Fail> {
 }
 
 #[test]
+fn reads_a_tally(rt: HostRuntime) -> Result<(), Fail> {
+    let alloc = rt.alloc();
+    let none = words(alloc, "")?;
+    let wanted = read_words(alloc, none.as_slice()).expect(&rt, "no words");
+    assert!(rt; !wanted.tally);
+    let some = words(alloc, "--tally --sizes --workers 2 --bits 1")?;
+    let wanted = read_words(alloc, some.as_slice()).expect(&rt, "a tally");
+    assert!(rt; wanted.tally);
+    assert!(rt; wanted.options.sizes);
+    Ok(())
+}
+
+#[test]
 fn refuses_command_lines(rt: HostRuntime) -> Result<(), Fail> {
     let alloc = rt.alloc();
     for line in [
+        "--tally --list",
+        "--tally --most 5",
+        "--most 1000000 --tally",
         "--workers 0",
         "--workers 17",
         "--bits 11",

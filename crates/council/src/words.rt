@@ -17,6 +17,8 @@ pub(crate) enum WordsFault {
 pub(crate) struct Wanted<'a> {
     pub(crate) file: Option<&'a str>,
     pub(crate) options: Options,
+    /// Whether the coalitions are counted and not kept.
+    pub(crate) tally: bool,
 }
 
 const ABOUT: &str =
@@ -51,6 +53,8 @@ a total or a weight has one value for each rule, with / between them.
   size       a size, how many coalitions have it, and how many of those contain each member (--sizes)
   member     a name, its weight, how many coalitions contain the member, the Deegan-Packel index as a
              fraction and as decimals, and the public good index likewise
+
+With --tally a game may have any number of coalitions: they are counted, and none is kept.
 
 The status is 0 where the report was written, 1 where the game file cannot be opened or read,
 2 where the command line is wrong, 3 where the file has no game, 4 where the game has more than
@@ -111,8 +115,17 @@ fn command<'a>(alloc: Global) -> Result<Command<'a>, Error> {
     let command = numbers(alloc, command)?
         .arg(flag(alloc, "list", "A line for each minimal winning coalition"))?
         .arg(flag(alloc, "sizes", "A line for each size of a coalition"))?
-        .arg(flag(alloc, "notation", "A line [q; w1, .., wn] for each rule"))?;
+        .arg(flag(alloc, "notation", "A line [q; w1, .., wn] for each rule"))?
+        .arg(tally(alloc)?)?;
     Ok(command)
+}
+
+fn tally<'a>(alloc: Global) -> Result<Arg<'a>, Error> {
+    let help = "Counts the coalitions and keeps none, however many they are";
+    let tally = flag(alloc, "tally", help)
+        .conflicts_with("list")?
+        .conflicts_with("most")?;
+    Ok(tally)
 }
 
 /// The options of a parse; none where a number is missing or out of its range.
@@ -143,5 +156,6 @@ pub(crate) fn read_words<'a>(alloc: Global, words: &'a [String]) -> Result<Wante
     Ok(Wanted {
         file: matches.get_str("FILE"),
         options,
+        tally: matches.get_flag("tally"),
     })
 }
