@@ -66,24 +66,32 @@ fn puts_parts_in_order(rt: HostRuntime) -> Result<(), Fail> {
     Ok(())
 }
 
+/// How many coalitions each piece has.
+fn lens_of(alloc: Global, gathered: &Gathered) -> Result<Vec<usize>, AllocError> {
+    let Ok(pieces) = gathered.pieces(alloc) else {
+        return Err(AllocError);
+    };
+    let mut lens = Vec::new(alloc);
+    for piece in &pieces {
+        lens.push(piece.len())?;
+    }
+    Ok(lens)
+}
+
 #[test]
 fn finds_the_pieces(rt: HostRuntime) -> Result<(), Fail> {
     let game = five(rt.alloc())?;
     let gathered = gathered(&rt, rt.alloc(), &game, &NoGate, 2, 3, 5)?;
     rt.println("call")?;
-    let answer = gathered.pieces(rt.alloc());
+    let answer = lens_of(rt.alloc(), &gathered);
     match &answer {
         Ok(_) => rt.println("worked")?,
         Err(_) => rt.println("out of memory")?,
     }
-    let pieces = match answer {
-        Ok(pieces) => pieces,
-        Err(_) => gathered.pieces(rt.alloc())?,
+    let lens = match answer {
+        Ok(lens) => lens,
+        Err(_) => lens_of(rt.alloc(), &gathered)?,
     };
-    let mut lens = Vec::new(rt.alloc());
-    for piece in &pieces {
-        lens.push(piece.len())?;
-    }
     assert_eq!(rt; lens.as_slice(), [1, 3, 1, 0].as_slice());
     Ok(())
 }
