@@ -10,7 +10,7 @@ mod tallies;
 mod tests;
 
 pub use fault::{Cause, RunFault, status};
-pub use options::Options;
 pub use mwc_tally::{NoWatch, Watch};
+pub use options::Options;
 pub use runs::run;
 pub use tallies::tally;

@@ -58,9 +58,9 @@ first_turn {n} {early} {stopped} {stops} {marks} {after} seats k s t l e fresh f
           = λ z. elim (g.told_if (g.why (g.idle_is ∙ or-false s.idle ∙ fresh.idle))) [
             | inl old ↦ absurd (false≢true (sym fresh.not_told ∙ old))
             | inr why ↦ elim why [
-                | inl all ↦ none_free d.holders d.free (subst (λ (m : List (Option ℕ)). All IsSome m) d.marks_are all)
-                | inr y ↦ absurd (false≢true (sym z ∙ y))
-              ]
+              | inl all ↦ none_free d.holders d.free (subst (λ (m : List (Option ℕ)). All IsSome m) d.marks_are all)
+              | inr y ↦ absurd (false≢true (sym z ∙ y))
+            ]
           ] in
           record {
             deal = record {

@@ -211,21 +211,21 @@ read_then_deal {done} {stopped} {stop} {stops} {marks} {after} s u t w given tol
           ∙ ap (λ (b : Bool). stopped || b) (or_within (is_ill u) (is_ill t) (ill_stays u t r.lost_stays r.cut_stays));
       gives = elim r.gives [
         | inl g ↦ inl (record {
-            marks_stay = g.marks_stay;
-            given_stay = g.given_stay ∙ given;
-            idle_is = g.idle_is ∙ now;
-            told_if = λ z. elim (g.told_if z) [ inl old ↦ inl (sym told ∙ old) | inr why ↦ inr why ];
-            why = g.why;
-          })
+          marks_stay = g.marks_stay;
+          given_stay = g.given_stay ∙ given;
+          idle_is = g.idle_is ∙ now;
+          told_if = λ z. elim (g.told_if z) [ inl old ↦ inl (sym told ∙ old) | inr why ↦ inr why ];
+          why = g.why;
+        })
         | inr g ↦ inr (record {
-            slice = g.slice;
-            goes_on = g.goes_on;
-            finished = sym now ∙ g.finished;
-            lowest = g.lowest;
-            marked = g.marked;
-            given = g.given ∙ ap (λ (v : List ℕ). v ++ g.slice ∷ []) given;
-            told_not = g.told_not;
-          })
+          slice = g.slice;
+          goes_on = g.goes_on;
+          finished = sym now ∙ g.finished;
+          lowest = g.lowest;
+          marked = g.marked;
+          given = g.given ∙ ap (λ (v : List ℕ). v ++ g.slice ∷ []) given;
+          told_not = g.told_not;
+        })
       ];
     }
 

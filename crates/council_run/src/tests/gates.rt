@@ -73,7 +73,11 @@ fn sees_all<R: Abort + Print + Threads + Wait + Sync>(
     for slice in 0..1024u16 {
         let wanted = u64::from(u64::from(slice) < slices);
         let passed = seen.of[slice as usize].load(Ordering::SeqCst);
-        assert_eq!(rt; passed, wanted, "slice {slice} of {slices}, {workers} workers");
+        assert_eq!(rt;
+            passed,
+            wanted,
+            "slice {slice} of {slices}, {workers} workers"
+        );
     }
     assert_eq!(rt; seen.other.load(Ordering::SeqCst), 0);
     for worker in 0..16u8 {
