@@ -81,6 +81,7 @@ sweep() {
 sweep "five coalitions in brackets" "$temp/five.txt" --list --sizes --notation --workers 3
 sweep "five coalitions" "$temp/five.toml" --list --sizes --workers 3
 sweep "two rules" "$temp/two.toml" --list --sizes --notation --workers 2
+sweep "a tally" "$temp/five.toml" --tally --sizes --workers 3
 sweep "--help" --help
 sweep "a fault of the command line" --workers 0
 sweep "an unknown option" --order

@@ -1,4 +1,6 @@
 //! Counts of worked games, by one thread and by several.
+mod refusals;
+
 ghost use Rattle.std.specs.Prelude.{◌≤◌};
 
 use crate::{NoWatch, Watch, tally, tally_slice};
@@ -8,6 +10,7 @@ use std::alloc::Global;
 use std::process::Abort;
 use std::sync::atomic::{AtomicU64, Ordering};
 use std::test::Fail;
+use std::{hint, thread};
 
 /// A game of members named 0, 1, ..
 fn game(alloc: Global, quota: u64, weights: &[u64]) -> Result<Game, Fail> {
@@ -81,5 +84,52 @@ fn five_of_forty_win(rt: HostRuntime) -> Result<(), Fail> {
     for member in 0..40 {
         assert_eq!(rt; counts.of_member(member), 82_251);
     }
+    Ok(())
+}
+
+/// Holds the thread that counted slice 0 until all others are counted, for so many turns at most.
+#[derive(Drop)]
+struct Holding {
+    done: AtomicU64,
+    missed: AtomicU64,
+}
+
+impl Holding {
+    fn sees(&self, slices: u64) -> bool {
+        for turn in 0..100_000_000u32 {
+            if self.done.load(Ordering::SeqCst) == slices {
+                return true;
+            }
+            if turn % 64 == 0 {
+                thread::yield_now();
+            }
+            hint::spin_loop();
+        }
+        false
+    }
+}
+
+impl Watch for Holding {
+    fn counted(&self, slice: u16, slices: u16) {
+        self.done.fetch_add(1, Ordering::SeqCst);
+        if slice == 0 && !self.sees(u64::from(slices)) {
+            self.missed.store(1, Ordering::SeqCst);
+        }
+    }
+}
+
+/// A slice that nobody took yet goes to whichever thread is free: a fixed deal of slices fails.
+#[test]
+fn a_held_thread_holds_no_slice(rt: HostRuntime) -> Result<(), Fail> {
+    let game = game(rt.alloc(), 51, &[35, 20, 15, 15, 15])?;
+    assert_eq!(rt; game.members(), 5);
+    let holding = Holding {
+        done: AtomicU64::new(0),
+        missed: AtomicU64::new(0),
+    };
+    let counts = tally(&rt, rt.alloc(), &game, 5, 2, &holding)?;
+    assert_of_five(&rt, &counts);
+    assert_eq!(rt; holding.done.load(Ordering::SeqCst), 32);
+    assert_eq!(rt; holding.missed.load(Ordering::SeqCst), 0);
     Ok(())
 }

@@ -1,0 +1,32 @@
+//! The calls that take memory, and the one that takes none. `tests/refusals.sh` refuses the
+//! allocations between the line `call` and the line of the answer.
+use super::*;
+use crate::TallyFault;
+use std::io::Print;
+
+#[test]
+fn tallies(rt: HostRuntime) -> Result<(), Fail> {
+    let game = game(rt.alloc(), 51, &[35, 20, 15, 15, 15])?;
+    assert_eq!(rt; game.members(), 5);
+    rt.println("call")?;
+    match tally(&rt, rt.alloc(), &game, 2, 3, &NoWatch) {
+        Ok(counts) => {
+            rt.println("worked")?;
+            assert_of_five(&rt, &counts);
+        }
+        Err(TallyFault::Memory) => rt.println("out of memory")?,
+        Err(TallyFault::Start) => rt.println("not started")?,
+    }
+    Ok(())
+}
+
+#[test]
+fn tallies_a_slice_without_memory(rt: HostRuntime) -> Result<(), Fail> {
+    let game = game(rt.alloc(), 51, &[35, 20, 15, 15, 15])?;
+    assert_eq!(rt; game.members(), 5);
+    rt.println("call")?;
+    let counts = tally_slice(&game, 0, 0);
+    assert_of_five(&rt, &counts);
+    rt.println("worked")?;
+    Ok(())
+}
