@@ -4,7 +4,7 @@ mod refusals;
 ghost use Rattle.std.specs.Prelude.{◌≤◌};
 
 use crate::{NoWatch, Watch, tally, tally_slice};
-use council_game::Game;
+use council_game::{Game, GameFault};
 use power_index::WideCounts;
 use std::alloc::Global;
 use std::process::Abort;
@@ -13,14 +13,17 @@ use std::test::Fail;
 use std::{hint, thread};
 
 /// A game of members named 0, 1, ..
-fn game(alloc: Global, quota: u64, weights: &[u64]) -> Result<Game, Fail> {
+fn game(alloc: Global, quota: u64, weights: &[u64]) -> Result<Game, GameFault> {
     let mut names = Vec::new(alloc);
     let mut own = Vec::new(alloc);
     for (i, weight) in weights.iter().enumerate() {
         names.push(format!(in alloc; "{i}")?)?;
         own.push(*weight)?;
     }
-    Ok(Game::new(alloc, None, names, own, quota)?)
+    if own.len() != names.len() {
+        return Err(GameFault::Members);
+    }
+    Game::new(alloc, None, names, own, quota)
 }
 
 /// How many slices were counted.
