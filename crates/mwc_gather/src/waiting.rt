@@ -8,7 +8,7 @@ use std::time::Duration;
 use std::{array, hint};
 
 /// How often a thread looks again before it sleeps.
-const LOOKS: u32 = 200;
+const LOOKS: u32 = 500;
 
 /// How many milliseconds a thread sleeps at most before it looks again.
 const LONGEST: u64 = 1;

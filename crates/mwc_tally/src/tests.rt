@@ -90,7 +90,7 @@ fn five_of_forty_win(rt: HostRuntime) -> Result<(), Fail> {
     Ok(())
 }
 
-/// Holds the thread that counted slice 0 until all others are counted, for so many turns at most.
+/// Holds the thread that counted a slice first until all others are counted, for so many turns at most.
 #[derive(Drop)]
 struct Holding {
     done: AtomicU64,
@@ -113,9 +113,9 @@ impl Holding {
 }
 
 impl Watch for Holding {
-    fn counted(&self, slice: u16, slices: u16) {
-        self.done.fetch_add(1, Ordering::SeqCst);
-        if slice == 0 && !self.sees(u64::from(slices)) {
+    fn counted(&self, _slice: u16, slices: u16) {
+        let before = self.done.fetch_add(1, Ordering::SeqCst);
+        if before == 0 && !self.sees(u64::from(slices)) {
             self.missed.store(1, Ordering::SeqCst);
         }
     }

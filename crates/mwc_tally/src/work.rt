@@ -80,7 +80,8 @@ impl<'a, W: Watch> Work<'a, W> {
             .store(u64::from(slice_count(bits)), Ordering::SeqCst);
     }
 
-    /// Counts the next slice that nobody took yet, until none is left.
+    /// Counts the next slice that nobody took yet, until none is left. The last slice comes first: the
+    /// heaviest members are out there, and it mostly takes longest.
     fn count_next(&self, alloc: Global, bits: u8) -> Result<Share, Memory>
         requires few { bits ≤ 10 }
         requires bits { bits ≤ length self.now.names }
@@ -93,7 +94,7 @@ impl<'a, W: Watch> Work<'a, W> {
             if ticket >= u64::from(slices) {
                 break;
             }
-            let slice = ticket as u16;
+            let slice = slices - 1 - ticket as u16;
             share.add(
                 self.game,
                 bits,
