@@ -105,7 +105,7 @@ impl PipeIn<Word> for Batch {
         self.put_word(item)
     }
 
-    /// Puts the words of a row in, one behind the other, once there is room for them.
+    /// Puts the words of a row in, one behind the other.
     ///
     /// # Errors
     ///
@@ -119,7 +119,6 @@ impl PipeIn<Word> for Batch {
         ensures open { IfErr result (λ e. e.why ≢ Refused.Closed (handed_back e.why)) }
         ensures full { IfErr result (λ e. (e.why ≡ Refused.Full (handed_back e.why)) ↔ (length self.new.accepted ≡ self.old.capacity)) }
     {
-        self.pipe.make_room(items.len());
         for accepted in 0..items.len() {
             if let Err(why) = self.put_word(items[accepted]) {
                 return Err(Stopped { accepted, why });

@@ -70,15 +70,6 @@ impl<T> Pipe<T> {
         Ok(())
     }
 
-    /// Makes room for so many items more, or for as many as the pipe may hold, where there is memory
-    /// for them. Where there is none a put tells it.
-    pub(crate) fn make_room(&mut self, count: usize)
-        ensures { self.new ≡ self.old }
-    {
-        let room = self.capacity as usize - self.items.len();
-        let _made = self.items.reserve(count.min(room));
-    }
-
     /// Takes the oldest item out. It takes no memory.
     pub fn take(&mut self) -> Taken<T>
         ensures taken { TakesOut self.old result self.new }
