@@ -34,7 +34,6 @@ ALLOWED = {
     ],
     "council_run/src/runs.rt": [
         ("let Ok(pieces) = pieces(alloc, &game, &gathered, options.most) else {", "return Err(RunFault::early(Cause::Memory));", "the call's one error is Memory"),
-        ("let Ok(counts) = WideCounts::of_pieces(rt, alloc, &game, &pieces, options.workers) else {", "return Err(RunFault::early(Cause::Memory));", "the call's one error is Memory"),
     ],
     "mwc_gather/src/calls.rt": [
         ("if draft.lost {", "GatherFault::Memory", "a draft is lost where a growth was refused"),

@@ -4,8 +4,7 @@
 # it and its answer after it, `worked`, `out of memory` or `not started`, looks whether all stands as
 # it must after that answer, and fails if not. Where no allocation was refused the answer is the
 # worked one. Where one was, it is want of memory or, for calls that start threads, that one did not
-# start; no call works then, but a run whose thread for counting a part of the list could not be started,
-# and whose part was counted by the thread that wanted to start it. The built tests of the crates are run, and the library that refuses is
+# start; no call works then. The built tests of the crates are run, and the library that refuses is
 # hostile/refuse.c.
 . "$(dirname "$0")/common.sh"
 
@@ -38,10 +37,6 @@ answers() {
     return 1
 }
 
-# How often a call may work though an allocation was refused: once for each thread that could not be
-# started, and whose work was done by another.
-spared=0
-
 # sweep HOW CRATE TEST ANSWER..: the call answers so while allocations are refused, as long as one is.
 sweep() {
     local how=$1 name="$2 $3, $1" number why='' counts
@@ -55,9 +50,6 @@ sweep() {
     if [ -z "$why" ] && [ "$number" -eq 1 ]; then
         why="no allocation was seen, so none was refused"
     fi
-    if [ -z "$why" ] && [ "$(grep -cx worked "$temp/answers")" -gt "$spared" ]; then
-        why="it worked $(grep -cx worked "$temp/answers") times while an allocation was refused"
-    fi
     if [ -z "$why" ]; then
         counts=$(sort "$temp/answers" | uniq -c | sed 's/^ *//' | tr '\n' ',' | sed 's/,$//; s/,/, /g')
         ok "$name 1 to $((number - 1)): $counts"
@@ -70,6 +62,12 @@ sweep() {
 takes_memory() {
     sweep REFUSE_AT "$1" "$2" "out of memory" "${@:3}"
     sweep REFUSE_FROM "$1" "$2" "out of memory" "${@:3}"
+}
+
+# starts_threads CRATE TEST: where allocations are refused, the call answers that a thread did not start.
+starts_threads() {
+    sweep REFUSE_AT "$1" "$2" "not started"
+    sweep REFUSE_FROM "$1" "$2" "not started"
 }
 
 # takes_none CRATE TEST: the call works while all allocations are refused.
@@ -101,16 +99,12 @@ takes_memory mwc_pipe makes_a_ring
 takes_none mwc_pipe moves_words_without_memory
 takes_none power_index counts_without_memory
 takes_memory mwc_tally tallies "not started"
+starts_threads mwc_tally tallies_pieces
 takes_none mwc_tally tallies_a_slice_without_memory
 takes_memory mwc_gather gathers "not started"
 takes_memory mwc_gather gathers_too_many "not started"
 takes_memory mwc_gather puts_parts_in_order
 takes_memory mwc_gather sends_into_a_batch
 takes_none mwc_gather marks_without_memory
-# a run of three workers counts in three threads, of which it starts two
-spared=2
-sweep REFUSE_AT council_run runs_on_brackets "out of memory" "not started" worked
-sweep REFUSE_AT council_run runs_on_toml "out of memory" "not started" worked
-spared=0
-sweep REFUSE_FROM council_run runs_on_brackets "out of memory" "not started"
-sweep REFUSE_FROM council_run runs_on_toml "out of memory" "not started"
+takes_memory council_run runs_on_brackets "not started"
+takes_memory council_run runs_on_toml "not started"

@@ -9,9 +9,9 @@ use crate::options::Options;
 use council_file::read_game;
 use council_game::{Coalition, Game, Memory};
 use council_report::{ReportFault, write_report_of};
-use mwc_gather::{Gate, Guarded, gather};
+use mwc_gather::{Gate, GatherFault, Guarded, gather};
 use mwc_parts::Gathered;
-use power_index::WideCounts;
+use mwc_tally::tally_pieces;
 use std::alloc::Global;
 use std::io::{Read, Write};
 use std::sync::Wait;
@@ -79,8 +79,8 @@ pub fn run<T: Threads + Wait + Sync, R: Read, W: Write, G: Gate + Sync>(
     let Ok(pieces) = pieces(alloc, &game, &gathered, options.most) else {
         return Err(RunFault::early(Cause::Memory));
     };
-    let Ok(counts) = WideCounts::of_pieces(rt, alloc, &game, &pieces, options.workers) else {
-        return Err(RunFault::early(Cause::Memory));
+    let Ok(counts) = tally_pieces(rt, &game, &pieces, options.workers) else {
+        return Err(RunFault::early(Cause::Gather(GatherFault::Start)));
     };
     match write_report_of(alloc, &game, &pieces, &counts, options.shown(), writer) {
         Ok(count) => Ok(count),

@@ -1,9 +1,11 @@
-//! Counts of the minimal winning coalitions of a game, which is walked slice by slice: nothing is
-//! kept of a coalition but that it was counted, so there may be any number of them.
+//! Counts by several threads. Of the minimal winning coalitions of a game, which is walked slice by
+//! slice: nothing is kept of a coalition but that it was counted, so there may be any number of them.
+//! And of a list of coalitions that lies in pieces.
 #![tactic(auto)]
 
 mod all;
 mod fault;
+mod pieces;
 mod share;
 mod slice;
 #[cfg(test)]
@@ -13,5 +15,6 @@ mod work;
 
 pub use all::tally;
 pub use fault::TallyFault;
+pub use pieces::tally_pieces;
 pub use slice::tally_slice;
 pub use watch::{NoWatch, Watch};

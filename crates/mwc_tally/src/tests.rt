@@ -1,4 +1,5 @@
 //! Counts of worked games, by one thread and by several.
+mod pieces;
 mod refusals;
 
 ghost use Rattle.std.specs.Prelude.{◌≤◌};

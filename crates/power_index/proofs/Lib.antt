@@ -3,7 +3,6 @@ pub mod Digits
 pub mod LowestTerms
 pub mod Members
 pub mod Minimal
-pub mod Parts
 pub mod Printed
 pub mod Quotients
 pub mod Small

@@ -1,14 +1,13 @@
 //! Counts of coalitions, fractions in lowest terms, and the two power indices that rest on minimal
 //! winning coalitions: Deegan and Packel's (1978) and Holler and Packel's public good index (1983).
 //!
-//! Nothing here takes memory, but for the counts of several threads.
+//! Nothing here takes memory.
 #![tactic(auto)]
 
 mod counts;
 mod fraction;
 mod indices;
 pub mod laws;
-mod pieces;
 mod tally;
 #[cfg(test)]
 mod tests;

@@ -1,11 +1,7 @@
 //! Wide counts: one coalition more, a row more, two lists together, and the counts of more
 //! coalitions than 32 bits hold.
-ghost use Rattle.power_index.specs.Counting.{AreCoalitions};
-ghost use Rattle.std.specs.Prelude.{◌≤◌, length};
-
 use super::*;
 use crate::WideCounts;
-use std::thread::Threads;
 
 /// What wide counts of the five members say of all sizes and members.
 fn assert_of_five(rt: &impl Abort, counts: &WideCounts) {
@@ -89,38 +85,5 @@ fn more_than_32_bits_hold(rt: HostRuntime) -> Result<(), Fail> {
     assert!(rt; counts.total() > 1 << 32);
     assert_printed(&rt, counts.deegan_packel(0), (3, 10, b"0.300000"));
     assert_printed(&rt, counts.public_good(0), (4, 15, b"0.266666"));
-    Ok(())
-}
-
-/// The counts of a list in three pieces.
-fn counts_of_three<R: Threads + Sync>(
-    rt: &R,
-    alloc: Global,
-    game: &Game,
-    first: &[Coalition],
-    second: &[Coalition],
-    third: &[Coalition],
-    threads: u8,
-) -> Result<WideCounts, Fail>
-    requires first { (length first.now ≤ 1000) × AreCoalitions game.now first.now }
-    requires second { (length second.now ≤ 1000) × AreCoalitions game.now second.now }
-    requires third { (length third.now ≤ 1000) × AreCoalitions game.now third.now }
-    requires threads { (1 ≤ threads) × (threads ≤ 16) }
-{
-    let pieces = [first, second, third];
-    let counts = WideCounts::of_pieces(rt, alloc, game, &pieces, threads)?;
-    Ok(counts)
-}
-
-#[test]
-fn pieces_are_counted_by_any_threads(rt: HostRuntime) -> Result<(), Fail> {
-    let game = game(rt.alloc(), 51, &[35, 20, 15, 15, 15])?;
-    let first = coalitions(&rt, rt.alloc(), &game, &[24])?;
-    let second = coalitions(&rt, rt.alloc(), &game, &[])?;
-    let third = coalitions(&rt, rt.alloc(), &game, &[22, 21, 19, 15])?;
-    for threads in 1..17u8 {
-        let counts = counts_of_three(&rt, rt.alloc(), &game, &first, &second, &third, threads)?;
-        assert_of_five(&rt, &counts);
-    }
     Ok(())
 }

@@ -3,8 +3,8 @@ use Rattle.std.specs.List.{All, flat_map}
 use Rattle.std.proofs.lemmas.List.Elements.{All-drop, All-take}
 use Rattle.power_index.specs.Tables.{AreTallies}
 use Rattle.power_index.proofs.Sound.{total-is}
-use Rattle.power_index.proofs.Parts.{row-is, rest-length, part-more, part-left, part-length, pieces-more, pieces-length, piece-all}
-use Rattle.power_index.proofs.pieces.of_part.Goals as goal
+use Rattle.mwc_tally.proofs.Parts.{row-is, rest-length, part-more, part-left, part-length, pieces-more, pieces-length, piece-all}
+use Rattle.mwc_tally.proofs.pieces.of_part.Goals as goal
 
 pub count_row-requires-clause-coalitions : goal.count_row-requires-clause-coalitions
 count_row-requires-clause-coalitions c =

@@ -1,7 +1,7 @@
 use Rattle.std.proofs.Common.{length, length-append, ap, arith, take, ℕ, List}
 use Rattle.std.specs.List.{flat_map}
-use Rattle.power_index.proofs.Parts.{pieces-more, pieces-length}
-use Rattle.power_index.proofs.pieces.length_of.Goals as goal
+use Rattle.mwc_tally.proofs.Parts.{pieces-more, pieces-length}
+use Rattle.mwc_tally.proofs.pieces.length_of.Goals as goal
 
 pub overflow_add-length : goal.overflow_add-length
 overflow_add-length c =

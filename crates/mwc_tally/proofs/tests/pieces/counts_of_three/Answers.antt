@@ -1,9 +1,9 @@
 use Rattle.std.proofs.Common.{◌<◌, ◌^◌, ◌++◌, [], ℕ, length, arith}
 use Rattle.std.proofs.lemmas.List.Elements.{All-append}
-use Rattle.power_index.proofs.tests.wide.counts_of_three.Goals as goal
+use Rattle.mwc_tally.proofs.tests.pieces.counts_of_three.Goals as goal
 
-pub of_pieces-requires-clause-coalitions : goal.of_pieces-requires-clause-coalitions
-of_pieces-requires-clause-coalitions g c lifetimes within =
+pub tally_pieces-requires-clause-coalitions : goal.tally_pieces-requires-clause-coalitions
+tally_pieces-requires-clause-coalitions g c lifetimes within =
     let own : ℕ → Type 0 = λ m. (0 < m) × (m < 2 ^ length c.args.game.now.names) in
     All-append own c.args.first.now (c.args.second.now ++ (c.args.third.now ++ [])) c.requires.first.1
     (All-append own c.args.second.now (c.args.third.now ++ []) c.requires.second.1

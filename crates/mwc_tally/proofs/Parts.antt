@@ -1,5 +1,5 @@
 -- Parts of a list that lies in pieces.
-use Rattle.std.proofs.Common.{◌≡◌, ◌∙◌, ℕ, ◌+◌, ◌-◌, ◌*◌, ◌/◌, ◌%◌, ◌<◌, ◌≤◌, zero, suc, min, List, [], ◌∷◌, ◌++◌, length, get_or, take, drop, sym, ap, refl, arith, subst, length-append, length-drop, inl, inr}
+use Rattle.std.proofs.Common.{◌≡◌, ◌∙◌, ℕ, ◌+◌, ◌-◌, ◌*◌, ◌/◌, ◌%◌, ◌<◌, ◌≤◌, zero, suc, min, List, [], ◌∷◌, ◌++◌, length, get_or, take, drop, sym, ap, refl, arith, subst, length-append, length-drop, inl, inr, IfOk, Result, Ok, Err}
 use Rattle.std.specs.List.{All, flat_map}
 use Rattle.std.proofs.lemmas.List.{take_all, take_more, drop_all, length-take, take-append-drop, take-append-le, drop-append-le, append-nil}
 use Rattle.std.proofs.lemmas.List.Elements.{All-drop, All-take}
@@ -7,6 +7,11 @@ use Rattle.std.proofs.lemmas.List.Concat.{flat_map-append}
 use Rattle.std.proofs.lemmas.List.Folds.{length-flat_map-take}
 use Rattle.std.proofs.lemmas.Bool.{cases_lt}
 use Rattle.std.proofs.Math.Nat.{div-add-mod, mod-lt}
+use Rattle.council_game.specs.Game.{GameView}
+use Rattle.power_index.specs.Tables.{Tables, AreTallies, AreCounts}
+use Rattle.power_index.proofs.Sound.{tallies-are_counts}
+use Rattle.mwc_tally.specs.Threads.{IsGivenPart}
+use Rattle.mwc_tally.specs.declared.pieces.GivenPart.{GivenPart}
 
 pub drop-append : (n : ℕ) (xs ys : List ℕ) → drop n (xs ++ ys) ≡ drop n xs ++ drop (n - length xs) ys
 drop-append zero xs ys = let e : 0 ≡ 0 - length xs = omega arith in ap (λ (k : ℕ). xs ++ drop k ys) e
@@ -110,3 +115,35 @@ row-is piece s l a m a-is m-is =
 
 pub rest-length : (piece : List ℕ) (s a : ℕ) → a ≡ min s (length piece) → length (take (length piece - a) (drop a piece)) ≡ length piece - s
 rest-length piece s a a-is = let one = length-take (length piece - a) (drop a piece) in let other = length-drop a piece in omega (arith, one, other, a-is)
+
+-- what is past a part
+pub part-and-rest : (skip part : ℕ) (xs : List ℕ) → take part (drop skip xs) ++ drop (skip + part) xs ≡ drop skip xs
+part-and-rest zero part xs =
+    let e : 0 + part ≡ part = omega arith in
+    ap (λ (n : ℕ). take part xs ++ drop n xs) e ∙ take-append-drop part xs
+part-and-rest (suc skip) part [] =
+    let e : suc skip + part ≡ suc (skip + part) = omega arith in
+    ap (λ (n : ℕ). take part [] ++ drop n []) e ∙ none part
+  where
+    none : (n : ℕ) → take {A = ℕ} n [] ++ [] ≡ []
+    none zero = refl
+    none (suc n) = refl
+part-and-rest (suc skip) part (x ∷ xs) =
+    let e : suc skip + part ≡ suc (skip + part) = omega arith in
+    ap (λ (n : ℕ). take part (drop skip xs) ++ drop n (x ∷ xs)) e ∙ part-and-rest skip part xs
+
+-- what a thread counted is what it was given to count
+pub is-part : (given : GivenPart) (g : GameView) (list : List ℕ) (skip most : ℕ) → IsGivenPart g list skip most given
+    → (t : Tables) → AreTallies given.game.value (take given.most (drop given.skip (flat_map (λ p. p.now) given.pieces.value.now))) t
+    → AreTallies g (take most (drop skip list)) t
+is-part given g list skip most is t tallies =
+    let same =
+    ap (λ (l : List ℕ). take given.most (drop given.skip l)) is.of_list
+    ∙ ap (λ (n : ℕ). take given.most (drop n list)) is.past
+    ∙ ap (λ (n : ℕ). take n (drop skip list)) is.at_most in
+    subst (λ (x : GameView). AreTallies x (take most (drop skip list)) t) is.of_game
+    (subst (λ (l : List ℕ). AreTallies given.game.value l t) same tallies)
+
+pub ok-counts : {E : Type 0} (g : GameView) (list : List ℕ) (r : Result Tables E) → IfOk r (AreTallies g list) → IfOk r (AreCounts g list)
+ok-counts g list (Ok t) h = tallies-are_counts g list t h
+ok-counts g list (Err e) h = h

@@ -1,0 +1,156 @@
+//! Counts of a list that lies in pieces, by several threads.
+ghost use Rattle.council_game.specs.Game.{IsGame};
+ghost use Rattle.power_index.specs.Counting.{AreCoalitions};
+ghost use Rattle.power_index.specs.Tables.{AreCounts, AreTallies};
+ghost use Rattle.std.specs.List.{flat_map};
+ghost use Rattle.std.specs.Prelude.{◌≡◌, ℕ, ◌+◌, ◌*◌, ◌<◌, ◌≤◌, ◌^◌, ⊤, IfOk, IfErr, MatchOption, length, drop, take};
+ghost use Rattle.mwc_tally.specs.Threads.{IsGivenPart};
+
+use crate::fault::TallyFault;
+use council_game::{Coalition, Game};
+use power_index::WideCounts;
+use std::snapshot::Snapshot;
+use std::sync::Wait;
+use std::thread;
+use std::thread::{Promise, PromisedHandle, Scope, Threads};
+
+/// What a thread was given, for proofs alone: a part of a list in pieces.
+#[derive(Drop)]
+pub(crate) struct GivenPart<'s> {
+    pub game: Snapshot<Game>,
+    pub pieces: Snapshot<&'s [&'s [Coalition]]>,
+    pub skip: usize,
+    pub most: usize,
+}
+
+impl<'s> Promise<WideCounts> for GivenPart<'s> {
+    ghost use Rattle.std.specs.Prelude.{take, drop};
+    ghost use Rattle.std.specs.List.{flat_map};
+    ghost use Rattle.power_index.specs.Tables.{AreTallies};
+
+    ghost kept_by = { λ t counts. AreTallies t.game.value
+        (take t.most (drop t.skip (flat_map (λ p. p.now) t.pieces.value.now))) counts };
+}
+
+/// A thread that counts a part.
+type Counting<'s> = PromisedHandle<WideCounts, GivenPart<'s>>;
+
+/// How many coalitions pieces have together.
+fn length_of(pieces: &[&[Coalition]]) -> usize
+    requires { length (flat_map (λ p. p.now) pieces.now) ≤ 2 ^ 40 }
+    ensures { result ≡ length (flat_map (λ p. p.now) pieces.now) }
+{
+    let mut length = 0;
+    for piece in pieces {
+        length += piece.len();
+    }
+    length
+}
+
+/// The counts of at most `most` coalitions of a list in pieces, past its first `skip`.
+fn of_part(game: &Game, pieces: &[&[Coalition]], skip: usize, most: usize) -> WideCounts
+    requires few { length (flat_map (λ p. p.now) pieces.now) ≤ 2 ^ 40 }
+    requires coalitions { AreCoalitions game.now (flat_map (λ p. p.now) pieces.now) }
+    ensures { AreTallies game.now (take most (drop skip (flat_map (λ p. p.now) pieces.now))) result }
+{
+    let mut counts = WideCounts::none(game);
+    let mut skip = skip;
+    let mut left = most;
+    for piece in pieces {
+        let rest = &piece[skip.min(piece.len())..];
+        let row = &rest[..left.min(rest.len())];
+        counts.count_row(row);
+        skip = skip.saturating_sub(piece.len());
+        left = left.saturating_sub(rest.len());
+    }
+    counts
+}
+
+/// The counts of a list of coalitions, none of them empty, that is given in pieces, one after the
+/// other, by 1 to 16 threads, the calling one among them. Each counts an equal part of the list,
+/// wherever the pieces end. It waits for their end.
+///
+/// # Errors
+///
+/// `Start` where a thread could not be started.
+pub fn tally_pieces<R: Threads + Wait + Sync>(
+    rt: &R,
+    game: &Game,
+    pieces: &[&[Coalition]],
+    threads: u8,
+) -> Result<WideCounts, TallyFault>
+    requires threads { (1 ≤ threads) × (threads ≤ 16) }
+    requires few { length (flat_map (λ p. p.now) pieces.now) ≤ 2 ^ 40 }
+    requires coalitions { AreCoalitions game.now (flat_map (λ p. p.now) pieces.now) }
+    ensures ok { IfOk result (AreCounts game.now (flat_map (λ p. p.now) pieces.now)) }
+    ensures err { IfErr result (λ fault. fault ≡ TallyFault.Start) }
+{
+    let part = length_of(pieces) / usize::from(threads) + 1;
+    thread::scope(
+        thread::scope_env(),
+        rt,
+        move |scope| -> Result<WideCounts, TallyFault>
+            requires few { length (flat_map (λ p. p.now) pieces.now) ≤ 2 ^ 40 }
+            requires coalitions { AreCoalitions game.now (flat_map (λ p. p.now) pieces.now) }
+            requires part { part ≤ 2 ^ 41 }
+            requires threads { (1 ≤ threads) × (threads ≤ 16) }
+            ensures ok { IfOk result (AreTallies game.entry.now (flat_map (λ p. p.now) pieces.entry.now)) }
+            ensures err { IfErr result (λ fault. fault ≡ TallyFault.Start) }
+        { count_from(scope, rt, game, pieces, 0, part, threads - 1) },
+    )
+}
+
+/// Starts a thread that counts a part; none where it could not be started.
+fn start<'s, E>(
+    scope: &Scope<'s, E>,
+    game: &'s Game,
+    pieces: &'s [&'s [Coalition]],
+    skip: usize,
+    most: usize,
+) -> Option<Counting<'s>>
+    requires few { length (flat_map (λ p. p.now) pieces.now) ≤ 2 ^ 40 }
+    requires coalitions { AreCoalitions game.now (flat_map (λ p. p.now) pieces.now) }
+    ensures { MatchOption result ⊤ (λ t. IsGivenPart game.now (flat_map (λ p. p.now) pieces.now) skip most t.promise) }
+{
+    let given = GivenPart {
+        game: Snapshot::of(game),
+        pieces: Snapshot::of(&pieces),
+        skip,
+        most,
+    };
+    let body = move || -> WideCounts
+        requires few { length (flat_map (λ p. p.now) pieces.now) ≤ 2 ^ 40 }
+        requires coalitions { AreCoalitions game.now (flat_map (λ p. p.now) pieces.now) }
+        ensures { AreTallies game.entry.now (take most (drop skip (flat_map (λ p. p.now) pieces.entry.now))) result }
+    { of_part(game, pieces, skip, most) };
+    scope.spawn_with(given, body).ok()
+}
+
+/// The counts of a list past its first `skip` coalitions, by so many other threads, each of which
+/// counts a part, and the calling one, which counts what is left.
+fn count_from<'s, E, R: Threads>(
+    scope: &Scope<'s, E>,
+    rt: &R,
+    game: &'s Game,
+    pieces: &'s [&'s [Coalition]],
+    skip: usize,
+    part: usize,
+    others: u8,
+) -> Result<WideCounts, TallyFault>
+    requires few { length (flat_map (λ p. p.now) pieces.now) ≤ 2 ^ 40 }
+    requires coalitions { AreCoalitions game.now (flat_map (λ p. p.now) pieces.now) }
+    requires room { skip + others * part ≤ 2 ^ 46 }
+    ensures ok { IfOk result (AreTallies game.now (drop skip (flat_map (λ p. p.now) pieces.now))) }
+    ensures err { IfErr result (λ fault. fault ≡ TallyFault.Start) }
+{
+    if others == 0 {
+        return Ok(of_part(game, pieces, skip, length_of(pieces)));
+    }
+    let Some(thread) = start(scope, game, pieces, skip, part) else {
+        return Err(TallyFault::Start);
+    };
+    let rest = count_from(scope, rt, game, pieces, skip + part, part, others - 1);
+    let mut counts = thread.join(rt);
+    counts.add(&rest?);
+    Ok(counts)
+}
