@@ -3,9 +3,10 @@
 # one is bench/report_baseline.rs, Rust with the standard library alone in one thread. Each program
 # is timed as a whole, from its start to its end, with its report going to /dev/null.
 #
-# The first table: the least time of RUNS runs (7) of the plain program, in seconds, and the proved
-# one's over it, with 1, 2 and 4 workers; then the greatest resident memory of the plain program in
-# MiB, and the proved one's over it. The second: the longest of ten runs, in seconds, beside as many
+# The first table: the least time of RUNS runs (11) of the plain program, in seconds, and that of the
+# proved one over it, with 1, 2 and 4 workers; the four take turns, so that a slow spell of the machine
+# meets all of them. Then the greatest resident memory of the plain program in MiB, and the proved
+# one's over it. The second: the longest of ten runs, in seconds, beside as many
 # busy loops as there are processors. It is no test, and nothing fails at a slow run.
 #
 # bench/run.sh [PROGRAM]   PROGRAM is crates/council/out/council if it is not given
@@ -13,7 +14,7 @@ set -eu
 export LC_ALL=C
 cd "$(dirname "$0")/.."
 council=${1:-crates/council/out/council}
-runs=${RUNS:-7}
+runs=${RUNS:-11}
 if ! command -v rustc >/dev/null; then
     echo "$0: the command rustc, which builds the plain program, was not found" >&2
     exit 1
@@ -41,16 +42,13 @@ micros() {
     echo $((${end/./} - ${start/./}))
 }
 
-# The least, or by `most` the greatest, number of microseconds of so many runs of a command.
-of_runs() {
-    local which=$1 count=$2 found='' run time
-    shift 2
+# The longest of so many runs of a command, in microseconds.
+longest() {
+    local count=$1 found=0 run time
+    shift
     for ((run = 0; run < count; run++)); do
         time=$(micros "$@")
-        if [ -z "$found" ] || { [ "$which" = least ] && [ "$time" -lt "$found" ]; } ||
-            { [ "$which" = most ] && [ "$time" -gt "$found" ]; }; then
-            found=$time
-        fi
+        [ "$time" -le "$found" ] || found=$time
     done
     echo "$found"
 }
@@ -91,19 +89,30 @@ tallies() {
 
 # row NAME FILE PLAIN_WORDS COUNCIL_WORDS: a line of the first table.
 row() {
-    local name=$1 file=$2 plain_words council_words plain plain_memory workers ratios=()
+    local name=$1 file=$2 plain_words council_words run time workers plain_memory ratios=()
+    local -A least=()
     read -ra plain_words <<<"$3"
     read -ra council_words <<<"$4"
     if ! cmp -s <("$temp/plain" "$file" "${plain_words[@]}") <("$council" "$file" "${council_words[@]}"); then
         echo "$name: the two reports differ" >&2
         exit 1
     fi
-    plain=$(of_runs least "$runs" "$temp/plain" "$file" "${plain_words[@]}")
+    # by no worker: the plain program
+    for ((run = 0; run < runs; run++)); do
+        for workers in 0 1 2 4; do
+            if [ "$workers" -eq 0 ]; then
+                time=$(micros "$temp/plain" "$file" "${plain_words[@]}")
+            else
+                time=$(micros "$council" "$file" "${council_words[@]}" --workers "$workers")
+            fi
+            [ -n "${least[$workers]:-}" ] && [ "${least[$workers]}" -le "$time" ] || least[$workers]=$time
+        done
+    done
     for workers in 1 2 4; do
-        ratios+=("$(ratio "$(of_runs least "$runs" "$council" "$file" "${council_words[@]}" --workers "$workers")" "$plain")")
+        ratios+=("$(ratio "${least[$workers]}" "${least[0]}")")
     done
     plain_memory=$(memory "$temp/plain" "$file" "${plain_words[@]}")
-    printf '%-26s %-8s %8s %6s %6s %6s %8s %6s\n' "$name" "$5" "$(seconds "$plain")" "${ratios[@]}" \
+    printf '%-26s %-8s %8s %6s %6s %6s %8s %6s\n' "$name" "$5" "$(seconds "${least[0]}")" "${ratios[@]}" \
         "$([ "$plain_memory" = - ] && echo - || awk -v kib="$plain_memory" 'BEGIN { printf "%.1f", kib / 1024 }')" \
         "$(ratio "$(memory "$council" "$file" "${council_words[@]}" --workers 4)" "$plain_memory")"
 }
@@ -138,8 +147,8 @@ for ((i = 0; i < processors; i++)); do
 done
 echo "beside $processors busy loops, the longest of ten runs in seconds"
 printf '%-26s %8s %8s %8s %8s\n' game plain 'by 1' 'by 2' 'by 4'
-longest=("$(seconds "$(of_runs most 10 "$temp/plain" examples/eu-27-nice-votes.toml)")")
+longest=("$(seconds "$(longest 10 "$temp/plain" examples/eu-27-nice-votes.toml)")")
 for workers in 1 2 4; do
-    longest+=("$(seconds "$(of_runs most 10 "$council" examples/eu-27-nice-votes.toml --workers "$workers")")")
+    longest+=("$(seconds "$(longest 10 "$council" examples/eu-27-nice-votes.toml --workers "$workers")")")
 done
 printf '%-26s %8s %8s %8s %8s\n' '27 members' "${longest[@]}"

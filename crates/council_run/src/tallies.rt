@@ -18,6 +18,10 @@ use std::io::{Read, Write};
 use std::sync::Wait;
 use std::thread::Threads;
 
+/// A tally has at least 2^8 slices where there are so many members: the last of them are the longest,
+/// and with fewer one thread would still count when the others have ended.
+const LEAST_BITS: u8 = 8;
+
 /// The lines that the report of a tally shows: none for a coalition.
 fn unlisted(options: &Options) -> Shown
     ensures { result ≡ unlisted options.now }
@@ -41,7 +45,7 @@ fn count<T: Threads + Wait + Sync, V: Watch + Sync>(
         (λ c. AreCounts game.now (minimal_coalitions (votes_of game.now)) c) }
     ensures err { IfErr result IsUncounted }
 {
-    let bits = options.bits.min(game.members() as u8);
+    let bits = options.bits.max(LEAST_BITS).min(game.members() as u8);
     match mwc_tally::tally(rt, alloc, game, bits, options.workers, watch) {
         Ok(counts) => Ok(counts),
         Err(TallyFault::Memory) => Err(Cause::Memory),
@@ -51,8 +55,9 @@ fn count<T: Threads + Wait + Sync, V: Watch + Sync>(
 
 /// Reads a game, counts its minimal winning coalitions by worker threads, however many these are, and
 /// writes its report, with no line for a coalition, and nothing else. No coalition is kept, so the
-/// memory does not grow with their number, and `most` and `list` of the options are not looked at. The
-/// answer is the number of bytes written. It may wait for its workers.
+/// memory does not grow with their number, and `most` and `list` of the options are not looked at. At
+/// least 8 of the heaviest members are fixed in each slice, if there are so many. The answer is the
+/// number of bytes written. It may wait for its workers.
 ///
 /// Of the bytes that go out and of the faults all holds that holds of `run`; there are never too many
 /// coalitions.

@@ -1,8 +1,11 @@
 -- Whether each member of a coalition is needed, told from the lanes, one member after another.
-use Rattle.std.proofs.Common.{◌≡◌, ℕ, ◌-◌, ◌*◌, ◌^◌, ◌<◌, ◌≤◌, leb, true, false, List, [], ◌∷◌, length, take, get_or, refl, sym, ap, ◌∙◌, subst, arith, cond, inl, inr}
+use Rattle.std.proofs.Common.{◌≡◌, ℕ, ◌-◌, ◌*◌, ◌/◌, ◌%◌, ◌^◌, ◌<◌, ◌≤◌, leb, true, false, List, [], ◌∷◌, length, take, get_or, refl, sym, ap, ◌∙◌, subst, arith, cond, inl, inr}
 use Rattle.std.specs.List.{list_all}
-use Rattle.std.proofs.lemmas.Bool.{cases_eq, cond-true, both_ways}
-use Rattle.council_game.specs.Votes.{RuleView, Votes, has, without, weight, wins, minimal}
+use Rattle.std.proofs.lemmas.Bool.{cases_eq, cases_lt, cases_Bool, cond-true, both_ways, and_left, lt-leb, leb-false, eqb-true}
+use Rattle.std.proofs.Math.Pow.{pow_mono}
+use Rattle.std.proofs.lemmas.Nat.Bits.{bit_at-trailing_zeros}
+use Rattle.std.proofs.lemmas.List.{get_or-take}
+use Rattle.council_game.specs.Votes.{RuleView, Votes, IsRanked, has, without, weight, wins, minimal}
 use Rattle.std.specs.Int.{w64, trailing_zeros}
 use Rattle.council_game.proofs.Digits.{has-kept, has-gone, has-none, next-place, without-less}
 use Rattle.council_game.proofs.GameTests.{sum-without}
@@ -94,3 +97,52 @@ pub wins-without : (v : Votes) (a : Cursor) (c q : ℕ) → CursorIs v a → c �
 wins-without v a c q is mask below inside =
     lanes-without v.members a.place a.prefix q v.rules (take a.rules a.lanes) is.to below (ap (has v.members q) (sym mask) ∙ inside) is.lanes
     ∙ ap (λ (m : ℕ). wins v.rules (without v.members q m)) (sym mask)
+
+-- where the first quota is not met without place q, it is not met without a place before it
+first-lost : (n p x q m : ℕ) (rs : List RuleView) (ls : List Lane) (d l : Lane) → p ≤ n → IsRanked rs → 1 ≤ length rs → LanesAre n p x rs ls → get_or ls 0 d ≡ l
+    → lane_wins_without q l ≡ false → m ≤ q → q < n → has n m (x * 2 ^ (n - p)) ≡ true → wins rs (without n m (x * 2 ^ (n - p))) ≡ false
+unfolding wins
+first-lost n p x q m [] ls d l le ranked some are at lost before below inside = absurd (omega (arith, some))
+first-lost n p x q m (r ∷ rs) [] d l le ranked some are at lost before below inside = elim are [ ]
+first-lost n p x q m (r ∷ rs) (k ∷ ls) d l le ranked some are at lost before below inside =
+    let is : LaneIs n p x r l = subst (λ (i : Lane). LaneIs n p x r i) at are.0 in
+    let long : length r.weights ≡ n = is.rule.0 in
+    let whole : weight r.weights (x * 2 ^ (n - p)) ≡ weight (take p r.weights) x =
+    ap (λ (i : ℕ). weight r.weights (x * 2 ^ (i - p))) (sym long) ∙ weight-prefix r.weights p x (omega arith) in
+    let less : l.sum - get_or r.weights m 0 ≡ weight r.weights (without n m (x * 2 ^ (n - p))) =
+    sum-without n r (x * 2 ^ (n - p)) m l.sum is.rule (omega arith) inside (is.sum_is ∙ sym whole) in
+    let heavier : get_or r.weights q 0 ≤ get_or r.weights m 0 = ranked m q before (omega (arith, long)) in
+    let same = is.weights q below in
+    let short : l.sum - get_or l.weights q 0 < l.quota = leb-false _ _ lost in
+    let loses : weight r.weights (without n m (x * 2 ^ (n - p))) < r.quota = omega (arith, less, heavier, same, short, is.quota) in
+    and_left _ _ (lt-leb _ _ loses)
+
+-- no place that is left comes after the last
+pub up-to-last : (v : Votes) (a : Cursor) (rest mask q : ℕ) → CursorIs v a → mask ≡ rest → 0 < rest → rest < 2 ^ v.members
+    → q < v.members → has v.members q rest ≡ true → q ≤ a.members - 1 - trailing_zeros w64 mask
+unfolding has
+up-to-last v a rest mask q is same pos short below in' =
+    let up : 2 ^ v.members ≤ 2 ^ 40 = pow_mono is.game.1 in
+    let wide : mask < 2 ^ 64 = omega (arith, same) in
+    let zeros = bit_at-trailing_zeros w64 mask (omega (arith, same)) wide in
+    let one : rest / 2 ^ (v.members - 1 - q) % 2 ≡ 1 = eqb-true _ _ in' in
+    elim (cases_lt (v.members - 1 - q) (trailing_zeros w64 mask)) [
+      | inl low ↦
+          let none : mask / 2 ^ (v.members - 1 - q) % 2 ≡ 0 = zeros.2 _ low in
+          absurd (omega (arith, ap (λ (i : ℕ). i / 2 ^ (v.members - 1 - q) % 2) same, none, one))
+      | inr high ↦ omega (arith, high, below, is.members)
+    ]
+
+-- where the first quota is not met without the last place of those left, all places are needed
+pub first-needed : (v : Votes) (a : Cursor) (c rest q : ℕ) (d l : Lane) → CursorIs v a → c ≡ a.prefix * 2 ^ (v.members - a.place) → get_or a.lanes 0 d ≡ l
+    → lane_wins_without q l ≡ false → q < v.members → ((m : ℕ) → m < v.members → has v.members m rest ≡ true → m ≤ q)
+    → wins v.rules c ≡ true → Tried v c rest → minimal v c ≡ true
+first-needed v a c rest q d l is mask at lost below last won tried =
+    let some : 1 ≤ a.rules = omega (arith, is.rules, is.game.2) in
+    let head : get_or (take a.rules a.lanes) 0 d ≡ l = get_or-take a.rules a.lanes 0 d some ∙ at in
+    (needs-each-member v c).1 (won, λ m lt in'. elim (cases_Bool (has v.members m rest)) [
+      | inl still ↦
+          ap (λ (i : ℕ). wins v.rules (without v.members m i)) mask
+          ∙ first-lost v.members a.place a.prefix q m v.rules (take a.rules a.lanes) d l is.to is.game.5 is.game.2 is.lanes head lost (last m lt still) below (ap (has v.members m) (sym mask) ∙ in')
+      | inr out ↦ tried.needed m lt in' out
+    ])

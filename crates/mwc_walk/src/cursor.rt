@@ -120,7 +120,8 @@ impl Cursor {
 
     /// Whether a winning prefix, with no more members, is minimal. With one rule it is, past the
     /// fixed places: without its last member it lost, and no other is lighter. Else each member that
-    /// is in is tried, the last by rank first, by the weights that the lanes hold.
+    /// is in is tried, the last by rank first, by the weights that the lanes hold, up to one without
+    /// whom the first quota is not met: by the first rule no member before it is lighter.
     fn is_minimal(&self, game: &Game, coalition: Coalition) -> bool
         requires is { CursorIs (votes_of game.now) self.now }
         requires won { wins_at (votes_of game.now).rules self.now.place self.now.prefix ≡ true }
@@ -133,6 +134,9 @@ impl Cursor {
         let mut rest = coalition;
         while rest.mask() != 0 {
             let place = self.members - 1 - rest.mask().trailing_zeros() as usize;
+            if !self.lanes[0].wins_without(place) {
+                return true;
+            }
             if all_win_without(&self.lanes[..self.rules], place) {
                 return false;
             }

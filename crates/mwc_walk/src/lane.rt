@@ -35,6 +35,14 @@ impl Lane {
             rest: rest_of(&weights, members),
         }
     }
+
+    /// Whether the quota is met without the member of a place, which is in.
+    pub(crate) fn wins_without(&self, place: usize) -> bool
+        requires { place < 40 }
+        ensures { result ≡ lane_wins_without place self.now }
+    {
+        self.quota <= self.sum.saturating_sub(self.weights[place])
+    }
 }
 
 /// The weights of a rule, in rank order.
