@@ -42,10 +42,11 @@ else
     done
     if command -v python3 >/dev/null; then
         count python3 tests/memory_source.py
+        count python3 tests/reading.py
         count python3 tests/noise.py "$program" 300 1
         count python3 tests/random_games.py "$program" 150 1
     else
-        for test in memory_source noise random_games; do
+        for test in memory_source reading noise random_games; do
             echo "skipped $test: the command python3 was not found"
             skipped=$((skipped + 1))
         done

@@ -1,0 +1,222 @@
+#!/usr/bin/env python3
+"""What to read to trust the headline: the definitions that its contracts mention, and theirs in turn.
+
+    reading.py            compares docs/READING.md with what the sources say
+    reading.py --list     prints the list as docs/READING.md has it
+    reading.py --inner    names the definitions of specs/ that no public contract reaches
+
+It follows the `use` lines of crates/NAME/specs and the `ghost use` lines of crates/NAME/src. Lines are
+those of definitions: no blank lines, comments or `use` lines.
+
+Prints `ok reading: what` or `FAILED reading: why` for each of these: the list is that of docs/READING.md;
+it has at most LIMIT lines; no module of a folder `Inner` stands in it; and each definition that
+docs/DEFINITIONS.md names, as `Module.name`, exists.
+"""
+import glob
+import os
+import re
+import sys
+
+# lower it with each definition that goes; never raise it without a reason
+LIMIT = 476
+# crate, source module, type or None, function or None for all
+HEADLINE = [
+    ("mwc_pipe", "trace", None, "replay"),
+    ("mwc_pipe", "laws", None, None),
+    ("mwc_gather", "gathering", None, "gather"),
+    ("mwc_parts", "gathered", "Gathered", "in_order"),
+    ("council_run", "runs", None, "run"),
+]
+# in reading order: the first pattern that fits a module
+PARTS = [
+    ("The mathematics", r"council_game\.(Votes|Ranks)|mwc_walk\.Slices|power_index\."),
+    ("The pipe", r"mwc_pipe\."),
+    ("The gathering", r"mwc_parts\.|mwc_gather\."),
+    ("The game file", r"council_game\.|council_file\.(Bracket|File)"),
+    ("The report", r"council_report\.|council_file\.(Joined|Notation)"),
+    ("The run", r"."),
+]
+TOP = os.path.join(os.path.dirname(os.path.abspath(__file__)), "..")
+CRATES = os.path.join(TOP, "crates")
+
+
+def imports(text):
+    names, aliases = {}, {}
+    for line in text.split("\n"):
+        m = re.match(r"\s*(?:pub )?(?:ghost )?use ([\w.×]+)\.\{(.*)\};?\s*$", line)
+        if m:
+            for item in m.group(2).split(","):
+                new, _, old = reversed(item.strip().partition(" as ")) if " as " in item else (item.strip(), "", "")
+                names[new] = (m.group(1), old or new)
+        m = re.match(r"\s*(?:pub )?(?:ghost )?use ([\w.]+) as (\w+);?\s*$", line)
+        if m:
+            aliases[m.group(2)] = m.group(1)
+    return names, aliases
+
+
+START = re.compile(r"^\s*(?:abbrev|unfoldable|pub|record|data)(?: (?:abbrev|unfoldable|pub|record|data))* (\S+) ?[:({]")
+FIELD = re.compile(r"^\s+(?:pub )?[a-z_]\w* (?:[a-z_]\w* )*:")
+defs, uses, makers = {}, {}, {}      # (module, name) -> lines; module -> imports; constructor -> its data type
+
+
+def load(path, module):
+    text = open(path, encoding="utf-8").read()
+    uses[module] = imports(text)
+    key, kind, indent = None, "", 0
+    for line in text.split("\n"):
+        code = line.strip()
+        inside = key and kind in ("record", "data") and len(line) - len(line.lstrip()) > indent
+        m = None if inside else START.match(line)
+        if not code or code.startswith(("use ", "pub use", "pub mod", "module ", "infix", "--")):
+            key = key if inside and code.startswith("--") else None if not code else key
+        elif m:
+            key = (module, m.group(1))
+            kind, indent = (re.search(r"record|data", line.split(m.group(1))[0]) or [""])[0], len(line) - len(line.lstrip())
+            defs[key] = [line]
+        elif key:
+            defs[key].append(line)
+            if kind == "data":
+                makers[(module, code.split(" ")[0])] = key
+
+
+def mentioned(text, names, aliases, module=None):
+    text = re.sub(r'"[^"]*"|(^|\s)(--|//).*', " ", text, flags=re.M)
+    found = set()
+    for word in re.findall(r"[^\s(){},;λ]+", text):
+        m = re.match(r"([A-Za-z_][\w'×]*)(?:\.([\w']+))?", word)
+        if m and m.group(2) and m.group(1) in aliases:
+            found.add((aliases[m.group(1)], m.group(2)))
+        elif m and m.group(1) in names:
+            found.add(names[m.group(1)])
+        elif m and ((module, m.group(1)) in defs or (module, m.group(1)) in makers):
+            found.add((module, m.group(1)))
+        else:
+            found |= {n for k, n in names.items() if k.strip("◌") == word}
+    if re.search(r"\bdo\b", text):
+        found |= {n for k, n in names.items() if k == "◌>>=◌"}
+    return found
+
+
+functions, types = {}, {}
+
+
+def load_source(path, crate, module):
+    text = open(path, encoding="utf-8").read()
+    names = imports(text)
+    owner, lines = None, text.split("\n")
+    for i, line in enumerate(lines):
+        m = re.match(r"impl(?:<.*?>)? (?:.* for )?([A-Z]\w*).*\{$", line)
+        owner = m.group(1) if m else None if line == "}" else owner
+        m = re.match(r"(\s*)(pub(?:\(\w+\))? )?fn (\w+)", line)
+        if m:
+            j = i
+            while not re.match(r"\s*(\{.*)?$|.*;$", lines[j + 1]) and not lines[j].rstrip().endswith("{"):
+                j += 1
+            functions.setdefault((crate, module, owner, m.group(3)), ("\n".join(lines[i : j + 1]), names, m.group(2) or ""))
+        m = re.match(r"pub(?:\(\w+\))? (?:struct|enum|trait) (\w+).*\{$", line)
+        if m:
+            body = lines[i : lines.index("}", i)]
+            types[(crate, m.group(1))] = ("\n".join(x for x in body if re.match(r"\s*(ghost|requires|ensures)", x)), names)
+
+
+for crate in sorted(os.listdir(CRATES)):
+    for path in sorted(glob.glob(f"{CRATES}/{crate}/specs/**/*.antt", recursive=True)):
+        load(path, f"Rattle.{crate}.specs." + os.path.relpath(path, f"{CRATES}/{crate}/specs")[:-5].replace("/", "."))
+    for path in sorted(glob.glob(f"{CRATES}/{crate}/src/*.rt")):
+        if not path.endswith("tests.rt"):
+            load_source(path, crate, os.path.basename(path)[:-3])
+
+
+def closure(roots):
+    seen, other, todo = set(), set(), list(roots)
+    while todo:
+        key = makers.get(todo[-1], todo[-1])
+        todo.pop()
+        if key in seen or key in other:
+            continue
+        if key in defs:
+            seen.add(key)
+            todo += mentioned("\n".join(defs[key]), *uses[key[0]], key[0]) - {key}
+            continue
+        other.add(key)
+        m = re.match(r"Rattle\.(\w+)\.specs\.declared\.[\w.]*?([A-Z]\w*)", key[0])
+        if m and (m.group(1), m.group(2)) in types:
+            text, names = types[(m.group(1), m.group(2))]
+            todo += mentioned(text, *names)
+    return seen, other
+
+
+def roots_of(wanted):
+    found = set()
+    for key, (text, names, _) in functions.items():
+        if any(all(w is None and n == 3 or w == key[n] for n, w in enumerate(want)) for want in wanted):
+            found |= mentioned(text, *names)
+            if key[3] in ("gather", "in_order"):
+                for name in ("Gathered", "Part"):
+                    found |= mentioned(types[("mwc_parts", name)][0], *types[("mwc_parts", name)][1])
+    return found
+
+
+def reading_list():
+    """The lines of the list, and how many lines of definitions it names."""
+    seen, other = closure(roots_of(HEADLINE))
+    lines, total, rest = [], 0, set(seen)
+    for title, pattern in PARTS:
+        here = sorted(k for k in rest if re.match(pattern, k[0].replace("Rattle.", "").replace(".specs", "")))
+        rest -= set(here)
+        count = sum(len(defs[k]) for k in here)
+        total += count
+        lines.append(f"## {title}: {len(here)} definitions, {count} lines")
+        for module in sorted({k[0] for k in here}):
+            names = ", ".join(f"`{k[1]}`" for k in here if k[0] == module)
+            lines.append(f"- {module[7:].replace('.specs.', '/specs/')}.antt: {names}")
+    words = {k for k in other if k[0].startswith("Rattle.std.")}
+    lines.append(f"## What they rest on: {len(words)} words of std")
+    for module in sorted({k[0] for k in words}):
+        lines.append(f"- {module[7:]}: " + ", ".join(f"`{k[1]}`" for k in sorted(words) if k[0] == module))
+    for module in sorted({k[0] for k in other if ".declared." not in k[0] and not k[0].startswith("Rattle.std.")}):
+        lines.append(f"- {module[7:]}: " + ", ".join(f"`{k[1]}`" for k in sorted(other) if k[0] == module))
+    return lines, total
+
+
+def inner():
+    """The definitions that no public contract reaches."""
+    given = set()
+    for path in glob.glob(f"{CRATES}/*/src/lib.rt") + glob.glob(f"{CRATES}/*/src/main.rt"):
+        for m in re.finditer(r"^pub use [\w:]+::\{?([\w, ]+)\}?;", open(path, encoding="utf-8").read(), re.M):
+            given |= {(path.split("/")[-3], name.strip()) for name in m.group(1).split(",")}
+    shown = set(closure(roots_of(HEADLINE))[0])
+    for (crate, module, owner, name), (text, names, seen_from) in functions.items():
+        if module == "laws" or (crate, owner or name) in given and seen_from != "pub(crate) " and (owner or seen_from):
+            shown |= mentioned(text, *names)
+    return sorted(set(defs) - closure(shown)[0])
+
+
+def told(good, what, why=""):
+    print(f"ok reading: {what}" if good else f"FAILED reading: {what}{why}")
+    return good
+
+
+def check():
+    lines, total = reading_list()
+    page = open(os.path.join(TOP, "docs", "READING.md"), encoding="utf-8").read().split("\n")
+    shown = [line for line in page if line.startswith(("## ", "- "))]
+    odd = [line for line in lines + shown if (line in lines) != (line in shown)]
+    results = [told(shown == lines, "docs/READING.md has the list", f", but for: {odd[0] if odd else 'the order'}")]
+    results.append(told(total <= LIMIT, f"{total} lines of definitions, at most {LIMIT}"))
+    inside = [line for line in lines if "/Inner" in line]
+    results.append(told(not inside, "no definition of a folder Inner", f": {inside}"))
+    known = {(module.split(".")[-1], name) for module, name in defs}
+    text = open(os.path.join(TOP, "docs", "DEFINITIONS.md"), encoding="utf-8").read()
+    named = re.findall(r"`([A-Z]\w*)\.([\w']+)`", text)
+    missing = [".".join(it) for it in named if it not in known]
+    results.append(told(not missing, f"{len(set(named))} definitions that docs/DEFINITIONS.md names", f", not there: {missing}"))
+    return all(results)
+
+
+if "--list" in sys.argv:
+    print("\n".join(reading_list()[0]))
+elif "--inner" in sys.argv:
+    print("\n".join(f"{module[7:]} {name}" for module, name in inner()))
+else:
+    sys.exit(0 if check() else 1)
