@@ -8,3 +8,4 @@ pub mod Digits
 pub mod Weights
 pub mod Named
 pub mod ReadsBack
+pub mod NeverRead

@@ -1,6 +1,7 @@
 //! The game of the bytes of a file.
-ghost use Rattle.std.specs.Prelude.{◌≡◌, option_map, string_bytes, IfOk};
+ghost use Rattle.std.specs.Prelude.{◌≡◌, ◌≢◌, option_map, string_bytes, IfErr, IfOk};
 ghost use Rattle.toml.specs.View.{table_view};
+ghost use Rattle.council_game.specs.declared.fault.GameFault.TheVariants.{Read};
 ghost use Rattle.council_game.specs.Fault.{Answers};
 ghost use Rattle.council_file.specs.File.{game_of, game_of_tree};
 
@@ -50,10 +51,12 @@ fn game_of_tree(alloc: Global, table: &Table) -> Result<Game, GameFault>
 ///
 /// # Errors
 ///
-/// The first fault of the file in the order of its checks; or Memory where a growth was refused.
+/// The first fault of the file in the order of its checks, which is never Read; or Memory where a growth
+/// was refused.
 #[tactic(auto, unfolding(crate::specs::File::game_of))]
 pub fn parse_game(alloc: Global, bytes: &[u8]) -> Result<Game, GameFault>
-    ensures { Answers result (game_of bytes.now) }
+    ensures game { Answers result (game_of bytes.now) }
+    ensures no_read { IfErr result (λ fault. fault ≢ Read) }
 {
     if 65_536 < bytes.len() {
         return Err(GameFault::TooLong);

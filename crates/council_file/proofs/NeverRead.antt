@@ -1,0 +1,105 @@
+-- No bytes have the fault Read: it is that of a reader.
+use Rattle.std.proofs.Common.{◌+◌, ◌≢◌, ◌||◌, ◌∷◌, [], ℕ, Bool, true, false, List, Option, Some, None, Result, Ok, Err, subst, map, length, nat_lt, not, IfErr}
+use Rattle.std.specs.Prelude.{codes, ok_or, position, if◌then◌else◌}
+use Rattle.std.specs.List.{list_any, range_with_len}
+use Rattle.std.specs.Option.{option_map_or}
+use Rattle.std.specs.Str.{is_utf8}
+use Rattle.toml.specs.Data.{Data, Members, get_member, as_str}
+use Rattle.toml.specs.Parse.{parse_document}
+use Rattle.council_game.specs.declared.fault.GameFault.{GameFault}
+use Rattle.council_game.specs.declared.fault.GameFault.TheVariants.{Read, TooLong, Text, UnknownKey, Title, Quota, Name, SameName, Weight, QuotaRange, Bracket, Rules, Memory, Members as NoMembers}
+use Rattle.council_game.specs.Fault.{◌>>=◌, refuse, refuse_at, Gives}
+use Rattle.council_game.specs.Votes.{RuleView}
+use Rattle.council_game.specs.Ranks.{places}
+use Rattle.council_game.specs.Game.{has_bad_quota, is_heavy, is_name, is_repeat, is_title, made_game}
+use Rattle.council_file.specs.Bracket.{counted_names, game_of_bracket, parts, rule_of}
+use Rattle.council_file.specs.File.{are_members, breaks_rules, game_of_tree, has_unknown_key, lacks_quota, member_list, name_of, rules_of, title_from, tree_of}
+
+-- a fault of the bytes
+abbrev pub IsOwn : GameFault → Type 0
+IsOwn Read = ⊥
+IsOwn fault = Unit {0}
+
+abbrev IsOwnIn : {A : Type 0} → Result A GameFault → Type 0
+IsOwnIn (Ok x) = Unit {0}
+IsOwnIn (Err fault) = IsOwn fault
+
+-- an answer is a value or a fault of the bytes
+pub record NoRead {A : Type 0} (r : Result A GameFault) : Type 0 where
+  pub own : IsOwnIn r
+
+step : {A B : Type 0} (r : Result A GameFault) (f : A → Result B GameFault) → NoRead r → ((x : A) → NoRead (f x)) → NoRead (r >>= f)
+step (Ok x) f first second = second x
+step (Err fault) f first second = record { own = first.own }
+
+refused : (b : Bool) (fault : GameFault) → IsOwn fault → NoRead (refuse b fault)
+refused true fault own = record { own = own }
+refused false fault own = record { own = tt }
+
+refused_at : (fault : ℕ → GameFault) (found : Option ℕ) → ((k : ℕ) → IsOwn (fault k)) → NoRead (refuse_at fault found)
+refused_at fault None own = record { own = tt }
+refused_at fault (Some k) own = record { own = own (k + 1) }
+
+or : {A : Type 0} (o : Option A) (fault : GameFault) → IsOwn fault → NoRead (ok_or o fault)
+or None fault own = record { own = own }
+or (Some x) fault own = record { own = tt }
+
+chosen : {A : Type 0} (b : Bool) (x y : Result A GameFault) → NoRead x → NoRead y → NoRead (if b then x else y)
+chosen true x y first second = first
+chosen false x y first second = second
+
+made : (title : Option (List ℕ)) (names : List (List ℕ)) (rules : List RuleView) → NoRead (made_game title names rules)
+unfolding made_game
+made title names rules =
+    step _ _ (refused (option_map_or (λ t. not (is_title t)) title false) Title tt) (λ _.
+    step _ _ (refused (nat_lt (length names) 1 || nat_lt 40 (length names)) NoMembers tt) (λ _.
+    step _ _ (refused_at Name (position (λ name. not (is_name name)) names) (λ _. tt)) (λ _.
+    step _ _ (refused_at SameName (position (is_repeat names) (places names)) (λ _. tt)) (λ _.
+    step _ _ (refused_at Weight (position (is_heavy rules) (range_with_len 0 (length names))) (λ _. tt)) (λ _.
+    step _ (λ _. Ok _) (refused (list_any has_bad_quota rules) QuotaRange tt) (λ _. record { own = tt }))))))
+
+text : (o : Option (List ℕ)) → NoRead (option_map_or (λ s. if is_title s then Ok (Some s) else Err Title) o (Err Title))
+text None = record { own = tt }
+text (Some s) = chosen (is_title s) (Ok (Some s)) (Err Title) (record { own = tt }) (record { own = tt })
+
+titled : (o : Option Data) → NoRead (title_from o)
+titled None = record { own = tt }
+titled (Some d) = text (as_str d)
+
+pub of-tree : (t : Members) → NoRead (game_of_tree t)
+unfolding game_of_tree
+of-tree t =
+    step _ _ (refused (has_unknown_key t) UnknownKey tt) (λ _.
+    step _ _ (titled (get_member (codes "title") t)) (λ title.
+    step _ _ (refused (breaks_rules t) Rules tt) (λ _.
+    step _ _ (refused (lacks_quota t) Quota tt) (λ _.
+    step _ _ (refused (not (are_members (member_list t))) NoMembers tt) (λ _. made title (map name_of (member_list t)) (rules_of t))))))
+
+pub to-tree : (bytes : List ℕ) → NoRead (tree_of bytes)
+unfolding tree_of
+to-tree bytes = step _ _ (refused (not (is_utf8 bytes)) Text tt) (λ _. or (parse_document bytes) Text tt)
+
+pub of-bracket : (bytes : List ℕ) → NoRead (game_of_bracket bytes)
+unfolding game_of_bracket
+of-bracket bytes = step _ _ (or (rule_of (parts bytes)) Bracket tt) (λ r. made None (counted_names (length r.weights)) (r ∷ []))
+
+own-fault : (fault : GameFault) → IsOwn fault → fault ≢ Read
+own-fault fault own e = subst IsOwn e own
+
+-- an answer to what has no fault Read
+pub never-read : {X Y : Type 0} (view : X → Y) (answer : Result X GameFault) (wanted : Result Y GameFault) → NoRead wanted → Gives view answer wanted → IfErr answer (λ fault. fault ≢ Read)
+never-read view (Ok x) wanted own h = tt
+never-read view (Err Memory) wanted own h = own-fault Memory tt
+never-read view (Err TooLong) wanted own h = own-fault TooLong tt
+never-read view (Err Text) wanted own h = own-fault Text tt
+never-read view (Err UnknownKey) wanted own h = own-fault UnknownKey tt
+never-read view (Err Title) wanted own h = own-fault Title tt
+never-read view (Err Quota) wanted own h = own-fault Quota tt
+never-read view (Err NoMembers) wanted own h = own-fault NoMembers tt
+never-read view (Err (Name m)) wanted own h = own-fault (Name m) tt
+never-read view (Err (SameName m)) wanted own h = own-fault (SameName m) tt
+never-read view (Err (Weight m)) wanted own h = own-fault (Weight m) tt
+never-read view (Err QuotaRange) wanted own h = own-fault QuotaRange tt
+never-read view (Err Bracket) wanted own h = own-fault Bracket tt
+never-read view (Err Rules) wanted own h = own-fault Rules tt
+never-read view (Err Read) wanted own h = absurd (subst NoRead h own).own
