@@ -3,6 +3,7 @@ pub mod Digits
 pub mod LowestTerms
 pub mod Members
 pub mod Minimal
+pub mod Ordered
 pub mod Printed
 pub mod Quotients
 pub mod Small

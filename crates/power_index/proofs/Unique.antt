@@ -1,10 +1,10 @@
 -- A fraction has one form in lowest terms.
-use Rattle.std.proofs.Common.{◌≡◌, ◌∙◌, ℕ, ◌+◌, ◌*◌, ◌-◌, ◌≤◌, ◌<◌, ap, subst, arith, zero, suc, inl, inr}
+use Rattle.std.proofs.Common.{◌≡◌, ◌∙◌, ℕ, ◌+◌, ◌*◌, ◌-◌, ◌≤◌, ◌<◌, ap, subst, sym, arith, zero, suc, inl, inr}
 use Rattle.std.specs.Int.{IsGcd, ◌∣◌}
 use Rattle.std.proofs.lemmas.Nat.Gcd.{IsGcd-from_zero, IsGcd-swap, IsGcd-from_sub, dvd_antisymm, dvd_refl, dvd-zero}
 use Rattle.std.proofs.lemmas.Bool.{cases_lt}
 use Rattle.std.proofs.Math.Nat.{dvd-add, dvd-mul_left, mul-sub, mul-le-mul, eq_of_mul-eq-mul_right}
-use Rattle.power_index.specs.Fractions.{Coprime, IsLowestOf}
+use Rattle.power_index.specs.Fractions.{Coprime, IsIndex, IsLowestOf, SameFraction}
 
 coprime-swap : (x y : ℕ) → Coprime x y → Coprime y x
 coprime-swap x y h d dx dy = h d dy dx
@@ -58,3 +58,10 @@ lowest-unique p q r pos h k =
     let b : r.1 ∣ q.1 = divides-other r.0 r.1 q.1 k.lowest (let e : q.0 * r.1 ≡ q.1 * r.0 = omega (arith, cross) in subst (λ (x : ℕ). r.1 ∣ x) e (dvd-mul_left r.1 q.0)) in
     let bottoms : q.1 ≡ r.1 = dvd_antisymm a b in
     same-pair q.0 q.1 r.0 r.1 (eq_of_mul-eq-mul_right q.1 h.positive q.0 r.0 (ap (λ v. q.0 * v) bottoms ∙ cross)) bottoms
+
+-- two indices that are the same number
+pub index-unique : (p q : ℕ × ℕ) → IsIndex p → IsIndex q → SameFraction p q → p ≡ q
+index-unique p q h k same =
+    lowest-unique p p q h.some
+    (record { positive = h.some; same = λ i. p.0 * p.1; lowest = h.lowest })
+    (record { positive = k.some; same = sym same; lowest = k.lowest })

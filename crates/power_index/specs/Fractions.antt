@@ -1,6 +1,8 @@
 -- Fractions as pairs of a top and a bottom, their lowest terms, and how one is printed.
-use Rattle.std.specs.Prelude.{◌≡◌, ℕ, zero, suc, ◌+◌, ◌*◌, ◌/◌, ◌%◌, ◌<◌, ◌≤◌, ◌==◌, ◌&&◌, Bool, cond, List, [], ◌∷◌}
+use Rattle.std.specs.Prelude.{◌≡◌, ℕ, zero, suc, ◌+◌, ◌*◌, ◌/◌, ◌%◌, ◌^◌, ◌<◌, ◌≤◌, ◌==◌, ◌&&◌, Bool, cond, List, [], ◌∷◌}
 use Rattle.std.specs.Int.{◌∣◌}
+use Rattle.std.specs.declared.cmp.Ordering.{Ordering}
+use Rattle.std.specs.Ordering.{nat_cmp}
 use Rattle.power_index.specs.declared.fraction.Fraction.{Fraction}
 
 -- a fraction as a pair
@@ -20,6 +22,17 @@ pub record IsLowestOf (p q : ℕ × ℕ) : Type 0 where
   pub positive : 0 < q.1
   pub same : SameFraction q p
   pub lowest : Coprime q.0 q.1
+
+-- what an index is: a pair from 0 to 1, with a bottom of 1 to 10^30, in lowest terms
+pub record IsIndex (p : ℕ × ℕ) : Type 0 where
+  pub some : 1 ≤ p.1
+  pub at_most_one : p.0 ≤ p.1
+  pub small : p.1 ≤ 10 ^ 30
+  pub lowest : Coprime p.0 p.1
+
+-- how two pairs with bottoms above 0 are ordered as fractions
+abbrev pub fraction_cmp : ℕ × ℕ → ℕ × ℕ → Ordering
+fraction_cmp p q = nat_cmp (p.0 * q.1) (q.0 * p.1)
 
 -- a number that divides both a and b
 abbrev pub divides_both : ℕ → ℕ → ℕ → Bool

@@ -66,29 +66,32 @@ impl Counts {
         self.wide.total() as u32
     }
 
-    /// The number of coalitions with so many members.
+    /// The number of coalitions with so many members, at most that of all.
     pub fn of_size(&self, size: usize) -> u32
         requires { size ≤ self.now.members }
         ensures count { result ≡ table_of_size self.now size }
+        ensures within { result ≤ table_total self.now }
         ensures few { result ≤ 4000000 }
     {
         self.wide.of_size(size) as u32
     }
 
-    /// The number of coalitions that contain a member, given by its place in the file.
+    /// The number of coalitions that contain a member, given by its place in the file: at most that of all.
     pub fn of_member(&self, member: usize) -> u32
         requires { member < self.now.members }
         ensures count { result ≡ table_of_member self.now member }
+        ensures within { result ≤ table_total self.now }
         ensures few { result ≤ 4000000 }
     {
         self.wide.of_member(member) as u32
     }
 
-    /// The number of coalitions with so many members that contain a member.
+    /// The number of coalitions with so many members that contain a member, at most that of all.
     pub fn of_member_size(&self, member: usize, size: usize) -> u32
         requires member { member < self.now.members }
         requires size { size ≤ self.now.members }
         ensures count { result ≡ table_of_member_size self.now member size }
+        ensures within { result ≤ table_total self.now }
         ensures few { result ≤ 4000000 }
     {
         self.wide.of_member_size(member, size) as u32

@@ -1,11 +1,12 @@
-//! Laws of the definitions, with nothing to run: each index adds up to 1, and what lowest terms are.
+//! Laws of the definitions, with nothing to run: each index adds up to 1, what lowest terms are, and
+//! that two indices which are the same number are equal.
 ghost use Rattle.council_game.specs.Game.{GameView, IsGame, votes_of};
 ghost use Rattle.council_game.specs.Votes.{minimal_coalitions};
 ghost use Rattle.power_index.specs.Counting.{AreCoalitions, members};
-ghost use Rattle.power_index.specs.Fractions.{AddUpToOne, HasLowestTerms};
+ghost use Rattle.power_index.specs.Fractions.{AddUpToOne, HasLowestTerms, IsIndex, SameFraction};
 ghost use Rattle.power_index.specs.Indices.{deegan_packel, public_good};
 ghost use Rattle.power_index.specs.Tables.{AreCounts, AreTallies, Tables};
-ghost use Rattle.std.specs.Prelude.{ℕ, ◌<◌, ◌≤◌, ◌^◌, ◌++◌, List, length, map};
+ghost use Rattle.std.specs.Prelude.{◌≡◌, ℕ, ◌<◌, ◌≤◌, ◌^◌, ◌++◌, List, length, map};
 
 /// The Deegan-Packel indices of a game's members add up to 1, over each list of coalitions that are not
 /// empty, if there is one in it.
@@ -36,4 +37,9 @@ pub fn lowest_terms_are_unique()
 /// counts.
 pub fn tallies_are_counts()
     ensures { (g : GameView) (list : List ℕ) (t : Tables) → AreTallies g list t → AreCounts g list t }
+{}
+
+/// Two indices that are the same number are one: their pairs are equal.
+pub fn same_indices_are_equal()
+    ensures { (p q : ℕ × ℕ) → IsIndex p → IsIndex q → SameFraction p q → p ≡ q }
 {}

@@ -6,8 +6,10 @@
 
 mod counts;
 mod fraction;
+mod index;
 mod indices;
 pub mod laws;
+mod order;
 mod tally;
 #[cfg(test)]
 mod tests;
@@ -15,5 +17,6 @@ mod wide_counts;
 
 pub use counts::Counts;
 pub use fraction::{Fraction, lowest};
+pub use index::Index;
 pub use indices::{deegan_packel, public_good};
 pub use wide_counts::WideCounts;

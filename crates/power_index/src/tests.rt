@@ -1,4 +1,5 @@
 //! Worked games: their counts, both indices and the decimals.
+mod index;
 mod refusals;
 mod wide;
 

@@ -1,0 +1,109 @@
+//! An index as a value: a fraction from 0 to 1 in lowest terms.
+ghost use Rattle.council_game.specs.Game.{GameView};
+ghost use Rattle.power_index.specs.Fractions.{IsIndex, decimals, fraction_cmp, lowest_terms, pair_of};
+ghost use Rattle.power_index.specs.Indices.{deegan_packel, public_good};
+ghost use Rattle.power_index.specs.Tables.{AreCounts, table_total};
+ghost use Rattle.std.specs.Prelude.{◌≡◌, ℕ, List, ◌<◌, ◌≤◌, ◌^◌};
+
+use crate::order::order;
+use crate::{Fraction, WideCounts};
+use std::cmp::Ordering;
+use std::marker::Model;
+
+/// An index of a member: a fraction from 0 to 1 in lowest terms, whose bottom is 1 to 10^30. Two are
+/// equal exactly where they are the same number. Contracts see the pair of its top and its bottom.
+#[derive(Clone, Copy, Debug, PartialEq, Eq)]
+pub struct Index {
+    top: u128,
+    bottom: u128,
+}
+
+impl Model for Index {
+    ghost use Rattle.power_index.specs.Fractions.{IsIndex};
+    ghost use Rattle.std.specs.Prelude.{ℕ};
+
+    ghost Value = { ℕ × ℕ };
+
+    ghost view = { λ i. (i.top, i.bottom) };
+
+    ghost invariant = { λ i. IsIndex (i.top, i.bottom) };
+
+    ghost inverse = { λ p. record { top = p.0; bottom = p.1 } };
+}
+
+impl Index {
+    /// The Deegan-Packel index of a member, over each list that has these counts. `Counts::wide` gives
+    /// the counts where the list was counted as `Counts`.
+    pub fn deegan_packel(counts: &WideCounts, member: usize) -> Index
+        requires member { member < counts.now.members }
+        requires some { 1 ≤ table_total counts.now }
+        ensures { (g : GameView) (list : List ℕ) → AreCounts g list counts.now →
+            result ≡ lowest_terms (deegan_packel g list member) }
+    {
+        Index::of(counts.deegan_packel(member))
+    }
+
+    /// The public good index of a member, over each list that has these counts. `Counts::wide` gives the
+    /// counts where the list was counted as `Counts`.
+    pub fn public_good(counts: &WideCounts, member: usize) -> Index
+        requires member { member < counts.now.members }
+        requires some { 1 ≤ table_total counts.now }
+        ensures { (g : GameView) (list : List ℕ) → AreCounts g list counts.now →
+            result ≡ lowest_terms (public_good g list member) }
+    {
+        Index::of(counts.public_good(member))
+    }
+
+    /// The index that a fraction is.
+    pub fn of(fraction: Fraction) -> Index
+        requires { IsIndex (pair_of fraction) }
+        ensures { result ≡ pair_of fraction }
+    {
+        Index {
+            top: fraction.top,
+            bottom: fraction.bottom,
+        }
+    }
+
+    /// The fraction, with all that an index keeps.
+    pub fn fraction(self) -> Fraction
+        ensures same { pair_of result ≡ self }
+        ensures index { IsIndex (pair_of result) }
+    {
+        Fraction {
+            top: self.top,
+            bottom: self.bottom,
+        }
+    }
+
+    /// The number above the line, at most that below it.
+    pub fn top(self) -> u128
+        ensures top { result ≡ self.0 }
+        ensures at_most_one { result ≤ self.1 }
+    {
+        self.top
+    }
+
+    /// The number below the line, 1 to 10^30.
+    pub fn bottom(self) -> u128
+        ensures bottom { result ≡ self.1 }
+        ensures some { 1 ≤ result }
+        ensures small { result ≤ 10 ^ 30 }
+    {
+        self.bottom
+    }
+
+    /// The index as one digit, a point and six digits: the millionths are cut off and not rounded.
+    pub fn decimals(self) -> [u8; 8]
+        ensures { result ≡ decimals self }
+    {
+        self.fraction().decimals()
+    }
+
+    /// Which of two indices is greater, exactly.
+    pub fn compare(self, other: Index) -> Ordering
+        ensures { result ≡ fraction_cmp self other }
+    {
+        order(self.fraction(), other.fraction())
+    }
+}
