@@ -37,7 +37,7 @@ if [ ! -x "$program" ]; then
     echo "FAILED tests: there is no program $program"
     failed=1
 else
-    for test in examples options workers words faults prefixes output limits tally launcher pages using hostile refusals; do
+    for test in examples options workers words faults prefixes output limits sizes tally launcher pages using hostile refusals; do
         count bash "tests/$test.sh" "$program"
     done
     if command -v python3 >/dev/null; then

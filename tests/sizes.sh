@@ -1,0 +1,86 @@
+#!/usr/bin/env bash
+# Games of many members, rules and coalitions succeed: no body may answer want of memory, too many
+# coalitions or a fault of the file above one size.
+. "$(dirname "$0")/common.sh"
+
+# A game file of groups of members, one rule for each group: of each group one member is needed.
+one_of_each() {
+    local group other member quotas='' weights names=0
+    for group in "$@"; do quotas="$quotas, 1"; done
+    echo "quotas = [${quotas#, }]"
+    for ((group = 1; group <= $#; group++)); do
+        weights=
+        for ((other = 1; other <= $#; other++)); do weights="$weights, $((group == other))"; done
+        for ((member = 0; member < ${!group}; member++)); do
+            names=$((names + 1))
+            printf '[[member]]\nname = "member %d"\nweights = [%s]\n' "$names" "${weights#, }"
+        done
+    done
+}
+
+# A game file of two rules that speak of different members: of each a quota, and twice how many members of
+# which weight. Each coalition that the first rule needs goes with each that the second needs.
+two_parts() {
+    echo "quotas = [$1, $6]"
+    {
+        for ((at = 0; at < $2; at++)); do echo "$3, 0"; done
+        for ((at = 0; at < $4; at++)); do echo "$5, 0"; done
+        for ((at = 0; at < $7; at++)); do echo "0, $8"; done
+        for ((at = 0; at < $9; at++)); do echo "0, ${10}"; done
+    } | awk '{ printf "[[member]]\nname = \"%d\"\nweights = [%s]\n", NR, $0 }'
+}
+
+# listed NAME COUNT: the last run succeeded, and its report has so many coalitions, and as many lines
+# for them.
+listed() {
+    if succeeded "$1"; then
+        if [ "$(sed -n 's/^minimal\t//p' "$temp/out")" = "$2" ] && [ "$(grep -c '^coalition' "$temp/out")" -eq "$2" ]; then
+            ok "$1"
+        else
+            failed "$1" "$(sed -n 's/^minimal\t//p' "$temp/out") are told and $(grep -c '^coalition' "$temp/out") listed"
+        fi
+    fi
+}
+
+many="too many minimal winning coalitions"
+
+# ---- members and rules, against tests/oracle.py
+if needs python3 "games of 39 and 40 members and up to 4 rules"; then
+    for groups in "40" "39" "5 35" "2 3 35" "3 3 2 31" "2 3 3 32"; do
+        # shellcheck disable=SC2086
+        one_of_each $groups >"$temp/game.toml"
+        for words in "--notation" "--list --sizes --notation"; do
+            # shellcheck disable=SC2086
+            python3 "$top/tests/oracle.py" "$temp/game.toml" $words >"$temp/oracle"
+            # shellcheck disable=SC2086
+            run "$temp/game.toml" $words --bits 10 --workers 16
+            printed "groups of $groups members, $words" "$temp/oracle"
+        done
+    done
+    # the longest notation: 40 members of the greatest weight
+    {
+        printf '[39000000000001; 1000000000000'
+        for ((member = 1; member < 40; member++)); do printf ', 1000000000000'; done
+        echo ']'
+    } >"$temp/heavy.txt"
+    python3 "$top/tests/oracle.py" "$temp/heavy.txt" --notation >"$temp/oracle"
+    run "$temp/heavy.txt" --notation
+    printed "the notation of 40 members of the greatest weight" "$temp/oracle"
+fi
+
+# ---- lists: 100 x 10,000 and 101 x 9,901 coalitions, and each six of 40 members
+two_parts 25 6 4 4 3 63 10 7 9 2 >"$temp/million.toml"
+run "$temp/million.toml" --list
+listed "1000000 coalitions, as many as a run keeps by itself" 1000000
+two_parts 22 4 7 5 4 34 5 7 11 4 >"$temp/more.toml"
+run "$temp/more.toml" --list
+refused "1000001 coalitions, one more than a run keeps by itself" 4 "$many"
+run "$temp/more.toml" --list --most 1000001 --workers 2
+listed "1000001 coalitions with --most 1000001" 1000001
+equal_members 40 6 >"$temp/six.txt"
+run "$temp/six.txt" --list --most 3838380
+listed "3838380 coalitions with --most 3838380" 3838380
+run "$temp/six.txt" --list --most 4000000 --workers 1 --bits 10
+listed "3838380 coalitions by one worker in 1024 slices" 3838380
+run "$temp/six.txt" --most 3838379
+refused "3838380 coalitions with --most 3838379" 4 "$many"
