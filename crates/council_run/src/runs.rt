@@ -1,5 +1,5 @@
 //! A run: from the bytes of a game to its report.
-ghost use Rattle.std.specs.Prelude.{◌<◌, IfOk, IfErr};
+ghost use Rattle.std.specs.Prelude.{ℕ, ◌<◌, ◌^◌, IfOk, IfErr};
 ghost use Rattle.std.specs.List.{flat_map};
 ghost use Rattle.council_run.specs.Run.{Reports, Stops};
 ghost use Rattle.council_run.specs.Listed.{IsGathered, IsListed, IsUnlisted};
@@ -25,6 +25,7 @@ fn gathered<T: Threads + Wait + Sync, G: Gate + Sync>(
     options: &Options,
     gate: &G,
 ) -> Result<Gathered, Cause>
+    requires { (w j : ℕ) → w < options.now.workers → j < 2 ^ options.now.bits → G.takes w j }
     ensures ok { IfOk result (IsGathered game.now options.now.most) }
     ensures err { IfErr result (IsUnlisted game.now options.now.most) }
 {
@@ -56,7 +57,8 @@ fn pieces<'a>(
 /// No byte goes out before all memory is there: after each fault but `Write` the writer took nothing, and
 /// after `Write` it has the first bytes of the report. A writer that takes fewer bytes than it is given is
 /// asked again for those that are left. A write that takes none or fails, whatever the cause, ends the
-/// run by `Write`; so does the flush, of which there is one, after the last byte.
+/// run by `Write`; so does the flush, of which there is one, after the last byte. The gate takes each of the
+/// workers with each of the slices that the options name.
 pub fn run<T: Threads + Wait + Sync, R: Read, W: Write, G: Gate + Sync>(
     rt: &T,
     alloc: Global,
@@ -65,6 +67,7 @@ pub fn run<T: Threads + Wait + Sync, R: Read, W: Write, G: Gate + Sync>(
     gate: &G,
     writer: &mut W,
 ) -> Result<u64, RunFault>
+    requires { (w j : ℕ) → w < options.now.workers → j < 2 ^ options.now.bits → G.takes w j }
     ensures ok { IfOk result (λ len. Reports options.now (record { unread = R.remaining reader.old; left = R.remaining reader.new; before = W.contents writer.old; after = W.contents writer.new }) len) }
     ensures err { IfErr result (λ fault. Stops options.now (record { unread = R.remaining reader.old; left = R.remaining reader.new; before = W.contents writer.old; after = W.contents writer.new }) fault.cause fault.written) }
 {

@@ -2,7 +2,7 @@
 mod gates;
 mod refusals;
 
-ghost use Rattle.std.specs.Prelude.{◌≤◌, ◌<◌};
+ghost use Rattle.std.specs.Prelude.{ℕ, ◌≤◌, ◌<◌, ⊤};
 
 use crate::{Cause, NoWatch, Options, RunFault, run, status, tally};
 use council_game::GameFault;
@@ -376,6 +376,8 @@ struct Passes {
 }
 
 impl Gate for Passes {
+    ghost takes = { λ _ _. ⊤ };
+
     fn pass(&self, _worker: u8, slice: u16) {
         if slice < 4 {
             self.of[slice as usize].fetch_add(1, Ordering::SeqCst);
@@ -393,6 +395,7 @@ fn gated<T: Threads + Wait + Sync, G: Gate + Sync>(
 ) -> Result<Vec<u8>, RunFault>
     requires workers { (1 ≤ workers) × (workers ≤ 16) }
     requires bits { bits ≤ 10 }
+    requires gate { (w j : ℕ) → G.takes w j }
 {
     let options = Options {
         workers,
@@ -464,6 +467,8 @@ impl Meeting {
 }
 
 impl Gate for Meeting {
+    ghost takes = { λ _ _. ⊤ };
+
     fn pass(&self, worker: u8, _slice: u16) {
         if worker < 2 {
             self.here[worker as usize].store(1, Ordering::SeqCst);

@@ -1,5 +1,5 @@
 //! What the gatherer does with a desk.
-ghost use Rattle.std.specs.Prelude.{◌≡◌, ◌||◌, ◌+◌, ◌<◌, ◌≤◌, ◌^◌, ◌++◌, ◌∷◌, [], List, IfOk, IfErr, if◌then◌else◌, IsTrue, IsFalse, true, false, length, take, vec_len, vec_capacity};
+ghost use Rattle.std.specs.Prelude.{◌≡◌, ℕ, ◌||◌, ◌+◌, ◌<◌, ◌≤◌, ◌^◌, ◌++◌, ◌∷◌, [], List, IfOk, IfErr, if◌then◌else◌, IsTrue, IsFalse, true, false, length, take, vec_len, vec_capacity};
 ghost use Rattle.std.specs.List.{list_any};
 ghost use Rattle.mwc_pipe.specs.declared.word.Word.{Word};
 ghost use Rattle.mwc_parts.specs.Wording.{total, is_done};
@@ -46,6 +46,7 @@ impl Desk {
         requires bits { (bits ≤ 10) × (bits ≤ length guarded.now.names) }
         requires worker { worker < 16 }
         requires most { (1 ≤ most) × (most ≤ 4000000) }
+        requires gate { (j : ℕ) → j < 2 ^ bits → G.takes worker j }
         ensures order { IfOk result (IsOf (slicing guarded.now bits) most) }
         ensures fresh { IfOk result (λ d. IsFresh (seat d)) }
         ensures many { OnTooMany result ⊥ }
@@ -69,6 +70,7 @@ impl Desk {
             requires worker { worker < 16 }
             requires most { (1 ≤ most) × (most ≤ 4000000) }
             requires fresh { (out.accepted ≡ []) × (list.taken ≡ []) }
+            requires gate { (j : ℕ) → j < 2 ^ bits → G.takes worker j }
             ensures { Worked (slicing own.entry bits) most out list result }
         { work_beside(rt, &own, bits, worker, most, out, list, bell, gatherer) };
         let Ok(worker) = scope.spawn_with(task, body) else {

@@ -1,5 +1,5 @@
 //! Workers that run beside each other.
-ghost use Rattle.std.specs.Prelude.{◌≡◌, ◌<◌, ◌≤◌, [], All, Bool, List, ℕ, Option, None, false, IfOk, length, vec_len};
+ghost use Rattle.std.specs.Prelude.{◌≡◌, ◌<◌, ◌≤◌, ◌^◌, [], All, Bool, List, ℕ, Option, None, false, IfOk, length, vec_len};
 ghost use Rattle.std.specs.Option.{is_some};
 ghost use Rattle.std.specs.List.{AllZip};
 ghost use Rattle.council_game.specs.Votes.{minimal_coalitions};
@@ -30,7 +30,8 @@ use std::thread::{Scope, Threads};
 /// lowest slice that no worker has to the one that has finished its own. It returns once all workers
 /// have ended.
 ///
-/// There are at most 10 bits, and no more than members; 1 to 16 workers; `most` is 1 to 4,000,000.
+/// There are at most 10 bits, and no more than members; 1 to 16 workers; `most` is 1 to 4,000,000. The
+/// gate takes each of the workers with each of the slices.
 ///
 /// # Errors
 ///
@@ -48,6 +49,7 @@ pub fn gather<R: Threads + Wait + Sync, G: Gate + Sync>(
     requires bits { (bits ≤ 10) × (bits ≤ length guarded.now.names) }
     requires workers { (1 ≤ workers) × (workers ≤ 16) }
     requires most { (1 ≤ most) × (most ≤ 4000000) }
+    requires gate { (w j : ℕ) → w < workers → j < 2 ^ bits → G.takes w j }
     ensures gathers { IfOk result (Gathers (votes_of guarded.now) bits workers most) }
     ensures many { OnTooMany result (most < length (minimal_coalitions (votes_of guarded.now))) }
 {
@@ -61,6 +63,7 @@ pub fn gather<R: Threads + Wait + Sync, G: Gate + Sync>(
             requires bits { (bits ≤ 10) × (bits ≤ length own.names) }
             requires workers { (1 ≤ workers) × (workers ≤ 16) }
             requires most { (1 ≤ most) × (most ≤ 4000000) }
+            requires gate { (w j : ℕ) → w < workers → j < 2 ^ bits → G.takes w j }
             ensures gathers { IfOk result (Gathers (votes_of own.entry) bits workers most) }
             ensures many { OnTooMany result (most < length (minimal_coalitions (votes_of own.entry))) }
         { run(scope, rt, alloc, &own, bits, workers, most, shared) },
@@ -81,6 +84,7 @@ fn run<'s, E, R: Threads + Wait + Sync, G: Gate + Sync>(
     requires bits { (bits ≤ 10) × (bits ≤ length guarded.now.names) }
     requires workers { (1 ≤ workers) × (workers ≤ 16) }
     requires most { (1 ≤ most) × (most ≤ 4000000) }
+    requires gate { (w j : ℕ) → w < workers → j < 2 ^ bits → G.takes w j }
     ensures gathers { IfOk result (Gathers (votes_of guarded.now) bits workers most) }
     ensures many { OnTooMany result (most < length (minimal_coalitions (votes_of guarded.now))) }
 {
@@ -128,6 +132,7 @@ fn open_all<'s, E, R: Threads + Wait + Sync, G: Gate + Sync>(
     requires workers { workers ≤ 16 }
     requires most { (1 ≤ most) × (most ≤ 4000000) }
     requires none { desks.old.items ≡ [] }
+    requires gate { (w j : ℕ) → w < workers → j < 2 ^ bits → G.takes w j }
     ensures few { vec_len desks.new ≤ workers }
     ensures all { fault_of result ≡ None → vec_len desks.new ≡ workers }
     ensures many { result.many ≡ false }

@@ -1,5 +1,5 @@
 //! A game behind a gate.
-ghost use Rattle.std.specs.Prelude.{◌≡◌};
+ghost use Rattle.std.specs.Prelude.{◌≡◌, ℕ, ⊤};
 ghost use Rattle.council_game.specs.Votes.{IsVotes};
 ghost use Rattle.council_game.specs.Game.{votes_of};
 
@@ -9,8 +9,12 @@ use std::snapshot::Snapshot;
 
 /// What a worker passes before it sends a slice.
 pub trait Gate {
+    /// Which workers and slices it may be told of. A gate that takes them all says `⊤`.
+    ghost takes: { ℕ → ℕ → Type 0 };
+
     /// Worker `worker` is about to send slice `slice`.
-    fn pass(&self, worker: u8, slice: u16);
+    fn pass(&self, worker: u8, slice: u16)
+        requires { takes worker slice };
 }
 
 /// The gate that returns at once.
@@ -18,6 +22,8 @@ pub trait Gate {
 pub struct NoGate;
 
 impl Gate for NoGate {
+    ghost takes = { λ _ _. ⊤ };
+
     fn pass(&self, _worker: u8, _slice: u16) {}
 }
 
@@ -46,6 +52,7 @@ impl<'a, G: Gate> Guarded<'a, G> {
 
     /// Calls the gate once, and then gives the game.
     pub fn pass(&self, worker: u8, slice: u16) -> &Game
+        requires { G.takes worker slice }
         ensures { result.now ≡ self.now }
     {
         self.gate.pass(worker, slice);

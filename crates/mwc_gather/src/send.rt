@@ -78,7 +78,8 @@ fn add<R: Wait, P: PipeIn<Word>>(
 /// Passes the gate, and sends the words of a slice, but of its coalitions no more than the first
 /// `left`, which is 1 to 4,000,001. While the pipe is full it waits. It takes no memory.
 ///
-/// There are at most 10 bits, and no more than members; `slice` is below 2^bits, `worker` below 16.
+/// There are at most 10 bits, and no more than members; `slice` is below 2^bits, `worker` below 16. The
+/// gate takes the two.
 pub fn send_slice<R: Wait, P: PipeIn<Word>, G: Gate>(
     rt: &R,
     guarded: &Guarded<'_, G>,
@@ -92,6 +93,7 @@ pub fn send_slice<R: Wait, P: PipeIn<Word>, G: Gate>(
     requires slice { slice < 2 ^ bits }
     requires worker { worker < 16 }
     requires left { (0 < left) × (left ≤ 4000001) }
+    requires gate { G.takes worker slice }
     ensures identity { P.identity out.new ≡ P.identity out.old }
     ensures sends { Sends (slicing guarded.now bits) slice left (P.accepted out.old) (P.accepted out.new) (P.broken out.new) result }
     ensures unbroken { Unbroken (P.broken out.old) (P.broken out.new) result }
@@ -117,6 +119,7 @@ pub(crate) fn send_rows<R: Wait, P: PipeIn<Word>, G: Gate>(
     requires slice { slice < 2 ^ bits }
     requires worker { worker < 16 }
     requires left { (0 < left) × (left ≤ 4000001) }
+    requires gate { G.takes worker slice }
     ensures identity { P.identity out.new ≡ P.identity out.old }
     ensures sends { Sends (slicing guarded.now bits) slice left (P.accepted out.old) (P.accepted out.new) (P.broken out.new) result }
     ensures unbroken { Unbroken (P.broken out.old) (P.broken out.new) result }

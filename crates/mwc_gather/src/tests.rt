@@ -1,4 +1,6 @@
 //! Rows worked by hand, and workers that are held by their gates.
+ghost use Rattle.std.specs.Prelude.{ℕ, ⊤};
+
 mod refusals;
 
 use super::*;
@@ -50,7 +52,9 @@ fn gathered<R: Threads + Wait + Abort + Sync, G: Gate + Sync>(
     bits: u8,
     workers: u8,
     most: u32,
-) -> Result<Gathered, GatherFault> {
+) -> Result<Gathered, GatherFault>
+    requires { (w j : ℕ) → G.takes w j }
+{
     assert!(rt; bits <= 10 && bits as usize <= game.members());
     assert!(rt; 1 <= workers && workers <= 16);
     assert!(rt; 1 <= most && most <= 4_000_000);
@@ -66,7 +70,9 @@ fn listed<R: Threads + Wait + Abort + Sync, G: Gate + Sync>(
     bits: u8,
     workers: u8,
     most: u32,
-) -> Result<Vec<u64>, GatherFault> {
+) -> Result<Vec<u64>, GatherFault>
+    requires { (w j : ℕ) → G.takes w j }
+{
     let gathered = gathered(rt, alloc, game, gate, bits, workers, most)?;
     let Ok(list) = gathered.in_order(alloc) else {
         return Err(GatherFault::Memory);
@@ -204,6 +210,8 @@ impl Passes {
 }
 
 impl Gate for Passes {
+    ghost takes = { λ _ _. ⊤ };
+
     fn pass(&self, _worker: u8, slice: u16) {
         self.note(slice);
     }
@@ -263,6 +271,8 @@ struct Meeting {
 }
 
 impl Gate for Meeting {
+    ghost takes = { λ _ _. ⊤ };
+
     fn pass(&self, worker: u8, _slice: u16) {
         if worker < 2 {
             self.here[worker as usize].store(1, Ordering::SeqCst);
@@ -297,6 +307,8 @@ struct Holding {
 }
 
 impl Gate for Holding {
+    ghost takes = { λ _ _. ⊤ };
+
     fn pass(&self, worker: u8, slice: u16) {
         self.passes.note(slice);
         if worker == self.held && slice == self.held as u16 && !comes(&self.passes.of[2]) {

@@ -1,5 +1,5 @@
 //! The body of a worker's thread.
-ghost use Rattle.std.specs.Prelude.{◌≡◌, ◌+◌, ◌<◌, ◌≤◌, ◌++◌, ◌∷◌, [], length, IfOk, MatchOption};
+ghost use Rattle.std.specs.Prelude.{◌≡◌, ℕ, ◌+◌, ◌<◌, ◌≤◌, ◌^◌, ◌++◌, ◌∷◌, [], length, IfOk, MatchOption};
 ghost use Rattle.mwc_gather.specs.Slicings.{slicing};
 ghost use Rattle.mwc_gather.specs.Sending.{Worked, TakesLast, TakesTask};
 ghost use Rattle.mwc_pipe.specs.declared.word.Word.TheVariants.{End};
@@ -60,7 +60,8 @@ fn finish<R: Wait>(
 /// the tasks came from. It takes no memory.
 ///
 /// There are at most 10 bits, and no more than members; `worker` is below 16, `most` 1 to 4,000,000.
-/// Both ends are new: `out` has accepted no word, and none was taken from `tasks`.
+/// Both ends are new: `out` has accepted no word, and none was taken from `tasks`. The gate takes the
+/// worker with each slice.
 ///
 /// # Errors
 ///
@@ -78,6 +79,7 @@ pub fn work<R: Wait, G: Gate>(
     requires worker { worker < 16 }
     requires most { (1 ≤ most) × (most ≤ 4000000) }
     requires fresh { (out.accepted ≡ []) × (tasks.taken ≡ []) }
+    requires gate { (j : ℕ) → j < 2 ^ bits → G.takes worker j }
     ensures { Worked (slicing guarded.now bits) most out tasks result }
 {
     let own = Bell::new();
@@ -101,6 +103,7 @@ pub(crate) fn work_beside<R: Wait, G: Gate>(
     requires worker { worker < 16 }
     requires most { (1 ≤ most) × (most ≤ 4000000) }
     requires fresh { (out.accepted ≡ []) × (tasks.taken ≡ []) }
+    requires gate { (j : ℕ) → j < 2 ^ bits → G.takes worker j }
     ensures { Worked (slicing guarded.now bits) most out tasks result }
 {
     let slices = slice_count(bits);

@@ -1,5 +1,5 @@
 //! Gates that see every slice of games with many of them.
-ghost use Rattle.std.specs.Prelude.{◌≤◌};
+ghost use Rattle.std.specs.Prelude.{◌≤◌, ⊤};
 
 use crate::{Options, run};
 use mwc_gather::Gate;
@@ -33,6 +33,8 @@ impl Seen {
 }
 
 impl Gate for Seen {
+    ghost takes = { λ _ _. ⊤ };
+
     fn pass(&self, worker: u8, slice: u16) {
         if slice < 1024 && worker < 16 {
             self.of[slice as usize].fetch_add(1, Ordering::SeqCst);
