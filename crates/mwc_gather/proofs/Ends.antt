@@ -89,12 +89,6 @@ end_ascends parts d = all_of_map (AscendsFrom 0) (λ (p : Part). p.slices.items)
 pub fresh_push : (desks : List Desk) (d : Desk) → All IsFresh (seats desks) → IsFresh (seat d) → All IsFresh (seats (desks ++ d ∷ []))
 fresh_push desks d a f = subst (λ (w : List Seat). All IsFresh w) (sym (map_push seat desks d)) (All-push IsFresh (seats desks) (seat d) a f)
 
-pub note_other : (m : Met) (why : GatherFault) → OnTooMany {A = Desk} (Err why) ⊥ → m.many ≡ false → (also m why).many ≡ false
-note_other m TooMany f e = absurd f
-note_other m Start f e = e
-note_other m Memory f e = e
-note_other m Ring f e = e
-
 pub note_many : (m : Met) (why : GatherFault) (P : Type 0) → OnTooMany {A = Part} (Err why) P → (m.many ≡ true → P) → (also m why).many ≡ true → P
 note_many m TooMany P f h e = f
 note_many m Start P f h e = h e
@@ -137,14 +131,14 @@ one_done done rest old all d e f = append_assoc done (d ∷ []) rest ∙ ap (λ 
 pub not_noted : (m after : Met) (why : GatherFault) (P : Type 0) → after ≡ also m why → fault_of after ≡ None → P
 not_noted m after why P e f = absurd (noted m why (sym (ap fault_of e) ∙ f))
 
-zip_push : (g : Slicing) (done : List Desk) (parts : List Part) (d : Desk) (p : Part) → AllZip (Finished g) done parts → Finished g d p → AllZip (Finished g) (done ++ d ∷ []) (parts ++ p ∷ [])
-zip_push g [] [] d p z f = (f, z)
-zip_push g [] (q ∷ parts) d p z f = absurd z
-zip_push g (e ∷ done) [] d p z f = absurd z
-zip_push g (e ∷ done) (q ∷ parts) d p z f = (z.0, zip_push g done parts d p z.1 f)
+pub zip_push : {X Y : Type 0} (R : X → Y → Type 0) (xs : List X) (ys : List Y) (x : X) (y : Y) → AllZip R xs ys → R x y → AllZip R (xs ++ x ∷ []) (ys ++ y ∷ [])
+zip_push R [] [] x y z r = (r, z)
+zip_push R [] (b ∷ ys) x y z r = absurd z
+zip_push R (a ∷ xs) [] x y z r = absurd z
+zip_push R (a ∷ xs) (b ∷ ys) x y z r = (z.0, zip_push R xs ys x y z.1 r)
 
 pub zip_more : (g : Slicing) (done : List Desk) (parts after : List Part) (d : Desk) (p : Part) → after ≡ parts ++ p ∷ [] → Finished g d p → AllZip (Finished g) done parts → AllZip (Finished g) (done ++ d ∷ []) after
-zip_more g done parts after d p e f z = subst (λ (w : List Part). AllZip (Finished g) (done ++ d ∷ []) w) (sym e) (zip_push g done parts d p z f)
+zip_more g done parts after d p e f z = subst (λ (w : List Part). AllZip (Finished g) (done ++ d ∷ []) w) (sym e) (zip_push (Finished g) done parts d p z f)
 
 -- where no fault was met, all slices are dealt to the parts
 pub ends_well : {g : Slicing} {most : ℕ} {early stopped : Bool} {marks : List (Option ℕ)} (desks taken : List Desk) (parts : List Part) (start : Met) (f : Option GatherFault) → DealsTo g most early marks stopped desks → taken ≡ desks → early ≡ is_some f → f ≡ fault_of start → fault_of start ≡ None → 0 < length desks → AllZip (Finished g) taken parts → Dealt g.slices (shares parts) × AllZip (Finished g) desks parts

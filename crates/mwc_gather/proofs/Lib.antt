@@ -5,4 +5,5 @@ pub mod Words
 pub mod Joins
 pub mod Deals
 pub mod Ends
+pub mod Faults
 pub mod Wholes

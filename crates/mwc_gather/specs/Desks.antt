@@ -1,9 +1,14 @@
 -- What the workers of some desks were given.
-use Rattle.std.specs.Prelude.{◌≡◌, ℕ, Bool, true, false, List, Option, All, length, map}
+use Rattle.std.specs.Prelude.{◌≡◌, ◌≢◌, ◌⊎◌, ℕ, ◌<◌, Bool, true, false, List, Option, Some, None, All, length, map}
 use Rattle.std.specs.List.{AllWithin}
 use Rattle.mwc_parts.specs.Slicing.{Slicing}
 use Rattle.mwc_parts.specs.Parts.{IsPart}
+use Rattle.mwc_parts.specs.Wording.{total}
+use Rattle.mwc_parts.specs.Fault.{nothing, also, IsEarly}
 use Rattle.mwc_parts.specs.declared.part.Part.{Part}
+use Rattle.mwc_parts.specs.declared.met.Met.{Met}
+use Rattle.mwc_parts.specs.declared.fault.GatherFault.{GatherFault}
+use Rattle.mwc_parts.specs.declared.fault.GatherFault.TheVariants.{TooMany, Start, Memory}
 use Rattle.mwc_parts.specs.Dealing.{Seat, IsWell, IsFresh, Dealing, FirstDeals}
 use Rattle.mwc_gather.specs.Orders.{slicing_of}
 use Rattle.mwc_gather.specs.declared.desk.Desk.{Desk}
@@ -27,6 +32,18 @@ pub record Finished (g : Slicing) (d : Desk) (p : Part) : Type 0 where
   pub part : IsPart g p
   pub well : IsWell (seat d)
   pub told : d.told ≡ true
+
+-- what the end of a desk's worker may be answered, of which None is a part: whose worker was well and told, or a fault other than
+-- Start; where something was lost it is Memory, and it is TooMany only where the slices given have more coalitions than were asked for
+abbrev pub Ends : Slicing → ℕ → Desk → Option GatherFault → Type 0
+Ends g most d None = IsWell (seat d) × (d.told ≡ true)
+Ends g most d (Some why) = (why ≢ Start) × (d.draft.lost ≡ true → why ≡ Memory) × (why ≡ TooMany → most < total g d.given.items)
+
+-- what was met where so many workers were to be started and so many were: nothing where these are all, or else one fault, which is
+-- Start or want of memory
+abbrev pub Opens : ℕ → ℕ → Met → Type 0
+Opens workers started met =
+    ((met ≡ nothing) × (started ≡ workers)) ⊎ ((why : GatherFault) × IsEarly why × (met ≡ also nothing why) × (started < workers))
 
 -- the slices of the game are dealt to the desks
 pub record DealsTo (g : Slicing) (most : ℕ) (early : Bool) (marks : List (Option ℕ)) (stopped : Bool) (desks : List Desk) : Type 0 where

@@ -4,12 +4,12 @@ ghost use Rattle.std.specs.List.{list_any};
 ghost use Rattle.mwc_pipe.specs.declared.word.Word.{Word};
 ghost use Rattle.mwc_parts.specs.Wording.{total, is_done};
 ghost use Rattle.mwc_parts.specs.Dealing.{IsFresh};
-ghost use Rattle.mwc_parts.specs.Fault.{OnTooMany};
+ghost use Rattle.mwc_parts.specs.Fault.{OnTooMany, IsEarly, fault_in};
 ghost use Rattle.mwc_parts.specs.Settled.{Keeps, IsWhole};
 ghost use Rattle.mwc_gather.specs.Slicings.{slicing};
 ghost use Rattle.mwc_gather.specs.Sending.{Worked};
 ghost use Rattle.mwc_gather.specs.Orders.{slicing_of};
-ghost use Rattle.mwc_gather.specs.Desks.{IsOf, seat, Finished};
+ghost use Rattle.mwc_gather.specs.Desks.{IsOf, seat, Finished, Ends};
 
 use crate::desk::Desk;
 use crate::guarded::{Gate, Guarded};
@@ -49,7 +49,7 @@ impl Desk {
         requires gate { (j : ℕ) → j < 2 ^ bits → G.takes worker j }
         ensures order { IfOk result (IsOf (slicing guarded.now bits) most) }
         ensures fresh { IfOk result (λ d. IsFresh (seat d)) }
-        ensures many { OnTooMany result ⊥ }
+        ensures fault { IfErr result IsEarly }
     {
         let slices = slice_count(bits);
         let mut given = Vec::new(alloc);
@@ -188,6 +188,7 @@ pub(crate) fn finish_part<R: Threads>(desk: Desk, rt: &R) -> Result<Part, Gather
     ensures part { IfOk result (Finished (slicing_of desk.worker.promise.order) desk) }
     ensures many { OnTooMany result (desk.worker.promise.order.most < total (slicing_of desk.worker.promise.order) desk.given.items) }
     ensures memory { desk.draft.lost ≡ true → result ≡ Err GatherFault.Memory }
+    ensures ends { Ends (slicing_of desk.worker.promise.order) desk.worker.promise.order.most desk (fault_in result) }
 {
     let (given, draft) = desk.finish(rt)?;
     settle(given, draft)

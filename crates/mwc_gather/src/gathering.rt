@@ -6,10 +6,10 @@ ghost use Rattle.council_game.specs.Votes.{minimal_coalitions};
 ghost use Rattle.council_game.specs.Game.{votes_of};
 ghost use Rattle.mwc_parts.specs.Wording.{total};
 ghost use Rattle.mwc_parts.specs.Dealing.{IsFresh};
-ghost use Rattle.mwc_parts.specs.Fault.{fault_of, OnTooMany};
+ghost use Rattle.mwc_parts.specs.Fault.{fault_of, fault_in, noted, OnTooMany};
 ghost use Rattle.mwc_gather.specs.Slicings.{slicing};
 ghost use Rattle.mwc_gather.specs.Orders.{slicing_of};
-ghost use Rattle.mwc_gather.specs.Desks.{AllOf, DealsTo, Finished, seats};
+ghost use Rattle.mwc_gather.specs.Desks.{AllOf, DealsTo, Ends, Finished, Opens, seats};
 ghost use Rattle.mwc_gather.specs.Gathering.{all_total, Complete, Gathers};
 
 use crate::calls::finish_part;
@@ -129,13 +129,13 @@ fn open_all<'s, E, R: Threads + Wait + Sync, G: Gate + Sync>(
     bells: &'s Bells,
 ) -> Met
     requires bits { (bits ≤ 10) × (bits ≤ length guarded.now.names) }
-    requires workers { workers ≤ 16 }
+    requires workers { (1 ≤ workers) × (workers ≤ 16) }
     requires most { (1 ≤ most) × (most ≤ 4000000) }
     requires none { desks.old.items ≡ [] }
     requires gate { (w j : ℕ) → w < workers → j < 2 ^ bits → G.takes w j }
     ensures few { vec_len desks.new ≤ workers }
     ensures all { fault_of result ≡ None → vec_len desks.new ≡ workers }
-    ensures many { result.many ≡ false }
+    ensures met { Opens workers (vec_len desks.new) result }
     ensures order { AllOf (slicing guarded.now bits) most desks.new.items }
     ensures fresh { All IsFresh (seats desks.new.items) }
 {
@@ -169,6 +169,8 @@ fn finish_all<R: Threads>(
     requires start { start.many ≡ false }
     requires dealt { (marks : List (Option ℕ)) × (stopped : Bool)
         × DealsTo (slicing_of order.now) order.now.most (is_some (fault_of start)) marks stopped desks.items }
+    ensures first { (whys : List (Option GatherFault)) × AllZip (Ends (slicing_of order.now) order.now.most) desks.items whys
+        × (fault_in result ≡ fault_of (noted start whys)) }
     ensures none { IfOk result (λ v. fault_of start ≡ None) }
     ensures parts { IfOk result (λ v. AllZip (Finished (slicing_of order.now)) desks.items v.items) }
     ensures many { OnTooMany result (order.now.most < all_total (slicing_of order.now)) }

@@ -1,6 +1,6 @@
 //! What was met, and which fault is answered.
-ghost use Rattle.std.specs.Prelude.{◌≡◌, false};
-ghost use Rattle.mwc_parts.specs.Fault.{fault_of, also};
+ghost use Rattle.std.specs.Prelude.{◌≡◌};
+ghost use Rattle.mwc_parts.specs.Fault.{fault_of, also, nothing};
 
 use crate::fault::GatherFault;
 
@@ -20,7 +20,7 @@ pub struct Met {
 impl Met {
     /// Nothing was met.
     pub fn nothing() -> Met
-        ensures { result ≡ record { start = false; memory = false; ring = false; many = false } }
+        ensures { result ≡ nothing }
     {
         Met {
             start: false,

@@ -1,12 +1,13 @@
 use Rattle.std.proofs.Common.{◌≡◌, ◌<◌, ◌≤◌, ◌++◌, List, true}
-use Rattle.std.specs.Prelude.{All, None}
+use Rattle.std.specs.Prelude.{All, Option, None}
 use Rattle.std.specs.List.{AllZip}
 use Rattle.std.specs.Vec.Iter.{into_iter_items}
 use Rattle.mwc_parts.specs.Wording.{total}
-use Rattle.mwc_parts.specs.Fault.{fault_of}
+use Rattle.mwc_parts.specs.Fault.{fault_of, noted}
+use Rattle.mwc_parts.specs.declared.fault.GatherFault.{GatherFault}
 use Rattle.mwc_gather.specs.declared.desk.Desk.{Desk}
 use Rattle.mwc_gather.specs.Orders.{slicing_of}
-use Rattle.mwc_gather.specs.Desks.{AllOf, Finished}
+use Rattle.mwc_gather.specs.Desks.{AllOf, Ends, Finished}
 use Rattle.mwc_gather.specs.Gathering.{all_total}
 use Rattle.mwc_gather.proofs.gathering.finish_all.Given as goal
 
@@ -17,4 +18,6 @@ invariant-loop-desk g l =
       within : All (λ (d : Desk). total (slicing_of l.order) d.given.items ≤ all_total (slicing_of l.order)) (into_iter_items l.desk-iterator);
       many : l.met.many ≡ true → l.order.most < all_total (slicing_of l.order);
       kept : (done : List Desk) × (done ++ into_iter_items l.desk-iterator ≡ l.fn.desks.items) × (fault_of l.met ≡ None → (fault_of l.fn.start ≡ None) × AllZip (Finished (slicing_of l.order)) done l.parts.items);
+      first : (done : List Desk) × (whys : List (Option GatherFault)) × (done ++ into_iter_items l.desk-iterator ≡ l.fn.desks.items)
+          × AllZip (Ends (slicing_of l.order) l.order.most) done whys × (l.met ≡ noted l.fn.start whys);
     }

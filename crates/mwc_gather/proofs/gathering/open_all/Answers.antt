@@ -1,18 +1,22 @@
-use Rattle.std.proofs.Common.{List, subst, sym, ap, ◌∙◌, rules}
+use Rattle.std.proofs.Common.{◌<◌, List, subst, sym, ap, ◌∙◌, rules, inr, arith}
 use Rattle.std.specs.Prelude.{All}
 use Rattle.std.proofs.lemmas.List.Elements.{All-push}
 use Rattle.mwc_parts.specs.declared.met.Met.{Met}
+use Rattle.mwc_parts.specs.Fault.{also}
 use Rattle.mwc_parts.specs.Dealing.{IsFresh}
 use Rattle.mwc_parts.specs.Slicing.{Slicing}
 use Rattle.mwc_gather.specs.Slicings.{slicing}
 use Rattle.mwc_gather.specs.declared.desk.Desk.{Desk}
 use Rattle.mwc_gather.specs.Desks.{seats, IsOf, AllOf}
-use Rattle.mwc_gather.proofs.Ends.{fresh_push, note_other}
+use Rattle.mwc_gather.proofs.Ends.{fresh_push}
 use Rattle.mwc_gather.proofs.gathering.open_all.Goals as goal
 
-pub returns-in-Err-clause-many : goal.returns-in-Err-clause-many
-returns-in-Err-clause-many g c =
-    ap (λ (m : Met). m.many) c.note-in-Err.ensures ∙ note_other c.loop-worker.met c.in-Err.why c.in-Err.ensures.many c.loop-worker.invariant.4
+pub returns-in-Err-clause-met : goal.returns-in-Err-clause-met
+returns-in-Err-clause-met g c =
+    let why = c.in-Err.why in
+    let count = c.loop-worker.invariant.0 in
+    let below : c.loop-worker.worker < c.args.workers = c.loop-worker-test.true in
+    inr (why, c.in-Err.ensures.fault, c.note-in-Err.ensures ∙ ap (λ (m : Met). also m why) c.loop-worker.invariant.4, omega arith)
 
 pub loop-worker-preserved : goal.loop-worker-preserved
 loop-worker-preserved g c =

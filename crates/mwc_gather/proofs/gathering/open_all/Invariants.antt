@@ -1,10 +1,11 @@
-use Rattle.std.proofs.Common.{◌≡◌, ◌≤◌, false, vec_len, vec_capacity}
+use Rattle.std.proofs.Common.{◌≡◌, ◌≤◌, vec_len, vec_capacity}
 use Rattle.std.specs.Prelude.{All}
 use Rattle.mwc_parts.specs.Dealing.{IsFresh}
+use Rattle.mwc_parts.specs.Fault.{nothing}
 use Rattle.mwc_gather.specs.Slicings.{slicing}
 use Rattle.mwc_gather.specs.Desks.{AllOf, seats}
 use Rattle.mwc_gather.proofs.gathering.open_all.Given as goal
 
 abbrev pub invariant-loop-worker : goal.invariant-loop-worker
 invariant-loop-worker g l =
-    (vec_len l.desks ≡ l.worker) × (l.workers ≤ vec_capacity l.desks) × AllOf (slicing l.guarded l.bits) l.most l.desks.items × All IsFresh (seats l.desks.items) × (l.met.many ≡ false)
+    (vec_len l.desks ≡ l.worker) × (l.workers ≤ vec_capacity l.desks) × AllOf (slicing l.guarded l.bits) l.most l.desks.items × All IsFresh (seats l.desks.items) × (l.met ≡ nothing)

@@ -15,6 +15,7 @@ use Rattle.mwc_gather.specs.Desks.{DealsTo}
 use Rattle.mwc_gather.specs.Gathering.{all_total}
 use Rattle.mwc_gather.proofs.Wholes.{all_total_is}
 use Rattle.mwc_gather.proofs.Ends.{desks_within, completes}
+use Rattle.mwc_gather.proofs.Faults.{opens_few}
 use Rattle.mwc_gather.proofs.gathering.run.Goals as goal
 
 -- an order's slices are those of its game
@@ -44,6 +45,9 @@ finish_all-requires-clause-within g c =
     let e = written new c.open_all-met.new.desks.items n (omega arith) in
     let game : Slicing = slicing_of c.new-order.result in
     subst (λ (w : List Desk). All (λ (d : Desk). total game d.given.items ≤ all_total game) w) (sym e) (desks_within new c.read_all-stopped.ensures)
+
+pub finish_all-requires-clause-start : goal.finish_all-requires-clause-start
+finish_all-requires-clause-start g c = opens_few c.args.workers c.open_all-met.new.desks.len c.open_all-met.result c.open_all-met.ensures.met
 
 pub finish_all-requires-clause-dealt : goal.finish_all-requires-clause-dealt
 finish_all-requires-clause-dealt g c =
