@@ -9,13 +9,29 @@ if [ $# -lt 1 ] || [ ! -x "$1" ]; then
     exit 1
 fi
 program=$(cd "$(dirname "$1")" && pwd)/$(basename "$1")
-# shellcheck disable=SC2034
 top=$(cd "$(dirname "${BASH_SOURCE[0]}")/.." && pwd)
 temp=$(mktemp -d)
 trap 'rm -rf "$temp"' EXIT
 
-# The seconds that one run may take.
-seconds=${SECONDS_EACH:-60}
+# What all scripts use; where one is missing, nothing of a script can be run.
+for command in awk cmp cp cut date diff env grep head mktemp sed sort tail timeout tr uniq wc; do
+    if ! command -v "$command" >/dev/null; then
+        echo "skipped $(basename "$0"): the command $command was not found"
+        exit 0
+    fi
+done
+
+# The seconds that one run may take before it is taken for a hang: 300, or on a slower or busier machine
+# as many more times as one example takes longer there than a tenth of a second. One script after the other
+# may be told by SECONDS_EACH, which says the seconds.
+if [ -z "${SECONDS_EACH:-}" ]; then
+    begun=$(date +%s%N)
+    timeout 3000 "$program" --workers 1 "$top/examples/eu-1995.toml" >/dev/null 2>&1 </dev/null
+    SECONDS_EACH=$((($(date +%s%N) - begun) / 1000000 * 3))
+    [ "$SECONDS_EACH" -ge 300 ] || SECONDS_EACH=300
+    export SECONDS_EACH
+fi
+seconds=$SECONDS_EACH
 
 ok() {
     echo "ok $1"

@@ -1,7 +1,8 @@
 #!/usr/bin/env bash
 # Refuses the program's allocations, one after the other, and then each from one on, until no
 # refusal is met. Each time the program says that it is out of memory, or that a worker could not be
-# started, with status 5, that one line on standard error and nothing on standard output; or it does
+# started, with status 5, that one line on standard error and nothing on standard output; or, where the
+# refused allocation belongs to the reading of its command line or to a thread that counts a part of the list, it does
 # exactly what it does with ample memory. At a fault of the command line it may also tell less of the
 # fault, on standard error and with status 2. The library that refuses is hostile/refuse.c.
 . "$(dirname "$0")/common.sh"
@@ -13,7 +14,12 @@ compile_refuse
 } >"$temp/two.toml"
 echo '[51; 35, 20, 15, 15, 15]' >"$temp/five.txt"
 game_file 51 35 20 15 15 15 >"$temp/five.toml"
-game_file 51 50 49 1 | sed 's/"C"/"A"/' >"$temp/fault.toml"
+game_file 51 50 49 1 | sed 's/"C"/"A"/' >"$temp/fault-1.toml"
+game_file 51 50 49 1 | sed 's/"C"/"C/' >"$temp/fault-2.toml"
+game_file 51 50 49 1 | sed 's/^name = "B"/&\nvote = 1/' >"$temp/fault-3.toml"
+game_file 101 50 49 1 >"$temp/fault-4.toml"
+echo '[51; 50, 49,, 1]' >"$temp/fault-5.txt"
+printf '%65537s' '' >"$temp/fault-6.txt"
 
 printf 'council: out of memory\n' >"$temp/memory"
 printf 'council: a worker could not be started\n' >"$temp/start"
@@ -35,19 +41,39 @@ is_shorter() {
     [ -s "$temp/err" ] && [ "$(wc -c <"$temp/err")" -lt "$(wc -c <"$temp/ample.err")" ]
 }
 
-# sweep NAME WORDS..
+# How many allocations the program makes before it opens its game: with the same words, and a file that is
+# not there.
+allocations_of_words() {
+    local number
+    for ((number = 1; number <= 10000; number++)); do
+        hostile "REFUSE_AT=$number" "${@/$game/$temp/missing}"
+        [ -s "$temp/said" ] || break
+    done
+    echo $((number - 1))
+}
+
+# How often a run may end as with ample memory though an allocation behind those of the command line was
+# refused: once for each thread that counts a part of the list, could not be started, and whose part was
+# counted by the thread that wanted to start it.
+spared=0
+
+# sweep NAME WORDS..: the runs end so while allocations are refused, as long as one is. One that ends as
+# with ample memory met its refusal in the reading of the command line, but for those that are spared.
 sweep() {
-    local name=$1 ample how number why memory start same shorter said
+    local name=$1 ample how number why memory start same late shorter said first
     shift
     run "$@" </dev/null
     ample=$status
     cp "$temp/out" "$temp/ample.out"
     cp "$temp/err" "$temp/ample.err"
+    first=100000
+    [ -z "$game" ] || first=$(allocations_of_words "$@")
     for how in REFUSE_AT REFUSE_FROM; do
         why=
         memory=0
         start=0
         same=0
+        late=0
         shorter=0
         for ((number = 1; number <= 100000; number++)); do
             hostile "$how=$number" "$@"
@@ -58,6 +84,7 @@ sweep() {
             elif [ "$status" -eq "$ample" ] && cmp -s "$temp/out" "$temp/ample.out" && cmp -s "$temp/err" "$temp/ample.err"; then
                 [ -s "$temp/said" ] || break
                 same=$((same + 1))
+                [ "$number" -le "$first" ] || late=$((late + 1))
             elif [ "$status" -eq 2 ] && [ "$ample" -eq 2 ] && [ ! -s "$temp/out" ] && [ -s "$temp/said" ] && is_shorter; then
                 shorter=$((shorter + 1))
             else
@@ -65,8 +92,16 @@ sweep() {
                 break
             fi
         done
-        if [ -z "$why" ] && [ "$number" -eq 1 ]; then
+        if [ -n "$why" ]; then
+            :
+        elif [ "$number" -gt 100000 ]; then
+            why="an allocation is still refused at number 100000"
+        elif [ "$number" -eq 1 ]; then
             why="no allocation was seen, so none was refused"
+        elif [ "$memory" -eq 0 ]; then
+            why="want of memory was never told"
+        elif [ "$late" -gt "$spared" ] || { [ "$late" -gt 0 ] && [ "$how" = REFUSE_FROM ]; }; then
+            why="$late runs ended as with ample memory though an allocation behind number $first was refused"
         fi
         if [ -z "$why" ]; then
             said="$memory out of memory, $start not started, $same as with ample memory"
@@ -78,11 +113,23 @@ sweep() {
     done
 }
 
-sweep "five coalitions in brackets" "$temp/five.txt" --list --sizes --notation --workers 3
-sweep "five coalitions" "$temp/five.toml" --list --sizes --workers 3
-sweep "two rules" "$temp/two.toml" --list --sizes --notation --workers 2
-sweep "a tally" "$temp/five.toml" --tally --sizes --workers 3
+game=$temp/five.txt
+spared=2
+sweep "five coalitions in brackets" "$game" --list --sizes --notation --workers 3
+game=$temp/five.toml
+sweep "five coalitions" "$game" --list --sizes --workers 3
+game=$temp/two.toml
+spared=1
+sweep "two rules" "$game" --list --sizes --notation --workers 2
+game=$temp/five.toml
+spared=0
+sweep "a tally" "$game" --tally --sizes --workers 3
+sweep "too many coalitions" "$game" --most 4 --workers 2
+for game in "$temp"/fault*; do
+    run "$game"
+    sweep "a fault of the game, $(sed 's/^council: //' "$temp/err")" "$game"
+done
+game=
 sweep "--help" --help
 sweep "a fault of the command line" --workers 0
 sweep "an unknown option" --order
-sweep "a fault of the game" "$temp/fault.toml"

@@ -48,11 +48,11 @@ name="16 workers on one processor"
 first=$(taskset -cp $$ 2>/dev/null | sed 's/.*: //; s/[-,].*//')
 if [ -n "$first" ] && taskset -c "$first" true 2>/dev/null; then
     for game in eu-1995 eu-27-nice-votes; do
-        timeout 120 taskset -c "$first" "$program" "$top/examples/$game.toml" --workers 16 --bits 10 >"$temp/out" 2>"$temp/err" </dev/null
+        timeout "$seconds" taskset -c "$first" "$program" "$top/examples/$game.toml" --workers 16 --bits 10 >"$temp/out" 2>"$temp/err" </dev/null
         status=$?
         printed "$name, $game" "$top/examples/$game.tsv"
     done
-    timeout 120 taskset -c "$first" "$program" "$temp/twenty.txt" --most 1000 --workers 16 >"$temp/out" 2>"$temp/err" </dev/null
+    timeout "$seconds" taskset -c "$first" "$program" "$temp/twenty.txt" --most 1000 --workers 16 >"$temp/out" 2>"$temp/err" </dev/null
     status=$?
     refused "$name, refused" 4 "$many"
 else

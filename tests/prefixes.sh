@@ -5,18 +5,11 @@
 game=$'quota = 51\n[[member]]\nname = "A"\nweight = 50\n[[member]]\nname = "B"\nweight = 49\n[[member]]\nname = "C"\nweight = 1'
 text="the game file is not TOML"
 
-# The answer of the prefix whose last line is `last`, and which has `members` members before that
-# line: a fault's text, or nothing for a game.
+# The answer of the prefix whose last line is `last`, which is not empty, and which has `members` members
+# before that line: a fault's text, or nothing for a game.
 answer() {
-    local members=$1 last=$2 lacking
-    # what a file that ends before this line lacks
-    if [ "$members" -eq 0 ]; then
-        lacking="bad member list"
-    else
-        lacking=$3
-    fi
+    local members=$1 last=$2
     case $last in
-    '') echo "$lacking" ;;
     'quota = 5' | 'quota = 51') echo "bad member list" ;;
     '[[member]]') echo "bad name of member $((members + 1))" ;;
     'name = "A"' | 'name = "B"' | 'name = "C"') echo "bad weight of member $members" ;;
@@ -27,9 +20,8 @@ answer() {
 }
 
 why=
-lacking=
+before=
 members=0
-line=
 for ((length = 0; length <= ${#game}; length++)); do
     prefix=${game:0:length}
     line=${prefix##*$'\n'}
@@ -38,13 +30,13 @@ for ((length = 0; length <= ${#game}; length++)); do
         line=${prefix%$'\n'}
         line=${line##*$'\n'}
         case $line in '[[member]]') members=$((members + 1)) ;; esac
-        wanted=$lacking
+        wanted=$before
     elif [ "$length" -eq 0 ]; then
         wanted="bad quota"
     else
-        wanted=$(answer "$members" "$line" "$lacking")
+        wanted=$(answer "$members" "$line")
     fi
-    lacking=$wanted
+    before=$wanted
     printf %s "$prefix" >"$temp/game"
     run "$temp/game"
     if [ -n "$wanted" ]; then

@@ -11,6 +11,32 @@
 compile_refuse
 crates=$top/crates
 
+# are_built CRATE: whether the built tests of the crate are there, and no source of it or of the libraries
+# of its line in crates.txt is newer.
+are_built() {
+    local tests=$crates/$1/out/$1_tests name newer
+    if [ ! -x "$tests" ]; then
+        failed "the tests of $1" "there is no $tests: \`rt test\` in crates/$1 makes it"
+        return 1
+    fi
+    for name in "$1" $(sed -n "s/^$1\( [^:]*\)\{0,1\}: *//p" "$top/crates.txt"); do
+        [ -d "$crates/$name/src" ] || continue
+        newer=$(find "$crates/$name/src" -name '*.rt' -newer "$tests" | head -n 1)
+        if [ -n "$newer" ]; then
+            failed "the tests of $1" "they are older than ${newer#"$top/"}: \`rt test\` in crates/$1 makes them anew"
+            return 1
+        fi
+    done
+}
+
+command -v find >/dev/null || {
+    skipped "$(basename "$0")" "the command find was not found"
+    exit 0
+}
+for name in council_game council_file mwc_walk mwc_pipe power_index mwc_tally mwc_gather council_run; do
+    are_built "$name" || exit 1
+done
+
 # Makes the call of the test $3 of the crate $2 with the allocations refused that $1 names, and keeps
 # its answer and its status, and in $temp/said what refuse.c says.
 call() {
@@ -50,6 +76,12 @@ sweep() {
     if [ -z "$why" ] && [ "$number" -eq 1 ]; then
         why="no allocation was seen, so none was refused"
     fi
+    if [ -z "$why" ] && [ "$number" -gt 10000 ]; then
+        why="an allocation is still refused at number 10000"
+    fi
+    if [ -z "$why" ] && ! grep -qx "$4" "$temp/answers"; then
+        why="$4 was never told"
+    fi
     if [ -z "$why" ]; then
         counts=$(sort "$temp/answers" | uniq -c | sed 's/^ *//' | tr '\n' ',' | sed 's/,$//; s/,/, /g')
         ok "$name 1 to $((number - 1)): $counts"
@@ -87,13 +119,21 @@ takes_memory council_game lists_plainly
 takes_memory council_file parses_toml
 takes_memory council_file parses_brackets
 takes_memory council_file reads_pieces
+for fault in a_repeated_name an_unknown_key a_bad_weight no_toml a_bad_bracket_text a_quota_out_of_range; do
+    takes_memory council_file "finds_$fault"
+done
+takes_memory council_file reads_a_fault
+takes_memory council_file reads_up_to_an_error
+takes_memory council_file reads_too_much
 takes_memory council_file writes_notation
 takes_memory mwc_walk lists_a_slice
 takes_memory mwc_walk lists_all
 takes_none mwc_walk walks_without_memory
 takes_none mwc_walk walks_under_two_rules_without_memory
+takes_none mwc_walk walks_under_four_rules_without_memory
 takes_memory mwc_pipe puts_into_a_pipe
 takes_memory mwc_pipe puts_into_a_batch
+takes_memory mwc_pipe puts_a_row_into_a_batch
 takes_memory mwc_pipe replays
 takes_memory mwc_pipe makes_a_ring
 takes_none mwc_pipe moves_words_without_memory
@@ -104,6 +144,7 @@ takes_none mwc_tally tallies_a_slice_without_memory
 takes_memory mwc_gather gathers "not started"
 takes_memory mwc_gather gathers_too_many "not started"
 takes_memory mwc_gather puts_parts_in_order
+takes_memory mwc_gather finds_the_pieces
 takes_memory mwc_gather sends_into_a_batch
 takes_none mwc_gather marks_without_memory
 takes_memory council_run runs_on_brackets "not started"

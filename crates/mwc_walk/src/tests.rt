@@ -155,6 +155,46 @@ fn forty_equal_members(rt: HostRuntime) -> Result<(), GameFault> {
     Ok(())
 }
 
+/// The rule that needs one of the members from one place of the file to before another.
+fn needed(alloc: Global, members: usize, from: usize, to: usize) -> Result<Rule, AllocError> {
+    let mut weights = Vec::new(alloc);
+    for member in 0..members {
+        weights.push(u64::from(from <= member && member < to))?;
+    }
+    Ok(Rule { quota: 1, weights })
+}
+
+/// A game of members in two to four groups, the others 0, with a rule for each group: one of its
+/// members is needed.
+fn one_of_each(alloc: Global, groups: [usize; 4]) -> Result<Game, GameFault> {
+    let two = groups[0].saturating_add(groups[1]);
+    let three = two.saturating_add(groups[2]);
+    let members = three.saturating_add(groups[3]);
+    let names = names(alloc, members)?;
+    let first = needed(alloc, members, 0, groups[0])?;
+    let second = needed(alloc, members, groups[0], two)?;
+    let third = needed(alloc, members, two, three)?;
+    let fourth = needed(alloc, members, three, members)?;
+    if first.weights.len() != names.len() || second.weights.len() != names.len() {
+        return Err(GameFault::Members);
+    }
+    if groups[2] == 0 {
+        return Game::with_rules(alloc, None, names, vec![in alloc; first, second]?);
+    }
+    if third.weights.len() != names.len() || fourth.weights.len() != names.len() {
+        return Err(GameFault::Members);
+    }
+    if groups[3] == 0 {
+        return Game::with_rules(alloc, None, names, vec![in alloc; first, second, third]?);
+    }
+    Game::with_rules(
+        alloc,
+        None,
+        names,
+        vec![in alloc; first, second, third, fourth]?,
+    )
+}
+
 /// A game of three members and two rules, in which all members together win, and are not minimal.
 fn two_rules(alloc: Global) -> Result<Game, GameFault> {
     let first = Rule {
@@ -213,5 +253,65 @@ fn the_slices_joined_are_the_plain_list(rt: HostRuntime) -> Result<(), GameFault
             }
         }
     }
+    Ok(())
+}
+
+/// Of 39 and 40 members in two, three or four groups one of each is needed: a slice of four has as many
+/// coalitions as there are choices, given which of the first two members are in.
+#[test]
+fn slices_under_several_rules(rt: HostRuntime) -> Result<(), GameFault> {
+    let alloc = rt.alloc();
+    let rows = [
+        ([5, 35, 0, 0], [0, 35, 35, 105]),
+        ([2, 3, 35, 0], [0, 105, 105, 0]),
+        ([2, 3, 3, 32], [0, 288, 288, 0]),
+        ([2, 3, 3, 31], [0, 279, 279, 0]),
+    ];
+    for (groups, counts) in rows {
+        let game = one_of_each(alloc, groups)?;
+        assert!(rt; 2 <= game.members());
+        for j in 0..4u16 {
+            let list = list_slice(alloc, &game, 2, j, u32::MAX)?;
+            assert_eq!(rt; list.len(), counts[j as usize], "slice {j}");
+        }
+        let most: usize = counts[0] + counts[1] + counts[2] + counts[3];
+        let all = list_all(alloc, &game, most as u32)?.expect(&rt, "at most so many");
+        assert_eq!(rt; all.len(), most);
+        assert!(rt; list_all(alloc, &game, most as u32 - 1)?.is_none());
+    }
+    Ok(())
+}
+
+/// The visits, by the counts of what is undecided and can still win: with groups of four members, 15 in the
+/// first group, 15 for each of its 15 non-empty choices in the second, and of these each as far as the
+/// first member of the third that is in.
+#[test]
+fn visits_under_several_rules(rt: HostRuntime) -> Result<(), GameFault> {
+    let three = one_of_each(rt.alloc(), [4, 4, 4, 0])?;
+    assert!(rt; three.members() == 12);
+    let mut walk = Walk::new(&three, 0, 0);
+    assert_eq!(rt; count(&mut walk), 64);
+    assert_eq!(rt; walk.visits(), 15 + 15 * 15 + 15 * 15 * 4);
+    let mut walk = Walk::new(&three, 2, 1);
+    assert_eq!(rt; count(&mut walk), 16);
+    assert_eq!(rt; walk.visits(), 2 + 3 + 4 * 15 + 4 * 15 * 4);
+    let four = one_of_each(rt.alloc(), [3, 3, 3, 3])?;
+    assert!(rt; four.members() == 12);
+    let mut walk = Walk::new(&four, 0, 0);
+    assert_eq!(rt; count(&mut walk), 81);
+    assert_eq!(rt; walk.visits(), 7 + 7 * 7 + 7 * 7 * 7 + 7 * 7 * 7 * 3);
+    Ok(())
+}
+
+/// Ten of twenty equal members win: 184,756 coalitions.
+#[test]
+fn a_plain_list_of_twenty_members(rt: HostRuntime) -> Result<(), GameFault> {
+    let alloc = rt.alloc();
+    let twenty = game(alloc, 10, &[1; 20])?;
+    assert!(rt; twenty.members() == 20);
+    let plain = plain_list(alloc, &twenty)?;
+    assert_eq!(rt; plain.len(), 184_756);
+    let all = list_all(alloc, &twenty, 184_756)?.expect(&rt, "at most so many");
+    assert!(rt; all.as_slice() == plain.as_slice());
     Ok(())
 }

@@ -69,3 +69,99 @@ fn writes_notation(rt: HostRuntime) -> Result<(), Fail> {
     assert_eq!(rt; out.as_slice(), b"x[51; 50, 49, 1]".as_slice());
     Ok(())
 }
+
+/// Tells the answer of a call on a file that has this fault: the fault, or want of memory.
+fn tells_fault<R: Abort + Print>(
+    rt: &R,
+    answer: Result<Game, GameFault>,
+    wanted: GameFault,
+) -> Result<(), Fail> {
+    match answer.err() {
+        Some(GameFault::Memory) => rt.println("out of memory")?,
+        said => {
+            rt.println("worked")?;
+            assert_eq!(rt; said, Some(wanted));
+        }
+    }
+    Ok(())
+}
+
+#[test]
+fn finds_a_repeated_name(rt: HostRuntime) -> Result<(), Fail> {
+    let file =
+        "title = \"Board\"\nquotas = [51, 2]\nmember = [{name = \"A\", weights = [50, 1]}, {name = \"A\", weights = [49, 1]}]";
+    rt.println("call")?;
+    let answer = parse_game(rt.alloc(), file.as_bytes());
+    tells_fault(&rt, answer, GameFault::SameName { member: 2 })
+}
+
+#[test]
+fn finds_an_unknown_key(rt: HostRuntime) -> Result<(), Fail> {
+    let file =
+        "quota = 51\nmember = [{name = \"A\", weight = 50}, {name = \"B\", weight = 49, vote = 1}]";
+    rt.println("call")?;
+    let answer = parse_game(rt.alloc(), file.as_bytes());
+    tells_fault(&rt, answer, GameFault::UnknownKey)
+}
+
+#[test]
+fn finds_a_bad_weight(rt: HostRuntime) -> Result<(), Fail> {
+    let file = "quota = 51\nmember = [{name = \"A\", weight = 50}, {name = \"B\", weight = 49.0}]";
+    rt.println("call")?;
+    let answer = parse_game(rt.alloc(), file.as_bytes());
+    tells_fault(&rt, answer, GameFault::Weight { member: 2 })
+}
+
+#[test]
+fn finds_no_toml(rt: HostRuntime) -> Result<(), Fail> {
+    let file = "quota = 51\nmember = [{name = \"A\", weight = 50}, {name = \"B\"";
+    rt.println("call")?;
+    let answer = parse_game(rt.alloc(), file.as_bytes());
+    tells_fault(&rt, answer, GameFault::Text)
+}
+
+#[test]
+fn finds_a_bad_bracket_text(rt: HostRuntime) -> Result<(), Fail> {
+    rt.println("call")?;
+    let answer = parse_game(rt.alloc(), b"[51; 50, 49, 1, 1, 1, 1, 1, 1, 1,, 1]");
+    tells_fault(&rt, answer, GameFault::Bracket)
+}
+
+#[test]
+fn finds_a_quota_out_of_range(rt: HostRuntime) -> Result<(), Fail> {
+    rt.println("call")?;
+    let answer = parse_game(rt.alloc(), b"[101; 50, 49, 1]");
+    tells_fault(&rt, answer, GameFault::QuotaRange)
+}
+
+#[test]
+fn reads_a_fault(rt: HostRuntime) -> Result<(), Fail> {
+    let mut reader = Piecemeal {
+        left: b"[51; 50, 49, 1",
+        at_once: 7,
+        error: None,
+    };
+    rt.println("call")?;
+    let answer = read_game(rt.alloc(), &mut reader);
+    tells_fault(&rt, answer, GameFault::Bracket)
+}
+
+#[test]
+fn reads_up_to_an_error(rt: HostRuntime) -> Result<(), Fail> {
+    let mut reader = Piecemeal {
+        left: BOARD.as_bytes(),
+        at_once: 7,
+        error: Some(ErrorKind::TimedOut),
+    };
+    rt.println("call")?;
+    let answer = read_game(rt.alloc(), &mut reader);
+    tells_fault(&rt, answer, GameFault::Read)
+}
+
+#[test]
+fn reads_too_much(rt: HostRuntime) -> Result<(), Fail> {
+    let mut reader = Blanks { reads: 0 };
+    rt.println("call")?;
+    let answer = read_game(rt.alloc(), &mut reader);
+    tells_fault(&rt, answer, GameFault::TooLong)
+}

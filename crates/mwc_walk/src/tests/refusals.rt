@@ -70,3 +70,16 @@ fn walks_under_two_rules_without_memory(rt: HostRuntime) -> Result<(), Fail> {
     rt.println("worked")?;
     Ok(())
 }
+
+#[test]
+fn walks_under_four_rules_without_memory(rt: HostRuntime) -> Result<(), Fail> {
+    let game = one_of_each(rt.alloc(), [3, 3, 3, 3])?;
+    assert!(rt; game.members() == 12);
+    rt.println("call")?;
+    let mut walk = Walk::new(&game, 0, 0);
+    assert_eq!(rt; count(&mut walk), 81);
+    assert_eq!(rt; walk.next(), None);
+    assert_eq!(rt; walk.visits(), 1428);
+    rt.println("worked")?;
+    Ok(())
+}
