@@ -9,7 +9,8 @@ use council_game::{Coalition, Game, Memory};
 use std::alloc::Global;
 
 /// All minimal winning coalitions of a game in listing order, listed in this thread; none where there
-/// are more than `most` of them.
+/// are more than `most` of them. For a game of few members it is the list that
+/// `council_game::plain_list` gives by trying each coalition.
 ///
 /// # Errors
 ///

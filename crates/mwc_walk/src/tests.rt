@@ -228,7 +228,9 @@ fn with_several_rules_a_winner_may_not_be_minimal(rt: HostRuntime) -> Result<(),
 }
 
 #[test]
-fn the_slices_joined_are_the_plain_list(rt: HostRuntime) -> Result<(), GameFault> {
+fn the_slices_joined_and_the_whole_list_are_the_plain_list(
+    rt: HostRuntime,
+) -> Result<(), GameFault> {
     let alloc = rt.alloc();
     let games = [
         (51, [50, 49, 1].as_slice()),
@@ -242,6 +244,10 @@ fn the_slices_joined_are_the_plain_list(rt: HostRuntime) -> Result<(), GameFault
         let game = game(alloc, quota, weights)?;
         assert!(rt; game.members() <= 20);
         let plain = plain_list(alloc, &game)?;
+        let Some(whole) = list_all(alloc, &game, 4_000_000)? else {
+            return Err(GameFault::Members);
+        };
+        assert_eq!(rt; whole.as_slice(), plain.as_slice(), "quota {quota}");
         for bits in 0..11 {
             if bits as usize <= game.members() {
                 let joined = joined(alloc, &game, bits)?;
