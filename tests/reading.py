@@ -109,9 +109,13 @@ def load_source(path, crate, module):
         owner = m.group(1) if m else None if line == "}" else owner
         m = re.match(r"(\s*)(pub(?:\(\w+\))? )?fn (\w+)", line)
         if m:
-            j = i
-            while not re.match(r"\s*(\{.*)?$|.*;$", lines[j + 1]) and not lines[j].rstrip().endswith("{"):
+            # up to the body, or to the `;` of a function without one
+            j, open_braces = i, line.count("{") - line.count("}")
+            while open_braces or not lines[j].endswith((";", "{}")):
+                if lines[j].endswith("{") or lines[j + 1].startswith(m.group(1) + "{"):
+                    break
                 j += 1
+                open_braces += lines[j].count("{") - lines[j].count("}")
             functions.setdefault((crate, module, owner, m.group(3)), ("\n".join(lines[i : j + 1]), names, m.group(2) or ""))
         m = re.match(r"pub(?:\(\w+\))? (?:struct|enum|trait) (\w+).*\{$", line)
         if m:
