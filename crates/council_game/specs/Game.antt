@@ -1,5 +1,5 @@
 -- What a game is, and the checks that make one.
-use Rattle.std.specs.Prelude.{◌≡◌, ◌<◌, ◌≤◌, All, ℕ, Bool, false, not, ◌&&◌, ◌||◌, ◌==◌, nat_lt, nat_le, nat_eq, List, [], ◌∷◌, length, take, map, sum, position, slice_index, slice_index_or, Option, Result, Ok}
+use Rattle.std.specs.Prelude.{◌≡◌, ◌<◌, ◌≤◌, ◌^◌, All, ℕ, Bool, false, not, ◌&&◌, ◌||◌, ◌==◌, nat_lt, nat_le, nat_eq, List, [], ◌∷◌, length, take, map, sum, position, slice_index, slice_index_or, Option, Result, Ok}
 use Rattle.std.specs.List.{list_any, list_all, range_with_len}
 use Rattle.std.specs.Option.{option_map_or}
 use Rattle.std.specs.Cmp.Lexicographic.{pointwise}
@@ -74,3 +74,8 @@ pub record IsGame (g : GameView) : Type 0 where
 -- the votes of a game: its rules by rank
 abbrev pub votes_of : GameView → Votes
 votes_of g = record { members = length g.names; rules = map (rule_by_rank g.ranks) g.rules }
+
+-- coalitions of a game, none of them empty; that its minimal winning coalitions are such is a law of `power_index`,
+-- `laws::minimal_coalitions_can_be_counted`
+abbrev pub AreNonemptyCoalitions : GameView → List ℕ → Type 0
+AreNonemptyCoalitions g list = All (λ c. (0 < c) × (c < 2 ^ length g.names)) list

@@ -2,9 +2,8 @@
 ghost use Rattle.std.specs.Prelude.{◌≡◌, ◌+◌, ◌≤◌, ◌^◌, true, false, ℕ, List, length, All, IfOk, IfErr, OnOk};
 ghost use Rattle.std.specs.List.{flat_map};
 ghost use Rattle.std.specs.Io.KnownBytes.{Appends};
-ghost use Rattle.council_game.specs.Game.{votes_of};
+ghost use Rattle.council_game.specs.Game.{votes_of, AreNonemptyCoalitions};
 ghost use Rattle.council_game.specs.Votes.{minimal_coalitions};
-ghost use Rattle.power_index.specs.Counting.{AreCoalitions};
 ghost use Rattle.power_index.specs.Tables.{AreCounts};
 ghost use Rattle.council_report.specs.Counted.{IsCounted};
 ghost use Rattle.council_report.specs.Report.{coalition_lines, size_lines, lines, report, report_over};
@@ -37,7 +36,7 @@ fn put_shown_coalitions<W: Write>(
 ) -> Result<(), WriteFault>
     ghost list: { List ℕ }
     requires pieces { shown.list ≡ true → flat_map (λ p. p.now) pieces.now ≡ list }
-    requires coalitions { shown.list ≡ true → AreCoalitions game.now list }
+    requires coalitions { shown.list ≡ true → AreNonemptyCoalitions game.now list }
     requires line { IsReadyLine game.now line.old }
     requires ready { IsReady block.old }
     requires counted { CanCount block.old (coalition_lines shown game.now list) }
@@ -90,7 +89,7 @@ fn put_lines<W: Write>(
     ghost list: { List ℕ }
     requires list { IsCounted counted.now.game.now list counted.now.counts.now }
     requires pieces { shown.list ≡ true → flat_map (λ p. p.now) pieces.now ≡ list }
-    requires coalitions { shown.list ≡ true → AreCoalitions counted.now.game.now list }
+    requires coalitions { shown.list ≡ true → AreNonemptyCoalitions counted.now.game.now list }
     requires line { IsReadyLine counted.now.game.now line.old }
     requires ready { IsReady block.old }
     requires counted { CanCount block.old (lines shown counted.now.game.now list) }
@@ -117,7 +116,7 @@ fn send<W: Write>(
     ghost list: { List ℕ }
     requires list { IsCounted counted.now.game.now list counted.now.counts.now }
     requires pieces { shown.list ≡ true → flat_map (λ p. p.now) pieces.now ≡ list }
-    requires coalitions { shown.list ≡ true → AreCoalitions counted.now.game.now list }
+    requires coalitions { shown.list ≡ true → AreNonemptyCoalitions counted.now.game.now list }
     requires line { IsReadyLine counted.now.game.now line }
     requires room { HasRoom block }
     requires counted { CanCount block (lines shown counted.now.game.now list) }
@@ -145,7 +144,7 @@ fn write_over<W: Write>(
     ghost list: { List ℕ }
     requires list { IsCounted counted.now.game.now list counted.now.counts.now }
     requires pieces { shown.list ≡ true → flat_map (λ p. p.now) pieces.now ≡ list }
-    requires coalitions { shown.list ≡ true → AreCoalitions counted.now.game.now list }
+    requires coalitions { shown.list ≡ true → AreNonemptyCoalitions counted.now.game.now list }
     ensures count { IfOk result (λ count. count ≡ length (report_over shown counted.now.game.now list)) }
     ensures ok { OnOk result (Appends (W.contents writer.old) (W.contents writer.new)
         (report_over shown counted.now.game.now list)) }
@@ -183,7 +182,7 @@ pub fn write_report_of<W: Write>(
 ) -> Result<u64, ReportFault>
     requires some { 1 ≤ length (flat_map (λ p. p.now) pieces.now) }
     requires few { length (flat_map (λ p. p.now) pieces.now) ≤ 2 ^ 40 }
-    requires coalitions { AreCoalitions game.now (flat_map (λ p. p.now) pieces.now) }
+    requires coalitions { AreNonemptyCoalitions game.now (flat_map (λ p. p.now) pieces.now) }
     requires counts { AreCounts game.now (flat_map (λ p. p.now) pieces.now) counts.now }
     ensures count { IfOk result (λ count. count ≡
         length (report_over shown game.now (flat_map (λ p. p.now) pieces.now))) }
@@ -250,7 +249,7 @@ pub fn write_report<W: Write>(
 ) -> Result<u64, ReportFault>
     requires some { 1 ≤ length list.now }
     requires few { length list.now ≤ 4000000 }
-    requires coalitions { AreCoalitions game.now list.now }
+    requires coalitions { AreNonemptyCoalitions game.now list.now }
     ensures count { IfOk result (λ count. count ≡ length (report_over shown game.now list.now)) }
     ensures ok { OnOk result (Appends (W.contents writer.old) (W.contents writer.new) (report_over shown game.now list.now)) }
     ensures err { IfErr result (Falls (W.contents writer.old) (W.contents writer.new) (report_over shown game.now list.now)) }

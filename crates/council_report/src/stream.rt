@@ -1,7 +1,8 @@
 //! The lines of a report on their way to its writer.
 ghost use Rattle.std.specs.Prelude.{ℕ, List, length, All, IfErr, OnOk};
 ghost use Rattle.std.specs.List.{flat_map, range_with_len};
-ghost use Rattle.power_index.specs.Counting.{members, AreCoalitions};
+ghost use Rattle.power_index.specs.Counting.{members};
+ghost use Rattle.council_game.specs.Game.{AreNonemptyCoalitions};
 ghost use Rattle.council_report.specs.Counted.{IsCounted};
 ghost use Rattle.council_report.specs.Lines.{coalition_line, size_line, member_line};
 ghost use Rattle.council_report.specs.Shared.{IsReadyLine};
@@ -23,7 +24,7 @@ pub(crate) fn put_coalitions<W: Write>(
     list: &[Coalition],
     line: &mut SharedLine,
 ) -> Result<(), WriteFault>
-    requires coalitions { AreCoalitions game.now list.now }
+    requires coalitions { AreNonemptyCoalitions game.now list.now }
     requires line { IsReadyLine game.now line.old }
     requires ready { IsReady block.old }
     requires counted { CanCount block.old (flat_map (coalition_line game.now) list.now) }
@@ -52,7 +53,7 @@ pub(crate) fn put_pieces<W: Write>(
     pieces: &[&[Coalition]],
     line: &mut SharedLine,
 ) -> Result<(), WriteFault>
-    requires coalitions { All (λ p. AreCoalitions game.now p.now) pieces.now }
+    requires coalitions { All (λ p. AreNonemptyCoalitions game.now p.now) pieces.now }
     requires line { IsReadyLine game.now line.old }
     requires ready { IsReady block.old }
     requires counted { CanCount block.old (flat_map (λ p. flat_map (coalition_line game.now) p.now) pieces.now) }

@@ -1,6 +1,6 @@
 //! A listing against lines that are made independently, in several orders.
 ghost use Rattle.std.specs.Prelude.{◌≡◌, length, IfOk};
-ghost use Rattle.power_index.specs.Counting.{AreCoalitions};
+ghost use Rattle.council_game.specs.Game.{AreNonemptyCoalitions};
 
 use crate::{Shown, write_report, write_report_of, write_tally};
 use council_file::parse_game;
@@ -99,7 +99,7 @@ const WEIGHTS: [[u64; 14]; 3] = [
 /// opposite at step 1, and at other odd steps in other orders.
 fn coalitions(alloc: Global, game: &Game, step: u64) -> Result<Vec<Coalition>, AllocError>
     requires { length game.now.names ≡ 14 }
-    ensures { IfOk result (λ v. AreCoalitions game.now v.items) }
+    ensures { IfOk result (λ v. AreNonemptyCoalitions game.now v.items) }
 {
     let mut list = Vec::new(alloc);
     for k in 1..16_384_u64 {

@@ -1,8 +1,7 @@
 -- What was gathered is all that there is.
 use Rattle.std.proofs.Common.{◌≡◌, ◌≤◌, ℕ, List, length, sym, ap, subst, arith}
 use Rattle.council_game.specs.Votes.{minimal_coalitions}
-use Rattle.council_game.specs.Game.{GameView, IsGame, votes_of}
-use Rattle.power_index.specs.Counting.{AreCoalitions}
+use Rattle.council_game.specs.Game.{GameView, IsGame, votes_of, AreNonemptyCoalitions}
 use Rattle.power_index.proofs.Minimal.{minimal-some, minimal-are-coalitions}
 use Rattle.council_run.specs.Listed.{IsListed}
 
@@ -13,5 +12,5 @@ is-listed g list m game all few =
       all = all;
       some = omega (arith, minimal-some g game, long);
       few = omega (arith, few, long);
-      coalitions = subst (AreCoalitions g) (sym all) (minimal-are-coalitions g game);
+      coalitions = subst (AreNonemptyCoalitions g) (sym all) (minimal-are-coalitions g game);
     }

@@ -2,8 +2,7 @@
 use Rattle.std.specs.Prelude.{◌≡◌, ◌<◌, ◌≤◌, ℕ, List, length}
 use Rattle.std.specs.List.{All, flat_map, range_with_len}
 use Rattle.council_game.specs.Votes.{minimal_coalitions}
-use Rattle.council_game.specs.Game.{GameView, IsGame, votes_of}
-use Rattle.power_index.specs.Counting.{AreCoalitions}
+use Rattle.council_game.specs.Game.{GameView, IsGame, votes_of, AreNonemptyCoalitions}
 use Rattle.mwc_walk.specs.Slices.{slice}
 use Rattle.mwc_parts.specs.Parts.{HasPieces}
 use Rattle.mwc_parts.specs.declared.gathered.Gathered.{Gathered}
@@ -17,7 +16,7 @@ pub record IsListed (g : GameView) (most : ℕ) (list : List ℕ) : Type 0 where
   pub all : list ≡ minimal_coalitions (votes_of g)
   pub some : 1 ≤ length list
   pub few : length list ≤ most
-  pub coalitions : AreCoalitions g list
+  pub coalitions : AreNonemptyCoalitions g list
 
 -- what the workers listed is all of them, slice by slice, and there are at most so many
 pub record IsGathered (g : GameView) (most : ℕ) (r : Gathered) : Type 0 where

@@ -8,11 +8,10 @@ use Rattle.std.proofs.lemmas.List.FromFn.{fill_by_all, length-range_with_len, ge
 use Rattle.std.proofs.lemmas.List.Concat.{flat_map-append, length-flat_map}
 use Rattle.std.proofs.lemmas.List.Sums.{sum_by-cons}
 use Rattle.std.proofs.lemmas.List.Sorted.{sum_by-IsPermutation}
-use Rattle.council_game.specs.Game.{GameView, IsGame, votes_of}
+use Rattle.council_game.specs.Game.{GameView, IsGame, votes_of, AreNonemptyCoalitions}
 use Rattle.council_game.specs.Votes.{has, size, minimal_coalitions}
 use Rattle.mwc_walk.specs.Slices.{slice, in_slice}
 use Rattle.mwc_walk.proofs.Joined.{slices-joined}
-use Rattle.power_index.specs.Counting.{AreCoalitions}
 use Rattle.power_index.specs.Tables.{Tables, Tallies, AllTallies, AreTallies, AreOf, AreOfOneGame, AreCounts, table_total, no_tally}
 use Rattle.power_index.proofs.Minimal.{minimal-are-coalitions, minimal-few}
 use Rattle.power_index.proofs.Sound.{total-is, tallies-are_counts}
@@ -21,7 +20,7 @@ use Rattle.power_index.proofs.Tallies.{range-more, sum_by-range-more, sum_by-ran
 use Rattle.mwc_tally.specs.Shares.{CountedUpTo}
 
 -- a slice is a part of the list
-pub slice-are-coalitions : (g : GameView) (bits j : ℕ) → IsGame g → AreCoalitions g (slice (votes_of g) bits j)
+pub slice-are-coalitions : (g : GameView) (bits j : ℕ) → IsGame g → AreNonemptyCoalitions g (slice (votes_of g) bits j)
 unfolding slice in_slice
 slice-are-coalitions g bits j game = All-filter _ (λ c. (0 < c) × (c < 2 ^ length g.names)) (minimal_coalitions (votes_of g)) (minimal-are-coalitions g game)
 

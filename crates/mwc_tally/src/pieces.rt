@@ -1,6 +1,5 @@
 //! Counts of a list that lies in pieces, by several threads.
-ghost use Rattle.council_game.specs.Game.{IsGame};
-ghost use Rattle.power_index.specs.Counting.{AreCoalitions};
+ghost use Rattle.council_game.specs.Game.{IsGame, AreNonemptyCoalitions};
 ghost use Rattle.power_index.specs.Tables.{AreCounts, AreTallies};
 ghost use Rattle.std.specs.List.{flat_map};
 ghost use Rattle.std.specs.Prelude.{◌≡◌, ℕ, ◌+◌, ◌*◌, ◌<◌, ◌≤◌, ◌^◌, ⊤, IfOk, IfErr, MatchOption, length, drop, take};
@@ -50,7 +49,7 @@ fn length_of(pieces: &[&[Coalition]]) -> usize
 /// The counts of at most `most` coalitions of a list in pieces, past its first `skip`.
 fn of_part(game: &Game, pieces: &[&[Coalition]], skip: usize, most: usize) -> WideCounts
     requires few { length (flat_map (λ p. p.now) pieces.now) ≤ 2 ^ 40 }
-    requires coalitions { AreCoalitions game.now (flat_map (λ p. p.now) pieces.now) }
+    requires coalitions { AreNonemptyCoalitions game.now (flat_map (λ p. p.now) pieces.now) }
     ensures { AreTallies game.now (take most (drop skip (flat_map (λ p. p.now) pieces.now))) result }
 {
     let mut counts = WideCounts::none(game);
@@ -81,7 +80,7 @@ pub fn tally_pieces<R: Threads + Wait + Sync>(
 ) -> Result<WideCounts, TallyFault>
     requires threads { (1 ≤ threads) × (threads ≤ 16) }
     requires few { length (flat_map (λ p. p.now) pieces.now) ≤ 2 ^ 40 }
-    requires coalitions { AreCoalitions game.now (flat_map (λ p. p.now) pieces.now) }
+    requires coalitions { AreNonemptyCoalitions game.now (flat_map (λ p. p.now) pieces.now) }
     ensures ok { IfOk result (AreCounts game.now (flat_map (λ p. p.now) pieces.now)) }
     ensures err { IfErr result (λ fault. fault ≡ TallyFault.Start) }
 {
@@ -91,7 +90,7 @@ pub fn tally_pieces<R: Threads + Wait + Sync>(
         rt,
         move |scope| -> Result<WideCounts, TallyFault>
             requires few { length (flat_map (λ p. p.now) pieces.now) ≤ 2 ^ 40 }
-            requires coalitions { AreCoalitions game.now (flat_map (λ p. p.now) pieces.now) }
+            requires coalitions { AreNonemptyCoalitions game.now (flat_map (λ p. p.now) pieces.now) }
             requires part { part ≤ 2 ^ 41 }
             requires threads { (1 ≤ threads) × (threads ≤ 16) }
             ensures ok { IfOk result (AreTallies game.entry.now (flat_map (λ p. p.now) pieces.entry.now)) }
@@ -109,7 +108,7 @@ fn start<'s, E>(
     most: usize,
 ) -> Option<Counting<'s>>
     requires few { length (flat_map (λ p. p.now) pieces.now) ≤ 2 ^ 40 }
-    requires coalitions { AreCoalitions game.now (flat_map (λ p. p.now) pieces.now) }
+    requires coalitions { AreNonemptyCoalitions game.now (flat_map (λ p. p.now) pieces.now) }
     ensures { MatchOption result ⊤ (λ t. IsGivenPart game.now (flat_map (λ p. p.now) pieces.now) skip most t.promise) }
 {
     let given = GivenPart {
@@ -120,7 +119,7 @@ fn start<'s, E>(
     };
     let body = move || -> WideCounts
         requires few { length (flat_map (λ p. p.now) pieces.now) ≤ 2 ^ 40 }
-        requires coalitions { AreCoalitions game.now (flat_map (λ p. p.now) pieces.now) }
+        requires coalitions { AreNonemptyCoalitions game.now (flat_map (λ p. p.now) pieces.now) }
         ensures { AreTallies game.entry.now (take most (drop skip (flat_map (λ p. p.now) pieces.entry.now))) result }
     { of_part(game, pieces, skip, most) };
     scope.spawn_with(given, body).ok()
@@ -138,7 +137,7 @@ fn count_from<'s, E, R: Threads>(
     others: u8,
 ) -> Result<WideCounts, TallyFault>
     requires few { length (flat_map (λ p. p.now) pieces.now) ≤ 2 ^ 40 }
-    requires coalitions { AreCoalitions game.now (flat_map (λ p. p.now) pieces.now) }
+    requires coalitions { AreNonemptyCoalitions game.now (flat_map (λ p. p.now) pieces.now) }
     requires room { skip + others * part ≤ 2 ^ 46 }
     ensures ok { IfOk result (AreTallies game.now (drop skip (flat_map (λ p. p.now) pieces.now))) }
     ensures err { IfErr result (λ fault. fault ≡ TallyFault.Start) }

@@ -1,11 +1,11 @@
 -- A list of all minimal winning coalitions of a game.
-use Rattle.std.specs.Prelude.{◌≡◌, ℕ, ◌^◌, ◌≤◌, ◌<◌, All, List, length}
+use Rattle.std.specs.Prelude.{◌≡◌, ℕ, ◌≤◌, List, length}
 use Rattle.council_game.specs.Votes.{minimal_coalitions}
-use Rattle.council_game.specs.Game.{GameView, votes_of}
+use Rattle.council_game.specs.Game.{GameView, AreNonemptyCoalitions, votes_of}
 
 -- the list is all of them: there is one, there are at most so many, and each is a coalition of the game that is not empty
 pub record ListsAll (g : GameView) (most : ℕ) (list : List ℕ) : Type 0 where
   pub all : list ≡ minimal_coalitions (votes_of g)
   pub some : 1 ≤ length list
   pub few : length list ≤ most
-  pub coalitions : All (λ c. (0 < c) × (c < 2 ^ length g.names)) list
+  pub coalitions : AreNonemptyCoalitions g list

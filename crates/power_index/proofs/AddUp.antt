@@ -4,9 +4,9 @@ use Rattle.std.specs.List.{filter, sum_by, count_by}
 use Rattle.std.proofs.lemmas.List.Sums.{sum_by-cons}
 use Rattle.std.proofs.lemmas.List.Elements.{All-head, All-tail}
 use Rattle.std.proofs.Math.Nat.{mul-pos, eq_of_mul-eq-mul_right}
-use Rattle.council_game.specs.Game.{GameView, IsGame}
+use Rattle.council_game.specs.Game.{GameView, IsGame, AreNonemptyCoalitions}
 use Rattle.council_game.proofs.Games.{votes-are}
-use Rattle.power_index.specs.Counting.{members, contains, size_of, count_of_member, AreCoalitions}
+use Rattle.power_index.specs.Counting.{members, contains, size_of, count_of_member}
 use Rattle.power_index.specs.Fractions.{unit_sum, pair_sum, AddUpToOne}
 use Rattle.power_index.specs.Indices.{deegan_packel, public_good, sizes_of_member}
 use Rattle.power_index.proofs.Sums.{sum-map, sum-cong, swap}
@@ -41,7 +41,7 @@ adds_up k q w is pos each bottoms whole = record {
         omega (arith, s)
 
 -- each coalition weighs its size times the unit fraction of its size
-whole_weight : (g : GameView) (list : List ℕ) → length g.names ≤ 40 → AreCoalitions g list → sum_by (λ c. size_of g c * (denominator / size_of g c)) list ≡ length list * denominator
+whole_weight : (g : GameView) (list : List ℕ) → length g.names ≤ 40 → AreNonemptyCoalitions g list → sum_by (λ c. size_of g c * (denominator / size_of g c)) list ≡ length list * denominator
 whole_weight g [] few h = omega arith
 whole_weight g (c ∷ cs) few h =
     let head : (0 < c) × (c < 2 ^ length g.names) = All-head (λ c. (0 < c) × (c < 2 ^ length g.names)) c cs h in
@@ -52,7 +52,7 @@ whole_weight g (c ∷ cs) few h =
     let e = sum_by-cons (λ x. size_of g x * (denominator / size_of g x)) c cs in
     omega (arith, d, rest, e)
 
-weights : (g : GameView) (list : List ℕ) → IsGame g → AreCoalitions g list
+weights : (g : GameView) (list : List ℕ) → IsGame g → AreNonemptyCoalitions g list
     → sum_by (λ i. sum_by (λ s. denominator / s) (sizes_of_member g list i)) (members g) ≡ length list * denominator
 weights g list game h =
     sum-cong (λ i. sum_by (λ s. denominator / s) (sizes_of_member g list i)) (λ i. sum_by (λ c. denominator / size_of g c) (filter (contains g i) list))
@@ -62,7 +62,7 @@ weights g list game h =
     (λ c. ap (λ n. n * (denominator / size_of g c)) (members-of g game c)) list
     ∙ whole_weight g list (few-members g game) h))
 
-pub deegan_packel-adds_up : (g : GameView) (list : List ℕ) → IsGame g → 0 < length list → AreCoalitions g list → AddUpToOne (map (deegan_packel g list) (members g))
+pub deegan_packel-adds_up : (g : GameView) (list : List ℕ) → IsGame g → 0 < length list → AreNonemptyCoalitions g list → AddUpToOne (map (deegan_packel g list) (members g))
 unfolding deegan_packel
 deegan_packel-adds_up g list game some h =
     adds_up (denominator * length list) (deegan_packel g list) (λ i. sum_by (λ s. denominator / s) (sizes_of_member g list i)) (members g) (omega arith)
@@ -74,7 +74,7 @@ deegan_packel-adds_up g list game some h =
     scale : (w b a : ℕ) → w * b ≡ a * denominator → a * (denominator * length list) ≡ w * (b * length list)
     scale w b a e = omega (arith, ap (λ v. v * length list) e)
 
-pub public_good-adds_up : (g : GameView) (list : List ℕ) → IsGame g → 0 < length list → AreCoalitions g list → AddUpToOne (map (public_good g list) (members g))
+pub public_good-adds_up : (g : GameView) (list : List ℕ) → IsGame g → 0 < length list → AreNonemptyCoalitions g list → AddUpToOne (map (public_good g list) (members g))
 unfolding public_good
 public_good-adds_up g list game some h =
     adds_up (sum_by (λ j. count_of_member g j list) (members g)) (public_good g list) (λ i. count_of_member g i list) (members g) all-some

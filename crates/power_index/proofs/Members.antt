@@ -9,11 +9,11 @@ use Rattle.std.proofs.lemmas.List.Elements.{All-head, All-tail}
 use Rattle.std.proofs.lemmas.List.FromFn.{fill_by_all, length-range_with_len, get_or-range_with_len}
 use Rattle.std.proofs.lemmas.Bool.{cases_lt}
 use Rattle.council_game.specs.Votes.{has, size}
-use Rattle.council_game.specs.Game.{GameView, IsGame}
+use Rattle.council_game.specs.Game.{GameView, IsGame, AreNonemptyCoalitions}
 use Rattle.council_game.proofs.Games.{votes-are}
 use Rattle.council_game.proofs.Making.{ranks-are}
 use Rattle.council_game.proofs.RankPlaces.{game-rank_places}
-use Rattle.power_index.specs.Counting.{members, contains, size_of, count_of_member, AreCoalitions}
+use Rattle.power_index.specs.Counting.{members, contains, size_of, count_of_member}
 use Rattle.power_index.specs.Indices.{sizes_of_member}
 use Rattle.power_index.proofs.Digits.{lowest-place}
 use Rattle.power_index.proofs.Sums.{sum-map, swap, sum-ones, sum-cong}
@@ -67,7 +67,7 @@ memberships g list is =
     ∙ (swap (contains g) (λ (x : ℕ). 1) (members g) list
     ∙ sum-cong (λ c. count_by (λ i. contains g i c) (members g) * 1) (size_of g) (λ c. (let e = members-of g is c in omega (arith, e))) list)
 
-pub sizes-some : (g : GameView) (list : List ℕ) → length g.names ≤ 40 → AreCoalitions g list → length list ≤ sum_by (size_of g) list
+pub sizes-some : (g : GameView) (list : List ℕ) → length g.names ≤ 40 → AreNonemptyCoalitions g list → length list ≤ sum_by (size_of g) list
 sizes-some g [] few h = omega arith
 sizes-some g (c ∷ cs) few h =
     let head : (0 < c) × (c < 2 ^ length g.names) = All-head (λ c. (0 < c) × (c < 2 ^ length g.names)) c cs h in

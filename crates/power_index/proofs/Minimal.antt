@@ -2,17 +2,16 @@
 use Rattle.std.proofs.Common.{ℕ, ◌≡◌, ◌^◌, ◌<◌, ◌≤◌, zero, suc, length, ap, refl, arith}
 use Rattle.std.proofs.Math.Pow.{pow_mono}
 use Rattle.council_game.specs.Votes.{down, minimal, minimal_below, minimal_coalitions}
-use Rattle.council_game.specs.Game.{GameView, IsGame, votes_of}
+use Rattle.council_game.specs.Game.{GameView, IsGame, votes_of, AreNonemptyCoalitions}
 use Rattle.council_game.proofs.Games.{votes-are}
 use Rattle.council_game.proofs.Listing.{listing-is}
-use Rattle.power_index.specs.Counting.{AreCoalitions}
 use Rattle.power_index.proofs.Members.{few-members}
 use Rattle.power_index.proofs.Sums.{length-filter-le}
 
 pub minimal-some : (g : GameView) → IsGame g → 0 < length (minimal_coalitions (votes_of g))
 minimal-some g game = (listing-is (votes_of g) (votes-are g game)).some
 
-pub minimal-are-coalitions : (g : GameView) → IsGame g → AreCoalitions g (minimal_coalitions (votes_of g))
+pub minimal-are-coalitions : (g : GameView) → IsGame g → AreNonemptyCoalitions g (minimal_coalitions (votes_of g))
 minimal-are-coalitions g game k d lt =
     let listing = listing-is (votes_of g) (votes-are g game) in
     let not-empty = listing.none_empty k d lt in

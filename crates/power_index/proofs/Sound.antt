@@ -4,11 +4,11 @@ use Rattle.std.specs.List.{All, filter, sum_by, range_with_len}
 use Rattle.std.proofs.lemmas.List.{get_or-replicate}
 use Rattle.std.proofs.lemmas.List.Elements.{All-append, All-push}
 use Rattle.council_game.specs.Votes.{has, size}
-use Rattle.council_game.specs.Game.{GameView, IsGame}
+use Rattle.council_game.specs.Game.{GameView, IsGame, AreNonemptyCoalitions}
 use Rattle.council_game.proofs.Games.{votes-are}
 use Rattle.council_game.proofs.Making.{ranks-are}
 use Rattle.power_index.specs.declared.tally.Tally.{Tally}
-use Rattle.power_index.specs.Counting.{members, contains, size_of, count_of_member, AreCoalitions}
+use Rattle.power_index.specs.Counting.{members, contains, size_of, count_of_member}
 use Rattle.power_index.specs.Tables.{Tables, Tallies, AllTallies, AreTallies, AreOfOneGame, AreOfSomeList, AreCounts, AreWithin, IsJoined, no_tally, with_one, tally_total, table_total, table_of_member}
 use Rattle.power_index.proofs.Sums.{length-filter-le, sum-range}
 use Rattle.power_index.proofs.Members.{few-members, memberships, sizes-some, size-le}
@@ -42,7 +42,7 @@ tallies-are_counts g list t h =
       of_member_size = λ i s lt le. (member-tallies g list t i lt h).sizes s (omega (arith, h.of_game.members));
     }
 
-pub counts-sound : (most : ℕ) (g : GameView) (list : List ℕ) (t : Tables) → IsGame g → 1 ≤ length list → length list ≤ most → AreCoalitions g list
+pub counts-sound : (most : ℕ) (g : GameView) (list : List ℕ) (t : Tables) → IsGame g → 1 ≤ length list → length list ≤ most → AreNonemptyCoalitions g list
     → AreCounts g list t → AreWithin most t
 counts-sound most g list t game some few within h = record {
   some_members = (let votes = votes-are g game in omega (arith, h.members, votes.0));
@@ -192,7 +192,7 @@ pub join-some : (s t u : Tables) (a : AreOfSomeList s) (b : AreOfSomeList t) →
 join-some s t u a b one room made =
     let moved = of-first s t a.game b.game a.list b.list one a.tallies b.tallies in
     let names : length b.game.names ≡ length a.game.names = omega (arith, a.tallies.of_game.members, b.tallies.of_game.members, one.members) in
-    let others : AreCoalitions a.game b.list = subst (λ (n : ℕ). All (λ c. (0 < c) × (c < 2 ^ n)) b.list) names b.coalitions in
+    let others : AreNonemptyCoalitions a.game b.list = subst (λ (n : ℕ). All (λ c. (0 < c) × (c < 2 ^ n)) b.list) names b.coalitions in
     record {
       game = a.game;
       list = a.list ++ b.list;

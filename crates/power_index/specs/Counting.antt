@@ -28,7 +28,3 @@ count_of_member g i list = length (filter (contains g i) list)
 -- how many contain member i and have size s
 abbrev pub count_of_member_size : GameView → ℕ → ℕ → List ℕ → ℕ
 count_of_member_size g i s list = length (filter (λ c. contains g i c && (size_of g c == s)) list)
-
--- coalitions of a game, none of them empty
-abbrev pub AreCoalitions : GameView → List ℕ → Type 0
-AreCoalitions g list = All (λ c. (0 < c) × (c < 2 ^ length g.names)) list

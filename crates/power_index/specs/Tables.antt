@@ -2,8 +2,8 @@
 use Rattle.std.specs.Prelude.{ℕ, zero, suc, ◌+◌, ◌*◌, ◌/◌, ◌^◌, ◌≡◌, ◌≤◌, ◌<◌, ◌==◌, ◌&&◌, Bool, true, List, [], length, slice_index, slice_index_or, slice_set, sum_by}
 use Rattle.std.specs.List.{filter, range_with_len}
 use Rattle.council_game.specs.Votes.{has, size}
-use Rattle.council_game.specs.Game.{GameView, IsGame}
-use Rattle.power_index.specs.Counting.{AreCoalitions, count_of_size, count_of_member, count_of_member_size}
+use Rattle.council_game.specs.Game.{GameView, IsGame, AreNonemptyCoalitions}
+use Rattle.power_index.specs.Counting.{count_of_size, count_of_member, count_of_member_size}
 use Rattle.power_index.specs.declared.tally.Tally.{Tally}
 
 -- the rank place of each member, the tally of all coalitions, and by rank place those of each member's
@@ -113,6 +113,6 @@ AreSound t = AreWithin 4000000 t
 pub record AreOfSomeList (t : Tables) : Type 0 where
   pub game : GameView
   pub list : List ℕ
-  pub coalitions : AreCoalitions game list
+  pub coalitions : AreNonemptyCoalitions game list
   pub few : length list ≤ 2 ^ 40
   pub tallies : AreTallies game list t

@@ -1,5 +1,5 @@
 //! Counts of a list of at most 4,000,000 coalitions, by member and by size.
-ghost use Rattle.power_index.specs.Counting.{AreCoalitions};
+ghost use Rattle.council_game.specs.Game.{AreNonemptyCoalitions};
 ghost use Rattle.power_index.specs.Tables.{AreCounts, AreSound};
 ghost use Rattle.power_index.specs.Tables.{table_of_member, table_of_member_size};
 ghost use Rattle.power_index.specs.Tables.{table_of_size, table_total};
@@ -32,7 +32,7 @@ impl Counts {
     pub fn of(game: &Game, list: &[Coalition]) -> Counts
         requires some { 1 ≤ length list.now }
         requires few { length list.now ≤ 4000000 }
-        requires coalitions { AreCoalitions game.now list.now }
+        requires coalitions { AreNonemptyCoalitions game.now list.now }
         ensures { AreCounts game.now list.now result }
     {
         Counts {

@@ -1,8 +1,8 @@
 //! Laws of the definitions, with nothing to run: each index adds up to 1, what lowest terms are, and
 //! that two indices which are the same number are equal.
-ghost use Rattle.council_game.specs.Game.{GameView, IsGame, votes_of};
+ghost use Rattle.council_game.specs.Game.{GameView, IsGame, votes_of, AreNonemptyCoalitions};
 ghost use Rattle.council_game.specs.Votes.{minimal_coalitions};
-ghost use Rattle.power_index.specs.Counting.{AreCoalitions, members};
+ghost use Rattle.power_index.specs.Counting.{members};
 ghost use Rattle.power_index.specs.Fractions.{AddUpToOne, HasLowestTerms, IsIndex, SameFraction};
 ghost use Rattle.power_index.specs.Indices.{deegan_packel, public_good};
 ghost use Rattle.power_index.specs.Tables.{AreCounts, AreTallies, Tables};
@@ -11,13 +11,13 @@ ghost use Rattle.std.specs.Prelude.{◌≡◌, ℕ, ◌<◌, ◌≤◌, ◌^◌,
 /// The Deegan-Packel indices of a game's members add up to 1, over each list of coalitions that are not
 /// empty, if there is one in it.
 pub fn deegan_packel_adds_up()
-    ensures { (g : GameView) (list : List ℕ) → IsGame g → 0 < length list → AreCoalitions g list → AddUpToOne (map (deegan_packel g list) (members g)) }
+    ensures { (g : GameView) (list : List ℕ) → IsGame g → 0 < length list → AreNonemptyCoalitions g list → AddUpToOne (map (deegan_packel g list) (members g)) }
 {}
 
 /// The public good indices of a game's members add up to 1, over each list of coalitions that are not
 /// empty, if there is one in it.
 pub fn public_good_adds_up()
-    ensures { (g : GameView) (list : List ℕ) → IsGame g → 0 < length list → AreCoalitions g list → AddUpToOne (map (public_good g list) (members g)) }
+    ensures { (g : GameView) (list : List ℕ) → IsGame g → 0 < length list → AreNonemptyCoalitions g list → AddUpToOne (map (public_good g list) (members g)) }
 {}
 
 /// The minimal winning coalitions of a game are such a list: there is one, none is empty, and there
@@ -25,7 +25,7 @@ pub fn public_good_adds_up()
 pub fn minimal_coalitions_can_be_counted()
     ensures few { (g : GameView) → IsGame g → length (minimal_coalitions (votes_of g)) ≤ 2 ^ 40 }
     ensures some { (g : GameView) → IsGame g → 0 < length (minimal_coalitions (votes_of g)) }
-    ensures coalitions { (g : GameView) → IsGame g → AreCoalitions g (minimal_coalitions (votes_of g)) }
+    ensures coalitions { (g : GameView) → IsGame g → AreNonemptyCoalitions g (minimal_coalitions (votes_of g)) }
 {}
 
 /// A pair with a bottom above 0 has one form in lowest terms, and it is the one that is computed.

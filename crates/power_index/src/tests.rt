@@ -4,7 +4,7 @@ mod refusals;
 mod wide;
 
 ghost use Rattle.std.specs.Prelude.{◌<◌, ◌≤◌, ◌^◌, IfOk, length};
-ghost use Rattle.power_index.specs.Counting.{AreCoalitions};
+ghost use Rattle.council_game.specs.Game.{AreNonemptyCoalitions};
 
 use crate::{Counts, Fraction, deegan_packel, lowest, public_good};
 use council_game::{Coalition, Game, plain_list};
@@ -25,7 +25,7 @@ fn game(alloc: Global, quota: u64, weights: &[u64]) -> Result<Game, Fail> {
 
 /// The minimal winning coalitions of a small game.
 fn minimal(rt: &impl Abort, alloc: Global, game: &Game) -> Result<Vec<Coalition>, Fail>
-    ensures { IfOk result (λ v. AreCoalitions game.now v.items) }
+    ensures { IfOk result (λ v. AreNonemptyCoalitions game.now v.items) }
 {
     assert!(rt; game.members() <= 20);
     Ok(plain_list(alloc, game)?)
@@ -38,7 +38,7 @@ fn coalitions(
     game: &Game,
     masks: &[u64],
 ) -> Result<Vec<Coalition>, Fail>
-    ensures coalitions { IfOk result (λ v. AreCoalitions game.now v.items) }
+    ensures coalitions { IfOk result (λ v. AreNonemptyCoalitions game.now v.items) }
     ensures length { IfOk result (λ v. length v.items ≤ 1000) }
 {
     let members = game.members();

@@ -1,7 +1,6 @@
 //! Counts of coalitions, by member and by size, with no bound but that of a game.
-ghost use Rattle.council_game.specs.Game.{GameView};
+ghost use Rattle.council_game.specs.Game.{GameView, AreNonemptyCoalitions};
 ghost use Rattle.council_game.specs.Votes.{has};
-ghost use Rattle.power_index.specs.Counting.{AreCoalitions};
 ghost use Rattle.power_index.specs.Tables.{AreCounts, AreOf, AreOfOneGame, AreTallies, AreWithin};
 ghost use Rattle.power_index.specs.Tables.{IsJoined, no_tally, table_memberships, table_of_member};
 ghost use Rattle.power_index.specs.Tables.{table_of_member_size, table_of_size, table_total, with_one};
@@ -150,7 +149,7 @@ impl WideCounts {
     /// Counts the coalitions of a list, none of them empty, in one pass.
     pub fn of(game: &Game, list: &[Coalition]) -> WideCounts
         requires few { length list.now ≤ 2 ^ 40 }
-        requires coalitions { AreCoalitions game.now list.now }
+        requires coalitions { AreNonemptyCoalitions game.now list.now }
         ensures tallies { AreTallies game.now list.now result }
         ensures counts { AreCounts game.now list.now result }
     {

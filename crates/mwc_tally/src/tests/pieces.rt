@@ -1,5 +1,5 @@
 //! A list in three pieces, by any number of threads.
-ghost use Rattle.power_index.specs.Counting.{AreCoalitions};
+ghost use Rattle.council_game.specs.Game.{AreNonemptyCoalitions};
 ghost use Rattle.std.specs.Prelude.{◌≤◌, IfOk, length};
 
 use super::*;
@@ -15,7 +15,7 @@ pub(super) fn coalitions(
     game: &Game,
     masks: &[u64],
 ) -> Result<Vec<Coalition>, Fail>
-    ensures coalitions { IfOk result (λ v. AreCoalitions game.now v.items) }
+    ensures coalitions { IfOk result (λ v. AreNonemptyCoalitions game.now v.items) }
     ensures length { IfOk result (λ v. length v.items ≤ 1000) }
 {
     let members = game.members();
@@ -39,9 +39,9 @@ pub(super) fn counts_of_three<R: Threads + Wait + Sync>(
     third: &[Coalition],
     threads: u8,
 ) -> Result<WideCounts, TallyFault>
-    requires first { (length first.now ≤ 1000) × AreCoalitions game.now first.now }
-    requires second { (length second.now ≤ 1000) × AreCoalitions game.now second.now }
-    requires third { (length third.now ≤ 1000) × AreCoalitions game.now third.now }
+    requires first { (length first.now ≤ 1000) × AreNonemptyCoalitions game.now first.now }
+    requires second { (length second.now ≤ 1000) × AreNonemptyCoalitions game.now second.now }
+    requires third { (length third.now ≤ 1000) × AreNonemptyCoalitions game.now third.now }
     requires threads { (1 ≤ threads) × (threads ≤ 16) }
 {
     let pieces = [first, second, third];

@@ -1,5 +1,5 @@
 use Rattle.std.proofs.Common.{◌<◌, ◌^◌, ℕ, List, length, IfErr, OnOk, sym, subst}
-use Rattle.power_index.specs.Counting.{AreCoalitions}
+use Rattle.council_game.specs.Game.{AreNonemptyCoalitions}
 use Rattle.council_report.specs.Told.{told, Tells, StoppedIn}
 use Rattle.council_report.specs.Ready.{CanCount}
 use Rattle.council_report.proofs.Joins.{listed-text, pieces-all}
@@ -8,7 +8,7 @@ use Rattle.council_report.proofs.report.put_shown_coalitions.Goals as goal
 pub put_pieces-requires-clause-coalitions : goal.put_pieces-requires-clause-coalitions
 put_pieces-requires-clause-coalitions g c =
     pieces-all (λ m. (0 < m) × (m < 2 ^ length c.args.game.now.names)) (λ p. p.now) c.args.pieces.now
-    (subst (AreCoalitions c.args.game.now) (sym (c.requires.1.0 c.if-shown.true)) (c.requires.1.1.0 c.if-shown.true))
+    (subst (AreNonemptyCoalitions c.args.game.now) (sym (c.requires.1.0 c.if-shown.true)) (c.requires.1.1.0 c.if-shown.true))
 
 pub put_pieces-requires-clause-counted : goal.put_pieces-requires-clause-counted
 put_pieces-requires-clause-counted g c =

@@ -1,14 +1,14 @@
 use Rattle.std.proofs.Common.{◌≡◌, ◌<◌, ◌^◌, ◌++◌, ℕ, List, [], length, sym, ap, ◌∙◌, subst}
 use Rattle.std.proofs.lemmas.List.{append-nil}
 use Rattle.std.proofs.lemmas.List.Elements.{All-append, All-nil}
-use Rattle.power_index.specs.Counting.{AreCoalitions}
+use Rattle.council_game.specs.Game.{AreNonemptyCoalitions}
 use Rattle.power_index.specs.Tables.{AreCounts}
 use Rattle.council_report.proofs.tests.lists_in_pieces.Goals as goal
 
 pub write_report_of-answer-requires-clause-coalitions : goal.write_report_of-answer-requires-clause-coalitions
 write_report_of-answer-requires-clause-coalitions g c =
-    let first = subst (AreCoalitions c.in-Ok.game) (sym c.deref-3.ensures.value) c.in_ok-first.ensures in
-    let second = subst (AreCoalitions c.in-Ok.game) (sym c.deref-4.ensures.value) c.in_ok-second.ensures in
+    let first = subst (AreNonemptyCoalitions c.in-Ok.game) (sym c.deref-3.ensures.value) c.in_ok-first.ensures in
+    let second = subst (AreNonemptyCoalitions c.in-Ok.game) (sym c.deref-4.ensures.value) c.in_ok-second.ensures in
     All-append (λ m. (0 < m) × (m < 2 ^ length c.in-Ok.game.names)) c.deref-3.result.now (c.deref-4.result.now ++ []) first
     (All-append (λ m. (0 < m) × (m < 2 ^ length c.in-Ok.game.names)) c.deref-4.result.now [] second (All-nil (λ m. (0 < m) × (m < 2 ^ length c.in-Ok.game.names))))
 
