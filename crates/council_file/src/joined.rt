@@ -24,9 +24,11 @@ pub fn push_joined<F: Fn(usize) -> u64>(
     value: F,
 ) -> Result<(), AllocError>
     requires { (r : ℕ) → r < count → F.pre value r }
-    ensures items { (vs : List ℕ) → length vs ≡ count → GivesEach (F.post value) vs → OnOk result (out.new.items ≡ out.old.items ++ joined_numbers separator.now vs) }
+    ensures items { (vs : List ℕ) → length vs ≡ count → GivesEach (F.post value) vs
+        → OnOk result (out.new.items ≡ out.old.items ++ joined_numbers separator.now vs) }
     ensures capacity { vec_capacity out.old ≤ vec_capacity out.new }
-    ensures room { (vs : List ℕ) → length vs ≡ count → GivesEach (F.post value) vs → Takes out.old out.new result (joined_numbers separator.now vs) }
+    ensures room { (vs : List ℕ) → length vs ≡ count → GivesEach (F.post value) vs
+        → Takes out.old out.new result (joined_numbers separator.now vs) }
 {
     for r in 0..count {
         if 0 < r {

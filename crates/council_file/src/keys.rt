@@ -23,13 +23,15 @@ fn is_member_key(key: &str) -> bool
 }
 
 fn any_other_top_key(table: &Table) -> bool
-    ensures { result ≡ list_any (λ k. not (list_any (pointwise nat_eq (string_bytes k)) top_keys)) (keys_of table.now.entries) }
+    ensures { result ≡ list_any (λ k. not (list_any (pointwise nat_eq (string_bytes k)) top_keys))
+        (keys_of table.now.entries) }
 {
     table.keys().any(|key| !is_top_key(key.as_str()))
 }
 
 fn any_other_member_key(table: &Table) -> bool
-    ensures { result ≡ list_any (λ k. not (list_any (pointwise nat_eq (string_bytes k)) member_keys)) (keys_of table.now.entries) }
+    ensures { result ≡ list_any (λ k. not (list_any (pointwise nat_eq (string_bytes k))
+        member_keys)) (keys_of table.now.entries) }
 {
     table.keys().any(|key| !is_member_key(key.as_str()))
 }
@@ -58,7 +60,8 @@ fn is_odd_member(member: &Value) -> bool
 }
 
 pub(crate) fn any_odd_member(members: &[Value]) -> bool
-    ensures { result ≡ list_any (λ v. option_map_or (has_other_key member_keys) (as_table (view v)) false) members.now }
+    ensures { result ≡ list_any (λ v. option_map_or (has_other_key member_keys) (as_table (view v))
+        false) members.now }
 {
     members.iter().any(|member| is_odd_member(member))
 }

@@ -28,7 +28,11 @@ fn notation_of(alloc: Global, game: &Game, rule: usize) -> Result<Vec<u8>, Alloc
 }
 
 /// Appends the notation `[q; w1, .., wn]` of a rule: its quota, and its weights in the order of the file,
-/// in decimal without leading zeros. After `Memory` the vector is unchanged.
+/// in decimal without leading zeros.
+///
+/// # Errors
+///
+/// `Memory` where a growth was refused; the vector is then unchanged.
 pub fn write_notation(game: &Game, rule: usize, out: &mut Vec<u8>) -> Result<(), Memory>
     requires { rule < length game.now.rules }
     ensures ok { OnOk result (out.new.items ≡ out.old.items ++ notation (rule_at game.now.rules rule)) }

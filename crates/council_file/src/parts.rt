@@ -94,7 +94,8 @@ pub(crate) fn lacks_quota(table: &Table) -> bool
 }
 
 fn has_bad_quotas(table: &Table) -> bool
-    ensures { result ≡ (has (codes "quotas") (table_view table.now) && not (are_quotas (elements_at (codes "quotas") (table_view table.now)))) }
+    ensures { result ≡ (has (codes "quotas") (table_view table.now) &&
+        not (are_quotas (elements_at (codes "quotas") (table_view table.now)))) }
 {
     has(table, "quotas") && !are_quotas(elements_at(table, "quotas"))
 }

@@ -12,7 +12,8 @@ use std::io::Read;
 /// One read of at most `room` bytes, put at the end. It answers how many came.
 fn read_some<R: Read>(reader: &mut R, bytes: &mut Vec<u8>, room: usize) -> Result<usize, GameFault>
     requires { 0 < room }
-    ensures grew { IfOk result (λ n. GrewBy (R.remaining reader.old) (R.remaining reader.new) bytes.old.items bytes.new.items n) }
+    ensures grew { IfOk result (λ n. GrewBy (R.remaining reader.old) (R.remaining reader.new)
+        bytes.old.items bytes.new.items n) }
     ensures end { IfOk result (λ n. n ≡ 0 → IsAtEnd (R.remaining reader.new)) }
     ensures bound { IfOk result (λ n. n ≤ room) }
     ensures stop { IfErr result IsStop }

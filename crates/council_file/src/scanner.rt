@@ -106,7 +106,8 @@ impl<'a> Scanner<'a> {
 
     /// The next part.
     pub(crate) fn next(&mut self) -> Option<Token<'a>>
-        ensures is { MatchOption result ((self.old ≡ []) × (self.new ≡ [])) (λ t. self.old ≡ part t ∷ self.new) }
+        ensures is { MatchOption result ((self.old ≡ []) × (self.new ≡ []))
+            (λ t. self.old ≡ part t ∷ self.new) }
         ensures whole { IfSome result IsWhole }
     {
         let (token, left) = first_part(after_blanks(self.left))?;

@@ -18,7 +18,8 @@ use std::alloc::AllocError;
 
 /// A field `top/bottom`.
 fn push_fraction(out: &mut Vec<u8>, fraction: Fraction) -> Result<(), AllocError>
-    ensures items { OnOk result (out.new.items ≡ out.old.items ++ tabbed (decimal fraction.top ++ 47 ∷ decimal fraction.bottom)) }
+    ensures items { OnOk result (out.new.items ≡ out.old.items
+        ++ tabbed (decimal fraction.top ++ 47 ∷ decimal fraction.bottom)) }
     ensures room { Takes out.old out.new result (tabbed (decimal fraction.top ++ 47 ∷ decimal fraction.bottom)) }
 {
     let mut buffer = Buffer::new();
@@ -48,7 +49,8 @@ fn push_deegan_packel(
     ghost list: { List ℕ }
     requires list { IsCounted counted.now.game.now list counted.now.counts.now }
     requires member { member < length counted.now.game.now.names }
-    ensures items { OnOk result (out.new.items ≡ out.old.items ++ index_text (deegan_packel counted.now.game.now list member)) }
+    ensures items { OnOk result (out.new.items ≡ out.old.items
+        ++ index_text (deegan_packel counted.now.game.now list member)) }
     ensures room { Takes out.old out.new result (index_text (deegan_packel counted.now.game.now list member)) }
 {
     push_index(out, counted.counts.deegan_packel(member))
@@ -63,7 +65,8 @@ fn push_public_good(
     ghost list: { List ℕ }
     requires list { IsCounted counted.now.game.now list counted.now.counts.now }
     requires member { member < length counted.now.game.now.names }
-    ensures items { OnOk result (out.new.items ≡ out.old.items ++ index_text (public_good counted.now.game.now list member)) }
+    ensures items { OnOk result (out.new.items ≡ out.old.items
+        ++ index_text (public_good counted.now.game.now list member)) }
     ensures room { Takes out.old out.new result (index_text (public_good counted.now.game.now list member)) }
 {
     push_index(out, counted.counts.public_good(member))
@@ -74,8 +77,12 @@ fn push_counts(out: &mut Vec<u8>, counted: &Counted<'_>, size: usize) -> Result<
     ghost list: { List ℕ }
     requires list { IsCounted counted.now.game.now list counted.now.counts.now }
     requires size { size ≤ length counted.now.game.now.names }
-    ensures items { OnOk result (out.new.items ≡ out.old.items ++ flat_map tabbed (map (λ i. decimal (count_of_member_size counted.now.game.now i size list)) (members counted.now.game.now))) }
-    ensures room { Takes out.old out.new result (flat_map tabbed (map (λ i. decimal (count_of_member_size counted.now.game.now i size list)) (members counted.now.game.now))) }
+    ensures items { OnOk result (out.new.items ≡ out.old.items
+        ++ flat_map tabbed (map (λ i. decimal
+        (count_of_member_size counted.now.game.now i size list)) (members counted.now.game.now))) }
+    ensures room { Takes out.old out.new result
+        (flat_map tabbed (map (λ i. decimal (count_of_member_size counted.now.game.now i size list))
+        (members counted.now.game.now))) }
 {
     for member in 0..counted.game.members() {
         push_number(out, counted.counts.of_member_size(member, size))?;
@@ -112,7 +119,8 @@ fn push_count(out: &mut Vec<u8>, counted: &Counted<'_>, member: usize) -> Result
     ghost list: { List ℕ }
     requires list { IsCounted counted.now.game.now list counted.now.counts.now }
     requires member { member < length counted.now.game.now.names }
-    ensures items { OnOk result (out.new.items ≡ out.old.items ++ tabbed (decimal (count_of_member counted.now.game.now member list))) }
+    ensures items { OnOk result (out.new.items ≡ out.old.items
+        ++ tabbed (decimal (count_of_member counted.now.game.now member list))) }
     ensures room { Takes out.old out.new result (tabbed (decimal (count_of_member counted.now.game.now member list))) }
 {
     push_number(out, counted.counts.of_member(member))
@@ -121,7 +129,8 @@ fn push_count(out: &mut Vec<u8>, counted: &Counted<'_>, member: usize) -> Result
 /// The weights of a member, one for each rule.
 fn push_weights(out: &mut Vec<u8>, game: &Game, member: usize) -> Result<(), AllocError>
     requires { member < length game.now.names }
-    ensures items { OnOk result (out.new.items ≡ out.old.items ++ tabbed (slashed (weights_of_member game.now member))) }
+    ensures items { OnOk result (out.new.items ≡ out.old.items
+        ++ tabbed (slashed (weights_of_member game.now member))) }
     ensures room { Takes out.old out.new result (tabbed (slashed (weights_of_member game.now member))) }
 {
     push_values(out, game.rules(), |r| game.rule_weight(r, member))
@@ -136,7 +145,8 @@ fn push_member_counts(
     ghost list: { List ℕ }
     requires list { IsCounted counted.now.game.now list counted.now.counts.now }
     requires member { member < length counted.now.game.now.names }
-    ensures items { OnOk result (out.new.items ≡ out.old.items ++ flat_map tabbed (member_fields counted.now.game.now list member)) }
+    ensures items { OnOk result (out.new.items ≡ out.old.items
+        ++ flat_map tabbed (member_fields counted.now.game.now list member)) }
     ensures room { Takes out.old out.new result (flat_map tabbed (member_fields counted.now.game.now list member)) }
 {
     let game = counted.game;
@@ -150,7 +160,8 @@ fn push_indices(out: &mut Vec<u8>, counted: &Counted<'_>, member: usize) -> Resu
     ghost list: { List ℕ }
     requires list { IsCounted counted.now.game.now list counted.now.counts.now }
     requires member { member < length counted.now.game.now.names }
-    ensures items { OnOk result (out.new.items ≡ out.old.items ++ flat_map tabbed (index_fields counted.now.game.now list member)) }
+    ensures items { OnOk result (out.new.items ≡ out.old.items
+        ++ flat_map tabbed (index_fields counted.now.game.now list member)) }
     ensures room { Takes out.old out.new result (flat_map tabbed (index_fields counted.now.game.now list member)) }
 {
     push_deegan_packel(out, counted, member)?;

@@ -24,7 +24,8 @@ pub struct WriteFault {
 fn write_whole<W: Write>(writer: &mut W, bytes: &[u8]) -> Result<(), WriteFault>
     ensures ok { OnOk result (Appends (W.contents writer.old) (W.contents writer.new) bytes.now) }
     ensures within { IfErr result (λ fault. fault.written ≤ length bytes.now) }
-    ensures err { IfErr result (λ fault. Appends (W.contents writer.old) (W.contents writer.new) (take fault.written bytes.now)) }
+    ensures err { IfErr result (λ fault. Appends (W.contents writer.old) (W.contents writer.new)
+        (take fault.written bytes.now)) }
 {
     let mut written = 0;
     while written < bytes.len() {
@@ -65,10 +66,12 @@ impl Block {
     /// Hands all bytes to the writer.
     fn drain<W: Write>(&mut self, writer: &mut W) -> Result<(), WriteFault>
         requires { CanCount self.old [] }
-        ensures ok { OnOk result (Tells (told (W.contents writer.old) self.old) (told (W.contents writer.new) self.new) []) }
+        ensures ok { OnOk result (Tells (told (W.contents writer.old) self.old)
+            (told (W.contents writer.new) self.new) []) }
         ensures empty { OnOk result (self.new.bytes.items ≡ []) }
         ensures capacity { vec_capacity self.new.bytes ≡ vec_capacity self.old.bytes }
-        ensures err { IfErr result (λ fault. Stopped (told (W.contents writer.old) self.old) (W.contents writer.new) fault.written) }
+        ensures err { IfErr result (λ fault. Stopped (told (W.contents writer.old) self.old)
+            (W.contents writer.new) fault.written) }
     {
         let before = self.written;
         let after = before + self.bytes.len() as u64;
@@ -87,9 +90,11 @@ impl Block {
     /// Makes ready for a line: where the next might not fit, all bytes go to the writer.
     pub(crate) fn settle<W: Write>(&mut self, writer: &mut W) -> Result<(), WriteFault>
         requires { CanCount self.old [] }
-        ensures ok { OnOk result (Tells (told (W.contents writer.old) self.old) (told (W.contents writer.new) self.new) []) }
+        ensures ok { OnOk result (Tells (told (W.contents writer.old) self.old)
+            (told (W.contents writer.new) self.new) []) }
         ensures ready { OnOk result (HasRoom self.old → IsReady self.new) }
-        ensures err { IfErr result (λ fault. Stopped (told (W.contents writer.old) self.old) (W.contents writer.new) fault.written) }
+        ensures err { IfErr result (λ fault. Stopped (told (W.contents writer.old) self.old)
+            (W.contents writer.new) fault.written) }
     {
         if self.bytes.len() + LINE <= ROOM {
             return Ok(());
@@ -100,8 +105,10 @@ impl Block {
     /// Hands the last bytes to the writer, and flushes it once.
     pub(crate) fn finish<W: Write>(mut self, writer: &mut W) -> Result<u64, WriteFault>
         requires { CanCount self [] }
-        ensures ok { IfOk result (λ count. (count ≡ self.written + length self.bytes.items) × Keeps (told (W.contents writer.old) self).bytes (W.contents writer.new)) }
-        ensures err { IfErr result (λ fault. Stopped (told (W.contents writer.old) self) (W.contents writer.new) fault.written) }
+        ensures ok { IfOk result (λ count. (count ≡ self.written + length self.bytes.items)
+            × Keeps (told (W.contents writer.old) self).bytes (W.contents writer.new)) }
+        ensures err { IfErr result (λ fault. Stopped (told (W.contents writer.old) self)
+            (W.contents writer.new) fault.written) }
     {
         self.drain(writer)?;
         match writer.flush() {

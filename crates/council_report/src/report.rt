@@ -251,8 +251,10 @@ pub fn write_report<W: Write>(
     requires few { length list.now ≤ 4000000 }
     requires coalitions { AreNonemptyCoalitions game.now list.now }
     ensures count { IfOk result (λ count. count ≡ length (report_over shown game.now list.now)) }
-    ensures ok { OnOk result (Appends (W.contents writer.old) (W.contents writer.new) (report_over shown game.now list.now)) }
-    ensures err { IfErr result (Falls (W.contents writer.old) (W.contents writer.new) (report_over shown game.now list.now)) }
+    ensures ok { OnOk result (Appends (W.contents writer.old) (W.contents writer.new)
+        (report_over shown game.now list.now)) }
+    ensures err { IfErr result (Falls (W.contents writer.old) (W.contents writer.new)
+        (report_over shown game.now list.now)) }
 {
     let counts = WideCounts::of(game, list);
     write_report_of(alloc, game, &[list], &counts, shown, writer)

@@ -78,10 +78,15 @@ pub(crate) fn put_sizes<W: Write>(
     ghost list: { List ℕ }
     requires list { IsCounted counted.now.game.now list counted.now.counts.now }
     requires ready { IsReady block.old }
-    requires counted { CanCount block.old (flat_map (size_line counted.now.game.now list) (range_with_len 1 (length counted.now.game.now.names))) }
-    ensures ok { OnOk result (Tells (told (W.contents writer.old) block.old) (told (W.contents writer.new) block.new) (flat_map (size_line counted.now.game.now list) (range_with_len 1 (length counted.now.game.now.names)))) }
+    requires counted { CanCount block.old
+        (flat_map (size_line counted.now.game.now list) (range_with_len 1 (length counted.now.game.now.names))) }
+    ensures ok { OnOk result (Tells (told (W.contents writer.old) block.old)
+        (told (W.contents writer.new) block.new)
+        (flat_map (size_line counted.now.game.now list) (range_with_len 1 (length counted.now.game.now.names)))) }
     ensures ready { OnOk result (IsReady block.new) }
-    ensures err { IfErr result (λ fault. StoppedIn (told (W.contents writer.old) block.old) (flat_map (size_line counted.now.game.now list) (range_with_len 1 (length counted.now.game.now.names))) (W.contents writer.new) fault.written) }
+    ensures err { IfErr result (λ fault. StoppedIn (told (W.contents writer.old) block.old)
+        (flat_map (size_line counted.now.game.now list)
+        (range_with_len 1 (length counted.now.game.now.names))) (W.contents writer.new) fault.written) }
 {
     for size in 1..counted.members + 1 {
         match push_size(&mut block.bytes, counted, size) {
@@ -101,10 +106,15 @@ pub(crate) fn put_members<W: Write>(
     ghost list: { List ℕ }
     requires list { IsCounted counted.now.game.now list counted.now.counts.now }
     requires ready { IsReady block.old }
-    requires counted { CanCount block.old (flat_map (member_line counted.now.game.now list) (members counted.now.game.now)) }
-    ensures ok { OnOk result (Tells (told (W.contents writer.old) block.old) (told (W.contents writer.new) block.new) (flat_map (member_line counted.now.game.now list) (members counted.now.game.now))) }
+    requires counted { CanCount block.old
+        (flat_map (member_line counted.now.game.now list) (members counted.now.game.now)) }
+    ensures ok { OnOk result (Tells (told (W.contents writer.old) block.old)
+        (told (W.contents writer.new) block.new)
+        (flat_map (member_line counted.now.game.now list) (members counted.now.game.now))) }
     ensures ready { OnOk result (IsReady block.new) }
-    ensures err { IfErr result (λ fault. StoppedIn (told (W.contents writer.old) block.old) (flat_map (member_line counted.now.game.now list) (members counted.now.game.now)) (W.contents writer.new) fault.written) }
+    ensures err { IfErr result (λ fault. StoppedIn (told (W.contents writer.old) block.old)
+        (flat_map (member_line counted.now.game.now list) (members counted.now.game.now))
+        (W.contents writer.new) fault.written) }
 {
     for member in 0..counted.members {
         match push_member(&mut block.bytes, counted, member) {

@@ -33,9 +33,11 @@ pub(crate) fn push_values<F: Fn(usize) -> u64>(
     value: F,
 ) -> Result<(), AllocError>
     requires { (r : ℕ) → r < rules → F.pre value r }
-    ensures items { (vs : List ℕ) → length vs ≡ rules → GivesEach (F.post value) vs → OnOk result (out.new.items ≡ out.old.items ++ tabbed (slashed vs)) }
+    ensures items { (vs : List ℕ) → length vs ≡ rules → GivesEach (F.post value) vs
+        → OnOk result (out.new.items ≡ out.old.items ++ tabbed (slashed vs)) }
     ensures capacity { vec_capacity out.old ≤ vec_capacity out.new }
-    ensures room { (vs : List ℕ) → length vs ≡ rules → GivesEach (F.post value) vs → Takes out.old out.new result (tabbed (slashed vs)) }
+    ensures room { (vs : List ℕ) → length vs ≡ rules → GivesEach (F.post value) vs
+        → Takes out.old out.new result (tabbed (slashed vs)) }
 {
     out.push(b'\t')?;
     push_joined(out, b"/", rules, value)

@@ -52,13 +52,18 @@ fn pieces<'a>(
 }
 
 /// Reads a game, lists its minimal winning coalitions by worker threads, and writes its report and
-/// nothing else. The answer is the number of bytes written. It may wait for its workers.
+/// nothing else. It returns the number of bytes written. It may wait for its workers.
 ///
-/// No byte goes out before all memory is there: after each fault but `Write` the writer took nothing, and
-/// after `Write` it has the first bytes of the report. A writer that takes fewer bytes than it is given is
-/// asked again for those that are left. A write that takes none or fails, whatever the cause, ends the
-/// run by `Write`; so does the flush, of which there is one, after the last byte. The gate takes each of the
-/// workers with each of the slices that the options name.
+/// A writer that takes fewer bytes than it is given is asked again for those that are left. There is one
+/// flush, after the last byte. The gate takes each of the workers with each of the slices that the options
+/// name.
+///
+/// # Errors
+///
+/// The first fault that is met: of the game file, of the gathering, out of memory, or of the writer. No
+/// byte goes out before all memory is there: after each fault but `Write` the writer took nothing, and
+/// after `Write` it has the first bytes of the report. A write that takes no byte or fails, whatever the
+/// cause, is `Write`, and so is a flush that fails.
 pub fn run<T: Threads + Wait + Sync, R: Read, W: Write, G: Gate + Sync>(
     rt: &T,
     alloc: Global,
@@ -68,8 +73,20 @@ pub fn run<T: Threads + Wait + Sync, R: Read, W: Write, G: Gate + Sync>(
     writer: &mut W,
 ) -> Result<u64, RunFault>
     requires { (w j : ℕ) → w < options.now.workers → j < 2 ^ options.now.bits → G.takes w j }
-    ensures ok { IfOk result (λ len. Reports options.now (record { unread = R.remaining reader.old; left = R.remaining reader.new; before = W.contents writer.old; after = W.contents writer.new }) len) }
-    ensures err { IfErr result (λ fault. Stops options.now (record { unread = R.remaining reader.old; left = R.remaining reader.new; before = W.contents writer.old; after = W.contents writer.new }) fault.cause fault.written) }
+    ensures ok { IfOk result (λ len. Reports options.now
+        (record {
+          unread = R.remaining reader.old;
+          left = R.remaining reader.new;
+          before = W.contents writer.old;
+          after = W.contents writer.new;
+        }) len) }
+    ensures err { IfErr result (λ fault. Stops options.now
+        (record {
+          unread = R.remaining reader.old;
+          left = R.remaining reader.new;
+          before = W.contents writer.old;
+          after = W.contents writer.new;
+        }) fault.cause fault.written) }
 {
     let game = match read_game(alloc, reader) {
         Ok(game) => game,

@@ -56,11 +56,12 @@ fn count<T: Threads + Wait + Sync, V: Watch + Sync>(
 /// Reads a game, counts its minimal winning coalitions by worker threads, however many these are, and
 /// writes its report, with no line for a coalition, and nothing else. No coalition is kept, so the
 /// memory does not grow with their number, and `most` and `list` of the options are not looked at. At
-/// least 8 of the heaviest members are fixed in each slice, if there are so many. The answer is the
-/// number of bytes written. It may wait for its workers.
+/// least 8 of the heaviest members are fixed in each slice, if there are so many. It returns the number
+/// of bytes written. It may wait for its workers.
 ///
-/// Of the bytes that go out and of the faults all holds that holds of `run`; there are never too many
-/// coalitions.
+/// # Errors
+///
+/// As for `run`, but that there are never too many coalitions.
 pub fn tally<T: Threads + Wait + Sync, R: Read, W: Write, V: Watch + Sync>(
     rt: &T,
     alloc: Global,
@@ -69,8 +70,20 @@ pub fn tally<T: Threads + Wait + Sync, R: Read, W: Write, V: Watch + Sync>(
     watch: &V,
     writer: &mut W,
 ) -> Result<u64, RunFault>
-    ensures ok { IfOk result (λ len. Tallies options.now (record { unread = R.remaining reader.old; left = R.remaining reader.new; before = W.contents writer.old; after = W.contents writer.new }) len) }
-    ensures err { IfErr result (λ fault. StopsTally options.now (record { unread = R.remaining reader.old; left = R.remaining reader.new; before = W.contents writer.old; after = W.contents writer.new }) fault.cause fault.written) }
+    ensures ok { IfOk result (λ len. Tallies options.now
+        (record {
+          unread = R.remaining reader.old;
+          left = R.remaining reader.new;
+          before = W.contents writer.old;
+          after = W.contents writer.new;
+        }) len) }
+    ensures err { IfErr result (λ fault. StopsTally options.now
+        (record {
+          unread = R.remaining reader.old;
+          left = R.remaining reader.new;
+          before = W.contents writer.old;
+          after = W.contents writer.new;
+        }) fault.cause fault.written) }
 {
     let game = match read_game(alloc, reader) {
         Ok(game) => game,

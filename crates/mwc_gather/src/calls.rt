@@ -91,9 +91,12 @@ impl Desk {
     /// Whether there is room for one more slice; where there is none, that is a loss.
     pub fn ready(&mut self) -> bool
         ensures worker { self.new.worker.promise ≡ self.old.worker.promise }
-        ensures room { IsTrue result → (vec_len self.new.given < vec_capacity self.new.given) × (self.new.draft.lost ≡ self.old.draft.lost) }
+        ensures room { IsTrue result → (vec_len self.new.given < vec_capacity self.new.given)
+            × (self.new.draft.lost ≡ self.old.draft.lost) }
         ensures lost { IsFalse result → self.new.draft.lost ≡ true }
-        ensures same { (self.new.given.items ≡ self.old.given.items) × (self.new.told ≡ self.old.told) × (self.new.ended ≡ self.old.ended) × (self.new.draft.cut ≡ self.old.draft.cut) }
+        ensures same { (self.new.given.items ≡ self.old.given.items)
+            × (self.new.told ≡ self.old.told) × (self.new.ended ≡ self.old.ended)
+            × (self.new.draft.cut ≡ self.old.draft.cut) }
         ensures words { (self.new.words.taken ≡ self.old.words.taken) × (self.new.idle ≡ self.old.idle) }
     {
         if self.given.reserve(1).is_err() {
@@ -111,7 +114,8 @@ impl Desk {
         requires idle { self.old.idle ≡ true }
         ensures worker { self.new.worker.promise ≡ self.old.worker.promise }
         ensures given { self.new.given.items ≡ self.old.given.items ++ slice ∷ [] }
-        ensures same { (self.new.told ≡ false) × (self.new.ended ≡ self.old.ended) × (self.new.draft.lost ≡ self.old.draft.lost) × (self.new.draft.cut ≡ self.old.draft.cut) }
+        ensures same { (self.new.told ≡ false) × (self.new.ended ≡ self.old.ended)
+            × (self.new.draft.lost ≡ self.old.draft.lost) × (self.new.draft.cut ≡ self.old.draft.cut) }
         ensures words { (self.new.words.taken ≡ self.old.words.taken) × (self.new.idle ≡ false) }
     {
         self.given.push_reserved(slice);
@@ -124,7 +128,9 @@ impl Desk {
         requires { self.old.told ≡ false }
         ensures worker { self.new.worker.promise ≡ self.old.worker.promise }
         ensures told { self.new.told ≡ true }
-        ensures same { (self.new.given.items ≡ self.old.given.items) × (self.new.ended ≡ self.old.ended) × (self.new.draft.lost ≡ self.old.draft.lost) × (self.new.draft.cut ≡ self.old.draft.cut) }
+        ensures same { (self.new.given.items ≡ self.old.given.items)
+            × (self.new.ended ≡ self.old.ended) × (self.new.draft.lost ≡ self.old.draft.lost)
+            × (self.new.draft.cut ≡ self.old.draft.cut) }
         ensures words { (self.new.words.taken ≡ self.old.words.taken) × (self.new.idle ≡ self.old.idle) }
     {
         put(rt, &mut self.tasks, Word::End { cut: false }, own, other);
@@ -137,7 +143,8 @@ impl Desk {
         ensures worker { self.new.worker.promise ≡ self.old.worker.promise }
         ensures same { (self.new.given.items ≡ self.old.given.items) × (self.new.told ≡ self.old.told) }
         ensures idle { self.new.idle ≡ (self.old.idle || list_any is_done (take result row.new)) }
-        ensures taken { (result ≤ length row.new) × (self.new.words.taken ≡ self.old.words.taken ++ take result row.new) }
+        ensures taken { (result ≤ length row.new)
+            × (self.new.words.taken ≡ self.old.words.taken ++ take result row.new) }
         ensures lost { self.new.draft.lost ≡ false → self.old.draft.lost ≡ false }
         ensures cut { self.new.draft.cut ≡ false → self.old.draft.cut ≡ false }
     {
@@ -153,7 +160,8 @@ impl Desk {
     /// Joins the worker, and keeps what is left of its words.
     fn finish<R: Threads>(self, rt: &R) -> Result<(Vec<u16>, Draft), GatherFault>
         ensures given { IfOk result (λ r. r.0.items ≡ self.given.items) }
-        ensures whole { IfOk result (λ r. IsWhole (slicing_of self.worker.promise.order) self.worker.promise.order.most self.given.items self.told r.1) }
+        ensures whole { IfOk result (λ r. IsWhole (slicing_of self.worker.promise.order)
+            self.worker.promise.order.most self.given.items self.told r.1) }
         ensures lost { IfOk result (λ r. r.1.lost ≡ false → self.draft.lost ≡ false) }
         ensures cut { IfOk result (λ r. r.1.cut ≡ false → self.draft.cut ≡ false) }
         ensures many { OnTooMany result ⊥ }
@@ -186,7 +194,8 @@ impl Desk {
 /// Joins the worker of a desk, and gives its part.
 pub(crate) fn finish_part<R: Threads>(desk: Desk, rt: &R) -> Result<Part, GatherFault>
     ensures part { IfOk result (Finished (slicing_of desk.worker.promise.order) desk) }
-    ensures many { OnTooMany result (desk.worker.promise.order.most < total (slicing_of desk.worker.promise.order) desk.given.items) }
+    ensures many { OnTooMany result (desk.worker.promise.order.most < total (slicing_of
+        desk.worker.promise.order) desk.given.items) }
     ensures memory { desk.draft.lost ≡ true → result ≡ Err GatherFault.Memory }
     ensures ends { Ends (slicing_of desk.worker.promise.order) desk.worker.promise.order.most desk (fault_in result) }
 {

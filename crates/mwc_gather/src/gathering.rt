@@ -165,11 +165,13 @@ fn finish_all<R: Threads>(
     start: Met,
 ) -> Result<Vec<Part>, GatherFault>
     requires all { AllOf (slicing_of order.now) order.now.most desks.items }
-    requires within { All (λ d. total (slicing_of order.now) d.given.items ≤ all_total (slicing_of order.now)) desks.items }
+    requires within { All (λ d. total (slicing_of order.now)
+        d.given.items ≤ all_total (slicing_of order.now)) desks.items }
     requires start { start.many ≡ false }
     requires dealt { (marks : List (Option ℕ)) × (stopped : Bool)
         × DealsTo (slicing_of order.now) order.now.most (is_some (fault_of start)) marks stopped desks.items }
-    ensures first { (whys : List (Option GatherFault)) × AllZip (Ends (slicing_of order.now) order.now.most) desks.items whys
+    ensures first { (whys : List (Option GatherFault))
+        × AllZip (Ends (slicing_of order.now) order.now.most) desks.items whys
         × (fault_in result ≡ fault_of (noted start whys)) }
     ensures none { IfOk result (λ v. fault_of start ≡ None) }
     ensures parts { IfOk result (λ v. AllZip (Finished (slicing_of order.now)) desks.items v.items) }

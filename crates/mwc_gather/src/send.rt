@@ -21,8 +21,10 @@ pub(crate) fn send<R: Wait, P: PipeIn<Word>>(
     other: &Bell,
 ) -> bool
     ensures identity { P.identity out.new ≡ P.identity out.old }
-    ensures sent { IsTrue result → (P.accepted out.new ≡ P.accepted out.old ++ words.now) × (P.broken out.new ≡ P.broken out.old) }
-    ensures refused { IsFalse result → SendsSome (P.accepted out.old) words.now (P.accepted out.new) × (P.broken out.new ≡ true) }
+    ensures sent { IsTrue result → (P.accepted out.new ≡ P.accepted out.old ++ words.now)
+        × (P.broken out.new ≡ P.broken out.old) }
+    ensures refused { IsFalse result → SendsSome (P.accepted out.old) words.now (P.accepted out.new)
+        × (P.broken out.new ≡ true) }
 {
     let mut patience = Patience::new();
     let mut rest = words;
@@ -60,8 +62,10 @@ fn add<R: Wait, P: PipeIn<Word>>(
     other: &Bell,
 ) -> bool
     ensures identity { P.identity out.new ≡ P.identity out.old }
-    ensures added { IsTrue result → SendsFirst (P.accepted out.old) (row.old ++ word ∷ []) (P.accepted out.new) row.new × (P.broken out.new ≡ P.broken out.old) }
-    ensures refused { IsFalse result → SendsSome (P.accepted out.old) row.old (P.accepted out.new) × (P.broken out.new ≡ true) }
+    ensures added { IsTrue result → SendsFirst (P.accepted out.old) (row.old ++ word ∷ [])
+        (P.accepted out.new) row.new × (P.broken out.new ≡ P.broken out.old) }
+    ensures refused { IsFalse result → SendsSome (P.accepted out.old) row.old (P.accepted out.new)
+        × (P.broken out.new ≡ true) }
 {
     if !row.is_full() {
         row.push(word);
@@ -95,7 +99,8 @@ pub fn send_slice<R: Wait, P: PipeIn<Word>, G: Gate>(
     requires left { (0 < left) × (left ≤ 4000001) }
     requires gate { G.takes worker slice }
     ensures identity { P.identity out.new ≡ P.identity out.old }
-    ensures sends { Sends (slicing guarded.now bits) slice left (P.accepted out.old) (P.accepted out.new) (P.broken out.new) result }
+    ensures sends { Sends (slicing guarded.now bits) slice left (P.accepted out.old)
+        (P.accepted out.new) (P.broken out.new) result }
     ensures unbroken { Unbroken (P.broken out.old) (P.broken out.new) result }
 {
     let own = Bell::new();
@@ -121,7 +126,8 @@ pub(crate) fn send_rows<R: Wait, P: PipeIn<Word>, G: Gate>(
     requires left { (0 < left) × (left ≤ 4000001) }
     requires gate { G.takes worker slice }
     ensures identity { P.identity out.new ≡ P.identity out.old }
-    ensures sends { Sends (slicing guarded.now bits) slice left (P.accepted out.old) (P.accepted out.new) (P.broken out.new) result }
+    ensures sends { Sends (slicing guarded.now bits) slice left (P.accepted out.old)
+        (P.accepted out.new) (P.broken out.new) result }
     ensures unbroken { Unbroken (P.broken out.old) (P.broken out.new) result }
 {
     let game = guarded.pass(worker, slice);

@@ -21,7 +21,8 @@ fn next_task<R: Wait>(
     other: &Bell,
 ) -> Option<u16>
     ensures ring { tasks.new.ring ≡ tasks.old.ring }
-    ensures taken { MatchOption result (TakesLast slices tasks.old.taken tasks.new.taken) (λ j. TakesTask slices j tasks.old.taken tasks.new.taken) }
+    ensures taken { MatchOption result (TakesLast slices tasks.old.taken tasks.new.taken)
+        (λ j. TakesTask slices j tasks.old.taken tasks.new.taken) }
 {
     let mut patience = Patience::new();
     for _ in rt.forever() {

@@ -79,7 +79,8 @@ impl Draft {
     /// memory: so many coalitions would take more than 32 GB.
     fn keep(&mut self, word: Word) -> Result<(), Memory>
         ensures got { OnOk result (self.new.got.items ≡ self.old.got.items ++ ones (word ∷ [])) }
-        ensures ends { OnOk result (self.new.ends.items ≡ self.old.ends.items ++ dones (length self.old.got.items) (word ∷ [])) }
+        ensures ends { OnOk result (self.new.ends.items ≡ self.old.ends.items
+            ++ dones (length self.old.got.items) (word ∷ [])) }
         ensures same { (self.new.cut ≡ self.old.cut) × (self.new.lost ≡ self.old.lost) }
     {
         match word {

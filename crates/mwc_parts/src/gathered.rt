@@ -26,7 +26,8 @@ impl Gathered {
     ///
     /// Memory where a growth was refused.
     pub fn in_order(&self, alloc: Global) -> Result<Vec<Coalition>, Memory>
-        ensures { (slice : ℕ → List ℕ) → All (HasPieces slice) self.now.parts.items → IfOk result (λ all. all.items ≡ flat_map slice (range_with_len 0 self.now.slices)) }
+        ensures { (slice : ℕ → List ℕ) → All (HasPieces slice) self.now.parts.items
+            → IfOk result (λ all. all.items ≡ flat_map slice (range_with_len 0 self.now.slices)) }
     {
         let mut all = Vec::new(alloc);
         for j in 0..self.slices {

@@ -9,7 +9,8 @@ use council_game::Coalition;
 impl Part {
     /// Where the slice stands, if it does.
     pub(crate) fn place(&self, slice: u16) -> Option<usize>
-        ensures { MatchOption result (times slice self.now.slices.items ≡ 0) (λ m. (m < length self.now.slices.items) × (slice_index self.now.slices.items m ≡ slice)) }
+        ensures { MatchOption result (times slice self.now.slices.items ≡ 0)
+            (λ m. (m < length self.now.slices.items) × (slice_index self.now.slices.items m ≡ slice)) }
     {
         for (m, number) in self.slices.iter().enumerate() {
             if *number == slice {

@@ -58,11 +58,14 @@ impl Batch {
     /// Puts a word in, behind all others.
     fn put_word(&mut self, item: Word) -> Result<(), Refused<Word>>
         ensures identity { self.new.capacity ≡ self.old.capacity }
-        ensures ok { OnOk result ((self.new.accepted ≡ self.old.accepted ++ item ∷ []) × (self.new.broken ≡ self.old.broken)) }
-        ensures refused { IfErr result (λ e. (handed_back e ≡ item) × (self.new.accepted ≡ self.old.accepted) × (self.new.broken ≡ broken_after e self.old.broken)) }
+        ensures ok { OnOk result ((self.new.accepted ≡ self.old.accepted ++ item ∷ [])
+            × (self.new.broken ≡ self.old.broken)) }
+        ensures refused { IfErr result (λ e. (handed_back e ≡ item)
+            × (self.new.accepted ≡ self.old.accepted) × (self.new.broken ≡ broken_after e self.old.broken)) }
         ensures open { result ≢ Err (Refused.Closed item) }
         ensures full { (result ≡ Err (Refused.Full item)) ↔ (length self.old.accepted ≡ self.old.capacity) }
-        ensures step { IfSome (reply_of_put result) (λ reply. IsStep (still_open self.old) (Put item) reply (still_open self.new)) }
+        ensures step { IfSome (reply_of_put result)
+            (λ reply. IsStep (still_open self.old) (Put item) reply (still_open self.new)) }
     {
         match self.pipe.put(item) {
             Ok(()) => Ok(()),
@@ -96,11 +99,14 @@ impl PipeIn<Word> for Batch {
     /// never refused as Closed.
     fn put(&mut self, item: Word) -> Result<(), Refused<Word>>
         ensures identity { self.new.capacity ≡ self.old.capacity }
-        ensures ok { OnOk result ((self.new.accepted ≡ self.old.accepted ++ item ∷ []) × (self.new.broken ≡ self.old.broken)) }
-        ensures refused { IfErr result (λ e. (handed_back e ≡ item) × (self.new.accepted ≡ self.old.accepted) × (self.new.broken ≡ broken_after e self.old.broken)) }
+        ensures ok { OnOk result ((self.new.accepted ≡ self.old.accepted ++ item ∷ [])
+            × (self.new.broken ≡ self.old.broken)) }
+        ensures refused { IfErr result (λ e. (handed_back e ≡ item)
+            × (self.new.accepted ≡ self.old.accepted) × (self.new.broken ≡ broken_after e self.old.broken)) }
         ensures open { result ≢ Err (Refused.Closed item) }
         ensures full { (result ≡ Err (Refused.Full item)) ↔ (length self.old.accepted ≡ self.old.capacity) }
-        ensures step { IfSome (reply_of_put result) (λ reply. IsStep (still_open self.old) (Put item) reply (still_open self.new)) }
+        ensures step { IfSome (reply_of_put result)
+            (λ reply. IsStep (still_open self.old) (Put item) reply (still_open self.new)) }
     {
         self.put_word(item)
     }
@@ -112,12 +118,14 @@ impl PipeIn<Word> for Batch {
     /// As `put`, at the first word that is refused.
     fn put_some(&mut self, items: &[Word]) -> Result<(), Stopped<Word>>
         ensures identity { self.new.capacity ≡ self.old.capacity }
-        ensures all { OnOk result ((self.new.accepted ≡ self.old.accepted ++ items.now) × (self.new.broken ≡ self.old.broken)) }
+        ensures all { OnOk result ((self.new.accepted ≡ self.old.accepted ++ items.now)
+            × (self.new.broken ≡ self.old.broken)) }
         ensures stopped { IfErr result (λ e. StopsAt items.now e
             × (self.new.accepted ≡ self.old.accepted ++ take e.accepted items.now)
             × (self.new.broken ≡ broken_after e.why self.old.broken)) }
         ensures open { IfErr result (λ e. e.why ≢ Refused.Closed (handed_back e.why)) }
-        ensures full { IfErr result (λ e. (e.why ≡ Refused.Full (handed_back e.why)) ↔ (length self.new.accepted ≡ self.old.capacity)) }
+        ensures full { IfErr result (λ e. (e.why ≡ Refused.Full (handed_back e.why)) ↔
+            (length self.new.accepted ≡ self.old.capacity)) }
     {
         for accepted in 0..items.len() {
             if let Err(why) = self.put_word(items[accepted]) {

@@ -55,7 +55,8 @@ impl<T> Pipe<T> {
         ensures ok { OnOk result (self.new ≡ record self.old { inside = self.old.inside ++ item ∷ [] }) }
         ensures refused { IfErr result (λ e. (handed_back e ≡ item) × (self.new ≡ self.old)) }
         ensures closed { (result ≡ Err (Refused.Closed item)) ↔ (self.old.closed ≡ true) }
-        ensures full { (result ≡ Err (Refused.Full item)) ↔ ((self.old.closed ≡ false) × (length self.old.inside ≡ self.old.capacity)) }
+        ensures full { (result ≡ Err (Refused.Full item)) ↔
+            ((self.old.closed ≡ false) × (length self.old.inside ≡ self.old.capacity)) }
         ensures step { IfSome (reply_of_put result) (λ reply. IsStep self.old (Put item) reply self.new) }
     {
         if self.closed {

@@ -29,8 +29,11 @@ pub trait PipeIn<T> {
     /// good; after Full a later put may succeed.
     fn put(&mut self, item: T) -> Result<(), Refused<T>>
         ensures identity { identity self.new ≡ identity self.old }
-        ensures ok { OnOk result ((accepted self.new ≡ accepted self.old ++ item ∷ []) × (broken self.new ≡ broken self.old)) }
-        ensures refused { IfErr result (λ e. (handed_back e ≡ item) × (accepted self.new ≡ accepted self.old) × (broken self.new ≡ broken_after e (broken self.old))) };
+        ensures ok { OnOk result ((accepted self.new ≡ accepted self.old ++ item ∷ [])
+            × (broken self.new ≡ broken self.old)) }
+        ensures refused { IfErr result (λ e. (handed_back e ≡ item)
+            × (accepted self.new ≡ accepted self.old)
+            × (broken self.new ≡ broken_after e (broken self.old))) };
 
     /// Puts the items of a row in, one behind the other, up to the first that is refused. No put
     /// changes which pipe it is.
@@ -40,7 +43,8 @@ pub trait PipeIn<T> {
     /// Says how many were accepted, and hands the next back as `put` does.
     fn put_some(&mut self, items: &[T]) -> Result<(), Stopped<T>>
         ensures identity { identity self.new ≡ identity self.old }
-        ensures all { OnOk result ((accepted self.new ≡ accepted self.old ++ items.now) × (broken self.new ≡ broken self.old)) }
+        ensures all { OnOk result ((accepted self.new ≡ accepted self.old ++ items.now)
+            × (broken self.new ≡ broken self.old)) }
         ensures stopped { IfErr result (λ e. StopsAt items.now e
             × (accepted self.new ≡ accepted self.old ++ take e.accepted items.now)
             × (broken self.new ≡ broken_after e.why (broken self.old))) };

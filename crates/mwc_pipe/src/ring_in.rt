@@ -100,7 +100,8 @@ impl PipeIn<Word> for RingIn {
     fn put(&mut self, item: Word) -> Result<(), Refused<Word>>
         ensures identity { self.new.ring ≡ self.old.ring }
         ensures ok { OnOk result ((self.new.accepted ≡ self.old.accepted ++ item ∷ []) × (false ≡ false)) }
-        ensures refused { IfErr result (λ e. (handed_back e ≡ item) × (self.new.accepted ≡ self.old.accepted) × (false ≡ broken_after e false)) }
+        ensures refused { IfErr result (λ e. (handed_back e ≡ item)
+            × (self.new.accepted ≡ self.old.accepted) × (false ≡ broken_after e false)) }
         ensures full { IfErr result (λ e. (e ≡ Refused.Full item) × (self.new ≡ self.old)) }
         ensures room { length self.old.accepted < self.old.capacity → IsOk result }
     {

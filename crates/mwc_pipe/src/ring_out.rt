@@ -29,7 +29,8 @@ impl Model for RingOut {
 impl RingOut {
     /// Takes the oldest word, or gives `None` where none is known yet. It takes no memory.
     pub fn take(&mut self) -> Option<Word>
-        ensures { MatchOption result (self.new ≡ self.old) (λ w. self.new ≡ record self.old { taken = self.old.taken ++ w ∷ [] }) }
+        ensures { MatchOption result (self.new ≡ self.old)
+            (λ w. self.new ≡ record self.old { taken = self.old.taken ++ w ∷ [] }) }
     {
         self.consumer.pop().ok()
     }

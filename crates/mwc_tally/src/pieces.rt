@@ -109,7 +109,8 @@ fn start<'s, E>(
 ) -> Option<Counting<'s>>
     requires few { length (flat_map (λ p. p.now) pieces.now) ≤ 2 ^ 40 }
     requires coalitions { AreNonemptyCoalitions game.now (flat_map (λ p. p.now) pieces.now) }
-    ensures { MatchOption result ⊤ (λ t. IsGivenPart game.now (flat_map (λ p. p.now) pieces.now) skip most t.promise) }
+    ensures { MatchOption result ⊤ (λ t. IsGivenPart game.now (flat_map (λ p. p.now) pieces.now)
+        skip most t.promise) }
 {
     let given = GivenPart {
         game: Snapshot::of(game),

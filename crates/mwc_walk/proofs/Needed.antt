@@ -140,9 +140,12 @@ pub first-needed : (v : Votes) (a : Cursor) (c rest q : ℕ) (d l : Lane) → Cu
 first-needed v a c rest q d l is mask at lost below last won tried =
     let some : 1 ≤ a.rules = omega (arith, is.rules, is.game.2) in
     let head : get_or (take a.rules a.lanes) 0 d ≡ l = get_or-take a.rules a.lanes 0 d some ∙ at in
-    (needs-each-member v c).1 (won, λ m lt in'. elim (cases_Bool (has v.members m rest)) [
-      | inl still ↦
-          ap (λ (i : ℕ). wins v.rules (without v.members m i)) mask
-          ∙ first-lost v.members a.place a.prefix q m v.rules (take a.rules a.lanes) d l is.to is.game.5 is.game.2 is.lanes head lost (last m lt still) below (ap (has v.members m) (sym mask) ∙ in')
-      | inr out ↦ tried.needed m lt in' out
-    ])
+    (needs-each-member v c).1 (
+      won,
+      λ m lt in'. elim (cases_Bool (has v.members m rest)) [
+        | inl still ↦
+            ap (λ (i : ℕ). wins v.rules (without v.members m i)) mask
+            ∙ first-lost v.members a.place a.prefix q m v.rules (take a.rules a.lanes) d l is.to is.game.5 is.game.2 is.lanes head lost (last m lt still) below (ap (has v.members m) (sym mask) ∙ in')
+        | inr out ↦ tried.needed m lt in' out
+      ],
+    )

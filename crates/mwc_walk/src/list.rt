@@ -8,9 +8,13 @@ use council_game::{Coalition, Game, Memory};
 use std::alloc::Global;
 
 /// The first `most` coalitions of slice `j` at so many bits, in listing order, or all of them where
-/// there are no more; `Memory` where a growth was refused.
+/// there are no more.
 ///
 /// There are at most 10 bits, and no more than members; `j` is below 2^bits.
+///
+/// # Errors
+///
+/// `Memory` where a growth was refused.
 pub fn list_slice(
     alloc: Global,
     game: &Game,

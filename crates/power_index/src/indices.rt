@@ -63,8 +63,10 @@ impl WideCounts {
 /// of none.
 pub fn deegan_packel(counts: &Counts, member: usize) -> Fraction
     requires { member < counts.now.members }
-    ensures index { (g : GameView) (list : List ℕ) → AreCounts g list counts.now → IsLowestOf (deegan_packel g list member) (pair_of result) }
-    ensures terms { (g : GameView) (list : List ℕ) → AreCounts g list counts.now → pair_of result ≡ lowest_terms (deegan_packel g list member) }
+    ensures index { (g : GameView) (list : List ℕ) → AreCounts g list counts.now
+        → IsLowestOf (deegan_packel g list member) (pair_of result) }
+    ensures terms { (g : GameView) (list : List ℕ) → AreCounts g list counts.now
+        → pair_of result ≡ lowest_terms (deegan_packel g list member) }
     ensures positive { 0 < result.bottom }
     ensures at_most_one { result.top ≤ result.bottom }
     ensures small { result.bottom ≤ 10 ^ 30 }
@@ -79,8 +81,10 @@ pub fn deegan_packel(counts: &Counts, member: usize) -> Fraction
 /// none.
 pub fn public_good(counts: &Counts, member: usize) -> Fraction
     requires { member < counts.now.members }
-    ensures index { (g : GameView) (list : List ℕ) → AreCounts g list counts.now → IsLowestOf (public_good g list member) (pair_of result) }
-    ensures terms { (g : GameView) (list : List ℕ) → AreCounts g list counts.now → pair_of result ≡ lowest_terms (public_good g list member) }
+    ensures index { (g : GameView) (list : List ℕ) → AreCounts g list counts.now
+        → IsLowestOf (public_good g list member) (pair_of result) }
+    ensures terms { (g : GameView) (list : List ℕ) → AreCounts g list counts.now
+        → pair_of result ≡ lowest_terms (public_good g list member) }
     ensures positive { 0 < result.bottom }
     ensures at_most_one { result.top ≤ result.bottom }
     ensures small { result.bottom ≤ 10 ^ 30 }

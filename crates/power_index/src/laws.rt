@@ -11,13 +11,15 @@ ghost use Rattle.std.specs.Prelude.{◌≡◌, ℕ, ◌<◌, ◌≤◌, ◌^◌,
 /// The Deegan-Packel indices of a game's members add up to 1, over each list of coalitions that are not
 /// empty, if there is one in it.
 pub fn deegan_packel_adds_up()
-    ensures { (g : GameView) (list : List ℕ) → IsGame g → 0 < length list → AreNonemptyCoalitions g list → AddUpToOne (map (deegan_packel g list) (members g)) }
+    ensures { (g : GameView) (list : List ℕ) → IsGame g → 0 < length list
+        → AreNonemptyCoalitions g list → AddUpToOne (map (deegan_packel g list) (members g)) }
 {}
 
 /// The public good indices of a game's members add up to 1, over each list of coalitions that are not
 /// empty, if there is one in it.
 pub fn public_good_adds_up()
-    ensures { (g : GameView) (list : List ℕ) → IsGame g → 0 < length list → AreNonemptyCoalitions g list → AddUpToOne (map (public_good g list) (members g)) }
+    ensures { (g : GameView) (list : List ℕ) → IsGame g
+        → 0 < length list → AreNonemptyCoalitions g list → AddUpToOne (map (public_good g list) (members g)) }
 {}
 
 /// The minimal winning coalitions of a game are such a list: there is one, none is empty, and there
