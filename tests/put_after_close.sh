@@ -4,6 +4,11 @@
 # the close is refused as a use of a moved value, and there is no other error.
 set -u
 top=$(cd "$(dirname "$0")/.." && pwd)
+command -v rt >/dev/null || {
+    echo "skipped put_after_close.sh: the command rt was not found"
+    echo "0 passed, 0 failed, 1 skipped"
+    exit 0
+}
 room=$(mktemp -d)
 trap 'rm -rf "$room"' EXIT
 mkdir "$room/crates"

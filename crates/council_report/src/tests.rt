@@ -2,12 +2,13 @@
 ghost use Rattle.std.specs.Prelude.{◌≡◌, length, IfOk};
 ghost use Rattle.council_game.specs.Game.{AreNonemptyCoalitions};
 
-use crate::{Shown, write_report, write_report_of, write_tally};
+use crate::{ReportFault, Shown, write_report, write_report_of, write_tally};
 use council_file::parse_game;
 use council_game::{Coalition, Game, plain_list};
 use power_index::WideCounts;
 use power_index::laws::{minimal_coalitions_can_be_counted, tallies_are_counts};
 use std::alloc::{AllocError, Global};
+use std::io::{self, Error, ErrorKind, Write};
 use std::test::Fail;
 
 /// A game of three rules. Its members stand in the opposite order of their rank.
@@ -229,5 +230,103 @@ fn tallies_as_it_reports(rt: HostRuntime) -> Result<(), Fail> {
     let answer = write_tally(alloc, &game, &counts, shown, &mut tallied);
     assert!(rt; answer == Ok(reported.len() as u64));
     assert!(rt; tallied.as_slice() == reported.as_slice());
+    Ok(())
+}
+
+/// A writer that takes so many bytes, at most so many a call, fails once, and would then take all. It
+/// counts its flushes, and the calls after the failure.
+#[derive(Drop)]
+struct Narrow {
+    taken: Vec<u8>,
+    room: usize,
+    step: usize,
+    failed: bool,
+    flushes: u32,
+    after: u32,
+}
+
+impl Narrow {
+    fn new(alloc: Global, room: usize, step: usize) -> Narrow {
+        Narrow {
+            taken: Vec::new(alloc),
+            room,
+            step,
+            failed: false,
+            flushes: 0,
+            after: 0,
+        }
+    }
+}
+
+impl Write for Narrow {
+    fn write(&mut self, bytes: &[u8]) -> io::Result<usize> {
+        if self.failed {
+            self.after = self.after.saturating_add(1);
+            return Ok(bytes.len());
+        }
+        if self.room == 0 {
+            self.failed = true;
+            return Err(Error::from(ErrorKind::Other));
+        }
+        let count = bytes.len().min(self.room).min(self.step);
+        self.taken.extend_from_slice(&bytes[..count])?;
+        self.room -= count;
+        Ok(count)
+    }
+
+    fn flush(&mut self) -> io::Result<()> {
+        self.flushes = self.flushes.saturating_add(1);
+        Ok(())
+    }
+}
+
+/// A block is 64 KiB: these writers fail in the first, the second and a later one. What was refused is
+/// not tried again, and nothing is flushed then; a whole report is flushed once.
+#[test]
+fn tells_what_a_writer_took_of_many_blocks(rt: HostRuntime) -> Result<(), Fail> {
+    let alloc = rt.alloc();
+    let Ok(game) = parse_game(alloc, GAME.as_bytes()) else {
+        return Err(Fail::from("the game was refused"));
+    };
+    assert!(rt; game.members() == 14);
+    let list = coalitions(alloc, &game, 16_383)?;
+    assert!(rt; list.len() == 2_650);
+    let mut wanted = Vec::from_slice(alloc, HEADING)?;
+    wanted.extend_from_slice(&lines(alloc, &list)?)?;
+    assert!(rt; 150_000 < wanted.len());
+    let shown = Shown {
+        list: true,
+        sizes: false,
+        notation: false,
+    };
+    for step in [1000, 65_536, 1_000_000] {
+        for room in [
+            61_439usize,
+            65_535,
+            65_536,
+            65_537,
+            70_000,
+            131_072,
+            150_000,
+        ] {
+            assert!(rt; room <= 150_000);
+            let mut writer = Narrow::new(alloc, room, step);
+            let answer = write_report(alloc, &game, &list, shown, &mut writer);
+            let fault = ReportFault::Write {
+                written: room as u64,
+            };
+            assert!(rt; answer == Err(fault), "{room} by {step}");
+            assert!(rt;
+                writer.taken.as_slice() == &wanted[..room],
+                "{room} by {step}"
+            );
+            assert_eq!(rt; (writer.flushes, writer.after), (0, 0), "{room} by {step}");
+        }
+        let mut writer = Narrow::new(alloc, 1_000_000, step);
+        let answer = write_report(alloc, &game, &list, shown, &mut writer);
+        assert!(rt; answer == Ok(writer.taken.len() as u64), "{step}");
+        assert!(rt; writer.taken.starts_with(&wanted), "{step}");
+        assert_eq!(rt; writer.flushes, 1, "{step}");
+    }
     Ok(())
 }
