@@ -1,4 +1,8 @@
 //! The game that a file holds.
+//!
+//! ```text
+//! let game = parse_game(alloc, b"[51; 50, 49, 1]")?;
+//! ```
 #![tactic(auto)]
 
 mod bracket;

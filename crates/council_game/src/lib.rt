@@ -1,4 +1,10 @@
 //! Weighted voting games.
+//!
+//! ```text
+//! let game = Game::new(alloc, None, names, weights, 51)?;
+//! let all = Coalition::of_mask(7);
+//! let wins = game.wins(all);
+//! ```
 #![tactic(auto)]
 
 mod checks;

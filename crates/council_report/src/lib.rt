@@ -1,4 +1,8 @@
 //! The report of a game, line by line.
+//!
+//! ```text
+//! let length = write_report(alloc, &game, &list, shown, &mut writer)?;
+//! ```
 #![tactic(auto)]
 
 mod counted;

@@ -1,4 +1,10 @@
 //! A bounded queue with a close, as a pure machine, and the ring between two threads under the same law.
+//!
+//! ```text
+//! let (mut words, mut out) = ring(alloc, 64)?;
+//! let put = words.put_some(&row);
+//! let taken = out.take_some(&mut into);
+//! ```
 #![tactic(auto)]
 
 mod batch;

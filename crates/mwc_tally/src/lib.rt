@@ -1,6 +1,11 @@
 //! Counts by several threads. Of the minimal winning coalitions of a game, which is walked slice by
 //! slice: nothing is kept of a coalition but that it was counted, so there may be any number of them.
 //! And of a list of coalitions that lies in pieces.
+//!
+//! ```text
+//! let counts = tally(rt, alloc, &game, 6, 4, &NoWatch)?;
+//! let index = counts.public_good(0);
+//! ```
 #![tactic(auto)]
 
 mod all;

@@ -2,6 +2,13 @@
 //! winning coalitions: Deegan and Packel's (1978) and Holler and Packel's public good index (1983).
 //!
 //! Nothing here takes memory.
+//!
+//! ```text
+//! let counts = Counts::of(&game, &list);
+//! let index = deegan_packel(&counts, 0);
+//! let text = index.decimals();
+//! let order = Index::of(index).compare(Index::public_good(counts.wide(), 0));
+//! ```
 #![tactic(auto)]
 
 mod counts;
