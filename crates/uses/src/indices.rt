@@ -1,0 +1,71 @@
+//! The indices of a game.
+ghost use Rattle.council_file.specs.File.{game_of};
+ghost use Rattle.council_game.specs.Game.{GameView, votes_of};
+ghost use Rattle.council_game.specs.Votes.{minimal_coalitions};
+ghost use Rattle.power_index.specs.Counting.{members};
+ghost use Rattle.power_index.specs.Fractions.{AddUpToOne, lowest_terms};
+ghost use Rattle.power_index.specs.Indices.{deegan_packel, public_good};
+ghost use Rattle.std.specs.Prelude.{◌≡◌, ◌<◌, IfOk, IfSome, Ok, length, map};
+
+use council_file::parse_game;
+use council_game::{Game, GameFault, Memory};
+use mwc_walk::list_all;
+use power_index::laws::{
+    deegan_packel_adds_up, minimal_coalitions_can_be_counted, public_good_adds_up,
+};
+use power_index::{Counts, Index};
+use std::alloc::Global;
+
+/// Both indices of a member; none where the game has more than 4,000,000 minimal winning coalitions.
+///
+/// # Errors
+///
+/// `Memory` where a growth was refused.
+pub fn both_indices(
+    alloc: Global,
+    game: &Game,
+    member: usize,
+) -> Result<Option<(Index, Index)>, Memory>
+    requires { member < length game.now.names }
+    ensures first { IfOk result (λ o. IfSome o (λ p.
+        p.0 ≡ lowest_terms (deegan_packel game.now (minimal_coalitions (votes_of game.now)) member))) }
+    ensures second { IfOk result (λ o. IfSome o (λ p.
+        p.1 ≡ lowest_terms (public_good game.now (minimal_coalitions (votes_of game.now)) member))) }
+{
+    let Some(list) = list_all(alloc, game, 4_000_000)? else {
+        return Ok(None);
+    };
+    let counts = Counts::of(game, &list);
+    Ok(Some((
+        Index::deegan_packel(counts.wide(), member),
+        Index::public_good(counts.wide(), member),
+    )))
+}
+
+/// Both indices of the first member of the game that the bytes hold.
+///
+/// # Errors
+///
+/// The first fault of the bytes, or Memory.
+pub fn first_of_bytes(alloc: Global, bytes: &[u8]) -> Result<Option<(Index, Index)>, GameFault>
+    ensures { IfOk result (λ o. IfSome o (λ p. (g : GameView) × (game_of bytes.now ≡ Ok g)
+        × (p.0 ≡ lowest_terms (deegan_packel g (minimal_coalitions (votes_of g)) 0))
+        × (p.1 ≡ lowest_terms (public_good g (minimal_coalitions (votes_of g)) 0)))) }
+{
+    let game = parse_game(alloc, bytes)?;
+    let _members = game.members();
+    Ok(both_indices(alloc, &game, 0)?)
+}
+
+/// The indices of the members of a game add up to 1, of each kind. Nothing is run for it.
+pub fn indices_add_up(game: &Game)
+    ensures first { AddUpToOne (map (deegan_packel game.now (minimal_coalitions (votes_of game.now)))
+        (members game.now)) }
+    ensures second { AddUpToOne (map (public_good game.now (minimal_coalitions (votes_of game.now)))
+        (members game.now)) }
+{
+    let _members = game.members();
+    minimal_coalitions_can_be_counted();
+    deegan_packel_adds_up();
+    public_good_adds_up();
+}

@@ -1,0 +1,73 @@
+//! Questions to the list of minimal winning coalitions.
+ghost use Rattle.council_game.specs.Game.{votes_of};
+ghost use Rattle.council_game.specs.Votes.{minimal_coalitions};
+ghost use Rattle.power_index.specs.Counting.{contains, count_of_member};
+ghost use Rattle.std.specs.List.{filter};
+ghost use Rattle.std.specs.Prelude.{◌≡◌, ◌==◌, ◌<◌, ◌≤◌, IfOk, IfSome, length};
+
+use council_game::{Coalition, Game, Memory, plain_list};
+use mwc_walk::list_all;
+use power_index::Counts;
+use std::alloc::Global;
+
+/// Whether a member is a dummy: no minimal winning coalition contains it. None where the game has more
+/// than 4,000,000 of them.
+///
+/// # Errors
+///
+/// `Memory` where a growth was refused.
+pub fn is_dummy(alloc: Global, game: &Game, member: usize) -> Result<Option<bool>, Memory>
+    requires { member < length game.now.names }
+    ensures { IfOk result (λ o. IfSome o (λ dummy. dummy ≡
+        (count_of_member game.now member (minimal_coalitions (votes_of game.now)) == 0))) }
+{
+    let Some(list) = list_all(alloc, game, 4_000_000)? else {
+        return Ok(None);
+    };
+    let counts = Counts::of(game, &list);
+    Ok(Some(counts.of_member(member) == 0))
+}
+
+/// Those coalitions of a list that contain a member, in their order.
+///
+/// # Errors
+///
+/// `Memory` where a growth was refused.
+pub fn coalitions_with(
+    alloc: Global,
+    game: &Game,
+    list: &[Coalition],
+    member: usize,
+) -> Result<Vec<Coalition>, Memory>
+    requires { member < length game.now.names }
+    ensures { IfOk result (λ v. v.items ≡ filter (contains game.now member) list.now) }
+{
+    let members = game.members();
+    let place = game.place_of(member);
+    let mut found = Vec::new(alloc);
+    for coalition in list {
+        if coalition.has(members, place) {
+            found.push(*coalition)?;
+        }
+    }
+    Ok(found)
+}
+
+/// All minimal winning coalitions of a game of at most 20 members, by the walk and by trying each: one
+/// list twice. None where there are more than 4,000,000.
+///
+/// # Errors
+///
+/// `Memory` where a growth was refused.
+pub fn listed_twice(
+    alloc: Global,
+    game: &Game,
+) -> Result<Option<(Vec<Coalition>, Vec<Coalition>)>, Memory>
+    requires { length game.now.names ≤ 20 }
+    ensures { IfOk result (λ o. IfSome o (λ p. p.0.items ≡ p.1.items)) }
+{
+    let Some(list) = list_all(alloc, game, 4_000_000)? else {
+        return Ok(None);
+    };
+    Ok(Some((list, plain_list(alloc, game)?)))
+}

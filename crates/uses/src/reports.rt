@@ -1,0 +1,28 @@
+//! Reports in memory.
+ghost use Rattle.council_report.specs.Report.{report};
+ghost use Rattle.std.specs.Prelude.{◌≡◌, IfOk, IfSome};
+
+use council_game::Game;
+use council_report::{ReportFault, Shown, write_report};
+use mwc_walk::list_all;
+use std::alloc::Global;
+
+/// The report of a game as bytes; none where the game has more than 4,000,000 minimal winning coalitions.
+///
+/// # Errors
+///
+/// Memory, or Write where the vector could not grow.
+pub fn report_into_memory(
+    alloc: Global,
+    game: &Game,
+    shown: Shown,
+) -> Result<Option<Vec<u8>>, ReportFault>
+    ensures { IfOk result (λ o. IfSome o (λ v. v.items ≡ report shown game.now)) }
+{
+    let Some(list) = list_all(alloc, game, 4_000_000)? else {
+        return Ok(None);
+    };
+    let mut bytes = Vec::new(alloc);
+    write_report(alloc, game, &list, shown, &mut bytes)?;
+    Ok(Some(bytes))
+}

@@ -1,0 +1,38 @@
+//! Games with more coalitions than fit into memory.
+ghost use Rattle.council_game.specs.Game.{votes_of};
+ghost use Rattle.council_game.specs.Votes.{minimal_coalitions};
+ghost use Rattle.power_index.specs.Fractions.{lowest_terms};
+ghost use Rattle.power_index.specs.Indices.{deegan_packel};
+ghost use Rattle.std.specs.Prelude.{◌≡◌, ◌≤◌, ◌<◌, IfOk, length};
+
+use council_game::Game;
+use mwc_tally::{NoWatch, TallyFault, tally};
+use power_index::Index;
+use power_index::laws::minimal_coalitions_can_be_counted;
+use std::alloc::Global;
+use std::sync::Wait;
+use std::thread::Threads;
+
+/// The Deegan-Packel index of a member, however many minimal winning coalitions the game has: they are
+/// counted by so many threads, and none is kept.
+///
+/// # Errors
+///
+/// Those of `tally`.
+pub fn tallied_index<R: Threads + Wait + Sync>(
+    rt: &R,
+    alloc: Global,
+    game: &Game,
+    member: usize,
+    workers: u8,
+) -> Result<Index, TallyFault>
+    requires member { member < length game.now.names }
+    requires workers { (1 ≤ workers) × (workers ≤ 16) }
+    ensures { IfOk result (λ index. index ≡
+        lowest_terms (deegan_packel game.now (minimal_coalitions (votes_of game.now)) member)) }
+{
+    let _members = game.members();
+    minimal_coalitions_can_be_counted();
+    let counts = tally(rt, alloc, game, 0, workers, &NoWatch)?;
+    Ok(Index::deegan_packel(&counts, member))
+}
