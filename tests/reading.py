@@ -110,12 +110,13 @@ def load_source(path, crate, module):
         m = re.match(r"(\s*)(pub(?:\(\w+\))? )?fn (\w+)", line)
         if m:
             # up to the body, or to the `;` of a function without one
-            j, open_braces = i, line.count("{") - line.count("}")
+            j, open_braces, clauses = i, line.count("{") - line.count("}"), False
             while open_braces or not lines[j].endswith((";", "{}")):
-                if lines[j].endswith("{") or lines[j + 1].startswith(m.group(1) + "{"):
+                if lines[j + 1].startswith(m.group(1) + "{") or lines[j].endswith("{") and not clauses:
                     break
                 j += 1
                 open_braces += lines[j].count("{") - lines[j].count("}")
+                clauses = clauses or bool(re.match(r"\s*(requires|ensures|ghost)\b", lines[j]))
             functions.setdefault((crate, module, owner, m.group(3)), ("\n".join(lines[i : j + 1]), names, m.group(2) or ""))
         m = re.match(r"pub(?:\(\w+\))? (?:struct|enum|trait) (\w+).*\{$", line)
         if m:
