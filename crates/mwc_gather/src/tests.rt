@@ -1,6 +1,7 @@
 //! Rows worked by hand, and workers that are held by their gates.
 ghost use Rattle.std.specs.Prelude.{ℕ, ⊤};
 
+mod gates;
 mod refusals;
 
 use super::*;
@@ -233,18 +234,43 @@ fn each_slice_passes_once(rt: HostRuntime) -> Result<(), Fail> {
     Ok(())
 }
 
+/// A gate that is slow, and counts who comes and who goes.
+#[derive(Drop)]
+struct Slow {
+    came: AtomicU64,
+    went: AtomicU64,
+}
+
+impl Gate for Slow {
+    ghost takes = { λ _ _. ⊤ };
+
+    fn pass(&self, _worker: u8, _slice: u16) {
+        self.came.fetch_add(1, Ordering::SeqCst);
+        for _ in 0..2000 {
+            thread::yield_now();
+        }
+        self.went.fetch_add(1, Ordering::SeqCst);
+    }
+}
+
 #[test]
 fn workers_have_ended_after_a_refusal(rt: HostRuntime) -> Result<(), Fail> {
     let game = five(rt.alloc())?;
     for workers in 1..17 {
-        let passes = Passes::none();
-        let refused = listed(&rt, rt.alloc(), &game, &passes, 2, workers, 1);
+        let slow = Slow {
+            came: AtomicU64::new(0),
+            went: AtomicU64::new(0),
+        };
+        let refused = listed(&rt, rt.alloc(), &game, &slow, 2, workers, 1);
+        let went = slow.went.load(Ordering::SeqCst);
+        let came = slow.came.load(Ordering::SeqCst);
         assert!(rt; matches!(refused, Err(GatherFault::TooMany)), "{workers}");
-        let counts = passes.counts();
+        assert!(rt; 0 < came, "{workers}");
+        assert_eq!(rt; went, came, "{workers}");
         for _ in 0..1000 {
             thread::yield_now();
         }
-        assert_eq!(rt; passes.counts(), counts, "{workers}");
+        assert_eq!(rt; slow.came.load(Ordering::SeqCst), came, "{workers}");
     }
     Ok(())
 }
