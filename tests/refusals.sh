@@ -4,8 +4,8 @@
 # it and its answer after it, `worked`, `out of memory` or `not started`, looks whether all stands as
 # it must after that answer, and fails if not. Where no allocation was refused the answer is the
 # worked one. Where one was, it is want of memory or, for calls that start threads, that one did not
-# start; no call works then. The built tests of the crates are run, and the library that refuses is
-# hostile/refuse.c.
+# start, which `gather` answers for the allocations of a start and for no other; no call works then. The
+# built tests of the crates are run, and the library that refuses is hostile/refuse.c.
 . "$(dirname "$0")/common.sh"
 
 compile_refuse
@@ -63,6 +63,20 @@ answers() {
     return 1
 }
 
+# The shape of the answers of a sweep, as an expression over one letter for each: o for want of memory, s for a
+# thread that did not start, w for one that worked. So each allocation has its own answer. Empty where any mix is right.
+shape=''
+
+# Whether the answers of the last sweep have their shape. It says why not.
+has_shape() {
+    local letters
+    [ -n "$shape" ] || return 0
+    letters=$(sed 's/^out of memory$/o/; s/^not started$/s/; s/^worked$/w/' "$temp/answers" | tr -d '\n')
+    python3 -c 'import re, sys; sys.exit(not re.fullmatch(sys.argv[1], sys.argv[2]))' "$shape" "$letters" && return 0
+    why="the answers are $letters, and not as $shape"
+    return 1
+}
+
 # sweep HOW CRATE TEST ANSWER..: the call answers so while allocations are refused, as long as one is.
 sweep() {
     local how=$1 name="$2 $3, $1" number why='' counts
@@ -82,6 +96,7 @@ sweep() {
     if [ -z "$why" ] && ! grep -qx "$4" "$temp/answers"; then
         why="$4 was never told"
     fi
+    [ -n "$why" ] || has_shape || number=''
     if [ -z "$why" ]; then
         counts=$(sort "$temp/answers" | uniq -c | sed 's/^ *//' | tr '\n' ',' | sed 's/,$//; s/,/, /g')
         ok "$name 1 to $((number - 1)): $counts"
@@ -141,8 +156,11 @@ takes_none power_index counts_without_memory
 takes_memory mwc_tally tallies "not started"
 starts_threads mwc_tally tallies_pieces
 takes_none mwc_tally tallies_a_slice_without_memory
+# room for three desks; for each of three workers its room, and the start of its thread; and what comes then
+shape='o+(o{4,})(s+)\1\2\1\2o+'
 takes_memory mwc_gather gathers "not started"
 takes_memory mwc_gather gathers_too_many "not started"
+shape=''
 takes_memory mwc_gather puts_parts_in_order
 takes_memory mwc_gather finds_the_pieces
 takes_memory mwc_gather sends_into_a_batch
