@@ -52,13 +52,8 @@ allocations_of_words() {
     echo $((number - 1))
 }
 
-# How often a run may end as with ample memory though an allocation behind those of the command line was
-# refused: once for each thread that counts a part of the list, could not be started, and whose part was
-# counted by the thread that wanted to start it.
-spared=0
-
 # sweep NAME WORDS..: the runs end so while allocations are refused, as long as one is. One that ends as
-# with ample memory met its refusal in the reading of the command line, but for those that are spared.
+# with ample memory met its refusal in the reading of the command line.
 sweep() {
     local name=$1 ample how number why memory start same late shorter said first
     shift
@@ -100,7 +95,7 @@ sweep() {
             why="no allocation was seen, so none was refused"
         elif [ "$memory" -eq 0 ]; then
             why="want of memory was never told"
-        elif [ "$late" -gt "$spared" ] || { [ "$late" -gt 0 ] && [ "$how" = REFUSE_FROM ]; }; then
+        elif [ "$late" -gt 0 ]; then
             why="$late runs ended as with ample memory though an allocation behind number $first was refused"
         fi
         if [ -z "$why" ]; then
@@ -114,15 +109,12 @@ sweep() {
 }
 
 game=$temp/five.txt
-spared=2
 sweep "five coalitions in brackets" "$game" --list --sizes --notation --workers 3
 game=$temp/five.toml
 sweep "five coalitions" "$game" --list --sizes --workers 3
 game=$temp/two.toml
-spared=1
 sweep "two rules" "$game" --list --sizes --notation --workers 2
 game=$temp/five.toml
-spared=0
 sweep "a tally" "$game" --tally --sizes --workers 3
 sweep "too many coalitions" "$game" --most 4 --workers 2
 for game in "$temp"/fault*; do

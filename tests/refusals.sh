@@ -1,11 +1,11 @@
 #!/usr/bin/env bash
 # Makes the library's calls while their allocations are refused, one after the other, and then all
 # from one on. Each call is a test of its crate, in src/tests/refusals.rt, that prints `call` before
-# it and its answer after it, `worked`, `out of memory` or `not started`, looks whether all stands as
-# it must after that answer, and fails if not. Where no allocation was refused the answer is the
-# worked one. Where one was, it is want of memory or, for calls that start threads, that one did not
-# start, which `gather` answers for the allocations of a start and for no other; no call works then. The
-# built tests of the crates are run, and the library that refuses is hostile/refuse.c.
+# it and its answer after it, `worked`, `out of memory` or `not started`, or which part of a run found
+# no memory, looks whether all stands as it must after that answer, and fails if not. Where no
+# allocation was refused the answer is the worked one. Where one was, it is want of memory or, for
+# calls that start threads, that one did not start, each for the allocations that it is for; no call
+# works then. The built tests of the crates are run, and the library that refuses is hostile/refuse.c.
 . "$(dirname "$0")/common.sh"
 
 compile_refuse
@@ -63,15 +63,17 @@ answers() {
     return 1
 }
 
-# The shape of the answers of a sweep, as an expression over one letter for each: o for want of memory, s for a
-# thread that did not start, w for one that worked. So each allocation has its own answer. Empty where any mix is right.
+# The shape of the answers of a sweep, as an expression over one letter for each: g for want of memory for
+# the game, m for want of memory to gather, o for want of memory, s for a thread that did not start, w for one
+# that worked. So the answers say where each allocation was made, one after the other. Empty where any mix is right.
 shape=''
 
 # Whether the answers of the last sweep have their shape. It says why not.
 has_shape() {
     local letters
     [ -n "$shape" ] || return 0
-    letters=$(sed 's/^out of memory$/o/; s/^not started$/s/; s/^worked$/w/' "$temp/answers" | tr -d '\n')
+    letters=$(sed 's/^no memory for the game$/g/; s/^no memory to gather$/m/; s/^out of memory$/o/; s/^not started$/s/; s/^worked$/w/' \
+        "$temp/answers" | tr -d '\n')
     python3 -c 'import re, sys; sys.exit(not re.fullmatch(sys.argv[1], sys.argv[2]))' "$shape" "$letters" && return 0
     why="the answers are $letters, and not as $shape"
     return 1
@@ -165,5 +167,11 @@ takes_memory mwc_gather puts_parts_in_order
 takes_memory mwc_gather finds_the_pieces
 takes_memory mwc_gather sends_into_a_batch
 takes_none mwc_gather marks_without_memory
-takes_memory council_run runs_on_brackets "not started"
-takes_memory council_run runs_on_toml "not started"
+# a run of three workers: the game, the gathering as above, the row of pieces, the two threads that it starts
+# for counting, and the report
+shape='g+m+(m{4,})(s+)\1\2\1\2m+o+\2\2o+'
+for game in runs_on_brackets runs_on_toml; do
+    for how in REFUSE_AT REFUSE_FROM; do
+        sweep "$how" council_run "$game" "no memory for the game" "no memory to gather" "not started" "out of memory"
+    done
+done

@@ -44,15 +44,12 @@ fn runs<R: Abort + Print + Threads + Wait + Sync>(
             assert_eq!(rt; writer.calls, 0);
         }
         Err(RunFault { cause, written }) => {
-            rt.println("out of memory")?;
-            assert!(rt;
-                matches!(
-                    cause,
-                    Cause::Game(GameFault::Memory)
-                        | Cause::Gather(GatherFault::Memory)
-                        | Cause::Memory
-                )
-            );
+            rt.println(match cause {
+                Cause::Game(GameFault::Memory) => "no memory for the game",
+                Cause::Gather(GatherFault::Memory) => "no memory to gather",
+                Cause::Memory => "out of memory",
+                _ => "another answer",
+            })?;
             assert_eq!(rt; written, 0);
             assert_eq!(rt; writer.calls, 0);
         }
