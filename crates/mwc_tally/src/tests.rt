@@ -11,7 +11,7 @@ use std::alloc::Global;
 use std::process::Abort;
 use std::sync::atomic::{AtomicU64, Ordering};
 use std::test::Fail;
-use std::{hint, thread};
+use std::{array, hint, thread};
 
 /// A game of members named 0, 1, ..
 fn game(alloc: Global, quota: u64, weights: &[u64]) -> Result<Game, GameFault> {
@@ -87,6 +87,34 @@ fn five_of_forty_win(rt: HostRuntime) -> Result<(), Fail> {
     assert_eq!(rt; counts.total(), 658_008);
     for member in 0..40 {
         assert_eq!(rt; counts.of_member(member), 82_251);
+    }
+    Ok(())
+}
+
+/// How often each of 32 slices was counted.
+#[derive(Drop)]
+struct Once([AtomicU64; 32]);
+
+impl Watch for Once {
+    fn counted(&self, slice: u16, _slices: u16) {
+        if slice < 32 {
+            self.0[usize::from(slice)].fetch_add(1, Ordering::SeqCst);
+        }
+    }
+}
+
+/// The threads count each slice, and none twice: nothing is left to be counted anew at the end.
+#[test]
+fn each_slice_is_counted_once(rt: HostRuntime) -> Result<(), Fail> {
+    let game = game(rt.alloc(), 51, &[35, 20, 15, 15, 15])?;
+    assert_eq!(rt; game.members(), 5);
+    for workers in 1..17u8 {
+        let once = Once(array::from_fn(|_| AtomicU64::new(0)));
+        let counts = tally(&rt, rt.alloc(), &game, 5, workers, &once)?;
+        assert_of_five(&rt, &counts);
+        for slice in 0..32usize {
+            assert_eq!(rt; once.0[slice].load(Ordering::SeqCst), 1, "slice {slice}");
+        }
     }
     Ok(())
 }
