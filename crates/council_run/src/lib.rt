@@ -1,5 +1,10 @@
 //! A run, from the bytes of a weighted voting game to its report: the game is read, its minimal winning
 //! coalitions are listed by worker threads, and the report with both power indices is written.
+//!
+//! ```text
+//! let length = run(rt, alloc, &mut reader, &options, &NoGate, &mut writer)?;
+//! let length = tally(rt, alloc, &mut reader, &options, &NoWatch, &mut writer)?;
+//! ```
 #![tactic(auto)]
 
 mod fault;

@@ -1,5 +1,10 @@
 //! Workers that list the minimal winning coalitions of a game beside each other, slice by slice on
 //! demand, and send them through rings.
+//!
+//! ```text
+//! let gathered = gather(rt, alloc, &Guarded::new(&game, &NoGate), 6, 4, 4_000_000)?;
+//! let list = gathered.in_order(alloc)?;
+//! ```
 #![tactic(auto)]
 
 mod calls;
