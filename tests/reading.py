@@ -9,8 +9,9 @@ It follows the `use` lines of crates/NAME/specs and the `ghost use` lines of cra
 those of definitions: no blank lines, comments or `use` lines.
 
 Prints `ok reading: what` or `FAILED reading: why` for each of these: the list is that of docs/READING.md;
-it has at most LIMIT lines; no module of a folder `Inner` stands in it; and each definition that
-docs/DEFINITIONS.md names, as `Module.name`, exists.
+it has at most LIMIT lines; no module of a folder `Inner` stands in it; those folders have all definitions
+that no public contract reaches, and no others; and each definition that docs/DEFINITIONS.md names, as
+`Module.name`, exists.
 """
 import glob
 import os
@@ -211,6 +212,9 @@ def check():
     results.append(told(total <= LIMIT, f"{total} lines of definitions, at most {LIMIT}"))
     inside = [line for line in lines if "/Inner" in line]
     results.append(told(not inside, "no definition of a folder Inner", f": {inside}"))
+    unshown = set(inner())
+    astray = [f"{module[7:]} {name}" for module, name in sorted(defs) if (".Inner." in module) != ((module, name) in unshown)]
+    results.append(told(not astray, "the folders Inner have what no public contract reaches, and nothing else", f": {astray}"))
     known = {(module.split(".")[-1], name) for module, name in defs}
     text = open(os.path.join(TOP, "docs", "DEFINITIONS.md"), encoding="utf-8").read()
     named = re.findall(r"`([A-Z]\w*)\.([\w']+)`", text)

@@ -11,7 +11,7 @@ use Rattle.std.proofs.lemmas.Bool.Decides.{nat_tests}
 use Rattle.std.proofs.lemmas.Str.Parse.{digit_from_value, digits_value_short, digits_value-take-le, numerals_by_value, tells_digits}
 use Rattle.std.proofs.lemmas.Int.Digits.{digits_value_more}
 use Rattle.council_file.specs.Bracket.{number, mark, parts, is_blank, begins_with_digit, with_digit}
-use Rattle.council_file.specs.Scan.{begins_with_blank}
+use Rattle.council_file.specs.Inner.Scan.{begins_with_blank}
 
 digit_test : (c : ℕ) → digit_value c < 10 → is_ascii_digit c ≡ true
 digit_test c h = let r = digit_from_value c h in grind (arith, nat_tests)

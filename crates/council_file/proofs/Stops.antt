@@ -2,7 +2,8 @@
 use Rattle.std.proofs.Common.{List, ℕ, Option}
 use Rattle.council_game.specs.declared.fault.GameFault.{GameFault}
 use Rattle.council_game.specs.declared.fault.GameFault.TheVariants.{Read, TooLong, Text, UnknownKey, Title, Quota, Members, Name, SameName, Weight, QuotaRange, Bracket, Rules, Memory}
-use Rattle.council_file.specs.Reads.{FailsSo, IsStop}
+use Rattle.council_file.specs.Reads.{FailsSo}
+use Rattle.council_file.specs.Inner.Reads.{IsStop}
 
 pub stop_fails : (a b : Option (List ℕ)) (e : GameFault) → IsStop e → FailsSo a b e
 stop_fails a b Read h = tt

@@ -4,7 +4,7 @@ use Rattle.council_game.specs.Votes.{RuleView}
 use Rattle.council_file.specs.declared.token.Token.{Token}
 use Rattle.council_file.specs.declared.token.Token.TheVariants.{Number, Opening, Closing, Comma, Semicolon, Other}
 use Rattle.council_file.specs.Bracket.{Part, number, opening, closing, comma, semicolon, other, value_of, before, weights_of, rule_of}
-use Rattle.council_file.specs.Scan.{part, first_number, after_opening, after_semicolon}
+use Rattle.council_file.specs.Inner.Scan.{part, first_number, after_opening, after_semicolon}
 
 -- a weight, and the weights behind it
 abbrev pub behind : ℕ → List Part → Option (List ℕ)

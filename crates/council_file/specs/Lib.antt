@@ -1,8 +1,11 @@
+pub use Rattle.council_game.specs.Fault
+pub use Rattle.council_game.specs.Game
+pub use Rattle.council_game.specs.Votes
 pub mod Bracket
-pub mod Scan
 pub mod File
 pub mod Reads
 pub mod Room
 pub mod Joined
 pub mod Notation
 pub mod Laws
+pub mod Inner

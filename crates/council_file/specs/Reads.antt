@@ -5,10 +5,6 @@ use Rattle.council_game.specs.declared.fault.GameFault.TheVariants.{Read, Memory
 use Rattle.council_file.specs.File.{game_of}
 use Rattle.std.specs.Io.KnownBytes.{Consumes, IsAtEnd}
 
--- the vector grew by n bytes, which the reader gave
-abbrev pub GrewBy : Option (List ℕ) → Option (List ℕ) → List ℕ → List ℕ → ℕ → Type 0
-GrewBy before after old new n = (more : List ℕ) × Consumes before after more × (new ≡ old ++ more) × (length more ≡ n)
-
 -- the reader gave these bytes: up to its end, or one more than a game file may have
 pub record Gave (before after : Option (List ℕ)) (bytes : List ℕ) : Type 0 where
   pub given : Consumes before after bytes
@@ -20,9 +16,3 @@ abbrev pub FailsSo : Option (List ℕ) → Option (List ℕ) → GameFault → T
 FailsSo before after Read = Unit {0}
 FailsSo before after Memory = Unit {0}
 FailsSo before after fault = (bytes : List ℕ) × Gave before after bytes × (game_of bytes ≡ Err fault)
-
--- A read failed, or memory ran out.
-abbrev pub IsStop : GameFault → Type 0
-IsStop Read = Unit {0}
-IsStop Memory = Unit {0}
-IsStop fault = ⊥

@@ -2,7 +2,8 @@
 ghost use Rattle.std.specs.Prelude.{◌≡◌, ◌≤◌, ◌<◌, ℕ, List, IfOk, IfErr, MatchResult, Ok};
 ghost use Rattle.std.specs.Io.KnownBytes.{IsAtEnd};
 ghost use Rattle.council_file.specs.File.{game_of};
-ghost use Rattle.council_file.specs.Reads.{GrewBy, Gave, FailsSo, IsStop};
+ghost use Rattle.council_file.specs.Reads.{Gave, FailsSo};
+ghost use Rattle.council_file.specs.Inner.Reads.{GrewBy, IsStop};
 
 use crate::parse_game;
 use council_game::{Game, GameFault};

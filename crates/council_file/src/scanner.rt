@@ -2,7 +2,7 @@
 ghost use Rattle.std.specs.Prelude.{◌≡◌, ◌≤◌, ◌<◌, [], ◌∷◌, List, length, take, drop, false, IfSome, MatchOption, option_map, Some, None, if◌then◌else◌};
 ghost use Rattle.std.specs.Str.Parse.{AllDigits};
 ghost use Rattle.council_file.specs.Bracket.{Part, parts, is_blank, mark, begins_with_digit, value_of};
-ghost use Rattle.council_file.specs.Scan.{after_opening, after_semicolon, begins_with_number, begins_with_blank, part, IsWhole, first_number};
+ghost use Rattle.council_file.specs.Inner.Scan.{after_opening, after_semicolon, begins_with_number, begins_with_blank, part, IsWhole, first_number};
 
 use crate::token::Token;
 use std::marker::Model;

@@ -8,7 +8,7 @@ use Rattle.council_game.specs.Votes.{RuleView, Votes, IsRule, IsVotes, rule_at, 
 use Rattle.std.proofs.lemmas.List.{length-map, get_or-map, take_all}
 use Rattle.council_game.specs.declared.rule.Rule.{Rule}
 use Rattle.council_game.specs.Rules.{rule_view, rule_views}
-use Rattle.council_game.specs.Weighing.{votes}
+use Rattle.council_game.specs.Inner.Weighing.{votes}
 use Rattle.council_game.proofs.Weights.{weight-more, weight-le, weight-without}
 
 -- a needed place: without it the set loses

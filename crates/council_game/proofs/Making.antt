@@ -9,11 +9,11 @@ use Rattle.std.proofs.lemmas.List.Sorted.{All-permutation}
 use Rattle.std.proofs.lemmas.Bool.{ne_eqb, eq-eqb, ltb-false, or_parts}
 use Rattle.council_game.specs.declared.rule.Rule.{Rule}
 use Rattle.council_game.specs.Votes.{RuleView, IsVotes}
-use Rattle.council_game.specs.Weighing.{votes}
+use Rattle.council_game.specs.Inner.Weighing.{votes}
 use Rattle.council_game.specs.Ranks.{places, place_in, member_at, rank_place, rank_places, members_by_rank, rule_along, rule_by_rank}
 use Rattle.council_game.specs.Rules.{rule_view, rule_views}
 use Rattle.council_game.specs.Game.{GameView, IsGame, made_game, first_weights, total, votes_of}
-use Rattle.council_game.specs.Parts.{game_of_parts}
+use Rattle.council_game.specs.Inner.Parts.{game_of_parts}
 use Rattle.council_game.proofs.RuleLists.{All_map, held_full}
 use Rattle.council_game.proofs.Lists.{length_map as map_length}
 use Rattle.council_game.proofs.Rankings.{IsRanking, ranking-member_at, ranking-below, ranking-is, ranking-length, rank-of, rank_places-at, length-rank_places, place-found, places-at, places-below}

@@ -4,8 +4,5 @@ pub mod Votes
 pub mod Ranks
 pub mod Game
 pub mod Rules
-pub mod Standings
-pub mod Parts
-pub mod View
-pub mod Weighing
 pub mod Laws
+pub mod Inner

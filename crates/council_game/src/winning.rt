@@ -2,7 +2,7 @@
 ghost use Rattle.std.specs.Prelude.{◌≡◌, ◌+◌, ◌-◌, ◌<◌, ◌≤◌, length, sum, true};
 ghost use Rattle.council_game.specs.Votes.{IsVotes, weight, has, without, wins, minimal};
 ghost use Rattle.council_game.specs.Rules.{rule_views};
-ghost use Rattle.council_game.specs.Weighing.{votes, IsWeighed};
+ghost use Rattle.council_game.specs.Inner.Weighing.{votes, IsWeighed};
 
 use crate::Rule;
 

@@ -14,7 +14,7 @@ use Rattle.council_game.proofs.Meanings.{weighs-its-members}
 use Rattle.council_game.proofs.Weights.{weight-le}
 use Rattle.power_index.proofs.Sums.{length-filter-le}
 use Rattle.council_report.specs.Lines.{tabbed, names_of}
-use Rattle.council_report.specs.Shared.{places_before, name_at, fields_of, weights_under, weight_of_places, NoneFrom, SameBefore}
+use Rattle.council_report.specs.Inner.Shared.{places_before, name_at, fields_of, weights_under, weight_of_places, NoneFrom, SameBefore}
 use Rattle.council_report.proofs.Bounds.{tabbed-fits, each-field, name-fits}
 
 filter-more : (p : ℕ → Bool) (k : ℕ) → filter p (range_with_len 0 (k + 1)) ≡ filter p (range_with_len 0 k) ++ cond (p k) (k ∷ []) []

@@ -2,7 +2,7 @@
 use Rattle.std.proofs.Common.{◌≡◌, ◌≤◌, ◌+◌, ◌-◌, ◌++◌, ℕ, List, length, take, Option, Some, None, option_map, sym, ap, ◌∙◌, arith, length-append}
 use Rattle.std.specs.Io.KnownBytes.{Appends}
 use Rattle.std.proofs.Math.Seq.{take-append-add}
-use Rattle.council_report.specs.Told.{HoldsBut}
+use Rattle.council_report.specs.Inner.Told.{HoldsBut}
 
 -- part of the block went out
 pub holds-part : (before after : Option (List ℕ)) (bytes : List ℕ) (done : ℕ) → done ≤ length bytes → Appends before after (take done bytes) → HoldsBut (option_map (λ held. held ++ bytes) before) after (length bytes - done)

@@ -2,8 +2,8 @@
 use Rattle.std.proofs.Common.{◌≤◌, ℕ, List, length, Option, Err, Vec, arith}
 use Rattle.std.specs.Global.{Global}
 use Rattle.council_file.specs.Room.{Takes}
-use Rattle.council_report.specs.Told.{Told, told, Tells}
-use Rattle.council_report.specs.Ready.{IsReady}
+use Rattle.council_report.specs.Inner.Told.{Told, told, Tells}
+use Rattle.council_report.specs.Inner.Ready.{IsReady}
 use Rattle.council_report.specs.declared.output.Block.{Block}
 
 -- a text was told, and the block is ready for a line

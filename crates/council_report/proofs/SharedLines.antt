@@ -13,7 +13,7 @@ use Rattle.council_report.specs.declared.seat.Seat.{Seat}
 use Rattle.council_report.specs.declared.mark.Mark.{Mark}
 use Rattle.council_report.specs.declared.shared.SharedLine.{SharedLine}
 use Rattle.council_report.specs.Lines.{tabbed, names_of}
-use Rattle.council_report.specs.Shared.{places_before, name_at, fields_of, weight_of_places, IsSeat, AreSeats, IsMark, IsLine, IsWholeLine, SameBefore}
+use Rattle.council_report.specs.Inner.Shared.{places_before, name_at, fields_of, weight_of_places, IsSeat, AreSeats, IsMark, IsLine, IsWholeLine, SameBefore}
 use Rattle.council_report.proofs.Beginnings.{before-none, before-in, before-out, before-same, before-front, before-all, fields-none, fields-append, fields-more, fields-all, fields-fit, weights-none, weights-more, weights-all, weights-light}
 
 -- what is read past the marks

@@ -3,7 +3,7 @@ use Rattle.std.proofs.Common.{◌≡◌, ◌++◌, ℕ, List, [], length, Option
 use Rattle.std.specs.Io.KnownBytes.{Appends}
 use Rattle.std.proofs.KnownBytes.{Appends-trans}
 use Rattle.std.proofs.lemmas.List.{append-nil}
-use Rattle.council_report.specs.Told.{Told, told, Tells, Stopped, StoppedIn}
+use Rattle.council_report.specs.Inner.Told.{Told, told, Tells, Stopped, StoppedIn}
 use Rattle.council_report.specs.declared.output.Block.{Block}
 
 pub tells-then : (a b c : Told) (x y : List ℕ) → Tells a b x → Tells b c y → Tells a c (x ++ y)

@@ -3,8 +3,8 @@ use Rattle.std.proofs.Common.{◌≡◌, ◌<◌, ◌≤◌, ◌+◌, ◌^◌, �
 use Rattle.std.specs.List.{flat_map}
 use Rattle.std.proofs.lemmas.Grind.{flat_map-append}
 use Rattle.std.proofs.lemmas.List.{take_all, take-append-drop}
-use Rattle.council_report.specs.Told.{Told, told, Tells, Stopped, StoppedIn}
-use Rattle.council_report.specs.Ready.{CanCount}
+use Rattle.council_report.specs.Inner.Told.{Told, told, Tells, Stopped, StoppedIn}
+use Rattle.council_report.specs.Inner.Ready.{CanCount}
 use Rattle.council_report.specs.declared.output.Block.{Block}
 use Rattle.council_report.proofs.Rows.{rows-more}
 use Rattle.council_report.proofs.Telling.{tells-then, tells-same, tells-block, stopped-after, stopped-first, stopped-next}

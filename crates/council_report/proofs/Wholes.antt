@@ -4,7 +4,7 @@ use Rattle.std.specs.Io.KnownBytes.{Appends}
 use Rattle.std.proofs.KnownBytes.{Appends-trans}
 use Rattle.std.proofs.Math.Seq.{take-append-add}
 use Rattle.std.proofs.lemmas.List.{take-append-le}
-use Rattle.council_report.specs.Told.{told, HoldsBut, StoppedIn}
+use Rattle.council_report.specs.Inner.Told.{told, HoldsBut, StoppedIn}
 use Rattle.council_report.specs.declared.output.Block.{Block}
 
 -- the block held the heading, and the writer what it held before

@@ -1,7 +1,7 @@
-pub mod Counted
+pub use Rattle.council_game.specs.Game
+pub use Rattle.council_game.specs.Votes
+pub use Rattle.power_index.specs.Tables
 pub mod Lines
-pub mod Told
-pub mod Ready
 pub mod Report
 pub mod Outcome
-pub mod Shared
+pub mod Inner

@@ -91,11 +91,3 @@ index_fields g list i =
 
 unfoldable pub member_line : GameView → List ℕ → ℕ → List ℕ
 member_line g list i = line (codes "member") (member_fields g list i ++ index_fields g list i)
-
--- a fraction and its decimals, as two fields
-abbrev pub fraction_fields : ℕ × ℕ → List ℕ
-fraction_fields p = tabbed (decimal p.0 ++ 47 ∷ decimal p.1) ++ tabbed (decimals p)
-
--- an index in lowest terms and its decimals, as two fields
-abbrev pub index_text : ℕ × ℕ → List ℕ
-index_text p = fraction_fields (lowest_terms p)

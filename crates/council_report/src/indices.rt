@@ -5,8 +5,9 @@ ghost use Rattle.power_index.specs.Counting.{members, count_of_member, count_of_
 ghost use Rattle.power_index.specs.Indices.{deegan_packel, public_good};
 ghost use Rattle.power_index.specs.Fractions.{pair_of, decimals};
 ghost use Rattle.council_file.specs.Room.{Takes};
-ghost use Rattle.council_report.specs.Counted.{IsCounted};
-ghost use Rattle.council_report.specs.Lines.{tabbed, slashed, weights_of_member, size_line, member_line, member_fields, index_fields, fraction_fields, index_text};
+ghost use Rattle.council_report.specs.Inner.Counted.{IsCounted};
+ghost use Rattle.council_report.specs.Lines.{tabbed, slashed, weights_of_member, size_line, member_line, member_fields, index_fields};
+ghost use Rattle.council_report.specs.Inner.Lines.{fraction_fields, index_text};
 
 use crate::counted::Counted;
 use crate::lines::end_line;

@@ -49,8 +49,8 @@ pub(crate) struct Block {
 }
 
 impl Block {
-    ghost use Rattle.council_report.specs.Told.{told, Tells, Stopped};
-    ghost use Rattle.council_report.specs.Ready.{HasRoom, IsReady, CanCount};
+    ghost use Rattle.council_report.specs.Inner.Told.{told, Tells, Stopped};
+    ghost use Rattle.council_report.specs.Inner.Ready.{HasRoom, IsReady, CanCount};
 
     /// An empty block with all its room.
     pub(crate) fn new(alloc: Global) -> Result<Block, AllocError>

@@ -1,6 +1,6 @@
 //! Which places two coalitions have in common.
 ghost use Rattle.std.specs.Prelude.{◌^◌, ◌<◌, ◌≤◌, length};
-ghost use Rattle.council_report.specs.Shared.{NoneFrom, SameBefore};
+ghost use Rattle.council_report.specs.Inner.Shared.{NoneFrom, SameBefore};
 
 use council_game::Coalition;
 

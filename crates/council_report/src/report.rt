@@ -5,11 +5,11 @@ ghost use Rattle.std.specs.Io.KnownBytes.{Appends};
 ghost use Rattle.council_game.specs.Game.{votes_of, AreNonemptyCoalitions};
 ghost use Rattle.council_game.specs.Votes.{minimal_coalitions};
 ghost use Rattle.power_index.specs.Tables.{AreCounts};
-ghost use Rattle.council_report.specs.Counted.{IsCounted};
+ghost use Rattle.council_report.specs.Inner.Counted.{IsCounted};
 ghost use Rattle.council_report.specs.Report.{coalition_lines, size_lines, lines, report, report_over};
-ghost use Rattle.council_report.specs.Shared.{IsReadyLine};
-ghost use Rattle.council_report.specs.Told.{told, Tells, StoppedIn};
-ghost use Rattle.council_report.specs.Ready.{HasRoom, IsReady, CanCount};
+ghost use Rattle.council_report.specs.Inner.Shared.{IsReadyLine};
+ghost use Rattle.council_report.specs.Inner.Told.{told, Tells, StoppedIn};
+ghost use Rattle.council_report.specs.Inner.Ready.{HasRoom, IsReady, CanCount};
 ghost use Rattle.council_report.specs.Outcome.{Falls};
 
 use crate::Shown;

@@ -1,7 +1,7 @@
 //! What a member adds to the line of a coalition.
 ghost use Rattle.std.specs.Prelude.{◌≡◌, ◌<◌, ℕ, length, slice_index, IfOk};
 ghost use Rattle.council_game.specs.Game.{IsGame};
-ghost use Rattle.council_report.specs.Shared.{IsSeat, AreSeats, weights_under};
+ghost use Rattle.council_report.specs.Inner.Shared.{IsSeat, AreSeats, weights_under};
 
 use crate::text::push_field;
 use council_game::Game;

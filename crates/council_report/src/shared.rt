@@ -5,7 +5,7 @@ ghost use Rattle.council_game.specs.Game.{IsGame, votes_of};
 ghost use Rattle.council_game.specs.Votes.{has, rule_at, weight};
 ghost use Rattle.council_file.specs.Room.{Takes};
 ghost use Rattle.council_report.specs.Lines.{coalition_line, tabbed, slashed, weights_of_coalition, names_of};
-ghost use Rattle.council_report.specs.Shared.{IsLine, IsReadyLine, IsWholeLine, NoneFrom, SameBefore};
+ghost use Rattle.council_report.specs.Inner.Shared.{IsLine, IsReadyLine, IsWholeLine, NoneFrom, SameBefore};
 
 use crate::lines::end_line;
 use crate::mark::Mark;

@@ -3,11 +3,11 @@ ghost use Rattle.std.specs.Prelude.{ℕ, List, length, All, IfErr, OnOk};
 ghost use Rattle.std.specs.List.{flat_map, range_with_len};
 ghost use Rattle.power_index.specs.Counting.{members};
 ghost use Rattle.council_game.specs.Game.{AreNonemptyCoalitions};
-ghost use Rattle.council_report.specs.Counted.{IsCounted};
+ghost use Rattle.council_report.specs.Inner.Counted.{IsCounted};
 ghost use Rattle.council_report.specs.Lines.{coalition_line, size_line, member_line};
-ghost use Rattle.council_report.specs.Shared.{IsReadyLine};
-ghost use Rattle.council_report.specs.Told.{told, Tells, StoppedIn};
-ghost use Rattle.council_report.specs.Ready.{IsReady, CanCount};
+ghost use Rattle.council_report.specs.Inner.Shared.{IsReadyLine};
+ghost use Rattle.council_report.specs.Inner.Told.{told, Tells, StoppedIn};
+ghost use Rattle.council_report.specs.Inner.Ready.{IsReady, CanCount};
 
 use crate::counted::Counted;
 use crate::indices::{push_member, push_size};

@@ -1,5 +1,5 @@
 pub mod Shows
 pub mod Status
 pub mod Run
-pub mod Listed
 pub mod Tallied
+pub mod Inner

@@ -23,14 +23,6 @@ Tallies options at len =
     (g : GameView) × ReadsGame at g
     × (len ≡ length (report (unlisted options) g)) × Appends at.before at.after (report (unlisted options) g)
 
--- the threads or a growth were refused
-abbrev pub IsUncounted : Cause → Type 0
-IsUncounted (cause.Game fault) = ⊥
-IsUncounted (cause.Gather gather.Start) = Unit {0}
-IsUncounted (cause.Gather fault) = ⊥
-IsUncounted cause.Write = ⊥
-IsUncounted cause.Memory = Unit {0}
-
 -- a tally that stops wrote nothing, or the first bytes of the report; the fault of a game is that of the bytes read; there are never too many coalitions
 abbrev pub StopsTally : Options → Ends → Cause → ℕ → Type 0
 StopsTally options at (cause.Game game.Read) written = WritesNothing at written

@@ -2,7 +2,7 @@
 ghost use Rattle.std.specs.Prelude.{ℕ, ◌<◌, ◌^◌, IfOk, IfErr};
 ghost use Rattle.std.specs.List.{flat_map};
 ghost use Rattle.council_run.specs.Run.{Reports, Stops};
-ghost use Rattle.council_run.specs.Listed.{IsGathered, IsListed, IsUnlisted};
+ghost use Rattle.council_run.specs.Inner.Listed.{IsGathered, IsListed, IsUnlisted};
 
 use crate::fault::{Cause, RunFault};
 use crate::options::Options;

@@ -3,7 +3,8 @@ ghost use Rattle.std.specs.Prelude.{◌≡◌, IfOk, IfErr};
 ghost use Rattle.council_game.specs.Game.{votes_of};
 ghost use Rattle.council_game.specs.Votes.{minimal_coalitions};
 ghost use Rattle.power_index.specs.Tables.{AreCounts};
-ghost use Rattle.council_run.specs.Tallied.{IsUncounted, StopsTally, Tallies, unlisted};
+ghost use Rattle.council_run.specs.Tallied.{StopsTally, Tallies, unlisted};
+ghost use Rattle.council_run.specs.Inner.Tallied.{IsUncounted};
 
 use crate::fault::{Cause, RunFault};
 use crate::options::Options;

@@ -5,13 +5,13 @@ use Rattle.std.proofs.Math.Bool.{or-false}
 use Rattle.std.proofs.lemmas.List.{length-set, map-set, get_or-set_other, length-map, get_or_default}
 use Rattle.std.proofs.lemmas.List.Elements.{All-set, All-head, All-tail}
 use Rattle.mwc_parts.specs.Slicing.{Slicing}
-use Rattle.mwc_parts.specs.Dealing.{Seat, Dealing, Turns, FirstDeals, IsFresh, is_ill}
+use Rattle.mwc_parts.specs.Inner.Dealing.{Seat, Dealing, Turns, FirstDeals, IsFresh, is_ill}
 use Rattle.mwc_parts.proofs.Turns as turns
 use Rattle.mwc_parts.proofs.Firsts as firsts
 use Rattle.mwc_gather.specs.declared.promise.Task.{Task}
 use Rattle.mwc_gather.specs.declared.desk.Desk.{Desk}
-use Rattle.mwc_gather.specs.Orders.{slicing_of}
-use Rattle.mwc_gather.specs.Desks.{IsOf, AllOf, seat, seats, DealsTo, DealsFirst}
+use Rattle.mwc_gather.specs.Inner.Orders.{slicing_of}
+use Rattle.mwc_gather.specs.Inner.Desks.{IsOf, AllOf, seat, seats, DealsTo, DealsFirst}
 
 seat_at : (desks : List Desk) (i : ℕ) (d : Desk) → i < length desks → d ≡ get_or desks i d → seat d ≡ get_or (seats desks) i (seat d)
 seat_at desks i d l e = turns.map_at seat desks i d (seat d) l e

@@ -8,8 +8,9 @@ use Rattle.std.proofs.lemmas.List.Elements.{All-head, All-tail, All-cons, All-pu
 use Rattle.mwc_parts.specs.Slicing.{Slicing}
 use Rattle.mwc_parts.specs.Sums.{sum_of}
 use Rattle.mwc_parts.specs.Wording.{total}
-use Rattle.mwc_parts.specs.Deals.{Dealt, AscendsFrom}
-use Rattle.mwc_parts.specs.Dealing.{Seat, IsWell, givens, IsFresh}
+use Rattle.mwc_parts.specs.Deals.{AscendsFrom}
+use Rattle.mwc_parts.specs.Inner.Deals.{Dealt}
+use Rattle.mwc_parts.specs.Inner.Dealing.{Seat, IsWell, givens, IsFresh}
 use Rattle.mwc_parts.specs.Parts.{IsPart, shares}
 use Rattle.mwc_parts.specs.Fault.{fault_of, also}
 use Rattle.mwc_parts.specs.Fault.{OnTooMany}
@@ -21,8 +22,8 @@ use Rattle.mwc_parts.proofs.Turns as turns
 use Rattle.mwc_parts.proofs.Firsts.{each_within, dealt_total, dealt_ascends, share_begins}
 use Rattle.mwc_parts.proofs.Readings.{length-joined}
 use Rattle.mwc_gather.specs.declared.desk.Desk.{Desk}
-use Rattle.mwc_gather.specs.Desks.{seat, seats, DealsTo, Finished}
-use Rattle.mwc_gather.specs.Gathering.{all_total, Complete}
+use Rattle.mwc_gather.specs.Inner.Desks.{seat, seats, DealsTo, Finished}
+use Rattle.mwc_gather.specs.Inner.Gathering.{all_total, Complete}
 
 module _ {X Y : Type 0} where
   all_of_map : (P : Y → Type 0) (f : X → Y) (xs : List X) → All P (map f xs) → All (λ x. P (f x)) xs

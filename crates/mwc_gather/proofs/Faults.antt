@@ -2,13 +2,14 @@
 use Rattle.std.specs.Prelude.{◌≡◌, ◌⊎◌, ℕ, ◌<◌, false, List, [], ◌∷◌, ◌++◌, Option, Some, None, refl}
 use Rattle.std.proofs.Common.{ap, subst, sym, ◌∙◌, inl, inr}
 use Rattle.mwc_parts.specs.Slicing.{Slicing}
-use Rattle.mwc_parts.specs.Fault.{nothing, also, noted, IsEarly}
+use Rattle.mwc_parts.specs.Fault.{nothing, also}
+use Rattle.mwc_parts.specs.Inner.Fault.{noted, IsEarly}
 use Rattle.mwc_parts.specs.declared.met.Met.{Met}
 use Rattle.mwc_parts.specs.declared.fault.GatherFault.{GatherFault}
 use Rattle.mwc_parts.specs.declared.fault.GatherFault.TheVariants.{Start, Memory}
 use Rattle.mwc_gather.specs.declared.desk.Desk.{Desk}
-use Rattle.mwc_gather.specs.Orders.{slicing_of}
-use Rattle.mwc_gather.specs.Desks.{IsOf, Ends, Opens}
+use Rattle.mwc_gather.specs.Inner.Orders.{slicing_of}
+use Rattle.mwc_gather.specs.Inner.Desks.{IsOf, Ends, Opens}
 
 -- one more fault
 pub noted_more : (m : Met) (whys : List (Option GatherFault)) (why : GatherFault) → noted m (whys ++ Some why ∷ []) ≡ also (noted m whys) why

@@ -5,7 +5,8 @@ use Rattle.mwc_parts.specs.Slicing.{Slicing}
 use Rattle.mwc_pipe.specs.RingViews.{RingInView, RingOutView, ClosedView}
 use Rattle.mwc_pipe.specs.declared.word.Word.{Word}
 use Rattle.mwc_pipe.specs.declared.closed.Unfinished.{Unfinished}
-use Rattle.mwc_parts.specs.Wording.{Whole, Cut, opens, told_words}
+use Rattle.mwc_parts.specs.Wording.{Whole, Cut, opens}
+use Rattle.mwc_parts.specs.Inner.Wording.{told_words}
 use Rattle.mwc_parts.specs.Settled.{Settled}
 use Rattle.mwc_parts.proofs.Settles.{settles}
 use Rattle.mwc_gather.specs.Sending.{Worked}

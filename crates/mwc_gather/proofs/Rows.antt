@@ -4,7 +4,7 @@ use mathlib.Core.List.{IsPrefix}
 use Rattle.std.proofs.Common.{ap, append_assoc, sym, ◌∙◌}
 use Rattle.std.proofs.lemmas.List.{append-nil, take-append-drop}
 use Rattle.mwc_pipe.specs.declared.word.Word.{Word}
-use Rattle.mwc_gather.specs.Sending.{SendsFirst, SendsSome}
+use Rattle.mwc_gather.specs.Inner.Sending.{SendsFirst, SendsSome}
 
 -- nothing was sent yet
 pub first_none : (before row : List Word) → SendsFirst before row before row

@@ -9,7 +9,8 @@ use Rattle.mwc_pipe.specs.declared.word.Word.{Word}
 use Rattle.mwc_pipe.specs.declared.word.Word.TheVariants.{Open, One, Done}
 use Rattle.mwc_parts.specs.Slicing.{Slicing}
 use Rattle.mwc_parts.specs.Wording.{slice_words, cut_words}
-use Rattle.mwc_gather.specs.Sending.{sending, SendsFirst}
+use Rattle.mwc_gather.specs.Sending.{sending}
+use Rattle.mwc_gather.specs.Inner.Sending.{SendsFirst}
 
 module _ {W : Type 0} (one : ℕ → W) where
   -- what was sent is a beginning of all words

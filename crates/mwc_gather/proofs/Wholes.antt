@@ -13,7 +13,7 @@ use Rattle.mwc_parts.specs.declared.part.Part.{Part}
 use Rattle.mwc_parts.specs.Pieces.{joined}
 use Rattle.mwc_parts.proofs.Readings.{length-joined, length-ends, piece_is}
 use Rattle.mwc_gather.specs.Slicings.{slicing}
-use Rattle.mwc_gather.specs.Gathering.{all_total}
+use Rattle.mwc_gather.specs.Inner.Gathering.{all_total}
 
 pub whole : (game : GameView) (bits : ℕ) → bits ≤ 10 → bits ≤ length game.names → flat_map (slice (votes_of game) bits) (range_with_len 0 (2 ^ bits)) ≡ minimal_coalitions (votes_of game)
 whole game bits few within = slices-joined (votes_of game) bits few within

@@ -7,7 +7,8 @@ use Rattle.std.proofs.lemmas.Bool.{false≢true}
 use Rattle.std.proofs.lemmas.List.{append-nil}
 use Rattle.mwc_pipe.specs.declared.word.Word.{Word}
 use Rattle.mwc_pipe.specs.declared.word.Word.TheVariants.{Open, One, Done, End}
-use Rattle.mwc_parts.specs.Wording.{opens, told_words, is_done}
+use Rattle.mwc_parts.specs.Wording.{opens}
+use Rattle.mwc_parts.specs.Inner.Wording.{told_words, is_done}
 use Rattle.mwc_gather.proofs.Wordings.{opens-more}
 
 pub opens_given : (accepted : List Word) (given : List ℕ) (told : Bool) (j : ℕ) → told ≡ false → accepted ≡ opens given ++ told_words told → accepted ++ Open j ∷ [] ≡ opens (given ++ j ∷ []) ++ told_words told

@@ -5,21 +5,11 @@ use Rattle.council_game.specs.Votes.{Votes, minimal_coalitions}
 use Rattle.mwc_walk.specs.Slices.{slice}
 use Rattle.mwc_parts.specs.Slicing.{Slicing}
 use Rattle.mwc_parts.specs.Wording.{total}
-use Rattle.mwc_parts.specs.Deals.{Dealt, AscendsFrom}
+use Rattle.mwc_parts.specs.Deals.{AscendsFrom}
+use Rattle.mwc_parts.specs.Inner.Deals.{Dealt}
 use Rattle.mwc_parts.specs.Parts.{IsPart, HasPieces, EachOnce, NoOther, shares}
 use Rattle.mwc_parts.specs.declared.part.Part.{Part}
 use Rattle.mwc_parts.specs.declared.gathered.Gathered.{Gathered}
-
--- how many coalitions all slices have
-abbrev pub all_total : Slicing → ℕ
-all_total g = total g (range_with_len 0 g.slices)
-
--- the parts of all workers: all slices are dealt to them, each has the coalitions of its slices, and worker w begins with slice w
-pub record Complete (g : Slicing) (workers : ℕ) (parts : List Part) : Type 0 where
-  pub a_part_each : length parts ≡ workers
-  pub dealt : Dealt g.slices (shares parts)
-  pub are_parts : All (IsPart g) parts
-  pub begins : (w : ℕ) → w < workers → w < g.slices → (rest : List ℕ) × (slice_index_or (shares parts) w [] ≡ w ∷ rest)
 
 -- what is answered: a part for each worker; the slices stand in the parts, each once, and no other number does; in each part the slices ascend,
 -- each has an end, and each piece is the slice of its number; worker w begins with slice w;

@@ -28,24 +28,8 @@ Unbroken before after (sent.Whole rest) = after ≡ before
 Unbroken before after sent.Cut = after ≡ before
 Unbroken before after sent.Refused = ⊤
 
--- the first words of the row went into the pipe, and the rest is left
-abbrev pub SendsFirst : List Word → List Word → List Word → List Word → Type 0
-SendsFirst before row after rest = (words : List Word) × (after ≡ before ++ words) × (words ++ rest ≡ row)
-
--- the first words of the row went into the pipe
-abbrev pub SendsSome : List Word → List Word → List Word → Type 0
-SendsSome before row after = (rest : List Word) × SendsFirst before row after rest
-
 -- what the closed end of a worker tells: a whole or a cut sending of the slices that its tasks gave, and both ends are of its rings
 abbrev pub Worked : Slicing → ℕ → RingInView → RingOutView → Result ClosedView Unfinished × RingOutView → Type 0
 Worked g most out tasks (Ok c, t) =
     (t.ring ≡ tasks.ring) × (c.ring ≡ out.ring) × (Whole g most t.taken c.accepted ⊎ Cut g most t.taken c.accepted)
 Worked g most out tasks (Err e, t) = t.ring ≡ tasks.ring
-
--- a task was taken that ends the work
-abbrev pub TakesLast : ℕ → List Word → List Word → Type 0
-TakesLast n old new = (last : Word) × IsLast n last × (new ≡ old ++ last ∷ [])
-
--- a task was taken that gives slice j
-abbrev pub TakesTask : ℕ → ℕ → List Word → List Word → Type 0
-TakesTask n j old new = (j < n) × (new ≡ old ++ Open j ∷ [])

@@ -2,14 +2,16 @@
 ghost use Rattle.std.specs.Prelude.{◌≡◌, ℕ, ◌||◌, ◌+◌, ◌<◌, ◌≤◌, ◌^◌, ◌++◌, ◌∷◌, [], List, IfOk, IfErr, if◌then◌else◌, IsTrue, IsFalse, true, false, length, take, vec_len, vec_capacity};
 ghost use Rattle.std.specs.List.{list_any};
 ghost use Rattle.mwc_pipe.specs.declared.word.Word.{Word};
-ghost use Rattle.mwc_parts.specs.Wording.{total, is_done};
-ghost use Rattle.mwc_parts.specs.Dealing.{IsFresh};
-ghost use Rattle.mwc_parts.specs.Fault.{OnTooMany, IsEarly, fault_in};
+ghost use Rattle.mwc_parts.specs.Wording.{total};
+ghost use Rattle.mwc_parts.specs.Inner.Wording.{is_done};
+ghost use Rattle.mwc_parts.specs.Inner.Dealing.{IsFresh};
+ghost use Rattle.mwc_parts.specs.Fault.{OnTooMany};
+ghost use Rattle.mwc_parts.specs.Inner.Fault.{IsEarly, fault_in};
 ghost use Rattle.mwc_parts.specs.Settled.{Keeps, IsWhole};
 ghost use Rattle.mwc_gather.specs.Slicings.{slicing};
 ghost use Rattle.mwc_gather.specs.Sending.{Worked};
-ghost use Rattle.mwc_gather.specs.Orders.{slicing_of};
-ghost use Rattle.mwc_gather.specs.Desks.{IsOf, seat, Finished, Ends};
+ghost use Rattle.mwc_gather.specs.Inner.Orders.{slicing_of};
+ghost use Rattle.mwc_gather.specs.Inner.Desks.{IsOf, seat, Finished, Ends};
 
 use crate::desk::Desk;
 use crate::guarded::{Gate, Guarded};

@@ -2,10 +2,10 @@
 ghost use Rattle.std.specs.Prelude.{◌≡◌, ◌<◌, ◌≤◌, ◌^◌, ◌||◌, ◌++◌, List, All, length, replicate, false};
 ghost use Rattle.std.specs.List.{list_any};
 ghost use Rattle.mwc_pipe.specs.declared.word.Word.{Word};
-ghost use Rattle.mwc_parts.specs.Wording.{is_done};
-ghost use Rattle.mwc_parts.specs.Dealing.{Turns, IsFresh, is_ill};
-ghost use Rattle.mwc_gather.specs.Orders.{slicing_of};
-ghost use Rattle.mwc_gather.specs.Desks.{seat, seats, AllOf, DealsTo, DealsFirst};
+ghost use Rattle.mwc_parts.specs.Inner.Wording.{is_done};
+ghost use Rattle.mwc_parts.specs.Inner.Dealing.{Turns, IsFresh, is_ill};
+ghost use Rattle.mwc_gather.specs.Inner.Orders.{slicing_of};
+ghost use Rattle.mwc_gather.specs.Inner.Desks.{seat, seats, AllOf, DealsTo, DealsFirst};
 
 use crate::desk::Desk;
 use crate::order::Order;

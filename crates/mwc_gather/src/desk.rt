@@ -1,6 +1,7 @@
 //! The gatherer's side of one worker.
 ghost use Rattle.std.specs.Prelude.{◌≡◌, ◌+◌, ◌<◌, ◌≤◌, ◌^◌, ◌++◌, All, count_by, length, true};
-ghost use Rattle.mwc_parts.specs.Wording.{opens, told_words, is_done};
+ghost use Rattle.mwc_parts.specs.Wording.{opens};
+ghost use Rattle.mwc_parts.specs.Inner.Wording.{told_words, is_done};
 ghost use Rattle.mwc_parts.specs.Settled.{Keeps};
 
 use crate::promise::{Answer, Task};

@@ -1,5 +1,5 @@
 //! What a worker promises of its answer.
-ghost use Rattle.mwc_gather.specs.Orders.{slicing_of};
+ghost use Rattle.mwc_gather.specs.Inner.Orders.{slicing_of};
 ghost use Rattle.mwc_gather.specs.Sending.{Worked};
 
 use crate::order::Order;

@@ -1,7 +1,8 @@
 //! Sending the words of a slice.
 ghost use Rattle.std.specs.Prelude.{◌≡◌, ◌<◌, ◌≤◌, ◌^◌, ◌++◌, ◌∷◌, [], IsTrue, IsFalse, true, length};
 ghost use Rattle.mwc_gather.specs.Slicings.{slicing};
-ghost use Rattle.mwc_gather.specs.Sending.{Sends, Unbroken, SendsFirst, SendsSome};
+ghost use Rattle.mwc_gather.specs.Sending.{Sends, Unbroken};
+ghost use Rattle.mwc_gather.specs.Inner.Sending.{SendsFirst, SendsSome};
 
 use crate::guarded::{Gate, Guarded};
 use crate::row::Row;

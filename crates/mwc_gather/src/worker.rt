@@ -1,7 +1,8 @@
 //! The body of a worker's thread.
 ghost use Rattle.std.specs.Prelude.{◌≡◌, ℕ, ◌+◌, ◌<◌, ◌≤◌, ◌^◌, ◌++◌, ◌∷◌, [], length, IfOk, MatchOption};
 ghost use Rattle.mwc_gather.specs.Slicings.{slicing};
-ghost use Rattle.mwc_gather.specs.Sending.{Worked, TakesLast, TakesTask};
+ghost use Rattle.mwc_gather.specs.Sending.{Worked};
+ghost use Rattle.mwc_gather.specs.Inner.Sending.{TakesLast, TakesTask};
 ghost use Rattle.mwc_pipe.specs.declared.word.Word.TheVariants.{End};
 
 use crate::guarded::{Gate, Guarded};

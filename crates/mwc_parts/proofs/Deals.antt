@@ -6,7 +6,8 @@ use Rattle.std.proofs.lemmas.Bool.{eq-eqb, ne_eqb}
 use Rattle.std.proofs.lemmas.List.{append-nil}
 use Rattle.std.proofs.lemmas.List.Elements.{All-head, All-tail, All-cons, All-weaker}
 use Rattle.mwc_parts.specs.Sums.{sum_of, times}
-use Rattle.mwc_parts.specs.Deals.{held_from, held, shares_by, AscendsFrom}
+use Rattle.mwc_parts.specs.Deals.{AscendsFrom}
+use Rattle.mwc_parts.specs.Inner.Deals.{held_from, held, shares_by}
 
 cons_if : (b : Bool) (j : ℕ) (x a c : List ℕ) → x ≡ a ++ c → cond b (j ∷ x) x ≡ cond b (j ∷ a) a ++ c
 cons_if true j x a c e = ap (λ (w : List ℕ). j ∷ w) e

@@ -9,8 +9,9 @@ use Rattle.std.proofs.lemmas.List.Elements.{All-head, All-tail, All-cons, All-we
 use Rattle.mwc_parts.specs.Slicing.{Slicing}
 use Rattle.mwc_parts.specs.Sums.{sum_of, times}
 use Rattle.mwc_parts.specs.Wording.{total}
-use Rattle.mwc_parts.specs.Deals.{held_from, held, Dealt, AscendsFrom}
-use Rattle.mwc_parts.specs.Dealing.{Seat, IsWell, is_ill, givens, Dealing, Turns, FirstDeals, IsFresh}
+use Rattle.mwc_parts.specs.Deals.{AscendsFrom}
+use Rattle.mwc_parts.specs.Inner.Deals.{held_from, held, Dealt}
+use Rattle.mwc_parts.specs.Inner.Dealing.{Seat, IsWell, is_ill, givens, Dealing, Turns, FirstDeals, IsFresh}
 use Rattle.mwc_parts.proofs.Deals.{shares_sum, each_once, no_other, held_ascends, one_of_sum, sum_range_le}
 use Rattle.mwc_parts.proofs.Turns.{turn_nothing, turn_one, none_free, none_ill, stays_by, still, share_at}
 

@@ -7,7 +7,8 @@ use Rattle.std.proofs.lemmas.List.Folds.{list_any-append}
 use Rattle.mwc_parts.specs.Slicing.{Slicing}
 use Rattle.mwc_pipe.specs.declared.word.Word.{Word}
 use Rattle.mwc_pipe.specs.declared.word.Word.TheVariants.{One, Done, End}
-use Rattle.mwc_parts.specs.Wording.{opens, wording, told_words, total, Whole, Cut, slice_words}
+use Rattle.mwc_parts.specs.Wording.{opens, wording, total, Whole, Cut, slice_words}
+use Rattle.mwc_parts.specs.Inner.Wording.{told_words}
 use Rattle.mwc_parts.specs.Settled.{is_cut, has_cut, AllSent, WasCut, Settled}
 use Rattle.mwc_parts.proofs.Tasks.{all_taken, cut_taken}
 

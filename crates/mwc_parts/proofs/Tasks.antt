@@ -5,7 +5,8 @@ use Rattle.std.proofs.lemmas.List.Elements.{All-head, All-tail}
 use Rattle.mwc_parts.specs.Slicing.{Slicing}
 use Rattle.mwc_pipe.specs.declared.word.Word.{Word}
 use Rattle.mwc_pipe.specs.declared.word.Word.TheVariants.{Open, One, Done, End}
-use Rattle.mwc_parts.specs.Wording.{opens, told_words, IsLast, total}
+use Rattle.mwc_parts.specs.Wording.{opens, IsLast, total}
+use Rattle.mwc_parts.specs.Inner.Wording.{told_words}
 
 -- no word that ends the work is a task that gives a slice
 not_last : (n j : ℕ) (last : Word) → last ≡ Open j → j < n → IsLast n last → ⊥

@@ -7,8 +7,8 @@ use Rattle.std.proofs.Math.Bool.{or_assoc, or-false}
 use Rattle.std.proofs.lemmas.Bool.{false≢true}
 use Rattle.std.proofs.lemmas.List.Elements.{All-head, All-tail, All-cons, All-weaker, All-set, All-push}
 use Rattle.mwc_parts.specs.Table.{IsFirstFree}
-use Rattle.mwc_parts.specs.Deals.{held, shares_by, Dealt}
-use Rattle.mwc_parts.specs.Dealing.{Seat, IsWell, is_ill, givens, Dealing, GivesNothing, GivesOne, Turns}
+use Rattle.mwc_parts.specs.Inner.Deals.{held, shares_by, Dealt}
+use Rattle.mwc_parts.specs.Inner.Dealing.{Seat, IsWell, is_ill, givens, Dealing, GivesNothing, GivesOne, Turns}
 use Rattle.mwc_parts.proofs.Deals.{deal_from}
 
 -- the first free slice is the one after those that have a holder

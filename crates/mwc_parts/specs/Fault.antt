@@ -21,21 +21,6 @@ also met Memory = record met { memory = true }
 also met Ring = record met { ring = true }
 also met TooMany = record met { many = true }
 
--- what was met, and after it what each of these was answered, of which some are no fault
-abbrev pub noted : Met → List (Option GatherFault) → Met
-noted met [] = met
-noted met (None ∷ whys) = noted met whys
-noted met (Some why ∷ whys) = noted (also met why) whys
-
--- the fault of an answer
-abbrev pub fault_in : {A : Type 0} → Result A GatherFault → Option GatherFault
-fault_in (Ok x) = None
-fault_in (Err why) = Some why
-
--- a fault that keeps a worker from its start
-abbrev pub IsEarly : GatherFault → Type 0
-IsEarly why = (why ≡ Start) ⊎ (why ≡ Memory)
-
 -- a fact where the fault is TooMany
 abbrev pub OnTooMany : {A : Type 0} → Result A GatherFault → Type 0 → Type 0
 OnTooMany (Ok x) P = Unit {0}

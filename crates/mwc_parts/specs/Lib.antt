@@ -3,8 +3,8 @@ pub mod Sums
 pub mod Table
 pub mod Wording
 pub mod Deals
-pub mod Dealing
 pub mod Pieces
 pub mod Parts
 pub mod Fault
 pub mod Settled
+pub mod Inner

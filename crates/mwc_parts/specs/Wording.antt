@@ -27,16 +27,6 @@ abbrev pub opens : List ℕ → List Word
 opens [] = []
 opens (j ∷ js) = Open j ∷ opens js
 
--- the word that says that there are no more, where it was said
-abbrev pub told_words : Bool → List Word
-told_words false = []
-told_words true = End false ∷ []
-
--- whether a word tells that a slice is whole
-abbrev pub is_done : Word → Bool
-is_done (Done j) = true
-is_done _ = false
-
 -- whether a task ends the work
 abbrev pub IsLast : ℕ → Word → Type 0
 IsLast n (Open j) = n ≤ j

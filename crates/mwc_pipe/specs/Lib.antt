@@ -7,3 +7,4 @@ pub mod Refusal
 pub mod Rows
 pub mod RingName
 pub mod RingViews
+pub mod Inner

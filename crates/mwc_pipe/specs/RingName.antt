@@ -9,8 +9,3 @@ pub record RingName : Type 0 where
   pub words : Ptr
   pub slots : Ptr
   pub names : Names
-
-abbrev pub ring_name_code : Coded RingName
-ring_name_code =
-    code_by (Ptr × (Ptr × Names)) (coded× coded_ptr (coded× coded_ptr (coded× coded_ℕ (coded× coded_ℕ coded_ℕ))))
-    (λ r. (r.words, (r.slots, r.names))) (λ p. record { words = p.0; slots = p.1.0; names = p.1.1 }) (λ _. refl)

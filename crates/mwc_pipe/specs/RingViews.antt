@@ -6,18 +6,6 @@ use Rattle.rtrb.specs.declared.producer.Producer.{Producer}
 use Rattle.rtrb.specs.declared.finished.Finished.{Finished}
 use Rattle.rtrb.specs.declared.consumer.Consumer.{Consumer}
 
--- the ring that an end of the base crate is of
-
-module _ {T A P : Type 0} where
-  abbrev pub ring_of_producer : Producer T A P → RingName
-  ring_of_producer p = record { words = p.end.words; slots = p.end.slots; names = p.end.names }
-
-  abbrev pub ring_of_consumer : Consumer T A P → RingName
-  ring_of_consumer p = record { words = p.end.words; slots = p.end.slots; names = p.end.names }
-
-  abbrev pub ring_of_finished : Finished T A P → RingName
-  ring_of_finished p = record { words = p.end.words; slots = p.end.slots; names = p.end.names }
-
 -- the end that words are put into: its ring, the capacity, and what it accepted
 pub record RingInView : Type 0 where
   pub ring : RingName

@@ -12,7 +12,8 @@ pub struct Closed {
 }
 
 impl Model for Closed {
-    ghost use Rattle.mwc_pipe.specs.RingViews.{ClosedView, ring_of_finished};
+    ghost use Rattle.mwc_pipe.specs.RingViews.{ClosedView};
+    ghost use Rattle.mwc_pipe.specs.Inner.RingViews.{ring_of_finished};
     ghost use Rattle.rtrb.specs.Ring.{all_sent};
 
     ghost Value = { ClosedView };

@@ -23,7 +23,8 @@ pub struct RingIn {
 
 impl Model for RingIn {
     ghost use Rattle.std.specs.Prelude.{◌≤◌, ◌+◌, length};
-    ghost use Rattle.mwc_pipe.specs.RingViews.{RingInView, ring_of_producer};
+    ghost use Rattle.mwc_pipe.specs.RingViews.{RingInView};
+    ghost use Rattle.mwc_pipe.specs.Inner.RingViews.{ring_of_producer};
     ghost use Rattle.rtrb.specs.Ring.{sent, known_free, producer_capacity};
 
     ghost Value = { RingInView };

@@ -18,7 +18,8 @@ pub struct RingOut {
 }
 
 impl Model for RingOut {
-    ghost use Rattle.mwc_pipe.specs.RingViews.{RingOutView, ring_of_consumer};
+    ghost use Rattle.mwc_pipe.specs.RingViews.{RingOutView};
+    ghost use Rattle.mwc_pipe.specs.Inner.RingViews.{ring_of_consumer};
     ghost use Rattle.rtrb.specs.Ring.{received};
 
     ghost Value = { RingOutView };

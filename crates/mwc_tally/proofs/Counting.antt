@@ -17,7 +17,7 @@ use Rattle.power_index.proofs.Minimal.{minimal-are-coalitions, minimal-few}
 use Rattle.power_index.proofs.Sound.{total-is, tallies-are_counts}
 use Rattle.power_index.proofs.Sums.{length-filter-le}
 use Rattle.power_index.proofs.Tallies.{range-more, sum_by-range-more, sum_by-range-le}
-use Rattle.mwc_tally.specs.Shares.{CountedUpTo}
+use Rattle.mwc_tally.specs.Inner.Shares.{CountedUpTo}
 
 -- a slice is a part of the list
 pub slice-are-coalitions : (g : GameView) (bits j : ℕ) → IsGame g → AreNonemptyCoalitions g (slice (votes_of g) bits j)

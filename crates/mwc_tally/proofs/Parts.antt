@@ -10,7 +10,7 @@ use Rattle.std.proofs.Math.Nat.{div-add-mod, mod-lt}
 use Rattle.council_game.specs.Game.{GameView}
 use Rattle.power_index.specs.Tables.{Tables, AreTallies, AreCounts}
 use Rattle.power_index.proofs.Sound.{tallies-are_counts}
-use Rattle.mwc_tally.specs.Threads.{IsGivenPart}
+use Rattle.mwc_tally.specs.Inner.Threads.{IsGivenPart}
 use Rattle.mwc_tally.specs.declared.pieces.GivenPart.{GivenPart}
 
 pub drop-append : (n : ℕ) (xs ys : List ℕ) → drop n (xs ++ ys) ≡ drop n xs ++ drop (n - length xs) ys

@@ -3,8 +3,8 @@ ghost use Rattle.std.specs.Prelude.{◌≡◌, ◌≤◌, ◌<◌, ◌^◌, All,
 ghost use Rattle.council_game.specs.Game.{votes_of};
 ghost use Rattle.council_game.specs.Votes.{minimal_coalitions};
 ghost use Rattle.power_index.specs.Tables.{AreCounts};
-ghost use Rattle.mwc_tally.specs.Shares.{IsShare};
-ghost use Rattle.mwc_tally.specs.Threads.{IsGiven};
+ghost use Rattle.mwc_tally.specs.Inner.Shares.{IsShare};
+ghost use Rattle.mwc_tally.specs.Inner.Threads.{IsGiven};
 
 use crate::fault::TallyFault;
 use crate::share::Share;

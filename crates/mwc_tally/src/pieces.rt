@@ -3,7 +3,7 @@ ghost use Rattle.council_game.specs.Game.{IsGame, AreNonemptyCoalitions};
 ghost use Rattle.power_index.specs.Tables.{AreCounts, AreTallies};
 ghost use Rattle.std.specs.List.{flat_map};
 ghost use Rattle.std.specs.Prelude.{◌≡◌, ℕ, ◌+◌, ◌*◌, ◌<◌, ◌≤◌, ◌^◌, ⊤, IfOk, IfErr, MatchOption, length, drop, take};
-ghost use Rattle.mwc_tally.specs.Threads.{IsGivenPart};
+ghost use Rattle.mwc_tally.specs.Inner.Threads.{IsGivenPart};
 
 use crate::fault::TallyFault;
 use council_game::{Coalition, Game};

@@ -5,7 +5,7 @@ ghost use Rattle.council_game.specs.Game.{votes_of};
 ghost use Rattle.council_game.specs.Votes.{minimal_coalitions};
 ghost use Rattle.mwc_walk.specs.Slices.{slice};
 ghost use Rattle.power_index.specs.Tables.{AreCounts, AreTallies};
-ghost use Rattle.mwc_tally.specs.Shares.{IsShare};
+ghost use Rattle.mwc_tally.specs.Inner.Shares.{IsShare};
 
 use council_game::{Game, Memory};
 use mwc_walk::slice_count;

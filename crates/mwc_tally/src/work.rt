@@ -1,6 +1,6 @@
 //! What the threads of a tally share.
 ghost use Rattle.std.specs.Prelude.{◌≡◌, ◌≤◌, length, IfOk};
-ghost use Rattle.mwc_tally.specs.Shares.{IsShare};
+ghost use Rattle.mwc_tally.specs.Inner.Shares.{IsShare};
 
 use crate::share::Share;
 use crate::slice::tally_slice;

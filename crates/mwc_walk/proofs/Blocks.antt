@@ -5,7 +5,7 @@ use Rattle.std.proofs.lemmas.Nat.{div-mul-add}
 use Rattle.std.proofs.Math.Nat.{pow-suc}
 use Rattle.std.proofs.lemmas.Bool.{cases_lt, and_from, and_parts, le-leb, leb-true, cond-false}
 use Rattle.council_game.specs.Votes.{RuleView, IsRule, weight, wins, down}
-use Rattle.mwc_walk.specs.Places.{reaches, wins_at}
+use Rattle.mwc_walk.specs.Inner.Places.{reaches, wins_at}
 use Rattle.council_game.proofs.Weights.{weight-at, weight-le, weight-prefix}
 
 -- ---- the descending count, filtered

@@ -13,9 +13,9 @@ use Rattle.council_game.proofs.Meanings.{needs-each-member}
 use Rattle.council_game.proofs.Weights.{weight-prefix}
 use Rattle.mwc_walk.specs.declared.lane.Lane.{Lane}
 use Rattle.mwc_walk.specs.declared.cursor.Cursor.{Cursor}
-use Rattle.mwc_walk.specs.Lanes.{lane_wins_without}
-use Rattle.mwc_walk.specs.Places.{LaneIs, LanesAre}
-use Rattle.mwc_walk.specs.Cursor.{CursorIs}
+use Rattle.mwc_walk.specs.Inner.Lanes.{lane_wins_without}
+use Rattle.mwc_walk.specs.Inner.Places.{LaneIs, LanesAre}
+use Rattle.mwc_walk.specs.Inner.Cursor.{CursorIs}
 
 -- at the prefix x of p places, the lanes tell whether it wins without one of them
 pub lanes-without : (n p x q : ℕ) (rs : List RuleView) (ls : List Lane) → p ≤ n → q < n → has n q (x * 2 ^ (n - p)) ≡ true → LanesAre n p x rs ls → list_all (lane_wins_without q) ls ≡ wins rs (without n q (x * 2 ^ (n - p)))

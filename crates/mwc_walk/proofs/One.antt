@@ -7,7 +7,7 @@ use Rattle.std.proofs.Math.Nat.{pow-le-pow_right}
 use Rattle.std.proofs.lemmas.Bool.{and_from, and_left, or_right, or_left, le-leb, lt-leb, eqb-true, cases_lt, cases_Bool, both_ways, cond_both, not_from_false}
 use Rattle.council_game.specs.Votes.{RuleView, Votes, IsRule, IsRanked, IsVotes, has, without, weight, wins, each_needed, minimal, down, minimal_below, minimal_coalitions}
 use Rattle.mwc_walk.specs.Slices.{in_slice, slice}
-use Rattle.mwc_walk.specs.Places.{wins_at}
+use Rattle.mwc_walk.specs.Inner.Places.{wins_at}
 use Rattle.council_game.proofs.Weights.{weight-more, weight-prefix, weight-without, weight-zero}
 use Rattle.mwc_walk.proofs.Blocks.{wins-prefix}
 

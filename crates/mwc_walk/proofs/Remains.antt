@@ -8,9 +8,9 @@ use Rattle.std.proofs.lemmas.List.{length-append}
 use Rattle.std.proofs.lemmas.Nat.{mul-le, pow-add}
 use Rattle.council_game.specs.Votes.{Votes, minimal, down, minimal_below, minimal_coalitions}
 use Rattle.mwc_walk.specs.Slices.{in_slice, slice}
-use Rattle.mwc_walk.specs.Places.{left_below}
+use Rattle.mwc_walk.specs.Inner.Places.{left_below}
 use Rattle.mwc_walk.specs.declared.cursor.Cursor.{Cursor}
-use Rattle.mwc_walk.specs.Cursor.{bound, left, CursorIs}
+use Rattle.mwc_walk.specs.Inner.Cursor.{bound, left, CursorIs}
 use Rattle.mwc_walk.proofs.Steps.{rest-most}
 
 -- a list that ends with another

@@ -8,7 +8,7 @@ use Rattle.std.proofs.lemmas.Bool.{cases_Bool, and_left, and_parts, eq-eqb, ne_e
 use Rattle.council_game.specs.Votes.{Votes, IsVotes, has, without, wins, each_needed, minimal, down, minimal_below, minimal_coalitions}
 use Rattle.council_game.proofs.GameTests.{needed-at}
 use Rattle.mwc_walk.specs.Slices.{in_slice, slice}
-use Rattle.mwc_walk.specs.Places.{left_below, reaches, wins_at}
+use Rattle.mwc_walk.specs.Inner.Places.{left_below, reaches, wins_at}
 use Rattle.mwc_walk.proofs.Blocks.{filter-down_skip, filter-down_take, some_digit, wins-below, loses-below}
 
 -- numbers of one block have one prefix

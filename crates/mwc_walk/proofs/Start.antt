@@ -4,12 +4,12 @@ use Rattle.std.proofs.lemmas.Nat.{pow_pos, one_shl, div_below}
 use Rattle.std.proofs.lemmas.Bool.{le-ltb, cond-true, cond-false}
 use Rattle.mwc_walk.specs.declared.lane.Lane.{Lane}
 use Rattle.mwc_walk.specs.declared.cursor.Cursor.{Cursor}
-use Rattle.mwc_walk.specs.Lanes.{lane_with}
+use Rattle.mwc_walk.specs.Inner.Lanes.{lane_with}
 use Rattle.council_game.specs.Votes.{RuleView, Votes, IsVotes, rule_at}
 use Rattle.mwc_walk.specs.Slices.{slice}
 use Rattle.council_game.proofs.GameTests.{fixed-half}
-use Rattle.mwc_walk.specs.Places.{left_below, LaneIs, LanesAre}
-use Rattle.mwc_walk.specs.Cursor.{bound, left, Starts}
+use Rattle.mwc_walk.specs.Inner.Places.{left_below, LaneIs, LanesAre}
+use Rattle.mwc_walk.specs.Inner.Cursor.{bound, left, Starts}
 use Rattle.mwc_walk.proofs.Rest.{left-all}
 use Rattle.mwc_walk.proofs.Tables.{lanes-in, lanes-pass, lanes-from}
 

@@ -10,11 +10,11 @@ use Rattle.std.proofs.Common.{min}
 use Rattle.mwc_walk.specs.declared.lane.Lane.{Lane}
 use Rattle.mwc_walk.specs.declared.cursor.Cursor.{Cursor}
 use Rattle.mwc_walk.specs.declared.step.Step.TheVariants.{On, Give, End}
-use Rattle.mwc_walk.specs.Lanes.{lane_with, lane_without, lane_reaches, lane_wins}
+use Rattle.mwc_walk.specs.Inner.Lanes.{lane_with, lane_without, lane_reaches, lane_wins}
 use Rattle.council_game.specs.Votes.{RuleView, Votes, IsRule, weight, minimal}
 use Rattle.mwc_walk.specs.Slices.{slice}
-use Rattle.mwc_walk.specs.Places.{left_below, reaches, wins_at, LanesAre}
-use Rattle.mwc_walk.specs.Cursor.{bound, left, steps_left, CursorIs, Steps}
+use Rattle.mwc_walk.specs.Inner.Places.{left_below, reaches, wins_at, LanesAre}
+use Rattle.mwc_walk.specs.Inner.Cursor.{bound, left, steps_left, CursorIs, Steps}
 use Rattle.council_game.proofs.Weights.{weight-more}
 use Rattle.mwc_walk.proofs.Rest.{left-dead, left-won, left-drop, left-take, left-none}
 use Rattle.mwc_walk.proofs.One.{one-minimal, won-odd, empty-loses, slice-short, in-slice}

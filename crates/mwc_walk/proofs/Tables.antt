@@ -6,10 +6,10 @@ use Rattle.std.proofs.lemmas.List.{drop_all, length-take-le, ext_get_or, get_or-
 use Rattle.std.proofs.lemmas.List.Sums.{sum_by-take-drop, sum_by-drop_more}
 use Rattle.std.proofs.lemmas.List.Elements.{All-nil, All-cons}
 use Rattle.mwc_walk.specs.declared.lane.Lane.{Lane}
-use Rattle.mwc_walk.specs.Lanes.{lane_reaches, lane_wins, lane_with, lane_without}
+use Rattle.mwc_walk.specs.Inner.Lanes.{lane_reaches, lane_wins, lane_with, lane_without}
 use Rattle.council_game.specs.Votes.{RuleView, weight, rule_at}
 use Rattle.council_game.proofs.Weights.{weight-more, weight-le, weight-zero}
-use Rattle.mwc_walk.specs.Places.{reaches, wins_at, LaneIs, LanesAre}
+use Rattle.mwc_walk.specs.Inner.Places.{reaches, wins_at, LaneIs, LanesAre}
 
 sub-leb : (a b c : ℕ) → leb (a - b) c ≡ leb a (b + c)
 sub-leb a b c = grind (arith, nat_tests)

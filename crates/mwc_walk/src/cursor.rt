@@ -2,8 +2,8 @@
 ghost use Rattle.std.specs.Prelude.{◌≡◌, ◌*◌, ◌-◌, ◌^◌, ◌<◌, ◌≤◌, false, true, length};
 ghost use Rattle.council_game.specs.Game.{votes_of};
 ghost use Rattle.council_game.specs.Votes.{minimal};
-ghost use Rattle.mwc_walk.specs.Places.{wins_at};
-ghost use Rattle.mwc_walk.specs.Cursor.{CursorIs, Steps, Runs, Starts};
+ghost use Rattle.mwc_walk.specs.Inner.Places.{wins_at};
+ghost use Rattle.mwc_walk.specs.Inner.Cursor.{CursorIs, Steps, Runs, Starts};
 
 use crate::lane::{Lane, all_reach, all_win, all_win_without, leave_out, take_in};
 use crate::step::Step;

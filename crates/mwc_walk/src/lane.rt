@@ -3,8 +3,8 @@ ghost use Rattle.std.specs.Prelude.{◌≡◌, ◌+◌, ◌^◌, ◌<◌, ◌≤
 ghost use Rattle.std.specs.List.{list_all, All, sum};
 ghost use Rattle.council_game.specs.Game.{votes_of};
 ghost use Rattle.council_game.specs.Votes.{rule_at};
-ghost use Rattle.mwc_walk.specs.Places.{LaneIs};
-ghost use Rattle.mwc_walk.specs.Lanes.{lane_reaches, lane_wins, lane_wins_without, lane_with, lane_without};
+ghost use Rattle.mwc_walk.specs.Inner.Places.{LaneIs};
+ghost use Rattle.mwc_walk.specs.Inner.Lanes.{lane_reaches, lane_wins, lane_wins_without, lane_with, lane_without};
 
 use council_game::Game;
 

@@ -26,7 +26,7 @@ impl<'a> Model for Walk<'a> {
 
     ghost Value = { WalkView };
 
-    ghost use Rattle.mwc_walk.specs.WalkInside.{walk_view, IsInside};
+    ghost use Rattle.mwc_walk.specs.Inner.WalkInside.{walk_view, IsInside};
 
     ghost view = { walk_view };
 

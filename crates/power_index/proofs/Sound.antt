@@ -9,7 +9,8 @@ use Rattle.council_game.proofs.Games.{votes-are}
 use Rattle.council_game.proofs.Making.{ranks-are}
 use Rattle.power_index.specs.declared.tally.Tally.{Tally}
 use Rattle.power_index.specs.Counting.{members, contains, size_of, count_of_member}
-use Rattle.power_index.specs.Tables.{Tables, Tallies, AllTallies, AreTallies, AreOfOneGame, AreOfSomeList, AreCounts, AreWithin, IsJoined, no_tally, with_one, tally_total, table_total, table_of_member}
+use Rattle.power_index.specs.Tables.{Tables, Tallies, AllTallies, AreTallies, AreOfOneGame, AreCounts, AreWithin, no_tally, tally_total, table_total, table_of_member}
+use Rattle.power_index.specs.Inner.Tables.{AreOfSomeList, IsJoined, with_one}
 use Rattle.power_index.proofs.Sums.{length-filter-le, sum-range}
 use Rattle.power_index.proofs.Members.{few-members, memberships, sizes-some, size-le}
 use Rattle.power_index.proofs.Tallies.{tallies-total, tallies-few, tallies-more, tallies-join}

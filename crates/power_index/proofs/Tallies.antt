@@ -7,7 +7,8 @@ use Rattle.std.proofs.lemmas.List.Sums.{sum_by_push, sum_by-cons}
 use Rattle.std.proofs.lemmas.Bool.{cases_eq, ne_eqb}
 use Rattle.council_game.specs.Votes.{size}
 use Rattle.power_index.specs.declared.tally.Tally.{Tally}
-use Rattle.power_index.specs.Tables.{with_one, tally_total, Tallies}
+use Rattle.power_index.specs.Tables.{tally_total, Tallies}
+use Rattle.power_index.specs.Inner.Tables.{with_one}
 use Rattle.power_index.proofs.Members.{size-le, count-sizes}
 use Rattle.power_index.proofs.Sums.{sum-range, sum-cong, sum-plus, sum-zero, length-filter-le}
 

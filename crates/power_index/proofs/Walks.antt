@@ -3,7 +3,8 @@ use Rattle.std.proofs.Common.{◌≡◌, ◌∙◌, ℕ, ◌^◌, ◌<◌, ◌�
 use Rattle.std.proofs.lemmas.Bool.{cases_eq, cond-true, cond-false, both_ways}
 use Rattle.council_game.specs.Votes.{has, without}
 use Rattle.power_index.specs.declared.tally.Tally.{Tally}
-use Rattle.power_index.specs.Tables.{with_one, no_tally}
+use Rattle.power_index.specs.Tables.{no_tally}
+use Rattle.power_index.specs.Inner.Tables.{with_one}
 use Rattle.power_index.proofs.Digits.{has-kept, has-gone, has-none}
 
 -- of the places of c, those in rest are still to be counted

@@ -16,15 +16,6 @@ pub record Tables : Type 0 where
 abbrev pub no_tally : Tally
 no_tally = record { sizes = [] }
 
--- a tally with one coalition more, of size s
-abbrev pub with_one : Tally → ℕ → Tally
-with_one t s = record { sizes = slice_set t.sizes s (slice_index t.sizes s + 1) }
-
--- a tally has the numbers of two, added size by size
-pub record IsJoined (s t u : Tally) : Type 0 where
-  pub long : length u.sizes ≡ 41
-  pub sizes : (k : ℕ) → k ≤ 40 → slice_index u.sizes k ≡ slice_index s.sizes k + slice_index t.sizes k
-
 -- the numbers of the sizes 0 to n, added
 abbrev pub tally_total : ℕ → Tally → ℕ
 tally_total n t = sum_by (slice_index t.sizes) (range_with_len 0 (n + 1))
@@ -108,11 +99,3 @@ pub record AreWithin (most : ℕ) (t : Tables) : Type 0 where
 -- what holds of the tables of 1 to 4000000 coalitions, none of them empty
 abbrev pub AreSound : Tables → Type 0
 AreSound t = AreWithin 4000000 t
-
--- the tables are those of some list of coalitions of a game: no game has more than 2 ^ 40
-pub record AreOfSomeList (t : Tables) : Type 0 where
-  pub game : GameView
-  pub list : List ℕ
-  pub coalitions : AreNonemptyCoalitions game list
-  pub few : length list ≤ 2 ^ 40
-  pub tallies : AreTallies game list t

@@ -1,5 +1,6 @@
 //! Tallies of coalitions by size.
-ghost use Rattle.power_index.specs.Tables.{IsJoined, tally_total, with_one};
+ghost use Rattle.power_index.specs.Tables.{tally_total};
+ghost use Rattle.power_index.specs.Inner.Tables.{IsJoined, with_one};
 ghost use Rattle.std.specs.Prelude.{◌≡◌, ℕ, ◌+◌, ◌<◌, ◌≤◌, ◌^◌, length, slice_index};
 
 /// How many coalitions of each size from 0 to 40 were counted. How many there are in all is added up

@@ -2,8 +2,10 @@
 ghost use Rattle.council_game.specs.Game.{GameView, AreNonemptyCoalitions};
 ghost use Rattle.council_game.specs.Votes.{has};
 ghost use Rattle.power_index.specs.Tables.{AreCounts, AreOf, AreOfOneGame, AreTallies, AreWithin};
-ghost use Rattle.power_index.specs.Tables.{IsJoined, no_tally, table_memberships, table_of_member};
-ghost use Rattle.power_index.specs.Tables.{table_of_member_size, table_of_size, table_total, with_one};
+ghost use Rattle.power_index.specs.Tables.{no_tally, table_memberships, table_of_member};
+ghost use Rattle.power_index.specs.Inner.Tables.{IsJoined};
+ghost use Rattle.power_index.specs.Tables.{table_of_member_size, table_of_size, table_total};
+ghost use Rattle.power_index.specs.Inner.Tables.{with_one};
 ghost use Rattle.std.specs.Prelude.{◌≡◌, ℕ, ◌+◌, ◌*◌, ◌<◌, ◌≤◌, ◌^◌, cond, List, [], ◌∷◌, ◌++◌, length, slice_index, slice_index_or, All};
 
 use crate::tally::Tally;
@@ -28,7 +30,8 @@ pub struct WideCounts {
 }
 
 impl Model for WideCounts {
-    ghost use Rattle.power_index.specs.Tables.{AreOfSomeList, Tables};
+    ghost use Rattle.power_index.specs.Tables.{Tables};
+    ghost use Rattle.power_index.specs.Inner.Tables.{AreOfSomeList};
 
     ghost Value = { Tables };
 

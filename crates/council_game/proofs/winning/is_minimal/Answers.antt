@@ -1,6 +1,6 @@
 use Rattle.std.proofs.Common.{refl, sym, arith, ◌∙◌, ap, ℕ}
 use Rattle.council_game.specs.Votes.{wins, each_needed, without}
-use Rattle.council_game.specs.Weighing.{votes}
+use Rattle.council_game.specs.Inner.Weighing.{votes}
 use Rattle.council_game.specs.Rules.{rule_views}
 use Rattle.council_game.proofs.GameTests.{not-minimal, needed-out, needed-lost, is-minimal, lost-not_minimal}
 use Rattle.council_game.proofs.winning.is_minimal.Goals as goal

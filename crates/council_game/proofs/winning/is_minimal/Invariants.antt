@@ -1,6 +1,6 @@
 use Rattle.std.proofs.Common.{◌≡◌, true}
 use Rattle.council_game.specs.Votes.{each_needed}
-use Rattle.council_game.specs.Weighing.{votes}
+use Rattle.council_game.specs.Inner.Weighing.{votes}
 use Rattle.council_game.proofs.winning.is_minimal.Given as goal
 
 abbrev pub invariant-loop-place : goal.invariant-loop-place

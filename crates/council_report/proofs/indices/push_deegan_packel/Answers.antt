@@ -1,6 +1,6 @@
 use Rattle.std.proofs.Common.{◌≡◌, ◌++◌, ℕ, OnOk, subst}
 use Rattle.council_file.specs.Room.{Takes}
-use Rattle.council_report.specs.Lines.{fraction_fields}
+use Rattle.council_report.specs.Inner.Lines.{fraction_fields}
 use Rattle.council_report.proofs.indices.push_deegan_packel.Goals as goal
 
 pub returns-clause-items : goal.returns-clause-items

@@ -1,7 +1,7 @@
 use Rattle.std.proofs.Common.{◌<◌, ◌^◌, ℕ, List, length, IfErr, OnOk, sym, subst}
 use Rattle.council_game.specs.Game.{AreNonemptyCoalitions}
-use Rattle.council_report.specs.Told.{told, Tells, StoppedIn}
-use Rattle.council_report.specs.Ready.{CanCount}
+use Rattle.council_report.specs.Inner.Told.{told, Tells, StoppedIn}
+use Rattle.council_report.specs.Inner.Ready.{CanCount}
 use Rattle.council_report.proofs.Joins.{listed-text, pieces-all}
 use Rattle.council_report.proofs.report.put_shown_coalitions.Goals as goal
 

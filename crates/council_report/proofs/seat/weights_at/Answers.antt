@@ -3,7 +3,7 @@ use Rattle.std.proofs.lemmas.Bool.{cases_lt}
 use Rattle.std.proofs.lemmas.List.{get_or-set_other, get_or-set_same, length-set}
 use Rattle.council_game.specs.Votes.{rule_at}
 use Rattle.council_game.specs.Game.{votes_of}
-use Rattle.council_report.specs.Shared.{weights_under}
+use Rattle.council_report.specs.Inner.Shared.{weights_under}
 use Rattle.council_report.proofs.Beginnings.{under-is, under-none}
 use Rattle.council_report.proofs.seat.weights_at.Goals as goal
 

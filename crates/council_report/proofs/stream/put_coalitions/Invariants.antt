@@ -1,8 +1,8 @@
 use Rattle.std.proofs.Common.{take}
 use Rattle.std.specs.List.{flat_map}
 use Rattle.council_report.specs.Lines.{coalition_line}
-use Rattle.council_report.specs.Shared.{IsReadyLine}
-use Rattle.council_report.specs.Told.{told}
+use Rattle.council_report.specs.Inner.Shared.{IsReadyLine}
+use Rattle.council_report.specs.Inner.Told.{told}
 use Rattle.council_report.proofs.Lasting.{Lasts}
 use Rattle.council_report.proofs.stream.put_coalitions.Given as goal
 

@@ -2,7 +2,7 @@ use Rattle.std.specs.List.{flat_map}
 use Rattle.std.proofs.Common.{take}
 use Rattle.power_index.specs.Counting.{members}
 use Rattle.council_report.specs.Lines.{member_line}
-use Rattle.council_report.specs.Told.{told}
+use Rattle.council_report.specs.Inner.Told.{told}
 use Rattle.council_report.proofs.Lasting.{Lasts}
 use Rattle.council_report.proofs.stream.put_members.Given as goal
 

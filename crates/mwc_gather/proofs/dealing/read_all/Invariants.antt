@@ -1,5 +1,5 @@
-use Rattle.mwc_gather.specs.Orders.{slicing_of}
-use Rattle.mwc_gather.specs.Desks.{DealsTo}
+use Rattle.mwc_gather.specs.Inner.Orders.{slicing_of}
+use Rattle.mwc_gather.specs.Inner.Desks.{DealsTo}
 use Rattle.mwc_gather.proofs.dealing.read_all.Given as goal
 
 abbrev pub invariant-loop : goal.invariant-loop

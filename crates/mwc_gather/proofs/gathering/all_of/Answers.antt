@@ -3,7 +3,7 @@ use Rattle.mwc_parts.specs.Slicing.{Slicing}
 use Rattle.mwc_parts.specs.Sums.{sum_of}
 use Rattle.mwc_parts.specs.declared.part.Part.{Part}
 use Rattle.mwc_parts.proofs.Firsts.{dealt_once, dealt_no_other}
-use Rattle.mwc_gather.specs.Orders.{slicing_of}
+use Rattle.mwc_gather.specs.Inner.Orders.{slicing_of}
 use Rattle.mwc_gather.proofs.Wholes.{whole, all_total_is, all_pieces, all_joined, all_ends}
 use Rattle.mwc_gather.proofs.Ends.{complete_sum, end_ascends}
 use Rattle.mwc_gather.proofs.gathering.all_of.Goals as goal

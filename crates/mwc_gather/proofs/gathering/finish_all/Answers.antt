@@ -6,9 +6,9 @@ use Rattle.mwc_parts.specs.declared.met.Met.{Met}
 use Rattle.mwc_parts.specs.declared.fault.GatherFault.TheVariants.{Memory}
 use Rattle.mwc_gather.specs.declared.desk.Desk.{Desk}
 use Rattle.mwc_parts.specs.Slicing.{Slicing}
-use Rattle.mwc_gather.specs.Orders.{slicing_of}
-use Rattle.mwc_gather.specs.Desks.{IsOf, Ends, Finished}
-use Rattle.mwc_gather.specs.Gathering.{all_total}
+use Rattle.mwc_gather.specs.Inner.Orders.{slicing_of}
+use Rattle.mwc_gather.specs.Inner.Desks.{IsOf, Ends, Finished}
+use Rattle.mwc_gather.specs.Inner.Gathering.{all_total}
 use Rattle.mwc_gather.proofs.Ends.{note_many, head_of, on_mono, one_done, not_noted, zip_more, zip_push}
 use Rattle.mwc_gather.proofs.Faults.{noted_after, noted_none, memory_ends, ends_of}
 use Rattle.mwc_gather.proofs.gathering.finish_all.Goals as goal

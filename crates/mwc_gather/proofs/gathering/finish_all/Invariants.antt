@@ -3,12 +3,13 @@ use Rattle.std.specs.Prelude.{All, Option, None}
 use Rattle.std.specs.List.{AllZip}
 use Rattle.std.specs.Vec.Iter.{into_iter_items}
 use Rattle.mwc_parts.specs.Wording.{total}
-use Rattle.mwc_parts.specs.Fault.{fault_of, noted}
+use Rattle.mwc_parts.specs.Fault.{fault_of}
+use Rattle.mwc_parts.specs.Inner.Fault.{noted}
 use Rattle.mwc_parts.specs.declared.fault.GatherFault.{GatherFault}
 use Rattle.mwc_gather.specs.declared.desk.Desk.{Desk}
-use Rattle.mwc_gather.specs.Orders.{slicing_of}
-use Rattle.mwc_gather.specs.Desks.{AllOf, Ends, Finished}
-use Rattle.mwc_gather.specs.Gathering.{all_total}
+use Rattle.mwc_gather.specs.Inner.Orders.{slicing_of}
+use Rattle.mwc_gather.specs.Inner.Desks.{AllOf, Ends, Finished}
+use Rattle.mwc_gather.specs.Inner.Gathering.{all_total}
 use Rattle.mwc_gather.proofs.gathering.finish_all.Given as goal
 
 abbrev pub invariant-loop-desk : goal.invariant-loop-desk

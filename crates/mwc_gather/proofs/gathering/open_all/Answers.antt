@@ -3,11 +3,11 @@ use Rattle.std.specs.Prelude.{All}
 use Rattle.std.proofs.lemmas.List.Elements.{All-push}
 use Rattle.mwc_parts.specs.declared.met.Met.{Met}
 use Rattle.mwc_parts.specs.Fault.{also}
-use Rattle.mwc_parts.specs.Dealing.{IsFresh}
+use Rattle.mwc_parts.specs.Inner.Dealing.{IsFresh}
 use Rattle.mwc_parts.specs.Slicing.{Slicing}
 use Rattle.mwc_gather.specs.Slicings.{slicing}
 use Rattle.mwc_gather.specs.declared.desk.Desk.{Desk}
-use Rattle.mwc_gather.specs.Desks.{seats, IsOf, AllOf}
+use Rattle.mwc_gather.specs.Inner.Desks.{seats, IsOf, AllOf}
 use Rattle.mwc_gather.proofs.Ends.{fresh_push}
 use Rattle.mwc_gather.proofs.gathering.open_all.Goals as goal
 

@@ -10,9 +10,9 @@ use Rattle.mwc_parts.specs.Fault.{OnTooMany, fault_of}
 use Rattle.mwc_gather.specs.declared.order.Order.{Order}
 use Rattle.mwc_gather.specs.declared.desk.Desk.{Desk}
 use Rattle.mwc_gather.specs.Slicings.{slicing}
-use Rattle.mwc_gather.specs.Orders.{slicing_of}
-use Rattle.mwc_gather.specs.Desks.{DealsTo}
-use Rattle.mwc_gather.specs.Gathering.{all_total}
+use Rattle.mwc_gather.specs.Inner.Orders.{slicing_of}
+use Rattle.mwc_gather.specs.Inner.Desks.{DealsTo}
+use Rattle.mwc_gather.specs.Inner.Gathering.{all_total}
 use Rattle.mwc_gather.proofs.Wholes.{all_total_is}
 use Rattle.mwc_gather.proofs.Ends.{desks_within, completes}
 use Rattle.mwc_gather.proofs.Faults.{opens_few}

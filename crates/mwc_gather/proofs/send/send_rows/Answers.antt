@@ -5,7 +5,8 @@ use Rattle.mwc_pipe.specs.declared.word.Word.{Word}
 use Rattle.mwc_pipe.specs.declared.word.Word.TheVariants.{Open, One, Done}
 use Rattle.mwc_parts.specs.Slicing.{Slicing}
 use Rattle.mwc_gather.specs.Slicings.{slicing}
-use Rattle.mwc_gather.specs.Sending.{SendsFirst, SendsSome, sending}
+use Rattle.mwc_gather.specs.Sending.{sending}
+use Rattle.mwc_gather.specs.Inner.Sending.{SendsFirst, SendsSome}
 use Rattle.mwc_gather.proofs.Slices.{starts_sending, whole_starts, one_more_first, given_more, length_more, taken, within}
 use Rattle.mwc_gather.proofs.Rows.{first_added, first_all, some_of_rest, some_starts}
 use Rattle.mwc_gather.proofs.send.send_rows.Goals as goal

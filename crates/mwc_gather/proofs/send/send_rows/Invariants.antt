@@ -3,7 +3,7 @@ use Rattle.std.specs.Prelude.{map}
 use Rattle.council_game.specs.Game.{votes_of}
 use Rattle.mwc_walk.specs.Slices.{slice}
 use Rattle.mwc_pipe.specs.declared.word.Word.TheVariants.{Open, One}
-use Rattle.mwc_gather.specs.Sending.{SendsFirst}
+use Rattle.mwc_gather.specs.Inner.Sending.{SendsFirst}
 use Rattle.mwc_gather.proofs.send.send_rows.Given as goal
 
 abbrev pub invariant-loop-coalition : goal.invariant-loop-coalition

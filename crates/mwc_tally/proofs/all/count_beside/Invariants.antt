@@ -1,6 +1,6 @@
 use Rattle.std.proofs.Common.{◌≡◌, ◌≤◌, vec_len, vec_capacity}
 use Rattle.std.specs.Prelude.{All}
-use Rattle.mwc_tally.specs.Threads.{IsGiven}
+use Rattle.mwc_tally.specs.Inner.Threads.{IsGiven}
 use Rattle.mwc_tally.proofs.all.count_beside.Given as goal
 
 abbrev pub invariant-loop : goal.invariant-loop

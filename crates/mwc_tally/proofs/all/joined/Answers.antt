@@ -2,8 +2,8 @@ use Rattle.std.proofs.Common.{subst}
 use Rattle.std.specs.Vec.Iter.{into_iter_items}
 use Rattle.std.proofs.lemmas.List.Elements.{All-rest}
 use Rattle.council_game.specs.Game.{GameView}
-use Rattle.mwc_tally.specs.Shares.{IsShare}
-use Rattle.mwc_tally.specs.Threads.{IsGiven}
+use Rattle.mwc_tally.specs.Inner.Shares.{IsShare}
+use Rattle.mwc_tally.specs.Inner.Threads.{IsGiven}
 use Rattle.mwc_tally.proofs.all.joined.Goals as goal
 
 pub loop-thread-preserved-in-Ok : goal.loop-thread-preserved-in-Ok

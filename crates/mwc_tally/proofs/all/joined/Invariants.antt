@@ -1,7 +1,7 @@
 use Rattle.std.specs.Prelude.{All}
 use Rattle.std.specs.Vec.Iter.{into_iter_items}
-use Rattle.mwc_tally.specs.Shares.{IsShare}
-use Rattle.mwc_tally.specs.Threads.{IsGiven}
+use Rattle.mwc_tally.specs.Inner.Shares.{IsShare}
+use Rattle.mwc_tally.specs.Inner.Threads.{IsGiven}
 use Rattle.mwc_tally.proofs.all.joined.Given as goal
 
 abbrev pub invariant-loop-thread : goal.invariant-loop-thread

@@ -1,7 +1,7 @@
 use Rattle.std.proofs.Common.{length}
 use Rattle.council_game.specs.Game.{votes_of}
 use Rattle.mwc_walk.specs.Slices.{slice}
-use Rattle.mwc_tally.specs.Shares.{CountedUpTo}
+use Rattle.mwc_tally.specs.Inner.Shares.{CountedUpTo}
 use Rattle.mwc_tally.proofs.slice.tally_slice.Given as goal
 
 abbrev pub invariant-loop-coalition : goal.invariant-loop-coalition

@@ -1,7 +1,7 @@
 use Rattle.std.proofs.Common.{◌<◌, [], length, get_or, arith}
 use Rattle.std.proofs.lemmas.List.{get_or_default}
 use Rattle.std.proofs.lemmas.List.Edits.{map_over_more}
-use Rattle.mwc_walk.specs.Lanes.{lane_without}
+use Rattle.mwc_walk.specs.Inner.Lanes.{lane_without}
 use Rattle.mwc_walk.proofs.lane.leave_out.Goals as goal
 
 pub loop-lane-preserved : goal.loop-lane-preserved

@@ -1,5 +1,5 @@
 use Rattle.std.proofs.Common.{◌≡◌, ◌++◌, map, take, drop}
-use Rattle.mwc_walk.specs.Lanes.{lane_with}
+use Rattle.mwc_walk.specs.Inner.Lanes.{lane_with}
 use Rattle.mwc_walk.proofs.lane.take_in.Given as goal
 
 abbrev pub invariant-loop-lane : goal.invariant-loop-lane

@@ -1,6 +1,7 @@
 use Rattle.std.proofs.Common.{◌≡◌, ◌∙◌, ℕ, ◌+◌, ◌<◌, ◌^◌, arith, subst, sym, get_or, set, length-set, get_or-set_same, get_or-set_other, below_more}
 use Rattle.power_index.specs.declared.tally.Tally.{Tally}
-use Rattle.power_index.specs.Tables.{IsJoined, no_tally}
+use Rattle.power_index.specs.Tables.{no_tally}
+use Rattle.power_index.specs.Inner.Tables.{IsJoined}
 use Rattle.power_index.proofs.wide_counts.join_places.Goals as goal
 
 pub join-requires : goal.join-requires

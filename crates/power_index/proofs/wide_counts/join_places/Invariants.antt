@@ -1,5 +1,6 @@
 use Rattle.std.proofs.Common.{◌≡◌, ℕ, ◌<◌, ◌≤◌, length, get_or}
-use Rattle.power_index.specs.Tables.{IsJoined, no_tally}
+use Rattle.power_index.specs.Tables.{no_tally}
+use Rattle.power_index.specs.Inner.Tables.{IsJoined}
 use Rattle.power_index.proofs.wide_counts.join_places.Given as goal
 
 abbrev pub invariant-loop-place : goal.invariant-loop-place

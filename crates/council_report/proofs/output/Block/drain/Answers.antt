@@ -1,5 +1,5 @@
 use Rattle.std.proofs.Common.{◌≡◌, ◌+◌, ◌-◌, ◌≤◌, ℕ, List, length, arith, subst, ap}
-use Rattle.council_report.specs.Told.{told, HoldsBut}
+use Rattle.council_report.specs.Inner.Told.{told, HoldsBut}
 use Rattle.council_report.proofs.Holding.{holds-part}
 use Rattle.council_report.proofs.output.Block.drain.Goals as goal
 

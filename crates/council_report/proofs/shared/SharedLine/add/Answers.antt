@@ -1,5 +1,5 @@
 use Rattle.std.proofs.Common.{◌++◌, ℕ, List, length, sym, ap, ◌∙◌, subst, arith}
-use Rattle.council_report.specs.Shared.{IsSeat}
+use Rattle.council_report.specs.Inner.Shared.{IsSeat}
 use Rattle.council_report.proofs.SharedLines.{line-added, mark-more, no_mark, added-light, added-short}
 use Rattle.council_report.proofs.shared.SharedLine.add.Goals as goal
 

@@ -1,5 +1,5 @@
 use Rattle.std.proofs.Common.{◌≡◌, ◌-◌}
-use Rattle.council_report.specs.Shared.{IsLine}
+use Rattle.council_report.specs.Inner.Shared.{IsLine}
 use Rattle.council_report.proofs.shared.SharedLine.move_to.Given as goal
 
 -- it is a line of the coalition, as far as it has come

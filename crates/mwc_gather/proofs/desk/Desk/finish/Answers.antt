@@ -1,7 +1,7 @@
 use Rattle.std.proofs.Common.{List, subst, ◌∙◌, refl}
 use Rattle.mwc_pipe.specs.declared.word.Word.{Word}
 use Rattle.mwc_parts.specs.Settled.{Keeps}
-use Rattle.mwc_gather.specs.Orders.{slicing_of}
+use Rattle.mwc_gather.specs.Inner.Orders.{slicing_of}
 use Rattle.mwc_gather.proofs.Joins.{join_settles}
 use Rattle.mwc_gather.proofs.desk.Desk.finish.Goals as goal
 

@@ -2,7 +2,7 @@ use Rattle.std.proofs.Common.{◌^◌, ◌<◌, ◌≤◌, ℕ, sym, ap, ◌∙�
 use Rattle.std.proofs.Math.Nat.{pow-le-pow_right}
 use Rattle.council_game.specs.Game.{votes_of}
 use Rattle.council_game.specs.Votes.{minimal}
-use Rattle.mwc_walk.specs.Cursor.{Gives}
+use Rattle.mwc_walk.specs.Inner.Cursor.{Gives}
 use Rattle.mwc_walk.proofs.Steps.{enter-dead, enter-in, enter-give, enter-drop, enter-mask, enter-short, reach-is, win-is, in-fits, in-room, part-room, part-taken}
 use Rattle.mwc_walk.proofs.cursor.Cursor.enter.Goals as goal
 

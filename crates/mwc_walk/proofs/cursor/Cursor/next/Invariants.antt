@@ -1,6 +1,6 @@
 use Rattle.council_game.specs.Game.{votes_of}
 use Rattle.std.proofs.Common.{◌≡◌, ◌≤◌}
-use Rattle.mwc_walk.specs.Cursor.{CursorIs, left, steps_left}
+use Rattle.mwc_walk.specs.Inner.Cursor.{CursorIs, left, steps_left}
 use Rattle.mwc_walk.proofs.cursor.Cursor.next.Given as goal
 
 abbrev pub invariant-steps : goal.invariant-steps

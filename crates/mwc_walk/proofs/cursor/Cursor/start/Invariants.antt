@@ -2,7 +2,7 @@ use Rattle.council_game.specs.Game.{votes_of}
 use Rattle.std.proofs.Common.{◌≡◌, ℕ, ◌<◌, ◌≤◌, ◌/◌, ◌^◌, ◌-◌, length, take, get_or}
 use Rattle.mwc_walk.specs.declared.lane.Lane.{Lane}
 use Rattle.council_game.specs.Votes.{rule_at}
-use Rattle.mwc_walk.specs.Places.{LaneIs, LanesAre}
+use Rattle.mwc_walk.specs.Inner.Places.{LaneIs, LanesAre}
 use Rattle.mwc_walk.proofs.cursor.Cursor.start.Given as goal
 
 abbrev pub invariant-loop-rule : goal.invariant-loop-rule

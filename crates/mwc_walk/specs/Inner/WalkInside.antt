@@ -3,7 +3,7 @@ use Rattle.std.specs.Prelude.{◌≡◌, true}
 use Rattle.council_game.specs.Game.{votes_of}
 use Rattle.mwc_walk.specs.declared.walk.Walk.TheInside.{Inside}
 use Rattle.mwc_walk.specs.WalkView.{WalkView}
-use Rattle.mwc_walk.specs.Cursor.{CursorIs, left}
+use Rattle.mwc_walk.specs.Inner.Cursor.{CursorIs, left}
 
 abbrev pub walk_view : Inside → WalkView
 walk_view w = record { votes = votes_of w.game.now; bits = w.cursor.bits; number = w.cursor.number; to_come = left (votes_of w.game.now) w.cursor; visits = w.cursor.visits }

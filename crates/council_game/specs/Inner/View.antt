@@ -4,7 +4,7 @@ use Rattle.council_game.specs.declared.game.Game.TheInside.{Inside}
 use Rattle.council_game.specs.Ranks.{members_by_rank}
 use Rattle.council_game.specs.Game.{GameView, IsGame, votes_of, total}
 use Rattle.council_game.specs.Rules.{rule_views}
-use Rattle.council_game.specs.Parts.{game_of_parts}
+use Rattle.council_game.specs.Inner.Parts.{game_of_parts}
 
 abbrev pub game_view : Inside → GameView
 game_view g = game_of_parts g.title g.names.items g.rules.items g.ranks.items

@@ -4,13 +4,14 @@ use Rattle.std.specs.List.{AllWithin}
 use Rattle.mwc_parts.specs.Slicing.{Slicing}
 use Rattle.mwc_parts.specs.Parts.{IsPart}
 use Rattle.mwc_parts.specs.Wording.{total}
-use Rattle.mwc_parts.specs.Fault.{nothing, also, IsEarly}
+use Rattle.mwc_parts.specs.Fault.{nothing, also}
+use Rattle.mwc_parts.specs.Inner.Fault.{IsEarly}
 use Rattle.mwc_parts.specs.declared.part.Part.{Part}
 use Rattle.mwc_parts.specs.declared.met.Met.{Met}
 use Rattle.mwc_parts.specs.declared.fault.GatherFault.{GatherFault}
 use Rattle.mwc_parts.specs.declared.fault.GatherFault.TheVariants.{TooMany, Start, Memory}
-use Rattle.mwc_parts.specs.Dealing.{Seat, IsWell, IsFresh, Dealing, FirstDeals}
-use Rattle.mwc_gather.specs.Orders.{slicing_of}
+use Rattle.mwc_parts.specs.Inner.Dealing.{Seat, IsWell, IsFresh, Dealing, FirstDeals}
+use Rattle.mwc_gather.specs.Inner.Orders.{slicing_of}
 use Rattle.mwc_gather.specs.declared.desk.Desk.{Desk}
 
 -- the worker was given this game and this limit

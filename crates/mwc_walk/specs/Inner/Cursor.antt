@@ -6,7 +6,7 @@ use Rattle.mwc_walk.specs.declared.cursor.Cursor.{Cursor}
 use Rattle.mwc_walk.specs.declared.step.Step.{Step}
 use Rattle.mwc_walk.specs.declared.step.Step.TheVariants.{On, Give, End}
 use Rattle.mwc_walk.specs.Slices.{slice}
-use Rattle.mwc_walk.specs.Places.{left_below, reaches, wins_at, LanesAre}
+use Rattle.mwc_walk.specs.Inner.Places.{left_below, reaches, wins_at, LanesAre}
 
 -- the numbers below this one are still to be looked at
 abbrev pub bound : Cursor → ℕ

@@ -1,0 +1,5 @@
+-- What only proofs, private functions and invariants need: no public contract mentions it.
+pub mod Standings
+pub mod Parts
+pub mod View
+pub mod Weighing

@@ -1,0 +1,23 @@
+-- What gathering answers: what only proofs and private functions need.
+use Rattle.std.specs.Prelude.{◌≡◌, ℕ, ◌<◌, ◌≤◌, ◌^◌, List, [], ◌∷◌, length, All, slice_index_or}
+use Rattle.std.specs.List.{flat_map, range_with_len}
+use Rattle.council_game.specs.Votes.{Votes, minimal_coalitions}
+use Rattle.mwc_walk.specs.Slices.{slice}
+use Rattle.mwc_parts.specs.Slicing.{Slicing}
+use Rattle.mwc_parts.specs.Wording.{total}
+use Rattle.mwc_parts.specs.Deals.{AscendsFrom}
+use Rattle.mwc_parts.specs.Inner.Deals.{Dealt}
+use Rattle.mwc_parts.specs.Parts.{IsPart, HasPieces, EachOnce, NoOther, shares}
+use Rattle.mwc_parts.specs.declared.part.Part.{Part}
+use Rattle.mwc_parts.specs.declared.gathered.Gathered.{Gathered}
+
+-- how many coalitions all slices have
+abbrev pub all_total : Slicing → ℕ
+all_total g = total g (range_with_len 0 g.slices)
+
+-- the parts of all workers: all slices are dealt to them, each has the coalitions of its slices, and worker w begins with slice w
+pub record Complete (g : Slicing) (workers : ℕ) (parts : List Part) : Type 0 where
+  pub a_part_each : length parts ≡ workers
+  pub dealt : Dealt g.slices (shares parts)
+  pub are_parts : All (IsPart g) parts
+  pub begins : (w : ℕ) → w < workers → w < g.slices → (rest : List ℕ) × (slice_index_or (shares parts) w [] ≡ w ∷ rest)

@@ -1,0 +1,21 @@
+-- Which fault is answered: what only proofs and private functions need.
+use Rattle.std.specs.Prelude.{◌≡◌, ◌⊎◌, true, false, List, [], ◌∷◌, Option, Some, None, Result, Ok, Err, if◌then◌else◌}
+use Rattle.mwc_parts.specs.declared.fault.GatherFault.{GatherFault}
+use Rattle.mwc_parts.specs.declared.fault.GatherFault.TheVariants.{TooMany, Start, Memory, Ring}
+use Rattle.mwc_parts.specs.declared.met.Met.{Met}
+use Rattle.mwc_parts.specs.Fault.{also}
+
+-- what was met, and after it what each of these was answered, of which some are no fault
+abbrev pub noted : Met → List (Option GatherFault) → Met
+noted met [] = met
+noted met (None ∷ whys) = noted met whys
+noted met (Some why ∷ whys) = noted (also met why) whys
+
+-- the fault of an answer
+abbrev pub fault_in : {A : Type 0} → Result A GatherFault → Option GatherFault
+fault_in (Ok x) = None
+fault_in (Err why) = Some why
+
+-- a fault that keeps a worker from its start
+abbrev pub IsEarly : GatherFault → Type 0
+IsEarly why = (why ≡ Start) ⊎ (why ≡ Memory)

@@ -1,0 +1,5 @@
+-- What only proofs, private functions and invariants need: no public contract mentions it.
+pub mod Lanes
+pub mod Places
+pub mod Cursor
+pub mod WalkInside
