@@ -1,6 +1,7 @@
 //! The words of the command line.
 use crate::Options;
 use clap::{Arg, ArgAction, ArgMatches, Command, Error, value_parser};
+use council_run::limits;
 use std::alloc::Global;
 
 /// Why a command line was refused.
@@ -84,7 +85,7 @@ fn flag<'a>(alloc: Global, name: &'a str, help: &'a str) -> Arg<'a> {
 
 fn numbers<'a>(alloc: Global, command: Command<'a>) -> Result<Command<'a>, Error> {
     let workers = number_option(alloc, "workers", "N", "4", "Worker threads, 1 to 16").value_parser(
-        value_parser!(u8).range(1..=16),
+        value_parser!(u8).range(1..=i64::from(limits::WORKERS)),
     );
     let bits = number_option(
         alloc,
@@ -93,7 +94,7 @@ fn numbers<'a>(alloc: Global, command: Command<'a>) -> Result<Command<'a>, Error
         "6",
         "How many of the heaviest members are fixed in each slice, 0 to 10",
     )
-    .value_parser(value_parser!(u8).range(0..=10));
+    .value_parser(value_parser!(u8).range(0..=i64::from(limits::BITS)));
     let most = number_option(
         alloc,
         "most",
@@ -101,7 +102,7 @@ fn numbers<'a>(alloc: Global, command: Command<'a>) -> Result<Command<'a>, Error
         "1000000",
         "The greatest number of coalitions, 1 to 4000000",
     )
-    .value_parser(value_parser!(u32).range(1..=4_000_000));
+    .value_parser(value_parser!(u32).range(1..=i64::from(limits::COALITIONS)));
     Ok(command.arg(workers)?.arg(bits)?.arg(most)?)
 }
 
@@ -133,7 +134,9 @@ fn options_of(matches: &ArgMatches<'_>) -> Option<Options> {
     let workers = matches.get_one::<u8>("workers")?;
     let bits = matches.get_one::<u8>("bits")?;
     let most = matches.get_one::<u32>("most")?;
-    if workers < 1 || 16 < workers || 10 < bits || most < 1 || 4_000_000 < most {
+    let few_workers = 1 <= workers && workers <= limits::WORKERS;
+    let few_coalitions = 1 <= most && most <= limits::COALITIONS;
+    if !few_workers || limits::BITS < bits || !few_coalitions {
         return None;
     }
     Some(Options {

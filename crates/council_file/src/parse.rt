@@ -11,7 +11,7 @@ use crate::parts::{
     title_of,
 };
 use crate::tree::tree_of;
-use council_game::{Game, GameFault};
+use council_game::{Game, GameFault, limits};
 use std::alloc::{AllocError, Global};
 use toml::Table;
 
@@ -58,7 +58,7 @@ pub fn parse_game(alloc: Global, bytes: &[u8]) -> Result<Game, GameFault>
     ensures game { Answers result (game_of bytes.now) }
     ensures no_read { IfErr result (λ fault. fault ≢ Read) }
 {
-    if 65_536 < bytes.len() {
+    if limits::FILE_BYTES < bytes.len() {
         return Err(GameFault::TooLong);
     }
     if is_bracket(bytes) {

@@ -9,7 +9,7 @@ ghost use Rattle.council_game.specs.Rules.{rule_view, rule_views};
 
 use crate::keys::{any_odd_member, has_other_top_key};
 use crate::tree::{elements_at, elements_of, has, some_has, value_at};
-use council_game::{GameFault, Rule, is_title};
+use council_game::{GameFault, Rule, is_title, limits};
 use std::alloc::{AllocError, Global};
 use toml::{Table, Value};
 
@@ -62,7 +62,7 @@ fn all_integers(values: &[Value]) -> bool
 fn are_quotas(values: &[Value]) -> bool
     ensures { result ≡ are_quotas (map view values.now) }
 {
-    1 <= values.len() && values.len() <= 4 && all_integers(values)
+    1 <= values.len() && values.len() <= limits::RULES && all_integers(values)
 }
 
 fn is_table(value: &Value) -> bool
@@ -81,7 +81,7 @@ fn all_tables(values: &[Value]) -> bool
 pub(crate) fn are_members(values: &[Value]) -> bool
     ensures { result ≡ are_members (map view values.now) }
 {
-    1 <= values.len() && values.len() <= 40 && all_tables(values)
+    1 <= values.len() && values.len() <= limits::MEMBERS && all_tables(values)
 }
 
 pub(crate) fn lacks_quota(table: &Table) -> bool

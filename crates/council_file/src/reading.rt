@@ -6,7 +6,7 @@ ghost use Rattle.council_file.specs.Reads.{Gave, FailsSo};
 ghost use Rattle.council_file.specs.Inner.Reads.{GrewBy, IsStop};
 
 use crate::parse_game;
-use council_game::{Game, GameFault};
+use council_game::{Game, GameFault, limits};
 use std::alloc::Global;
 use std::io::Read;
 
@@ -36,8 +36,8 @@ fn read_bytes<R: Read>(alloc: Global, reader: &mut R) -> Result<Vec<u8>, GameFau
     ensures stop { IfErr result IsStop }
 {
     let mut bytes: Vec<u8> = Vec::new(alloc);
-    while bytes.len() <= 65_536 {
-        let room = 65_537 - bytes.len();
+    while bytes.len() <= limits::FILE_BYTES {
+        let room = limits::FILE_BYTES + 1 - bytes.len();
         if read_some(reader, &mut bytes, room)? == 0 {
             return Ok(bytes);
         }

@@ -5,7 +5,7 @@ ghost use Rattle.std.specs.Cmp.Lexicographic.{pointwise};
 ghost use Rattle.council_game.specs.Game.{is_plain, is_title, is_name, is_repeat, check_names, check_repeats, check_weights, is_heavy, has_bad_quota};
 ghost use Rattle.council_game.specs.Rules.{rule_view, rule_views};
 
-use crate::{GameFault, Rule};
+use crate::{GameFault, Rule, limits};
 
 fn is_plain(text: &str) -> bool
     ensures { result ≡ is_plain text.now }
@@ -89,7 +89,7 @@ fn is_over(rule: &Rule, k: usize) -> bool
     ensures { result ≡ nat_lt 1000000000000 (slice_index rule.now.weights.items k) }
 {
     match rule.weights.get(k) {
-        Some(weight) => 1_000_000_000_000 < *weight,
+        Some(weight) => limits::WEIGHT < *weight,
         None => false,
     }
 }

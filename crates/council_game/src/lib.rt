@@ -12,6 +12,7 @@ mod coalition;
 mod fault;
 mod game;
 pub mod laws;
+pub mod limits;
 mod memory;
 mod plain;
 mod ranks;

@@ -4,13 +4,13 @@ ghost use Rattle.council_game.specs.Votes.{IsVotes, weight, has, without, wins, 
 ghost use Rattle.council_game.specs.Rules.{rule_views};
 ghost use Rattle.council_game.specs.Inner.Weighing.{votes, IsWeighed};
 
-use crate::Rule;
+use crate::{Rule, limits};
 
 /// A coalition, and its weight under each rule.
 #[derive(Drop)]
 pub(crate) struct Weighed {
     pub(crate) mask: u64,
-    pub(crate) sums: [u64; 4],
+    pub(crate) sums: [u64; limits::RULES],
 }
 
 /// The weight of a coalition: the last place is the lowest digit.
@@ -35,7 +35,7 @@ fn weigh(rules: &[Rule], members: usize, mask: u64) -> Weighed
     ensures weighed { IsWeighed (rule_views rules.now) result }
     ensures same { result.mask ≡ mask }
 {
-    let mut sums = [0; 4];
+    let mut sums = [0; limits::RULES];
     for r in 0..rules.len() {
         let rule = &rules[r];
         sums[r] = weight_of(&rule.weights, mask);

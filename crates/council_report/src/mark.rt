@@ -2,12 +2,13 @@
 ghost use Rattle.std.specs.Prelude.{◌≡◌, ◌+◌, ◌^◌, ◌<◌, ℕ, length, slice_index};
 
 use crate::seat::Seat;
+use council_game::limits;
 
 /// How long the names of the members before a place are, and what these weigh under each rule.
 #[derive(Clone, Copy)]
 pub(crate) struct Mark {
     pub(crate) length: usize,
-    pub(crate) weights: [u64; 4],
+    pub(crate) weights: [u64; limits::RULES],
 }
 
 impl Mark {
@@ -19,7 +20,7 @@ impl Mark {
     {
         Mark {
             length: 0,
-            weights: [0; 4],
+            weights: [0; limits::RULES],
         }
     }
 
@@ -36,7 +37,7 @@ impl Mark {
             slice_index result.weights r ≡ slice_index self.weights r + slice_index seat.now.weights r }
     {
         let mut weights = self.weights;
-        for rule in 0..4 {
+        for rule in 0..limits::RULES {
             weights[rule] += seat.weights[rule];
         }
         Mark {

@@ -4,7 +4,7 @@ ghost use Rattle.council_game.specs.Game.{IsGame};
 ghost use Rattle.council_report.specs.Inner.Shared.{IsSeat, AreSeats, weights_under};
 
 use crate::text::push_field;
-use council_game::Game;
+use council_game::{Game, limits};
 use std::alloc::{AllocError, Global};
 
 /// What the member of a rank place adds to the line of a coalition.
@@ -13,11 +13,11 @@ pub(crate) struct Seat {
     /// A TAB and its name.
     pub(crate) field: Vec<u8>,
     /// Its weight under each rule, and 0 past the last.
-    pub(crate) weights: [u64; 4],
+    pub(crate) weights: [u64; limits::RULES],
 }
 
 /// The weights of the member of a rank place, one for each rule, and 0 past the last.
-fn weights_at(game: &Game, place: usize) -> [u64; 4]
+fn weights_at(game: &Game, place: usize) -> [u64; limits::RULES]
     requires game { IsGame game.now }
     requires place { place < length game.now.names }
     ensures long { length result ≡ 4 }
@@ -25,7 +25,7 @@ fn weights_at(game: &Game, place: usize) -> [u64; 4]
         slice_index result r ≡ slice_index (weights_under game.now r) place }
 {
     let member = game.member_at(place);
-    let mut weights = [0; 4];
+    let mut weights = [0; limits::RULES];
     for rule in 0..game.rules() {
         weights[rule] = game.rule_weight(rule, member);
     }

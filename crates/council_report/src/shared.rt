@@ -12,7 +12,7 @@ use crate::mark::Mark;
 use crate::places::{first_difference, past_last};
 use crate::seat::{Seat, seats_of};
 use crate::text::{push_number, push_values};
-use council_game::{Coalition, Game};
+use council_game::{Coalition, Game, limits};
 use std::alloc::{AllocError, Global};
 
 /// The bytes that are kept for the names of a line.
@@ -31,7 +31,7 @@ pub(crate) struct SharedLine {
     /// How many places were looked at: no member comes behind.
     pub(crate) end: usize,
     /// How long the names before each place are, and what their members weigh.
-    pub(crate) marks: [Mark; 41],
+    pub(crate) marks: [Mark; limits::SIZES],
 }
 
 impl SharedLine {
@@ -45,7 +45,7 @@ impl SharedLine {
             coalition: Coalition::of_mask(0),
             names: Vec::with_capacity(alloc, ROOM)?,
             end: 0,
-            marks: [Mark::none(); 41],
+            marks: [Mark::none(); limits::SIZES],
         })
     }
 

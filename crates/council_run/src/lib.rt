@@ -14,6 +14,7 @@ mod tallies;
 #[cfg(test)]
 mod tests;
 
+pub use council_game::limits;
 pub use fault::{Cause, RunFault, status};
 pub use mwc_tally::{NoWatch, Watch};
 pub use options::Options;

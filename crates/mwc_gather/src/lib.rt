@@ -2,7 +2,7 @@
 //! demand, and send them through rings.
 //!
 //! ```text
-//! let gathered = gather(rt, alloc, &Guarded::new(&game, &NoGate), 6, 4, 4_000_000)?;
+//! let gathered = gather(rt, alloc, &Guarded::new(&game, &NoGate), 6, 4, limits::COALITIONS)?;
 //! let list = gathered.in_order(alloc)?;
 //! ```
 #![tactic(auto)]

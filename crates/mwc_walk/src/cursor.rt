@@ -7,14 +7,14 @@ ghost use Rattle.mwc_walk.specs.Inner.Cursor.{CursorIs, Steps, Runs, Starts};
 
 use crate::lane::{Lane, all_reach, all_win, all_win_without, leave_out, take_in};
 use crate::step::Step;
-use council_game::{Coalition, Game};
+use council_game::{Coalition, Game, limits};
 
 /// How far the walk over one slice has come: the first `place` places are decided, as the binary
 /// digits of `prefix` say, the heaviest first.
 #[derive(Drop)]
 pub(crate) struct Cursor {
     /// A lane for each rule, and copies past the last.
-    pub(crate) lanes: [Lane; 4],
+    pub(crate) lanes: [Lane; limits::RULES],
     pub(crate) rules: usize,
     pub(crate) members: usize,
     /// How many places are fixed: the walk goes back no further.
@@ -39,7 +39,7 @@ impl Cursor {
         let members = game.members();
         let rules = game.rules();
         let bits = bits as usize;
-        let mut lanes = [Lane::new(game, 0); 4];
+        let mut lanes = [Lane::new(game, 0); limits::RULES];
         for rule in 0..rules {
             lanes[rule] = Lane::new(game, rule);
         }

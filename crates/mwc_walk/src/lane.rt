@@ -7,7 +7,7 @@ ghost use Rattle.council_game.specs.Votes.{rule_at};
 ghost use Rattle.mwc_walk.specs.Inner.Places.{LaneIs};
 ghost use Rattle.mwc_walk.specs.Inner.Lanes.{lane_reaches, lane_wins, lane_wins_without, lane_with, lane_without};
 
-use council_game::Game;
+use council_game::{Game, limits};
 
 /// What the walk knows of one rule.
 #[derive(Clone, Copy)]
@@ -16,9 +16,9 @@ pub(crate) struct Lane {
     /// The weight of the members that are in.
     pub(crate) sum: u64,
     /// The weights, in rank order.
-    pub(crate) weights: [u64; 40],
+    pub(crate) weights: [u64; limits::MEMBERS],
     /// What the places from each one on weigh together.
-    pub(crate) rest: [u64; 41],
+    pub(crate) rest: [u64; limits::SIZES],
 }
 
 impl Lane {
@@ -62,14 +62,14 @@ impl Lane {
 }
 
 /// The weights of a rule, in rank order.
-fn weights_of(game: &Game, rule: usize) -> [u64; 40]
+fn weights_of(game: &Game, rule: usize) -> [u64; limits::MEMBERS]
     requires { rule < length game.now.rules }
     ensures long { length result ≡ 40 }
     ensures same { (q : ℕ) → q < (votes_of game.now).members →
         slice_index result q ≡ slice_index (rule_at (votes_of game.now).rules rule).weights q }
 {
     let members = game.members();
-    let mut weights = [0; 40];
+    let mut weights = [0; limits::MEMBERS];
     for place in 0..members {
         weights[place] = game.rule_weight(rule, game.member_at(place));
     }
@@ -77,12 +77,12 @@ fn weights_of(game: &Game, rule: usize) -> [u64; 40]
 }
 
 /// What the places from each one on weigh together.
-fn rest_of(weights: &[u64; 40], members: usize) -> [u64; 41]
+fn rest_of(weights: &[u64; limits::MEMBERS], members: usize) -> [u64; limits::SIZES]
     requires members { members ≤ 40 }
     requires fits { sum (take members weights.now) < 2 ^ 64 }
     ensures { (q : ℕ) → q ≤ members → slice_index result q ≡ sum (drop q (take members weights.now)) }
 {
-    let mut rest = [0; 41];
+    let mut rest = [0; limits::SIZES];
     for place in (0..members).rev() {
         rest[place] = weights[place] + rest[place + 1];
     }

@@ -3,11 +3,13 @@ ghost use Rattle.power_index.specs.Tables.{tally_total};
 ghost use Rattle.power_index.specs.Inner.Tables.{IsJoined, with_one};
 ghost use Rattle.std.specs.Prelude.{◌≡◌, ℕ, ◌+◌, ◌<◌, ◌≤◌, ◌^◌, length, slice_index};
 
+use council_game::limits;
+
 /// How many coalitions of each size from 0 to 40 were counted. How many there are in all is added up
 /// where it is asked for.
 #[derive(Clone, Copy)]
 pub struct Tally {
-    pub sizes: [u64; 41],
+    pub sizes: [u64; limits::SIZES],
 }
 
 impl Tally {
@@ -16,7 +18,9 @@ impl Tally {
         ensures long { length result.sizes ≡ 41 }
         ensures sizes { (s : ℕ) → slice_index result.sizes s ≡ 0 }
     {
-        Tally { sizes: [0; 41] }
+        Tally {
+            sizes: [0; limits::SIZES],
+        }
     }
 
     /// Counts one more coalition, of this size.
@@ -34,7 +38,7 @@ impl Tally {
             slice_index self.old.sizes s + slice_index other.now.sizes s < 2 ^ 64 }
         ensures { IsJoined self.old other.now self.new }
     {
-        for size in 0..41 {
+        for size in 0..limits::SIZES {
             self.sizes[size] += other.sizes[size];
         }
     }

@@ -9,7 +9,7 @@ ghost use Rattle.power_index.specs.Inner.Tables.{with_one};
 ghost use Rattle.std.specs.Prelude.{◌≡◌, ℕ, ◌+◌, ◌*◌, ◌<◌, ◌≤◌, ◌^◌, cond, List, [], ◌∷◌, ◌++◌, length, slice_index, slice_index_or, All};
 
 use crate::tally::Tally;
-use council_game::{Coalition, Game};
+use council_game::{Coalition, Game, limits};
 use std::marker::Model;
 
 /// The counts of a list of coalitions of a game, none of them empty: how many there are, how many
@@ -22,11 +22,11 @@ use std::marker::Model;
 pub struct WideCounts {
     members: usize,
     /// The rank place of each member, in file order.
-    ranks: [usize; 40],
+    ranks: [usize; limits::MEMBERS],
     /// The tally of all coalitions.
     all: Tally,
     /// The tallies of the coalitions that contain each member, by rank place.
-    each: [Tally; 40],
+    each: [Tally; limits::MEMBERS],
 }
 
 impl Model for WideCounts {
@@ -51,7 +51,12 @@ impl Model for WideCounts {
 }
 
 /// Counts a coalition at each place that is in it: one step for each binary digit 1 of its mask.
-fn add_to_places(members: usize, coalition: Coalition, size: usize, by_place: &mut [Tally; 40])
+fn add_to_places(
+    members: usize,
+    coalition: Coalition,
+    size: usize,
+    by_place: &mut [Tally; limits::MEMBERS],
+)
     requires few { members ≤ 40 }
     requires below { coalition < 2 ^ members }
     requires size { size ≤ 40 }
@@ -71,7 +76,11 @@ fn add_to_places(members: usize, coalition: Coalition, size: usize, by_place: &m
 }
 
 /// Adds the numbers of other tallies, place by place.
-fn join_places(members: usize, by_place: &mut [Tally; 40], other: &[Tally; 40])
+fn join_places(
+    members: usize,
+    by_place: &mut [Tally; limits::MEMBERS],
+    other: &[Tally; limits::MEMBERS],
+)
     requires few { members ≤ 40 }
     requires room { (p s : ℕ) → p < members → s ≤ 40 →
         slice_index (slice_index_or by_place.old p no_tally).sizes s +
@@ -92,7 +101,7 @@ impl WideCounts {
         ensures counts { AreCounts game.now [] result }
     {
         let members = game.members();
-        let mut ranks = [0; 40];
+        let mut ranks = [0; limits::MEMBERS];
         for i in 0..members {
             ranks[i] = game.place_of(i);
         }
@@ -101,7 +110,7 @@ impl WideCounts {
             members,
             ranks,
             all: none,
-            each: [none; 40],
+            each: [none; limits::MEMBERS],
         }
     }
 

@@ -8,7 +8,7 @@ ghost use Rattle.power_index.specs.Indices.{deegan_packel, public_good};
 ghost use Rattle.std.specs.Prelude.{◌≡◌, ◌<◌, IfOk, IfSome, Ok, length, map};
 
 use council_file::parse_game;
-use council_game::{Game, GameFault, Memory};
+use council_game::{Game, GameFault, Memory, limits};
 use mwc_walk::list_all;
 use power_index::laws::{
     deegan_packel_adds_up, minimal_coalitions_can_be_counted, public_good_adds_up,
@@ -32,7 +32,7 @@ pub fn both_indices(
     ensures second { IfOk result (λ o. IfSome o (λ p.
         p.1 ≡ lowest_terms (public_good game.now (minimal_coalitions (votes_of game.now)) member))) }
 {
-    let Some(list) = list_all(alloc, game, 4_000_000)? else {
+    let Some(list) = list_all(alloc, game, limits::COALITIONS)? else {
         return Ok(None);
     };
     let counts = Counts::of(game, &list);

@@ -5,7 +5,7 @@ ghost use Rattle.power_index.specs.Counting.{contains, count_of_member};
 ghost use Rattle.std.specs.List.{filter};
 ghost use Rattle.std.specs.Prelude.{◌≡◌, ◌==◌, ◌<◌, ◌≤◌, IfOk, IfSome, length};
 
-use council_game::{Coalition, Game, Memory, plain_list};
+use council_game::{Coalition, Game, Memory, limits, plain_list};
 use mwc_walk::list_all;
 use power_index::Counts;
 use std::alloc::Global;
@@ -21,7 +21,7 @@ pub fn is_dummy(alloc: Global, game: &Game, member: usize) -> Result<Option<bool
     ensures { IfOk result (λ o. IfSome o (λ dummy. dummy ≡
         (count_of_member game.now member (minimal_coalitions (votes_of game.now)) == 0))) }
 {
-    let Some(list) = list_all(alloc, game, 4_000_000)? else {
+    let Some(list) = list_all(alloc, game, limits::COALITIONS)? else {
         return Ok(None);
     };
     let counts = Counts::of(game, &list);
@@ -66,7 +66,7 @@ pub fn listed_twice(
     requires { length game.now.names ≤ 20 }
     ensures { IfOk result (λ o. IfSome o (λ p. p.0.items ≡ p.1.items)) }
 {
-    let Some(list) = list_all(alloc, game, 4_000_000)? else {
+    let Some(list) = list_all(alloc, game, limits::COALITIONS)? else {
         return Ok(None);
     };
     Ok(Some((list, plain_list(alloc, game)?)))

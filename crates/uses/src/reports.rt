@@ -2,7 +2,7 @@
 ghost use Rattle.council_report.specs.Report.{report};
 ghost use Rattle.std.specs.Prelude.{◌≡◌, IfOk, IfSome};
 
-use council_game::Game;
+use council_game::{Game, limits};
 use council_report::{ReportFault, Shown, write_report};
 use mwc_walk::list_all;
 use std::alloc::Global;
@@ -19,7 +19,7 @@ pub fn report_into_memory(
 ) -> Result<Option<Vec<u8>>, ReportFault>
     ensures { IfOk result (λ o. IfSome o (λ v. v.items ≡ report shown game.now)) }
 {
-    let Some(list) = list_all(alloc, game, 4_000_000)? else {
+    let Some(list) = list_all(alloc, game, limits::COALITIONS)? else {
         return Ok(None);
     };
     let mut bytes = Vec::new(alloc);
