@@ -1,33 +1,16 @@
 -- The tests of a game, place by place and rule by rule.
-use Rattle.std.proofs.Common.{◌≡◌, ℕ, zero, suc, ◌+◌, ◌-◌, ◌*◌, ◌/◌, ◌%◌, ◌^◌, ◌<◌, ◌≤◌, true, false, not, ◌||◌, leb, List, [], ◌∷◌, length, take, drop, get_or, sum, refl, sym, ap, subst, ◌∙◌, arith, inl, inr}
+use Rattle.std.proofs.Common.{◌≡◌, ℕ, zero, suc, ◌+◌, ◌-◌, ◌*◌, ◌/◌, ◌%◌, ◌^◌, ◌<◌, ◌≤◌, true, false, leb, List, [], ◌∷◌, length, take, drop, get_or, sum, refl, sym, ap, subst, ◌∙◌, arith}
 use Rattle.std.proofs.lemmas.List.Elements.{All-from_recursion}
 use Rattle.std.proofs.lemmas.List.Sums.{sum_by-take-drop, sum_by-drop_more}
 use Rattle.std.proofs.lemmas.Nat.{shr-shr}
-use Rattle.std.proofs.lemmas.Bool.{cases_lt, or_cases, both_ways, not-true, and_parts, and_from, and_left, and_right, le-leb, lt-leb, eqb-true, or_left, or_right, not_from_false, false_from_ne_true}
-use Rattle.council_game.specs.Votes.{RuleView, Votes, IsRule, IsVotes, rule_at, has, without, weight, wins, each_needed, minimal}
+use Rattle.std.proofs.lemmas.Bool.{both_ways, and_parts, and_from, and_left, and_right, le-leb, lt-leb, eqb-true, false_from_ne_true}
+use Rattle.council_game.specs.Votes.{RuleView, Votes, IsRule, IsVotes, rule_at, has, without, weight, wins, minimal}
 use Rattle.std.proofs.lemmas.List.{length-map, get_or-map, take_all}
 use Rattle.council_game.specs.declared.rule.Rule.{Rule}
 use Rattle.council_game.specs.Rules.{rule_view, rule_views}
 use Rattle.council_game.specs.Inner.Weighing.{votes}
+use Rattle.council_game.proofs.Meanings.{needs-each-member}
 use Rattle.council_game.proofs.Weights.{weight-more, weight-le, weight-without}
-
--- a needed place: without it the set loses
-pub needed-at : (v : Votes) (c k q : ℕ) → each_needed v c k ≡ true → q < k → has v.members q c ≡ true → wins v.rules (without v.members q c) ≡ true → ⊥
-unfolding each_needed
-needed-at v c zero q h below inside win = omega arith
-needed-at v c (suc k) q h below inside win =
-    let parts = and_parts (not (has v.members k c) || not (wins v.rules (without v.members k c))) (each_needed v c k) h in
-    elim (cases_lt q k) [
-      | inl less ↦ needed-at v c k q parts.1 less inside win
-      | inr more ↦
-          let e : k ≡ q = omega arith in
-          let here : (not (has v.members q c) || not (wins v.rules (without v.members q c))) ≡ true =
-          subst (λ (i : ℕ). (not (has v.members i c) || not (wins v.rules (without v.members i c))) ≡ true) e parts.0 in
-          elim (or_cases _ _ here) [
-            | inl a ↦ both_ways _ (not-true _ a) inside
-            | inr b ↦ both_ways _ (not-true _ b) win
-          ]
-    ]
 
 -- the digits above a place, and above the next
 pub fixed-half : (x k p : ℕ) → p < k → x / 2 ^ (k - p) ≡ x / 2 ^ (k - (p + 1)) / 2
@@ -87,27 +70,12 @@ wins-next (r ∷ rs) (suc i) c below won more =
     and_from (leb r.quota (weight r.weights c)) (wins (take (suc i) rs) c) parts.0 (wins-next rs i c (omega arith) parts.1 more)
 
 pub not-minimal : (v : Votes) (c p : ℕ) → p < v.members → has v.members p c ≡ true → wins v.rules (without v.members p c) ≡ true → minimal v c ≡ false
-unfolding minimal
 not-minimal v c p below inside won =
-    false_from_ne_true _ (λ min.
-    let parts = and_parts (wins v.rules c) (each_needed v c v.members) min in
-    needed-at v c v.members p parts.1 below inside won)
+    false_from_ne_true _ (λ min. both_ways _ (((needs-each-member v c).0 min).1 p below inside) won)
 
-pub needed-out : (v : Votes) (c p : ℕ) → each_needed v c p ≡ true → has v.members p c ≡ false → each_needed v c (p + 1) ≡ true
-unfolding each_needed
-needed-out v c p needed out =
-    let suc_is : p + 1 ≡ suc p = omega arith in
-    ap (each_needed v c) suc_is ∙ and_from _ _ (or_left _ _ (not_from_false _ out)) needed
-
-pub needed-lost : (v : Votes) (c p : ℕ) → each_needed v c p ≡ true → wins v.rules (without v.members p c) ≡ false → each_needed v c (p + 1) ≡ true
-unfolding each_needed
-needed-lost v c p needed lost =
-    let suc_is : p + 1 ≡ suc p = omega arith in
-    ap (each_needed v c) suc_is ∙ and_from _ _ (or_right (not (has v.members p c)) _ (not_from_false _ lost)) needed
-
-pub is-minimal : (v : Votes) (c p : ℕ) → p ≡ v.members → wins v.rules c ≡ true → each_needed v c p ≡ true → true ≡ minimal v c
-unfolding minimal
-is-minimal v c p e won needed = sym (and_from _ _ won (ap (each_needed v c) (sym e) ∙ needed))
+pub is-minimal : (v : Votes) (c p : ℕ) → v.members ≤ p → wins v.rules c ≡ true
+    → ((q : ℕ) → q < p → has v.members q c ≡ true → wins v.rules (without v.members q c) ≡ false) → true ≡ minimal v c
+is-minimal v c p le won needed = sym ((needs-each-member v c).1 (won, λ q below inside. needed q (omega arith) inside))
 
 pub lost-not_minimal : (v : Votes) (c : ℕ) → wins v.rules c ≡ false → false ≡ minimal v c
 unfolding minimal

@@ -6,9 +6,11 @@ pub mod Order
 pub mod Sorting
 pub mod Games
 pub mod Making
+pub mod WeightByDigits
 pub mod Weights
-pub mod GameTests
+pub mod Places
 pub mod Meanings
+pub mod GameTests
 pub mod Monotone
 pub mod Subsets
 pub mod Listing

@@ -11,13 +11,13 @@ use Rattle.std.proofs.lemmas.List.Filters.{length-filter_both}
 use Rattle.std.proofs.lemmas.Bool.{and_parts, and_from, le-leb, leb-true, cases_Bool, cases_eq, both_ways, cond-true, cond-false}
 use Rattle.council_game.specs.Votes.{RuleView, Votes, IsRule, IsVotes, weight, wins, minimal, down, minimal_below, minimal_coalitions}
 use Rattle.council_game.specs.Laws.{IsListing}
+use Rattle.council_game.proofs.WeightByDigits.{weight-nil, weight-cons}
 use Rattle.council_game.proofs.Weights.{weight-skip, weight-zero}
 use Rattle.council_game.proofs.Monotone.{minimal-below_winning}
 
 -- all members together weigh all
 weight-full : (ws : List ℕ) → weight ws (2 ^ length ws - 1) ≡ sum ws
-unfolding weight
-weight-full [] = refl
+weight-full [] = weight-nil _
 weight-full (w ∷ vs) =
     let double : 2 ^ suc (length vs) ≡ 2 ^ length vs * 2 = pow-suc 2 (length vs) in
     let pos : 0 < 2 ^ length vs = pow_pos (length vs) in
@@ -26,7 +26,7 @@ weight-full (w ∷ vs) =
     let digit : (2 ^ suc (length vs) - 1) / 2 ^ length vs % 2 ≡ 1 = ap (λ (i : ℕ). i % 2) top in
     let rest : weight vs (2 ^ suc (length vs) - 1) ≡ sum vs = ap (weight vs) e ∙ weight-skip vs 1 (2 ^ length vs - 1) ∙ weight-full vs in
     let s : sum (w ∷ vs) ≡ w + sum vs = sum_by-cons (λ (y : ℕ). y) w vs in
-    rw (digit) (omega (arith, rest, s))
+    rw (weight-cons w vs (2 ^ suc (length vs) - 1), digit) (omega (arith, rest, s))
 
 wins-full : (n : ℕ) (rs : List RuleView) → AllByRecursion (IsRule n) rs → wins rs (2 ^ n - 1) ≡ true
 unfolding wins

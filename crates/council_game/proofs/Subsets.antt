@@ -4,12 +4,13 @@ use Rattle.std.specs.List.{AllByRecursion}
 use Rattle.std.proofs.lemmas.Nat.{mul-le, shr-shr}
 use Rattle.std.proofs.lemmas.Nat.Bits.{bit_at-lt}
 use Rattle.std.proofs.Math.Nat.{pow-suc}
-use Rattle.std.proofs.lemmas.Bool.{and_parts, and_from, le-leb, leb-true, eqb-true, eq-eqb, cases_eq, false_from_ne_true}
-use Rattle.council_game.specs.Votes.{RuleView, Votes, IsRule, IsVotes, has, without, weight, wins, each_needed, minimal}
+use Rattle.std.proofs.lemmas.Bool.{and_parts, and_from, le-leb, leb-true, eqb-true, eq-eqb, cases_eq, false_from_ne_true, both_ways}
+use Rattle.council_game.specs.Votes.{RuleView, Votes, IsRule, IsVotes, has, without, weight, wins}
 use Rattle.council_game.specs.Laws.{ProperSubsetsLose}
+use Rattle.council_game.proofs.WeightByDigits.{weight-cons}
 use Rattle.council_game.proofs.Weights.{weight-without}
 use Rattle.council_game.proofs.Monotone.{weight-mono}
-use Rattle.council_game.proofs.GameTests.{needed-at}
+use Rattle.council_game.proofs.Meanings.{needs-each-member}
 
 -- a digit where two numbers differ
 differ : (n a c : ℕ) → a < 2 ^ n → c < 2 ^ n → ((i : ℕ) → i < n → a / 2 ^ i % 2 ≤ c / 2 ^ i % 2) → a ≢ c → (i : ℕ) × (i < n) × (a / 2 ^ i % 2 ≡ 0) × (c / 2 ^ i % 2 ≡ 1)
@@ -37,21 +38,20 @@ differ (suc n) a c la lc sub ne =
 
 -- a set that lacks a place of c, and has no place besides, weighs less by that place
 weight-less : (ws : List ℕ) (a c q : ℕ) → q < length ws → ((i : ℕ) → i < length ws → a / 2 ^ i % 2 ≤ c / 2 ^ i % 2) → a / 2 ^ (length ws - 1 - q) % 2 ≡ 0 → c / 2 ^ (length ws - 1 - q) % 2 ≡ 1 → weight ws a + get_or ws q 0 ≤ weight ws c
-unfolding weight
 weight-less [] a c q below sub out inside = absurd (omega arith)
 weight-less (w ∷ vs) a c zero below sub out inside =
     let place : suc (length vs) - 1 - 0 ≡ length vs = omega arith in
     let out2 : a / 2 ^ length vs % 2 ≡ 0 = ap (λ (i : ℕ). a / 2 ^ i % 2) (sym place) ∙ out in
     let inside2 : c / 2 ^ length vs % 2 ≡ 1 = ap (λ (i : ℕ). c / 2 ^ i % 2) (sym place) ∙ inside in
     let rest = weight-mono vs a c (λ i lt. sub i (omega arith)) in
-    rw (out2, inside2) (omega (arith, rest))
+    rw (weight-cons w vs a, weight-cons w vs c, out2, inside2) (omega (arith, rest))
 weight-less (w ∷ vs) a c (suc q) below sub out inside =
     let place : suc (length vs) - 1 - suc q ≡ length vs - 1 - q = omega arith in
     let out2 : a / 2 ^ (length vs - 1 - q) % 2 ≡ 0 = ap (λ (i : ℕ). a / 2 ^ i % 2) (sym place) ∙ out in
     let inside2 : c / 2 ^ (length vs - 1 - q) % 2 ≡ 1 = ap (λ (i : ℕ). c / 2 ^ i % 2) (sym place) ∙ inside in
     let rest = weight-less vs a c q (omega arith) (λ i lt. sub i (omega arith)) out2 inside2 in
     let head : a / 2 ^ length vs % 2 * w ≤ c / 2 ^ length vs % 2 * w = mul-le (a / 2 ^ length vs % 2) w (c / 2 ^ length vs % 2) w (sub (length vs) (omega arith)) (omega arith) in
-    omega (arith, rest, head)
+    omega (arith, rest, head, weight-cons w vs a, weight-cons w vs c)
 
 -- where such a set wins, c still wins without the place
 wins-less : (n a c q : ℕ) (rs : List RuleView) → AllByRecursion (IsRule n) rs → q < n → ((i : ℕ) → i < n → a / 2 ^ i % 2 ≤ c / 2 ^ i % 2) → a / 2 ^ (n - 1 - q) % 2 ≡ 0 → c / 2 ^ (n - 1 - q) % 2 ≡ 1 → wins rs a ≡ true → wins rs (without n q c) ≡ true
@@ -71,7 +71,7 @@ wins-less n a c q (r ∷ rs) all below sub out inside h =
     (wins-less n a c q rs all.1 below sub out inside parts.1)
 
 pub subsets-lose : (v : Votes) → IsVotes v → ProperSubsetsLose v
-unfolding minimal has
+unfolding has
 subsets-lose v game a c la lc min sub =
     false_from_ne_true (wins v.rules a) (λ (won : wins v.rules a ≡ true).
     let digits : (i : ℕ) → i < v.members → a / 2 ^ i % 2 ≤ c / 2 ^ i % 2 =
@@ -95,5 +95,5 @@ subsets-lose v game a c la lc min sub =
     let inside : c / 2 ^ (v.members - 1 - (v.members - 1 - found.0)) % 2 ≡ 1 = ap (λ (k : ℕ). c / 2 ^ k % 2) place ∙ found.3 in
     let below : v.members - 1 - found.0 < v.members = omega (arith, found.1) in
     let still = wins-less v.members a c (v.members - 1 - found.0) v.rules game.4 below digits out inside won in
-    let parts = and_parts (wins v.rules c) (each_needed v c v.members) min in
-    needed-at v c v.members (v.members - 1 - found.0) parts.1 below (eq-eqb (c / 2 ^ (v.members - 1 - (v.members - 1 - found.0)) % 2) 1 inside) still)
+    let lost = ((needs-each-member v c).0 min).1 (v.members - 1 - found.0) below (eq-eqb (c / 2 ^ (v.members - 1 - (v.members - 1 - found.0)) % 2) 1 inside) in
+    both_ways _ lost still)

@@ -6,46 +6,43 @@ use Rattle.std.proofs.lemmas.List.{length-append, take-append-drop, length-drop,
 use Rattle.std.proofs.lemmas.List.Sums.{sum_by-cons}
 use Rattle.std.proofs.Math.Nat.{pow-suc, div-mul-le_self}
 use Rattle.council_game.specs.Votes.{weight}
+use Rattle.council_game.proofs.WeightByDigits.{weight-nil, weight-cons}
 
 -- digits above the places of vs weigh nothing
 pub weight-skip : (vs : List ℕ) (x r : ℕ) → weight vs (x * 2 ^ length vs + r) ≡ weight vs r
-unfolding weight
-weight-skip [] x r = refl
+weight-skip [] x r = weight-nil _ ∙ sym (weight-nil r)
 weight-skip (v ∷ vs) x r =
     let e : x * 2 ^ suc (length vs) + r ≡ (2 * x) * 2 ^ length vs + r = rw (pow-suc 2 (length vs)) (omega arith) in
     let top : (x * 2 ^ suc (length vs) + r) / 2 ^ length vs % 2 ≡ r / 2 ^ length vs % 2 = bit_at_cat_low x (suc (length vs)) r (length vs) (omega arith) in
     let tail : weight vs (x * 2 ^ suc (length vs) + r) ≡ weight vs r = ap (weight vs) e ∙ weight-skip vs (2 * x) r in
-    rw (top, tail) refl
+    rw (weight-cons v vs (x * 2 ^ suc (length vs) + r), weight-cons v vs r, top, tail) refl
 
 -- the digits of two lists of places side by side
 pub weight-cat : (ws vs : List ℕ) (x r : ℕ) → r < 2 ^ length vs → weight (ws ++ vs) (x * 2 ^ length vs + r) ≡ weight ws x + weight vs r
-unfolding weight
-weight-cat [] vs x r h = weight-skip vs x r ∙ omega arith
+weight-cat [] vs x r h = weight-skip vs x r ∙ rw (weight-nil x) (omega arith)
 weight-cat (w ∷ ws) vs x r h =
     let e : length (ws ++ vs) ≡ length ws + length vs = length-append ws vs in
     let k : length (ws ++ vs) - length vs ≡ length ws = omega arith in
     let top : (x * 2 ^ length vs + r) / 2 ^ length (ws ++ vs) % 2 ≡ x / 2 ^ (length (ws ++ vs) - length vs) % 2 = bit_at_cat_high x (length vs) r (length (ws ++ vs)) h (omega arith) in
     let top' : (x * 2 ^ length vs + r) / 2 ^ length (ws ++ vs) % 2 ≡ x / 2 ^ length ws % 2 = top ∙ ap (λ (i : ℕ). x / 2 ^ i % 2) k in
     let tail = weight-cat ws vs x r h in
-    rw (top', tail) (omega arith)
+    rw (weight-cons w (ws ++ vs) (x * 2 ^ length vs + r), weight-cons w ws x, top', tail) (omega arith)
 
 pub weight-le : (ws : List ℕ) (c : ℕ) → weight ws c ≤ sum ws
-unfolding weight
-weight-le [] c = omega arith
+weight-le [] c = omega (arith, weight-nil c)
 weight-le (w ∷ ws) c =
     let d : c / 2 ^ length ws % 2 < 2 = bit_at-lt c (length ws) in
     let t = weight-le ws c in
     let m : c / 2 ^ length ws % 2 * w ≤ 1 * w = mul-le (c / 2 ^ length ws % 2) w 1 w (omega arith) (omega arith) in
     let s : sum (w ∷ ws) ≡ w + sum ws = sum_by-cons (λ (y : ℕ). y) w ws in
-    omega (arith, m, t, s)
+    omega (arith, m, t, s, weight-cons w ws c)
 
 pub weight-zero : (ws : List ℕ) → weight ws 0 ≡ 0
-unfolding weight
-weight-zero [] = refl
+weight-zero [] = weight-nil 0
 weight-zero (w ∷ ws) =
     let d : 0 / 2 ^ length ws % 2 ≡ 0 = bit_at-zero (length ws) in
     let t = weight-zero ws in
-    rw (d, t) (omega arith)
+    rw (weight-cons w ws 0, d, t) (omega arith)
 
 -- a coalition's weight is that of its first p places and that of the rest
 pub weight-at : (ws : List ℕ) (p c : ℕ) → p ≤ length ws → weight ws c ≡ weight (take p ws) (c / 2 ^ (length ws - p)) + weight (drop p ws) (c % 2 ^ (length ws - p))
@@ -76,14 +73,13 @@ weight-prefix ws p x h =
 
 -- one place more
 pub weight-more : (ws : List ℕ) (p x b : ℕ) → p < length ws → b < 2 → weight (take (p + 1) ws) (2 * x + b) ≡ weight (take p ws) x + b * get_or ws p 0
-unfolding weight
 weight-more ws p x b h below =
     let e : x * 2 ^ length (get_or ws p 0 ∷ []) + b ≡ 2 * x + b = omega arith in
     let one : b / 2 ^ 0 % 2 ≡ b = omega arith in
     ap (λ (l : List ℕ). weight l (2 * x + b)) (take_more ws p 0 h)
     ∙ ap (weight (take p ws ++ get_or ws p 0 ∷ [])) (sym e)
     ∙ weight-cat (take p ws) (get_or ws p 0 ∷ []) x b (omega arith)
-    ∙ (let z : weight (get_or ws p 0 ∷ []) b ≡ b * get_or ws p 0 = rw one (omega arith) in omega (arith, z))
+    ∙ (let z : weight (get_or ws p 0 ∷ []) b ≡ b * get_or ws p 0 = rw (weight-cons (get_or ws p 0) [] b, weight-nil b, one) (omega arith) in omega (arith, z))
 
 -- without a lower digit that is set, what stands above it stays
 above-kept : (c b h : ℕ) → b < h → c / 2 ^ b % 2 ≡ 1 → (c - 2 ^ b) / 2 ^ h ≡ c / 2 ^ h
@@ -102,7 +98,6 @@ above-kept c b h below set' =
 
 -- a set without one of its places weighs less by that place's weight
 pub weight-without : (ws : List ℕ) (q c : ℕ) → q < length ws → c / 2 ^ (length ws - 1 - q) % 2 ≡ 1 → weight ws (c - 2 ^ (length ws - 1 - q)) + get_or ws q 0 ≡ weight ws c
-unfolding weight
 weight-without [] q c below set' = absurd (omega arith)
 weight-without (w ∷ vs) zero c below set' =
     let h : ℕ = length vs in
@@ -119,10 +114,10 @@ weight-without (w ∷ vs) zero c below set' =
     let digit : (c - 2 ^ length vs) / 2 ^ length vs % 2 ≡ 0 = ap (λ (i : ℕ). i % 2) top ∙ (let z : (c / 2 ^ length vs - 1) % 2 ≡ 0 = omega arith in z) in
     let rest : weight vs (c - 2 ^ length vs) ≡ weight vs c =
     ap (weight vs) e ∙ weight-skip vs (c / 2 ^ length vs - 1) (c % 2 ^ length vs) ∙ sym (weight-skip vs (c / 2 ^ length vs) (c % 2 ^ length vs)) ∙ ap (weight vs) split in
-    rw (place, digit, rest, set2) (omega arith)
+    rw (place, weight-cons w vs (c - 2 ^ length vs), weight-cons w vs c, digit, rest, set2) (omega arith)
 weight-without (w ∷ vs) (suc q) c below set' =
     let place : suc (length vs) - 1 - suc q ≡ length vs - 1 - q = omega arith in
     let set2 : c / 2 ^ (length vs - 1 - q) % 2 ≡ 1 = ap (λ (i : ℕ). c / 2 ^ i % 2) (sym place) ∙ set' in
     let kept : (c - 2 ^ (length vs - 1 - q)) / 2 ^ length vs ≡ c / 2 ^ length vs = above-kept c (length vs - 1 - q) (length vs) (omega arith) set2 in
     let rest = weight-without vs q c (omega arith) set2 in
-    rw (place, kept) (omega (arith, rest))
+    rw (place, weight-cons w vs (c - 2 ^ (length vs - 1 - q)), weight-cons w vs c, kept) (omega (arith, rest))

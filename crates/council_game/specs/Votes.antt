@@ -1,6 +1,6 @@
 -- Weighted voting games as plain data, and their minimal winning coalitions.
-use Rattle.std.specs.Prelude.{ℕ, zero, suc, ◌+◌, ◌-◌, ◌*◌, ◌/◌, ◌%◌, ◌^◌, Bool, true, not, ◌&&◌, ◌||◌, ◌==◌, nat_le, List, [], ◌∷◌, length, ◌≡◌, ◌≤◌, ◌<◌, slice_index, slice_index_or, ⊤}
-use Rattle.std.specs.List.{filter, sum, range_with_len, AllByRecursion}
+use Rattle.std.specs.Prelude.{ℕ, zero, suc, ◌-◌, ◌/◌, ◌%◌, ◌^◌, Bool, not, ◌&&◌, ◌==◌, nat_le, List, [], ◌∷◌, length, ◌≡◌, ◌≤◌, ◌<◌, slice_index, slice_index_or, ⊤}
+use Rattle.std.specs.List.{filter, sum, sum_by, list_all, range_with_len, AllByRecursion}
 
 -- a quota, and a weight for each member: in a game by the file's order, in its votes by rank
 pub record RuleView : Type 0 where
@@ -45,25 +45,17 @@ places_of n c = filter (λ p. has n p c) (range_with_len 0 n)
 abbrev pub size : ℕ → ℕ → ℕ
 size n c = length (places_of n c)
 
--- the sum of the weights of the places in c: the last of n places is the lowest digit
+-- the sum of the weights of the places in c
 unfoldable pub weight : List ℕ → ℕ → ℕ
-weight [] c = 0
-weight (w ∷ ws) c = c / 2 ^ length ws % 2 * w + weight ws c
+weight ws c = sum_by (slice_index ws) (places_of (length ws) c)
 
 -- c wins where it meets each rule's quota
 unfoldable pub wins : List RuleView → ℕ → Bool
-wins [] c = true
-wins (r ∷ rs) c = nat_le r.quota (weight r.weights c) && wins rs c
-
--- of the first k places, each that is in c is needed: without it c loses
-unfoldable pub each_needed : Votes → ℕ → ℕ → Bool
-each_needed v c zero = true
-each_needed v c (suc p) =
-    (not (has v.members p c) || not (wins v.rules (without v.members p c))) && each_needed v c p
+wins rules c = list_all (λ r. nat_le r.quota (weight r.weights c)) rules
 
 -- a minimal winning coalition wins, and loses without any one of its members
 unfoldable pub minimal : Votes → ℕ → Bool
-minimal v c = wins v.rules c && each_needed v c v.members
+minimal v c = wins v.rules c && list_all (λ p. not (wins v.rules (without v.members p c))) (places_of v.members c)
 
 -- n - 1, .., 1, 0
 unfoldable pub down : ℕ → List ℕ

@@ -4,23 +4,13 @@ use Rattle.std.specs.List.{AllByRecursion, filter}
 use Rattle.std.proofs.lemmas.Nat.Bits.{bit_at_cat_low, bit_at-zero}
 use Rattle.std.proofs.lemmas.Nat.{shr-shr, shl-shr, mul-le}
 use Rattle.std.proofs.Math.Nat.{pow-le-pow_right}
-use Rattle.std.proofs.lemmas.Bool.{and_from, and_left, or_right, or_left, le-leb, lt-leb, eqb-true, cases_lt, cases_Bool, both_ways, cond_both, not_from_false}
-use Rattle.council_game.specs.Votes.{RuleView, Votes, IsRule, IsRanked, IsVotes, has, without, weight, wins, each_needed, minimal, down, minimal_below, minimal_coalitions}
+use Rattle.std.proofs.lemmas.Bool.{and_from, and_left, le-leb, lt-leb, eqb-true, cases_lt, both_ways, cond_both}
+use Rattle.council_game.specs.Votes.{RuleView, Votes, IsRule, IsRanked, IsVotes, has, without, weight, wins, minimal, down, minimal_below, minimal_coalitions}
 use Rattle.mwc_walk.specs.Slices.{in_slice, slice}
 use Rattle.mwc_walk.specs.Inner.Places.{wins_at}
+use Rattle.council_game.proofs.Meanings.{needs-each-member}
 use Rattle.council_game.proofs.Weights.{weight-more, weight-prefix, weight-without, weight-zero}
 use Rattle.mwc_walk.proofs.Blocks.{wins-prefix}
-
-each_needed-from : (v : Votes) (c k : ℕ) → ((q : ℕ) → q < k → has v.members q c ≡ true → wins v.rules (without v.members q c) ≡ false) → each_needed v c k ≡ true
-unfolding each_needed
-each_needed-from v c zero loses = refl
-each_needed-from v c (suc k) loses =
-    and_from _ _
-    (elim (cases_Bool (has v.members k c)) [
-      | inl in' ↦ or_right _ _ (not_from_false _ (loses k (omega arith) in'))
-      | inr out ↦ or_left _ _ (not_from_false _ out)
-    ])
-    (each_needed-from v c k (λ q below in'. loses q (omega arith) in'))
 
 -- places past the prefix are not in it
 place-before : (n p x q : ℕ) → p ≤ n → q < n → has n q (x * 2 ^ (n - p)) ≡ true → q < p
@@ -62,11 +52,11 @@ one-loses n p x q (r ∷ []) one all ranked pos le lost below in' =
     and_left _ _ (lt-leb _ _ loses)
 
 pub one-minimal : (v : Votes) (p x : ℕ) → IsVotes v → length v.rules ≡ 1 → 0 < p → p ≤ v.members → wins_at v.rules p x ≡ true → wins_at v.rules (p - 1) (x / 2) ≡ false → minimal v (x * 2 ^ (v.members - p)) ≡ true
-unfolding minimal
 one-minimal v p x game one pos le won lost =
-    and_from _ _
-    (wins-prefix v.members p x v.rules le game.4 ∙ won)
-    (each_needed-from v (x * 2 ^ (v.members - p)) v.members (λ q below in'. one-loses v.members p x q v.rules one game.4 game.5 pos le lost below in'))
+    (needs-each-member v (x * 2 ^ (v.members - p))).1 (
+      wins-prefix v.members p x v.rules le game.4 ∙ won,
+      λ q below in'. one-loses v.members p x q v.rules one game.4 game.5 pos le lost below in',
+    )
 
 -- a prefix that wins first by its last place has that place in it
 same-even : (n p y : ℕ) (rs : List RuleView) → p < n → AllByRecursion (IsRule n) rs → wins_at rs (p + 1) (2 * y) ≡ wins_at rs p y

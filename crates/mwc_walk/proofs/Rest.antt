@@ -4,9 +4,9 @@ use Rattle.std.specs.List.{filter}
 use Rattle.std.proofs.lemmas.Nat.Bits.{bit_at_cat_low}
 use Rattle.std.proofs.lemmas.Nat.{div-mul-add, pow_pos, pow-add, mul-le}
 use Rattle.std.proofs.Math.Nat.{lt-div-mul-add, div-mul-le_self}
-use Rattle.std.proofs.lemmas.Bool.{cases_Bool, and_left, and_parts, eq-eqb, ne_eqb, cond-false, cond-true, false_from_ne_true, both_ways}
-use Rattle.council_game.specs.Votes.{Votes, IsVotes, has, without, wins, each_needed, minimal, down, minimal_below, minimal_coalitions}
-use Rattle.council_game.proofs.GameTests.{needed-at}
+use Rattle.std.proofs.lemmas.Bool.{cases_Bool, and_left, eq-eqb, ne_eqb, cond-false, cond-true, false_from_ne_true, both_ways}
+use Rattle.council_game.specs.Votes.{Votes, IsVotes, has, without, wins, minimal, down, minimal_below, minimal_coalitions}
+use Rattle.council_game.proofs.Meanings.{needs-each-member}
 use Rattle.mwc_walk.specs.Slices.{in_slice, slice}
 use Rattle.mwc_walk.specs.Inner.Places.{left_below, reaches, wins_at}
 use Rattle.mwc_walk.proofs.Blocks.{filter-down_skip, filter-down_take, some_digit, wins-below, loses-below}
@@ -22,10 +22,9 @@ next-block x h = omega arith
 
 -- below a winning prefix nothing is minimal but the prefix with zeros
 above-not_minimal : (v : Votes) (p x c : ℕ) → IsVotes v → p ≤ v.members → wins_at v.rules p x ≡ true → x * 2 ^ (v.members - p) < c → c < x * 2 ^ (v.members - p) + 2 ^ (v.members - p) → minimal v c ≡ true → ⊥
-unfolding minimal has without
+unfolding has without
 above-not_minimal v p x c game le win low high min =
     let h : ℕ = v.members - p in
-    let parts = and_parts (wins v.rules c) (each_needed v c v.members) min in
     let r : ℕ = c - x * 2 ^ (v.members - p) in
     let found = some_digit (v.members - p) (c - x * 2 ^ (v.members - p)) (omega arith) (omega arith) in
     let b : ℕ = found.0 in
@@ -41,7 +40,8 @@ above-not_minimal v p x c game le win low high min =
     let prefix' : (c - 2 ^ (v.members - 1 - (v.members - 1 - found.0))) / 2 ^ (v.members - p) ≡ x = ap (λ (i : ℕ). (c - 2 ^ i) / 2 ^ (v.members - p)) place ∙ prefix in
     let still : wins v.rules (c - 2 ^ (v.members - 1 - (v.members - 1 - found.0))) ≡ true =
     wins-below v.members p (c - 2 ^ (v.members - 1 - (v.members - 1 - found.0))) v.rules le game.4 (ap (wins_at v.rules p) prefix' ∙ win) in
-    needed-at v c v.members (v.members - 1 - found.0) parts.1 (omega (arith, game.0)) inside still
+    let lost = ((needs-each-member v c).0 min).1 (v.members - 1 - found.0) (omega (arith, game.0)) inside in
+    both_ways _ lost still
 
 -- a prefix that cannot reach some quota has nothing below it
 pub left-dead : (v : Votes) (k j p x : ℕ) → IsVotes v → p ≤ v.members → reaches v.rules p x ≡ false → left_below v k j ((x + 1) * 2 ^ (v.members - p)) ≡ left_below v k j (x * 2 ^ (v.members - p))

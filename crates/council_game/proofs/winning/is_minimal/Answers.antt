@@ -1,8 +1,9 @@
-use Rattle.std.proofs.Common.{refl, sym, arith, ◌∙◌, ap, ℕ}
-use Rattle.council_game.specs.Votes.{wins, each_needed, without}
+use Rattle.std.proofs.Common.{◌≡◌, sym, arith, ◌∙◌, ap, ℕ, true, false, below_more}
+use Rattle.std.proofs.lemmas.Bool.{both_ways}
+use Rattle.council_game.specs.Votes.{has, wins, without}
 use Rattle.council_game.specs.Inner.Weighing.{votes}
 use Rattle.council_game.specs.Rules.{rule_views}
-use Rattle.council_game.proofs.GameTests.{not-minimal, needed-out, needed-lost, is-minimal, lost-not_minimal}
+use Rattle.council_game.proofs.GameTests.{not-minimal, is-minimal, lost-not_minimal}
 use Rattle.council_game.proofs.winning.is_minimal.Goals as goal
 use Rattle.council_game.proofs.winning.is_minimal.Goals.{else-has-via-then-has+else-wins_without, else-has-via-else-has}
 
@@ -12,8 +13,7 @@ returns-then-not-wins_weighed c =
     lost-not_minimal (votes c.args.members c.args.rules.now) c.args.mask lost
 
 pub loop-place-init : goal.loop-place-init
-unfolding each_needed
-loop-place-init c = refl
+loop-place-init c = λ p below. absurd (omega arith)
 
 pub returns-then-wins_without : goal.returns-then-wins_without
 returns-then-wins_without c =
@@ -25,8 +25,10 @@ loop-place-preserved c =
     elim c.else-has.branch [
       | else-has-via-then-has+else-wins_without w ↦
           let lost = ap (λ (m : ℕ). wins (rule_views c.args.rules.now) (without c.args.members c.loop-place.place m)) (sym c.weigh-weighed.ensures.same) ∙ sym w.wins_without.ensures ∙ w.if-wins_without.false in
-          needed-lost (votes c.args.members c.args.rules.now) c.args.mask c.loop-place.place c.loop-place.invariant lost
-      | else-has-via-else-has w ↦ needed-out (votes c.args.members c.args.rules.now) c.args.mask c.loop-place.place c.loop-place.invariant (sym c.has.ensures ∙ w.if-has.false)
+          below_more (λ p. has c.args.members p c.args.mask ≡ true → wins (rule_views c.args.rules.now) (without c.args.members p c.args.mask) ≡ false) _ c.loop-place.invariant (λ inside. lost)
+      | else-has-via-else-has w ↦
+          below_more (λ p. has c.args.members p c.args.mask ≡ true → wins (rule_views c.args.rules.now) (without c.args.members p c.args.mask) ≡ false) _ c.loop-place.invariant
+          (λ inside. absurd (both_ways _ (sym c.has.ensures ∙ w.if-has.false) inside))
     ]
 
 pub returns : goal.returns

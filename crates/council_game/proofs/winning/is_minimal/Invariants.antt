@@ -1,7 +1,7 @@
-use Rattle.std.proofs.Common.{◌≡◌, true}
-use Rattle.council_game.specs.Votes.{each_needed}
-use Rattle.council_game.specs.Inner.Weighing.{votes}
+use Rattle.std.proofs.Common.{◌≡◌, ◌<◌, ℕ, true, false}
+use Rattle.council_game.specs.Votes.{has, without, wins}
+use Rattle.council_game.specs.Rules.{rule_views}
 use Rattle.council_game.proofs.winning.is_minimal.Given as goal
 
 abbrev pub invariant-loop-place : goal.invariant-loop-place
-invariant-loop-place l = each_needed (votes l.members l.rules) l.mask l.place ≡ true
+invariant-loop-place l = (p : ℕ) → p < l.place → has l.members p l.mask ≡ true → wins (rule_views l.rules) (without l.members p l.mask) ≡ false

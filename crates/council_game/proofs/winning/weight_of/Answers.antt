@@ -1,12 +1,11 @@
-use Rattle.std.proofs.Common.{refl, arith, length, ◌/◌, ◌^◌, ◌-◌}
-use Rattle.council_game.specs.Votes.{weight}
+use Rattle.std.proofs.Common.{refl, sym, arith, length, ◌/◌, ◌^◌, ◌-◌}
+use Rattle.council_game.proofs.WeightByDigits.{weight-nil}
 use Rattle.council_game.proofs.GameTests.{weight-in, weight-out, partial-fits, weight-all}
 use Rattle.council_game.proofs.winning.weight_of.Goals as goal
 use Rattle.council_game.proofs.winning.weight_of.Goals.{then-mask-members-eq1, else-mask-members-eq1}
 
 pub loop-place-init : goal.loop-place-init
-unfolding weight
-loop-place-init c = refl
+loop-place-init c = sym (weight-nil _)
 
 pub overflow_add-sum : goal.overflow_add-sum
 overflow_add-sum c =

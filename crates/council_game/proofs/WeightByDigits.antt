@@ -1,0 +1,52 @@
+-- The weight of a coalition, one binary digit after another.
+use Rattle.std.proofs.Common.{◌≡◌, ℕ, suc, ◌+◌, ◌-◌, ◌*◌, ◌/◌, ◌%◌, ◌^◌, ◌<◌, List, [], ◌∷◌, length, filter, slice_index, refl, sym, ap, ◌∙◌, arith, inl, inr}
+use Rattle.std.specs.List.{range_with_len, sum_by}
+use Rattle.std.proofs.lemmas.Bool.{cases_Bool, cond-true, cond-false, eqb-true, eq-eqb, both_ways}
+use Rattle.std.proofs.lemmas.List.Sums.{sum_by-cons}
+use Rattle.council_game.specs.Votes.{has, weight}
+
+-- the last of the places is the lowest digit
+by_digits : List ℕ → ℕ → ℕ
+by_digits [] c = 0
+by_digits (w ∷ ws) c = c / 2 ^ length ws % 2 * w + by_digits ws c
+
+-- of the last places, from a on, those in c weigh together what c's lowest digits do
+from : (ws vs : List ℕ) (m a c : ℕ) → m ≡ a + length vs → ((i : ℕ) → i < length vs → slice_index ws (a + i) ≡ slice_index vs i) →
+    by_digits vs c ≡ sum_by (slice_index ws) (filter (λ p. has m p c) (range_with_len a (length vs)))
+unfolding has by_digits
+from ws [] m a c e same = refl
+from ws (v ∷ vs) m a c e same =
+    let long : length (v ∷ vs) ≡ suc (length vs) = refl in
+    let rest = from ws vs m (a + 1) c (omega arith) (λ i below.
+    let at : a + 1 + i ≡ a + suc i = omega arith in
+    ap (slice_index ws) at ∙ same (suc i) (omega arith)) in
+    let place : m - 1 - a ≡ length vs = omega arith in
+    let bit : c / 2 ^ length vs % 2 < 2 = omega arith in
+    let others : List ℕ = filter (λ p. has m p c) (range_with_len (a + 1) (length vs)) in
+    let first : slice_index ws a ≡ v = ap (slice_index ws) (let z : a ≡ a + 0 = omega arith in z) ∙ same 0 (omega arith) in
+    elim (cases_Bool (has m a c)) [
+      | inl in' ↦
+          let digit : c / 2 ^ length vs % 2 ≡ 1 = ap (λ (k : ℕ). c / 2 ^ k % 2) (sym place) ∙ eqb-true _ _ in' in
+          let here : filter (λ p. has m p c) (range_with_len a (length (v ∷ vs))) ≡ a ∷ others = cond-true (has m a c) (a ∷ others) others in' in
+          let more : sum_by (slice_index ws) (a ∷ others) ≡ slice_index ws a + sum_by (slice_index ws) others = sum_by-cons (slice_index ws) a others in
+          let left : c / 2 ^ length vs % 2 * v ≡ v = rw digit (omega arith) in
+          rw here (omega (arith, rest, more, left, first))
+      | inr out ↦
+          let not_one : c / 2 ^ length vs % 2 ≡ 1 → ⊥ = λ e. both_ways _ out (eq-eqb _ _ (ap (λ (k : ℕ). c / 2 ^ k % 2) place ∙ e)) in
+          let digit : c / 2 ^ length vs % 2 ≡ 0 = omega (arith, bit, not_one) in
+          let here : filter (λ p. has m p c) (range_with_len a (length (v ∷ vs))) ≡ others = cond-false (has m a c) (a ∷ others) others out in
+          let left : c / 2 ^ length vs % 2 * v ≡ 0 = rw digit (omega arith) in
+          rw here (omega (arith, rest, left))
+    ]
+
+weight-by_digits : (ws : List ℕ) (c : ℕ) → weight ws c ≡ by_digits ws c
+unfolding weight
+weight-by_digits ws c = sym (from ws ws (length ws) 0 c (omega arith) (λ i below. ap (slice_index ws) (let z : 0 + i ≡ i = omega arith in z)))
+
+pub weight-nil : (c : ℕ) → weight [] c ≡ 0
+unfolding by_digits
+weight-nil c = weight-by_digits [] c
+
+pub weight-cons : (w : ℕ) (ws : List ℕ) (c : ℕ) → weight (w ∷ ws) c ≡ c / 2 ^ length ws % 2 * w + weight ws c
+unfolding by_digits
+weight-cons w ws c = weight-by_digits (w ∷ ws) c ∙ ap (λ (rest : ℕ). c / 2 ^ length ws % 2 * w + rest) (sym (weight-by_digits ws c))
