@@ -10,7 +10,8 @@ use Rattle.std.proofs.lemmas.Bool.{ne_eqb, eq-eqb, ltb-false, or_parts}
 use Rattle.council_game.specs.declared.rule.Rule.{Rule}
 use Rattle.council_game.specs.Votes.{RuleView, IsVotes}
 use Rattle.council_game.specs.Inner.Weighing.{votes}
-use Rattle.council_game.specs.Ranks.{places, place_in, member_at, rank_place, rank_places, members_by_rank, rule_along, rule_by_rank}
+use Rattle.council_game.specs.Ranks.{places, member_at, rank_place, rank_places, members_by_rank, rule_by_rank}
+use Rattle.council_game.specs.Inner.Along.{place_in, rule_along}
 use Rattle.council_game.specs.Rules.{rule_view, rule_views}
 use Rattle.council_game.specs.Game.{GameView, IsGame, made_game, first_weights, total, votes_of}
 use Rattle.council_game.specs.Inner.Parts.{game_of_parts}
