@@ -1,7 +1,8 @@
 -- Taking a place away from a coalition leaves its other places.
-use Rattle.std.proofs.Common.{◌≡◌, ◌≢◌, ◌∙◌, ℕ, ◌+◌, ◌-◌, ◌*◌, ◌/◌, ◌%◌, ◌^◌, ◌<◌, ◌≤◌, ◌==◌, true, false, zero, suc, sym, ap, subst, arith, eq-eqb, inl, inr}
+use Rattle.std.proofs.Common.{◌≡◌, ◌≢◌, ◌∙◌, ℕ, ◌+◌, ◌-◌, ◌*◌, ◌/◌, ◌%◌, ◌^◌, ◌<◌, ◌≤◌, ◌==◌, true, false, zero, suc, sym, ap, subst, arith, eq-eqb, inl, inr, min}
 use Rattle.std.specs.Int.{w64, trailing_zeros}
-use Rattle.std.proofs.lemmas.Nat.Bits.{bit_at-trailing_zeros, bit_at_above, bit_at_cat_low, bit_at_cat_high, bit_at-suc, bit_at-zero}
+use Rattle.std.specs.Int.Bits.{bit_and}
+use Rattle.std.proofs.lemmas.Nat.Bits.{bit_at-trailing_zeros, bit_at_above, bit_at_cat_low, bit_at_cat_high, bit_at-suc, bit_at-zero, bit_at_and, same_from_bits, same_from_bits_below}
 use Rattle.std.proofs.lemmas.Nat.{pow_pos}
 use Rattle.std.proofs.lemmas.Bool.{cases_lt, eqb-true}
 use Rattle.std.proofs.Math.Nat.{mod-lt, div-add-mod}
@@ -92,3 +93,59 @@ next-place n rest mask few same pos below = subst (λ (m : ℕ). (trailing_zeros
 pub without-less : (n q c : ℕ) → 0 < c → without n q c < c
 unfolding without
 without-less n q c pos = let digit = pow_pos (n - 1 - q) in omega (arith, digit)
+
+-- a number and one less, digit by digit: the lowest 1 is gone
+cleared : (c k : ℕ) → c / 2 ^ k % 2 ≡ 1 → ((i : ℕ) → i < k → c / 2 ^ i % 2 ≡ 0) → bit_and c (c - 1) ≡ c - 2 ^ k
+cleared c k one zeros = same_from_bits (bit_and c (c - 1)) (c - 2 ^ k) (λ i. bit_at_and c (c - 1) i ∙ at i)
+  where
+    h : ℕ
+    h = (split c k one).high
+
+    none-low : (split c k one).low ≡ 0
+    none-low =
+        let s = split c k one in
+        same_from_bits_below k s.low 0 s.small (pow_pos k) (λ i lt. sym (bit_at_cat_low (2 * s.high + 1) k s.low i lt) ∙ ap (λ (x : ℕ). x / 2 ^ i % 2) (sym s.with_digit) ∙ zeros i lt ∙ sym (bit_at-zero i))
+
+    with-digit : c ≡ (2 * h + 1) * 2 ^ k + 0
+    with-digit = let s = split c k one in s.with_digit ∙ ap (λ (x : ℕ). (2 * h + 1) * 2 ^ k + x) none-low
+
+    one-less : c - 1 ≡ 2 * h * 2 ^ k + (2 ^ k - 1)
+    one-less = less c h (2 ^ k) (pow_pos k) with-digit
+      where
+        less : (c h m : ℕ) → 0 < m → c ≡ (2 * h + 1) * m + 0 → c - 1 ≡ 2 * h * m + (m - 1)
+        less c h m pos e = omega (arith, pos, e)
+
+    without-digit : c - 2 ^ k ≡ 2 * h * 2 ^ k + 0
+    without-digit = let s = split c k one in s.without_digit ∙ ap (λ (x : ℕ). 2 * h * 2 ^ k + x) none-low
+
+    all-ones-small : 2 ^ k - 1 < 2 ^ k
+    all-ones-small = let pos = pow_pos k in omega (arith, pos)
+
+    at : (i : ℕ) → min (c / 2 ^ i % 2) ((c - 1) / 2 ^ i % 2) ≡ (c - 2 ^ k) / 2 ^ i % 2
+    at i = elim (cases_lt i k) [
+      | inl lower ↦
+          let zero-here = zeros i lower in
+          let zero-there : (c - 2 ^ k) / 2 ^ i % 2 ≡ 0 = ap (λ (x : ℕ). x / 2 ^ i % 2) without-digit ∙ bit_at_cat_low (2 * h) k 0 i lower ∙ bit_at-zero i in
+          omega (arith, zero-here, zero-there)
+      | inr higher ↦
+          let own : c / 2 ^ i % 2 ≡ (2 * h + 1) / 2 ^ (i - k) % 2 = ap (λ (x : ℕ). x / 2 ^ i % 2) with-digit ∙ bit_at_cat_high (2 * h + 1) k 0 i (pow_pos k) higher in
+          let less : (c - 1) / 2 ^ i % 2 ≡ 2 * h / 2 ^ (i - k) % 2 = ap (λ (x : ℕ). x / 2 ^ i % 2) one-less ∙ bit_at_cat_high (2 * h) k (2 ^ k - 1) i all-ones-small higher in
+          let gone : (c - 2 ^ k) / 2 ^ i % 2 ≡ 2 * h / 2 ^ (i - k) % 2 = ap (λ (x : ℕ). x / 2 ^ i % 2) without-digit ∙ bit_at_cat_high (2 * h) k 0 i (pow_pos k) higher in
+          go (i - k) own less gone
+    ]
+      where
+        go : (j : ℕ) → c / 2 ^ i % 2 ≡ (2 * h + 1) / 2 ^ j % 2 → (c - 1) / 2 ^ i % 2 ≡ 2 * h / 2 ^ j % 2 → (c - 2 ^ k) / 2 ^ i % 2 ≡ 2 * h / 2 ^ j % 2
+            → min (c / 2 ^ i % 2) ((c - 1) / 2 ^ i % 2) ≡ (c - 2 ^ k) / 2 ^ i % 2
+        go zero own less gone = let even : 2 * h / 2 ^ 0 % 2 ≡ 0 = omega arith in omega (arith, own, less, gone, even)
+        go (suc j) own less gone = let same = above-lowest h (suc j) (omega arith) in omega (arith, own, less, gone, same)
+
+-- with the lowest 1 cleared, the last place of a coalition is gone
+pub lowest-cleared : (n c : ℕ) → n ≤ 40 → 0 < c → c < 2 ^ n → bit_and c (c - 1) ≡ without n (n - 1 - trailing_zeros w64 c) c
+unfolding without
+lowest-cleared n c few pos below =
+    let up : 2 ^ n ≤ 2 ^ 40 = pow_mono few in
+    let wide : c < 2 ^ 64 = omega arith in
+    let z = bit_at-trailing_zeros w64 c pos wide in
+    let lt = (lowest-place n c few pos below).0 in
+    let place : n - 1 - (n - 1 - trailing_zeros w64 c) ≡ trailing_zeros w64 c = omega arith in
+    cleared c (trailing_zeros w64 c) z.1 z.2 ∙ ap (λ (k : ℕ). c - 2 ^ k) (sym place)

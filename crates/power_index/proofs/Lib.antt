@@ -1,5 +1,4 @@
 pub mod AddUp
-pub mod Digits
 pub mod LowestTerms
 pub mod Members
 pub mod Minimal

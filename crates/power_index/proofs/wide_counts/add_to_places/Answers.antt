@@ -1,7 +1,7 @@
 use Rattle.std.proofs.Common.{◌≡◌, ℕ, ◌-◌, ◌≤◌, ◌^◌, arith, subst, sym, get_or}
 use Rattle.std.specs.Int.{w64, trailing_zeros}
 use Rattle.power_index.specs.declared.tally.Tally.{Tally}
-use Rattle.power_index.proofs.Digits.{lowest-place, lowest-cleared, without-less}
+use Rattle.council_game.proofs.Digits.{lowest-place, lowest-cleared, without-less}
 use Rattle.power_index.proofs.Walks.{Walked, walked-start, walked-step, walked-all}
 use Rattle.power_index.proofs.wide_counts.add_to_places.Goals as goal
 
