@@ -9,7 +9,8 @@ use Rattle.std.proofs.lemmas.List.Kept.{AllPairs-cons, AllPairs-filter}
 use Rattle.std.proofs.lemmas.List.Sums.{sum_by-cons}
 use Rattle.std.proofs.lemmas.List.Filters.{length-filter_both}
 use Rattle.std.proofs.lemmas.Bool.{and_parts, and_from, le-leb, leb-true, cases_Bool, cases_eq, both_ways, cond-true, cond-false}
-use Rattle.council_game.specs.Votes.{RuleView, Votes, IsRule, IsVotes, weight, wins, minimal, down, minimal_below, minimal_coalitions}
+use Rattle.council_game.specs.Votes.{RuleView, Votes, IsRule, IsVotes, weight, wins, minimal, down, minimal_coalitions}
+use Rattle.council_game.specs.Inner.Below.{minimal_below}
 use Rattle.council_game.specs.Laws.{IsListing}
 use Rattle.council_game.proofs.WeightByDigits.{weight-nil, weight-cons}
 use Rattle.council_game.proofs.Weights.{weight-skip, weight-zero}
@@ -76,7 +77,7 @@ length-down zero = refl
 length-down (suc n) = ap (λ (k : ℕ). suc k) (length-down n)
 
 pub listing-is : (v : Votes) → IsVotes v → IsListing v
-unfolding minimal_coalitions minimal_below minimal
+unfolding minimal_coalitions minimal
 listing-is v game =
     let pos : 0 < 2 ^ v.members = pow_pos v.members in
     let found = minimal-below_winning v (2 ^ v.members) (2 ^ v.members - 1) (omega arith) (wins-full v.members v.rules game.4) in
@@ -90,7 +91,7 @@ listing-is v game =
 
 -- ---- the list, filled from above
 pub listed-start : (v : Votes) (xs : List ℕ) (n : ℕ) → xs ≡ [] → n ≡ v.members → n ≤ 20 → (xs ++ minimal_below v (1 * 2 ^ n % 2 ^ 64) ≡ minimal_coalitions v) × (1 * 2 ^ n % 2 ^ 64 ≤ 2 ^ 20)
-unfolding minimal_coalitions
+unfolding minimal_coalitions minimal_below
 listed-start v xs n none e few =
     let shl : 1 * 2 ^ n % 2 ^ 64 ≡ 2 ^ n = one_shl n 64 (omega arith) in
     let most : 2 ^ n ≤ 2 ^ 20 = (let two : 0 < 2 = omega arith in pow-le-pow_right two few) in

@@ -1,6 +1,6 @@
 -- Weighted voting games as plain data, and their minimal winning coalitions.
-use Rattle.std.specs.Prelude.{ℕ, zero, suc, ◌-◌, ◌/◌, ◌%◌, ◌^◌, Bool, not, ◌&&◌, ◌==◌, nat_le, List, [], ◌∷◌, length, ◌≡◌, ◌≤◌, ◌<◌, slice_index, slice_index_or, ⊤}
-use Rattle.std.specs.List.{filter, sum, sum_by, list_all, range_with_len, AllByRecursion}
+use Rattle.std.specs.Prelude.{ℕ, zero, suc, ◌-◌, ◌/◌, ◌%◌, ◌^◌, Bool, not, ◌&&◌, ◌==◌, nat_le, List, [], ◌∷◌, length, ◌≡◌, ◌≤◌, ◌<◌, slice_index, slice_index_or, sum_by, ⊤}
+use Rattle.std.specs.List.{filter, sum, list_all, range_with_len, AllByRecursion}
 
 -- a quota, and a weight for each member: in a game by the file's order, in its votes by rank
 pub record RuleView : Type 0 where
@@ -62,10 +62,6 @@ unfoldable pub down : ℕ → List ℕ
 down zero = []
 down (suc n) = n ∷ down n
 
--- the minimal winning coalitions below a number, in listing order
-unfoldable pub minimal_below : Votes → ℕ → List ℕ
-minimal_below v bound = filter (minimal v) (down bound)
-
--- all of them
+-- the minimal winning coalitions, in listing order
 unfoldable pub minimal_coalitions : Votes → List ℕ
-minimal_coalitions v = minimal_below v (2 ^ v.members)
+minimal_coalitions v = filter (minimal v) (down (2 ^ v.members))

@@ -10,7 +10,7 @@ use Rattle.std.proofs.lemmas.List.Sums.{sum_by-cons}
 use Rattle.std.proofs.lemmas.List.Sorted.{sum_by-IsPermutation}
 use Rattle.council_game.specs.Game.{GameView, IsGame, votes_of, AreNonemptyCoalitions}
 use Rattle.council_game.specs.Votes.{has, size, minimal_coalitions}
-use Rattle.mwc_walk.specs.Slices.{slice, in_slice}
+use Rattle.mwc_walk.specs.Slices.{slice}
 use Rattle.mwc_walk.proofs.Joined.{slices-joined}
 use Rattle.power_index.specs.Tables.{Tables, Tallies, AllTallies, AreTallies, AreOf, AreOfOneGame, AreCounts, table_total, no_tally}
 use Rattle.power_index.proofs.Minimal.{minimal-are-coalitions, minimal-few}
@@ -21,11 +21,11 @@ use Rattle.mwc_tally.specs.Inner.Shares.{CountedUpTo}
 
 -- a slice is a part of the list
 pub slice-are-coalitions : (g : GameView) (bits j : ℕ) → IsGame g → AreNonemptyCoalitions g (slice (votes_of g) bits j)
-unfolding slice in_slice
+unfolding slice
 slice-are-coalitions g bits j game = All-filter _ (λ c. (0 < c) × (c < 2 ^ length g.names)) (minimal_coalitions (votes_of g)) (minimal-are-coalitions g game)
 
 pub slice-few : (g : GameView) (bits j : ℕ) → IsGame g → length (slice (votes_of g) bits j) ≤ 2 ^ 40
-unfolding slice in_slice
+unfolding slice
 slice-few g bits j game =
     let less = length-filter-le (λ c. c / 2 ^ (length g.names - bits) == 2 ^ bits - 1 - j) (minimal_coalitions (votes_of g)) in
     let few = minimal-few g game in

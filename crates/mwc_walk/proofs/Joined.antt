@@ -4,8 +4,8 @@ use Rattle.std.specs.List.{filter, flat_map, range_with_len}
 use Rattle.std.proofs.Math.Nat.{lt-div-mul-add, div-mul-le_self}
 use Rattle.std.proofs.lemmas.Bool.{cases_Bool, eq-eqb, ne_eqb}
 use Rattle.std.proofs.lemmas.Nat.{pow_pos, pow-add, mul-le}
-use Rattle.council_game.specs.Votes.{Votes, minimal, down, minimal_below, minimal_coalitions}
-use Rattle.mwc_walk.specs.Slices.{in_slice, slice}
+use Rattle.council_game.specs.Votes.{Votes, minimal, down, minimal_coalitions}
+use Rattle.mwc_walk.specs.Slices.{slice}
 use Rattle.mwc_walk.specs.Laws.{SlicesMakeTheWhole}
 use Rattle.mwc_walk.proofs.Rest.{filter-filter_skip, block-prefix}
 
@@ -61,7 +61,7 @@ joined-from p h whole s (suc count) all =
 
 -- ---- the law
 pub slices-joined : (v : Votes) → SlicesMakeTheWhole v
-unfolding slice in_slice minimal_coalitions minimal_below
+unfolding slice minimal_coalitions
 slices-joined v k few le =
     let whole : 2 ^ v.members ≡ 2 ^ k * 2 ^ (v.members - k) = ap (λ (i : ℕ). 2 ^ i) (let e : v.members ≡ k + (v.members - k) = omega arith in e) ∙ pow-add 2 k (v.members - k) in
     subst (λ (i : ℕ). flat_map (λ j. filter (λ c. eqb (c / 2 ^ (v.members - k)) (2 ^ k - 1 - j)) (filter (minimal v) (down i))) (range_with_len 0 (2 ^ k)) ≡ filter (minimal v) (down i)) (sym whole)

@@ -5,8 +5,8 @@ use Rattle.std.proofs.lemmas.Nat.Bits.{bit_at_cat_low, bit_at-zero}
 use Rattle.std.proofs.lemmas.Nat.{shr-shr, shl-shr, mul-le}
 use Rattle.std.proofs.Math.Nat.{pow-le-pow_right}
 use Rattle.std.proofs.lemmas.Bool.{and_from, and_left, le-leb, lt-leb, eqb-true, cases_lt, both_ways, cond_both}
-use Rattle.council_game.specs.Votes.{RuleView, Votes, IsRule, IsRanked, IsVotes, has, without, weight, wins, minimal, down, minimal_below, minimal_coalitions}
-use Rattle.mwc_walk.specs.Slices.{in_slice, slice}
+use Rattle.council_game.specs.Votes.{RuleView, Votes, IsRule, IsRanked, IsVotes, has, without, weight, wins, minimal, down, minimal_coalitions}
+use Rattle.mwc_walk.specs.Slices.{slice}
 use Rattle.mwc_walk.specs.Inner.Places.{wins_at}
 use Rattle.council_game.proofs.Meanings.{needs-each-member}
 use Rattle.council_game.proofs.Weights.{weight-more, weight-prefix, weight-without, weight-zero}
@@ -104,7 +104,7 @@ length-down (suc n) = ap (λ (i : ℕ). suc i) (length-down n)
 
 -- a slice is shorter than a count of visits can grow
 pub slice-short : (v : Votes) (k j : ℕ) → v.members ≤ 40 → length (slice v k j) ≤ 2 ^ 40
-unfolding slice in_slice minimal_coalitions minimal_below
+unfolding slice minimal_coalitions
 slice-short v k j le =
     let a = filter-short (λ c. eqb (c / 2 ^ (v.members - k)) (2 ^ k - 1 - j)) (filter (minimal v) (down (2 ^ v.members))) in
     let b = filter-short (minimal v) (down (2 ^ v.members)) in

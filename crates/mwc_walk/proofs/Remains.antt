@@ -6,9 +6,10 @@ use Rattle.std.proofs.Math.Seq.{drop-append_seam}
 use Rattle.std.proofs.lemmas.Bool.{cases_Bool, cond-true, cond-false, cond_both}
 use Rattle.std.proofs.lemmas.List.{length-append}
 use Rattle.std.proofs.lemmas.Nat.{mul-le, pow-add}
-use Rattle.council_game.specs.Votes.{Votes, minimal, down, minimal_below, minimal_coalitions}
-use Rattle.mwc_walk.specs.Slices.{in_slice, slice}
-use Rattle.mwc_walk.specs.Inner.Places.{left_below}
+use Rattle.council_game.specs.Votes.{Votes, minimal, down, minimal_coalitions}
+use Rattle.council_game.specs.Inner.Below.{minimal_below}
+use Rattle.mwc_walk.specs.Slices.{slice}
+use Rattle.mwc_walk.specs.Inner.Places.{in_slice, left_below}
 use Rattle.mwc_walk.specs.declared.cursor.Cursor.{Cursor}
 use Rattle.mwc_walk.specs.Inner.Cursor.{bound, left, CursorIs}
 use Rattle.mwc_walk.proofs.Steps.{rest-most}

@@ -5,10 +5,11 @@ use Rattle.std.proofs.lemmas.Nat.Bits.{bit_at_cat_low}
 use Rattle.std.proofs.lemmas.Nat.{div-mul-add, pow_pos, pow-add, mul-le}
 use Rattle.std.proofs.Math.Nat.{lt-div-mul-add, div-mul-le_self}
 use Rattle.std.proofs.lemmas.Bool.{cases_Bool, and_left, eq-eqb, ne_eqb, cond-false, cond-true, false_from_ne_true, both_ways}
-use Rattle.council_game.specs.Votes.{Votes, IsVotes, has, without, wins, minimal, down, minimal_below, minimal_coalitions}
+use Rattle.council_game.specs.Votes.{Votes, IsVotes, has, without, wins, minimal, down, minimal_coalitions}
+use Rattle.council_game.specs.Inner.Below.{minimal_below}
 use Rattle.council_game.proofs.Meanings.{needs-each-member}
-use Rattle.mwc_walk.specs.Slices.{in_slice, slice}
-use Rattle.mwc_walk.specs.Inner.Places.{left_below, reaches, wins_at}
+use Rattle.mwc_walk.specs.Slices.{slice}
+use Rattle.mwc_walk.specs.Inner.Places.{in_slice, left_below, reaches, wins_at}
 use Rattle.mwc_walk.proofs.Blocks.{filter-down_skip, filter-down_take, some_digit, wins-below, loses-below}
 
 -- numbers of one block have one prefix

@@ -1,7 +1,7 @@
 -- The minimal winning coalitions of a game can be counted.
 use Rattle.std.proofs.Common.{ℕ, ◌≡◌, ◌^◌, ◌<◌, ◌≤◌, zero, suc, length, ap, refl, arith}
 use Rattle.std.proofs.Math.Pow.{pow_mono}
-use Rattle.council_game.specs.Votes.{down, minimal, minimal_below, minimal_coalitions}
+use Rattle.council_game.specs.Votes.{down, minimal, minimal_coalitions}
 use Rattle.council_game.specs.Game.{GameView, IsGame, votes_of, AreNonemptyCoalitions}
 use Rattle.council_game.proofs.Games.{votes-are}
 use Rattle.council_game.proofs.Listing.{listing-is}
@@ -24,7 +24,7 @@ down-length zero = refl
 down-length (suc n) = ap (λ (k : ℕ). suc k) (down-length n)
 
 pub minimal-few : (g : GameView) → IsGame g → length (minimal_coalitions (votes_of g)) ≤ 2 ^ 40
-unfolding minimal_coalitions minimal_below
+unfolding minimal_coalitions
 minimal-few g game =
     let less = length-filter-le (minimal (votes_of g)) (down (2 ^ length g.names)) in
     let all = down-length (2 ^ length g.names) in

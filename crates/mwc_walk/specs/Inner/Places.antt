@@ -1,9 +1,13 @@
 -- A place of the walk: x is the number of the first p places.
-use Rattle.std.specs.Prelude.{ℕ, ◌+◌, ◌≡◌, ◌≤◌, ◌<◌, Bool, true, ◌&&◌, nat_le, List, [], ◌∷◌, take, drop, slice_index}
-use Rattle.std.specs.List.{sum, AllZip}
+use Rattle.std.specs.Prelude.{ℕ, ◌+◌, ◌-◌, ◌/◌, ◌^◌, ◌==◌, ◌≡◌, ◌≤◌, ◌<◌, Bool, true, ◌&&◌, nat_le, List, [], ◌∷◌, take, drop, slice_index}
+use Rattle.std.specs.List.{filter, sum, AllZip}
 use Rattle.mwc_walk.specs.declared.lane.Lane.{Lane}
-use Rattle.council_game.specs.Votes.{Votes, RuleView, IsRule, weight, minimal_below}
-use Rattle.mwc_walk.specs.Slices.{in_slice}
+use Rattle.council_game.specs.Votes.{Votes, RuleView, IsRule, weight}
+use Rattle.council_game.specs.Inner.Below.{minimal_below}
+
+-- of a list of coalitions, those of slice j at k bits
+unfoldable pub in_slice : Votes → ℕ → ℕ → List ℕ → List ℕ
+in_slice v k j cs = filter (λ c. c / 2 ^ (v.members - k) == 2 ^ k - 1 - j) cs
 
 -- what is left of slice j when the numbers below a bound are left
 unfoldable pub left_below : Votes → ℕ → ℕ → ℕ → List ℕ
