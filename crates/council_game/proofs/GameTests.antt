@@ -40,7 +40,7 @@ weight-out ws n m c p s t e long below is even sums =
     omega (arith, next', is, sums)
 
 pub rule-is : (v : Votes) (i : ℕ) → IsVotes v → i < length v.rules → IsRule v.members (rule_at v.rules i)
-rule-is v i game below = All-from_recursion (IsRule v.members) v.rules game.4 i _ below
+rule-is v i game below = All-from_recursion (IsRule v.members) v.rules game.rules i _ below
 
 pub partial-fits : (ws : List ℕ) (p x : ℕ) → p < length ws → weight (take p ws) x + get_or ws p 0 ≤ sum ws
 partial-fits ws p x below =
@@ -96,7 +96,7 @@ held-rule n rules i x game below at =
 pub sum-without : (n : ℕ) (r : RuleView) (c p s : ℕ) → IsRule n r → p < n → has n p c ≡ true → s ≡ weight r.weights c → s - get_or r.weights p 0 ≡ weight r.weights (without n p c)
 unfolding has without
 sum-without n r c p s is below inside sums =
-    let len : length r.weights ≡ n = is.0 in
+    let len : length r.weights ≡ n = is.full in
     let digit : c / 2 ^ (length r.weights - 1 - p) % 2 ≡ 1 = ap (λ (m : ℕ). c / 2 ^ (m - 1 - p) % 2) len ∙ eqb-true _ _ inside in
     let w : weight r.weights (c - 2 ^ (length r.weights - 1 - p)) + get_or r.weights p 0 ≡ weight r.weights c = weight-without r.weights p c (omega arith) digit in
     let moved : weight r.weights (c - 2 ^ (length r.weights - 1 - p)) ≡ weight r.weights (c - 2 ^ (n - 1 - p)) = ap (λ (m : ℕ). weight r.weights (c - 2 ^ (m - 1 - p))) len in

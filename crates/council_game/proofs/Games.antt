@@ -122,7 +122,12 @@ rule-votes n first r few len len2 light quota =
     let one : 1 ≤ r.quota = ltb-false _ _ least.0 in
     let most : r.quota ≤ sum r.weights = ltb-false _ _ least.1 in
     let bound = light-sum n r.weights len2 few light in
-    (length-weights_by_rank (rank_places first) r.weights ∙ length-rank_places first ∙ len, one, omega (arith, same), omega (arith, same))
+    record {
+      full = length-weights_by_rank (rank_places first) r.weights ∙ length-rank_places first ∙ len;
+      some = one;
+      met = omega (arith, same);
+      light = omega (arith, same);
+    }
 
 rules-votes : (n : ℕ) (first : List ℕ) (rs : List RuleView) → n ≤ 40 → length first ≡ n → AllByRecursion (λ r. length r.weights ≡ n) rs → AllByRecursion (λ r. (i : ℕ) → i < n → get_or r.weights i 0 ≤ 1000000000000) rs → AllByRecursion (λ r. has_bad_quota r ≡ false) rs → AllByRecursion (IsRule n) (map (rule_by_rank (rank_places first)) rs)
 rules-votes n first [] few len full light quotas = tt
@@ -156,4 +161,11 @@ votes-are g game =
     subst (λ (ranks : List ℕ). AllByRecursion (IsRule (length g.names)) (map (rule_by_rank ranks) g.rules)) (sym p.ranks) (rules-votes (length g.names) (first_weights g.rules) g.rules few len full light quotas) in
     let up : IsRanked (map (rule_by_rank g.ranks) g.rules) =
     subst (λ (ranks : List ℕ). IsRanked (map (rule_by_rank ranks) g.rules)) (sym p.ranks) (rules-ranked g.rules) in
-    (one, few, omega (arith, count, game.has_rule), omega (arith, count, game.few_rules), all, up)
+    record {
+      some = one;
+      few = few;
+      has_rule = omega (arith, count, game.has_rule);
+      few_rules = omega (arith, count, game.few_rules);
+      rules = all;
+      ranked = up;
+    }

@@ -33,9 +33,9 @@ wins-full : (n : ℕ) (rs : List RuleView) → AllByRecursion (IsRule n) rs → 
 unfolding wins
 wins-full n [] all = refl
 wins-full n (r ∷ rs) all =
-    let len : length r.weights ≡ n = all.0.0 in
+    let len : length r.weights ≡ n = all.0.full in
     let full : weight r.weights (2 ^ n - 1) ≡ sum r.weights = ap (λ (m : ℕ). weight r.weights (2 ^ m - 1)) (sym len) ∙ weight-full r.weights in
-    and_from (leb r.quota (weight r.weights (2 ^ n - 1))) (wins rs (2 ^ n - 1)) (le-leb r.quota (weight r.weights (2 ^ n - 1)) (omega (arith, full, all.0.2))) (wins-full n rs all.1)
+    and_from (leb r.quota (weight r.weights (2 ^ n - 1))) (wins rs (2 ^ n - 1)) (le-leb r.quota (weight r.weights (2 ^ n - 1)) (omega (arith, full, all.0.met))) (wins-full n rs all.1)
 
 -- the empty coalition loses
 none-wins : (n : ℕ) (rs : List RuleView) → AllByRecursion (IsRule n) rs → 1 ≤ length rs → wins rs 0 ≡ true → ⊥
@@ -45,7 +45,7 @@ none-wins n (r ∷ rs) all some h =
     let parts = and_parts (leb r.quota (weight r.weights 0)) (wins rs 0) h in
     let quota : r.quota ≤ weight r.weights 0 = leb-true _ _ parts.0 in
     let zero_is = weight-zero r.weights in
-    omega (arith, quota, zero_is, all.0.1)
+    omega (arith, quota, zero_is, all.0.some)
 
 down-below : (n m : ℕ) → n ≤ m → All (λ c. c < m) (down n)
 unfolding down
@@ -80,13 +80,13 @@ pub listing-is : (v : Votes) → IsVotes v → IsListing v
 unfolding minimal_coalitions minimal
 listing-is v game =
     let pos : 0 < 2 ^ v.members = pow_pos v.members in
-    let found = minimal-below_winning v (2 ^ v.members) (2 ^ v.members - 1) (omega arith) (wins-full v.members v.rules game.4) in
+    let found = minimal-below_winning v (2 ^ v.members) (2 ^ v.members - 1) (omega arith) (wins-full v.members v.rules game.rules) in
     record {
       some = some-left (minimal v) (2 ^ v.members) found.0 (omega (arith, found.1)) found.2;
       few = (let parts = length-filter_both (minimal v) (λ c. not (minimal v c)) (λ c. refl) (down (2 ^ v.members)) in let all = length-down (2 ^ v.members) in omega (arith, parts, all));
       below = All-filter (minimal v) (λ c. c < 2 ^ v.members) (down (2 ^ v.members)) (down-below (2 ^ v.members) (2 ^ v.members) (omega arith));
       descending = AllPairs-filter (λ a b. b < a) (minimal v) (down (2 ^ v.members)) (down-descends (2 ^ v.members));
-      none_empty = All-weaker (λ c. minimal v c ≡ true) (λ c. c ≢ 0) (λ c min e. none-wins v.members v.rules game.4 game.2 (ap (wins v.rules) (sym e) ∙ (and_parts _ _ min).0)) (filter (minimal v) (down (2 ^ v.members))) (filter_passes (minimal v) (down (2 ^ v.members)));
+      none_empty = All-weaker (λ c. minimal v c ≡ true) (λ c. c ≢ 0) (λ c min e. none-wins v.members v.rules game.rules game.has_rule (ap (wins v.rules) (sym e) ∙ (and_parts _ _ min).0)) (filter (minimal v) (down (2 ^ v.members))) (filter_passes (minimal v) (down (2 ^ v.members)));
     }
 
 -- ---- the list, filled from above

@@ -176,7 +176,7 @@ held-weights g ranked i x game same lt at =
     let v = held-votes g (length g.names) ranked game refl same in
     let count : length ranked ≡ length g.rules = sym (map_length rule_view ranked) ∙ ap length same ∙ length-map g.rules (rule_by_rank g.ranks) in
     let is = held-rule (length g.names) ranked i x v (omega (arith, count)) at in
-    (omega (arith, is.0, v.1), is.3)
+    (omega (arith, is.full, v.few), is.light)
 
 pub file-full : (g : GameView) (rules : List Rule) (i : ℕ) (x : Rule) → IsGame g → g.rules ≡ rule_views rules → i < length g.rules → x ≡ get_or rules i x → length x.weights.items ≡ length g.names
 file-full g rules i x game same lt at =

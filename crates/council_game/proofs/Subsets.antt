@@ -59,7 +59,7 @@ unfolding wins without
 wins-less n a c q [] all below sub out inside h = refl
 wins-less n a c q (r ∷ rs) all below sub out inside h =
     let parts = and_parts (leb r.quota (weight r.weights a)) (wins rs a) h in
-    let len : length r.weights ≡ n = all.0.0 in
+    let len : length r.weights ≡ n = all.0.full in
     let quota : r.quota ≤ weight r.weights a = leb-true _ _ parts.0 in
     let out2 : a / 2 ^ (length r.weights - 1 - q) % 2 ≡ 0 = ap (λ (m : ℕ). a / 2 ^ (m - 1 - q) % 2) len ∙ out in
     let inside2 : c / 2 ^ (length r.weights - 1 - q) % 2 ≡ 1 = ap (λ (m : ℕ). c / 2 ^ (m - 1 - q) % 2) len ∙ inside in
@@ -94,6 +94,6 @@ subsets-lose v game a c la lc min sub =
     let out : a / 2 ^ (v.members - 1 - (v.members - 1 - found.0)) % 2 ≡ 0 = ap (λ (k : ℕ). a / 2 ^ k % 2) place ∙ found.2 in
     let inside : c / 2 ^ (v.members - 1 - (v.members - 1 - found.0)) % 2 ≡ 1 = ap (λ (k : ℕ). c / 2 ^ k % 2) place ∙ found.3 in
     let below : v.members - 1 - found.0 < v.members = omega (arith, found.1) in
-    let still = wins-less v.members a c (v.members - 1 - found.0) v.rules game.4 below digits out inside won in
+    let still = wins-less v.members a c (v.members - 1 - found.0) v.rules game.rules below digits out inside won in
     let lost = ((needs-each-member v c).0 min).1 (v.members - 1 - found.0) below (eq-eqb (c / 2 ^ (v.members - 1 - (v.members - 1 - found.0)) % 2) 1 inside) in
     both_ways _ lost still)

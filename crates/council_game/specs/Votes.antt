@@ -16,9 +16,12 @@ pub record Votes : Type 0 where
 abbrev pub rule_at : List RuleView → ℕ → RuleView
 rule_at rs i = slice_index_or rs i (record { quota = 0; weights = [] })
 
--- each rule weighs each member, and its quota can be met
-abbrev pub IsRule : ℕ → RuleView → Type 0
-IsRule n r = (length r.weights ≡ n) × (1 ≤ r.quota) × (r.quota ≤ sum r.weights) × (sum r.weights ≤ 40000000000000)
+-- a rule of a game of n members: it weighs each member, and its quota can be met
+pub record IsRule (n : ℕ) (r : RuleView) : Type 0 where
+  pub full : length r.weights ≡ n
+  pub some : 1 ≤ r.quota
+  pub met : r.quota ≤ sum r.weights
+  pub light : sum r.weights ≤ 40000000000000
 
 -- heavier places come first
 abbrev pub IsRanked : List RuleView → Type 0
@@ -26,8 +29,13 @@ IsRanked [] = ⊤
 IsRanked (r ∷ rs) = (a b : ℕ) → a ≤ b → b < length r.weights → slice_index r.weights b ≤ slice_index r.weights a
 
 -- 1 to 40 members, 1 to 4 rules, and the places ranked by the first
-abbrev pub IsVotes : Votes → Type 0
-IsVotes v = (1 ≤ v.members) × (v.members ≤ 40) × (1 ≤ length v.rules) × (length v.rules ≤ 4) × AllByRecursion (IsRule v.members) v.rules × IsRanked v.rules
+pub record IsVotes (v : Votes) : Type 0 where
+  pub some : 1 ≤ v.members
+  pub few : v.members ≤ 40
+  pub has_rule : 1 ≤ length v.rules
+  pub few_rules : length v.rules ≤ 4
+  pub rules : AllByRecursion (IsRule v.members) v.rules
+  pub ranked : IsRanked v.rules
 
 -- in a game of n members, place p is in c where this binary digit of c is 1
 unfoldable pub has : ℕ → ℕ → ℕ → Bool

@@ -137,7 +137,7 @@ weights-more g r ps p =
 pub rule-is : (g : GameView) → IsGame g → (r : ℕ) → r < length g.rules → IsRule (length g.names) (rule_at (votes_of g).rules r)
 rule-is g game r lt =
     let votes = votes-are g game in
-    let each : AllByRecursion (IsRule (length g.names)) (votes_of g).rules = votes.4 in
+    let each : AllByRecursion (IsRule (length g.names)) (votes_of g).rules = votes.rules in
     let long : length (votes_of g).rules ≡ length g.rules = length-map g.rules _ in
     All-from_recursion (IsRule (length g.names)) (votes_of g).rules each r _ (omega (arith, long, lt))
 
@@ -146,7 +146,7 @@ unfolding weight_of_places weights_under places_before
 weights-all g game r c lt =
     let rule = rule-is g game r lt in
     let ws : List ℕ = (rule_at (votes_of g).rules r).weights in
-    ap (λ (n : ℕ). sum (map (λ p. slice_index ws p) (filter (λ p. has n p c) (range_with_len 0 n)))) (sym rule.0)
+    ap (λ (n : ℕ). sum (map (λ p. slice_index ws p) (filter (λ p. has n p c) (range_with_len 0 n)))) (sym rule.full)
     ∙ sym (weighs-its-members ws c)
 
 -- where there is no rule, nothing weighs anything
@@ -174,7 +174,7 @@ weights-light g game r c k le =
           let front = before-front n c k n le in
           let whole = ap (weight_of_places g r) front.1 ∙ weights-append g r (places_before n c k) front.0 in
           let most = weight-le (rule_at (votes_of g).rules r).weights c in
-          omega (arith, whole, weights-all g game r c lt, most, rule.3)
+          omega (arith, whole, weights-all g game r c lt, most, rule.light)
       | inr past ↦ omega (arith, weights-past g r past (places_before n c k))
     ]
 

@@ -72,7 +72,7 @@ weighed-values : (n c : ℕ) (rs : List RuleView) → AllByRecursion (IsRule n) 
 weighed-values n c [] h = tt
 weighed-values n c (r ∷ rs) h =
     let most = weight-le r.weights c in
-    let sum = h.0.3 in
+    let sum = h.0.light in
     (omega (arith, most, sum), weighed-values n c rs h.1)
 
 own-values : (i n : ℕ) (rs : List RuleView) → i < n → AllByRecursion (λ r. (k : ℕ) → k < n → get_or r.weights k 0 ≤ 1000000000000) rs → AllByRecursion (λ v. v < 2 ^ 64) (map (λ r. get_or r.weights i 0) rs)
@@ -87,8 +87,8 @@ pub coalition-fits : (g : GameView) → IsGame g → (c : ℕ) → length (coali
 unfolding coalition_line
 coalition-fits g game c =
     let votes = votes-are g game in
-    let few : length (votes_of g).rules ≤ 4 = votes.3 in
-    let each : AllByRecursion (IsRule (length g.names)) (votes_of g).rules = votes.4 in
+    let few : length (votes_of g).rules ≤ 4 = votes.few_rules in
+    let each : AllByRecursion (IsRule (length g.names)) (votes_of g).rules = votes.rules in
     let some = size-le (length g.names) c in
     let forty = few-members g game in
     let rules = length-map (votes_of g).rules (λ r. weight r.weights c) in

@@ -47,7 +47,7 @@ pub wins-prefix : (n p x : ℕ) (rs : List RuleView) → p ≤ n → AllByRecurs
 unfolding wins wins_at
 wins-prefix n p x [] le all = refl
 wins-prefix n p x (r ∷ rs) le all =
-    let e : length r.weights ≡ n = all.0.0 in
+    let e : length r.weights ≡ n = all.0.full in
     let one : weight r.weights (x * 2 ^ (n - p)) ≡ weight (take p r.weights) x =
     ap (λ (m : ℕ). weight r.weights (x * 2 ^ (m - p))) (sym e) ∙ weight-prefix r.weights p x (omega arith) in
     let more = wins-prefix n p x rs le all.1 in
@@ -59,7 +59,7 @@ unfolding wins wins_at
 wins-below n p c [] le all h = refl
 wins-below n p c (r ∷ rs) le all h =
     let parts = and_parts _ _ h in
-    let e : length r.weights ≡ n = all.0.0 in
+    let e : length r.weights ≡ n = all.0.full in
     let split : weight r.weights c ≡ weight (take p r.weights) (c / 2 ^ (n - p)) + weight (drop p r.weights) (c % 2 ^ (n - p)) =
     subst (λ (m : ℕ). weight r.weights c ≡ weight (take p r.weights) (c / 2 ^ (m - p)) + weight (drop p r.weights) (c % 2 ^ (m - p))) e (weight-at r.weights p c (omega arith)) in
     let q : r.quota ≤ weight (take p r.weights) (c / 2 ^ (n - p)) = leb-true _ _ parts.0 in
@@ -71,7 +71,7 @@ unfolding wins reaches
 loses-below n p c [] le all h = refl
 loses-below n p c (r ∷ rs) le all h =
     let parts = and_parts _ _ h in
-    let e : length r.weights ≡ n = all.0.0 in
+    let e : length r.weights ≡ n = all.0.full in
     let split : weight r.weights c ≡ weight (take p r.weights) (c / 2 ^ (n - p)) + weight (drop p r.weights) (c % 2 ^ (n - p)) =
     subst (λ (m : ℕ). weight r.weights c ≡ weight (take p r.weights) (c / 2 ^ (m - p)) + weight (drop p r.weights) (c % 2 ^ (m - p))) e (weight-at r.weights p c (omega arith)) in
     let q : r.quota ≤ weight r.weights c = leb-true _ _ parts.0 in

@@ -25,7 +25,7 @@ lanes-without n p x q [] (l ∷ ls) le below inside are = elim are [ ]
 lanes-without n p x q (r ∷ rs) [] le below inside are = elim are [ ]
 lanes-without n p x q (r ∷ rs) (l ∷ ls) le below inside are =
     let is : LaneIs n p x r l = are.0 in
-    let long : length r.weights ≡ n = is.rule.0 in
+    let long : length r.weights ≡ n = is.rule.full in
     let more = lanes-without n p x q rs ls le below inside are.1 in
     let whole : weight r.weights (x * 2 ^ (n - p)) ≡ weight (take p r.weights) x =
     ap (λ (m : ℕ). weight r.weights (x * 2 ^ (m - p))) (sym long) ∙ weight-prefix r.weights p x (omega arith) in
@@ -79,7 +79,7 @@ pub record LastPlace (v : Votes) (a : Cursor) (rest mask : ℕ) : Type 0 where
 
 pub last-place : (v : Votes) (a : Cursor) (c rest mask : ℕ) → CursorIs v a → mask ≡ rest → 0 < rest → Tried v c rest → LastPlace v a rest mask
 last-place v a c rest mask is same pos tried =
-    let few : a.members ≤ 40 = omega (arith, is.members, is.game.1) in
+    let few : a.members ≤ 40 = omega (arith, is.members, is.game.few) in
     let short : rest < 2 ^ a.members = subst (λ (n : ℕ). rest < 2 ^ n) (sym is.members) tried.below in
     let next = next-place a.members rest mask few same pos short in
     record {
@@ -106,7 +106,7 @@ first-lost n p x q m [] ls d l le ranked some are at lost before below inside = 
 first-lost n p x q m (r ∷ rs) [] d l le ranked some are at lost before below inside = elim are [ ]
 first-lost n p x q m (r ∷ rs) (k ∷ ls) d l le ranked some are at lost before below inside =
     let is : LaneIs n p x r l = subst (λ (i : Lane). LaneIs n p x r i) at are.0 in
-    let long : length r.weights ≡ n = is.rule.0 in
+    let long : length r.weights ≡ n = is.rule.full in
     let whole : weight r.weights (x * 2 ^ (n - p)) ≡ weight (take p r.weights) x =
     ap (λ (i : ℕ). weight r.weights (x * 2 ^ (i - p))) (sym long) ∙ weight-prefix r.weights p x (omega arith) in
     let less : l.sum - get_or r.weights m 0 ≡ weight r.weights (without n m (x * 2 ^ (n - p))) =
@@ -122,7 +122,7 @@ pub up-to-last : (v : Votes) (a : Cursor) (rest mask q : ℕ) → CursorIs v a �
     → q < v.members → has v.members q rest ≡ true → q ≤ a.members - 1 - trailing_zeros w64 mask
 unfolding has
 up-to-last v a rest mask q is same pos short below in' =
-    let up : 2 ^ v.members ≤ 2 ^ 40 = pow_mono is.game.1 in
+    let up : 2 ^ v.members ≤ 2 ^ 40 = pow_mono is.game.few in
     let wide : mask < 2 ^ 64 = omega (arith, same) in
     let zeros = bit_at-trailing_zeros w64 mask (omega (arith, same)) wide in
     let one : rest / 2 ^ (v.members - 1 - q) % 2 ≡ 1 = eqb-true _ _ in' in
@@ -138,14 +138,14 @@ pub first-needed : (v : Votes) (a : Cursor) (c rest q : ℕ) (d l : Lane) → Cu
     → lane_wins_without q l ≡ false → q < v.members → ((m : ℕ) → m < v.members → has v.members m rest ≡ true → m ≤ q)
     → wins v.rules c ≡ true → Tried v c rest → minimal v c ≡ true
 first-needed v a c rest q d l is mask at lost below last won tried =
-    let some : 1 ≤ a.rules = omega (arith, is.rules, is.game.2) in
+    let some : 1 ≤ a.rules = omega (arith, is.rules, is.game.has_rule) in
     let head : get_or (take a.rules a.lanes) 0 d ≡ l = get_or-take a.rules a.lanes 0 d some ∙ at in
     (needs-each-member v c).1 (
       won,
       λ m lt in'. elim (cases_Bool (has v.members m rest)) [
         | inl still ↦
             ap (λ (i : ℕ). wins v.rules (without v.members m i)) mask
-            ∙ first-lost v.members a.place a.prefix q m v.rules (take a.rules a.lanes) d l is.to is.game.5 is.game.2 is.lanes head lost (last m lt still) below (ap (has v.members m) (sym mask) ∙ in')
+            ∙ first-lost v.members a.place a.prefix q m v.rules (take a.rules a.lanes) d l is.to is.game.ranked is.game.has_rule is.lanes head lost (last m lt still) below (ap (has v.members m) (sym mask) ∙ in')
         | inr out ↦ tried.needed m lt in' out
       ],
     )

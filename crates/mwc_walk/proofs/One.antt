@@ -31,7 +31,7 @@ unfolding wins wins_at has without
 one-loses n p x q [] one all ranked pos le lost below in' = absurd (omega (arith, one))
 one-loses n p x q (r ∷ s ∷ rs) one all ranked pos le lost below in' = absurd (omega (arith, one))
 one-loses n p x q (r ∷ []) one all ranked pos le lost below in' =
-    let long : length r.weights ≡ n = all.0.0 in
+    let long : length r.weights ≡ n = all.0.full in
     let before : q < p = place-before n p x q le below in' in
     let some : x * 2 ^ (n - p) / 2 ^ (n - 1 - q) % 2 ≡ 1 = eqb-true _ _ in' in
     let less = weight-without r.weights q (x * 2 ^ (n - p)) (omega arith) (rw long some) in
@@ -54,8 +54,8 @@ one-loses n p x q (r ∷ []) one all ranked pos le lost below in' =
 pub one-minimal : (v : Votes) (p x : ℕ) → IsVotes v → length v.rules ≡ 1 → 0 < p → p ≤ v.members → wins_at v.rules p x ≡ true → wins_at v.rules (p - 1) (x / 2) ≡ false → minimal v (x * 2 ^ (v.members - p)) ≡ true
 one-minimal v p x game one pos le won lost =
     (needs-each-member v (x * 2 ^ (v.members - p))).1 (
-      wins-prefix v.members p x v.rules le game.4 ∙ won,
-      λ q below in'. one-loses v.members p x q v.rules one game.4 game.5 pos le lost below in',
+      wins-prefix v.members p x v.rules le game.rules ∙ won,
+      λ q below in'. one-loses v.members p x q v.rules one game.rules game.ranked pos le lost below in',
     )
 
 -- a prefix that wins first by its last place has that place in it
@@ -63,7 +63,7 @@ same-even : (n p y : ℕ) (rs : List RuleView) → p < n → AllByRecursion (IsR
 unfolding wins_at
 same-even n p y [] below all = refl
 same-even n p y (r ∷ rs) below all =
-    let long : length r.weights ≡ n = all.0.0 in
+    let long : length r.weights ≡ n = all.0.full in
     let more : weight (take (p + 1) r.weights) (2 * y + 0) ≡ weight (take p r.weights) y + 0 * get_or r.weights p 0 = weight-more r.weights p y 0 (omega arith) (omega arith) in
     let e : 2 * y + 0 ≡ 2 * y = omega arith in
     let more' : weight (take (p + 1) r.weights) (2 * y) ≡ weight (take p r.weights) y = ap (weight (take (p + 1) r.weights)) (sym e) ∙ more ∙ (let z : weight (take p r.weights) y + 0 * get_or r.weights p 0 ≡ weight (take p r.weights) y = omega arith in z) in
@@ -86,7 +86,7 @@ pub empty-loses : (n : ℕ) (rs : List RuleView) → 1 ≤ length rs → AllByRe
 unfolding wins_at
 empty-loses n [] some all = absurd (omega (arith, some))
 empty-loses n (r ∷ rs) some all =
-    let q : 1 ≤ r.quota = all.0.1 in
+    let q : 1 ≤ r.quota = all.0.some in
     let z : weight (take 0 r.weights) 0 ≡ 0 = weight-zero (take 0 r.weights) in
     let loses : weight (take 0 r.weights) 0 < r.quota = omega (arith, q, z) in
     and_left _ _ (lt-leb _ _ loses)

@@ -40,8 +40,8 @@ above-not_minimal v p x c game le win low high min =
     let prefix : (c - 2 ^ found.0) / 2 ^ (v.members - p) ≡ x = block-prefix x (v.members - p) (c - 2 ^ found.0) (omega arith) (omega arith) in
     let prefix' : (c - 2 ^ (v.members - 1 - (v.members - 1 - found.0))) / 2 ^ (v.members - p) ≡ x = ap (λ (i : ℕ). (c - 2 ^ i) / 2 ^ (v.members - p)) place ∙ prefix in
     let still : wins v.rules (c - 2 ^ (v.members - 1 - (v.members - 1 - found.0))) ≡ true =
-    wins-below v.members p (c - 2 ^ (v.members - 1 - (v.members - 1 - found.0))) v.rules le game.4 (ap (wins_at v.rules p) prefix' ∙ win) in
-    let lost = ((needs-each-member v c).0 min).1 (v.members - 1 - found.0) (omega (arith, game.0)) inside in
+    wins-below v.members p (c - 2 ^ (v.members - 1 - (v.members - 1 - found.0))) v.rules le game.rules (ap (wins_at v.rules p) prefix' ∙ win) in
+    let lost = ((needs-each-member v c).0 min).1 (v.members - 1 - found.0) (omega (arith, game.some)) inside in
     both_ways _ lost still
 
 -- a prefix that cannot reach some quota has nothing below it
@@ -50,7 +50,7 @@ unfolding left_below minimal_below
 left-dead v k j p x game le dead =
     let fails : (c : ℕ) → x * 2 ^ (v.members - p) ≤ c → c < x * 2 ^ (v.members - p) + 2 ^ (v.members - p) → minimal v c ≡ false =
     λ c low high. unfold minimal in and_left _ _ (false_from_ne_true _ (λ w.
-    both_ways _ dead (ap (reaches v.rules p) (sym (block-prefix x (v.members - p) c low high)) ∙ loses-below v.members p c v.rules le game.4 w))) in
+    both_ways _ dead (ap (reaches v.rules p) (sym (block-prefix x (v.members - p) c low high)) ∙ loses-below v.members p c v.rules le game.rules w))) in
     ap (in_slice v k j) (
     ap (λ (i : ℕ). filter (minimal v) (down i)) (next-block x (v.members - p))
     ∙ filter-down_skip (minimal v) (x * 2 ^ (v.members - p)) (2 ^ (v.members - p)) fails)

@@ -82,4 +82,4 @@ first-lanes v k j m ls game e four le is =
     let zero_is : (2 ^ k - 1 - j) / 2 ^ k ≡ 0 = (let b : (2 ^ k - 1 - j) / 2 ^ k < 1 = div_below (2 ^ k - 1 - j) (2 ^ k) 1 pos small in omega (arith, b)) in
     let k0 : k - 0 ≡ k = omega arith in
     let x : (1 * 2 ^ k % 2 ^ 64 - 1 - j) / 2 ^ (k - 0) ≡ 0 = ap (λ (i : ℕ). i / 2 ^ (k - 0)) (first-number k j le) ∙ ap (λ (i : ℕ). (2 ^ k - 1 - j) / 2 ^ i) k0 ∙ zero_is in
-    rw (x, e) (lanes-from v.members 0 0 v.rules ls (omega (arith, four, game.3)) is)
+    rw (x, e) (lanes-from v.members 0 0 v.rules ls (omega (arith, four, game.few_rules)) is)

@@ -38,7 +38,7 @@ unfolding wins_at
 wins-more n p y b [] below digit all h = refl
 wins-more n p y b (r ∷ rs) below digit all h =
     let parts = and_parts (leb r.quota (weight (take p r.weights) y)) (wins_at rs p y) h in
-    let long : length r.weights ≡ n = all.0.0 in
+    let long : length r.weights ≡ n = all.0.full in
     let q : r.quota ≤ weight (take p r.weights) y = leb-true _ _ parts.0 in
     let more : weight (take (p + 1) r.weights) (2 * y + b) ≡ weight (take p r.weights) y + b * get_or r.weights p 0 = weight-more r.weights p y b (omega arith) digit in
     and_from _ _ (le-leb _ _ (omega (arith, q, more))) (wins-more n p y b rs below digit all.1 parts.1)
@@ -59,7 +59,7 @@ back-up v a is stale more even =
     let m : a.members ≡ v.members = is.members in
     let lt : a.bits < a.place = omega (arith, is.from) in
     let to : a.place ≤ v.members = is.to in
-    let n40 : v.members ≤ 40 = is.game.1 in
+    let n40 : v.members ≤ 40 = is.game.few in
     let pe : a.place - 1 + 1 ≡ a.place = omega arith in
     let xe : 2 * (a.prefix / 2) ≡ a.prefix = omega arith in
     let block : a.prefix * 2 ^ (a.members - a.place) ≡ a.prefix / 2 * 2 ^ (a.members - (a.place - 1)) =
@@ -90,7 +90,7 @@ back-up v a is stale more even =
           number_in = is.number_in;
           inside = half-shift a.prefix a.bits (a.place - 1) (omega arith) ∙ ap (λ (i : ℕ). a.prefix / 2 ^ (i - a.bits)) pe ∙ is.inside;
           short = (let e : 2 ^ a.place ≡ 2 ^ (a.place - 1) * 2 = ap (λ (i : ℕ). 2 ^ i) (let d : a.place ≡ suc (a.place - 1) = omega arith in d) ∙ pow-suc 2 (a.place - 1) in omega (arith, e, is.short));
-          passed = λ further. lost-before v.members (a.place - 1) (a.prefix / 2) v.rules (omega arith) (omega arith) is.game.4 (is.passed lt);
+          passed = λ further. lost-before v.members (a.place - 1) (a.prefix / 2) v.rules (omega arith) (omega arith) is.game.rules (is.passed lt);
           least = (let t : cond a.fresh (cond (ltb a.bits a.place) (a.prefix % 2) a.bits) 0 ≡ 0 = cond-false a.fresh _ _ stale in
               let u : cond a.fresh (cond (ltb a.bits (a.place - 1)) (a.prefix / 2 % 2) a.bits) 0 ≡ 0 = cond-false a.fresh _ _ stale in
               omega (arith, t, u, size, is.least));
@@ -114,7 +114,7 @@ back-out v a ls is stale more odd room left_out =
     let m : a.members ≡ v.members = is.members in
     let lt : a.bits < a.place = omega (arith, is.from) in
     let to : a.place ≤ v.members = is.to in
-    let n40 : v.members ≤ 40 = is.game.1 in
+    let n40 : v.members ≤ 40 = is.game.few in
     let pe : a.place - 1 + 1 ≡ a.place = omega arith in
     let xe : 2 * (a.prefix / 2) + 1 ≡ a.prefix = omega arith in
     let ye : 2 * (a.prefix / 2) ≡ a.prefix - 1 = omega arith in
@@ -209,7 +209,7 @@ pub enter-dead : (v : Votes) (a : Cursor) → CursorIs v a → a.fresh ≡ true 
 enter-dead v a is fresh dead =
     let b : Cursor = record a { fresh = false } in
     let to : a.place ≤ v.members = is.to in
-    let n40 : v.members ≤ 40 = is.game.1 in
+    let n40 : v.members ≤ 40 = is.game.few in
     let old_sum : a.prefix + cond a.fresh 1 0 ≡ a.prefix + 1 = rw fresh refl in
     let old : bound a ≡ (a.prefix + 1) * 2 ^ (v.members - a.place) =
     ap (λ (i : ℕ). i * 2 ^ (a.members - a.place)) old_sum ∙ ap (λ (i : ℕ). (a.prefix + 1) * 2 ^ (i - a.place)) is.members in
@@ -252,7 +252,7 @@ unfolding reaches
 reaches-in n p x [] below all h = refl
 reaches-in n p x (r ∷ rs) below all h =
     let parts = and_parts (leb r.quota (weight (take p r.weights) x + sum (drop p r.weights))) (reaches rs p x) h in
-    let long : length r.weights ≡ n = all.0.0 in
+    let long : length r.weights ≡ n = all.0.full in
     let q : r.quota ≤ weight (take p r.weights) x + sum (drop p r.weights) = leb-true _ _ parts.0 in
     let more : weight (take (p + 1) r.weights) (2 * x + 1) ≡ weight (take p r.weights) x + 1 * get_or r.weights p 0 = weight-more r.weights p x 1 (omega arith) (omega arith) in
     let here : sum (drop p r.weights) ≡ get_or r.weights p 0 + sum (drop (p + 1) r.weights) = sum_by-drop_more (λ (y : ℕ). y) r.weights p 0 (omega arith) in
@@ -267,7 +267,7 @@ pow-short x p h =
 pub enter-in : (v : Votes) (a : Cursor) (ls : List Lane) (t : ℕ) → t ≡ min (a.visits + 1) (2 ^ 64 - 1) → a.visits < 2 ^ 64 → CursorIs v a → a.fresh ≡ true → a.place < v.members → reaches v.rules a.place a.prefix ≡ true → wins_at v.rules a.place a.prefix ≡ false → a.rules ≤ length ls → take a.rules ls ≡ map (lane_with a.place) (take a.rules a.lanes) → Steps v a On (record a { lanes = ls; prefix = 2 * a.prefix + 1; place = a.place + 1; visits = t })
 enter-in v a ls t counted holds is fresh below can lost room taken =
     let b : Cursor = record a { lanes = ls; prefix = 2 * a.prefix + 1; place = a.place + 1; visits = t } in
-    let n40 : v.members ≤ 40 = is.game.1 in
+    let n40 : v.members ≤ 40 = is.game.few in
     let from : a.bits ≤ a.place = is.from in
     let he : (2 * a.prefix + 1) / 2 ≡ a.prefix = omega arith in
     let ze : (2 * a.prefix + 1) % 2 ≡ 1 = omega arith in
@@ -286,7 +286,7 @@ enter-in v a ls t counted holds is fresh below can lost room taken =
     let u : cond a.fresh (cond (reaches v.rules a.place a.prefix) (a.place - a.bits) 0) 0 ≡ a.place - a.bits =
     cond-true a.fresh _ _ fresh ∙ cond-true (reaches v.rules a.place a.prefix) _ _ can in
     let u' : cond a.fresh (cond (reaches v.rules (a.place + 1) (2 * a.prefix + 1)) (a.place + 1 - a.bits) 0) 0 ≡ a.place + 1 - a.bits =
-    cond-true a.fresh _ _ fresh ∙ cond-true (reaches v.rules (a.place + 1) (2 * a.prefix + 1)) _ _ (reaches-in v.members a.place a.prefix v.rules below is.game.4 can) in
+    cond-true a.fresh _ _ fresh ∙ cond-true (reaches v.rules (a.place + 1) (2 * a.prefix + 1)) _ _ (reaches-in v.members a.place a.prefix v.rules below is.game.rules can) in
     let m1 : cond a.fresh (a.members - a.place) (64 + a.place) ≡ a.members - a.place = cond-true a.fresh _ _ fresh in
     let m2 : cond a.fresh (a.members - (a.place + 1)) (64 + (a.place + 1)) ≡ a.members - (a.place + 1) = cond-true a.fresh _ _ fresh in
     let few : length (slice v a.bits a.number) ≤ 2 ^ 40 = slice-short v a.bits a.number n40 in record {
@@ -333,7 +333,7 @@ won-visited : (v : Votes) (a : Cursor) → CursorIs v a → wins_at v.rules a.pl
 won-visited v a is won =
     elim (cases_lt a.bits a.place) [
       | inl lt ↦
-          let odd : a.prefix % 2 ≡ 1 = won-odd v.members a.place a.prefix v.rules (omega arith) is.to is.game.4 won (is.passed lt) in
+          let odd : a.prefix % 2 ≡ 1 = won-odd v.members a.place a.prefix v.rules (omega arith) is.to is.game.rules won (is.passed lt) in
           let t : cond (ltb a.bits a.place) (a.prefix % 2) a.bits ≡ a.prefix % 2 = cond-true (ltb a.bits a.place) _ _ (lt-ltb a.bits a.place lt) in
           omega (arith, t, odd)
       | inr ge ↦
@@ -344,7 +344,7 @@ won-visited v a is won =
                 let p0 : a.place ≡ 0 = omega arith in
                 let short : a.prefix < 2 ^ 0 = subst (λ (i : ℕ). a.prefix < 2 ^ i) p0 is.short in
                 let x0 : a.prefix ≡ 0 = omega arith in
-                absurd (both_ways _ (empty-loses v.members v.rules is.game.2 is.game.4) (ap (λ (i : ℕ). wins_at v.rules i 0) (sym p0) ∙ ap (wins_at v.rules a.place) (sym x0) ∙ won))
+                absurd (both_ways _ (empty-loses v.members v.rules is.game.has_rule is.game.rules) (ap (λ (i : ℕ). wins_at v.rules i 0) (sym p0) ∙ ap (wins_at v.rules a.place) (sym x0) ∙ won))
           ]
     ]
 
@@ -395,7 +395,7 @@ enter-drop v a is fresh won min =
     let b : Cursor = record a { fresh = false } in
     let le : a.bits ≤ a.place = is.from in
     let to : a.place ≤ v.members = is.to in
-    let n40 : v.members ≤ 40 = is.game.1 in
+    let n40 : v.members ≤ 40 = is.game.few in
     let same : left v b ≡ left v a =
     after-left v a is ∙ sym (left-drop v a.bits a.number (a.prefix * 2 ^ (v.members - a.place)) min) ∙ sym (won-left v a is fresh won) in
     let size : length (left v b) ≡ length (left v a) = ap length same in
@@ -471,7 +471,7 @@ enter-short v a is =
 pub enter-mask : (v : Votes) (a : Cursor) → CursorIs v a → a.prefix * 2 ^ (a.members - a.place) % 2 ^ 64 ≡ a.prefix * 2 ^ (v.members - a.place)
 enter-mask v a is =
     let to : a.place ≤ v.members = is.to in
-    let n40 : v.members ≤ 40 = is.game.1 in
+    let n40 : v.members ≤ 40 = is.game.few in
     ap (λ (i : ℕ). a.prefix * 2 ^ (i - a.place) % 2 ^ 64) is.members
     ∙ shl_whole a.prefix a.place (v.members - a.place) 64 is.short (omega arith)
 

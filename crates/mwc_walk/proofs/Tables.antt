@@ -44,7 +44,7 @@ lanes-in n p x [] (l ∷ ls) below are = elim are [ ]
 lanes-in n p x (r ∷ rs) [] below are = elim are [ ]
 lanes-in n p x (r ∷ rs) (l ∷ ls) below are =
     let is : LaneIs n p x r l = are.0 in
-    let long : length r.weights ≡ n = is.rule.0 in
+    let long : length r.weights ≡ n = is.rule.full in
     let more : weight (take (p + 1) r.weights) (2 * x + 1) ≡ weight (take p r.weights) x + 1 * get_or r.weights p 0 = weight-more r.weights p x 1 (omega arith) (omega arith) in (
       record {
         rule = is.rule;
@@ -63,7 +63,7 @@ lanes-out n p y [] (l ∷ ls) below are = elim are [ ]
 lanes-out n p y (r ∷ rs) [] below are = elim are [ ]
 lanes-out n p y (r ∷ rs) (l ∷ ls) below are =
     let is : LaneIs n (p + 1) (2 * y + 1) r l = are.0 in
-    let long : length r.weights ≡ n = is.rule.0 in
+    let long : length r.weights ≡ n = is.rule.full in
     let with' : weight (take (p + 1) r.weights) (2 * y + 1) ≡ weight (take p r.weights) y + 1 * get_or r.weights p 0 = weight-more r.weights p y 1 (omega arith) (omega arith) in
     let without : weight (take (p + 1) r.weights) (2 * y + 0) ≡ weight (take p r.weights) y + 0 * get_or r.weights p 0 = weight-more r.weights p y 0 (omega arith) (omega arith) in
     let zero_more : weight (take (p + 1) r.weights) (2 * y + 0) ≡ weight (take (p + 1) r.weights) (2 * y) = ap (weight (take (p + 1) r.weights)) (let e : 2 * y + 0 ≡ 2 * y = omega arith in e) in (
@@ -84,7 +84,7 @@ lanes-up n p y [] (l ∷ ls) below are = elim are [ ]
 lanes-up n p y (r ∷ rs) [] below are = elim are [ ]
 lanes-up n p y (r ∷ rs) (l ∷ ls) below are =
     let is : LaneIs n (p + 1) (2 * y) r l = are.0 in
-    let long : length r.weights ≡ n = is.rule.0 in
+    let long : length r.weights ≡ n = is.rule.full in
     let without : weight (take (p + 1) r.weights) (2 * y + 0) ≡ weight (take p r.weights) y + 0 * get_or r.weights p 0 = weight-more r.weights p y 0 (omega arith) (omega arith) in
     let zero_more : weight (take (p + 1) r.weights) (2 * y + 0) ≡ weight (take (p + 1) r.weights) (2 * y) = ap (weight (take (p + 1) r.weights)) (let e : 2 * y + 0 ≡ 2 * y = omega arith in e) in (
       record {
@@ -103,8 +103,8 @@ fits-in n p x [] (l ∷ ls) below are = elim are [ ]
 fits-in n p x (r ∷ rs) [] below are = elim are [ ]
 fits-in n p x (r ∷ rs) (l ∷ ls) below are =
     let is : LaneIs n p x r l = are.0 in
-    let long : length r.weights ≡ n = is.rule.0 in
-    let total : sum r.weights ≤ 40000000000000 = is.rule.3 in
+    let long : length r.weights ≡ n = is.rule.full in
+    let total : sum r.weights ≤ 40000000000000 = is.rule.light in
     let cut : sum (take p r.weights) + sum (drop p r.weights) ≡ sum r.weights = sum_by-take-drop (λ (y : ℕ). y) r.weights p in
     let here : sum (drop p r.weights) ≡ get_or r.weights p 0 + sum (drop (p + 1) r.weights) = sum_by-drop_more (λ (y : ℕ). y) r.weights p 0 (omega arith) in
     let most : weight (take p r.weights) x ≤ sum (take p r.weights) = weight-le (take p r.weights) x in
@@ -116,7 +116,7 @@ fits-out n p y [] (l ∷ ls) below are = elim are [ ]
 fits-out n p y (r ∷ rs) [] below are = elim are [ ]
 fits-out n p y (r ∷ rs) (l ∷ ls) below are =
     let is : LaneIs n (p + 1) (2 * y + 1) r l = are.0 in
-    let long : length r.weights ≡ n = is.rule.0 in
+    let long : length r.weights ≡ n = is.rule.full in
     let with' : weight (take (p + 1) r.weights) (2 * y + 1) ≡ weight (take p r.weights) y + 1 * get_or r.weights p 0 = weight-more r.weights p y 1 (omega arith) (omega arith) in
     All-cons (λ (l : Lane). get_or l.weights p 0 ≤ l.sum) l ls (omega (arith, with', is.sum_is, is.weights p below)) (fits-out n p y rs ls below are.1)
 
@@ -128,7 +128,7 @@ full-reach n p x [] (l ∷ ls) past are = elim are [ ]
 full-reach n p x (r ∷ rs) [] past are = elim are [ ]
 full-reach n p x (r ∷ rs) (l ∷ ls) past are =
     let is : LaneIs n p x r l = are.0 in
-    let long : length r.weights ≡ n = is.rule.0 in
+    let long : length r.weights ≡ n = is.rule.full in
     let nothing : drop p r.weights ≡ [] = drop_all p r.weights (omega arith) in
     let more = full-reach n p x rs ls past are.1 in
     let here : weight (take p r.weights) x + sum (drop p r.weights) ≡ weight (take p r.weights) x = rw nothing (omega arith) in
@@ -141,7 +141,7 @@ lanes-pass n p y [] (l ∷ ls) below are = elim are [ ]
 lanes-pass n p y (r ∷ rs) [] below are = elim are [ ]
 lanes-pass n p y (r ∷ rs) (l ∷ ls) below are =
     let is : LaneIs n p y r l = are.0 in
-    let long : length r.weights ≡ n = is.rule.0 in
+    let long : length r.weights ≡ n = is.rule.full in
     let without : weight (take (p + 1) r.weights) (2 * y + 0) ≡ weight (take p r.weights) y + 0 * get_or r.weights p 0 = weight-more r.weights p y 0 (omega arith) (omega arith) in
     let zero_more : weight (take (p + 1) r.weights) (2 * y + 0) ≡ weight (take (p + 1) r.weights) (2 * y) = ap (weight (take (p + 1) r.weights)) (let e : 2 * y + 0 ≡ 2 * y = omega arith in e) in (
       record {

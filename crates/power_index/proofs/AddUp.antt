@@ -67,8 +67,8 @@ unfolding deegan_packel
 deegan_packel-adds_up g list game some h =
     adds_up (denominator * length list) (deegan_packel g list) (λ i. sum_by (λ s. denominator / s) (sizes_of_member g list i)) (members g) (omega arith)
     (λ i. scale (sum_by (λ s. denominator / s) (sizes_of_member g list i)) (unit_sum (sizes_of_member g list i)).1 (unit_sum (sizes_of_member g list i)).0
-    (over_common denominator (sizes_of_member g list i) (each_divides (length g.names) (sizes_of_member g list i) (few-members g game) (sizes-within g list i (votes-are g game).0))))
-    (λ i. mul-pos (bottom_pos (length g.names) (sizes_of_member g list i) (sizes-within g list i (votes-are g game).0)) some)
+    (over_common denominator (sizes_of_member g list i) (each_divides (length g.names) (sizes_of_member g list i) (few-members g game) (sizes-within g list i (votes-are g game).some))))
+    (λ i. mul-pos (bottom_pos (length g.names) (sizes_of_member g list i) (sizes-within g list i (votes-are g game).some)) some)
     (weights g list game h ∙ omega arith)
   where
     scale : (w b a : ℕ) → w * b ≡ a * denominator → a * (denominator * length list) ≡ w * (b * length list)

@@ -19,7 +19,7 @@ use Rattle.council_game.proofs.Digits.{lowest-place}
 use Rattle.power_index.proofs.Sums.{sum-map, swap, sum-ones, sum-cong}
 
 pub few-members : (g : GameView) → IsGame g → length g.names ≤ 40
-few-members g is = (votes-are g is).1
+few-members g is = (votes-are g is).few
 
 -- the number of places as a count
 size-count : (n c : ℕ) → size n c ≡ count_by (λ p. has n p c) (range_with_len 0 n)

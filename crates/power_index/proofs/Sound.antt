@@ -46,7 +46,7 @@ tallies-are_counts g list t h =
 pub counts-sound : (most : ℕ) (g : GameView) (list : List ℕ) (t : Tables) → IsGame g → 1 ≤ length list → length list ≤ most → AreNonemptyCoalitions g list
     → AreCounts g list t → AreWithin most t
 counts-sound most g list t game some few within h = record {
-  some_members = (let votes = votes-are g game in omega (arith, h.members, votes.0));
+  some_members = (let votes = votes-are g game in omega (arith, h.members, votes.some));
   few_members = (let few = few-members g game in omega (arith, h.members, few));
   some = omega (arith, h.total);
   few = omega (arith, h.total);
@@ -75,7 +75,7 @@ pub some-members : (t : Tables) → AreOfSomeList t → (1 ≤ t.members) × (t.
 some-members t h =
     let votes = votes-are h.game h.tallies.of_game.is_game in
     let few = few-members h.game h.tallies.of_game.is_game in
-    (omega (arith, h.tallies.of_game.members, votes.0), omega (arith, h.tallies.of_game.members, few))
+    (omega (arith, h.tallies.of_game.members, votes.some), omega (arith, h.tallies.of_game.members, few))
 
 pub some-total : (t : Tables) → AreOfSomeList t → table_total t ≤ 2 ^ 40
 some-total t h = let counts = some-counts t h in omega (arith, counts.total, h.few)

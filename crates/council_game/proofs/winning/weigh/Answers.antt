@@ -6,17 +6,17 @@ use Rattle.council_game.proofs.winning.weigh.Goals as goal
 pub weight_of-requires-clause-few : goal.weight_of-requires-clause-few
 weight_of-requires-clause-few c =
     let is = held-rule c.args.members c.args.rules.now c.loop-r.r c.index-rules-r.result c.requires (omega arith) c.index-rules-r.is in
-    omega (arith, ap length c.deref.ensures.value, is.0, c.requires.1)
+    omega (arith, ap length c.deref.ensures.value, is.full, c.requires.few)
 
 pub weight_of-requires-clause-fits : goal.weight_of-requires-clause-fits
 weight_of-requires-clause-fits c =
     let is = held-rule c.args.members c.args.rules.now c.loop-r.r c.index-rules-r.result c.requires (omega arith) c.index-rules-r.is in
-    rw c.deref.ensures.value is.3
+    rw c.deref.ensures.value is.light
 
 pub loop-r-preserved : goal.loop-r-preserved
 loop-r-preserved c =
     let at = rule-at c.args.rules.now c.loop-r.r c.index-rules-r.result (omega arith) c.index-rules-r.is in
-    let few = c.requires.3 in
+    let few = c.requires.few_rules in
     let count = count-rules c.args.rules.now in
     let here = c.weight_of.ensures ∙ ap (λ (l : List ℕ). weight l c.args.mask) c.deref.ensures.value ∙ ap (λ (r : RuleView). weight r.weights c.args.mask) (sym at) in
     record {

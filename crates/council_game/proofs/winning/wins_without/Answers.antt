@@ -15,7 +15,7 @@ returns-then-saturating_sub-rule c =
     let is = held-rule c.args.members c.args.rules.now c.loop-r.r c.index-rules-r.result c.requires.votes (omega arith) c.index-rules-r.is in
     let count = count-rules c.args.rules.now in
     let sum = c.requires.weighed c.loop-r.r (omega (arith, count)) ∙ ap (λ (r : RuleView). weight r.weights c.args.weighed.now.mask) at in
-    let read : c.index.result.now ≡ get_or c.index-rules-r.result.weights.items c.args.place 0 = get_or_read c.index-rules-r.result.weights.items c.args.place c.index.result.now (omega (arith, is.0, c.requires.place)) c.index.ensures 0 in
+    let read : c.index.result.now ≡ get_or c.index-rules-r.result.weights.items c.args.place 0 = get_or_read c.index-rules-r.result.weights.items c.args.place c.index.result.now (omega (arith, is.full, c.requires.place)) c.index.ensures 0 in
     let less = sum-without c.args.members (rule_view c.index-rules-r.result) c.args.weighed.now.mask c.args.place _ is c.requires.place c.requires.inside sum in
     sym (lost-by (rule_views c.args.rules.now) c.loop-r.r (without c.args.members c.args.place c.args.weighed.now.mask) (rule_view c.index-rules-r.result) (omega (arith, count)) at (omega (arith, less, read, c.saturating_sub.ensures, c.if-saturating_sub-rule.true)))
 
@@ -25,7 +25,7 @@ loop-r-preserved c =
     let is = held-rule c.args.members c.args.rules.now c.loop-r.r c.index-rules-r.result c.requires.votes (omega arith) c.index-rules-r.is in
     let count = count-rules c.args.rules.now in
     let sum = c.requires.weighed c.loop-r.r (omega (arith, count)) ∙ ap (λ (r : RuleView). weight r.weights c.args.weighed.now.mask) at in
-    let read : c.index.result.now ≡ get_or c.index-rules-r.result.weights.items c.args.place 0 = get_or_read c.index-rules-r.result.weights.items c.args.place c.index.result.now (omega (arith, is.0, c.requires.place)) c.index.ensures 0 in
+    let read : c.index.result.now ≡ get_or c.index-rules-r.result.weights.items c.args.place 0 = get_or_read c.index-rules-r.result.weights.items c.args.place c.index.result.now (omega (arith, is.full, c.requires.place)) c.index.ensures 0 in
     let less = sum-without c.args.members (rule_view c.index-rules-r.result) c.args.weighed.now.mask c.args.place _ is c.requires.place c.requires.inside sum in
     next-by (rule_views c.args.rules.now) c.loop-r.r (without c.args.members c.args.place c.args.weighed.now.mask) (rule_view c.index-rules-r.result) (omega (arith, count)) at c.loop-r.invariant (omega (arith, less, read, c.saturating_sub.ensures, c.if-saturating_sub-rule.false))
 

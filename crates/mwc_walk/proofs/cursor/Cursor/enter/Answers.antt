@@ -15,7 +15,7 @@ take_in-requires-clause-place c =
     let room = in-room (votes_of c.args.game.now) c.args.self.now c.requires.is
     (reach-is _ _ c.requires.is true (sym c.all_reach.ensures ∙ c.if-not-all_reach.false))
     (win-is _ _ c.requires.is false (sym c.all_win.ensures ∙ c.if-not-all_win.true)) in
-    omega (arith, room, c.requires.is.game.1)
+    omega (arith, room, c.requires.is.game.few)
 
 pub take_in-requires-clause-fits : goal.take_in-requires-clause-fits
 take_in-requires-clause-fits c =
@@ -38,7 +38,7 @@ returns-then-not-all_win c =
 pub of_mask-coalition-requires : goal.of_mask-coalition-requires
 of_mask-coalition-requires c =
     let short = enter-short (votes_of c.args.game.now) c.args.self.now c.requires.is in
-    let most : 2 ^ (votes_of c.args.game.now).members ≤ 2 ^ 40 = (let two : 0 < 2 = omega arith in pow-le-pow_right two c.requires.is.game.1) in
+    let most : 2 ^ (votes_of c.args.game.now).members ≤ 2 ^ 40 = (let two : 0 < 2 = omega arith in pow-le-pow_right two c.requires.is.game.few) in
     let mask = enter-mask (votes_of c.args.game.now) c.args.self.now c.requires.is in
     omega (arith, short, most, mask)
 

@@ -8,7 +8,7 @@ use Rattle.mwc_walk.proofs.cursor.Cursor.start.Goals.{then-prefix-bits-eq1, else
 
 pub loop-place-init : goal.loop-place-init
 loop-place-init c = record {
-  room = omega (arith, c.rules-rules.ensures.votes, c.loop-rule.invariant.long, c.members-members.ensures.votes.3);
+  room = omega (arith, c.rules-rules.ensures.votes, c.loop-rule.invariant.long, c.members-members.ensures.votes.few_rules);
   are = first-lanes (votes_of c.args.game.now) c.args.bits c.args.number c.rules-rules.result c.loop-rule.lanes c.members-members.ensures.votes c.rules-rules.ensures.votes c.loop-rule.invariant.long c.requires.few
       (λ i below d. c.loop-rule.invariant.done i (omega arith) d);
 }

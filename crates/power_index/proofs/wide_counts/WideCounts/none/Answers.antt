@@ -12,7 +12,7 @@ loop-i-preserved c =
       long = length-set c.loop-i.ranks c.loop-i.i place ∙ before.long;
       done = below_more (λ j. get_or (set c.loop-i.ranks c.loop-i.i place) j 0 ≡ get_or c.args.game.now.ranks j 0) c.loop-i.i
           (λ j lt. get_or-set_other c.loop-i.ranks c.loop-i.i j place 0 (λ (e : j ≡ c.loop-i.i). absurd (omega arith)) ∙ before.done j lt)
-          (get_or-set_same c.loop-i.ranks c.loop-i.i place 0 (let few = c.members-members.ensures.votes.1 in omega (arith, before.long, few)) ∙ c.place_of.ensures.place);
+          (get_or-set_same c.loop-i.ranks c.loop-i.i place 0 (let few = c.members-members.ensures.votes.few in omega (arith, before.long, few)) ∙ c.place_of.ensures.place);
     }
 
 hold : (c : goal.After-new-none) → AreTallies c.args.game.now [] (record { members = c.members-members.result; ranks = c.loop-i.ranks; all = c.new-none.result; each = replicate 40 c.new-none.result })
