@@ -1,14 +1,16 @@
 -- In a game of one rule, what wins first on the way down is minimal.
 use Rattle.std.proofs.Common.{◌≡◌, ℕ, zero, suc, ◌+◌, ◌-◌, ◌*◌, ◌/◌, ◌%◌, ◌^◌, ◌<◌, ◌≤◌, Bool, true, false, eqb, List, [], ◌∷◌, length, take, get_or, refl, sym, ap, ◌∙◌, arith, inl, inr}
-use Rattle.std.specs.List.{AllByRecursion, filter}
+use Rattle.std.specs.List.{AllByRecursion, filter, count_by}
+use Rattle.std.proofs.lemmas.List.Sums.{length-filter, count_by-le-length}
 use Rattle.std.proofs.lemmas.Nat.Bits.{bit_at_cat_low, bit_at-zero}
 use Rattle.std.proofs.lemmas.Nat.{shr-shr, shl-shr, mul-le}
 use Rattle.std.proofs.Math.Nat.{pow-le-pow_right}
-use Rattle.std.proofs.lemmas.Bool.{and_from, and_left, le-leb, lt-leb, eqb-true, cases_lt, both_ways, cond_both}
-use Rattle.council_game.specs.Votes.{RuleView, Votes, IsRule, IsRanked, IsVotes, has, without, weight, wins, minimal, down, minimal_coalitions}
+use Rattle.std.proofs.lemmas.Bool.{and_from, and_left, le-leb, lt-leb, eqb-true, cases_lt, both_ways}
+use Rattle.council_game.specs.Votes.{RuleView, Votes, IsRule, IsRanked, IsVotes, has, without, weight, wins, minimal, minimal_coalitions}
 use Rattle.mwc_walk.specs.Slices.{slice}
 use Rattle.mwc_walk.specs.Inner.Places.{wins_at}
 use Rattle.council_game.proofs.Meanings.{needs-each-member}
+use Rattle.council_game.proofs.Listing.{listing-is}
 use Rattle.council_game.proofs.Weights.{weight-more, weight-prefix, weight-without, weight-zero}
 use Rattle.mwc_walk.proofs.Blocks.{wins-prefix}
 
@@ -91,26 +93,16 @@ empty-loses n (r ∷ rs) some all =
     let loses : weight (take 0 r.weights) 0 < r.quota = omega (arith, q, z) in
     and_left _ _ (lt-leb _ _ loses)
 
-filter-short : (p : ℕ → Bool) (xs : List ℕ) → length (filter p xs) ≤ length xs
-filter-short p [] = omega arith
-filter-short p (x ∷ xs) =
-    let rest = filter-short p xs in
-    cond_both (p x) (x ∷ filter p xs) (filter p xs) (λ l. length l ≤ length (x ∷ xs)) (λ _. omega (arith, rest)) (λ _. omega (arith, rest))
-
-length-down : (n : ℕ) → length (down n) ≡ n
-unfolding down
-length-down zero = refl
-length-down (suc n) = ap (λ (i : ℕ). suc i) (length-down n)
-
 -- a slice is shorter than a count of visits can grow
-pub slice-short : (v : Votes) (k j : ℕ) → v.members ≤ 40 → length (slice v k j) ≤ 2 ^ 40
-unfolding slice minimal_coalitions
-slice-short v k j le =
-    let a = filter-short (λ c. eqb (c / 2 ^ (v.members - k)) (2 ^ k - 1 - j)) (filter (minimal v) (down (2 ^ v.members))) in
-    let b = filter-short (minimal v) (down (2 ^ v.members)) in
-    let c : length (down (2 ^ v.members)) ≡ 2 ^ v.members = length-down (2 ^ v.members) in
-    let d : 2 ^ v.members ≤ 2 ^ 40 = pow-le-pow_right (let z : 0 < 2 = omega arith in z) le in
-    omega (arith, a, b, c, d)
+pub slice-short : (v : Votes) (k j : ℕ) → IsVotes v → length (slice v k j) ≤ 2 ^ 40
+unfolding slice
+slice-short v k j game =
+    let in_it : ℕ → Bool = λ c. eqb (c / 2 ^ (v.members - k)) (2 ^ k - 1 - j) in
+    let kept : length (filter in_it (minimal_coalitions v)) ≡ count_by in_it (minimal_coalitions v) = length-filter in_it (minimal_coalitions v) in
+    let less : count_by in_it (minimal_coalitions v) ≤ length (minimal_coalitions v) = count_by-le-length in_it (minimal_coalitions v) in
+    let listing = listing-is v game in
+    let up : 2 ^ v.members ≤ 2 ^ 40 = pow-le-pow_right (let two : 0 < 2 = omega arith in two) game.few in
+    omega (arith, kept, less, listing.few, up)
 
 -- a winning prefix as a number of the slice
 pub in-slice : (n k p x : ℕ) → k ≤ p → p ≤ n → x * 2 ^ (n - p) / 2 ^ (n - k) ≡ x / 2 ^ (p - k)

@@ -289,7 +289,7 @@ enter-in v a ls t counted holds is fresh below can lost room taken =
     cond-true a.fresh _ _ fresh ∙ cond-true (reaches v.rules (a.place + 1) (2 * a.prefix + 1)) _ _ (reaches-in v.members a.place a.prefix v.rules below is.game.rules can) in
     let m1 : cond a.fresh (a.members - a.place) (64 + a.place) ≡ a.members - a.place = cond-true a.fresh _ _ fresh in
     let m2 : cond a.fresh (a.members - (a.place + 1)) (64 + (a.place + 1)) ≡ a.members - (a.place + 1) = cond-true a.fresh _ _ fresh in
-    let few : length (slice v a.bits a.number) ≤ 2 ^ 40 = slice-short v a.bits a.number n40 in record {
+    let few : length (slice v a.bits a.number) ≤ 2 ^ 40 = slice-short v a.bits a.number is.game in record {
       follows = record {
         is = record {
           game = is.game;
