@@ -1,17 +1,15 @@
 -- The counts of a history and the items inside.
-use Rattle.std.proofs.Common.{◌≡◌, ℕ, ◌-◌, ◌<◌, ◌==◌, Bool, true, false, List, [], ◌∷◌, ◌++◌, length, None, slice_get, if◌then◌else◌, refl, ap, sym, ◌∙◌, arith, drop, append_assoc, length-append, suc, not}
+use Rattle.std.proofs.Common.{◌≡◌, ℕ, ◌-◌, ◌<◌, ◌==◌, Bool, true, false, List, [], ◌∷◌, ◌++◌, length, None, slice_get, if◌then◌else◌, refl, ap, sym, ◌∙◌, arith, drop, append_assoc, length-append, not}
 use Rattle.std.proofs.lemmas.Bool.Decides.{nat_tests}
 use Rattle.std.proofs.Math.Bool.{or-false, or-true}
-use Rattle.std.specs.List.{filter}
 use Rattle.std.proofs.lemmas.List.{append-nil}
 use Rattle.std.proofs.lemmas.List.Elements.{filter_map-append}
-use Rattle.std.proofs.lemmas.List.Sums.{length-filter}
 use Rattle.std.proofs.lemmas.List.Folds.{list_any-append}
 use Rattle.mwc_pipe.specs.declared.step.Step.{Step}
 use Rattle.mwc_pipe.specs.declared.step.Step.TheVariants.{Put, Take, Close}
 use Rattle.mwc_pipe.specs.declared.reply.Reply.{Reply}
 use Rattle.mwc_pipe.specs.declared.reply.Reply.TheVariants.{Accepted, Full, Closed, Item, Empty, Ended, First, Again}
-use Rattle.mwc_pipe.specs.History.{Event, item_in, item_out, is_accepted_put, is_answered_take, is_close, accepted, answered, came, gone, reply_of_take, reply_to, history_after}
+use Rattle.mwc_pipe.specs.History.{Event, item_in, item_out, is_close, came, gone, reply_of_take, reply_to, history_after}
 use Rattle.mwc_pipe.specs.PipeView.{PipeView, Leaves, IsStep}
 use Rattle.mwc_pipe.specs.Calls.{reply_of_taken, reply_of_close, TakesOut}
 use Rattle.mwc_pipe.specs.declared.taken.Taken.{Taken}
@@ -29,33 +27,15 @@ module _ {T : Type 0} where
   history_after_more capacity past [] step = refl
   history_after_more capacity past (s ∷ ss) step = history_after_more capacity (past ++ (s, reply_to capacity past s) ∷ []) ss step
 
-  accepted_filter : (past : List (Event T)) → length (filter is_accepted_put past) ≡ length (came past)
-  accepted_filter [] = refl
-  accepted_filter ((Put x, Accepted) ∷ past) = ap suc (accepted_filter past)
-  accepted_filter (_ ∷ past) = accepted_filter past
-
-  answered_filter : (past : List (Event T)) → length (filter is_answered_take past) ≡ length (gone past)
-  answered_filter [] = refl
-  answered_filter ((Take, Item x) ∷ past) = ap suc (answered_filter past)
-  answered_filter (_ ∷ past) = answered_filter past
-
-  -- the number of accepted puts is the length of the list of accepted items
-  pub accepted_is : (past : List (Event T)) → accepted past ≡ length (came past)
-  accepted_is past = sym (length-filter is_accepted_put past) ∙ accepted_filter past
-
-  -- the number of answered takes is the length of the list of items taken
-  pub answered_is : (past : List (Event T)) → answered past ≡ length (gone past)
-  answered_is past = sym (length-filter is_answered_take past) ∙ answered_filter past
-
   -- what a Put finds inside by counting
-  pub inside_count : (past : List (Event T)) (pipe : PipeView T) → Leaves past pipe → accepted past - answered past ≡ length pipe.inside
+  pub inside_count : (past : List (Event T)) (pipe : PipeView T) → Leaves past pipe → length (came past) - length (gone past) ≡ length pipe.inside
   inside_count past pipe leaves =
-      omega (arith, accepted_is past, answered_is past, length-append (gone past) pipe.inside, ap length leaves.lawful)
+      omega (arith, length-append (gone past) pipe.inside, ap length leaves.lawful)
 
   -- what a Take finds by its number among the accepted items
   pub oldest : (past : List (Event T)) (pipe : PipeView T) → Leaves past pipe →
-      slice_get (came past) (answered past) ≡ slice_get pipe.inside 0
-  oldest past pipe leaves = rw (answered_is past, ← leaves.lawful) (get_after (gone past) pipe.inside)
+      slice_get (came past) (length (gone past)) ≡ slice_get pipe.inside 0
+  oldest past pipe leaves = rw (← leaves.lawful) (get_after (gone past) pipe.inside)
 
   -- the reply, seen from what is inside
   abbrev pub reply_in : PipeView T → Step T → Reply T

@@ -1,5 +1,5 @@
 -- The replies of a pipe, by counting over the history. There is no queue here.
-use Rattle.std.specs.Prelude.{◌≡◌, ℕ, ◌-◌, ◌==◌, Bool, true, false, List, [], ◌∷◌, ◌++◌, Option, Some, None, slice_get, count_by, map, if◌then◌else◌}
+use Rattle.std.specs.Prelude.{◌≡◌, ℕ, ◌-◌, ◌==◌, Bool, true, false, List, [], ◌∷◌, ◌++◌, Option, Some, None, length, slice_get, map, if◌then◌else◌}
 use Rattle.std.specs.List.{filter_map, list_any}
 use Rattle.mwc_pipe.specs.declared.step.Step.{Step}
 use Rattle.mwc_pipe.specs.declared.step.Step.TheVariants.{Put, Take, Close}
@@ -21,25 +21,9 @@ module _ {T : Type 0} where
   item_out (Take, Item x) = Some x
   item_out _ = None
 
-  abbrev pub is_accepted_put : Event T → Bool
-  is_accepted_put (Put x, Accepted) = true
-  is_accepted_put _ = false
-
-  abbrev pub is_answered_take : Event T → Bool
-  is_answered_take (Take, Item x) = true
-  is_answered_take _ = false
-
   abbrev pub is_close : Step T → Bool
   is_close Close = true
   is_close _ = false
-
-  -- the number of puts accepted so far
-  abbrev pub accepted : List (Event T) → ℕ
-  accepted past = count_by is_accepted_put past
-
-  -- the number of takes answered by an item so far
-  abbrev pub answered : List (Event T) → ℕ
-  answered past = count_by is_answered_take past
 
   -- whether there was a close
   abbrev pub shut : List (Event T) → Bool
@@ -60,8 +44,9 @@ module _ {T : Type 0} where
 
   -- the reply to a step after this past
   abbrev pub reply_to : ℕ → List (Event T) → Step T → Reply T
-  reply_to capacity past (Put x) = if shut past then Closed else (if accepted past - answered past == capacity then Full else Accepted)
-  reply_to capacity past Take = reply_of_take (slice_get (came past) (answered past)) (shut past)
+  reply_to capacity past (Put x) =
+      if shut past then Closed else (if length (came past) - length (gone past) == capacity then Full else Accepted)
+  reply_to capacity past Take = reply_of_take (slice_get (came past) (length (gone past))) (shut past)
   reply_to capacity past Close = if shut past then Again else First
 
   -- the past, and after it these steps, each with its reply
