@@ -1,5 +1,5 @@
 -- Turns of desks.
-use Rattle.std.specs.Prelude.{◌≡◌, ℕ, ◌+◌, ◌<◌, Bool, true, false, ◌||◌, zero, suc, [], ◌∷◌, List, Option, None, All, length, replicate}
+use Rattle.std.specs.Prelude.{◌≡◌, ℕ, ◌+◌, ◌<◌, Bool, false, ◌||◌, zero, suc, [], ◌∷◌, List, Option, None, All, length, replicate}
 use Rattle.std.proofs.Common.{set, get_or, ap, subst, arith, sym, ◌∙◌}
 use Rattle.std.proofs.Math.Bool.{or-false}
 use Rattle.std.proofs.lemmas.List.{length-set, map-set, get_or-set_other, length-map, get_or_default}

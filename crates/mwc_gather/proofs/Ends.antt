@@ -1,5 +1,5 @@
 -- The end of gathering.
-use Rattle.std.specs.Prelude.{◌≡◌, ℕ, suc, ◌<◌, ◌≤◌, Bool, true, false, List, [], ◌∷◌, ◌++◌, Option, Some, None, cond, Err, All, length, map, refl}
+use Rattle.std.specs.Prelude.{◌≡◌, ℕ, suc, ◌<◌, ◌≤◌, Bool, true, false, List, [], ◌∷◌, ◌++◌, Option, Some, None, cond, Err, All, length, map, slice_get, refl}
 use Rattle.std.specs.List.{AllZip}
 use Rattle.std.specs.Option.{is_some}
 use Rattle.std.proofs.Common.{get_or, append_assoc, ap, subst, arith, sym, ◌∙◌}
@@ -8,7 +8,7 @@ use Rattle.std.proofs.lemmas.List.Elements.{All-head, All-tail, All-cons, All-pu
 use Rattle.mwc_parts.specs.Slicing.{Slicing}
 use Rattle.mwc_parts.specs.Sums.{sum_of}
 use Rattle.mwc_parts.specs.Wording.{total}
-use Rattle.mwc_parts.specs.Deals.{AscendsFrom}
+use Rattle.std.specs.List.Sorted.{IsStrictlyIncreasing}
 use Rattle.mwc_parts.specs.Inner.Deals.{Dealt}
 use Rattle.mwc_parts.specs.Inner.Dealing.{Seat, IsWell, givens, IsFresh}
 use Rattle.mwc_parts.specs.Parts.{IsPart, shares}
@@ -19,7 +19,7 @@ use Rattle.mwc_parts.specs.declared.met.Met.{Met}
 use Rattle.mwc_parts.specs.declared.fault.GatherFault.{GatherFault}
 use Rattle.mwc_parts.specs.declared.fault.GatherFault.TheVariants.{TooMany, Start, Memory, Ring}
 use Rattle.mwc_parts.proofs.Turns as turns
-use Rattle.mwc_parts.proofs.Firsts.{each_within, dealt_total, dealt_ascends, share_begins}
+use Rattle.mwc_parts.proofs.Firsts.{each_within, dealt_total, dealt_increase, share_begins}
 use Rattle.mwc_parts.proofs.Readings.{length-joined}
 use Rattle.mwc_gather.specs.declared.desk.Desk.{Desk}
 use Rattle.mwc_gather.specs.Inner.Desks.{seat, seats, DealsTo, Finished}
@@ -84,8 +84,8 @@ end_dealt {g} {most} {early} {stopped} {marks} desks parts h e l z =
 pub complete_sum : {g : Slicing} {workers : ℕ} {parts : List Part} → Complete g workers parts → sum_of (λ (p : Part). length p.got.items) parts ≡ all_total g
 complete_sum {g} {workers} {parts} c = parts_sum g parts c.are_parts ∙ dealt_total g c.dealt
 
-pub end_ascends : {n : ℕ} (parts : List Part) → Dealt n (shares parts) → All (λ (p : Part). AscendsFrom 0 p.slices.items) parts
-end_ascends parts d = all_of_map (AscendsFrom 0) (λ (p : Part). p.slices.items) parts (dealt_ascends d)
+pub end_increases : {n : ℕ} (parts : List Part) → Dealt n (shares parts) → All (λ (p : Part). IsStrictlyIncreasing p.slices.items) parts
+end_increases parts d = all_of_map IsStrictlyIncreasing (λ (p : Part). p.slices.items) parts (dealt_increase d)
 
 pub fresh_push : (desks : List Desk) (d : Desk) → All IsFresh (seats desks) → IsFresh (seat d) → All IsFresh (seats (desks ++ d ∷ []))
 fresh_push desks d a f = subst (λ (w : List Seat). All IsFresh w) (sym (map_push seat desks d)) (All-push IsFresh (seats desks) (seat d) a f)
@@ -147,11 +147,11 @@ ends_well {g} desks taken parts start f h e a b n l z =
     let w = subst (λ (x : List Desk). AllZip (Finished g) x parts) e z in
     (end_dealt desks parts h (a ∙ ap is_some (b ∙ n)) l w, w)
 
-pub end_begins : {g : Slicing} {most : ℕ} {early stopped : Bool} {marks : List (Option ℕ)} (desks : List Desk) (parts : List Part) → DealsTo g most early marks stopped desks → early ≡ false → AllZip (Finished g) desks parts → (w : ℕ) → w < length desks → w < g.slices → (rest : List ℕ) × (get_or (shares parts) w [] ≡ w ∷ rest)
+pub end_begins : {g : Slicing} {most : ℕ} {early stopped : Bool} {marks : List (Option ℕ)} (desks : List Desk) (parts : List Part) → DealsTo g most early marks stopped desks → early ≡ false → AllZip (Finished g) desks parts → (w : ℕ) → w < length desks → w < g.slices → slice_get (get_or (shares parts) w []) 0 ≡ Some w
 end_begins {g} desks parts h e z w a b =
     let n = length-map desks seat in
     let r = share_begins (seats desks) h.dealing (turns.well_goes_on (seats desks) e h.dealing (zip_well g desks parts z)) (omega arith) w a b in
-    (r.0, ap (λ (s : List (List ℕ)). get_or s w []) (zip_shares g desks parts z) ∙ r.1)
+    ap (λ (s : List ℕ). slice_get s 0) (ap (λ (s : List (List ℕ)). get_or s w []) (zip_shares g desks parts z) ∙ r.1)
 
 -- where no fault was met, the parts are complete
 pub completes : {g : Slicing} {most workers : ℕ} {early stopped : Bool} {marks : List (Option ℕ)} (desks taken : List Desk) (parts : List Part) (start : Met) (f : Option GatherFault) → DealsTo g most early marks stopped desks → taken ≡ desks → early ≡ is_some f → f ≡ fault_of start → fault_of start ≡ None → 0 < length desks → length desks ≡ workers → AllZip (Finished g) taken parts → Complete g workers parts

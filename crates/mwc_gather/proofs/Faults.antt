@@ -1,12 +1,12 @@
 -- The faults that were met.
-use Rattle.std.specs.Prelude.{◌≡◌, ◌⊎◌, ℕ, ◌<◌, false, List, [], ◌∷◌, ◌++◌, Option, Some, None, refl}
+use Rattle.std.specs.Prelude.{◌≡◌, ℕ, false, List, [], ◌∷◌, ◌++◌, Option, Some, None, refl}
 use Rattle.std.proofs.Common.{ap, subst, sym, ◌∙◌, inl, inr}
 use Rattle.mwc_parts.specs.Slicing.{Slicing}
 use Rattle.mwc_parts.specs.Fault.{nothing, also}
 use Rattle.mwc_parts.specs.Inner.Fault.{noted, IsEarly}
 use Rattle.mwc_parts.specs.declared.met.Met.{Met}
 use Rattle.mwc_parts.specs.declared.fault.GatherFault.{GatherFault}
-use Rattle.mwc_parts.specs.declared.fault.GatherFault.TheVariants.{Start, Memory}
+use Rattle.mwc_parts.specs.declared.fault.GatherFault.TheVariants.{Memory}
 use Rattle.mwc_gather.specs.declared.desk.Desk.{Desk}
 use Rattle.mwc_gather.specs.Inner.Orders.{slicing_of}
 use Rattle.mwc_gather.specs.Inner.Desks.{IsOf, Ends, Opens}

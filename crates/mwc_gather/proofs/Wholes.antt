@@ -11,7 +11,7 @@ use Rattle.mwc_parts.specs.Slicing.{Slicing}
 use Rattle.mwc_parts.specs.Parts.{IsPart, HasPieces}
 use Rattle.mwc_parts.specs.declared.part.Part.{Part}
 use Rattle.mwc_parts.specs.Pieces.{joined}
-use Rattle.mwc_parts.proofs.Readings.{length-joined, length-ends, piece_is}
+use Rattle.mwc_parts.proofs.Readings.{length-joined, piece_is}
 use Rattle.mwc_gather.specs.Slicings.{slicing}
 use Rattle.mwc_gather.specs.Inner.Gathering.{all_total}
 
@@ -32,9 +32,3 @@ has_pieces g p part m l =
 
 pub all_pieces : (g : Slicing) (parts : List Part) → All (IsPart g) parts → All (HasPieces g.slice) parts
 all_pieces g parts a = All-weaker (IsPart g) (HasPieces g.slice) (has_pieces g) parts a
-
-pub all_joined : (g : Slicing) (parts : List Part) → All (IsPart g) parts → All (λ (p : Part). p.got.items ≡ flat_map g.slice p.slices.items) parts
-all_joined g parts a = All-weaker (IsPart g) (λ (p : Part). p.got.items ≡ flat_map g.slice p.slices.items) (λ p part. part.0) parts a
-
-pub all_ends : (g : Slicing) (parts : List Part) → All (IsPart g) parts → All (λ (p : Part). length p.ends.items ≡ length p.slices.items) parts
-all_ends g parts a = All-weaker (IsPart g) (λ (p : Part). length p.ends.items ≡ length p.slices.items) (λ p part. ap (λ (l : List ℕ). length l) part.1 ∙ length-ends g 0 p.slices.items) parts a

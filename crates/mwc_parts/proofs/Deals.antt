@@ -1,13 +1,14 @@
 -- Deals, one slice at a time.
 use Rattle.std.specs.Prelude.{◌≡◌, ◌⊎◌, ℕ, zero, suc, ◌+◌, ◌<◌, ◌≤◌, Bool, true, false, cond, List, [], ◌∷◌, ◌++◌, length, map, All, refl}
 use Rattle.std.specs.List.{range_with_len}
+use Rattle.std.specs.List.Sorted.{IsStrictlyIncreasing}
 use Rattle.std.proofs.Common.{eqb, set, ap, arith, ◌∙◌, inl, inr}
 use Rattle.std.proofs.lemmas.Bool.{eq-eqb, ne_eqb}
 use Rattle.std.proofs.lemmas.List.{append-nil}
 use Rattle.std.proofs.lemmas.List.Elements.{All-head, All-tail, All-cons, All-weaker}
-use Rattle.mwc_parts.specs.Sums.{sum_of, times}
-use Rattle.mwc_parts.specs.Deals.{AscendsFrom}
-use Rattle.mwc_parts.specs.Inner.Deals.{held_from, held, shares_by}
+use Rattle.mwc_parts.specs.Sums.{sum_of}
+use Rattle.mwc_parts.specs.Inner.Sums.{times}
+use Rattle.mwc_parts.specs.Inner.Deals.{held_from, held, shares_by, AscendsFrom}
 
 cons_if : (b : Bool) (j : ℕ) (x a c : List ℕ) → x ≡ a ++ c → cond b (j ∷ x) x ≡ cond b (j ∷ a) a ++ c
 cons_if true j x a c e = ap (λ (w : List ℕ). j ∷ w) e
@@ -56,9 +57,20 @@ ascends_if : (b : Bool) (j : ℕ) (s : List ℕ) → AscendsFrom (j + 1) s → A
 ascends_if true j s a = (omega arith, a)
 ascends_if false j s a = ascends_weaker j (j + 1) s (omega arith) a
 
-pub held_ascends : (w j : ℕ) (hs : List ℕ) → AscendsFrom j (held_from w j hs)
+held_ascends : (w j : ℕ) (hs : List ℕ) → AscendsFrom j (held_from w j hs)
 held_ascends w j [] = tt
 held_ascends w j (h ∷ hs) = ascends_if (eqb w h) j (held_from w (j + 1) hs) (held_ascends w (j + 1) hs)
+
+increases : (n : ℕ) (s : List ℕ) → AscendsFrom n s → IsStrictlyIncreasing s
+increases n [] a k l = absurd (omega arith)
+increases n (i ∷ []) a k l = absurd (omega arith)
+increases n (i ∷ j ∷ s) a zero l = let b = a.1 in let c = b.0 in omega arith
+increases n (i ∷ j ∷ s) a (suc k) l =
+    let e : suc k + 1 ≡ suc (k + 1) = omega arith in
+    rw e (increases (i + 1) (j ∷ s) a.1 k (omega arith))
+
+pub held_increases : (w : ℕ) (hs : List ℕ) → IsStrictlyIncreasing (held hs w)
+held_increases w hs = increases 0 (held hs w) (held_ascends w 0 hs)
 
 -- sums
 sum_if : (b : Bool) (f : ℕ → ℕ) (j : ℕ) (s : List ℕ) → sum_of f (cond b (j ∷ s) s) ≡ cond b (f j) 0 + sum_of f s

@@ -1,18 +1,19 @@
 -- The first deals, and what the end of the deal tells.
 use Rattle.std.specs.Prelude.{◌≡◌, ◌⊎◌, ℕ, zero, suc, ◌+◌, ◌<◌, ◌≤◌, Bool, true, false, ◌||◌, cond, List, [], ◌∷◌, ◌++◌, Option, None, IsSome, length, map, replicate, All, refl}
 use Rattle.std.specs.List.{range_with_len}
+use Rattle.std.specs.List.Sorted.{IsStrictlyIncreasing}
 use Rattle.std.proofs.Common.{set, get_or, ap, subst, arith, sym, ◌∙◌, inl, inr}
 use Rattle.std.proofs.Math.Bool.{or-false}
 use Rattle.std.proofs.lemmas.Bool.{false≢true, eq-eqb, ne_eqb}
 use Rattle.std.proofs.lemmas.List.{length-append, get_or_append_left, get_or_push}
 use Rattle.std.proofs.lemmas.List.Elements.{All-head, All-tail, All-cons, All-weaker}
 use Rattle.mwc_parts.specs.Slicing.{Slicing}
-use Rattle.mwc_parts.specs.Sums.{sum_of, times}
+use Rattle.mwc_parts.specs.Sums.{sum_of}
+use Rattle.mwc_parts.specs.Inner.Sums.{times}
 use Rattle.mwc_parts.specs.Wording.{total}
-use Rattle.mwc_parts.specs.Deals.{AscendsFrom}
 use Rattle.mwc_parts.specs.Inner.Deals.{held_from, held, Dealt}
 use Rattle.mwc_parts.specs.Inner.Dealing.{Seat, IsWell, is_ill, givens, Dealing, Turns, FirstDeals, IsFresh}
-use Rattle.mwc_parts.proofs.Deals.{shares_sum, each_once, no_other, held_ascends, one_of_sum, sum_range_le}
+use Rattle.mwc_parts.proofs.Deals.{shares_sum, each_once, no_other, held_increases, one_of_sum, sum_range_le}
 use Rattle.mwc_parts.proofs.Turns.{turn_nothing, turn_one, none_free, none_ill, stays_by, still, share_at}
 
 no_shares : (seats : List Seat) (from : ℕ) → All IsFresh seats → givens seats ≡ map (held []) (range_with_len from (length seats))
@@ -126,12 +127,12 @@ pub dealt_total : {n : ℕ} {shares : List (List ℕ)} (g : Slicing) → Dealt n
 dealt_total {n} {shares} g d =
     ap (sum_of (total g)) d.shares_are ∙ shares_sum (λ j. length (g.slice j)) (length shares) d.holders d.by_workers ∙ ap (λ (m : ℕ). total g (range_with_len 0 m)) d.each_held
 
-all_ascend : (hs ws : List ℕ) → All (AscendsFrom 0) (map (held hs) ws)
-all_ascend hs [] = λ k d l. absurd (omega arith)
-all_ascend hs (w ∷ ws) = All-cons (AscendsFrom 0) (held hs w) (map (held hs) ws) (held_ascends w 0 hs) (all_ascend hs ws)
+all_increase : (hs ws : List ℕ) → All IsStrictlyIncreasing (map (held hs) ws)
+all_increase hs [] = λ k d l. absurd (omega arith)
+all_increase hs (w ∷ ws) = All-cons IsStrictlyIncreasing (held hs w) (map (held hs) ws) (held_increases w hs) (all_increase hs ws)
 
-pub dealt_ascends : {n : ℕ} {shares : List (List ℕ)} → Dealt n shares → All (AscendsFrom 0) shares
-dealt_ascends {n} {shares} d = subst (λ (l : List (List ℕ)). All (AscendsFrom 0) l) (sym d.shares_are) (all_ascend d.holders (range_with_len 0 (length shares)))
+pub dealt_increase : {n : ℕ} {shares : List (List ℕ)} → Dealt n shares → All IsStrictlyIncreasing shares
+dealt_increase {n} {shares} d = subst (λ (l : List (List ℕ)). All IsStrictlyIncreasing l) (sym d.shares_are) (all_increase d.holders (range_with_len 0 (length shares)))
 
 -- no worker was given more than all slices
 pub each_within : {n k : ℕ} {early stopped : Bool} {marks : List (Option ℕ)} (g : Slicing) (seats : List Seat) → Dealing n k early marks stopped seats → All (λ (s : List ℕ). total g s ≤ total g (range_with_len 0 n)) (givens seats)

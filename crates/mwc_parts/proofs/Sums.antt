@@ -3,7 +3,8 @@ use Rattle.std.specs.Prelude.{◌≡◌, ℕ, zero, suc, ◌+◌, ◌<◌, ◌�
 use Rattle.std.proofs.Common.{eqb, get_or, ap, arith, sym, ◌∙◌}
 use Rattle.std.proofs.lemmas.Bool.{ne_eqb}
 use Rattle.std.proofs.lemmas.List.{take_all}
-use Rattle.mwc_parts.specs.Sums.{sum_of, times}
+use Rattle.mwc_parts.specs.Sums.{sum_of}
+use Rattle.mwc_parts.specs.Inner.Sums.{times}
 use Rattle.mwc_parts.specs.Parts.{shares}
 use Rattle.mwc_parts.specs.declared.part.Part.{Part}
 

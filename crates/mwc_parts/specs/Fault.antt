@@ -1,5 +1,5 @@
 -- Which fault is answered.
-use Rattle.std.specs.Prelude.{◌≡◌, ◌⊎◌, true, false, List, [], ◌∷◌, Option, Some, None, Result, Ok, Err, if◌then◌else◌}
+use Rattle.std.specs.Prelude.{true, false, Option, Some, None, Result, Ok, Err, if◌then◌else◌}
 use Rattle.mwc_parts.specs.declared.fault.GatherFault.{GatherFault}
 use Rattle.mwc_parts.specs.declared.fault.GatherFault.TheVariants.{TooMany, Start, Memory, Ring}
 use Rattle.mwc_parts.specs.declared.met.Met.{Met}

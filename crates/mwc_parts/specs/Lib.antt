@@ -2,7 +2,6 @@ pub mod Slicing
 pub mod Sums
 pub mod Table
 pub mod Wording
-pub mod Deals
 pub mod Pieces
 pub mod Parts
 pub mod Fault

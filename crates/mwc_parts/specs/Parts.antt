@@ -1,7 +1,7 @@
 -- Parts and what stands in them.
-use Rattle.std.specs.Prelude.{◌≡◌, ℕ, ◌<◌, ◌≤◌, List, ◌∷◌, length, map, slice_index, slice_range}
+use Rattle.std.specs.Prelude.{◌≡◌, ℕ, ◌<◌, ◌==◌, nat_lt, List, ◌∷◌, length, map, count_by, slice_index, slice_range, if◌then◌else◌}
+use Rattle.std.specs.List.{flat_map}
 use Rattle.mwc_parts.specs.Slicing.{Slicing}
-use Rattle.mwc_parts.specs.Sums.{sum_of, times}
 use Rattle.mwc_parts.specs.Pieces.{joined, ends_from}
 use Rattle.mwc_parts.specs.declared.part.Part.{Part}
 
@@ -21,10 +21,7 @@ HasPieces slice p = (m : ℕ) → m < length p.slices.items → piece p m ≡ sl
 abbrev pub shares : List Part → List (List ℕ)
 shares parts = map (λ (p : Part). p.slices.items) parts
 
--- each of the slices 0 to n - 1 stands in the parts once
-abbrev pub EachOnce : ℕ → List Part → Type 0
-EachOnce n parts = (j : ℕ) → j < n → sum_of (times j) (shares parts) ≡ 1
-
--- and no other number does
-abbrev pub NoOther : ℕ → List Part → Type 0
-NoOther n parts = (j : ℕ) → n ≤ j → sum_of (times j) (shares parts) ≡ 0
+-- each of the slices 0 to n - 1 stands in the parts once, and no other number does
+abbrev pub HasEachSliceOnce : ℕ → List Part → Type 0
+HasEachSliceOnce n parts = (j : ℕ) →
+    count_by (λ i. i == j) (flat_map (λ (p : Part). p.slices.items) parts) ≡ (if nat_lt j n then 1 else 0)

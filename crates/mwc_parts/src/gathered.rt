@@ -1,7 +1,7 @@
 //! All parts.
 ghost use Rattle.std.specs.Prelude.{◌≡◌, ℕ, ◌<◌, List, All, IfOk, map};
 ghost use Rattle.std.specs.List.{flat_map, range_with_len};
-ghost use Rattle.mwc_parts.specs.Parts.{HasPieces, EachOnce, NoOther};
+ghost use Rattle.mwc_parts.specs.Parts.{HasPieces, HasEachSliceOnce};
 
 use crate::part::Part;
 use council_game::{Coalition, Memory};
@@ -14,8 +14,7 @@ pub struct Gathered {
     pub parts: Vec<Part>,
     /// How many slices there are.
     pub slices: u16,
-    ghost each_once: { EachOnce slices parts.items },
-    ghost no_other: { NoOther slices parts.items },
+    ghost each_slice_once: { HasEachSliceOnce slices parts.items },
 }
 
 impl Gathered {

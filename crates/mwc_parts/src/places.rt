@@ -1,6 +1,6 @@
 //! Where a slice stands in a part.
 ghost use Rattle.std.specs.Prelude.{◌≡◌, ◌<◌, length, MatchOption, slice_index};
-ghost use Rattle.mwc_parts.specs.Sums.{times};
+ghost use Rattle.mwc_parts.specs.Inner.Sums.{times};
 ghost use Rattle.mwc_parts.specs.Parts.{piece};
 
 use crate::part::Part;

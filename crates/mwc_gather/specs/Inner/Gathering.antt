@@ -1,15 +1,11 @@
 -- What gathering answers: what only proofs and private functions need.
-use Rattle.std.specs.Prelude.{◌≡◌, ℕ, ◌<◌, ◌≤◌, ◌^◌, List, [], ◌∷◌, length, All, slice_index_or}
-use Rattle.std.specs.List.{flat_map, range_with_len}
-use Rattle.council_game.specs.Votes.{Votes, minimal_coalitions}
-use Rattle.mwc_walk.specs.Slices.{slice}
+use Rattle.std.specs.Prelude.{◌≡◌, ℕ, ◌<◌, List, [], Some, length, All, slice_get, slice_index_or}
+use Rattle.std.specs.List.{range_with_len}
 use Rattle.mwc_parts.specs.Slicing.{Slicing}
 use Rattle.mwc_parts.specs.Wording.{total}
-use Rattle.mwc_parts.specs.Deals.{AscendsFrom}
 use Rattle.mwc_parts.specs.Inner.Deals.{Dealt}
-use Rattle.mwc_parts.specs.Parts.{IsPart, HasPieces, EachOnce, NoOther, shares}
+use Rattle.mwc_parts.specs.Parts.{IsPart, shares}
 use Rattle.mwc_parts.specs.declared.part.Part.{Part}
-use Rattle.mwc_parts.specs.declared.gathered.Gathered.{Gathered}
 
 -- how many coalitions all slices have
 abbrev pub all_total : Slicing → ℕ
@@ -20,4 +16,4 @@ pub record Complete (g : Slicing) (workers : ℕ) (parts : List Part) : Type 0 w
   pub a_part_each : length parts ≡ workers
   pub dealt : Dealt g.slices (shares parts)
   pub are_parts : All (IsPart g) parts
-  pub begins : (w : ℕ) → w < workers → w < g.slices → (rest : List ℕ) × (slice_index_or (shares parts) w [] ≡ w ∷ rest)
+  pub begins : (w : ℕ) → w < workers → w < g.slices → slice_get (slice_index_or (shares parts) w []) 0 ≡ Some w

@@ -1,14 +1,8 @@
 -- What the sending of one slice, and a worker, answer: what only proofs and private functions need.
-use Rattle.std.specs.Prelude.{◌≡◌, ℕ, ◌+◌, ◌<◌, ◌≤◌, nat_lt, Bool, true, List, [], ◌∷◌, ◌++◌, length, ◌⊎◌, Result, Ok, Err, if◌then◌else◌, ⊤}
-use mathlib.Core.List.{IsPrefix}
-use Rattle.mwc_parts.specs.Slicing.{Slicing}
-use Rattle.mwc_parts.specs.Wording.{slice_words, cut_words, IsLast, Whole, Cut}
-use Rattle.mwc_pipe.specs.RingViews.{RingInView, RingOutView, ClosedView}
+use Rattle.std.specs.Prelude.{◌≡◌, ℕ, ◌<◌, List, [], ◌∷◌, ◌++◌}
+use Rattle.mwc_parts.specs.Wording.{IsLast}
 use Rattle.mwc_pipe.specs.declared.word.Word.{Word}
 use Rattle.mwc_pipe.specs.declared.word.Word.TheVariants.{Open}
-use Rattle.mwc_pipe.specs.declared.closed.Unfinished.{Unfinished}
-use Rattle.mwc_gather.specs.declared.sent.Sent.{Sent}
-use Rattle.mwc_gather.specs.declared.sent.Sent.TheVariants as sent
 
 -- the first words of the row went into the pipe, and the rest is left
 abbrev pub SendsFirst : List Word → List Word → List Word → List Word → Type 0

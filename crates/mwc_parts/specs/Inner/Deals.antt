@@ -21,3 +21,8 @@ pub record Dealt (n : ℕ) (shares : List (List ℕ)) : Type 0 where
   pub each_held : length holders ≡ n
   pub by_workers : All (λ h. h < length shares) holders
   pub shares_are : shares ≡ shares_by holders (length shares)
+
+-- a list that ascends, from n on
+abbrev pub AscendsFrom : ℕ → List ℕ → Type 0
+AscendsFrom n [] = Unit {0}
+AscendsFrom n (j ∷ js) = (n ≤ j) × AscendsFrom (j + 1) js

@@ -2,10 +2,10 @@ use Rattle.std.proofs.Common.{List, length, ap, arith}
 use Rattle.mwc_parts.specs.Slicing.{Slicing}
 use Rattle.mwc_parts.specs.Sums.{sum_of}
 use Rattle.mwc_parts.specs.declared.part.Part.{Part}
-use Rattle.mwc_parts.proofs.Firsts.{dealt_once, dealt_no_other}
+use Rattle.mwc_parts.proofs.Once.{dealt_each_once}
 use Rattle.mwc_gather.specs.Inner.Orders.{slicing_of}
-use Rattle.mwc_gather.proofs.Wholes.{whole, all_total_is, all_pieces, all_joined, all_ends}
-use Rattle.mwc_gather.proofs.Ends.{complete_sum, end_ascends}
+use Rattle.mwc_gather.proofs.Wholes.{whole, all_total_is, all_pieces}
+use Rattle.mwc_gather.proofs.Ends.{complete_sum, end_increases}
 use Rattle.mwc_gather.proofs.gathering.all_of.Goals as goal
 
 pub returns-then-not-fits-clause-many : goal.returns-then-not-fits-clause-many
@@ -19,9 +19,7 @@ returns-then-not-fits-clause-many c =
 
 pub invariant_of-result : goal.invariant_of-result
 invariant_of-result c =
-    let count = c.slice_count.ensures in
-    let dealt = c.requires.complete.dealt in
-    record { each_once = λ j below. dealt_once j dealt (omega arith); no_other = λ j beyond. dealt_no_other j dealt (omega arith) }
+    record { each_slice_once = rw c.slice_count.ensures (dealt_each_once c.args.parts.items c.requires.complete.dealt) }
 
 pub returns-clause-gathers : goal.returns-clause-gathers
 returns-clause-gathers c =
@@ -36,12 +34,8 @@ returns-clause-gathers c =
     record {
       a_part_each = complete.a_part_each;
       slices = c.slice_count.ensures;
-      each_once = λ j below. dealt_once j complete.dealt below;
-      no_other = λ j beyond. dealt_no_other j complete.dealt beyond;
-      ascend = end_ascends parts complete.dealt;
-      ends = all_ends game parts complete.are_parts;
+      ascend = end_increases parts complete.dealt;
       pieces = all_pieces game parts complete.are_parts;
-      joined = all_joined game parts complete.are_parts;
       begins = complete.begins;
       few = omega arith;
       whole = rw c.slice_count.ensures (whole order.game.value order.bits c.requires.bits.0 c.requires.bits.1);

@@ -1,4 +1,4 @@
-use Rattle.std.proofs.Common.{List, ◌∙◌, ap, drop}
+use Rattle.std.proofs.Common.{◌∙◌, ap, drop}
 use Rattle.mwc_pipe.specs.Refusal.{broken_after}
 use Rattle.mwc_pipe.specs.declared.refused.Refused.{Refused}
 use Rattle.mwc_pipe.specs.declared.word.Word.{Word}

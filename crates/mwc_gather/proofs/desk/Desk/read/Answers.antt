@@ -1,4 +1,4 @@
-use Rattle.std.proofs.Common.{◌≡◌, List, length, take, ap, ◌++◌, ◌||◌, Bool}
+use Rattle.std.proofs.Common.{List, length, take, ap, ◌||◌, Bool}
 use Rattle.mwc_pipe.specs.declared.word.Word.{Word}
 use Rattle.mwc_pipe.specs.RingViews.{RingOutView}
 use Rattle.mwc_gather.proofs.Words.{ahead_more, idle_more}

@@ -1,5 +1,10 @@
 use Rattle.std.proofs.Common.{List, length, get_or, ap, arith, ◌∙◌}
 use Rattle.mwc_parts.specs.declared.part.Part.{Part}
+use Rattle.std.proofs.lemmas.List.{take_all}
+use Rattle.mwc_parts.specs.Sums.{sum_of}
+use Rattle.mwc_parts.specs.Inner.Sums.{times}
+use Rattle.mwc_parts.specs.Parts.{shares}
+use Rattle.mwc_parts.proofs.Once.{each_once}
 use Rattle.mwc_parts.proofs.Sums.{shares_more}
 use Rattle.mwc_parts.proofs.gathered.Gathered.piece.Goals as goal
 
@@ -9,3 +14,12 @@ loop-part-preserved c =
     let q = ap length v in
     let part : Part = c.part-item.result in
     shares_more c.args.self.now.parts.items c.args.j c.loop-part.part-index part (omega arith) (c.part-item.is ∙ ap (λ (l : List Part). get_or l c.loop-part.part-index part) v) c.in_default.ensures c.loop-part.invariant
+
+pub unreachable-requires : goal.unreachable-requires
+unreachable-requires c =
+    let parts : List Part = c.args.self.now.parts.items in
+    let q = ap length c.deref-part-items.ensures.value in
+    let all = ap (λ (w : List Part). sum_of (times c.args.j) (shares w)) (take_all c.loop-part.part-index parts (omega arith)) in
+    let once = each_once c.args.self.now.slices parts c.args.self.now.each_slice_once c.args.j c.requires in
+    let none = c.loop-part.invariant in
+    omega arith

@@ -1,5 +1,6 @@
 use Rattle.std.proofs.Common.{◌≡◌, take}
-use Rattle.mwc_parts.specs.Sums.{sum_of, times}
+use Rattle.mwc_parts.specs.Sums.{sum_of}
+use Rattle.mwc_parts.specs.Inner.Sums.{times}
 use Rattle.mwc_parts.specs.Parts.{shares}
 use Rattle.mwc_parts.proofs.gathered.Gathered.piece.Given as goal
 
