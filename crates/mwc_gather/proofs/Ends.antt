@@ -1,5 +1,5 @@
 -- The end of gathering.
-use Rattle.std.specs.Prelude.{◌≡◌, ℕ, suc, ◌<◌, ◌≤◌, Bool, true, false, List, [], ◌∷◌, ◌++◌, Option, Some, None, cond, Err, All, length, map, slice_get, refl}
+use Rattle.std.specs.Prelude.{◌≡◌, ℕ, suc, ◌<◌, ◌≤◌, Bool, true, false, List, [], ◌∷◌, ◌++◌, Option, Some, None, cond, All, length, map, slice_get, refl}
 use Rattle.std.specs.List.{AllZip}
 use Rattle.std.specs.Option.{is_some}
 use Rattle.std.proofs.Common.{get_or, append_assoc, ap, subst, arith, sym, ◌∙◌}
@@ -13,7 +13,6 @@ use Rattle.mwc_parts.specs.Inner.Deals.{Dealt}
 use Rattle.mwc_parts.specs.Inner.Dealing.{Seat, IsWell, givens, IsFresh}
 use Rattle.mwc_parts.specs.Parts.{IsPart, shares}
 use Rattle.mwc_parts.specs.Fault.{fault_of, also}
-use Rattle.mwc_parts.specs.Fault.{OnTooMany}
 use Rattle.mwc_parts.specs.declared.part.Part.{Part}
 use Rattle.mwc_parts.specs.declared.met.Met.{Met}
 use Rattle.mwc_parts.specs.declared.fault.GatherFault.{GatherFault}
@@ -90,8 +89,8 @@ end_increases parts d = all_of_map IsStrictlyIncreasing (λ (p : Part). p.slices
 pub fresh_push : (desks : List Desk) (d : Desk) → All IsFresh (seats desks) → IsFresh (seat d) → All IsFresh (seats (desks ++ d ∷ []))
 fresh_push desks d a f = subst (λ (w : List Seat). All IsFresh w) (sym (map_push seat desks d)) (All-push IsFresh (seats desks) (seat d) a f)
 
-pub note_many : (m : Met) (why : GatherFault) (P : Type 0) → OnTooMany {A = Part} (Err why) P → (m.many ≡ true → P) → (also m why).many ≡ true → P
-note_many m TooMany P f h e = f
+pub note_many : (m : Met) (why : GatherFault) (P : Type 0) → (why ≡ TooMany → P) → (m.many ≡ true → P) → (also m why).many ≡ true → P
+note_many m TooMany P f h e = f refl
 note_many m Start P f h e = h e
 note_many m Memory P f h e = h e
 note_many m Ring P f h e = h e
@@ -119,12 +118,6 @@ noted m TooMany e = noted_many m.start m.memory m.ring e
 
 pub head_of : {X : Type 0} (P : X → Type 0) (x : X) (xs ys : List X) → ys ≡ x ∷ xs → All P ys → P x
 head_of {X} P x xs ys e a = All-head P x xs (subst (λ (l : List X). All P l) e a)
-
-pub on_mono : (why : GatherFault) (P Q : Type 0) → (P → Q) → OnTooMany {A = Part} (Err why) P → OnTooMany {A = Part} (Err why) Q
-on_mono TooMany P Q f p = f p
-on_mono Start P Q f p = tt
-on_mono Memory P Q f p = tt
-on_mono Ring P Q f p = tt
 
 pub one_done : (done rest old all : List Desk) (d : Desk) → old ≡ d ∷ rest → done ++ old ≡ all → (done ++ d ∷ []) ++ rest ≡ all
 one_done done rest old all d e f = append_assoc done (d ∷ []) rest ∙ ap (λ (w : List Desk). done ++ w) (sym e) ∙ f

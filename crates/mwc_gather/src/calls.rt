@@ -1,11 +1,10 @@
 //! What the gatherer does with a desk.
-ghost use Rattle.std.specs.Prelude.{◌≡◌, ℕ, ◌||◌, ◌+◌, ◌<◌, ◌≤◌, ◌^◌, ◌++◌, ◌∷◌, [], List, IfOk, IfErr, if◌then◌else◌, IsTrue, IsFalse, true, false, length, take, vec_len, vec_capacity};
+ghost use Rattle.std.specs.Prelude.{◌≡◌, ◌≢◌, ℕ, ◌||◌, ◌+◌, ◌<◌, ◌≤◌, ◌^◌, ◌++◌, ◌∷◌, [], List, IfOk, IfErr, if◌then◌else◌, IsTrue, IsFalse, true, false, length, take, vec_len, vec_capacity};
 ghost use Rattle.std.specs.List.{list_any};
 ghost use Rattle.mwc_pipe.specs.declared.word.Word.{Word};
 ghost use Rattle.mwc_parts.specs.Wording.{total};
 ghost use Rattle.mwc_parts.specs.Inner.Wording.{is_done};
 ghost use Rattle.mwc_parts.specs.Inner.Dealing.{IsFresh};
-ghost use Rattle.mwc_parts.specs.Fault.{OnTooMany};
 ghost use Rattle.mwc_parts.specs.Inner.Fault.{IsEarly, fault_in};
 ghost use Rattle.mwc_parts.specs.Settled.{Keeps, IsWhole};
 ghost use Rattle.mwc_gather.specs.Slicings.{slicing};
@@ -166,7 +165,7 @@ impl Desk {
             self.worker.promise.order.most self.given.items self.told r.1) }
         ensures lost { IfOk result (λ r. r.1.lost ≡ false → self.draft.lost ≡ false) }
         ensures cut { IfOk result (λ r. r.1.cut ≡ false → self.draft.cut ≡ false) }
-        ensures many { OnTooMany result ⊥ }
+        ensures many { result ≢ Err GatherFault.TooMany }
         ensures ring { IfErr result (λ e. e ≡ (if self.draft.lost then GatherFault.Memory else GatherFault.Ring)) }
     {
         let Desk {
@@ -196,8 +195,8 @@ impl Desk {
 /// Joins the worker of a desk, and gives its part.
 pub(crate) fn finish_part<R: Threads>(desk: Desk, rt: &R) -> Result<Part, GatherFault>
     ensures part { IfOk result (Finished (slicing_of desk.worker.promise.order) desk) }
-    ensures many { OnTooMany result (desk.worker.promise.order.most < total (slicing_of
-        desk.worker.promise.order) desk.given.items) }
+    ensures many { result ≡ Err GatherFault.TooMany
+        → desk.worker.promise.order.most < total (slicing_of desk.worker.promise.order) desk.given.items }
     ensures memory { desk.draft.lost ≡ true → result ≡ Err GatherFault.Memory }
     ensures ends { Ends (slicing_of desk.worker.promise.order) desk.worker.promise.order.most desk (fault_in result) }
 {

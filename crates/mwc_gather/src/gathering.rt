@@ -6,7 +6,7 @@ ghost use Rattle.council_game.specs.Votes.{minimal_coalitions};
 ghost use Rattle.council_game.specs.Game.{votes_of};
 ghost use Rattle.mwc_parts.specs.Wording.{total};
 ghost use Rattle.mwc_parts.specs.Inner.Dealing.{IsFresh};
-ghost use Rattle.mwc_parts.specs.Fault.{fault_of, OnTooMany};
+ghost use Rattle.mwc_parts.specs.Fault.{fault_of};
 ghost use Rattle.mwc_parts.specs.Inner.Fault.{fault_in, noted};
 ghost use Rattle.mwc_gather.specs.Slicings.{slicing};
 ghost use Rattle.mwc_gather.specs.Inner.Orders.{slicing_of};
@@ -53,7 +53,7 @@ pub fn gather<R: Threads + Wait + Sync, G: Gate + Sync>(
     requires most { (1 ≤ most) × (most ≤ 4000000) }
     requires gate { (w j : ℕ) → w < workers → j < 2 ^ bits → G.takes w j }
     ensures gathers { IfOk result (Gathers (votes_of guarded.now) bits workers most) }
-    ensures many { OnTooMany result (most < length (minimal_coalitions (votes_of guarded.now))) }
+    ensures many { result ≡ Err GatherFault.TooMany → most < length (minimal_coalitions (votes_of guarded.now)) }
 {
     let own = guarded.share();
     let bells = Bells::new();
@@ -67,7 +67,7 @@ pub fn gather<R: Threads + Wait + Sync, G: Gate + Sync>(
             requires most { (1 ≤ most) × (most ≤ 4000000) }
             requires gate { (w j : ℕ) → w < workers → j < 2 ^ bits → G.takes w j }
             ensures gathers { IfOk result (Gathers (votes_of own.entry) bits workers most) }
-            ensures many { OnTooMany result (most < length (minimal_coalitions (votes_of own.entry))) }
+            ensures many { result ≡ Err GatherFault.TooMany → most < length (minimal_coalitions (votes_of own.entry)) }
         { run(scope, rt, alloc, &own, bits, workers, most, shared) },
     )
 }
@@ -88,7 +88,7 @@ fn run<'s, E, R: Threads + Wait + Sync, G: Gate + Sync>(
     requires most { (1 ≤ most) × (most ≤ 4000000) }
     requires gate { (w j : ℕ) → w < workers → j < 2 ^ bits → G.takes w j }
     ensures gathers { IfOk result (Gathers (votes_of guarded.now) bits workers most) }
-    ensures many { OnTooMany result (most < length (minimal_coalitions (votes_of guarded.now))) }
+    ensures many { result ≡ Err GatherFault.TooMany → most < length (minimal_coalitions (votes_of guarded.now)) }
 {
     let order = Order::new(guarded, bits, most);
     let mut desks = Vec::new(alloc);
@@ -107,7 +107,8 @@ fn all_of(order: &Order, workers: u8, parts: Vec<Part>) -> Result<Gathered, Gath
     requires bits { (order.now.bits ≤ 10) × (order.now.bits ≤ length order.now.game.value.names) }
     requires complete { Complete (slicing_of order.now) workers parts.items }
     ensures gathers { IfOk result (Gathers (votes_of order.now.game.value) order.now.bits workers order.now.most) }
-    ensures many { OnTooMany result (order.now.most < length (minimal_coalitions (votes_of order.now.game.value))) }
+    ensures many { result ≡ Err GatherFault.TooMany
+        → order.now.most < length (minimal_coalitions (votes_of order.now.game.value)) }
 {
     if !fits(parts.as_slice(), order.most) {
         return Err(GatherFault::TooMany);
@@ -177,7 +178,7 @@ fn finish_all<R: Threads>(
         × (fault_in result ≡ fault_of (noted start whys)) }
     ensures none { IfOk result (λ v. fault_of start ≡ None) }
     ensures parts { IfOk result (λ v. AllZip (Finished (slicing_of order.now)) desks.items v.items) }
-    ensures many { OnTooMany result (order.now.most < all_total (slicing_of order.now)) }
+    ensures many { result ≡ Err GatherFault.TooMany → order.now.most < all_total (slicing_of order.now) }
 {
     let mut met = start;
     let mut parts = Vec::new(alloc);

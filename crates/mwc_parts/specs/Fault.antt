@@ -1,5 +1,5 @@
 -- Which fault is answered.
-use Rattle.std.specs.Prelude.{true, false, Option, Some, None, Result, Ok, Err, if◌then◌else◌}
+use Rattle.std.specs.Prelude.{true, false, Option, Some, None, if◌then◌else◌}
 use Rattle.mwc_parts.specs.declared.fault.GatherFault.{GatherFault}
 use Rattle.mwc_parts.specs.declared.fault.GatherFault.TheVariants.{TooMany, Start, Memory, Ring}
 use Rattle.mwc_parts.specs.declared.met.Met.{Met}
@@ -20,11 +20,3 @@ also met Start = record met { start = true }
 also met Memory = record met { memory = true }
 also met Ring = record met { ring = true }
 also met TooMany = record met { many = true }
-
--- a fact where the fault is TooMany
-abbrev pub OnTooMany : {A : Type 0} → Result A GatherFault → Type 0 → Type 0
-OnTooMany (Ok x) P = Unit {0}
-OnTooMany (Err TooMany) P = P
-OnTooMany (Err Start) P = Unit {0}
-OnTooMany (Err Memory) P = Unit {0}
-OnTooMany (Err Ring) P = Unit {0}

@@ -3,7 +3,6 @@ ghost use Rattle.std.specs.Prelude.{◌≡◌, ◌≢◌, ◌↔◌, ◌<◌, �
 ghost use Rattle.mwc_parts.specs.Slicing.{Slicing};
 ghost use Rattle.mwc_parts.specs.Wording.{total};
 ghost use Rattle.mwc_parts.specs.Parts.{IsPart};
-ghost use Rattle.mwc_parts.specs.Fault.{OnTooMany};
 ghost use Rattle.mwc_parts.specs.Settled.{IsWhole};
 
 use crate::draft::Draft;
@@ -26,7 +25,7 @@ pub fn settle(given: Vec<u16>, draft: Draft) -> Result<Part, GatherFault>
     ensures no_other { (result ≢ Err GatherFault.Start) × (result ≢ Err GatherFault.Ring) }
     ensures well { IfOk result (λ p. (draft.lost ≡ false) × (draft.cut ≡ false)) }
     ensures many { (g : Slicing) (most : ℕ) (told : Bool) → IsWhole g most given.items told draft
-        → OnTooMany result (most < total g given.items) }
+        → result ≡ Err GatherFault.TooMany → most < total g given.items }
 {
     if draft.lost {
         return Err(GatherFault::Memory);

@@ -9,7 +9,7 @@ use Rattle.mwc_parts.specs.Slicing.{Slicing}
 use Rattle.mwc_gather.specs.Inner.Orders.{slicing_of}
 use Rattle.mwc_gather.specs.Inner.Desks.{IsOf, Ends, Finished}
 use Rattle.mwc_gather.specs.Inner.Gathering.{all_total}
-use Rattle.mwc_gather.proofs.Ends.{note_many, head_of, on_mono, one_done, not_noted, zip_more, zip_push}
+use Rattle.mwc_gather.proofs.Ends.{note_many, head_of, one_done, not_noted, zip_more, zip_push}
 use Rattle.mwc_gather.proofs.Faults.{noted_after, noted_none, memory_ends, ends_of}
 use Rattle.mwc_gather.proofs.gathering.finish_all.Goals as goal
 
@@ -25,7 +25,13 @@ loop-desk-preserved g c =
     record {
       all_of = All-rest (IsOf v most) d rest old step i.all_of;
       within = All-rest (λ (d : Desk). total v d.given.items ≤ all_total v) d rest old step i.within;
-      many = λ z. note_many c.loop-desk.met c.in-Err.why (most < all_total v) (on_mono c.in-Err.why (d.worker.promise.order.most < total (slicing_of d.worker.promise.order) d.given.items) (most < all_total v) (λ l. let a = ap (λ (x : Slicing). total x d.given.items) own.0 in let b = own.1 in omega arith) c.in-Err.ensures.many) i.many (sym (ap (λ (m : Met). m.many) c.note-in-Err.ensures) ∙ z);
+      many = λ z.
+          note_many c.loop-desk.met c.in-Err.why (most < all_total v)
+          (λ e.
+          let l : d.worker.promise.order.most < total (slicing_of d.worker.promise.order) d.given.items = c.in-Err.ensures.many (cc) in
+          let a = ap (λ (x : Slicing). total x d.given.items) own.0 in let b = own.1 in
+          omega arith)
+          i.many (sym (ap (λ (m : Met). m.many) c.note-in-Err.ensures) ∙ z);
       kept = (i.kept.0 ++ d ∷ [], one_done i.kept.0 rest old c.args.desks.items d step i.kept.1, not_noted c.loop-desk.met c.note-in-Err.new.self c.in-Err.why _ c.note-in-Err.ensures);
       first = (
         f.0 ++ d ∷ [],

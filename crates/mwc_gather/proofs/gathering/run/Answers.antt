@@ -6,7 +6,7 @@ use Rattle.std.proofs.Math.Pow.{pow_mono}
 use Rattle.council_game.specs.Game.{GameView}
 use Rattle.mwc_parts.specs.Slicing.{Slicing}
 use Rattle.mwc_parts.specs.Wording.{total}
-use Rattle.mwc_parts.specs.Fault.{OnTooMany, fault_of}
+use Rattle.mwc_parts.specs.Fault.{fault_of}
 use Rattle.mwc_gather.specs.declared.order.Order.{Order}
 use Rattle.mwc_gather.specs.declared.desk.Desk.{Desk}
 use Rattle.mwc_gather.specs.Slicings.{slicing}
@@ -66,12 +66,12 @@ finish_all-requires-clause-dealt g c =
     )
 
 pub returns-in_err-parts-clause-many : goal.returns-in_err-parts-clause-many
-returns-in_err-parts-clause-many g c =
+returns-in_err-parts-clause-many g c = λ e.
     let order = c.new-order.ensures in
-    let same = slicing_is c.new-order.result c.args.guarded.now c.args.bits order.game order.bits in
+    let same = ap all_total (slicing_is c.new-order.result c.args.guarded.now c.args.bits order.game order.bits) in
     let count = all_total_is c.args.guarded.now c.args.bits c.requires.bits.0 c.requires.bits.1 in
-    subst (λ (n : ℕ). OnTooMany c.from_residual.result (c.args.most < n)) (ap all_total same ∙ sym count)
-    (subst (λ (m : ℕ). OnTooMany c.from_residual.result (m < all_total (slicing_of c.new-order.result))) order.most (search rules))
+    let over : c.new-order.result.most < all_total (slicing_of c.new-order.result) = search rules in
+    omega arith
 
 pub all_of-requires-clause-complete : goal.all_of-requires-clause-complete
 all_of-requires-clause-complete g c =

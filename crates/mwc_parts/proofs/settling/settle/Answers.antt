@@ -3,7 +3,7 @@ use Rattle.mwc_parts.proofs.Drafts.{whole_sent, whole_reads, whole_many}
 use Rattle.mwc_parts.proofs.settling.settle.Goals as goal
 
 pub returns-then-draft-2-clause-many : goal.returns-then-draft-2-clause-many
-returns-then-draft-2-clause-many c = λ g most told whole. whole_many whole c.if-draft-2.true
+returns-then-draft-2-clause-many c = λ g most told whole e. whole_many whole c.if-draft-2.true
 
 pub invariant_of-result : goal.invariant_of-result
 invariant_of-result c =
