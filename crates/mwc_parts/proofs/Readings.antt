@@ -2,12 +2,13 @@
 use Rattle.std.specs.Prelude.{◌≡◌, ℕ, zero, suc, ◌+◌, ◌-◌, ◌<◌, ◌≤◌, Bool, false, List, [], ◌∷◌, ◌++◌, length, map, take, drop, refl}
 use Rattle.std.proofs.Common.{get_or, subst, ap, arith, sym, ◌∙◌, append_assoc}
 use Rattle.std.proofs.lemmas.List.{append-nil, length-append, drop_at, take_at}
+use Rattle.std.proofs.lemmas.List.Elements.{filter_map-append}
 use Rattle.mwc_parts.specs.Slicing.{Slicing}
 use Rattle.mwc_pipe.specs.declared.word.Word.{Word}
 use Rattle.mwc_pipe.specs.declared.word.Word.TheVariants.{Open, One, Done, End}
 use Rattle.mwc_parts.specs.Wording.{wording, total}
 use Rattle.mwc_parts.specs.Settled.{AllSent}
-use Rattle.mwc_parts.specs.Pieces.{ones, dones, joined, ends_from, Rises}
+use Rattle.mwc_parts.specs.Pieces.{one_in, ones, dones, joined, ends_from, Rises}
 
 ones-slice : (j : ℕ) (l : List ℕ) (rest : List Word) → ones (((Open j ∷ map One l) ++ Done j ∷ []) ++ rest) ≡ l ++ ones rest
 ones-slice j [] rest = refl
@@ -71,11 +72,7 @@ last_from g n (j ∷ s) = let r = last_from g (n + length (g.slice j)) s in omeg
 
 -- words joined
 pub ones-append : (xs ys : List Word) → ones (xs ++ ys) ≡ ones xs ++ ones ys
-ones-append [] ys = refl
-ones-append (Open j ∷ xs) ys = ones-append xs ys
-ones-append (One c ∷ xs) ys = ap (λ (w : List ℕ). c ∷ w) (ones-append xs ys)
-ones-append (Done j ∷ xs) ys = ones-append xs ys
-ones-append (End cut ∷ xs) ys = ones-append xs ys
+ones-append xs ys = filter_map-append one_in xs ys
 
 pub dones-append : (n : ℕ) (xs ys : List Word) → dones n (xs ++ ys) ≡ dones n xs ++ dones (n + length (ones xs)) ys
 dones-append n [] ys = let e : n ≡ n + 0 = omega arith in ap (λ (m : ℕ). dones m ys) e

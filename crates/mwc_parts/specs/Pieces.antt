@@ -1,17 +1,18 @@
 -- What a part says of its slices.
-use Rattle.std.specs.Prelude.{ℕ, ◌+◌, ◌<◌, ◌≤◌, List, [], ◌∷◌, length, slice_index}
-use Rattle.std.specs.List.{flat_map}
+use Rattle.std.specs.Prelude.{ℕ, ◌+◌, ◌<◌, ◌≤◌, List, [], ◌∷◌, length, slice_index, Option, Some, None}
+use Rattle.std.specs.List.{flat_map, filter_map}
 use Rattle.mwc_parts.specs.Slicing.{Slicing}
 use Rattle.mwc_pipe.specs.declared.word.Word.{Word}
 use Rattle.mwc_pipe.specs.declared.word.Word.TheVariants.{Open, One, Done, End}
 
+-- the coalition that a word tells
+abbrev pub one_in : Word → Option ℕ
+one_in (One c) = Some c
+one_in _ = None
+
 -- the coalitions that words tell
 abbrev pub ones : List Word → List ℕ
-ones [] = []
-ones (Open j ∷ ws) = ones ws
-ones (One c ∷ ws) = c ∷ ones ws
-ones (Done j ∷ ws) = ones ws
-ones (End cut ∷ ws) = ones ws
+ones words = filter_map one_in words
 
 -- how many coalitions stand before each Done, where n stood before the first word
 abbrev pub dones : ℕ → List Word → List ℕ

@@ -1,5 +1,6 @@
 -- The words that a worker sends.
-use Rattle.std.specs.Prelude.{◌≡◌, ℕ, ◌+◌, ◌<◌, ◌≤◌, true, false, List, [], ◌∷◌, ◌++◌, length, map, take, All}
+use Rattle.std.specs.Prelude.{◌≡◌, ℕ, ◌+◌, ◌<◌, ◌≤◌, true, false, List, [], ◌∷◌, ◌++◌, length, map, take, All, ⊤}
+use Rattle.std.specs.List.{flat_map}
 use Rattle.mwc_parts.specs.Sums.{sum_of}
 use Rattle.mwc_parts.specs.Slicing.{Slicing}
 use Rattle.mwc_pipe.specs.declared.word.Word.{Word}
@@ -15,8 +16,7 @@ cut_words g j n = Open j ∷ map One (take n (g.slice j))
 
 -- the words of the slices, one after another
 abbrev pub wording : Slicing → List ℕ → List Word
-wording g [] = []
-wording g (j ∷ js) = slice_words g j ++ wording g js
+wording g slices = flat_map (slice_words g) slices
 
 -- how many coalitions the slices have in all
 abbrev pub total : Slicing → List ℕ → ℕ
@@ -24,15 +24,12 @@ total g js = sum_of (λ j. length (g.slice j)) js
 
 -- the tasks that give these slices
 abbrev pub opens : List ℕ → List Word
-opens [] = []
-opens (j ∷ js) = Open j ∷ opens js
+opens slices = map Open slices
 
 -- whether a task ends the work
 abbrev pub IsLast : ℕ → Word → Type 0
 IsLast n (Open j) = n ≤ j
-IsLast n (One c) = Unit {0}
-IsLast n (Done j) = Unit {0}
-IsLast n (End cut) = Unit {0}
+IsLast n _ = ⊤
 
 -- all slices that the tasks gave, and the end
 pub record Whole (g : Slicing) (most : ℕ) (tasks words : List Word) : Type 0 where

@@ -42,6 +42,7 @@ impl Draft {
         ensures lost { self.new.lost ≡ false → self.old.lost ≡ false }
         ensures cut { self.new.cut ≡ false → self.old.cut ≡ false }
     {
+        // a copy of its own for each of the two calls: the prover follows no word that two calls take
         let again = word;
         self.cut |= tells_cut(again);
         if self.lost {
