@@ -1,4 +1,5 @@
 //! Game files with the games or faults that they are.
+mod reads;
 mod refusals;
 
 use crate::{parse_game, read_game, write_notation};

@@ -1,4 +1,6 @@
 //! A listing against lines that are made independently, in several orders.
+mod asked;
+
 ghost use Rattle.std.specs.Prelude.{◌≡◌, length, IfOk};
 ghost use Rattle.council_game.specs.Game.{AreNonemptyCoalitions};
 

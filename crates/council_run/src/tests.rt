@@ -1,4 +1,5 @@
 //! Worked reports, command lines, statuses, and readers and writers that fail.
+mod asked;
 mod gates;
 mod refusals;
 
