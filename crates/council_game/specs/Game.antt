@@ -5,7 +5,7 @@ use Rattle.std.specs.Option.{option_map_or}
 use Rattle.std.specs.Cmp.Lexicographic.{pointwise}
 use Rattle.council_game.specs.declared.fault.GameFault.{GameFault}
 use Rattle.council_game.specs.declared.fault.GameFault.TheVariants.{Title, Members, Name, SameName, Weight, QuotaRange}
-use Rattle.council_game.specs.Fault.{◌>>=◌, Done, refuse, refuse_at}
+use Rattle.council_game.specs.Fault.{◌>>=◌, refuse, refuse_at}
 use Rattle.council_game.specs.Votes.{RuleView, Votes}
 use Rattle.council_game.specs.Ranks.{places, rank_places, rule_by_rank}
 
@@ -44,23 +44,14 @@ abbrev pub first_weights : List RuleView → List ℕ
 first_weights [] = []
 first_weights (r ∷ rs) = r.weights
 
-abbrev pub check_names : List (List ℕ) → Done
-check_names names = refuse_at Name (position (λ name. not (is_name name)) names)
-
-abbrev pub check_repeats : List (List ℕ) → Done
-check_repeats names = refuse_at SameName (position (is_repeat names) (places names))
-
-abbrev pub check_weights : List RuleView → ℕ → Done
-check_weights rules n = refuse_at Weight (position (is_heavy rules) (range_with_len 0 n))
-
 -- the game, or the first fault
 unfoldable pub made_game : Option (List ℕ) → List (List ℕ) → List RuleView → Result GameView GameFault
 made_game title names rules = do
   _ ← refuse (option_map_or (λ t. not (is_title t)) title false) Title
   _ ← refuse (nat_lt (length names) 1 || nat_lt 40 (length names)) Members
-  _ ← check_names names
-  _ ← check_repeats names
-  _ ← check_weights rules (length names)
+  _ ← refuse_at Name (position (λ name. not (is_name name)) names)
+  _ ← refuse_at SameName (position (is_repeat names) (places names))
+  _ ← refuse_at Weight (position (is_heavy rules) (range_with_len 0 (length names)))
   _ ← refuse (list_any has_bad_quota rules) QuotaRange
   Ok (record { title = title; names = names; rules = rules; ranks = rank_places (first_weights rules) })
 

@@ -5,3 +5,4 @@ pub mod Parts
 pub mod View
 pub mod Weighing
 pub mod Below
+pub mod Checks

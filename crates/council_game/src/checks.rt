@@ -2,7 +2,8 @@
 ghost use Rattle.std.specs.Prelude.{◌≡◌, ◌≤◌, ◌<◌, ◌^◌, length, map, not, string_bytes, sum, min, ◌-◌, position, nat_eq, nat_lt, slice_index, IfSome};
 ghost use Rattle.std.specs.List.{list_any, range_with_len};
 ghost use Rattle.std.specs.Cmp.Lexicographic.{pointwise};
-ghost use Rattle.council_game.specs.Game.{is_plain, is_title, is_name, is_repeat, check_names, check_repeats, check_weights, is_heavy, has_bad_quota};
+ghost use Rattle.council_game.specs.Game.{is_plain, is_title, is_name, is_repeat, is_heavy, has_bad_quota};
+ghost use Rattle.council_game.specs.Inner.Checks.{check_names, check_repeats, check_weights};
 ghost use Rattle.council_game.specs.Rules.{rule_view, rule_views};
 
 use crate::{GameFault, Rule, limits};
