@@ -7,9 +7,9 @@ use Rattle.std.proofs.lemmas.List.{length-map, map_push}
 use Rattle.std.proofs.lemmas.List.Elements.{All-head, All-tail, All-cons, All-push}
 use Rattle.mwc_parts.specs.Slicing.{Slicing}
 use Rattle.mwc_parts.specs.Sums.{sum_of}
-use Rattle.mwc_parts.specs.Wording.{total}
+use Rattle.mwc_parts.specs.Wording.{coalition_count}
 use Rattle.std.specs.List.Sorted.{IsStrictlyIncreasing}
-use Rattle.mwc_parts.specs.Inner.Deals.{Dealt}
+use Rattle.mwc_parts.specs.Inner.Deals.{AreDealt}
 use Rattle.mwc_parts.specs.Inner.Dealing.{Seat, IsWell, givens, IsFresh}
 use Rattle.mwc_parts.specs.Parts.{IsPart, shares}
 use Rattle.mwc_parts.specs.Fault.{fault_of, also}
@@ -22,17 +22,17 @@ use Rattle.mwc_parts.proofs.Firsts.{each_within, dealt_total, dealt_increase, sh
 use Rattle.mwc_parts.proofs.Readings.{length-joined}
 use Rattle.mwc_gather.specs.declared.desk.Desk.{Desk}
 use Rattle.mwc_gather.specs.Inner.Desks.{seat, seats, DealsTo, Finished}
-use Rattle.mwc_gather.specs.Inner.Gathering.{all_total, Complete}
+use Rattle.mwc_gather.specs.Inner.Gathering.{all_total, IsComplete}
 
 module _ {X Y : Type 0} where
   all_of_map : (P : Y → Type 0) (f : X → Y) (xs : List X) → All P (map f xs) → All (λ x. P (f x)) xs
   all_of_map P f [] a = λ k d l. absurd (omega arith)
   all_of_map P f (x ∷ xs) a = All-cons (λ x. P (f x)) x xs (All-head P (f x) (map f xs) a) (all_of_map P f xs (All-tail P (f x) (map f xs) a))
 
-pub desks_within : {g : Slicing} {most : ℕ} {early stopped : Bool} {marks : List (Option ℕ)} (desks : List Desk) → DealsTo g most early marks stopped desks → All (λ (d : Desk). total g d.given.items ≤ all_total g) desks
+pub desks_within : {g : Slicing} {most : ℕ} {early stopped : Bool} {marks : List (Option ℕ)} (desks : List Desk) → DealsTo g most early marks stopped desks → All (λ (d : Desk). coalition_count g d.given.items ≤ all_total g) desks
 desks_within {g} desks h =
-    all_of_map (λ (s : Seat). total g s.given ≤ all_total g) seat desks
-    (all_of_map (λ (s : List ℕ). total g s ≤ all_total g) (λ (s : Seat). s.given) (seats desks) (each_within g (seats desks) h.dealing))
+    all_of_map (λ (s : Seat). coalition_count g s.given ≤ all_total g) seat desks
+    (all_of_map (λ (s : List ℕ). coalition_count g s ≤ all_total g) (λ (s : Seat). s.given) (seats desks) (each_within g (seats desks) h.dealing))
 
 zip_shares : (g : Slicing) (desks : List Desk) (parts : List Part) → AllZip (Finished g) desks parts → shares parts ≡ givens (seats desks)
 zip_shares g [] [] z = refl
@@ -64,7 +64,7 @@ zip_parts g [] (p ∷ parts) z = absurd z
 zip_parts g (d ∷ desks) [] z = absurd z
 zip_parts g (d ∷ desks) (p ∷ parts) z = let f = z.0 in All-cons (IsPart g) p parts f.part (zip_parts g desks parts z.1)
 
-parts_sum : (g : Slicing) (parts : List Part) → All (IsPart g) parts → sum_of (λ (p : Part). length p.got.items) parts ≡ sum_of (total g) (shares parts)
+parts_sum : (g : Slicing) (parts : List Part) → All (IsPart g) parts → sum_of (λ (p : Part). length p.got.items) parts ≡ sum_of (coalition_count g) (shares parts)
 parts_sum g [] a = refl
 parts_sum g (p ∷ parts) a =
     let part = All-head (IsPart g) p parts a in
@@ -73,17 +73,17 @@ parts_sum g (p ∷ parts) a =
     omega arith
 
 -- where all workers have finished, all slices are dealt
-pub end_dealt : {g : Slicing} {most : ℕ} {early stopped : Bool} {marks : List (Option ℕ)} (desks : List Desk) (parts : List Part) → DealsTo g most early marks stopped desks → early ≡ false → 0 < length desks → AllZip (Finished g) desks parts → Dealt g.slices (shares parts)
+pub end_dealt : {g : Slicing} {most : ℕ} {early stopped : Bool} {marks : List (Option ℕ)} (desks : List Desk) (parts : List Part) → DealsTo g most early marks stopped desks → early ≡ false → 0 < length desks → AllZip (Finished g) desks parts → AreDealt g.slices (shares parts)
 end_dealt {g} {most} {early} {stopped} {marks} desks parts h e l z =
     let n = length-map desks seat in
     let d = turns.all_dealt (seats desks) e (omega arith) h.dealing (zip_well g desks parts z) (zip_told g desks parts z) in
-    subst (λ (s : List (List ℕ)). Dealt g.slices s) (sym (zip_shares g desks parts z)) d
+    subst (λ (s : List (List ℕ)). AreDealt g.slices s) (sym (zip_shares g desks parts z)) d
 
 -- all parts have as many coalitions as the slices
-pub complete_sum : {g : Slicing} {workers : ℕ} {parts : List Part} → Complete g workers parts → sum_of (λ (p : Part). length p.got.items) parts ≡ all_total g
+pub complete_sum : {g : Slicing} {workers : ℕ} {parts : List Part} → IsComplete g workers parts → sum_of (λ (p : Part). length p.got.items) parts ≡ all_total g
 complete_sum {g} {workers} {parts} c = parts_sum g parts c.are_parts ∙ dealt_total g c.dealt
 
-pub end_increases : {n : ℕ} (parts : List Part) → Dealt n (shares parts) → All (λ (p : Part). IsStrictlyIncreasing p.slices.items) parts
+pub end_increases : {n : ℕ} (parts : List Part) → AreDealt n (shares parts) → All (λ (p : Part). IsStrictlyIncreasing p.slices.items) parts
 end_increases parts d = all_of_map IsStrictlyIncreasing (λ (p : Part). p.slices.items) parts (dealt_increase d)
 
 pub fresh_push : (desks : List Desk) (d : Desk) → All IsFresh (seats desks) → IsFresh (seat d) → All IsFresh (seats (desks ++ d ∷ []))
@@ -135,7 +135,7 @@ pub zip_more : (g : Slicing) (done : List Desk) (parts after : List Part) (d : D
 zip_more g done parts after d p e f z = subst (λ (w : List Part). AllZip (Finished g) (done ++ d ∷ []) w) (sym e) (zip_push (Finished g) done parts d p z f)
 
 -- where no fault was met, all slices are dealt to the parts
-pub ends_well : {g : Slicing} {most : ℕ} {early stopped : Bool} {marks : List (Option ℕ)} (desks taken : List Desk) (parts : List Part) (start : Met) (f : Option GatherFault) → DealsTo g most early marks stopped desks → taken ≡ desks → early ≡ is_some f → f ≡ fault_of start → fault_of start ≡ None → 0 < length desks → AllZip (Finished g) taken parts → Dealt g.slices (shares parts) × AllZip (Finished g) desks parts
+pub ends_well : {g : Slicing} {most : ℕ} {early stopped : Bool} {marks : List (Option ℕ)} (desks taken : List Desk) (parts : List Part) (start : Met) (f : Option GatherFault) → DealsTo g most early marks stopped desks → taken ≡ desks → early ≡ is_some f → f ≡ fault_of start → fault_of start ≡ None → 0 < length desks → AllZip (Finished g) taken parts → AreDealt g.slices (shares parts) × AllZip (Finished g) desks parts
 ends_well {g} desks taken parts start f h e a b n l z =
     let w = subst (λ (x : List Desk). AllZip (Finished g) x parts) e z in
     (end_dealt desks parts h (a ∙ ap is_some (b ∙ n)) l w, w)
@@ -147,7 +147,7 @@ end_begins {g} desks parts h e z w a b =
     ap (λ (s : List ℕ). slice_get s 0) (ap (λ (s : List (List ℕ)). get_or s w []) (zip_shares g desks parts z) ∙ r.1)
 
 -- where no fault was met, the parts are complete
-pub completes : {g : Slicing} {most workers : ℕ} {early stopped : Bool} {marks : List (Option ℕ)} (desks taken : List Desk) (parts : List Part) (start : Met) (f : Option GatherFault) → DealsTo g most early marks stopped desks → taken ≡ desks → early ≡ is_some f → f ≡ fault_of start → fault_of start ≡ None → 0 < length desks → length desks ≡ workers → AllZip (Finished g) taken parts → Complete g workers parts
+pub completes : {g : Slicing} {most workers : ℕ} {early stopped : Bool} {marks : List (Option ℕ)} (desks taken : List Desk) (parts : List Part) (start : Met) (f : Option GatherFault) → DealsTo g most early marks stopped desks → taken ≡ desks → early ≡ is_some f → f ≡ fault_of start → fault_of start ≡ None → 0 < length desks → length desks ≡ workers → AllZip (Finished g) taken parts → IsComplete g workers parts
 completes {g} {most} {workers} desks taken parts start f h e a b n l k z =
     let both = ends_well desks taken parts start f h e a b n l z in
     let same = zip_length g desks parts both.1 in

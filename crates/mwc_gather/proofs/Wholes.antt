@@ -10,7 +10,6 @@ use Rattle.mwc_walk.proofs.Joined.{slices-joined}
 use Rattle.mwc_parts.specs.Slicing.{Slicing}
 use Rattle.mwc_parts.specs.Parts.{IsPart, HasPieces}
 use Rattle.mwc_parts.specs.declared.part.Part.{Part}
-use Rattle.mwc_parts.specs.Pieces.{joined}
 use Rattle.mwc_parts.proofs.Readings.{length-joined, piece_is}
 use Rattle.mwc_gather.specs.Slicings.{slicing}
 use Rattle.mwc_gather.specs.Inner.Gathering.{all_total}
@@ -27,7 +26,7 @@ all_total_is game bits few within =
 has_pieces : (g : Slicing) (p : Part) → IsPart g p → HasPieces g.slice p
 has_pieces g p part m l =
     ap (λ (w : List ℕ). slice_range w (get_or (0 ∷ p.ends.items) m 0) (get_or p.ends.items m 0)) part.0
-    ∙ ap (λ (w : List ℕ). slice_range (joined g p.slices.items) (get_or (0 ∷ w) m 0) (get_or w m 0)) part.1
+    ∙ ap (λ (w : List ℕ). slice_range (flat_map g.slice p.slices.items) (get_or (0 ∷ w) m 0) (get_or w m 0)) part.1
     ∙ piece_is g p.slices.items m l
 
 pub all_pieces : (g : Slicing) (parts : List Part) → All (IsPart g) parts → All (HasPieces g.slice) parts

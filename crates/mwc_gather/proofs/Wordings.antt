@@ -5,7 +5,7 @@ use Rattle.std.proofs.lemmas.List.{append-nil}
 use Rattle.mwc_parts.specs.Slicing.{Slicing}
 use Rattle.mwc_pipe.specs.declared.word.Word.{Word}
 use Rattle.mwc_pipe.specs.declared.word.Word.TheVariants.{Open}
-use Rattle.mwc_parts.specs.Wording.{opens, wording, total, slice_words}
+use Rattle.mwc_parts.specs.Wording.{opens, wording, coalition_count, slice_words}
 
 pub opens-more : (s : List ℕ) (j : ℕ) → opens (s ++ j ∷ []) ≡ opens s ++ Open j ∷ []
 opens-more [] j = refl
@@ -16,6 +16,6 @@ wording-more g [] j = append-nil (slice_words g j)
 wording-more g (i ∷ s) j =
     ap (λ (w : List Word). slice_words g i ++ w) (wording-more g s j) ∙ sym (append_assoc (slice_words g i) (wording g s) (slice_words g j))
 
-pub total-more : (g : Slicing) (s : List ℕ) (j : ℕ) → total g (s ++ j ∷ []) ≡ total g s + length (g.slice j)
+pub total-more : (g : Slicing) (s : List ℕ) (j : ℕ) → coalition_count g (s ++ j ∷ []) ≡ coalition_count g s + length (g.slice j)
 total-more g [] j = omega arith
 total-more g (i ∷ s) j = let e = total-more g s j in omega arith

@@ -2,7 +2,7 @@
 use Rattle.std.specs.Prelude.{◌≡◌, ℕ, ◌+◌, ◌<◌, ◌≤◌, nat_lt, Bool, true, List, ◌++◌, length, ◌⊎◌, Result, Ok, Err, if◌then◌else◌, ⊤}
 use mathlib.Core.List.{IsPrefix}
 use Rattle.mwc_parts.specs.Slicing.{Slicing}
-use Rattle.mwc_parts.specs.Wording.{slice_words, cut_words, Whole, Cut}
+use Rattle.mwc_parts.specs.Wording.{slice_words, cut_words, IsWholeSending, IsCutSending}
 use Rattle.mwc_pipe.specs.RingViews.{RingInView, RingOutView, ClosedView}
 use Rattle.mwc_pipe.specs.declared.word.Word.{Word}
 use Rattle.mwc_pipe.specs.declared.closed.Unfinished.{Unfinished}
@@ -28,7 +28,7 @@ Unbroken before after sent.Cut = after ≡ before
 Unbroken before after sent.Refused = ⊤
 
 -- what the closed end of a worker tells: a whole or a cut sending of the slices that its tasks gave, and both ends are of its rings
-abbrev pub Worked : Slicing → ℕ → RingInView → RingOutView → Result ClosedView Unfinished × RingOutView → Type 0
-Worked g most out tasks (Ok c, t) =
-    (t.ring ≡ tasks.ring) × (c.ring ≡ out.ring) × (Whole g most t.taken c.accepted ⊎ Cut g most t.taken c.accepted)
-Worked g most out tasks (Err e, t) = t.ring ≡ tasks.ring
+abbrev pub HasWorked : Slicing → ℕ → RingInView → RingOutView → Result ClosedView Unfinished × RingOutView → Type 0
+HasWorked g most out tasks (Ok c, t) =
+    (t.ring ≡ tasks.ring) × (c.ring ≡ out.ring) × (IsWholeSending g most t.taken c.accepted ⊎ IsCutSending g most t.taken c.accepted)
+HasWorked g most out tasks (Err e, t) = t.ring ≡ tasks.ring

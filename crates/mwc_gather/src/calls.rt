@@ -2,13 +2,13 @@
 ghost use Rattle.std.specs.Prelude.{◌≡◌, ◌≢◌, ℕ, ◌||◌, ◌+◌, ◌<◌, ◌≤◌, ◌^◌, ◌++◌, ◌∷◌, [], List, IfOk, IfErr, if◌then◌else◌, IsTrue, IsFalse, true, false, length, take, vec_len, vec_capacity};
 ghost use Rattle.std.specs.List.{list_any};
 ghost use Rattle.mwc_pipe.specs.declared.word.Word.{Word};
-ghost use Rattle.mwc_parts.specs.Wording.{total};
+ghost use Rattle.mwc_parts.specs.Wording.{coalition_count};
 ghost use Rattle.mwc_parts.specs.Inner.Wording.{is_done};
 ghost use Rattle.mwc_parts.specs.Inner.Dealing.{IsFresh};
 ghost use Rattle.mwc_parts.specs.Inner.Fault.{IsEarly, fault_in};
-ghost use Rattle.mwc_parts.specs.Settled.{Keeps, IsWhole};
+ghost use Rattle.mwc_parts.specs.Settled.{IsDraftOf, HasAllWords};
 ghost use Rattle.mwc_gather.specs.Slicings.{slicing};
-ghost use Rattle.mwc_gather.specs.Sending.{Worked};
+ghost use Rattle.mwc_gather.specs.Sending.{HasWorked};
 ghost use Rattle.mwc_gather.specs.Inner.Orders.{slicing_of};
 ghost use Rattle.mwc_gather.specs.Inner.Desks.{IsOf, seat, Finished, Ends};
 
@@ -72,7 +72,7 @@ impl Desk {
             requires most { (1 ≤ most) × (most ≤ 4000000) }
             requires fresh { (out.accepted ≡ []) × (list.taken ≡ []) }
             requires gate { (j : ℕ) → j < 2 ^ bits → G.takes worker j }
-            ensures { Worked (slicing own.entry bits) most out list result }
+            ensures { HasWorked (slicing own.entry bits) most out list result }
         { work_beside(rt, &own, bits, worker, most, out, list, bell, gatherer) };
         let Ok(worker) = scope.spawn_with(task, body) else {
             return Err(GatherFault::Start);
@@ -161,7 +161,7 @@ impl Desk {
     /// Joins the worker, and keeps what is left of its words.
     fn finish<R: Threads>(self, rt: &R) -> Result<(Vec<u16>, Draft), GatherFault>
         ensures given { IfOk result (λ r. r.0.items ≡ self.given.items) }
-        ensures whole { IfOk result (λ r. IsWhole (slicing_of self.worker.promise.order)
+        ensures whole { IfOk result (λ r. HasAllWords (slicing_of self.worker.promise.order)
             self.worker.promise.order.most self.given.items self.told r.1) }
         ensures lost { IfOk result (λ r. r.1.lost ≡ false → self.draft.lost ≡ false) }
         ensures cut { IfOk result (λ r. r.1.cut ≡ false → self.draft.cut ≡ false) }
@@ -196,7 +196,7 @@ impl Desk {
 pub(crate) fn finish_part<R: Threads>(desk: Desk, rt: &R) -> Result<Part, GatherFault>
     ensures part { IfOk result (Finished (slicing_of desk.worker.promise.order) desk) }
     ensures many { result ≡ Err GatherFault.TooMany
-        → desk.worker.promise.order.most < total (slicing_of desk.worker.promise.order) desk.given.items }
+        → desk.worker.promise.order.most < coalition_count (slicing_of desk.worker.promise.order) desk.given.items }
     ensures memory { desk.draft.lost ≡ true → result ≡ Err GatherFault.Memory }
     ensures ends { Ends (slicing_of desk.worker.promise.order) desk.worker.promise.order.most desk (fault_in result) }
 {
@@ -253,7 +253,7 @@ fn told_by(words: &[Word]) -> (bool, bool)
 
 /// Keeps all words that are left.
 fn drain(rest: Rest, draft: &mut Draft)
-    ensures keeps { (words : List Word) → Keeps words draft.old → Keeps (words ++ rest) draft.new }
+    ensures keeps { (words : List Word) → IsDraftOf words draft.old → IsDraftOf (words ++ rest) draft.new }
     ensures lost { draft.new.lost ≡ false → draft.old.lost ≡ false }
     ensures cut { draft.new.cut ≡ false → draft.old.cut ≡ false }
 {

@@ -2,7 +2,7 @@
 ghost use Rattle.std.specs.Prelude.{◌≡◌, ◌+◌, ◌<◌, ◌≤◌, ◌^◌, ◌++◌, All, count_by, length, true};
 ghost use Rattle.mwc_parts.specs.Wording.{opens};
 ghost use Rattle.mwc_parts.specs.Inner.Wording.{told_words, is_done};
-ghost use Rattle.mwc_parts.specs.Settled.{Keeps};
+ghost use Rattle.mwc_parts.specs.Settled.{IsDraftOf};
 
 use crate::promise::{Answer, Task};
 use mwc_parts::Draft;
@@ -29,7 +29,7 @@ pub(crate) struct Desk {
     pub draft: Draft,
     ghost words_ring: { words.ring ≡ worker.promise.out.value.ring },
     ghost tasks_ring: { worker.promise.tasks.value.ring ≡ tasks.ring },
-    ghost keeps: { Keeps words.taken draft },
+    ghost keeps: { IsDraftOf words.taken draft },
     ghost tasks_are: { tasks.accepted ≡ opens given.items ++ told_words told },
     ghost one_ahead: { length given.items ≤ count_by is_done words.taken + 1 },
     ghost idle_is_done: { idle ≡ true → length given.items ≤ count_by is_done words.taken },

@@ -4,7 +4,7 @@ ghost use Rattle.std.specs.Option.{is_some};
 ghost use Rattle.std.specs.List.{AllZip};
 ghost use Rattle.council_game.specs.Votes.{minimal_coalitions};
 ghost use Rattle.council_game.specs.Game.{votes_of};
-ghost use Rattle.mwc_parts.specs.Wording.{total};
+ghost use Rattle.mwc_parts.specs.Wording.{coalition_count};
 ghost use Rattle.mwc_parts.specs.Inner.Dealing.{IsFresh};
 ghost use Rattle.mwc_parts.specs.Fault.{fault_of};
 ghost use Rattle.mwc_parts.specs.Inner.Fault.{fault_in, noted};
@@ -12,7 +12,7 @@ ghost use Rattle.mwc_gather.specs.Slicings.{slicing};
 ghost use Rattle.mwc_gather.specs.Inner.Orders.{slicing_of};
 ghost use Rattle.mwc_gather.specs.Inner.Desks.{AllOf, DealsTo, Ends, Finished, Opens, seats};
 ghost use Rattle.mwc_gather.specs.Gathering.{Gathers};
-ghost use Rattle.mwc_gather.specs.Inner.Gathering.{all_total, Complete};
+ghost use Rattle.mwc_gather.specs.Inner.Gathering.{all_total, IsComplete};
 
 use crate::calls::finish_part;
 use crate::dealing::read_all;
@@ -105,7 +105,7 @@ fn run<'s, E, R: Threads + Wait + Sync, G: Gate + Sync>(
 /// All that was gathered, unless there is more than was asked for.
 fn all_of(order: &Order, workers: u8, parts: Vec<Part>) -> Result<Gathered, GatherFault>
     requires bits { (order.now.bits ≤ 10) × (order.now.bits ≤ length order.now.game.value.names) }
-    requires complete { Complete (slicing_of order.now) workers parts.items }
+    requires complete { IsComplete (slicing_of order.now) workers parts.items }
     ensures gathers { IfOk result (Gathers (votes_of order.now.game.value) order.now.bits workers order.now.most) }
     ensures many { result ≡ Err GatherFault.TooMany
         → order.now.most < length (minimal_coalitions (votes_of order.now.game.value)) }
@@ -168,7 +168,7 @@ fn finish_all<R: Threads>(
     start: Met,
 ) -> Result<Vec<Part>, GatherFault>
     requires all { AllOf (slicing_of order.now) order.now.most desks.items }
-    requires within { All (λ d. total (slicing_of order.now)
+    requires within { All (λ d. coalition_count (slicing_of order.now)
         d.given.items ≤ all_total (slicing_of order.now)) desks.items }
     requires start { start.many ≡ false }
     requires dealt { (marks : List (Option ℕ)) × (stopped : Bool)

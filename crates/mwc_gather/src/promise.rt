@@ -1,6 +1,6 @@
 //! What a worker promises of its answer.
 ghost use Rattle.mwc_gather.specs.Inner.Orders.{slicing_of};
-ghost use Rattle.mwc_gather.specs.Sending.{Worked};
+ghost use Rattle.mwc_gather.specs.Sending.{HasWorked};
 
 use crate::order::Order;
 use mwc_pipe::{Closed, RingIn, RingOut, Unfinished};
@@ -22,5 +22,5 @@ pub(crate) struct Task {
 }
 
 impl Promise<Answer> for Task {
-    ghost kept_by = { λ t r. Worked (slicing_of t.order) t.order.most t.out.value t.tasks.value r };
+    ghost kept_by = { λ t r. HasWorked (slicing_of t.order) t.order.most t.out.value t.tasks.value r };
 }

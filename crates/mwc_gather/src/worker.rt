@@ -1,7 +1,7 @@
 //! The body of a worker's thread.
 ghost use Rattle.std.specs.Prelude.{◌≡◌, ℕ, ◌+◌, ◌<◌, ◌≤◌, ◌^◌, ◌++◌, ◌∷◌, [], length, IfOk, MatchOption};
 ghost use Rattle.mwc_gather.specs.Slicings.{slicing};
-ghost use Rattle.mwc_gather.specs.Sending.{Worked};
+ghost use Rattle.mwc_gather.specs.Sending.{HasWorked};
 ghost use Rattle.mwc_gather.specs.Inner.Sending.{TakesLast, TakesTask};
 ghost use Rattle.mwc_pipe.specs.declared.word.Word.TheVariants.{End};
 
@@ -82,7 +82,7 @@ pub fn work<R: Wait, G: Gate>(
     requires most { (1 ≤ most) × (most ≤ 4000000) }
     requires fresh { (out.accepted ≡ []) × (tasks.taken ≡ []) }
     requires gate { (j : ℕ) → j < 2 ^ bits → G.takes worker j }
-    ensures { Worked (slicing guarded.now bits) most out tasks result }
+    ensures { HasWorked (slicing guarded.now bits) most out tasks result }
 {
     let own = Bell::new();
     let other = Bell::new();
@@ -106,7 +106,7 @@ pub(crate) fn work_beside<R: Wait, G: Gate>(
     requires most { (1 ≤ most) × (most ≤ 4000000) }
     requires fresh { (out.accepted ≡ []) × (tasks.taken ≡ []) }
     requires gate { (j : ℕ) → j < 2 ^ bits → G.takes worker j }
-    ensures { Worked (slicing guarded.now bits) most out tasks result }
+    ensures { HasWorked (slicing guarded.now bits) most out tasks result }
 {
     let slices = slice_count(bits);
     let mut out = out;

@@ -10,8 +10,8 @@ use Rattle.std.proofs.lemmas.List.Elements.{All-head, All-tail, All-cons, All-we
 use Rattle.mwc_parts.specs.Slicing.{Slicing}
 use Rattle.mwc_parts.specs.Sums.{sum_of}
 use Rattle.mwc_parts.specs.Inner.Sums.{times}
-use Rattle.mwc_parts.specs.Wording.{total}
-use Rattle.mwc_parts.specs.Inner.Deals.{held_from, held, Dealt}
+use Rattle.mwc_parts.specs.Wording.{coalition_count}
+use Rattle.mwc_parts.specs.Inner.Deals.{held_from, held, AreDealt}
 use Rattle.mwc_parts.specs.Inner.Dealing.{Seat, IsWell, is_ill, givens, Dealing, Turns, FirstDeals, IsFresh}
 use Rattle.mwc_parts.proofs.Deals.{shares_sum, each_once, no_other, held_increases, one_of_sum, sum_range_le}
 use Rattle.mwc_parts.proofs.Turns.{turn_nothing, turn_one, none_free, none_ill, stays_by, still, share_at}
@@ -113,34 +113,34 @@ first_turn {n} {early} {stopped} {stops} {marks} {after} seats k s t l e fresh f
     ]
 
 -- who told what at the end
-pub dealt_once : {n : ℕ} {shares : List (List ℕ)} (j : ℕ) → Dealt n shares → j < n → sum_of (times j) shares ≡ 1
+pub dealt_once : {n : ℕ} {shares : List (List ℕ)} (j : ℕ) → AreDealt n shares → j < n → sum_of (times j) shares ≡ 1
 dealt_once {n} {shares} j d l =
     let a : length d.holders ≡ n = d.each_held in
     ap (sum_of (times j)) d.shares_are ∙ each_once j (length shares) d.holders d.by_workers (omega arith)
 
-pub dealt_no_other : {n : ℕ} {shares : List (List ℕ)} (j : ℕ) → Dealt n shares → n ≤ j → sum_of (times j) shares ≡ 0
+pub dealt_no_other : {n : ℕ} {shares : List (List ℕ)} (j : ℕ) → AreDealt n shares → n ≤ j → sum_of (times j) shares ≡ 0
 dealt_no_other {n} {shares} j d l =
     let a : length d.holders ≡ n = d.each_held in
     ap (sum_of (times j)) d.shares_are ∙ no_other j (length shares) d.holders d.by_workers (omega arith)
 
-pub dealt_total : {n : ℕ} {shares : List (List ℕ)} (g : Slicing) → Dealt n shares → sum_of (total g) shares ≡ total g (range_with_len 0 n)
+pub dealt_total : {n : ℕ} {shares : List (List ℕ)} (g : Slicing) → AreDealt n shares → sum_of (coalition_count g) shares ≡ coalition_count g (range_with_len 0 n)
 dealt_total {n} {shares} g d =
-    ap (sum_of (total g)) d.shares_are ∙ shares_sum (λ j. length (g.slice j)) (length shares) d.holders d.by_workers ∙ ap (λ (m : ℕ). total g (range_with_len 0 m)) d.each_held
+    ap (sum_of (coalition_count g)) d.shares_are ∙ shares_sum (λ j. length (g.slice j)) (length shares) d.holders d.by_workers ∙ ap (λ (m : ℕ). coalition_count g (range_with_len 0 m)) d.each_held
 
 all_increase : (hs ws : List ℕ) → All IsStrictlyIncreasing (map (held hs) ws)
 all_increase hs [] = λ k d l. absurd (omega arith)
 all_increase hs (w ∷ ws) = All-cons IsStrictlyIncreasing (held hs w) (map (held hs) ws) (held_increases w hs) (all_increase hs ws)
 
-pub dealt_increase : {n : ℕ} {shares : List (List ℕ)} → Dealt n shares → All IsStrictlyIncreasing shares
+pub dealt_increase : {n : ℕ} {shares : List (List ℕ)} → AreDealt n shares → All IsStrictlyIncreasing shares
 dealt_increase {n} {shares} d = subst (λ (l : List (List ℕ)). All IsStrictlyIncreasing l) (sym d.shares_are) (all_increase d.holders (range_with_len 0 (length shares)))
 
 -- no worker was given more than all slices
-pub each_within : {n k : ℕ} {early stopped : Bool} {marks : List (Option ℕ)} (g : Slicing) (seats : List Seat) → Dealing n k early marks stopped seats → All (λ (s : List ℕ). total g s ≤ total g (range_with_len 0 n)) (givens seats)
+pub each_within : {n k : ℕ} {early stopped : Bool} {marks : List (Option ℕ)} (g : Slicing) (seats : List Seat) → Dealing n k early marks stopped seats → All (λ (s : List ℕ). coalition_count g s ≤ coalition_count g (range_with_len 0 n)) (givens seats)
 each_within {n} g seats d =
-    let a : sum_of (total g) (givens seats) ≡ total g (range_with_len 0 (length d.holders)) = ap (sum_of (total g)) d.given_are ∙ shares_sum (λ j. length (g.slice j)) (length seats) d.holders d.by_workers in
+    let a : sum_of (coalition_count g) (givens seats) ≡ coalition_count g (range_with_len 0 (length d.holders)) = ap (sum_of (coalition_count g)) d.given_are ∙ shares_sum (λ j. length (g.slice j)) (length seats) d.holders d.by_workers in
     let q : length d.holders + d.free ≡ n = d.all_slices in
-    let m : total g (range_with_len 0 (length d.holders)) ≤ total g (range_with_len 0 n) = sum_range_le (λ j. length (g.slice j)) 0 (length d.holders) n (omega arith) in
-    All-weaker (λ (s : List ℕ). total g s ≤ sum_of (total g) (givens seats)) (λ (s : List ℕ). total g s ≤ total g (range_with_len 0 n)) (λ s l. omega arith) (givens seats) (one_of_sum (total g) (givens seats))
+    let m : coalition_count g (range_with_len 0 (length d.holders)) ≤ coalition_count g (range_with_len 0 n) = sum_range_le (λ j. length (g.slice j)) 0 (length d.holders) n (omega arith) in
+    All-weaker (λ (s : List ℕ). coalition_count g s ≤ sum_of (coalition_count g) (givens seats)) (λ (s : List ℕ). coalition_count g s ≤ coalition_count g (range_with_len 0 n)) (λ s l. omega arith) (givens seats) (one_of_sum (coalition_count g) (givens seats))
 
 -- the first slice that a worker holds
 begins_with : (w j : ℕ) (hs : List ℕ) (m : ℕ) → j + m ≡ w → m < length hs → ((v : ℕ) → v < m + 1 → get_or hs v 0 ≡ j + v) → (rest : List ℕ) × (held_from w j hs ≡ w ∷ rest)

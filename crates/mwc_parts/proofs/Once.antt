@@ -6,7 +6,7 @@ use Rattle.std.proofs.lemmas.Bool.{ltb-true, ltb-false, lt-ltb, le-ltb}
 use Rattle.std.proofs.lemmas.List.Sums.{sum_by-append, sum_by-cons}
 use Rattle.mwc_parts.specs.Sums.{sum_of}
 use Rattle.mwc_parts.specs.Inner.Sums.{times}
-use Rattle.mwc_parts.specs.Inner.Deals.{Dealt}
+use Rattle.mwc_parts.specs.Inner.Deals.{AreDealt}
 use Rattle.mwc_parts.specs.Parts.{shares, HasEachSliceOnce}
 use Rattle.mwc_parts.specs.declared.part.Part.{Part}
 use Rattle.mwc_parts.proofs.Firsts.{dealt_once, dealt_no_other}
@@ -29,7 +29,7 @@ one_below j n m true e once other = once (ltb-true j n e)
 one_below j n m false e once other = other (ltb-false j n e)
 
 -- where all slices are dealt, each stands in the parts once
-pub dealt_each_once : {n : ℕ} (parts : List Part) → Dealt n (shares parts) → HasEachSliceOnce n parts
+pub dealt_each_once : {n : ℕ} (parts : List Part) → AreDealt n (shares parts) → HasEachSliceOnce n parts
 dealt_each_once {n} parts d j =
     count_is j parts ∙ one_below j n (sum_of (times j) (shares parts)) (nat_lt j n) refl (dealt_once j d) (dealt_no_other j d)
 

@@ -1,14 +1,15 @@
 -- What the words of whole slices tell.
 use Rattle.std.specs.Prelude.{◌≡◌, ℕ, zero, suc, ◌+◌, ◌-◌, ◌<◌, ◌≤◌, Bool, false, List, [], ◌∷◌, ◌++◌, length, map, take, drop, refl}
+use Rattle.std.specs.List.{flat_map}
 use Rattle.std.proofs.Common.{get_or, subst, ap, arith, sym, ◌∙◌, append_assoc}
 use Rattle.std.proofs.lemmas.List.{append-nil, length-append, drop_at, take_at}
 use Rattle.std.proofs.lemmas.List.Elements.{filter_map-append}
 use Rattle.mwc_parts.specs.Slicing.{Slicing}
 use Rattle.mwc_pipe.specs.declared.word.Word.{Word}
 use Rattle.mwc_pipe.specs.declared.word.Word.TheVariants.{Open, One, Done, End}
-use Rattle.mwc_parts.specs.Wording.{wording, total}
+use Rattle.mwc_parts.specs.Wording.{wording, coalition_count}
 use Rattle.mwc_parts.specs.Settled.{AllSent}
-use Rattle.mwc_parts.specs.Pieces.{one_in, ones, dones, joined, ends_from, Rises}
+use Rattle.mwc_parts.specs.Pieces.{one_in, ones, dones, ends_from, Rises}
 
 ones-slice : (j : ℕ) (l : List ℕ) (rest : List Word) → ones (((Open j ∷ map One l) ++ Done j ∷ []) ++ rest) ≡ l ++ ones rest
 ones-slice j [] rest = refl
@@ -21,7 +22,7 @@ dones-slice n j (c ∷ l) rest =
     dones-slice (n + 1) j l rest ∙ ap (λ (m : ℕ). m ∷ dones m rest) e
 
 -- the coalitions that a wording tells are its slices joined
-pub ones-wording : (g : Slicing) (s : List ℕ) → ones (wording g s) ≡ joined g s
+pub ones-wording : (g : Slicing) (s : List ℕ) → ones (wording g s) ≡ flat_map g.slice s
 ones-wording g [] = refl
 ones-wording g (j ∷ s) = ones-slice j (g.slice j) (wording g s) ∙ ap (λ (w : List ℕ). g.slice j ++ w) (ones-wording g s)
 
@@ -31,9 +32,9 @@ dones-wording g n [] = refl
 dones-wording g n (j ∷ s) =
     dones-slice n j (g.slice j) (wording g s) ∙ ap (λ (w : List ℕ). (n + length (g.slice j)) ∷ w) (dones-wording g (n + length (g.slice j)) s)
 
-pub length-joined : (g : Slicing) (s : List ℕ) → length (joined g s) ≡ total g s
+pub length-joined : (g : Slicing) (s : List ℕ) → length (flat_map g.slice s) ≡ coalition_count g s
 length-joined g [] = refl
-length-joined g (j ∷ s) = let a = length-append (g.slice j) (joined g s) in let b = length-joined g s in omega arith
+length-joined g (j ∷ s) = let a = length-append (g.slice j) (flat_map g.slice s) in let b = length-joined g s in omega arith
 
 pub length-ends : (g : Slicing) (n : ℕ) (s : List ℕ) → length (ends_from g n s) ≡ length s
 length-ends g n [] = refl
@@ -45,20 +46,20 @@ middle pre l rest n m e f =
     ap (λ (w : List ℕ). take (m - n) w) (drop_at pre (l ++ rest) n e) ∙ take_at l rest (m - n) (sym a)
 
 -- what stands between two ends is the slice
-piece_from : (g : Slicing) (pre : List ℕ) (n : ℕ) (s : List ℕ) (m : ℕ) → length pre ≡ n → m < length s → take (get_or (ends_from g n s) m 0 - get_or (n ∷ ends_from g n s) m 0) (drop (get_or (n ∷ ends_from g n s) m 0) (pre ++ joined g s)) ≡ g.slice (get_or s m 0)
+piece_from : (g : Slicing) (pre : List ℕ) (n : ℕ) (s : List ℕ) (m : ℕ) → length pre ≡ n → m < length s → take (get_or (ends_from g n s) m 0 - get_or (n ∷ ends_from g n s) m 0) (drop (get_or (n ∷ ends_from g n s) m 0) (pre ++ flat_map g.slice s)) ≡ g.slice (get_or s m 0)
 piece_from g pre n [] m e l = absurd (omega arith)
-piece_from g pre n (j ∷ s) zero e l = middle pre (g.slice j) (joined g s) n (n + length (g.slice j)) e refl
+piece_from g pre n (j ∷ s) zero e l = middle pre (g.slice j) (flat_map g.slice s) n (n + length (g.slice j)) e refl
 piece_from g pre n (j ∷ s) (suc m) e l =
     let k = n + length (g.slice j) in
     let f : length (pre ++ g.slice j) ≡ k = let q = length-append pre (g.slice j) in omega arith in
-    ap (λ (w : List ℕ). take (get_or (ends_from g k s) m 0 - get_or (k ∷ ends_from g k s) m 0) (drop (get_or (k ∷ ends_from g k s) m 0) w)) (sym (append_assoc pre (g.slice j) (joined g s)))
+    ap (λ (w : List ℕ). take (get_or (ends_from g k s) m 0 - get_or (k ∷ ends_from g k s) m 0) (drop (get_or (k ∷ ends_from g k s) m 0) w)) (sym (append_assoc pre (g.slice j) (flat_map g.slice s)))
     ∙ piece_from g (pre ++ g.slice j) k s m f (omega arith)
 
-pub piece_is : (g : Slicing) (s : List ℕ) (m : ℕ) → m < length s → take (get_or (ends_from g 0 s) m 0 - get_or (0 ∷ ends_from g 0 s) m 0) (drop (get_or (0 ∷ ends_from g 0 s) m 0) (joined g s)) ≡ g.slice (get_or s m 0)
+pub piece_is : (g : Slicing) (s : List ℕ) (m : ℕ) → m < length s → take (get_or (ends_from g 0 s) m 0 - get_or (0 ∷ ends_from g 0 s) m 0) (drop (get_or (0 ∷ ends_from g 0 s) m 0) (flat_map g.slice s)) ≡ g.slice (get_or s m 0)
 piece_is g s m l = piece_from g [] 0 s m refl l
 
 -- the ends of slices never fall
-rises_from : (g : Slicing) (n : ℕ) (s : List ℕ) (m : ℕ) → m < length (ends_from g n s) → (get_or (n ∷ ends_from g n s) m 0 ≤ get_or (ends_from g n s) m 0) × (get_or (ends_from g n s) m 0 ≤ n + total g s)
+rises_from : (g : Slicing) (n : ℕ) (s : List ℕ) (m : ℕ) → m < length (ends_from g n s) → (get_or (n ∷ ends_from g n s) m 0 ≤ get_or (ends_from g n s) m 0) × (get_or (ends_from g n s) m 0 ≤ n + coalition_count g s)
 rises_from g n [] m l = absurd (omega arith)
 rises_from g n (j ∷ s) zero l = (omega arith, omega arith)
 rises_from g n (j ∷ s) (suc m) l =
@@ -66,7 +67,7 @@ rises_from g n (j ∷ s) (suc m) l =
     let a = r.1 in
     (r.0, omega arith)
 
-last_from : (g : Slicing) (n : ℕ) (s : List ℕ) → get_or (n ∷ ends_from g n s) (length (ends_from g n s)) 0 ≡ n + total g s
+last_from : (g : Slicing) (n : ℕ) (s : List ℕ) → get_or (n ∷ ends_from g n s) (length (ends_from g n s)) 0 ≡ n + coalition_count g s
 last_from g n [] = omega arith
 last_from g n (j ∷ s) = let r = last_from g (n + length (g.slice j)) s in omega arith
 
@@ -85,7 +86,7 @@ dones-append n (End cut ∷ xs) ys = dones-append n xs ys
 
 -- a part's fields, of the slices s
 pub record Reads (g : Slicing) (s got ends : List ℕ) : Type 0 where
-  pub joins : got ≡ joined g s
+  pub joins : got ≡ flat_map g.slice s
   pub ends_are : ends ≡ ends_from g 0 s
 
 pub reads : {g : Slicing} {most : ℕ} {s : List ℕ} {told : Bool} {words : List Word} (got ends : List ℕ) → AllSent g most s told words → got ≡ ones words → ends ≡ dones 0 words → Reads g s got ends

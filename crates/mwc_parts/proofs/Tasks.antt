@@ -5,7 +5,7 @@ use Rattle.std.proofs.lemmas.List.Elements.{All-head, All-tail}
 use Rattle.mwc_parts.specs.Slicing.{Slicing}
 use Rattle.mwc_pipe.specs.declared.word.Word.{Word}
 use Rattle.mwc_pipe.specs.declared.word.Word.TheVariants.{Open, One, Done, End}
-use Rattle.mwc_parts.specs.Wording.{opens, IsLast, total}
+use Rattle.mwc_parts.specs.Wording.{opens, IsLast, coalition_count}
 use Rattle.mwc_parts.specs.Inner.Wording.{told_words}
 
 -- no word that ends the work is a task that gives a slice
@@ -31,7 +31,7 @@ all_taken n (i ∷ s) (j ∷ given) last left told a h e =
     (cc, t.1)
 
 -- the slices that were taken before the cut, and the one that was cut, were given first
-pub cut_taken : (g : Slicing) (s given : List ℕ) (slice : ℕ) (left : List Word) (told : Bool) → (opens s ++ Open slice ∷ []) ++ left ≡ opens given ++ told_words told → total g s + length (g.slice slice) ≤ total g given
+pub cut_taken : (g : Slicing) (s given : List ℕ) (slice : ℕ) (left : List Word) (told : Bool) → (opens s ++ Open slice ∷ []) ++ left ≡ opens given ++ told_words told → coalition_count g s + length (g.slice slice) ≤ coalition_count g given
 cut_taken g [] [] slice left true e = cc
 cut_taken g [] [] slice left false e = cc
 cut_taken g [] (j ∷ given) slice left told e =

@@ -7,7 +7,7 @@ use Rattle.std.proofs.Math.Bool.{or_assoc, or-false}
 use Rattle.std.proofs.lemmas.Bool.{false≢true}
 use Rattle.std.proofs.lemmas.List.Elements.{All-head, All-tail, All-cons, All-weaker, All-set, All-push}
 use Rattle.mwc_parts.specs.Table.{IsFirstFree}
-use Rattle.mwc_parts.specs.Inner.Deals.{held, shares_by, Dealt}
+use Rattle.mwc_parts.specs.Inner.Deals.{held, shares_by, AreDealt}
 use Rattle.mwc_parts.specs.Inner.Dealing.{Seat, IsWell, is_ill, givens, Dealing, GivesNothing, GivesOne, Turns}
 use Rattle.mwc_parts.proofs.Deals.{deal_from}
 
@@ -248,7 +248,7 @@ none_left {free} {stopped} (s ∷ seats) l z a b =
 
 -- where nothing was refused, and a worker was told, all slices are dealt
 pub all_dealt : {n k : ℕ} {stopped early : Bool} {marks : List (Option ℕ)} (seats : List Seat) → early ≡ false → 0 < length seats
-    → Dealing n k early marks stopped seats → All IsWell seats → All (λ (s : Seat). s.told ≡ true) seats → Dealt n (givens seats)
+    → Dealing n k early marks stopped seats → All IsWell seats → All (λ (s : Seat). s.told ≡ true) seats → AreDealt n (givens seats)
 all_dealt {n} {k} {stopped} {early} {marks} seats z l d well told =
     let same : length (givens seats) ≡ length seats = length-map seats (λ (s : Seat). s.given) in
     let go : stopped ≡ false = well_goes_on seats z d well in

@@ -1,6 +1,6 @@
 -- What a part says of its slices.
 use Rattle.std.specs.Prelude.{ℕ, ◌+◌, ◌<◌, ◌≤◌, List, [], ◌∷◌, length, slice_index, Option, Some, None}
-use Rattle.std.specs.List.{flat_map, filter_map}
+use Rattle.std.specs.List.{filter_map}
 use Rattle.mwc_parts.specs.Slicing.{Slicing}
 use Rattle.mwc_pipe.specs.declared.word.Word.{Word}
 use Rattle.mwc_pipe.specs.declared.word.Word.TheVariants.{Open, One, Done, End}
@@ -21,10 +21,6 @@ dones n (Open j ∷ ws) = dones n ws
 dones n (One c ∷ ws) = dones (n + 1) ws
 dones n (Done j ∷ ws) = n ∷ dones n ws
 dones n (End cut ∷ ws) = dones n ws
-
--- the slices joined
-abbrev pub joined : Slicing → List ℕ → List ℕ
-joined g js = flat_map (g.slice) js
 
 -- where each slice ends, in the slices joined
 abbrev pub ends_from : Slicing → ℕ → List ℕ → List ℕ

@@ -4,7 +4,7 @@ use Rattle.std.specs.List.{list_any}
 use Rattle.mwc_pipe.specs.declared.word.Word.{Word}
 use Rattle.mwc_pipe.specs.declared.word.Word.TheVariants.{End}
 use Rattle.mwc_parts.specs.Slicing.{Slicing}
-use Rattle.mwc_parts.specs.Wording.{wording, total}
+use Rattle.mwc_parts.specs.Wording.{wording, coalition_count}
 use Rattle.mwc_parts.specs.Pieces.{ones, dones}
 use Rattle.mwc_parts.specs.declared.draft.Draft.{Draft}
 
@@ -21,25 +21,25 @@ has_cut words = list_any is_cut words
 pub record AllSent (g : Slicing) (most : ℕ) (given : List ℕ) (told : Bool) (words : List Word) : Type 0 where
   pub words_are : words ≡ wording g given ++ End false ∷ []
   pub was_told : told ≡ true
-  pub few : total g given ≤ most
+  pub few : coalition_count g given ≤ most
 
 -- the sending was cut, since what was given is too much
 pub record WasCut (g : Slicing) (most : ℕ) (given : List ℕ) (words : List Word) : Type 0 where
   pub before : List Word
   pub words_are : words ≡ before ++ End true ∷ []
-  pub many : most < total g given
+  pub many : most < coalition_count g given
 
-abbrev pub Settled : Slicing → ℕ → List ℕ → Bool → List Word → Type 0
-Settled g most given told words = AllSent g most given told words ⊎ WasCut g most given words
+abbrev pub AreSettled : Slicing → ℕ → List ℕ → Bool → List Word → Type 0
+AreSettled g most given told words = AllSent g most given told words ⊎ WasCut g most given words
 
 -- what a draft keeps of these words: whether there was a cut, and where nothing was lost, the coalitions and where each slice ends
-pub record Keeps (words : List Word) (draft : Draft) : Type 0 where
+pub record IsDraftOf (words : List Word) (draft : Draft) : Type 0 where
   pub cut_is : draft.cut ≡ has_cut words
   pub got_are : draft.lost ≡ false → draft.got.items ≡ ones words
   pub ends_are : draft.lost ≡ false → draft.ends.items ≡ dones 0 words
 
 -- a draft of all words of a worker that was given these slices, and has ended
-pub record IsWhole (g : Slicing) (most : ℕ) (given : List ℕ) (told : Bool) (draft : Draft) : Type 0 where
+pub record HasAllWords (g : Slicing) (most : ℕ) (given : List ℕ) (told : Bool) (draft : Draft) : Type 0 where
   pub words : List Word
-  pub settled : Settled g most given told words
-  pub keeps : Keeps words draft
+  pub settled : AreSettled g most given told words
+  pub keeps : IsDraftOf words draft

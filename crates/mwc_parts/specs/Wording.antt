@@ -19,8 +19,8 @@ abbrev pub wording : Slicing → List ℕ → List Word
 wording g slices = flat_map (slice_words g) slices
 
 -- how many coalitions the slices have in all
-abbrev pub total : Slicing → List ℕ → ℕ
-total g js = sum_of (λ j. length (g.slice j)) js
+abbrev pub coalition_count : Slicing → List ℕ → ℕ
+coalition_count g js = sum_of (λ j. length (g.slice j)) js
 
 -- the tasks that give these slices
 abbrev pub opens : List ℕ → List Word
@@ -32,17 +32,17 @@ IsLast n (Open j) = n ≤ j
 IsLast n _ = ⊤
 
 -- all slices that the tasks gave, and the end
-pub record Whole (g : Slicing) (most : ℕ) (tasks words : List Word) : Type 0 where
+pub record IsWholeSending (g : Slicing) (most : ℕ) (tasks words : List Word) : Type 0 where
   pub slices : List ℕ
   pub last : Word
   pub tasks_are : tasks ≡ opens slices ++ last ∷ []
   pub below : All (λ j. j < g.slices) slices
   pub ends : IsLast g.slices last
-  pub few : total g slices ≤ most
+  pub few : coalition_count g slices ≤ most
   pub words_are : words ≡ wording g slices ++ End false ∷ []
 
 -- the slices up to their coalition number most + 1, and the end
-pub record Cut (g : Slicing) (most : ℕ) (tasks words : List Word) : Type 0 where
+pub record IsCutSending (g : Slicing) (most : ℕ) (tasks words : List Word) : Type 0 where
   pub slices : List ℕ
   pub slice : ℕ
   pub count : ℕ
@@ -50,6 +50,6 @@ pub record Cut (g : Slicing) (most : ℕ) (tasks words : List Word) : Type 0 whe
   pub below : All (λ j. j < g.slices) slices
   pub last_below : slice < g.slices
   pub some : 0 < count
-  pub full : total g slices + count ≡ most + 1
+  pub full : coalition_count g slices + count ≡ most + 1
   pub within : count ≤ length (g.slice slice)
   pub words_are : words ≡ (wording g slices ++ cut_words g slice count) ++ End true ∷ []

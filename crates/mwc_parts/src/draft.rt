@@ -2,7 +2,7 @@
 ghost use Rattle.std.specs.Prelude.{◌≡◌, [], ◌∷◌, ◌++◌, List, false, length, IfOk, OnOk, true};
 ghost use Rattle.mwc_pipe.specs.declared.word.Word.{Word};
 ghost use Rattle.mwc_parts.specs.Pieces.{ones, dones};
-ghost use Rattle.mwc_parts.specs.Settled.{is_cut, Keeps};
+ghost use Rattle.mwc_parts.specs.Settled.{is_cut, IsDraftOf};
 
 use council_game::{Coalition, Memory};
 use mwc_pipe::Word;
@@ -24,7 +24,7 @@ pub struct Draft {
 impl Draft {
     /// The draft of no words, with room for so many slices; `Memory` where there was none.
     pub fn new(alloc: Global, slices: u16) -> Result<Draft, Memory>
-        ensures { IfOk result (λ d. Keeps [] d × (d.lost ≡ false) × (d.cut ≡ false)) }
+        ensures { IfOk result (λ d. IsDraftOf [] d × (d.lost ≡ false) × (d.cut ≡ false)) }
     {
         let mut ends = Vec::new(alloc);
         ends.reserve(usize::from(slices))?;
@@ -38,7 +38,7 @@ impl Draft {
 
     /// Keeps one more word.
     pub fn hear(&mut self, word: Word)
-        ensures keeps { (words : List Word) → Keeps words self.old → Keeps (words ++ word ∷ []) self.new }
+        ensures keeps { (words : List Word) → IsDraftOf words self.old → IsDraftOf (words ++ word ∷ []) self.new }
         ensures lost { self.new.lost ≡ false → self.old.lost ≡ false }
         ensures cut { self.new.cut ≡ false → self.old.cut ≡ false }
     {
@@ -55,7 +55,7 @@ impl Draft {
 
     /// Keeps the words of a row, for whose coalitions room is made once.
     pub fn hear_row(&mut self, row: &[Word])
-        ensures keeps { (words : List Word) → Keeps words self.old → Keeps (words ++ row.now) self.new }
+        ensures keeps { (words : List Word) → IsDraftOf words self.old → IsDraftOf (words ++ row.now) self.new }
         ensures lost { self.new.lost ≡ false → self.old.lost ≡ false }
         ensures cut { self.new.cut ≡ false → self.old.cut ≡ false }
     {
@@ -69,7 +69,7 @@ impl Draft {
 
     /// Something is lost: nothing is kept from here on.
     pub fn lose(&mut self)
-        ensures keeps { (words : List Word) → Keeps words self.old → Keeps words self.new }
+        ensures keeps { (words : List Word) → IsDraftOf words self.old → IsDraftOf words self.new }
         ensures lost { self.new.lost ≡ true }
         ensures cut { self.new.cut ≡ self.old.cut }
     {

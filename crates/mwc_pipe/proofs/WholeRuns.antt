@@ -11,7 +11,7 @@ use Rattle.std.proofs.lemmas.List.Folds.{list_any-append}
 use Rattle.mwc_pipe.specs.declared.step.Step.{Step}
 use Rattle.mwc_pipe.specs.declared.step.Step.TheVariants.{Put, Take, Close}
 use Rattle.mwc_pipe.specs.declared.reply.Reply.{Reply}
-use Rattle.mwc_pipe.specs.History.{Event, item_in, item_out, is_close, shut, came, gone, reply_to, history_after, history, replies, Lawful}
+use Rattle.mwc_pipe.specs.History.{Event, item_in, item_out, is_close, has_close, came, gone, reply_to, history_after, history, replies, IsLawful}
 use Rattle.mwc_pipe.specs.PipeView.{PipeView, Leaves, IsStep}
 use Rattle.mwc_pipe.specs.Laws.{NothingIsLost, NothingEntersAfterClose, EachReplyIsCounted, HasPast}
 use Rattle.mwc_pipe.specs.declared.reply.Reply.TheVariants.{Accepted, First}
@@ -70,7 +70,7 @@ module _ {T : Type 0} where
   })
 
   kept_rest : (capacity : ℕ) (past : List (Event T)) → Kept capacity past →
-      (rest : List T) × Lawful (came past) (gone past) rest × (length rest ≤ capacity)
+      (rest : List T) × IsLawful (came past) (gone past) rest × (length rest ≤ capacity)
   kept_rest capacity past kept = (kept.pipe.inside, kept.leaves.lawful, omega (arith, kept.same, kept.short))
 
   pub nothing_is_lost_lem : (capacity : ℕ) (steps : List (Step T)) → NothingIsLost capacity steps
@@ -78,11 +78,11 @@ module _ {T : Type 0} where
 
   -- a close among the steps is a close in the history
   pub shut_after : (capacity : ℕ) (past : List (Event T)) (steps : List (Step T)) →
-      shut (history_after capacity past steps) ≡ (shut past || list_any is_close steps)
-  shut_after capacity past [] = sym (or-false (shut past))
+      has_close (history_after capacity past steps) ≡ (has_close past || list_any is_close steps)
+  shut_after capacity past [] = sym (or-false (has_close past))
   shut_after capacity past (step ∷ steps) =
       shut_after capacity (past ++ (step, reply_to capacity past step) ∷ []) steps
-      ∙ rw (list_any-append (λ event. is_close event.0) past ((step, reply_to capacity past step) ∷ []), or-false) (or_assoc (shut past) (is_close step) (list_any is_close steps))
+      ∙ rw (list_any-append (λ event. is_close event.0) past ((step, reply_to capacity past step) ∷ []), or-false) (or_assoc (has_close past) (is_close step) (list_any is_close steps))
 
   -- what stands in the past stands in the history
   get_past : (capacity : ℕ) (past : List (Event T)) (steps : List (Step T)) (k : ℕ) (event : Event T) →
@@ -186,7 +186,7 @@ module _ {T : Type 0} where
   gone_filled [] = refl
   gone_filled (x ∷ xs) = gone_filled xs
 
-  shut_filled : (xs : List T) → shut (filled xs) ≡ false
+  shut_filled : (xs : List T) → has_close (filled xs) ≡ false
   shut_filled [] = refl
   shut_filled (x ∷ xs) = shut_filled xs
 

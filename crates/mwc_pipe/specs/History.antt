@@ -26,8 +26,8 @@ module _ {T : Type 0} where
   is_close _ = false
 
   -- whether there was a close
-  abbrev pub shut : List (Event T) → Bool
-  shut past = list_any (λ event. is_close event.0) past
+  abbrev pub has_close : List (Event T) → Bool
+  has_close past = list_any (λ event. is_close event.0) past
 
   -- the accepted items, in step order
   abbrev pub came : List (Event T) → List T
@@ -45,9 +45,9 @@ module _ {T : Type 0} where
   -- the reply to a step after this past
   abbrev pub reply_to : ℕ → List (Event T) → Step T → Reply T
   reply_to capacity past (Put x) =
-      if shut past then Closed else (if length (came past) - length (gone past) == capacity then Full else Accepted)
-  reply_to capacity past Take = reply_of_take (slice_get (came past) (length (gone past))) (shut past)
-  reply_to capacity past Close = if shut past then Again else First
+      if has_close past then Closed else (if length (came past) - length (gone past) == capacity then Full else Accepted)
+  reply_to capacity past Take = reply_of_take (slice_get (came past) (length (gone past))) (has_close past)
+  reply_to capacity past Close = if has_close past then Again else First
 
   -- the past, and after it these steps, each with its reply
   abbrev pub history_after : ℕ → List (Event T) → List (Step T) → List (Event T)
@@ -63,5 +63,5 @@ module _ {T : Type 0} where
   replies capacity steps = map (λ event. event.1) (history capacity steps)
 
   -- what was taken followed by what is inside is what was accepted
-  abbrev pub Lawful : List T → List T → List T → Type 0
-  Lawful came gone inside = gone ++ inside ≡ came
+  abbrev pub IsLawful : List T → List T → List T → Type 0
+  IsLawful came gone inside = gone ++ inside ≡ came

@@ -1,7 +1,5 @@
 -- Which ring an end is of.
-use Rattle.std.specs.Prelude.{refl}
-use Rattle.std.specs.Coded.{Coded, code_by, coded×, coded_ℕ}
-use denote.RawPtr.{Ptr, coded_ptr}
+use denote.RawPtr.{Ptr}
 use Rattle.rtrb.specs.Shared.{Names}
 
 -- where the ring lies, and the names of its parts: the two ends of one ring have the same

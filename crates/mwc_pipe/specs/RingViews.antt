@@ -2,9 +2,6 @@
 use Rattle.std.specs.Prelude.{ℕ, List}
 use Rattle.mwc_pipe.specs.RingName.{RingName}
 use Rattle.mwc_pipe.specs.declared.word.Word.{Word}
-use Rattle.rtrb.specs.declared.producer.Producer.{Producer}
-use Rattle.rtrb.specs.declared.finished.Finished.{Finished}
-use Rattle.rtrb.specs.declared.consumer.Consumer.{Consumer}
 
 -- the end that words are put into: its ring, the capacity, and what it accepted
 pub record RingInView : Type 0 where

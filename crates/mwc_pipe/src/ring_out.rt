@@ -1,7 +1,7 @@
 //! The end of a ring that words are taken from.
 ghost use Rattle.std.specs.Prelude.{◌≡◌, ◌≤◌, nat_lt, List, [], ◌∷◌, ◌++◌, length, take, drop, MatchOption};
 ghost use Rattle.mwc_pipe.specs.declared.word.Word.{Word};
-ghost use Rattle.mwc_pipe.specs.History.{Event, gone, Lawful};
+ghost use Rattle.mwc_pipe.specs.History.{Event, gone, IsLawful};
 ghost use Rattle.mwc_pipe.specs.Rows.{takes_of};
 
 use crate::closed::Closed;
@@ -53,7 +53,7 @@ impl RingOut {
     /// accepted. It takes no memory.
     pub fn end(self, closed: Closed) -> Rest
         requires { closed.ring ≡ self.ring }
-        ensures { Lawful closed.accepted self.taken result }
+        ensures { IsLawful closed.accepted self.taken result }
     {
         let RingOut { mut consumer } = self;
         let Closed { mut finished } = closed;

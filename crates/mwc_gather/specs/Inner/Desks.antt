@@ -3,7 +3,7 @@ use Rattle.std.specs.Prelude.{◌≡◌, ◌≢◌, ◌⊎◌, ℕ, ◌<◌, Boo
 use Rattle.std.specs.List.{AllWithin}
 use Rattle.mwc_parts.specs.Slicing.{Slicing}
 use Rattle.mwc_parts.specs.Parts.{IsPart}
-use Rattle.mwc_parts.specs.Wording.{total}
+use Rattle.mwc_parts.specs.Wording.{coalition_count}
 use Rattle.mwc_parts.specs.Fault.{nothing, also}
 use Rattle.mwc_parts.specs.Inner.Fault.{IsEarly}
 use Rattle.mwc_parts.specs.declared.part.Part.{Part}
@@ -38,7 +38,7 @@ pub record Finished (g : Slicing) (d : Desk) (p : Part) : Type 0 where
 -- Start; where something was lost it is Memory, and it is TooMany only where the slices given have more coalitions than were asked for
 abbrev pub Ends : Slicing → ℕ → Desk → Option GatherFault → Type 0
 Ends g most d None = IsWell (seat d) × (d.told ≡ true)
-Ends g most d (Some why) = (why ≢ Start) × (d.draft.lost ≡ true → why ≡ Memory) × (why ≡ TooMany → most < total g d.given.items)
+Ends g most d (Some why) = (why ≢ Start) × (d.draft.lost ≡ true → why ≡ Memory) × (why ≡ TooMany → most < coalition_count g d.given.items)
 
 -- what was met where so many workers were to be started and so many were: nothing where these are all, or else one fault, which is
 -- Start or want of memory

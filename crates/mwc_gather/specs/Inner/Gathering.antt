@@ -2,18 +2,18 @@
 use Rattle.std.specs.Prelude.{◌≡◌, ℕ, ◌<◌, List, [], Some, length, All, slice_get, slice_index_or}
 use Rattle.std.specs.List.{range_with_len}
 use Rattle.mwc_parts.specs.Slicing.{Slicing}
-use Rattle.mwc_parts.specs.Wording.{total}
-use Rattle.mwc_parts.specs.Inner.Deals.{Dealt}
+use Rattle.mwc_parts.specs.Wording.{coalition_count}
+use Rattle.mwc_parts.specs.Inner.Deals.{AreDealt}
 use Rattle.mwc_parts.specs.Parts.{IsPart, shares}
 use Rattle.mwc_parts.specs.declared.part.Part.{Part}
 
 -- how many coalitions all slices have
 abbrev pub all_total : Slicing → ℕ
-all_total g = total g (range_with_len 0 g.slices)
+all_total g = coalition_count g (range_with_len 0 g.slices)
 
 -- the parts of all workers: all slices are dealt to them, each has the coalitions of its slices, and worker w begins with slice w
-pub record Complete (g : Slicing) (workers : ℕ) (parts : List Part) : Type 0 where
+pub record IsComplete (g : Slicing) (workers : ℕ) (parts : List Part) : Type 0 where
   pub a_part_each : length parts ≡ workers
-  pub dealt : Dealt g.slices (shares parts)
+  pub dealt : AreDealt g.slices (shares parts)
   pub are_parts : All (IsPart g) parts
   pub begins : (w : ℕ) → w < workers → w < g.slices → slice_get (slice_index_or (shares parts) w []) 0 ≡ Some w

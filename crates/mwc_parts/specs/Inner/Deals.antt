@@ -16,7 +16,7 @@ abbrev pub shares_by : List ℕ → ℕ → List (List ℕ)
 shares_by holders workers = map (held holders) (range_with_len 0 workers)
 
 -- each of the slices 0 to n - 1 has one holder, and each share has the slices of its worker, in ascending order
-pub record Dealt (n : ℕ) (shares : List (List ℕ)) : Type 0 where
+pub record AreDealt (n : ℕ) (shares : List (List ℕ)) : Type 0 where
   pub holders : List ℕ
   pub each_held : length holders ≡ n
   pub by_workers : All (λ h. h < length shares) holders

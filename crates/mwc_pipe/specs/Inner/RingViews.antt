@@ -1,7 +1,5 @@
 -- What contracts see of the ends of a ring: what only proofs and private functions need.
-use Rattle.std.specs.Prelude.{ℕ, List}
 use Rattle.mwc_pipe.specs.RingName.{RingName}
-use Rattle.mwc_pipe.specs.declared.word.Word.{Word}
 use Rattle.rtrb.specs.declared.producer.Producer.{Producer}
 use Rattle.rtrb.specs.declared.finished.Finished.{Finished}
 use Rattle.rtrb.specs.declared.consumer.Consumer.{Consumer}

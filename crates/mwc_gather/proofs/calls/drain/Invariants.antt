@@ -1,12 +1,12 @@
 use Rattle.std.proofs.Common.{◌≡◌, ◌++◌, List, false, length}
 use Rattle.mwc_pipe.specs.declared.word.Word.{Word}
-use Rattle.mwc_parts.specs.Settled.{Keeps}
+use Rattle.mwc_parts.specs.Settled.{IsDraftOf}
 use Rattle.mwc_gather.proofs.calls.drain.Given as goal
 
 abbrev pub invariant-loop-word : goal.invariant-loop-word
 invariant-loop-word l =
     record {
-      kept : (done : List Word) × (done ++ l.rest ≡ l.fn.rest) × ((words : List Word) → Keeps words l.fn.draft → Keeps (words ++ done) l.draft);
+      kept : (done : List Word) × (done ++ l.rest ≡ l.fn.rest) × ((words : List Word) → IsDraftOf words l.fn.draft → IsDraftOf (words ++ done) l.draft);
       lost : l.draft.lost ≡ false → l.fn.draft.lost ≡ false;
       cut : l.draft.cut ≡ false → l.fn.draft.cut ≡ false;
     }

@@ -1,7 +1,7 @@
 use Rattle.std.proofs.Common.{◌≡◌, ◌<◌, ◌≤◌, ◌++◌, ◌∷◌, [], List, ap, subst, sym, ◌∙◌, arith, rules, Some, None}
 use Rattle.std.specs.Vec.Iter.{into_iter_items}
 use Rattle.std.proofs.lemmas.List.Elements.{All-rest}
-use Rattle.mwc_parts.specs.Wording.{total}
+use Rattle.mwc_parts.specs.Wording.{coalition_count}
 use Rattle.mwc_parts.specs.declared.met.Met.{Met}
 use Rattle.mwc_parts.specs.declared.fault.GatherFault.TheVariants.{Memory}
 use Rattle.mwc_gather.specs.declared.desk.Desk.{Desk}
@@ -21,15 +21,15 @@ loop-desk-preserved g c =
     let step : old ≡ d ∷ rest = c.in-Some.ensures.steps.0 in
     let i = c.loop-desk.invariant in let f = i.first in
     let own : IsOf v most d = head_of (IsOf v most) d rest old step i.all_of in
-    let few : total v d.given.items ≤ all_total v = head_of (λ (d : Desk). total v d.given.items ≤ all_total v) d rest old step i.within in
+    let few : coalition_count v d.given.items ≤ all_total v = head_of (λ (d : Desk). coalition_count v d.given.items ≤ all_total v) d rest old step i.within in
     record {
       all_of = All-rest (IsOf v most) d rest old step i.all_of;
-      within = All-rest (λ (d : Desk). total v d.given.items ≤ all_total v) d rest old step i.within;
+      within = All-rest (λ (d : Desk). coalition_count v d.given.items ≤ all_total v) d rest old step i.within;
       many = λ z.
           note_many c.loop-desk.met c.in-Err.why (most < all_total v)
           (λ e.
-          let l : d.worker.promise.order.most < total (slicing_of d.worker.promise.order) d.given.items = c.in-Err.ensures.many (cc) in
-          let a = ap (λ (x : Slicing). total x d.given.items) own.0 in let b = own.1 in
+          let l : d.worker.promise.order.most < coalition_count (slicing_of d.worker.promise.order) d.given.items = c.in-Err.ensures.many (cc) in
+          let a = ap (λ (x : Slicing). coalition_count x d.given.items) own.0 in let b = own.1 in
           omega arith)
           i.many (sym (ap (λ (m : Met). m.many) c.note-in-Err.ensures) ∙ z);
       kept = (i.kept.0 ++ d ∷ [], one_done i.kept.0 rest old c.args.desks.items d step i.kept.1, not_noted c.loop-desk.met c.note-in-Err.new.self c.in-Err.why _ c.note-in-Err.ensures);
@@ -51,7 +51,7 @@ loop-desk-preserved-then-is_err g c =
     let i = c.loop-desk.invariant in let f = i.first in
     record {
       all_of = All-rest (IsOf v most) d rest old step i.all_of;
-      within = All-rest (λ (d : Desk). total v d.given.items ≤ all_total v) d rest old step i.within;
+      within = All-rest (λ (d : Desk). coalition_count v d.given.items ≤ all_total v) d rest old step i.within;
       many = λ z. i.many (sym (ap (λ (m : Met). m.many) c.note.ensures) ∙ z);
       kept = (i.kept.0 ++ d ∷ [], one_done i.kept.0 rest old c.args.desks.items d step i.kept.1, not_noted c.loop-desk.met c.note.new.self Memory _ c.note.ensures);
       first = (
@@ -75,7 +75,7 @@ loop-desk-preserved-else-is_err g c =
     let longer : c.push.new.self.items ≡ c.loop-desk.parts.items ++ c.in-Ok.part ∷ [] = search rules in
     record {
       all_of = All-rest (IsOf v most) d rest old step i.all_of;
-      within = All-rest (λ (d : Desk). total v d.given.items ≤ all_total v) d rest old step i.within;
+      within = All-rest (λ (d : Desk). coalition_count v d.given.items ≤ all_total v) d rest old step i.within;
       many = i.many;
       kept = (i.kept.0 ++ d ∷ [], one_done i.kept.0 rest old c.args.desks.items d step i.kept.1, λ e. let o = i.kept.2 e in (o.0, zip_more v i.kept.0 c.loop-desk.parts.items c.push.new.self.items d c.in-Ok.part longer part o.1));
       first = (

@@ -5,7 +5,7 @@ use Rattle.std.proofs.lemmas.List.{take_at}
 use Rattle.std.proofs.Math.Pow.{pow_mono}
 use Rattle.council_game.specs.Game.{GameView}
 use Rattle.mwc_parts.specs.Slicing.{Slicing}
-use Rattle.mwc_parts.specs.Wording.{total}
+use Rattle.mwc_parts.specs.Wording.{coalition_count}
 use Rattle.mwc_parts.specs.Fault.{fault_of}
 use Rattle.mwc_gather.specs.declared.order.Order.{Order}
 use Rattle.mwc_gather.specs.declared.desk.Desk.{Desk}
@@ -44,7 +44,7 @@ finish_all-requires-clause-within g c =
     let ok = c.open_all-met.new.desks.ok in
     let e = written new c.open_all-met.new.desks.items n (omega arith) in
     let game : Slicing = slicing_of c.new-order.result in
-    subst (λ (w : List Desk). All (λ (d : Desk). total game d.given.items ≤ all_total game) w) (sym e) (desks_within new c.read_all-stopped.ensures)
+    subst (λ (w : List Desk). All (λ (d : Desk). coalition_count game d.given.items ≤ all_total game) w) (sym e) (desks_within new c.read_all-stopped.ensures)
 
 pub finish_all-requires-clause-start : goal.finish_all-requires-clause-start
 finish_all-requires-clause-start g c = opens_few c.args.workers c.open_all-met.new.desks.len c.open_all-met.result c.open_all-met.ensures.met

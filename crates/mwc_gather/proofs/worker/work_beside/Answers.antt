@@ -4,7 +4,7 @@ use Rattle.std.proofs.lemmas.List.Elements.{All-push}
 use Rattle.mwc_pipe.specs.declared.word.Word.{Word}
 use Rattle.mwc_pipe.specs.declared.word.Word.TheVariants.{Open}
 use Rattle.mwc_parts.specs.Slicing.{Slicing}
-use Rattle.mwc_parts.specs.Wording.{slice_words, total}
+use Rattle.mwc_parts.specs.Wording.{slice_words, coalition_count}
 use Rattle.mwc_gather.specs.Slicings.{slicing}
 use Rattle.mwc_gather.proofs.Wordings.{opens-more, wording-more, total-more}
 use Rattle.mwc_gather.proofs.worker.work_beside.Goals as goal
@@ -18,7 +18,7 @@ loop-preserved g c =
     let count = c.slice_count-slices.ensures in let first = task.0 in
     let low : j < game.slices = omega arith in
     let sum = inv.3 in let few = sends.1 in let rest = sends.2 in
-    let more : total game (inv.0 ++ j ∷ []) ≡ total game inv.0 + length (game.slice j) = total-more game inv.0 j in (
+    let more : coalition_count game (inv.0 ++ j ∷ []) ≡ coalition_count game inv.0 + length (game.slice j) = total-more game inv.0 j in (
       search rules,
       search rules,
       omega arith,

@@ -1,12 +1,12 @@
 use Rattle.std.proofs.Common.{◌≡◌, ◌++◌, List, take, false}
 use Rattle.mwc_pipe.specs.declared.word.Word.{Word}
-use Rattle.mwc_parts.specs.Settled.{Keeps}
+use Rattle.mwc_parts.specs.Settled.{IsDraftOf}
 use Rattle.mwc_parts.proofs.draft.Draft.hear_row.Given as goal
 
 abbrev pub invariant-loop-word : goal.invariant-loop-word
 invariant-loop-word l =
     record {
-      kept : (words : List Word) → Keeps words l.fn.self → Keeps (words ++ take l.word-index l.row) l.self;
+      kept : (words : List Word) → IsDraftOf words l.fn.self → IsDraftOf (words ++ take l.word-index l.row) l.self;
       lost : l.self.lost ≡ false → l.fn.self.lost ≡ false;
       cut : l.self.cut ≡ false → l.fn.self.cut ≡ false;
     }

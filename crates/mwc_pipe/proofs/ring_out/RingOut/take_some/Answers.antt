@@ -1,7 +1,6 @@
-use Rattle.std.proofs.Common.{◌≡◌, List, ◌++◌, take, ap, sym, ◌∙◌}
+use Rattle.std.proofs.Common.{List, ◌++◌, take, ap, sym, ◌∙◌}
 use Rattle.mwc_pipe.specs.declared.word.Word.{Word}
 use Rattle.mwc_pipe.specs.RingViews.{RingOutView}
-use Rattle.mwc_pipe.specs.History.{gone}
 use Rattle.mwc_pipe.proofs.Rows.{gone_takes}
 use Rattle.mwc_pipe.proofs.ring_out.RingOut.take_some.Goals as goal
 
