@@ -6,8 +6,9 @@ ghost use Rattle.std.specs.Map.{keys_of};
 ghost use Rattle.std.specs.Cmp.Lexicographic.{pointwise};
 ghost use Rattle.toml.specs.Data.{as_table};
 ghost use Rattle.toml.specs.View.{view, table_view};
-ghost use Rattle.council_file.specs.File.{top_keys, member_keys, has_other_key};
+ghost use Rattle.council_file.specs.File.{top_keys, member_keys, has_other_key, has_unknown_key};
 
+use crate::members::member_list;
 use toml::{Table, Value};
 
 fn is_top_key(key: &str) -> bool
@@ -37,7 +38,7 @@ fn any_other_member_key(table: &Table) -> bool
 }
 
 #[tactic(auto, using(crate::proofs::Views::other_key))]
-pub(crate) fn has_other_top_key(table: &Table) -> bool
+fn has_other_top_key(table: &Table) -> bool
     ensures { result ≡ has_other_key top_keys (table_view table.now) }
 {
     any_other_top_key(table)
@@ -59,9 +60,17 @@ fn is_odd_member(member: &Value) -> bool
     }
 }
 
-pub(crate) fn any_odd_member(members: &[Value]) -> bool
+fn any_odd_member(members: &[Value]) -> bool
     ensures { result ≡ list_any (λ v. option_map_or (has_other_key member_keys) (as_table (view v))
         false) members.now }
 {
     members.iter().any(|member| is_odd_member(member))
+}
+
+/// A key that a file, or one of its members, may not have.
+#[tactic(auto, using(council_game::proofs::Lists::list_any_map))]
+pub(crate) fn has_unknown_key(table: &Table) -> bool
+    ensures { result ≡ has_unknown_key (table_view table.now) }
+{
+    has_other_top_key(table) || any_odd_member(member_list(table))
 }

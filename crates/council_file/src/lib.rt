@@ -9,13 +9,17 @@ mod bracket;
 mod joined;
 mod keys;
 pub mod laws;
+mod member_weights;
+mod members;
 mod notation;
 mod parse;
-mod parts;
+mod quotas;
 mod reading;
+mod rules;
 mod scanner;
 #[cfg(test)]
 mod tests;
+mod title;
 mod token;
 mod tree;
 

@@ -6,10 +6,11 @@ ghost use Rattle.council_game.specs.Fault.{Answers};
 ghost use Rattle.council_file.specs.File.{game_of, game_of_tree};
 
 use crate::bracket::{game_of_bracket, is_bracket};
-use crate::parts::{
-    are_members, breaks_rules, has_unknown_key, lacks_quota, member_list, names_of, rules_of,
-    title_of,
-};
+use crate::keys::has_unknown_key;
+use crate::members::{are_members, member_list, names_of};
+use crate::quotas::lacks_quota;
+use crate::rules::{breaks_rules, rules_of};
+use crate::title::title_of;
 use crate::tree::tree_of;
 use council_game::{Game, GameFault, limits};
 use std::alloc::{AllocError, Global};

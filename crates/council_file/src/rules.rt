@@ -1,0 +1,78 @@
+//! The rules of a game in a tree.
+ghost use Rattle.std.specs.Prelude.{◌≡◌, map, is_some, [], IfOk, ◌∷◌};
+ghost use Rattle.std.specs.List.{list_any, range_with_len};
+ghost use Rattle.toml.specs.Data.{get};
+ghost use Rattle.toml.specs.View.{table_view};
+ghost use Rattle.council_file.specs.File.{member_list, breaks_rules, only_rule, rule_at, rules_of};
+ghost use Rattle.council_game.specs.Rules.{rule_view, rule_views};
+
+use crate::member_weights::{only_weights, weights_under};
+use crate::members::member_list;
+use crate::quotas::{has_bad_quotas, quota_at, quota_from};
+use crate::tree::{elements_at, has, some_has, value_at};
+use council_game::Rule;
+use std::alloc::{AllocError, Global};
+use toml::Table;
+
+#[tactic(auto, using(council_game::proofs::Lists::list_any_map))]
+fn some_member_has(table: &Table, key: &str) -> bool
+    ensures { result ≡ list_any (λ d. is_some (get key.now d)) (member_list (table_view table.now)) }
+{
+    some_has(member_list(table), key)
+}
+
+pub(crate) fn breaks_rules(table: &Table) -> bool
+    ensures { result ≡ breaks_rules (table_view table.now) }
+{
+    (has(table, "quota") && has(table, "quotas"))
+        || has_bad_quotas(table)
+        || (has(table, "quota") && some_member_has(table, "weights"))
+        || (has(table, "quotas") && some_member_has(table, "weight"))
+}
+
+#[tactic(auto, using(crate::proofs::Views::map_map), unfolding(crate::specs::File::only_rule))]
+fn only_rule(alloc: Global, table: &Table) -> Result<Rule, AllocError>
+    ensures { IfOk result (λ r. rule_view r ≡ only_rule (table_view table.now)) }
+{
+    let quota = quota_from(value_at(table, "quota"));
+    let weights = only_weights(alloc, member_list(table))?;
+    Ok(Rule { quota, weights })
+}
+
+#[tactic(auto, using(crate::proofs::Views::map_map), unfolding(crate::specs::File::rule_at))]
+fn rule_at(alloc: Global, table: &Table, n: usize, r: usize) -> Result<Rule, AllocError>
+    ensures { IfOk result (λ rule. rule_view rule ≡ rule_at (table_view table.now) n r) }
+{
+    let quota = quota_at(elements_at(table, "quotas"), r);
+    let weights = weights_under(alloc, member_list(table), n, r)?;
+    Ok(Rule { quota, weights })
+}
+
+fn rules_at(alloc: Global, table: &Table, n: usize) -> Result<Vec<Rule>, AllocError>
+    ensures { IfOk result (λ v. rule_views v.items ≡ map (rule_at (table_view table.now) n) (range_with_len 0 n)) }
+{
+    let mut rules = Vec::with_capacity(alloc, n)?;
+    for r in 0..n {
+        rules.push(rule_at(alloc, table, n, r)?)?;
+    }
+    Ok(rules)
+}
+
+fn lone_rule(alloc: Global, table: &Table) -> Result<Vec<Rule>, AllocError>
+    ensures { IfOk result (λ v. rule_views v.items ≡ only_rule (table_view table.now) ∷ []) }
+{
+    let mut rules = Vec::new(alloc);
+    rules.push(only_rule(alloc, table)?)?;
+    Ok(rules)
+}
+
+#[tactic(auto, using(council_game::proofs::Lists::length_map))]
+pub(crate) fn rules_of(alloc: Global, table: &Table) -> Result<Vec<Rule>, AllocError>
+    ensures { IfOk result (λ v. rule_views v.items ≡ rules_of (table_view table.now)) }
+{
+    if has(table, "quota") {
+        lone_rule(alloc, table)
+    } else {
+        rules_at(alloc, table, elements_at(table, "quotas").len())
+    }
+}
