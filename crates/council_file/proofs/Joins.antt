@@ -1,42 +1,55 @@
 -- Numbers in a row, one number more.
-use Rattle.std.proofs.Common.{◌≡◌, ℕ, zero, suc, ◌+◌, ◌<◌, ◌≤◌, List, [], ◌∷◌, ◌++◌, length, take, get_or, map, decimal, refl, sym, ap, ◌∙◌, arith, append_assoc, length-append}
-use Rattle.std.proofs.lemmas.List.{take_more, map-append}
-use Rattle.council_file.specs.Joined.{joined, joined_numbers}
+use Rattle.std.proofs.Common.{◌≡◌, ℕ, zero, suc, ◌+◌, ◌<◌, ◌≤◌, List, [], ◌∷◌, ◌++◌, length, take, get_or, decimal, sym, ap, ◌∙◌, arith, append_assoc, length-append}
+use Rattle.std.specs.List.{flat_map}
+use Rattle.std.proofs.lemmas.Grind.{flat_map-append}
+use Rattle.std.proofs.lemmas.List.{append-nil, take_more}
+use Rattle.council_file.specs.Joined.{joined_numbers}
 
-joined-snoc : (s x : List ℕ) (xs : List (List ℕ)) (y : List ℕ) → joined s ((x ∷ xs) ++ y ∷ []) ≡ joined s (x ∷ xs) ++ (s ++ y)
-joined-snoc s x [] y = refl
-joined-snoc s x (z ∷ xs) y =
-    ap (λ (t : List ℕ). x ++ (s ++ t)) (joined-snoc s z xs y)
-    ∙ ap (λ (t : List ℕ). x ++ t) (sym (append_assoc s (joined s (z ∷ xs)) (s ++ y)))
-    ∙ sym (append_assoc x (s ++ joined s (z ∷ xs)) (s ++ y))
+-- numbers behind others, with the separator before each
+abbrev behind : List ℕ → List ℕ → List ℕ
+behind s vs = flat_map (λ v. s ++ decimal v) vs
+
+pub one-number : (s : List ℕ) (v : ℕ) → joined_numbers s (v ∷ []) ≡ decimal v
+one-number s v = append-nil (decimal v)
+
+pub next-numbers : (s : List ℕ) (v w : ℕ) (vs : List ℕ) → joined_numbers s (v ∷ w ∷ vs) ≡ decimal v ++ (s ++ joined_numbers s (w ∷ vs))
+next-numbers s v w vs = ap (λ (t : List ℕ). decimal v ++ t) (append_assoc s (decimal w) (behind s vs))
 
 numbers-first : (s vs : List ℕ) → 0 < length vs → joined_numbers s (take 1 vs) ≡ decimal (get_or vs 0 0)
 numbers-first s [] some = absurd (omega arith)
-numbers-first s (v ∷ vs) some = refl
+numbers-first s (v ∷ vs) some = one-number s v
 
 numbers-more : (s vs : List ℕ) (r : ℕ) → r < length vs → 0 < r → joined_numbers s (take (r + 1) vs) ≡ joined_numbers s (take r vs) ++ (s ++ decimal (get_or vs r 0))
 numbers-more s [] r below some = absurd (omega arith)
 numbers-more s (v ∷ vs) zero below some = absurd (omega arith)
 numbers-more s (v ∷ vs) (suc r) below some =
+    let next : List ℕ = s ++ decimal (get_or vs r 0) in
     ap (joined_numbers s) (take_more (v ∷ vs) (suc r) 0 below)
-    ∙ ap (joined s) (map-append decimal (v ∷ take r vs) (get_or vs r 0 ∷ []))
-    ∙ joined-snoc s (decimal v) (map decimal (take r vs)) (decimal (get_or vs r 0))
+    ∙ ap (λ (t : List ℕ). decimal v ++ t) (flat_map-append (λ w. s ++ decimal w) (take r vs) (get_or vs r 0 ∷ []))
+    ∙ sym (append_assoc (decimal v) (behind s (take r vs)) (next ++ []))
+    ∙ ap (λ (t : List ℕ). joined_numbers s (v ∷ take r vs) ++ t) (append-nil next)
+
+behind-within : (s vs : List ℕ) (r : ℕ) → length (behind s (take r vs)) ≤ length (behind s vs)
+behind-within s vs zero = omega arith
+behind-within s [] (suc r) = omega arith
+behind-within s (v ∷ vs) (suc r) =
+    omega (
+      arith,
+      behind-within s vs r,
+      length-append (s ++ decimal v) (behind s (take r vs)),
+      length-append (s ++ decimal v) (behind s vs),
+    )
 
 -- the first numbers are no longer than all of them
 pub first-within : (s vs : List ℕ) (r : ℕ) → length (joined_numbers s (take r vs)) ≤ length (joined_numbers s vs)
 first-within s vs zero = omega arith
 first-within s [] (suc r) = omega arith
-first-within s (v ∷ []) (suc zero) = omega arith
-first-within s (v ∷ []) (suc (suc r)) = omega arith
-first-within s (v ∷ w ∷ vs) (suc zero) = omega (arith, length-append (decimal v) (s ++ joined_numbers s (w ∷ vs)))
-first-within s (v ∷ w ∷ vs) (suc (suc r)) =
+first-within s (v ∷ vs) (suc r) =
     omega (
       arith,
-      first-within s (w ∷ vs) (suc r),
-      length-append (decimal v) (s ++ joined_numbers s (w ∷ take r vs)),
-      length-append s (joined_numbers s (w ∷ take r vs)),
-      length-append (decimal v) (s ++ joined_numbers s (w ∷ vs)),
-      length-append s (joined_numbers s (w ∷ vs)),
+      behind-within s vs r,
+      length-append (decimal v) (behind s (take r vs)),
+      length-append (decimal v) (behind s vs),
     )
 
 -- a first number, and a further one, after what is there

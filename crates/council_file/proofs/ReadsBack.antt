@@ -12,12 +12,13 @@ use Rattle.council_game.specs.Votes.{RuleView, rule_at}
 use Rattle.council_game.specs.Ranks.{places, rank_places}
 use Rattle.council_game.specs.Game.{GameView, IsGame, made_game, is_name, is_repeat, is_heavy, has_bad_quota}
 use Rattle.council_game.proofs.Games.{passed, none-any, light-weights, light-sum}
-use Rattle.council_file.specs.Bracket.{Part, number, opening, closing, comma, semicolon, parts, value_of, before, weights_of, rule_of, is_bracket, begins_bracket, begins_with_digit, game_of_bracket, counted_names, nameless_game}
+use Rattle.council_file.specs.Bracket.{Part, number, opening, closing, comma, semicolon, parts, value_of, weights_of, rule_of, is_bracket, begins_bracket, begins_with_digit, game_of_bracket, counted_names, nameless_game}
 use Rattle.council_file.specs.File.{game_of}
 use Rattle.council_file.specs.Joined.{joined_numbers}
 use Rattle.council_file.specs.Notation.{notation}
 use Rattle.council_file.specs.Laws.{lone_game, NotationReadsBack}
 use Rattle.council_file.proofs.Digits.{parts-number}
+use Rattle.council_file.proofs.Joins.{one-number, next-numbers}
 use Rattle.council_file.proofs.Named.{position_nowhere, names_pass, repeats_pass}
 
 -- ---- numbers
@@ -52,30 +53,39 @@ closes = refl
 
 last_is : (w : ℕ) → w < 10 ^ 18 → weights_of (number (decimal w) ∷ closing ∷ []) ≡ Some (w ∷ [])
 unfolding weights_of
-last_is w small = ap (λ (o : Option ℕ). before o (Some [])) (value_is w small)
+last_is w small = ap (λ (o : Option ℕ). option_map (λ v. v ∷ []) o) (value_is w small)
 
 next_is : (w : ℕ) (ps : List Part) (ws : List ℕ) → w < 10 ^ 18 → weights_of ps ≡ Some ws → weights_of (number (decimal w) ∷ comma ∷ ps) ≡ Some (w ∷ ws)
 unfolding weights_of
-next_is w ps ws small rest = ap (λ (o : Option ℕ). before o (weights_of ps)) (value_is w small) ∙ ap (before (Some w)) rest
+next_is w ps ws small rest =
+    ap (option_and_then (λ v. option_map (λ vs. v ∷ vs) (weights_of ps))) (value_is w small)
+    ∙ ap (option_map (λ vs. w ∷ vs)) rest
 
 weights_read : (w : ℕ) (ws : List ℕ) → AllByRecursion (λ v. v < 10 ^ 18) (w ∷ ws) → weights_of (parts (joined_numbers (codes ", ") (w ∷ ws) ++ codes "]")) ≡ Some (w ∷ ws)
-weights_read w [] small = ap weights_of (parts-decimal w (codes "]") small.0 refl ∙ ap (λ (ps : List Part). number (decimal w) ∷ ps) closes) ∙ last_is w small.0
+weights_read w [] small =
+    ap (λ (t : List ℕ). weights_of (parts (t ++ codes "]"))) (one-number (codes ", ") w)
+    ∙ ap weights_of (parts-decimal w (codes "]") small.0 refl ∙ ap (λ (ps : List Part). number (decimal w) ∷ ps) closes)
+    ∙ last_is w small.0
 weights_read w (v ∷ ws) small =
     let rest : List ℕ = joined_numbers (codes ", ") (v ∷ ws) in
     let regrouped : joined_numbers (codes ", ") (w ∷ v ∷ ws) ++ codes "]" ≡ decimal w ++ (codes ", " ++ (rest ++ codes "]")) =
-    append_assoc (decimal w) (codes ", " ++ rest) (codes "]") ∙ ap (λ (t : List ℕ). decimal w ++ t) (append_assoc (codes ", ") rest (codes "]")) in
+    ap (λ (t : List ℕ). t ++ codes "]") (next-numbers (codes ", ") w v ws)
+    ∙ append_assoc (decimal w) (codes ", " ++ rest) (codes "]") ∙ ap (λ (t : List ℕ). decimal w ++ t) (append_assoc (codes ", ") rest (codes "]")) in
     ap (λ (t : List ℕ). weights_of (parts t)) regrouped
     ∙ ap weights_of (parts-decimal w (codes ", " ++ (rest ++ codes "]")) small.0 refl ∙ ap (λ (ps : List Part). number (decimal w) ∷ ps) (behind_comma (rest ++ codes "]")))
     ∙ next_is w (parts (rest ++ codes "]")) (v ∷ ws) small.0 (weights_read v ws small.1)
 
 joined_short : (ws : List ℕ) → AllByRecursion (λ v. v < 10 ^ 18) ws → length (joined_numbers (codes ", ") ws) ≤ 20 * length ws
 joined_short [] small = omega arith
-joined_short (w ∷ []) small = omega (arith, short w small.0)
+joined_short (w ∷ []) small =
+    let one = ap (λ (t : List ℕ). length t) (one-number (codes ", ") w) in
+    omega (arith, short w small.0, one)
 joined_short (w ∷ v ∷ ws) small =
     let rest = joined_short (v ∷ ws) small.1 in
     let all = length-append (decimal w) (codes ", " ++ joined_numbers (codes ", ") (v ∷ ws)) in
     let two = length-append (codes ", ") (joined_numbers (codes ", ") (v ∷ ws)) in
-    omega (arith, short w small.0, rest, all, two)
+    let more = ap (λ (t : List ℕ). length t) (next-numbers (codes ", ") w v ws) in
+    omega (arith, short w small.0, rest, all, two, more)
 
 -- ---- the text
 

@@ -3,7 +3,7 @@ use Rattle.std.proofs.Common.{◌≡◌, ℕ, List, [], ◌∷◌, ◌++◌, Opt
 use Rattle.council_game.specs.Votes.{RuleView}
 use Rattle.council_file.specs.declared.token.Token.{Token}
 use Rattle.council_file.specs.declared.token.Token.TheVariants.{Number, Opening, Closing, Comma, Semicolon, Other}
-use Rattle.council_file.specs.Bracket.{Part, number, opening, closing, comma, semicolon, other, value_of, before, weights_of, rule_of}
+use Rattle.council_file.specs.Bracket.{Part, number, opening, closing, comma, semicolon, other, value_of, weights_of, rule_of}
 use Rattle.council_file.specs.Inner.Scan.{part, first_number, after_opening, after_semicolon}
 
 -- a weight, and the weights behind it
@@ -16,11 +16,11 @@ abbrev from_number : Option (ℕ × List Part) → Option (List ℕ)
 from_number None = None
 from_number (Some f) = behind f.0 f.1
 
-last_weight : (o : Option ℕ) → before o (Some []) ≡ from_number (option_map (λ n. (n, closing ∷ [])) o)
+last_weight : (o : Option ℕ) → option_map (λ w. w ∷ []) o ≡ from_number (option_map (λ n. (n, closing ∷ [])) o)
 last_weight None = refl
 last_weight (Some n) = refl
 
-one_weight : (o : Option ℕ) (ps : List Part) → before o (weights_of ps) ≡ from_number (option_map (λ n. (n, comma ∷ ps)) o)
+one_weight : (o : Option ℕ) (ps : List Part) → option_and_then (λ w. option_map (λ ws. w ∷ ws) (weights_of ps)) o ≡ from_number (option_map (λ n. (n, comma ∷ ps)) o)
 one_weight None ps = refl
 one_weight (Some n) ps = refl
 

@@ -52,13 +52,10 @@ parts (b ∷ bs) =
 abbrev pub value_of : List ℕ → Option ℕ
 value_of digits = if nat_le (length digits) 18 then Some (digits_value 10 digits) else None
 
--- a number before the weights, where both are there
-abbrev pub before : Option ℕ → Option (List ℕ) → Option (List ℕ)
-before weight weights = option_and_then (λ w. option_map (λ ws. w ∷ ws) weights) weight
-
+-- the weights up to the closing bracket, which is the last part
 unfoldable pub weights_of : List Part → Option (List ℕ)
-weights_of (number ds ∷ closing ∷ []) = before (value_of ds) (Some [])
-weights_of (number ds ∷ comma ∷ ps) = before (value_of ds) (weights_of ps)
+weights_of (number ds ∷ closing ∷ []) = option_map (λ w. w ∷ []) (value_of ds)
+weights_of (number ds ∷ comma ∷ ps) = option_and_then (λ w. option_map (λ ws. w ∷ ws) (weights_of ps)) (value_of ds)
 weights_of ps = None
 
 unfoldable pub rule_of : List Part → Option RuleView

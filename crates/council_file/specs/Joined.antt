@@ -1,15 +1,10 @@
 -- Numbers in a row, as bytes.
-use Rattle.std.specs.Prelude.{ℕ, List, [], ◌∷◌, ◌++◌, ◌≡◌, ◌<◌, length, map, decimal, slice_index}
-
--- the pieces in a row, with the separator between each two
-abbrev pub joined : List ℕ → List (List ℕ) → List ℕ
-joined separator [] = []
-joined separator (x ∷ []) = x
-joined separator (x ∷ y ∷ xs) = x ++ (separator ++ joined separator (y ∷ xs))
+use Rattle.std.specs.Prelude.{ℕ, List, ◌≡◌, ◌<◌, length, decimal, slice_index}
+use Rattle.std.specs.List.{join_by}
 
 -- numbers in decimal, with the separator between each two
 abbrev pub joined_numbers : List ℕ → List ℕ → List ℕ
-joined_numbers separator numbers = joined separator (map decimal numbers)
+joined_numbers separator numbers = join_by decimal separator numbers
 
 -- what `gives` relates r to is entry r of the list, for each r below its length
 abbrev pub GivesEach : (ℕ → ℕ → Type 0) → List ℕ → Type 0

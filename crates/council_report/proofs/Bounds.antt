@@ -1,5 +1,5 @@
 -- No line of coalitions, sizes or members is longer than the room that a block keeps for it.
-use Rattle.std.proofs.Common.{◌≡◌, ℕ, ◌+◌, ◌*◌, ◌^◌, ◌<◌, ◌≤◌, ◌++◌, List, [], ◌∷◌, length, get_or, map, codes, decimal, Bool, true, false, cond, ◌==◌, ◌&&◌, arith, length-append, subst, sym}
+use Rattle.std.proofs.Common.{◌≡◌, ℕ, ◌+◌, ◌*◌, ◌^◌, ◌<◌, ◌≤◌, ◌++◌, List, [], ◌∷◌, length, get_or, map, codes, decimal, Bool, true, false, cond, ◌==◌, ◌&&◌, arith, length-append, subst, sym, ap}
 use Rattle.std.specs.List.{AllByRecursion, flat_map, filter, range_with_len}
 use Rattle.std.proofs.lemmas.Fmt.{length-decimal-le, length-decimal-le_wide}
 use Rattle.std.proofs.lemmas.List.{length-map}
@@ -10,6 +10,7 @@ use Rattle.council_game.specs.Ranks.{member_at}
 use Rattle.council_game.specs.Game.{GameView, IsGame, votes_of}
 use Rattle.council_game.proofs.Games.{names-fit, votes-are, light-weights}
 use Rattle.council_game.proofs.Weights.{weight-le}
+use Rattle.council_file.proofs.Joins.{one-number, next-numbers}
 use Rattle.power_index.specs.Counting.{members, contains, size_of, count_of_size, count_of_member_size}
 use Rattle.power_index.specs.Fractions.{lowest_terms}
 use Rattle.power_index.specs.Indices.{deegan_packel, public_good}
@@ -47,11 +48,15 @@ number-field n h = let fit = number-fits n h in omega (arith, fit)
 
 slashed-length : (values : List ℕ) → AllByRecursion (λ v. v < 2 ^ 64) values → length (slashed values) ≤ length values * 21
 slashed-length [] h = omega arith
-slashed-length (v ∷ []) h = let first = number-fits v h.0 in omega (arith, first)
+slashed-length (v ∷ []) h =
+    let first = number-fits v h.0 in
+    let one = ap (λ (t : List ℕ). length t) (one-number (codes "/") v) in
+    omega (arith, first, one)
 slashed-length (v ∷ w ∷ vs) h =
     let first = number-fits v h.0 in
     let rest = slashed-length (w ∷ vs) h.1 in
-    omega (arith, first, rest, length-append (decimal v) (codes "/" ++ slashed (w ∷ vs)), length-append (codes "/") (slashed (w ∷ vs)))
+    let more = ap (λ (t : List ℕ). length t) (next-numbers (codes "/") v w vs) in
+    omega (arith, first, rest, more, length-append (decimal v) (codes "/" ++ slashed (w ∷ vs)), length-append (codes "/") (slashed (w ∷ vs)))
 
 -- a value for each of 4 rules at most
 slashed-fits : (values : List ℕ) → length values ≤ 4 → AllByRecursion (λ v. v < 2 ^ 64) values → IsField (slashed values)

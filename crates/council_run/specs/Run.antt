@@ -1,6 +1,7 @@
 -- What a run reads, writes and answers.
-use Rattle.std.specs.Prelude.{◌≡◌, ◌<◌, ◌≤◌, ℕ, List, length, take, Option, Ok, Err}
+use Rattle.std.specs.Prelude.{◌≡◌, ◌<◌, ◌≤◌, ℕ, List, length, take, Option, Result, Ok, Err}
 use Rattle.std.specs.Io.KnownBytes.{Appends, Keeps}
+use Rattle.council_game.specs.declared.fault.GameFault.{GameFault}
 use Rattle.council_game.specs.declared.fault.GameFault.TheVariants as game
 use Rattle.council_game.specs.Votes.{minimal_coalitions}
 use Rattle.council_game.specs.Game.{GameView, votes_of}
@@ -20,9 +21,9 @@ pub record Ends : Type 0 where
   pub before : Option (List ℕ)
   pub after : Option (List ℕ)
 
--- the reader gave the bytes of this game
-abbrev pub ReadsGame : Ends → GameView → Type 0
-ReadsGame at g = (bytes : List ℕ) × Gave at.unread at.left bytes × (game_of bytes ≡ Ok g)
+-- the reader gave bytes with this game, or with this first fault
+abbrev pub Reads : Ends → Result GameView GameFault → Type 0
+Reads at answer = (bytes : List ℕ) × Gave at.unread at.left bytes × (game_of bytes ≡ answer)
 
 -- the number of minimal winning coalitions of a game
 abbrev pub count_of : GameView → ℕ
@@ -31,7 +32,7 @@ count_of g = length (minimal_coalitions (votes_of g))
 -- A run that succeeds wrote the report of the game that it read, and nothing else; the game has no more coalitions than asked for.
 abbrev pub Reports : Options → Ends → ℕ → Type 0
 Reports options at len =
-    (g : GameView) × ReadsGame at g × (count_of g ≤ options.most)
+    (g : GameView) × Reads at (Ok g) × (count_of g ≤ options.most)
     × (len ≡ length (report (shown_of options) g)) × Appends at.before at.after (report (shown_of options) g)
 
 abbrev pub WritesNothing : Ends → ℕ → Type 0
@@ -41,11 +42,10 @@ WritesNothing at written = (written ≡ 0) × Keeps at.before at.after
 abbrev pub Stops : Options → Ends → Cause → ℕ → Type 0
 Stops options at (cause.Game game.Read) written = WritesNothing at written
 Stops options at (cause.Game game.Memory) written = WritesNothing at written
-Stops options at (cause.Game fault) written =
-    WritesNothing at written × ((bytes : List ℕ) × Gave at.unread at.left bytes × (game_of bytes ≡ Err fault))
-Stops options at (cause.Gather gather.TooMany) written = WritesNothing at written × ((g : GameView) × ReadsGame at g × (options.most < count_of g))
+Stops options at (cause.Game fault) written = WritesNothing at written × Reads at (Err fault)
+Stops options at (cause.Gather gather.TooMany) written = WritesNothing at written × ((g : GameView) × Reads at (Ok g) × (options.most < count_of g))
 Stops options at (cause.Gather fault) written = WritesNothing at written
 Stops options at cause.Memory written = WritesNothing at written
 Stops options at cause.Write written =
-    (g : GameView) × ReadsGame at g × (count_of g ≤ options.most)
+    (g : GameView) × Reads at (Ok g) × (count_of g ≤ options.most)
     × (written ≤ length (report (shown_of options) g)) × Appends at.before at.after (take written (report (shown_of options) g))
