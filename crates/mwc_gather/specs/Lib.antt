@@ -1,6 +1,5 @@
 pub use Rattle.council_game.specs.Game
 pub use Rattle.council_game.specs.Votes
-pub use Rattle.mwc_parts.specs.Fault
 pub mod Slicings
 pub mod Sending
 pub mod Gathering

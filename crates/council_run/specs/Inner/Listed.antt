@@ -3,7 +3,7 @@ use Rattle.std.specs.Prelude.{◌≡◌, ◌<◌, ◌≤◌, ℕ, List, length}
 use Rattle.std.specs.List.{All, flat_map, range_with_len}
 use Rattle.council_game.specs.Votes.{minimal_coalitions}
 use Rattle.council_game.specs.Game.{GameView, IsGame, votes_of, AreNonemptyCoalitions}
-use Rattle.mwc_walk.specs.Slices.{slice}
+use Rattle.mwc_tally.specs.Slices.{slice}
 use Rattle.mwc_parts.specs.Parts.{HasPieces}
 use Rattle.mwc_parts.specs.declared.gathered.Gathered.{Gathered}
 use Rattle.mwc_parts.specs.declared.fault.GatherFault.TheVariants as gather

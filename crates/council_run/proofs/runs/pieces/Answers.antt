@@ -1,7 +1,7 @@
 use Rattle.std.proofs.Common.{◌∙◌, Result, Ok, Err, IfOk}
 use Rattle.std.specs.List.{flat_map}
 use Rattle.council_game.specs.Game.{votes_of}
-use Rattle.mwc_walk.specs.Slices.{slice}
+use Rattle.mwc_tally.specs.Slices.{slice}
 use Rattle.council_run.proofs.Whole.{is-listed}
 use Rattle.council_run.proofs.runs.pieces.Goals as goal
 
