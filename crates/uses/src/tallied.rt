@@ -5,7 +5,7 @@ ghost use Rattle.power_index.specs.Fractions.{lowest_terms};
 ghost use Rattle.power_index.specs.Indices.{deegan_packel};
 ghost use Rattle.std.specs.Prelude.{◌≡◌, ◌≤◌, ◌<◌, IfOk, length};
 
-use council_game::Game;
+use council_game::{Game, limits};
 use mwc_tally::{NoWatch, TallyFault, tally};
 use power_index::Index;
 use power_index::laws::minimal_coalitions_can_be_counted;
@@ -14,7 +14,8 @@ use std::sync::Wait;
 use std::thread::Threads;
 
 /// The Deegan-Packel index of a member, however many minimal winning coalitions the game has: they are
-/// counted by so many threads, and none is kept.
+/// counted by so many threads, and none is kept. As many places as may be are fixed in each slice, so that
+/// there is work for all threads.
 ///
 /// # Errors
 ///
@@ -31,8 +32,8 @@ pub fn tallied_index<R: Threads + Wait + Sync>(
     ensures { IfOk result (λ index. index ≡
         lowest_terms (deegan_packel game.now (minimal_coalitions (votes_of game.now)) member)) }
 {
-    let _members = game.members();
+    let bits = limits::BITS.min(game.members() as u8);
     minimal_coalitions_can_be_counted();
-    let counts = tally(rt, alloc, game, 0, workers, &NoWatch)?;
+    let counts = tally(rt, alloc, game, bits, workers, &NoWatch)?;
     Ok(Index::deegan_packel(&counts, member))
 }
