@@ -13,7 +13,8 @@ use Rattle.mwc_gather.specs.declared.sent.Sent.TheVariants as sent
 unfoldable pub sending : Slicing → ℕ → ℕ → List Word
 sending g j left = if nat_lt (length (g.slice j)) left then slice_words g j else cut_words g j left
 
--- what a pipe accepted in the sending of slice j: the whole slice, or the slice up to the cut; or the pipe is broken, and it is a beginning of that sending
+-- what a pipe accepted in the sending of slice j: the whole slice, or the slice up to the cut; or the pipe is broken, and
+-- it is a beginning of that sending
 abbrev pub Sends : Slicing → ℕ → ℕ → List Word → List Word → Bool → Sent → Type 0
 Sends g j left before after broken (sent.Whole rest) =
     (after ≡ before ++ slice_words g j) × (length (g.slice j) < left) × (rest + length (g.slice j) ≡ left)
