@@ -1,5 +1,5 @@
 -- What a reader gave.
-use Rattle.std.specs.Prelude.{◌≡◌, ◌<◌, ◌≤◌, ℕ, List, length, Option, ◌⊎◌, ◌++◌, Err}
+use Rattle.std.specs.Prelude.{◌≡◌, ◌<◌, ◌≤◌, ℕ, List, length, Option, ◌⊎◌, Err}
 use Rattle.council_game.specs.declared.fault.GameFault.{GameFault}
 use Rattle.council_game.specs.declared.fault.GameFault.TheVariants.{Read, Memory}
 use Rattle.council_file.specs.File.{game_of}

@@ -1,9 +1,8 @@
 -- What a reader gave: what only proofs and private functions need.
-use Rattle.std.specs.Prelude.{◌≡◌, ◌<◌, ◌≤◌, ℕ, List, length, Option, ◌⊎◌, ◌++◌, Err}
+use Rattle.std.specs.Prelude.{◌≡◌, ℕ, List, length, Option, ◌++◌}
 use Rattle.council_game.specs.declared.fault.GameFault.{GameFault}
 use Rattle.council_game.specs.declared.fault.GameFault.TheVariants.{Read, Memory}
-use Rattle.council_file.specs.File.{game_of}
-use Rattle.std.specs.Io.KnownBytes.{Consumes, IsAtEnd}
+use Rattle.std.specs.Io.KnownBytes.{Consumes}
 
 -- the vector grew by n bytes, which the reader gave
 abbrev pub GrewBy : Option (List ℕ) → Option (List ℕ) → List ℕ → List ℕ → ℕ → Type 0
