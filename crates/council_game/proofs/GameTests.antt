@@ -3,7 +3,7 @@ use Rattle.std.proofs.Common.{◌≡◌, ℕ, zero, suc, ◌+◌, ◌-◌, ◌*�
 use Rattle.std.proofs.lemmas.List.Elements.{All-from_recursion}
 use Rattle.std.proofs.lemmas.List.Sums.{sum_by-take-drop, sum_by-drop_more}
 use Rattle.std.proofs.lemmas.Nat.{shr-shr}
-use Rattle.std.proofs.lemmas.Bool.{both_ways, and_parts, and_from, and_left, and_right, le-leb, lt-leb, eqb-true, false_from_ne_true}
+use Rattle.std.proofs.lemmas.Bool.{both_ways, and_parts, and_from, and_left, and_right, le-leb, lt-leb, eq-eqb, eqb-true, false_from_ne_true}
 use Rattle.council_game.specs.Votes.{RuleView, Votes, IsRule, IsVotes, rule_at, has, without, weight, wins, minimal}
 use Rattle.std.proofs.lemmas.List.{length-map, get_or-map, take_all}
 use Rattle.council_game.specs.declared.rule.Rule.{Rule}
@@ -26,16 +26,20 @@ weight-next ws n m c p e long below =
     let more = weight-more ws p (c / 2 ^ (m - (p + 1)) / 2) (c / 2 ^ (m - (p + 1)) % 2) (omega arith) (omega arith) in
     ap (weight (take (p + 1) ws)) (sym whole) ∙ more ∙ rw (y, i) refl
 
-pub weight-in : (ws : List ℕ) (n m c p s t : ℕ) → m ≡ n → length ws ≡ n → p < n → s ≡ weight (take p ws) (c / 2 ^ (m - p)) → c / 2 ^ (m - 1 - p) % 2 ≡ 1 → t ≡ s + get_or ws p 0 → t ≡ weight (take (p + 1) ws) (c / 2 ^ (m - (p + 1)))
-weight-in ws n m c p s t e long below is odd sums =
+pub weight-in : (ws : List ℕ) (n m c p s t : ℕ) → m ≡ n → length ws ≡ n → p < n → s ≡ weight (take p ws) (c / 2 ^ (m - p)) → has m p c ≡ true → t ≡ s + get_or ws p 0 → t ≡ weight (take (p + 1) ws) (c / 2 ^ (m - (p + 1)))
+unfolding has
+weight-in ws n m c p s t e long below is inside sums =
+    let odd = eqb-true _ _ inside in
     let next = weight-next ws n m c p e long below in
     let next' : weight (take (p + 1) ws) (c / 2 ^ (m - (p + 1))) ≡ weight (take p ws) (c / 2 ^ (m - p)) + 1 * get_or ws p 0 = rw odd at next in
     omega (arith, next', is, sums)
 
-pub weight-out : (ws : List ℕ) (n m c p s t : ℕ) → m ≡ n → length ws ≡ n → p < n → s ≡ weight (take p ws) (c / 2 ^ (m - p)) → (c / 2 ^ (m - 1 - p) % 2 ≡ 1 → ⊥) → t ≡ s → t ≡ weight (take (p + 1) ws) (c / 2 ^ (m - (p + 1)))
-weight-out ws n m c p s t e long below is even sums =
+pub weight-out : (ws : List ℕ) (n m c p s t : ℕ) → m ≡ n → length ws ≡ n → p < n → s ≡ weight (take p ws) (c / 2 ^ (m - p)) → has m p c ≡ false → t ≡ s → t ≡ weight (take (p + 1) ws) (c / 2 ^ (m - (p + 1)))
+unfolding has
+weight-out ws n m c p s t e long below is outside sums =
     let next = weight-next ws n m c p e long below in
-    let z : c / 2 ^ (m - 1 - p) % 2 ≡ 0 = omega arith in
+    let not_one : c / 2 ^ (m - 1 - p) % 2 ≡ 1 → ⊥ = λ odd. both_ways _ outside (eq-eqb _ _ odd) in
+    let z : c / 2 ^ (m - 1 - p) % 2 ≡ 0 = omega (arith, not_one) in
     let next' : weight (take (p + 1) ws) (c / 2 ^ (m - (p + 1))) ≡ weight (take p ws) (c / 2 ^ (m - p)) + 0 * get_or ws p 0 = rw z at next in
     omega (arith, next', is, sums)
 

@@ -2,6 +2,7 @@
 ghost use Rattle.std.specs.Prelude.{◌≡◌, ◌^◌, ◌<◌, ◌≤◌, ◌-◌, ℕ, cond};
 ghost use Rattle.council_game.specs.Votes.{has, without, size};
 
+use crate::winning::has;
 use std::marker::Model;
 
 /// A set of members. It is held as its rank mask, a number of 40 binary digits: among n members, the
@@ -47,7 +48,7 @@ impl Coalition {
         requires place { place < members }
         ensures { result ≡ has members place self }
     {
-        (self.mask >> (members - 1 - place)) % 2 == 1
+        has(members, place, self.mask)
     }
 
     /// In a game of so many members, at most 40, the coalition without the member of this rank place;

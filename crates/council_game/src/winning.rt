@@ -22,7 +22,7 @@ pub(crate) fn weight_of(weights: &[u64], mask: u64) -> u64
     let members = weights.len();
     let mut sum = 0;
     for place in 0..members {
-        if (mask >> (members - 1 - place)) % 2 == 1 {
+        if has(members, place, mask) {
             sum += weights[place];
         }
     }
@@ -82,7 +82,8 @@ pub(crate) fn wins(rules: &[Rule], members: usize, mask: u64) -> bool
     wins_weighed(rules, members, &weighed)
 }
 
-fn has(members: usize, place: usize, mask: u64) -> bool
+/// Whether the member of a place is in a coalition.
+pub(crate) fn has(members: usize, place: usize, mask: u64) -> bool
     requires few { members ≤ 40 }
     requires place { place < members }
     ensures { result ≡ has members place mask }

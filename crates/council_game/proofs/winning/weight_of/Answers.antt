@@ -1,8 +1,8 @@
-use Rattle.std.proofs.Common.{refl, sym, arith, length, ◌/◌, ◌^◌, ◌-◌}
+use Rattle.std.proofs.Common.{refl, sym, ◌∙◌, arith, length, ◌/◌, ◌^◌, ◌-◌}
 use Rattle.council_game.proofs.WeightByDigits.{weight-nil}
 use Rattle.council_game.proofs.GameTests.{weight-in, weight-out, partial-fits, weight-all}
 use Rattle.council_game.proofs.winning.weight_of.Goals as goal
-use Rattle.council_game.proofs.winning.weight_of.Goals.{then-mask-members-eq1, else-mask-members-eq1}
+use Rattle.council_game.proofs.winning.weight_of.Goals.{then-has, else-has}
 
 pub loop-place-init : goal.loop-place-init
 loop-place-init c = sym (weight-nil _)
@@ -14,9 +14,9 @@ overflow_add-sum c =
 
 pub loop-place-preserved : goal.loop-place-preserved
 loop-place-preserved c =
-    elim c.if-mask-members-eq1.branch [
-      | then-mask-members-eq1 w ↦ weight-in c.args.weights.now (length c.args.weights.now) _ c.args.mask c.loop-place.place c.loop-place.sum _ refl refl (omega arith) c.loop-place.invariant w.if-mask-members-eq1.true w.sum-is
-      | else-mask-members-eq1 w ↦ weight-out c.args.weights.now (length c.args.weights.now) _ c.args.mask c.loop-place.place c.loop-place.sum _ refl refl (omega arith) c.loop-place.invariant w.if-mask-members-eq1.false w.sum-is
+    elim c.if-has.branch [
+      | then-has w ↦ weight-in c.args.weights.now (length c.args.weights.now) _ c.args.mask c.loop-place.place c.loop-place.sum _ refl refl (omega arith) c.loop-place.invariant (sym c.has.ensures ∙ w.if-has.true) w.sum-is
+      | else-has w ↦ weight-out c.args.weights.now (length c.args.weights.now) _ c.args.mask c.loop-place.place c.loop-place.sum _ refl refl (omega arith) c.loop-place.invariant (sym c.has.ensures ∙ w.if-has.false) w.sum-is
     ]
 
 pub returns : goal.returns
