@@ -4,11 +4,17 @@
 # first line `test: NAME in CRATE`; it is put into a copy of the crate, whose tests are run without a proof,
 # and the test of that name must fail.
 #
-#     tests/bodies.sh [NAME..]        the edits of these names, or all, half a minute to a minute each
+#     tests/bodies.sh [NAME..]            the edits of these names, or all, half a minute to a minute each
+#     tests/bodies.sh --fit [NAME..]      says only whether each can still be put into the sources
 #
 # It needs python3 and the toolchain's rt, and the libraries below each crate as `rt check` leaves them.
 set -u
 top=$(cd "$(dirname "${BASH_SOURCE[0]}")/.." && pwd)
+fit=no
+if [ "${1:-}" = --fit ]; then
+    fit=yes
+    shift
+fi
 for command in python3 rt; do
     command -v "$command" >/dev/null || {
         echo "skipped bodies.sh: the command $command was not found"
@@ -26,7 +32,7 @@ for crate in "$top"/crates/*; do
     for part in src specs proofs; do
         [ ! -d "$top/crates/$crate/$part" ] || cp -rp "$top/crates/$crate/$part" "$room/crates/$crate/"
     done
-    if [ -d "$top/crates/$crate/out/rlib" ]; then
+    if [ $fit = no ] && [ -d "$top/crates/$crate/out/rlib" ]; then
         mkdir "$room/crates/$crate/out"
         cp -rp "$top/crates/$crate/out/rlib" "$room/crates/$crate/out/"
     fi
@@ -72,6 +78,8 @@ END
     then
         echo "FAILED body $name: $(tail -n 1 "$room/why")"
         found=1
+    elif [ $fit = yes ]; then
+        echo "ok body $name: it can be put into the sources"
     else
         (cd "$room/crates/$crate" && rt try --test) >"$room/said" 2>&1 </dev/null
         judge

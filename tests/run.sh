@@ -7,7 +7,8 @@
 # this machine. The last line is `N passed, M failed`, with `, K skipped` behind it where some were, and
 # the status is not 0 if any failed.
 #
-# With COUNCIL_BODIES=1 it also plants the wrong bodies of bodies/, some ten minutes more (bodies.sh).
+# With COUNCIL_BODIES=1 it also plants the wrong bodies of bodies/, some fifteen minutes more (bodies.sh);
+# else it only sees whether each can still be planted.
 #
 # A machine must have bash, python3, cc (to refuse allocations), taskset (for runs on one processor),
 # and the toolchain's rt; what is missing is said, and what wants it is skipped.
@@ -42,7 +43,11 @@ else
     for test in examples options workers words faults prefixes output limits sizes tally launcher pages using hostile refusals; do
         count bash "tests/$test.sh" "$program"
     done
-    if [ "${COUNCIL_BODIES:-0}" = 1 ]; then count bash tests/bodies.sh; fi
+    if [ "${COUNCIL_BODIES:-0}" = 1 ]; then
+        count bash tests/bodies.sh
+    else
+        count bash tests/bodies.sh --fit
+    fi
     if command -v python3 >/dev/null; then
         count python3 tests/memory_source.py
         count python3 tests/reading.py
