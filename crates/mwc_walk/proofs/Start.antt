@@ -1,11 +1,11 @@
 -- The cursor at the fixed places of a slice.
-use Rattle.std.proofs.Common.{◌≡◌, ℕ, ◌+◌, ◌-◌, ◌*◌, ◌/◌, ◌%◌, ◌^◌, ◌<◌, ◌≤◌, true, cond, ltb, List, map, length, take, get_or, refl, sym, ap, ◌∙◌, subst, arith}
+use Rattle.std.proofs.Common.{◌≡◌, ℕ, ◌+◌, ◌-◌, ◌*◌, ◌/◌, ◌%◌, ◌^◌, ◌<◌, ◌≤◌, true, false, cond, ltb, List, map, length, take, get_or, refl, sym, ap, ◌∙◌, subst, arith}
 use Rattle.std.proofs.lemmas.Nat.{pow_pos, one_shl, div_below}
-use Rattle.std.proofs.lemmas.Bool.{le-ltb, cond-true, cond-false}
+use Rattle.std.proofs.lemmas.Bool.{le-ltb, cond-true, cond-false, eq-eqb, eqb-true, both_ways}
 use Rattle.mwc_walk.specs.declared.lane.Lane.{Lane}
 use Rattle.mwc_walk.specs.declared.cursor.Cursor.{Cursor}
 use Rattle.mwc_walk.specs.Inner.Lanes.{lane_with}
-use Rattle.council_game.specs.Votes.{RuleView, Votes, IsVotes, rule_at}
+use Rattle.council_game.specs.Votes.{RuleView, Votes, IsVotes, rule_at, has}
 use Rattle.mwc_walk.specs.Slices.{slice}
 use Rattle.council_game.proofs.GameTests.{fixed-half}
 use Rattle.mwc_walk.specs.Inner.Places.{left_below, LaneIs, LanesAre}
@@ -17,18 +17,20 @@ pub first-number : (k j : ℕ) → k ≤ 10 → 1 * 2 ^ k % 2 ^ 64 - 1 - j ≡ 2
 first-number k j le = ap (λ (i : ℕ). i - 1 - j) (one_shl k 64 (omega arith))
 
 -- one fixed place more
-pub fixed-in : (n k p x : ℕ) (rs : List RuleView) (ls : List Lane) → p < k → k ≤ n → x / 2 ^ (k - 1 - p) % 2 ≡ 1 → LanesAre n p (x / 2 ^ (k - p)) rs ls → LanesAre n (p + 1) (x / 2 ^ (k - (p + 1))) rs (map (lane_with p) ls)
-fixed-in n k p x rs ls below le odd are =
+pub fixed-in : (n k p x : ℕ) (rs : List RuleView) (ls : List Lane) → p < k → k ≤ n → has k p x ≡ true → LanesAre n p (x / 2 ^ (k - p)) rs ls → LanesAre n (p + 1) (x / 2 ^ (k - (p + 1))) rs (map (lane_with p) ls)
+unfolding has
+fixed-in n k p x rs ls below le inside are =
     let e : k - 1 - p ≡ k - (p + 1) = omega arith in
-    let odd' : x / 2 ^ (k - (p + 1)) % 2 ≡ 1 = ap (λ (i : ℕ). x / 2 ^ i % 2) (sym e) ∙ odd in
+    let odd' : x / 2 ^ (k - (p + 1)) % 2 ≡ 1 = ap (λ (i : ℕ). x / 2 ^ i % 2) (sym e) ∙ eqb-true _ _ inside in
     let h = fixed-half x k p below in
     let whole : 2 * (x / 2 ^ (k - p)) + 1 ≡ x / 2 ^ (k - (p + 1)) = omega (arith, h, odd') in
     subst (λ (i : ℕ). LanesAre n (p + 1) i rs (map (lane_with p) ls)) whole (lanes-in n p (x / 2 ^ (k - p)) rs ls (omega arith) are)
 
-pub fixed-pass : (n k p x : ℕ) (rs : List RuleView) (ls : List Lane) → p < k → k ≤ n → (x / 2 ^ (k - 1 - p) % 2 ≡ 1 → ⊥) → LanesAre n p (x / 2 ^ (k - p)) rs ls → LanesAre n (p + 1) (x / 2 ^ (k - (p + 1))) rs ls
-fixed-pass n k p x rs ls below le even are =
+pub fixed-pass : (n k p x : ℕ) (rs : List RuleView) (ls : List Lane) → p < k → k ≤ n → has k p x ≡ false → LanesAre n p (x / 2 ^ (k - p)) rs ls → LanesAre n (p + 1) (x / 2 ^ (k - (p + 1))) rs ls
+unfolding has
+fixed-pass n k p x rs ls below le outside are =
     let e : k - 1 - p ≡ k - (p + 1) = omega arith in
-    let even' : x / 2 ^ (k - (p + 1)) % 2 ≡ 1 → ⊥ = λ o. even (ap (λ (i : ℕ). x / 2 ^ i % 2) e ∙ o) in
+    let even' : x / 2 ^ (k - (p + 1)) % 2 ≡ 1 → ⊥ = λ o. both_ways _ outside (eq-eqb _ _ (ap (λ (i : ℕ). x / 2 ^ i % 2) e ∙ o)) in
     let h = fixed-half x k p below in
     let whole : 2 * (x / 2 ^ (k - p)) ≡ x / 2 ^ (k - (p + 1)) = omega (arith, h, even') in
     subst (λ (i : ℕ). LanesAre n (p + 1) i rs ls) whole (lanes-pass n p (x / 2 ^ (k - p)) rs ls (omega arith) are)

@@ -44,8 +44,9 @@ impl Cursor {
             lanes[rule] = Lane::new(game, rule);
         }
         let prefix = (1 << bits) - 1 - number as u64;
+        let fixed = Coalition::of_mask(prefix);
         for place in 0..bits {
-            if (prefix >> (bits - 1 - place)) % 2 == 1 {
+            if fixed.has(bits, place) {
                 take_in(&mut lanes[..rules], place);
             }
         }
@@ -67,7 +68,7 @@ impl Cursor {
         requires { CursorIs (votes_of game.now) self.old }
         ensures { Runs (votes_of game.now) self.old result self.new }
     {
-        'steps: loop {
+        loop {
             match self.step(game) {
                 Step::On => {}
                 Step::Give(coalition) => return Some(coalition),

@@ -3,8 +3,8 @@ use Rattle.std.proofs.Common.{◌≡◌, ◌≤◌}
 use Rattle.mwc_walk.specs.Inner.Cursor.{CursorIs, left, steps_left}
 use Rattle.mwc_walk.proofs.cursor.Cursor.next.Given as goal
 
-abbrev pub invariant-steps : goal.invariant-steps
-invariant-steps l = record {
+abbrev pub invariant-loop-coalition : goal.invariant-loop-coalition
+invariant-loop-coalition l = record {
   is : CursorIs (votes_of l.game) l.self;
   bits : l.self.bits ≡ l.initial.self.bits;
   number : l.self.number ≡ l.initial.self.number;
@@ -12,5 +12,5 @@ invariant-steps l = record {
   same : left (votes_of l.game) l.self ≡ left (votes_of l.game) l.initial.self;
 }
 
-abbrev pub decreases-steps : goal.decreases-steps
-decreases-steps l = steps_left l.self
+abbrev pub decreases-loop-coalition : goal.decreases-loop-coalition
+decreases-loop-coalition l = steps_left l.self

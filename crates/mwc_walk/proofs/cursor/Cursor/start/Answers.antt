@@ -1,10 +1,11 @@
 use Rattle.council_game.specs.Game.{votes_of}
-use Rattle.std.proofs.Common.{◌≡◌, ◌≤◌, length, take, arith, refl}
+use Rattle.council_game.specs.Votes.{has}
+use Rattle.std.proofs.Common.{◌≡◌, ◌∙◌, ◌≤◌, length, take, sym, ap, arith, refl}
 use Rattle.mwc_walk.proofs.Tables.{fits-in}
 use Rattle.mwc_walk.proofs.Steps.{part-taken, part-room}
 use Rattle.mwc_walk.proofs.Start.{first-lanes, first-number, fixed-in, fixed-pass, starts}
 use Rattle.mwc_walk.proofs.cursor.Cursor.start.Goals as goal
-use Rattle.mwc_walk.proofs.cursor.Cursor.start.Goals.{then-prefix-bits-eq1, else-prefix-bits-eq1}
+use Rattle.mwc_walk.proofs.cursor.Cursor.start.Goals.{then-has, else-has}
 
 pub loop-place-init : goal.loop-place-init
 loop-place-init c = record {
@@ -19,16 +20,16 @@ take_in-requires-clause-fits c =
 
 pub loop-place-preserved : goal.loop-place-preserved
 loop-place-preserved c =
-    elim c.if-prefix-bits-eq1.branch [
-      | then-prefix-bits-eq1 w ↦
+    elim c.if-has.branch [
+      | then-has w ↦
           let room : c.rules-rules.result ≤ length c.loop-place.lanes = c.loop-place.invariant.room in
           record {
             room = rw w.lanes-is (part-room _ _ _ _ _ w.take_in.ensures room);
-            are = rw (w.lanes-is, part-taken _ _ _ _ _ w.take_in.ensures room) (fixed-in (votes_of c.args.game.now).members c.args.bits c.loop-place.place _ (votes_of c.args.game.now).rules _ c.loop-place-test.true c.requires.bits w.if-prefix-bits-eq1.true c.loop-place.invariant.are);
+            are = rw (w.lanes-is, part-taken _ _ _ _ _ w.take_in.ensures room) (fixed-in (votes_of c.args.game.now).members c.args.bits c.loop-place.place _ (votes_of c.args.game.now).rules _ c.loop-place-test.true c.requires.bits (sym (ap (has c.args.bits c.loop-place.place) c.of_mask-fixed.ensures) ∙ sym c.has.ensures ∙ w.if-has.true) c.loop-place.invariant.are);
           }
-      | else-prefix-bits-eq1 w ↦ record {
+      | else-has w ↦ record {
         room = rw w.lanes-is c.loop-place.invariant.room;
-        are = rw w.lanes-is (fixed-pass (votes_of c.args.game.now).members c.args.bits c.loop-place.place _ (votes_of c.args.game.now).rules _ c.loop-place-test.true c.requires.bits w.if-prefix-bits-eq1.false c.loop-place.invariant.are);
+        are = rw w.lanes-is (fixed-pass (votes_of c.args.game.now).members c.args.bits c.loop-place.place _ (votes_of c.args.game.now).rules _ c.loop-place-test.true c.requires.bits (sym (ap (has c.args.bits c.loop-place.place) c.of_mask-fixed.ensures) ∙ sym c.has.ensures ∙ w.if-has.false) c.loop-place.invariant.are);
       }
     ]
 
