@@ -1,10 +1,10 @@
 -- Laws of games: monotone weights, minimal coalitions.
-use Rattle.std.proofs.Common.{◌≡◌, ℕ, zero, suc, ◌-◌, ◌*◌, ◌/◌, ◌%◌, ◌^◌, ◌<◌, ◌≤◌, true, not, List, [], ◌∷◌, length, sym, ap, ◌∙◌, arith, inl, inr}
+use Rattle.std.proofs.Common.{◌≡◌, ℕ, zero, suc, ◌*◌, ◌/◌, ◌%◌, ◌^◌, ◌<◌, ◌≤◌, true, not, List, [], ◌∷◌, length, sym, ap, ◌∙◌, arith, inl, inr}
 use Rattle.std.specs.List.{list_all}
-use Rattle.std.proofs.lemmas.Nat.{mul-le, pow_pos}
-use Rattle.std.proofs.lemmas.Bool.{and_from, eqb-true, cases_Bool, cases_lt, not-false}
-use Rattle.std.proofs.lemmas.Nat.Bits.{bit_at-zero}
+use Rattle.std.proofs.lemmas.Nat.{mul-le}
+use Rattle.std.proofs.lemmas.Bool.{and_from, both_ways, cases_Bool, cases_lt, not-false}
 use Rattle.council_game.specs.Votes.{Votes, has, without, weight, wins, places_of, minimal}
+use Rattle.council_game.proofs.Digits.{has-none, without-less}
 use Rattle.council_game.proofs.Places.{spare-place}
 use Rattle.council_game.proofs.WeightByDigits.{weight-nil, weight-cons}
 
@@ -17,21 +17,13 @@ weight-mono (w ∷ ws) a c sub =
     let rest = weight-mono ws a c (λ i below. sub i (omega arith)) in
     omega (arith, prod, rest, weight-cons w ws a, weight-cons w ws c)
 
--- a set without one of its places is a smaller number
-without-less : (n q c : ℕ) → has n q c ≡ true → without n q c < c
-unfolding has without
-without-less n q c h =
-    let pos : 0 < 2 ^ (n - 1 - q) = pow_pos (n - 1 - q) in
-    let digit : c / 2 ^ (n - 1 - q) % 2 ≡ 1 = eqb-true _ _ h in
-    let some : 0 < c = elim (cases_lt 0 c) [
+-- a coalition with a member is not 0
+not-empty : (n q c : ℕ) → has n q c ≡ true → 0 < c
+not-empty n q c inside =
+    elim (cases_lt 0 c) [
       | inl more ↦ more
-      | inr none ↦
-          let c0 : c ≡ 0 = omega arith in
-          let z : 0 / 2 ^ (n - 1 - q) % 2 ≡ 1 = ap (λ (i : ℕ). i / 2 ^ (n - 1 - q) % 2) (sym c0) ∙ digit in
-          let y : 0 / 2 ^ (n - 1 - q) % 2 ≡ 0 = bit_at-zero (n - 1 - q) in
-          absurd (omega (arith, z, y))
-    ] in
-    omega arith
+      | inr none ↦ let c0 : c ≡ 0 = omega arith in absurd (both_ways _ (has-none n q) (ap (has n q) (sym c0) ∙ inside))
+    ]
 
 -- below a winning coalition there is a minimal one
 pub minimal-below_winning : (v : Votes) (fuel c : ℕ) → c < fuel → wins v.rules c ≡ true → (m : ℕ) × (m ≤ c) × (minimal v m ≡ true)
@@ -42,7 +34,7 @@ minimal-below_winning v (suc fuel) c below won =
       | inl needed ↦ (c, omega arith, and_from _ _ won needed)
       | inr not_needed ↦
           let spare = spare-place (λ p. has v.members p c) (λ p. not (wins v.rules (without v.members p c))) 0 v.members not_needed in
-          let less : without v.members spare.0 c < c = without-less v.members spare.0 c spare.2 in
+          let less : without v.members spare.0 c < c = without-less v.members spare.0 c (not-empty v.members spare.0 c spare.2) in
           let deeper = minimal-below_winning v fuel (without v.members spare.0 c) (omega arith) (not-false _ spare.3) in
           (deeper.0, omega (arith, deeper.1), deeper.2)
     ]
