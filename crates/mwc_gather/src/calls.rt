@@ -16,7 +16,7 @@ use crate::desk::Desk;
 use crate::guarded::{Gate, Guarded};
 use crate::order::Order;
 use crate::promise::{Answer, Task};
-use crate::waiting::{Bell, Bells, Patience};
+use crate::waiting::{BellPair, Bells, Patience};
 use crate::worker::work_beside;
 use mwc_parts::{Draft, GatherFault, Part, settle};
 use mwc_pipe::{Rest, RingIn, Word, ring};
@@ -64,8 +64,10 @@ impl Desk {
             tasks: Snapshot::of(&list),
         };
         let own = guarded.share();
-        let bell = &bells.workers[usize::from(worker)];
-        let gatherer = &bells.gatherer;
+        let pair = BellPair {
+            own: &bells.workers[usize::from(worker)],
+            other: &bells.gatherer,
+        };
         let body = move || -> Answer
             requires bits { (bits ≤ 10) × (bits ≤ length own.names) }
             requires worker { worker < 16 }
@@ -73,7 +75,7 @@ impl Desk {
             requires fresh { (out.accepted ≡ []) × (list.taken ≡ []) }
             requires gate { (j : ℕ) → j < 2 ^ bits → G.takes worker j }
             ensures { HasWorked (slicing own.entry bits) most out list result }
-        { work_beside(rt, &own, bits, worker, most, out, list, bell, gatherer) };
+        { work_beside(rt, &own, bits, worker, most, out, list, pair) };
         let Ok(worker) = scope.spawn_with(task, body) else {
             return Err(GatherFault::Start);
         };
@@ -108,7 +110,7 @@ impl Desk {
     }
 
     /// Gives the worker a slice, once it has finished all that it was given.
-    pub fn assign<R: Wait>(&mut self, rt: &R, slice: u16, own: &Bell, other: &Bell)
+    pub fn assign<R: Wait>(&mut self, rt: &R, slice: u16, pair: BellPair<'_>)
         requires slice { slice < 2 ^ self.old.worker.promise.order.bits }
         requires room { vec_len self.old.given < vec_capacity self.old.given }
         requires told { self.old.told ≡ false }
@@ -120,12 +122,12 @@ impl Desk {
         ensures words { (self.new.words.taken ≡ self.old.words.taken) × (self.new.idle ≡ false) }
     {
         self.given.push_reserved(slice);
-        put(rt, &mut self.tasks, Word::Open(slice), own, other);
+        put(rt, &mut self.tasks, Word::Open(slice), pair);
         self.idle = false;
     }
 
     /// Tells the worker that there are no more.
-    pub fn tell<R: Wait>(&mut self, rt: &R, own: &Bell, other: &Bell)
+    pub fn tell<R: Wait>(&mut self, rt: &R, pair: BellPair<'_>)
         requires { self.old.told ≡ false }
         ensures worker { self.new.worker.promise ≡ self.old.worker.promise }
         ensures told { self.new.told ≡ true }
@@ -134,7 +136,7 @@ impl Desk {
             × (self.new.draft.cut ≡ self.old.draft.cut) }
         ensures words { (self.new.words.taken ≡ self.old.words.taken) × (self.new.idle ≡ self.old.idle) }
     {
-        put(rt, &mut self.tasks, Word::End { cut: false }, own, other);
+        put(rt, &mut self.tasks, Word::End { cut: false }, pair);
         self.told = true;
     }
 
@@ -215,8 +217,8 @@ fn ring_fault(draft: &Draft) -> GatherFault
     }
 }
 
-/// Puts a task into the ring, and waits at `own` while it is full; then rings `other`.
-fn put<R: Wait>(rt: &R, tasks: &mut RingIn, task: Word, own: &Bell, other: &Bell)
+/// Puts a task into the ring, and sleeps at its own bell while it is full; then rings the other.
+fn put<R: Wait>(rt: &R, tasks: &mut RingIn, task: Word, pair: BellPair<'_>)
     ensures ring { tasks.new.ring ≡ tasks.old.ring }
     ensures accepted { tasks.new.accepted ≡ tasks.old.accepted ++ task ∷ [] }
 {
@@ -225,12 +227,12 @@ fn put<R: Wait>(rt: &R, tasks: &mut RingIn, task: Word, own: &Bell, other: &Bell
     for _ in rt.forever() {
         match tasks.put(task) {
             Ok(()) => {
-                other.ring();
+                pair.other.ring();
                 return;
             }
             Err(back) => task = back,
         }
-        patience.wait(rt, own);
+        patience.wait(rt, pair.own);
     }
     unreachable!()
 }

@@ -9,7 +9,7 @@ ghost use Rattle.mwc_gather.specs.Inner.Desks.{seat, seats, AllOf, DealsTo, Deal
 
 use crate::desk::Desk;
 use crate::order::Order;
-use crate::waiting::{Bell, Bells, Patience};
+use crate::waiting::{BellPair, Bells, Patience};
 use mwc_parts::Marks;
 use mwc_pipe::Word;
 use std::sync::Wait;
@@ -30,8 +30,7 @@ fn deal<R: Wait>(
     stopped: bool,
     desk: &mut Desk,
     worker: u8,
-    own: &Bell,
-    other: &Bell,
+    pair: BellPair<'_>,
 ) -> bool
     requires slices { length marks.old ≡ 2 ^ desk.old.worker.promise.order.bits }
     requires worker { worker < 16 }
@@ -47,7 +46,7 @@ fn deal<R: Wait>(
         return stopped;
     }
     if stopped || !desk.ready() {
-        desk.tell(rt, own, other);
+        desk.tell(rt, pair);
         return true;
     }
     match marks.lowest() {
@@ -55,9 +54,9 @@ fn deal<R: Wait>(
             if !marks.give(slice, worker) {
                 unreachable!()
             }
-            desk.assign(rt, slice, own, other);
+            desk.assign(rt, slice, pair);
         }
-        None => desk.tell(rt, own, other),
+        None => desk.tell(rt, pair),
     }
     false
 }
@@ -80,8 +79,7 @@ fn turn<R: Wait>(
     desk: &mut Desk,
     worker: u8,
     row: &mut [Word],
-    own: &Bell,
-    other: &Bell,
+    pair: BellPair<'_>,
 ) -> Progress
     requires slices { length marks.old ≡ 2 ^ desk.old.worker.promise.order.bits }
     requires worker { worker < 16 }
@@ -91,10 +89,10 @@ fn turn<R: Wait>(
 {
     let count = desk.read(row);
     if count > 0 {
-        other.ring();
+        pair.other.ring();
     }
     let stop = stops(stopped, desk.draft.lost, desk.draft.cut);
-    let stopped = deal(rt, marks, stop, desk, worker, own, other);
+    let stopped = deal(rt, marks, stop, desk, worker, pair);
     Progress {
         stopped,
         moved: count > 0,
@@ -118,16 +116,11 @@ fn deal_first<R: Wait>(
 {
     let mut stopped = early;
     for i in 0..desks.len() {
-        let other = &bells.workers[i];
-        stopped = deal(
-            rt,
-            marks,
-            stopped,
-            &mut desks[i],
-            i as u8,
-            &bells.gatherer,
-            other,
-        );
+        let pair = BellPair {
+            own: &bells.gatherer,
+            other: &bells.workers[i],
+        };
+        stopped = deal(rt, marks, stopped, &mut desks[i], i as u8, pair);
     }
     stopped
 }
@@ -151,17 +144,11 @@ fn read_round<R: Wait>(
     let mut moved = false;
     let mut stopped = stopped;
     for i in 0..desks.len() {
-        let other = &bells.workers[i];
-        let progress = turn(
-            rt,
-            marks,
-            stopped,
-            &mut desks[i],
-            i as u8,
-            row,
-            &bells.gatherer,
-            other,
-        );
+        let pair = BellPair {
+            own: &bells.gatherer,
+            other: &bells.workers[i],
+        };
+        let progress = turn(rt, marks, stopped, &mut desks[i], i as u8, row, pair);
         stopped = progress.stopped;
         moved |= progress.moved;
         running |= !desks[i].ended;

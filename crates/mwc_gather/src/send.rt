@@ -7,19 +7,18 @@ ghost use Rattle.mwc_gather.specs.Inner.Sending.{SendsFirst, SendsSome};
 use crate::guarded::{Gate, Guarded};
 use crate::row::Row;
 use crate::sent::Sent;
-use crate::waiting::{Bell, Patience};
+use crate::waiting::{Bell, BellPair, Patience};
 use mwc_pipe::{PipeIn, Refused, Word};
 use mwc_walk::Walk;
 use std::sync::Wait;
 
 /// Puts the words in, and waits while the pipe is full; false where the pipe refuses one for good.
-/// It rings `other` for what it has put in, and sleeps at `own`.
+/// It rings the other bell for what it has put in, and sleeps at its own.
 pub(crate) fn send<R: Wait, P: PipeIn<Word>>(
     rt: &R,
     words: &[Word],
     out: &mut P,
-    own: &Bell,
-    other: &Bell,
+    pair: BellPair<'_>,
 ) -> bool
     ensures identity { P.identity out.new ≡ P.identity out.old }
     ensures sent { IsTrue result → (P.accepted out.new ≡ P.accepted out.old ++ words.now)
@@ -32,7 +31,7 @@ pub(crate) fn send<R: Wait, P: PipeIn<Word>>(
     for _ in rt.forever() {
         let stopped = match out.put_some(rest) {
             Ok(()) => {
-                other.ring();
+                pair.other.ring();
                 return true;
             }
             Err(stopped) => stopped,
@@ -45,9 +44,9 @@ pub(crate) fn send<R: Wait, P: PipeIn<Word>>(
         rest = &rest[stopped.accepted..];
         if stopped.accepted > 0 {
             patience.renew();
-            other.ring();
+            pair.other.ring();
         }
-        patience.wait(rt, own);
+        patience.wait(rt, pair.own);
     }
     unreachable!()
 }
@@ -59,8 +58,7 @@ fn add<R: Wait, P: PipeIn<Word>>(
     row: &mut Row,
     word: Word,
     out: &mut P,
-    own: &Bell,
-    other: &Bell,
+    pair: BellPair<'_>,
 ) -> bool
     ensures identity { P.identity out.new ≡ P.identity out.old }
     ensures added { IsTrue result → SendsFirst (P.accepted out.old) (row.old ++ word ∷ [])
@@ -72,7 +70,7 @@ fn add<R: Wait, P: PipeIn<Word>>(
         row.push(word);
         return true;
     }
-    if !send(rt, row.words(), out, own, other) {
+    if !send(rt, row.words(), out, pair) {
         return false;
     }
     row.clear();
@@ -106,10 +104,14 @@ pub fn send_slice<R: Wait, P: PipeIn<Word>, G: Gate>(
 {
     let own = Bell::new();
     let other = Bell::new();
-    send_rows(rt, guarded, bits, slice, worker, left, out, &own, &other)
+    let pair = BellPair {
+        own: &own,
+        other: &other,
+    };
+    send_rows(rt, guarded, bits, slice, worker, left, out, pair)
 }
 
-/// As `send_slice`. It rings `other` for what it has put in, and sleeps at `own`.
+/// As `send_slice`. It rings the other bell for what it has put in, and sleeps at its own.
 pub(crate) fn send_rows<R: Wait, P: PipeIn<Word>, G: Gate>(
     rt: &R,
     guarded: &Guarded<'_, G>,
@@ -118,8 +120,7 @@ pub(crate) fn send_rows<R: Wait, P: PipeIn<Word>, G: Gate>(
     worker: u8,
     left: u32,
     out: &mut P,
-    own: &Bell,
-    other: &Bell,
+    pair: BellPair<'_>,
 ) -> Sent
     requires bits { (bits ≤ 10) × (bits ≤ length guarded.now.names) }
     requires slice { slice < 2 ^ bits }
@@ -137,21 +138,21 @@ pub(crate) fn send_rows<R: Wait, P: PipeIn<Word>, G: Gate>(
     row.push(Word::Open(slice));
     let mut left = left;
     while let Some(coalition) = walk.next() {
-        if !add(rt, &mut row, Word::One(coalition), out, own, other) {
+        if !add(rt, &mut row, Word::One(coalition), out, pair) {
             return Sent::Refused;
         }
         left -= 1;
         if left == 0 {
-            if !send(rt, row.words(), out, own, other) {
+            if !send(rt, row.words(), out, pair) {
                 return Sent::Refused;
             }
             return Sent::Cut;
         }
     }
-    if !add(rt, &mut row, Word::Done(slice), out, own, other) {
+    if !add(rt, &mut row, Word::Done(slice), out, pair) {
         return Sent::Refused;
     }
-    if !send(rt, row.words(), out, own, other) {
+    if !send(rt, row.words(), out, pair) {
         return Sent::Refused;
     }
     Sent::Whole { left }

@@ -53,6 +53,15 @@ impl Bells {
     }
 }
 
+/// The bells of the two sides of a ring, as one of them sees them.
+#[derive(Clone, Copy)]
+pub(crate) struct BellPair<'a> {
+    /// What wakes this side.
+    pub own: &'a Bell,
+    /// What wakes the other side.
+    pub other: &'a Bell,
+}
+
 /// How often a thread has found nothing to do, one time after another.
 #[derive(Drop)]
 pub(crate) struct Patience {

@@ -8,19 +8,13 @@ ghost use Rattle.mwc_pipe.specs.declared.word.Word.TheVariants.{End};
 use crate::guarded::{Gate, Guarded};
 use crate::send::{send, send_rows};
 use crate::sent::Sent;
-use crate::waiting::{Bell, Patience};
+use crate::waiting::{Bell, BellPair, Patience};
 use mwc_pipe::{Closed, RingIn, RingOut, Unfinished, Word};
 use mwc_walk::slice_count;
 use std::sync::Wait;
 
 /// Waits for the next slice; none where the work ends.
-fn next_task<R: Wait>(
-    rt: &R,
-    slices: u16,
-    tasks: &mut RingOut,
-    own: &Bell,
-    other: &Bell,
-) -> Option<u16>
+fn next_task<R: Wait>(rt: &R, slices: u16, tasks: &mut RingOut, pair: BellPair<'_>) -> Option<u16>
     ensures ring { tasks.new.ring ≡ tasks.old.ring }
     ensures taken { MatchOption result (TakesLast slices tasks.old.taken tasks.new.taken)
         (λ j. TakesTask slices j tasks.old.taken tasks.new.taken) }
@@ -28,30 +22,24 @@ fn next_task<R: Wait>(
     let mut patience = Patience::new();
     for _ in rt.forever() {
         if let Some(task) = tasks.take() {
-            other.ring();
+            pair.other.ring();
             return match task {
                 Word::Open(slice) => { if slice < slices { Some(slice) } else { None } }
                 _ => None,
             };
         }
-        patience.wait(rt, own);
+        patience.wait(rt, pair.own);
     }
     unreachable!()
 }
 
 /// Sends the End and closes.
-fn finish<R: Wait>(
-    rt: &R,
-    out: RingIn,
-    cut: bool,
-    own: &Bell,
-    other: &Bell,
-) -> Result<Closed, Unfinished>
+fn finish<R: Wait>(rt: &R, out: RingIn, cut: bool, pair: BellPair<'_>) -> Result<Closed, Unfinished>
     ensures { IfOk result (λ c. (c.ring ≡ out.ring) × (c.accepted ≡ out.accepted ++ End cut ∷ [])) }
 {
     let mut out = out;
     let end = [Word::End { cut }];
-    if !send(rt, end.as_slice(), &mut out, own, other) {
+    if !send(rt, end.as_slice(), &mut out, pair) {
         unreachable!()
     }
     out.close()
@@ -86,10 +74,14 @@ pub fn work<R: Wait, G: Gate>(
 {
     let own = Bell::new();
     let other = Bell::new();
-    work_beside(rt, guarded, bits, worker, most, out, tasks, &own, &other)
+    let pair = BellPair {
+        own: &own,
+        other: &other,
+    };
+    work_beside(rt, guarded, bits, worker, most, out, tasks, pair)
 }
 
-/// As `work`. It rings `other` for what it has put in or taken, and sleeps at `own`.
+/// As `work`. It rings the other bell for what it has put in or taken, and sleeps at its own.
 pub(crate) fn work_beside<R: Wait, G: Gate>(
     rt: &R,
     guarded: &Guarded<'_, G>,
@@ -98,8 +90,7 @@ pub(crate) fn work_beside<R: Wait, G: Gate>(
     most: u32,
     out: RingIn,
     tasks: RingOut,
-    own: &Bell,
-    other: &Bell,
+    pair: BellPair<'_>,
 ) -> (Result<Closed, Unfinished>, RingOut)
     requires bits { (bits ≤ 10) × (bits ≤ length guarded.now.names) }
     requires worker { worker < 16 }
@@ -113,12 +104,12 @@ pub(crate) fn work_beside<R: Wait, G: Gate>(
     let mut tasks = tasks;
     let mut left = most + 1;
     for _ in rt.forever() {
-        let Some(slice) = next_task(rt, slices, &mut tasks, own, other) else {
-            return (finish(rt, out, false, own, other), tasks);
+        let Some(slice) = next_task(rt, slices, &mut tasks, pair) else {
+            return (finish(rt, out, false, pair), tasks);
         };
-        match send_rows(rt, guarded, bits, slice, worker, left, &mut out, own, other) {
+        match send_rows(rt, guarded, bits, slice, worker, left, &mut out, pair) {
             Sent::Whole { left: rest } => left = rest,
-            Sent::Cut => return (finish(rt, out, true, own, other), tasks),
+            Sent::Cut => return (finish(rt, out, true, pair), tasks),
             Sent::Refused => unreachable!(),
         }
     }
