@@ -1,10 +1,11 @@
 -- The end of gathering.
-use Rattle.std.specs.Prelude.{◌≡◌, ℕ, suc, ◌<◌, ◌≤◌, Bool, true, false, List, [], ◌∷◌, ◌++◌, Option, Some, None, cond, All, length, map, slice_get, refl}
+use Rattle.std.specs.Prelude.{◌≡◌, ℕ, ◌<◌, ◌≤◌, Bool, true, false, List, [], ◌∷◌, ◌++◌, Option, Some, None, cond, All, length, map, slice_get, refl}
 use Rattle.std.specs.List.{AllZip}
 use Rattle.std.specs.Option.{is_some}
 use Rattle.std.proofs.Common.{get_or, append_assoc, ap, subst, arith, sym, ◌∙◌}
-use Rattle.std.proofs.lemmas.List.{length-map, map_push}
-use Rattle.std.proofs.lemmas.List.Elements.{All-head, All-tail, All-cons, All-push}
+use Rattle.std.proofs.lemmas.List.{length-map, get_or-map, map_push}
+use Rattle.std.proofs.lemmas.List.Elements.{All-nil, All-head, All-tail, All-cons, All-map, All-push}
+use Rattle.std.proofs.lemmas.Slice.Zip.{AllZip-long, all_zipped_more}
 use Rattle.mwc_parts.specs.Slicing.{Slicing}
 use Rattle.mwc_parts.specs.Sums.{sum_of}
 use Rattle.mwc_parts.specs.Wording.{coalition_count}
@@ -26,8 +27,7 @@ use Rattle.mwc_gather.specs.Inner.Gathering.{all_total, IsComplete}
 
 module _ {X Y : Type 0} where
   all_of_map : (P : Y → Type 0) (f : X → Y) (xs : List X) → All P (map f xs) → All (λ x. P (f x)) xs
-  all_of_map P f [] a = λ k d l. absurd (omega arith)
-  all_of_map P f (x ∷ xs) a = All-cons (λ x. P (f x)) x xs (All-head P (f x) (map f xs) a) (all_of_map P f xs (All-tail P (f x) (map f xs) a))
+  all_of_map P f xs a = λ k d l. let n = length-map xs f in subst P (get_or-map f xs k d (f d) l) (a k (f d) (omega arith))
 
 pub desks_within : {g : Slicing} {most : ℕ} {early stopped : Bool} {marks : List (Option ℕ)} (desks : List Desk) → DealsTo g most early marks stopped desks → All (λ (d : Desk). coalition_count g d.given.items ≤ all_total g) desks
 desks_within {g} desks h =
@@ -40,29 +40,28 @@ zip_shares g [] (p ∷ parts) z = absurd z
 zip_shares g (d ∷ desks) [] z = absurd z
 zip_shares g (d ∷ desks) (p ∷ parts) z = let f = z.0 in ap (λ (x : List ℕ). x ∷ shares parts) f.slices ∙ ap (λ (xs : List (List ℕ)). d.given.items ∷ xs) (zip_shares g desks parts z.1)
 
-pub zip_length : (g : Slicing) (desks : List Desk) (parts : List Part) → AllZip (Finished g) desks parts → length parts ≡ length desks
-zip_length g [] [] z = refl
-zip_length g [] (p ∷ parts) z = absurd z
-zip_length g (d ∷ desks) [] z = absurd z
-zip_length g (d ∷ desks) (p ∷ parts) z = ap (λ (n : ℕ). suc n) (zip_length g desks parts z.1)
+-- what is true of each of two lists, where it is of each pair
+zip_each : {X Y : Type 0} (R : X → Y → Type 0) (P : X → Type 0) (Q : Y → Type 0) → ((x : X) (y : Y) → R x y → P x × Q y) → (xs : List X) (ys : List Y) → AllZip R xs ys → All P xs × All Q ys
+zip_each R P Q h [] [] z = (All-nil P, All-nil Q)
+zip_each R P Q h [] (y ∷ ys) z = absurd z
+zip_each R P Q h (x ∷ xs) [] z = absurd z
+zip_each R P Q h (x ∷ xs) (y ∷ ys) z =
+    let now = h x y z.0 in let rest = zip_each R P Q h xs ys z.1 in
+    (All-cons P x xs now.0 rest.0, All-cons Q y ys now.1 rest.1)
 
 zip_well : (g : Slicing) (desks : List Desk) (parts : List Part) → AllZip (Finished g) desks parts → All IsWell (seats desks)
-zip_well g [] [] z = λ k d l. absurd (omega arith)
-zip_well g [] (p ∷ parts) z = absurd z
-zip_well g (d ∷ desks) [] z = absurd z
-zip_well g (d ∷ desks) (p ∷ parts) z = let f = z.0 in All-cons IsWell (seat d) (seats desks) f.well (zip_well g desks parts z.1)
+zip_well g desks parts z =
+    let both = zip_each (Finished g) (λ (d : Desk). IsWell (seat d)) (IsPart g) (λ d p f. (f.well, f.part)) desks parts z in
+    All-map IsWell seat desks both.0
 
 zip_told : (g : Slicing) (desks : List Desk) (parts : List Part) → AllZip (Finished g) desks parts → All (λ (s : Seat). s.told ≡ true) (seats desks)
-zip_told g [] [] z = λ k d l. absurd (omega arith)
-zip_told g [] (p ∷ parts) z = absurd z
-zip_told g (d ∷ desks) [] z = absurd z
-zip_told g (d ∷ desks) (p ∷ parts) z = let f = z.0 in All-cons (λ (s : Seat). s.told ≡ true) (seat d) (seats desks) f.told (zip_told g desks parts z.1)
+zip_told g desks parts z =
+    let both = zip_each (Finished g) (λ (d : Desk). d.told ≡ true) (IsPart g) (λ d p f. (f.told, f.part)) desks parts z in
+    All-map (λ (s : Seat). s.told ≡ true) seat desks both.0
 
-pub zip_parts : (g : Slicing) (desks : List Desk) (parts : List Part) → AllZip (Finished g) desks parts → All (IsPart g) parts
-zip_parts g [] [] z = λ k d l. absurd (omega arith)
-zip_parts g [] (p ∷ parts) z = absurd z
-zip_parts g (d ∷ desks) [] z = absurd z
-zip_parts g (d ∷ desks) (p ∷ parts) z = let f = z.0 in All-cons (IsPart g) p parts f.part (zip_parts g desks parts z.1)
+zip_parts : (g : Slicing) (desks : List Desk) (parts : List Part) → AllZip (Finished g) desks parts → All (IsPart g) parts
+zip_parts g desks parts z =
+    let both = zip_each (Finished g) (λ (d : Desk). d.told ≡ true) (IsPart g) (λ d p f. (f.told, f.part)) desks parts z in both.1
 
 parts_sum : (g : Slicing) (parts : List Part) → All (IsPart g) parts → sum_of (λ (p : Part). length p.got.items) parts ≡ sum_of (coalition_count g) (shares parts)
 parts_sum g [] a = refl
@@ -125,14 +124,8 @@ one_done done rest old all d e f = append_assoc done (d ∷ []) rest ∙ ap (λ 
 pub not_noted : (m after : Met) (why : GatherFault) (P : Type 0) → after ≡ also m why → fault_of after ≡ None → P
 not_noted m after why P e f = absurd (noted m why (sym (ap fault_of e) ∙ f))
 
-pub zip_push : {X Y : Type 0} (R : X → Y → Type 0) (xs : List X) (ys : List Y) (x : X) (y : Y) → AllZip R xs ys → R x y → AllZip R (xs ++ x ∷ []) (ys ++ y ∷ [])
-zip_push R [] [] x y z r = (r, z)
-zip_push R [] (b ∷ ys) x y z r = absurd z
-zip_push R (a ∷ xs) [] x y z r = absurd z
-zip_push R (a ∷ xs) (b ∷ ys) x y z r = (z.0, zip_push R xs ys x y z.1 r)
-
 pub zip_more : (g : Slicing) (done : List Desk) (parts after : List Part) (d : Desk) (p : Part) → after ≡ parts ++ p ∷ [] → Finished g d p → AllZip (Finished g) done parts → AllZip (Finished g) (done ++ d ∷ []) after
-zip_more g done parts after d p e f z = subst (λ (w : List Part). AllZip (Finished g) (done ++ d ∷ []) w) (sym e) (zip_push (Finished g) done parts d p z f)
+zip_more g done parts after d p e f z = subst (λ (w : List Part). AllZip (Finished g) (done ++ d ∷ []) w) (sym e) (all_zipped_more (Finished g) done parts d p z f)
 
 -- where no fault was met, all slices are dealt to the parts
 pub ends_well : {g : Slicing} {most : ℕ} {early stopped : Bool} {marks : List (Option ℕ)} (desks taken : List Desk) (parts : List Part) (start : Met) (f : Option GatherFault) → DealsTo g most early marks stopped desks → taken ≡ desks → early ≡ is_some f → f ≡ fault_of start → fault_of start ≡ None → 0 < length desks → AllZip (Finished g) taken parts → AreDealt g.slices (shares parts) × AllZip (Finished g) desks parts
@@ -150,7 +143,7 @@ end_begins {g} desks parts h e z w a b =
 pub completes : {g : Slicing} {most workers : ℕ} {early stopped : Bool} {marks : List (Option ℕ)} (desks taken : List Desk) (parts : List Part) (start : Met) (f : Option GatherFault) → DealsTo g most early marks stopped desks → taken ≡ desks → early ≡ is_some f → f ≡ fault_of start → fault_of start ≡ None → 0 < length desks → length desks ≡ workers → AllZip (Finished g) taken parts → IsComplete g workers parts
 completes {g} {most} {workers} desks taken parts start f h e a b n l k z =
     let both = ends_well desks taken parts start f h e a b n l z in
-    let same = zip_length g desks parts both.1 in
+    let same = AllZip-long (Finished g) desks parts both.1 in
     record {
       a_part_each = omega arith;
       dealt = both.0;

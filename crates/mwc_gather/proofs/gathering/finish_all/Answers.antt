@@ -1,6 +1,7 @@
 use Rattle.std.proofs.Common.{◌≡◌, ◌<◌, ◌≤◌, ◌++◌, ◌∷◌, [], List, ap, subst, sym, ◌∙◌, arith, rules, Some, None}
 use Rattle.std.specs.Vec.Iter.{into_iter_items}
 use Rattle.std.proofs.lemmas.List.Elements.{All-rest}
+use Rattle.std.proofs.lemmas.Slice.Zip.{all_zipped_more}
 use Rattle.mwc_parts.specs.Wording.{coalition_count}
 use Rattle.mwc_parts.specs.declared.met.Met.{Met}
 use Rattle.mwc_parts.specs.declared.fault.GatherFault.TheVariants.{Memory}
@@ -9,7 +10,7 @@ use Rattle.mwc_parts.specs.Slicing.{Slicing}
 use Rattle.mwc_gather.specs.Inner.Orders.{slicing_of}
 use Rattle.mwc_gather.specs.Inner.Desks.{IsOf, Ends, Finished}
 use Rattle.mwc_gather.specs.Inner.Gathering.{all_total}
-use Rattle.mwc_gather.proofs.Ends.{note_many, head_of, one_done, not_noted, zip_more, zip_push}
+use Rattle.mwc_gather.proofs.Ends.{note_many, head_of, one_done, not_noted, zip_more}
 use Rattle.mwc_gather.proofs.Faults.{noted_after, noted_none, memory_ends, ends_of}
 use Rattle.mwc_gather.proofs.gathering.finish_all.Goals as goal
 
@@ -37,7 +38,7 @@ loop-desk-preserved g c =
         f.0 ++ d ∷ [],
         f.1 ++ Some c.in-Err.why ∷ [],
         one_done f.0 rest old c.args.desks.items d step f.2,
-        zip_push (Ends v most) f.0 f.1 d (Some c.in-Err.why) f.3 (ends_of d (Some c.in-Err.why) own c.in-Err.ensures.ends),
+        all_zipped_more (Ends v most) f.0 f.1 d (Some c.in-Err.why) f.3 (ends_of d (Some c.in-Err.why) own c.in-Err.ensures.ends),
         noted_after c.args.start c.loop-desk.met c.note-in-Err.new.self f.1 c.in-Err.why f.4 c.note-in-Err.ensures,
       );
     }
@@ -58,7 +59,7 @@ loop-desk-preserved-then-is_err g c =
         f.0 ++ d ∷ [],
         f.1 ++ Some Memory ∷ [],
         one_done f.0 rest old c.args.desks.items d step f.2,
-        zip_push (Ends v most) f.0 f.1 d (Some Memory) f.3 (memory_ends v most d),
+        all_zipped_more (Ends v most) f.0 f.1 d (Some Memory) f.3 (memory_ends v most d),
         noted_after c.args.start c.loop-desk.met c.note.new.self f.1 Memory f.4 c.note.ensures,
       );
     }
@@ -82,7 +83,7 @@ loop-desk-preserved-else-is_err g c =
         f.0 ++ d ∷ [],
         f.1 ++ None ∷ [],
         one_done f.0 rest old c.args.desks.items d step f.2,
-        zip_push (Ends v most) f.0 f.1 d None f.3 (ends_of d None own c.in-Ok.ensures.ends),
+        all_zipped_more (Ends v most) f.0 f.1 d None f.3 (ends_of d None own c.in-Ok.ensures.ends),
         f.4 ∙ sym (noted_none c.args.start f.1),
       );
     }
