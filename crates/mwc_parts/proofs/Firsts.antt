@@ -5,16 +5,16 @@ use Rattle.std.specs.List.Sorted.{IsStrictlyIncreasing}
 use Rattle.std.proofs.Common.{set, get_or, ap, subst, arith, sym, ◌∙◌, inl, inr}
 use Rattle.std.proofs.Math.Bool.{or-false}
 use Rattle.std.proofs.lemmas.Bool.{false≢true, eq-eqb, ne_eqb}
-use Rattle.std.proofs.lemmas.List.{length-append, get_or_append_left, get_or_push}
+use Rattle.std.proofs.lemmas.List.{length-append, get_or_push}
 use Rattle.std.proofs.lemmas.List.Elements.{All-head, All-tail, All-cons, All-weaker}
 use Rattle.mwc_parts.specs.Slicing.{Slicing}
 use Rattle.mwc_parts.specs.Sums.{sum_of}
 use Rattle.mwc_parts.specs.Inner.Sums.{times}
 use Rattle.mwc_parts.specs.Wording.{coalition_count}
 use Rattle.mwc_parts.specs.Inner.Deals.{held_from, held, AreDealt}
-use Rattle.mwc_parts.specs.Inner.Dealing.{Seat, IsWell, is_ill, givens, Dealing, Turns, FirstDeals, IsFresh}
+use Rattle.mwc_parts.specs.Inner.Dealing.{Seat, IsWell, givens, Dealing, Turns, FirstDeals, IsFresh}
 use Rattle.mwc_parts.proofs.Deals.{shares_sum, each_once, no_other, held_increases, one_of_sum, sum_range_le}
-use Rattle.mwc_parts.proofs.Turns.{turn_nothing, turn_one, none_free, none_ill, stays_by, still, share_at}
+use Rattle.mwc_parts.proofs.Turns.{turn_nothing, turn_one, none_free, none_ill, still_held, went_on, share_at}
 
 no_shares : (seats : List Seat) (from : ℕ) → All IsFresh seats → givens seats ≡ map (held []) (range_with_len from (length seats))
 no_shares [] from a = refl
@@ -26,15 +26,17 @@ no_shares (s ∷ seats) from a =
 pub begin : (n : ℕ) (early : Bool) (seats : List Seat) → All IsFresh seats → FirstDeals n 0 early (replicate n None) early seats
 begin n early seats a = record {
   deal = record {
-    holders = [];
-    free = n;
-    marks_are = refl;
-    all_slices = omega arith;
-    by_workers = λ k d l. absurd (omega arith);
-    given_are = no_shares seats 0 a;
-    told_late = All-weaker IsFresh (λ (s : Seat). s.told ≡ true → (n ≡ 0) ⊎ (early ≡ true)) (λ x h q. absurd (false≢true (sym h.not_told ∙ q))) seats a;
-    stops_are = sym (ap (λ (b : Bool). early || b) (none_ill seats (All-weaker IsFresh IsWell (λ x h. h.well) seats a)) ∙ or-false early);
-    none_early = λ z. refl;
+    in_order = record {
+      holders = [];
+      free = n;
+      marks_are = refl;
+      all_slices = omega arith;
+      by_workers = λ k d l. absurd (omega arith);
+      given_are = no_shares seats 0 a;
+      told_late = All-weaker IsFresh (λ (s : Seat). s.told ≡ true → (n ≡ 0) ⊎ (early ≡ true)) (λ x h q. absurd (false≢true (sym h.not_told ∙ q))) seats a;
+      stops_are = sym (ap (λ (b : Bool). early || b) (none_ill seats (All-weaker IsFresh IsWell (λ x h. h.well) seats a)) ∙ or-false early);
+      none_early = λ z. refl;
+    };
     begins = λ z w l m. absurd (omega arith);
   };
   at_most = omega arith;
@@ -51,57 +53,39 @@ reached (suc k) n m l h = let q = h k (omega arith) (omega arith) in omega arith
 pub first_turn : {n : ℕ} {early stopped stops : Bool} {marks after : List (Option ℕ)} (seats : List Seat) (k : ℕ) (s t : Seat) → k < length seats → s ≡ get_or seats k s → IsFresh s
     → FirstDeals n k early marks stopped seats → Turns false marks stopped s k after stops t → FirstDeals n (k + 1) early after stops (set seats k t)
 unfolding turn_nothing turn_one
-first_turn {n} {early} {stopped} {stops} {marks} {after} seats k s t l e fresh f r =
-    let d = f.deal in let most = f.at_most in
+first_turn {n} {early} {stopped} {stops} seats k s t l e fresh f r =
+    let d = f.deal in let old = d.in_order in let most = f.at_most in
     elim r.gives [
       | inl g ↦
-          let x : Dealing n k early after stops (set seats k t) = turn_nothing seats k s t l e d r.lost_stays r.cut_stays r.stops_are g in
-          let full : stops ≡ false → d.free ≡ 0
+          let full : stops ≡ false → old.free ≡ 0
           = λ z. elim (g.told_if (g.why (g.idle_is ∙ or-false s.idle ∙ fresh.idle))) [
-            | inl old ↦ absurd (false≢true (sym fresh.not_told ∙ old))
+            | inl told ↦ absurd (false≢true (sym fresh.not_told ∙ told))
             | inr why ↦ elim why [
-              | inl all ↦ none_free d.holders d.free (subst (λ (m : List (Option ℕ)). All IsSome m) d.marks_are all)
+              | inl all ↦ none_free old.holders old.free (subst (λ (m : List (Option ℕ)). All IsSome m) old.marks_are all)
               | inr y ↦ absurd (false≢true (sym z ∙ y))
             ]
           ] in
           record {
             deal = record {
-              holders = d.holders;
-              free = d.free;
-              marks_are = x.marks_are;
-              all_slices = x.all_slices;
-              by_workers = x.by_workers;
-              given_are = x.given_are;
-              told_late = x.told_late;
-              stops_are = x.stops_are;
-              none_early = x.none_early;
+              in_order = turn_nothing seats k s t l e old r g;
               begins = λ z w v u.
                   elim (near w k v) [
-                    | inl b ↦ d.begins (still stopped stops (stays_by stopped stops (is_ill t) r.stops_are) z) w b u
-                    | inr b ↦ let q = full z in let a : length d.holders + d.free ≡ n = d.all_slices in absurd (omega arith)
+                    | inl b ↦ d.begins (went_on s t k r z) w b u
+                    | inr b ↦ let q = full z in let a : length old.holders + old.free ≡ n = old.all_slices in absurd (omega arith)
                   ];
             };
             at_most = omega arith;
           }
       | inr g ↦
-          let hs : List ℕ = d.holders in
-          let x : Dealing n k early after stops (set seats k t) = turn_one seats k s t l e d r.lost_stays r.cut_stays r.stops_are g in
+          let hs : List ℕ = old.holders in
           let longer : length (hs ++ k ∷ []) ≡ length hs + 1 = length-append hs (k ∷ []) in
           record {
             deal = record {
-              holders = hs ++ k ∷ [];
-              free = x.free;
-              marks_are = x.marks_are;
-              all_slices = x.all_slices;
-              by_workers = x.by_workers;
-              given_are = x.given_are;
-              told_late = x.told_late;
-              stops_are = x.stops_are;
-              none_early = x.none_early;
+              in_order = turn_one seats k s t l e old r g;
               begins = λ z w v u.
-                  let go : stopped ≡ false = still stopped stops (stays_by stopped stops (is_ill t) r.stops_are) z in
+                  let go = went_on s t k r z in
                   elim (near w k v) [
-                    | inl b ↦ let old = d.begins go w b u in let m : w < length hs = old.0 in (omega arith, get_or_append_left hs (k ∷ []) 0 w m ∙ old.1)
+                    | inl b ↦ still_held hs k w (d.begins go w b u)
                     | inr b ↦
                         let m : k ≤ length hs = reached k n (length hs) (omega arith) (λ i v u. let o = d.begins go i v u in o.0) in
                         let q : length hs ≡ w = omega arith in
@@ -136,7 +120,8 @@ dealt_increase {n} {shares} d = subst (λ (l : List (List ℕ)). All IsStrictlyI
 
 -- no worker was given more than all slices
 pub each_within : {n k : ℕ} {early stopped : Bool} {marks : List (Option ℕ)} (g : Slicing) (seats : List Seat) → Dealing n k early marks stopped seats → All (λ (s : List ℕ). coalition_count g s ≤ coalition_count g (range_with_len 0 n)) (givens seats)
-each_within {n} g seats d =
+each_within {n} g seats deal =
+    let d = deal.in_order in
     let a : sum_of (coalition_count g) (givens seats) ≡ coalition_count g (range_with_len 0 (length d.holders)) = ap (sum_of (coalition_count g)) d.given_are ∙ shares_sum (λ j. length (g.slice j)) (length seats) d.holders d.by_workers in
     let q : length d.holders + d.free ≡ n = d.all_slices in
     let m : coalition_count g (range_with_len 0 (length d.holders)) ≤ coalition_count g (range_with_len 0 n) = sum_range_le (λ j. length (g.slice j)) 0 (length d.holders) n (omega arith) in
@@ -163,6 +148,6 @@ first_held hs w l h =
 pub share_begins : {n k : ℕ} {early stopped : Bool} {marks : List (Option ℕ)} (seats : List Seat) → Dealing n k early marks stopped seats → stopped ≡ false → k ≡ length seats → (w : ℕ) → w < k → w < n → (rest : List ℕ) × (get_or (givens seats) w [] ≡ w ∷ rest)
 share_begins seats d z e w a b =
     let o = d.begins z w a b in
-    let h = first_held d.holders w o.0 (λ v u. let q = d.begins z v (omega arith) (omega arith) in q.1) in
+    let h = first_held d.in_order.holders w o.0 (λ v u. let q = d.begins z v (omega arith) (omega arith) in q.1) in
     let zero : 0 + w ≡ w = omega arith in
-    (h.0, ap (λ (s : List (List ℕ)). get_or s w []) d.given_are ∙ share_at d.holders 0 (length seats) w (omega arith) ∙ ap (held d.holders) zero ∙ h.1)
+    (h.0, ap (λ (s : List (List ℕ)). get_or s w []) d.in_order.given_are ∙ share_at d.in_order.holders 0 (length seats) w (omega arith) ∙ ap (held d.in_order.holders) zero ∙ h.1)

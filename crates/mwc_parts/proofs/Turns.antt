@@ -8,7 +8,7 @@ use Rattle.std.proofs.lemmas.Bool.{false≢true}
 use Rattle.std.proofs.lemmas.List.Elements.{All-head, All-tail, All-cons, All-weaker, All-set, All-push}
 use Rattle.mwc_parts.specs.Table.{IsFirstFree}
 use Rattle.mwc_parts.specs.Inner.Deals.{held, shares_by, AreDealt}
-use Rattle.mwc_parts.specs.Inner.Dealing.{Seat, IsWell, is_ill, givens, Dealing, GivesNothing, GivesOne, Turns}
+use Rattle.mwc_parts.specs.Inner.Dealing.{Seat, IsWell, is_ill, givens, DealsInOrder, Dealing, GivesNothing, GivesOne, Turns}
 use Rattle.mwc_parts.proofs.Deals.{deal_from}
 
 -- the first free slice is the one after those that have a holder
@@ -98,12 +98,11 @@ or_within true b h = sym (h refl)
 or_within false b h = refl
 
 -- the deal is stopped exactly where it should be after a turn too
-pub stops_then : (early : Bool) (seats : List Seat) (stopped stops : Bool) (i : ℕ) (s t : Seat) → i < length seats → s ≡ get_or seats i s
-    → (t.lost ≡ false → s.lost ≡ false) → (t.cut ≡ false → s.cut ≡ false) → stops ≡ (stopped || is_ill t)
-    → stopped ≡ (early || list_any is_ill seats) → stops ≡ (early || list_any is_ill (set seats i t))
-stops_then early seats stopped stops i s t l e lost cut on h =
-    on ∙ ap (λ (b : Bool). b || is_ill t) h ∙ or_assoc early (list_any is_ill seats) (is_ill t)
-    ∙ ap (λ (b : Bool). early || b) (sym (ill_set seats i s t l e (ill_stays s t lost cut)))
+pub stops_then : (early : Bool) (seats : List Seat) (stopped stops : Bool) (i : ℕ) (s t : Seat) {done : Bool} {marks after : List (Option ℕ)} → i < length seats → s ≡ get_or seats i s
+    → Turns done marks stopped s i after stops t → stopped ≡ (early || list_any is_ill seats) → stops ≡ (early || list_any is_ill (set seats i t))
+stops_then early seats stopped stops i s t l e r h =
+    r.stops_are ∙ ap (λ (b : Bool). b || is_ill t) h ∙ or_assoc early (list_any is_ill seats) (is_ill t)
+    ∙ ap (λ (b : Bool). early || b) (sym (ill_set seats i s t l e (ill_stays s t r.lost_stays r.cut_stays)))
 
 pub stays_by : (a b x : Bool) → b ≡ (a || x) → a ≡ true → b ≡ true
 stays_by a b x e h = e ∙ ap (λ (z : Bool). z || x) h
@@ -114,7 +113,7 @@ none_ill (s ∷ seats) a = ap (λ (z : Bool). z || list_any is_ill seats) (not_i
 
 -- where no start failed and no refusal was met, the deal goes on
 pub well_goes_on : {n k : ℕ} {early stopped : Bool} {marks : List (Option ℕ)} (seats : List Seat) → early ≡ false → Dealing n k early marks stopped seats → All IsWell seats → stopped ≡ false
-well_goes_on seats z d a = d.stops_are ∙ ap (λ (b : Bool). b || list_any is_ill seats) z ∙ none_ill seats a
+well_goes_on seats z d a = d.in_order.stops_are ∙ ap (λ (b : Bool). b || list_any is_ill seats) z ∙ none_ill seats a
 
 pub still : (a b : Bool) → (a ≡ true → b ≡ true) → b ≡ false → a ≡ false
 still true b h e = let q = h refl in cc
@@ -128,12 +127,10 @@ pub at_read : (P : Seat → Type 0) (seats : List Seat) (i : ℕ) (s : Seat) →
 at_read P seats i s l e a = subst P (sym e) (a i s l)
 
 -- nothing was given
-unfoldable pub turn_nothing : {n k : ℕ} {done early stopped stops : Bool} {marks after : List (Option ℕ)} (seats : List Seat) (i : ℕ) (s t : Seat) → i < length seats → s ≡ get_or seats i s
-    → Dealing n k early marks stopped seats
-    → (t.lost ≡ false → s.lost ≡ false) → (t.cut ≡ false → s.cut ≡ false) → stops ≡ (stopped || is_ill t)
-    → GivesNothing done marks s after stops t → Dealing n k early after stops (set seats i t)
-turn_nothing {n} {k} {done} {early} {stopped} {stops} {marks} {after} seats i s t l e d lost cut on g =
-    let stays : stopped ≡ true → stops ≡ true = stays_by stopped stops (is_ill t) on in
+unfoldable pub turn_nothing : {n : ℕ} {done early stopped stops : Bool} {marks after : List (Option ℕ)} (seats : List Seat) (i : ℕ) (s t : Seat) → i < length seats → s ≡ get_or seats i s
+    → DealsInOrder n early marks stopped seats → Turns done marks stopped s i after stops t → GivesNothing done marks s after stops t → DealsInOrder n early after stops (set seats i t)
+turn_nothing {n} {done} {early} {stopped} {stops} {marks} {after} seats i s t l e d r g =
+    let stays : stopped ≡ true → stops ≡ true = stays_by stopped stops (is_ill t) r.stops_are in
     let same : length (set seats i t) ≡ length seats = length-set seats i t in
     record {
       holders = d.holders;
@@ -148,9 +145,8 @@ turn_nothing {n} {k} {done} {early} {stopped} {stops} {marks} {after} seats i s 
             | inr why ↦ elim why [ inl all ↦ inl (none_free d.holders d.free (subst (λ (m : List (Option ℕ)). All IsSome m) d.marks_are all)) | inr z ↦ inr z ]
           ])
           (All-weaker (λ (s : Seat). s.told ≡ true → (d.free ≡ 0) ⊎ (stopped ≡ true)) (λ (s : Seat). s.told ≡ true → (d.free ≡ 0) ⊎ (stops ≡ true)) (λ x h q. later (d.free ≡ 0) stopped stops stays (h q)) seats d.told_late);
-      stops_are = stops_then early seats stopped stops i s t l e lost cut on d.stops_are;
+      stops_are = stops_then early seats stopped stops i s t l e r d.stops_are;
       none_early = d.none_early;
-      begins = λ z. d.begins (still stopped stops stays z);
     }
 
 pub above : (free : ℕ) → 0 < free → (f : ℕ) × (free ≡ suc f)
@@ -158,12 +154,10 @@ above zero l = absurd (omega arith)
 above (suc f) l = (f, refl)
 
 -- the lowest slice was given
-unfoldable pub turn_one : {n k : ℕ} {done early stopped stops : Bool} {marks after : List (Option ℕ)} (seats : List Seat) (i : ℕ) (s t : Seat) → i < length seats → s ≡ get_or seats i s
-    → Dealing n k early marks stopped seats
-    → (t.lost ≡ false → s.lost ≡ false) → (t.cut ≡ false → s.cut ≡ false) → stops ≡ (stopped || is_ill t)
-    → GivesOne done marks stops s i after t → Dealing n k early after stops (set seats i t)
-turn_one {n} {k} {done} {early} {stopped} {stops} {marks} {after} seats i s t l e d lost cut on g =
-    let stays : stopped ≡ true → stops ≡ true = stays_by stopped stops (is_ill t) on in
+unfoldable pub turn_one : {n : ℕ} {done early stopped stops : Bool} {marks after : List (Option ℕ)} (seats : List Seat) (i : ℕ) (s t : Seat) → i < length seats → s ≡ get_or seats i s
+    → DealsInOrder n early marks stopped seats → Turns done marks stopped s i after stops t → GivesOne done marks stops s i after t → DealsInOrder n early after stops (set seats i t)
+turn_one {n} {done} {early} {stopped} {stops} {marks} {after} seats i s t l e d r g =
+    let stays : stopped ≡ true → stops ≡ true = stays_by stopped stops (is_ill t) r.stops_are in
     let same : length (set seats i t) ≡ length seats = length-set seats i t in
     let hs : List ℕ = d.holders in
     let z : 0 + i ≡ i = omega arith in
@@ -190,12 +184,8 @@ turn_one {n} {k} {done} {early} {stopped} {stops} {marks} {after} seats i s t l 
           (λ q. absurd (false≢true (sym g.told_not ∙ q)))
           (All-weaker (λ (s : Seat). s.told ≡ true → (d.free ≡ 0) ⊎ (stopped ≡ true)) (λ (s : Seat). s.told ≡ true → (f ≡ 0) ⊎ (stops ≡ true))
           (λ x h q. elim (h q) [ inl none ↦ absurd (omega arith) | inr y ↦ inr (stays y) ]) seats d.told_late);
-      stops_are = stops_then early seats stopped stops i s t l e lost cut on d.stops_are;
+      stops_are = stops_then early seats stopped stops i s t l e r d.stops_are;
       none_early = λ z. absurd (false≢true (sym g.goes_on ∙ stays (stays_by early stopped (list_any is_ill seats) d.stops_are z)));
-      begins = λ z w v u.
-          let old = d.begins (still stopped stops stays z) w v u in
-          let m : w < length hs = old.0 in
-          (omega arith, get_or_append_left hs (i ∷ []) 0 w m ∙ old.1);
     }
 
 -- words are read, and then a slice is given or not
@@ -229,13 +219,30 @@ read_then_deal {done} {stopped} {stop} {stops} {marks} {after} s u t w given tol
       ];
     }
 
+-- a worker that holds the slice of its number still holds it when one more is given
+pub still_held : (hs : List ℕ) (i w : ℕ) → (w < length hs) × (get_or hs w 0 ≡ w) → (w < length (hs ++ i ∷ [])) × (get_or (hs ++ i ∷ []) w 0 ≡ w)
+still_held hs i w h =
+    let m = h.0 in let longer = length-append hs (i ∷ []) in
+    (omega arith, get_or_append_left hs (i ∷ []) 0 w m ∙ h.1)
+
+-- a deal that goes on after a turn went on before it
+pub went_on : {done stopped stops : Bool} {marks after : List (Option ℕ)} (s t : Seat) (w : ℕ) → Turns done marks stopped s w after stops t → stops ≡ false → stopped ≡ false
+went_on {done} {stopped} {stops} s t w r = still stopped stops (stays_by stopped stops (is_ill t) r.stops_are)
+
 -- a turn keeps the deal
 pub turn : {n k : ℕ} {done early stopped stops : Bool} {marks after : List (Option ℕ)} (seats : List Seat) (i : ℕ) (s t : Seat) → i < length seats → s ≡ get_or seats i s
     → Dealing n k early marks stopped seats → Turns done marks stopped s i after stops t → Dealing n k early after stops (set seats i t)
+unfolding turn_nothing turn_one
 turn seats i s t l e d r =
     elim r.gives [
-      | inl g ↦ turn_nothing seats i s t l e d r.lost_stays r.cut_stays r.stops_are g
-      | inr g ↦ turn_one seats i s t l e d r.lost_stays r.cut_stays r.stops_are g
+      | inl g ↦ record {
+          in_order = turn_nothing seats i s t l e d.in_order r g;
+          begins = λ z. d.begins (went_on s t i r z);
+        }
+      | inr g ↦ record {
+          in_order = turn_one seats i s t l e d.in_order r g;
+          begins = λ z w v u. still_held d.in_order.holders i w (d.begins (went_on s t i r z) w v u);
+        }
     ]
 
 none_left : {free : ℕ} {stopped : Bool} (seats : List Seat) → 0 < length seats → stopped ≡ false → All (λ (s : Seat). s.told ≡ true → (free ≡ 0) ⊎ (stopped ≡ true)) seats → All (λ (s : Seat). s.told ≡ true) seats → free ≡ 0
@@ -249,9 +256,10 @@ none_left {free} {stopped} (s ∷ seats) l z a b =
 -- where nothing was refused, and a worker was told, all slices are dealt
 pub all_dealt : {n k : ℕ} {stopped early : Bool} {marks : List (Option ℕ)} (seats : List Seat) → early ≡ false → 0 < length seats
     → Dealing n k early marks stopped seats → All IsWell seats → All (λ (s : Seat). s.told ≡ true) seats → AreDealt n (givens seats)
-all_dealt {n} {k} {stopped} {early} {marks} seats z l d well told =
+all_dealt {n} {k} {stopped} {early} {marks} seats z l deal well told =
+    let d = deal.in_order in
     let same : length (givens seats) ≡ length seats = length-map seats (λ (s : Seat). s.given) in
-    let go : stopped ≡ false = well_goes_on seats z d well in
+    let go : stopped ≡ false = well_goes_on seats z deal well in
     let none : d.free ≡ 0 = none_left seats l go d.told_late told in
     let sum : length d.holders + d.free ≡ n = d.all_slices in
     record {

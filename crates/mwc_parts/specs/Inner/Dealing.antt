@@ -25,9 +25,9 @@ IsWell s = (s.lost ≡ false) × (s.cut ≡ false)
 abbrev pub givens : List Seat → List (List ℕ)
 givens seats = map (λ (s : Seat). s.given) seats
 
--- the slices 0 to n - 1 are dealt in order, the first k of them to workers 0 to k - 1, until they are all given or the deal is stopped;
--- it is stopped exactly where a start failed early, something was lost, or a cut was told; and where a start failed nothing is given
-pub record Dealing (n k : ℕ) (early : Bool) (marks : List (Option ℕ)) (stopped : Bool) (seats : List Seat) : Type 0 where
+-- the slices 0 to n - 1 are dealt in order, until they are all given or the deal is stopped; it is stopped exactly where a start failed early,
+-- something was lost, or a cut was told; and where a start failed nothing is given
+pub record DealsInOrder (n : ℕ) (early : Bool) (marks : List (Option ℕ)) (stopped : Bool) (seats : List Seat) : Type 0 where
   pub holders : List ℕ
   pub free : ℕ
   pub marks_are : marks ≡ map Some holders ++ replicate free None
@@ -37,7 +37,11 @@ pub record Dealing (n k : ℕ) (early : Bool) (marks : List (Option ℕ)) (stopp
   pub told_late : All (λ (s : Seat). s.told ≡ true → (free ≡ 0) ⊎ (stopped ≡ true)) seats
   pub stops_are : stopped ≡ (early || list_any is_ill seats)
   pub none_early : early ≡ true → holders ≡ []
-  pub begins : stopped ≡ false → (w : ℕ) → w < k → w < n → (w < length holders) × (slice_index holders w ≡ w)
+
+-- of the slices that are dealt in order the first k go to workers 0 to k - 1
+pub record Dealing (n k : ℕ) (early : Bool) (marks : List (Option ℕ)) (stopped : Bool) (seats : List Seat) : Type 0 where
+  pub in_order : DealsInOrder n early marks stopped seats
+  pub begins : stopped ≡ false → (w : ℕ) → w < k → w < n → (w < length in_order.holders) × (slice_index in_order.holders w ≡ w)
 
 -- nothing is given: the worker has not finished its slices, or it is told that there are no more, since all is given or the deal is stopped
 pub record GivesNothing (done : Bool) (marks : List (Option ℕ)) (s : Seat) (after : List (Option ℕ)) (stopped : Bool) (t : Seat) : Type 0 where
@@ -67,7 +71,7 @@ pub record Turns (done : Bool) (marks : List (Option ℕ)) (stopped : Bool) (s :
 -- the first k workers were dealt to, one slice each at most
 pub record FirstDeals (n k : ℕ) (early : Bool) (marks : List (Option ℕ)) (stopped : Bool) (seats : List Seat) : Type 0 where
   pub deal : Dealing n k early marks stopped seats
-  pub at_most : length deal.holders ≤ k
+  pub at_most : length deal.in_order.holders ≤ k
 
 -- not dealt to yet
 pub record IsFresh (s : Seat) : Type 0 where
