@@ -6,7 +6,7 @@ use Rattle.std.proofs.Common.{set, get_or, ap, subst, arith, sym, ◌∙◌, inl
 use Rattle.std.proofs.Math.Bool.{or-false}
 use Rattle.std.proofs.lemmas.Bool.{false≢true, eq-eqb, ne_eqb}
 use Rattle.std.proofs.lemmas.List.{length-append, get_or_push}
-use Rattle.std.proofs.lemmas.List.Elements.{All-head, All-tail, All-cons, All-weaker}
+use Rattle.std.proofs.lemmas.List.Elements.{All-head, All-tail, All-map, All-weaker}
 use Rattle.mwc_parts.specs.Slicing.{Slicing}
 use Rattle.mwc_parts.specs.Sums.{sum_of}
 use Rattle.mwc_parts.specs.Inner.Sums.{times}
@@ -111,12 +111,8 @@ pub dealt_total : {n : ℕ} {shares : List (List ℕ)} (g : Slicing) → AreDeal
 dealt_total {n} {shares} g d =
     ap (sum_of (coalition_count g)) d.shares_are ∙ shares_sum (λ j. length (g.slice j)) (length shares) d.holders d.by_workers ∙ ap (λ (m : ℕ). coalition_count g (range_with_len 0 m)) d.each_held
 
-all_increase : (hs ws : List ℕ) → All IsStrictlyIncreasing (map (held hs) ws)
-all_increase hs [] = λ k d l. absurd (omega arith)
-all_increase hs (w ∷ ws) = All-cons IsStrictlyIncreasing (held hs w) (map (held hs) ws) (held_increases w hs) (all_increase hs ws)
-
 pub dealt_increase : {n : ℕ} {shares : List (List ℕ)} → AreDealt n shares → All IsStrictlyIncreasing shares
-dealt_increase {n} {shares} d = subst (λ (l : List (List ℕ)). All IsStrictlyIncreasing l) (sym d.shares_are) (all_increase d.holders (range_with_len 0 (length shares)))
+dealt_increase {n} {shares} d = subst (λ (l : List (List ℕ)). All IsStrictlyIncreasing l) (sym d.shares_are) (All-map IsStrictlyIncreasing (held d.holders) (range_with_len 0 (length shares)) (λ k w l. held_increases (get_or (range_with_len 0 (length shares)) k w) d.holders))
 
 -- no worker was given more than all slices
 pub each_within : {n k : ℕ} {early stopped : Bool} {marks : List (Option ℕ)} (g : Slicing) (seats : List Seat) → Dealing n k early marks stopped seats → All (λ (s : List ℕ). coalition_count g s ≤ coalition_count g (range_with_len 0 n)) (givens seats)

@@ -2,10 +2,12 @@
 use Rattle.std.specs.Prelude.{◌≡◌, ◌⊎◌, ℕ, zero, suc, ◌+◌, ◌<◌, Bool, true, false, ◌||◌, List, [], ◌∷◌, ◌++◌, Option, Some, None, IsSome, length, map, replicate, All, refl}
 use Rattle.std.specs.List.{range_with_len, list_any}
 use Rattle.std.proofs.Common.{set, get_or, ap, subst, arith, sym, ◌∙◌, inl, inr}
-use Rattle.std.proofs.lemmas.List.{length-set, length-map, length-append, get_or_append_left, map-set}
+use Rattle.std.proofs.Math.ListN as list
+use Rattle.std.proofs.lemmas.List.{length-set, length-map, length-append, get_or_append_left, get_or-map, set-get_or, map-set}
+use Rattle.std.proofs.lemmas.List.FromFn.{get_or-map-range_with_len}
 use Rattle.std.proofs.Math.Bool.{or_assoc, or-false}
 use Rattle.std.proofs.lemmas.Bool.{false≢true}
-use Rattle.std.proofs.lemmas.List.Elements.{All-head, All-tail, All-cons, All-weaker, All-set, All-push}
+use Rattle.std.proofs.lemmas.List.Elements.{All-head, All-tail, All-weaker, All-set, All-push}
 use Rattle.mwc_parts.specs.Table.{IsFirstFree}
 use Rattle.mwc_parts.specs.Inner.Deals.{held, shares_by, AreDealt}
 use Rattle.mwc_parts.specs.Inner.Dealing.{Seat, IsWell, is_ill, givens, DealsInOrder, Dealing, GivesNothing, GivesOne, Turns}
@@ -32,33 +34,15 @@ none_free [] zero a = refl
 none_free [] (suc free) a = absurd (false≢true (All-head (λ (o : Option ℕ). IsSome o) None (replicate free None) a))
 none_free (x ∷ hs) free a = none_free hs free (All-tail (λ (o : Option ℕ). IsSome o) (Some x) (map Some hs ++ replicate free None) a)
 
-module _ {X : Type 0} where
-  pub all_unset : (P : X → Type 0) (xs : List X) (i : ℕ) (x y : X) → i < length xs → x ≡ get_or xs i x → P x → All P (set xs i y) → All P xs
-  all_unset P [] i x y l e p a = absurd (omega arith)
-  all_unset P (z ∷ xs) zero x y l e p a = All-cons P z xs (subst P e p) (All-tail P y xs a)
-  all_unset P (z ∷ xs) (suc i) x y l e p a = All-cons P z xs (All-head P z (set xs i y) a) (all_unset P xs i x y (omega arith) e p (All-tail P z (set xs i y) a))
+module _ {X Y : Type 0} (f : X → Y) where
+  pub map_set_same : (xs : List X) (i : ℕ) (x y : X) → x ≡ get_or xs i x → f y ≡ f x → map f (set xs i y) ≡ map f xs
+  map_set_same xs i x y e q = map-set f xs i y ∙ ap (λ (v : Y). set (map f xs) i v) (q ∙ ap f e ∙ sym (list.get_or-map f xs i x)) ∙ set-get_or (map f xs) i (f x)
 
-  pub all_at_set : (P : X → Type 0) (xs : List X) (i : ℕ) (y : X) → i < length xs → All P (set xs i y) → P y
-  all_at_set P [] i y l a = absurd (omega arith)
-  all_at_set P (z ∷ xs) zero y l a = All-head P y xs a
-  all_at_set P (z ∷ xs) (suc i) y l a = all_at_set P xs i y (omega arith) (All-tail P z (set xs i y) a)
-
-  pub map_set_same : {Y : Type 0} (f : X → Y) (xs : List X) (i : ℕ) (x y : X) → x ≡ get_or xs i x → f y ≡ f x → map f (set xs i y) ≡ map f xs
-  map_set_same f [] i x y e q = refl
-  map_set_same f (z ∷ xs) zero x y e q = ap (λ v. v ∷ map f xs) (q ∙ ap f e)
-  map_set_same f (z ∷ xs) (suc i) x y e q = ap (λ l. f z ∷ l) (map_set_same f xs i x y e q)
-
-  pub map_at : {Y : Type 0} (f : X → Y) (xs : List X) (i : ℕ) (x : X) (d : Y) → i < length xs → x ≡ get_or xs i x → f x ≡ get_or (map f xs) i d
-  map_at f [] i x d l e = absurd (omega arith)
-  map_at f (z ∷ xs) zero x d l e = ap f e
-  map_at f (z ∷ xs) (suc i) x d l e = map_at f xs i x d (omega arith) e
+  pub map_at : (xs : List X) (i : ℕ) (x : X) (d : Y) → i < length xs → x ≡ get_or xs i x → f x ≡ get_or (map f xs) i d
+  map_at xs i x d l e = ap f e ∙ sym (get_or-map f xs i x d l)
 
 pub share_at : (hs : List ℕ) (from k w : ℕ) → w < k → get_or (map (held hs) (range_with_len from k)) w [] ≡ held hs (from + w)
-share_at hs from zero w l = absurd (omega arith)
-share_at hs from (suc k) zero l = let e : from ≡ from + 0 = omega arith in ap (held hs) e
-share_at hs from (suc k) (suc w) l =
-    let e : (from + 1) + w ≡ from + suc w = omega arith in
-    share_at hs (from + 1) k w (omega arith) ∙ ap (held hs) e
+share_at hs from k w l = get_or-map-range_with_len (held hs) from k w (from + w) [] l refl
 
 -- what a worker was given is what it holds
 pub given_is : (hs : List ℕ) (seats : List Seat) (i : ℕ) (s : Seat) → givens seats ≡ shares_by hs (length seats) → i < length seats → s ≡ get_or seats i s → s.given ≡ held hs i
