@@ -14,7 +14,7 @@ use Rattle.mwc_walk.specs.Inner.Lanes.{lane_with, lane_without, lane_reaches, la
 use Rattle.council_game.specs.Votes.{RuleView, Votes, IsRule, weight, minimal}
 use Rattle.mwc_walk.specs.Slices.{slice}
 use Rattle.mwc_walk.specs.Inner.Places.{left_below, reaches, wins_at, LanesAre}
-use Rattle.mwc_walk.specs.Inner.Cursor.{bound, left, steps_left, CursorIs, Steps}
+use Rattle.mwc_walk.specs.Inner.Cursor.{bound, left, steps_left, new_visit, open_visits, CursorIs, Follows, Steps}
 use Rattle.council_game.proofs.Weights.{weight-more}
 use Rattle.mwc_walk.proofs.Rest.{left-dead, left-won, left-drop, left-take, left-none}
 use Rattle.mwc_walk.proofs.One.{one-minimal, won-odd, empty-loses, slice-short, in-slice}
@@ -51,6 +51,28 @@ lost-before n p x rs pos le all h =
     let f : 2 * (x / 2) + x % 2 ≡ x = omega arith in
     let more = wins-more n (p - 1) (x / 2) (x % 2) rs (omega arith) (omega arith) all w in
     both_ways _ h (ap (λ (i : ℕ). wins_at rs i x) (sym e) ∙ ap (wins_at rs (p - 1 + 1)) (sym f) ∙ more))
+
+-- ---- a cursor's numbers, where nothing or everything below its prefix was looked at
+bound-fresh : (v : Votes) (c : Cursor) → c.members ≡ v.members → c.fresh ≡ true → bound c ≡ (c.prefix + 1) * 2 ^ (v.members - c.place)
+bound-fresh v c members fresh = rw (fresh, members) refl
+
+bound-stale : (v : Votes) (c : Cursor) → c.members ≡ v.members → c.fresh ≡ false → bound c ≡ c.prefix * 2 ^ (v.members - c.place)
+bound-stale v c members stale =
+    let none : c.prefix + 0 ≡ c.prefix = omega arith in
+    rw (stale, members, none) refl
+
+new-stale : (c : Cursor) → c.fresh ≡ false → new_visit c ≡ 0
+new-stale c stale = cond-false c.fresh _ _ stale
+
+open-stale : (v : Votes) (c : Cursor) → c.fresh ≡ false → open_visits v c ≡ 0
+open-stale v c stale = cond-false c.fresh _ _ stale
+
+-- at the fixed places no descent is under way
+open-first : (v : Votes) (c : Cursor) → c.place - c.bits ≡ 0 → open_visits v c ≡ 0
+open-first v c none =
+    cond_both c.fresh (cond (reaches v.rules c.place c.prefix) (c.place - c.bits) 0) 0 (λ i. i ≡ 0)
+    (λ _. cond_both (reaches v.rules c.place c.prefix) (c.place - c.bits) 0 (λ i. i ≡ 0) (λ _. none) (λ _. refl))
+    (λ _. refl)
 
 -- back to the place before, which is not in
 pub back-up : (v : Votes) (a : Cursor) → CursorIs v a → a.fresh ≡ false → (a.place ≡ a.bits → ⊥) → (a.prefix % 2 ≡ 1 → ⊥) → Steps v a On (record a { prefix = a.prefix / 2; place = a.place - 1 })
@@ -204,48 +226,54 @@ out-fits v a is more odd =
     fits-out v.members (a.place - 1) (a.prefix / 2) v.rules (take a.rules a.lanes) (omega arith) (rw (pe, xe) is.lanes)
 
 -- ---- a fresh place
--- a prefix that cannot reach some quota is passed by
-pub enter-dead : (v : Votes) (a : Cursor) → CursorIs v a → a.fresh ≡ true → reaches v.rules a.place a.prefix ≡ false → Steps v a On (record a { fresh = false })
-enter-dead v a is fresh dead =
-    let b : Cursor = record a { fresh = false } in
+-- all below a fresh prefix is looked at: the rest of the cursor stays
+left-behind : (v : Votes) (a : Cursor) → CursorIs v a → length (slice v a.bits a.number) ≤ a.visits + length (left v (record a { fresh = false })) →
+    (length v.rules ≡ 1 → a.visits + (v.members - a.bits) * length (left v (record a { fresh = false })) ≤ a.bits + (v.members - a.bits) * length (slice v a.bits a.number)) → Follows v a (record a { fresh = false })
+left-behind v a is least most = record {
+  is = record {
+    game = is.game;
+    members = is.members;
+    rules = is.rules;
+    room = is.room;
+    lanes = is.lanes;
+    from = is.from;
+    to = is.to;
+    number_in = is.number_in;
+    inside = is.inside;
+    short = is.short;
+    passed = is.passed;
+    least = omega (arith, least);
+    most = λ one. (let h = most one in omega (arith, h));
+  };
+  bits = refl;
+  number = refl;
+  counted = omega arith;
+}
+
+after-left : (v : Votes) (a : Cursor) → CursorIs v a → left v (record a { fresh = false }) ≡ left_below v a.bits a.number (a.prefix * 2 ^ (v.members - a.place))
+after-left v a is = ap (left_below v a.bits a.number) (bound-stale v (record a { fresh = false }) is.members refl)
+
+-- a prefix is passed by, where nothing is left below it and no visit is owed
+pass-by : (v : Votes) (a : Cursor) → CursorIs v a → a.fresh ≡ true → left v (record a { fresh = false }) ≡ left v a → (length v.rules ≡ 1 → open_visits v a ≡ 0) → Steps v a On (record a { fresh = false })
+pass-by v a is fresh same none =
     let to : a.place ≤ v.members = is.to in
     let n40 : v.members ≤ 40 = is.game.few in
-    let old_sum : a.prefix + cond a.fresh 1 0 ≡ a.prefix + 1 = rw fresh refl in
-    let old : bound a ≡ (a.prefix + 1) * 2 ^ (v.members - a.place) =
-    ap (λ (i : ℕ). i * 2 ^ (a.members - a.place)) old_sum ∙ ap (λ (i : ℕ). (a.prefix + 1) * 2 ^ (i - a.place)) is.members in
-    let zero_sum : a.prefix + 0 ≡ a.prefix = omega arith in
-    let new : bound b ≡ a.prefix * 2 ^ (v.members - a.place) =
-    ap (λ (i : ℕ). i * 2 ^ (a.members - a.place)) zero_sum ∙ ap (λ (i : ℕ). a.prefix * 2 ^ (i - a.place)) is.members in
-    let same : left v b ≡ left v a =
-    ap (left_below v a.bits a.number) new ∙ sym (left-dead v a.bits a.number a.place a.prefix is.game is.to dead) ∙ ap (left_below v a.bits a.number) (sym old) in
-    let size : length (left v b) ≡ length (left v a) = ap length same in
+    let old = bound-fresh v a is.members fresh in
+    let new = bound-stale v (record a { fresh = false }) is.members refl in
+    let size : length (left v (record a { fresh = false })) ≡ length (left v a) = ap length same in
     let pos : 0 < 2 ^ (v.members - a.place) = pow_pos (v.members - a.place) in
-    let next : (a.prefix + 1) * 2 ^ (v.members - a.place) ≡ a.prefix * 2 ^ (v.members - a.place) + 2 ^ (v.members - a.place) = omega arith in
-    let u : cond a.fresh (cond (reaches v.rules a.place a.prefix) (a.place - a.bits) 0) 0 ≡ 0 =
-    cond-true a.fresh _ _ fresh ∙ cond-false (reaches v.rules a.place a.prefix) _ _ dead in record {
-      follows = record {
-        is = record {
-          game = is.game;
-          members = is.members;
-          rules = is.rules;
-          room = is.room;
-          lanes = is.lanes;
-          from = is.from;
-          to = is.to;
-          number_in = is.number_in;
-          inside = is.inside;
-          short = is.short;
-          passed = is.passed;
-          least = omega (arith, size, is.least);
-          most = λ one. (let before = is.most one in rw same (rw u at before));
-        };
-        bits = refl;
-        number = refl;
-        counted = omega arith;
-      };
+    let next : (a.prefix + 1) * 2 ^ (v.members - a.place) ≡ a.prefix * 2 ^ (v.members - a.place) + 2 ^ (v.members - a.place) = omega arith in record {
+      follows = left-behind v a is (omega (arith, size, is.least)) (λ one. (let before = is.most one in let z = none one in rw same (omega (arith, z, before))));
       same = same;
       falls = omega (arith, old, new, next, pos);
     }
+
+-- a prefix that cannot reach some quota is passed by
+pub enter-dead : (v : Votes) (a : Cursor) → CursorIs v a → a.fresh ≡ true → reaches v.rules a.place a.prefix ≡ false → Steps v a On (record a { fresh = false })
+enter-dead v a is fresh dead =
+    pass-by v a is fresh
+    (after-left v a is ∙ sym (left-dead v a.bits a.number a.place a.prefix is.game is.to dead) ∙ ap (left_below v a.bits a.number) (sym (bound-fresh v a is.members fresh)))
+    (λ _. cond-true a.fresh _ _ fresh ∙ cond-false (reaches v.rules a.place a.prefix) _ _ dead)
 
 reaches-in : (n p x : ℕ) (rs : List RuleView) → p < n → AllByRecursion (IsRule n) rs → reaches rs p x ≡ true → reaches rs (p + 1) (2 * x + 1) ≡ true
 unfolding reaches
@@ -316,17 +344,7 @@ enter-in v a ls t counted holds is fresh below can lost room taken =
 
 -- ---- a winning prefix
 won-left : (v : Votes) (a : Cursor) → CursorIs v a → a.fresh ≡ true → wins_at v.rules a.place a.prefix ≡ true → left v a ≡ left_below v a.bits a.number (a.prefix * 2 ^ (v.members - a.place) + 1)
-won-left v a is fresh won =
-    let old_sum : a.prefix + cond a.fresh 1 0 ≡ a.prefix + 1 = rw fresh refl in
-    ap (left_below v a.bits a.number) (
-    ap (λ (i : ℕ). i * 2 ^ (a.members - a.place)) old_sum ∙ ap (λ (i : ℕ). (a.prefix + 1) * 2 ^ (i - a.place)) is.members)
-    ∙ left-won v a.bits a.number a.place a.prefix is.game is.to won
-
-after-left : (v : Votes) (a : Cursor) → CursorIs v a → left v (record a { fresh = false }) ≡ left_below v a.bits a.number (a.prefix * 2 ^ (v.members - a.place))
-after-left v a is =
-    let zero_sum : a.prefix + 0 ≡ a.prefix = omega arith in
-    ap (left_below v a.bits a.number) (
-    ap (λ (i : ℕ). i * 2 ^ (a.members - a.place)) zero_sum ∙ ap (λ (i : ℕ). a.prefix * 2 ^ (i - a.place)) is.members)
+won-left v a is fresh won = ap (left_below v a.bits a.number) (bound-fresh v a is.members fresh) ∙ left-won v a.bits a.number a.place a.prefix is.game is.to won
 
 -- there was a visit for it
 won-visited : (v : Votes) (a : Cursor) → CursorIs v a → wins_at v.rules a.place a.prefix ≡ true → 1 ≤ cond (ltb a.bits a.place) (a.prefix % 2) a.bits
@@ -361,30 +379,11 @@ enter-give v a is fresh won min =
     let size : length (left v a) ≡ suc (length (left v b)) = ap length given in
     let visited = won-visited v a is won in
     let w : cond a.fresh (cond (ltb a.bits a.place) (a.prefix % 2) a.bits) 0 ≡ cond (ltb a.bits a.place) (a.prefix % 2) a.bits = cond-true a.fresh _ _ fresh in
-    let extra : cond a.fresh (cond (reaches v.rules a.place a.prefix) (a.place - a.bits) 0) 0 ≤ v.members - a.bits =
+    let extra : open_visits v a ≤ v.members - a.bits =
     cond_both a.fresh (cond (reaches v.rules a.place a.prefix) (a.place - a.bits) 0) 0 (λ i. i ≤ v.members - a.bits)
     (λ _. cond_both (reaches v.rules a.place a.prefix) (a.place - a.bits) 0 (λ i. i ≤ v.members - a.bits) (λ _. omega (arith, le, to)) (λ _. omega arith))
     (λ _. omega arith) in record {
-      follows = record {
-        is = record {
-          game = is.game;
-          members = is.members;
-          rules = is.rules;
-          room = is.room;
-          lanes = is.lanes;
-          from = is.from;
-          to = is.to;
-          number_in = is.number_in;
-          inside = is.inside;
-          short = is.short;
-          passed = is.passed;
-          least = omega (arith, w, size, visited, is.least);
-          most = λ one. (let before = is.most one in omega (arith, extra, rw size at before));
-        };
-        bits = refl;
-        number = refl;
-        counted = omega arith;
-      };
+      follows = left-behind v a is (omega (arith, w, size, visited, is.least)) (λ one. (let before = is.most one in omega (arith, extra, rw size at before)));
       first = given;
       stale = refl;
     }
@@ -392,55 +391,12 @@ enter-give v a is fresh won min =
 -- one that is not minimal is passed by
 pub enter-drop : (v : Votes) (a : Cursor) → CursorIs v a → a.fresh ≡ true → wins_at v.rules a.place a.prefix ≡ true → minimal v (a.prefix * 2 ^ (v.members - a.place)) ≡ false → Steps v a On (record a { fresh = false })
 enter-drop v a is fresh won min =
-    let b : Cursor = record a { fresh = false } in
-    let le : a.bits ≤ a.place = is.from in
-    let to : a.place ≤ v.members = is.to in
-    let n40 : v.members ≤ 40 = is.game.few in
-    let same : left v b ≡ left v a =
-    after-left v a is ∙ sym (left-drop v a.bits a.number (a.prefix * 2 ^ (v.members - a.place)) min) ∙ sym (won-left v a is fresh won) in
-    let size : length (left v b) ≡ length (left v a) = ap length same in
-    let old_sum : a.prefix + cond a.fresh 1 0 ≡ a.prefix + 1 = rw fresh refl in
-    let old : bound a ≡ (a.prefix + 1) * 2 ^ (v.members - a.place) =
-    ap (λ (i : ℕ). i * 2 ^ (a.members - a.place)) old_sum ∙ ap (λ (i : ℕ). (a.prefix + 1) * 2 ^ (i - a.place)) is.members in
-    let zero_sum : a.prefix + 0 ≡ a.prefix = omega arith in
-    let new : bound b ≡ a.prefix * 2 ^ (v.members - a.place) =
-    ap (λ (i : ℕ). i * 2 ^ (a.members - a.place)) zero_sum ∙ ap (λ (i : ℕ). a.prefix * 2 ^ (i - a.place)) is.members in
-    let pos : 0 < 2 ^ (v.members - a.place) = pow_pos (v.members - a.place) in
-    let next : (a.prefix + 1) * 2 ^ (v.members - a.place) ≡ a.prefix * 2 ^ (v.members - a.place) + 2 ^ (v.members - a.place) = omega arith in record {
-      follows = record {
-        is = record {
-          game = is.game;
-          members = is.members;
-          rules = is.rules;
-          room = is.room;
-          lanes = is.lanes;
-          from = is.from;
-          to = is.to;
-          number_in = is.number_in;
-          inside = is.inside;
-          short = is.short;
-          passed = is.passed;
-          least = omega (arith, size, is.least);
-          most = λ one. (
-              let before = is.most one in
-              let extra : cond a.fresh (cond (reaches v.rules a.place a.prefix) (a.place - a.bits) 0) 0 ≡ 0 =
-              elim (cases_lt a.bits a.place) [
-                | inl lt ↦ absurd (both_ways _ min (one-minimal v a.place a.prefix is.game one (omega arith) is.to won (is.passed lt)))
-                | inr ge ↦
-                    let z : a.place - a.bits ≡ 0 = omega arith in
-                    cond_both a.fresh (cond (reaches v.rules a.place a.prefix) (a.place - a.bits) 0) 0 (λ i. i ≡ 0)
-                    (λ _. cond_both (reaches v.rules a.place a.prefix) (a.place - a.bits) 0 (λ i. i ≡ 0) (λ _. z) (λ _. refl))
-                    (λ _. refl)
-              ] in
-              rw same (rw extra at before));
-        };
-        bits = refl;
-        number = refl;
-        counted = omega arith;
-      };
-      same = same;
-      falls = omega (arith, old, new, next, pos);
-    }
+    pass-by v a is fresh
+    (after-left v a is ∙ sym (left-drop v a.bits a.number (a.prefix * 2 ^ (v.members - a.place)) min) ∙ sym (won-left v a is fresh won))
+    (λ one. open-first v a (elim (cases_lt a.bits a.place) [
+      | inl lt ↦ absurd (both_ways _ min (one-minimal v a.place a.prefix is.game one (omega arith) is.to won (is.passed lt)))
+      | inr ge ↦ omega arith
+    ]))
 
 -- what the tests on the lanes say of the rules
 pub reach-is : (v : Votes) (a : Cursor) → CursorIs v a → (t : Bool) → list_all (lane_reaches a.place) (take a.rules a.lanes) ≡ t → reaches v.rules a.place a.prefix ≡ t
@@ -484,7 +440,7 @@ one-is v a m is e one lt won =
 pub rest-most : (v : Votes) (a : Cursor) → CursorIs v a → (a.fresh ≡ true → a.place ≡ a.bits) → length v.rules ≡ 1 → a.visits + (v.members - a.bits) * length (left v a) ≤ a.bits + (v.members - a.bits) * length (slice v a.bits a.number)
 rest-most v a is rests one =
     let before = is.most one in
-    let extra : cond a.fresh (cond (reaches v.rules a.place a.prefix) (a.place - a.bits) 0) 0 ≡ 0 =
+    let extra : open_visits v a ≡ 0 =
     cond_both a.fresh (cond (reaches v.rules a.place a.prefix) (a.place - a.bits) 0) 0 (λ i. i ≡ 0)
     (λ f. let e : a.place ≡ a.bits = rests f in cond_both (reaches v.rules a.place a.prefix) (a.place - a.bits) 0 (λ i. i ≡ 0) (λ _. omega arith) (λ _. refl))
     (λ _. refl) in
