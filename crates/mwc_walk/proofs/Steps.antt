@@ -67,6 +67,15 @@ new-stale c stale = cond-false c.fresh _ _ stale
 open-stale : (v : Votes) (c : Cursor) → c.fresh ≡ false → open_visits v c ≡ 0
 open-stale v c stale = cond-false c.fresh _ _ stale
 
+open-fresh : (v : Votes) (c : Cursor) → c.fresh ≡ true → reaches v.rules c.place c.prefix ≡ true → open_visits v c ≡ c.place - c.bits
+open-fresh v c fresh can = cond-true c.fresh _ _ fresh ∙ cond-true (reaches v.rules c.place c.prefix) _ _ can
+
+steps-stale : (c : Cursor) → c.fresh ≡ false → steps_left c ≡ 128 * bound c + (64 + c.place)
+steps-stale c stale = ap (λ (i : ℕ). 128 * bound c + i) (cond-false c.fresh _ _ stale)
+
+steps-fresh : (c : Cursor) → c.fresh ≡ true → steps_left c ≡ 128 * bound c + (c.members - c.place)
+steps-fresh c fresh = ap (λ (i : ℕ). 128 * bound c + i) (cond-true c.fresh _ _ fresh)
+
 -- at the fixed places no descent is under way
 open-first : (v : Votes) (c : Cursor) → c.place - c.bits ≡ 0 → open_visits v c ≡ 0
 open-first v c none =
@@ -84,22 +93,15 @@ back-up v a is stale more even =
     let n40 : v.members ≤ 40 = is.game.few in
     let pe : a.place - 1 + 1 ≡ a.place = omega arith in
     let xe : 2 * (a.prefix / 2) ≡ a.prefix = omega arith in
-    let block : a.prefix * 2 ^ (a.members - a.place) ≡ a.prefix / 2 * 2 ^ (a.members - (a.place - 1)) =
-    ap (λ (i : ℕ). i * 2 ^ (a.members - a.place)) (sym xe)
-    ∙ ap (λ (i : ℕ). 2 * (a.prefix / 2) * 2 ^ (a.members - i)) (sym pe)
-    ∙ halves a.members (a.place - 1) (a.prefix / 2) (omega arith) in
-    let zero_a : (a.prefix + cond a.fresh 1 0) ≡ a.prefix = rw stale (omega arith) in
-    let zero_b : (a.prefix / 2 + cond a.fresh 1 0) ≡ a.prefix / 2 = rw stale (omega arith) in
-    let bounds : bound b ≡ bound a =
-    ap (λ (i : ℕ). i * 2 ^ (a.members - (a.place - 1))) zero_b ∙ sym block ∙ ap (λ (i : ℕ). i * 2 ^ (a.members - a.place)) (sym zero_a) in
+    let block : a.prefix * 2 ^ (v.members - a.place) ≡ a.prefix / 2 * 2 ^ (v.members - (a.place - 1)) =
+    ap (λ (i : ℕ). i * 2 ^ (v.members - a.place)) (sym xe)
+    ∙ ap (λ (i : ℕ). 2 * (a.prefix / 2) * 2 ^ (v.members - i)) (sym pe)
+    ∙ halves v.members (a.place - 1) (a.prefix / 2) (omega arith) in
+    let bounds : bound b ≡ bound a = bound-stale v b is.members stale ∙ sym block ∙ sym (bound-stale v a is.members stale) in
     let same : left v b ≡ left v a = ap (left_below v a.bits a.number) bounds in
     let shape : LanesAre v.members (a.place - 1 + 1) (2 * (a.prefix / 2)) v.rules (take a.rules a.lanes) =
     rw (pe, xe) is.lanes in
-    let size : length (left v b) ≡ length (left v a) = ap length same in
-    let falls : steps_left b < steps_left a =
-    let t : cond a.fresh (a.members - (a.place - 1)) (64 + (a.place - 1)) ≡ 64 + (a.place - 1) = cond-false a.fresh _ _ stale in
-    let u : cond a.fresh (a.members - a.place) (64 + a.place) ≡ 64 + a.place = cond-false a.fresh _ _ stale in
-    omega (arith, bounds, t, u) in record {
+    let size : length (left v b) ≡ length (left v a) = ap length same in record {
       follows = record {
         is = record {
           game = is.game;
@@ -113,20 +115,15 @@ back-up v a is stale more even =
           inside = half-shift a.prefix a.bits (a.place - 1) (omega arith) ∙ ap (λ (i : ℕ). a.prefix / 2 ^ (i - a.bits)) pe ∙ is.inside;
           short = (let e : 2 ^ a.place ≡ 2 ^ (a.place - 1) * 2 = ap (λ (i : ℕ). 2 ^ i) (let d : a.place ≡ suc (a.place - 1) = omega arith in d) ∙ pow-suc 2 (a.place - 1) in omega (arith, e, is.short));
           passed = λ further. lost-before v.members (a.place - 1) (a.prefix / 2) v.rules (omega arith) (omega arith) is.game.rules (is.passed lt);
-          least = (let t : cond a.fresh (cond (ltb a.bits a.place) (a.prefix % 2) a.bits) 0 ≡ 0 = cond-false a.fresh _ _ stale in
-              let u : cond a.fresh (cond (ltb a.bits (a.place - 1)) (a.prefix / 2 % 2) a.bits) 0 ≡ 0 = cond-false a.fresh _ _ stale in
-              omega (arith, t, u, size, is.least));
-          most = λ one. (let t : cond a.fresh (cond (reaches v.rules a.place a.prefix) (a.place - a.bits) 0) 0 ≡ 0 = cond-false a.fresh _ _ stale in
-              let u : cond a.fresh (cond (reaches v.rules (a.place - 1) (a.prefix / 2)) (a.place - 1 - a.bits) 0) 0 ≡ 0 = cond-false a.fresh _ _ stale in
-              let old = is.most one in
-              rw (same, u) (rw t at old));
+          least = omega (arith, new-stale a stale, new-stale b stale, size, is.least);
+          most = λ one. (let before = is.most one in rw same (omega (arith, open-stale v a stale, open-stale v b stale, before)));
         };
         bits = refl;
         number = refl;
         counted = omega arith;
       };
       same = same;
-      falls = falls;
+      falls = omega (arith, bounds, steps-stale a stale, steps-stale b stale);
     }
 
 -- the last member is left out
@@ -149,8 +146,6 @@ back-out v a ls is stale more odd room left_out =
     let after : LanesAre v.members (a.place - 1 + 1) (2 * (a.prefix / 2)) v.rules (map (lane_without (a.place - 1)) (take a.rules a.lanes)) =
     lanes-out v.members (a.place - 1) (a.prefix / 2) v.rules (take a.rules a.lanes) (omega arith) shape in
     let size : length (left v b) ≡ length (left v a) = ap length same in
-    let u : cond a.fresh (a.members - a.place) (64 + a.place) ≡ 64 + a.place = cond-false a.fresh _ _ stale in
-    let t : cond a.fresh (cond (ltb a.bits a.place) (a.prefix % 2) a.bits) 0 ≡ 0 = cond-false a.fresh _ _ stale in
     let w : cond (ltb a.bits a.place) ((a.prefix - 1) % 2) a.bits ≡ 0 = cond-true (ltb a.bits a.place) ((a.prefix - 1) % 2) a.bits (lt-ltb a.bits a.place lt) ∙ ze in
     let pe' : 1 + (a.place - 1 - a.bits) ≡ a.place - a.bits = omega arith in record {
       follows = record {
@@ -169,18 +164,15 @@ back-out v a ls is stale more odd room left_out =
               ∙ half-shift a.prefix a.bits (a.place - 1) (omega arith) ∙ ap (λ (i : ℕ). a.prefix / 2 ^ (i - a.bits)) pe ∙ is.inside;
           short = omega (arith, is.short);
           passed = λ further. ap (wins_at v.rules (a.place - 1)) he ∙ is.passed lt;
-          least = omega (arith, t, w, size, is.least);
-          most = λ one. (
-              let v' : cond a.fresh (cond (reaches v.rules a.place a.prefix) (a.place - a.bits) 0) 0 ≡ 0 = cond-false a.fresh _ _ stale in
-              let old = is.most one in
-              rw same (omega (arith, rw v' at old)));
+          least = omega (arith, new-stale a stale, w, size, is.least);
+          most = λ one. (let before = is.most one in rw same (omega (arith, open-stale v a stale, before)));
         };
         bits = refl;
         number = refl;
         counted = omega arith;
       };
       same = same;
-      falls = omega (arith, bounds, u);
+      falls = omega (arith, bounds, steps-stale a stale);
     }
 
 -- nothing is left
@@ -189,10 +181,9 @@ left-end v a is stale done =
     let none : a.place - a.bits ≡ 0 = omega arith in
     let x : a.prefix ≡ 2 ^ a.bits - 1 - a.number =
     (let one : a.prefix / 2 ^ 0 ≡ a.prefix = omega arith in sym one ∙ ap (λ (i : ℕ). a.prefix / 2 ^ i) (sym none) ∙ is.inside) in
-    let e : a.prefix + cond a.fresh 1 0 ≡ 2 ^ a.bits - 1 - a.number = rw stale (omega arith) in
     ap (left_below v a.bits a.number) (
-    ap (λ (i : ℕ). i * 2 ^ (a.members - a.place)) e
-    ∙ ap (λ (i : ℕ). (2 ^ a.bits - 1 - a.number) * 2 ^ (i - a.place)) is.members
+    bound-stale v a is.members stale
+    ∙ ap (λ (i : ℕ). i * 2 ^ (v.members - a.place)) x
     ∙ ap (λ (i : ℕ). (2 ^ a.bits - 1 - a.number) * 2 ^ (v.members - i)) done)
     ∙ left-none v a.bits a.number
 
@@ -300,23 +291,18 @@ enter-in v a ls t counted holds is fresh below can lost room taken =
     let he : (2 * a.prefix + 1) / 2 ≡ a.prefix = omega arith in
     let ze : (2 * a.prefix + 1) % 2 ≡ 1 = omega arith in
     let pe : a.place + 1 - 1 ≡ a.place = omega arith in
-    let old_sum : a.prefix + cond a.fresh 1 0 ≡ a.prefix + 1 = rw fresh refl in
-    let new_sum : 2 * a.prefix + 1 + cond a.fresh 1 0 ≡ 2 * (a.prefix + 1) = rw fresh (omega arith) in
+    let twice : 2 * a.prefix + 1 + 1 ≡ 2 * (a.prefix + 1) = omega arith in
     let bounds : bound b ≡ bound a =
-    ap (λ (i : ℕ). i * 2 ^ (a.members - (a.place + 1))) new_sum
-    ∙ halves a.members a.place (a.prefix + 1) (omega (arith, is.members))
-    ∙ ap (λ (i : ℕ). i * 2 ^ (a.members - a.place)) (sym old_sum) in
+    bound-fresh v b is.members fresh
+    ∙ ap (λ (i : ℕ). i * 2 ^ (v.members - (a.place + 1))) twice
+    ∙ halves v.members a.place (a.prefix + 1) below
+    ∙ sym (bound-fresh v a is.members fresh) in
     let same : left v b ≡ left v a = ap (left_below v a.bits a.number) bounds in
     let size : length (left v b) ≡ length (left v a) = ap length same in
     let lt : a.bits < a.place + 1 = omega arith in
-    let w : cond a.fresh (cond (ltb a.bits (a.place + 1)) ((2 * a.prefix + 1) % 2) a.bits) 0 ≡ 1 =
-    cond-true a.fresh _ _ fresh ∙ cond-true (ltb a.bits (a.place + 1)) _ _ (lt-ltb a.bits (a.place + 1) lt) ∙ ze in
-    let u : cond a.fresh (cond (reaches v.rules a.place a.prefix) (a.place - a.bits) 0) 0 ≡ a.place - a.bits =
-    cond-true a.fresh _ _ fresh ∙ cond-true (reaches v.rules a.place a.prefix) _ _ can in
-    let u' : cond a.fresh (cond (reaches v.rules (a.place + 1) (2 * a.prefix + 1)) (a.place + 1 - a.bits) 0) 0 ≡ a.place + 1 - a.bits =
-    cond-true a.fresh _ _ fresh ∙ cond-true (reaches v.rules (a.place + 1) (2 * a.prefix + 1)) _ _ (reaches-in v.members a.place a.prefix v.rules below is.game.rules can) in
-    let m1 : cond a.fresh (a.members - a.place) (64 + a.place) ≡ a.members - a.place = cond-true a.fresh _ _ fresh in
-    let m2 : cond a.fresh (a.members - (a.place + 1)) (64 + (a.place + 1)) ≡ a.members - (a.place + 1) = cond-true a.fresh _ _ fresh in
+    let w : new_visit b ≡ 1 = cond-true a.fresh _ _ fresh ∙ cond-true (ltb a.bits (a.place + 1)) _ _ (lt-ltb a.bits (a.place + 1) lt) ∙ ze in
+    let old = open-fresh v a fresh can in
+    let new = open-fresh v b fresh (reaches-in v.members a.place a.prefix v.rules below is.game.rules can) in
     let few : length (slice v a.bits a.number) ≤ 2 ^ 40 = slice-short v a.bits a.number is.game in record {
       follows = record {
         is = record {
@@ -332,14 +318,14 @@ enter-in v a ls t counted holds is fresh below can lost room taken =
           short = pow-short a.prefix a.place is.short;
           passed = λ further. ap (λ (i : ℕ). wins_at v.rules i ((2 * a.prefix + 1) / 2)) pe ∙ ap (wins_at v.rules a.place) he ∙ lost;
           least = omega (arith, w, size, few, counted, is.least);
-          most = λ one. (let before = is.most one in rw same (omega (arith, u', counted, rw u at before)));
+          most = λ one. (let before = is.most one in rw same (omega (arith, old, new, counted, before)));
         };
         bits = refl;
         number = refl;
         counted = omega arith;
       };
       same = same;
-      falls = omega (arith, bounds, m1, m2, is.members);
+      falls = omega (arith, bounds, steps-fresh a fresh, steps-fresh b fresh, is.members);
     }
 
 -- ---- a winning prefix
@@ -378,7 +364,7 @@ enter-give v a is fresh won min =
     ∙ ap (λ (l : List ℕ). a.prefix * 2 ^ (v.members - a.place) ∷ l) (sym (after-left v a is)) in
     let size : length (left v a) ≡ suc (length (left v b)) = ap length given in
     let visited = won-visited v a is won in
-    let w : cond a.fresh (cond (ltb a.bits a.place) (a.prefix % 2) a.bits) 0 ≡ cond (ltb a.bits a.place) (a.prefix % 2) a.bits = cond-true a.fresh _ _ fresh in
+    let w : new_visit a ≡ cond (ltb a.bits a.place) (a.prefix % 2) a.bits = cond-true a.fresh _ _ fresh in
     let extra : open_visits v a ≤ v.members - a.bits =
     cond_both a.fresh (cond (reaches v.rules a.place a.prefix) (a.place - a.bits) 0) 0 (λ i. i ≤ v.members - a.bits)
     (λ _. cond_both (reaches v.rules a.place a.prefix) (a.place - a.bits) 0 (λ i. i ≤ v.members - a.bits) (λ _. omega (arith, le, to)) (λ _. omega arith))
