@@ -2,7 +2,7 @@
 use Rattle.std.proofs.Common.{◌≡◌, ℕ, suc, ◌+◌, ◌-◌, ◌*◌, ◌/◌, ◌%◌, ◌^◌, ◌<◌, ◌≤◌, Bool, true, false, cond, leb, ltb, List, [], ◌∷◌, ◌++◌, map, length, take, drop, get_or, sum, refl, sym, ap, ◌∙◌, subst, arith, inl, inr}
 use Rattle.std.proofs.lemmas.Nat.{shr-shr, pow_pos, shl_below, shl_whole}
 use Rattle.std.proofs.Math.Nat.{pow-suc}
-use Rattle.std.proofs.lemmas.Bool.{and_parts, and_from, le-leb, leb-true, lt-ltb, le-ltb, cases_lt, both_ways, false_from_ne_true, cond-true, cond-false, cond_both}
+use Rattle.std.proofs.lemmas.Bool.{and_parts, and_from, le-leb, leb-true, lt-ltb, le-ltb, cases_Bool, cases_lt, both_ways, false_from_ne_true, cond-true, cond-false, cond_both}
 use Rattle.std.specs.List.{AllByRecursion, All, list_all}
 use Rattle.std.proofs.lemmas.List.{take_at, length-map, length-take-le, length-append}
 use Rattle.std.proofs.lemmas.List.Sums.{sum_by-drop_more}
@@ -76,12 +76,12 @@ steps-stale c stale = ap (λ (i : ℕ). 128 * bound c + i) (cond-false c.fresh _
 steps-fresh : (c : Cursor) → c.fresh ≡ true → steps_left c ≡ 128 * bound c + (c.members - c.place)
 steps-fresh c fresh = ap (λ (i : ℕ). 128 * bound c + i) (cond-true c.fresh _ _ fresh)
 
--- at the fixed places no descent is under way
-open-first : (v : Votes) (c : Cursor) → c.place - c.bits ≡ 0 → open_visits v c ≡ 0
-open-first v c none =
-    cond_both c.fresh (cond (reaches v.rules c.place c.prefix) (c.place - c.bits) 0) 0 (λ i. i ≡ 0)
-    (λ _. cond_both (reaches v.rules c.place c.prefix) (c.place - c.bits) 0 (λ i. i ≡ 0) (λ _. none) (λ _. refl))
-    (λ _. refl)
+-- a descent takes at most a visit for each place after the fixed ones
+open-most : (v : Votes) (c : Cursor) → open_visits v c ≤ c.place - c.bits
+open-most v c =
+    cond_both c.fresh (cond (reaches v.rules c.place c.prefix) (c.place - c.bits) 0) 0 (λ i. i ≤ c.place - c.bits)
+    (λ _. cond_both (reaches v.rules c.place c.prefix) (c.place - c.bits) 0 (λ i. i ≤ c.place - c.bits) (λ _. omega arith) (λ _. omega arith))
+    (λ _. omega arith)
 
 -- back to the place before, which is not in
 pub back-up : (v : Votes) (a : Cursor) → CursorIs v a → a.fresh ≡ false → (a.place ≡ a.bits → ⊥) → (a.prefix % 2 ≡ 1 → ⊥) → Steps v a On (record a { prefix = a.prefix / 2; place = a.place - 1 })
@@ -365,11 +365,8 @@ enter-give v a is fresh won min =
     let size : length (left v a) ≡ suc (length (left v b)) = ap length given in
     let visited = won-visited v a is won in
     let w : new_visit a ≡ cond (ltb a.bits a.place) (a.prefix % 2) a.bits = cond-true a.fresh _ _ fresh in
-    let extra : open_visits v a ≤ v.members - a.bits =
-    cond_both a.fresh (cond (reaches v.rules a.place a.prefix) (a.place - a.bits) 0) 0 (λ i. i ≤ v.members - a.bits)
-    (λ _. cond_both (reaches v.rules a.place a.prefix) (a.place - a.bits) 0 (λ i. i ≤ v.members - a.bits) (λ _. omega (arith, le, to)) (λ _. omega arith))
-    (λ _. omega arith) in record {
-      follows = left-behind v a is (omega (arith, w, size, visited, is.least)) (λ one. (let before = is.most one in omega (arith, extra, rw size at before)));
+    let extra : open_visits v a ≤ a.place - a.bits = open-most v a in record {
+      follows = left-behind v a is (omega (arith, w, size, visited, is.least)) (λ one. (let before = is.most one in omega (arith, extra, le, to, rw size at before)));
       first = given;
       stale = refl;
     }
@@ -379,10 +376,10 @@ pub enter-drop : (v : Votes) (a : Cursor) → CursorIs v a → a.fresh ≡ true 
 enter-drop v a is fresh won min =
     pass-by v a is fresh
     (after-left v a is ∙ sym (left-drop v a.bits a.number (a.prefix * 2 ^ (v.members - a.place)) min) ∙ sym (won-left v a is fresh won))
-    (λ one. open-first v a (elim (cases_lt a.bits a.place) [
+    (λ one. elim (cases_lt a.bits a.place) [
       | inl lt ↦ absurd (both_ways _ min (one-minimal v a.place a.prefix is.game one (omega arith) is.to won (is.passed lt)))
-      | inr ge ↦ omega arith
-    ]))
+      | inr ge ↦ let extra : open_visits v a ≤ a.place - a.bits = open-most v a in omega arith
+    ])
 
 -- what the tests on the lanes say of the rules
 pub reach-is : (v : Votes) (a : Cursor) → CursorIs v a → (t : Bool) → list_all (lane_reaches a.place) (take a.rules a.lanes) ≡ t → reaches v.rules a.place a.prefix ≡ t
@@ -426,8 +423,8 @@ one-is v a m is e one lt won =
 pub rest-most : (v : Votes) (a : Cursor) → CursorIs v a → (a.fresh ≡ true → a.place ≡ a.bits) → length v.rules ≡ 1 → a.visits + (v.members - a.bits) * length (left v a) ≤ a.bits + (v.members - a.bits) * length (slice v a.bits a.number)
 rest-most v a is rests one =
     let before = is.most one in
-    let extra : open_visits v a ≡ 0 =
-    cond_both a.fresh (cond (reaches v.rules a.place a.prefix) (a.place - a.bits) 0) 0 (λ i. i ≡ 0)
-    (λ f. let e : a.place ≡ a.bits = rests f in cond_both (reaches v.rules a.place a.prefix) (a.place - a.bits) 0 (λ i. i ≡ 0) (λ _. omega arith) (λ _. refl))
-    (λ _. refl) in
-    omega (arith, rw extra at before)
+    let extra : open_visits v a ≤ a.place - a.bits = open-most v a in
+    elim (cases_Bool a.fresh) [
+      | inl fresh ↦ let first : a.place ≡ a.bits = rests fresh in omega arith
+      | inr stale ↦ omega (arith, open-stale v a stale, before)
+    ]
