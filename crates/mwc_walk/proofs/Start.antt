@@ -1,5 +1,5 @@
 -- The cursor at the fixed places of a slice.
-use Rattle.std.proofs.Common.{◌≡◌, ℕ, ◌+◌, ◌-◌, ◌*◌, ◌/◌, ◌%◌, ◌^◌, ◌<◌, ◌≤◌, true, false, cond, ltb, List, map, length, take, get_or, refl, sym, ap, ◌∙◌, subst, arith}
+use Rattle.std.proofs.Common.{◌≡◌, ℕ, ◌+◌, ◌-◌, ◌*◌, ◌/◌, ◌%◌, ◌^◌, ◌<◌, ◌≤◌, true, false, ltb, List, map, length, take, get_or, refl, sym, ap, ◌∙◌, subst, arith}
 use Rattle.std.proofs.lemmas.Nat.{pow_pos, one_shl, div_below}
 use Rattle.std.proofs.lemmas.Bool.{le-ltb, cond-true, cond-false, eq-eqb, eqb-true, both_ways}
 use Rattle.mwc_walk.specs.declared.lane.Lane.{Lane}
@@ -9,8 +9,9 @@ use Rattle.council_game.specs.Votes.{RuleView, Votes, IsVotes, rule_at, has}
 use Rattle.mwc_walk.specs.Slices.{slice}
 use Rattle.council_game.proofs.GameTests.{fixed-half}
 use Rattle.mwc_walk.specs.Inner.Places.{left_below, LaneIs, LanesAre}
-use Rattle.mwc_walk.specs.Inner.Cursor.{bound, left, Starts}
+use Rattle.mwc_walk.specs.Inner.Cursor.{bound, left, new_visit, Starts}
 use Rattle.mwc_walk.proofs.Rest.{left-all}
+use Rattle.mwc_walk.proofs.Steps.{bound-fresh}
 use Rattle.mwc_walk.proofs.Tables.{lanes-in, lanes-pass, lanes-from}
 
 pub first-number : (k j : ℕ) → k ≤ 10 → 1 * 2 ^ k % 2 ^ 64 - 1 - j ≡ 2 ^ k - 1 - j
@@ -40,19 +41,15 @@ starts v k j c game le below members rules room are prefix place fresh bits numb
     let pos : 0 < 2 ^ k = pow_pos k in
     let none : k - k ≡ 0 = omega arith in
     let whole : c.prefix / 2 ^ (k - k) ≡ c.prefix = ap (λ (i : ℕ). c.prefix / 2 ^ i) none ∙ (let z : c.prefix / 2 ^ 0 ≡ c.prefix = omega arith in z) in
-    let sums : c.prefix + cond c.fresh 1 0 ≡ 2 ^ k - 1 - j + 1 = rw (fresh, prefix) refl in
     let all : left v c ≡ slice v k j =
     ap (λ (i : ℕ). left_below v i c.number (bound c)) bits
     ∙ ap (λ (i : ℕ). left_below v k i (bound c)) number
-    ∙ ap (left_below v k j) (
-    ap (λ (i : ℕ). i * 2 ^ (c.members - c.place)) sums
-    ∙ ap (λ (i : ℕ). (2 ^ k - 1 - j + 1) * 2 ^ (i - c.place)) members
-    ∙ ap (λ (i : ℕ). (2 ^ k - 1 - j + 1) * 2 ^ (v.members - i)) place)
+    ∙ ap (left_below v k j) (bound-fresh v c members fresh ∙ rw (prefix, place) refl)
     ∙ left-all v k j le below in
     let size : length (left v c) ≡ length (slice v k j) = ap length all in
     let slices : slice v c.bits c.number ≡ slice v k j = ap (λ (i : ℕ). slice v i c.number) bits ∙ ap (slice v k) number in
     let sizes : length (slice v c.bits c.number) ≡ length (slice v k j) = ap length slices in
-    let w : cond c.fresh (cond (ltb c.bits c.place) (c.prefix % 2) c.bits) 0 ≡ c.bits =
+    let w : new_visit c ≡ c.bits =
     cond-true c.fresh _ _ fresh ∙ cond-false (ltb c.bits c.place) _ _ (le-ltb c.bits c.place (omega (arith, place, bits))) in
     let pz : c.place - c.bits ≡ 0 = omega (arith, place, bits) in record {
       is = record {

@@ -53,7 +53,7 @@ lost-before n p x rs pos le all h =
     both_ways _ h (ap (λ (i : ℕ). wins_at rs i x) (sym e) ∙ ap (wins_at rs (p - 1 + 1)) (sym f) ∙ more))
 
 -- ---- a cursor's numbers, where nothing or everything below its prefix was looked at
-bound-fresh : (v : Votes) (c : Cursor) → c.members ≡ v.members → c.fresh ≡ true → bound c ≡ (c.prefix + 1) * 2 ^ (v.members - c.place)
+pub bound-fresh : (v : Votes) (c : Cursor) → c.members ≡ v.members → c.fresh ≡ true → bound c ≡ (c.prefix + 1) * 2 ^ (v.members - c.place)
 bound-fresh v c members fresh = rw (fresh, members) refl
 
 bound-stale : (v : Votes) (c : Cursor) → c.members ≡ v.members → c.fresh ≡ false → bound c ≡ c.prefix * 2 ^ (v.members - c.place)
