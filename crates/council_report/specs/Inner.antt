@@ -3,4 +3,5 @@ pub mod Counted
 pub mod Lines
 pub mod Told
 pub mod Ready
+pub mod Puts
 pub mod Shared

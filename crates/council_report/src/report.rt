@@ -1,5 +1,5 @@
 //! A report, written whole.
-ghost use Rattle.std.specs.Prelude.{◌≡◌, ◌+◌, ◌≤◌, ◌^◌, true, false, ℕ, List, length, All, IfOk, IfErr, OnOk};
+ghost use Rattle.std.specs.Prelude.{◌≡◌, ◌+◌, ◌≤◌, ◌^◌, true, false, ℕ, List, length, IfOk, IfErr, OnOk};
 ghost use Rattle.std.specs.List.{flat_map};
 ghost use Rattle.std.specs.Io.KnownBytes.{Appends};
 ghost use Rattle.council_game.specs.Game.{votes_of, AreNonemptyCoalitions};
@@ -8,8 +8,9 @@ ghost use Rattle.power_index.specs.Tables.{AreCounts};
 ghost use Rattle.council_report.specs.Inner.Counted.{IsCounted};
 ghost use Rattle.council_report.specs.Report.{coalition_lines, size_lines, lines, report, report_over};
 ghost use Rattle.council_report.specs.Inner.Shared.{IsReadyLine};
-ghost use Rattle.council_report.specs.Inner.Told.{told, Tells, StoppedIn};
+ghost use Rattle.council_report.specs.Inner.Told.{told, StoppedIn};
 ghost use Rattle.council_report.specs.Inner.Ready.{HasRoom, IsReady, CanCount};
+ghost use Rattle.council_report.specs.Inner.Puts.{Puts};
 ghost use Rattle.council_report.specs.Outcome.{Falls};
 
 use crate::Shown;
@@ -40,11 +41,8 @@ fn put_shown_coalitions<W: Write>(
     requires line { IsReadyLine game.now line.old }
     requires ready { IsReady block.old }
     requires counted { CanCount block.old (coalition_lines shown game.now list) }
-    ensures ok { OnOk result (Tells (told (W.contents writer.old) block.old)
-        (told (W.contents writer.new) block.new) (coalition_lines shown game.now list)) }
-    ensures ready { OnOk result (IsReady block.new) }
-    ensures err { IfErr result (λ fault. StoppedIn (told (W.contents writer.old) block.old)
-        (coalition_lines shown game.now list) (W.contents writer.new) fault.written) }
+    ensures { Puts (coalition_lines shown game.now list)
+        (W.contents writer.old) block.old (W.contents writer.new) block.new result }
 {
     if shown.list {
         put_pieces(block, writer, game, pieces, line)
@@ -64,11 +62,8 @@ fn put_shown_sizes<W: Write>(
     requires list { IsCounted counted.now.game.now list counted.now.counts.now }
     requires ready { IsReady block.old }
     requires counted { CanCount block.old (size_lines shown counted.now.game.now list) }
-    ensures ok { OnOk result (Tells (told (W.contents writer.old) block.old)
-        (told (W.contents writer.new) block.new) (size_lines shown counted.now.game.now list)) }
-    ensures ready { OnOk result (IsReady block.new) }
-    ensures err { IfErr result (λ fault. StoppedIn (told (W.contents writer.old) block.old)
-        (size_lines shown counted.now.game.now list) (W.contents writer.new) fault.written) }
+    ensures { Puts (size_lines shown counted.now.game.now list)
+        (W.contents writer.old) block.old (W.contents writer.new) block.new result }
 {
     if shown.sizes {
         put_sizes(block, writer, counted)
@@ -93,11 +88,8 @@ fn put_lines<W: Write>(
     requires line { IsReadyLine counted.now.game.now line.old }
     requires ready { IsReady block.old }
     requires counted { CanCount block.old (lines shown counted.now.game.now list) }
-    ensures ok { OnOk result (Tells (told (W.contents writer.old) block.old)
-        (told (W.contents writer.new) block.new) (lines shown counted.now.game.now list)) }
-    ensures ready { OnOk result (IsReady block.new) }
-    ensures err { IfErr result (λ fault. StoppedIn (told (W.contents writer.old) block.old)
-        (lines shown counted.now.game.now list) (W.contents writer.new) fault.written) }
+    ensures { Puts (lines shown counted.now.game.now list)
+        (W.contents writer.old) block.old (W.contents writer.new) block.new result }
 {
     put_shown_coalitions(block, writer, counted.game, pieces, line, shown)?;
     put_shown_sizes(block, writer, counted, shown)?;

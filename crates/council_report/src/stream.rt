@@ -1,13 +1,13 @@
 //! The lines of a report on their way to its writer.
-ghost use Rattle.std.specs.Prelude.{ℕ, List, length, All, IfErr, OnOk};
+ghost use Rattle.std.specs.Prelude.{ℕ, List, length, All, OnOk};
 ghost use Rattle.std.specs.List.{flat_map, range_with_len};
 ghost use Rattle.power_index.specs.Counting.{members};
 ghost use Rattle.council_game.specs.Game.{AreNonemptyCoalitions};
 ghost use Rattle.council_report.specs.Inner.Counted.{IsCounted};
 ghost use Rattle.council_report.specs.Lines.{coalition_line, size_line, member_line};
 ghost use Rattle.council_report.specs.Inner.Shared.{IsReadyLine};
-ghost use Rattle.council_report.specs.Inner.Told.{told, Tells, StoppedIn};
 ghost use Rattle.council_report.specs.Inner.Ready.{IsReady, CanCount};
+ghost use Rattle.council_report.specs.Inner.Puts.{Puts};
 
 use crate::counted::Counted;
 use crate::indices::{push_member, push_size};
@@ -28,12 +28,9 @@ pub(crate) fn put_coalitions<W: Write>(
     requires line { IsReadyLine game.now line.old }
     requires ready { IsReady block.old }
     requires counted { CanCount block.old (flat_map (coalition_line game.now) list.now) }
-    ensures ok { OnOk result (Tells (told (W.contents writer.old) block.old)
-        (told (W.contents writer.new) block.new) (flat_map (coalition_line game.now) list.now)) }
-    ensures ready { OnOk result (IsReady block.new) }
+    ensures puts { Puts (flat_map (coalition_line game.now) list.now)
+        (W.contents writer.old) block.old (W.contents writer.new) block.new result }
     ensures line { OnOk result (IsReadyLine game.now line.new) }
-    ensures err { IfErr result (λ fault. StoppedIn (told (W.contents writer.old) block.old)
-        (flat_map (coalition_line game.now) list.now) (W.contents writer.new) fault.written) }
 {
     for coalition in list {
         line.move_to(game, *coalition);
@@ -57,11 +54,8 @@ pub(crate) fn put_pieces<W: Write>(
     requires line { IsReadyLine game.now line.old }
     requires ready { IsReady block.old }
     requires counted { CanCount block.old (flat_map (λ p. flat_map (coalition_line game.now) p.now) pieces.now) }
-    ensures ok { OnOk result (Tells (told (W.contents writer.old) block.old)
-        (told (W.contents writer.new) block.new) (flat_map (λ p. flat_map (coalition_line game.now) p.now) pieces.now)) }
-    ensures ready { OnOk result (IsReady block.new) }
-    ensures err { IfErr result (λ fault. StoppedIn (told (W.contents writer.old) block.old)
-        (flat_map (λ p. flat_map (coalition_line game.now) p.now) pieces.now) (W.contents writer.new) fault.written) }
+    ensures { Puts (flat_map (λ p. flat_map (coalition_line game.now) p.now) pieces.now)
+        (W.contents writer.old) block.old (W.contents writer.new) block.new result }
 {
     for piece in pieces {
         put_coalitions(block, writer, game, piece, line)?;
@@ -80,13 +74,9 @@ pub(crate) fn put_sizes<W: Write>(
     requires ready { IsReady block.old }
     requires counted { CanCount block.old
         (flat_map (size_line counted.now.game.now list) (range_with_len 1 (length counted.now.game.now.names))) }
-    ensures ok { OnOk result (Tells (told (W.contents writer.old) block.old)
-        (told (W.contents writer.new) block.new)
-        (flat_map (size_line counted.now.game.now list) (range_with_len 1 (length counted.now.game.now.names)))) }
-    ensures ready { OnOk result (IsReady block.new) }
-    ensures err { IfErr result (λ fault. StoppedIn (told (W.contents writer.old) block.old)
-        (flat_map (size_line counted.now.game.now list)
-        (range_with_len 1 (length counted.now.game.now.names))) (W.contents writer.new) fault.written) }
+    ensures { Puts
+        (flat_map (size_line counted.now.game.now list) (range_with_len 1 (length counted.now.game.now.names)))
+        (W.contents writer.old) block.old (W.contents writer.new) block.new result }
 {
     for size in 1..counted.members + 1 {
         match push_size(&mut block.bytes, counted, size) {
@@ -108,13 +98,8 @@ pub(crate) fn put_members<W: Write>(
     requires ready { IsReady block.old }
     requires counted { CanCount block.old
         (flat_map (member_line counted.now.game.now list) (members counted.now.game.now)) }
-    ensures ok { OnOk result (Tells (told (W.contents writer.old) block.old)
-        (told (W.contents writer.new) block.new)
-        (flat_map (member_line counted.now.game.now list) (members counted.now.game.now))) }
-    ensures ready { OnOk result (IsReady block.new) }
-    ensures err { IfErr result (λ fault. StoppedIn (told (W.contents writer.old) block.old)
-        (flat_map (member_line counted.now.game.now list) (members counted.now.game.now))
-        (W.contents writer.new) fault.written) }
+    ensures { Puts (flat_map (member_line counted.now.game.now list) (members counted.now.game.now))
+        (W.contents writer.old) block.old (W.contents writer.new) block.new result }
 {
     for member in 0..counted.members {
         match push_member(&mut block.bytes, counted, member) {

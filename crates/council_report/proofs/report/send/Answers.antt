@@ -7,11 +7,11 @@ use Rattle.council_report.proofs.report.send.Goals as goal
 pub returns-in_err-put_lines-clause-err : goal.returns-in_err-put_lines-clause-err
 returns-in_err-put_lines-clause-err g c =
     let p = err_from_is_err_and c.from_residual-in_err-put_lines.result c.from_residual-in_err-put_lines.ensures.1 in
-    let stopped = stopped-next _ _ [] (lines c.args.shown c.args.counted.now.game.now g.list) _ _ c.in_ok-settle.ensures.ok c.in_err-put_lines.ensures.err in
+    let stopped = stopped-next _ _ [] (lines c.args.shown c.args.counted.now.game.now g.list) _ _ c.in_ok-settle.ensures.ok c.in_err-put_lines.ensures in
     rw (p.1, p.2) stopped
 
 pub returns-clause-err : goal.returns-clause-err
 returns-clause-err g c =
     let text : List ℕ = lines c.args.shown c.args.counted.now.game.now g.list in
-    let all = tells-then _ _ _ [] text c.in_ok-settle.ensures.ok c.in_ok-put_lines.ensures.ok in
+    let all = tells-then _ _ _ [] text c.in_ok-settle.ensures.ok c.in_ok-put_lines.ensures.tells in
     err-map c.finish.result (λ fault stopped. stopped-after _ _ text _ _ all stopped) c.finish.ensures.err

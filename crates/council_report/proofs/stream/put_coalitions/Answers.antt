@@ -41,8 +41,8 @@ pub unreachable-requires : goal.unreachable-requires
 unreachable-requires g c =
     ready-takes c.loop-coalition.invariant.lasts.ready c.in-Err.ensures.room (coalition-fits c.args.game.now c.loop-coalition.invariant.line.is.game c.move_to.new.self.coalition)
 
-pub returns-in_err-settle-in-Ok-clause-err : goal.returns-in_err-settle-in-Ok-clause-err
-returns-in_err-settle-in-Ok-clause-err g c =
+pub returns-in_err-settle-in-Ok-clause-puts : goal.returns-in_err-settle-in-Ok-clause-puts
+returns-in_err-settle-in-Ok-clause-puts g c =
     let more = c.in-Ok.ensures.items ∙ ap (λ (x : ℕ). c.loop-coalition.block.bytes.items ++ coalition_line c.args.game.now x) c.move_to.ensures.coalition in
     let next = take_more c.args.list.now c.loop-coalition.coalition-index c.coalition-item.result c.loop-coalition-test.true ∙ ap (λ (x : ℕ). take c.loop-coalition.coalition-index c.args.list.now ++ x ∷ []) (sym c.coalition-item.is) in
     let p = err_from_is_err_and c.from_residual.result c.from_residual.ensures.1 in
@@ -54,5 +54,8 @@ returns-in_err-settle-in-Ok-clause-err g c =
     in
     rw (p.1, p.2) stopped
 
-pub returns-clause-ok : goal.returns-clause-ok
-returns-clause-ok g c = all-told _ _ (coalition_line c.args.game.now) (c.args.list.now) c.loop-coalition.coalition-index (c.loop-coalition-test.false) c.loop-coalition.invariant.lasts.tells
+pub returns-clause-puts : goal.returns-clause-puts
+returns-clause-puts g c = record {
+  tells = all-told _ _ (coalition_line c.args.game.now) (c.args.list.now) c.loop-coalition.coalition-index (c.loop-coalition-test.false) c.loop-coalition.invariant.lasts.tells;
+  ready = c.loop-coalition.invariant.lasts.ready;
+}

@@ -32,8 +32,8 @@ pub unreachable-requires : goal.unreachable-requires
 unreachable-requires g c =
     ready-takes c.loop-member.invariant.ready c.in-Err.ensures.room (member-fits c.args.counted.now.game.now c.args.counted.now.is_game g.list c.requires.1.0.some c.requires.1.0.few c.loop-member.member (omega (arith, c.loop-member-test.true, c.args.counted.now.all_members)))
 
-pub returns-in_err-settle-in-Ok-clause-err : goal.returns-in_err-settle-in-Ok-clause-err
-returns-in_err-settle-in-Ok-clause-err g c =
+pub returns-in_err-settle-in-Ok : goal.returns-in_err-settle-in-Ok
+returns-in_err-settle-in-Ok g c =
     let next = range-next 0 (length c.args.counted.now.game.now.names) c.loop-member.member c.loop-member.member (omega arith) (omega (arith, c.loop-member-test.true, c.args.counted.now.all_members)) in
     let p = err_from_is_err_and c.from_residual.result c.from_residual.ensures.1 in
     let stopped =
@@ -44,5 +44,8 @@ returns-in_err-settle-in-Ok-clause-err g c =
     in
     rw (p.1, p.2) stopped
 
-pub returns-clause-ok : goal.returns-clause-ok
-returns-clause-ok g c = all-told _ _ (member_line c.args.counted.now.game.now g.list) (members c.args.counted.now.game.now) c.loop-member.member (omega (arith, length-range_with_len 0 (length c.args.counted.now.game.now.names), c.loop-member-test.false, c.args.counted.now.all_members)) c.loop-member.invariant.tells
+pub returns : goal.returns
+returns g c = record {
+  tells = all-told _ _ (member_line c.args.counted.now.game.now g.list) (members c.args.counted.now.game.now) c.loop-member.member (omega (arith, length-range_with_len 0 (length c.args.counted.now.game.now.names), c.loop-member-test.false, c.args.counted.now.all_members)) c.loop-member.invariant.tells;
+  ready = c.loop-member.invariant.ready;
+}

@@ -3,7 +3,7 @@ use Rattle.std.proofs.Common.{take}
 use Rattle.power_index.specs.Counting.{members}
 use Rattle.council_report.specs.Lines.{member_line}
 use Rattle.council_report.specs.Inner.Told.{told}
-use Rattle.council_report.proofs.Lasting.{Lasts}
+use Rattle.council_report.specs.Inner.Puts.{Lasts}
 use Rattle.council_report.proofs.stream.put_members.Given as goal
 
 abbrev pub invariant-loop-member : goal.invariant-loop-member

@@ -3,7 +3,7 @@ use Rattle.std.specs.List.{flat_map}
 use Rattle.council_report.specs.Lines.{coalition_line}
 use Rattle.council_report.specs.Inner.Shared.{IsReadyLine}
 use Rattle.council_report.specs.Inner.Told.{told}
-use Rattle.council_report.proofs.Lasting.{Lasts}
+use Rattle.council_report.specs.Inner.Puts.{Lasts}
 use Rattle.council_report.proofs.stream.put_pieces.Given as goal
 
 abbrev pub invariant-loop-piece : goal.invariant-loop-piece

@@ -37,8 +37,8 @@ pub unreachable-requires : goal.unreachable-requires
 unreachable-requires g c =
     ready-takes c.loop-size.invariant.ready c.in-Err.ensures.room (size-fits c.args.counted.now.game.now c.args.counted.now.is_game g.list c.requires.1.0.few c.loop-size.size (omega (arith, c.loop-size-test.true, c.args.counted.now.all_members)))
 
-pub returns-in_err-settle-in-Ok-clause-err : goal.returns-in_err-settle-in-Ok-clause-err
-returns-in_err-settle-in-Ok-clause-err g c =
+pub returns-in_err-settle-in-Ok : goal.returns-in_err-settle-in-Ok
+returns-in_err-settle-in-Ok g c =
     let next = range-next 1 (length c.args.counted.now.game.now.names) (c.loop-size.size - 1) c.loop-size.size (omega (arith, c.loop-size.auto.size)) (omega (arith, c.loop-size-test.true, c.loop-size.auto.size, c.args.counted.now.all_members)) in
     let p = err_from_is_err_and c.from_residual.result c.from_residual.ensures.1 in
     let stopped =
@@ -49,5 +49,8 @@ returns-in_err-settle-in-Ok-clause-err g c =
     in
     rw (p.1, p.2) stopped
 
-pub returns-clause-ok : goal.returns-clause-ok
-returns-clause-ok g c = all-told _ _ (size_line c.args.counted.now.game.now g.list) (range_with_len 1 (length c.args.counted.now.game.now.names)) (c.loop-size.size - 1) (omega (arith, length-range_with_len 1 (length c.args.counted.now.game.now.names), c.loop-size-test.false, c.args.counted.now.all_members)) c.loop-size.invariant.tells
+pub returns : goal.returns
+returns g c = record {
+  tells = all-told _ _ (size_line c.args.counted.now.game.now g.list) (range_with_len 1 (length c.args.counted.now.game.now.names)) (c.loop-size.size - 1) (omega (arith, length-range_with_len 1 (length c.args.counted.now.game.now.names), c.loop-size-test.false, c.args.counted.now.all_members)) c.loop-size.invariant.tells;
+  ready = c.loop-size.invariant.ready;
+}

@@ -2,7 +2,7 @@ use Rattle.std.specs.List.{flat_map, range_with_len}
 use Rattle.std.proofs.Common.{◌-◌, take, length}
 use Rattle.council_report.specs.Lines.{size_line}
 use Rattle.council_report.specs.Inner.Told.{told}
-use Rattle.council_report.proofs.Lasting.{Lasts}
+use Rattle.council_report.specs.Inner.Puts.{Lasts}
 use Rattle.council_report.proofs.stream.put_sizes.Given as goal
 
 abbrev pub invariant-loop-size : goal.invariant-loop-size
