@@ -8,13 +8,13 @@ use council_game::limits;
 /// How many coalitions of each size from 0 to 40 were counted. How many there are in all is added up
 /// where it is asked for.
 #[derive(Clone, Copy)]
-pub struct Tally {
-    pub sizes: [u64; limits::SIZES],
+pub(crate) struct Tally {
+    pub(crate) sizes: [u64; limits::SIZES],
 }
 
 impl Tally {
     /// The tally of no coalition.
-    pub fn new() -> Tally
+    pub(crate) fn new() -> Tally
         ensures long { length result.sizes ≡ 41 }
         ensures sizes { (s : ℕ) → slice_index result.sizes s ≡ 0 }
     {
@@ -24,7 +24,7 @@ impl Tally {
     }
 
     /// Counts one more coalition, of this size.
-    pub fn add(&mut self, size: usize)
+    pub(crate) fn add(&mut self, size: usize)
         requires size { size ≤ 40 }
         requires room { slice_index self.old.sizes size ≤ 2 ^ 40 }
         ensures { self.new ≡ with_one self.old size }
@@ -33,7 +33,7 @@ impl Tally {
     }
 
     /// Adds the numbers of another tally, size by size.
-    pub fn join(&mut self, other: &Tally)
+    pub(crate) fn join(&mut self, other: &Tally)
         requires { (s : ℕ) → s ≤ 40 →
             slice_index self.old.sizes s + slice_index other.now.sizes s < 2 ^ 64 }
         ensures { IsJoined self.old other.now self.new }
@@ -44,7 +44,7 @@ impl Tally {
     }
 
     /// How many coalitions of these sizes there are: 0 to so many members.
-    pub fn total(&self, members: usize) -> u64
+    pub(crate) fn total(&self, members: usize) -> u64
         requires members { members ≤ 40 }
         requires room { tally_total members self.now ≤ 2 ^ 40 }
         ensures { result ≡ tally_total members self.now }
