@@ -220,13 +220,13 @@ unfolding turn_nothing turn_one
 turn seats i s t l e d r =
     elim r.gives [
       | inl g ↦ record {
-          in_order = turn_nothing seats i s t l e d.in_order r g;
-          begins = λ z. d.begins (went_on s t i r z);
-        }
+        in_order = turn_nothing seats i s t l e d.in_order r g;
+        begins = λ z. d.begins (went_on s t i r z);
+      }
       | inr g ↦ record {
-          in_order = turn_one seats i s t l e d.in_order r g;
-          begins = λ z w v u. still_held d.in_order.holders i w (d.begins (went_on s t i r z) w v u);
-        }
+        in_order = turn_one seats i s t l e d.in_order r g;
+        begins = λ z w v u. still_held d.in_order.holders i w (d.begins (went_on s t i r z) w v u);
+      }
     ]
 
 none_left : {free : ℕ} {stopped : Bool} (seats : List Seat) → 0 < length seats → stopped ≡ false → All (λ (s : Seat). s.told ≡ true → (free ≡ 0) ⊎ (stopped ≡ true)) seats → All (λ (s : Seat). s.told ≡ true) seats → free ≡ 0
