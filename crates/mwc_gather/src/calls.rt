@@ -95,12 +95,9 @@ impl Desk {
     pub fn ready(&mut self) -> bool
         ensures worker { self.new.worker.promise ≡ self.old.worker.promise }
         ensures room { IsTrue result → (vec_len self.new.given < vec_capacity self.new.given)
-            × (self.new.draft.lost ≡ self.old.draft.lost) }
-        ensures lost { IsFalse result → self.new.draft.lost ≡ true }
-        ensures same { (self.new.given.items ≡ self.old.given.items)
-            × (self.new.told ≡ self.old.told) × (self.new.ended ≡ self.old.ended)
-            × (self.new.draft.cut ≡ self.old.draft.cut) }
-        ensures words { (self.new.words.taken ≡ self.old.words.taken) × (self.new.idle ≡ self.old.idle) }
+            × (seat self.new ≡ seat self.old) }
+        ensures lost { IsFalse result → seat self.new ≡ record (seat self.old) { lost = true } }
+        ensures same { (self.new.words.taken ≡ self.old.words.taken) × (self.new.ended ≡ self.old.ended) }
     {
         if self.given.reserve(1).is_err() {
             self.draft.lose();
@@ -116,10 +113,9 @@ impl Desk {
         requires told { self.old.told ≡ false }
         requires idle { self.old.idle ≡ true }
         ensures worker { self.new.worker.promise ≡ self.old.worker.promise }
-        ensures given { self.new.given.items ≡ self.old.given.items ++ slice ∷ [] }
-        ensures same { (self.new.told ≡ false) × (self.new.ended ≡ self.old.ended)
-            × (self.new.draft.lost ≡ self.old.draft.lost) × (self.new.draft.cut ≡ self.old.draft.cut) }
-        ensures words { (self.new.words.taken ≡ self.old.words.taken) × (self.new.idle ≡ false) }
+        ensures given { seat self.new ≡
+            record (seat self.old) { given = self.old.given.items ++ slice ∷ []; idle = false } }
+        ensures same { (self.new.words.taken ≡ self.old.words.taken) × (self.new.ended ≡ self.old.ended) }
     {
         self.given.push_reserved(slice);
         put(rt, &mut self.tasks, Word::Open(slice), pair);
@@ -130,11 +126,8 @@ impl Desk {
     pub fn tell<R: Wait>(&mut self, rt: &R, pair: BellPair<'_>)
         requires { self.old.told ≡ false }
         ensures worker { self.new.worker.promise ≡ self.old.worker.promise }
-        ensures told { self.new.told ≡ true }
-        ensures same { (self.new.given.items ≡ self.old.given.items)
-            × (self.new.ended ≡ self.old.ended) × (self.new.draft.lost ≡ self.old.draft.lost)
-            × (self.new.draft.cut ≡ self.old.draft.cut) }
-        ensures words { (self.new.words.taken ≡ self.old.words.taken) × (self.new.idle ≡ self.old.idle) }
+        ensures told { seat self.new ≡ record (seat self.old) { told = true } }
+        ensures same { (self.new.words.taken ≡ self.old.words.taken) × (self.new.ended ≡ self.old.ended) }
     {
         put(rt, &mut self.tasks, Word::End { cut: false }, pair);
         self.told = true;
