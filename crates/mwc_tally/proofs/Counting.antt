@@ -1,5 +1,5 @@
 -- Slices counted one after the other, and in any order.
-use Rattle.std.proofs.Common.{◌≡◌, ◌∙◌, ◌==◌, ℕ, ◌+◌, ◌-◌, ◌/◌, ◌^◌, ◌<◌, ◌≤◌, zero, suc, Bool, List, [], ◌∷◌, ◌++◌, length, get_or, sym, ap, refl, arith, subst, length-append}
+use Rattle.std.proofs.Common.{◌≡◌, ◌∙◌, ◌==◌, ℕ, ◌+◌, ◌-◌, ◌/◌, ◌^◌, ◌<◌, ◌≤◌, suc, Bool, List, [], ◌∷◌, ◌++◌, length, get_or, sym, ap, refl, arith, subst, length-append}
 use Rattle.std.specs.List.{All, filter, flat_map, range_with_len, sum_by}
 use Rattle.std.specs.List.Sorted.{IsPermutation}
 use Rattle.std.proofs.lemmas.List.{append_assoc, append-nil}
@@ -9,10 +9,10 @@ use Rattle.std.proofs.lemmas.List.Concat.{flat_map-append, length-flat_map}
 use Rattle.std.proofs.lemmas.List.Sums.{sum_by-cons}
 use Rattle.std.proofs.lemmas.List.Sorted.{sum_by-IsPermutation}
 use Rattle.council_game.specs.Game.{GameView, IsGame, votes_of, AreNonemptyCoalitions}
-use Rattle.council_game.specs.Votes.{has, size, minimal_coalitions}
+use Rattle.council_game.specs.Votes.{minimal_coalitions}
 use Rattle.mwc_walk.specs.Slices.{slice}
 use Rattle.mwc_walk.proofs.Joined.{slices-joined}
-use Rattle.power_index.specs.Tables.{Tables, Tallies, AllTallies, AreTallies, AreOf, AreOfOneGame, AreCounts, table_total, no_tally}
+use Rattle.power_index.specs.Tables.{Tables, AreTallies, AreOfOneGame, AreCounts, table_total}
 use Rattle.power_index.proofs.Minimal.{minimal-are-coalitions, minimal-few}
 use Rattle.power_index.proofs.Sound.{total-is, tallies-are_counts}
 use Rattle.power_index.proofs.Sums.{length-filter-le}

@@ -1,6 +1,6 @@
 -- Counts of a list of coalitions of a game, by member and by size.
-use Rattle.std.specs.Prelude.{ℕ, ◌==◌, ◌&&◌, ◌<◌, ◌^◌, Bool, List, length, slice_index}
-use Rattle.std.specs.List.{filter, All}
+use Rattle.std.specs.Prelude.{ℕ, ◌==◌, ◌&&◌, Bool, List, length, slice_index}
+use Rattle.std.specs.List.{filter}
 use Rattle.council_game.specs.Votes.{has, size}
 use Rattle.council_game.specs.Ranks.{places}
 use Rattle.council_game.specs.Game.{GameView}

@@ -1,8 +1,8 @@
 -- Tables of counts, and when they hold the counts of a list of coalitions.
-use Rattle.std.specs.Prelude.{ℕ, zero, suc, ◌+◌, ◌*◌, ◌/◌, ◌^◌, ◌≡◌, ◌≤◌, ◌<◌, ◌==◌, ◌&&◌, Bool, true, List, [], length, slice_index, slice_index_or, slice_set, sum_by}
+use Rattle.std.specs.Prelude.{ℕ, zero, suc, ◌+◌, ◌*◌, ◌/◌, ◌≡◌, ◌≤◌, ◌<◌, ◌==◌, ◌&&◌, Bool, true, List, [], length, slice_index, slice_index_or, sum_by}
 use Rattle.std.specs.List.{filter, range_with_len}
 use Rattle.council_game.specs.Votes.{has, size}
-use Rattle.council_game.specs.Game.{GameView, IsGame, AreNonemptyCoalitions}
+use Rattle.council_game.specs.Game.{GameView, IsGame}
 use Rattle.power_index.specs.Counting.{count_of_size, count_of_member, count_of_member_size}
 use Rattle.power_index.specs.declared.tally.Tally.{Tally}
 

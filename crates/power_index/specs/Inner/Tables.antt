@@ -1,9 +1,6 @@
 -- Tables of counts, and when they hold the counts of a list of coalitions: what only proofs and private functions need.
-use Rattle.std.specs.Prelude.{ℕ, zero, suc, ◌+◌, ◌*◌, ◌/◌, ◌^◌, ◌≡◌, ◌≤◌, ◌<◌, ◌==◌, ◌&&◌, Bool, true, List, [], length, slice_index, slice_index_or, slice_set, sum_by}
-use Rattle.std.specs.List.{filter, range_with_len}
-use Rattle.council_game.specs.Votes.{has, size}
-use Rattle.council_game.specs.Game.{GameView, IsGame, AreNonemptyCoalitions}
-use Rattle.power_index.specs.Counting.{count_of_size, count_of_member, count_of_member_size}
+use Rattle.std.specs.Prelude.{ℕ, ◌+◌, ◌^◌, ◌≡◌, ◌≤◌, List, length, slice_index, slice_set}
+use Rattle.council_game.specs.Game.{GameView, AreNonemptyCoalitions}
 use Rattle.power_index.specs.declared.tally.Tally.{Tally}
 use Rattle.power_index.specs.Tables.{Tables, AreTallies}
 

@@ -1,4 +1,4 @@
-use Rattle.std.proofs.Common.{ℕ, ◌<◌, ◌≤◌, ◌^◌, arith}
+use Rattle.std.proofs.Common.{◌≤◌, ◌^◌, arith}
 use Rattle.std.proofs.Math.Pow.{pow_mono}
 use Rattle.council_run.proofs.runs.gathered.Goals as goal
 

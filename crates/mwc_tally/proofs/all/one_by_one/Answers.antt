@@ -1,4 +1,4 @@
-use Rattle.std.proofs.Common.{◌≡◌, ◌^◌, ℕ, List, subst, ap, sym, arith}
+use Rattle.std.proofs.Common.{◌≡◌, ◌^◌, ℕ, List, subst, arith}
 use Rattle.std.specs.List.{flat_map, range_with_len}
 use Rattle.council_game.specs.Game.{votes_of}
 use Rattle.mwc_walk.specs.Slices.{slice}

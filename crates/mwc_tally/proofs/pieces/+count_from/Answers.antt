@@ -1,4 +1,4 @@
-use Rattle.std.proofs.Common.{ℕ, ◌+◌, ◌++◌, List, length, length-append, take, drop, ap, arith, subst}
+use Rattle.std.proofs.Common.{ℕ, ◌+◌, List, length, length-append, take, drop, ap, arith, subst}
 use Rattle.std.specs.List.{flat_map}
 use Rattle.std.proofs.lemmas.List.{length-drop}
 use Rattle.power_index.specs.Tables.{AreTallies}

@@ -1,8 +1,8 @@
-use Rattle.std.proofs.Common.{◌≡◌, ◌<◌, ◌^◌, ◌∷◌, ℕ, List, subst, length, sym, ap, arith}
+use Rattle.std.proofs.Common.{◌<◌, ◌^◌, ℕ, List, subst, length, sym}
 use Rattle.council_game.specs.Game.{votes_of}
 use Rattle.mwc_walk.specs.Slices.{slice}
 use Rattle.mwc_tally.specs.Inner.Shares.{CountedUpTo}
-use Rattle.mwc_tally.proofs.Counting.{counted-start, counted-step, counted-all, counted-room, counted-next, slice-are-coalitions, slice-few}
+use Rattle.mwc_tally.proofs.Counting.{counted-step, counted-room, counted-next, slice-are-coalitions, slice-few}
 use Rattle.mwc_tally.proofs.slice.tally_slice.Goals as goal
 
 pub count-requires-clause-some : goal.count-requires-clause-some
