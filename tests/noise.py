@@ -7,7 +7,8 @@ makes COUNT files from the games of examples/, each by some flips, cuts, repeats
 and runs PROGRAM on each, as FILE or on standard input and with options of all kinds. Whatever the
 file, the program ends by itself within a second, of the clock or of processor time, or on a slower or
 busier machine within three times what the slowest of the untouched games takes there, with a status
-from 0 to 5 that is not 2. At 0 there is a report
+from 0 to 5 that is not 2. A run that takes longer is tried again, for five minutes: a machine that others
+use too has slow spells. At 0 there is a report
 on standard output and nothing on standard error; at any other status there is one line on standard
 error, which begins with `council: `, and nothing on standard output. The same SEED makes the same
 files. A file that fails is kept, and its name is printed.
@@ -25,11 +26,11 @@ import tempfile
 import time
 from collections import Counter
 
-# A run that takes longer, by the clock and in processor time, is tried again. After three in a row it
-# may take so many times what the slowest untouched game takes.
+# A run that takes longer, by the clock and in processor time, may take so many times what the slowest
+# untouched game takes at that time. Else it is tried again after so many seconds.
 SECONDS = 1.0
-TRIES = 3
 TIMES = 3
+PAUSE = 5
 # After so many seconds a run has not ended. Where other work holds all processors, each hand-over of a
 # full ring waits for its turn, so a long list may take half a minute.
 HANGS = int(os.environ.get("SECONDS_EACH", 300))
@@ -133,16 +134,20 @@ def main(words):
         with open(file, "wb") as it:
             it.write(noisy(rng, games))
         chosen, by_name = options(rng), bool(rng.randrange(2))
-        for _ in range(TRIES):
+        begun = time.monotonic()
+        while True:
             why, status, took = run(program, file, chosen, by_name)
             if why or took <= SECONDS:
                 break
+            slowest = max(run(program, game, chosen, True)[2] for game in untouched)
+            if took <= TIMES * slowest:
+                break
+            if time.monotonic() - begun > HANGS:
+                why = f"it took {took:.1f} seconds, and the slowest untouched game {slowest:.1f}"
+                break
+            time.sleep(PAUSE)
         statuses[status] += 1
         longest = max(longest, took)
-        if not why and took > SECONDS:
-            slowest = max(run(program, game, chosen, True)[2] for game in untouched)
-            if took > TIMES * slowest:
-                why = f"it took {took:.1f} seconds, and the slowest untouched game {slowest:.1f}"
         if why:
             failed += 1
             print(f"FAILED noise {number} of seed {seed}: {why}: {file} {' '.join(chosen)}{'' if by_name else ' <'}", flush=True)
