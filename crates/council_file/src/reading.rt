@@ -55,7 +55,8 @@ fn read_bytes<R: Read>(alloc: Global, reader: &mut R) -> Result<Vec<u8>, GameFau
 #[tactic(auto, using(crate::proofs::Stops::stop_fails))]
 pub fn read_game<R: Read>(alloc: Global, reader: &mut R) -> Result<Game, GameFault>
     ensures { MatchResult result
-        (λ game. (bytes : List ℕ) × Gave (R.remaining reader.old) (R.remaining reader.new) bytes × (game_of bytes ≡ Ok game))
+        (λ game. (bytes : List ℕ) × Gave (R.remaining reader.old) (R.remaining reader.new) bytes
+        × (game_of bytes ≡ Ok game))
         (λ fault. FailsSo (R.remaining reader.old) (R.remaining reader.new) fault) }
 {
     match read_bytes(alloc, reader) {

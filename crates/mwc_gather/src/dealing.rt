@@ -85,7 +85,8 @@ fn turn<R: Wait>(
     requires worker { worker < 16 }
     ensures worker { desk.new.worker.promise ≡ desk.old.worker.promise }
     ensures turns { (words : List Word) × (desk.new.words.taken ≡ desk.old.words.taken ++ words)
-        × Turns (list_any is_done words) marks.old stopped (seat desk.old) worker marks.new result.stopped (seat desk.new) }
+        × Turns (list_any is_done words) marks.old stopped (seat desk.old) worker
+        marks.new result.stopped (seat desk.new) }
 {
     let count = desk.read(row);
     if count > 0 {

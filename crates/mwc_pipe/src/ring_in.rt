@@ -29,7 +29,11 @@ impl Model for RingIn {
 
     ghost Value = { RingInView };
 
-    ghost view = { λ r. record { ring = ring_of_producer r.producer; capacity = producer_capacity r.producer; accepted = sent r.producer } };
+    ghost view = { λ r. record {
+      ring = ring_of_producer r.producer;
+      capacity = producer_capacity r.producer;
+      accepted = sent r.producer;
+    } };
 
     ghost invariant = { λ r. producer_capacity r.producer ≤ length (sent r.producer) + known_free r.producer };
 }
