@@ -10,7 +10,7 @@ use Rattle.council_game.specs.Votes.{RuleView}
 use Rattle.council_game.specs.Rules.{rule_view, rule_views}
 use Rattle.council_game.proofs.Lists.{length_map}
 use Rattle.council_game.proofs.RuleLists.{All_map, held_full}
-use Rattle.council_file.specs.File.{has, some_has, elements_at, are_quotas, breaks_rules, lacks_quota, member_list, only_rule, rule_at, rules_of, name_of}
+use Rattle.council_file.specs.File.{has_key, some_member_has, elements_at, are_quotas, breaks_rules, lacks_quota, member_list, only_rule, rule_from, rules_of, name_from}
 
 quotas_pass : (q qs aq w v : Bool) → q ≡ false → not qs ≡ false → ((q && qs) || (qs && not aq) || (q && w) || (qs && v)) ≡ false → aq ≡ true
 quotas_pass true qs aq w v a b h = absurd (false≢true (sym a))
@@ -30,21 +30,21 @@ counted ds h =
 
 pub rules_count : (t : Members) → breaks_rules t ≡ false → lacks_quota t ≡ false → (0 < length (rules_of t)) × (length (rules_of t) ≤ 4)
 rules_count t ok quota =
-    elim (cases_Bool (has (codes "quota") t)) [
+    elim (cases_Bool (has_key (codes "quota") t)) [
       | inl lone ↦ rw lone (omega arith, omega arith)
       | inr many ↦
           let listed = sym (none_gives _ (get_member (codes "quota") t) _ many) ∙ quota in
-          let pass = quotas_pass (has (codes "quota") t) (has (codes "quotas") t) (are_quotas (elements_at (codes "quotas") t)) (some_has (codes "weights") t) (some_has (codes "weight") t) many listed ok in
+          let pass = quotas_pass (has_key (codes "quota") t) (has_key (codes "quotas") t) (are_quotas (elements_at (codes "quotas") t)) (some_member_has (codes "weights") t) (some_member_has (codes "weight") t) many listed ok in
           let n = length (elements_at (codes "quotas") t) in
-          rw (many, length-map-range_with_len (rule_at t n) 0 n) (counted (elements_at (codes "quotas") t) pass)
+          rw (many, length-map-range_with_len (rule_from t n) 0 n) (counted (elements_at (codes "quotas") t) pass)
     ]
 
 only_full : (t : Members) → length (only_rule t).weights ≡ length (member_list t)
 unfolding only_rule
 only_full t = length_map _ (member_list t)
 
-at_full : (t : Members) (n r : ℕ) → length (rule_at t n r).weights ≡ length (member_list t)
-unfolding rule_at
+at_full : (t : Members) (n r : ℕ) → length (rule_from t n r).weights ≡ length (member_list t)
+unfolding rule_from
 at_full t n r = length_map _ (member_list t)
 
 lone_full : (t : Members) → All (λ r. length r.weights ≡ length (member_list t)) (only_rule t ∷ [])
@@ -53,11 +53,11 @@ lone_full t (suc k) d h = absurd (omega arith)
 
 pub rules_full : (t : Members) → All (λ r. length r.weights ≡ length (member_list t)) (rules_of t)
 rules_full t =
-    elim (cases_Bool (has (codes "quota") t)) [
+    elim (cases_Bool (has_key (codes "quota") t)) [
       | inl lone ↦ rw lone (lone_full t)
       | inr many ↦
           let n = length (elements_at (codes "quotas") t) in
-          rw many (All_map (λ r. length r.weights ≡ length (member_list t)) (rule_at t n) (range_with_len 0 n) (λ k r h. at_full t n _))
+          rw many (All_map (λ r. length r.weights ≡ length (member_list t)) (rule_from t n) (range_with_len 0 n) (λ k r h. at_full t n _))
     ]
 
 -- what the code holds
@@ -67,8 +67,8 @@ held_count rules t same ok quota =
     let len : length rules ≡ length (rules_of t) = sym (length_map rule_view rules) ∙ ap (λ (rs : List RuleView). length rs) same in
     (omega (arith, len, count.0), omega (arith, len, count.1))
 
-pub all_held : (rules : List Rule) (t : Members) (names : List (String Global)) (ds : List Data) → rule_views rules ≡ rules_of t → ds ≡ member_list t → map string_bytes names ≡ map name_of ds
+pub all_held : (rules : List Rule) (t : Members) (names : List (String Global)) (ds : List Data) → rule_views rules ≡ rules_of t → ds ≡ member_list t → map string_bytes names ≡ map name_from ds
     → All (λ r. length r.weights.items ≡ length names) rules
 all_held rules t names ds same members named =
-    let len : length (member_list t) ≡ length names = ap (λ (xs : List Data). length xs) (sym members) ∙ sym (length_map name_of ds) ∙ ap (λ (xs : List (List ℕ)). length xs) (sym named) ∙ length_map string_bytes names in
+    let len : length (member_list t) ≡ length names = ap (λ (xs : List Data). length xs) (sym members) ∙ sym (length_map name_from ds) ∙ ap (λ (xs : List (List ℕ)). length xs) (sym named) ∙ length_map string_bytes names in
     held_full rules (length names) (rw (same, ← len) (rules_full t))

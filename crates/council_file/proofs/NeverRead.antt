@@ -13,7 +13,7 @@ use Rattle.council_game.specs.Votes.{RuleView}
 use Rattle.council_game.specs.Ranks.{places}
 use Rattle.council_game.specs.Game.{has_bad_quota, is_heavy, is_name, is_repeat, is_title, made_game}
 use Rattle.council_file.specs.Bracket.{counted_names, game_of_bracket, parts, rule_of}
-use Rattle.council_file.specs.File.{are_members, breaks_rules, game_of_tree, has_unknown_key, lacks_quota, member_list, name_of, rules_of, title_from, tree_of}
+use Rattle.council_file.specs.File.{are_members, breaks_rules, game_of_tree, has_unknown_key, lacks_quota, member_list, name_from, rules_of, title_from, tree_of}
 
 -- a fault of the bytes
 abbrev pub IsOwn : GameFault → Type 0
@@ -73,7 +73,7 @@ of-tree t =
     step _ _ (titled (get_member (codes "title") t)) (λ title.
     step _ _ (refused (breaks_rules t) Rules tt) (λ _.
     step _ _ (refused (lacks_quota t) Quota tt) (λ _.
-    step _ _ (refused (not (are_members (member_list t))) NoMembers tt) (λ _. made title (map name_of (member_list t)) (rules_of t))))))
+    step _ _ (refused (not (are_members (member_list t))) NoMembers tt) (λ _. made title (map name_from (member_list t)) (rules_of t))))))
 
 pub to-tree : (bytes : List ℕ) → NoRead (tree_of bytes)
 unfolding tree_of

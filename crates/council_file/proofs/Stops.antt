@@ -2,10 +2,10 @@
 use Rattle.std.proofs.Common.{List, ℕ, Option}
 use Rattle.council_game.specs.declared.fault.GameFault.{GameFault}
 use Rattle.council_game.specs.declared.fault.GameFault.TheVariants.{Read, TooLong, Text, UnknownKey, Title, Quota, Members, Name, SameName, Weight, QuotaRange, Bracket, Rules, Memory}
-use Rattle.council_file.specs.Reads.{FailsSo}
+use Rattle.council_file.specs.Reads.{FailsWith}
 use Rattle.council_file.specs.Inner.Reads.{IsStop}
 
-pub stop_fails : (a b : Option (List ℕ)) (e : GameFault) → IsStop e → FailsSo a b e
+pub stop_fails : (a b : Option (List ℕ)) (e : GameFault) → IsStop e → FailsWith a b e
 stop_fails a b Read h = tt
 stop_fails a b Memory h = tt
 stop_fails a b TooLong h = absurd h

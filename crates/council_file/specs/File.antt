@@ -44,11 +44,11 @@ abbrev pub member_list : Members → List Data
 member_list t = elements_at (codes "member") t
 
 -- some member has the key
-abbrev pub some_has : List ℕ → Members → Bool
-some_has k t = list_any (λ d. is_some (get k d)) (member_list t)
+abbrev pub some_member_has : List ℕ → Members → Bool
+some_member_has k t = list_any (λ d. is_some (get k d)) (member_list t)
 
-abbrev pub has : List ℕ → Members → Bool
-has k t = is_some (get_member k t)
+abbrev pub has_key : List ℕ → Members → Bool
+has_key k t = is_some (get_member k t)
 
 -- ---- the checks, in their order
 
@@ -68,13 +68,13 @@ abbrev pub are_quotas : List Data → Bool
 are_quotas ds = (nat_le 1 (length ds) && nat_le (length ds) 4) && list_all (λ d. is_some (as_integer d)) ds
 
 abbrev pub breaks_rules : Members → Bool
-breaks_rules t = (has (codes "quota") t && has (codes "quotas") t)
-    || (has (codes "quotas") t && not (are_quotas (elements_at (codes "quotas") t)))
-    || (has (codes "quota") t && some_has (codes "weights") t)
-    || (has (codes "quotas") t && some_has (codes "weight") t)
+breaks_rules t = (has_key (codes "quota") t && has_key (codes "quotas") t)
+    || (has_key (codes "quotas") t && not (are_quotas (elements_at (codes "quotas") t)))
+    || (has_key (codes "quota") t && some_member_has (codes "weights") t)
+    || (has_key (codes "quotas") t && some_member_has (codes "weight") t)
 
 abbrev pub lacks_quota : Members → Bool
-lacks_quota t = option_map_or (λ d. is_none (as_integer d)) (get_member (codes "quota") t) (not (has (codes "quotas") t))
+lacks_quota t = option_map_or (λ d. is_none (as_integer d)) (get_member (codes "quota") t) (not (has_key (codes "quotas") t))
 
 -- 1 to 40 tables
 abbrev pub are_members : List Data → Bool
@@ -83,8 +83,8 @@ are_members ds = (nat_le 1 (length ds) && nat_le (length ds) 40) && list_all (λ
 -- ---- the values
 
 -- the name of a member. One that is missing or no string is empty, and no name is empty.
-unfoldable pub name_of : Data → List ℕ
-name_of d = unwrap_or (option_and_then as_str (get (codes "name") d)) []
+unfoldable pub name_from : Data → List ℕ
+name_from d = unwrap_or (option_and_then as_str (get (codes "name") d)) []
 
 -- A quota below 0 is out of range as 0 is.
 abbrev pub whole_quota : ℤ → ℕ
@@ -115,12 +115,12 @@ unfoldable pub only_rule : Members → RuleView
 only_rule t = record { quota = quota_from (get_member (codes "quota") t); weights = map only_weight (member_list t) }
 
 -- rule r of n
-unfoldable pub rule_at : Members → ℕ → ℕ → RuleView
-rule_at t n r = record { quota = quota_from (slice_get (elements_at (codes "quotas") t) r); weights = map (weight_under n r) (member_list t) }
+unfoldable pub rule_from : Members → ℕ → ℕ → RuleView
+rule_from t n r = record { quota = quota_from (slice_get (elements_at (codes "quotas") t) r); weights = map (weight_under n r) (member_list t) }
 
 abbrev pub rules_of : Members → List RuleView
-rules_of t = if has (codes "quota") t then only_rule t ∷ []
-    else (let n = length (elements_at (codes "quotas") t) in map (rule_at t n) (range_with_len 0 n))
+rules_of t = if has_key (codes "quota") t then only_rule t ∷ []
+    else (let n = length (elements_at (codes "quotas") t) in map (rule_from t n) (range_with_len 0 n))
 
 -- ---- the whole
 
@@ -136,7 +136,7 @@ game_of_tree t = do
   _ ← refuse (breaks_rules t) Rules
   _ ← refuse (lacks_quota t) Quota
   _ ← refuse (not (are_members (member_list t))) NoMembers
-  made_game title (map name_of (member_list t)) (rules_of t)
+  made_game title (map name_from (member_list t)) (rules_of t)
 
 -- a bracket text, or else a TOML document
 unfoldable pub game_of : List ℕ → Result GameView GameFault

@@ -12,7 +12,7 @@ pub record Gave (before after : Option (List ℕ)) (bytes : List ℕ) : Type 0 w
   pub most : length bytes ≤ 65537
 
 -- The fault is that of the bytes that the reader gave, unless a read failed or memory ran out.
-abbrev pub FailsSo : Option (List ℕ) → Option (List ℕ) → GameFault → Type 0
-FailsSo before after Read = Unit {0}
-FailsSo before after Memory = Unit {0}
-FailsSo before after fault = (bytes : List ℕ) × Gave before after bytes × (game_of bytes ≡ Err fault)
+abbrev pub FailsWith : Option (List ℕ) → Option (List ℕ) → GameFault → Type 0
+FailsWith before after Read = Unit {0}
+FailsWith before after Memory = Unit {0}
+FailsWith before after fault = (bytes : List ℕ) × Gave before after bytes × (game_of bytes ≡ Err fault)

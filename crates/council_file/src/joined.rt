@@ -2,7 +2,7 @@
 ghost use Rattle.std.specs.Prelude.{◌≡◌, ◌++◌, ◌<◌, ◌≤◌, ℕ, List, OnOk, decimal, length};
 ghost use Rattle.std.specs.Vec.{vec_capacity};
 ghost use Rattle.council_file.specs.Joined.{joined_numbers, GivesEach};
-ghost use Rattle.council_file.specs.Room.{Takes};
+ghost use Rattle.council_file.specs.Room.{MakesRoomFor};
 
 use itoa::Buffer;
 use std::alloc::AllocError;
@@ -10,7 +10,7 @@ use std::alloc::AllocError;
 /// A number in decimal.
 pub fn push_decimal(out: &mut Vec<u8>, number: u64) -> Result<(), AllocError>
     ensures items { OnOk result (out.new.items ≡ out.old.items ++ decimal number) }
-    ensures room { Takes out.old out.new result (decimal number) }
+    ensures room { MakesRoomFor out.old out.new result (decimal number) }
 {
     let mut buffer = Buffer::new();
     out.extend_from_slice(buffer.format(number).as_bytes())
@@ -28,7 +28,7 @@ pub fn push_joined<F: Fn(usize) -> u64>(
         → OnOk result (out.new.items ≡ out.old.items ++ joined_numbers separator.now vs) }
     ensures capacity { vec_capacity out.old ≤ vec_capacity out.new }
     ensures room { (vs : List ℕ) → length vs ≡ count → GivesEach (F.post value) vs
-        → Takes out.old out.new result (joined_numbers separator.now vs) }
+        → MakesRoomFor out.old out.new result (joined_numbers separator.now vs) }
 {
     for r in 0..count {
         if 0 < r {

@@ -3,7 +3,7 @@ ghost use Rattle.std.specs.Prelude.{◌≡◌, map, is_some, IfOk, string_bytes}
 ghost use Rattle.std.specs.List.{list_all};
 ghost use Rattle.toml.specs.Data.{as_table};
 ghost use Rattle.toml.specs.View.{view, table_view};
-ghost use Rattle.council_file.specs.File.{member_list, are_members, name_of};
+ghost use Rattle.council_file.specs.File.{member_list, are_members, name_from};
 
 use crate::tree::elements_at;
 use council_game::limits;
@@ -37,9 +37,9 @@ pub(crate) fn are_members(values: &[Value]) -> bool
 }
 
 /// The name of a member, or the empty text.
-#[tactic(auto, unfolding(crate::specs::File::name_of))]
-fn name_of(member: &Value) -> &str
-    ensures { result.now ≡ name_of (view member.now) }
+#[tactic(auto, unfolding(crate::specs::File::name_from))]
+fn name_from(member: &Value) -> &str
+    ensures { result.now ≡ name_from (view member.now) }
 {
     match member.get("name") {
         Some(Value::String(name)) => name.as_str(),
@@ -49,11 +49,11 @@ fn name_of(member: &Value) -> &str
 
 #[tactic(auto, using(crate::proofs::Views::map_map))]
 pub(crate) fn names_of(alloc: Global, members: &[Value]) -> Result<Vec<String>, AllocError>
-    ensures { IfOk result (λ v. map string_bytes v.items ≡ map name_of (map view members.now)) }
+    ensures { IfOk result (λ v. map string_bytes v.items ≡ map name_from (map view members.now)) }
 {
     let mut names = Vec::with_capacity(alloc, members.len())?;
     for member in members {
-        names.push(String::from_str(alloc, name_of(member))?)?;
+        names.push(String::from_str(alloc, name_from(member))?)?;
     }
     Ok(names)
 }

@@ -3,9 +3,9 @@ ghost use Rattle.std.specs.Prelude.{◌≡◌, option_map, map, is_some, not, �
 ghost use Rattle.std.specs.List.{list_all};
 ghost use Rattle.toml.specs.Data.{as_integer};
 ghost use Rattle.toml.specs.View.{view, table_view};
-ghost use Rattle.council_file.specs.File.{elements_at, are_quotas, has, lacks_quota, quota_from};
+ghost use Rattle.council_file.specs.File.{elements_at, are_quotas, has_key, lacks_quota, quota_from};
 
-use crate::tree::{elements_at, has, value_at};
+use crate::tree::{elements_at, has_key, value_at};
 use council_game::limits;
 use toml::{Table, Value};
 
@@ -29,10 +29,10 @@ fn are_quotas(values: &[Value]) -> bool
 }
 
 pub(crate) fn has_bad_quotas(table: &Table) -> bool
-    ensures { result ≡ (has (codes "quotas") (table_view table.now) &&
+    ensures { result ≡ (has_key (codes "quotas") (table_view table.now) &&
         not (are_quotas (elements_at (codes "quotas") (table_view table.now)))) }
 {
-    has(table, "quotas") && !are_quotas(elements_at(table, "quotas"))
+    has_key(table, "quotas") && !are_quotas(elements_at(table, "quotas"))
 }
 
 pub(crate) fn lacks_quota(table: &Table) -> bool
@@ -40,7 +40,7 @@ pub(crate) fn lacks_quota(table: &Table) -> bool
 {
     match value_at(table, "quota") {
         Some(value) => !is_integer(value),
-        None => !has(table, "quotas"),
+        None => !has_key(table, "quotas"),
     }
 }
 

@@ -2,7 +2,7 @@
 ghost use Rattle.std.specs.Prelude.{◌≡◌, ◌≤◌, ◌<◌, ℕ, List, IfOk, IfErr, MatchResult, Ok};
 ghost use Rattle.std.specs.Io.KnownBytes.{IsAtEnd};
 ghost use Rattle.council_file.specs.File.{game_of};
-ghost use Rattle.council_file.specs.Reads.{Gave, FailsSo};
+ghost use Rattle.council_file.specs.Reads.{Gave, FailsWith};
 ghost use Rattle.council_file.specs.Inner.Reads.{GrewBy, IsStop};
 
 use crate::parse_game;
@@ -57,7 +57,7 @@ pub fn read_game<R: Read>(alloc: Global, reader: &mut R) -> Result<Game, GameFau
     ensures { MatchResult result
         (λ game. (bytes : List ℕ) × Gave (R.remaining reader.old) (R.remaining reader.new) bytes
         × (game_of bytes ≡ Ok game))
-        (λ fault. FailsSo (R.remaining reader.old) (R.remaining reader.new) fault) }
+        (λ fault. FailsWith (R.remaining reader.old) (R.remaining reader.new) fault) }
 {
     match read_bytes(alloc, reader) {
         Ok(bytes) => parse_game(alloc, &bytes),

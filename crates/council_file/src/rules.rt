@@ -3,13 +3,13 @@ ghost use Rattle.std.specs.Prelude.{◌≡◌, map, is_some, [], IfOk, ◌∷◌
 ghost use Rattle.std.specs.List.{list_any, range_with_len};
 ghost use Rattle.toml.specs.Data.{get};
 ghost use Rattle.toml.specs.View.{table_view};
-ghost use Rattle.council_file.specs.File.{member_list, breaks_rules, only_rule, rule_at, rules_of};
+ghost use Rattle.council_file.specs.File.{member_list, breaks_rules, only_rule, rule_from, rules_of};
 ghost use Rattle.council_game.specs.Rules.{rule_view, rule_views};
 
 use crate::member_weights::{only_weights, weights_under};
 use crate::members::member_list;
 use crate::quotas::{has_bad_quotas, quota_at, quota_from};
-use crate::tree::{elements_at, has, some_has, value_at};
+use crate::tree::{elements_at, has_key, some_member_has, value_at};
 use council_game::Rule;
 use std::alloc::{AllocError, Global};
 use toml::Table;
@@ -18,16 +18,16 @@ use toml::Table;
 fn some_member_has(table: &Table, key: &str) -> bool
     ensures { result ≡ list_any (λ d. is_some (get key.now d)) (member_list (table_view table.now)) }
 {
-    some_has(member_list(table), key)
+    some_member_has(member_list(table), key)
 }
 
 pub(crate) fn breaks_rules(table: &Table) -> bool
     ensures { result ≡ breaks_rules (table_view table.now) }
 {
-    (has(table, "quota") && has(table, "quotas"))
+    (has_key(table, "quota") && has_key(table, "quotas"))
         || has_bad_quotas(table)
-        || (has(table, "quota") && some_member_has(table, "weights"))
-        || (has(table, "quotas") && some_member_has(table, "weight"))
+        || (has_key(table, "quota") && some_member_has(table, "weights"))
+        || (has_key(table, "quotas") && some_member_has(table, "weight"))
 }
 
 #[tactic(auto, using(crate::proofs::Views::map_map), unfolding(crate::specs::File::only_rule))]
@@ -39,9 +39,9 @@ fn only_rule(alloc: Global, table: &Table) -> Result<Rule, AllocError>
     Ok(Rule { quota, weights })
 }
 
-#[tactic(auto, using(crate::proofs::Views::map_map), unfolding(crate::specs::File::rule_at))]
-fn rule_at(alloc: Global, table: &Table, n: usize, r: usize) -> Result<Rule, AllocError>
-    ensures { IfOk result (λ rule. rule_view rule ≡ rule_at (table_view table.now) n r) }
+#[tactic(auto, using(crate::proofs::Views::map_map), unfolding(crate::specs::File::rule_from))]
+fn rule_from(alloc: Global, table: &Table, n: usize, r: usize) -> Result<Rule, AllocError>
+    ensures { IfOk result (λ rule. rule_view rule ≡ rule_from (table_view table.now) n r) }
 {
     let quota = quota_at(elements_at(table, "quotas"), r);
     let weights = weights_under(alloc, member_list(table), n, r)?;
@@ -49,11 +49,11 @@ fn rule_at(alloc: Global, table: &Table, n: usize, r: usize) -> Result<Rule, All
 }
 
 fn rules_at(alloc: Global, table: &Table, n: usize) -> Result<Vec<Rule>, AllocError>
-    ensures { IfOk result (λ v. rule_views v.items ≡ map (rule_at (table_view table.now) n) (range_with_len 0 n)) }
+    ensures { IfOk result (λ v. rule_views v.items ≡ map (rule_from (table_view table.now) n) (range_with_len 0 n)) }
 {
     let mut rules = Vec::with_capacity(alloc, n)?;
     for r in 0..n {
-        rules.push(rule_at(alloc, table, n, r)?)?;
+        rules.push(rule_from(alloc, table, n, r)?)?;
     }
     Ok(rules)
 }
@@ -70,7 +70,7 @@ fn lone_rule(alloc: Global, table: &Table) -> Result<Vec<Rule>, AllocError>
 pub(crate) fn rules_of(alloc: Global, table: &Table) -> Result<Vec<Rule>, AllocError>
     ensures { IfOk result (λ v. rule_views v.items ≡ rules_of (table_view table.now)) }
 {
-    if has(table, "quota") {
+    if has_key(table, "quota") {
         lone_rule(alloc, table)
     } else {
         rules_at(alloc, table, elements_at(table, "quotas").len())

@@ -4,7 +4,7 @@ ghost use Rattle.std.specs.List.{list_any};
 ghost use Rattle.toml.specs.Data.{get_member, get};
 ghost use Rattle.toml.specs.View.{view, table_view};
 ghost use Rattle.council_game.specs.Fault.{Gives};
-ghost use Rattle.council_file.specs.File.{tree_of, elements_at, elements_of, has};
+ghost use Rattle.council_file.specs.File.{tree_of, elements_at, elements_of, has_key};
 
 use council_game::GameFault;
 use std::alloc::Global;
@@ -34,8 +34,8 @@ pub(crate) fn value_at<'a>(table: &'a Table, key: &str) -> Option<&'a Value>
 }
 
 /// The key is there.
-pub(crate) fn has(table: &Table, key: &str) -> bool
-    ensures { result ≡ has key.now (table_view table.now) }
+pub(crate) fn has_key(table: &Table, key: &str) -> bool
+    ensures { result ≡ has_key key.now (table_view table.now) }
 {
     value_at(table, key).is_some()
 }
@@ -67,7 +67,7 @@ fn member_has(member: &Value, key: &str) -> bool
 }
 
 /// Some member has the key.
-pub(crate) fn some_has(members: &[Value], key: &str) -> bool
+pub(crate) fn some_member_has(members: &[Value], key: &str) -> bool
     ensures { result ≡ list_any (λ v. is_some (get key.now (view v))) members.now }
 {
     members.iter().any(|member| member_has(member, key))

@@ -13,9 +13,9 @@ use Rattle.council_game.proofs.Games.{votes-are}
 use Rattle.council_game.proofs.Meanings.{weighs-its-members}
 use Rattle.council_game.proofs.Weights.{weight-le}
 use Rattle.power_index.proofs.Sums.{length-filter-le}
-use Rattle.council_report.specs.Lines.{tabbed, names_of}
-use Rattle.council_report.specs.Inner.Shared.{places_before, name_at, fields_of, weights_under, weight_of_places, NoneFrom, SameBefore}
-use Rattle.council_report.proofs.Bounds.{tabbed-fits, each-field, name-fits}
+use Rattle.council_report.specs.Lines.{with_tab, names_of}
+use Rattle.council_report.specs.Inner.Shared.{places_before, name_at, fields_of, weights_under, weight_of_places, HasNoneFrom, SameBefore}
+use Rattle.council_report.proofs.Bounds.{with_tab-fits, each-field, name-fits}
 
 filter-more : (p : ℕ → Bool) (k : ℕ) → filter p (range_with_len 0 (k + 1)) ≡ filter p (range_with_len 0 k) ++ cond (p k) (k ∷ []) []
 filter-more p k =
@@ -52,7 +52,7 @@ before-same n a b (suc k) same =
     ∙ sym (before-more n b k) ∙ ap (places_before n b) (sym next)
 
 -- m places more, none of them in
-before-further : (n c k m : ℕ) → NoneFrom n k c → k + m ≤ n → places_before n c (k + m) ≡ places_before n c k
+before-further : (n c k m : ℕ) → HasNoneFrom n k c → k + m ≤ n → places_before n c (k + m) ≡ places_before n c k
 before-further n c k zero none le = ap (places_before n c) (let e : k + zero ≡ k = omega arith in e)
 before-further n c k (suc m) none le =
     let next : k + suc m ≡ k + m + 1 = omega arith in
@@ -60,7 +60,7 @@ before-further n c k (suc m) none le =
     ∙ before-further n c k m none (omega (arith, le))
 
 -- those before k are all
-pub before-all : (n c k : ℕ) → k ≤ n → NoneFrom n k c → places_before n c n ≡ places_before n c k
+pub before-all : (n c k : ℕ) → k ≤ n → HasNoneFrom n k c → places_before n c n ≡ places_before n c k
 before-all n c k le none =
     let m = n - k in
     let e : k + m ≡ n = omega (arith, le) in
@@ -92,18 +92,18 @@ before-few n c k = let less = length-filter-le (λ p. has n p c) (range_with_len
 pub fields-append : (g : GameView) (ps qs : List ℕ) → fields_of g (ps ++ qs) ≡ fields_of g ps ++ fields_of g qs
 unfolding fields_of
 fields-append g ps qs =
-    ap (flat_map tabbed) (map-append (λ p. name_at g p) ps qs)
-    ∙ flat_map-append tabbed (map (λ p. name_at g p) ps) (map (λ p. name_at g p) qs)
+    ap (flat_map with_tab) (map-append (λ p. name_at g p) ps qs)
+    ∙ flat_map-append with_tab (map (λ p. name_at g p) ps) (map (λ p. name_at g p) qs)
 
-pub fields-more : (g : GameView) (ps : List ℕ) (p : ℕ) → fields_of g (ps ++ p ∷ []) ≡ fields_of g ps ++ tabbed (name_at g p)
+pub fields-more : (g : GameView) (ps : List ℕ) (p : ℕ) → fields_of g (ps ++ p ∷ []) ≡ fields_of g ps ++ with_tab (name_at g p)
 unfolding fields_of
-fields-more g ps p = fields-append g ps (p ∷ []) ∙ ap (λ (t : List ℕ). fields_of g ps ++ t) (append-nil (tabbed (name_at g p)))
+fields-more g ps p = fields-append g ps (p ∷ []) ∙ ap (λ (t : List ℕ). fields_of g ps ++ t) (append-nil (with_tab (name_at g p)))
 
 pub fields-none : (g : GameView) → fields_of g [] ≡ []
 unfolding fields_of
 fields-none g = refl
 
-pub fields-all : (g : GameView) (c : ℕ) → fields_of g (places_before (length g.names) c (length g.names)) ≡ flat_map tabbed (names_of g c)
+pub fields-all : (g : GameView) (c : ℕ) → fields_of g (places_before (length g.names) c (length g.names)) ≡ flat_map with_tab (names_of g c)
 unfolding fields_of places_before
 fields-all g c = refl
 
@@ -112,7 +112,7 @@ unfolding fields_of
 fields-fit g game c k few =
     let ps : List ℕ = places_before (length g.names) c k in
     let name : ℕ → List ℕ = λ p. name_at g p in
-    let fit = tabbed-fits (map name ps) (each-field name (λ p. name-fits g game _) ps) in
+    let fit = with_tab-fits (map name ps) (each-field name (λ p. name-fits g game _) ps) in
     omega (arith, fit, length-map ps name, before-few (length g.names) c k, few)
 
 -- ---- the weights

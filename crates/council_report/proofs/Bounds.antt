@@ -19,25 +19,25 @@ use Rattle.power_index.proofs.Members.{few-members, size-le}
 use Rattle.power_index.proofs.Small.{deegan_packel-wide, public_good-wide}
 use Rattle.council_report.specs.declared.shown.Shown.{Shown}
 use Rattle.council_report.specs.Report.{coalition_lines, size_lines, member_lines, lines}
-use Rattle.council_report.specs.Lines.{tabbed, line, slashed, name_of, names_of, weights_of_coalition, weights_of_member, member_fields, index_fields, coalition_line, size_line, member_line}
+use Rattle.council_report.specs.Lines.{with_tab, line, with_slashes, name_of, names_of, weights_of_coalition, weights_of_member, member_fields, index_fields, coalition_line, size_line, member_line}
 
 -- a field of a line
 abbrev pub IsField : List ℕ → Type 0
 IsField field = length field ≤ 84
 
-pub tabbed-fits : (fields : List (List ℕ)) → AllByRecursion IsField fields → length (flat_map tabbed fields) ≤ length fields * 85
-tabbed-fits [] h = omega arith
-tabbed-fits (f ∷ fs) h =
+pub with_tab-fits : (fields : List (List ℕ)) → AllByRecursion IsField fields → length (flat_map with_tab fields) ≤ length fields * 85
+with_tab-fits [] h = omega arith
+with_tab-fits (f ∷ fs) h =
     let first : length f ≤ 84 = h.0 in
-    let rest = tabbed-fits fs h.1 in
-    omega (arith, first, rest, length-append (tabbed f) (flat_map tabbed fs))
+    let rest = with_tab-fits fs h.1 in
+    omega (arith, first, rest, length-append (with_tab f) (flat_map with_tab fs))
 
 -- a line of at most 42 fields
 line-fits : (word : List ℕ) (fields : List (List ℕ)) → length word ≤ 9 → length fields ≤ 42 → AllByRecursion IsField fields → length (line word fields) ≤ 4096
 line-fits word fields short few h =
-    let fit = tabbed-fits fields h in
-    let whole : length (line word fields) ≡ length (word ++ flat_map tabbed fields) + 1 = length-append (word ++ flat_map tabbed fields) (10 ∷ []) in
-    omega (arith, fit, short, few, whole, length-append word (flat_map tabbed fields))
+    let fit = with_tab-fits fields h in
+    let whole : length (line word fields) ≡ length (word ++ flat_map with_tab fields) + 1 = length-append (word ++ flat_map with_tab fields) (10 ∷ []) in
+    omega (arith, fit, short, few, whole, length-append word (flat_map with_tab fields))
 
 -- ---- fields of numbers
 number-fits : (n : ℕ) → n < 2 ^ 64 → length (decimal n) ≤ 20
@@ -46,21 +46,21 @@ number-fits n h = length-decimal-le 20 n (omega arith) (omega arith) h
 number-field : (n : ℕ) → n < 2 ^ 64 → IsField (decimal n)
 number-field n h = let fit = number-fits n h in omega (arith, fit)
 
-slashed-length : (values : List ℕ) → AllByRecursion (λ v. v < 2 ^ 64) values → length (slashed values) ≤ length values * 21
-slashed-length [] h = omega arith
-slashed-length (v ∷ []) h =
+length-with_slashes : (values : List ℕ) → AllByRecursion (λ v. v < 2 ^ 64) values → length (with_slashes values) ≤ length values * 21
+length-with_slashes [] h = omega arith
+length-with_slashes (v ∷ []) h =
     let first = number-fits v h.0 in
     let one = ap (λ (t : List ℕ). length t) (one-number (codes "/") v) in
     omega (arith, first, one)
-slashed-length (v ∷ w ∷ vs) h =
+length-with_slashes (v ∷ w ∷ vs) h =
     let first = number-fits v h.0 in
-    let rest = slashed-length (w ∷ vs) h.1 in
+    let rest = length-with_slashes (w ∷ vs) h.1 in
     let more = ap (λ (t : List ℕ). length t) (next-numbers (codes "/") v w vs) in
-    omega (arith, first, rest, more, length-append (decimal v) (codes "/" ++ slashed (w ∷ vs)), length-append (codes "/") (slashed (w ∷ vs)))
+    omega (arith, first, rest, more, length-append (decimal v) (codes "/" ++ with_slashes (w ∷ vs)), length-append (codes "/") (with_slashes (w ∷ vs)))
 
 -- a value for each of 4 rules at most
-slashed-fits : (values : List ℕ) → length values ≤ 4 → AllByRecursion (λ v. v < 2 ^ 64) values → IsField (slashed values)
-slashed-fits values few h = let fit = slashed-length values h in omega (arith, fit, few)
+with_slashes-fits : (values : List ℕ) → length values ≤ 4 → AllByRecursion (λ v. v < 2 ^ 64) values → IsField (with_slashes values)
+with_slashes-fits values few h = let fit = length-with_slashes values h in omega (arith, fit, few)
 
 fraction-fits : (top bottom : ℕ) → top < 10 ^ 28 → bottom < 10 ^ 28 → IsField (decimal top ++ 47 ∷ decimal bottom)
 fraction-fits top bottom a b =
@@ -98,10 +98,10 @@ coalition-fits g game c =
     let forty = few-members g game in
     let rules = length-map (votes_of g).rules (λ r. weight r.weights c) in
     let names = length-map (places_of (length g.names) c) (λ p. name_of g (member_at g.ranks p)) in
-    line-fits (codes "coalition") (decimal (size (length g.names) c) ∷ slashed (weights_of_coalition g c) ∷ names_of g c) (omega arith) (omega (arith, names, some, forty)) (
+    line-fits (codes "coalition") (decimal (size (length g.names) c) ∷ with_slashes (weights_of_coalition g c) ∷ names_of g c) (omega arith) (omega (arith, names, some, forty)) (
       number-field (size (length g.names) c) (omega (arith, some, forty)),
       (
-        slashed-fits (weights_of_coalition g c) (omega (arith, rules, few)) (weighed-values (length g.names) c (votes_of g).rules each),
+        with_slashes-fits (weights_of_coalition g c) (omega (arith, rules, few)) (weighed-values (length g.names) c (votes_of g).rules each),
         each-field (λ p. name_of g (member_at g.ranks p)) (λ p. name-fits g game (member_at g.ranks p)) (places_of (length g.names) c),
       ),
     )
@@ -135,7 +135,7 @@ member-fits g game list some few i lt =
     let deegan = deegan_packel-wide g list i game some few in
     let public = public_good-wide g list i game few in
     let rules = length-map g.rules (λ r. get_or r.weights i 0) in
-    let weights = slashed-fits (weights_of_member g i) (omega (arith, rules, game.few_rules)) (own-values i (length g.names) g.rules lt (light-weights g game)) in
+    let weights = with_slashes-fits (weights_of_member g i) (omega (arith, rules, game.few_rules)) (own-values i (length g.names) g.rules lt (light-weights g game)) in
     let first = fraction-fits (lowest_terms (deegan_packel g list i)).0 (lowest_terms (deegan_packel g list i)).1 deegan.0 deegan.1 in
     let second = fraction-fits (lowest_terms (public_good g list i)).0 (lowest_terms (public_good g list i)).1 public.0 public.1 in
     let indices : AllByRecursion IsField (index_fields g list i) = (first, (omega arith, (second, (omega arith, tt)))) in

@@ -8,7 +8,7 @@ use Rattle.std.proofs.Math.Nat.{pow-suc}
 use Rattle.std.proofs.Math.Pow.{pow_mono}
 use Rattle.council_game.specs.Votes.{has}
 use Rattle.council_game.proofs.Digits.{lowest-place}
-use Rattle.council_report.specs.Inner.Shared.{NoneFrom, SameBefore}
+use Rattle.council_report.specs.Inner.Shared.{HasNoneFrom, SameBefore}
 
 -- equal digits
 same-digit : (a b i : ℕ) → bit_xor a b / 2 ^ i % 2 ≡ 0 → a / 2 ^ i % 2 ≡ b / 2 ^ i % 2
@@ -54,7 +54,7 @@ differs n a b few below_a below_b =
     }
 
 -- behind its last member none is in
-pub none-behind : (n c : ℕ) → n ≤ 40 → 0 < c → c < 2 ^ n → (trailing_zeros w64 c ≤ n) × NoneFrom n (n - trailing_zeros w64 c) c
+pub none-behind : (n c : ℕ) → n ≤ 40 → 0 < c → c < 2 ^ n → (trailing_zeros w64 c ≤ n) × HasNoneFrom n (n - trailing_zeros w64 c) c
 unfolding has
 none-behind n c few pos below =
     let up : 2 ^ n ≤ 2 ^ 40 = pow_mono few in

@@ -12,7 +12,7 @@ use Rattle.power_index.proofs.Members.{few-members}
 use Rattle.council_report.specs.declared.seat.Seat.{Seat}
 use Rattle.council_report.specs.declared.mark.Mark.{Mark}
 use Rattle.council_report.specs.declared.shared.SharedLine.{SharedLine}
-use Rattle.council_report.specs.Lines.{tabbed, names_of}
+use Rattle.council_report.specs.Lines.{with_tab, names_of}
 use Rattle.council_report.specs.Inner.Shared.{places_before, name_at, fields_of, weight_of_places, IsSeat, AreSeats, IsMark, IsLine, IsWholeLine, SameBefore}
 use Rattle.council_report.proofs.Beginnings.{before-none, before-in, before-out, before-same, before-front, before-all, fields-none, fields-append, fields-more, fields-all, fields-fit, weights-none, weights-more, weights-all, weights-light}
 
@@ -90,7 +90,7 @@ mark-more g ps p mark next seat is seat-is long four sums = record {
   names =
       let field = ap (λ (t : List ℕ). length t) seat-is.field in
       let whole = ap (λ (t : List ℕ). length t) (fields-more g ps p) in
-      omega (arith, long, is.names, field, whole, length-append (fields_of g ps) (tabbed (name_at g p)));
+      omega (arith, long, is.names, field, whole, length-append (fields_of g ps) (with_tab (name_at g p)));
   long = four;
   weights = λ r lt. omega (arith, sums r lt, is.weights r lt, seat-is.weights r lt, weights-more g r ps p);
 }
@@ -140,7 +140,7 @@ added-short g line seat is more in' seat-is =
     let field = ap (λ (t : List ℕ). length t) seat-is.field in
     let names = ap (λ (t : List ℕ). length t) is.names in
     let whole = ap (λ (t : List ℕ). length t) (fields-more g ps line.end) in
-    omega (arith, fit, next, field, names, whole, length-append (fields_of g ps) (tabbed (name_at g line.end)))
+    omega (arith, fit, next, field, names, whole, length-append (fields_of g ps) (with_tab (name_at g line.end)))
 
 -- ---- the seats, one more
 pub seats-more : (g : GameView) (k : ℕ) (seats : List Seat) (seat : Seat) → AreSeats g k seats → IsSeat g k seat → AreSeats g (k + 1) (seats ++ seat ∷ [])
@@ -156,7 +156,7 @@ seats-more g k seats seat are is = record {
 }
 
 -- ---- the whole line
-pub whole-names : (g : GameView) (c : ℕ) (line : SharedLine) → IsWholeLine g c line → line.names.items ≡ flat_map tabbed (names_of g c)
+pub whole-names : (g : GameView) (c : ℕ) (line : SharedLine) → IsWholeLine g c line → line.names.items ≡ flat_map with_tab (names_of g c)
 whole-names g c line w =
     let n : ℕ = length g.names in
     w.is.names ∙ ap (λ (x : ℕ). fields_of g (places_before n x line.end)) w.coalition

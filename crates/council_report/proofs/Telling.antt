@@ -3,16 +3,16 @@ use Rattle.std.proofs.Common.{◌≡◌, ◌++◌, ℕ, List, [], length, Option
 use Rattle.std.specs.Io.KnownBytes.{Appends}
 use Rattle.std.proofs.KnownBytes.{Appends-trans}
 use Rattle.std.proofs.lemmas.List.{append-nil}
-use Rattle.council_report.specs.Inner.Told.{Told, told, Tells, Stopped, StoppedIn}
+use Rattle.council_report.specs.Inner.Told.{Progress, progress_of, Tells, HasStopped, StopsIn}
 use Rattle.council_report.specs.declared.output.Block.{Block}
 
-pub tells-then : (a b c : Told) (x y : List ℕ) → Tells a b x → Tells b c y → Tells a c (x ++ y)
+pub tells-then : (a b c : Progress) (x y : List ℕ) → Tells a b x → Tells b c y → Tells a c (x ++ y)
 tells-then a b c x y first next = record {
   bytes = Appends-trans a.bytes b.bytes c.bytes x y first.bytes next.bytes;
   count = omega (arith, first.count, next.count, length-append x y);
 }
 
-pub tells-same : (a b c : Told) (x : List ℕ) → Tells a b x → Tells b c [] → Tells a c x
+pub tells-same : (a b c : Progress) (x : List ℕ) → Tells a b x → Tells b c [] → Tells a c x
 tells-same a b c x first next = subst (Tells a c) (append-nil x) (tells-then a b c x [] first next)
 
 appends-block : (contents : Option (List ℕ)) (old new text : List ℕ) → new ≡ old ++ text → Appends (option_map (λ held. held ++ old) contents) (option_map (λ held. held ++ new) contents) text
@@ -20,7 +20,7 @@ appends-block None old new text more = tt
 appends-block (Some held) old new text more = ap (λ (t : List ℕ). held ++ t) more ∙ sym (append_assoc held old text)
 
 -- a text at the end of the block
-pub tells-block : (contents : Option (List ℕ)) (a b : Block) (text : List ℕ) → b.written ≡ a.written → b.bytes.items ≡ a.bytes.items ++ text → Tells (told contents a) (told contents b) text
+pub tells-block : (contents : Option (List ℕ)) (a b : Block) (text : List ℕ) → b.written ≡ a.written → b.bytes.items ≡ a.bytes.items ++ text → Tells (progress_of contents a) (progress_of contents b) text
 tells-block contents a b text same more = record {
   bytes = appends-block contents a.bytes.items b.bytes.items text more;
   count =
@@ -28,7 +28,7 @@ tells-block contents a b text same more = record {
       omega (arith, same, long, length-append a.bytes.items text);
 }
 
-pub stopped-first : (a : Told) (x y : List ℕ) (held : Option (List ℕ)) (n : ℕ) → StoppedIn a x held n → StoppedIn a (x ++ y) held n
+pub stopped-first : (a : Progress) (x y : List ℕ) (held : Option (List ℕ)) (n : ℕ) → StopsIn a x held n → StopsIn a (x ++ y) held n
 stopped-first a x y held n s = record {
   front = s.front;
   rest = s.rest ++ y;
@@ -38,7 +38,7 @@ stopped-first a x y held n s = record {
   stopped = s.stopped;
 }
 
-pub stopped-next : (a b : Told) (x y : List ℕ) (held : Option (List ℕ)) (n : ℕ) → Tells a b x → StoppedIn b y held n → StoppedIn a (x ++ y) held n
+pub stopped-next : (a b : Progress) (x y : List ℕ) (held : Option (List ℕ)) (n : ℕ) → Tells a b x → StopsIn b y held n → StopsIn a (x ++ y) held n
 stopped-next a b x y held n first s = record {
   front = x ++ s.front;
   rest = s.rest;
@@ -49,10 +49,10 @@ stopped-next a b x y held n first s = record {
 }
 
 -- it stopped once all of the text was told
-pub stopped-after : (a b : Told) (x : List ℕ) (held : Option (List ℕ)) (n : ℕ) → Tells a b x → Stopped b held n → StoppedIn a x held n
+pub stopped-after : (a b : Progress) (x : List ℕ) (held : Option (List ℕ)) (n : ℕ) → Tells a b x → HasStopped b held n → StopsIn a x held n
 stopped-after a b x held n tells stopped = record { front = x; rest = []; at = b; whole = append-nil x; tells = tells; stopped = stopped }
 
-pub tells-nothing : (contents : Option (List ℕ)) (a : Block) → Tells (told contents a) (told contents a) []
+pub tells-nothing : (contents : Option (List ℕ)) (a : Block) → Tells (progress_of contents a) (progress_of contents a) []
 tells-nothing contents a = tells-block contents a a [] refl (sym (append-nil a.bytes.items))
 
 pub err-map : {T E : Type 0} {P Q : E → Type 0} (r : Result T E) → ((e : E) → P e → Q e) → IfErr r P → IfErr r Q

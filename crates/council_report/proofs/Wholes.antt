@@ -4,7 +4,7 @@ use Rattle.std.specs.Io.KnownBytes.{Appends}
 use Rattle.std.proofs.KnownBytes.{Appends-trans}
 use Rattle.std.proofs.Math.Seq.{take-append-add}
 use Rattle.std.proofs.lemmas.List.{take-append-le}
-use Rattle.council_report.specs.Inner.Told.{told, HoldsBut, StoppedIn}
+use Rattle.council_report.specs.Inner.Told.{progress_of, HoldsBut, StopsIn}
 use Rattle.council_report.specs.declared.output.Block.{Block}
 
 -- the block held the heading, and the writer what it held before
@@ -12,10 +12,10 @@ appends-heading : (contents : Option (List ℕ)) (heading : List ℕ) → Append
 appends-heading None heading = tt
 appends-heading (Some held) heading = refl
 
-pub appends-whole : (before after : Option (List ℕ)) (block : Block) (heading lines : List ℕ) → block.bytes.items ≡ heading → Appends (told before block).bytes after lines → Appends before after (heading ++ lines)
+pub appends-whole : (before after : Option (List ℕ)) (block : Block) (heading lines : List ℕ) → block.bytes.items ≡ heading → Appends (progress_of before block).bytes after lines → Appends before after (heading ++ lines)
 appends-whole before after block heading lines is rest =
-    let first : Appends before (told before block).bytes heading = subst (λ (t : List ℕ). Appends before (option_map (λ held. held ++ t) before) heading) (sym is) (appends-heading before heading) in
-    Appends-trans before (told before block).bytes after heading lines first rest
+    let first : Appends before (progress_of before block).bytes heading = subst (λ (t : List ℕ). Appends before (option_map (λ held. held ++ t) before) heading) (sym is) (appends-heading before heading) in
+    Appends-trans before (progress_of before block).bytes after heading lines first rest
 
 -- the writer holds the first n bytes of the heading and the front
 held-part : (w heading front t h : List ℕ) (n k : ℕ) → t ≡ (w ++ heading) ++ front → n ≤ length heading + length front → k ≡ length heading + length front - n → h ≡ take (length t - k) t → h ≡ w ++ take n (heading ++ front)
@@ -31,7 +31,7 @@ appends-part (Some w) None held heading front n k tells within but holds = absur
 appends-part (Some w) (Some t) None heading front n k tells within but holds = absurd holds
 appends-part (Some w) (Some t) (Some h) heading front n k tells within but holds = held-part w heading front t h n k tells within but holds
 
-pub stopped-whole : (before held : Option (List ℕ)) (block : Block) (heading lines : List ℕ) (n : ℕ) → block.written ≡ 0 → block.bytes.items ≡ heading → StoppedIn (told before block) lines held n → (n ≤ length (heading ++ lines)) × Appends before held (take n (heading ++ lines))
+pub stopped-whole : (before held : Option (List ℕ)) (block : Block) (heading lines : List ℕ) (n : ℕ) → block.written ≡ 0 → block.bytes.items ≡ heading → StopsIn (progress_of before block) lines held n → (n ≤ length (heading ++ lines)) × Appends before held (take n (heading ++ lines))
 stopped-whole before held block heading lines n none is s =
     let long = ap (λ (t : List ℕ). length t) is in
     let count : s.at.count ≡ length heading + length s.front = omega (arith, s.tells.count, none, long) in

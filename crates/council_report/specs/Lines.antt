@@ -12,16 +12,16 @@ use Rattle.council_file.specs.Joined.{joined_numbers}
 use Rattle.council_file.specs.Notation.{notation}
 
 -- a field after a TAB
-abbrev pub tabbed : List ℕ → List ℕ
-tabbed field = 9 ∷ field
+abbrev pub with_tab : List ℕ → List ℕ
+with_tab field = 9 ∷ field
 
 -- a word, each field after a TAB, and LF
 abbrev pub line : List ℕ → List (List ℕ) → List ℕ
-line word fields = word ++ flat_map tabbed fields ++ 10 ∷ []
+line word fields = word ++ flat_map with_tab fields ++ 10 ∷ []
 
 -- a value for each rule, in decimal, joined by `/`
-abbrev pub slashed : List ℕ → List ℕ
-slashed values = joined_numbers (codes "/") values
+abbrev pub with_slashes : List ℕ → List ℕ
+with_slashes values = joined_numbers (codes "/") values
 
 abbrev pub quotas : GameView → List ℕ
 quotas g = map (λ r. r.quota) g.rules
@@ -51,10 +51,10 @@ unfoldable pub members_line : GameView → List ℕ
 members_line g = line (codes "members") (decimal (length g.names) ∷ [])
 
 unfoldable pub quota_line : GameView → List ℕ
-quota_line g = line (codes "quota") (slashed (quotas g) ∷ [])
+quota_line g = line (codes "quota") (with_slashes (quotas g) ∷ [])
 
 unfoldable pub total_line : GameView → List ℕ
-total_line g = line (codes "total") (slashed (totals g) ∷ [])
+total_line g = line (codes "total") (with_slashes (totals g) ∷ [])
 
 -- the notation of a rule
 unfoldable pub notation_line : RuleView → List ℕ
@@ -64,7 +64,7 @@ unfoldable pub minimal_line : List ℕ → List ℕ
 minimal_line list = line (codes "minimal") (decimal (length list) ∷ [])
 
 unfoldable pub coalition_line : GameView → ℕ → List ℕ
-coalition_line g c = line (codes "coalition") (decimal (size (length g.names) c) ∷ slashed (weights_of_coalition g c) ∷ names_of g c)
+coalition_line g c = line (codes "coalition") (decimal (size (length g.names) c) ∷ with_slashes (weights_of_coalition g c) ∷ names_of g c)
 
 -- size s, how many of the coalitions have it, and for each member how many of those contain it; no line where none has it
 unfoldable pub size_line : GameView → List ℕ → ℕ → List ℕ
@@ -81,7 +81,7 @@ decimals_text p = decimals (lowest_terms p)
 
 -- member i: name, weights, how many of the coalitions contain it
 abbrev pub member_fields : GameView → List ℕ → ℕ → List (List ℕ)
-member_fields g list i = name_of g i ∷ slashed (weights_of_member g i) ∷ decimal (count_of_member g i list) ∷ []
+member_fields g list i = name_of g i ∷ with_slashes (weights_of_member g i) ∷ decimal (count_of_member g i list) ∷ []
 
 -- the two indices of member i over the coalitions
 abbrev pub index_fields : GameView → List ℕ → ℕ → List (List ℕ)

@@ -4,9 +4,9 @@ ghost use Rattle.std.specs.List.{flat_map};
 ghost use Rattle.power_index.specs.Counting.{members, count_of_member, count_of_member_size};
 ghost use Rattle.power_index.specs.Indices.{deegan_packel, public_good};
 ghost use Rattle.power_index.specs.Fractions.{pair_of, decimals};
-ghost use Rattle.council_file.specs.Room.{Takes};
+ghost use Rattle.council_file.specs.Room.{MakesRoomFor};
 ghost use Rattle.council_report.specs.Inner.Counted.{IsCounted};
-ghost use Rattle.council_report.specs.Lines.{tabbed, slashed, weights_of_member, size_line, member_line, member_fields, index_fields};
+ghost use Rattle.council_report.specs.Lines.{with_tab, with_slashes, weights_of_member, size_line, member_line, member_fields, index_fields};
 ghost use Rattle.council_report.specs.Inner.Lines.{fraction_fields, index_text};
 
 use crate::counted::Counted;
@@ -20,8 +20,8 @@ use std::alloc::AllocError;
 /// A field `top/bottom`.
 fn push_fraction(out: &mut Vec<u8>, fraction: Fraction) -> Result<(), AllocError>
     ensures items { OnOk result (out.new.items ≡ out.old.items
-        ++ tabbed (decimal fraction.top ++ 47 ∷ decimal fraction.bottom)) }
-    ensures room { Takes out.old out.new result (tabbed (decimal fraction.top ++ 47 ∷ decimal fraction.bottom)) }
+        ++ with_tab (decimal fraction.top ++ 47 ∷ decimal fraction.bottom)) }
+    ensures room { MakesRoomFor out.old out.new result (with_tab (decimal fraction.top ++ 47 ∷ decimal fraction.bottom)) }
 {
     let mut buffer = Buffer::new();
     push_field(out, buffer.format(fraction.top).as_bytes())?;
@@ -35,7 +35,7 @@ fn push_index(out: &mut Vec<u8>, index: Fraction) -> Result<(), AllocError>
     requires at_most_one { index.top ≤ index.bottom }
     requires small { index.bottom ≤ 10 ^ 30 }
     ensures items { OnOk result (out.new.items ≡ out.old.items ++ fraction_fields (pair_of index)) }
-    ensures room { Takes out.old out.new result (fraction_fields (pair_of index)) }
+    ensures room { MakesRoomFor out.old out.new result (fraction_fields (pair_of index)) }
 {
     push_fraction(out, index)?;
     push_field(out, &index.decimals())
@@ -52,7 +52,7 @@ fn push_deegan_packel(
     requires member { member < length counted.now.game.now.names }
     ensures items { OnOk result (out.new.items ≡ out.old.items
         ++ index_text (deegan_packel counted.now.game.now list member)) }
-    ensures room { Takes out.old out.new result (index_text (deegan_packel counted.now.game.now list member)) }
+    ensures room { MakesRoomFor out.old out.new result (index_text (deegan_packel counted.now.game.now list member)) }
 {
     push_index(out, counted.counts.deegan_packel(member))
 }
@@ -68,7 +68,7 @@ fn push_public_good(
     requires member { member < length counted.now.game.now.names }
     ensures items { OnOk result (out.new.items ≡ out.old.items
         ++ index_text (public_good counted.now.game.now list member)) }
-    ensures room { Takes out.old out.new result (index_text (public_good counted.now.game.now list member)) }
+    ensures room { MakesRoomFor out.old out.new result (index_text (public_good counted.now.game.now list member)) }
 {
     push_index(out, counted.counts.public_good(member))
 }
@@ -79,10 +79,10 @@ fn push_counts(out: &mut Vec<u8>, counted: &Counted<'_>, size: usize) -> Result<
     requires list { IsCounted counted.now.game.now list counted.now.counts.now }
     requires size { size ≤ length counted.now.game.now.names }
     ensures items { OnOk result (out.new.items ≡ out.old.items
-        ++ flat_map tabbed (map (λ i. decimal
+        ++ flat_map with_tab (map (λ i. decimal
         (count_of_member_size counted.now.game.now i size list)) (members counted.now.game.now))) }
-    ensures room { Takes out.old out.new result
-        (flat_map tabbed (map (λ i. decimal (count_of_member_size counted.now.game.now i size list))
+    ensures room { MakesRoomFor out.old out.new result
+        (flat_map with_tab (map (λ i. decimal (count_of_member_size counted.now.game.now i size list))
         (members counted.now.game.now))) }
 {
     for member in 0..counted.game.members() {
@@ -102,7 +102,7 @@ pub(crate) fn push_size(
     requires list { IsCounted counted.now.game.now list counted.now.counts.now }
     requires size { size ≤ length counted.now.game.now.names }
     ensures items { OnOk result (out.new.items ≡ out.old.items ++ size_line counted.now.game.now list size) }
-    ensures room { Takes out.old out.new result (size_line counted.now.game.now list size) }
+    ensures room { MakesRoomFor out.old out.new result (size_line counted.now.game.now list size) }
 {
     let count = counted.counts.of_size(size);
     if count == 0 {
@@ -121,8 +121,8 @@ fn push_count(out: &mut Vec<u8>, counted: &Counted<'_>, member: usize) -> Result
     requires list { IsCounted counted.now.game.now list counted.now.counts.now }
     requires member { member < length counted.now.game.now.names }
     ensures items { OnOk result (out.new.items ≡ out.old.items
-        ++ tabbed (decimal (count_of_member counted.now.game.now member list))) }
-    ensures room { Takes out.old out.new result (tabbed (decimal (count_of_member counted.now.game.now member list))) }
+        ++ with_tab (decimal (count_of_member counted.now.game.now member list))) }
+    ensures room { MakesRoomFor out.old out.new result (with_tab (decimal (count_of_member counted.now.game.now member list))) }
 {
     push_number(out, counted.counts.of_member(member))
 }
@@ -131,8 +131,8 @@ fn push_count(out: &mut Vec<u8>, counted: &Counted<'_>, member: usize) -> Result
 fn push_weights(out: &mut Vec<u8>, game: &Game, member: usize) -> Result<(), AllocError>
     requires { member < length game.now.names }
     ensures items { OnOk result (out.new.items ≡ out.old.items
-        ++ tabbed (slashed (weights_of_member game.now member))) }
-    ensures room { Takes out.old out.new result (tabbed (slashed (weights_of_member game.now member))) }
+        ++ with_tab (with_slashes (weights_of_member game.now member))) }
+    ensures room { MakesRoomFor out.old out.new result (with_tab (with_slashes (weights_of_member game.now member))) }
 {
     push_values(out, game.rules(), |r| game.rule_weight(r, member))
 }
@@ -147,8 +147,8 @@ fn push_member_counts(
     requires list { IsCounted counted.now.game.now list counted.now.counts.now }
     requires member { member < length counted.now.game.now.names }
     ensures items { OnOk result (out.new.items ≡ out.old.items
-        ++ flat_map tabbed (member_fields counted.now.game.now list member)) }
-    ensures room { Takes out.old out.new result (flat_map tabbed (member_fields counted.now.game.now list member)) }
+        ++ flat_map with_tab (member_fields counted.now.game.now list member)) }
+    ensures room { MakesRoomFor out.old out.new result (flat_map with_tab (member_fields counted.now.game.now list member)) }
 {
     let game = counted.game;
     push_field(out, game.name(member).as_bytes())?;
@@ -162,8 +162,8 @@ fn push_indices(out: &mut Vec<u8>, counted: &Counted<'_>, member: usize) -> Resu
     requires list { IsCounted counted.now.game.now list counted.now.counts.now }
     requires member { member < length counted.now.game.now.names }
     ensures items { OnOk result (out.new.items ≡ out.old.items
-        ++ flat_map tabbed (index_fields counted.now.game.now list member)) }
-    ensures room { Takes out.old out.new result (flat_map tabbed (index_fields counted.now.game.now list member)) }
+        ++ flat_map with_tab (index_fields counted.now.game.now list member)) }
+    ensures room { MakesRoomFor out.old out.new result (flat_map with_tab (index_fields counted.now.game.now list member)) }
 {
     push_deegan_packel(out, counted, member)?;
     push_public_good(out, counted, member)
@@ -180,7 +180,7 @@ pub(crate) fn push_member(
     requires list { IsCounted counted.now.game.now list counted.now.counts.now }
     requires member { member < length counted.now.game.now.names }
     ensures items { OnOk result (out.new.items ≡ out.old.items ++ member_line counted.now.game.now list member) }
-    ensures room { Takes out.old out.new result (member_line counted.now.game.now list member) }
+    ensures room { MakesRoomFor out.old out.new result (member_line counted.now.game.now list member) }
 {
     out.extend_from_slice(b"member")?;
     push_member_counts(out, counted, member)?;

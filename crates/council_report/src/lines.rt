@@ -2,8 +2,8 @@
 ghost use Rattle.std.specs.Prelude.{◌≡◌, ◌++◌, ◌^◌, ◌<◌, ◌≤◌, ◌∷◌, [], ℕ, List, length, OnOk, Some};
 ghost use Rattle.std.specs.List.{flat_map};
 ghost use Rattle.std.specs.Vec.{vec_capacity};
-ghost use Rattle.council_file.specs.Room.{Takes};
-ghost use Rattle.council_report.specs.Lines.{tabbed, slashed, weights_of_coalition, title_line, members_line, quota_line, total_line, minimal_line, coalition_line, names_of};
+ghost use Rattle.council_file.specs.Room.{MakesRoomFor};
+ghost use Rattle.council_report.specs.Lines.{with_tab, with_slashes, weights_of_coalition, title_line, members_line, quota_line, total_line, minimal_line, coalition_line, names_of};
 
 use crate::text::{push_field, push_number, push_values};
 use council_game::Game;
@@ -12,7 +12,7 @@ use std::alloc::AllocError;
 /// The end of a line.
 pub(crate) fn end_line(out: &mut Vec<u8>) -> Result<(), AllocError>
     ensures items { OnOk result (out.new.items ≡ out.old.items ++ 10 ∷ []) }
-    ensures room { Takes out.old out.new result (10 ∷ []) }
+    ensures room { MakesRoomFor out.old out.new result (10 ∷ []) }
 {
     out.push(b'\n')?;
     Ok(())

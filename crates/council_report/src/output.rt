@@ -49,7 +49,7 @@ pub(crate) struct Block {
 }
 
 impl Block {
-    ghost use Rattle.council_report.specs.Inner.Told.{told, Tells, Stopped};
+    ghost use Rattle.council_report.specs.Inner.Told.{progress_of, Tells, HasStopped};
     ghost use Rattle.council_report.specs.Inner.Ready.{HasRoom, IsReady, CanCount};
 
     /// An empty block with all its room.
@@ -66,11 +66,11 @@ impl Block {
     /// Hands all bytes to the writer.
     fn drain<W: Write>(&mut self, writer: &mut W) -> Result<(), WriteFault>
         requires { CanCount self.old [] }
-        ensures ok { OnOk result (Tells (told (W.contents writer.old) self.old)
-            (told (W.contents writer.new) self.new) []) }
+        ensures ok { OnOk result (Tells (progress_of (W.contents writer.old) self.old)
+            (progress_of (W.contents writer.new) self.new) []) }
         ensures empty { OnOk result (self.new.bytes.items ≡ []) }
         ensures capacity { vec_capacity self.new.bytes ≡ vec_capacity self.old.bytes }
-        ensures err { IfErr result (λ fault. Stopped (told (W.contents writer.old) self.old)
+        ensures err { IfErr result (λ fault. HasStopped (progress_of (W.contents writer.old) self.old)
             (W.contents writer.new) fault.written) }
     {
         let before = self.written;
@@ -90,10 +90,10 @@ impl Block {
     /// Makes ready for a line: where the next might not fit, all bytes go to the writer.
     pub(crate) fn settle<W: Write>(&mut self, writer: &mut W) -> Result<(), WriteFault>
         requires { CanCount self.old [] }
-        ensures ok { OnOk result (Tells (told (W.contents writer.old) self.old)
-            (told (W.contents writer.new) self.new) []) }
+        ensures ok { OnOk result (Tells (progress_of (W.contents writer.old) self.old)
+            (progress_of (W.contents writer.new) self.new) []) }
         ensures ready { OnOk result (HasRoom self.old → IsReady self.new) }
-        ensures err { IfErr result (λ fault. Stopped (told (W.contents writer.old) self.old)
+        ensures err { IfErr result (λ fault. HasStopped (progress_of (W.contents writer.old) self.old)
             (W.contents writer.new) fault.written) }
     {
         if self.bytes.len() + LINE <= ROOM {
@@ -106,8 +106,8 @@ impl Block {
     pub(crate) fn finish<W: Write>(mut self, writer: &mut W) -> Result<u64, WriteFault>
         requires { CanCount self [] }
         ensures ok { IfOk result (λ count. (count ≡ self.written + length self.bytes.items)
-            × Keeps (told (W.contents writer.old) self).bytes (W.contents writer.new)) }
-        ensures err { IfErr result (λ fault. Stopped (told (W.contents writer.old) self)
+            × Keeps (progress_of (W.contents writer.old) self).bytes (W.contents writer.new)) }
+        ensures err { IfErr result (λ fault. HasStopped (progress_of (W.contents writer.old) self)
             (W.contents writer.new) fault.written) }
     {
         self.drain(writer)?;

@@ -1,6 +1,6 @@
 //! Which places two coalitions have in common.
 ghost use Rattle.std.specs.Prelude.{◌^◌, ◌<◌, ◌≤◌, length};
-ghost use Rattle.council_report.specs.Inner.Shared.{NoneFrom, SameBefore};
+ghost use Rattle.council_report.specs.Inner.Shared.{HasNoneFrom, SameBefore};
 
 use council_game::Coalition;
 
@@ -22,7 +22,7 @@ pub(crate) fn past_last(members: usize, coalition: Coalition) -> usize
     requires some { 0 < coalition }
     requires below { coalition < 2 ^ members }
     ensures within { result ≤ members }
-    ensures none { NoneFrom members result coalition }
+    ensures none { HasNoneFrom members result coalition }
 {
     members - coalition.mask().trailing_zeros() as usize
 }

@@ -8,7 +8,7 @@ ghost use Rattle.power_index.specs.Tables.{AreCounts};
 ghost use Rattle.council_report.specs.Inner.Counted.{IsCounted};
 ghost use Rattle.council_report.specs.Report.{coalition_lines, size_lines, lines, report, report_over};
 ghost use Rattle.council_report.specs.Inner.Shared.{IsReadyLine};
-ghost use Rattle.council_report.specs.Inner.Told.{told, StoppedIn};
+ghost use Rattle.council_report.specs.Inner.Told.{progress_of, StopsIn};
 ghost use Rattle.council_report.specs.Inner.Ready.{HasRoom, IsReady, CanCount};
 ghost use Rattle.council_report.specs.Inner.Puts.{Puts};
 ghost use Rattle.council_report.specs.Outcome.{Falls};
@@ -112,11 +112,11 @@ fn send<W: Write>(
     requires line { IsReadyLine counted.now.game.now line }
     requires room { HasRoom block }
     requires counted { CanCount block (lines shown counted.now.game.now list) }
-    ensures count { IfOk result (λ count. count ≡ (told (W.contents writer.old) block).count
+    ensures count { IfOk result (λ count. count ≡ (progress_of (W.contents writer.old) block).count
         + length (lines shown counted.now.game.now list)) }
-    ensures ok { OnOk result (Appends (told (W.contents writer.old) block).bytes
+    ensures ok { OnOk result (Appends (progress_of (W.contents writer.old) block).bytes
         (W.contents writer.new) (lines shown counted.now.game.now list)) }
-    ensures err { IfErr result (λ fault. StoppedIn (told (W.contents writer.old) block)
+    ensures err { IfErr result (λ fault. StopsIn (progress_of (W.contents writer.old) block)
         (lines shown counted.now.game.now list) (W.contents writer.new) fault.written) }
 {
     block.settle(writer)?;

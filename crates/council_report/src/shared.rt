@@ -3,9 +3,9 @@ ghost use Rattle.std.specs.Prelude.{◌≡◌, ◌++◌, ◌+◌, ◌^◌, ◌<�
 ghost use Rattle.std.specs.List.{flat_map};
 ghost use Rattle.council_game.specs.Game.{IsGame, votes_of};
 ghost use Rattle.council_game.specs.Votes.{has, rule_at, weight};
-ghost use Rattle.council_file.specs.Room.{Takes};
-ghost use Rattle.council_report.specs.Lines.{coalition_line, tabbed, slashed, weights_of_coalition, names_of};
-ghost use Rattle.council_report.specs.Inner.Shared.{IsLine, IsReadyLine, IsWholeLine, NoneFrom, SameBefore};
+ghost use Rattle.council_file.specs.Room.{MakesRoomFor};
+ghost use Rattle.council_report.specs.Lines.{coalition_line, with_tab, with_slashes, weights_of_coalition, names_of};
+ghost use Rattle.council_report.specs.Inner.Shared.{IsLine, IsReadyLine, IsWholeLine, HasNoneFrom, SameBefore};
 
 use crate::lines::end_line;
 use crate::mark::Mark;
@@ -131,9 +131,9 @@ impl SharedLine {
     fn push_weights(&self, out: &mut Vec<u8>, game: &Game) -> Result<(), AllocError>
         requires { IsWholeLine game.now self.now.coalition self.now }
         ensures items { OnOk result (out.new.items ≡ out.old.items
-            ++ tabbed (slashed (weights_of_coalition game.now self.now.coalition))) }
-        ensures room { Takes out.old out.new result
-            (tabbed (slashed (weights_of_coalition game.now self.now.coalition))) }
+            ++ with_tab (with_slashes (weights_of_coalition game.now self.now.coalition))) }
+        ensures room { MakesRoomFor out.old out.new result
+            (with_tab (with_slashes (weights_of_coalition game.now self.now.coalition))) }
     {
         push_values(out, game.rules(), |r| self.weight_under(game, r))
     }
@@ -142,9 +142,9 @@ impl SharedLine {
     fn push_names(&self, out: &mut Vec<u8>, game: &Game) -> Result<(), AllocError>
         requires { IsWholeLine game.now self.now.coalition self.now }
         ensures items { OnOk result (out.new.items ≡ out.old.items
-            ++ flat_map tabbed (names_of game.now self.now.coalition)) }
-        ensures room { Takes out.old out.new result
-            (flat_map tabbed (names_of game.now self.now.coalition)) }
+            ++ flat_map with_tab (names_of game.now self.now.coalition)) }
+        ensures room { MakesRoomFor out.old out.new result
+            (flat_map with_tab (names_of game.now self.now.coalition)) }
     {
         out.extend_from_slice(&self.names)
     }
@@ -157,7 +157,7 @@ impl SharedLine {
         requires below { self.now.coalition < 2 ^ length game.now.names }
         ensures items { OnOk result
             (out.new.items ≡ out.old.items ++ coalition_line game.now self.now.coalition) }
-        ensures room { Takes out.old out.new result (coalition_line game.now self.now.coalition) }
+        ensures room { MakesRoomFor out.old out.new result (coalition_line game.now self.now.coalition) }
     {
         out.extend_from_slice(b"coalition")?;
         push_number(out, u64::from(self.coalition.size()))?;

@@ -2,16 +2,16 @@
 ghost use Rattle.std.specs.Prelude.{◌≡◌, ◌++◌, ◌<◌, ◌≤◌, ℕ, List, OnOk, decimal, length};
 ghost use Rattle.std.specs.Vec.{vec_capacity};
 ghost use Rattle.council_file.specs.Joined.{GivesEach};
-ghost use Rattle.council_file.specs.Room.{Takes};
-ghost use Rattle.council_report.specs.Lines.{tabbed, slashed};
+ghost use Rattle.council_file.specs.Room.{MakesRoomFor};
+ghost use Rattle.council_report.specs.Lines.{with_tab, with_slashes};
 
 use council_file::{push_decimal, push_joined};
 use std::alloc::AllocError;
 
 /// A field of bytes.
 pub(crate) fn push_field(out: &mut Vec<u8>, field: &[u8]) -> Result<(), AllocError>
-    ensures items { OnOk result (out.new.items ≡ out.old.items ++ tabbed field.now) }
-    ensures room { Takes out.old out.new result (tabbed field.now) }
+    ensures items { OnOk result (out.new.items ≡ out.old.items ++ with_tab field.now) }
+    ensures room { MakesRoomFor out.old out.new result (with_tab field.now) }
 {
     out.push(b'\t')?;
     out.extend_from_slice(field)
@@ -19,8 +19,8 @@ pub(crate) fn push_field(out: &mut Vec<u8>, field: &[u8]) -> Result<(), AllocErr
 
 /// A field of one number.
 pub(crate) fn push_number(out: &mut Vec<u8>, number: u64) -> Result<(), AllocError>
-    ensures items { OnOk result (out.new.items ≡ out.old.items ++ tabbed (decimal number)) }
-    ensures room { Takes out.old out.new result (tabbed (decimal number)) }
+    ensures items { OnOk result (out.new.items ≡ out.old.items ++ with_tab (decimal number)) }
+    ensures room { MakesRoomFor out.old out.new result (with_tab (decimal number)) }
 {
     out.push(b'\t')?;
     push_decimal(out, number)
@@ -34,10 +34,10 @@ pub(crate) fn push_values<F: Fn(usize) -> u64>(
 ) -> Result<(), AllocError>
     requires { (r : ℕ) → r < rules → F.pre value r }
     ensures items { (vs : List ℕ) → length vs ≡ rules → GivesEach (F.post value) vs
-        → OnOk result (out.new.items ≡ out.old.items ++ tabbed (slashed vs)) }
+        → OnOk result (out.new.items ≡ out.old.items ++ with_tab (with_slashes vs)) }
     ensures capacity { vec_capacity out.old ≤ vec_capacity out.new }
     ensures room { (vs : List ℕ) → length vs ≡ rules → GivesEach (F.post value) vs
-        → Takes out.old out.new result (tabbed (slashed vs)) }
+        → MakesRoomFor out.old out.new result (with_tab (with_slashes vs)) }
 {
     out.push(b'\t')?;
     push_joined(out, b"/", rules, value)

@@ -15,14 +15,14 @@ use Rattle.council_run.specs.declared.fault.Cause.TheVariants as cause
 use Rattle.council_run.specs.Shows.{shown_of}
 
 -- Where a run stands: what the reader had left before and after, and what the writer held.
-pub record Ends : Type 0 where
+pub record Streams : Type 0 where
   pub unread : Option (List ℕ)
   pub left : Option (List ℕ)
   pub before : Option (List ℕ)
   pub after : Option (List ℕ)
 
 -- the reader gave bytes with this game, or with this first fault
-abbrev pub Reads : Ends → Result GameView GameFault → Type 0
+abbrev pub Reads : Streams → Result GameView GameFault → Type 0
 Reads at answer = (bytes : List ℕ) × Gave at.unread at.left bytes × (game_of bytes ≡ answer)
 
 -- the number of minimal winning coalitions of a game
@@ -30,16 +30,16 @@ abbrev pub count_of : GameView → ℕ
 count_of g = length (minimal_coalitions (votes_of g))
 
 -- A run that succeeds wrote the report of the game that it read, and nothing else; the game has no more coalitions than asked for.
-abbrev pub Reports : Options → Ends → ℕ → Type 0
+abbrev pub Reports : Options → Streams → ℕ → Type 0
 Reports options at len =
     (g : GameView) × Reads at (Ok g) × (count_of g ≤ options.most)
     × (len ≡ length (report (shown_of options) g)) × Appends at.before at.after (report (shown_of options) g)
 
-abbrev pub WritesNothing : Ends → ℕ → Type 0
+abbrev pub WritesNothing : Streams → ℕ → Type 0
 WritesNothing at written = (written ≡ 0) × Keeps at.before at.after
 
 -- A run that stops wrote nothing, or the first bytes of the report; the fault of a game is that of the bytes read.
-abbrev pub Stops : Options → Ends → Cause → ℕ → Type 0
+abbrev pub Stops : Options → Streams → Cause → ℕ → Type 0
 Stops options at (cause.Game game.Read) written = WritesNothing at written
 Stops options at (cause.Game game.Memory) written = WritesNothing at written
 Stops options at (cause.Game fault) written = WritesNothing at written × Reads at (Err fault)

@@ -11,7 +11,7 @@ use Rattle.mwc_parts.specs.Sums.{sum_of}
 use Rattle.mwc_parts.specs.Wording.{coalition_count}
 use Rattle.std.specs.List.Sorted.{IsStrictlyIncreasing}
 use Rattle.mwc_parts.specs.Inner.Deals.{AreDealt}
-use Rattle.mwc_parts.specs.Inner.Dealing.{Seat, IsWell, givens, IsFresh}
+use Rattle.mwc_parts.specs.Inner.Dealing.{Seat, IsWell, given_slices, IsFresh}
 use Rattle.mwc_parts.specs.Parts.{IsPart, shares}
 use Rattle.mwc_parts.specs.Fault.{fault_of, also}
 use Rattle.mwc_parts.specs.declared.part.Part.{Part}
@@ -22,7 +22,7 @@ use Rattle.mwc_parts.proofs.Turns as turns
 use Rattle.mwc_parts.proofs.Firsts.{each_within, dealt_total, dealt_increase, share_begins}
 use Rattle.mwc_parts.proofs.Readings.{length-joined}
 use Rattle.mwc_gather.specs.declared.desk.Desk.{Desk}
-use Rattle.mwc_gather.specs.Inner.Desks.{seat, seats, DealsTo, Finished}
+use Rattle.mwc_gather.specs.Inner.Desks.{seat, seats, DealsTo, IsPartOfDesk}
 use Rattle.mwc_gather.specs.Inner.Gathering.{all_total, IsComplete}
 
 module _ {X Y : Type 0} where
@@ -34,7 +34,7 @@ desks_within {g} desks h =
     all_of_map (λ (s : Seat). coalition_count g s.given ≤ all_total g) seat desks
     (all_of_map (λ (s : List ℕ). coalition_count g s ≤ all_total g) (λ (s : Seat). s.given) (seats desks) (each_within g (seats desks) h.dealing))
 
-zip_shares : (g : Slicing) (desks : List Desk) (parts : List Part) → AllZip (Finished g) desks parts → shares parts ≡ givens (seats desks)
+zip_shares : (g : Slicing) (desks : List Desk) (parts : List Part) → AllZip (IsPartOfDesk g) desks parts → shares parts ≡ given_slices (seats desks)
 zip_shares g [] [] z = refl
 zip_shares g [] (p ∷ parts) z = absurd z
 zip_shares g (d ∷ desks) [] z = absurd z
@@ -49,19 +49,19 @@ zip_each R P Q h (x ∷ xs) (y ∷ ys) z =
     let now = h x y z.0 in let rest = zip_each R P Q h xs ys z.1 in
     (All-cons P x xs now.0 rest.0, All-cons Q y ys now.1 rest.1)
 
-zip_well : (g : Slicing) (desks : List Desk) (parts : List Part) → AllZip (Finished g) desks parts → All IsWell (seats desks)
+zip_well : (g : Slicing) (desks : List Desk) (parts : List Part) → AllZip (IsPartOfDesk g) desks parts → All IsWell (seats desks)
 zip_well g desks parts z =
-    let both = zip_each (Finished g) (λ (d : Desk). IsWell (seat d)) (IsPart g) (λ d p f. (f.well, f.part)) desks parts z in
+    let both = zip_each (IsPartOfDesk g) (λ (d : Desk). IsWell (seat d)) (IsPart g) (λ d p f. (f.well, f.part)) desks parts z in
     All-map IsWell seat desks both.0
 
-zip_told : (g : Slicing) (desks : List Desk) (parts : List Part) → AllZip (Finished g) desks parts → All (λ (s : Seat). s.told ≡ true) (seats desks)
+zip_told : (g : Slicing) (desks : List Desk) (parts : List Part) → AllZip (IsPartOfDesk g) desks parts → All (λ (s : Seat). s.told ≡ true) (seats desks)
 zip_told g desks parts z =
-    let both = zip_each (Finished g) (λ (d : Desk). d.told ≡ true) (IsPart g) (λ d p f. (f.told, f.part)) desks parts z in
+    let both = zip_each (IsPartOfDesk g) (λ (d : Desk). d.told ≡ true) (IsPart g) (λ d p f. (f.told, f.part)) desks parts z in
     All-map (λ (s : Seat). s.told ≡ true) seat desks both.0
 
-zip_parts : (g : Slicing) (desks : List Desk) (parts : List Part) → AllZip (Finished g) desks parts → All (IsPart g) parts
+zip_parts : (g : Slicing) (desks : List Desk) (parts : List Part) → AllZip (IsPartOfDesk g) desks parts → All (IsPart g) parts
 zip_parts g desks parts z =
-    let both = zip_each (Finished g) (λ (d : Desk). d.told ≡ true) (IsPart g) (λ d p f. (f.told, f.part)) desks parts z in both.1
+    let both = zip_each (IsPartOfDesk g) (λ (d : Desk). d.told ≡ true) (IsPart g) (λ d p f. (f.told, f.part)) desks parts z in both.1
 
 parts_sum : (g : Slicing) (parts : List Part) → All (IsPart g) parts → sum_of (λ (p : Part). length p.got.items) parts ≡ sum_of (coalition_count g) (shares parts)
 parts_sum g [] a = refl
@@ -72,7 +72,7 @@ parts_sum g (p ∷ parts) a =
     omega arith
 
 -- where all workers have finished, all slices are dealt
-pub end_dealt : {g : Slicing} {most : ℕ} {early stopped : Bool} {marks : List (Option ℕ)} (desks : List Desk) (parts : List Part) → DealsTo g most early marks stopped desks → early ≡ false → 0 < length desks → AllZip (Finished g) desks parts → AreDealt g.slices (shares parts)
+pub end_dealt : {g : Slicing} {most : ℕ} {early stopped : Bool} {marks : List (Option ℕ)} (desks : List Desk) (parts : List Part) → DealsTo g most early marks stopped desks → early ≡ false → 0 < length desks → AllZip (IsPartOfDesk g) desks parts → AreDealt g.slices (shares parts)
 end_dealt {g} {most} {early} {stopped} {marks} desks parts h e l z =
     let n = length-map desks seat in
     let d = turns.all_dealt (seats desks) e (omega arith) h.dealing (zip_well g desks parts z) (zip_told g desks parts z) in
@@ -124,26 +124,26 @@ one_done done rest old all d e f = append_assoc done (d ∷ []) rest ∙ ap (λ 
 pub not_noted : (m after : Met) (why : GatherFault) (P : Type 0) → after ≡ also m why → fault_of after ≡ None → P
 not_noted m after why P e f = absurd (noted m why (sym (ap fault_of e) ∙ f))
 
-pub zip_more : (g : Slicing) (done : List Desk) (parts after : List Part) (d : Desk) (p : Part) → after ≡ parts ++ p ∷ [] → Finished g d p → AllZip (Finished g) done parts → AllZip (Finished g) (done ++ d ∷ []) after
-zip_more g done parts after d p e f z = subst (λ (w : List Part). AllZip (Finished g) (done ++ d ∷ []) w) (sym e) (all_zipped_more (Finished g) done parts d p z f)
+pub zip_more : (g : Slicing) (done : List Desk) (parts after : List Part) (d : Desk) (p : Part) → after ≡ parts ++ p ∷ [] → IsPartOfDesk g d p → AllZip (IsPartOfDesk g) done parts → AllZip (IsPartOfDesk g) (done ++ d ∷ []) after
+zip_more g done parts after d p e f z = subst (λ (w : List Part). AllZip (IsPartOfDesk g) (done ++ d ∷ []) w) (sym e) (all_zipped_more (IsPartOfDesk g) done parts d p z f)
 
 -- where no fault was met, all slices are dealt to the parts
-pub ends_well : {g : Slicing} {most : ℕ} {early stopped : Bool} {marks : List (Option ℕ)} (desks taken : List Desk) (parts : List Part) (start : Met) (f : Option GatherFault) → DealsTo g most early marks stopped desks → taken ≡ desks → early ≡ is_some f → f ≡ fault_of start → fault_of start ≡ None → 0 < length desks → AllZip (Finished g) taken parts → AreDealt g.slices (shares parts) × AllZip (Finished g) desks parts
+pub ends_well : {g : Slicing} {most : ℕ} {early stopped : Bool} {marks : List (Option ℕ)} (desks taken : List Desk) (parts : List Part) (start : Met) (f : Option GatherFault) → DealsTo g most early marks stopped desks → taken ≡ desks → early ≡ is_some f → f ≡ fault_of start → fault_of start ≡ None → 0 < length desks → AllZip (IsPartOfDesk g) taken parts → AreDealt g.slices (shares parts) × AllZip (IsPartOfDesk g) desks parts
 ends_well {g} desks taken parts start f h e a b n l z =
-    let w = subst (λ (x : List Desk). AllZip (Finished g) x parts) e z in
+    let w = subst (λ (x : List Desk). AllZip (IsPartOfDesk g) x parts) e z in
     (end_dealt desks parts h (a ∙ ap is_some (b ∙ n)) l w, w)
 
-pub end_begins : {g : Slicing} {most : ℕ} {early stopped : Bool} {marks : List (Option ℕ)} (desks : List Desk) (parts : List Part) → DealsTo g most early marks stopped desks → early ≡ false → AllZip (Finished g) desks parts → (w : ℕ) → w < length desks → w < g.slices → slice_get (get_or (shares parts) w []) 0 ≡ Some w
+pub end_begins : {g : Slicing} {most : ℕ} {early stopped : Bool} {marks : List (Option ℕ)} (desks : List Desk) (parts : List Part) → DealsTo g most early marks stopped desks → early ≡ false → AllZip (IsPartOfDesk g) desks parts → (w : ℕ) → w < length desks → w < g.slices → slice_get (get_or (shares parts) w []) 0 ≡ Some w
 end_begins {g} desks parts h e z w a b =
     let n = length-map desks seat in
     let r = share_begins (seats desks) h.dealing (turns.well_goes_on (seats desks) e h.dealing (zip_well g desks parts z)) (omega arith) w a b in
     ap (λ (s : List ℕ). slice_get s 0) (ap (λ (s : List (List ℕ)). get_or s w []) (zip_shares g desks parts z) ∙ r.1)
 
 -- where no fault was met, the parts are complete
-pub completes : {g : Slicing} {most workers : ℕ} {early stopped : Bool} {marks : List (Option ℕ)} (desks taken : List Desk) (parts : List Part) (start : Met) (f : Option GatherFault) → DealsTo g most early marks stopped desks → taken ≡ desks → early ≡ is_some f → f ≡ fault_of start → fault_of start ≡ None → 0 < length desks → length desks ≡ workers → AllZip (Finished g) taken parts → IsComplete g workers parts
+pub completes : {g : Slicing} {most workers : ℕ} {early stopped : Bool} {marks : List (Option ℕ)} (desks taken : List Desk) (parts : List Part) (start : Met) (f : Option GatherFault) → DealsTo g most early marks stopped desks → taken ≡ desks → early ≡ is_some f → f ≡ fault_of start → fault_of start ≡ None → 0 < length desks → length desks ≡ workers → AllZip (IsPartOfDesk g) taken parts → IsComplete g workers parts
 completes {g} {most} {workers} desks taken parts start f h e a b n l k z =
     let both = ends_well desks taken parts start f h e a b n l z in
-    let same = AllZip-long (Finished g) desks parts both.1 in
+    let same = AllZip-long (IsPartOfDesk g) desks parts both.1 in
     record {
       a_part_each = omega arith;
       dealt = both.0;

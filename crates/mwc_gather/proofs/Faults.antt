@@ -3,43 +3,43 @@ use Rattle.std.specs.Prelude.{◌≡◌, ℕ, false, List, [], ◌∷◌, ◌++�
 use Rattle.std.proofs.Common.{ap, subst, sym, ◌∙◌, inl, inr}
 use Rattle.mwc_parts.specs.Slicing.{Slicing}
 use Rattle.mwc_parts.specs.Fault.{nothing, also}
-use Rattle.mwc_parts.specs.Inner.Fault.{noted, IsEarly}
+use Rattle.mwc_parts.specs.Inner.Fault.{also_all, IsEarly}
 use Rattle.mwc_parts.specs.declared.met.Met.{Met}
 use Rattle.mwc_parts.specs.declared.fault.GatherFault.{GatherFault}
 use Rattle.mwc_parts.specs.declared.fault.GatherFault.TheVariants.{Memory}
 use Rattle.mwc_gather.specs.declared.desk.Desk.{Desk}
 use Rattle.mwc_gather.specs.Inner.Orders.{slicing_of}
-use Rattle.mwc_gather.specs.Inner.Desks.{IsOf, Ends, Opens}
+use Rattle.mwc_gather.specs.Inner.Desks.{IsOf, CanEndWith, HasStarted}
 
 -- one more fault
-pub noted_more : (m : Met) (whys : List (Option GatherFault)) (why : GatherFault) → noted m (whys ++ Some why ∷ []) ≡ also (noted m whys) why
+pub noted_more : (m : Met) (whys : List (Option GatherFault)) (why : GatherFault) → also_all m (whys ++ Some why ∷ []) ≡ also (also_all m whys) why
 noted_more m [] why = refl
 noted_more m (None ∷ whys) why = noted_more m whys why
 noted_more m (Some w ∷ whys) why = noted_more (also m w) whys why
 
 -- and one more answer that is none
-pub noted_none : (m : Met) (whys : List (Option GatherFault)) → noted m (whys ++ None ∷ []) ≡ noted m whys
+pub noted_none : (m : Met) (whys : List (Option GatherFault)) → also_all m (whys ++ None ∷ []) ≡ also_all m whys
 noted_none m [] = refl
 noted_none m (None ∷ whys) = noted_none m whys
 noted_none m (Some w ∷ whys) = noted_none (also m w) whys
 
-pub noted_after : (start met after : Met) (whys : List (Option GatherFault)) (why : GatherFault) → met ≡ noted start whys → after ≡ also met why → after ≡ noted start (whys ++ Some why ∷ [])
+pub noted_after : (start met after : Met) (whys : List (Option GatherFault)) (why : GatherFault) → met ≡ also_all start whys → after ≡ also met why → after ≡ also_all start (whys ++ Some why ∷ [])
 noted_after start met after whys why e f = f ∙ ap (λ (m : Met). also m why) e ∙ sym (noted_more start whys why)
 
 -- where there is no room for a part
-pub memory_ends : (g : Slicing) (most : ℕ) (d : Desk) → Ends g most d (Some Memory)
+pub memory_ends : (g : Slicing) (most : ℕ) (d : Desk) → CanEndWith g most d (Some Memory)
 memory_ends g most d = (λ e. cc, λ e. refl, λ e. absurd cc)
 
 -- the end of a desk that was given this game and this limit
-pub ends_of : {g : Slicing} {most : ℕ} (d : Desk) (a : Option GatherFault) → IsOf g most d → Ends (slicing_of d.worker.promise.order) d.worker.promise.order.most d a → Ends g most d a
+pub ends_of : {g : Slicing} {most : ℕ} (d : Desk) (a : Option GatherFault) → IsOf g most d → CanEndWith (slicing_of d.worker.promise.order) d.worker.promise.order.most d a → CanEndWith g most d a
 ends_of {g} {most} d a own e =
-    subst (λ (x : Slicing). Ends x most d a) own.0 (subst (λ (n : ℕ). Ends (slicing_of d.worker.promise.order) n d a) own.1 e)
+    subst (λ (x : Slicing). CanEndWith x most d a) own.0 (subst (λ (n : ℕ). CanEndWith (slicing_of d.worker.promise.order) n d a) own.1 e)
 
 early_few : (met : Met) (why : GatherFault) → IsEarly why → met ≡ also nothing why → met.many ≡ false
 early_few met why (inl e) f = ap (λ (m : Met). m.many) (f ∙ ap (also nothing) e)
 early_few met why (inr e) f = ap (λ (m : Met). m.many) (f ∙ ap (also nothing) e)
 
 -- the start meets no TooMany
-pub opens_few : (workers started : ℕ) (met : Met) → Opens workers started met → met.many ≡ false
+pub opens_few : (workers started : ℕ) (met : Met) → HasStarted workers started met → met.many ≡ false
 opens_few workers started met (inl o) = ap (λ (m : Met). m.many) o.0
 opens_few workers started met (inr o) = early_few met o.0 o.1 o.2

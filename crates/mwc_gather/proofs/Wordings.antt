@@ -5,11 +5,11 @@ use Rattle.std.proofs.lemmas.List.{append-nil}
 use Rattle.mwc_parts.specs.Slicing.{Slicing}
 use Rattle.mwc_pipe.specs.declared.word.Word.{Word}
 use Rattle.mwc_pipe.specs.declared.word.Word.TheVariants.{Open}
-use Rattle.mwc_parts.specs.Wording.{opens, wording, coalition_count, slice_words}
+use Rattle.mwc_parts.specs.Wording.{open_words, wording, coalition_count, slice_words}
 
-pub opens-more : (s : List ℕ) (j : ℕ) → opens (s ++ j ∷ []) ≡ opens s ++ Open j ∷ []
-opens-more [] j = refl
-opens-more (i ∷ s) j = ap (λ (w : List Word). Open i ∷ w) (opens-more s j)
+pub open_words-more : (s : List ℕ) (j : ℕ) → open_words (s ++ j ∷ []) ≡ open_words s ++ Open j ∷ []
+open_words-more [] j = refl
+open_words-more (i ∷ s) j = ap (λ (w : List Word). Open i ∷ w) (open_words-more s j)
 
 pub wording-more : (g : Slicing) (s : List ℕ) (j : ℕ) → wording g (s ++ j ∷ []) ≡ wording g s ++ slice_words g j
 wording-more g [] j = append-nil (slice_words g j)

@@ -23,10 +23,10 @@ Sends g j left before after broken sent.Refused =
     (broken ≡ true) × ((words : List Word) × (after ≡ before ++ words) × IsPrefix words (sending g j left))
 
 -- a sending that was not refused leaves the pipe as broken as it was, or as whole
-abbrev pub Unbroken : Bool → Bool → Sent → Type 0
-Unbroken before after (sent.Whole rest) = after ≡ before
-Unbroken before after sent.Cut = after ≡ before
-Unbroken before after sent.Refused = ⊤
+abbrev pub BreaksOnlyIfRefused : Bool → Bool → Sent → Type 0
+BreaksOnlyIfRefused before after (sent.Whole rest) = after ≡ before
+BreaksOnlyIfRefused before after sent.Cut = after ≡ before
+BreaksOnlyIfRefused before after sent.Refused = ⊤
 
 -- what the closed end of a worker tells: a whole or a cut sending of the slices that its tasks gave, and both ends are of its rings
 abbrev pub HasWorked : Slicing → ℕ → RingInView → RingOutView → Result ClosedView Unfinished × RingOutView → Type 0

@@ -10,7 +10,7 @@ ghost use Rattle.mwc_parts.specs.Settled.{IsDraftOf, HasAllWords};
 ghost use Rattle.mwc_gather.specs.Slicings.{slicing};
 ghost use Rattle.mwc_gather.specs.Sending.{HasWorked};
 ghost use Rattle.mwc_gather.specs.Inner.Orders.{slicing_of};
-ghost use Rattle.mwc_gather.specs.Inner.Desks.{IsOf, seat, Finished, Ends};
+ghost use Rattle.mwc_gather.specs.Inner.Desks.{IsOf, seat, IsPartOfDesk, CanEndWith};
 
 use crate::desk::Desk;
 use crate::guarded::{Gate, Guarded};
@@ -189,11 +189,11 @@ impl Desk {
 
 /// Joins the worker of a desk, and gives its part.
 pub(crate) fn finish_part<R: Threads>(desk: Desk, rt: &R) -> Result<Part, GatherFault>
-    ensures part { IfOk result (Finished (slicing_of desk.worker.promise.order) desk) }
+    ensures part { IfOk result (IsPartOfDesk (slicing_of desk.worker.promise.order) desk) }
     ensures many { result ≡ Err GatherFault.TooMany
         → desk.worker.promise.order.most < coalition_count (slicing_of desk.worker.promise.order) desk.given.items }
     ensures memory { desk.draft.lost ≡ true → result ≡ Err GatherFault.Memory }
-    ensures ends { Ends (slicing_of desk.worker.promise.order) desk.worker.promise.order.most desk (fault_in result) }
+    ensures ends { CanEndWith (slicing_of desk.worker.promise.order) desk.worker.promise.order.most desk (fault_in result) }
 {
     let (given, draft) = desk.finish(rt)?;
     settle(given, draft)

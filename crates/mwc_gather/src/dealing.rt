@@ -3,7 +3,7 @@ ghost use Rattle.std.specs.Prelude.{◌≡◌, ◌<◌, ◌≤◌, ◌^◌, ◌|
 ghost use Rattle.std.specs.List.{list_any};
 ghost use Rattle.mwc_pipe.specs.declared.word.Word.{Word};
 ghost use Rattle.mwc_parts.specs.Inner.Wording.{is_done};
-ghost use Rattle.mwc_parts.specs.Inner.Dealing.{Turns, IsFresh, is_ill};
+ghost use Rattle.mwc_parts.specs.Inner.Dealing.{TakesTurn, IsFresh, is_ill};
 ghost use Rattle.mwc_gather.specs.Inner.Orders.{slicing_of};
 ghost use Rattle.mwc_gather.specs.Inner.Desks.{seat, seats, AllOf, DealsTo, DealsFirst};
 
@@ -37,7 +37,7 @@ fn deal<R: Wait>(
     requires stops { (stopped || is_ill (seat desk.old)) ≡ stopped }
     ensures worker { desk.new.worker.promise ≡ desk.old.worker.promise }
     ensures words { desk.new.words.taken ≡ desk.old.words.taken }
-    ensures turns { Turns false marks.old stopped (seat desk.old) worker marks.new result (seat desk.new) }
+    ensures turns { TakesTurn false marks.old stopped (seat desk.old) worker marks.new result (seat desk.new) }
 {
     if desk.told {
         return stopped;
@@ -85,7 +85,7 @@ fn turn<R: Wait>(
     requires worker { worker < 16 }
     ensures worker { desk.new.worker.promise ≡ desk.old.worker.promise }
     ensures turns { (words : List Word) × (desk.new.words.taken ≡ desk.old.words.taken ++ words)
-        × Turns (list_any is_done words) marks.old stopped (seat desk.old) worker
+        × TakesTurn (list_any is_done words) marks.old stopped (seat desk.old) worker
         marks.new result.stopped (seat desk.new) }
 {
     let count = desk.read(row);

@@ -1,7 +1,7 @@
 //! The gatherer's side of one worker.
 ghost use Rattle.std.specs.Prelude.{◌≡◌, ◌+◌, ◌<◌, ◌≤◌, ◌^◌, ◌++◌, All, count_by, length, true};
-ghost use Rattle.mwc_parts.specs.Wording.{opens};
-ghost use Rattle.mwc_parts.specs.Inner.Wording.{told_words, is_done};
+ghost use Rattle.mwc_parts.specs.Wording.{open_words};
+ghost use Rattle.mwc_parts.specs.Inner.Wording.{end_words, is_done};
 ghost use Rattle.mwc_parts.specs.Settled.{IsDraftOf};
 
 use crate::promise::{Answer, Task};
@@ -30,7 +30,7 @@ pub(crate) struct Desk {
     ghost words_ring: { words.ring ≡ worker.promise.out.value.ring },
     ghost tasks_ring: { worker.promise.tasks.value.ring ≡ tasks.ring },
     ghost keeps: { IsDraftOf words.taken draft },
-    ghost tasks_are: { tasks.accepted ≡ opens given.items ++ told_words told },
+    ghost tasks_are: { tasks.accepted ≡ open_words given.items ++ end_words told },
     ghost one_ahead: { length given.items ≤ count_by is_done words.taken + 1 },
     ghost idle_is_done: { idle ≡ true → length given.items ≤ count_by is_done words.taken },
     ghost below: { All (λ j. j < 2 ^ worker.promise.order.bits) given.items },

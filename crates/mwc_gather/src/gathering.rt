@@ -7,10 +7,10 @@ ghost use Rattle.council_game.specs.Game.{votes_of};
 ghost use Rattle.mwc_parts.specs.Wording.{coalition_count};
 ghost use Rattle.mwc_parts.specs.Inner.Dealing.{IsFresh};
 ghost use Rattle.mwc_parts.specs.Fault.{fault_of};
-ghost use Rattle.mwc_parts.specs.Inner.Fault.{fault_in, noted};
+ghost use Rattle.mwc_parts.specs.Inner.Fault.{fault_in, also_all};
 ghost use Rattle.mwc_gather.specs.Slicings.{slicing};
 ghost use Rattle.mwc_gather.specs.Inner.Orders.{slicing_of};
-ghost use Rattle.mwc_gather.specs.Inner.Desks.{AllOf, DealsTo, Ends, Finished, Opens, seats};
+ghost use Rattle.mwc_gather.specs.Inner.Desks.{AllOf, DealsTo, CanEndWith, IsPartOfDesk, HasStarted, seats};
 ghost use Rattle.mwc_gather.specs.Gathering.{Gathers};
 ghost use Rattle.mwc_gather.specs.Inner.Gathering.{all_total, IsComplete};
 
@@ -138,7 +138,7 @@ fn open_all<'s, E, R: Threads + Wait + Sync, G: Gate + Sync>(
     requires gate { (w j : ℕ) → w < workers → j < 2 ^ bits → G.takes w j }
     ensures few { vec_len desks.new ≤ workers }
     ensures all { fault_of result ≡ None → vec_len desks.new ≡ workers }
-    ensures met { Opens workers (vec_len desks.new) result }
+    ensures met { HasStarted workers (vec_len desks.new) result }
     ensures order { AllOf (slicing guarded.now bits) most desks.new.items }
     ensures fresh { All IsFresh (seats desks.new.items) }
 {
@@ -174,10 +174,10 @@ fn finish_all<R: Threads>(
     requires dealt { (marks : List (Option ℕ)) × (stopped : Bool)
         × DealsTo (slicing_of order.now) order.now.most (is_some (fault_of start)) marks stopped desks.items }
     ensures first { (whys : List (Option GatherFault))
-        × AllZip (Ends (slicing_of order.now) order.now.most) desks.items whys
-        × (fault_in result ≡ fault_of (noted start whys)) }
+        × AllZip (CanEndWith (slicing_of order.now) order.now.most) desks.items whys
+        × (fault_in result ≡ fault_of (also_all start whys)) }
     ensures none { IfOk result (λ v. fault_of start ≡ None) }
-    ensures parts { IfOk result (λ v. AllZip (Finished (slicing_of order.now)) desks.items v.items) }
+    ensures parts { IfOk result (λ v. AllZip (IsPartOfDesk (slicing_of order.now)) desks.items v.items) }
     ensures many { result ≡ Err GatherFault.TooMany → order.now.most < all_total (slicing_of order.now) }
 {
     let mut met = start;

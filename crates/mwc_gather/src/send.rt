@@ -1,7 +1,7 @@
 //! Sending the words of a slice.
 ghost use Rattle.std.specs.Prelude.{◌≡◌, ◌<◌, ◌≤◌, ◌^◌, ◌++◌, ◌∷◌, [], IsTrue, IsFalse, true, length};
 ghost use Rattle.mwc_gather.specs.Slicings.{slicing};
-ghost use Rattle.mwc_gather.specs.Sending.{Sends, Unbroken};
+ghost use Rattle.mwc_gather.specs.Sending.{Sends, BreaksOnlyIfRefused};
 ghost use Rattle.mwc_gather.specs.Inner.Sending.{SendsFirst, SendsSome};
 
 use crate::guarded::{Gate, Guarded};
@@ -100,7 +100,7 @@ pub fn send_slice<R: Wait, P: PipeIn<Word>, G: Gate>(
     ensures identity { P.identity out.new ≡ P.identity out.old }
     ensures sends { Sends (slicing guarded.now bits) slice left (P.accepted out.old)
         (P.accepted out.new) (P.broken out.new) result }
-    ensures unbroken { Unbroken (P.broken out.old) (P.broken out.new) result }
+    ensures unbroken { BreaksOnlyIfRefused (P.broken out.old) (P.broken out.new) result }
 {
     let own = Bell::new();
     let other = Bell::new();
@@ -130,7 +130,7 @@ pub(crate) fn send_rows<R: Wait, P: PipeIn<Word>, G: Gate>(
     ensures identity { P.identity out.new ≡ P.identity out.old }
     ensures sends { Sends (slicing guarded.now bits) slice left (P.accepted out.old)
         (P.accepted out.new) (P.broken out.new) result }
-    ensures unbroken { Unbroken (P.broken out.old) (P.broken out.new) result }
+    ensures unbroken { BreaksOnlyIfRefused (P.broken out.old) (P.broken out.new) result }
 {
     let game = guarded.pass(worker, slice);
     let mut walk = Walk::new(game, bits, slice);

@@ -7,46 +7,46 @@ use Rattle.std.proofs.lemmas.Bool.{eq-eqb, ne_eqb}
 use Rattle.std.proofs.lemmas.List.{append-nil}
 use Rattle.std.proofs.lemmas.List.Elements.{All-head, All-tail, All-cons, All-weaker}
 use Rattle.mwc_parts.specs.Sums.{sum_of}
-use Rattle.mwc_parts.specs.Inner.Sums.{times}
-use Rattle.mwc_parts.specs.Inner.Deals.{held_from, held, shares_by, AscendsFrom}
+use Rattle.mwc_parts.specs.Inner.Sums.{times_in}
+use Rattle.mwc_parts.specs.Inner.Deals.{share_from, share_of, shares_by, AscendsFrom}
 
 cons_if : (b : Bool) (j : ℕ) (x a c : List ℕ) → x ≡ a ++ c → cond b (j ∷ x) x ≡ cond b (j ∷ a) a ++ c
 cons_if true j x a c e = ap (λ (w : List ℕ). j ∷ w) e
 cons_if false j x a c e = e
 
 -- one more holder
-pub held-more : (w j : ℕ) (hs : List ℕ) (h : ℕ) → held_from w j (hs ++ h ∷ []) ≡ held_from w j hs ++ cond (eqb w h) ((j + length hs) ∷ []) []
-held-more w j [] h = let e : j ≡ j + 0 = omega arith in ap (λ (k : ℕ). cond (eqb w h) (k ∷ []) []) e
-held-more w j (x ∷ hs) h =
+pub share_of-more : (w j : ℕ) (hs : List ℕ) (h : ℕ) → share_from w j (hs ++ h ∷ []) ≡ share_from w j hs ++ cond (eqb w h) ((j + length hs) ∷ []) []
+share_of-more w j [] h = let e : j ≡ j + 0 = omega arith in ap (λ (k : ℕ). cond (eqb w h) (k ∷ []) []) e
+share_of-more w j (x ∷ hs) h =
     let e : (j + 1) + length hs ≡ j + suc (length hs) = omega arith in
-    cons_if (eqb w x) j (held_from w (j + 1) (hs ++ h ∷ [])) (held_from w (j + 1) hs) (cond (eqb w h) ((j + suc (length hs)) ∷ []) [])
-    (held-more w (j + 1) hs h ∙ ap (λ (k : ℕ). held_from w (j + 1) hs ++ cond (eqb w h) (k ∷ []) []) e)
+    cons_if (eqb w x) j (share_from w (j + 1) (hs ++ h ∷ [])) (share_from w (j + 1) hs) (cond (eqb w h) ((j + suc (length hs)) ∷ []) [])
+    (share_of-more w (j + 1) hs h ∙ ap (λ (k : ℕ). share_from w (j + 1) hs ++ cond (eqb w h) (k ∷ []) []) e)
 
-pub held-other : (hs : List ℕ) (w h : ℕ) → (w ≡ h → ⊥) → held (hs ++ h ∷ []) w ≡ held hs w
-held-other hs w h ne =
-    held-more w 0 hs h ∙ ap (λ (b : Bool). held_from w 0 hs ++ cond b ((0 + length hs) ∷ []) []) (ne_eqb w h ne) ∙ append-nil (held hs w)
+pub share_of-other : (hs : List ℕ) (w h : ℕ) → (w ≡ h → ⊥) → share_of (hs ++ h ∷ []) w ≡ share_of hs w
+share_of-other hs w h ne =
+    share_of-more w 0 hs h ∙ ap (λ (b : Bool). share_from w 0 hs ++ cond b ((0 + length hs) ∷ []) []) (ne_eqb w h ne) ∙ append-nil (share_of hs w)
 
-pub held-same : (hs : List ℕ) (w h : ℕ) → w ≡ h → held (hs ++ h ∷ []) w ≡ held hs h ++ length hs ∷ []
-held-same hs w h e =
+pub share_of-same : (hs : List ℕ) (w h : ℕ) → w ≡ h → share_of (hs ++ h ∷ []) w ≡ share_of hs h ++ length hs ∷ []
+share_of-same hs w h e =
     let z : 0 + length hs ≡ length hs = omega arith in
-    held-more w 0 hs h ∙ ap (λ (b : Bool). held_from w 0 hs ++ cond b ((0 + length hs) ∷ []) []) (eq-eqb w h e) ∙ ap (λ (k : ℕ). held_from w 0 hs ++ k ∷ []) z ∙ ap (λ (v : ℕ). held_from v 0 hs ++ length hs ∷ []) e
+    share_of-more w 0 hs h ∙ ap (λ (b : Bool). share_from w 0 hs ++ cond b ((0 + length hs) ∷ []) []) (eq-eqb w h e) ∙ ap (λ (k : ℕ). share_from w 0 hs ++ k ∷ []) z ∙ ap (λ (v : ℕ). share_from v 0 hs ++ length hs ∷ []) e
 
-others : (hs : List ℕ) (i from k : ℕ) → i < from → map (held (hs ++ i ∷ [])) (range_with_len from k) ≡ map (held hs) (range_with_len from k)
+others : (hs : List ℕ) (i from k : ℕ) → i < from → map (share_of (hs ++ i ∷ [])) (range_with_len from k) ≡ map (share_of hs) (range_with_len from k)
 others hs i from zero h = refl
 others hs i from (suc k) h =
-    let e : held (hs ++ i ∷ []) from ≡ held hs from = held-other hs from i (λ q. omega arith) in
+    let e : share_of (hs ++ i ∷ []) from ≡ share_of hs from = share_of-other hs from i (λ q. omega arith) in
     let r = others hs i (from + 1) k (omega arith) in
-    ap (λ (x : List ℕ). x ∷ map (held (hs ++ i ∷ [])) (range_with_len (from + 1) k)) e ∙ ap (λ (xs : List (List ℕ)). held hs from ∷ xs) r
+    ap (λ (x : List ℕ). x ∷ map (share_of (hs ++ i ∷ [])) (range_with_len (from + 1) k)) e ∙ ap (λ (xs : List (List ℕ)). share_of hs from ∷ xs) r
 
 -- worker i, in the row from worker `from` on, is given the next slice
-pub deal_from : (hs : List ℕ) (i from k n : ℕ) → from + n ≡ i → n < k → map (held (hs ++ i ∷ [])) (range_with_len from k) ≡ set (map (held hs) (range_with_len from k)) n (held hs i ++ length hs ∷ [])
+pub deal_from : (hs : List ℕ) (i from k n : ℕ) → from + n ≡ i → n < k → map (share_of (hs ++ i ∷ [])) (range_with_len from k) ≡ set (map (share_of hs) (range_with_len from k)) n (share_of hs i ++ length hs ∷ [])
 deal_from hs i from zero n e h = absurd (omega arith)
 deal_from hs i from (suc k) zero e h =
     let q : from ≡ i = omega arith in
-    ap (λ (x : List ℕ). x ∷ map (held (hs ++ i ∷ [])) (range_with_len (from + 1) k)) (held-same hs from i q) ∙ ap (λ (xs : List (List ℕ)). (held hs i ++ length hs ∷ []) ∷ xs) (others hs i (from + 1) k (omega arith))
+    ap (λ (x : List ℕ). x ∷ map (share_of (hs ++ i ∷ [])) (range_with_len (from + 1) k)) (share_of-same hs from i q) ∙ ap (λ (xs : List (List ℕ)). (share_of hs i ++ length hs ∷ []) ∷ xs) (others hs i (from + 1) k (omega arith))
 deal_from hs i from (suc k) (suc n) e h =
-    ap (λ (x : List ℕ). x ∷ map (held (hs ++ i ∷ [])) (range_with_len (from + 1) k)) (held-other hs from i (λ q. omega arith))
-    ∙ ap (λ (xs : List (List ℕ)). held hs from ∷ xs) (deal_from hs i (from + 1) k n (omega arith) (omega arith))
+    ap (λ (x : List ℕ). x ∷ map (share_of (hs ++ i ∷ [])) (range_with_len (from + 1) k)) (share_of-other hs from i (λ q. omega arith))
+    ∙ ap (λ (xs : List (List ℕ)). share_of hs from ∷ xs) (deal_from hs i (from + 1) k n (omega arith) (omega arith))
 
 -- what a worker holds ascends
 ascends_weaker : (m n : ℕ) (s : List ℕ) → m ≤ n → AscendsFrom n s → AscendsFrom m s
@@ -57,9 +57,9 @@ ascends_if : (b : Bool) (j : ℕ) (s : List ℕ) → AscendsFrom (j + 1) s → A
 ascends_if true j s a = (omega arith, a)
 ascends_if false j s a = ascends_weaker j (j + 1) s (omega arith) a
 
-held_ascends : (w j : ℕ) (hs : List ℕ) → AscendsFrom j (held_from w j hs)
+held_ascends : (w j : ℕ) (hs : List ℕ) → AscendsFrom j (share_from w j hs)
 held_ascends w j [] = tt
-held_ascends w j (h ∷ hs) = ascends_if (eqb w h) j (held_from w (j + 1) hs) (held_ascends w (j + 1) hs)
+held_ascends w j (h ∷ hs) = ascends_if (eqb w h) j (share_from w (j + 1) hs) (held_ascends w (j + 1) hs)
 
 increases : (n : ℕ) (s : List ℕ) → AscendsFrom n s → IsStrictlyIncreasing s
 increases n [] a k l = absurd (omega arith)
@@ -69,18 +69,18 @@ increases n (i ∷ j ∷ s) a (suc k) l =
     let e : suc k + 1 ≡ suc (k + 1) = omega arith in
     rw e (increases (i + 1) (j ∷ s) a.1 k (omega arith))
 
-pub held_increases : (w : ℕ) (hs : List ℕ) → IsStrictlyIncreasing (held hs w)
-held_increases w hs = increases 0 (held hs w) (held_ascends w 0 hs)
+pub held_increases : (w : ℕ) (hs : List ℕ) → IsStrictlyIncreasing (share_of hs w)
+held_increases w hs = increases 0 (share_of hs w) (held_ascends w 0 hs)
 
 -- sums
 sum_if : (b : Bool) (f : ℕ → ℕ) (j : ℕ) (s : List ℕ) → sum_of f (cond b (j ∷ s) s) ≡ cond b (f j) 0 + sum_of f s
 sum_if true f j s = refl
 sum_if false f j s = omega arith
 
-one_held : (f : ℕ → ℕ) (j h : ℕ) (hs ws : List ℕ) → sum_of (sum_of f) (map (λ w. held_from w j (h ∷ hs)) ws) ≡ sum_of (λ w. cond (eqb w h) (f j) 0) ws + sum_of (sum_of f) (map (λ w. held_from w (j + 1) hs) ws)
+one_held : (f : ℕ → ℕ) (j h : ℕ) (hs ws : List ℕ) → sum_of (sum_of f) (map (λ w. share_from w j (h ∷ hs)) ws) ≡ sum_of (λ w. cond (eqb w h) (f j) 0) ws + sum_of (sum_of f) (map (λ w. share_from w (j + 1) hs) ws)
 one_held f j h hs [] = omega arith
 one_held f j h hs (w ∷ ws) =
-    let a = sum_if (eqb w h) f j (held_from w (j + 1) hs) in
+    let a = sum_if (eqb w h) f j (share_from w (j + 1) hs) in
     let b = one_held f j h hs ws in
     omega arith
 
@@ -111,11 +111,11 @@ spread_past v h from (suc k) l =
     let r = spread_past v h (from + 1) k (omega arith) in
     omega arith
 
-none_held : (f : ℕ → ℕ) (j : ℕ) (ws : List ℕ) → sum_of (sum_of f) (map (λ w. held_from w j []) ws) ≡ 0
+none_held : (f : ℕ → ℕ) (j : ℕ) (ws : List ℕ) → sum_of (sum_of f) (map (λ w. share_from w j []) ws) ≡ 0
 none_held f j [] = refl
 none_held f j (w ∷ ws) = let r = none_held f j ws in omega arith
 
-pub dealt_sum_from : (f : ℕ → ℕ) (j k : ℕ) (hs : List ℕ) → All (λ h. h < k) hs → sum_of (sum_of f) (map (λ w. held_from w j hs) (range_with_len 0 k)) ≡ sum_of f (range_with_len j (length hs))
+pub dealt_sum_from : (f : ℕ → ℕ) (j k : ℕ) (hs : List ℕ) → All (λ h. h < k) hs → sum_of (sum_of f) (map (λ w. share_from w j hs) (range_with_len 0 k)) ≡ sum_of f (range_with_len j (length hs))
 dealt_sum_from f j k [] a = none_held f j (range_with_len 0 k)
 dealt_sum_from f j k (h ∷ hs) a =
     let below : h < k = All-head (λ h. h < k) h hs a in
@@ -129,11 +129,11 @@ pub shares_sum : (f : ℕ → ℕ) (k : ℕ) (hs : List ℕ) → All (λ h. h < 
 shares_sum f k hs a = dealt_sum_from f 0 k hs a
 
 -- each slice stands once in the shares
-pub each_once : (i k : ℕ) (hs : List ℕ) → All (λ h. h < k) hs → i < length hs → sum_of (times i) (shares_by hs k) ≡ 1
+pub each_once : (i k : ℕ) (hs : List ℕ) → All (λ h. h < k) hs → i < length hs → sum_of (times_in i) (shares_by hs k) ≡ 1
 each_once i k hs a l = shares_sum (λ x. cond (eqb x i) 1 0) k hs a ∙ spread_one 1 i 0 (length hs) (omega arith) (omega arith)
 
 -- no other number does
-pub no_other : (i k : ℕ) (hs : List ℕ) → All (λ h. h < k) hs → length hs ≤ i → sum_of (times i) (shares_by hs k) ≡ 0
+pub no_other : (i k : ℕ) (hs : List ℕ) → All (λ h. h < k) hs → length hs ≤ i → sum_of (times_in i) (shares_by hs k) ≡ 0
 no_other i k hs a l = shares_sum (λ x. cond (eqb x i) 1 0) k hs a ∙ spread_past 1 i 0 (length hs) (omega arith)
 
 pub sum_range_le : (f : ℕ → ℕ) (j m n : ℕ) → m ≤ n → sum_of f (range_with_len j m) ≤ sum_of f (range_with_len j n)

@@ -8,18 +8,18 @@ use Rattle.mwc_parts.specs.Slicing.{Slicing}
 use Rattle.mwc_pipe.specs.declared.word.Word.{Word}
 use Rattle.mwc_pipe.specs.declared.word.Word.TheVariants.{Open, One, Done, End}
 use Rattle.mwc_parts.specs.Wording.{wording, coalition_count}
-use Rattle.mwc_parts.specs.Settled.{AllSent}
-use Rattle.mwc_parts.specs.Pieces.{one_in, ones, dones, ends_from, Rises}
+use Rattle.mwc_parts.specs.Settled.{IsSentWhole}
+use Rattle.mwc_parts.specs.Pieces.{one_in, ones, done_counts, ends_from, Rises}
 
 ones-slice : (j : ℕ) (l : List ℕ) (rest : List Word) → ones (((Open j ∷ map One l) ++ Done j ∷ []) ++ rest) ≡ l ++ ones rest
 ones-slice j [] rest = refl
 ones-slice j (c ∷ l) rest = ap (λ (w : List ℕ). c ∷ w) (ones-slice j l rest)
 
-dones-slice : (n j : ℕ) (l : List ℕ) (rest : List Word) → dones n (((Open j ∷ map One l) ++ Done j ∷ []) ++ rest) ≡ (n + length l) ∷ dones (n + length l) rest
-dones-slice n j [] rest = let e : n ≡ n + 0 = omega arith in ap (λ (m : ℕ). m ∷ dones m rest) e
-dones-slice n j (c ∷ l) rest =
+done_counts-slice : (n j : ℕ) (l : List ℕ) (rest : List Word) → done_counts n (((Open j ∷ map One l) ++ Done j ∷ []) ++ rest) ≡ (n + length l) ∷ done_counts (n + length l) rest
+done_counts-slice n j [] rest = let e : n ≡ n + 0 = omega arith in ap (λ (m : ℕ). m ∷ done_counts m rest) e
+done_counts-slice n j (c ∷ l) rest =
     let e : (n + 1) + length l ≡ n + suc (length l) = omega arith in
-    dones-slice (n + 1) j l rest ∙ ap (λ (m : ℕ). m ∷ dones m rest) e
+    done_counts-slice (n + 1) j l rest ∙ ap (λ (m : ℕ). m ∷ done_counts m rest) e
 
 -- the coalitions that a wording tells are its slices joined
 pub ones-wording : (g : Slicing) (s : List ℕ) → ones (wording g s) ≡ flat_map g.slice s
@@ -27,10 +27,10 @@ ones-wording g [] = refl
 ones-wording g (j ∷ s) = ones-slice j (g.slice j) (wording g s) ∙ ap (λ (w : List ℕ). g.slice j ++ w) (ones-wording g s)
 
 -- and its Done words stand where the slices end
-pub dones-wording : (g : Slicing) (n : ℕ) (s : List ℕ) → dones n (wording g s) ≡ ends_from g n s
-dones-wording g n [] = refl
-dones-wording g n (j ∷ s) =
-    dones-slice n j (g.slice j) (wording g s) ∙ ap (λ (w : List ℕ). (n + length (g.slice j)) ∷ w) (dones-wording g (n + length (g.slice j)) s)
+pub done_counts-wording : (g : Slicing) (n : ℕ) (s : List ℕ) → done_counts n (wording g s) ≡ ends_from g n s
+done_counts-wording g n [] = refl
+done_counts-wording g n (j ∷ s) =
+    done_counts-slice n j (g.slice j) (wording g s) ∙ ap (λ (w : List ℕ). (n + length (g.slice j)) ∷ w) (done_counts-wording g (n + length (g.slice j)) s)
 
 pub length-joined : (g : Slicing) (s : List ℕ) → length (flat_map g.slice s) ≡ coalition_count g s
 length-joined g [] = refl
@@ -75,24 +75,24 @@ last_from g n (j ∷ s) = let r = last_from g (n + length (g.slice j)) s in omeg
 pub ones-append : (xs ys : List Word) → ones (xs ++ ys) ≡ ones xs ++ ones ys
 ones-append xs ys = filter_map-append one_in xs ys
 
-pub dones-append : (n : ℕ) (xs ys : List Word) → dones n (xs ++ ys) ≡ dones n xs ++ dones (n + length (ones xs)) ys
-dones-append n [] ys = let e : n ≡ n + 0 = omega arith in ap (λ (m : ℕ). dones m ys) e
-dones-append n (Open j ∷ xs) ys = dones-append n xs ys
-dones-append n (One c ∷ xs) ys =
+pub done_counts-append : (n : ℕ) (xs ys : List Word) → done_counts n (xs ++ ys) ≡ done_counts n xs ++ done_counts (n + length (ones xs)) ys
+done_counts-append n [] ys = let e : n ≡ n + 0 = omega arith in ap (λ (m : ℕ). done_counts m ys) e
+done_counts-append n (Open j ∷ xs) ys = done_counts-append n xs ys
+done_counts-append n (One c ∷ xs) ys =
     let e : (n + 1) + length (ones xs) ≡ n + suc (length (ones xs)) = omega arith in
-    dones-append (n + 1) xs ys ∙ ap (λ (m : ℕ). dones (n + 1) xs ++ dones m ys) e
-dones-append n (Done j ∷ xs) ys = ap (λ (w : List ℕ). n ∷ w) (dones-append n xs ys)
-dones-append n (End cut ∷ xs) ys = dones-append n xs ys
+    done_counts-append (n + 1) xs ys ∙ ap (λ (m : ℕ). done_counts (n + 1) xs ++ done_counts m ys) e
+done_counts-append n (Done j ∷ xs) ys = ap (λ (w : List ℕ). n ∷ w) (done_counts-append n xs ys)
+done_counts-append n (End cut ∷ xs) ys = done_counts-append n xs ys
 
 -- a part's fields, of the slices s
 pub record Reads (g : Slicing) (s got ends : List ℕ) : Type 0 where
   pub joins : got ≡ flat_map g.slice s
   pub ends_are : ends ≡ ends_from g 0 s
 
-pub reads : {g : Slicing} {most : ℕ} {s : List ℕ} {told : Bool} {words : List Word} (got ends : List ℕ) → AllSent g most s told words → got ≡ ones words → ends ≡ dones 0 words → Reads g s got ends
+pub reads : {g : Slicing} {most : ℕ} {s : List ℕ} {told : Bool} {words : List Word} (got ends : List ℕ) → IsSentWhole g most s told words → got ≡ ones words → ends ≡ done_counts 0 words → Reads g s got ends
 reads {g} {most} {s} {told} {words} got ends sent a b = record {
   joins = a ∙ ap ones sent.words_are ∙ ones-append (wording g s) (End false ∷ []) ∙ append-nil (ones (wording g s)) ∙ ones-wording g s;
-  ends_are = b ∙ ap (dones 0) sent.words_are ∙ dones-append 0 (wording g s) (End false ∷ []) ∙ append-nil (dones 0 (wording g s)) ∙ dones-wording g 0 s;
+  ends_are = b ∙ ap (done_counts 0) sent.words_are ∙ done_counts-append 0 (wording g s) (End false ∷ []) ∙ append-nil (done_counts 0 (wording g s)) ∙ done_counts-wording g 0 s;
 }
 
 pub one_end_each : {g : Slicing} {s got ends : List ℕ} → Reads g s got ends → length ends ≡ length s

@@ -4,7 +4,7 @@ use Rattle.std.proofs.Common.{eqb, get_or, ap, arith, sym, ◌∙◌}
 use Rattle.std.proofs.lemmas.Bool.{ne_eqb}
 use Rattle.std.proofs.lemmas.List.{take_all}
 use Rattle.mwc_parts.specs.Sums.{sum_of}
-use Rattle.mwc_parts.specs.Inner.Sums.{times}
+use Rattle.mwc_parts.specs.Inner.Sums.{times_in}
 use Rattle.mwc_parts.specs.Parts.{shares}
 use Rattle.mwc_parts.specs.declared.part.Part.{Part}
 
@@ -22,20 +22,20 @@ module _ {X : Type 0} where
   sum_of-map f h [] = refl
   sum_of-map f h (x ∷ xs) = let r = sum_of-map f h xs in omega arith
 
-pub times_more : (s : List ℕ) (j m : ℕ) → m < length s → times j (take m s) ≡ 0 → (get_or s m 0 ≡ j → ⊥) → times j (take (m + 1) s) ≡ 0
+pub times_more : (s : List ℕ) (j m : ℕ) → m < length s → times_in j (take m s) ≡ 0 → (get_or s m 0 ≡ j → ⊥) → times_in j (take (m + 1) s) ≡ 0
 times_more s j m l e ne =
     let a = sum_of-more (λ x. cond (eqb x j) 1 0) s m 0 l in
     let b : cond {A = ℕ} (eqb (get_or s m 0) j) 1 0 ≡ 0 = ap (λ (b : Bool). cond {A = ℕ} b 1 0) (ne_eqb (get_or s m 0) j ne) in
     omega arith
 
-pub times_all : (s : List ℕ) (j m : ℕ) → length s ≤ m → times j (take m s) ≡ 0 → times j s ≡ 0
-times_all s j m l e = ap (λ (w : List ℕ). times j w) (sym (take_all m s l)) ∙ e
+pub times_all : (s : List ℕ) (j m : ℕ) → length s ≤ m → times_in j (take m s) ≡ 0 → times_in j s ≡ 0
+times_all s j m l e = ap (λ (w : List ℕ). times_in j w) (sym (take_all m s l)) ∙ e
 
-pub shares_more : (parts : List Part) (j i : ℕ) (part : Part) → i < length parts → part ≡ get_or parts i part → times j part.slices.items ≡ 0 → sum_of (times j) (shares (take i parts)) ≡ 0 → sum_of (times j) (shares (take (i + 1) parts)) ≡ 0
+pub shares_more : (parts : List Part) (j i : ℕ) (part : Part) → i < length parts → part ≡ get_or parts i part → times_in j part.slices.items ≡ 0 → sum_of (times_in j) (shares (take i parts)) ≡ 0 → sum_of (times_in j) (shares (take (i + 1) parts)) ≡ 0
 shares_more parts j i part l e z h =
-    let f = λ (p : Part). times j p.slices.items in
-    let a = sum_of-map (times j) (λ (p : Part). p.slices.items) (take (i + 1) parts) in
-    let b = sum_of-map (times j) (λ (p : Part). p.slices.items) (take i parts) in
+    let f = λ (p : Part). times_in j p.slices.items in
+    let a = sum_of-map (times_in j) (λ (p : Part). p.slices.items) (take (i + 1) parts) in
+    let b = sum_of-map (times_in j) (λ (p : Part). p.slices.items) (take i parts) in
     let m = sum_of-more f parts i part l in
     let q = ap f e in
     omega arith

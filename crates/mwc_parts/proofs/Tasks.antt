@@ -5,8 +5,8 @@ use Rattle.std.proofs.lemmas.List.Elements.{All-head, All-tail}
 use Rattle.mwc_parts.specs.Slicing.{Slicing}
 use Rattle.mwc_pipe.specs.declared.word.Word.{Word}
 use Rattle.mwc_pipe.specs.declared.word.Word.TheVariants.{Open, One, Done, End}
-use Rattle.mwc_parts.specs.Wording.{opens, IsLast, coalition_count}
-use Rattle.mwc_parts.specs.Inner.Wording.{told_words}
+use Rattle.mwc_parts.specs.Wording.{open_words, IsLast, coalition_count}
+use Rattle.mwc_parts.specs.Inner.Wording.{end_words}
 
 -- no word that ends the work is a task that gives a slice
 not_last : (n j : ℕ) (last : Word) → last ≡ Open j → j < n → IsLast n last → ⊥
@@ -16,7 +16,7 @@ not_last n j (Done c) e l h = cc
 not_last n j (End c) e l h = cc
 
 -- who took the word that ends the work took all slices that were given, and was told
-pub all_taken : (n : ℕ) (s given : List ℕ) (last : Word) (left : List Word) (told : Bool) → All (λ j. j < n) given → IsLast n last → (opens s ++ last ∷ []) ++ left ≡ opens given ++ told_words told → (s ≡ given) × (told ≡ true)
+pub all_taken : (n : ℕ) (s given : List ℕ) (last : Word) (left : List Word) (told : Bool) → All (λ j. j < n) given → IsLast n last → (open_words s ++ last ∷ []) ++ left ≡ open_words given ++ end_words told → (s ≡ given) × (told ≡ true)
 all_taken n [] [] last left true a h e = (refl, refl)
 all_taken n [] [] last left false a h e = cc
 all_taken n [] (j ∷ given) last left told a h e =
@@ -25,13 +25,13 @@ all_taken n (i ∷ s) [] last left true a h e = cc
 all_taken n (i ∷ s) [] last left false a h e = cc
 all_taken n (i ∷ s) (j ∷ given) last left told a h e =
     let q : i ≡ j = cc in
-    let r : (opens s ++ last ∷ []) ++ left ≡ opens given ++ told_words told = cc in
+    let r : (open_words s ++ last ∷ []) ++ left ≡ open_words given ++ end_words told = cc in
     let t = all_taken n s given last left told (All-tail (λ j. j < n) j given a) h r in
     let u = t.0 in
     (cc, t.1)
 
 -- the slices that were taken before the cut, and the one that was cut, were given first
-pub cut_taken : (g : Slicing) (s given : List ℕ) (slice : ℕ) (left : List Word) (told : Bool) → (opens s ++ Open slice ∷ []) ++ left ≡ opens given ++ told_words told → coalition_count g s + length (g.slice slice) ≤ coalition_count g given
+pub cut_taken : (g : Slicing) (s given : List ℕ) (slice : ℕ) (left : List Word) (told : Bool) → (open_words s ++ Open slice ∷ []) ++ left ≡ open_words given ++ end_words told → coalition_count g s + length (g.slice slice) ≤ coalition_count g given
 cut_taken g [] [] slice left true e = cc
 cut_taken g [] [] slice left false e = cc
 cut_taken g [] (j ∷ given) slice left told e =
@@ -42,6 +42,6 @@ cut_taken g (i ∷ s) [] slice left false e = cc
 cut_taken g (i ∷ s) (j ∷ given) slice left told e =
     let q : i ≡ j = cc in
     let f = ap (λ (k : ℕ). length (g.slice k)) q in
-    let r : (opens s ++ Open slice ∷ []) ++ left ≡ opens given ++ told_words told = cc in
+    let r : (open_words s ++ Open slice ∷ []) ++ left ≡ open_words given ++ end_words told = cc in
     let t = cut_taken g s given slice left told r in
     omega arith

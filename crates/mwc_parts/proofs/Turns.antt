@@ -9,8 +9,8 @@ use Rattle.std.proofs.Math.Bool.{or_assoc, or-false}
 use Rattle.std.proofs.lemmas.Bool.{false≢true}
 use Rattle.std.proofs.lemmas.List.Elements.{All-head, All-tail, All-weaker, All-set, All-push}
 use Rattle.mwc_parts.specs.Table.{IsFirstFree}
-use Rattle.mwc_parts.specs.Inner.Deals.{held, shares_by, AreDealt}
-use Rattle.mwc_parts.specs.Inner.Dealing.{Seat, IsWell, is_ill, givens, DealsInOrder, Dealing, GivesNothing, GivesOne, Turns}
+use Rattle.mwc_parts.specs.Inner.Deals.{share_of, shares_by, AreDealt}
+use Rattle.mwc_parts.specs.Inner.Dealing.{Seat, IsWell, is_ill, given_slices, DealsInOrder, DealsInTurn, GivesNothing, GivesOne, TakesTurn}
 use Rattle.mwc_parts.proofs.Deals.{deal_from}
 
 -- the first free slice is the one after those that have a holder
@@ -41,14 +41,14 @@ module _ {X Y : Type 0} (f : X → Y) where
   pub map_at : (xs : List X) (i : ℕ) (x : X) (d : Y) → i < length xs → x ≡ get_or xs i x → f x ≡ get_or (map f xs) i d
   map_at xs i x d l e = ap f e ∙ sym (get_or-map f xs i x d l)
 
-pub share_at : (hs : List ℕ) (from k w : ℕ) → w < k → get_or (map (held hs) (range_with_len from k)) w [] ≡ held hs (from + w)
-share_at hs from k w l = get_or-map-range_with_len (held hs) from k w (from + w) [] l refl
+pub share_at : (hs : List ℕ) (from k w : ℕ) → w < k → get_or (map (share_of hs) (range_with_len from k)) w [] ≡ share_of hs (from + w)
+share_at hs from k w l = get_or-map-range_with_len (share_of hs) from k w (from + w) [] l refl
 
 -- what a worker was given is what it holds
-pub given_is : (hs : List ℕ) (seats : List Seat) (i : ℕ) (s : Seat) → givens seats ≡ shares_by hs (length seats) → i < length seats → s ≡ get_or seats i s → s.given ≡ held hs i
+pub given_is : (hs : List ℕ) (seats : List Seat) (i : ℕ) (s : Seat) → given_slices seats ≡ shares_by hs (length seats) → i < length seats → s ≡ get_or seats i s → s.given ≡ share_of hs i
 given_is hs seats i s g l e =
     let z : 0 + i ≡ i = omega arith in
-    map_at (λ (s : Seat). s.given) seats i s [] l e ∙ ap (λ (w : List (List ℕ)). get_or w i []) g ∙ share_at hs 0 (length seats) i l ∙ ap (held hs) z
+    map_at (λ (s : Seat). s.given) seats i s [] l e ∙ ap (λ (w : List (List ℕ)). get_or w i []) g ∙ share_at hs 0 (length seats) i l ∙ ap (share_of hs) z
 
 -- a refusal that was met stays met
 or_stays : (a b c d : Bool) → (c ≡ false → a ≡ false) → (d ≡ false → b ≡ false) → (a || b) ≡ true → (c || d) ≡ true
@@ -83,7 +83,7 @@ or_within false b h = refl
 
 -- the deal is stopped exactly where it should be after a turn too
 pub stops_then : (early : Bool) (seats : List Seat) (stopped stops : Bool) (i : ℕ) (s t : Seat) {done : Bool} {marks after : List (Option ℕ)} → i < length seats → s ≡ get_or seats i s
-    → Turns done marks stopped s i after stops t → stopped ≡ (early || list_any is_ill seats) → stops ≡ (early || list_any is_ill (set seats i t))
+    → TakesTurn done marks stopped s i after stops t → stopped ≡ (early || list_any is_ill seats) → stops ≡ (early || list_any is_ill (set seats i t))
 stops_then early seats stopped stops i s t l e r h =
     r.stops_are ∙ ap (λ (b : Bool). b || is_ill t) h ∙ or_assoc early (list_any is_ill seats) (is_ill t)
     ∙ ap (λ (b : Bool). early || b) (sym (ill_set seats i s t l e (ill_stays s t r.lost_stays r.cut_stays)))
@@ -96,7 +96,7 @@ none_ill [] a = refl
 none_ill (s ∷ seats) a = ap (λ (z : Bool). z || list_any is_ill seats) (not_ill s (All-head IsWell s seats a)) ∙ none_ill seats (All-tail IsWell s seats a)
 
 -- where no start failed and no refusal was met, the deal goes on
-pub well_goes_on : {n k : ℕ} {early stopped : Bool} {marks : List (Option ℕ)} (seats : List Seat) → early ≡ false → Dealing n k early marks stopped seats → All IsWell seats → stopped ≡ false
+pub well_goes_on : {n k : ℕ} {early stopped : Bool} {marks : List (Option ℕ)} (seats : List Seat) → early ≡ false → DealsInTurn n k early marks stopped seats → All IsWell seats → stopped ≡ false
 well_goes_on seats z d a = d.in_order.stops_are ∙ ap (λ (b : Bool). b || list_any is_ill seats) z ∙ none_ill seats a
 
 pub still : (a b : Bool) → (a ≡ true → b ≡ true) → b ≡ false → a ≡ false
@@ -112,7 +112,7 @@ at_read P seats i s l e a = subst P (sym e) (a i s l)
 
 -- nothing was given
 unfoldable pub turn_nothing : {n : ℕ} {done early stopped stops : Bool} {marks after : List (Option ℕ)} (seats : List Seat) (i : ℕ) (s t : Seat) → i < length seats → s ≡ get_or seats i s
-    → DealsInOrder n early marks stopped seats → Turns done marks stopped s i after stops t → GivesNothing done marks s after stops t → DealsInOrder n early after stops (set seats i t)
+    → DealsInOrder n early marks stopped seats → TakesTurn done marks stopped s i after stops t → GivesNothing done marks s after stops t → DealsInOrder n early after stops (set seats i t)
 turn_nothing {n} {done} {early} {stopped} {stops} {marks} {after} seats i s t l e d r g =
     let stays : stopped ≡ true → stops ≡ true = stays_by stopped stops (is_ill t) r.stops_are in
     let same : length (set seats i t) ≡ length seats = length-set seats i t in
@@ -139,7 +139,7 @@ above (suc f) l = (f, refl)
 
 -- the lowest slice was given
 unfoldable pub turn_one : {n : ℕ} {done early stopped stops : Bool} {marks after : List (Option ℕ)} (seats : List Seat) (i : ℕ) (s t : Seat) → i < length seats → s ≡ get_or seats i s
-    → DealsInOrder n early marks stopped seats → Turns done marks stopped s i after stops t → GivesOne done marks stops s i after t → DealsInOrder n early after stops (set seats i t)
+    → DealsInOrder n early marks stopped seats → TakesTurn done marks stopped s i after stops t → GivesOne done marks stops s i after t → DealsInOrder n early after stops (set seats i t)
 turn_one {n} {done} {early} {stopped} {stops} {marks} {after} seats i s t l e d r g =
     let stays : stopped ≡ true → stops ≡ true = stays_by stopped stops (is_ill t) r.stops_are in
     let same : length (set seats i t) ≡ length seats = length-set seats i t in
@@ -149,7 +149,7 @@ turn_one {n} {done} {early} {stopped} {stops} {marks} {after} seats i s t l e d 
     let few = above d.free first.1 in
     let f : ℕ = few.0 in
     let free_is : d.free ≡ suc f = few.1 in
-    let one : t.given ≡ held hs i ++ length hs ∷ [] = g.given ∙ ap (λ (w : List ℕ). w ++ g.slice ∷ []) (given_is hs seats i s d.given_are l e) ∙ ap (λ (j : ℕ). held hs i ++ j ∷ []) first.0 in
+    let one : t.given ≡ share_of hs i ++ length hs ∷ [] = g.given ∙ ap (λ (w : List ℕ). w ++ g.slice ∷ []) (given_is hs seats i s d.given_are l e) ∙ ap (λ (j : ℕ). share_of hs i ++ j ∷ []) first.0 in
     let sum : length hs + d.free ≡ n = d.all_slices in
     let longer : length (hs ++ i ∷ []) ≡ length hs + 1 = length-append hs (i ∷ []) in
     record {
@@ -175,7 +175,7 @@ turn_one {n} {done} {early} {stopped} {stops} {marks} {after} seats i s t l e d 
 -- words are read, and then a slice is given or not
 pub read_then_deal : {done stopped stop stops : Bool} {marks after : List (Option ℕ)} (s u t : Seat) (w : ℕ) → u.given ≡ s.given → u.told ≡ s.told → u.idle ≡ (s.idle || done)
     → (u.lost ≡ false → s.lost ≡ false) → (u.cut ≡ false → s.cut ≡ false) → stop ≡ (stopped || is_ill u)
-    → Turns false marks stop u w after stops t → Turns done marks stopped s w after stops t
+    → TakesTurn false marks stop u w after stops t → TakesTurn done marks stopped s w after stops t
 read_then_deal {done} {stopped} {stop} {stops} {marks} {after} s u t w given told idle lost cut e r =
     let now : (u.idle || false) ≡ (s.idle || done) = or-false u.idle ∙ idle in
     record {
@@ -210,12 +210,12 @@ still_held hs i w h =
     (omega arith, get_or_append_left hs (i ∷ []) 0 w m ∙ h.1)
 
 -- a deal that goes on after a turn went on before it
-pub went_on : {done stopped stops : Bool} {marks after : List (Option ℕ)} (s t : Seat) (w : ℕ) → Turns done marks stopped s w after stops t → stops ≡ false → stopped ≡ false
+pub went_on : {done stopped stops : Bool} {marks after : List (Option ℕ)} (s t : Seat) (w : ℕ) → TakesTurn done marks stopped s w after stops t → stops ≡ false → stopped ≡ false
 went_on {done} {stopped} {stops} s t w r = still stopped stops (stays_by stopped stops (is_ill t) r.stops_are)
 
 -- a turn keeps the deal
 pub turn : {n k : ℕ} {done early stopped stops : Bool} {marks after : List (Option ℕ)} (seats : List Seat) (i : ℕ) (s t : Seat) → i < length seats → s ≡ get_or seats i s
-    → Dealing n k early marks stopped seats → Turns done marks stopped s i after stops t → Dealing n k early after stops (set seats i t)
+    → DealsInTurn n k early marks stopped seats → TakesTurn done marks stopped s i after stops t → DealsInTurn n k early after stops (set seats i t)
 unfolding turn_nothing turn_one
 turn seats i s t l e d r =
     elim r.gives [
@@ -239,10 +239,10 @@ none_left {free} {stopped} (s ∷ seats) l z a b =
 
 -- where nothing was refused, and a worker was told, all slices are dealt
 pub all_dealt : {n k : ℕ} {stopped early : Bool} {marks : List (Option ℕ)} (seats : List Seat) → early ≡ false → 0 < length seats
-    → Dealing n k early marks stopped seats → All IsWell seats → All (λ (s : Seat). s.told ≡ true) seats → AreDealt n (givens seats)
+    → DealsInTurn n k early marks stopped seats → All IsWell seats → All (λ (s : Seat). s.told ≡ true) seats → AreDealt n (given_slices seats)
 all_dealt {n} {k} {stopped} {early} {marks} seats z l deal well told =
     let d = deal.in_order in
-    let same : length (givens seats) ≡ length seats = length-map seats (λ (s : Seat). s.given) in
+    let same : length (given_slices seats) ≡ length seats = length-map seats (λ (s : Seat). s.given) in
     let go : stopped ≡ false = well_goes_on seats z deal well in
     let none : d.free ≡ 0 = none_left seats l go d.told_late told in
     let sum : length d.holders + d.free ≡ n = d.all_slices in

@@ -15,12 +15,12 @@ abbrev pub ones : List Word → List ℕ
 ones words = filter_map one_in words
 
 -- how many coalitions stand before each Done, where n stood before the first word
-abbrev pub dones : ℕ → List Word → List ℕ
-dones n [] = []
-dones n (Open j ∷ ws) = dones n ws
-dones n (One c ∷ ws) = dones (n + 1) ws
-dones n (Done j ∷ ws) = n ∷ dones n ws
-dones n (End cut ∷ ws) = dones n ws
+abbrev pub done_counts : ℕ → List Word → List ℕ
+done_counts n [] = []
+done_counts n (Open j ∷ ws) = done_counts n ws
+done_counts n (One c ∷ ws) = done_counts (n + 1) ws
+done_counts n (Done j ∷ ws) = n ∷ done_counts n ws
+done_counts n (End cut ∷ ws) = done_counts n ws
 
 -- where each slice ends, in the slices joined
 abbrev pub ends_from : Slicing → ℕ → List ℕ → List ℕ

@@ -23,8 +23,8 @@ abbrev pub coalition_count : Slicing → List ℕ → ℕ
 coalition_count g js = sum_of (λ j. length (g.slice j)) js
 
 -- the tasks that give these slices
-abbrev pub opens : List ℕ → List Word
-opens slices = map Open slices
+abbrev pub open_words : List ℕ → List Word
+open_words slices = map Open slices
 
 -- whether a task ends the work
 abbrev pub IsLast : ℕ → Word → Type 0
@@ -35,7 +35,7 @@ IsLast n _ = ⊤
 pub record IsWholeSending (g : Slicing) (most : ℕ) (tasks words : List Word) : Type 0 where
   pub slices : List ℕ
   pub last : Word
-  pub tasks_are : tasks ≡ opens slices ++ last ∷ []
+  pub tasks_are : tasks ≡ open_words slices ++ last ∷ []
   pub below : All (λ j. j < g.slices) slices
   pub ends : IsLast g.slices last
   pub few : coalition_count g slices ≤ most
@@ -46,7 +46,7 @@ pub record IsCutSending (g : Slicing) (most : ℕ) (tasks words : List Word) : T
   pub slices : List ℕ
   pub slice : ℕ
   pub count : ℕ
-  pub tasks_are : tasks ≡ opens slices ++ Open slice ∷ []
+  pub tasks_are : tasks ≡ open_words slices ++ Open slice ∷ []
   pub below : All (λ j. j < g.slices) slices
   pub last_below : slice < g.slices
   pub some : 0 < count

@@ -1,7 +1,7 @@
 //! A part as its words come.
 ghost use Rattle.std.specs.Prelude.{◌≡◌, [], ◌∷◌, ◌++◌, List, false, length, IfOk, OnOk, true};
 ghost use Rattle.mwc_pipe.specs.declared.word.Word.{Word};
-ghost use Rattle.mwc_parts.specs.Pieces.{ones, dones};
+ghost use Rattle.mwc_parts.specs.Pieces.{ones, done_counts};
 ghost use Rattle.mwc_parts.specs.Settled.{is_cut, IsDraftOf};
 
 use council_game::{Coalition, Memory};
@@ -81,7 +81,7 @@ impl Draft {
     fn keep(&mut self, word: Word) -> Result<(), Memory>
         ensures got { OnOk result (self.new.got.items ≡ self.old.got.items ++ ones (word ∷ [])) }
         ensures ends { OnOk result (self.new.ends.items ≡ self.old.ends.items
-            ++ dones (length self.old.got.items) (word ∷ [])) }
+            ++ done_counts (length self.old.got.items) (word ∷ [])) }
         ensures same { (self.new.cut ≡ self.old.cut) × (self.new.lost ≡ self.old.lost) }
     {
         match word {

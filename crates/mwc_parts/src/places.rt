@@ -1,6 +1,6 @@
 //! Where a slice stands in a part.
 ghost use Rattle.std.specs.Prelude.{◌≡◌, ◌<◌, length, MatchOption, slice_index};
-ghost use Rattle.mwc_parts.specs.Inner.Sums.{times};
+ghost use Rattle.mwc_parts.specs.Inner.Sums.{times_in};
 ghost use Rattle.mwc_parts.specs.Parts.{piece};
 
 use crate::part::Part;
@@ -9,7 +9,7 @@ use council_game::Coalition;
 impl Part {
     /// Where the slice stands, if it does.
     pub(crate) fn place(&self, slice: u16) -> Option<usize>
-        ensures { MatchOption result (times slice self.now.slices.items ≡ 0)
+        ensures { MatchOption result (times_in slice self.now.slices.items ≡ 0)
             (λ m. (m < length self.now.slices.items) × (slice_index self.now.slices.items m ≡ slice)) }
     {
         for (m, number) in self.slices.iter().enumerate() {

@@ -9,7 +9,7 @@ use Rattle.mwc_pipe.specs.declared.step.Step.{Step}
 use Rattle.mwc_pipe.specs.declared.step.Step.TheVariants.{Put, Take, Close}
 use Rattle.mwc_pipe.specs.declared.reply.Reply.{Reply}
 use Rattle.mwc_pipe.specs.declared.reply.Reply.TheVariants.{Accepted, Full, Closed, Item, Empty, Ended, First, Again}
-use Rattle.mwc_pipe.specs.History.{Event, item_in, item_out, is_close, came, gone, reply_of_take, reply_to, history_after}
+use Rattle.mwc_pipe.specs.History.{Event, item_in, item_out, is_close, items_in, items_out, reply_of_take, reply_to, history_after}
 use Rattle.mwc_pipe.specs.PipeView.{PipeView, Leaves, IsStep}
 use Rattle.mwc_pipe.specs.Calls.{reply_of_taken, reply_of_close, TakesOut}
 use Rattle.mwc_pipe.specs.declared.taken.Taken.{Taken}
@@ -28,14 +28,14 @@ module _ {T : Type 0} where
   history_after_more capacity past (s ∷ ss) step = history_after_more capacity (past ++ (s, reply_to capacity past s) ∷ []) ss step
 
   -- what a Put finds inside by counting
-  pub inside_count : (past : List (Event T)) (pipe : PipeView T) → Leaves past pipe → length (came past) - length (gone past) ≡ length pipe.inside
+  pub inside_count : (past : List (Event T)) (pipe : PipeView T) → Leaves past pipe → length (items_in past) - length (items_out past) ≡ length pipe.inside
   inside_count past pipe leaves =
-      omega (arith, length-append (gone past) pipe.inside, ap length leaves.lawful)
+      omega (arith, length-append (items_out past) pipe.inside, ap length leaves.lawful)
 
   -- what a Take finds by its number among the accepted items
   pub oldest : (past : List (Event T)) (pipe : PipeView T) → Leaves past pipe →
-      slice_get (came past) (length (gone past)) ≡ slice_get pipe.inside 0
-  oldest past pipe leaves = rw (← leaves.lawful) (get_after (gone past) pipe.inside)
+      slice_get (items_in past) (length (items_out past)) ≡ slice_get pipe.inside 0
+  oldest past pipe leaves = rw (← leaves.lawful) (get_after (items_out past) pipe.inside)
 
   -- the reply, seen from what is inside
   abbrev pub reply_in : PipeView T → Step T → Reply T

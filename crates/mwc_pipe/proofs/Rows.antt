@@ -7,7 +7,7 @@ use Rattle.std.proofs.lemmas.List.Elements.{filter_map-append}
 use Rattle.std.proofs.Math.Seq.{take-append_seam}
 use Rattle.mwc_pipe.specs.declared.step.Step.TheVariants.{Put, Take}
 use Rattle.mwc_pipe.specs.declared.reply.Reply.TheVariants.{Accepted, Item}
-use Rattle.mwc_pipe.specs.History.{Event, item_in, item_out, came, gone}
+use Rattle.mwc_pipe.specs.History.{Event, item_in, item_out, items_in, items_out}
 use Rattle.mwc_pipe.specs.Rows.{put_refused, puts_of, take_refused, takes_of}
 
 module _ {T : Type 0} where
@@ -28,18 +28,18 @@ module _ {T : Type 0} where
   none_out false = refl
 
   -- the first items of the row come in
-  pub came_puts : (past : List (Event T)) (row : List T) (n : ℕ) → came (past ++ puts_of row n) ≡ came past ++ take n row
+  pub came_puts : (past : List (Event T)) (row : List T) (n : ℕ) → items_in (past ++ puts_of row n) ≡ items_in past ++ take n row
   came_puts past row n =
       filter_map-append item_in past (puts_of row n)
-      ∙ ap (λ (w : List T). came past ++ w) (filter_map-append item_in (map (λ x. (Put x, Accepted)) (take n row)) (put_refused (drop n row))
+      ∙ ap (λ (w : List T). items_in past ++ w) (filter_map-append item_in (map (λ x. (Put x, Accepted)) (take n row)) (put_refused (drop n row))
       ∙ ap (λ (w : List T). w ++ filter_map item_in (put_refused (drop n row))) (all_in (take n row))
       ∙ ap (λ (w : List T). take n row ++ w) (none_in (drop n row)) ∙ append-nil (take n row))
 
   -- the items go out
-  pub gone_takes : (past : List (Event T)) (items : List T) (short : Bool) → gone (past ++ takes_of items short) ≡ gone past ++ items
+  pub gone_takes : (past : List (Event T)) (items : List T) (short : Bool) → items_out (past ++ takes_of items short) ≡ items_out past ++ items
   gone_takes past items short =
       filter_map-append item_out past (takes_of items short)
-      ∙ ap (λ (w : List T). gone past ++ w) (filter_map-append item_out (map (λ x. (Take, Item x)) items) (take_refused short)
+      ∙ ap (λ (w : List T). items_out past ++ w) (filter_map-append item_out (map (λ x. (Take, Item x)) items) (take_refused short)
       ∙ ap (λ (w : List T). w ++ filter_map item_out (take_refused short)) (all_out items)
       ∙ ap (λ (w : List T). items ++ w) (none_out short) ∙ append-nil items)
 

@@ -11,7 +11,7 @@ use Rattle.std.proofs.lemmas.List.Folds.{list_any-append}
 use Rattle.mwc_pipe.specs.declared.step.Step.{Step}
 use Rattle.mwc_pipe.specs.declared.step.Step.TheVariants.{Put, Take, Close}
 use Rattle.mwc_pipe.specs.declared.reply.Reply.{Reply}
-use Rattle.mwc_pipe.specs.History.{Event, item_in, item_out, is_close, has_close, came, gone, reply_to, history_after, history, replies, IsLawful}
+use Rattle.mwc_pipe.specs.History.{Event, item_in, item_out, is_close, has_close, items_in, items_out, reply_to, history_after, history, replies, IsLawful}
 use Rattle.mwc_pipe.specs.PipeView.{PipeView, Leaves, IsStep}
 use Rattle.mwc_pipe.specs.Laws.{NothingIsLost, NothingEntersAfterClose, EachReplyIsCounted, HasPast}
 use Rattle.mwc_pipe.specs.declared.reply.Reply.TheVariants.{Accepted, First}
@@ -70,7 +70,7 @@ module _ {T : Type 0} where
   })
 
   kept_rest : (capacity : ℕ) (past : List (Event T)) → Kept capacity past →
-      (rest : List T) × IsLawful (came past) (gone past) rest × (length rest ≤ capacity)
+      (rest : List T) × IsLawful (items_in past) (items_out past) rest × (length rest ≤ capacity)
   kept_rest capacity past kept = (kept.pipe.inside, kept.leaves.lawful, omega (arith, kept.same, kept.short))
 
   pub nothing_is_lost_lem : (capacity : ℕ) (steps : List (Step T)) → NothingIsLost capacity steps
@@ -119,8 +119,8 @@ module _ {T : Type 0} where
   -- what stands after these steps
   pub record Replayed (capacity : ℕ) (steps : List (Step T)) (given : List (Reply T)) (ins outs : List T) (pipe : PipeView T) : Type 0 where
     pub given_is : given ≡ replies capacity steps
-    pub ins_is : ins ≡ came (history capacity steps)
-    pub outs_is : outs ≡ gone (history capacity steps)
+    pub ins_is : ins ≡ items_in (history capacity steps)
+    pub outs_is : outs ≡ items_out (history capacity steps)
     pub leaves : Leaves (history capacity steps) pipe
     pub same : pipe.capacity ≡ capacity
 
@@ -135,8 +135,8 @@ module _ {T : Type 0} where
       history_after_more capacity [] steps step ∙ ap (λ r. past ++ (step, r) ∷ []) (sym answer) in
       record {
         given_is = rw (longer, map-append, so_far.given_is) refl;
-        ins_is = rw (longer, filter_map-append, so_far.ins_is) (ap (λ xs. came past ++ xs) (one_out item_in (step, reply) _ refl));
-        outs_is = rw (longer, filter_map-append, so_far.outs_is) (ap (λ xs. gone past ++ xs) (one_out item_out (step, reply) _ refl));
+        ins_is = rw (longer, filter_map-append, so_far.ins_is) (ap (λ xs. items_in past ++ xs) (one_out item_in (step, reply) _ refl));
+        outs_is = rw (longer, filter_map-append, so_far.outs_is) (ap (λ xs. items_out past ++ xs) (one_out item_out (step, reply) _ refl));
         leaves = rw longer (next.leads past so_far.leaves);
         same = next.same ∙ so_far.same;
       }
@@ -152,7 +152,7 @@ module _ {T : Type 0} where
   replayed_short capacity steps given ins outs pipe so_far =
       let past : List (Event T) = history capacity steps in
       let (rest, lawful, short) = nothing_is_lost_lem capacity steps in
-      omega (arith, short, ap length lawful, ap length so_far.leaves.lawful, length-append (gone past) rest, length-append (gone past) pipe.inside)
+      omega (arith, short, ap length lawful, ap length so_far.leaves.lawful, length-append (items_out past) rest, length-append (items_out past) pipe.inside)
 
   -- the same, for a loop over the steps
   pub replayed_next : (capacity : ℕ) (steps : List (Step T)) (i : ℕ) (given given' : List (Reply T)) (ins ins' outs outs' : List T)
@@ -178,11 +178,11 @@ module _ {T : Type 0} where
   filled [] = []
   filled (x ∷ xs) = (Put x, Accepted) ∷ filled xs
 
-  came_filled : (xs : List T) → came (filled xs) ≡ xs
+  came_filled : (xs : List T) → items_in (filled xs) ≡ xs
   came_filled [] = refl
   came_filled (x ∷ xs) = ap (λ ys. x ∷ ys) (came_filled xs)
 
-  gone_filled : (xs : List T) → gone (filled xs) ≡ []
+  gone_filled : (xs : List T) → items_out (filled xs) ≡ []
   gone_filled [] = refl
   gone_filled (x ∷ xs) = gone_filled xs
 

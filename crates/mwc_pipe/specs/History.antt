@@ -30,12 +30,12 @@ module _ {T : Type 0} where
   has_close past = list_any (λ event. is_close event.0) past
 
   -- the accepted items, in step order
-  abbrev pub came : List (Event T) → List T
-  came past = filter_map item_in past
+  abbrev pub items_in : List (Event T) → List T
+  items_in past = filter_map item_in past
 
   -- the items taken, in step order
-  abbrev pub gone : List (Event T) → List T
-  gone past = filter_map item_out past
+  abbrev pub items_out : List (Event T) → List T
+  items_out past = filter_map item_out past
 
   -- the reply to a take: this item, or none is there
   abbrev pub reply_of_take : Option T → Bool → Reply T
@@ -45,8 +45,8 @@ module _ {T : Type 0} where
   -- the reply to a step after this past
   abbrev pub reply_to : ℕ → List (Event T) → Step T → Reply T
   reply_to capacity past (Put x) =
-      if has_close past then Closed else (if length (came past) - length (gone past) == capacity then Full else Accepted)
-  reply_to capacity past Take = reply_of_take (slice_get (came past) (length (gone past))) (has_close past)
+      if has_close past then Closed else (if length (items_in past) - length (items_out past) == capacity then Full else Accepted)
+  reply_to capacity past Take = reply_of_take (slice_get (items_in past) (length (items_out past))) (has_close past)
   reply_to capacity past Close = if has_close past then Again else First
 
   -- the past, and after it these steps, each with its reply
@@ -64,4 +64,4 @@ module _ {T : Type 0} where
 
   -- what was taken followed by what is inside is what was accepted
   abbrev pub IsLawful : List T → List T → List T → Type 0
-  IsLawful came gone inside = gone ++ inside ≡ came
+  IsLawful items_in items_out inside = items_out ++ inside ≡ items_in

@@ -4,14 +4,14 @@ use Rattle.mwc_pipe.specs.declared.step.Step.{Step}
 use Rattle.mwc_pipe.specs.declared.step.Step.TheVariants.{Put, Close}
 use Rattle.mwc_pipe.specs.declared.reply.Reply.{Reply}
 use Rattle.mwc_pipe.specs.declared.reply.Reply.TheVariants.{Closed}
-use Rattle.mwc_pipe.specs.History.{Event, history, came, gone, replies, reply_to, IsLawful}
+use Rattle.mwc_pipe.specs.History.{Event, history, items_in, items_out, replies, reply_to, IsLawful}
 use Rattle.mwc_pipe.specs.PipeView.{PipeView, Leaves}
 
 module _ {T : Type 0} where
   -- what was taken is the beginning of what was accepted, and the rest has at most `capacity` items
   abbrev pub NothingIsLost : ℕ → List (Step T) → Type 0
   NothingIsLost capacity steps =
-      (rest : List T) × IsLawful (came (history capacity steps)) (gone (history capacity steps)) rest × (length rest ≤ capacity)
+      (rest : List T) × IsLawful (items_in (history capacity steps)) (items_out (history capacity steps)) rest × (length rest ≤ capacity)
 
   -- by these replies to these steps, each put after a close is answered Closed
   abbrev pub NothingEntersAfterClose : List (Step T) → List (Reply T) → Type 0

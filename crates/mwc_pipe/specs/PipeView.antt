@@ -2,7 +2,7 @@
 use Rattle.std.specs.Prelude.{◌≡◌, ℕ, Bool, List, [], ◌∷◌, ◌++◌}
 use Rattle.mwc_pipe.specs.declared.step.Step.{Step}
 use Rattle.mwc_pipe.specs.declared.reply.Reply.{Reply}
-use Rattle.mwc_pipe.specs.History.{Event, came, gone, has_close, reply_to, IsLawful}
+use Rattle.mwc_pipe.specs.History.{Event, items_in, items_out, has_close, reply_to, IsLawful}
 
 -- the capacity, the items inside, oldest first, and whether it was closed
 pub record PipeView (T : Type 0) : Type 0 where
@@ -13,7 +13,7 @@ pub record PipeView (T : Type 0) : Type 0 where
 module _ {T : Type 0} where
   -- after this past the pipe holds these items, and is closed or not
   pub record Leaves (past : List (Event T)) (pipe : PipeView T) : Type 0 where
-    pub lawful : IsLawful (came past) (gone past) pipe.inside
+    pub lawful : IsLawful (items_in past) (items_out past) pipe.inside
     pub closed : pipe.closed ≡ has_close past
 
   -- whatever the past was that left the pipe as it is: the reply is the one after that past,

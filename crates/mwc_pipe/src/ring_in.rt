@@ -1,7 +1,7 @@
 //! The end of a ring that words are put into.
 ghost use Rattle.std.specs.Prelude.{◌≡◌, ◌+◌, ◌<◌, ◌≤◌, List, [], ◌∷◌, ◌++◌, false, length, take, IfOk, OnOk, IfErr, IsOk};
 ghost use Rattle.mwc_pipe.specs.declared.word.Word.{Word};
-ghost use Rattle.mwc_pipe.specs.History.{Event, came};
+ghost use Rattle.mwc_pipe.specs.History.{Event, items_in};
 ghost use Rattle.mwc_pipe.specs.Rows.{StopsAt, puts_of};
 ghost use Rattle.mwc_pipe.specs.Refusal.{handed_back, broken_after};
 ghost use Rattle.mwc_pipe.specs.RingName.{RingName};
@@ -64,8 +64,8 @@ impl RingIn {
         ensures count { result ≤ length words.now }
         ensures accepted { self.new ≡ record self.old { accepted = self.old.accepted ++ take result words.now } }
         ensures room { length self.new.accepted < self.old.capacity → result ≡ length words.now }
-        ensures story { (past : List (Event Word)) → came past ≡ self.old.accepted
-            → came (past ++ puts_of words.now result) ≡ self.new.accepted }
+        ensures story { (past : List (Event Word)) → items_in past ≡ self.old.accepted
+            → items_in (past ++ puts_of words.now result) ≡ self.new.accepted }
     {
         let (accepted, _) = self.producer.push_partial_slice(words);
         accepted.len()

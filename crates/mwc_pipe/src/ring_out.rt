@@ -1,7 +1,7 @@
 //! The end of a ring that words are taken from.
 ghost use Rattle.std.specs.Prelude.{◌≡◌, ◌≤◌, nat_lt, List, [], ◌∷◌, ◌++◌, length, take, drop, MatchOption};
 ghost use Rattle.mwc_pipe.specs.declared.word.Word.{Word};
-ghost use Rattle.mwc_pipe.specs.History.{Event, gone, IsLawful};
+ghost use Rattle.mwc_pipe.specs.History.{Event, items_out, IsLawful};
 ghost use Rattle.mwc_pipe.specs.Rows.{takes_of};
 
 use crate::closed::Closed;
@@ -43,8 +43,8 @@ impl RingOut {
         ensures count { result ≤ length into.old }
         ensures taken { self.new ≡ record self.old { taken = self.old.taken ++ take result into.new } }
         ensures rest { drop result into.new ≡ drop result into.old }
-        ensures story { (past : List (Event Word)) → gone past ≡ self.old.taken
-            → gone (past ++ takes_of (take result into.new) (nat_lt result (length into.old))) ≡ self.new.taken }
+        ensures story { (past : List (Event Word)) → items_out past ≡ self.old.taken
+            → items_out (past ++ takes_of (take result into.new) (nat_lt result (length into.old))) ≡ self.new.taken }
     {
         self.consumer.pop_partial_slice(into)
     }

@@ -3,7 +3,7 @@ ghost use Rattle.std.specs.Prelude.{◌≡◌, ◌≤◌, ◌^◌, ◌++◌, len
 ghost use Rattle.std.specs.Option.{option_to_list};
 ghost use Rattle.std.specs.List.{list_any};
 ghost use Rattle.mwc_pipe.specs.PipeView.{IsStep};
-ghost use Rattle.mwc_pipe.specs.History.{history, replies, came, gone, is_close, item_in, item_out, IsLawful};
+ghost use Rattle.mwc_pipe.specs.History.{history, replies, items_in, items_out, is_close, item_in, item_out, IsLawful};
 ghost use Rattle.mwc_pipe.specs.Laws.{NothingEntersAfterClose};
 
 use crate::pipe::Pipe;
@@ -38,8 +38,8 @@ pub struct Trace<T> {
 pub fn replay<T: Copy>(alloc: Global, capacity: u32, steps: &[Step<T>]) -> Result<Trace<T>, Memory>
     requires { (1 ≤ capacity) × (capacity ≤ 2 ^ 23) }
     ensures replies { IfOk result (λ trace. trace.replies.items ≡ replies capacity steps.now) }
-    ensures came { IfOk result (λ trace. trace.came.items ≡ came (history capacity steps.now)) }
-    ensures gone { IfOk result (λ trace. trace.gone.items ≡ gone (history capacity steps.now)) }
+    ensures came { IfOk result (λ trace. trace.came.items ≡ items_in (history capacity steps.now)) }
+    ensures gone { IfOk result (λ trace. trace.gone.items ≡ items_out (history capacity steps.now)) }
     ensures lawful { IfOk result (λ trace. IsLawful trace.came.items trace.gone.items trace.inside.items) }
     ensures room { IfOk result (λ trace. length trace.inside.items ≤ capacity) }
     ensures shut { IfOk result (λ trace. NothingEntersAfterClose steps.now trace.replies.items) }

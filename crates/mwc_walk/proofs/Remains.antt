@@ -9,9 +9,9 @@ use Rattle.std.proofs.lemmas.Nat.{mul-le, pow-add}
 use Rattle.council_game.specs.Votes.{Votes, minimal, down, minimal_coalitions}
 use Rattle.council_game.specs.Inner.Below.{minimal_below}
 use Rattle.mwc_walk.specs.Slices.{slice}
-use Rattle.mwc_walk.specs.Inner.Places.{in_slice, left_below}
+use Rattle.mwc_walk.specs.Inner.Places.{in_slice, slice_below}
 use Rattle.mwc_walk.specs.declared.cursor.Cursor.{Cursor}
-use Rattle.mwc_walk.specs.Inner.Cursor.{bound, left, CursorIs}
+use Rattle.mwc_walk.specs.Inner.Cursor.{bound, rest_of_slice, CursorIs}
 use Rattle.mwc_walk.proofs.Steps.{rest-most}
 
 -- a list that ends with another
@@ -40,8 +40,8 @@ filter-ends q p low (suc more) =
     ] in
     rw (← e) here
 
-left-ends : (v : Votes) (k j b : ℕ) → b ≤ 2 ^ v.members → EndsWith (slice v k j) (left_below v k j b)
-unfolding left_below minimal_below in_slice slice minimal_coalitions
+left-ends : (v : Votes) (k j b : ℕ) → b ≤ 2 ^ v.members → EndsWith (slice v k j) (slice_below v k j b)
+unfolding slice_below minimal_below in_slice slice minimal_coalitions
 left-ends v k j b le =
     let e : b + (2 ^ v.members - b) ≡ 2 ^ v.members = omega arith in
     let ends = filter-ends (λ c. eqb (c / 2 ^ (v.members - k)) (2 ^ k - 1 - j)) (minimal v) b (2 ^ v.members - b) in
@@ -62,16 +62,16 @@ drop-front whole end is =
     sym (ap (λ (i : ℕ). drop i whole) cut ∙ ap (drop (length is.front)) is.joined ∙ drop-append_seam is.front end)
 
 -- what is still to come is the slice, less as many of its first as were given
-pub rest-is : (v : Votes) (a : Cursor) → CursorIs v a → left v a ≡ drop (length (slice v a.bits a.number) - length (left v a)) (slice v a.bits a.number)
+pub rest-is : (v : Votes) (a : Cursor) → CursorIs v a → rest_of_slice v a ≡ drop (length (slice v a.bits a.number) - length (rest_of_slice v a)) (slice v a.bits a.number)
 rest-is v a is = drop-front _ _ (left-ends v a.bits a.number (bound a) (bound-below v a is))
 
 -- with one rule, the visits are bounded by what was given
-pub visits-most : (v : Votes) (a : Cursor) → CursorIs v a → (a.fresh ≡ true → a.place ≡ a.bits) → length v.rules ≡ 1 → a.visits ≤ a.bits + (v.members - a.bits) * (length (slice v a.bits a.number) - length (left v a))
+pub visits-most : (v : Votes) (a : Cursor) → CursorIs v a → (a.fresh ≡ true → a.place ≡ a.bits) → length v.rules ≡ 1 → a.visits ≤ a.bits + (v.members - a.bits) * (length (slice v a.bits a.number) - length (rest_of_slice v a))
 visits-most v a is rests one =
     let most = rest-most v a is rests one in
     let ends = left-ends v a.bits a.number (bound a) (bound-below v a is) in
-    let size : length (slice v a.bits a.number) ≡ length ends.front + length (left v a) = ap length ends.joined ∙ length-append ends.front (left v a) in
-    let whole : length (slice v a.bits a.number) ≡ length (slice v a.bits a.number) - length (left v a) + length (left v a) = omega (arith, size) in
-    let parts : (v.members - a.bits) * length (slice v a.bits a.number) ≡ (v.members - a.bits) * (length (slice v a.bits a.number) - length (left v a)) + (v.members - a.bits) * length (left v a) =
-    ap (λ (i : ℕ). (v.members - a.bits) * i) whole ∙ mul-add (v.members - a.bits) (length (slice v a.bits a.number) - length (left v a)) (length (left v a)) in
+    let size : length (slice v a.bits a.number) ≡ length ends.front + length (rest_of_slice v a) = ap length ends.joined ∙ length-append ends.front (rest_of_slice v a) in
+    let whole : length (slice v a.bits a.number) ≡ length (slice v a.bits a.number) - length (rest_of_slice v a) + length (rest_of_slice v a) = omega (arith, size) in
+    let parts : (v.members - a.bits) * length (slice v a.bits a.number) ≡ (v.members - a.bits) * (length (slice v a.bits a.number) - length (rest_of_slice v a)) + (v.members - a.bits) * length (rest_of_slice v a) =
+    ap (λ (i : ℕ). (v.members - a.bits) * i) whole ∙ mul-add (v.members - a.bits) (length (slice v a.bits a.number) - length (rest_of_slice v a)) (length (rest_of_slice v a)) in
     omega (arith, most, parts)

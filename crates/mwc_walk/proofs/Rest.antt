@@ -9,7 +9,7 @@ use Rattle.council_game.specs.Votes.{Votes, IsVotes, has, without, wins, minimal
 use Rattle.council_game.specs.Inner.Below.{minimal_below}
 use Rattle.council_game.proofs.Meanings.{needs-each-member}
 use Rattle.mwc_walk.specs.Slices.{slice}
-use Rattle.mwc_walk.specs.Inner.Places.{in_slice, left_below, reaches, wins_at}
+use Rattle.mwc_walk.specs.Inner.Places.{in_slice, slice_below, reaches, wins_at}
 use Rattle.mwc_walk.proofs.Blocks.{filter-down_skip, filter-down_take, some_digit, wins-below, loses-below}
 
 -- numbers of one block have one prefix
@@ -45,8 +45,8 @@ above-not_minimal v p x c game le win low high min =
     both_ways _ lost still
 
 -- a prefix that cannot reach some quota has nothing below it
-pub left-dead : (v : Votes) (k j p x : ℕ) → IsVotes v → p ≤ v.members → reaches v.rules p x ≡ false → left_below v k j ((x + 1) * 2 ^ (v.members - p)) ≡ left_below v k j (x * 2 ^ (v.members - p))
-unfolding left_below minimal_below
+pub left-dead : (v : Votes) (k j p x : ℕ) → IsVotes v → p ≤ v.members → reaches v.rules p x ≡ false → slice_below v k j ((x + 1) * 2 ^ (v.members - p)) ≡ slice_below v k j (x * 2 ^ (v.members - p))
+unfolding slice_below minimal_below
 left-dead v k j p x game le dead =
     let fails : (c : ℕ) → x * 2 ^ (v.members - p) ≤ c → c < x * 2 ^ (v.members - p) + 2 ^ (v.members - p) → minimal v c ≡ false =
     λ c low high. unfold minimal in and_left _ _ (false_from_ne_true _ (λ w.
@@ -56,8 +56,8 @@ left-dead v k j p x game le dead =
     ∙ filter-down_skip (minimal v) (x * 2 ^ (v.members - p)) (2 ^ (v.members - p)) fails)
 
 -- below a winning prefix only the prefix with zeros is left
-pub left-won : (v : Votes) (k j p x : ℕ) → IsVotes v → p ≤ v.members → wins_at v.rules p x ≡ true → left_below v k j ((x + 1) * 2 ^ (v.members - p)) ≡ left_below v k j (x * 2 ^ (v.members - p) + 1)
-unfolding left_below minimal_below
+pub left-won : (v : Votes) (k j p x : ℕ) → IsVotes v → p ≤ v.members → wins_at v.rules p x ≡ true → slice_below v k j ((x + 1) * 2 ^ (v.members - p)) ≡ slice_below v k j (x * 2 ^ (v.members - p) + 1)
+unfolding slice_below minimal_below
 left-won v k j p x game le win =
     let pos : 0 < 2 ^ (v.members - p) = pow_pos (v.members - p) in
     let e : (x + 1) * 2 ^ (v.members - p) ≡ (x * 2 ^ (v.members - p) + 1) + (2 ^ (v.members - p) - 1) = omega (arith, next-block x (v.members - p)) in
@@ -67,14 +67,14 @@ left-won v k j p x game le win =
     (λ c low high. false_from_ne_true _ (above-not_minimal v p x c game le win (omega arith) (omega arith))))
 
 -- c itself, where it is not minimal
-pub left-drop : (v : Votes) (k j c : ℕ) → minimal v c ≡ false → left_below v k j (c + 1) ≡ left_below v k j c
-unfolding left_below minimal_below
+pub left-drop : (v : Votes) (k j c : ℕ) → minimal v c ≡ false → slice_below v k j (c + 1) ≡ slice_below v k j c
+unfolding slice_below minimal_below
 left-drop v k j c h =
     ap (in_slice v k j) (filter-down_skip (minimal v) c 1 (λ d low high. ap (minimal v) (let e : d ≡ c = omega arith in e) ∙ h))
 
 -- c itself, where it is minimal and in the slice
-pub left-take : (v : Votes) (k j c : ℕ) → minimal v c ≡ true → c / 2 ^ (v.members - k) ≡ 2 ^ k - 1 - j → left_below v k j (c + 1) ≡ c ∷ left_below v k j c
-unfolding left_below minimal_below in_slice
+pub left-take : (v : Votes) (k j c : ℕ) → minimal v c ≡ true → c / 2 ^ (v.members - k) ≡ 2 ^ k - 1 - j → slice_below v k j (c + 1) ≡ c ∷ slice_below v k j c
+unfolding slice_below minimal_below in_slice
 left-take v k j c h inside =
     ap (λ (l : List ℕ). filter (λ d. eqb (d / 2 ^ (v.members - k)) (2 ^ k - 1 - j)) l) (filter-down_take (minimal v) c h)
     ∙ cond-true (eqb (c / 2 ^ (v.members - k)) (2 ^ k - 1 - j)) _ _ (eq-eqb _ _ inside)
@@ -95,8 +95,8 @@ filter-filter_skip q p low (suc more) fails =
     ∙ rest
 
 -- where the walk starts, the whole slice is left
-pub left-all : (v : Votes) (k j : ℕ) → k ≤ v.members → j < 2 ^ k → left_below v k j ((2 ^ k - 1 - j + 1) * 2 ^ (v.members - k)) ≡ slice v k j
-unfolding left_below minimal_below in_slice slice minimal_coalitions
+pub left-all : (v : Votes) (k j : ℕ) → k ≤ v.members → j < 2 ^ k → slice_below v k j ((2 ^ k - 1 - j + 1) * 2 ^ (v.members - k)) ≡ slice v k j
+unfolding slice_below minimal_below in_slice slice minimal_coalitions
 left-all v k j le below =
     let x : ℕ = 2 ^ k - 1 - j in
     let whole : 2 ^ v.members ≡ 2 ^ k * 2 ^ (v.members - k) = ap (λ (i : ℕ). 2 ^ i) (let e : v.members ≡ k + (v.members - k) = omega arith in e) ∙ pow-add 2 k (v.members - k) in
@@ -112,8 +112,8 @@ left-all v k j le below =
     ∙ ap (λ (i : ℕ). filter (λ c. eqb (c / 2 ^ (v.members - k)) (2 ^ k - 1 - j)) (filter (minimal v) (down i))) e
 
 -- where it ends, nothing is
-pub left-none : (v : Votes) (k j : ℕ) → left_below v k j ((2 ^ k - 1 - j) * 2 ^ (v.members - k)) ≡ []
-unfolding left_below minimal_below in_slice down
+pub left-none : (v : Votes) (k j : ℕ) → slice_below v k j ((2 ^ k - 1 - j) * 2 ^ (v.members - k)) ≡ []
+unfolding slice_below minimal_below in_slice down
 left-none v k j =
     let pos : 0 < 2 ^ (v.members - k) = pow_pos (v.members - k) in
     let fails : (c : ℕ) → c < (2 ^ k - 1 - j) * 2 ^ (v.members - k) → eqb (c / 2 ^ (v.members - k)) (2 ^ k - 1 - j) ≡ false =

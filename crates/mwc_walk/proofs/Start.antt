@@ -8,8 +8,8 @@ use Rattle.mwc_walk.specs.Inner.Lanes.{lane_with}
 use Rattle.council_game.specs.Votes.{RuleView, Votes, IsVotes, rule_at, has}
 use Rattle.mwc_walk.specs.Slices.{slice}
 use Rattle.council_game.proofs.GameTests.{fixed-half}
-use Rattle.mwc_walk.specs.Inner.Places.{left_below, LaneIs, LanesAre}
-use Rattle.mwc_walk.specs.Inner.Cursor.{bound, left, new_visit, Starts}
+use Rattle.mwc_walk.specs.Inner.Places.{slice_below, LaneIs, LanesAre}
+use Rattle.mwc_walk.specs.Inner.Cursor.{bound, rest_of_slice, new_visit, Starts}
 use Rattle.mwc_walk.proofs.Rest.{left-all}
 use Rattle.mwc_walk.proofs.Steps.{bound-fresh}
 use Rattle.mwc_walk.proofs.Tables.{lanes-in, lanes-pass, lanes-from}
@@ -41,12 +41,12 @@ starts v k j c game le below members rules room are prefix place fresh bits numb
     let pos : 0 < 2 ^ k = pow_pos k in
     let none : k - k ≡ 0 = omega arith in
     let whole : c.prefix / 2 ^ (k - k) ≡ c.prefix = ap (λ (i : ℕ). c.prefix / 2 ^ i) none ∙ (let z : c.prefix / 2 ^ 0 ≡ c.prefix = omega arith in z) in
-    let all : left v c ≡ slice v k j =
-    ap (λ (i : ℕ). left_below v i c.number (bound c)) bits
-    ∙ ap (λ (i : ℕ). left_below v k i (bound c)) number
-    ∙ ap (left_below v k j) (bound-fresh v c members fresh ∙ rw (prefix, place) refl)
+    let all : rest_of_slice v c ≡ slice v k j =
+    ap (λ (i : ℕ). slice_below v i c.number (bound c)) bits
+    ∙ ap (λ (i : ℕ). slice_below v k i (bound c)) number
+    ∙ ap (slice_below v k j) (bound-fresh v c members fresh ∙ rw (prefix, place) refl)
     ∙ left-all v k j le below in
-    let size : length (left v c) ≡ length (slice v k j) = ap length all in
+    let size : length (rest_of_slice v c) ≡ length (slice v k j) = ap length all in
     let slices : slice v c.bits c.number ≡ slice v k j = ap (λ (i : ℕ). slice v i c.number) bits ∙ ap (slice v k) number in
     let sizes : length (slice v c.bits c.number) ≡ length (slice v k j) = ap length slices in
     let w : new_visit c ≡ c.bits =

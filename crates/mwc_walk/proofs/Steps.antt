@@ -13,8 +13,8 @@ use Rattle.mwc_walk.specs.declared.step.Step.TheVariants.{On, Give, End}
 use Rattle.mwc_walk.specs.Inner.Lanes.{lane_with, lane_without, lane_reaches, lane_wins}
 use Rattle.council_game.specs.Votes.{RuleView, Votes, IsRule, weight, minimal}
 use Rattle.mwc_walk.specs.Slices.{slice}
-use Rattle.mwc_walk.specs.Inner.Places.{left_below, reaches, wins_at, LanesAre}
-use Rattle.mwc_walk.specs.Inner.Cursor.{bound, left, steps_left, new_visit, open_visits, CursorIs, Follows, Steps}
+use Rattle.mwc_walk.specs.Inner.Places.{slice_below, reaches, wins_at, LanesAre}
+use Rattle.mwc_walk.specs.Inner.Cursor.{bound, rest_of_slice, steps_left, new_visit, open_visits, CursorIs, Follows, Steps}
 use Rattle.council_game.proofs.Weights.{weight-more}
 use Rattle.mwc_walk.proofs.Rest.{left-dead, left-won, left-drop, left-take, left-none}
 use Rattle.mwc_walk.proofs.One.{one-minimal, won-odd, empty-loses, slice-short, in-slice}
@@ -98,10 +98,10 @@ back-up v a is stale more even =
     ∙ ap (λ (i : ℕ). 2 * (a.prefix / 2) * 2 ^ (v.members - i)) (sym pe)
     ∙ halves v.members (a.place - 1) (a.prefix / 2) (omega arith) in
     let bounds : bound b ≡ bound a = bound-stale v b is.members stale ∙ sym block ∙ sym (bound-stale v a is.members stale) in
-    let same : left v b ≡ left v a = ap (left_below v a.bits a.number) bounds in
+    let same : rest_of_slice v b ≡ rest_of_slice v a = ap (slice_below v a.bits a.number) bounds in
     let shape : LanesAre v.members (a.place - 1 + 1) (2 * (a.prefix / 2)) v.rules (take a.rules a.lanes) =
     rw (pe, xe) is.lanes in
-    let size : length (left v b) ≡ length (left v a) = ap length same in record {
+    let size : length (rest_of_slice v b) ≡ length (rest_of_slice v a) = ap length same in record {
       follows = record {
         is = record {
           game = is.game;
@@ -141,11 +141,11 @@ back-out v a ls is stale more odd room left_out =
     let ze : (a.prefix - 1) % 2 ≡ 0 = omega arith in
     let sums : a.prefix - 1 + 1 ≡ a.prefix + cond a.fresh 1 0 = rw stale (omega arith) in
     let bounds : bound b ≡ bound a = ap (λ (i : ℕ). i * 2 ^ (a.members - a.place)) sums in
-    let same : left v b ≡ left v a = ap (left_below v a.bits a.number) bounds in
+    let same : rest_of_slice v b ≡ rest_of_slice v a = ap (slice_below v a.bits a.number) bounds in
     let shape : LanesAre v.members (a.place - 1 + 1) (2 * (a.prefix / 2) + 1) v.rules (take a.rules a.lanes) = rw (pe, xe) is.lanes in
     let after : LanesAre v.members (a.place - 1 + 1) (2 * (a.prefix / 2)) v.rules (map (lane_without (a.place - 1)) (take a.rules a.lanes)) =
     lanes-out v.members (a.place - 1) (a.prefix / 2) v.rules (take a.rules a.lanes) (omega arith) shape in
-    let size : length (left v b) ≡ length (left v a) = ap length same in
+    let size : length (rest_of_slice v b) ≡ length (rest_of_slice v a) = ap length same in
     let w : cond (ltb a.bits a.place) ((a.prefix - 1) % 2) a.bits ≡ 0 = cond-true (ltb a.bits a.place) ((a.prefix - 1) % 2) a.bits (lt-ltb a.bits a.place lt) ∙ ze in
     let pe' : 1 + (a.place - 1 - a.bits) ≡ a.place - a.bits = omega arith in record {
       follows = record {
@@ -176,12 +176,12 @@ back-out v a ls is stale more odd room left_out =
     }
 
 -- nothing is left
-left-end : (v : Votes) (a : Cursor) → CursorIs v a → a.fresh ≡ false → a.place ≡ a.bits → left v a ≡ []
+left-end : (v : Votes) (a : Cursor) → CursorIs v a → a.fresh ≡ false → a.place ≡ a.bits → rest_of_slice v a ≡ []
 left-end v a is stale done =
     let none : a.place - a.bits ≡ 0 = omega arith in
     let x : a.prefix ≡ 2 ^ a.bits - 1 - a.number =
     (let one : a.prefix / 2 ^ 0 ≡ a.prefix = omega arith in sym one ∙ ap (λ (i : ℕ). a.prefix / 2 ^ i) (sym none) ∙ is.inside) in
-    ap (left_below v a.bits a.number) (
+    ap (slice_below v a.bits a.number) (
     bound-stale v a is.members stale
     ∙ ap (λ (i : ℕ). i * 2 ^ (v.members - a.place)) x
     ∙ ap (λ (i : ℕ). (2 ^ a.bits - 1 - a.number) * 2 ^ (v.members - i)) done)
@@ -218,8 +218,8 @@ out-fits v a is more odd =
 
 -- ---- a fresh place
 -- all below a fresh prefix is looked at: the rest of the cursor stays
-left-behind : (v : Votes) (a : Cursor) → CursorIs v a → length (slice v a.bits a.number) ≤ a.visits + length (left v (record a { fresh = false })) →
-    (length v.rules ≡ 1 → a.visits + (v.members - a.bits) * length (left v (record a { fresh = false })) ≤ a.bits + (v.members - a.bits) * length (slice v a.bits a.number)) → Follows v a (record a { fresh = false })
+left-behind : (v : Votes) (a : Cursor) → CursorIs v a → length (slice v a.bits a.number) ≤ a.visits + length (rest_of_slice v (record a { fresh = false })) →
+    (length v.rules ≡ 1 → a.visits + (v.members - a.bits) * length (rest_of_slice v (record a { fresh = false })) ≤ a.bits + (v.members - a.bits) * length (slice v a.bits a.number)) → Follows v a (record a { fresh = false })
 left-behind v a is least most = record {
   is = record {
     game = is.game;
@@ -241,17 +241,17 @@ left-behind v a is least most = record {
   counted = omega arith;
 }
 
-after-left : (v : Votes) (a : Cursor) → CursorIs v a → left v (record a { fresh = false }) ≡ left_below v a.bits a.number (a.prefix * 2 ^ (v.members - a.place))
-after-left v a is = ap (left_below v a.bits a.number) (bound-stale v (record a { fresh = false }) is.members refl)
+after-left : (v : Votes) (a : Cursor) → CursorIs v a → rest_of_slice v (record a { fresh = false }) ≡ slice_below v a.bits a.number (a.prefix * 2 ^ (v.members - a.place))
+after-left v a is = ap (slice_below v a.bits a.number) (bound-stale v (record a { fresh = false }) is.members refl)
 
 -- a prefix is passed by, where nothing is left below it and no visit is owed
-pass-by : (v : Votes) (a : Cursor) → CursorIs v a → a.fresh ≡ true → left v (record a { fresh = false }) ≡ left v a → (length v.rules ≡ 1 → open_visits v a ≡ 0) → Steps v a On (record a { fresh = false })
+pass-by : (v : Votes) (a : Cursor) → CursorIs v a → a.fresh ≡ true → rest_of_slice v (record a { fresh = false }) ≡ rest_of_slice v a → (length v.rules ≡ 1 → open_visits v a ≡ 0) → Steps v a On (record a { fresh = false })
 pass-by v a is fresh same none =
     let to : a.place ≤ v.members = is.to in
     let n40 : v.members ≤ 40 = is.game.few in
     let old = bound-fresh v a is.members fresh in
     let new = bound-stale v (record a { fresh = false }) is.members refl in
-    let size : length (left v (record a { fresh = false })) ≡ length (left v a) = ap length same in
+    let size : length (rest_of_slice v (record a { fresh = false })) ≡ length (rest_of_slice v a) = ap length same in
     let pos : 0 < 2 ^ (v.members - a.place) = pow_pos (v.members - a.place) in
     let next : (a.prefix + 1) * 2 ^ (v.members - a.place) ≡ a.prefix * 2 ^ (v.members - a.place) + 2 ^ (v.members - a.place) = omega arith in record {
       follows = left-behind v a is (omega (arith, size, is.least)) (λ one. (let before = is.most one in let z = none one in rw same (omega (arith, z, before))));
@@ -263,7 +263,7 @@ pass-by v a is fresh same none =
 pub enter-dead : (v : Votes) (a : Cursor) → CursorIs v a → a.fresh ≡ true → reaches v.rules a.place a.prefix ≡ false → Steps v a On (record a { fresh = false })
 enter-dead v a is fresh dead =
     pass-by v a is fresh
-    (after-left v a is ∙ sym (left-dead v a.bits a.number a.place a.prefix is.game is.to dead) ∙ ap (left_below v a.bits a.number) (sym (bound-fresh v a is.members fresh)))
+    (after-left v a is ∙ sym (left-dead v a.bits a.number a.place a.prefix is.game is.to dead) ∙ ap (slice_below v a.bits a.number) (sym (bound-fresh v a is.members fresh)))
     (λ _. cond-true a.fresh _ _ fresh ∙ cond-false (reaches v.rules a.place a.prefix) _ _ dead)
 
 reaches-in : (n p x : ℕ) (rs : List RuleView) → p < n → AllByRecursion (IsRule n) rs → reaches rs p x ≡ true → reaches rs (p + 1) (2 * x + 1) ≡ true
@@ -297,8 +297,8 @@ enter-in v a ls t counted holds is fresh below can lost room taken =
     ∙ ap (λ (i : ℕ). i * 2 ^ (v.members - (a.place + 1))) twice
     ∙ halves v.members a.place (a.prefix + 1) below
     ∙ sym (bound-fresh v a is.members fresh) in
-    let same : left v b ≡ left v a = ap (left_below v a.bits a.number) bounds in
-    let size : length (left v b) ≡ length (left v a) = ap length same in
+    let same : rest_of_slice v b ≡ rest_of_slice v a = ap (slice_below v a.bits a.number) bounds in
+    let size : length (rest_of_slice v b) ≡ length (rest_of_slice v a) = ap length same in
     let lt : a.bits < a.place + 1 = omega arith in
     let w : new_visit b ≡ 1 = cond-true a.fresh _ _ fresh ∙ cond-true (ltb a.bits (a.place + 1)) _ _ (lt-ltb a.bits (a.place + 1) lt) ∙ ze in
     let old = open-fresh v a fresh can in
@@ -329,8 +329,8 @@ enter-in v a ls t counted holds is fresh below can lost room taken =
     }
 
 -- ---- a winning prefix
-won-left : (v : Votes) (a : Cursor) → CursorIs v a → a.fresh ≡ true → wins_at v.rules a.place a.prefix ≡ true → left v a ≡ left_below v a.bits a.number (a.prefix * 2 ^ (v.members - a.place) + 1)
-won-left v a is fresh won = ap (left_below v a.bits a.number) (bound-fresh v a is.members fresh) ∙ left-won v a.bits a.number a.place a.prefix is.game is.to won
+won-left : (v : Votes) (a : Cursor) → CursorIs v a → a.fresh ≡ true → wins_at v.rules a.place a.prefix ≡ true → rest_of_slice v a ≡ slice_below v a.bits a.number (a.prefix * 2 ^ (v.members - a.place) + 1)
+won-left v a is fresh won = ap (slice_below v a.bits a.number) (bound-fresh v a is.members fresh) ∙ left-won v a.bits a.number a.place a.prefix is.game is.to won
 
 -- there was a visit for it
 won-visited : (v : Votes) (a : Cursor) → CursorIs v a → wins_at v.rules a.place a.prefix ≡ true → 1 ≤ cond (ltb a.bits a.place) (a.prefix % 2) a.bits
@@ -358,11 +358,11 @@ enter-give v a is fresh won min =
     let b : Cursor = record a { fresh = false } in
     let le : a.bits ≤ a.place = is.from in
     let to : a.place ≤ v.members = is.to in
-    let given : left v a ≡ a.prefix * 2 ^ (v.members - a.place) ∷ left v b =
+    let given : rest_of_slice v a ≡ a.prefix * 2 ^ (v.members - a.place) ∷ rest_of_slice v b =
     won-left v a is fresh won
     ∙ left-take v a.bits a.number (a.prefix * 2 ^ (v.members - a.place)) min (in-slice v.members a.bits a.place a.prefix is.from is.to ∙ is.inside)
     ∙ ap (λ (l : List ℕ). a.prefix * 2 ^ (v.members - a.place) ∷ l) (sym (after-left v a is)) in
-    let size : length (left v a) ≡ suc (length (left v b)) = ap length given in
+    let size : length (rest_of_slice v a) ≡ suc (length (rest_of_slice v b)) = ap length given in
     let visited = won-visited v a is won in
     let w : new_visit a ≡ cond (ltb a.bits a.place) (a.prefix % 2) a.bits = cond-true a.fresh _ _ fresh in
     let extra : open_visits v a ≤ a.place - a.bits = open-most v a in record {
@@ -420,7 +420,7 @@ one-is v a m is e one lt won =
     ap (minimal v) e ∙ one-minimal v a.place a.prefix is.game (sym is.rules ∙ one) (omega arith) is.to won (is.passed lt)
 
 -- between two calls no descent is under way
-pub rest-most : (v : Votes) (a : Cursor) → CursorIs v a → (a.fresh ≡ true → a.place ≡ a.bits) → length v.rules ≡ 1 → a.visits + (v.members - a.bits) * length (left v a) ≤ a.bits + (v.members - a.bits) * length (slice v a.bits a.number)
+pub rest-most : (v : Votes) (a : Cursor) → CursorIs v a → (a.fresh ≡ true → a.place ≡ a.bits) → length v.rules ≡ 1 → a.visits + (v.members - a.bits) * length (rest_of_slice v a) ≤ a.bits + (v.members - a.bits) * length (slice v a.bits a.number)
 rest-most v a is rests one =
     let before = is.most one in
     let extra : open_visits v a ≤ a.place - a.bits = open-most v a in

@@ -12,5 +12,5 @@ pub record WalkView : Type 0 where
   pub visits : ℕ
 
 -- how many coalitions of the slice were given: all but those to come
-abbrev pub given : WalkView → ℕ
-given w = length (slice w.votes w.bits w.number) - length w.to_come
+abbrev pub given_count : WalkView → ℕ
+given_count w = length (slice w.votes w.bits w.number) - length w.to_come

@@ -2,7 +2,7 @@
 ghost use Rattle.std.specs.Prelude.{◌≡◌, ◌+◌, ◌-◌, ◌*◌, ◌^◌, ◌<◌, ◌≤◌, [], ◌∷◌, drop, length, MatchOption};
 ghost use Rattle.council_game.specs.Game.{votes_of};
 ghost use Rattle.mwc_walk.specs.Slices.{slice};
-ghost use Rattle.mwc_walk.specs.WalkView.{given};
+ghost use Rattle.mwc_walk.specs.WalkView.{given_count};
 
 use crate::cursor::Cursor;
 use council_game::{Coalition, Game};
@@ -79,10 +79,10 @@ impl<'a> Walk<'a> {
     pub fn visits(&self) -> u64
         ensures count { result ≡ self.now.visits }
         ensures rest { self.now.to_come ≡
-            drop (given self.now) (slice self.now.votes self.now.bits self.now.number) }
-        ensures least { given self.now ≤ result }
+            drop (given_count self.now) (slice self.now.votes self.now.bits self.now.number) }
+        ensures least { given_count self.now ≤ result }
         ensures most { length self.now.votes.rules ≡ 1 →
-            result ≤ self.now.bits + (self.now.votes.members - self.now.bits) * given self.now }
+            result ≤ self.now.bits + (self.now.votes.members - self.now.bits) * given_count self.now }
     {
         self.cursor.visits
     }

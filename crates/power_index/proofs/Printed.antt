@@ -6,7 +6,7 @@ use Rattle.std.proofs.lemmas.List.Sums.{get_or-le-sum_by}
 use Rattle.std.proofs.lemmas.List.FromFn.{length-range_with_len, get_or-range_with_len}
 use Rattle.council_game.specs.Game.{GameView}
 use Rattle.power_index.specs.Counting.{members, count_of_member}
-use Rattle.power_index.specs.Tables.{Tables, denominator, weighed, AreCounts, table_total, table_of_member, table_of_member_size, table_memberships}
+use Rattle.power_index.specs.Tables.{Tables, denominator, weighted_sum, AreCounts, table_total, table_of_member, table_of_member_size, table_memberships}
 use Rattle.power_index.specs.Fractions.{IsLowestOf}
 use Rattle.power_index.specs.Indices.{deegan_packel, public_good, sizes_of_member}
 use Rattle.power_index.proofs.Sums.{sum-range}
@@ -14,7 +14,7 @@ use Rattle.power_index.proofs.Units.{mean, bottom_pos}
 use Rattle.power_index.proofs.Weights.{within, weight}
 
 pub deegan-packel-is : (g : GameView) (list : List ℕ) (t : Tables) (i top bottom : ℕ) → i < t.members → t.members ≤ 40 → AreCounts g list t
-    → IsLowestOf (weighed denominator (table_of_member_size t i) t.members, denominator * table_total t) (top, bottom) → IsLowestOf (deegan_packel g list i) (top, bottom)
+    → IsLowestOf (weighted_sum denominator (table_of_member_size t i) t.members, denominator * table_total t) (top, bottom) → IsLowestOf (deegan_packel g list i) (top, bottom)
 unfolding deegan_packel
 deegan-packel-is g list t i top bottom lt few h is = record {
   positive = is.positive;
@@ -33,10 +33,10 @@ at-most-one sum whole top bottom pos le same =
     let both : top * whole ≤ bottom * whole = omega (arith, up, same) in
     le_of_mul-le-mul_right both pos
 
-pub deegan-packel-le : (t : Tables) (i top bottom : ℕ) → 1 ≤ table_total t → weighed denominator (table_of_member_size t i) t.members ≤ denominator * table_total t
-    → IsLowestOf (weighed denominator (table_of_member_size t i) t.members, denominator * table_total t) (top, bottom) → top ≤ bottom
+pub deegan-packel-le : (t : Tables) (i top bottom : ℕ) → 1 ≤ table_total t → weighted_sum denominator (table_of_member_size t i) t.members ≤ denominator * table_total t
+    → IsLowestOf (weighted_sum denominator (table_of_member_size t i) t.members, denominator * table_total t) (top, bottom) → top ≤ bottom
 deegan-packel-le t i top bottom some light is =
-    at-most-one (weighed denominator (table_of_member_size t i) t.members) (denominator * table_total t) top bottom (omega arith) light is.same
+    at-most-one (weighted_sum denominator (table_of_member_size t i) t.members) (denominator * table_total t) top bottom (omega arith) light is.same
 
 memberships-are : (g : GameView) (list : List ℕ) (t : Tables) → AreCounts g list t → table_memberships t ≡ sum_by (λ j. count_of_member g j list) (members g)
 memberships-are g list t h =

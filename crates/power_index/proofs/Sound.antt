@@ -9,7 +9,7 @@ use Rattle.council_game.proofs.Games.{votes-are}
 use Rattle.council_game.proofs.Making.{ranks-are}
 use Rattle.power_index.specs.declared.tally.Tally.{Tally}
 use Rattle.power_index.specs.Counting.{members, contains, size_of, count_of_member}
-use Rattle.power_index.specs.Tables.{Tables, Tallies, AllTallies, AreTallies, AreOfOneGame, AreCounts, AreWithin, no_tally, tally_total, table_total, table_of_member}
+use Rattle.power_index.specs.Tables.{Tables, IsTallyOf, AreTalliesOf, AreTallies, AreOfOneGame, AreCounts, AreWithin, no_tally, tally_total, table_total, table_of_member}
 use Rattle.power_index.specs.Inner.Tables.{AreOfSomeList, IsJoined, with_one}
 use Rattle.power_index.proofs.Sums.{length-filter-le, sum-range}
 use Rattle.power_index.proofs.Members.{few-members, memberships, sizes-some, size-le}
@@ -21,9 +21,9 @@ filter-all [] = refl
 filter-all (c ∷ cs) = ap (λ n. suc n) (filter-all cs)
 
 -- the tally of a member's coalitions
-member-tallies : (g : GameView) (list : List ℕ) (t : Tables) (i : ℕ) → i < t.members → AreTallies g list t → Tallies (length g.names) (contains g i) list (get_or t.each (get_or t.ranks i 0) no_tally)
+member-tallies : (g : GameView) (list : List ℕ) (t : Tables) (i : ℕ) → i < t.members → AreTallies g list t → IsTallyOf (length g.names) (contains g i) list (get_or t.each (get_or t.ranks i 0) no_tally)
 member-tallies g list t i lt h =
-    subst (λ (p : ℕ). Tallies (length g.names) (contains g i) list (get_or t.each p no_tally)) (sym (h.of_game.ranks i lt))
+    subst (λ (p : ℕ). IsTallyOf (length g.names) (contains g i) list (get_or t.each p no_tally)) (sym (h.of_game.ranks i lt))
     (h.tallies.each (get_or g.ranks i 0) ((ranks-are g h.of_game.is_game).place_below i (omega (arith, h.of_game.members))))
 
 -- how many were counted
@@ -121,13 +121,13 @@ some-of_all t s le h =
 
 -- no coalition is counted
 pub none-hold : (g : GameView) (m : ℕ) (ranks : List ℕ) (all one : Tally) → IsGame g → m ≡ length g.names → ((i : ℕ) → i < m → get_or ranks i 0 ≡ get_or g.ranks i 0)
-    → Tallies (length g.names) (λ c. true) [] all → ((p : ℕ) → Tallies (length g.names) (has (length g.names) p) [] one)
+    → IsTallyOf (length g.names) (λ c. true) [] all → ((p : ℕ) → IsTallyOf (length g.names) (has (length g.names) p) [] one)
     → AreTallies g [] (record { members = m; ranks = ranks; all = all; each = replicate 40 one })
 none-hold g m ranks all one game m-is same whole each = record {
   of_game = record { is_game = game; members = m-is; ranks = same };
   tallies = record {
     all = whole;
-    each = λ p lt. (let few = few-members g game in subst (Tallies (length g.names) (has (length g.names) p) []) (sym (get_or-replicate 40 p one no_tally (omega (arith, lt, few)))) (each p));
+    each = λ p lt. (let few = few-members g game in subst (IsTallyOf (length g.names) (has (length g.names) p) []) (sym (get_or-replicate 40 p one no_tally (omega (arith, lt, few)))) (each p));
   };
 }
 
@@ -185,7 +185,7 @@ of-first s t g g' first second one a b =
         members = b.of_game.members ∙ names;
         ranks = λ i lt. (let below : i < s.members = omega (arith, lt, one.members) in one.ranks i below ∙ a.of_game.ranks i below);
       };
-      tallies = subst (λ (n : ℕ). AllTallies n second t) names b.tallies;
+      tallies = subst (λ (n : ℕ). AreTalliesOf n second t) names b.tallies;
     }
 
 pub join-some : (s t u : Tables) (a : AreOfSomeList s) (b : AreOfSomeList t) → AreOfOneGame s t → table_total s + table_total t ≤ 2 ^ 40

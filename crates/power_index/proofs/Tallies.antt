@@ -7,7 +7,7 @@ use Rattle.std.proofs.lemmas.List.Sums.{sum_by_push, sum_by-cons}
 use Rattle.std.proofs.lemmas.Bool.{cases_eq, ne_eqb}
 use Rattle.council_game.specs.Votes.{size}
 use Rattle.power_index.specs.declared.tally.Tally.{Tally}
-use Rattle.power_index.specs.Tables.{tally_total, Tallies}
+use Rattle.power_index.specs.Tables.{tally_total, IsTallyOf}
 use Rattle.power_index.specs.Inner.Tables.{with_one}
 use Rattle.power_index.proofs.Members.{size-le, count-sizes}
 use Rattle.power_index.proofs.Sums.{sum-range, sum-cong, sum-plus, sum-zero, length-filter-le}
@@ -48,12 +48,12 @@ length-filter-push q list c = ap (λ (l : List ℕ). length l) (filter-append q 
     one true = refl
     one false = refl
 
-pub tallies-none : (n : ℕ) (p : ℕ → Bool) (t : Tally) → length t.sizes ≡ 41 → ((s : ℕ) → get_or t.sizes s 0 ≡ 0) → Tallies n p [] t
+pub tallies-none : (n : ℕ) (p : ℕ → Bool) (t : Tally) → length t.sizes ≡ 41 → ((s : ℕ) → get_or t.sizes s 0 ≡ 0) → IsTallyOf n p [] t
 tallies-none n p t long sizes = record { long = long; sizes = λ s _. sizes s }
 
 -- one coalition more, which passes
 tallies-in-at : (n : ℕ) (p : ℕ → Bool) (list : List ℕ) (c : ℕ) (t : Tally) → size n c ≤ 40 → p c ≡ true
-    → Tallies n p list t → (s : ℕ) → s ≤ 40 → (size n c ≡ s) ⊎ (size n c ≢ s)
+    → IsTallyOf n p list t → (s : ℕ) → s ≤ 40 → (size n c ≡ s) ⊎ (size n c ≢ s)
     → get_or (set t.sizes (size n c) (get_or t.sizes (size n c) 0 + 1)) s 0 ≡ length (filter (λ x. p x && (size n x == s)) (list ++ c ∷ []))
 tallies-in-at n p list c t small pass h s le e =
     let of_size : ℕ → Bool = λ x. p x && (size n x == s) in
@@ -73,31 +73,31 @@ tallies-in-at n p list c t small pass h s le e =
           get_or-set_other t.sizes (size n c) s (get_or t.sizes (size n c) 0 + 1) 0 (λ (q : s ≡ size n c). ne (sym q)) ∙ before ∙ omega (arith, more')
     ]
 
-tallies-in : (n : ℕ) (p : ℕ → Bool) (list : List ℕ) (c : ℕ) (t : Tally) → size n c ≤ 40 → p c ≡ true → Tallies n p list t → Tallies n p (list ++ c ∷ []) (with_one t (size n c))
+tallies-in : (n : ℕ) (p : ℕ → Bool) (list : List ℕ) (c : ℕ) (t : Tally) → size n c ≤ 40 → p c ≡ true → IsTallyOf n p list t → IsTallyOf n p (list ++ c ∷ []) (with_one t (size n c))
 tallies-in n p list c t small pass h = record {
   long = length-set t.sizes _ _ ∙ h.long;
   sizes = λ s le. tallies-in-at n p list c t small pass h s le (cases_eq (size n c) s);
 }
 
 -- one coalition more, which does not
-tallies-out : (n : ℕ) (p : ℕ → Bool) (list : List ℕ) (c : ℕ) (t : Tally) → p c ≡ false → Tallies n p list t → Tallies n p (list ++ c ∷ []) t
+tallies-out : (n : ℕ) (p : ℕ → Bool) (list : List ℕ) (c : ℕ) (t : Tally) → p c ≡ false → IsTallyOf n p list t → IsTallyOf n p (list ++ c ∷ []) t
 tallies-out n p list c t fail h = record {
   long = h.long;
   sizes = λ s le. h.sizes s le ∙ sym (length-filter-push (λ x. p x && (size n x == s)) list c ∙ (ap (λ b. length (filter (λ x. p x && (size n x == s)) list) + cond (b && (size n c == s)) 1 0) fail ∙ omega arith));
 }
 
 pub tallies-more : (n : ℕ) (p : ℕ → Bool) (list : List ℕ) (c s : ℕ) (t v : Tally) → s ≡ size n c → s ≤ 40 → v ≡ cond (p c) (with_one t s) t
-    → Tallies n p list t → Tallies n p (list ++ c ∷ []) v
-tallies-more n p list c s t v is small v-is h = subst (Tallies n p (list ++ c ∷ [])) (sym v-is) (cases (p c) refl)
+    → IsTallyOf n p list t → IsTallyOf n p (list ++ c ∷ []) v
+tallies-more n p list c s t v is small v-is h = subst (IsTallyOf n p (list ++ c ∷ [])) (sym v-is) (cases (p c) refl)
   where
-    cases : (b : Bool) → p c ≡ b → Tallies n p (list ++ c ∷ []) (cond b (with_one t s) t)
-    cases true e = subst (λ x. Tallies n p (list ++ c ∷ []) (with_one t x)) (sym is) (tallies-in n p list c t (omega arith) e h)
+    cases : (b : Bool) → p c ≡ b → IsTallyOf n p (list ++ c ∷ []) (cond b (with_one t s) t)
+    cases true e = subst (λ x. IsTallyOf n p (list ++ c ∷ []) (with_one t x)) (sym is) (tallies-in n p list c t (omega arith) e h)
     cases false e = tallies-out n p list c t e h
 
 -- two lists, one after the other
 pub tallies-join : (n : ℕ) (p : ℕ → Bool) (first second : List ℕ) (s t u : Tally) → length u.sizes ≡ 41
     → ((k : ℕ) → k ≤ 40 → get_or u.sizes k 0 ≡ get_or s.sizes k 0 + get_or t.sizes k 0)
-    → Tallies n p first s → Tallies n p second t → Tallies n p (first ++ second) u
+    → IsTallyOf n p first s → IsTallyOf n p second t → IsTallyOf n p (first ++ second) u
 tallies-join n p first second s t u long sum a b = record {
   long = long;
   sizes = λ k le.
@@ -110,7 +110,7 @@ tallies-join n p first second s t u long sum a b = record {
 }
 
 -- no number of a tally is greater than the list is long
-pub tallies-few : (n : ℕ) (p : ℕ → Bool) (list : List ℕ) (t : Tally) (s : ℕ) → s ≤ 40 → Tallies n p list t → get_or t.sizes s 0 ≤ length list
+pub tallies-few : (n : ℕ) (p : ℕ → Bool) (list : List ℕ) (t : Tally) (s : ℕ) → s ≤ 40 → IsTallyOf n p list t → get_or t.sizes s 0 ≤ length list
 tallies-few n p list t s le h = let a = h.sizes s le in let b = length-filter-le (λ c. p c && (size n c == s)) list in omega (arith, a, b)
 
 -- one number is each once
@@ -156,7 +156,7 @@ sizes-up-to n [] = tt
 sizes-up-to n (c ∷ cs) = (size-le n c, sizes-up-to n cs)
 
 -- the sizes of a tally add up to how many pass
-pub tallies-total : (n : ℕ) (p : ℕ → Bool) (list : List ℕ) (t : Tally) → n ≤ 40 → Tallies n p list t → tally_total n t ≡ length (filter p list)
+pub tallies-total : (n : ℕ) (p : ℕ → Bool) (list : List ℕ) (t : Tally) → n ≤ 40 → IsTallyOf n p list t → tally_total n t ≡ length (filter p list)
 tallies-total n p list t few h =
     sum-range (λ s. get_or t.sizes s 0) (λ s. count_by (λ x. x == s) (map (size n) (filter p list))) 0 (n + 1) (λ s _ lt. h.sizes s (omega arith) ∙ count-sizes p (size n) s list)
     ∙ (sum-counts n (map (size n) (filter p list)) (sizes-up-to n (filter p list)) ∙ length-map (filter p list) (size n))

@@ -4,23 +4,23 @@ use Rattle.std.specs.Int.{IsGcd, ◌∣◌}
 use Rattle.std.proofs.lemmas.Nat.Gcd.{IsGcd-from_zero, IsGcd-swap, IsGcd-from_sub, dvd_antisymm, dvd_refl, dvd-zero}
 use Rattle.std.proofs.lemmas.Bool.{cases_lt}
 use Rattle.std.proofs.Math.Nat.{dvd-add, dvd-mul_left, mul-sub, mul-le-mul, eq_of_mul-eq-mul_right}
-use Rattle.power_index.specs.Fractions.{Coprime, IsIndex, IsLowestOf, SameFraction}
+use Rattle.power_index.specs.Fractions.{AreCoprime, IsIndex, IsLowestOf, SameFraction}
 
-coprime-swap : (x y : ℕ) → Coprime x y → Coprime y x
+coprime-swap : (x y : ℕ) → AreCoprime x y → AreCoprime y x
 coprime-swap x y h d dx dy = h d dy dx
 
 -- with 0, only 1 is coprime
-one-with-zero : (y : ℕ) → Coprime 0 y → y ≡ 1
+one-with-zero : (y : ℕ) → AreCoprime 0 y → y ≡ 1
 one-with-zero zero h = let two : 2 ≤ 1 = h 2 (dvd-zero 2) (dvd-zero 2) in absurd (omega arith)
 one-with-zero (suc y) h = let le : suc y ≤ 1 = h (suc y) (dvd-zero (suc y)) (dvd_refl (suc y)) in omega arith
 
-from-zero : (m y : ℕ) → Coprime 0 y → IsGcd (m * 0) (m * y) m
+from-zero : (m y : ℕ) → AreCoprime 0 y → IsGcd (m * 0) (m * y) m
 from-zero m y h =
     let one = one-with-zero y h in
     let e : m * y ≡ m = ap (λ (k : ℕ). m * k) one ∙ omega arith in
     IsGcd-swap (m * y) (m * 0) m (subst (λ (k : ℕ). IsGcd (m * y) (m * 0) k) e (IsGcd-from_zero (m * y) (m * 0) (omega arith)))
 
-scaled : (n m x y : ℕ) → x + y ≤ n → Coprime x y → IsGcd (m * x) (m * y) m
+scaled : (n m x y : ℕ) → x + y ≤ n → AreCoprime x y → IsGcd (m * x) (m * y) m
 scaled n m zero y le h = from-zero m y h
 scaled n m (suc x) zero le h = IsGcd-swap (m * 0) (m * suc x) m (from-zero m (suc x) (coprime-swap (suc x) 0 h))
 scaled zero m (suc x) (suc y) le h = absurd (omega arith)
@@ -42,10 +42,10 @@ scaled (suc n) m (suc x) (suc y) le h = elim (cases_lt x y) [
     less : (a b : ℕ) → b ≤ a → m * (a - b) ≡ m * a - m * b
     less a b le = mul-sub m a b
 
-    lower : (a b : ℕ) → b ≤ a → Coprime a b → Coprime (a - b) b
+    lower : (a b : ℕ) → b ≤ a → AreCoprime a b → AreCoprime (a - b) b
     lower a b le h d da db = h d (let e : a - b + b ≡ a = omega arith in subst (λ (k : ℕ). d ∣ k) e (dvd-add d da db)) db
 
-divides-other : (t u v : ℕ) → Coprime t u → u ∣ v * t → u ∣ v
+divides-other : (t u v : ℕ) → AreCoprime t u → u ∣ v * t → u ∣ v
 divides-other t u v h d = (scaled (t + u) v t u (omega arith) h).2 u d (dvd-mul_left u v)
 
 same-pair : (t u t' u' : ℕ) → t ≡ t' → u ≡ u' → ◌≡◌ {A = ℕ × ℕ} (t, u) (t', u')

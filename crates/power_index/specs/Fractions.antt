@@ -14,21 +14,21 @@ abbrev pub SameFraction : ℕ × ℕ → ℕ × ℕ → Type 0
 SameFraction p q = p.0 * q.1 ≡ q.0 * p.1
 
 -- t and u have no common divisor above 1
-abbrev pub Coprime : ℕ → ℕ → Type 0
-Coprime t u = (d : ℕ) → d ∣ t → d ∣ u → d ≤ 1
+abbrev pub AreCoprime : ℕ → ℕ → Type 0
+AreCoprime t u = (d : ℕ) → d ∣ t → d ∣ u → d ≤ 1
 
 -- q is the fraction p in lowest terms
 pub record IsLowestOf (p q : ℕ × ℕ) : Type 0 where
   pub positive : 0 < q.1
   pub same : SameFraction q p
-  pub lowest : Coprime q.0 q.1
+  pub lowest : AreCoprime q.0 q.1
 
 -- what an index is: a pair from 0 to 1, with a bottom of 1 to 10^30, in lowest terms
 pub record IsIndex (p : ℕ × ℕ) : Type 0 where
   pub some : 1 ≤ p.1
   pub at_most_one : p.0 ≤ p.1
   pub small : p.1 ≤ 10 ^ 30
-  pub lowest : Coprime p.0 p.1
+  pub lowest : AreCoprime p.0 p.1
 
 -- how two pairs with bottoms above 0 are ordered as fractions
 abbrev pub fraction_cmp : ℕ × ℕ → ℕ × ℕ → Ordering

@@ -46,9 +46,9 @@ abbrev pub denominator : ℕ
 denominator = 5342931457063200
 
 -- the sum of f s * (d / s) for s from 1 to n: f s fractions 1 / s each, over a denominator d
-abbrev pub weighed : ℕ → (ℕ → ℕ) → ℕ → ℕ
-weighed d f zero = 0
-weighed d f (suc n) = weighed d f n + f (suc n) * (d / suc n)
+abbrev pub weighted_sum : ℕ → (ℕ → ℕ) → ℕ → ℕ
+weighted_sum d f zero = 0
+weighted_sum d f (suc n) = weighted_sum d f n + f (suc n) * (d / suc n)
 
 -- the tables hold the counts of a list of coalitions of a game
 pub record AreCounts (g : GameView) (list : List ℕ) (t : Tables) : Type 0 where
@@ -59,14 +59,14 @@ pub record AreCounts (g : GameView) (list : List ℕ) (t : Tables) : Type 0 wher
   pub of_member_size : (i s : ℕ) → i < t.members → s ≤ t.members → table_of_member_size t i s ≡ count_of_member_size g i s list
 
 -- a tally counts those of a list, coalitions of n members, that pass a test, by size
-pub record Tallies (n : ℕ) (p : ℕ → Bool) (list : List ℕ) (t : Tally) : Type 0 where
+pub record IsTallyOf (n : ℕ) (p : ℕ → Bool) (list : List ℕ) (t : Tally) : Type 0 where
   pub long : length t.sizes ≡ 41
   pub sizes : (s : ℕ) → s ≤ 40 → slice_index t.sizes s ≡ length (filter (λ c. p c && (size n c == s)) list)
 
 -- the tallies are those of a list: of all, and of those that contain each rank place
-pub record AllTallies (n : ℕ) (list : List ℕ) (t : Tables) : Type 0 where
-  pub all : Tallies n (λ _. true) list t.all
-  pub each : (p : ℕ) → p < n → Tallies n (has n p) list (slice_index_or t.each p no_tally)
+pub record AreTalliesOf (n : ℕ) (list : List ℕ) (t : Tables) : Type 0 where
+  pub all : IsTallyOf n (λ _. true) list t.all
+  pub each : (p : ℕ) → p < n → IsTallyOf n (has n p) list (slice_index_or t.each p no_tally)
 
 -- the tables are those of a game
 pub record AreOf (g : GameView) (t : Tables) : Type 0 where
@@ -77,7 +77,7 @@ pub record AreOf (g : GameView) (t : Tables) : Type 0 where
 -- the tables hold a list of coalitions of a game as they are counted, by rank place
 pub record AreTallies (g : GameView) (list : List ℕ) (t : Tables) : Type 0 where
   pub of_game : AreOf g t
-  pub tallies : AllTallies (length g.names) list t
+  pub tallies : AreTalliesOf (length g.names) list t
 
 -- two tables are of games with as many members and the same rank places
 pub record AreOfOneGame (s t : Tables) : Type 0 where
@@ -94,7 +94,7 @@ pub record AreWithin (most : ℕ) (t : Tables) : Type 0 where
   pub few_of_member : (i : ℕ) → i < t.members → table_of_member t i ≤ most
   pub few_of_member_size : (i s : ℕ) → i < t.members → s ≤ t.members → table_of_member_size t i s ≤ most
   pub memberships : 1 ≤ table_memberships t
-  pub light : (i : ℕ) → i < t.members → weighed denominator (table_of_member_size t i) t.members ≤ denominator * table_total t
+  pub light : (i : ℕ) → i < t.members → weighted_sum denominator (table_of_member_size t i) t.members ≤ denominator * table_total t
 
 -- what holds of the tables of 1 to 4000000 coalitions, none of them empty
 abbrev pub AreSound : Tables → Type 0

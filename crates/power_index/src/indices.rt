@@ -1,6 +1,6 @@
 //! The two power indices of a member.
 ghost use Rattle.council_game.specs.Game.{GameView};
-ghost use Rattle.power_index.specs.Fractions.{Coprime, IsLowestOf, lowest_terms, pair_of};
+ghost use Rattle.power_index.specs.Fractions.{AreCoprime, IsLowestOf, lowest_terms, pair_of};
 ghost use Rattle.power_index.specs.Indices.{deegan_packel, public_good};
 ghost use Rattle.power_index.specs.Tables.{AreCounts, table_total};
 ghost use Rattle.std.specs.Prelude.{◌≡◌, ℕ, List, ◌<◌, ◌≤◌, ◌^◌};
@@ -25,7 +25,7 @@ impl WideCounts {
         ensures positive { 0 < result.bottom }
         ensures at_most_one { result.top ≤ result.bottom }
         ensures small { result.bottom ≤ 10 ^ 30 }
-        ensures coprime { Coprime result.top result.bottom }
+        ensures coprime { AreCoprime result.top result.bottom }
     {
         let mut sum = 0;
         for size in 1..self.members() + 1 {
@@ -48,7 +48,7 @@ impl WideCounts {
         ensures positive { 0 < result.bottom }
         ensures at_most_one { result.top ≤ result.bottom }
         ensures small { result.bottom ≤ 10 ^ 30 }
-        ensures coprime { Coprime result.top result.bottom }
+        ensures coprime { AreCoprime result.top result.bottom }
     {
         lowest(
             u128::from(self.of_member(member)),
@@ -70,7 +70,7 @@ pub fn deegan_packel(counts: &Counts, member: usize) -> Fraction
     ensures positive { 0 < result.bottom }
     ensures at_most_one { result.top ≤ result.bottom }
     ensures small { result.bottom ≤ 10 ^ 30 }
-    ensures coprime { Coprime result.top result.bottom }
+    ensures coprime { AreCoprime result.top result.bottom }
 {
     counts.wide().deegan_packel(member)
 }
@@ -88,7 +88,7 @@ pub fn public_good(counts: &Counts, member: usize) -> Fraction
     ensures positive { 0 < result.bottom }
     ensures at_most_one { result.top ≤ result.bottom }
     ensures small { result.bottom ≤ 10 ^ 30 }
-    ensures coprime { Coprime result.top result.bottom }
+    ensures coprime { AreCoprime result.top result.bottom }
 {
     counts.wide().public_good(member)
 }

@@ -5,7 +5,7 @@ use Rattle.std.specs.Vec.{vec_capacity}
 use Rattle.council_game.specs.Votes.{has, rule_at}
 use Rattle.council_game.specs.Ranks.{member_at}
 use Rattle.council_game.specs.Game.{GameView, IsGame, votes_of}
-use Rattle.council_report.specs.Lines.{tabbed, name_of}
+use Rattle.council_report.specs.Lines.{with_tab, name_of}
 use Rattle.council_report.specs.declared.seat.Seat.{Seat}
 use Rattle.council_report.specs.declared.mark.Mark.{Mark}
 use Rattle.council_report.specs.declared.shared.SharedLine.{SharedLine}
@@ -20,7 +20,7 @@ name_at g p = name_of g (member_at g.ranks p)
 
 -- the names of the members of some places, each after a TAB
 unfoldable pub fields_of : GameView → List ℕ → List ℕ
-fields_of g places = flat_map tabbed (map (λ p. name_at g p) places)
+fields_of g places = flat_map with_tab (map (λ p. name_at g p) places)
 
 -- the weights by rank under rule number r; none where there is no such rule
 unfoldable pub weights_under : GameView → ℕ → List ℕ
@@ -32,7 +32,7 @@ weight_of_places g r places = sum (map (λ p. slice_index (weights_under g r) p)
 
 -- what the member of place p adds to a line: its name after a TAB, and its weight under each rule
 pub record IsSeat (g : GameView) (p : ℕ) (seat : Seat) : Type 0 where
-  pub field : seat.field.items ≡ tabbed (name_at g p)
+  pub field : seat.field.items ≡ with_tab (name_at g p)
   pub long : length seat.weights ≡ 4
   pub weights : (r : ℕ) → r < 4 → slice_index seat.weights r ≡ slice_index (weights_under g r) p
 
@@ -61,8 +61,8 @@ pub record IsLine (g : GameView) (line : SharedLine) : Type 0 where
       IsMark g (places_before (length g.names) line.coalition k) (slice_index_or line.marks k d)
 
 -- no place from k on is in c
-abbrev pub NoneFrom : ℕ → ℕ → ℕ → Type 0
-NoneFrom n k c = (p : ℕ) → k ≤ p → p < n → has n p c ≡ false
+abbrev pub HasNoneFrom : ℕ → ℕ → ℕ → Type 0
+HasNoneFrom n k c = (p : ℕ) → k ≤ p → p < n → has n p c ≡ false
 
 -- a and b have the same of the places before k
 abbrev pub SameBefore : ℕ → ℕ → ℕ → ℕ → Type 0
@@ -72,7 +72,7 @@ SameBefore n k a b = (p : ℕ) → p < k → has n p a ≡ has n p b
 pub record IsWholeLine (g : GameView) (c : ℕ) (line : SharedLine) : Type 0 where
   pub is : IsLine g line
   pub coalition : line.coalition ≡ c
-  pub whole : NoneFrom (length g.names) line.end c
+  pub whole : HasNoneFrom (length g.names) line.end c
 
 -- a line of a coalition of the game, whichever that is
 pub record IsReadyLine (g : GameView) (line : SharedLine) : Type 0 where

@@ -22,8 +22,8 @@ abbrev pub IsWell : Seat → Type 0
 IsWell s = (s.lost ≡ false) × (s.cut ≡ false)
 
 -- what each was given
-abbrev pub givens : List Seat → List (List ℕ)
-givens seats = map (λ (s : Seat). s.given) seats
+abbrev pub given_slices : List Seat → List (List ℕ)
+given_slices seats = map (λ (s : Seat). s.given) seats
 
 -- the slices 0 to n - 1 are dealt in order, until they are all given or the deal is stopped; it is stopped exactly where a start failed early,
 -- something was lost, or a cut was told; and where a start failed nothing is given
@@ -33,13 +33,13 @@ pub record DealsInOrder (n : ℕ) (early : Bool) (marks : List (Option ℕ)) (st
   pub marks_are : marks ≡ map Some holders ++ replicate free None
   pub all_slices : length holders + free ≡ n
   pub by_workers : All (λ h. h < length seats) holders
-  pub given_are : givens seats ≡ shares_by holders (length seats)
+  pub given_are : given_slices seats ≡ shares_by holders (length seats)
   pub told_late : All (λ (s : Seat). s.told ≡ true → (free ≡ 0) ⊎ (stopped ≡ true)) seats
   pub stops_are : stopped ≡ (early || list_any is_ill seats)
   pub none_early : early ≡ true → holders ≡ []
 
 -- of the slices that are dealt in order the first k go to workers 0 to k - 1
-pub record Dealing (n k : ℕ) (early : Bool) (marks : List (Option ℕ)) (stopped : Bool) (seats : List Seat) : Type 0 where
+pub record DealsInTurn (n k : ℕ) (early : Bool) (marks : List (Option ℕ)) (stopped : Bool) (seats : List Seat) : Type 0 where
   pub in_order : DealsInOrder n early marks stopped seats
   pub begins : stopped ≡ false → (w : ℕ) → w < k → w < n → (w < length in_order.holders) × (slice_index in_order.holders w ≡ w)
 
@@ -62,15 +62,15 @@ pub record GivesOne (done : Bool) (marks : List (Option ℕ)) (stopped : Bool) (
   pub told_not : t.told ≡ false
 
 -- one turn of worker w, in which it has, or has not, said that a slice is done: a loss or a cut that is met in it stops the deal before anything is given
-pub record Turns (done : Bool) (marks : List (Option ℕ)) (stopped : Bool) (s : Seat) (w : ℕ) (after : List (Option ℕ)) (stops : Bool) (t : Seat) : Type 0 where
+pub record TakesTurn (done : Bool) (marks : List (Option ℕ)) (stopped : Bool) (s : Seat) (w : ℕ) (after : List (Option ℕ)) (stops : Bool) (t : Seat) : Type 0 where
   pub lost_stays : t.lost ≡ false → s.lost ≡ false
   pub cut_stays : t.cut ≡ false → s.cut ≡ false
   pub stops_are : stops ≡ (stopped || is_ill t)
   pub gives : GivesNothing done marks s after stops t ⊎ GivesOne done marks stops s w after t
 
 -- the first k workers were dealt to, one slice each at most
-pub record FirstDeals (n k : ℕ) (early : Bool) (marks : List (Option ℕ)) (stopped : Bool) (seats : List Seat) : Type 0 where
-  pub deal : Dealing n k early marks stopped seats
+pub record DealsOneEach (n k : ℕ) (early : Bool) (marks : List (Option ℕ)) (stopped : Bool) (seats : List Seat) : Type 0 where
+  pub deal : DealsInTurn n k early marks stopped seats
   pub at_most : length deal.in_order.holders ≤ k
 
 -- not dealt to yet

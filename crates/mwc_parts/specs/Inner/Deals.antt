@@ -3,17 +3,17 @@ use Rattle.std.specs.Prelude.{◌≡◌, ℕ, ◌+◌, ◌<◌, ◌≤◌, List,
 use Rattle.std.specs.List.{range_with_len}
 
 -- of the slices from j on, with their holders in a row, those that worker w holds
-abbrev pub held_from : ℕ → ℕ → List ℕ → List ℕ
-held_from w j [] = []
-held_from w j (h ∷ hs) = if w == h then j ∷ held_from w (j + 1) hs else held_from w (j + 1) hs
+abbrev pub share_from : ℕ → ℕ → List ℕ → List ℕ
+share_from w j [] = []
+share_from w j (h ∷ hs) = if w == h then j ∷ share_from w (j + 1) hs else share_from w (j + 1) hs
 
 -- the slices that worker w holds, by the row of the holders of slices 0, 1, ..
-abbrev pub held : List ℕ → ℕ → List ℕ
-held holders w = held_from w 0 holders
+abbrev pub share_of : List ℕ → ℕ → List ℕ
+share_of holders w = share_from w 0 holders
 
 -- what each of the workers holds
 abbrev pub shares_by : List ℕ → ℕ → List (List ℕ)
-shares_by holders workers = map (held holders) (range_with_len 0 workers)
+shares_by holders workers = map (share_of holders) (range_with_len 0 workers)
 
 -- each of the slices 0 to n - 1 has one holder, and each share has the slices of its worker, in ascending order
 pub record AreDealt (n : ℕ) (shares : List (List ℕ)) : Type 0 where

@@ -6,10 +6,10 @@ use Rattle.mwc_parts.specs.declared.met.Met.{Met}
 use Rattle.mwc_parts.specs.Fault.{also}
 
 -- what was met, and after it what each of these was answered, of which some are no fault
-abbrev pub noted : Met → List (Option GatherFault) → Met
-noted met [] = met
-noted met (None ∷ whys) = noted met whys
-noted met (Some why ∷ whys) = noted (also met why) whys
+abbrev pub also_all : Met → List (Option GatherFault) → Met
+also_all met [] = met
+also_all met (None ∷ whys) = also_all met whys
+also_all met (Some why ∷ whys) = also_all (also met why) whys
 
 -- the fault of an answer
 abbrev pub fault_in : {A : Type 0} → Result A GatherFault → Option GatherFault

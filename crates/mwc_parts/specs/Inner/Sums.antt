@@ -3,5 +3,5 @@ use Rattle.std.specs.Prelude.{ℕ, List, if◌then◌else◌, ◌==◌}
 use Rattle.mwc_parts.specs.Sums.{sum_of}
 
 -- how often a number stands in a list
-abbrev pub times : ℕ → List ℕ → ℕ
-times i s = sum_of (λ x. if x == i then 1 else 0) s
+abbrev pub times_in : ℕ → List ℕ → ℕ
+times_in i s = sum_of (λ x. if x == i then 1 else 0) s

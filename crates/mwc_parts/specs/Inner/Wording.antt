@@ -4,9 +4,9 @@ use Rattle.mwc_pipe.specs.declared.word.Word.{Word}
 use Rattle.mwc_pipe.specs.declared.word.Word.TheVariants.{Done, End}
 
 -- the word that says that there are no more, where it was said
-abbrev pub told_words : Bool → List Word
-told_words false = []
-told_words true = End false ∷ []
+abbrev pub end_words : Bool → List Word
+end_words false = []
+end_words true = End false ∷ []
 
 -- whether a word tells that a slice is whole
 abbrev pub is_done : Word → Bool

@@ -6,15 +6,15 @@ use Rattle.mwc_walk.specs.declared.cursor.Cursor.{Cursor}
 use Rattle.mwc_walk.specs.declared.step.Step.{Step}
 use Rattle.mwc_walk.specs.declared.step.Step.TheVariants.{On, Give, End}
 use Rattle.mwc_walk.specs.Slices.{slice}
-use Rattle.mwc_walk.specs.Inner.Places.{left_below, reaches, wins_at, LanesAre}
+use Rattle.mwc_walk.specs.Inner.Places.{slice_below, reaches, wins_at, LanesAre}
 
 -- the numbers below this one are still to be looked at
 abbrev pub bound : Cursor → ℕ
 bound c = (c.prefix + cond c.fresh 1 0) * 2 ^ (c.members - c.place)
 
 -- the coalitions of the slice that are still to come
-abbrev pub left : Votes → Cursor → List ℕ
-left v c = left_below v c.bits c.number (bound c)
+abbrev pub rest_of_slice : Votes → Cursor → List ℕ
+rest_of_slice v c = slice_below v c.bits c.number (bound c)
 
 -- a number that falls with each step
 abbrev pub steps_left : Cursor → ℕ
@@ -43,8 +43,8 @@ pub record CursorIs (v : Votes) (c : Cursor) : Type 0 where
   -- what was passed on the way did not win yet
   pub passed : c.bits < c.place → wins_at v.rules (c.place - 1) (c.prefix / 2) ≡ false
   -- the bounds on the visits
-  pub least : length (slice v c.bits c.number) + new_visit c ≤ c.visits + length (left v c)
-  pub most : length v.rules ≡ 1 → c.visits + (v.members - c.bits) * length (left v c) ≤ c.bits + (v.members - c.bits) * length (slice v c.bits c.number) + open_visits v c
+  pub least : length (slice v c.bits c.number) + new_visit c ≤ c.visits + length (rest_of_slice v c)
+  pub most : length v.rules ≡ 1 → c.visits + (v.members - c.bits) * length (rest_of_slice v c) ≤ c.bits + (v.members - c.bits) * length (slice v c.bits c.number) + open_visits v c
 
 -- b is the cursor a further on: at the same slice, with no fewer visits
 pub record Follows (v : Votes) (a b : Cursor) : Type 0 where
@@ -56,32 +56,32 @@ pub record Follows (v : Votes) (a b : Cursor) : Type 0 where
 -- on, with the same left
 pub record GoesOn (v : Votes) (a b : Cursor) : Type 0 where
   pub follows : Follows v a b
-  pub same : left v b ≡ left v a
+  pub same : rest_of_slice v b ≡ rest_of_slice v a
   pub falls : steps_left b < steps_left a
 
 -- coalition m is given, the first of those left
-pub record Gives (v : Votes) (a : Cursor) (m : ℕ) (b : Cursor) : Type 0 where
+pub record GivesNext (v : Votes) (a : Cursor) (m : ℕ) (b : Cursor) : Type 0 where
   pub follows : Follows v a b
-  pub first : left v a ≡ m ∷ left v b
+  pub first : rest_of_slice v a ≡ m ∷ rest_of_slice v b
   pub stale : b.fresh ≡ false
 
 -- nothing is left
-pub record Ends (v : Votes) (a b : Cursor) : Type 0 where
+pub record FindsEnd (v : Votes) (a b : Cursor) : Type 0 where
   pub follows : Follows v a b
-  pub none : left v a ≡ []
-  pub none_after : left v b ≡ []
+  pub none : rest_of_slice v a ≡ []
+  pub none_after : rest_of_slice v b ≡ []
   pub stale : b.fresh ≡ false
 
 -- one step
 abbrev pub Steps : Votes → Cursor → Step → Cursor → Type 0
 Steps v a On b = GoesOn v a b
-Steps v a (Give m) b = Gives v a m b
-Steps v a End b = Ends v a b
+Steps v a (Give m) b = GivesNext v a m b
+Steps v a End b = FindsEnd v a b
 
 -- steps up to the next coalition, or to the end
 abbrev pub Runs : Votes → Cursor → Option ℕ → Cursor → Type 0
-Runs v a (Some m) b = Gives v a m b
-Runs v a None b = Ends v a b
+Runs v a (Some m) b = GivesNext v a m b
+Runs v a None b = FindsEnd v a b
 
 -- where a walk starts: the whole slice is left, and only the fixed places are visited
 pub record Starts (v : Votes) (k j : ℕ) (c : Cursor) : Type 0 where
@@ -90,4 +90,4 @@ pub record Starts (v : Votes) (k j : ℕ) (c : Cursor) : Type 0 where
   pub number : c.number ≡ j
   pub place : c.place ≡ k
   pub visits : c.visits ≡ k
-  pub all : left v c ≡ slice v k j
+  pub all : rest_of_slice v c ≡ slice v k j

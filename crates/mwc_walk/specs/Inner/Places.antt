@@ -10,8 +10,8 @@ unfoldable pub in_slice : Votes → ℕ → ℕ → List ℕ → List ℕ
 in_slice v k j cs = filter (λ c. c / 2 ^ (v.members - k) == 2 ^ k - 1 - j) cs
 
 -- what is left of slice j when the numbers below a bound are left
-unfoldable pub left_below : Votes → ℕ → ℕ → ℕ → List ℕ
-left_below v k j bound = in_slice v k j (minimal_below v bound)
+unfoldable pub slice_below : Votes → ℕ → ℕ → ℕ → List ℕ
+slice_below v k j bound = in_slice v k j (minimal_below v bound)
 
 -- with what may still come, each rule's quota can be met
 unfoldable pub reaches : List RuleView → ℕ → ℕ → Bool

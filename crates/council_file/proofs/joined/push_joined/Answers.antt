@@ -1,7 +1,7 @@
 use Rattle.std.proofs.Common.{ℕ, List, ◌<◌, arith, ap, ◌∙◌, ◌++◌, length, take, append_assoc, refl, length-append, Err}
 use Rattle.std.proofs.lemmas.List.{take_all}
 use Rattle.council_file.specs.Joined.{joined_numbers}
-use Rattle.council_file.specs.Room.{Takes}
+use Rattle.council_file.specs.Room.{MakesRoomFor}
 use Rattle.council_file.proofs.Room.{takes-not, room-is}
 use Rattle.council_file.proofs.Joins.{put-first, put-more, more-within, next-within}
 use Rattle.council_file.proofs.joined.push_joined.Goals as goal
@@ -40,7 +40,7 @@ pub returns-in_err-extend_from_slice-clause-room : goal.returns-in_err-extend_fr
 returns-in_err-extend_from_slice-clause-room g c vs long each =
     let separator : List ℕ = c.args.separator.now in
     let whole = more-within separator vs c.loop-r.r (omega (arith, long, c.loop-r-test.true)) c.if-r-gt0.true in
-    let refused : Takes c.loop-r.out c.extend_from_slice.new.self (Err c.in_err-extend_from_slice.field-0.0) separator = record { capacity = omega arith; full = omega (arith, c.in_err-extend_from_slice.ensures.full) } in
+    let refused : MakesRoomFor c.loop-r.out c.extend_from_slice.new.self (Err c.in_err-extend_from_slice.field-0.0) separator = record { capacity = omega arith; full = omega (arith, c.in_err-extend_from_slice.ensures.full) } in
     takes-not (joined_numbers separator (take c.loop-r.r vs)) refused c.loop-r.invariant.capacity (c.loop-r.invariant.items vs long each) (omega (arith, whole))
 
 pub returns-in_err-push_decimal-clause-room : goal.returns-in_err-push_decimal-clause-room

@@ -1,5 +1,5 @@
 use Rattle.std.proofs.Common.{◌≡◌, ◌++◌, ℕ, OnOk, subst}
-use Rattle.council_file.specs.Room.{Takes}
+use Rattle.council_file.specs.Room.{MakesRoomFor}
 use Rattle.council_report.specs.Inner.Lines.{fraction_fields}
 use Rattle.council_report.proofs.indices.push_public_good.Goals as goal
 
@@ -10,5 +10,5 @@ returns-clause-items g c =
 
 pub returns-clause-room : goal.returns-clause-room
 returns-clause-room g c =
-    let Has : ℕ × ℕ → Type 0 = λ q. Takes c.args.out.now c.push_index.new.out c.push_index.result (fraction_fields q) in
+    let Has : ℕ × ℕ → Type 0 = λ q. MakesRoomFor c.args.out.now c.push_index.new.out c.push_index.result (fraction_fields q) in
     subst Has (c.public_good.ensures.terms c.args.counted.now.game.now g.list c.requires.0.counts) c.push_index.ensures.room

@@ -1,6 +1,6 @@
 use Rattle.std.proofs.Common.{◌-◌, ◌≤◌, ℕ, subst, sym}
 use Rattle.std.specs.Int.{w64, trailing_zeros}
-use Rattle.council_report.specs.Inner.Shared.{NoneFrom}
+use Rattle.council_report.specs.Inner.Shared.{HasNoneFrom}
 use Rattle.council_report.proofs.Differences.{none-behind}
 use Rattle.council_report.proofs.places.past_last.Goals as goal
 
@@ -11,5 +11,5 @@ overflow_sub-result c =
 
 pub returns-clause-none : goal.returns-clause-none
 returns-clause-none c =
-    let None : ℕ → Type 0 = λ m. NoneFrom c.args.members (c.args.members - trailing_zeros w64 m) c.args.coalition in
+    let None : ℕ → Type 0 = λ m. HasNoneFrom c.args.members (c.args.members - trailing_zeros w64 m) c.args.coalition in
     subst None (sym c.mask.ensures.same) (none-behind c.args.members c.args.coalition c.requires.few c.requires.some c.requires.below).1

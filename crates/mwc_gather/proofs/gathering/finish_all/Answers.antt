@@ -8,7 +8,7 @@ use Rattle.mwc_parts.specs.declared.fault.GatherFault.TheVariants.{Memory}
 use Rattle.mwc_gather.specs.declared.desk.Desk.{Desk}
 use Rattle.mwc_parts.specs.Slicing.{Slicing}
 use Rattle.mwc_gather.specs.Inner.Orders.{slicing_of}
-use Rattle.mwc_gather.specs.Inner.Desks.{IsOf, Ends, Finished}
+use Rattle.mwc_gather.specs.Inner.Desks.{IsOf, CanEndWith, IsPartOfDesk}
 use Rattle.mwc_gather.specs.Inner.Gathering.{all_total}
 use Rattle.mwc_gather.proofs.Ends.{note_many, head_of, one_done, not_noted, zip_more}
 use Rattle.mwc_gather.proofs.Faults.{noted_after, noted_none, memory_ends, ends_of}
@@ -38,7 +38,7 @@ loop-desk-preserved g c =
         f.0 ++ d ∷ [],
         f.1 ++ Some c.in-Err.why ∷ [],
         one_done f.0 rest old c.args.desks.items d step f.2,
-        all_zipped_more (Ends v most) f.0 f.1 d (Some c.in-Err.why) f.3 (ends_of d (Some c.in-Err.why) own c.in-Err.ensures.ends),
+        all_zipped_more (CanEndWith v most) f.0 f.1 d (Some c.in-Err.why) f.3 (ends_of d (Some c.in-Err.why) own c.in-Err.ensures.ends),
         noted_after c.args.start c.loop-desk.met c.note-in-Err.new.self f.1 c.in-Err.why f.4 c.note-in-Err.ensures,
       );
     }
@@ -59,7 +59,7 @@ loop-desk-preserved-then-is_err g c =
         f.0 ++ d ∷ [],
         f.1 ++ Some Memory ∷ [],
         one_done f.0 rest old c.args.desks.items d step f.2,
-        all_zipped_more (Ends v most) f.0 f.1 d (Some Memory) f.3 (memory_ends v most d),
+        all_zipped_more (CanEndWith v most) f.0 f.1 d (Some Memory) f.3 (memory_ends v most d),
         noted_after c.args.start c.loop-desk.met c.note.new.self f.1 Memory f.4 c.note.ensures,
       );
     }
@@ -72,7 +72,7 @@ loop-desk-preserved-else-is_err g c =
     let step : old ≡ d ∷ rest = c.in-Some.ensures.steps.0 in
     let i = c.loop-desk.invariant in let f = i.first in
     let own : IsOf v most d = head_of (IsOf v most) d rest old step i.all_of in
-    let part : Finished v d c.in-Ok.part = subst (λ (x : Slicing). Finished x d c.in-Ok.part) own.0 c.in-Ok.ensures.part in
+    let part : IsPartOfDesk v d c.in-Ok.part = subst (λ (x : Slicing). IsPartOfDesk x d c.in-Ok.part) own.0 c.in-Ok.ensures.part in
     let longer : c.push.new.self.items ≡ c.loop-desk.parts.items ++ c.in-Ok.part ∷ [] = search rules in
     record {
       all_of = All-rest (IsOf v most) d rest old step i.all_of;
@@ -83,7 +83,7 @@ loop-desk-preserved-else-is_err g c =
         f.0 ++ d ∷ [],
         f.1 ++ None ∷ [],
         one_done f.0 rest old c.args.desks.items d step f.2,
-        all_zipped_more (Ends v most) f.0 f.1 d None f.3 (ends_of d None own c.in-Ok.ensures.ends),
+        all_zipped_more (CanEndWith v most) f.0 f.1 d None f.3 (ends_of d None own c.in-Ok.ensures.ends),
         f.4 ∙ sym (noted_none c.args.start f.1),
       );
     }

@@ -6,7 +6,7 @@ use Rattle.mwc_pipe.specs.declared.word.Word.TheVariants.{Open}
 use Rattle.mwc_parts.specs.Slicing.{Slicing}
 use Rattle.mwc_parts.specs.Wording.{slice_words, coalition_count}
 use Rattle.mwc_gather.specs.Slicings.{slicing}
-use Rattle.mwc_gather.proofs.Wordings.{opens-more, wording-more, total-more}
+use Rattle.mwc_gather.proofs.Wordings.{open_words-more, wording-more, total-more}
 use Rattle.mwc_gather.proofs.worker.work_beside.Goals as goal
 
 pub loop-preserved : goal.loop-preserved
@@ -24,7 +24,7 @@ loop-preserved g c =
       omega arith,
       (
         inv.0 ++ j ∷ [],
-        task.1 ∙ ap (λ (w : List Word). w ++ Open j ∷ []) inv.1 ∙ sym (opens-more inv.0 j),
+        task.1 ∙ ap (λ (w : List Word). w ++ Open j ∷ []) inv.1 ∙ sym (open_words-more inv.0 j),
         sends.0 ∙ ap (λ (w : List Word). w ++ slice_words game j) inv.2 ∙ sym (wording-more game inv.0 j),
         omega arith,
         All-push (λ (i : ℕ). i < game.slices) inv.0 j inv.4 low,

@@ -1,6 +1,6 @@
 use Rattle.std.proofs.Common.{◌≡◌, ℕ, ◌+◌, ◌<◌, List}
 use Rattle.std.specs.Prelude.{All}
-use Rattle.mwc_parts.specs.Wording.{opens, wording, coalition_count}
+use Rattle.mwc_parts.specs.Wording.{open_words, wording, coalition_count}
 use Rattle.mwc_gather.specs.Slicings.{slicing}
 use Rattle.mwc_gather.proofs.worker.work_beside.Given as goal
 
@@ -9,4 +9,4 @@ invariant-loop g l =
     (l.out.ring ≡ l.initial.out.ring)
     × (l.tasks.ring ≡ l.initial.tasks.ring)
     × (0 < l.left)
-    × ((s : List ℕ) × (l.tasks.taken ≡ opens s) × (l.out.accepted ≡ wording (slicing l.guarded l.bits) s) × (coalition_count (slicing l.guarded l.bits) s + l.left ≡ l.most + 1) × All (λ j. j < (slicing l.guarded l.bits).slices) s)
+    × ((s : List ℕ) × (l.tasks.taken ≡ open_words s) × (l.out.accepted ≡ wording (slicing l.guarded l.bits) s) × (coalition_count (slicing l.guarded l.bits) s + l.left ≡ l.most + 1) × All (λ j. j < (slicing l.guarded l.bits).slices) s)

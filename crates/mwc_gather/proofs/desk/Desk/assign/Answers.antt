@@ -2,8 +2,8 @@ use Rattle.std.proofs.Common.{◌≡◌, ℕ, ◌<◌, ◌^◌, ◌++◌, ◌∷
 use Rattle.std.specs.Prelude.{All}
 use Rattle.std.proofs.lemmas.List.Elements.{All-push}
 use Rattle.mwc_gather.proofs.Words.{opens_given}
-use Rattle.mwc_parts.specs.Wording.{opens}
-use Rattle.mwc_parts.specs.Inner.Wording.{told_words}
+use Rattle.mwc_parts.specs.Wording.{open_words}
+use Rattle.mwc_parts.specs.Inner.Wording.{end_words}
 use Rattle.mwc_gather.proofs.desk.Desk.assign.Goals as goal
 
 pub invariant_of-self-clause-tasks_are : goal.invariant_of-self-clause-tasks_are
@@ -12,7 +12,7 @@ invariant_of-self-clause-tasks_are g c =
     let more : c.push_reserved.new.self.items ≡ d.given.items ++ c.args.slice ∷ [] = c.push_reserved.ensures.items in
     let put = c.put.ensures.accepted in
     put ∙ opens_given d.tasks.accepted d.given.items d.told c.args.slice c.requires.told d.tasks_are
-    ∙ ap (λ (w : List ℕ). opens w ++ told_words d.told) (sym more)
+    ∙ ap (λ (w : List ℕ). open_words w ++ end_words d.told) (sym more)
 
 pub invariant_of-self-clause-below : goal.invariant_of-self-clause-below
 invariant_of-self-clause-below g c =

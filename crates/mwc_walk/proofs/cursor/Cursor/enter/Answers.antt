@@ -2,7 +2,7 @@ use Rattle.std.proofs.Common.{◌^◌, ◌<◌, ◌≤◌, ℕ, sym, ap, ◌∙�
 use Rattle.std.proofs.Math.Nat.{pow-le-pow_right}
 use Rattle.council_game.specs.Game.{votes_of}
 use Rattle.council_game.specs.Votes.{minimal}
-use Rattle.mwc_walk.specs.Inner.Cursor.{Gives}
+use Rattle.mwc_walk.specs.Inner.Cursor.{GivesNext}
 use Rattle.mwc_walk.proofs.Steps.{enter-dead, enter-in, enter-give, enter-drop, enter-mask, enter-short, reach-is, win-is, in-fits, in-room, part-room, part-taken}
 use Rattle.mwc_walk.proofs.cursor.Cursor.enter.Goals as goal
 
@@ -51,7 +51,7 @@ is_minimal-found-requires-clause-mask c = c.of_mask-coalition.ensures ∙ enter-
 pub returns-then-found : goal.returns-then-found
 returns-then-found c =
     let m = c.of_mask-coalition.ensures ∙ enter-mask (votes_of c.args.game.now) c.args.self.now c.requires.is in
-    subst (λ (i : ℕ). Gives (votes_of c.args.game.now) c.args.self.now i (record c.args.self.now { fresh = false })) (sym m)
+    subst (λ (i : ℕ). GivesNext (votes_of c.args.game.now) c.args.self.now i (record c.args.self.now { fresh = false })) (sym m)
     (enter-give (votes_of c.args.game.now) c.args.self.now c.requires.is c.requires.fresh
     (win-is _ _ c.requires.is true (sym c.all_win.ensures ∙ c.if-not-all_win.false))
     (ap (minimal (votes_of c.args.game.now)) (sym m) ∙ sym c.is_minimal-found.ensures ∙ c.if-found.true))

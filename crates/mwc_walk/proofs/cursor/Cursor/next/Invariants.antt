@@ -1,6 +1,6 @@
 use Rattle.council_game.specs.Game.{votes_of}
 use Rattle.std.proofs.Common.{◌≡◌, ◌≤◌}
-use Rattle.mwc_walk.specs.Inner.Cursor.{CursorIs, left, steps_left}
+use Rattle.mwc_walk.specs.Inner.Cursor.{CursorIs, rest_of_slice, steps_left}
 use Rattle.mwc_walk.proofs.cursor.Cursor.next.Given as goal
 
 abbrev pub invariant-loop-coalition : goal.invariant-loop-coalition
@@ -9,7 +9,7 @@ invariant-loop-coalition l = record {
   bits : l.self.bits ≡ l.initial.self.bits;
   number : l.self.number ≡ l.initial.self.number;
   counted : l.initial.self.visits ≤ l.self.visits;
-  same : left (votes_of l.game) l.self ≡ left (votes_of l.game) l.initial.self;
+  same : rest_of_slice (votes_of l.game) l.self ≡ rest_of_slice (votes_of l.game) l.initial.self;
 }
 
 abbrev pub decreases-loop-coalition : goal.decreases-loop-coalition

@@ -1,10 +1,10 @@
 use Rattle.std.proofs.Common.{◌*◌, ◌≡◌, ◌≤◌, ◌-◌, ◌^◌}
 use Rattle.power_index.specs.Tables.{table_of_member_size}
-use Rattle.power_index.specs.Tables.{weighed}
+use Rattle.power_index.specs.Tables.{weighted_sum}
 use Rattle.power_index.proofs.wide_counts.WideCounts.deegan_packel.Given as goal
 
 abbrev pub invariant-loop-size : goal.invariant-loop-size
 invariant-loop-size l = record {
-  sum : l.sum ≡ weighed 5342931457063200 (table_of_member_size l.self l.member) (l.size - 1);
+  sum : l.sum ≡ weighted_sum 5342931457063200 (table_of_member_size l.self l.member) (l.size - 1);
   small : l.sum ≤ (l.size - 1) * (2 ^ 40 * 5342931457063200);
 }
