@@ -67,7 +67,7 @@ fn member_has(member: &Value, key: &str) -> bool
 }
 
 /// Some member has the key.
-pub(crate) fn some_member_has(members: &[Value], key: &str) -> bool
+pub(crate) fn some_has_key(members: &[Value], key: &str) -> bool
     ensures { result ≡ list_any (λ v. is_some (get key.now (view v))) members.now }
 {
     members.iter().any(|member| member_has(member, key))
