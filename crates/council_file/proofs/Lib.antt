@@ -2,8 +2,6 @@ pub mod Views
 pub mod Text
 pub mod Fits
 pub mod Stops
-pub mod Room
-pub mod Joins
 pub mod Digits
 pub mod Weights
 pub mod Named

@@ -4,8 +4,6 @@ pub use Rattle.council_game.specs.Votes
 pub mod Bracket
 pub mod File
 pub mod Reads
-pub mod Room
-pub mod Joined
 pub mod Notation
 pub mod Laws
 pub mod Inner

@@ -6,7 +6,6 @@
 #![tactic(auto)]
 
 mod bracket;
-mod joined;
 mod keys;
 pub mod laws;
 mod member_weights;
@@ -23,7 +22,6 @@ mod title;
 mod token;
 mod tree;
 
-pub use joined::{push_decimal, push_joined};
 pub use notation::write_notation;
 pub use parse::parse_game;
 pub use reading::read_game;

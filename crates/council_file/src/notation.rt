@@ -4,8 +4,8 @@ ghost use Rattle.std.specs.Vec.{vec_capacity};
 ghost use Rattle.council_game.specs.Votes.{rule_at};
 ghost use Rattle.council_file.specs.Notation.{notation};
 
-use crate::joined::{push_decimal, push_joined};
 use council_game::{Game, Memory};
+use council_text::{push_decimal, push_joined};
 use std::alloc::{AllocError, Global};
 
 #[tactic(auto, unfolding(crate::specs::Notation::notation))]

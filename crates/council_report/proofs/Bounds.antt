@@ -10,7 +10,7 @@ use Rattle.council_game.specs.Ranks.{member_at}
 use Rattle.council_game.specs.Game.{GameView, IsGame, votes_of}
 use Rattle.council_game.proofs.Games.{names-fit, votes-are, light-weights}
 use Rattle.council_game.proofs.Weights.{weight-le}
-use Rattle.council_file.proofs.Joins.{one-number, next-numbers}
+use Rattle.council_text.proofs.Joins.{one-number, next-numbers}
 use Rattle.power_index.specs.Counting.{members, contains, size_of, count_of_size, count_of_member_size}
 use Rattle.power_index.specs.Fractions.{lowest_terms}
 use Rattle.power_index.specs.Indices.{deegan_packel, public_good}

@@ -1,7 +1,7 @@
 -- Texts told one after another, through a block that stays ready.
 use Rattle.std.proofs.Common.{◌≤◌, ◌++◌, ℕ, List, length, Option, Result, Ok, Err, Vec, arith}
 use Rattle.std.specs.Global.{Global}
-use Rattle.council_file.specs.Room.{MakesRoomFor}
+use Rattle.council_text.specs.Room.{MakesRoomFor}
 use Rattle.council_report.specs.Inner.Told.{progress_of, Tells}
 use Rattle.council_report.specs.Inner.Ready.{IsReady}
 use Rattle.council_report.specs.Inner.Puts.{Puts}

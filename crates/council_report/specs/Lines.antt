@@ -8,7 +8,7 @@ use Rattle.council_game.specs.Game.{GameView, votes_of, total}
 use Rattle.power_index.specs.Counting.{members, count_of_size, count_of_member, count_of_member_size}
 use Rattle.power_index.specs.Fractions.{lowest_terms, decimals}
 use Rattle.power_index.specs.Indices.{deegan_packel, public_good}
-use Rattle.council_file.specs.Joined.{joined_numbers}
+use Rattle.council_text.specs.Joined.{joined_numbers}
 use Rattle.council_file.specs.Notation.{notation}
 
 -- a field after a TAB

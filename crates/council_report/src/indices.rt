@@ -4,7 +4,7 @@ ghost use Rattle.std.specs.List.{flat_map};
 ghost use Rattle.power_index.specs.Counting.{members, count_of_member, count_of_member_size};
 ghost use Rattle.power_index.specs.Indices.{deegan_packel, public_good};
 ghost use Rattle.power_index.specs.Fractions.{pair_of, decimals};
-ghost use Rattle.council_file.specs.Room.{MakesRoomFor};
+ghost use Rattle.council_text.specs.Room.{MakesRoomFor};
 ghost use Rattle.council_report.specs.Inner.Counted.{IsCounted};
 ghost use Rattle.council_report.specs.Lines.{with_tab, with_slashes, weights_of_member, size_line, member_line, member_fields, index_fields};
 ghost use Rattle.council_report.specs.Inner.Lines.{fraction_fields, index_text};

@@ -2,7 +2,7 @@
 ghost use Rattle.std.specs.Prelude.{◌≡◌, ◌++◌, ◌^◌, ◌<◌, ◌≤◌, ◌∷◌, [], ℕ, List, length, OnOk, Some};
 ghost use Rattle.std.specs.List.{flat_map};
 ghost use Rattle.std.specs.Vec.{vec_capacity};
-ghost use Rattle.council_file.specs.Room.{MakesRoomFor};
+ghost use Rattle.council_text.specs.Room.{MakesRoomFor};
 ghost use Rattle.council_report.specs.Lines.{with_tab, with_slashes, weights_of_coalition, title_line, members_line, quota_line, total_line, minimal_line, coalition_line, names_of};
 
 use crate::text::{push_field, push_number, push_values};

@@ -3,7 +3,7 @@ ghost use Rattle.std.specs.Prelude.{◌≡◌, ◌++◌, ◌+◌, ◌^◌, ◌<�
 ghost use Rattle.std.specs.List.{flat_map};
 ghost use Rattle.council_game.specs.Game.{IsGame, votes_of};
 ghost use Rattle.council_game.specs.Votes.{has, rule_at, weight};
-ghost use Rattle.council_file.specs.Room.{MakesRoomFor};
+ghost use Rattle.council_text.specs.Room.{MakesRoomFor};
 ghost use Rattle.council_report.specs.Lines.{coalition_line, with_tab, with_slashes, weights_of_coalition, names_of};
 ghost use Rattle.council_report.specs.Inner.Shared.{IsLine, IsReadyLine, IsWholeLine, HasNoneFrom, SameBefore};
 

@@ -1,11 +1,11 @@
 //! Fields of a line, each put at the end of the bytes that are there.
 ghost use Rattle.std.specs.Prelude.{◌≡◌, ◌++◌, ◌<◌, ◌≤◌, ℕ, List, OnOk, decimal, length};
 ghost use Rattle.std.specs.Vec.{vec_capacity};
-ghost use Rattle.council_file.specs.Joined.{GivesEach};
-ghost use Rattle.council_file.specs.Room.{MakesRoomFor};
+ghost use Rattle.council_text.specs.Joined.{GivesEach};
+ghost use Rattle.council_text.specs.Room.{MakesRoomFor};
 ghost use Rattle.council_report.specs.Lines.{with_tab, with_slashes};
 
-use council_file::{push_decimal, push_joined};
+use council_text::{push_decimal, push_joined};
 use std::alloc::AllocError;
 
 /// A field of bytes.

@@ -1,5 +1,5 @@
 use Rattle.std.proofs.Common.{◌≡◌, ◌++◌, ℕ, OnOk, decimal, subst, arith, ◌∙◌}
-use Rattle.council_file.specs.Room.{MakesRoomFor}
+use Rattle.council_text.specs.Room.{MakesRoomFor}
 use Rattle.council_report.specs.Lines.{with_tab}
 use Rattle.council_report.proofs.indices.push_count.Goals as goal
 

@@ -1,5 +1,5 @@
 use Rattle.std.proofs.Common.{◌≡◌, ◌++◌, ℕ, OnOk, subst}
-use Rattle.council_file.specs.Room.{MakesRoomFor}
+use Rattle.council_text.specs.Room.{MakesRoomFor}
 use Rattle.council_report.specs.Inner.Lines.{fraction_fields}
 use Rattle.council_report.proofs.indices.push_public_good.Goals as goal
 

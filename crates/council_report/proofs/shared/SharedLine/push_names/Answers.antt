@@ -3,7 +3,7 @@ use Rattle.std.specs.Prelude.{OnErr}
 use Rattle.std.specs.Vec.{vec_capacity}
 use Rattle.std.specs.List.{flat_map}
 use Rattle.std.proofs.lemmas.Grind.{common_steps}
-use Rattle.council_file.specs.Room.{MakesRoomFor}
+use Rattle.council_text.specs.Room.{MakesRoomFor}
 use Rattle.council_report.specs.Lines.{with_tab, names_of}
 use Rattle.council_report.proofs.SharedLines.{whole-names}
 use Rattle.council_report.proofs.shared.SharedLine.push_names.Goals as goal

@@ -3,7 +3,7 @@ use Rattle.std.proofs.Common.{◌≡◌, ℕ, zero, suc, ◌+◌, ◌<◌, ◌�
 use Rattle.std.specs.List.{flat_map}
 use Rattle.std.proofs.lemmas.Grind.{flat_map-append}
 use Rattle.std.proofs.lemmas.List.{append-nil, take_more}
-use Rattle.council_file.specs.Joined.{joined_numbers}
+use Rattle.council_text.specs.Joined.{joined_numbers}
 
 -- numbers behind others, with the separator before each
 abbrev behind : List ℕ → List ℕ → List ℕ

@@ -2,7 +2,7 @@
 use Rattle.std.proofs.Common.{◌≡◌, ◌≤◌, ◌+◌, ◌++◌, ℕ, List, length, Vec, Result, Ok, Err, ap, arith, length-append}
 use Rattle.std.specs.Global.{Global}
 use Rattle.std.specs.Vec.{vec_capacity}
-use Rattle.council_file.specs.Room.{MakesRoomFor}
+use Rattle.council_text.specs.Room.{MakesRoomFor}
 
 -- equal vectors have the same room
 pub room-is : {v w : Vec ℕ Global} → v ≡ w → vec_capacity v ≡ vec_capacity w

@@ -1,13 +1,17 @@
 //! Numbers in a row, put at the end of the bytes that are there.
 ghost use Rattle.std.specs.Prelude.{◌≡◌, ◌++◌, ◌<◌, ◌≤◌, ℕ, List, OnOk, decimal, length};
 ghost use Rattle.std.specs.Vec.{vec_capacity};
-ghost use Rattle.council_file.specs.Joined.{joined_numbers, GivesEach};
-ghost use Rattle.council_file.specs.Room.{MakesRoomFor};
+ghost use Rattle.council_text.specs.Joined.{joined_numbers, GivesEach};
+ghost use Rattle.council_text.specs.Room.{MakesRoomFor};
 
 use itoa::Buffer;
 use std::alloc::AllocError;
 
-/// A number in decimal.
+/// Appends a number in decimal.
+///
+/// # Errors
+///
+/// `AllocError` where a growth was refused.
 pub fn push_decimal(out: &mut Vec<u8>, number: u64) -> Result<(), AllocError>
     ensures items { OnOk result (out.new.items ≡ out.old.items ++ decimal number) }
     ensures room { MakesRoomFor out.old out.new result (decimal number) }
@@ -16,7 +20,11 @@ pub fn push_decimal(out: &mut Vec<u8>, number: u64) -> Result<(), AllocError>
     out.extend_from_slice(buffer.format(number).as_bytes())
 }
 
-/// So many values in decimal, with the separator between each two. After want of memory a part may be there.
+/// Appends so many values in decimal, with the separator between each two.
+///
+/// # Errors
+///
+/// `AllocError` where a growth was refused; a part of the text may be there.
 pub fn push_joined<F: Fn(usize) -> u64>(
     out: &mut Vec<u8>,
     separator: &[u8],

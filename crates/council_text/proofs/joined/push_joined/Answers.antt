@@ -1,11 +1,11 @@
 use Rattle.std.proofs.Common.{ℕ, List, ◌<◌, arith, ap, ◌∙◌, ◌++◌, length, take, append_assoc, refl, length-append, Err}
 use Rattle.std.proofs.lemmas.List.{take_all}
-use Rattle.council_file.specs.Joined.{joined_numbers}
-use Rattle.council_file.specs.Room.{MakesRoomFor}
-use Rattle.council_file.proofs.Room.{takes-not, room-is}
-use Rattle.council_file.proofs.Joins.{put-first, put-more, more-within, next-within}
-use Rattle.council_file.proofs.joined.push_joined.Goals as goal
-use Rattle.council_file.proofs.joined.push_joined.Goals.{then-r-gt0+in_ok-extend_from_slice, else-r-gt0}
+use Rattle.council_text.specs.Joined.{joined_numbers}
+use Rattle.council_text.specs.Room.{MakesRoomFor}
+use Rattle.council_text.proofs.Room.{takes-not, room-is}
+use Rattle.council_text.proofs.Joins.{put-first, put-more, more-within, next-within}
+use Rattle.council_text.proofs.joined.push_joined.Goals as goal
+use Rattle.council_text.proofs.joined.push_joined.Goals.{then-r-gt0+in_ok-extend_from_slice, else-r-gt0}
 
 pub loop-r-preserved : goal.loop-r-preserved
 loop-r-preserved g c = record {

@@ -1,9 +1,9 @@
 use Rattle.std.proofs.Common.{◌≡◌, ◌++◌, ◌≤◌, ℕ, List, length, take, Vec}
 use Rattle.std.specs.Global.{Global}
 use Rattle.std.specs.Vec.{vec_capacity}
-use Rattle.council_file.specs.Joined.{joined_numbers}
-use Rattle.council_file.specs.Joined.{GivesEach}
-use Rattle.council_file.proofs.joined.push_joined.Given as goal
+use Rattle.council_text.specs.Joined.{joined_numbers}
+use Rattle.council_text.specs.Joined.{GivesEach}
+use Rattle.council_text.proofs.joined.push_joined.Given as goal
 
 -- the first r values are there, and the room stays or grows
 pub record FirstPut (gives : ℕ → ℕ → Type 0) (count : ℕ) (separator : List ℕ) (old new : Vec ℕ Global) (r : ℕ) : Type 0 where
