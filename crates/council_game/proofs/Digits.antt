@@ -41,7 +41,7 @@ above-lowest h (suc i) pos =
     let even : 2 * h / 2 ≡ h = omega arith in
     bit_at-suc (2 * h + 1) i ∙ ap (λ (x : ℕ). x / 2 ^ i % 2) (odd ∙ sym even) ∙ sym (bit_at-suc (2 * h) i)
 
-digit-kept : (c k i : ℕ) → c / 2 ^ k % 2 ≡ 1 → i ≢ k → (c - 2 ^ k) / 2 ^ i % 2 ≡ c / 2 ^ i % 2
+pub digit-kept : (c k i : ℕ) → c / 2 ^ k % 2 ≡ 1 → i ≢ k → (c - 2 ^ k) / 2 ^ i % 2 ≡ c / 2 ^ i % 2
 digit-kept c k i one other =
     let s = split c k one in
     let left : (c - 2 ^ k) / 2 ^ i % 2 ≡ (2 * s.high * 2 ^ k + s.low) / 2 ^ i % 2 = ap (λ (x : ℕ). x / 2 ^ i % 2) s.without_digit in
@@ -53,7 +53,7 @@ digit-kept c k i one other =
           left ∙ bit_at_cat_high (2 * s.high) k s.low i s.small not_lower ∙ sym e ∙ sym (right ∙ bit_at_cat_high (2 * s.high + 1) k s.low i s.small not_lower)
     ]
 
-digit-gone : (c k : ℕ) → c / 2 ^ k % 2 ≡ 1 → (c - 2 ^ k) / 2 ^ k % 2 ≡ 0
+pub digit-gone : (c k : ℕ) → c / 2 ^ k % 2 ≡ 1 → (c - 2 ^ k) / 2 ^ k % 2 ≡ 0
 digit-gone c k one =
     let s = split c k one in
     let zero-up : k - k ≡ 0 = omega arith in

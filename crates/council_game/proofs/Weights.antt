@@ -1,12 +1,14 @@
 -- The weight of a coalition, split at a prefix of its places.
-use Rattle.std.proofs.Common.{◌≡◌, ℕ, zero, suc, ◌+◌, ◌-◌, ◌*◌, ◌/◌, ◌%◌, ◌^◌, ◌<◌, ◌≤◌, List, [], ◌∷◌, ◌++◌, length, take, drop, get_or, sum, refl, sym, ap, ◌∙◌, arith}
+use Rattle.std.proofs.Common.{◌≡◌, ◌≢◌, ℕ, zero, suc, ◌+◌, ◌-◌, ◌*◌, ◌/◌, ◌%◌, ◌^◌, ◌<◌, ◌≤◌, List, [], ◌∷◌, ◌++◌, length, take, drop, get_or, sum, refl, sym, ap, ◌∙◌, arith}
 use Rattle.std.proofs.lemmas.Nat.Bits.{bit_at_cat_low, bit_at_cat_high, bit_at-lt, bit_at-zero}
 use Rattle.std.proofs.lemmas.Nat.{div-add-mod', mod_below, pow_pos, mul-le, div-mul-add, mod-mul-add}
 use Rattle.std.proofs.lemmas.List.{length-append, take-append-drop, length-drop, take_more}
 use Rattle.std.proofs.lemmas.List.Sums.{sum_by-cons}
 use Rattle.std.proofs.Math.Nat.{pow-suc, div-mul-le_self}
 use Rattle.council_game.specs.Votes.{weight}
+use Rattle.council_game.proofs.Digits.{digit-kept, digit-gone}
 use Rattle.council_game.proofs.WeightByDigits.{weight-nil, weight-cons}
+use Rattle.council_game.proofs.Monotone.{weight-mono}
 
 -- digits above the places of vs weigh nothing
 pub weight-skip : (vs : List ℕ) (x r : ℕ) → weight vs (x * 2 ^ length vs + r) ≡ weight vs r
@@ -81,43 +83,21 @@ weight-more ws p x b h below =
     ∙ weight-cat (take p ws) (get_or ws p 0 ∷ []) x b (omega arith)
     ∙ (let z : weight (get_or ws p 0 ∷ []) b ≡ b * get_or ws p 0 = rw (weight-cons (get_or ws p 0) [] b, weight-nil b, one) (omega arith) in omega (arith, z))
 
--- without a lower digit that is set, what stands above it stays
-above-kept : (c b h : ℕ) → b < h → c / 2 ^ b % 2 ≡ 1 → (c - 2 ^ b) / 2 ^ h ≡ c / 2 ^ h
-above-kept c b h below set' =
-    let pos : 0 < 2 ^ h = pow_pos h in
-    let posb : 0 < 2 ^ b = pow_pos b in
-    let split : c / 2 ^ h * 2 ^ h + c % 2 ^ h ≡ c = div-add-mod' c (2 ^ h) in
-    let low : c % 2 ^ h < 2 ^ h = mod_below c (2 ^ h) pos in
-    let digit : (c / 2 ^ h * 2 ^ h + c % 2 ^ h) / 2 ^ b % 2 ≡ c % 2 ^ h / 2 ^ b % 2 = bit_at_cat_low (c / 2 ^ h) h (c % 2 ^ h) b below in
-    let one : c % 2 ^ h / 2 ^ b % 2 ≡ 1 = sym digit ∙ ap (λ (i : ℕ). i / 2 ^ b % 2) split ∙ set' in
-    let some : 1 ≤ c % 2 ^ h / 2 ^ b = omega arith in
-    let up : 1 * 2 ^ b ≤ c % 2 ^ h / 2 ^ b * 2 ^ b = mul-le 1 (2 ^ b) (c % 2 ^ h / 2 ^ b) (2 ^ b) some (omega arith) in
-    let there : c % 2 ^ h / 2 ^ b * 2 ^ b ≤ c % 2 ^ h = div-mul-le_self (c % 2 ^ h) (2 ^ b) in
-    let e : c - 2 ^ b ≡ c / 2 ^ h * 2 ^ h + (c % 2 ^ h - 2 ^ b) = omega arith in
-    ap (λ (i : ℕ). i / 2 ^ h) e ∙ div-mul-add (c / 2 ^ h) (2 ^ h) (c % 2 ^ h - 2 ^ b) (omega arith)
+-- Where c has place q besides the places of a, it weighs more by that place.
+weight-one_more : (ws : List ℕ) (a c k q : ℕ) → k + 1 + q ≡ length ws → a / 2 ^ k % 2 ≡ 0 → c / 2 ^ k % 2 ≡ 1 → ((i : ℕ) → i ≢ k → a / 2 ^ i % 2 ≡ c / 2 ^ i % 2)
+    → weight ws a + get_or ws q 0 ≡ weight ws c
+weight-one_more [] a c k q place out inside same = absurd (omega arith)
+weight-one_more (w ∷ vs) a c k zero place out inside same =
+    let top : length vs ≡ k = omega arith in
+    let up = weight-mono vs a c (λ i lt. let e = same i (omega arith) in omega (arith, e)) in
+    let down = weight-mono vs c a (λ i lt. let e = same i (omega arith) in omega (arith, e)) in
+    rw (weight-cons w vs a, weight-cons w vs c, top, out, inside) (omega (arith, up, down))
+weight-one_more (w ∷ vs) a c k (suc q) place out inside same =
+    let rest = weight-one_more vs a c k q (omega arith) out inside same in
+    rw (weight-cons w vs a, weight-cons w vs c, same (length vs) (omega arith)) (omega (arith, rest))
 
 -- a set without one of its places weighs less by that place's weight
 pub weight-without : (ws : List ℕ) (q c : ℕ) → q < length ws → c / 2 ^ (length ws - 1 - q) % 2 ≡ 1 → weight ws (c - 2 ^ (length ws - 1 - q)) + get_or ws q 0 ≡ weight ws c
-weight-without [] q c below set' = absurd (omega arith)
-weight-without (w ∷ vs) zero c below set' =
-    let h : ℕ = length vs in
-    let place : suc (length vs) - 1 - 0 ≡ length vs = omega arith in
-    let set2 : c / 2 ^ length vs % 2 ≡ 1 = ap (λ (i : ℕ). c / 2 ^ i % 2) (sym place) ∙ set' in
-    let pos : 0 < 2 ^ length vs = pow_pos (length vs) in
-    let split : c / 2 ^ length vs * 2 ^ length vs + c % 2 ^ length vs ≡ c = div-add-mod' c (2 ^ length vs) in
-    let low : c % 2 ^ length vs < 2 ^ length vs = mod_below c (2 ^ length vs) pos in
-    let up : 1 * 2 ^ length vs ≤ c / 2 ^ length vs * 2 ^ length vs = mul-le 1 (2 ^ length vs) (c / 2 ^ length vs) (2 ^ length vs) (omega arith) (omega arith) in
-    let te : (c / 2 ^ length vs - 1 + 1) ≡ c / 2 ^ length vs = omega arith in
-    let prod : (c / 2 ^ length vs - 1 + 1) * 2 ^ length vs ≡ c / 2 ^ length vs * 2 ^ length vs = ap (λ (i : ℕ). i * 2 ^ length vs) te in
-    let e : c - 2 ^ length vs ≡ (c / 2 ^ length vs - 1) * 2 ^ length vs + c % 2 ^ length vs = omega arith in
-    let top : (c - 2 ^ length vs) / 2 ^ length vs ≡ c / 2 ^ length vs - 1 = ap (λ (i : ℕ). i / 2 ^ length vs) e ∙ div-mul-add (c / 2 ^ length vs - 1) (2 ^ length vs) (c % 2 ^ length vs) low in
-    let digit : (c - 2 ^ length vs) / 2 ^ length vs % 2 ≡ 0 = ap (λ (i : ℕ). i % 2) top ∙ (let z : (c / 2 ^ length vs - 1) % 2 ≡ 0 = omega arith in z) in
-    let rest : weight vs (c - 2 ^ length vs) ≡ weight vs c =
-    ap (weight vs) e ∙ weight-skip vs (c / 2 ^ length vs - 1) (c % 2 ^ length vs) ∙ sym (weight-skip vs (c / 2 ^ length vs) (c % 2 ^ length vs)) ∙ ap (weight vs) split in
-    rw (place, weight-cons w vs (c - 2 ^ length vs), weight-cons w vs c, digit, rest, set2) (omega arith)
-weight-without (w ∷ vs) (suc q) c below set' =
-    let place : suc (length vs) - 1 - suc q ≡ length vs - 1 - q = omega arith in
-    let set2 : c / 2 ^ (length vs - 1 - q) % 2 ≡ 1 = ap (λ (i : ℕ). c / 2 ^ i % 2) (sym place) ∙ set' in
-    let kept : (c - 2 ^ (length vs - 1 - q)) / 2 ^ length vs ≡ c / 2 ^ length vs = above-kept c (length vs - 1 - q) (length vs) (omega arith) set2 in
-    let rest = weight-without vs q c (omega arith) set2 in
-    rw (place, weight-cons w vs (c - 2 ^ (length vs - 1 - q)), weight-cons w vs c, kept) (omega (arith, rest))
+weight-without ws q c below inside =
+    weight-one_more ws (c - 2 ^ (length ws - 1 - q)) c (length ws - 1 - q) q (omega arith) (digit-gone c (length ws - 1 - q) inside) inside
+    (λ i other. digit-kept c (length ws - 1 - q) i inside other)
