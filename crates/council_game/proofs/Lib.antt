@@ -18,3 +18,4 @@ pub mod Listing
 pub mod Sizes
 pub mod RankPlaces
 pub mod Bounds
+pub mod Seen
