@@ -5,7 +5,8 @@ use Rattle.std.proofs.lemmas.List.Sums.{sum_by-take-drop, sum_by-drop_more}
 use Rattle.std.proofs.lemmas.Nat.{shr-shr}
 use Rattle.std.proofs.lemmas.Bool.{both_ways, and_parts, and_from, and_left, and_right, le-leb, lt-leb, eq-eqb, eqb-true, false_from_ne_true}
 use Rattle.council_game.specs.Votes.{RuleView, Votes, IsRule, IsVotes, rule_at, has, without, weight, wins, minimal}
-use Rattle.std.proofs.lemmas.List.{length-map, get_or-map, take_all}
+use Rattle.std.proofs.lemmas.List.{length-map, get_or-map, get_or_read, take_all}
+use Rattle.std.proofs.lemmas.List.Folds.{list_all_at, list_all_more}
 use Rattle.council_game.specs.declared.rule.Rule.{Rule}
 use Rattle.council_game.specs.Rules.{rule_view, rule_views}
 use Rattle.council_game.specs.Inner.Weighing.{votes}
@@ -59,20 +60,6 @@ weight-all ws p c s le is =
     let whole : c / 2 ^ (length ws - p) ≡ c = ap (λ (i : ℕ). c / 2 ^ i) none ∙ (let z : c / 2 ^ 0 ≡ c = omega arith in z) in
     is ∙ ap (λ (l : List ℕ). weight l (c / 2 ^ (length ws - p))) (take_all p ws le) ∙ ap (weight ws) whole
 
-pub wins-lost : (rs : List RuleView) (i c : ℕ) → i < length rs → weight (rule_at rs i).weights c < (rule_at rs i).quota → wins rs c ≡ false
-unfolding wins
-wins-lost [] i c below less = absurd (omega arith)
-wins-lost (r ∷ rs) zero c below less = and_left (leb r.quota (weight r.weights c)) (wins rs c) (lt-leb r.quota (weight r.weights c) less)
-wins-lost (r ∷ rs) (suc i) c below less = and_right (leb r.quota (weight r.weights c)) (wins rs c) (wins-lost rs i c (omega arith) less)
-
-pub wins-next : (rs : List RuleView) (i c : ℕ) → i < length rs → wins (take i rs) c ≡ true → (rule_at rs i).quota ≤ weight (rule_at rs i).weights c → wins (take (suc i) rs) c ≡ true
-unfolding wins
-wins-next [] i c below won more = absurd (omega arith)
-wins-next (r ∷ rs) zero c below won more = and_from (leb r.quota (weight r.weights c)) true (le-leb r.quota (weight r.weights c) more) refl
-wins-next (r ∷ rs) (suc i) c below won more =
-    let parts = and_parts (leb r.quota (weight r.weights c)) (wins (take i rs) c) won in
-    and_from (leb r.quota (weight r.weights c)) (wins (take (suc i) rs) c) parts.0 (wins-next rs i c (omega arith) parts.1 more)
-
 pub not-minimal : (v : Votes) (c p : ℕ) → p < v.members → has v.members p c ≡ true → wins v.rules (without v.members p c) ≡ true → minimal v c ≡ false
 not-minimal v c p below inside won =
     false_from_ne_true _ (λ min. both_ways _ (((needs-each-member v c).0 min).1 p below inside) won)
@@ -106,13 +93,32 @@ sum-without n r c p s is below inside sums =
     let moved : weight r.weights (c - 2 ^ (length r.weights - 1 - p)) ≡ weight r.weights (c - 2 ^ (n - 1 - p)) = ap (λ (m : ℕ). weight r.weights (c - 2 ^ (m - 1 - p))) len in
     omega (arith, w, moved, sums)
 
-pub lost-by : (rs : List RuleView) (i c : ℕ) (r : RuleView) → i < length rs → rule_at rs i ≡ r → weight r.weights c < r.quota → wins rs c ≡ false
-lost-by rs i c r below at less = wins-lost rs i c below (subst (λ (x : RuleView). weight x.weights c < x.quota) (sym at) less)
+-- the same of a rule as the code holds it
+pub less-at : (n : ℕ) (rules : List Rule) (r c p s x y : ℕ) (rule : Rule) → IsVotes (votes n rules) → r < length rules → rule ≡ get_or rules r rule → p < n → has n p c ≡ true
+    → s ≡ weight (rule_at (rule_views rules) r).weights c → x ≡ get_or rule.weights.items p x → y ≡ s - x → y ≡ weight (rule_at (rule_views rules) r).weights (without n p c)
+less-at n rules r c p s x y rule game below at place inside sums read less =
+    let is = held-rule n rules r rule game below at in
+    let first = get_or_read rule.weights.items p x (omega (arith, is.full)) read 0 in
+    let held : rule_at (rule_views rules) r ≡ rule_view rule = rule-at rules r rule below at in
+    let whole = sum-without n (rule_view rule) c p s is place inside (sums ∙ ap (λ (v : RuleView). weight v.weights c) held) in
+    rw held (omega (arith, less, first, whole))
 
-pub next-by : (rs : List RuleView) (i c : ℕ) (r : RuleView) → i < length rs → rule_at rs i ≡ r → wins (take i rs) c ≡ true → r.quota ≤ weight r.weights c → wins (take (i + 1) rs) c ≡ true
-next-by rs i c r below at won more =
-    let suc_is : i + 1 ≡ suc i = omega arith in
-    ap (λ (k : ℕ). wins (take k rs) c) suc_is ∙ wins-next rs i c below won (subst (λ (x : RuleView). x.quota ≤ weight x.weights c) (sym at) more)
+-- a rule whose quota the coalition does not meet, and one whose quota it meets
+pub lost-at : (rules : List Rule) (r c s : ℕ) (rule : Rule) → r < length rules → rule ≡ get_or rules r rule → s ≡ weight (rule_at (rule_views rules) r).weights c → s < rule.quota
+    → wins (rule_views rules) c ≡ false
+unfolding wins
+lost-at rules r c s rule below at is less =
+    let quota = ap (λ (v : RuleView). v.quota) (rule-at rules r rule below at) in
+    list_all_at (λ v. leb v.quota (weight v.weights c)) (rule_views rules) r _ (omega (arith, count-rules rules))
+    (lt-leb (rule_at (rule_views rules) r).quota (weight (rule_at (rule_views rules) r).weights c) (omega (arith, is, less, quota)))
+
+pub won-at : (rules : List Rule) (r c s : ℕ) (rule : Rule) → r < length rules → rule ≡ get_or rules r rule → s ≡ weight (rule_at (rule_views rules) r).weights c
+    → wins (take r (rule_views rules)) c ≡ true → rule.quota ≤ s → wins (take (r + 1) (rule_views rules)) c ≡ true
+unfolding wins
+won-at rules r c s rule below at is won more =
+    let quota = ap (λ (v : RuleView). v.quota) (rule-at rules r rule below at) in
+    list_all_more (λ v. leb v.quota (weight v.weights c)) (rule_views rules) r _ (omega (arith, count-rules rules))
+    ∙ and_from _ _ won (le-leb (rule_at (rule_views rules) r).quota (weight (rule_at (rule_views rules) r).weights c) (omega (arith, is, more, quota)))
 
 pub wins-all : (rs : List RuleView) (i c : ℕ) → length rs ≤ i → wins (take i rs) c ≡ true → wins rs c ≡ true
 wins-all rs i c le won = ap (λ (l : List RuleView). wins l c) (sym (take_all i rs le)) ∙ won
