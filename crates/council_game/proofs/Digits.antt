@@ -3,7 +3,7 @@ use Rattle.std.proofs.Common.{◌≡◌, ◌≢◌, ◌∙◌, ℕ, ◌+◌, ◌
 use Rattle.std.specs.Int.{w64, trailing_zeros}
 use Rattle.std.specs.Int.Bits.{bit_and}
 use Rattle.std.proofs.lemmas.Nat.Bits.{bit_at-trailing_zeros, bit_at_above, bit_at_cat_low, bit_at_cat_high, bit_at-suc, bit_at-zero, bit_at_and, same_from_bits, same_from_bits_below}
-use Rattle.std.proofs.lemmas.Nat.{pow_pos}
+use Rattle.std.proofs.lemmas.Nat.{pow_pos, and_block, and_le_l, and_le_r}
 use Rattle.std.proofs.lemmas.Bool.{cases_lt, eqb-true}
 use Rattle.std.proofs.Math.Nat.{mod-lt, div-add-mod}
 use Rattle.std.proofs.Math.Pow.{pow_mono}
@@ -94,50 +94,28 @@ pub without-less : (n q c : ℕ) → 0 < c → without n q c < c
 unfolding without
 without-less n q c pos = let digit = pow_pos (n - 1 - q) in omega (arith, digit)
 
--- a number and one less, digit by digit: the lowest 1 is gone
+and_odd : (h : ℕ) → bit_and (2 * h + 1) (2 * h) ≡ 2 * h
+and_odd h =
+    let block = and_block 1 h h 1 0 (omega arith) (omega arith) in
+    let odd : h * 2 ^ 1 + 1 ≡ 2 * h + 1 = omega arith in
+    let even : h * 2 ^ 1 + 0 ≡ 2 * h = omega arith in
+    let same = same_from_bits (bit_and h h) h (λ i. bit_at_and h h i ∙ omega arith) in
+    let last = and_le_r 1 0 in
+    rw (odd, even, same) at block ∙ omega (arith, last)
+
+-- of a number and one less, the lowest 1 is gone
 cleared : (c k : ℕ) → c / 2 ^ k % 2 ≡ 1 → ((i : ℕ) → i < k → c / 2 ^ i % 2 ≡ 0) → bit_and c (c - 1) ≡ c - 2 ^ k
-cleared c k one zeros = same_from_bits (bit_and c (c - 1)) (c - 2 ^ k) (λ i. bit_at_and c (c - 1) i ∙ at i)
-  where
-    h : ℕ
-    h = (split c k one).high
-
-    none-low : (split c k one).low ≡ 0
-    none-low =
-        let s = split c k one in
-        same_from_bits_below k s.low 0 s.small (pow_pos k) (λ i lt. sym (bit_at_cat_low (2 * s.high + 1) k s.low i lt) ∙ ap (λ (x : ℕ). x / 2 ^ i % 2) (sym s.with_digit) ∙ zeros i lt ∙ sym (bit_at-zero i))
-
-    with-digit : c ≡ (2 * h + 1) * 2 ^ k + 0
-    with-digit = let s = split c k one in s.with_digit ∙ ap (λ (x : ℕ). (2 * h + 1) * 2 ^ k + x) none-low
-
-    one-less : c - 1 ≡ 2 * h * 2 ^ k + (2 ^ k - 1)
-    one-less = less c h (2 ^ k) (pow_pos k) with-digit
-      where
-        less : (c h m : ℕ) → 0 < m → c ≡ (2 * h + 1) * m + 0 → c - 1 ≡ 2 * h * m + (m - 1)
-        less c h m pos e = omega (arith, pos, e)
-
-    without-digit : c - 2 ^ k ≡ 2 * h * 2 ^ k + 0
-    without-digit = let s = split c k one in s.without_digit ∙ ap (λ (x : ℕ). 2 * h * 2 ^ k + x) none-low
-
-    all-ones-small : 2 ^ k - 1 < 2 ^ k
-    all-ones-small = let pos = pow_pos k in omega (arith, pos)
-
-    at : (i : ℕ) → min (c / 2 ^ i % 2) ((c - 1) / 2 ^ i % 2) ≡ (c - 2 ^ k) / 2 ^ i % 2
-    at i = elim (cases_lt i k) [
-      | inl lower ↦
-          let zero-here = zeros i lower in
-          let zero-there : (c - 2 ^ k) / 2 ^ i % 2 ≡ 0 = ap (λ (x : ℕ). x / 2 ^ i % 2) without-digit ∙ bit_at_cat_low (2 * h) k 0 i lower ∙ bit_at-zero i in
-          omega (arith, zero-here, zero-there)
-      | inr higher ↦
-          let own : c / 2 ^ i % 2 ≡ (2 * h + 1) / 2 ^ (i - k) % 2 = ap (λ (x : ℕ). x / 2 ^ i % 2) with-digit ∙ bit_at_cat_high (2 * h + 1) k 0 i (pow_pos k) higher in
-          let less : (c - 1) / 2 ^ i % 2 ≡ 2 * h / 2 ^ (i - k) % 2 = ap (λ (x : ℕ). x / 2 ^ i % 2) one-less ∙ bit_at_cat_high (2 * h) k (2 ^ k - 1) i all-ones-small higher in
-          let gone : (c - 2 ^ k) / 2 ^ i % 2 ≡ 2 * h / 2 ^ (i - k) % 2 = ap (λ (x : ℕ). x / 2 ^ i % 2) without-digit ∙ bit_at_cat_high (2 * h) k 0 i (pow_pos k) higher in
-          go (i - k) own less gone
-    ]
-      where
-        go : (j : ℕ) → c / 2 ^ i % 2 ≡ (2 * h + 1) / 2 ^ j % 2 → (c - 1) / 2 ^ i % 2 ≡ 2 * h / 2 ^ j % 2 → (c - 2 ^ k) / 2 ^ i % 2 ≡ 2 * h / 2 ^ j % 2
-            → min (c / 2 ^ i % 2) ((c - 1) / 2 ^ i % 2) ≡ (c - 2 ^ k) / 2 ^ i % 2
-        go zero own less gone = let even : 2 * h / 2 ^ 0 % 2 ≡ 0 = omega arith in omega (arith, own, less, gone, even)
-        go (suc j) own less gone = let same = above-lowest h (suc j) (omega arith) in omega (arith, own, less, gone, same)
+cleared c k one zeros =
+    let s = split c k one in
+    let pos = pow_pos k in
+    let none : s.low ≡ 0 = same_from_bits_below k s.low 0 s.small pos
+    (λ i lt. sym (bit_at_cat_low (2 * s.high + 1) k s.low i lt) ∙ ap (λ (x : ℕ). x / 2 ^ i % 2) (sym s.with_digit) ∙ zeros i lt ∙ sym (bit_at-zero i)) in
+    let whole : c ≡ (2 * s.high + 1) * 2 ^ k + 0 = omega (arith, s.with_digit, none) in
+    let less : c - 1 ≡ 2 * s.high * 2 ^ k + (2 ^ k - 1) = omega (arith, whole, pos) in
+    let rest = and_le_l 0 (2 ^ k - 1) in
+    ap (λ (x : ℕ). bit_and x (c - 1)) whole ∙ ap (bit_and ((2 * s.high + 1) * 2 ^ k + 0)) less
+    ∙ and_block k (2 * s.high + 1) (2 * s.high) 0 (2 ^ k - 1) pos (omega (arith, pos))
+    ∙ ap (λ (x : ℕ). x * 2 ^ k + bit_and 0 (2 ^ k - 1)) (and_odd s.high) ∙ omega (arith, rest, s.without_digit, none)
 
 -- with the lowest 1 cleared, the last place of a coalition is gone
 pub lowest-cleared : (n c : ℕ) → n ≤ 40 → 0 < c → c < 2 ^ n → bit_and c (c - 1) ≡ without n (n - 1 - trailing_zeros w64 c) c

@@ -1,40 +1,34 @@
 -- The list of minimal coalitions.
 use Rattle.std.proofs.Common.{◌≡◌, ◌≢◌, ℕ, zero, suc, ◌+◌, ◌-◌, ◌*◌, ◌/◌, ◌%◌, ◌^◌, ◌<◌, ◌≤◌, Bool, true, false, not, leb, List, [], ◌∷◌, ◌++◌, length, sum, refl, sym, ap, ◌∙◌, subst, arith, inl, inr}
 use Rattle.std.specs.List.{AllByRecursion, All, AllPairs, filter}
-use Rattle.std.proofs.lemmas.Nat.{pow_pos, div-mul-add, one_shl}
+use Rattle.std.proofs.lemmas.Nat.{pow_pos, one_shl}
+use Rattle.std.proofs.lemmas.Nat.Bits.{bit_at_ones}
 use Rattle.std.proofs.lemmas.List.{append_assoc, append-nil}
 use Rattle.std.proofs.Math.Nat.{pow-suc, pow-le-pow_right}
 use Rattle.std.proofs.lemmas.List.Elements.{All-cons, All-nil, All-weaker, All-filter, filter_passes}
 use Rattle.std.proofs.lemmas.List.Kept.{AllPairs-cons, AllPairs-filter}
 use Rattle.std.proofs.lemmas.List.Sums.{sum_by-cons}
 use Rattle.std.proofs.lemmas.List.Filters.{length-filter_both}
-use Rattle.std.proofs.lemmas.Bool.{and_parts, and_from, le-leb, leb-true, cases_Bool, cases_eq, both_ways, cond-true, cond-false}
+use Rattle.std.proofs.lemmas.Bool.{and_parts, and_from, le-leb, leb-true, both_ways, cond-true, cond-false, cond_both}
 use Rattle.council_game.specs.Votes.{RuleView, Votes, IsRule, IsVotes, weight, wins, minimal, down, minimal_coalitions}
 use Rattle.council_game.specs.Inner.Below.{minimal_below}
 use Rattle.council_game.specs.Laws.{IsListing}
 use Rattle.council_game.proofs.WeightByDigits.{weight-nil, weight-cons}
-use Rattle.council_game.proofs.Weights.{weight-skip, weight-zero}
+use Rattle.council_game.proofs.Weights.{weight-zero}
 use Rattle.council_game.proofs.Monotone.{minimal-below_winning}
 
--- all members together weigh all
-weight-full : (ws : List ℕ) → weight ws (2 ^ length ws - 1) ≡ sum ws
-weight-full [] = weight-nil _
-weight-full (w ∷ vs) =
-    let double : 2 ^ suc (length vs) ≡ 2 ^ length vs * 2 = pow-suc 2 (length vs) in
-    let pos : 0 < 2 ^ length vs = pow_pos (length vs) in
-    let e : 2 ^ suc (length vs) - 1 ≡ 1 * 2 ^ length vs + (2 ^ length vs - 1) = omega arith in
-    let top : (2 ^ suc (length vs) - 1) / 2 ^ length vs ≡ 1 = ap (λ (i : ℕ). i / 2 ^ length vs) e ∙ div-mul-add 1 (2 ^ length vs) (2 ^ length vs - 1) (omega arith) in
-    let digit : (2 ^ suc (length vs) - 1) / 2 ^ length vs % 2 ≡ 1 = ap (λ (i : ℕ). i % 2) top in
-    let rest : weight vs (2 ^ suc (length vs) - 1) ≡ sum vs = ap (weight vs) e ∙ weight-skip vs 1 (2 ^ length vs - 1) ∙ weight-full vs in
-    let s : sum (w ∷ vs) ≡ w + sum vs = sum_by-cons (λ (y : ℕ). y) w vs in
-    rw (weight-cons w vs (2 ^ suc (length vs) - 1), digit) (omega (arith, rest, s))
+-- a coalition that has all members weighs all
+weight-full : (ws : List ℕ) (c : ℕ) → ((i : ℕ) → i < length ws → c / 2 ^ i % 2 ≡ 1) → weight ws c ≡ sum ws
+weight-full [] c all = weight-nil c
+weight-full (w ∷ ws) c all =
+    let rest = weight-full ws c (λ i lt. all i (omega arith)) in
+    rw (weight-cons w ws c, all (length ws) (omega arith)) (omega (arith, rest, sum_by-cons (λ (y : ℕ). y) w ws))
 
 wins-full : (n : ℕ) (rs : List RuleView) → AllByRecursion (IsRule n) rs → wins rs (2 ^ n - 1) ≡ true
 unfolding wins
 wins-full n [] all = refl
 wins-full n (r ∷ rs) all =
-    let len : length r.weights ≡ n = all.0.full in
-    let full : weight r.weights (2 ^ n - 1) ≡ sum r.weights = ap (λ (m : ℕ). weight r.weights (2 ^ m - 1)) (sym len) ∙ weight-full r.weights in
+    let full = weight-full r.weights (2 ^ n - 1) (λ i lt. bit_at_ones n i (omega (arith, all.0.full))) in
     and_from (leb r.quota (weight r.weights (2 ^ n - 1))) (wins rs (2 ^ n - 1)) (le-leb r.quota (weight r.weights (2 ^ n - 1)) (omega (arith, full, all.0.met))) (wins-full n rs all.1)
 
 -- the empty coalition loses
@@ -61,15 +55,8 @@ some-left : (p : ℕ → Bool) (n m : ℕ) → m < n → p m ≡ true → 0 < le
 unfolding down
 some-left p zero m lt h = absurd (omega arith)
 some-left p (suc n) m lt h =
-    elim (cases_Bool (p n)) [
-      | inl is ↦ subst (λ (l : List ℕ). 0 < length l) (sym (cond-true (p n) (n ∷ filter p (down n)) (filter p (down n)) is)) (omega arith)
-      | inr isnt ↦
-          subst (λ (l : List ℕ). 0 < length l) (sym (cond-false (p n) (n ∷ filter p (down n)) (filter p (down n)) isnt))
-          (some-left p n m (elim (cases_eq m n) [
-            | inl same ↦ absurd (both_ways _ isnt (ap p (sym same) ∙ h))
-            | inr other ↦ omega arith
-          ]) h)
-    ]
+    cond_both (p n) (n ∷ filter p (down n)) (filter p (down n)) (λ l. 0 < length l) (λ is. omega arith)
+    (λ isnt. some-left p n m (let other : m ≢ n = λ same. both_ways _ isnt (ap p (sym same) ∙ h) in omega (arith, lt, other)) h)
 
 length-down : (n : ℕ) → length (down n) ≡ n
 unfolding down

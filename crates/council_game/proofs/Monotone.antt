@@ -33,7 +33,7 @@ minimal-below_winning v (suc fuel) c below won =
     elim (cases_Bool (list_all (λ p. not (wins v.rules (without v.members p c))) (places_of v.members c))) [
       | inl needed ↦ (c, omega arith, and_from _ _ won needed)
       | inr not_needed ↦
-          let spare = spare-place (λ p. has v.members p c) (λ p. not (wins v.rules (without v.members p c))) 0 v.members not_needed in
+          let spare = spare-place (λ p. has v.members p c) (λ p. not (wins v.rules (without v.members p c))) v.members not_needed in
           let less : without v.members spare.0 c < c = without-less v.members spare.0 c (not-empty v.members spare.0 c spare.2) in
           let deeper = minimal-below_winning v fuel (without v.members spare.0 c) (omega arith) (not-false _ spare.3) in
           (deeper.0, omega (arith, deeper.1), deeper.2)

@@ -1,53 +1,54 @@
 -- Tests of the places of a range that pass another test.
-use Rattle.std.proofs.Common.{◌≡◌, ℕ, zero, suc, ◌+◌, ◌<◌, ◌≤◌, Bool, true, false, List, ◌∷◌, filter, refl, sym, ap, ◌∙◌, arith, inl, inr}
+use Rattle.std.proofs.Common.{◌≡◌, ℕ, suc, ◌<◌, Bool, true, false, not, ◌||◌, List, [], ◌∷◌, length, get_or, filter, refl, sym, ap, ◌∙◌, arith, inl, inr}
 use Rattle.std.specs.List.{list_all, range_with_len}
-use Rattle.std.proofs.lemmas.Bool.{cases_Bool, cases_eq, cond-true, cond-false, both_ways, and_parts, and_from, and_cases}
+use Rattle.std.proofs.lemmas.Bool.{both_ways, cases_Bool, and_cases, not_from_true, not-false, or_cases, or_left, or_right, or_parts}
+use Rattle.std.proofs.lemmas.List.FromFn.{length-range_with_len}
+use Rattle.std.proofs.lemmas.List.Sums.{AllPass-from_list_all, list_all-from_AllPass}
+use Rattle.council_game.proofs.Rankings.{places-at}
+
+-- a place is out, or it passes
+abbrev OutOrPasses : (ℕ → Bool) → (ℕ → Bool) → ℕ → Bool
+OutOrPasses in_it passes p = not (in_it p) || passes p
+
+list_all-filter : (in_it passes : ℕ → Bool) (ps : List ℕ) → list_all passes (filter in_it ps) ≡ list_all (OutOrPasses in_it passes) ps
+list_all-filter in_it passes [] = refl
+list_all-filter in_it passes (p ∷ ps) = elim (cases_Bool (in_it p)) [
+  | inl first ↦ rw (first, list_all-filter in_it passes ps) refl
+  | inr none ↦ rw (none, list_all-filter in_it passes ps) refl
+]
 
 -- where each of those places passes, so does one of them
-pub each-place : (in_it passes : ℕ → Bool) (a n p : ℕ) → list_all passes (filter in_it (range_with_len a n)) ≡ true → a ≤ p → p < a + n → in_it p ≡ true → passes p ≡ true
-each-place in_it passes a zero p all from below inside = absurd (omega arith)
-each-place in_it passes a (suc n) p all from below inside =
-    let others : List ℕ = filter in_it (range_with_len (a + 1) n) in
-    elim (cases_Bool (in_it a)) [
-      | inl first ↦
-          let parts = and_parts (passes a) (list_all passes others) (ap (list_all passes) (sym (cond-true (in_it a) (a ∷ others) others first)) ∙ all) in
-          elim (cases_eq p a) [
-            | inl same ↦ ap passes same ∙ parts.0
-            | inr other ↦ each-place in_it passes (a + 1) n p parts.1 (omega arith) (omega arith) inside
-          ]
-      | inr none ↦
-          let rest : list_all passes others ≡ true = ap (list_all passes) (sym (cond-false (in_it a) (a ∷ others) others none)) ∙ all in
-          elim (cases_eq p a) [
-            | inl same ↦ absurd (both_ways _ none (ap in_it (sym same) ∙ inside))
-            | inr other ↦ each-place in_it passes (a + 1) n p rest (omega arith) (omega arith) inside
-          ]
+pub each-place : (in_it passes : ℕ → Bool) (n p : ℕ) → list_all passes (filter in_it (range_with_len 0 n)) ≡ true → p < n → in_it p ≡ true → passes p ≡ true
+each-place in_it passes n p all below inside =
+    let each = AllPass-from_list_all (OutOrPasses in_it passes) (range_with_len 0 n) (sym (list_all-filter in_it passes (range_with_len 0 n)) ∙ all) in
+    let here = rw (places-at n p 0 below) at (each p 0 (let long = length-range_with_len 0 n in omega (arith, long, below))) in
+    elim (or_cases (not (in_it p)) (passes p) here) [
+      | inl out ↦ absurd (both_ways _ (not_from_true _ inside) out)
+      | inr passed ↦ passed
     ]
 
 -- the same the other way round
-pub all-places : (in_it passes : ℕ → Bool) (a n : ℕ) → ((p : ℕ) → a ≤ p → p < a + n → in_it p ≡ true → passes p ≡ true) → list_all passes (filter in_it (range_with_len a n)) ≡ true
-all-places in_it passes a zero each = refl
-all-places in_it passes a (suc n) each =
-    let others : List ℕ = filter in_it (range_with_len (a + 1) n) in
-    let rest : list_all passes others ≡ true = all-places in_it passes (a + 1) n (λ p from below inside. each p (omega arith) (omega arith) inside) in
-    elim (cases_Bool (in_it a)) [
-      | inl first ↦ ap (list_all passes) (cond-true (in_it a) (a ∷ others) others first) ∙ and_from (passes a) (list_all passes others) (each a (omega arith) (omega arith) first) rest
-      | inr none ↦ ap (list_all passes) (cond-false (in_it a) (a ∷ others) others none) ∙ rest
-    ]
+pub all-places : (in_it passes : ℕ → Bool) (n : ℕ) → ((p : ℕ) → p < n → in_it p ≡ true → passes p ≡ true) → list_all passes (filter in_it (range_with_len 0 n)) ≡ true
+all-places in_it passes n each =
+    list_all-filter in_it passes (range_with_len 0 n)
+    ∙ list_all-from_AllPass (OutOrPasses in_it passes) (range_with_len 0 n) (λ p d lt.
+    let below : p < n = (let long = length-range_with_len 0 n in omega (arith, long, lt)) in
+    rw (places-at n p d below) (elim (cases_Bool (in_it p)) [
+      | inl first ↦ or_right _ _ (each p below first)
+      | inr none ↦ or_left _ _ (ap not none)
+    ]))
+
+some-fails : (test : ℕ → Bool) (ps : List ℕ) → list_all test ps ≡ false → (k : ℕ) × (k < length ps) × (test (get_or ps k 0) ≡ false)
+some-fails test [] h = absurd (cc)
+some-fails test (p ∷ ps) h = elim (and_cases (test p) (list_all test ps) h) [
+  | inl here ↦ (0, omega arith, here)
+  | inr later ↦ let found = some-fails test ps later in (suc found.0, omega (arith, found.1), found.2)
+]
 
 -- where not all of them pass, one does not
-pub spare-place : (in_it passes : ℕ → Bool) (a n : ℕ) → list_all passes (filter in_it (range_with_len a n)) ≡ false → (p : ℕ) × (p < a + n) × (in_it p ≡ true) × (passes p ≡ false)
-spare-place in_it passes a zero some = absurd (both_ways _ some refl)
-spare-place in_it passes a (suc n) some =
-    let others : List ℕ = filter in_it (range_with_len (a + 1) n) in
-    elim (cases_Bool (in_it a)) [
-      | inl first ↦
-          elim (and_cases (passes a) (list_all passes others) (ap (list_all passes) (sym (cond-true (in_it a) (a ∷ others) others first)) ∙ some)) [
-            | inl here ↦ (a, omega arith, first, here)
-            | inr later ↦
-                let found = spare-place in_it passes (a + 1) n later in
-                (found.0, omega (arith, found.1), found.2, found.3)
-          ]
-      | inr none ↦
-          let found = spare-place in_it passes (a + 1) n (ap (list_all passes) (sym (cond-false (in_it a) (a ∷ others) others none)) ∙ some) in
-          (found.0, omega (arith, found.1), found.2, found.3)
-    ]
+pub spare-place : (in_it passes : ℕ → Bool) (n : ℕ) → list_all passes (filter in_it (range_with_len 0 n)) ≡ false → (p : ℕ) × (p < n) × (in_it p ≡ true) × (passes p ≡ false)
+spare-place in_it passes n some =
+    let found = some-fails (OutOrPasses in_it passes) (range_with_len 0 n) (sym (list_all-filter in_it passes (range_with_len 0 n)) ∙ some) in
+    let below : found.0 < n = (let long = length-range_with_len 0 n in omega (arith, long, found.1)) in
+    let parts = or_parts _ _ (rw (places-at n found.0 0 below) at found.2) in
+    (found.0, below, not-false _ parts.0, parts.1)
