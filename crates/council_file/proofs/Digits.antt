@@ -1,5 +1,5 @@
 -- The parts of a text, from its front.
-use Rattle.std.proofs.lemmas.List.{map_push, take_all}
+use Rattle.std.proofs.lemmas.List.{map_push, take_all, take-append-drop}
 use Rattle.std.proofs.lemmas.List.FromFn.{map-range_with_len_more, length-map-range_with_len}
 use Rattle.council_game.proofs.Lists.{length_map}
 use Rattle.std.specs.List.{range_with_len}
@@ -8,7 +8,7 @@ use Rattle.std.specs.Char.{is_ascii_digit, digit_value}
 use Rattle.std.specs.Str.Parse.{AllDigits, digits_value}
 use Rattle.std.proofs.lemmas.Bool.{false≢true}
 use Rattle.std.proofs.lemmas.Bool.Decides.{nat_tests}
-use Rattle.std.proofs.lemmas.Str.Parse.{digit_from_value, digits_value_short, digits_value-take-le, numerals_by_value, tells_digits}
+use Rattle.std.proofs.lemmas.Str.Parse.{digit_at, digit_from_value, digits_value_short, digits_value-take-le, numerals_by_value, tells_digits}
 use Rattle.std.proofs.lemmas.Int.Digits.{digits_value_more}
 use Rattle.council_file.specs.Bracket.{number, mark, parts, is_blank, begins_with_digit, with_digit}
 use Rattle.council_file.specs.Inner.Scan.{begins_with_blank}
@@ -39,25 +39,15 @@ parts-number d (e ∷ ds) rest whole stop =
     ∙ ap (λ (j : Bool). with_digit d j (parts (e ∷ (ds ++ rest)))) (digit_test e whole.1.0)
     ∙ ap (with_digit d true) (parts-number e ds rest whole.1 stop)
 
-take-drop : (n : ℕ) (bs : List ℕ) → take n bs ++ drop n bs ≡ bs
-take-drop zero bs = refl
-take-drop (suc n) [] = refl
-take-drop (suc n) (b ∷ bs) = ap (λ (t : List ℕ). b ∷ t) (take-drop n bs)
-
 number_in_front : (b : ℕ) (bs : List ℕ) (n : ℕ) → is_ascii_digit b ≡ true → AllDigits 10 (take n (b ∷ bs)) → begins_with_digit (drop n (b ∷ bs)) ≡ false → parts (b ∷ bs) ≡ number (take n (b ∷ bs)) ∷ parts (drop n (b ∷ bs))
 number_in_front b bs zero digit whole stop = absurd (false≢true (sym stop ∙ digit))
-number_in_front b bs (suc n) digit whole stop = ap (λ (t : List ℕ). parts (b ∷ t)) (sym (take-drop n bs)) ∙ parts-number b (take n bs) (drop n bs) whole stop
+number_in_front b bs (suc n) digit whole stop = ap (λ (t : List ℕ). parts (b ∷ t)) (sym (take-append-drop n bs)) ∙ parts-number b (take n bs) (drop n bs) whole stop
 
-digit_value-minus : (c : ℕ) → digit_value c < 10 → digit_value c ≡ c - 48
-digit_value-minus c h = let r = digit_from_value c h in grind (arith, nat_tests)
-
-all_at : (ds : List ℕ) (i : ℕ) → AllDigits 10 ds → i < length ds → digit_value (get_or ds i 0) < 10
-all_at [] i whole below = absurd (omega arith)
-all_at (d ∷ ds) zero whole below = whole.0
-all_at (d ∷ ds) (suc i) whole below = all_at ds i whole.1 (omega arith)
+digit_value-minus : (c : ℕ) → (48 ≤ c) × (c ≤ 57) → digit_value c ≡ c - 48
+digit_value-minus c range = let low = range.0 in let high = range.1 in grind (arith, nat_tests)
 
 pub digits_more : (ds : List ℕ) (i : ℕ) → AllDigits 10 ds → i < length ds → digits_value 10 (take (i + 1) ds) ≡ digits_value 10 (take i ds) * 10 + (get_or ds i 0 - 48)
-digits_more ds i whole below = digits_value_more 10 ds i below ∙ ap (λ (d : ℕ). digits_value 10 (take i ds) * 10 + d) (digit_value-minus _ (all_at ds i whole below))
+digits_more ds i whole below = digits_value_more 10 ds i below ∙ ap (λ (d : ℕ). digits_value 10 (take i ds) * 10 + d) (digit_value-minus _ (digit_at ds i whole below))
 
 pub digits_fit : (ds : List ℕ) (i : ℕ) → AllDigits 10 ds → length ds ≤ 18 → i < length ds → digits_value 10 (take i ds) * 10 + (get_or ds i 0 - 48) < 10 ^ 18
 digits_fit ds i whole short below =
@@ -65,14 +55,6 @@ digits_fit ds i whole short below =
     let part = digits_value-take-le 10 ds (i + 1) (omega arith) in
     let more = digits_more ds i whole below in
     omega (arith, small, part, more)
-
-pub digits_more_whole : (bs : List ℕ) (n : ℕ) → AllDigits 10 (take n bs) → n < length bs → digit_value (get_or bs n 0) < 10 → AllDigits 10 (take (n + 1) bs)
-digits_more_whole [] n whole below one = absurd (omega arith)
-digits_more_whole (b ∷ bs) zero whole below one = (one, tt)
-digits_more_whole (b ∷ bs) (suc n) whole below one = let k : suc n + 1 ≡ suc (n + 1) = omega arith in rw k (whole.0, digits_more_whole bs n whole.1 (omega arith) one)
-
-pub digit_low : (ds : List ℕ) (i : ℕ) → AllDigits 10 ds → i < length ds → 48 ≤ get_or ds i 0
-digit_low ds i whole below = (digit_from_value _ (all_at ds i whole below)).0
 
 -- one name more
 pub names_more : (names : List (String Global)) (name : String Global) (k : ℕ) → map string_bytes names ≡ map decimal (range_with_len 1 k) → string_bytes name ≡ decimal (k + 1) → map string_bytes (names ++ name ∷ []) ≡ map decimal (range_with_len 1 (k + 1))

@@ -7,7 +7,7 @@ use Rattle.std.specs.Str.{is_utf8}
 use Rattle.toml.specs.Data.{Data, Members, get_member, as_str}
 use Rattle.toml.specs.Parse.{parse_document}
 use Rattle.council_game.specs.declared.fault.GameFault.{GameFault}
-use Rattle.council_game.specs.declared.fault.GameFault.TheVariants.{Read, TooLong, Text, UnknownKey, Title, Quota, Name, SameName, Weight, QuotaRange, Bracket, Rules, Memory, Members as NoMembers}
+use Rattle.council_game.specs.declared.fault.GameFault.TheVariants.{Read, Text, UnknownKey, Title, Quota, Name, SameName, Weight, QuotaRange, Bracket, Rules, Members as NoMembers}
 use Rattle.council_game.specs.Fault.{◌>>=◌, refuse, refuse_at, Gives}
 use Rattle.council_game.specs.Votes.{RuleView}
 use Rattle.council_game.specs.Ranks.{places}
@@ -83,23 +83,8 @@ pub of-bracket : (bytes : List ℕ) → NoRead (game_of_bracket bytes)
 unfolding game_of_bracket
 of-bracket bytes = step _ _ (or (rule_of (parts bytes)) Bracket tt) (λ r. made None (counted_names (length r.weights)) (r ∷ []))
 
-own-fault : (fault : GameFault) → IsOwn fault → fault ≢ Read
-own-fault fault own e = subst IsOwn e own
-
 -- an answer to what has no fault Read
 pub never-read : {X Y : Type 0} (view : X → Y) (answer : Result X GameFault) (wanted : Result Y GameFault) → NoRead wanted → Gives view answer wanted → IfErr answer (λ fault. fault ≢ Read)
 never-read view (Ok x) wanted own h = tt
-never-read view (Err Memory) wanted own h = own-fault Memory tt
-never-read view (Err TooLong) wanted own h = own-fault TooLong tt
-never-read view (Err Text) wanted own h = own-fault Text tt
-never-read view (Err UnknownKey) wanted own h = own-fault UnknownKey tt
-never-read view (Err Title) wanted own h = own-fault Title tt
-never-read view (Err Quota) wanted own h = own-fault Quota tt
-never-read view (Err NoMembers) wanted own h = own-fault NoMembers tt
-never-read view (Err (Name m)) wanted own h = own-fault (Name m) tt
-never-read view (Err (SameName m)) wanted own h = own-fault (SameName m) tt
-never-read view (Err (Weight m)) wanted own h = own-fault (Weight m) tt
-never-read view (Err QuotaRange) wanted own h = own-fault QuotaRange tt
-never-read view (Err Bracket) wanted own h = own-fault Bracket tt
-never-read view (Err Rules) wanted own h = own-fault Rules tt
 never-read view (Err Read) wanted own h = absurd (subst NoRead h own).own
+never-read view (Err fault) wanted own h = λ e. absurd (cc)

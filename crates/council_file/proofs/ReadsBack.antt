@@ -1,13 +1,13 @@
 -- The notation of a rule is read as the game of this rule.
-use Rattle.std.proofs.Common.{◌≡◌, ℕ, ◌+◌, ◌*◌, ◌^◌, ◌<◌, ◌≤◌, zero, suc, List, [], ◌∷◌, ◌++◌, length, get_or, codes, decimal, sum, Bool, true, false, not, ◌||◌, nat_le, nat_lt, Option, Some, None, option_map, option_and_then, ok_or, Result, Ok, refl, sym, ap, ◌∙◌, arith, append_assoc, length-append}
+use Rattle.std.proofs.Common.{◌≡◌, ℕ, ◌+◌, ◌*◌, ◌^◌, ◌<◌, ◌≤◌, suc, List, [], ◌∷◌, ◌++◌, length, get_or, codes, decimal, sum, Bool, true, false, not, ◌||◌, nat_lt, Option, Some, None, option_map, option_and_then, ok_or, Ok, refl, ap, ◌∙◌, arith, append_assoc, length-append}
 use Rattle.std.specs.List.{AllByRecursion, list_any, position, range_with_len}
 use Rattle.std.specs.Str.Parse.{AllDigits}
-use Rattle.std.proofs.lemmas.Bool.{false≢true, or_parts, le-ltb, ltb-false}
+use Rattle.std.proofs.lemmas.Bool.{or_parts, le-leb, le-ltb, ltb-false}
 use Rattle.std.proofs.lemmas.Fmt.{decimal_is_IsNumeral, length-decimal-le}
+use Rattle.std.proofs.lemmas.List.Elements.{All-from_recursion}
 use Rattle.std.proofs.lemmas.List.FromFn.{length-range_with_len, length-map-range_with_len, get_or-range_with_len}
-use Rattle.council_game.specs.declared.fault.GameFault.{GameFault}
-use Rattle.council_game.specs.declared.fault.GameFault.TheVariants.{Members, Name, SameName, Weight, QuotaRange, Bracket}
-use Rattle.council_game.specs.Fault.{◌>>=◌, refuse, refuse_at}
+use Rattle.council_game.specs.declared.fault.GameFault.TheVariants.{Bracket}
+use Rattle.council_game.specs.Fault.{◌>>=◌}
 use Rattle.council_game.specs.Votes.{RuleView, rule_at}
 use Rattle.council_game.specs.Ranks.{places, rank_places}
 use Rattle.council_game.specs.Game.{GameView, IsGame, made_game, is_name, is_repeat, is_heavy, has_bad_quota}
@@ -35,11 +35,8 @@ parts-decimal n rest small stop =
 short : (n : ℕ) → n < 10 ^ 18 → length (decimal n) ≤ 18
 short n small = length-decimal-le 18 n (omega arith) small (omega arith)
 
-leb-short : (a b : ℕ) → a ≤ b → nat_le a b ≡ true
-leb-short a b h = grind (arith, h)
-
 value_is : (n : ℕ) → n < 10 ^ 18 → value_of (decimal n) ≡ Some n
-value_is n small = rw (leb-short (length (decimal n)) 18 (short n small)) (ap (λ (m : ℕ). Some m) ((decimal_is_IsNumeral n (omega arith)).1))
+value_is n small = rw (le-leb (length (decimal n)) 18 (short n small)) (ap (λ (m : ℕ). Some m) ((decimal_is_IsNumeral n (omega arith)).1))
 
 -- ---- the weights
 
@@ -162,30 +159,11 @@ text_short n r fits =
 
 -- ---- the game
 
-pass : {B : Type 0} (b : Bool) (fault : GameFault) (k : Unit {0} → Result B GameFault) → b ≡ false → (refuse b fault >>= k) ≡ k tt
-pass true fault k h = absurd (false≢true (sym h))
-pass false fault k h = refl
-
-pass_at : {B : Type 0} (fault : ℕ → GameFault) (o : Option ℕ) (k : Unit {0} → Result B GameFault) → o ≡ None → (refuse_at fault o >>= k) ≡ k tt
-pass_at fault None k h = refl
-pass_at fault (Some i) k h = absurd (cc)
-
 made_by : (names : List (List ℕ)) (r : RuleView) → (nat_lt (length names) 1 || nat_lt 40 (length names)) ≡ false → position (λ name. not (is_name name)) names ≡ None → position (is_repeat names) (places names) ≡ None
     → position (is_heavy (r ∷ [])) (range_with_len 0 (length names)) ≡ None → list_any has_bad_quota (r ∷ []) ≡ false
     → made_game None names (r ∷ []) ≡ Ok (record { title = None; names = names; rules = r ∷ []; ranks = rank_places r.weights })
 unfolding made_game
-made_by names r members named other light quota =
-    let made : GameView = record { title = None; names = names; rules = r ∷ []; ranks = rank_places r.weights } in
-    let last : Unit {0} → Result GameView GameFault = λ _. Ok made in
-    let quotas : Unit {0} → Result GameView GameFault = λ _. refuse (list_any has_bad_quota (r ∷ [])) QuotaRange >>= last in
-    let weights : Unit {0} → Result GameView GameFault = λ _. refuse_at Weight (position (is_heavy (r ∷ [])) (range_with_len 0 (length names))) >>= quotas in
-    let repeats : Unit {0} → Result GameView GameFault = λ _. refuse_at SameName (position (is_repeat names) (places names)) >>= weights in
-    let each : Unit {0} → Result GameView GameFault = λ _. refuse_at Name (position (λ name. not (is_name name)) names) >>= repeats in
-    pass (nat_lt (length names) 1 || nat_lt 40 (length names)) Members each members
-    ∙ pass_at Name (position (λ name. not (is_name name)) names) repeats named
-    ∙ pass_at SameName (position (is_repeat names) (places names)) weights other
-    ∙ pass_at Weight (position (is_heavy (r ∷ [])) (range_with_len 0 (length names))) quotas light
-    ∙ pass (list_any has_bad_quota (r ∷ [])) QuotaRange last quota
+made_by names r members named other light quota = rw (members, named, other, light, quota) refl
 
 count_passes : (n m : ℕ) → m ≡ n → 0 < n → n ≤ 40 → (nat_lt m 1 || nat_lt 40 m) ≡ false
 count_passes n m same some few = rw (le-ltb m 1 (omega arith), le-ltb 40 m (omega arith)) refl
@@ -224,11 +202,6 @@ rule_game n r fits =
 
 -- ---- each rule of a game
 
-at_index : {X : Type 0} (P : X → Type 0) (xs : List X) (i : ℕ) (d : X) → AllByRecursion P xs → i < length xs → P (get_or xs i d)
-at_index P [] i d each below = absurd (omega arith)
-at_index P (x ∷ xs) zero d each below = each.0
-at_index P (x ∷ xs) (suc i) d each below = at_index P xs i d each.1 (omega arith)
-
 fits_at : (g : GameView) (k : ℕ) → IsGame g → k < length g.rules → Fits (length g.names) (rule_at g.rules k)
 fits_at g k game below =
     let p = passed g game.made in
@@ -238,8 +211,8 @@ fits_at g k game below =
       some = ltb-false _ _ count.0;
       few = ltb-false _ _ count.1;
       full = game.full k none below;
-      light = at_index (λ r. (i : ℕ) → i < length g.names → get_or r.weights i 0 ≤ 1000000000000) g.rules k none (light-weights g game) below;
-      quota = at_index (λ r. has_bad_quota r ≡ false) g.rules k none (none-any has_bad_quota g.rules p.quotas) below;
+      light = All-from_recursion (λ (r : RuleView). (i : ℕ) → i < length g.names → get_or r.weights i 0 ≤ 1000000000000) g.rules (light-weights g game) k none below;
+      quota = All-from_recursion (λ (r : RuleView). has_bad_quota r ≡ false) g.rules (none-any has_bad_quota g.rules p.quotas) k none below;
     }
 
 pub reads_back : (g : GameView) → IsGame g → NotationReadsBack g

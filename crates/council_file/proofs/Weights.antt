@@ -2,8 +2,8 @@
 use Rattle.std.proofs.Common.{◌≡◌, ℕ, List, [], ◌∷◌, ◌++◌, Option, Some, None, option_map, option_and_then, ◌≢◌, refl, sym, ap, ◌∙◌, append_assoc}
 use Rattle.council_game.specs.Votes.{RuleView}
 use Rattle.council_file.specs.declared.token.Token.{Token}
-use Rattle.council_file.specs.declared.token.Token.TheVariants.{Number, Opening, Closing, Comma, Semicolon, Other}
-use Rattle.council_file.specs.Bracket.{Part, number, opening, closing, comma, semicolon, other, value_of, weights_of, rule_of}
+use Rattle.council_file.specs.declared.token.Token.TheVariants.{Closing, Comma}
+use Rattle.council_file.specs.Bracket.{Part, number, opening, closing, comma, semicolon, value_of, weights_of, rule_of}
 use Rattle.council_file.specs.Inner.Scan.{part, first_number, after_opening, after_semicolon}
 
 -- a weight, and the weights behind it
@@ -30,20 +30,10 @@ no_weight (Some n) ps h = sym (h n)
 
 by_number : (ps : List Part) → weights_of ps ≡ from_number (first_number ps)
 unfolding weights_of
-by_number [] = refl
-by_number (opening ∷ ps) = refl
-by_number (closing ∷ ps) = refl
-by_number (comma ∷ ps) = refl
-by_number (semicolon ∷ ps) = refl
-by_number (other ∷ ps) = refl
-by_number (number ds ∷ []) = no_weight (value_of ds) _ (λ n. refl)
-by_number (number ds ∷ number es ∷ ps) = no_weight (value_of ds) _ (λ n. refl)
-by_number (number ds ∷ opening ∷ ps) = no_weight (value_of ds) _ (λ n. refl)
 by_number (number ds ∷ closing ∷ []) = last_weight (value_of ds)
-by_number (number ds ∷ closing ∷ p ∷ ps) = no_weight (value_of ds) _ (λ n. refl)
 by_number (number ds ∷ comma ∷ ps) = one_weight (value_of ds) ps
-by_number (number ds ∷ semicolon ∷ ps) = no_weight (value_of ds) _ (λ n. refl)
-by_number (number ds ∷ other ∷ ps) = no_weight (value_of ds) _ (λ n. refl)
+by_number (number ds ∷ ps) = no_weight (value_of ds) ps (λ n. refl)
+by_number ps = refl
 
 joined_front : (front : List ℕ) (n : ℕ) (o : Option (List ℕ)) → option_map (λ ws. front ++ ws) (option_map (λ ws. n ∷ ws) o) ≡ option_map (λ ws. (front ++ n ∷ []) ++ ws) o
 joined_front front n None = refl
@@ -67,12 +57,9 @@ no_more text left ps front n before now none = sym (before ∙ ap (option_map (�
 
 -- any token but a comma and a closing bracket ends the reading
 stray : (t : Token) (n : ℕ) (ps : List Part) → (t ≢ Comma) → (t ≢ Closing) → behind n (part t ∷ ps) ≡ None
-stray (Number ds) n ps no_comma no_closing = refl
-stray Opening n ps no_comma no_closing = refl
 stray Closing n ps no_comma no_closing = absurd (no_closing refl)
 stray Comma n ps no_comma no_closing = absurd (no_comma refl)
-stray Semicolon n ps no_comma no_closing = refl
-stray Other n ps no_comma no_closing = refl
+stray t n ps no_comma no_closing = refl
 
 -- what the token behind a weight makes of the text
 pub after_comma : (text left rest ps : List Part) (front : List ℕ) (n : ℕ) (t : Token) → Reads text front left → Some (n, rest) ≡ first_number left → rest ≡ part t ∷ ps → t ≡ Comma → Reads text (front ++ n ∷ []) ps
@@ -111,25 +98,9 @@ one_quota (Some n) ps = refl
 
 rule_by_steps : (ps : List Part) → rule_of ps ≡ option_and_then behind_opening (after_opening ps)
 unfolding rule_of
-rule_by_steps [] = refl
-rule_by_steps (number ds ∷ ps) = refl
-rule_by_steps (closing ∷ ps) = refl
-rule_by_steps (comma ∷ ps) = refl
-rule_by_steps (semicolon ∷ ps) = refl
-rule_by_steps (other ∷ ps) = refl
-rule_by_steps (opening ∷ []) = refl
-rule_by_steps (opening ∷ opening ∷ ps) = refl
-rule_by_steps (opening ∷ closing ∷ ps) = refl
-rule_by_steps (opening ∷ comma ∷ ps) = refl
-rule_by_steps (opening ∷ semicolon ∷ ps) = refl
-rule_by_steps (opening ∷ other ∷ ps) = refl
-rule_by_steps (opening ∷ number ds ∷ []) = no_semicolon (value_of ds) _ refl
-rule_by_steps (opening ∷ number ds ∷ number es ∷ ps) = no_semicolon (value_of ds) _ refl
-rule_by_steps (opening ∷ number ds ∷ opening ∷ ps) = no_semicolon (value_of ds) _ refl
-rule_by_steps (opening ∷ number ds ∷ closing ∷ ps) = no_semicolon (value_of ds) _ refl
-rule_by_steps (opening ∷ number ds ∷ comma ∷ ps) = no_semicolon (value_of ds) _ refl
 rule_by_steps (opening ∷ number ds ∷ semicolon ∷ ps) = one_quota (value_of ds) ps
-rule_by_steps (opening ∷ number ds ∷ other ∷ ps) = no_semicolon (value_of ds) _ refl
+rule_by_steps (opening ∷ number ds ∷ ps) = no_semicolon (value_of ds) ps refl
+rule_by_steps ps = refl
 
 pub rule_without_opening : (ps : List Part) → after_opening ps ≡ None → None ≡ rule_of ps
 rule_without_opening ps h = sym (rule_by_steps ps ∙ ap (option_and_then behind_opening) h)
@@ -142,5 +113,3 @@ rule_without_semicolon ps qs rs q h k l = sym (rule_by_steps ps ∙ ap (option_a
 
 pub rule_is : (ps qs rs ts : List Part) (q : ℕ) (weights : Option (List ℕ)) → after_opening ps ≡ Some qs → first_number qs ≡ Some (q, rs) → after_semicolon rs ≡ Some ts → weights ≡ weights_of ts → option_map (λ ws. record { quota = q; weights = ws }) weights ≡ rule_of ps
 rule_is ps qs rs ts q weights h k l m = ap (with_weights q) m ∙ sym (rule_by_steps ps ∙ ap (option_and_then behind_opening) h ∙ ap (option_and_then behind_quota) k ∙ ap (option_and_then (λ us. with_weights q (weights_of us))) l)
-
--- ---- which file is a bracket text

@@ -1,5 +1,5 @@
 -- Taking a place away from a coalition leaves its other places.
-use Rattle.std.proofs.Common.{◌≡◌, ◌≢◌, ◌∙◌, ℕ, ◌+◌, ◌-◌, ◌*◌, ◌/◌, ◌%◌, ◌^◌, ◌<◌, ◌≤◌, ◌==◌, true, false, zero, suc, sym, ap, subst, arith, eq-eqb, inl, inr, min}
+use Rattle.std.proofs.Common.{◌≡◌, ◌≢◌, ◌∙◌, ℕ, ◌+◌, ◌-◌, ◌*◌, ◌/◌, ◌%◌, ◌^◌, ◌<◌, ◌≤◌, ◌==◌, true, false, zero, suc, sym, ap, subst, arith, eq-eqb, inl, inr}
 use Rattle.std.specs.Int.{w64, trailing_zeros}
 use Rattle.std.specs.Int.Bits.{bit_and}
 use Rattle.std.proofs.lemmas.Nat.Bits.{bit_at-trailing_zeros, bit_at_above, bit_at_cat_low, bit_at_cat_high, bit_at-suc, bit_at-zero, bit_at_and, same_from_bits, same_from_bits_below}

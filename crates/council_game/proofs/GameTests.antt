@@ -1,9 +1,9 @@
 -- The tests of a game, place by place and rule by rule.
-use Rattle.std.proofs.Common.{◌≡◌, ℕ, zero, suc, ◌+◌, ◌-◌, ◌*◌, ◌/◌, ◌%◌, ◌^◌, ◌<◌, ◌≤◌, true, false, leb, List, [], ◌∷◌, length, take, drop, get_or, sum, refl, sym, ap, subst, ◌∙◌, arith}
+use Rattle.std.proofs.Common.{◌≡◌, ℕ, ◌+◌, ◌-◌, ◌*◌, ◌/◌, ◌%◌, ◌^◌, ◌<◌, ◌≤◌, true, false, leb, List, length, take, drop, get_or, sum, refl, sym, ap, subst, ◌∙◌, arith}
 use Rattle.std.proofs.lemmas.List.Elements.{All-from_recursion}
 use Rattle.std.proofs.lemmas.List.Sums.{sum_by-take-drop, sum_by-drop_more}
 use Rattle.std.proofs.lemmas.Nat.{shr-shr}
-use Rattle.std.proofs.lemmas.Bool.{both_ways, and_parts, and_from, and_left, and_right, le-leb, lt-leb, eq-eqb, eqb-true, false_from_ne_true}
+use Rattle.std.proofs.lemmas.Bool.{both_ways, and_from, and_left, le-leb, lt-leb, eq-eqb, eqb-true, false_from_ne_true}
 use Rattle.council_game.specs.Votes.{RuleView, Votes, IsRule, IsVotes, rule_at, has, without, weight, wins, minimal}
 use Rattle.std.proofs.lemmas.List.{length-map, get_or-map, get_or_read, take_all}
 use Rattle.std.proofs.lemmas.List.Folds.{list_all_at, list_all_more}

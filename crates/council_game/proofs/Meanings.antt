@@ -1,5 +1,5 @@
 -- What the definitions of weight and minimal say of each member.
-use Rattle.std.proofs.Common.{not, length, slice_index, sym, arith}
+use Rattle.std.proofs.Common.{not, length, slice_index, sym}
 use Rattle.std.specs.List.{list_all}
 use Rattle.std.proofs.lemmas.Bool.{and_parts, and_from, not-true, not_from_false}
 use Rattle.std.proofs.lemmas.List.Sums.{sum-map}

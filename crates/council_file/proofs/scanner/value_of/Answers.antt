@@ -1,6 +1,7 @@
 use Rattle.std.proofs.Common.{arith, sym, ◌∙◌, ap, ◌+◌, ◌*◌, ◌-◌, ◌≡◌, get_or, ℕ, take}
 use Rattle.std.specs.Str.Parse.{digits_value}
-use Rattle.council_file.proofs.Digits.{digits_more, digits_fit, digit_low}
+use Rattle.std.proofs.lemmas.Str.Parse.{digit_at}
+use Rattle.council_file.proofs.Digits.{digits_more, digits_fit}
 use Rattle.council_file.proofs.scanner.value_of.Goals as goal
 
 pub overflow_mul-value : goal.overflow_mul-value
@@ -10,7 +11,7 @@ overflow_mul-value c =
     omega (arith, fit, now)
 
 pub overflow_sub-value : goal.overflow_sub-value
-overflow_sub-value c = digit_low c.args.digits.now c.loop-digit.digit-index c.requires c.loop-digit-test.true
+overflow_sub-value c = (digit_at c.args.digits.now c.loop-digit.digit-index c.requires c.loop-digit-test.true).0
 
 pub overflow_add-value : goal.overflow_add-value
 overflow_add-value c =
