@@ -9,8 +9,15 @@ use Rattle.council_file.specs.Notation.{notation}
 
 -- the game of one rule: no title, and members 1 to n
 abbrev pub lone_game : RuleView → GameView
-lone_game r = record { title = None; names = counted_names (length r.weights); rules = r ∷ []; ranks = rank_places r.weights }
+lone_game r = record {
+  title = None;
+  names = counted_names (length r.weights);
+  rules = r ∷ [];
+  ranks = rank_places r.weights;
+}
 
 -- The notation of each rule is a game file, that of the game of this rule.
 abbrev pub NotationReadsBack : GameView → Type 0
-NotationReadsBack g = (r : ℕ) → r < length g.rules → game_of (notation (rule_at g.rules r)) ≡ Ok (lone_game (rule_at g.rules r))
+NotationReadsBack g =
+    (r : ℕ) → r < length g.rules
+    → game_of (notation (rule_at g.rules r)) ≡ Ok (lone_game (rule_at g.rules r))

@@ -52,7 +52,8 @@ fn has_other_member_key(table: &Table) -> bool
 }
 
 fn is_odd_member(member: &Value) -> bool
-    ensures { result ≡ option_map_or (has_other_key member_keys) (as_table (view member.now)) false }
+    ensures { result ≡ option_map_or (has_other_key member_keys)
+        (as_table (view member.now)) false }
 {
     match member.as_table() {
         Some(table) => has_other_member_key(table),

@@ -35,7 +35,8 @@ fn notation_of(alloc: Global, game: &Game, rule: usize) -> Result<Vec<u8>, Alloc
 /// `Memory` where a growth was refused; the vector is then unchanged.
 pub fn write_notation(game: &Game, rule: usize, out: &mut Vec<u8>) -> Result<(), Memory>
     requires { rule < length game.now.rules }
-    ensures ok { OnOk result (out.new.items ≡ out.old.items ++ notation (rule_at game.now.rules rule)) }
+    ensures ok { OnOk result
+        (out.new.items ≡ out.old.items ++ notation (rule_at game.now.rules rule)) }
     ensures err { OnErr result (out.new.items ≡ out.old.items) }
     ensures capacity { vec_capacity out.old ≤ vec_capacity out.new }
 {

@@ -32,7 +32,8 @@ fn read_some<R: Read>(reader: &mut R, bytes: &mut Vec<u8>, room: usize) -> Resul
 
 /// The bytes up to the end, or more than 65,536 of them. Each read that goes on gives at least one byte.
 fn read_bytes<R: Read>(alloc: Global, reader: &mut R) -> Result<Vec<u8>, GameFault>
-    ensures gave { IfOk result (λ v. Gave (R.remaining reader.old) (R.remaining reader.new) v.items) }
+    ensures gave { IfOk result
+        (λ v. Gave (R.remaining reader.old) (R.remaining reader.new) v.items) }
     ensures stop { IfErr result IsStop }
 {
     let mut bytes: Vec<u8> = Vec::new(alloc);

@@ -16,7 +16,8 @@ use toml::Table;
 
 #[tactic(auto, using(council_game::proofs::Lists::list_any_map))]
 fn some_member_has(table: &Table, key: &str) -> bool
-    ensures { result ≡ list_any (λ d. is_some (get key.now d)) (member_list (table_view table.now)) }
+    ensures { result ≡ list_any (λ d. is_some (get key.now d))
+        (member_list (table_view table.now)) }
 {
     some_has_key(member_list(table), key)
 }
@@ -49,7 +50,8 @@ fn rule_from(alloc: Global, table: &Table, n: usize, r: usize) -> Result<Rule, A
 }
 
 fn rules_at(alloc: Global, table: &Table, n: usize) -> Result<Vec<Rule>, AllocError>
-    ensures { IfOk result (λ v. rule_views v.items ≡ map (rule_from (table_view table.now) n) (range_with_len 0 n)) }
+    ensures { IfOk result (λ v. rule_views v.items
+        ≡ map (rule_from (table_view table.now) n) (range_with_len 0 n)) }
 {
     let mut rules = Vec::with_capacity(alloc, n)?;
     for r in 0..n {

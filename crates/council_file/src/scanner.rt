@@ -57,7 +57,8 @@ fn after_blanks(text: &[u8]) -> &[u8]
 /// The first part of a text that begins with no blank, and what is left behind it.
 fn first_part(text: &[u8]) -> Option<(Token<'_>, &[u8])>
     requires { begins_with_blank text.now ≡ false }
-    ensures is { MatchOption result (parts text.now ≡ []) (λ f. parts text.now ≡ part f.0 ∷ parts f.1.now) }
+    ensures is { MatchOption result (parts text.now ≡ [])
+        (λ f. parts text.now ≡ part f.0 ∷ parts f.1.now) }
     ensures whole { IfSome result (λ f. IsWhole f.0) }
 {
     match text {

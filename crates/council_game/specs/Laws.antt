@@ -5,11 +5,16 @@ use Rattle.council_game.specs.Votes.{Votes, has, without, weight, places_of, win
 
 -- a coalition weighs what its members weigh together
 abbrev pub WeighsItsMembers : Type 0
-WeighsItsMembers = (ws : List ℕ) (c : ℕ) → weight ws c ≡ sum (map (λ p. slice_index ws p) (places_of (length ws) c))
+WeighsItsMembers =
+    (ws : List ℕ) (c : ℕ)
+    → weight ws c ≡ sum (map (λ p. slice_index ws p) (places_of (length ws) c))
 
 -- a coalition is minimal exactly where it wins, and loses without any one of its members
 abbrev pub NeedsEachMember : Votes → Type 0
-NeedsEachMember v = (c : ℕ) → (minimal v c ≡ true) ↔ ((wins v.rules c ≡ true) × ((p : ℕ) → p < v.members → has v.members p c ≡ true → wins v.rules (without v.members p c) ≡ false))
+NeedsEachMember v =
+    (c : ℕ) → (minimal v c ≡ true) ↔ ((wins v.rules c ≡ true)
+    × ((p : ℕ) → p < v.members → has v.members p c ≡ true
+    → wins v.rules (without v.members p c) ≡ false))
 
 -- in a game of n members, each place of a is in c, and c is not a
 abbrev pub IsProperSubset : ℕ → ℕ → ℕ → Type 0
@@ -17,7 +22,9 @@ IsProperSubset n a c = ((p : ℕ) → p < n → has n p a ≡ true → has n p c
 
 -- no proper subset of a minimal coalition wins
 abbrev pub ProperSubsetsLose : Votes → Type 0
-ProperSubsetsLose v = (a c : ℕ) → a < 2 ^ v.members → c < 2 ^ v.members → minimal v c ≡ true → IsProperSubset v.members a c → wins v.rules a ≡ false
+ProperSubsetsLose v =
+    (a c : ℕ) → a < 2 ^ v.members → c < 2 ^ v.members
+    → minimal v c ≡ true → IsProperSubset v.members a c → wins v.rules a ≡ false
 
 -- the list of minimal coalitions is not empty, no longer than the game has coalitions, strictly descending, and has
 -- coalitions of the game alone, none of them empty

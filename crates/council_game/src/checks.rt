@@ -50,7 +50,8 @@ pub(crate) fn check_names(names: &[String]) -> Result<(), GameFault>
 
 /// One of the names is this one.
 fn has_name(names: &[String], name: &str) -> bool
-    ensures { result ≡ list_any (λ other. pointwise nat_eq name.now (string_bytes other)) names.now }
+    ensures { result
+        ≡ list_any (λ other. pointwise nat_eq name.now (string_bytes other)) names.now }
 {
     names.iter().any(|other| name == other.as_str())
 }
@@ -65,7 +66,8 @@ fn is_repeat(names: &[String], k: usize) -> bool
 
 /// The place of the first name that stands before.
 fn first_repeat(names: &[String]) -> Option<usize>
-    ensures place { result ≡ position (is_repeat (map string_bytes names.now)) (range_with_len 0 (length names.now)) }
+    ensures place { result ≡ position (is_repeat (map string_bytes names.now))
+        (range_with_len 0 (length names.now)) }
     ensures bound { IfSome result (λ k. k < length names.now) }
 {
     (0..names.len()).position(|k| is_repeat(names, k))
@@ -96,7 +98,8 @@ fn is_over(rule: &Rule, k: usize) -> bool
 }
 
 fn any_over(rules: &[Rule], k: usize) -> bool
-    ensures { result ≡ list_any (λ r. nat_lt 1000000000000 (slice_index r.weights.items k)) rules.now }
+    ensures { result
+        ≡ list_any (λ r. nat_lt 1000000000000 (slice_index r.weights.items k)) rules.now }
 {
     rules.iter().any(|rule| is_over(rule, k))
 }

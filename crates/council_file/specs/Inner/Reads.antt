@@ -6,7 +6,8 @@ use Rattle.std.specs.Io.KnownBytes.{Consumes}
 
 -- the vector grew by n bytes, which the reader gave
 abbrev pub GrewBy : Option (List ℕ) → Option (List ℕ) → List ℕ → List ℕ → ℕ → Type 0
-GrewBy before after old new n = (more : List ℕ) × Consumes before after more × (new ≡ old ++ more) × (length more ≡ n)
+GrewBy before after old new n =
+    (more : List ℕ) × Consumes before after more × (new ≡ old ++ more) × (length more ≡ n)
 
 -- A read failed, or memory ran out.
 abbrev pub IsStop : GameFault → Type 0

@@ -5,5 +5,11 @@ use Rattle.council_game.specs.declared.rule.Rule.{Rule}
 use Rattle.council_game.specs.Game.{GameView}
 use Rattle.council_game.specs.Rules.{rule_views}
 
-abbrev pub game_of_parts : Option (String Global) → List (String Global) → List Rule → List ℕ → GameView
-game_of_parts title names rules ranks = record { title = option_map string_bytes title; names = map string_bytes names; rules = rule_views rules; ranks = ranks }
+abbrev pub game_of_parts : Option (String Global) → List (String Global)
+    → List Rule → List ℕ → GameView
+game_of_parts title names rules ranks = record {
+  title = option_map string_bytes title;
+  names = map string_bytes names;
+  rules = rule_views rules;
+  ranks = ranks;
+}

@@ -10,4 +10,5 @@ abbrev pub votes : ℕ → List Rule → Votes
 votes n rules = record { members = n; rules = rule_views rules }
 
 abbrev pub IsWeighed : List RuleView → Weighed → Type 0
-IsWeighed rs w = (r : ℕ) → r < length rs → slice_index w.sums r ≡ weight (rule_at rs r).weights w.mask
+IsWeighed rs w =
+    (r : ℕ) → r < length rs → slice_index w.sums r ≡ weight (rule_at rs r).weights w.mask
