@@ -19,3 +19,4 @@ pub mod Sizes
 pub mod RankPlaces
 pub mod Bounds
 pub mod Seen
+pub mod AllLaws

@@ -1,11 +1,11 @@
 -- The size of a coalition by its binary digits.
-use Rattle.std.proofs.Common.{◌≡◌, ℕ, zero, suc, ◌+◌, ◌-◌, ◌*◌, ◌/◌, ◌%◌, ◌^◌, ◌<◌, ◌≤◌, List, ◌∷◌, length, refl, sym, ap, ◌∙◌, arith, inl, inr, count_ones, filter, true, pow_mono}
+use Rattle.std.proofs.Common.{◌≡◌, ℕ, zero, suc, ◌+◌, ◌-◌, ◌*◌, ◌/◌, ◌%◌, ◌^◌, ◌<◌, ◌≤◌, List, ◌∷◌, length, sym, ap, ◌∙◌, arith, count_ones, filter, true, pow_mono}
 use Rattle.std.specs.List.{range_with_len}
 use Rattle.std.proofs.lemmas.Nat.{ones_cat, ones-le, mod-pow-add}
 use Rattle.std.specs.Int.Count.{ones-ones}
 use Rattle.std.proofs.Math.Nat.{mod-eq_of_lt, mod-lt, div-mul-le_self, mul-le-mul_right}
 use Rattle.std.proofs.lemmas.Nat.{pow_pos}
-use Rattle.std.proofs.lemmas.Bool.{cases_Bool, cond-true, cond-false, eqb-true, eq-eqb, both_ways}
+use Rattle.std.proofs.lemmas.Bool.{cond_both, eqb-true, eqb-false}
 use Rattle.council_game.specs.Votes.{has, size}
 
 bit-ones : (b : ℕ) → b < 2 → count_ones b ≡ b
@@ -26,16 +26,9 @@ size-from m a (suc n) c e =
     let both : count_ones (c % 2 ^ suc n) ≡ c / 2 ^ n % 2 + count_ones (c % 2 ^ n) =
     ap count_ones parts ∙ ones_cat n (c / 2 ^ n % 2) (c % 2 ^ n) (mod-lt c (pow_pos n)) ∙ ap (λ (k : ℕ). k + count_ones (c % 2 ^ n)) (bit-ones (c / 2 ^ n % 2) bit) in
     let others : List ℕ = filter (λ p. has m p c) (range_with_len (a + 1) n) in
-    elim (cases_Bool (has m a c)) [
-      | inl in' ↦
-          let digit : c / 2 ^ n % 2 ≡ 1 = ap (λ (k : ℕ). c / 2 ^ k % 2) (sym place) ∙ eqb-true _ _ in' in
-          let more : length (a ∷ others) ≡ suc (length others) = refl in
-          ap length (cond-true (has m a c) (a ∷ others) others in') ∙ more ∙ omega (arith, rest, both, digit)
-      | inr out ↦
-          let not_one : c / 2 ^ n % 2 ≡ 1 → ⊥ = λ e. both_ways _ out (eq-eqb _ _ (ap (λ (k : ℕ). c / 2 ^ k % 2) place ∙ e)) in
-          let digit : c / 2 ^ n % 2 ≡ 0 = omega (arith, bit, not_one) in
-          ap length (cond-false (has m a c) (a ∷ others) others out) ∙ omega (arith, rest, both, digit)
-    ]
+    cond_both (has m a c) (a ∷ others) others (λ ps. length ps ≡ count_ones (c % 2 ^ suc n))
+    (λ inside. let digit = rw place at (eqb-true _ _ inside) in omega (arith, rest, both, digit))
+    (λ outside. let other = rw place at (eqb-false _ _ outside) in omega (arith, rest, both, bit, other))
 
 pub size-ones : (n c : ℕ) → c < 2 ^ n → size n c ≡ count_ones c
 size-ones n c below = size-from n 0 n c (omega arith) ∙ ap count_ones (mod-eq_of_lt below)

@@ -1,7 +1,7 @@
 -- The weight of a coalition, one binary digit after another.
-use Rattle.std.proofs.Common.{◌≡◌, ℕ, suc, ◌+◌, ◌-◌, ◌*◌, ◌/◌, ◌%◌, ◌^◌, ◌<◌, List, [], ◌∷◌, length, filter, slice_index, refl, sym, ap, ◌∙◌, arith, inl, inr}
+use Rattle.std.proofs.Common.{◌≡◌, ℕ, suc, ◌+◌, ◌-◌, ◌*◌, ◌/◌, ◌%◌, ◌^◌, ◌<◌, List, [], ◌∷◌, length, filter, slice_index, refl, sym, ap, ◌∙◌, arith}
 use Rattle.std.specs.List.{range_with_len, sum_by}
-use Rattle.std.proofs.lemmas.Bool.{cases_Bool, cond-true, cond-false, eqb-true, eq-eqb, both_ways}
+use Rattle.std.proofs.lemmas.Bool.{cond_both, eqb-true, eqb-false}
 use Rattle.std.proofs.lemmas.List.Sums.{sum_by-cons}
 use Rattle.council_game.specs.Votes.{has, weight}
 
@@ -24,20 +24,13 @@ from ws (v ∷ vs) m a c e same =
     let bit : c / 2 ^ length vs % 2 < 2 = omega arith in
     let others : List ℕ = filter (λ p. has m p c) (range_with_len (a + 1) (length vs)) in
     let first : slice_index ws a ≡ v = ap (slice_index ws) (let z : a ≡ a + 0 = omega arith in z) ∙ same 0 (omega arith) in
-    elim (cases_Bool (has m a c)) [
-      | inl in' ↦
-          let digit : c / 2 ^ length vs % 2 ≡ 1 = ap (λ (k : ℕ). c / 2 ^ k % 2) (sym place) ∙ eqb-true _ _ in' in
-          let here : filter (λ p. has m p c) (range_with_len a (length (v ∷ vs))) ≡ a ∷ others = cond-true (has m a c) (a ∷ others) others in' in
-          let more : sum_by (slice_index ws) (a ∷ others) ≡ slice_index ws a + sum_by (slice_index ws) others = sum_by-cons (slice_index ws) a others in
-          let left : c / 2 ^ length vs % 2 * v ≡ v = rw digit (omega arith) in
-          rw here (omega (arith, rest, more, left, first))
-      | inr out ↦
-          let not_one : c / 2 ^ length vs % 2 ≡ 1 → ⊥ = λ e. both_ways _ out (eq-eqb _ _ (ap (λ (k : ℕ). c / 2 ^ k % 2) place ∙ e)) in
-          let digit : c / 2 ^ length vs % 2 ≡ 0 = omega (arith, bit, not_one) in
-          let here : filter (λ p. has m p c) (range_with_len a (length (v ∷ vs))) ≡ others = cond-false (has m a c) (a ∷ others) others out in
-          let left : c / 2 ^ length vs % 2 * v ≡ 0 = rw digit (omega arith) in
-          rw here (omega (arith, rest, left))
-    ]
+    let more = sum_by-cons (slice_index ws) a others in
+    cond_both (has m a c) (a ∷ others) others (λ ps. c / 2 ^ length vs % 2 * v + by_digits vs c ≡ sum_by (slice_index ws) ps)
+    (λ inside. let digit = rw place at (eqb-true _ _ inside) in rw digit (omega (arith, rest, more, first)))
+    (λ outside.
+    let other = rw place at (eqb-false _ _ outside) in
+    let digit : c / 2 ^ length vs % 2 ≡ 0 = omega (arith, bit, other) in
+    rw digit (omega (arith, rest)))
 
 weight-by_digits : (ws : List ℕ) (c : ℕ) → weight ws c ≡ by_digits ws c
 unfolding weight
