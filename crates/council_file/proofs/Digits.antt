@@ -1,7 +1,6 @@
 -- The parts of a text, from its front.
-use Rattle.std.proofs.lemmas.List.{map_push, take_all, take-append-drop}
+use Rattle.std.proofs.lemmas.List.{length-map, map_push, take_all, take-append-drop}
 use Rattle.std.proofs.lemmas.List.FromFn.{map-range_with_len_more, length-map-range_with_len}
-use Rattle.council_game.proofs.Lists.{length_map}
 use Rattle.std.specs.List.{range_with_len}
 use Rattle.std.proofs.Common.{String, Global, string_bytes, map, decimal, ◌≡◌, ℕ, ◌+◌, ◌-◌, ◌*◌, ◌^◌, ◌<◌, ◌≤◌, zero, suc, List, [], ◌∷◌, ◌++◌, length, take, drop, get_or, Bool, true, false, refl, sym, ap, ◌∙◌, arith}
 use Rattle.std.specs.Char.{is_ascii_digit, digit_value}
@@ -81,4 +80,4 @@ parts_behind_number [] n some digit whole stop = absurd (omega arith)
 parts_behind_number (b ∷ bs) n some digit whole stop = number_in_front b bs n digit whole stop
 
 pub names_count : (names : List (String Global)) (n : ℕ) → map string_bytes names ≡ map decimal (range_with_len 1 n) → n ≡ length names
-names_count names n same = sym (length-map-range_with_len decimal 1 n) ∙ ap (λ (xs : List (List ℕ)). length xs) (sym same) ∙ length_map string_bytes names
+names_count names n same = sym (length-map-range_with_len decimal 1 n) ∙ ap (λ (xs : List (List ℕ)). length xs) (sym same) ∙ length-map names string_bytes

@@ -1,5 +1,5 @@
 -- The rules of a tree that passed the checks fit a game.
-use Rattle.std.proofs.Common.{◌≡◌, ℕ, ◌<◌, ◌≤◌, Bool, true, false, not, ◌&&◌, ◌||◌, List, [], ◌∷◌, length, map, Option, Some, None, is_some, codes, refl, sym, ap, ◌∙◌, arith, All, zero, suc, inl, inr, String, Global, string_bytes, nat_le}
+use Rattle.std.proofs.Common.{◌≡◌, ℕ, ◌<◌, ◌≤◌, Bool, true, false, not, ◌&&◌, ◌||◌, List, [], length, map, Option, Some, None, is_some, codes, refl, sym, ap, ◌∙◌, arith, All, inl, inr, String, Global, string_bytes, nat_le}
 use Rattle.std.specs.List.{range_with_len}
 use Rattle.std.specs.Option.{option_map_or}
 use Rattle.std.proofs.lemmas.Bool.{cases_Bool, false≢true, and_parts, leb-true}
@@ -8,8 +8,9 @@ use Rattle.toml.specs.Data.{Data, Members, get_member}
 use Rattle.council_game.specs.declared.rule.Rule.{Rule}
 use Rattle.council_game.specs.Votes.{RuleView}
 use Rattle.council_game.specs.Rules.{rule_view, rule_views}
-use Rattle.council_game.proofs.Lists.{length_map}
-use Rattle.council_game.proofs.RuleLists.{All_map, held_full}
+use Rattle.std.proofs.lemmas.List.{length-map}
+use Rattle.std.proofs.lemmas.List.Elements.{All-nil, All-cons, All-map}
+use Rattle.council_game.proofs.RuleLists.{held_full}
 use Rattle.council_file.specs.File.{has_key, some_member_has, elements_at, are_quotas, breaks_rules, lacks_quota, member_list, only_rule, rule_from, rules_of, name_from}
 
 quotas_pass : (q qs aq w v : Bool) → q ≡ false → not qs ≡ false → ((q && qs) || (qs && not aq) || (q && w) || (qs && v)) ≡ false → aq ≡ true
@@ -41,34 +42,30 @@ rules_count t ok quota =
 
 only_full : (t : Members) → length (only_rule t).weights ≡ length (member_list t)
 unfolding only_rule
-only_full t = length_map _ (member_list t)
+only_full t = length-map (member_list t) _
 
 at_full : (t : Members) (n r : ℕ) → length (rule_from t n r).weights ≡ length (member_list t)
 unfolding rule_from
-at_full t n r = length_map _ (member_list t)
-
-lone_full : (t : Members) → All (λ r. length r.weights ≡ length (member_list t)) (only_rule t ∷ [])
-lone_full t zero d h = only_full t
-lone_full t (suc k) d h = absurd (omega arith)
+at_full t n r = length-map (member_list t) _
 
 pub rules_full : (t : Members) → All (λ r. length r.weights ≡ length (member_list t)) (rules_of t)
 rules_full t =
     elim (cases_Bool (has_key (codes "quota") t)) [
-      | inl lone ↦ rw lone (lone_full t)
+      | inl lone ↦ rw lone (All-cons (λ (r : RuleView). length r.weights ≡ length (member_list t)) (only_rule t) [] (only_full t) (All-nil _))
       | inr many ↦
           let n = length (elements_at (codes "quotas") t) in
-          rw many (All_map (λ r. length r.weights ≡ length (member_list t)) (rule_from t n) (range_with_len 0 n) (λ k r h. at_full t n _))
+          rw many (All-map (λ (r : RuleView). length r.weights ≡ length (member_list t)) (rule_from t n) (range_with_len 0 n) (λ k r h. at_full t n _))
     ]
 
 -- what the code holds
 pub held_count : (rules : List Rule) (t : Members) → rule_views rules ≡ rules_of t → breaks_rules t ≡ false → lacks_quota t ≡ false → (0 < length rules) × (length rules ≤ 4)
 held_count rules t same ok quota =
     let count = rules_count t ok quota in
-    let len : length rules ≡ length (rules_of t) = sym (length_map rule_view rules) ∙ ap (λ (rs : List RuleView). length rs) same in
+    let len : length rules ≡ length (rules_of t) = sym (length-map rules rule_view) ∙ ap (λ (rs : List RuleView). length rs) same in
     (omega (arith, len, count.0), omega (arith, len, count.1))
 
 pub all_held : (rules : List Rule) (t : Members) (names : List (String Global)) (ds : List Data) → rule_views rules ≡ rules_of t → ds ≡ member_list t → map string_bytes names ≡ map name_from ds
     → All (λ r. length r.weights.items ≡ length names) rules
 all_held rules t names ds same members named =
-    let len : length (member_list t) ≡ length names = ap (λ (xs : List Data). length xs) (sym members) ∙ sym (length_map name_from ds) ∙ ap (λ (xs : List (List ℕ)). length xs) (sym named) ∙ length_map string_bytes names in
+    let len : length (member_list t) ≡ length names = ap (λ (xs : List Data). length xs) (sym members) ∙ sym (length-map ds name_from) ∙ ap (λ (xs : List (List ℕ)). length xs) (sym named) ∙ length-map names string_bytes in
     held_full rules (length names) (rw (same, ← len) (rules_full t))

@@ -5,7 +5,7 @@ use Rattle.std.specs.Str.Parse.{AllDigits}
 use Rattle.std.proofs.lemmas.Bool.{or_parts, le-leb, le-ltb, ltb-false}
 use Rattle.std.proofs.lemmas.Fmt.{decimal_is_IsNumeral, length-decimal-le}
 use Rattle.std.proofs.lemmas.List.Elements.{All-from_recursion}
-use Rattle.std.proofs.lemmas.List.FromFn.{length-range_with_len, length-map-range_with_len, get_or-range_with_len}
+use Rattle.std.proofs.lemmas.List.FromFn.{length-map-range_with_len}
 use Rattle.council_game.specs.declared.fault.GameFault.TheVariants.{Bracket}
 use Rattle.council_game.specs.Fault.{◌>>=◌}
 use Rattle.council_game.specs.Votes.{RuleView, rule_at}
@@ -19,7 +19,7 @@ use Rattle.council_file.specs.Notation.{notation}
 use Rattle.council_file.specs.Laws.{lone_game, NotationReadsBack}
 use Rattle.council_file.proofs.Digits.{parts-number}
 use Rattle.council_text.proofs.Joins.{one-number, next-numbers}
-use Rattle.council_file.proofs.Named.{position_nowhere, names_pass, repeats_pass}
+use Rattle.council_file.proofs.Named.{nowhere_below, names_pass, repeats_pass}
 
 -- ---- numbers
 
@@ -40,14 +40,6 @@ value_is n small = rw (le-leb (length (decimal n)) 18 (short n small)) (ap (λ (
 
 -- ---- the weights
 
-behind_comma : (text : List ℕ) → parts (codes ", " ++ text) ≡ comma ∷ parts text
-unfolding parts
-behind_comma text = refl
-
-closes : parts (codes "]") ≡ closing ∷ []
-unfolding parts
-closes = refl
-
 last_is : (w : ℕ) → w < 10 ^ 18 → weights_of (number (decimal w) ∷ closing ∷ []) ≡ Some (w ∷ [])
 unfolding weights_of
 last_is w small = ap (λ (o : Option ℕ). option_map (λ v. v ∷ []) o) (value_is w small)
@@ -59,9 +51,10 @@ next_is w ps ws small rest =
     ∙ ap (option_map (λ vs. w ∷ vs)) rest
 
 weights_read : (w : ℕ) (ws : List ℕ) → AllByRecursion (λ v. v < 10 ^ 18) (w ∷ ws) → weights_of (parts (joined_numbers (codes ", ") (w ∷ ws) ++ codes "]")) ≡ Some (w ∷ ws)
+unfolding parts
 weights_read w [] small =
     ap (λ (t : List ℕ). weights_of (parts (t ++ codes "]"))) (one-number (codes ", ") w)
-    ∙ ap weights_of (parts-decimal w (codes "]") small.0 refl ∙ ap (λ (ps : List Part). number (decimal w) ∷ ps) closes)
+    ∙ ap weights_of (parts-decimal w (codes "]") small.0 refl)
     ∙ last_is w small.0
 weights_read w (v ∷ ws) small =
     let rest : List ℕ = joined_numbers (codes ", ") (v ∷ ws) in
@@ -69,7 +62,7 @@ weights_read w (v ∷ ws) small =
     ap (λ (t : List ℕ). t ++ codes "]") (next-numbers (codes ", ") w v ws)
     ∙ append_assoc (decimal w) (codes ", " ++ rest) (codes "]") ∙ ap (λ (t : List ℕ). decimal w ++ t) (append_assoc (codes ", ") rest (codes "]")) in
     ap (λ (t : List ℕ). weights_of (parts t)) regrouped
-    ∙ ap weights_of (parts-decimal w (codes ", " ++ (rest ++ codes "]")) small.0 refl ∙ ap (λ (ps : List Part). number (decimal w) ∷ ps) (behind_comma (rest ++ codes "]")))
+    ∙ ap weights_of (parts-decimal w (codes ", " ++ (rest ++ codes "]")) small.0 refl)
     ∙ next_is w (parts (rest ++ codes "]")) (v ∷ ws) small.0 (weights_read v ws small.1)
 
 joined_short : (ws : List ℕ) → AllByRecursion (λ v. v < 10 ^ 18) ws → length (joined_numbers (codes ", ") ws) ≤ 20 * length ws
@@ -110,24 +103,14 @@ weights_small n r fits = all_small r.weights (λ i lt. fits.light i (omega (arit
 tail_of : RuleView → List ℕ
 tail_of r = joined_numbers (codes ", ") r.weights ++ codes "]"
 
-opens : (text : List ℕ) → parts (codes "[" ++ text) ≡ opening ∷ parts text
-unfolding parts
-opens text = refl
-
-behind_semicolon : (text : List ℕ) → parts (codes "; " ++ text) ≡ semicolon ∷ parts text
-unfolding parts
-behind_semicolon text = refl
-
 regrouped_text : (a b c d e : List ℕ) → a ++ b ++ c ++ d ++ e ≡ a ++ (b ++ (c ++ (d ++ e)))
 regrouped_text a b c d e = simp append_assoc
 
 text_parts : (r : RuleView) → r.quota < 10 ^ 18 → parts (notation r) ≡ opening ∷ number (decimal r.quota) ∷ semicolon ∷ parts (tail_of r)
-unfolding notation tail_of
+unfolding notation tail_of parts
 text_parts r small =
     ap parts (regrouped_text (codes "[") (decimal r.quota) (codes "; ") (joined_numbers (codes ", ") r.weights) (codes "]"))
-    ∙ opens (decimal r.quota ++ (codes "; " ++ (joined_numbers (codes ", ") r.weights ++ codes "]")))
     ∙ ap (λ (ps : List Part). opening ∷ ps) (parts-decimal r.quota (codes "; " ++ (joined_numbers (codes ", ") r.weights ++ codes "]")) small refl)
-    ∙ ap (λ (ps : List Part). opening ∷ number (decimal r.quota) ∷ ps) (behind_semicolon (joined_numbers (codes ", ") r.weights ++ codes "]"))
 
 tail_weights : (ws : List ℕ) → 0 < length ws → AllByRecursion (λ v. v < 10 ^ 18) ws → weights_of (parts (joined_numbers (codes ", ") ws ++ codes "]")) ≡ Some ws
 tail_weights [] some small = absurd (omega arith)
@@ -169,11 +152,8 @@ count_passes : (n m : ℕ) → m ≡ n → 0 < n → n ≤ 40 → (nat_lt m 1 ||
 count_passes n m same some few = rw (le-ltb m 1 (omega arith), le-ltb 40 m (omega arith)) refl
 
 weights_pass : (n m : ℕ) (r : RuleView) → m ≡ n → Fits n r → position (is_heavy (r ∷ [])) (range_with_len 0 m) ≡ None
-weights_pass n m r same fits = position_nowhere (is_heavy (r ∷ [])) (range_with_len 0 m)
-    (λ i d lt.
-    let below : i < m = omega (arith, length-range_with_len 0 m) in
-    let at : get_or (range_with_len 0 m) i d ≡ i = get_or-range_with_len 0 m i d below ∙ omega arith in
-    ap (is_heavy (r ∷ [])) at ∙ ap (λ (b : Bool). b || false) (le-ltb 1000000000000 (get_or r.weights i 0) (fits.light i (omega arith))))
+weights_pass n m r same fits = nowhere_below (is_heavy (r ∷ [])) m
+    (λ i lt. ap (λ (b : Bool). b || false) (le-ltb 1000000000000 (get_or r.weights i 0) (fits.light i (omega arith))))
 
 made : (n : ℕ) (r : RuleView) → Fits n r → nameless_game r ≡ Ok (lone_game r)
 made n r fits =

@@ -1,11 +1,11 @@
 -- A table and an array of toml as lists.
-use Rattle.std.proofs.Common.{◌≡◌, ℕ, List, [], ◌∷◌, ◌++◌, ◌+◌, map, String, Global, string_bytes, nat_eq, not, Bool, ◌&&◌, refl, ap}
+use Rattle.std.proofs.Common.{◌≡◌, ℕ, List, [], ◌∷◌, ◌++◌, ◌+◌, map, String, Global, string_bytes, nat_eq, not, refl, ap}
 use Rattle.std.specs.Map.{keys_of}
 use Rattle.toml.specs.Data.{Data}
 use Rattle.toml.specs.View.{view, items_view, members_view}
 use Rattle.toml.specs.declared.value.Value.{Value}
 use Rattle.council_file.specs.File.{elements, keys, has_other_key}
-use Rattle.std.specs.List.{list_any, list_all, range_with_len}
+use Rattle.std.specs.List.{list_any, range_with_len}
 use Rattle.std.proofs.lemmas.List.{map_push}
 use Rattle.council_game.specs.declared.rule.Rule.{Rule}
 use Rattle.council_game.specs.Votes.{RuleView}
@@ -23,14 +23,6 @@ keys_view (e ∷ es) = ap (λ (ks : List (List ℕ)). string_bytes e.0 ∷ ks) (
 
 pub other_key : (known : List (List ℕ)) (es : List (String Global × Value)) → list_any (λ k. not (list_any (pointwise nat_eq (string_bytes k)) known)) (keys_of es) ≡ has_other_key known (members_view es)
 other_key known es = rw (keys_view es, list_any_map (λ k. not (list_any (pointwise nat_eq k) known)) string_bytes (keys_of es)) refl
-
-pub list_all_map : {A B : Type 0} (p : B → Bool) (f : A → B) (xs : List A) → list_all p (map f xs) ≡ list_all (λ x. p (f x)) xs
-list_all_map p f [] = refl
-list_all_map p f (x ∷ xs) = ap (λ (b : Bool). p (f x) && b) (list_all_map p f xs)
-
-pub map_map : {A B C : Type 0} (g : B → C) (f : A → B) (xs : List A) → map g (map f xs) ≡ map (λ x. g (f x)) xs
-map_map g f [] = refl
-map_map {C = C} g f (x ∷ xs) = ap (λ (ys : List C). g (f x) ∷ ys) (map_map g f xs)
 
 pub rules_more : (f : ℕ → RuleView) (rules : List Rule) (rule : Rule) (r : ℕ) → rule_views rules ≡ map f (range_with_len 0 r) → rule_view rule ≡ f r → rule_views (rules ++ rule ∷ []) ≡ map f (range_with_len 0 (r + 1))
 rules_more f rules rule r before this = rw (map_push rule_view rules rule, map_one_more f r, before, this) refl

@@ -3,7 +3,7 @@ use Rattle.std.proofs.Common.{◌≡◌, ℕ, ◌-◌, ◌^◌, ◌<◌, ◌≤�
 use Rattle.std.specs.List.{AllByRecursion}
 use Rattle.std.proofs.lemmas.List.{length-map, get_or-map, same_lists, get_or_default}
 use Rattle.std.proofs.lemmas.List.FromFn.{length-range_with_len}
-use Rattle.std.proofs.lemmas.List.Elements.{recursion_from_All}
+use Rattle.std.proofs.lemmas.List.Elements.{All-map, recursion_from_All}
 use Rattle.std.proofs.lemmas.List.Sums.{position_or_len_is}
 use Rattle.std.proofs.lemmas.List.Sorted.{All-permutation}
 use Rattle.std.proofs.lemmas.Bool.{ne_eqb, eq-eqb, ltb-false, or_parts}
@@ -15,8 +15,7 @@ use Rattle.council_game.specs.Inner.Along.{place_in, rule_along}
 use Rattle.council_game.specs.Rules.{rule_view, rule_views}
 use Rattle.council_game.specs.Game.{GameView, IsGame, made_game, first_weights, total, votes_of}
 use Rattle.council_game.specs.Inner.Parts.{game_of_parts}
-use Rattle.council_game.proofs.RuleLists.{All_map, held_full}
-use Rattle.council_game.proofs.Lists.{length_map as map_length}
+use Rattle.council_game.proofs.RuleLists.{held_full}
 use Rattle.council_game.proofs.Rankings.{IsRanking, ranking-member_at, ranking-below, ranking-is, ranking-length, rank-of, rank_places-at, length-rank_places, place-found, places-at, places-below}
 use Rattle.council_game.proofs.Order.{ranking}
 use Rattle.council_game.proofs.GameTests.{held-rule}
@@ -101,13 +100,13 @@ made-game title names ns rules rs ks en er ek h = rw (ek, ← en, ← er) h
 pub is-game : (title : Option (String Global)) (names : List (String Global)) (rules : List Rule) (ks : List ℕ) → 0 < length rules → length rules ≤ 4 → All (λ r. length r.weights.items ≡ length names) rules
     → made_game (option_map string_bytes title) (map string_bytes names) (rule_views rules) ≡ Ok (game_of_parts title names rules ks) → IsGame (game_of_parts title names rules ks)
 is-game title names rules ks some few full made =
-    let count = map_length rule_view rules in
-    let size = map_length string_bytes names in
+    let count = length-map rules rule_view in
+    let size = length-map names string_bytes in
     record {
       made = made;
       has_rule = omega (arith, count);
       few_rules = omega (arith, count);
-      full = rw size (All_map (λ r. length r.weights ≡ length names) rule_view rules full);
+      full = rw size (All-map (λ r. length r.weights ≡ length names) rule_view rules full);
     }
 
 -- ---- places and members
@@ -168,18 +167,18 @@ order-at g os p are e lt =
     (size, ap (λ (l : List ℕ). get_or l p 0) e ∙ get_or-map (member_at g.ranks) (places g.ranks) p 0 0 (omega (arith, len, are.count)) ∙ ap (member_at g.ranks) (places-at (length g.ranks) p 0 (omega (arith, are.count))))
 
 pub names-count : (names : List (String Global)) (n : ℕ) → n ≡ length names → n ≡ length (map string_bytes names)
-names-count names n e = e ∙ sym (map_length string_bytes names)
+names-count names n e = e ∙ sym (length-map names string_bytes)
 
 -- a rule by rank, as the code holds it, is short and light
 pub held-weights : (g : GameView) (ranked : List Rule) (i : ℕ) (x : Rule) → IsGame g → rule_views ranked ≡ (votes_of g).rules → i < length g.rules → x ≡ get_or ranked i x → (length x.weights.items ≤ 40) × (sum x.weights.items ≤ 40000000000000)
 held-weights g ranked i x game same lt at =
     let v = held-votes g (length g.names) ranked game refl same in
-    let count : length ranked ≡ length g.rules = sym (map_length rule_view ranked) ∙ ap length same ∙ length-map g.rules (rule_by_rank g.ranks) in
+    let count : length ranked ≡ length g.rules = sym (length-map ranked rule_view) ∙ ap length same ∙ length-map g.rules (rule_by_rank g.ranks) in
     let is = held-rule (length g.names) ranked i x v (omega (arith, count)) at in
     (omega (arith, is.full, v.few), is.light)
 
 pub file-full : (g : GameView) (rules : List Rule) (i : ℕ) (x : Rule) → IsGame g → g.rules ≡ rule_views rules → i < length g.rules → x ≡ get_or rules i x → length x.weights.items ≡ length g.names
 file-full g rules i x game same lt at =
     let full = subst (λ (l : List RuleView). All (λ r. length r.weights ≡ length g.names) l) same game.full in
-    let here = held_full rules (length g.names) full i x (omega (arith, ap length same, map_length rule_view rules)) in
+    let here = held_full rules (length g.names) full i x (omega (arith, ap length same, length-map rules rule_view)) in
     ap (λ (r : Rule). length r.weights.items) at ∙ here

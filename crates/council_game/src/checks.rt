@@ -74,7 +74,7 @@ fn first_repeat(names: &[String]) -> Option<usize>
 }
 
 /// The first member, from 1, that repeats a name.
-#[tactic(auto, using(crate::proofs::Lists::length_map))]
+#[tactic(auto, using(crate::proofs::Lists::maps))]
 pub(crate) fn check_repeats(names: &[String]) -> Result<(), GameFault>
     requires { length names.now ≤ 40 }
     ensures { result ≡ check_repeats (map string_bytes names.now) }
