@@ -1,8 +1,9 @@
 -- The rules of a tree that passed the checks fit a game.
-use Rattle.std.proofs.Common.{◌≡◌, ℕ, ◌<◌, ◌≤◌, Bool, true, false, not, ◌&&◌, ◌||◌, List, [], length, map, Option, Some, None, is_some, codes, refl, sym, ap, ◌∙◌, arith, All, inl, inr, String, Global, string_bytes, nat_le}
+use Rattle.std.proofs.Common.{◌≡◌, ℕ, ◌<◌, ◌≤◌, Bool, true, false, not, ◌&&◌, ◌||◌, List, [], length, map, Option, Some, None, is_some, codes, refl, sym, ap, ◌∙◌, arith, All, inl, inr, String, Global, string_bytes}
 use Rattle.std.specs.List.{range_with_len}
 use Rattle.std.specs.Option.{option_map_or}
-use Rattle.std.proofs.lemmas.Bool.{cases_Bool, false≢true, and_parts, leb-true}
+use Rattle.std.proofs.lemmas.Bool.Decides.{nat_tests}
+use Rattle.std.proofs.lemmas.Bool.{cases_Bool, false≢true}
 use Rattle.std.proofs.lemmas.List.FromFn.{length-map-range_with_len}
 use Rattle.toml.specs.Data.{Data, Members, get_member}
 use Rattle.council_game.specs.declared.rule.Rule.{Rule}
@@ -14,20 +15,14 @@ use Rattle.council_game.proofs.RuleLists.{held_full}
 use Rattle.council_file.specs.File.{has_key, some_member_has, elements_at, are_quotas, breaks_rules, lacks_quota, member_list, only_rule, rule_from, rules_of, name_from}
 
 quotas_pass : (q qs aq w v : Bool) → q ≡ false → not qs ≡ false → ((q && qs) || (qs && not aq) || (q && w) || (qs && v)) ≡ false → aq ≡ true
-quotas_pass true qs aq w v a b h = absurd (false≢true (sym a))
-quotas_pass false false aq w v a b h = absurd (false≢true (sym b))
-quotas_pass false true true w v a b h = refl
-quotas_pass false true false w v a b h = absurd (false≢true (sym h))
+quotas_pass q qs aq w v a b h = grind (arith, nat_tests)
 
 none_gives : (f : Data → Bool) (o : Option Data) (d : Bool) → is_some o ≡ false → option_map_or f o d ≡ d
 none_gives f None d h = refl
 none_gives f (Some x) d h = absurd (false≢true (sym h))
 
 counted : (ds : List Data) → are_quotas ds ≡ true → (0 < length ds) × (length ds ≤ 4)
-counted ds h =
-    let (count, each) = and_parts (nat_le 1 (length ds) && nat_le (length ds) 4) _ h in
-    let (some, few) = and_parts (nat_le 1 (length ds)) (nat_le (length ds) 4) count in
-    (omega (arith, leb-true _ _ some), leb-true _ _ few)
+counted ds h = (grind (arith, nat_tests), grind (arith, nat_tests))
 
 pub rules_count : (t : Members) → breaks_rules t ≡ false → lacks_quota t ≡ false → (0 < length (rules_of t)) × (length (rules_of t) ≤ 4)
 rules_count t ok quota =

@@ -6,6 +6,7 @@ use Rattle.std.specs.Option.{option_map_or}
 use Rattle.std.proofs.lemmas.List.{length-map, get_or_default, get_or_past}
 use Rattle.std.proofs.lemmas.List.Elements.{recursion_from_All}
 use Rattle.std.proofs.lemmas.List.Sums.{sum_by-le, fails_before_first}
+use Rattle.std.proofs.lemmas.Bool.Decides.{nat_tests}
 use Rattle.std.proofs.lemmas.Bool.{cases_lt, or_parts, and_parts, not-false, leb-true, ltb-false, lt-ltb, cond-true}
 use Rattle.council_game.specs.declared.fault.GameFault.{GameFault}
 use Rattle.council_game.specs.declared.fault.GameFault.TheVariants.{Title, Members, Name, SameName, Weight, QuotaRange}
@@ -79,9 +80,7 @@ position-none f n none i lt =
 
 -- no name is longer than 64 bytes
 name-fits : (name : List ℕ) → not (is_name name) ≡ false → length name ≤ 64
-name-fits name h =
-    let parts = and_parts _ _ (and_parts _ _ (not-false (is_name name) h)).0 in
-    leb-true (length name) 64 parts.1
+name-fits name h = grind (arith, nat_tests)
 
 pub names-fit : (g : GameView) → IsGame g → (i : ℕ) → length (get_or g.names i []) ≤ 64
 names-fit g game i = elim (cases_lt i (length g.names)) [

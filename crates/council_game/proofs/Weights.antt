@@ -10,14 +10,16 @@ use Rattle.council_game.proofs.Digits.{digit-kept, digit-gone}
 use Rattle.council_game.proofs.WeightByDigits.{weight-nil, weight-cons}
 use Rattle.council_game.proofs.Monotone.{weight-mono}
 
+-- coalitions with the same digits at the places of ws weigh the same
+weight-same : (ws : List ℕ) (a c : ℕ) → ((i : ℕ) → i < length ws → a / 2 ^ i % 2 ≡ c / 2 ^ i % 2) → weight ws a ≡ weight ws c
+weight-same ws a c same =
+    let up = weight-mono ws a c (λ i lt. let e = same i lt in omega (arith, e)) in
+    let down = weight-mono ws c a (λ i lt. let e = same i lt in omega (arith, e)) in
+    omega (arith, up, down)
+
 -- digits above the places of vs weigh nothing
 pub weight-skip : (vs : List ℕ) (x r : ℕ) → weight vs (x * 2 ^ length vs + r) ≡ weight vs r
-weight-skip [] x r = weight-nil _ ∙ sym (weight-nil r)
-weight-skip (v ∷ vs) x r =
-    let e : x * 2 ^ suc (length vs) + r ≡ (2 * x) * 2 ^ length vs + r = rw (pow-suc 2 (length vs)) (omega arith) in
-    let top : (x * 2 ^ suc (length vs) + r) / 2 ^ length vs % 2 ≡ r / 2 ^ length vs % 2 = bit_at_cat_low x (suc (length vs)) r (length vs) (omega arith) in
-    let tail : weight vs (x * 2 ^ suc (length vs) + r) ≡ weight vs r = ap (weight vs) e ∙ weight-skip vs (2 * x) r in
-    rw (weight-cons v vs (x * 2 ^ suc (length vs) + r), weight-cons v vs r, top, tail) refl
+weight-skip vs x r = weight-same vs (x * 2 ^ length vs + r) r (λ i lt. bit_at_cat_low x (length vs) r i lt)
 
 -- the digits of two lists of places side by side
 pub weight-cat : (ws vs : List ℕ) (x r : ℕ) → r < 2 ^ length vs → weight (ws ++ vs) (x * 2 ^ length vs + r) ≡ weight ws x + weight vs r
@@ -41,25 +43,14 @@ weight-le (w ∷ ws) c =
 
 pub weight-zero : (ws : List ℕ) → weight ws 0 ≡ 0
 weight-zero [] = weight-nil 0
-weight-zero (w ∷ ws) =
-    let d : 0 / 2 ^ length ws % 2 ≡ 0 = bit_at-zero (length ws) in
-    let t = weight-zero ws in
-    rw (weight-cons w ws 0, d, t) (omega arith)
+weight-zero (w ∷ ws) = rw (weight-cons w ws 0, bit_at-zero (length ws), weight-zero ws) (omega arith)
 
 -- a coalition's weight is that of its first p places and that of the rest
 pub weight-at : (ws : List ℕ) (p c : ℕ) → p ≤ length ws → weight ws c ≡ weight (take p ws) (c / 2 ^ (length ws - p)) + weight (drop p ws) (c % 2 ^ (length ws - p))
 weight-at ws p c h =
     let e : length (drop p ws) ≡ length ws - p = length-drop p ws in
-    let k = 2 ^ (length ws - p) in
-    let pos : 0 < 2 ^ (length ws - p) = pow_pos (length ws - p) in
-    let low : c % 2 ^ (length ws - p) < 2 ^ (length ws - p) = mod_below c (2 ^ (length ws - p)) pos in
-    let low' : c % 2 ^ (length ws - p) < 2 ^ length (drop p ws) = rw e low in
-    let cat = weight-cat (take p ws) (drop p ws) (c / 2 ^ (length ws - p)) (c % 2 ^ (length ws - p)) low' in
-    let split : c / 2 ^ (length ws - p) * 2 ^ (length ws - p) + c % 2 ^ (length ws - p) ≡ c = div-add-mod' c (2 ^ (length ws - p)) in
-    ap (λ (l : List ℕ). weight l c) (sym (take-append-drop p ws))
-    ∙ ap (weight (take p ws ++ drop p ws)) (sym split)
-    ∙ ap (λ (i : ℕ). weight (take p ws ++ drop p ws) (c / 2 ^ (length ws - p) * 2 ^ i + c % 2 ^ (length ws - p))) (sym e)
-    ∙ cat
+    let low : c % 2 ^ (length ws - p) < 2 ^ length (drop p ws) = rw e (mod_below c (2 ^ (length ws - p)) (pow_pos (length ws - p))) in
+    rw (e, div-add-mod' c (2 ^ (length ws - p)), take-append-drop p ws) at (weight-cat (take p ws) (drop p ws) (c / 2 ^ (length ws - p)) (c % 2 ^ (length ws - p)) low)
 
 -- a prefix with zeros after it weighs what its places weigh
 pub weight-prefix : (ws : List ℕ) (p x : ℕ) → p ≤ length ws → weight ws (x * 2 ^ (length ws - p)) ≡ weight (take p ws) x
@@ -68,10 +59,7 @@ weight-prefix ws p x h =
     let e : x * 2 ^ (length ws - p) + 0 ≡ x * 2 ^ (length ws - p) = omega arith in
     let d : x * 2 ^ (length ws - p) / 2 ^ (length ws - p) ≡ x = ap (λ (i : ℕ). i / 2 ^ (length ws - p)) (sym e) ∙ div-mul-add x (2 ^ (length ws - p)) 0 pos in
     let m : x * 2 ^ (length ws - p) % 2 ^ (length ws - p) ≡ 0 = ap (λ (i : ℕ). i % 2 ^ (length ws - p)) (sym e) ∙ mod-mul-add x (2 ^ (length ws - p)) 0 pos in
-    weight-at ws p (x * 2 ^ (length ws - p)) h
-    ∙ ap (λ (i : ℕ). weight (take p ws) i + weight (drop p ws) (x * 2 ^ (length ws - p) % 2 ^ (length ws - p))) d
-    ∙ ap (λ (i : ℕ). weight (take p ws) x + weight (drop p ws) i) m
-    ∙ (let z : weight (drop p ws) 0 ≡ 0 = weight-zero (drop p ws) in omega (arith, z))
+    rw (d, m, weight-zero (drop p ws)) at (weight-at ws p (x * 2 ^ (length ws - p)) h) ∙ omega arith
 
 -- one place more
 pub weight-more : (ws : List ℕ) (p x b : ℕ) → p < length ws → b < 2 → weight (take (p + 1) ws) (2 * x + b) ≡ weight (take p ws) x + b * get_or ws p 0
@@ -89,9 +77,8 @@ weight-one_more : (ws : List ℕ) (a c k q : ℕ) → k + 1 + q ≡ length ws �
 weight-one_more [] a c k q place out inside same = absurd (omega arith)
 weight-one_more (w ∷ vs) a c k zero place out inside same =
     let top : length vs ≡ k = omega arith in
-    let up = weight-mono vs a c (λ i lt. let e = same i (omega arith) in omega (arith, e)) in
-    let down = weight-mono vs c a (λ i lt. let e = same i (omega arith) in omega (arith, e)) in
-    rw (weight-cons w vs a, weight-cons w vs c, top, out, inside) (omega (arith, up, down))
+    let rest = weight-same vs a c (λ i lt. same i (omega arith)) in
+    rw (weight-cons w vs a, weight-cons w vs c, top, out, inside) (omega (arith, rest))
 weight-one_more (w ∷ vs) a c k (suc q) place out inside same =
     let rest = weight-one_more vs a c k q (omega arith) out inside same in
     rw (weight-cons w vs a, weight-cons w vs c, same (length vs) (omega arith)) (omega (arith, rest))
