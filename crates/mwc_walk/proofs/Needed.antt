@@ -1,5 +1,5 @@
 -- Whether each member of a coalition is needed, told from the lanes, one member after another.
-use Rattle.std.proofs.Common.{◌≡◌, ℕ, ◌-◌, ◌*◌, ◌/◌, ◌%◌, ◌^◌, ◌<◌, ◌≤◌, leb, true, false, List, [], ◌∷◌, length, take, get_or, refl, sym, ap, ◌∙◌, subst, arith, cond, inl, inr}
+use Rattle.std.proofs.Common.{◌≡◌, ℕ, ◌-◌, ◌*◌, ◌/◌, ◌%◌, ◌^◌, ◌<◌, ◌≤◌, true, false, List, [], ◌∷◌, length, take, get_or, refl, sym, ap, ◌∙◌, subst, arith, cond, inl, inr}
 use Rattle.std.specs.List.{list_all}
 use Rattle.std.proofs.lemmas.Bool.{cases_eq, cases_lt, cases_Bool, cond-true, both_ways, and_left, lt-leb, leb-false, eqb-true}
 use Rattle.std.proofs.Math.Pow.{pow_mono}
@@ -10,30 +10,22 @@ use Rattle.std.specs.Int.{w64, trailing_zeros}
 use Rattle.council_game.proofs.Digits.{has-kept, has-gone, has-none, next-place, without-less}
 use Rattle.council_game.proofs.GameTests.{sum-without}
 use Rattle.council_game.proofs.Meanings.{needs-each-member}
-use Rattle.council_game.proofs.Weights.{weight-prefix}
 use Rattle.mwc_walk.specs.declared.lane.Lane.{Lane}
 use Rattle.mwc_walk.specs.declared.cursor.Cursor.{Cursor}
 use Rattle.mwc_walk.specs.Inner.Lanes.{lane_wins_without}
 use Rattle.mwc_walk.specs.Inner.Places.{LaneIs, LanesAre}
 use Rattle.mwc_walk.specs.Inner.Cursor.{CursorIs}
+use Rattle.mwc_walk.proofs.Each.{list_all-beside}
+use Rattle.mwc_walk.proofs.Rules.{weight-block}
 
 -- at the prefix x of p places, the lanes tell whether it wins without one of them
 pub lanes-without : (n p x q : ℕ) (rs : List RuleView) (ls : List Lane) → p ≤ n → q < n → has n q (x * 2 ^ (n - p)) ≡ true → LanesAre n p x rs ls → list_all (lane_wins_without q) ls ≡ wins rs (without n q (x * 2 ^ (n - p)))
 unfolding wins
-lanes-without n p x q [] [] le below inside are = refl
-lanes-without n p x q [] (l ∷ ls) le below inside are = elim are [ ]
-lanes-without n p x q (r ∷ rs) [] le below inside are = elim are [ ]
-lanes-without n p x q (r ∷ rs) (l ∷ ls) le below inside are =
-    let is : LaneIs n p x r l = are.0 in
-    let long : length r.weights ≡ n = is.rule.full in
-    let more = lanes-without n p x q rs ls le below inside are.1 in
-    let whole : weight r.weights (x * 2 ^ (n - p)) ≡ weight (take p r.weights) x =
-    ap (λ (m : ℕ). weight r.weights (x * 2 ^ (m - p))) (sym long) ∙ weight-prefix r.weights p x (omega arith) in
+lanes-without n p x q rs ls le below inside are =
+    list_all-beside (LaneIs n p x) _ _ (λ r l is.
     let less : l.sum - get_or r.weights q 0 ≡ weight r.weights (without n q (x * 2 ^ (n - p))) =
-    sum-without n r (x * 2 ^ (n - p)) q l.sum is.rule below inside (is.sum_is ∙ sym whole) in
-    let here : leb l.quota (l.sum - get_or l.weights q 0) ≡ leb r.quota (weight r.weights (without n q (x * 2 ^ (n - p)))) =
-    rw (is.quota, is.weights q below, less) refl in
-    rw (here, more) refl
+    sum-without n r (x * 2 ^ (n - p)) q l.sum is.rule below inside (is.sum_is ∙ sym (weight-block is.rule p x le)) in
+    rw (is.quota, is.weights q below, less) refl) rs ls are
 
 -- of the places of c, those that are not in rest are needed
 pub record Tried (v : Votes) (c rest : ℕ) : Type 0 where
@@ -107,10 +99,8 @@ first-lost n p x q m (r ∷ rs) [] d l le ranked some are at lost before below i
 first-lost n p x q m (r ∷ rs) (k ∷ ls) d l le ranked some are at lost before below inside =
     let is : LaneIs n p x r l = subst (λ (i : Lane). LaneIs n p x r i) at are.0 in
     let long : length r.weights ≡ n = is.rule.full in
-    let whole : weight r.weights (x * 2 ^ (n - p)) ≡ weight (take p r.weights) x =
-    ap (λ (i : ℕ). weight r.weights (x * 2 ^ (i - p))) (sym long) ∙ weight-prefix r.weights p x (omega arith) in
     let less : l.sum - get_or r.weights m 0 ≡ weight r.weights (without n m (x * 2 ^ (n - p))) =
-    sum-without n r (x * 2 ^ (n - p)) m l.sum is.rule (omega arith) inside (is.sum_is ∙ sym whole) in
+    sum-without n r (x * 2 ^ (n - p)) m l.sum is.rule (omega arith) inside (is.sum_is ∙ sym (weight-block is.rule p x le)) in
     let heavier : get_or r.weights q 0 ≤ get_or r.weights m 0 = ranked m q before (omega (arith, long)) in
     let same = is.weights q below in
     let short : l.sum - get_or l.weights q 0 < l.quota = leb-false _ _ lost in

@@ -11,8 +11,8 @@ use Rattle.mwc_walk.specs.Slices.{slice}
 use Rattle.mwc_walk.specs.Inner.Places.{wins_at}
 use Rattle.council_game.proofs.Meanings.{needs-each-member}
 use Rattle.council_game.proofs.Listing.{listing-is}
-use Rattle.council_game.proofs.Weights.{weight-more, weight-prefix, weight-without, weight-zero}
-use Rattle.mwc_walk.proofs.Blocks.{wins-prefix}
+use Rattle.council_game.proofs.Weights.{weight-without, weight-zero}
+use Rattle.mwc_walk.proofs.Rules.{weight-block, weight-step, wins-prefix, wins-over}
 
 -- places past the prefix are not in it
 place-before : (n p x q : ℕ) → p ≤ n → q < n → has n q (x * 2 ^ (n - p)) ≡ true → q < p
@@ -36,13 +36,10 @@ one-loses n p x q (r ∷ []) one all ranked pos le lost below in' =
     let long : length r.weights ≡ n = all.0.full in
     let before : q < p = place-before n p x q le below in' in
     let some : x * 2 ^ (n - p) / 2 ^ (n - 1 - q) % 2 ≡ 1 = eqb-true _ _ in' in
-    let less = weight-without r.weights q (x * 2 ^ (n - p)) (omega arith) (rw long some) in
-    let less' : weight r.weights (x * 2 ^ (n - p) - 2 ^ (n - 1 - q)) + get_or r.weights q 0 ≡ weight r.weights (x * 2 ^ (n - p)) = rw long at less in
-    let whole : weight r.weights (x * 2 ^ (n - p)) ≡ weight (take p r.weights) x = ap (λ (m : ℕ). weight r.weights (x * 2 ^ (m - p))) (sym long) ∙ weight-prefix r.weights p x (omega arith) in
+    let less = rw long at (weight-without r.weights q (x * 2 ^ (n - p)) (omega arith) (rw long some)) in
     let pe : p - 1 + 1 ≡ p = omega arith in
     let xe : 2 * (x / 2) + x % 2 ≡ x = omega arith in
-    let more : weight (take (p - 1 + 1) r.weights) (2 * (x / 2) + x % 2) ≡ weight (take (p - 1) r.weights) (x / 2) + x % 2 * get_or r.weights (p - 1) 0 = weight-more r.weights (p - 1) (x / 2) (x % 2) (omega arith) (omega arith) in
-    let more' : weight (take p r.weights) x ≡ weight (take (p - 1) r.weights) (x / 2) + x % 2 * get_or r.weights (p - 1) 0 = rw (pe, xe) at more in
+    let more = rw (pe, xe) at (weight-step all.0 (p - 1) (x / 2) (x % 2) (omega arith) (omega arith)) in
     let most : x % 2 * get_or r.weights (p - 1) 0 ≤ 1 * get_or r.weights (p - 1) 0 = mul-le (x % 2) (get_or r.weights (p - 1) 0) 1 (get_or r.weights (p - 1) 0) (omega arith) (omega arith) in
     let heavier : get_or r.weights (p - 1) 0 ≤ get_or r.weights q 0 = ranked q (p - 1) (omega arith) (omega arith) in
     let short : weight (take (p - 1) r.weights) (x / 2) < r.quota =
@@ -50,28 +47,17 @@ one-loses n p x q (r ∷ []) one all ranked pos le lost below in' =
       | inl less ↦ less
       | inr won ↦ absurd (both_ways _ lost (and_from _ _ (le-leb _ _ won) refl))
     ] in
-    let loses : weight r.weights (x * 2 ^ (n - p) - 2 ^ (n - 1 - q)) < r.quota = omega (arith, less', whole, more', most, heavier, short) in
+    let loses : weight r.weights (x * 2 ^ (n - p) - 2 ^ (n - 1 - q)) < r.quota = omega (arith, less, weight-block all.0 p x le, more, most, heavier, short) in
     and_left _ _ (lt-leb _ _ loses)
 
 pub one-minimal : (v : Votes) (p x : ℕ) → IsVotes v → length v.rules ≡ 1 → 0 < p → p ≤ v.members → wins_at v.rules p x ≡ true → wins_at v.rules (p - 1) (x / 2) ≡ false → minimal v (x * 2 ^ (v.members - p)) ≡ true
 one-minimal v p x game one pos le won lost =
     (needs-each-member v (x * 2 ^ (v.members - p))).1 (
-      wins-prefix v.members p x v.rules le game.rules ∙ won,
+      wins-prefix v.members v.rules game.rules p x le ∙ won,
       λ q below in'. one-loses v.members p x q v.rules one game.rules game.ranked pos le lost below in',
     )
 
 -- a prefix that wins first by its last place has that place in it
-same-even : (n p y : ℕ) (rs : List RuleView) → p < n → AllByRecursion (IsRule n) rs → wins_at rs (p + 1) (2 * y) ≡ wins_at rs p y
-unfolding wins_at
-same-even n p y [] below all = refl
-same-even n p y (r ∷ rs) below all =
-    let long : length r.weights ≡ n = all.0.full in
-    let more : weight (take (p + 1) r.weights) (2 * y + 0) ≡ weight (take p r.weights) y + 0 * get_or r.weights p 0 = weight-more r.weights p y 0 (omega arith) (omega arith) in
-    let e : 2 * y + 0 ≡ 2 * y = omega arith in
-    let more' : weight (take (p + 1) r.weights) (2 * y) ≡ weight (take p r.weights) y = ap (weight (take (p + 1) r.weights)) (sym e) ∙ more ∙ (let z : weight (take p r.weights) y + 0 * get_or r.weights p 0 ≡ weight (take p r.weights) y = omega arith in z) in
-    let rest = same-even n p y rs below all.1 in
-    rw (more', rest) refl
-
 pub won-odd : (n p x : ℕ) (rs : List RuleView) → 0 < p → p ≤ n → AllByRecursion (IsRule n) rs → wins_at rs p x ≡ true → wins_at rs (p - 1) (x / 2) ≡ false → x % 2 ≡ 1
 won-odd n p x rs pos le all won lost =
     elim (cases_lt 0 (x % 2)) [
@@ -79,7 +65,7 @@ won-odd n p x rs pos le all won lost =
       | inr none ↦
           let pe : p - 1 + 1 ≡ p = omega arith in
           let xe : 2 * (x / 2) ≡ x = omega arith in
-          let same = same-even n (p - 1) (x / 2) rs (omega arith) all in
+          let same = wins-over n rs all (p - 1) (x / 2) (omega arith) in
           absurd (both_ways _ lost (sym same ∙ ap (λ (i : ℕ). wins_at rs i (2 * (x / 2))) pe ∙ ap (wins_at rs p) xe ∙ won))
     ]
 

@@ -10,7 +10,8 @@ use Rattle.council_game.specs.Inner.Below.{minimal_below}
 use Rattle.council_game.proofs.Meanings.{needs-each-member}
 use Rattle.mwc_walk.specs.Slices.{slice}
 use Rattle.mwc_walk.specs.Inner.Places.{in_slice, slice_below, reaches, wins_at}
-use Rattle.mwc_walk.proofs.Blocks.{filter-down_skip, filter-down_take, some_digit, wins-below, loses-below}
+use Rattle.mwc_walk.proofs.Blocks.{filter-down_skip, filter-down_take, some_digit}
+use Rattle.mwc_walk.proofs.Rules.{wins-below, loses-below}
 
 -- numbers of one block have one prefix
 pub block-prefix : (x h c : ℕ) → x * 2 ^ h ≤ c → c < x * 2 ^ h + 2 ^ h → c / 2 ^ h ≡ x
@@ -40,7 +41,7 @@ above-not_minimal v p x c game le win low high min =
     let prefix : (c - 2 ^ found.0) / 2 ^ (v.members - p) ≡ x = block-prefix x (v.members - p) (c - 2 ^ found.0) (omega arith) (omega arith) in
     let prefix' : (c - 2 ^ (v.members - 1 - (v.members - 1 - found.0))) / 2 ^ (v.members - p) ≡ x = ap (λ (i : ℕ). (c - 2 ^ i) / 2 ^ (v.members - p)) place ∙ prefix in
     let still : wins v.rules (c - 2 ^ (v.members - 1 - (v.members - 1 - found.0))) ≡ true =
-    wins-below v.members p (c - 2 ^ (v.members - 1 - (v.members - 1 - found.0))) v.rules le game.rules (ap (wins_at v.rules p) prefix' ∙ win) in
+    wins-below v.members v.rules game.rules p (c - 2 ^ (v.members - 1 - (v.members - 1 - found.0))) le (ap (wins_at v.rules p) prefix' ∙ win) in
     let lost = ((needs-each-member v c).0 min).1 (v.members - 1 - found.0) (omega (arith, game.some)) inside in
     both_ways _ lost still
 
@@ -50,7 +51,7 @@ unfolding slice_below minimal_below
 left-dead v k j p x game le dead =
     let fails : (c : ℕ) → x * 2 ^ (v.members - p) ≤ c → c < x * 2 ^ (v.members - p) + 2 ^ (v.members - p) → minimal v c ≡ false =
     λ c low high. unfold minimal in and_left _ _ (false_from_ne_true _ (λ w.
-    both_ways _ dead (ap (reaches v.rules p) (sym (block-prefix x (v.members - p) c low high)) ∙ loses-below v.members p c v.rules le game.rules w))) in
+    both_ways _ dead (ap (reaches v.rules p) (sym (block-prefix x (v.members - p) c low high)) ∙ loses-below v.members v.rules game.rules p c le w))) in
     ap (in_slice v k j) (
     ap (λ (i : ℕ). filter (minimal v) (down i)) (next-block x (v.members - p))
     ∙ filter-down_skip (minimal v) (x * 2 ^ (v.members - p)) (2 ^ (v.members - p)) fails)

@@ -1,24 +1,23 @@
 -- The moves of a cursor.
-use Rattle.std.proofs.Common.{◌≡◌, ℕ, suc, ◌+◌, ◌-◌, ◌*◌, ◌/◌, ◌%◌, ◌^◌, ◌<◌, ◌≤◌, Bool, true, false, cond, leb, ltb, List, [], ◌∷◌, ◌++◌, map, length, take, drop, get_or, sum, refl, sym, ap, ◌∙◌, subst, arith, inl, inr}
+use Rattle.std.proofs.Common.{◌≡◌, ℕ, suc, ◌+◌, ◌-◌, ◌*◌, ◌/◌, ◌%◌, ◌^◌, ◌<◌, ◌≤◌, Bool, true, false, cond, ltb, List, [], ◌∷◌, ◌++◌, map, length, take, get_or, refl, sym, ap, ◌∙◌, subst, arith, inl, inr}
 use Rattle.std.proofs.lemmas.Nat.{shr-shr, pow_pos, shl_below, shl_whole}
 use Rattle.std.proofs.Math.Nat.{pow-suc}
-use Rattle.std.proofs.lemmas.Bool.{and_parts, and_from, le-leb, leb-true, lt-ltb, le-ltb, cases_Bool, cases_lt, both_ways, false_from_ne_true, cond-true, cond-false, cond_both}
+use Rattle.std.proofs.lemmas.Bool.{lt-ltb, le-ltb, cases_Bool, cases_lt, both_ways, false_from_ne_true, cond-true, cond-false, cond_both}
 use Rattle.std.specs.List.{AllByRecursion, All, list_all}
 use Rattle.std.proofs.lemmas.List.{take_at, length-map, length-take-le, length-append}
-use Rattle.std.proofs.lemmas.List.Sums.{sum_by-drop_more}
 use Rattle.std.proofs.Common.{min}
 use Rattle.mwc_walk.specs.declared.lane.Lane.{Lane}
 use Rattle.mwc_walk.specs.declared.cursor.Cursor.{Cursor}
 use Rattle.mwc_walk.specs.declared.step.Step.TheVariants.{On, Give, End}
 use Rattle.mwc_walk.specs.Inner.Lanes.{lane_with, lane_without, lane_reaches, lane_wins}
-use Rattle.council_game.specs.Votes.{RuleView, Votes, IsRule, weight, minimal}
+use Rattle.council_game.specs.Votes.{RuleView, Votes, IsRule, minimal}
 use Rattle.mwc_walk.specs.Slices.{slice}
 use Rattle.mwc_walk.specs.Inner.Places.{slice_below, reaches, wins_at, LanesAre}
 use Rattle.mwc_walk.specs.Inner.Cursor.{bound, rest_of_slice, steps_left, new_visit, open_visits, CursorIs, Follows, Steps}
-use Rattle.council_game.proofs.Weights.{weight-more}
 use Rattle.mwc_walk.proofs.Rest.{left-dead, left-won, left-drop, left-take, left-none}
 use Rattle.mwc_walk.proofs.One.{one-minimal, won-odd, empty-loses, slice-short, in-slice}
-use Rattle.mwc_walk.proofs.Tables.{lanes-in, lanes-out, lanes-up, fits-in, fits-out, full-reach, lanes-reach, lanes-win}
+use Rattle.mwc_walk.proofs.Tables.{lanes-in, lanes-out, lanes-up, fits-in, fits-out, lanes-reach, lanes-win}
+use Rattle.mwc_walk.proofs.Rules.{wins-more, reaches-in, full-reach}
 
 -- a block is two halves
 halves : (n p y : ℕ) → p < n → 2 * y * 2 ^ (n - (p + 1)) ≡ y * 2 ^ (n - p)
@@ -33,23 +32,13 @@ half-shift x k p le =
     let e : 1 + (p - k) ≡ p + 1 - k = omega arith in
     shr-shr x 1 (p - k) ∙ ap (λ (i : ℕ). x / 2 ^ i) e
 
-wins-more : (n p y b : ℕ) (rs : List RuleView) → p < n → b < 2 → AllByRecursion (IsRule n) rs → wins_at rs p y ≡ true → wins_at rs (p + 1) (2 * y + b) ≡ true
-unfolding wins_at
-wins-more n p y b [] below digit all h = refl
-wins-more n p y b (r ∷ rs) below digit all h =
-    let parts = and_parts (leb r.quota (weight (take p r.weights) y)) (wins_at rs p y) h in
-    let long : length r.weights ≡ n = all.0.full in
-    let q : r.quota ≤ weight (take p r.weights) y = leb-true _ _ parts.0 in
-    let more : weight (take (p + 1) r.weights) (2 * y + b) ≡ weight (take p r.weights) y + b * get_or r.weights p 0 = weight-more r.weights p y b (omega arith) digit in
-    and_from _ _ (le-leb _ _ (omega (arith, q, more))) (wins-more n p y b rs below digit all.1 parts.1)
-
 -- the place before does not win either
 lost-before : (n p x : ℕ) (rs : List RuleView) → 0 < p → p ≤ n → AllByRecursion (IsRule n) rs → wins_at rs p x ≡ false → wins_at rs (p - 1) (x / 2) ≡ false
 lost-before n p x rs pos le all h =
     false_from_ne_true _ (λ w.
     let e : p - 1 + 1 ≡ p = omega arith in
     let f : 2 * (x / 2) + x % 2 ≡ x = omega arith in
-    let more = wins-more n (p - 1) (x / 2) (x % 2) rs (omega arith) (omega arith) all w in
+    let more = wins-more n rs all (p - 1) (x / 2) (x % 2) (omega arith) (omega arith) w in
     both_ways _ h (ap (λ (i : ℕ). wins_at rs i x) (sym e) ∙ ap (wins_at rs (p - 1 + 1)) (sym f) ∙ more))
 
 -- ---- a cursor's numbers, where nothing or everything below its prefix was looked at
@@ -266,17 +255,6 @@ enter-dead v a is fresh dead =
     (after-left v a is ∙ sym (left-dead v a.bits a.number a.place a.prefix is.game is.to dead) ∙ ap (slice_below v a.bits a.number) (sym (bound-fresh v a is.members fresh)))
     (λ _. cond-true a.fresh _ _ fresh ∙ cond-false (reaches v.rules a.place a.prefix) _ _ dead)
 
-reaches-in : (n p x : ℕ) (rs : List RuleView) → p < n → AllByRecursion (IsRule n) rs → reaches rs p x ≡ true → reaches rs (p + 1) (2 * x + 1) ≡ true
-unfolding reaches
-reaches-in n p x [] below all h = refl
-reaches-in n p x (r ∷ rs) below all h =
-    let parts = and_parts (leb r.quota (weight (take p r.weights) x + sum (drop p r.weights))) (reaches rs p x) h in
-    let long : length r.weights ≡ n = all.0.full in
-    let q : r.quota ≤ weight (take p r.weights) x + sum (drop p r.weights) = leb-true _ _ parts.0 in
-    let more : weight (take (p + 1) r.weights) (2 * x + 1) ≡ weight (take p r.weights) x + 1 * get_or r.weights p 0 = weight-more r.weights p x 1 (omega arith) (omega arith) in
-    let here : sum (drop p r.weights) ≡ get_or r.weights p 0 + sum (drop (p + 1) r.weights) = sum_by-drop_more (λ (y : ℕ). y) r.weights p 0 (omega arith) in
-    and_from _ _ (le-leb _ _ (omega (arith, q, more, here))) (reaches-in n p x rs below all.1 parts.1)
-
 pow-short : (x p : ℕ) → x < 2 ^ p → 2 * x + 1 < 2 ^ (p + 1)
 pow-short x p h =
     let e : 2 ^ (p + 1) ≡ 2 ^ p * 2 = ap (λ (i : ℕ). 2 ^ i) (let d : p + 1 ≡ suc p = omega arith in d) ∙ pow-suc 2 p in
@@ -302,7 +280,7 @@ enter-in v a ls t counted holds is fresh below can lost room taken =
     let lt : a.bits < a.place + 1 = omega arith in
     let w : new_visit b ≡ 1 = cond-true a.fresh _ _ fresh ∙ cond-true (ltb a.bits (a.place + 1)) _ _ (lt-ltb a.bits (a.place + 1) lt) ∙ ze in
     let old = open-fresh v a fresh can in
-    let new = open-fresh v b fresh (reaches-in v.members a.place a.prefix v.rules below is.game.rules can) in
+    let new = open-fresh v b fresh (reaches-in v.members v.rules is.game.rules a.place a.prefix below can) in
     let few : length (slice v a.bits a.number) ≤ 2 ^ 40 = slice-short v a.bits a.number is.game in record {
       follows = record {
         is = record {
@@ -393,7 +371,7 @@ pub in-room : (v : Votes) (a : Cursor) → CursorIs v a → reaches v.rules a.pl
 in-room v a is can lost =
     elim (cases_lt a.place v.members) [
       | inl less ↦ less
-      | inr past ↦ absurd (both_ways _ lost (sym (full-reach v.members a.place a.prefix v.rules (take a.rules a.lanes) past is.lanes) ∙ can))
+      | inr past ↦ absurd (both_ways _ lost (sym (full-reach v.members v.rules is.game.rules a.place a.prefix past) ∙ can))
     ]
 
 pub in-fits : (v : Votes) (a : Cursor) → CursorIs v a → a.place < v.members → All (λ l. l.sum + get_or l.weights a.place 0 < 2 ^ 64) (take a.rules a.lanes)

@@ -1,158 +1,76 @@
 -- The lanes of the walk stand for the rules of the game, at a prefix.
-use Rattle.std.proofs.Common.{◌≡◌, ℕ, zero, suc, ◌+◌, ◌-◌, ◌*◌, ◌^◌, ◌<◌, ◌≤◌, leb, List, [], ◌∷◌, map, length, take, drop, get_or, replicate, sum, refl, sym, ap, ◌∙◌, arith}
+use Rattle.std.proofs.Common.{◌≡◌, ℕ, zero, suc, ◌+◌, ◌-◌, ◌*◌, ◌^◌, ◌<◌, ◌≤◌, leb, List, [], ◌∷◌, map, length, take, drop, get_or, replicate, sum, refl, sym, ◌∙◌, arith}
 use Rattle.std.proofs.lemmas.Bool.Decides.{nat_tests}
 use Rattle.std.specs.List.{list_all, All}
-use Rattle.std.proofs.lemmas.List.{drop_all, length-take-le, ext_get_or, get_or-take}
+use Rattle.std.proofs.lemmas.List.{map-id, length-take-le, ext_get_or, get_or-take}
 use Rattle.std.proofs.lemmas.List.Sums.{sum_by-take-drop, sum_by-drop_more}
-use Rattle.std.proofs.lemmas.List.Elements.{All-nil, All-cons}
 use Rattle.mwc_walk.specs.declared.lane.Lane.{Lane}
 use Rattle.mwc_walk.specs.Inner.Lanes.{lane_reaches, lane_wins, lane_with, lane_without}
-use Rattle.council_game.specs.Votes.{RuleView, weight, rule_at}
-use Rattle.council_game.proofs.Weights.{weight-more, weight-le, weight-zero}
+use Rattle.council_game.specs.Votes.{RuleView, IsRule, weight, rule_at}
+use Rattle.council_game.proofs.Weights.{weight-le, weight-zero}
 use Rattle.mwc_walk.specs.Inner.Places.{reaches, wins_at, LaneIs, LanesAre}
+use Rattle.mwc_walk.proofs.Each.{list_all-beside, AllZip-moved, All-beside}
+use Rattle.mwc_walk.proofs.Rules.{weight-step, weight-over, rest-step}
 
 sub-leb : (a b c : ℕ) → leb (a - b) c ≡ leb a (b + c)
 sub-leb a b c = grind (arith, nat_tests)
 
 pub lanes-reach : (n p x : ℕ) (rs : List RuleView) (ls : List Lane) → p ≤ n → LanesAre n p x rs ls → list_all (lane_reaches p) ls ≡ reaches rs p x
 unfolding reaches
-lanes-reach n p x [] [] le are = refl
-lanes-reach n p x [] (l ∷ ls) le are = elim are [ ]
-lanes-reach n p x (r ∷ rs) [] le are = elim are [ ]
-lanes-reach n p x (r ∷ rs) (l ∷ ls) le are =
-    let is : LaneIs n p x r l = are.0 in
-    let more = lanes-reach n p x rs ls le are.1 in
-    let here : leb (l.quota - l.sum) (get_or l.rest p 0) ≡ leb r.quota (weight (take p r.weights) x + sum (drop p r.weights)) =
-    rw (is.quota, is.sum_is, is.rest p le) (sub-leb r.quota (weight (take p r.weights) x) (sum (drop p r.weights))) in
-    rw (here, more) refl
+lanes-reach n p x rs ls le are =
+    list_all-beside (LaneIs n p x) _ _ (λ r l is.
+    rw (is.quota, is.sum_is, is.rest p le) (sub-leb r.quota (weight (take p r.weights) x) (sum (drop p r.weights)))) rs ls are
 
 pub lanes-win : (n p x : ℕ) (rs : List RuleView) (ls : List Lane) → LanesAre n p x rs ls → list_all lane_wins ls ≡ wins_at rs p x
 unfolding wins_at
-lanes-win n p x [] [] are = refl
-lanes-win n p x [] (l ∷ ls) are = elim are [ ]
-lanes-win n p x (r ∷ rs) [] are = elim are [ ]
-lanes-win n p x (r ∷ rs) (l ∷ ls) are =
-    let is : LaneIs n p x r l = are.0 in
-    let more = lanes-win n p x rs ls are.1 in
-    let here : leb l.quota l.sum ≡ leb r.quota (weight (take p r.weights) x) = rw (is.quota, is.sum_is) refl in
-    rw (here, more) refl
+lanes-win n p x rs ls are = list_all-beside (LaneIs n p x) _ _ (λ r l is. rw (is.quota, is.sum_is) refl) rs ls are
+
+-- the lane at another prefix
+lane-at : {n p q x y : ℕ} {r : RuleView} {l : Lane} (s : ℕ) → LaneIs n p x r l → s ≡ weight (take q r.weights) y → LaneIs n q y r (record l { sum = s })
+lane-at s is e = record {
+  rule = is.rule;
+  quota = is.quota;
+  weights = is.weights;
+  rest = is.rest;
+  sum_is = e;
+}
 
 -- place p is taken in
 pub lanes-in : (n p x : ℕ) (rs : List RuleView) (ls : List Lane) → p < n → LanesAre n p x rs ls → LanesAre n (p + 1) (2 * x + 1) rs (map (lane_with p) ls)
-lanes-in n p x [] [] below are = tt
-lanes-in n p x [] (l ∷ ls) below are = elim are [ ]
-lanes-in n p x (r ∷ rs) [] below are = elim are [ ]
-lanes-in n p x (r ∷ rs) (l ∷ ls) below are =
-    let is : LaneIs n p x r l = are.0 in
-    let long : length r.weights ≡ n = is.rule.full in
-    let more : weight (take (p + 1) r.weights) (2 * x + 1) ≡ weight (take p r.weights) x + 1 * get_or r.weights p 0 = weight-more r.weights p x 1 (omega arith) (omega arith) in (
-      record {
-        rule = is.rule;
-        quota = is.quota;
-        weights = is.weights;
-        rest = is.rest;
-        sum_is = omega (arith, more, is.sum_is, is.weights p below);
-      },
-      lanes-in n p x rs ls below are.1,
-    )
+lanes-in n p x rs ls below are =
+    AllZip-moved (LaneIs n p x) (LaneIs n (p + 1) (2 * x + 1)) (lane_with p) (λ r l is.
+    lane-at _ is (omega (arith, weight-step is.rule p x 1 below (omega arith), is.sum_is, is.weights p below))) rs ls are
 
 -- it comes out again
 pub lanes-out : (n p y : ℕ) (rs : List RuleView) (ls : List Lane) → p < n → LanesAre n (p + 1) (2 * y + 1) rs ls → LanesAre n (p + 1) (2 * y) rs (map (lane_without p) ls)
-lanes-out n p y [] [] below are = tt
-lanes-out n p y [] (l ∷ ls) below are = elim are [ ]
-lanes-out n p y (r ∷ rs) [] below are = elim are [ ]
-lanes-out n p y (r ∷ rs) (l ∷ ls) below are =
-    let is : LaneIs n (p + 1) (2 * y + 1) r l = are.0 in
-    let long : length r.weights ≡ n = is.rule.full in
-    let with' : weight (take (p + 1) r.weights) (2 * y + 1) ≡ weight (take p r.weights) y + 1 * get_or r.weights p 0 = weight-more r.weights p y 1 (omega arith) (omega arith) in
-    let without : weight (take (p + 1) r.weights) (2 * y + 0) ≡ weight (take p r.weights) y + 0 * get_or r.weights p 0 = weight-more r.weights p y 0 (omega arith) (omega arith) in
-    let zero_more : weight (take (p + 1) r.weights) (2 * y + 0) ≡ weight (take (p + 1) r.weights) (2 * y) = ap (weight (take (p + 1) r.weights)) (let e : 2 * y + 0 ≡ 2 * y = omega arith in e) in (
-      record {
-        rule = is.rule;
-        quota = is.quota;
-        weights = is.weights;
-        rest = is.rest;
-        sum_is = omega (arith, with', without, zero_more, is.sum_is, is.weights p below);
-      },
-      lanes-out n p y rs ls below are.1,
-    )
+lanes-out n p y rs ls below are =
+    AllZip-moved (LaneIs n (p + 1) (2 * y + 1)) (LaneIs n (p + 1) (2 * y)) (lane_without p) (λ r l is.
+    lane-at _ is (omega (arith, weight-step is.rule p y 1 below (omega arith), weight-over is.rule p y below, is.sum_is, is.weights p below))) rs ls are
+
+-- the same lanes at another prefix
+lanes-stay : (n p q x y : ℕ) (rs : List RuleView) (ls : List Lane) → ((r : RuleView) → IsRule n r → weight (take p r.weights) x ≡ weight (take q r.weights) y) → LanesAre n p x rs ls → LanesAre n q y rs ls
+lanes-stay n p q x y rs ls same are =
+    rw map-id at (AllZip-moved (LaneIs n p x) (LaneIs n q y) (λ l. l) (λ r l is. lane-at l.sum is (is.sum_is ∙ same r is.rule)) rs ls are)
 
 -- back to the place before, which is not in
 pub lanes-up : (n p y : ℕ) (rs : List RuleView) (ls : List Lane) → p < n → LanesAre n (p + 1) (2 * y) rs ls → LanesAre n p y rs ls
-lanes-up n p y [] [] below are = tt
-lanes-up n p y [] (l ∷ ls) below are = elim are [ ]
-lanes-up n p y (r ∷ rs) [] below are = elim are [ ]
-lanes-up n p y (r ∷ rs) (l ∷ ls) below are =
-    let is : LaneIs n (p + 1) (2 * y) r l = are.0 in
-    let long : length r.weights ≡ n = is.rule.full in
-    let without : weight (take (p + 1) r.weights) (2 * y + 0) ≡ weight (take p r.weights) y + 0 * get_or r.weights p 0 = weight-more r.weights p y 0 (omega arith) (omega arith) in
-    let zero_more : weight (take (p + 1) r.weights) (2 * y + 0) ≡ weight (take (p + 1) r.weights) (2 * y) = ap (weight (take (p + 1) r.weights)) (let e : 2 * y + 0 ≡ 2 * y = omega arith in e) in (
-      record {
-        rule = is.rule;
-        quota = is.quota;
-        weights = is.weights;
-        rest = is.rest;
-        sum_is = omega (arith, without, zero_more, is.sum_is);
-      },
-      lanes-up n p y rs ls below are.1,
-    )
-
-pub fits-in : (n p x : ℕ) (rs : List RuleView) (ls : List Lane) → p < n → LanesAre n p x rs ls → All (λ l. l.sum + get_or l.weights p 0 < 2 ^ 64) ls
-fits-in n p x [] [] below are = All-nil (λ (l : Lane). l.sum + get_or l.weights p 0 < 2 ^ 64)
-fits-in n p x [] (l ∷ ls) below are = elim are [ ]
-fits-in n p x (r ∷ rs) [] below are = elim are [ ]
-fits-in n p x (r ∷ rs) (l ∷ ls) below are =
-    let is : LaneIs n p x r l = are.0 in
-    let long : length r.weights ≡ n = is.rule.full in
-    let total : sum r.weights ≤ 40000000000000 = is.rule.light in
-    let cut : sum (take p r.weights) + sum (drop p r.weights) ≡ sum r.weights = sum_by-take-drop (λ (y : ℕ). y) r.weights p in
-    let here : sum (drop p r.weights) ≡ get_or r.weights p 0 + sum (drop (p + 1) r.weights) = sum_by-drop_more (λ (y : ℕ). y) r.weights p 0 (omega arith) in
-    let most : weight (take p r.weights) x ≤ sum (take p r.weights) = weight-le (take p r.weights) x in
-    All-cons (λ (l : Lane). l.sum + get_or l.weights p 0 < 2 ^ 64) l ls (omega (arith, cut, here, most, total, is.sum_is, is.weights p below)) (fits-in n p x rs ls below are.1)
-
-pub fits-out : (n p y : ℕ) (rs : List RuleView) (ls : List Lane) → p < n → LanesAre n (p + 1) (2 * y + 1) rs ls → All (λ l. get_or l.weights p 0 ≤ l.sum) ls
-fits-out n p y [] [] below are = All-nil (λ (l : Lane). get_or l.weights p 0 ≤ l.sum)
-fits-out n p y [] (l ∷ ls) below are = elim are [ ]
-fits-out n p y (r ∷ rs) [] below are = elim are [ ]
-fits-out n p y (r ∷ rs) (l ∷ ls) below are =
-    let is : LaneIs n (p + 1) (2 * y + 1) r l = are.0 in
-    let long : length r.weights ≡ n = is.rule.full in
-    let with' : weight (take (p + 1) r.weights) (2 * y + 1) ≡ weight (take p r.weights) y + 1 * get_or r.weights p 0 = weight-more r.weights p y 1 (omega arith) (omega arith) in
-    All-cons (λ (l : Lane). get_or l.weights p 0 ≤ l.sum) l ls (omega (arith, with', is.sum_is, is.weights p below)) (fits-out n p y rs ls below are.1)
-
--- past the last place, what reaches the quotas wins
-pub full-reach : (n p x : ℕ) (rs : List RuleView) (ls : List Lane) → n ≤ p → LanesAre n p x rs ls → reaches rs p x ≡ wins_at rs p x
-unfolding reaches wins_at
-full-reach n p x [] [] past are = refl
-full-reach n p x [] (l ∷ ls) past are = elim are [ ]
-full-reach n p x (r ∷ rs) [] past are = elim are [ ]
-full-reach n p x (r ∷ rs) (l ∷ ls) past are =
-    let is : LaneIs n p x r l = are.0 in
-    let long : length r.weights ≡ n = is.rule.full in
-    let nothing : drop p r.weights ≡ [] = drop_all p r.weights (omega arith) in
-    let more = full-reach n p x rs ls past are.1 in
-    let here : weight (take p r.weights) x + sum (drop p r.weights) ≡ weight (take p r.weights) x = rw nothing (omega arith) in
-    rw (here, more) refl
+lanes-up n p y rs ls below = lanes-stay n (p + 1) p (2 * y) y rs ls (λ r is. weight-over is p y below)
 
 -- place p is passed by
 pub lanes-pass : (n p y : ℕ) (rs : List RuleView) (ls : List Lane) → p < n → LanesAre n p y rs ls → LanesAre n (p + 1) (2 * y) rs ls
-lanes-pass n p y [] [] below are = tt
-lanes-pass n p y [] (l ∷ ls) below are = elim are [ ]
-lanes-pass n p y (r ∷ rs) [] below are = elim are [ ]
-lanes-pass n p y (r ∷ rs) (l ∷ ls) below are =
-    let is : LaneIs n p y r l = are.0 in
-    let long : length r.weights ≡ n = is.rule.full in
-    let without : weight (take (p + 1) r.weights) (2 * y + 0) ≡ weight (take p r.weights) y + 0 * get_or r.weights p 0 = weight-more r.weights p y 0 (omega arith) (omega arith) in
-    let zero_more : weight (take (p + 1) r.weights) (2 * y + 0) ≡ weight (take (p + 1) r.weights) (2 * y) = ap (weight (take (p + 1) r.weights)) (let e : 2 * y + 0 ≡ 2 * y = omega arith in e) in (
-      record {
-        rule = is.rule;
-        quota = is.quota;
-        weights = is.weights;
-        rest = is.rest;
-        sum_is = omega (arith, without, zero_more, is.sum_is);
-      },
-      lanes-pass n p y rs ls below are.1,
-    )
+lanes-pass n p y rs ls below = lanes-stay n p (p + 1) y (2 * y) rs ls (λ r is. sym (weight-over is p y below))
+
+pub fits-in : (n p x : ℕ) (rs : List RuleView) (ls : List Lane) → p < n → LanesAre n p x rs ls → All (λ l. l.sum + get_or l.weights p 0 < 2 ^ 64) ls
+fits-in n p x rs ls below are =
+    All-beside (LaneIs n p x) (λ l. l.sum + get_or l.weights p 0 < 2 ^ 64) (λ r l is.
+    let cut : sum (take p r.weights) + sum (drop p r.weights) ≡ sum r.weights = sum_by-take-drop (λ (y : ℕ). y) r.weights p in
+    let most : weight (take p r.weights) x ≤ sum (take p r.weights) = weight-le (take p r.weights) x in
+    omega (arith, cut, rest-step is.rule p below, most, is.rule.light, is.sum_is, is.weights p below)) rs ls are
+
+pub fits-out : (n p y : ℕ) (rs : List RuleView) (ls : List Lane) → p < n → LanesAre n (p + 1) (2 * y + 1) rs ls → All (λ l. get_or l.weights p 0 ≤ l.sum) ls
+fits-out n p y rs ls below are =
+    All-beside (LaneIs n (p + 1) (2 * y + 1)) (λ l. get_or l.weights p 0 ≤ l.sum) (λ r l is.
+    omega (arith, weight-step is.rule p y 1 below (omega arith), is.sum_is, is.weights p below)) rs ls are
 
 pub zero-at : (n q : ℕ) → get_or (replicate {A = ℕ} n 0) q 0 ≡ 0
 zero-at zero q = refl

@@ -1,6 +1,6 @@
 -- A place of the walk: x is the number of the first p places.
-use Rattle.std.specs.Prelude.{ℕ, ◌+◌, ◌-◌, ◌/◌, ◌^◌, ◌==◌, ◌≡◌, ◌≤◌, ◌<◌, Bool, true, ◌&&◌, nat_le, List, [], ◌∷◌, take, drop, slice_index}
-use Rattle.std.specs.List.{filter, sum, AllZip}
+use Rattle.std.specs.Prelude.{ℕ, ◌+◌, ◌-◌, ◌/◌, ◌^◌, ◌==◌, ◌≡◌, ◌≤◌, ◌<◌, Bool, nat_le, List, take, drop, slice_index}
+use Rattle.std.specs.List.{filter, sum, list_all, AllZip}
 use Rattle.mwc_walk.specs.declared.lane.Lane.{Lane}
 use Rattle.council_game.specs.Votes.{Votes, RuleView, IsRule, weight}
 use Rattle.council_game.specs.Inner.Below.{minimal_below}
@@ -15,13 +15,12 @@ slice_below v k j bound = in_slice v k j (minimal_below v bound)
 
 -- with what may still come, each rule's quota can be met
 unfoldable pub reaches : List RuleView → ℕ → ℕ → Bool
-reaches [] p x = true
-reaches (r ∷ rs) p x = nat_le r.quota (weight (take p r.weights) x + sum (drop p r.weights)) && reaches rs p x
+reaches rules p x =
+    list_all (λ r. nat_le r.quota (weight (take p r.weights) x + sum (drop p r.weights))) rules
 
 -- the first p places win by themselves
 unfoldable pub wins_at : List RuleView → ℕ → ℕ → Bool
-wins_at [] p x = true
-wins_at (r ∷ rs) p x = nat_le r.quota (weight (take p r.weights) x) && wins_at rs p x
+wins_at rules p x = list_all (λ r. nat_le r.quota (weight (take p r.weights) x)) rules
 
 -- lane l is that of rule r, at the prefix x of p places
 pub record LaneIs (n p x : ℕ) (r : RuleView) (l : Lane) : Type 0 where
