@@ -87,7 +87,7 @@ last-place v a c rest mask is same pos tried =
 pub wins-without : (v : Votes) (a : Cursor) (c q : ℕ) → CursorIs v a → c ≡ a.prefix * 2 ^ (v.members - a.place) → q < v.members → has v.members q c ≡ true →
     list_all (lane_wins_without q) (take a.rules a.lanes) ≡ wins v.rules (without v.members q c)
 wins-without v a c q is mask below inside =
-    lanes-without v.members a.place a.prefix q v.rules (take a.rules a.lanes) is.to below (ap (has v.members q) (sym mask) ∙ inside) is.lanes
+    lanes-without v.members a.place a.prefix q v.rules (take a.rules a.lanes) is.place.to below (ap (has v.members q) (sym mask) ∙ inside) is.lanes
     ∙ ap (λ (m : ℕ). wins v.rules (without v.members q m)) (sym mask)
 
 -- where the first quota is not met without place q, it is not met without a place before it
@@ -135,7 +135,7 @@ first-needed v a c rest q d l is mask at lost below last won tried =
       λ m lt in'. elim (cases_Bool (has v.members m rest)) [
         | inl still ↦
             ap (λ (i : ℕ). wins v.rules (without v.members m i)) mask
-            ∙ first-lost v.members a.place a.prefix q m v.rules (take a.rules a.lanes) d l is.to is.game.ranked is.game.has_rule is.lanes head lost (last m lt still) below (ap (has v.members m) (sym mask) ∙ in')
+            ∙ first-lost v.members a.place a.prefix q m v.rules (take a.rules a.lanes) d l is.place.to is.game.ranked is.game.has_rule is.lanes head lost (last m lt still) below (ap (has v.members m) (sym mask) ∙ in')
         | inr out ↦ tried.needed m lt in' out
       ],
     )

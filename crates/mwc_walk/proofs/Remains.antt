@@ -47,13 +47,12 @@ left-ends v k j b le =
     let ends = filter-ends (λ c. eqb (c / 2 ^ (v.members - k)) (2 ^ k - 1 - j)) (minimal v) b (2 ^ v.members - b) in
     rw e at ends
 
-bound-below : (v : Votes) (a : Cursor) → CursorIs v a → bound a ≤ 2 ^ v.members
+bound-below : (v : Votes) (a : Cursor) → CursorIs v a → bound v a ≤ 2 ^ v.members
 bound-below v a is =
-    let to : a.place ≤ v.members = is.to in
+    let to : a.place ≤ v.members = is.place.to in
     let whole : 2 ^ v.members ≡ 2 ^ a.place * 2 ^ (v.members - a.place) = ap (λ (i : ℕ). 2 ^ i) (let e : v.members ≡ a.place + (v.members - a.place) = omega arith in e) ∙ pow-add 2 a.place (v.members - a.place) in
-    let one : cond a.fresh 1 0 ≤ 1 = cond_both a.fresh 1 0 (λ i. i ≤ 1) (λ _. omega arith) (λ _. omega arith) in
-    let most = mul-le (a.prefix + cond a.fresh 1 0) (2 ^ (v.members - a.place)) (2 ^ a.place) (2 ^ (v.members - a.place)) (omega (arith, one, is.short)) (omega arith) in
-    rw (is.members, whole) most
+    let few : cond a.fresh (a.prefix + 1) a.prefix ≤ 2 ^ a.place = cond_both a.fresh (a.prefix + 1) a.prefix (λ i. i ≤ 2 ^ a.place) (λ _. omega (arith, is.place.short)) (λ _. omega (arith, is.place.short)) in
+    rw whole (mul-le _ (2 ^ (v.members - a.place)) (2 ^ a.place) (2 ^ (v.members - a.place)) few (omega arith))
 
 drop-front : (whole end : List ℕ) → EndsWith whole end → end ≡ drop (length whole - length end) whole
 drop-front whole end is =
@@ -63,13 +62,13 @@ drop-front whole end is =
 
 -- what is still to come is the slice, less as many of its first as were given
 pub rest-is : (v : Votes) (a : Cursor) → CursorIs v a → rest_of_slice v a ≡ drop (length (slice v a.bits a.number) - length (rest_of_slice v a)) (slice v a.bits a.number)
-rest-is v a is = drop-front _ _ (left-ends v a.bits a.number (bound a) (bound-below v a is))
+rest-is v a is = drop-front _ _ (left-ends v a.bits a.number (bound v a) (bound-below v a is))
 
 -- with one rule, the visits are bounded by what was given
 pub visits-most : (v : Votes) (a : Cursor) → CursorIs v a → (a.fresh ≡ true → a.place ≡ a.bits) → length v.rules ≡ 1 → a.visits ≤ a.bits + (v.members - a.bits) * (length (slice v a.bits a.number) - length (rest_of_slice v a))
 visits-most v a is rests one =
     let most = rest-most v a is rests one in
-    let ends = left-ends v a.bits a.number (bound a) (bound-below v a is) in
+    let ends = left-ends v a.bits a.number (bound v a) (bound-below v a is) in
     let size : length (slice v a.bits a.number) ≡ length ends.front + length (rest_of_slice v a) = ap length ends.joined ∙ length-append ends.front (rest_of_slice v a) in
     let whole : length (slice v a.bits a.number) ≡ length (slice v a.bits a.number) - length (rest_of_slice v a) + length (rest_of_slice v a) = omega (arith, size) in
     let parts : (v.members - a.bits) * length (slice v a.bits a.number) ≡ (v.members - a.bits) * (length (slice v a.bits a.number) - length (rest_of_slice v a)) + (v.members - a.bits) * length (rest_of_slice v a) =

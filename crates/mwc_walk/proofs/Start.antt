@@ -11,7 +11,6 @@ use Rattle.council_game.proofs.GameTests.{fixed-half}
 use Rattle.mwc_walk.specs.Inner.Places.{slice_below, LaneIs, LanesAre}
 use Rattle.mwc_walk.specs.Inner.Cursor.{bound, rest_of_slice, new_visit, Starts}
 use Rattle.mwc_walk.proofs.Rest.{left-all}
-use Rattle.mwc_walk.proofs.Steps.{bound-fresh}
 use Rattle.mwc_walk.proofs.Tables.{lanes-in, lanes-pass, lanes-from}
 
 pub first-number : (k j : ℕ) → k ≤ 10 → 1 * 2 ^ k % 2 ^ 64 - 1 - j ≡ 2 ^ k - 1 - j
@@ -42,9 +41,9 @@ starts v k j c game le below members rules room are prefix place fresh bits numb
     let none : k - k ≡ 0 = omega arith in
     let whole : c.prefix / 2 ^ (k - k) ≡ c.prefix = ap (λ (i : ℕ). c.prefix / 2 ^ i) none ∙ (let z : c.prefix / 2 ^ 0 ≡ c.prefix = omega arith in z) in
     let all : rest_of_slice v c ≡ slice v k j =
-    ap (λ (i : ℕ). slice_below v i c.number (bound c)) bits
-    ∙ ap (λ (i : ℕ). slice_below v k i (bound c)) number
-    ∙ ap (slice_below v k j) (bound-fresh v c members fresh ∙ rw (prefix, place) refl)
+    ap (λ (i : ℕ). slice_below v i c.number (bound v c)) bits
+    ∙ ap (λ (i : ℕ). slice_below v k i (bound v c)) number
+    ∙ rw (fresh, prefix, place) refl
     ∙ left-all v k j le below in
     let size : length (rest_of_slice v c) ≡ length (slice v k j) = ap length all in
     let slices : slice v c.bits c.number ≡ slice v k j = ap (λ (i : ℕ). slice v i c.number) bits ∙ ap (slice v k) number in
@@ -58,14 +57,18 @@ starts v k j c game le below members rules room are prefix place fresh bits numb
         rules = rules;
         room = room;
         lanes = rw (place, ← whole) are;
-        from = omega (arith, place, bits);
-        to = omega (arith, place);
-        number_in = rw (number, bits) below;
-        inside = rw (pz, bits, number) (let z : c.prefix / 2 ^ 0 ≡ c.prefix = omega arith in z ∙ prefix);
-        short = rw (prefix, place) (omega arith);
-        passed = λ further. absurd (omega (arith, further, pz));
-        least = omega (arith, w, size, sizes, visits, bits);
-        most = λ one. rw (all, slices, visits) (omega (arith, bits));
+        place = record {
+          from = omega (arith, place, bits);
+          to = omega (arith, place);
+          number_in = rw (number, bits) below;
+          inside = rw (pz, bits, number) (let z : c.prefix / 2 ^ 0 ≡ c.prefix = omega arith in z ∙ prefix);
+          short = rw (prefix, place) (omega arith);
+          passed = λ further. absurd (omega (arith, further, pz));
+        };
+        visits = record {
+          least = omega (arith, w, size, sizes, visits, bits);
+          most = λ one. rw (all, slices, visits) (omega (arith, bits));
+        };
       };
       bits = bits;
       number = number;

@@ -1,19 +1,20 @@
 -- The moves of a cursor.
-use Rattle.std.proofs.Common.{◌≡◌, ℕ, suc, ◌+◌, ◌-◌, ◌*◌, ◌/◌, ◌%◌, ◌^◌, ◌<◌, ◌≤◌, Bool, true, false, cond, ltb, List, [], ◌∷◌, ◌++◌, map, length, take, get_or, refl, sym, ap, ◌∙◌, subst, arith, inl, inr}
+use Rattle.std.proofs.Common.{◌≡◌, ℕ, suc, ◌+◌, ◌-◌, ◌*◌, ◌/◌, ◌%◌, ◌^◌, ◌<◌, ◌≤◌, Bool, true, false, cond, ltb, List, [], ◌++◌, map, length, take, get_or, refl, sym, ap, ◌∙◌, subst, arith, inl, inr}
 use Rattle.std.proofs.lemmas.Nat.{shr-shr, pow_pos, shl_below, shl_whole}
 use Rattle.std.proofs.Math.Nat.{pow-suc}
-use Rattle.std.proofs.lemmas.Bool.{lt-ltb, le-ltb, cases_Bool, cases_lt, both_ways, false_from_ne_true, cond-true, cond-false, cond_both}
+use Rattle.std.proofs.lemmas.Bool.{lt-ltb, le-ltb, cases_lt, both_ways, false_from_ne_true, cond-true, cond-false, cond_both}
 use Rattle.std.specs.List.{AllByRecursion, All, list_all}
 use Rattle.std.proofs.lemmas.List.{take_at, length-map, length-take-le, length-append}
 use Rattle.std.proofs.Common.{min}
 use Rattle.mwc_walk.specs.declared.lane.Lane.{Lane}
 use Rattle.mwc_walk.specs.declared.cursor.Cursor.{Cursor}
+use Rattle.mwc_walk.specs.declared.step.Step.{Step}
 use Rattle.mwc_walk.specs.declared.step.Step.TheVariants.{On, Give, End}
 use Rattle.mwc_walk.specs.Inner.Lanes.{lane_with, lane_without, lane_reaches, lane_wins}
-use Rattle.council_game.specs.Votes.{RuleView, Votes, IsRule, minimal}
+use Rattle.council_game.specs.Votes.{RuleView, Votes, IsVotes, IsRule, minimal}
 use Rattle.mwc_walk.specs.Slices.{slice}
 use Rattle.mwc_walk.specs.Inner.Places.{slice_below, reaches, wins_at, LanesAre}
-use Rattle.mwc_walk.specs.Inner.Cursor.{bound, rest_of_slice, steps_left, new_visit, open_visits, CursorIs, Follows, Steps}
+use Rattle.mwc_walk.specs.Inner.Cursor.{rest_of_slice, new_visit, open_visits, IsPlace, CountsVisits, CursorIs, Follows, Steps}
 use Rattle.mwc_walk.proofs.Rest.{left-dead, left-won, left-drop, left-take, left-none}
 use Rattle.mwc_walk.proofs.One.{one-minimal, won-odd, empty-loses, slice-short, in-slice}
 use Rattle.mwc_walk.proofs.Tables.{lanes-in, lanes-out, lanes-up, fits-in, fits-out, lanes-reach, lanes-win}
@@ -27,295 +28,230 @@ halves n p y below =
     rw e (omega arith)
 
 -- one digit less
-half-shift : (x k p : ℕ) → k ≤ p → x / 2 / 2 ^ (p - k) ≡ x / 2 ^ (p + 1 - k)
-half-shift x k p le =
+half-shift : (y b k p : ℕ) → b < 2 → k ≤ p → y / 2 ^ (p - k) ≡ (2 * y + b) / 2 ^ (p + 1 - k)
+half-shift y b k p digit le =
+    let half : (2 * y + b) / 2 ≡ y = omega arith in
     let e : 1 + (p - k) ≡ p + 1 - k = omega arith in
-    shr-shr x 1 (p - k) ∙ ap (λ (i : ℕ). x / 2 ^ i) e
+    rw (half, e) at (shr-shr (2 * y + b) 1 (p - k))
+
+-- one digit more
+short-step : (p : ℕ) → 2 ^ (p + 1) ≡ 2 ^ p * 2
+short-step p = ap (λ (i : ℕ). 2 ^ i) (let d : p + 1 ≡ suc p = omega arith in d) ∙ pow-suc 2 p
 
 -- the place before does not win either
-lost-before : (n p x : ℕ) (rs : List RuleView) → 0 < p → p ≤ n → AllByRecursion (IsRule n) rs → wins_at rs p x ≡ false → wins_at rs (p - 1) (x / 2) ≡ false
-lost-before n p x rs pos le all h =
-    false_from_ne_true _ (λ w.
-    let e : p - 1 + 1 ≡ p = omega arith in
-    let f : 2 * (x / 2) + x % 2 ≡ x = omega arith in
-    let more = wins-more n rs all (p - 1) (x / 2) (x % 2) (omega arith) (omega arith) w in
-    both_ways _ h (ap (λ (i : ℕ). wins_at rs i x) (sym e) ∙ ap (wins_at rs (p - 1 + 1)) (sym f) ∙ more))
+lost-before : (n p x : ℕ) (rs : List RuleView) → AllByRecursion (IsRule n) rs → 0 < p → p ≤ n → wins_at rs p x ≡ false → wins_at rs (p - 1) (x / 2) ≡ false
+lost-before n p x rs all pos le h =
+    let pe : p - 1 + 1 ≡ p = omega arith in
+    let xe : 2 * (x / 2) + x % 2 ≡ x = omega arith in
+    false_from_ne_true _ (λ w. both_ways _ h (rw (pe, xe) at (wins-more n rs all (p - 1) (x / 2) (x % 2) (omega arith) (omega arith) w)))
 
--- ---- a cursor's numbers, where nothing or everything below its prefix was looked at
-pub bound-fresh : (v : Votes) (c : Cursor) → c.members ≡ v.members → c.fresh ≡ true → bound c ≡ (c.prefix + 1) * 2 ^ (v.members - c.place)
-bound-fresh v c members fresh = rw (fresh, members) refl
-
-bound-stale : (v : Votes) (c : Cursor) → c.members ≡ v.members → c.fresh ≡ false → bound c ≡ c.prefix * 2 ^ (v.members - c.place)
-bound-stale v c members stale =
-    let none : c.prefix + 0 ≡ c.prefix = omega arith in
-    rw (stale, members, none) refl
-
-new-stale : (c : Cursor) → c.fresh ≡ false → new_visit c ≡ 0
-new-stale c stale = cond-false c.fresh _ _ stale
-
-open-stale : (v : Votes) (c : Cursor) → c.fresh ≡ false → open_visits v c ≡ 0
-open-stale v c stale = cond-false c.fresh _ _ stale
-
-open-fresh : (v : Votes) (c : Cursor) → c.fresh ≡ true → reaches v.rules c.place c.prefix ≡ true → open_visits v c ≡ c.place - c.bits
-open-fresh v c fresh can = cond-true c.fresh _ _ fresh ∙ cond-true (reaches v.rules c.place c.prefix) _ _ can
-
-steps-stale : (c : Cursor) → c.fresh ≡ false → steps_left c ≡ 128 * bound c + (64 + c.place)
-steps-stale c stale = ap (λ (i : ℕ). 128 * bound c + i) (cond-false c.fresh _ _ stale)
-
-steps-fresh : (c : Cursor) → c.fresh ≡ true → steps_left c ≡ 128 * bound c + (c.members - c.place)
-steps-fresh c fresh = ap (λ (i : ℕ). 128 * bound c + i) (cond-true c.fresh _ _ fresh)
-
--- a descent takes at most a visit for each place after the fixed ones
-open-most : (v : Votes) (c : Cursor) → open_visits v c ≤ c.place - c.bits
-open-most v c =
-    cond_both c.fresh (cond (reaches v.rules c.place c.prefix) (c.place - c.bits) 0) 0 (λ i. i ≤ c.place - c.bits)
-    (λ _. cond_both (reaches v.rules c.place c.prefix) (c.place - c.bits) 0 (λ i. i ≤ c.place - c.bits) (λ _. omega arith) (λ _. omega arith))
-    (λ _. omega arith)
-
--- back to the place before, which is not in
-pub back-up : (v : Votes) (a : Cursor) → CursorIs v a → a.fresh ≡ false → (a.place ≡ a.bits → ⊥) → (a.prefix % 2 ≡ 1 → ⊥) → Steps v a On (record a { prefix = a.prefix / 2; place = a.place - 1 })
-back-up v a is stale more even =
-    let b : Cursor = record a { prefix = a.prefix / 2; place = a.place - 1 } in
-    let m : a.members ≡ v.members = is.members in
-    let lt : a.bits < a.place = omega (arith, is.from) in
-    let to : a.place ≤ v.members = is.to in
-    let n40 : v.members ≤ 40 = is.game.few in
-    let pe : a.place - 1 + 1 ≡ a.place = omega arith in
-    let xe : 2 * (a.prefix / 2) ≡ a.prefix = omega arith in
-    let block : a.prefix * 2 ^ (v.members - a.place) ≡ a.prefix / 2 * 2 ^ (v.members - (a.place - 1)) =
-    ap (λ (i : ℕ). i * 2 ^ (v.members - a.place)) (sym xe)
-    ∙ ap (λ (i : ℕ). 2 * (a.prefix / 2) * 2 ^ (v.members - i)) (sym pe)
-    ∙ halves v.members (a.place - 1) (a.prefix / 2) (omega arith) in
-    let bounds : bound b ≡ bound a = bound-stale v b is.members stale ∙ sym block ∙ sym (bound-stale v a is.members stale) in
-    let same : rest_of_slice v b ≡ rest_of_slice v a = ap (slice_below v a.bits a.number) bounds in
-    let shape : LanesAre v.members (a.place - 1 + 1) (2 * (a.prefix / 2)) v.rules (take a.rules a.lanes) =
-    rw (pe, xe) is.lanes in
-    let size : length (rest_of_slice v b) ≡ length (rest_of_slice v a) = ap length same in record {
-      follows = record {
-        is = record {
-          game = is.game;
-          members = is.members;
-          rules = is.rules;
-          room = is.room;
-          lanes = lanes-up v.members (a.place - 1) (a.prefix / 2) v.rules (take a.rules a.lanes) (omega arith) shape;
-          from = omega arith;
-          to = omega arith;
-          number_in = is.number_in;
-          inside = half-shift a.prefix a.bits (a.place - 1) (omega arith) ∙ ap (λ (i : ℕ). a.prefix / 2 ^ (i - a.bits)) pe ∙ is.inside;
-          short = (let e : 2 ^ a.place ≡ 2 ^ (a.place - 1) * 2 = ap (λ (i : ℕ). 2 ^ i) (let d : a.place ≡ suc (a.place - 1) = omega arith in d) ∙ pow-suc 2 (a.place - 1) in omega (arith, e, is.short));
-          passed = λ further. lost-before v.members (a.place - 1) (a.prefix / 2) v.rules (omega arith) (omega arith) is.game.rules (is.passed lt);
-          least = omega (arith, new-stale a stale, new-stale b stale, size, is.least);
-          most = λ one. (let before = is.most one in rw same (omega (arith, open-stale v a stale, open-stale v b stale, before)));
-        };
-        bits = refl;
-        number = refl;
-        counted = omega arith;
-      };
-      same = same;
-      falls = omega (arith, bounds, steps-stale a stale, steps-stale b stale);
-    }
-
--- the last member is left out
-pub back-out : (v : Votes) (a : Cursor) (ls : List Lane) → CursorIs v a → a.fresh ≡ false → (a.place ≡ a.bits → ⊥) → a.prefix % 2 ≡ 1 → a.rules ≤ length ls → take a.rules ls ≡ map (lane_without (a.place - 1)) (take a.rules a.lanes) → Steps v a On (record a { lanes = ls; prefix = a.prefix - 1; fresh = true })
-back-out v a ls is stale more odd room left_out =
-    let b : Cursor = record a { lanes = ls; prefix = a.prefix - 1; fresh = true } in
-    let m : a.members ≡ v.members = is.members in
-    let lt : a.bits < a.place = omega (arith, is.from) in
-    let to : a.place ≤ v.members = is.to in
-    let n40 : v.members ≤ 40 = is.game.few in
-    let pe : a.place - 1 + 1 ≡ a.place = omega arith in
-    let xe : 2 * (a.prefix / 2) + 1 ≡ a.prefix = omega arith in
-    let ye : 2 * (a.prefix / 2) ≡ a.prefix - 1 = omega arith in
-    let he : (a.prefix - 1) / 2 ≡ a.prefix / 2 = omega arith in
-    let ze : (a.prefix - 1) % 2 ≡ 0 = omega arith in
-    let sums : a.prefix - 1 + 1 ≡ a.prefix + cond a.fresh 1 0 = rw stale (omega arith) in
-    let bounds : bound b ≡ bound a = ap (λ (i : ℕ). i * 2 ^ (a.members - a.place)) sums in
-    let same : rest_of_slice v b ≡ rest_of_slice v a = ap (slice_below v a.bits a.number) bounds in
-    let shape : LanesAre v.members (a.place - 1 + 1) (2 * (a.prefix / 2) + 1) v.rules (take a.rules a.lanes) = rw (pe, xe) is.lanes in
-    let after : LanesAre v.members (a.place - 1 + 1) (2 * (a.prefix / 2)) v.rules (map (lane_without (a.place - 1)) (take a.rules a.lanes)) =
-    lanes-out v.members (a.place - 1) (a.prefix / 2) v.rules (take a.rules a.lanes) (omega arith) shape in
-    let size : length (rest_of_slice v b) ≡ length (rest_of_slice v a) = ap length same in
-    let w : cond (ltb a.bits a.place) ((a.prefix - 1) % 2) a.bits ≡ 0 = cond-true (ltb a.bits a.place) ((a.prefix - 1) % 2) a.bits (lt-ltb a.bits a.place lt) ∙ ze in
-    let pe' : 1 + (a.place - 1 - a.bits) ≡ a.place - a.bits = omega arith in record {
-      follows = record {
-        is = record {
-          game = is.game;
-          members = is.members;
-          rules = is.rules;
-          room = room;
-          lanes = rw left_out (rw (pe, ye) at after);
-          from = is.from;
-          to = is.to;
-          number_in = is.number_in;
-          inside =
-              sym (half-shift (a.prefix - 1) a.bits (a.place - 1) (omega arith) ∙ ap (λ (i : ℕ). (a.prefix - 1) / 2 ^ (i - a.bits)) pe)
-              ∙ ap (λ (i : ℕ). i / 2 ^ (a.place - 1 - a.bits)) he
-              ∙ half-shift a.prefix a.bits (a.place - 1) (omega arith) ∙ ap (λ (i : ℕ). a.prefix / 2 ^ (i - a.bits)) pe ∙ is.inside;
-          short = omega (arith, is.short);
-          passed = λ further. ap (wins_at v.rules (a.place - 1)) he ∙ is.passed lt;
-          least = omega (arith, new-stale a stale, w, size, is.least);
-          most = λ one. (let before = is.most one in rw same (omega (arith, open-stale v a stale, before)));
-        };
-        bits = refl;
-        number = refl;
-        counted = omega arith;
-      };
-      same = same;
-      falls = omega (arith, bounds, steps-stale a stale);
-    }
-
--- nothing is left
-left-end : (v : Votes) (a : Cursor) → CursorIs v a → a.fresh ≡ false → a.place ≡ a.bits → rest_of_slice v a ≡ []
-left-end v a is stale done =
-    let none : a.place - a.bits ≡ 0 = omega arith in
-    let x : a.prefix ≡ 2 ^ a.bits - 1 - a.number =
-    (let one : a.prefix / 2 ^ 0 ≡ a.prefix = omega arith in sym one ∙ ap (λ (i : ℕ). a.prefix / 2 ^ i) (sym none) ∙ is.inside) in
-    ap (slice_below v a.bits a.number) (
-    bound-stale v a is.members stale
-    ∙ ap (λ (i : ℕ). i * 2 ^ (v.members - a.place)) x
-    ∙ ap (λ (i : ℕ). (2 ^ a.bits - 1 - a.number) * 2 ^ (v.members - i)) done)
-    ∙ left-none v a.bits a.number
-
-pub back-end : (v : Votes) (a : Cursor) → CursorIs v a → a.fresh ≡ false → a.place ≡ a.bits → Steps v a End a
-back-end v a is stale done =
-    let none = left-end v a is stale done in
+-- ---- the places of a slice
+-- the place before
+place-up : (v : Votes) (k j p y b : ℕ) → IsVotes v → b < 2 → k ≤ p → IsPlace v k j (p + 1) (2 * y + b) → IsPlace v k j p y
+place-up v k j p y b game digit le is =
+    let half : (2 * y + b) / 2 ≡ y = omega arith in
+    let back : p + 1 - 1 ≡ p = omega arith in
+    let lost : wins_at v.rules p y ≡ false = rw (back, half) at (is.passed (omega arith)) in
     record {
-      follows = record { is = is; bits = refl; number = refl; counted = omega arith };
-      none = none;
-      none_after = none;
-      stale = stale;
+      from = le;
+      to = omega (arith, is.to);
+      number_in = is.number_in;
+      inside = half-shift y b k p digit le ∙ is.inside;
+      short = omega (arith, short-step p, is.short);
+      passed = λ further. lost-before v.members p y v.rules game.rules (omega arith) (omega (arith, is.to)) lost;
     }
 
--- what a call on the first lanes leaves in the array
-pub part-taken : (f : Lane → Lane) (new q old : List Lane) (k : ℕ) → new ≡ map f (take k old) → k ≤ length old → take k (new ++ q) ≡ map f (take k old)
-part-taken f new q old k e le =
-    let long : length new ≡ k = ap length e ∙ length-map (take k old) f ∙ length-take-le k old le in
-    take_at new q k long ∙ e
+-- the place after
+place-down : (v : Votes) (k j p y b : ℕ) → b < 2 → p < v.members → wins_at v.rules p y ≡ false → IsPlace v k j p y → IsPlace v k j (p + 1) (2 * y + b)
+place-down v k j p y b digit below lost is =
+    let half : (2 * y + b) / 2 ≡ y = omega arith in
+    let back : p + 1 - 1 ≡ p = omega arith in
+    record {
+      from = omega (arith, is.from);
+      to = omega arith;
+      number_in = is.number_in;
+      inside = sym (half-shift y b k p digit is.from) ∙ is.inside;
+      short = omega (arith, short-step p, is.short);
+      passed = λ further. rw (back, half) lost;
+    }
 
-pub part-room : (f : Lane → Lane) (new q old : List Lane) (k : ℕ) → new ≡ map f (take k old) → k ≤ length old → k ≤ length (new ++ q)
-part-room f new q old k e le =
-    let long : length new ≡ k = ap length e ∙ length-map (take k old) f ∙ length-take-le k old le in
-    omega (arith, long, length-append new q)
+-- ---- moves
+-- a cursor moved to another place
+abbrev moved : Cursor → List Lane → ℕ → ℕ → Bool → ℕ → Cursor
+moved a ls p x f t = record a { lanes = ls; place = p; prefix = x; fresh = f; visits = t }
 
-pub out-fits : (v : Votes) (a : Cursor) → CursorIs v a → (a.place ≡ a.bits → ⊥) → a.prefix % 2 ≡ 1 → All (λ l. get_or l.weights (a.place - 1) 0 ≤ l.sum) (take a.rules a.lanes)
-out-fits v a is more odd =
-    let to : a.place ≤ v.members = is.to in
-    let lt : a.bits < a.place = omega (arith, is.from) in
-    let pe : a.place - 1 + 1 ≡ a.place = omega arith in
-    let xe : 2 * (a.prefix / 2) + 1 ≡ a.prefix = omega arith in
-    fits-out v.members (a.place - 1) (a.prefix / 2) v.rules (take a.rules a.lanes) (omega arith) (rw (pe, xe) is.lanes)
-
--- ---- a fresh place
--- all below a fresh prefix is looked at: the rest of the cursor stays
-left-behind : (v : Votes) (a : Cursor) → CursorIs v a → length (slice v a.bits a.number) ≤ a.visits + length (rest_of_slice v (record a { fresh = false })) →
-    (length v.rules ≡ 1 → a.visits + (v.members - a.bits) * length (rest_of_slice v (record a { fresh = false })) ≤ a.bits + (v.members - a.bits) * length (slice v a.bits a.number)) → Follows v a (record a { fresh = false })
-left-behind v a is least most = record {
+follows-at : (v : Votes) (a : Cursor) (ls : List Lane) (p x : ℕ) (f : Bool) (t : ℕ) → CursorIs v a → a.visits ≤ t → a.rules ≤ length ls
+    → LanesAre v.members p x v.rules (take a.rules ls) → IsPlace v a.bits a.number p x
+    → CountsVisits v a.bits a.number t (new_visit (moved a ls p x f t)) (open_visits v (moved a ls p x f t)) (rest_of_slice v (moved a ls p x f t))
+    → Follows v a (moved a ls p x f t)
+follows-at v a ls p x f t is counted room lanes place visits = record {
   is = record {
     game = is.game;
     members = is.members;
     rules = is.rules;
-    room = is.room;
-    lanes = is.lanes;
-    from = is.from;
-    to = is.to;
-    number_in = is.number_in;
-    inside = is.inside;
-    short = is.short;
-    passed = is.passed;
-    least = omega (arith, least);
-    most = λ one. (let h = most one in omega (arith, h));
+    room = room;
+    lanes = lanes;
+    place = place;
+    visits = visits;
   };
   bits = refl;
   number = refl;
-  counted = omega arith;
+  counted = counted;
 }
 
-after-left : (v : Votes) (a : Cursor) → CursorIs v a → rest_of_slice v (record a { fresh = false }) ≡ slice_below v a.bits a.number (a.prefix * 2 ^ (v.members - a.place))
-after-left v a is = ap (slice_below v a.bits a.number) (bound-stale v (record a { fresh = false }) is.members refl)
+-- a move of a cursor of which it is known whether it is fresh
+known : (v : Votes) (a : Cursor) (s : Step) (b : Bool → Cursor) (f : Bool) → a.fresh ≡ f
+    → (CursorIs v (record a { fresh = f }) → Steps v (record a { fresh = f }) s (b f)) → CursorIs v a → Steps v a s (b a.fresh)
+known v a s b f e = subst (λ (g : Bool). CursorIs v (record a { fresh = g }) → Steps v (record a { fresh = g }) s (b g)) (sym e)
+
+-- back to the place before, which is not in
+pub back-up : (v : Votes) (a : Cursor) → CursorIs v a → a.fresh ≡ false → (a.place ≡ a.bits → ⊥) → (a.prefix % 2 ≡ 1 → ⊥) → Steps v a On (record a { prefix = a.prefix / 2; place = a.place - 1 })
+back-up v a is stale more even =
+    known v a On (λ f. record a { prefix = a.prefix / 2; place = a.place - 1; fresh = f }) false stale (λ is.
+    let lt : a.bits < a.place = omega (arith, is.place.from) in
+    let below : a.place - 1 < v.members = omega (arith, is.place.to) in
+    let pe : a.place - 1 + 1 ≡ a.place = omega arith in
+    let xe : 2 * (a.prefix / 2) ≡ a.prefix = omega arith in
+    let ze : 2 * (a.prefix / 2) + 0 ≡ a.prefix = omega arith in
+    let bounds = rw (pe, xe) at (halves v.members (a.place - 1) (a.prefix / 2) below) in
+    let same = ap (slice_below v a.bits a.number) (sym bounds) in
+    record {
+      follows = follows-at v _ a.lanes (a.place - 1) (a.prefix / 2) false a.visits is (omega arith) is.room
+          (lanes-up v.members (a.place - 1) (a.prefix / 2) v.rules (take a.rules a.lanes) below (rw (pe, xe) is.lanes))
+          (place-up v a.bits a.number (a.place - 1) (a.prefix / 2) 0 is.game (omega arith) (omega arith) (rw (pe, ze) is.place))
+          (subst (CountsVisits v a.bits a.number a.visits 0 0) (sym same) is.visits);
+      same = same;
+      falls = omega (arith, bounds);
+    }) is
+
+-- the last member is left out
+pub back-out : (v : Votes) (a : Cursor) (ls : List Lane) → CursorIs v a → a.fresh ≡ false → (a.place ≡ a.bits → ⊥) → a.prefix % 2 ≡ 1 → a.rules ≤ length ls → take a.rules ls ≡ map (lane_without (a.place - 1)) (take a.rules a.lanes) → Steps v a On (record a { lanes = ls; prefix = a.prefix - 1; fresh = true })
+back-out v a ls is stale more odd room left_out =
+    known v a On (λ _. record a { lanes = ls; prefix = a.prefix - 1; fresh = true }) false stale (λ is.
+    let lt : a.bits < a.place = omega (arith, is.place.from) in
+    let below : a.place - 1 < v.members = omega (arith, is.place.to) in
+    let pe : a.place - 1 + 1 ≡ a.place = omega arith in
+    let xe : 2 * (a.prefix / 2) + 1 ≡ a.prefix = omega arith in
+    let ye : 2 * (a.prefix / 2) ≡ a.prefix - 1 = omega arith in
+    let ze : 2 * (a.prefix / 2) + 0 ≡ a.prefix - 1 = omega arith in
+    let up = place-up v a.bits a.number (a.place - 1) (a.prefix / 2) 1 is.game (omega arith) (omega arith) (rw (pe, xe) is.place) in
+    let after = lanes-out v.members (a.place - 1) (a.prefix / 2) v.rules (take a.rules a.lanes) below (rw (pe, xe) is.lanes) in
+    let bounds : a.prefix - 1 + 1 ≡ a.prefix = omega arith in
+    let same = ap (λ (i : ℕ). slice_below v a.bits a.number (i * 2 ^ (v.members - a.place))) bounds in
+    let w : cond (ltb a.bits a.place) ((a.prefix - 1) % 2) a.bits ≡ (a.prefix - 1) % 2 = cond-true (ltb a.bits a.place) _ _ (lt-ltb a.bits a.place lt) in
+    record {
+      follows = follows-at v _ ls a.place (a.prefix - 1) true a.visits is (omega arith) room
+          (rw left_out (rw (pe, ye) at after))
+          (rw (pe, ze) at (place-down v a.bits a.number (a.place - 1) (a.prefix / 2) 0 (omega arith) below (is.place.passed lt) up))
+          (record {
+            least = omega (arith, w, ap length same, is.visits.least);
+            most = λ one. (let before = is.visits.most one in rw same (omega (arith, before)));
+          });
+      same = same;
+      falls = rw bounds (omega (arith, is.place.from, is.place.to, is.game.few));
+    }) is
+
+-- nothing is left
+pub back-end : (v : Votes) (a : Cursor) → CursorIs v a → a.fresh ≡ false → a.place ≡ a.bits → Steps v a End a
+back-end v a is stale done =
+    known v a End (λ f. record a { fresh = f }) false stale (λ is.
+    let none : a.place - a.bits ≡ 0 = omega arith in
+    let first : a.prefix ≡ 2 ^ a.bits - 1 - a.number = (let one : a.prefix / 2 ^ 0 ≡ a.prefix = omega arith in sym one ∙ (rw none at is.place.inside)) in
+    let end : rest_of_slice v (record a { fresh = false }) ≡ [] = rw (first, done) (left-none v a.bits a.number) in
+    record {
+      follows = record { is = is; bits = refl; number = refl; counted = omega arith };
+      none = end;
+      none_after = end;
+      stale = refl;
+    }) is
+
+-- what a call on the first lanes leaves in the array
+pub record IsPart (f : Lane → Lane) (old new : List Lane) (k : ℕ) : Type 0 where
+  pub room : k ≤ length new
+  pub taken : take k new ≡ map f (take k old)
+
+pub is-part : (f : Lane → Lane) (new q old : List Lane) (k : ℕ) → new ≡ map f (take k old) → k ≤ length old → IsPart f old (new ++ q) k
+is-part f new q old k e le =
+    let long : length new ≡ k = ap length e ∙ length-map (take k old) f ∙ length-take-le k old le in
+    record {
+      room = omega (arith, long, length-append new q);
+      taken = take_at new q k long ∙ e;
+    }
+
+pub out-fits : (v : Votes) (a : Cursor) → CursorIs v a → (a.place ≡ a.bits → ⊥) → a.prefix % 2 ≡ 1 → All (λ l. get_or l.weights (a.place - 1) 0 ≤ l.sum) (take a.rules a.lanes)
+out-fits v a is more odd =
+    let pe : a.place - 1 + 1 ≡ a.place = omega (arith, is.place.from) in
+    let xe : 2 * (a.prefix / 2) + 1 ≡ a.prefix = omega arith in
+    fits-out v.members (a.place - 1) (a.prefix / 2) v.rules (take a.rules a.lanes) (omega (arith, is.place.to)) (rw (pe, xe) is.lanes)
+
+-- ---- a fresh place
+-- a descent takes at most a visit for each place after the fixed ones
+open-most : (v : Votes) (p x most : ℕ) → cond (reaches v.rules p x) most 0 ≤ most
+open-most v p x most = cond_both (reaches v.rules p x) most 0 (λ i. i ≤ most) (λ _. omega arith) (λ _. omega arith)
+
+-- all below a fresh prefix is looked at: the rest of the cursor stays
+left-behind : (v : Votes) (a : Cursor) → CursorIs v a → CountsVisits v a.bits a.number a.visits 0 0 (rest_of_slice v (record a { fresh = false })) → Follows v a (record a { fresh = false })
+left-behind v a is = follows-at v a a.lanes a.place a.prefix false a.visits is (omega arith) is.room is.lanes is.place
 
 -- a prefix is passed by, where nothing is left below it and no visit is owed
-pass-by : (v : Votes) (a : Cursor) → CursorIs v a → a.fresh ≡ true → rest_of_slice v (record a { fresh = false }) ≡ rest_of_slice v a → (length v.rules ≡ 1 → open_visits v a ≡ 0) → Steps v a On (record a { fresh = false })
+pass-by : (v : Votes) (a : Cursor) → CursorIs v a → a.fresh ≡ true
+    → slice_below v a.bits a.number (a.prefix * 2 ^ (v.members - a.place)) ≡ slice_below v a.bits a.number ((a.prefix + 1) * 2 ^ (v.members - a.place))
+    → (length v.rules ≡ 1 → cond (reaches v.rules a.place a.prefix) (a.place - a.bits) 0 ≡ 0) → Steps v a On (record a { fresh = false })
 pass-by v a is fresh same none =
-    let to : a.place ≤ v.members = is.to in
-    let n40 : v.members ≤ 40 = is.game.few in
-    let old = bound-fresh v a is.members fresh in
-    let new = bound-stale v (record a { fresh = false }) is.members refl in
-    let size : length (rest_of_slice v (record a { fresh = false })) ≡ length (rest_of_slice v a) = ap length same in
+    known v a On (λ _. record a { fresh = false }) true fresh (λ is.
     let pos : 0 < 2 ^ (v.members - a.place) = pow_pos (v.members - a.place) in
-    let next : (a.prefix + 1) * 2 ^ (v.members - a.place) ≡ a.prefix * 2 ^ (v.members - a.place) + 2 ^ (v.members - a.place) = omega arith in record {
-      follows = left-behind v a is (omega (arith, size, is.least)) (λ one. (let before = is.most one in let z = none one in rw same (omega (arith, z, before))));
+    let next : (a.prefix + 1) * 2 ^ (v.members - a.place) ≡ a.prefix * 2 ^ (v.members - a.place) + 2 ^ (v.members - a.place) = omega arith in
+    record {
+      follows = left-behind v (record a { fresh = true }) is (record {
+        least = omega (arith, ap length same, is.visits.least);
+        most = λ one. (let before = is.visits.most one in let z = none one in rw same (omega (arith, z, before)));
+      });
       same = same;
-      falls = omega (arith, old, new, next, pos);
-    }
+      falls = omega (arith, next, pos, is.place.to, is.game.few);
+    }) is
 
 -- a prefix that cannot reach some quota is passed by
 pub enter-dead : (v : Votes) (a : Cursor) → CursorIs v a → a.fresh ≡ true → reaches v.rules a.place a.prefix ≡ false → Steps v a On (record a { fresh = false })
 enter-dead v a is fresh dead =
-    pass-by v a is fresh
-    (after-left v a is ∙ sym (left-dead v a.bits a.number a.place a.prefix is.game is.to dead) ∙ ap (slice_below v a.bits a.number) (sym (bound-fresh v a is.members fresh)))
-    (λ _. cond-true a.fresh _ _ fresh ∙ cond-false (reaches v.rules a.place a.prefix) _ _ dead)
-
-pow-short : (x p : ℕ) → x < 2 ^ p → 2 * x + 1 < 2 ^ (p + 1)
-pow-short x p h =
-    let e : 2 ^ (p + 1) ≡ 2 ^ p * 2 = ap (λ (i : ℕ). 2 ^ i) (let d : p + 1 ≡ suc p = omega arith in d) ∙ pow-suc 2 p in
-    omega (arith, e)
+    pass-by v a is fresh (sym (left-dead v a.bits a.number a.place a.prefix is.game is.place.to dead)) (λ _. cond-false (reaches v.rules a.place a.prefix) _ _ dead)
 
 -- the next member is taken in
-pub enter-in : (v : Votes) (a : Cursor) (ls : List Lane) (t : ℕ) → t ≡ min (a.visits + 1) (2 ^ 64 - 1) → a.visits < 2 ^ 64 → CursorIs v a → a.fresh ≡ true → a.place < v.members → reaches v.rules a.place a.prefix ≡ true → wins_at v.rules a.place a.prefix ≡ false → a.rules ≤ length ls → take a.rules ls ≡ map (lane_with a.place) (take a.rules a.lanes) → Steps v a On (record a { lanes = ls; prefix = 2 * a.prefix + 1; place = a.place + 1; visits = t })
+pub enter-in : (v : Votes) (a : Cursor) (ls : List Lane) (t : ℕ) → t ≡ min (a.visits + 1) (2 ^ 64 - 1) → a.visits < 2 ^ 64 → CursorIs v a → a.fresh ≡ true → a.place < v.members
+    → reaches v.rules a.place a.prefix ≡ true → wins_at v.rules a.place a.prefix ≡ false → a.rules ≤ length ls → take a.rules ls ≡ map (lane_with a.place) (take a.rules a.lanes)
+    → Steps v a On (record a { lanes = ls; prefix = 2 * a.prefix + 1; place = a.place + 1; visits = t })
 enter-in v a ls t counted holds is fresh below can lost room taken =
-    let b : Cursor = record a { lanes = ls; prefix = 2 * a.prefix + 1; place = a.place + 1; visits = t } in
-    let n40 : v.members ≤ 40 = is.game.few in
-    let from : a.bits ≤ a.place = is.from in
-    let he : (2 * a.prefix + 1) / 2 ≡ a.prefix = omega arith in
-    let ze : (2 * a.prefix + 1) % 2 ≡ 1 = omega arith in
-    let pe : a.place + 1 - 1 ≡ a.place = omega arith in
+    known v a On (λ f. record a { lanes = ls; prefix = 2 * a.prefix + 1; place = a.place + 1; visits = t; fresh = f }) true fresh (λ is.
     let twice : 2 * a.prefix + 1 + 1 ≡ 2 * (a.prefix + 1) = omega arith in
-    let bounds : bound b ≡ bound a =
-    bound-fresh v b is.members fresh
-    ∙ ap (λ (i : ℕ). i * 2 ^ (v.members - (a.place + 1))) twice
-    ∙ halves v.members a.place (a.prefix + 1) below
-    ∙ sym (bound-fresh v a is.members fresh) in
-    let same : rest_of_slice v b ≡ rest_of_slice v a = ap (slice_below v a.bits a.number) bounds in
-    let size : length (rest_of_slice v b) ≡ length (rest_of_slice v a) = ap length same in
-    let lt : a.bits < a.place + 1 = omega arith in
-    let w : new_visit b ≡ 1 = cond-true a.fresh _ _ fresh ∙ cond-true (ltb a.bits (a.place + 1)) _ _ (lt-ltb a.bits (a.place + 1) lt) ∙ ze in
-    let old = open-fresh v a fresh can in
-    let new = open-fresh v b fresh (reaches-in v.members v.rules is.game.rules a.place a.prefix below can) in
-    let few : length (slice v a.bits a.number) ≤ 2 ^ 40 = slice-short v a.bits a.number is.game in record {
-      follows = record {
-        is = record {
-          game = is.game;
-          members = is.members;
-          rules = is.rules;
-          room = room;
-          lanes = rw taken (lanes-in v.members a.place a.prefix v.rules (take a.rules a.lanes) below is.lanes);
-          from = omega arith;
-          to = omega arith;
-          number_in = is.number_in;
-          inside = sym (half-shift (2 * a.prefix + 1) a.bits a.place from) ∙ ap (λ (i : ℕ). i / 2 ^ (a.place - a.bits)) he ∙ is.inside;
-          short = pow-short a.prefix a.place is.short;
-          passed = λ further. ap (λ (i : ℕ). wins_at v.rules i ((2 * a.prefix + 1) / 2)) pe ∙ ap (wins_at v.rules a.place) he ∙ lost;
-          least = omega (arith, w, size, few, counted, is.least);
-          most = λ one. (let before = is.most one in rw same (omega (arith, old, new, counted, before)));
-        };
-        bits = refl;
-        number = refl;
-        counted = omega arith;
-      };
+    let bounds = ap (λ (i : ℕ). i * 2 ^ (v.members - (a.place + 1))) twice ∙ halves v.members a.place (a.prefix + 1) below in
+    let same = ap (slice_below v a.bits a.number) bounds in
+    let lt : a.bits < a.place + 1 = omega (arith, is.place.from) in
+    let w : cond (ltb a.bits (a.place + 1)) ((2 * a.prefix + 1) % 2) a.bits ≡ (2 * a.prefix + 1) % 2 = cond-true (ltb a.bits (a.place + 1)) _ _ (lt-ltb a.bits (a.place + 1) lt) in
+    let old = cond-true (reaches v.rules a.place a.prefix) (a.place - a.bits) 0 can in
+    let new = cond-true (reaches v.rules (a.place + 1) (2 * a.prefix + 1)) (a.place + 1 - a.bits) 0 (reaches-in v.members v.rules is.game.rules a.place a.prefix below can) in
+    let few : length (slice v a.bits a.number) ≤ 2 ^ 40 = slice-short v a.bits a.number is.game in
+    record {
+      follows = follows-at v _ ls (a.place + 1) (2 * a.prefix + 1) true t is (omega arith) room
+          (rw taken (lanes-in v.members a.place a.prefix v.rules (take a.rules a.lanes) below is.lanes))
+          (place-down v a.bits a.number a.place a.prefix 1 (omega arith) below lost is.place)
+          (record {
+            least = omega (arith, w, ap length same, few, counted, is.visits.least);
+            most = λ one. (let before = is.visits.most one in rw same (omega (arith, old, new, counted, before)));
+          });
       same = same;
-      falls = omega (arith, bounds, steps-fresh a fresh, steps-fresh b fresh, is.members);
-    }
+      falls = omega (arith, bounds);
+    }) is
 
 -- ---- a winning prefix
-won-left : (v : Votes) (a : Cursor) → CursorIs v a → a.fresh ≡ true → wins_at v.rules a.place a.prefix ≡ true → rest_of_slice v a ≡ slice_below v a.bits a.number (a.prefix * 2 ^ (v.members - a.place) + 1)
-won-left v a is fresh won = ap (slice_below v a.bits a.number) (bound-fresh v a is.members fresh) ∙ left-won v a.bits a.number a.place a.prefix is.game is.to won
+won-left : (v : Votes) (a : Cursor) → CursorIs v a → wins_at v.rules a.place a.prefix ≡ true
+    → slice_below v a.bits a.number ((a.prefix + 1) * 2 ^ (v.members - a.place)) ≡ slice_below v a.bits a.number (a.prefix * 2 ^ (v.members - a.place) + 1)
+won-left v a is = left-won v a.bits a.number a.place a.prefix is.game is.place.to
 
 -- there was a visit for it
 won-visited : (v : Votes) (a : Cursor) → CursorIs v a → wins_at v.rules a.place a.prefix ≡ true → 1 ≤ cond (ltb a.bits a.place) (a.prefix % 2) a.bits
 won-visited v a is won =
     elim (cases_lt a.bits a.place) [
       | inl lt ↦
-          let odd : a.prefix % 2 ≡ 1 = won-odd v.members a.place a.prefix v.rules (omega arith) is.to is.game.rules won (is.passed lt) in
+          let odd : a.prefix % 2 ≡ 1 = won-odd v.members a.place a.prefix v.rules (omega arith) is.place.to is.game.rules won (is.place.passed lt) in
           let t : cond (ltb a.bits a.place) (a.prefix % 2) a.bits ≡ a.prefix % 2 = cond-true (ltb a.bits a.place) _ _ (lt-ltb a.bits a.place lt) in
           omega (arith, t, odd)
       | inr ge ↦
@@ -324,7 +260,7 @@ won-visited v a is won =
             | inl some ↦ omega (arith, t)
             | inr none ↦
                 let p0 : a.place ≡ 0 = omega arith in
-                let short : a.prefix < 2 ^ 0 = subst (λ (i : ℕ). a.prefix < 2 ^ i) p0 is.short in
+                let short : a.prefix < 2 ^ 0 = subst (λ (i : ℕ). a.prefix < 2 ^ i) p0 is.place.short in
                 let x0 : a.prefix ≡ 0 = omega arith in
                 absurd (both_ways _ (empty-loses v.members v.rules is.game.has_rule is.game.rules) (ap (λ (i : ℕ). wins_at v.rules i 0) (sym p0) ∙ ap (wins_at v.rules a.place) (sym x0) ∙ won))
           ]
@@ -333,35 +269,33 @@ won-visited v a is won =
 -- a minimal one is given
 pub enter-give : (v : Votes) (a : Cursor) → CursorIs v a → a.fresh ≡ true → wins_at v.rules a.place a.prefix ≡ true → minimal v (a.prefix * 2 ^ (v.members - a.place)) ≡ true → Steps v a (Give (a.prefix * 2 ^ (v.members - a.place))) (record a { fresh = false })
 enter-give v a is fresh won min =
-    let b : Cursor = record a { fresh = false } in
-    let le : a.bits ≤ a.place = is.from in
-    let to : a.place ≤ v.members = is.to in
-    let given : rest_of_slice v a ≡ a.prefix * 2 ^ (v.members - a.place) ∷ rest_of_slice v b =
-    won-left v a is fresh won
-    ∙ left-take v a.bits a.number (a.prefix * 2 ^ (v.members - a.place)) min (in-slice v.members a.bits a.place a.prefix is.from is.to ∙ is.inside)
-    ∙ ap (λ (l : List ℕ). a.prefix * 2 ^ (v.members - a.place) ∷ l) (sym (after-left v a is)) in
-    let size : length (rest_of_slice v a) ≡ suc (length (rest_of_slice v b)) = ap length given in
-    let visited = won-visited v a is won in
-    let w : new_visit a ≡ cond (ltb a.bits a.place) (a.prefix % 2) a.bits = cond-true a.fresh _ _ fresh in
-    let extra : open_visits v a ≤ a.place - a.bits = open-most v a in record {
-      follows = left-behind v a is (omega (arith, w, size, visited, is.least)) (λ one. (let before = is.most one in omega (arith, extra, le, to, rw size at before)));
+    known v a (Give (a.prefix * 2 ^ (v.members - a.place))) (λ _. record a { fresh = false }) true fresh (λ is.
+    let now : Cursor = record a { fresh = true } in
+    let given = won-left v now is won
+    ∙ left-take v a.bits a.number (a.prefix * 2 ^ (v.members - a.place)) min (in-slice v.members a.bits a.place a.prefix is.place.from is.place.to ∙ is.place.inside) in
+    let visited = won-visited v now is won in
+    let extra = open-most v a.place a.prefix (a.place - a.bits) in
+    record {
+      follows = left-behind v now is (record {
+        least = omega (arith, ap length given, visited, is.visits.least);
+        most = λ one. (let before = is.visits.most one in omega (arith, extra, is.place.from, is.place.to, rw given at before));
+      });
       first = given;
       stale = refl;
-    }
+    }) is
 
 -- one that is not minimal is passed by
 pub enter-drop : (v : Votes) (a : Cursor) → CursorIs v a → a.fresh ≡ true → wins_at v.rules a.place a.prefix ≡ true → minimal v (a.prefix * 2 ^ (v.members - a.place)) ≡ false → Steps v a On (record a { fresh = false })
 enter-drop v a is fresh won min =
-    pass-by v a is fresh
-    (after-left v a is ∙ sym (left-drop v a.bits a.number (a.prefix * 2 ^ (v.members - a.place)) min) ∙ sym (won-left v a is fresh won))
+    pass-by v a is fresh (sym (won-left v a is won ∙ left-drop v a.bits a.number (a.prefix * 2 ^ (v.members - a.place)) min))
     (λ one. elim (cases_lt a.bits a.place) [
-      | inl lt ↦ absurd (both_ways _ min (one-minimal v a.place a.prefix is.game one (omega arith) is.to won (is.passed lt)))
-      | inr ge ↦ let extra : open_visits v a ≤ a.place - a.bits = open-most v a in omega arith
+      | inl lt ↦ absurd (both_ways _ min (one-minimal v a.place a.prefix is.game one (omega arith) is.place.to won (is.place.passed lt)))
+      | inr ge ↦ let extra = open-most v a.place a.prefix (a.place - a.bits) in omega arith
     ])
 
 -- what the tests on the lanes say of the rules
 pub reach-is : (v : Votes) (a : Cursor) → CursorIs v a → (t : Bool) → list_all (lane_reaches a.place) (take a.rules a.lanes) ≡ t → reaches v.rules a.place a.prefix ≡ t
-reach-is v a is t h = sym (lanes-reach v.members a.place a.prefix v.rules (take a.rules a.lanes) is.to is.lanes) ∙ h
+reach-is v a is t h = sym (lanes-reach v.members a.place a.prefix v.rules (take a.rules a.lanes) is.place.to is.lanes) ∙ h
 
 pub win-is : (v : Votes) (a : Cursor) → CursorIs v a → (t : Bool) → list_all lane_wins (take a.rules a.lanes) ≡ t → wins_at v.rules a.place a.prefix ≡ t
 win-is v a is t h = sym (lanes-win v.members a.place a.prefix v.rules (take a.rules a.lanes) is.lanes) ∙ h
@@ -380,29 +314,26 @@ in-fits v a is below = fits-in v.members a.place a.prefix v.rules (take a.rules 
 -- the number of a prefix with zeros after it
 pub enter-short : (v : Votes) (a : Cursor) → CursorIs v a → a.prefix * 2 ^ (v.members - a.place) < 2 ^ v.members
 enter-short v a is =
-    let to : a.place ≤ v.members = is.to in
+    let to : a.place ≤ v.members = is.place.to in
     let e : a.place + (v.members - a.place) ≡ v.members = omega arith in
-    let s : a.prefix * 2 ^ (v.members - a.place) < 2 ^ (a.place + (v.members - a.place)) = shl_below a.prefix a.place (v.members - a.place) is.short in
+    let s : a.prefix * 2 ^ (v.members - a.place) < 2 ^ (a.place + (v.members - a.place)) = shl_below a.prefix a.place (v.members - a.place) is.place.short in
     subst (λ (i : ℕ). a.prefix * 2 ^ (v.members - a.place) < 2 ^ i) e s
 
 pub enter-mask : (v : Votes) (a : Cursor) → CursorIs v a → a.prefix * 2 ^ (a.members - a.place) % 2 ^ 64 ≡ a.prefix * 2 ^ (v.members - a.place)
 enter-mask v a is =
-    let to : a.place ≤ v.members = is.to in
+    let to : a.place ≤ v.members = is.place.to in
     let n40 : v.members ≤ 40 = is.game.few in
     ap (λ (i : ℕ). a.prefix * 2 ^ (i - a.place) % 2 ^ 64) is.members
-    ∙ shl_whole a.prefix a.place (v.members - a.place) 64 is.short (omega arith)
+    ∙ shl_whole a.prefix a.place (v.members - a.place) 64 is.place.short (omega arith)
 
 -- what wins first in a game of one rule is minimal
 pub one-is : (v : Votes) (a : Cursor) (m : ℕ) → CursorIs v a → m ≡ a.prefix * 2 ^ (v.members - a.place) → a.rules ≡ 1 → a.bits < a.place → wins_at v.rules a.place a.prefix ≡ true → minimal v m ≡ true
 one-is v a m is e one lt won =
-    ap (minimal v) e ∙ one-minimal v a.place a.prefix is.game (sym is.rules ∙ one) (omega arith) is.to won (is.passed lt)
+    ap (minimal v) e ∙ one-minimal v a.place a.prefix is.game (sym is.rules ∙ one) (omega arith) is.place.to won (is.place.passed lt)
 
 -- between two calls no descent is under way
 pub rest-most : (v : Votes) (a : Cursor) → CursorIs v a → (a.fresh ≡ true → a.place ≡ a.bits) → length v.rules ≡ 1 → a.visits + (v.members - a.bits) * length (rest_of_slice v a) ≤ a.bits + (v.members - a.bits) * length (slice v a.bits a.number)
 rest-most v a is rests one =
-    let before = is.most one in
-    let extra : open_visits v a ≤ a.place - a.bits = open-most v a in
-    elim (cases_Bool a.fresh) [
-      | inl fresh ↦ let first : a.place ≡ a.bits = rests fresh in omega arith
-      | inr stale ↦ omega (arith, open-stale v a stale, before)
-    ]
+    let none : open_visits v a ≡ 0 = cond_both a.fresh (cond (reaches v.rules a.place a.prefix) (a.place - a.bits) 0) 0 (λ i. i ≡ 0)
+    (λ fresh. (let at_rest = rests fresh in let extra = open-most v a.place a.prefix (a.place - a.bits) in omega arith)) (λ _. refl) in
+    omega (arith, none, is.visits.most one)

@@ -9,16 +9,16 @@ use Rattle.mwc_walk.specs.Slices.{slice}
 use Rattle.mwc_walk.specs.Inner.Places.{slice_below, reaches, wins_at, LanesAre}
 
 -- the numbers below this one are still to be looked at
-abbrev pub bound : Cursor → ℕ
-bound c = (c.prefix + cond c.fresh 1 0) * 2 ^ (c.members - c.place)
+abbrev pub bound : Votes → Cursor → ℕ
+bound v c = cond c.fresh (c.prefix + 1) c.prefix * 2 ^ (v.members - c.place)
 
 -- the coalitions of the slice that are still to come
 abbrev pub rest_of_slice : Votes → Cursor → List ℕ
-rest_of_slice v c = slice_below v c.bits c.number (bound c)
+rest_of_slice v c = slice_below v c.bits c.number (bound v c)
 
 -- a number that falls with each step
-abbrev pub steps_left : Cursor → ℕ
-steps_left c = 128 * bound c + cond c.fresh (c.members - c.place) (64 + c.place)
+abbrev pub steps_left : Votes → Cursor → ℕ
+steps_left v c = 128 * bound v c + cond c.fresh (v.members - c.place) (64 + c.place)
 
 -- the visits that a fresh prefix came by: one where its last member was taken in, those of the fixed places at their end
 abbrev pub new_visit : Cursor → ℕ
@@ -28,6 +28,22 @@ new_visit c = cond c.fresh (cond (ltb c.bits c.place) (c.prefix % 2) c.bits) 0
 abbrev pub open_visits : Votes → Cursor → ℕ
 open_visits v c = cond c.fresh (cond (reaches v.rules c.place c.prefix) (c.place - c.bits) 0) 0
 
+-- x is the number of the first p places, at a slice, and what was passed on the way to them did not win yet
+pub record IsPlace (v : Votes) (bits number p x : ℕ) : Type 0 where
+  pub from : bits ≤ p
+  pub to : p ≤ v.members
+  pub number_in : number < 2 ^ bits
+  pub inside : x / 2 ^ (p - bits) ≡ 2 ^ bits - 1 - number
+  pub short : x < 2 ^ p
+  pub passed : bits < p → wins_at v.rules (p - 1) (x / 2) ≡ false
+
+-- the bounds on the visits to a slice, of which some are new and some still await their coalition, with these coalitions to come
+pub record CountsVisits (v : Votes) (bits number visits new unmet : ℕ) (rest : List ℕ) : Type 0 where
+  pub least : length (slice v bits number) + new ≤ visits + length rest
+  pub most : length v.rules ≡ 1 →
+      visits + (v.members - bits) * length rest ≤
+      bits + (v.members - bits) * length (slice v bits number) + unmet
+
 -- what a cursor keeps
 pub record CursorIs (v : Votes) (c : Cursor) : Type 0 where
   pub game : IsVotes v
@@ -35,16 +51,8 @@ pub record CursorIs (v : Votes) (c : Cursor) : Type 0 where
   pub rules : c.rules ≡ length v.rules
   pub room : c.rules ≤ length c.lanes
   pub lanes : LanesAre v.members c.place c.prefix v.rules (take c.rules c.lanes)
-  pub from : c.bits ≤ c.place
-  pub to : c.place ≤ v.members
-  pub number_in : c.number < 2 ^ c.bits
-  pub inside : c.prefix / 2 ^ (c.place - c.bits) ≡ 2 ^ c.bits - 1 - c.number
-  pub short : c.prefix < 2 ^ c.place
-  -- what was passed on the way did not win yet
-  pub passed : c.bits < c.place → wins_at v.rules (c.place - 1) (c.prefix / 2) ≡ false
-  -- the bounds on the visits
-  pub least : length (slice v c.bits c.number) + new_visit c ≤ c.visits + length (rest_of_slice v c)
-  pub most : length v.rules ≡ 1 → c.visits + (v.members - c.bits) * length (rest_of_slice v c) ≤ c.bits + (v.members - c.bits) * length (slice v c.bits c.number) + open_visits v c
+  pub place : IsPlace v c.bits c.number c.place c.prefix
+  pub visits : CountsVisits v c.bits c.number c.visits (new_visit c) (open_visits v c) (rest_of_slice v c)
 
 -- b is the cursor a further on: at the same slice, with no fewer visits
 pub record Follows (v : Votes) (a b : Cursor) : Type 0 where
@@ -57,7 +65,7 @@ pub record Follows (v : Votes) (a b : Cursor) : Type 0 where
 pub record GoesOn (v : Votes) (a b : Cursor) : Type 0 where
   pub follows : Follows v a b
   pub same : rest_of_slice v b ≡ rest_of_slice v a
-  pub falls : steps_left b < steps_left a
+  pub falls : steps_left v b < steps_left v a
 
 -- coalition m is given, the first of those left
 pub record GivesNext (v : Votes) (a : Cursor) (m : ℕ) (b : Cursor) : Type 0 where

@@ -1,5 +1,5 @@
 use Rattle.council_game.specs.Game.{votes_of}
-use Rattle.mwc_walk.proofs.Steps.{back-up, back-out, back-end, out-fits, part-room, part-taken}
+use Rattle.mwc_walk.proofs.Steps.{back-up, back-out, back-end, out-fits, is-part}
 use Rattle.mwc_walk.proofs.cursor.Cursor.back.Goals as goal
 use Rattle.mwc_walk.proofs.cursor.Cursor.back.Goals.{then-self-eq1, else-self-eq1}
 
@@ -13,9 +13,8 @@ pub returns : goal.returns
 returns c =
     elim c.if-self-eq1.branch [
       | then-self-eq1 w ↦
-          rw w.self-is (back-out (votes_of c.args.game.now) c.args.self.now _ c.requires.is c.requires.stale c.if-self.false w.if-self-eq1.true
-          (part-room _ _ _ _ _ w.leave_out.ensures c.requires.is.room)
-          (part-taken _ _ _ _ _ w.leave_out.ensures c.requires.is.room))
+          let part = is-part _ _ _ _ _ w.leave_out.ensures c.requires.is.room in
+          rw w.self-is (back-out (votes_of c.args.game.now) c.args.self.now _ c.requires.is c.requires.stale c.if-self.false w.if-self-eq1.true part.room part.taken)
       | else-self-eq1 w ↦
           rw w.self-is (back-up (votes_of c.args.game.now) c.args.self.now c.requires.is c.requires.stale c.if-self.false w.if-self-eq1.false)
     ]

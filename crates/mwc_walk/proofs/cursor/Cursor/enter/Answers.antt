@@ -3,7 +3,7 @@ use Rattle.std.proofs.Math.Nat.{pow-le-pow_right}
 use Rattle.council_game.specs.Game.{votes_of}
 use Rattle.council_game.specs.Votes.{minimal}
 use Rattle.mwc_walk.specs.Inner.Cursor.{GivesNext}
-use Rattle.mwc_walk.proofs.Steps.{enter-dead, enter-in, enter-give, enter-drop, enter-mask, enter-short, reach-is, win-is, in-fits, in-room, part-room, part-taken}
+use Rattle.mwc_walk.proofs.Steps.{enter-dead, enter-in, enter-give, enter-drop, enter-mask, enter-short, reach-is, win-is, in-fits, in-room, is-part}
 use Rattle.mwc_walk.proofs.cursor.Cursor.enter.Goals as goal
 
 pub returns-then-not-all_reach : goal.returns-then-not-all_reach
@@ -26,14 +26,14 @@ take_in-requires-clause-fits c =
 
 pub returns-then-not-all_win : goal.returns-then-not-all_win
 returns-then-not-all_win c =
+    let part = is-part _ _ _ _ _ c.take_in.ensures c.requires.is.room in
     enter-in (votes_of c.args.game.now) c.args.self.now _ _ c.saturating_add-self.ensures (omega arith) c.requires.is c.requires.fresh
     (in-room (votes_of c.args.game.now) c.args.self.now c.requires.is
     (reach-is _ _ c.requires.is true (sym c.all_reach.ensures ∙ c.if-not-all_reach.false))
     (win-is _ _ c.requires.is false (sym c.all_win.ensures ∙ c.if-not-all_win.true)))
     (reach-is _ _ c.requires.is true (sym c.all_reach.ensures ∙ c.if-not-all_reach.false))
     (win-is _ _ c.requires.is false (sym c.all_win.ensures ∙ c.if-not-all_win.true))
-    (part-room _ _ _ _ _ c.take_in.ensures c.requires.is.room)
-    (part-taken _ _ _ _ _ c.take_in.ensures c.requires.is.room)
+    part.room part.taken
 
 pub of_mask-coalition-requires : goal.of_mask-coalition-requires
 of_mask-coalition-requires c =

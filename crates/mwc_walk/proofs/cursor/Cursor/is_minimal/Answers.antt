@@ -47,14 +47,14 @@ loop-rest-preserved c =
 
 pub returns : goal.returns
 returns c =
-    let won = ap (wins (votes_of c.args.game.now).rules) c.requires.mask ∙ wins-prefix (votes_of c.args.game.now).members (votes_of c.args.game.now).rules c.requires.is.game.rules c.args.self.now.place c.args.self.now.prefix c.requires.is.to ∙ c.requires.won in
+    let won = ap (wins (votes_of c.args.game.now).rules) c.requires.mask ∙ wins-prefix (votes_of c.args.game.now).members (votes_of c.args.game.now).rules c.requires.is.game.rules c.args.self.now.place c.args.self.now.prefix c.requires.is.place.to ∙ c.requires.won in
     sym (tried-all (votes_of c.args.game.now) c.args.coalition c.loop-rest.rest (omega (arith, c.loop-rest-test.false, c.mask.ensures.same)) won c.loop-rest.invariant)
 
 pub returns-then-not-wins_without : goal.returns-then-not-wins_without
 returns-then-not-wins_without c =
     let some : 0 < c.loop-rest.rest = omega (arith, c.loop-rest-test.true, c.mask.ensures.same) in
     let last = last-place (votes_of c.args.game.now) c.args.self.now c.args.coalition c.loop-rest.rest c.mask-in-loop-rest.result c.requires.is c.mask-in-loop-rest.ensures.same some c.loop-rest.invariant in
-    let won = ap (wins (votes_of c.args.game.now).rules) c.requires.mask ∙ wins-prefix (votes_of c.args.game.now).members (votes_of c.args.game.now).rules c.requires.is.game.rules c.args.self.now.place c.args.self.now.prefix c.requires.is.to ∙ c.requires.won in
+    let won = ap (wins (votes_of c.args.game.now).rules) c.requires.mask ∙ wins-prefix (votes_of c.args.game.now).members (votes_of c.args.game.now).rules c.requires.is.game.rules c.args.self.now.place c.args.self.now.prefix c.requires.is.place.to ∙ c.requires.won in
     let lost = sym c.if-not-wins_without.ensures in
     sym (first-needed (votes_of c.args.game.now) c.args.self.now c.args.coalition c.loop-rest.rest _ _ _ c.requires.is c.requires.mask refl lost last.below
     (λ m lt in'. up-to-last (votes_of c.args.game.now) c.args.self.now c.loop-rest.rest c.mask-in-loop-rest.result m c.requires.is c.mask-in-loop-rest.ensures.same some c.loop-rest.invariant.below lt in')

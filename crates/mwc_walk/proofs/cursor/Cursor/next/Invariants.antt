@@ -13,4 +13,4 @@ invariant-loop-coalition l = record {
 }
 
 abbrev pub decreases-loop-coalition : goal.decreases-loop-coalition
-decreases-loop-coalition l = steps_left l.self
+decreases-loop-coalition l = steps_left (votes_of l.game) l.self

@@ -1,8 +1,8 @@
 use Rattle.council_game.specs.Game.{votes_of}
 use Rattle.council_game.specs.Votes.{has}
-use Rattle.std.proofs.Common.{◌≡◌, ◌∙◌, ◌≤◌, length, take, sym, ap, arith, refl}
+use Rattle.std.proofs.Common.{◌≡◌, ◌∙◌, take, sym, ap, arith, refl}
 use Rattle.mwc_walk.proofs.Tables.{fits-in}
-use Rattle.mwc_walk.proofs.Steps.{part-taken, part-room}
+use Rattle.mwc_walk.proofs.Steps.{is-part}
 use Rattle.mwc_walk.proofs.Start.{first-lanes, first-number, fixed-in, fixed-pass, starts}
 use Rattle.mwc_walk.proofs.cursor.Cursor.start.Goals as goal
 use Rattle.mwc_walk.proofs.cursor.Cursor.start.Goals.{then-has, else-has}
@@ -22,10 +22,10 @@ pub loop-place-preserved : goal.loop-place-preserved
 loop-place-preserved c =
     elim c.if-has.branch [
       | then-has w ↦
-          let room : c.rules-rules.result ≤ length c.loop-place.lanes = c.loop-place.invariant.room in
+          let part = is-part _ _ _ _ _ w.take_in.ensures c.loop-place.invariant.room in
           record {
-            room = rw w.lanes-is (part-room _ _ _ _ _ w.take_in.ensures room);
-            are = rw (w.lanes-is, part-taken _ _ _ _ _ w.take_in.ensures room) (fixed-in (votes_of c.args.game.now).members c.args.bits c.loop-place.place _ (votes_of c.args.game.now).rules _ c.loop-place-test.true c.requires.bits (sym (ap (has c.args.bits c.loop-place.place) c.of_mask-fixed.ensures) ∙ sym c.has.ensures ∙ w.if-has.true) c.loop-place.invariant.are);
+            room = rw w.lanes-is part.room;
+            are = rw (w.lanes-is, part.taken) (fixed-in (votes_of c.args.game.now).members c.args.bits c.loop-place.place _ (votes_of c.args.game.now).rules _ c.loop-place-test.true c.requires.bits (sym (ap (has c.args.bits c.loop-place.place) c.of_mask-fixed.ensures) ∙ sym c.has.ensures ∙ w.if-has.true) c.loop-place.invariant.are);
           }
       | else-has w ↦ record {
         room = rw w.lanes-is c.loop-place.invariant.room;
