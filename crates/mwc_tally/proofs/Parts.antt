@@ -1,11 +1,10 @@
 -- Parts of a list that lies in pieces.
-use Rattle.std.proofs.Common.{◌≡◌, ◌∙◌, ℕ, ◌+◌, ◌-◌, ◌*◌, ◌/◌, ◌%◌, ◌<◌, ◌≤◌, zero, suc, min, List, [], ◌∷◌, ◌++◌, length, get_or, take, drop, sym, ap, refl, arith, subst, length-append, length-drop, inl, inr, IfOk, Result, Ok, Err}
+use Rattle.std.proofs.Common.{◌≡◌, ◌∙◌, ℕ, ◌+◌, ◌-◌, ◌*◌, ◌/◌, ◌%◌, ◌<◌, ◌≤◌, zero, suc, min, List, [], ◌∷◌, ◌++◌, length, get_or, take, drop, sym, ap, refl, arith, subst, length-append, length-drop, IfOk, Result, Ok, Err}
 use Rattle.std.specs.List.{All, flat_map}
-use Rattle.std.proofs.lemmas.List.{take_all, take_more, drop_all, length-take, take-append-drop, take-append-le, drop-append-le, append-nil}
+use Rattle.std.proofs.lemmas.List.{take_all, take_at, take_more, take_min, drop_at, drop-drop, drop_min, length-take, take-append-drop, append-nil}
 use Rattle.std.proofs.lemmas.List.Elements.{All-drop, All-take}
 use Rattle.std.proofs.lemmas.List.Concat.{flat_map-append}
 use Rattle.std.proofs.lemmas.List.Folds.{length-flat_map-take}
-use Rattle.std.proofs.lemmas.Bool.{cases_lt}
 use Rattle.std.proofs.Math.Nat.{div-add-mod, mod-lt}
 use Rattle.council_game.specs.Game.{GameView}
 use Rattle.power_index.specs.Tables.{Tables, AreTallies, AreCounts}
@@ -26,29 +25,6 @@ take-append (suc n) [] ys = let e : suc n ≡ suc n - length {A = ℕ} [] = omeg
 take-append (suc n) (x ∷ xs) ys =
     let e : n - length xs ≡ suc n - suc (length xs) = omega arith in
     ap (λ (l : List ℕ). x ∷ l) (take-append n xs ys) ∙ ap (λ (k : ℕ). x ∷ (take n xs ++ take k ys)) e
-
-pub drop-min : (n : ℕ) (xs : List ℕ) → drop (min n (length xs)) xs ≡ drop n xs
-drop-min n xs = elim (cases_lt n (length xs)) [
-  | inl lt ↦ let e : min n (length xs) ≡ n = omega arith in ap (λ (k : ℕ). drop k xs) e
-  | inr le ↦ let e : length xs ≤ min n (length xs) = omega arith in drop_all _ xs e ∙ sym (drop_all n xs le)
-]
-
-pub take-min : (n : ℕ) (xs : List ℕ) → take (min n (length xs)) xs ≡ take n xs
-take-min n xs = elim (cases_lt n (length xs)) [
-  | inl lt ↦ let e : min n (length xs) ≡ n = omega arith in ap (λ (k : ℕ). take k xs) e
-  | inr le ↦ let e : length xs ≤ min n (length xs) = omega arith in take_all _ xs e ∙ sym (take_all n xs le)
-]
-
-pub take-plus : (m n : ℕ) (xs : List ℕ) → take (m + n) xs ≡ take m xs ++ take n (drop m xs)
-take-plus zero n xs = let e : 0 + n ≡ n = omega arith in ap (λ (k : ℕ). take k xs) e
-take-plus (suc m) n [] = take-none (suc m + n) ∙ sym (take-none n)
-  where
-    take-none : (k : ℕ) → take {A = ℕ} k [] ≡ []
-    take-none zero = refl
-    take-none (suc k) = refl
-take-plus (suc m) n (x ∷ xs) =
-    let e : suc m + n ≡ suc (m + n) = omega arith in
-    ap (λ (k : ℕ). take k (x ∷ xs)) e ∙ ap (λ (l : List ℕ). x ∷ l) (take-plus m n xs)
 
 -- one piece more of a part
 pub part-more : (skip most s l : ℕ) (xs piece : List ℕ) → s ≡ skip - length xs → l ≡ most - length (drop skip xs)
@@ -86,14 +62,10 @@ pieces-more f xs k x lt is =
     ∙ ap (λ (l : List ℕ). flat_map f (take k xs) ++ l) (append-nil (f (get_or xs k x)) ∙ ap f (sym is))
 
 all-front : (P : ℕ → Type 0) (a b : List ℕ) → All P (a ++ b) → All P a
-all-front P a b h =
-    let e : take (length a) (a ++ b) ≡ a = take-append-le (length a) a b (omega arith) ∙ take_all (length a) a (omega arith) in
-    subst (All P) e (All-take P (length a) (a ++ b) h)
+all-front P a b h = subst (All P) (take_at a b (length a) refl) (All-take P (length a) (a ++ b) h)
 
 all-back : (P : ℕ → Type 0) (a b : List ℕ) → All P (a ++ b) → All P b
-all-back P a b h =
-    let e : drop (length a) (a ++ b) ≡ b = drop-append-le (length a) a b (omega arith) ∙ ap (λ (l : List ℕ). l ++ b) (drop_all (length a) a (omega arith)) in
-    subst (All P) e (All-drop P (length a) (a ++ b) h)
+all-back P a b h = subst (All P) (drop_at a b (length a) refl) (All-drop P (length a) (a ++ b) h)
 
 -- what holds of all holds of a piece
 pub piece-all : {X : Type 0} (P : ℕ → Type 0) (f : X → List ℕ) (xs : List X) (k : ℕ) (x : X) → k < length xs → x ≡ get_or xs k x → All P (flat_map f xs) → All P (f x)
@@ -110,27 +82,15 @@ pub row-is : (piece : List ℕ) (s l a m : ℕ) → a ≡ min s (length piece) �
     → take m (take (length piece - a) (drop a piece)) ≡ take l (drop s piece)
 row-is piece s l a m a-is m-is =
     let long = length-drop a piece in
-    let rest : take (length piece - a) (drop a piece) ≡ drop s piece = take_all (length piece - a) (drop a piece) (omega (arith, long)) ∙ (ap (λ (k : ℕ). drop k piece) a-is ∙ drop-min s piece) in
-    ap (λ (k : ℕ). take k (take (length piece - a) (drop a piece))) m-is ∙ take-min l (take (length piece - a) (drop a piece)) ∙ ap (take l) rest
+    let rest : take (length piece - a) (drop a piece) ≡ drop s piece = take_all (length piece - a) (drop a piece) (omega (arith, long)) ∙ (ap (λ (k : ℕ). drop k piece) a-is ∙ drop_min s piece) in
+    ap (λ (k : ℕ). take k (take (length piece - a) (drop a piece))) m-is ∙ take_min l (take (length piece - a) (drop a piece)) ∙ ap (take l) rest
 
 pub rest-length : (piece : List ℕ) (s a : ℕ) → a ≡ min s (length piece) → length (take (length piece - a) (drop a piece)) ≡ length piece - s
 rest-length piece s a a-is = let one = length-take (length piece - a) (drop a piece) in let other = length-drop a piece in omega (arith, one, other, a-is)
 
 -- what is past a part
 pub part-and-rest : (skip part : ℕ) (xs : List ℕ) → take part (drop skip xs) ++ drop (skip + part) xs ≡ drop skip xs
-part-and-rest zero part xs =
-    let e : 0 + part ≡ part = omega arith in
-    ap (λ (n : ℕ). take part xs ++ drop n xs) e ∙ take-append-drop part xs
-part-and-rest (suc skip) part [] =
-    let e : suc skip + part ≡ suc (skip + part) = omega arith in
-    ap (λ (n : ℕ). take part [] ++ drop n []) e ∙ none part
-  where
-    none : (n : ℕ) → take {A = ℕ} n [] ++ [] ≡ []
-    none zero = refl
-    none (suc n) = refl
-part-and-rest (suc skip) part (x ∷ xs) =
-    let e : suc skip + part ≡ suc (skip + part) = omega arith in
-    ap (λ (n : ℕ). take part (drop skip xs) ++ drop n (x ∷ xs)) e ∙ part-and-rest skip part xs
+part-and-rest skip part xs = rw (← drop-drop part skip xs) (take-append-drop part (drop skip xs))
 
 -- what a thread counted is what it was given to count
 pub is-part : (given : GivenPart) (g : GameView) (list : List ℕ) (skip most : ℕ) → IsGivenPart g list skip most given
