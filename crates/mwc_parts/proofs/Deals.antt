@@ -1,14 +1,17 @@
 -- Deals, one slice at a time.
-use Rattle.std.specs.Prelude.{◌≡◌, ◌⊎◌, ℕ, zero, suc, ◌+◌, ◌<◌, ◌≤◌, Bool, true, false, cond, List, [], ◌∷◌, ◌++◌, length, map, All, refl}
+use Rattle.std.specs.Prelude.{◌≡◌, ℕ, zero, suc, ◌+◌, ◌<◌, ◌≤◌, Bool, true, false, cond, List, [], ◌∷◌, ◌++◌, length, map, All, refl}
 use Rattle.std.specs.List.{range_with_len}
 use Rattle.std.specs.List.Sorted.{IsStrictlyIncreasing}
-use Rattle.std.proofs.Common.{eqb, set, ap, arith, ◌∙◌, inl, inr}
+use Rattle.std.proofs.Common.{eqb, ltb, set, get_or, take, add-one, ap, arith, ◌∙◌}
 use Rattle.std.proofs.lemmas.Bool.{eq-eqb, ne_eqb}
-use Rattle.std.proofs.lemmas.List.{append-nil}
-use Rattle.std.proofs.lemmas.List.Elements.{All-head, All-tail, All-cons, All-weaker}
+use Rattle.std.proofs.lemmas.Bool.Decides.{nat_tests}
+use Rattle.std.proofs.lemmas.List.{append-nil, take_all, take_more, length-take-le}
+use Rattle.std.proofs.lemmas.List.FromFn.{get_or-map-range_with_len, length-map-range_with_len}
 use Rattle.mwc_parts.specs.Sums.{sum_of}
 use Rattle.mwc_parts.specs.Inner.Sums.{times_in}
 use Rattle.mwc_parts.specs.Inner.Deals.{share_from, share_of, shares_by, AscendsFrom}
+use Rattle.mwc_parts.proofs.Ranges.{range_more}
+use Rattle.mwc_parts.proofs.Sums.{sum_of-push, sum_of-set}
 
 cons_if : (b : Bool) (j : ℕ) (x a c : List ℕ) → x ≡ a ++ c → cond b (j ∷ x) x ≡ cond b (j ∷ a) a ++ c
 cons_if true j x a c e = ap (λ (w : List ℕ). j ∷ w) e
@@ -72,80 +75,47 @@ increases n (i ∷ j ∷ s) a (suc k) l =
 pub held_increases : (w : ℕ) (hs : List ℕ) → IsStrictlyIncreasing (share_of hs w)
 held_increases w hs = increases 0 (share_of hs w) (held_ascends w 0 hs)
 
--- sums
-sum_if : (b : Bool) (f : ℕ → ℕ) (j : ℕ) (s : List ℕ) → sum_of f (cond b (j ∷ s) s) ≡ cond b (f j) 0 + sum_of f s
-sum_if true f j s = refl
-sum_if false f j s = omega arith
-
-one_held : (f : ℕ → ℕ) (j h : ℕ) (hs ws : List ℕ) → sum_of (sum_of f) (map (λ w. share_from w j (h ∷ hs)) ws) ≡ sum_of (λ w. cond (eqb w h) (f j) 0) ws + sum_of (sum_of f) (map (λ w. share_from w (j + 1) hs) ws)
-one_held f j h hs [] = omega arith
-one_held f j h hs (w ∷ ws) =
-    let a = sum_if (eqb w h) f j (share_from w (j + 1) hs) in
-    let b = one_held f j h hs ws in
-    omega arith
-
-spread_none : (v h from k : ℕ) → h < from → sum_of (λ w. cond (eqb w h) v 0) (range_with_len from k) ≡ 0
-spread_none v h from zero l = refl
-spread_none v h from (suc k) l =
-    let a : cond (eqb from h) v 0 ≡ 0 = ap (λ (b : Bool). cond b v 0) (ne_eqb from h (λ q. omega arith)) in
-    let r = spread_none v h (from + 1) k (omega arith) in
-    omega arith
-
-near : (m n : ℕ) → m ≤ n → (m ≡ n) ⊎ (m + 1 ≤ n)
-near m n l = grind arith
-
-pub spread_one : (v h from k : ℕ) → from ≤ h → h < from + k → sum_of (λ w. cond (eqb w h) v 0) (range_with_len from k) ≡ v
-spread_one v h from zero l m = absurd (omega arith)
-spread_one v h from (suc k) l m =
-    elim (near from h l) [
-      | inl e ↦ let a : cond (eqb from h) v 0 ≡ v = ap (λ (b : Bool). cond b v 0) (eq-eqb from h e) in
-          let r = spread_none v h (from + 1) k (omega arith) in omega arith
-      | inr n ↦ let a : cond (eqb from h) v 0 ≡ 0 = ap (λ (b : Bool). cond b v 0) (ne_eqb from h (λ q. omega arith)) in
-          let r = spread_one v h (from + 1) k n (omega arith) in omega arith
-    ]
-
-spread_past : (v h from k : ℕ) → from + k ≤ h → sum_of (λ w. cond (eqb w h) v 0) (range_with_len from k) ≡ 0
-spread_past v h from zero l = refl
-spread_past v h from (suc k) l =
-    let a : cond (eqb from h) v 0 ≡ 0 = ap (λ (b : Bool). cond b v 0) (ne_eqb from h (λ q. omega arith)) in
-    let r = spread_past v h (from + 1) k (omega arith) in
-    omega arith
-
+-- ---- sums
 none_held : (f : ℕ → ℕ) (j : ℕ) (ws : List ℕ) → sum_of (sum_of f) (map (λ w. share_from w j []) ws) ≡ 0
 none_held f j [] = refl
 none_held f j (w ∷ ws) = let r = none_held f j ws in omega arith
 
-pub dealt_sum_from : (f : ℕ → ℕ) (j k : ℕ) (hs : List ℕ) → All (λ h. h < k) hs → sum_of (sum_of f) (map (λ w. share_from w j hs) (range_with_len 0 k)) ≡ sum_of f (range_with_len j (length hs))
-dealt_sum_from f j k [] a = none_held f j (range_with_len 0 k)
-dealt_sum_from f j k (h ∷ hs) a =
-    let below : h < k = All-head (λ h. h < k) h hs a in
-    let b = one_held f j h hs (range_with_len 0 k) in
-    let c = spread_one (f j) h 0 k (omega arith) (omega arith) in
-    let d = dealt_sum_from f (j + 1) k hs (All-tail (λ h. h < k) h hs a) in
-    omega arith
+pub range_sum : (f : ℕ → ℕ) (n : ℕ) → sum_of f (range_with_len 0 (n + 1)) ≡ sum_of f (range_with_len 0 n) + f n
+range_sum f n = rw (range_more n) (sum_of-push f (range_with_len 0 n) n)
+
+-- of the first m holders
+sum_up_to : (f : ℕ → ℕ) (k : ℕ) (hs : List ℕ) → All (λ h. h < k) hs → (m : ℕ) → m ≤ length hs → sum_of (sum_of f) (shares_by (take m hs) k) ≡ sum_of f (range_with_len 0 m)
+sum_up_to f k hs a zero l = none_held f 0 (range_with_len 0 k)
+sum_up_to f k hs a (suc m) l =
+    let h : ℕ = get_or hs m 0 in
+    let first : List ℕ = take m hs in
+    let below : h < k = a m 0 (omega arith) in
+    let more : take (suc m) hs ≡ first ++ h ∷ [] = rw (← add-one) (take_more hs m 0 (omega arith)) in
+    let number : length first ≡ m = length-take-le m hs (omega arith) in
+    let held : get_or (shares_by first k) h [] ≡ share_of first h = get_or-map-range_with_len (share_of first) 0 k h h [] below (omega arith) in
+    let before = sum_up_to f k hs a m (omega arith) in
+    let dealt = deal_from first h 0 k h (omega arith) below in
+    let given = sum_of-set (sum_of f) (shares_by first k) h (share_of first h ++ length first ∷ []) [] (omega (arith, length-map-range_with_len (share_of first) 0 k)) in
+    let next = rw add-one at (range_sum f m) in
+    rw (more, dealt) (omega (arith, given, ap (sum_of f) held, sum_of-push f (share_of first h) (length first), before, next, ap f number))
 
 -- any sum over the shares is the sum over the slices
 pub shares_sum : (f : ℕ → ℕ) (k : ℕ) (hs : List ℕ) → All (λ h. h < k) hs → sum_of (sum_of f) (shares_by hs k) ≡ sum_of f (range_with_len 0 (length hs))
-shares_sum f k hs a = dealt_sum_from f 0 k hs a
+shares_sum f k hs a = rw (take_all (length hs) hs (omega arith)) at (sum_up_to f k hs a (length hs) (omega arith))
 
--- each slice stands once in the shares
-pub each_once : (i k : ℕ) (hs : List ℕ) → All (λ h. h < k) hs → i < length hs → sum_of (times_in i) (shares_by hs k) ≡ 1
-each_once i k hs a l = shares_sum (λ x. cond (eqb x i) 1 0) k hs a ∙ spread_one 1 i 0 (length hs) (omega arith) (omega arith)
+-- each number below n stands once in the row up to n
+range_once : (i n : ℕ) → times_in i (range_with_len 0 n) ≡ cond (ltb i n) 1 0
+range_once i zero = grind (arith, nat_tests)
+range_once i (suc n) =
+    let rest = range_once i n in
+    let next = rw add-one at (range_sum (λ x. cond (eqb x i) 1 0) n) in
+    grind (arith, nat_tests)
 
--- no other number does
-pub no_other : (i k : ℕ) (hs : List ℕ) → All (λ h. h < k) hs → length hs ≤ i → sum_of (times_in i) (shares_by hs k) ≡ 0
-no_other i k hs a l = shares_sum (λ x. cond (eqb x i) 1 0) k hs a ∙ spread_past 1 i 0 (length hs) (omega arith)
+-- each slice stands once in the shares, and no other number does
+pub each_held_once : (i k : ℕ) (hs : List ℕ) → All (λ h. h < k) hs → sum_of (times_in i) (shares_by hs k) ≡ cond (ltb i (length hs)) 1 0
+each_held_once i k hs a = shares_sum (λ x. cond (eqb x i) 1 0) k hs a ∙ range_once i (length hs)
 
 pub sum_range_le : (f : ℕ → ℕ) (j m n : ℕ) → m ≤ n → sum_of f (range_with_len j m) ≤ sum_of f (range_with_len j n)
 sum_range_le f j zero n l = omega arith
 sum_range_le f j (suc m) zero l = absurd (omega arith)
 sum_range_le f j (suc m) (suc n) l = let r = sum_range_le f (j + 1) m n (omega arith) in omega arith
-
-one_of_sum_cons : (f : List ℕ → ℕ) (x : List ℕ) (xs : List (List ℕ)) → All (λ s. f s ≤ sum_of f xs) xs → All (λ s. f s ≤ f x + sum_of f xs) (x ∷ xs)
-one_of_sum_cons f x xs a =
-    All-cons (λ s. f s ≤ f x + sum_of f xs) x xs (omega arith)
-    (All-weaker (λ s. f s ≤ sum_of f xs) (λ s. f s ≤ f x + sum_of f xs) (λ s l. omega arith) xs a)
-
-pub one_of_sum : (f : List ℕ → ℕ) (ls : List (List ℕ)) → All (λ s. f s ≤ sum_of f ls) ls
-one_of_sum f [] = λ k d l. absurd (omega arith)
-one_of_sum f (x ∷ xs) = one_of_sum_cons f x xs (one_of_sum f xs)

@@ -2,7 +2,7 @@
 use Rattle.std.specs.Prelude.{◌≡◌, ◌⊎◌, ℕ, zero, suc, ◌+◌, ◌<◌, ◌≤◌, Bool, true, false, ◌||◌, cond, List, [], ◌∷◌, ◌++◌, Option, None, IsSome, length, map, replicate, All, refl}
 use Rattle.std.specs.List.{range_with_len}
 use Rattle.std.specs.List.Sorted.{IsStrictlyIncreasing}
-use Rattle.std.proofs.Common.{set, get_or, ap, subst, arith, sym, ◌∙◌, inl, inr}
+use Rattle.std.proofs.Common.{ltb, set, get_or, ap, subst, arith, sym, ◌∙◌, inl, inr}
 use Rattle.std.proofs.Math.Bool.{or-false}
 use Rattle.std.proofs.lemmas.Bool.{false≢true, eq-eqb, ne_eqb}
 use Rattle.std.proofs.lemmas.List.{length-append, get_or_push}
@@ -13,7 +13,8 @@ use Rattle.mwc_parts.specs.Inner.Sums.{times_in}
 use Rattle.mwc_parts.specs.Wording.{coalition_count}
 use Rattle.mwc_parts.specs.Inner.Deals.{share_from, share_of, AreDealt}
 use Rattle.mwc_parts.specs.Inner.Dealing.{Seat, IsWell, given_slices, DealsInTurn, TakesTurn, DealsOneEach, IsFresh}
-use Rattle.mwc_parts.proofs.Deals.{shares_sum, each_once, no_other, held_increases, one_of_sum, sum_range_le}
+use Rattle.mwc_parts.proofs.Deals.{shares_sum, each_held_once, held_increases, sum_range_le}
+use Rattle.mwc_parts.proofs.Sums.{one_of_sum}
 use Rattle.mwc_parts.proofs.Turns.{turn_nothing, turn_one, none_free, none_ill, still_held, went_on, share_at}
 
 no_shares : (seats : List Seat) (from : ℕ) → All IsFresh seats → given_slices seats ≡ map (share_of []) (range_with_len from (length seats))
@@ -97,15 +98,9 @@ first_turn {n} {early} {stopped} {stops} seats k s t l e fresh f r =
     ]
 
 -- who told what at the end
-pub dealt_once : {n : ℕ} {shares : List (List ℕ)} (j : ℕ) → AreDealt n shares → j < n → sum_of (times_in j) shares ≡ 1
-dealt_once {n} {shares} j d l =
-    let a : length d.holders ≡ n = d.each_held in
-    ap (sum_of (times_in j)) d.shares_are ∙ each_once j (length shares) d.holders d.by_workers (omega arith)
-
-pub dealt_no_other : {n : ℕ} {shares : List (List ℕ)} (j : ℕ) → AreDealt n shares → n ≤ j → sum_of (times_in j) shares ≡ 0
-dealt_no_other {n} {shares} j d l =
-    let a : length d.holders ≡ n = d.each_held in
-    ap (sum_of (times_in j)) d.shares_are ∙ no_other j (length shares) d.holders d.by_workers (omega arith)
+pub dealt_once : {n : ℕ} {shares : List (List ℕ)} (j : ℕ) → AreDealt n shares → sum_of (times_in j) shares ≡ cond (ltb j n) 1 0
+dealt_once {n} {shares} j d =
+    ap (sum_of (times_in j)) d.shares_are ∙ each_held_once j (length shares) d.holders d.by_workers ∙ ap (λ (m : ℕ). cond (ltb j m) 1 0) d.each_held
 
 pub dealt_total : {n : ℕ} {shares : List (List ℕ)} (g : Slicing) → AreDealt n shares → sum_of (coalition_count g) shares ≡ coalition_count g (range_with_len 0 n)
 dealt_total {n} {shares} g d =

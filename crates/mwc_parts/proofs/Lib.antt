@@ -6,6 +6,5 @@ pub mod Firsts
 pub mod Once
 pub mod Tasks
 pub mod Settles
-pub mod Pieces
 pub mod Readings
 pub mod Drafts

@@ -4,11 +4,13 @@ use Rattle.std.specs.List.{flat_map}
 use Rattle.std.proofs.Common.{get_or, subst, ap, arith, sym, ◌∙◌, append_assoc}
 use Rattle.std.proofs.lemmas.List.{append-nil, length-append, drop_at, take_at}
 use Rattle.std.proofs.lemmas.List.Elements.{filter_map-append}
+use Rattle.std.proofs.lemmas.List.Concat.{length-flat_map}
 use Rattle.mwc_parts.specs.Slicing.{Slicing}
 use Rattle.mwc_pipe.specs.declared.word.Word.{Word}
 use Rattle.mwc_pipe.specs.declared.word.Word.TheVariants.{Open, One, Done, End}
 use Rattle.mwc_parts.specs.Wording.{wording, coalition_count}
 use Rattle.mwc_parts.specs.Settled.{IsSentWhole}
+use Rattle.mwc_parts.proofs.Sums.{sum_is}
 use Rattle.mwc_parts.specs.Pieces.{one_in, ones, done_counts, ends_from, Rises}
 
 ones-slice : (j : ℕ) (l : List ℕ) (rest : List Word) → ones (((Open j ∷ map One l) ++ Done j ∷ []) ++ rest) ≡ l ++ ones rest
@@ -33,8 +35,7 @@ done_counts-wording g n (j ∷ s) =
     done_counts-slice n j (g.slice j) (wording g s) ∙ ap (λ (w : List ℕ). (n + length (g.slice j)) ∷ w) (done_counts-wording g (n + length (g.slice j)) s)
 
 pub length-joined : (g : Slicing) (s : List ℕ) → length (flat_map g.slice s) ≡ coalition_count g s
-length-joined g [] = refl
-length-joined g (j ∷ s) = let a = length-append (g.slice j) (flat_map g.slice s) in let b = length-joined g s in omega arith
+length-joined g s = length-flat_map g.slice s ∙ sum_is (λ j. length (g.slice j)) s
 
 pub length-ends : (g : Slicing) (n : ℕ) (s : List ℕ) → length (ends_from g n s) ≡ length s
 length-ends g n [] = refl

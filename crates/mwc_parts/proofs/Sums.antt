@@ -1,26 +1,39 @@
 -- Sums, one element at a time.
-use Rattle.std.specs.Prelude.{◌≡◌, ℕ, zero, suc, ◌+◌, ◌<◌, ◌≤◌, List, [], ◌∷◌, length, map, take, Bool, cond, refl}
-use Rattle.std.proofs.Common.{eqb, get_or, ap, arith, sym, ◌∙◌}
+use Rattle.std.specs.Prelude.{◌≡◌, ℕ, ◌+◌, ◌<◌, ◌≤◌, List, [], ◌∷◌, ◌++◌, length, map, take, Bool, cond, All, refl}
+use Rattle.std.specs.List.{sum_by}
+use Rattle.std.proofs.Common.{eqb, get_or, set, ap, arith, sym, ◌∙◌}
 use Rattle.std.proofs.lemmas.Bool.{ne_eqb}
 use Rattle.std.proofs.lemmas.List.{take_all}
+use Rattle.std.proofs.lemmas.List.Sums.{sum_by-cons, sum_by_more, sum_by_push, sum_by-set, sum_by-take-le, get_or-le-sum_by}
 use Rattle.mwc_parts.specs.Sums.{sum_of}
 use Rattle.mwc_parts.specs.Inner.Sums.{times_in}
 use Rattle.mwc_parts.specs.Parts.{shares}
 use Rattle.mwc_parts.specs.declared.part.Part.{Part}
 
-module _ {X : Type 0} where
-  pub sum_of-more : (f : X → ℕ) (xs : List X) (i : ℕ) (d : X) → i < length xs → sum_of f (take (i + 1) xs) ≡ sum_of f (take i xs) + f (get_or xs i d)
-  sum_of-more f [] i d l = absurd (omega arith)
-  sum_of-more f (x ∷ xs) zero d l = omega arith
-  sum_of-more f (x ∷ xs) (suc i) d l =
-      let r = sum_of-more f xs i d (omega arith) in
-      let e : suc i + 1 ≡ suc (i + 1) = omega arith in
-      let t = ap (λ (k : ℕ). sum_of f (take k (x ∷ xs))) e in
-      omega arith
+module _ {X : Type 0} (f : X → ℕ) where
+  pub sum_is : (xs : List X) → sum_by f xs ≡ sum_of f xs
+  sum_is [] = refl
+  sum_is (x ∷ xs) = omega (arith, sum_by-cons f x xs, sum_is xs)
 
-  pub sum_of-map : {Y : Type 0} (f : Y → ℕ) (h : X → Y) (xs : List X) → sum_of f (map h xs) ≡ sum_of (λ x. f (h x)) xs
-  sum_of-map f h [] = refl
-  sum_of-map f h (x ∷ xs) = let r = sum_of-map f h xs in omega arith
+  pub sum_of-more : (xs : List X) (i : ℕ) (d : X) → i < length xs → sum_of f (take (i + 1) xs) ≡ sum_of f (take i xs) + f (get_or xs i d)
+  sum_of-more xs i d l = omega (arith, sum_is (take (i + 1) xs), sum_is (take i xs), sum_by_more f xs i d l)
+
+  pub sum_of-push : (xs : List X) (x : X) → sum_of f (xs ++ x ∷ []) ≡ sum_of f xs + f x
+  sum_of-push xs x = omega (arith, sum_is (xs ++ x ∷ []), sum_is xs, sum_by_push f xs x)
+
+  pub sum_of-set : (xs : List X) (i : ℕ) (y d : X) → i < length xs → sum_of f (set xs i y) + f (get_or xs i d) ≡ sum_of f xs + f y
+  sum_of-set xs i y d l = omega (arith, sum_is (set xs i y), sum_is xs, sum_by-set f xs i y d l)
+
+  pub sum_take_le : (xs : List X) (i : ℕ) → sum_of f (take i xs) ≤ sum_of f xs
+  sum_take_le xs i = omega (arith, sum_is (take i xs), sum_is xs, sum_by-take-le f xs i)
+
+  -- no term is more than the sum
+  pub one_of_sum : (xs : List X) → All (λ x. f x ≤ sum_of f xs) xs
+  one_of_sum xs k d l = omega (arith, sum_is xs, get_or-le-sum_by f xs k d l)
+
+  pub sum_of-map : {Y : Type 0} (h : Y → X) (ys : List Y) → sum_of f (map h ys) ≡ sum_of (λ y. f (h y)) ys
+  sum_of-map h [] = refl
+  sum_of-map h (y ∷ ys) = let r = sum_of-map h ys in omega arith
 
 pub times_more : (s : List ℕ) (j m : ℕ) → m < length s → times_in j (take m s) ≡ 0 → (get_or s m 0 ≡ j → ⊥) → times_in j (take (m + 1) s) ≡ 0
 times_more s j m l e ne =
@@ -46,8 +59,3 @@ counted parts i part l e =
     let a = sum_of-more f parts i part l in
     let q = ap f e in
     omega arith
-
-pub sum_take_le : {X : Type 0} (f : X → ℕ) (xs : List X) (i : ℕ) → sum_of f (take i xs) ≤ sum_of f xs
-sum_take_le f xs zero = omega arith
-sum_take_le f [] (suc i) = omega arith
-sum_take_le f (x ∷ xs) (suc i) = let r = sum_take_le f xs i in omega arith

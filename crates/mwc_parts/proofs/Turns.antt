@@ -5,7 +5,7 @@ use Rattle.std.proofs.Common.{set, get_or, ap, subst, arith, sym, ◌∙◌, inl
 use Rattle.std.proofs.Math.ListN as list
 use Rattle.std.proofs.lemmas.List.{length-set, length-map, length-append, get_or_append_left, get_or-map, set-get_or, map-set}
 use Rattle.std.proofs.lemmas.List.FromFn.{get_or-map-range_with_len}
-use Rattle.std.proofs.Math.Bool.{or_assoc, or-false}
+use Rattle.std.proofs.Math.Bool.{or_assoc, or-false, or-true}
 use Rattle.std.proofs.lemmas.Bool.{false≢true}
 use Rattle.std.proofs.lemmas.List.Elements.{All-head, All-tail, All-weaker, All-set, All-push}
 use Rattle.mwc_parts.specs.Table.{IsFirstFree}
@@ -63,12 +63,9 @@ pub not_ill : (s : Seat) → IsWell s → is_ill s ≡ false
 not_ill s w = ap (λ (z : Bool). z || s.cut) w.0 ∙ w.1
 
 or_moves : (a b c : Bool) → (c ≡ true → a ≡ true) → (a || b) ≡ ((c || b) || a)
-or_moves true b true h = refl
-or_moves true true false h = refl
-or_moves true false false h = refl
+or_moves true b c h = sym (or-true (c || b))
 or_moves false b true h = absurd (false≢true (h refl))
-or_moves false true false h = refl
-or_moves false false false h = refl
+or_moves false b false h = sym (or-false b)
 
 ill_set : (seats : List Seat) (i : ℕ) (s t : Seat) → i < length seats → s ≡ get_or seats i s → (is_ill s ≡ true → is_ill t ≡ true)
     → list_any is_ill (set seats i t) ≡ (list_any is_ill seats || is_ill t)
@@ -170,37 +167,6 @@ turn_one {n} {done} {early} {stopped} {stops} {marks} {after} seats i s t l e d 
           (λ x h q. elim (h q) [ inl none ↦ absurd (omega arith) | inr y ↦ inr (stays y) ]) seats d.told_late);
       stops_are = stops_then early seats stopped stops i s t l e r d.stops_are;
       none_early = λ z. absurd (false≢true (sym g.goes_on ∙ stays (stays_by early stopped (list_any is_ill seats) d.stops_are z)));
-    }
-
--- words are read, and then a slice is given or not
-pub read_then_deal : {done stopped stop stops : Bool} {marks after : List (Option ℕ)} (s u t : Seat) (w : ℕ) → u.given ≡ s.given → u.told ≡ s.told → u.idle ≡ (s.idle || done)
-    → (u.lost ≡ false → s.lost ≡ false) → (u.cut ≡ false → s.cut ≡ false) → stop ≡ (stopped || is_ill u)
-    → TakesTurn false marks stop u w after stops t → TakesTurn done marks stopped s w after stops t
-read_then_deal {done} {stopped} {stop} {stops} {marks} {after} s u t w given told idle lost cut e r =
-    let now : (u.idle || false) ≡ (s.idle || done) = or-false u.idle ∙ idle in
-    record {
-      lost_stays = λ z. lost (r.lost_stays z);
-      cut_stays = λ z. cut (r.cut_stays z);
-      stops_are = r.stops_are ∙ ap (λ (b : Bool). b || is_ill t) e ∙ or_assoc stopped (is_ill u) (is_ill t)
-          ∙ ap (λ (b : Bool). stopped || b) (or_within (is_ill u) (is_ill t) (ill_stays u t r.lost_stays r.cut_stays));
-      gives = elim r.gives [
-        | inl g ↦ inl (record {
-          marks_stay = g.marks_stay;
-          given_stay = g.given_stay ∙ given;
-          idle_is = g.idle_is ∙ now;
-          told_if = λ z. elim (g.told_if z) [ inl old ↦ inl (sym told ∙ old) | inr why ↦ inr why ];
-          why = g.why;
-        })
-        | inr g ↦ inr (record {
-          slice = g.slice;
-          goes_on = g.goes_on;
-          finished = sym now ∙ g.finished;
-          lowest = g.lowest;
-          marked = g.marked;
-          given = g.given ∙ ap (λ (v : List ℕ). v ++ g.slice ∷ []) given;
-          told_not = g.told_not;
-        })
-      ];
     }
 
 -- a worker that holds the slice of its number still holds it when one more is given
