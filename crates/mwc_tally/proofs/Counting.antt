@@ -32,18 +32,12 @@ slice-few g bits j game =
     omega (arith, less, few)
 
 -- a walk that is counted as it goes
-pub counted-start : (g : GameView) (whole : List ℕ) (t : Tables) → AreTallies g [] t → CountedUpTo g whole whole t
-counted-start g whole t h = record { before = []; joined = refl; tallies = h }
-
 pub counted-step : (g : GameView) (whole rest : List ℕ) (c : ℕ) (t u : Tables) → ((list : List ℕ) → AreTallies g list t → AreTallies g (list ++ c ∷ []) u) → CountedUpTo g whole (c ∷ rest) t → CountedUpTo g whole rest u
 counted-step g whole rest c t u more h = record {
   before = h.before ++ c ∷ [];
   joined = append_assoc h.before (c ∷ []) rest ∙ h.joined;
   tallies = more h.before h.tallies;
 }
-
-pub counted-all : (g : GameView) (whole : List ℕ) (t : Tables) → CountedUpTo g whole [] t → AreTallies g whole t
-counted-all g whole t h = subst (λ (l : List ℕ). AreTallies g l t) (sym (append-nil h.before) ∙ h.joined) h.tallies
 
 pub counted-room : (g : GameView) (whole rest : List ℕ) (c : ℕ) (t : Tables) → length whole ≤ 2 ^ 40 → CountedUpTo g whole (c ∷ rest) t → table_total t < 2 ^ 40
 counted-room g whole rest c t few h =
@@ -58,13 +52,6 @@ later P (b ∷ bs) rest c h = later P bs rest c (λ k d lt. h (suc k) d (omega (
 
 pub counted-next : (g : GameView) (P : ℕ → Type 0) (whole rest : List ℕ) (c : ℕ) (t : Tables) → All P whole → CountedUpTo g whole (c ∷ rest) t → P c
 counted-next g P whole rest c t all h = later P h.before rest c (subst (All P) (sym h.joined) all)
-
--- tables of one game
-pub of-one-game : (g : GameView) (a b : List ℕ) (s t : Tables) → AreTallies g a s → AreTallies g b t → AreOfOneGame s t
-of-one-game g a b s t h k = record {
-  members = k.of_game.members ∙ sym h.of_game.members;
-  ranks = λ i lt. k.of_game.ranks i (omega (arith, lt, h.of_game.members, k.of_game.members)) ∙ sym (h.of_game.ranks i lt);
-}
 
 -- all slices are the whole list
 pub all-slices : (g : GameView) (bits : ℕ) → IsGame g → bits ≤ 10 → bits ≤ length g.names → flat_map (slice (votes_of g) bits) (range_with_len 0 (2 ^ bits)) ≡ minimal_coalitions (votes_of g)
@@ -124,7 +111,3 @@ pub is-range : (row : List ℕ) (n : ℕ) → length row ≡ n → ((k : ℕ) �
 is-range row n long each =
     fill_by_all (λ k. k) row n 0 long each
     ∙ sym (fill_by_all (λ k. k) (range_with_len 0 n) n 0 (length-range_with_len 0 n) (λ k lt. get_or-range_with_len 0 n k 0 lt ∙ omega arith))
-
--- the first of what a loop has left
-pub first-of : {X : Type 0} (P : X → Type 0) (x : X) (rest all : List X) → all ≡ x ∷ rest → All P all → P x
-first-of P x rest all step h = All-head P x rest (subst (All P) step h)

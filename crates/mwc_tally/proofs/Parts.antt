@@ -47,13 +47,6 @@ part-left skip most s l xs piece s-is l-is =
 pub part-length : (skip most : ℕ) (xs : List ℕ) → length (take most (drop skip xs)) ≤ length xs
 part-length skip most xs = let a = length-take most (drop skip xs) in let b = length-drop skip xs in omega (arith, a, b)
 
--- all parts are long enough together
-pub parts-reach : (total threads : ℕ) → 0 < threads → total ≤ threads * (total / threads + 1)
-parts-reach total threads pos = let e = div-add-mod total threads in let lt = mod-lt total pos in go (total / threads) e lt
-  where
-    go : (q : ℕ) → threads * q + total % threads ≡ total → total % threads < threads → total ≤ threads * (q + 1)
-    go q e lt = omega (arith, e, lt)
-
 -- the pieces up to one more
 pub pieces-more : {X : Type 0} (f : X → List ℕ) (xs : List X) (k : ℕ) (x : X) → k < length xs → x ≡ get_or xs k x → flat_map f (take (k + 1) xs) ≡ flat_map f (take k xs) ++ f x
 pieces-more f xs k x lt is =

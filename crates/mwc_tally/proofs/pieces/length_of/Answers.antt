@@ -7,10 +7,3 @@ pub overflow_add-length : goal.overflow_add-length
 overflow_add-length c =
     let less = pieces-length (λ p. p.now) c.args.pieces.now c.loop-piece.piece-index c.piece-item.result c.loop-piece-test.true c.piece-item.is in
     omega (arith, less, c.loop-piece.invariant, c.requires)
-
-pub loop-piece-preserved : goal.loop-piece-preserved
-loop-piece-preserved c =
-    let more = ap (λ (l : List ℕ). length l) (pieces-more (λ p. p.now) c.args.pieces.now c.loop-piece.piece-index c.piece-item.result c.loop-piece-test.true c.piece-item.is) in
-    let before : List ℕ = flat_map (λ p. p.now) (take c.loop-piece.piece-index c.args.pieces.now) in
-    let long = length-append before c.piece-item.result.now in
-    omega (arith, more, long, c.loop-piece.invariant)
