@@ -1,10 +1,11 @@
 -- What is still to come is the end of the slice.
-use Rattle.std.proofs.Common.{◌≡◌, ℕ, zero, suc, ◌+◌, ◌-◌, ◌*◌, ◌/◌, ◌^◌, ◌≤◌, Bool, true, cond, eqb, List, [], ◌∷◌, ◌++◌, length, drop, sym, ap, ◌∙◌, arith, inl, inr}
+use Rattle.std.proofs.Common.{◌≡◌, ℕ, ◌+◌, ◌-◌, ◌*◌, ◌/◌, ◌^◌, ◌≤◌, Bool, true, cond, eqb, List, ◌++◌, length, drop, refl, sym, ap, ◌∙◌, arith}
 use Rattle.std.specs.List.{filter}
 use Rattle.std.proofs.Math.Nat.{mul-add}
 use Rattle.std.proofs.Math.Seq.{drop-append_seam}
-use Rattle.std.proofs.lemmas.Bool.{cases_Bool, cond-true, cond-false, cond_both}
+use Rattle.std.proofs.lemmas.Bool.{cond_both}
 use Rattle.std.proofs.lemmas.List.{length-append}
+use Rattle.std.proofs.lemmas.List.Elements.{filter-append}
 use Rattle.std.proofs.lemmas.Nat.{mul-le, pow-add}
 use Rattle.council_game.specs.Votes.{Votes, minimal, down, minimal_coalitions}
 use Rattle.council_game.specs.Inner.Below.{minimal_below}
@@ -12,6 +13,7 @@ use Rattle.mwc_walk.specs.Slices.{slice}
 use Rattle.mwc_walk.specs.Inner.Places.{in_slice, slice_below}
 use Rattle.mwc_walk.specs.declared.cursor.Cursor.{Cursor}
 use Rattle.mwc_walk.specs.Inner.Cursor.{bound, rest_of_slice, CursorIs}
+use Rattle.mwc_walk.proofs.Descending.{above, down-split}
 use Rattle.mwc_walk.proofs.Steps.{rest-most}
 
 -- a list that ends with another
@@ -19,26 +21,12 @@ record EndsWith (whole end : List ℕ) : Type 0 where
   pub front : List ℕ
   pub joined : whole ≡ front ++ end
 
-ends-more : (b : Bool) (x : ℕ) (whole end : List ℕ) → EndsWith whole end → EndsWith (cond b (x ∷ whole) whole) end
-ends-more b x whole end is =
-    elim (cases_Bool b) [
-      | inl yes' ↦ record { front = x ∷ is.front; joined = cond-true b (x ∷ whole) whole yes' ∙ ap (λ (l : List ℕ). x ∷ l) is.joined }
-      | inr no' ↦ record { front = is.front; joined = cond-false b (x ∷ whole) whole no' ∙ is.joined }
-    ]
-
 -- of two descending counts, filtered, the longer ends with the shorter
 filter-ends : (q p : ℕ → Bool) (low more : ℕ) → EndsWith (filter q (filter p (down (low + more)))) (filter q (filter p (down low)))
-unfolding down
-filter-ends q p low zero = record { front = []; joined = ap (λ (i : ℕ). filter q (filter p (down i))) (let e : low + 0 ≡ low = omega arith in e) }
-filter-ends q p low (suc more) =
-    let e : suc (low + more) ≡ low + suc more = omega arith in
-    let rest = filter-ends q p low more in
-    let here : EndsWith (filter q (filter p (down (suc (low + more))))) (filter q (filter p (down low))) =
-    elim (cases_Bool (p (low + more))) [
-      | inl yes' ↦ rw yes' (ends-more (q (low + more)) (low + more) (filter q (filter p (down (low + more)))) (filter q (filter p (down low))) rest)
-      | inr no' ↦ rw no' rest
-    ] in
-    rw (← e) here
+filter-ends q p low more = record {
+  front = filter q (filter p (above low more));
+  joined = rw (down-split low more, filter-append p (above low more) (down low), filter-append q (filter p (above low more)) (filter p (down low))) refl;
+}
 
 left-ends : (v : Votes) (k j b : ℕ) → b ≤ 2 ^ v.members → EndsWith (slice v k j) (slice_below v k j b)
 unfolding slice_below minimal_below in_slice slice minimal_coalitions

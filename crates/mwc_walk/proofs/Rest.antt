@@ -1,23 +1,17 @@
 -- What is left of a slice, at a place of the walk.
-use Rattle.std.proofs.Common.{◌≡◌, ℕ, zero, suc, ◌+◌, ◌-◌, ◌*◌, ◌/◌, ◌%◌, ◌^◌, ◌<◌, ◌≤◌, Bool, true, false, eqb, List, [], ◌∷◌, sym, ap, ◌∙◌, subst, arith, inl, inr, cond}
+use Rattle.std.proofs.Common.{◌≡◌, ℕ, ◌+◌, ◌-◌, ◌*◌, ◌/◌, ◌%◌, ◌^◌, ◌<◌, ◌≤◌, true, false, eqb, List, [], ◌∷◌, sym, ap, ◌∙◌, arith}
 use Rattle.std.specs.List.{filter}
 use Rattle.std.proofs.lemmas.Nat.Bits.{bit_at_cat_low}
-use Rattle.std.proofs.lemmas.Nat.{div-mul-add, pow_pos, pow-add, mul-le}
-use Rattle.std.proofs.Math.Nat.{lt-div-mul-add, div-mul-le_self}
-use Rattle.std.proofs.lemmas.Bool.{cases_Bool, and_left, eq-eqb, ne_eqb, cond-false, cond-true, false_from_ne_true, both_ways}
+use Rattle.std.proofs.lemmas.Nat.{pow_pos, pow-add, mul-le}
+use Rattle.std.proofs.lemmas.Bool.{and_left, eq-eqb, cond-true, false_from_ne_true, both_ways}
 use Rattle.council_game.specs.Votes.{Votes, IsVotes, has, without, wins, minimal, down, minimal_coalitions}
 use Rattle.council_game.specs.Inner.Below.{minimal_below}
 use Rattle.council_game.proofs.Meanings.{needs-each-member}
 use Rattle.mwc_walk.specs.Slices.{slice}
 use Rattle.mwc_walk.specs.Inner.Places.{in_slice, slice_below, reaches, wins_at}
-use Rattle.mwc_walk.proofs.Blocks.{filter-down_skip, filter-down_take, some_digit}
+use Rattle.mwc_walk.proofs.Blocks.{some_digit}
+use Rattle.mwc_walk.proofs.Descending.{filter-down_skip, filter-filter_skip, filter-filter_none, filter-down_take, block-prefix, before-block, past-block}
 use Rattle.mwc_walk.proofs.Rules.{wins-below, loses-below}
-
--- numbers of one block have one prefix
-pub block-prefix : (x h c : ℕ) → x * 2 ^ h ≤ c → c < x * 2 ^ h + 2 ^ h → c / 2 ^ h ≡ x
-block-prefix x h c low high =
-    let e : c ≡ x * 2 ^ h + (c - x * 2 ^ h) = omega arith in
-    ap (λ (i : ℕ). i / 2 ^ h) e ∙ div-mul-add x (2 ^ h) (c - x * 2 ^ h) (omega arith)
 
 pub next-block : (x h : ℕ) → (x + 1) * 2 ^ h ≡ x * 2 ^ h + 2 ^ h
 next-block x h = omega arith
@@ -80,47 +74,18 @@ left-take v k j c h inside =
     ap (λ (l : List ℕ). filter (λ d. eqb (d / 2 ^ (v.members - k)) (2 ^ k - 1 - j)) l) (filter-down_take (minimal v) c h)
     ∙ cond-true (eqb (c / 2 ^ (v.members - k)) (2 ^ k - 1 - j)) _ _ (eq-eqb _ _ inside)
 
--- numbers outside the slice may be left out at the top
-pub filter-filter_skip : (q p : ℕ → Bool) (low more : ℕ) → ((c : ℕ) → low ≤ c → c < low + more → q c ≡ false) → filter q (filter p (down (low + more))) ≡ filter q (filter p (down low))
-unfolding down
-filter-filter_skip q p low zero fails = ap (λ (i : ℕ). filter q (filter p (down i))) (let e : low + 0 ≡ low = omega arith in e)
-filter-filter_skip q p low (suc more) fails =
-    let e : low + suc more ≡ suc (low + more) = omega arith in
-    let here : q (low + more) ≡ false = fails (low + more) (omega arith) (omega arith) in
-    let rest = filter-filter_skip q p low more (λ c above below. fails c above (omega arith)) in
-    ap (λ (i : ℕ). filter q (filter p (down i))) e
-    ∙ (elim (cases_Bool (p (low + more))) [
-      | inl is ↦ ap (λ (b : Bool). filter q (cond b ((low + more) ∷ filter p (down (low + more))) (filter p (down (low + more))))) is ∙ cond-false (q (low + more)) _ _ here
-      | inr isnt ↦ ap (λ (b : Bool). filter q (cond b ((low + more) ∷ filter p (down (low + more))) (filter p (down (low + more))))) isnt
-    ])
-    ∙ rest
-
 -- where the walk starts, the whole slice is left
 pub left-all : (v : Votes) (k j : ℕ) → k ≤ v.members → j < 2 ^ k → slice_below v k j ((2 ^ k - 1 - j + 1) * 2 ^ (v.members - k)) ≡ slice v k j
 unfolding slice_below minimal_below in_slice slice minimal_coalitions
 left-all v k j le below =
-    let x : ℕ = 2 ^ k - 1 - j in
     let whole : 2 ^ v.members ≡ 2 ^ k * 2 ^ (v.members - k) = ap (λ (i : ℕ). 2 ^ i) (let e : v.members ≡ k + (v.members - k) = omega arith in e) ∙ pow-add 2 k (v.members - k) in
     let m : (2 ^ k - 1 - j + 1) * 2 ^ (v.members - k) ≤ 2 ^ k * 2 ^ (v.members - k) = mul-le (2 ^ k - 1 - j + 1) (2 ^ (v.members - k)) (2 ^ k) (2 ^ (v.members - k)) (omega arith) (omega arith) in
-    let fails : (c : ℕ) → (2 ^ k - 1 - j + 1) * 2 ^ (v.members - k) ≤ c → eqb (c / 2 ^ (v.members - k)) (2 ^ k - 1 - j) ≡ false =
-    λ c low. ne_eqb _ _ (λ e.
-    let pos : 0 < 2 ^ (v.members - k) = pow_pos (v.members - k) in
-    let up : c < c / 2 ^ (v.members - k) * 2 ^ (v.members - k) + 2 ^ (v.members - k) = lt-div-mul-add pos in
-    let up' : c < (2 ^ k - 1 - j) * 2 ^ (v.members - k) + 2 ^ (v.members - k) = subst (λ (i : ℕ). c < i * 2 ^ (v.members - k) + 2 ^ (v.members - k)) e up in
-    omega (arith, next-block (2 ^ k - 1 - j) (v.members - k))) in
     let e : (2 ^ k - 1 - j + 1) * 2 ^ (v.members - k) + (2 ^ v.members - (2 ^ k - 1 - j + 1) * 2 ^ (v.members - k)) ≡ 2 ^ v.members = omega arith in
-    sym (filter-filter_skip (λ c. eqb (c / 2 ^ (v.members - k)) (2 ^ k - 1 - j)) (minimal v) ((2 ^ k - 1 - j + 1) * 2 ^ (v.members - k)) (2 ^ v.members - (2 ^ k - 1 - j + 1) * 2 ^ (v.members - k)) (λ c low high. fails c low))
-    ∙ ap (λ (i : ℕ). filter (λ c. eqb (c / 2 ^ (v.members - k)) (2 ^ k - 1 - j)) (filter (minimal v) (down i))) e
+    sym (rw e at (filter-filter_skip (λ c. eqb (c / 2 ^ (v.members - k)) (2 ^ k - 1 - j)) (minimal v) ((2 ^ k - 1 - j + 1) * 2 ^ (v.members - k)) (2 ^ v.members - (2 ^ k - 1 - j + 1) * 2 ^ (v.members - k))
+    (λ c low high. past-block (2 ^ k - 1 - j) (v.members - k) c low)))
 
 -- where it ends, nothing is
 pub left-none : (v : Votes) (k j : ℕ) → slice_below v k j ((2 ^ k - 1 - j) * 2 ^ (v.members - k)) ≡ []
-unfolding slice_below minimal_below in_slice down
+unfolding slice_below minimal_below in_slice
 left-none v k j =
-    let pos : 0 < 2 ^ (v.members - k) = pow_pos (v.members - k) in
-    let fails : (c : ℕ) → c < (2 ^ k - 1 - j) * 2 ^ (v.members - k) → eqb (c / 2 ^ (v.members - k)) (2 ^ k - 1 - j) ≡ false =
-    λ c high. ne_eqb _ _ (λ e.
-    let up : c / 2 ^ (v.members - k) * 2 ^ (v.members - k) ≤ c = div-mul-le_self c (2 ^ (v.members - k)) in
-    let up' : (2 ^ k - 1 - j) * 2 ^ (v.members - k) ≤ c = subst (λ (i : ℕ). i * 2 ^ (v.members - k) ≤ c) e up in
-    omega arith) in
-    ap (λ (i : ℕ). filter (λ c. eqb (c / 2 ^ (v.members - k)) (2 ^ k - 1 - j)) (filter (minimal v) (down i))) (let e : (2 ^ k - 1 - j) * 2 ^ (v.members - k) ≡ 0 + (2 ^ k - 1 - j) * 2 ^ (v.members - k) = omega arith in e)
-    ∙ filter-filter_skip (λ c. eqb (c / 2 ^ (v.members - k)) (2 ^ k - 1 - j)) (minimal v) 0 ((2 ^ k - 1 - j) * 2 ^ (v.members - k)) (λ c low high. fails c (omega arith))
+    filter-filter_none (λ c. eqb (c / 2 ^ (v.members - k)) (2 ^ k - 1 - j)) (minimal v) ((2 ^ k - 1 - j) * 2 ^ (v.members - k)) (before-block (2 ^ k - 1 - j) (v.members - k))

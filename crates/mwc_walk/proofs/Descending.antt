@@ -1,0 +1,89 @@
+-- The numbers below a bound, descending, filtered.
+use Rattle.std.proofs.Common.{◌≡◌, ℕ, zero, suc, ◌+◌, ◌-◌, ◌*◌, ◌/◌, ◌^◌, ◌<◌, ◌≤◌, Bool, true, false, ◌&&◌, eqb, List, [], ◌∷◌, ◌++◌, refl, sym, ap, ◌∙◌, subst, arith, zero-add, inl, inr}
+use Rattle.std.specs.List.{filter}
+use Rattle.std.proofs.Math.Bool.{and-true}
+use Rattle.std.proofs.Math.Nat.{lt-div-mul-add, div-mul-le_self}
+use Rattle.std.proofs.lemmas.Bool.{cases_Bool, and_right, ne_eqb}
+use Rattle.std.proofs.lemmas.List.{append-nil}
+use Rattle.std.proofs.lemmas.List.Elements.{filter-append}
+use Rattle.std.proofs.lemmas.Nat.{div-mul-add, pow_pos}
+use Rattle.council_game.specs.Votes.{down}
+
+-- the numbers from low on, as many as there are more
+abbrev pub above : ℕ → ℕ → List ℕ
+above low zero = []
+above low (suc more) = (low + more) ∷ above low more
+
+pub down-split : (low more : ℕ) → down (low + more) ≡ above low more ++ down low
+unfolding down
+down-split low zero = ap down (let e : low + 0 ≡ low = omega arith in e)
+down-split low (suc more) =
+    let e : low + suc more ≡ suc (low + more) = omega arith in
+    ap down e ∙ ap (λ (l : List ℕ). (low + more) ∷ l) (down-split low more)
+
+-- both tests at once
+filter-filter : (q p : ℕ → Bool) (xs : List ℕ) → filter q (filter p xs) ≡ filter (λ c. p c && q c) xs
+filter-filter q p [] = refl
+filter-filter q p (x ∷ xs) =
+    elim (cases_Bool (p x)) [
+      | inl passes ↦ rw (passes, filter-filter q p xs) refl
+      | inr fails ↦ rw (fails, filter-filter q p xs) refl
+    ]
+
+-- tests that agree on these numbers
+filter-above : (p q : ℕ → Bool) (low more : ℕ) → ((c : ℕ) → low ≤ c → c < low + more → p c ≡ q c) → filter p (above low more) ≡ filter q (above low more)
+filter-above p q low zero same = refl
+filter-above p q low (suc more) same =
+    rw (same (low + more) (omega arith) (omega arith), filter-above p q low more (λ c from to. same c from (omega arith))) refl
+
+filter-never : (xs : List ℕ) → filter (λ (c : ℕ). false) xs ≡ []
+filter-never [] = refl
+filter-never (x ∷ xs) = filter-never xs
+
+-- numbers that fail the test may be left out at the top
+pub filter-down_skip : (p : ℕ → Bool) (low more : ℕ) → ((c : ℕ) → low ≤ c → c < low + more → p c ≡ false) → filter p (down (low + more)) ≡ filter p (down low)
+filter-down_skip p low more fails =
+    rw (down-split low more, filter-append p (above low more) (down low), filter-above p (λ c. false) low more fails, filter-never (above low more)) refl
+
+pub filter-filter_skip : (q p : ℕ → Bool) (low more : ℕ) → ((c : ℕ) → low ≤ c → c < low + more → q c ≡ false) → filter q (filter p (down (low + more))) ≡ filter q (filter p (down low))
+filter-filter_skip q p low more fails =
+    filter-filter q p (down (low + more))
+    ∙ filter-down_skip (λ c. p c && q c) low more (λ c from to. and_right (p c) (q c) (fails c from to))
+    ∙ sym (filter-filter q p (down low))
+
+pub filter-filter_none : (q p : ℕ → Bool) (n : ℕ) → ((c : ℕ) → c < n → q c ≡ false) → filter q (filter p (down n)) ≡ []
+unfolding down
+filter-filter_none q p n fails = rw zero-add at (filter-filter_skip q p 0 n (λ c from to. fails c (omega arith)))
+
+-- a number that passes is the first
+pub filter-down_take : (p : ℕ → Bool) (c : ℕ) → p c ≡ true → filter p (down (c + 1)) ≡ c ∷ filter p (down c)
+filter-down_take p c passes =
+    let e : c + 0 ≡ c = omega arith in
+    rw (down-split c 1, e, passes) refl
+
+-- the top, which passes q, then the rest, which does not
+pub filter-block : (q p : ℕ → Bool) (low more : ℕ) → ((c : ℕ) → low ≤ c → c < low + more → q c ≡ true) → ((c : ℕ) → c < low → q c ≡ false)
+    → filter p (down (low + more)) ≡ filter q (filter p (down (low + more))) ++ filter p (down low)
+filter-block q p low more passes fails =
+    let top : filter q (filter p (above low more)) ≡ filter p (above low more) =
+    filter-filter q p (above low more) ∙ filter-above _ p low more (λ c from to. rw (passes c from to) (and-true (p c))) in
+    let none = filter-filter_none q p low fails in
+    rw (down-split low more, filter-append p (above low more) (down low), filter-append q (filter p (above low more)) (filter p (down low)), top, none, append-nil (filter p (above low more))) refl
+
+-- ---- the numbers of a block, which have one quotient
+pub block-prefix : (x h c : ℕ) → x * 2 ^ h ≤ c → c < x * 2 ^ h + 2 ^ h → c / 2 ^ h ≡ x
+block-prefix x h c low high =
+    let e : c ≡ x * 2 ^ h + (c - x * 2 ^ h) = omega arith in
+    ap (λ (i : ℕ). i / 2 ^ h) e ∙ div-mul-add x (2 ^ h) (c - x * 2 ^ h) (omega arith)
+
+pub before-block : (x h c : ℕ) → c < x * 2 ^ h → eqb (c / 2 ^ h) x ≡ false
+before-block x h c high =
+    ne_eqb _ _ (λ same.
+    let low : x * 2 ^ h ≤ c = subst (λ (i : ℕ). i * 2 ^ h ≤ c) same (div-mul-le_self c (2 ^ h)) in
+    omega arith)
+
+pub past-block : (x h c : ℕ) → (x + 1) * 2 ^ h ≤ c → eqb (c / 2 ^ h) x ≡ false
+past-block x h c low =
+    ne_eqb _ _ (λ same.
+    let high : c < x * 2 ^ h + 2 ^ h = subst (λ (i : ℕ). c < i * 2 ^ h + 2 ^ h) same (lt-div-mul-add (pow_pos h)) in
+    omega arith)
