@@ -8,7 +8,9 @@ use Rattle.mwc_parts.specs.declared.met.Met.{Met}
 abbrev pub fault_of : Met → Option GatherFault
 fault_of met =
     if met.start then Some Start
-    else (if met.memory then Some Memory else (if met.ring then Some Ring else (if met.many then Some TooMany else None)))
+    else (if met.memory then Some Memory
+    else (if met.ring then Some Ring
+    else (if met.many then Some TooMany else None)))
 
 -- nothing was met
 abbrev pub nothing : Met

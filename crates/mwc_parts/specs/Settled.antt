@@ -18,7 +18,8 @@ abbrev pub has_cut : List Word → Bool
 has_cut words = list_any is_cut words
 
 -- all that was given was sent whole, and the worker was told that there are no more
-pub record IsSentWhole (g : Slicing) (most : ℕ) (given : List ℕ) (told : Bool) (words : List Word) : Type 0 where
+pub record IsSentWhole (g : Slicing) (most : ℕ) (given : List ℕ) (told : Bool) (words : List Word)
+    : Type 0 where
   pub words_are : words ≡ wording g given ++ End false ∷ []
   pub was_told : told ≡ true
   pub few : coalition_count g given ≤ most
@@ -30,7 +31,8 @@ pub record IsCutShort (g : Slicing) (most : ℕ) (given : List ℕ) (words : Lis
   pub many : most < coalition_count g given
 
 abbrev pub AreSettled : Slicing → ℕ → List ℕ → Bool → List Word → Type 0
-AreSettled g most given told words = IsSentWhole g most given told words ⊎ IsCutShort g most given words
+AreSettled g most given told words =
+    IsSentWhole g most given told words ⊎ IsCutShort g most given words
 
 -- what a draft keeps of these words: whether there was a cut, and where nothing was lost, the coalitions and where each slice ends
 pub record IsDraftOf (words : List Word) (draft : Draft) : Type 0 where
@@ -39,7 +41,8 @@ pub record IsDraftOf (words : List Word) (draft : Draft) : Type 0 where
   pub ends_are : draft.lost ≡ false → draft.ends.items ≡ done_counts 0 words
 
 -- a draft of all words of a worker that was given these slices, and has ended
-pub record HasAllWords (g : Slicing) (most : ℕ) (given : List ℕ) (told : Bool) (draft : Draft) : Type 0 where
+pub record HasAllWords (g : Slicing) (most : ℕ) (given : List ℕ) (told : Bool) (draft : Draft)
+    : Type 0 where
   pub words : List Word
   pub settled : AreSettled g most given told words
   pub keeps : IsDraftOf words draft

@@ -38,7 +38,8 @@ impl Draft {
 
     /// Keeps one more word.
     pub fn hear(&mut self, word: Word)
-        ensures keeps { (words : List Word) → IsDraftOf words self.old → IsDraftOf (words ++ word ∷ []) self.new }
+        ensures keeps { (words : List Word) → IsDraftOf words self.old →
+            IsDraftOf (words ++ word ∷ []) self.new }
         ensures lost { self.new.lost ≡ false → self.old.lost ≡ false }
         ensures cut { self.new.cut ≡ false → self.old.cut ≡ false }
     {
@@ -55,7 +56,8 @@ impl Draft {
 
     /// Keeps the words of a row, for whose coalitions room is made once.
     pub fn hear_row(&mut self, row: &[Word])
-        ensures keeps { (words : List Word) → IsDraftOf words self.old → IsDraftOf (words ++ row.now) self.new }
+        ensures keeps { (words : List Word) → IsDraftOf words self.old →
+            IsDraftOf (words ++ row.now) self.new }
         ensures lost { self.new.lost ≡ false → self.old.lost ≡ false }
         ensures cut { self.new.cut ≡ false → self.old.cut ≡ false }
     {

@@ -43,9 +43,12 @@ impl Gathered {
     /// Memory where a growth was refused.
     pub fn pieces(&self, alloc: Global) -> Result<Vec<&[Coalition]>, Memory>
         ensures each { (slice : ℕ → List ℕ) → All (HasPieces slice) self.now.parts.items
-            → IfOk result (λ row. map (λ p. p.now) row.items ≡ map slice (range_with_len 0 self.now.slices)) }
+            → IfOk result (λ row.
+            map (λ p. p.now) row.items ≡ map slice (range_with_len 0 self.now.slices)) }
         ensures joined { (slice : ℕ → List ℕ) → All (HasPieces slice) self.now.parts.items
-            → IfOk result (λ row. flat_map (λ p. p.now) row.items ≡ flat_map slice (range_with_len 0 self.now.slices)) }
+            → IfOk result (λ row.
+            flat_map (λ p. p.now) row.items ≡
+            flat_map slice (range_with_len 0 self.now.slices)) }
     {
         let mut row = Vec::new(alloc);
         for number in 0..self.slices {
@@ -57,7 +60,8 @@ impl Gathered {
     /// The piece of a slice.
     fn piece(&self, j: u16) -> &[Coalition]
         requires { j < self.now.slices }
-        ensures { (slice : ℕ → List ℕ) → All (HasPieces slice) self.now.parts.items → result.now ≡ slice j }
+        ensures { (slice : ℕ → List ℕ) → All (HasPieces slice) self.now.parts.items
+            → result.now ≡ slice j }
     {
         for part in &self.parts {
             if let Some(m) = part.place(j) {

@@ -39,7 +39,8 @@ impl Marks {
         requires slice { slice < length self.old }
         requires worker { worker < 16 }
         ensures given { IsTrue result ↔ slice_index_or self.old slice None ≡ None }
-        ensures marks { self.new ≡ (if result then slice_set self.old slice (Some worker) else self.old) }
+        ensures marks { self.new ≡
+            (if result then slice_set self.old slice (Some worker) else self.old) }
     {
         if self.holders[usize::from(slice)].is_some() {
             return false;

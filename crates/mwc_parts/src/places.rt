@@ -10,7 +10,8 @@ impl Part {
     /// Where the slice stands, if it does.
     pub(crate) fn place(&self, slice: u16) -> Option<usize>
         ensures { MatchOption result (times_in slice self.now.slices.items ≡ 0)
-            (λ m. (m < length self.now.slices.items) × (slice_index self.now.slices.items m ≡ slice)) }
+            (λ m. (m < length self.now.slices.items) ×
+            (slice_index self.now.slices.items m ≡ slice)) }
     {
         for (m, number) in self.slices.iter().enumerate() {
             if *number == slice {

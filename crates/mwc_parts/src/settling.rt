@@ -16,15 +16,18 @@ use crate::part::Part;
 ///
 /// Memory where words were lost, else TooMany where the sending was cut.
 pub fn settle(given: Vec<u16>, draft: Draft) -> Result<Part, GatherFault>
-    requires { (g : Slicing) × (most : ℕ) × (told : Bool) × HasAllWords g most given.items told draft }
+    requires { (g : Slicing) × (most : ℕ) × (told : Bool) ×
+        HasAllWords g most given.items told draft }
     ensures slices { IfOk result (λ p. p.slices.items ≡ given.items) }
     ensures part { IfOk result (λ p. (g : Slicing) (most : ℕ) (told : Bool)
         → HasAllWords g most given.items told draft → IsPart g p × (told ≡ true)) }
     ensures memory { (result ≡ Err GatherFault.Memory) ↔ (draft.lost ≡ true) }
-    ensures too_many { (result ≡ Err GatherFault.TooMany) ↔ ((draft.lost ≡ false) × (draft.cut ≡ true)) }
+    ensures too_many { (result ≡ Err GatherFault.TooMany) ↔
+        ((draft.lost ≡ false) × (draft.cut ≡ true)) }
     ensures no_other { (result ≢ Err GatherFault.Start) × (result ≢ Err GatherFault.Ring) }
     ensures well { IfOk result (λ p. (draft.lost ≡ false) × (draft.cut ≡ false)) }
-    ensures many { (g : Slicing) (most : ℕ) (told : Bool) → HasAllWords g most given.items told draft
+    ensures many { (g : Slicing) (most : ℕ) (told : Bool)
+        → HasAllWords g most given.items told draft
         → result ≡ Err GatherFault.TooMany → most < coalition_count g given.items }
 {
     if draft.lost {

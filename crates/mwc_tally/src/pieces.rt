@@ -50,7 +50,8 @@ fn length_of(pieces: &[&[Coalition]]) -> usize
 fn of_part(game: &Game, pieces: &[&[Coalition]], skip: usize, most: usize) -> WideCounts
     requires few { length (flat_map (λ p. p.now) pieces.now) ≤ 2 ^ 40 }
     requires coalitions { AreNonemptyCoalitions game.now (flat_map (λ p. p.now) pieces.now) }
-    ensures { AreTallies game.now (take most (drop skip (flat_map (λ p. p.now) pieces.now))) result }
+    ensures { AreTallies game.now
+        (take most (drop skip (flat_map (λ p. p.now) pieces.now))) result }
 {
     let mut counts = WideCounts::none(game);
     let mut skip = skip;
@@ -90,10 +91,12 @@ pub fn tally_pieces<R: Threads + Wait + Sync>(
         rt,
         move |scope| -> Result<WideCounts, TallyFault>
             requires few { length (flat_map (λ p. p.now) pieces.now) ≤ 2 ^ 40 }
-            requires coalitions { AreNonemptyCoalitions game.now (flat_map (λ p. p.now) pieces.now) }
+            requires coalitions { AreNonemptyCoalitions game.now
+                (flat_map (λ p. p.now) pieces.now) }
             requires part { part ≤ 2 ^ 41 }
             requires threads { (1 ≤ threads) × (threads ≤ 16) }
-            ensures ok { IfOk result (AreTallies game.entry.now (flat_map (λ p. p.now) pieces.entry.now)) }
+            ensures ok { IfOk result
+                (AreTallies game.entry.now (flat_map (λ p. p.now) pieces.entry.now)) }
             ensures err { IfErr result (λ fault. fault ≡ TallyFault.Start) }
         { count_from(scope, rt, game, pieces, 0, part, threads - 1) },
     )
@@ -121,7 +124,8 @@ fn start<'s, E>(
     let body = move || -> WideCounts
         requires few { length (flat_map (λ p. p.now) pieces.now) ≤ 2 ^ 40 }
         requires coalitions { AreNonemptyCoalitions game.now (flat_map (λ p. p.now) pieces.now) }
-        ensures { AreTallies game.entry.now (take most (drop skip (flat_map (λ p. p.now) pieces.entry.now))) result }
+        ensures { AreTallies game.entry.now
+            (take most (drop skip (flat_map (λ p. p.now) pieces.entry.now))) result }
     { of_part(game, pieces, skip, most) };
     scope.spawn_with(given, body).ok()
 }

@@ -45,7 +45,8 @@ impl Share {
         counts: &WideCounts,
     ) -> Result<(), Memory>
         requires own { IsShare game.now bits self.old }
-        requires more { AreTallies game.now (flat_map (slice (votes_of game.now) bits) taken.now) counts.now }
+        requires more { AreTallies game.now
+            (flat_map (slice (votes_of game.now) bits) taken.now) counts.now }
         ensures { IsShare game.now bits self.new }
     {
         if self.counts.total() + counts.total() > MOST {

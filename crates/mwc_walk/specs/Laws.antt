@@ -6,4 +6,5 @@ use Rattle.mwc_walk.specs.Slices.{slice}
 
 -- at up to 10 bits, and no more than members, the slices 0, 1, .., joined are the minimal winning coalitions
 abbrev pub SlicesMakeTheWhole : Votes → Type 0
-SlicesMakeTheWhole v = (k : ℕ) → k ≤ 10 → k ≤ v.members → flat_map (slice v k) (range_with_len 0 (2 ^ k)) ≡ minimal_coalitions v
+SlicesMakeTheWhole v = (k : ℕ) → k ≤ 10 → k ≤ v.members →
+    flat_map (slice v k) (range_with_len 0 (2 ^ k)) ≡ minimal_coalitions v

@@ -126,7 +126,8 @@ impl Cursor {
     fn is_minimal(&self, game: &Game, coalition: Coalition) -> bool
         requires is { CursorIs (votes_of game.now) self.now }
         requires won { wins_at (votes_of game.now).rules self.now.place self.now.prefix ≡ true }
-        requires mask { coalition ≡ self.now.prefix * 2 ^ ((votes_of game.now).members - self.now.place) }
+        requires mask { coalition ≡
+            self.now.prefix * 2 ^ ((votes_of game.now).members - self.now.place) }
         ensures { result ≡ minimal (votes_of game.now) coalition }
     {
         if self.rules == 1 && self.place > self.bits {

@@ -25,7 +25,8 @@ impl Lane {
     /// The lane of a rule, with no member in.
     pub(crate) fn new(game: &Game, rule: usize) -> Lane
         requires { rule < length game.now.rules }
-        ensures { LaneIs (votes_of game.now).members 0 0 (rule_at (votes_of game.now).rules rule) result }
+        ensures { LaneIs (votes_of game.now).members 0 0
+            (rule_at (votes_of game.now).rules rule) result }
     {
         let members = game.members();
         let weights = weights_of(game, rule);
@@ -80,7 +81,8 @@ fn weights_of(game: &Game, rule: usize) -> [u64; limits::MEMBERS]
 fn rest_of(weights: &[u64; limits::MEMBERS], members: usize) -> [u64; limits::SIZES]
     requires members { members ≤ 40 }
     requires fits { sum (take members weights.now) < 2 ^ 64 }
-    ensures { (q : ℕ) → q ≤ members → slice_index result q ≡ sum (drop q (take members weights.now)) }
+    ensures { (q : ℕ) → q ≤ members →
+        slice_index result q ≡ sum (drop q (take members weights.now)) }
 {
     let mut rest = [0; limits::SIZES];
     for place in (0..members).rev() {

@@ -82,7 +82,8 @@ impl<'a> Walk<'a> {
             drop (given_count self.now) (slice self.now.votes self.now.bits self.now.number) }
         ensures least { given_count self.now ≤ result }
         ensures most { length self.now.votes.rules ≡ 1 →
-            result ≤ self.now.bits + (self.now.votes.members - self.now.bits) * given_count self.now }
+            result ≤ self.now.bits +
+            (self.now.votes.members - self.now.bits) * given_count self.now }
     {
         self.cursor.visits
     }

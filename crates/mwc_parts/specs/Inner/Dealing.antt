@@ -27,7 +27,8 @@ given_slices seats = map (λ (s : Seat). s.given) seats
 
 -- the slices 0 to n - 1 are dealt in order, until they are all given or the deal is stopped; it is stopped exactly where a start failed early,
 -- something was lost, or a cut was told; and where a start failed nothing is given
-pub record DealsInOrder (n : ℕ) (early : Bool) (marks : List (Option ℕ)) (stopped : Bool) (seats : List Seat) : Type 0 where
+pub record DealsInOrder (n : ℕ) (early : Bool) (marks : List (Option ℕ)) (stopped : Bool)
+    (seats : List Seat) : Type 0 where
   pub holders : List ℕ
   pub free : ℕ
   pub marks_are : marks ≡ map Some holders ++ replicate free None
@@ -39,12 +40,15 @@ pub record DealsInOrder (n : ℕ) (early : Bool) (marks : List (Option ℕ)) (st
   pub none_early : early ≡ true → holders ≡ []
 
 -- of the slices that are dealt in order the first k go to workers 0 to k - 1
-pub record DealsInTurn (n k : ℕ) (early : Bool) (marks : List (Option ℕ)) (stopped : Bool) (seats : List Seat) : Type 0 where
+pub record DealsInTurn (n k : ℕ) (early : Bool) (marks : List (Option ℕ)) (stopped : Bool)
+    (seats : List Seat) : Type 0 where
   pub in_order : DealsInOrder n early marks stopped seats
-  pub begins : stopped ≡ false → (w : ℕ) → w < k → w < n → (w < length in_order.holders) × (slice_index in_order.holders w ≡ w)
+  pub begins : stopped ≡ false → (w : ℕ) → w < k → w < n →
+      (w < length in_order.holders) × (slice_index in_order.holders w ≡ w)
 
 -- nothing is given: the worker has not finished its slices, or it is told that there are no more, since all is given or the deal is stopped
-pub record GivesNothing (done : Bool) (marks : List (Option ℕ)) (s : Seat) (after : List (Option ℕ)) (stopped : Bool) (t : Seat) : Type 0 where
+pub record GivesNothing (done : Bool) (marks : List (Option ℕ)) (s : Seat)
+    (after : List (Option ℕ)) (stopped : Bool) (t : Seat) : Type 0 where
   pub marks_stay : after ≡ marks
   pub given_stay : t.given ≡ s.given
   pub idle_is : t.idle ≡ (s.idle || done)
@@ -52,7 +56,8 @@ pub record GivesNothing (done : Bool) (marks : List (Option ℕ)) (s : Seat) (af
   pub why : t.idle ≡ true → t.told ≡ true
 
 -- the lowest slice without a holder is given to worker w, which has finished its slices, in a deal that is not stopped
-pub record GivesOne (done : Bool) (marks : List (Option ℕ)) (stopped : Bool) (s : Seat) (w : ℕ) (after : List (Option ℕ)) (t : Seat) : Type 0 where
+pub record GivesOne (done : Bool) (marks : List (Option ℕ)) (stopped : Bool) (s : Seat) (w : ℕ)
+    (after : List (Option ℕ)) (t : Seat) : Type 0 where
   pub slice : ℕ
   pub goes_on : stopped ≡ false
   pub finished : (s.idle || done) ≡ true
@@ -62,14 +67,16 @@ pub record GivesOne (done : Bool) (marks : List (Option ℕ)) (stopped : Bool) (
   pub told_not : t.told ≡ false
 
 -- one turn of worker w, in which it has, or has not, said that a slice is done: a loss or a cut that is met in it stops the deal before anything is given
-pub record TakesTurn (done : Bool) (marks : List (Option ℕ)) (stopped : Bool) (s : Seat) (w : ℕ) (after : List (Option ℕ)) (stops : Bool) (t : Seat) : Type 0 where
+pub record TakesTurn (done : Bool) (marks : List (Option ℕ)) (stopped : Bool) (s : Seat) (w : ℕ)
+    (after : List (Option ℕ)) (stops : Bool) (t : Seat) : Type 0 where
   pub lost_stays : t.lost ≡ false → s.lost ≡ false
   pub cut_stays : t.cut ≡ false → s.cut ≡ false
   pub stops_are : stops ≡ (stopped || is_ill t)
   pub gives : GivesNothing done marks s after stops t ⊎ GivesOne done marks stops s w after t
 
 -- the first k workers were dealt to, one slice each at most
-pub record DealsOneEach (n k : ℕ) (early : Bool) (marks : List (Option ℕ)) (stopped : Bool) (seats : List Seat) : Type 0 where
+pub record DealsOneEach (n k : ℕ) (early : Bool) (marks : List (Option ℕ)) (stopped : Bool)
+    (seats : List Seat) : Type 0 where
   pub deal : DealsInTurn n k early marks stopped seats
   pub at_most : length deal.in_order.holders ≤ k
 

@@ -10,7 +10,8 @@ abbrev pub IsGiven : GameView → ℕ → Given → Type 0
 IsGiven g bits given = (given.game.value ≡ g) × (given.bits ≡ bits)
 
 -- the thread counts at most so many coalitions of this list, past so many
-pub record IsGivenPart (g : GameView) (list : List ℕ) (skip most : ℕ) (given : GivenPart) : Type 0 where
+pub record IsGivenPart (g : GameView) (list : List ℕ) (skip most : ℕ) (given : GivenPart)
+    : Type 0 where
   pub of_game : given.game.value ≡ g
   pub of_list : flat_map (λ p. p.now) given.pieces.value.now ≡ list
   pub past : given.skip ≡ skip

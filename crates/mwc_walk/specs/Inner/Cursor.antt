@@ -38,7 +38,8 @@ pub record IsPlace (v : Votes) (bits number p x : ℕ) : Type 0 where
   pub passed : bits < p → wins_at v.rules (p - 1) (x / 2) ≡ false
 
 -- the bounds on the visits to a slice, of which some are new and some still await their coalition, with these coalitions to come
-pub record CountsVisits (v : Votes) (bits number visits new unmet : ℕ) (rest : List ℕ) : Type 0 where
+pub record CountsVisits (v : Votes) (bits number visits new unmet : ℕ) (rest : List ℕ)
+    : Type 0 where
   pub least : length (slice v bits number) + new ≤ visits + length rest
   pub most : length v.rules ≡ 1 →
       visits + (v.members - bits) * length rest ≤
@@ -52,7 +53,8 @@ pub record CursorIs (v : Votes) (c : Cursor) : Type 0 where
   pub room : c.rules ≤ length c.lanes
   pub lanes : LanesAre v.members c.place c.prefix v.rules (take c.rules c.lanes)
   pub place : IsPlace v c.bits c.number c.place c.prefix
-  pub visits : CountsVisits v c.bits c.number c.visits (new_visit c) (open_visits v c) (rest_of_slice v c)
+  pub visits :
+      CountsVisits v c.bits c.number c.visits (new_visit c) (open_visits v c) (rest_of_slice v c)
 
 -- b is the cursor a further on: at the same slice, with no fewer visits
 pub record Follows (v : Votes) (a b : Cursor) : Type 0 where

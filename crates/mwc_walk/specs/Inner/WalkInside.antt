@@ -6,7 +6,13 @@ use Rattle.mwc_walk.specs.WalkView.{WalkView}
 use Rattle.mwc_walk.specs.Inner.Cursor.{CursorIs, rest_of_slice}
 
 abbrev pub walk_view : Inside → WalkView
-walk_view w = record { votes = votes_of w.game.now; bits = w.cursor.bits; number = w.cursor.number; to_come = rest_of_slice (votes_of w.game.now) w.cursor; visits = w.cursor.visits }
+walk_view w = record {
+  votes = votes_of w.game.now;
+  bits = w.cursor.bits;
+  number = w.cursor.number;
+  to_come = rest_of_slice (votes_of w.game.now) w.cursor;
+  visits = w.cursor.visits;
+}
 
 -- between two calls no descent is under way
 pub record IsInside (w : Inside) : Type 0 where
