@@ -1,11 +1,12 @@
 -- In a game of one rule, what wins first on the way down is minimal.
-use Rattle.std.proofs.Common.{◌≡◌, ℕ, ◌+◌, ◌-◌, ◌*◌, ◌/◌, ◌%◌, ◌^◌, ◌<◌, ◌≤◌, Bool, true, false, eqb, List, [], ◌∷◌, length, take, get_or, refl, sym, ap, ◌∙◌, arith, inl, inr}
-use Rattle.std.specs.List.{AllByRecursion, filter, count_by}
+use Rattle.std.proofs.Common.{◌≡◌, ℕ, ◌+◌, ◌-◌, ◌*◌, ◌/◌, ◌%◌, ◌^◌, ◌<◌, ◌≤◌, Bool, true, false, eqb, List, [], ◌∷◌, length, take, get_or, sym, ap, ◌∙◌, arith, inl, inr}
+use Rattle.std.specs.List.{AllByRecursion}
 use Rattle.std.proofs.lemmas.List.Sums.{length-filter, count_by-le-length}
 use Rattle.std.proofs.lemmas.Nat.Bits.{bit_at_cat_low, bit_at-zero}
 use Rattle.std.proofs.lemmas.Nat.{shr-shr, shl-shr, mul-le}
-use Rattle.std.proofs.Math.Nat.{pow-le-pow_right}
-use Rattle.std.proofs.lemmas.Bool.{and_from, and_left, le-leb, lt-leb, eqb-true, cases_lt, both_ways}
+use Rattle.std.proofs.Math.Pow.{pow_mono}
+use Rattle.std.proofs.Math.Bool.{and-true}
+use Rattle.std.proofs.lemmas.Bool.{and_left, lt-leb, leb-false, eqb-true, cases_lt, both_ways}
 use Rattle.council_game.specs.Votes.{RuleView, Votes, IsRule, IsRanked, IsVotes, has, without, weight, wins, minimal, minimal_coalitions}
 use Rattle.mwc_walk.specs.Slices.{slice}
 use Rattle.mwc_walk.specs.Inner.Places.{wins_at}
@@ -42,11 +43,7 @@ one-loses n p x q (r ∷ []) one all ranked pos le lost below in' =
     let more = rw (pe, xe) at (weight-step all.0 (p - 1) (x / 2) (x % 2) (omega arith) (omega arith)) in
     let most : x % 2 * get_or r.weights (p - 1) 0 ≤ 1 * get_or r.weights (p - 1) 0 = mul-le (x % 2) (get_or r.weights (p - 1) 0) 1 (get_or r.weights (p - 1) 0) (omega arith) (omega arith) in
     let heavier : get_or r.weights (p - 1) 0 ≤ get_or r.weights q 0 = ranked q (p - 1) (omega arith) (omega arith) in
-    let short : weight (take (p - 1) r.weights) (x / 2) < r.quota =
-    elim (cases_lt (weight (take (p - 1) r.weights) (x / 2)) r.quota) [
-      | inl less ↦ less
-      | inr won ↦ absurd (both_ways _ lost (and_from _ _ (le-leb _ _ won) refl))
-    ] in
+    let short : weight (take (p - 1) r.weights) (x / 2) < r.quota = leb-false _ _ (sym (and-true _) ∙ lost) in
     let loses : weight r.weights (x * 2 ^ (n - p) - 2 ^ (n - 1 - q)) < r.quota = omega (arith, less, weight-block all.0 p x le, more, most, heavier, short) in
     and_left _ _ (lt-leb _ _ loses)
 
@@ -65,8 +62,7 @@ won-odd n p x rs pos le all won lost =
       | inr none ↦
           let pe : p - 1 + 1 ≡ p = omega arith in
           let xe : 2 * (x / 2) ≡ x = omega arith in
-          let same = wins-over n rs all (p - 1) (x / 2) (omega arith) in
-          absurd (both_ways _ lost (sym same ∙ ap (λ (i : ℕ). wins_at rs i (2 * (x / 2))) pe ∙ ap (wins_at rs p) xe ∙ won))
+          absurd (both_ways _ lost (sym (rw (pe, xe) at (wins-over n rs all (p - 1) (x / 2) (omega arith))) ∙ won))
     ]
 
 -- no places win nothing
@@ -84,11 +80,9 @@ pub slice-short : (v : Votes) (k j : ℕ) → IsVotes v → length (slice v k j)
 unfolding slice
 slice-short v k j game =
     let in_it : ℕ → Bool = λ c. eqb (c / 2 ^ (v.members - k)) (2 ^ k - 1 - j) in
-    let kept : length (filter in_it (minimal_coalitions v)) ≡ count_by in_it (minimal_coalitions v) = length-filter in_it (minimal_coalitions v) in
-    let less : count_by in_it (minimal_coalitions v) ≤ length (minimal_coalitions v) = count_by-le-length in_it (minimal_coalitions v) in
-    let listing = listing-is v game in
-    let up : 2 ^ v.members ≤ 2 ^ 40 = pow-le-pow_right (let two : 0 < 2 = omega arith in two) game.few in
-    omega (arith, kept, less, listing.few, up)
+    let few = (listing-is v game).few in
+    let up : 2 ^ v.members ≤ 2 ^ 40 = pow_mono game.few in
+    omega (arith, length-filter in_it (minimal_coalitions v), count_by-le-length in_it (minimal_coalitions v), few, up)
 
 -- a winning prefix as a number of the slice
 pub in-slice : (n k p x : ℕ) → k ≤ p → p ≤ n → x * 2 ^ (n - p) / 2 ^ (n - k) ≡ x / 2 ^ (p - k)

@@ -1,15 +1,14 @@
 -- The cursor at the fixed places of a slice.
-use Rattle.std.proofs.Common.{◌≡◌, ℕ, ◌+◌, ◌-◌, ◌*◌, ◌/◌, ◌%◌, ◌^◌, ◌<◌, ◌≤◌, true, false, ltb, List, map, length, take, get_or, refl, sym, ap, ◌∙◌, subst, arith}
+use Rattle.std.proofs.Common.{◌≡◌, ℕ, ◌+◌, ◌-◌, ◌*◌, ◌/◌, ◌%◌, ◌^◌, ◌<◌, ◌≤◌, true, false, cond, ltb, List, map, length, take, get_or, refl, sym, ap, ◌∙◌, subst, arith}
 use Rattle.std.proofs.lemmas.Nat.{pow_pos, one_shl, div_below}
-use Rattle.std.proofs.lemmas.Bool.{le-ltb, cond-true, cond-false, eq-eqb, eqb-true, both_ways}
+use Rattle.std.proofs.lemmas.Bool.{le-ltb, cond-false, eq-eqb, eqb-true, both_ways}
 use Rattle.mwc_walk.specs.declared.lane.Lane.{Lane}
-use Rattle.mwc_walk.specs.declared.cursor.Cursor.{Cursor}
 use Rattle.mwc_walk.specs.Inner.Lanes.{lane_with}
 use Rattle.council_game.specs.Votes.{RuleView, Votes, IsVotes, rule_at, has}
 use Rattle.mwc_walk.specs.Slices.{slice}
 use Rattle.council_game.proofs.GameTests.{fixed-half}
 use Rattle.mwc_walk.specs.Inner.Places.{slice_below, LaneIs, LanesAre}
-use Rattle.mwc_walk.specs.Inner.Cursor.{bound, rest_of_slice, new_visit, Starts}
+use Rattle.mwc_walk.specs.Inner.Cursor.{Starts}
 use Rattle.mwc_walk.proofs.Rest.{left-all}
 use Rattle.mwc_walk.proofs.Tables.{lanes-in, lanes-pass, lanes-from}
 
@@ -35,45 +34,39 @@ fixed-pass n k p x rs ls below le outside are =
     let whole : 2 * (x / 2 ^ (k - p)) ≡ x / 2 ^ (k - (p + 1)) = omega (arith, h, even') in
     subst (λ (i : ℕ). LanesAre n (p + 1) i rs ls) whole (lanes-pass n p (x / 2 ^ (k - p)) rs ls (omega arith) are)
 
-pub starts : (v : Votes) (k j : ℕ) (c : Cursor) → IsVotes v → k ≤ v.members → j < 2 ^ k → c.members ≡ v.members → c.rules ≡ length v.rules → c.rules ≤ length c.lanes → LanesAre v.members k (c.prefix / 2 ^ (k - k)) v.rules (take c.rules c.lanes) → c.prefix ≡ 2 ^ k - 1 - j → c.place ≡ k → c.fresh ≡ true → c.bits ≡ k → c.number ≡ j → c.visits ≡ k → Starts v k j c
-starts v k j c game le below members rules room are prefix place fresh bits number visits =
+pub starts : (v : Votes) (k j x m n : ℕ) (ls : List Lane) → IsVotes v → k ≤ v.members → j < 2 ^ k → n ≡ v.members → m ≡ length v.rules → m ≤ length ls
+    → LanesAre v.members k (x / 2 ^ (k - k)) v.rules (take m ls) → x ≡ 2 ^ k - 1 - j
+    → Starts v k j (record { lanes = ls; rules = m; members = n; bits = k; number = j; prefix = x; place = k; fresh = true; visits = k })
+starts v k j x m n ls game le below members rules room are prefix =
     let pos : 0 < 2 ^ k = pow_pos k in
     let none : k - k ≡ 0 = omega arith in
-    let whole : c.prefix / 2 ^ (k - k) ≡ c.prefix = ap (λ (i : ℕ). c.prefix / 2 ^ i) none ∙ (let z : c.prefix / 2 ^ 0 ≡ c.prefix = omega arith in z) in
-    let all : rest_of_slice v c ≡ slice v k j =
-    ap (λ (i : ℕ). slice_below v i c.number (bound v c)) bits
-    ∙ ap (λ (i : ℕ). slice_below v k i (bound v c)) number
-    ∙ rw (fresh, prefix, place) refl
-    ∙ left-all v k j le below in
-    let size : length (rest_of_slice v c) ≡ length (slice v k j) = ap length all in
-    let slices : slice v c.bits c.number ≡ slice v k j = ap (λ (i : ℕ). slice v i c.number) bits ∙ ap (slice v k) number in
-    let sizes : length (slice v c.bits c.number) ≡ length (slice v k j) = ap length slices in
-    let w : new_visit c ≡ c.bits =
-    cond-true c.fresh _ _ fresh ∙ cond-false (ltb c.bits c.place) _ _ (le-ltb c.bits c.place (omega (arith, place, bits))) in
-    let pz : c.place - c.bits ≡ 0 = omega (arith, place, bits) in record {
+    let whole : x / 2 ^ 0 ≡ x = omega arith in
+    let all : slice_below v k j ((x + 1) * 2 ^ (v.members - k)) ≡ slice v k j = rw prefix (left-all v k j le below) in
+    let fixed : cond (ltb k k) (x % 2) k ≡ k = cond-false (ltb k k) _ _ (le-ltb k k (omega arith)) in
+    record {
       is = record {
         game = game;
         members = members;
         rules = rules;
         room = room;
-        lanes = rw (place, ← whole) are;
+        lanes = rw (none, whole) at are;
         place = record {
-          from = omega (arith, place, bits);
-          to = omega (arith, place);
-          number_in = rw (number, bits) below;
-          inside = rw (pz, bits, number) (let z : c.prefix / 2 ^ 0 ≡ c.prefix = omega arith in z ∙ prefix);
-          short = rw (prefix, place) (omega arith);
-          passed = λ further. absurd (omega (arith, further, pz));
+          from = omega arith;
+          to = le;
+          number_in = below;
+          inside = rw (none, whole) prefix;
+          short = omega (arith, prefix, pos);
+          passed = λ further. absurd (omega arith);
         };
         visits = record {
-          least = omega (arith, w, size, sizes, visits, bits);
-          most = λ one. rw (all, slices, visits) (omega (arith, bits));
+          least = omega (arith, fixed, ap length all);
+          most = λ one. rw all (omega arith);
         };
       };
-      bits = bits;
-      number = number;
-      place = place;
-      visits = visits;
+      bits = refl;
+      number = refl;
+      place = refl;
+      visits = refl;
       all = all;
     }
 

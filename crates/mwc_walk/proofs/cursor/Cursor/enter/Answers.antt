@@ -1,5 +1,5 @@
-use Rattle.std.proofs.Common.{◌^◌, ◌<◌, ◌≤◌, ℕ, sym, ap, ◌∙◌, arith, false, true, subst}
-use Rattle.std.proofs.Math.Nat.{pow-le-pow_right}
+use Rattle.std.proofs.Common.{◌^◌, ◌≤◌, ℕ, sym, ap, ◌∙◌, arith, false, true, subst}
+use Rattle.std.proofs.Math.Pow.{pow_mono}
 use Rattle.council_game.specs.Game.{votes_of}
 use Rattle.council_game.specs.Votes.{minimal}
 use Rattle.mwc_walk.specs.Inner.Cursor.{GivesNext}
@@ -38,7 +38,7 @@ returns-then-not-all_win c =
 pub of_mask-coalition-requires : goal.of_mask-coalition-requires
 of_mask-coalition-requires c =
     let short = enter-short (votes_of c.args.game.now) c.args.self.now c.requires.is in
-    let most : 2 ^ (votes_of c.args.game.now).members ≤ 2 ^ 40 = (let two : 0 < 2 = omega arith in pow-le-pow_right two c.requires.is.game.few) in
+    let most : 2 ^ (votes_of c.args.game.now).members ≤ 2 ^ 40 = pow_mono c.requires.is.game.few in
     let mask = enter-mask (votes_of c.args.game.now) c.args.self.now c.requires.is in
     omega (arith, short, most, mask)
 

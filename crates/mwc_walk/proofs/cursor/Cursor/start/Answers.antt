@@ -1,6 +1,6 @@
 use Rattle.council_game.specs.Game.{votes_of}
 use Rattle.council_game.specs.Votes.{has}
-use Rattle.std.proofs.Common.{◌≡◌, ◌∙◌, take, sym, ap, arith, refl}
+use Rattle.std.proofs.Common.{◌≡◌, ◌∙◌, take, sym, ap, arith}
 use Rattle.mwc_walk.proofs.Tables.{fits-in}
 use Rattle.mwc_walk.proofs.Steps.{is-part}
 use Rattle.mwc_walk.proofs.Start.{first-lanes, first-number, fixed-in, fixed-pass, starts}
@@ -36,7 +36,7 @@ loop-place-preserved c =
 pub returns : goal.returns
 returns c =
     let e : c.loop-place.place ≡ c.args.bits = omega arith in
-    starts (votes_of c.args.game.now) c.args.bits c.args.number _ c.members-members.ensures.votes c.requires.bits c.requires.number c.members-members.ensures.count c.rules-rules.ensures.votes
+    starts (votes_of c.args.game.now) c.args.bits c.args.number _ _ _ _ c.members-members.ensures.votes c.requires.bits c.requires.number c.members-members.ensures.count c.rules-rules.ensures.votes
     c.loop-place.invariant.room
     (rw e at c.loop-place.invariant.are)
-    (first-number c.args.bits c.args.number c.requires.few) refl refl refl refl refl
+    (first-number c.args.bits c.args.number c.requires.few)
