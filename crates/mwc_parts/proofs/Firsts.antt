@@ -72,7 +72,7 @@ first_turn {n} {early} {stopped} {stops} seats k s t l e fresh f r =
               begins = λ z w v u.
                   elim (near w k v) [
                     | inl b ↦ d.begins (went_on s t k r z) w b u
-                    | inr b ↦ let q = full z in let a : length old.holders + old.free ≡ n = old.all_slices in absurd (omega arith)
+                    | inr b ↦ let q = full z in absurd (omega arith)
                   ];
             };
             at_most = omega arith;
@@ -114,7 +114,6 @@ pub each_within : {n k : ℕ} {early stopped : Bool} {marks : List (Option ℕ)}
 each_within {n} g seats deal =
     let d = deal.in_order in
     let a : sum_of (coalition_count g) (given_slices seats) ≡ coalition_count g (range_with_len 0 (length d.holders)) = ap (sum_of (coalition_count g)) d.given_are ∙ shares_sum (λ j. length (g.slice j)) (length seats) d.holders d.by_workers in
-    let q : length d.holders + d.free ≡ n = d.all_slices in
     let m : coalition_count g (range_with_len 0 (length d.holders)) ≤ coalition_count g (range_with_len 0 n) = sum_range_le (λ j. length (g.slice j)) 0 (length d.holders) n (omega arith) in
     All-weaker (λ (s : List ℕ). coalition_count g s ≤ sum_of (coalition_count g) (given_slices seats)) (λ (s : List ℕ). coalition_count g s ≤ coalition_count g (range_with_len 0 n)) (λ s l. omega arith) (given_slices seats) (one_of_sum (coalition_count g) (given_slices seats))
 

@@ -65,7 +65,6 @@ rises_from g n [] m l = absurd (omega arith)
 rises_from g n (j ∷ s) zero l = (omega arith, omega arith)
 rises_from g n (j ∷ s) (suc m) l =
     let r = rises_from g (n + length (g.slice j)) s m (omega arith) in
-    let a = r.1 in
     (r.0, omega arith)
 
 last_from : (g : Slicing) (n : ℕ) (s : List ℕ) → get_or (n ∷ ends_from g n s) (length (ends_from g n s)) 0 ≡ n + coalition_count g s

@@ -1,5 +1,5 @@
 -- From the join of a worker to what is known of its words.
-use Rattle.std.specs.Prelude.{◌≡◌, ◌⊎◌, ℕ, ◌<◌, ◌≤◌, Bool, true, false, List, [], ◌∷◌, ◌++◌, map, All, refl}
+use Rattle.std.specs.Prelude.{◌≡◌, ◌⊎◌, ℕ, ◌<◌, Bool, true, false, List, [], ◌∷◌, ◌++◌, map, All, refl}
 use Rattle.std.proofs.Common.{ap, arith, sym, ◌∙◌, inl, inr}
 use Rattle.std.proofs.lemmas.Bool.{false≢true}
 use Rattle.std.proofs.Math.Bool.{or-true}
@@ -15,14 +15,12 @@ use Rattle.mwc_parts.proofs.Tasks.{all_taken, cut_taken}
 pub whole_settles : (g : Slicing) (most : ℕ) (taken left : List Word) (given : List ℕ) (told : Bool) (words : List Word) → All (λ j. j < g.slices) given → taken ++ left ≡ open_words given ++ end_words told → IsWholeSending g most taken words → IsSentWhole g most given told words
 whole_settles g most taken left given told words a e w =
     let t = all_taken g.slices w.slices given w.last left told a w.ends (ap (λ (x : List Word). x ++ left) (sym w.tasks_are) ∙ e) in
-    let few : coalition_count g w.slices ≤ most = w.few in
     let same = ap (coalition_count g) t.0 in
     record { words_are = w.words_are ∙ ap (λ (s : List ℕ). wording g s ++ End false ∷ []) t.0; was_told = t.1; few = omega arith }
 
 pub cut_settles : (g : Slicing) (most : ℕ) (taken left : List Word) (given : List ℕ) (told : Bool) (words : List Word) → taken ++ left ≡ open_words given ++ end_words told → IsCutSending g most taken words → IsCutShort g most given words
 cut_settles g most taken left given told words e w =
     let t = cut_taken g w.slices given w.slice left told (ap (λ (x : List Word). x ++ left) (sym w.tasks_are) ∙ e) in
-    let full = w.full in let within = w.within in
     record { before = _; words_are = w.words_are; many = omega arith }
 
 pub settles : (g : Slicing) (most : ℕ) (taken left : List Word) (given : List ℕ) (told : Bool) (words : List Word) → All (λ j. j < g.slices) given → taken ++ left ≡ open_words given ++ end_words told → IsWholeSending g most taken words ⊎ IsCutSending g most taken words → AreSettled g most given told words

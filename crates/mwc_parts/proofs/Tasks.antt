@@ -27,7 +27,6 @@ all_taken n (i ∷ s) (j ∷ given) last left told a h e =
     let q : i ≡ j = cc in
     let r : (open_words s ++ last ∷ []) ++ left ≡ open_words given ++ end_words told = cc in
     let t = all_taken n s given last left told (All-tail (λ j. j < n) j given a) h r in
-    let u = t.0 in
     (cc, t.1)
 
 -- the slices that were taken before the cut, and the one that was cut, were given first

@@ -20,9 +20,7 @@ first_free [] (suc free) zero h = (refl, omega arith)
 first_free [] (suc free) (suc j) h = absurd (false≢true (h.2 0 (omega arith)))
 first_free (x ∷ hs) free zero h = let e = h.1 in cc
 first_free (x ∷ hs) free (suc j) h =
-    let l = h.0 in
     let r = first_free hs free j (omega arith, h.1, λ k q. h.2 (suc k) (omega arith)) in
-    let a = r.0 in
     (omega arith, r.1)
 
 pub set_free : (hs : List ℕ) (free w : ℕ) → set (map Some hs ++ replicate (suc free) None) (length hs) (Some w) ≡ map Some (hs ++ w ∷ []) ++ replicate free None
@@ -145,16 +143,14 @@ turn_one {n} {done} {early} {stopped} {stops} {marks} {after} seats i s t l e d 
     let first = first_free hs d.free g.slice (subst (λ (m : List (Option ℕ)). IsFirstFree m g.slice) d.marks_are g.lowest) in
     let few = above d.free first.1 in
     let f : ℕ = few.0 in
-    let free_is : d.free ≡ suc f = few.1 in
     let one : t.given ≡ share_of hs i ++ length hs ∷ [] = g.given ∙ ap (λ (w : List ℕ). w ++ g.slice ∷ []) (given_is hs seats i s d.given_are l e) ∙ ap (λ (j : ℕ). share_of hs i ++ j ∷ []) first.0 in
-    let sum : length hs + d.free ≡ n = d.all_slices in
     let longer : length (hs ++ i ∷ []) ≡ length hs + 1 = length-append hs (i ∷ []) in
     record {
       holders = hs ++ i ∷ [];
       free = f;
       marks_are = g.marked ∙ ap (λ (m : List (Option ℕ)). set m g.slice (Some i)) d.marks_are
           ∙ ap (λ (j : ℕ). set (map Some hs ++ replicate d.free None) j (Some i)) first.0
-          ∙ ap (λ (q : ℕ). set (map Some hs ++ replicate q None) (length hs) (Some i)) free_is
+          ∙ ap (λ (q : ℕ). set (map Some hs ++ replicate q None) (length hs) (Some i)) few.1
           ∙ set_free hs f i;
       all_slices = omega arith;
       by_workers = subst (λ (m : ℕ). All (λ h. h < m) (hs ++ i ∷ [])) (sym same) (All-push (λ h. h < length seats) hs i d.by_workers l);
@@ -211,7 +207,6 @@ all_dealt {n} {k} {stopped} {early} {marks} seats z l deal well told =
     let same : length (given_slices seats) ≡ length seats = length-map seats (λ (s : Seat). s.given) in
     let go : stopped ≡ false = well_goes_on seats z deal well in
     let none : d.free ≡ 0 = none_left seats l go d.told_late told in
-    let sum : length d.holders + d.free ≡ n = d.all_slices in
     record {
       holders = d.holders;
       each_held = omega arith;

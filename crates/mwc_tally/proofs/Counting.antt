@@ -1,57 +1,52 @@
 -- Slices counted one after the other, and in any order.
-use Rattle.std.proofs.Common.{◌≡◌, ◌∙◌, ◌==◌, ℕ, ◌+◌, ◌-◌, ◌/◌, ◌^◌, ◌<◌, ◌≤◌, suc, Bool, List, [], ◌∷◌, ◌++◌, length, get_or, sym, ap, refl, arith, subst, length-append}
+use Rattle.std.proofs.Common.{◌≡◌, ◌∙◌, ℕ, ◌+◌, ◌^◌, ◌<◌, ◌≤◌, suc, Bool, List, [], ◌∷◌, ◌++◌, length, get_or, sym, ap, refl, arith, subst, length-append}
 use Rattle.std.specs.List.{All, filter, flat_map, range_with_len, sum_by}
 use Rattle.std.specs.List.Sorted.{IsPermutation}
 use Rattle.std.proofs.lemmas.List.{append_assoc, append-nil}
-use Rattle.std.proofs.lemmas.List.Elements.{All-filter, All-head, filter-append}
+use Rattle.std.proofs.lemmas.List.Elements.{All-filter, filter-append}
 use Rattle.std.proofs.lemmas.List.FromFn.{fill_by_all, length-range_with_len, get_or-range_with_len}
 use Rattle.std.proofs.lemmas.List.Concat.{flat_map-append, length-flat_map}
 use Rattle.std.proofs.lemmas.List.Sums.{sum_by-cons}
 use Rattle.std.proofs.lemmas.List.Sorted.{sum_by-IsPermutation}
-use Rattle.council_game.specs.Game.{GameView, IsGame, votes_of, AreNonemptyCoalitions}
+use Rattle.council_game.specs.Game.{GameView, IsGame, votes_of}
 use Rattle.council_game.specs.Votes.{minimal_coalitions}
 use Rattle.mwc_walk.specs.Slices.{slice}
 use Rattle.mwc_walk.proofs.Joined.{slices-joined}
-use Rattle.power_index.specs.Tables.{Tables, AreTallies, AreOfOneGame, AreCounts, table_total}
+use Rattle.power_index.specs.Tables.{Tables, AreTallies, AreCounts, table_total}
 use Rattle.power_index.proofs.Minimal.{minimal-are-coalitions, minimal-few}
 use Rattle.power_index.proofs.Sound.{total-is, tallies-are_counts}
-use Rattle.power_index.proofs.Sums.{length-filter-le}
 use Rattle.power_index.proofs.Tallies.{range-more, sum_by-range-more, sum_by-range-le}
 use Rattle.mwc_tally.specs.Inner.Shares.{CountedUpTo}
-
--- a slice is a part of the list
-pub slice-are-coalitions : (g : GameView) (bits j : ℕ) → IsGame g → AreNonemptyCoalitions g (slice (votes_of g) bits j)
-unfolding slice
-slice-are-coalitions g bits j game = All-filter _ (λ c. (0 < c) × (c < 2 ^ length g.names)) (minimal_coalitions (votes_of g)) (minimal-are-coalitions g game)
-
-pub slice-few : (g : GameView) (bits j : ℕ) → IsGame g → length (slice (votes_of g) bits j) ≤ 2 ^ 40
-unfolding slice
-slice-few g bits j game =
-    let less = length-filter-le (λ c. c / 2 ^ (length g.names - bits) == 2 ^ bits - 1 - j) (minimal_coalitions (votes_of g)) in
-    let few = minimal-few g game in
-    omega (arith, less, few)
-
--- a walk that is counted as it goes
-pub counted-step : (g : GameView) (whole rest : List ℕ) (c : ℕ) (t u : Tables) → ((list : List ℕ) → AreTallies g list t → AreTallies g (list ++ c ∷ []) u) → CountedUpTo g whole (c ∷ rest) t → CountedUpTo g whole rest u
-counted-step g whole rest c t u more h = record {
-  before = h.before ++ c ∷ [];
-  joined = append_assoc h.before (c ∷ []) rest ∙ h.joined;
-  tallies = more h.before h.tallies;
-}
-
-pub counted-room : (g : GameView) (whole rest : List ℕ) (c : ℕ) (t : Tables) → length whole ≤ 2 ^ 40 → CountedUpTo g whole (c ∷ rest) t → table_total t < 2 ^ 40
-counted-room g whole rest c t few h =
-    let total = total-is g h.before t h.tallies in
-    let long = length-append h.before (c ∷ rest) in
-    let same = ap (λ (l : List ℕ). length l) h.joined in
-    omega (arith, total, long, same, few)
 
 later : (P : ℕ → Type 0) (before rest : List ℕ) (c : ℕ) → All P (before ++ c ∷ rest) → P c
 later P [] rest c h = h 0 0 (omega arith)
 later P (b ∷ bs) rest c h = later P bs rest c (λ k d lt. h (suc k) d (omega (arith, lt)))
 
-pub counted-next : (g : GameView) (P : ℕ → Type 0) (whole rest : List ℕ) (c : ℕ) (t : Tables) → All P whole → CountedUpTo g whole (c ∷ rest) t → P c
-counted-next g P whole rest c t all h = later P h.before rest c (subst (All P) (sym h.joined) all)
+-- a walk that is counted as it goes, where c is next
+module _ {g : GameView} {whole to_come rest : List ℕ} {c : ℕ} {t : Tables} (next : to_come ≡ c ∷ rest) (h : CountedUpTo g whole to_come t) where
+  next-joined : h.before ++ c ∷ rest ≡ whole
+  next-joined = ap (λ (l : List ℕ). h.before ++ l) (sym next) ∙ h.joined
+
+  pub counted-step : (u : Tables) → ((list : List ℕ) → AreTallies g list t → AreTallies g (list ++ c ∷ []) u) → CountedUpTo g whole rest u
+  counted-step u more = record {
+    before = h.before ++ c ∷ [];
+    joined = append_assoc h.before (c ∷ []) rest ∙ next-joined;
+    tallies = more h.before h.tallies;
+  }
+
+  pub counted-room : length whole ≤ 2 ^ 40 → table_total t < 2 ^ 40
+  counted-room few = omega (arith, total-is g h.before t h.tallies, length-append h.before (c ∷ rest), ap (λ (l : List ℕ). length l) next-joined, few)
+
+  pub counted-next : (P : ℕ → Type 0) → All P whole → P c
+  counted-next P all = later P h.before rest c (subst (All P) (sym next-joined) all)
+
+-- what a walk over a slice gives next is a coalition of the game
+pub slice-next : {g : GameView} {to_come rest : List ℕ} {c : ℕ} {t : Tables} (bits j : ℕ) → IsGame g → to_come ≡ c ∷ rest → CountedUpTo g (slice (votes_of g) bits j) to_come t
+    → (0 < c) × (c < 2 ^ length g.names)
+unfolding slice
+slice-next {g} bits j game next h =
+    let own : ℕ → Type 0 = λ c. (0 < c) × (c < 2 ^ length g.names) in
+    counted-next next h own (All-filter _ own (minimal_coalitions (votes_of g)) (minimal-are-coalitions g game))
 
 -- all slices are the whole list
 pub all-slices : (g : GameView) (bits : ℕ) → IsGame g → bits ≤ 10 → bits ≤ length g.names → flat_map (slice (votes_of g) bits) (range_with_len 0 (2 ^ bits)) ≡ minimal_coalitions (votes_of g)

@@ -1,11 +1,10 @@
 -- Parts of a list that lies in pieces.
-use Rattle.std.proofs.Common.{◌≡◌, ◌∙◌, ℕ, ◌+◌, ◌-◌, ◌*◌, ◌/◌, ◌%◌, ◌<◌, ◌≤◌, zero, suc, min, List, [], ◌∷◌, ◌++◌, length, get_or, take, drop, sym, ap, refl, arith, subst, length-append, length-drop, IfOk, Result, Ok, Err}
+use Rattle.std.proofs.Common.{◌≡◌, ◌∙◌, ℕ, ◌+◌, ◌-◌, ◌<◌, ◌≤◌, zero, suc, min, List, [], ◌∷◌, ◌++◌, length, get_or, take, drop, sym, ap, refl, arith, subst, length-append, length-drop, IfOk, Result, Ok, Err}
 use Rattle.std.specs.List.{All, flat_map}
 use Rattle.std.proofs.lemmas.List.{take_all, take_at, take_more, take_min, drop_at, drop-drop, drop_min, length-take, take-append-drop, append-nil}
 use Rattle.std.proofs.lemmas.List.Elements.{All-drop, All-take}
 use Rattle.std.proofs.lemmas.List.Concat.{flat_map-append}
 use Rattle.std.proofs.lemmas.List.Folds.{length-flat_map-take}
-use Rattle.std.proofs.Math.Nat.{div-add-mod, mod-lt}
 use Rattle.council_game.specs.Game.{GameView}
 use Rattle.power_index.specs.Tables.{Tables, AreTallies, AreCounts}
 use Rattle.power_index.proofs.Sound.{tallies-are_counts}

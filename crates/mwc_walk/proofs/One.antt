@@ -70,9 +70,8 @@ pub empty-loses : (n : ℕ) (rs : List RuleView) → 1 ≤ length rs → AllByRe
 unfolding wins_at
 empty-loses n [] some all = absurd (omega (arith, some))
 empty-loses n (r ∷ rs) some all =
-    let q : 1 ≤ r.quota = all.0.some in
     let z : weight (take 0 r.weights) 0 ≡ 0 = weight-zero (take 0 r.weights) in
-    let loses : weight (take 0 r.weights) 0 < r.quota = omega (arith, q, z) in
+    let loses : weight (take 0 r.weights) 0 < r.quota = omega (arith, all.0.some, z) in
     and_left _ _ (lt-leb _ _ loses)
 
 -- a slice is shorter than a count of visits can grow

@@ -37,7 +37,6 @@ left-ends v k j b le =
 
 bound-below : (v : Votes) (a : Cursor) → CursorIs v a → bound v a ≤ 2 ^ v.members
 bound-below v a is =
-    let to : a.place ≤ v.members = is.place.to in
     let whole : 2 ^ v.members ≡ 2 ^ a.place * 2 ^ (v.members - a.place) = ap (λ (i : ℕ). 2 ^ i) (let e : v.members ≡ a.place + (v.members - a.place) = omega arith in e) ∙ pow-add 2 a.place (v.members - a.place) in
     let few : cond a.fresh (a.prefix + 1) a.prefix ≤ 2 ^ a.place = cond_both a.fresh (a.prefix + 1) a.prefix (λ i. i ≤ 2 ^ a.place) (λ _. omega (arith, is.place.short)) (λ _. omega (arith, is.place.short)) in
     rw whole (mul-le _ (2 ^ (v.members - a.place)) (2 ^ a.place) (2 ^ (v.members - a.place)) few (omega arith))

@@ -20,12 +20,7 @@ next-block x h = omega arith
 above-not_minimal : (v : Votes) (p x c : ℕ) → IsVotes v → p ≤ v.members → wins_at v.rules p x ≡ true → x * 2 ^ (v.members - p) < c → c < x * 2 ^ (v.members - p) + 2 ^ (v.members - p) → minimal v c ≡ true → ⊥
 unfolding has without
 above-not_minimal v p x c game le win low high min =
-    let h : ℕ = v.members - p in
-    let r : ℕ = c - x * 2 ^ (v.members - p) in
     let found = some_digit (v.members - p) (c - x * 2 ^ (v.members - p)) (omega arith) (omega arith) in
-    let b : ℕ = found.0 in
-    let below : found.0 < v.members - p = found.1 in
-    let small : 2 ^ found.0 ≤ c - x * 2 ^ (v.members - p) = found.2 in
     let e : c ≡ x * 2 ^ (v.members - p) + (c - x * 2 ^ (v.members - p)) = omega arith in
     let digit : c / 2 ^ found.0 % 2 ≡ 1 =
     ap (λ (i : ℕ). i / 2 ^ found.0 % 2) e ∙ bit_at_cat_low x (v.members - p) (c - x * 2 ^ (v.members - p)) found.0 found.1 ∙ found.3 in

@@ -108,7 +108,6 @@ known v a s b f e = subst (λ (g : Bool). CursorIs v (record a { fresh = g }) �
 pub back-up : (v : Votes) (a : Cursor) → CursorIs v a → a.fresh ≡ false → (a.place ≡ a.bits → ⊥) → (a.prefix % 2 ≡ 1 → ⊥) → Steps v a On (record a { prefix = a.prefix / 2; place = a.place - 1 })
 back-up v a is stale more even =
     known v a On (λ f. record a { prefix = a.prefix / 2; place = a.place - 1; fresh = f }) false stale (λ is.
-    let lt : a.bits < a.place = omega (arith, is.place.from) in
     let below : a.place - 1 < v.members = omega (arith, is.place.to) in
     let pe : a.place - 1 + 1 ≡ a.place = omega arith in
     let xe : 2 * (a.prefix / 2) ≡ a.prefix = omega arith in
@@ -118,7 +117,7 @@ back-up v a is stale more even =
     record {
       follows = follows-at v _ a.lanes (a.place - 1) (a.prefix / 2) false a.visits is (omega arith) is.room
           (lanes-up v.members (a.place - 1) (a.prefix / 2) v.rules (take a.rules a.lanes) below (rw (pe, xe) is.lanes))
-          (place-up v a.bits a.number (a.place - 1) (a.prefix / 2) 0 is.game (omega arith) (omega arith) (rw (pe, ze) is.place))
+          (place-up v a.bits a.number (a.place - 1) (a.prefix / 2) 0 is.game (omega arith) (omega (arith, is.place.from)) (rw (pe, ze) is.place))
           (subst (CountsVisits v a.bits a.number a.visits 0 0) (sym same) is.visits);
       same = same;
       falls = omega (arith, bounds);
@@ -314,15 +313,12 @@ in-fits v a is below = fits-in v.members a.place a.prefix v.rules (take a.rules 
 -- the number of a prefix with zeros after it
 pub enter-short : (v : Votes) (a : Cursor) → CursorIs v a → a.prefix * 2 ^ (v.members - a.place) < 2 ^ v.members
 enter-short v a is =
-    let to : a.place ≤ v.members = is.place.to in
     let e : a.place + (v.members - a.place) ≡ v.members = omega arith in
     let s : a.prefix * 2 ^ (v.members - a.place) < 2 ^ (a.place + (v.members - a.place)) = shl_below a.prefix a.place (v.members - a.place) is.place.short in
     subst (λ (i : ℕ). a.prefix * 2 ^ (v.members - a.place) < 2 ^ i) e s
 
 pub enter-mask : (v : Votes) (a : Cursor) → CursorIs v a → a.prefix * 2 ^ (a.members - a.place) % 2 ^ 64 ≡ a.prefix * 2 ^ (v.members - a.place)
 enter-mask v a is =
-    let to : a.place ≤ v.members = is.place.to in
-    let n40 : v.members ≤ 40 = is.game.few in
     ap (λ (i : ℕ). a.prefix * 2 ^ (i - a.place) % 2 ^ 64) is.members
     ∙ shl_whole a.prefix a.place (v.members - a.place) 64 is.place.short (omega arith)
 

@@ -8,17 +8,10 @@ returns-then-len-left-clause-many c = λ z.
     let part : Part = c.part-item.result in
     let a = counted c.args.parts.now c.loop-part.part-index part c.loop-part-test.true c.part-item.is in
     let b = sum_take_le (λ (p : Part). length p.got.items) c.args.parts.now (c.loop-part.part-index + 1) in
-    let d = part.got.ok in
-    let e = c.loop-part.invariant in
-    let f = c.len.ensures in
     omega arith
 
 pub loop-part-preserved : goal.loop-part-preserved
 loop-part-preserved c =
     let part : Part = c.part-item.result in
     let a = counted c.args.parts.now c.loop-part.part-index part c.loop-part-test.true c.part-item.is in
-    let d = part.got.ok in
-    let e = c.loop-part.invariant in
-    let f = c.len.ensures in
-    let h = c.len-left.ensures in
     omega arith

@@ -1,6 +1,5 @@
-use Rattle.std.proofs.Common.{length, length-append, ap, arith, take, ℕ, List}
-use Rattle.std.specs.List.{flat_map}
-use Rattle.mwc_tally.proofs.Parts.{pieces-more, pieces-length}
+use Rattle.std.proofs.Common.{arith}
+use Rattle.mwc_tally.proofs.Parts.{pieces-length}
 use Rattle.mwc_tally.proofs.pieces.length_of.Goals as goal
 
 pub overflow_add-length : goal.overflow_add-length

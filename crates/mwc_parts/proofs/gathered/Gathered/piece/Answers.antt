@@ -21,5 +21,4 @@ unreachable-requires c =
     let q = ap length c.deref-part-items.ensures.value in
     let all = ap (λ (w : List Part). sum_of (times_in c.args.j) (shares w)) (take_all c.loop-part.part-index parts (omega arith)) in
     let once = each_once c.args.self.now.slices parts c.args.self.now.each_slice_once c.args.j c.requires in
-    let none = c.loop-part.invariant in
     omega arith
