@@ -72,10 +72,6 @@ ill_set (x ∷ seats) zero s t l e h = or_moves (is_ill t) (list_any is_ill seat
 ill_set (x ∷ seats) (suc i) s t l e h =
     ap (λ (b : Bool). is_ill x || b) (ill_set seats i s t (omega arith) e h) ∙ sym (or_assoc (is_ill x) (list_any is_ill seats) (is_ill t))
 
-or_within : (a b : Bool) → (a ≡ true → b ≡ true) → (a || b) ≡ b
-or_within true b h = sym (h refl)
-or_within false b h = refl
-
 -- the deal is stopped exactly where it should be after a turn too
 pub stops_then : (early : Bool) (seats : List Seat) (stopped stops : Bool) (i : ℕ) (s t : Seat) {done : Bool} {marks after : List (Option ℕ)} → i < length seats → s ≡ get_or seats i s
     → TakesTurn done marks stopped s i after stops t → stopped ≡ (early || list_any is_ill seats) → stops ≡ (early || list_any is_ill (set seats i t))

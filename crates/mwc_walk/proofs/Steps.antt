@@ -214,11 +214,33 @@ pub enter-dead : (v : Votes) (a : Cursor) → CursorIs v a → a.fresh ≡ true 
 enter-dead v a is fresh dead =
     pass-by v a is fresh (sym (left-dead v a.bits a.number a.place a.prefix is.game is.place.to dead)) (λ _. cond-false (reaches v.rules a.place a.prefix) _ _ dead)
 
+-- what the tests on the lanes say of the rules
+pub reach-is : (v : Votes) (a : Cursor) → CursorIs v a → (t : Bool) → list_all (lane_reaches a.place) (take a.rules a.lanes) ≡ t → reaches v.rules a.place a.prefix ≡ t
+reach-is v a is t h = sym (lanes-reach v.members a.place a.prefix v.rules (take a.rules a.lanes) is.place.to is.lanes) ∙ h
+
+pub win-is : (v : Votes) (a : Cursor) → CursorIs v a → (t : Bool) → list_all lane_wins (take a.rules a.lanes) ≡ t → wins_at v.rules a.place a.prefix ≡ t
+win-is v a is t h = sym (lanes-win v.members a.place a.prefix v.rules (take a.rules a.lanes) is.lanes) ∙ h
+
+-- a prefix that reaches and does not win has a place after it
+module _ (v : Votes) (a : Cursor) (is : CursorIs v a) (reach : list_all (lane_reaches a.place) (take a.rules a.lanes) ≡ true) (lose : list_all lane_wins (take a.rules a.lanes) ≡ false) where
+  pub in-room : a.place < v.members
+  in-room =
+      elim (cases_lt a.place v.members) [
+        | inl less ↦ less
+        | inr past ↦ absurd (both_ways _ (win-is v a is false lose) (sym (full-reach v.members v.rules is.game.rules a.place a.prefix past) ∙ reach-is v a is true reach))
+      ]
+
+  pub in-fits : All (λ l. l.sum + get_or l.weights a.place 0 < 2 ^ 64) (take a.rules a.lanes)
+  in-fits = fits-in v.members a.place a.prefix v.rules (take a.rules a.lanes) in-room is.lanes
+
 -- the next member is taken in
-pub enter-in : (v : Votes) (a : Cursor) (ls : List Lane) (t : ℕ) → t ≡ min (a.visits + 1) (2 ^ 64 - 1) → a.visits < 2 ^ 64 → CursorIs v a → a.fresh ≡ true → a.place < v.members
-    → reaches v.rules a.place a.prefix ≡ true → wins_at v.rules a.place a.prefix ≡ false → a.rules ≤ length ls → take a.rules ls ≡ map (lane_with a.place) (take a.rules a.lanes)
+pub enter-in : (v : Votes) (a : Cursor) (ls : List Lane) (t : ℕ) → t ≡ min (a.visits + 1) (2 ^ 64 - 1) → a.visits < 2 ^ 64 → CursorIs v a → a.fresh ≡ true
+    → list_all (lane_reaches a.place) (take a.rules a.lanes) ≡ true → list_all lane_wins (take a.rules a.lanes) ≡ false → a.rules ≤ length ls → take a.rules ls ≡ map (lane_with a.place) (take a.rules a.lanes)
     → Steps v a On (record a { lanes = ls; prefix = 2 * a.prefix + 1; place = a.place + 1; visits = t })
-enter-in v a ls t counted holds is fresh below can lost room taken =
+enter-in v a ls t counted holds is fresh reach lose room taken =
+    let below = in-room v a is reach lose in
+    let can = reach-is v a is true reach in
+    let lost = win-is v a is false lose in
     known v a On (λ f. record a { lanes = ls; prefix = 2 * a.prefix + 1; place = a.place + 1; visits = t; fresh = f }) true fresh (λ is.
     let twice : 2 * a.prefix + 1 + 1 ≡ 2 * (a.prefix + 1) = omega arith in
     let bounds = ap (λ (i : ℕ). i * 2 ^ (v.members - (a.place + 1))) twice ∙ halves v.members a.place (a.prefix + 1) below in
@@ -291,24 +313,6 @@ enter-drop v a is fresh won min =
       | inl lt ↦ absurd (both_ways _ min (one-minimal v a.place a.prefix is.game one (omega arith) is.place.to won (is.place.passed lt)))
       | inr ge ↦ let extra = open-most v a.place a.prefix (a.place - a.bits) in omega arith
     ])
-
--- what the tests on the lanes say of the rules
-pub reach-is : (v : Votes) (a : Cursor) → CursorIs v a → (t : Bool) → list_all (lane_reaches a.place) (take a.rules a.lanes) ≡ t → reaches v.rules a.place a.prefix ≡ t
-reach-is v a is t h = sym (lanes-reach v.members a.place a.prefix v.rules (take a.rules a.lanes) is.place.to is.lanes) ∙ h
-
-pub win-is : (v : Votes) (a : Cursor) → CursorIs v a → (t : Bool) → list_all lane_wins (take a.rules a.lanes) ≡ t → wins_at v.rules a.place a.prefix ≡ t
-win-is v a is t h = sym (lanes-win v.members a.place a.prefix v.rules (take a.rules a.lanes) is.lanes) ∙ h
-
--- a prefix that reaches and does not win has a place after it
-pub in-room : (v : Votes) (a : Cursor) → CursorIs v a → reaches v.rules a.place a.prefix ≡ true → wins_at v.rules a.place a.prefix ≡ false → a.place < v.members
-in-room v a is can lost =
-    elim (cases_lt a.place v.members) [
-      | inl less ↦ less
-      | inr past ↦ absurd (both_ways _ lost (sym (full-reach v.members v.rules is.game.rules a.place a.prefix past) ∙ can))
-    ]
-
-pub in-fits : (v : Votes) (a : Cursor) → CursorIs v a → a.place < v.members → All (λ l. l.sum + get_or l.weights a.place 0 < 2 ^ 64) (take a.rules a.lanes)
-in-fits v a is below = fits-in v.members a.place a.prefix v.rules (take a.rules a.lanes) below is.lanes
 
 -- the number of a prefix with zeros after it
 pub enter-short : (v : Votes) (a : Cursor) → CursorIs v a → a.prefix * 2 ^ (v.members - a.place) < 2 ^ v.members
