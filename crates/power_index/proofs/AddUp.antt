@@ -1,15 +1,15 @@
 -- Each index adds up to 1 over the members.
-use Rattle.std.proofs.Common.{◌≡◌, ◌∙◌, ℕ, ◌+◌, ◌*◌, ◌/◌, ◌<◌, ◌≤◌, ◌^◌, List, [], ◌∷◌, length, map, ap, refl, arith}
-use Rattle.std.specs.List.{filter, sum_by, count_by}
+use Rattle.std.proofs.Common.{◌≡◌, ◌∙◌, ℕ, ◌+◌, ◌*◌, ◌/◌, ◌<◌, ◌≤◌, List, [], ◌∷◌, suc, length, map, cond, ap, refl, arith}
+use Rattle.std.specs.List.{filter, sum_by}
 use Rattle.std.proofs.lemmas.List.Sums.{sum_by-cons}
-use Rattle.std.proofs.lemmas.List.Elements.{All-head, All-tail}
+use Rattle.std.proofs.lemmas.List.Folds.{fold-map}
 use Rattle.std.proofs.Math.Nat.{mul-pos, eq_of_mul-eq-mul_right}
 use Rattle.council_game.specs.Game.{GameView, IsGame, AreNonemptyCoalitions}
 use Rattle.council_game.proofs.Games.{votes-are}
 use Rattle.power_index.specs.Counting.{members, contains, size_of, count_of_member}
 use Rattle.power_index.specs.Fractions.{unit_sum, pair_sum, AddUpToOne}
 use Rattle.power_index.specs.Indices.{deegan_packel, public_good, sizes_of_member}
-use Rattle.power_index.proofs.Sums.{sum-map, sum-cong, swap}
+use Rattle.power_index.proofs.Sums.{exchange, sum-filter, sum-times}
 use Rattle.power_index.proofs.Members.{few-members, members-of, memberships, sizes-some, sizes-within, size-pos, size-le}
 use Rattle.power_index.proofs.Units.{over_common, each_divides, divides, bottom_pos}
 use Rattle.power_index.specs.Tables.{denominator}
@@ -44,23 +44,26 @@ adds_up k q w is pos each bottoms whole = record {
 whole_weight : (g : GameView) (list : List ℕ) → length g.names ≤ 40 → AreNonemptyCoalitions g list → sum_by (λ c. size_of g c * (denominator / size_of g c)) list ≡ length list * denominator
 whole_weight g [] few h = omega arith
 whole_weight g (c ∷ cs) few h =
-    let head : (0 < c) × (c < 2 ^ length g.names) = All-head (λ c. (0 < c) × (c < 2 ^ length g.names)) c cs h in
+    let head = h 0 c (omega arith) in
     let one : 1 ≤ size_of g c = size-pos (length g.names) c few head.0 head.1 in
-    let le : size_of g c ≤ length g.names = size-le (length g.names) c in
-    let d = divides (size_of g c) one (omega arith) in
-    let rest = whole_weight g cs few (All-tail (λ c. (0 < c) × (c < 2 ^ length g.names)) c cs h) in
-    let e = sum_by-cons (λ x. size_of g x * (denominator / size_of g x)) c cs in
-    omega (arith, d, rest, e)
+    let all = divides (size_of g c) one (omega (arith, size-le (length g.names) c, few)) in
+    let rest = whole_weight g cs few (λ k d lt. h (suc k) d (omega (arith, lt))) in
+    simp sum_by-cons (omega (arith, all, rest))
 
 weights : (g : GameView) (list : List ℕ) → IsGame g → AreNonemptyCoalitions g list
     → sum_by (λ i. sum_by (λ s. denominator / s) (sizes_of_member g list i)) (members g) ≡ length list * denominator
 weights g list game h =
-    sum-cong (λ i. sum_by (λ s. denominator / s) (sizes_of_member g list i)) (λ i. sum_by (λ c. denominator / size_of g c) (filter (contains g i) list))
-    (λ i. sum-map (λ s. denominator / s) (size_of g) (filter (contains g i) list)) (members g)
-    ∙ (swap (contains g) (λ c. denominator / size_of g c) (members g) list
-    ∙ (sum-cong (λ c. count_by (λ i. contains g i c) (members g) * (denominator / size_of g c)) (λ c. size_of g c * (denominator / size_of g c))
-    (λ c. ap (λ n. n * (denominator / size_of g c)) (members-of g game c)) list
-    ∙ whole_weight g list (few-members g game) h))
+    (λ k. sum_by (λ i. own i k) (members g)) ∙ exchange (λ i c. cond (contains g i c) 1 0 * unit c) (members g) list
+    ∙ (λ k. sum_by (λ c. each c k) list) ∙ whole_weight g list (few-members g game) h
+  where
+    unit : ℕ → ℕ
+    unit c = denominator / size_of g c
+
+    own : (i : ℕ) → sum_by (λ s. denominator / s) (sizes_of_member g list i) ≡ sum_by (λ c. cond (contains g i c) 1 0 * unit c) list
+    own i = fold-map (λ (a : ℕ) (s : ℕ). a + denominator / s) (size_of g) 0 (filter (contains g i) list) ∙ sum-filter unit (contains g i) list
+
+    each : (c : ℕ) → sum_by (λ i. cond (contains g i c) 1 0 * unit c) (members g) ≡ size_of g c * unit c
+    each c = sum-times (λ i. cond (contains g i c) 1 0) (unit c) (members g) ∙ ap (λ n. n * unit c) (members-of g game c)
 
 pub deegan_packel-adds_up : (g : GameView) (list : List ℕ) → IsGame g → 0 < length list → AreNonemptyCoalitions g list → AddUpToOne (map (deegan_packel g list) (members g))
 unfolding deegan_packel
@@ -81,4 +84,4 @@ public_good-adds_up g list game some h =
     (λ i. refl) (λ i. all-some) refl
   where
     all-some : 0 < sum_by (λ j. count_of_member g j list) (members g)
-    all-some = let a = memberships g list game in let b = sizes-some g list (few-members g game) h in omega (arith, a, b)
+    all-some = omega (arith, memberships g list game, sizes-some g list (few-members g game) h)

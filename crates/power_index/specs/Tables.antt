@@ -1,5 +1,5 @@
 -- Tables of counts, and when they hold the counts of a list of coalitions.
-use Rattle.std.specs.Prelude.{ℕ, zero, suc, ◌+◌, ◌*◌, ◌/◌, ◌≡◌, ◌≤◌, ◌<◌, ◌==◌, ◌&&◌, Bool, true, List, [], length, slice_index, slice_index_or, sum_by}
+use Rattle.std.specs.Prelude.{ℕ, ◌+◌, ◌*◌, ◌/◌, ◌≡◌, ◌≤◌, ◌<◌, ◌==◌, ◌&&◌, Bool, true, List, [], length, slice_index, slice_index_or, sum_by}
 use Rattle.std.specs.List.{filter, range_with_len}
 use Rattle.council_game.specs.Votes.{has, size}
 use Rattle.council_game.specs.Game.{GameView, IsGame}
@@ -47,8 +47,7 @@ denominator = 5342931457063200
 
 -- the sum of f s * (d / s) for s from 1 to n: f s fractions 1 / s each, over a denominator d
 abbrev pub weighted_sum : ℕ → (ℕ → ℕ) → ℕ → ℕ
-weighted_sum d f zero = 0
-weighted_sum d f (suc n) = weighted_sum d f n + f (suc n) * (d / suc n)
+weighted_sum d f n = sum_by (λ s. f s * (d / s)) (range_with_len 1 n)
 
 -- the tables hold the counts of a list of coalitions of a game
 pub record AreCounts (g : GameView) (list : List ℕ) (t : Tables) : Type 0 where
@@ -56,12 +55,14 @@ pub record AreCounts (g : GameView) (list : List ℕ) (t : Tables) : Type 0 wher
   pub total : table_total t ≡ length list
   pub of_size : (s : ℕ) → s ≤ t.members → table_of_size t s ≡ count_of_size g s list
   pub of_member : (i : ℕ) → i < t.members → table_of_member t i ≡ count_of_member g i list
-  pub of_member_size : (i s : ℕ) → i < t.members → s ≤ t.members → table_of_member_size t i s ≡ count_of_member_size g i s list
+  pub of_member_size : (i s : ℕ) → i < t.members → s ≤ t.members →
+      table_of_member_size t i s ≡ count_of_member_size g i s list
 
 -- a tally counts those of a list, coalitions of n members, that pass a test, by size
 pub record IsTallyOf (n : ℕ) (p : ℕ → Bool) (list : List ℕ) (t : Tally) : Type 0 where
   pub long : length t.sizes ≡ 41
-  pub sizes : (s : ℕ) → s ≤ 40 → slice_index t.sizes s ≡ length (filter (λ c. p c && (size n c == s)) list)
+  pub sizes : (s : ℕ) → s ≤ 40 →
+      slice_index t.sizes s ≡ length (filter (λ c. p c && (size n c == s)) list)
 
 -- the tallies are those of a list: of all, and of those that contain each rank place
 pub record AreTalliesOf (n : ℕ) (list : List ℕ) (t : Tables) : Type 0 where
@@ -92,9 +93,11 @@ pub record AreWithin (most : ℕ) (t : Tables) : Type 0 where
   pub few : table_total t ≤ most
   pub few_of_size : (s : ℕ) → s ≤ t.members → table_of_size t s ≤ most
   pub few_of_member : (i : ℕ) → i < t.members → table_of_member t i ≤ most
-  pub few_of_member_size : (i s : ℕ) → i < t.members → s ≤ t.members → table_of_member_size t i s ≤ most
+  pub few_of_member_size : (i s : ℕ) → i < t.members → s ≤ t.members →
+      table_of_member_size t i s ≤ most
   pub memberships : 1 ≤ table_memberships t
-  pub light : (i : ℕ) → i < t.members → weighted_sum denominator (table_of_member_size t i) t.members ≤ denominator * table_total t
+  pub light : (i : ℕ) → i < t.members →
+      weighted_sum denominator (table_of_member_size t i) t.members ≤ denominator * table_total t
 
 -- what holds of the tables of 1 to 4000000 coalitions, none of them empty
 abbrev pub AreSound : Tables → Type 0

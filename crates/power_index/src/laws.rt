@@ -19,7 +19,8 @@ pub fn deegan_packel_adds_up()
 /// empty, if there is one in it.
 pub fn public_good_adds_up()
     ensures { (g : GameView) (list : List ℕ) → IsGame g
-        → 0 < length list → AreNonemptyCoalitions g list → AddUpToOne (map (public_good g list) (members g)) }
+        → 0 < length list → AreNonemptyCoalitions g list
+        → AddUpToOne (map (public_good g list) (members g)) }
 {}
 
 /// The minimal winning coalitions of a game are such a list: there is one, none is empty, and there
@@ -27,7 +28,8 @@ pub fn public_good_adds_up()
 pub fn minimal_coalitions_can_be_counted()
     ensures few { (g : GameView) → IsGame g → length (minimal_coalitions (votes_of g)) ≤ 2 ^ 40 }
     ensures some { (g : GameView) → IsGame g → 0 < length (minimal_coalitions (votes_of g)) }
-    ensures coalitions { (g : GameView) → IsGame g → AreNonemptyCoalitions g (minimal_coalitions (votes_of g)) }
+    ensures coalitions { (g : GameView) → IsGame g →
+        AreNonemptyCoalitions g (minimal_coalitions (votes_of g)) }
 {}
 
 /// A pair with a bottom above 0 has one form in lowest terms, and it is the one that is computed.
@@ -38,7 +40,8 @@ pub fn lowest_terms_are_unique()
 /// Tables that hold a list of coalitions of a game as they are counted, by rank place, hold its
 /// counts.
 pub fn tallies_are_counts()
-    ensures { (g : GameView) (list : List ℕ) (t : Tables) → AreTallies g list t → AreCounts g list t }
+    ensures { (g : GameView) (list : List ℕ) (t : Tables) →
+        AreTallies g list t → AreCounts g list t }
 {}
 
 /// Two indices that are the same number are one: their pairs are equal.

@@ -11,7 +11,8 @@ with_one t s = record { sizes = slice_set t.sizes s (slice_index t.sizes s + 1) 
 -- a tally has the numbers of two, added size by size
 pub record IsJoined (s t u : Tally) : Type 0 where
   pub long : length u.sizes ≡ 41
-  pub sizes : (k : ℕ) → k ≤ 40 → slice_index u.sizes k ≡ slice_index s.sizes k + slice_index t.sizes k
+  pub sizes : (k : ℕ) → k ≤ 40 →
+      slice_index u.sizes k ≡ slice_index s.sizes k + slice_index t.sizes k
 
 -- the tables are those of some list of coalitions of a game: no game has more than 2 ^ 40
 pub record AreOfSomeList (t : Tables) : Type 0 where
