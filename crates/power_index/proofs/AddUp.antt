@@ -65,9 +65,9 @@ weights g list game h =
     each : (c : ℕ) → sum_by (λ i. cond (contains g i c) 1 0 * unit c) (members g) ≡ size_of g c * unit c
     each c = sum-times (λ i. cond (contains g i c) 1 0) (unit c) (members g) ∙ ap (λ n. n * unit c) (members-of g game c)
 
-pub deegan_packel-adds_up : (g : GameView) (list : List ℕ) → IsGame g → 0 < length list → AreNonemptyCoalitions g list → AddUpToOne (map (deegan_packel g list) (members g))
+pub deegan_packel_adds_up : (g : GameView) (list : List ℕ) → IsGame g → 0 < length list → AreNonemptyCoalitions g list → AddUpToOne (map (deegan_packel g list) (members g))
 unfolding deegan_packel
-deegan_packel-adds_up g list game some h =
+deegan_packel_adds_up g list game some h =
     adds_up (denominator * length list) (deegan_packel g list) (λ i. sum_by (λ s. denominator / s) (sizes_of_member g list i)) (members g) (omega arith)
     (λ i. scale (sum_by (λ s. denominator / s) (sizes_of_member g list i)) (unit_sum (sizes_of_member g list i)).1 (unit_sum (sizes_of_member g list i)).0
     (over_common denominator (sizes_of_member g list i) (each_divides (length g.names) (sizes_of_member g list i) (few-members g game) (sizes-within g list i (votes-are g game).some))))
@@ -77,9 +77,9 @@ deegan_packel-adds_up g list game some h =
     scale : (w b a : ℕ) → w * b ≡ a * denominator → a * (denominator * length list) ≡ w * (b * length list)
     scale w b a e = omega (arith, ap (λ v. v * length list) e)
 
-pub public_good-adds_up : (g : GameView) (list : List ℕ) → IsGame g → 0 < length list → AreNonemptyCoalitions g list → AddUpToOne (map (public_good g list) (members g))
+pub public_good_adds_up : (g : GameView) (list : List ℕ) → IsGame g → 0 < length list → AreNonemptyCoalitions g list → AddUpToOne (map (public_good g list) (members g))
 unfolding public_good
-public_good-adds_up g list game some h =
+public_good_adds_up g list game some h =
     adds_up (sum_by (λ j. count_of_member g j list) (members g)) (public_good g list) (λ i. count_of_member g i list) (members g) all-some
     (λ i. refl) (λ i. all-some) refl
   where

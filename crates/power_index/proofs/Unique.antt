@@ -60,8 +60,8 @@ lowest-unique p q r pos h k =
     same-pair q.0 q.1 r.0 r.1 (eq_of_mul-eq-mul_right q.1 h.positive q.0 r.0 (ap (λ v. q.0 * v) bottoms ∙ cross)) bottoms
 
 -- two indices that are the same number
-pub index-unique : (p q : ℕ × ℕ) → IsIndex p → IsIndex q → SameFraction p q → p ≡ q
-index-unique p q h k same =
+pub index_unique : (p q : ℕ × ℕ) → IsIndex p → IsIndex q → SameFraction p q → p ≡ q
+index_unique p q h k same =
     lowest-unique p p q h.some
     (record { positive = h.some; same = λ i. p.0 * p.1; lowest = h.lowest })
     (record { positive = k.some; same = sym same; lowest = k.lowest })

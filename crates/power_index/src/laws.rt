@@ -10,6 +10,7 @@ ghost use Rattle.std.specs.Prelude.{◌≡◌, ℕ, ◌<◌, ◌≤◌, ◌^◌,
 
 /// The Deegan-Packel indices of a game's members add up to 1, over each list of coalitions that are not
 /// empty, if there is one in it.
+#[tactic(auto, using(crate::proofs::AddUp::deegan_packel_adds_up))]
 pub fn deegan_packel_adds_up()
     ensures { (g : GameView) (list : List ℕ) → IsGame g → 0 < length list
         → AreNonemptyCoalitions g list → AddUpToOne (map (deegan_packel g list) (members g)) }
@@ -17,6 +18,7 @@ pub fn deegan_packel_adds_up()
 
 /// The public good indices of a game's members add up to 1, over each list of coalitions that are not
 /// empty, if there is one in it.
+#[tactic(auto, using(crate::proofs::AddUp::public_good_adds_up))]
 pub fn public_good_adds_up()
     ensures { (g : GameView) (list : List ℕ) → IsGame g
         → 0 < length list → AreNonemptyCoalitions g list
@@ -33,6 +35,7 @@ pub fn minimal_coalitions_can_be_counted()
 {}
 
 /// A pair with a bottom above 0 has one form in lowest terms, and it is the one that is computed.
+#[tactic(auto, using(crate::proofs::LowestTerms::has_lowest_terms))]
 pub fn lowest_terms_are_unique()
     ensures { (p : ℕ × ℕ) → 0 < p.1 → HasLowestTerms p }
 {}
@@ -45,6 +48,7 @@ pub fn tallies_are_counts()
 {}
 
 /// Two indices that are the same number are one: their pairs are equal.
+#[tactic(auto, using(crate::proofs::Unique::index_unique))]
 pub fn same_indices_are_equal()
     ensures { (p q : ℕ × ℕ) → IsIndex p → IsIndex q → SameFraction p q → p ≡ q }
 {}

@@ -1,4 +1,3 @@
-use Rattle.std.proofs.Math.Nat.{div-le_self}
 use Rattle.power_index.proofs.LowestTerms.{divided-is_lowest, divided-is_terms}
 use Rattle.power_index.proofs.Quotients.{gcd-pos}
 use Rattle.power_index.proofs.fraction.lowest.Goals as goal
@@ -14,6 +13,3 @@ returns-clause-lowest c = divided-is_lowest _ _ _ c.requires c.gcd-divisor.ensur
 
 pub returns-clause-terms : goal.returns-clause-terms
 returns-clause-terms c = divided-is_terms _ _ _ c.requires c.gcd-divisor.ensures
-
-pub returns-clause-small : goal.returns-clause-small
-returns-clause-small c = div-le_self _ _

@@ -1,12 +1,9 @@
 use Rattle.std.proofs.Common.{◌≡◌, ℕ, ◌-◌, ◌≤◌, ◌^◌, arith, subst, sym, get_or}
 use Rattle.std.specs.Int.{w64, trailing_zeros}
 use Rattle.power_index.specs.declared.tally.Tally.{Tally}
-use Rattle.council_game.proofs.Digits.{lowest-place, lowest-cleared, without-less}
-use Rattle.power_index.proofs.Walks.{Walked, walked-start, walked-step, walked-all}
+use Rattle.council_game.proofs.Digits.{lowest-place, lowest-cleared}
+use Rattle.power_index.proofs.Walks.{Walked, walked-step, walked-all}
 use Rattle.power_index.proofs.wide_counts.add_to_places.Goals as goal
-
-pub loop-rest-init : goal.loop-rest-init
-loop-rest-init c = walked-start c.args.members c.args.coalition c.args.size c.args.by_place.now c.mask-rest.result c.mask-rest.ensures.same c.requires.below (omega arith)
 
 pub overflow_sub-place-in-loop-rest : goal.overflow_sub-place-in-loop-rest
 overflow_sub-place-in-loop-rest c =
@@ -19,14 +16,6 @@ add-requires-clause-room c =
     let place : ℕ = c.args.members - 1 - trailing_zeros w64 c.loop-rest.rest in
     let waits = c.loop-rest.invariant.waiting place (omega (arith, next.0)) next.1 in
     subst (λ (t : Tally). get_or t.sizes c.args.size 0 ≤ 2 ^ 40) (sym waits) (c.requires.room place (omega (arith, next.0)))
-
-pub loop-rest-smaller : goal.loop-rest-smaller
-loop-rest-smaller c =
-    let next = lowest-place c.args.members c.loop-rest.rest c.requires.few (omega arith) c.loop-rest.invariant.below in
-    let place : ℕ = c.args.members - 1 - trailing_zeros w64 c.loop-rest.rest in
-    let less = without-less c.args.members place c.loop-rest.rest (omega arith) in
-    let left = lowest-cleared c.args.members c.loop-rest.rest c.requires.few (omega arith) c.loop-rest.invariant.below in
-    omega (arith, less, left)
 
 pub loop-rest-preserved : goal.loop-rest-preserved
 loop-rest-preserved c =

@@ -1,14 +1,11 @@
 use Rattle.std.proofs.Common.{arith, ◌++◌, ℕ, List}
 use Rattle.council_game.specs.Game.{GameView}
 use Rattle.power_index.specs.Tables.{AreTallies}
-use Rattle.power_index.proofs.Sound.{some-of_all, some-of_place, some-members, join-hold, join-some, join-total}
+use Rattle.power_index.proofs.Sound.{some-of_all, some-of_place, join-hold, join-some, join-total}
 use Rattle.power_index.proofs.wide_counts.WideCounts.add.Goals as goal
 
 pub join-requires : goal.join-requires
 join-requires c s le = let a = some-of_all _ s le c.self.invariant in let b = some-of_all _ s le c.other.invariant in omega (arith, a, b)
-
-pub join_places-requires-clause-few : goal.join_places-requires-clause-few
-join_places-requires-clause-few c = (some-members _ c.self.invariant).1
 
 pub join_places-requires-clause-room : goal.join_places-requires-clause-room
 join_places-requires-clause-room c p s lt le =
