@@ -1,5 +1,5 @@
 //! The lines of a report on their way to its writer.
-ghost use Rattle.std.specs.Prelude.{ℕ, List, length, All, OnOk};
+ghost use Rattle.std.specs.Prelude.{◌<◌, ◌≤◌, ◌^◌, ℕ, List, length, All, OnOk};
 ghost use Rattle.std.specs.List.{flat_map, range_with_len};
 ghost use Rattle.power_index.specs.Counting.{members};
 ghost use Rattle.council_game.specs.Game.{AreNonemptyCoalitions};
@@ -15,6 +15,30 @@ use crate::output::{Block, WriteFault};
 use crate::shared::SharedLine;
 use council_game::{Coalition, Game};
 use std::io::Write;
+
+/// The line of a coalition.
+fn put_coalition<W: Write>(
+    block: &mut Block,
+    writer: &mut W,
+    game: &Game,
+    coalition: Coalition,
+    line: &mut SharedLine,
+) -> Result<(), WriteFault>
+    requires some { 0 < coalition }
+    requires below { coalition < 2 ^ length game.now.names }
+    requires line { IsReadyLine game.now line.old }
+    requires ready { IsReady block.old }
+    requires counted { CanCount block.old (coalition_line game.now coalition) }
+    ensures puts { Puts (coalition_line game.now coalition)
+        (W.contents writer.old) block.old (W.contents writer.new) block.new result }
+    ensures line { IsReadyLine game.now line.new }
+{
+    line.move_to(game, coalition);
+    match line.push(&mut block.bytes, game) {
+        Ok(()) => block.settle(writer),
+        Err(_) => unreachable!(),
+    }
+}
 
 /// A line for each coalition, in the order of the list, whichever that is.
 pub(crate) fn put_coalitions<W: Write>(
@@ -33,11 +57,7 @@ pub(crate) fn put_coalitions<W: Write>(
     ensures line { OnOk result (IsReadyLine game.now line.new) }
 {
     for coalition in list {
-        line.move_to(game, *coalition);
-        match line.push(&mut block.bytes, game) {
-            Ok(()) => block.settle(writer)?,
-            Err(_) => unreachable!(),
-        }
+        put_coalition(block, writer, game, *coalition, line)?;
     }
     Ok(())
 }
@@ -53,7 +73,8 @@ pub(crate) fn put_pieces<W: Write>(
     requires coalitions { All (λ p. AreNonemptyCoalitions game.now p.now) pieces.now }
     requires line { IsReadyLine game.now line.old }
     requires ready { IsReady block.old }
-    requires counted { CanCount block.old (flat_map (λ p. flat_map (coalition_line game.now) p.now) pieces.now) }
+    requires counted { CanCount block.old
+        (flat_map (λ p. flat_map (coalition_line game.now) p.now) pieces.now) }
     ensures { Puts (flat_map (λ p. flat_map (coalition_line game.now) p.now) pieces.now)
         (W.contents writer.old) block.old (W.contents writer.new) block.new result }
 {
@@ -61,6 +82,27 @@ pub(crate) fn put_pieces<W: Write>(
         put_coalitions(block, writer, game, piece, line)?;
     }
     Ok(())
+}
+
+/// The line of a size, where some coalition has it.
+fn put_size<W: Write>(
+    block: &mut Block,
+    writer: &mut W,
+    counted: &Counted<'_>,
+    size: usize,
+) -> Result<(), WriteFault>
+    ghost list: { List ℕ }
+    requires list { IsCounted counted.now.game.now list counted.now.counts.now }
+    requires size { size ≤ length counted.now.game.now.names }
+    requires ready { IsReady block.old }
+    requires counted { CanCount block.old (size_line counted.now.game.now list size) }
+    ensures { Puts (size_line counted.now.game.now list size)
+        (W.contents writer.old) block.old (W.contents writer.new) block.new result }
+{
+    match push_size(&mut block.bytes, counted, size) {
+        Ok(()) => block.settle(writer),
+        Err(_) => unreachable!(),
+    }
 }
 
 /// A line for each size that some coalition has.
@@ -72,19 +114,37 @@ pub(crate) fn put_sizes<W: Write>(
     ghost list: { List ℕ }
     requires list { IsCounted counted.now.game.now list counted.now.counts.now }
     requires ready { IsReady block.old }
-    requires counted { CanCount block.old
-        (flat_map (size_line counted.now.game.now list) (range_with_len 1 (length counted.now.game.now.names))) }
-    ensures { Puts
-        (flat_map (size_line counted.now.game.now list) (range_with_len 1 (length counted.now.game.now.names)))
+    requires counted { CanCount block.old (flat_map (size_line counted.now.game.now list)
+        (range_with_len 1 (length counted.now.game.now.names))) }
+    ensures { Puts (flat_map (size_line counted.now.game.now list)
+        (range_with_len 1 (length counted.now.game.now.names)))
         (W.contents writer.old) block.old (W.contents writer.new) block.new result }
 {
     for size in 1..counted.members + 1 {
-        match push_size(&mut block.bytes, counted, size) {
-            Ok(()) => block.settle(writer)?,
-            Err(_) => unreachable!(),
-        }
+        put_size(block, writer, counted, size)?;
     }
     Ok(())
+}
+
+/// The line of a member.
+fn put_member<W: Write>(
+    block: &mut Block,
+    writer: &mut W,
+    counted: &Counted<'_>,
+    member: usize,
+) -> Result<(), WriteFault>
+    ghost list: { List ℕ }
+    requires list { IsCounted counted.now.game.now list counted.now.counts.now }
+    requires member { member < length counted.now.game.now.names }
+    requires ready { IsReady block.old }
+    requires counted { CanCount block.old (member_line counted.now.game.now list member) }
+    ensures { Puts (member_line counted.now.game.now list member)
+        (W.contents writer.old) block.old (W.contents writer.new) block.new result }
+{
+    match push_member(&mut block.bytes, counted, member) {
+        Ok(()) => block.settle(writer),
+        Err(_) => unreachable!(),
+    }
 }
 
 /// A line for each member.
@@ -102,10 +162,7 @@ pub(crate) fn put_members<W: Write>(
         (W.contents writer.old) block.old (W.contents writer.new) block.new result }
 {
     for member in 0..counted.members {
-        match push_member(&mut block.bytes, counted, member) {
-            Ok(()) => block.settle(writer)?,
-            Err(_) => unreachable!(),
-        }
+        put_member(block, writer, counted, member)?;
     }
     Ok(())
 }

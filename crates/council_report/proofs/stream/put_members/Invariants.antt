@@ -11,5 +11,5 @@ invariant-loop-member g l =
     Lasts (progress_of (g.W.Write.contents l.initial.writer) l.initial.block) (g.W.Write.contents l.writer) l.block
     (flat_map (member_line l.counted.game.now g.list) (take l.member (members l.counted.game.now)))
 
-abbrev pub ghost-push_member : goal.ghost-push_member
-ghost-push_member g a = g.list
+abbrev pub ghost-put_member : goal.ghost-put_member
+ghost-put_member g a = g.list

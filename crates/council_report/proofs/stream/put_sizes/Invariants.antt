@@ -10,5 +10,5 @@ invariant-loop-size g l =
     Lasts (progress_of (g.W.Write.contents l.initial.writer) l.initial.block) (g.W.Write.contents l.writer) l.block
     (flat_map (size_line l.counted.game.now g.list) (take (l.size - 1) (range_with_len 1 (length l.counted.game.now.names))))
 
-abbrev pub ghost-push_size : goal.ghost-push_size
-ghost-push_size g a = g.list
+abbrev pub ghost-put_size : goal.ghost-put_size
+ghost-put_size g a = g.list

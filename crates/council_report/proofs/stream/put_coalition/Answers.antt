@@ -1,0 +1,13 @@
+use Rattle.std.proofs.Common.{refl}
+use Rattle.council_report.proofs.Bounds.{coalition-fits}
+use Rattle.council_report.proofs.Lasting.{ready-takes, puts-line}
+use Rattle.council_report.proofs.stream.put_coalition.Goals as goal
+
+pub unreachable-requires : goal.unreachable-requires
+unreachable-requires g c =
+    ready-takes c.requires.ready c.in-Err.ensures.room (coalition-fits c.args.game.now c.requires.line.is.game c.move_to.new.self.coalition)
+
+pub returns-clause-puts : goal.returns-clause-puts
+returns-clause-puts g c =
+    puts-line _ _ _ c.args.block.now (record { bytes = c.push.new.out; written = c.args.block.now.written }) c.settle.new.self c.settle.result c.requires.ready
+    refl (rw c.move_to.ensures.coalition at c.in-Ok.ensures.items) c.in-Ok.ensures.room.capacity c.settle.ensures.ok c.settle.ensures.ready c.settle.ensures.err
