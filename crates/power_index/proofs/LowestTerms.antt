@@ -1,8 +1,8 @@
 -- The greatest common divisor by search is the one that Euclid's algorithm finds, and what it gives is in lowest terms.
-use Rattle.std.proofs.Common.{◌≡◌, ℕ, zero, suc, ◌/◌, ◌%◌, ◌<◌, ◌≤◌, ◌==◌, true, sym, ap, subst, arith, inl, inr}
+use Rattle.std.proofs.Common.{◌≡◌, ◌≢◌, ℕ, zero, suc, ◌/◌, ◌%◌, ◌<◌, ◌≤◌, ◌==◌, true, false, sym, ap, subst, arith}
 use Rattle.std.specs.Int.{IsGcd, ◌∣◌}
 use Rattle.std.proofs.lemmas.Nat.Gcd.{IsGcd-from_zero, IsGcd-from_mod, le_from_IsGcd, le_of_dvd, dvd_of_mod-eq-zero, mod-eq-zero_of_dvd}
-use Rattle.std.proofs.lemmas.Bool.{cases_Bool, cases_eq, cond-true, cond-false, and_parts, and_from, eqb-true, eq-eqb, both_ways}
+use Rattle.std.proofs.lemmas.Bool.{cond_both, and_parts, and_from, eqb-true, eq-eqb, both_ways}
 use Rattle.std.proofs.Math.Nat.{mod-lt, one-dvd}
 use Rattle.power_index.specs.Fractions.{divides_both, common_divisor_up_to, greatest_common_divisor, lowest_terms, IsLowestOf, HasLowestTerms}
 use Rattle.power_index.proofs.Quotients.{gcd-pos, quotient-pos, same_fraction, coprime}
@@ -20,32 +20,26 @@ to-test a b d da db = and_from (a % d == 0) (b % d == 0) (eq-eqb _ _ (mod-eq-zer
 found-divides : (a b n : ℕ) → (common_divisor_up_to a b n ∣ a) × (common_divisor_up_to a b n ∣ b)
 unfolding common_divisor_up_to
 found-divides a b zero = (one-dvd a, one-dvd b)
-found-divides a b (suc n) = elim (cases_Bool (divides_both a b (suc n))) [
-  | inl divides ↦ subst (λ (d : ℕ). (d ∣ a) × (d ∣ b)) (sym (cond-true (divides_both a b (suc n)) (suc n) (common_divisor_up_to a b n) divides)) (from-test a b (suc n) divides)
-  | inr fails ↦ subst (λ (d : ℕ). (d ∣ a) × (d ∣ b)) (sym (cond-false (divides_both a b (suc n)) (suc n) (common_divisor_up_to a b n) fails)) (found-divides a b n)
-]
+found-divides a b (suc n) =
+    cond_both (divides_both a b (suc n)) (suc n) (common_divisor_up_to a b n) (λ d. (d ∣ a) × (d ∣ b)) (from-test a b (suc n)) (λ fails. found-divides a b n)
 
 -- and no common divisor that it came by is greater
 found-greatest : (a b n d : ℕ) → 0 < d → d ≤ n → d ∣ a → d ∣ b → d ≤ common_divisor_up_to a b n
 unfolding common_divisor_up_to
 found-greatest a b zero d pos le da db = absurd (omega arith)
-found-greatest a b (suc n) d pos le da db = elim (cases_Bool (divides_both a b (suc n))) [
-  | inl divides ↦ let e = cond-true (divides_both a b (suc n)) (suc n) (common_divisor_up_to a b n) divides in omega (arith, e)
-  | inr fails ↦
-      let e = cond-false (divides_both a b (suc n)) (suc n) (common_divisor_up_to a b n) fails in
-      elim (cases_eq d (suc n)) [
-        | inl same ↦ absurd (both_ways _ fails (subst (λ (k : ℕ). divides_both a b k ≡ true) same (to-test a b d da db)))
-        | inr other ↦ let rest = found-greatest a b n d pos (omega arith) da db in omega (arith, e, rest)
-      ]
-]
+found-greatest a b (suc n) d pos le da db =
+    cond_both (divides_both a b (suc n)) (suc n) (common_divisor_up_to a b n) (λ g. d ≤ g) (λ _. le)
+    (λ fails. let other = differs fails in found-greatest a b n d pos (omega (arith, other)) da db)
+  where
+    differs : divides_both a b (suc n) ≡ false → d ≢ suc n
+    differs fails same = both_ways _ fails (subst (λ (k : ℕ). divides_both a b k ≡ true) same (to-test a b d da db))
 
 pub gcd-is : (a b g : ℕ) → 0 < b → IsGcd a b g → greatest_common_divisor a b ≡ g
 gcd-is a b g pos h =
     let g-pos = gcd-pos a b g pos h in
-    let up = found-greatest a b b g g-pos (le_of_dvd pos h.1) h.0 h.1 in
     let both = found-divides a b b in
     let down = le_from_IsGcd a b g (greatest_common_divisor a b) h g-pos both.0 both.1 in
-    omega (arith, up, down)
+    omega (arith, found-greatest a b b g g-pos (le_of_dvd pos h.1) h.0 h.1, down)
 
 -- two numbers have a greatest common divisor
 some-gcd : (n a b : ℕ) → b ≤ n → (g : ℕ) × IsGcd a b g

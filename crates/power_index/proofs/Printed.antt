@@ -1,17 +1,15 @@
 -- The fractions that the code makes, as the indices.
 use Rattle.std.proofs.Common.{◌≡◌, ◌∙◌, ℕ, ◌*◌, ◌<◌, ◌≤◌, List, length, get_or, sym, ap, arith}
-use Rattle.std.specs.List.{sum_by, range_with_len}
+use Rattle.std.specs.List.{range_with_len}
 use Rattle.std.proofs.Math.Nat.{le_of_mul-le-mul_right, mul-le-mul, mul-pos}
 use Rattle.std.proofs.lemmas.List.Sums.{get_or-le-sum_by}
 use Rattle.std.proofs.lemmas.List.FromFn.{length-range_with_len, get_or-range_with_len}
 use Rattle.council_game.specs.Game.{GameView}
-use Rattle.power_index.specs.Counting.{members, count_of_member}
 use Rattle.power_index.specs.Tables.{Tables, denominator, weighted_sum, AreCounts, table_total, table_of_member, table_of_member_size, table_memberships}
 use Rattle.power_index.specs.Fractions.{IsLowestOf}
 use Rattle.power_index.specs.Indices.{deegan_packel, public_good, sizes_of_member}
-use Rattle.power_index.proofs.Sums.{sum-range}
 use Rattle.power_index.proofs.Units.{mean, bottom_pos}
-use Rattle.power_index.proofs.Weights.{within, weight}
+use Rattle.power_index.proofs.Weights.{within, weight, memberships-are}
 
 pub deegan-packel-is : (g : GameView) (list : List ℕ) (t : Tables) (i top bottom : ℕ) → i < t.members → t.members ≤ 40 → AreCounts g list t
     → IsLowestOf (weighted_sum denominator (table_of_member_size t i) t.members, denominator * table_total t) (top, bottom) → IsLowestOf (deegan_packel g list i) (top, bottom)
@@ -37,11 +35,6 @@ pub deegan-packel-le : (t : Tables) (i top bottom : ℕ) → 1 ≤ table_total t
     → IsLowestOf (weighted_sum denominator (table_of_member_size t i) t.members, denominator * table_total t) (top, bottom) → top ≤ bottom
 deegan-packel-le t i top bottom some light is =
     at-most-one (weighted_sum denominator (table_of_member_size t i) t.members) (denominator * table_total t) top bottom (omega arith) light is.same
-
-memberships-are : (g : GameView) (list : List ℕ) (t : Tables) → AreCounts g list t → table_memberships t ≡ sum_by (λ j. count_of_member g j list) (members g)
-memberships-are g list t h =
-    sum-range (table_of_member t) (λ i. count_of_member g i list) 0 t.members (λ j _ lt. h.of_member j (omega arith))
-    ∙ ap (λ n. sum_by (λ i. count_of_member g i list) (range_with_len 0 n)) h.members
 
 pub public-good-bottom : (g : GameView) (list : List ℕ) (t : Tables) (i : ℕ) → 1 ≤ table_memberships t → AreCounts g list t → 0 < (public_good g list i).1
 unfolding public_good

@@ -1,6 +1,6 @@
 -- Tables that hold the tallies of a list hold its counts, and what holds of counts.
 use Rattle.std.proofs.Common.{◌≡◌, ◌∙◌, ◌==◌, ◌&&◌, ℕ, ◌+◌, ◌^◌, ◌<◌, ◌≤◌, List, [], ◌∷◌, ◌++◌, length, get_or, replicate, cond, true, sym, ap, refl, arith, subst, suc, length-append}
-use Rattle.std.specs.List.{All, filter, sum_by, range_with_len}
+use Rattle.std.specs.List.{All, filter}
 use Rattle.std.proofs.lemmas.List.{get_or-replicate}
 use Rattle.std.proofs.lemmas.List.Elements.{All-append, All-push}
 use Rattle.council_game.specs.Votes.{has, size}
@@ -8,13 +8,13 @@ use Rattle.council_game.specs.Game.{GameView, IsGame, AreNonemptyCoalitions}
 use Rattle.council_game.proofs.Games.{votes-are}
 use Rattle.council_game.proofs.Making.{ranks-are}
 use Rattle.power_index.specs.declared.tally.Tally.{Tally}
-use Rattle.power_index.specs.Counting.{members, contains, size_of, count_of_member}
+use Rattle.power_index.specs.Counting.{contains, size_of}
 use Rattle.power_index.specs.Tables.{Tables, IsTallyOf, AreTalliesOf, AreTallies, AreOfOneGame, AreCounts, AreWithin, no_tally, tally_total, table_total, table_of_member}
 use Rattle.power_index.specs.Inner.Tables.{AreOfSomeList, IsJoined, with_one}
-use Rattle.power_index.proofs.Sums.{length-filter-le, sum-range}
+use Rattle.power_index.proofs.Sums.{length-filter-le}
 use Rattle.power_index.proofs.Members.{few-members, memberships, sizes-some, size-le}
 use Rattle.power_index.proofs.Tallies.{tallies-total, tallies-few, tallies-more, tallies-join}
-use Rattle.power_index.proofs.Weights.{weight-light}
+use Rattle.power_index.proofs.Weights.{weight-light, memberships-are}
 
 filter-all : (list : List ℕ) → length (filter (λ (c : ℕ). true) list) ≡ length list
 filter-all [] = refl
@@ -46,19 +46,14 @@ tallies-are_counts g list t h =
 pub counts-sound : (most : ℕ) (g : GameView) (list : List ℕ) (t : Tables) → IsGame g → 1 ≤ length list → length list ≤ most → AreNonemptyCoalitions g list
     → AreCounts g list t → AreWithin most t
 counts-sound most g list t game some few within h = record {
-  some_members = (let votes = votes-are g game in omega (arith, h.members, votes.some));
-  few_members = (let few = few-members g game in omega (arith, h.members, few));
+  some_members = omega (arith, h.members, (votes-are g game).some);
+  few_members = omega (arith, h.members, few-members g game);
   some = omega (arith, h.total);
   few = omega (arith, h.total);
-  few_of_size = λ s le. (let a = h.of_size s le in let b = length-filter-le (λ c. size_of g c == s) list in omega (arith, a, b));
-  few_of_member = λ i lt. (let a = h.of_member i lt in let b = length-filter-le (contains g i) list in omega (arith, a, b));
-  few_of_member_size = λ i s lt le. (let a = h.of_member_size i s lt le in let b = length-filter-le (λ c. contains g i c && (size_of g c == s)) list in omega (arith, a, b));
-  memberships =
-      (let a : sum_by (table_of_member t) (range_with_len 0 t.members) ≡ sum_by (λ i. count_of_member g i list) (range_with_len 0 t.members) = sum-range (table_of_member t) (λ i. count_of_member g i list) 0 t.members (λ j _ lt. h.of_member j (omega arith)) in
-      let b : sum_by (λ i. count_of_member g i list) (range_with_len 0 t.members) ≡ sum_by (λ i. count_of_member g i list) (members g) = ap (λ n. sum_by (λ i. count_of_member g i list) (range_with_len 0 n)) h.members in
-      let d = memberships g list game in
-      let e = sizes-some g list (few-members g game) within in
-      omega (arith, a, b, d, e));
+  few_of_size = λ s le. omega (arith, h.of_size s le, length-filter-le (λ c. size_of g c == s) list);
+  few_of_member = λ i lt. omega (arith, h.of_member i lt, length-filter-le (contains g i) list);
+  few_of_member_size = λ i s lt le. omega (arith, h.of_member_size i s lt le, length-filter-le (λ c. contains g i c && (size_of g c == s)) list);
+  memberships = omega (arith, memberships-are g list t h, memberships g list game, sizes-some g list (few-members g game) within);
   light = λ i lt. weight-light g list t i lt h;
 }
 
@@ -74,8 +69,7 @@ some-within most t h some few =
 pub some-members : (t : Tables) → AreOfSomeList t → (1 ≤ t.members) × (t.members ≤ 40)
 some-members t h =
     let votes = votes-are h.game h.tallies.of_game.is_game in
-    let few = few-members h.game h.tallies.of_game.is_game in
-    (omega (arith, h.tallies.of_game.members, votes.some), omega (arith, h.tallies.of_game.members, few))
+    (omega (arith, h.tallies.of_game.members, votes.some), omega (arith, h.tallies.of_game.members, votes.few))
 
 pub some-total : (t : Tables) → AreOfSomeList t → table_total t ≤ 2 ^ 40
 some-total t h = let counts = some-counts t h in omega (arith, counts.total, h.few)
@@ -83,30 +77,30 @@ some-total t h = let counts = some-counts t h in omega (arith, counts.total, h.f
 pub some-of_size : (t : Tables) (s : ℕ) → s ≤ t.members → AreOfSomeList t → get_or t.all.sizes s 0 ≤ table_total t
 some-of_size t s le h =
     let counts = some-counts t h in
-    let a = counts.of_size s le in
-    let b = length-filter-le (λ c. size_of h.game c == s) h.list in
-    omega (arith, a, b, counts.total)
+    omega (arith, counts.of_size s le, length-filter-le (λ c. size_of h.game c == s) h.list, counts.total)
 
 pub some-of_member : (t : Tables) (i : ℕ) → i < t.members → AreOfSomeList t → table_of_member t i ≤ table_total t
 some-of_member t i lt h =
     let counts = some-counts t h in
-    let a = counts.of_member i lt in
-    let b = length-filter-le (contains h.game i) h.list in
-    omega (arith, a, b, counts.total)
+    omega (arith, counts.of_member i lt, length-filter-le (contains h.game i) h.list, counts.total)
 
 pub some-of_member_size : (t : Tables) (i s : ℕ) → i < t.members → s ≤ t.members → AreOfSomeList t → get_or (get_or t.each (get_or t.ranks i 0) no_tally).sizes s 0 ≤ table_total t
 some-of_member_size t i s lt le h =
     let counts = some-counts t h in
-    let a = counts.of_member_size i s lt le in
-    let b = length-filter-le (λ c. contains h.game i c && (size_of h.game c == s)) h.list in
-    omega (arith, a, b, counts.total)
+    omega (arith, counts.of_member_size i s lt le, length-filter-le (λ c. contains h.game i c && (size_of h.game c == s)) h.list, counts.total)
 
 -- a member's place is one of the places
-pub some-place : (t : Tables) (i : ℕ) → i < t.members → AreOfSomeList t → get_or t.ranks i 0 < t.members
+some-place : (t : Tables) (i : ℕ) → i < t.members → AreOfSomeList t → get_or t.ranks i 0 < t.members
 some-place t i lt h =
     let below = (ranks-are h.game h.tallies.of_game.is_game).place_below i (omega (arith, h.tallies.of_game.members)) in
-    let same = h.tallies.of_game.ranks i lt in
-    omega (arith, below, same, h.tallies.of_game.members)
+    omega (arith, below, h.tallies.of_game.ranks i lt, h.tallies.of_game.members)
+
+-- there is room for a member and its place
+pub some-room : (t u : Tables) (i : ℕ) → t ≡ u → i < u.members → AreOfSomeList t → (i < 40) × (get_or t.ranks i 0 < 40)
+some-room t u i same lt h =
+    let own : i < t.members = rw same lt in
+    let few = some-members t h in
+    (omega (arith, own, few.1), omega (arith, some-place t i own h, few.1))
 
 -- no number of a place is greater than the list is long
 pub some-of_place : (t : Tables) (p s : ℕ) → p < t.members → s ≤ 40 → AreOfSomeList t → get_or (get_or t.each p no_tally).sizes s 0 ≤ 2 ^ 40
@@ -198,30 +192,21 @@ join-some s t u a b one room made =
       game = a.game;
       list = a.list ++ b.list;
       coalitions = All-append (λ c. (0 < c) × (c < 2 ^ length a.game.names)) a.list b.list a.coalitions others;
-      few =
-          (let first = total-is a.game a.list s a.tallies in
-          let second = total-is b.game b.list t b.tallies in
-          let long = length-append a.list b.list in
-          omega (arith, first, second, long, room));
+      few = omega (arith, total-is a.game a.list s a.tallies, total-is b.game b.list t b.tallies, length-append a.list b.list, room);
       tallies = made moved;
     }
 
 -- what was counted in all
 pub more-total : (t u : Tables) (c : ℕ) (h : AreOfSomeList t) → AreTallies h.game (h.list ++ c ∷ []) u → table_total u ≡ table_total t + 1
 more-total t u c h more =
-    let old = total-is h.game h.list t h.tallies in
     let new = total-is h.game (h.list ++ c ∷ []) u more in
-    let long = length-append h.list (c ∷ []) in
-    omega (arith, old, new, long)
+    omega (arith, total-is h.game h.list t h.tallies, new, length-append h.list (c ∷ []))
 
 pub join-total : (s t u : Tables) (a : AreOfSomeList s) (b : AreOfSomeList t) → AreOfOneGame s t → (AreTallies a.game b.list t → AreTallies a.game (a.list ++ b.list) u) → table_total u ≡ table_total s + table_total t
 join-total s t u a b one made =
     let moved = of-first s t a.game b.game a.list b.list one a.tallies b.tallies in
-    let first = total-is a.game a.list s a.tallies in
-    let second = total-is b.game b.list t b.tallies in
     let both = total-is a.game (a.list ++ b.list) u (made moved) in
-    let long = length-append a.list b.list in
-    omega (arith, first, second, both, long)
+    omega (arith, total-is a.game a.list s a.tallies, total-is b.game b.list t b.tallies, both, length-append a.list b.list)
 
 pub one-game : (t : Tables) (all : Tally) (each : List Tally) → AreOfOneGame t (record { members = t.members; ranks = t.ranks; all = all; each = each })
 one-game t all each = record { members = refl; ranks = λ i lt. refl }

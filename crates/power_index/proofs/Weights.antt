@@ -1,11 +1,11 @@
 -- What the table of a member's sizes weighs: the unit fractions of its coalitions, over the common denominator.
 use Rattle.std.proofs.Common.{◌≡◌, ◌∙◌, ℕ, ◌+◌, ◌*◌, ◌/◌, ◌<◌, ◌≤◌, List, length, sym, ap, arith}
-use Rattle.std.specs.List.{filter, sum_by, AllByRecursion}
+use Rattle.std.specs.List.{filter, sum_by, range_with_len, AllByRecursion}
 use Rattle.std.proofs.lemmas.List.{length-map}
 use Rattle.std.proofs.lemmas.List.Folds.{fold-map}
 use Rattle.council_game.specs.Game.{GameView}
-use Rattle.power_index.specs.Counting.{contains, size_of, count_of_member_size}
-use Rattle.power_index.specs.Tables.{Tables, AreCounts, denominator, weighted_sum, table_total, table_of_member_size}
+use Rattle.power_index.specs.Counting.{members, contains, count_of_member, size_of, count_of_member_size}
+use Rattle.power_index.specs.Tables.{Tables, AreCounts, denominator, weighted_sum, table_total, table_of_member, table_of_member_size, table_memberships}
 use Rattle.power_index.specs.Indices.{sizes_of_member}
 use Rattle.power_index.proofs.Sums.{sum-range, sum-by_size, length-filter-le}
 use Rattle.power_index.proofs.Members.{sizes-within, size-pos-in, size-le}
@@ -31,3 +31,9 @@ weight-light g list t i lt h =
     let few = sum_few denominator (sizes_of_member g list i) in
     let long = length-map (filter (contains g i) list) (size_of g) in
     omega (arith, weight g list t i lt h, few, long, length-filter-le (contains g i) list, h.total)
+
+-- the numbers of all members, as the table has them
+pub memberships-are : (g : GameView) (list : List ℕ) (t : Tables) → AreCounts g list t → table_memberships t ≡ sum_by (λ j. count_of_member g j list) (members g)
+memberships-are g list t h =
+    sum-range (table_of_member t) (λ i. count_of_member g i list) 0 t.members (λ j _ lt. h.of_member j (omega arith))
+    ∙ ap (λ n. sum_by (λ i. count_of_member g i list) (range_with_len 0 n)) h.members

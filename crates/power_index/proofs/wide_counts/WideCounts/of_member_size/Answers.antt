@@ -1,23 +1,15 @@
 use Rattle.std.proofs.Common.{arith}
-use Rattle.power_index.proofs.Sound.{some-members, some-place, some-of_member_size}
+use Rattle.power_index.proofs.Sound.{some-members, some-room, some-of_member_size}
 use Rattle.power_index.proofs.wide_counts.WideCounts.of_member_size.Goals as goal
 
 pub offset_bounds-self-inside-member : goal.offset_bounds-self-inside-member
-offset_bounds-self-inside-member c = let few = some-members _ c.self.invariant in let member = rw (← c.self.view_is) at c.requires.member in omega (arith, few.1, member)
+offset_bounds-self-inside-member c = omega (arith, (some-room _ _ _ c.self.view_is c.requires.member c.self.invariant).0)
 
 pub offset_bounds-each-self-inside : goal.offset_bounds-each-self-inside
-offset_bounds-each-self-inside c =
-    let few = some-members _ c.self.invariant in
-    let member = rw (← c.self.view_is) at c.requires.member in
-    let place = some-place _ c.args.member member c.self.invariant in
-    omega (arith, few.1, place)
+offset_bounds-each-self-inside c = omega (arith, (some-room _ _ _ c.self.view_is c.requires.member c.self.invariant).1)
 
 pub bounds-each-self-inside : goal.bounds-each-self-inside
-bounds-each-self-inside c =
-    let few = some-members _ c.self.invariant in
-    let member = rw (← c.self.view_is) at c.requires.member in
-    let place = some-place _ c.args.member member c.self.invariant in
-    omega (arith, few.1, place)
+bounds-each-self-inside c = (some-room _ _ _ c.self.view_is c.requires.member c.self.invariant).1
 
 pub bounds-each-size : goal.bounds-each-size
 bounds-each-size c = let few = some-members _ c.self.invariant in let size = rw (← c.self.view_is) at c.requires.size in omega (arith, few.1, size)
