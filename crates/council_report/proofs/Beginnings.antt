@@ -1,11 +1,11 @@
 -- The places of a coalition, one by one, and what their members add to a line.
-use Rattle.std.proofs.Common.{◌≡◌, ℕ, zero, suc, ◌+◌, ◌-◌, ◌<◌, ◌≤◌, ◌++◌, Bool, true, false, cond, List, [], ◌∷◌, length, map, sum, filter, slice_index, refl, sym, ap, ◌∙◌, arith, append_assoc, inl, inr}
+use Rattle.std.proofs.Common.{◌≡◌, ℕ, zero, suc, ◌+◌, ◌-◌, ◌<◌, ◌≤◌, ◌++◌, Bool, true, false, cond, List, [], ◌∷◌, length, map, sum, filter, take, drop, slice_index, refl, sym, ap, ◌∙◌, arith, inl, inr}
 use Rattle.std.specs.List.{flat_map, range_with_len, AllByRecursion}
 use Rattle.std.proofs.lemmas.Bool.{cases_lt, cond-true, cond-false}
 use Rattle.std.proofs.lemmas.Grind.{flat_map-append}
-use Rattle.std.proofs.lemmas.List.{map-append, map-id, append-nil, length-map, get_or_past}
-use Rattle.std.proofs.lemmas.List.Elements.{All-from_recursion}
-use Rattle.std.proofs.lemmas.List.FromFn.{filter_of_map_range_with_len_more, length-range_with_len}
+use Rattle.std.proofs.lemmas.List.{map-append, map-id, append-nil, length-map, get_or_past, take-append-drop}
+use Rattle.std.proofs.lemmas.List.Elements.{All-from_recursion, filter-append}
+use Rattle.std.proofs.lemmas.List.FromFn.{filter_of_map_range_with_len_more, take-map-range_with_len, length-range_with_len}
 use Rattle.std.proofs.lemmas.List.Sums.{sum_by-append, sum_by-cons}
 use Rattle.council_game.specs.Votes.{RuleView, IsRule, has, weight, rule_at}
 use Rattle.council_game.specs.Game.{GameView, IsGame, votes_of}
@@ -17,15 +17,10 @@ use Rattle.council_report.specs.Lines.{with_tab, names_of}
 use Rattle.council_report.specs.Inner.Shared.{places_before, name_at, fields_of, weights_under, weight_of_places, HasNoneFrom, SameBefore}
 use Rattle.council_report.proofs.Bounds.{with_tab-fits, each-field, name-fits}
 
-filter-more : (p : ℕ → Bool) (k : ℕ) → filter p (range_with_len 0 (k + 1)) ≡ filter p (range_with_len 0 k) ++ cond (p k) (k ∷ []) []
-filter-more p k =
-    let e = filter_of_map_range_with_len_more p (λ x. x) 0 k k (omega arith) in
-    simp map-id at e
-
 -- ---- the places before one
 before-more : (n c k : ℕ) → places_before n c (k + 1) ≡ places_before n c k ++ cond (has n k c) (k ∷ []) []
 unfolding places_before
-before-more n c k = filter-more (λ p. has n p c) k
+before-more n c k = simp map-id at (filter_of_map_range_with_len_more (λ p. has n p c) (λ x. x) 0 k k (omega arith))
 
 pub before-none : (n c : ℕ) → places_before n c 0 ≡ []
 unfolding places_before
@@ -66,27 +61,21 @@ before-all n c k le none =
     let e : k + m ≡ n = omega (arith, le) in
     ap (places_before n c) (sym e) ∙ before-further n c k m none (omega (arith, e))
 
--- those of m places more come behind
-before-split : (n c k m : ℕ) → (rest : List ℕ) × (places_before n c (k + m) ≡ places_before n c k ++ rest)
-before-split n c k zero = ([], ap (places_before n c) (let e : k + zero ≡ k = omega arith in e) ∙ sym (append-nil (places_before n c k)))
-before-split n c k (suc m) =
-    let s = before-split n c k m in
-    let next : k + suc m ≡ k + m + 1 = omega arith in
-    let more : List ℕ = cond (has n (k + m) c) ((k + m) ∷ []) [] in (
-      s.0 ++ more,
-      ap (places_before n c) next ∙ before-more n c (k + m) ∙ ap (λ (ps : List ℕ). ps ++ more) s.1
-          ∙ append_assoc (places_before n c k) s.0 more,
-    )
-
+-- those of the places from k on come behind
 pub before-front : (n c k j : ℕ) → k ≤ j → (rest : List ℕ) × (places_before n c j ≡ places_before n c k ++ rest)
+unfolding places_before
 before-front n c k j le =
-    let s = before-split n c k (j - k) in
-    let e : k + (j - k) ≡ j = omega (arith, le) in
-    (s.0, ap (places_before n c) (sym e) ∙ s.1)
+    let In : ℕ → Bool = λ p. has n p c in
+    let behind : List ℕ = drop k (range_with_len 0 j) in
+    let front : take k (range_with_len 0 j) ≡ range_with_len 0 k = simp map-id at (take-map-range_with_len (λ x. x) 0 j k le) in (
+      filter In behind,
+      sym (ap (filter In) (take-append-drop k (range_with_len 0 j))) ∙ filter-append In (take k (range_with_len 0 j)) behind
+          ∙ ap (λ (ps : List ℕ). filter In ps ++ filter In behind) front,
+    )
 
 before-few : (n c k : ℕ) → length (places_before n c k) ≤ k
 unfolding places_before
-before-few n c k = let less = length-filter-le (λ p. has n p c) (range_with_len 0 k) in omega (arith, less, length-range_with_len 0 k)
+before-few n c k = omega (arith, length-filter-le (λ p. has n p c) (range_with_len 0 k), length-range_with_len 0 k)
 
 -- ---- the names
 pub fields-append : (g : GameView) (ps qs : List ℕ) → fields_of g (ps ++ qs) ≡ fields_of g ps ++ fields_of g qs

@@ -1,10 +1,13 @@
 -- No line of coalitions, sizes or members is longer than the room that a block keeps for it.
-use Rattle.std.proofs.Common.{◌≡◌, ℕ, ◌+◌, ◌*◌, ◌^◌, ◌<◌, ◌≤◌, ◌++◌, List, [], ◌∷◌, length, get_or, map, codes, decimal, Bool, true, false, cond, ◌==◌, ◌&&◌, arith, length-append, subst, sym, ap}
-use Rattle.std.specs.List.{AllByRecursion, flat_map, filter, range_with_len}
+use Rattle.std.proofs.Common.{◌≡◌, ℕ, ◌+◌, ◌*◌, ◌^◌, ◌<◌, ◌≤◌, ◌++◌, List, [], ◌∷◌, length, get_or, map, codes, decimal, Bool, cond, ◌==◌, ◌&&◌, arith, length-append, subst, sym, ap}
+use Rattle.std.specs.List.{All, AllByRecursion, flat_map, filter, range_with_len}
 use Rattle.std.proofs.lemmas.Fmt.{length-decimal-le, length-decimal-le_wide}
+use Rattle.std.proofs.lemmas.Bool.{cond_both}
 use Rattle.std.proofs.lemmas.List.{length-map}
+use Rattle.std.proofs.lemmas.List.Concat.{length-flat_map}
+use Rattle.std.proofs.lemmas.List.Sums.{sum_by-le}
 use Rattle.std.proofs.lemmas.List.FromFn.{length-range_with_len, get_or-range_with_len}
-use Rattle.std.proofs.lemmas.List.Elements.{recursion_from_All}
+use Rattle.std.proofs.lemmas.List.Elements.{All-from_recursion}
 use Rattle.council_game.specs.Votes.{RuleView, IsRule, places_of, size, weight}
 use Rattle.council_game.specs.Ranks.{member_at}
 use Rattle.council_game.specs.Game.{GameView, IsGame, votes_of}
@@ -26,11 +29,8 @@ abbrev pub IsField : List ℕ → Type 0
 IsField field = length field ≤ 84
 
 pub with_tab-fits : (fields : List (List ℕ)) → AllByRecursion IsField fields → length (flat_map with_tab fields) ≤ length fields * 85
-with_tab-fits [] h = omega arith
-with_tab-fits (f ∷ fs) h =
-    let first : length f ≤ 84 = h.0 in
-    let rest = with_tab-fits fs h.1 in
-    omega (arith, first, rest, length-append (with_tab f) (flat_map with_tab fs))
+with_tab-fits fields h =
+    rw (length-flat_map with_tab fields) (sum_by-le (λ f. length (with_tab f)) 85 fields (λ k d lt. let fit = All-from_recursion IsField fields h k d lt in omega (arith, fit)))
 
 -- a line of at most 42 fields
 line-fits : (word : List ℕ) (fields : List (List ℕ)) → length word ≤ 9 → length fields ≤ 42 → AllByRecursion IsField fields → length (line word fields) ≤ 4096
@@ -73,16 +73,9 @@ pub each-field : {X : Type 0} (f : X → List ℕ) → ((x : X) → IsField (f x
 each-field f h [] = tt
 each-field f h (x ∷ xs) = (h x, each-field f h xs)
 
-weighed-values : (n c : ℕ) (rs : List RuleView) → AllByRecursion (IsRule n) rs → AllByRecursion (λ v. v < 2 ^ 64) (map (λ r. weight r.weights c) rs)
-weighed-values n c [] h = tt
-weighed-values n c (r ∷ rs) h =
-    let most = weight-le r.weights c in
-    let sum = h.0.light in
-    (omega (arith, most, sum), weighed-values n c rs h.1)
-
-own-values : (i n : ℕ) (rs : List RuleView) → i < n → AllByRecursion (λ r. (k : ℕ) → k < n → get_or r.weights k 0 ≤ 1000000000000) rs → AllByRecursion (λ v. v < 2 ^ 64) (map (λ r. get_or r.weights i 0) rs)
-own-values i n [] lt h = tt
-own-values i n (r ∷ rs) lt h = let most = h.0 i lt in (omega (arith, most), own-values i n rs lt h.1)
+each-number : (P : RuleView → Type 0) (f : RuleView → ℕ) → ((r : RuleView) → P r → f r < 2 ^ 64) → (rs : List RuleView) → AllByRecursion P rs → AllByRecursion (λ v. v < 2 ^ 64) (map f rs)
+each-number P f small [] h = tt
+each-number P f small (r ∷ rs) h = (small r h.0, each-number P f small rs h.1)
 
 pub name-fits : (g : GameView) → IsGame g → (i : ℕ) → IsField (name_of g i)
 name-fits g game i = let fit = names-fit g game i in omega (arith, fit)
@@ -101,17 +94,13 @@ coalition-fits g game c =
     line-fits (codes "coalition") (decimal (size (length g.names) c) ∷ with_slashes (weights_of_coalition g c) ∷ names_of g c) (omega arith) (omega (arith, names, some, forty)) (
       number-field (size (length g.names) c) (omega (arith, some, forty)),
       (
-        with_slashes-fits (weights_of_coalition g c) (omega (arith, rules, few)) (weighed-values (length g.names) c (votes_of g).rules each),
+        with_slashes-fits (weights_of_coalition g c) (omega (arith, rules, few)) (each-number (IsRule (length g.names)) (λ r. weight r.weights c) (λ r is. omega (arith, weight-le r.weights c, is.light)) (votes_of g).rules each),
         each-field (λ p. name_of g (member_at g.ranks p)) (λ p. name-fits g game (member_at g.ranks p)) (places_of (length g.names) c),
       ),
     )
 
 count-field : (p : ℕ → Bool) (list : List ℕ) → length list ≤ 2 ^ 40 → IsField (decimal (length (filter p list)))
 count-field p list few = let less = length-filter-le p list in number-field (length (filter p list)) (omega (arith, less, few))
-
-shown-fits : (b : Bool) (text : List ℕ) → length text ≤ 4096 → length (cond b [] text) ≤ 4096
-shown-fits true text h = omega arith
-shown-fits false text h = h
 
 pub size-fits : (g : GameView) → IsGame g → (list : List ℕ) → length list ≤ 2 ^ 40 → (s : ℕ) → s ≤ length g.names → length (size_line g list s) ≤ 4096
 unfolding size_line
@@ -120,8 +109,8 @@ size-fits g game list few s le =
     let count : ℕ → List ℕ = λ i. decimal (count_of_member_size g i s list) in
     let long = length-map (members g) count in
     let all = length-range_with_len 0 (length g.names) in
-    shown-fits (count_of_size g s list == 0) (line (codes "size") (decimal s ∷ decimal (count_of_size g s list) ∷ map count (members g)))
-    (line-fits (codes "size") (decimal s ∷ decimal (count_of_size g s list) ∷ map count (members g)) (omega arith) (omega (arith, long, all, forty)) (
+    cond_both (count_of_size g s list == 0) [] (line (codes "size") (decimal s ∷ decimal (count_of_size g s list) ∷ map count (members g))) (λ text. length text ≤ 4096) (λ _. omega arith)
+    (λ _. line-fits (codes "size") (decimal s ∷ decimal (count_of_size g s list) ∷ map count (members g)) (omega arith) (omega (arith, long, all, forty)) (
       number-field s (omega (arith, le, forty)),
       (
         count-field (λ c. size_of g c == s) list few,
@@ -135,7 +124,9 @@ member-fits g game list some few i lt =
     let deegan = deegan_packel-wide g list i game some few in
     let public = public_good-wide g list i game few in
     let rules = length-map g.rules (λ r. get_or r.weights i 0) in
-    let weights = with_slashes-fits (weights_of_member g i) (omega (arith, rules, game.few_rules)) (own-values i (length g.names) g.rules lt (light-weights g game)) in
+    let IsLight : RuleView → Type 0 = λ r. (k : ℕ) → k < length g.names → get_or r.weights k 0 ≤ 1000000000000 in
+    let own = each-number IsLight (λ r. get_or r.weights i 0) (λ r light. let most = light i lt in omega (arith, most)) g.rules (light-weights g game) in
+    let weights = with_slashes-fits (weights_of_member g i) (omega (arith, rules, game.few_rules)) own in
     let first = fraction-fits (lowest_terms (deegan_packel g list i)).0 (lowest_terms (deegan_packel g list i)).1 deegan.0 deegan.1 in
     let second = fraction-fits (lowest_terms (public_good g list i)).0 (lowest_terms (public_good g list i)).1 public.0 public.1 in
     let indices : AllByRecursion IsField (index_fields g list i) = (first, (omega arith, (second, (omega arith, tt)))) in
@@ -143,27 +134,20 @@ member-fits g game list some few i lt =
     (name-fits g game i, (weights, (count-field (contains g i) list few, indices)))
 
 -- ---- the lines together
-rows-fit : {X : Type 0} (f : X → List ℕ) (xs : List X) → AllByRecursion (λ x. length (f x) ≤ 4096) xs → length (flat_map f xs) ≤ length xs * 4096
-rows-fit f [] h = omega arith
-rows-fit f (x ∷ xs) h =
-    let first : length (f x) ≤ 4096 = h.0 in
-    let rest = rows-fit f xs h.1 in
-    omega (arith, first, rest, length-append (f x) (flat_map f xs))
+rows-fit : {X : Type 0} (f : X → List ℕ) (xs : List X) → All (λ x. length (f x) ≤ 4096) xs → length (flat_map f xs) ≤ length xs * 4096
+rows-fit f xs all = rw (length-flat_map f xs) (sum_by-le (λ x. length (f x)) 4096 xs all)
 
-each-coalition : (g : GameView) → IsGame g → (list : List ℕ) → AllByRecursion (λ c. length (coalition_line g c) ≤ 4096) list
-each-coalition g game [] = tt
-each-coalition g game (c ∷ cs) = (coalition-fits g game c, each-coalition g game cs)
-
--- what fits from a on, n numbers
-each-number : (f : ℕ → List ℕ) (a n : ℕ) → ((k : ℕ) → k < n → length (f (a + k)) ≤ 4096) → AllByRecursion (λ k. length (f k) ≤ 4096) (range_with_len a n)
-each-number f a n h = recursion_from_All (λ k. length (f k) ≤ 4096) (range_with_len a n) (λ i d lt.
+-- those of n numbers from a on
+numbers-fit : (f : ℕ → List ℕ) (a n : ℕ) → ((k : ℕ) → k < n → length (f (a + k)) ≤ 4096) → length (flat_map f (range_with_len a n)) ≤ n * 4096
+numbers-fit f a n h =
     let long = length-range_with_len a n in
-    let at = get_or-range_with_len a n i d (omega (arith, long, lt)) in
-    subst (λ k. length (f k) ≤ 4096) (sym at) (h i (omega (arith, long, lt))))
+    let all = rows-fit f (range_with_len a n) (λ i d lt.
+    let below : i < n = omega (arith, long, lt) in
+    subst (λ k. length (f k) ≤ 4096) (sym (get_or-range_with_len a n i d below)) (h i below)) in
+    omega (arith, all, long)
 
 chosen-fits : (b : Bool) (text : List ℕ) (n : ℕ) → length text ≤ n → length (cond b text []) ≤ n
-chosen-fits true text n h = h
-chosen-fits false text n h = omega arith
+chosen-fits b text n h = cond_both b text [] (λ t. length t ≤ n) (λ _. h) (λ _. omega arith)
 
 -- 2^40 + 80 lines at most
 pub lines-fit : (shown : Shown) (g : GameView) → IsGame g → (list : List ℕ) → 1 ≤ length list → length list ≤ 2 ^ 40 → length (lines shown g list) ≤ 2 ^ 53
@@ -171,17 +155,12 @@ lines-fit shown g game list some few =
     let n : ℕ = length g.names in
     let forty = few-members g game in
     let coalitions : length (coalition_lines shown g list) ≤ 2 ^ 52 =
-    let fit = rows-fit (coalition_line g) list (each-coalition g game list) in
+    let fit = rows-fit (coalition_line g) list (λ k d lt. coalition-fits g game (get_or list k d)) in
     chosen-fits shown.list (flat_map (coalition_line g) list) (2 ^ 52) (omega (arith, fit, few)) in
     let sizes : length (size_lines shown g list) ≤ 163840 =
-    let fit = rows-fit (size_line g list) (range_with_len 1 n) (each-number (size_line g list) 1 n (λ k lt. size-fits g game list few (1 + k) (omega (arith, lt)))) in
-    let long = length-range_with_len 1 n in
-    chosen-fits shown.sizes (flat_map (size_line g list) (range_with_len 1 n)) 163840 (omega (arith, fit, long, forty)) in
-    let members : length (member_lines g list) ≤ 163840 =
-    let fit = rows-fit (member_line g list) (range_with_len 0 n) (each-number (member_line g list) 0 n (λ k lt. member-fits g game list some few (0 + k) (omega (arith, lt)))) in
-    let long = length-range_with_len 0 n in
-    omega (arith, fit, long, forty) in
+    let fit = numbers-fit (size_line g list) 1 n (λ k lt. size-fits g game list few (1 + k) (omega (arith, lt))) in
+    chosen-fits shown.sizes (flat_map (size_line g list) (range_with_len 1 n)) 163840 (omega (arith, fit, forty)) in
+    let members = numbers-fit (member_line g list) 0 n (λ k lt. member-fits g game list some few (0 + k) (omega (arith, lt))) in
     let first = length-append (coalition_lines shown g list ++ size_lines shown g list) (member_lines g list) in
     let second = length-append (coalition_lines shown g list) (size_lines shown g list) in
-    let whole : length (lines shown g list) ≡ length (coalition_lines shown g list) + length (size_lines shown g list) + length (member_lines g list) = omega (arith, first, second) in
-    omega (arith, coalitions, sizes, members, whole)
+    omega (arith, coalitions, sizes, members, forty, first, second)

@@ -7,9 +7,6 @@ use Rattle.council_report.specs.Inner.Shared.{weights_under}
 use Rattle.council_report.proofs.Beginnings.{under-is, under-none}
 use Rattle.council_report.proofs.seat.weights_at.Goals as goal
 
-pub bounds-weights-rule : goal.bounds-weights-rule
-bounds-weights-rule c = omega (arith, c.requires.game.few_rules, c.rules-rule-end.ensures.count, c.loop-rule-test.true)
-
 pub loop-rule-preserved : goal.loop-rule-preserved
 loop-rule-preserved c = record {
   long = length-set c.loop-rule.weights c.loop-rule.rule c.rule_weight.result ∙ c.loop-rule.invariant.long;

@@ -1,12 +1,5 @@
-use Rattle.std.proofs.Common.{arith}
 use Rattle.council_report.proofs.SharedLines.{line-kept, no_mark}
 use Rattle.council_report.proofs.shared.SharedLine.keep.Goals as goal
-
-pub offset_bounds-self-shared : goal.offset_bounds-self-shared
-offset_bounds-self-shared c = omega (arith, c.requires.line.few, c.requires.line.within, c.requires.within)
-
-pub bounds-self-shared : goal.bounds-self-shared
-bounds-self-shared c = omega (arith, c.requires.line.few, c.requires.line.within, c.requires.within)
 
 pub returns-clause-line : goal.returns-clause-line
 returns-clause-line c =
