@@ -162,8 +162,8 @@ whole-names g c line w =
     w.is.names ∙ ap (λ (x : ℕ). fields_of g (places_before n x line.end)) w.coalition
     ∙ ap (fields_of g) (sym (before-all n c line.end w.is.within w.whole)) ∙ fields-all g c
 
-pub whole-weight : (g : GameView) (c : ℕ) (line : SharedLine) (d : Mark) → IsWholeLine g c line → (r : ℕ) → r < length g.rules → get_or (get_or line.marks line.end d).weights r 0 ≡ weight (rule_at (votes_of g).rules r).weights c
-whole-weight g c line d w r lt =
+pub whole_weight : (g : GameView) (c : ℕ) (line : SharedLine) (d : Mark) → IsWholeLine g c line → (r : ℕ) → r < length g.rules → get_or (get_or line.marks line.end d).weights r 0 ≡ weight (rule_at (votes_of g).rules r).weights c
+whole_weight g c line d w r lt =
     let n : ℕ = length g.names in
     let four = w.is.game.few_rules in
     (w.is.marks line.end d (omega arith)).weights r (omega (arith, lt, four))

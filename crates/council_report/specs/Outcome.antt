@@ -7,4 +7,5 @@ use Rattle.council_report.specs.declared.fault.ReportFault.TheVariants.{Memory, 
 -- nothing after want of memory; else the bytes that the writer took, which are the first ones
 abbrev pub Falls : Option (List ℕ) → Option (List ℕ) → List ℕ → ReportFault → Type 0
 Falls before after text Memory = Keeps before after
-Falls before after text (Write written) = (written ≤ length text) × Appends before after (take written text)
+Falls before after text (Write written) =
+    (written ≤ length text) × Appends before after (take written text)

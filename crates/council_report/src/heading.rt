@@ -16,7 +16,8 @@ use council_game::{Game, Memory};
 #[tactic(auto, unfolding(crate::specs::Lines::notation_line))]
 fn push_notation(out: &mut Vec<u8>, game: &Game, rule: usize) -> Result<(), Memory>
     requires { rule < length game.now.rules }
-    ensures items { OnOk result (out.new.items ≡ out.old.items ++ notation_line (rule_at game.now.rules rule)) }
+    ensures items { OnOk result (out.new.items ≡ out.old.items
+        ++ notation_line (rule_at game.now.rules rule)) }
     ensures capacity { vec_capacity out.old ≤ vec_capacity out.new }
 {
     out.extend_from_slice(b"notation\t")?;
@@ -26,7 +27,8 @@ fn push_notation(out: &mut Vec<u8>, game: &Game, rule: usize) -> Result<(), Memo
 }
 
 fn push_each_notation(out: &mut Vec<u8>, game: &Game) -> Result<(), Memory>
-    ensures items { OnOk result (out.new.items ≡ out.old.items ++ flat_map notation_line game.now.rules) }
+    ensures items { OnOk result (out.new.items ≡ out.old.items
+        ++ flat_map notation_line game.now.rules) }
     ensures capacity { vec_capacity out.old ≤ vec_capacity out.new }
 {
     for rule in 0..game.rules() {

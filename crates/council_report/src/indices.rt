@@ -21,7 +21,8 @@ use std::alloc::AllocError;
 fn push_fraction(out: &mut Vec<u8>, fraction: Fraction) -> Result<(), AllocError>
     ensures items { OnOk result (out.new.items ≡ out.old.items
         ++ with_tab (decimal fraction.top ++ 47 ∷ decimal fraction.bottom)) }
-    ensures room { MakesRoomFor out.old out.new result (with_tab (decimal fraction.top ++ 47 ∷ decimal fraction.bottom)) }
+    ensures room { MakesRoomFor out.old out.new result
+        (with_tab (decimal fraction.top ++ 47 ∷ decimal fraction.bottom)) }
 {
     let mut buffer = Buffer::new();
     push_field(out, buffer.format(fraction.top).as_bytes())?;
@@ -52,7 +53,8 @@ fn push_deegan_packel(
     requires member { member < length counted.now.game.now.names }
     ensures items { OnOk result (out.new.items ≡ out.old.items
         ++ index_text (deegan_packel counted.now.game.now list member)) }
-    ensures room { MakesRoomFor out.old out.new result (index_text (deegan_packel counted.now.game.now list member)) }
+    ensures room { MakesRoomFor out.old out.new result
+        (index_text (deegan_packel counted.now.game.now list member)) }
 {
     push_index(out, counted.counts.deegan_packel(member))
 }
@@ -68,7 +70,8 @@ fn push_public_good(
     requires member { member < length counted.now.game.now.names }
     ensures items { OnOk result (out.new.items ≡ out.old.items
         ++ index_text (public_good counted.now.game.now list member)) }
-    ensures room { MakesRoomFor out.old out.new result (index_text (public_good counted.now.game.now list member)) }
+    ensures room { MakesRoomFor out.old out.new result
+        (index_text (public_good counted.now.game.now list member)) }
 {
     push_index(out, counted.counts.public_good(member))
 }
@@ -82,8 +85,8 @@ fn push_counts(out: &mut Vec<u8>, counted: &Counted<'_>, size: usize) -> Result<
         ++ flat_map with_tab (map (λ i. decimal
         (count_of_member_size counted.now.game.now i size list)) (members counted.now.game.now))) }
     ensures room { MakesRoomFor out.old out.new result
-        (flat_map with_tab (map (λ i. decimal (count_of_member_size counted.now.game.now i size list))
-        (members counted.now.game.now))) }
+        (flat_map with_tab (map (λ i. decimal
+        (count_of_member_size counted.now.game.now i size list)) (members counted.now.game.now))) }
 {
     for member in 0..counted.game.members() {
         push_number(out, counted.counts.of_member_size(member, size))?;
@@ -101,7 +104,8 @@ pub(crate) fn push_size(
     ghost list: { List ℕ }
     requires list { IsCounted counted.now.game.now list counted.now.counts.now }
     requires size { size ≤ length counted.now.game.now.names }
-    ensures items { OnOk result (out.new.items ≡ out.old.items ++ size_line counted.now.game.now list size) }
+    ensures items { OnOk result (out.new.items ≡ out.old.items
+        ++ size_line counted.now.game.now list size) }
     ensures room { MakesRoomFor out.old out.new result (size_line counted.now.game.now list size) }
 {
     let count = counted.counts.of_size(size);
@@ -122,7 +126,8 @@ fn push_count(out: &mut Vec<u8>, counted: &Counted<'_>, member: usize) -> Result
     requires member { member < length counted.now.game.now.names }
     ensures items { OnOk result (out.new.items ≡ out.old.items
         ++ with_tab (decimal (count_of_member counted.now.game.now member list))) }
-    ensures room { MakesRoomFor out.old out.new result (with_tab (decimal (count_of_member counted.now.game.now member list))) }
+    ensures room { MakesRoomFor out.old out.new result
+        (with_tab (decimal (count_of_member counted.now.game.now member list))) }
 {
     push_number(out, counted.counts.of_member(member))
 }
@@ -132,7 +137,8 @@ fn push_weights(out: &mut Vec<u8>, game: &Game, member: usize) -> Result<(), All
     requires { member < length game.now.names }
     ensures items { OnOk result (out.new.items ≡ out.old.items
         ++ with_tab (with_slashes (weights_of_member game.now member))) }
-    ensures room { MakesRoomFor out.old out.new result (with_tab (with_slashes (weights_of_member game.now member))) }
+    ensures room { MakesRoomFor out.old out.new result
+        (with_tab (with_slashes (weights_of_member game.now member))) }
 {
     push_values(out, game.rules(), |r| game.rule_weight(r, member))
 }
@@ -148,7 +154,8 @@ fn push_member_counts(
     requires member { member < length counted.now.game.now.names }
     ensures items { OnOk result (out.new.items ≡ out.old.items
         ++ flat_map with_tab (member_fields counted.now.game.now list member)) }
-    ensures room { MakesRoomFor out.old out.new result (flat_map with_tab (member_fields counted.now.game.now list member)) }
+    ensures room { MakesRoomFor out.old out.new result
+        (flat_map with_tab (member_fields counted.now.game.now list member)) }
 {
     let game = counted.game;
     push_field(out, game.name(member).as_bytes())?;
@@ -163,7 +170,8 @@ fn push_indices(out: &mut Vec<u8>, counted: &Counted<'_>, member: usize) -> Resu
     requires member { member < length counted.now.game.now.names }
     ensures items { OnOk result (out.new.items ≡ out.old.items
         ++ flat_map with_tab (index_fields counted.now.game.now list member)) }
-    ensures room { MakesRoomFor out.old out.new result (flat_map with_tab (index_fields counted.now.game.now list member)) }
+    ensures room { MakesRoomFor out.old out.new result
+        (flat_map with_tab (index_fields counted.now.game.now list member)) }
 {
     push_deegan_packel(out, counted, member)?;
     push_public_good(out, counted, member)
@@ -179,8 +187,10 @@ pub(crate) fn push_member(
     ghost list: { List ℕ }
     requires list { IsCounted counted.now.game.now list counted.now.counts.now }
     requires member { member < length counted.now.game.now.names }
-    ensures items { OnOk result (out.new.items ≡ out.old.items ++ member_line counted.now.game.now list member) }
-    ensures room { MakesRoomFor out.old out.new result (member_line counted.now.game.now list member) }
+    ensures items { OnOk result (out.new.items ≡ out.old.items
+        ++ member_line counted.now.game.now list member) }
+    ensures room { MakesRoomFor out.old out.new result
+        (member_line counted.now.game.now list member) }
 {
     out.extend_from_slice(b"member")?;
     push_member_counts(out, counted, member)?;

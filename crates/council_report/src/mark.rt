@@ -34,7 +34,8 @@ impl Mark {
         ensures length { result.length ≡ self.length + length seat.now.field.items }
         ensures long { length result.weights ≡ 4 }
         ensures weights { (r : ℕ) → r < 4 →
-            slice_index result.weights r ≡ slice_index self.weights r + slice_index seat.now.weights r }
+            slice_index result.weights r ≡
+            slice_index self.weights r + slice_index seat.now.weights r }
     {
         let mut weights = self.weights;
         for rule in 0..limits::RULES {

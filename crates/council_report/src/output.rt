@@ -70,7 +70,8 @@ impl Block {
             (progress_of (W.contents writer.new) self.new) []) }
         ensures empty { OnOk result (self.new.bytes.items ≡ []) }
         ensures capacity { vec_capacity self.new.bytes ≡ vec_capacity self.old.bytes }
-        ensures err { IfErr result (λ fault. HasStopped (progress_of (W.contents writer.old) self.old)
+        ensures err { IfErr result (λ fault.
+            HasStopped (progress_of (W.contents writer.old) self.old)
             (W.contents writer.new) fault.written) }
     {
         let before = self.written;
@@ -93,7 +94,8 @@ impl Block {
         ensures ok { OnOk result (Tells (progress_of (W.contents writer.old) self.old)
             (progress_of (W.contents writer.new) self.new) []) }
         ensures ready { OnOk result (HasRoom self.old → IsReady self.new) }
-        ensures err { IfErr result (λ fault. HasStopped (progress_of (W.contents writer.old) self.old)
+        ensures err { IfErr result (λ fault.
+            HasStopped (progress_of (W.contents writer.old) self.old)
             (W.contents writer.new) fault.written) }
     {
         if self.bytes.len() + LINE <= ROOM {

@@ -137,7 +137,8 @@ fn write_over<W: Write>(
     requires list { IsCounted counted.now.game.now list counted.now.counts.now }
     requires pieces { shown.list ≡ true → flat_map (λ p. p.now) pieces.now ≡ list }
     requires coalitions { shown.list ≡ true → AreNonemptyCoalitions counted.now.game.now list }
-    ensures count { IfOk result (λ count. count ≡ length (report_over shown counted.now.game.now list)) }
+    ensures count { IfOk result (λ count.
+        count ≡ length (report_over shown counted.now.game.now list)) }
     ensures ok { OnOk result (Appends (W.contents writer.old) (W.contents writer.new)
         (report_over shown counted.now.game.now list)) }
     ensures err { IfErr result (Falls (W.contents writer.old) (W.contents writer.new)

@@ -118,10 +118,12 @@ impl SharedLine {
     }
 
     /// The weight of the coalition under a rule.
+    #[tactic(auto, using(crate::proofs::SharedLines::whole_weight))]
     fn weight_under(&self, game: &Game, rule: usize) -> u64
         requires line { IsWholeLine game.now self.now.coalition self.now }
         requires rule { rule < length game.now.rules }
-        ensures { result ≡ weight (rule_at (votes_of game.now).rules rule).weights self.now.coalition }
+        ensures { result ≡
+            weight (rule_at (votes_of game.now).rules rule).weights self.now.coalition }
     {
         let mark = self.marks[self.end];
         mark.weights[rule]
@@ -157,7 +159,8 @@ impl SharedLine {
         requires below { self.now.coalition < 2 ^ length game.now.names }
         ensures items { OnOk result
             (out.new.items ≡ out.old.items ++ coalition_line game.now self.now.coalition) }
-        ensures room { MakesRoomFor out.old out.new result (coalition_line game.now self.now.coalition) }
+        ensures room { MakesRoomFor out.old out.new result
+            (coalition_line game.now self.now.coalition) }
     {
         out.extend_from_slice(b"coalition")?;
         push_number(out, u64::from(self.coalition.size()))?;

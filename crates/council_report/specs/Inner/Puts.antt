@@ -6,11 +6,13 @@ use Rattle.council_report.specs.declared.output.Block.{Block}
 use Rattle.council_report.specs.declared.output.WriteFault.{WriteFault}
 
 -- a text was told, and the block is ready for a line
-pub record Lasts (before : Progress) (contents : Option (List ℕ)) (block : Block) (text : List ℕ) : Type 0 where
+pub record Lasts (before : Progress) (contents : Option (List ℕ)) (block : Block) (text : List ℕ)
+    : Type 0 where
   pub tells : Tells before (progress_of contents block) text
   pub ready : IsReady block
 
 -- What a writer and a block hold before and after a call that tells a text: it lasts, or writing stopped in the text.
-abbrev pub Puts : List ℕ → Option (List ℕ) → Block → Option (List ℕ) → Block → Result (Unit {0}) WriteFault → Type 0
+abbrev pub Puts : List ℕ → Option (List ℕ) → Block → Option (List ℕ) → Block
+    → Result (Unit {0}) WriteFault → Type 0
 Puts text held old now new (Ok _) = Lasts (progress_of held old) now new text
 Puts text held old now new (Err fault) = StopsIn (progress_of held old) text now fault.written

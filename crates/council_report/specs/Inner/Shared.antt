@@ -55,7 +55,8 @@ pub record IsLine (g : GameView) (line : SharedLine) : Type 0 where
   pub seats : AreSeats g (length g.names) line.seats.items
   pub room : 4096 ≤ vec_capacity line.names
   pub within : line.end ≤ length g.names
-  pub names : line.names.items ≡ fields_of g (places_before (length g.names) line.coalition line.end)
+  pub names : line.names.items ≡
+      fields_of g (places_before (length g.names) line.coalition line.end)
   pub long : length line.marks ≡ 41
   pub marks : (k : ℕ) (d : Mark) → k ≤ line.end →
       IsMark g (places_before (length g.names) line.coalition k) (slice_index_or line.marks k d)

@@ -9,7 +9,10 @@ pub record Progress : Type 0 where
   pub count : ℕ
 
 abbrev pub progress_of : Option (List ℕ) → Block → Progress
-progress_of contents block = record { bytes = option_map (λ held. held ++ block.bytes.items) contents; count = block.written + length block.bytes.items }
+progress_of contents block = record {
+  bytes = option_map (λ held. held ++ block.bytes.items) contents;
+  count = block.written + length block.bytes.items;
+}
 
 -- the same, and this text after it
 pub record Tells (before after : Progress) (text : List ℕ) : Type 0 where
@@ -28,7 +31,8 @@ pub record HasStopped (before : Progress) (held : Option (List ℕ)) (written : 
   pub holds : HoldsBut before.bytes held (before.count - written)
 
 -- it stopped somewhere in this text: after its front was told
-pub record StopsIn (before : Progress) (text : List ℕ) (held : Option (List ℕ)) (written : ℕ) : Type 0 where
+pub record StopsIn (before : Progress) (text : List ℕ) (held : Option (List ℕ)) (written : ℕ)
+    : Type 0 where
   pub front : List ℕ
   pub rest : List ℕ
   pub at : Progress
