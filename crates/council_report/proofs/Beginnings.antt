@@ -166,8 +166,3 @@ weights-light g game r c k le =
           omega (arith, whole, weights-all g game r c lt, most, rule.light)
       | inr past ↦ omega (arith, weights-past g r past (places_before n c k))
     ]
-
--- a rule's weights by rank
-pub under-is : (g : GameView) (r : ℕ) → weights_under g r ≡ (rule_at (votes_of g).rules r).weights
-unfolding weights_under
-under-is g r = refl

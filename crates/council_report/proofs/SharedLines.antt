@@ -3,9 +3,9 @@ use Rattle.std.proofs.Common.{◌≡◌, ◌≢◌, ℕ, ◌+◌, ◌^◌, ◌<�
 use Rattle.std.specs.Global.{Global}
 use Rattle.std.specs.Vec.{vec_capacity}
 use Rattle.std.specs.List.{flat_map}
-use Rattle.std.proofs.Math.Seq.{take-append_seam, get_or-append_seam}
+use Rattle.std.proofs.Math.Seq.{take-append_seam}
 use Rattle.std.proofs.lemmas.Bool.{cases_lt}
-use Rattle.std.proofs.lemmas.List.{get_or-set_other, get_or-set_same, length-set, get_or_append_left}
+use Rattle.std.proofs.lemmas.List.{get_or-set_other, get_or-set_same, length-set}
 use Rattle.council_game.specs.Votes.{has, weight, rule_at}
 use Rattle.council_game.specs.Game.{GameView, IsGame, votes_of}
 use Rattle.power_index.proofs.Members.{few-members}
@@ -141,19 +141,6 @@ added-short g line seat is more in' seat-is =
     let names = ap (λ (t : List ℕ). length t) is.names in
     let whole = ap (λ (t : List ℕ). length t) (fields-more g ps line.end) in
     omega (arith, fit, next, field, names, whole, length-append (fields_of g ps) (with_tab (name_at g line.end)))
-
--- ---- the seats, one more
-pub seats-more : (g : GameView) (k : ℕ) (seats : List Seat) (seat : Seat) → AreSeats g k seats → IsSeat g k seat → AreSeats g (k + 1) (seats ++ seat ∷ [])
-seats-more g k seats seat are is = record {
-  long = omega (arith, are.long, length-append seats (seat ∷ []));
-  each = λ p d lt. elim (cases_lt p k) [
-    | inl below ↦ subst (λ (s : Seat). IsSeat g p s) (sym (get_or_append_left seats (seat ∷ []) d p (omega (arith, below, are.long)))) (are.each p d below)
-    | inr ge ↦
-        let at : k ≡ p = omega (arith, ge, lt) in
-        let last : get_or (seats ++ seat ∷ []) k d ≡ seat = ap (λ (i : ℕ). get_or (seats ++ seat ∷ []) i d) (sym are.long) ∙ get_or-append_seam seats seat [] d in
-        subst (λ (i : ℕ). IsSeat g i (get_or (seats ++ seat ∷ []) i d)) at (subst (λ (s : Seat). IsSeat g k s) (sym last) is)
-  ];
-}
 
 -- ---- the whole line
 pub whole-names : (g : GameView) (c : ℕ) (line : SharedLine) → IsWholeLine g c line → line.names.items ≡ flat_map with_tab (names_of g c)

@@ -1,5 +1,5 @@
 -- Texts told one after another, and where one stops.
-use Rattle.std.proofs.Common.{◌≡◌, ◌++◌, ℕ, List, [], length, Option, Some, None, Result, Ok, Err, IfErr, option_map, refl, sym, ap, ◌∙◌, arith, append_assoc, length-append, subst}
+use Rattle.std.proofs.Common.{◌≡◌, ◌++◌, ℕ, List, [], length, Option, Some, None, Result, Ok, Err, IfErr, option_map, sym, ap, ◌∙◌, arith, append_assoc, length-append, subst}
 use Rattle.std.specs.Io.KnownBytes.{Appends}
 use Rattle.std.proofs.KnownBytes.{Appends-trans}
 use Rattle.std.proofs.lemmas.List.{append-nil}
@@ -51,9 +51,6 @@ stopped-next a b x y held n first s = record {
 -- it stopped once all of the text was told
 pub stopped-after : (a b : Progress) (x : List ℕ) (held : Option (List ℕ)) (n : ℕ) → Tells a b x → HasStopped b held n → StopsIn a x held n
 stopped-after a b x held n tells stopped = record { front = x; rest = []; at = b; whole = append-nil x; tells = tells; stopped = stopped }
-
-pub tells-nothing : (contents : Option (List ℕ)) (a : Block) → Tells (progress_of contents a) (progress_of contents a) []
-tells-nothing contents a = tells-block contents a a [] refl (sym (append-nil a.bytes.items))
 
 pub err-map : {T E : Type 0} {P Q : E → Type 0} (r : Result T E) → ((e : E) → P e → Q e) → IfErr r P → IfErr r Q
 err-map (Ok x) more h = tt

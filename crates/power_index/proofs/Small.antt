@@ -65,13 +65,7 @@ public_good-below most g list i game few =
 below-more : (k m : ℕ) (p : ℕ × ℕ) → k ≤ m → AreBelow k p → AreBelow m p
 below-more k m p le h = let a = h.0 in let b = h.1 in (omega (arith, a, le), omega (arith, b, le))
 
-pub deegan_packel-small : (g : GameView) (list : List ℕ) (i : ℕ) → IsGame g → 0 < length list → length list ≤ 4000000 → AreBelow (10 ^ 24) (lowest_terms (deegan_packel g list i))
-deegan_packel-small g list i game some few = below-more (denominator * 4000000 + 1) (10 ^ 24) _ (omega arith) (deegan_packel-below 4000000 g list i game some few)
-
-pub public_good-small : (g : GameView) (list : List ℕ) (i : ℕ) → IsGame g → length list ≤ 4000000 → AreBelow (10 ^ 24) (lowest_terms (public_good g list i))
-public_good-small g list i game few = below-more (40 * 4000000 + 1) (10 ^ 24) _ (omega arith) (public_good-below 4000000 g list i game few)
-
--- the same of any list of a game's coalitions, each once
+-- the indices over any list of a game's coalitions, each once
 pub deegan_packel-wide : (g : GameView) (list : List ℕ) (i : ℕ) → IsGame g → 0 < length list → length list ≤ 2 ^ 40 → AreBelow (10 ^ 28) (lowest_terms (deegan_packel g list i))
 deegan_packel-wide g list i game some few = below-more (denominator * 2 ^ 40 + 1) (10 ^ 28) _ (omega arith) (deegan_packel-below (2 ^ 40) g list i game some few)
 

@@ -208,14 +208,8 @@ join-total s t u a b one made =
     let both = total-is a.game (a.list ++ b.list) u (made moved) in
     omega (arith, total-is a.game a.list s a.tallies, total-is b.game b.list t b.tallies, both, length-append a.list b.list)
 
-pub one-game : (t : Tables) (all : Tally) (each : List Tally) → AreOfOneGame t (record { members = t.members; ranks = t.ranks; all = all; each = each })
-one-game t all each = record { members = refl; ranks = λ i lt. refl }
-
 pub same-game : (s t u : Tables) → AreOfOneGame s t → AreOfOneGame t u → AreOfOneGame s u
 same-game s t u a b = record {
   members = b.members ∙ a.members;
   ranks = λ i lt. b.ranks i (omega (arith, lt, a.members)) ∙ a.ranks i lt;
 }
-
-pub other-way : (s t : Tables) → AreOfOneGame s t → AreOfOneGame t s
-other-way s t a = record { members = sym a.members; ranks = λ i lt. sym (a.ranks i (omega (arith, lt, a.members))) }

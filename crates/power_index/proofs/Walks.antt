@@ -1,6 +1,6 @@
 -- One walk over the places of a coalition, that counts it at each.
-use Rattle.std.proofs.Common.{◌≡◌, ◌∙◌, ℕ, ◌^◌, ◌<◌, ◌≤◌, List, length, get_or, set, cond, refl, true, false, sym, ap, subst, arith, get_or-set_same, get_or-set_other, length-set, inl, inr}
-use Rattle.std.proofs.lemmas.Bool.{cases_eq, cond-true, cond-false, both_ways}
+use Rattle.std.proofs.Common.{◌≡◌, ◌∙◌, ℕ, ◌^◌, ◌<◌, ◌≤◌, List, length, get_or, set, cond, true, false, sym, ap, subst, arith, get_or-set_same, get_or-set_other, length-set, inl, inr}
+use Rattle.std.proofs.lemmas.Bool.{cases_eq, cond-true, both_ways}
 use Rattle.council_game.specs.Votes.{has, without}
 use Rattle.power_index.specs.declared.tally.Tally.{Tally}
 use Rattle.power_index.specs.Tables.{no_tally}
@@ -14,15 +14,6 @@ pub record Walked (n c size : ℕ) (old now : List Tally) (rest : ℕ) : Type 0 
   pub inside : (p : ℕ) → p < n → has n p rest ≡ true → has n p c ≡ true
   pub waiting : (p : ℕ) → p < n → has n p rest ≡ true → get_or now p no_tally ≡ get_or old p no_tally
   pub done : (p : ℕ) → p < n → has n p rest ≡ false → get_or now p no_tally ≡ cond (has n p c) (with_one (get_or old p no_tally) size) (get_or old p no_tally)
-
-pub walked-start : (n c size : ℕ) (old : List Tally) (rest : ℕ) → rest ≡ c → c < 2 ^ n → length old ≡ 40 → Walked n c size old old rest
-walked-start n c size old rest same below long = subst (Walked n c size old old) (sym same) (record {
-  below = below;
-  long = long;
-  inside = λ p lt in'. in';
-  waiting = λ p lt in'. refl;
-  done = λ p lt out. sym (cond-false (has n p c) (with_one (get_or old p no_tally) size) (get_or old p no_tally) out);
-})
 
 without-le : (n q c : ℕ) → without n q c ≤ c
 unfolding without
