@@ -13,8 +13,8 @@ ghost use Rattle.mwc_gather.specs.Inner.Orders.{slicing_of};
 ghost use Rattle.mwc_gather.specs.Inner.Desks.{IsOf, seat, IsPartOfDesk, CanEndWith};
 
 use crate::desk::Desk;
-use crate::guarded::{Gate, Guarded};
-use crate::order::Order;
+use crate::guarded::Gate;
+use crate::job::Job;
 use crate::promise::{Answer, Task};
 use crate::waiting::{BellPair, Bells, Patience};
 use crate::worker::work_beside;
@@ -38,44 +38,39 @@ impl Desk {
         scope: &Scope<'s, E>,
         rt: &'s R,
         alloc: Global,
-        guarded: &Guarded<'s, G>,
-        bits: u8,
+        job: &Job<'s, G>,
         worker: u8,
-        most: u32,
         bells: &'s Bells,
     ) -> Result<Desk, GatherFault>
-        requires bits { (bits ≤ 10) × (bits ≤ length guarded.now.names) }
         requires worker { worker < 16 }
-        requires most { (1 ≤ most) × (most ≤ 4000000) }
-        requires gate { (j : ℕ) → j < 2 ^ bits → G.takes worker j }
-        ensures order { IfOk result (IsOf (slicing guarded.now bits) most) }
+        requires gate { (j : ℕ) → j < 2 ^ job.now.bits → G.takes worker j }
+        ensures order { IfOk result (IsOf (slicing job.now.guarded job.now.bits) job.now.most) }
         ensures fresh { IfOk result (λ d. IsFresh (seat d)) }
         ensures fault { IfErr result IsEarly }
     {
-        let slices = slice_count(bits);
+        let slices = slice_count(job.bits);
         let mut given = Vec::new(alloc);
         given.reserve(usize::from(slices))?;
         let draft = Draft::new(alloc, slices)?;
         let (out, words) = ring(alloc, WORDS)?;
         let (tasks, list) = ring(alloc, TASKS)?;
         let task = Task {
-            order: Order::new(guarded, bits, most),
+            order: job.order(),
             out: Snapshot::of(&out),
             tasks: Snapshot::of(&list),
         };
-        let own = guarded.share();
+        let own = job.share();
         let pair = BellPair {
             own: &bells.workers[usize::from(worker)],
             other: &bells.gatherer,
         };
         let body = move || -> Answer
-            requires bits { (bits ≤ 10) × (bits ≤ length own.names) }
             requires worker { worker < 16 }
-            requires most { (1 ≤ most) × (most ≤ 4000000) }
             requires fresh { (out.accepted ≡ []) × (list.taken ≡ []) }
-            requires gate { (j : ℕ) → j < 2 ^ bits → G.takes worker j }
-            ensures { HasWorked (slicing own.entry bits) most out list result }
-        { work_beside(rt, &own, bits, worker, most, out, list, pair) };
+            requires gate { (j : ℕ) → j < 2 ^ own.bits → G.takes worker j }
+            ensures { HasWorked (slicing own.entry.guarded own.entry.bits) own.entry.most
+                out list result }
+        { work_beside(rt, &own, worker, out, list, pair) };
         let Ok(worker) = scope.spawn_with(task, body) else {
             return Err(GatherFault::Start);
         };
@@ -97,7 +92,8 @@ impl Desk {
         ensures room { IsTrue result → (vec_len self.new.given < vec_capacity self.new.given)
             × (seat self.new ≡ seat self.old) }
         ensures lost { IsFalse result → seat self.new ≡ record (seat self.old) { lost = true } }
-        ensures same { (self.new.words.taken ≡ self.old.words.taken) × (self.new.ended ≡ self.old.ended) }
+        ensures same { (self.new.words.taken ≡ self.old.words.taken)
+            × (self.new.ended ≡ self.old.ended) }
     {
         if self.given.reserve(1).is_err() {
             self.draft.lose();
@@ -115,7 +111,8 @@ impl Desk {
         ensures worker { self.new.worker.promise ≡ self.old.worker.promise }
         ensures given { seat self.new ≡
             record (seat self.old) { given = self.old.given.items ++ slice ∷ []; idle = false } }
-        ensures same { (self.new.words.taken ≡ self.old.words.taken) × (self.new.ended ≡ self.old.ended) }
+        ensures same { (self.new.words.taken ≡ self.old.words.taken)
+            × (self.new.ended ≡ self.old.ended) }
     {
         self.given.push_reserved(slice);
         put(rt, &mut self.tasks, Word::Open(slice), pair);
@@ -127,7 +124,8 @@ impl Desk {
         requires { self.old.told ≡ false }
         ensures worker { self.new.worker.promise ≡ self.old.worker.promise }
         ensures told { seat self.new ≡ record (seat self.old) { told = true } }
-        ensures same { (self.new.words.taken ≡ self.old.words.taken) × (self.new.ended ≡ self.old.ended) }
+        ensures same { (self.new.words.taken ≡ self.old.words.taken)
+            × (self.new.ended ≡ self.old.ended) }
     {
         put(rt, &mut self.tasks, Word::End { cut: false }, pair);
         self.told = true;
@@ -137,7 +135,8 @@ impl Desk {
     /// many they are.
     pub fn read(&mut self, row: &mut [Word]) -> usize
         ensures worker { self.new.worker.promise ≡ self.old.worker.promise }
-        ensures same { (self.new.given.items ≡ self.old.given.items) × (self.new.told ≡ self.old.told) }
+        ensures same { (self.new.given.items ≡ self.old.given.items)
+            × (self.new.told ≡ self.old.told) }
         ensures idle { self.new.idle ≡ (self.old.idle || list_any is_done (take result row.new)) }
         ensures taken { (result ≤ length row.new)
             × (self.new.words.taken ≡ self.old.words.taken ++ take result row.new) }
@@ -161,7 +160,8 @@ impl Desk {
         ensures lost { IfOk result (λ r. r.1.lost ≡ false → self.draft.lost ≡ false) }
         ensures cut { IfOk result (λ r. r.1.cut ≡ false → self.draft.cut ≡ false) }
         ensures many { result ≢ Err GatherFault.TooMany }
-        ensures ring { IfErr result (λ e. e ≡ (if self.draft.lost then GatherFault.Memory else GatherFault.Ring)) }
+        ensures ring { IfErr result
+            (λ e. e ≡ (if self.draft.lost then GatherFault.Memory else GatherFault.Ring)) }
     {
         let Desk {
             worker,
@@ -190,10 +190,11 @@ impl Desk {
 /// Joins the worker of a desk, and gives its part.
 pub(crate) fn finish_part<R: Threads>(desk: Desk, rt: &R) -> Result<Part, GatherFault>
     ensures part { IfOk result (IsPartOfDesk (slicing_of desk.worker.promise.order) desk) }
-    ensures many { result ≡ Err GatherFault.TooMany
-        → desk.worker.promise.order.most < coalition_count (slicing_of desk.worker.promise.order) desk.given.items }
+    ensures many { result ≡ Err GatherFault.TooMany → desk.worker.promise.order.most
+        < coalition_count (slicing_of desk.worker.promise.order) desk.given.items }
     ensures memory { desk.draft.lost ≡ true → result ≡ Err GatherFault.Memory }
-    ensures ends { CanEndWith (slicing_of desk.worker.promise.order) desk.worker.promise.order.most desk (fault_in result) }
+    ensures ends { CanEndWith (slicing_of desk.worker.promise.order) desk.worker.promise.order.most
+        desk (fault_in result) }
 {
     let (given, draft) = desk.finish(rt)?;
     settle(given, draft)
@@ -220,6 +221,7 @@ fn put<R: Wait>(rt: &R, tasks: &mut RingIn, task: Word, pair: BellPair<'_>)
     for _ in rt.forever() {
         match tasks.put(task) {
             Ok(()) => {
+                patience.renew(pair.own);
                 pair.other.ring();
                 return;
             }
@@ -248,7 +250,8 @@ fn told_by(words: &[Word]) -> (bool, bool)
 
 /// Keeps all words that are left.
 fn drain(rest: Rest, draft: &mut Draft)
-    ensures keeps { (words : List Word) → IsDraftOf words draft.old → IsDraftOf (words ++ rest) draft.new }
+    ensures keeps { (words : List Word)
+        → IsDraftOf words draft.old → IsDraftOf (words ++ rest) draft.new }
     ensures lost { draft.new.lost ≡ false → draft.old.lost ≡ false }
     ensures cut { draft.new.cut ≡ false → draft.old.cut ≡ false }
 {

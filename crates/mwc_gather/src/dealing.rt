@@ -37,7 +37,8 @@ fn deal<R: Wait>(
     requires stops { (stopped || is_ill (seat desk.old)) ≡ stopped }
     ensures worker { desk.new.worker.promise ≡ desk.old.worker.promise }
     ensures words { desk.new.words.taken ≡ desk.old.words.taken }
-    ensures turns { TakesTurn false marks.old stopped (seat desk.old) worker marks.new result (seat desk.new) }
+    ensures turns { TakesTurn false marks.old stopped (seat desk.old) worker
+        marks.new result (seat desk.new) }
 {
     if desk.told {
         return stopped;
@@ -113,7 +114,8 @@ fn deal_first<R: Wait>(
     requires all_of { AllOf (slicing_of order.now) order.now.most desks.old }
     requires fresh { All IsFresh (seats desks.old) }
     requires marks { marks.old ≡ replicate (2 ^ order.now.bits) None }
-    ensures { DealsFirst (slicing_of order.now) order.now.most early marks.new result (length desks.old) desks.new }
+    ensures { DealsFirst (slicing_of order.now) order.now.most early
+        marks.new result (length desks.old) desks.new }
 {
     let mut stopped = early;
     for i in 0..desks.len() {
@@ -138,8 +140,10 @@ fn read_round<R: Wait>(
     bells: &Bells,
 ) -> (bool, Progress)
     requires few { length desks.old ≤ 16 }
-    requires deals { DealsTo (slicing_of order.now) order.now.most early marks.old stopped desks.old }
-    ensures { DealsTo (slicing_of order.now) order.now.most early marks.new result.1.stopped desks.new }
+    requires deals { DealsTo (slicing_of order.now) order.now.most early
+        marks.old stopped desks.old }
+    ensures { DealsTo (slicing_of order.now) order.now.most early
+        marks.new result.1.stopped desks.new }
 {
     let mut running = false;
     let mut moved = false;
@@ -185,7 +189,7 @@ pub(crate) fn read_all<R: Wait>(
             return stopped;
         }
         if progress.moved {
-            patience.renew();
+            patience.renew(&bells.gatherer);
         } else {
             patience.wait(rt, &bells.gatherer);
         }

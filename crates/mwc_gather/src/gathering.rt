@@ -18,6 +18,7 @@ use crate::calls::finish_part;
 use crate::dealing::read_all;
 use crate::desk::Desk;
 use crate::guarded::{Gate, Guarded};
+use crate::job::Job;
 use crate::order::Order;
 use crate::waiting::Bells;
 use mwc_parts::{GatherFault, Gathered, Marks, Met, Part, fits};
@@ -53,22 +54,23 @@ pub fn gather<R: Threads + Wait + Sync, G: Gate + Sync>(
     requires most { (1 ≤ most) × (most ≤ 4000000) }
     requires gate { (w j : ℕ) → w < workers → j < 2 ^ bits → G.takes w j }
     ensures gathers { IfOk result (Gathers (votes_of guarded.now) bits workers most) }
-    ensures many { result ≡ Err GatherFault.TooMany → most < length (minimal_coalitions (votes_of guarded.now)) }
+    ensures many { result ≡ Err GatherFault.TooMany
+        → most < length (minimal_coalitions (votes_of guarded.now)) }
 {
-    let own = guarded.share();
+    let job = Job::new(guarded, bits, most);
     let bells = Bells::new();
     let shared = &bells;
     thread::scope(
         thread::scope_env(),
         rt,
         move |scope| -> Result<Gathered, GatherFault>
-            requires bits { (bits ≤ 10) × (bits ≤ length own.names) }
             requires workers { (1 ≤ workers) × (workers ≤ 16) }
-            requires most { (1 ≤ most) × (most ≤ 4000000) }
-            requires gate { (w j : ℕ) → w < workers → j < 2 ^ bits → G.takes w j }
-            ensures gathers { IfOk result (Gathers (votes_of own.entry) bits workers most) }
-            ensures many { result ≡ Err GatherFault.TooMany → most < length (minimal_coalitions (votes_of own.entry)) }
-        { run(scope, rt, alloc, &own, bits, workers, most, shared) },
+            requires gate { (w j : ℕ) → w < workers → j < 2 ^ job.bits → G.takes w j }
+            ensures gathers { IfOk result
+                (Gathers (votes_of job.entry.guarded) job.entry.bits workers job.entry.most) }
+            ensures many { result ≡ Err GatherFault.TooMany
+                → job.entry.most < length (minimal_coalitions (votes_of job.entry.guarded)) }
+        { run(scope, rt, alloc, &job, workers, shared) },
     )
 }
 
@@ -77,26 +79,22 @@ fn run<'s, E, R: Threads + Wait + Sync, G: Gate + Sync>(
     scope: &Scope<'s, E>,
     rt: &'s R,
     alloc: Global,
-    guarded: &Guarded<'s, G>,
-    bits: u8,
+    job: &Job<'s, G>,
     workers: u8,
-    most: u32,
     bells: &'s Bells,
 ) -> Result<Gathered, GatherFault>
-    requires bits { (bits ≤ 10) × (bits ≤ length guarded.now.names) }
     requires workers { (1 ≤ workers) × (workers ≤ 16) }
-    requires most { (1 ≤ most) × (most ≤ 4000000) }
-    requires gate { (w j : ℕ) → w < workers → j < 2 ^ bits → G.takes w j }
-    ensures gathers { IfOk result (Gathers (votes_of guarded.now) bits workers most) }
-    ensures many { result ≡ Err GatherFault.TooMany → most < length (minimal_coalitions (votes_of guarded.now)) }
+    requires gate { (w j : ℕ) → w < workers → j < 2 ^ job.now.bits → G.takes w j }
+    ensures gathers { IfOk result
+        (Gathers (votes_of job.now.guarded) job.now.bits workers job.now.most) }
+    ensures many { result ≡ Err GatherFault.TooMany
+        → job.now.most < length (minimal_coalitions (votes_of job.now.guarded)) }
 {
-    let order = Order::new(guarded, bits, most);
+    let order = job.order();
     let mut desks = Vec::new(alloc);
-    let met = open_all(
-        scope, rt, alloc, guarded, bits, workers, most, &mut desks, bells,
-    );
+    let met = open_all(scope, rt, alloc, job, workers, &mut desks, bells);
     let early = met.fault().is_some();
-    let mut marks = Marks::new(slice_count(bits));
+    let mut marks = Marks::new(slice_count(job.bits));
     let _stopped = read_all(rt, &order, early, &mut marks, desks.as_mut_slice(), bells);
     let parts = finish_all(rt, alloc, &order, desks, met)?;
     all_of(&order, workers, parts)
@@ -106,7 +104,8 @@ fn run<'s, E, R: Threads + Wait + Sync, G: Gate + Sync>(
 fn all_of(order: &Order, workers: u8, parts: Vec<Part>) -> Result<Gathered, GatherFault>
     requires bits { (order.now.bits ≤ 10) × (order.now.bits ≤ length order.now.game.value.names) }
     requires complete { IsComplete (slicing_of order.now) workers parts.items }
-    ensures gathers { IfOk result (Gathers (votes_of order.now.game.value) order.now.bits workers order.now.most) }
+    ensures gathers { IfOk result
+        (Gathers (votes_of order.now.game.value) order.now.bits workers order.now.most) }
     ensures many { result ≡ Err GatherFault.TooMany
         → order.now.most < length (minimal_coalitions (votes_of order.now.game.value)) }
 {
@@ -124,22 +123,18 @@ fn open_all<'s, E, R: Threads + Wait + Sync, G: Gate + Sync>(
     scope: &Scope<'s, E>,
     rt: &'s R,
     alloc: Global,
-    guarded: &Guarded<'s, G>,
-    bits: u8,
+    job: &Job<'s, G>,
     workers: u8,
-    most: u32,
     desks: &mut Vec<Desk>,
     bells: &'s Bells,
 ) -> Met
-    requires bits { (bits ≤ 10) × (bits ≤ length guarded.now.names) }
     requires workers { (1 ≤ workers) × (workers ≤ 16) }
-    requires most { (1 ≤ most) × (most ≤ 4000000) }
     requires none { desks.old.items ≡ [] }
-    requires gate { (w j : ℕ) → w < workers → j < 2 ^ bits → G.takes w j }
+    requires gate { (w j : ℕ) → w < workers → j < 2 ^ job.now.bits → G.takes w j }
     ensures few { vec_len desks.new ≤ workers }
     ensures all { fault_of result ≡ None → vec_len desks.new ≡ workers }
     ensures met { HasStarted workers (vec_len desks.new) result }
-    ensures order { AllOf (slicing guarded.now bits) most desks.new.items }
+    ensures order { AllOf (slicing job.now.guarded job.now.bits) job.now.most desks.new.items }
     ensures fresh { All IsFresh (seats desks.new.items) }
 {
     let mut met = Met::nothing();
@@ -148,7 +143,7 @@ fn open_all<'s, E, R: Threads + Wait + Sync, G: Gate + Sync>(
         return met;
     }
     for worker in 0..workers {
-        match Desk::open(scope, rt, alloc, guarded, bits, worker, most, bells) {
+        match Desk::open(scope, rt, alloc, job, worker, bells) {
             Ok(desk) => desks.push_reserved(desk),
             Err(why) => {
                 met.note(why);
@@ -172,13 +167,16 @@ fn finish_all<R: Threads>(
         d.given.items ≤ all_total (slicing_of order.now)) desks.items }
     requires start { start.many ≡ false }
     requires dealt { (marks : List (Option ℕ)) × (stopped : Bool)
-        × DealsTo (slicing_of order.now) order.now.most (is_some (fault_of start)) marks stopped desks.items }
+        × DealsTo (slicing_of order.now) order.now.most (is_some (fault_of start))
+        marks stopped desks.items }
     ensures first { (whys : List (Option GatherFault))
         × AllZip (CanEndWith (slicing_of order.now) order.now.most) desks.items whys
         × (fault_in result ≡ fault_of (also_all start whys)) }
     ensures none { IfOk result (λ v. fault_of start ≡ None) }
-    ensures parts { IfOk result (λ v. AllZip (IsPartOfDesk (slicing_of order.now)) desks.items v.items) }
-    ensures many { result ≡ Err GatherFault.TooMany → order.now.most < all_total (slicing_of order.now) }
+    ensures parts { IfOk result
+        (λ v. AllZip (IsPartOfDesk (slicing_of order.now)) desks.items v.items) }
+    ensures many { result ≡ Err GatherFault.TooMany
+        → order.now.most < all_total (slicing_of order.now) }
 {
     let mut met = start;
     let mut parts = Vec::new(alloc);

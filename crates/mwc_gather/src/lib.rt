@@ -12,6 +12,7 @@ mod dealing;
 mod desk;
 mod gathering;
 mod guarded;
+mod job;
 mod order;
 mod promise;
 mod row;

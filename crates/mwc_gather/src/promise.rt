@@ -22,5 +22,6 @@ pub(crate) struct Task {
 }
 
 impl Promise<Answer> for Task {
-    ghost kept_by = { λ t r. HasWorked (slicing_of t.order) t.order.most t.out.value t.tasks.value r };
+    ghost kept_by = { λ t r.
+        HasWorked (slicing_of t.order) t.order.most t.out.value t.tasks.value r };
 }

@@ -31,6 +31,7 @@ pub(crate) fn send<R: Wait, P: PipeIn<Word>>(
     for _ in rt.forever() {
         let stopped = match out.put_some(rest) {
             Ok(()) => {
+                patience.renew(pair.own);
                 pair.other.ring();
                 return true;
             }
@@ -43,7 +44,7 @@ pub(crate) fn send<R: Wait, P: PipeIn<Word>>(
         }
         rest = &rest[stopped.accepted..];
         if stopped.accepted > 0 {
-            patience.renew();
+            patience.renew(pair.own);
             pair.other.ring();
         }
         patience.wait(rt, pair.own);

@@ -1,14 +1,19 @@
 //! Waiting that gives the processor away: a thread that finds nothing to do looks again a few times,
-//! then says that it is about to sleep, looks once more, and sleeps until it is woken. No contract
-//! depends on it. A wake-up that is lost costs one millisecond, the longest sleep, and no more.
+//! then says that it is about to sleep, looks once more, and sleeps until it is woken. How often it
+//! looks follows what came of it: half as often after each sleep, as where there are fewer processors
+//! than threads, and twice as often after a look that found something. No contract depends on it. A
+//! wake-up that is lost costs one millisecond, the longest sleep, and no more.
 use std::sync::Wait;
-use std::sync::atomic::{AtomicBool, Ordering};
+use std::sync::atomic::{AtomicBool, AtomicU32, Ordering};
 use std::thread::Parker;
 use std::time::Duration;
 use std::{array, hint};
 
-/// How often a thread looks again before it sleeps.
-const LOOKS: u32 = 500;
+/// How often a thread looks again at most before it sleeps.
+const MOST_LOOKS: u32 = 512;
+
+/// How often it does so at least.
+const FEWEST_LOOKS: u32 = 32;
 
 /// How many milliseconds a thread sleeps at most before it looks again.
 const LONGEST: u64 = 1;
@@ -18,6 +23,8 @@ const LONGEST: u64 = 1;
 pub(crate) struct Bell {
     /// Whether the thread sleeps, or is about to.
     asleep: AtomicBool,
+    /// How often the thread looks again before it sleeps.
+    looks: AtomicU32,
     parker: Parker,
 }
 
@@ -25,6 +32,7 @@ impl Bell {
     pub fn new() -> Bell {
         Bell {
             asleep: AtomicBool::new(false),
+            looks: AtomicU32::new(MOST_LOOKS),
             parker: Parker::new(),
         }
     }
@@ -34,6 +42,20 @@ impl Bell {
         if self.asleep.load(Ordering::SeqCst) && self.asleep.swap(false, Ordering::SeqCst) {
             self.parker.unpark();
         }
+    }
+
+    /// A look found something to do: the thread may look twice as often.
+    fn looks_found_it(&self) {
+        let looks = self.looks.load(Ordering::Relaxed);
+        self.looks
+            .store(MOST_LOOKS.min(looks.saturating_mul(2)), Ordering::Relaxed);
+    }
+
+    /// The thread had to sleep: it looks half as often.
+    fn slept(&self) {
+        let looks = self.looks.load(Ordering::Relaxed);
+        self.looks
+            .store(FEWEST_LOOKS.max(looks / 2), Ordering::Relaxed);
     }
 }
 
@@ -62,34 +84,51 @@ pub(crate) struct BellPair<'a> {
     pub other: &'a Bell,
 }
 
-/// How often a thread has found nothing to do, one time after another.
+/// How a thread has waited since there was last something to do.
 #[derive(Drop)]
 pub(crate) struct Patience {
+    /// How often it looked again.
     looks: u32,
+    /// Whether it has said that it is about to sleep.
+    told: bool,
+    /// Whether it has slept.
+    slept: bool,
 }
 
 impl Patience {
     pub fn new() -> Patience {
-        Patience { looks: 0 }
+        Patience {
+            looks: 0,
+            told: false,
+            slept: false,
+        }
     }
 
     /// There was something to do.
-    pub fn renew(&mut self) {
-        self.looks = 0;
+    pub fn renew(&mut self, bell: &Bell) {
+        if self.looks > 0 && !self.slept {
+            bell.looks_found_it();
+        }
+        if self.told {
+            bell.asleep.store(false, Ordering::SeqCst);
+        }
+        *self = Patience::new();
     }
 
     /// There was nothing to do: returns when it is time to look again.
     pub fn wait<R: Wait>(&mut self, rt: &R, bell: &Bell) {
-        if self.looks < LOOKS {
-            self.looks += 1;
-            hint::spin_loop();
-        } else if self.looks == LOOKS {
-            self.looks += 1;
-            bell.asleep.store(true, Ordering::SeqCst);
-        } else {
+        if self.told {
             bell.parker.park_timeout(rt, Duration::from_millis(LONGEST));
             bell.asleep.store(false, Ordering::SeqCst);
-            self.looks = LOOKS;
+            bell.slept();
+            self.told = false;
+            self.slept = true;
+        } else if self.looks < bell.looks.load(Ordering::Relaxed) && !self.slept {
+            self.looks += 1;
+            hint::spin_loop();
+        } else {
+            bell.asleep.store(true, Ordering::SeqCst);
+            self.told = true;
         }
     }
 }

@@ -6,6 +6,7 @@ ghost use Rattle.mwc_gather.specs.Inner.Sending.{TakesLast, TakesTask};
 ghost use Rattle.mwc_pipe.specs.declared.word.Word.TheVariants.{End};
 
 use crate::guarded::{Gate, Guarded};
+use crate::job::Job;
 use crate::send::{send, send_rows};
 use crate::sent::Sent;
 use crate::waiting::{Bell, BellPair, Patience};
@@ -22,6 +23,7 @@ fn next_task<R: Wait>(rt: &R, slices: u16, tasks: &mut RingOut, pair: BellPair<'
     let mut patience = Patience::new();
     for _ in rt.forever() {
         if let Some(task) = tasks.take() {
+            patience.renew(pair.own);
             pair.other.ring();
             return match task {
                 Word::Open(slice) => { if slice < slices { Some(slice) } else { None } }
@@ -78,36 +80,42 @@ pub fn work<R: Wait, G: Gate>(
         own: &own,
         other: &other,
     };
-    work_beside(rt, guarded, bits, worker, most, out, tasks, pair)
+    let job = Job::new(guarded, bits, most);
+    work_beside(rt, &job, worker, out, tasks, pair)
 }
 
 /// As `work`. It rings the other bell for what it has put in or taken, and sleeps at its own.
 pub(crate) fn work_beside<R: Wait, G: Gate>(
     rt: &R,
-    guarded: &Guarded<'_, G>,
-    bits: u8,
+    job: &Job<'_, G>,
     worker: u8,
-    most: u32,
     out: RingIn,
     tasks: RingOut,
     pair: BellPair<'_>,
 ) -> (Result<Closed, Unfinished>, RingOut)
-    requires bits { (bits ≤ 10) × (bits ≤ length guarded.now.names) }
     requires worker { worker < 16 }
-    requires most { (1 ≤ most) × (most ≤ 4000000) }
     requires fresh { (out.accepted ≡ []) × (tasks.taken ≡ []) }
-    requires gate { (j : ℕ) → j < 2 ^ bits → G.takes worker j }
-    ensures { HasWorked (slicing guarded.now bits) most out tasks result }
+    requires gate { (j : ℕ) → j < 2 ^ job.now.bits → G.takes worker j }
+    ensures { HasWorked (slicing job.now.guarded job.now.bits) job.now.most out tasks result }
 {
-    let slices = slice_count(bits);
+    let slices = slice_count(job.bits);
     let mut out = out;
     let mut tasks = tasks;
-    let mut left = most + 1;
+    let mut left = job.most + 1;
     for _ in rt.forever() {
         let Some(slice) = next_task(rt, slices, &mut tasks, pair) else {
             return (finish(rt, out, false, pair), tasks);
         };
-        match send_rows(rt, guarded, bits, slice, worker, left, &mut out, pair) {
+        match send_rows(
+            rt,
+            &job.guarded,
+            job.bits,
+            slice,
+            worker,
+            left,
+            &mut out,
+            pair,
+        ) {
             Sent::Whole { left: rest } => left = rest,
             Sent::Cut => return (finish(rt, out, true, pair), tasks),
             Sent::Refused => unreachable!(),

@@ -29,7 +29,8 @@ impl Model for Batch {
 
     ghost Value = { BatchView };
 
-    ghost view = { λ b. record { capacity = b.pipe.capacity; accepted = b.pipe.inside; broken = b.broken } };
+    ghost view = { λ b.
+        record { capacity = b.pipe.capacity; accepted = b.pipe.inside; broken = b.broken } };
 
     ghost invariant = { λ b. b.pipe.closed ≡ false };
 }
@@ -48,7 +49,8 @@ impl Batch {
 
     /// The words that were accepted, in a closed pipe. It takes no memory.
     pub fn close(self) -> Pipe<Word>
-        ensures { result ≡ record { capacity = self.capacity; inside = self.accepted; closed = true } }
+        ensures { result
+            ≡ record { capacity = self.capacity; inside = self.accepted; closed = true } }
     {
         let mut pipe = self.pipe;
         pipe.close();
@@ -61,9 +63,11 @@ impl Batch {
         ensures ok { OnOk result ((self.new.accepted ≡ self.old.accepted ++ item ∷ [])
             × (self.new.broken ≡ self.old.broken)) }
         ensures refused { IfErr result (λ e. (handed_back e ≡ item)
-            × (self.new.accepted ≡ self.old.accepted) × (self.new.broken ≡ broken_after e self.old.broken)) }
+            × (self.new.accepted ≡ self.old.accepted)
+            × (self.new.broken ≡ broken_after e self.old.broken)) }
         ensures open { result ≢ Err (Refused.Closed item) }
-        ensures full { (result ≡ Err (Refused.Full item)) ↔ (length self.old.accepted ≡ self.old.capacity) }
+        ensures full { (result ≡ Err (Refused.Full item))
+            ↔ (length self.old.accepted ≡ self.old.capacity) }
         ensures step { IfSome (reply_of_put result)
             (λ reply. IsStep (still_open self.old) (Put item) reply (still_open self.new)) }
     {
@@ -102,9 +106,11 @@ impl PipeIn<Word> for Batch {
         ensures ok { OnOk result ((self.new.accepted ≡ self.old.accepted ++ item ∷ [])
             × (self.new.broken ≡ self.old.broken)) }
         ensures refused { IfErr result (λ e. (handed_back e ≡ item)
-            × (self.new.accepted ≡ self.old.accepted) × (self.new.broken ≡ broken_after e self.old.broken)) }
+            × (self.new.accepted ≡ self.old.accepted)
+            × (self.new.broken ≡ broken_after e self.old.broken)) }
         ensures open { result ≢ Err (Refused.Closed item) }
-        ensures full { (result ≡ Err (Refused.Full item)) ↔ (length self.old.accepted ≡ self.old.capacity) }
+        ensures full { (result ≡ Err (Refused.Full item))
+            ↔ (length self.old.accepted ≡ self.old.capacity) }
         ensures step { IfSome (reply_of_put result)
             (λ reply. IsStep (still_open self.old) (Put item) reply (still_open self.new)) }
     {

@@ -18,7 +18,8 @@ impl Model for Closed {
 
     ghost Value = { ClosedView };
 
-    ghost view = { λ r. record { ring = ring_of_finished r.finished; accepted = all_sent r.finished } };
+    ghost view = { λ r.
+        record { ring = ring_of_finished r.finished; accepted = all_sent r.finished } };
 }
 
 /// A ring could not be finished. It can never be ended.

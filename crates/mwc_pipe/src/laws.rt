@@ -12,7 +12,8 @@ pub fn nothing_is_lost<T>()
 
 /// Each put after a close is answered Closed.
 pub fn nothing_enters_after_close<T>()
-    ensures { (capacity : ℕ) (steps : List (Step T)) → NothingEntersAfterClose steps (replies capacity steps) }
+    ensures { (capacity : ℕ) (steps : List (Step T))
+        → NothingEntersAfterClose steps (replies capacity steps) }
 {}
 
 /// The reply to a step is counted from the steps before it and the replies to them.

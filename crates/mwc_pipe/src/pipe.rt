@@ -27,7 +27,8 @@ impl<T> Model for Pipe<T> {
 
     ghost Value = { PipeView T };
 
-    ghost view = { λ p. record { capacity = p.capacity; inside = p.items.items; closed = p.closed } };
+    ghost view = { λ p.
+        record { capacity = p.capacity; inside = p.items.items; closed = p.closed } };
 
     ghost invariant = { λ p. (length p.items.items ≤ p.capacity) × (p.capacity ≤ 2 ^ 23) };
 }
@@ -52,12 +53,14 @@ impl<T> Pipe<T> {
     /// Hands the item back, and changes nothing: Closed after a close; else Full where `capacity`
     /// items are inside; else Memory where a growth was refused.
     pub fn put(&mut self, item: T) -> Result<(), Refused<T>>
-        ensures ok { OnOk result (self.new ≡ record self.old { inside = self.old.inside ++ item ∷ [] }) }
+        ensures ok { OnOk result
+            (self.new ≡ record self.old { inside = self.old.inside ++ item ∷ [] }) }
         ensures refused { IfErr result (λ e. (handed_back e ≡ item) × (self.new ≡ self.old)) }
         ensures closed { (result ≡ Err (Refused.Closed item)) ↔ (self.old.closed ≡ true) }
         ensures full { (result ≡ Err (Refused.Full item)) ↔
             ((self.old.closed ≡ false) × (length self.old.inside ≡ self.old.capacity)) }
-        ensures step { IfSome (reply_of_put result) (λ reply. IsStep self.old (Put item) reply self.new) }
+        ensures step { IfSome (reply_of_put result)
+            (λ reply. IsStep self.old (Put item) reply self.new) }
     {
         if self.closed {
             return Err(Refused::Closed(item));

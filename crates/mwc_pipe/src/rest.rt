@@ -26,7 +26,8 @@ impl Rest {
     /// The next word that was left, and `None` for ever once there are no more. It takes no
     /// memory.
     pub fn next(&mut self) -> Option<Word>
-        ensures { MatchOption result ((self.old ≡ []) × (self.new ≡ [])) (λ w. self.old ≡ w ∷ self.new) }
+        ensures { MatchOption result ((self.old ≡ []) × (self.new ≡ []))
+            (λ w. self.old ≡ w ∷ self.new) }
     {
         if self.consumer.cached_slots() == 0 {
             return None;

@@ -35,7 +35,8 @@ impl Model for RingIn {
       accepted = sent r.producer;
     } };
 
-    ghost invariant = { λ r. producer_capacity r.producer ≤ length (sent r.producer) + known_free r.producer };
+    ghost invariant = { λ r.
+        producer_capacity r.producer ≤ length (sent r.producer) + known_free r.producer };
 }
 
 impl RingIn {
@@ -46,7 +47,8 @@ impl RingIn {
     ///
     /// Hands the word back where the ring is full.
     pub fn put(&mut self, word: Word) -> Result<(), Word>
-        ensures ok { OnOk result (self.new ≡ record self.old { accepted = self.old.accepted ++ word ∷ [] }) }
+        ensures ok { OnOk result
+            (self.new ≡ record self.old { accepted = self.old.accepted ++ word ∷ [] }) }
         ensures full { IfErr result (λ w. (w ≡ word) × (self.new ≡ self.old)) }
         ensures room { length self.old.accepted < self.old.capacity → IsOk result }
     {
@@ -62,7 +64,8 @@ impl RingIn {
     /// takes no memory.
     pub fn put_some(&mut self, words: &[Word]) -> usize
         ensures count { result ≤ length words.now }
-        ensures accepted { self.new ≡ record self.old { accepted = self.old.accepted ++ take result words.now } }
+        ensures accepted { self.new
+            ≡ record self.old { accepted = self.old.accepted ++ take result words.now } }
         ensures room { length self.new.accepted < self.old.capacity → result ≡ length words.now }
         ensures story { (past : List (Event Word)) → items_in past ≡ self.old.accepted
             → items_in (past ++ puts_of words.now result) ≡ self.new.accepted }
@@ -104,7 +107,8 @@ impl PipeIn<Word> for RingIn {
     /// Full where the ring is full, and no other refusal: a ring is never broken.
     fn put(&mut self, item: Word) -> Result<(), Refused<Word>>
         ensures identity { self.new.ring ≡ self.old.ring }
-        ensures ok { OnOk result ((self.new.accepted ≡ self.old.accepted ++ item ∷ []) × (false ≡ false)) }
+        ensures ok { OnOk result
+            ((self.new.accepted ≡ self.old.accepted ++ item ∷ []) × (false ≡ false)) }
         ensures refused { IfErr result (λ e. (handed_back e ≡ item)
             × (self.new.accepted ≡ self.old.accepted) × (false ≡ broken_after e false)) }
         ensures full { IfErr result (λ e. (e ≡ Refused.Full item) × (self.new ≡ self.old)) }
@@ -123,12 +127,14 @@ impl PipeIn<Word> for RingIn {
     /// Full where the ring has no room for all of them, and no other refusal.
     fn put_some(&mut self, items: &[Word]) -> Result<(), Stopped<Word>>
         ensures identity { self.new.ring ≡ self.old.ring }
-        ensures all { OnOk result ((self.new.accepted ≡ self.old.accepted ++ items.now) × (false ≡ false)) }
+        ensures all { OnOk result
+            ((self.new.accepted ≡ self.old.accepted ++ items.now) × (false ≡ false)) }
         ensures stopped { IfErr result (λ e. StopsAt items.now e
             × (self.new.accepted ≡ self.old.accepted ++ take e.accepted items.now)
             × (false ≡ broken_after e.why false)) }
         ensures full { IfErr result (λ e. e.why ≡ Refused.Full (handed_back e.why)) }
-        ensures room { length self.old.accepted + length items.now ≤ self.old.capacity → IsOk result }
+        ensures room { length self.old.accepted + length items.now ≤ self.old.capacity
+            → IsOk result }
     {
         let accepted = RingIn::put_some(self, items);
         match items.get(accepted) {

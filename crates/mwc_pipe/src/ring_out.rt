@@ -24,7 +24,8 @@ impl Model for RingOut {
 
     ghost Value = { RingOutView };
 
-    ghost view = { λ r. record { ring = ring_of_consumer r.consumer; taken = received r.consumer } };
+    ghost view = { λ r.
+        record { ring = ring_of_consumer r.consumer; taken = received r.consumer } };
 }
 
 impl RingOut {
@@ -41,10 +42,12 @@ impl RingOut {
     /// takes no memory.
     pub fn take_some(&mut self, into: &mut [Word]) -> usize
         ensures count { result ≤ length into.old }
-        ensures taken { self.new ≡ record self.old { taken = self.old.taken ++ take result into.new } }
+        ensures taken { self.new
+            ≡ record self.old { taken = self.old.taken ++ take result into.new } }
         ensures rest { drop result into.new ≡ drop result into.old }
         ensures story { (past : List (Event Word)) → items_out past ≡ self.old.taken
-            → items_out (past ++ takes_of (take result into.new) (nat_lt result (length into.old))) ≡ self.new.taken }
+            → items_out (past ++ takes_of (take result into.new) (nat_lt result (length into.old)))
+            ≡ self.new.taken }
     {
         self.consumer.pop_partial_slice(into)
     }

@@ -39,8 +39,10 @@ pub fn replay<T: Copy>(alloc: Global, capacity: u32, steps: &[Step<T>]) -> Resul
     requires { (1 ≤ capacity) × (capacity ≤ 2 ^ 23) }
     ensures replies { IfOk result (λ trace. trace.replies.items ≡ replies capacity steps.now) }
     ensures came { IfOk result (λ trace. trace.came.items ≡ items_in (history capacity steps.now)) }
-    ensures gone { IfOk result (λ trace. trace.gone.items ≡ items_out (history capacity steps.now)) }
-    ensures lawful { IfOk result (λ trace. IsLawful trace.came.items trace.gone.items trace.inside.items) }
+    ensures gone { IfOk result
+        (λ trace. trace.gone.items ≡ items_out (history capacity steps.now)) }
+    ensures lawful { IfOk result
+        (λ trace. IsLawful trace.came.items trace.gone.items trace.inside.items) }
     ensures room { IfOk result (λ trace. length trace.inside.items ≤ capacity) }
     ensures shut { IfOk result (λ trace. NothingEntersAfterClose steps.now trace.replies.items) }
     ensures closed { IfOk result (λ trace. trace.closed ≡ list_any is_close steps.now) }

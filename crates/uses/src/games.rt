@@ -50,7 +50,8 @@ pub fn of_two_rules(
 
 /// The quota of the first rule as a share of the total of its weights, in millionths, cut off.
 pub fn quota_in_millionths(game: &Game) -> u128
-    ensures { result ≡ 1000000 * (rule_at game.now.rules 0).quota / total (rule_at game.now.rules 0) }
+    ensures { result
+        ≡ 1000000 * (rule_at game.now.rules 0).quota / total (rule_at game.now.rules 0) }
 {
     1_000_000 * u128::from(game.quota()) / u128::from(game.total())
 }

@@ -28,9 +28,11 @@ pub fn both_indices(
 ) -> Result<Option<(Index, Index)>, Memory>
     requires { member < length game.now.names }
     ensures first { IfOk result (λ o. IfSome o (λ p.
-        p.0 ≡ lowest_terms (deegan_packel game.now (minimal_coalitions (votes_of game.now)) member))) }
+        p.0 ≡ lowest_terms
+        (deegan_packel game.now (minimal_coalitions (votes_of game.now)) member))) }
     ensures second { IfOk result (λ o. IfSome o (λ p.
-        p.1 ≡ lowest_terms (public_good game.now (minimal_coalitions (votes_of game.now)) member))) }
+        p.1 ≡ lowest_terms
+        (public_good game.now (minimal_coalitions (votes_of game.now)) member))) }
 {
     let Some(list) = list_all(alloc, game, limits::COALITIONS)? else {
         return Ok(None);
@@ -59,10 +61,10 @@ pub fn first_of_bytes(alloc: Global, bytes: &[u8]) -> Result<Option<(Index, Inde
 
 /// The indices of the members of a game add up to 1, of each kind. Nothing is run for it.
 pub fn indices_add_up(game: &Game)
-    ensures first { AddUpToOne (map (deegan_packel game.now (minimal_coalitions (votes_of game.now)))
-        (members game.now)) }
-    ensures second { AddUpToOne (map (public_good game.now (minimal_coalitions (votes_of game.now)))
-        (members game.now)) }
+    ensures first { AddUpToOne
+        (map (deegan_packel game.now (minimal_coalitions (votes_of game.now))) (members game.now)) }
+    ensures second { AddUpToOne
+        (map (public_good game.now (minimal_coalitions (votes_of game.now))) (members game.now)) }
 {
     let _members = game.members();
     minimal_coalitions_can_be_counted();

@@ -20,11 +20,11 @@ returns-in-Err-clause-met g c =
 
 pub loop-worker-preserved : goal.loop-worker-preserved
 loop-worker-preserved g c =
-    let game : Slicing = slicing c.args.guarded.now c.args.bits in
+    let game : Slicing = slicing c.args.job.now.guarded c.args.job.now.bits in
     let i = c.loop-worker.invariant in (
       search rules,
       search rules,
-      subst (λ (w : List Desk). AllOf game c.args.most w) (sym c.push_reserved.ensures.items) (All-push (IsOf game c.args.most) c.loop-worker.desks.items c.in-Ok.desk i.2 c.in-Ok.ensures.order),
+      subst (λ (w : List Desk). AllOf game c.args.job.now.most w) (sym c.push_reserved.ensures.items) (All-push (IsOf game c.args.job.now.most) c.loop-worker.desks.items c.in-Ok.desk i.2 c.in-Ok.ensures.order),
       subst (λ (w : List Desk). All IsFresh (seats w)) (sym c.push_reserved.ensures.items) (fresh_push c.loop-worker.desks.items c.in-Ok.desk i.3 c.in-Ok.ensures.fresh),
       i.4,
     )

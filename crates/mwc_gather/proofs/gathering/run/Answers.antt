@@ -27,13 +27,13 @@ written : (new items : List Desk) (n : ℕ) → length new ≡ n → take n (new
 written new items n e = take_at new (drop (length new) items) n e
 
 pub new-marks-requires : goal.new-marks-requires
-new-marks-requires g c = rw c.slice_count.ensures (pow_mono {i = 0} {j = c.args.bits} (omega arith), pow_mono {i = c.args.bits} {j = 10} c.requires.bits.0)
+new-marks-requires g c = rw c.slice_count.ensures (pow_mono {i = 0} {j = c.args.job.now.bits} (omega arith), pow_mono {i = c.args.job.now.bits} {j = 10} c.args.job.now.bits_fit.0)
 
 pub read_all-stopped-requires-clause-all_of : goal.read_all-stopped-requires-clause-all_of
 read_all-stopped-requires-clause-all_of g c =
-    let order = c.new-order.ensures in
-    let same = slicing_is c.new-order.result c.args.guarded.now c.args.bits order.game order.bits in
-    rw (c.as_mut_slice.ensures.value, same, order.most) c.open_all-met.ensures.order
+    let order = c.order-order.ensures in
+    let same = slicing_is c.order-order.result c.args.job.now.guarded c.args.job.now.bits order.game order.asked.0 in
+    rw (c.as_mut_slice.ensures.value, same, order.asked.1) c.open_all-met.ensures.order
 
 pub finish_all-requires-clause-within : goal.finish_all-requires-clause-within
 finish_all-requires-clause-within g c =
@@ -43,7 +43,7 @@ finish_all-requires-clause-within g c =
     let au = c.read_all-stopped.auto.desks in
     let ok = c.open_all-met.new.desks.ok in
     let e = written new c.open_all-met.new.desks.items n (omega arith) in
-    let game : Slicing = slicing_of c.new-order.result in
+    let game : Slicing = slicing_of c.order-order.result in
     subst (λ (w : List Desk). All (λ (d : Desk). coalition_count game d.given.items ≤ all_total game) w) (sym e) (desks_within new c.read_all-stopped.ensures)
 
 pub finish_all-requires-clause-start : goal.finish_all-requires-clause-start
@@ -57,7 +57,7 @@ finish_all-requires-clause-dealt g c =
     let au = c.read_all-stopped.auto.desks in
     let ok = c.open_all-met.new.desks.ok in
     let e = written new c.open_all-met.new.desks.items n (omega arith) in
-    let order : Order = c.new-order.result in
+    let order : Order = c.order-order.result in
     let early = c.is_some-early.ensures ∙ ap is_some c.fault.ensures in (
       c.read_all-stopped.new.marks,
       c.read_all-stopped.result,
@@ -67,10 +67,10 @@ finish_all-requires-clause-dealt g c =
 
 pub returns-in_err-parts-clause-many : goal.returns-in_err-parts-clause-many
 returns-in_err-parts-clause-many g c = λ e.
-    let order = c.new-order.ensures in
-    let same = ap all_total (slicing_is c.new-order.result c.args.guarded.now c.args.bits order.game order.bits) in
-    let count = all_total_is c.args.guarded.now c.args.bits c.requires.bits.0 c.requires.bits.1 in
-    let over : c.new-order.result.most < all_total (slicing_of c.new-order.result) = search rules in
+    let order = c.order-order.ensures in
+    let same = ap all_total (slicing_is c.order-order.result c.args.job.now.guarded c.args.job.now.bits order.game order.asked.0) in
+    let count = all_total_is c.args.job.now.guarded c.args.job.now.bits c.args.job.now.bits_fit.0 c.args.job.now.bits_fit.1 in
+    let over : c.order-order.result.most < all_total (slicing_of c.order-order.result) = search rules in
     omega arith
 
 pub all_of-requires-clause-complete : goal.all_of-requires-clause-complete

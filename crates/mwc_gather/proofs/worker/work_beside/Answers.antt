@@ -11,7 +11,7 @@ use Rattle.mwc_gather.proofs.worker.work_beside.Goals as goal
 
 pub loop-preserved : goal.loop-preserved
 loop-preserved g c =
-    let game : Slicing = slicing c.args.guarded.now c.args.bits in let j = c.in-Some-next_task.slice in
+    let game : Slicing = slicing c.args.job.now.guarded c.args.job.now.bits in let j = c.in-Some-next_task.slice in
     let inv = c.loop.invariant.3 in
     let task = c.in-Some-next_task.ensures.taken in
     let sends = c.in-Whole.ensures.sends in

@@ -1,0 +1,56 @@
+//! What the workers are to do.
+ghost use Rattle.std.specs.Prelude.{◌≡◌, ◌≤◌, length};
+ghost use Rattle.council_game.specs.Votes.{IsVotes};
+ghost use Rattle.council_game.specs.Game.{votes_of};
+
+use crate::guarded::{Gate, Guarded};
+use crate::order::Order;
+
+/// What the workers are to do: to list the slices of the game behind a gate at so many bits, up to a
+/// number of coalitions. An `Order` says the same to proofs.
+#[derive(Drop)]
+pub(crate) struct Job<'a, G> {
+    pub guarded: Guarded<'a, G>,
+    /// How many of the heaviest members are fixed in each slice, 0 to 10, and no more than members.
+    pub bits: u8,
+    /// How many coalitions are wanted at most, 1 to 4,000,000.
+    pub most: u32,
+    ghost bits_fit: { (bits ≤ 10) × (bits ≤ length guarded.names) },
+    ghost most_fits: { (1 ≤ most) × (most ≤ 4000000) },
+}
+
+impl<'a, G: Gate> Job<'a, G> {
+    pub fn new(guarded: &Guarded<'a, G>, bits: u8, most: u32) -> Job<'a, G>
+        requires bits { (bits ≤ 10) × (bits ≤ length guarded.now.names) }
+        requires most { (1 ≤ most) × (most ≤ 4000000) }
+        ensures game { result.guarded ≡ guarded.now }
+        ensures asked { (result.bits ≡ bits) × (result.most ≡ most) }
+    {
+        Job {
+            guarded: guarded.share(),
+            bits,
+            most,
+        }
+    }
+
+    /// The same job, for another thread.
+    pub fn share(&self) -> Job<'a, G>
+        ensures game { result.guarded ≡ self.now.guarded }
+        ensures asked { (result.bits ≡ self.now.bits) × (result.most ≡ self.now.most) }
+    {
+        Job::new(&self.guarded, self.bits, self.most)
+    }
+
+    /// The same as proofs see it.
+    pub fn order(&self) -> Order
+        ensures game { result.game.value ≡ self.now.guarded }
+        ensures asked { (result.bits ≡ self.now.bits) × (result.most ≡ self.now.most) }
+        ensures votes { IsVotes (votes_of self.now.guarded) }
+    {
+        Order {
+            game: self.guarded.seen(),
+            bits: self.bits,
+            most: self.most,
+        }
+    }
+}
