@@ -32,29 +32,32 @@ pub fresh_goes : (stopped : Bool) (d : Desk) → IsFresh (seat d) → (stopped |
 fresh_goes stopped d f = ap (λ (b : Bool). stopped || b) (turns.not_ill (seat d) f.well) ∙ or-false stopped
 
 -- a turn of desk i
-pub turn_at : {g : Slicing} {most : ℕ} {done early stopped stops : Bool} {marks after : List (Option ℕ)} (desks : List Desk) (i : ℕ) (d t : Desk) → i < length desks → d ≡ get_or desks i d
-    → DealsTo g most early marks stopped desks → t.worker.promise ≡ d.worker.promise → TakesTurn done marks stopped (seat d) i after stops (seat t) → DealsTo g most early after stops (set desks i t)
-turn_at {g} {most} {done} {early} {stopped} {stops} {marks} {after} desks i d t l e h p r =
+pub turn_of : {g : Slicing} {most : ℕ} {done early stopped stops : Bool} {marks after : List (Option ℕ)} (desks : List Desk) (i : ℕ) (x t : Desk) → i < length desks
+    → DealsTo g most early marks stopped desks → t.worker.promise ≡ (get_or desks i x).worker.promise → TakesTurn done marks stopped (seat (get_or desks i x)) i after stops (seat t) → DealsTo g most early after stops (set desks i t)
+turn_of {g} {most} {done} {early} {stopped} {stops} {marks} {after} desks i x t l h p r =
+    let d = get_or desks i x in
+    let e = get_or_default desks i x d l in
     let n = length-map desks seat in
     let same : length (set desks i t) ≡ length desks = length-set desks i t in
-    let x = turns.turn (seats desks) i (seat d) (seat t) (omega arith) (seat_at desks i d l e) h.dealing r in
-    let y : DealsInTurn g.slices (length desks) early after stops (seats (set desks i t)) = subst (λ (w : List Seat). DealsInTurn g.slices (length desks) early after stops w) (sym (map-set seat desks i t)) x in
+    let dealt = turns.turn (seats desks) i (seat d) (seat t) (omega arith) (seat_at desks i d l e) h.dealing r in
+    let here : DealsInTurn g.slices (length desks) early after stops (seats (set desks i t)) = subst (λ (w : List Seat). DealsInTurn g.slices (length desks) early after stops w) (sym (map-set seat desks i t)) dealt in
     record {
       all_of = all_of_set g most desks i d t l e p h.all_of;
-      dealing = subst (λ (k : ℕ). DealsInTurn g.slices k early after stops (seats (set desks i t))) (sym same) y;
+      dealing = subst (λ (k : ℕ). DealsInTurn g.slices k early after stops (seats (set desks i t))) (sym same) here;
     }
 
 -- the first deal to desk k
-pub first_at : {g : Slicing} {most : ℕ} {early stopped stops : Bool} {marks after : List (Option ℕ)} (desks : List Desk) (k : ℕ) (d t : Desk) → k < length desks → d ≡ get_or desks k d
-    → DealsFirst g most early marks stopped k desks → t.worker.promise ≡ d.worker.promise → TakesTurn false marks stopped (seat d) k after stops (seat t) → DealsFirst g most early after stops (k + 1) (set desks k t)
-first_at {g} {most} {early} {stopped} {stops} {marks} {after} desks k d t l e h p r =
+pub first_of_place : {g : Slicing} {most : ℕ} {early stopped stops : Bool} {marks after : List (Option ℕ)} (desks : List Desk) (k : ℕ) (x t : Desk) → k < length desks
+    → DealsFirst g most early marks stopped k desks → t.worker.promise ≡ (get_or desks k x).worker.promise → TakesTurn false marks stopped (seat (get_or desks k x)) k after stops (seat t) → DealsFirst g most early after stops (k + 1) (set desks k t)
+first_of_place {g} {most} {early} {stopped} {stops} {marks} {after} desks k x t l h p r =
+    let d = get_or desks k x in
+    let e = get_or_default desks k x d l in
     let n = length-map desks seat in
     let same : length (set desks k t) ≡ length desks = length-set desks k t in
-    let fresh : IsFresh (seat d) = subst (λ (x : Desk). IsFresh (seat x)) (sym e) (h.to_come k d (omega arith) l) in
-    let x = firsts.first_turn (seats desks) k (seat d) (seat t) (omega arith) (seat_at desks k d l e) fresh h.firsts r in
+    let dealt = firsts.first_turn (seats desks) k (seat d) (seat t) (omega arith) (seat_at desks k d l e) (h.to_come k x (omega arith) l) h.firsts r in
     record {
       all_of = all_of_set g most desks k d t l e p h.all_of;
-      firsts = subst (λ (w : List Seat). DealsOneEach g.slices (k + 1) early after stops w) (sym (map-set seat desks k t)) x;
+      firsts = subst (λ (w : List Seat). DealsOneEach g.slices (k + 1) early after stops w) (sym (map-set seat desks k t)) dealt;
       to_come = λ q a low high. subst (λ (x : Desk). IsFresh (seat x)) (sym (get_or-set_other desks k q t a (λ z. omega arith))) (h.to_come q a (omega arith) (omega arith));
     }
 
@@ -64,15 +67,6 @@ deal_starts {g} {most} early marks desks a f e = record {
   firsts = subst (λ (m : List (Option ℕ)). DealsOneEach g.slices 0 early m early (seats desks)) (sym e) (firsts.begin g.slices early (seats desks) f);
   to_come = λ k d low high. fresh_at desks f k d high;
 }
-
--- the same, of what stands at a place
-pub turn_of : {g : Slicing} {most : ℕ} {done early stopped stops : Bool} {marks after : List (Option ℕ)} (desks : List Desk) (i : ℕ) (x t : Desk) → i < length desks
-    → DealsTo g most early marks stopped desks → t.worker.promise ≡ (get_or desks i x).worker.promise → TakesTurn done marks stopped (seat (get_or desks i x)) i after stops (seat t) → DealsTo g most early after stops (set desks i t)
-turn_of desks i x t l h p r = turn_at desks i (get_or desks i x) t l (get_or_default desks i x (get_or desks i x) l) h p r
-
-pub first_of_place : {g : Slicing} {most : ℕ} {early stopped stops : Bool} {marks after : List (Option ℕ)} (desks : List Desk) (k : ℕ) (x t : Desk) → k < length desks
-    → DealsFirst g most early marks stopped k desks → t.worker.promise ≡ (get_or desks k x).worker.promise → TakesTurn false marks stopped (seat (get_or desks k x)) k after stops (seat t) → DealsFirst g most early after stops (k + 1) (set desks k t)
-first_of_place desks k x t l h p r = first_at desks k (get_or desks k x) t l (get_or_default desks k x (get_or desks k x) l) h p r
 
 pub firsts_end : {g : Slicing} {most : ℕ} {early stopped : Bool} {marks : List (Option ℕ)} (k m : ℕ) (desks : List Desk) → k ≡ m → DealsFirst g most early marks stopped k desks → DealsFirst g most early marks stopped m desks
 firsts_end {g} {most} {early} {stopped} {marks} k m desks e h = subst (λ (q : ℕ). DealsFirst g most early marks stopped q desks) e h

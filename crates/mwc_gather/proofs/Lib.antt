@@ -1,9 +1,11 @@
 pub mod Slices
 pub mod Rows
+pub mod UnderWay
 pub mod Wordings
 pub mod Words
 pub mod Joins
 pub mod Deals
 pub mod Ends
+pub mod Finishing
 pub mod Faults
 pub mod Wholes

@@ -31,27 +31,14 @@ first_added before row mid rest more after left s t = (
   append_assoc s.0 t.0 left ∙ ap (λ (w : List Word). s.0 ++ w) t.2 ∙ sym (append_assoc s.0 rest more) ∙ ap (λ (w : List Word). w ++ more) s.2,
 )
 
--- the row was sent, and a new one begun
-pub first_begun : (before row after : List Word) (word : Word) → after ≡ before ++ row → SendsFirst before (row ++ word ∷ []) after (word ∷ [])
-first_begun before row after word e = (row, e, refl)
-
--- some of the rest is some of the row
-pub some_of_rest : (before row mid rest after : List Word) → SendsFirst before row mid rest → SendsSome mid rest after → SendsSome before row after
-some_of_rest before row mid rest after s t =
-    let f : SendsFirst mid rest after t.0 = t.1 in (
-      t.0,
-      (
-        s.0 ++ f.0,
-        f.1 ∙ ap (λ (w : List Word). w ++ f.0) s.1 ∙ append_assoc before s.0 f.0,
-        append_assoc s.0 f.0 t.0 ∙ ap (λ (w : List Word). s.0 ++ w) f.2 ∙ s.2,
-      ),
-    )
-
--- some of a row that is a beginning of a sending is one too
-pub some_starts : (before row after all : List Word) → SendsSome before row after → IsPrefix row all → (words : List Word) × (after ≡ before ++ words) × IsPrefix words all
-some_starts before row after all s p =
-    let f : SendsFirst before row after s.0 = s.1 in (
-      f.0,
-      f.1,
-      (s.0 ++ p.0, sym (append_assoc f.0 s.0 p.0) ∙ ap (λ (w : List Word). w ++ p.0) f.2 ∙ p.1),
+-- some of the rest of a row that is a beginning of a sending is a beginning too
+pub some_starts : (before row mid rest after all : List Word) → SendsFirst before row mid rest → SendsSome mid rest after → IsPrefix row all
+    → (words : List Word) × (after ≡ before ++ words) × IsPrefix words all
+some_starts before row mid rest after all s t p =
+    let f : SendsFirst mid rest after t.0 = t.1 in
+    let words = s.0 ++ f.0 in
+    let whole : words ++ t.0 ≡ row = append_assoc s.0 f.0 t.0 ∙ ap (λ (w : List Word). s.0 ++ w) f.2 ∙ s.2 in (
+      words,
+      f.1 ∙ ap (λ (w : List Word). w ++ f.0) s.1 ∙ append_assoc before s.0 f.0,
+      (t.0 ++ p.0, sym (append_assoc words t.0 p.0) ∙ ap (λ (w : List Word). w ++ p.0) whole ∙ p.1),
     )

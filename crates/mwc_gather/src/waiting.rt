@@ -1,8 +1,8 @@
 //! Waiting that gives the processor away: a thread that finds nothing to do looks again a few times,
 //! then says that it is about to sleep, looks once more, and sleeps until it is woken. How often it
-//! looks follows what came of it: half as often after each sleep, as where there are fewer processors
-//! than threads, and twice as often after a look that found something. No contract depends on it. A
-//! wake-up that is lost costs one millisecond, the longest sleep, and no more.
+//! looks follows what came of it: an eighth less often after each sleep, as where there are fewer
+//! processors than threads, and twice as often after a look that found something. No contract depends
+//! on it. A wake-up that is lost costs one millisecond, the longest sleep, and no more.
 use std::sync::Wait;
 use std::sync::atomic::{AtomicBool, AtomicU32, Ordering};
 use std::thread::Parker;
@@ -51,11 +51,11 @@ impl Bell {
             .store(MOST_LOOKS.min(looks.saturating_mul(2)), Ordering::Relaxed);
     }
 
-    /// The thread had to sleep: it looks half as often.
+    /// The thread had to sleep: it looks an eighth less often.
     fn slept(&self) {
         let looks = self.looks.load(Ordering::Relaxed);
         self.looks
-            .store(FEWEST_LOOKS.max(looks / 2), Ordering::Relaxed);
+            .store(FEWEST_LOOKS.max(looks - looks / 8), Ordering::Relaxed);
     }
 }
 

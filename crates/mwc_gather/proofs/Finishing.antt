@@ -1,0 +1,82 @@
+-- Workers that are joined, one after another.
+use Rattle.std.specs.Prelude.{◌≡◌, ℕ, ◌<◌, ◌≤◌, true, false, List, [], ◌∷◌, ◌++◌, Option, Some, None, All, refl}
+use Rattle.std.specs.List.{AllZip}
+use Rattle.std.proofs.Common.{ap, subst, arith, sym, ◌∙◌}
+use Rattle.std.proofs.lemmas.Bool.{false≢true}
+use Rattle.std.proofs.lemmas.List.{append-nil}
+use Rattle.std.proofs.lemmas.List.Elements.{All-rest}
+use Rattle.std.proofs.lemmas.Slice.Zip.{all_zipped_more}
+use Rattle.mwc_parts.specs.Slicing.{Slicing}
+use Rattle.mwc_parts.specs.Wording.{coalition_count}
+use Rattle.mwc_parts.specs.Fault.{fault_of, also}
+use Rattle.mwc_parts.specs.Inner.Fault.{also_all}
+use Rattle.mwc_parts.specs.declared.part.Part.{Part}
+use Rattle.mwc_parts.specs.declared.met.Met.{Met}
+use Rattle.mwc_parts.specs.declared.fault.GatherFault.{GatherFault}
+use Rattle.mwc_gather.specs.declared.desk.Desk.{Desk}
+use Rattle.mwc_gather.specs.Inner.Orders.{slicing_of}
+use Rattle.mwc_gather.specs.Inner.Desks.{IsOf, AllOf, CanEndWith, IsPartOfDesk}
+use Rattle.mwc_gather.specs.Inner.Gathering.{all_total}
+use Rattle.mwc_gather.proofs.Ends.{note_many, noted, head_of, one_done}
+use Rattle.mwc_gather.proofs.Faults.{noted_after, noted_none, ends_of}
+
+-- some of the workers have ended, and the rest are still to be joined: what was met follows from their answers, and where nothing was met all of them are parts
+pub record Finishing (g : Slicing) (most : ℕ) (start : Met) (desks rest : List Desk) (met : Met) (parts : List Part) : Type 0 where
+  pub all_of : AllOf g most rest
+  pub within : All (λ (d : Desk). coalition_count g d.given.items ≤ all_total g) rest
+  pub many : met.many ≡ true → most < all_total g
+  pub done : List Desk
+  pub split : done ++ rest ≡ desks
+  pub whys : List (Option GatherFault)
+  pub ends : AllZip (CanEndWith g most) done whys
+  pub met_is : met ≡ also_all start whys
+  pub none : fault_of met ≡ None → (fault_of start ≡ None) × AllZip (IsPartOfDesk g) done parts
+
+-- no worker is joined yet
+pub none_joined : {g : Slicing} {most : ℕ} {start : Met} {desks rest : List Desk} {parts : List Part} → rest ≡ desks → parts ≡ []
+    → AllOf g most desks → All (λ (d : Desk). coalition_count g d.given.items ≤ all_total g) desks
+    → start.many ≡ false → Finishing g most start desks rest start parts
+none_joined e f all within few =
+    rw (e, f) (record { all_of = all; within = within; many = λ z. absurd (false≢true (sym few ∙ z)); done = []; split = refl; whys = []; ends = tt; met_is = refl; none = λ n. (n, tt) })
+
+module _ {g : Slicing} {most : ℕ} {start met : Met} {desks old rest : List Desk} {parts : List Part} where
+  -- one more has ended with a fault
+  pub fault_met : {after : Met} {left : List Part} (d : Desk) (why : GatherFault) → Finishing g most start desks old met parts → old ≡ d ∷ rest → after ≡ also met why
+      → CanEndWith (slicing_of d.worker.promise.order) d.worker.promise.order.most d (Some why) → Finishing g most start desks rest after left
+  fault_met {after} {left} d why f step e own =
+      let within : Desk → Type 0 = λ d. coalition_count g d.given.items ≤ all_total g in
+      let ends = ends_of d (Some why) (head_of (IsOf g most) d rest old step f.all_of) own in
+      let few : within d = head_of within d rest old step f.within in record {
+        all_of = All-rest (IsOf g most) d rest old step f.all_of;
+        within = All-rest within d rest old step f.within;
+        many = λ z. note_many met why (most < all_total g) (λ t. let over = ends.2 t in omega arith) f.many (sym (ap (λ (m : Met). m.many) e) ∙ z);
+        done = f.done ++ d ∷ [];
+        split = one_done f.done rest old desks d step f.split;
+        whys = f.whys ++ Some why ∷ [];
+        ends = all_zipped_more (CanEndWith g most) f.done f.whys d (Some why) f.ends ends;
+        met_is = noted_after start met after f.whys why f.met_is e;
+        none = λ n. absurd (noted met why (sym (ap fault_of e) ∙ n));
+      }
+
+  -- one more has ended with a part
+  pub part_kept : {longer : List Part} (d : Desk) (p : Part) → Finishing g most start desks old met parts → old ≡ d ∷ rest → longer ≡ parts ++ p ∷ []
+      → IsPartOfDesk (slicing_of d.worker.promise.order) d p → CanEndWith (slicing_of d.worker.promise.order) d.worker.promise.order.most d None
+      → Finishing g most start desks rest met longer
+  part_kept {longer} d p f step e part ends =
+      let own = head_of (IsOf g most) d rest old step f.all_of in
+      let here : IsPartOfDesk g d p = subst (λ (x : Slicing). IsPartOfDesk x d p) own.0 part in record {
+        all_of = All-rest (IsOf g most) d rest old step f.all_of;
+        within = All-rest (λ (d : Desk). coalition_count g d.given.items ≤ all_total g) d rest old step f.within;
+        many = f.many;
+        done = f.done ++ d ∷ [];
+        split = one_done f.done rest old desks d step f.split;
+        whys = f.whys ++ None ∷ [];
+        ends = all_zipped_more (CanEndWith g most) f.done f.whys d None f.ends (ends_of d None own ends);
+        met_is = f.met_is ∙ sym (noted_none start f.whys);
+        none = λ n. let kept = f.none n in
+            (kept.0, rw e (all_zipped_more (IsPartOfDesk g) f.done parts d p kept.1 here));
+      }
+
+-- all have ended
+pub finished : {g : Slicing} {most : ℕ} {start met : Met} {desks : List Desk} {parts : List Part} (f : Finishing g most start desks [] met parts) → f.done ≡ desks
+finished f = sym (append-nil f.done) ∙ f.split
