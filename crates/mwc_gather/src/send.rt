@@ -1,5 +1,6 @@
 //! Sending the words of a slice.
 ghost use Rattle.std.specs.Prelude.{◌≡◌, ◌<◌, ◌≤◌, ◌^◌, ◌++◌, ◌∷◌, [], IsTrue, IsFalse, true, length};
+ghost use Rattle.mwc_parts.specs.Slicing.{Slicing};
 ghost use Rattle.mwc_gather.specs.Slicings.{slicing};
 ghost use Rattle.mwc_gather.specs.Sending.{Sends, BreaksOnlyIfRefused};
 ghost use Rattle.mwc_gather.specs.Inner.Sending.{SendsFirst, SendsSome};
@@ -109,32 +110,27 @@ pub fn send_slice<R: Wait, P: PipeIn<Word>, G: Gate>(
         own: &own,
         other: &other,
     };
-    send_rows(rt, guarded, bits, slice, worker, left, out, pair)
+    let walk = Walk::new(guarded.pass(worker, slice), bits, slice);
+    send_walk(rt, walk, slice, left, out, pair)
 }
 
-/// As `send_slice`. It rings the other bell for what it has put in, and sleeps at its own.
-pub(crate) fn send_rows<R: Wait, P: PipeIn<Word>, G: Gate>(
+/// Sends the words of a slice whose walk has it all still to give, as `send_slice`. It rings the other
+/// bell for what it has put in, and sleeps at its own.
+pub(crate) fn send_walk<R: Wait, P: PipeIn<Word>>(
     rt: &R,
-    guarded: &Guarded<'_, G>,
-    bits: u8,
+    walk: Walk<'_>,
     slice: u16,
-    worker: u8,
     left: u32,
     out: &mut P,
     pair: BellPair<'_>,
 ) -> Sent
-    requires bits { (bits ≤ 10) × (bits ≤ length guarded.now.names) }
-    requires slice { slice < 2 ^ bits }
-    requires worker { worker < 16 }
     requires left { (0 < left) × (left ≤ 4000001) }
-    requires gate { G.takes worker slice }
     ensures identity { P.identity out.new ≡ P.identity out.old }
-    ensures sends { Sends (slicing guarded.now bits) slice left (P.accepted out.old)
-        (P.accepted out.new) (P.broken out.new) result }
+    ensures sends { (g : Slicing) → g.slice slice ≡ walk.entry.to_come
+        → Sends g slice left (P.accepted out.old) (P.accepted out.new) (P.broken out.new) result }
     ensures unbroken { BreaksOnlyIfRefused (P.broken out.old) (P.broken out.new) result }
 {
-    let game = guarded.pass(worker, slice);
-    let mut walk = Walk::new(game, bits, slice);
+    let mut walk = walk;
     let mut row = Row::new();
     row.push(Word::Open(slice));
     let mut left = left;

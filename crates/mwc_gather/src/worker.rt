@@ -7,11 +7,11 @@ ghost use Rattle.mwc_pipe.specs.declared.word.Word.TheVariants.{End};
 
 use crate::guarded::{Gate, Guarded};
 use crate::job::Job;
-use crate::send::{send, send_rows};
+use crate::send::{send, send_walk};
 use crate::sent::Sent;
 use crate::waiting::{Bell, BellPair, Patience};
 use mwc_pipe::{Closed, RingIn, RingOut, Unfinished, Word};
-use mwc_walk::slice_count;
+use mwc_walk::{Walk, slice_count};
 use std::sync::Wait;
 
 /// Waits for the next slice; none where the work ends.
@@ -106,16 +106,8 @@ pub(crate) fn work_beside<R: Wait, G: Gate>(
         let Some(slice) = next_task(rt, slices, &mut tasks, pair) else {
             return (finish(rt, out, false, pair), tasks);
         };
-        match send_rows(
-            rt,
-            &job.guarded,
-            job.bits,
-            slice,
-            worker,
-            left,
-            &mut out,
-            pair,
-        ) {
+        let walk = Walk::new(job.guarded.pass(worker, slice), job.bits, slice);
+        match send_walk(rt, walk, slice, left, &mut out, pair) {
             Sent::Whole { left: rest } => left = rest,
             Sent::Cut => return (finish(rt, out, true, pair), tasks),
             Sent::Refused => unreachable!(),
