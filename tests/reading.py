@@ -23,7 +23,9 @@ LIMIT = 419
 # crate, source module, type or None, function or None for all
 HEADLINE = [
     ("mwc_pipe", "trace", None, "replay"),
-    ("mwc_pipe", "laws", None, None),
+    ("mwc_pipe", "laws", None, "nothing_is_lost"),
+    ("mwc_pipe", "laws", None, "nothing_enters_after_close"),
+    ("mwc_pipe", "laws", None, "each_reply_is_counted"),
     ("mwc_gather", "gathering", None, "gather"),
     ("mwc_parts", "gathered", "Gathered", "in_order"),
     ("council_run", "runs", None, "run"),

@@ -56,14 +56,12 @@ value_of digits = if nat_le (length digits) 18 then Some (digits_value 10 digits
 -- the weights up to the closing bracket, which is the last part
 unfoldable pub weights_of : List Part → Option (List ℕ)
 weights_of (number ds ∷ closing ∷ []) = option_map (λ w. w ∷ []) (value_of ds)
-weights_of (number ds ∷ comma ∷ ps) =
-    option_and_then (λ w. option_map (λ ws. w ∷ ws) (weights_of ps)) (value_of ds)
+weights_of (number ds ∷ comma ∷ ps) = option_and_then (λ w. option_map (λ ws. w ∷ ws) (weights_of ps)) (value_of ds)
 weights_of ps = None
 
 unfoldable pub rule_of : List Part → Option RuleView
 rule_of (opening ∷ number ds ∷ semicolon ∷ ps) =
-    option_and_then (λ q. option_map (λ ws. record { quota = q; weights = ws }) (weights_of ps))
-    (value_of ds)
+    option_and_then (λ q. option_map (λ ws. record { quota = q; weights = ws }) (weights_of ps)) (value_of ds)
 rule_of ps = None
 
 -- It begins with [ and a digit, but for blanks.

@@ -59,16 +59,14 @@ has_unknown_key t = has_other_key top_keys t
 -- no title, or one that is a title
 abbrev pub title_from : Option Data → Result (Option (List ℕ)) GameFault
 title_from None = Ok None
-title_from (Some d) =
-    option_map_or (λ s. if is_title s then Ok (Some s) else Err Title) (as_str d) (Err Title)
+title_from (Some d) = option_map_or (λ s. if is_title s then Ok (Some s) else Err Title) (as_str d) (Err Title)
 
 abbrev pub title_of : Members → Result (Option (List ℕ)) GameFault
 title_of t = title_from (get_member (codes "title") t)
 
 -- 1 to 4 integers
 abbrev pub are_quotas : List Data → Bool
-are_quotas ds = (nat_le 1 (length ds) && nat_le (length ds) 4)
-    && list_all (λ d. is_some (as_integer d)) ds
+are_quotas ds = (nat_le 1 (length ds) && nat_le (length ds) 4) && list_all (λ d. is_some (as_integer d)) ds
 
 abbrev pub breaks_rules : Members → Bool
 breaks_rules t = (has_key (codes "quota") t && has_key (codes "quotas") t)
@@ -78,13 +76,11 @@ breaks_rules t = (has_key (codes "quota") t && has_key (codes "quotas") t)
 
 abbrev pub lacks_quota : Members → Bool
 lacks_quota t =
-    option_map_or (λ d. is_none (as_integer d)) (get_member (codes "quota") t)
-    (not (has_key (codes "quotas") t))
+    option_map_or (λ d. is_none (as_integer d)) (get_member (codes "quota") t) (not (has_key (codes "quotas") t))
 
 -- 1 to 40 tables
 abbrev pub are_members : List Data → Bool
-are_members ds = (nat_le 1 (length ds) && nat_le (length ds) 40)
-    && list_all (λ d. is_some (as_table d)) ds
+are_members ds = (nat_le 1 (length ds) && nat_le (length ds) 40) && list_all (λ d. is_some (as_table d)) ds
 
 -- ---- the values
 
@@ -120,22 +116,16 @@ abbrev pub quota_from : Option Data → ℕ
 quota_from d = option_map_or whole_quota (option_and_then as_integer d) 0
 
 unfoldable pub only_rule : Members → RuleView
-only_rule t = record {
-  quota = quota_from (get_member (codes "quota") t);
-  weights = map only_weight (member_list t);
-}
+only_rule t = record { quota = quota_from (get_member (codes "quota") t); weights = map only_weight (member_list t) }
 
 -- rule r of n
 unfoldable pub rule_from : Members → ℕ → ℕ → RuleView
-rule_from t n r = record {
-  quota = quota_from (slice_get (elements_at (codes "quotas") t) r);
-  weights = map (weight_under n r) (member_list t);
-}
+rule_from t n r =
+    record { quota = quota_from (slice_get (elements_at (codes "quotas") t) r); weights = map (weight_under n r) (member_list t) }
 
 abbrev pub rules_of : Members → List RuleView
 rules_of t = if has_key (codes "quota") t then only_rule t ∷ []
-    else (let n = length (elements_at (codes "quotas") t) in
-    map (rule_from t n) (range_with_len 0 n))
+    else (let n = length (elements_at (codes "quotas") t) in map (rule_from t n) (range_with_len 0 n))
 
 -- ---- the whole
 

@@ -5,5 +5,4 @@ use Rattle.council_text.specs.Joined.{joined_numbers}
 
 -- the quota, and the weights in file order
 unfoldable pub notation : RuleView → List ℕ
-notation r =
-    codes "[" ++ decimal r.quota ++ codes "; " ++ joined_numbers (codes ", ") r.weights ++ codes "]"
+notation r = codes "[" ++ decimal r.quota ++ codes "; " ++ joined_numbers (codes ", ") r.weights ++ codes "]"

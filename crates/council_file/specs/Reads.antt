@@ -15,5 +15,4 @@ pub record Gave (before after : Option (List ℕ)) (bytes : List ℕ) : Type 0 w
 abbrev pub FailsWith : Option (List ℕ) → Option (List ℕ) → GameFault → Type 0
 FailsWith before after Read = Unit {0}
 FailsWith before after Memory = Unit {0}
-FailsWith before after fault =
-    (bytes : List ℕ) × Gave before after bytes × (game_of bytes ≡ Err fault)
+FailsWith before after fault = (bytes : List ℕ) × Gave before after bytes × (game_of bytes ≡ Err fault)

@@ -5,8 +5,7 @@ use Rattle.council_game.specs.declared.fault.GameFault.TheVariants.{Memory}
 
 infixl 10 ◌>>=◌
 -- the first step, and where it is no fault the second
-abbrev pub ◌>>=◌ : {A B : Type 0}
-    → Result A GameFault → (A → Result B GameFault) → Result B GameFault
+abbrev pub ◌>>=◌ : {A B : Type 0} → Result A GameFault → (A → Result B GameFault) → Result B GameFault
 (Ok x) >>= f = f x
 (Err e) >>= f = Err e
 

@@ -45,8 +45,7 @@ first_weights [] = []
 first_weights (r ∷ rs) = r.weights
 
 -- the game, or the first fault
-unfoldable pub made_game : Option (List ℕ) → List (List ℕ) → List RuleView
-    → Result GameView GameFault
+unfoldable pub made_game : Option (List ℕ) → List (List ℕ) → List RuleView → Result GameView GameFault
 made_game title names rules = do
   _ ← refuse (option_map_or (λ t. not (is_title t)) title false) Title
   _ ← refuse (nat_lt (length names) 1 || nat_lt 40 (length names)) Members
@@ -54,12 +53,7 @@ made_game title names rules = do
   _ ← refuse_at SameName (position (is_repeat names) (places names))
   _ ← refuse_at Weight (position (is_heavy rules) (range_with_len 0 (length names)))
   _ ← refuse (list_any has_bad_quota rules) QuotaRange
-  Ok (record {
-    title = title;
-    names = names;
-    rules = rules;
-    ranks = rank_places (first_weights rules);
-  })
+  Ok (record { title = title; names = names; rules = rules; ranks = rank_places (first_weights rules) })
 
 -- What is a game: its checks pass, and it has 1 to 4 rules, each with a weight for each member.
 pub record IsGame (g : GameView) : Type 0 where

@@ -26,8 +26,7 @@ pub record IsRule (n : ℕ) (r : RuleView) : Type 0 where
 -- heavier places come first
 abbrev pub IsRanked : List RuleView → Type 0
 IsRanked [] = ⊤
-IsRanked (r ∷ rs) =
-    (a b : ℕ) → a ≤ b → b < length r.weights → slice_index r.weights b ≤ slice_index r.weights a
+IsRanked (r ∷ rs) = (a b : ℕ) → a ≤ b → b < length r.weights → slice_index r.weights b ≤ slice_index r.weights a
 
 -- 1 to 40 members, 1 to 4 rules, and the places ranked by the first
 pub record IsVotes (v : Votes) : Type 0 where
@@ -64,8 +63,7 @@ wins rules c = list_all (λ r. nat_le r.quota (weight r.weights c)) rules
 
 -- a minimal winning coalition wins, and loses without any one of its members
 unfoldable pub minimal : Votes → ℕ → Bool
-minimal v c = wins v.rules c
-    && list_all (λ p. not (wins v.rules (without v.members p c))) (places_of v.members c)
+minimal v c = wins v.rules c && list_all (λ p. not (wins v.rules (without v.members p c))) (places_of v.members c)
 
 -- n - 1, .., 1, 0
 unfoldable pub down : ℕ → List ℕ

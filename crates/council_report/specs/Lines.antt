@@ -65,15 +65,13 @@ minimal_line list = line (codes "minimal") (decimal (length list) ∷ [])
 
 unfoldable pub coalition_line : GameView → ℕ → List ℕ
 coalition_line g c =
-    line (codes "coalition")
-    (decimal (size (length g.names) c) ∷ with_slashes (weights_of_coalition g c) ∷ names_of g c)
+    line (codes "coalition") (decimal (size (length g.names) c) ∷ with_slashes (weights_of_coalition g c) ∷ names_of g c)
 
 -- size s, how many of the coalitions have it, and for each member how many of those contain it; no line where none has it
 unfoldable pub size_line : GameView → List ℕ → ℕ → List ℕ
 size_line g list s = if count_of_size g s list == 0 then [] else
     line (codes "size")
-    (decimal s ∷ decimal (count_of_size g s list)
-    ∷ map (λ i. decimal (count_of_member_size g i s list)) (members g))
+    (decimal s ∷ decimal (count_of_size g s list) ∷ map (λ i. decimal (count_of_member_size g i s list)) (members g))
 
 -- a fraction in lowest terms
 abbrev pub fraction_text : ℕ × ℕ → List ℕ
@@ -85,8 +83,7 @@ decimals_text p = decimals (lowest_terms p)
 
 -- member i: name, weights, how many of the coalitions contain it
 abbrev pub member_fields : GameView → List ℕ → ℕ → List (List ℕ)
-member_fields g list i =
-    name_of g i ∷ with_slashes (weights_of_member g i) ∷ decimal (count_of_member g i list) ∷ []
+member_fields g list i = name_of g i ∷ with_slashes (weights_of_member g i) ∷ decimal (count_of_member g i list) ∷ []
 
 -- the two indices of member i over the coalitions
 abbrev pub index_fields : GameView → List ℕ → ℕ → List (List ℕ)

@@ -20,8 +20,7 @@ abbrev pub coalition_lines : Shown → GameView → List ℕ → List ℕ
 coalition_lines shown g list = if shown.list then flat_map (coalition_line g) list else []
 
 abbrev pub size_lines : Shown → GameView → List ℕ → List ℕ
-size_lines shown g list =
-    if shown.sizes then flat_map (size_line g list) (range_with_len 1 (length g.names)) else []
+size_lines shown g list = if shown.sizes then flat_map (size_line g list) (range_with_len 1 (length g.names)) else []
 
 abbrev pub member_lines : GameView → List ℕ → List ℕ
 member_lines g list = flat_map (member_line g list) (members g)

@@ -7,8 +7,7 @@ use Rattle.mwc_parts.specs.declared.part.Part.{Part}
 
 -- what a part says of its slices: their coalitions joined, and where each ends
 abbrev pub IsPart : Slicing → Part → Type 0
-IsPart g p =
-    (p.got.items ≡ flat_map g.slice p.slices.items) × (p.ends.items ≡ ends_from g 0 p.slices.items)
+IsPart g p = (p.got.items ≡ flat_map g.slice p.slices.items) × (p.ends.items ≡ ends_from g 0 p.slices.items)
 
 -- piece m of a part
 abbrev pub piece : Part → ℕ → List ℕ
@@ -16,8 +15,7 @@ piece p m = slice_range p.got.items (slice_index (0 ∷ p.ends.items) m) (slice_
 
 -- each piece is the slice of its number
 abbrev pub HasPieces : (ℕ → List ℕ) → Part → Type 0
-HasPieces slice p = (m : ℕ) → m < length p.slices.items →
-    piece p m ≡ slice (slice_index p.slices.items m)
+HasPieces slice p = (m : ℕ) → m < length p.slices.items → piece p m ≡ slice (slice_index p.slices.items m)
 
 -- the slices of each part
 abbrev pub shares : List Part → List (List ℕ)
@@ -26,5 +24,4 @@ shares parts = map (λ (p : Part). p.slices.items) parts
 -- each of the slices 0 to n - 1 stands in the parts once, and no other number does
 abbrev pub HasEachSliceOnce : ℕ → List Part → Type 0
 HasEachSliceOnce n parts = (j : ℕ) →
-    count_by (λ i. i == j) (flat_map (λ (p : Part). p.slices.items) parts) ≡
-    (if nat_lt j n then 1 else 0)
+    count_by (λ i. i == j) (flat_map (λ (p : Part). p.slices.items) parts) ≡ (if nat_lt j n then 1 else 0)

@@ -29,5 +29,4 @@ ends_from g n (j ∷ js) = (n + length (g.slice j)) ∷ ends_from g (n + length 
 
 -- the ends never fall, and none is beyond n
 abbrev pub Rises : List ℕ → ℕ → Type 0
-Rises ends n = (m : ℕ) → m < length ends →
-    (slice_index (0 ∷ ends) m ≤ slice_index ends m) × (slice_index ends m ≤ n)
+Rises ends n = (m : ℕ) → m < length ends → (slice_index (0 ∷ ends) m ≤ slice_index ends m) × (slice_index ends m ≤ n)

@@ -41,8 +41,7 @@ divides_both a b d = (a % d == 0) && (b % d == 0)
 -- the greatest number from 1 to n that divides both a and b
 unfoldable pub common_divisor_up_to : ℕ → ℕ → ℕ → ℕ
 common_divisor_up_to a b zero = 1
-common_divisor_up_to a b (suc n) =
-    if divides_both a b (suc n) then suc n else common_divisor_up_to a b n
+common_divisor_up_to a b (suc n) = if divides_both a b (suc n) then suc n else common_divisor_up_to a b n
 
 -- the greatest common divisor of a and b, where b is above 0
 abbrev pub greatest_common_divisor : ℕ → ℕ → ℕ
