@@ -7,7 +7,7 @@ use Rattle.std.proofs.lemmas.List.{length-map, get_or_default, get_or_past}
 use Rattle.std.proofs.lemmas.List.Elements.{recursion_from_All}
 use Rattle.std.proofs.lemmas.List.Sums.{sum_by-le, fails_before_first}
 use Rattle.std.proofs.lemmas.Bool.Decides.{nat_tests}
-use Rattle.std.proofs.lemmas.Bool.{cases_lt, or_parts, and_parts, not-false, leb-true, ltb-false, lt-ltb, cond-true}
+use Rattle.std.proofs.lemmas.Bool.{cases_lt, or_parts, ltb-false, lt-ltb, cond-true}
 use Rattle.council_game.specs.declared.fault.GameFault.{GameFault}
 use Rattle.council_game.specs.declared.fault.GameFault.TheVariants.{Title, Members, Name, SameName, Weight, QuotaRange}
 use Rattle.council_game.specs.Fault.{◌>>=◌, refuse, refuse_at}

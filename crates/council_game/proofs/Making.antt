@@ -32,17 +32,16 @@ ranking-places ws qs r =
     (λ i d lt.
     let below : i < length ws = omega (arith, len4, len) in
     let found = place-found ws qs i r below in
-    let own : rank_place ws i ≡ found.0 = ap (rank_place ws) (sym found.2) ∙ rank-of ws qs found.0 r found.1 in
     let first : place_in qs i ≡ found.0 =
     position_or_len_is (λ y. eqb y i) qs found.0 0 (omega (arith, found.1))
     (λ k less. ne_eqb _ _ (λ e.
     let in' : k < length qs = omega (arith, less, found.1) in
     let other : rank_place ws i ≡ k = ap (rank_place ws) (sym e) ∙ rank-of ws qs k r in' in
-    omega (arith, own, other, less)))
+    omega (arith, found.3, other, less)))
     (λ _. eq-eqb _ _ found.2) in
     get_or-map (place_in qs) (places qs) i 0 d (omega (arith, len4, len3))
     ∙ ap (place_in qs) (places-at (length qs) i 0 (omega (arith, len4)))
-    ∙ first ∙ sym own ∙ sym (rank_places-at ws i below)
+    ∙ first ∙ sym found.3 ∙ sym (rank_places-at ws i below)
     ∙ get_or_default (rank_places ws) i 0 d (omega (arith, len2)))
 
 pub order-places : (ws os : List ℕ) → os ≡ members_by_rank (rank_places ws) → map (place_in os) (places os) ≡ rank_places ws
@@ -127,13 +126,11 @@ ranks-of ws =
       count = length-rank_places ws;
       place_below = λ i lt.
           let at = place-found ws found.0 i found.1 lt in
-          let own : rank_place ws i ≡ at.0 = ap (rank_place ws) (sym at.2) ∙ rank-of ws found.0 at.0 found.1 at.1 in
           let here = rank_places-at ws i lt in
-          omega (arith, own, here, at.1, len);
+          omega (arith, at.3, here, at.1, len);
       member_back = λ i lt.
           let at = place-found ws found.0 i found.1 lt in
-          let own : rank_place ws i ≡ at.0 = ap (rank_place ws) (sym at.2) ∙ rank-of ws found.0 at.0 found.1 at.1 in
-          let here : get_or (rank_places ws) i 0 ≡ at.0 = rank_places-at ws i lt ∙ own in
+          let here : get_or (rank_places ws) i 0 ≡ at.0 = rank_places-at ws i lt ∙ at.3 in
           ap (member_at (rank_places ws)) here ∙ ranking-member_at ws found.0 at.0 found.1 at.1 ∙ at.2;
       member_below = λ p lt.
           let in' : p < length found.0 = omega (arith, len) in

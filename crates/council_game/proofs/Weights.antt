@@ -1,10 +1,9 @@
 -- The weight of a coalition, split at a prefix of its places.
-use Rattle.std.proofs.Common.{◌≡◌, ◌≢◌, ℕ, zero, suc, ◌+◌, ◌-◌, ◌*◌, ◌/◌, ◌%◌, ◌^◌, ◌<◌, ◌≤◌, List, [], ◌∷◌, ◌++◌, length, take, drop, get_or, sum, refl, sym, ap, ◌∙◌, arith}
+use Rattle.std.proofs.Common.{◌≡◌, ◌≢◌, ℕ, zero, suc, ◌+◌, ◌-◌, ◌*◌, ◌/◌, ◌%◌, ◌^◌, ◌<◌, ◌≤◌, List, [], ◌∷◌, ◌++◌, length, take, drop, get_or, sum, sym, ap, ◌∙◌, arith}
 use Rattle.std.proofs.lemmas.Nat.Bits.{bit_at_cat_low, bit_at_cat_high, bit_at-lt, bit_at-zero}
 use Rattle.std.proofs.lemmas.Nat.{div-add-mod', mod_below, pow_pos, mul-le, div-mul-add, mod-mul-add}
 use Rattle.std.proofs.lemmas.List.{length-append, take-append-drop, length-drop, take_more}
 use Rattle.std.proofs.lemmas.List.Sums.{sum_by-cons}
-use Rattle.std.proofs.Math.Nat.{pow-suc}
 use Rattle.council_game.specs.Votes.{weight}
 use Rattle.council_game.proofs.Digits.{digit-kept, digit-gone}
 use Rattle.council_game.proofs.WeightByDigits.{weight-nil, weight-cons}

@@ -3,6 +3,7 @@ use Rattle.std.proofs.Common.{◌≡◌, ℕ, zero, suc, ◌+◌, ◌<◌, ◌�
 use Rattle.std.specs.List.{flat_map}
 use Rattle.std.proofs.lemmas.Grind.{flat_map-append}
 use Rattle.std.proofs.lemmas.List.{append-nil, take_more}
+use Rattle.std.proofs.lemmas.List.Folds.{length-flat_map-take}
 use Rattle.council_text.specs.Joined.{joined_numbers}
 
 -- numbers behind others, with the separator before each
@@ -29,29 +30,6 @@ numbers-more s (v ∷ vs) (suc r) below some =
     ∙ sym (append_assoc (decimal v) (behind s (take r vs)) (next ++ []))
     ∙ ap (λ (t : List ℕ). joined_numbers s (v ∷ take r vs) ++ t) (append-nil next)
 
-behind-within : (s vs : List ℕ) (r : ℕ) → length (behind s (take r vs)) ≤ length (behind s vs)
-behind-within s vs zero = omega arith
-behind-within s [] (suc r) = omega arith
-behind-within s (v ∷ vs) (suc r) =
-    omega (
-      arith,
-      behind-within s vs r,
-      length-append (s ++ decimal v) (behind s (take r vs)),
-      length-append (s ++ decimal v) (behind s vs),
-    )
-
--- the first numbers are no longer than all of them
-pub first-within : (s vs : List ℕ) (r : ℕ) → length (joined_numbers s (take r vs)) ≤ length (joined_numbers s vs)
-first-within s vs zero = omega arith
-first-within s [] (suc r) = omega arith
-first-within s (v ∷ vs) (suc r) =
-    omega (
-      arith,
-      behind-within s vs r,
-      length-append (decimal v) (behind s (take r vs)),
-      length-append (decimal v) (behind s vs),
-    )
-
 -- a first number, and a further one, after what is there
 pub put-first : (s a vs : List ℕ) (r : ℕ) → r ≡ 0 → 0 < length vs → (a ++ joined_numbers s (take r vs)) ++ decimal (get_or vs r 0) ≡ a ++ joined_numbers s (take (r + 1) vs)
 put-first s a vs zero none some = append_assoc a [] (decimal (get_or vs 0 0)) ∙ ap (λ (t : List ℕ). a ++ t) (sym (numbers-first s vs some))
@@ -65,10 +43,15 @@ put-more s a vs r below some =
 
 -- the first numbers and a further one are no longer than all of them, with the separator and without
 pub more-within : (s vs : List ℕ) (r : ℕ) → r < length vs → 0 < r → length (joined_numbers s (take r vs)) + length s + length (decimal (get_or vs r 0)) ≤ length (joined_numbers s vs)
-more-within s vs r below some =
-    let more = ap (λ (t : List ℕ). length t) (numbers-more s vs r below some) in
-    omega (arith, more, first-within s vs (r + 1), length-append (joined_numbers s (take r vs)) (s ++ decimal (get_or vs r 0)), length-append s (decimal (get_or vs r 0)))
+more-within s [] r below some = absurd (omega arith)
+more-within s (v ∷ vs) zero below some = absurd (omega arith)
+more-within s (v ∷ vs) (suc r) below some =
+    let rest = length-flat_map-take (λ w. s ++ decimal w) vs r 0 (omega arith) in
+    let first = length-append (decimal v) (behind s (take r vs)) in
+    let all = length-append (decimal v) (behind s vs) in
+    omega (arith, rest, first, all, length-append s (decimal (get_or vs r 0)))
 
 pub next-within : (s vs : List ℕ) (r : ℕ) → r < length vs → length (joined_numbers s (take r vs)) + length (decimal (get_or vs r 0)) ≤ length (joined_numbers s vs)
-next-within s vs zero below = let first = ap (λ (t : List ℕ). length t) (numbers-first s vs below) in omega (arith, first, first-within s vs 1)
-next-within s vs (suc r) below = omega (arith, more-within s vs (suc r) below (omega arith))
+next-within s [] r below = absurd (omega arith)
+next-within s (v ∷ vs) zero below = omega (arith, length-append (decimal v) (behind s vs))
+next-within s (v ∷ vs) (suc r) below = omega (arith, more-within s (v ∷ vs) (suc r) below (omega arith))
