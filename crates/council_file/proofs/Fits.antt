@@ -62,5 +62,6 @@ held_count rules t same ok quota =
 pub all_held : (rules : List Rule) (t : Members) (names : List (String Global)) (ds : List Data) → rule_views rules ≡ rules_of t → ds ≡ member_list t → map string_bytes names ≡ map name_from ds
     → All (λ r. length r.weights.items ≡ length names) rules
 all_held rules t names ds same members named =
-    let len : length (member_list t) ≡ length names = ap (λ (xs : List Data). length xs) (sym members) ∙ sym (length-map ds name_from) ∙ ap (λ (xs : List (List ℕ)). length xs) (sym named) ∙ length-map names string_bytes in
+    let len : length (member_list t) ≡ length names =
+    ap (λ (xs : List Data). length xs) (sym members) ∙ sym (length-map ds name_from) ∙ ap (λ (xs : List (List ℕ)). length xs) (sym named) ∙ length-map names string_bytes in
     held_full rules (length names) (rw (same, ← len) (rules_full t))

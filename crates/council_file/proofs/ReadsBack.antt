@@ -1,5 +1,5 @@
 -- The notation of a rule is read as the game of this rule.
-use Rattle.std.proofs.Common.{◌≡◌, ℕ, ◌+◌, ◌*◌, ◌^◌, ◌<◌, ◌≤◌, suc, List, [], ◌∷◌, ◌++◌, length, get_or, codes, decimal, sum, Bool, true, false, not, ◌||◌, nat_lt, Option, Some, None, option_map, option_and_then, ok_or, Ok, refl, ap, ◌∙◌, arith, append_assoc, length-append}
+use Rattle.std.proofs.Common.{◌≡◌, ℕ, ◌+◌, ◌*◌, ◌^◌, ◌<◌, ◌≤◌, suc, List, [], ◌∷◌, ◌++◌, length, get_or, codes, decimal, sum, Bool, true, false, not, ◌||◌, nat_lt, Option, Some, None, option_map, ok_or, Ok, refl, ap, ◌∙◌, arith, append_assoc, length-append}
 use Rattle.std.specs.List.{AllByRecursion, list_any, position, range_with_len}
 use Rattle.std.specs.Str.Parse.{AllDigits}
 use Rattle.std.proofs.lemmas.Bool.{or_parts, le-leb, le-ltb, ltb-false}
@@ -46,9 +46,7 @@ last_is w small = ap (λ (o : Option ℕ). option_map (λ v. v ∷ []) o) (value
 
 next_is : (w : ℕ) (ps : List Part) (ws : List ℕ) → w < 10 ^ 18 → weights_of ps ≡ Some ws → weights_of (number (decimal w) ∷ comma ∷ ps) ≡ Some (w ∷ ws)
 unfolding weights_of
-next_is w ps ws small rest =
-    ap (option_and_then (λ v. option_map (λ vs. v ∷ vs) (weights_of ps))) (value_is w small)
-    ∙ ap (option_map (λ vs. w ∷ vs)) rest
+next_is w ps ws small rest = rw (value_is w small, rest) refl
 
 weights_read : (w : ℕ) (ws : List ℕ) → AllByRecursion (λ v. v < 10 ^ 18) (w ∷ ws) → weights_of (parts (joined_numbers (codes ", ") (w ∷ ws) ++ codes "]")) ≡ Some (w ∷ ws)
 unfolding parts
@@ -122,9 +120,7 @@ tail_read n r fits = tail_weights r.weights (omega (arith, fits.full, fits.some)
 
 rule_parts : (q : ℕ) (ps : List Part) (ws : List ℕ) → q < 10 ^ 18 → weights_of ps ≡ Some ws → rule_of (opening ∷ number (decimal q) ∷ semicolon ∷ ps) ≡ Some (record { quota = q; weights = ws })
 unfolding rule_of
-rule_parts q ps ws small rest =
-    ap (option_and_then (λ k. option_map (λ vs. record { quota = k; weights = vs }) (weights_of ps))) (value_is q small)
-    ∙ ap (option_map (λ vs. record { quota = q; weights = vs })) rest
+rule_parts q ps ws small rest = rw (value_is q small, rest) refl
 
 rule_read : (n : ℕ) (r : RuleView) → Fits n r → rule_of (parts (notation r)) ≡ Some r
 rule_read n r fits = ap rule_of (text_parts r (quota_small n r fits)) ∙ rule_parts r.quota (parts (tail_of r)) r.weights (quota_small n r fits) (tail_read n r fits)

@@ -1,5 +1,5 @@
 -- The votes of a game.
-use Rattle.std.proofs.Common.{◌≡◌, ℕ, ◌*◌, ◌<◌, ◌≤◌, Bool, true, false, not, ◌||◌, ltb, List, [], ◌∷◌, length, get_or, map, sum, refl, sym, ap, ◌∙◌, subst, arith, inl, inr, Option, Some, None, Result, Ok}
+use Rattle.std.proofs.Common.{◌≡◌, ℕ, ◌*◌, ◌<◌, ◌≤◌, Bool, false, not, ◌||◌, ltb, List, [], ◌∷◌, length, get_or, map, sum, refl, sym, ap, ◌∙◌, subst, arith, inl, inr, Option, Some, None, Ok}
 use Rattle.std.specs.List.{AllByRecursion, list_any, range_with_len, position, position_or_len}
 use Rattle.std.proofs.lemmas.List.FromFn.{length-range_with_len}
 use Rattle.std.specs.Option.{option_map_or}
@@ -8,7 +8,6 @@ use Rattle.std.proofs.lemmas.List.Elements.{recursion_from_All}
 use Rattle.std.proofs.lemmas.List.Sums.{sum_by-le, fails_before_first}
 use Rattle.std.proofs.lemmas.Bool.Decides.{nat_tests}
 use Rattle.std.proofs.lemmas.Bool.{cases_lt, or_parts, ltb-false, lt-ltb, cond-true}
-use Rattle.council_game.specs.declared.fault.GameFault.{GameFault}
 use Rattle.council_game.specs.declared.fault.GameFault.TheVariants.{Title, Members, Name, SameName, Weight, QuotaRange}
 use Rattle.council_game.specs.Fault.{◌>>=◌, refuse, refuse_at}
 use Rattle.council_game.specs.Votes.{RuleView, IsRule, IsRanked, IsVotes}
@@ -19,16 +18,12 @@ use Rattle.council_game.proofs.Rankings.{ranking-sum, ranking-falls, length-weig
 use Rattle.council_game.proofs.Order.{ranking}
 
 -- ---- what a game that was made has passed
-refused : {B : Type 0} (b : Bool) (fault : GameFault) (k : Unit {0} → Result B GameFault) (y : B) → (refuse b fault >>= k) ≡ Ok y → (b ≡ false) × (k tt ≡ Ok y)
-refused true fault k y h = absurd (cc)
-refused false fault k y h = (refl, h)
-
-refused_at : {B : Type 0} (fault : ℕ → GameFault) (o : Option ℕ) (k : Unit {0} → Result B GameFault) (y : B) → (refuse_at fault o >>= k) ≡ Ok y → (o ≡ None) × (k tt ≡ Ok y)
-refused_at fault None k y h = (refl, h)
-refused_at fault (Some i) k y h = absurd (cc)
-
-ok-same : {A E : Type 0} (x y : A) → ◌≡◌ {A = Result A E} (Ok x) (Ok y) → x ≡ y
-ok-same x y h = cc
+checks-passed : (title count : Bool) (name repeat weight : Option ℕ) (quota : Bool) (made g : GameView)
+    → (refuse title Title >>= (λ _. refuse count Members >>= (λ _. refuse_at Name name >>=
+    (λ _. refuse_at SameName repeat >>= (λ _. refuse_at Weight weight >>= (λ _. refuse quota QuotaRange >>= (λ _. Ok made))))))) ≡ Ok g
+    → (count ≡ false) × (name ≡ None) × (weight ≡ None) × (quota ≡ false) × (made ≡ g)
+checks-passed false false None None None false made g h = (refl, refl, refl, refl, cc)
+checks-passed title count name repeat weight quota made g h = absurd (cc)
 
 pub record Passed (g : GameView) : Type 0 where
   pub members : (ltb (length g.names) 1 || ltb 40 (length g.names)) ≡ false
@@ -40,26 +35,10 @@ pub record Passed (g : GameView) : Type 0 where
 pub passed : (g : GameView) → made_game g.title g.names g.rules ≡ Ok g → Passed g
 unfolding made_game
 passed g h =
-    let made : GameView = record { title = g.title; names = g.names; rules = g.rules; ranks = rank_places (first_weights g.rules) } in
-    let last : Unit {0} → Result GameView GameFault = λ _. Ok made in
-    let quotas : Unit {0} → Result GameView GameFault = λ _. refuse (list_any has_bad_quota g.rules) QuotaRange >>= last in
-    let weights : Unit {0} → Result GameView GameFault = λ _. refuse_at Weight (position (is_heavy g.rules) (range_with_len 0 (length g.names))) >>= quotas in
-    let repeats : Unit {0} → Result GameView GameFault = λ _. refuse_at SameName (position (is_repeat g.names) (places g.names)) >>= weights in
-    let names : Unit {0} → Result GameView GameFault = λ _. refuse_at Name (position (λ name. not (is_name name)) g.names) >>= repeats in
-    let members : Unit {0} → Result GameView GameFault = λ _. refuse (ltb (length g.names) 1 || ltb 40 (length g.names)) Members >>= names in
-    let a = refused (option_map_or (λ t. not (is_title t)) g.title false) Title members g h in
-    let b = refused (ltb (length g.names) 1 || ltb 40 (length g.names)) Members names g a.1 in
-    let c = refused_at Name (position (λ name. not (is_name name)) g.names) repeats g b.1 in
-    let d = refused_at SameName (position (is_repeat g.names) (places g.names)) weights g c.1 in
-    let e = refused_at Weight (position (is_heavy g.rules) (range_with_len 0 (length g.names))) quotas g d.1 in
-    let f = refused (list_any has_bad_quota g.rules) QuotaRange last g e.1 in
-    record {
-      members = b.0;
-      names = c.0;
-      weights = e.0;
-      quotas = f.0;
-      ranks = sym (ap (λ (v : GameView). v.ranks) (ok-same made g f.1));
-    }
+    let p = checks-passed (option_map_or (λ t. not (is_title t)) g.title false) (ltb (length g.names) 1 || ltb 40 (length g.names)) (position (λ name. not (is_name name)) g.names)
+    (position (is_repeat g.names) (places g.names)) (position (is_heavy g.rules) (range_with_len 0 (length g.names))) (list_any has_bad_quota g.rules)
+    (record { title = g.title; names = g.names; rules = g.rules; ranks = rank_places (first_weights g.rules) }) g h in
+    record { members = p.0; names = p.1; weights = p.2; quotas = p.3; ranks = sym (ap (λ (v : GameView). v.ranks) p.4) }
 
 -- ---- no weight is above the limit
 some-none : (i : ℕ) → ◌≡◌ {A = Option ℕ} (Some i) None → ⊥

@@ -90,11 +90,7 @@ listed-more v xs ys all m c pos is min pushed h =
     let e : m ≡ suc (m - 1) = omega arith in
     let first : minimal v (m - 1) ≡ true = ap (minimal v) (sym is) ∙ min in
     let more : minimal_below v m ≡ (m - 1) ∷ minimal_below v (m - 1) = ap (minimal_below v) e ∙ cond-true (minimal v (m - 1)) _ _ first in
-    ap (λ (l : List ℕ). l ++ minimal_below v (m - 1)) pushed
-    ∙ append_assoc xs (c ∷ []) (minimal_below v (m - 1))
-    ∙ ap (λ (i : ℕ). xs ++ (i ∷ minimal_below v (m - 1))) is
-    ∙ ap (λ (l : List ℕ). xs ++ l) (sym more)
-    ∙ h
+    rw (pushed, is, append_assoc) (rw more at h)
 
 pub listed-less : (v : Votes) (xs all : List ℕ) (m c : ℕ) → 0 < m → c ≡ m - 1 → minimal v c ≡ false → xs ++ minimal_below v m ≡ all → xs ++ minimal_below v (m - 1) ≡ all
 unfolding minimal_below down

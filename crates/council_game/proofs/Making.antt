@@ -152,9 +152,7 @@ ranks-are g game =
     subst (λ (n : ℕ). RanksAre n g.ranks) len (subst (RanksAre (length (first_weights g.rules))) (sym p.ranks) (ranks-of (first_weights g.rules)))
 
 pub held-votes : (g : GameView) (n : ℕ) (ranked : List Rule) → IsGame g → n ≡ length g.names → rule_views ranked ≡ (votes_of g).rules → IsVotes (votes n ranked)
-held-votes g n ranked game count same =
-    subst (λ (rs : List RuleView). IsVotes (record { members = n; rules = rs })) (sym same)
-    (subst (λ (m : ℕ). IsVotes (record { members = m; rules = (votes_of g).rules })) (sym count) (votes-are g game))
+held-votes g n ranked game count same = rw (count, same) (votes-are g game)
 
 -- the members by rank, as a table
 pub order-at : (g : GameView) (os : List ℕ) (p : ℕ) → RanksAre (length g.names) g.ranks → os ≡ members_by_rank g.ranks → p < length g.names → (length os ≡ length g.names) × (get_or os p 0 ≡ member_at g.ranks p)
