@@ -73,7 +73,8 @@ pub each-field : {X : Type 0} (f : X → List ℕ) → ((x : X) → IsField (f x
 each-field f h [] = tt
 each-field f h (x ∷ xs) = (h x, each-field f h xs)
 
-each-number : (P : RuleView → Type 0) (f : RuleView → ℕ) → ((r : RuleView) → P r → f r < 2 ^ 64) → (rs : List RuleView) → AllByRecursion P rs → AllByRecursion (λ v. v < 2 ^ 64) (map f rs)
+each-number : (P : RuleView → Type 0) (f : RuleView → ℕ) → ((r : RuleView) → P r → f r < 2 ^ 64)
+    → (rs : List RuleView) → AllByRecursion P rs → AllByRecursion (λ v. v < 2 ^ 64) (map f rs)
 each-number P f small [] h = tt
 each-number P f small (r ∷ rs) h = (small r h.0, each-number P f small rs h.1)
 
@@ -94,7 +95,8 @@ coalition-fits g game c =
     line-fits (codes "coalition") (decimal (size (length g.names) c) ∷ with_slashes (weights_of_coalition g c) ∷ names_of g c) (omega arith) (omega (arith, names, some, forty)) (
       number-field (size (length g.names) c) (omega (arith, some, forty)),
       (
-        with_slashes-fits (weights_of_coalition g c) (omega (arith, rules, few)) (each-number (IsRule (length g.names)) (λ r. weight r.weights c) (λ r is. omega (arith, weight-le r.weights c, is.light)) (votes_of g).rules each),
+        with_slashes-fits (weights_of_coalition g c) (omega (arith, rules, few))
+            (each-number (IsRule (length g.names)) (λ r. weight r.weights c) (λ r is. omega (arith, weight-le r.weights c, is.light)) (votes_of g).rules each),
         each-field (λ p. name_of g (member_at g.ranks p)) (λ p. name-fits g game (member_at g.ranks p)) (places_of (length g.names) c),
       ),
     )
@@ -109,7 +111,8 @@ size-fits g game list few s le =
     let count : ℕ → List ℕ = λ i. decimal (count_of_member_size g i s list) in
     let long = length-map (members g) count in
     let all = length-range_with_len 0 (length g.names) in
-    cond_both (count_of_size g s list == 0) [] (line (codes "size") (decimal s ∷ decimal (count_of_size g s list) ∷ map count (members g))) (λ text. length text ≤ 4096) (λ _. omega arith)
+    cond_both (count_of_size g s list == 0) [] (line (codes "size") (decimal s ∷ decimal (count_of_size g s list) ∷ map count (members g)))
+    (λ text. length text ≤ 4096) (λ _. omega arith)
     (λ _. line-fits (codes "size") (decimal s ∷ decimal (count_of_size g s list) ∷ map count (members g)) (omega arith) (omega (arith, long, all, forty)) (
       number-field s (omega (arith, le, forty)),
       (

@@ -24,7 +24,8 @@ with-next f {xs} {i} {x} next =
     ap (flat_map f) (take_more xs i x next.below) ∙ rows-more f (take i xs) (get_or xs i x)
     ∙ ap (λ y. flat_map f (take i xs) ++ f y) (sym next.is)
 
-pub turn-told : {X : Type 0} {a b c : Progress} (f : X → List ℕ) {xs : List X} {i : ℕ} {x : X} → IsNext xs i x → Tells a b (flat_map f (take i xs)) → Tells b c (f x) → Tells a c (flat_map f (take (i + 1) xs))
+pub turn-told : {X : Type 0} {a b c : Progress} (f : X → List ℕ) {xs : List X} {i : ℕ} {x : X}
+    → IsNext xs i x → Tells a b (flat_map f (take i xs)) → Tells b c (f x) → Tells a c (flat_map f (take (i + 1) xs))
 turn-told {a = a} {b = b} {c = c} f {xs} {i} {x} next before more =
     subst (Tells a c) (sym (with-next f next)) (tells-then a b c (flat_map f (take i xs)) (f x) before more)
 
@@ -39,10 +40,12 @@ turn-stopped {a = a} {b = b} f {xs} {i} {x} {held} {n} next before stopped =
     subst (λ t. StopsIn a t held n) whole (stopped-first a (first ++ f x) rest held n (stopped-next a b first (f x) held n before stopped))
 
 -- the number of bytes told so far and of the next text is no greater than with all the texts
-pub turn-counts : {X : Type 0} {a b : Progress} (f : X → List ℕ) {xs : List X} {i : ℕ} {x : X} → IsNext xs i x → Tells a b (flat_map f (take i xs)) → a.count + length (flat_map f xs) < 2 ^ 64 → b.count + length (f x) < 2 ^ 64
+pub turn-counts : {X : Type 0} {a b : Progress} (f : X → List ℕ) {xs : List X} {i : ℕ} {x : X}
+    → IsNext xs i x → Tells a b (flat_map f (take i xs)) → a.count + length (flat_map f xs) < 2 ^ 64 → b.count + length (f x) < 2 ^ 64
 turn-counts f {xs} {i} {x} next before few =
     omega (arith, before.count, few, ap (λ y. length (f y)) next.is, length-flat_map-take f xs i x next.below)
 
 -- all of the numbers from a on
-pub numbers-told : {a b : Progress} (f : ℕ → List ℕ) (from n i : ℕ) → n ≤ i → Tells a b (flat_map f (take i (range_with_len from n))) → Tells a b (flat_map f (range_with_len from n))
+pub numbers-told : {a b : Progress} (f : ℕ → List ℕ) (from n i : ℕ) → n ≤ i
+    → Tells a b (flat_map f (take i (range_with_len from n))) → Tells a b (flat_map f (range_with_len from n))
 numbers-told {a} {b} f from n i le tells = subst (Tells a b) (ap (flat_map f) (take_all i (range_with_len from n) (rw length-range_with_len le))) tells

@@ -1,7 +1,7 @@
 -- How large the numbers of an index are in lowest terms.
-use Rattle.std.proofs.Common.{ℕ, ◌+◌, ◌*◌, ◌/◌, ◌^◌, ◌<◌, ◌≤◌, List, length, get_or, subst, arith}
+use Rattle.std.proofs.Common.{ℕ, ◌*◌, ◌/◌, ◌^◌, ◌<◌, ◌≤◌, List, length, get_or, subst, arith}
 use Rattle.std.specs.List.{filter, sum_by}
-use Rattle.std.proofs.Math.Nat.{div-le_self, mul-pos, mul-le-mul}
+use Rattle.std.proofs.Math.Nat.{div-le_self, mul-pos}
 use Rattle.std.proofs.lemmas.List.{length-map}
 use Rattle.std.proofs.lemmas.List.Sums.{sum_by-le}
 use Rattle.std.proofs.lemmas.List.FromFn.{length-range_with_len}
@@ -24,16 +24,13 @@ AreBelow k p = (p.0 < k) × (p.1 < k)
 lowest-below : (k : ℕ) (p : ℕ × ℕ) → AreBelow k p → AreBelow k (lowest_terms p)
 unfolding lowest_terms
 lowest-below k p h =
-    let top = div-le_self p.0 (greatest_common_divisor p.0 p.1) in
-    let bottom = div-le_self p.1 (greatest_common_divisor p.0 p.1) in
-    let below = h.0 in
-    let below' = h.1 in
-    (omega (arith, top, below), omega (arith, bottom, below'))
+    let d : ℕ = greatest_common_divisor p.0 p.1 in
+    (omega (arith, div-le_self p.0 d, h.0), omega (arith, div-le_self p.1 d, h.1))
 
 -- the Deegan-Packel index as a sum over one denominator, which all sizes divide
-pub deegan_packel-below : (most : ℕ) (g : GameView) (list : List ℕ) (i : ℕ) → IsGame g → 0 < length list → length list ≤ most → AreBelow (denominator * most + 1) (lowest_terms (deegan_packel g list i))
+pub deegan_packel-wide : (g : GameView) (list : List ℕ) (i : ℕ) → IsGame g → 0 < length list → length list ≤ 2 ^ 40 → AreBelow (10 ^ 28) (lowest_terms (deegan_packel g list i))
 unfolding deegan_packel
-deegan_packel-below most g list i game some few =
+deegan_packel-wide g list i game some few =
     let sizes : List ℕ = sizes_of_member g list i in
     let sum : ℕ = sum_by (λ s. denominator / s) sizes in
     let whole : ℕ = denominator * length list in
@@ -48,26 +45,13 @@ deegan_packel-below most g list i game some few =
       lowest = lowest.lowest;
     } in
     let one = lowest_terms-only (deegan_packel g list i) (lowest_terms (sum, whole)) (mul-pos (bottom_pos (length g.names) sizes within) some) same in
-    subst (AreBelow (denominator * most + 1)) one (lowest-below (denominator * most + 1) (sum, whole) (omega (arith, bound, count, less, few), omega (arith, few)))
-
-pub public_good-below : (most : ℕ) (g : GameView) (list : List ℕ) (i : ℕ) → IsGame g → length list ≤ most → AreBelow (40 * most + 1) (lowest_terms (public_good g list i))
-unfolding public_good
-public_good-below most g list i game few =
-    let own = length-filter-le (contains g i) list in
-    let all : sum_by (λ j. count_of_member g j list) (members g) ≤ length (members g) * most =
-    sum_by-le (λ j. count_of_member g j list) most (members g) (λ k d lt. let e = length-filter-le (contains g (get_or (members g) k d)) list in omega (arith, e, few)) in
-    let long = length-range_with_len 0 (length g.names) in
-    let forty : length (members g) ≤ 40 = (let f = few-members g game in omega (arith, f, long)) in
-    let bound : length (members g) * most ≤ 40 * most = mul-le-mul forty (omega arith) in
-    lowest-below (40 * most + 1) (count_of_member g i list, sum_by (λ j. count_of_member g j list) (members g)) (omega (arith, own, few), omega (arith, all, bound))
-
--- below a bound, so below a greater one
-below-more : (k m : ℕ) (p : ℕ × ℕ) → k ≤ m → AreBelow k p → AreBelow m p
-below-more k m p le h = let a = h.0 in let b = h.1 in (omega (arith, a, le), omega (arith, b, le))
-
--- the indices over any list of a game's coalitions, each once
-pub deegan_packel-wide : (g : GameView) (list : List ℕ) (i : ℕ) → IsGame g → 0 < length list → length list ≤ 2 ^ 40 → AreBelow (10 ^ 28) (lowest_terms (deegan_packel g list i))
-deegan_packel-wide g list i game some few = below-more (denominator * 2 ^ 40 + 1) (10 ^ 28) _ (omega arith) (deegan_packel-below (2 ^ 40) g list i game some few)
+    subst (AreBelow (10 ^ 28)) one (lowest-below (10 ^ 28) (sum, whole) (omega (arith, bound, count, less, few), omega (arith, few)))
 
 pub public_good-wide : (g : GameView) (list : List ℕ) (i : ℕ) → IsGame g → length list ≤ 2 ^ 40 → AreBelow (10 ^ 28) (lowest_terms (public_good g list i))
-public_good-wide g list i game few = below-more (40 * 2 ^ 40 + 1) (10 ^ 28) _ (omega arith) (public_good-below (2 ^ 40) g list i game few)
+unfolding public_good
+public_good-wide g list i game few =
+    let all : sum_by (λ j. count_of_member g j list) (members g) ≤ length (members g) * 2 ^ 40 =
+    sum_by-le (λ j. count_of_member g j list) (2 ^ 40) (members g) (λ k d lt. let less = length-filter-le (contains g (get_or (members g) k d)) list in omega (arith, less, few)) in
+    let forty : length (members g) ≤ 40 = omega (arith, few-members g game, length-range_with_len 0 (length g.names)) in
+    let own = length-filter-le (contains g i) list in
+    lowest-below (10 ^ 28) (count_of_member g i list, sum_by (λ j. count_of_member g j list) (members g)) (omega (arith, own, few), omega (arith, all, forty))

@@ -55,7 +55,8 @@ pub tallies-more : (n : ℕ) (p : ℕ → Bool) (list : List ℕ) (c s : ℕ) (t
     → IsTallyOf n p list t → IsTallyOf n p (list ++ c ∷ []) v
 tallies-more n p list c s t v is small v-is h = subst (IsTallyOf n p (list ++ c ∷ [])) (sym v-is) (cases (p c) refl)
   where
-    more : (b : Bool) → p c ≡ b → (k : ℕ) → length (filter (λ x. p x && (size n x == k)) (list ++ c ∷ [])) ≡ length (filter (λ x. p x && (size n x == k)) list) + cond (b && (s == k)) 1 0
+    more : (b : Bool) → p c ≡ b → (k : ℕ)
+        → length (filter (λ x. p x && (size n x == k)) (list ++ c ∷ [])) ≡ length (filter (λ x. p x && (size n x == k)) list) + cond (b && (s == k)) 1 0
     more b e k =
         length-filter-push (λ x. p x && (size n x == k)) list c
         ∙ (λ i. length (filter (λ x. p x && (size n x == k)) list) + cond (e i && (sym is i == k)) 1 0)

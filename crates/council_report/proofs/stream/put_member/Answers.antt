@@ -5,7 +5,8 @@ use Rattle.council_report.proofs.stream.put_member.Goals as goal
 
 pub unreachable-requires : goal.unreachable-requires
 unreachable-requires g c =
-    ready-takes c.requires.1.1.1.0 c.in-Err.ensures.room (member-fits c.args.counted.now.game.now c.args.counted.now.is_game g.list c.requires.1.0.some c.requires.1.0.few c.args.member c.requires.1.1.0)
+    ready-takes c.requires.1.1.1.0 c.in-Err.ensures.room
+    (member-fits c.args.counted.now.game.now c.args.counted.now.is_game g.list c.requires.1.0.some c.requires.1.0.few c.args.member c.requires.1.1.0)
 
 pub returns : goal.returns
 returns g c =
