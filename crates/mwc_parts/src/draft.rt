@@ -22,7 +22,11 @@ pub struct Draft {
 }
 
 impl Draft {
-    /// The draft of no words, with room for so many slices; `Memory` where there was none.
+    /// The draft of no words, with room for the ends of so many slices.
+    ///
+    /// # Errors
+    ///
+    /// `Memory` where that room was refused.
     pub fn new(alloc: Global, slices: u16) -> Result<Draft, Memory>
         ensures { IfOk result (λ d. IsDraftOf [] d × (d.lost ≡ false) × (d.cut ≡ false)) }
     {
