@@ -1,8 +1,8 @@
 #!/usr/bin/env bash
 # Wrong bodies that no clause refuses, or not with every reading of it, since want of memory, a failed read or
 # write, threads and time are in no contract. Each edit of bodies/ is of the form of a must-fail edit, with a
-# first line `test: NAME in CRATE`; it is put into a copy of the crate, whose tests are run without a proof,
-# and the test of that name must fail.
+# first line `test: NAME in CRATE`; it is put into a copy of the crate, with the tests that stand beside it in
+# CRATE_tests as a module of it, the tests are run without a proof, and the test of that name must fail.
 #
 #     tests/bodies.sh [NAME..]            the edits of these names, or all, half a minute to a minute each
 #     tests/bodies.sh --fit [NAME..]      says only whether each can still be put into the sources
@@ -37,6 +37,40 @@ for crate in "$top"/crates/*; do
         cp -rp "$top/crates/$crate/out/rlib" "$room/crates/$crate/out/"
     fi
 done
+# Puts the tests that stand beside each library into it, as a module of its own, and what they use into its line
+# of crates.txt.
+python3 - "$room" <<'END'
+import os, re, sys
+room = sys.argv[1]
+lines = {}
+for line in open(f"{room}/crates.txt", encoding="utf-8"):
+    head, colon, tail = line.partition(":")
+    if colon:
+        lines[head.split()[0]] = head.split()[1:], tail.split()
+for name, (said, used) in lines.items():
+    beside = f"{name}_tests"
+    if beside not in lines:
+        continue
+    own, other = f"{room}/crates/{name}", f"{room}/crates/{beside}"
+    said += lines[beside][0]
+    used += [it for it in lines[beside][1] if it != name and it not in used]
+    for folder, _, files in os.walk(f"{other}/src"):
+        for file in files:
+            to = f"{own}/src{folder[len(f'{other}/src'):]}/{file}"
+            if file == "lib.rt" and folder == f"{other}/src":
+                continue
+            with open(f"{folder}/{file}", encoding="utf-8") as it:
+                text = re.sub(rf"\buse {name}\b", "use crate", it.read())
+            text = re.sub(rf"(?<![\w.:]){name}::", "crate::", text)
+            os.makedirs(os.path.dirname(to), exist_ok=True)
+            with open(to, "w", encoding="utf-8") as it:
+                it.write(text)
+    with open(f"{own}/src/lib.rt", "a", encoding="utf-8") as it:
+        it.write("\n#[cfg(test)]\nmod tests;\n")
+with open(f"{room}/crates.txt", "w", encoding="utf-8") as it:
+    for name, (said, used) in lines.items():
+        it.write(f"{' '.join([name, *said])}: {' '.join(used)}\n")
+END
 # Whether the test failed.
 judge() {
     if grep -q "^test tests::\(.*::\)\{0,1\}$test \.\.\. FAILED" "$room/said"; then

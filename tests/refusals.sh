@@ -1,6 +1,6 @@
 #!/usr/bin/env bash
 # Makes the library's calls while their allocations are refused, one after the other, and then all
-# from one on. Each call is a test of its crate, in src/tests/refusals.rt, that prints `call` before
+# from one on. Each call is a test in src/tests/refusals.rt of the crate's tests, that prints `call` before
 # it and its answer after it, `worked`, `out of memory` or `not started`, or which part of a run found
 # no memory, looks whether all stands as it must after that answer, and fails if not. Where no
 # allocation was refused the answer is the worked one. Where one was, it is want of memory or, for
@@ -11,19 +11,26 @@
 compile_refuse
 crates=$top/crates
 
-# are_built CRATE: whether the built tests of the crate are there, and no source of it or of the libraries
-# of its line in crates.txt is newer.
+# tests_of CRATE: the crate of its tests, which stands beside it.
+tests_of() {
+    if [ -d "$crates/$1_tests" ]; then echo "$1_tests"; else echo "$1"; fi
+}
+
+# are_built CRATE: whether the built tests of the crate are there, and no source of them or of the libraries
+# of their line in crates.txt is newer.
 are_built() {
-    local tests=$crates/$1/out/$1_tests name newer
+    local own tests name newer
+    own=$(tests_of "$1")
+    tests=$crates/$own/out/${own}_tests
     if [ ! -x "$tests" ]; then
-        failed "the tests of $1" "there is no $tests: \`rt test\` in crates/$1 makes it"
+        failed "the tests of $1" "there is no $tests: \`rt test\` in crates/$own makes it"
         return 1
     fi
-    for name in "$1" $(sed -n "s/^$1\( [^:]*\)\{0,1\}: *//p" "$top/crates.txt"); do
+    for name in "$own" $(sed -n "s/^$own\( [^:]*\)\{0,1\}: *//p" "$top/crates.txt"); do
         [ -d "$crates/$name/src" ] || continue
         newer=$(find "$crates/$name/src" -name '*.rt' -newer "$tests" | head -n 1)
         if [ -n "$newer" ]; then
-            failed "the tests of $1" "they are older than ${newer#"$top/"}: \`rt test\` in crates/$1 makes them anew"
+            failed "the tests of $1" "they are older than ${newer#"$top/"}: \`rt test\` in crates/$own makes them anew"
             return 1
         fi
     done
@@ -40,9 +47,11 @@ done
 # Makes the call of the test $3 of the crate $2 with the allocations refused that $1 names, and keeps
 # its answer and its status, and in $temp/said what refuse.c says.
 call() {
+    local own
+    own=$(tests_of "$2")
     : >"$temp/said"
     timeout -k 5 "$seconds" env "$1" REFUSE_CALL=1 REFUSE_TO=9 LD_PRELOAD="$temp/refuse.so" \
-        "$crates/$2/out/$2_tests" "tests::refusals::$3" >"$temp/out" 2>"$temp/err" 9>"$temp/said" </dev/null
+        "$crates/$own/out/${own}_tests" "tests::refusals::$3" >"$temp/out" 2>"$temp/err" 9>"$temp/said" </dev/null
     status=$?
     answer=$(sed -n 2p "$temp/out")
 }

@@ -11,8 +11,6 @@ mod fault;
 mod options;
 mod runs;
 mod tallies;
-#[cfg(test)]
-mod tests;
 
 pub use council_game::limits;
 pub use fault::{Cause, RunFault, status};

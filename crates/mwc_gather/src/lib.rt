@@ -18,8 +18,6 @@ mod promise;
 mod row;
 mod send;
 mod sent;
-#[cfg(test)]
-mod tests;
 mod waiting;
 mod worker;
 

@@ -39,6 +39,3 @@ pub use stopped::Stopped;
 pub use taken::Taken;
 pub use trace::{Trace, replay};
 pub use word::Word;
-
-#[cfg(test)]
-mod tests;

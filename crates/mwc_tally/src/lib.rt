@@ -13,8 +13,6 @@ mod fault;
 mod pieces;
 mod share;
 mod slice;
-#[cfg(test)]
-mod tests;
 mod watch;
 mod work;
 

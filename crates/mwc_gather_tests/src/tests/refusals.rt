@@ -1,0 +1,155 @@
+//! The calls that take memory, and one that takes none. `tests/refusals.sh` refuses the allocations
+//! between the line `call` and the line of the answer.
+use super::*;
+use std::io::Print;
+
+#[test]
+fn gathers(rt: HostRuntime) -> Result<(), Fail> {
+    let game = five(rt.alloc())?;
+    let passes = Passes::none();
+    rt.println("call")?;
+    let answer = gathered(&rt, rt.alloc(), &game, &passes, 2, 3, 5);
+    match answer {
+        Ok(gathered) => {
+            rt.println("worked")?;
+            same(&rt, gathered.parts.len(), 3, "gathered.parts.len");
+            same(&rt, passes.counts(), [1, 1, 1, 1], "passes.counts");
+        }
+        Err(GatherFault::Memory) => rt.println("out of memory")?,
+        Err(fault) => {
+            rt.println("not started")?;
+            assert!(rt; matches!(fault, GatherFault::Start));
+        }
+    }
+    let counts = passes.counts();
+    for _ in 0..1000 {
+        thread::yield_now();
+    }
+    same(&rt, passes.counts(), counts, "passes.counts 2");
+    let list = listed(&rt, rt.alloc(), &game, &NoGate, 2, 3, 5)?;
+    same(
+        &rt,
+        list.as_slice(),
+        [24, 22, 21, 19, 15].as_slice(),
+        "list",
+    );
+    Ok(())
+}
+
+/// Where the list is too long and something is refused, the refusal is told.
+#[test]
+fn gathers_too_many(rt: HostRuntime) -> Result<(), Fail> {
+    let game = five(rt.alloc())?;
+    rt.println("call")?;
+    match gathered(&rt, rt.alloc(), &game, &NoGate, 2, 3, 4) {
+        Err(GatherFault::TooMany) => rt.println("worked")?,
+        Err(GatherFault::Memory) => rt.println("out of memory")?,
+        Err(GatherFault::Start) => rt.println("not started")?,
+        _ => rt.println("another answer")?,
+    }
+    Ok(())
+}
+
+#[test]
+fn puts_parts_in_order(rt: HostRuntime) -> Result<(), Fail> {
+    let game = five(rt.alloc())?;
+    let gathered = gathered(&rt, rt.alloc(), &game, &NoGate, 2, 3, 5)?;
+    rt.println("call")?;
+    let answer = gathered.in_order(rt.alloc());
+    match &answer {
+        Ok(_) => rt.println("worked")?,
+        Err(_) => rt.println("out of memory")?,
+    }
+    let list = match answer {
+        Ok(list) => list,
+        Err(_) => gathered.in_order(rt.alloc())?,
+    };
+    same(
+        &rt,
+        masks(rt.alloc(), &list)?.as_slice(),
+        [24, 22, 21, 19, 15].as_slice(),
+        "masks",
+    );
+    Ok(())
+}
+
+/// How many coalitions each piece has.
+fn lens_of(alloc: Global, gathered: &Gathered) -> Result<Vec<usize>, AllocError> {
+    let Ok(pieces) = gathered.pieces(alloc) else {
+        return Err(AllocError);
+    };
+    let mut lens = Vec::new(alloc);
+    for piece in &pieces {
+        lens.push(piece.len())?;
+    }
+    Ok(lens)
+}
+
+#[test]
+fn finds_the_pieces(rt: HostRuntime) -> Result<(), Fail> {
+    let game = five(rt.alloc())?;
+    let gathered = gathered(&rt, rt.alloc(), &game, &NoGate, 2, 3, 5)?;
+    rt.println("call")?;
+    let answer = lens_of(rt.alloc(), &gathered);
+    match &answer {
+        Ok(_) => rt.println("worked")?,
+        Err(_) => rt.println("out of memory")?,
+    }
+    let lens = match answer {
+        Ok(lens) => lens,
+        Err(_) => lens_of(rt.alloc(), &gathered)?,
+    };
+    same(&rt, lens.as_slice(), [1, 3, 1, 0].as_slice(), "lens");
+    Ok(())
+}
+
+#[test]
+fn sends_into_a_batch(rt: HostRuntime) -> Result<(), Fail> {
+    let game = five(rt.alloc())?;
+    assert!(rt; game.members() == 5);
+    let guarded = Guarded::new(&game, &NoGate);
+    let mut batch = Batch::new(rt.alloc(), 16);
+    rt.println("call")?;
+    let sent = send_slice(&rt, &guarded, 2, 1, 1, 6, &mut batch);
+    if sent == Sent::Refused {
+        rt.println("out of memory")?;
+    } else {
+        rt.println("worked")?;
+        same(&rt, sent, Sent::Whole { left: 3 }, "sent");
+    }
+    let words = [
+        Word::Open(1),
+        Word::One(Coalition::of_mask(22)),
+        Word::One(Coalition::of_mask(21)),
+        Word::One(Coalition::of_mask(19)),
+        Word::Done(1),
+    ];
+    let mut pipe = batch.close();
+    let count = pipe.len() as usize;
+    same(
+        &rt,
+        count == words.len(),
+        sent != Sent::Refused,
+        "count == words.len",
+    );
+    for word in words.iter().take(count) {
+        same(&rt, pipe.take(), Taken::Item(*word), "pipe.take");
+    }
+    same(&rt, pipe.take(), Taken::Ended, "pipe.take 2");
+    Ok(())
+}
+
+#[test]
+fn marks_without_memory(rt: HostRuntime) -> Result<(), Fail> {
+    rt.println("call")?;
+    let mut marks = Marks::new(2);
+    assert!(rt; marks.give(0, 3));
+    assert!(rt; !marks.give(0, 4));
+    same(&rt, marks.holder(0), Some(3), "marks.holder");
+    same(&rt, marks.holder(1), None, "marks.holder 2");
+    assert!(rt; !marks.all_given());
+    assert!(rt; marks.give(1, 3));
+    assert!(rt; marks.all_given());
+    rt.println("worked")?;
+    Ok(())
+}

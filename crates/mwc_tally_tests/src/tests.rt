@@ -1,0 +1,198 @@
+//! Counts of worked games, by one thread and by several.
+mod pieces;
+mod refusals;
+
+ghost use Rattle.std.specs.Prelude.{◌≤◌};
+
+use council_game::{Game, GameFault};
+use mwc_tally::{NoWatch, Watch, tally, tally_slice};
+use power_index::WideCounts;
+use std::alloc::Global;
+use std::fmt::Debug;
+use std::process::Abort;
+use std::sync::atomic::{AtomicU64, Ordering};
+use std::test::Fail;
+use std::{array, hint, thread};
+
+/// Fails with the label where what was found is not what was wanted.
+fn same<T: PartialEq + Debug + Drop, L: Debug + Drop>(
+    rt: &impl Abort,
+    found: T,
+    wanted: T,
+    label: L,
+) {
+    assert_eq!(rt; found, wanted, "{label:?}");
+}
+
+/// A game of members named 0, 1, ..
+fn game(alloc: Global, quota: u64, weights: &[u64]) -> Result<Game, GameFault> {
+    let mut names = Vec::new(alloc);
+    let mut own = Vec::new(alloc);
+    for (i, weight) in weights.iter().enumerate() {
+        names.push(format!(in alloc; "{i}")?)?;
+        own.push(*weight)?;
+    }
+    if own.len() != names.len() {
+        return Err(GameFault::Members);
+    }
+    Game::new(alloc, None, names, own, quota)
+}
+
+/// How many slices were counted.
+#[derive(Drop)]
+struct Counted(AtomicU64);
+
+impl Watch for Counted {
+    fn counted(&self, _slice: u16, _slices: u16) {
+        self.0.fetch_add(1, Ordering::SeqCst);
+    }
+}
+
+/// The counts of the five members of weights 35, 20, 15, 15, 15 with quota 51.
+fn assert_of_five(rt: &impl Abort, counts: &WideCounts) {
+    same(&rt, counts.members(), 5, "counts.members");
+    same(&rt, counts.total(), 5, "counts.total");
+    for (size, count) in [0, 0, 1, 3, 1, 0].iter().enumerate() {
+        assert!(rt; size <= 5);
+        same(&rt, counts.of_size(size), *count, "counts.of_size");
+    }
+    for (member, count) in [4, 2, 3, 3, 3].iter().enumerate() {
+        assert!(rt; member < 5);
+        same(&rt, counts.of_member(member), *count, "counts.of_member");
+    }
+}
+
+#[test]
+fn five_members_by_any_threads_and_bits(rt: HostRuntime) -> Result<(), Fail> {
+    let game = game(rt.alloc(), 51, &[35, 20, 15, 15, 15])?;
+    same(&rt, game.members(), 5, "game.members");
+    for bits in 0..6u8 {
+        for workers in [1, 2, 4, 16] {
+            let counted = Counted(AtomicU64::new(0));
+            let counts = tally(&rt, rt.alloc(), &game, bits, workers, &counted)?;
+            assert_of_five(&rt, &counts);
+            same(
+                &rt,
+                counted.0.load(Ordering::SeqCst),
+                1 << bits,
+                "counted.0.load",
+            );
+        }
+    }
+    Ok(())
+}
+
+#[test]
+fn one_slice(rt: HostRuntime) -> Result<(), Fail> {
+    let game = game(rt.alloc(), 51, &[35, 20, 15, 15, 15])?;
+    same(&rt, game.members(), 5, "game.members");
+    let counts = tally_slice(&game, 2, 1);
+    same(&rt, counts.members(), 5, "counts.members");
+    same(&rt, counts.total(), 3, "counts.total");
+    same(&rt, counts.of_member(0), 3, "counts.of_member");
+    same(&rt, counts.of_member(1), 0, "counts.of_member 2");
+    Ok(())
+}
+
+#[test]
+fn five_of_forty_win(rt: HostRuntime) -> Result<(), Fail> {
+    let game = game(rt.alloc(), 5, &[1; 40])?;
+    same(&rt, game.members(), 40, "game.members");
+    let counts = tally(&rt, rt.alloc(), &game, 6, 4, &NoWatch)?;
+    same(&rt, counts.members(), 40, "counts.members");
+    same(&rt, counts.total(), 658_008, "counts.total");
+    for member in 0..40 {
+        same(&rt, counts.of_member(member), 82_251, "counts.of_member");
+    }
+    Ok(())
+}
+
+/// How often each of 32 slices was counted.
+#[derive(Drop)]
+struct Once([AtomicU64; 32]);
+
+impl Watch for Once {
+    fn counted(&self, slice: u16, _slices: u16) {
+        if slice < 32 {
+            self.0[usize::from(slice)].fetch_add(1, Ordering::SeqCst);
+        }
+    }
+}
+
+/// The threads count each slice, and none twice: nothing is left to be counted anew at the end.
+#[test]
+fn each_slice_is_counted_once(rt: HostRuntime) -> Result<(), Fail> {
+    let game = game(rt.alloc(), 51, &[35, 20, 15, 15, 15])?;
+    same(&rt, game.members(), 5, "game.members");
+    for workers in 1..17u8 {
+        let once = Once(array::from_fn(|_| AtomicU64::new(0)));
+        let counts = tally(&rt, rt.alloc(), &game, 5, workers, &once)?;
+        assert_of_five(&rt, &counts);
+        for slice in 0..32usize {
+            same(
+                &rt,
+                once.0[slice].load(Ordering::SeqCst),
+                1,
+                ("slice", slice),
+            );
+        }
+    }
+    Ok(())
+}
+
+/// Holds the thread that counted a slice first until all others are counted, for so many turns at most.
+#[derive(Drop)]
+struct Holding {
+    done: AtomicU64,
+    missed: AtomicU64,
+}
+
+impl Holding {
+    fn sees(&self, slices: u64) -> bool {
+        for turn in 0..100_000_000u32 {
+            if self.done.load(Ordering::SeqCst) == slices {
+                return true;
+            }
+            if turn % 64 == 0 {
+                thread::yield_now();
+            }
+            hint::spin_loop();
+        }
+        false
+    }
+}
+
+impl Watch for Holding {
+    fn counted(&self, _slice: u16, slices: u16) {
+        let before = self.done.fetch_add(1, Ordering::SeqCst);
+        if before == 0 && !self.sees(u64::from(slices)) {
+            self.missed.store(1, Ordering::SeqCst);
+        }
+    }
+}
+
+/// A slice that nobody took yet goes to whichever thread is free: a fixed deal of slices fails.
+#[test]
+fn a_held_thread_holds_no_slice(rt: HostRuntime) -> Result<(), Fail> {
+    let game = game(rt.alloc(), 51, &[35, 20, 15, 15, 15])?;
+    same(&rt, game.members(), 5, "game.members");
+    let holding = Holding {
+        done: AtomicU64::new(0),
+        missed: AtomicU64::new(0),
+    };
+    let counts = tally(&rt, rt.alloc(), &game, 5, 2, &holding)?;
+    assert_of_five(&rt, &counts);
+    same(
+        &rt,
+        holding.done.load(Ordering::SeqCst),
+        32,
+        "holding.done.load",
+    );
+    same(
+        &rt,
+        holding.missed.load(Ordering::SeqCst),
+        0,
+        "holding.missed.load",
+    );
+    Ok(())
+}

@@ -1,0 +1,62 @@
+//! A list in three pieces, by any number of threads.
+ghost use Rattle.council_game.specs.Game.{AreNonemptyCoalitions};
+ghost use Rattle.std.specs.Prelude.{◌≤◌, IfOk, length};
+
+use super::*;
+use council_game::Coalition;
+use mwc_tally::{TallyFault, tally_pieces};
+use std::sync::Wait;
+use std::thread::Threads;
+
+/// The coalitions of a game that these masks give.
+pub(super) fn coalitions(
+    rt: &impl Abort,
+    alloc: Global,
+    game: &Game,
+    masks: &[u64],
+) -> Result<Vec<Coalition>, Fail>
+    ensures coalitions { IfOk result (λ v. AreNonemptyCoalitions game.now v.items) }
+    ensures length { IfOk result (λ v. length v.items ≤ 1000) }
+{
+    let members = game.members();
+    let mut list = Vec::new(alloc);
+    for mask in masks {
+        assert!(rt; 0 < *mask);
+        assert!(rt; *mask < 1_099_511_627_776);
+        assert!(rt; *mask < 1 << members);
+        list.push(Coalition::of_mask(*mask))?;
+    }
+    assert!(rt; list.len() <= 1000);
+    Ok(list)
+}
+
+/// The counts of a list in three pieces.
+pub(super) fn counts_of_three<R: Threads + Wait + Sync>(
+    rt: &R,
+    game: &Game,
+    first: &[Coalition],
+    second: &[Coalition],
+    third: &[Coalition],
+    threads: u8,
+) -> Result<WideCounts, TallyFault>
+    requires first { (length first.now ≤ 1000) × AreNonemptyCoalitions game.now first.now }
+    requires second { (length second.now ≤ 1000) × AreNonemptyCoalitions game.now second.now }
+    requires third { (length third.now ≤ 1000) × AreNonemptyCoalitions game.now third.now }
+    requires threads { (1 ≤ threads) × (threads ≤ 16) }
+{
+    let pieces = [first, second, third];
+    tally_pieces(rt, game, &pieces, threads)
+}
+
+#[test]
+fn pieces_are_counted_by_any_threads(rt: HostRuntime) -> Result<(), Fail> {
+    let game = game(rt.alloc(), 51, &[35, 20, 15, 15, 15])?;
+    let first = coalitions(&rt, rt.alloc(), &game, &[24])?;
+    let second = coalitions(&rt, rt.alloc(), &game, &[])?;
+    let third = coalitions(&rt, rt.alloc(), &game, &[22, 21, 19, 15])?;
+    for threads in 1..17u8 {
+        let counts = counts_of_three(&rt, &game, &first, &second, &third, threads)?;
+        assert_of_five(&rt, &counts);
+    }
+    Ok(())
+}

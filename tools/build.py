@@ -1,0 +1,194 @@
+#!/usr/bin/env python3
+"""Proves what the program stands on, side by side, and builds the program.
+
+    tools/build.py
+
+`rt` itself proves one library after the other, since each of its runs keeps all others out of the folders
+of the libraries below. So each library is proved in a room of its own, crates/council/out/rooms/NAME,
+with the libraries below it as they were built, and what was kept of the work goes back to crates/NAME/out,
+where every other command of `rt` finds it. What did not change since an earlier run is not proved again.
+After an interrupt, what was proved by then stays.
+
+As many libraries are proved at once as there are processors, and memory for (some 3 GB each). The log goes
+to crates/council/out/build.log, and a line for each library to standard error.
+"""
+import fcntl
+import os
+import re
+import shutil
+import signal
+import subprocess
+import sys
+import time
+from concurrent.futures import FIRST_COMPLETED, ThreadPoolExecutor, wait
+
+TOP = os.path.dirname(os.path.dirname(os.path.realpath(__file__)))
+PROGRAM = "council"
+OUT = f"{TOP}/crates/{PROGRAM}/out"
+ROOMS = f"{OUT}/rooms"
+LOG = f"{OUT}/build.log"
+# what a proof may take
+MEMORY = 3_000_000_000
+# the proofs under way
+PROOFS = []
+
+
+def say(text):
+    print(f"council: {text}", file=sys.stderr, flush=True)
+
+
+def lines_of_crates():
+    """The line of crates.txt of each crate, by its name."""
+    with open(f"{TOP}/crates.txt", encoding="utf-8") as it:
+        texts = [line.partition("#")[0].strip() for line in it]
+    return {text.split(":")[0].split()[0]: text for text in texts if ":" in text}
+
+
+def below(name, lines):
+    """The crates of the repository that a crate stands on, near or far, the lowest first."""
+    found = []
+    for other in lines[name].split(":")[1].split():
+        if other in lines:
+            found += [it for it in [*below(other, lines), other] if it not in found]
+    return found
+
+
+def size(name):
+    """How many lines a crate has, by which the length of its proof is guessed."""
+    count = 0
+    for part in ("src", "specs", "proofs"):
+        for folder, _, files in os.walk(f"{TOP}/crates/{name}/{part}"):
+            for file in files:
+                with open(f"{folder}/{file}", "rb") as it:
+                    count += it.read().count(b"\n")
+    return count
+
+
+def lanes():
+    """How many proofs there is room for."""
+    with open("/proc/meminfo", encoding="utf-8") as it:
+        free = 1024 * int(re.search(r"MemAvailable:\s+(\d+)", it.read())[1])
+    return max(1, min(len(os.sched_getaffinity(0)), free // MEMORY))
+
+
+def hold(names):
+    """Keeps other runs out of these crates, as `rt` does."""
+    held = []
+    for name in names:
+        folder = os.open(f"{TOP}/crates/{name}", os.O_RDONLY)
+        try:
+            fcntl.flock(folder, fcntl.LOCK_EX | fcntl.LOCK_NB)
+        except BlockingIOError:
+            say(f"another run works in crates/{name}: waiting until it has ended")
+            fcntl.flock(folder, fcntl.LOCK_EX)
+        held.append(folder)
+    return held
+
+
+def bring_back(name):
+    """Puts what was kept of a crate's work from its room to its folder."""
+    kept, own = f"{ROOMS}/{name}/crates/{name}/out", f"{TOP}/crates/{name}/out"
+    if os.path.isdir(kept):
+        shutil.rmtree(own, ignore_errors=True)
+        os.rename(kept, own)
+    shutil.rmtree(f"{ROOMS}/{name}", ignore_errors=True)
+
+
+def make_room(name, lines):
+    """The room of a crate: its sources, those below it with what was built of them, and what is kept of its work."""
+    room = f"{ROOMS}/{name}"
+    for it in [*below(name, lines), name]:
+        for part in ("src", "specs", "proofs"):
+            if os.path.isdir(f"{TOP}/crates/{it}/{part}"):
+                shutil.copytree(f"{TOP}/crates/{it}/{part}", f"{room}/crates/{it}/{part}")
+        if it != name:
+            shutil.copytree(f"{TOP}/crates/{it}/out/rlib", f"{room}/crates/{it}/out/rlib", copy_function=os.link)
+    with open(f"{room}/crates.txt", "w", encoding="utf-8") as it:
+        it.write("".join(f"{lines[other]}\n" for other in [*below(name, lines), name]))
+    shutil.copy(f"{TOP}/HANDLES", f"{room}/HANDLES")
+    if os.path.isdir(f"{TOP}/crates/{name}/out"):
+        os.rename(f"{TOP}/crates/{name}/out", f"{room}/crates/{name}/out")
+    return f"{room}/crates/{name}"
+
+
+def prove(name, lines, jobs):
+    """Proves a library; its status."""
+    folder = make_room(name, lines)
+    try:
+        with open(f"{ROOMS}/{name}.log", "w", encoding="utf-8") as log:
+            words = ["rt", "lib", "--jobs", str(jobs)]
+            proof = subprocess.Popen(words, cwd=folder, stdin=subprocess.DEVNULL, stdout=log, stderr=subprocess.STDOUT)
+            PROOFS.append(proof)
+            return proof.wait()
+    finally:
+        bring_back(name)
+
+
+def prove_all(names, lines):
+    """Proves the libraries, each after those below it, and first those with the longest chain above; whether all were."""
+    behind = {name: size(name) for name in names}
+    for name in reversed(names):
+        above = [behind[it] for it in names if name in below(it, lines)]
+        behind[name] += max(above, default=0)
+    left, running, done, start = sorted(names, key=lambda it: -behind[it]), {}, [], time.time()
+    count = lanes()
+    with ThreadPoolExecutor(count) as pool:
+        while left or running:
+            ready = [it for it in left if all(other in done for other in below(it, lines))]
+            for at, name in enumerate(ready):
+                idle = count - sum(jobs for _, jobs in running.values())
+                if idle > 0:
+                    jobs = max(1, min(4, idle // (len(ready) - at)))
+                    left.remove(name)
+                    running[pool.submit(prove, name, lines, jobs)] = name, jobs
+            for it in wait(running, return_when=FIRST_COMPLETED).done:
+                name, _ = running.pop(it)
+                with open(f"{ROOMS}/{name}.log", encoding="utf-8", errors="replace") as log, open(LOG, "a", encoding="utf-8") as whole:
+                    whole.write(f"== {name}\n{log.read()}")
+                if it.result():
+                    say(f"{name} was not proved")
+                    left.clear()
+                    done.append(None)
+                else:
+                    done.append(name)
+                    say(f"{name} is proved, {len(done)} of {len(names) + 1}, {time.time() - start:.0f} s")
+    return None not in done
+
+
+def stop(number, _):
+    """Ends the proofs under way; what they kept is brought back."""
+    for proof in PROOFS:
+        proof.terminate()
+    sys.exit(128 + number)
+
+
+def main():
+    signal.signal(signal.SIGTERM, stop)
+    signal.signal(signal.SIGINT, stop)
+    lines = lines_of_crates()
+    names = below(PROGRAM, lines) if PROGRAM in lines else []
+    os.makedirs(OUT, exist_ok=True)
+    open(LOG, "w", encoding="utf-8").close()
+    held = hold(names)
+    if os.path.isdir(ROOMS):
+        # a run that was killed left them
+        for name in names:
+            bring_back(name)
+        shutil.rmtree(ROOMS, ignore_errors=True)
+    os.makedirs(ROOMS)
+    try:
+        if not prove_all(names, lines):
+            return 1
+    finally:
+        shutil.rmtree(ROOMS, ignore_errors=True)
+        for folder in held:
+            os.close(folder)
+    with open(LOG, "a", encoding="utf-8") as log:
+        log.write(f"== {PROGRAM}\n")
+        log.flush()
+        words = ["rt", "run", "--", "--version"]
+        status = subprocess.run(words, cwd=f"{TOP}/crates/{PROGRAM}", stdin=subprocess.DEVNULL, stdout=log, stderr=log).returncode
+    return status
+
+
+sys.exit(main())
