@@ -40,7 +40,7 @@ if [ ! -x "$program" ]; then
     echo "FAILED tests: there is no program $program"
     failed=1
 else
-    for test in examples options workers words faults prefixes output limits sizes tally launcher pages using hostile refusals; do
+    for test in examples options workers words faults mistakes prefixes output limits sizes tally launcher pages using hostile refusals; do
         count bash "tests/$test.sh" "$program"
     done
     if [ "${COUNCIL_BODIES:-0}" = 1 ]; then

@@ -1,9 +1,11 @@
 # A table of both indices from a report of council: Rscript table.R REPORT
-report <- readLines(commandArgs(trailingOnly = TRUE)[1], encoding = "UTF-8")
-fields <- strsplit(report, "\t", fixed = TRUE)
-rows <- Filter(function(row) row[1] == "member", fields)
-members <- as.data.frame(do.call(rbind, rows)[, -1, drop = FALSE])
-names(members) <- c("name", "weight", "coalitions", "dp", "deegan_packel", "pg", "public_good")
+lines <- readLines(commandArgs(trailingOnly = TRUE)[1], encoding = "UTF-8")
+members <- read.delim(
+  text = grep("^member\t", lines, value = TRUE), header = FALSE, quote = "", comment.char = "",
+  col.names = c("line", "name", "weight", "coalitions", "dp", "deegan_packel", "pg", "public_good"),
+  colClasses = c("character", "character", "character", "numeric", "character", "numeric", "character", "numeric")
+)
+# a fraction as a number; under several rules the weight is a text such as 4/1
 number <- function(fraction) {
   parts <- as.numeric(strsplit(fraction, "/", fixed = TRUE)[[1]])
   parts[1] / parts[2]

@@ -101,7 +101,7 @@ fn listed<R: Threads + Wait + Abort + Sync, G: Gate + Sync>(
 fn parts_of_one_worker(rt: HostRuntime) -> Result<(), Fail> {
     let game = five(rt.alloc())?;
     let gathered = gathered(&rt, rt.alloc(), &game, &NoGate, 2, 1, 5)?;
-    same(&rt, gathered.parts.len(), 1, "gathered.parts.len");
+    assert!(rt; gathered.parts.len() == 1);
     let part = &gathered.parts[0];
     same(
         &rt,
@@ -129,7 +129,7 @@ fn parts_of_one_worker(rt: HostRuntime) -> Result<(), Fail> {
         "masks 2",
     );
     let pieces = gathered.pieces(rt.alloc())?;
-    same(&rt, pieces.len(), 4, "pieces.len");
+    assert!(rt; pieces.len() == 4);
     same(
         &rt,
         masks(rt.alloc(), pieces[0])?.as_slice(),
@@ -416,7 +416,7 @@ fn held_worker_gets_no_more(rt: HostRuntime) -> Result<(), Fail> {
         let gathered = gathered(&rt, rt.alloc(), &game, &gate, 2, 2, 5)?;
         same(&rt, gate.missed.load(Ordering::SeqCst), 0, ("held", held));
         same(&rt, gate.passes.counts(), [1, 1, 1, 1], ("held", held));
-        same(&rt, gathered.parts.len(), 2, "gathered.parts.len");
+        assert!(rt; gathered.parts.len() == 2);
         let first = gathered.parts[0].slices.as_slice();
         let second = gathered.parts[1].slices.as_slice();
         if held == 0 {

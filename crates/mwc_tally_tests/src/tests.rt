@@ -12,7 +12,7 @@ use std::fmt::Debug;
 use std::process::Abort;
 use std::sync::atomic::{AtomicU64, Ordering};
 use std::test::Fail;
-use std::{array, hint, thread};
+use std::{hint, thread};
 
 /// Fails with the label where what was found is not what was wanted.
 fn same<T: PartialEq + Debug + Drop, L: Debug + Drop>(
@@ -50,22 +50,22 @@ impl Watch for Counted {
 
 /// The counts of the five members of weights 35, 20, 15, 15, 15 with quota 51.
 fn assert_of_five(rt: &impl Abort, counts: &WideCounts) {
-    same(&rt, counts.members(), 5, "counts.members");
-    same(&rt, counts.total(), 5, "counts.total");
+    assert!(rt; counts.members() == 5);
+    same(rt, counts.total(), 5, "counts.total");
     for (size, count) in [0, 0, 1, 3, 1, 0].iter().enumerate() {
         assert!(rt; size <= 5);
-        same(&rt, counts.of_size(size), *count, "counts.of_size");
+        same(rt, counts.of_size(size), *count, "counts.of_size");
     }
     for (member, count) in [4, 2, 3, 3, 3].iter().enumerate() {
         assert!(rt; member < 5);
-        same(&rt, counts.of_member(member), *count, "counts.of_member");
+        same(rt, counts.of_member(member), *count, "counts.of_member");
     }
 }
 
 #[test]
 fn five_members_by_any_threads_and_bits(rt: HostRuntime) -> Result<(), Fail> {
     let game = game(rt.alloc(), 51, &[35, 20, 15, 15, 15])?;
-    same(&rt, game.members(), 5, "game.members");
+    assert!(rt; game.members() == 5);
     for bits in 0..6u8 {
         for workers in [1, 2, 4, 16] {
             let counted = Counted(AtomicU64::new(0));
@@ -85,9 +85,9 @@ fn five_members_by_any_threads_and_bits(rt: HostRuntime) -> Result<(), Fail> {
 #[test]
 fn one_slice(rt: HostRuntime) -> Result<(), Fail> {
     let game = game(rt.alloc(), 51, &[35, 20, 15, 15, 15])?;
-    same(&rt, game.members(), 5, "game.members");
+    assert!(rt; game.members() == 5);
     let counts = tally_slice(&game, 2, 1);
-    same(&rt, counts.members(), 5, "counts.members");
+    assert!(rt; counts.members() == 5);
     same(&rt, counts.total(), 3, "counts.total");
     same(&rt, counts.of_member(0), 3, "counts.of_member");
     same(&rt, counts.of_member(1), 0, "counts.of_member 2");
@@ -97,9 +97,9 @@ fn one_slice(rt: HostRuntime) -> Result<(), Fail> {
 #[test]
 fn five_of_forty_win(rt: HostRuntime) -> Result<(), Fail> {
     let game = game(rt.alloc(), 5, &[1; 40])?;
-    same(&rt, game.members(), 40, "game.members");
+    assert!(rt; game.members() == 40);
     let counts = tally(&rt, rt.alloc(), &game, 6, 4, &NoWatch)?;
-    same(&rt, counts.members(), 40, "counts.members");
+    assert!(rt; counts.members() == 40);
     same(&rt, counts.total(), 658_008, "counts.total");
     for member in 0..40 {
         same(&rt, counts.of_member(member), 82_251, "counts.of_member");
@@ -107,14 +107,18 @@ fn five_of_forty_win(rt: HostRuntime) -> Result<(), Fail> {
     Ok(())
 }
 
-/// How often each of 32 slices was counted.
+/// Which of 32 slices were counted, a binary digit for each, and how often one was counted again.
 #[derive(Drop)]
-struct Once([AtomicU64; 32]);
+struct Once {
+    seen: AtomicU64,
+    again: AtomicU64,
+}
 
 impl Watch for Once {
     fn counted(&self, slice: u16, _slices: u16) {
-        if slice < 32 {
-            self.0[usize::from(slice)].fetch_add(1, Ordering::SeqCst);
+        let digit = if slice < 32 { 1 << slice } else { 0 };
+        if digit == 0 || self.seen.fetch_or(digit, Ordering::SeqCst) & digit != 0 {
+            self.again.fetch_add(1, Ordering::SeqCst);
         }
     }
 }
@@ -123,19 +127,27 @@ impl Watch for Once {
 #[test]
 fn each_slice_is_counted_once(rt: HostRuntime) -> Result<(), Fail> {
     let game = game(rt.alloc(), 51, &[35, 20, 15, 15, 15])?;
-    same(&rt, game.members(), 5, "game.members");
+    assert!(rt; game.members() == 5);
     for workers in 1..17u8 {
-        let once = Once(array::from_fn(|_| AtomicU64::new(0)));
+        let once = Once {
+            seen: AtomicU64::new(0),
+            again: AtomicU64::new(0),
+        };
         let counts = tally(&rt, rt.alloc(), &game, 5, workers, &once)?;
         assert_of_five(&rt, &counts);
-        for slice in 0..32usize {
-            same(
-                &rt,
-                once.0[slice].load(Ordering::SeqCst),
-                1,
-                ("slice", slice),
-            );
-        }
+        let all: u64 = (1 << 32) - 1;
+        same(
+            &rt,
+            once.seen.load(Ordering::SeqCst),
+            all,
+            ("seen", workers),
+        );
+        same(
+            &rt,
+            once.again.load(Ordering::SeqCst),
+            0,
+            ("again", workers),
+        );
     }
     Ok(())
 }
@@ -175,7 +187,7 @@ impl Watch for Holding {
 #[test]
 fn a_held_thread_holds_no_slice(rt: HostRuntime) -> Result<(), Fail> {
     let game = game(rt.alloc(), 51, &[35, 20, 15, 15, 15])?;
-    same(&rt, game.members(), 5, "game.members");
+    assert!(rt; game.members() == 5);
     let holding = Holding {
         done: AtomicU64::new(0),
         missed: AtomicU64::new(0),

@@ -12,7 +12,7 @@ fn gathers(rt: HostRuntime) -> Result<(), Fail> {
     match answer {
         Ok(gathered) => {
             rt.println("worked")?;
-            same(&rt, gathered.parts.len(), 3, "gathered.parts.len");
+            assert!(rt; gathered.parts.len() == 3);
             same(&rt, passes.counts(), [1, 1, 1, 1], "passes.counts");
         }
         Err(GatherFault::Memory) => rt.println("out of memory")?,

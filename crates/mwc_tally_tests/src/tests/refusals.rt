@@ -8,7 +8,7 @@ use std::io::Print;
 #[test]
 fn tallies(rt: HostRuntime) -> Result<(), Fail> {
     let game = game(rt.alloc(), 51, &[35, 20, 15, 15, 15])?;
-    same(&rt, game.members(), 5, "game.members");
+    assert!(rt; game.members() == 5);
     rt.println("call")?;
     match tally(&rt, rt.alloc(), &game, 2, 3, &NoWatch) {
         Ok(counts) => {
@@ -24,7 +24,7 @@ fn tallies(rt: HostRuntime) -> Result<(), Fail> {
 #[test]
 fn tallies_a_slice_without_memory(rt: HostRuntime) -> Result<(), Fail> {
     let game = game(rt.alloc(), 51, &[35, 20, 15, 15, 15])?;
-    same(&rt, game.members(), 5, "game.members");
+    assert!(rt; game.members() == 5);
     rt.println("call")?;
     let counts = tally_slice(&game, 0, 0);
     assert_of_five(&rt, &counts);
