@@ -3,13 +3,11 @@
 #![tactic(auto)]
 
 mod progress;
-#[cfg(test)]
-mod tests;
-mod words;
 
 use clap::Error;
 use clap::error::ErrorKind;
-pub use council_run::{Cause, Options, RunFault, run, status, tally};
+use council_run::{Options, RunFault, run, status, tally};
+use council_words::{Wanted, WordsFault, read_words};
 use mwc_gather::NoGate;
 use progress::Progress;
 use std::io::IsTerminal;
@@ -19,7 +17,6 @@ use std::sync::Wait;
 use std::thread::Threads;
 use std::time::Clock;
 use std::{fs, io};
-use words::{Wanted, WordsFault, read_words};
 
 /// Says on standard error why the program stops, and with which status.
 fn stop(rt: &impl Eprint, fault: RunFault) -> ExitCode {
@@ -58,6 +55,18 @@ fn refuse(rt: &(impl Print + Eprint), error: &Error) -> ExitCode {
     ExitCode::from(5)
 }
 
+/// What a run is to do.
+fn options_of(wanted: &Wanted<'_>) -> Options {
+    Options {
+        workers: wanted.workers,
+        bits: wanted.bits,
+        most: wanted.most,
+        list: wanted.list,
+        sizes: wanted.sizes,
+        notation: wanted.notation,
+    }
+}
+
 /// Runs on what is read, and writes to standard output; `terminal` tells whether standard error is a
 /// terminal.
 fn run_on<R: AllocGlobal + Print + Eprint + Clock + Threads + Wait + Sync, I: io::Read>(
@@ -67,14 +76,15 @@ fn run_on<R: AllocGlobal + Print + Eprint + Clock + Threads + Wait + Sync, I: io
     reader: &mut I,
 ) -> ExitCode {
     let alloc = rt.alloc();
+    let options = options_of(wanted);
     let mut writer = io::writer(rt);
     let answer = if wanted.tally {
         let progress = Progress::new(rt, terminal);
-        let answer = tally(rt, alloc, reader, &wanted.options, &progress, &mut writer);
+        let answer = tally(rt, alloc, reader, &options, &progress, &mut writer);
         progress.wipe();
         answer
     } else {
-        run(rt, alloc, reader, &wanted.options, &NoGate, &mut writer)
+        run(rt, alloc, reader, &options, &NoGate, &mut writer)
     };
     match answer {
         Ok(_) => ExitCode::SUCCESS,

@@ -44,7 +44,10 @@ fn game(alloc: Global, quota: u64, of: &[u64]) -> Result<Game, GameFault> {
     Game::new(alloc, None, names, weights, quota)
 }
 
-/// The game [51; 35, 20, 15, 15, 15], whose minimal winning coalitions are 24, 22, 21, 19 and 15.
+/// The minimal winning coalitions of the game [51; 35, 20, 15, 15, 15].
+const FIVE: [u64; 5] = [24, 22, 21, 19, 15];
+
+/// The game [51; 35, 20, 15, 15, 15].
 fn five(alloc: Global) -> Result<Game, GameFault> {
     game(alloc, 51, &[35, 20, 15, 15, 15])
 }
@@ -55,6 +58,14 @@ fn masks(alloc: Global, list: &[Coalition]) -> Result<Vec<u64>, AllocError> {
         masks.push(coalition.mask())?;
     }
     Ok(masks)
+}
+
+/// Fails with the label where the coalitions are not those of these masks, in that order.
+fn are_masks(rt: &impl Abort, list: &[Coalition], masks: &[u64], label: &str) {
+    assert!(rt; list.len() == masks.len(), "{label}");
+    for (coalition, mask) in list.iter().zip(masks) {
+        assert!(rt; coalition.mask() == *mask, "{label}");
+    }
 }
 
 /// What is gathered behind a gate.
@@ -103,52 +114,24 @@ fn parts_of_one_worker(rt: HostRuntime) -> Result<(), Fail> {
     let gathered = gathered(&rt, rt.alloc(), &game, &NoGate, 2, 1, 5)?;
     assert!(rt; gathered.parts.len() == 1);
     let part = &gathered.parts[0];
-    same(
-        &rt,
-        part.slices.as_slice(),
-        [0, 1, 2, 3].as_slice(),
-        "part.slices",
-    );
-    same(
-        &rt,
-        part.ends.as_slice(),
-        [1, 4, 5, 5].as_slice(),
-        "part.ends",
-    );
-    same(
-        &rt,
-        masks(rt.alloc(), &part.got)?.as_slice(),
-        [24, 22, 21, 19, 15].as_slice(),
-        "masks",
-    );
+    assert!(rt; part.slices.as_slice() == [0, 1, 2, 3].as_slice());
+    assert!(rt; part.ends.as_slice() == [1, 4, 5, 5].as_slice());
+    are_masks(&rt, &part.got, &FIVE, "the part");
     let list = gathered.in_order(rt.alloc())?;
-    same(
-        &rt,
-        masks(rt.alloc(), &list)?.as_slice(),
-        [24, 22, 21, 19, 15].as_slice(),
-        "masks 2",
-    );
+    are_masks(&rt, &list, &FIVE, "the list");
+    Ok(())
+}
+
+#[test]
+fn pieces_of_one_worker(rt: HostRuntime) -> Result<(), Fail> {
+    let game = five(rt.alloc())?;
+    let gathered = gathered(&rt, rt.alloc(), &game, &NoGate, 2, 1, 5)?;
     let pieces = gathered.pieces(rt.alloc())?;
     assert!(rt; pieces.len() == 4);
-    same(
-        &rt,
-        masks(rt.alloc(), pieces[0])?.as_slice(),
-        [24].as_slice(),
-        "masks 3",
-    );
-    same(
-        &rt,
-        masks(rt.alloc(), pieces[1])?.as_slice(),
-        [22, 21, 19].as_slice(),
-        "masks 4",
-    );
-    same(
-        &rt,
-        masks(rt.alloc(), pieces[2])?.as_slice(),
-        [15].as_slice(),
-        "masks 5",
-    );
-    same(&rt, pieces[3].len(), 0, "pieces[3].len");
+    are_masks(&rt, pieces[0], &FIVE[..1], "piece 0");
+    are_masks(&rt, pieces[1], &FIVE[1..4], "piece 1");
+    are_masks(&rt, pieces[2], &FIVE[4..], "piece 2");
+    are_masks(&rt, pieces[3], &[], "piece 3");
     Ok(())
 }
 
@@ -404,36 +387,46 @@ impl Gate for Holding {
     }
 }
 
+/// What two workers gather while the gate holds one of them.
+fn held_parts<R: Threads + Wait + Abort + Sync>(
+    rt: &R,
+    alloc: Global,
+    game: &Game,
+    held: u8,
+) -> Result<Gathered, GatherFault> {
+    let gate = Holding {
+        held,
+        passes: Passes::none(),
+        missed: AtomicU64::new(0),
+    };
+    let gathered = gathered(rt, alloc, game, &gate, 2, 2, 5);
+    assert!(rt; gate.missed.load(Ordering::SeqCst) == 0, "held {held}");
+    assert!(rt; gate.passes.counts() == [1, 1, 1, 1], "held {held}");
+    gathered
+}
+
+/// Fails where the parts of two workers do not begin with these slices.
+fn begin_with(rt: &impl Abort, gathered: &Gathered, first: &[u16], second: &[u16], held: u8) {
+    assert!(rt; gathered.parts.len() == 2);
+    assert!(rt;
+        gathered.parts[0].slices.as_slice().starts_with(first),
+        "held {held}"
+    );
+    assert!(rt;
+        gathered.parts[1].slices.as_slice().starts_with(second),
+        "held {held}"
+    );
+}
+
 #[test]
 fn held_worker_gets_no_more(rt: HostRuntime) -> Result<(), Fail> {
     let game = five(rt.alloc())?;
-    for held in 0..2 {
-        let gate = Holding {
-            held,
-            passes: Passes::none(),
-            missed: AtomicU64::new(0),
-        };
-        let gathered = gathered(&rt, rt.alloc(), &game, &gate, 2, 2, 5)?;
-        same(&rt, gate.missed.load(Ordering::SeqCst), 0, ("held", held));
-        same(&rt, gate.passes.counts(), [1, 1, 1, 1], ("held", held));
-        assert!(rt; gathered.parts.len() == 2);
-        let first = gathered.parts[0].slices.as_slice();
-        let second = gathered.parts[1].slices.as_slice();
-        if held == 0 {
-            assert!(rt; first.starts_with(&[0]), "held {held}");
-            assert!(rt; second.starts_with(&[1, 2]), "held {held}");
-        } else {
-            assert!(rt; first.starts_with(&[0, 2]), "held {held}");
-            assert!(rt; second.starts_with(&[1]), "held {held}");
-        }
-        let list = gathered.in_order(rt.alloc())?;
-        same(
-            &rt,
-            masks(rt.alloc(), &list)?.as_slice(),
-            [24, 22, 21, 19, 15].as_slice(),
-            "masks",
-        );
-    }
+    let first = held_parts(&rt, rt.alloc(), &game, 0)?;
+    begin_with(&rt, &first, &[0], &[1, 2], 0);
+    are_masks(&rt, &first.in_order(rt.alloc())?, &FIVE, "held 0");
+    let second = held_parts(&rt, rt.alloc(), &game, 1)?;
+    begin_with(&rt, &second, &[0, 2], &[1], 1);
+    are_masks(&rt, &second.in_order(rt.alloc())?, &FIVE, "held 1");
     Ok(())
 }
 

@@ -8,8 +8,6 @@ mod listed;
 mod reports;
 mod rings;
 mod tallied;
-#[cfg(test)]
-mod tests;
 mod walked;
 
 pub use games::{are_ranked_alike, of_one_rule, of_two_rules, quota_in_millionths};

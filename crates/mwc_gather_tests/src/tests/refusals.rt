@@ -64,12 +64,7 @@ fn puts_parts_in_order(rt: HostRuntime) -> Result<(), Fail> {
         Ok(list) => list,
         Err(_) => gathered.in_order(rt.alloc())?,
     };
-    same(
-        &rt,
-        masks(rt.alloc(), &list)?.as_slice(),
-        [24, 22, 21, 19, 15].as_slice(),
-        "masks",
-    );
+    are_masks(&rt, &list, &FIVE, "the list");
     Ok(())
 }
 

@@ -1,25 +1,41 @@
 //! The words of the command line.
-use crate::Options;
+ghost use Rattle.std.specs.Prelude.{◌≤◌};
+
 use clap::{Arg, ArgAction, ArgMatches, Command, Error, value_parser};
-use council_run::limits;
+use council_game::limits;
 use std::alloc::Global;
 
-/// Why a command line was refused.
+/// Why there is nothing to do for a command line.
 #[derive(Debug, Drop)]
-pub(crate) enum WordsFault {
+pub enum WordsFault {
     /// By the parser, which also answers `--help` and `--version` so.
     Parse(Error),
     /// By a range, which the parser's own ranges do not let happen.
     Range,
 }
 
-/// The file, and what to do with it.
+/// What a command line asks for. The type keeps each number in its range.
 #[derive(Debug, Drop)]
-pub(crate) struct Wanted<'a> {
-    pub(crate) file: Option<&'a str>,
-    pub(crate) options: Options,
+pub struct Wanted<'a> {
+    /// The game file; none where standard input is to be read.
+    pub file: Option<&'a str>,
+    /// The worker threads, 1 to 16.
+    pub workers: u8,
+    /// The places that are fixed in each slice, 0 to 10.
+    pub bits: u8,
+    /// The greatest number of minimal winning coalitions that a run keeps, 1 to 4,000,000.
+    pub most: u32,
+    /// A line for each minimal winning coalition.
+    pub list: bool,
+    /// A line for each size that a minimal winning coalition has.
+    pub sizes: bool,
+    /// A line with the notation of each rule.
+    pub notation: bool,
     /// Whether the coalitions are counted and not kept.
-    pub(crate) tally: bool,
+    pub tally: bool,
+    ghost workers_in_range: { (1 ≤ workers) × (workers ≤ 16) },
+    ghost bits_in_range: { bits ≤ 10 },
+    ghost most_in_range: { (1 ≤ most) × (most ≤ 4000000) },
 }
 
 const ABOUT: &str =
@@ -129,8 +145,8 @@ fn tally<'a>(alloc: Global) -> Result<Arg<'a>, Error> {
     Ok(tally)
 }
 
-/// The options of a parse; none where a number is missing or out of its range.
-fn options_of(matches: &ArgMatches<'_>) -> Option<Options> {
+/// What the parser found; none where a number is missing or out of its range.
+fn wanted_of<'a>(matches: &ArgMatches<'a>) -> Option<Wanted<'a>> {
     let workers = matches.get_one::<u8>("workers")?;
     let bits = matches.get_one::<u8>("bits")?;
     let most = matches.get_one::<u32>("most")?;
@@ -139,26 +155,27 @@ fn options_of(matches: &ArgMatches<'_>) -> Option<Options> {
     if !few_workers || limits::BITS < bits || !few_coalitions {
         return None;
     }
-    Some(Options {
+    Some(Wanted {
+        file: matches.get_str("FILE"),
         workers,
         bits,
         most,
         list: matches.get_flag("list"),
         sizes: matches.get_flag("sizes"),
         notation: matches.get_flag("notation"),
+        tally: matches.get_flag("tally"),
     })
 }
 
-/// Reads a command line, its first word the name of the program. Numbers are in their ranges.
-pub(crate) fn read_words<'a>(alloc: Global, words: &'a [String]) -> Result<Wanted<'a>, WordsFault> {
+/// Reads a command line, its first word the name of the program.
+///
+/// # Errors
+///
+/// `Parse` where the parser refuses it, or answers `--help` or `--version`.
+pub fn read_words<'a>(alloc: Global, words: &'a [String]) -> Result<Wanted<'a>, WordsFault> {
     let command = command(alloc).map_err(WordsFault::Parse)?;
     let matches = command
         .try_get_matches_from(words)
         .map_err(WordsFault::Parse)?;
-    let options = options_of(&matches).ok_or(WordsFault::Range)?;
-    Ok(Wanted {
-        file: matches.get_str("FILE"),
-        options,
-        tally: matches.get_flag("tally"),
-    })
+    wanted_of(&matches).ok_or(WordsFault::Range)
 }

@@ -1,13 +1,28 @@
 //! Each use once, on a worked game.
-use crate::*;
 use council_file::parse_game;
 use council_game::{Coalition, Game, Rule, plain_list};
 use council_report::Shown;
 use mwc_pipe::Word;
 use power_index::Index;
 use std::alloc::{AllocError, Global};
+use std::fmt::Debug;
 use std::process::Abort;
 use std::test::Fail;
+use uses::{
+    are_ranked_alike, both_indices, coalitions_with, count_by_walk, first_of_bytes, indices_add_up,
+    is_dummy, listed_twice, of_one_rule, of_two_rules, quota_in_millionths, report_into_memory,
+    tallied_index, through_a_ring,
+};
+
+/// Fails with the label where what was found is not what was wanted.
+fn same<T: PartialEq + Debug + Drop, L: Debug + Drop>(
+    rt: &impl Abort,
+    found: T,
+    wanted: T,
+    label: L,
+) {
+    assert_eq!(rt; found, wanted, "{label:?}");
+}
 
 const FIVE: &[u8] = b"[51; 35, 20, 15, 15, 15]";
 
@@ -44,9 +59,9 @@ fn two_rules(rt: &impl Abort, alloc: Global) -> Result<Game, Fail> {
 }
 
 fn assert_index(rt: &impl Abort, index: Index, top: u128, bottom: u128, decimals: &[u8; 8]) {
-    assert_eq!(rt; index.top(), top);
-    assert_eq!(rt; index.bottom(), bottom);
-    assert_eq!(rt; index.decimals(), *decimals);
+    same(rt, index.top(), top, "index.top");
+    same(rt, index.bottom(), bottom, "index.bottom");
+    same(rt, index.decimals(), *decimals, "index.decimals");
 }
 
 #[test]
@@ -63,9 +78,9 @@ fn indices_of_bytes(rt: HostRuntime) -> Result<(), Fail> {
 fn a_game_of_two_rules(rt: HostRuntime) -> Result<(), Fail> {
     let alloc = rt.alloc();
     let game = two_rules(&rt, alloc)?;
-    assert_eq!(rt; game.members(), 3);
-    assert_eq!(rt; count_by_walk(&game), 2);
-    assert_eq!(rt; is_dummy(alloc, &game, 2)?, Some(false));
+    assert!(rt; game.members() == 3);
+    same(&rt, count_by_walk(&game), 2, "count_by_walk");
+    same(&rt, is_dummy(alloc, &game, 2)?, Some(false), "is_dummy");
     let Some((first, second)) = both_indices(alloc, &game, 0)? else {
         return Err(Fail::from("too many"));
     };
@@ -82,10 +97,15 @@ fn a_dummy_and_a_share(rt: HostRuntime) -> Result<(), Fail> {
     let weights = numbers(alloc, &[4, 4, 4, 2, 2, 1])?;
     assert!(rt; weights.len() == names.len());
     let game = of_one_rule(alloc, names, weights, 12)?;
-    assert_eq!(rt; game.members(), 6);
-    assert_eq!(rt; is_dummy(alloc, &game, 0)?, Some(false));
-    assert_eq!(rt; is_dummy(alloc, &game, 5)?, Some(true));
-    assert_eq!(rt; quota_in_millionths(&game), 705_882);
+    assert!(rt; game.members() == 6);
+    same(&rt, is_dummy(alloc, &game, 0)?, Some(false), "is_dummy");
+    same(&rt, is_dummy(alloc, &game, 5)?, Some(true), "is_dummy 2");
+    same(
+        &rt,
+        quota_in_millionths(&game),
+        705_882,
+        "quota_in_millionths",
+    );
     Ok(())
 }
 
@@ -95,9 +115,9 @@ fn games_that_rank_alike(rt: HostRuntime) -> Result<(), Fail> {
     let five = parse_game(alloc, FIVE)?;
     let alike = parse_game(alloc, b"[7; 9, 4, 1, 1, 1]")?;
     let other = parse_game(alloc, b"[7; 4, 9, 1, 1, 1]")?;
-    assert_eq!(rt; five.members(), 5);
-    assert_eq!(rt; alike.members(), 5);
-    assert_eq!(rt; other.members(), 5);
+    assert!(rt; five.members() == 5);
+    assert!(rt; alike.members() == 5);
+    assert!(rt; other.members() == 5);
     assert!(rt; are_ranked_alike(&five, &alike));
     assert!(rt; !are_ranked_alike(&five, &other));
     Ok(())
@@ -107,18 +127,18 @@ fn games_that_rank_alike(rt: HostRuntime) -> Result<(), Fail> {
 fn coalitions_with_a_member(rt: HostRuntime) -> Result<(), Fail> {
     let alloc = rt.alloc();
     let game = parse_game(alloc, FIVE)?;
-    assert_eq!(rt; game.members(), 5);
+    assert!(rt; game.members() == 5);
     let list = plain_list(alloc, &game)?;
-    assert_eq!(rt; list.len(), 5);
+    assert!(rt; list.len() == 5);
     let Some((walked, tried)) = listed_twice(alloc, &game)? else {
         return Err(Fail::from("too many"));
     };
-    assert_eq!(rt; walked.as_slice(), list.as_slice());
-    assert_eq!(rt; tried.as_slice(), list.as_slice());
+    same(&rt, walked.as_slice(), list.as_slice(), "walked");
+    same(&rt, tried.as_slice(), list.as_slice(), "tried");
     let found = coalitions_with(alloc, &game, &list, 1)?;
-    assert_eq!(rt; found.len(), 2);
-    assert_eq!(rt; found[0], Coalition::of_mask(24));
-    assert_eq!(rt; found[1], Coalition::of_mask(15));
+    assert!(rt; found.len() == 2);
+    same(&rt, found[0], Coalition::of_mask(24), "found[0]");
+    same(&rt, found[1], Coalition::of_mask(15), "found[1]");
     Ok(())
 }
 
@@ -128,14 +148,19 @@ fn words_to_another_thread(rt: HostRuntime) -> Result<(), Fail> {
     for mask in 0..100 {
         words.push(Word::One(Coalition::of_mask(mask)))?;
     }
-    assert_eq!(rt; words.len(), 100);
+    assert!(rt; words.len() == 100);
     let Some(mut rest) = through_a_ring(&rt, rt.alloc(), words)? else {
         return Err(Fail::from("no thread"));
     };
     for mask in 0..100 {
-        assert_eq!(rt; rest.next(), Some(Word::One(Coalition::of_mask(mask))));
+        same(
+            &rt,
+            rest.next(),
+            Some(Word::One(Coalition::of_mask(mask))),
+            "rest.next",
+        );
     }
-    assert_eq!(rt; rest.next(), None);
+    same(&rt, rest.next(), None, "rest.next 2");
     Ok(())
 }
 
@@ -160,7 +185,7 @@ member\t2\t1\t1\t1/2\t0.500000\t1/2\t0.500000\n";
 #[test]
 fn a_tally(rt: HostRuntime) -> Result<(), Fail> {
     let game = parse_game(rt.alloc(), FIVE)?;
-    assert_eq!(rt; game.members(), 5);
+    assert!(rt; game.members() == 5);
     let index = tallied_index(&rt, rt.alloc(), &game, 0, 2)?;
     assert_index(&rt, index, 3, 10, b"0.300000");
     Ok(())

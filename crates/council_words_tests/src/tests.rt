@@ -1,0 +1,89 @@
+//! Command lines.
+use council_words::{Wanted, WordsFault, read_words};
+use std::alloc::Global;
+use std::process::Abort;
+use std::test::Fail;
+
+/// Fails with the label where the numbers and the flags are not these: list, sizes, notation, tally.
+fn asks_for(rt: &impl Abort, found: &Wanted<'_>, numbers: [u32; 3], flags: [bool; 4], label: &str) {
+    let found_numbers = [u32::from(found.workers), u32::from(found.bits), found.most];
+    let found_flags = [found.list, found.sizes, found.notation, found.tally];
+    assert!(rt; found_numbers == numbers, "{label}");
+    assert!(rt; found_flags == flags, "{label}");
+}
+
+/// The words of a command line, the first the program's name.
+fn words(alloc: Global, line: &str) -> Result<Vec<String>, Fail> {
+    let mut words = Vec::new(alloc);
+    words.push(String::from_str(alloc, "council")?)?;
+    for word in line.split_whitespace() {
+        words.push(String::from_str(alloc, word)?)?;
+    }
+    Ok(words)
+}
+
+#[test]
+fn reads_command_lines(rt: HostRuntime) -> Result<(), Fail> {
+    let least = [1, 0, 1];
+    let greatest = [16, 10, 4_000_000];
+    let none = [false; 4];
+    for (line, file, numbers, flags) in [
+        ("", None, [4, 6, 1_000_000], none),
+        ("g.toml", Some("g.toml"), [4, 6, 1_000_000], none),
+        ("--workers 1 --bits 0 --most 1", None, least, none),
+        (
+            "--workers 16 g --bits 10 --most 4000000",
+            Some("g"),
+            greatest,
+            none,
+        ),
+        (
+            "--list --sizes --notation",
+            None,
+            [4, 6, 1_000_000],
+            [true, true, true, false],
+        ),
+        (
+            "--tally --sizes --workers 2 --bits 1",
+            None,
+            [2, 1, 1_000_000],
+            [false, true, false, true],
+        ),
+    ] {
+        let words = words(rt.alloc(), line)?;
+        let wanted = read_words(rt.alloc(), words.as_slice()).expect(&rt, "a command line");
+        assert!(rt; wanted.file == file, "{line}");
+        asks_for(&rt, &wanted, numbers, flags, line);
+    }
+    Ok(())
+}
+
+#[test]
+fn refuses_command_lines(rt: HostRuntime) -> Result<(), Fail> {
+    let alloc = rt.alloc();
+    for line in [
+        "--tally --list",
+        "--tally --most 5",
+        "--most 1000000 --tally",
+        "--workers 0",
+        "--workers 17",
+        "--bits 11",
+        "--most 0",
+        "--most 4000001",
+        "--most x",
+        "a.toml b.toml",
+        "--order",
+    ] {
+        let words = words(alloc, line)?;
+        match read_words(alloc, words.as_slice()) {
+            Err(WordsFault::Parse(error)) => assert!(rt; error.use_stderr(), "{line}"),
+            _ => assert!(rt; false, "{line}"),
+        }
+    }
+    let help = words(alloc, "--help")?;
+    match read_words(alloc, help.as_slice()) {
+        Err(WordsFault::Parse(error)) => assert!(rt; !error.use_stderr()),
+        _ => assert!(rt; false, "help"),
+    }
+    Ok(())
+}
