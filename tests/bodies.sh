@@ -1,8 +1,8 @@
 #!/usr/bin/env bash
 # Wrong bodies that no clause refuses, or not with every reading of it, since want of memory, a failed read or
 # write, threads and time are in no contract. Each edit of bodies/ is of the form of a must-fail edit, with a
-# first line `test: NAME in CRATE`; it is put into a copy of the crate, whose tests are run without a proof,
-# and the test of that name must fail.
+# first line `test: NAME in CRATE`; it is put into a copy of the crate, whose tests, those of CRATE_tests where there
+# is such a crate, are run without a proof, and the test of that name must fail.
 #
 #     tests/bodies.sh [NAME..]            the edits of these names, or all, half a minute to a minute each
 #     tests/bodies.sh --fit [NAME..]      says only whether each can still be put into the sources
@@ -81,7 +81,9 @@ END
     elif [ $fit = yes ]; then
         echo "ok body $name: it can be put into the sources"
     else
-        (cd "$room/crates/$crate" && rt try --test) >"$room/said" 2>&1 </dev/null
+        tested=$crate
+        [ ! -d "$room/crates/${crate}_tests" ] || tested=${crate}_tests
+        (cd "$room/crates/$tested" && rt try --test) >"$room/said" 2>&1 </dev/null
         judge
     fi
     rm -rf "$room/crates/$crate/src"

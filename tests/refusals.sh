@@ -33,7 +33,7 @@ command -v find >/dev/null || {
     skipped "$(basename "$0")" "the command find was not found"
     exit 0
 }
-for name in council_game council_file mwc_walk mwc_pipe power_index mwc_tally mwc_gather council_run; do
+for name in council_game_tests council_file_tests mwc_walk mwc_pipe power_index_tests mwc_tally mwc_gather council_run; do
     are_built "$name" || exit 1
 done
 
@@ -130,19 +130,19 @@ takes_none() {
     fi
 }
 
-takes_memory council_game makes_a_game
-takes_memory council_game makes_a_game_of_two_rules
-takes_memory council_game lists_plainly
-takes_memory council_file parses_toml
-takes_memory council_file parses_brackets
-takes_memory council_file reads_pieces
+takes_memory council_game_tests makes_a_game
+takes_memory council_game_tests makes_a_game_of_two_rules
+takes_memory council_game_tests lists_plainly
+takes_memory council_file_tests parses_toml
+takes_memory council_file_tests parses_brackets
+takes_memory council_file_tests reads_pieces
 for fault in a_repeated_name an_unknown_key a_bad_weight no_toml a_bad_bracket_text a_quota_out_of_range; do
-    takes_memory council_file "finds_$fault"
+    takes_memory council_file_tests "finds_$fault"
 done
-takes_memory council_file reads_a_fault
-takes_memory council_file reads_up_to_an_error
-takes_memory council_file reads_too_much
-takes_memory council_file writes_notation
+takes_memory council_file_tests reads_a_fault
+takes_memory council_file_tests reads_up_to_an_error
+takes_memory council_file_tests reads_too_much
+takes_memory council_file_tests writes_notation
 takes_memory mwc_walk lists_a_slice
 takes_memory mwc_walk lists_all
 takes_none mwc_walk walks_without_memory
@@ -154,7 +154,7 @@ takes_memory mwc_pipe puts_a_row_into_a_batch
 takes_memory mwc_pipe replays
 takes_memory mwc_pipe makes_a_ring
 takes_none mwc_pipe moves_words_without_memory
-takes_none power_index counts_without_memory
+takes_none power_index_tests counts_without_memory
 takes_memory mwc_tally tallies "not started"
 starts_threads mwc_tally tallies_pieces
 takes_none mwc_tally tallies_a_slice_without_memory

@@ -67,8 +67,13 @@ fn a_failed_read_is_not_tried_again(rt: HostRuntime) -> Result<(), Fail> {
         for k in 0..=bytes.len() {
             let mut reader = Asked::new(bytes, 1, Some((k as u64, kind)));
             let said = shown(alloc, read_game(alloc, &mut reader))?;
-            assert_eq!(rt; said.as_str(), "the game file cannot be read", "after {k}");
-            assert_eq!(rt; reader.after, 0, "after {k}");
+            let wanted = (k, "the game file cannot be read", 0);
+            same(
+                &rt,
+                (k, said.as_str(), reader.after),
+                wanted,
+                "a failed read",
+            );
         }
     }
     Ok(())
@@ -87,12 +92,16 @@ fn reads_as_seldom_as_it_can(rt: HostRuntime) -> Result<(), Fail> {
         assert!(rt; 6 <= length);
         let blanks = " ".repeat(alloc, length - 6)?;
         let text = format!(in alloc; "[1; 1]{blanks}")?;
-        assert_eq!(rt; text.len(), length);
         let mut reader = Asked::new(text.as_bytes(), at_once, None);
         let said = shown(alloc, read_game(alloc, &mut reader))?;
-        assert_eq!(rt; said.as_str(), "1 [1; 1]", "{length} by {at_once}");
-        assert!(rt; reader.reads <= most, "{length} by {at_once}");
-        assert_eq!(rt; reader.after, 0, "{length} by {at_once}");
+        let seldom = reader.reads <= most;
+        let found = (length, at_once, said.as_str(), seldom, reader.after);
+        same(
+            &rt,
+            found,
+            (text.len(), at_once, "1 [1; 1]", true, 0),
+            "reads",
+        );
     }
     Ok(())
 }

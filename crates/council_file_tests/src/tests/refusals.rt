@@ -12,11 +12,11 @@ fn tells_game<R: Abort + Print>(
 ) -> Result<(), Fail> {
     if let Err(fault) = &answer {
         rt.println("out of memory")?;
-        assert_eq!(rt; *fault, GameFault::Memory);
+        same(rt, *fault, GameFault::Memory, "fault");
         return Ok(());
     }
     rt.println("worked")?;
-    assert_eq!(rt; shown(alloc, answer)?.as_str(), wanted);
+    same(rt, shown(alloc, answer)?.as_str(), wanted, "game");
     Ok(())
 }
 
@@ -62,11 +62,11 @@ fn writes_notation(rt: HostRuntime) -> Result<(), Fail> {
         Ok(()) => rt.println("worked")?,
         Err(_) => {
             rt.println("out of memory")?;
-            assert_eq!(rt; out.as_slice(), b"x".as_slice());
+            same(&rt, out.as_slice(), b"x", "what is there");
             write_notation(&game, 0, &mut out)?;
         }
     }
-    assert_eq!(rt; out.as_slice(), b"x[51; 50, 49, 1]".as_slice());
+    same(&rt, out.as_slice(), b"x[51; 50, 49, 1]", "notation");
     Ok(())
 }
 
@@ -80,7 +80,7 @@ fn tells_fault<R: Abort + Print>(
         Some(GameFault::Memory) => rt.println("out of memory")?,
         said => {
             rt.println("worked")?;
-            assert_eq!(rt; said, Some(wanted));
+            same(rt, said, Some(wanted), "fault");
         }
     }
     Ok(())

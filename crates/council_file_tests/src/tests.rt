@@ -2,9 +2,10 @@
 mod reads;
 mod refusals;
 
-use crate::{parse_game, read_game, write_notation};
-use council_game::{Game, GameFault};
-use std::alloc::Global;
+use council_file::{parse_game, read_game, write_notation};
+use council_game::{Game, GameFault, Memory};
+use std::alloc::{AllocError, Global};
+use std::fmt::Debug;
 use std::io::{self, ErrorKind};
 use std::process::Abort;
 use std::test::Fail;
@@ -21,41 +22,70 @@ name = \"C\"
 weight = 1
 ";
 
-/// A game by its title, its names and the notation of each rule, or the text of its fault.
-fn shown(alloc: Global, answer: Result<Game, GameFault>) -> Result<String, Fail> {
-    let game = match answer {
-        Ok(game) => game,
-        Err(fault) => return Ok(format!(in alloc; "{fault}")?),
-    };
+/// Fails unless the value that was found is the wanted one; the label says which case it is.
+fn same<T: PartialEq + Debug + Drop>(rt: &impl Abort, found: T, wanted: T, label: &str) {
+    assert_eq!(rt; found, wanted, "{label}");
+}
+
+/// The names of a game's members, each with a blank behind it.
+fn put_names(game: &Game, text: &mut Vec<u8>) -> Result<(), AllocError> {
+    for i in 0..game.members() {
+        text.extend_from_slice(game.name(i).as_bytes())?;
+        text.push(b' ')?;
+    }
+    Ok(())
+}
+
+/// The notation of each rule, with a blank between each two.
+fn put_rules(game: &Game, text: &mut Vec<u8>) -> Result<(), Memory> {
+    for r in 0..game.rules() {
+        if 0 < r {
+            text.push(b' ')?;
+        }
+        write_notation(game, r, text)?;
+    }
+    Ok(())
+}
+
+/// A game by its title, its names and the notation of each rule.
+fn shown_game(alloc: Global, game: &Game) -> Result<Vec<u8>, Memory> {
     let mut text = Vec::new(alloc);
     if let Some(title) = game.title() {
         text.extend_from_slice(title.as_bytes())?;
         text.extend_from_slice(b": ")?;
     }
-    for i in 0..game.members() {
-        text.extend_from_slice(game.name(i).as_bytes())?;
-        text.push(b' ')?;
-    }
-    for r in 0..game.rules() {
-        if 0 < r {
-            text.push(b' ')?;
-        }
-        write_notation(&game, r, &mut text)?;
-    }
-    Ok(String::from_utf8(text)?)
+    put_names(game, &mut text)?;
+    put_rules(game, &mut text)?;
+    Ok(text)
 }
 
-/// What a file answers.
-fn answer(alloc: Global, text: &str) -> Result<String, Fail> {
-    shown(alloc, parse_game(alloc, text.as_bytes()))
+/// A game as above, or the text of its fault.
+fn shown(alloc: Global, answer: Result<Game, GameFault>) -> Result<String, Fail> {
+    match answer {
+        Ok(game) => Ok(String::from_utf8(shown_game(alloc, &game)?)?),
+        Err(fault) => Ok(format!(in alloc; "{fault}")?),
+    }
 }
 
-/// Each text answers what stands beside it.
-fn check(rt: &impl Abort, alloc: Global, rows: &[(&str, &str)]) -> Result<(), Fail> {
-    for (text, wanted) in rows {
-        assert_eq!(rt; answer(alloc, text)?.as_str(), *wanted, "for {text}");
-    }
+/// The text answers so.
+fn check(rt: &impl Abort, alloc: Global, text: &str, wanted: &str) -> Result<(), Fail> {
+    let found = shown(alloc, parse_game(alloc, text.as_bytes()))?;
+    same(rt, found.as_str(), wanted, text);
     Ok(())
+}
+
+/// The bytes have this fault, or none.
+fn check_fault(rt: &impl Abort, alloc: Global, bytes: &[u8], wanted: Option<GameFault>) {
+    same(rt, parse_game(alloc, bytes).err(), wanted, "fault");
+}
+
+/// The file of the board with one text in place of another.
+fn changed(alloc: Global, old: &str, new: &str) -> Result<String, Fail> {
+    let (front, back) = BOARD.split_once(old).ok_or("no such text")?;
+    let mut text = String::from_str(alloc, front)?;
+    text.push_str(new)?;
+    text.push_str(back)?;
+    Ok(text)
 }
 
 #[test]
@@ -89,13 +119,8 @@ fn changes_of_one_file(rt: HostRuntime) -> Result<(), Fail> {
         ("\"C\"", "\"C", "the game file is not TOML"),
     ];
     for (old, new, wanted) in rows {
-        let (front, back) = BOARD.split_once(old).ok_or("no such text")?;
-        let text = format!(in alloc; "{front}{new}{back}")?;
-        assert_eq!(rt;
-            answer(alloc, text.as_str())?.as_str(),
-            wanted,
-            "for {text}"
-        );
+        let text = changed(alloc, old, new)?;
+        check(&rt, alloc, text.as_str(), wanted)?;
     }
     Ok(())
 }
@@ -129,7 +154,10 @@ fn whole_files(rt: HostRuntime) -> Result<(), Fail> {
             "quota out of range",
         ),
     ];
-    check(&rt, rt.alloc(), rows.as_slice())
+    for (text, wanted) in rows {
+        check(&rt, rt.alloc(), text, wanted)?;
+    }
+    Ok(())
 }
 
 #[test]
@@ -172,11 +200,7 @@ fn several_rules(rt: HostRuntime) -> Result<(), Fail> {
     ];
     for (head, members, wanted) in rows {
         let text = format!(in alloc; "{head}\nmember = {members}\n")?;
-        assert_eq!(rt;
-            answer(alloc, text.as_str())?.as_str(),
-            wanted,
-            "for {text}"
-        );
+        check(&rt, alloc, text.as_str(), wanted)?;
     }
     Ok(())
 }
@@ -206,13 +230,14 @@ fn limits(rt: HostRuntime) -> Result<(), Fail> {
         let title = "t".repeat(alloc, title)?;
         let name = "n".repeat(alloc, name)?;
         let text = crowd(alloc, title.as_str(), members, name.as_str())?;
-        assert_eq!(rt; parse_game(alloc, text.as_bytes()).err(), wanted);
+        let found = (members, parse_game(alloc, text.as_bytes()).err());
+        same(&rt, found, (members, wanted), title.as_str());
     }
     let long = "t".repeat(alloc, 201)?;
     let text = format!(in alloc; "title = \"{long}\"\nextra = 1\n")?;
-    assert_eq!(rt; answer(alloc, text.as_str())?.as_str(), "unknown key");
+    check(&rt, alloc, text.as_str(), "unknown key")?;
     let bad = [b'q', 0xff];
-    assert_eq!(rt; parse_game(alloc, &bad).err(), Some(GameFault::Text));
+    check_fault(&rt, alloc, &bad, Some(GameFault::Text));
     Ok(())
 }
 
@@ -241,13 +266,9 @@ fn beginnings_of_one_file(rt: HostRuntime) -> Result<(), Fail> {
     let mut text = String::new(alloc);
     for (more, wanted) in rows {
         text.push_str(more)?;
-        assert_eq!(rt;
-            answer(alloc, text.as_str())?.as_str(),
-            wanted,
-            "for {text}"
-        );
+        check(&rt, alloc, text.as_str(), wanted)?;
     }
-    assert_eq!(rt; text.as_str(), BOARD);
+    same(&rt, text.as_str(), BOARD, "the whole file");
     Ok(())
 }
 
@@ -311,8 +332,8 @@ fn reads_65_537_times_at_most(rt: HostRuntime) -> Result<(), Fail> {
     let alloc = rt.alloc();
     let mut reader = Blanks { reads: 0 };
     let said = shown(alloc, read_game(alloc, &mut reader))?;
-    assert_eq!(rt; said.as_str(), "the game file is longer than 65536 bytes");
-    assert_eq!(rt; reader.reads, 65_537);
+    let wanted = ("the game file is longer than 65536 bytes", 65_537);
+    same(&rt, (said.as_str(), reader.reads), wanted, "blanks");
     Ok(())
 }
 
@@ -321,41 +342,36 @@ fn readers(rt: HostRuntime) -> Result<(), Fail> {
     let alloc = rt.alloc();
     let bytes = BOARD.as_bytes();
     for at_once in [1, 7, 4096] {
-        assert_eq!(rt;
-            read(alloc, bytes, at_once, None)?.as_str(),
-            "A B C [51; 50, 49, 1]"
+        let said = read(alloc, bytes, at_once, None)?;
+        same(
+            &rt,
+            (at_once, said.as_str()),
+            (at_once, "A B C [51; 50, 49, 1]"),
+            "pieces",
         );
     }
     for kind in [ErrorKind::TimedOut, ErrorKind::Interrupted] {
         for k in 0..=bytes.len() {
             let given = bytes.get(..k).ok_or("no such front")?;
             let said = read(alloc, given, 1, Some(kind))?;
-            assert_eq!(rt; said.as_str(), "the game file cannot be read", "after {k}");
+            same(
+                &rt,
+                (k, said.as_str()),
+                (k, "the game file cannot be read"),
+                "front",
+            );
         }
     }
-    let full = " ".repeat(alloc, 65_536)?;
-    let over = " ".repeat(alloc, 65_537)?;
-    let rows = [
-        (full.as_str(), None, "bad quota"),
-        (
-            full.as_str(),
-            Some(ErrorKind::TimedOut),
-            "the game file cannot be read",
-        ),
-        (
-            over.as_str(),
-            None,
-            "the game file is longer than 65536 bytes",
-        ),
-        (
-            over.as_str(),
-            Some(ErrorKind::TimedOut),
-            "the game file is longer than 65536 bytes",
-        ),
-    ];
-    for (text, error, wanted) in rows {
+    let late = Some(ErrorKind::TimedOut);
+    for (length, error, wanted) in [
+        (65_536, None, "bad quota"),
+        (65_536, late, "the game file cannot be read"),
+        (65_537, None, "the game file is longer than 65536 bytes"),
+        (65_537, late, "the game file is longer than 65536 bytes"),
+    ] {
+        let text = " ".repeat(alloc, length)?;
         let said = read(alloc, text.as_bytes(), 4096, error)?;
-        assert_eq!(rt; said.as_str(), wanted);
+        same(&rt, (length, said.as_str()), (length, wanted), "blanks");
     }
     Ok(())
 }
@@ -385,7 +401,10 @@ fn bracket_texts(rt: HostRuntime) -> Result<(), Fail> {
         ("[a; 1]", "the game file is not TOML"),
         ("[-1; 1]", "the game file is not TOML"),
     ];
-    check(&rt, rt.alloc(), rows.as_slice())
+    for (text, wanted) in rows {
+        check(&rt, rt.alloc(), text, wanted)?;
+    }
+    Ok(())
 }
 
 #[test]
@@ -406,22 +425,21 @@ fn long_bracket_texts(rt: HostRuntime) -> Result<(), Fail> {
     for (count, end, wanted) in rows {
         let weights = ", 1".repeat(alloc, count)?;
         let text = format!(in alloc; "[1; 1{weights}{end}")?;
-        assert_eq!(rt;
-            parse_game(alloc, text.as_bytes()).err(),
-            wanted,
-            "for {text}"
-        );
+        let found = parse_game(alloc, text.as_bytes()).err();
+        same(&rt, found, wanted, text.as_str());
     }
     let blanks = " ".repeat(alloc, 65_530)?;
     let full = format!(in alloc; "[1; 1]{blanks}")?;
-    assert_eq!(rt; answer(alloc, full.as_str())?.as_str(), "1 [1; 1]");
+    check(&rt, alloc, full.as_str(), "1 [1; 1]")?;
     let over = format!(in alloc; "{full} ")?;
-    assert_eq!(rt;
-        parse_game(alloc, over.as_bytes()).err(),
-        Some(GameFault::TooLong)
-    );
+    check(
+        &rt,
+        alloc,
+        over.as_str(),
+        "the game file is longer than 65536 bytes",
+    )?;
     let broken = [b'[', b'1', b';', b' ', b'1', 0xff];
-    assert_eq!(rt; parse_game(alloc, &broken).err(), Some(GameFault::Bracket));
+    check_fault(&rt, alloc, &broken, Some(GameFault::Bracket));
     Ok(())
 }
 
@@ -435,6 +453,6 @@ fn notation_stands_behind_what_is_there(rt: HostRuntime) -> Result<(), Fail> {
     out.push(b'x')?;
     assert!(rt; 0 < game.rules());
     write_notation(&game, 0, &mut out)?;
-    assert_eq!(rt; out.as_slice(), b"x[51; 50, 49, 1]".as_slice());
+    same(&rt, out.as_slice(), b"x[51; 50, 49, 1]", "notation");
     Ok(())
 }
