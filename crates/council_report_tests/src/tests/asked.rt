@@ -64,12 +64,8 @@ impl Write for Asked {
 #[test]
 fn writes_in_blocks_and_flushes_once(rt: HostRuntime) -> Result<(), Fail> {
     let alloc = rt.alloc();
-    let Ok(game) = parse_game(alloc, GAME.as_bytes()) else {
-        return Err(Fail::from("the game was refused"));
-    };
-    assert!(rt; game.members() == 14);
-    let list = coalitions(alloc, &game, 16_383)?;
-    assert!(rt; list.len() == 2_650);
+    let game = game(&rt, alloc)?;
+    let list = listing(&rt, alloc, &game, 16_383)?;
     let shown = Shown {
         list: true,
         sizes: true,
@@ -80,22 +76,21 @@ fn writes_in_blocks_and_flushes_once(rt: HostRuntime) -> Result<(), Fail> {
             let mut writer = Asked::new(step, flush_fails);
             let answer = write_report(alloc, &game, &list, shown, &mut writer);
             let written = writer.bytes;
-            assert!(rt; 150_000 < written, "{step}");
             let wanted = if flush_fails {
                 Err(ReportFault::Write { written })
             } else {
                 Ok(written)
             };
-            assert!(rt; answer == wanted, "{step}, {flush_fails}");
-            assert_eq!(rt;
-                (writer.flushes, writer.after),
-                (1, 0),
-                "{step}, {flush_fails}"
+            let few = step < 65_536 || writer.writes <= (written / 61_440).saturating_add(1);
+            let found = (step, answer, 150_000 < written, few);
+            same(&rt, found, (step, wanted, true, true), "blocks");
+            let found = (flush_fails, writer.empty, writer.flushes, writer.after);
+            same(
+                &rt,
+                found,
+                (flush_fails, 0, 1, 0),
+                "empty writes, flushes, later calls",
             );
-            assert_eq!(rt; writer.empty, 0, "{step}, {flush_fails}");
-            if 65_536 <= step {
-                assert!(rt; writer.writes <= written / 61_440 + 1, "{step}");
-            }
         }
     }
     Ok(())

@@ -4,14 +4,21 @@ mod asked;
 ghost use Rattle.std.specs.Prelude.{◌≡◌, length, IfOk};
 ghost use Rattle.council_game.specs.Game.{AreNonemptyCoalitions};
 
-use crate::{ReportFault, Shown, write_report, write_report_of, write_tally};
 use council_file::parse_game;
 use council_game::{Coalition, Game, plain_list};
+use council_report::{ReportFault, Shown, write_report, write_report_of, write_tally};
 use power_index::WideCounts;
 use power_index::laws::{minimal_coalitions_can_be_counted, tallies_are_counts};
 use std::alloc::{AllocError, Global};
+use std::fmt::Debug;
 use std::io::{self, Error, ErrorKind, Write};
+use std::process::Abort;
 use std::test::Fail;
+
+/// Fails unless the value that was found is the wanted one; the label says which case it is.
+fn same<T: PartialEq + Debug + Drop>(rt: &impl Abort, found: T, wanted: T, label: &str) {
+    assert_eq!(rt; found, wanted, "{label}");
+}
 
 /// A game of three rules. Its members stand in the opposite order of their rank.
 const GAME: &str = "quotas = [140, 7, 1]
@@ -114,6 +121,26 @@ fn coalitions(alloc: Global, game: &Game, step: u64) -> Result<Vec<Coalition>, A
     Ok(list)
 }
 
+/// The game, which has 14 members.
+fn game(rt: &impl Abort, alloc: Global) -> Result<Game, Fail>
+    ensures { IfOk result (λ g. length g.names ≡ 14) }
+{
+    let game = parse_game(alloc, GAME.as_bytes())?;
+    assert!(rt; game.members() == 14);
+    Ok(game)
+}
+
+/// All 2,650 of its minimal winning coalitions, by such a step.
+fn listing(rt: &impl Abort, alloc: Global, game: &Game, step: u64) -> Result<Vec<Coalition>, Fail>
+    requires { length game.now.names ≡ 14 }
+    ensures coalitions { IfOk result (λ v. AreNonemptyCoalitions game.now v.items) }
+    ensures length { IfOk result (λ v. length v.items ≡ 2650) }
+{
+    let list = coalitions(alloc, game, step)?;
+    assert!(rt; list.len() == 2_650);
+    Ok(list)
+}
+
 /// The lines of these coalitions, each made for itself.
 fn lines(alloc: Global, list: &[Coalition]) -> Result<Vec<u8>, AllocError> {
     let mut lines = Vec::new(alloc);
@@ -141,29 +168,35 @@ fn lines(alloc: Global, list: &[Coalition]) -> Result<Vec<u8>, AllocError> {
 
 const HEADING: &[u8] = b"members\t14\nquota\t140/7/1\ntotal\t287/14/1532221043\nminimal\t2650\n";
 
+/// A report with a line for each coalition.
+const LIST: Shown = Shown {
+    list: true,
+    sizes: false,
+    notation: false,
+};
+
 #[test]
 fn lists_in_any_order(rt: HostRuntime) -> Result<(), Fail> {
     let alloc = rt.alloc();
-    let Ok(game) = parse_game(alloc, GAME.as_bytes()) else {
-        return Err(Fail::from("the game was refused"));
-    };
-    assert!(rt; game.members() == 14);
+    let game = game(&rt, alloc)?;
     for step in [16_383, 1, 4_097, 5, 11_111] {
-        let list = coalitions(alloc, &game, step)?;
-        assert!(rt; list.len() == 2_650);
+        let list = listing(&rt, alloc, &game, step)?;
         let mut written = Vec::new(alloc);
-        let shown = Shown {
-            list: true,
-            sizes: false,
-            notation: false,
-        };
-        let answer = write_report(alloc, &game, &list, shown, &mut written);
-        assert!(rt; answer == Ok(written.len() as u64));
+        let answer = write_report(alloc, &game, &list, LIST, &mut written);
         let mut wanted = Vec::from_slice(alloc, HEADING)?;
-        let lines = lines(alloc, &list)?;
-        assert!(rt; 65_536 < lines.len());
-        wanted.extend_from_slice(&lines)?;
-        assert!(rt; written.starts_with(&wanted));
+        wanted.extend_from_slice(&lines(alloc, &list)?)?;
+        let found = (
+            step,
+            answer,
+            65_536 < wanted.len(),
+            written.starts_with(&wanted),
+        );
+        same(
+            &rt,
+            found,
+            (step, Ok(written.len() as u64), true, true),
+            "step",
+        );
     }
     Ok(())
 }
@@ -174,49 +207,35 @@ const HEADING_TWICE: &[u8] =
 #[test]
 fn lists_in_pieces(rt: HostRuntime) -> Result<(), Fail> {
     let alloc = rt.alloc();
-    let Ok(game) = parse_game(alloc, GAME.as_bytes()) else {
-        return Err(Fail::from("the game was refused"));
-    };
-    assert!(rt; game.members() == 14);
-    let first = coalitions(alloc, &game, 16_383)?;
-    let second = coalitions(alloc, &game, 5)?;
-    assert!(rt; first.len() == 2_650 && second.len() == 2_650);
+    let game = game(&rt, alloc)?;
+    let first = listing(&rt, alloc, &game, 16_383)?;
+    let second = listing(&rt, alloc, &game, 5)?;
     let mut counts = WideCounts::none(&game);
     counts.count_row(&first);
     counts.count_row(&second);
     tallies_are_counts();
     let mut written = Vec::new(alloc);
-    let shown = Shown {
-        list: true,
-        sizes: false,
-        notation: false,
-    };
     let answer = write_report_of(
         alloc,
         &game,
         &[&first, &second],
         &counts,
-        shown,
+        LIST,
         &mut written,
     );
-    assert!(rt; answer == Ok(written.len() as u64));
     let mut wanted = Vec::from_slice(alloc, HEADING_TWICE)?;
     wanted.extend_from_slice(&lines(alloc, &first)?)?;
     wanted.extend_from_slice(&lines(alloc, &second)?)?;
-    assert!(rt; written.starts_with(&wanted));
+    let found = (answer, written.starts_with(&wanted));
+    same(&rt, found, (Ok(written.len() as u64), true), "two pieces");
     Ok(())
 }
 
 #[test]
 fn tallies_as_it_reports(rt: HostRuntime) -> Result<(), Fail> {
     let alloc = rt.alloc();
-    let Ok(game) = parse_game(alloc, GAME.as_bytes()) else {
-        return Err(Fail::from("the game was refused"));
-    };
-    assert!(rt; game.members() == 14);
-    let Ok(list) = plain_list(alloc, &game) else {
-        return Err(Fail::from("out of memory"));
-    };
+    let game = game(&rt, alloc)?;
+    let list = plain_list(alloc, &game)?;
     assert!(rt; list.len() == 2_650);
     minimal_coalitions_can_be_counted();
     let shown = Shown {
@@ -225,13 +244,13 @@ fn tallies_as_it_reports(rt: HostRuntime) -> Result<(), Fail> {
         notation: true,
     };
     let mut reported = Vec::new(alloc);
-    let answer = write_report(alloc, &game, &list, shown, &mut reported);
-    assert!(rt; answer == Ok(reported.len() as u64));
+    let first = write_report(alloc, &game, &list, shown, &mut reported);
     let mut tallied = Vec::new(alloc);
     let counts = WideCounts::of(&game, &list);
-    let answer = write_tally(alloc, &game, &counts, shown, &mut tallied);
-    assert!(rt; answer == Ok(reported.len() as u64));
-    assert!(rt; tallied.as_slice() == reported.as_slice());
+    let second = write_tally(alloc, &game, &counts, shown, &mut tallied);
+    let length = Ok(reported.len() as u64);
+    same(&rt, (first, second), (length, length), "lengths");
+    same(&rt, tallied.as_slice(), reported.as_slice(), "reports");
     Ok(())
 }
 
@@ -287,20 +306,11 @@ impl Write for Narrow {
 #[test]
 fn tells_what_a_writer_took_of_many_blocks(rt: HostRuntime) -> Result<(), Fail> {
     let alloc = rt.alloc();
-    let Ok(game) = parse_game(alloc, GAME.as_bytes()) else {
-        return Err(Fail::from("the game was refused"));
-    };
-    assert!(rt; game.members() == 14);
-    let list = coalitions(alloc, &game, 16_383)?;
-    assert!(rt; list.len() == 2_650);
+    let game = game(&rt, alloc)?;
+    let list = listing(&rt, alloc, &game, 16_383)?;
     let mut wanted = Vec::from_slice(alloc, HEADING)?;
     wanted.extend_from_slice(&lines(alloc, &list)?)?;
     assert!(rt; 150_000 < wanted.len());
-    let shown = Shown {
-        list: true,
-        sizes: false,
-        notation: false,
-    };
     for step in [1000, 65_536, 1_000_000] {
         for room in [
             61_439usize,
@@ -313,22 +323,24 @@ fn tells_what_a_writer_took_of_many_blocks(rt: HostRuntime) -> Result<(), Fail> 
         ] {
             assert!(rt; room <= 150_000);
             let mut writer = Narrow::new(alloc, room, step);
-            let answer = write_report(alloc, &game, &list, shown, &mut writer);
-            let fault = ReportFault::Write {
-                written: room as u64,
-            };
-            assert!(rt; answer == Err(fault), "{room} by {step}");
-            assert!(rt;
-                writer.taken.as_slice() == &wanted[..room],
-                "{room} by {step}"
-            );
-            assert_eq!(rt; (writer.flushes, writer.after), (0, 0), "{room} by {step}");
+            let answer = write_report(alloc, &game, &list, LIST, &mut writer);
+            let written = room as u64;
+            let took = writer.taken.as_slice() == &wanted[..room];
+            let found = (step, answer, took, writer.flushes, writer.after);
+            let fault = Err(ReportFault::Write { written });
+            same(&rt, found, (step, fault, true, 0, 0), "a writer that fails");
         }
         let mut writer = Narrow::new(alloc, 1_000_000, step);
-        let answer = write_report(alloc, &game, &list, shown, &mut writer);
-        assert!(rt; answer == Ok(writer.taken.len() as u64), "{step}");
-        assert!(rt; writer.taken.starts_with(&wanted), "{step}");
-        assert_eq!(rt; writer.flushes, 1, "{step}");
+        let answer = write_report(alloc, &game, &list, LIST, &mut writer);
+        let took = writer.taken.starts_with(&wanted);
+        let found = (step, answer, took, writer.flushes, writer.after);
+        let length = Ok(writer.taken.len() as u64);
+        same(
+            &rt,
+            found,
+            (step, length, true, 1, 0),
+            "a writer that takes all",
+        );
     }
     Ok(())
 }
