@@ -16,8 +16,6 @@ mod quotas;
 mod reading;
 mod rules;
 mod scanner;
-#[cfg(test)]
-mod tests;
 mod title;
 mod token;
 mod tree;

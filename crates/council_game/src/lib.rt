@@ -17,8 +17,6 @@ mod memory;
 mod plain;
 mod ranks;
 mod rule;
-#[cfg(test)]
-mod tests;
 mod winning;
 
 pub use checks::is_title;

@@ -18,8 +18,6 @@ mod seat;
 mod shared;
 mod shown;
 mod stream;
-#[cfg(test)]
-mod tests;
 mod text;
 
 pub use fault::ReportFault;

@@ -7,7 +7,5 @@
 #![tactic(auto)]
 
 mod joined;
-#[cfg(test)]
-mod tests;
 
 pub use joined::{push_decimal, push_joined};

@@ -18,8 +18,6 @@ mod indices;
 pub mod laws;
 mod order;
 mod tally;
-#[cfg(test)]
-mod tests;
 mod wide_counts;
 
 pub use counts::Counts;
