@@ -24,14 +24,22 @@ fi
 
 # ---- when it builds
 copy=$temp/copy
-mkdir -p "$copy/crates/council/src" "$temp/kit"
+mkdir -p "$copy/crates/council/src" "$copy/crates/low/src" "$copy/crates/high/src" "$copy/tools" "$temp/kit"
 cp "$top/council" "$copy/"
-touch "$copy/crates.txt" "$copy/HANDLES" "$copy/crates/council/src/main.rt"
+cp "$top/tools/build.py" "$copy/tools/"
+printf 'low: std\nhigh: low\nlow_tests: low\ncouncil: high\n' >"$copy/crates.txt"
+touch "$copy/HANDLES" "$copy/crates/council/src/main.rt" "$copy/crates/low/src/lib.rt" "$copy/crates/high/src/lib.rt"
 cat >"$temp/kit/rt" <<END
 #!/bin/sh
-echo "\$1" >>"$temp/asked"
+case \$1 in
+lib) echo "\$1:\$(basename "\$PWD")" >>"$temp/asked" ;;
+*) echo "\$1" >>"$temp/asked" ;;
+esac
 case \$1 in
 version) cat "$temp/version" ;;
+lib)
+    mkdir -p out/rlib && touch out/rlib/stamp
+    [ "\$(basename "\$PWD")" != "\$(cat "$temp/fails")" ] ;;
 run)
     printf '#!/bin/sh\necho built\n' >out/council
     chmod +x out/council ;;
@@ -39,6 +47,7 @@ esac
 END
 chmod +x "$temp/kit/rt"
 echo "kit one" >"$temp/version"
+echo none >"$temp/fails"
 
 # Runs the copy from another folder; what it asked the toolchain for goes to $temp/asked.
 use() {
@@ -58,21 +67,34 @@ asked_for() {
     fi
 }
 
+echo high >"$temp/fails"
 use
-asked_for "the first use builds" "run version "
+if [ "$status" -eq 1 ] && grep -q 'high was not proved' "$temp/err" && [ -e "$copy/crates/low/out/rlib/stamp" ]; then
+    ok "a library that is not proved stops the build, and what was proved stays"
+else
+    failed "a library that is not proved stops the build, and what was proved stays" "status $status: $(tail -n 1 "$temp/err")"
+fi
+echo none >"$temp/fails"
+use
+asked_for "the first use builds" "lib:low lib:high run version "
+if grep -q 'low is proved, 1 of 3' "$temp/err" && grep -q 'high is proved, 2 of 3' "$temp/err"; then
+    ok "the first use says how far it is"
+else
+    failed "the first use says how far it is" "$(tr '\n' '/' <"$temp/err")"
+fi
 use
 asked_for "the second use asks for the version" "version "
 use
 asked_for "a further use asks nothing" ""
 touch -d '1 hour' "$copy/crates/council/src/main.rt"
 use
-asked_for "a newer source builds" "run version "
+asked_for "a newer source builds" "lib:low lib:high run version "
 touch -d '1 hour ago' "$copy/crates/council/src/main.rt"
 use
 echo "kit two" >"$temp/version"
 echo "# another file" >>"$temp/kit/rt"
 use
-asked_for "another toolchain builds" "version run version "
+asked_for "another toolchain builds" "version lib:low lib:high run version "
 use
 use
 asked_for "and is then the one that built" ""
