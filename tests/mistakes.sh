@@ -48,6 +48,12 @@ printf '[51, 50, 49, 1]' >"$temp/game"
 mistake "a comma behind the quota" 3 "bad bracket text"
 printf '[51; 50, 49.5, 1]' >"$temp/game"
 mistake "decimals in a bracket text" 3 "bad bracket text"
+printf '\357\273\277[1; 1]' >"$temp/game"
+mistake "a byte order mark before a bracket text" 3 "the game file is not TOML"
+printf '\357\273\277quota = 1\nmember = [{name = "1", weight = 1}]\n' >"$temp/game"
+run "$temp/game" </dev/null
+printf 'members\t1\nquota\t1\ntotal\t1\nminimal\t1\nmember\t1\t1\t1\t1/1\t1.000000\t1/1\t1.000000\n' >"$temp/wanted"
+printed "a byte order mark before TOML" "$temp/wanted"
 
 # ---- the files of docs/STATUTES.md
 for game in "$top"/docs/using/statutes/*; do
