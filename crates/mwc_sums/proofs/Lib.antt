@@ -1,0 +1,4 @@
+pub mod Taking
+pub mod Completing
+pub mod Counting
+pub mod Passing

@@ -1,0 +1,16 @@
+-- The coalitions that complete what is missing to a quota.
+use Rattle.std.specs.Prelude.{ℕ, ◌+◌, ◌-◌, ◌^◌, ◌≡◌, ◌≤◌, Bool, if◌then◌else◌, nat_le, List, [], ◌∷◌, ◌++◌, length, map}
+use Rattle.council_game.specs.Votes.{RuleView, Votes, IsVotes, rule_at, minimal_coalitions}
+
+-- of members with these weights, the heaviest first, the coalitions that meet a need, and lose it without their last
+-- member: those that have the first member, and then those that have not
+unfoldable pub completing : List ℕ → ℕ → List ℕ
+completing [] need = []
+completing (w ∷ ws) need =
+    map (λ c. 2 ^ length ws + c) (if nat_le need w then 0 ∷ [] else completing ws (need - w)) ++ completing ws need
+
+-- in a game of one rule, the minimal winning coalitions are those that complete the quota
+abbrev pub MinimalAreThoseThatComplete : Votes → Type 0
+MinimalAreThoseThatComplete v =
+    let rule = rule_at v.rules 0 in
+    IsVotes v → length v.rules ≡ 1 → minimal_coalitions v ≡ completing rule.weights rule.quota

@@ -1,0 +1,13 @@
+//! Counts the minimal winning coalitions of a game by sums, without listing any.
+//!
+//! ```text
+//! match count_by_sums(alloc, &game)? {
+//!     Some(counts) => ..,
+//!     None => ..,
+//! }
+//! ```
+#![tactic(auto)]
+
+pub mod laws;
+mod row;
+mod rows;
