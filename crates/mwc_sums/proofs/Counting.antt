@@ -1,17 +1,16 @@
 -- How many coalitions complete a need, by size, and how many of them have a member.
-use Rattle.std.proofs.Common.{◌≡◌, ◌∙◌, ℕ, zero, suc, ◌+◌, ◌-◌, ◌*◌, ◌^◌, ◌<◌, ◌≤◌, ◌==◌, ◌&&◌, Bool, true, false, cond, leb, eqb, List, [], ◌∷◌, ◌++◌, length, take, drop, get_or, map, filter, sym, ap, refl, arith, inl, inr, count_ones, length-append, add-one}
-use Rattle.std.specs.List.{All, sum}
+use Rattle.std.proofs.Common.{◌≡◌, ◌∙◌, ℕ, zero, suc, ◌+◌, ◌-◌, ◌*◌, ◌^◌, ◌<◌, ◌==◌, ◌&&◌, Bool, true, false, cond, leb, List, [], ◌∷◌, length, map, filter, sym, ap, refl, arith, count_ones, length-append}
+use Rattle.std.specs.List.{All}
 use Rattle.std.specs.Int.Count.{ones-ones}
-use Rattle.std.proofs.lemmas.Bool.{cases_Bool, cases_lt, lt-leb, le-leb, leb-true, leb-false, cond-true, cond-false}
+use Rattle.std.proofs.lemmas.Bool.{cond-false}
 use Rattle.std.proofs.lemmas.List.{length-map}
 use Rattle.std.proofs.lemmas.List.Elements.{filter-append, All-nil, All-cons, All-head, All-tail, All-append, All-map, All-weaker}
-use Rattle.std.proofs.lemmas.List.Sums.{sum_by-cons}
 use Rattle.std.proofs.lemmas.Nat.{pow_pos, ones_cat}
 use Rattle.council_game.specs.Votes.{has, size}
 use Rattle.council_game.proofs.Digits.{has-none}
 use Rattle.council_game.proofs.Sizes.{size-ones}
 use Rattle.mwc_sums.specs.Completing.{completing}
-use Rattle.mwc_sums.specs.Inner.Rows.{one_of_size, taken, closings}
+use Rattle.mwc_sums.specs.Inner.Rows.{one_of_size, closings}
 use Rattle.mwc_sums.proofs.Completing.{double-pow, first-in, first-out, rest-in, rest-out, filter-map}
 
 -- ---- sizes

@@ -1,8 +1,8 @@
 -- Rows of prefixes, one prefix more.
-use Rattle.std.proofs.Common.{◌≡◌, ◌∙◌, ℕ, ◌+◌, ◌*◌, ◌<◌, ◌≤◌, ◌^◌, List, [], ◌∷◌, ◌++◌, length, take, drop, get_or, set, cond, leb, eqb, true, false, sym, ap, refl, arith, ◌-◌, inl, inr, eq-eqb, get_or-set_same, get_or-set_other}
-use Rattle.std.specs.List.{All, sum_by}
-use Rattle.std.proofs.lemmas.Bool.{cases_eq, cases_Bool, ne_eqb, le-leb, lt-leb, cond-true, cond-false}
-use Rattle.std.proofs.lemmas.List.Sums.{sum_by-cons, sum_by_push, sum_by_more, sum_by-drop_more}
+use Rattle.std.proofs.Common.{◌≡◌, ◌∙◌, ℕ, ◌+◌, ◌*◌, ◌<◌, ◌≤◌, ◌^◌, List, [], ◌∷◌, ◌++◌, length, take, drop, get_or, set, cond, eqb, sym, ap, refl, arith, ◌-◌, inl, inr, eq-eqb, get_or-set_same, get_or-set_other}
+use Rattle.std.specs.List.{All}
+use Rattle.std.proofs.lemmas.Bool.{cases_eq, cases_Bool, ne_eqb, le-leb, lt-leb}
+use Rattle.std.proofs.lemmas.List.Sums.{sum_by_push, sum_by_more, sum_by-drop_more}
 use Rattle.std.proofs.lemmas.List.Elements.{All-nil, All-push, All-same}
 use Rattle.mwc_sums.specs.declared.row.Open.{Open}
 use Rattle.mwc_sums.specs.Inner.Rows.{weigh, prefixes, one_of_size, taken}

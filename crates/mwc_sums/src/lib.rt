@@ -8,6 +8,10 @@
 //! ```
 #![tactic(auto)]
 
+mod count;
 pub mod laws;
 mod row;
 mod rows;
+mod tallies;
+
+pub use count::count_by_sums;

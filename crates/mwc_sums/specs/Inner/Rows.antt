@@ -1,5 +1,5 @@
 -- Rows of prefixes that are not complete, and how they go on.
-use Rattle.std.specs.Prelude.{ℕ, ◌+◌, ◌-◌, ◌*◌, ◌==◌, ◌≤◌, ◌<◌, ◌^◌, ◌≡◌, if◌then◌else◌, nat_le, List, [], ◌∷◌, slice_index, sum_by}
+use Rattle.std.specs.Prelude.{ℕ, ◌+◌, ◌-◌, ◌*◌, ◌==◌, ◌≤◌, ◌^◌, if◌then◌else◌, nat_le, List, [], ◌∷◌, slice_index, sum_by}
 use Rattle.std.specs.List.{All}
 use Rattle.mwc_sums.specs.declared.row.Open.{Open}
 

@@ -1,4 +1,4 @@
-use Rattle.std.proofs.Common.{◌≡◌, ℕ, ◌+◌, ◌-◌, ◌<◌, ◌≤◌, length, drop}
+use Rattle.std.proofs.Common.{◌≡◌, ℕ, ◌+◌, ◌-◌, ◌≤◌, length, drop}
 use Rattle.std.specs.List.{All}
 use Rattle.mwc_sums.specs.Inner.Rows.{weigh}
 use Rattle.mwc_sums.proofs.row.merge.Given as goal

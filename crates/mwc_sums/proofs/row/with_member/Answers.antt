@@ -1,6 +1,6 @@
-use Rattle.std.proofs.Common.{◌≡◌, ℕ, ◌+◌, ◌<◌, ◌≤◌, ◌^◌, ◌∷◌, ◌++◌, [], List, ap, sym, subst, refl, get_or, arith, ◌-◌, ◌∙◌, length, length-set}
+use Rattle.std.proofs.Common.{◌≡◌, ℕ, ◌+◌, List, ap, sym, subst, refl, get_or, arith, ◌-◌, ◌∙◌, length, length-set}
 use Rattle.mwc_sums.specs.declared.row.Open.{Open}
-use Rattle.mwc_sums.proofs.Taking.{Taking, taking-none, taking-complete, taking-other}
+use Rattle.mwc_sums.proofs.Taking.{Taking, taking-complete, taking-other}
 use Rattle.mwc_sums.proofs.row.with_member.Goals as goal
 use Rattle.mwc_sums.proofs.row.with_member.Goals.{then-prefix-weight, else-prefix-weight+in_ok-push}
 

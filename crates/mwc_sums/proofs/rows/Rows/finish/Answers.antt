@@ -1,5 +1,5 @@
-use Rattle.std.proofs.Common.{ℕ, ◌≡◌, ◌∙◌, ◌+◌, ◌≤◌, ◌<◌, List, length, drop, get_or, sym, ap, arith}
-use Rattle.mwc_sums.proofs.Passing.{prefixes-room, prefixes-sizes, prefixes-more, rest-less, rest-fits, closings-next, closings-end}
+use Rattle.std.proofs.Common.{ℕ, ◌∙◌, ◌+◌, ◌<◌, length, drop, get_or, ap, arith}
+use Rattle.mwc_sums.proofs.Passing.{prefixes-room, prefixes-more, rest-less, closings-next, closings-end}
 use Rattle.mwc_sums.proofs.rows.Rows.finish.Goals as goal
 
 pub go_on-requires-clause-room : goal.go_on-requires-clause-room

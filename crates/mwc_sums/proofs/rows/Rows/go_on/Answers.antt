@@ -1,8 +1,4 @@
-use Rattle.std.proofs.Common.{ℕ, ◌≡◌, ◌+◌, ◌≤◌, List, length, take, ap, sym, subst}
-use Rattle.std.specs.List.{All}
-use Rattle.std.proofs.lemmas.List.Elements.{All-take, All-weaker}
-use Rattle.mwc_sums.specs.declared.row.Open.{Open}
-use Rattle.mwc_sums.specs.Inner.Rows.{weigh}
+use Rattle.std.proofs.Common.{sym}
 use Rattle.mwc_sums.proofs.Passing.{merge-few, row-few, row-counted, sizes-more}
 use Rattle.mwc_sums.proofs.rows.Rows.go_on.Goals as goal
 
