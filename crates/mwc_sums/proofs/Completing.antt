@@ -12,7 +12,7 @@ use Rattle.council_game.proofs.Digits.{has-none}
 use Rattle.council_game.proofs.Meanings.{needs-each-member}
 use Rattle.council_game.proofs.WeightByDigits.{weight-nil, weight-cons}
 use Rattle.council_game.proofs.Weights.{weight-skip, weight-zero, weight-without}
-use Rattle.mwc_sums.specs.Completing.{completing, MinimalAreThoseThatComplete}
+use Rattle.mwc_sums.specs.Completing.{completing}
 
 -- ---- coalitions of one place more
 pub first-in : (n c : ℕ) → c < 2 ^ n → has (suc n) 0 (2 ^ n + c) ≡ true
@@ -288,7 +288,7 @@ minimal-one v (r ∷ []) is votes one =
     ap (λ (n : ℕ). filter (minimal v) (down (2 ^ n))) (sym rule.full)
     ∙ filter-completing r.weights r.quota (minimal v) (let s = rule.some in omega arith) falls (λ c lt. least-minimal v r c is rule)
 
-pub minimal-completing : (v : Votes) → MinimalAreThoseThatComplete v
+pub minimal-completing : (v : Votes) → IsVotes v → length v.rules ≡ 1 → minimal_coalitions v ≡ completing (rule_at v.rules 0).weights (rule_at v.rules 0).quota
 minimal-completing v votes one = minimal-one v v.rules refl votes one
 
 pub ruleset laws = (minimal-completing)

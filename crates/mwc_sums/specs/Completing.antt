@@ -8,9 +8,3 @@ unfoldable pub completing : List ℕ → ℕ → List ℕ
 completing [] need = []
 completing (w ∷ ws) need =
     map (λ c. 2 ^ length ws + c) (if nat_le need w then 0 ∷ [] else completing ws (need - w)) ++ completing ws need
-
--- in a game of one rule, the minimal winning coalitions are those that complete the quota
-abbrev pub MinimalAreThoseThatComplete : Votes → Type 0
-MinimalAreThoseThatComplete v =
-    let rule = rule_at v.rules 0 in
-    IsVotes v → length v.rules ≡ 1 → minimal_coalitions v ≡ completing rule.weights rule.quota
