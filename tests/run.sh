@@ -1,5 +1,5 @@
 #!/usr/bin/env bash
-# Runs the tests of this folder on the built program, and refusals.sh on the built tests of the crates:
+# Runs the tests of this folder on the built program, several at once, and refusals.sh on the built tests of the crates:
 #
 #     tests/run.sh PROGRAM
 #
@@ -19,41 +19,68 @@ passed=0
 failed=0
 skipped=0
 
-# Runs a command, shows what it prints, and counts its lines.
+logs=$(mktemp -d)
+trap 'rm -rf "$logs"' EXIT
+
+# Runs a command, and keeps what it prints and its status under its name.
+keep() {
+    local name=$1
+    shift
+    "$@" >"$logs/$name" 2>&1 </dev/null
+    echo "$?" >"$logs/$name.status"
+}
+
+# Shows what a command printed, and counts its lines.
 count() {
-    local log status found
-    log=$(mktemp)
-    "$@" 2>&1 </dev/null | tee "$log"
-    status=${PIPESTATUS[0]}
+    local log=$logs/$1 status found
+    status=$(cat "$log.status")
+    cat "$log"
     passed=$((passed + $(grep -ac '^ok ' "$log")))
     found=$(grep -ac '^FAILED ' "$log")
     failed=$((failed + found))
     skipped=$((skipped + $(grep -ac '^skipped ' "$log")))
     if [ "$found" -eq 0 ] && { [ "$status" -ne 0 ] || ! grep -aqE '^(ok|skipped) ' "$log"; }; then
-        echo "FAILED $*: it ended with status $status"
+        echo "FAILED $1: it ended with status $status"
         failed=$((failed + 1))
     fi
-    rm -f "$log"
 }
 
 if [ ! -x "$program" ]; then
     echo "FAILED tests: there is no program $program"
     failed=1
 else
-    for test in examples options workers words faults mistakes prefixes output limits sizes tally launcher pages using hostile refusals; do
-        count bash "tests/$test.sh" "$program"
+    # the longest first, as many at once as there are processors
+    scripts="refusals hostile sizes tally limits output options using launcher examples faults mistakes words workers prefixes pages"
+    programs="random_games reading memory_source"
+    command -v python3 >/dev/null || programs=
+    # what one run may take is measured once, before anything else runs
+    SECONDS_EACH=$(bash -c '. tests/common.sh; echo "$seconds"' common.sh "$program")
+    export SECONDS_EACH
+    lanes=$(nproc 2>/dev/null || echo 1)
+    for name in $scripts bodies $programs; do
+        while [ "$(jobs -rp | wc -l)" -ge "$lanes" ]; do
+            wait -n
+        done
+        case $name in
+        bodies)
+            if [ "${COUNCIL_BODIES:-0}" = 1 ]; then
+                keep bodies bash tests/bodies.sh &
+            else
+                keep bodies bash tests/bodies.sh --fit &
+            fi
+            ;;
+        random_games) keep $name python3 tests/random_games.py "$program" 150 1 & ;;
+        reading | memory_source) keep $name python3 tests/$name.py & ;;
+        *) keep "$name" bash "tests/$name.sh" "$program" & ;;
+        esac
     done
-    if [ "${COUNCIL_BODIES:-0}" = 1 ]; then
-        count bash tests/bodies.sh
-    else
-        count bash tests/bodies.sh --fit
-    fi
-    if command -v python3 >/dev/null; then
-        count python3 tests/memory_source.py
-        count python3 tests/reading.py
-        count python3 tests/noise.py "$program" 300 1
-        count python3 tests/random_games.py "$program" 150 1
-    else
+    wait
+    # each of its runs is to end within a second, so nothing runs beside it
+    [ -z "$programs" ] || keep noise python3 tests/noise.py "$program" 300 1
+    for name in $scripts bodies $programs ${programs:+noise}; do
+        count "$name"
+    done
+    if [ -z "$programs" ]; then
         for test in memory_source reading noise random_games; do
             echo "skipped $test: the command python3 was not found"
             skipped=$((skipped + 1))

@@ -9,9 +9,10 @@ ghost use Rattle.council_run.specs.Inner.Tallied.{IsUncounted};
 use crate::fault::{Cause, RunFault};
 use crate::options::Options;
 use council_file::read_game;
-use council_game::Game;
+use council_game::{Game, Memory};
 use council_report::{ReportFault, Shown, write_tally};
 use mwc_gather::GatherFault;
+use mwc_sums::count_by_sums;
 use mwc_tally::{TallyFault, Watch};
 use power_index::WideCounts;
 use std::alloc::Global;
@@ -34,8 +35,8 @@ fn unlisted(options: &Options) -> Shown
     }
 }
 
-/// The counts of all minimal winning coalitions of a game.
-fn count<T: Threads + Wait + Sync, V: Watch + Sync>(
+/// The counts of all minimal winning coalitions of a game, by worker threads that walk over them.
+fn count_by_threads<T: Threads + Wait + Sync, V: Watch + Sync>(
     rt: &T,
     alloc: Global,
     game: &Game,
@@ -54,8 +55,27 @@ fn count<T: Threads + Wait + Sync, V: Watch + Sync>(
     }
 }
 
-/// Reads a game, counts its minimal winning coalitions by worker threads, however many these are, and
-/// writes its report, with no line for a coalition, and nothing else. No coalition is kept, so the
+/// The counts of all minimal winning coalitions of a game: by sums where these serve, else by threads.
+fn count<T: Threads + Wait + Sync, V: Watch + Sync>(
+    rt: &T,
+    alloc: Global,
+    game: &Game,
+    options: &Options,
+    watch: &V,
+) -> Result<WideCounts, Cause>
+    ensures ok { IfOk result
+        (λ c. AreCounts game.now (minimal_coalitions (votes_of game.now)) c) }
+    ensures err { IfErr result IsUncounted }
+{
+    match count_by_sums(alloc, game) {
+        Ok(Some(counts)) => Ok(counts),
+        Ok(None) => count_by_threads(rt, alloc, game, options, watch),
+        Err(Memory) => Err(Cause::Memory),
+    }
+}
+
+/// Reads a game, counts its minimal winning coalitions, however many these are, by sums where these serve
+/// and else by worker threads, and writes its report, with no line for a coalition, and nothing else. No coalition is kept, so the
 /// memory does not grow with their number, and `most` and `list` of the options are not looked at. At
 /// least 8 of the heaviest members are fixed in each slice, if there are so many. It returns the number
 /// of bytes written. It may wait for its workers.

@@ -24,4 +24,5 @@ pub use counts::Counts;
 pub use fraction::{Fraction, lowest};
 pub use index::Index;
 pub use indices::{deegan_packel, public_good};
+pub use tally::Tally;
 pub use wide_counts::WideCounts;

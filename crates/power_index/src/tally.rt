@@ -8,8 +8,9 @@ use council_game::limits;
 /// How many coalitions of each size from 0 to 40 were counted. How many there are in all is added up
 /// where it is asked for.
 #[derive(Clone, Copy)]
-pub(crate) struct Tally {
-    pub(crate) sizes: [u64; limits::SIZES],
+pub struct Tally {
+    /// How many there are of each size.
+    pub sizes: [u64; limits::SIZES],
 }
 
 impl Tally {

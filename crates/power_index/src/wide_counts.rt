@@ -1,12 +1,12 @@
 //! Counts of coalitions, by member and by size, with no bound but that of a game.
 ghost use Rattle.council_game.specs.Game.{GameView, AreNonemptyCoalitions};
 ghost use Rattle.council_game.specs.Votes.{has};
-ghost use Rattle.power_index.specs.Tables.{AreCounts, AreOf, AreOfOneGame, AreTallies, AreWithin};
+ghost use Rattle.power_index.specs.Tables.{AreCounts, AreOf, AreOfOneGame, AreTallies, AreWithin, IsTallyOf};
 ghost use Rattle.power_index.specs.Tables.{no_tally, table_memberships, table_of_member};
 ghost use Rattle.power_index.specs.Inner.Tables.{IsJoined};
 ghost use Rattle.power_index.specs.Tables.{table_of_member_size, table_of_size, table_total};
 ghost use Rattle.power_index.specs.Inner.Tables.{with_one};
-ghost use Rattle.std.specs.Prelude.{◌≡◌, ℕ, ◌+◌, ◌*◌, ◌<◌, ◌≤◌, ◌^◌, cond, List, [], ◌∷◌, ◌++◌, length, slice_index, slice_index_or, All};
+ghost use Rattle.std.specs.Prelude.{◌≡◌, ℕ, ◌+◌, ◌*◌, ◌<◌, ◌≤◌, ◌^◌, cond, List, [], ◌∷◌, ◌++◌, length, slice_index, slice_index_or, All, true};
 
 use crate::tally::Tally;
 use council_game::{Coalition, Game, limits};
@@ -111,6 +111,29 @@ impl WideCounts {
             ranks,
             all: none,
             each: [none; limits::MEMBERS],
+        }
+    }
+
+    /// The counts of a list of coalitions, none of them empty, that were counted elsewhere: the tally of
+    /// all, and by rank place those of the coalitions that contain it.
+    pub fn of_tallies(game: &Game, all: Tally, each: [Tally; limits::MEMBERS]) -> WideCounts
+        ghost list: { List ℕ }
+        requires few { length list ≤ 2 ^ 40 }
+        requires coalitions { AreNonemptyCoalitions game.now list }
+        requires all { IsTallyOf (length game.now.names) (λ _. true) list all }
+        requires each { (p : ℕ) → p < length game.now.names →
+            IsTallyOf (length game.now.names) (has (length game.now.names) p) list
+            (slice_index_or each p no_tally) }
+        ensures tallies { AreTallies game.now list result }
+        ensures counts { AreCounts game.now list result }
+    {
+        let none = WideCounts::none(game);
+        let ranks = none.ranks;
+        WideCounts {
+            members: none.members,
+            ranks,
+            all,
+            each,
         }
     }
 

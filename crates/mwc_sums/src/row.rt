@@ -1,0 +1,100 @@
+//! Prefixes of members that are not complete, in rows.
+ghost use Rattle.std.specs.Prelude.{◌≡◌, ℕ, ◌+◌, ◌*◌, ◌<◌, ◌≤◌, ◌^◌, IfOk, length, slice_index, take};
+ghost use Rattle.std.specs.List.{All};
+ghost use Rattle.mwc_sums.specs.Inner.Rows.{prefixes, taken, weigh};
+
+use council_game::{Memory, limits};
+
+/// Prefixes that miss as much to the quota and have as many members: how many of them there are.
+#[derive(Clone, Copy)]
+pub(crate) struct Open {
+    pub need: u64,
+    pub size: usize,
+    pub ways: u64,
+}
+
+/// How many prefixes at the front of a row stay open where all that comes weighs so much: a row ascends
+/// by need, and those behind them can no more be completed.
+pub(crate) fn still_open(row: &[Open], rest: u64) -> usize
+    ensures within { result ≤ length row.now }
+    ensures same { (g : ℕ → ℕ → ℕ) → ((need size : ℕ) → rest < need → g need size ≡ 0)
+        → weigh g (take result row.now) ≡ weigh g row.now }
+{
+    let mut end = row.len();
+    while end > 0 && rest < row[end - 1].need {
+        end -= 1;
+    }
+    end
+}
+
+/// Takes a member of this weight into each prefix of a row: what is complete by it is counted by size, and the
+/// others are put down.
+pub(crate) fn with_member(
+    row: &[Open],
+    weight: u64,
+    done: &mut [u64; limits::SIZES],
+    others: &mut Vec<Open>,
+) -> Result<(), Memory>
+    requires sizes { All (λ o. o.size ≤ 39) row.now }
+    requires room { (s : ℕ) → s ≤ 40 → slice_index done.old s + prefixes row.now < 2 ^ 64 }
+    ensures counted { IfOk result (λ _. (g : ℕ → ℕ → ℕ) (s : ℕ) → s ≤ 40
+        → slice_index done.new s + weigh g others.new.items
+        ≡ slice_index done.old s + weigh (taken weight s g) row.now) }
+    ensures sizes { IfOk result (λ _. (p : ℕ) → All (λ o. o.size ≤ p) row.now
+        → All (λ o. o.size ≤ p + 1) others.new.items) }
+{
+    others.clear();
+    others.reserve(row.len())?;
+    for prefix in row {
+        if prefix.need <= weight {
+            done[prefix.size + 1] += prefix.ways;
+        } else {
+            others.push(Open {
+                need: prefix.need - weight,
+                size: prefix.size + 1,
+                ways: prefix.ways,
+            })?;
+        }
+    }
+    Ok(())
+}
+
+/// Whether a prefix stands before another in a row, or at the same place.
+fn is_first(a: &Open, b: &Open) -> bool {
+    a.need < b.need || (a.need == b.need && a.size <= b.size)
+}
+
+/// Merges two ascending rows into one: prefixes with the same need and size go together.
+pub(crate) fn merge(a: &[Open], b: &[Open], row: &mut Vec<Open>) -> Result<(), Memory>
+    requires { prefixes a.now + prefixes b.now < 2 ^ 64 }
+    ensures all { IfOk result (λ _. (g : ℕ → ℕ → ℕ) →
+        weigh g row.new.items ≡ weigh g a.now + weigh g b.now) }
+    ensures sizes { IfOk result (λ _. (p : ℕ) → All (λ o. o.size ≤ p) a.now
+        → All (λ o. o.size ≤ p) b.now → All (λ o. o.size ≤ p) row.new.items) }
+{
+    row.clear();
+    row.reserve(a.len())?;
+    row.reserve(b.len())?;
+    let (mut i, mut j) = (0, 0);
+    while i < a.len() && j < b.len() {
+        let (left, right) = (&a[i], &b[j]);
+        if left.need == right.need && left.size == right.size {
+            row.push(Open {
+                need: left.need,
+                size: left.size,
+                ways: left.ways + right.ways,
+            })?;
+            i += 1;
+            j += 1;
+        } else if is_first(left, right) {
+            row.push(*left)?;
+            i += 1;
+        } else {
+            row.push(*right)?;
+            j += 1;
+        }
+    }
+    row.extend_from_slice(&a[i..])?;
+    row.extend_from_slice(&b[j..])?;
+    Ok(())
+}

@@ -1,0 +1,78 @@
+//! Tallies of the coalitions that complete a quota.
+ghost use Rattle.council_game.specs.Votes.{has};
+ghost use Rattle.mwc_sums.specs.Completing.{completing};
+ghost use Rattle.power_index.specs.Tables.{IsTallyOf, no_tally};
+ghost use Rattle.std.specs.Prelude.{◌≡◌, ℕ, ◌+◌, ◌<◌, ◌≤◌, IfOk, IfSome, true, length, sum, slice_index, slice_index_or};
+
+use crate::rows::Rows;
+use council_game::{Memory, limits};
+use power_index::Tally;
+use std::alloc::Global;
+
+/// The tally of all coalitions that complete a quota; none where there is no room.
+pub(crate) fn tally_all(
+    alloc: Global,
+    weights: &[u64],
+    quota: u64,
+    total: u64,
+) -> Result<Option<Tally>, Memory>
+    requires few { length weights.now ≤ 40 }
+    requires total { total ≡ sum weights.now }
+    ensures { IfOk result (λ tally. IfSome tally (λ t.
+        IsTallyOf (length weights.now) (λ _. true) (completing weights.now quota) t)) }
+{
+    let mut sizes = [0; limits::SIZES];
+    let mut rows = Rows::new(alloc, quota)?;
+    if !rows.finish(weights, 0, total, &mut sizes)? {
+        return Ok(None);
+    }
+    Ok(Some(Tally { sizes }))
+}
+
+/// What a tally has above another.
+fn difference(all: &Tally, part: &[u64; limits::SIZES]) -> Tally
+    requires { (s : ℕ) → s ≤ 40 → slice_index part.now s ≤ slice_index all.now.sizes s }
+    ensures long { length result.sizes ≡ 41 }
+    ensures sizes { (s : ℕ) → s ≤ 40 →
+        slice_index result.sizes s + slice_index part.now s ≡ slice_index all.now.sizes s }
+{
+    let mut sizes = [0; limits::SIZES];
+    for size in 0..limits::SIZES {
+        sizes[size] = all.sizes[size] - part[size];
+    }
+    Tally { sizes }
+}
+
+/// The tallies, by rank place, of the coalitions that complete a quota and contain the place: of all, those
+/// that do not complete it without its member. None where there is no room.
+pub(crate) fn tally_each(
+    alloc: Global,
+    weights: &[u64],
+    quota: u64,
+    total: u64,
+    all: &Tally,
+) -> Result<Option<[Tally; limits::MEMBERS]>, Memory>
+    requires few { length weights.now ≤ 40 }
+    requires total { total ≡ sum weights.now }
+    requires all { IsTallyOf (length weights.now) (λ _. true) (completing weights.now quota) all.now }
+    ensures { IfOk result (λ tallies. IfSome tallies (λ each. (p : ℕ) → p < length weights.now →
+        IsTallyOf (length weights.now) (has (length weights.now) p) (completing weights.now quota)
+        (slice_index_or each p no_tally))) }
+{
+    let mut each = [*all; limits::MEMBERS];
+    let mut rows = Rows::new(alloc, quota)?;
+    let mut others = Rows::new(alloc, quota)?;
+    let mut done = [0; limits::SIZES];
+    let mut rest = total;
+    for place in 0..weights.len() {
+        rest -= weights[place];
+        others.copy(&rows.row)?;
+        let mut without = done;
+        if !others.finish(weights, place + 1, rest, &mut without)? {
+            return Ok(None);
+        }
+        each[place] = difference(all, &without);
+        rows.go_on(weights[place], rest, &mut done)?;
+    }
+    Ok(Some(each))
+}

@@ -1,0 +1,191 @@
+//! Counts by sums: against binomial numbers, against every subset and against the threads.
+use council_game::{Game, GameFault, Rule, plain_list};
+use mwc_sums::count_by_sums;
+use mwc_tally::{NoWatch, tally};
+use power_index::WideCounts;
+use power_index::laws::minimal_coalitions_can_be_counted;
+use std::alloc::Global;
+use std::process::Abort;
+use std::test::Fail;
+
+/// Two numbers are the same.
+fn same(rt: &impl Abort, found: u64, wanted: u64, label: &str) {
+    assert!(rt; found == wanted, "{label}: {found} and not {wanted}");
+}
+
+/// A game of members named 0, 1, ..
+fn game(alloc: Global, quota: u64, weights: &[u64]) -> Result<Game, GameFault> {
+    let mut names = Vec::new(alloc);
+    let mut own = Vec::new(alloc);
+    for (i, weight) in weights.iter().enumerate() {
+        names.push(format!(in alloc; "{i}")?)?;
+        own.push(*weight)?;
+    }
+    if own.len() != names.len() {
+        return Err(GameFault::Members);
+    }
+    Game::new(alloc, None, names, own, quota)
+}
+
+/// All numbers of two counts are the same.
+fn same_counts(rt: &impl Abort, found: &WideCounts, wanted: &WideCounts) {
+    let members = found.members();
+    assert!(rt; members == wanted.members());
+    same(rt, found.total(), wanted.total(), "total");
+    for size in 0..members + 1 {
+        same(rt, found.of_size(size), wanted.of_size(size), "of a size");
+    }
+    for member in 0..members {
+        same(
+            rt,
+            found.of_member(member),
+            wanted.of_member(member),
+            "of a member",
+        );
+        for size in 0..members + 1 {
+            let own = found.of_member_size(member, size);
+            same(
+                rt,
+                own,
+                wanted.of_member_size(member, size),
+                "of a member and a size",
+            );
+        }
+    }
+}
+
+/// The counts by sums, which serve here.
+fn by_sums(alloc: Global, game: &Game) -> Result<WideCounts, Fail> {
+    match count_by_sums(alloc, game) {
+        Ok(Some(counts)) => Ok(counts),
+        Ok(None) => Err(Fail::from("sums do not serve")),
+        Err(_) => Err(Fail::from("out of memory")),
+    }
+}
+
+/// The counts of the minimal ones of all subsets, of a game of at most 20 members.
+fn by_subsets(rt: &impl Abort, alloc: Global, game: &Game) -> Result<WideCounts, Fail> {
+    assert!(rt; game.members() <= 20);
+    let list = plain_list(alloc, game)?;
+    minimal_coalitions_can_be_counted();
+    Ok(WideCounts::of(game, &list))
+}
+
+/// Numbers that look random, each made from the one before.
+fn next(state: u64) -> u64 {
+    state
+        .wrapping_mul(6_364_136_223_846_793_005)
+        .wrapping_add(1_442_695_040_888_963_407)
+}
+
+/// A game of so many members at most and weights below a number above 0, chosen by a seed: with ties, zeros
+/// and quotas of every kind. The last member has some weight, so that a quota can be met.
+fn random_game(
+    rt: &impl Abort,
+    alloc: Global,
+    seed: u64,
+    most: u64,
+    below: u64,
+) -> Result<Game, Fail> {
+    assert!(rt; 0 < most);
+    assert!(rt; 0 < below);
+    let mut state = next(seed);
+    let members = (state >> 33) % most;
+    let mut weights = Vec::new(alloc);
+    let mut total: u64 = 1;
+    for _ in 0..members {
+        state = next(state);
+        let weight = (state >> 20) % below;
+        weights.push(weight)?;
+        total = total.saturating_add(weight);
+    }
+    weights.push(1)?;
+    state = next(state);
+    assert!(rt; 0 < total);
+    Ok(game(alloc, (state >> 20) % total + 1, &weights)?)
+}
+
+#[test]
+fn random_games_as_all_subsets(rt: HostRuntime) -> Result<(), Fail> {
+    let alloc = rt.alloc();
+    for seed in 0..60 {
+        for below in [2, 3, 7, 100, 1_000_000_000_000] {
+            let game = random_game(&rt, alloc, seed, 10, below)?;
+            let found = by_sums(alloc, &game)?;
+            same_counts(&rt, &found, &by_subsets(&rt, alloc, &game)?);
+        }
+    }
+    Ok(())
+}
+
+#[test]
+fn random_games_as_the_threads(rt: HostRuntime) -> Result<(), Fail> {
+    let alloc = rt.alloc();
+    for seed in 100..120 {
+        for below in [2, 5, 40, 1000, 1_000_000] {
+            let game = random_game(&rt, alloc, seed, 22, below)?;
+            let found = by_sums(alloc, &game)?;
+            let wanted = tally(&rt, alloc, &game, 0, 2, &NoWatch)?;
+            same_counts(&rt, &found, &wanted);
+        }
+    }
+    Ok(())
+}
+
+/// Of 40 equal members those coalitions are minimal that have just as many members as the quota asks for.
+#[test]
+fn forty_equal_members_by_binomial_numbers(rt: HostRuntime) -> Result<(), Fail> {
+    let alloc = rt.alloc();
+    let mut all: u64 = 1;
+    for quota in 1..41u64 {
+        all = all.saturating_mul(41 - quota) / quota;
+        let game = game(alloc, quota, &[1; 40])?;
+        let counts = by_sums(alloc, &game)?;
+        assert!(rt; counts.members() == 40);
+        same(&rt, counts.total(), all, "of 40");
+        same(&rt, counts.of_size(quota as usize), all, "of 40 by size");
+        for member in 0..40 {
+            let found = counts.of_member(member).saturating_mul(40);
+            same(
+                &rt,
+                found,
+                all.saturating_mul(quota),
+                "of a member, 40 times",
+            );
+        }
+    }
+    Ok(())
+}
+
+/// The rows of weights that have nothing in common double with each member.
+#[test]
+fn more_room_than_there_is(rt: HostRuntime) -> Result<(), Fail> {
+    let alloc = rt.alloc();
+    let mut weights = [0; 40];
+    let mut state = 1;
+    for member in 0..40 {
+        state = next(state);
+        weights[member] = 1_000_000_000_000 - (state >> 30);
+    }
+    let game = game(alloc, 15_000_000_000_000, &weights)?;
+    assert!(rt; count_by_sums(alloc, &game).is_ok_and(|counts| counts.is_none()));
+    Ok(())
+}
+
+#[test]
+fn two_rules_are_not_taken(rt: HostRuntime) -> Result<(), Fail> {
+    let alloc = rt.alloc();
+    let mut names = Vec::new(alloc);
+    let mut rules = Vec::new(alloc);
+    for name in ["A", "B"] {
+        names.push(format!(in alloc; "{name}")?)?;
+        rules.push(Rule {
+            quota: 1,
+            weights: Vec::from_array(alloc, [1, 1])?,
+        })?;
+    }
+    assert!(rt; names.len() == 2);
+    let game = Game::with_rules(alloc, None, names, rules)?;
+    assert!(rt; count_by_sums(alloc, &game).is_ok_and(|counts| counts.is_none()));
+    Ok(())
+}
