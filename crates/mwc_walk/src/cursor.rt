@@ -109,8 +109,9 @@ impl Cursor {
             self.visits = self.visits.saturating_add(1);
             return Step::On;
         }
+        let found = Coalition::of_mask(self.prefix << (self.members - place));
         self.fresh = false;
-        Step::Give(Coalition::of_mask(self.prefix << (self.members - place)))
+        Step::Give(found)
     }
 
     /// Whether the prefix has a member whom each rule can spare, here and so in each coalition below: none

@@ -30,8 +30,8 @@ returns-then-not-all_win c =
     enter-in (votes_of c.args.game.now) c.args.self.now _ _ c.saturating_add-self.ensures (omega arith) c.requires.is c.requires.fresh
     (sym c.all_reach.ensures ∙ c.if-not-all_reach.false) (sym c.all_win.ensures ∙ c.if-not-all_win.true) part.room part.taken
 
-pub of_mask-requires : goal.of_mask-requires
-of_mask-requires c =
+pub of_mask-found-requires : goal.of_mask-found-requires
+of_mask-found-requires c =
     let short = enter-short (votes_of c.args.game.now) c.args.self.now c.requires.is in
     let most : 2 ^ (votes_of c.args.game.now).members ≤ 2 ^ 40 = pow_mono c.requires.is.game.few in
     let mask = enter-mask (votes_of c.args.game.now) c.args.self.now c.requires.is in
@@ -39,7 +39,7 @@ of_mask-requires c =
 
 pub returns : goal.returns
 returns c =
-    let m = c.of_mask.ensures ∙ enter-mask (votes_of c.args.game.now) c.args.self.now c.requires.is in
+    let m = c.of_mask-found.ensures ∙ enter-mask (votes_of c.args.game.now) c.args.self.now c.requires.is in
     let won = win-is _ _ c.requires.is true (sym c.all_win.ensures ∙ c.if-not-all_win.false) in
     subst (λ (i : ℕ). GivesNext (votes_of c.args.game.now) c.args.self.now i (record c.args.self.now { fresh = false })) (sym m)
     (enter-give (votes_of c.args.game.now) c.args.self.now c.requires.is c.requires.fresh won (c.if-spares_one.ensures.none refl won))
