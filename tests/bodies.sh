@@ -2,7 +2,8 @@
 # Wrong bodies that no clause refuses, or not with every reading of it, since want of memory, a failed read or
 # write, threads and time are in no contract. Each edit of bodies/ is of the form of a must-fail edit, with a
 # first line `test: NAME in CRATE`; it is put into a copy of the crate, whose tests are run without a proof,
-# and the test of that name must fail.
+# and the test of that name must fail. The tests of a crate that stand in a crate of their own, CRATE_tests,
+# are put into the copy too, as a module of it.
 #
 #     tests/bodies.sh [NAME..]            the edits of these names, or all, half a minute to a minute each
 #     tests/bodies.sh --fit [NAME..]      says only whether each can still be put into the sources
@@ -37,6 +38,15 @@ for crate in "$top"/crates/*; do
         cp -rp "$top/crates/$crate/out/rlib" "$room/crates/$crate/out/"
     fi
 done
+# Puts the tests of a crate of their own into the crate.
+bring_tests() {
+    local tests=$top/crates/$1_tests/src
+    [ -d "$tests" ] || return 0
+    cp -rp "$tests"/tests* "$room/crates/$1/src/"
+    find "$room/crates/$1/src" -path '*/tests*' -name '*.rt' -exec sed -i "s/^use $1::/use crate::/" {} +
+    printf '\n#[cfg(test)]\nmod tests;\n' >>"$room/crates/$1/src/lib.rt"
+}
+
 # Whether the test failed.
 judge() {
     if grep -q "^test tests::\(.*::\)\{0,1\}$test \.\.\. FAILED" "$room/said"; then
@@ -81,6 +91,7 @@ END
     elif [ $fit = yes ]; then
         echo "ok body $name: it can be put into the sources"
     else
+        bring_tests "$crate"
         (cd "$room/crates/$crate" && rt try --test) >"$room/said" 2>&1 </dev/null
         judge
     fi

@@ -33,7 +33,7 @@ command -v find >/dev/null || {
     skipped "$(basename "$0")" "the command find was not found"
     exit 0
 }
-for name in council_game council_file mwc_walk mwc_pipe power_index mwc_tally mwc_gather council_run; do
+for name in council_game council_file mwc_walk_tests mwc_pipe power_index mwc_tally mwc_gather council_run; do
     are_built "$name" || exit 1
 done
 
@@ -143,11 +143,11 @@ takes_memory council_file reads_a_fault
 takes_memory council_file reads_up_to_an_error
 takes_memory council_file reads_too_much
 takes_memory council_file writes_notation
-takes_memory mwc_walk lists_a_slice
-takes_memory mwc_walk lists_all
-takes_none mwc_walk walks_without_memory
-takes_none mwc_walk walks_under_two_rules_without_memory
-takes_none mwc_walk walks_under_four_rules_without_memory
+takes_memory mwc_walk_tests lists_a_slice
+takes_memory mwc_walk_tests lists_all
+takes_none mwc_walk_tests walks_without_memory
+takes_none mwc_walk_tests walks_under_two_rules_without_memory
+takes_none mwc_walk_tests walks_under_four_rules_without_memory
 takes_memory mwc_pipe puts_into_a_pipe
 takes_memory mwc_pipe puts_into_a_batch
 takes_memory mwc_pipe puts_a_row_into_a_batch
