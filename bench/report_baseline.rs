@@ -3,7 +3,7 @@
 //!
 //! `report_baseline FILE [--most N] [--list]` reads a game as `[q; w1, .., wn]` or as a game file of
 //! the plain form that `examples/` has (a key and its value on a line), lists its minimal winning
-//! coalitions by a depth-first walk with bounds, and prints the report that `council` prints for
+//! coalitions by a depth-first walk with bounds that leaves aside what has a member too many, and prints the report that `council` prints for
 //! these options. It checks little: it is for games that are right.
 
 use std::env;
@@ -119,6 +119,8 @@ struct Walk {
     weights: [Sums; 40],
     /// What the places from each one on weigh together.
     rest: [Sums; 41],
+    /// The places without weight under each rule, as a mask.
+    weightless: Sums,
     most: usize,
     found: Vec<u64>,
 }
@@ -132,6 +134,7 @@ impl Walk {
             quotas: [0; 4],
             weights: [[0; 4]; 40],
             rest: [[0; 4]; 41],
+            weightless: [0; 4],
             most,
             found: Vec::new(),
         };
@@ -140,6 +143,9 @@ impl Walk {
             for place in (0..members).rev() {
                 walk.weights[place][r] = rule.weights[game.ranked[place]];
                 walk.rest[place][r] = walk.rest[place + 1][r] + walk.weights[place][r];
+                if walk.weights[place][r] == 0 {
+                    walk.weightless[r] |= 1 << (members - 1 - place);
+                }
             }
         }
         walk
@@ -149,24 +155,36 @@ impl Walk {
         (0..self.rules).all(|r| self.quotas[r] <= sum(r))
     }
 
-    /// Whether a winning coalition loses without each one of its members. The lightest by the first
-    /// rule are tried first. With one rule it does: it lost before its last member came in.
-    fn is_minimal(&self, mask: u64, sums: &Sums) -> bool {
-        self.rules == 1
-            || places(mask, self.members)
-                .all(|place| !self.meets_all(|r| sums[r] - self.weights[place][r]))
+    /// Whether some member of a prefix is missed by no rule, with whatever comes to the prefix. With one rule
+    /// none is: the last member came in where the quota was not met. Only members without weight under each
+    /// rule whose quota is not met are tried.
+    fn spares_one(&self, mask: u64, sums: &Sums) -> bool {
+        if self.rules == 1 {
+            return false;
+        }
+        let mut few = mask;
+        for r in 0..self.rules {
+            if sums[r] < self.quotas[r] {
+                few &= self.weightless[r];
+            }
+        }
+        places(few, self.members).any(|place| {
+            (0..self.rules)
+                .all(|r| self.weights[place][r] <= sums[r].saturating_sub(self.quotas[r]))
+        })
     }
 
-    /// Lists what stands below the prefix of `place` places that `mask` is. Answers whether there is
-    /// still room for more.
-    fn decide(&mut self, place: usize, mask: u64, sums: Sums) -> bool {
+    /// Lists what stands below the prefix of `place` places that `mask` is, whose last one was just `taken` in
+    /// or left out. Answers whether there is still room for more.
+    fn decide(&mut self, place: usize, mask: u64, sums: Sums, taken: bool) -> bool {
+        if taken && self.spares_one(mask, &sums) {
+            return true;
+        }
         if self.meets_all(|r| sums[r]) {
-            if self.is_minimal(mask, &sums) {
-                if self.found.len() == self.most {
-                    return false;
-                }
-                self.found.push(mask);
+            if self.found.len() == self.most {
+                return false;
             }
+            self.found.push(mask);
             return true;
         }
         if !self.meets_all(|r| sums[r] + self.rest[place][r]) {
@@ -176,8 +194,8 @@ impl Walk {
         for r in 0..self.rules {
             more[r] += self.weights[place][r];
         }
-        self.decide(place + 1, mask | 1 << (self.members - 1 - place), more)
-            && self.decide(place + 1, mask, sums)
+        self.decide(place + 1, mask | 1 << (self.members - 1 - place), more, true)
+            && self.decide(place + 1, mask, sums, false)
     }
 }
 
@@ -312,7 +330,7 @@ fn main() -> ExitCode {
         return ExitCode::from(2);
     };
     let mut walk = Walk::new(&game, most);
-    if !walk.decide(0, 0, [0; 4]) {
+    if !walk.decide(0, 0, [0; 4], false) {
         eprintln!("too many minimal winning coalitions");
         return ExitCode::from(4);
     }

@@ -3,8 +3,8 @@
 
     noise.py PROGRAM COUNT SEED
 
-makes COUNT files from the games of examples/, each by some flips, cuts, repeats and joins of bytes,
-and runs PROGRAM on each, as FILE or on standard input and with options of all kinds. Whatever the
+makes COUNT files from the games of examples/, and from as many random games of two to four rules with many
+zeros and up to 40 members, each by some flips, cuts, repeats and joins of bytes, and runs PROGRAM on each, as FILE or on standard input and with options of all kinds. Whatever the
 file, the program ends by itself within a second, of the clock or of processor time, or on a slower or
 busier machine within three times what the slowest of the untouched games takes there, with a status
 from 0 to 5 that is not 2. A run that takes longer is tried again, for five minutes: a machine that others
@@ -41,8 +41,37 @@ TELLING = [b"[", b"]", b"[[", b"]]", b"=", b"\n", b"\r\n", b'"', b"'", b'"""', b
            b"quota", b"quotas", b"weight", b"weights", b"member", b"[[member]]\n", b"name", b"title = "]
 
 
+def several_rules(rng):
+    """A game file whose rules are vetoes, houses, heads, or random weights, most of them zeros."""
+    members = rng.randint(2, 40)
+    rules = []
+    for _ in range(rng.randint(2, 4)):
+        kind = rng.randrange(4)
+        if kind == 0:
+            chosen = rng.sample(range(members), rng.randint(1, min(3, members)))
+            weights = [int(member in chosen) for member in range(members)]
+            quota = rng.choice([1, len(chosen)])
+        elif kind == 1:
+            start = rng.randrange(members)
+            end = rng.randint(start + 1, members)
+            weights = [int(start <= member < end) for member in range(members)]
+            quota = rng.randint(1, min(3, end - start))
+        elif kind == 2:
+            weights = [1] * members
+            quota = rng.randint(1, min(4, members))
+        else:
+            weights = [0 if rng.randrange(3) else rng.randint(1, 50) for _ in range(members)]
+            weights[rng.randrange(members)] = 50
+            quota = rng.randint(1, max(1, sum(weights) // 4))
+        rules.append((quota, weights))
+    lines = [f"quotas = {[quota for quota, _ in rules]}"]
+    for member in range(members):
+        lines += ["[[member]]", f'name = "M{member}"', f"weights = {[weights[member] for _, weights in rules]}"]
+    return "".join(f"{line}\n" for line in lines).encode()
+
+
 def noisy(rng, games):
-    text = bytearray(rng.choice(games))
+    text = bytearray(rng.choice(games) if rng.randrange(2) else several_rules(rng))
     for _ in range(rng.choice([0, 1, 1, 1, 1, 2, 2, 3, 5, 20])):
         at = rng.randrange(len(text) + 1)
         end = min(len(text), at + rng.choice([1, 1, 1, 2, 5, 20, 100]))

@@ -43,6 +43,67 @@ equal 8 76904685 15380937
 equal 20 137846528820 68923264410
 equal 39 40 39
 
+# ---- games of several rules: the same bytes as a run
+# same_as_run NAME QUOTAS WEIGHTS..: of a game of these rules, the numbers of each with commas between them
+same_as_run() {
+    local name=$1 quotas=$2 member=0 weights
+    shift 2
+    {
+        echo "quotas = [$quotas]"
+        for weights in "$@"; do
+            member=$((member + 1))
+            printf '[[member]]\nname = "%s"\nweights = [%s]\n' "$member" "$weights"
+        done
+    } >"$temp/rules.toml"
+    run "$temp/rules.toml" --sizes
+    if succeeded "a run of $name"; then
+        cp "$temp/out" "$temp/wanted"
+        run --tally --sizes "$temp/rules.toml"
+        printed "--tally of $name" "$temp/wanted"
+    fi
+}
+# repeat COUNT WORD: the word so many times
+repeat() {
+    local left
+    for ((left = $1; left > 0; left--)); do echo "$2"; done
+}
+for directors in 23 39; do
+    mapfile -t votes < <(repeat "$directors" '1, 0')
+    same_as_run "$directors directors and a chair" '2, 1' '0, 1' "${votes[@]}"
+    mapfile -t votes < <(repeat "$directors" '0, 1')
+    same_as_run "a chair and $directors directors" '1, 2' '1, 0' "${votes[@]}"
+done
+for seats in 12 20; do
+    mapfile -t votes < <(repeat "$seats" '1, 0' && repeat "$seats" '0, 1')
+    same_as_run "two houses of $seats" '2, 2' "${votes[@]}"
+done
+# a president, a senate of seven and a house of thirteen, in each order of the rules
+unit=('1, 0, 0' '0, 1, 0' '0, 0, 1')
+for order in '0 1 2' '0 2 1' '1 0 2' '1 2 0' '2 0 1' '2 1 0'; do
+    read -r president senate house <<<"$order"
+    quotas=()
+    quotas[president]=1 quotas[senate]=4 quotas[house]=7
+    mapfile -t votes < <(repeat 1 "${unit[president]}" && repeat 7 "${unit[senate]}" && repeat 13 "${unit[house]}")
+    same_as_run "a president, a senate and a house as rules $order" "${quotas[0]}, ${quotas[1]}, ${quotas[2]}" "${votes[@]}"
+done
+# random weights up to 50 and zeros, and as quotas more than a third of what they add up to
+for rules in 2 3 4; do
+    x=$rules
+    needed=
+    votes=()
+    for ((rule = 0; rule < rules; rule++)); do
+        sum=0
+        for ((member = 0; member < 22; member++)); do
+            x=$(((75 * x + 74) % 65537))
+            weight=$((x % 3 == 0 ? 0 : x % 50 + 1))
+            sum=$((sum + weight))
+            votes[member]+=${votes[member]:+, }$weight
+        done
+        needed+=${needed:+, }$((sum / 3 + 1))
+    done
+    same_as_run "22 random members and $rules rules" "$needed" "${votes[@]}"
+done
+
 # ---- refusals
 for words in "--tally --list" "--list --tally" "--tally --most 5" "--most=1000000 --tally"; do
     read -ra flags <<<"$words"

@@ -16,7 +16,7 @@ use Rattle.council_game.proofs.Weights.{weight-without, weight-zero}
 use Rattle.mwc_walk.proofs.Rules.{weight-block, weight-step, wins-prefix, wins-over}
 
 -- places past the prefix are not in it
-place-before : (n p x q : ℕ) → p ≤ n → q < n → has n q (x * 2 ^ (n - p)) ≡ true → q < p
+pub place-before : (n p x q : ℕ) → p ≤ n → q < n → has n q (x * 2 ^ (n - p)) ≡ true → q < p
 unfolding has
 place-before n p x q le below in' =
     elim (cases_lt q p) [

@@ -8,7 +8,7 @@ use Rattle.council_game.specs.Votes.{Votes, IsVotes, has, without, wins, minimal
 use Rattle.council_game.specs.Inner.Below.{minimal_below}
 use Rattle.council_game.proofs.Meanings.{needs-each-member}
 use Rattle.mwc_walk.specs.Slices.{slice}
-use Rattle.mwc_walk.specs.Inner.Places.{in_slice, slice_below, reaches, wins_at}
+use Rattle.mwc_walk.specs.Inner.Places.{in_slice, slice_below, reaches, wins_at, NothingBelow}
 use Rattle.mwc_walk.proofs.Blocks.{some_digit}
 use Rattle.mwc_walk.proofs.Descending.{filter-down_skip, filter-filter_skip, filter-filter_none, filter-down_take, block-prefix, before-block, past-block}
 use Rattle.mwc_walk.proofs.Rules.{wins-below, loses-below}
@@ -35,15 +35,18 @@ above-not_minimal v p x c game le win low high min =
     both_ways _ lost still
 
 -- a prefix that cannot reach some quota has nothing below it
-pub left-dead : (v : Votes) (k j p x : ℕ) → IsVotes v → p ≤ v.members → reaches v.rules p x ≡ false → slice_below v k j ((x + 1) * 2 ^ (v.members - p)) ≡ slice_below v k j (x * 2 ^ (v.members - p))
+pub dead-nothing : (v : Votes) (p x : ℕ) → IsVotes v → p ≤ v.members → reaches v.rules p x ≡ false → NothingBelow v p x
+dead-nothing v p x game le dead =
+    λ c prefix. unfold minimal in and_left _ _ (false_from_ne_true _ (λ w.
+    both_ways _ dead (ap (reaches v.rules p) (sym prefix) ∙ loses-below v.members v.rules game.rules p c le w)))
+
+-- where nothing is below a prefix, it leaves the same
+pub left-nothing : (v : Votes) (k j p x : ℕ) → NothingBelow v p x → slice_below v k j ((x + 1) * 2 ^ (v.members - p)) ≡ slice_below v k j (x * 2 ^ (v.members - p))
 unfolding slice_below minimal_below
-left-dead v k j p x game le dead =
-    let fails : (c : ℕ) → x * 2 ^ (v.members - p) ≤ c → c < x * 2 ^ (v.members - p) + 2 ^ (v.members - p) → minimal v c ≡ false =
-    λ c low high. unfold minimal in and_left _ _ (false_from_ne_true _ (λ w.
-    both_ways _ dead (ap (reaches v.rules p) (sym (block-prefix x (v.members - p) c low high)) ∙ loses-below v.members v.rules game.rules p c le w))) in
+left-nothing v k j p x nothing =
     ap (in_slice v k j) (
     ap (λ (i : ℕ). filter (minimal v) (down i)) (next-block x (v.members - p))
-    ∙ filter-down_skip (minimal v) (x * 2 ^ (v.members - p)) (2 ^ (v.members - p)) fails)
+    ∙ filter-down_skip (minimal v) (x * 2 ^ (v.members - p)) (2 ^ (v.members - p)) (λ c low high. nothing c (block-prefix x (v.members - p) c low high)))
 
 -- below a winning prefix only the prefix with zeros is left
 pub left-won : (v : Votes) (k j p x : ℕ) → IsVotes v → p ≤ v.members → wins_at v.rules p x ≡ true → slice_below v k j ((x + 1) * 2 ^ (v.members - p)) ≡ slice_below v k j (x * 2 ^ (v.members - p) + 1)
@@ -55,12 +58,6 @@ left-won v k j p x game le win =
     ap (λ (i : ℕ). filter (minimal v) (down i)) e
     ∙ filter-down_skip (minimal v) (x * 2 ^ (v.members - p) + 1) (2 ^ (v.members - p) - 1)
     (λ c low high. false_from_ne_true _ (above-not_minimal v p x c game le win (omega arith) (omega arith))))
-
--- c itself, where it is not minimal
-pub left-drop : (v : Votes) (k j c : ℕ) → minimal v c ≡ false → slice_below v k j (c + 1) ≡ slice_below v k j c
-unfolding slice_below minimal_below
-left-drop v k j c h =
-    ap (in_slice v k j) (filter-down_skip (minimal v) c 1 (λ d low high. ap (minimal v) (let e : d ≡ c = omega arith in e) ∙ h))
 
 -- c itself, where it is minimal and in the slice
 pub left-take : (v : Votes) (k j c : ℕ) → minimal v c ≡ true → c / 2 ^ (v.members - k) ≡ 2 ^ k - 1 - j → slice_below v k j (c + 1) ≡ c ∷ slice_below v k j c

@@ -13,9 +13,9 @@ use Rattle.mwc_walk.specs.declared.step.Step.TheVariants.{On, Give, End}
 use Rattle.mwc_walk.specs.Inner.Lanes.{lane_with, lane_without, lane_reaches, lane_wins}
 use Rattle.council_game.specs.Votes.{RuleView, Votes, IsVotes, IsRule, minimal}
 use Rattle.mwc_walk.specs.Slices.{slice}
-use Rattle.mwc_walk.specs.Inner.Places.{slice_below, reaches, wins_at, LanesAre}
+use Rattle.mwc_walk.specs.Inner.Places.{slice_below, reaches, wins_at, LanesAre, NothingBelow}
 use Rattle.mwc_walk.specs.Inner.Cursor.{rest_of_slice, new_visit, open_visits, IsPlace, CountsVisits, CursorIs, Follows, Steps}
-use Rattle.mwc_walk.proofs.Rest.{left-dead, left-won, left-drop, left-take, left-none}
+use Rattle.mwc_walk.proofs.Rest.{dead-nothing, left-nothing, left-won, left-take, left-none}
 use Rattle.mwc_walk.proofs.One.{one-minimal, won-odd, empty-loses, slice-short, in-slice}
 use Rattle.mwc_walk.proofs.Tables.{lanes-in, lanes-out, lanes-up, fits-in, fits-out, lanes-reach, lanes-win}
 use Rattle.mwc_walk.proofs.Rules.{wins-more, reaches-in, full-reach}
@@ -212,7 +212,13 @@ pass-by v a is fresh same none =
 -- a prefix that cannot reach some quota is passed by
 pub enter-dead : (v : Votes) (a : Cursor) → CursorIs v a → a.fresh ≡ true → reaches v.rules a.place a.prefix ≡ false → Steps v a On (record a { fresh = false })
 enter-dead v a is fresh dead =
-    pass-by v a is fresh (sym (left-dead v a.bits a.number a.place a.prefix is.game is.place.to dead)) (λ _. cond-false (reaches v.rules a.place a.prefix) _ _ dead)
+    pass-by v a is fresh (sym (left-nothing v a.bits a.number a.place a.prefix (dead-nothing v a.place a.prefix is.game is.place.to dead))) (λ _. cond-false (reaches v.rules a.place a.prefix) _ _ dead)
+
+-- so is one with nothing below it: with one rule, at the fixed places
+pub enter-spare : (v : Votes) (a : Cursor) → CursorIs v a → a.fresh ≡ true → NothingBelow v a.place a.prefix → (a.rules ≡ 1 → a.place ≡ a.bits) → Steps v a On (record a { fresh = false })
+enter-spare v a is fresh nothing fixed =
+    pass-by v a is fresh (sym (left-nothing v a.bits a.number a.place a.prefix nothing))
+    (λ one. let at = fixed (is.rules ∙ one) in let extra = open-most v a.place a.prefix (a.place - a.bits) in omega (arith, at, extra))
 
 -- what the tests on the lanes say of the rules
 pub reach-is : (v : Votes) (a : Cursor) → CursorIs v a → (t : Bool) → list_all (lane_reaches a.place) (take a.rules a.lanes) ≡ t → reaches v.rules a.place a.prefix ≡ t
@@ -305,15 +311,6 @@ enter-give v a is fresh won min =
       stale = refl;
     }) is
 
--- one that is not minimal is passed by
-pub enter-drop : (v : Votes) (a : Cursor) → CursorIs v a → a.fresh ≡ true → wins_at v.rules a.place a.prefix ≡ true → minimal v (a.prefix * 2 ^ (v.members - a.place)) ≡ false → Steps v a On (record a { fresh = false })
-enter-drop v a is fresh won min =
-    pass-by v a is fresh (sym (won-left v a is won ∙ left-drop v a.bits a.number (a.prefix * 2 ^ (v.members - a.place)) min))
-    (λ one. elim (cases_lt a.bits a.place) [
-      | inl lt ↦ absurd (both_ways _ min (one-minimal v a.place a.prefix is.game one (omega arith) is.place.to won (is.place.passed lt)))
-      | inr ge ↦ let extra = open-most v a.place a.prefix (a.place - a.bits) in omega arith
-    ])
-
 -- the number of a prefix with zeros after it
 pub enter-short : (v : Votes) (a : Cursor) → CursorIs v a → a.prefix * 2 ^ (v.members - a.place) < 2 ^ v.members
 enter-short v a is =
@@ -326,10 +323,15 @@ enter-mask v a is =
     ap (λ (i : ℕ). a.prefix * 2 ^ (i - a.place) % 2 ^ 64) is.members
     ∙ shl_whole a.prefix a.place (v.members - a.place) 64 is.place.short (omega arith)
 
--- what wins first in a game of one rule is minimal
-pub one-is : (v : Votes) (a : Cursor) (m : ℕ) → CursorIs v a → m ≡ a.prefix * 2 ^ (v.members - a.place) → a.rules ≡ 1 → a.bits < a.place → wins_at v.rules a.place a.prefix ≡ true → minimal v m ≡ true
-one-is v a m is e one lt won =
-    ap (minimal v) e ∙ one-minimal v a.place a.prefix is.game (sym is.rules ∙ one) (omega arith) is.place.to won (is.place.passed lt)
+-- past the fixed places, what wins with one rule is minimal
+pub one-is : (v : Votes) (a : Cursor) → CursorIs v a → a.bits < a.place → a.rules ≡ 1 → wins_at v.rules a.place a.prefix ≡ true → minimal v (a.prefix * 2 ^ (v.members - a.place)) ≡ true
+one-is v a is lt one won = one-minimal v a.place a.prefix is.game (sym is.rules ∙ one) (omega arith) is.place.to won (is.place.passed lt)
+
+-- and what wins has its last place in
+pub even-loses : (v : Votes) (a : Cursor) → CursorIs v a → a.bits < a.place → a.prefix % 2 ≡ 0 → wins_at v.rules a.place a.prefix ≡ true → ⊥
+even-loses v a is lt even won =
+    let odd : a.prefix % 2 ≡ 1 = won-odd v.members a.place a.prefix v.rules (omega arith) is.place.to is.game.rules won (is.place.passed lt) in
+    omega (arith, even, odd)
 
 -- between two calls no descent is under way
 pub rest-most : (v : Votes) (a : Cursor) → CursorIs v a → (a.fresh ≡ true → a.place ≡ a.bits) → length v.rules ≡ 1 → a.visits + (v.members - a.bits) * length (rest_of_slice v a) ≤ a.bits + (v.members - a.bits) * length (slice v a.bits a.number)

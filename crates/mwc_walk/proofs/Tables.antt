@@ -32,6 +32,7 @@ lane-at s is e = record {
   quota = is.quota;
   weights = is.weights;
   rest = is.rest;
+  weightless = is.weightless;
   sum_is = e;
 }
 

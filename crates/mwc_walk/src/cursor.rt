@@ -2,10 +2,10 @@
 ghost use Rattle.std.specs.Prelude.{◌≡◌, ◌*◌, ◌-◌, ◌^◌, ◌<◌, ◌≤◌, false, true, length};
 ghost use Rattle.council_game.specs.Game.{votes_of};
 ghost use Rattle.council_game.specs.Votes.{minimal};
-ghost use Rattle.mwc_walk.specs.Inner.Places.{wins_at};
+ghost use Rattle.mwc_walk.specs.Inner.Places.{wins_at, NothingBelow};
 ghost use Rattle.mwc_walk.specs.Inner.Cursor.{CursorIs, Steps, Runs, Starts};
 
-use crate::lane::{Lane, all_reach, all_win, all_win_without, leave_out, take_in};
+use crate::lane::{Lane, all_reach, all_spare, all_win, leave_out, may_be_spared, take_in};
 use crate::step::Step;
 use council_game::{Coalition, Game, limits};
 
@@ -88,9 +88,9 @@ impl Cursor {
         }
     }
 
-    /// Looks at a fresh prefix: passes by one that can no longer meet some quota, takes the next
-    /// member into one that does not win yet, and gives one that wins where it is minimal, never
-    /// going on below it.
+    /// Looks at a fresh prefix: passes by one that can no longer meet some quota, and one with a member
+    /// who can be spared; takes the next member into one that does not win yet; and gives one that
+    /// wins, never going on below it.
     fn enter(&mut self, game: &Game) -> Step
         requires is { CursorIs (votes_of game.now) self.old }
         requires fresh { self.old.fresh ≡ true }
@@ -98,7 +98,7 @@ impl Cursor {
     {
         let rules = self.rules;
         let place = self.place;
-        if !all_reach(&self.lanes[..rules], place) {
+        if !all_reach(&self.lanes[..rules], place) || self.spares_one(game) {
             self.fresh = false;
             return Step::On;
         }
@@ -109,42 +109,42 @@ impl Cursor {
             self.visits = self.visits.saturating_add(1);
             return Step::On;
         }
-        let coalition = Coalition::of_mask(self.prefix << (self.members - place));
-        let found = self.is_minimal(game, coalition);
+        let found = Coalition::of_mask(self.prefix << (self.members - place));
         self.fresh = false;
-        if found {
-            Step::Give(coalition)
-        } else {
-            Step::On
-        }
+        Step::Give(found)
     }
 
-    /// Whether a winning prefix, with no more members, is minimal. With one rule it is, past the
-    /// fixed places: without its last member it lost, and no other is lighter. Else each member that
-    /// is in is tried, the last by rank first, by the weights that the lanes hold, up to one without
-    /// whom the first quota is not met: by the first rule no member before it is lighter.
-    fn is_minimal(&self, game: &Game, coalition: Coalition) -> bool
-        requires is { CursorIs (votes_of game.now) self.now }
-        requires won { wins_at (votes_of game.now).rules self.now.place self.now.prefix ≡ true }
-        requires mask { coalition ≡
-            self.now.prefix * 2 ^ ((votes_of game.now).members - self.now.place) }
-        ensures { result ≡ minimal (votes_of game.now) coalition }
+    /// Whether the prefix has a member whom each rule can spare, here and so in each coalition below: none
+    /// of them is minimal then, and a winning prefix without such a member is. Sought only where a
+    /// member was taken in, and at the fixed places; never past them with one rule, under which the last
+    /// member is the lightest and was needed. Tried from the last by rank, up to one whom the first
+    /// rule can not spare: by that rule no member before it is lighter.
+    fn spares_one(&self, game: &Game) -> bool
+        requires { CursorIs (votes_of game.now) self.now }
+        ensures some { result ≡ true →
+            NothingBelow (votes_of game.now) self.now.place self.now.prefix }
+        ensures one { result ≡ true → self.now.rules ≡ 1 → self.now.place ≡ self.now.bits }
+        ensures none { result ≡ false →
+            wins_at (votes_of game.now).rules self.now.place self.now.prefix ≡ true →
+            minimal (votes_of game.now)
+            (self.now.prefix * 2 ^ ((votes_of game.now).members - self.now.place)) ≡ true }
     {
-        if self.rules == 1 && self.place > self.bits {
-            return true;
+        if self.place > self.bits && (self.rules == 1 || self.prefix % 2 == 0) {
+            return false;
         }
-        let mut rest = coalition;
-        while rest.mask() != 0 {
-            let place = self.members - 1 - rest.mask().trailing_zeros() as usize;
-            if !self.lanes[0].wins_without(place) {
-                return true;
-            }
-            if all_win_without(&self.lanes[..self.rules], place) {
+        let lanes = &self.lanes[..self.rules];
+        let mut rest = may_be_spared(lanes, self.prefix << (self.members - self.place));
+        while rest != 0 {
+            let place = self.members - 1 - rest.trailing_zeros() as usize;
+            if !lanes[0].spares(place) {
                 return false;
             }
-            rest = rest.without(self.members, place);
+            if all_spare(lanes, place) {
+                return true;
+            }
+            rest &= rest - 1;
         }
-        true
+        false
     }
 
     /// Comes back: leaves the last member out, where it is in, or goes up by one place.

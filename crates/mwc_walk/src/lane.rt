@@ -1,11 +1,11 @@
 //! What the walk knows of each rule. Most games have one rule: the functions over all rules then go
 //! straight to its lane, which takes a fifth off the time of a walk.
-ghost use Rattle.std.specs.Prelude.{◌≡◌, ◌+◌, ◌^◌, ◌<◌, ◌≤◌, ℕ, length, take, drop, map, slice_index};
+ghost use Rattle.std.specs.Prelude.{◌≡◌, ◌==◌, ◌&&◌, ◌+◌, ◌^◌, ◌<◌, ◌≤◌, ℕ, length, take, drop, map, slice_index};
 ghost use Rattle.std.specs.List.{list_all, All, sum};
 ghost use Rattle.council_game.specs.Game.{votes_of};
-ghost use Rattle.council_game.specs.Votes.{rule_at};
+ghost use Rattle.council_game.specs.Votes.{rule_at, has};
 ghost use Rattle.mwc_walk.specs.Inner.Places.{LaneIs};
-ghost use Rattle.mwc_walk.specs.Inner.Lanes.{lane_reaches, lane_wins, lane_wins_without, lane_with, lane_without};
+ghost use Rattle.mwc_walk.specs.Inner.Lanes.{lane_reaches, lane_wins, lane_spares, lane_may_spare, lane_with, lane_without};
 
 use council_game::{Game, limits};
 
@@ -15,6 +15,8 @@ pub(crate) struct Lane {
     pub(crate) quota: u64,
     /// The weight of the members that are in.
     pub(crate) sum: u64,
+    /// The rank mask of the members without weight.
+    pub(crate) weightless: u64,
     /// The weights, in rank order.
     pub(crate) weights: [u64; limits::MEMBERS],
     /// What the places from each one on weigh together.
@@ -33,6 +35,7 @@ impl Lane {
         Lane {
             quota: game.rule_quota(rule),
             sum: 0,
+            weightless: weightless_of(&weights, members),
             weights,
             rest: rest_of(&weights, members),
         }
@@ -53,12 +56,12 @@ impl Lane {
         self.quota <= self.sum
     }
 
-    /// Whether the quota is met without the member of a place, which is in.
-    pub(crate) fn wins_without(&self, place: usize) -> bool
+    /// Whether the member of a place can be spared: what the rule has beyond its quota weighs as much.
+    pub(crate) fn spares(&self, place: usize) -> bool
         requires { place < 40 }
-        ensures { result ≡ lane_wins_without place self.now }
+        ensures { result ≡ lane_spares place self.now }
     {
-        self.quota <= self.sum.saturating_sub(self.weights[place])
+        self.weights[place] <= self.sum.saturating_sub(self.quota)
     }
 }
 
@@ -91,6 +94,18 @@ fn rest_of(weights: &[u64; limits::MEMBERS], members: usize) -> [u64; limits::SI
     rest
 }
 
+/// The rank mask of the members without weight.
+fn weightless_of(weights: &[u64; limits::MEMBERS], members: usize) -> u64
+    requires { members ≤ 40 }
+    ensures { (q : ℕ) → q < members → has members q result ≡ (slice_index weights.now q == 0) }
+{
+    let mut mask = 0;
+    for place in 0..members {
+        mask = 2 * mask + u64::from(weights[place] == 0);
+    }
+    mask
+}
+
 /// Whether each quota can still be met, by all members from a place on.
 pub(crate) fn all_reach(lanes: &[Lane], place: usize) -> bool
     requires { place ≤ 40 }
@@ -112,12 +127,28 @@ pub(crate) fn all_win(lanes: &[Lane]) -> bool
     }
 }
 
-/// Whether each quota is met without the member of a place, which is in.
-pub(crate) fn all_win_without(lanes: &[Lane], place: usize) -> bool
+/// Whether each rule can spare the member of a place.
+pub(crate) fn all_spare(lanes: &[Lane], place: usize) -> bool
     requires { place < 40 }
-    ensures { result ≡ list_all (lane_wins_without place) lanes.now }
+    ensures { result ≡ list_all (lane_spares place) lanes.now }
 {
-    lanes.iter().all(|lane| lane.quota <= lane.sum.saturating_sub(lane.weights[place]))
+    lanes.iter().all(|lane| lane.weights[place] <= lane.sum.saturating_sub(lane.quota))
+}
+
+/// Of the members of a mask those that each rule may spare: a rule whose quota is not met yet spares
+/// none that has a weight.
+pub(crate) fn may_be_spared(lanes: &[Lane], mask: u64) -> u64
+    ensures less { result ≤ mask }
+    ensures places { (n q : ℕ) → has n q result ≡
+        (has n q mask && list_all (lane_may_spare n q) lanes.now) }
+{
+    let mut few = mask;
+    for lane in lanes {
+        if !lane.wins() {
+            few &= lane.weightless;
+        }
+    }
+    few
 }
 
 /// Takes the member of a place in.

@@ -10,8 +10,8 @@ use std::marker::Model;
 
 /// A walk over the minimal winning coalitions of one slice, in listing order, which stops at each
 /// and goes on. It takes no memory. Under one rule a visit past the fixed places costs the same for any
-/// number of members; a set that wins at the fixed places, and under several rules each winning set
-/// that it meets, is tried without each of its members.
+/// number of members. At the fixed places, and under several rules at each visit, those members of the
+/// prefix are tried whom each rule may spare, and where one can be spared nothing below is visited.
 ///
 /// Contracts see the votes of its game, the bits, the number of its slice, the coalitions that are
 /// still to come, and the count of visits.

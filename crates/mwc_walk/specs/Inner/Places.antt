@@ -1,8 +1,8 @@
 -- A place of the walk: x is the number of the first p places.
-use Rattle.std.specs.Prelude.{ℕ, ◌+◌, ◌-◌, ◌/◌, ◌^◌, ◌==◌, ◌≡◌, ◌≤◌, ◌<◌, Bool, nat_le, List, take, drop, slice_index}
+use Rattle.std.specs.Prelude.{ℕ, ◌+◌, ◌-◌, ◌/◌, ◌^◌, ◌==◌, ◌≡◌, ◌≤◌, ◌<◌, Bool, false, nat_le, List, take, drop, slice_index}
 use Rattle.std.specs.List.{filter, sum, list_all, AllZip}
 use Rattle.mwc_walk.specs.declared.lane.Lane.{Lane}
-use Rattle.council_game.specs.Votes.{Votes, RuleView, IsRule, weight}
+use Rattle.council_game.specs.Votes.{Votes, RuleView, IsRule, has, weight, minimal}
 use Rattle.council_game.specs.Inner.Below.{minimal_below}
 
 -- of a list of coalitions, those of slice j at k bits
@@ -22,12 +22,22 @@ reaches rules p x =
 unfoldable pub wins_at : List RuleView → ℕ → ℕ → Bool
 wins_at rules p x = list_all (λ r. nat_le r.quota (weight (take p r.weights) x)) rules
 
+-- each rule can spare place q, which is in: what it has beyond its quota weighs as much
+unfoldable pub spares : List RuleView → ℕ → ℕ → ℕ → Bool
+spares rules p x q =
+    list_all (λ r. nat_le (slice_index r.weights q) (weight (take p r.weights) x - r.quota)) rules
+
+-- no coalition that begins with the prefix is minimal
+abbrev pub NothingBelow : Votes → ℕ → ℕ → Type 0
+NothingBelow v p x = (c : ℕ) → c / 2 ^ (v.members - p) ≡ x → minimal v c ≡ false
+
 -- lane l is that of rule r, at the prefix x of p places
 pub record LaneIs (n p x : ℕ) (r : RuleView) (l : Lane) : Type 0 where
   pub rule : IsRule n r
   pub quota : l.quota ≡ r.quota
   pub weights : (q : ℕ) → q < n → slice_index l.weights q ≡ slice_index r.weights q
   pub rest : (q : ℕ) → q ≤ n → slice_index l.rest q ≡ sum (drop q r.weights)
+  pub weightless : (q : ℕ) → q < n → has n q l.weightless ≡ (slice_index r.weights q == 0)
   pub sum_is : l.sum ≡ weight (take p r.weights) x
 
 abbrev pub LanesAre : ℕ → ℕ → ℕ → List RuleView → List Lane → Type 0

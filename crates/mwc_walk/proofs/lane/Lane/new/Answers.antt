@@ -1,8 +1,8 @@
 use Rattle.council_game.specs.Game.{votes_of}
-use Rattle.std.proofs.Common.{◌≡◌, ◌<◌, ◌^◌, ℕ, take, drop, sum, arith, sym, ap, ◌∙◌, subst}
+use Rattle.std.proofs.Common.{◌≡◌, ◌==◌, ◌<◌, ◌^◌, ℕ, take, drop, sum, arith, sym, ap, ◌∙◌, subst}
 use Rattle.std.proofs.lemmas.List.{length-map}
 use Rattle.council_game.specs.Ranks.{rule_by_rank}
-use Rattle.council_game.specs.Votes.{IsRule, rule_at}
+use Rattle.council_game.specs.Votes.{IsRule, rule_at, has}
 use Rattle.std.proofs.lemmas.List.Elements.{All-from_recursion}
 use Rattle.mwc_walk.proofs.Tables.{same-weights, weight-none}
 use Rattle.mwc_walk.proofs.lane.Lane.new.Goals as goal
@@ -28,5 +28,6 @@ returns c =
       quota = c.rule_quota.ensures.votes;
       weights = c.weights_of-weights.ensures.same;
       rest = λ q le. c.rest_of.ensures q (omega (arith, c.members-members.ensures.count)) ∙ ap (λ l. sum (drop q l)) e;
+      weightless = λ q below. ap (λ (n : ℕ). has n q c.weightless_of.result) (sym c.members-members.ensures.count) ∙ c.weightless_of.ensures q (omega (arith, c.members-members.ensures.count)) ∙ ap (λ (w : ℕ). w == 0) (c.weights_of-weights.ensures.same q below);
       sum_is = weight-none (rule_at (votes_of c.args.game.now).rules c.args.rule).weights;
     }

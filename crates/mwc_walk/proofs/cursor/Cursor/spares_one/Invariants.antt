@@ -1,9 +1,9 @@
 use Rattle.council_game.specs.Game.{votes_of}
-use Rattle.mwc_walk.proofs.Needed.{Tried}
-use Rattle.mwc_walk.proofs.cursor.Cursor.is_minimal.Given as goal
+use Rattle.mwc_walk.proofs.Spared.{Tried}
+use Rattle.mwc_walk.proofs.cursor.Cursor.spares_one.Given as goal
 
 abbrev pub invariant-loop-rest : goal.invariant-loop-rest
-invariant-loop-rest l = Tried (votes_of l.game) l.fn.coalition l.rest
+invariant-loop-rest l = Tried (votes_of l.game) l.self.place l.self.prefix l.rest
 
 abbrev pub decreases-loop-rest : goal.decreases-loop-rest
 decreases-loop-rest l = l.rest
