@@ -16,7 +16,8 @@ pub enum GameFault {
     /// More than 65,536 bytes.
     #[error("the game file is longer than 65536 bytes")]
     TooLong,
-    /// Not UTF-8, or not TOML.
+    /// Not UTF-8, or not TOML; also an integer that does not fit 64 bits, and arrays or inline tables that
+    /// are nested more than 80 deep.
     #[error("the game file is not TOML")]
     Text,
     /// A key that no game file has.
@@ -46,7 +47,8 @@ pub enum GameFault {
     /// A bracket text that breaks its grammar.
     #[error("bad bracket text")]
     Bracket,
-    /// Rules that are not 1 to 4, or stand beside the keys of a lone rule.
+    /// Both `quota` and `quotas`, `quotas` that is no list of 1 to 4 integers, `weights` beside `quota`, or
+    /// `weight` beside `quotas`.
     #[error("bad rules")]
     Rules,
     /// A growth was refused.
@@ -55,7 +57,8 @@ pub enum GameFault {
 }
 
 impl GameFault {
-    /// The number of the fault, from 1 to 14.
+    /// A number of the fault, from 1 to 14, for tables and tests. It is not the order of the checks, and no
+    /// status of the program.
     pub fn number(self) -> u8
         ensures { result ≡ number_of self }
     {

@@ -116,14 +116,16 @@ fn numbers<'a>(alloc: Global, command: Command<'a>) -> Result<Command<'a>, Error
         "most",
         "N",
         "1000000",
-        "The greatest number of coalitions, 1 to 4000000",
+        "A game with more coalitions is refused, 1 to 4000000; --tally takes any number",
     )
     .value_parser(value_parser!(u32).range(1..=i64::from(limits::COALITIONS)));
     Ok(command.arg(workers)?.arg(bits)?.arg(most)?)
 }
 
 fn command<'a>(alloc: Global) -> Result<Command<'a>, Error> {
-    let file = Arg::new(alloc, "FILE").help("The game file; standard input without it");
+    let file = Arg::new(alloc, "FILE").help(
+        "The game file; where none is named, standard input is read",
+    );
     let command = Command::new(alloc, "council")
         .version("1.1.0")
         .about(ABOUT)

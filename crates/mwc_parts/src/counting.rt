@@ -4,7 +4,7 @@ ghost use Rattle.mwc_parts.specs.Sums.{sum_of};
 
 use crate::part::Part;
 
-/// Whether all parts have at most `most` coalitions.
+/// Whether all parts together have at most `most` coalitions. Of use to a gatherer alone.
 pub fn fits(parts: &[Part], most: u32) -> bool
     ensures few { result ≡ true → sum_of (λ p. length p.got.items) parts.now ≤ most }
     ensures many { result ≡ false → most < sum_of (λ p. length p.got.items) parts.now }

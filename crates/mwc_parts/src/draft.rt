@@ -8,7 +8,7 @@ use council_game::{Coalition, Memory};
 use mwc_pipe::Word;
 use std::alloc::Global;
 
-/// What is kept of the words of a worker as they come.
+/// What is kept of the words of a worker as they come. Of use to a gatherer alone: its parts are made of it.
 #[derive(Drop)]
 pub struct Draft {
     /// How many coalitions had come at the end of each slice.

@@ -4,7 +4,7 @@ ghost use Rattle.mwc_parts.specs.Fault.{fault_of, also, nothing};
 
 use crate::fault::GatherFault;
 
-/// Which faults were met.
+/// Which faults were met. Of use to a gatherer alone, which answers the first of them.
 #[derive(Clone, Copy, Debug)]
 pub struct Met {
     /// A worker could not be started.

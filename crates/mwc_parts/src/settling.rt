@@ -10,7 +10,7 @@ use crate::fault::GatherFault;
 use crate::part::Part;
 
 /// The part of a worker that was given these slices and has ended. Of a cut sending nothing is
-/// kept.
+/// kept. Of use to a gatherer alone.
 ///
 /// # Errors
 ///

@@ -23,7 +23,8 @@ use std::thread::{PromisedHandle, Scope, Threads};
 /// A thread that was started.
 type Started = PromisedHandle<Result<Share, Memory>, Given>;
 
-/// The counts of all minimal winning coalitions of a game, by so many threads, each of which takes
+/// The counts of all minimal winning coalitions of a game (`council_run::tally`, which reads a file and writes
+/// a report, rests on it), by so many threads, each of which takes
 /// the next slice that nobody took yet, until none is left. It waits for their end.
 ///
 /// There are at most 10 bits, and no more than members; 1 to 16 threads.
