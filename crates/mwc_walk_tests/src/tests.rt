@@ -25,13 +25,26 @@ fn game_of(rt: &impl Abort, alloc: Global, members: usize, rules: Vec<Rule>) -> 
     Ok(Game::with_rules(alloc, None, names, rules)?)
 }
 
+/// The game of these rules, each of a quota and weights.
+fn game_by_weights(
+    rt: &impl Abort,
+    alloc: Global,
+    members: usize,
+    all: &[(u64, &[u64])],
+) -> Result<Game, Fail> {
+    let mut rules = Vec::new(alloc);
+    for (quota, weights) in all {
+        rules.push(Rule {
+            quota: *quota,
+            weights: weights.to_vec(alloc)?,
+        })?;
+    }
+    game_of(rt, alloc, members, rules)
+}
+
 /// The game of one rule.
 fn game(rt: &impl Abort, alloc: Global, quota: u64, weights: &[u64]) -> Result<Game, Fail> {
-    let rule = Rule {
-        quota,
-        weights: weights.to_vec(alloc)?,
-    };
-    game_of(rt, alloc, weights.len(), vec![in alloc; rule]?)
+    game_by_weights(rt, alloc, weights.len(), &[(quota, weights)])
 }
 
 /// A rule: so many are needed of the members from one place of the file to before another.
@@ -91,15 +104,7 @@ fn worked(rt: &impl Abort, alloc: Global) -> Result<Game, Fail> {
 
 /// A game of three members and two rules, in which all members together win, and are not minimal.
 fn two_rules(rt: &impl Abort, alloc: Global) -> Result<Game, Fail> {
-    let first = Rule {
-        quota: 3,
-        weights: [2, 2, 1].to_vec(alloc)?,
-    };
-    let second = Rule {
-        quota: 1,
-        weights: [0, 0, 1].to_vec(alloc)?,
-    };
-    game_of(rt, alloc, 3, vec![in alloc; first, second]?)
+    game_by_weights(rt, alloc, 3, &[(3, &[2, 2, 1]), (1, &[0, 0, 1])])
 }
 
 /// Twelve members in four groups, of each of which one is needed.
