@@ -241,29 +241,26 @@ fn the_slices_joined_and_the_whole_list_are_the_plain_list(rt: HostRuntime) -> R
 #[test]
 fn slices_under_several_rules(rt: HostRuntime) -> Result<(), Fail> {
     let alloc = rt.alloc();
+    let two = [(0, 5, 1), (5, 40, 1)].as_slice();
+    let three = [(0, 2, 1), (2, 5, 1), (5, 40, 1)].as_slice();
     let four = [(0, 2, 1), (2, 5, 1), (5, 8, 1), (8, 40, 1)].as_slice();
     let fewer = [(0, 2, 1), (2, 5, 1), (5, 8, 1), (8, 39, 1)].as_slice();
     let rows = [
-        (40, [(0, 5, 1), (5, 40, 1)].as_slice(), [0, 35, 35, 105]),
-        (
-            40,
-            [(0, 2, 1), (2, 5, 1), (5, 40, 1)].as_slice(),
-            [0, 105, 105, 0],
-        ),
-        (40, four, [0, 288, 288, 0]),
-        (39, fewer, [0, 279, 279, 0]),
+        (40, two, [0, 35, 35, 105], 175),
+        (40, three, [0, 105, 105, 0], 210),
+        (40, four, [0, 288, 288, 0], 576),
+        (39, fewer, [0, 279, 279, 0], 558),
     ];
-    for (members, groups, counts) in rows {
+    for (members, groups, counts, whole) in rows {
         let game = game_by_seats(&rt, alloc, members, groups)?;
         assert!(rt; 2 <= game.members());
         for j in 0..4u16 {
             let list = list_slice(alloc, &game, 2, j, u32::MAX)?;
             same(&rt, list.len(), counts[j as usize], "coalitions of a slice");
         }
-        let most: usize = counts[0] + counts[1] + counts[2] + counts[3];
-        let all = list_all(alloc, &game, most as u32)?.expect(&rt, "at most so many");
-        same(&rt, all.len(), most, "all coalitions");
-        let fewer = list_all(alloc, &game, most as u32 - 1)?;
+        let all = list_all(alloc, &game, whole)?.expect(&rt, "at most so many");
+        same(&rt, all.len(), whole as usize, "all coalitions");
+        let fewer = list_all(alloc, &game, whole.saturating_sub(1))?;
         same(&rt, fewer.is_none(), true, "more than asked for");
     }
     Ok(())
