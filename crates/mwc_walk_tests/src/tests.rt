@@ -25,13 +25,26 @@ fn game_of(rt: &impl Abort, alloc: Global, members: usize, rules: Vec<Rule>) -> 
     Ok(Game::with_rules(alloc, None, names, rules)?)
 }
 
+/// The game of these rules, each of a quota and weights.
+fn game_by_weights(
+    rt: &impl Abort,
+    alloc: Global,
+    members: usize,
+    all: &[(u64, &[u64])],
+) -> Result<Game, Fail> {
+    let mut rules = Vec::new(alloc);
+    for (quota, weights) in all {
+        rules.push(Rule {
+            quota: *quota,
+            weights: weights.to_vec(alloc)?,
+        })?;
+    }
+    game_of(rt, alloc, members, rules)
+}
+
 /// The game of one rule.
 fn game(rt: &impl Abort, alloc: Global, quota: u64, weights: &[u64]) -> Result<Game, Fail> {
-    let rule = Rule {
-        quota,
-        weights: weights.to_vec(alloc)?,
-    };
-    game_of(rt, alloc, weights.len(), vec![in alloc; rule]?)
+    game_by_weights(rt, alloc, weights.len(), &[(quota, weights)])
 }
 
 /// A rule: so many are needed of the members from one place of the file to before another.
@@ -91,15 +104,7 @@ fn worked(rt: &impl Abort, alloc: Global) -> Result<Game, Fail> {
 
 /// A game of three members and two rules, in which all members together win, and are not minimal.
 fn two_rules(rt: &impl Abort, alloc: Global) -> Result<Game, Fail> {
-    let first = Rule {
-        quota: 3,
-        weights: [2, 2, 1].to_vec(alloc)?,
-    };
-    let second = Rule {
-        quota: 1,
-        weights: [0, 0, 1].to_vec(alloc)?,
-    };
-    game_of(rt, alloc, 3, vec![in alloc; first, second]?)
+    game_by_weights(rt, alloc, 3, &[(3, &[2, 2, 1]), (1, &[0, 0, 1])])
 }
 
 /// Twelve members in four groups, of each of which one is needed.
@@ -236,29 +241,26 @@ fn the_slices_joined_and_the_whole_list_are_the_plain_list(rt: HostRuntime) -> R
 #[test]
 fn slices_under_several_rules(rt: HostRuntime) -> Result<(), Fail> {
     let alloc = rt.alloc();
+    let two = [(0, 5, 1), (5, 40, 1)].as_slice();
+    let three = [(0, 2, 1), (2, 5, 1), (5, 40, 1)].as_slice();
     let four = [(0, 2, 1), (2, 5, 1), (5, 8, 1), (8, 40, 1)].as_slice();
     let fewer = [(0, 2, 1), (2, 5, 1), (5, 8, 1), (8, 39, 1)].as_slice();
     let rows = [
-        (40, [(0, 5, 1), (5, 40, 1)].as_slice(), [0, 35, 35, 105]),
-        (
-            40,
-            [(0, 2, 1), (2, 5, 1), (5, 40, 1)].as_slice(),
-            [0, 105, 105, 0],
-        ),
-        (40, four, [0, 288, 288, 0]),
-        (39, fewer, [0, 279, 279, 0]),
+        (40, two, [0, 35, 35, 105], 175),
+        (40, three, [0, 105, 105, 0], 210),
+        (40, four, [0, 288, 288, 0], 576),
+        (39, fewer, [0, 279, 279, 0], 558),
     ];
-    for (members, groups, counts) in rows {
+    for (members, groups, counts, whole) in rows {
         let game = game_by_seats(&rt, alloc, members, groups)?;
         assert!(rt; 2 <= game.members());
         for j in 0..4u16 {
             let list = list_slice(alloc, &game, 2, j, u32::MAX)?;
             same(&rt, list.len(), counts[j as usize], "coalitions of a slice");
         }
-        let most: usize = counts[0] + counts[1] + counts[2] + counts[3];
-        let all = list_all(alloc, &game, most as u32)?.expect(&rt, "at most so many");
-        same(&rt, all.len(), most, "all coalitions");
-        let fewer = list_all(alloc, &game, most as u32 - 1)?;
+        let all = list_all(alloc, &game, whole)?.expect(&rt, "at most so many");
+        same(&rt, all.len(), whole as usize, "all coalitions");
+        let fewer = list_all(alloc, &game, whole.saturating_sub(1))?;
         same(&rt, fewer.is_none(), true, "more than asked for");
     }
     Ok(())

@@ -7,8 +7,11 @@ use super::*;
 /// than these.
 fn gives(rt: &impl Abort, walk: &mut Walk<'_>, coalitions: &[(u64, u64)], visits: u64) {
     for (mask, visits) in coalitions {
-        let given = walk.next().map(|coalition| coalition.mask());
-        same(rt, given, Some(*mask), "a coalition");
+        let given = match walk.next() {
+            Some(coalition) => coalition.mask(),
+            None => 0,
+        };
+        same(rt, given, *mask, "a coalition");
         same(rt, walk.visits(), *visits, "visits up to it");
     }
     same(rt, walk.next(), None, "the end");
