@@ -8,8 +8,7 @@ use clap::Error;
 use clap::error::ErrorKind;
 use council_run::{Options, RunFault, run, status, tally};
 use council_words::{Wanted, WordsFault, read_words};
-use mwc_gather::NoGate;
-use progress::Progress;
+use progress::{Progress, Wiping};
 use std::io::IsTerminal;
 use std::process::ExitCode;
 use std::rt::Files;
@@ -77,15 +76,17 @@ fn run_on<R: AllocGlobal + Print + Eprint + Clock + Threads + Wait + Sync, I: io
 ) -> ExitCode {
     let alloc = rt.alloc();
     let options = options_of(wanted);
-    let mut writer = io::writer(rt);
-    let answer = if wanted.tally {
-        let progress = Progress::new(rt, terminal);
-        let answer = tally(rt, alloc, reader, &options, &progress, &mut writer);
-        progress.wipe();
-        answer
-    } else {
-        run(rt, alloc, reader, &options, &NoGate, &mut writer)
+    let progress = Progress::new(rt, terminal);
+    let mut writer = Wiping {
+        progress: &progress,
+        writer: io::writer(rt),
     };
+    let answer = if wanted.tally {
+        tally(rt, alloc, reader, &options, &progress, &mut writer)
+    } else {
+        run(rt, alloc, reader, &options, &progress, &mut writer)
+    };
+    progress.wipe();
     match answer {
         Ok(_) => ExitCode::SUCCESS,
         Err(fault) => stop(rt, fault),
@@ -121,7 +122,14 @@ fn main(rt: HostRuntime) -> ExitCode {
         Err(_) => return out_of_memory(&rt),
     };
     match read_words(alloc, words.as_slice()) {
-        Ok(wanted) => run_on_file(&rt, &wanted, rt.stderr().is_terminal()),
+        Ok(wanted) => {
+            if wanted.file.is_none() && rt.stdin().is_terminal() {
+                let _ = eprintln!(&rt;
+                    "council: a game is read from standard input, up to its end"
+                );
+            }
+            run_on_file(&rt, &wanted, rt.stderr().is_terminal())
+        }
         Err(WordsFault::Parse(error)) => refuse(&rt, &error),
         Err(WordsFault::Range) => {
             let _ = eprintln!(rt; "council: a number of the command line is out of range");

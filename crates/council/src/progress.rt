@@ -1,30 +1,33 @@
-//! How far a tally has come, told on standard error.
+//! How far a run or a tally has come, told on standard error.
 use council_run::Watch;
+use mwc_gather::Gate;
+use std::io;
+use std::io::Write;
 use std::sync::{Mutex, Wait};
 use std::time::{Clock, Duration};
 
-/// A tally that takes no more seconds tells nothing.
+/// What takes no more seconds tells nothing.
 const QUIET: u64 = 1;
 
-/// How many slices are done, and whether a line on standard error says so.
+/// How many slices are done, or of a run begun, and whether a line on standard error says so.
 #[derive(Drop)]
 struct Told {
     done: u64,
     shown: bool,
 }
 
-/// Tells how many slices are done, in one line that is written anew each time, where standard error
-/// is a terminal and the tally takes more than a second.
+/// Tells how many slices are done, or of a run begun, in one line that is written anew each time, where
+/// standard error is a terminal and it takes more than a second.
 #[derive(Drop)]
 pub(crate) struct Progress<'a, R> {
     rt: &'a R,
-    /// When the tally began; none where nothing is told.
+    /// When it began; none where nothing is told.
     began: Option<Duration>,
     told: Mutex<Told>,
 }
 
 impl<'a, R: Eprint + Clock + Wait> Progress<'a, R> {
-    /// Nothing was counted yet; it is told where standard error is a terminal.
+    /// Nothing was done yet; it is told where standard error is a terminal.
     pub(crate) fn new(rt: &'a R, terminal: bool) -> Progress<'a, R> {
         let began = if terminal { rt.monotonic().ok() } else { None };
         Progress {
@@ -37,7 +40,7 @@ impl<'a, R: Eprint + Clock + Wait> Progress<'a, R> {
         }
     }
 
-    /// Whether the tally takes long enough to be told of.
+    /// Whether it takes long enough to be told of.
     fn is_long(&self) -> bool {
         let Some(began) = self.began else {
             return false;
@@ -71,6 +74,36 @@ impl<'a, R: Eprint + Clock + Wait> Progress<'a, R> {
             told.shown = false;
             let _ = eprint!(self.rt; "\r\x1b[K");
         }
+    }
+}
+
+impl<'a, R: Eprint + Clock + Wait> Gate for Progress<'a, R> {
+    fn pass(&self, _worker: u8, _slice: u16) {
+        let mut told = self.told.lock(self.rt);
+        told.done = told.done.wrapping_add(1);
+        let done = told.done;
+        if self.is_long() {
+            told.shown = true;
+            let _ = eprint!(self.rt; "\rcouncil: slice {done} is begun");
+        }
+    }
+}
+
+/// A writer that wipes the line before it writes.
+#[derive(Drop)]
+pub(crate) struct Wiping<'a, R, W> {
+    pub(crate) progress: &'a Progress<'a, R>,
+    pub(crate) writer: W,
+}
+
+impl<'a, R: Eprint + Clock + Wait, W: Write> Write for Wiping<'a, R, W> {
+    fn write(&mut self, bytes: &[u8]) -> io::Result<usize> {
+        self.progress.wipe();
+        self.writer.write(bytes)
+    }
+
+    fn flush(&mut self) -> io::Result<()> {
+        self.writer.flush()
     }
 }
 

@@ -9,8 +9,8 @@ use std::snapshot::Snapshot;
 
 /// What a worker passes before it sends a slice.
 pub trait Gate {
-    /// Which workers and slices it may be told of. A gate that takes them all says `⊤`.
-    ghost takes: { ℕ → ℕ → Type 0 };
+    /// Which workers and slices it may be told of: all, where a gate does not say otherwise.
+    ghost takes: { ℕ → ℕ → Type 0 } = { λ _ _. ⊤ };
 
     /// Worker `worker` is about to send slice `slice`.
     fn pass(&self, worker: u8, slice: u16)
@@ -22,8 +22,6 @@ pub trait Gate {
 pub struct NoGate;
 
 impl Gate for NoGate {
-    ghost takes = { λ _ _. ⊤ };
-
     fn pass(&self, _worker: u8, _slice: u16) {}
 }
 
