@@ -19,7 +19,8 @@ and-digit a b la lb = grind (arith, nat_tests)
 has-and : (n q a b : ℕ) → has n q (bit_and a b) ≡ (has n q a && has n q b)
 unfolding has
 has-and n q a b =
-    ap (λ (i : ℕ). i == 1) (bit_at_and a b (n - 1 - q)) ∙ and-digit (a / 2 ^ (n - 1 - q) % 2) (b / 2 ^ (n - 1 - q) % 2) (omega arith) (omega arith)
+    ap (λ (i : ℕ). i == 1) (bit_at_and a b (n - 1 - q))
+    ∙ and-digit (a / 2 ^ (n - 1 - q) % 2) (b / 2 ^ (n - 1 - q) % 2) (omega arith) (omega arith)
 
 and-join : (x y z : Bool) → ((x && y) && z) ≡ (x && (y && z))
 and-join true y z = refl
@@ -29,8 +30,10 @@ pub and-less : (a b m : ℕ) → a ≤ m → bit_and a b ≤ m
 and-less a b m le = let less = and_le_l a b in omega (arith, less)
 
 -- a rule whose quota is not met narrows the places to those without weight
-pub may-narrow : (n q few mask : ℕ) (lanes : List Lane) (i : ℕ) (d : Lane) → i < length lanes → has n q few ≡ (has n q mask && list_all (lane_may_spare n q) (take i lanes))
-    → lane_wins (get_or lanes i d) ≡ false → has n q (bit_and few (get_or lanes i d).weightless) ≡ (has n q mask && list_all (lane_may_spare n q) (take (i + 1) lanes))
+pub may-narrow : (n q few mask : ℕ) (lanes : List Lane) (i : ℕ) (d : Lane) → i < length lanes
+    → has n q few ≡ (has n q mask && list_all (lane_may_spare n q) (take i lanes))
+    → lane_wins (get_or lanes i d) ≡ false → has n q (bit_and few (get_or lanes i d).weightless) ≡
+    (has n q mask && list_all (lane_may_spare n q) (take (i + 1) lanes))
 may-narrow n q few mask lanes i d below before lost =
     let may : lane_may_spare n q (get_or lanes i d) ≡ has n q (get_or lanes i d).weightless = rw lost refl in
     has-and n q few (get_or lanes i d).weightless ∙ ap (λ (b : Bool). b && has n q (get_or lanes i d).weightless) before
@@ -39,11 +42,13 @@ may-narrow n q few mask lanes i d below before lost =
     ∙ ap (λ (b : Bool). has n q mask && b) (sym (list_all_more (lane_may_spare n q) lanes i d below))
 
 -- one whose quota is met leaves them
-pub may-stay : (n q few mask : ℕ) (lanes : List Lane) (i : ℕ) (d : Lane) → i < length lanes → has n q few ≡ (has n q mask && list_all (lane_may_spare n q) (take i lanes))
+pub may-stay : (n q few mask : ℕ) (lanes : List Lane) (i : ℕ) (d : Lane) → i < length lanes
+    → has n q few ≡ (has n q mask && list_all (lane_may_spare n q) (take i lanes))
     → lane_wins (get_or lanes i d) ≡ true → has n q few ≡ (has n q mask && list_all (lane_may_spare n q) (take (i + 1) lanes))
 may-stay n q few mask lanes i d below before won =
     let may : lane_may_spare n q (get_or lanes i d) ≡ true = or_left _ _ won in
-    before ∙ ap (λ (b : Bool). has n q mask && b) (sym (list_all_more (lane_may_spare n q) lanes i d below ∙ rw may (and-true (list_all (lane_may_spare n q) (take i lanes)))))
+    before ∙ ap (λ (b : Bool). has n q mask && b) (sym
+    (list_all_more (lane_may_spare n q) lanes i d below ∙ rw may (and-true (list_all (lane_may_spare n q) (take i lanes)))))
 
 -- a mask of p places, with one digit more
 pub record NextDigit (p m b : ℕ) : Type 0 where

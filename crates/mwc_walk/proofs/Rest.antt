@@ -41,12 +41,14 @@ dead-nothing v p x game le dead =
     both_ways _ dead (ap (reaches v.rules p) (sym prefix) ∙ loses-below v.members v.rules game.rules p c le w)))
 
 -- where nothing is below a prefix, it leaves the same
-pub left-nothing : (v : Votes) (k j p x : ℕ) → NothingBelow v p x → slice_below v k j ((x + 1) * 2 ^ (v.members - p)) ≡ slice_below v k j (x * 2 ^ (v.members - p))
+pub left-nothing : (v : Votes) (k j p x : ℕ) → NothingBelow v p x
+    → slice_below v k j ((x + 1) * 2 ^ (v.members - p)) ≡ slice_below v k j (x * 2 ^ (v.members - p))
 unfolding slice_below minimal_below
 left-nothing v k j p x nothing =
     ap (in_slice v k j) (
     ap (λ (i : ℕ). filter (minimal v) (down i)) (next-block x (v.members - p))
-    ∙ filter-down_skip (minimal v) (x * 2 ^ (v.members - p)) (2 ^ (v.members - p)) (λ c low high. nothing c (block-prefix x (v.members - p) c low high)))
+    ∙ filter-down_skip (minimal v) (x * 2 ^ (v.members - p)) (2 ^ (v.members - p))
+    (λ c low high. nothing c (block-prefix x (v.members - p) c low high)))
 
 -- below a winning prefix only the prefix with zeros is left
 pub left-won : (v : Votes) (k j p x : ℕ) → IsVotes v → p ≤ v.members → wins_at v.rules p x ≡ true → slice_below v k j ((x + 1) * 2 ^ (v.members - p)) ≡ slice_below v k j (x * 2 ^ (v.members - p) + 1)

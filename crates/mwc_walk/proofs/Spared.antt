@@ -47,7 +47,8 @@ still-wins n p x c q (r ∷ rs) all le below prefix in' spare won =
     let less = sum-without n r c q (weight r.weights c) all.0 below in' refl in
     and_from _ _ (le-leb _ _ (omega (arith, free, quota, more, less))) (still-wins n p x c q rs all.1 le below prefix in' spared.1 met.1)
 
-pub spared-nothing : (v : Votes) (p x q : ℕ) → IsVotes v → p ≤ v.members → q < v.members → has v.members q (x * 2 ^ (v.members - p)) ≡ true → spares v.rules p x q ≡ true → NothingBelow v p x
+pub spared-nothing : (v : Votes) (p x q : ℕ) → IsVotes v → p ≤ v.members → q < v.members
+    → has v.members q (x * 2 ^ (v.members - p)) ≡ true → spares v.rules p x q ≡ true → NothingBelow v p x
 spared-nothing v p x q game le below in' spare =
     λ c prefix. false_from_ne_true _ (λ min.
     let inside = has-below v.members p x c q le below prefix in' in
@@ -70,13 +71,15 @@ still-needs n p x q (r ∷ rs) all le below in' won =
     rw (here, less, still-needs n p x q rs all.1 le below in' met.1) refl
 
 -- ---- of the lanes
-pub lanes-spare : (n p x q : ℕ) (rs : List RuleView) (ls : List Lane) → q < n → LanesAre n p x rs ls → list_all (lane_spares q) ls ≡ spares rs p x q
+pub lanes-spare : (n p x q : ℕ) (rs : List RuleView) (ls : List Lane) → q < n → LanesAre n p x rs ls
+    → list_all (lane_spares q) ls ≡ spares rs p x q
 unfolding spares
 lanes-spare n p x q rs ls below are =
     list_all-beside (LaneIs n p x) _ _ (λ r l is. rw (is.quota, is.sum_is, is.weights q below) refl) rs ls are
 
 -- a place that each rule can spare is among those to be tried
-lane-may : (n p x q : ℕ) (r : RuleView) (l : Lane) → q < n → LaneIs n p x r l → leb (get_or r.weights q 0) (weight (take p r.weights) x - r.quota) ≡ true → lane_may_spare n q l ≡ true
+lane-may : (n p x q : ℕ) (r : RuleView) (l : Lane) → q < n → LaneIs n p x r l
+    → leb (get_or r.weights q 0) (weight (take p r.weights) x - r.quota) ≡ true → lane_may_spare n q l ≡ true
 lane-may n p x q r l below is spare =
     elim (cases_Bool (lane_wins l)) [
       | inl won ↦ or_left _ _ won
@@ -86,7 +89,8 @@ lane-may n p x q r l below is spare =
           or_right _ _ (is.weightless q below ∙ eq-eqb _ _ (omega (arith, free, short, is.quota, is.sum_is)))
     ]
 
-lanes-may : (n p x q : ℕ) (rs : List RuleView) (ls : List Lane) → q < n → LanesAre n p x rs ls → spares rs p x q ≡ true → list_all (lane_may_spare n q) ls ≡ true
+lanes-may : (n p x q : ℕ) (rs : List RuleView) (ls : List Lane) → q < n → LanesAre n p x rs ls → spares rs p x q ≡ true
+    → list_all (lane_may_spare n q) ls ≡ true
 unfolding spares
 lanes-may n p x q [] [] below are spare = refl
 lanes-may n p x q [] (l ∷ ls) below are spare = elim are [ ]
@@ -96,7 +100,8 @@ lanes-may n p x q (r ∷ rs) (l ∷ ls) below are spare =
     and_from _ _ (lane-may n p x q r l below are.0 spared.0) (lanes-may n p x q rs ls below are.1 spared.1)
 
 -- where the first rule cannot spare place q, it can spare no place before it
-first-keeps : (n p x q m : ℕ) (rs : List RuleView) (ls : List Lane) (d l : Lane) → IsRanked rs → 1 ≤ length rs → LanesAre n p x rs ls → get_or ls 0 d ≡ l
+first-keeps : (n p x q m : ℕ) (rs : List RuleView) (ls : List Lane) (d l : Lane) → IsRanked rs → 1 ≤ length rs → LanesAre n p x rs ls
+    → get_or ls 0 d ≡ l
     → lane_spares q l ≡ false → m ≤ q → q < n → spares rs p x m ≡ false
 unfolding spares
 first-keeps n p x q m [] ls d l ranked some are at keeps before below = absurd (omega (arith, some))
@@ -105,7 +110,8 @@ first-keeps n p x q m (r ∷ rs) (k ∷ ls) d l ranked some are at keeps before 
     let is : LaneIs n p x r l = subst (λ (i : Lane). LaneIs n p x r i) at are.0 in
     let heavier : get_or r.weights q 0 ≤ get_or r.weights m 0 = ranked m q before (omega (arith, is.rule.full)) in
     let short : l.sum - l.quota < get_or l.weights q 0 = leb-false _ _ keeps in
-    let kept : weight (take p r.weights) x - r.quota < get_or r.weights m 0 = omega (arith, heavier, short, is.weights q below, is.quota, is.sum_is) in
+    let kept : weight (take p r.weights) x - r.quota < get_or r.weights m 0 = omega
+    (arith, heavier, short, is.weights q below, is.quota, is.sum_is) in
     and_left _ _ (lt-leb _ _ kept)
 
 -- ---- one place after another
@@ -113,15 +119,18 @@ first-keeps n p x q m (r ∷ rs) (k ∷ ls) d l ranked some are at keeps before 
 pub record Tried (v : Votes) (p x rest : ℕ) : Type 0 where
   pub below : rest < 2 ^ v.members
   pub inside : (q : ℕ) → q < v.members → has v.members q rest ≡ true → has v.members q (x * 2 ^ (v.members - p)) ≡ true
-  pub kept : (q : ℕ) → q < v.members → has v.members q (x * 2 ^ (v.members - p)) ≡ true → has v.members q rest ≡ false → spares v.rules p x q ≡ false
+  pub kept : (q : ℕ) → q < v.members → has v.members q (x * 2 ^ (v.members - p)) ≡ true → has v.members q rest ≡ false
+      → spares v.rules p x q ≡ false
 
-pub tried-first : (v : Votes) (a : Cursor) (mask rest : ℕ) → CursorIs v a → mask ≡ a.prefix * 2 ^ (v.members - a.place) → mask < 2 ^ v.members → rest ≤ mask
+pub tried-first : (v : Votes) (a : Cursor) (mask rest : ℕ) → CursorIs v a → mask ≡ a.prefix * 2 ^ (v.members - a.place)
+    → mask < 2 ^ v.members → rest ≤ mask
     → ((n q : ℕ) → has n q rest ≡ (has n q mask && list_all (lane_may_spare n q) (take a.rules a.lanes))) → Tried v a.place a.prefix rest
 tried-first v a mask rest is same short less digits = record {
   below = omega arith;
   inside = λ q below in'. ap (has v.members q) (sym same) ∙ (and_parts _ _ (sym (digits v.members q) ∙ in')).0;
   kept = λ q below in' out. false_from_ne_true _ (λ spare.
-      both_ways _ out (digits v.members q ∙ and_from _ _ (ap (has v.members q) same ∙ in') (lanes-may v.members a.place a.prefix q v.rules (take a.rules a.lanes) below is.lanes spare)));
+      both_ways _ out (digits v.members q ∙ and_from _ _ (ap (has v.members q) same ∙ in')
+      (lanes-may v.members a.place a.prefix q v.rules (take a.rules a.lanes) below is.lanes spare)));
 }
 
 -- the last place of rest, as the cursor computes it
@@ -138,7 +147,8 @@ last-place v a rest is pos tried =
     let last = lowest-place v.members rest is.game.few pos tried.below in
     let inside = subst (λ (n : ℕ). has v.members (n - 1 - trailing_zeros w64 rest) rest ≡ true) (sym is.members) last.1 in
     let below : a.members - 1 - trailing_zeros w64 rest < v.members = omega (arith, last.0, is.members) in
-    let left = subst (λ (n : ℕ). bit_and rest (rest - 1) ≡ without v.members (n - 1 - trailing_zeros w64 rest) rest) (sym is.members) (lowest-cleared v.members rest is.game.few pos tried.below) in
+    let left = subst (λ (n : ℕ). bit_and rest (rest - 1) ≡ without v.members (n - 1 - trailing_zeros w64 rest) rest) (sym is.members)
+    (lowest-cleared v.members rest is.game.few pos tried.below) in
     let less = without-less v.members (a.members - 1 - trailing_zeros w64 rest) rest pos in
     record {
       small = omega (arith, last.0, is.members);
@@ -150,7 +160,8 @@ last-place v a rest is pos tried =
     }
 
 -- one place more is tried
-pub tried-more : (v : Votes) (p x rest q : ℕ) → 0 < rest → q < v.members → has v.members q rest ≡ true → spares v.rules p x q ≡ false → Tried v p x rest → Tried v p x (without v.members q rest)
+pub tried-more : (v : Votes) (p x rest q : ℕ) → 0 < rest → q < v.members → has v.members q rest ≡ true → spares v.rules p x q ≡ false
+    → Tried v p x rest → Tried v p x (without v.members q rest)
 tried-more v p x rest q pos below in' kept tried = record {
   below = let less = without-less v.members q rest pos in omega (arith, less, tried.below);
   inside = λ m lt still. elim (cases_eq m q) [
@@ -167,7 +178,8 @@ tried-more v p x rest q pos below in' kept tried = record {
     gone m same = ap (λ (i : ℕ). has v.members i (without v.members q rest)) same ∙ has-gone v.members q rest in'
 
 -- a winning prefix of which no place can be spared is minimal
-kept-minimal : (v : Votes) (p x : ℕ) → IsVotes v → p ≤ v.members → ((q : ℕ) → q < v.members → has v.members q (x * 2 ^ (v.members - p)) ≡ true → spares v.rules p x q ≡ false)
+kept-minimal : (v : Votes) (p x : ℕ) → IsVotes v → p ≤ v.members
+    → ((q : ℕ) → q < v.members → has v.members q (x * 2 ^ (v.members - p)) ≡ true → spares v.rules p x q ≡ false)
     → wins_at v.rules p x ≡ true → minimal v (x * 2 ^ (v.members - p)) ≡ true
 kept-minimal v p x game le kept won =
     (needs-each-member v (x * 2 ^ (v.members - p))).1 (
@@ -175,9 +187,11 @@ kept-minimal v p x game le kept won =
       λ q below in'. still-needs v.members p x q v.rules game.rules le below in' won ∙ kept q below in',
     )
 
-pub tried-all : (v : Votes) (a : Cursor) (rest : ℕ) → CursorIs v a → rest ≡ 0 → Tried v a.place a.prefix rest → wins_at v.rules a.place a.prefix ≡ true → minimal v (a.prefix * 2 ^ (v.members - a.place)) ≡ true
+pub tried-all : (v : Votes) (a : Cursor) (rest : ℕ) → CursorIs v a → rest ≡ 0 → Tried v a.place a.prefix rest
+    → wins_at v.rules a.place a.prefix ≡ true → minimal v (a.prefix * 2 ^ (v.members - a.place)) ≡ true
 tried-all v a rest is none tried =
-    kept-minimal v a.place a.prefix is.game is.place.to (λ q below in'. tried.kept q below in' (ap (has v.members q) none ∙ has-none v.members q))
+    kept-minimal v a.place a.prefix is.game is.place.to
+    (λ q below in'. tried.kept q below in' (ap (has v.members q) none ∙ has-none v.members q))
 
 -- no place of rest comes after its last
 up-to-last : (n rest q : ℕ) → n ≤ 40 → 0 < rest → rest < 2 ^ n → q < n → has n q rest ≡ true → q ≤ n - 1 - trailing_zeros w64 rest
@@ -192,13 +206,15 @@ up-to-last n rest q few pos short below in' =
     ]
 
 -- where the first rule cannot spare the last place of those left, no place can be spared
-pub first-keeps-all : (v : Votes) (a : Cursor) (rest : ℕ) (d l : Lane) → CursorIs v a → 0 < rest → get_or (take a.rules a.lanes) 0 d ≡ l → lane_spares (a.members - 1 - trailing_zeros w64 rest) l ≡ false
+pub first-keeps-all : (v : Votes) (a : Cursor) (rest : ℕ) (d l : Lane) → CursorIs v a → 0 < rest → get_or (take a.rules a.lanes) 0 d ≡ l
+    → lane_spares (a.members - 1 - trailing_zeros w64 rest) l ≡ false
     → Tried v a.place a.prefix rest → wins_at v.rules a.place a.prefix ≡ true → minimal v (a.prefix * 2 ^ (v.members - a.place)) ≡ true
 first-keeps-all v a rest d l is pos at keeps tried =
     let last = last-place v a rest is pos tried in
     kept-minimal v a.place a.prefix is.game is.place.to (λ m below in'. elim (cases_Bool (has v.members m rest)) [
       | inl still ↦
           let before = up-to-last v.members rest m is.game.few pos tried.below below still in
-          first-keeps v.members a.place a.prefix _ m v.rules (take a.rules a.lanes) d l is.game.ranked is.game.has_rule is.lanes at keeps (omega (arith, before, is.members)) last.below
+          first-keeps v.members a.place a.prefix _ m v.rules (take a.rules a.lanes) d l is.game.ranked is.game.has_rule is.lanes at keeps
+          (omega (arith, before, is.members)) last.below
       | inr out ↦ tried.kept m below in' out
     ])

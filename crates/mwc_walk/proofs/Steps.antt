@@ -212,10 +212,12 @@ pass-by v a is fresh same none =
 -- a prefix that cannot reach some quota is passed by
 pub enter-dead : (v : Votes) (a : Cursor) → CursorIs v a → a.fresh ≡ true → reaches v.rules a.place a.prefix ≡ false → Steps v a On (record a { fresh = false })
 enter-dead v a is fresh dead =
-    pass-by v a is fresh (sym (left-nothing v a.bits a.number a.place a.prefix (dead-nothing v a.place a.prefix is.game is.place.to dead))) (λ _. cond-false (reaches v.rules a.place a.prefix) _ _ dead)
+    pass-by v a is fresh (sym (left-nothing v a.bits a.number a.place a.prefix
+    (dead-nothing v a.place a.prefix is.game is.place.to dead))) (λ _. cond-false (reaches v.rules a.place a.prefix) _ _ dead)
 
 -- so is one with nothing below it: with one rule, at the fixed places
-pub enter-spare : (v : Votes) (a : Cursor) → CursorIs v a → a.fresh ≡ true → NothingBelow v a.place a.prefix → (a.rules ≡ 1 → a.place ≡ a.bits) → Steps v a On (record a { fresh = false })
+pub enter-spare : (v : Votes) (a : Cursor) → CursorIs v a → a.fresh ≡ true → NothingBelow v a.place a.prefix
+    → (a.rules ≡ 1 → a.place ≡ a.bits) → Steps v a On (record a { fresh = false })
 enter-spare v a is fresh nothing fixed =
     pass-by v a is fresh (sym (left-nothing v a.bits a.number a.place a.prefix nothing))
     (λ one. let at = fixed (is.rules ∙ one) in let extra = open-most v a.place a.prefix (a.place - a.bits) in omega (arith, at, extra))
@@ -324,13 +326,15 @@ enter-mask v a is =
     ∙ shl_whole a.prefix a.place (v.members - a.place) 64 is.place.short (omega arith)
 
 -- past the fixed places, what wins with one rule is minimal
-pub one-is : (v : Votes) (a : Cursor) → CursorIs v a → a.bits < a.place → a.rules ≡ 1 → wins_at v.rules a.place a.prefix ≡ true → minimal v (a.prefix * 2 ^ (v.members - a.place)) ≡ true
+pub one-is : (v : Votes) (a : Cursor) → CursorIs v a → a.bits < a.place → a.rules ≡ 1 → wins_at v.rules a.place a.prefix ≡ true
+    → minimal v (a.prefix * 2 ^ (v.members - a.place)) ≡ true
 one-is v a is lt one won = one-minimal v a.place a.prefix is.game (sym is.rules ∙ one) (omega arith) is.place.to won (is.place.passed lt)
 
 -- and what wins has its last place in
 pub even-loses : (v : Votes) (a : Cursor) → CursorIs v a → a.bits < a.place → a.prefix % 2 ≡ 0 → wins_at v.rules a.place a.prefix ≡ true → ⊥
 even-loses v a is lt even won =
-    let odd : a.prefix % 2 ≡ 1 = won-odd v.members a.place a.prefix v.rules (omega arith) is.place.to is.game.rules won (is.place.passed lt) in
+    let odd : a.prefix % 2 ≡ 1 = won-odd v.members a.place a.prefix v.rules (omega arith) is.place.to is.game.rules won
+    (is.place.passed lt) in
     omega (arith, even, odd)
 
 -- between two calls no descent is under way

@@ -126,6 +126,22 @@ fn visits_of_slices_under_several_rules(rt: HostRuntime) -> Result<(), Fail> {
     Ok(())
 }
 
+/// A game of 16 members whose only minimal winning coalition is its last member alone, and most of whose sets
+/// are looked at.
+#[test]
+fn many_visits_for_one_coalition(rt: HostRuntime) -> Result<(), Fail> {
+    let alloc = rt.alloc();
+    let mut twos = [2; 16];
+    twos[15] = 1;
+    let mut last = [0; 16];
+    last[15] = 1;
+    let mut ones = [1; 16];
+    ones[15] = 8;
+    let game = game_by_weights(&rt, alloc, 16, &[(1, &twos), (1, &last), (8, &ones)])?;
+    counts(&rt, &mut Walk::new(&game, 0, 0), 1, 50_642);
+    Ok(())
+}
+
 /// Random games of 26 members with two, three and four rules.
 #[test]
 fn visits_of_random_games(rt: HostRuntime) -> Result<(), Fail> {

@@ -8,10 +8,12 @@ loop-lane-preserved c =
     elim c.if-not-wins.branch [
       | then-not-wins w ↦ record {
         less = rw w.few-is (and-less _ _ _ c.loop-lane.invariant.less);
-        places = λ n q. rw w.few-is (may-narrow n q _ c.args.mask c.args.lanes.now c.loop-lane.lane-index _ (omega arith) (c.loop-lane.invariant.places n q) (sym c.wins.ensures ∙ w.if-not-wins.true));
+        places = λ n q. rw w.few-is (may-narrow n q _ c.args.mask c.args.lanes.now c.loop-lane.lane-index _ (omega arith)
+            (c.loop-lane.invariant.places n q) (sym c.wins.ensures ∙ w.if-not-wins.true));
       }
       | else-not-wins w ↦ record {
         less = rw w.few-is c.loop-lane.invariant.less;
-        places = λ n q. rw w.few-is (may-stay n q _ c.args.mask c.args.lanes.now c.loop-lane.lane-index _ (omega arith) (c.loop-lane.invariant.places n q) (sym c.wins.ensures ∙ w.if-not-wins.false));
+        places = λ n q. rw w.few-is (may-stay n q _ c.args.mask c.args.lanes.now c.loop-lane.lane-index _ (omega arith)
+            (c.loop-lane.invariant.places n q) (sym c.wins.ensures ∙ w.if-not-wins.false));
       }
     ]

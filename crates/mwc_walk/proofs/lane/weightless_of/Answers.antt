@@ -12,7 +12,8 @@ loop-place-preserved c =
           let next = next-digit c.loop-place.place c.loop-place.mask 1 (omega arith) c.loop-place.invariant.below in
           record {
             below = rw one next.below;
-            done = rw one (below_more (λ q. has (c.loop-place.place + 1) q (2 * c.loop-place.mask + 1) ≡ (get_or c.args.weights.now q 0 == 0)) _
+            done = rw one (below_more (λ q. has (c.loop-place.place + 1) q (2 * c.loop-place.mask + 1) ≡
+                (get_or c.args.weights.now q 0 == 0)) _
                 (λ q lt. next.before q lt ∙ c.loop-place.invariant.done q lt) (next.here ∙ sym is));
           }
       | inr not ↦
@@ -20,7 +21,8 @@ loop-place-preserved c =
           let next = next-digit c.loop-place.place c.loop-place.mask 0 (omega arith) c.loop-place.invariant.below in
           record {
             below = rw none next.below;
-            done = rw none (below_more (λ q. has (c.loop-place.place + 1) q (2 * c.loop-place.mask + 0) ≡ (get_or c.args.weights.now q 0 == 0)) _
+            done = rw none (below_more (λ q. has (c.loop-place.place + 1) q (2 * c.loop-place.mask + 0) ≡
+                (get_or c.args.weights.now q 0 == 0)) _
                 (λ q lt. next.before q lt ∙ c.loop-place.invariant.done q lt) (next.here ∙ sym not));
           }
     ]

@@ -10,9 +10,11 @@ pub returns-then-not-all_reach : goal.returns-then-not-all_reach
 returns-then-not-all_reach c =
     elim c.then-not-all_reach.branch [
       | then-not-all_reach-via-then-not-all_reach w ↦
-          enter-dead (votes_of c.args.game.now) c.args.self.now c.requires.is c.requires.fresh (reach-is _ _ c.requires.is false (sym c.all_reach.ensures ∙ w.if-not-all_reach.true))
+          enter-dead (votes_of c.args.game.now) c.args.self.now c.requires.is c.requires.fresh
+          (reach-is _ _ c.requires.is false (sym c.all_reach.ensures ∙ w.if-not-all_reach.true))
       | then-not-all_reach-via-else-not-all_reach+then-spares_one w ↦
-          enter-spare (votes_of c.args.game.now) c.args.self.now c.requires.is c.requires.fresh (w.if-spares_one.ensures.some refl) (w.if-spares_one.ensures.one refl)
+          enter-spare (votes_of c.args.game.now) c.args.self.now c.requires.is c.requires.fresh (w.if-spares_one.ensures.some refl)
+          (w.if-spares_one.ensures.one refl)
     ]
 
 pub take_in-requires-clause-place : goal.take_in-requires-clause-place

@@ -28,6 +28,8 @@ returns c =
       quota = c.rule_quota.ensures.votes;
       weights = c.weights_of-weights.ensures.same;
       rest = λ q le. c.rest_of.ensures q (omega (arith, c.members-members.ensures.count)) ∙ ap (λ l. sum (drop q l)) e;
-      weightless = λ q below. ap (λ (n : ℕ). has n q c.weightless_of.result) (sym c.members-members.ensures.count) ∙ c.weightless_of.ensures q (omega (arith, c.members-members.ensures.count)) ∙ ap (λ (w : ℕ). w == 0) (c.weights_of-weights.ensures.same q below);
+      weightless = λ q below. ap (λ (n : ℕ). has n q c.weightless_of.result) (sym c.members-members.ensures.count)
+          ∙ c.weightless_of.ensures q (omega (arith, c.members-members.ensures.count))
+          ∙ ap (λ (w : ℕ). w == 0) (c.weights_of-weights.ensures.same q below);
       sum_is = weight-none (rule_at (votes_of c.args.game.now).rules c.args.rule).weights;
     }
