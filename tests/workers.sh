@@ -24,3 +24,40 @@ for game in board.txt five.toml two.toml ec-1986.toml; do
     done
     if [ -z "$why" ]; then ok "$name"; else failed "$name" "$why"; fi
 done
+
+# ---- on a terminal: how far a run has come, and that a game is read from standard input
+if needs python3 "a long run on a terminal" "a game from a terminal"; then
+    # a game that takes hours, though it has one minimal winning coalition: it is ended once it was told of
+    {
+        echo 'quotas = [1, 1, 20]'
+        for ((member = 1; member <= 39; member++)); do
+            printf '[[member]]\nname = "%s"\nweights = [2, 0, 1]\n' "$member"
+        done
+        printf '[[member]]\nname = "40"\nweights = [1, 1, 20]\n'
+    } >"$temp/long.toml"
+    if timeout "$seconds" python3 - "$program" "$temp/long.toml" >"$temp/told" 2>&1 <<'END'
+import os, pty, re, subprocess, sys
+leader, follower = pty.openpty()
+made = subprocess.Popen([sys.argv[1], "--bits", "10", sys.argv[2]], stdin=subprocess.DEVNULL, stdout=subprocess.DEVNULL, stderr=follower)
+os.close(follower)
+told = b""
+while told.count(b"is begun") < 2:
+    told += os.read(leader, 4096)
+made.kill()
+made.wait()
+numbers = [int(it) for it in re.findall(rb"\rcouncil: slice ([0-9]+) is begun", told)]
+assert len(numbers) >= 2 and numbers == sorted(set(numbers)) and numbers[0] > 4, told
+END
+    then ok "a long run on a terminal"; else failed "a long run on a terminal" "$(tail -n 1 "$temp/told")"; fi
+    if timeout "$seconds" python3 - "$program" >"$temp/told" 2>&1 <<'END'
+import os, pty, subprocess, sys
+leader, follower = pty.openpty()
+made = subprocess.Popen([sys.argv[1]], stdin=follower, stdout=subprocess.PIPE, stderr=subprocess.PIPE)
+os.close(follower)
+os.write(leader, b"[51; 50, 49, 1]\n\x04")
+out, err = made.communicate(timeout=60)
+assert made.returncode == 0 and out.startswith(b"members\t3\n"), out
+assert err == b"council: a game is read from standard input, up to its end\n", err
+END
+    then ok "a game from a terminal"; else failed "a game from a terminal" "$(tail -n 1 "$temp/told")"; fi
+fi
