@@ -188,6 +188,35 @@ rows '26 random, two rules' "$temp/random-2.toml"
 rows '26 random, three rules' "$temp/random-3.toml"
 rows '26 random, four rules' "$temp/random-4.toml"
 
+# Games of one rule are counted by sums: their time does not follow the number of coalitions.
+echo
+echo "tallies by sums: the least of $runs runs, in seconds, and memory"
+printf '%-26s %20s %8s %8s\n' game coalitions seconds KiB
+sums() {
+    local name=$1 file=$2 run time least=
+    for ((run = 0; run < runs; run++)); do
+        time=$(micros "$council" --tally "$file")
+        if [ -z "$least" ] || [ "$time" -lt "$least" ]; then least=$time; fi
+    done
+    printf '%-26s %20s %8s %8s\n' "$name" "$("$council" --tally "$file" | awk '$1 == "minimal" { print $2 }')" \
+        "$(seconds "$least")" "$(memory "$council" --tally "$file")"
+}
+notation 20 "${ones[@]}" >"$temp/twenty.txt"
+sums '40 equal, quota 20' "$temp/twenty.txt"
+sums '27 members' examples/eu-27-nice-votes.toml
+for most in 100 1000; do
+    x=7
+    total=0
+    weights=()
+    for ((member = 0; member < 40; member++)); do
+        x=$(((75 * x + 74) % 65537))
+        weights+=($((x % most + 1)))
+        total=$((total + x % most + 1))
+    done
+    notation $((total / 2 + 1)) "${weights[@]}" >"$temp/random-$most.txt"
+    sums "40 random up to $most" "$temp/random-$most.txt"
+done
+
 echo
 processors=$(nproc)
 for ((i = 0; i < processors; i++)); do
