@@ -172,20 +172,31 @@ fn more_room_than_there_is(rt: HostRuntime) -> Result<(), Fail> {
     Ok(())
 }
 
+/// A game of two rules over two members.
+fn game_of_two(rt: &impl Abort, alloc: Global) -> Result<Game, Fail> {
+    let mut names = Vec::new(alloc);
+    names.push(format!(in alloc; "A")?)?;
+    names.push(format!(in alloc; "B")?)?;
+    let one = Rule {
+        quota: 1,
+        weights: [2, 1].to_vec(alloc)?,
+    };
+    let two = Rule {
+        quota: 1,
+        weights: [1, 1].to_vec(alloc)?,
+    };
+    assert!(rt; one.weights.len() == names.len());
+    assert!(rt; two.weights.len() == names.len());
+    let mut rules = Vec::new(alloc);
+    rules.push(one)?;
+    rules.push(two)?;
+    Ok(Game::with_rules(alloc, None, names, rules)?)
+}
+
 #[test]
 fn two_rules_are_not_taken(rt: HostRuntime) -> Result<(), Fail> {
-    let alloc = rt.alloc();
-    let mut names = Vec::new(alloc);
-    let mut rules = Vec::new(alloc);
-    for name in ["A", "B"] {
-        names.push(format!(in alloc; "{name}")?)?;
-        rules.push(Rule {
-            quota: 1,
-            weights: Vec::from_array(alloc, [1, 1])?,
-        })?;
-    }
-    assert!(rt; names.len() == 2);
-    let game = Game::with_rules(alloc, None, names, rules)?;
-    assert!(rt; count_by_sums(alloc, &game).is_ok_and(|counts| counts.is_none()));
+    let game = game_of_two(&rt, rt.alloc())?;
+    let counts = count_by_sums(rt.alloc(), &game);
+    assert!(rt; counts.is_ok_and(|counts| counts.is_none()));
     Ok(())
 }
