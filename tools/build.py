@@ -138,7 +138,8 @@ def prove_all(names, lines):
             for at, name in enumerate(ready):
                 idle = count - sum(jobs for _, jobs in running.values())
                 if idle > 0:
-                    jobs = max(1, min(4, idle // (len(ready) - at)))
+                    # what the longest chain waits for gets the processors that no other library wants
+                    jobs = max(1, min(4, idle - (len(ready) - at - 1)))
                     left.remove(name)
                     running[pool.submit(prove, name, lines, jobs)] = name, jobs
             for it in wait(running, return_when=FIRST_COMPLETED).done:

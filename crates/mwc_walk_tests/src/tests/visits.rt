@@ -72,22 +72,22 @@ fn visits_under_several_rules(rt: HostRuntime) -> Result<(), Fail> {
     Ok(())
 }
 
-/// A president, a senate of seven and a house of thirteen, in each order of the rules.
+/// A president, a senate of nine and a house of seventeen, in each order of the rules.
 #[test]
 fn visits_in_each_order_of_the_rules(rt: HostRuntime) -> Result<(), Fail> {
     let alloc = rt.alloc();
-    let (president, senate, house) = ((0, 1, 1), (1, 8, 4), (8, 21, 7));
+    let (president, senate, house) = ((0, 1, 1), (1, 10, 5), (10, 27, 9));
     let rows = [
-        ([president, senate, house], 120_176),
-        ([president, house, senate], 120_176),
-        ([senate, president, house], 120_210),
-        ([senate, house, president], 120_210),
-        ([house, president, senate], 124_838),
-        ([house, senate, president], 124_838),
+        ([president, senate, house], 6_126_330),
+        ([president, house, senate], 6_126_330),
+        ([senate, president, house], 6_126_455),
+        ([senate, house, president], 6_126_455),
+        ([house, president, senate], 6_194_187),
+        ([house, senate, president], 6_194_187),
     ];
     for (order, visits) in rows {
-        let game = game_by_seats(&rt, alloc, 21, &order)?;
-        counts(&rt, &mut Walk::new(&game, 0, 0), 60_060, visits);
+        let game = game_by_seats(&rt, alloc, 27, &order)?;
+        counts(&rt, &mut Walk::new(&game, 0, 0), 3_063_060, visits);
     }
     Ok(())
 }
