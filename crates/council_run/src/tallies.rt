@@ -77,9 +77,9 @@ fn count<T: Threads + Wait + Sync, V: Watch + Sync>(
 /// Reads a game, counts its minimal winning coalitions, however many these are, by sums where these serve
 /// and else by worker threads, and writes its report, with no line for a coalition, and nothing else.
 /// (`mwc_tally::tally` counts those of a game alone.) No coalition is kept, so the memory does not grow with
-/// their number, and `most` and `list` of the options are not looked at. At
-/// least 8 of the heaviest members are fixed in each slice, if there are so many. It returns the number
-/// of bytes written. It may wait for its workers.
+/// their number, and `most` and `list` of the options are not looked at. Where threads count, at least 8
+/// of the heaviest members are fixed in each slice, if there are so many. It returns the number of bytes
+/// written. It may wait for its workers.
 ///
 /// # Errors
 ///

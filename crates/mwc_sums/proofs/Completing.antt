@@ -171,12 +171,12 @@ least-first w ws r pos enough = record {
         absurd (both_ways _ (has-none (length ws) p) (sym (rest-in (length ws) p 0 (omega arith)) ∙ inside))
 
 -- ---- the list of them
-same_test : (a b : Bool) → (a ≡ true → b ≡ true) → (b ≡ true → a ≡ true) → a ≡ b
+pub same_test : (a b : Bool) → (a ≡ true → b ≡ true) → (b ≡ true → a ≡ true) → a ≡ b
 same_test true b f g = sym (f refl)
 same_test false true f g = g refl
 same_test false false f g = refl
 
-down-two : (m n : ℕ) → down (m + n) ≡ map (λ c. n + c) (down m) ++ down n
+pub down-two : (m n : ℕ) → down (m + n) ≡ map (λ c. n + c) (down m) ++ down n
 unfolding down
 down-two zero n = ap down (let e : zero + n ≡ n = omega arith in e)
 down-two (suc m) n =
@@ -201,7 +201,7 @@ only-none (suc (suc n)) test pos passes fails =
     cond-false (test (suc n)) (suc n ∷ filter test (down (suc n))) (filter test (down (suc n))) (fails (suc n) (omega arith) (omega arith))
     ∙ only-none (suc n) test (omega arith) passes (λ c some lt. fails c some (omega arith))
 
-not-true : (b : Bool) → (b ≡ true → ⊥) → b ≡ false
+pub not-true : (b : Bool) → (b ≡ true → ⊥) → b ≡ false
 not-true true h = absurd (h refl)
 not-true false h = refl
 
@@ -239,14 +239,14 @@ filter-completing (w ∷ ws) r test pos falls same =
         ∙ sym (cond-true (leb r w) (0 ∷ []) (completing ws (r - w)) (le-leb r w enough))
 
 -- ---- in a game of one rule
-wins-one : (r : RuleView) (c : ℕ) → (wins (r ∷ []) c ≡ true) ↔ (r.quota ≤ weight r.weights c)
+pub wins-one : (r : RuleView) (c : ℕ) → (wins (r ∷ []) c ≡ true) ↔ (r.quota ≤ weight r.weights c)
 unfolding wins
 wins-one r c = (
   λ won. leb-true _ _ (and_parts (leb r.quota (weight r.weights c)) true won).0,
   λ met. and_from (leb r.quota (weight r.weights c)) true (le-leb _ _ met) refl,
 )
 
-loses-one : (r : RuleView) (c : ℕ) → (wins (r ∷ []) c ≡ false) ↔ (weight r.weights c < r.quota)
+pub loses-one : (r : RuleView) (c : ℕ) → (wins (r ∷ []) c ≡ false) ↔ (weight r.weights c < r.quota)
 unfolding wins
 loses-one r c = (
   λ lost. leb-false _ _ (sym (and-true _) ∙ lost),

@@ -10,11 +10,11 @@ use Rattle.council_game.specs.Votes.{has, size}
 use Rattle.council_game.proofs.Digits.{has-none}
 use Rattle.council_game.proofs.Sizes.{size-ones}
 use Rattle.mwc_sums.specs.Completing.{completing}
-use Rattle.mwc_sums.specs.Inner.Rows.{one_of_size, closings}
+use Rattle.mwc_sums.specs.Inner.Rows.{one_of_size, taken, left_out}
 use Rattle.mwc_sums.proofs.Completing.{double-pow, first-in, first-out, rest-in, rest-out, filter-map}
 
 -- ---- sizes
-size-with : (n c : ℕ) → c < 2 ^ n → size (suc n) (2 ^ n + c) ≡ size n c + 1
+pub size-with : (n c : ℕ) → c < 2 ^ n → size (suc n) (2 ^ n + c) ≡ size n c + 1
 size-with n c lt =
     let e : 1 * 2 ^ n + c ≡ 2 ^ n + c = omega arith in
     let d = double-pow n in
@@ -23,7 +23,7 @@ size-with n c lt =
     let ones = ap count_ones e in
     omega (arith, size-ones (suc n) (2 ^ n + c) (omega (arith, d)), size-ones n c lt, cat, one, ones)
 
-size-left : (n c : ℕ) → c < 2 ^ n → size (suc n) c ≡ size n c
+pub size-left : (n c : ℕ) → c < 2 ^ n → size (suc n) c ≡ size n c
 size-left n c lt = let d = double-pow n in size-ones (suc n) c (omega (arith, d)) ∙ sym (size-ones n c lt)
 
 -- ---- lists of coalitions of some places
@@ -49,7 +49,7 @@ completing-below (w ∷ ws) r =
 abbrev pub count : (ℕ → Bool) → List ℕ → ℕ
 count q xs = length (filter q xs)
 
-count-same : (p q : ℕ → Bool) (b : ℕ) (xs : List ℕ) → All (λ c. c < b) xs → ((c : ℕ) → c < b → p c ≡ q c) → count p xs ≡ count q xs
+pub count-same : (p q : ℕ → Bool) (b : ℕ) (xs : List ℕ) → All (λ c. c < b) xs → ((c : ℕ) → c < b → p c ≡ q c) → count p xs ≡ count q xs
 count-same p q b [] all same = refl
 count-same p q b (x ∷ xs) all same =
     let rest = count-same p q b xs (All-tail (λ c. c < b) x xs all) same in
@@ -61,7 +61,7 @@ count-same p q b (x ∷ xs) all same =
     kept true false e h = cc
     kept false true e h = cc
 
-count-none : (p : ℕ → Bool) (b : ℕ) (xs : List ℕ) → All (λ c. c < b) xs → ((c : ℕ) → c < b → p c ≡ false) → count p xs ≡ 0
+pub count-none : (p : ℕ → Bool) (b : ℕ) (xs : List ℕ) → All (λ c. c < b) xs → ((c : ℕ) → c < b → p c ≡ false) → count p xs ≡ 0
 count-none p b [] all fails = refl
 count-none p b (x ∷ xs) all fails =
     ap (λ (l : List ℕ). length l) (cond-false (p x) (x ∷ filter p xs) (filter p xs) (fails x (All-head (λ c. c < b) x xs all)))
@@ -93,6 +93,11 @@ choose : (b : Bool) (x y u v : ℕ) → (b ≡ true → x ≡ u) → (b ≡ fals
 choose true x y u v f g = f refl
 choose false x y u v f g = g refl
 
+-- in how many ways members with these weights complete a need, to coalitions of size s
+unfoldable pub closings : List ℕ → ℕ → ℕ → ℕ → ℕ
+closings [] s r a = 0
+closings (w ∷ ws) s r a = taken w (one_of_size s) (closings ws s) r a + closings ws s r a
+
 pub closings-all : (ws : List ℕ) (s r a : ℕ) → count (λ c. a + size (length ws) c == s) (completing ws r) ≡ closings ws s r a
 unfolding closings completing
 closings-all [] s r a = refl
@@ -108,12 +113,6 @@ closings-all (w ∷ ws) s r a =
     ap (λ (k : ℕ). k == s) e)) ∙ closings-all ws s (r - w) (a + 1)) in
     let rest = count-same (λ c. a + size (suc n) c == s) (λ c. a + size n c == s) (2 ^ n) (completing ws r) (completing-below ws r) (λ c lt. ap (λ (k : ℕ). a + k == s) (size-left n c lt)) ∙ closings-all ws s r a in
     parts ∙ omega (arith, first, rest)
-
--- weights without that of place p
-unfoldable pub left_out : ℕ → List ℕ → List ℕ
-left_out p [] = []
-left_out zero (w ∷ ws) = ws
-left_out (suc p) (w ∷ ws) = w ∷ left_out p ws
 
 -- those that have place p, and those without it: of as many as complete the need without its member
 pub closings-parted : (ws : List ℕ) (p s r a : ℕ) → p < length ws →

@@ -1,6 +1,9 @@
 pub mod Taking
 pub mod Completing
 pub mod Counting
+pub mod Meeting
 pub mod Passing
 pub mod Members
+pub mod HeadLaw
+pub mod Ended
 pub mod Whole

@@ -1,11 +1,21 @@
-//! A law of the definitions, with nothing to run.
-ghost use Rattle.council_game.specs.Votes.{IsVotes, Votes, minimal_coalitions, rule_at};
+//! Laws of the definitions, with nothing to run.
+ghost use Rattle.council_game.specs.Votes.{IsVotes, Votes, minimal, minimal_coalitions, rule_at};
 ghost use Rattle.mwc_sums.specs.Completing.{completing};
-ghost use Rattle.std.specs.Prelude.{◌≡◌, length};
+ghost use Rattle.mwc_sums.specs.Heads.{AsksForHeads, IsMinimalByHeads};
+ghost use Rattle.std.specs.Prelude.{◌≡◌, ℕ, ◌<◌, ◌^◌, ◌↔◌, true, length};
 
 /// In a game of one rule, the minimal winning coalitions are those that complete the quota.
 #[tactic(auto, using(crate::proofs::Completing::laws))]
 pub fn minimal_coalitions_complete_the_quota()
     ensures { (v : Votes) → IsVotes v → length v.rules ≡ 1 → minimal_coalitions v
         ≡ completing (rule_at v.rules 0).weights (rule_at v.rules 0).quota }
+{}
+
+/// In a game of two rules, of which the second asks for so many heads, a coalition is minimal exactly where
+/// it has just so many members and meets the first quota, or has more members and is minimal under the first
+/// rule alone.
+pub fn minimal_coalitions_by_heads()
+    ensures { (v : Votes) (heads c : ℕ) → IsVotes v → length v.rules ≡ 2
+        → AsksForHeads v.members heads (rule_at v.rules 1) → c < 2 ^ v.members
+        → (minimal v c ≡ true) ↔ IsMinimalByHeads v heads c }
 {}

@@ -8,6 +8,7 @@
 //! ```
 #![tactic(auto)]
 
+mod choices;
 mod count;
 pub mod laws;
 mod row;

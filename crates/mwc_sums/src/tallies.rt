@@ -1,8 +1,8 @@
 //! Tallies of the coalitions that complete a quota.
-ghost use Rattle.council_game.specs.Votes.{has};
-ghost use Rattle.mwc_sums.specs.Completing.{completing};
-ghost use Rattle.power_index.specs.Tables.{IsTallyOf, no_tally};
-ghost use Rattle.std.specs.Prelude.{◌≡◌, ℕ, ◌+◌, ◌<◌, ◌≤◌, IfOk, IfSome, true, length, sum, slice_index, slice_index_or};
+ghost use Rattle.mwc_sums.specs.Inner.Rows.{AreChoices, AreEndings, AreEndingsWith};
+ghost use Rattle.mwc_sums.specs.Inner.Rows.{endings, left_out};
+ghost use Rattle.power_index.specs.Tables.{no_tally};
+ghost use Rattle.std.specs.Prelude.{◌≡◌, ℕ, ◌+◌, ◌<◌, ◌≤◌, IfOk, IfSome, length, sum, slice_index, slice_index_or};
 
 use crate::rows::Rows;
 use council_game::{Memory, limits};
@@ -15,15 +15,18 @@ pub(crate) fn tally_all(
     weights: &[u64],
     quota: u64,
     total: u64,
+    heads: usize,
+    choices: &[[u64; limits::SIZES]],
 ) -> Result<Option<Tally>, Memory>
+    requires heads { heads ≤ 40 }
+    requires choices { AreChoices choices.now }
     requires few { length weights.now ≤ 40 }
     requires total { total ≡ sum weights.now }
-    ensures { IfOk result (λ tally. IfSome tally (λ t.
-        IsTallyOf (length weights.now) (λ _. true) (completing weights.now quota) t)) }
+    ensures { IfOk result (λ tally. IfSome tally (AreEndings weights.now heads quota)) }
 {
     let mut sizes = [0; limits::SIZES];
     let mut rows = Rows::new(alloc, quota)?;
-    if !rows.finish(weights, 0, total, &mut sizes)? {
+    if !rows.finish(weights, 0, total, heads, choices, &mut sizes)? {
         return Ok(None);
     }
     Ok(Some(Tally { sizes }))
@@ -43,21 +46,27 @@ fn difference(all: &Tally, part: &[u64; limits::SIZES]) -> Tally
     Tally { sizes }
 }
 
-/// The tallies, by rank place, of the coalitions that complete a quota and contain the place: of all, those
-/// that do not complete it without its member. None where there is no room.
+/// The tallies, by rank place, of the coalitions that contain the place: of all, those that the members do not
+/// lead to without its member. The rows up to a place are those of one member less, so that one less is left
+/// to fill a coalition up. None where there is no room.
 pub(crate) fn tally_each(
     alloc: Global,
     weights: &[u64],
     quota: u64,
     total: u64,
+    heads: usize,
+    choices: &[[u64; limits::SIZES]],
     all: &Tally,
 ) -> Result<Option<[Tally; limits::MEMBERS]>, Memory>
     requires few { length weights.now ≤ 40 }
     requires total { total ≡ sum weights.now }
-    requires all { IsTallyOf (length weights.now) (λ _. true) (completing weights.now quota) all.now }
+    requires heads { heads ≤ 40 }
+    requires choices { AreChoices choices.now }
+    requires all { AreEndings weights.now heads quota all.now }
+    requires less { (p s : ℕ) → p < length weights.now → s ≤ 40 →
+        endings (left_out p weights.now) heads s quota 0 ≤ endings weights.now heads s quota 0 }
     ensures { IfOk result (λ tallies. IfSome tallies (λ each. (p : ℕ) → p < length weights.now →
-        IsTallyOf (length weights.now) (has (length weights.now) p) (completing weights.now quota)
-        (slice_index_or each p no_tally))) }
+        AreEndingsWith weights.now heads quota p (slice_index_or each p no_tally))) }
 {
     let mut each = [*all; limits::MEMBERS];
     let mut rows = Rows::new(alloc, quota)?;
@@ -68,11 +77,12 @@ pub(crate) fn tally_each(
         rest -= weights[place];
         others.copy(&rows.row)?;
         let mut without = done;
-        if !others.finish(weights, place + 1, rest, &mut without)? {
+        if !others.finish(weights, place + 1, rest, heads, choices, &mut without)? {
             return Ok(None);
         }
         each[place] = difference(all, &without);
-        rows.go_on(weights[place], rest, &mut done)?;
+        let left = (weights.len() - place).saturating_sub(2);
+        rows.go_on(weights[place], rest, left, heads, choices, &mut done)?;
     }
     Ok(Some(each))
 }

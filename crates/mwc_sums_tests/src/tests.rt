@@ -172,18 +172,32 @@ fn more_room_than_there_is(rt: HostRuntime) -> Result<(), Fail> {
     Ok(())
 }
 
-/// A game of two rules over two members.
-fn game_of_two(rt: &impl Abort, alloc: Global) -> Result<Game, Fail> {
+/// The game of a seed as before, with a second rule that gives each member such a weight.
+fn random_game_of_heads(
+    rt: &impl Abort,
+    alloc: Global,
+    seed: u64,
+    below: u64,
+    each: u64,
+) -> Result<Game, Fail> {
+    let first = random_game(rt, alloc, seed, 10, below)?;
+    let members = first.members();
+    assert!(rt; first.rules() == 1);
     let mut names = Vec::new(alloc);
-    names.push(format!(in alloc; "A")?)?;
-    names.push(format!(in alloc; "B")?)?;
+    let mut weights = Vec::new(alloc);
+    let mut heads = Vec::new(alloc);
+    for member in 0..members {
+        names.push(format!(in alloc; "{member}")?)?;
+        weights.push(first.rule_weight(0, member))?;
+        heads.push(each)?;
+    }
     let one = Rule {
-        quota: 1,
-        weights: [2, 1].to_vec(alloc)?,
+        quota: first.rule_quota(0),
+        weights,
     };
     let two = Rule {
-        quota: 1,
-        weights: [1, 1].to_vec(alloc)?,
+        quota: (next(seed) >> 33) % (members as u64 * 3) + 1,
+        weights: heads,
     };
     assert!(rt; one.weights.len() == names.len());
     assert!(rt; two.weights.len() == names.len());
@@ -194,8 +208,42 @@ fn game_of_two(rt: &impl Abort, alloc: Global) -> Result<Game, Fail> {
 }
 
 #[test]
-fn two_rules_are_not_taken(rt: HostRuntime) -> Result<(), Fail> {
-    let game = game_of_two(&rt, rt.alloc())?;
+fn random_games_of_heads_as_all_subsets(rt: HostRuntime) -> Result<(), Fail> {
+    let alloc = rt.alloc();
+    for seed in 200..240 {
+        for below in [2, 7, 100, 1_000_000_000_000] {
+            let game = random_game_of_heads(&rt, alloc, seed, below, 3)?;
+            let found = by_sums(alloc, &game)?;
+            same_counts(&rt, &found, &by_subsets(&rt, alloc, &game)?);
+        }
+    }
+    Ok(())
+}
+
+/// A game of two rules over two members, the second of these weights.
+fn game_of_two(rt: &impl Abort, alloc: Global, second: &[u64]) -> Result<Game, Fail> {
+    let mut names = Vec::new(alloc);
+    names.push(format!(in alloc; "A")?)?;
+    names.push(format!(in alloc; "B")?)?;
+    let one = Rule {
+        quota: 1,
+        weights: [2, 1].to_vec(alloc)?,
+    };
+    let two = Rule {
+        quota: 1,
+        weights: second.to_vec(alloc)?,
+    };
+    assert!(rt; one.weights.len() == names.len());
+    assert!(rt; two.weights.len() == names.len());
+    let mut rules = Vec::new(alloc);
+    rules.push(one)?;
+    rules.push(two)?;
+    Ok(Game::with_rules(alloc, None, names, rules)?)
+}
+
+#[test]
+fn a_second_rule_of_other_weights_is_not_taken(rt: HostRuntime) -> Result<(), Fail> {
+    let game = game_of_two(&rt, rt.alloc(), &[1, 2])?;
     let counts = count_by_sums(rt.alloc(), &game);
     assert!(rt; counts.is_ok_and(|counts| counts.is_none()));
     Ok(())

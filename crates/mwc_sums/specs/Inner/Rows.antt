@@ -1,7 +1,9 @@
 -- Rows of prefixes that are not complete, and how they go on.
-use Rattle.std.specs.Prelude.{ℕ, ◌+◌, ◌-◌, ◌*◌, ◌==◌, ◌≤◌, ◌^◌, if◌then◌else◌, nat_le, List, [], ◌∷◌, slice_index, sum_by}
+use Rattle.std.specs.Prelude.{ℕ, zero, suc, ◌+◌, ◌-◌, ◌*◌, ◌==◌, ◌≤◌, ◌^◌, ◌≡◌, if◌then◌else◌, nat_le, nat_lt, List, [], ◌∷◌, length, slice_index, slice_index_or, sum_by}
 use Rattle.std.specs.List.{All}
 use Rattle.mwc_sums.specs.declared.row.Open.{Open}
+use Rattle.mwc_sums.specs.Heads.{choose}
+use Rattle.power_index.specs.declared.tally.Tally.{Tally}
 
 -- the sum of a number that goes with a need and a size, over the prefixes of a row
 abbrev pub weigh : (ℕ → ℕ → ℕ) → List Open → ℕ
@@ -16,15 +18,44 @@ abbrev pub one_of_size : ℕ → ℕ → ℕ
 one_of_size s size = if size == s then 1 else 0
 
 -- a prefix with one member more, of weight w: complete, or counted by g
-abbrev pub taken : ℕ → ℕ → (ℕ → ℕ → ℕ) → ℕ → ℕ → ℕ
-taken w s g need size = if nat_le need w then one_of_size s (size + 1) else g (need - w) (size + 1)
+abbrev pub taken : ℕ → (ℕ → ℕ) → (ℕ → ℕ → ℕ) → ℕ → ℕ → ℕ
+taken w complete g need size = if nat_le need w then complete (size + 1) else g (need - w) (size + 1)
 
--- in how many ways members with these weights complete a need, to coalitions of size s
-unfoldable pub closings : List ℕ → ℕ → ℕ → ℕ → ℕ
-closings [] s need size = 0
-closings (w ∷ ws) s need size = taken w s (closings ws s) need size + closings ws s need size
+-- how many coalitions of size s a prefix of this size leads to that meets the first quota, and that by its last member,
+-- where so many members are left, and so many heads are asked for: itself where it has more, and else any others that fill it up
+abbrev pub fill : ℕ → ℕ → ℕ → ℕ → ℕ
+fill heads s left size =
+    if nat_lt heads size then one_of_size s size else one_of_size s heads * choose left (heads - size)
 
--- a row of prefixes of at most p members, and the coalitions complete by then, by size: no more than p members have
-pub record AreOfPrefixes (p : ℕ) (done : List ℕ) (row : List Open) : Type 0 where
-  pub few : (s : ℕ) → s ≤ 40 → slice_index done s + prefixes row ≤ 2 ^ p
+-- how many coalitions of size s members with these weights lead to, from a need and a size
+unfoldable pub endings : List ℕ → ℕ → ℕ → ℕ → ℕ → ℕ
+endings [] heads s need size = 0
+endings (w ∷ ws) heads s need size =
+    taken w (fill heads s (length ws)) (endings ws heads s) need size + endings ws heads s need size
+
+-- weights without that of place p
+unfoldable pub left_out : ℕ → List ℕ → List ℕ
+left_out p [] = []
+left_out zero (w ∷ ws) = ws
+left_out (suc p) (w ∷ ws) = w ∷ left_out p ws
+
+-- a row of prefixes of at most p members, where so many are left, and the coalitions counted by then, by size
+pub record AreOfPrefixes (p left : ℕ) (done : List ℕ) (row : List Open) : Type 0 where
+  pub few : (s : ℕ) → s ≤ 40 → slice_index done s + prefixes row * 2 ^ left ≤ 2 ^ 40
   pub sizes : All (λ o. o.size ≤ p) row
+
+-- row m has in how many ways so many of m can be chosen
+pub record AreChoices (rows : List (List ℕ)) : Type 0 where
+  pub long : length rows ≡ 41
+  pub each : (m k : ℕ) → m ≤ 40 → k ≤ 40 → slice_index (slice_index_or rows m []) k ≡ choose m k
+
+-- a tally has so many coalitions of each size as the members lead to from a quota
+pub record AreEndings (ws : List ℕ) (heads quota : ℕ) (t : Tally) : Type 0 where
+  pub long : length t.sizes ≡ 41
+  pub sizes : (s : ℕ) → s ≤ 40 → slice_index t.sizes s ≡ endings ws heads s quota 0
+
+-- a tally has those that the members do not lead to without the member of place p
+pub record AreEndingsWith (ws : List ℕ) (heads quota p : ℕ) (t : Tally) : Type 0 where
+  pub long : length t.sizes ≡ 41
+  pub sizes : (s : ℕ) → s ≤ 40 →
+      slice_index t.sizes s + endings (left_out p ws) heads s quota 0 ≡ endings ws heads s quota 0

@@ -1,0 +1,5 @@
+use Rattle.mwc_sums.proofs.Whole.{heads-law}
+use Rattle.mwc_sums.proofs.laws.minimal_coalitions_by_heads.Goals as goal
+
+pub returns : goal.returns
+returns c = heads-law

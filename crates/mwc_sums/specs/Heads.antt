@@ -1,0 +1,28 @@
+-- Games of two rules, of which the second asks for so many members.
+use Rattle.std.specs.Prelude.{ℕ, zero, suc, ◌+◌, ◌*◌, ◌<◌, ◌≤◌, ◌≡◌, ◌↔◌, ◌⊎◌, true, take, slice_index}
+use Rattle.council_game.specs.Votes.{RuleView, Votes, rule_at, size, weight, minimal}
+
+-- in how many ways k of m members can be chosen
+unfoldable pub choose : ℕ → ℕ → ℕ
+choose zero zero = 1
+choose zero (suc k) = 0
+choose (suc m) zero = 1
+choose (suc m) (suc k) = choose m k + choose m (suc k)
+
+-- a rule that gives each of n members the same weight above 0, so that it asks for so many heads
+pub record AsksForHeads (n heads : ℕ) (r : RuleView) : Type 0 where
+  pub each : ℕ
+  pub some : 0 < each
+  pub same : (p : ℕ) → p < n → slice_index r.weights p ≡ each
+  pub enough : (k : ℕ) → (r.quota ≤ k * each) ↔ (heads ≤ k)
+
+-- the first rule alone
+abbrev pub first_rule : Votes → Votes
+first_rule v = record v { rules = take 1 v.rules }
+
+-- a coalition has just so many members and meets the first quota, or more members and is minimal under the first rule alone
+abbrev pub IsMinimalByHeads : Votes → ℕ → ℕ → Type 0
+IsMinimalByHeads v heads c =
+    let rule = rule_at v.rules 0 in
+    ((size v.members c ≡ heads) × (rule.quota ≤ weight rule.weights c))
+    ⊎ ((heads < size v.members c) × (minimal (first_rule v) c ≡ true))
