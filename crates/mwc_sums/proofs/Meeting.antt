@@ -6,7 +6,7 @@ use Rattle.std.proofs.lemmas.List.{length-map}
 use Rattle.std.proofs.lemmas.List.Elements.{filter-append, All-nil, All-cons}
 use Rattle.council_game.specs.Votes.{has, size, weight, down}
 use Rattle.council_game.proofs.WeightByDigits.{weight-nil}
-use Rattle.mwc_sums.specs.Heads.{choose}
+use Rattle.mwc_sums.specs.Inner.Choices.{choose}
 use Rattle.mwc_sums.specs.Inner.Rows.{one_of_size, fill, endings, left_out}
 use Rattle.mwc_sums.proofs.Completing.{double-pow, down-two, first-in, first-out, rest-in, rest-out, weight-with, weight-left, filter-map}
 use Rattle.mwc_sums.proofs.Counting.{count, count-same, count-none, size-with, size-left, closings}

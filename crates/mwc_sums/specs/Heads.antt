@@ -1,13 +1,6 @@
 -- Games of two rules, of which the second asks for so many members.
-use Rattle.std.specs.Prelude.{ℕ, zero, suc, ◌+◌, ◌*◌, ◌<◌, ◌≤◌, ◌≡◌, ◌↔◌, ◌⊎◌, true, take, slice_index}
+use Rattle.std.specs.Prelude.{ℕ, ◌*◌, ◌<◌, ◌≤◌, ◌≡◌, ◌↔◌, ◌⊎◌, true, take, slice_index}
 use Rattle.council_game.specs.Votes.{RuleView, Votes, rule_at, size, weight, minimal}
-
--- in how many ways k of m members can be chosen
-unfoldable pub choose : ℕ → ℕ → ℕ
-choose zero zero = 1
-choose zero (suc k) = 0
-choose (suc m) zero = 1
-choose (suc m) (suc k) = choose m k + choose m (suc k)
 
 -- a rule that gives each of n members the same weight above 0, so that it asks for so many heads
 pub record AsksForHeads (n heads : ℕ) (r : RuleView) : Type 0 where

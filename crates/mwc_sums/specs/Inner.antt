@@ -1,3 +1,4 @@
 -- What only proofs, private functions and invariants need: no public contract mentions it.
 pub mod Rows
 pub mod Asked
+pub mod Choices

@@ -1,6 +1,6 @@
 //! In how many ways some of the members can be chosen.
 ghost use Rattle.std.specs.Prelude.{◌≡◌, ℕ, ◌+◌, ◌≤◌, ◌<◌, IfOk, length, slice_index};
-ghost use Rattle.mwc_sums.specs.Heads.{choose};
+ghost use Rattle.mwc_sums.specs.Inner.Choices.{choose};
 ghost use Rattle.mwc_sums.specs.Inner.Rows.{AreChoices};
 
 use council_game::{Memory, limits};

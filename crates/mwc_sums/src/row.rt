@@ -1,7 +1,7 @@
 //! Prefixes of members that are not complete, in rows.
 ghost use Rattle.std.specs.Prelude.{◌≡◌, ℕ, ◌+◌, ◌*◌, ◌<◌, ◌≤◌, ◌^◌, ◌-◌, if◌then◌else◌, nat_lt, IfOk, length, slice_index, take};
 ghost use Rattle.std.specs.List.{All};
-ghost use Rattle.mwc_sums.specs.Heads.{choose};
+ghost use Rattle.mwc_sums.specs.Inner.Choices.{choose};
 ghost use Rattle.mwc_sums.specs.Inner.Rows.{AreChoices, fill, prefixes, taken, weigh};
 
 use council_game::{Memory, limits};

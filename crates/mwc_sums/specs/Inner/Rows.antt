@@ -2,7 +2,7 @@
 use Rattle.std.specs.Prelude.{ℕ, zero, suc, ◌+◌, ◌-◌, ◌*◌, ◌==◌, ◌≤◌, ◌^◌, ◌≡◌, if◌then◌else◌, nat_le, nat_lt, List, [], ◌∷◌, length, slice_index, slice_index_or, sum_by}
 use Rattle.std.specs.List.{All}
 use Rattle.mwc_sums.specs.declared.row.Open.{Open}
-use Rattle.mwc_sums.specs.Heads.{choose}
+use Rattle.mwc_sums.specs.Inner.Choices.{choose}
 use Rattle.power_index.specs.declared.tally.Tally.{Tally}
 
 -- the sum of a number that goes with a need and a size, over the prefixes of a row

@@ -1,5 +1,5 @@
 use Rattle.std.proofs.Common.{◌≡◌, ◌∙◌, ℕ, List, [], ◌∷◌, ◌++◌, get_or, length, ap, sym, arith, replicate}
-use Rattle.mwc_sums.specs.Heads.{choose}
+use Rattle.mwc_sums.specs.Inner.Choices.{choose}
 use Rattle.mwc_sums.proofs.Taking.{choose-zero}
 use Rattle.mwc_sums.proofs.choices.choices.Goals as goal
 

@@ -1,7 +1,7 @@
 use Rattle.std.proofs.Common.{◌≡◌, ◌∙◌, ℕ, ◌+◌, ◌-◌, ◌≤◌, ◌^◌, get_or, set, length-set, get_or-set_same, get_or-set_other, ap, sym, inl, inr, arith}
 use Rattle.std.proofs.Math.Pow.{pow_mono}
 use Rattle.std.proofs.lemmas.Bool.{cases_eq}
-use Rattle.mwc_sums.specs.Heads.{choose}
+use Rattle.mwc_sums.specs.Inner.Choices.{choose}
 use Rattle.mwc_sums.proofs.Taking.{choose-most, choose-none, choose-more}
 use Rattle.mwc_sums.proofs.choices.next_row.Goals as goal
 

@@ -1,5 +1,5 @@
 use Rattle.std.proofs.Common.{◌≡◌, ℕ, ◌+◌, ◌<◌, length, get_or}
-use Rattle.mwc_sums.specs.Heads.{choose}
+use Rattle.mwc_sums.specs.Inner.Choices.{choose}
 use Rattle.mwc_sums.proofs.choices.next_row.Given as goal
 
 abbrev pub invariant-loop-k : goal.invariant-loop-k
