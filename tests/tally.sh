@@ -55,7 +55,7 @@ same_as_run() {
             printf '[[member]]\nname = "%s"\nweights = [%s]\n' "$member" "$weights"
         done
     } >"$temp/rules.toml"
-    run "$temp/rules.toml" --sizes
+    run "$temp/rules.toml" --sizes --most 4000000
     if succeeded "a run of $name"; then
         cp "$temp/out" "$temp/wanted"
         run --tally --sizes "$temp/rules.toml"
@@ -77,13 +77,13 @@ for seats in 12 20; do
     mapfile -t votes < <(repeat "$seats" '1, 0' && repeat "$seats" '0, 1')
     same_as_run "two houses of $seats" '2, 2' "${votes[@]}"
 done
-# a president, a senate of seven and a house of thirteen, in each order of the rules
+# a president, a senate of nine and a house of seventeen, in each order of the rules
 unit=('1, 0, 0' '0, 1, 0' '0, 0, 1')
 for order in '0 1 2' '0 2 1' '1 0 2' '1 2 0' '2 0 1' '2 1 0'; do
     read -r president senate house <<<"$order"
     quotas=()
-    quotas[president]=1 quotas[senate]=4 quotas[house]=7
-    mapfile -t votes < <(repeat 1 "${unit[president]}" && repeat 7 "${unit[senate]}" && repeat 13 "${unit[house]}")
+    quotas[president]=1 quotas[senate]=5 quotas[house]=9
+    mapfile -t votes < <(repeat 1 "${unit[president]}" && repeat 9 "${unit[senate]}" && repeat 17 "${unit[house]}")
     same_as_run "a president, a senate and a house as rules $order" "${quotas[0]}, ${quotas[1]}, ${quotas[2]}" "${votes[@]}"
 done
 # random weights up to 50 and zeros, and as quotas more than a third of what they add up to
@@ -93,7 +93,7 @@ for rules in 2 3 4; do
     votes=()
     for ((rule = 0; rule < rules; rule++)); do
         sum=0
-        for ((member = 0; member < 22; member++)); do
+        for ((member = 0; member < 26; member++)); do
             x=$(((75 * x + 74) % 65537))
             weight=$((x % 3 == 0 ? 0 : x % 50 + 1))
             sum=$((sum + weight))
@@ -101,7 +101,7 @@ for rules in 2 3 4; do
         done
         needed+=${needed:+, }$((sum / 3 + 1))
     done
-    same_as_run "22 random members and $rules rules" "$needed" "${votes[@]}"
+    same_as_run "26 random members and $rules rules" "$needed" "${votes[@]}"
 done
 
 # ---- refusals
