@@ -428,6 +428,11 @@ fn long_bracket_texts(rt: HostRuntime) -> Result<(), Fail> {
         let found = parse_game(alloc, text.as_bytes()).err();
         same(&rt, found, wanted, text.as_str());
     }
+    for count in 0..131usize {
+        let blanks = " ".repeat(alloc, 500 * count)?;
+        let text = format!(in alloc; "[1; 1]{blanks}")?;
+        check(&rt, alloc, text.as_str(), "1 [1; 1]")?;
+    }
     let blanks = " ".repeat(alloc, 65_530)?;
     let full = format!(in alloc; "[1; 1]{blanks}")?;
     check(&rt, alloc, full.as_str(), "1 [1; 1]")?;

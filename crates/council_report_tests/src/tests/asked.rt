@@ -1,36 +1,44 @@
 //! How often a writer is asked.
 use super::*;
 
-/// A writer that takes all that it is given, at most so many bytes a call. Its first flush may fail, and
-/// those after it would succeed. It counts the writes, those of no byte, the flushes, and the calls after
-/// the first flush.
+/// A writer that takes all that it is given, at most so many bytes a call. Its first write may fail, or its
+/// first flush, and those after it would succeed. It counts the writes, those of no byte, those of less than
+/// 60 KiB which another follows, the flushes, and the calls after the first failure or flush.
 #[derive(Drop)]
 struct Asked {
     step: usize,
-    flush_fails: bool,
+    write_fails: Option<ErrorKind>,
+    flush_fails: Option<ErrorKind>,
     bytes: u64,
     writes: u64,
+    last: usize,
+    short: u64,
     empty: u64,
     flushes: u64,
+    stopped: bool,
     after: u64,
 }
 
 impl Asked {
-    fn new(step: usize, flush_fails: bool) -> Asked {
+    fn new(step: usize, write_fails: Option<ErrorKind>, flush_fails: Option<ErrorKind>) -> Asked {
         Asked {
             step,
+            write_fails,
             flush_fails,
             bytes: 0,
             writes: 0,
+            last: usize::MAX,
+            short: 0,
             empty: 0,
             flushes: 0,
+            stopped: false,
             after: 0,
         }
     }
 
-    /// Counts a call after the first flush.
+    /// Counts a call after the first failure or flush.
     fn note(&mut self) {
-        if 0 < self.flushes {
+        if self.stopped {
             self.after = self.after.saturating_add(1);
         }
     }
@@ -40,8 +48,18 @@ impl Write for Asked {
     fn write(&mut self, bytes: &[u8]) -> io::Result<usize> {
         self.note();
         self.writes = self.writes.saturating_add(1);
+        if self.last < 61_440 {
+            self.short = self.short.saturating_add(1);
+        }
+        self.last = bytes.len();
         if bytes.is_empty() {
             self.empty = self.empty.saturating_add(1);
+        }
+        if let Some(kind) = self.write_fails
+            && !self.stopped
+        {
+            self.stopped = true;
+            return Err(Error::from(kind));
         }
         let count = bytes.len().min(self.step);
         self.bytes = self.bytes.saturating_add(count as u64);
@@ -51,16 +69,62 @@ impl Write for Asked {
     fn flush(&mut self) -> io::Result<()> {
         self.note();
         self.flushes = self.flushes.saturating_add(1);
-        if self.flush_fails && self.flushes == 1 {
-            Err(Error::from(ErrorKind::Interrupted))
-        } else {
-            Ok(())
+        let is_first = !self.stopped;
+        self.stopped = true;
+        match self.flush_fails {
+            Some(kind) if is_first => Err(Error::from(kind)),
+            _ => Ok(()),
         }
     }
 }
 
-/// A report goes out in blocks of at least 60 KiB and a last one, none of them empty, and is flushed
-/// once, whether that works or not.
+/// Each kind of a failure that a writer may tell.
+const KINDS: [ErrorKind; 42] = [
+    ErrorKind::NotFound,
+    ErrorKind::PermissionDenied,
+    ErrorKind::ConnectionRefused,
+    ErrorKind::ConnectionReset,
+    ErrorKind::HostUnreachable,
+    ErrorKind::NetworkUnreachable,
+    ErrorKind::ConnectionAborted,
+    ErrorKind::NotConnected,
+    ErrorKind::AddrInUse,
+    ErrorKind::AddrNotAvailable,
+    ErrorKind::NetworkDown,
+    ErrorKind::BrokenPipe,
+    ErrorKind::AlreadyExists,
+    ErrorKind::WouldBlock,
+    ErrorKind::NotADirectory,
+    ErrorKind::IsADirectory,
+    ErrorKind::DirectoryNotEmpty,
+    ErrorKind::ReadOnlyFilesystem,
+    ErrorKind::FilesystemLoop,
+    ErrorKind::StaleNetworkFileHandle,
+    ErrorKind::InvalidInput,
+    ErrorKind::InvalidData,
+    ErrorKind::TimedOut,
+    ErrorKind::WriteZero,
+    ErrorKind::StorageFull,
+    ErrorKind::NotSeekable,
+    ErrorKind::QuotaExceeded,
+    ErrorKind::FileTooLarge,
+    ErrorKind::ResourceBusy,
+    ErrorKind::ExecutableFileBusy,
+    ErrorKind::Deadlock,
+    ErrorKind::CrossesDevices,
+    ErrorKind::TooManyLinks,
+    ErrorKind::InvalidFilename,
+    ErrorKind::ArgumentListTooLong,
+    ErrorKind::Interrupted,
+    ErrorKind::Unsupported,
+    ErrorKind::UnexpectedEof,
+    ErrorKind::OutOfMemory,
+    ErrorKind::InProgress,
+    ErrorKind::Other,
+    ErrorKind::Uncategorized,
+];
+
+/// A report goes out in blocks of at least 60 KiB and a last one, none of them empty, and is flushed once.
 #[test]
 fn writes_in_blocks_and_flushes_once(rt: HostRuntime) -> Result<(), Fail> {
     let alloc = rt.alloc();
@@ -72,26 +136,41 @@ fn writes_in_blocks_and_flushes_once(rt: HostRuntime) -> Result<(), Fail> {
         notation: false,
     };
     for step in [1000, 1_000_000] {
-        for flush_fails in [false, true] {
-            let mut writer = Asked::new(step, flush_fails);
-            let answer = write_report(alloc, &game, &list, shown, &mut writer);
-            let written = writer.bytes;
-            let wanted = if flush_fails {
-                Err(ReportFault::Write { written })
-            } else {
-                Ok(written)
-            };
-            let few = step < 65_536 || writer.writes <= (written / 61_440).saturating_add(1);
-            let found = (step, answer, 150_000 < written, few);
-            same(&rt, found, (step, wanted, true, true), "blocks");
-            let found = (flush_fails, writer.empty, writer.flushes, writer.after);
-            same(
-                &rt,
-                found,
-                (flush_fails, 0, 1, 0),
-                "empty writes, flushes, later calls",
-            );
-        }
+        let mut writer = Asked::new(step, None, None);
+        let answer = write_report(alloc, &game, &list, shown, &mut writer);
+        let long = 150_000 < writer.bytes;
+        let blocks = step < 65_536 || writer.short == 0;
+        let found = (step, answer, long, blocks);
+        same(&rt, found, (step, Ok(writer.bytes), true, true), "blocks");
+        let found = (writer.empty, writer.flushes, writer.after);
+        same(&rt, found, (0, 1, 0), "empty writes, flushes, later calls");
+    }
+    Ok(())
+}
+
+/// Whatever a write or a flush fails by, it is not tried again.
+#[test]
+fn no_failure_is_tried_again(rt: HostRuntime) -> Result<(), Fail> {
+    let alloc = rt.alloc();
+    let game = game(&rt, alloc)?;
+    let list = listing(&rt, alloc, &game, 16_383)?;
+    let shown = Shown {
+        list: false,
+        sizes: true,
+        notation: false,
+    };
+    for kind in KINDS {
+        let mut writer = Asked::new(1_000_000, Some(kind), None);
+        let answer = write_report(alloc, &game, &list, shown, &mut writer);
+        let found = (answer, writer.writes, writer.flushes, writer.after);
+        let fault = Err(ReportFault::Write { written: 0 });
+        same(&rt, found, (fault, 1, 0, 0), "a write that fails");
+        let mut writer = Asked::new(1_000_000, None, Some(kind));
+        let answer = write_report(alloc, &game, &list, shown, &mut writer);
+        let written = writer.bytes;
+        let found = (answer, writer.writes, writer.flushes, writer.after);
+        let fault = Err(ReportFault::Write { written });
+        same(&rt, found, (fault, 1, 1, 0), "a flush that fails");
     }
     Ok(())
 }
