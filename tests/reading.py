@@ -36,7 +36,7 @@ PARTS = [
     ("The pipe", r"mwc_pipe\."),
     ("The gathering", r"mwc_parts\.|mwc_gather\."),
     ("The game file", r"council_game\.|council_file\.(Bracket|File)"),
-    ("The report", r"council_report\.|council_text\.|council_file\.Notation"),
+    ("The report", r"council_report\.|council_text\."),
     ("The run", r"."),
 ]
 TOP = os.path.join(os.path.dirname(os.path.abspath(__file__)), "..")

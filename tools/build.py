@@ -29,6 +29,22 @@ ROOMS = f"{OUT}/rooms"
 LOG = f"{OUT}/build.log"
 # what a proof may take
 MEMORY = 3_000_000_000
+# how long the proof of a crate takes on one processor, in seconds
+SECONDS = {
+    "council_text": 15,
+    "council_game": 65,
+    "council_file": 160,
+    "power_index": 45,
+    "mwc_walk": 60,
+    "mwc_pipe": 105,
+    "mwc_parts": 70,
+    "mwc_gather": 180,
+    "mwc_tally": 95,
+    "mwc_sums": 100,
+    "council_report": 135,
+    "council_run": 115,
+    "council_words": 65,
+}
 # the proofs under way
 PROOFS = []
 
@@ -53,15 +69,17 @@ def below(name, lines):
     return found
 
 
-def size(name):
-    """How many lines a crate has, by which the length of its proof is guessed."""
+def cost(name):
+    """How long the proof of a crate takes: as measured, or guessed by its lines. Only the order rests on it."""
+    if name in SECONDS:
+        return SECONDS[name]
     count = 0
     for part in ("src", "specs", "proofs"):
         for folder, _, files in os.walk(f"{TOP}/crates/{name}/{part}"):
             for file in files:
                 with open(f"{folder}/{file}", "rb") as it:
                     count += it.read().count(b"\n")
-    return count
+    return 30 + count // 25
 
 
 def lanes():
@@ -112,11 +130,11 @@ def make_room(name, lines):
 
 
 def prove(name, lines, jobs):
-    """Proves a library; its status."""
+    """Proves a library, by so many jobs, which give way to others, or by as many as `rt` chooses; its status."""
     folder = make_room(name, lines)
     try:
         with open(f"{ROOMS}/{name}.log", "w", encoding="utf-8") as log:
-            words = ["rt", "lib", "--jobs", str(jobs)]
+            words = ["nice", "-n", "10", "rt", "lib", "--jobs", str(jobs)] if jobs else ["rt", "lib"]
             proof = subprocess.Popen(words, cwd=folder, stdin=subprocess.DEVNULL, stdout=log, stderr=subprocess.STDOUT)
             PROOFS.append(proof)
             return proof.wait()
@@ -125,25 +143,25 @@ def prove(name, lines, jobs):
 
 
 def prove_all(names, lines):
-    """Proves the libraries, each after those below it, and first those with the longest chain above; whether all were."""
-    behind = {name: size(name) for name in names}
+    """Proves the libraries, each after those below it; whether all were. Of those that can begin, the one with the
+    longest chain above it uses all processors that it can; the others give way to it."""
+    behind = {name: cost(name) for name in names}
     for name in reversed(names):
         above = [behind[it] for it in names if name in below(it, lines)]
         behind[name] += max(above, default=0)
     left, running, done, start = sorted(names, key=lambda it: -behind[it]), {}, [], time.time()
-    count = lanes()
-    with ThreadPoolExecutor(count) as pool:
+    count, first = lanes(), None
+    with ThreadPoolExecutor(len(names)) as pool:
         while left or running:
-            ready = [it for it in left if all(other in done for other in below(it, lines))]
-            for at, name in enumerate(ready):
-                idle = count - sum(jobs for _, jobs in running.values())
-                if idle > 0:
-                    # what the longest chain waits for gets the processors that no other library wants
-                    jobs = max(1, min(4, idle - (len(ready) - at - 1)))
+            for name in [it for it in left if all(other in done for other in below(it, lines))]:
+                if not first and count > 1:
+                    first = name
+                if name == first or len(running) < count:
                     left.remove(name)
-                    running[pool.submit(prove, name, lines, jobs)] = name, jobs
+                    running[pool.submit(prove, name, lines, 0 if name == first else 1)] = name
             for it in wait(running, return_when=FIRST_COMPLETED).done:
-                name, _ = running.pop(it)
+                name = running.pop(it)
+                first = None if name == first else first
                 with open(f"{ROOMS}/{name}.log", encoding="utf-8", errors="replace") as log, open(LOG, "a", encoding="utf-8") as whole:
                     whole.write(f"== {name}\n{log.read()}")
                 if it.result():

@@ -15,7 +15,7 @@ use Rattle.council_game.proofs.Games.{passed, none-any, light-weights, light-sum
 use Rattle.council_file.specs.Bracket.{Part, number, opening, closing, comma, semicolon, parts, value_of, weights_of, rule_of, is_bracket, begins_bracket, begins_with_digit, game_of_bracket, counted_names, nameless_game}
 use Rattle.council_file.specs.File.{game_of}
 use Rattle.council_text.specs.Joined.{joined_numbers}
-use Rattle.council_file.specs.Notation.{notation}
+use Rattle.council_text.specs.Notation.{notation}
 use Rattle.council_file.specs.Laws.{lone_game, NotationReadsBack}
 use Rattle.council_file.proofs.Digits.{parts-number}
 use Rattle.council_text.proofs.Joins.{one-number, next-numbers}

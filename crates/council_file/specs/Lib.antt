@@ -4,6 +4,5 @@ pub use Rattle.council_game.specs.Votes
 pub mod Bracket
 pub mod File
 pub mod Reads
-pub mod Notation
 pub mod Laws
 pub mod Inner

@@ -10,7 +10,6 @@ mod keys;
 pub mod laws;
 mod member_weights;
 mod members;
-mod notation;
 mod parse;
 mod quotas;
 mod reading;
@@ -20,6 +19,6 @@ mod title;
 mod token;
 mod tree;
 
-pub use notation::write_notation;
+pub use council_text::write_notation;
 pub use parse::parse_game;
 pub use reading::read_game;

@@ -9,7 +9,7 @@ use Rattle.power_index.specs.Counting.{members, count_of_size, count_of_member, 
 use Rattle.power_index.specs.Fractions.{lowest_terms, decimals}
 use Rattle.power_index.specs.Indices.{deegan_packel, public_good}
 use Rattle.council_text.specs.Joined.{joined_numbers}
-use Rattle.council_file.specs.Notation.{notation}
+use Rattle.council_text.specs.Notation.{notation}
 
 -- a field after a TAB
 abbrev pub with_tab : List ℕ → List ℕ

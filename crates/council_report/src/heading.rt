@@ -3,14 +3,14 @@ ghost use Rattle.std.specs.Prelude.{◌≡◌, ◌++◌, ◌<◌, ◌≤◌, ℕ
 ghost use Rattle.std.specs.List.{flat_map};
 ghost use Rattle.std.specs.Vec.{vec_capacity};
 ghost use Rattle.council_game.specs.Votes.{rule_at};
-ghost use Rattle.council_file.specs.Notation.{notation};
+ghost use Rattle.council_text.specs.Notation.{notation};
 ghost use Rattle.council_report.specs.Lines.{notation_line};
 ghost use Rattle.council_report.specs.Report.{heading, notation_lines};
 
 use crate::Shown;
 use crate::lines::{end_line, push_members, push_minimal, push_quota, push_title, push_total};
-use council_file::write_notation;
 use council_game::{Game, Memory};
+use council_text::write_notation;
 
 /// `notation`, a rule as `[q; w1, .., wn]`.
 #[tactic(auto, unfolding(crate::specs::Lines::notation_line))]

@@ -1,2 +1,5 @@
+pub use Rattle.council_game.specs.Game
+pub use Rattle.council_game.specs.Votes
 pub mod Joined
+pub mod Notation
 pub mod Room

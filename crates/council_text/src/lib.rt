@@ -1,4 +1,4 @@
-//! Numbers as text, put at the end of the bytes that are there.
+//! Numbers, and the notation of a rule, as text that is put at the end of the bytes that are there.
 //!
 //! ```text
 //! push_decimal(&mut text, 51)?;
@@ -7,5 +7,7 @@
 #![tactic(auto)]
 
 mod joined;
+mod notation;
 
 pub use joined::{push_decimal, push_joined};
+pub use notation::write_notation;

@@ -2,10 +2,10 @@
 ghost use Rattle.std.specs.Prelude.{◌≡◌, ◌<◌, ◌≤◌, ◌++◌, length, OnOk, OnErr, IfOk};
 ghost use Rattle.std.specs.Vec.{vec_capacity};
 ghost use Rattle.council_game.specs.Votes.{rule_at};
-ghost use Rattle.council_file.specs.Notation.{notation};
+ghost use Rattle.council_text.specs.Notation.{notation};
 
+use crate::joined::{push_decimal, push_joined};
 use council_game::{Game, Memory};
-use council_text::{push_decimal, push_joined};
 use std::alloc::{AllocError, Global};
 
 #[tactic(auto, unfolding(crate::specs::Notation::notation))]
