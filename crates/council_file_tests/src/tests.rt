@@ -1,6 +1,7 @@
 //! Game files with the games or faults that they are.
 mod reads;
 mod refusals;
+mod text;
 
 use council_file::{parse_game, read_game, write_notation};
 use council_game::{Game, GameFault, Memory};

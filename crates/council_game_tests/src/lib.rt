@@ -1,5 +1,4 @@
-//! The tests of `council_text` and `council_game`, which need their public calls alone: numbers as text,
-//! and worked games.
+//! The tests of `council_game`, which need its public calls alone: worked games.
 #![tactic(auto)]
 
 #[cfg(test)]

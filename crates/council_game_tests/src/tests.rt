@@ -1,6 +1,5 @@
 //! Worked games.
 mod refusals;
-mod text;
 
 use council_game::{Coalition, Game, GameFault, Rule, plain_list};
 use std::alloc::Global;

@@ -2,6 +2,7 @@
 mod asked;
 mod gates;
 mod refusals;
+mod texts;
 
 ghost use Rattle.std.specs.Prelude.{ℕ, ◌≤◌, ◌<◌, ⊤};
 
@@ -548,57 +549,4 @@ fn statuses(rt: HostRuntime) {
         );
         same(&rt, cause.number(), number, "cause.number");
     }
-}
-
-/// What the program prints behind its name, as docs/FORMATS.md has it.
-#[test]
-fn texts(rt: HostRuntime) -> Result<(), Fail> {
-    let rows = [
-        (Cause::Game(GameFault::Read), "the game file cannot be read"),
-        (
-            Cause::Game(GameFault::TooLong),
-            "the game file is longer than 65536 bytes",
-        ),
-        (Cause::Game(GameFault::Text), "the game file is not TOML"),
-        (Cause::Game(GameFault::UnknownKey), "unknown key"),
-        (Cause::Game(GameFault::Title), "bad title"),
-        (Cause::Game(GameFault::Rules), "bad rules"),
-        (Cause::Game(GameFault::Quota), "bad quota"),
-        (Cause::Game(GameFault::Members), "bad member list"),
-        (
-            Cause::Game(GameFault::Name { member: 3 }),
-            "bad name of member 3",
-        ),
-        (
-            Cause::Game(GameFault::SameName { member: 3 }),
-            "member 3 repeats a name",
-        ),
-        (
-            Cause::Game(GameFault::Weight { member: 3 }),
-            "bad weight of member 3",
-        ),
-        (Cause::Game(GameFault::QuotaRange), "quota out of range"),
-        (Cause::Game(GameFault::Bracket), "bad bracket text"),
-        (Cause::Game(GameFault::Memory), "out of memory"),
-        (
-            Cause::Gather(GatherFault::TooMany),
-            "too many minimal winning coalitions",
-        ),
-        (
-            Cause::Gather(GatherFault::Start),
-            "a worker could not be started",
-        ),
-        (Cause::Gather(GatherFault::Memory), "out of memory"),
-        (
-            Cause::Gather(GatherFault::Ring),
-            "a ring could not be finished",
-        ),
-        (Cause::Write, "output failed"),
-        (Cause::Memory, "out of memory"),
-    ];
-    for (cause, wanted) in rows {
-        let text = format!(in rt.alloc(); "{cause}")?;
-        same(&rt, text.as_str(), wanted, "text.as_str");
-    }
-    Ok(())
 }
