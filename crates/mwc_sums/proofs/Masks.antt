@@ -1,7 +1,7 @@
 -- Coalitions of the same members, by the places of two games.
-use Rattle.std.proofs.Common.{◌≡◌, ◌≢◌, ◌∙◌, ◌==◌, ℕ, zero, suc, ◌+◌, ◌-◌, ◌*◌, ◌/◌, ◌%◌, ◌^◌, ◌<◌, ◌≤◌, Bool, true, false, cond, eqb, List, [], ◌∷◌, length, get_or, map, sym, ap, refl, arith, inl, inr}
+use Rattle.std.proofs.Common.{◌≡◌, ◌∙◌, ◌==◌, ℕ, zero, suc, ◌+◌, ◌-◌, ◌*◌, ◌/◌, ◌%◌, ◌^◌, ◌<◌, Bool, true, false, cond, length, get_or, sym, ap, arith, inl, inr}
 use native.Mathlib.Numerals.{unary_clauses}
-use Rattle.std.proofs.lemmas.Bool.{cases_lt, cases_eq, cases_Bool, eqb-true, eqb-false, eq-eqb, ne_eqb}
+use Rattle.std.proofs.lemmas.Bool.{cases_lt, cases_eq, eqb-true, eqb-false, eq-eqb, ne_eqb}
 use Rattle.std.proofs.lemmas.Nat.Bits.{bit_at-suc, same_from_bits_below}
 use Rattle.council_game.specs.Votes.{has, without}
 use Rattle.council_game.specs.Ranks.{member_at}
@@ -107,8 +107,8 @@ module _ (g h : GameView) (long : length g.names ≡ length h.names) (ranks_g : 
             ∙ sym (ap (λ (k : ℕ). contains h k (without (length h.names) (get_or h.ranks i 0) d)) same)
         | inr other ↦
             has-kept (length g.names) (get_or g.ranks j 0) (get_or g.ranks i 0) c (ranks_g.place_below j below) (ranks_g.place_below i lt)
-                (λ e. other (sym (ranks_g.member_back j below) ∙ ap (member_at g.ranks) e ∙ ranks_g.member_back i lt)) inside
+            (λ e. other (sym (ranks_g.member_back j below) ∙ ap (member_at g.ranks) e ∙ ranks_g.member_back i lt)) inside
             ∙ alike j below
             ∙ sym (has-kept (length h.names) (get_or h.ranks j 0) (get_or h.ranks i 0) d (ranks_h.place_below j below_j) (ranks_h.place_below i below_i)
-                (λ e. other (sym (ranks_h.member_back j below_j) ∙ ap (member_at h.ranks) e ∙ ranks_h.member_back i below_i)) (sym (alike i lt) ∙ inside))
+            (λ e. other (sym (ranks_h.member_back j below_j) ∙ ap (member_at h.ranks) e ∙ ranks_h.member_back i below_i)) (sym (alike i lt) ∙ inside))
       ]

@@ -1,6 +1,6 @@
 use Rattle.std.proofs.Common.{◌↔◌, ℕ, ◌+◌, ◌-◌, ◌*◌, ◌/◌, ◌≤◌, refl, subst, arith}
 use Rattle.mwc_sums.proofs.Whole.{enough-heads}
-use Rattle.mwc_sums.proofs.count.heads_of_two.Goals as goal
+use Rattle.mwc_sums.proofs.count.heads_of_rule.Goals as goal
 
 pub returns-clause-asks : goal.returns-clause-asks
 returns-clause-asks c = record {
