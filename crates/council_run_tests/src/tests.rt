@@ -2,6 +2,7 @@
 mod asked;
 mod gates;
 mod refusals;
+mod watches;
 
 ghost use Rattle.std.specs.Prelude.{ℕ, ◌≤◌, ◌<◌, ⊤};
 
