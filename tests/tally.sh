@@ -183,3 +183,28 @@ END
     run --tally --workers 1 "$temp/three.toml"
     if succeeded "a long tally without a terminal"; then ok "a long tally without a terminal"; fi
 fi
+
+# ---- what memory sums take: a little for weights up to 1,000, and never much, also where they give up at last
+if needs python3 "the memory of tallies by sums"; then
+    if timeout "$seconds" python3 - "$program" "$temp" >"$temp/told" 2>&1 <<'END'
+import os, random, subprocess, sys
+rng = random.Random(7)
+for most, limit, told in [(1000, 64_000, True), (10**12, 160_000, False)]:
+    weights = [rng.randrange(most // 2, most) + 1 for _ in range(40)]
+    game = f"{sys.argv[2]}/heavy.txt"
+    with open(game, "w", encoding="utf-8") as it:
+        it.write(f"[{sum(weights) * 3 // 8}; {', '.join(map(str, weights))}]")
+    made = subprocess.Popen([sys.argv[1], "--tally", game], stdout=subprocess.PIPE)
+    if told:
+        assert made.stdout.read().startswith(b"members\t40\n")
+    else:
+        # sums have given up long before
+        try:
+            made.wait(3)
+        except subprocess.TimeoutExpired:
+            made.kill()
+    _, _, used = os.wait4(made.pid, 0)
+    assert used.ru_maxrss < limit, (most, used.ru_maxrss)
+END
+    then ok "the memory of tallies by sums"; else failed "the memory of tallies by sums" "$(tail -n 1 "$temp/told")"; fi
+fi

@@ -6,7 +6,7 @@ ghost use Rattle.mwc_sums.specs.Inner.Asked.{IsAsked};
 ghost use Rattle.power_index.specs.Tables.{AreCounts};
 ghost use Rattle.std.specs.Prelude.{◌≡◌, ◌≤◌, ◌<◌, IfOk, IfSome, length, sum};
 
-use crate::choices::choices;
+use crate::choices::Heads;
 use crate::laws::counts_do_not_depend_on_the_order_of_rules;
 use crate::tallies::{tally_all, tally_each};
 use crate::turned::turned;
@@ -90,11 +90,11 @@ fn count_with_heads(alloc: Global, game: &Game, heads: usize) -> Result<Option<W
     let quota = game.rule_quota(0);
     let weights = ranked_weights(alloc, game)?;
     let total = total_of(&weights);
-    let choices = choices(alloc)?;
-    let Some(all) = tally_all(alloc, &weights, quota, total, heads, &choices)? else {
+    let heads = Heads::new(alloc, heads)?;
+    let Some(all) = tally_all(alloc, &weights, quota, total, &heads)? else {
         return Ok(None);
     };
-    let Some(each) = tally_each(alloc, &weights, quota, total, heads, &choices, &all)? else {
+    let Some(each) = tally_each(alloc, &weights, quota, total, &heads, &all)? else {
         return Ok(None);
     };
     Ok(Some(WideCounts::of_tallies(game, all, each)))

@@ -1,4 +1,6 @@
 //! Counts by sums: against binomial numbers, against every subset and against the threads.
+mod refusals;
+
 use council_game::{Game, GameFault, Rule, plain_list};
 use mwc_sums::count_by_sums;
 use mwc_tally::{NoWatch, tally};

@@ -9,5 +9,5 @@ finish-requires-clause-row c = prefixes-start (length c.args.weights.now - 0) c.
 pub returns : goal.returns
 returns c = record {
   long = c.finish.array_long;
-  sizes = λ s small. finished-start c.args.weights.now (replicate 41 0) c.finish.new.done c.args.heads c.args.quota s c.in_ok-rows.rows.row.items (get_or-zeros 41 s) c.in_ok-rows.ensures (c.in_ok-finish.ensures c.if-not-branch.false s small);
+  sizes = λ s small. finished-start c.args.weights.now (replicate 41 0) c.finish.new.done c.args.heads.now.asked c.args.quota s c.in_ok-rows.rows.row.items (get_or-zeros 41 s) c.in_ok-rows.ensures (c.in_ok-finish.ensures c.if-not-branch.false s small);
 }
