@@ -1,5 +1,6 @@
 -- Coalitions of the same members, by the places of two games.
-use Rattle.std.proofs.Common.{◌≡◌, ◌∙◌, ◌==◌, ℕ, zero, suc, ◌+◌, ◌-◌, ◌*◌, ◌/◌, ◌%◌, ◌^◌, ◌<◌, Bool, true, false, cond, length, get_or, sym, ap, arith, inl, inr}
+use Rattle.std.proofs.Common.{◌≡◌, ◌∙◌, ◌==◌, ℕ, zero, suc, ◌+◌, ◌-◌, ◌*◌, ◌/◌, ◌%◌, ◌^◌, ◌<◌, Bool, true, false, cond, length, get_or, sym}
+use Rattle.std.proofs.Common.{ap, arith, inl, inr}
 use native.Mathlib.Numerals.{unary_clauses}
 use Rattle.std.proofs.lemmas.Bool.{cases_lt, cases_eq, eqb-true, eqb-false, eq-eqb, ne_eqb}
 use Rattle.std.proofs.lemmas.Nat.Bits.{bit_at-suc, same_from_bits_below}
@@ -56,7 +57,8 @@ same-places : (n c d : ℕ) → c < 2 ^ n → d < 2 ^ n → ((p : ℕ) → p < n
 unfolding has
 same-places n c d lc ld same = same_from_bits_below n c d lc ld (λ i lt.
     (let place : n - 1 - (n - 1 - i) ≡ i = omega (arith, lt) in
-    let e = ap (λ (k : ℕ). c / 2 ^ k % 2 == 1) (sym place) ∙ same (n - 1 - i) (omega (arith, lt)) ∙ ap (λ (k : ℕ). d / 2 ^ k % 2 == 1) place in
+    let e = ap (λ (k : ℕ). c / 2 ^ k % 2 == 1) (sym place) ∙ same (n - 1 - i) (omega (arith, lt))
+        ∙ ap (λ (k : ℕ). d / 2 ^ k % 2 == 1) place in
     digits (c / 2 ^ i % 2) (d / 2 ^ i % 2) (omega arith) (omega arith) e))
   where
     digits : (a b : ℕ) → a < 2 → b < 2 → (a == 1) ≡ (b == 1) → a ≡ b
@@ -73,7 +75,8 @@ AreAlike g h c d = (i : ℕ) → i < length g.names → contains g i c ≡ conta
 pub moved : GameView → GameView → ℕ → ℕ
 moved g h c = mask_of (λ p. contains g (member_at h.ranks p) c) (length h.names)
 
-module _ (g h : GameView) (long : length g.names ≡ length h.names) (ranks_g : RanksAre (length g.names) g.ranks) (ranks_h : RanksAre (length h.names) h.ranks) where
+module _ (g h : GameView) (long : length g.names ≡ length h.names) (ranks_g : RanksAre (length g.names) g.ranks)
+    (ranks_h : RanksAre (length h.names) h.ranks) where
   pub moved-below : (c : ℕ) → moved g h c < 2 ^ length h.names
   unfolding moved
   moved-below c = mask-below (λ p. contains g (member_at h.ranks p) c) (length h.names)
@@ -109,6 +112,8 @@ module _ (g h : GameView) (long : length g.names ≡ length h.names) (ranks_g : 
             has-kept (length g.names) (get_or g.ranks j 0) (get_or g.ranks i 0) c (ranks_g.place_below j below) (ranks_g.place_below i lt)
             (λ e. other (sym (ranks_g.member_back j below) ∙ ap (member_at g.ranks) e ∙ ranks_g.member_back i lt)) inside
             ∙ alike j below
-            ∙ sym (has-kept (length h.names) (get_or h.ranks j 0) (get_or h.ranks i 0) d (ranks_h.place_below j below_j) (ranks_h.place_below i below_i)
-            (λ e. other (sym (ranks_h.member_back j below_j) ∙ ap (member_at h.ranks) e ∙ ranks_h.member_back i below_i)) (sym (alike i lt) ∙ inside))
+            ∙ sym (has-kept (length h.names) (get_or h.ranks j 0) (get_or h.ranks i 0) d (ranks_h.place_below j below_j)
+                (ranks_h.place_below i below_i)
+            (λ e. other (sym (ranks_h.member_back j below_j) ∙ ap (member_at h.ranks) e ∙ ranks_h.member_back i below_i))
+                (sym (alike i lt) ∙ inside))
       ]
