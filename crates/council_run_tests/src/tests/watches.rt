@@ -57,7 +57,10 @@ fn a_tally_has_its_threads_and_slices(rt: HostRuntime) -> Result<(), Fail> {
     let options = Options {
         workers: 16,
         bits: 0,
-        ..plain()
+        most: 1,
+        list: false,
+        sizes: false,
+        notation: false,
     };
     let meeting = Meeting {
         came: AtomicU64::new(0),
