@@ -45,6 +45,10 @@ ALLOWED = {
     "mwc_tally/src/all.rt": [
         ("if lost {", "return Err(TallyFault::Memory);", "a share is lost where a growth was refused"),
     ],
+    "mwc_sums/src/turned.rt": [
+        ("", "prove!(matches!(fault, GameFault::Memory));", "the call's one fault is proved to be Memory"),
+        ("prove!(matches!(fault, GameFault::Memory));", "Err(Memory)", "it was just proved"),
+    ],
     "mwc_parts/src/draft.rt": [
         ("let Ok(end) = u32::try_from(self.got.len()) else {", "return Err(Memory);", "a count past 32 bits: so many coalitions take more than 32 GB"),
     ],

@@ -1,21 +1,28 @@
 #!/usr/bin/env python3
 """The report of a game, worked out a second time and apart from the program.
 
-    oracle.py FILE [--list] [--sizes] [--notation]
+    oracle.py FILE [--list] [--sizes] [--notation] [--polynomials]
 
 prints the report that `council` must print for FILE, which is the notation [q; w1, .., wn] or a game
 file of the plain form that examples/ has: a key and its value on a line, each value as JSON writes
 it, and one [[member]] header for each member. It checks nothing else: it is for files that are
 right. Plain Python 3, whole numbers and exact fractions alone.
 
+It enumerates the coalitions. With --polynomials it lists none: it counts those of a game of one rule, or of two
+of which one gives each member the same weight, by the terms of generating functions.
+
 The reports of examples/ were made by it, and are made again, in about a minute, by
 
-    for game in examples/*.toml; do python3 tests/oracle.py "$game" >"${game%.toml}.tsv"; done
+    for game in examples/*.toml; do
+        case $game in */eu-36-*) words=--polynomials ;; *) words= ;; esac
+        python3 tests/oracle.py "$game" $words >"${game%.toml}.tsv"
+    done
     python3 tests/oracle.py examples/board.txt >examples/board.txt.tsv
 """
 import json
 import re
 import sys
+from array import array
 from fractions import Fraction
 
 
@@ -99,16 +106,72 @@ def minimal_coalitions(game):
     return found
 
 
+def enumerated(game, found):
+    """How many of the coalitions have each size, and how many of those contain each member."""
+    sizes = [0] * (len(game.names) + 1)
+    counts = [[0] * len(sizes) for _ in game.names]
+    for c in found:
+        sizes[len(c)] += 1
+        for p in c:
+            counts[game.ranked[p]][len(c)] += 1
+    return sizes, counts
+
+
+def terms(polynomial, low, high):
+    """The sum of the coefficients of degrees low to high - 1; each has 64 binary digits of the number."""
+    part = polynomial >> 64 * low & (1 << 64 * (high - low)) - 1
+    return sum(array("Q", part.to_bytes(8 * (high - low), sys.byteorder)))
+
+
+def counted(game):
+    """The same of all minimal winning coalitions, of a game of weights and heads.
+
+    For each size there is a polynomial whose term of degree w has how many sets of the members so far weigh w. A
+    coalition is minimal where it just has the heads and meets the quota, or has more and misses the quota
+    without its lightest member, which is the last that it takes.
+    """
+    heads = 0
+    (quota, weights), *others = sorted(game.rules, key=lambda rule: len(set(rule[1])) == 1)
+    if others:
+        (needed, same), = others
+        assert len(set(same)) == 1 and same[0] > 0, "not a game of weights and heads"
+        heads = -(-needed // same[0])
+    total = sum(weights)
+    order = sorted(range(len(weights)), key=lambda i: (-weights[i], i))
+
+    def by_size(wanted):
+        """How many have each size, of those that contain the wanted member, or of all where it is none."""
+        sizes = [0] * (len(order) + 1)
+        sets = [1] + [0] * len(order)
+        begun = wanted is None
+        for i in order:
+            own = weights[i]
+            if begun or i == wanted:
+                for size in range(heads, len(order)):
+                    sizes[size + 1] += terms(sets[size], max(quota - own, 0), quota)
+            taken = [0] + [of << 64 * own for of in sets[:-1]]
+            if i == wanted:
+                begun, sets = True, taken
+            else:
+                sets = [out + into for out, into in zip(sets, taken)]
+        sizes[heads] += terms(sets[heads], quota, total + 1) if heads <= len(order) else 0
+        return sizes
+
+    return by_size(None), [by_size(i) for i in range(len(order))]
+
+
 def decimals(it):
     """Six decimals, cut off."""
     millionths = it.numerator * 1000000 // it.denominator
     return f"{millionths // 1000000}.{millionths % 1000000:06}"
 
 
-def report(game, with_list=False, with_sizes=False, with_notation=False):
+def report(game, with_list=False, with_sizes=False, with_notation=False, by_polynomials=False):
     """The report's lines."""
     members = range(len(game.names))
-    found = minimal_coalitions(game)
+    found = [] if by_polynomials else minimal_coalitions(game)
+    sizes, counts = counted(game) if by_polynomials else enumerated(game, found)
+    minimal = sum(sizes)
 
     def joined(values):
         return "/".join(str(value) for value in values)
@@ -121,32 +184,25 @@ def report(game, with_list=False, with_sizes=False, with_notation=False):
     if with_notation:
         for quota, of in game.rules:
             yield f"notation\t[{quota}; {', '.join(str(weight) for weight in of)}]"
-    yield f"minimal\t{len(found)}"
+    yield f"minimal\t{minimal}"
     if with_list:
         for c in found:
             weight = joined(sum(of[game.ranked[p]] for p in c) for _, of in game.rules)
             names = "\t".join(game.names[game.ranked[p]] for p in c)
             yield f"coalition\t{len(c)}\t{weight}\t{names}"
 
-    # how many of each size, and of them how many have each member
-    sizes = [0] * (len(game.names) + 1)
-    counts = [[0] * len(sizes) for _ in members]
-    for c in found:
-        sizes[len(c)] += 1
-        for p in c:
-            counts[game.ranked[p]][len(c)] += 1
     if with_sizes:
         for size, number in enumerate(sizes):
             if number:
                 fields = "\t".join(str(counts[i][size]) for i in members)
                 yield f"size\t{size}\t{number}\t{fields}"
 
-    seats = sum(len(c) for c in found)
+    seats = sum(size * number for size, number in enumerate(sizes))
     indices = []
     for i in members:
         number = sum(counts[i])
         shares = sum((Fraction(counts[i][s], s) for s in range(1, len(sizes))), Fraction(0))
-        deegan_packel = shares / len(found)
+        deegan_packel = shares / minimal
         public_good = Fraction(number, seats)
         indices.append((deegan_packel, public_good))
         fields = [game.names[i], joined(of[i] for _, of in game.rules), number]
@@ -157,11 +213,11 @@ def report(game, with_list=False, with_sizes=False, with_notation=False):
 
 
 def main(words):
-    flags = {"--list", "--sizes", "--notation"}
+    flags = ("--list", "--sizes", "--notation", "--polynomials")
     files = [word for word in words if word not in flags]
-    if len(files) != 1:
-        sys.exit("usage: oracle.py FILE [--list] [--sizes] [--notation]")
-    lines = report(read(files[0]), *(flag in words for flag in ("--list", "--sizes", "--notation")))
+    if len(files) != 1 or {"--list", "--polynomials"} <= set(words):
+        sys.exit("usage: oracle.py FILE [--list] [--sizes] [--notation] [--polynomials]")
+    lines = report(read(files[0]), *(flag in words for flag in flags))
     sys.stdout.buffer.write("".join(f"{line}\n" for line in lines).encode())
 
 

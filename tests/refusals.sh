@@ -40,7 +40,7 @@ command -v find >/dev/null || {
     skipped "$(basename "$0")" "the command find was not found"
     exit 0
 }
-for name in council_game council_file mwc_walk mwc_pipe power_index mwc_tally mwc_gather council_run; do
+for name in council_game council_file mwc_walk mwc_pipe power_index mwc_tally mwc_sums mwc_gather council_run; do
     are_built "$name" || exit 1
 done
 
@@ -167,6 +167,7 @@ takes_none power_index counts_without_memory
 takes_memory mwc_tally tallies "not started"
 starts_threads mwc_tally tallies_pieces
 takes_none mwc_tally tallies_a_slice_without_memory
+takes_memory mwc_sums counts_by_sums
 # room for three desks; for each of three workers its room, and the start of its thread; and what comes then
 shape='o+(o{4,})(s+)\1\2\1\2o+'
 takes_memory mwc_gather gathers "not started"
@@ -183,4 +184,12 @@ for game in runs_on_brackets runs_on_toml; do
     for how in REFUSE_AT REFUSE_FROM; do
         sweep "$how" council_run "$game" "no memory for the game" "no memory to gather" "not started" "out of memory"
     done
+done
+# a tally by sums: the game, the counts and the report; by threads: the game, the room and the starts of three
+# threads, and the report
+for how in REFUSE_AT REFUSE_FROM; do
+    shape='g+o+'
+    sweep "$how" council_run tallies_by_sums "no memory for the game" "out of memory"
+    shape='g+o+s+o+'
+    sweep "$how" council_run tallies_by_threads "no memory for the game" "not started" "out of memory"
 done

@@ -154,12 +154,57 @@ while True:
 report = made.stdout.read()
 assert made.wait() == 0, made.returncode
 assert report.startswith(b"members\t40\n") and b"minimal\t76904685\n" in report, report[:80]
-lines = re.findall(rb"\r[^\r\n]*?([0-9]+) of 1024 slices[^\r\n]*", told)
+lines = re.findall(rb"\rcouncil: ([0-9]+) of 1024 slices, ([0-9]+) coalitions are counted", told)
 assert lines, told[:200]
-assert [int(it) for it in lines] == sorted(int(it) for it in lines)
+for column in (0, 1):
+    numbers = [int(it[column]) for it in lines]
+    assert numbers == sorted(numbers) and numbers[0] < numbers[-1], numbers
+assert int(lines[-1][1]) <= 76904685, lines[-1]
 assert b"\n" not in told and told.endswith(b"\r\x1b[K"), told[-60:]
 END
     then ok "a long tally on a terminal"; else failed "a long tally on a terminal" "$(tail -n 1 "$temp/told")"; fi
+    # a first slice of 225,792,840 coalitions: it is told of while none is done
+    sed 's/8, 8, 8/20, 20, 20/' "$temp/three.toml" >"$temp/half.toml"
+    if timeout "$seconds" python3 - "$program" "$temp/half.toml" >"$temp/told" 2>&1 <<'END'
+import os, pty, re, subprocess, sys
+leader, follower = pty.openpty()
+made = subprocess.Popen([sys.argv[1], "--tally", "--workers", "1", sys.argv[2]],
+                        stdin=subprocess.DEVNULL, stdout=subprocess.PIPE, stderr=follower)
+os.close(follower)
+told, lines = b"", []
+while len(lines) < 2:
+    told += os.read(leader, 4096)
+    lines = re.findall(rb"\rcouncil: 0 of 256 slices, ([0-9]+) coalitions are counted", told)
+made.kill()
+made.wait()
+assert 0 < int(lines[0]) < int(lines[1]), lines
+END
+    then ok "the first slice on a terminal"; else failed "the first slice on a terminal" "$(tail -n 1 "$temp/told")"; fi
     run --tally --workers 1 "$temp/three.toml"
     if succeeded "a long tally without a terminal"; then ok "a long tally without a terminal"; fi
+fi
+
+# ---- what memory sums take: a little for weights up to 1,000, and never much, also where they give up at last
+if needs python3 "the memory of tallies by sums"; then
+    if timeout "$seconds" python3 - "$program" "$temp" >"$temp/told" 2>&1 <<'END'
+import os, random, subprocess, sys
+rng = random.Random(7)
+for most, limit, told in [(1000, 64_000, True), (10**12, 160_000, False)]:
+    weights = [rng.randrange(most // 2, most) + 1 for _ in range(40)]
+    game = f"{sys.argv[2]}/heavy.txt"
+    with open(game, "w", encoding="utf-8") as it:
+        it.write(f"[{sum(weights) * 3 // 8}; {', '.join(map(str, weights))}]")
+    made = subprocess.Popen([sys.argv[1], "--tally", game], stdout=subprocess.PIPE)
+    if told:
+        assert made.stdout.read().startswith(b"members\t40\n")
+    else:
+        # sums have given up long before
+        try:
+            made.wait(3)
+        except subprocess.TimeoutExpired:
+            made.kill()
+    _, _, used = os.wait4(made.pid, 0)
+    assert used.ru_maxrss < limit, (most, used.ru_maxrss)
+END
+    then ok "the memory of tallies by sums"; else failed "the memory of tallies by sums" "$(tail -n 1 "$temp/told")"; fi
 fi

@@ -9,15 +9,18 @@ use std::time::{Clock, Duration};
 /// What takes no more seconds tells nothing.
 const QUIET: u64 = 1;
 
-/// How many slices are done, or of a run begun, and whether a line on standard error says so.
+/// How many slices are done, or of a run begun, how many coalitions were counted, and whether a line on
+/// standard error says so.
 #[derive(Drop)]
 struct Told {
     done: u64,
+    counted: u64,
     shown: bool,
 }
 
-/// Tells how many slices are done, or of a run begun, in one line that is written anew each time, where
-/// standard error is a terminal and it takes more than a second.
+/// Tells how many slices are done and how many coalitions were counted in them, or of a run how many slices are
+/// begun, in one line that is written anew each time, where standard error is a terminal and it takes more
+/// than a second.
 #[derive(Drop)]
 pub(crate) struct Progress<'a, R> {
     rt: &'a R,
@@ -35,6 +38,7 @@ impl<'a, R: Eprint + Clock + Wait> Progress<'a, R> {
             began,
             told: Mutex::new(Told {
                 done: 0,
+                counted: 0,
                 shown: false,
             }),
         }
@@ -60,15 +64,15 @@ impl<'a, R: Eprint + Clock + Wait> Progress<'a, R> {
         }
     }
 
-    /// Writes the line anew, and wipes it where all is done.
-    fn tell(&self, slices: u16) {
-        let mut told = self.told.lock(self.rt);
-        told.done = told.done.wrapping_add(1);
-        let done = told.done;
+    /// Writes the line of a tally anew, and wipes it where all is done.
+    fn tell(&self, told: &mut Told, slices: u16) {
+        let (done, counted) = (told.done, told.counted);
         if done < u64::from(slices) {
             if self.is_long() {
                 told.shown = true;
-                let _ = eprint!(self.rt; "\rcouncil: {done} of {slices} slices are counted");
+                let _ = eprint!(self.rt;
+                    "\rcouncil: {done} of {slices} slices, {counted} coalitions are counted"
+                );
             }
         } else if told.shown {
             told.shown = false;
@@ -109,6 +113,14 @@ impl<'a, R: Eprint + Clock + Wait, W: Write> Write for Wiping<'a, R, W> {
 
 impl<'a, R: Eprint + Clock + Wait> Watch for Progress<'a, R> {
     fn counted(&self, _slice: u16, slices: u16) {
-        self.tell(slices);
+        let mut told = self.told.lock(self.rt);
+        told.done = told.done.wrapping_add(1);
+        self.tell(&mut told, slices);
+    }
+
+    fn met(&self, more: u64, slices: u16) {
+        let mut told = self.told.lock(self.rt);
+        told.counted = told.counted.wrapping_add(more);
+        self.tell(&mut told, slices);
     }
 }

@@ -3,6 +3,7 @@ mod asked;
 mod gates;
 mod refusals;
 mod texts;
+mod watches;
 
 ghost use Rattle.std.specs.Prelude.{ℕ, ◌≤◌, ◌<◌, ⊤};
 

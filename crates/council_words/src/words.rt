@@ -71,7 +71,9 @@ a total or a weight has one value for each rule, with / between them.
   member     a name, its weight, how many coalitions contain the member, the Deegan-Packel index as a
              fraction and as decimals, and the public good index likewise
 
-With --tally a game may have any number of coalitions: they are counted, and none is kept.
+With --tally a game may have any number of coalitions: they are counted, and none is kept. Where
+it has one rule, or two of which one gives each member the same weight, they are mostly counted by
+sums, and --workers and --bits then have no effect.
 
 The status is 0 where the report was written, 1 where the game file cannot be opened or read,
 2 where the command line is wrong, 3 where the file has no game, 4 where the game has more than

@@ -1,13 +1,16 @@
 -- In a game of one rule the minimal winning coalitions are those that complete the quota.
-use Rattle.std.proofs.Common.{◌≡◌, ◌∙◌, ◌↔◌, ℕ, zero, suc, ◌+◌, ◌-◌, ◌*◌, ◌/◌, ◌%◌, ◌^◌, ◌<◌, ◌≤◌, ◌==◌, ◌⊎◌, Bool, true, false, cond, leb, List, [], ◌∷◌, ◌++◌, length, get_or, map, filter, sym, ap, refl, arith, inl, inr, subst}
+use Rattle.std.proofs.Common.{◌≡◌, ◌∙◌, ◌↔◌, ℕ, zero, suc, ◌+◌, ◌-◌, ◌*◌, ◌/◌, ◌%◌, ◌^◌, ◌<◌, ◌≤◌, ◌==◌, ◌⊎◌, Bool, true, false, cond, leb}
+use Rattle.std.proofs.Common.{List, [], ◌∷◌, ◌++◌, length, get_or, map, filter, sym, ap, refl, arith, inl, inr, subst}
 use native.Mathlib.Numerals.{unary_clauses}
 use Rattle.std.specs.List.{AllByRecursion}
-use Rattle.std.proofs.lemmas.Bool.{cases_lt, lt-leb, le-leb, leb-true, leb-false, eqb-true, both_ways, cond-true, cond-false, and_left, and_parts, and_from}
+use Rattle.std.proofs.lemmas.Bool.{cases_lt, lt-leb, le-leb, leb-true, leb-false, eqb-true, both_ways, cond-true, cond-false, and_left}
+use Rattle.std.proofs.lemmas.Bool.{and_parts, and_from}
 use Rattle.std.proofs.Math.Bool.{and-true}
 use Rattle.std.proofs.lemmas.List.Elements.{filter-append}
 use Rattle.std.proofs.lemmas.Nat.{pow_pos}
 use Rattle.std.proofs.lemmas.Nat.Bits.{bit_at_cat_low, bit_at_cat_high, bit_at_above}
-use Rattle.council_game.specs.Votes.{RuleView, Votes, IsRule, IsRanked, IsVotes, rule_at, has, without, weight, wins, minimal, down, minimal_coalitions}
+use Rattle.council_game.specs.Votes.{RuleView, Votes, IsRule, IsRanked, IsVotes, rule_at, has, without, weight, wins, minimal, down}
+use Rattle.council_game.specs.Votes.{minimal_coalitions}
 use Rattle.council_game.proofs.Digits.{has-none}
 use Rattle.council_game.proofs.Meanings.{needs-each-member}
 use Rattle.council_game.proofs.WeightByDigits.{weight-nil, weight-cons}
@@ -22,7 +25,8 @@ first-in n c lt =
     let top : suc n - 1 - 0 ≡ n = omega arith in
     let place : n - n ≡ 0 = omega arith in
     let d = bit_at_cat_high 1 n c n lt (omega arith) in
-    ap (λ (k : ℕ). (2 ^ n + c) / 2 ^ k % 2 == 1) top ∙ ap (λ (x : ℕ). x / 2 ^ n % 2 == 1) (sym e) ∙ ap (λ (x : ℕ). x == 1) d ∙ ap (λ (k : ℕ). 1 / 2 ^ k % 2 == 1) place
+    ap (λ (k : ℕ). (2 ^ n + c) / 2 ^ k % 2 == 1) top ∙ ap (λ (x : ℕ). x / 2 ^ n % 2 == 1) (sym e) ∙ ap (λ (x : ℕ). x == 1) d
+        ∙ ap (λ (k : ℕ). 1 / 2 ^ k % 2 == 1) place
 
 pub first-out : (n c : ℕ) → c < 2 ^ n → has (suc n) 0 c ≡ false
 unfolding has
@@ -50,7 +54,8 @@ pub weight-with : (w : ℕ) (ws : List ℕ) (c : ℕ) → c < 2 ^ length ws → 
 weight-with w ws c lt =
     let e : 1 * 2 ^ length ws + c ≡ 2 ^ length ws + c = omega arith in
     let place : length ws - length ws ≡ 0 = omega arith in
-    let d : (2 ^ length ws + c) / 2 ^ length ws % 2 ≡ 1 = ap (λ (x : ℕ). x / 2 ^ length ws % 2) (sym e) ∙ bit_at_cat_high 1 (length ws) c (length ws) lt (omega arith) ∙ ap (λ (k : ℕ). 1 / 2 ^ k % 2) place in
+    let d : (2 ^ length ws + c) / 2 ^ length ws % 2 ≡ 1 = ap (λ (x : ℕ). x / 2 ^ length ws % 2) (sym e)
+        ∙ bit_at_cat_high 1 (length ws) c (length ws) lt (omega arith) ∙ ap (λ (k : ℕ). 1 / 2 ^ k % 2) place in
     let rest : weight ws (2 ^ length ws + c) ≡ weight ws c = ap (weight ws) (sym e) ∙ weight-skip ws 1 c in
     weight-cons w ws (2 ^ length ws + c) ∙ rw (d, rest) (omega arith)
 
@@ -103,7 +108,8 @@ module _ (w : ℕ) (ws : List ℕ) (r c : ℕ) (lt : c < 2 ^ length ws) where
     }),
   )
     where
-      needed-out : IsLeast ws r c → (p : ℕ) → p < length (w ∷ ws) → has (length (w ∷ ws)) p c ≡ true → weight (w ∷ ws) c < r + get_or (w ∷ ws) p 0
+      needed-out : IsLeast ws r c → (p : ℕ) → p < length (w ∷ ws) → has (length (w ∷ ws)) p c ≡ true
+          → weight (w ∷ ws) c < r + get_or (w ∷ ws) p 0
       needed-out h zero below inside = absurd (both_ways _ (first-out (length ws) c lt) inside)
       needed-out h (suc p) below inside =
           let n = h.needed p (omega arith) (sym (rest-out (length ws) p c) ∙ inside) in
@@ -135,7 +141,8 @@ module _ (w : ℕ) (ws : List ℕ) (r c : ℕ) (lt : c < 2 ^ length ws) where
             absurd (omega (arith, e, m))
       ]
 
-      needed-in : IsLeast ws (r - w) c → (p : ℕ) → p < length (w ∷ ws) → has (length (w ∷ ws)) p (2 ^ length ws + c) ≡ true → weight (w ∷ ws) (2 ^ length ws + c) < r + get_or (w ∷ ws) p 0
+      needed-in : IsLeast ws (r - w) c → (p : ℕ) → p < length (w ∷ ws) → has (length (w ∷ ws)) p (2 ^ length ws + c) ≡ true
+          → weight (w ∷ ws) (2 ^ length ws + c) < r + get_or (w ∷ ws) p 0
       needed-in h zero below inside =
           let found = place-of (length ws) c lt (some h) in
           let n = h.needed found.0 found.1 found.2 in
@@ -165,7 +172,8 @@ least-first w ws r pos enough = record {
     whole : weight (w ∷ ws) (2 ^ length ws + 0) ≡ w + 0
     whole = weight-with w ws 0 (pow_pos (length ws)) ∙ ap (λ (x : ℕ). w + x) (weight-zero ws)
 
-    needed-first : (p : ℕ) → p < length (w ∷ ws) → has (length (w ∷ ws)) p (2 ^ length ws + 0) ≡ true → weight (w ∷ ws) (2 ^ length ws + 0) < r + get_or (w ∷ ws) p 0
+    needed-first : (p : ℕ) → p < length (w ∷ ws) → has (length (w ∷ ws)) p (2 ^ length ws + 0) ≡ true
+        → weight (w ∷ ws) (2 ^ length ws + 0) < r + get_or (w ∷ ws) p 0
     needed-first zero below inside = let e = whole in omega (arith, e)
     needed-first (suc p) below inside =
         absurd (both_ways _ (has-none (length ws) p) (sym (rest-in (length ws) p 0 (omega arith)) ∙ inside))
@@ -188,7 +196,9 @@ pub filter-map : (p : ℕ → Bool) (f : ℕ → ℕ) (xs : List ℕ) → filter
 filter-map p f [] = refl
 filter-map p f (x ∷ xs) = kept (p (f x)) (filter-map p f xs)
   where
-    kept : (b : Bool) → filter p (map f xs) ≡ map f (filter (λ x. p (f x)) xs) → cond b (f x ∷ filter p (map f xs)) (filter p (map f xs)) ≡ map f (cond b (x ∷ filter (λ x. p (f x)) xs) (filter (λ x. p (f x)) xs))
+    kept : (b : Bool) → filter p (map f xs) ≡ map f (filter (λ x. p (f x)) xs)
+        → cond b (f x ∷ filter p (map f xs)) (filter p (map f xs)) ≡ map f
+        (cond b (x ∷ filter (λ x. p (f x)) xs) (filter (λ x. p (f x)) xs))
     kept true h = ap (λ (l : List ℕ). f x ∷ l) h
     kept false h = h
 
@@ -205,10 +215,12 @@ pub not-true : (b : Bool) → (b ≡ true → ⊥) → b ≡ false
 not-true true h = absurd (h refl)
 not-true false h = refl
 
-filter-completing : (ws : List ℕ) (r : ℕ) (test : ℕ → Bool) → 0 < r → Falls ws → ((c : ℕ) → c < 2 ^ length ws → (test c ≡ true) ↔ IsLeast ws r c) → filter test (down (2 ^ length ws)) ≡ completing ws r
+filter-completing : (ws : List ℕ) (r : ℕ) (test : ℕ → Bool) → 0 < r → Falls ws
+    → ((c : ℕ) → c < 2 ^ length ws → (test c ≡ true) ↔ IsLeast ws r c) → filter test (down (2 ^ length ws)) ≡ completing ws r
 unfolding completing down
 filter-completing [] r test pos falls same =
-    cond-false (test 0) (0 ∷ []) [] (not-true (test 0) (λ passes. (let m = ((same 0 (omega arith)).0 passes).met in omega (arith, m, weight-nil 0))))
+    cond-false (test 0) (0 ∷ []) [] (not-true (test 0) (λ passes.
+        (let m = ((same 0 (omega arith)).0 passes).met in omega (arith, m, weight-nil 0))))
 filter-completing (w ∷ ws) r test pos falls same =
     let h : ℕ = 2 ^ length ws in
     let some : 0 < h = pow_pos (length ws) in
@@ -222,8 +234,10 @@ filter-completing (w ∷ ws) r test pos falls same =
     )) in
     let again : w < r → filter (λ c. test (h + c)) (down h) ≡ completing ws (r - w) = λ more.
     (filter-completing ws (r - w) (λ c. test (2 ^ length ws + c)) (omega arith) (falls-rest w ws falls) (λ c lt. (
-      λ passes. (least-in w ws r c lt falls more).0 ((same (2 ^ length ws + c) (let d = double-pow (length ws) in omega (arith, d))).0 passes),
-      λ least. (same (2 ^ length ws + c) (let d = double-pow (length ws) in omega (arith, d))).1 ((least-in w ws r c lt falls more).1 least),
+      λ passes. (least-in w ws r c lt falls more).0 ((same (2 ^ length ws + c) (let d = double-pow (length ws) in omega (arith, d))).0
+          passes),
+      λ least. (same (2 ^ length ws + c) (let d = double-pow (length ws) in omega (arith, d))).1
+          ((least-in w ws r c lt falls more).1 least),
     ))) in
     both ∙ ap (λ (l : List ℕ). l ++ filter test (down h)) (filter-map test (λ c. h + c) (down h))
     ∙ ap (λ (l : List ℕ). map (λ c. h + c) (filter (λ c. test (h + c)) (down h)) ++ l) out
@@ -234,8 +248,10 @@ filter-completing (w ∷ ws) r test pos falls same =
     with-first again (inl more) = again more ∙ sym (cond-false (leb r w) (0 ∷ []) (completing ws (r - w)) (lt-leb r w more))
     with-first again (inr enough) =
         only-none (2 ^ length ws) (λ c. test (2 ^ length ws + c)) (pow_pos (length ws))
-        ((same (2 ^ length ws + 0) (let d = double-pow (length ws) in let s = pow_pos (length ws) in omega (arith, d, s))).1 (least-first w ws r pos enough))
-        (λ c some lt. not-true _ (λ passes. least-alone w ws r c lt some enough ((same (2 ^ length ws + c) (let d = double-pow (length ws) in omega (arith, d))).0 passes)))
+        ((same (2 ^ length ws + 0) (let d = double-pow (length ws) in let s = pow_pos (length ws) in omega (arith, d, s))).1
+            (least-first w ws r pos enough))
+        (λ c some lt. not-true _ (λ passes. least-alone w ws r c lt some enough
+            ((same (2 ^ length ws + c) (let d = double-pow (length ws) in omega (arith, d))).0 passes)))
         ∙ sym (cond-true (leb r w) (0 ∷ []) (completing ws (r - w)) (le-leb r w enough))
 
 -- ---- in a game of one rule
@@ -253,7 +269,8 @@ loses-one r c = (
   λ short. and_left _ _ (lt-leb _ _ short),
 )
 
-least-minimal : (v : Votes) (r : RuleView) (c : ℕ) → v.rules ≡ r ∷ [] → IsRule v.members r → (minimal v c ≡ true) ↔ IsLeast r.weights r.quota c
+least-minimal : (v : Votes) (r : RuleView) (c : ℕ) → v.rules ≡ r ∷ [] → IsRule v.members r
+    → (minimal v c ≡ true) ↔ IsLeast r.weights r.quota c
 unfolding without has
 least-minimal v r c one rule = (
   λ min. (
@@ -263,7 +280,8 @@ least-minimal v r c one rule = (
         needed = λ p lt inside. (
             let e : length r.weights ≡ v.members = rule.full in
             let in' : has v.members p c ≡ true = subst (λ (n : ℕ). has n p c ≡ true) e inside in
-            let lost = (loses-one r (without v.members p c)).0 (ap (λ (rs : List RuleView). wins rs (without v.members p c)) (sym one) ∙ parts.1 p (omega (arith, e)) in') in
+            let lost = (loses-one r (without v.members p c)).0
+                (ap (λ (rs : List RuleView). wins rs (without v.members p c)) (sym one) ∙ parts.1 p (omega (arith, e)) in') in
             let less = rw e at (weight-without r.weights p c lt (eqb-true _ _ inside)) in
             omega (arith, lost, less));
       }),
@@ -274,11 +292,13 @@ least-minimal v r c one rule = (
         let in' : has (length r.weights) p c ≡ true = subst (λ (n : ℕ). has n p c ≡ true) e inside in
         let n = least.needed p (omega (arith, e)) in' in
         let less = rw rule.full at (weight-without r.weights p c (omega (arith, e)) (eqb-true _ _ in')) in
-        ap (λ (rs : List RuleView). wins rs (without v.members p c)) one ∙ (loses-one r (without v.members p c)).1 (omega (arith, n, less))),
+        ap (λ (rs : List RuleView). wins rs (without v.members p c)) one
+            ∙ (loses-one r (without v.members p c)).1 (omega (arith, n, less))),
   ),
 )
 
-minimal-one : (v : Votes) (rs : List RuleView) → v.rules ≡ rs → IsVotes v → length rs ≡ 1 → minimal_coalitions v ≡ completing (rule_at rs 0).weights (rule_at rs 0).quota
+minimal-one : (v : Votes) (rs : List RuleView) → v.rules ≡ rs → IsVotes v → length rs ≡ 1
+    → minimal_coalitions v ≡ completing (rule_at rs 0).weights (rule_at rs 0).quota
 unfolding minimal_coalitions
 minimal-one v [] is votes one = absurd (omega (arith, one))
 minimal-one v (r ∷ s ∷ rs) is votes one = absurd (omega (arith, one))
@@ -288,7 +308,8 @@ minimal-one v (r ∷ []) is votes one =
     ap (λ (n : ℕ). filter (minimal v) (down (2 ^ n))) (sym rule.full)
     ∙ filter-completing r.weights r.quota (minimal v) (let s = rule.some in omega arith) falls (λ c lt. least-minimal v r c is rule)
 
-pub minimal-completing : (v : Votes) → IsVotes v → length v.rules ≡ 1 → minimal_coalitions v ≡ completing (rule_at v.rules 0).weights (rule_at v.rules 0).quota
+pub minimal-completing : (v : Votes) → IsVotes v → length v.rules ≡ 1
+    → minimal_coalitions v ≡ completing (rule_at v.rules 0).weights (rule_at v.rules 0).quota
 minimal-completing v votes one = minimal-one v v.rules refl votes one
 
 pub ruleset laws = (minimal-completing)

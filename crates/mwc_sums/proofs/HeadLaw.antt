@@ -1,5 +1,6 @@
 -- In a game of two rules, of which the second asks for so many heads.
-use Rattle.std.proofs.Common.{◌≡◌, ◌∙◌, ◌↔◌, ◌⊎◌, ℕ, zero, suc, ◌+◌, ◌-◌, ◌*◌, ◌^◌, ◌<◌, ◌≤◌, true, List, [], ◌∷◌, length, get_or, take, leb, sym, ap, arith, inl, inr, subst}
+use Rattle.std.proofs.Common.{◌≡◌, ◌∙◌, ◌↔◌, ◌⊎◌, ℕ, zero, suc, ◌+◌, ◌-◌, ◌*◌, ◌^◌, ◌<◌, ◌≤◌, true, List, [], ◌∷◌, length, get_or, take}
+use Rattle.std.proofs.Common.{leb, sym, ap, arith, inl, inr, subst}
 use Rattle.std.specs.List.{AllByRecursion}
 use Rattle.std.proofs.lemmas.Bool.{both_ways, cases_lt, le-leb, leb-true, eqb-true, and_parts, and_from}
 use Rattle.council_game.specs.Votes.{RuleView, Votes, IsRule, IsVotes, has, without, weight, size, wins, minimal}
@@ -11,7 +12,8 @@ use Rattle.mwc_sums.proofs.Completing.{double-pow, weight-with, weight-left, win
 use Rattle.mwc_sums.proofs.Counting.{size-with, size-left}
 
 -- where all weigh the same
-heads-weigh : (ws : List ℕ) (e c : ℕ) → ((p : ℕ) → p < length ws → get_or ws p 0 ≡ e) → c < 2 ^ length ws → weight ws c ≡ size (length ws) c * e
+heads-weigh : (ws : List ℕ) (e c : ℕ) → ((p : ℕ) → p < length ws → get_or ws p 0 ≡ e) → c < 2 ^ length ws
+    → weight ws c ≡ size (length ws) c * e
 heads-weigh [] e c same lt = weight-nil c ∙ omega arith
 heads-weigh (w ∷ ws) e c same lt = elim (cases_lt c (2 ^ length ws)) [
   | inl low ↦
@@ -26,7 +28,8 @@ heads-weigh (w ∷ ws) e c same lt = elim (cases_lt c (2 ^ length ws)) [
       let is : 2 ^ length ws + low ≡ c = omega (arith, high) in
       let a = ap (weight (w ∷ ws)) (sym is) ∙ weight-with w ws low below in
       let b = heads-weigh ws e low (λ p inside. same (suc p) (omega arith)) below in
-      let s : size (suc (length ws)) c * e ≡ (size (length ws) low + 1) * e = ap (λ (k : ℕ). k * e) (ap (size (suc (length ws))) (sym is) ∙ size-with (length ws) low below) in
+      let s : size (suc (length ws)) c * e ≡ (size (length ws) low + 1) * e =
+          ap (λ (k : ℕ). k * e) (ap (size (suc (length ws))) (sym is) ∙ size-with (length ws) low below) in
       let f = same 0 (omega arith) in
       omega (arith, a, b, s, f, one-more (size (length ws) low) e)
 ]
@@ -44,7 +47,8 @@ wins-two r s c = (
 )
 
 -- with two rules, of which the second asks for heads
-module _ (v : Votes) (r s : RuleView) (heads c : ℕ) (two : v.rules ≡ r ∷ s ∷ []) (votes : IsVotes v) (asks : AsksForHeads v.members heads s) (below : c < 2 ^ v.members) where
+module _ (v : Votes) (r s : RuleView) (heads c : ℕ) (two : v.rules ≡ r ∷ s ∷ []) (votes : IsVotes v)
+    (asks : AsksForHeads v.members heads s) (below : c < 2 ^ v.members) where
   rule-one : IsRule v.members r
   rule-one = (subst (λ (l : List RuleView). AllByRecursion (IsRule v.members) l) two votes.rules).0
 
@@ -59,13 +63,15 @@ module _ (v : Votes) (r s : RuleView) (heads c : ℕ) (two : v.rules ≡ r ∷ s
       heads-weigh s.weights asks.each c (λ p lt. asks.same p (omega (arith, lt, e))) below' ∙ ap (λ (n : ℕ). size n c * asks.each) e
 
   -- without a place
-  first-less : (p : ℕ) → p < v.members → has v.members p c ≡ true → weight r.weights (without v.members p c) + get_or r.weights p 0 ≡ weight r.weights c
+  first-less : (p : ℕ) → p < v.members → has v.members p c ≡ true
+      → weight r.weights (without v.members p c) + get_or r.weights p 0 ≡ weight r.weights c
   unfolding has without
   first-less p lt inside =
       let e = rule-one.full in
       rw e at (weight-without r.weights p c (omega (arith, lt, e)) (rw e (eqb-true _ _ inside)))
 
-  second-less : (p : ℕ) → p < v.members → has v.members p c ≡ true → weight s.weights (without v.members p c) + asks.each ≡ size v.members c * asks.each
+  second-less : (p : ℕ) → p < v.members → has v.members p c ≡ true
+      → weight s.weights (without v.members p c) + asks.each ≡ size v.members c * asks.each
   unfolding has without
   second-less p lt inside =
       let e = rule-two.full in
@@ -74,10 +80,12 @@ module _ (v : Votes) (r s : RuleView) (heads c : ℕ) (two : v.rules ≡ r ∷ s
       omega (arith, a, f, weighs)
 
   -- one head less
-  second-heads : (p : ℕ) → p < v.members → has v.members p c ≡ true → (1 ≤ size v.members c) × (weight s.weights (without v.members p c) ≡ (size v.members c - 1) * asks.each)
+  second-heads : (p : ℕ) → p < v.members → has v.members p c ≡ true
+      → (1 ≤ size v.members c) × (weight s.weights (without v.members p c) ≡ (size v.members c - 1) * asks.each)
   second-heads p lt inside = by_size (size v.members c) (second-less p lt inside)
     where
-      by_size : (k : ℕ) → weight s.weights (without v.members p c) + asks.each ≡ k * asks.each → (1 ≤ k) × (weight s.weights (without v.members p c) ≡ (k - 1) * asks.each)
+      by_size : (k : ℕ) → weight s.weights (without v.members p c) + asks.each ≡ k * asks.each
+          → (1 ≤ k) × (weight s.weights (without v.members p c) ≡ (k - 1) * asks.each)
       by_size zero e = absurd (let some = asks.some in let z : 0 * asks.each ≡ 0 = omega arith in omega (arith, e, some, z))
       by_size (suc k) e =
           let f : suc k * asks.each ≡ k * asks.each + asks.each = one-less k asks.each in
@@ -88,7 +96,8 @@ module _ (v : Votes) (r s : RuleView) (heads c : ℕ) (two : v.rules ≡ r ∷ s
           one-less a b = omega arith
 
   wins-both : (d : ℕ) → (wins v.rules d ≡ true) ↔ ((r.quota ≤ weight r.weights d) × (s.quota ≤ weight s.weights d))
-  wins-both d = subst (λ (l : List RuleView). (wins l d ≡ true) ↔ ((r.quota ≤ weight r.weights d) × (s.quota ≤ weight s.weights d))) (sym two) (wins-two r s d)
+  wins-both d = subst (λ (l : List RuleView). (wins l d ≡ true) ↔ ((r.quota ≤ weight r.weights d) × (s.quota ≤ weight s.weights d)))
+      (sym two) (wins-two r s d)
 
   alone : (first_rule v).rules ≡ r ∷ []
   alone = ap (λ (l : List RuleView). take 1 l) two
@@ -96,7 +105,8 @@ module _ (v : Votes) (r s : RuleView) (heads c : ℕ) (two : v.rules ≡ r ∷ s
   first-wins : (d : ℕ) → (wins (first_rule v).rules d ≡ true) ↔ (r.quota ≤ weight r.weights d)
   first-wins d = subst (λ (l : List RuleView). (wins l d ≡ true) ↔ (r.quota ≤ weight r.weights d)) (sym alone) (wins-one r d)
 
-  pub heads-from : minimal v c ≡ true → ((size v.members c ≡ heads) × (r.quota ≤ weight r.weights c)) ⊎ ((heads < size v.members c) × (minimal (first_rule v) c ≡ true))
+  pub heads-from : minimal v c ≡ true → ((size v.members c ≡ heads) × (r.quota ≤ weight r.weights c)) ⊎
+      ((heads < size v.members c) × (minimal (first_rule v) c ≡ true))
   heads-from min =
       let parts = (needs-each-member v c).0 min in
       let won = (wins-both c).0 parts.0 in
@@ -111,15 +121,18 @@ module _ (v : Votes) (r s : RuleView) (heads c : ℕ) (two : v.rules ≡ r ∷ s
                 let few = one.0 in
                 let met = (asks.enough (size v.members c - 1)).1 (omega (arith, less, few)) in
                 let other = one.1 in
-                both_ways _ (parts.1 p lt inside) ((wins-both (without v.members p c)).1 ((first-wins (without v.members p c)).0 still, omega (arith, met, other))))),
+                both_ways _ (parts.1 p lt inside) ((wins-both (without v.members p c)).1
+                    ((first-wins (without v.members p c)).0 still, omega (arith, met, other))))),
           ),
         )
         | inr most ↦ inl (omega (arith, enough, most), won.0)
       ]
 
-  pub heads-back : ((size v.members c ≡ heads) × (r.quota ≤ weight r.weights c)) ⊎ ((heads < size v.members c) × (minimal (first_rule v) c ≡ true)) → minimal v c ≡ true
+  pub heads-back : ((size v.members c ≡ heads) × (r.quota ≤ weight r.weights c)) ⊎
+      ((heads < size v.members c) × (minimal (first_rule v) c ≡ true)) → minimal v c ≡ true
   heads-back (inl h) = (needs-each-member v c).1 (
-    (wins-both c).1 (h.1, (let same = h.0 in let met = (asks.enough (size v.members c)).1 (omega (arith, same)) in omega (arith, met, weighs))),
+    (wins-both c).1 (h.1, (let same = h.0 in let met = (asks.enough (size v.members c)).1 (omega (arith, same)) in
+        omega (arith, met, weighs))),
     λ p lt inside. not-true _ (λ still.
         (let one = second-heads p lt inside in
         let few = one.0 in
@@ -132,6 +145,8 @@ module _ (v : Votes) (r s : RuleView) (heads c : ℕ) (two : v.rules ≡ r ∷ s
   heads-back (inr h) =
       let parts = (needs-each-member (first_rule v) c).0 h.1 in
       (needs-each-member v c).1 (
-        (wins-both c).1 ((first-wins c).0 parts.0, (let less = h.0 in let met = (asks.enough (size v.members c)).1 (omega (arith, less)) in omega (arith, met, weighs))),
-        λ p lt inside. not-true _ (λ still. both_ways _ (parts.1 p lt inside) ((first-wins (without v.members p c)).1 ((wins-both (without v.members p c)).0 still).0)),
+        (wins-both c).1 ((first-wins c).0 parts.0, (let less = h.0 in let met = (asks.enough (size v.members c)).1 (omega (arith, less)) in
+            omega (arith, met, weighs))),
+        λ p lt inside. not-true _ (λ still. both_ways _ (parts.1 p lt inside)
+            ((first-wins (without v.members p c)).1 ((wins-both (without v.members p c)).0 still).0)),
       )

@@ -7,3 +7,5 @@ pub mod Members
 pub mod HeadLaw
 pub mod Ended
 pub mod Whole
+pub mod Masks
+pub mod Orders

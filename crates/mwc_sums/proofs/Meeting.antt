@@ -1,5 +1,6 @@
 -- How many coalitions of so many members meet a need.
-use Rattle.std.proofs.Common.{◌≡◌, ◌∙◌, ℕ, zero, suc, ◌+◌, ◌-◌, ◌*◌, ◌^◌, ◌<◌, ◌≤◌, ◌==◌, ◌&&◌, ◌⊎◌, Bool, true, false, cond, leb, ltb, List, [], ◌∷◌, length, map, filter, sym, ap, refl, arith, inl, inr, length-append, eq-eqb}
+use Rattle.std.proofs.Common.{◌≡◌, ◌∙◌, ℕ, zero, suc, ◌+◌, ◌-◌, ◌*◌, ◌^◌, ◌<◌, ◌≤◌, ◌==◌, ◌&&◌, ◌⊎◌, Bool, true, false, cond, leb, ltb}
+use Rattle.std.proofs.Common.{List, [], ◌∷◌, length, map, filter, sym, ap, refl, arith, inl, inr, length-append, eq-eqb}
 use Rattle.std.specs.List.{All}
 use Rattle.std.proofs.lemmas.Bool.{cases_lt, cases_eq, ne_eqb, lt-leb, le-leb, lt-ltb, le-ltb, cond-true, cond-false}
 use Rattle.std.proofs.lemmas.List.{length-map}
@@ -38,7 +39,8 @@ meets-with w ws r c lt = elim (cases_lt (weight ws c) (r - w)) [
   | inr most ↦ let e = weight-with w ws c lt in le-leb _ _ (omega (arith, e, most)) ∙ sym (le-leb _ _ most)
 ]
 
-pub meetings-all : (ws : List ℕ) (s r a : ℕ) → count (λ c. leb r (weight ws c) && (a + size (length ws) c == s)) (down (2 ^ length ws)) ≡ meetings ws s r a
+pub meetings-all : (ws : List ℕ) (s r a : ℕ) → count (λ c. leb r (weight ws c) && (a + size (length ws) c == s)) (down (2 ^ length ws)) ≡
+    meetings ws s r a
 unfolding meetings down
 meetings-all [] s r a =
     let z : weight [] 0 ≡ 0 = weight-nil 0 in
@@ -52,15 +54,18 @@ meetings-all (w ∷ ws) s r a =
     let n : ℕ = length ws in
     let parts = count-two (λ c. leb r (weight (w ∷ ws) c) && (a + size (suc n) c == s)) n in
     let below = down-below (2 ^ n) (2 ^ n) (omega arith) in
-    let first = count-same (λ c. leb r (weight (w ∷ ws) (2 ^ n + c)) && (a + size (suc n) (2 ^ n + c) == s)) (λ c. leb (r - w) (weight ws c) && (a + 1 + size n c == s)) (2 ^ n) (down (2 ^ n)) below (λ c lt. (
+    let first = count-same (λ c. leb r (weight (w ∷ ws) (2 ^ n + c)) && (a + size (suc n) (2 ^ n + c) == s))
+        (λ c. leb (r - w) (weight ws c) && (a + 1 + size n c == s)) (2 ^ n) (down (2 ^ n)) below (λ c lt. (
     let e : a + size (suc n) (2 ^ n + c) ≡ a + 1 + size n c = (let f = size-with n c lt in omega (arith, f)) in
     λ i. meets-with w ws r c lt i && (e i == s))) in
-    let rest = count-same (λ c. leb r (weight (w ∷ ws) c) && (a + size (suc n) c == s)) (λ c. leb r (weight ws c) && (a + size n c == s)) (2 ^ n) (down (2 ^ n)) below (λ c lt. (
+    let rest = count-same (λ c. leb r (weight (w ∷ ws) c) && (a + size (suc n) c == s)) (λ c. leb r (weight ws c) && (a + size n c == s))
+        (2 ^ n) (down (2 ^ n)) below (λ c lt. (
     λ i. leb r (weight-left w ws c lt i) && (a + size-left n c lt i == s))) in
     omega (arith, parts, first, rest, meetings-all ws s (r - w) (a + 1), meetings-all ws s r a)
 
 pub meetings-parted : (ws : List ℕ) (p s r a : ℕ) → p < length ws →
-    meetings (left_out p ws) s r a + count (λ c. leb r (weight ws c) && (has (length ws) p c && (a + size (length ws) c == s))) (down (2 ^ length ws)) ≡ meetings ws s r a
+    meetings (left_out p ws) s r a + count (λ c. leb r (weight ws c) && (has (length ws) p c && (a + size (length ws) c == s)))
+        (down (2 ^ length ws)) ≡ meetings ws s r a
 unfolding meetings left_out
 meetings-parted [] p s r a lt = absurd (omega arith)
 meetings-parted (w ∷ ws) zero s r a lt =
@@ -68,11 +73,13 @@ meetings-parted (w ∷ ws) zero s r a lt =
     let q : ℕ → Bool = λ c. leb r (weight (w ∷ ws) c) && (has (suc n) 0 c && (a + size (suc n) c == s)) in
     let parts = count-two q n in
     let below = down-below (2 ^ n) (2 ^ n) (omega arith) in
-    let first = count-same (λ c. q (2 ^ n + c)) (λ c. leb (r - w) (weight ws c) && (a + 1 + size n c == s)) (2 ^ n) (down (2 ^ n)) below (λ c low. (
+    let first = count-same (λ c. q (2 ^ n + c)) (λ c. leb (r - w) (weight ws c) && (a + 1 + size n c == s)) (2 ^ n) (down (2 ^ n)) below
+        (λ c low. (
     let e : a + size (suc n) (2 ^ n + c) ≡ a + 1 + size n c = (let f = size-with n c low in omega (arith, f)) in
     λ i. meets-with w ws r c low i && (first-in n c low i && (e i == s)))) in
     let none = count-none q (2 ^ n) (down (2 ^ n)) below (λ c low. (
-    ap (λ (b : Bool). leb r (weight (w ∷ ws) c) && (b && (a + size (suc n) c == s))) (first-out n c low) ∙ and-false (leb r (weight (w ∷ ws) c)))) in
+    ap (λ (b : Bool). leb r (weight (w ∷ ws) c) && (b && (a + size (suc n) c == s))) (first-out n c low)
+        ∙ and-false (leb r (weight (w ∷ ws) c)))) in
     omega (arith, parts, first, none, meetings-all ws s (r - w) (a + 1))
   where
     and-false : (b : Bool) → (b && false) ≡ false
@@ -84,7 +91,8 @@ meetings-parted (w ∷ ws) (suc p) s r a lt =
     let q : ℕ → Bool = λ c. leb r (weight (w ∷ ws) c) && (has (suc n) (suc p) c && (a + size (suc n) c == s)) in
     let parts = count-two q n in
     let below = down-below (2 ^ n) (2 ^ n) (omega arith) in
-    let first = count-same (λ c. q (2 ^ n + c)) (λ c. leb (r - w) (weight ws c) && (has n p c && (a + 1 + size n c == s))) (2 ^ n) (down (2 ^ n)) below (λ c low. (
+    let first = count-same (λ c. q (2 ^ n + c)) (λ c. leb (r - w) (weight ws c) && (has n p c && (a + 1 + size n c == s))) (2 ^ n)
+        (down (2 ^ n)) below (λ c low. (
     let e : a + size (suc n) (2 ^ n + c) ≡ a + 1 + size n c = (let f = size-with n c low in omega (arith, f)) in
     λ i. meets-with w ws r c low i && (rest-in n p c inside i && (e i == s)))) in
     let rest = count-same q (λ c. leb r (weight ws c) && (has n p c && (a + size n c == s))) (2 ^ n) (down (2 ^ n)) below (λ c low. (
@@ -106,7 +114,8 @@ chosen-more m a s = by_order (cases_lt a s)
     zero-chosen zero = refl
     zero-chosen (suc j) = refl
 
-    by_order : (a < s) ⊎ (s ≤ a) → cond (leb (a + 1) s) (choose m (s - (a + 1))) 0 + cond (leb a s) (choose m (s - a)) 0 ≡ cond (leb a s) (choose (suc m) (s - a)) 0
+    by_order : (a < s) ⊎ (s ≤ a) → cond (leb (a + 1) s) (choose m (s - (a + 1))) 0 + cond (leb a s) (choose m (s - a)) 0 ≡ cond (leb a s)
+        (choose (suc m) (s - a)) 0
     by_order (inl less) =
         let k : s - a ≡ suc (s - (a + 1)) = omega arith in
         let x = cond-true (leb (a + 1) s) (choose m (s - (a + 1))) 0 (le-leb (a + 1) s (omega arith)) in
@@ -171,7 +180,8 @@ fill-heads h left size = by_order (cases_lt h size)
     by_order : (h < size) ⊎ (size ≤ h) → fill h h left size ≡ cond (leb size h) (choose left (h - size)) 0
     by_order (inl less) =
         cond-true (ltb h size) (one_of_size h size) (one_of_size h h * choose left (h - size)) (lt-ltb h size less)
-        ∙ ap {B = ℕ} (λ b. cond b 1 0) (ne_eqb size h (λ e. omega (arith, less, e))) ∙ sym (cond-false (leb size h) (choose left (h - size)) 0 (lt-leb size h less))
+        ∙ ap {B = ℕ} (λ b. cond b 1 0) (ne_eqb size h (λ e. omega (arith, less, e)))
+            ∙ sym (cond-false (leb size h) (choose left (h - size)) 0 (lt-leb size h less))
     by_order (inr most) =
         let x = cond-false (ltb h size) (one_of_size h size) (one_of_size h h * choose left (h - size)) (le-ltb h size most) in
         let one = ap {B = ℕ} (λ b. cond b 1 0 * choose left (h - size)) (eq-eqb h h refl) in
@@ -188,7 +198,8 @@ fill-few : (h s left size : ℕ) → s < h → fill h s left size ≡ 0
 fill-few h s left size less = fill-other h s left size (λ e. omega (arith, less, e)) ∙ by_order (cases_lt h size)
   where
     by_order : (h < size) ⊎ (size ≤ h) → cond (ltb h size) (one_of_size s size) 0 ≡ 0
-    by_order (inl more) = cond-true (ltb h size) (one_of_size s size) 0 (lt-ltb h size more) ∙ ap {B = ℕ} (λ b. cond b 1 0) (ne_eqb size s (λ e. omega (arith, less, more, e)))
+    by_order (inl more) = cond-true (ltb h size) (one_of_size s size) 0 (lt-ltb h size more)
+        ∙ ap {B = ℕ} (λ b. cond b 1 0) (ne_eqb size s (λ e. omega (arith, less, more, e)))
     by_order (inr most) = cond-false (ltb h size) (one_of_size s size) 0 (le-ltb h size most)
 
 fill-more : (h s left size : ℕ) → h < s → fill h s left size ≡ one_of_size s size
@@ -196,13 +207,15 @@ fill-more h s left size more = fill-other h s left size (λ e. omega (arith, mor
   where
     by_order : (h < size) ⊎ (size ≤ h) → cond (ltb h size) (one_of_size s size) 0 ≡ one_of_size s size
     by_order (inl less) = cond-true (ltb h size) (one_of_size s size) 0 (lt-ltb h size less)
-    by_order (inr most) = cond-false (ltb h size) (one_of_size s size) 0 (le-ltb h size most) ∙ sym (ap {B = ℕ} (λ b. cond b 1 0) (ne_eqb size s (λ e. omega (arith, more, most, e))))
+    by_order (inr most) = cond-false (ltb h size) (one_of_size s size) 0 (le-ltb h size most)
+        ∙ sym (ap {B = ℕ} (λ b. cond b 1 0) (ne_eqb size s (λ e. omega (arith, more, most, e))))
 
 pub endings-few : (ws : List ℕ) (h s r a : ℕ) → s < h → endings ws h s r a ≡ 0
 unfolding endings
 endings-few [] h s r a less = refl
 endings-few (w ∷ ws) h s r a less =
-    let first = both (leb r w) (fill h s (length ws) (a + 1)) (endings ws h s (r - w) (a + 1)) (fill-few h s (length ws) (a + 1) less) (endings-few ws h s (r - w) (a + 1) less) in
+    let first = both (leb r w) (fill h s (length ws) (a + 1)) (endings ws h s (r - w) (a + 1)) (fill-few h s (length ws) (a + 1) less)
+        (endings-few ws h s (r - w) (a + 1) less) in
     omega (arith, first, endings-few ws h s r a less)
   where
     both : (b : Bool) (x y : ℕ) → x ≡ 0 → y ≡ 0 → cond b x y ≡ 0
@@ -213,7 +226,8 @@ pub endings-more : (ws : List ℕ) (h s r a : ℕ) → h < s → endings ws h s 
 unfolding endings closings
 endings-more [] h s r a more = refl
 endings-more (w ∷ ws) h s r a more =
-    let first = both (leb r w) (fill h s (length ws) (a + 1)) (endings ws h s (r - w) (a + 1)) (one_of_size s (a + 1)) (closings ws s (r - w) (a + 1)) (fill-more h s (length ws) (a + 1) more) (endings-more ws h s (r - w) (a + 1) more) in
+    let first = both (leb r w) (fill h s (length ws) (a + 1)) (endings ws h s (r - w) (a + 1)) (one_of_size s (a + 1))
+        (closings ws s (r - w) (a + 1)) (fill-more h s (length ws) (a + 1) more) (endings-more ws h s (r - w) (a + 1) more) in
     omega (arith, first, endings-more ws h s r a more)
   where
     both : (b : Bool) (x y u v : ℕ) → x ≡ u → y ≡ v → cond b x y ≡ cond b u v
@@ -223,11 +237,13 @@ endings-more (w ∷ ws) h s r a more =
 pub endings-heads : (ws : List ℕ) (h r a : ℕ) → 0 < r → endings ws h h r a ≡ meetings ws h r a
 unfolding endings meetings
 endings-heads [] h r a pos = sym (ap {B = ℕ} (λ b. cond (b && (a == h)) 1 0) (lt-leb r 0 pos))
-endings-heads (w ∷ ws) h r a pos = omega (arith, first (cases_lt w r) (λ less. endings-heads ws h (r - w) (a + 1) (omega (arith, less))), endings-heads ws h r a pos)
+endings-heads (w ∷ ws) h r a pos = omega (arith, first (cases_lt w r) (λ less. endings-heads ws h (r - w) (a + 1) (omega (arith, less))),
+    endings-heads ws h r a pos)
   where
     first : (w < r) ⊎ (r ≤ w) → (w < r → endings ws h h (r - w) (a + 1) ≡ meetings ws h (r - w) (a + 1))
         → cond (leb r w) (fill h h (length ws) (a + 1)) (endings ws h h (r - w) (a + 1)) ≡ meetings ws h (r - w) (a + 1)
-    first (inl less) again = cond-false (leb r w) (fill h h (length ws) (a + 1)) (endings ws h h (r - w) (a + 1)) (lt-leb r w less) ∙ again less
+    first (inl less) again = cond-false (leb r w) (fill h h (length ws) (a + 1)) (endings ws h h (r - w) (a + 1)) (lt-leb r w less)
+        ∙ again less
     first (inr most) again =
         let z : r - w ≡ 0 = omega (arith, most) in
         cond-true (leb r w) (fill h h (length ws) (a + 1)) (endings ws h h (r - w) (a + 1)) (le-leb r w most)

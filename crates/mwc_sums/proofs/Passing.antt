@@ -1,5 +1,6 @@
 -- A row of prefixes, one member further.
-use Rattle.std.proofs.Common.{◌≡◌, ◌∙◌, ℕ, ◌+◌, ◌-◌, ◌*◌, ◌<◌, ◌≤◌, ◌^◌, Bool, true, false, cond, leb, List, [], ◌∷◌, length, take, drop, get_or, sym, ap, refl, arith}
+use Rattle.std.proofs.Common.{◌≡◌, ◌∙◌, ℕ, ◌+◌, ◌-◌, ◌*◌, ◌<◌, ◌≤◌, ◌^◌, Bool, true, false, cond, leb, List, [], ◌∷◌, length, take, drop}
+use Rattle.std.proofs.Common.{get_or, sym, ap, refl, arith}
 use native.Mathlib.Numerals.{unary_clauses}
 use Rattle.std.specs.List.{All, sum}
 use Rattle.std.proofs.lemmas.Bool.{lt-leb, cond-false}
@@ -47,34 +48,42 @@ unfolding endings
 endings-none [] heads s r a short = refl
 endings-none (w ∷ ws) heads s r a short =
     let total : sum (w ∷ ws) ≡ w + sum ws = sum_by-cons (λ (y : ℕ). y) w ws in
-    let no = cond-false (leb r w) (fill heads s (length ws) (a + 1)) (endings ws heads s (r - w) (a + 1)) (lt-leb r w (omega (arith, total, short))) in
-    omega (arith, no, endings-none ws heads s (r - w) (a + 1) (omega (arith, total, short)), endings-none ws heads s r a (omega (arith, total, short)))
+    let no = cond-false (leb r w) (fill heads s (length ws) (a + 1)) (endings ws heads s (r - w) (a + 1))
+        (lt-leb r w (omega (arith, total, short))) in
+    omega (arith, no, endings-none ws heads s (r - w) (a + 1) (omega (arith, total, short)),
+        endings-none ws heads s r a (omega (arith, total, short)))
 
 -- a row, what its prefixes are with a member more, and those that go on without it
 module _ (w heads left rest k : ℕ) (before done : List ℕ) (row others next : List Open)
-    (counted : (g : ℕ → ℕ → ℕ) (s : ℕ) → s ≤ 40 → get_or done s 0 + weigh g others ≡ get_or before s 0 + weigh (taken w (fill heads s left) g) row)
+    (counted : (g : ℕ → ℕ → ℕ) (s : ℕ) → s ≤ 40 → get_or done s 0 + weigh g others ≡ get_or before s 0 + weigh
+        (taken w (fill heads s left) g) row)
   where
     pub others-few : (s : ℕ) → s ≤ 40 → get_or done s 0 + prefixes others * 2 ^ left ≤ get_or before s 0 + prefixes row * 2 ^ left
     others-few s small =
         let c = counted (λ r a. 2 ^ left) s small in
-        omega (arith, c, weigh-times (2 ^ left) others, weigh-most (taken w (fill heads s left) (λ r a. 2 ^ left)) (2 ^ left) row (taken-most w heads left s))
+        omega (arith, c, weigh-times (2 ^ left) others, weigh-most (taken w (fill heads s left) (λ r a. 2 ^ left)) (2 ^ left) row
+            (taken-most w heads left s))
 
-    row-parts : (x : ℕ) → prefixes next ≡ prefixes (take k row) + prefixes others → prefixes next * x ≤ prefixes row * x + prefixes others * x
+    row-parts : (x : ℕ) → prefixes next ≡ prefixes (take k row) + prefixes others
+        → prefixes next * x ≤ prefixes row * x + prefixes others * x
     row-parts x is =
         let front = mul-le-mul_right x (sum_by-take-le (λ (o : Open). o.ways) row k) in
-        let e : prefixes next * x ≡ prefixes (take k row) * x + prefixes others * x = ap (λ (n : ℕ). n * x) is ∙ plus (prefixes (take k row)) (prefixes others) x in
+        let e : prefixes next * x ≡ prefixes (take k row) * x + prefixes others * x = ap (λ (n : ℕ). n * x) is
+            ∙ plus (prefixes (take k row)) (prefixes others) x in
         omega (arith, front, e)
       where
         plus : (a b c : ℕ) → (a + b) * c ≡ a * c + b * c
         plus a b c = omega arith
 
     double : prefixes row * 2 ^ (left + 1) ≡ prefixes row * 2 ^ left + prefixes row * 2 ^ left
-    double = (let two : 2 ^ (left + 1) ≡ 2 ^ left + 2 ^ left = simp unary_clauses (omega arith) in ap (λ (n : ℕ). prefixes row * n) two ∙ plus (prefixes row) (2 ^ left) (2 ^ left))
+    double = (let two : 2 ^ (left + 1) ≡ 2 ^ left + 2 ^ left = simp unary_clauses (omega arith) in ap (λ (n : ℕ). prefixes row * n) two
+        ∙ plus (prefixes row) (2 ^ left) (2 ^ left))
       where
         plus : (a b c : ℕ) → a * (b + c) ≡ a * b + a * c
         plus a b c = omega arith
 
-    pub merge-few : ((s : ℕ) → s ≤ 40 → get_or before s 0 + prefixes row * 2 ^ (left + 1) < 2 ^ 64) → prefixes (take k row) + prefixes others < 2 ^ 64
+    pub merge-few : ((s : ℕ) → s ≤ 40 → get_or before s 0 + prefixes row * 2 ^ (left + 1) < 2 ^ 64)
+        → prefixes (take k row) + prefixes others < 2 ^ 64
     merge-few room =
         let o = others-few 0 (omega arith) in
         let r = room 0 (omega arith) in
@@ -88,7 +97,8 @@ module _ (w heads left rest k : ℕ) (before done : List ℕ) (row others next :
     row-few all s small =
         let o = others-few s small in
         let a = all (λ r x. 1) in
-        let e : prefixes next ≡ prefixes (take k row) + prefixes others = omega (arith, a, weigh-times 1 next, weigh-times 1 others, weigh-times 1 (take k row)) in
+        let e : prefixes next ≡ prefixes (take k row) + prefixes others =
+            omega (arith, a, weigh-times 1 next, weigh-times 1 others, weigh-times 1 (take k row)) in
         omega (arith, o, double, row-parts (2 ^ left) e)
 
     pub row-counted : ((g : ℕ → ℕ → ℕ) → ((r a : ℕ) → rest < r → g r a ≡ 0) → weigh g (take k row) ≡ weigh g row)
@@ -116,7 +126,8 @@ prefixes-more p left before done row next are few sizes = record {
   sizes = sizes p are.sizes;
 }
 
-pub prefixes-room : (p left : ℕ) (done : List ℕ) (row : List Open) → AreOfPrefixes p left done row → (s : ℕ) → s ≤ 40 → get_or done s 0 + prefixes row * 2 ^ left < 2 ^ 64
+pub prefixes-room : (p left : ℕ) (done : List ℕ) (row : List Open) → AreOfPrefixes p left done row → (s : ℕ) → s ≤ 40
+    → get_or done s 0 + prefixes row * 2 ^ left < 2 ^ 64
 prefixes-room p left done row are s small = let a = are.few s small in omega (arith, a)
 
 pub sizes-more : (k : ℕ) (row others next : List Open) → ((p : ℕ) → All (λ o. o.size ≤ p) row → All (λ o. o.size ≤ p + 1) others)
@@ -124,7 +135,8 @@ pub sizes-more : (k : ℕ) (row others next : List Open) → ((p : ℕ) → All 
     → (p : ℕ) → All (λ o. o.size ≤ p) row → All (λ o. o.size ≤ p + 1) next
 sizes-more k row others next more merged p all =
     merged (p + 1)
-    (All-take (λ (o : Open). o.size ≤ p + 1) k row (All-weaker (λ (o : Open). o.size ≤ p) (λ (o : Open). o.size ≤ p + 1) (λ o le. omega (arith, le)) row all))
+    (All-take (λ (o : Open). o.size ≤ p + 1) k row (All-weaker (λ (o : Open). o.size ≤ p) (λ (o : Open). o.size ≤ p + 1)
+        (λ o le. omega (arith, le)) row all))
     (more p all)
 
 -- the passes of all members from a place on
@@ -134,7 +146,8 @@ rest-less ws p rest lt is = let e = sum_by-drop_more (λ (y : ℕ). y) ws p 0 lt
 pub rest-fits : (ws : List ℕ) (p rest : ℕ) → p < length ws → rest ≡ sum (drop p ws) → get_or ws p 0 ≤ rest
 rest-fits ws p rest lt is = let e = sum_by-drop_more (λ (y : ℕ). y) ws p 0 lt in omega (arith, e, is)
 
-pub endings-next : (ws : List ℕ) (heads p s : ℕ) (row : List Open) → p < length ws → weigh (endings (get_or ws p 0 ∷ drop (p + 1) ws) heads s) row ≡ weigh (endings (drop p ws) heads s) row
+pub endings-next : (ws : List ℕ) (heads p s : ℕ) (row : List Open) → p < length ws
+    → weigh (endings (get_or ws p 0 ∷ drop (p + 1) ws) heads s) row ≡ weigh (endings (drop p ws) heads s) row
 endings-next ws heads p s row lt = ap (λ (vs : List ℕ). weigh (endings vs heads s) row) (sym (drop_more ws p 0 lt))
 
 pub endings-end : (ws : List ℕ) (heads p s : ℕ) (row : List Open) → length ws ≤ p → weigh (endings (drop p ws) heads s) row ≡ 0

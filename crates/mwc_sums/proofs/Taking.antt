@@ -1,5 +1,7 @@
 -- Rows of prefixes, one prefix more.
-use Rattle.std.proofs.Common.{◌≡◌, ◌∙◌, ℕ, ◌+◌, ◌*◌, ◌<◌, ◌≤◌, ◌^◌, List, [], ◌∷◌, ◌++◌, length, take, drop, get_or, set, cond, eqb, replicate, ltb, Bool, true, false, zero, suc, max, length-set, ◌⊎◌, sym, ap, refl, arith, ◌-◌, inl, inr, eq-eqb, get_or-set_same, get_or-set_other}
+use Rattle.std.proofs.Common.{◌≡◌, ◌∙◌, ℕ, ◌+◌, ◌*◌, ◌<◌, ◌≤◌, ◌^◌, List, [], ◌∷◌, ◌++◌, length, take, drop, get_or, set, cond, eqb}
+use Rattle.std.proofs.Common.{replicate, ltb, Bool, true, false, zero, suc, max, length-set, ◌⊎◌, sym, ap, refl, arith, ◌-◌, inl, inr}
+use Rattle.std.proofs.Common.{eq-eqb, get_or-set_same, get_or-set_other}
 use Rattle.std.specs.List.{All}
 use Rattle.std.proofs.lemmas.Bool.{cases_eq, cases_Bool, ne_eqb, le-leb, lt-leb, cond-true, cond-false, cases_lt, lt-ltb, le-ltb}
 use Rattle.std.proofs.Math.Nat.{mul-le-mul_left}
@@ -16,7 +18,8 @@ pub bumped : (xs : List ℕ) (k s v : ℕ) → k < length xs → get_or (set xs 
 bumped xs k s v lt = elim (cases_eq k s) [
   | inl e ↦
       let yes = ap {B = ℕ} (λ b. v * cond b 1 0) (eq-eqb k s e) in
-      omega (arith, yes, ap (λ i. get_or (set xs k (get_or xs k 0 + v)) i 0) e, get_or-set_same xs k (get_or xs k 0 + v) 0 lt, ap (λ i. get_or xs i 0) e)
+      omega (arith, yes, ap (λ i. get_or (set xs k (get_or xs k 0 + v)) i 0) e, get_or-set_same xs k (get_or xs k 0 + v) 0 lt,
+          ap (λ i. get_or xs i 0) e)
   | inr ne ↦
       let no = ap {B = ℕ} (λ b. v * cond b 1 0) (ne_eqb k s ne) in
       omega (arith, no, get_or-set_other xs k s (get_or xs k 0 + v) 0 (λ (q : s ≡ k). ne (sym q)))
@@ -33,10 +36,12 @@ unfolding choose
 choose-most zero zero = omega arith
 choose-most zero (suc k) = omega arith
 choose-most (suc m) zero = pow_pos (suc m)
-choose-most (suc m) (suc k) = let double : 2 ^ suc m ≡ 2 ^ m + 2 ^ m = simp unary_clauses (omega arith) in omega (arith, choose-most m k, choose-most m (suc k), double)
+choose-most (suc m) (suc k) = let double : 2 ^ suc m ≡ 2 ^ m + 2 ^ m = simp unary_clauses (omega arith) in
+    omega (arith, choose-most m k, choose-most m (suc k), double)
 
 -- what is counted of one prefix that is complete: at one size, so many times
-pub fill-is : (heads s left size end times : ℕ) → end ≡ max size heads → times ≡ cond (ltb heads size) 1 (choose left (heads - size)) → times * one_of_size s end ≡ fill heads s left size
+pub fill-is : (heads s left size end times : ℕ) → end ≡ max size heads → times ≡ cond (ltb heads size) 1 (choose left (heads - size))
+    → times * one_of_size s end ≡ fill heads s left size
 fill-is heads s left size end times end-is times-is = by_cases (cases_lt heads size)
   where
     by_cases : (heads < size) ⊎ (size ≤ heads) → times * one_of_size s end ≡ fill heads s left size
@@ -61,12 +66,14 @@ fill-most heads s left size = by_test (ltb heads size)
   where
     by_test : (b : Bool) → cond b (one_of_size s size) (one_of_size s heads * choose left (heads - size)) ≤ 2 ^ left
     by_test true = let some = pow_pos left in let most = times-one_of_size 1 s size in omega (arith, some, most)
-    by_test false = let most = times-one_of_size (choose left (heads - size)) s heads in omega (arith, most, choose-most left (heads - size))
+    by_test false = let most = times-one_of_size (choose left (heads - size)) s heads in
+        omega (arith, most, choose-most left (heads - size))
 
 -- the first i prefixes of a row with a member more of weight w: complete, or among others
 pub record Taking (w heads left : ℕ) (row : List Open) (before : List ℕ) (i : ℕ) (done : List ℕ) (others : List Open) : Type 0 where
   pub long : length done ≡ 41
-  pub counted : (g : ℕ → ℕ → ℕ) (s : ℕ) → s ≤ 40 → get_or done s 0 + weigh g others ≡ get_or before s 0 + weigh (taken w (fill heads s left) g) (take i row)
+  pub counted : (g : ℕ → ℕ → ℕ) (s : ℕ) → s ≤ 40 → get_or done s 0 + weigh g others ≡ get_or before s 0 + weigh
+      (taken w (fill heads s left) g) (take i row)
   pub room : (s : ℕ) → s ≤ 40 → get_or done s 0 + prefixes (drop i row) * 2 ^ left < 2 ^ 64
   pub sizes : (p : ℕ) → All (λ o. o.size ≤ p) row → All (λ o. o.size ≤ p + 1) others
 
@@ -82,17 +89,20 @@ room-less done ways f rest x all le is room =
     times-plus : (a b c : ℕ) → (a + b) * c ≡ a * c + b * c
     times-plus a b c = omega arith
 
-module _ (w heads left : ℕ) (row : List Open) (before : List ℕ) (i : ℕ) (done : List ℕ) (others : List Open) (d : Open) (lt : i < length row) (h : Taking w heads left row before i done others) where
+module _ (w heads left : ℕ) (row : List Open) (before : List ℕ) (i : ℕ) (done : List ℕ) (others : List Open) (d : Open)
+    (lt : i < length row) (h : Taking w heads left row before i done others) where
   -- a prefix that is complete with the member is counted
   pub taking-complete : (after : List ℕ) (end times : ℕ) → (get_or row i d).need ≤ w → end ≤ 40
-      → end ≡ max ((get_or row i d).size + 1) heads → times ≡ cond (ltb heads ((get_or row i d).size + 1)) 1 (choose left (heads - ((get_or row i d).size + 1)))
+      → end ≡ max ((get_or row i d).size + 1) heads → times ≡ cond (ltb heads ((get_or row i d).size + 1)) 1
+          (choose left (heads - ((get_or row i d).size + 1)))
       → after ≡ set done end (get_or done end 0 + (get_or row i d).ways * times) → Taking w heads left row before (i + 1) after others
   taking-complete after end times le small-end end-is times-is is =
       let o : Open = get_or row i d in
       let x : ℕ → ℕ = λ s. fill heads s left (o.size + 1) in
       let bump : (s : ℕ) → get_or after s 0 ≡ get_or done s 0 + o.ways * x s = λ s.
       (ap (λ (xs : List ℕ). get_or xs s 0) is ∙ bumped done end s (o.ways * times) (omega (arith, small-end, h.long))
-      ∙ ap (λ (k : ℕ). get_or done s 0 + k) (times-assoc o.ways times (one_of_size s end) ∙ ap (λ (k : ℕ). o.ways * k) (fill-is heads s left (o.size + 1) end times end-is times-is))) in
+      ∙ ap (λ (k : ℕ). get_or done s 0 + k) (times-assoc o.ways times (one_of_size s end)
+          ∙ ap (λ (k : ℕ). o.ways * k) (fill-is heads s left (o.size + 1) end times end-is times-is))) in
       record {
         long = ap (λ (xs : List ℕ). length xs) is ∙ length-set done end (get_or done end 0 + o.ways * times) ∙ h.long;
         counted = λ g s small. (
@@ -104,7 +114,8 @@ module _ (w heads left : ℕ) (row : List Open) (before : List ℕ) (i : ℕ) (d
         room = λ s small. (
             let all = sum_by-drop_more (λ (p : Open). p.ways) row i d lt in
             let now = bump s in
-            let less = room-less (get_or done s 0) o.ways (x s) (prefixes (drop (i + 1) row)) (2 ^ left) (prefixes (drop i row)) (fill-most heads s left (o.size + 1)) all (h.room s small) in
+            let less = room-less (get_or done s 0) o.ways (x s) (prefixes (drop (i + 1) row)) (2 ^ left) (prefixes (drop i row))
+                (fill-most heads s left (o.size + 1)) all (h.room s small) in
             omega (arith, now, less));
         sizes = h.sizes;
       }
@@ -113,11 +124,13 @@ module _ (w heads left : ℕ) (row : List Open) (before : List ℕ) (i : ℕ) (d
   pub taking-fits : (end times : ℕ) → end ≤ 40 → times ≤ 2 ^ left → get_or done end 0 + (get_or row i d).ways * times < 2 ^ 64
   taking-fits end times small most =
       let all = sum_by-drop_more (λ (p : Open). p.ways) row i d lt in
-      let less = room-less (get_or done end 0) (get_or row i d).ways times (prefixes (drop (i + 1) row)) (2 ^ left) (prefixes (drop i row)) most all (h.room end small) in
+      let less = room-less (get_or done end 0) (get_or row i d).ways times (prefixes (drop (i + 1) row)) (2 ^ left) (prefixes (drop i row))
+          most all (h.room end small) in
       omega (arith, less)
 
   -- one that is not is put down
-  pub taking-other : (after : List Open) (x : Open) → w < (get_or row i d).need → after ≡ others ++ x ∷ [] → x.need ≡ (get_or row i d).need - w → x.size ≡ (get_or row i d).size + 1
+  pub taking-other : (after : List Open) (x : Open) → w < (get_or row i d).need → after ≡ others ++ x ∷ []
+      → x.need ≡ (get_or row i d).need - w → x.size ≡ (get_or row i d).size + 1
       → x.ways ≡ (get_or row i d).ways → Taking w heads left row before (i + 1) done after
   taking-other after x more_needed is need size ways =
       let o : Open = get_or row i d in
@@ -125,20 +138,23 @@ module _ (w heads left : ℕ) (row : List Open) (before : List ℕ) (i : ℕ) (d
         long = h.long;
         counted = λ g s small. (
             let more = sum_by_more (λ (p : Open). p.ways * taken w (fill heads s left) g p.need p.size) row i d lt in
-            let no = ap (λ b. o.ways * cond b (fill heads s left (o.size + 1)) (g (o.need - w) (o.size + 1))) (lt-leb o.need w more_needed) in
+            let no = ap (λ b. o.ways * cond b (fill heads s left (o.size + 1)) (g (o.need - w) (o.size + 1))) (lt-leb o.need w more_needed)
+                in
             let pushed = ap (weigh g) is ∙ sum_by_push (λ (p : Open). p.ways * g p.need p.size) others x in
             let same : x.ways * g x.need x.size ≡ o.ways * g (o.need - w) (o.size + 1) = rw (need, size, ways) refl in
             let old = h.counted g s small in
             omega (arith, more, no, pushed, same, old));
         room = λ s small. (
             let all = sum_by-drop_more (λ (p : Open). p.ways) row i d lt in
-            let less = room-less (get_or done s 0) o.ways 0 (prefixes (drop (i + 1) row)) (2 ^ left) (prefixes (drop i row)) (omega arith) all (h.room s small) in
+            let less = room-less (get_or done s 0) o.ways 0 (prefixes (drop (i + 1) row)) (2 ^ left) (prefixes (drop i row)) (omega arith)
+                all (h.room s small) in
             omega (arith, less));
         sizes = λ p all. All-same (λ o. o.size ≤ p + 1) after (others ++ x ∷ []) is
             (All-push (λ o. o.size ≤ p + 1) others x (h.sizes p all) (let here = all i d lt in omega (arith, size, here)));
       }
 
-pub taking-none : (w heads left : ℕ) (row : List Open) (done : List ℕ) (others : List Open) → length done ≡ 41 → others ≡ [] → ((s : ℕ) → s ≤ 40 → get_or done s 0 + prefixes row * 2 ^ left < 2 ^ 64)
+pub taking-none : (w heads left : ℕ) (row : List Open) (done : List ℕ) (others : List Open) → length done ≡ 41 → others ≡ []
+    → ((s : ℕ) → s ≤ 40 → get_or done s 0 + prefixes row * 2 ^ left < 2 ^ 64)
     → Taking w heads left row done 0 done others
 taking-none w heads left row done others long none room = record {
   long = long;

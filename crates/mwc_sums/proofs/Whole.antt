@@ -1,9 +1,11 @@
 -- The tallies of a game of one rule, or of a second one that asks for heads.
-use Rattle.std.proofs.Common.{◌≡◌, ◌∙◌, ◌↔◌, ◌⊎◌, ℕ, ◌+◌, ◌-◌, ◌*◌, ◌/◌, ◌^◌, ◌<◌, ◌≤◌, true, List, [], ◌∷◌, length, take, get_or, filter, refl, sym, ap, subst, arith, inl, inr}
+use Rattle.std.proofs.Common.{◌≡◌, ◌∙◌, ◌↔◌, ◌⊎◌, ℕ, ◌+◌, ◌-◌, ◌*◌, ◌/◌, ◌^◌, ◌<◌, ◌≤◌, true, List, [], ◌∷◌, length, take, get_or, filter}
+use Rattle.std.proofs.Common.{refl, sym, ap, subst, arith, inl, inr}
 use Rattle.std.specs.List.{AllByRecursion}
 use Rattle.std.proofs.lemmas.Bool.{cases_lt}
 use Rattle.std.proofs.Math.Nat.{mul-le-mul_right, div-mul-le_self, mod-lt, div-add-mod}
-use Rattle.council_game.specs.Votes.{RuleView, Votes, IsRule, IsRanked, IsVotes, has, size, weight, rule_at, down, minimal, minimal_coalitions}
+use Rattle.council_game.specs.Votes.{RuleView, Votes, IsRule, IsRanked, IsVotes, has, size, weight, rule_at, down, minimal}
+use Rattle.council_game.specs.Votes.{minimal_coalitions}
 use Rattle.council_game.specs.Game.{GameView, votes_of}
 use Rattle.council_game.proofs.GameTests.{rule-is}
 use Rattle.power_index.specs.declared.tally.Tally.{Tally}
@@ -35,7 +37,8 @@ enough-heads q e h k pos is = (
     plus a b = omega arith
 
     whole : h * e ≤ q + (e - 1)
-    whole = let d : (q + (e - 1)) / e * e ≤ q + (e - 1) = div-mul-le_self (q + (e - 1)) e in let f = ap (λ (x : ℕ). x * e) is in omega (arith, d, f)
+    whole = let d : (q + (e - 1)) / e * e ≤ q + (e - 1) = div-mul-le_self (q + (e - 1)) e in let f = ap (λ (x : ℕ). x * e) is in
+        omega (arith, d, f)
 
     above : q ≤ h * e
     above =
@@ -45,15 +48,19 @@ enough-heads q e h k pos is = (
         omega (arith, m, d, f, pos)
 
 -- ---- the law, whatever the rules are called
-pub heads-law : (v : Votes) (heads c : ℕ) → IsVotes v → length v.rules ≡ 2 → AsksForHeads v.members heads (rule_at v.rules 1) → c < 2 ^ v.members → (minimal v c ≡ true) ↔ IsMinimalByHeads v heads c
+pub heads-law : (v : Votes) (heads c : ℕ) → IsVotes v → length v.rules ≡ 2 → AsksForHeads v.members heads (rule_at v.rules 1)
+    → c < 2 ^ v.members → (minimal v c ≡ true) ↔ IsMinimalByHeads v heads c
 heads-law v heads c votes two asks below = by_rules v.rules refl two asks
   where
-    by_rules : (rs : List RuleView) → v.rules ≡ rs → length rs ≡ 2 → AsksForHeads v.members heads (rule_at rs 1) → (minimal v c ≡ true) ↔ IsMinimalByHeads v heads c
+    by_rules : (rs : List RuleView) → v.rules ≡ rs → length rs ≡ 2 → AsksForHeads v.members heads (rule_at rs 1)
+        → (minimal v c ≡ true) ↔ IsMinimalByHeads v heads c
     by_rules [] is two asks = absurd (omega (arith, two))
     by_rules (r ∷ []) is two asks = absurd (omega (arith, two))
     by_rules (r ∷ s ∷ t ∷ rs) is two asks = absurd (omega (arith, two))
     by_rules (r ∷ s ∷ []) is two asks =
-        subst (λ (l : List RuleView). (minimal v c ≡ true) ↔ (((size v.members c ≡ heads) × ((rule_at l 0).quota ≤ weight (rule_at l 0).weights c)) ⊎ ((heads < size v.members c) × (minimal (first_rule v) c ≡ true)))) (sym is)
+        subst (λ (l : List RuleView). (minimal v c ≡ true) ↔ (((size v.members c ≡ heads) ×
+            ((rule_at l 0).quota ≤ weight (rule_at l 0).weights c)) ⊎ ((heads < size v.members c) × (minimal (first_rule v) c ≡ true))))
+            (sym is)
         (heads-from v r s heads c is votes asks below, heads-back v r s heads c is votes asks below)
 
 -- the first rule alone is a game
@@ -71,7 +78,8 @@ first-votes v votes two = by_rules v.rules refl two
           few = votes.few;
           has_rule = (let n = ap (λ (l : List RuleView). length l) alone in omega (arith, n));
           few_rules = (let n = ap (λ (l : List RuleView). length l) alone in omega (arith, n));
-          rules = subst (λ (l : List RuleView). AllByRecursion (IsRule v.members) l) (sym alone) ((subst (λ (l : List RuleView). AllByRecursion (IsRule v.members) l) is votes.rules).0, tt);
+          rules = subst (λ (l : List RuleView). AllByRecursion (IsRule v.members) l) (sym alone)
+              ((subst (λ (l : List RuleView). AllByRecursion (IsRule v.members) l) is votes.rules).0, tt);
           ranked = subst IsRanked (sym alone) (subst IsRanked is votes.ranked);
         }
 
@@ -87,7 +95,8 @@ members-are g ws q heads h =
     let some = h.votes.has_rule in
     ap (λ (l : List ℕ). length l) h.weights ∙ (rule-is (votes_of g) 0 h.votes (omega (arith, some))).full
 
-ended : (g : GameView) (ws : List ℕ) (q heads : ℕ) → AreAsked g ws q heads → AreEnded (length ws) (minimal_coalitions (votes_of g)) ws heads q
+ended : (g : GameView) (ws : List ℕ) (q heads : ℕ) → AreAsked g ws q heads
+    → AreEnded (length ws) (minimal_coalitions (votes_of g)) ws heads q
 unfolding minimal_coalitions
 ended g ws q heads h = by_case h.asked
   where
@@ -97,14 +106,20 @@ ended g ws q heads h = by_case h.asked
     by_case : IsAsked (votes_of g) heads → AreEnded (length ws) (minimal_coalitions (votes_of g)) ws heads q
     by_case (inl one) =
         subst (λ (k : ℕ). AreEnded (length ws) (minimal_coalitions (votes_of g)) ws k q) (sym one.1)
-        (subst (λ (l : List ℕ). AreEnded (length ws) l ws 0 q) ((λ i. completing (h.weights i) (h.quota i)) ∙ sym (minimal-completing (votes_of g) h.votes one.0)) (ended-one ws q))
+        (subst (λ (l : List ℕ). AreEnded (length ws) l ws 0 q)
+            ((λ i. completing (h.weights i) (h.quota i)) ∙ sym (minimal-completing (votes_of g) h.votes one.0)) (ended-one ws q))
     by_case (inr two) =
         let long : length ws ≡ length g.names = members-are g ws q heads h in
-        let pos : 0 < q = (let p = (rule-is (votes_of g) 0 h.votes (let some = h.votes.has_rule in omega (arith, some))).some in let e = h.quota in omega (arith, p, e)) in
-        let Facts : ℕ → Type 0 = λ n. (c : ℕ) → c < 2 ^ n → (minimal (votes_of g) c ≡ true) ↔ (((size n c ≡ heads) × (q ≤ weight ws c)) ⊎ ((heads < size n c) × (minimal (first_rule (votes_of g)) c ≡ true))) in
+        let pos : 0 < q = (let p = (rule-is (votes_of g) 0 h.votes (let some = h.votes.has_rule in omega (arith, some))).some in let e =
+            h.quota in omega (arith, p, e)) in
+        let Facts : ℕ → Type 0 = λ n. (c : ℕ) → c < 2 ^ n → (minimal (votes_of g) c ≡ true) ↔
+            (((size n c ≡ heads) × (q ≤ weight ws c)) ⊎ ((heads < size n c) × (minimal (first_rule (votes_of g)) c ≡ true))) in
         let facts : Facts (length g.names) = λ c lt.
-        subst (λ (x : ℕ). (minimal (votes_of g) c ≡ true) ↔ (((size (length g.names) c ≡ heads) × (x ≤ weight ws c)) ⊎ ((heads < size (length g.names) c) × (minimal (first_rule (votes_of g)) c ≡ true)))) (sym h.quota)
-        (subst (λ (us : List ℕ). (minimal (votes_of g) c ≡ true) ↔ (((size (length g.names) c ≡ heads) × ((rule_at (votes_of g).rules 0).quota ≤ weight us c)) ⊎ ((heads < size (length g.names) c) × (minimal (first_rule (votes_of g)) c ≡ true)))) (sym h.weights)
+        subst (λ (x : ℕ). (minimal (votes_of g) c ≡ true) ↔ (((size (length g.names) c ≡ heads) × (x ≤ weight ws c)) ⊎
+            ((heads < size (length g.names) c) × (minimal (first_rule (votes_of g)) c ≡ true)))) (sym h.quota)
+        (subst (λ (us : List ℕ). (minimal (votes_of g) c ≡ true) ↔
+            (((size (length g.names) c ≡ heads) × ((rule_at (votes_of g).rules 0).quota ≤ weight us c)) ⊎
+            ((heads < size (length g.names) c) × (minimal (first_rule (votes_of g)) c ≡ true)))) (sym h.weights)
         (heads-law (votes_of g) heads c h.votes two.0 two.1 lt)) in
         let first : minimal_coalitions (first_rule (votes_of g)) ≡ completing ws q = first-list two.0 in
         subst (λ (n : ℕ). AreEnded (length ws) (filter (minimal (votes_of g)) (down (2 ^ n))) ws heads q) long
@@ -112,8 +127,10 @@ ended g ws q heads h = by_case h.asked
         (ap (λ (n : ℕ). filter (minimal (first_rule (votes_of g))) (down (2 ^ n))) long ∙ first))
       where
         first-list : length (votes_of g).rules ≡ 2 → minimal_coalitions (first_rule (votes_of g)) ≡ completing ws q
-        first-list two = minimal-completing (first_rule (votes_of g)) (first-votes (votes_of g) h.votes two) (one-left (votes_of g).rules two)
-            ∙ (λ i. completing (rule-first (votes_of g).rules two i).weights (rule-first (votes_of g).rules two i).quota) ∙ (λ i. completing (sym h.weights i) (sym h.quota i))
+        first-list two = minimal-completing (first_rule (votes_of g)) (first-votes (votes_of g) h.votes two)
+            (one-left (votes_of g).rules two)
+            ∙ (λ i. completing (rule-first (votes_of g).rules two i).weights (rule-first (votes_of g).rules two i).quota)
+                ∙ (λ i. completing (sym h.weights i) (sym h.quota i))
           where
             one-left : (rs : List RuleView) → length rs ≡ 2 → length (take 1 rs) ≡ 1
             one-left [] e = absurd (omega (arith, e))
@@ -123,17 +140,20 @@ ended g ws q heads h = by_case h.asked
             rule-first [] e = absurd (omega (arith, e))
             rule-first (r ∷ rs) e = refl
 
-pub game-less : (g : GameView) (ws : List ℕ) (q heads : ℕ) → AreAsked g ws q heads → (p s : ℕ) → p < length ws → s ≤ 40 → endings (left_out p ws) heads s q 0 ≤ endings ws heads s q 0
+pub game-less : (g : GameView) (ws : List ℕ) (q heads : ℕ) → AreAsked g ws q heads → (p s : ℕ) → p < length ws → s ≤ 40
+    → endings (left_out p ws) heads s q 0 ≤ endings ws heads s q 0
 game-less g ws q heads h p s lt small = let e = (ended g ws q heads h).each p s lt in omega (arith, e)
 
-pub game-all : (g : GameView) (ws : List ℕ) (q heads : ℕ) (t : Tally) → AreAsked g ws q heads → AreEndings ws heads q t → IsTallyOf (length g.names) (λ c. true) (minimal_coalitions (votes_of g)) t
+pub game-all : (g : GameView) (ws : List ℕ) (q heads : ℕ) (t : Tally) → AreAsked g ws q heads → AreEndings ws heads q t
+    → IsTallyOf (length g.names) (λ c. true) (minimal_coalitions (votes_of g)) t
 game-all g ws q heads t h is =
     subst (λ (n : ℕ). IsTallyOf n (λ c. true) (minimal_coalitions (votes_of g)) t) (members-are g ws q heads h)
     (record { long = is.long; sizes = λ s small. is.sizes s small ∙ sym ((ended g ws q heads h).all s) })
 
 pub game-each : (g : GameView) (ws : List ℕ) (q heads : ℕ) (each : List Tally) → AreAsked g ws q heads
     → ((p : ℕ) → p < length ws → AreEndingsWith ws heads q p (get_or each p no_tally))
-    → (p : ℕ) → p < length g.names → IsTallyOf (length g.names) (has (length g.names) p) (minimal_coalitions (votes_of g)) (get_or each p no_tally)
+    → (p : ℕ) → p < length g.names → IsTallyOf (length g.names) (has (length g.names) p) (minimal_coalitions (votes_of g))
+        (get_or each p no_tally)
 game-each g ws q heads each h are p lt =
     let long = members-are g ws q heads h in
     let own = are p (omega (arith, long, lt)) in

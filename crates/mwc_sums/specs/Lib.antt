@@ -4,3 +4,4 @@ pub use Rattle.power_index.specs.Tables
 pub mod Completing
 pub mod Heads
 pub mod Inner
+pub mod Orders

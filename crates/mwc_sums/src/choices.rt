@@ -1,5 +1,5 @@
-//! In how many ways some of the members can be chosen.
-ghost use Rattle.std.specs.Prelude.{◌≡◌, ℕ, ◌+◌, ◌≤◌, ◌<◌, IfOk, length, slice_index};
+//! How many members are asked for, and in how many ways some of the members can be chosen.
+ghost use Rattle.std.specs.Prelude.{◌≡◌, ℕ, ◌+◌, ◌-◌, ◌≤◌, ◌<◌, if◌then◌else◌, nat_lt, IfOk, length, slice_index};
 ghost use Rattle.mwc_sums.specs.Inner.Choices.{choose};
 ghost use Rattle.mwc_sums.specs.Inner.Rows.{AreChoices};
 
@@ -20,7 +20,7 @@ fn next_row(row: &[u64; limits::SIZES], of: usize) -> [u64; limits::SIZES]
 }
 
 /// Row m has in how many ways so many of m members can be chosen.
-pub(crate) fn choices(alloc: Global) -> Result<Vec<[u64; limits::SIZES]>, Memory>
+fn choices(alloc: Global) -> Result<Vec<[u64; limits::SIZES]>, Memory>
     ensures { IfOk result (λ v. AreChoices v.items) }
 {
     let mut rows = Vec::with_capacity(alloc, limits::SIZES)?;
@@ -32,4 +32,40 @@ pub(crate) fn choices(alloc: Global) -> Result<Vec<[u64; limits::SIZES]>, Memory
         rows.push(row)?;
     }
     Ok(rows)
+}
+
+/// How many members are asked for besides a quota, and in how many ways others fill a coalition up to them.
+#[derive(Drop)]
+pub(crate) struct Heads {
+    /// How many members are asked for, 0 to 40.
+    pub asked: usize,
+    /// Row m has in how many ways so many of m members can be chosen.
+    choices: Vec<[u64; limits::SIZES]>,
+    ghost few: { asked ≤ 40 },
+    ghost are: { AreChoices choices.items },
+}
+
+impl Heads {
+    /// So many members are asked for.
+    pub(crate) fn new(alloc: Global, asked: usize) -> Result<Heads, Memory>
+        requires { asked ≤ 40 }
+        ensures { IfOk result (λ heads. heads.asked ≡ asked) }
+    {
+        let choices = choices(alloc)?;
+        Ok(Heads { asked, choices })
+    }
+
+    /// In how many ways a coalition of this size is filled up to so many members by others, of so many that
+    /// are left; 1 where it has more.
+    pub(crate) fn filled(&self, size: usize, left: usize) -> u64
+        requires { left ≤ 40 }
+        ensures { result ≡ (if nat_lt self.now.asked size then 1
+            else choose left (self.now.asked - size)) }
+    {
+        if self.asked < size {
+            return 1;
+        }
+        let row = &self.choices[left];
+        row[self.asked - size]
+    }
 }

@@ -1,7 +1,10 @@
 //! Laws of the definitions, with nothing to run.
 ghost use Rattle.council_game.specs.Votes.{IsVotes, Votes, minimal, minimal_coalitions, rule_at};
 ghost use Rattle.mwc_sums.specs.Completing.{completing};
+ghost use Rattle.council_game.specs.Game.{GameView, IsGame, votes_of};
 ghost use Rattle.mwc_sums.specs.Heads.{AsksForHeads, IsMinimalByHeads};
+ghost use Rattle.mwc_sums.specs.Orders.{HaveTheSameRules};
+ghost use Rattle.power_index.specs.Tables.{AreCounts, Tables};
 ghost use Rattle.std.specs.Prelude.{◌≡◌, ℕ, ◌<◌, ◌^◌, ◌↔◌, true, length};
 
 /// In a game of one rule, the minimal winning coalitions are those that complete the quota.
@@ -18,4 +21,12 @@ pub fn minimal_coalitions_by_heads()
     ensures { (v : Votes) (heads c : ℕ) → IsVotes v → length v.rules ≡ 2
         → AsksForHeads v.members heads (rule_at v.rules 1) → c < 2 ^ v.members
         → (minimal v c ≡ true) ↔ IsMinimalByHeads v heads c }
+{}
+
+/// The counts of a game's minimal winning coalitions, by member and by size, do not depend on the order of its
+/// rules, nor on the order of places that comes with it: those of a game with the same rules are its own.
+#[tactic(auto, using(crate::proofs::Orders::same_counts))]
+pub fn counts_do_not_depend_on_the_order_of_rules()
+    ensures { (g h : GameView) (t : Tables) → IsGame g → IsGame h → HaveTheSameRules g h
+        → AreCounts h (minimal_coalitions (votes_of h)) t → AreCounts g (minimal_coalitions (votes_of g)) t }
 {}

@@ -14,5 +14,6 @@ pub mod laws;
 mod row;
 mod rows;
 mod tallies;
+mod turned;
 
 pub use count::count_by_sums;

@@ -1,9 +1,9 @@
 //! Prefixes of members that are not complete, in rows.
-ghost use Rattle.std.specs.Prelude.{◌≡◌, ℕ, ◌+◌, ◌*◌, ◌<◌, ◌≤◌, ◌^◌, ◌-◌, if◌then◌else◌, nat_lt, IfOk, length, slice_index, take};
+ghost use Rattle.std.specs.Prelude.{◌≡◌, ℕ, ◌+◌, ◌*◌, ◌<◌, ◌≤◌, ◌^◌, IfOk, length, slice_index, take};
 ghost use Rattle.std.specs.List.{All};
-ghost use Rattle.mwc_sums.specs.Inner.Choices.{choose};
-ghost use Rattle.mwc_sums.specs.Inner.Rows.{AreChoices, fill, prefixes, taken, weigh};
+ghost use Rattle.mwc_sums.specs.Inner.Rows.{fill, prefixes, taken, weigh};
 
+use crate::choices::Heads;
 use council_game::{Memory, limits};
 
 /// Prefixes that miss as much to the quota and have as many members: how many of them there are.
@@ -28,20 +28,6 @@ pub(crate) fn still_open(row: &[Open], rest: u64) -> usize
     end
 }
 
-/// In how many ways a coalition of this size is filled up to so many heads; 1 where it has more.
-fn filled(size: usize, left: usize, heads: usize, choices: &[[u64; limits::SIZES]]) -> u64
-    requires left { left ≤ 40 }
-    requires heads { heads ≤ 40 }
-    requires choices { AreChoices choices.now }
-    ensures { result ≡ (if nat_lt heads size then 1 else choose left (heads - size)) }
-{
-    if heads < size {
-        return 1;
-    }
-    let row = &choices[left];
-    row[heads - size]
-}
-
 /// Takes a member of this weight into each prefix of a row. What meets the quota by it is counted by size: alone
 /// where it has more members than are asked for, and else with any of the others that fill it up. What does not
 /// is put down.
@@ -49,19 +35,16 @@ pub(crate) fn with_member(
     row: &[Open],
     weight: u64,
     left: usize,
-    heads: usize,
-    choices: &[[u64; limits::SIZES]],
+    heads: &Heads,
     done: &mut [u64; limits::SIZES],
     others: &mut Vec<Open>,
 ) -> Result<(), Memory>
     requires left { left ≤ 40 }
-    requires heads { heads ≤ 40 }
-    requires choices { AreChoices choices.now }
     requires sizes { All (λ o. o.size ≤ 39) row.now }
     requires room { (s : ℕ) → s ≤ 40 → slice_index done.old s + prefixes row.now * 2 ^ left < 2 ^ 64 }
     ensures counted { IfOk result (λ _. (g : ℕ → ℕ → ℕ) (s : ℕ) → s ≤ 40
         → slice_index done.new s + weigh g others.new.items
-        ≡ slice_index done.old s + weigh (taken weight (fill heads s left) g) row.now) }
+        ≡ slice_index done.old s + weigh (taken weight (fill heads.now.asked s left) g) row.now) }
     ensures sizes { IfOk result (λ _. (p : ℕ) → All (λ o. o.size ≤ p) row.now
         → All (λ o. o.size ≤ p + 1) others.new.items) }
 {
@@ -70,8 +53,8 @@ pub(crate) fn with_member(
     for prefix in row {
         let size = prefix.size + 1;
         if prefix.need <= weight {
-            let times = filled(size, left, heads, choices);
-            done[size.max(heads)] += prefix.ways * times;
+            let times = heads.filled(size, left);
+            done[size.max(heads.asked)] += prefix.ways * times;
         } else {
             others.push(Open {
                 need: prefix.need - weight,

@@ -1,8 +1,9 @@
 //! Rows of prefixes, one member after another.
 ghost use Rattle.std.specs.Prelude.{◌≡◌, ℕ, ◌+◌, ◌-◌, ◌*◌, ◌<◌, ◌≤◌, ◌^◌, IfOk, List, [], ◌∷◌, true, length, sum, slice_index, drop};
 ghost use Rattle.std.specs.List.{All};
-ghost use Rattle.mwc_sums.specs.Inner.Rows.{AreChoices, AreOfPrefixes, endings, prefixes, weigh};
+ghost use Rattle.mwc_sums.specs.Inner.Rows.{AreOfPrefixes, endings, prefixes, weigh};
 
+use crate::choices::Heads;
 use crate::row::{Open, merge, still_open, with_member};
 use council_game::{Memory, limits};
 use std::alloc::Global;
@@ -54,36 +55,25 @@ impl Rows {
         weight: u64,
         rest: u64,
         left: usize,
-        heads: usize,
-        choices: &[[u64; limits::SIZES]],
+        heads: &Heads,
         done: &mut [u64; limits::SIZES],
     ) -> Result<(), Memory>
         requires left { left ≤ 39 }
-        requires heads { heads ≤ 40 }
-        requires choices { AreChoices choices.now }
         requires sizes { All (λ o. o.size ≤ 39) self.old.row.items }
         requires room { (s : ℕ) → s ≤ 40
             → slice_index done.old s + prefixes self.old.row.items * 2 ^ (left + 1) < 2 ^ 64 }
         ensures counted { IfOk result (λ _. (ws : List ℕ) (s : ℕ) → sum ws ≤ rest
             → length ws ≡ left → s ≤ 40
-            → slice_index done.new s + weigh (endings ws heads s) self.new.row.items
+            → slice_index done.new s + weigh (endings ws heads.now.asked s) self.new.row.items
             ≡ slice_index done.old s
-            + weigh (endings (weight ∷ ws) heads s) self.old.row.items) }
+            + weigh (endings (weight ∷ ws) heads.now.asked s) self.old.row.items) }
         ensures few { IfOk result (λ _. (s : ℕ) → s ≤ 40
             → slice_index done.new s + prefixes self.new.row.items * 2 ^ left
             ≤ slice_index done.old s + prefixes self.old.row.items * 2 ^ (left + 1)) }
         ensures sizes { IfOk result (λ _. (p : ℕ) → All (λ o. o.size ≤ p) self.old.row.items
             → All (λ o. o.size ≤ p + 1) self.new.row.items) }
     {
-        with_member(
-            &self.row,
-            weight,
-            left,
-            heads,
-            choices,
-            done,
-            &mut self.taken,
-        )?;
+        with_member(&self.row, weight, left, heads, done, &mut self.taken)?;
         let end = still_open(&self.row, rest);
         merge(&self.row[..end], &self.taken, &mut self.next)?;
         mem::swap(&mut self.row, &mut self.next);
@@ -96,12 +86,9 @@ impl Rows {
         weights: &[u64],
         place: usize,
         rest: u64,
-        heads: usize,
-        choices: &[[u64; limits::SIZES]],
+        heads: &Heads,
         done: &mut [u64; limits::SIZES],
     ) -> Result<bool, Memory>
-        requires heads { heads ≤ 40 }
-        requires choices { AreChoices choices.now }
         requires few { length weights.now ≤ 40 }
         requires place { place ≤ length weights.now }
         requires rest { rest ≡ sum (drop place weights.now) }
@@ -109,14 +96,14 @@ impl Rows {
             self.old.row.items }
         ensures { IfOk result (λ full. full ≡ true → (s : ℕ) → s ≤ 40 → slice_index done.new s ≡
             slice_index done.old s
-            + weigh (endings (drop place weights.now) heads s) self.old.row.items) }
+            + weigh (endings (drop place weights.now) heads.now.asked s) self.old.row.items) }
     {
         let mut rest = rest;
         let mut room = ROOM;
         for p in place..weights.len() {
             rest -= weights[p];
             let left = weights.len() - p - 1;
-            self.go_on(weights[p], rest, left, heads, choices, done)?;
+            self.go_on(weights[p], rest, left, heads, done)?;
             if room < self.row.len() {
                 return Ok(false);
             }

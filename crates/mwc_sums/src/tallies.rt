@@ -1,9 +1,9 @@
 //! Tallies of the coalitions that complete a quota.
-ghost use Rattle.mwc_sums.specs.Inner.Rows.{AreChoices, AreEndings, AreEndingsWith};
-ghost use Rattle.mwc_sums.specs.Inner.Rows.{endings, left_out};
+ghost use Rattle.mwc_sums.specs.Inner.Rows.{AreEndings, AreEndingsWith, endings, left_out};
 ghost use Rattle.power_index.specs.Tables.{no_tally};
 ghost use Rattle.std.specs.Prelude.{◌≡◌, ℕ, ◌+◌, ◌<◌, ◌≤◌, IfOk, IfSome, length, sum, slice_index, slice_index_or};
 
+use crate::choices::Heads;
 use crate::rows::Rows;
 use council_game::{Memory, limits};
 use power_index::Tally;
@@ -15,18 +15,15 @@ pub(crate) fn tally_all(
     weights: &[u64],
     quota: u64,
     total: u64,
-    heads: usize,
-    choices: &[[u64; limits::SIZES]],
+    heads: &Heads,
 ) -> Result<Option<Tally>, Memory>
-    requires heads { heads ≤ 40 }
-    requires choices { AreChoices choices.now }
     requires few { length weights.now ≤ 40 }
     requires total { total ≡ sum weights.now }
-    ensures { IfOk result (λ tally. IfSome tally (AreEndings weights.now heads quota)) }
+    ensures { IfOk result (λ tally. IfSome tally (AreEndings weights.now heads.now.asked quota)) }
 {
     let mut sizes = [0; limits::SIZES];
     let mut rows = Rows::new(alloc, quota)?;
-    if !rows.finish(weights, 0, total, heads, choices, &mut sizes)? {
+    if !rows.finish(weights, 0, total, heads, &mut sizes)? {
         return Ok(None);
     }
     Ok(Some(Tally { sizes }))
@@ -54,19 +51,16 @@ pub(crate) fn tally_each(
     weights: &[u64],
     quota: u64,
     total: u64,
-    heads: usize,
-    choices: &[[u64; limits::SIZES]],
+    heads: &Heads,
     all: &Tally,
 ) -> Result<Option<[Tally; limits::MEMBERS]>, Memory>
     requires few { length weights.now ≤ 40 }
     requires total { total ≡ sum weights.now }
-    requires heads { heads ≤ 40 }
-    requires choices { AreChoices choices.now }
-    requires all { AreEndings weights.now heads quota all.now }
+    requires all { AreEndings weights.now heads.now.asked quota all.now }
     requires less { (p s : ℕ) → p < length weights.now → s ≤ 40 →
-        endings (left_out p weights.now) heads s quota 0 ≤ endings weights.now heads s quota 0 }
+        endings (left_out p weights.now) heads.now.asked s quota 0 ≤ endings weights.now heads.now.asked s quota 0 }
     ensures { IfOk result (λ tallies. IfSome tallies (λ each. (p : ℕ) → p < length weights.now →
-        AreEndingsWith weights.now heads quota p (slice_index_or each p no_tally))) }
+        AreEndingsWith weights.now heads.now.asked quota p (slice_index_or each p no_tally))) }
 {
     let mut each = [*all; limits::MEMBERS];
     let mut rows = Rows::new(alloc, quota)?;
@@ -77,12 +71,12 @@ pub(crate) fn tally_each(
         rest -= weights[place];
         others.copy(&rows.row)?;
         let mut without = done;
-        if !others.finish(weights, place + 1, rest, heads, choices, &mut without)? {
+        if !others.finish(weights, place + 1, rest, heads, &mut without)? {
             return Ok(None);
         }
         each[place] = difference(all, &without);
         let left = (weights.len() - place).saturating_sub(2);
-        rows.go_on(weights[place], rest, left, heads, choices, &mut done)?;
+        rows.go_on(weights[place], rest, left, heads, &mut done)?;
     }
     Ok(Some(each))
 }

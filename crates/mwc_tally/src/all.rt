@@ -8,7 +8,7 @@ ghost use Rattle.mwc_tally.specs.Inner.Threads.{IsGiven};
 
 use crate::fault::TallyFault;
 use crate::share::Share;
-use crate::slice::tally_slice;
+use crate::slice::tally_watched;
 use crate::watch::Watch;
 use crate::work::{Given, Work};
 use council_game::{Game, Memory};
@@ -60,7 +60,7 @@ pub fn tally<R: Threads + Wait + Sync, W: Watch + Sync>(
     )?;
     match share.whole(game, bits) {
         Some(counts) => Ok(counts),
-        None => Ok(one_by_one(game, bits)),
+        None => Ok(one_by_one(game, bits, watch)),
     }
 }
 
@@ -150,8 +150,8 @@ fn joined<R: Threads, W: Watch>(
     (all, lost)
 }
 
-/// The counts of all slices, one after the other.
-fn one_by_one(game: &Game, bits: u8) -> WideCounts
+/// The counts of all slices, one after the other. The watch is told of each again.
+fn one_by_one<W: Watch>(game: &Game, bits: u8, watch: &W) -> WideCounts
     requires few { bits ≤ 10 }
     requires bits { bits ≤ length game.now.names }
     ensures { AreCounts game.now (minimal_coalitions (votes_of game.now)) result }
@@ -159,7 +159,7 @@ fn one_by_one(game: &Game, bits: u8) -> WideCounts
     let _members = game.members();
     let mut counts = WideCounts::none(game);
     for slice in 0..slice_count(bits) {
-        counts.add(&tally_slice(game, bits, slice));
+        counts.add(&tally_watched(game, bits, slice, watch));
     }
     counts
 }

@@ -94,6 +94,7 @@ pub fn tally_pieces<R: Threads + Wait + Sync>(
             requires coalitions { AreNonemptyCoalitions game.now
                 (flat_map (λ p. p.now) pieces.now) }
             requires part { part ≤ 2 ^ 41 }
+            requires enough { length (flat_map (λ p. p.now) pieces.now) ≤ threads * part }
             requires threads { (1 ≤ threads) × (threads ≤ 16) }
             ensures ok { IfOk result
                 (AreTallies game.entry.now (flat_map (λ p. p.now) pieces.entry.now)) }
@@ -131,7 +132,7 @@ fn start<'s, E>(
 }
 
 /// The counts of a list past its first `skip` coalitions, by so many other threads, each of which
-/// counts a part, and the calling one, which counts what is left.
+/// counts a part, and the calling one, which counts what is left: a part at most.
 fn count_from<'s, E, R: Threads>(
     scope: &Scope<'s, E>,
     rt: &R,
@@ -144,11 +145,12 @@ fn count_from<'s, E, R: Threads>(
     requires few { length (flat_map (λ p. p.now) pieces.now) ≤ 2 ^ 40 }
     requires coalitions { AreNonemptyCoalitions game.now (flat_map (λ p. p.now) pieces.now) }
     requires room { skip + others * part ≤ 2 ^ 46 }
+    requires enough { length (flat_map (λ p. p.now) pieces.now) ≤ skip + (others + 1) * part }
     ensures ok { IfOk result (AreTallies game.now (drop skip (flat_map (λ p. p.now) pieces.now))) }
     ensures err { IfErr result (λ fault. fault ≡ TallyFault.Start) }
 {
     if others == 0 {
-        return Ok(of_part(game, pieces, skip, length_of(pieces)));
+        return Ok(of_part(game, pieces, skip, part));
     }
     let Some(thread) = start(scope, game, pieces, skip, part) else {
         return Err(TallyFault::Start);

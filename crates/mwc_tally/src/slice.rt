@@ -4,8 +4,9 @@ ghost use Rattle.council_game.specs.Game.{votes_of};
 ghost use Rattle.mwc_walk.specs.Slices.{slice};
 ghost use Rattle.power_index.specs.Tables.{AreTallies};
 
+use crate::watch::{EACH, NoWatch, Watch};
 use council_game::Game;
-use mwc_walk::Walk;
+use mwc_walk::{Walk, slice_count};
 use power_index::WideCounts;
 
 /// The counts of slice `j` of a game at so many bits, by a walk over it. It takes no memory.
@@ -17,11 +18,38 @@ pub fn tally_slice(game: &Game, bits: u8, j: u16) -> WideCounts
     requires slice { j < 2 ^ bits }
     ensures { AreTallies game.now (slice (votes_of game.now) bits j) result }
 {
+    tally_watched(game, bits, j, &NoWatch)
+}
+
+/// Tells a watch of so many coalitions more where they are enough. How many it is still to be told of.
+fn told<W: Watch>(watch: &W, more: u64, slices: u16) -> u64
+    requires { more ≤ 1048576 }
+    ensures { result < 1048576 }
+{
+    if more < EACH {
+        return more;
+    }
+    watch.met(more, slices);
+    0
+}
+
+/// The same as `tally_slice`, and a watch is told of it.
+pub(crate) fn tally_watched<W: Watch>(game: &Game, bits: u8, j: u16, watch: &W) -> WideCounts
+    requires few { bits ≤ 10 }
+    requires bits { bits ≤ length game.now.names }
+    requires slice { j < 2 ^ bits }
+    ensures { AreTallies game.now (slice (votes_of game.now) bits j) result }
+{
     let _members = game.members();
+    let slices = slice_count(bits);
     let mut walk = Walk::new(game, bits, j);
     let mut counts = WideCounts::none(game);
+    let mut more = 0;
     while let Some(coalition) = walk.next() {
         counts.count(coalition);
+        more = told(watch, more + 1, slices);
     }
+    watch.met(more, slices);
+    watch.counted(j, slices);
     counts
 }

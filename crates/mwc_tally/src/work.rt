@@ -3,7 +3,7 @@ ghost use Rattle.std.specs.Prelude.{◌≡◌, ◌≤◌, length, IfOk};
 ghost use Rattle.mwc_tally.specs.Inner.Shares.{IsShare};
 
 use crate::share::Share;
-use crate::slice::tally_slice;
+use crate::slice::tally_watched;
 use crate::watch::Watch;
 use council_game::{Game, Memory};
 use mwc_walk::slice_count;
@@ -99,9 +99,8 @@ impl<'a, W: Watch> Work<'a, W> {
                 self.game,
                 bits,
                 &[slice],
-                &tally_slice(self.game, bits, slice),
+                &tally_watched(self.game, bits, slice, self.watch),
             )?;
-            self.watch.counted(slice, slices);
         }
         Ok(share)
     }

@@ -152,18 +152,32 @@ fn each_slice_is_counted_once(rt: HostRuntime) -> Result<(), Fail> {
     Ok(())
 }
 
-/// Holds the thread that counted a slice first until all others are counted, for so many turns at most.
+/// Holds the threads that counted the first slices until so many are counted, for so many turns at most.
 #[derive(Drop)]
 struct Holding {
+    held: u64,
+    until: u64,
     done: AtomicU64,
     missed: AtomicU64,
 }
 
 impl Holding {
-    fn sees(&self, slices: u64) -> bool {
+    fn new(held: u64, until: u64) -> Holding {
+        Holding {
+            held,
+            until,
+            done: AtomicU64::new(0),
+            missed: AtomicU64::new(0),
+        }
+    }
+
+    fn sees(&self) -> bool {
         for turn in 0..100_000_000u32 {
-            if self.done.load(Ordering::SeqCst) == slices {
+            if self.done.load(Ordering::SeqCst) >= self.until {
                 return true;
+            }
+            if self.missed.load(Ordering::SeqCst) > 0 {
+                return false;
             }
             if turn % 64 == 0 {
                 thread::yield_now();
@@ -175,36 +189,65 @@ impl Holding {
 }
 
 impl Watch for Holding {
-    fn counted(&self, _slice: u16, slices: u16) {
+    fn counted(&self, _slice: u16, _slices: u16) {
         let before = self.done.fetch_add(1, Ordering::SeqCst);
-        if before == 0 && !self.sees(u64::from(slices)) {
+        if before < self.held && !self.sees() {
             self.missed.store(1, Ordering::SeqCst);
         }
     }
 }
 
-/// A slice that nobody took yet goes to whichever thread is free: a fixed deal of slices fails.
+/// A slice that nobody took yet goes to whichever thread is free: a fixed deal of slices fails. And as many
+/// threads count as were asked for: each of 16 holds its first slice until all are there.
 #[test]
 fn a_held_thread_holds_no_slice(rt: HostRuntime) -> Result<(), Fail> {
     let game = game(rt.alloc(), 51, &[35, 20, 15, 15, 15])?;
     assert!(rt; game.members() == 5);
-    let holding = Holding {
-        done: AtomicU64::new(0),
-        missed: AtomicU64::new(0),
+    for (workers, held, until) in [(2, 1, 32), (16, 16, 16)] {
+        let holding = Holding::new(held, until);
+        let counts = tally(&rt, rt.alloc(), &game, 5, workers, &holding)?;
+        assert_of_five(&rt, &counts);
+        let found = (
+            holding.done.load(Ordering::SeqCst),
+            holding.missed.load(Ordering::SeqCst),
+        );
+        same(&rt, found, (32, 0), workers);
+    }
+    Ok(())
+}
+
+/// How many coalitions were told of, and how often.
+#[derive(Drop)]
+struct Met {
+    coalitions: AtomicU64,
+    times: AtomicU64,
+}
+
+impl Watch for Met {
+    fn counted(&self, _slice: u16, _slices: u16) {}
+
+    fn met(&self, more: u64, _slices: u16) {
+        self.coalitions.fetch_add(more, Ordering::SeqCst);
+        self.times.fetch_add(1, Ordering::SeqCst);
+    }
+}
+
+/// While one slice of 3,838,380 coalitions is counted, three times 1,048,576 of them are told of, and then the
+/// 692,652 that are left.
+#[test]
+fn is_told_of_coalitions_meanwhile(rt: HostRuntime) -> Result<(), Fail> {
+    let game = game(rt.alloc(), 6, &[1; 40])?;
+    assert!(rt; game.members() == 40);
+    let met = Met {
+        coalitions: AtomicU64::new(0),
+        times: AtomicU64::new(0),
     };
-    let counts = tally(&rt, rt.alloc(), &game, 5, 2, &holding)?;
-    assert_of_five(&rt, &counts);
-    same(
-        &rt,
-        holding.done.load(Ordering::SeqCst),
-        32,
-        "holding.done.load",
+    let counts = tally(&rt, rt.alloc(), &game, 0, 1, &met)?;
+    let found = (
+        counts.total(),
+        met.coalitions.load(Ordering::SeqCst),
+        met.times.load(Ordering::SeqCst),
     );
-    same(
-        &rt,
-        holding.missed.load(Ordering::SeqCst),
-        0,
-        "holding.missed.load",
-    );
+    same(&rt, found, (3_838_380, 3_838_380, 4), "coalitions");
     Ok(())
 }

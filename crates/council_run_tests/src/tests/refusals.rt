@@ -10,12 +10,13 @@ const TWO_RULES: &[u8] =
 const TWO_RULES_REPORT: &[u8] =
     b"title\tTwo\nmembers\t4\nquota\t5/3\ntotal\t8/4\nminimal\t4\ncoalition\t3\t7/3\tA\tB\tC\ncoalition\t3\t6/3\tA\tB\tD\ncoalition\t3\t6/3\tA\tC\tD\ncoalition\t3\t5/3\tB\tC\tD\nsize\t3\t4\t3\t3\t3\t3\nmember\tA\t3/1\t3\t1/4\t0.250000\t1/4\t0.250000\nmember\tB\t2/1\t3\t1/4\t0.250000\t1/4\t0.250000\nmember\tC\t2/1\t3\t1/4\t0.250000\t1/4\t0.250000\nmember\tD\t1/1\t3\t1/4\t0.250000\t1/4\t0.250000\n";
 
-/// Runs on the file, and tells its answer: the report, or a refusal before the first byte.
+/// Runs on the file, or tallies it, and tells its answer: the report, or a refusal before the first byte.
 fn runs<R: Abort + Print + Threads + Wait + Sync>(
     rt: &R,
     alloc: Global,
     file: &[u8],
     report: &[u8],
+    is_tally: bool,
 ) -> Result<(), Fail> {
     let mut reader = file;
     let options = listing();
@@ -26,7 +27,11 @@ fn runs<R: Abort + Print + Threads + Wait + Sync>(
         part: None,
     };
     rt.println("call")?;
-    let answer = run(rt, alloc, &mut reader, &options, &NoGate, &mut writer);
+    let answer = if is_tally {
+        tally(rt, alloc, &mut reader, &options, &NoWatch, &mut writer)
+    } else {
+        run(rt, alloc, &mut reader, &options, &NoGate, &mut writer)
+    };
     match answer {
         Ok(count) => {
             rt.println("worked")?;
@@ -59,10 +64,31 @@ fn runs<R: Abort + Print + Threads + Wait + Sync>(
 
 #[test]
 fn runs_on_brackets(rt: HostRuntime) -> Result<(), Fail> {
-    runs(&rt, rt.alloc(), FIVE, FIVE_REPORT)
+    runs(&rt, rt.alloc(), FIVE, FIVE_REPORT, false)
 }
 
 #[test]
 fn runs_on_toml(rt: HostRuntime) -> Result<(), Fail> {
-    runs(&rt, rt.alloc(), TWO_RULES, TWO_RULES_REPORT)
+    runs(&rt, rt.alloc(), TWO_RULES, TWO_RULES_REPORT, false)
+}
+
+/// The report of a tally of two rules of heads and weights.
+const TWO_RULES_TALLY: &[u8] =
+    b"title\tTwo\nmembers\t4\nquota\t5/3\ntotal\t8/4\nminimal\t4\nsize\t3\t4\t3\t3\t3\t3\nmember\tA\t3/1\t3\t1/4\t0.250000\t1/4\t0.250000\nmember\tB\t2/1\t3\t1/4\t0.250000\t1/4\t0.250000\nmember\tC\t2/1\t3\t1/4\t0.250000\t1/4\t0.250000\nmember\tD\t1/1\t3\t1/4\t0.250000\t1/4\t0.250000\n";
+
+#[test]
+fn tallies_by_sums(rt: HostRuntime) -> Result<(), Fail> {
+    runs(&rt, rt.alloc(), TWO_RULES, TWO_RULES_TALLY, true)
+}
+
+/// Three rules, which sums do not take: threads count.
+const THREE_RULES: &[u8] =
+    b"quotas = [2, 1, 1]\nmember = [{name = \"A\", weights = [1, 1, 0]}, {name = \"B\", weights = [1, 0, 1]}]";
+
+const THREE_RULES_TALLY: &[u8] =
+    b"members\t2\nquota\t2/1/1\ntotal\t2/1/1\nminimal\t1\nsize\t2\t1\t1\t1\nmember\tA\t1/1/0\t1\t1/2\t0.500000\t1/2\t0.500000\nmember\tB\t1/0/1\t1\t1/2\t0.500000\t1/2\t0.500000\n";
+
+#[test]
+fn tallies_by_threads(rt: HostRuntime) -> Result<(), Fail> {
+    runs(&rt, rt.alloc(), THREE_RULES, THREE_RULES_TALLY, true)
 }

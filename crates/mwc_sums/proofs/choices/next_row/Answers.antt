@@ -1,4 +1,5 @@
-use Rattle.std.proofs.Common.{◌≡◌, ◌∙◌, ℕ, ◌+◌, ◌-◌, ◌≤◌, ◌^◌, get_or, set, length-set, get_or-set_same, get_or-set_other, ap, sym, inl, inr, arith}
+use Rattle.std.proofs.Common.{◌≡◌, ◌∙◌, ℕ, ◌+◌, ◌-◌, ◌≤◌, ◌^◌, get_or, set, length-set, get_or-set_same, get_or-set_other, ap, sym, inl}
+use Rattle.std.proofs.Common.{inr, arith}
 use Rattle.std.proofs.Math.Pow.{pow_mono}
 use Rattle.std.proofs.lemmas.Bool.{cases_eq}
 use Rattle.mwc_sums.specs.Inner.Choices.{choose}
@@ -11,7 +12,8 @@ loop-k-init c = record {
   done = λ j lt. (
       let z : j ≡ 0 = omega arith in
       let r = c.requires.row 0 (omega arith) in
-      ap (λ (i : ℕ). get_or c.args.row.now i 0) z ∙ r ∙ choose-none c.args.of ∙ sym (choose-none (c.args.of + 1)) ∙ ap (choose (c.args.of + 1)) (sym z));
+      ap (λ (i : ℕ). get_or c.args.row.now i 0) z ∙ r ∙ choose-none c.args.of ∙ sym (choose-none (c.args.of + 1))
+          ∙ ap (choose (c.args.of + 1)) (sym z));
 }
 
 pub overflow_add-next : goal.overflow_add-next

@@ -5,4 +5,4 @@ use Rattle.power_index.specs.Tables.{AreTallies}
 use Rattle.mwc_tally.proofs.all.one_by_one.Given as goal
 
 abbrev pub invariant-loop-slice : goal.invariant-loop-slice
-invariant-loop-slice l = AreTallies l.game (flat_map (slice (votes_of l.game) l.bits) (range_with_len 0 l.slice)) l.counts
+invariant-loop-slice g l = AreTallies l.game (flat_map (slice (votes_of l.game) l.bits) (range_with_len 0 l.slice)) l.counts

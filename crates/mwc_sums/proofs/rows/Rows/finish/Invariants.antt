@@ -5,7 +5,8 @@ use Rattle.mwc_sums.proofs.rows.Rows.finish.Given as goal
 
 abbrev pub invariant-loop-p : goal.invariant-loop-p
 invariant-loop-p l = record {
-  counted : (s : ℕ) → s ≤ 40 → get_or l.done s 0 + weigh (endings (drop l.p l.weights) l.heads s) l.self.row.items ≡ get_or l.initial.done s 0 + weigh (endings (drop l.place l.weights) l.heads s) l.initial.self.row.items;
+  counted : (s : ℕ) → s ≤ 40 → get_or l.done s 0 + weigh (endings (drop l.p l.weights) l.heads.asked s) l.self.row.items ≡ get_or
+      l.initial.done s 0 + weigh (endings (drop l.place l.weights) l.heads.asked s) l.initial.self.row.items;
   row : AreOfPrefixes l.p (length l.weights - l.p) l.done l.self.row.items;
   rest : l.rest ≡ sum (drop l.p l.weights);
 }
