@@ -1,7 +1,7 @@
 //! Counts of coalitions, fractions in lowest terms, and the two power indices that rest on minimal
 //! winning coalitions: Deegan and Packel's (1978) and Holler and Packel's public good index (1983).
 //!
-//! Nothing here takes memory.
+//! Nothing here but `all_indices` takes memory.
 //!
 //! ```text
 //! let counts = Counts::of(&game, &list);
@@ -16,6 +16,7 @@ mod fraction;
 mod index;
 mod indices;
 pub mod laws;
+mod members;
 mod order;
 mod tally;
 mod wide_counts;
@@ -24,5 +25,6 @@ pub use counts::Counts;
 pub use fraction::{Fraction, lowest};
 pub use index::Index;
 pub use indices::{deegan_packel, public_good};
+pub use members::{MemberIndices, all_indices};
 pub use tally::Tally;
 pub use wide_counts::WideCounts;
