@@ -11,20 +11,20 @@
 //! ```
 #![tactic(auto)]
 
+mod both;
 mod counts;
 mod fraction;
 mod index;
 mod indices;
 pub mod laws;
-mod members;
 mod order;
 mod tally;
 mod wide_counts;
 
+pub use both::{MemberIndices, all_indices};
 pub use counts::Counts;
 pub use fraction::{Fraction, lowest};
 pub use index::Index;
 pub use indices::{deegan_packel, public_good};
-pub use members::{MemberIndices, all_indices};
 pub use tally::Tally;
 pub use wide_counts::WideCounts;

@@ -1,7 +1,7 @@
 //! The indices of all members.
 ghost use Rattle.council_game.specs.Game.{GameView};
 ghost use Rattle.power_index.specs.Counting.{members};
-ghost use Rattle.power_index.specs.Members.{indices_of_member};
+ghost use Rattle.power_index.specs.Both.{indices_of_member};
 ghost use Rattle.power_index.specs.Tables.{AreCounts, table_total};
 ghost use Rattle.std.specs.Prelude.{◌≡◌, ℕ, List, ◌≤◌, IfOk, length, map};
 

@@ -1,9 +1,9 @@
 use Rattle.std.proofs.Common.{◌≡◌, ℕ, List, length, map}
 use Rattle.std.specs.List.{range_with_len}
 use Rattle.council_game.specs.Game.{GameView}
-use Rattle.power_index.specs.Members.{indices_of_member}
+use Rattle.power_index.specs.Both.{indices_of_member}
 use Rattle.power_index.specs.Tables.{AreCounts}
-use Rattle.power_index.proofs.members.all_indices.Given as goal
+use Rattle.power_index.proofs.both.all_indices.Given as goal
 
 abbrev pub invariant-loop-member : goal.invariant-loop-member
 invariant-loop-member l = record {

@@ -1,7 +1,7 @@
 -- Both indices of a member.
 use Rattle.std.specs.Prelude.{ℕ, List}
 use Rattle.council_game.specs.Game.{GameView}
-use Rattle.power_index.specs.declared.members.MemberIndices.{MemberIndices}
+use Rattle.power_index.specs.declared.both.MemberIndices.{MemberIndices}
 use Rattle.power_index.specs.Fractions.{lowest_terms}
 use Rattle.power_index.specs.Indices.{deegan_packel, public_good}
 
