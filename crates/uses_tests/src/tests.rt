@@ -10,8 +10,8 @@ use std::process::Abort;
 use std::test::Fail;
 use uses::{
     are_ranked_alike, both_indices, coalitions_with, count_by_walk, first_of_bytes, indices_add_up,
-    is_dummy, listed_twice, of_one_rule, of_two_rules, quota_in_millionths, report_into_memory,
-    tallied_index, through_a_ring,
+    is_dummy, lightest, listed_twice, of_one_rule, of_two_rules, quota_in_millionths,
+    report_into_memory, tallied_index, through_a_ring, win_together,
 };
 
 /// Fails with the label where what was found is not what was wanted.
@@ -71,6 +71,21 @@ fn indices_of_bytes(rt: HostRuntime) -> Result<(), Fail> {
     };
     assert_index(&rt, first, 3, 10, b"0.300000");
     assert_index(&rt, second, 4, 15, b"0.266666");
+    Ok(())
+}
+
+#[test]
+fn the_first_is_not_the_lightest(rt: HostRuntime) -> Result<(), Fail> {
+    let game = parse_game(rt.alloc(), b"[51; 40, 30, 11, 11]")?;
+    same(
+        &rt,
+        lightest(&game),
+        Some(Coalition::of_mask(10)),
+        "lightest",
+    );
+    for (other, wanted) in [("3", Some(true)), ("1", Some(false)), ("5", None)] {
+        same(&rt, win_together(&game, "1", other), wanted, other);
+    }
     Ok(())
 }
 
