@@ -10,8 +10,8 @@ use std::process::Abort;
 use std::test::Fail;
 use uses::{
     are_ranked_alike, both_indices, coalitions_with, count_by_walk, first_of_bytes, indices_add_up,
-    is_dummy, lightest, listed_twice, of_one_rule, of_two_rules, quota_in_millionths,
-    report_into_memory, tallied_index, through_a_ring, win_together,
+    is_dummy, listed_twice, of_one_rule, of_two_rules, quota_in_millionths, report_into_memory,
+    tallied_index, through_a_ring,
 };
 
 /// Fails with the label where what was found is not what was wanted.
@@ -84,7 +84,7 @@ fn the_first_is_not_the_lightest(rt: HostRuntime) -> Result<(), Fail> {
         "lightest",
     );
     for (other, wanted) in [("3", Some(true)), ("1", Some(false)), ("5", None)] {
-        same(&rt, win_together(&game, "1", other), wanted, other);
+        same(&rt, uses::win_together(&game, "1", other), wanted, other);
     }
     Ok(())
 }
