@@ -65,7 +65,8 @@ pub digit-added : (c k : ℕ) → c / 2 ^ k % 2 ≡ 0 → (c + 2 ^ k) / 2 ^ k % 
 digit-added c k out =
     let low : c % 2 ^ k < 2 ^ k = mod-lt c (pow_pos k) in
     let whole : c + 2 ^ k ≡ (c / 2 ^ k + 1) * 2 ^ k + c % 2 ^ k = (let e = div-add-mod c (2 ^ k) in omega (arith, e)) in
-    let quotient : (c + 2 ^ k) / 2 ^ k ≡ c / 2 ^ k + 1 = ap (λ (x : ℕ). x / 2 ^ k) whole ∙ div-mul-add (c / 2 ^ k + 1) (2 ^ k) (c % 2 ^ k) low in
+    let quotient : (c + 2 ^ k) / 2 ^ k ≡ c / 2 ^ k + 1 = ap (λ (x : ℕ). x / 2 ^ k) whole
+    ∙ div-mul-add (c / 2 ^ k + 1) (2 ^ k) (c % 2 ^ k) low in
     omega (arith, quotient, out)
 
 -- and a number of n digits still has n
@@ -83,7 +84,8 @@ digit-added_below n c k lt below out =
           absurd (omega (arith, most, whole, parts))
     ] in
     let next : c / 2 ^ k + 2 ≤ 2 * 2 ^ (n - 1 - k) = omega (arith, high, out) in
-    let fits : (c / 2 ^ k + 2) * 2 ^ k ≤ 2 * 2 ^ (n - 1 - k) * 2 ^ k = mul-le (c / 2 ^ k + 2) (2 ^ k) (2 * 2 ^ (n - 1 - k)) (2 ^ k) next (omega arith) in
+    let fits : (c / 2 ^ k + 2) * 2 ^ k ≤ 2 * 2 ^ (n - 1 - k) * 2 ^ k = mul-le (c / 2 ^ k + 2) (2 ^ k) (2 * 2 ^ (n - 1 - k))
+    (2 ^ k) next (omega arith) in
     omega (arith, fits, whole, parts, low)
 
 out-digit : (n q c : ℕ) → has n q c ≡ false → c / 2 ^ (n - 1 - q) % 2 ≡ 0
@@ -102,7 +104,8 @@ pub has-beside : (n p q c : ℕ) → p < n → q < n → p ≢ q → has n q c �
 unfolding has
 has-beside n p q c lp lq other out =
     let back : c + 2 ^ (n - 1 - q) - 2 ^ (n - 1 - q) ≡ c = omega arith in
-    let kept = digit-kept (c + 2 ^ (n - 1 - q)) (n - 1 - q) (n - 1 - p) (digit-added c (n - 1 - q) (out-digit n q c out)) (λ e. other (omega arith)) in
+    let kept = digit-kept (c + 2 ^ (n - 1 - q)) (n - 1 - q) (n - 1 - p) (digit-added c (n - 1 - q) (out-digit n q c out))
+    (λ e. other (omega arith)) in
     ap (λ (x : ℕ). x == 1) (sym kept ∙ ap (λ (x : ℕ). x / 2 ^ (n - 1 - p) % 2) back)
 
 pub added-below : (n q c : ℕ) → q < n → c < 2 ^ n → has n q c ≡ false → c + 2 ^ (n - 1 - q) < 2 ^ n

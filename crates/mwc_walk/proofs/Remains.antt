@@ -63,7 +63,8 @@ given-more s before after c ends first =
     (let same : length s - length before + 0 ≡ length s - length before = omega arith in
     ap (λ (k : ℕ). get_or s k 0) (sym same) ∙ sym (get_or-drop (length s - length before) s 0 0)
     ∙ ap (λ (l : List ℕ). get_or l 0 0) (sym ends ∙ first)) in
-    ap (λ (k : ℕ). take k s) next ∙ take_more s (length s - length before) 0 lt ∙ ap (λ (x : ℕ). take (length s - length before) s ++ x ∷ []) at
+    ap (λ (k : ℕ). take k s) next ∙ take_more s (length s - length before) 0 lt
+    ∙ ap (λ (x : ℕ). take (length s - length before) s ++ x ∷ []) at
 
 -- the coalitions that a cursor has given
 abbrev given-by : Votes → Cursor → List ℕ
@@ -88,7 +89,8 @@ given-whole v a is =
     ap (λ (r : List ℕ). given-by v a ++ r) (rest-is v a is)
     ∙ take-append-drop (length (slice v a.bits a.number) - length (rest_of_slice v a)) (slice v a.bits a.number)
 
-pub whole-after : (v : Votes) (a : Cursor) (o : Option ℕ) (b : Cursor) → Runs v a o b → given-by v b ++ rest_of_slice v b ≡ slice v b.bits b.number
+pub whole-after : (v : Votes) (a : Cursor) (o : Option ℕ) (b : Cursor) → Runs v a o b
+    → given-by v b ++ rest_of_slice v b ≡ slice v b.bits b.number
 whole-after v a (Some c) b h = given-whole v b h.follows.is
 whole-after v a None b h = given-whole v b h.follows.is
 

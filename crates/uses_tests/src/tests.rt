@@ -79,7 +79,7 @@ fn the_first_is_not_the_lightest(rt: HostRuntime) -> Result<(), Fail> {
     let game = parse_game(rt.alloc(), b"[51; 40, 30, 11, 11]")?;
     same(
         &rt,
-        lightest(&game),
+        uses::lightest(&game),
         Some(Coalition::of_mask(10)),
         "lightest",
     );

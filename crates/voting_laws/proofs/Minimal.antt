@@ -21,7 +21,8 @@ not-empty n q c inside = elim (cases_lt 0 c) [
   | inr none ↦ let c0 : c ≡ 0 = omega arith in absurd (both_ways _ (has-none n q) (ap (has n q) (sym c0) ∙ inside))
 ]
 
-minimal-inside : (v : Votes) (fuel c : ℕ) → c < fuel → wins v.rules c ≡ true → (m : ℕ) × (m ≤ c) × (minimal v m ≡ true) × IsSubset v.members m c
+minimal-inside : (v : Votes) (fuel c : ℕ) → c < fuel → wins v.rules c ≡ true
+    → (m : ℕ) × (m ≤ c) × (minimal v m ≡ true) × IsSubset v.members m c
 unfolding minimal
 minimal-inside v zero c below won = absurd (omega arith)
 minimal-inside v (suc fuel) c below won =
@@ -30,8 +31,13 @@ minimal-inside v (suc fuel) c below won =
       | inr not_needed ↦
           let spare = spare-place (λ p. has v.members p c) (λ p. not (wins v.rules (without v.members p c))) v.members not_needed in
           let less : without v.members spare.0 c < c = without-less v.members spare.0 c (not-empty v.members spare.0 c spare.2) in
-          let deeper = minimal-inside v fuel (without v.members spare.0 c) (omega arith) (not-false _ spare.3) in
-          (deeper.0, omega (arith, deeper.1), deeper.2, λ p lt inside. without-inside v.members spare.0 c spare.1 spare.2 p lt (deeper.3 p lt inside))
+          let deeper = minimal-inside v fuel (without v.members spare.0 c) (omega arith) (not-false _ spare.3) in (
+            deeper.0,
+            omega (arith, deeper.1),
+            deeper.2,
+            λ p lt inside. without-inside v.members spare.0 c spare.1 spare.2 p lt
+                (deeper.3 p lt inside),
+          )
     ]
 
 -- what passes a test is among those of a count down that pass it

@@ -27,7 +27,8 @@ scaled k x y pos = elim (cases_lt x y) [
 ]
 
 -- fractions that are the same numbers have the same order
-same-order : (a b c d A B C D : ℕ) → 0 < b → 0 < d → 0 < B → 0 < D → a * B ≡ A * b → c * D ≡ C * d → nat_cmp (a * d) (c * b) ≡ nat_cmp (A * D) (C * B)
+same-order : (a b c d A B C D : ℕ) → 0 < b → 0 < d → 0 < B → 0 < D → a * B ≡ A * b → c * D ≡ C * d
+    → nat_cmp (a * d) (c * b) ≡ nat_cmp (A * D) (C * B)
 same-order a b c d A B C D pb pd pB pD e f =
     let left : a * d * (B * D) ≡ A * D * (b * d) = omega (arith, ap (λ (n : ℕ). n * (d * D)) e) in
     let right : c * b * (B * D) ≡ C * B * (b * d) = omega (arith, ap (λ (n : ℕ). n * (b * B)) f) in
@@ -40,4 +41,5 @@ pub lowest_terms_ordered : (p q : ℕ × ℕ) → 0 < p.1 → 0 < q.1 → fracti
 lowest_terms_ordered p q pp pq =
     let lp = lowest_terms-lowest p pp in
     let lq = lowest_terms-lowest q pq in
-    same-order (lowest_terms p).0 (lowest_terms p).1 (lowest_terms q).0 (lowest_terms q).1 p.0 p.1 q.0 q.1 lp.positive lq.positive pp pq lp.same lq.same
+    same-order (lowest_terms p).0 (lowest_terms p).1 (lowest_terms q).0
+    (lowest_terms q).1 p.0 p.1 q.0 q.1 lp.positive lq.positive pp pq lp.same lq.same

@@ -8,7 +8,8 @@ abbrev pub invariant-loop-coalition : goal.invariant-loop-coalition
 invariant-loop-coalition l = record {
   whole : given l.walk ++ l.walk.to_come ≡ minimal_coalitions (votes_of l.game);
   listed : Contains (given l.walk) l.best;
-  least : All (λ c. weight (rule_at (votes_of l.game).rules 0).weights l.best ≤ weight (rule_at (votes_of l.game).rules 0).weights c) (given l.walk);
+  least : All (λ c. weight (rule_at (votes_of l.game).rules 0).weights l.best ≤ weight
+      (rule_at (votes_of l.game).rules 0).weights c) (given l.walk);
 }
 
 abbrev pub decreases-loop-coalition : goal.decreases-loop-coalition

@@ -28,4 +28,5 @@ pub returns-then-has-clause-others : goal.returns-then-has-clause-others
 unfolding without
 returns-then-has-clause-others c p lt other =
     let digit = digit-shifted c.args.members c.args.place c.requires.few c.requires.place in
-    rw (digit, c.self.view_is) (has-kept c.args.members p c.args.place c.args.self lt c.requires.place other (sym c.has.ensures ∙ c.if-has.true))
+    rw (digit, c.self.view_is) (has-kept c.args.members p c.args.place c.args.self lt c.requires.place other
+    (sym c.has.ensures ∙ c.if-has.true))

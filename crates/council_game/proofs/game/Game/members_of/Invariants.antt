@@ -5,4 +5,5 @@ use Rattle.council_game.specs.Votes.{has}
 use Rattle.council_game.proofs.game.Game.members_of.Given as goal
 
 abbrev pub invariant-loop-place : goal.invariant-loop-place
-invariant-loop-place l = l.members.items ≡ map (member_at l.self.ranks) (filter (λ p. has (length l.self.names) p l.coalition) (range_with_len 0 l.place))
+invariant-loop-place l = l.members.items ≡ map (member_at l.self.ranks)
+    (filter (λ p. has (length l.self.names) p l.coalition) (range_with_len 0 l.place))
