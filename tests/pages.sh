@@ -75,6 +75,11 @@ has_version CITATION.cff "version: $version"
 has_version docs/council.1 "council $version"
 has_version CHANGELOG.md "## $version"
 
+# ---- the code in docs/LIBRARY.md is that of the crates
+if needs python3 "docs/LIBRARY.md has code of the crates"; then
+    python3 "$top/tests/library.py" || failed "docs/LIBRARY.md has code of the crates" "tests/library.py stopped"
+fi
+
 # ---- each text that the program prints stands in docs/FORMATS.md
 sed -n 's/.*#\[error("\(.*\)")\].*/\1/p' "$top"/crates/council_game/src/fault.rt "$top"/crates/mwc_parts/src/fault.rt \
     "$top"/crates/council/src/fault.rt "$top"/crates/council_run/src/fault.rt "$top"/crates/mwc_tally/src/*.rt 2>/dev/null |

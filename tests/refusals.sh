@@ -142,6 +142,7 @@ takes_none() {
 takes_memory council_game makes_a_game
 takes_memory council_game makes_a_game_of_two_rules
 takes_memory council_game lists_plainly
+takes_memory council_game lists_members
 takes_memory council_file parses_toml
 takes_memory council_file parses_brackets
 takes_memory council_file reads_pieces
@@ -164,6 +165,7 @@ takes_memory mwc_pipe replays
 takes_memory mwc_pipe makes_a_ring
 takes_none mwc_pipe moves_words_without_memory
 takes_none power_index counts_without_memory
+takes_memory power_index gives_all_indices
 takes_memory mwc_tally tallies "not started"
 starts_threads mwc_tally tallies_pieces
 takes_none mwc_tally tallies_a_slice_without_memory

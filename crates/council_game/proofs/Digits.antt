@@ -3,8 +3,8 @@ use Rattle.std.proofs.Common.{◌≡◌, ◌≢◌, ◌∙◌, ℕ, ◌+◌, ◌
 use Rattle.std.specs.Int.{w64, trailing_zeros}
 use Rattle.std.specs.Int.Bits.{bit_and}
 use Rattle.std.proofs.lemmas.Nat.Bits.{bit_at-trailing_zeros, bit_at_above, bit_at_cat_low, bit_at_cat_high, bit_at-suc, bit_at-zero, bit_at_and, same_from_bits, same_from_bits_below}
-use Rattle.std.proofs.lemmas.Nat.{pow_pos, and_block, and_le_l, and_le_r}
-use Rattle.std.proofs.lemmas.Bool.{cases_lt, eqb-true}
+use Rattle.std.proofs.lemmas.Nat.{pow_pos, pow-add, mul-le, div-mul-add, and_block, and_le_l, and_le_r}
+use Rattle.std.proofs.lemmas.Bool.{cases_lt, eqb-true, eqb-false}
 use Rattle.std.proofs.Math.Nat.{mod-lt, div-add-mod}
 use Rattle.std.proofs.Math.Pow.{pow_mono}
 use Rattle.council_game.specs.Votes.{has, without}
@@ -59,6 +59,61 @@ digit-gone c k one =
     let zero-up : k - k ≡ 0 = omega arith in
     ap (λ (x : ℕ). x / 2 ^ k % 2) s.without_digit ∙ bit_at_cat_high (2 * s.high) k s.low k s.small (omega arith)
     ∙ ap (λ (i : ℕ). 2 * s.high / 2 ^ i % 2) zero-up ∙ omega arith
+
+-- with a digit that was 0, that digit is 1
+pub digit-added : (c k : ℕ) → c / 2 ^ k % 2 ≡ 0 → (c + 2 ^ k) / 2 ^ k % 2 ≡ 1
+digit-added c k out =
+    let low : c % 2 ^ k < 2 ^ k = mod-lt c (pow_pos k) in
+    let whole : c + 2 ^ k ≡ (c / 2 ^ k + 1) * 2 ^ k + c % 2 ^ k = (let e = div-add-mod c (2 ^ k) in omega (arith, e)) in
+    let quotient : (c + 2 ^ k) / 2 ^ k ≡ c / 2 ^ k + 1 = ap (λ (x : ℕ). x / 2 ^ k) whole
+    ∙ div-mul-add (c / 2 ^ k + 1) (2 ^ k) (c % 2 ^ k) low in
+    omega (arith, quotient, out)
+
+-- and a number of n digits still has n
+pub digit-added_below : (n c k : ℕ) → k < n → c < 2 ^ n → c / 2 ^ k % 2 ≡ 0 → c + 2 ^ k < 2 ^ n
+digit-added_below n c k lt below out =
+    let low : c % 2 ^ k < 2 ^ k = mod-lt c (pow_pos k) in
+    let parts : c ≡ c / 2 ^ k * 2 ^ k + c % 2 ^ k = (let e = div-add-mod c (2 ^ k) in omega (arith, e)) in
+    let digits : n ≡ 1 + (n - 1 - k) + k = omega arith in
+    let whole : 2 ^ n ≡ 2 * 2 ^ (n - 1 - k) * 2 ^ k =
+    ap (λ (i : ℕ). 2 ^ i) digits ∙ pow-add 2 (1 + (n - 1 - k)) k ∙ ap (λ (m : ℕ). m * 2 ^ k) (pow-add 2 1 (n - 1 - k)) in
+    let high : c / 2 ^ k < 2 * 2 ^ (n - 1 - k) = elim (cases_lt (c / 2 ^ k) (2 * 2 ^ (n - 1 - k))) [
+      | inl less ↦ less
+      | inr more ↦
+          let most = mul-le (2 * 2 ^ (n - 1 - k)) (2 ^ k) (c / 2 ^ k) (2 ^ k) more (omega arith) in
+          absurd (omega (arith, most, whole, parts))
+    ] in
+    let next : c / 2 ^ k + 2 ≤ 2 * 2 ^ (n - 1 - k) = omega (arith, high, out) in
+    let fits : (c / 2 ^ k + 2) * 2 ^ k ≤ 2 * 2 ^ (n - 1 - k) * 2 ^ k = mul-le (c / 2 ^ k + 2) (2 ^ k) (2 * 2 ^ (n - 1 - k))
+    (2 ^ k) next (omega arith) in
+    omega (arith, fits, whole, parts, low)
+
+out-digit : (n q c : ℕ) → has n q c ≡ false → c / 2 ^ (n - 1 - q) % 2 ≡ 0
+unfolding has
+out-digit n q c out =
+    let bit : c / 2 ^ (n - 1 - q) % 2 < 2 = mod-lt (c / 2 ^ (n - 1 - q)) (omega arith) in
+    let other = eqb-false _ _ out in
+    omega (arith, bit, other)
+
+-- a place that is out, taken in
+pub has-added : (n q c : ℕ) → has n q c ≡ false → has n q (c + 2 ^ (n - 1 - q)) ≡ true
+unfolding has
+has-added n q c out = eq-eqb _ _ (digit-added c (n - 1 - q) (out-digit n q c out))
+
+pub has-beside : (n p q c : ℕ) → p < n → q < n → p ≢ q → has n q c ≡ false → has n p (c + 2 ^ (n - 1 - q)) ≡ has n p c
+unfolding has
+has-beside n p q c lp lq other out =
+    let back : c + 2 ^ (n - 1 - q) - 2 ^ (n - 1 - q) ≡ c = omega arith in
+    let kept = digit-kept (c + 2 ^ (n - 1 - q)) (n - 1 - q) (n - 1 - p) (digit-added c (n - 1 - q) (out-digit n q c out))
+    (λ e. other (omega arith)) in
+    ap (λ (x : ℕ). x == 1) (sym kept ∙ ap (λ (x : ℕ). x / 2 ^ (n - 1 - p) % 2) back)
+
+pub added-below : (n q c : ℕ) → q < n → c < 2 ^ n → has n q c ≡ false → c + 2 ^ (n - 1 - q) < 2 ^ n
+added-below n q c lt below out = digit-added_below n c (n - 1 - q) (omega arith) below (out-digit n q c out)
+
+-- there is room for the digit of a place among 40
+pub added-room : (n q c : ℕ) → n ≤ 40 → q < n → c < 2 ^ 40 → has n q c ≡ false → c + 2 ^ (n - 1 - q) < 2 ^ 40
+added-room n q c few lt below out = digit-added_below 40 c (n - 1 - q) (omega arith) below (out-digit n q c out)
 
 pub has-kept : (n p q c : ℕ) → p < n → q < n → p ≢ q → has n q c ≡ true → has n p (without n q c) ≡ has n p c
 unfolding has without

@@ -6,6 +6,7 @@ pub mod Order
 pub mod Sorting
 pub mod Games
 pub mod Making
+pub mod Named
 pub mod Digits
 pub mod WeightByDigits
 pub mod Places

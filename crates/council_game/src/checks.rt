@@ -56,6 +56,24 @@ fn has_name(names: &[String], name: &str) -> bool
     names.iter().any(|other| name == other.as_str())
 }
 
+/// The place of the first name that is this one.
+fn first_named(names: &[String], name: &str) -> Option<usize>
+    ensures place { result
+        ≡ position (λ other. pointwise nat_eq name.now (string_bytes other)) names.now }
+    ensures bound { IfSome result (λ k. k < length names.now) }
+{
+    names.iter().position(|other| name == other.as_str())
+}
+
+/// The same, over the names as bytes.
+#[tactic(auto, using(crate::proofs::Lists::position_map))]
+pub(crate) fn place_of_name(names: &[String], name: &str) -> Option<usize>
+    ensures place { result ≡ position (pointwise nat_eq name.now) (map string_bytes names.now) }
+    ensures bound { IfSome result (λ k. k < length names.now) }
+{
+    first_named(names, name)
+}
+
 /// An earlier member has the name of this one.
 fn is_repeat(names: &[String], k: usize) -> bool
     requires { k < length names.now }

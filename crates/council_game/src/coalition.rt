@@ -1,5 +1,5 @@
 //! Coalitions.
-ghost use Rattle.std.specs.Prelude.{◌≡◌, ◌^◌, ◌<◌, ◌≤◌, ◌-◌, ℕ, cond};
+ghost use Rattle.std.specs.Prelude.{◌≡◌, ◌≢◌, ◌^◌, ◌<◌, ◌≤◌, ◌-◌, ℕ, cond, false, true};
 ghost use Rattle.council_game.specs.Votes.{has, without, size};
 
 use crate::winning::has;
@@ -51,12 +51,34 @@ impl Coalition {
         has(members, place, self.mask)
     }
 
+    /// In a game of so many members, at most 40, the coalition with the member of this rank place besides;
+    /// the same where that member is in.
+    pub fn with(self, members: usize, place: usize) -> Coalition
+        requires few { members ≤ 40 }
+        requires place { place < members }
+        ensures inside { has members place result ≡ true }
+        ensures others { (p : ℕ) → p < members → p ≢ place →
+            has members p result ≡ has members p self }
+        ensures below { self < 2 ^ members → result < 2 ^ members }
+    {
+        if self.has(members, place) {
+            self
+        } else {
+            Coalition {
+                mask: self.mask + (1 << (members - 1 - place)),
+            }
+        }
+    }
+
     /// In a game of so many members, at most 40, the coalition without the member of this rank place;
     /// the same where that member is not in.
     pub fn without(self, members: usize, place: usize) -> Coalition
         requires few { members ≤ 40 }
         requires place { place < members }
-        ensures { result ≡ cond (has members place self) (without members place self) self }
+        ensures mask { result ≡ cond (has members place self) (without members place self) self }
+        ensures outside { has members place result ≡ false }
+        ensures others { (p : ℕ) → p < members → p ≢ place →
+            has members p result ≡ has members p self }
     {
         if self.has(members, place) {
             Coalition {

@@ -2,8 +2,8 @@
 //!
 //! ```text
 //! let game = Game::new(alloc, None, names, weights, 51)?;
-//! let all = Coalition::of_mask(7);
-//! let wins = game.wins(all);
+//! let first_two = game.coalition_of(&[0, 1]);
+//! let wins = game.wins(first_two);
 //! ```
 #![tactic(auto)]
 
@@ -14,6 +14,7 @@ mod game;
 pub mod laws;
 pub mod limits;
 mod memory;
+mod naming;
 mod plain;
 mod ranks;
 mod rule;

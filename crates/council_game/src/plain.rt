@@ -13,7 +13,9 @@ use std::alloc::Global;
 /// Memory where a growth was refused.
 pub fn plain_list(alloc: Global, game: &Game) -> Result<Vec<Coalition>, Memory>
     requires { length game.now.names ≤ 20 }
-    ensures { IfOk result (λ v. v.items ≡ minimal_coalitions (votes_of game.now)) }
+    ensures all { IfOk result (λ v. v.items ≡ minimal_coalitions (votes_of game.now)) }
+    ensures some { IfOk result (λ v. 1 ≤ length v.items) }
+    ensures few { IfOk result (λ v. length v.items ≤ 1048576) }
 {
     let members = game.members();
     let mut list = Vec::new(alloc);

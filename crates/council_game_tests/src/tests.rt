@@ -234,6 +234,24 @@ fn refuses_in_order(rt: HostRuntime) -> Result<(), Fail> {
 }
 
 #[test]
+fn coalitions_by_members(rt: HostRuntime) -> Result<(), Fail> {
+    let game = game(&rt, rt.alloc(), 5, &[1, 4, 2])?;
+    assert!(rt; game.members() == 3);
+    same(&rt, game.member_named("C"), Some(2), "C");
+    same(&rt, game.member_named("D"), None, "D");
+    let first_two = game.coalition_of(&[0, 1]);
+    for (found, wanted) in [
+        (first_two, 5),
+        (game.coalition_of(&[2, 2]), 2),
+        (first_two.with(3, 1), 7),
+        (first_two.with(3, 0), 5),
+    ] {
+        same(&rt, found.mask(), wanted, "mask");
+    }
+    Ok(())
+}
+
+#[test]
 fn faults_have_their_numbers(rt: HostRuntime) {
     for (fault, number) in [
         (GameFault::Read, 1),

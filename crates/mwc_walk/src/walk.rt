@@ -1,8 +1,8 @@
 //! A walk over the minimal winning coalitions of a slice.
-ghost use Rattle.std.specs.Prelude.{◌≡◌, ◌+◌, ◌-◌, ◌*◌, ◌^◌, ◌<◌, ◌≤◌, [], ◌∷◌, drop, length, MatchOption};
+ghost use Rattle.std.specs.Prelude.{◌≡◌, ◌+◌, ◌-◌, ◌*◌, ◌^◌, ◌<◌, ◌≤◌, [], ◌∷◌, ◌++◌, drop, length, MatchOption};
 ghost use Rattle.council_game.specs.Game.{votes_of};
 ghost use Rattle.mwc_walk.specs.Slices.{slice};
-ghost use Rattle.mwc_walk.specs.WalkView.{given_count};
+ghost use Rattle.mwc_walk.specs.WalkView.{given, given_count};
 
 use crate::cursor::Cursor;
 use council_game::{Coalition, Game};
@@ -39,17 +39,21 @@ impl<'a> Walk<'a> {
     ///
     /// There are at most 10 bits, and no more than members; `j` is below 2^bits. The check of each
     /// fixed place is a visit.
+    ///
+    /// Listing order goes by members, the heaviest first, and not by weight: what comes first has the heaviest
+    /// members, and may weigh less than what comes later.
     pub fn new(game: &'a Game, bits: u8, j: u16) -> Walk<'a>
         requires few { bits ≤ 10 }
         requires bits { bits ≤ length game.now.names }
         requires slice { j < 2 ^ bits }
-        ensures { result ≡ record {
+        ensures view { result ≡ record {
           votes = votes_of game.now;
           bits = bits;
           number = j;
           to_come = slice (votes_of game.now) bits j;
           visits = bits;
         } }
+        ensures none_given { given result ≡ [] }
     {
         Walk {
             game,
@@ -57,10 +61,15 @@ impl<'a> Walk<'a> {
         }
     }
 
-    /// The next coalition of the slice; none at its end, and ever after.
+    /// The next coalition of the slice; none at its end, and ever after. What was given so far and what is
+    /// still to come are the whole slice.
     pub fn next(&mut self) -> Option<Coalition>
         ensures next { MatchOption result ((self.old.to_come ≡ []) × (self.new.to_come ≡ []))
             (λ c. self.old.to_come ≡ c ∷ self.new.to_come) }
+        ensures given { MatchOption result (given self.new ≡ given self.old)
+            (λ c. given self.new ≡ given self.old ++ c ∷ []) }
+        ensures whole { given self.new ++ self.new.to_come
+            ≡ slice self.new.votes self.new.bits self.new.number }
         ensures votes { self.new.votes ≡ self.old.votes }
         ensures bits { self.new.bits ≡ self.old.bits }
         ensures number { self.new.number ≡ self.old.number }

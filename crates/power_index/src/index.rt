@@ -3,11 +3,12 @@ ghost use Rattle.council_game.specs.Game.{GameView};
 ghost use Rattle.power_index.specs.Fractions.{IsIndex, decimals, fraction_cmp, lowest_terms, pair_of};
 ghost use Rattle.power_index.specs.Indices.{deegan_packel, public_good};
 ghost use Rattle.power_index.specs.Tables.{AreCounts, table_total};
-ghost use Rattle.std.specs.Prelude.{◌≡◌, ℕ, List, ◌<◌, ◌≤◌, ◌^◌};
+ghost use Rattle.std.specs.Prelude.{◌≡◌, ℕ, List, ◌<◌, ◌≤◌, ◌^◌, Some};
 
 use crate::order::order;
 use crate::{Fraction, WideCounts};
 use std::cmp::Ordering;
+use std::fmt;
 use std::marker::Model;
 
 /// An index of a member: a fraction from 0 to 1 in lowest terms, whose bottom is 1 to 10^30. Two are
@@ -105,5 +106,17 @@ impl Index {
         ensures { result ≡ fraction_cmp self other }
     {
         order(self.fraction(), other.fraction())
+    }
+}
+
+/// An index prints as its decimals.
+impl fmt::Display for Index {
+    ghost output = { λ i. Some (decimals i) };
+
+    fn fmt<W: fmt::Write>(&self, f: &mut fmt::Formatter<W>) -> fmt::Result {
+        for digit in self.decimals() {
+            f.write_char(char::from(digit))?;
+        }
+        Ok(())
     }
 }

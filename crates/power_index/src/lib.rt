@@ -1,7 +1,7 @@
 //! Counts of coalitions, fractions in lowest terms, and the two power indices that rest on minimal
 //! winning coalitions: Deegan and Packel's (1978) and Holler and Packel's public good index (1983).
 //!
-//! Nothing here takes memory.
+//! Nothing here but `all_indices` takes memory.
 //!
 //! ```text
 //! let counts = Counts::of(&game, &list);
@@ -11,6 +11,7 @@
 //! ```
 #![tactic(auto)]
 
+mod both;
 mod counts;
 mod fraction;
 mod index;
@@ -20,6 +21,7 @@ mod order;
 mod tally;
 mod wide_counts;
 
+pub use both::{MemberIndices, all_indices};
 pub use counts::Counts;
 pub use fraction::{Fraction, lowest};
 pub use index::Index;

@@ -75,6 +75,21 @@ fn indices_of_bytes(rt: HostRuntime) -> Result<(), Fail> {
 }
 
 #[test]
+fn the_first_is_not_the_lightest(rt: HostRuntime) -> Result<(), Fail> {
+    let game = parse_game(rt.alloc(), b"[51; 40, 30, 11, 11]")?;
+    same(
+        &rt,
+        uses::lightest(&game),
+        Some(Coalition::of_mask(10)),
+        "lightest",
+    );
+    for (other, wanted) in [("3", Some(true)), ("1", Some(false)), ("5", None)] {
+        same(&rt, uses::win_together(&game, "1", other), wanted, other);
+    }
+    Ok(())
+}
+
+#[test]
 fn a_game_of_two_rules(rt: HostRuntime) -> Result<(), Fail> {
     let alloc = rt.alloc();
     let game = two_rules(&rt, alloc)?;

@@ -65,3 +65,17 @@ fn lists_plainly(rt: HostRuntime) -> Result<(), Fail> {
     let five = game(&rt, rt.alloc(), 51, &[35, 20, 15, 15, 15])?;
     tells_list(&rt, rt.alloc(), &five)
 }
+
+#[test]
+fn lists_members(rt: HostRuntime) -> Result<(), Fail> {
+    let three = game(&rt, rt.alloc(), 5, &[1, 4, 2])?;
+    rt.println("call")?;
+    match three.members_of(rt.alloc(), Coalition::of_mask(5)) {
+        Ok(members) => {
+            rt.println("worked")?;
+            same(&rt, members.as_slice(), &[1, 0], "members");
+            Ok(())
+        }
+        Err(_) => Ok(rt.println("out of memory")?),
+    }
+}

@@ -1,6 +1,7 @@
-//! The counts and the indices, which take no memory. `tests/refusals.sh` refuses all allocations
-//! between the line `call` and the line of the answer.
+//! The counts and the indices, which take no memory, and all indices in a row, which take some.
+//! `tests/refusals.sh` refuses allocations between the line `call` and the line of the answer.
 use super::*;
+use power_index::all_indices;
 use std::io::Print;
 
 #[test]
@@ -15,5 +16,22 @@ fn counts_without_memory(rt: HostRuntime) -> Result<(), Fail> {
     let half = lowest(6, 12);
     same(&rt, (half.top, half.bottom), (1, 2), "half");
     rt.println("worked")?;
+    Ok(())
+}
+
+#[test]
+fn gives_all_indices(rt: HostRuntime) -> Result<(), Fail> {
+    let game = game(&rt, rt.alloc(), 51, &FIVE)?;
+    let list = coalitions(&rt, rt.alloc(), &game, &MASKS)?;
+    assert!(rt; list.len() == 5);
+    let counts = Counts::of(&game, &list);
+    rt.println("call")?;
+    let Ok(all) = all_indices(rt.alloc(), counts.wide()) else {
+        return Ok(rt.println("out of memory")?);
+    };
+    rt.println("worked")?;
+    assert!(rt; all.len() == 5);
+    same(&rt, all[0].deegan_packel.decimals(), *b"0.300000", "first");
+    same(&rt, all[1].public_good.decimals(), *b"0.133333", "second");
     Ok(())
 }

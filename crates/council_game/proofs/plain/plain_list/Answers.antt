@@ -1,7 +1,8 @@
-use Rattle.std.proofs.Common.{◌∙◌, sym, arith}
+use Rattle.std.proofs.Common.{◌^◌, ◌<◌, ◌≤◌, ◌∙◌, ap, length, sym, arith}
+use Rattle.std.proofs.Math.Nat.{pow-le-pow_right}
 use Rattle.council_game.specs.Votes.{minimal_coalitions}
 use Rattle.council_game.specs.Game.{votes_of}
-use Rattle.council_game.proofs.Listing.{listed-start, listed-more, listed-less, listed-all}
+use Rattle.council_game.proofs.Listing.{listing-is, listed-start, listed-more, listed-less, listed-all}
 use Rattle.council_game.proofs.plain.plain_list.Goals as goal
 
 pub loop-mask-init : goal.loop-mask-init
@@ -21,5 +22,21 @@ loop-mask-preserved c = record {
   done = listed-less (votes_of c.args.game.now) c.loop-mask.list.items (minimal_coalitions (votes_of c.args.game.now)) c.loop-mask.mask c.of_mask-coalition.result c.loop-mask-test.true c.of_mask-coalition.ensures (sym c.is_minimal.ensures ∙ c.if-is_minimal.false) c.loop-mask.invariant.done;
 }
 
-pub returns : goal.returns
-returns c = listed-all (votes_of c.args.game.now) c.loop-mask.list.items (minimal_coalitions (votes_of c.args.game.now)) c.loop-mask.mask (omega arith) c.loop-mask.invariant.done
+pub returns-clause-all : goal.returns-clause-all
+returns-clause-all c = listed-all (votes_of c.args.game.now) c.loop-mask.list.items (minimal_coalitions (votes_of c.args.game.now))
+    c.loop-mask.mask (omega arith) c.loop-mask.invariant.done
+
+pub returns-clause-some : goal.returns-clause-some
+returns-clause-some c =
+    let all = listed-all (votes_of c.args.game.now) c.loop-mask.list.items (minimal_coalitions (votes_of c.args.game.now))
+    c.loop-mask.mask (omega arith) c.loop-mask.invariant.done in
+    let is = listing-is (votes_of c.args.game.now) c.members-members.ensures.votes in
+    omega (arith, ap length all, is.some)
+
+pub returns-clause-few : goal.returns-clause-few
+returns-clause-few c =
+    let all = listed-all (votes_of c.args.game.now) c.loop-mask.list.items (minimal_coalitions (votes_of c.args.game.now))
+    c.loop-mask.mask (omega arith) c.loop-mask.invariant.done in
+    let is = listing-is (votes_of c.args.game.now) c.members-members.ensures.votes in
+    let most : 2 ^ length c.args.game.now.names ≤ 2 ^ 20 = (let two : 0 < 2 = omega arith in pow-le-pow_right two c.requires) in
+    omega (arith, ap length all, is.few, most)

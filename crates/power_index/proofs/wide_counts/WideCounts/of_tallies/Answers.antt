@@ -1,4 +1,4 @@
-use Rattle.std.proofs.Common.{rules, arith}
+use Rattle.std.proofs.Common.{rules}
 use Rattle.power_index.proofs.Sound.{tallies-are_counts}
 use Rattle.power_index.proofs.wide_counts.WideCounts.of_tallies.Goals as goal
 

@@ -1,0 +1,13 @@
+use Rattle.std.proofs.Common.{◌≡◌, ℕ, List, length, map}
+use Rattle.std.specs.List.{range_with_len}
+use Rattle.council_game.specs.Game.{GameView}
+use Rattle.power_index.specs.Both.{indices_of_member}
+use Rattle.power_index.specs.Tables.{AreCounts}
+use Rattle.power_index.proofs.both.all_indices.Given as goal
+
+abbrev pub invariant-loop-member : goal.invariant-loop-member
+invariant-loop-member l = record {
+  count : length l.all.items ≡ l.member;
+  indices : (g : GameView) (list : List ℕ) → AreCounts g list l.counts
+      → l.all.items ≡ map (indices_of_member g list) (range_with_len 0 l.member);
+}

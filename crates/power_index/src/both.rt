@@ -1,0 +1,40 @@
+//! The indices of all members.
+ghost use Rattle.council_game.specs.Game.{GameView};
+ghost use Rattle.power_index.specs.Counting.{members};
+ghost use Rattle.power_index.specs.Both.{indices_of_member};
+ghost use Rattle.power_index.specs.Tables.{AreCounts, table_total};
+ghost use Rattle.std.specs.Prelude.{◌≡◌, ℕ, List, ◌≤◌, IfOk, length, map};
+
+use crate::{Index, WideCounts};
+use council_game::Memory;
+use std::alloc::Global;
+
+/// Both indices of a member. Each can be printed, as a digit, a point and six digits.
+#[derive(Clone, Copy, Debug, PartialEq, Eq)]
+pub struct MemberIndices {
+    /// The index of Deegan and Packel (1978).
+    pub deegan_packel: Index,
+    /// The public good index (Holler 1982; Holler and Packel 1983).
+    pub public_good: Index,
+}
+
+/// Both indices of each member, in the order of the file, over each list that has these counts.
+///
+/// # Errors
+///
+/// `Memory` where a growth was refused.
+pub fn all_indices(alloc: Global, counts: &WideCounts) -> Result<Vec<MemberIndices>, Memory>
+    requires { 1 ≤ table_total counts.now }
+    ensures count { IfOk result (λ v. length v.items ≡ counts.now.members) }
+    ensures indices { IfOk result (λ v. (g : GameView) (list : List ℕ) → AreCounts g list counts.now →
+        v.items ≡ map (indices_of_member g list) (members g)) }
+{
+    let mut all = Vec::new(alloc);
+    for member in 0..counts.members() {
+        all.push(MemberIndices {
+            deegan_packel: Index::deegan_packel(counts, member),
+            public_good: Index::public_good(counts, member),
+        })?;
+    }
+    Ok(all)
+}

@@ -1,0 +1,32 @@
+//! The best of a walk.
+ghost use Rattle.council_game.specs.Game.{votes_of};
+ghost use Rattle.council_game.specs.Votes.{minimal_coalitions, rule_at, weight};
+ghost use Rattle.std.specs.Prelude.{◌≤◌, All, Contains, IfSome, IsSome};
+
+use council_game::{Coalition, Game};
+use mwc_walk::Walk;
+use mwc_walk::laws::one_slice_is_the_whole;
+use power_index::laws::minimal_coalitions_can_be_counted;
+
+/// A minimal winning coalition that weighs least under the first rule: the best of a walk, which keeps one
+/// coalition and compares. The first in listing order need not be it.
+pub fn lightest(game: &Game) -> Option<Coalition>
+    ensures some { IsSome result }
+    ensures listed { IfSome result (Contains (minimal_coalitions (votes_of game.now))) }
+    ensures least { IfSome result (λ best. All (λ c.
+        weight (rule_at (votes_of game.now).rules 0).weights best
+        ≤ weight (rule_at (votes_of game.now).rules 0).weights c)
+        (minimal_coalitions (votes_of game.now))) }
+{
+    let _members = game.members();
+    one_slice_is_the_whole();
+    minimal_coalitions_can_be_counted();
+    let mut walk = Walk::new(game, 0, 0);
+    let mut best = walk.next()?;
+    while let Some(coalition) = walk.next() {
+        if game.weight_of(coalition) < game.weight_of(best) {
+            best = coalition;
+        }
+    }
+    Some(best)
+}

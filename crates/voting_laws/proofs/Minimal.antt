@@ -1,0 +1,68 @@
+-- A winning coalition has a minimal winning subset.
+use Rattle.std.proofs.Common.{◌≡◌, ◌≢◌, ℕ, zero, suc, ◌^◌, ◌<◌, ◌≤◌, Bool, true, not, [], ◌∷◌, Contains, sym, ap, ◌∙◌, arith, inl, inr}
+use Rattle.std.specs.List.{filter, list_all}
+use Rattle.std.proofs.lemmas.Bool.{and_from, both_ways, cases_Bool, cases_eq, cases_lt, cond_both, not-false}
+use Rattle.std.proofs.lemmas.List.Elements.{All-contains, Contains-append_right}
+use Rattle.council_game.specs.Votes.{Votes, IsVotes, has, without, wins, places_of, minimal, down, minimal_coalitions}
+use Rattle.council_game.proofs.Digits.{has-none, has-kept, without-less}
+use Rattle.council_game.proofs.Places.{spare-place}
+use Rattle.voting_laws.specs.Winning.{IsSubset, HasMinimalSubsets, HasVetoersInAll}
+
+-- a coalition without a place is a subset
+without-inside : (n q c : ℕ) → q < n → has n q c ≡ true → IsSubset n (without n q c) c
+without-inside n q c lq in' p lp inside = elim (cases_eq p q) [
+  | inl same ↦ ap (λ (k : ℕ). has n k c) same ∙ in'
+  | inr other ↦ sym (has-kept n p q c lp lq other in') ∙ inside
+]
+
+not-empty : (n q c : ℕ) → has n q c ≡ true → 0 < c
+not-empty n q c inside = elim (cases_lt 0 c) [
+  | inl more ↦ more
+  | inr none ↦ let c0 : c ≡ 0 = omega arith in absurd (both_ways _ (has-none n q) (ap (has n q) (sym c0) ∙ inside))
+]
+
+minimal-inside : (v : Votes) (fuel c : ℕ) → c < fuel → wins v.rules c ≡ true
+    → (m : ℕ) × (m ≤ c) × (minimal v m ≡ true) × IsSubset v.members m c
+unfolding minimal
+minimal-inside v zero c below won = absurd (omega arith)
+minimal-inside v (suc fuel) c below won =
+    elim (cases_Bool (list_all (λ p. not (wins v.rules (without v.members p c))) (places_of v.members c))) [
+      | inl needed ↦ (c, omega arith, and_from _ _ won needed, λ p lt inside. inside)
+      | inr not_needed ↦
+          let spare = spare-place (λ p. has v.members p c) (λ p. not (wins v.rules (without v.members p c))) v.members not_needed in
+          let less : without v.members spare.0 c < c = without-less v.members spare.0 c (not-empty v.members spare.0 c spare.2) in
+          let deeper = minimal-inside v fuel (without v.members spare.0 c) (omega arith) (not-false _ spare.3) in (
+            deeper.0,
+            omega (arith, deeper.1),
+            deeper.2,
+            λ p lt inside. without-inside v.members spare.0 c spare.1 spare.2 p lt
+                (deeper.3 p lt inside),
+          )
+    ]
+
+-- what passes a test is among those of a count down that pass it
+down-contains : (p : ℕ → Bool) (n m : ℕ) → m < n → p m ≡ true → Contains (filter p (down n)) m
+unfolding down
+down-contains p zero m lt h = absurd (omega arith)
+down-contains p (suc n) m lt h =
+    cond_both (p n) (n ∷ filter p (down n)) (filter p (down n)) (λ l. Contains l m)
+    (λ is. elim (cases_eq m n) [
+      | inl same ↦ (0, omega arith, sym same)
+      | inr other ↦ Contains-append_right (n ∷ []) (filter p (down n)) m (down-contains p n m (omega (arith, lt, other)) h)
+    ])
+    (λ isnt. let other : m ≢ n = λ same. both_ways _ isnt (ap p (sym same) ∙ h) in down-contains p n m (omega (arith, lt, other)) h)
+
+pub minimal_subsets : (v : Votes) → IsVotes v → HasMinimalSubsets v
+unfolding minimal_coalitions
+minimal_subsets v game c below won =
+    let found = minimal-inside v (suc c) c (omega arith) won in
+    record {
+      subset = found.0;
+      listed = down-contains (minimal v) (2 ^ v.members) found.0 (omega (arith, below, found.1)) found.2;
+      inside = found.3;
+    }
+
+pub vetoers_in_all : (v : Votes) → IsVotes v → HasVetoersInAll v
+vetoers_in_all v game p lt all c below won =
+    let found = minimal_subsets v game c below won in
+    found.inside p lt (All-contains (λ m. has v.members p m ≡ true) (minimal_coalitions v) found.subset all found.listed)

@@ -1,0 +1,23 @@
+-- What the laws say of winning coalitions.
+use Rattle.std.specs.Prelude.{ℕ, ◌^◌, ◌≡◌, ◌<◌, true, All, Contains}
+use Rattle.council_game.specs.Votes.{Votes, has, wins, minimal_coalitions}
+
+-- in a game of n members, each place of a is in c
+abbrev pub IsSubset : ℕ → ℕ → ℕ → Type 0
+IsSubset n a c = (p : ℕ) → p < n → has n p a ≡ true → has n p c ≡ true
+
+-- some minimal winning coalition is a subset of c
+pub record HasMinimalSubset (v : Votes) (c : ℕ) : Type 0 where
+  pub subset : ℕ
+  pub listed : Contains (minimal_coalitions v) subset
+  pub inside : IsSubset v.members subset c
+
+-- each winning coalition has such a subset
+abbrev pub HasMinimalSubsets : Votes → Type 0
+HasMinimalSubsets v = (c : ℕ) → c < 2 ^ v.members → wins v.rules c ≡ true → HasMinimalSubset v c
+
+-- a place that is in all minimal winning coalitions is in each winning coalition
+abbrev pub HasVetoersInAll : Votes → Type 0
+HasVetoersInAll v =
+    (p : ℕ) → p < v.members → All (λ m. has v.members p m ≡ true) (minimal_coalitions v)
+    → (c : ℕ) → c < 2 ^ v.members → wins v.rules c ≡ true → has v.members p c ≡ true
