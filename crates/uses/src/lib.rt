@@ -7,6 +7,7 @@ mod indices;
 mod listed;
 mod reports;
 mod rings;
+mod slices;
 mod tallied;
 mod walked;
 
@@ -15,5 +16,6 @@ pub use indices::{both_indices, first_of_bytes, indices_add_up};
 pub use listed::{coalitions_with, is_dummy, listed_twice};
 pub use reports::report_into_memory;
 pub use rings::through_a_ring;
+pub use slices::{Passes, words_of_slice};
 pub use tallied::tallied_index;
 pub use walked::count_by_walk;
