@@ -17,10 +17,12 @@ lacks_more old mid i n l a (inl e) = let a1 = a.got_room in let a2 = a.got_more 
 lacks_more old mid i n l a (inr (inl e)) = let a3 = a.ends_room in let a4 = a.ends_more in inr (inl (omega arith))
 lacks_more old mid i n l a (inr (inr e)) = let a2 = a.got_more in inr (inr (omega arith))
 
-loses_by : (old mid new : Draft) (i n : ℕ) (b : Bool) → mid.lost ≡ b → i < n → Grows old i mid → LosesForWantOfRoom old n mid → LosesForWantOfRoom mid 1 new → LosesForWantOfRoom old n new
+loses_by : (old mid new : Draft) (i n : ℕ) (b : Bool) → mid.lost ≡ b → i < n → Grows old i mid →
+    LosesForWantOfRoom old n mid → LosesForWantOfRoom mid 1 new → LosesForWantOfRoom old n new
 loses_by old mid new i n true e l a f s = λ x z. f x e
 loses_by old mid new i n false e l a f s = λ x z. lacks_more old mid i n l a (s e z)
 
 -- one more word is lost only where there was no room for all
-pub loses_more : (old mid new : Draft) (i n : ℕ) → i < n → Grows old i mid → LosesForWantOfRoom old n mid → LosesForWantOfRoom mid 1 new → LosesForWantOfRoom old n new
+pub loses_more : (old mid new : Draft) (i n : ℕ) → i < n → Grows old i mid →
+    LosesForWantOfRoom old n mid → LosesForWantOfRoom mid 1 new → LosesForWantOfRoom old n new
 loses_more old mid new i n l a f s = loses_by old mid new i n mid.lost refl l a f s

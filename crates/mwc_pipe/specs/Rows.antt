@@ -18,7 +18,8 @@ module _ {T : Type 0} where
   abbrev pub take_refused : Bool → List (Event T)
   take_refused short = if short then (Take, Empty) ∷ [] else []
 
-  -- what a call that takes these items stands for: as many takes answered by an item, and where it stops short, one more that is answered Empty
+  -- what a call that takes these items stands for: as many takes answered by an item, and where it stops short, one more that is answered
+  -- Empty
   abbrev pub takes_of : List T → Bool → List (Event T)
   takes_of items short = map (λ x. (Take, Item x)) items ++ take_refused short
 

@@ -16,7 +16,8 @@ loop-word-preserved c =
     take_more row at word c.loop-word-test.true ∙ ap (λ (w : Word). take at row ++ w ∷ []) (sym c.word-item.is) in
     record {
       kept = λ words keeps.
-          let whole : (words ++ take at row) ++ word ∷ [] ≡ words ++ take (at + 1) row = append_assoc words (take at row) (word ∷ []) ∙ ap (λ (w : List Word). words ++ w) (sym more) in
+          let whole : (words ++ take at row) ++ word ∷ [] ≡ words ++ take (at + 1) row =
+          append_assoc words (take at row) (word ∷ []) ∙ ap (λ (w : List Word). words ++ w) (sym more) in
           subst (λ (w : List Word). IsDraftOf w c.hear.new.self) whole (h.keeps (words ++ take at row) (i.kept words keeps));
       lost = λ z. i.lost (h.lost z);
       cut = λ z. i.cut (h.cut z);

@@ -1,4 +1,4 @@
-use Rattle.std.proofs.Common.{◌≡◌, ◌+◌, ◌-◌, List, length, ap, arith, sym, ◌∙◌, length-append}
+use Rattle.std.proofs.Common.{ℕ, ◌≡◌, ◌+◌, ◌-◌, ◌<◌, List, length, ap, arith, sym, ◌∙◌, length-append}
 use Rattle.rtrb.specs.Ring.{sent, known_free, producer_capacity}
 use Rattle.mwc_pipe.specs.declared.word.Word.{Word}
 use Rattle.mwc_pipe.specs.RingViews.{RingInView}
@@ -19,4 +19,6 @@ returns-clause-replies c = λ past seen.
     let known = c.push_partial_slice.ensures.known in
     let most = c.push_partial_slice.ensures.most in
     let enough = c.self.invariant in
-    puts_answered c.args.self.now.capacity (length (sent new) + known_free new - producer_capacity new) c.args.self.now.accepted past row (length first) seen (omega arith) (omega arith) (λ z. omega (arith, most (omega arith)))
+    let gone : ℕ = length (sent new) + known_free new - producer_capacity new in
+    let full : length first < length row → length c.args.self.now.accepted + length first ≡ gone + c.args.self.now.capacity = λ z. omega (arith, most (omega arith)) in
+    puts_answered c.args.self.now.capacity gone c.args.self.now.accepted past row (length first) seen (omega arith) (omega arith) full

@@ -17,5 +17,6 @@ returns-clause-replies c = λ capacity past seen.
     let old : received c.self.inside.consumer ≡ taken = ap (λ (v : RingOutView). v.taken) c.self.view_is in
     let more : received new ≡ taken ++ items = c.pop_partial_slice.ensures.received.1 ∙ ap (λ (w : List Word). w ++ items) old in
     let has_seen = subst (λ (w : List Word). IsSeenByOut (w ++ known_items new) taken past) more seen in
-    let short : nat_lt count (length c.args.into.now) ≡ true → known_items new ≡ [] = λ z. nil_from_length (known_items new) (c.pop_partial_slice.ensures.most (grind (arith, nat_tests))) in
+    let short : nat_lt count (length c.args.into.now) ≡ true → known_items new ≡ [] =
+    λ z. nil_from_length (known_items new) (c.pop_partial_slice.ensures.most (grind (arith, nat_tests))) in
     takes_answered capacity taken items (known_items new) past (nat_lt count (length c.args.into.now)) has_seen short
