@@ -160,7 +160,6 @@ takes_none mwc_walk walks_under_two_rules_without_memory
 takes_none mwc_walk walks_under_four_rules_without_memory
 takes_memory mwc_pipe puts_into_a_pipe
 takes_memory mwc_pipe puts_into_a_batch
-takes_memory mwc_pipe puts_a_row_into_a_batch
 takes_memory mwc_pipe replays
 takes_memory mwc_pipe makes_a_ring
 takes_none mwc_pipe moves_words_without_memory

@@ -51,7 +51,7 @@ if [ ! -x "$program" ]; then
 else
     # the longest first, as many at once as there are processors
     scripts="refusals hostile sizes tally limits output options using launcher examples faults mistakes words workers prefixes pages"
-    programs="random_games reading memory_source"
+    programs="random_games reading memory_source gate_source"
     command -v python3 >/dev/null || programs=
     # what one run may take is measured once, before anything else runs
     SECONDS_EACH=$(bash -c '. tests/common.sh; echo "$seconds"' common.sh "$program")
@@ -70,7 +70,7 @@ else
             fi
             ;;
         random_games) keep $name python3 tests/random_games.py "$program" 150 1 & ;;
-        reading | memory_source) keep $name python3 tests/$name.py & ;;
+        reading | memory_source | gate_source) keep $name python3 tests/$name.py & ;;
         *) keep "$name" bash "tests/$name.sh" "$program" & ;;
         esac
     done
@@ -81,7 +81,7 @@ else
         count "$name"
     done
     if [ -z "$programs" ]; then
-        for test in memory_source reading noise random_games; do
+        for test in memory_source gate_source reading noise random_games; do
             echo "skipped $test: the command python3 was not found"
             skipped=$((skipped + 1))
         done

@@ -6,6 +6,7 @@ ghost use Rattle.mwc_parts.specs.Wording.{coalition_count};
 ghost use Rattle.mwc_parts.specs.Inner.Wording.{is_done};
 ghost use Rattle.mwc_parts.specs.Inner.Dealing.{IsFresh};
 ghost use Rattle.mwc_parts.specs.Inner.Fault.{IsEarly, fault_in};
+ghost use Rattle.mwc_parts.specs.Room.{LosesForWantOfRoom};
 ghost use Rattle.mwc_parts.specs.Settled.{IsDraftOf, HasAllWords};
 ghost use Rattle.mwc_gather.specs.Slicings.{slicing};
 ghost use Rattle.mwc_gather.specs.Sending.{HasWorked};
@@ -92,6 +93,7 @@ impl Desk {
         ensures room { IsTrue result → (vec_len self.new.given < vec_capacity self.new.given)
             × (seat self.new ≡ seat self.old) }
         ensures lost { IsFalse result → seat self.new ≡ record (seat self.old) { lost = true } }
+        ensures full { IsFalse result → vec_capacity self.old.given ≤ vec_len self.old.given }
         ensures same { (self.new.words.taken ≡ self.old.words.taken)
             × (self.new.ended ≡ self.old.ended) }
     {
@@ -141,6 +143,7 @@ impl Desk {
         ensures taken { (result ≤ length row.new)
             × (self.new.words.taken ≡ self.old.words.taken ++ take result row.new) }
         ensures lost { self.new.draft.lost ≡ false → self.old.draft.lost ≡ false }
+        ensures full { LosesForWantOfRoom self.old.draft result self.new.draft }
         ensures cut { self.new.draft.cut ≡ false → self.old.draft.cut ≡ false }
     {
         let count = self.words.take_some(row);

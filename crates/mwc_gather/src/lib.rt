@@ -15,6 +15,7 @@ mod guarded;
 mod job;
 mod order;
 mod promise;
+mod putting;
 mod row;
 mod send;
 mod sent;

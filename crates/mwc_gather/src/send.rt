@@ -6,16 +6,17 @@ ghost use Rattle.mwc_gather.specs.Sending.{Sends, BreaksOnlyIfRefused};
 ghost use Rattle.mwc_gather.specs.Inner.Sending.{SendsFirst, SendsSome};
 
 use crate::guarded::{Gate, Guarded};
+use crate::putting::{PutsRows, WordByWord};
 use crate::row::Row;
 use crate::sent::Sent;
 use crate::waiting::{Bell, BellPair, Patience};
-use mwc_pipe::{PipeIn, Refused, Word};
+use mwc_pipe::{PipeIn, Word};
 use mwc_walk::Walk;
 use std::sync::Wait;
 
 /// Puts the words in, and waits while the pipe is full; false where the pipe refuses one for good.
 /// It rings the other bell for what it has put in, and sleeps at its own.
-pub(crate) fn send<R: Wait, P: PipeIn<Word>>(
+pub(crate) fn send<W: PutsRows<P>, R: Wait, P: PipeIn<Word>>(
     rt: &R,
     words: &[Word],
     out: &mut P,
@@ -30,23 +31,17 @@ pub(crate) fn send<R: Wait, P: PipeIn<Word>>(
     let mut patience = Patience::new();
     let mut rest = words;
     for _ in rt.forever() {
-        let stopped = match out.put_some(rest) {
-            Ok(()) => {
-                patience.renew(pair.own);
-                pair.other.ring();
-                return true;
-            }
-            Err(stopped) => stopped,
-        };
-        match stopped.why {
-            Refused::Closed(_) => return false,
-            Refused::Memory(_) => return false,
-            Refused::Full(_) => {}
+        let came = W::put_row(out, rest);
+        if came.refused {
+            return false;
         }
-        rest = &rest[stopped.accepted..];
-        if stopped.accepted > 0 {
+        rest = &rest[came.accepted..];
+        if came.accepted > 0 {
             patience.renew(pair.own);
             pair.other.ring();
+        }
+        if rest.is_empty() {
+            return true;
         }
         patience.wait(rt, pair.own);
     }
@@ -55,7 +50,7 @@ pub(crate) fn send<R: Wait, P: PipeIn<Word>>(
 
 /// Adds the word to the row, which is sent first where it is full; false where the pipe refuses a
 /// word for good.
-fn add<R: Wait, P: PipeIn<Word>>(
+fn add<W: PutsRows<P>, R: Wait, P: PipeIn<Word>>(
     rt: &R,
     row: &mut Row,
     word: Word,
@@ -72,7 +67,7 @@ fn add<R: Wait, P: PipeIn<Word>>(
         row.push(word);
         return true;
     }
-    if !send(rt, row.words(), out, pair) {
+    if !send::<W, _, _>(rt, row.words(), out, pair) {
         return false;
     }
     row.clear();
@@ -110,13 +105,36 @@ pub fn send_slice<R: Wait, P: PipeIn<Word>, G: Gate>(
         own: &own,
         other: &other,
     };
-    let walk = Walk::new(guarded.pass(worker, slice), bits, slice);
-    send_walk(rt, walk, slice, left, out, pair)
+    send_behind::<WordByWord, _, _, _>(rt, guarded, bits, slice, worker, left, out, pair)
 }
 
-/// Sends the words of a slice whose walk has it all still to give, as `send_slice`. It rings the other
-/// bell for what it has put in, and sleeps at its own.
-pub(crate) fn send_walk<R: Wait, P: PipeIn<Word>>(
+/// As `send_slice`, by rows. Only here a gate is passed: whatever sends a slice comes by. It rings the
+/// other bell for what it has put in, and sleeps at its own.
+pub(crate) fn send_behind<W: PutsRows<P>, R: Wait, P: PipeIn<Word>, G: Gate>(
+    rt: &R,
+    guarded: &Guarded<'_, G>,
+    bits: u8,
+    slice: u16,
+    worker: u8,
+    left: u32,
+    out: &mut P,
+    pair: BellPair<'_>,
+) -> Sent
+    requires bits { (bits ≤ 10) × (bits ≤ length guarded.now.names) }
+    requires slice { slice < 2 ^ bits }
+    requires left { (0 < left) × (left ≤ 4000001) }
+    requires gate { G.takes worker slice }
+    ensures identity { P.identity out.new ≡ P.identity out.old }
+    ensures sends { Sends (slicing guarded.now bits) slice left (P.accepted out.old)
+        (P.accepted out.new) (P.broken out.new) result }
+    ensures unbroken { BreaksOnlyIfRefused (P.broken out.old) (P.broken out.new) result }
+{
+    let walk = Walk::new(guarded.pass(worker, slice), bits, slice);
+    send_walk::<W, _, _>(rt, walk, slice, left, out, pair)
+}
+
+/// Sends the words of a slice whose walk has it all still to give, as `send_behind`.
+fn send_walk<W: PutsRows<P>, R: Wait, P: PipeIn<Word>>(
     rt: &R,
     walk: Walk<'_>,
     slice: u16,
@@ -135,21 +153,21 @@ pub(crate) fn send_walk<R: Wait, P: PipeIn<Word>>(
     row.push(Word::Open(slice));
     let mut left = left;
     while let Some(coalition) = walk.next() {
-        if !add(rt, &mut row, Word::One(coalition), out, pair) {
+        if !add::<W, _, _>(rt, &mut row, Word::One(coalition), out, pair) {
             return Sent::Refused;
         }
         left -= 1;
         if left == 0 {
-            if !send(rt, row.words(), out, pair) {
+            if !send::<W, _, _>(rt, row.words(), out, pair) {
                 return Sent::Refused;
             }
             return Sent::Cut;
         }
     }
-    if !add(rt, &mut row, Word::Done(slice), out, pair) {
+    if !add::<W, _, _>(rt, &mut row, Word::Done(slice), out, pair) {
         return Sent::Refused;
     }
-    if !send(rt, row.words(), out, pair) {
+    if !send::<W, _, _>(rt, row.words(), out, pair) {
         return Sent::Refused;
     }
     Sent::Whole { left }

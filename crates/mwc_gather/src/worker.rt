@@ -7,11 +7,12 @@ ghost use Rattle.mwc_pipe.specs.declared.word.Word.TheVariants.{End};
 
 use crate::guarded::{Gate, Guarded};
 use crate::job::Job;
-use crate::send::{send, send_walk};
+use crate::putting::RowByRow;
+use crate::send::{send, send_behind};
 use crate::sent::Sent;
 use crate::waiting::{Bell, BellPair, Patience};
 use mwc_pipe::{Closed, RingIn, RingOut, Unfinished, Word};
-use mwc_walk::{Walk, slice_count};
+use mwc_walk::slice_count;
 use std::sync::Wait;
 
 /// Waits for the next slice; none where the work ends.
@@ -41,7 +42,7 @@ fn finish<R: Wait>(rt: &R, out: RingIn, cut: bool, pair: BellPair<'_>) -> Result
 {
     let mut out = out;
     let end = [Word::End { cut }];
-    if !send(rt, end.as_slice(), &mut out, pair) {
+    if !send::<RowByRow, _, _>(rt, end.as_slice(), &mut out, pair) {
         unreachable!()
     }
     out.close()
@@ -106,8 +107,17 @@ pub(crate) fn work_beside<R: Wait, G: Gate>(
         let Some(slice) = next_task(rt, slices, &mut tasks, pair) else {
             return (finish(rt, out, false, pair), tasks);
         };
-        let walk = Walk::new(job.guarded.pass(worker, slice), job.bits, slice);
-        match send_walk(rt, walk, slice, left, &mut out, pair) {
+        let sent = send_behind::<RowByRow, _, _, _>(
+            rt,
+            &job.guarded,
+            job.bits,
+            slice,
+            worker,
+            left,
+            &mut out,
+            pair,
+        );
+        match sent {
             Sent::Whole { left: rest } => left = rest,
             Sent::Cut => return (finish(rt, out, true, pair), tasks),
             Sent::Refused => unreachable!(),

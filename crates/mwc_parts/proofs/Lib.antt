@@ -8,3 +8,4 @@ pub mod Tasks
 pub mod Settles
 pub mod Readings
 pub mod Drafts
+mod Rooms

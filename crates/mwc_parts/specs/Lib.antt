@@ -6,4 +6,5 @@ pub mod Pieces
 pub mod Parts
 pub mod Fault
 pub mod Settled
+pub mod Room
 pub mod Inner

@@ -1,8 +1,9 @@
 //! A part as its words come.
-ghost use Rattle.std.specs.Prelude.{◌≡◌, [], ◌∷◌, ◌++◌, List, false, length, IfOk, OnOk, true};
+ghost use Rattle.std.specs.Prelude.{◌≡◌, [], ◌∷◌, ◌++◌, List, false, length, IfOk, OnErr, OnOk, true};
 ghost use Rattle.mwc_pipe.specs.declared.word.Word.{Word};
 ghost use Rattle.mwc_parts.specs.Pieces.{ones, done_counts};
 ghost use Rattle.mwc_parts.specs.Settled.{is_cut, IsDraftOf};
+ghost use Rattle.mwc_parts.specs.Room.{Grows, LacksRoom, LosesForWantOfRoom};
 
 use council_game::{Coalition, Memory};
 use mwc_pipe::Word;
@@ -17,7 +18,8 @@ pub struct Draft {
     pub got: Vec<Coalition>,
     /// Whether a word told of a cut.
     pub cut: bool,
-    /// Whether something was lost for want of memory. Nothing is kept from then on.
+    /// Whether something was lost for want of memory, which is only where there was no room for it. Nothing
+    /// is kept from then on.
     pub lost: bool,
 }
 
@@ -46,6 +48,8 @@ impl Draft {
             IsDraftOf (words ++ word ∷ []) self.new }
         ensures lost { self.new.lost ≡ false → self.old.lost ≡ false }
         ensures cut { self.new.cut ≡ false → self.old.cut ≡ false }
+        ensures grows { Grows self.old 1 self.new }
+        ensures full { LosesForWantOfRoom self.old 1 self.new }
     {
         // a copy of its own for each of the two calls: the prover follows no word that two calls take
         let again = word;
@@ -64,6 +68,7 @@ impl Draft {
             IsDraftOf (words ++ row.now) self.new }
         ensures lost { self.new.lost ≡ false → self.old.lost ≡ false }
         ensures cut { self.new.cut ≡ false → self.old.cut ≡ false }
+        ensures full { LosesForWantOfRoom self.old (length row.now) self.new }
     {
         if self.got.reserve(row.len()).is_err() {
             self.lose();
@@ -78,6 +83,7 @@ impl Draft {
         ensures keeps { (words : List Word) → IsDraftOf words self.old → IsDraftOf words self.new }
         ensures lost { self.new.lost ≡ true }
         ensures cut { self.new.cut ≡ self.old.cut }
+        ensures same { Grows self.old 0 self.new }
     {
         self.lost = true;
     }
@@ -89,6 +95,8 @@ impl Draft {
         ensures ends { OnOk result (self.new.ends.items ≡ self.old.ends.items
             ++ done_counts (length self.old.got.items) (word ∷ [])) }
         ensures same { (self.new.cut ≡ self.old.cut) × (self.new.lost ≡ self.old.lost) }
+        ensures grows { Grows self.old 1 self.new }
+        ensures full { OnErr result (LacksRoom self.old 1) }
     {
         match word {
             Word::One(coalition) => self.got.push(coalition)?,

@@ -1,6 +1,5 @@
 //! A pipe of words that is only filled.
-ghost use Rattle.std.specs.Prelude.{◌≡◌, ◌≢◌, ◌≤◌, ◌^◌, ◌↔◌, ◌++◌, ◌∷◌, [], ℕ, length, take, true, false, OnOk, IfErr, IfSome};
-ghost use Rattle.mwc_pipe.specs.Rows.{StopsAt};
+ghost use Rattle.std.specs.Prelude.{◌≡◌, ◌≢◌, ◌≤◌, ◌^◌, ◌↔◌, ◌++◌, ◌∷◌, [], ℕ, length, true, false, OnOk, IfErr, IfSome};
 ghost use Rattle.mwc_pipe.specs.Refusal.{handed_back, broken_after};
 ghost use Rattle.mwc_pipe.specs.Calls.{reply_of_put};
 ghost use Rattle.mwc_pipe.specs.PipeView.{IsStep};
@@ -10,7 +9,6 @@ ghost use Rattle.mwc_pipe.specs.declared.step.Step.TheVariants.{Put};
 use crate::pipe::Pipe;
 use crate::pipe_in::PipeIn;
 use crate::refused::Refused;
-use crate::stopped::Stopped;
 use crate::word::Word;
 use std::alloc::Global;
 use std::marker::Model;
@@ -56,34 +54,6 @@ impl Batch {
         pipe.close();
         pipe
     }
-
-    /// Puts a word in, behind all others.
-    fn put_word(&mut self, item: Word) -> Result<(), Refused<Word>>
-        ensures identity { self.new.capacity ≡ self.old.capacity }
-        ensures ok { OnOk result ((self.new.accepted ≡ self.old.accepted ++ item ∷ [])
-            × (self.new.broken ≡ self.old.broken)) }
-        ensures refused { IfErr result (λ e. (handed_back e ≡ item)
-            × (self.new.accepted ≡ self.old.accepted)
-            × (self.new.broken ≡ broken_after e self.old.broken)) }
-        ensures open { result ≢ Err (Refused.Closed item) }
-        ensures full { (result ≡ Err (Refused.Full item))
-            ↔ (length self.old.accepted ≡ self.old.capacity) }
-        ensures step { IfSome (reply_of_put result)
-            (λ reply. IsStep (still_open self.old) (Put item) reply (still_open self.new)) }
-    {
-        match self.pipe.put(item) {
-            Ok(()) => Ok(()),
-            Err(Refused::Full(word)) => Err(Refused::Full(word)),
-            Err(Refused::Closed(word)) => {
-                self.broken = true;
-                Err(Refused::Closed(word))
-            }
-            Err(Refused::Memory(word)) => {
-                self.broken = true;
-                Err(Refused::Memory(word))
-            }
-        }
-    }
 }
 
 impl PipeIn<Word> for Batch {
@@ -114,30 +84,17 @@ impl PipeIn<Word> for Batch {
         ensures step { IfSome (reply_of_put result)
             (λ reply. IsStep (still_open self.old) (Put item) reply (still_open self.new)) }
     {
-        self.put_word(item)
-    }
-
-    /// Puts the words of a row in, one behind the other.
-    ///
-    /// # Errors
-    ///
-    /// As `put`, at the first word that is refused.
-    fn put_some(&mut self, items: &[Word]) -> Result<(), Stopped<Word>>
-        ensures identity { self.new.capacity ≡ self.old.capacity }
-        ensures all { OnOk result ((self.new.accepted ≡ self.old.accepted ++ items.now)
-            × (self.new.broken ≡ self.old.broken)) }
-        ensures stopped { IfErr result (λ e. StopsAt items.now e
-            × (self.new.accepted ≡ self.old.accepted ++ take e.accepted items.now)
-            × (self.new.broken ≡ broken_after e.why self.old.broken)) }
-        ensures open { IfErr result (λ e. e.why ≢ Refused.Closed (handed_back e.why)) }
-        ensures full { IfErr result (λ e. (e.why ≡ Refused.Full (handed_back e.why)) ↔
-            (length self.new.accepted ≡ self.old.capacity)) }
-    {
-        for accepted in 0..items.len() {
-            if let Err(why) = self.put_word(items[accepted]) {
-                return Err(Stopped { accepted, why });
+        match self.pipe.put(item) {
+            Ok(()) => Ok(()),
+            Err(Refused::Full(word)) => Err(Refused::Full(word)),
+            Err(Refused::Closed(word)) => {
+                self.broken = true;
+                Err(Refused::Closed(word))
+            }
+            Err(Refused::Memory(word)) => {
+                self.broken = true;
+                Err(Refused::Memory(word))
             }
         }
-        Ok(())
     }
 }

@@ -1,10 +1,8 @@
 //! What items can be put into.
-ghost use Rattle.std.specs.Prelude.{◌≡◌, ◌++◌, ◌∷◌, [], List, Bool, OnOk, IfErr, take};
+ghost use Rattle.std.specs.Prelude.{◌≡◌, ◌++◌, ◌∷◌, [], List, Bool, OnOk, IfErr};
 ghost use Rattle.mwc_pipe.specs.Refusal.{handed_back, broken_after};
-ghost use Rattle.mwc_pipe.specs.Rows.{StopsAt};
 
 use crate::refused::Refused;
-use crate::stopped::Stopped;
 
 /// What items can be put into. Contracts see what it accepted, whether it is broken, and which
 /// pipe it is, and nothing else.
@@ -34,18 +32,4 @@ pub trait PipeIn<T> {
         ensures refused { IfErr result (λ e. (handed_back e ≡ item)
             × (accepted self.new ≡ accepted self.old)
             × (broken self.new ≡ broken_after e (broken self.old))) };
-
-    /// Puts the items of a row in, one behind the other, up to the first that is refused. No put
-    /// changes which pipe it is.
-    ///
-    /// # Errors
-    ///
-    /// Says how many were accepted, and hands the next back as `put` does.
-    fn put_some(&mut self, items: &[T]) -> Result<(), Stopped<T>>
-        ensures identity { identity self.new ≡ identity self.old }
-        ensures all { OnOk result ((accepted self.new ≡ accepted self.old ++ items.now)
-            × (broken self.new ≡ broken self.old)) }
-        ensures stopped { IfErr result (λ e. StopsAt items.now e
-            × (accepted self.new ≡ accepted self.old ++ take e.accepted items.now)
-            × (broken self.new ≡ broken_after e.why (broken self.old))) };
 }

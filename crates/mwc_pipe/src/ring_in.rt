@@ -1,28 +1,27 @@
 //! The end of a ring that words are put into.
 ghost use Rattle.std.specs.Prelude.{◌≡◌, ◌+◌, ◌<◌, ◌≤◌, List, [], ◌∷◌, ◌++◌, false, length, take, IfOk, OnOk, IfErr, IsOk};
 ghost use Rattle.mwc_pipe.specs.declared.word.Word.{Word};
-ghost use Rattle.mwc_pipe.specs.History.{Event, items_in};
-ghost use Rattle.mwc_pipe.specs.Rows.{StopsAt, puts_of};
+ghost use Rattle.mwc_pipe.specs.History.{Event};
+ghost use Rattle.mwc_pipe.specs.Rows.{AreAnswered, IsSeenByIn, puts_of};
 ghost use Rattle.mwc_pipe.specs.Refusal.{handed_back, broken_after};
 ghost use Rattle.mwc_pipe.specs.RingName.{RingName};
 
 use crate::closed::{Closed, Unfinished};
 use crate::pipe_in::PipeIn;
 use crate::refused::Refused;
-use crate::stopped::Stopped;
 use crate::word::Word;
 use rtrb::{Producer, PushError};
 use std::marker::Model;
 
 /// The end of a ring that words are put into. Contracts see which ring it is of, the capacity,
-/// and the words that it accepted.
+/// the words that it accepted, and how many of them it knows to have been taken.
 #[derive(Drop)]
 pub struct RingIn {
     pub(crate) producer: Producer<Word>,
 }
 
 impl Model for RingIn {
-    ghost use Rattle.std.specs.Prelude.{◌≤◌, ◌+◌, length};
+    ghost use Rattle.std.specs.Prelude.{◌≤◌, ◌+◌, ◌-◌, length};
     ghost use Rattle.mwc_pipe.specs.RingViews.{RingInView};
     ghost use Rattle.mwc_pipe.specs.Inner.RingViews.{ring_of_producer};
     ghost use Rattle.rtrb.specs.Ring.{sent, known_free, producer_capacity};
@@ -33,6 +32,7 @@ impl Model for RingIn {
       ring = ring_of_producer r.producer;
       capacity = producer_capacity r.producer;
       accepted = sent r.producer;
+      gone = length (sent r.producer) + known_free r.producer - producer_capacity r.producer;
     } };
 
     ghost invariant = { λ r.
@@ -45,11 +45,15 @@ impl RingIn {
     ///
     /// # Errors
     ///
-    /// Hands the word back where the ring is full.
+    /// Hands the word back where the ring is full as far as this end knows.
     pub fn put(&mut self, word: Word) -> Result<(), Word>
-        ensures ok { OnOk result
-            (self.new ≡ record self.old { accepted = self.old.accepted ++ word ∷ [] }) }
-        ensures full { IfErr result (λ w. (w ≡ word) × (self.new ≡ self.old)) }
+        ensures ring { (self.new.ring ≡ self.old.ring) × (self.new.capacity ≡ self.old.capacity) }
+        ensures ok { OnOk result (self.new.accepted ≡ self.old.accepted ++ word ∷ []) }
+        ensures refused { IfErr result (λ w. (w ≡ word)
+            × (self.new.accepted ≡ self.old.accepted)) }
+        ensures full { IfErr result (λ w.
+            length self.new.accepted ≡ self.new.gone + self.new.capacity) }
+        ensures gone { self.old.gone ≤ self.new.gone }
         ensures room { length self.old.accepted < self.old.capacity → IsOk result }
     {
         match self.producer.push(word) {
@@ -64,11 +68,13 @@ impl RingIn {
     /// takes no memory.
     pub fn put_some(&mut self, words: &[Word]) -> usize
         ensures count { result ≤ length words.now }
-        ensures accepted { self.new
-            ≡ record self.old { accepted = self.old.accepted ++ take result words.now } }
+        ensures ring { (self.new.ring ≡ self.old.ring) × (self.new.capacity ≡ self.old.capacity) }
+        ensures accepted { self.new.accepted ≡ self.old.accepted ++ take result words.now }
         ensures room { length self.new.accepted < self.old.capacity → result ≡ length words.now }
-        ensures story { (past : List (Event Word)) → items_in past ≡ self.old.accepted
-            → items_in (past ++ puts_of words.now result) ≡ self.new.accepted }
+        ensures gone { self.old.gone ≤ self.new.gone }
+        ensures replies { (past : List (Event Word))
+            → IsSeenByIn self.old.accepted self.new.gone past
+            → AreAnswered self.old.capacity past (puts_of words.now result) }
     {
         let (accepted, _) = self.producer.push_partial_slice(words);
         accepted.len()
@@ -111,38 +117,12 @@ impl PipeIn<Word> for RingIn {
             ((self.new.accepted ≡ self.old.accepted ++ item ∷ []) × (false ≡ false)) }
         ensures refused { IfErr result (λ e. (handed_back e ≡ item)
             × (self.new.accepted ≡ self.old.accepted) × (false ≡ broken_after e false)) }
-        ensures full { IfErr result (λ e. (e ≡ Refused.Full item) × (self.new ≡ self.old)) }
+        ensures full { IfErr result (λ e. e ≡ Refused.Full item) }
         ensures room { length self.old.accepted < self.old.capacity → IsOk result }
     {
         match RingIn::put(self, item) {
             Ok(()) => Ok(()),
             Err(word) => Err(Refused::Full(word)),
-        }
-    }
-
-    /// Puts the words of a row in by one store.
-    ///
-    /// # Errors
-    ///
-    /// Full where the ring has no room for all of them, and no other refusal.
-    fn put_some(&mut self, items: &[Word]) -> Result<(), Stopped<Word>>
-        ensures identity { self.new.ring ≡ self.old.ring }
-        ensures all { OnOk result
-            ((self.new.accepted ≡ self.old.accepted ++ items.now) × (false ≡ false)) }
-        ensures stopped { IfErr result (λ e. StopsAt items.now e
-            × (self.new.accepted ≡ self.old.accepted ++ take e.accepted items.now)
-            × (false ≡ broken_after e.why false)) }
-        ensures full { IfErr result (λ e. e.why ≡ Refused.Full (handed_back e.why)) }
-        ensures room { length self.old.accepted + length items.now ≤ self.old.capacity
-            → IsOk result }
-    {
-        let accepted = RingIn::put_some(self, items);
-        match items.get(accepted) {
-            Some(word) => Err(Stopped {
-                accepted,
-                why: Refused::Full(*word),
-            }),
-            None => Ok(()),
         }
     }
 }

@@ -5,8 +5,8 @@ ghost use Rattle.std.specs.Prelude.{◌≡◌, ◌≤◌, IfOk};
 
 use council_game::Coalition;
 use mwc_pipe::{
-    Batch, Closed, Pipe, PipeIn, Refused, Reply, RingIn, RingOut, Step, Stopped, Taken, Unfinished,
-    Word, replay, ring,
+    Batch, Closed, Pipe, PipeIn, Refused, Reply, RingIn, RingOut, Step, Taken, Unfinished, Word,
+    replay, ring,
 };
 use std::fmt::Debug;
 use std::process::Abort;
@@ -150,49 +150,6 @@ fn fills_both_kinds_of_pipe(rt: HostRuntime) -> Result<(), Fail> {
 }
 
 const ROW: [Word; 4] = [Word::Open(0), Word::Done(0), Word::Open(1), Word::Done(1)];
-
-/// Puts the row in, and says how many of it were accepted.
-fn put_row<P: PipeIn<Word>>(pipe: &mut P, row: &[Word]) -> usize {
-    match pipe.put_some(row) {
-        Ok(()) => row.len(),
-        Err(stopped) => stopped.accepted,
-    }
-}
-
-#[test]
-fn puts_rows_into_both_kinds_of_pipe(rt: HostRuntime) -> Result<(), Fail> {
-    let row = ROW.as_slice();
-    let mut batch = Batch::new(rt.alloc(), 5);
-    same(&rt, put_row(&mut batch, row), 4, "put_row");
-    let stopped = Stopped {
-        accepted: 1,
-        why: Refused::Full(Word::Done(0)),
-    };
-    same(&rt, batch.put_some(row), Err(stopped), "batch.put_some");
-    same(&rt, batch.put_some(&row[..0]), Ok(()), "batch.put_some 2");
-    let mut pipe = batch.close();
-    for word in ROW {
-        same(&rt, pipe.take(), Taken::Item(word), "pipe.take");
-    }
-    same(&rt, pipe.take(), Taken::Item(Word::Open(0)), "pipe.take 2");
-    same(&rt, pipe.take(), Taken::Ended, "pipe.take 3");
-    let (mut to, mut from) = ring(rt.alloc(), 5)?;
-    same(&rt, put_row(&mut to, row), 4, "put_row 2");
-    same(&rt, put_row(&mut to, row), 1, "put_row 3");
-    let stopped = Stopped {
-        accepted: 0,
-        why: Refused::Full(Word::Open(0)),
-    };
-    same(
-        &rt,
-        PipeIn::put_some(&mut to, row),
-        Err(stopped),
-        "PipeIn::put_some",
-    );
-    same(&rt, from.take(), Some(Word::Open(0)), "from.take");
-    same(&rt, put_row(&mut to, row), 1, "put_row 4");
-    Ok(())
-}
 
 #[test]
 fn moves_rows_through_a_ring(rt: HostRuntime) -> Result<(), Fail> {

@@ -5,7 +5,7 @@ ghost use Rattle.council_game.specs.Votes.{minimal_coalitions};
 ghost use Rattle.power_index.specs.Counting.{members};
 ghost use Rattle.power_index.specs.Fractions.{AddUpToOne, lowest_terms};
 ghost use Rattle.power_index.specs.Indices.{deegan_packel, public_good};
-ghost use Rattle.std.specs.Prelude.{◌≡◌, ◌<◌, IfOk, IfSome, Ok, length, map};
+ghost use Rattle.std.specs.Prelude.{◌≡◌, ◌<◌, IfNone, IfOk, IfSome, Ok, length, map};
 
 use council_file::parse_game;
 use council_game::{Game, GameFault, Memory, limits};
@@ -33,6 +33,8 @@ pub fn both_indices(
     ensures second { IfOk result (λ o. IfSome o (λ p.
         p.1 ≡ lowest_terms
         (public_good game.now (minimal_coalitions (votes_of game.now)) member))) }
+    ensures more { IfOk result
+        (λ o. IfNone o (4000000 < length (minimal_coalitions (votes_of game.now)))) }
 {
     let Some(list) = list_all(alloc, game, limits::COALITIONS)? else {
         return Ok(None);
@@ -44,15 +46,18 @@ pub fn both_indices(
     )))
 }
 
-/// Both indices of the first member of the game that the bytes hold.
+/// Both indices of the first member of the game that the bytes hold; none where it has more than 4,000,000 minimal
+/// winning coalitions.
 ///
 /// # Errors
 ///
 /// The first fault of the bytes, or Memory.
 pub fn first_of_bytes(alloc: Global, bytes: &[u8]) -> Result<Option<(Index, Index)>, GameFault>
-    ensures { IfOk result (λ o. IfSome o (λ p. (g : GameView) × (game_of bytes.now ≡ Ok g)
+    ensures first { IfOk result (λ o. IfSome o (λ p. (g : GameView) × (game_of bytes.now ≡ Ok g)
         × (p.0 ≡ lowest_terms (deegan_packel g (minimal_coalitions (votes_of g)) 0))
         × (p.1 ≡ lowest_terms (public_good g (minimal_coalitions (votes_of g)) 0)))) }
+    ensures more { IfOk result (λ o. IfNone o ((g : GameView) × (game_of bytes.now ≡ Ok g)
+        × (4000000 < length (minimal_coalitions (votes_of g))))) }
 {
     let game = parse_game(alloc, bytes)?;
     let _members = game.members();

@@ -9,6 +9,7 @@ mod listed;
 mod named;
 mod reports;
 mod rings;
+mod slices;
 mod tallied;
 mod walked;
 
@@ -19,5 +20,6 @@ pub use listed::{coalitions_with, is_dummy, listed_twice};
 pub use named::win_together;
 pub use reports::report_into_memory;
 pub use rings::through_a_ring;
+pub use slices::{Passes, words_of_slice};
 pub use tallied::tallied_index;
 pub use walked::count_by_walk;

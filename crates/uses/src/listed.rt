@@ -3,7 +3,7 @@ ghost use Rattle.council_game.specs.Game.{votes_of};
 ghost use Rattle.council_game.specs.Votes.{minimal_coalitions};
 ghost use Rattle.power_index.specs.Counting.{contains, count_of_member};
 ghost use Rattle.std.specs.List.{filter};
-ghost use Rattle.std.specs.Prelude.{◌≡◌, ◌==◌, ◌<◌, ◌≤◌, IfOk, IfSome, length};
+ghost use Rattle.std.specs.Prelude.{◌≡◌, ◌==◌, ◌<◌, ◌≤◌, IfNone, IfOk, IfSome, length};
 
 use council_game::{Coalition, Game, Memory, limits, plain_list};
 use mwc_walk::list_all;
@@ -18,8 +18,10 @@ use std::alloc::Global;
 /// `Memory` where a growth was refused.
 pub fn is_dummy(alloc: Global, game: &Game, member: usize) -> Result<Option<bool>, Memory>
     requires { member < length game.now.names }
-    ensures { IfOk result (λ o. IfSome o (λ dummy. dummy ≡
+    ensures dummy { IfOk result (λ o. IfSome o (λ dummy. dummy ≡
         (count_of_member game.now member (minimal_coalitions (votes_of game.now)) == 0))) }
+    ensures more { IfOk result
+        (λ o. IfNone o (4000000 < length (minimal_coalitions (votes_of game.now)))) }
 {
     let Some(list) = list_all(alloc, game, limits::COALITIONS)? else {
         return Ok(None);
@@ -64,7 +66,10 @@ pub fn listed_twice(
     game: &Game,
 ) -> Result<Option<(Vec<Coalition>, Vec<Coalition>)>, Memory>
     requires { length game.now.names ≤ 20 }
-    ensures { IfOk result (λ o. IfSome o (λ p. p.0.items ≡ p.1.items)) }
+    ensures twice { IfOk result (λ o. IfSome o (λ p. (p.0.items ≡ p.1.items)
+        × (p.0.items ≡ minimal_coalitions (votes_of game.now)))) }
+    ensures more { IfOk result
+        (λ o. IfNone o (4000000 < length (minimal_coalitions (votes_of game.now)))) }
 {
     let Some(list) = list_all(alloc, game, limits::COALITIONS)? else {
         return Ok(None);

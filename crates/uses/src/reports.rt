@@ -1,6 +1,8 @@
 //! Reports in memory.
+ghost use Rattle.council_game.specs.Game.{votes_of};
+ghost use Rattle.council_game.specs.Votes.{minimal_coalitions};
 ghost use Rattle.council_report.specs.Report.{report};
-ghost use Rattle.std.specs.Prelude.{◌≡◌, IfOk, IfSome};
+ghost use Rattle.std.specs.Prelude.{◌≡◌, ◌<◌, IfNone, IfOk, IfSome, length};
 
 use council_game::{Game, limits};
 use council_report::{ReportFault, Shown, write_report};
@@ -17,7 +19,9 @@ pub fn report_into_memory(
     game: &Game,
     shown: Shown,
 ) -> Result<Option<Vec<u8>>, ReportFault>
-    ensures { IfOk result (λ o. IfSome o (λ v. v.items ≡ report shown game.now)) }
+    ensures report { IfOk result (λ o. IfSome o (λ v. v.items ≡ report shown game.now)) }
+    ensures more { IfOk result
+        (λ o. IfNone o (4000000 < length (minimal_coalitions (votes_of game.now)))) }
 {
     let Some(list) = list_all(alloc, game, limits::COALITIONS)? else {
         return Ok(None);

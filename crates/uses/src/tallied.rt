@@ -14,8 +14,7 @@ use std::sync::Wait;
 use std::thread::Threads;
 
 /// The Deegan-Packel index of a member, however many minimal winning coalitions the game has: they are
-/// counted by so many threads, and none is kept. As many places as may be are fixed in each slice, so that
-/// there is work for all threads.
+/// counted by so many threads, and none is kept.
 ///
 /// # Errors
 ///
@@ -32,6 +31,7 @@ pub fn tallied_index<R: Threads + Wait + Sync>(
     ensures { IfOk result (λ index. index ≡
         lowest_terms (deegan_packel game.now (minimal_coalitions (votes_of game.now)) member)) }
 {
+    // as many places as may be are fixed in each slice, so that there is work for all threads
     let bits = limits::BITS.min(game.members() as u8);
     minimal_coalitions_can_be_counted();
     let counts = tally(rt, alloc, game, bits, workers, &NoWatch)?;

@@ -9,9 +9,9 @@ use std::fmt::Debug;
 use std::process::Abort;
 use std::test::Fail;
 use uses::{
-    are_ranked_alike, both_indices, coalitions_with, count_by_walk, first_of_bytes, indices_add_up,
+    Passes, are_ranked_alike, both_indices, coalitions_with, count_by_walk, first_of_bytes, indices_add_up,
     is_dummy, listed_twice, of_one_rule, of_two_rules, quota_in_millionths, report_into_memory,
-    tallied_index, through_a_ring,
+    tallied_index, through_a_ring, words_of_slice,
 };
 
 /// Fails with the label where what was found is not what was wanted.
@@ -160,14 +160,14 @@ fn coalitions_with_a_member(rt: HostRuntime) -> Result<(), Fail> {
 #[test]
 fn words_to_another_thread(rt: HostRuntime) -> Result<(), Fail> {
     let mut words = Vec::new(rt.alloc());
-    for mask in 0..100 {
+    for mask in 0..65_536 {
         words.push(Word::One(Coalition::of_mask(mask)))?;
     }
-    assert!(rt; words.len() == 100);
+    assert!(rt; words.len() == 65_536);
     let Some(mut rest) = through_a_ring(&rt, rt.alloc(), words)? else {
         return Err(Fail::from("no thread"));
     };
-    for mask in 0..100 {
+    for mask in 0..65_536 {
         same(
             &rt,
             rest.next(),
@@ -176,6 +176,26 @@ fn words_to_another_thread(rt: HostRuntime) -> Result<(), Fail> {
         );
     }
     same(&rt, rest.next(), None, "rest.next 2");
+    Ok(())
+}
+
+#[test]
+fn words_of_a_slice(rt: HostRuntime) -> Result<(), Fail> {
+    let game = parse_game(rt.alloc(), FIVE)?;
+    assert!(rt; game.members() == 5);
+    let passes = Passes::none();
+    let Some(words) = words_of_slice(&rt, rt.alloc(), &game, &passes, 2, 1) else {
+        return Err(Fail::from("no words"));
+    };
+    same(&rt, passes.count(), 1, "passes.count");
+    let wanted = [
+        Word::Open(1),
+        Word::One(Coalition::of_mask(22)),
+        Word::One(Coalition::of_mask(21)),
+        Word::One(Coalition::of_mask(19)),
+        Word::Done(1),
+    ];
+    same(&rt, words.as_slice(), wanted.as_slice(), "words");
     Ok(())
 }
 

@@ -2,7 +2,7 @@
 ghost use Rattle.std.specs.Prelude.{◌≡◌, ℕ, ⊤};
 
 use super::*;
-use mwc_pipe::{Refused, Stopped};
+use mwc_pipe::Refused;
 use std::array;
 
 /// A gate that keeps of each of 64 slices how often it passed and by which worker, and counts what is
@@ -148,11 +148,6 @@ impl<'a> PipeIn<Word> for Behind<'a> {
     fn put(&mut self, item: Word) -> Result<(), Refused<Word>> {
         self.note();
         self.batch.put(item)
-    }
-
-    fn put_some(&mut self, items: &[Word]) -> Result<(), Stopped<Word>> {
-        self.note();
-        self.batch.put_some(items)
     }
 }
 

@@ -89,36 +89,6 @@ fn puts_into_a_batch(rt: HostRuntime) -> Result<(), Fail> {
 }
 
 #[test]
-fn puts_a_row_into_a_batch(rt: HostRuntime) -> Result<(), Fail> {
-    let mut batch = Batch::new(rt.alloc(), 100);
-    rt.println("call")?;
-    let answer = batch.put_some(&TASKS);
-    match &answer {
-        Ok(()) => rt.println("worked")?,
-        Err(_) => rt.println("out of memory")?,
-    }
-    let mut pipe = batch.close();
-    let (left, right) = TASKS.split_at(TASKS.len().min(pipe.len() as usize));
-    match answer {
-        Ok(()) => same(&rt, left.len(), 6, "left.len"),
-        Err(stopped) => {
-            same(&rt, stopped.accepted, left.len(), "stopped.accepted");
-            same(
-                &rt,
-                Some(&stopped.why),
-                right.first().copied().map(Refused::Memory).as_ref(),
-                "Some",
-            );
-        }
-    }
-    for word in left {
-        same(&rt, pipe.take(), Taken::Item(*word), "pipe.take");
-    }
-    same(&rt, pipe.take(), Taken::Ended, "pipe.take 2");
-    Ok(())
-}
-
-#[test]
 fn replays(rt: HostRuntime) -> Result<(), Fail> {
     rt.println("call")?;
     match replay(rt.alloc(), 2, &STEPS) {

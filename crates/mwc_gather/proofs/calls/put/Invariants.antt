@@ -2,4 +2,4 @@ use Rattle.std.proofs.Common.{◌≡◌}
 use Rattle.mwc_gather.proofs.calls.put.Given as goal
 
 abbrev pub invariant-loop : goal.invariant-loop
-invariant-loop g l = (l.task ≡ l.initial.task) × (l.tasks ≡ l.initial.tasks)
+invariant-loop g l = (l.task ≡ l.initial.task) × (l.tasks.ring ≡ l.initial.tasks.ring) × (l.tasks.accepted ≡ l.initial.tasks.accepted)

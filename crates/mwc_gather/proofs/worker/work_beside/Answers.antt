@@ -14,7 +14,7 @@ loop-preserved g c =
     let game : Slicing = slicing c.args.job.now.guarded c.args.job.now.bits in let j = c.in-Some-next_task.slice in
     let inv = c.loop.invariant.3 in
     let task = c.in-Some-next_task.ensures.taken in
-    let sends = c.in-Whole.ensures.sends game (search rules) in
+    let sends = c.in-Whole.ensures.sends in
     let count = c.slice_count-slices.ensures in let first = task.0 in
     let low : j < game.slices = omega arith in
     let sum = inv.3 in let few = sends.1 in let rest = sends.2 in
@@ -33,8 +33,8 @@ loop-preserved g c =
 
 pub returns-in-Cut : goal.returns-in-Cut
 returns-in-Cut g c =
-    let sends = c.in-Cut.ensures.sends (slicing c.args.job.now.guarded c.args.job.now.bits) (search rules) in search rules
+    let sends = c.in-Cut.ensures.sends in search rules
 
 pub unreachable-requires : goal.unreachable-requires
 unreachable-requires g c =
-    let sends = c.in-Refused.ensures.sends (slicing c.args.job.now.guarded c.args.job.now.bits) (search rules) in cc
+    let sends = c.in-Refused.ensures.sends in cc

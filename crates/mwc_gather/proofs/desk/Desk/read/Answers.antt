@@ -1,6 +1,5 @@
 use Rattle.std.proofs.Common.{List, length, take, ap, ◌||◌, Bool}
 use Rattle.mwc_pipe.specs.declared.word.Word.{Word}
-use Rattle.mwc_pipe.specs.RingViews.{RingOutView}
 use Rattle.mwc_gather.proofs.Words.{ahead_more, idle_more}
 use Rattle.mwc_gather.proofs.desk.Desk.read.Goals as goal
 
@@ -8,13 +7,13 @@ pub invariant_of-self-clause-one_ahead : goal.invariant_of-self-clause-one_ahead
 invariant_of-self-clause-one_ahead c =
     let d = c.args.self.now in
     let row : List Word = take c.take_some-count.result c.take_some-count.new.into in
-    let more = ap (λ (v : RingOutView). v.taken) c.take_some-count.ensures.taken in
+    let more = c.take_some-count.ensures.taken in
     ahead_more (length d.given.items) d.words.taken row c.take_some-count.new.self.taken more d.one_ahead
 
 pub invariant_of-self-clause-idle_is_done : goal.invariant_of-self-clause-idle_is_done
 invariant_of-self-clause-idle_is_done c =
     let d = c.args.self.now in
     let row : List Word = take c.take_some-count.result c.take_some-count.new.into in
-    let more = ap (λ (v : RingOutView). v.taken) c.take_some-count.ensures.taken in
+    let more = c.take_some-count.ensures.taken in
     let now = ap (λ (b : Bool). d.idle || b) c.told_by-done.ensures.done in
     idle_more (length d.given.items) d.idle (d.idle || c.told_by-done.result.0) d.words.taken row c.take_some-count.new.self.taken more now d.one_ahead d.idle_is_done

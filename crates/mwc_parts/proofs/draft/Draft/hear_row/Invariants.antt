@@ -1,6 +1,7 @@
-use Rattle.std.proofs.Common.{◌≡◌, ◌++◌, List, take, false}
+use Rattle.std.proofs.Common.{◌≡◌, ◌++◌, List, take, false, length}
 use Rattle.mwc_pipe.specs.declared.word.Word.{Word}
 use Rattle.mwc_parts.specs.Settled.{IsDraftOf}
+use Rattle.mwc_parts.specs.Room.{Grows, LosesForWantOfRoom}
 use Rattle.mwc_parts.proofs.draft.Draft.hear_row.Given as goal
 
 abbrev pub invariant-loop-word : goal.invariant-loop-word
@@ -9,4 +10,6 @@ invariant-loop-word l =
       kept : (words : List Word) → IsDraftOf words l.fn.self → IsDraftOf (words ++ take l.word-index l.row) l.self;
       lost : l.self.lost ≡ false → l.fn.self.lost ≡ false;
       cut : l.self.cut ≡ false → l.fn.self.cut ≡ false;
+      grows : Grows l.fn.self l.word-index l.self;
+      full : LosesForWantOfRoom l.fn.self (length l.row) l.self;
     }

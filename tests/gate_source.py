@@ -1,0 +1,45 @@
+#!/usr/bin/env python3
+"""A gate is passed at one place.
+
+    gate_source.py [CRATES]
+
+goes through the src/ of all crates, but for their tests, and looks for each `::pass`, and each `.pass(` but those of one
+argument, which are no calls of a gate. There are to be two:
+`Guarded::pass`, which tells the gate and gives the game, and the one function that sends a slice, which calls it.
+No contract can count these calls, but whatever goes through that function passes once for each slice that it sends.
+
+Prints `ok gate_source` or `FAILED gate_source: why`.
+"""
+import glob
+import os
+import re
+import sys
+
+WANTED = {
+    ("mwc_gather/src/guarded.rt", "self.gate.pass(worker, slice);"),
+    ("mwc_gather/src/send.rt", "let walk = Walk::new(guarded.pass(worker, slice), bits, slice);"),
+}
+
+
+def main(words):
+    top = words[0] if words else os.path.join(os.path.dirname(os.path.abspath(__file__)), "..", "crates")
+    found = []
+    for path in sorted(glob.glob(f"{top}/*/src/**/*.rt", recursive=True)):
+        name = os.path.relpath(path, top)
+        if "_tests/" in name:
+            continue
+        with open(path, encoding="utf-8") as it:
+            for line in it:
+                code = line.split("//")[0]
+                found += [(name, code.strip())] * len(re.findall(r"::pass\b|\.pass\((?!\w+\))", code))
+    faults = [f"a gate is passed in {name}: {code}" for name, code in found if (name, code) not in WANTED]
+    faults += [f"{name} has this {found.count((name, code))} times, and not once: {code}" for name, code in sorted(WANTED) if found.count((name, code)) != 1]
+    for fault in faults:
+        print(f"FAILED gate_source: {fault}")
+    if not faults:
+        print("ok gate_source")
+    return 1 if faults else 0
+
+
+if __name__ == "__main__":
+    sys.exit(main(sys.argv[1:]))
