@@ -9,9 +9,9 @@ use std::fmt::Debug;
 use std::process::Abort;
 use std::test::Fail;
 use uses::{
-    Passes, are_ranked_alike, both_indices, coalitions_with, count_by_walk, first_of_bytes, indices_add_up,
-    is_dummy, listed_twice, of_one_rule, of_two_rules, quota_in_millionths, report_into_memory,
-    tallied_index, through_a_ring, words_of_slice,
+    Passes, are_ranked_alike, both_indices, coalitions_with, count_by_walk, first_of_bytes,
+    indices_add_up, is_dummy, listed_twice, of_one_rule, of_two_rules, quota_in_millionths,
+    report_into_memory, tallied_index, through_a_ring, words_of_slice,
 };
 
 /// Fails with the label where what was found is not what was wanted.
