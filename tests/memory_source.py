@@ -30,6 +30,9 @@ ALLOWED = {
     "council/src/main.rt": [
         ("", "let printed = error.print(rt).is_ok();", "whether the help could be printed"),
     ],
+    "print_indices/src/main.rt": [
+        ("", 'if println!(rt; "{name}\\t{}\\t{}", both.deegan_packel, both.public_good).is_err() {', "whether the line could be printed"),
+    ],
     "council_game/src/fault.rt": [
         ("", "GameFault::Memory => 14,", "its number is told, no want of memory"),
     ],
@@ -80,6 +83,7 @@ ALLOWED = {
         ("", "let mut field = Vec::with_capacity(alloc, 1 + name.len())?;", "a TAB and a name"),
     ],
     "mwc_sums/src/turned.rt": [
+        ("", "let mut rules = Vec::with_capacity(alloc, 2)?;", "the two rules"),
         ("", "prove!(matches!(fault, GameFault::Memory));", "the call's one fault is proved to be Memory"),
         ("prove!(matches!(fault, GameFault::Memory));", "Err(Memory)", "it was just proved"),
     ],

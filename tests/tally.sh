@@ -137,7 +137,8 @@ if needs python3 "a long tally on a terminal"; then
         done
     } >"$temp/three.toml"
     if timeout "$seconds" python3 - "$program" "$temp/three.toml" >"$temp/told" 2>&1 <<'END'
-import os, pty, re, subprocess, sys
+import os, pty, re, subprocess, sys, time
+began, first = time.monotonic(), None
 leader, follower = pty.openpty()
 made = subprocess.Popen([sys.argv[1], "--tally", "--workers", "1", "--bits", "10", sys.argv[2]],
                         stdin=subprocess.DEVNULL, stdout=subprocess.PIPE, stderr=follower)
@@ -150,7 +151,9 @@ while True:
         break
     if not more:
         break
+    first = first or time.monotonic()
     told += more
+assert first - began > 1, f"told of after {first - began} seconds"
 report = made.stdout.read()
 assert made.wait() == 0, made.returncode
 assert report.startswith(b"members\t40\n") and b"minimal\t76904685\n" in report, report[:80]
@@ -180,6 +183,31 @@ made.wait()
 assert 0 < int(lines[0]) < int(lines[1]), lines
 END
     then ok "the first slice on a terminal"; else failed "the first slice on a terminal" "$(tail -n 1 "$temp/told")"; fi
+    # a fault at the end: the line is wiped before it
+    name="a long tally on a terminal, and /dev/full"
+    if [ ! -e /dev/full ]; then
+        skipped "$name" "there is no /dev/full"
+    elif timeout "$seconds" python3 - "$program" "$temp/three.toml" >"$temp/told" 2>&1 <<'END'
+import os, pty, subprocess, sys
+leader, follower = pty.openpty()
+with open("/dev/full", "wb") as full:
+    made = subprocess.Popen([sys.argv[1], "--tally", "--workers", "1", "--bits", "10", sys.argv[2]],
+                            stdin=subprocess.DEVNULL, stdout=full, stderr=follower)
+os.close(follower)
+told = b""
+while True:
+    try:
+        more = os.read(leader, 4096)
+    except OSError:
+        break
+    if not more:
+        break
+    told += more
+assert made.wait() == 5, made.returncode
+assert b"are counted" in told, told[:60]
+assert told.endswith(b"\r\x1b[Kcouncil: output failed\r\n"), told[-80:]
+END
+    then ok "$name"; else failed "$name" "$(tail -n 1 "$temp/told")"; fi
     run --tally --workers 1 "$temp/three.toml"
     if succeeded "a long tally without a terminal"; then ok "a long tally without a terminal"; fi
 fi

@@ -5,7 +5,7 @@ ghost use Rattle.council_game.specs.Game.{votes_of};
 ghost use Rattle.council_game.specs.Votes.{minimal_coalitions};
 ghost use Rattle.power_index.specs.Both.{indices_of_member};
 ghost use Rattle.power_index.specs.Counting.{members};
-ghost use Rattle.std.specs.Prelude.{◌≡◌, IfOk, IfSome, length, map};
+ghost use Rattle.std.specs.Prelude.{◌≡◌, ◌<◌, IfNone, IfOk, IfSome, length, map};
 
 use council_game::{Game, Memory, limits};
 use mwc_walk::list_all;
@@ -22,6 +22,8 @@ pub fn indices_of(alloc: Global, game: &Game) -> Result<Option<Vec<MemberIndices
     ensures indices { IfOk result (λ o. IfSome o (λ v. v.items ≡
         map (indices_of_member game.now (minimal_coalitions (votes_of game.now))) (members game.now))) }
     ensures count { IfOk result (λ o. IfSome o (λ v. length v.items ≡ length game.now.names)) }
+    ensures more { IfOk result
+        (λ o. IfNone o (4000000 < length (minimal_coalitions (votes_of game.now)))) }
 {
     let Some(list) = list_all(alloc, game, limits::COALITIONS)? else {
         return Ok(None);
