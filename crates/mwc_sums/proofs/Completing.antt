@@ -26,7 +26,7 @@ first-in n c lt =
     let place : n - n ≡ 0 = omega arith in
     let d = bit_at_cat_high 1 n c n lt (omega arith) in
     ap (λ (k : ℕ). (2 ^ n + c) / 2 ^ k % 2 == 1) top ∙ ap (λ (x : ℕ). x / 2 ^ n % 2 == 1) (sym e) ∙ ap (λ (x : ℕ). x == 1) d
-        ∙ ap (λ (k : ℕ). 1 / 2 ^ k % 2 == 1) place
+    ∙ ap (λ (k : ℕ). 1 / 2 ^ k % 2 == 1) place
 
 pub first-out : (n c : ℕ) → c < 2 ^ n → has (suc n) 0 c ≡ false
 unfolding has
@@ -55,7 +55,7 @@ weight-with w ws c lt =
     let e : 1 * 2 ^ length ws + c ≡ 2 ^ length ws + c = omega arith in
     let place : length ws - length ws ≡ 0 = omega arith in
     let d : (2 ^ length ws + c) / 2 ^ length ws % 2 ≡ 1 = ap (λ (x : ℕ). x / 2 ^ length ws % 2) (sym e)
-        ∙ bit_at_cat_high 1 (length ws) c (length ws) lt (omega arith) ∙ ap (λ (k : ℕ). 1 / 2 ^ k % 2) place in
+    ∙ bit_at_cat_high 1 (length ws) c (length ws) lt (omega arith) ∙ ap (λ (k : ℕ). 1 / 2 ^ k % 2) place in
     let rest : weight ws (2 ^ length ws + c) ≡ weight ws c = ap (weight ws) (sym e) ∙ weight-skip ws 1 c in
     weight-cons w ws (2 ^ length ws + c) ∙ rw (d, rest) (omega arith)
 
@@ -220,7 +220,7 @@ filter-completing : (ws : List ℕ) (r : ℕ) (test : ℕ → Bool) → 0 < r �
 unfolding completing down
 filter-completing [] r test pos falls same =
     cond-false (test 0) (0 ∷ []) [] (not-true (test 0) (λ passes.
-        (let m = ((same 0 (omega arith)).0 passes).met in omega (arith, m, weight-nil 0))))
+    (let m = ((same 0 (omega arith)).0 passes).met in omega (arith, m, weight-nil 0))))
 filter-completing (w ∷ ws) r test pos falls same =
     let h : ℕ = 2 ^ length ws in
     let some : 0 < h = pow_pos (length ws) in
@@ -249,9 +249,9 @@ filter-completing (w ∷ ws) r test pos falls same =
     with-first again (inr enough) =
         only-none (2 ^ length ws) (λ c. test (2 ^ length ws + c)) (pow_pos (length ws))
         ((same (2 ^ length ws + 0) (let d = double-pow (length ws) in let s = pow_pos (length ws) in omega (arith, d, s))).1
-            (least-first w ws r pos enough))
+        (least-first w ws r pos enough))
         (λ c some lt. not-true _ (λ passes. least-alone w ws r c lt some enough
-            ((same (2 ^ length ws + c) (let d = double-pow (length ws) in omega (arith, d))).0 passes)))
+        ((same (2 ^ length ws + c) (let d = double-pow (length ws) in omega (arith, d))).0 passes)))
         ∙ sym (cond-true (leb r w) (0 ∷ []) (completing ws (r - w)) (le-leb r w enough))
 
 -- ---- in a game of one rule
@@ -281,7 +281,7 @@ least-minimal v r c one rule = (
             let e : length r.weights ≡ v.members = rule.full in
             let in' : has v.members p c ≡ true = subst (λ (n : ℕ). has n p c ≡ true) e inside in
             let lost = (loses-one r (without v.members p c)).0
-                (ap (λ (rs : List RuleView). wins rs (without v.members p c)) (sym one) ∙ parts.1 p (omega (arith, e)) in') in
+            (ap (λ (rs : List RuleView). wins rs (without v.members p c)) (sym one) ∙ parts.1 p (omega (arith, e)) in') in
             let less = rw e at (weight-without r.weights p c lt (eqb-true _ _ inside)) in
             omega (arith, lost, less));
       }),
@@ -293,7 +293,7 @@ least-minimal v r c one rule = (
         let n = least.needed p (omega (arith, e)) in' in
         let less = rw rule.full at (weight-without r.weights p c (omega (arith, e)) (eqb-true _ _ in')) in
         ap (λ (rs : List RuleView). wins rs (without v.members p c)) one
-            ∙ (loses-one r (without v.members p c)).1 (omega (arith, n, less))),
+        ∙ (loses-one r (without v.members p c)).1 (omega (arith, n, less))),
   ),
 )
 

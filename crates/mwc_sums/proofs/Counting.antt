@@ -40,7 +40,7 @@ completing-below (w ∷ ws) r =
     All-append whole (map (λ c. h + c) (cond (leb r w) (0 ∷ []) (completing ws (r - w)))) (completing ws r)
     (All-map whole (λ c. h + c) (cond (leb r w) (0 ∷ []) (completing ws (r - w)))
     (All-weaker low (λ c. whole (h + c)) (λ c lt. omega (arith, lt, d)) (cond (leb r w) (0 ∷ []) (completing ws (r - w)))
-        (first (leb r w) (completing-below ws (r - w)))))
+    (first (leb r w) (completing-below ws (r - w)))))
     (All-weaker low whole (λ c lt. omega (arith, lt, d)) (completing ws r) (completing-below ws r))
   where
     first : (b : Bool) → All (λ c. c < 2 ^ length ws) (completing ws (r - w))
@@ -74,7 +74,7 @@ count-none p b (x ∷ xs) all fails =
 -- those that have the first member, and those that have not
 count-parts : (q : ℕ → Bool) (w : ℕ) (ws : List ℕ) (r : ℕ) → count q (completing (w ∷ ws) r)
     ≡ cond (leb r w) (cond (q (2 ^ length ws + 0)) 1 0) (count (λ c. q (2 ^ length ws + c)) (completing ws (r - w))) + count q
-        (completing ws r)
+    (completing ws r)
 unfolding completing
 count-parts q w ws r =
     let h : ℕ = 2 ^ length ws in
@@ -113,14 +113,14 @@ closings-all (w ∷ ws) s r a =
     let none : size n 0 ≡ 0 = size-ones n 0 (pow_pos n) ∙ ones-ones 0 in
     let alone : a + size (suc n) (2 ^ n + 0) ≡ a + 1 = (let e = size-with n 0 (pow_pos n) in omega (arith, e, none)) in
     let first = choose (leb r w) (cond (a + size (suc n) (2 ^ n + 0) == s) 1 0)
-        (count (λ c. a + size (suc n) (2 ^ n + c) == s) (completing ws (r - w))) (one_of_size s (a + 1)) (closings ws s (r - w) (a + 1))
+    (count (λ c. a + size (suc n) (2 ^ n + c) == s) (completing ws (r - w))) (one_of_size s (a + 1)) (closings ws s (r - w) (a + 1))
     (λ enough. ap (λ (k : ℕ). one_of_size s k) alone)
     (λ more. count-same (λ c. a + size (suc n) (2 ^ n + c) == s) (λ c. a + 1 + size n c == s) (2 ^ n) (completing ws (r - w))
-        (completing-below ws (r - w)) (λ c lt. (
+    (completing-below ws (r - w)) (λ c lt. (
     let e : a + size (suc n) (2 ^ n + c) ≡ a + 1 + size n c = (let f = size-with n c lt in omega (arith, f)) in
     ap (λ (k : ℕ). k == s) e)) ∙ closings-all ws s (r - w) (a + 1)) in
     let rest = count-same (λ c. a + size (suc n) c == s) (λ c. a + size n c == s) (2 ^ n) (completing ws r) (completing-below ws r)
-        (λ c lt. ap (λ (k : ℕ). a + k == s) (size-left n c lt)) ∙ closings-all ws s r a in
+    (λ c lt. ap (λ (k : ℕ). a + k == s) (size-left n c lt)) ∙ closings-all ws s r a in
     parts ∙ omega (arith, first, rest)
 
 -- those that have place p, and those without it: of as many as complete the need without its member
@@ -135,14 +135,14 @@ closings-parted (w ∷ ws) zero s r a lt =
     let all = count-parts (λ c. a + size (suc n) c == s) w ws r ∙ ap (λ (k : ℕ). k) refl in
     let whole = closings-all (w ∷ ws) s r a in
     let rest = count-same (λ c. a + size (suc n) c == s) (λ c. a + size n c == s) (2 ^ n) (completing ws r) (completing-below ws r)
-        (λ c lt. ap (λ (k : ℕ). a + k == s) (size-left n c lt)) ∙ closings-all ws s r a in
+    (λ c lt. ap (λ (k : ℕ). a + k == s) (size-left n c lt)) ∙ closings-all ws s r a in
     let first = choose (leb r w) (cond (q (2 ^ n + 0)) 1 0) (count (λ c. q (2 ^ n + c)) (completing ws (r - w)))
     (cond (a + size (suc n) (2 ^ n + 0) == s) 1 0) (count (λ c. a + size (suc n) (2 ^ n + c) == s) (completing ws (r - w)))
     (λ enough. ap (λ (b : Bool). cond (b && (a + size (suc n) (2 ^ n + 0) == s)) 1 0) (first-in n 0 (pow_pos n)))
     (λ more. count-same (λ c. q (2 ^ n + c)) (λ c. a + size (suc n) (2 ^ n + c) == s) (2 ^ n) (completing ws (r - w))
-        (completing-below ws (r - w)) (λ c low. ap (λ (b : Bool). b && (a + size (suc n) (2 ^ n + c) == s)) (first-in n c low))) in
+    (completing-below ws (r - w)) (λ c low. ap (λ (b : Bool). b && (a + size (suc n) (2 ^ n + c) == s)) (first-in n c low))) in
     let none = count-none q (2 ^ n) (completing ws r) (completing-below ws r)
-        (λ c low. ap (λ (b : Bool). b && (a + size (suc n) c == s)) (first-out n c low)) in
+    (λ c low. ap (λ (b : Bool). b && (a + size (suc n) c == s)) (first-out n c low)) in
     omega (arith, parts, all, whole, rest, first, none)
 closings-parted (w ∷ ws) (suc p) s r a lt =
     let n : ℕ = length ws in
@@ -154,14 +154,14 @@ closings-parted (w ∷ ws) (suc p) s r a lt =
     let old = closings-parted ws p s r a below in
     let again = closings-parted ws p s (r - w) (a + 1) below in
     let further = count-same (λ c. q (2 ^ n + c)) (λ c. has n p c && (a + 1 + size n c == s)) (2 ^ n) (completing ws (r - w))
-        (completing-below ws (r - w))
+    (completing-below ws (r - w))
     (λ c low. (
     let e : a + size (suc n) (2 ^ n + c) ≡ a + 1 + size n c = (let f = size-with n c low in omega (arith, f)) in
     λ i. rest-in n p c below i && (e i == s))) in
     let alone : cond {A = ℕ} (q (2 ^ n + 0)) 1 0 ≡ 0 = ap {B = ℕ} (λ (b : Bool). cond (b && (a + size (suc n) (2 ^ n + 0) == s)) 1 0)
-        (rest-in n p 0 below ∙ has-none n p) in
+    (rest-in n p 0 below ∙ has-none n p) in
     let first = in_first (leb r w) (one_of_size s (a + 1)) (closings (left_out p ws) s (r - w) (a + 1)) (cond (q (2 ^ n + 0)) 1 0)
-        (count (λ c. q (2 ^ n + c)) (completing ws (r - w))) (closings ws s (r - w) (a + 1))
+    (count (λ c. q (2 ^ n + c)) (completing ws (r - w))) (closings ws s (r - w) (a + 1))
     alone (omega (arith, again, further)) in
     omega (arith, parts, rest, old, first)
   where

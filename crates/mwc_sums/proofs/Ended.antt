@@ -37,7 +37,7 @@ ended-one ws q = record {
   each = λ p s lt. (
       let parts = closings-parted ws p s q 0 lt in
       let same : count (λ c. has (length ws) p c && (size (length ws) c == s)) (completing ws q) ≡ count
-          (λ c. has (length ws) p c && (0 + size (length ws) c == s)) (completing ws q) =
+      (λ c. has (length ws) p c && (0 + size (length ws) c == s)) (completing ws q) =
       (λ i. count (λ c. has (length ws) p c && (plain (length ws) c i == s)) (completing ws q)) in
       omega (arith, parts, same, endings-plain (left_out p ws) s q 0, endings-plain ws s q 0));
 }
@@ -75,7 +75,7 @@ at-size x y false false h = nothing x ∙ sym (nothing y)
 -- the heads and the first quota, or more heads and minimal under the first rule
 module _ (ws : List ℕ) (q heads : ℕ) (m m1 : ℕ → Bool) (pos : 0 < q)
     (facts : (c : ℕ) → c < 2 ^ length ws → (m c ≡ true) ↔ (((size (length ws) c ≡ heads) × (q ≤ weight ws c)) ⊎
-        ((heads < size (length ws) c) × (m1 c ≡ true))))
+    ((heads < size (length ws) c) × (m1 c ≡ true))))
     (first : filter m1 (down (2 ^ length ws)) ≡ completing ws q)
   where
     own : (t : ℕ → Bool) (s : ℕ) → count (λ c. t c && (size (length ws) c == s)) (filter m (down (2 ^ length ws))) ≡ count
@@ -87,11 +87,11 @@ module _ (ws : List ℕ) (q heads : ℕ) (m m1 : ℕ → Bool) (pos : 0 < q)
     with-heads t =
         own t heads
         ∙ count-same (λ c. m c && (t c && (size (length ws) c == heads)))
-            (λ c. leb q (weight ws c) && (t c && (size (length ws) c == heads))) (2 ^ length ws) (down (2 ^ length ws))
-            (down-below (2 ^ length ws) (2 ^ length ws) (omega arith))
+        (λ c. leb q (weight ws c) && (t c && (size (length ws) c == heads))) (2 ^ length ws) (down (2 ^ length ws))
+        (down-below (2 ^ length ws) (2 ^ length ws) (omega arith))
         (λ c lt. at-size (m c) (leb q (weight ws c)) (t c) (size (length ws) c == heads)
-            (λ is. same_test (m c) (leb q (weight ws c)) (λ min. met c (eqb-true _ _ is) ((facts c lt).0 min))
-            (λ enough. (facts c lt).1 (inl (eqb-true _ _ is, leb-true _ _ enough)))))
+        (λ is. same_test (m c) (leb q (weight ws c)) (λ min. met c (eqb-true _ _ is) ((facts c lt).0 min))
+        (λ enough. (facts c lt).1 (inl (eqb-true _ _ is, leb-true _ _ enough)))))
         ∙ (λ i. count (λ c. leb q (weight ws c) && (t c && (plain (length ws) c i == heads))) (down (2 ^ length ws)))
       where
         met : (c : ℕ) → size (length ws) c ≡ heads → ((size (length ws) c ≡ heads) × (q ≤ weight ws c)) ⊎
@@ -104,12 +104,12 @@ module _ (ws : List ℕ) (q heads : ℕ) (m m1 : ℕ → Bool) (pos : 0 < q)
     with-more t s more =
         own t s
         ∙ count-same (λ c. m c && (t c && (size (length ws) c == s))) (λ c. m1 c && (t c && (size (length ws) c == s))) (2 ^ length ws)
-            (down (2 ^ length ws)) (down-below (2 ^ length ws) (2 ^ length ws) (omega arith))
+        (down (2 ^ length ws)) (down-below (2 ^ length ws) (2 ^ length ws) (omega arith))
         (λ c lt. at-size (m c) (m1 c) (t c) (size (length ws) c == s)
-            (λ is. same_test (m c) (m1 c) (λ min. min1 c (eqb-true _ _ is) ((facts c lt).0 min))
-            (λ min. (facts c lt).1 (inr ((let e = eqb-true _ _ is in omega (arith, e, more)), min)))))
+        (λ is. same_test (m c) (m1 c) (λ min. min1 c (eqb-true _ _ is) ((facts c lt).0 min))
+        (λ min. (facts c lt).1 (inr ((let e = eqb-true _ _ is in omega (arith, e, more)), min)))))
         ∙ sym (count-filter (λ c. t c && (size (length ws) c == s)) m1 (down (2 ^ length ws)))
-            ∙ ap (count (λ c. t c && (size (length ws) c == s))) first
+        ∙ ap (count (λ c. t c && (size (length ws) c == s))) first
       where
         min1 : (c : ℕ) → size (length ws) c ≡ s → ((size (length ws) c ≡ heads) × (q ≤ weight ws c)) ⊎
             ((heads < size (length ws) c) × (m1 c ≡ true)) → m1 c ≡ true
@@ -120,9 +120,9 @@ module _ (ws : List ℕ) (q heads : ℕ) (m m1 : ℕ → Bool) (pos : 0 < q)
     with-few t s few =
         own t s
         ∙ count-none (λ c. m c && (t c && (size (length ws) c == s))) (2 ^ length ws) (down (2 ^ length ws))
-            (down-below (2 ^ length ws) (2 ^ length ws) (omega arith))
+        (down-below (2 ^ length ws) (2 ^ length ws) (omega arith))
         (λ c lt. at-size (m c) false (t c) (size (length ws) c == s)
-            (λ is. not-true (m c) (λ min. none c (eqb-true _ _ is) ((facts c lt).0 min))))
+        (λ is. not-true (m c) (λ min. none c (eqb-true _ _ is) ((facts c lt).0 min))))
       where
         none : (c : ℕ) → size (length ws) c ≡ s → ((size (length ws) c ≡ heads) × (q ≤ weight ws c)) ⊎
             ((heads < size (length ws) c) × (m1 c ≡ true)) → ⊥
@@ -136,22 +136,26 @@ module _ (ws : List ℕ) (q heads : ℕ) (m m1 : ℕ → Bool) (pos : 0 < q)
       | inl same ↦
           (λ i. count (λ c. true && (size (length ws) c == same i)) (filter m (down (2 ^ length ws))))
           ∙ with-heads (λ c. true) ∙ meetings-all ws heads q 0 ∙ sym (endings-heads ws heads q 0 pos)
-              ∙ ap (λ (k : ℕ). endings ws heads k q 0) (sym same)
+          ∙ ap (λ (k : ℕ). endings ws heads k q 0) (sym same)
       | inr other ↦
           let more : heads < s = omega (arith, most, other) in
           with-more (λ c. true) s more ∙ (λ i. count (λ c. plain (length ws) c i == s) (completing ws q)) ∙ closings-all ws s q 0
-              ∙ sym (endings-more ws heads s q 0 more)
+          ∙ sym (endings-more ws heads s q 0 more)
     ]
 
     each-two : (p s : ℕ) → p < length ws → (s < heads) ⊎ (heads ≤ s)
         → endings (left_out p ws) heads s q 0 + count (λ c. has (length ws) p c && (size (length ws) c == s))
         (filter m (down (2 ^ length ws))) ≡ endings ws heads s q 0
-    each-two p s lt (inl few) = omega (arith, with-few (has (length ws) p) s few, endings-few ws heads s q 0 few,
-        endings-few (left_out p ws) heads s q 0 few)
+    each-two p s lt (inl few) = omega (
+      arith,
+      with-few (has (length ws) p) s few,
+      endings-few ws heads s q 0 few,
+      endings-few (left_out p ws) heads s q 0 few,
+    )
     each-two p s lt (inr most) = elim (cases_eq s heads) [
       | inl same ↦
           let a = (λ i. count (λ c. has (length ws) p c && (size (length ws) c == same i)) (filter m (down (2 ^ length ws))))
-              ∙ with-heads (has (length ws) p) in
+          ∙ with-heads (has (length ws) p) in
           let b = meetings-parted ws p heads q 0 lt in
           let e = ap (λ (k : ℕ). endings ws heads k q 0) same ∙ endings-heads ws heads q 0 pos in
           let f = ap (λ (k : ℕ). endings (left_out p ws) heads k q 0) same ∙ endings-heads (left_out p ws) heads q 0 pos in
@@ -161,7 +165,7 @@ module _ (ws : List ℕ) (q heads : ℕ) (m m1 : ℕ → Bool) (pos : 0 < q)
           let a = with-more (has (length ws) p) s more in
           let b = closings-parted ws p s q 0 lt in
           let same : count (λ c. has (length ws) p c && (size (length ws) c == s)) (completing ws q) ≡ count
-              (λ c. has (length ws) p c && (0 + size (length ws) c == s)) (completing ws q) =
+          (λ c. has (length ws) p c && (0 + size (length ws) c == s)) (completing ws q) =
           (λ i. count (λ c. has (length ws) p c && (plain (length ws) c i == s)) (completing ws q)) in
           omega (arith, a, b, same, endings-more ws heads s q 0 more, endings-more (left_out p ws) heads s q 0 more)
     ]

@@ -29,7 +29,7 @@ heads-weigh (w ∷ ws) e c same lt = elim (cases_lt c (2 ^ length ws)) [
       let a = ap (weight (w ∷ ws)) (sym is) ∙ weight-with w ws low below in
       let b = heads-weigh ws e low (λ p inside. same (suc p) (omega arith)) below in
       let s : size (suc (length ws)) c * e ≡ (size (length ws) low + 1) * e =
-          ap (λ (k : ℕ). k * e) (ap (size (suc (length ws))) (sym is) ∙ size-with (length ws) low below) in
+      ap (λ (k : ℕ). k * e) (ap (size (suc (length ws))) (sym is) ∙ size-with (length ws) low below) in
       let f = same 0 (omega arith) in
       omega (arith, a, b, s, f, one-more (size (length ws) low) e)
 ]
@@ -122,7 +122,7 @@ module _ (v : Votes) (r s : RuleView) (heads c : ℕ) (two : v.rules ≡ r ∷ s
                 let met = (asks.enough (size v.members c - 1)).1 (omega (arith, less, few)) in
                 let other = one.1 in
                 both_ways _ (parts.1 p lt inside) ((wins-both (without v.members p c)).1
-                    ((first-wins (without v.members p c)).0 still, omega (arith, met, other))))),
+                ((first-wins (without v.members p c)).0 still, omega (arith, met, other))))),
           ),
         )
         | inr most ↦ inl (omega (arith, enough, most), won.0)
@@ -131,8 +131,11 @@ module _ (v : Votes) (r s : RuleView) (heads c : ℕ) (two : v.rules ≡ r ∷ s
   pub heads-back : ((size v.members c ≡ heads) × (r.quota ≤ weight r.weights c)) ⊎
       ((heads < size v.members c) × (minimal (first_rule v) c ≡ true)) → minimal v c ≡ true
   heads-back (inl h) = (needs-each-member v c).1 (
-    (wins-both c).1 (h.1, (let same = h.0 in let met = (asks.enough (size v.members c)).1 (omega (arith, same)) in
-        omega (arith, met, weighs))),
+    (wins-both c).1 (
+      h.1,
+      (let same = h.0 in let met = (asks.enough (size v.members c)).1 (omega (arith, same)) in
+          omega (arith, met, weighs)),
+    ),
     λ p lt inside. not-true _ (λ still.
         (let one = second-heads p lt inside in
         let few = one.0 in
@@ -145,8 +148,11 @@ module _ (v : Votes) (r s : RuleView) (heads c : ℕ) (two : v.rules ≡ r ∷ s
   heads-back (inr h) =
       let parts = (needs-each-member (first_rule v) c).0 h.1 in
       (needs-each-member v c).1 (
-        (wins-both c).1 ((first-wins c).0 parts.0, (let less = h.0 in let met = (asks.enough (size v.members c)).1 (omega (arith, less)) in
-            omega (arith, met, weighs))),
+        (wins-both c).1 (
+          (first-wins c).0 parts.0,
+          (let less = h.0 in let met = (asks.enough (size v.members c)).1 (omega (arith, less)) in
+              omega (arith, met, weighs)),
+        ),
         λ p lt inside. not-true _ (λ still. both_ways _ (parts.1 p lt inside)
             ((first-wins (without v.members p c)).1 ((wins-both (without v.members p c)).0 still).0)),
       )

@@ -58,7 +58,7 @@ unfolding has
 same-places n c d lc ld same = same_from_bits_below n c d lc ld (λ i lt.
     (let place : n - 1 - (n - 1 - i) ≡ i = omega (arith, lt) in
     let e = ap (λ (k : ℕ). c / 2 ^ k % 2 == 1) (sym place) ∙ same (n - 1 - i) (omega (arith, lt))
-        ∙ ap (λ (k : ℕ). d / 2 ^ k % 2 == 1) place in
+    ∙ ap (λ (k : ℕ). d / 2 ^ k % 2 == 1) place in
     digits (c / 2 ^ i % 2) (d / 2 ^ i % 2) (omega arith) (omega arith) e))
   where
     digits : (a b : ℕ) → a < 2 → b < 2 → (a == 1) ≡ (b == 1) → a ≡ b
@@ -113,7 +113,7 @@ module _ (g h : GameView) (long : length g.names ≡ length h.names) (ranks_g : 
             (λ e. other (sym (ranks_g.member_back j below) ∙ ap (member_at g.ranks) e ∙ ranks_g.member_back i lt)) inside
             ∙ alike j below
             ∙ sym (has-kept (length h.names) (get_or h.ranks j 0) (get_or h.ranks i 0) d (ranks_h.place_below j below_j)
-                (ranks_h.place_below i below_i)
+            (ranks_h.place_below i below_i)
             (λ e. other (sym (ranks_h.member_back j below_j) ∙ ap (member_at h.ranks) e ∙ ranks_h.member_back i below_i))
-                (sym (alike i lt) ∙ inside))
+            (sym (alike i lt) ∙ inside))
       ]

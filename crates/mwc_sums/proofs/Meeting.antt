@@ -55,17 +55,17 @@ meetings-all (w ∷ ws) s r a =
     let parts = count-two (λ c. leb r (weight (w ∷ ws) c) && (a + size (suc n) c == s)) n in
     let below = down-below (2 ^ n) (2 ^ n) (omega arith) in
     let first = count-same (λ c. leb r (weight (w ∷ ws) (2 ^ n + c)) && (a + size (suc n) (2 ^ n + c) == s))
-        (λ c. leb (r - w) (weight ws c) && (a + 1 + size n c == s)) (2 ^ n) (down (2 ^ n)) below (λ c lt. (
+    (λ c. leb (r - w) (weight ws c) && (a + 1 + size n c == s)) (2 ^ n) (down (2 ^ n)) below (λ c lt. (
     let e : a + size (suc n) (2 ^ n + c) ≡ a + 1 + size n c = (let f = size-with n c lt in omega (arith, f)) in
     λ i. meets-with w ws r c lt i && (e i == s))) in
     let rest = count-same (λ c. leb r (weight (w ∷ ws) c) && (a + size (suc n) c == s)) (λ c. leb r (weight ws c) && (a + size n c == s))
-        (2 ^ n) (down (2 ^ n)) below (λ c lt. (
+    (2 ^ n) (down (2 ^ n)) below (λ c lt. (
     λ i. leb r (weight-left w ws c lt i) && (a + size-left n c lt i == s))) in
     omega (arith, parts, first, rest, meetings-all ws s (r - w) (a + 1), meetings-all ws s r a)
 
 pub meetings-parted : (ws : List ℕ) (p s r a : ℕ) → p < length ws →
     meetings (left_out p ws) s r a + count (λ c. leb r (weight ws c) && (has (length ws) p c && (a + size (length ws) c == s)))
-        (down (2 ^ length ws)) ≡ meetings ws s r a
+    (down (2 ^ length ws)) ≡ meetings ws s r a
 unfolding meetings left_out
 meetings-parted [] p s r a lt = absurd (omega arith)
 meetings-parted (w ∷ ws) zero s r a lt =
@@ -74,12 +74,12 @@ meetings-parted (w ∷ ws) zero s r a lt =
     let parts = count-two q n in
     let below = down-below (2 ^ n) (2 ^ n) (omega arith) in
     let first = count-same (λ c. q (2 ^ n + c)) (λ c. leb (r - w) (weight ws c) && (a + 1 + size n c == s)) (2 ^ n) (down (2 ^ n)) below
-        (λ c low. (
+    (λ c low. (
     let e : a + size (suc n) (2 ^ n + c) ≡ a + 1 + size n c = (let f = size-with n c low in omega (arith, f)) in
     λ i. meets-with w ws r c low i && (first-in n c low i && (e i == s)))) in
     let none = count-none q (2 ^ n) (down (2 ^ n)) below (λ c low. (
     ap (λ (b : Bool). leb r (weight (w ∷ ws) c) && (b && (a + size (suc n) c == s))) (first-out n c low)
-        ∙ and-false (leb r (weight (w ∷ ws) c)))) in
+    ∙ and-false (leb r (weight (w ∷ ws) c)))) in
     omega (arith, parts, first, none, meetings-all ws s (r - w) (a + 1))
   where
     and-false : (b : Bool) → (b && false) ≡ false
@@ -92,7 +92,7 @@ meetings-parted (w ∷ ws) (suc p) s r a lt =
     let parts = count-two q n in
     let below = down-below (2 ^ n) (2 ^ n) (omega arith) in
     let first = count-same (λ c. q (2 ^ n + c)) (λ c. leb (r - w) (weight ws c) && (has n p c && (a + 1 + size n c == s))) (2 ^ n)
-        (down (2 ^ n)) below (λ c low. (
+    (down (2 ^ n)) below (λ c low. (
     let e : a + size (suc n) (2 ^ n + c) ≡ a + 1 + size n c = (let f = size-with n c low in omega (arith, f)) in
     λ i. meets-with w ws r c low i && (rest-in n p c inside i && (e i == s)))) in
     let rest = count-same q (λ c. leb r (weight ws c) && (has n p c && (a + size n c == s))) (2 ^ n) (down (2 ^ n)) below (λ c low. (
@@ -181,7 +181,7 @@ fill-heads h left size = by_order (cases_lt h size)
     by_order (inl less) =
         cond-true (ltb h size) (one_of_size h size) (one_of_size h h * choose left (h - size)) (lt-ltb h size less)
         ∙ ap {B = ℕ} (λ b. cond b 1 0) (ne_eqb size h (λ e. omega (arith, less, e)))
-            ∙ sym (cond-false (leb size h) (choose left (h - size)) 0 (lt-leb size h less))
+        ∙ sym (cond-false (leb size h) (choose left (h - size)) 0 (lt-leb size h less))
     by_order (inr most) =
         let x = cond-false (ltb h size) (one_of_size h size) (one_of_size h h * choose left (h - size)) (le-ltb h size most) in
         let one = ap {B = ℕ} (λ b. cond b 1 0 * choose left (h - size)) (eq-eqb h h refl) in
@@ -215,7 +215,7 @@ unfolding endings
 endings-few [] h s r a less = refl
 endings-few (w ∷ ws) h s r a less =
     let first = both (leb r w) (fill h s (length ws) (a + 1)) (endings ws h s (r - w) (a + 1)) (fill-few h s (length ws) (a + 1) less)
-        (endings-few ws h s (r - w) (a + 1) less) in
+    (endings-few ws h s (r - w) (a + 1) less) in
     omega (arith, first, endings-few ws h s r a less)
   where
     both : (b : Bool) (x y : ℕ) → x ≡ 0 → y ≡ 0 → cond b x y ≡ 0
@@ -227,7 +227,7 @@ unfolding endings closings
 endings-more [] h s r a more = refl
 endings-more (w ∷ ws) h s r a more =
     let first = both (leb r w) (fill h s (length ws) (a + 1)) (endings ws h s (r - w) (a + 1)) (one_of_size s (a + 1))
-        (closings ws s (r - w) (a + 1)) (fill-more h s (length ws) (a + 1) more) (endings-more ws h s (r - w) (a + 1) more) in
+    (closings ws s (r - w) (a + 1)) (fill-more h s (length ws) (a + 1) more) (endings-more ws h s (r - w) (a + 1) more) in
     omega (arith, first, endings-more ws h s r a more)
   where
     both : (b : Bool) (x y u v : ℕ) → x ≡ u → y ≡ v → cond b x y ≡ cond b u v
@@ -237,8 +237,11 @@ endings-more (w ∷ ws) h s r a more =
 pub endings-heads : (ws : List ℕ) (h r a : ℕ) → 0 < r → endings ws h h r a ≡ meetings ws h r a
 unfolding endings meetings
 endings-heads [] h r a pos = sym (ap {B = ℕ} (λ b. cond (b && (a == h)) 1 0) (lt-leb r 0 pos))
-endings-heads (w ∷ ws) h r a pos = omega (arith, first (cases_lt w r) (λ less. endings-heads ws h (r - w) (a + 1) (omega (arith, less))),
-    endings-heads ws h r a pos)
+endings-heads (w ∷ ws) h r a pos = omega (
+  arith,
+  first (cases_lt w r) (λ less. endings-heads ws h (r - w) (a + 1) (omega (arith, less))),
+  endings-heads ws h r a pos,
+)
   where
     first : (w < r) ⊎ (r ≤ w) → (w < r → endings ws h h (r - w) (a + 1) ≡ meetings ws h (r - w) (a + 1))
         → cond (leb r w) (fill h h (length ws) (a + 1)) (endings ws h h (r - w) (a + 1)) ≡ meetings ws h (r - w) (a + 1)

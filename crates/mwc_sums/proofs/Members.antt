@@ -82,7 +82,7 @@ prefixes-room-more p left more done row le are s small =
     let two : 2 ^ (left + 1) ≡ 2 ^ left + 2 ^ left = simp unary_clauses (omega arith) in
     let m = mul-le-mul_left (prefixes row) up in
     let e : prefixes row * 2 ^ (left + 1) ≡ prefixes row * 2 ^ left + prefixes row * 2 ^ left = ap (λ (n : ℕ). prefixes row * n) two
-        ∙ plus (prefixes row) (2 ^ left) (2 ^ left) in
+    ∙ plus (prefixes row) (2 ^ left) (2 ^ left) in
     omega (arith, a, m, e)
   where
     plus : (a b c : ℕ) → a * (b + c) ≡ a * b + a * c
@@ -120,7 +120,7 @@ pub passed-more : (ws : List ℕ) (heads q p rest less left : ℕ) (done after :
     (t : Tally) → p < length ws → Passed ws heads q p rest done row each
     → less ≡ sum (drop (p + 1) ws) → get_or ws p 0 + less ≤ rest → tallies ≡ set each p t → left ≡ length ws - p - 2
     → ((vs : List ℕ) (s : ℕ) → sum vs ≤ less → length vs ≡ left → s ≤ 40
-        → get_or after s 0 + weigh (endings vs heads s) next ≡ get_or done s 0 + weigh (endings (get_or ws p 0 ∷ vs) heads s) row)
+    → get_or after s 0 + weigh (endings vs heads s) next ≡ get_or done s 0 + weigh (endings (get_or ws p 0 ∷ vs) heads s) row)
     → ((p + 1 < length ws) → AreOfPrefixes (p + 1) left after next) → AreEndingsWith ws heads q p t → p < 40
     → Passed ws heads q (p + 1) less after next tallies
 passed-more ws heads q p rest less left done after row next each tallies t lt h less-is fits is left-is went prefixes-are own few = record {
@@ -130,7 +130,7 @@ passed-more ws heads q p rest less left done after row next each tallies t lt h 
       let long : length (get_or ws p 0 ∷ vs) ≡ length vs + 1 = omega arith in
       let b = h.counted (get_or ws p 0 ∷ vs) s (omega (arith, total, fits, within)) (omega (arith, long, left-over)) small in
       let e = ap (λ (l : List ℕ). endings l heads s q 0) (sym (append_assoc (take p ws) (get_or ws p 0 ∷ []) vs)
-          ∙ ap (λ (l : List ℕ). l ++ vs) (sym (take_more ws p 0 lt))) in
+      ∙ ap (λ (l : List ℕ). l ++ vs) (sym (take_more ws p 0 lt))) in
       a ∙ b ∙ e);
   are = λ more. subst (λ (m : ℕ). AreOfPrefixes (p + 1) m after next) (omega (arith, left-is)) (prefixes-are more);
   rest_is = less-is;
@@ -141,7 +141,7 @@ passed-more ws heads q p rest less left done after row next each tallies t lt h 
     at : (k : ℕ) → k < p + 1 → (k ≡ p) ⊎ (k ≡ p → ⊥) → AreEndingsWith ws heads q k (get_or (set each p t) k no_tally)
     at k below (inl e) =
         subst (λ (x : Tally). AreEndingsWith ws heads q k x) (sym
-            (ap (λ (i : ℕ). get_or (set each p t) i no_tally) e ∙ get_or-set_same each p t no_tally (omega (arith, h.long, few))))
+        (ap (λ (i : ℕ). get_or (set each p t) i no_tally) e ∙ get_or-set_same each p t no_tally (omega (arith, h.long, few))))
         (subst (λ (i : ℕ). AreEndingsWith ws heads q i t) (sym e) own)
     at k below (inr ne) =
         subst (λ (x : Tally). AreEndingsWith ws heads q k x) (sym (get_or-set_other each p k t no_tally ne))

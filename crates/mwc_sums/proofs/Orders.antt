@@ -57,7 +57,7 @@ ranked-weight g is r i lt =
     let ordered = length-map (places g.ranks) (member_at g.ranks) in
     let below = are.place_below i lt in
     get_or-map (λ m. get_or r.weights m 0) (members_by_rank g.ranks) (get_or g.ranks i 0) 0 0
-        (omega (arith, ordered, long, are.count, below))
+    (omega (arith, ordered, long, are.count, below))
     ∙ ap (λ (m : ℕ). get_or r.weights m 0)
     (get_or-map (member_at g.ranks) (places g.ranks) (get_or g.ranks i 0) 0 0 (omega (arith, long, are.count, below))
     ∙ ap (member_at g.ranks) (places-at (length g.ranks) (get_or g.ranks i 0) 0 (omega (arith, are.count, below)))
@@ -73,7 +73,7 @@ weight-by_member g is r c =
     ∙ sum-filter (λ p. get_or ws p 0) (λ p. has (length g.names) p c) (places g.names)
     ∙ by-member g is (λ p. cond (has (length g.names) p c) 1 0 * get_or ws p 0)
     ∙ sum-range (λ i. cond (contains g i c) 1 0 * get_or ws (get_or g.ranks i 0) 0) (λ i. cond (contains g i c) 1 0 * get_or r.weights i 0)
-        0 (length g.names)
+    0 (length g.names)
     (λ i _ lt. ap (λ (w : ℕ). cond (contains g i c) 1 0 * w) (ranked-weight g is r i (omega (arith, lt))))
 
 -- ---- what wins
@@ -84,7 +84,7 @@ wins-each ranks [] c won = All-nil (λ (r : RuleView). r.quota ≤ weight (rule_
 wins-each ranks (r ∷ rs) c won =
     let parts = and_parts (leb r.quota (weight (rule_by_rank ranks r).weights c)) (wins (map (rule_by_rank ranks) rs) c) won in
     All-cons (λ (r : RuleView). r.quota ≤ weight (rule_by_rank ranks r).weights c) r rs (leb-true _ _ parts.0)
-        (wins-each ranks rs c parts.1)
+    (wins-each ranks rs c parts.1)
 
 each-wins : (ranks : List ℕ) (rs : List RuleView) (c : ℕ) → ((k : ℕ) (d : RuleView) → k < length rs
     → (get_or rs k d).quota ≤ weight (rule_by_rank ranks (get_or rs k d)).weights c) → wins (map (rule_by_rank ranks) rs) c ≡ true
@@ -134,7 +134,7 @@ module _ (g h : GameView) (is_g : IsGame g) (is_h : IsGame h) (same : HaveTheSam
   alike-weights r c d alike =
       weight-by_member g is_g r c
       ∙ sum-range (λ i. cond (contains g i c) 1 0 * get_or r.weights i 0) (λ i. cond (contains h i d) 1 0 * get_or r.weights i 0) 0
-          (length g.names)
+      (length g.names)
       (λ i _ lt. ap (λ (b : Bool). cond b 1 0 * get_or r.weights i 0) (alike i (omega (arith, lt))))
       ∙ ap (λ (n : ℕ). sum_by (λ i. cond (contains h i d) 1 0 * get_or r.weights i 0) (range_with_len 0 n)) same.members
       ∙ sym (weight-by_member h is_h r d)
@@ -151,10 +151,10 @@ module _ (g h : GameView) (is_g : IsGame g) (is_h : IsGame h) (same : HaveTheSam
   alike-wins c d alike won = each-wins h.ranks h.rules d (λ k o lt.
       (let r : RuleView = get_or h.rules k o in
       let there : Contains g.rules r = Contains-permutation h.rules g.rules r (IsPermutation-sym g.rules h.rules same.rules)
-          (k, lt, get_or_default h.rules k r o lt) in
+      (k, lt, get_or_default h.rules k r o lt) in
       let met = wins-each g.ranks g.rules c won there.0 r there.1 in
       let met' : r.quota ≤ weight (rule_by_rank g.ranks r).weights c =
-          subst (λ (x : RuleView). x.quota ≤ weight (rule_by_rank g.ranks x).weights c) there.2 met in
+      subst (λ (x : RuleView). x.quota ≤ weight (rule_by_rank g.ranks x).weights c) there.2 met in
       let e = alike-weights r c d alike in
       omega (arith, met', e)))
 
@@ -182,9 +182,9 @@ alike-minimal g h is_g is_h same c d alike min =
           let inside_g : contains g i c ≡ true = alike i below_g ∙ inside_h in
           let less = alike-without g h long ranks_g ranks_h c d i below_g alike inside_g in
           let won_h : wins (votes_of h).rules (without (length h.names) (get_or h.ranks i 0) d) ≡ true =
-              ap (λ (q : ℕ). wins (votes_of h).rules (without (length h.names) q d)) back ∙ still in
+          ap (λ (q : ℕ). wins (votes_of h).rules (without (length h.names) q d)) back ∙ still in
           let won_g = alike-wins h g is_h is_g (flipped g h same) (without (length h.names) (get_or h.ranks i 0) d)
-              (without (length g.names) (get_or g.ranks i 0) c)
+          (without (length g.names) (get_or g.ranks i 0) c)
           (alike-flipped g h _ _ long less) won_h in
           both_ways _ (parts.1 (get_or g.ranks i 0) (ranks_g.place_below i below_g) inside_g) won_g)),
     )
@@ -219,7 +219,7 @@ count-le g h is_g is_h same s t tests =
         let lower = falls i j 0 less lj in
         ne_eqb _ _ (λ e.
         (let one = moved-apart g h same.members (ranks-are g is_g) (ranks-are h is_h) (get_or own i 0) (get_or own j 0) (below i 0 li)
-            (below j 0 lj) (sym at_i ∙ e ∙ at_j) in
+        (below j 0 lj) (sym at_i ∙ e ∙ at_j) in
         omega (arith, one, lower)))))
 
     there : (q : ℕ) → is_member eqb (map (moved g h) (filter s (minimal_coalitions (votes_of g)))) q ≡ true
@@ -230,7 +230,7 @@ count-le g h is_g is_h same s t tests =
         let alike = moved-alike g h same.members (ranks-are g is_g) (ranks-are h is_h) c in
         let passes : s c ≡ true = filter_passes s (minimal_coalitions (votes_of g)) found.0 0 found.1 in
         let min : minimal (votes_of g) c ≡ true = All-filter s (λ c. minimal (votes_of g) c ≡ true) (minimal_coalitions (votes_of g))
-            (listed-passes (votes_of g)) found.0 0 found.1 in
+        (listed-passes (votes_of g)) found.0 0 found.1 in
         ap (is_member eqb (filter t (minimal_coalitions (votes_of h)))) found.2
         ∙ member-listed (votes_of h) t (moved g h c) (moved-below g h same.members (ranks-are g is_g) (ranks-are h is_h) c)
         (alike-minimal g h is_g is_h same c (moved g h c) alike min) (sym (tests c (moved g h c) alike) ∙ passes)
@@ -240,7 +240,7 @@ count-same : (g h : GameView) → IsGame g → IsGame h → HaveTheSameRules g h
 count-same g h is_g is_h same s t tests =
     let one = count-le g h is_g is_h same s t tests in
     let other = count-le h g is_h is_g (flipped g h same) t s
-        (λ d c alike. sym (tests c d (alike-flipped h g d c (sym same.members) alike))) in
+    (λ d c alike. sym (tests c d (alike-flipped h g d c (sym same.members) alike))) in
     omega (arith, one, other)
 
 pub same_counts : (g h : GameView) (t : Tables) → IsGame g → IsGame h → HaveTheSameRules g h
@@ -248,13 +248,13 @@ pub same_counts : (g h : GameView) (t : Tables) → IsGame g → IsGame h → Ha
 same_counts g h t is_g is_h same counts =
     let long = same.members in
     let sizes : (s c d : ℕ) → AreAlike g h c d → (size_of g c == s) ≡ (size_of h d == s) =
-        λ s c d alike. ap (λ (k : ℕ). k == s) (alike-sizes g h is_g is_h same c d alike) in
+    λ s c d alike. ap (λ (k : ℕ). k == s) (alike-sizes g h is_g is_h same c d alike) in
     record {
       members = counts.members ∙ sym long;
       total =
           counts.total ∙ ap length (sym (filter-all (minimal_coalitions (votes_of h))))
           ∙ sym (count-same g h is_g is_h same (λ c. true) (λ c. true) (λ c d alike. refl))
-              ∙ ap length (filter-all (minimal_coalitions (votes_of g)));
+          ∙ ap length (filter-all (minimal_coalitions (votes_of g)));
       of_size = λ s le. counts.of_size s le ∙ sym (count-same g h is_g is_h same (λ c. size_of g c == s) (λ c. size_of h c == s) (sizes s));
       of_member = λ i lt.
           (let below : i < length g.names = (let m = counts.members in omega (arith, lt, m, long)) in
@@ -295,15 +295,15 @@ unfolding made_game
 made-of-them g rs is perm =
     let p = passed g is.made in
     let heavy : (k : ℕ) → is_heavy g.rules k ≡ is_heavy rs k =
-        λ k. list_any-IsPermutation (λ (r : RuleView). ltb 1000000000000 (get_or r.weights k 0)) g.rules rs perm in
+    λ k. list_any-IsPermutation (λ (r : RuleView). ltb 1000000000000 (get_or r.weights k 0)) g.rules rs perm in
     all-passed (ltb (length g.names) 1 || ltb 40 (length g.names)) (position (λ name. not (is_name name)) g.names)
     (position (is_repeat g.names) (places g.names)) (position (is_heavy rs) (range_with_len 0 (length g.names))) (list_any has_bad_quota rs)
     (record { title = None; names = g.names; rules = rs; ranks = rank_places (first_weights rs) })
     p.members p.names
     (no-repeat (option_map_or (λ t. not (is_title t)) g.title false) (ltb (length g.names) 1 || ltb 40 (length g.names))
-        (position (λ name. not (is_name name)) g.names)
+    (position (λ name. not (is_name name)) g.names)
     (position (is_repeat g.names) (places g.names)) (position (is_heavy g.rules) (range_with_len 0 (length g.names)))
-        (list_any has_bad_quota g.rules)
+    (list_any has_bad_quota g.rules)
     (record { title = g.title; names = g.names; rules = g.rules; ranks = rank_places (first_weights g.rules) }) g is.made)
     ((λ i. position (λ k. sym (heavy k) i) (range_with_len 0 (length g.names))) ∙ p.weights)
     (sym (list_any-IsPermutation has_bad_quota g.rules rs perm) ∙ p.quotas)
@@ -317,7 +317,7 @@ made-turned g made is two gives =
     let rs : List RuleView = rule_at g.rules 1 ∷ rule_at g.rules 0 ∷ [] in
     let all = made-of-them g rs is (two-turned g.rules two) in
     let same : ◌≡◌ {A = Result GameView GameFault} (Ok (record
-        { title = None; names = g.names; rules = rs; ranks = rank_places (first_weights rs) })) (Ok made) = sym all ∙ gives in
+    { title = None; names = g.names; rules = rs; ranks = rank_places (first_weights rs) })) (Ok made) = sym all ∙ gives in
     let view = ok-same _ _ same in
     subst (HaveTheSameRules g) view (record { members = refl; rules = two-turned g.rules two })
   where

@@ -49,27 +49,36 @@ endings-none [] heads s r a short = refl
 endings-none (w ∷ ws) heads s r a short =
     let total : sum (w ∷ ws) ≡ w + sum ws = sum_by-cons (λ (y : ℕ). y) w ws in
     let no = cond-false (leb r w) (fill heads s (length ws) (a + 1)) (endings ws heads s (r - w) (a + 1))
-        (lt-leb r w (omega (arith, total, short))) in
-    omega (arith, no, endings-none ws heads s (r - w) (a + 1) (omega (arith, total, short)),
-        endings-none ws heads s r a (omega (arith, total, short)))
+    (lt-leb r w (omega (arith, total, short))) in
+    omega (
+      arith,
+      no,
+      endings-none ws heads s (r - w) (a + 1) (omega (arith, total, short)),
+      endings-none ws heads s r a (omega (arith, total, short)),
+    )
 
 -- a row, what its prefixes are with a member more, and those that go on without it
 module _ (w heads left rest k : ℕ) (before done : List ℕ) (row others next : List Open)
     (counted : (g : ℕ → ℕ → ℕ) (s : ℕ) → s ≤ 40 → get_or done s 0 + weigh g others ≡ get_or before s 0 + weigh
-        (taken w (fill heads s left) g) row)
+    (taken w (fill heads s left) g) row)
   where
     pub others-few : (s : ℕ) → s ≤ 40 → get_or done s 0 + prefixes others * 2 ^ left ≤ get_or before s 0 + prefixes row * 2 ^ left
     others-few s small =
         let c = counted (λ r a. 2 ^ left) s small in
-        omega (arith, c, weigh-times (2 ^ left) others, weigh-most (taken w (fill heads s left) (λ r a. 2 ^ left)) (2 ^ left) row
-            (taken-most w heads left s))
+        omega (
+          arith,
+          c,
+          weigh-times (2 ^ left) others,
+          weigh-most (taken w (fill heads s left) (λ r a. 2 ^ left)) (2 ^ left) row
+              (taken-most w heads left s),
+        )
 
     row-parts : (x : ℕ) → prefixes next ≡ prefixes (take k row) + prefixes others
         → prefixes next * x ≤ prefixes row * x + prefixes others * x
     row-parts x is =
         let front = mul-le-mul_right x (sum_by-take-le (λ (o : Open). o.ways) row k) in
         let e : prefixes next * x ≡ prefixes (take k row) * x + prefixes others * x = ap (λ (n : ℕ). n * x) is
-            ∙ plus (prefixes (take k row)) (prefixes others) x in
+        ∙ plus (prefixes (take k row)) (prefixes others) x in
         omega (arith, front, e)
       where
         plus : (a b c : ℕ) → (a + b) * c ≡ a * c + b * c
@@ -98,7 +107,7 @@ module _ (w heads left rest k : ℕ) (before done : List ℕ) (row others next :
         let o = others-few s small in
         let a = all (λ r x. 1) in
         let e : prefixes next ≡ prefixes (take k row) + prefixes others =
-            omega (arith, a, weigh-times 1 next, weigh-times 1 others, weigh-times 1 (take k row)) in
+        omega (arith, a, weigh-times 1 next, weigh-times 1 others, weigh-times 1 (take k row)) in
         omega (arith, o, double, row-parts (2 ^ left) e)
 
     pub row-counted : ((g : ℕ → ℕ → ℕ) → ((r a : ℕ) → rest < r → g r a ≡ 0) → weigh g (take k row) ≡ weigh g row)
@@ -136,7 +145,7 @@ pub sizes-more : (k : ℕ) (row others next : List Open) → ((p : ℕ) → All 
 sizes-more k row others next more merged p all =
     merged (p + 1)
     (All-take (λ (o : Open). o.size ≤ p + 1) k row (All-weaker (λ (o : Open). o.size ≤ p) (λ (o : Open). o.size ≤ p + 1)
-        (λ o le. omega (arith, le)) row all))
+    (λ o le. omega (arith, le)) row all))
     (more p all)
 
 -- the passes of all members from a place on

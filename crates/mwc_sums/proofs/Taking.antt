@@ -18,8 +18,13 @@ pub bumped : (xs : List ℕ) (k s v : ℕ) → k < length xs → get_or (set xs 
 bumped xs k s v lt = elim (cases_eq k s) [
   | inl e ↦
       let yes = ap {B = ℕ} (λ b. v * cond b 1 0) (eq-eqb k s e) in
-      omega (arith, yes, ap (λ i. get_or (set xs k (get_or xs k 0 + v)) i 0) e, get_or-set_same xs k (get_or xs k 0 + v) 0 lt,
-          ap (λ i. get_or xs i 0) e)
+      omega (
+        arith,
+        yes,
+        ap (λ i. get_or (set xs k (get_or xs k 0 + v)) i 0) e,
+        get_or-set_same xs k (get_or xs k 0 + v) 0 lt,
+        ap (λ i. get_or xs i 0) e,
+      )
   | inr ne ↦
       let no = ap {B = ℕ} (λ b. v * cond b 1 0) (ne_eqb k s ne) in
       omega (arith, no, get_or-set_other xs k s (get_or xs k 0 + v) 0 (λ (q : s ≡ k). ne (sym q)))
@@ -94,7 +99,7 @@ module _ (w heads left : ℕ) (row : List Open) (before : List ℕ) (i : ℕ) (d
   -- a prefix that is complete with the member is counted
   pub taking-complete : (after : List ℕ) (end times : ℕ) → (get_or row i d).need ≤ w → end ≤ 40
       → end ≡ max ((get_or row i d).size + 1) heads → times ≡ cond (ltb heads ((get_or row i d).size + 1)) 1
-          (choose left (heads - ((get_or row i d).size + 1)))
+      (choose left (heads - ((get_or row i d).size + 1)))
       → after ≡ set done end (get_or done end 0 + (get_or row i d).ways * times) → Taking w heads left row before (i + 1) after others
   taking-complete after end times le small-end end-is times-is is =
       let o : Open = get_or row i d in
@@ -102,7 +107,7 @@ module _ (w heads left : ℕ) (row : List Open) (before : List ℕ) (i : ℕ) (d
       let bump : (s : ℕ) → get_or after s 0 ≡ get_or done s 0 + o.ways * x s = λ s.
       (ap (λ (xs : List ℕ). get_or xs s 0) is ∙ bumped done end s (o.ways * times) (omega (arith, small-end, h.long))
       ∙ ap (λ (k : ℕ). get_or done s 0 + k) (times-assoc o.ways times (one_of_size s end)
-          ∙ ap (λ (k : ℕ). o.ways * k) (fill-is heads s left (o.size + 1) end times end-is times-is))) in
+      ∙ ap (λ (k : ℕ). o.ways * k) (fill-is heads s left (o.size + 1) end times end-is times-is))) in
       record {
         long = ap (λ (xs : List ℕ). length xs) is ∙ length-set done end (get_or done end 0 + o.ways * times) ∙ h.long;
         counted = λ g s small. (
@@ -115,7 +120,7 @@ module _ (w heads left : ℕ) (row : List Open) (before : List ℕ) (i : ℕ) (d
             let all = sum_by-drop_more (λ (p : Open). p.ways) row i d lt in
             let now = bump s in
             let less = room-less (get_or done s 0) o.ways (x s) (prefixes (drop (i + 1) row)) (2 ^ left) (prefixes (drop i row))
-                (fill-most heads s left (o.size + 1)) all (h.room s small) in
+            (fill-most heads s left (o.size + 1)) all (h.room s small) in
             omega (arith, now, less));
         sizes = h.sizes;
       }
@@ -125,7 +130,7 @@ module _ (w heads left : ℕ) (row : List Open) (before : List ℕ) (i : ℕ) (d
   taking-fits end times small most =
       let all = sum_by-drop_more (λ (p : Open). p.ways) row i d lt in
       let less = room-less (get_or done end 0) (get_or row i d).ways times (prefixes (drop (i + 1) row)) (2 ^ left) (prefixes (drop i row))
-          most all (h.room end small) in
+      most all (h.room end small) in
       omega (arith, less)
 
   -- one that is not is put down
@@ -139,7 +144,7 @@ module _ (w heads left : ℕ) (row : List Open) (before : List ℕ) (i : ℕ) (d
         counted = λ g s small. (
             let more = sum_by_more (λ (p : Open). p.ways * taken w (fill heads s left) g p.need p.size) row i d lt in
             let no = ap (λ b. o.ways * cond b (fill heads s left (o.size + 1)) (g (o.need - w) (o.size + 1))) (lt-leb o.need w more_needed)
-                in
+            in
             let pushed = ap (weigh g) is ∙ sum_by_push (λ (p : Open). p.ways * g p.need p.size) others x in
             let same : x.ways * g x.need x.size ≡ o.ways * g (o.need - w) (o.size + 1) = rw (need, size, ways) refl in
             let old = h.counted g s small in
@@ -147,7 +152,7 @@ module _ (w heads left : ℕ) (row : List Open) (before : List ℕ) (i : ℕ) (d
         room = λ s small. (
             let all = sum_by-drop_more (λ (p : Open). p.ways) row i d lt in
             let less = room-less (get_or done s 0) o.ways 0 (prefixes (drop (i + 1) row)) (2 ^ left) (prefixes (drop i row)) (omega arith)
-                all (h.room s small) in
+            all (h.room s small) in
             omega (arith, less));
         sizes = λ p all. All-same (λ o. o.size ≤ p + 1) after (others ++ x ∷ []) is
             (All-push (λ o. o.size ≤ p + 1) others x (h.sizes p all) (let here = all i d lt in omega (arith, size, here)));

@@ -59,8 +59,8 @@ heads-law v heads c votes two asks below = by_rules v.rules refl two asks
     by_rules (r ∷ s ∷ t ∷ rs) is two asks = absurd (omega (arith, two))
     by_rules (r ∷ s ∷ []) is two asks =
         subst (λ (l : List RuleView). (minimal v c ≡ true) ↔ (((size v.members c ≡ heads) ×
-            ((rule_at l 0).quota ≤ weight (rule_at l 0).weights c)) ⊎ ((heads < size v.members c) × (minimal (first_rule v) c ≡ true))))
-            (sym is)
+        ((rule_at l 0).quota ≤ weight (rule_at l 0).weights c)) ⊎ ((heads < size v.members c) × (minimal (first_rule v) c ≡ true))))
+        (sym is)
         (heads-from v r s heads c is votes asks below, heads-back v r s heads c is votes asks below)
 
 -- the first rule alone is a game
@@ -107,19 +107,19 @@ ended g ws q heads h = by_case h.asked
     by_case (inl one) =
         subst (λ (k : ℕ). AreEnded (length ws) (minimal_coalitions (votes_of g)) ws k q) (sym one.1)
         (subst (λ (l : List ℕ). AreEnded (length ws) l ws 0 q)
-            ((λ i. completing (h.weights i) (h.quota i)) ∙ sym (minimal-completing (votes_of g) h.votes one.0)) (ended-one ws q))
+        ((λ i. completing (h.weights i) (h.quota i)) ∙ sym (minimal-completing (votes_of g) h.votes one.0)) (ended-one ws q))
     by_case (inr two) =
         let long : length ws ≡ length g.names = members-are g ws q heads h in
         let pos : 0 < q = (let p = (rule-is (votes_of g) 0 h.votes (let some = h.votes.has_rule in omega (arith, some))).some in let e =
-            h.quota in omega (arith, p, e)) in
+        h.quota in omega (arith, p, e)) in
         let Facts : ℕ → Type 0 = λ n. (c : ℕ) → c < 2 ^ n → (minimal (votes_of g) c ≡ true) ↔
-            (((size n c ≡ heads) × (q ≤ weight ws c)) ⊎ ((heads < size n c) × (minimal (first_rule (votes_of g)) c ≡ true))) in
+        (((size n c ≡ heads) × (q ≤ weight ws c)) ⊎ ((heads < size n c) × (minimal (first_rule (votes_of g)) c ≡ true))) in
         let facts : Facts (length g.names) = λ c lt.
         subst (λ (x : ℕ). (minimal (votes_of g) c ≡ true) ↔ (((size (length g.names) c ≡ heads) × (x ≤ weight ws c)) ⊎
-            ((heads < size (length g.names) c) × (minimal (first_rule (votes_of g)) c ≡ true)))) (sym h.quota)
+        ((heads < size (length g.names) c) × (minimal (first_rule (votes_of g)) c ≡ true)))) (sym h.quota)
         (subst (λ (us : List ℕ). (minimal (votes_of g) c ≡ true) ↔
-            (((size (length g.names) c ≡ heads) × ((rule_at (votes_of g).rules 0).quota ≤ weight us c)) ⊎
-            ((heads < size (length g.names) c) × (minimal (first_rule (votes_of g)) c ≡ true)))) (sym h.weights)
+        (((size (length g.names) c ≡ heads) × ((rule_at (votes_of g).rules 0).quota ≤ weight us c)) ⊎
+        ((heads < size (length g.names) c) × (minimal (first_rule (votes_of g)) c ≡ true)))) (sym h.weights)
         (heads-law (votes_of g) heads c h.votes two.0 two.1 lt)) in
         let first : minimal_coalitions (first_rule (votes_of g)) ≡ completing ws q = first-list two.0 in
         subst (λ (n : ℕ). AreEnded (length ws) (filter (minimal (votes_of g)) (down (2 ^ n))) ws heads q) long
@@ -130,7 +130,7 @@ ended g ws q heads h = by_case h.asked
         first-list two = minimal-completing (first_rule (votes_of g)) (first-votes (votes_of g) h.votes two)
             (one-left (votes_of g).rules two)
             ∙ (λ i. completing (rule-first (votes_of g).rules two i).weights (rule-first (votes_of g).rules two i).quota)
-                ∙ (λ i. completing (sym h.weights i) (sym h.quota i))
+            ∙ (λ i. completing (sym h.weights i) (sym h.quota i))
           where
             one-left : (rs : List RuleView) → length rs ≡ 2 → length (take 1 rs) ≡ 1
             one-left [] e = absurd (omega (arith, e))
@@ -153,7 +153,7 @@ game-all g ws q heads t h is =
 pub game-each : (g : GameView) (ws : List ℕ) (q heads : ℕ) (each : List Tally) → AreAsked g ws q heads
     → ((p : ℕ) → p < length ws → AreEndingsWith ws heads q p (get_or each p no_tally))
     → (p : ℕ) → p < length g.names → IsTallyOf (length g.names) (has (length g.names) p) (minimal_coalitions (votes_of g))
-        (get_or each p no_tally)
+    (get_or each p no_tally)
 game-each g ws q heads each h are p lt =
     let long = members-are g ws q heads h in
     let own = are p (omega (arith, long, lt)) in

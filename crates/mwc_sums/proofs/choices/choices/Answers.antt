@@ -6,7 +6,7 @@ use Rattle.mwc_sums.proofs.choices.choices.Goals as goal
 pub loop-count-init : goal.loop-count-init
 loop-count-init c =
     let one : c.push.new.self.items ≡ (1 ∷ replicate 40 0) ∷ [] = c.in_ok-push.ensures.items
-        ∙ ap (λ (l : List (List ℕ)). l ++ (1 ∷ replicate 40 0) ∷ []) c.in_ok-rows.ensures.items in
+    ∙ ap (λ (l : List (List ℕ)). l ++ (1 ∷ replicate 40 0) ∷ []) c.in_ok-rows.ensures.items in
     record {
       long = ap (λ (l : List (List ℕ)). length l) one;
       row = λ k le. choose-zero k;

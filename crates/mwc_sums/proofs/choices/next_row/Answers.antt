@@ -13,7 +13,7 @@ loop-k-init c = record {
       let z : j ≡ 0 = omega arith in
       let r = c.requires.row 0 (omega arith) in
       ap (λ (i : ℕ). get_or c.args.row.now i 0) z ∙ r ∙ choose-none c.args.of ∙ sym (choose-none (c.args.of + 1))
-          ∙ ap (choose (c.args.of + 1)) (sym z));
+      ∙ ap (choose (c.args.of + 1)) (sym z));
 }
 
 pub overflow_add-next : goal.overflow_add-next

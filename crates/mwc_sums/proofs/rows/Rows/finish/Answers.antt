@@ -18,14 +18,14 @@ loop-p-preserved c =
     record {
       counted = λ s small. (
           let long : length (drop (c.loop-p.p + 1) c.args.weights.now) ≡ length c.args.weights.now - c.loop-p.p - 1 =
-              length-drop (c.loop-p.p + 1) c.args.weights.now ∙ sym f in
+          length-drop (c.loop-p.p + 1) c.args.weights.now ∙ sym f in
           let went = c.in_ok-go_on.ensures.counted (drop (c.loop-p.p + 1) c.args.weights.now) s (omega (arith, less)) long small in
           let old = c.loop-p.invariant.counted s small in
           let next = endings-next c.args.weights.now c.args.heads.now.asked c.loop-p.p s c.loop-p.self.row.items lt in
           went ∙ ap (λ (k : ℕ). get_or c.loop-p.done s 0 + k) next ∙ old);
       row = subst (λ (m : ℕ). AreOfPrefixes (c.loop-p.p + 1) m c.go_on.new.done c.go_on.new.self.row.items) f
           (prefixes-more c.loop-p.p (length c.args.weights.now - c.loop-p.p - 1) c.loop-p.done c.go_on.new.done c.loop-p.self.row.items
-              c.go_on.new.self.row.items
+          c.go_on.new.self.row.items
           (subst (λ (m : ℕ). AreOfPrefixes c.loop-p.p m c.loop-p.done c.loop-p.self.row.items) e c.loop-p.invariant.row)
           c.in_ok-go_on.ensures.few c.in_ok-go_on.ensures.sizes);
       rest = less;

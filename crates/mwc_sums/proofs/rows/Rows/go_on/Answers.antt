@@ -7,7 +7,7 @@ merge-requires c =
     let counted = rw c.deref.ensures.value at c.in_ok-with_member.ensures.counted in
     rw (c.deref-3.ensures.value, c.deref-4.ensures.value)
     (merge-few c.args.weight c.args.heads.now.asked c.args.left c.args.rest c.still_open-end.result c.args.done.now c.with_member.new.done
-        c.args.self.now.row.items c.with_member.new.others.items c.args.self.now.row.items counted c.requires.room)
+    c.args.self.now.row.items c.with_member.new.others.items c.args.self.now.row.items counted c.requires.room)
 
 pub returns-clause-counted : goal.returns-clause-counted
 returns-clause-counted c =
@@ -15,14 +15,14 @@ returns-clause-counted c =
     let same = rw c.deref-2.ensures.value at c.still_open-end.ensures.same in
     let all = rw (c.deref-3.ensures.value, c.deref-4.ensures.value, sym c.swap.ensures.x_after) at c.in_ok-merge.ensures.all in
     row-counted c.args.weight c.args.heads.now.asked c.args.left c.args.rest c.still_open-end.result c.args.done.now c.with_member.new.done
-        c.args.self.now.row.items c.with_member.new.others.items c.swap.new.x.items counted same all
+    c.args.self.now.row.items c.with_member.new.others.items c.swap.new.x.items counted same all
 
 pub returns-clause-few : goal.returns-clause-few
 returns-clause-few c =
     let counted = rw c.deref.ensures.value at c.in_ok-with_member.ensures.counted in
     let all = rw (c.deref-3.ensures.value, c.deref-4.ensures.value, sym c.swap.ensures.x_after) at c.in_ok-merge.ensures.all in
     row-few c.args.weight c.args.heads.now.asked c.args.left c.args.rest c.still_open-end.result c.args.done.now c.with_member.new.done
-        c.args.self.now.row.items c.with_member.new.others.items c.swap.new.x.items counted all
+    c.args.self.now.row.items c.with_member.new.others.items c.swap.new.x.items counted all
 
 pub returns-clause-sizes : goal.returns-clause-sizes
 returns-clause-sizes c =
