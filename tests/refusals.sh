@@ -40,7 +40,7 @@ command -v find >/dev/null || {
     skipped "$(basename "$0")" "the command find was not found"
     exit 0
 }
-for name in council_game council_file mwc_walk mwc_pipe power_index mwc_tally mwc_sums mwc_gather council_run; do
+for name in council_game council_file mwc_walk mwc_pipe power_index mwc_tally mwc_sums mwc_gather council_report council_run; do
     are_built "$name" || exit 1
 done
 
@@ -153,6 +153,10 @@ takes_memory council_file reads_a_fault
 takes_memory council_file reads_up_to_an_error
 takes_memory council_file reads_too_much
 takes_memory council_file writes_notation
+takes_memory council_file puts_numbers
+takes_memory council_report writes_a_report
+takes_memory council_report writes_a_report_of_pieces
+takes_memory council_report writes_a_tally
 takes_memory mwc_walk lists_a_slice
 takes_memory mwc_walk lists_all
 takes_none mwc_walk walks_without_memory

@@ -1,5 +1,6 @@
 //! A listing against lines that are made independently, in several orders.
 mod asked;
+mod refusals;
 
 ghost use Rattle.std.specs.Prelude.{◌≡◌, length, IfOk};
 ghost use Rattle.council_game.specs.Game.{AreNonemptyCoalitions};

@@ -1,2 +1,3 @@
 pub mod Room
 pub mod Joins
+pub mod Fronts

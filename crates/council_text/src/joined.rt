@@ -1,5 +1,6 @@
 //! Numbers in a row, put at the end of the bytes that are there.
-ghost use Rattle.std.specs.Prelude.{◌≡◌, ◌++◌, ◌<◌, ◌≤◌, ℕ, List, OnOk, decimal, length};
+ghost use Rattle.std.specs.Prelude.{◌≡◌, ◌++◌, ◌<◌, ◌≤◌, ℕ, List, OnErr, OnOk, decimal, length};
+ghost use Rattle.council_text.specs.Front.{StaysInFront};
 ghost use Rattle.std.specs.Vec.{vec_capacity};
 ghost use Rattle.council_text.specs.Joined.{joined_numbers, GivesEach};
 ghost use Rattle.council_text.specs.Room.{MakesRoomFor};
@@ -11,9 +12,10 @@ use std::alloc::AllocError;
 ///
 /// # Errors
 ///
-/// `AllocError` where a growth was refused.
+/// `AllocError` where a growth was refused; the vector is then unchanged.
 pub fn push_decimal(out: &mut Vec<u8>, number: u64) -> Result<(), AllocError>
     ensures items { OnOk result (out.new.items ≡ out.old.items ++ decimal number) }
+    ensures err { OnErr result (out.new.items ≡ out.old.items) }
     ensures room { MakesRoomFor out.old out.new result (decimal number) }
 {
     let mut buffer = Buffer::new();
@@ -24,7 +26,7 @@ pub fn push_decimal(out: &mut Vec<u8>, number: u64) -> Result<(), AllocError>
 ///
 /// # Errors
 ///
-/// `AllocError` where a growth was refused; a part of the text may be there.
+/// `AllocError` where a growth was refused; a part of the text may then stand behind what was there.
 pub fn push_joined<F: Fn(usize) -> u64>(
     out: &mut Vec<u8>,
     separator: &[u8],
@@ -34,6 +36,7 @@ pub fn push_joined<F: Fn(usize) -> u64>(
     requires { (r : ℕ) → r < count → F.pre value r }
     ensures items { (vs : List ℕ) → length vs ≡ count → GivesEach (F.post value) vs
         → OnOk result (out.new.items ≡ out.old.items ++ joined_numbers separator.now vs) }
+    ensures err { OnErr result (StaysInFront out.old.items out.new.items) }
     ensures capacity { vec_capacity out.old ≤ vec_capacity out.new }
     ensures room { (vs : List ℕ) → length vs ≡ count → GivesEach (F.post value) vs
         → MakesRoomFor out.old out.new result (joined_numbers separator.now vs) }

@@ -1,6 +1,7 @@
 //! The calls that take memory. `tests/refusals.sh` refuses the allocations between the line `call` and
 //! the line of the answer, one after the other.
 use super::*;
+use council_text::{push_decimal, push_joined};
 use std::io::Print;
 
 /// Tells the answer of a call that makes a game: what is shown of the game here, or want of memory.
@@ -164,4 +165,29 @@ fn reads_too_much(rt: HostRuntime) -> Result<(), Fail> {
     rt.println("call")?;
     let answer = read_game(rt.alloc(), &mut reader);
     tells_fault(&rt, answer, GameFault::TooLong)
+}
+
+/// Puts numbers behind a text: where a growth is refused, the text still stands in front.
+#[test]
+fn puts_numbers(rt: HostRuntime) -> Result<(), Fail> {
+    let mut text = Vec::new(rt.alloc());
+    text.extend_from_slice(b"x")?;
+    rt.println("call")?;
+    let joined = push_joined(&mut text, b", ", 300, |i| 1_000_000 + i as u64);
+    let length = text.len();
+    let last = push_decimal(&mut text, 7);
+    if joined.is_ok() && last.is_ok() {
+        rt.println("worked")?;
+        same(&rt, text.len(), 2_700, "length");
+    } else {
+        rt.println("out of memory")?;
+        let kept = last.is_ok() || text.len() == length;
+        same(
+            &rt,
+            (text.starts_with(b"x"), kept),
+            (true, true),
+            "what was there",
+        );
+    }
+    Ok(())
 }

@@ -5,22 +5,26 @@ use super::*;
 /// first flush, and those after it would succeed. It counts the writes, those of no byte, those of less than
 /// 60 KiB which another follows, the flushes, and the calls after the first failure or flush.
 #[derive(Drop)]
-struct Asked {
+pub(super) struct Asked {
     step: usize,
     write_fails: Option<ErrorKind>,
     flush_fails: Option<ErrorKind>,
-    bytes: u64,
-    writes: u64,
+    pub bytes: u64,
+    pub writes: u64,
     last: usize,
     short: u64,
     empty: u64,
-    flushes: u64,
+    pub flushes: u64,
     stopped: bool,
     after: u64,
 }
 
 impl Asked {
-    fn new(step: usize, write_fails: Option<ErrorKind>, flush_fails: Option<ErrorKind>) -> Asked {
+    pub fn new(
+        step: usize,
+        write_fails: Option<ErrorKind>,
+        flush_fails: Option<ErrorKind>,
+    ) -> Asked {
         Asked {
             step,
             write_fails,

@@ -1,6 +1,7 @@
 use Rattle.std.proofs.Common.{◌≡◌, ◌++◌, ◌≤◌, ℕ, List, length, take, Vec}
 use Rattle.std.specs.Global.{Global}
 use Rattle.std.specs.Vec.{vec_capacity}
+use Rattle.council_text.specs.Front.{StaysInFront}
 use Rattle.council_text.specs.Joined.{joined_numbers}
 use Rattle.council_text.specs.Joined.{GivesEach}
 use Rattle.council_text.proofs.joined.push_joined.Given as goal
@@ -8,6 +9,7 @@ use Rattle.council_text.proofs.joined.push_joined.Given as goal
 -- the first r values are there, and the room stays or grows
 pub record FirstPut (gives : ℕ → ℕ → Type 0) (count : ℕ) (separator : List ℕ) (old new : Vec ℕ Global) (r : ℕ) : Type 0 where
   pub items : (vs : List ℕ) → length vs ≡ count → GivesEach gives vs → new.items ≡ old.items ++ joined_numbers separator (take r vs)
+  pub front : StaysInFront old.items new.items
   pub capacity : vec_capacity old ≤ vec_capacity new
 
 abbrev pub invariant-loop-r : goal.invariant-loop-r

@@ -1,0 +1,66 @@
+//! The calls that take memory. `tests/refusals.sh` refuses the allocations between the line `call` and
+//! the line of the answer, one after the other.
+use super::asked::Asked;
+use super::*;
+use std::io::Print;
+
+/// Tells the answer of a report: what the writer took, or want of memory, and then it took nothing.
+fn tells<R: Abort + Print>(
+    rt: &R,
+    answer: Result<u64, ReportFault>,
+    writer: &Asked,
+) -> Result<(), Fail> {
+    let taken = writer.bytes;
+    if answer == Err(ReportFault::Memory) {
+        rt.println("out of memory")?;
+        same(
+            rt,
+            (taken, writer.writes, writer.flushes),
+            (0, 0, 0),
+            "bytes, writes, flushes",
+        );
+        return Ok(());
+    }
+    rt.println("worked")?;
+    same(rt, answer, Ok(taken), "the bytes of the report");
+    Ok(())
+}
+
+#[test]
+fn writes_a_report(rt: HostRuntime) -> Result<(), Fail> {
+    let alloc = rt.alloc();
+    let game = game(&rt, alloc)?;
+    let list = listing(&rt, alloc, &game, 16_383)?;
+    let mut writer = Asked::new(1_000_000, None, None);
+    rt.println("call")?;
+    let answer = write_report(alloc, &game, &list, LIST, &mut writer);
+    tells(&rt, answer, &writer)
+}
+
+#[test]
+fn writes_a_report_of_pieces(rt: HostRuntime) -> Result<(), Fail> {
+    let alloc = rt.alloc();
+    let game = game(&rt, alloc)?;
+    let list = listing(&rt, alloc, &game, 16_383)?;
+    let mut counts = WideCounts::none(&game);
+    counts.count_row(&list);
+    tallies_are_counts();
+    let mut writer = Asked::new(1_000_000, None, None);
+    rt.println("call")?;
+    let answer = write_report_of(alloc, &game, &[&list], &counts, LIST, &mut writer);
+    tells(&rt, answer, &writer)
+}
+
+#[test]
+fn writes_a_tally(rt: HostRuntime) -> Result<(), Fail> {
+    let alloc = rt.alloc();
+    let game = game(&rt, alloc)?;
+    let list = plain_list(alloc, &game)?;
+    assert!(rt; list.len() == 2_650);
+    minimal_coalitions_can_be_counted();
+    let counts = WideCounts::of(&game, &list);
+    let mut writer = Asked::new(1_000_000, None, None);
+    rt.println("call")?;
+    let answer = write_tally(alloc, &game, &counts, LIST, &mut writer);
+    tells(&rt, answer, &writer)
+}
