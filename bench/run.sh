@@ -1,7 +1,7 @@
 #!/usr/bin/env bash
 # How long the proved program takes over a plain program of the same work, in two tables. The plain
-# one is bench/report_baseline.rs, Rust with the standard library alone in one thread. Each program
-# is timed as a whole, from its start to its end, with its report going to /dev/null.
+# one is bench/report_baseline.rs, and for tallies by sums bench/sums_baseline.rs, each Rust with the standard library
+# alone in one thread. Each program is timed as a whole, from its start to its end, with its report going to /dev/null.
 #
 # The first table: the least time of RUNS runs (11) of the plain program, in seconds, and that of the
 # proved one over it, with 1, 2 and 4 workers; the four take turns, so that a slow spell of the machine
@@ -191,15 +191,24 @@ rows '26 random, four rules' "$temp/random-4.toml"
 # Games of one rule, and of weights and heads, are counted by sums: their time does not follow the number of coalitions.
 echo
 echo "tallies by sums: the least of $runs runs, in seconds, and memory"
-printf '%-26s %20s %8s %8s\n' game coalitions seconds KiB
-sums() {
-    local name=$1 file=$2 run time least=
+printf '%-26s %20s %8s %8s %6s %8s\n' game coalitions 'plain s' seconds over KiB
+rustc -O -o "$temp/sums" bench/sums_baseline.rs
+least_of() {
+    local run time least=
     for ((run = 0; run < runs; run++)); do
-        time=$(micros "$council" --tally "$file")
+        time=$(micros "$@")
         if [ -z "$least" ] || [ "$time" -lt "$least" ]; then least=$time; fi
     done
-    printf '%-26s %20s %8s %8s\n' "$name" "$("$council" --tally "$file" | awk '$1 == "minimal" { print $2 }')" \
-        "$(seconds "$least")" "$(memory "$council" --tally "$file")"
+    echo "$least"
+}
+sums() {
+    local name=$1 file=$2 least plain
+    "$council" --tally --notation "$file" >"$temp/report"
+    grep '^notation' "$temp/report" >"$temp/notation"
+    least=$(least_of "$council" --tally "$file")
+    plain=$(least_of "$temp/sums" "$temp/notation")
+    printf '%-26s %20s %8s %8s %6s %8s\n' "$name" "$(awk '$1 == "minimal" { print $2 }' "$temp/report")" \
+        "$(seconds "$plain")" "$(seconds "$least")" "$(ratio "$least" "$plain")" "$(memory "$council" --tally "$file")"
 }
 notation 20 "${ones[@]}" >"$temp/twenty.txt"
 sums '40 equal, quota 20' "$temp/twenty.txt"

@@ -59,8 +59,13 @@ fn writes_a_tally(rt: HostRuntime) -> Result<(), Fail> {
     assert!(rt; list.len() == 2_650);
     minimal_coalitions_can_be_counted();
     let counts = WideCounts::of(&game, &list);
+    let shown = Shown {
+        list: false,
+        sizes: true,
+        notation: true,
+    };
     let mut writer = Asked::new(1_000_000, None, None);
     rt.println("call")?;
-    let answer = write_tally(alloc, &game, &counts, LIST, &mut writer);
+    let answer = write_tally(alloc, &game, &counts, shown, &mut writer);
     tells(&rt, answer, &writer)
 }
