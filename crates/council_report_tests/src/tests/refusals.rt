@@ -38,20 +38,6 @@ fn writes_a_report(rt: HostRuntime) -> Result<(), Fail> {
 }
 
 #[test]
-fn writes_a_report_of_pieces(rt: HostRuntime) -> Result<(), Fail> {
-    let alloc = rt.alloc();
-    let game = game(&rt, alloc)?;
-    let list = listing(&rt, alloc, &game, 16_383)?;
-    let mut counts = WideCounts::none(&game);
-    counts.count_row(&list);
-    tallies_are_counts();
-    let mut writer = Asked::new(1_000_000, None, None);
-    rt.println("call")?;
-    let answer = write_report_of(alloc, &game, &[&list], &counts, LIST, &mut writer);
-    tells(&rt, answer, &writer)
-}
-
-#[test]
 fn writes_a_tally(rt: HostRuntime) -> Result<(), Fail> {
     let alloc = rt.alloc();
     let game = game(&rt, alloc)?;
