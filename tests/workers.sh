@@ -26,7 +26,7 @@ for game in board.txt five.toml two.toml ec-1986.toml; do
 done
 
 # ---- on a terminal: how far a run has come, and that a game is read from standard input
-if needs python3 "a long run on a terminal" "a game from a terminal"; then
+if needs python3 "a long run on a terminal" "a late fault on a terminal" "a game from a terminal"; then
     # a game that takes hours, though it has one minimal winning coalition: it is ended once it was told of
     {
         echo 'quotas = [1, 1, 20]'
@@ -49,6 +49,34 @@ numbers = [int(it) for it in re.findall(rb"\rcouncil: slice ([0-9]+) is begun", 
 assert len(numbers) >= 2 and numbers == sorted(set(numbers)) and numbers[0] > 4, told
 END
     then ok "a long run on a terminal"; else failed "a long run on a terminal" "$(tail -n 1 "$temp/told")"; fi
+    # a game whose two minimal winning coalitions are met after some seconds: the line is wiped before the fault
+    {
+        echo 'quotas = [1, 1, 20]'
+        for ((member = 1; member <= 25; member++)); do
+            printf '[[member]]\nname = "%s"\nweights = [2, 0, 1]\n' "$member"
+        done
+        printf '[[member]]\nname = "%s"\nweights = [1, 1, 20]\n' A B
+    } >"$temp/late.toml"
+    if timeout "$seconds" python3 - "$program" "$temp/late.toml" >"$temp/told" 2>&1 <<'END'
+import os, pty, subprocess, sys
+leader, follower = pty.openpty()
+made = subprocess.Popen([sys.argv[1], "--workers", "1", "--bits", "10", "--most", "1", sys.argv[2]],
+                        stdin=subprocess.DEVNULL, stdout=subprocess.DEVNULL, stderr=follower)
+os.close(follower)
+told = b""
+while True:
+    try:
+        more = os.read(leader, 4096)
+    except OSError:
+        break
+    if not more:
+        break
+    told += more
+assert made.wait() == 4, made.returncode
+assert b"is begun" in told, told[:60]
+assert told.endswith(b"\r\x1b[Kcouncil: too many minimal winning coalitions\r\n"), told[-80:]
+END
+    then ok "a late fault on a terminal"; else failed "a late fault on a terminal" "$(tail -n 1 "$temp/told")"; fi
     if timeout "$seconds" python3 - "$program" >"$temp/told" 2>&1 <<'END'
 import os, pty, subprocess, sys
 leader, follower = pty.openpty()
