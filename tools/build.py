@@ -129,12 +129,12 @@ def make_room(name, lines):
     return f"{room}/crates/{name}"
 
 
-def prove(name, lines, jobs):
-    """Proves a library, by so many jobs, which give way to others, or by as many as `rt` chooses; its status."""
+def prove(name, lines, nice):
+    """Proves a library, by one job that gives way to others by so much, or by as many as `rt` chooses; its status."""
     folder = make_room(name, lines)
     try:
         with open(f"{ROOMS}/{name}.log", "w", encoding="utf-8") as log:
-            words = ["nice", "-n", "10", "rt", "lib", "--jobs", str(jobs)] if jobs else ["rt", "lib"]
+            words = ["nice", "-n", str(nice), "rt", "lib", "--jobs", "1"] if nice else ["rt", "lib"]
             proof = subprocess.Popen(words, cwd=folder, stdin=subprocess.DEVNULL, stdout=log, stderr=subprocess.STDOUT)
             PROOFS.append(proof)
             return proof.wait()
@@ -143,22 +143,24 @@ def prove(name, lines, jobs):
 
 
 def prove_all(names, lines):
-    """Proves the libraries, each after those below it; whether all were. Of those that can begin, the one with the
-    longest chain above it uses all processors that it can; the others give way to it."""
-    behind = {name: cost(name) for name in names}
+    """Proves the libraries, each after those below it; whether all were. The one with the longest chain above it
+    uses all processors that it can, once it can begin; the others give way to it."""
+    behind, nice = {name: cost(name) for name in names}, {}
     for name in reversed(names):
         above = [behind[it] for it in names if name in below(it, lines)]
         behind[name] += max(above, default=0)
+        # what only the program waits for gives way to all that others wait for
+        nice[name] = 10 if above else 19
     left, running, done, start = sorted(names, key=lambda it: -behind[it]), {}, [], time.time()
     count, first = lanes(), None
     with ThreadPoolExecutor(len(names)) as pool:
         while left or running:
             for name in [it for it in left if all(other in done for other in below(it, lines))]:
-                if not first and count > 1:
+                if not first and count > 1 and name == left[0]:
                     first = name
                 if name == first or len(running) < count:
                     left.remove(name)
-                    running[pool.submit(prove, name, lines, 0 if name == first else 1)] = name
+                    running[pool.submit(prove, name, lines, 0 if name == first else nice[name])] = name
             for it in wait(running, return_when=FIRST_COMPLETED).done:
                 name = running.pop(it)
                 first = None if name == first else first
