@@ -189,11 +189,11 @@ for game in runs_on_brackets runs_on_toml; do
         sweep "$how" council_run "$game" "no memory for the game" "no memory to gather" "not started" "out of memory"
     done
 done
-# a tally by sums: the game, the counts and the report; by threads: the game, the room and the starts of three
-# threads, and the report
+# a tally by sums: the game, the counts and the report; by threads: the game, the room, the starts of three threads, beside
+# which those that run already make room for their counts, and the report
 for how in REFUSE_AT REFUSE_FROM; do
     shape='g+o+'
     sweep "$how" council_run tallies_by_sums "no memory for the game" "out of memory"
-    shape='g+o+s+o+'
+    shape='g+o+s[so]*o+'
     sweep "$how" council_run tallies_by_threads "no memory for the game" "not started" "out of memory"
 done
