@@ -2,13 +2,9 @@
 //! indices that rest on them.
 #![tactic(auto)]
 
-mod progress;
-
-use clap::Error;
-use clap::error::ErrorKind;
+use council_progress::{Progress, Wiping};
 use council_run::{Options, RunFault, run, status, tally};
-use council_words::{Wanted, WordsFault, read_words};
-use progress::{Progress, Wiping};
+use council_words::{Wanted, command_line, wanted};
 use std::io::IsTerminal;
 use std::process::ExitCode;
 use std::rt::Files;
@@ -22,36 +18,6 @@ fn stop(rt: &impl Eprint, fault: RunFault) -> ExitCode {
     let cause = fault.cause;
     let _ = eprintln!(rt; "council: {cause}");
     ExitCode::from(status(&fault))
-}
-
-fn out_of_memory(rt: &impl Eprint) -> ExitCode {
-    let _ = eprintln!(rt; "council: out of memory");
-    ExitCode::from(5)
-}
-
-/// Says why the words of the command line are not to be had.
-fn no_words(rt: &impl Eprint, error: io::Error) -> ExitCode {
-    if error.kind() == io::ErrorKind::OutOfMemory {
-        return out_of_memory(rt);
-    }
-    let _ = eprintln!(rt; "council: the command line is not UTF-8");
-    ExitCode::from(2)
-}
-
-/// Prints what the parser of the command line says: a fault, or the text of `--help` or `--version`.
-fn refuse(rt: &(impl Print + Eprint), error: &Error) -> ExitCode {
-    if error.kind() == ErrorKind::OutOfMemory {
-        return out_of_memory(rt);
-    }
-    let printed = error.print(rt).is_ok();
-    if error.use_stderr() {
-        return ExitCode::from(2);
-    }
-    if printed {
-        return ExitCode::SUCCESS;
-    }
-    let _ = eprintln!(rt; "council: output failed");
-    ExitCode::from(5)
 }
 
 /// What a run is to do.
@@ -112,28 +78,16 @@ fn run_on_file<R: AllocGlobal + Files + Input + Print + Eprint + Clock + Threads
 }
 
 fn main(rt: HostRuntime) -> ExitCode {
-    let alloc = rt.alloc();
-    let words = match std::env::args(&rt) {
+    let words = match command_line(&rt) {
         Ok(words) => words,
-        Err(error) => return no_words(&rt, error),
+        Err(status) => return status,
     };
-    let words: Vec<String> = match words.collect(alloc) {
-        Ok(words) => words,
-        Err(_) => return out_of_memory(&rt),
+    let wanted = match wanted(&rt, words.as_slice()) {
+        Ok(wanted) => wanted,
+        Err(status) => return status,
     };
-    match read_words(alloc, words.as_slice()) {
-        Ok(wanted) => {
-            if wanted.file.is_none() && rt.stdin().is_terminal() {
-                let _ = eprintln!(&rt;
-                    "council: a game is read from standard input, up to its end"
-                );
-            }
-            run_on_file(&rt, &wanted, rt.stderr().is_terminal())
-        }
-        Err(WordsFault::Parse(error)) => refuse(&rt, &error),
-        Err(WordsFault::Range) => {
-            let _ = eprintln!(rt; "council: a number of the command line is out of range");
-            ExitCode::from(2)
-        }
+    if wanted.file.is_none() && rt.stdin().is_terminal() {
+        let _ = eprintln!(&rt; "council: a game is read from standard input, up to its end");
     }
+    run_on_file(&rt, &wanted, rt.stderr().is_terminal())
 }

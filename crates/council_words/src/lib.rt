@@ -2,10 +2,13 @@
 //! tested, since no contract can say what a command line means.
 //!
 //! ```text
-//! let wanted = read_words(alloc, words.as_slice())?;
+//! let words = command_line(rt)?;
+//! let wanted = wanted(rt, words.as_slice())?;
 //! ```
 #![tactic(auto)]
 
+mod refusals;
 mod words;
 
+pub use refusals::{command_line, out_of_memory, wanted};
 pub use words::{Wanted, WordsFault, read_words};

@@ -1,6 +1,6 @@
 //! How far a run or a tally has come, told on standard error.
-use council_run::Watch;
 use mwc_gather::Gate;
+use mwc_tally::Watch;
 use std::io;
 use std::io::Write;
 use std::sync::{Mutex, Wait};
@@ -22,7 +22,7 @@ struct Told {
 /// begun, in one line that is written anew each time, where standard error is a terminal and it takes more
 /// than a second.
 #[derive(Drop)]
-pub(crate) struct Progress<'a, R> {
+pub struct Progress<'a, R> {
     rt: &'a R,
     /// When it began; none where nothing is told.
     began: Option<Duration>,
@@ -31,7 +31,7 @@ pub(crate) struct Progress<'a, R> {
 
 impl<'a, R: Eprint + Clock + Wait> Progress<'a, R> {
     /// Nothing was done yet; it is told where standard error is a terminal.
-    pub(crate) fn new(rt: &'a R, terminal: bool) -> Progress<'a, R> {
+    pub fn new(rt: &'a R, terminal: bool) -> Progress<'a, R> {
         let began = if terminal { rt.monotonic().ok() } else { None };
         Progress {
             rt,
@@ -56,7 +56,7 @@ impl<'a, R: Eprint + Clock + Wait> Progress<'a, R> {
     }
 
     /// Wipes the line, where it was written.
-    pub(crate) fn wipe(&self) {
+    pub fn wipe(&self) {
         let mut told = self.told.lock(self.rt);
         if told.shown {
             told.shown = false;
@@ -95,9 +95,9 @@ impl<'a, R: Eprint + Clock + Wait> Gate for Progress<'a, R> {
 
 /// A writer that wipes the line before it writes.
 #[derive(Drop)]
-pub(crate) struct Wiping<'a, R, W> {
-    pub(crate) progress: &'a Progress<'a, R>,
-    pub(crate) writer: W,
+pub struct Wiping<'a, R, W> {
+    pub progress: &'a Progress<'a, R>,
+    pub writer: W,
 }
 
 impl<'a, R: Eprint + Clock + Wait, W: Write> Write for Wiping<'a, R, W> {

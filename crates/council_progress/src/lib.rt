@@ -1,0 +1,12 @@
+//! How far a run or a tally has come, in one line on a terminal. What it says is tested, since no contract can say
+//! what a terminal shows.
+//!
+//! ```text
+//! let progress = Progress::new(rt, rt.stderr().is_terminal());
+//! let mut writer = Wiping { progress: &progress, writer: io::writer(rt) };
+//! ```
+#![tactic(auto)]
+
+mod progress;
+
+pub use progress::{Progress, Wiping};

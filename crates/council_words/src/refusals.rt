@@ -1,0 +1,74 @@
+//! What the program says of a command line that gives it nothing to do, and the status that it then ends with.
+use crate::words::{Wanted, WordsFault, read_words};
+use clap::Error;
+use clap::error::ErrorKind;
+use std::env::Env;
+use std::io;
+use std::process::ExitCode;
+
+/// Says on standard error that memory ran out; the status for it, 5.
+pub fn out_of_memory(rt: &impl Eprint) -> ExitCode {
+    let _ = eprintln!(rt; "council: out of memory");
+    ExitCode::from(5)
+}
+
+/// Says why the words of the command line are not to be had.
+fn no_words(rt: &impl Eprint, error: io::Error) -> ExitCode {
+    if error.kind() == io::ErrorKind::OutOfMemory {
+        return out_of_memory(rt);
+    }
+    let _ = eprintln!(rt; "council: the command line is not UTF-8");
+    ExitCode::from(2)
+}
+
+/// The words of the command line.
+///
+/// # Errors
+///
+/// The status to end with, where they are not UTF-8 or memory ran out. What is wrong was then said.
+pub fn command_line(rt: &(impl AllocGlobal + Env + Eprint)) -> Result<Vec<String>, ExitCode> {
+    let words = match std::env::args(rt) {
+        Ok(words) => words,
+        Err(error) => return Err(no_words(rt, error)),
+    };
+    match words.collect(rt.alloc()) {
+        Ok(words) => Ok(words),
+        Err(_) => Err(out_of_memory(rt)),
+    }
+}
+
+/// Prints what the parser of the command line says: a fault, or the text of `--help` or `--version`.
+fn refuse(rt: &(impl Print + Eprint), error: &Error) -> ExitCode {
+    if error.kind() == ErrorKind::OutOfMemory {
+        return out_of_memory(rt);
+    }
+    let printed = error.print(rt).is_ok();
+    if error.use_stderr() {
+        return ExitCode::from(2);
+    }
+    if printed {
+        return ExitCode::SUCCESS;
+    }
+    let _ = eprintln!(rt; "council: output failed");
+    ExitCode::from(5)
+}
+
+/// What these words ask for, the first of them the name of the program.
+///
+/// # Errors
+///
+/// The status to end with, where the parser refuses them, or answers `--help` or `--version`: the fault or the
+/// answer was then printed.
+pub fn wanted<'a>(
+    rt: &(impl AllocGlobal + Print + Eprint),
+    words: &'a [String],
+) -> Result<Wanted<'a>, ExitCode> {
+    match read_words(rt.alloc(), words) {
+        Ok(wanted) => Ok(wanted),
+        Err(WordsFault::Parse(error)) => Err(refuse(rt, &error)),
+        Err(WordsFault::Range) => {
+            let _ = eprintln!(rt; "council: a number of the command line is out of range");
+            Err(ExitCode::from(2))
+        }
+    }
+}
