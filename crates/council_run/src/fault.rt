@@ -1,9 +1,15 @@
 //! Why a run stopped.
-ghost use Rattle.std.specs.Prelude.{◌≡◌};
+ghost use Rattle.std.specs.Prelude.{◌≡◌, ℕ};
+ghost use Rattle.council_report.specs.declared.fault.ReportFault.TheVariants as report;
+ghost use Rattle.mwc_parts.specs.declared.fault.GatherFault.TheVariants as gather;
+ghost use Rattle.mwc_tally.specs.declared.fault.TallyFault.TheVariants as tally;
+ghost use Rattle.council_run.specs.declared.fault.Cause.TheVariants as cause;
 ghost use Rattle.council_run.specs.Status.{number_of, status_of};
 
-use council_game::GameFault;
+use council_game::{GameFault, Memory};
+use council_report::ReportFault;
 use mwc_gather::GatherFault;
+use mwc_tally::TallyFault;
 use thiserror::Error;
 
 /// Why a run stopped.
@@ -46,10 +52,63 @@ impl Cause {
 
 impl RunFault {
     /// A fault before anything was written.
-    pub(crate) fn early(cause: Cause) -> RunFault
+    fn early(cause: Cause) -> RunFault
         ensures { result ≡ record { cause = cause; written = 0 } }
     {
         RunFault { cause, written: 0 }
+    }
+}
+
+impl From<GameFault> for RunFault {
+    ghost from_gives = { λ fault e. e ≡ record { cause = cause.Game fault; written = 0 } };
+
+    fn from(fault: GameFault) -> RunFault {
+        RunFault::early(Cause::Game(fault))
+    }
+}
+
+impl From<GatherFault> for RunFault {
+    ghost from_gives = { λ fault e. e ≡ record { cause = cause.Gather fault; written = 0 } };
+
+    fn from(fault: GatherFault) -> RunFault {
+        RunFault::early(Cause::Gather(fault))
+    }
+}
+
+impl From<Memory> for RunFault {
+    ghost from_gives = { λ _ e. e ≡ record { cause = cause.Memory; written = 0 } };
+
+    fn from(_e: Memory) -> RunFault {
+        RunFault::early(Cause::Memory)
+    }
+}
+
+impl From<TallyFault> for RunFault {
+    ghost from_gives = { λ fault e.
+        (fault ≡ tally.Memory → e ≡ record { cause = cause.Memory; written = 0 })
+        × (fault ≡ tally.Start → e ≡ record { cause = cause.Gather gather.Start; written = 0 }) };
+
+    fn from(fault: TallyFault) -> RunFault {
+        RunFault::early(match fault {
+            TallyFault::Memory => Cause::Memory,
+            TallyFault::Start => Cause::Gather(GatherFault::Start),
+        })
+    }
+}
+
+impl From<ReportFault> for RunFault {
+    ghost from_gives = { λ fault e.
+        (fault ≡ report.Memory → e ≡ record { cause = cause.Memory; written = 0 })
+        × ((n : ℕ) → fault ≡ report.Write n → e ≡ record { cause = cause.Write; written = n }) };
+
+    fn from(fault: ReportFault) -> RunFault {
+        match fault {
+            ReportFault::Memory => RunFault::early(Cause::Memory),
+            ReportFault::Write { written } => RunFault {
+                cause: Cause::Write,
+                written,
+            },
+        }
     }
 }
 

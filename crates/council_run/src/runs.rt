@@ -1,14 +1,18 @@
 //! A run: from the bytes of a game to its report.
-ghost use Rattle.std.specs.Prelude.{ℕ, ◌<◌, ◌^◌, IfOk, IfErr};
+ghost use Rattle.std.specs.Prelude.{◌≡◌, ◌<◌, ◌≤◌, ◌^◌, ℕ, IfOk, IfErr, length};
 ghost use Rattle.std.specs.List.{flat_map};
-ghost use Rattle.council_run.specs.Run.{Reports, Stops};
-ghost use Rattle.council_run.specs.Inner.Listed.{IsGathered, IsListed, IsUnlisted};
+ghost use Rattle.std.specs.Io.KnownBytes.{Appends};
+ghost use Rattle.council_report.specs.Report.{report};
+ghost use Rattle.council_run.specs.Run.{Reports, Stops, count_of};
+ghost use Rattle.council_run.specs.Shows.{shown_of};
+ghost use Rattle.council_run.specs.Inner.Ends.{Ends};
+ghost use Rattle.council_run.specs.Inner.Listed.{IsGathered, IsListed};
 
-use crate::fault::{Cause, RunFault};
+use crate::fault::RunFault;
 use crate::options::Options;
 use council_file::read_game;
 use council_game::{Coalition, Game, Memory};
-use council_report::{ReportFault, write_report_of};
+use council_report::write_report_of;
 use mwc_gather::{Gate, GatherFault, Guarded, gather};
 use mwc_parts::Gathered;
 use mwc_tally::tally_pieces;
@@ -24,17 +28,14 @@ fn gathered<T: Threads + Wait + Sync, G: Gate + Sync>(
     game: &Game,
     options: &Options,
     gate: &G,
-) -> Result<Gathered, Cause>
+) -> Result<Gathered, GatherFault>
     requires { (w j : ℕ) → w < options.now.workers → j < 2 ^ options.now.bits → G.takes w j }
     ensures ok { IfOk result (IsGathered game.now options.now.most) }
-    ensures err { IfErr result (IsUnlisted game.now options.now.most) }
+    ensures many { result ≡ Err GatherFault.TooMany → options.now.most < count_of game.now }
 {
     let bits = options.bits.min(game.members() as u8);
     let guarded = Guarded::new(game, gate);
-    match gather(rt, alloc, &guarded, bits, options.workers, options.most) {
-        Ok(gathered) => Ok(gathered),
-        Err(fault) => Err(Cause::Gather(fault)),
-    }
+    gather(rt, alloc, &guarded, bits, options.workers, options.most)
 }
 
 /// The pieces that lie in the parts of the workers, slice after slice: joined, they are all minimal winning
@@ -49,6 +50,30 @@ fn pieces<'a>(
     ensures { IfOk result (λ row. IsListed game.now most (flat_map (λ p. p.now) row.items)) }
 {
     gathered.pieces(alloc)
+}
+
+/// Lists, counts and writes: all that a run does with a game.
+fn report<T: Threads + Wait + Sync, W: Write, G: Gate + Sync>(
+    rt: &T,
+    alloc: Global,
+    game: &Game,
+    options: &Options,
+    gate: &G,
+    writer: &mut W,
+) -> Result<u64, RunFault>
+    requires { (w j : ℕ) → w < options.now.workers → j < 2 ^ options.now.bits → G.takes w j }
+    ensures ok { IfOk result (λ len. (count_of game.now ≤ options.now.most)
+        × (len ≡ length (report (shown_of options.now) game.now))
+        × Appends (W.contents writer.old) (W.contents writer.new)
+        (report (shown_of options.now) game.now)) }
+    ensures err { IfErr result (λ fault.
+        Ends (report (shown_of options.now) game.now) (count_of game.now ≤ options.now.most)
+        (W.contents writer.old) (W.contents writer.new) fault.cause fault.written) }
+{
+    let gathered = gathered(rt, alloc, game, options, gate)?;
+    let pieces = pieces(alloc, game, &gathered, options.most)?;
+    let counts = tally_pieces(rt, game, &pieces, options.workers)?;
+    Ok(write_report_of(alloc, game, &pieces, &counts, options.shown(), writer)?)
 }
 
 /// Reads a game, lists its minimal winning coalitions by worker threads, and writes its report and
@@ -73,14 +98,16 @@ pub fn run<T: Threads + Wait + Sync, R: Read, W: Write, G: Gate + Sync>(
     writer: &mut W,
 ) -> Result<u64, RunFault>
     requires { (w j : ℕ) → w < options.now.workers → j < 2 ^ options.now.bits → G.takes w j }
-    ensures ok { IfOk result (λ len. Reports options.now
+    ensures ok { IfOk result (λ len.
+        Reports (report (shown_of options.now)) (λ g. count_of g ≤ options.now.most)
         (record {
           unread = R.remaining reader.old;
           left = R.remaining reader.new;
           before = W.contents writer.old;
           after = W.contents writer.new;
         }) len) }
-    ensures err { IfErr result (λ fault. Stops options.now
+    ensures err { IfErr result (λ fault.
+        Stops (report (shown_of options.now)) (λ g. count_of g ≤ options.now.most)
         (record {
           unread = R.remaining reader.old;
           left = R.remaining reader.new;
@@ -88,26 +115,6 @@ pub fn run<T: Threads + Wait + Sync, R: Read, W: Write, G: Gate + Sync>(
           after = W.contents writer.new;
         }) fault.cause fault.written) }
 {
-    let game = match read_game(alloc, reader) {
-        Ok(game) => game,
-        Err(fault) => return Err(RunFault::early(Cause::Game(fault))),
-    };
-    let gathered = match gathered(rt, alloc, &game, options, gate) {
-        Ok(gathered) => gathered,
-        Err(cause) => return Err(RunFault::early(cause)),
-    };
-    let Ok(pieces) = pieces(alloc, &game, &gathered, options.most) else {
-        return Err(RunFault::early(Cause::Memory));
-    };
-    let Ok(counts) = tally_pieces(rt, &game, &pieces, options.workers) else {
-        return Err(RunFault::early(Cause::Gather(GatherFault::Start)));
-    };
-    match write_report_of(alloc, &game, &pieces, &counts, options.shown(), writer) {
-        Ok(count) => Ok(count),
-        Err(ReportFault::Memory) => Err(RunFault::early(Cause::Memory)),
-        Err(ReportFault::Write { written }) => Err(RunFault {
-            cause: Cause::Write,
-            written,
-        }),
-    }
+    let game = read_game(alloc, reader)?;
+    report(rt, alloc, &game, options, gate, writer)
 }

@@ -1,17 +1,22 @@
 //! A tally: a run that keeps no coalition.
-ghost use Rattle.std.specs.Prelude.{◌≡◌, IfOk, IfErr};
+ghost use Rattle.std.specs.Prelude.{◌≡◌, IfOk, IfErr, length};
+ghost use Rattle.std.specs.Io.KnownBytes.{Appends};
 ghost use Rattle.council_game.specs.Game.{votes_of};
 ghost use Rattle.council_game.specs.Votes.{minimal_coalitions};
+ghost use Rattle.council_report.specs.Report.{report};
+ghost use Rattle.mwc_parts.specs.declared.fault.GatherFault.{GatherFault};
+ghost use Rattle.mwc_parts.specs.declared.fault.GatherFault.TheVariants as gather;
 ghost use Rattle.power_index.specs.Tables.{AreCounts};
-ghost use Rattle.council_run.specs.Tallied.{StopsTally, Tallies, unlisted};
-ghost use Rattle.council_run.specs.Inner.Tallied.{IsUncounted};
+ghost use Rattle.council_run.specs.declared.fault.Cause.TheVariants as cause;
+ghost use Rattle.council_run.specs.Run.{Reports, Stops};
+ghost use Rattle.council_run.specs.Tallied.{unlisted};
+ghost use Rattle.council_run.specs.Inner.Ends.{Ends};
 
-use crate::fault::{Cause, RunFault};
+use crate::fault::RunFault;
 use crate::options::Options;
 use council_file::read_game;
-use council_game::{Game, Memory};
-use council_report::{ReportFault, Shown, write_tally};
-use mwc_gather::GatherFault;
+use council_game::Game;
+use council_report::{Shown, write_tally};
 use mwc_sums::count_by_sums;
 use mwc_tally::{TallyFault, Watch};
 use power_index::WideCounts;
@@ -35,43 +40,44 @@ fn unlisted(options: &Options) -> Shown
     }
 }
 
-/// The counts of all minimal winning coalitions of a game, by worker threads that walk over them.
-fn count_by_threads<T: Threads + Wait + Sync, V: Watch + Sync>(
-    rt: &T,
-    alloc: Global,
-    game: &Game,
-    options: &Options,
-    watch: &V,
-) -> Result<WideCounts, Cause>
-    ensures ok { IfOk result
-        (λ c. AreCounts game.now (minimal_coalitions (votes_of game.now)) c) }
-    ensures err { IfErr result IsUncounted }
-{
-    let bits = options.bits.max(LEAST_BITS).min(game.members() as u8);
-    match mwc_tally::tally(rt, alloc, game, bits, options.workers, watch) {
-        Ok(counts) => Ok(counts),
-        Err(TallyFault::Memory) => Err(Cause::Memory),
-        Err(TallyFault::Start) => Err(Cause::Gather(GatherFault::Start)),
-    }
-}
-
-/// The counts of all minimal winning coalitions of a game: by sums where these serve, else by threads.
+/// The counts of all minimal winning coalitions of a game: by sums where these serve, else by worker threads
+/// that walk over them.
 fn count<T: Threads + Wait + Sync, V: Watch + Sync>(
     rt: &T,
     alloc: Global,
     game: &Game,
     options: &Options,
     watch: &V,
-) -> Result<WideCounts, Cause>
-    ensures ok { IfOk result
+) -> Result<WideCounts, TallyFault>
+    ensures { IfOk result
         (λ c. AreCounts game.now (minimal_coalitions (votes_of game.now)) c) }
-    ensures err { IfErr result IsUncounted }
 {
-    match count_by_sums(alloc, game) {
-        Ok(Some(counts)) => Ok(counts),
-        Ok(None) => count_by_threads(rt, alloc, game, options, watch),
-        Err(Memory) => Err(Cause::Memory),
+    if let Some(counts) = count_by_sums(alloc, game)? {
+        return Ok(counts);
     }
+    let bits = options.bits.max(LEAST_BITS).min(game.members() as u8);
+    mwc_tally::tally(rt, alloc, game, bits, options.workers, watch)
+}
+
+/// Counts and writes: all that a tally does with a game.
+fn report<T: Threads + Wait + Sync, W: Write, V: Watch + Sync>(
+    rt: &T,
+    alloc: Global,
+    game: &Game,
+    options: &Options,
+    watch: &V,
+    writer: &mut W,
+) -> Result<u64, RunFault>
+    ensures ok { IfOk result (λ len. (len ≡ length (report (unlisted options.now) game.now))
+        × Appends (W.contents writer.old) (W.contents writer.new)
+        (report (unlisted options.now) game.now)) }
+    ensures err { IfErr result (λ fault. Ends (report (unlisted options.now) game.now) (Unit {0})
+        (W.contents writer.old) (W.contents writer.new) fault.cause fault.written) }
+    ensures threads { IfErr result (λ fault. (why : GatherFault) →
+        fault.cause ≡ cause.Gather why → why ≡ gather.Start) }
+{
+    let counts = count(rt, alloc, game, options, watch)?;
+    Ok(write_tally(alloc, game, &counts, unlisted(options), writer)?)
 }
 
 /// Reads a game, counts its minimal winning coalitions, however many these are, by sums where these serve
@@ -92,35 +98,23 @@ pub fn tally<T: Threads + Wait + Sync, R: Read, W: Write, V: Watch + Sync>(
     watch: &V,
     writer: &mut W,
 ) -> Result<u64, RunFault>
-    ensures ok { IfOk result (λ len. Tallies options.now
+    ensures ok { IfOk result (λ len. Reports (report (unlisted options.now)) (λ g. Unit {0})
         (record {
           unread = R.remaining reader.old;
           left = R.remaining reader.new;
           before = W.contents writer.old;
           after = W.contents writer.new;
         }) len) }
-    ensures err { IfErr result (λ fault. StopsTally options.now
+    ensures err { IfErr result (λ fault. Stops (report (unlisted options.now)) (λ g. Unit {0})
         (record {
           unread = R.remaining reader.old;
           left = R.remaining reader.new;
           before = W.contents writer.old;
           after = W.contents writer.new;
         }) fault.cause fault.written) }
+    ensures threads { IfErr result (λ fault. (why : GatherFault) →
+        fault.cause ≡ cause.Gather why → why ≡ gather.Start) }
 {
-    let game = match read_game(alloc, reader) {
-        Ok(game) => game,
-        Err(fault) => return Err(RunFault::early(Cause::Game(fault))),
-    };
-    let counts = match count(rt, alloc, &game, options, watch) {
-        Ok(counts) => counts,
-        Err(cause) => return Err(RunFault::early(cause)),
-    };
-    match write_tally(alloc, &game, &counts, unlisted(options), writer) {
-        Ok(count) => Ok(count),
-        Err(ReportFault::Memory) => Err(RunFault::early(Cause::Memory)),
-        Err(ReportFault::Write { written }) => Err(RunFault {
-            cause: Cause::Write,
-            written,
-        }),
-    }
+    let game = read_game(alloc, reader)?;
+    report(rt, alloc, &game, options, watch, writer)
 }

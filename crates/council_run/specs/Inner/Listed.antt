@@ -1,14 +1,11 @@
 -- The minimal winning coalitions of a game, where there are at most so many.
-use Rattle.std.specs.Prelude.{◌≡◌, ◌<◌, ◌≤◌, ℕ, List, length}
+use Rattle.std.specs.Prelude.{◌≡◌, ◌≤◌, ℕ, List, length}
 use Rattle.std.specs.List.{All, flat_map, range_with_len}
 use Rattle.council_game.specs.Votes.{minimal_coalitions}
 use Rattle.council_game.specs.Game.{GameView, IsGame, votes_of, AreNonemptyCoalitions}
 use Rattle.mwc_tally.specs.Slices.{slice}
 use Rattle.mwc_parts.specs.Parts.{HasPieces}
 use Rattle.mwc_parts.specs.declared.gathered.Gathered.{Gathered}
-use Rattle.mwc_parts.specs.declared.fault.GatherFault.TheVariants as gather
-use Rattle.council_run.specs.declared.fault.Cause.{Cause}
-use Rattle.council_run.specs.declared.fault.Cause.TheVariants.{Game, Gather, Write, Memory}
 use Rattle.council_run.specs.Run.{count_of}
 
 -- the list is all of them: there is one, there are at most so many, and they are coalitions of the game, none of them empty
@@ -25,11 +22,3 @@ pub record IsGathered (g : GameView) (most : ℕ) (r : Gathered) : Type 0 where
   pub pieces : All (HasPieces (slice (votes_of g) bits)) r.parts.items
   pub whole : flat_map (slice (votes_of g) bits) (range_with_len 0 r.slices) ≡ minimal_coalitions (votes_of g)
   pub few : count_of g ≤ most
-
--- there are more, or the gatherer or a growth was refused
-abbrev pub IsUnlisted : GameView → ℕ → Cause → Type 0
-IsUnlisted g most (Game fault) = ⊥
-IsUnlisted g most (Gather gather.TooMany) = most < count_of g
-IsUnlisted g most (Gather fault) = Unit {0}
-IsUnlisted g most Write = ⊥
-IsUnlisted g most Memory = Unit {0}

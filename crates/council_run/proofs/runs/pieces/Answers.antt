@@ -1,13 +1,9 @@
-use Rattle.std.proofs.Common.{◌∙◌, Result, Ok, Err, IfOk}
+use Rattle.std.proofs.Common.{◌∙◌}
 use Rattle.std.specs.List.{flat_map}
 use Rattle.council_game.specs.Game.{votes_of}
 use Rattle.mwc_tally.specs.Slices.{slice}
-use Rattle.council_run.proofs.Whole.{is-listed}
+use Rattle.council_run.proofs.Whole.{is-listed, ok-map}
 use Rattle.council_run.proofs.runs.pieces.Goals as goal
-
-ok-map : {T E : Type 0} {P Q : T → Type 0} (r : Result T E) → ((t : T) → P t → Q t) → IfOk r P → IfOk r Q
-ok-map (Ok t) more h = more t h
-ok-map (Err e) more h = tt
 
 pub returns : goal.returns
 returns c =
