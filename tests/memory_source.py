@@ -27,6 +27,12 @@ ALLOWED = {
     "council_file/src/tree.rt": [
         ("", "Err(e) if e.is_memory() => Err(GameFault::Memory),", "the parser tells want of memory so"),
     ],
+    "council_explain/src/explaining.rt": [
+        ("", "Err(error) if error.is_memory() => Err(Memory),", "the parser tells want of memory so"),
+    ],
+    "council_explain/src/kept.rt": [
+        ("let refused = match &mut self.bytes {", "Some(bytes) => bytes.extend_from_slice(&buffer[..count]).is_err(),", "nothing is kept then, and the run goes on"),
+    ],
     "council/src/main.rt": [
         ("", "let printed = error.print(rt).is_ok();", "whether the help could be printed"),
     ],

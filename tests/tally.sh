@@ -136,51 +136,38 @@ if needs python3 "a long tally on a terminal"; then
             printf '[[member]]\nname = "%s"\nweights = [1, 1, 1]\n' "$member"
         done
     } >"$temp/three.toml"
-    if timeout "$seconds" python3 - "$program" "$temp/three.toml" >"$temp/told" 2>&1 <<'END'
-import os, pty, re, subprocess, sys, time
-began, first = time.monotonic(), None
-leader, follower = pty.openpty()
-made = subprocess.Popen([sys.argv[1], "--tally", "--workers", "1", "--bits", "10", sys.argv[2]],
-                        stdin=subprocess.DEVNULL, stdout=subprocess.PIPE, stderr=follower)
-os.close(follower)
-told = b""
-while True:
-    try:
-        more = os.read(leader, 4096)
-    except OSError:
-        break
-    if not more:
-        break
-    first = first or time.monotonic()
-    told += more
-assert first - began > 1, f"told of after {first - began} seconds"
-report = made.stdout.read()
-assert made.wait() == 0, made.returncode
+    export PYTHONPATH=$top/tests PYTHONDONTWRITEBYTECODE=1
+    if timeout "$seconds" python3 - "$program" "$temp/three.toml" "$temp/out" >"$temp/told" 2>&1 <<'END'
+import re, sys
+from terminal import Run
+with open(sys.argv[3], "wb") as out:
+    run = Run([sys.argv[1], "--tally", "--workers", "1", "--bits", "10", sys.argv[2]], out)
+status = run.read_all()
+assert status == 0, status
+assert run.first > 1, f"told of after {run.first} seconds"
+with open(sys.argv[3], "rb") as out:
+    report = out.read()
 assert report.startswith(b"members\t40\n") and b"minimal\t76904685\n" in report, report[:80]
-lines = re.findall(rb"\rcouncil: ([0-9]+) of 1024 slices, ([0-9]+) coalitions are counted", told)
-assert lines, told[:200]
+lines = re.findall(rb"\rcouncil: ([0-9]+) of 1024 slices, ([0-9]+) coalitions are counted", run.told)
+assert lines, run.told[:200]
 for column in (0, 1):
     numbers = [int(it[column]) for it in lines]
     assert numbers == sorted(numbers) and numbers[0] < numbers[-1], numbers
 assert int(lines[-1][1]) <= 76904685, lines[-1]
-assert b"\n" not in told and told.endswith(b"\r\x1b[K"), told[-60:]
+assert b"\n" not in run.told and run.told.endswith(b"\r\x1b[K"), run.told[-60:]
 END
     then ok "a long tally on a terminal"; else failed "a long tally on a terminal" "$(tail -n 1 "$temp/told")"; fi
     # a first slice of 225,792,840 coalitions: it is told of while none is done
     sed 's/8, 8, 8/20, 20, 20/' "$temp/three.toml" >"$temp/half.toml"
     if timeout "$seconds" python3 - "$program" "$temp/half.toml" >"$temp/told" 2>&1 <<'END'
-import os, pty, re, subprocess, sys
-leader, follower = pty.openpty()
-made = subprocess.Popen([sys.argv[1], "--tally", "--workers", "1", sys.argv[2]],
-                        stdin=subprocess.DEVNULL, stdout=subprocess.PIPE, stderr=follower)
-os.close(follower)
-told, lines = b"", []
-while len(lines) < 2:
-    told += os.read(leader, 4096)
-    lines = re.findall(rb"\rcouncil: 0 of 256 slices, ([0-9]+) coalitions are counted", told)
-made.kill()
-made.wait()
-assert 0 < int(lines[0]) < int(lines[1]), lines
+import re, sys
+from terminal import Run
+line = re.compile(rb"\rcouncil: 0 of 256 slices, ([0-9]+) coalitions are counted")
+run = Run([sys.argv[1], "--tally", "--workers", "1", sys.argv[2]])
+run.read_until(lambda told: len(line.findall(told)) >= 2)
+run.kill()
+numbers = [int(it) for it in line.findall(run.told)]
+assert 0 < numbers[0] < numbers[1], numbers
 END
     then ok "the first slice on a terminal"; else failed "the first slice on a terminal" "$(tail -n 1 "$temp/told")"; fi
     # a fault at the end: the line is wiped before it
@@ -188,24 +175,14 @@ END
     if [ ! -e /dev/full ]; then
         skipped "$name" "there is no /dev/full"
     elif timeout "$seconds" python3 - "$program" "$temp/three.toml" >"$temp/told" 2>&1 <<'END'
-import os, pty, subprocess, sys
-leader, follower = pty.openpty()
+import sys
+from terminal import Run
 with open("/dev/full", "wb") as full:
-    made = subprocess.Popen([sys.argv[1], "--tally", "--workers", "1", "--bits", "10", sys.argv[2]],
-                            stdin=subprocess.DEVNULL, stdout=full, stderr=follower)
-os.close(follower)
-told = b""
-while True:
-    try:
-        more = os.read(leader, 4096)
-    except OSError:
-        break
-    if not more:
-        break
-    told += more
-assert made.wait() == 5, made.returncode
-assert b"are counted" in told, told[:60]
-assert told.endswith(b"\r\x1b[Kcouncil: output failed\r\n"), told[-80:]
+    run = Run([sys.argv[1], "--tally", "--workers", "1", "--bits", "10", sys.argv[2]], full)
+status = run.read_all()
+assert status == 5, status
+assert b"are counted" in run.told, run.told[:60]
+assert run.told.endswith(b"\r\x1b[Kcouncil: output failed\r\n"), run.told[-80:]
 END
     then ok "$name"; else failed "$name" "$(tail -n 1 "$temp/told")"; fi
     run --tally --workers 1 "$temp/three.toml"

@@ -15,7 +15,7 @@ for word in --help --version; do
 done
 # what a newcomer looks for
 run --help </dev/null
-for word in --workers --bits --most --list --sizes --notation --version FILE title members quota total minimal coalition size member; do
+for word in --workers --bits --most --list --sizes --notation --explain --version FILE title members quota total minimal coalition size member; do
     if grep -q -e "$word" "$temp/out"; then
         ok "--help tells of $word"
     else

@@ -35,18 +35,15 @@ if needs python3 "a long run on a terminal" "a late fault on a terminal" "a game
         done
         printf '[[member]]\nname = "40"\nweights = [1, 1, 20]\n'
     } >"$temp/long.toml"
+    export PYTHONPATH=$top/tests PYTHONDONTWRITEBYTECODE=1
     if timeout "$seconds" python3 - "$program" "$temp/long.toml" >"$temp/told" 2>&1 <<'END'
-import os, pty, re, subprocess, sys
-leader, follower = pty.openpty()
-made = subprocess.Popen([sys.argv[1], "--bits", "10", sys.argv[2]], stdin=subprocess.DEVNULL, stdout=subprocess.DEVNULL, stderr=follower)
-os.close(follower)
-told = b""
-while told.count(b"is begun") < 2:
-    told += os.read(leader, 4096)
-made.kill()
-made.wait()
-numbers = [int(it) for it in re.findall(rb"\rcouncil: slice ([0-9]+) is begun", told)]
-assert len(numbers) >= 2 and numbers == sorted(set(numbers)) and numbers[0] > 4, told
+import re, sys
+from terminal import Run
+run = Run([sys.argv[1], "--bits", "10", sys.argv[2]])
+run.read_until(lambda told: told.count(b"is begun") >= 2)
+run.kill()
+numbers = [int(it) for it in re.findall(rb"\rcouncil: slice ([0-9]+) is begun", run.told)]
+assert len(numbers) >= 2 and numbers == sorted(set(numbers)) and numbers[0] > 4, run.told
 END
     then ok "a long run on a terminal"; else failed "a long run on a terminal" "$(tail -n 1 "$temp/told")"; fi
     # a game whose two minimal winning coalitions are met after some seconds: the line is wiped before the fault
@@ -58,33 +55,20 @@ END
         printf '[[member]]\nname = "%s"\nweights = [1, 1, 20]\n' A B
     } >"$temp/late.toml"
     if timeout "$seconds" python3 - "$program" "$temp/late.toml" >"$temp/told" 2>&1 <<'END'
-import os, pty, subprocess, sys
-leader, follower = pty.openpty()
-made = subprocess.Popen([sys.argv[1], "--workers", "1", "--bits", "10", "--most", "1", sys.argv[2]],
-                        stdin=subprocess.DEVNULL, stdout=subprocess.DEVNULL, stderr=follower)
-os.close(follower)
-told = b""
-while True:
-    try:
-        more = os.read(leader, 4096)
-    except OSError:
-        break
-    if not more:
-        break
-    told += more
-assert made.wait() == 4, made.returncode
-assert b"is begun" in told, told[:60]
-assert told.endswith(b"\r\x1b[Kcouncil: too many minimal winning coalitions\r\n"), told[-80:]
+import sys
+from terminal import Run
+run = Run([sys.argv[1], "--workers", "1", "--bits", "10", "--most", "1", sys.argv[2]])
+status = run.read_all()
+assert status == 4, status
+assert b"is begun" in run.told, run.told[:60]
+assert run.told.endswith(b"\r\x1b[Kcouncil: too many minimal winning coalitions\r\n"), run.told[-80:]
 END
     then ok "a late fault on a terminal"; else failed "a late fault on a terminal" "$(tail -n 1 "$temp/told")"; fi
     if timeout "$seconds" python3 - "$program" >"$temp/told" 2>&1 <<'END'
-import os, pty, subprocess, sys
-leader, follower = pty.openpty()
-made = subprocess.Popen([sys.argv[1]], stdin=follower, stdout=subprocess.PIPE, stderr=subprocess.PIPE)
-os.close(follower)
-os.write(leader, b"[51; 50, 49, 1]\n\x04")
-out, err = made.communicate(timeout=60)
-assert made.returncode == 0 and out.startswith(b"members\t3\n"), out
+import sys
+from terminal import type_in
+status, out, err = type_in([sys.argv[1]], b"[51; 50, 49, 1]\n\x04")
+assert status == 0 and out.startswith(b"members\t3\n"), out
 assert err == b"council: a game is read from standard input, up to its end\n", err
 END
     then ok "a game from a terminal"; else failed "a game from a terminal" "$(tail -n 1 "$temp/told")"; fi

@@ -44,6 +44,7 @@ SECONDS = {
     "council_report": 135,
     "council_run": 115,
     "council_words": 65,
+    "council_explain": 100,
 }
 # the proofs under way
 PROOFS = []

@@ -2,9 +2,11 @@
 //! indices that rest on them.
 #![tactic(auto)]
 
+use council_explain::{Kept, explain};
 use council_progress::{Progress, Wiping};
-use council_run::{Options, RunFault, run, status, tally};
+use council_run::{Cause, Options, RunFault, run, status, tally};
 use council_words::{Wanted, command_line, wanted};
+use mwc_gather::GatherFault;
 use std::io::IsTerminal;
 use std::process::ExitCode;
 use std::rt::Files;
@@ -18,6 +20,32 @@ fn stop(rt: &impl Eprint, fault: RunFault) -> ExitCode {
     let cause = fault.cause;
     let _ = eprintln!(rt; "council: {cause}");
     ExitCode::from(status(&fault))
+}
+
+/// Says more of a fault, where there is more to say; the bytes are those that were read.
+fn say_more(rt: &(impl Eprint + AllocGlobal), cause: Cause, bytes: &[u8]) {
+    match cause {
+        Cause::Game(fault) => {
+            if let Ok(lines) = explain(rt.alloc(), bytes, fault) {
+                let _ = eprint!(rt; "{lines}");
+            }
+        }
+        Cause::Gather(GatherFault::TooMany) => {
+            let _ = eprintln!(rt;
+                "  --tally counts any number of them, and --most takes up to 4000000"
+            );
+        }
+        _ => {}
+    }
+}
+
+/// Says why the file could not be opened.
+fn not_opened(rt: &impl Eprint, wanted: &Wanted<'_>, path: &str, error: &io::Error) -> ExitCode {
+    let _ = eprintln!(rt; "council: the game file cannot be opened");
+    if wanted.explain {
+        let _ = eprintln!(rt; "  {path}: {error}");
+    }
+    ExitCode::from(1)
 }
 
 /// What a run is to do.
@@ -42,20 +70,27 @@ fn run_on<R: AllocGlobal + Print + Eprint + Clock + Threads + Wait + Sync, I: io
 ) -> ExitCode {
     let alloc = rt.alloc();
     let options = options_of(wanted);
+    let mut reader = Kept::new(alloc, reader, wanted.explain);
     let progress = Progress::new(rt, terminal);
     let mut writer = Wiping {
         progress: &progress,
         writer: io::writer(rt),
     };
     let answer = if wanted.tally {
-        tally(rt, alloc, reader, &options, &progress, &mut writer)
+        tally(rt, alloc, &mut reader, &options, &progress, &mut writer)
     } else {
-        run(rt, alloc, reader, &options, &progress, &mut writer)
+        run(rt, alloc, &mut reader, &options, &progress, &mut writer)
     };
     progress.wipe();
     match answer {
         Ok(_) => ExitCode::SUCCESS,
-        Err(fault) => stop(rt, fault),
+        Err(fault) => {
+            let code = stop(rt, fault);
+            if let Some(bytes) = reader.bytes() {
+                say_more(rt, fault.cause, bytes);
+            }
+            code
+        }
     }
 }
 
@@ -68,10 +103,7 @@ fn run_on_file<R: AllocGlobal + Files + Input + Print + Eprint + Clock + Threads
     match wanted.file {
         Some(path) => match fs::open(rt, path) {
             Ok(mut file) => run_on(rt, wanted, terminal, &mut file),
-            Err(_) => {
-                let _ = eprintln!(rt; "council: the game file cannot be opened");
-                ExitCode::from(1)
-            }
+            Err(error) => not_opened(rt, wanted, path, &error),
         },
         None => run_on(rt, wanted, terminal, &mut rt.reader()),
     }

@@ -33,6 +33,8 @@ pub struct Wanted<'a> {
     pub notation: bool,
     /// Whether the coalitions are counted and not kept.
     pub tally: bool,
+    /// Lines that say more of a fault of the game.
+    pub explain: bool,
     ghost workers_in_range: { (1 ≤ workers) × (workers ≤ 16) },
     ghost bits_in_range: { bits ≤ 10 },
     ghost most_in_range: { (1 ≤ most) × (most ≤ 4000000) },
@@ -74,6 +76,9 @@ a total or a weight has one value for each rule, with / between them.
 With --tally a game may have any number of coalitions: they are counted, and none is kept. Where
 it has one rule, or two of which one gives each member the same weight, they are mostly counted by
 sums, and --workers and --bits then have no effect.
+
+With --explain the one line that says why a game is refused is followed by others, which begin with
+blanks: the line of the file, what stands there, and what is allowed.
 
 The status is 0 where the report was written, 1 where the game file cannot be opened or read,
 2 where the command line is wrong, 3 where the file has no game, 4 where the game has more than
@@ -137,7 +142,12 @@ fn command<'a>(alloc: Global) -> Result<Command<'a>, Error> {
         .arg(flag(alloc, "list", "A line for each minimal winning coalition"))?
         .arg(flag(alloc, "sizes", "A line for each size of a coalition"))?
         .arg(flag(alloc, "notation", "A line [q; w1, .., wn] for each rule"))?
-        .arg(tally(alloc)?)?;
+        .arg(tally(alloc)?)?
+        .arg(flag(
+            alloc,
+            "explain",
+            "Where a game is refused, lines that say where and why",
+        ))?;
     Ok(command)
 }
 
@@ -168,6 +178,7 @@ fn wanted_of<'a>(matches: &ArgMatches<'a>) -> Option<Wanted<'a>> {
         sizes: matches.get_flag("sizes"),
         notation: matches.get_flag("notation"),
         tally: matches.get_flag("tally"),
+        explain: matches.get_flag("explain"),
     })
 }
 

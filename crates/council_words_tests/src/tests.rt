@@ -4,10 +4,16 @@ use std::alloc::Global;
 use std::process::Abort;
 use std::test::Fail;
 
-/// Fails with the label where the numbers and the flags are not these: list, sizes, notation, tally.
-fn asks_for(rt: &impl Abort, found: &Wanted<'_>, numbers: [u32; 3], flags: [bool; 4], label: &str) {
+/// Fails with the label where the numbers and the flags are not these: list, sizes, notation, tally, explain.
+fn asks_for(rt: &impl Abort, found: &Wanted<'_>, numbers: [u32; 3], flags: [bool; 5], label: &str) {
     let found_numbers = [u32::from(found.workers), u32::from(found.bits), found.most];
-    let found_flags = [found.list, found.sizes, found.notation, found.tally];
+    let found_flags = [
+        found.list,
+        found.sizes,
+        found.notation,
+        found.tally,
+        found.explain,
+    ];
     assert!(rt; found_numbers == numbers, "{label}");
     assert!(rt; found_flags == flags, "{label}");
 }
@@ -26,7 +32,7 @@ fn words(alloc: Global, line: &str) -> Result<Vec<String>, Fail> {
 fn reads_command_lines(rt: HostRuntime) -> Result<(), Fail> {
     let least = [1, 0, 1];
     let greatest = [16, 10, 4_000_000];
-    let none = [false; 4];
+    let none = [false; 5];
     for (line, file, numbers, flags) in [
         ("", None, [4, 6, 1_000_000], none),
         ("g.toml", Some("g.toml"), [4, 6, 1_000_000], none),
@@ -41,13 +47,13 @@ fn reads_command_lines(rt: HostRuntime) -> Result<(), Fail> {
             "--list --sizes --notation",
             None,
             [4, 6, 1_000_000],
-            [true, true, true, false],
+            [true, true, true, false, false],
         ),
         (
-            "--tally --sizes --workers 2 --bits 1",
+            "--tally --sizes --workers 2 --bits 1 --explain",
             None,
             [2, 1, 1_000_000],
-            [false, true, false, true],
+            [false, true, false, true, true],
         ),
     ] {
         let words = words(rt.alloc(), line)?;

@@ -1,0 +1,105 @@
+//! What a fault says of a bracket text.
+use crate::grammar::{Read, first_misfit};
+use crate::rules::say_range;
+use crate::said::{Said, decimal};
+use crate::source::say_place;
+use council_game::{GameFault, Memory, limits};
+use std::alloc::Global;
+
+/// Whether a text begins with `[` and a digit, but for blanks.
+pub(crate) fn is_bracket(bytes: &[u8]) -> bool {
+    let mut read = Read::Nothing;
+    for byte in bytes {
+        match read.with(*byte) {
+            Some(Read::Quota(_)) => return true,
+            Some(more) => read = more,
+            None => return false,
+        }
+    }
+    false
+}
+
+/// The numbers of a bracket text, the quota first.
+fn numbers_of(alloc: Global, bytes: &[u8]) -> Result<Vec<u64>, Memory> {
+    let mut numbers = Vec::new(alloc);
+    let mut number = None;
+    for byte in bytes {
+        if byte.is_ascii_digit() {
+            let digit = u64::from(*byte & 0x0F);
+            number = Some(
+                number
+                    .unwrap_or(0u64)
+                    .saturating_mul(10)
+                    .saturating_add(digit),
+            );
+        } else if let Some(whole) = number {
+            numbers.push(whole)?;
+            number = None;
+        }
+    }
+    Ok(numbers)
+}
+
+/// Says where a text breaks the grammar.
+fn say_grammar(said: &mut Said, bytes: &[u8]) -> Result<(), Memory> {
+    let (place, read) = first_misfit(bytes);
+    let text = String::from_utf8_lossy(said.alloc(), bytes)?;
+    say_place(said, text.as_str(), place)?;
+    said.line(&[read.wanted()])
+}
+
+/// Says which weight is too great.
+fn say_weight(said: &mut Said, weights: &[u64], member: u8) -> Result<(), Memory> {
+    let alloc = said.alloc();
+    let number = decimal(alloc, usize::from(member))?;
+    for weight in weights
+        .iter()
+        .skip(usize::from(member).saturating_sub(1))
+        .take(1)
+    {
+        let weight = weight.to_string(alloc)?;
+        said.line(&[
+            "weight ",
+            number.as_str(),
+            " is ",
+            weight.as_str(),
+            ": the greatest is 1000000000000",
+        ])?;
+    }
+    Ok(())
+}
+
+fn say_members(said: &mut Said, count: usize) -> Result<(), Memory> {
+    let count = decimal(said.alloc(), count)?;
+    let most = decimal(said.alloc(), limits::MEMBERS)?;
+    said.line(&[
+        "the text has ",
+        count.as_str(),
+        " weights: at most ",
+        most.as_str(),
+        " are allowed",
+    ])
+}
+
+/// Says what a fault says of a bracket text.
+pub(crate) fn say_bracket(said: &mut Said, bytes: &[u8], fault: GameFault) -> Result<(), Memory> {
+    if fault == GameFault::Bracket {
+        return say_grammar(said, bytes);
+    }
+    let numbers = numbers_of(said.alloc(), bytes)?;
+    let [quota, weights @ ..] = numbers.as_slice() else {
+        return Ok(());
+    };
+    match fault {
+        GameFault::Members => say_members(said, weights.len()),
+        GameFault::Weight { member } => say_weight(said, weights, member),
+        GameFault::QuotaRange => {
+            let total = weights
+                .iter()
+                .fold(0u64, |sum, weight| sum.saturating_add(*weight));
+            let quota = quota.to_string(said.alloc())?;
+            say_range(said, "the quota", quota.as_str(), total)
+        }
+        _ => Ok(()),
+    }
+}

@@ -1,0 +1,70 @@
+//! What a fault says of a file.
+use crate::bracket::{is_bracket, say_bracket};
+use crate::file::File;
+use crate::said::Said;
+use crate::source::say_place;
+use council_game::{GameFault, Memory};
+use std::alloc::Global;
+
+/// Three bytes that some editors write before a text.
+const MARK: &[u8] = b"\xEF\xBB\xBF";
+
+/// Says which bytes are no text.
+fn say_encoding(said: &mut Said, bytes: &[u8], known: usize) -> Result<(), Memory> {
+    if bytes.starts_with(b"\xFF\xFE") || bytes.starts_with(b"\xFE\xFF") {
+        return said.line(&["the file is saved as UTF-16: save it as UTF-8"]);
+    }
+    let alloc = said.alloc();
+    let text = String::from_utf8_lossy(alloc, bytes)?;
+    say_place(said, text.as_str(), known)?;
+    said.line(&["a byte there is not UTF-8: save the file as UTF-8"])
+}
+
+/// Says why a text is not TOML.
+fn say_text(said: &mut Said, text: &str, error: &toml::de::Error) -> Result<(), Memory> {
+    if let Some(range) = error.span() {
+        say_place(said, text, range.start)?;
+    }
+    said.line(&[error.message()])?;
+    if is_bracket(text.as_bytes()) {
+        said.line(&["a byte order mark stands before the bracket: save the file without one"])?;
+    }
+    Ok(())
+}
+
+/// Says what a fault says of a file that is no bracket text.
+fn say_file(said: &mut Said, bytes: &[u8], fault: GameFault) -> Result<(), Memory> {
+    let bytes = bytes.strip_prefix(MARK).unwrap_or(bytes);
+    let text = match str::from_utf8(bytes) {
+        Ok(text) => text,
+        Err(error) => return say_encoding(said, bytes, error.valid_up_to()),
+    };
+    match toml::table_from_str(said.alloc(), text) {
+        Ok(table) => File::new(said.alloc(), text, &table)?.say(said, fault),
+        Err(error) if error.is_memory() => Err(Memory),
+        Err(error) => say_text(said, text, &error),
+    }
+}
+
+/// Why a game file was refused, and where: lines of text, each begun with two blanks and ended with LF; none
+/// where there is nothing to say. The bytes are those of the file, and the fault is the one that
+/// `council_file::parse_game` answers for them.
+///
+/// # Errors
+///
+/// Memory where a growth was refused.
+pub fn explain(alloc: Global, bytes: &[u8], fault: GameFault) -> Result<String, Memory> {
+    let mut said = Said::new(alloc);
+    match fault {
+        GameFault::Read => said.line(&[
+            "a folder was named, or what can not be read: name a file that you may read",
+        ])?,
+        GameFault::TooLong => said.line(&[
+            "the file of a game of 40 members is much shorter: is it the right file?",
+        ])?,
+        GameFault::Memory => {}
+        _ if is_bracket(bytes) => say_bracket(&mut said, bytes, fault)?,
+        _ => say_file(&mut said, bytes, fault)?,
+    }
+    Ok(said.into_text())
+}

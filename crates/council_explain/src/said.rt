@@ -1,0 +1,59 @@
+//! The lines of an explanation.
+use council_game::Memory;
+use std::alloc::Global;
+
+/// No part of a line is longer, in characters.
+const LONGEST: usize = 100;
+
+/// The lines of an explanation, each begun with two blanks and ended with LF.
+#[derive(Drop)]
+pub(crate) struct Said {
+    text: String,
+}
+
+impl Said {
+    pub(crate) fn new(alloc: Global) -> Said {
+        Said {
+            text: String::new(alloc),
+        }
+    }
+
+    /// The allocator of the lines.
+    pub(crate) fn alloc(&self) -> Global {
+        *self.text.allocator()
+    }
+
+    /// Adds a line of these parts.
+    pub(crate) fn line(&mut self, parts: &[&str]) -> Result<(), Memory> {
+        self.text.push_str("  ")?;
+        for part in parts {
+            self.text.push_str(*part)?;
+        }
+        self.text.push_str("\n")?;
+        Ok(())
+    }
+
+    pub(crate) fn into_text(self) -> String {
+        self.text
+    }
+}
+
+/// A number in decimal.
+pub(crate) fn decimal(alloc: Global, number: usize) -> Result<String, Memory> {
+    Ok(number.to_string(alloc)?)
+}
+
+/// A text as it can stand in a line: at most so many characters of it, and none that moves a terminal.
+pub(crate) fn shown(alloc: Global, text: &str) -> Result<String, Memory> {
+    let mut shown = String::new(alloc);
+    let mut left = LONGEST;
+    for letter in text.chars() {
+        if left == 0 {
+            shown.push_str("...")?;
+            break;
+        }
+        left -= 1;
+        shown.push(if letter.is_control() { ' ' } else { letter })?;
+    }
+    Ok(shown)
+}

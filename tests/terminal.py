@@ -1,0 +1,61 @@
+"""A program on a terminal, for the scripts of this folder: they run python3 with PYTHONPATH on it.
+
+    run = Run([program, "--tally", game])
+    run.read_until(lambda told: b"are counted" in told)
+    run.kill()
+"""
+import os
+import pty
+import subprocess
+import time
+
+
+class Run:
+    """A program whose standard error is a terminal."""
+
+    def __init__(self, words, stdout=subprocess.DEVNULL):
+        self.leader, follower = pty.openpty()
+        began = time.monotonic()
+        self.process = subprocess.Popen(words, stdin=subprocess.DEVNULL, stdout=stdout, stderr=follower)
+        os.close(follower)
+        self.began = began
+        # after so many seconds it first said something, and what it has said so far
+        self.first = None
+        self.told = b""
+
+    def read(self):
+        """Reads what it says next; whether it said something before it ended."""
+        try:
+            more = os.read(self.leader, 4096)
+        except OSError:
+            return False
+        if self.first is None:
+            self.first = time.monotonic() - self.began
+        self.told += more
+        return bool(more)
+
+    def read_until(self, has_enough):
+        """Reads until it has said enough."""
+        while not has_enough(self.told):
+            assert self.read(), f"it ended, and said {self.told[-80:]}"
+
+    def read_all(self):
+        """Reads until it has ended; its status."""
+        while self.read():
+            pass
+        return self.process.wait()
+
+    def kill(self):
+        self.process.kill()
+        self.process.wait()
+
+
+def type_in(words, typed):
+    """Runs a program whose standard input is a terminal, on which this is typed; the status, and what it wrote to standard
+    output and to standard error."""
+    leader, follower = pty.openpty()
+    made = subprocess.Popen(words, stdin=follower, stdout=subprocess.PIPE, stderr=subprocess.PIPE)
+    os.close(follower)
+    os.write(leader, typed)
+    out, err = made.communicate(timeout=60)
+    return made.returncode, out, err
