@@ -33,7 +33,7 @@ ALLOWED = {
     "council_explain/src/kept.rt": [
         ("let refused = match &mut self.bytes {", "Some(bytes) => bytes.extend_from_slice(&buffer[..count]).is_err(),", "nothing is kept then, and the run goes on"),
     ],
-    "council/src/main.rt": [
+    "council_words/src/refusals.rt": [
         ("", "let printed = error.print(rt).is_ok();", "whether the help could be printed"),
     ],
     "print_indices/src/main.rt": [
@@ -46,10 +46,6 @@ ALLOWED = {
         ("", "Cause::Memory => 4,", "its number is told, no want of memory"),
         ("", "Cause::Game(GameFault::Memory) => 5,", "its status is told, no want of memory"),
         ("", "Cause::Gather(_) | Cause::Write | Cause::Memory => 5,", "its status is told, no want of memory"),
-    ],
-    "council_run/src/runs.rt": [
-        ("let Ok(pieces) = pieces(alloc, &game, &gathered, options.most) else {", "return Err(RunFault::early(Cause::Memory));", "the call's one error is Memory"),
-        ("let Ok(counts) = tally_pieces(rt, &game, &pieces, options.workers) else {", "return Err(RunFault::early(Cause::Gather(GatherFault::Start)));", "the call's one error is Start"),
     ],
     "mwc_gather/src/calls.rt": [
         ("if draft.lost {", "GatherFault::Memory", "a draft is lost where a growth was refused"),

@@ -41,10 +41,11 @@ SECONDS = {
     "mwc_gather": 180,
     "mwc_tally": 95,
     "mwc_sums": 100,
-    "council_report": 135,
-    "council_run": 115,
+    "council_report": 200,
+    "council_run": 70,
     "council_words": 65,
-    "council_explain": 100,
+    "council_explain": 250,
+    "council_progress": 30,
 }
 # the proofs under way
 PROOFS = []
