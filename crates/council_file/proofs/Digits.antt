@@ -31,24 +31,30 @@ unfolding parts
 parts-digit d bs h = rw h refl
 
 -- digits, and no digit behind them, are one number
-pub parts-number : (d : ℕ) (ds rest : List ℕ) → AllDigits 10 (d ∷ ds) → begins_with_digit rest ≡ false → parts ((d ∷ ds) ++ rest) ≡ number (d ∷ ds) ∷ parts rest
+pub parts-number : (d : ℕ) (ds rest : List ℕ) → AllDigits 10 (d ∷ ds) → begins_with_digit rest ≡ false
+    → parts ((d ∷ ds) ++ rest) ≡ number (d ∷ ds) ∷ parts rest
 parts-number d [] rest whole stop = parts-digit d rest (digit_test d whole.0) ∙ ap (λ (j : Bool). with_digit d j (parts rest)) stop
 parts-number d (e ∷ ds) rest whole stop =
     parts-digit d (e ∷ (ds ++ rest)) (digit_test d whole.0)
     ∙ ap (λ (j : Bool). with_digit d j (parts (e ∷ (ds ++ rest)))) (digit_test e whole.1.0)
     ∙ ap (with_digit d true) (parts-number e ds rest whole.1 stop)
 
-number_in_front : (b : ℕ) (bs : List ℕ) (n : ℕ) → is_ascii_digit b ≡ true → AllDigits 10 (take n (b ∷ bs)) → begins_with_digit (drop n (b ∷ bs)) ≡ false → parts (b ∷ bs) ≡ number (take n (b ∷ bs)) ∷ parts (drop n (b ∷ bs))
+number_in_front : (b : ℕ) (bs : List ℕ) (n : ℕ) → is_ascii_digit b ≡ true → AllDigits 10 (take n (b ∷ bs))
+    → begins_with_digit (drop n (b ∷ bs)) ≡ false → parts (b ∷ bs) ≡ number (take n (b ∷ bs)) ∷ parts (drop n (b ∷ bs))
 number_in_front b bs zero digit whole stop = absurd (false≢true (sym stop ∙ digit))
-number_in_front b bs (suc n) digit whole stop = ap (λ (t : List ℕ). parts (b ∷ t)) (sym (take-append-drop n bs)) ∙ parts-number b (take n bs) (drop n bs) whole stop
+number_in_front b bs (suc n) digit whole stop = ap (λ (t : List ℕ). parts (b ∷ t)) (sym (take-append-drop n bs))
+    ∙ parts-number b (take n bs) (drop n bs) whole stop
 
 digit_value-minus : (c : ℕ) → (48 ≤ c) × (c ≤ 57) → digit_value c ≡ c - 48
 digit_value-minus c range = let low = range.0 in let high = range.1 in grind (arith, nat_tests)
 
-pub digits_more : (ds : List ℕ) (i : ℕ) → AllDigits 10 ds → i < length ds → digits_value 10 (take (i + 1) ds) ≡ digits_value 10 (take i ds) * 10 + (get_or ds i 0 - 48)
-digits_more ds i whole below = digits_value_more 10 ds i below ∙ ap (λ (d : ℕ). digits_value 10 (take i ds) * 10 + d) (digit_value-minus _ (digit_at ds i whole below))
+pub digits_more : (ds : List ℕ) (i : ℕ) → AllDigits 10 ds → i < length ds
+    → digits_value 10 (take (i + 1) ds) ≡ digits_value 10 (take i ds) * 10 + (get_or ds i 0 - 48)
+digits_more ds i whole below =
+    digits_value_more 10 ds i below ∙ ap (λ (d : ℕ). digits_value 10 (take i ds) * 10 + d) (digit_value-minus _ (digit_at ds i whole below))
 
-pub digits_fit : (ds : List ℕ) (i : ℕ) → AllDigits 10 ds → length ds ≤ 18 → i < length ds → digits_value 10 (take i ds) * 10 + (get_or ds i 0 - 48) < 10 ^ 18
+pub digits_fit : (ds : List ℕ) (i : ℕ) → AllDigits 10 ds → length ds ≤ 18 → i < length ds
+    → digits_value 10 (take i ds) * 10 + (get_or ds i 0 - 48) < 10 ^ 18
 digits_fit ds i whole short below =
     let small = digits_value_short (numerals_by_value (AllDigits 10) tells_digits) ds 18 whole short in
     let part = digits_value-take-le 10 ds (i + 1) (omega arith) in
@@ -56,8 +62,10 @@ digits_fit ds i whole short below =
     omega (arith, small, part, more)
 
 -- one name more
-pub names_more : (names : List (String Global)) (name : String Global) (k : ℕ) → map string_bytes names ≡ map decimal (range_with_len 1 k) → string_bytes name ≡ decimal (k + 1) → map string_bytes (names ++ name ∷ []) ≡ map decimal (range_with_len 1 (k + 1))
-names_more names name k before this = rw (map_push string_bytes names name, map-range_with_len_more decimal 1 k (k + 1) (omega arith), before, this) refl
+pub names_more : (names : List (String Global)) (name : String Global) (k : ℕ) → map string_bytes names ≡ map decimal (range_with_len 1 k)
+    → string_bytes name ≡ decimal (k + 1) → map string_bytes (names ++ name ∷ []) ≡ map decimal (range_with_len 1 (k + 1))
+names_more names name k before this =
+    rw (map_push string_bytes names name, map-range_with_len_more decimal 1 k (k + 1) (omega arith), before, this) refl
 
 rest_of : (b : ℕ) (bs : List ℕ) → take (length (b ∷ bs) - 1) (drop 1 (b ∷ bs)) ≡ bs
 rest_of b bs = take_all (length (b ∷ bs) - 1) bs (omega arith)
@@ -67,17 +75,21 @@ unfolding parts
 parts_end [] h = refl
 parts_end (b ∷ bs) h = absurd (omega arith)
 
-pub parts_behind_blank : (bs : List ℕ) → 1 ≤ length bs → is_blank (get_or bs 0 0) ≡ true → parts bs ≡ parts (take (length bs - 1) (drop 1 bs))
+pub parts_behind_blank : (bs : List ℕ) → 1 ≤ length bs → is_blank (get_or bs 0 0) ≡ true
+    → parts bs ≡ parts (take (length bs - 1) (drop 1 bs))
 parts_behind_blank [] some blank = absurd (omega arith)
 parts_behind_blank (b ∷ bs) some blank = parts-blank b bs blank ∙ ap parts (sym (rest_of b bs))
 
-pub parts_behind_mark : (bs : List ℕ) → 1 ≤ length bs → is_ascii_digit (get_or bs 0 0) ≡ false → begins_with_blank bs ≡ false → parts bs ≡ mark (get_or bs 0 0) ∷ parts (take (length bs - 1) (drop 1 bs))
+pub parts_behind_mark : (bs : List ℕ) → 1 ≤ length bs → is_ascii_digit (get_or bs 0 0) ≡ false → begins_with_blank bs ≡ false
+    → parts bs ≡ mark (get_or bs 0 0) ∷ parts (take (length bs - 1) (drop 1 bs))
 parts_behind_mark [] some other full = absurd (omega arith)
 parts_behind_mark (b ∷ bs) some other full = parts-mark b bs other full ∙ ap (λ (t : List ℕ). mark b ∷ parts t) (sym (rest_of b bs))
 
-pub parts_behind_number : (bs : List ℕ) (n : ℕ) → 1 ≤ length bs → is_ascii_digit (get_or bs 0 0) ≡ true → AllDigits 10 (take n bs) → begins_with_digit (drop n bs) ≡ false → parts bs ≡ number (take n bs) ∷ parts (drop n bs)
+pub parts_behind_number : (bs : List ℕ) (n : ℕ) → 1 ≤ length bs → is_ascii_digit (get_or bs 0 0) ≡ true → AllDigits 10 (take n bs)
+    → begins_with_digit (drop n bs) ≡ false → parts bs ≡ number (take n bs) ∷ parts (drop n bs)
 parts_behind_number [] n some digit whole stop = absurd (omega arith)
 parts_behind_number (b ∷ bs) n some digit whole stop = number_in_front b bs n digit whole stop
 
 pub names_count : (names : List (String Global)) (n : ℕ) → map string_bytes names ≡ map decimal (range_with_len 1 n) → n ≡ length names
-names_count names n same = sym (length-map-range_with_len decimal 1 n) ∙ ap (λ (xs : List (List ℕ)). length xs) (sym same) ∙ length-map names string_bytes
+names_count names n same = sym (length-map-range_with_len decimal 1 n) ∙ ap (λ (xs : List (List ℕ)). length xs) (sym same)
+    ∙ length-map names string_bytes

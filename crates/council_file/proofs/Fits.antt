@@ -30,7 +30,8 @@ rules_count t ok quota =
       | inl lone ↦ rw lone (omega arith, omega arith)
       | inr many ↦
           let listed = sym (none_gives _ (get_member (codes "quota") t) _ many) ∙ quota in
-          let pass = quotas_pass (has_key (codes "quota") t) (has_key (codes "quotas") t) (are_quotas (elements_at (codes "quotas") t)) (some_member_has (codes "weights") t) (some_member_has (codes "weight") t) many listed ok in
+          let pass = quotas_pass (has_key (codes "quota") t) (has_key (codes "quotas") t) (are_quotas (elements_at (codes "quotas") t))
+          (some_member_has (codes "weights") t) (some_member_has (codes "weight") t) many listed ok in
           let n = length (elements_at (codes "quotas") t) in
           rw (many, length-map-range_with_len (rule_from t n) 0 n) (counted (elements_at (codes "quotas") t) pass)
     ]
@@ -46,22 +47,27 @@ at_full t n r = length-map (member_list t) _
 pub rules_full : (t : Members) → All (λ r. length r.weights ≡ length (member_list t)) (rules_of t)
 rules_full t =
     elim (cases_Bool (has_key (codes "quota") t)) [
-      | inl lone ↦ rw lone (All-cons (λ (r : RuleView). length r.weights ≡ length (member_list t)) (only_rule t) [] (only_full t) (All-nil _))
+      | inl lone ↦ rw lone
+          (All-cons (λ (r : RuleView). length r.weights ≡ length (member_list t)) (only_rule t) [] (only_full t) (All-nil _))
       | inr many ↦
           let n = length (elements_at (codes "quotas") t) in
-          rw many (All-map (λ (r : RuleView). length r.weights ≡ length (member_list t)) (rule_from t n) (range_with_len 0 n) (λ k r h. at_full t n _))
+          rw many (All-map (λ (r : RuleView). length r.weights ≡ length (member_list t)) (rule_from t n) (range_with_len 0 n)
+          (λ k r h. at_full t n _))
     ]
 
 -- what the code holds
-pub held_count : (rules : List Rule) (t : Members) → rule_views rules ≡ rules_of t → breaks_rules t ≡ false → lacks_quota t ≡ false → (0 < length rules) × (length rules ≤ 4)
+pub held_count : (rules : List Rule) (t : Members) → rule_views rules ≡ rules_of t → breaks_rules t ≡ false → lacks_quota t ≡ false
+    → (0 < length rules) × (length rules ≤ 4)
 held_count rules t same ok quota =
     let count = rules_count t ok quota in
     let len : length rules ≡ length (rules_of t) = sym (length-map rules rule_view) ∙ ap (λ (rs : List RuleView). length rs) same in
     (omega (arith, len, count.0), omega (arith, len, count.1))
 
-pub all_held : (rules : List Rule) (t : Members) (names : List (String Global)) (ds : List Data) → rule_views rules ≡ rules_of t → ds ≡ member_list t → map string_bytes names ≡ map name_from ds
+pub all_held : (rules : List Rule) (t : Members) (names : List (String Global)) (ds : List Data) → rule_views rules ≡ rules_of t
+    → ds ≡ member_list t → map string_bytes names ≡ map name_from ds
     → All (λ r. length r.weights.items ≡ length names) rules
 all_held rules t names ds same members named =
     let len : length (member_list t) ≡ length names =
-    ap (λ (xs : List Data). length xs) (sym members) ∙ sym (length-map ds name_from) ∙ ap (λ (xs : List (List ℕ)). length xs) (sym named) ∙ length-map names string_bytes in
+    ap (λ (xs : List Data). length xs) (sym members) ∙ sym (length-map ds name_from) ∙ ap (λ (xs : List (List ℕ)). length xs) (sym named)
+    ∙ length-map names string_bytes in
     held_full rules (length names) (rw (same, ← len) (rules_full t))

@@ -14,11 +14,13 @@ use Rattle.council_game.specs.Game.{is_plain, is_name, is_repeat}
 use Rattle.council_game.proofs.Rankings.{places-at}
 use Rattle.council_file.specs.Bracket.{counted_names}
 
-stops_nowhere : {X : Type 0} (p : X → Bool) (xs : List X) → ((i : ℕ) (d : X) → i < length xs → p (get_or xs i d) ≡ false) → position_or_len p xs ≡ length xs
+stops_nowhere : {X : Type 0} (p : X → Bool) (xs : List X) → ((i : ℕ) (d : X) → i < length xs → p (get_or xs i d) ≡ false)
+    → position_or_len p xs ≡ length xs
 stops_nowhere p [] h = refl
 stops_nowhere p (x ∷ xs) h = rw (h 0 x (omega arith), stops_nowhere p xs (λ i d lt. h (suc i) d (omega arith))) (omega arith)
 
-position_nowhere : {X : Type 0} (p : X → Bool) (xs : List X) → ((i : ℕ) (d : X) → i < length xs → p (get_or xs i d) ≡ false) → position p xs ≡ None
+position_nowhere : {X : Type 0} (p : X → Bool) (xs : List X) → ((i : ℕ) (d : X) → i < length xs → p (get_or xs i d) ≡ false)
+    → position p xs ≡ None
 position_nowhere p xs h = rw (stops_nowhere p xs h, le-ltb (length xs) (length xs) (omega arith)) refl
 
 pub nowhere_below : (p : ℕ → Bool) (m : ℕ) → ((i : ℕ) → i < m → p i ≡ false) → position p (range_with_len 0 m) ≡ None

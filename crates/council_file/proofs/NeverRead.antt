@@ -84,7 +84,8 @@ unfolding game_of_bracket
 of-bracket bytes = step _ _ (or (rule_of (parts bytes)) Bracket tt) (λ r. made None (counted_names (length r.weights)) (r ∷ []))
 
 -- an answer to what has no fault Read
-pub never-read : {X Y : Type 0} (view : X → Y) (answer : Result X GameFault) (wanted : Result Y GameFault) → NoRead wanted → Gives view answer wanted → IfErr answer (λ fault. fault ≢ Read)
+pub never-read : {X Y : Type 0} (view : X → Y) (answer : Result X GameFault) (wanted : Result Y GameFault) → NoRead wanted
+    → Gives view answer wanted → IfErr answer (λ fault. fault ≢ Read)
 never-read view (Ok x) wanted own h = tt
 never-read view (Err Read) wanted own h = absurd (subst NoRead h own).own
 never-read view (Err fault) wanted own h = λ e. absurd (cc)

@@ -23,11 +23,13 @@ use Rattle.council_file.proofs.Named.{nowhere_below, names_pass, repeats_pass}
 
 -- ---- numbers
 
-parts-digits : (ds rest : List ℕ) → 0 < length ds → AllDigits 10 ds → begins_with_digit rest ≡ false → parts (ds ++ rest) ≡ number ds ∷ parts rest
+parts-digits : (ds rest : List ℕ) → 0 < length ds → AllDigits 10 ds → begins_with_digit rest ≡ false
+    → parts (ds ++ rest) ≡ number ds ∷ parts rest
 parts-digits [] rest some whole stop = absurd (omega arith)
 parts-digits (d ∷ ds) rest some whole stop = parts-number d ds rest whole stop
 
-parts-decimal : (n : ℕ) (rest : List ℕ) → n < 10 ^ 18 → begins_with_digit rest ≡ false → parts (decimal n ++ rest) ≡ number (decimal n) ∷ parts rest
+parts-decimal : (n : ℕ) (rest : List ℕ) → n < 10 ^ 18 → begins_with_digit rest ≡ false
+    → parts (decimal n ++ rest) ≡ number (decimal n) ∷ parts rest
 parts-decimal n rest small stop =
     let numeral = decimal_is_IsNumeral n (omega arith) in
     parts-digits (decimal n) rest numeral.0.0 numeral.0.1 stop
@@ -44,11 +46,13 @@ last_is : (w : ℕ) → w < 10 ^ 18 → weights_of (number (decimal w) ∷ closi
 unfolding weights_of
 last_is w small = ap (λ (o : Option ℕ). option_map (λ v. v ∷ []) o) (value_is w small)
 
-next_is : (w : ℕ) (ps : List Part) (ws : List ℕ) → w < 10 ^ 18 → weights_of ps ≡ Some ws → weights_of (number (decimal w) ∷ comma ∷ ps) ≡ Some (w ∷ ws)
+next_is : (w : ℕ) (ps : List Part) (ws : List ℕ) → w < 10 ^ 18 → weights_of ps ≡ Some ws
+    → weights_of (number (decimal w) ∷ comma ∷ ps) ≡ Some (w ∷ ws)
 unfolding weights_of
 next_is w ps ws small rest = rw (value_is w small, rest) refl
 
-weights_read : (w : ℕ) (ws : List ℕ) → AllByRecursion (λ v. v < 10 ^ 18) (w ∷ ws) → weights_of (parts (joined_numbers (codes ", ") (w ∷ ws) ++ codes "]")) ≡ Some (w ∷ ws)
+weights_read : (w : ℕ) (ws : List ℕ) → AllByRecursion (λ v. v < 10 ^ 18) (w ∷ ws)
+    → weights_of (parts (joined_numbers (codes ", ") (w ∷ ws) ++ codes "]")) ≡ Some (w ∷ ws)
 unfolding parts
 weights_read w [] small =
     ap (λ (t : List ℕ). weights_of (parts (t ++ codes "]"))) (one-number (codes ", ") w)
@@ -58,7 +62,8 @@ weights_read w (v ∷ ws) small =
     let rest : List ℕ = joined_numbers (codes ", ") (v ∷ ws) in
     let regrouped : joined_numbers (codes ", ") (w ∷ v ∷ ws) ++ codes "]" ≡ decimal w ++ (codes ", " ++ (rest ++ codes "]")) =
     ap (λ (t : List ℕ). t ++ codes "]") (next-numbers (codes ", ") w v ws)
-    ∙ append_assoc (decimal w) (codes ", " ++ rest) (codes "]") ∙ ap (λ (t : List ℕ). decimal w ++ t) (append_assoc (codes ", ") rest (codes "]")) in
+    ∙ append_assoc (decimal w) (codes ", " ++ rest) (codes "]")
+    ∙ ap (λ (t : List ℕ). decimal w ++ t) (append_assoc (codes ", ") rest (codes "]")) in
     ap (λ (t : List ℕ). weights_of (parts t)) regrouped
     ∙ ap weights_of (parts-decimal w (codes ", " ++ (rest ++ codes "]")) small.0 refl)
     ∙ next_is w (parts (rest ++ codes "]")) (v ∷ ws) small.0 (weights_read v ws small.1)
@@ -108,9 +113,11 @@ text_parts : (r : RuleView) → r.quota < 10 ^ 18 → parts (notation r) ≡ ope
 unfolding notation tail_of parts
 text_parts r small =
     ap parts (regrouped_text (codes "[") (decimal r.quota) (codes "; ") (joined_numbers (codes ", ") r.weights) (codes "]"))
-    ∙ ap (λ (ps : List Part). opening ∷ ps) (parts-decimal r.quota (codes "; " ++ (joined_numbers (codes ", ") r.weights ++ codes "]")) small refl)
+    ∙ ap (λ (ps : List Part). opening ∷ ps)
+    (parts-decimal r.quota (codes "; " ++ (joined_numbers (codes ", ") r.weights ++ codes "]")) small refl)
 
-tail_weights : (ws : List ℕ) → 0 < length ws → AllByRecursion (λ v. v < 10 ^ 18) ws → weights_of (parts (joined_numbers (codes ", ") ws ++ codes "]")) ≡ Some ws
+tail_weights : (ws : List ℕ) → 0 < length ws → AllByRecursion (λ v. v < 10 ^ 18) ws
+    → weights_of (parts (joined_numbers (codes ", ") ws ++ codes "]")) ≡ Some ws
 tail_weights [] some small = absurd (omega arith)
 tail_weights (w ∷ ws) some small = weights_read w ws small
 
@@ -118,12 +125,14 @@ tail_read : (n : ℕ) (r : RuleView) → Fits n r → weights_of (parts (tail_of
 unfolding tail_of
 tail_read n r fits = tail_weights r.weights (omega (arith, fits.full, fits.some)) (weights_small n r fits)
 
-rule_parts : (q : ℕ) (ps : List Part) (ws : List ℕ) → q < 10 ^ 18 → weights_of ps ≡ Some ws → rule_of (opening ∷ number (decimal q) ∷ semicolon ∷ ps) ≡ Some (record { quota = q; weights = ws })
+rule_parts : (q : ℕ) (ps : List Part) (ws : List ℕ) → q < 10 ^ 18 → weights_of ps ≡ Some ws
+    → rule_of (opening ∷ number (decimal q) ∷ semicolon ∷ ps) ≡ Some (record { quota = q; weights = ws })
 unfolding rule_of
 rule_parts q ps ws small rest = rw (value_is q small, rest) refl
 
 rule_read : (n : ℕ) (r : RuleView) → Fits n r → rule_of (parts (notation r)) ≡ Some r
-rule_read n r fits = ap rule_of (text_parts r (quota_small n r fits)) ∙ rule_parts r.quota (parts (tail_of r)) r.weights (quota_small n r fits) (tail_read n r fits)
+rule_read n r fits = ap rule_of (text_parts r (quota_small n r fits))
+    ∙ rule_parts r.quota (parts (tail_of r)) r.weights (quota_small n r fits) (tail_read n r fits)
 
 lengths_of_five : (a b c d e : List ℕ) → length (a ++ b ++ c ++ d ++ e) ≡ length a + (length b + (length c + (length d + length e)))
 lengths_of_five a b c d e = simp length-append (omega arith)
@@ -138,7 +147,8 @@ text_short n r fits =
 
 -- ---- the game
 
-made_by : (names : List (List ℕ)) (r : RuleView) → (nat_lt (length names) 1 || nat_lt 40 (length names)) ≡ false → position (λ name. not (is_name name)) names ≡ None → position (is_repeat names) (places names) ≡ None
+made_by : (names : List (List ℕ)) (r : RuleView) → (nat_lt (length names) 1 || nat_lt 40 (length names)) ≡ false
+    → position (λ name. not (is_name name)) names ≡ None → position (is_repeat names) (places names) ≡ None
     → position (is_heavy (r ∷ [])) (range_with_len 0 (length names)) ≡ None → list_any has_bad_quota (r ∷ []) ≡ false
     → made_game None names (r ∷ []) ≡ Ok (record { title = None; names = names; rules = r ∷ []; ranks = rank_places r.weights })
 unfolding made_game
@@ -187,7 +197,8 @@ fits_at g k game below =
       some = ltb-false _ _ count.0;
       few = ltb-false _ _ count.1;
       full = game.full k none below;
-      light = All-from_recursion (λ (r : RuleView). (i : ℕ) → i < length g.names → get_or r.weights i 0 ≤ 1000000000000) g.rules (light-weights g game) k none below;
+      light = All-from_recursion (λ (r : RuleView). (i : ℕ) → i < length g.names → get_or r.weights i 0 ≤ 1000000000000) g.rules
+          (light-weights g game) k none below;
       quota = All-from_recursion (λ (r : RuleView). has_bad_quota r ≡ false) g.rules (none-any has_bad_quota g.rules p.quotas) k none below;
     }
 

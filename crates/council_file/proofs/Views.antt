@@ -21,8 +21,10 @@ pub keys_view : (es : List (String Global × Value)) → keys (members_view es) 
 keys_view [] = refl
 keys_view (e ∷ es) = ap (λ (ks : List (List ℕ)). string_bytes e.0 ∷ ks) (keys_view es)
 
-pub other_key : (known : List (List ℕ)) (es : List (String Global × Value)) → list_any (λ k. not (list_any (pointwise nat_eq (string_bytes k)) known)) (keys_of es) ≡ has_other_key known (members_view es)
+pub other_key : (known : List (List ℕ)) (es : List (String Global × Value))
+    → list_any (λ k. not (list_any (pointwise nat_eq (string_bytes k)) known)) (keys_of es) ≡ has_other_key known (members_view es)
 other_key known es = rw (keys_view es, list_any_map (λ k. not (list_any (pointwise nat_eq k) known)) string_bytes (keys_of es)) refl
 
-pub rules_more : (f : ℕ → RuleView) (rules : List Rule) (rule : Rule) (r : ℕ) → rule_views rules ≡ map f (range_with_len 0 r) → rule_view rule ≡ f r → rule_views (rules ++ rule ∷ []) ≡ map f (range_with_len 0 (r + 1))
+pub rules_more : (f : ℕ → RuleView) (rules : List Rule) (rule : Rule) (r : ℕ) → rule_views rules ≡ map f (range_with_len 0 r)
+    → rule_view rule ≡ f r → rule_views (rules ++ rule ∷ []) ≡ map f (range_with_len 0 (r + 1))
 rules_more f rules rule r before this = rw (map_push rule_view rules rule, map_one_more f r, before, this) refl

@@ -20,7 +20,8 @@ last_weight : (o : Option ℕ) → option_map (λ w. w ∷ []) o ≡ from_number
 last_weight None = refl
 last_weight (Some n) = refl
 
-one_weight : (o : Option ℕ) (ps : List Part) → option_and_then (λ w. option_map (λ ws. w ∷ ws) (weights_of ps)) o ≡ from_number (option_map (λ n. (n, comma ∷ ps)) o)
+one_weight : (o : Option ℕ) (ps : List Part)
+    → option_and_then (λ w. option_map (λ ws. w ∷ ws) (weights_of ps)) o ≡ from_number (option_map (λ n. (n, comma ∷ ps)) o)
 one_weight None ps = refl
 one_weight (Some n) ps = refl
 
@@ -35,7 +36,8 @@ by_number (number ds ∷ comma ∷ ps) = one_weight (value_of ds) ps
 by_number (number ds ∷ ps) = no_weight (value_of ds) ps (λ n. refl)
 by_number ps = refl
 
-joined_front : (front : List ℕ) (n : ℕ) (o : Option (List ℕ)) → option_map (λ ws. front ++ ws) (option_map (λ ws. n ∷ ws) o) ≡ option_map (λ ws. (front ++ n ∷ []) ++ ws) o
+joined_front : (front : List ℕ) (n : ℕ) (o : Option (List ℕ))
+    → option_map (λ ws. front ++ ws) (option_map (λ ws. n ∷ ws) o) ≡ option_map (λ ws. (front ++ n ∷ []) ++ ws) o
 joined_front front n None = refl
 joined_front front n (Some ws) = ap (λ (vs : List ℕ). Some vs) (sym (append_assoc front (n ∷ []) ws))
 
@@ -43,17 +45,22 @@ joined_front front n (Some ws) = ap (λ (vs : List ℕ). Some vs) (sym (append_a
 abbrev pub Reads : List Part → List ℕ → List Part → Type 0
 Reads text front left = weights_of text ≡ option_map (λ ws. front ++ ws) (weights_of left)
 
-one_more : (text left ps : List Part) (front : List ℕ) (n : ℕ) → Reads text front left → first_number left ≡ Some (n, comma ∷ ps) → Reads text (front ++ n ∷ []) ps
-one_more text left ps front n before now = before ∙ ap (option_map (λ ws. front ++ ws)) (by_number left ∙ ap from_number now) ∙ joined_front front n (weights_of ps)
+one_more : (text left ps : List Part) (front : List ℕ) (n : ℕ) → Reads text front left → first_number left ≡ Some (n, comma ∷ ps)
+    → Reads text (front ++ n ∷ []) ps
+one_more text left ps front n before now = before ∙ ap (option_map (λ ws. front ++ ws)) (by_number left ∙ ap from_number now)
+    ∙ joined_front front n (weights_of ps)
 
-all_read : (text left : List Part) (front : List ℕ) (n : ℕ) → Reads text front left → first_number left ≡ Some (n, closing ∷ []) → Some (front ++ n ∷ []) ≡ weights_of text
+all_read : (text left : List Part) (front : List ℕ) (n : ℕ) → Reads text front left → first_number left ≡ Some (n, closing ∷ [])
+    → Some (front ++ n ∷ []) ≡ weights_of text
 all_read text left front n before now = sym (before ∙ ap (option_map (λ ws. front ++ ws)) (by_number left ∙ ap from_number now))
 
 pub no_number : (text left : List Part) (front : List ℕ) → Reads text front left → None ≡ first_number left → None ≡ weights_of text
 no_number text left front before now = sym (before ∙ ap (option_map (λ ws. front ++ ws)) (by_number left ∙ ap from_number (sym now)))
 
-no_more : (text left ps : List Part) (front : List ℕ) (n : ℕ) → Reads text front left → first_number left ≡ Some (n, ps) → behind n ps ≡ None → None ≡ weights_of text
-no_more text left ps front n before now none = sym (before ∙ ap (option_map (λ ws. front ++ ws)) (by_number left ∙ ap from_number now ∙ none))
+no_more : (text left ps : List Part) (front : List ℕ) (n : ℕ) → Reads text front left → first_number left ≡ Some (n, ps)
+    → behind n ps ≡ None → None ≡ weights_of text
+no_more text left ps front n before now none =
+    sym (before ∙ ap (option_map (λ ws. front ++ ws)) (by_number left ∙ ap from_number now ∙ none))
 
 -- any token but a comma and a closing bracket ends the reading
 stray : (t : Token) (n : ℕ) (ps : List Part) → (t ≢ Comma) → (t ≢ Closing) → behind n (part t ∷ ps) ≡ None
@@ -62,20 +69,34 @@ stray Comma n ps no_comma no_closing = absurd (no_comma refl)
 stray t n ps no_comma no_closing = refl
 
 -- what the token behind a weight makes of the text
-pub after_comma : (text left rest ps : List Part) (front : List ℕ) (n : ℕ) (t : Token) → Reads text front left → Some (n, rest) ≡ first_number left → rest ≡ part t ∷ ps → t ≡ Comma → Reads text (front ++ n ∷ []) ps
-after_comma text left rest ps front n t before now is comma_is = one_more text left ps front n before (sym now ∙ ap (λ (qs : List Part). Some (n, qs)) (is ∙ ap (λ (u : Token). part u ∷ ps) comma_is))
+pub after_comma : (text left rest ps : List Part) (front : List ℕ) (n : ℕ) (t : Token) → Reads text front left
+    → Some (n, rest) ≡ first_number left → rest ≡ part t ∷ ps → t ≡ Comma → Reads text (front ++ n ∷ []) ps
+after_comma text left rest ps front n t before now is comma_is =
+    one_more text left ps front n before (sym now ∙ ap (λ (qs : List Part). Some (n, qs)) (is ∙ ap (λ (u : Token). part u ∷ ps) comma_is))
 
-pub after_closing : (text left rest ps : List Part) (front : List ℕ) (n : ℕ) (t : Token) → Reads text front left → Some (n, rest) ≡ first_number left → rest ≡ part t ∷ ps → t ≡ Closing → ps ≡ [] → Some (front ++ n ∷ []) ≡ weights_of text
-after_closing text left rest ps front n t before now is closing_is end = all_read text left front n before (sym now ∙ ap (λ (qs : List Part). Some (n, qs)) (is ∙ ap (λ (u : Token). part u ∷ ps) closing_is ∙ ap (λ (qs : List Part). closing ∷ qs) end))
+pub after_closing : (text left rest ps : List Part) (front : List ℕ) (n : ℕ) (t : Token) → Reads text front left
+    → Some (n, rest) ≡ first_number left → rest ≡ part t ∷ ps → t ≡ Closing → ps ≡ [] → Some (front ++ n ∷ []) ≡ weights_of text
+after_closing text left rest ps front n t before now is closing_is end =
+    all_read text left front n before
+    (sym now ∙ ap (λ (qs : List Part). Some (n, qs))
+    (is ∙ ap (λ (u : Token). part u ∷ ps) closing_is ∙ ap (λ (qs : List Part). closing ∷ qs) end))
 
-pub after_closing_more : (text left rest ps us : List Part) (front : List ℕ) (n : ℕ) (t u : Token) → Reads text front left → Some (n, rest) ≡ first_number left → rest ≡ part t ∷ ps → t ≡ Closing → ps ≡ part u ∷ us → None ≡ weights_of text
-after_closing_more text left rest ps us front n t u before now is closing_is more = no_more text left (closing ∷ part u ∷ us) front n before (sym now ∙ ap (λ (qs : List Part). Some (n, qs)) (is ∙ ap (λ (v : Token). part v ∷ ps) closing_is ∙ ap (λ (qs : List Part). closing ∷ qs) more)) refl
+pub after_closing_more : (text left rest ps us : List Part) (front : List ℕ) (n : ℕ) (t u : Token) → Reads text front left
+    → Some (n, rest) ≡ first_number left → rest ≡ part t ∷ ps → t ≡ Closing → ps ≡ part u ∷ us → None ≡ weights_of text
+after_closing_more text left rest ps us front n t u before now is closing_is more =
+    no_more text left (closing ∷ part u ∷ us) front n before
+    (sym now ∙ ap (λ (qs : List Part). Some (n, qs))
+    (is ∙ ap (λ (v : Token). part v ∷ ps) closing_is ∙ ap (λ (qs : List Part). closing ∷ qs) more)) refl
 
-pub after_nothing : (text left rest : List Part) (front : List ℕ) (n : ℕ) → Reads text front left → Some (n, rest) ≡ first_number left → rest ≡ [] → None ≡ weights_of text
-after_nothing text left rest front n before now end = no_more text left [] front n before (sym now ∙ ap (λ (qs : List Part). Some (n, qs)) end) refl
+pub after_nothing : (text left rest : List Part) (front : List ℕ) (n : ℕ) → Reads text front left → Some (n, rest) ≡ first_number left
+    → rest ≡ [] → None ≡ weights_of text
+after_nothing text left rest front n before now end =
+    no_more text left [] front n before (sym now ∙ ap (λ (qs : List Part). Some (n, qs)) end) refl
 
-pub after_stray : (text left rest ps : List Part) (front : List ℕ) (n : ℕ) (t : Token) → Reads text front left → Some (n, rest) ≡ first_number left → rest ≡ part t ∷ ps → (t ≢ Comma) → (t ≢ Closing) → None ≡ weights_of text
-after_stray text left rest ps front n t before now is no_comma no_closing = no_more text left (part t ∷ ps) front n before (sym now ∙ ap (λ (qs : List Part). Some (n, qs)) is) (stray t n ps no_comma no_closing)
+pub after_stray : (text left rest ps : List Part) (front : List ℕ) (n : ℕ) (t : Token) → Reads text front left
+    → Some (n, rest) ≡ first_number left → rest ≡ part t ∷ ps → (t ≢ Comma) → (t ≢ Closing) → None ≡ weights_of text
+after_stray text left rest ps front n t before now is no_comma no_closing =
+    no_more text left (part t ∷ ps) front n before (sym now ∙ ap (λ (qs : List Part). Some (n, qs)) is) (stray t n ps no_comma no_closing)
 
 -- ---- the rule
 
@@ -88,11 +109,13 @@ behind_quota f = option_and_then (λ ps. with_weights f.0 (weights_of ps)) (afte
 abbrev behind_opening : List Part → Option RuleView
 behind_opening ps = option_and_then behind_quota (first_number ps)
 
-no_semicolon : (o : Option ℕ) (ps : List Part) → after_semicolon ps ≡ None → None ≡ option_and_then behind_quota (option_map (λ n. (n, ps)) o)
+no_semicolon : (o : Option ℕ) (ps : List Part) → after_semicolon ps ≡ None
+    → None ≡ option_and_then behind_quota (option_map (λ n. (n, ps)) o)
 no_semicolon None ps h = refl
 no_semicolon (Some n) ps h = sym (ap (option_and_then (λ qs. with_weights n (weights_of qs))) h)
 
-one_quota : (o : Option ℕ) (ps : List Part) → option_and_then (λ q. with_weights q (weights_of ps)) o ≡ option_and_then behind_quota (option_map (λ n. (n, semicolon ∷ ps)) o)
+one_quota : (o : Option ℕ) (ps : List Part)
+    → option_and_then (λ q. with_weights q (weights_of ps)) o ≡ option_and_then behind_quota (option_map (λ n. (n, semicolon ∷ ps)) o)
 one_quota None ps = refl
 one_quota (Some n) ps = refl
 
@@ -108,8 +131,15 @@ rule_without_opening ps h = sym (rule_by_steps ps ∙ ap (option_and_then behind
 pub rule_without_quota : (ps qs : List Part) → after_opening ps ≡ Some qs → first_number qs ≡ None → None ≡ rule_of ps
 rule_without_quota ps qs h k = sym (rule_by_steps ps ∙ ap (option_and_then behind_opening) h ∙ ap (option_and_then behind_quota) k)
 
-pub rule_without_semicolon : (ps qs rs : List Part) (q : ℕ) → after_opening ps ≡ Some qs → first_number qs ≡ Some (q, rs) → after_semicolon rs ≡ None → None ≡ rule_of ps
-rule_without_semicolon ps qs rs q h k l = sym (rule_by_steps ps ∙ ap (option_and_then behind_opening) h ∙ ap (option_and_then behind_quota) k ∙ ap (option_and_then (λ ts. with_weights q (weights_of ts))) l)
+pub rule_without_semicolon : (ps qs rs : List Part) (q : ℕ) → after_opening ps ≡ Some qs → first_number qs ≡ Some (q, rs)
+    → after_semicolon rs ≡ None → None ≡ rule_of ps
+rule_without_semicolon ps qs rs q h k l =
+    sym (rule_by_steps ps ∙ ap (option_and_then behind_opening) h ∙ ap (option_and_then behind_quota) k
+    ∙ ap (option_and_then (λ ts. with_weights q (weights_of ts))) l)
 
-pub rule_is : (ps qs rs ts : List Part) (q : ℕ) (weights : Option (List ℕ)) → after_opening ps ≡ Some qs → first_number qs ≡ Some (q, rs) → after_semicolon rs ≡ Some ts → weights ≡ weights_of ts → option_map (λ ws. record { quota = q; weights = ws }) weights ≡ rule_of ps
-rule_is ps qs rs ts q weights h k l m = ap (with_weights q) m ∙ sym (rule_by_steps ps ∙ ap (option_and_then behind_opening) h ∙ ap (option_and_then behind_quota) k ∙ ap (option_and_then (λ us. with_weights q (weights_of us))) l)
+pub rule_is : (ps qs rs ts : List Part) (q : ℕ) (weights : Option (List ℕ)) → after_opening ps ≡ Some qs → first_number qs ≡ Some (q, rs)
+    → after_semicolon rs ≡ Some ts → weights ≡ weights_of ts → option_map (λ ws. record { quota = q; weights = ws }) weights ≡ rule_of ps
+rule_is ps qs rs ts q weights h k l m =
+    ap (with_weights q) m
+    ∙ sym (rule_by_steps ps ∙ ap (option_and_then behind_opening) h ∙ ap (option_and_then behind_quota) k
+    ∙ ap (option_and_then (λ us. with_weights q (weights_of us))) l)

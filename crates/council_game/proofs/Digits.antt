@@ -50,7 +50,8 @@ digit-kept c k i one other =
       | inl lower ↦ left ∙ bit_at_cat_low (2 * s.high) k s.low i lower ∙ sym (right ∙ bit_at_cat_low (2 * s.high + 1) k s.low i lower)
       | inr not_lower ↦
           let e = above-lowest s.high (i - k) (omega (arith, other, not_lower)) in
-          left ∙ bit_at_cat_high (2 * s.high) k s.low i s.small not_lower ∙ sym e ∙ sym (right ∙ bit_at_cat_high (2 * s.high + 1) k s.low i s.small not_lower)
+          left ∙ bit_at_cat_high (2 * s.high) k s.low i s.small not_lower ∙ sym e
+          ∙ sym (right ∙ bit_at_cat_high (2 * s.high + 1) k s.low i s.small not_lower)
     ]
 
 pub digit-gone : (c k : ℕ) → c / 2 ^ k % 2 ≡ 1 → (c - 2 ^ k) / 2 ^ k % 2 ≡ 0
@@ -117,7 +118,8 @@ added-room n q c few lt below out = digit-added_below 40 c (n - 1 - q) (omega ar
 
 pub has-kept : (n p q c : ℕ) → p < n → q < n → p ≢ q → has n q c ≡ true → has n p (without n q c) ≡ has n p c
 unfolding has without
-has-kept n p q c lp lq other in' = ap (λ (x : ℕ). x == 1) (digit-kept c (n - 1 - q) (n - 1 - p) (eqb-true _ _ in') (λ e. other (omega arith)))
+has-kept n p q c lp lq other in' =
+    ap (λ (x : ℕ). x == 1) (digit-kept c (n - 1 - q) (n - 1 - p) (eqb-true _ _ in') (λ e. other (omega arith)))
 
 pub has-gone : (n q c : ℕ) → has n q c ≡ true → has n q (without n q c) ≡ false
 unfolding has without
@@ -142,8 +144,11 @@ lowest-place n c few pos below =
     ]
 
 -- the same of a number that is equal to it
-pub next-place : (n rest mask : ℕ) → n ≤ 40 → mask ≡ rest → 0 < rest → rest < 2 ^ n → (trailing_zeros w64 mask < n) × (has n (n - 1 - trailing_zeros w64 mask) rest ≡ true)
-next-place n rest mask few same pos below = subst (λ (m : ℕ). (trailing_zeros w64 m < n) × (has n (n - 1 - trailing_zeros w64 m) rest ≡ true)) (sym same) (lowest-place n rest few pos below)
+pub next-place : (n rest mask : ℕ) → n ≤ 40 → mask ≡ rest → 0 < rest → rest < 2 ^ n → (trailing_zeros w64 mask < n)
+    × (has n (n - 1 - trailing_zeros w64 mask) rest ≡ true)
+next-place n rest mask few same pos below =
+    subst (λ (m : ℕ). (trailing_zeros w64 m < n) × (has n (n - 1 - trailing_zeros w64 m) rest ≡ true)) (sym same)
+    (lowest-place n rest few pos below)
 
 pub without-less : (n q c : ℕ) → 0 < c → without n q c < c
 unfolding without
@@ -164,7 +169,8 @@ cleared c k one zeros =
     let s = split c k one in
     let pos = pow_pos k in
     let none : s.low ≡ 0 = same_from_bits_below k s.low 0 s.small pos
-    (λ i lt. sym (bit_at_cat_low (2 * s.high + 1) k s.low i lt) ∙ ap (λ (x : ℕ). x / 2 ^ i % 2) (sym s.with_digit) ∙ zeros i lt ∙ sym (bit_at-zero i)) in
+    (λ i lt. sym (bit_at_cat_low (2 * s.high + 1) k s.low i lt) ∙ ap (λ (x : ℕ). x / 2 ^ i % 2) (sym s.with_digit) ∙ zeros i lt
+    ∙ sym (bit_at-zero i)) in
     let whole : c ≡ (2 * s.high + 1) * 2 ^ k + 0 = omega (arith, s.with_digit, none) in
     let less : c - 1 ≡ 2 * s.high * 2 ^ k + (2 ^ k - 1) = omega (arith, whole, pos) in
     let rest = and_le_l 0 (2 ^ k - 1) in

@@ -19,7 +19,8 @@ fixed-half x k p below =
     let e : k - p ≡ (k - (p + 1)) + 1 = omega arith in
     ap (λ (i : ℕ). x / 2 ^ i) e ∙ sym (shr-shr x (k - (p + 1)) 1)
 
-weight-next : (ws : List ℕ) (n m c p : ℕ) → m ≡ n → length ws ≡ n → p < n → weight (take (p + 1) ws) (c / 2 ^ (m - (p + 1))) ≡ weight (take p ws) (c / 2 ^ (m - p)) + c / 2 ^ (m - 1 - p) % 2 * get_or ws p 0
+weight-next : (ws : List ℕ) (n m c p : ℕ) → m ≡ n → length ws ≡ n → p < n
+    → weight (take (p + 1) ws) (c / 2 ^ (m - (p + 1))) ≡ weight (take p ws) (c / 2 ^ (m - p)) + c / 2 ^ (m - 1 - p) % 2 * get_or ws p 0
 weight-next ws n m c p e long below =
     let y : c / 2 ^ (m - p) ≡ c / 2 ^ (m - (p + 1)) / 2 = fixed-half c m p (omega arith) in
     let i : m - 1 - p ≡ m - (p + 1) = omega arith in
@@ -27,21 +28,25 @@ weight-next ws n m c p e long below =
     let more = weight-more ws p (c / 2 ^ (m - (p + 1)) / 2) (c / 2 ^ (m - (p + 1)) % 2) (omega arith) (omega arith) in
     ap (weight (take (p + 1) ws)) (sym whole) ∙ more ∙ rw (y, i) refl
 
-pub weight-in : (ws : List ℕ) (n m c p s t : ℕ) → m ≡ n → length ws ≡ n → p < n → s ≡ weight (take p ws) (c / 2 ^ (m - p)) → has m p c ≡ true → t ≡ s + get_or ws p 0 → t ≡ weight (take (p + 1) ws) (c / 2 ^ (m - (p + 1)))
+pub weight-in : (ws : List ℕ) (n m c p s t : ℕ) → m ≡ n → length ws ≡ n → p < n → s ≡ weight (take p ws) (c / 2 ^ (m - p))
+    → has m p c ≡ true → t ≡ s + get_or ws p 0 → t ≡ weight (take (p + 1) ws) (c / 2 ^ (m - (p + 1)))
 unfolding has
 weight-in ws n m c p s t e long below is inside sums =
     let odd = eqb-true _ _ inside in
     let next = weight-next ws n m c p e long below in
-    let next' : weight (take (p + 1) ws) (c / 2 ^ (m - (p + 1))) ≡ weight (take p ws) (c / 2 ^ (m - p)) + 1 * get_or ws p 0 = rw odd at next in
+    let next' : weight (take (p + 1) ws) (c / 2 ^ (m - (p + 1))) ≡ weight (take p ws) (c / 2 ^ (m - p)) + 1 * get_or ws p 0 =
+    rw odd at next in
     omega (arith, next', is, sums)
 
-pub weight-out : (ws : List ℕ) (n m c p s t : ℕ) → m ≡ n → length ws ≡ n → p < n → s ≡ weight (take p ws) (c / 2 ^ (m - p)) → has m p c ≡ false → t ≡ s → t ≡ weight (take (p + 1) ws) (c / 2 ^ (m - (p + 1)))
+pub weight-out : (ws : List ℕ) (n m c p s t : ℕ) → m ≡ n → length ws ≡ n → p < n → s ≡ weight (take p ws) (c / 2 ^ (m - p))
+    → has m p c ≡ false → t ≡ s → t ≡ weight (take (p + 1) ws) (c / 2 ^ (m - (p + 1)))
 unfolding has
 weight-out ws n m c p s t e long below is outside sums =
     let next = weight-next ws n m c p e long below in
     let not_one : c / 2 ^ (m - 1 - p) % 2 ≡ 1 → ⊥ = λ odd. both_ways _ outside (eq-eqb _ _ odd) in
     let z : c / 2 ^ (m - 1 - p) % 2 ≡ 0 = omega (arith, not_one) in
-    let next' : weight (take (p + 1) ws) (c / 2 ^ (m - (p + 1))) ≡ weight (take p ws) (c / 2 ^ (m - p)) + 0 * get_or ws p 0 = rw z at next in
+    let next' : weight (take (p + 1) ws) (c / 2 ^ (m - (p + 1))) ≡ weight (take p ws) (c / 2 ^ (m - p)) + 0 * get_or ws p 0 =
+    rw z at next in
     omega (arith, next', is, sums)
 
 pub rule-is : (v : Votes) (i : ℕ) → IsVotes v → i < length v.rules → IsRule v.members (rule_at v.rules i)
@@ -60,7 +65,8 @@ weight-all ws p c s le is =
     let whole : c / 2 ^ (length ws - p) ≡ c = ap (λ (i : ℕ). c / 2 ^ i) none ∙ (let z : c / 2 ^ 0 ≡ c = omega arith in z) in
     is ∙ ap (λ (l : List ℕ). weight l (c / 2 ^ (length ws - p))) (take_all p ws le) ∙ ap (weight ws) whole
 
-pub not-minimal : (v : Votes) (c p : ℕ) → p < v.members → has v.members p c ≡ true → wins v.rules (without v.members p c) ≡ true → minimal v c ≡ false
+pub not-minimal : (v : Votes) (c p : ℕ) → p < v.members → has v.members p c ≡ true → wins v.rules (without v.members p c) ≡ true
+    → minimal v c ≡ false
 not-minimal v c p below inside won =
     false_from_ne_true _ (λ min. both_ways _ (((needs-each-member v c).0 min).1 p below inside) won)
 
@@ -79,23 +85,29 @@ rule-at rules i x below at = get_or-map rule_view rules i x _ below ∙ ap rule_
 pub count-rules : (rules : List Rule) → length (rule_views rules) ≡ length rules
 count-rules rules = length-map rules rule_view
 
-pub held-rule : (n : ℕ) (rules : List Rule) (i : ℕ) (x : Rule) → IsVotes (votes n rules) → i < length rules → x ≡ get_or rules i x → IsRule n (rule_view x)
+pub held-rule : (n : ℕ) (rules : List Rule) (i : ℕ) (x : Rule) → IsVotes (votes n rules) → i < length rules → x ≡ get_or rules i x
+    → IsRule n (rule_view x)
 held-rule n rules i x game below at =
     subst (IsRule n) (rule-at rules i x below at) (rule-is (votes n rules) i game (omega (arith, count-rules rules)))
 
 -- a rule's weight of a coalition without one of its places
-pub sum-without : (n : ℕ) (r : RuleView) (c p s : ℕ) → IsRule n r → p < n → has n p c ≡ true → s ≡ weight r.weights c → s - get_or r.weights p 0 ≡ weight r.weights (without n p c)
+pub sum-without : (n : ℕ) (r : RuleView) (c p s : ℕ) → IsRule n r → p < n → has n p c ≡ true → s ≡ weight r.weights c
+    → s - get_or r.weights p 0 ≡ weight r.weights (without n p c)
 unfolding has without
 sum-without n r c p s is below inside sums =
     let len : length r.weights ≡ n = is.full in
     let digit : c / 2 ^ (length r.weights - 1 - p) % 2 ≡ 1 = ap (λ (m : ℕ). c / 2 ^ (m - 1 - p) % 2) len ∙ eqb-true _ _ inside in
-    let w : weight r.weights (c - 2 ^ (length r.weights - 1 - p)) + get_or r.weights p 0 ≡ weight r.weights c = weight-without r.weights p c (omega arith) digit in
-    let moved : weight r.weights (c - 2 ^ (length r.weights - 1 - p)) ≡ weight r.weights (c - 2 ^ (n - 1 - p)) = ap (λ (m : ℕ). weight r.weights (c - 2 ^ (m - 1 - p))) len in
+    let w : weight r.weights (c - 2 ^ (length r.weights - 1 - p)) + get_or r.weights p 0 ≡ weight r.weights c =
+    weight-without r.weights p c (omega arith) digit in
+    let moved : weight r.weights (c - 2 ^ (length r.weights - 1 - p)) ≡ weight r.weights (c - 2 ^ (n - 1 - p)) =
+    ap (λ (m : ℕ). weight r.weights (c - 2 ^ (m - 1 - p))) len in
     omega (arith, w, moved, sums)
 
 -- the same of a rule as the code holds it
-pub less-at : (n : ℕ) (rules : List Rule) (r c p s x y : ℕ) (rule : Rule) → IsVotes (votes n rules) → r < length rules → rule ≡ get_or rules r rule → p < n → has n p c ≡ true
-    → s ≡ weight (rule_at (rule_views rules) r).weights c → x ≡ get_or rule.weights.items p x → y ≡ s - x → y ≡ weight (rule_at (rule_views rules) r).weights (without n p c)
+pub less-at : (n : ℕ) (rules : List Rule) (r c p s x y : ℕ) (rule : Rule) → IsVotes (votes n rules) → r < length rules
+    → rule ≡ get_or rules r rule → p < n → has n p c ≡ true
+    → s ≡ weight (rule_at (rule_views rules) r).weights c → x ≡ get_or rule.weights.items p x → y ≡ s - x
+    → y ≡ weight (rule_at (rule_views rules) r).weights (without n p c)
 less-at n rules r c p s x y rule game below at place inside sums read less =
     let is = held-rule n rules r rule game below at in
     let first = get_or_read rule.weights.items p x (omega (arith, is.full)) read 0 in
@@ -104,7 +116,8 @@ less-at n rules r c p s x y rule game below at place inside sums read less =
     rw held (omega (arith, less, first, whole))
 
 -- a rule whose quota the coalition does not meet, and one whose quota it meets
-pub lost-at : (rules : List Rule) (r c s : ℕ) (rule : Rule) → r < length rules → rule ≡ get_or rules r rule → s ≡ weight (rule_at (rule_views rules) r).weights c → s < rule.quota
+pub lost-at : (rules : List Rule) (r c s : ℕ) (rule : Rule) → r < length rules → rule ≡ get_or rules r rule
+    → s ≡ weight (rule_at (rule_views rules) r).weights c → s < rule.quota
     → wins (rule_views rules) c ≡ false
 unfolding wins
 lost-at rules r c s rule below at is less =
@@ -112,13 +125,15 @@ lost-at rules r c s rule below at is less =
     list_all_at (λ v. leb v.quota (weight v.weights c)) (rule_views rules) r _ (omega (arith, count-rules rules))
     (lt-leb (rule_at (rule_views rules) r).quota (weight (rule_at (rule_views rules) r).weights c) (omega (arith, is, less, quota)))
 
-pub won-at : (rules : List Rule) (r c s : ℕ) (rule : Rule) → r < length rules → rule ≡ get_or rules r rule → s ≡ weight (rule_at (rule_views rules) r).weights c
+pub won-at : (rules : List Rule) (r c s : ℕ) (rule : Rule) → r < length rules → rule ≡ get_or rules r rule
+    → s ≡ weight (rule_at (rule_views rules) r).weights c
     → wins (take r (rule_views rules)) c ≡ true → rule.quota ≤ s → wins (take (r + 1) (rule_views rules)) c ≡ true
 unfolding wins
 won-at rules r c s rule below at is won more =
     let quota = ap (λ (v : RuleView). v.quota) (rule-at rules r rule below at) in
     list_all_more (λ v. leb v.quota (weight v.weights c)) (rule_views rules) r _ (omega (arith, count-rules rules))
-    ∙ and_from _ _ won (le-leb (rule_at (rule_views rules) r).quota (weight (rule_at (rule_views rules) r).weights c) (omega (arith, is, more, quota)))
+    ∙ and_from _ _ won (le-leb (rule_at (rule_views rules) r).quota (weight (rule_at (rule_views rules) r).weights c)
+    (omega (arith, is, more, quota)))
 
 pub wins-all : (rs : List RuleView) (i c : ℕ) → length rs ≤ i → wins (take i rs) c ≡ true → wins rs c ≡ true
 wins-all rs i c le won = ap (λ (l : List RuleView). wins l c) (sym (take_all i rs le)) ∙ won

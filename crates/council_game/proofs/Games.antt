@@ -35,8 +35,10 @@ pub record Passed (g : GameView) : Type 0 where
 pub passed : (g : GameView) → made_game g.title g.names g.rules ≡ Ok g → Passed g
 unfolding made_game
 passed g h =
-    let p = checks-passed (option_map_or (λ t. not (is_title t)) g.title false) (ltb (length g.names) 1 || ltb 40 (length g.names)) (position (λ name. not (is_name name)) g.names)
-    (position (is_repeat g.names) (places g.names)) (position (is_heavy g.rules) (range_with_len 0 (length g.names))) (list_any has_bad_quota g.rules)
+    let p = checks-passed (option_map_or (λ t. not (is_title t)) g.title false) (ltb (length g.names) 1 || ltb 40 (length g.names))
+    (position (λ name. not (is_name name)) g.names)
+    (position (is_repeat g.names) (places g.names)) (position (is_heavy g.rules) (range_with_len 0 (length g.names)))
+    (list_any has_bad_quota g.rules)
     (record { title = g.title; names = g.names; rules = g.rules; ranks = rank_places (first_weights g.rules) }) g h in
     record { members = p.0; names = p.1; weights = p.2; quotas = p.3; ranks = sym (ap (λ (v : GameView). v.ranks) p.4) }
 
@@ -76,26 +78,32 @@ none-any f [] h = tt
 none-any f (x ∷ xs) h = let parts = or_parts (f x) (list_any f xs) h in (parts.0, none-any f xs parts.1)
 
 -- the weights of each rule are in range
-light-rules : (n : ℕ) (rs : List RuleView) → ((i : ℕ) → i < n → is_heavy rs i ≡ false) → AllByRecursion (λ r. (i : ℕ) → i < n → get_or r.weights i 0 ≤ 1000000000000) rs
+light-rules : (n : ℕ) (rs : List RuleView) → ((i : ℕ) → i < n → is_heavy rs i ≡ false)
+    → AllByRecursion (λ r. (i : ℕ) → i < n → get_or r.weights i 0 ≤ 1000000000000) rs
 light-rules n [] h = tt
 light-rules n (r ∷ rs) h = (
   λ i lt. ltb-false _ _ (or_parts (ltb 1000000000000 (get_or r.weights i 0)) (is_heavy rs i) (h i lt)).0,
   light-rules n rs (λ i lt. (or_parts (ltb 1000000000000 (get_or r.weights i 0)) (is_heavy rs i) (h i lt)).1),
 )
 
-pub light-weights : (g : GameView) → IsGame g → AllByRecursion (λ r. (i : ℕ) → i < length g.names → get_or r.weights i 0 ≤ 1000000000000) g.rules
+pub light-weights : (g : GameView)
+    → IsGame g → AllByRecursion (λ r. (i : ℕ) → i < length g.names → get_or r.weights i 0 ≤ 1000000000000) g.rules
 light-weights g game = light-rules (length g.names) g.rules (position-none (is_heavy g.rules) (length g.names) (passed g game.made).weights)
 
 pub light-sum : (n : ℕ) (ws : List ℕ) → length ws ≡ n → n ≤ 40 → ((i : ℕ) → i < n → get_or ws i 0 ≤ 1000000000000) → sum ws ≤ 40000000000000
 light-sum n ws len few light =
-    let most : sum ws ≤ length ws * 1000000000000 = sum_by-le (λ x. x) 1000000000000 ws (λ k d lt. let e : get_or ws k d ≡ get_or ws k 0 = get_or_default ws k d 0 lt in omega (arith, light k (omega arith))) in
+    let most : sum ws ≤ length ws * 1000000000000 =
+    sum_by-le (λ x. x) 1000000000000 ws
+    (λ k d lt. let e : get_or ws k d ≡ get_or ws k 0 = get_or_default ws k d 0 lt in omega (arith, light k (omega arith))) in
     omega arith
 
 -- ---- the rules by rank
-rule-votes : (n : ℕ) (first : List ℕ) (r : RuleView) → n ≤ 40 → length first ≡ n → length r.weights ≡ n → ((i : ℕ) → i < n → get_or r.weights i 0 ≤ 1000000000000) → has_bad_quota r ≡ false → IsRule n (rule_by_rank (rank_places first) r)
+rule-votes : (n : ℕ) (first : List ℕ) (r : RuleView) → n ≤ 40 → length first ≡ n → length r.weights ≡ n
+    → ((i : ℕ) → i < n → get_or r.weights i 0 ≤ 1000000000000) → has_bad_quota r ≡ false → IsRule n (rule_by_rank (rank_places first) r)
 rule-votes n first r few len len2 light quota =
     let found = ranking first in
-    let same : sum (weights_at r.weights (members_by_rank (rank_places first))) ≡ sum r.weights = ranking-sum first found.0 r.weights found.1 (omega arith) in
+    let same : sum (weights_at r.weights (members_by_rank (rank_places first))) ≡ sum r.weights =
+    ranking-sum first found.0 r.weights found.1 (omega arith) in
     let least = or_parts (ltb r.quota 1) (ltb (sum r.weights) r.quota) quota in
     let one : 1 ≤ r.quota = ltb-false _ _ least.0 in
     let most : r.quota ≤ sum r.weights = ltb-false _ _ least.1 in
@@ -107,9 +115,12 @@ rule-votes n first r few len len2 light quota =
       light = omega (arith, same);
     }
 
-rules-votes : (n : ℕ) (first : List ℕ) (rs : List RuleView) → n ≤ 40 → length first ≡ n → AllByRecursion (λ r. length r.weights ≡ n) rs → AllByRecursion (λ r. (i : ℕ) → i < n → get_or r.weights i 0 ≤ 1000000000000) rs → AllByRecursion (λ r. has_bad_quota r ≡ false) rs → AllByRecursion (IsRule n) (map (rule_by_rank (rank_places first)) rs)
+rules-votes : (n : ℕ) (first : List ℕ) (rs : List RuleView) → n ≤ 40 → length first ≡ n → AllByRecursion (λ r. length r.weights ≡ n) rs
+    → AllByRecursion (λ r. (i : ℕ) → i < n → get_or r.weights i 0 ≤ 1000000000000) rs → AllByRecursion (λ r. has_bad_quota r ≡ false) rs
+    → AllByRecursion (IsRule n) (map (rule_by_rank (rank_places first)) rs)
 rules-votes n first [] few len full light quotas = tt
-rules-votes n first (r ∷ rs) few len full light quotas = (rule-votes n first r few len full.0 light.0 quotas.0, rules-votes n first rs few len full.1 light.1 quotas.1)
+rules-votes n first (r ∷ rs) few len full light quotas =
+    (rule-votes n first r few len full.0 light.0 quotas.0, rules-votes n first rs few len full.1 light.1 quotas.1)
 
 rules-ranked : (rs : List RuleView) → IsRanked (map (rule_by_rank (rank_places (first_weights rs))) rs)
 rules-ranked [] = tt
@@ -118,7 +129,8 @@ rules-ranked (r ∷ rs) = λ a b le lt.
     let len = length-weights_by_rank (rank_places r.weights) r.weights ∙ length-rank_places r.weights in
     ranking-falls r.weights found.0 a b found.1 le (omega arith)
 
-pub first-full : (n : ℕ) (rs : List RuleView) → 0 < length rs → AllByRecursion (λ r. length r.weights ≡ n) rs → length (first_weights rs) ≡ n
+pub first-full : (n : ℕ) (rs : List RuleView) → 0 < length rs → AllByRecursion (λ r. length r.weights ≡ n) rs
+    → length (first_weights rs) ≡ n
 first-full n [] some full = absurd (omega arith)
 first-full n (r ∷ rs) some full = full.0
 
@@ -136,7 +148,8 @@ votes-are g game =
     let len = first-full (length g.names) g.rules game.has_rule full in
     let count : length (map (rule_by_rank g.ranks) g.rules) ≡ length g.rules = length-map g.rules (rule_by_rank g.ranks) in
     let all : AllByRecursion (IsRule (length g.names)) (map (rule_by_rank g.ranks) g.rules) =
-    subst (λ (ranks : List ℕ). AllByRecursion (IsRule (length g.names)) (map (rule_by_rank ranks) g.rules)) (sym p.ranks) (rules-votes (length g.names) (first_weights g.rules) g.rules few len full light quotas) in
+    subst (λ (ranks : List ℕ). AllByRecursion (IsRule (length g.names)) (map (rule_by_rank ranks) g.rules)) (sym p.ranks)
+    (rules-votes (length g.names) (first_weights g.rules) g.rules few len full light quotas) in
     let up : IsRanked (map (rule_by_rank g.ranks) g.rules) =
     subst (λ (ranks : List ℕ). IsRanked (map (rule_by_rank ranks) g.rules)) (sym p.ranks) (rules-ranked g.rules) in
     record {

@@ -29,7 +29,8 @@ unfolding wins
 wins-full n [] all = refl
 wins-full n (r ∷ rs) all =
     let full = weight-full r.weights (2 ^ n - 1) (λ i lt. bit_at_ones n i (omega (arith, all.0.full))) in
-    and_from (leb r.quota (weight r.weights (2 ^ n - 1))) (wins rs (2 ^ n - 1)) (le-leb r.quota (weight r.weights (2 ^ n - 1)) (omega (arith, full, all.0.met))) (wins-full n rs all.1)
+    and_from (leb r.quota (weight r.weights (2 ^ n - 1))) (wins rs (2 ^ n - 1))
+    (le-leb r.quota (weight r.weights (2 ^ n - 1)) (omega (arith, full, all.0.met))) (wins-full n rs all.1)
 
 -- the empty coalition loses
 none-wins : (n : ℕ) (rs : List RuleView) → AllByRecursion (IsRule n) rs → 1 ≤ length rs → wins rs 0 ≡ true → ⊥
@@ -70,21 +71,30 @@ listing-is v game =
     let found = minimal-below_winning v (2 ^ v.members) (2 ^ v.members - 1) (omega arith) (wins-full v.members v.rules game.rules) in
     record {
       some = some-left (minimal v) (2 ^ v.members) found.0 (omega (arith, found.1)) found.2;
-      few = (let parts = length-filter_both (minimal v) (λ c. not (minimal v c)) (λ c. refl) (down (2 ^ v.members)) in let all = length-down (2 ^ v.members) in omega (arith, parts, all));
-      below = All-filter (minimal v) (λ c. c < 2 ^ v.members) (down (2 ^ v.members)) (down-below (2 ^ v.members) (2 ^ v.members) (omega arith));
+      few = (let parts = length-filter_both (minimal v) (λ c. not (minimal v c)) (λ c. refl) (down (2 ^ v.members)) in let all =
+          length-down (2 ^ v.members) in omega (arith, parts, all));
+      below = All-filter (minimal v) (λ c. c < 2 ^ v.members) (down (2 ^ v.members))
+          (down-below (2 ^ v.members) (2 ^ v.members) (omega arith));
       descending = AllPairs-filter (λ a b. b < a) (minimal v) (down (2 ^ v.members)) (down-descends (2 ^ v.members));
-      none_empty = All-weaker (λ c. minimal v c ≡ true) (λ c. c ≢ 0) (λ c min e. none-wins v.members v.rules game.rules game.has_rule (ap (wins v.rules) (sym e) ∙ (and_parts _ _ min).0)) (filter (minimal v) (down (2 ^ v.members))) (filter_passes (minimal v) (down (2 ^ v.members)));
+      none_empty = All-weaker (λ c. minimal v c ≡ true) (λ c. c ≢ 0)
+          (λ c min e. none-wins v.members v.rules game.rules game.has_rule (ap (wins v.rules) (sym e) ∙ (and_parts _ _ min).0))
+          (filter (minimal v) (down (2 ^ v.members))) (filter_passes (minimal v) (down (2 ^ v.members)));
     }
 
 -- ---- the list, filled from above
-pub listed-start : (v : Votes) (xs : List ℕ) (n : ℕ) → xs ≡ [] → n ≡ v.members → n ≤ 20 → (xs ++ minimal_below v (1 * 2 ^ n % 2 ^ 64) ≡ minimal_coalitions v) × (1 * 2 ^ n % 2 ^ 64 ≤ 2 ^ 20)
+pub listed-start : (v : Votes) (xs : List ℕ) (n : ℕ) → xs ≡ [] → n ≡ v.members → n ≤ 20
+    → (xs ++ minimal_below v (1 * 2 ^ n % 2 ^ 64) ≡ minimal_coalitions v) × (1 * 2 ^ n % 2 ^ 64 ≤ 2 ^ 20)
 unfolding minimal_coalitions minimal_below
 listed-start v xs n none e few =
     let shl : 1 * 2 ^ n % 2 ^ 64 ≡ 2 ^ n = one_shl n 64 (omega arith) in
-    let most : 2 ^ n ≤ 2 ^ 20 = (let two : 0 < 2 = omega arith in pow-le-pow_right two few) in
-    (ap (λ (l : List ℕ). l ++ minimal_below v (1 * 2 ^ n % 2 ^ 64)) none ∙ ap (minimal_below v) shl ∙ ap (λ (m : ℕ). minimal_below v (2 ^ m)) e, omega (arith, shl, most))
+    let most : 2 ^ n ≤ 2 ^ 20 = (let two : 0 < 2 = omega arith in pow-le-pow_right two few) in (
+      ap (λ (l : List ℕ). l ++ minimal_below v (1 * 2 ^ n % 2 ^ 64)) none ∙ ap (minimal_below v) shl
+          ∙ ap (λ (m : ℕ). minimal_below v (2 ^ m)) e,
+      omega (arith, shl, most),
+    )
 
-pub listed-more : (v : Votes) (xs ys all : List ℕ) (m c : ℕ) → 0 < m → c ≡ m - 1 → minimal v c ≡ true → ys ≡ xs ++ c ∷ [] → xs ++ minimal_below v m ≡ all → ys ++ minimal_below v (m - 1) ≡ all
+pub listed-more : (v : Votes) (xs ys all : List ℕ) (m c : ℕ) → 0 < m → c ≡ m - 1 → minimal v c ≡ true → ys ≡ xs ++ c ∷ []
+    → xs ++ minimal_below v m ≡ all → ys ++ minimal_below v (m - 1) ≡ all
 unfolding minimal_below down
 listed-more v xs ys all m c pos is min pushed h =
     let e : m ≡ suc (m - 1) = omega arith in
@@ -92,7 +102,8 @@ listed-more v xs ys all m c pos is min pushed h =
     let more : minimal_below v m ≡ (m - 1) ∷ minimal_below v (m - 1) = ap (minimal_below v) e ∙ cond-true (minimal v (m - 1)) _ _ first in
     rw (pushed, is, append_assoc) (rw more at h)
 
-pub listed-less : (v : Votes) (xs all : List ℕ) (m c : ℕ) → 0 < m → c ≡ m - 1 → minimal v c ≡ false → xs ++ minimal_below v m ≡ all → xs ++ minimal_below v (m - 1) ≡ all
+pub listed-less : (v : Votes) (xs all : List ℕ) (m c : ℕ) → 0 < m → c ≡ m - 1 → minimal v c ≡ false → xs ++ minimal_below v m ≡ all
+    → xs ++ minimal_below v (m - 1) ≡ all
 unfolding minimal_below down
 listed-less v xs all m c pos is fails h =
     let e : m ≡ suc (m - 1) = omega arith in

@@ -52,14 +52,17 @@ order-places ws os e =
 pub order-below : (ws os : List ℕ) → os ≡ members_by_rank (rank_places ws) → All (λ i. i < length ws) os
 order-below ws os e =
     let found = ranking ws in
-    let all : All (λ i. i < length ws) found.0 = All-permutation (λ i. i < length ws) (places ws) found.0 found.1.each (places-below (length ws)) in
+    let all : All (λ i. i < length ws) found.0 =
+    All-permutation (λ i. i < length ws) (places ws) found.0 found.1.each (places-below (length ws)) in
     subst (λ (l : List ℕ). All (λ i. i < length ws) l) (ranking-is ws found.0 found.1 ∙ sym e) all
 
-first-length : (rules : List Rule) (n : ℕ) → 0 < length rules → All (λ r. length r.weights.items ≡ n) rules → length (first_weights (rule_views rules)) ≡ n
+first-length : (rules : List Rule) (n : ℕ) → 0 < length rules → All (λ r. length r.weights.items ≡ n) rules
+    → length (first_weights (rule_views rules)) ≡ n
 first-length [] n some full = absurd (omega arith)
 first-length (r ∷ rs) n some full = full 0 r (omega arith)
 
-pub order-fits : (rules : List Rule) (n : ℕ) (os : List ℕ) → 0 < length rules → All (λ r. length r.weights.items ≡ n) rules → os ≡ members_by_rank (rank_places (first_weights (rule_views rules))) → All (λ r. All (λ i. i < length r.weights.items) os) rules
+pub order-fits : (rules : List Rule) (n : ℕ) (os : List ℕ) → 0 < length rules → All (λ r. length r.weights.items ≡ n) rules
+    → os ≡ members_by_rank (rank_places (first_weights (rule_views rules))) → All (λ r. All (λ i. i < length r.weights.items) os) rules
 order-fits rules n os some full e k d lt j i below =
     let len = first-length rules n some full in
     let here = full k d lt in
@@ -67,7 +70,8 @@ order-fits rules n os some full e k d lt j i below =
     omega (arith, len, here, h)
 
 -- no total is too great
-light-sums : (n : ℕ) (rs : List RuleView) → n ≤ 40 → AllByRecursion (λ r. length r.weights ≡ n) rs → AllByRecursion (λ r. (i : ℕ) → i < n → get_or r.weights i 0 ≤ 1000000000000) rs → AllByRecursion (λ r. total r ≤ 40000000000000) rs
+light-sums : (n : ℕ) (rs : List RuleView) → n ≤ 40 → AllByRecursion (λ r. length r.weights ≡ n) rs
+    → AllByRecursion (λ r. (i : ℕ) → i < n → get_or r.weights i 0 ≤ 1000000000000) rs → AllByRecursion (λ r. total r ≤ 40000000000000) rs
 light-sums n [] few full light = tt
 light-sums n (r ∷ rs) few full light = (light-sum n r.weights full.0 few light.0, light-sums n rs few full.1 light.1)
 
@@ -79,25 +83,40 @@ sums-fit g game =
     (recursion_from_All (λ (r : RuleView). length r.weights ≡ length g.names) g.rules game.full)
     (light-weights g game)
 
-capped : (rules : List Rule) → AllByRecursion (λ r. total r ≤ 40000000000000) (rule_views rules) → map (λ r. min (sum r.weights.items) (2 ^ 64 - 1)) rules ≡ map total (rule_views rules)
+capped : (rules : List Rule) → AllByRecursion (λ r. total r ≤ 40000000000000) (rule_views rules)
+    → map (λ r. min (sum r.weights.items) (2 ^ 64 - 1)) rules ≡ map total (rule_views rules)
 capped [] fit = refl
 capped (r ∷ rs) fit =
-    let here : min (sum r.weights.items) (2 ^ 64 - 1) ≡ sum r.weights.items = (let f : sum r.weights.items ≤ 40000000000000 = fit.0 in omega arith) in
-    ap (λ (x : ℕ). x ∷ map (λ (q : Rule). min (sum q.weights.items) (2 ^ 64 - 1)) rs) here ∙ ap (λ (l : List ℕ). sum r.weights.items ∷ l) (capped rs fit.1)
+    let here : min (sum r.weights.items) (2 ^ 64 - 1) ≡ sum r.weights.items =
+    (let f : sum r.weights.items ≤ 40000000000000 = fit.0 in omega arith) in
+    ap (λ (x : ℕ). x ∷ map (λ (q : Rule). min (sum q.weights.items) (2 ^ 64 - 1)) rs) here
+    ∙ ap (λ (l : List ℕ). sum r.weights.items ∷ l) (capped rs fit.1)
 
-pub totals-are : (g : GameView) (rules : List Rule) (ts : List ℕ) → IsGame g → g.rules ≡ rule_views rules → ts ≡ map (λ r. min (sum r.weights.items) (2 ^ 64 - 1)) rules → ts ≡ map total (rule_views rules)
+pub totals-are : (g : GameView) (rules : List Rule) (ts : List ℕ) → IsGame g → g.rules ≡ rule_views rules
+    → ts ≡ map (λ r. min (sum r.weights.items) (2 ^ 64 - 1)) rules → ts ≡ map total (rule_views rules)
 totals-are g rules ts game same e = e ∙ capped rules (subst (AllByRecursion (λ r. total r ≤ 40000000000000)) same (sums-fit g game))
 
-pub ranked-are : (rs xs : List RuleView) (ks os : List ℕ) → os ≡ members_by_rank ks → xs ≡ map (rule_along os) rs → xs ≡ map (rule_by_rank ks) rs
+pub ranked-are : (rs xs : List RuleView) (ks os : List ℕ) → os ≡ members_by_rank ks → xs ≡ map (rule_along os) rs
+    → xs ≡ map (rule_by_rank ks) rs
 ranked-are rs xs ks os e h = h ∙ ap (λ (l : List ℕ). map (rule_along l) rs) e
 
-pub made-game : (title : Option (String Global)) (names ns : List (String Global)) (rules rs : List Rule) (ks : List ℕ) → ns ≡ names → rs ≡ rules → ks ≡ rank_places (first_weights (rule_views rules))
-    → made_game (option_map string_bytes title) (map string_bytes ns) (rule_views rs) ≡ Ok (record { title = option_map string_bytes title; names = map string_bytes ns; rules = rule_views rs; ranks = rank_places (first_weights (rule_views rs)) })
+pub made-game : (title : Option (String Global)) (names ns : List (String Global)) (rules rs : List Rule) (ks : List ℕ) → ns ≡ names
+    → rs ≡ rules → ks ≡ rank_places (first_weights (rule_views rules))
+    → made_game (option_map string_bytes title) (map string_bytes ns) (rule_views rs) ≡ Ok
+    (record {
+      title = option_map string_bytes title;
+      names = map string_bytes ns;
+      rules = rule_views rs;
+      ranks =
+          rank_places (first_weights (rule_views rs));
+    })
     → made_game (option_map string_bytes title) (map string_bytes names) (rule_views rules) ≡ Ok (game_of_parts title names rules ks)
 made-game title names ns rules rs ks en er ek h = rw (ek, ← en, ← er) h
 
-pub is-game : (title : Option (String Global)) (names : List (String Global)) (rules : List Rule) (ks : List ℕ) → 0 < length rules → length rules ≤ 4 → All (λ r. length r.weights.items ≡ length names) rules
-    → made_game (option_map string_bytes title) (map string_bytes names) (rule_views rules) ≡ Ok (game_of_parts title names rules ks) → IsGame (game_of_parts title names rules ks)
+pub is-game : (title : Option (String Global)) (names : List (String Global)) (rules : List Rule) (ks : List ℕ) → 0 < length rules
+    → length rules ≤ 4 → All (λ r. length r.weights.items ≡ length names) rules
+    → made_game (option_map string_bytes title) (map string_bytes names) (rule_views rules) ≡ Ok (game_of_parts title names rules ks)
+    → IsGame (game_of_parts title names rules ks)
 is-game title names rules ks some few full made =
     let count = length-map rules rule_view in
     let size = length-map names string_bytes in
@@ -140,7 +159,8 @@ ranks-of ws =
       place_back = λ p lt.
           let in' : p < length found.0 = omega (arith, len) in
           let below = ranking-below ws found.0 p found.1 in' in
-          ap (λ (i : ℕ). get_or (rank_places ws) i 0) (ranking-member_at ws found.0 p found.1 in') ∙ rank_places-at ws (get_or found.0 p 0) below ∙ rank-of ws found.0 p found.1 in';
+          ap (λ (i : ℕ). get_or (rank_places ws) i 0) (ranking-member_at ws found.0 p found.1 in')
+          ∙ rank_places-at ws (get_or found.0 p 0) below ∙ rank-of ws found.0 p found.1 in';
     }
 
 -- in each game the ranks are a permutation, and `member_at` goes back
@@ -149,30 +169,39 @@ ranks-are g game =
     let p = passed g game.made in
     let full = recursion_from_All (λ (r : RuleView). length r.weights ≡ length g.names) g.rules game.full in
     let len = first-full (length g.names) g.rules game.has_rule full in
-    subst (λ (n : ℕ). RanksAre n g.ranks) len (subst (RanksAre (length (first_weights g.rules))) (sym p.ranks) (ranks-of (first_weights g.rules)))
+    subst (λ (n : ℕ). RanksAre n g.ranks) len
+    (subst (RanksAre (length (first_weights g.rules))) (sym p.ranks) (ranks-of (first_weights g.rules)))
 
-pub held-votes : (g : GameView) (n : ℕ) (ranked : List Rule) → IsGame g → n ≡ length g.names → rule_views ranked ≡ (votes_of g).rules → IsVotes (votes n ranked)
+pub held-votes : (g : GameView) (n : ℕ) (ranked : List Rule) → IsGame g → n ≡ length g.names → rule_views ranked ≡ (votes_of g).rules
+    → IsVotes (votes n ranked)
 held-votes g n ranked game count same = rw (count, same) (votes-are g game)
 
 -- the members by rank, as a table
-pub order-at : (g : GameView) (os : List ℕ) (p : ℕ) → RanksAre (length g.names) g.ranks → os ≡ members_by_rank g.ranks → p < length g.names → (length os ≡ length g.names) × (get_or os p 0 ≡ member_at g.ranks p)
+pub order-at : (g : GameView) (os : List ℕ) (p : ℕ) → RanksAre (length g.names) g.ranks → os ≡ members_by_rank g.ranks → p < length g.names
+    → (length os ≡ length g.names) × (get_or os p 0 ≡ member_at g.ranks p)
 order-at g os p are e lt =
     let len = length-range_with_len 0 (length g.ranks) in
-    let size : length os ≡ length g.names = ap length e ∙ length-map (places g.ranks) (member_at g.ranks) ∙ len ∙ are.count in
-    (size, ap (λ (l : List ℕ). get_or l p 0) e ∙ get_or-map (member_at g.ranks) (places g.ranks) p 0 0 (omega (arith, len, are.count)) ∙ ap (member_at g.ranks) (places-at (length g.ranks) p 0 (omega (arith, are.count))))
+    let size : length os ≡ length g.names = ap length e ∙ length-map (places g.ranks) (member_at g.ranks) ∙ len ∙ are.count in (
+      size,
+      ap (λ (l : List ℕ). get_or l p 0) e ∙ get_or-map (member_at g.ranks) (places g.ranks) p 0 0 (omega (arith, len, are.count))
+          ∙ ap (member_at g.ranks) (places-at (length g.ranks) p 0 (omega (arith, are.count))),
+    )
 
 pub names-count : (names : List (String Global)) (n : ℕ) → n ≡ length names → n ≡ length (map string_bytes names)
 names-count names n e = e ∙ sym (length-map names string_bytes)
 
 -- a rule by rank, as the code holds it, is short and light
-pub held-weights : (g : GameView) (ranked : List Rule) (i : ℕ) (x : Rule) → IsGame g → rule_views ranked ≡ (votes_of g).rules → i < length g.rules → x ≡ get_or ranked i x → (length x.weights.items ≤ 40) × (sum x.weights.items ≤ 40000000000000)
+pub held-weights : (g : GameView) (ranked : List Rule) (i : ℕ) (x : Rule) → IsGame g → rule_views ranked ≡ (votes_of g).rules
+    → i < length g.rules → x ≡ get_or ranked i x → (length x.weights.items ≤ 40) × (sum x.weights.items ≤ 40000000000000)
 held-weights g ranked i x game same lt at =
     let v = held-votes g (length g.names) ranked game refl same in
-    let count : length ranked ≡ length g.rules = sym (length-map ranked rule_view) ∙ ap length same ∙ length-map g.rules (rule_by_rank g.ranks) in
+    let count : length ranked ≡ length g.rules = sym (length-map ranked rule_view) ∙ ap length same
+    ∙ length-map g.rules (rule_by_rank g.ranks) in
     let is = held-rule (length g.names) ranked i x v (omega (arith, count)) at in
     (omega (arith, is.full, v.few), is.light)
 
-pub file-full : (g : GameView) (rules : List Rule) (i : ℕ) (x : Rule) → IsGame g → g.rules ≡ rule_views rules → i < length g.rules → x ≡ get_or rules i x → length x.weights.items ≡ length g.names
+pub file-full : (g : GameView) (rules : List Rule) (i : ℕ) (x : Rule) → IsGame g → g.rules ≡ rule_views rules → i < length g.rules
+    → x ≡ get_or rules i x → length x.weights.items ≡ length g.names
 file-full g rules i x game same lt at =
     let full = subst (λ (l : List RuleView). All (λ r. length r.weights ≡ length g.names) l) same game.full in
     let here = held_full rules (length g.names) full i x (omega (arith, ap length same, length-map rules rule_view)) in

@@ -13,7 +13,8 @@ pub weight-mono : (ws : List ℕ) (a c : ℕ) → ((i : ℕ) → i < length ws �
 weight-mono [] a c sub = omega (arith, weight-nil a, weight-nil c)
 weight-mono (w ∷ ws) a c sub =
     let here : a / 2 ^ length ws % 2 ≤ c / 2 ^ length ws % 2 = sub (length ws) (omega arith) in
-    let prod : a / 2 ^ length ws % 2 * w ≤ c / 2 ^ length ws % 2 * w = mul-le (a / 2 ^ length ws % 2) w (c / 2 ^ length ws % 2) w here (omega arith) in
+    let prod : a / 2 ^ length ws % 2 * w ≤ c / 2 ^ length ws % 2 * w =
+    mul-le (a / 2 ^ length ws % 2) w (c / 2 ^ length ws % 2) w here (omega arith) in
     let rest = weight-mono ws a c (λ i below. sub i (omega arith)) in
     omega (arith, prod, rest, weight-cons w ws a, weight-cons w ws c)
 

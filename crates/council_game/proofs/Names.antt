@@ -7,7 +7,9 @@ use Rattle.std.proofs.lemmas.List.{get_or-map, take-map}
 use Rattle.council_game.proofs.Lists.{list_any_map}
 
 pub repeat_is : (names : List (String Global)) (k : ℕ) (name : String Global) (r : Bool) → k < length names → name ≡ get_or names k name
-    → r ≡ list_any (λ other. pointwise nat_eq (string_bytes name) (string_bytes other)) (take k names) → r ≡ is_repeat (map string_bytes names) k
+    → r ≡ list_any (λ other. pointwise nat_eq (string_bytes name) (string_bytes other)) (take k names)
+    → r ≡ is_repeat (map string_bytes names) k
 repeat_is names k name r below at answer =
-    let e : get_or (map string_bytes names) k [] ≡ string_bytes name = get_or-map string_bytes names k name [] below ∙ ap string_bytes (sym at) in
+    let e : get_or (map string_bytes names) k [] ≡ string_bytes name = get_or-map string_bytes names k name [] below
+    ∙ ap string_bytes (sym at) in
     rw (e, take-map string_bytes k names, list_any_map (pointwise nat_eq (string_bytes name)) string_bytes (take k names)) answer

@@ -18,9 +18,11 @@ list_all-filter in_it passes (p ∷ ps) = elim (cases_Bool (in_it p)) [
 ]
 
 -- where each of those places passes, so does one of them
-pub each-place : (in_it passes : ℕ → Bool) (n p : ℕ) → list_all passes (filter in_it (range_with_len 0 n)) ≡ true → p < n → in_it p ≡ true → passes p ≡ true
+pub each-place : (in_it passes : ℕ → Bool) (n p : ℕ) → list_all passes (filter in_it (range_with_len 0 n)) ≡ true → p < n → in_it p ≡ true
+    → passes p ≡ true
 each-place in_it passes n p all below inside =
-    let each = AllPass-from_list_all (OutOrPasses in_it passes) (range_with_len 0 n) (sym (list_all-filter in_it passes (range_with_len 0 n)) ∙ all) in
+    let each = AllPass-from_list_all (OutOrPasses in_it passes) (range_with_len 0 n)
+    (sym (list_all-filter in_it passes (range_with_len 0 n)) ∙ all) in
     let here = rw (places-at n p 0 below) at (each p 0 (let long = length-range_with_len 0 n in omega (arith, long, below))) in
     elim (or_cases (not (in_it p)) (passes p) here) [
       | inl out ↦ absurd (both_ways _ (not_from_true _ inside) out)
@@ -28,7 +30,8 @@ each-place in_it passes n p all below inside =
     ]
 
 -- the same the other way round
-pub all-places : (in_it passes : ℕ → Bool) (n : ℕ) → ((p : ℕ) → p < n → in_it p ≡ true → passes p ≡ true) → list_all passes (filter in_it (range_with_len 0 n)) ≡ true
+pub all-places : (in_it passes : ℕ → Bool) (n : ℕ) → ((p : ℕ) → p < n → in_it p ≡ true → passes p ≡ true)
+    → list_all passes (filter in_it (range_with_len 0 n)) ≡ true
 all-places in_it passes n each =
     list_all-filter in_it passes (range_with_len 0 n)
     ∙ list_all-from_AllPass (OutOrPasses in_it passes) (range_with_len 0 n) (λ p d lt.
@@ -46,9 +49,11 @@ some-fails test (p ∷ ps) h = elim (and_cases (test p) (list_all test ps) h) [
 ]
 
 -- where not all of them pass, one does not
-pub spare-place : (in_it passes : ℕ → Bool) (n : ℕ) → list_all passes (filter in_it (range_with_len 0 n)) ≡ false → (p : ℕ) × (p < n) × (in_it p ≡ true) × (passes p ≡ false)
+pub spare-place : (in_it passes : ℕ → Bool) (n : ℕ) → list_all passes (filter in_it (range_with_len 0 n)) ≡ false → (p : ℕ) × (p < n)
+    × (in_it p ≡ true) × (passes p ≡ false)
 spare-place in_it passes n some =
-    let found = some-fails (OutOrPasses in_it passes) (range_with_len 0 n) (sym (list_all-filter in_it passes (range_with_len 0 n)) ∙ some) in
+    let found = some-fails (OutOrPasses in_it passes) (range_with_len 0 n)
+    (sym (list_all-filter in_it passes (range_with_len 0 n)) ∙ some) in
     let below : found.0 < n = (let long = length-range_with_len 0 n in omega (arith, long, found.1)) in
     let parts = or_parts _ _ (rw (places-at n found.0 0 below) at found.2) in
     (found.0, below, not-false _ parts.0, parts.1)

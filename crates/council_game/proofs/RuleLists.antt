@@ -5,7 +5,8 @@ use Rattle.council_game.specs.declared.rule.Rule.{Rule}
 use Rattle.council_game.specs.Rules.{rule_view, rule_views}
 
 -- the rules that the code holds are as full as the records say
-pub held_full : (rules : List Rule) (n : ℕ) → All (λ r. length r.weights ≡ n) (rule_views rules) → All (λ r. length r.weights.items ≡ n) rules
+pub held_full : (rules : List Rule) (n : ℕ) → All (λ r. length r.weights ≡ n) (rule_views rules)
+    → All (λ r. length r.weights.items ≡ n) rules
 held_full rules n full k d h =
     let here = full k (rule_view d) (omega (arith, length-map rules rule_view)) in
     rw (get_or-map rule_view rules k d (rule_view d) h) at here

@@ -24,7 +24,8 @@ size-from m a (suc n) c e =
     let bit : c / 2 ^ n % 2 < 2 = omega arith in
     let parts : c % 2 ^ suc n ≡ c / 2 ^ n % 2 * 2 ^ n + c % 2 ^ n = ap (λ (k : ℕ). c % 2 ^ k) one_more ∙ mod-pow-add c 1 n in
     let both : count_ones (c % 2 ^ suc n) ≡ c / 2 ^ n % 2 + count_ones (c % 2 ^ n) =
-    ap count_ones parts ∙ ones_cat n (c / 2 ^ n % 2) (c % 2 ^ n) (mod-lt c (pow_pos n)) ∙ ap (λ (k : ℕ). k + count_ones (c % 2 ^ n)) (bit-ones (c / 2 ^ n % 2) bit) in
+    ap count_ones parts ∙ ones_cat n (c / 2 ^ n % 2) (c % 2 ^ n) (mod-lt c (pow_pos n))
+    ∙ ap (λ (k : ℕ). k + count_ones (c % 2 ^ n)) (bit-ones (c / 2 ^ n % 2) bit) in
     let others : List ℕ = filter (λ p. has m p c) (range_with_len (a + 1) n) in
     cond_both (has m a c) (a ∷ others) others (λ ps. length ps ≡ count_ones (c % 2 ^ suc n))
     (λ inside. let digit = rw place at (eqb-true _ _ inside) in omega (arith, rest, both, digit))

@@ -10,7 +10,8 @@ use Rattle.council_game.proofs.Monotone.{weight-mono}
 use Rattle.council_game.proofs.Meanings.{needs-each-member}
 
 -- where a set wins, each set wins that has all its places
-wins-mono : (n a c : ℕ) (rs : List RuleView) → AllByRecursion (IsRule n) rs → ((i : ℕ) → i < n → a / 2 ^ i % 2 ≤ c / 2 ^ i % 2) → wins rs a ≡ true → wins rs c ≡ true
+wins-mono : (n a c : ℕ) (rs : List RuleView) → AllByRecursion (IsRule n) rs → ((i : ℕ) → i < n → a / 2 ^ i % 2 ≤ c / 2 ^ i % 2)
+    → wins rs a ≡ true → wins rs c ≡ true
 unfolding wins
 wins-mono n a c [] all sub h = refl
 wins-mono n a c (r ∷ rs) all sub h =
@@ -47,7 +48,8 @@ subsets-lose v game a c la lc min sub =
           let lost = rw place at (((needs-each-member v c).0 min).1 (v.members - 1 - i) (omega arith)) in
           absurd (both_ways _ (lost (eq-eqb _ _ inside)) (wins-mono v.members a (c - 2 ^ i) v.rules game.rules
           (λ j lt. elim (cases_eq j i) [
-            | inl same ↦ let out : a / 2 ^ j % 2 ≡ 0 = ap (λ (k : ℕ). a / 2 ^ k % 2) same ∙ omega (arith, here, inside, other) in omega (arith, out)
+            | inl same ↦ let out : a / 2 ^ j % 2 ≡ 0 = ap (λ (k : ℕ). a / 2 ^ k % 2) same
+                ∙ omega (arith, here, inside, other) in omega (arith, out)
             | inr apart ↦ let kept = digit-kept c i j inside apart in let l = less j lt in omega (arith, kept, l)
           ]) won))
     ])))

@@ -34,7 +34,8 @@ from ws (v ∷ vs) m a c e same =
 
 weight-by_digits : (ws : List ℕ) (c : ℕ) → weight ws c ≡ by_digits ws c
 unfolding weight
-weight-by_digits ws c = sym (from ws ws (length ws) 0 c (omega arith) (λ i below. ap (slice_index ws) (let z : 0 + i ≡ i = omega arith in z)))
+weight-by_digits ws c =
+    sym (from ws ws (length ws) 0 c (omega arith) (λ i below. ap (slice_index ws) (let z : 0 + i ≡ i = omega arith in z)))
 
 pub weight-nil : (c : ℕ) → weight [] c ≡ 0
 unfolding by_digits

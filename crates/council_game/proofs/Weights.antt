@@ -26,7 +26,8 @@ weight-cat [] vs x r h = weight-skip vs x r ∙ rw (weight-nil x) (omega arith)
 weight-cat (w ∷ ws) vs x r h =
     let e : length (ws ++ vs) ≡ length ws + length vs = length-append ws vs in
     let k : length (ws ++ vs) - length vs ≡ length ws = omega arith in
-    let top : (x * 2 ^ length vs + r) / 2 ^ length (ws ++ vs) % 2 ≡ x / 2 ^ (length (ws ++ vs) - length vs) % 2 = bit_at_cat_high x (length vs) r (length (ws ++ vs)) h (omega arith) in
+    let top : (x * 2 ^ length vs + r) / 2 ^ length (ws ++ vs) % 2 ≡ x / 2 ^ (length (ws ++ vs) - length vs) % 2 =
+    bit_at_cat_high x (length vs) r (length (ws ++ vs)) h (omega arith) in
     let top' : (x * 2 ^ length vs + r) / 2 ^ length (ws ++ vs) % 2 ≡ x / 2 ^ length ws % 2 = top ∙ ap (λ (i : ℕ). x / 2 ^ i % 2) k in
     let tail = weight-cat ws vs x r h in
     rw (weight-cons w (ws ++ vs) (x * 2 ^ length vs + r), weight-cons w ws x, top', tail) (omega arith)
@@ -45,33 +46,40 @@ weight-zero [] = weight-nil 0
 weight-zero (w ∷ ws) = rw (weight-cons w ws 0, bit_at-zero (length ws), weight-zero ws) (omega arith)
 
 -- a coalition's weight is that of its first p places and that of the rest
-pub weight-at : (ws : List ℕ) (p c : ℕ) → p ≤ length ws → weight ws c ≡ weight (take p ws) (c / 2 ^ (length ws - p)) + weight (drop p ws) (c % 2 ^ (length ws - p))
+pub weight-at : (ws : List ℕ) (p c : ℕ)
+    → p ≤ length ws → weight ws c ≡ weight (take p ws) (c / 2 ^ (length ws - p)) + weight (drop p ws) (c % 2 ^ (length ws - p))
 weight-at ws p c h =
     let e : length (drop p ws) ≡ length ws - p = length-drop p ws in
     let low : c % 2 ^ (length ws - p) < 2 ^ length (drop p ws) = rw e (mod_below c (2 ^ (length ws - p)) (pow_pos (length ws - p))) in
-    rw (e, div-add-mod' c (2 ^ (length ws - p)), take-append-drop p ws) at (weight-cat (take p ws) (drop p ws) (c / 2 ^ (length ws - p)) (c % 2 ^ (length ws - p)) low)
+    rw (e, div-add-mod' c (2 ^ (length ws - p)), take-append-drop p ws) at
+    (weight-cat (take p ws) (drop p ws) (c / 2 ^ (length ws - p)) (c % 2 ^ (length ws - p)) low)
 
 -- a prefix with zeros after it weighs what its places weigh
 pub weight-prefix : (ws : List ℕ) (p x : ℕ) → p ≤ length ws → weight ws (x * 2 ^ (length ws - p)) ≡ weight (take p ws) x
 weight-prefix ws p x h =
     let pos : 0 < 2 ^ (length ws - p) = pow_pos (length ws - p) in
     let e : x * 2 ^ (length ws - p) + 0 ≡ x * 2 ^ (length ws - p) = omega arith in
-    let d : x * 2 ^ (length ws - p) / 2 ^ (length ws - p) ≡ x = ap (λ (i : ℕ). i / 2 ^ (length ws - p)) (sym e) ∙ div-mul-add x (2 ^ (length ws - p)) 0 pos in
-    let m : x * 2 ^ (length ws - p) % 2 ^ (length ws - p) ≡ 0 = ap (λ (i : ℕ). i % 2 ^ (length ws - p)) (sym e) ∙ mod-mul-add x (2 ^ (length ws - p)) 0 pos in
+    let d : x * 2 ^ (length ws - p) / 2 ^ (length ws - p) ≡ x = ap (λ (i : ℕ). i / 2 ^ (length ws - p)) (sym e)
+    ∙ div-mul-add x (2 ^ (length ws - p)) 0 pos in
+    let m : x * 2 ^ (length ws - p) % 2 ^ (length ws - p) ≡ 0 = ap (λ (i : ℕ). i % 2 ^ (length ws - p)) (sym e)
+    ∙ mod-mul-add x (2 ^ (length ws - p)) 0 pos in
     rw (d, m, weight-zero (drop p ws)) at (weight-at ws p (x * 2 ^ (length ws - p)) h) ∙ omega arith
 
 -- one place more
-pub weight-more : (ws : List ℕ) (p x b : ℕ) → p < length ws → b < 2 → weight (take (p + 1) ws) (2 * x + b) ≡ weight (take p ws) x + b * get_or ws p 0
+pub weight-more : (ws : List ℕ) (p x b : ℕ) → p < length ws → b < 2
+    → weight (take (p + 1) ws) (2 * x + b) ≡ weight (take p ws) x + b * get_or ws p 0
 weight-more ws p x b h below =
     let e : x * 2 ^ length (get_or ws p 0 ∷ []) + b ≡ 2 * x + b = omega arith in
     let one : b / 2 ^ 0 % 2 ≡ b = omega arith in
     ap (λ (l : List ℕ). weight l (2 * x + b)) (take_more ws p 0 h)
     ∙ ap (weight (take p ws ++ get_or ws p 0 ∷ [])) (sym e)
     ∙ weight-cat (take p ws) (get_or ws p 0 ∷ []) x b (omega arith)
-    ∙ (let z : weight (get_or ws p 0 ∷ []) b ≡ b * get_or ws p 0 = rw (weight-cons (get_or ws p 0) [] b, weight-nil b, one) (omega arith) in omega (arith, z))
+    ∙ (let z : weight (get_or ws p 0 ∷ []) b ≡ b * get_or ws p 0 =
+    rw (weight-cons (get_or ws p 0) [] b, weight-nil b, one) (omega arith) in omega (arith, z))
 
 -- Where c has place q besides the places of a, it weighs more by that place.
-weight-one_more : (ws : List ℕ) (a c k q : ℕ) → k + 1 + q ≡ length ws → a / 2 ^ k % 2 ≡ 0 → c / 2 ^ k % 2 ≡ 1 → ((i : ℕ) → i ≢ k → a / 2 ^ i % 2 ≡ c / 2 ^ i % 2)
+weight-one_more : (ws : List ℕ) (a c k q : ℕ) → k + 1 + q ≡ length ws → a / 2 ^ k % 2 ≡ 0 → c / 2 ^ k % 2 ≡ 1
+    → ((i : ℕ) → i ≢ k → a / 2 ^ i % 2 ≡ c / 2 ^ i % 2)
     → weight ws a + get_or ws q 0 ≡ weight ws c
 weight-one_more [] a c k q place out inside same = absurd (omega arith)
 weight-one_more (w ∷ vs) a c k zero place out inside same =
@@ -83,7 +91,8 @@ weight-one_more (w ∷ vs) a c k (suc q) place out inside same =
     rw (weight-cons w vs a, weight-cons w vs c, same (length vs) (omega arith)) (omega (arith, rest))
 
 -- a set without one of its places weighs less by that place's weight
-pub weight-without : (ws : List ℕ) (q c : ℕ) → q < length ws → c / 2 ^ (length ws - 1 - q) % 2 ≡ 1 → weight ws (c - 2 ^ (length ws - 1 - q)) + get_or ws q 0 ≡ weight ws c
+pub weight-without : (ws : List ℕ) (q c : ℕ) → q < length ws → c / 2 ^ (length ws - 1 - q) % 2 ≡ 1
+    → weight ws (c - 2 ^ (length ws - 1 - q)) + get_or ws q 0 ≡ weight ws c
 weight-without ws q c below inside =
     weight-one_more ws (c - 2 ^ (length ws - 1 - q)) c (length ws - 1 - q) q (omega arith) (digit-gone c (length ws - 1 - q) inside) inside
     (λ i other. digit-kept c (length ws - 1 - q) i inside other)

@@ -105,7 +105,8 @@ fields-fit g game c k few =
     omega (arith, fit, length-map ps name, before-few (length g.names) c k, few)
 
 -- ---- the weights
-weights-append : (g : GameView) (r : ℕ) (ps qs : List ℕ) → weight_of_places g r (ps ++ qs) ≡ weight_of_places g r ps + weight_of_places g r qs
+weights-append : (g : GameView) (r : ℕ) (ps qs : List ℕ)
+    → weight_of_places g r (ps ++ qs) ≡ weight_of_places g r ps + weight_of_places g r qs
 unfolding weight_of_places
 weights-append g r ps qs =
     let w : ℕ → ℕ = λ p. slice_index (weights_under g r) p in
@@ -115,7 +116,8 @@ pub weights-none : (g : GameView) (r : ℕ) → weight_of_places g r [] ≡ 0
 unfolding weight_of_places
 weights-none g r = refl
 
-pub weights-more : (g : GameView) (r : ℕ) (ps : List ℕ) (p : ℕ) → weight_of_places g r (ps ++ p ∷ []) ≡ weight_of_places g r ps + slice_index (weights_under g r) p
+pub weights-more : (g : GameView) (r : ℕ) (ps : List ℕ) (p : ℕ)
+    → weight_of_places g r (ps ++ p ∷ []) ≡ weight_of_places g r ps + slice_index (weights_under g r) p
 unfolding weight_of_places
 weights-more g r ps p =
     let w : ℕ → ℕ = λ q. slice_index (weights_under g r) q in
@@ -130,7 +132,8 @@ rule-is g game r lt =
     let long : length (votes_of g).rules ≡ length g.rules = length-map g.rules _ in
     All-from_recursion (IsRule (length g.names)) (votes_of g).rules each r _ (omega (arith, long, lt))
 
-pub weights-all : (g : GameView) → IsGame g → (r c : ℕ) → r < length g.rules → weight_of_places g r (places_before (length g.names) c (length g.names)) ≡ weight (rule_at (votes_of g).rules r).weights c
+pub weights-all : (g : GameView) → IsGame g → (r c : ℕ) → r < length g.rules
+    → weight_of_places g r (places_before (length g.names) c (length g.names)) ≡ weight (rule_at (votes_of g).rules r).weights c
 unfolding weight_of_places weights_under places_before
 weights-all g game r c lt =
     let rule = rule-is g game r lt in
@@ -143,7 +146,8 @@ pub under-none : (g : GameView) (r p : ℕ) → length g.rules ≤ r → slice_i
 unfolding weights_under
 under-none g r p past =
     let long : length (votes_of g).rules ≡ length g.rules = length-map g.rules _ in
-    let none : rule_at (votes_of g).rules r ≡ record { quota = 0; weights = [] } = get_or_past (votes_of g).rules r _ (omega (arith, long, past)) in
+    let none : rule_at (votes_of g).rules r ≡ record { quota = 0; weights = [] } =
+    get_or_past (votes_of g).rules r _ (omega (arith, long, past)) in
     ap (λ (v : RuleView). slice_index v.weights p) none
 
 weights-past : (g : GameView) (r : ℕ) → length g.rules ≤ r → (ps : List ℕ) → weight_of_places g r ps ≡ 0
@@ -154,7 +158,8 @@ weights-past g r past (p ∷ ps) =
     let light = under-none g r p past in
     omega (arith, first, alone, light, weights-none g r, weights-past g r past ps)
 
-pub weights-light : (g : GameView) → IsGame g → (r c k : ℕ) → k ≤ length g.names → weight_of_places g r (places_before (length g.names) c k) ≤ 40000000000000
+pub weights-light : (g : GameView) → IsGame g → (r c k : ℕ) → k ≤ length g.names
+    → weight_of_places g r (places_before (length g.names) c k) ≤ 40000000000000
 weights-light g game r c k le =
     let n : ℕ = length g.names in
     elim (cases_lt r (length g.rules)) [

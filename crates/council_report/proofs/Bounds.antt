@@ -30,13 +30,17 @@ IsField field = length field ≤ 84
 
 pub with_tab-fits : (fields : List (List ℕ)) → AllByRecursion IsField fields → length (flat_map with_tab fields) ≤ length fields * 85
 with_tab-fits fields h =
-    rw (length-flat_map with_tab fields) (sum_by-le (λ f. length (with_tab f)) 85 fields (λ k d lt. let fit = All-from_recursion IsField fields h k d lt in omega (arith, fit)))
+    rw (length-flat_map with_tab fields)
+    (sum_by-le (λ f. length (with_tab f)) 85 fields
+    (λ k d lt. let fit = All-from_recursion IsField fields h k d lt in omega (arith, fit)))
 
 -- a line of at most 42 fields
-line-fits : (word : List ℕ) (fields : List (List ℕ)) → length word ≤ 9 → length fields ≤ 42 → AllByRecursion IsField fields → length (line word fields) ≤ 4096
+line-fits : (word : List ℕ) (fields : List (List ℕ)) → length word ≤ 9 → length fields ≤ 42 → AllByRecursion IsField fields
+    → length (line word fields) ≤ 4096
 line-fits word fields short few h =
     let fit = with_tab-fits fields h in
-    let whole : length (line word fields) ≡ length (word ++ flat_map with_tab fields) + 1 = length-append (word ++ flat_map with_tab fields) (10 ∷ []) in
+    let whole : length (line word fields) ≡ length (word ++ flat_map with_tab fields) + 1 =
+    length-append (word ++ flat_map with_tab fields) (10 ∷ []) in
     omega (arith, fit, short, few, whole, length-append word (flat_map with_tab fields))
 
 -- ---- fields of numbers
@@ -56,7 +60,15 @@ length-with_slashes (v ∷ w ∷ vs) h =
     let first = number-fits v h.0 in
     let rest = length-with_slashes (w ∷ vs) h.1 in
     let more = ap (λ (t : List ℕ). length t) (next-numbers (codes "/") v w vs) in
-    omega (arith, first, rest, more, length-append (decimal v) (codes "/" ++ with_slashes (w ∷ vs)), length-append (codes "/") (with_slashes (w ∷ vs)))
+    omega (
+      arith,
+      first,
+      rest,
+      more,
+      length-append (decimal v) (codes "/" ++ with_slashes (w ∷ vs)),
+      length-append (codes "/")
+          (with_slashes (w ∷ vs)),
+    )
 
 -- a value for each of 4 rules at most
 with_slashes-fits : (values : List ℕ) → length values ≤ 4 → AllByRecursion (λ v. v < 2 ^ 64) values → IsField (with_slashes values)
@@ -92,11 +104,13 @@ coalition-fits g game c =
     let forty = few-members g game in
     let rules = length-map (votes_of g).rules (λ r. weight r.weights c) in
     let names = length-map (places_of (length g.names) c) (λ p. name_of g (member_at g.ranks p)) in
-    line-fits (codes "coalition") (decimal (size (length g.names) c) ∷ with_slashes (weights_of_coalition g c) ∷ names_of g c) (omega arith) (omega (arith, names, some, forty)) (
+    line-fits (codes "coalition") (decimal (size (length g.names) c) ∷ with_slashes (weights_of_coalition g c) ∷ names_of g c) (omega arith)
+    (omega (arith, names, some, forty)) (
       number-field (size (length g.names) c) (omega (arith, some, forty)),
       (
         with_slashes-fits (weights_of_coalition g c) (omega (arith, rules, few))
-            (each-number (IsRule (length g.names)) (λ r. weight r.weights c) (λ r is. omega (arith, weight-le r.weights c, is.light)) (votes_of g).rules each),
+            (each-number (IsRule (length g.names)) (λ r. weight r.weights c) (λ r is. omega (arith, weight-le r.weights c, is.light))
+            (votes_of g).rules each),
         each-field (λ p. name_of g (member_at g.ranks p)) (λ p. name-fits g game (member_at g.ranks p)) (places_of (length g.names) c),
       ),
     )
@@ -104,7 +118,8 @@ coalition-fits g game c =
 count-field : (p : ℕ → Bool) (list : List ℕ) → length list ≤ 2 ^ 40 → IsField (decimal (length (filter p list)))
 count-field p list few = let less = length-filter-le p list in number-field (length (filter p list)) (omega (arith, less, few))
 
-pub size-fits : (g : GameView) → IsGame g → (list : List ℕ) → length list ≤ 2 ^ 40 → (s : ℕ) → s ≤ length g.names → length (size_line g list s) ≤ 4096
+pub size-fits : (g : GameView) → IsGame g → (list : List ℕ) → length list ≤ 2 ^ 40 → (s : ℕ) → s ≤ length g.names
+    → length (size_line g list s) ≤ 4096
 unfolding size_line
 size-fits g game list few s le =
     let forty = few-members g game in
@@ -113,7 +128,8 @@ size-fits g game list few s le =
     let all = length-range_with_len 0 (length g.names) in
     cond_both (count_of_size g s list == 0) [] (line (codes "size") (decimal s ∷ decimal (count_of_size g s list) ∷ map count (members g)))
     (λ text. length text ≤ 4096) (λ _. omega arith)
-    (λ _. line-fits (codes "size") (decimal s ∷ decimal (count_of_size g s list) ∷ map count (members g)) (omega arith) (omega (arith, long, all, forty)) (
+    (λ _. line-fits (codes "size") (decimal s ∷ decimal (count_of_size g s list) ∷ map count (members g)) (omega arith)
+    (omega (arith, long, all, forty)) (
       number-field s (omega (arith, le, forty)),
       (
         count-field (λ c. size_of g c == s) list few,
@@ -121,14 +137,16 @@ size-fits g game list few s le =
       ),
     ))
 
-pub member-fits : (g : GameView) → IsGame g → (list : List ℕ) → 1 ≤ length list → length list ≤ 2 ^ 40 → (i : ℕ) → i < length g.names → length (member_line g list i) ≤ 4096
+pub member-fits : (g : GameView) → IsGame g → (list : List ℕ) → 1 ≤ length list → length list ≤ 2 ^ 40 → (i : ℕ) → i < length g.names
+    → length (member_line g list i) ≤ 4096
 unfolding member_line
 member-fits g game list some few i lt =
     let deegan = deegan_packel-wide g list i game some few in
     let public = public_good-wide g list i game few in
     let rules = length-map g.rules (λ r. get_or r.weights i 0) in
     let IsLight : RuleView → Type 0 = λ r. (k : ℕ) → k < length g.names → get_or r.weights k 0 ≤ 1000000000000 in
-    let own = each-number IsLight (λ r. get_or r.weights i 0) (λ r light. let most = light i lt in omega (arith, most)) g.rules (light-weights g game) in
+    let own = each-number IsLight (λ r. get_or r.weights i 0) (λ r light. let most = light i lt in omega (arith, most)) g.rules
+    (light-weights g game) in
     let weights = with_slashes-fits (weights_of_member g i) (omega (arith, rules, game.few_rules)) own in
     let first = fraction-fits (lowest_terms (deegan_packel g list i)).0 (lowest_terms (deegan_packel g list i)).1 deegan.0 deegan.1 in
     let second = fraction-fits (lowest_terms (public_good g list i)).0 (lowest_terms (public_good g list i)).1 public.0 public.1 in
@@ -141,7 +159,8 @@ rows-fit : {X : Type 0} (f : X → List ℕ) (xs : List X) → All (λ x. length
 rows-fit f xs all = rw (length-flat_map f xs) (sum_by-le (λ x. length (f x)) 4096 xs all)
 
 -- those of n numbers from a on
-numbers-fit : (f : ℕ → List ℕ) (a n : ℕ) → ((k : ℕ) → k < n → length (f (a + k)) ≤ 4096) → length (flat_map f (range_with_len a n)) ≤ n * 4096
+numbers-fit : (f : ℕ → List ℕ) (a n : ℕ) → ((k : ℕ) → k < n → length (f (a + k)) ≤ 4096)
+    → length (flat_map f (range_with_len a n)) ≤ n * 4096
 numbers-fit f a n h =
     let long = length-range_with_len a n in
     let all = rows-fit f (range_with_len a n) (λ i d lt.
@@ -153,7 +172,8 @@ chosen-fits : (b : Bool) (text : List ℕ) (n : ℕ) → length text ≤ n → l
 chosen-fits b text n h = cond_both b text [] (λ t. length t ≤ n) (λ _. h) (λ _. omega arith)
 
 -- 2^40 + 80 lines at most
-pub lines-fit : (shown : Shown) (g : GameView) → IsGame g → (list : List ℕ) → 1 ≤ length list → length list ≤ 2 ^ 40 → length (lines shown g list) ≤ 2 ^ 53
+pub lines-fit : (shown : Shown) (g : GameView) → IsGame g → (list : List ℕ) → 1 ≤ length list → length list ≤ 2 ^ 40
+    → length (lines shown g list) ≤ 2 ^ 53
 lines-fit shown g game list some few =
     let n : ℕ = length g.names in
     let forty = few-members g game in

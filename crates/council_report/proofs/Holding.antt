@@ -5,7 +5,8 @@ use Rattle.std.proofs.Math.Seq.{take-append-add}
 use Rattle.council_report.specs.Inner.Told.{HoldsBut}
 
 -- part of the block went out
-pub holds-part : (before after : Option (List ℕ)) (bytes : List ℕ) (done : ℕ) → done ≤ length bytes → Appends before after (take done bytes) → HoldsBut (option_map (λ held. held ++ bytes) before) after (length bytes - done)
+pub holds-part : (before after : Option (List ℕ)) (bytes : List ℕ) (done : ℕ) → done ≤ length bytes → Appends before after (take done bytes)
+    → HoldsBut (option_map (λ held. held ++ bytes) before) after (length bytes - done)
 holds-part None after bytes done le h = tt
 holds-part (Some xs) None bytes done le h = absurd h
 holds-part (Some xs) (Some ys) bytes done le h =

@@ -21,7 +21,8 @@ abbrev pub no_mark : Mark
 no_mark = record { length = 0; weights = [] }
 
 -- cut at place k, as the beginning of c's line
-pub line-kept : (g : GameView) (line : SharedLine) (names : Vec ℕ Global) (k c : ℕ) (d : Mark) → IsLine g line → k ≤ line.end → SameBefore (length g.names) k line.coalition c →
+pub line-kept : (g : GameView) (line : SharedLine) (names : Vec ℕ Global) (k c : ℕ) (d : Mark) → IsLine g line → k ≤ line.end
+    → SameBefore (length g.names) k line.coalition c →
     names.items ≡ take (get_or line.marks k d).length line.names.items → vec_capacity names ≡ vec_capacity line.names →
     IsLine g (record line { names = names; end = k; coalition = c })
 line-kept g line names k c d is le same cut room =
@@ -56,15 +57,18 @@ marks-more g c marks k mark long few each last j d le =
     elim (cases_lt j (k + 1)) [
       | inl lt ↦
           let other : j ≢ k + 1 = omega arith in
-          subst (λ (m : Mark). IsMark g (places_before (length g.names) c j) m) (sym (get_or-set_other marks (k + 1) j mark d other)) (each j d (omega (arith, lt)))
+          subst (λ (m : Mark). IsMark g (places_before (length g.names) c j) m) (sym (get_or-set_other marks (k + 1) j mark d other))
+          (each j d (omega (arith, lt)))
       | inr ge ↦
           let at : k + 1 ≡ j = omega (arith, ge, le) in
           subst (λ (i : ℕ). IsMark g (places_before (length g.names) c i) (get_or (set marks (k + 1) mark) i d)) at
-          (subst (λ (m : Mark). IsMark g (places_before (length g.names) c (k + 1)) m) (sym (get_or-set_same marks (k + 1) mark d (omega (arith, long, few)))) last)
+          (subst (λ (m : Mark). IsMark g (places_before (length g.names) c (k + 1)) m)
+          (sym (get_or-set_same marks (k + 1) mark d (omega (arith, long, few)))) last)
     ]
 
 -- the next place, which is not in
-pub line-passed : (g : GameView) (line : SharedLine) (d : Mark) → IsLine g line → line.end < length g.names → has (length g.names) line.end line.coalition ≡ false →
+pub line-passed : (g : GameView) (line : SharedLine) (d : Mark) → IsLine g line → line.end < length g.names
+    → has (length g.names) line.end line.coalition ≡ false →
     IsLine g (record line { end = line.end + 1; marks = set line.marks (line.end + 1) (get_or line.marks line.end d) })
 line-passed g line d is more out =
     let n : ℕ = length g.names in
@@ -96,7 +100,8 @@ mark-more g ps p mark next seat is seat-is long four sums = record {
 }
 
 -- the next place, which is in
-pub line-added : (g : GameView) (line : SharedLine) (names : Vec ℕ Global) (mark : Mark) (seat : Seat) → IsLine g line → line.end < length g.names → has (length g.names) line.end line.coalition ≡ true →
+pub line-added : (g : GameView) (line : SharedLine) (names : Vec ℕ Global) (mark : Mark) (seat : Seat) → IsLine g line
+    → line.end < length g.names → has (length g.names) line.end line.coalition ≡ true →
     IsSeat g line.end seat → IsMark g (places_before (length g.names) line.coalition line.end ++ line.end ∷ []) mark →
     names.items ≡ line.names.items ++ seat.field.items → vec_capacity line.names ≤ vec_capacity names →
     IsLine g (record line { names = names; end = line.end + 1; marks = set line.marks (line.end + 1) mark })
@@ -120,7 +125,8 @@ line-added g line names mark seat is more in' seat-is mark-is put room =
     }
 
 -- with the next place, which is in, no sum wraps
-pub added-light : (g : GameView) (line : SharedLine) (d : Mark) (seat : Seat) → IsLine g line → line.end < length g.names → has (length g.names) line.end line.coalition ≡ true → IsSeat g line.end seat →
+pub added-light : (g : GameView) (line : SharedLine) (d : Mark) (seat : Seat) → IsLine g line → line.end < length g.names
+    → has (length g.names) line.end line.coalition ≡ true → IsSeat g line.end seat →
     (r : ℕ) → r < 4 → get_or (get_or line.marks line.end d).weights r 0 + get_or seat.weights r 0 < 2 ^ 64
 added-light g line d seat is more in' seat-is r lt =
     let n : ℕ = length g.names in
@@ -130,7 +136,8 @@ added-light g line d seat is more in' seat-is r lt =
     omega (arith, light, next, weights-more g r ps line.end, (is.marks line.end d (omega arith)).weights r lt, seat-is.weights r lt)
 
 -- and the names still fit
-pub added-short : (g : GameView) (line : SharedLine) (seat : Seat) → IsLine g line → line.end < length g.names → has (length g.names) line.end line.coalition ≡ true → IsSeat g line.end seat →
+pub added-short : (g : GameView) (line : SharedLine) (seat : Seat) → IsLine g line → line.end < length g.names
+    → has (length g.names) line.end line.coalition ≡ true → IsSeat g line.end seat →
     length line.names.items + length seat.field.items ≤ 3400
 added-short g line seat is more in' seat-is =
     let n : ℕ = length g.names in
@@ -149,7 +156,8 @@ whole-names g c line w =
     w.is.names ∙ ap (λ (x : ℕ). fields_of g (places_before n x line.end)) w.coalition
     ∙ ap (fields_of g) (sym (before-all n c line.end w.is.within w.whole)) ∙ fields-all g c
 
-pub whole_weight : (g : GameView) (c : ℕ) (line : SharedLine) (d : Mark) → IsWholeLine g c line → (r : ℕ) → r < length g.rules → get_or (get_or line.marks line.end d).weights r 0 ≡ weight (rule_at (votes_of g).rules r).weights c
+pub whole_weight : (g : GameView) (c : ℕ) (line : SharedLine) (d : Mark) → IsWholeLine g c line → (r : ℕ) → r < length g.rules
+    → get_or (get_or line.marks line.end d).weights r 0 ≡ weight (rule_at (votes_of g).rules r).weights c
 whole_weight g c line d w r lt =
     let n : ℕ = length g.names in
     let four = w.is.game.few_rules in
@@ -159,14 +167,16 @@ whole_weight g c line d w r lt =
     ∙ weights-all g w.is.game r c lt
 
 -- ---- the line of no member
-pub none-mark : (g : GameView) (mark : Mark) → mark.length ≡ 0 → length mark.weights ≡ 4 → ((r : ℕ) → get_or mark.weights r 0 ≡ 0) → IsMark g [] mark
+pub none-mark : (g : GameView) (mark : Mark) → mark.length ≡ 0 → length mark.weights ≡ 4 → ((r : ℕ) → get_or mark.weights r 0 ≡ 0)
+    → IsMark g [] mark
 none-mark g mark none four light = record {
   names = none ∙ sym (ap (λ (t : List ℕ). length t) (fields-none g));
   long = four;
   weights = λ r lt. light r ∙ sym (weights-none g r);
 }
 
-pub line-first : (g : GameView) (line : SharedLine) → IsGame g → AreSeats g (length g.names) line.seats.items → line.end ≡ 0 → line.names.items ≡ [] → 4096 ≤ vec_capacity line.names → length line.marks ≡ 41 →
+pub line-first : (g : GameView) (line : SharedLine) → IsGame g → AreSeats g (length g.names) line.seats.items → line.end ≡ 0
+    → line.names.items ≡ [] → 4096 ≤ vec_capacity line.names → length line.marks ≡ 41 →
     ((d : Mark) → IsMark g [] (get_or line.marks 0 d)) → IsLine g line
 line-first g line game seats start none room long mark =
     let n : ℕ = length g.names in

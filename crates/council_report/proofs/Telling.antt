@@ -15,12 +15,14 @@ tells-then a b c x y first next = record {
 pub tells-same : (a b c : Progress) (x : List ℕ) → Tells a b x → Tells b c [] → Tells a c x
 tells-same a b c x first next = subst (Tells a c) (append-nil x) (tells-then a b c x [] first next)
 
-appends-block : (contents : Option (List ℕ)) (old new text : List ℕ) → new ≡ old ++ text → Appends (option_map (λ held. held ++ old) contents) (option_map (λ held. held ++ new) contents) text
+appends-block : (contents : Option (List ℕ)) (old new text : List ℕ) → new ≡ old ++ text
+    → Appends (option_map (λ held. held ++ old) contents) (option_map (λ held. held ++ new) contents) text
 appends-block None old new text more = tt
 appends-block (Some held) old new text more = ap (λ (t : List ℕ). held ++ t) more ∙ sym (append_assoc held old text)
 
 -- a text at the end of the block
-pub tells-block : (contents : Option (List ℕ)) (a b : Block) (text : List ℕ) → b.written ≡ a.written → b.bytes.items ≡ a.bytes.items ++ text → Tells (progress_of contents a) (progress_of contents b) text
+pub tells-block : (contents : Option (List ℕ)) (a b : Block) (text : List ℕ) → b.written ≡ a.written → b.bytes.items ≡ a.bytes.items ++ text
+    → Tells (progress_of contents a) (progress_of contents b) text
 tells-block contents a b text same more = record {
   bytes = appends-block contents a.bytes.items b.bytes.items text more;
   count =
@@ -38,7 +40,8 @@ stopped-first a x y held n s = record {
   stopped = s.stopped;
 }
 
-pub stopped-next : (a b : Progress) (x y : List ℕ) (held : Option (List ℕ)) (n : ℕ) → Tells a b x → StopsIn b y held n → StopsIn a (x ++ y) held n
+pub stopped-next : (a b : Progress) (x y : List ℕ) (held : Option (List ℕ)) (n : ℕ) → Tells a b x → StopsIn b y held n
+    → StopsIn a (x ++ y) held n
 stopped-next a b x y held n first s = record {
   front = x ++ s.front;
   rest = s.rest;

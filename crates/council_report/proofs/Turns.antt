@@ -19,7 +19,8 @@ pub next-number : (a n k j : ℕ) → a + k ≡ j → k < n → IsNext (range_wi
 next-number a n k j is below = record { below = rw length-range_with_len below; is = sym (get_or-range_with_len a n k j below ∙ is) }
 
 -- the texts of the first i, and that of the next
-with-next : {X : Type 0} (f : X → List ℕ) {xs : List X} {i : ℕ} {x : X} → IsNext xs i x → flat_map f (take (i + 1) xs) ≡ flat_map f (take i xs) ++ f x
+with-next : {X : Type 0} (f : X → List ℕ) {xs : List X} {i : ℕ} {x : X} → IsNext xs i x
+    → flat_map f (take (i + 1) xs) ≡ flat_map f (take i xs) ++ f x
 with-next f {xs} {i} {x} next =
     ap (flat_map f) (take_more xs i x next.below) ∙ rows-more f (take i xs) (get_or xs i x)
     ∙ ap (λ y. flat_map f (take i xs) ++ f y) (sym next.is)
@@ -48,4 +49,5 @@ turn-counts f {xs} {i} {x} next before few =
 -- all of the numbers from a on
 pub numbers-told : {a b : Progress} (f : ℕ → List ℕ) (from n i : ℕ) → n ≤ i
     → Tells a b (flat_map f (take i (range_with_len from n))) → Tells a b (flat_map f (range_with_len from n))
-numbers-told {a} {b} f from n i le tells = subst (Tells a b) (ap (flat_map f) (take_all i (range_with_len from n) (rw length-range_with_len le))) tells
+numbers-told {a} {b} f from n i le tells =
+    subst (Tells a b) (ap (flat_map f) (take_all i (range_with_len from n) (rw length-range_with_len le))) tells

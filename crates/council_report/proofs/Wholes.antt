@@ -12,35 +12,46 @@ appends-heading : (contents : Option (List ℕ)) (heading : List ℕ) → Append
 appends-heading None heading = tt
 appends-heading (Some held) heading = refl
 
-pub appends-whole : (before after : Option (List ℕ)) (block : Block) (heading lines : List ℕ) → block.bytes.items ≡ heading → Appends (progress_of before block).bytes after lines → Appends before after (heading ++ lines)
+pub appends-whole : (before after : Option (List ℕ)) (block : Block) (heading lines : List ℕ) → block.bytes.items ≡ heading
+    → Appends (progress_of before block).bytes after lines → Appends before after (heading ++ lines)
 appends-whole before after block heading lines is rest =
-    let first : Appends before (progress_of before block).bytes heading = subst (λ (t : List ℕ). Appends before (option_map (λ held. held ++ t) before) heading) (sym is) (appends-heading before heading) in
+    let first : Appends before (progress_of before block).bytes heading =
+    subst (λ (t : List ℕ). Appends before (option_map (λ held. held ++ t) before) heading) (sym is) (appends-heading before heading) in
     Appends-trans before (progress_of before block).bytes after heading lines first rest
 
 -- the writer holds the first n bytes of the heading and the front
-held-part : (w heading front t h : List ℕ) (n k : ℕ) → t ≡ (w ++ heading) ++ front → n ≤ length heading + length front → k ≡ length heading + length front - n → h ≡ take (length t - k) t → h ≡ w ++ take n (heading ++ front)
+held-part : (w heading front t h : List ℕ) (n k : ℕ) → t ≡ (w ++ heading) ++ front → n ≤ length heading + length front
+    → k ≡ length heading + length front - n → h ≡ take (length t - k) t → h ≡ w ++ take n (heading ++ front)
 held-part w heading front t h n k all within but holds =
     let text : t ≡ w ++ (heading ++ front) = all ∙ append_assoc w heading front in
     let long = ap (λ (x : List ℕ). length x) text ∙ length-append w (heading ++ front) in
     let here : length t - k ≡ length w + n = omega (arith, long, length-append heading front, but, within) in
     holds ∙ ap (λ (m : ℕ). take m t) here ∙ ap (take (length w + n)) text ∙ take-append-add w (heading ++ front) n
 
-appends-part : (before at held : Option (List ℕ)) (heading front : List ℕ) (n k : ℕ) → Appends (option_map (λ h. h ++ heading) before) at front → n ≤ length heading + length front → k ≡ length heading + length front - n → HoldsBut at held k → Appends before held (take n (heading ++ front))
+appends-part : (before at held : Option (List ℕ)) (heading front : List ℕ) (n k : ℕ)
+    → Appends (option_map (λ h. h ++ heading) before) at front → n ≤ length heading + length front → k ≡ length heading + length front - n
+    → HoldsBut at held k → Appends before held (take n (heading ++ front))
 appends-part None at held heading front n k tells within but holds = tt
 appends-part (Some w) None held heading front n k tells within but holds = absurd tells
 appends-part (Some w) (Some t) None heading front n k tells within but holds = absurd holds
 appends-part (Some w) (Some t) (Some h) heading front n k tells within but holds = held-part w heading front t h n k tells within but holds
 
-pub stopped-whole : (before held : Option (List ℕ)) (block : Block) (heading lines : List ℕ) (n : ℕ) → block.written ≡ 0 → block.bytes.items ≡ heading → StopsIn (progress_of before block) lines held n → (n ≤ length (heading ++ lines)) × Appends before held (take n (heading ++ lines))
+pub stopped-whole : (before held : Option (List ℕ)) (block : Block) (heading lines : List ℕ) (n : ℕ) → block.written ≡ 0
+    → block.bytes.items ≡ heading → StopsIn (progress_of before block) lines held n → (n ≤ length (heading ++ lines))
+    × Appends before held (take n (heading ++ lines))
 stopped-whole before held block heading lines n none is s =
     let long = ap (λ (t : List ℕ). length t) is in
     let count : s.at.count ≡ length heading + length s.front = omega (arith, s.tells.count, none, long) in
     let all = ap (λ (t : List ℕ). length t) s.whole in
     let within : n ≤ length heading + length s.front = omega (arith, s.stopped.within, count) in
-    let text : heading ++ lines ≡ (heading ++ s.front) ++ s.rest = ap (λ (t : List ℕ). heading ++ t) (sym s.whole) ∙ sym (append_assoc heading s.front s.rest) in
+    let text : heading ++ lines ≡ (heading ++ s.front) ++ s.rest = ap (λ (t : List ℕ). heading ++ t) (sym s.whole)
+    ∙ sym (append_assoc heading s.front s.rest) in
     let first : take n (heading ++ lines) ≡ take n (heading ++ s.front) =
     ap (take n) text ∙ take-append-le n (heading ++ s.front) s.rest (omega (arith, within, length-append heading s.front)) in
-    let tells : Appends (option_map (λ h. h ++ heading) before) s.at.bytes s.front = subst (λ (t : List ℕ). Appends (option_map (λ h. h ++ t) before) s.at.bytes s.front) is s.tells.bytes in (
+    let tells : Appends (option_map (λ h. h ++ heading) before) s.at.bytes s.front =
+    subst (λ (t : List ℕ). Appends (option_map (λ h. h ++ t) before) s.at.bytes s.front) is s.tells.bytes in (
       omega (arith, within, all, length-append heading lines, length-append s.front s.rest),
-      subst (Appends before held) (sym first) (appends-part before s.at.bytes held heading s.front n (s.at.count - n) tells within (omega (arith, count)) s.stopped.holds),
+      subst (Appends before held)
+          (sym first) (appends-part before s.at.bytes held heading s.front n
+          (s.at.count - n) tells within (omega (arith, count)) s.stopped.holds),
     )

@@ -5,7 +5,8 @@ use Rattle.council_game.specs.Game.{GameView, IsGame, votes_of, AreNonemptyCoali
 use Rattle.power_index.proofs.Minimal.{minimal-some, minimal-are-coalitions}
 use Rattle.council_run.specs.Inner.Listed.{IsListed}
 
-pub is-listed : (g : GameView) (list : List ℕ) (m : ℕ) → IsGame g → list ≡ minimal_coalitions (votes_of g) → length (minimal_coalitions (votes_of g)) ≤ m → IsListed g m list
+pub is-listed : (g : GameView) (list : List ℕ) (m : ℕ) → IsGame g → list ≡ minimal_coalitions (votes_of g)
+    → length (minimal_coalitions (votes_of g)) ≤ m → IsListed g m list
 is-listed g list m game all few =
     let long = ap (λ (l : List ℕ). length l) all in
     record {

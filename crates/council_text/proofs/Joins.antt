@@ -20,7 +20,8 @@ numbers-first : (s vs : List ℕ) → 0 < length vs → joined_numbers s (take 1
 numbers-first s [] some = absurd (omega arith)
 numbers-first s (v ∷ vs) some = one-number s v
 
-numbers-more : (s vs : List ℕ) (r : ℕ) → r < length vs → 0 < r → joined_numbers s (take (r + 1) vs) ≡ joined_numbers s (take r vs) ++ (s ++ decimal (get_or vs r 0))
+numbers-more : (s vs : List ℕ) (r : ℕ)
+    → r < length vs → 0 < r → joined_numbers s (take (r + 1) vs) ≡ joined_numbers s (take r vs) ++ (s ++ decimal (get_or vs r 0))
 numbers-more s [] r below some = absurd (omega arith)
 numbers-more s (v ∷ vs) zero below some = absurd (omega arith)
 numbers-more s (v ∷ vs) (suc r) below some =
@@ -31,18 +32,21 @@ numbers-more s (v ∷ vs) (suc r) below some =
     ∙ ap (λ (t : List ℕ). joined_numbers s (v ∷ take r vs) ++ t) (append-nil next)
 
 -- a first number, and a further one, after what is there
-pub put-first : (s a vs : List ℕ) (r : ℕ) → r ≡ 0 → 0 < length vs → (a ++ joined_numbers s (take r vs)) ++ decimal (get_or vs r 0) ≡ a ++ joined_numbers s (take (r + 1) vs)
+pub put-first : (s a vs : List ℕ) (r : ℕ) → r ≡ 0 → 0 < length vs
+    → (a ++ joined_numbers s (take r vs)) ++ decimal (get_or vs r 0) ≡ a ++ joined_numbers s (take (r + 1) vs)
 put-first s a vs zero none some = append_assoc a [] (decimal (get_or vs 0 0)) ∙ ap (λ (t : List ℕ). a ++ t) (sym (numbers-first s vs some))
 put-first s a vs (suc r) none some = absurd (omega arith)
 
-pub put-more : (s a vs : List ℕ) (r : ℕ) → r < length vs → 0 < r → ((a ++ joined_numbers s (take r vs)) ++ s) ++ decimal (get_or vs r 0) ≡ a ++ joined_numbers s (take (r + 1) vs)
+pub put-more : (s a vs : List ℕ) (r : ℕ) → r < length vs → 0 < r
+    → ((a ++ joined_numbers s (take r vs)) ++ s) ++ decimal (get_or vs r 0) ≡ a ++ joined_numbers s (take (r + 1) vs)
 put-more s a vs r below some =
     append_assoc (a ++ joined_numbers s (take r vs)) s (decimal (get_or vs r 0))
     ∙ append_assoc a (joined_numbers s (take r vs)) (s ++ decimal (get_or vs r 0))
     ∙ ap (λ (t : List ℕ). a ++ t) (sym (numbers-more s vs r below some))
 
 -- the first numbers and a further one are no longer than all of them, with the separator and without
-pub more-within : (s vs : List ℕ) (r : ℕ) → r < length vs → 0 < r → length (joined_numbers s (take r vs)) + length s + length (decimal (get_or vs r 0)) ≤ length (joined_numbers s vs)
+pub more-within : (s vs : List ℕ) (r : ℕ) → r < length vs → 0 < r
+    → length (joined_numbers s (take r vs)) + length s + length (decimal (get_or vs r 0)) ≤ length (joined_numbers s vs)
 more-within s [] r below some = absurd (omega arith)
 more-within s (v ∷ vs) zero below some = absurd (omega arith)
 more-within s (v ∷ vs) (suc r) below some =
@@ -51,7 +55,8 @@ more-within s (v ∷ vs) (suc r) below some =
     let all = length-append (decimal v) (behind s vs) in
     omega (arith, rest, first, all, length-append s (decimal (get_or vs r 0)))
 
-pub next-within : (s vs : List ℕ) (r : ℕ) → r < length vs → length (joined_numbers s (take r vs)) + length (decimal (get_or vs r 0)) ≤ length (joined_numbers s vs)
+pub next-within : (s vs : List ℕ) (r : ℕ)
+    → r < length vs → length (joined_numbers s (take r vs)) + length (decimal (get_or vs r 0)) ≤ length (joined_numbers s vs)
 next-within s [] r below = absurd (omega arith)
 next-within s (v ∷ vs) zero below = omega (arith, length-append (decimal v) (behind s vs))
 next-within s (v ∷ vs) (suc r) below = omega (arith, more-within s (v ∷ vs) (suc r) below (omega arith))

@@ -16,7 +16,8 @@ use Rattle.mwc_gather.specs.Inner.Desks.{IsOf, AllOf, seat, seats, DealsTo, Deal
 seat_at : (desks : List Desk) (i : ℕ) (d : Desk) → i < length desks → d ≡ get_or desks i d → seat d ≡ get_or (seats desks) i (seat d)
 seat_at desks i d l e = turns.map_at seat desks i d (seat d) l e
 
-all_of_set : (g : Slicing) (most : ℕ) (desks : List Desk) (i : ℕ) (d t : Desk) → i < length desks → d ≡ get_or desks i d → t.worker.promise ≡ d.worker.promise → AllOf g most desks → AllOf g most (set desks i t)
+all_of_set : (g : Slicing) (most : ℕ) (desks : List Desk) (i : ℕ) (d t : Desk) → i < length desks → d ≡ get_or desks i d
+    → t.worker.promise ≡ d.worker.promise → AllOf g most desks → AllOf g most (set desks i t)
 all_of_set g most desks i d t l e p a =
     let P : Desk → Type 0 = IsOf g most in
     let o : P d = subst P (sym e) (a i d l) in
@@ -32,41 +33,52 @@ pub fresh_goes : (stopped : Bool) (d : Desk) → IsFresh (seat d) → (stopped |
 fresh_goes stopped d f = ap (λ (b : Bool). stopped || b) (turns.not_ill (seat d) f.well) ∙ or-false stopped
 
 -- a turn of desk i
-pub turn_of : {g : Slicing} {most : ℕ} {done early stopped stops : Bool} {marks after : List (Option ℕ)} (desks : List Desk) (i : ℕ) (x t : Desk) → i < length desks
-    → DealsTo g most early marks stopped desks → t.worker.promise ≡ (get_or desks i x).worker.promise → TakesTurn done marks stopped (seat (get_or desks i x)) i after stops (seat t) → DealsTo g most early after stops (set desks i t)
+pub turn_of : {g : Slicing} {most : ℕ} {done early stopped stops : Bool} {marks after : List (Option ℕ)} (desks : List Desk) (i : ℕ)
+    (x t : Desk) → i < length desks
+    → DealsTo g most early marks stopped desks → t.worker.promise ≡ (get_or desks i x).worker.promise
+    → TakesTurn done marks stopped (seat (get_or desks i x)) i after stops (seat t) → DealsTo g most early after stops (set desks i t)
 turn_of {g} {most} {done} {early} {stopped} {stops} {marks} {after} desks i x t l h p r =
     let d = get_or desks i x in
     let e = get_or_default desks i x d l in
     let n = length-map desks seat in
     let same : length (set desks i t) ≡ length desks = length-set desks i t in
     let dealt = turns.turn (seats desks) i (seat d) (seat t) (omega arith) (seat_at desks i d l e) h.dealing r in
-    let here : DealsInTurn g.slices (length desks) early after stops (seats (set desks i t)) = subst (λ (w : List Seat). DealsInTurn g.slices (length desks) early after stops w) (sym (map-set seat desks i t)) dealt in
+    let here : DealsInTurn g.slices (length desks) early after stops (seats (set desks i t)) =
+    subst (λ (w : List Seat). DealsInTurn g.slices (length desks) early after stops w) (sym (map-set seat desks i t)) dealt in
     record {
       all_of = all_of_set g most desks i d t l e p h.all_of;
       dealing = subst (λ (k : ℕ). DealsInTurn g.slices k early after stops (seats (set desks i t))) (sym same) here;
     }
 
 -- the first deal to desk k
-pub first_of_place : {g : Slicing} {most : ℕ} {early stopped stops : Bool} {marks after : List (Option ℕ)} (desks : List Desk) (k : ℕ) (x t : Desk) → k < length desks
-    → DealsFirst g most early marks stopped k desks → t.worker.promise ≡ (get_or desks k x).worker.promise → TakesTurn false marks stopped (seat (get_or desks k x)) k after stops (seat t) → DealsFirst g most early after stops (k + 1) (set desks k t)
+pub first_of_place : {g : Slicing} {most : ℕ} {early stopped stops : Bool} {marks after : List (Option ℕ)} (desks : List Desk) (k : ℕ)
+    (x t : Desk) → k < length desks
+    → DealsFirst g most early marks stopped k desks → t.worker.promise ≡ (get_or desks k x).worker.promise
+    → TakesTurn false marks stopped (seat (get_or desks k x)) k after stops (seat t)
+    → DealsFirst g most early after stops (k + 1) (set desks k t)
 first_of_place {g} {most} {early} {stopped} {stops} {marks} {after} desks k x t l h p r =
     let d = get_or desks k x in
     let e = get_or_default desks k x d l in
     let n = length-map desks seat in
     let same : length (set desks k t) ≡ length desks = length-set desks k t in
-    let dealt = firsts.first_turn (seats desks) k (seat d) (seat t) (omega arith) (seat_at desks k d l e) (h.to_come k x (omega arith) l) h.firsts r in
+    let dealt = firsts.first_turn (seats desks) k (seat d) (seat t) (omega arith) (seat_at desks k d l e)
+    (h.to_come k x (omega arith) l) h.firsts r in
     record {
       all_of = all_of_set g most desks k d t l e p h.all_of;
       firsts = subst (λ (w : List Seat). DealsOneEach g.slices (k + 1) early after stops w) (sym (map-set seat desks k t)) dealt;
-      to_come = λ q a low high. subst (λ (x : Desk). IsFresh (seat x)) (sym (get_or-set_other desks k q t a (λ z. omega arith))) (h.to_come q a (omega arith) (omega arith));
+      to_come = λ q a low high. subst (λ (x : Desk). IsFresh (seat x)) (sym (get_or-set_other desks k q t a (λ z. omega arith)))
+          (h.to_come q a (omega arith) (omega arith));
     }
 
-pub deal_starts : {g : Slicing} {most : ℕ} (early : Bool) (marks : List (Option ℕ)) (desks : List Desk) → AllOf g most desks → All IsFresh (seats desks) → marks ≡ replicate g.slices None → DealsFirst g most early marks early 0 desks
+pub deal_starts : {g : Slicing} {most : ℕ} (early : Bool) (marks : List (Option ℕ)) (desks : List Desk) → AllOf g most desks
+    → All IsFresh (seats desks) → marks ≡ replicate g.slices None → DealsFirst g most early marks early 0 desks
 deal_starts {g} {most} early marks desks a f e = record {
   all_of = a;
-  firsts = subst (λ (m : List (Option ℕ)). DealsOneEach g.slices 0 early m early (seats desks)) (sym e) (firsts.begin g.slices early (seats desks) f);
+  firsts = subst (λ (m : List (Option ℕ)). DealsOneEach g.slices 0 early m early (seats desks)) (sym e)
+      (firsts.begin g.slices early (seats desks) f);
   to_come = λ k d low high. fresh_at desks f k d high;
 }
 
-pub firsts_end : {g : Slicing} {most : ℕ} {early stopped : Bool} {marks : List (Option ℕ)} (k m : ℕ) (desks : List Desk) → k ≡ m → DealsFirst g most early marks stopped k desks → DealsFirst g most early marks stopped m desks
+pub firsts_end : {g : Slicing} {most : ℕ} {early stopped : Bool} {marks : List (Option ℕ)} (k m : ℕ) (desks : List Desk) → k ≡ m
+    → DealsFirst g most early marks stopped k desks → DealsFirst g most early marks stopped m desks
 firsts_end {g} {most} {early} {stopped} {marks} k m desks e h = subst (λ (q : ℕ). DealsFirst g most early marks stopped q desks) e h

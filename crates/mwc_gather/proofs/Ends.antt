@@ -29,19 +29,24 @@ module _ {X Y : Type 0} where
   all_of_map : (P : Y → Type 0) (f : X → Y) (xs : List X) → All P (map f xs) → All (λ x. P (f x)) xs
   all_of_map P f xs a = λ k d l. let n = length-map xs f in subst P (get_or-map f xs k d (f d) l) (a k (f d) (omega arith))
 
-pub desks_within : {g : Slicing} {most : ℕ} {early stopped : Bool} {marks : List (Option ℕ)} (desks : List Desk) → DealsTo g most early marks stopped desks → All (λ (d : Desk). coalition_count g d.given.items ≤ all_total g) desks
+pub desks_within : {g : Slicing} {most : ℕ} {early stopped : Bool} {marks : List (Option ℕ)} (desks : List Desk)
+    → DealsTo g most early marks stopped desks → All (λ (d : Desk). coalition_count g d.given.items ≤ all_total g) desks
 desks_within {g} desks h =
     all_of_map (λ (s : Seat). coalition_count g s.given ≤ all_total g) seat desks
-    (all_of_map (λ (s : List ℕ). coalition_count g s ≤ all_total g) (λ (s : Seat). s.given) (seats desks) (each_within g (seats desks) h.dealing))
+    (all_of_map (λ (s : List ℕ). coalition_count g s ≤ all_total g) (λ (s : Seat). s.given) (seats desks)
+    (each_within g (seats desks) h.dealing))
 
-zip_shares : (g : Slicing) (desks : List Desk) (parts : List Part) → AllZip (IsPartOfDesk g) desks parts → shares parts ≡ given_slices (seats desks)
+zip_shares : (g : Slicing) (desks : List Desk) (parts : List Part) → AllZip (IsPartOfDesk g) desks parts
+    → shares parts ≡ given_slices (seats desks)
 zip_shares g [] [] z = refl
 zip_shares g [] (p ∷ parts) z = absurd z
 zip_shares g (d ∷ desks) [] z = absurd z
-zip_shares g (d ∷ desks) (p ∷ parts) z = let f = z.0 in ap (λ (x : List ℕ). x ∷ shares parts) f.slices ∙ ap (λ (xs : List (List ℕ)). d.given.items ∷ xs) (zip_shares g desks parts z.1)
+zip_shares g (d ∷ desks) (p ∷ parts) z = let f = z.0 in ap (λ (x : List ℕ). x ∷ shares parts) f.slices
+    ∙ ap (λ (xs : List (List ℕ)). d.given.items ∷ xs) (zip_shares g desks parts z.1)
 
 -- what is true of each of two lists, where it is of each pair
-zip_each : {X Y : Type 0} (R : X → Y → Type 0) (P : X → Type 0) (Q : Y → Type 0) → ((x : X) (y : Y) → R x y → P x × Q y) → (xs : List X) (ys : List Y) → AllZip R xs ys → All P xs × All Q ys
+zip_each : {X Y : Type 0} (R : X → Y → Type 0) (P : X → Type 0) (Q : Y → Type 0) → ((x : X) (y : Y) → R x y → P x × Q y)
+    → (xs : List X) (ys : List Y) → AllZip R xs ys → All P xs × All Q ys
 zip_each R P Q h [] [] z = (All-nil P, All-nil Q)
 zip_each R P Q h [] (y ∷ ys) z = absurd z
 zip_each R P Q h (x ∷ xs) [] z = absurd z
@@ -54,7 +59,8 @@ zip_well g desks parts z =
     let both = zip_each (IsPartOfDesk g) (λ (d : Desk). IsWell (seat d)) (IsPart g) (λ d p f. (f.well, f.part)) desks parts z in
     All-map IsWell seat desks both.0
 
-zip_told : (g : Slicing) (desks : List Desk) (parts : List Part) → AllZip (IsPartOfDesk g) desks parts → All (λ (s : Seat). s.told ≡ true) (seats desks)
+zip_told : (g : Slicing) (desks : List Desk) (parts : List Part) → AllZip (IsPartOfDesk g) desks parts
+    → All (λ (s : Seat). s.told ≡ true) (seats desks)
 zip_told g desks parts z =
     let both = zip_each (IsPartOfDesk g) (λ (d : Desk). d.told ≡ true) (IsPart g) (λ d p f. (f.told, f.part)) desks parts z in
     All-map (λ (s : Seat). s.told ≡ true) seat desks both.0
@@ -63,7 +69,8 @@ zip_parts : (g : Slicing) (desks : List Desk) (parts : List Part) → AllZip (Is
 zip_parts g desks parts z =
     let both = zip_each (IsPartOfDesk g) (λ (d : Desk). d.told ≡ true) (IsPart g) (λ d p f. (f.told, f.part)) desks parts z in both.1
 
-parts_sum : (g : Slicing) (parts : List Part) → All (IsPart g) parts → sum_of (λ (p : Part). length p.got.items) parts ≡ sum_of (coalition_count g) (shares parts)
+parts_sum : (g : Slicing) (parts : List Part) → All (IsPart g) parts
+    → sum_of (λ (p : Part). length p.got.items) parts ≡ sum_of (coalition_count g) (shares parts)
 parts_sum g [] a = refl
 parts_sum g (p ∷ parts) a =
     let part = All-head (IsPart g) p parts a in
@@ -72,21 +79,25 @@ parts_sum g (p ∷ parts) a =
     omega arith
 
 -- where all workers have finished, all slices are dealt
-pub end_dealt : {g : Slicing} {most : ℕ} {early stopped : Bool} {marks : List (Option ℕ)} (desks : List Desk) (parts : List Part) → DealsTo g most early marks stopped desks → early ≡ false → 0 < length desks → AllZip (IsPartOfDesk g) desks parts → AreDealt g.slices (shares parts)
+pub end_dealt : {g : Slicing} {most : ℕ} {early stopped : Bool} {marks : List (Option ℕ)} (desks : List Desk) (parts : List Part)
+    → DealsTo g most early marks stopped desks → early ≡ false → 0 < length desks → AllZip (IsPartOfDesk g) desks parts
+    → AreDealt g.slices (shares parts)
 end_dealt {g} {most} {early} {stopped} {marks} desks parts h e l z =
     let n = length-map desks seat in
     let d = turns.all_dealt (seats desks) e (omega arith) h.dealing (zip_well g desks parts z) (zip_told g desks parts z) in
     subst (λ (s : List (List ℕ)). AreDealt g.slices s) (sym (zip_shares g desks parts z)) d
 
 -- all parts have as many coalitions as the slices
-pub complete_sum : {g : Slicing} {workers : ℕ} {parts : List Part} → IsComplete g workers parts → sum_of (λ (p : Part). length p.got.items) parts ≡ all_total g
+pub complete_sum : {g : Slicing} {workers : ℕ} {parts : List Part} → IsComplete g workers parts
+    → sum_of (λ (p : Part). length p.got.items) parts ≡ all_total g
 complete_sum {g} {workers} {parts} c = parts_sum g parts c.are_parts ∙ dealt_total g c.dealt
 
 pub end_increases : {n : ℕ} (parts : List Part) → AreDealt n (shares parts) → All (λ (p : Part). IsStrictlyIncreasing p.slices.items) parts
 end_increases parts d = all_of_map IsStrictlyIncreasing (λ (p : Part). p.slices.items) parts (dealt_increase d)
 
 pub fresh_push : (desks : List Desk) (d : Desk) → All IsFresh (seats desks) → IsFresh (seat d) → All IsFresh (seats (desks ++ d ∷ []))
-fresh_push desks d a f = subst (λ (w : List Seat). All IsFresh w) (sym (map_push seat desks d)) (All-push IsFresh (seats desks) (seat d) a f)
+fresh_push desks d a f =
+    subst (λ (w : List Seat). All IsFresh w) (sym (map_push seat desks d)) (All-push IsFresh (seats desks) (seat d) a f)
 
 pub note_many : (m : Met) (why : GatherFault) (P : Type 0) → (why ≡ TooMany → P) → (m.many ≡ true → P) → (also m why).many ≡ true → P
 note_many m TooMany P f h e = f refl
@@ -124,23 +135,34 @@ one_done done rest old all d e f = append_assoc done (d ∷ []) rest ∙ ap (λ 
 pub not_noted : (m after : Met) (why : GatherFault) (P : Type 0) → after ≡ also m why → fault_of after ≡ None → P
 not_noted m after why P e f = absurd (noted m why (sym (ap fault_of e) ∙ f))
 
-pub zip_more : (g : Slicing) (done : List Desk) (parts after : List Part) (d : Desk) (p : Part) → after ≡ parts ++ p ∷ [] → IsPartOfDesk g d p → AllZip (IsPartOfDesk g) done parts → AllZip (IsPartOfDesk g) (done ++ d ∷ []) after
-zip_more g done parts after d p e f z = subst (λ (w : List Part). AllZip (IsPartOfDesk g) (done ++ d ∷ []) w) (sym e) (all_zipped_more (IsPartOfDesk g) done parts d p z f)
+pub zip_more : (g : Slicing) (done : List Desk) (parts after : List Part) (d : Desk) (p : Part) → after ≡ parts ++ p ∷ []
+    → IsPartOfDesk g d p → AllZip (IsPartOfDesk g) done parts → AllZip (IsPartOfDesk g) (done ++ d ∷ []) after
+zip_more g done parts after d p e f z =
+    subst (λ (w : List Part). AllZip (IsPartOfDesk g) (done ++ d ∷ []) w) (sym e) (all_zipped_more (IsPartOfDesk g) done parts d p z f)
 
 -- where no fault was met, all slices are dealt to the parts
-pub ends_well : {g : Slicing} {most : ℕ} {early stopped : Bool} {marks : List (Option ℕ)} (desks taken : List Desk) (parts : List Part) (start : Met) (f : Option GatherFault) → DealsTo g most early marks stopped desks → taken ≡ desks → early ≡ is_some f → f ≡ fault_of start → fault_of start ≡ None → 0 < length desks → AllZip (IsPartOfDesk g) taken parts → AreDealt g.slices (shares parts) × AllZip (IsPartOfDesk g) desks parts
+pub ends_well : {g : Slicing} {most : ℕ} {early stopped : Bool} {marks : List (Option ℕ)} (desks taken : List Desk) (parts : List Part)
+    (start : Met) (f : Option GatherFault) → DealsTo g most early marks stopped desks → taken ≡ desks → early ≡ is_some f
+    → f ≡ fault_of start → fault_of start ≡ None → 0 < length desks → AllZip (IsPartOfDesk g) taken parts → AreDealt g.slices (shares parts)
+    × AllZip (IsPartOfDesk g) desks parts
 ends_well {g} desks taken parts start f h e a b n l z =
     let w = subst (λ (x : List Desk). AllZip (IsPartOfDesk g) x parts) e z in
     (end_dealt desks parts h (a ∙ ap is_some (b ∙ n)) l w, w)
 
-pub end_begins : {g : Slicing} {most : ℕ} {early stopped : Bool} {marks : List (Option ℕ)} (desks : List Desk) (parts : List Part) → DealsTo g most early marks stopped desks → early ≡ false → AllZip (IsPartOfDesk g) desks parts → (w : ℕ) → w < length desks → w < g.slices → slice_get (get_or (shares parts) w []) 0 ≡ Some w
+pub end_begins : {g : Slicing} {most : ℕ} {early stopped : Bool} {marks : List (Option ℕ)} (desks : List Desk) (parts : List Part)
+    → DealsTo g most early marks stopped desks → early ≡ false → AllZip (IsPartOfDesk g) desks parts → (w : ℕ) → w < length desks
+    → w < g.slices → slice_get (get_or (shares parts) w []) 0 ≡ Some w
 end_begins {g} desks parts h e z w a b =
     let n = length-map desks seat in
-    let r = share_begins (seats desks) h.dealing (turns.well_goes_on (seats desks) e h.dealing (zip_well g desks parts z)) (omega arith) w a b in
+    let r = share_begins (seats desks) h.dealing (turns.well_goes_on (seats desks) e h.dealing (zip_well g desks parts z))
+    (omega arith) w a b in
     ap (λ (s : List ℕ). slice_get s 0) (ap (λ (s : List (List ℕ)). get_or s w []) (zip_shares g desks parts z) ∙ r.1)
 
 -- where no fault was met, the parts are complete
-pub completes : {g : Slicing} {most workers : ℕ} {early stopped : Bool} {marks : List (Option ℕ)} (desks taken : List Desk) (parts : List Part) (start : Met) (f : Option GatherFault) → DealsTo g most early marks stopped desks → taken ≡ desks → early ≡ is_some f → f ≡ fault_of start → fault_of start ≡ None → 0 < length desks → length desks ≡ workers → AllZip (IsPartOfDesk g) taken parts → IsComplete g workers parts
+pub completes : {g : Slicing} {most workers : ℕ} {early stopped : Bool} {marks : List (Option ℕ)} (desks taken : List Desk)
+    (parts : List Part) (start : Met) (f : Option GatherFault) → DealsTo g most early marks stopped desks → taken ≡ desks
+    → early ≡ is_some f → f ≡ fault_of start → fault_of start ≡ None → 0 < length desks → length desks ≡ workers
+    → AllZip (IsPartOfDesk g) taken parts → IsComplete g workers parts
 completes {g} {most} {workers} desks taken parts start f h e a b n l k z =
     let both = ends_well desks taken parts start f h e a b n l z in
     let same = AllZip-long (IsPartOfDesk g) desks parts both.1 in

@@ -12,7 +12,8 @@ use Rattle.mwc_gather.specs.Inner.Orders.{slicing_of}
 use Rattle.mwc_gather.specs.Inner.Desks.{IsOf, CanEndWith, HasStarted}
 
 -- one more fault
-pub noted_more : (m : Met) (whys : List (Option GatherFault)) (why : GatherFault) → also_all m (whys ++ Some why ∷ []) ≡ also (also_all m whys) why
+pub noted_more : (m : Met) (whys : List (Option GatherFault)) (why : GatherFault)
+    → also_all m (whys ++ Some why ∷ []) ≡ also (also_all m whys) why
 noted_more m [] why = refl
 noted_more m (None ∷ whys) why = noted_more m whys why
 noted_more m (Some w ∷ whys) why = noted_more (also m w) whys why
@@ -23,7 +24,8 @@ noted_none m [] = refl
 noted_none m (None ∷ whys) = noted_none m whys
 noted_none m (Some w ∷ whys) = noted_none (also m w) whys
 
-pub noted_after : (start met after : Met) (whys : List (Option GatherFault)) (why : GatherFault) → met ≡ also_all start whys → after ≡ also met why → after ≡ also_all start (whys ++ Some why ∷ [])
+pub noted_after : (start met after : Met) (whys : List (Option GatherFault)) (why : GatherFault) → met ≡ also_all start whys
+    → after ≡ also met why → after ≡ also_all start (whys ++ Some why ∷ [])
 noted_after start met after whys why e f = f ∙ ap (λ (m : Met). also m why) e ∙ sym (noted_more start whys why)
 
 -- where there is no room for a part
@@ -31,7 +33,8 @@ pub memory_ends : (g : Slicing) (most : ℕ) (d : Desk) → CanEndWith g most d 
 memory_ends g most d = (λ e. cc, λ e. refl, λ e. absurd cc)
 
 -- the end of a desk that was given this game and this limit
-pub ends_of : {g : Slicing} {most : ℕ} (d : Desk) (a : Option GatherFault) → IsOf g most d → CanEndWith (slicing_of d.worker.promise.order) d.worker.promise.order.most d a → CanEndWith g most d a
+pub ends_of : {g : Slicing} {most : ℕ} (d : Desk) (a : Option GatherFault) → IsOf g most d
+    → CanEndWith (slicing_of d.worker.promise.order) d.worker.promise.order.most d a → CanEndWith g most d a
 ends_of {g} {most} d a own e =
     subst (λ (x : Slicing). CanEndWith x most d a) own.0 (subst (λ (n : ℕ). CanEndWith (slicing_of d.worker.promise.order) n d a) own.1 e)
 

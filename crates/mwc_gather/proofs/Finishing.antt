@@ -20,7 +20,8 @@ use Rattle.mwc_gather.specs.Inner.Gathering.{all_total}
 use Rattle.mwc_gather.proofs.Ends.{note_many, noted, head_of, one_done}
 use Rattle.mwc_gather.proofs.Faults.{noted_after, noted_none, ends_of}
 
--- some of the workers have ended, and the rest are still to be joined: what was met follows from their answers, and where nothing was met all of them are parts
+-- some of the workers have ended, and the rest are still to be joined: what was met follows from their answers, and where nothing was met
+-- all of them are parts
 pub record Finishing (g : Slicing) (most : ℕ) (start : Met) (desks rest : List Desk) (met : Met) (parts : List Part) : Type 0 where
   pub all_of : AllOf g most rest
   pub within : All (λ (d : Desk). coalition_count g d.given.items ≤ all_total g) rest
@@ -37,19 +38,33 @@ pub none_joined : {g : Slicing} {most : ℕ} {start : Met} {desks rest : List De
     → AllOf g most desks → All (λ (d : Desk). coalition_count g d.given.items ≤ all_total g) desks
     → start.many ≡ false → Finishing g most start desks rest start parts
 none_joined e f all within few =
-    rw (e, f) (record { all_of = all; within = within; many = λ z. absurd (false≢true (sym few ∙ z)); done = []; split = refl; whys = []; ends = tt; met_is = refl; none = λ n. (n, tt) })
+    rw (e, f) (record {
+      all_of = all;
+      within = within;
+      many = λ z. absurd (false≢true (sym few ∙ z));
+      done = [];
+      split = refl;
+      whys =
+          [];
+      ends = tt;
+      met_is = refl;
+      none = λ n. (n, tt);
+    })
 
 module _ {g : Slicing} {most : ℕ} {start met : Met} {desks old rest : List Desk} {parts : List Part} where
   -- one more has ended with a fault
-  pub fault_met : {after : Met} {left : List Part} (d : Desk) (why : GatherFault) → Finishing g most start desks old met parts → old ≡ d ∷ rest → after ≡ also met why
-      → CanEndWith (slicing_of d.worker.promise.order) d.worker.promise.order.most d (Some why) → Finishing g most start desks rest after left
+  pub fault_met : {after : Met} {left : List Part} (d : Desk) (why : GatherFault) → Finishing g most start desks old met parts
+      → old ≡ d ∷ rest → after ≡ also met why
+      → CanEndWith (slicing_of d.worker.promise.order) d.worker.promise.order.most d (Some why)
+      → Finishing g most start desks rest after left
   fault_met {after} {left} d why f step e own =
       let within : Desk → Type 0 = λ d. coalition_count g d.given.items ≤ all_total g in
       let ends = ends_of d (Some why) (head_of (IsOf g most) d rest old step f.all_of) own in
       let few : within d = head_of within d rest old step f.within in record {
         all_of = All-rest (IsOf g most) d rest old step f.all_of;
         within = All-rest within d rest old step f.within;
-        many = λ z. note_many met why (most < all_total g) (λ t. let over = ends.2 t in omega arith) f.many (sym (ap (λ (m : Met). m.many) e) ∙ z);
+        many = λ z. note_many met why (most < all_total g) (λ t. let over = ends.2 t in omega arith) f.many
+            (sym (ap (λ (m : Met). m.many) e) ∙ z);
         done = f.done ++ d ∷ [];
         split = one_done f.done rest old desks d step f.split;
         whys = f.whys ++ Some why ∷ [];
@@ -59,8 +74,10 @@ module _ {g : Slicing} {most : ℕ} {start met : Met} {desks old rest : List Des
       }
 
   -- one more has ended with a part
-  pub part_kept : {longer : List Part} (d : Desk) (p : Part) → Finishing g most start desks old met parts → old ≡ d ∷ rest → longer ≡ parts ++ p ∷ []
-      → IsPartOfDesk (slicing_of d.worker.promise.order) d p → CanEndWith (slicing_of d.worker.promise.order) d.worker.promise.order.most d None
+  pub part_kept : {longer : List Part} (d : Desk) (p : Part) → Finishing g most start desks old met parts → old ≡ d ∷ rest
+      → longer ≡ parts ++ p ∷ []
+      → IsPartOfDesk (slicing_of d.worker.promise.order) d p
+      → CanEndWith (slicing_of d.worker.promise.order) d.worker.promise.order.most d None
       → Finishing g most start desks rest met longer
   part_kept {longer} d p f step e part ends =
       let own = head_of (IsOf g most) d rest old step f.all_of in
@@ -78,5 +95,6 @@ module _ {g : Slicing} {most : ℕ} {start met : Met} {desks old rest : List Des
       }
 
 -- all have ended
-pub finished : {g : Slicing} {most : ℕ} {start met : Met} {desks : List Desk} {parts : List Part} (f : Finishing g most start desks [] met parts) → f.done ≡ desks
+pub finished : {g : Slicing} {most : ℕ} {start met : Met} {desks : List Desk} {parts : List Part}
+    (f : Finishing g most start desks [] met parts) → f.done ≡ desks
 finished f = sym (append-nil f.done) ∙ f.split

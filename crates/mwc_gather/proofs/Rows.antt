@@ -11,7 +11,8 @@ pub first_none : (before row : List Word) → SendsFirst before row before row
 first_none before row = ([], sym (append-nil before), refl)
 
 -- more of the rest was sent
-pub first_more : (before row mid rest after : List Word) (k : ℕ) → SendsFirst before row mid rest → after ≡ mid ++ take k rest → SendsFirst before row after (drop k rest)
+pub first_more : (before row mid rest after : List Word) (k : ℕ) → SendsFirst before row mid rest → after ≡ mid ++ take k rest
+    → SendsFirst before row after (drop k rest)
 first_more before row mid rest after k s e = (
   s.0 ++ take k rest,
   e ∙ ap (λ (w : List Word). w ++ take k rest) s.1 ∙ append_assoc before s.0 (take k rest),
@@ -24,11 +25,13 @@ first_all before row mid rest after s e =
     e ∙ ap (λ (w : List Word). w ++ rest) s.1 ∙ append_assoc before s.0 rest ∙ ap (λ (w : List Word). before ++ w) s.2
 
 -- words were added to the rest
-pub first_added : (before row mid rest more after left : List Word) → SendsFirst before row mid rest → SendsFirst mid (rest ++ more) after left → SendsFirst before (row ++ more) after left
+pub first_added : (before row mid rest more after left : List Word) → SendsFirst before row mid rest
+    → SendsFirst mid (rest ++ more) after left → SendsFirst before (row ++ more) after left
 first_added before row mid rest more after left s t = (
   s.0 ++ t.0,
   t.1 ∙ ap (λ (w : List Word). w ++ t.0) s.1 ∙ append_assoc before s.0 t.0,
-  append_assoc s.0 t.0 left ∙ ap (λ (w : List Word). s.0 ++ w) t.2 ∙ sym (append_assoc s.0 rest more) ∙ ap (λ (w : List Word). w ++ more) s.2,
+  append_assoc s.0 t.0 left ∙ ap (λ (w : List Word). s.0 ++ w) t.2 ∙ sym (append_assoc s.0 rest more)
+      ∙ ap (λ (w : List Word). w ++ more) s.2,
 )
 
 -- some of the rest of a row that is a beginning of a sending is a beginning too

@@ -13,7 +13,8 @@ use Rattle.mwc_gather.specs.Inner.Sending.{SendsFirst, SendsSome}
 use Rattle.mwc_gather.proofs.Slices.{starts_sending, whole_starts}
 use Rattle.mwc_gather.proofs.Rows.{first_added, first_all, some_starts}
 
--- of slice j, which has these coalitions and of which so many are wanted, some are given and so many may still be; their words went into the pipe but for the row
+-- of slice j, which has these coalitions and of which so many are wanted, some are given and so many may still be; their words went into
+-- the pipe but for the row
 pub record UnderWay (all : List ℕ) (j wanted left : ℕ) (before : List Word) (to_come : List ℕ) (out row : List Word) : Type 0 where
   pub given : List ℕ
   pub split : all ≡ given ++ to_come
@@ -22,7 +23,8 @@ pub record UnderWay (all : List ℕ) (j wanted left : ℕ) (before : List Word) 
 
 module _ {all : List ℕ} {j wanted left : ℕ} {before : List Word} where
   -- one more coalition is given
-  pub one_more : {next : ℕ} {to_come rest : List ℕ} {out row mid new : List Word} (c : ℕ) → UnderWay all j wanted left before to_come out row
+  pub one_more : {next : ℕ} {to_come rest : List ℕ} {out row mid new : List Word} (c : ℕ)
+      → UnderWay all j wanted left before to_come out row
       → to_come ≡ c ∷ rest → next + 1 ≡ left → SendsFirst out (row ++ One c ∷ []) mid new → UnderWay all j wanted next before rest mid new
   one_more {next} {to_come} {rest} {out} {row} {mid} {new} c u e n s =
       let longer : length (u.given ++ c ∷ []) ≡ length u.given + 1 = length-append u.given (c ∷ []) in
@@ -35,7 +37,8 @@ module _ {all : List ℕ} {j wanted left : ℕ} {before : List Word} where
       }
 
   -- the pipe took some of the row, and no more
-  pub refused : {to_come : List ℕ} {out row after : List Word} (g : Slicing) → g.slice j ≡ all → UnderWay all j wanted left before to_come out row → SendsSome out row after
+  pub refused : {to_come : List ℕ} {out row after : List Word} (g : Slicing) → g.slice j ≡ all
+      → UnderWay all j wanted left before to_come out row → SendsSome out row after
       → (words : List Word) × (after ≡ before ++ words) × IsPrefix words (sending g j wanted)
   refused {to_come} {out} {row} {after} g e u some =
       let count = u.count in
@@ -43,35 +46,41 @@ module _ {all : List ℕ} {j wanted left : ℕ} {before : List Word} where
       (starts_sending g j wanted u.given to_come (e ∙ u.split) (omega arith))
 
   -- as many as are wanted were sent
-  pub sent_cut : {to_come : List ℕ} {out row after : List Word} (g : Slicing) → g.slice j ≡ all → UnderWay all j wanted left before to_come out row → left ≡ 0 → after ≡ out ++ row
+  pub sent_cut : {to_come : List ℕ} {out row after : List Word} (g : Slicing) → g.slice j ≡ all
+      → UnderWay all j wanted left before to_come out row → left ≡ 0 → after ≡ out ++ row
       → (after ≡ before ++ cut_words g j wanted) × (wanted ≤ length (g.slice j))
   sent_cut {to_come} {out} {row} {after} g e u none sent =
       let count = u.count in
       let sum : length (g.slice j) ≡ length u.given + length to_come = ap length (e ∙ u.split) ∙ length-append u.given to_come in
       let some : wanted ≡ length u.given = omega arith in
       let taken = ap (λ (k : ℕ). take k (g.slice j)) some ∙ ap (take (length u.given)) (e ∙ u.split) ∙ take-append_seam u.given to_come in (
-        first_all before (Open j ∷ map One u.given) out row after u.first sent ∙ ap (λ (w : List ℕ). before ++ (Open j ∷ map One w)) (sym taken),
+        first_all before (Open j ∷ map One u.given) out row after u.first sent
+            ∙ ap (λ (w : List ℕ). before ++ (Open j ∷ map One w)) (sym taken),
         omega arith,
       )
 
   -- with the word that ends it, where nothing is to come
-  ended : {out row mid new : List Word} (g : Slicing) → g.slice j ≡ all → (u : UnderWay all j wanted left before [] out row) → SendsFirst out (row ++ Done j ∷ []) mid new
+  ended : {out row mid new : List Word} (g : Slicing) → g.slice j ≡ all → (u : UnderWay all j wanted left before [] out row)
+      → SendsFirst out (row ++ Done j ∷ []) mid new
       → SendsFirst before (slice_words g j) mid new
   ended {out} {row} {mid} {new} g e u s =
       let whole : g.slice j ≡ u.given = e ∙ u.split ∙ append-nil u.given in
       subst (λ (w : List ℕ). SendsFirst before ((Open j ∷ map One w) ++ Done j ∷ []) mid new) (sym whole)
       (first_added before (Open j ∷ map One u.given) out row (Done j ∷ []) mid new u.first s)
 
-  short : {out row : List Word} (g : Slicing) → g.slice j ≡ all → UnderWay all j wanted left before [] out row → left + length (g.slice j) ≡ wanted
+  short : {out row : List Word} (g : Slicing) → g.slice j ≡ all → UnderWay all j wanted left before [] out row
+      → left + length (g.slice j) ≡ wanted
   short g e u = let count = u.count in let whole = ap length (e ∙ u.split ∙ append-nil u.given) in omega arith
 
-  pub refused_end : {out row mid new after : List Word} (g : Slicing) → g.slice j ≡ all → UnderWay all j wanted left before [] out row → 0 < left → SendsFirst out (row ++ Done j ∷ []) mid new
+  pub refused_end : {out row mid new after : List Word} (g : Slicing) → g.slice j ≡ all → UnderWay all j wanted left before [] out row
+      → 0 < left → SendsFirst out (row ++ Done j ∷ []) mid new
       → SendsSome mid new after → (words : List Word) × (after ≡ before ++ words) × IsPrefix words (sending g j wanted)
   refused_end {out} {row} {mid} {new} {after} g e u more s some =
       let count = short g e u in
       some_starts before (slice_words g j) mid new after (sending g j wanted) (ended g e u s) some (whole_starts g j wanted (omega arith))
 
-  pub sent_whole : {out row mid new after : List Word} (g : Slicing) → g.slice j ≡ all → UnderWay all j wanted left before [] out row → 0 < left → SendsFirst out (row ++ Done j ∷ []) mid new
+  pub sent_whole : {out row mid new after : List Word} (g : Slicing) → g.slice j ≡ all → UnderWay all j wanted left before [] out row
+      → 0 < left → SendsFirst out (row ++ Done j ∷ []) mid new
       → after ≡ mid ++ new → (after ≡ before ++ slice_words g j) × (length (g.slice j) < wanted) × (left + length (g.slice j) ≡ wanted)
   sent_whole {out} {row} {mid} {new} {after} g e u more s sent =
       let count = short g e u in (first_all before (slice_words g j) mid new after (ended g e u s) sent, omega arith, count)

@@ -11,10 +11,12 @@ use Rattle.mwc_parts.specs.Wording.{open_words}
 use Rattle.mwc_parts.specs.Inner.Wording.{end_words, is_done}
 use Rattle.mwc_gather.proofs.Wordings.{open_words-more}
 
-pub opens_given : (accepted : List Word) (given : List ℕ) (told : Bool) (j : ℕ) → told ≡ false → accepted ≡ open_words given ++ end_words told → accepted ++ Open j ∷ [] ≡ open_words (given ++ j ∷ []) ++ end_words told
+pub opens_given : (accepted : List Word) (given : List ℕ) (told : Bool) (j : ℕ) → told ≡ false
+    → accepted ≡ open_words given ++ end_words told → accepted ++ Open j ∷ [] ≡ open_words (given ++ j ∷ []) ++ end_words told
 opens_given accepted given true j z e = absurd (false≢true (sym z))
 opens_given accepted given false j z e =
-    ap (λ (w : List Word). w ++ Open j ∷ []) (e ∙ append-nil (open_words given)) ∙ sym (open_words-more given j) ∙ sym (append-nil (open_words (given ++ j ∷ [])))
+    ap (λ (w : List Word). w ++ Open j ∷ []) (e ∙ append-nil (open_words given)) ∙ sym (open_words-more given j)
+    ∙ sym (append-nil (open_words (given ++ j ∷ [])))
 
 -- the words that tell that a slice is whole
 done_more : (before row : List Word) → count_by is_done (before ++ row) ≡ count_by is_done before + count_by is_done row
@@ -23,12 +25,16 @@ done_more before row = sum_by-append (λ (w : Word). cond (is_done w) 1 0) befor
 done_counts : (row : List Word) → list_any is_done row ≡ true → 1 ≤ count_by is_done row
 done_counts [] e = absurd (false≢true e)
 done_counts (Done j ∷ row) e = let s = sum_by-cons (λ (w : Word). cond (is_done w) 1 0) (Done j) row in omega arith
-done_counts (Open j ∷ row) e = let s = sum_by-cons (λ (w : Word). cond (is_done w) 1 0) (Open j) row in let r = done_counts row e in omega arith
-done_counts (One j ∷ row) e = let s = sum_by-cons (λ (w : Word). cond (is_done w) 1 0) (One j) row in let r = done_counts row e in omega arith
-done_counts (End j ∷ row) e = let s = sum_by-cons (λ (w : Word). cond (is_done w) 1 0) (End j) row in let r = done_counts row e in omega arith
+done_counts (Open j ∷ row) e = let s = sum_by-cons (λ (w : Word). cond (is_done w) 1 0) (Open j) row in let r =
+    done_counts row e in omega arith
+done_counts (One j ∷ row) e = let s = sum_by-cons (λ (w : Word). cond (is_done w) 1 0) (One j) row in let r =
+    done_counts row e in omega arith
+done_counts (End j ∷ row) e = let s = sum_by-cons (λ (w : Word). cond (is_done w) 1 0) (End j) row in let r =
+    done_counts row e in omega arith
 
 -- a worker that had one slice at most still to finish has no more of them after it sent more words
-pub ahead_more : (n : ℕ) (before row after : List Word) → after ≡ before ++ row → n ≤ count_by is_done before + 1 → n ≤ count_by is_done after + 1
+pub ahead_more : (n : ℕ) (before row after : List Word) → after ≡ before ++ row → n ≤ count_by is_done before + 1
+    → n ≤ count_by is_done after + 1
 ahead_more n before row after e l =
     let a : count_by is_done after ≡ count_by is_done (before ++ row) = ap (λ (w : List Word). count_by is_done w) e in
     let m = done_more before row in omega arith

@@ -18,7 +18,8 @@ cons_if true j x a c e = ap (λ (w : List ℕ). j ∷ w) e
 cons_if false j x a c e = e
 
 -- one more holder
-pub share_of-more : (w j : ℕ) (hs : List ℕ) (h : ℕ) → share_from w j (hs ++ h ∷ []) ≡ share_from w j hs ++ cond (eqb w h) ((j + length hs) ∷ []) []
+pub share_of-more : (w j : ℕ) (hs : List ℕ) (h : ℕ)
+    → share_from w j (hs ++ h ∷ []) ≡ share_from w j hs ++ cond (eqb w h) ((j + length hs) ∷ []) []
 share_of-more w j [] h = let e : j ≡ j + 0 = omega arith in ap (λ (k : ℕ). cond (eqb w h) (k ∷ []) []) e
 share_of-more w j (x ∷ hs) h =
     let e : (j + 1) + length hs ≡ j + suc (length hs) = omega arith in
@@ -27,26 +28,33 @@ share_of-more w j (x ∷ hs) h =
 
 pub share_of-other : (hs : List ℕ) (w h : ℕ) → (w ≡ h → ⊥) → share_of (hs ++ h ∷ []) w ≡ share_of hs w
 share_of-other hs w h ne =
-    share_of-more w 0 hs h ∙ ap (λ (b : Bool). share_from w 0 hs ++ cond b ((0 + length hs) ∷ []) []) (ne_eqb w h ne) ∙ append-nil (share_of hs w)
+    share_of-more w 0 hs h ∙ ap (λ (b : Bool). share_from w 0 hs ++ cond b ((0 + length hs) ∷ []) []) (ne_eqb w h ne)
+    ∙ append-nil (share_of hs w)
 
 pub share_of-same : (hs : List ℕ) (w h : ℕ) → w ≡ h → share_of (hs ++ h ∷ []) w ≡ share_of hs h ++ length hs ∷ []
 share_of-same hs w h e =
     let z : 0 + length hs ≡ length hs = omega arith in
-    share_of-more w 0 hs h ∙ ap (λ (b : Bool). share_from w 0 hs ++ cond b ((0 + length hs) ∷ []) []) (eq-eqb w h e) ∙ ap (λ (k : ℕ). share_from w 0 hs ++ k ∷ []) z ∙ ap (λ (v : ℕ). share_from v 0 hs ++ length hs ∷ []) e
+    share_of-more w 0 hs h ∙ ap (λ (b : Bool). share_from w 0 hs ++ cond b ((0 + length hs) ∷ []) []) (eq-eqb w h e)
+    ∙ ap (λ (k : ℕ). share_from w 0 hs ++ k ∷ []) z ∙ ap (λ (v : ℕ). share_from v 0 hs ++ length hs ∷ []) e
 
-others : (hs : List ℕ) (i from k : ℕ) → i < from → map (share_of (hs ++ i ∷ [])) (range_with_len from k) ≡ map (share_of hs) (range_with_len from k)
+others : (hs : List ℕ) (i from k : ℕ)
+    → i < from → map (share_of (hs ++ i ∷ [])) (range_with_len from k) ≡ map (share_of hs) (range_with_len from k)
 others hs i from zero h = refl
 others hs i from (suc k) h =
     let e : share_of (hs ++ i ∷ []) from ≡ share_of hs from = share_of-other hs from i (λ q. omega arith) in
     let r = others hs i (from + 1) k (omega arith) in
-    ap (λ (x : List ℕ). x ∷ map (share_of (hs ++ i ∷ [])) (range_with_len (from + 1) k)) e ∙ ap (λ (xs : List (List ℕ)). share_of hs from ∷ xs) r
+    ap (λ (x : List ℕ). x ∷ map (share_of (hs ++ i ∷ [])) (range_with_len (from + 1) k)) e
+    ∙ ap (λ (xs : List (List ℕ)). share_of hs from ∷ xs) r
 
 -- worker i, in the row from worker `from` on, is given the next slice
-pub deal_from : (hs : List ℕ) (i from k n : ℕ) → from + n ≡ i → n < k → map (share_of (hs ++ i ∷ [])) (range_with_len from k) ≡ set (map (share_of hs) (range_with_len from k)) n (share_of hs i ++ length hs ∷ [])
+pub deal_from : (hs : List ℕ) (i from k n : ℕ) → from + n ≡ i → n < k
+    → map (share_of (hs ++ i ∷ [])) (range_with_len from k) ≡ set (map (share_of hs) (range_with_len from k)) n
+    (share_of hs i ++ length hs ∷ [])
 deal_from hs i from zero n e h = absurd (omega arith)
 deal_from hs i from (suc k) zero e h =
     let q : from ≡ i = omega arith in
-    ap (λ (x : List ℕ). x ∷ map (share_of (hs ++ i ∷ [])) (range_with_len (from + 1) k)) (share_of-same hs from i q) ∙ ap (λ (xs : List (List ℕ)). (share_of hs i ++ length hs ∷ []) ∷ xs) (others hs i (from + 1) k (omega arith))
+    ap (λ (x : List ℕ). x ∷ map (share_of (hs ++ i ∷ [])) (range_with_len (from + 1) k)) (share_of-same hs from i q)
+    ∙ ap (λ (xs : List (List ℕ)). (share_of hs i ++ length hs ∷ []) ∷ xs) (others hs i (from + 1) k (omega arith))
 deal_from hs i from (suc k) (suc n) e h =
     ap (λ (x : List ℕ). x ∷ map (share_of (hs ++ i ∷ [])) (range_with_len (from + 1) k)) (share_of-other hs from i (λ q. omega arith))
     ∙ ap (λ (xs : List (List ℕ)). share_of hs from ∷ xs) (deal_from hs i (from + 1) k n (omega arith) (omega arith))
@@ -84,7 +92,8 @@ pub range_sum : (f : ℕ → ℕ) (n : ℕ) → sum_of f (range_with_len 0 (n + 
 range_sum f n = rw (range_more n) (sum_of-push f (range_with_len 0 n) n)
 
 -- of the first m holders
-sum_up_to : (f : ℕ → ℕ) (k : ℕ) (hs : List ℕ) → All (λ h. h < k) hs → (m : ℕ) → m ≤ length hs → sum_of (sum_of f) (shares_by (take m hs) k) ≡ sum_of f (range_with_len 0 m)
+sum_up_to : (f : ℕ → ℕ) (k : ℕ) (hs : List ℕ) → All (λ h. h < k) hs → (m : ℕ) → m ≤ length hs
+    → sum_of (sum_of f) (shares_by (take m hs) k) ≡ sum_of f (range_with_len 0 m)
 sum_up_to f k hs a zero l = none_held f 0 (range_with_len 0 k)
 sum_up_to f k hs a (suc m) l =
     let h : ℕ = get_or hs m 0 in
@@ -92,15 +101,18 @@ sum_up_to f k hs a (suc m) l =
     let below : h < k = a m 0 (omega arith) in
     let more : take (suc m) hs ≡ first ++ h ∷ [] = rw (← add-one) (take_more hs m 0 (omega arith)) in
     let number : length first ≡ m = length-take-le m hs (omega arith) in
-    let held : get_or (shares_by first k) h [] ≡ share_of first h = get_or-map-range_with_len (share_of first) 0 k h h [] below (omega arith) in
+    let held : get_or (shares_by first k) h [] ≡ share_of first h =
+    get_or-map-range_with_len (share_of first) 0 k h h [] below (omega arith) in
     let before = sum_up_to f k hs a m (omega arith) in
     let dealt = deal_from first h 0 k h (omega arith) below in
-    let given = sum_of-set (sum_of f) (shares_by first k) h (share_of first h ++ length first ∷ []) [] (omega (arith, length-map-range_with_len (share_of first) 0 k)) in
+    let given = sum_of-set (sum_of f) (shares_by first k) h (share_of first h ++ length first ∷ []) []
+    (omega (arith, length-map-range_with_len (share_of first) 0 k)) in
     let next = rw add-one at (range_sum f m) in
     rw (more, dealt) (omega (arith, given, ap (sum_of f) held, sum_of-push f (share_of first h) (length first), before, next, ap f number))
 
 -- any sum over the shares is the sum over the slices
-pub shares_sum : (f : ℕ → ℕ) (k : ℕ) (hs : List ℕ) → All (λ h. h < k) hs → sum_of (sum_of f) (shares_by hs k) ≡ sum_of f (range_with_len 0 (length hs))
+pub shares_sum : (f : ℕ → ℕ) (k : ℕ) (hs : List ℕ) → All (λ h. h < k) hs
+    → sum_of (sum_of f) (shares_by hs k) ≡ sum_of f (range_with_len 0 (length hs))
 shares_sum f k hs a = rw (take_all (length hs) hs (omega arith)) at (sum_up_to f k hs a (length hs) (omega arith))
 
 -- each number below n stands once in the row up to n

@@ -19,21 +19,27 @@ pub record Hears (old : Draft) (word : Word) (new : Draft) : Type 0 where
   pub got_more : new.lost ≡ false → new.got.items ≡ old.got.items ++ ones (word ∷ [])
   pub ends_more : new.lost ≡ false → new.ends.items ≡ old.ends.items ++ done_counts (length old.got.items) (word ∷ [])
 
-pub keeps_more : (words : List Word) (old : Draft) (word : Word) (new : Draft) → Hears old word new → IsDraftOf words old → IsDraftOf (words ++ word ∷ []) new
+pub keeps_more : (words : List Word) (old : Draft) (word : Word) (new : Draft) → Hears old word new → IsDraftOf words old
+    → IsDraftOf (words ++ word ∷ []) new
 keeps_more words old word new h k = record {
-  cut_is = h.cut_is ∙ ap (λ (b : Bool). b || is_cut word) k.cut_is ∙ ap (λ (b : Bool). has_cut words || b) (sym (or-false (is_cut word))) ∙ sym (list_any-append is_cut words (word ∷ []));
+  cut_is = h.cut_is ∙ ap (λ (b : Bool). b || is_cut word) k.cut_is ∙ ap (λ (b : Bool). has_cut words || b) (sym (or-false (is_cut word)))
+      ∙ sym (list_any-append is_cut words (word ∷ []));
   got_are = λ z. h.got_more z ∙ ap (λ (w : List ℕ). w ++ ones (word ∷ [])) (k.got_are (h.was_kept z)) ∙ sym (ones-append words (word ∷ []));
   ends_are = λ z. h.ends_more z ∙ ap (λ (w : List ℕ). w ++ done_counts (length old.got.items) (word ∷ [])) (k.ends_are (h.was_kept z))
       ∙ ap (λ (w : List ℕ). done_counts 0 words ++ done_counts (length w) (word ∷ [])) (k.got_are (h.was_kept z))
-      ∙ ap (λ (n : ℕ). done_counts 0 words ++ done_counts n (word ∷ [])) (sym (zero-add (length (ones words)))) ∙ sym (done_counts-append 0 words (word ∷ []));
+      ∙ ap (λ (n : ℕ). done_counts 0 words ++ done_counts n (word ∷ [])) (sym (zero-add (length (ones words))))
+      ∙ sym (done_counts-append 0 words (word ∷ []));
 }
 
 -- what a whole draft is, where it has no cut and nothing was lost
-pub whole_sent : {g : Slicing} {most : ℕ} {given : List ℕ} {told : Bool} {draft : Draft} (h : HasAllWords g most given told draft) → draft.cut ≡ false → IsSentWhole g most given told h.words
+pub whole_sent : {g : Slicing} {most : ℕ} {given : List ℕ} {told : Bool} {draft : Draft} (h : HasAllWords g most given told draft)
+    → draft.cut ≡ false → IsSentWhole g most given told h.words
 whole_sent h e = all_sent h.settled (sym h.keeps.cut_is ∙ e)
 
-pub whole_reads : {g : Slicing} {most : ℕ} {given : List ℕ} {told : Bool} {draft : Draft} → HasAllWords g most given told draft → draft.lost ≡ false → draft.cut ≡ false → Reads g given draft.got.items draft.ends.items
+pub whole_reads : {g : Slicing} {most : ℕ} {given : List ℕ} {told : Bool} {draft : Draft} → HasAllWords g most given told draft
+    → draft.lost ≡ false → draft.cut ≡ false → Reads g given draft.got.items draft.ends.items
 whole_reads {draft = draft} h l e = reads draft.got.items draft.ends.items (whole_sent h e) (h.keeps.got_are l) (h.keeps.ends_are l)
 
-pub whole_many : {g : Slicing} {most : ℕ} {given : List ℕ} {told : Bool} {draft : Draft} → HasAllWords g most given told draft → draft.cut ≡ true → most < coalition_count g given
+pub whole_many : {g : Slicing} {most : ℕ} {given : List ℕ} {told : Bool} {draft : Draft} → HasAllWords g most given told draft
+    → draft.cut ≡ true → most < coalition_count g given
 whole_many h e = cut_is_many h.settled (sym h.keeps.cut_is ∙ e)

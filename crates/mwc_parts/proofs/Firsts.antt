@@ -21,7 +21,8 @@ no_shares : (seats : List Seat) (from : ℕ) → All IsFresh seats → given_sli
 no_shares [] from a = refl
 no_shares (s ∷ seats) from a =
     let h = All-head IsFresh s seats a in
-    ap (λ (x : List ℕ). x ∷ given_slices seats) h.none_given ∙ ap (λ (xs : List (List ℕ)). [] ∷ xs) (no_shares seats (from + 1) (All-tail IsFresh s seats a))
+    ap (λ (x : List ℕ). x ∷ given_slices seats) h.none_given
+    ∙ ap (λ (xs : List (List ℕ)). [] ∷ xs) (no_shares seats (from + 1) (All-tail IsFresh s seats a))
 
 -- before the first deal
 pub begin : (n : ℕ) (early : Bool) (seats : List Seat) → All IsFresh seats → DealsOneEach n 0 early (replicate n None) early seats
@@ -34,7 +35,8 @@ begin n early seats a = record {
       all_slices = omega arith;
       by_workers = λ k d l. absurd (omega arith);
       given_are = no_shares seats 0 a;
-      told_late = All-weaker IsFresh (λ (s : Seat). s.told ≡ true → (n ≡ 0) ⊎ (early ≡ true)) (λ x h q. absurd (false≢true (sym h.not_told ∙ q))) seats a;
+      told_late = All-weaker IsFresh (λ (s : Seat). s.told ≡ true → (n ≡ 0) ⊎ (early ≡ true))
+          (λ x h q. absurd (false≢true (sym h.not_told ∙ q))) seats a;
       stops_are = sym (ap (λ (b : Bool). early || b) (none_ill seats (All-weaker IsFresh IsWell (λ x h. h.well) seats a)) ∙ or-false early);
       none_early = λ z. refl;
     };
@@ -51,8 +53,10 @@ reached zero n m l h = omega arith
 reached (suc k) n m l h = let q = h k (omega arith) (omega arith) in omega arith
 
 -- the first deal to worker k
-pub first_turn : {n : ℕ} {early stopped stops : Bool} {marks after : List (Option ℕ)} (seats : List Seat) (k : ℕ) (s t : Seat) → k < length seats → s ≡ get_or seats k s → IsFresh s
-    → DealsOneEach n k early marks stopped seats → TakesTurn false marks stopped s k after stops t → DealsOneEach n (k + 1) early after stops (set seats k t)
+pub first_turn : {n : ℕ} {early stopped stops : Bool} {marks after : List (Option ℕ)} (seats : List Seat) (k : ℕ) (s t : Seat)
+    → k < length seats → s ≡ get_or seats k s → IsFresh s
+    → DealsOneEach n k early marks stopped seats → TakesTurn false marks stopped s k after stops t
+    → DealsOneEach n (k + 1) early after stops (set seats k t)
 unfolding turn_nothing turn_one
 first_turn {n} {early} {stopped} {stops} seats k s t l e fresh f r =
     let d = f.deal in let old = d.in_order in let most = f.at_most in
@@ -100,44 +104,66 @@ first_turn {n} {early} {stopped} {stops} seats k s t l e fresh f r =
 -- who told what at the end
 pub dealt_once : {n : ℕ} {shares : List (List ℕ)} (j : ℕ) → AreDealt n shares → sum_of (times_in j) shares ≡ cond (ltb j n) 1 0
 dealt_once {n} {shares} j d =
-    ap (sum_of (times_in j)) d.shares_are ∙ each_held_once j (length shares) d.holders d.by_workers ∙ ap (λ (m : ℕ). cond (ltb j m) 1 0) d.each_held
+    ap (sum_of (times_in j)) d.shares_are ∙ each_held_once j (length shares) d.holders d.by_workers
+    ∙ ap (λ (m : ℕ). cond (ltb j m) 1 0) d.each_held
 
-pub dealt_total : {n : ℕ} {shares : List (List ℕ)} (g : Slicing) → AreDealt n shares → sum_of (coalition_count g) shares ≡ coalition_count g (range_with_len 0 n)
+pub dealt_total : {n : ℕ} {shares : List (List ℕ)} (g : Slicing) → AreDealt n shares
+    → sum_of (coalition_count g) shares ≡ coalition_count g (range_with_len 0 n)
 dealt_total {n} {shares} g d =
-    ap (sum_of (coalition_count g)) d.shares_are ∙ shares_sum (λ j. length (g.slice j)) (length shares) d.holders d.by_workers ∙ ap (λ (m : ℕ). coalition_count g (range_with_len 0 m)) d.each_held
+    ap (sum_of (coalition_count g)) d.shares_are ∙ shares_sum (λ j. length (g.slice j)) (length shares) d.holders d.by_workers
+    ∙ ap (λ (m : ℕ). coalition_count g (range_with_len 0 m)) d.each_held
 
 pub dealt_increase : {n : ℕ} {shares : List (List ℕ)} → AreDealt n shares → All IsStrictlyIncreasing shares
-dealt_increase {n} {shares} d = subst (λ (l : List (List ℕ)). All IsStrictlyIncreasing l) (sym d.shares_are) (All-map IsStrictlyIncreasing (share_of d.holders) (range_with_len 0 (length shares)) (λ k w l. held_increases (get_or (range_with_len 0 (length shares)) k w) d.holders))
+dealt_increase {n} {shares} d =
+    subst (λ (l : List (List ℕ)). All IsStrictlyIncreasing l) (sym d.shares_are)
+    (All-map IsStrictlyIncreasing (share_of d.holders) (range_with_len 0 (length shares))
+    (λ k w l. held_increases (get_or (range_with_len 0 (length shares)) k w) d.holders))
 
 -- no worker was given more than all slices
-pub each_within : {n k : ℕ} {early stopped : Bool} {marks : List (Option ℕ)} (g : Slicing) (seats : List Seat) → DealsInTurn n k early marks stopped seats → All (λ (s : List ℕ). coalition_count g s ≤ coalition_count g (range_with_len 0 n)) (given_slices seats)
+pub each_within : {n k : ℕ} {early stopped : Bool} {marks : List (Option ℕ)} (g : Slicing) (seats : List Seat)
+    → DealsInTurn n k early marks stopped seats
+    → All (λ (s : List ℕ). coalition_count g s ≤ coalition_count g (range_with_len 0 n)) (given_slices seats)
 each_within {n} g seats deal =
     let d = deal.in_order in
-    let a : sum_of (coalition_count g) (given_slices seats) ≡ coalition_count g (range_with_len 0 (length d.holders)) = ap (sum_of (coalition_count g)) d.given_are ∙ shares_sum (λ j. length (g.slice j)) (length seats) d.holders d.by_workers in
-    let m : coalition_count g (range_with_len 0 (length d.holders)) ≤ coalition_count g (range_with_len 0 n) = sum_range_le (λ j. length (g.slice j)) 0 (length d.holders) n (omega arith) in
-    All-weaker (λ (s : List ℕ). coalition_count g s ≤ sum_of (coalition_count g) (given_slices seats)) (λ (s : List ℕ). coalition_count g s ≤ coalition_count g (range_with_len 0 n)) (λ s l. omega arith) (given_slices seats) (one_of_sum (coalition_count g) (given_slices seats))
+    let a : sum_of (coalition_count g) (given_slices seats) ≡ coalition_count g (range_with_len 0 (length d.holders)) =
+    ap (sum_of (coalition_count g)) d.given_are ∙ shares_sum (λ j. length (g.slice j)) (length seats) d.holders d.by_workers in
+    let m : coalition_count g (range_with_len 0 (length d.holders)) ≤ coalition_count g (range_with_len 0 n) =
+    sum_range_le (λ j. length (g.slice j)) 0 (length d.holders) n (omega arith) in
+    All-weaker (λ (s : List ℕ). coalition_count g s ≤ sum_of (coalition_count g) (given_slices seats))
+    (λ (s : List ℕ). coalition_count g s ≤ coalition_count g (range_with_len 0 n)) (λ s l. omega arith) (given_slices seats)
+    (one_of_sum (coalition_count g) (given_slices seats))
 
 -- the first slice that a worker holds
-begins_with : (w j : ℕ) (hs : List ℕ) (m : ℕ) → j + m ≡ w → m < length hs → ((v : ℕ) → v < m + 1 → get_or hs v 0 ≡ j + v) → (rest : List ℕ) × (share_from w j hs ≡ w ∷ rest)
+begins_with : (w j : ℕ) (hs : List ℕ) (m : ℕ) → j + m ≡ w → m < length hs → ((v : ℕ) → v < m + 1 → get_or hs v 0 ≡ j + v) → (rest : List ℕ)
+    × (share_from w j hs ≡ w ∷ rest)
 begins_with w j [] m e l h = absurd (omega arith)
 begins_with w j (x ∷ hs) zero e l h =
     let q : x ≡ j + 0 = h 0 (omega arith) in
     let a : w ≡ x = omega arith in
-    let b : j ≡ w = omega arith in
-    (share_from w (j + 1) hs, ap (λ (t : Bool). cond t (j ∷ share_from w (j + 1) hs) (share_from w (j + 1) hs)) (eq-eqb w x a) ∙ ap (λ (i : ℕ). i ∷ share_from w (j + 1) hs) b)
+    let b : j ≡ w = omega arith in (
+      share_from w (j + 1) hs,
+      ap (λ (t : Bool). cond t (j ∷ share_from w (j + 1) hs) (share_from w (j + 1) hs)) (eq-eqb w x a)
+          ∙ ap (λ (i : ℕ). i ∷ share_from w (j + 1) hs) b,
+    )
 begins_with w j (x ∷ hs) (suc m) e l h =
     let q : x ≡ j + 0 = h 0 (omega arith) in
     let r = begins_with w (j + 1) hs m (omega arith) (omega arith) (λ v b. let o = h (suc v) (omega arith) in omega arith) in
     (r.0, ap (λ (t : Bool). cond t (j ∷ share_from w (j + 1) hs) (share_from w (j + 1) hs)) (ne_eqb w x (λ z. omega arith)) ∙ r.1)
 
-pub first_held : (hs : List ℕ) (w : ℕ) → w < length hs → ((v : ℕ) → v < w + 1 → get_or hs v 0 ≡ v) → (rest : List ℕ) × (share_of hs w ≡ w ∷ rest)
+pub first_held : (hs : List ℕ) (w : ℕ) → w < length hs → ((v : ℕ) → v < w + 1 → get_or hs v 0 ≡ v) → (rest : List ℕ)
+    × (share_of hs w ≡ w ∷ rest)
 first_held hs w l h =
     begins_with w 0 hs w (omega arith) l (λ v b. let o = h v b in omega arith)
 
 -- the first slice of worker w is slice w, where there are so many slices and workers
-pub share_begins : {n k : ℕ} {early stopped : Bool} {marks : List (Option ℕ)} (seats : List Seat) → DealsInTurn n k early marks stopped seats → stopped ≡ false → k ≡ length seats → (w : ℕ) → w < k → w < n → (rest : List ℕ) × (get_or (given_slices seats) w [] ≡ w ∷ rest)
+pub share_begins : {n k : ℕ} {early stopped : Bool} {marks : List (Option ℕ)} (seats : List Seat)
+    → DealsInTurn n k early marks stopped seats → stopped ≡ false → k ≡ length seats → (w : ℕ) → w < k → w < n → (rest : List ℕ)
+    × (get_or (given_slices seats) w [] ≡ w ∷ rest)
 share_begins seats d z e w a b =
     let o = d.begins z w a b in
     let h = first_held d.in_order.holders w o.0 (λ v u. let q = d.begins z v (omega arith) (omega arith) in q.1) in
-    let zero : 0 + w ≡ w = omega arith in
-    (h.0, ap (λ (s : List (List ℕ)). get_or s w []) d.in_order.given_are ∙ share_at d.in_order.holders 0 (length seats) w (omega arith) ∙ ap (share_of d.in_order.holders) zero ∙ h.1)
+    let zero : 0 + w ≡ w = omega arith in (
+      h.0,
+      ap (λ (s : List (List ℕ)). get_or s w []) d.in_order.given_are ∙ share_at d.in_order.holders 0 (length seats) w (omega arith)
+          ∙ ap (share_of d.in_order.holders) zero ∙ h.1,
+    )

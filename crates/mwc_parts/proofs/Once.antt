@@ -13,7 +13,8 @@ use Rattle.mwc_parts.proofs.Firsts.{dealt_once}
 use Rattle.mwc_parts.proofs.Sums.{sum_is}
 
 -- how often a slice stands in all parts
-count_is : (j : ℕ) (parts : List Part) → count_by (λ i. eqb i j) (flat_map (λ (p : Part). p.slices.items) parts) ≡ sum_of (times_in j) (shares parts)
+count_is : (j : ℕ) (parts : List Part)
+    → count_by (λ i. eqb i j) (flat_map (λ (p : Part). p.slices.items) parts) ≡ sum_of (times_in j) (shares parts)
 count_is j [] = refl
 count_is j (p ∷ parts) =
     let a = sum_by-append (λ (i : ℕ). cond {A = ℕ} (eqb i j) 1 0) p.slices.items (flat_map (λ (p : Part). p.slices.items) parts) in

@@ -17,7 +17,8 @@ ones-slice : (j : ℕ) (l : List ℕ) (rest : List Word) → ones (((Open j ∷ 
 ones-slice j [] rest = refl
 ones-slice j (c ∷ l) rest = ap (λ (w : List ℕ). c ∷ w) (ones-slice j l rest)
 
-done_counts-slice : (n j : ℕ) (l : List ℕ) (rest : List Word) → done_counts n (((Open j ∷ map One l) ++ Done j ∷ []) ++ rest) ≡ (n + length l) ∷ done_counts (n + length l) rest
+done_counts-slice : (n j : ℕ) (l : List ℕ) (rest : List Word)
+    → done_counts n (((Open j ∷ map One l) ++ Done j ∷ []) ++ rest) ≡ (n + length l) ∷ done_counts (n + length l) rest
 done_counts-slice n j [] rest = let e : n ≡ n + 0 = omega arith in ap (λ (m : ℕ). m ∷ done_counts m rest) e
 done_counts-slice n j (c ∷ l) rest =
     let e : (n + 1) + length l ≡ n + suc (length l) = omega arith in
@@ -32,7 +33,8 @@ ones-wording g (j ∷ s) = ones-slice j (g.slice j) (wording g s) ∙ ap (λ (w 
 pub done_counts-wording : (g : Slicing) (n : ℕ) (s : List ℕ) → done_counts n (wording g s) ≡ ends_from g n s
 done_counts-wording g n [] = refl
 done_counts-wording g n (j ∷ s) =
-    done_counts-slice n j (g.slice j) (wording g s) ∙ ap (λ (w : List ℕ). (n + length (g.slice j)) ∷ w) (done_counts-wording g (n + length (g.slice j)) s)
+    done_counts-slice n j (g.slice j) (wording g s)
+    ∙ ap (λ (w : List ℕ). (n + length (g.slice j)) ∷ w) (done_counts-wording g (n + length (g.slice j)) s)
 
 pub length-joined : (g : Slicing) (s : List ℕ) → length (flat_map g.slice s) ≡ coalition_count g s
 length-joined g s = length-flat_map g.slice s ∙ sum_is (λ j. length (g.slice j)) s
@@ -47,20 +49,26 @@ middle pre l rest n m e f =
     ap (λ (w : List ℕ). take (m - n) w) (drop_at pre (l ++ rest) n e) ∙ take_at l rest (m - n) (sym a)
 
 -- what stands between two ends is the slice
-piece_from : (g : Slicing) (pre : List ℕ) (n : ℕ) (s : List ℕ) (m : ℕ) → length pre ≡ n → m < length s → take (get_or (ends_from g n s) m 0 - get_or (n ∷ ends_from g n s) m 0) (drop (get_or (n ∷ ends_from g n s) m 0) (pre ++ flat_map g.slice s)) ≡ g.slice (get_or s m 0)
+piece_from : (g : Slicing) (pre : List ℕ) (n : ℕ) (s : List ℕ) (m : ℕ) → length pre ≡ n → m < length s
+    → take (get_or (ends_from g n s) m 0 - get_or (n ∷ ends_from g n s) m 0)
+    (drop (get_or (n ∷ ends_from g n s) m 0) (pre ++ flat_map g.slice s)) ≡ g.slice (get_or s m 0)
 piece_from g pre n [] m e l = absurd (omega arith)
 piece_from g pre n (j ∷ s) zero e l = middle pre (g.slice j) (flat_map g.slice s) n (n + length (g.slice j)) e refl
 piece_from g pre n (j ∷ s) (suc m) e l =
     let k = n + length (g.slice j) in
     let f : length (pre ++ g.slice j) ≡ k = let q = length-append pre (g.slice j) in omega arith in
-    ap (λ (w : List ℕ). take (get_or (ends_from g k s) m 0 - get_or (k ∷ ends_from g k s) m 0) (drop (get_or (k ∷ ends_from g k s) m 0) w)) (sym (append_assoc pre (g.slice j) (flat_map g.slice s)))
+    ap (λ (w : List ℕ). take (get_or (ends_from g k s) m 0 - get_or (k ∷ ends_from g k s) m 0) (drop (get_or (k ∷ ends_from g k s) m 0) w))
+    (sym (append_assoc pre (g.slice j) (flat_map g.slice s)))
     ∙ piece_from g (pre ++ g.slice j) k s m f (omega arith)
 
-pub piece_is : (g : Slicing) (s : List ℕ) (m : ℕ) → m < length s → take (get_or (ends_from g 0 s) m 0 - get_or (0 ∷ ends_from g 0 s) m 0) (drop (get_or (0 ∷ ends_from g 0 s) m 0) (flat_map g.slice s)) ≡ g.slice (get_or s m 0)
+pub piece_is : (g : Slicing) (s : List ℕ) (m : ℕ) → m < length s
+    → take (get_or (ends_from g 0 s) m 0 - get_or (0 ∷ ends_from g 0 s) m 0)
+    (drop (get_or (0 ∷ ends_from g 0 s) m 0) (flat_map g.slice s)) ≡ g.slice (get_or s m 0)
 piece_is g s m l = piece_from g [] 0 s m refl l
 
 -- the ends of slices never fall
-rises_from : (g : Slicing) (n : ℕ) (s : List ℕ) (m : ℕ) → m < length (ends_from g n s) → (get_or (n ∷ ends_from g n s) m 0 ≤ get_or (ends_from g n s) m 0) × (get_or (ends_from g n s) m 0 ≤ n + coalition_count g s)
+rises_from : (g : Slicing) (n : ℕ) (s : List ℕ) (m : ℕ) → m < length (ends_from g n s)
+    → (get_or (n ∷ ends_from g n s) m 0 ≤ get_or (ends_from g n s) m 0) × (get_or (ends_from g n s) m 0 ≤ n + coalition_count g s)
 rises_from g n [] m l = absurd (omega arith)
 rises_from g n (j ∷ s) zero l = (omega arith, omega arith)
 rises_from g n (j ∷ s) (suc m) l =
@@ -89,10 +97,12 @@ pub record Reads (g : Slicing) (s got ends : List ℕ) : Type 0 where
   pub joins : got ≡ flat_map g.slice s
   pub ends_are : ends ≡ ends_from g 0 s
 
-pub reads : {g : Slicing} {most : ℕ} {s : List ℕ} {told : Bool} {words : List Word} (got ends : List ℕ) → IsSentWhole g most s told words → got ≡ ones words → ends ≡ done_counts 0 words → Reads g s got ends
+pub reads : {g : Slicing} {most : ℕ} {s : List ℕ} {told : Bool} {words : List Word} (got ends : List ℕ) → IsSentWhole g most s told words
+    → got ≡ ones words → ends ≡ done_counts 0 words → Reads g s got ends
 reads {g} {most} {s} {told} {words} got ends sent a b = record {
   joins = a ∙ ap ones sent.words_are ∙ ones-append (wording g s) (End false ∷ []) ∙ append-nil (ones (wording g s)) ∙ ones-wording g s;
-  ends_are = b ∙ ap (done_counts 0) sent.words_are ∙ done_counts-append 0 (wording g s) (End false ∷ []) ∙ append-nil (done_counts 0 (wording g s)) ∙ done_counts-wording g 0 s;
+  ends_are = b ∙ ap (done_counts 0) sent.words_are ∙ done_counts-append 0 (wording g s) (End false ∷ [])
+      ∙ append-nil (done_counts 0 (wording g s)) ∙ done_counts-wording g 0 s;
 }
 
 pub one_end_each : {g : Slicing} {s got ends : List ℕ} → Reads g s got ends → length ends ≡ length s

@@ -12,18 +12,23 @@ use Rattle.mwc_parts.specs.Inner.Wording.{end_words}
 use Rattle.mwc_parts.specs.Settled.{is_cut, has_cut, IsSentWhole, IsCutShort, AreSettled}
 use Rattle.mwc_parts.proofs.Tasks.{all_taken, cut_taken}
 
-pub whole_settles : (g : Slicing) (most : ℕ) (taken left : List Word) (given : List ℕ) (told : Bool) (words : List Word) → All (λ j. j < g.slices) given → taken ++ left ≡ open_words given ++ end_words told → IsWholeSending g most taken words → IsSentWhole g most given told words
+pub whole_settles : (g : Slicing) (most : ℕ) (taken left : List Word) (given : List ℕ) (told : Bool) (words : List Word)
+    → All (λ j. j < g.slices) given → taken ++ left ≡ open_words given ++ end_words told → IsWholeSending g most taken words
+    → IsSentWhole g most given told words
 whole_settles g most taken left given told words a e w =
     let t = all_taken g.slices w.slices given w.last left told a w.ends (ap (λ (x : List Word). x ++ left) (sym w.tasks_are) ∙ e) in
     let same = ap (coalition_count g) t.0 in
     record { words_are = w.words_are ∙ ap (λ (s : List ℕ). wording g s ++ End false ∷ []) t.0; was_told = t.1; few = omega arith }
 
-pub cut_settles : (g : Slicing) (most : ℕ) (taken left : List Word) (given : List ℕ) (told : Bool) (words : List Word) → taken ++ left ≡ open_words given ++ end_words told → IsCutSending g most taken words → IsCutShort g most given words
+pub cut_settles : (g : Slicing) (most : ℕ) (taken left : List Word) (given : List ℕ) (told : Bool) (words : List Word)
+    → taken ++ left ≡ open_words given ++ end_words told → IsCutSending g most taken words → IsCutShort g most given words
 cut_settles g most taken left given told words e w =
     let t = cut_taken g w.slices given w.slice left told (ap (λ (x : List Word). x ++ left) (sym w.tasks_are) ∙ e) in
     record { before = _; words_are = w.words_are; many = omega arith }
 
-pub settles : (g : Slicing) (most : ℕ) (taken left : List Word) (given : List ℕ) (told : Bool) (words : List Word) → All (λ j. j < g.slices) given → taken ++ left ≡ open_words given ++ end_words told → IsWholeSending g most taken words ⊎ IsCutSending g most taken words → AreSettled g most given told words
+pub settles : (g : Slicing) (most : ℕ) (taken left : List Word) (given : List ℕ) (told : Bool) (words : List Word)
+    → All (λ j. j < g.slices) given → taken ++ left ≡ open_words given ++ end_words told → IsWholeSending g most taken words
+    ⊎ IsCutSending g most taken words → AreSettled g most given told words
 settles g most taken left given told words a e (inl w) = inl (whole_settles g most taken left given told words a e w)
 settles g most taken left given told words a e (inr w) = inr (cut_settles g most taken left given told words e w)
 
@@ -36,17 +41,21 @@ uncut : (g : Slicing) (s : List ℕ) → has_cut (wording g s) ≡ false
 uncut g [] = refl
 uncut g (j ∷ s) = list_any-append is_cut (slice_words g j) (wording g s) ∙ rw (uncut_ones (g.slice j) j) (uncut g s)
 
-sent_uncut : {g : Slicing} {most : ℕ} {given : List ℕ} {told : Bool} {words : List Word} → IsSentWhole g most given told words → has_cut words ≡ false
-sent_uncut {g} {most} {given} a = ap has_cut a.words_are ∙ list_any-append is_cut (wording g given) (End false ∷ []) ∙ rw (uncut g given) refl
+sent_uncut : {g : Slicing} {most : ℕ} {given : List ℕ} {told : Bool} {words : List Word} → IsSentWhole g most given told words
+    → has_cut words ≡ false
+sent_uncut {g} {most} {given} a = ap has_cut a.words_are ∙ list_any-append is_cut (wording g given) (End false ∷ [])
+    ∙ rw (uncut g given) refl
 
 was_cut : {g : Slicing} {most : ℕ} {given : List ℕ} {words : List Word} → IsCutShort g most given words → has_cut words ≡ true
 was_cut c = ap has_cut c.words_are ∙ list_any-append is_cut c.before (End true ∷ []) ∙ or-true (has_cut c.before)
 
 -- by whether a word told of a cut
-pub all_sent : {g : Slicing} {most : ℕ} {given : List ℕ} {told : Bool} {words : List Word} → AreSettled g most given told words → has_cut words ≡ false → IsSentWhole g most given told words
+pub all_sent : {g : Slicing} {most : ℕ} {given : List ℕ} {told : Bool} {words : List Word} → AreSettled g most given told words
+    → has_cut words ≡ false → IsSentWhole g most given told words
 all_sent (inl a) e = a
 all_sent (inr c) e = absurd (false≢true (sym e ∙ was_cut c))
 
-pub cut_is_many : {g : Slicing} {most : ℕ} {given : List ℕ} {told : Bool} {words : List Word} → AreSettled g most given told words → has_cut words ≡ true → most < coalition_count g given
+pub cut_is_many : {g : Slicing} {most : ℕ} {given : List ℕ} {told : Bool} {words : List Word} → AreSettled g most given told words
+    → has_cut words ≡ true → most < coalition_count g given
 cut_is_many (inl a) e = absurd (false≢true (sym (sent_uncut a) ∙ e))
 cut_is_many (inr c) e = c.many

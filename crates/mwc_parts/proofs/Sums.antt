@@ -35,7 +35,8 @@ module _ {X : Type 0} (f : X → ℕ) where
   sum_of-map h [] = refl
   sum_of-map h (y ∷ ys) = let r = sum_of-map h ys in omega arith
 
-pub times_more : (s : List ℕ) (j m : ℕ) → m < length s → times_in j (take m s) ≡ 0 → (get_or s m 0 ≡ j → ⊥) → times_in j (take (m + 1) s) ≡ 0
+pub times_more : (s : List ℕ) (j m : ℕ) → m < length s → times_in j (take m s) ≡ 0 → (get_or s m 0 ≡ j → ⊥)
+    → times_in j (take (m + 1) s) ≡ 0
 times_more s j m l e ne =
     let a = sum_of-more (λ x. cond (eqb x j) 1 0) s m 0 l in
     let b : cond {A = ℕ} (eqb (get_or s m 0) j) 1 0 ≡ 0 = ap (λ (b : Bool). cond {A = ℕ} b 1 0) (ne_eqb (get_or s m 0) j ne) in
@@ -44,7 +45,9 @@ times_more s j m l e ne =
 pub times_all : (s : List ℕ) (j m : ℕ) → length s ≤ m → times_in j (take m s) ≡ 0 → times_in j s ≡ 0
 times_all s j m l e = ap (λ (w : List ℕ). times_in j w) (sym (take_all m s l)) ∙ e
 
-pub shares_more : (parts : List Part) (j i : ℕ) (part : Part) → i < length parts → part ≡ get_or parts i part → times_in j part.slices.items ≡ 0 → sum_of (times_in j) (shares (take i parts)) ≡ 0 → sum_of (times_in j) (shares (take (i + 1) parts)) ≡ 0
+pub shares_more : (parts : List Part) (j i : ℕ) (part : Part) → i < length parts → part ≡ get_or parts i part
+    → times_in j part.slices.items ≡ 0 → sum_of (times_in j) (shares (take i parts)) ≡ 0
+    → sum_of (times_in j) (shares (take (i + 1) parts)) ≡ 0
 shares_more parts j i part l e z h =
     let f = λ (p : Part). times_in j p.slices.items in
     let a = sum_of-map (times_in j) (λ (p : Part). p.slices.items) (take (i + 1) parts) in
@@ -53,7 +56,9 @@ shares_more parts j i part l e z h =
     let q = ap f e in
     omega arith
 
-pub counted : (parts : List Part) (i : ℕ) (part : Part) → i < length parts → part ≡ get_or parts i part → sum_of (λ (p : Part). length p.got.items) (take (i + 1) parts) ≡ sum_of (λ (p : Part). length p.got.items) (take i parts) + length part.got.items
+pub counted : (parts : List Part) (i : ℕ) (part : Part) → i < length parts → part ≡ get_or parts i part
+    → sum_of (λ (p : Part). length p.got.items) (take (i + 1) parts) ≡ sum_of (λ (p : Part). length p.got.items)
+    (take i parts) + length part.got.items
 counted parts i part l e =
     let f = λ (p : Part). length p.got.items in
     let a = sum_of-more f parts i part l in

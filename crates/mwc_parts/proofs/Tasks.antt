@@ -16,7 +16,8 @@ not_last n j (Done c) e l h = cc
 not_last n j (End c) e l h = cc
 
 -- who took the word that ends the work took all slices that were given, and was told
-pub all_taken : (n : ℕ) (s given : List ℕ) (last : Word) (left : List Word) (told : Bool) → All (λ j. j < n) given → IsLast n last → (open_words s ++ last ∷ []) ++ left ≡ open_words given ++ end_words told → (s ≡ given) × (told ≡ true)
+pub all_taken : (n : ℕ) (s given : List ℕ) (last : Word) (left : List Word) (told : Bool) → All (λ j. j < n) given → IsLast n last
+    → (open_words s ++ last ∷ []) ++ left ≡ open_words given ++ end_words told → (s ≡ given) × (told ≡ true)
 all_taken n [] [] last left true a h e = (refl, refl)
 all_taken n [] [] last left false a h e = cc
 all_taken n [] (j ∷ given) last left told a h e =
@@ -30,7 +31,9 @@ all_taken n (i ∷ s) (j ∷ given) last left told a h e =
     (cc, t.1)
 
 -- the slices that were taken before the cut, and the one that was cut, were given first
-pub cut_taken : (g : Slicing) (s given : List ℕ) (slice : ℕ) (left : List Word) (told : Bool) → (open_words s ++ Open slice ∷ []) ++ left ≡ open_words given ++ end_words told → coalition_count g s + length (g.slice slice) ≤ coalition_count g given
+pub cut_taken : (g : Slicing) (s given : List ℕ) (slice : ℕ) (left : List Word) (told : Bool)
+    → (open_words s ++ Open slice ∷ []) ++ left ≡ open_words given ++ end_words told
+    → coalition_count g s + length (g.slice slice) ≤ coalition_count g given
 cut_taken g [] [] slice left true e = cc
 cut_taken g [] [] slice left false e = cc
 cut_taken g [] (j ∷ given) slice left told e =

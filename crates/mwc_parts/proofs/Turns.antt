@@ -23,7 +23,8 @@ first_free (x ∷ hs) free (suc j) h =
     let r = first_free hs free j (omega arith, h.1, λ k q. h.2 (suc k) (omega arith)) in
     (omega arith, r.1)
 
-pub set_free : (hs : List ℕ) (free w : ℕ) → set (map Some hs ++ replicate (suc free) None) (length hs) (Some w) ≡ map Some (hs ++ w ∷ []) ++ replicate free None
+pub set_free : (hs : List ℕ) (free w : ℕ)
+    → set (map Some hs ++ replicate (suc free) None) (length hs) (Some w) ≡ map Some (hs ++ w ∷ []) ++ replicate free None
 set_free [] free w = refl
 set_free (x ∷ hs) free w = ap (λ (l : List (Option ℕ)). Some x ∷ l) (set_free hs free w)
 
@@ -34,7 +35,8 @@ none_free (x ∷ hs) free a = none_free hs free (All-tail (λ (o : Option ℕ). 
 
 module _ {X Y : Type 0} (f : X → Y) where
   pub map_set_same : (xs : List X) (i : ℕ) (x y : X) → x ≡ get_or xs i x → f y ≡ f x → map f (set xs i y) ≡ map f xs
-  map_set_same xs i x y e q = map-set f xs i y ∙ ap (λ (v : Y). set (map f xs) i v) (q ∙ ap f e ∙ sym (list.get_or-map f xs i x)) ∙ set-get_or (map f xs) i (f x)
+  map_set_same xs i x y e q = map-set f xs i y ∙ ap (λ (v : Y). set (map f xs) i v) (q ∙ ap f e ∙ sym (list.get_or-map f xs i x))
+      ∙ set-get_or (map f xs) i (f x)
 
   pub map_at : (xs : List X) (i : ℕ) (x : X) (d : Y) → i < length xs → x ≡ get_or xs i x → f x ≡ get_or (map f xs) i d
   map_at xs i x d l e = ap f e ∙ sym (get_or-map f xs i x d l)
@@ -43,10 +45,12 @@ pub share_at : (hs : List ℕ) (from k w : ℕ) → w < k → get_or (map (share
 share_at hs from k w l = get_or-map-range_with_len (share_of hs) from k w (from + w) [] l refl
 
 -- what a worker was given is what it holds
-pub given_is : (hs : List ℕ) (seats : List Seat) (i : ℕ) (s : Seat) → given_slices seats ≡ shares_by hs (length seats) → i < length seats → s ≡ get_or seats i s → s.given ≡ share_of hs i
+pub given_is : (hs : List ℕ) (seats : List Seat) (i : ℕ) (s : Seat) → given_slices seats ≡ shares_by hs (length seats) → i < length seats
+    → s ≡ get_or seats i s → s.given ≡ share_of hs i
 given_is hs seats i s g l e =
     let z : 0 + i ≡ i = omega arith in
-    map_at (λ (s : Seat). s.given) seats i s [] l e ∙ ap (λ (w : List (List ℕ)). get_or w i []) g ∙ share_at hs 0 (length seats) i l ∙ ap (share_of hs) z
+    map_at (λ (s : Seat). s.given) seats i s [] l e ∙ ap (λ (w : List (List ℕ)). get_or w i []) g ∙ share_at hs 0 (length seats) i l
+    ∙ ap (share_of hs) z
 
 -- a refusal that was met stays met
 or_stays : (a b c d : Bool) → (c ≡ false → a ≡ false) → (d ≡ false → b ≡ false) → (a || b) ≡ true → (c || d) ≡ true
@@ -73,8 +77,10 @@ ill_set (x ∷ seats) (suc i) s t l e h =
     ap (λ (b : Bool). is_ill x || b) (ill_set seats i s t (omega arith) e h) ∙ sym (or_assoc (is_ill x) (list_any is_ill seats) (is_ill t))
 
 -- the deal is stopped exactly where it should be after a turn too
-pub stops_then : (early : Bool) (seats : List Seat) (stopped stops : Bool) (i : ℕ) (s t : Seat) {done : Bool} {marks after : List (Option ℕ)} → i < length seats → s ≡ get_or seats i s
-    → TakesTurn done marks stopped s i after stops t → stopped ≡ (early || list_any is_ill seats) → stops ≡ (early || list_any is_ill (set seats i t))
+pub stops_then : (early : Bool) (seats : List Seat) (stopped stops : Bool) (i : ℕ)
+    (s t : Seat) {done : Bool} {marks after : List (Option ℕ)} → i < length seats → s ≡ get_or seats i s
+    → TakesTurn done marks stopped s i after stops t → stopped ≡ (early || list_any is_ill seats)
+    → stops ≡ (early || list_any is_ill (set seats i t))
 stops_then early seats stopped stops i s t l e r h =
     r.stops_are ∙ ap (λ (b : Bool). b || is_ill t) h ∙ or_assoc early (list_any is_ill seats) (is_ill t)
     ∙ ap (λ (b : Bool). early || b) (sym (ill_set seats i s t l e (ill_stays s t r.lost_stays r.cut_stays)))
@@ -84,10 +90,12 @@ stays_by a b x e h = e ∙ ap (λ (z : Bool). z || x) h
 
 pub none_ill : (seats : List Seat) → All IsWell seats → list_any is_ill seats ≡ false
 none_ill [] a = refl
-none_ill (s ∷ seats) a = ap (λ (z : Bool). z || list_any is_ill seats) (not_ill s (All-head IsWell s seats a)) ∙ none_ill seats (All-tail IsWell s seats a)
+none_ill (s ∷ seats) a = ap (λ (z : Bool). z || list_any is_ill seats) (not_ill s (All-head IsWell s seats a))
+    ∙ none_ill seats (All-tail IsWell s seats a)
 
 -- where no start failed and no refusal was met, the deal goes on
-pub well_goes_on : {n k : ℕ} {early stopped : Bool} {marks : List (Option ℕ)} (seats : List Seat) → early ≡ false → DealsInTurn n k early marks stopped seats → All IsWell seats → stopped ≡ false
+pub well_goes_on : {n k : ℕ} {early stopped : Bool} {marks : List (Option ℕ)} (seats : List Seat) → early ≡ false
+    → DealsInTurn n k early marks stopped seats → All IsWell seats → stopped ≡ false
 well_goes_on seats z d a = d.in_order.stops_are ∙ ap (λ (b : Bool). b || list_any is_ill seats) z ∙ none_ill seats a
 
 pub still : (a b : Bool) → (a ≡ true → b ≡ true) → b ≡ false → a ≡ false
@@ -102,8 +110,10 @@ pub at_read : (P : Seat → Type 0) (seats : List Seat) (i : ℕ) (s : Seat) →
 at_read P seats i s l e a = subst P (sym e) (a i s l)
 
 -- nothing was given
-unfoldable pub turn_nothing : {n : ℕ} {done early stopped stops : Bool} {marks after : List (Option ℕ)} (seats : List Seat) (i : ℕ) (s t : Seat) → i < length seats → s ≡ get_or seats i s
-    → DealsInOrder n early marks stopped seats → TakesTurn done marks stopped s i after stops t → GivesNothing done marks s after stops t → DealsInOrder n early after stops (set seats i t)
+unfoldable pub turn_nothing : {n : ℕ} {done early stopped stops : Bool} {marks after : List (Option ℕ)} (seats : List Seat) (i : ℕ)
+    (s t : Seat) → i < length seats → s ≡ get_or seats i s
+    → DealsInOrder n early marks stopped seats → TakesTurn done marks stopped s i after stops t → GivesNothing done marks s after stops t
+    → DealsInOrder n early after stops (set seats i t)
 turn_nothing {n} {done} {early} {stopped} {stops} {marks} {after} seats i s t l e d r g =
     let stays : stopped ≡ true → stops ≡ true = stays_by stopped stops (is_ill t) r.stops_are in
     let same : length (set seats i t) ≡ length seats = length-set seats i t in
@@ -116,10 +126,17 @@ turn_nothing {n} {done} {early} {stopped} {stops} {marks} {after} seats i s t l 
       given_are = map_set_same (λ (s : Seat). s.given) seats i s t e g.given_stay ∙ d.given_are ∙ ap (shares_by d.holders) (sym same);
       told_late = All-set (λ (s : Seat). s.told ≡ true → (d.free ≡ 0) ⊎ (stops ≡ true)) seats i t
           (λ q. elim (g.told_if q) [
-            | inl old ↦ later (d.free ≡ 0) stopped stops stays (at_read (λ (s : Seat). s.told ≡ true → (d.free ≡ 0) ⊎ (stopped ≡ true)) seats i s l e d.told_late old)
-            | inr why ↦ elim why [ inl all ↦ inl (none_free d.holders d.free (subst (λ (m : List (Option ℕ)). All IsSome m) d.marks_are all)) | inr z ↦ inr z ]
+            | inl old ↦ later (d.free ≡ 0) stopped stops stays
+                (at_read (λ (s : Seat). s.told ≡ true → (d.free ≡ 0) ⊎ (stopped ≡ true)) seats i s l e d.told_late old)
+            | inr why ↦ elim why [
+              | inl all ↦ inl
+                  (none_free d.holders d.free (subst (λ (m : List (Option ℕ)). All IsSome m) d.marks_are all))
+              | inr z ↦ inr z
+            ]
           ])
-          (All-weaker (λ (s : Seat). s.told ≡ true → (d.free ≡ 0) ⊎ (stopped ≡ true)) (λ (s : Seat). s.told ≡ true → (d.free ≡ 0) ⊎ (stops ≡ true)) (λ x h q. later (d.free ≡ 0) stopped stops stays (h q)) seats d.told_late);
+          (All-weaker (λ (s : Seat). s.told ≡ true → (d.free ≡ 0) ⊎ (stopped ≡ true))
+          (λ (s : Seat). s.told ≡ true → (d.free ≡ 0) ⊎ (stops ≡ true))
+          (λ x h q. later (d.free ≡ 0) stopped stops stays (h q)) seats d.told_late);
       stops_are = stops_then early seats stopped stops i s t l e r d.stops_are;
       none_early = d.none_early;
     }
@@ -129,8 +146,10 @@ above zero l = absurd (omega arith)
 above (suc f) l = (f, refl)
 
 -- the lowest slice was given
-unfoldable pub turn_one : {n : ℕ} {done early stopped stops : Bool} {marks after : List (Option ℕ)} (seats : List Seat) (i : ℕ) (s t : Seat) → i < length seats → s ≡ get_or seats i s
-    → DealsInOrder n early marks stopped seats → TakesTurn done marks stopped s i after stops t → GivesOne done marks stops s i after t → DealsInOrder n early after stops (set seats i t)
+unfoldable pub turn_one : {n : ℕ} {done early stopped stops : Bool} {marks after : List (Option ℕ)} (seats : List Seat) (i : ℕ) (s t : Seat)
+    → i < length seats → s ≡ get_or seats i s
+    → DealsInOrder n early marks stopped seats → TakesTurn done marks stopped s i after stops t → GivesOne done marks stops s i after t
+    → DealsInOrder n early after stops (set seats i t)
 turn_one {n} {done} {early} {stopped} {stops} {marks} {after} seats i s t l e d r g =
     let stays : stopped ≡ true → stops ≡ true = stays_by stopped stops (is_ill t) r.stops_are in
     let same : length (set seats i t) ≡ length seats = length-set seats i t in
@@ -139,7 +158,9 @@ turn_one {n} {done} {early} {stopped} {stops} {marks} {after} seats i s t l e d 
     let first = first_free hs d.free g.slice (subst (λ (m : List (Option ℕ)). IsFirstFree m g.slice) d.marks_are g.lowest) in
     let few = above d.free first.1 in
     let f : ℕ = few.0 in
-    let one : t.given ≡ share_of hs i ++ length hs ∷ [] = g.given ∙ ap (λ (w : List ℕ). w ++ g.slice ∷ []) (given_is hs seats i s d.given_are l e) ∙ ap (λ (j : ℕ). share_of hs i ++ j ∷ []) first.0 in
+    let one : t.given ≡ share_of hs i ++ length hs ∷ [] = g.given
+    ∙ ap (λ (w : List ℕ). w ++ g.slice ∷ []) (given_is hs seats i s d.given_are l e)
+    ∙ ap (λ (j : ℕ). share_of hs i ++ j ∷ []) first.0 in
     let longer : length (hs ++ i ∷ []) ≡ length hs + 1 = length-append hs (i ∷ []) in
     record {
       holders = hs ++ i ∷ [];
@@ -155,25 +176,30 @@ turn_one {n} {done} {early} {stopped} {stops} {marks} {after} seats i s t l e d 
           ∙ sym (deal_from hs i 0 (length seats) i z l) ∙ ap (shares_by (hs ++ i ∷ [])) (sym same);
       told_late = All-set (λ (s : Seat). s.told ≡ true → (f ≡ 0) ⊎ (stops ≡ true)) seats i t
           (λ q. absurd (false≢true (sym g.told_not ∙ q)))
-          (All-weaker (λ (s : Seat). s.told ≡ true → (d.free ≡ 0) ⊎ (stopped ≡ true)) (λ (s : Seat). s.told ≡ true → (f ≡ 0) ⊎ (stops ≡ true))
+          (All-weaker (λ (s : Seat). s.told ≡ true → (d.free ≡ 0) ⊎ (stopped ≡ true))
+          (λ (s : Seat). s.told ≡ true → (f ≡ 0) ⊎ (stops ≡ true))
           (λ x h q. elim (h q) [ inl none ↦ absurd (omega arith) | inr y ↦ inr (stays y) ]) seats d.told_late);
       stops_are = stops_then early seats stopped stops i s t l e r d.stops_are;
       none_early = λ z. absurd (false≢true (sym g.goes_on ∙ stays (stays_by early stopped (list_any is_ill seats) d.stops_are z)));
     }
 
 -- a worker that holds the slice of its number still holds it when one more is given
-pub still_held : (hs : List ℕ) (i w : ℕ) → (w < length hs) × (get_or hs w 0 ≡ w) → (w < length (hs ++ i ∷ [])) × (get_or (hs ++ i ∷ []) w 0 ≡ w)
+pub still_held : (hs : List ℕ) (i w : ℕ) → (w < length hs) × (get_or hs w 0 ≡ w) → (w < length (hs ++ i ∷ []))
+    × (get_or (hs ++ i ∷ []) w 0 ≡ w)
 still_held hs i w h =
     let m = h.0 in let longer = length-append hs (i ∷ []) in
     (omega arith, get_or_append_left hs (i ∷ []) 0 w m ∙ h.1)
 
 -- a deal that goes on after a turn went on before it
-pub went_on : {done stopped stops : Bool} {marks after : List (Option ℕ)} (s t : Seat) (w : ℕ) → TakesTurn done marks stopped s w after stops t → stops ≡ false → stopped ≡ false
+pub went_on : {done stopped stops : Bool} {marks after : List (Option ℕ)} (s t : Seat) (w : ℕ)
+    → TakesTurn done marks stopped s w after stops t → stops ≡ false → stopped ≡ false
 went_on {done} {stopped} {stops} s t w r = still stopped stops (stays_by stopped stops (is_ill t) r.stops_are)
 
 -- a turn keeps the deal
-pub turn : {n k : ℕ} {done early stopped stops : Bool} {marks after : List (Option ℕ)} (seats : List Seat) (i : ℕ) (s t : Seat) → i < length seats → s ≡ get_or seats i s
-    → DealsInTurn n k early marks stopped seats → TakesTurn done marks stopped s i after stops t → DealsInTurn n k early after stops (set seats i t)
+pub turn : {n k : ℕ} {done early stopped stops : Bool} {marks after : List (Option ℕ)} (seats : List Seat) (i : ℕ) (s t : Seat)
+    → i < length seats → s ≡ get_or seats i s
+    → DealsInTurn n k early marks stopped seats → TakesTurn done marks stopped s i after stops t
+    → DealsInTurn n k early after stops (set seats i t)
 unfolding turn_nothing turn_one
 turn seats i s t l e d r =
     elim r.gives [
@@ -187,17 +213,20 @@ turn seats i s t l e d r =
       }
     ]
 
-none_left : {free : ℕ} {stopped : Bool} (seats : List Seat) → 0 < length seats → stopped ≡ false → All (λ (s : Seat). s.told ≡ true → (free ≡ 0) ⊎ (stopped ≡ true)) seats → All (λ (s : Seat). s.told ≡ true) seats → free ≡ 0
+none_left : {free : ℕ} {stopped : Bool} (seats : List Seat) → 0 < length seats → stopped ≡ false
+    → All (λ (s : Seat). s.told ≡ true → (free ≡ 0) ⊎ (stopped ≡ true)) seats → All (λ (s : Seat). s.told ≡ true) seats → free ≡ 0
 none_left [] l z a b = absurd (omega arith)
 none_left {free} {stopped} (s ∷ seats) l z a b =
-    elim (All-head (λ (s : Seat). s.told ≡ true → (free ≡ 0) ⊎ (stopped ≡ true)) s seats a (All-head (λ (s : Seat). s.told ≡ true) s seats b)) [
+    elim (All-head (λ (s : Seat). s.told ≡ true → (free ≡ 0) ⊎ (stopped ≡ true)) s seats a
+    (All-head (λ (s : Seat). s.told ≡ true) s seats b)) [
       | inl e ↦ e
       | inr y ↦ absurd (false≢true (sym z ∙ y))
     ]
 
 -- where nothing was refused, and a worker was told, all slices are dealt
 pub all_dealt : {n k : ℕ} {stopped early : Bool} {marks : List (Option ℕ)} (seats : List Seat) → early ≡ false → 0 < length seats
-    → DealsInTurn n k early marks stopped seats → All IsWell seats → All (λ (s : Seat). s.told ≡ true) seats → AreDealt n (given_slices seats)
+    → DealsInTurn n k early marks stopped seats → All IsWell seats → All (λ (s : Seat). s.told ≡ true) seats
+    → AreDealt n (given_slices seats)
 all_dealt {n} {k} {stopped} {early} {marks} seats z l deal well told =
     let d = deal.in_order in
     let same : length (given_slices seats) ≡ length seats = length-map seats (λ (s : Seat). s.given) in

@@ -28,7 +28,8 @@ module _ {T : Type 0} where
   history_after_more capacity past (s ∷ ss) step = history_after_more capacity (past ++ (s, reply_to capacity past s) ∷ []) ss step
 
   -- what a Put finds inside by counting
-  pub inside_count : (past : List (Event T)) (pipe : PipeView T) → Leaves past pipe → length (items_in past) - length (items_out past) ≡ length pipe.inside
+  pub inside_count : (past : List (Event T)) (pipe : PipeView T) → Leaves past pipe
+      → length (items_in past) - length (items_out past) ≡ length pipe.inside
   inside_count past pipe leaves =
       omega (arith, length-append (items_out past) pipe.inside, ap length leaves.lawful)
 
@@ -62,7 +63,14 @@ module _ {T : Type 0} where
   leaves_still : (past : List (Event T)) (pipe : PipeView T) (event : Event T) → Leaves past pipe →
       item_in event ≡ None → item_out event ≡ None → is_close event.0 ≡ false → Leaves (past ++ event ∷ []) pipe
   leaves_still past pipe event leaves no_in no_out no_close = record {
-    lawful = rw (filter_map-append item_in past (event ∷ []), filter_map-append item_out past (event ∷ []), no_in, no_out, append-nil, append-nil) leaves.lawful;
+    lawful = rw (
+      filter_map-append item_in past (event ∷ []),
+      filter_map-append item_out past (event ∷ []),
+      no_in,
+      no_out,
+      append-nil,
+      append-nil,
+    ) leaves.lawful;
     closed = rw (list_any-append (λ event. is_close event.0) past (event ∷ []), no_close, or-false) leaves.closed;
   }
 
@@ -71,7 +79,13 @@ module _ {T : Type 0} where
       Leaves (past ++ (Put x, Accepted) ∷ []) (record pipe { inside = pipe.inside ++ x ∷ [] })
   leaves_more past pipe x leaves = record {
     lawful =
-        rw (filter_map-append item_in past ((Put x, Accepted) ∷ []), filter_map-append item_out past ((Put x, Accepted) ∷ []), append-nil, ← append_assoc, leaves.lawful) refl;
+        rw (
+          filter_map-append item_in past ((Put x, Accepted) ∷ []),
+          filter_map-append item_out past ((Put x, Accepted) ∷ []),
+          append-nil,
+          ← append_assoc,
+          leaves.lawful,
+        ) refl;
     closed = rw (list_any-append (λ event. is_close event.0) past ((Put x, Accepted) ∷ []), or-false) leaves.closed;
   }
 
@@ -80,7 +94,12 @@ module _ {T : Type 0} where
       Leaves (past ++ (Take, Item x) ∷ []) (record pipe { inside = xs })
   leaves_less past pipe x xs leaves e = record {
     lawful =
-        rw (filter_map-append item_in past ((Take, Item x) ∷ []), filter_map-append item_out past ((Take, Item x) ∷ []), append-nil, append_assoc) (rw e at leaves.lawful);
+        rw (
+          filter_map-append item_in past ((Take, Item x) ∷ []),
+          filter_map-append item_out past ((Take, Item x) ∷ []),
+          append-nil,
+          append_assoc,
+        ) (rw e at leaves.lawful);
     closed = rw (list_any-append (λ event. is_close event.0) past ((Take, Item x) ∷ []), or-false) leaves.closed;
   }
 
@@ -89,7 +108,12 @@ module _ {T : Type 0} where
       Leaves (past ++ (Close, reply) ∷ []) (record pipe { closed = true })
   leaves_closed past pipe reply leaves = record {
     lawful =
-        rw (filter_map-append item_in past ((Close, reply) ∷ []), filter_map-append item_out past ((Close, reply) ∷ []), append-nil, append-nil) leaves.lawful;
+        rw (
+          filter_map-append item_in past ((Close, reply) ∷ []),
+          filter_map-append item_out past ((Close, reply) ∷ []),
+          append-nil,
+          append-nil,
+        ) leaves.lawful;
     closed = rw (list_any-append (λ event. is_close event.0) past ((Close, reply) ∷ []), or-true) refl;
   }
 
@@ -140,13 +164,18 @@ module _ {T : Type 0} where
   -- the steps one by one
 
   pub closed_step : (pipe : PipeView T) (x : T) → pipe.closed ≡ true → IsStep pipe (Put x) Closed pipe
-  closed_step pipe x ec = is_step pipe pipe (Put x) Closed (rw ec refl) (sym (ap (λ b. if b then pipe else (if length pipe.inside == pipe.capacity then pipe else (record pipe { inside = pipe.inside ++ x ∷ [] }))) ec))
+  closed_step pipe x ec =
+      is_step pipe pipe (Put x) Closed
+      (rw ec refl) (sym (ap
+      (λ b. if b then pipe else
+      (if length pipe.inside == pipe.capacity then pipe else (record pipe { inside = pipe.inside ++ x ∷ [] }))) ec))
 
   pub full_step : (pipe : PipeView T) (x : T) → pipe.closed ≡ false → length pipe.inside ≡ pipe.capacity → IsStep pipe (Put x) Full pipe
   full_step pipe x ec ef =
       let full : (length pipe.inside == pipe.capacity) ≡ true = grind (arith, nat_tests) in
       is_step pipe pipe (Put x) Full (rw (ec, full) refl)
-      (sym (ap (λ b. if b then pipe else (if length pipe.inside == pipe.capacity then pipe else (record pipe { inside = pipe.inside ++ x ∷ [] }))) ec
+      (sym (ap (λ b. if b then pipe else
+      (if length pipe.inside == pipe.capacity then pipe else (record pipe { inside = pipe.inside ++ x ∷ [] }))) ec
       ∙ ap (λ b. if b then pipe else (record pipe { inside = pipe.inside ++ x ∷ [] })) full))
 
   pub accepted_step : (pipe new : PipeView T) (x : T) → pipe.closed ≡ false → length pipe.inside < pipe.capacity →
@@ -154,13 +183,20 @@ module _ {T : Type 0} where
   accepted_step pipe new x ec less en =
       let full : (length pipe.inside == pipe.capacity) ≡ false = grind (arith, nat_tests) in
       is_step pipe new (Put x) Accepted (rw (ec, full) refl)
-      (en ∙ sym (ap (λ b. if b then pipe else (if length pipe.inside == pipe.capacity then pipe else (record pipe { inside = pipe.inside ++ x ∷ [] }))) ec
+      (en ∙ sym (ap (λ b. if b then pipe else
+      (if length pipe.inside == pipe.capacity then pipe else (record pipe { inside = pipe.inside ++ x ∷ [] }))) ec
       ∙ ap (λ b. if b then pipe else (record pipe { inside = pipe.inside ++ x ∷ [] })) full))
 
   pub take_step : (old new : PipeView T) (outcome : Taken T) → TakesOut old outcome new → IsStep old Take (reply_of_taken outcome) new
   take_step old new (taken.Item x) e = is_step old new Take (Item x) (rw e refl) (rw e refl)
-  take_step old new taken.Empty e = is_step old new Take Empty (rw (e.0, e.1) refl) (e.2 ∙ ap (λ xs. holding old.capacity xs old.closed) e.0 ∙ sym (ap (λ xs. holding old.capacity (drop 1 xs) old.closed) e.0))
-  take_step old new taken.Ended e = is_step old new Take Ended (rw (e.0, e.1) refl) (e.2 ∙ ap (λ xs. holding old.capacity xs old.closed) e.0 ∙ sym (ap (λ xs. holding old.capacity (drop 1 xs) old.closed) e.0))
+  take_step old new taken.Empty e =
+      is_step old new Take Empty
+      (rw (e.0, e.1) refl)
+      (e.2 ∙ ap (λ xs. holding old.capacity xs old.closed) e.0 ∙ sym (ap (λ xs. holding old.capacity (drop 1 xs) old.closed) e.0))
+  take_step old new taken.Ended e =
+      is_step old new Take Ended
+      (rw (e.0, e.1) refl)
+      (e.2 ∙ ap (λ xs. holding old.capacity xs old.closed) e.0 ∙ sym (ap (λ xs. holding old.capacity (drop 1 xs) old.closed) e.0))
 
   close_reply : (closed first : Bool) → first ≡ not closed → (reply_of_close {T = T} first) ≡ (if closed then Again else First)
   close_reply true first e = rw e refl

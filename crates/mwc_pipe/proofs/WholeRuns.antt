@@ -57,9 +57,11 @@ module _ {T : Type 0} where
     short = rw (capacity_stays kept.pipe step) (short_step kept.pipe step kept.short);
   }
 
-  pub kept_after : (capacity : ℕ) (past : List (Event T)) (steps : List (Step T)) → Kept capacity past → Kept capacity (history_after capacity past steps)
+  pub kept_after : (capacity : ℕ) (past : List (Event T)) (steps : List (Step T)) → Kept capacity past
+      → Kept capacity (history_after capacity past steps)
   kept_after capacity past [] kept = kept
-  kept_after capacity past (step ∷ steps) kept = kept_after capacity (past ++ (step, reply_to capacity past step) ∷ []) steps (kept_step capacity past step kept)
+  kept_after capacity past (step ∷ steps) kept =
+      kept_after capacity (past ++ (step, reply_to capacity past step) ∷ []) steps (kept_step capacity past step kept)
 
   pub kept_history : (capacity : ℕ) (steps : List (Step T)) → Kept capacity (history capacity steps)
   kept_history capacity steps = kept_after capacity [] steps (record {
@@ -82,13 +84,15 @@ module _ {T : Type 0} where
   shut_after capacity past [] = sym (or-false (has_close past))
   shut_after capacity past (step ∷ steps) =
       shut_after capacity (past ++ (step, reply_to capacity past step) ∷ []) steps
-      ∙ rw (list_any-append (λ event. is_close event.0) past ((step, reply_to capacity past step) ∷ []), or-false) (or_assoc (has_close past) (is_close step) (list_any is_close steps))
+      ∙ rw (list_any-append (λ event. is_close event.0) past ((step, reply_to capacity past step) ∷ []), or-false)
+      (or_assoc (has_close past) (is_close step) (list_any is_close steps))
 
   -- what stands in the past stands in the history
   get_past : (capacity : ℕ) (past : List (Event T)) (steps : List (Step T)) (k : ℕ) (event : Event T) →
       slice_get past k ≡ Some event → slice_get (history_after capacity past steps) k ≡ Some event
   get_past capacity past [] k event e = e
-  get_past capacity past (step ∷ steps) k event e = get_past capacity (past ++ (step, reply_to capacity past step) ∷ []) steps k event (get_first past _ k event e)
+  get_past capacity past (step ∷ steps) k event e =
+      get_past capacity (past ++ (step, reply_to capacity past step) ∷ []) steps k event (get_first past _ k event e)
 
   -- the event at place k is the step at place k and the reply to it after the first k steps
   pub event_at : (capacity : ℕ) (past : List (Event T)) (steps : List (Step T)) (k : ℕ) (step : Step T) →
@@ -101,7 +105,8 @@ module _ {T : Type 0} where
       rw (add-zero, ← same) (get_past capacity _ steps (length past) (s, reply_to capacity past s) (get_after past _))
   event_at capacity past (s ∷ steps) (suc k) step e =
       let more = event_at capacity (past ++ (s, reply_to capacity past s) ∷ []) steps k step e in
-      let place : length (past ++ (s, reply_to capacity past s) ∷ []) + k ≡ length past + suc k = omega (arith, length-append past ((s, reply_to capacity past s) ∷ [])) in
+      let place : length (past ++ (s, reply_to capacity past s) ∷ []) + k ≡ length past + suc k =
+      omega (arith, length-append past ((s, reply_to capacity past s) ∷ [])) in
       rw (← place) more
 
   close_before : (steps : List (Step T)) (i k : ℕ) → i < k → slice_get steps i ≡ Some Close → list_any is_close (take k steps) ≡ true
@@ -125,9 +130,11 @@ module _ {T : Type 0} where
     pub same : pipe.capacity ≡ capacity
 
   -- one step more
-  pub replayed_more : (capacity : ℕ) (steps : List (Step T)) (given : List (Reply T)) (ins outs : List T) (old new : PipeView T) (step : Step T) (reply : Reply T) →
+  pub replayed_more : (capacity : ℕ) (steps : List (Step T)) (given : List (Reply T)) (ins outs : List T) (old new : PipeView T)
+      (step : Step T) (reply : Reply T) →
       Replayed capacity steps given ins outs old → IsStep old step reply new →
-      Replayed capacity (steps ++ step ∷ []) (given ++ reply ∷ []) (ins ++ option_to_list (item_in (step, reply))) (outs ++ option_to_list (item_out (step, reply))) new
+      Replayed capacity (steps ++ step ∷ []) (given ++ reply ∷ []) (ins ++ option_to_list (item_in (step, reply)))
+      (outs ++ option_to_list (item_out (step, reply))) new
   replayed_more capacity steps given ins outs old new step reply so_far next =
       let past : List (Event T) = history capacity steps in
       let answer : reply ≡ reply_to capacity past step = next.answers past so_far.leaves ∙ ap (λ n. reply_to n past step) so_far.same in
@@ -152,7 +159,15 @@ module _ {T : Type 0} where
   replayed_short capacity steps given ins outs pipe so_far =
       let past : List (Event T) = history capacity steps in
       let (rest, lawful, short) = nothing_is_lost_lem capacity steps in
-      omega (arith, short, ap length lawful, ap length so_far.leaves.lawful, length-append (items_out past) rest, length-append (items_out past) pipe.inside)
+      omega (
+        arith,
+        short,
+        ap length lawful,
+        ap length so_far.leaves.lawful,
+        length-append (items_out past) rest,
+        length-append
+            (items_out past) pipe.inside,
+      )
 
   -- the same, for a loop over the steps
   pub replayed_next : (capacity : ℕ) (steps : List (Step T)) (i : ℕ) (given given' : List (Reply T)) (ins ins' outs outs' : List T)
@@ -163,7 +178,8 @@ module _ {T : Type 0} where
       in_item ≡ item_in (step, reply) → ins' ≡ ins ++ option_to_list in_item →
       out_item ≡ item_out (step, reply) → outs' ≡ outs ++ option_to_list out_item →
       Replayed capacity (take (i + 1) steps) given' ins' outs' new
-  replayed_next capacity steps i given given' ins ins' outs outs' old new step reply in_item out_item so_far next less at eg ei eins eo eouts =
+  replayed_next capacity steps i given given' ins ins' outs outs' old new step reply in_item out_item so_far next less at eg ei eins eo
+      eouts =
       let longer : take (i + 1) steps ≡ take i steps ++ step ∷ [] =
       take_more steps i step less ∙ ap (λ s. take i steps ++ s ∷ []) (sym at) in
       rw (longer, eg, eins, ei, eouts, eo) (replayed_more capacity (take i steps) given ins outs old new step reply so_far next)
@@ -198,7 +214,8 @@ module _ {T : Type 0} where
 
   past_of : (capacity : ℕ) (xs : List T) (closed : Bool) → HasPast (holding capacity xs closed)
   past_of capacity xs false = (filled xs, leaves_filled capacity xs)
-  past_of capacity xs true = (filled xs ++ (Close, First) ∷ [], leaves_closed (filled xs) (holding capacity xs false) First (leaves_filled capacity xs))
+  past_of capacity xs true =
+      (filled xs ++ (Close, First) ∷ [], leaves_closed (filled xs) (holding capacity xs false) First (leaves_filled capacity xs))
 
   pub each_pipe_has_a_past_lem : (pipe : PipeView T) → HasPast pipe
   each_pipe_has_a_past_lem pipe = past_of pipe.capacity pipe.inside pipe.closed

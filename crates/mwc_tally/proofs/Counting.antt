@@ -23,7 +23,8 @@ later P [] rest c h = h 0 0 (omega arith)
 later P (b ∷ bs) rest c h = later P bs rest c (λ k d lt. h (suc k) d (omega (arith, lt)))
 
 -- a walk that is counted as it goes, where c is next
-module _ {g : GameView} {whole to_come rest : List ℕ} {c : ℕ} {t : Tables} (next : to_come ≡ c ∷ rest) (h : CountedUpTo g whole to_come t) where
+module _ {g : GameView} {whole to_come rest : List ℕ} {c : ℕ} {t : Tables} (next : to_come ≡ c ∷ rest)
+    (h : CountedUpTo g whole to_come t) where
   next-joined : h.before ++ c ∷ rest ≡ whole
   next-joined = ap (λ (l : List ℕ). h.before ++ l) (sym next) ∙ h.joined
 
@@ -35,13 +36,21 @@ module _ {g : GameView} {whole to_come rest : List ℕ} {c : ℕ} {t : Tables} (
   }
 
   pub counted-room : length whole ≤ 2 ^ 40 → table_total t < 2 ^ 40
-  counted-room few = omega (arith, total-is g h.before t h.tallies, length-append h.before (c ∷ rest), ap (λ (l : List ℕ). length l) next-joined, few)
+  counted-room few = omega (
+    arith,
+    total-is g h.before t h.tallies,
+    length-append h.before (c ∷ rest),
+    ap
+        (λ (l : List ℕ). length l) next-joined,
+    few,
+  )
 
   pub counted-next : (P : ℕ → Type 0) → All P whole → P c
   counted-next P all = later P h.before rest c (subst (All P) (sym next-joined) all)
 
 -- what a walk over a slice gives next is a coalition of the game
-pub slice-next : {g : GameView} {to_come rest : List ℕ} {c : ℕ} {t : Tables} (bits j : ℕ) → IsGame g → to_come ≡ c ∷ rest → CountedUpTo g (slice (votes_of g) bits j) to_come t
+pub slice-next : {g : GameView} {to_come rest : List ℕ} {c : ℕ} {t : Tables} (bits j : ℕ) → IsGame g → to_come ≡ c ∷ rest
+    → CountedUpTo g (slice (votes_of g) bits j) to_come t
     → (0 < c) × (c < 2 ^ length g.names)
 unfolding slice
 slice-next {g} bits j game next h =
@@ -49,7 +58,8 @@ slice-next {g} bits j game next h =
     counted-next next h own (All-filter _ own (minimal_coalitions (votes_of g)) (minimal-are-coalitions g game))
 
 -- all slices are the whole list
-pub all-slices : (g : GameView) (bits : ℕ) → IsGame g → bits ≤ 10 → bits ≤ length g.names → flat_map (slice (votes_of g) bits) (range_with_len 0 (2 ^ bits)) ≡ minimal_coalitions (votes_of g)
+pub all-slices : (g : GameView) (bits : ℕ) → IsGame g → bits ≤ 10 → bits ≤ length g.names
+    → flat_map (slice (votes_of g) bits) (range_with_len 0 (2 ^ bits)) ≡ minimal_coalitions (votes_of g)
 all-slices g bits game few le = slices-joined (votes_of g) bits few le
 
 -- the first j slices and slice j are not too many
@@ -65,9 +75,12 @@ slices-room g bits j game few le lt =
     let most = minimal-few g game in
     omega (arith, first, whole, same, more, less, most)
 
-pub slices-more : (g : GameView) (bits j : ℕ) → flat_map (slice (votes_of g) bits) (range_with_len 0 j) ++ slice (votes_of g) bits j ≡ flat_map (slice (votes_of g) bits) (range_with_len 0 (j + 1))
+pub slices-more : (g : GameView) (bits j : ℕ)
+    → flat_map (slice (votes_of g) bits) (range_with_len 0 j) ++ slice (votes_of g) bits j ≡ flat_map (slice (votes_of g) bits)
+    (range_with_len 0 (j + 1))
 slices-more g bits j =
-    let one : slice (votes_of g) bits j ≡ flat_map (slice (votes_of g) bits) ((0 + j) ∷ []) = sym (append-nil _) ∙ ap (λ (i : ℕ). slice (votes_of g) bits i ++ []) (omega arith) in
+    let one : slice (votes_of g) bits j ≡ flat_map (slice (votes_of g) bits) ((0 + j) ∷ []) = sym (append-nil _)
+    ∙ ap (λ (i : ℕ). slice (votes_of g) bits i ++ []) (omega arith) in
     ap (λ (l : List ℕ). flat_map (slice (votes_of g) bits) (range_with_len 0 j) ++ l) one
     ∙ sym (flat_map-append (slice (votes_of g) bits) (range_with_len 0 j) ((0 + j) ∷ []))
     ∙ ap (flat_map (slice (votes_of g) bits)) (sym (range-more 0 j))
@@ -82,27 +95,34 @@ pass-flat_map q f (x ∷ xs) =
     let e = sum_by-cons (λ y. length (filter q (f y))) x xs in
     omega (arith, both, long, rest, e)
 
-pass-permutation : (q : ℕ → Bool) (f : ℕ → List ℕ) (xs ys : List ℕ) → IsPermutation xs ys → length (filter q (flat_map f xs)) ≡ length (filter q (flat_map f ys))
-pass-permutation q f xs ys h = pass-flat_map q f xs ∙ sym (sum_by-IsPermutation (λ x. length (filter q (f x))) xs ys h) ∙ sym (pass-flat_map q f ys)
+pass-permutation : (q : ℕ → Bool) (f : ℕ → List ℕ) (xs ys : List ℕ) → IsPermutation xs ys
+    → length (filter q (flat_map f xs)) ≡ length (filter q (flat_map f ys))
+pass-permutation q f xs ys h = pass-flat_map q f xs ∙ sym (sum_by-IsPermutation (λ x. length (filter q (f x))) xs ys h)
+    ∙ sym (pass-flat_map q f ys)
 
 -- slices in another order have the same counts
-pub permuted : (g : GameView) (f : ℕ → List ℕ) (xs ys : List ℕ) (t : Tables) → IsPermutation xs ys → AreTallies g (flat_map f xs) t → AreTallies g (flat_map f ys) t
+pub permuted : (g : GameView) (f : ℕ → List ℕ) (xs ys : List ℕ) (t : Tables) → IsPermutation xs ys → AreTallies g (flat_map f xs) t
+    → AreTallies g (flat_map f ys) t
 permuted g f xs ys t same h = record {
   of_game = h.of_game;
   tallies = record {
     all = record { long = h.tallies.all.long; sizes = λ s le. h.tallies.all.sizes s le ∙ pass-permutation _ f xs ys same };
-    each = λ p lt. (let own = h.tallies.each p lt in record { long = own.long; sizes = λ s le. own.sizes s le ∙ pass-permutation _ f xs ys same });
+    each = λ p lt. (let own =
+        h.tallies.each p lt in record { long = own.long; sizes = λ s le. own.sizes s le ∙ pass-permutation _ f xs ys same });
   };
 }
 
 -- the slices, each once, have the counts of the whole list
-pub whole-counts : (g : GameView) (bits : ℕ) (taken : List ℕ) (t : Tables) → bits ≤ 10 → bits ≤ length g.names → IsPermutation taken (range_with_len 0 (2 ^ bits)) → AreTallies g (flat_map (slice (votes_of g) bits) taken) t
+pub whole-counts : (g : GameView) (bits : ℕ) (taken : List ℕ) (t : Tables) → bits ≤ 10 → bits ≤ length g.names
+    → IsPermutation taken (range_with_len 0 (2 ^ bits)) → AreTallies g (flat_map (slice (votes_of g) bits) taken) t
     → AreCounts g (minimal_coalitions (votes_of g)) t
 whole-counts g bits taken t few le same h =
-    subst (λ (l : List ℕ). AreCounts g l t) (all-slices g bits h.of_game.is_game few le) (tallies-are_counts g _ t (permuted g (slice (votes_of g) bits) taken (range_with_len 0 (2 ^ bits)) t same h))
+    subst (λ (l : List ℕ). AreCounts g l t) (all-slices g bits h.of_game.is_game few le)
+    (tallies-are_counts g _ t (permuted g (slice (votes_of g) bits) taken (range_with_len 0 (2 ^ bits)) t same h))
 
 -- a list with the numbers 0, 1, .. at its places
 pub is-range : (row : List ℕ) (n : ℕ) → length row ≡ n → ((k : ℕ) → k < n → get_or row k 0 ≡ k) → row ≡ range_with_len 0 n
 is-range row n long each =
     fill_by_all (λ k. k) row n 0 long each
-    ∙ sym (fill_by_all (λ k. k) (range_with_len 0 n) n 0 (length-range_with_len 0 n) (λ k lt. get_or-range_with_len 0 n k 0 lt ∙ omega arith))
+    ∙ sym (fill_by_all (λ k. k) (range_with_len 0 n) n 0 (length-range_with_len 0 n)
+    (λ k lt. get_or-range_with_len 0 n k 0 lt ∙ omega arith))

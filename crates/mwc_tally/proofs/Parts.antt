@@ -47,7 +47,8 @@ pub part-length : (skip most : ℕ) (xs : List ℕ) → length (take most (drop 
 part-length skip most xs = let a = length-take most (drop skip xs) in let b = length-drop skip xs in omega (arith, a, b)
 
 -- the pieces up to one more
-pub pieces-more : {X : Type 0} (f : X → List ℕ) (xs : List X) (k : ℕ) (x : X) → k < length xs → x ≡ get_or xs k x → flat_map f (take (k + 1) xs) ≡ flat_map f (take k xs) ++ f x
+pub pieces-more : {X : Type 0} (f : X → List ℕ) (xs : List X) (k : ℕ) (x : X) → k < length xs → x ≡ get_or xs k x
+    → flat_map f (take (k + 1) xs) ≡ flat_map f (take k xs) ++ f x
 pieces-more f xs k x lt is =
     ap (flat_map f) (take_more xs k x lt)
     ∙ flat_map-append f (take k xs) (get_or xs k x ∷ [])
@@ -60,13 +61,16 @@ all-back : (P : ℕ → Type 0) (a b : List ℕ) → All P (a ++ b) → All P b
 all-back P a b h = subst (All P) (drop_at a b (length a) refl) (All-drop P (length a) (a ++ b) h)
 
 -- what holds of all holds of a piece
-pub piece-all : {X : Type 0} (P : ℕ → Type 0) (f : X → List ℕ) (xs : List X) (k : ℕ) (x : X) → k < length xs → x ≡ get_or xs k x → All P (flat_map f xs) → All P (f x)
+pub piece-all : {X : Type 0} (P : ℕ → Type 0) (f : X → List ℕ) (xs : List X) (k : ℕ) (x : X) → k < length xs → x ≡ get_or xs k x
+    → All P (flat_map f xs) → All P (f x)
 piece-all P f xs k x lt is h =
-    let cut : flat_map f xs ≡ flat_map f (take (k + 1) xs) ++ flat_map f (drop (k + 1) xs) = ap (flat_map f) (sym (take-append-drop (k + 1) xs)) ∙ flat_map-append f (take (k + 1) xs) (drop (k + 1) xs) in
+    let cut : flat_map f xs ≡ flat_map f (take (k + 1) xs) ++ flat_map f (drop (k + 1) xs) =
+    ap (flat_map f) (sym (take-append-drop (k + 1) xs)) ∙ flat_map-append f (take (k + 1) xs) (drop (k + 1) xs) in
     all-back P (flat_map f (take k xs)) (f x) (subst (All P) (pieces-more f xs k x lt is) (all-front P _ _ (subst (All P) cut h)))
 
 -- a piece and those before it are no longer than all
-pub pieces-length : {X : Type 0} (f : X → List ℕ) (xs : List X) (k : ℕ) (x : X) → k < length xs → x ≡ get_or xs k x → length (flat_map f (take k xs)) + length (f x) ≤ length (flat_map f xs)
+pub pieces-length : {X : Type 0} (f : X → List ℕ) (xs : List X) (k : ℕ) (x : X) → k < length xs → x ≡ get_or xs k x
+    → length (flat_map f (take k xs)) + length (f x) ≤ length (flat_map f xs)
 pieces-length f xs k x lt is = let e = length-flat_map-take f xs k x lt in let same = ap (λ y. length (f y)) is in omega (arith, e, same)
 
 -- the row that is read of a piece
@@ -74,11 +78,14 @@ pub row-is : (piece : List ℕ) (s l a m : ℕ) → a ≡ min s (length piece) �
     → take m (take (length piece - a) (drop a piece)) ≡ take l (drop s piece)
 row-is piece s l a m a-is m-is =
     let long = length-drop a piece in
-    let rest : take (length piece - a) (drop a piece) ≡ drop s piece = take_all (length piece - a) (drop a piece) (omega (arith, long)) ∙ (ap (λ (k : ℕ). drop k piece) a-is ∙ drop_min s piece) in
-    ap (λ (k : ℕ). take k (take (length piece - a) (drop a piece))) m-is ∙ take_min l (take (length piece - a) (drop a piece)) ∙ ap (take l) rest
+    let rest : take (length piece - a) (drop a piece) ≡ drop s piece = take_all (length piece - a) (drop a piece) (omega (arith, long))
+    ∙ (ap (λ (k : ℕ). drop k piece) a-is ∙ drop_min s piece) in
+    ap (λ (k : ℕ). take k (take (length piece - a) (drop a piece))) m-is ∙ take_min l (take (length piece - a) (drop a piece))
+    ∙ ap (take l) rest
 
 pub rest-length : (piece : List ℕ) (s a : ℕ) → a ≡ min s (length piece) → length (take (length piece - a) (drop a piece)) ≡ length piece - s
-rest-length piece s a a-is = let one = length-take (length piece - a) (drop a piece) in let other = length-drop a piece in omega (arith, one, other, a-is)
+rest-length piece s a a-is = let one = length-take (length piece - a) (drop a piece) in let other =
+    length-drop a piece in omega (arith, one, other, a-is)
 
 -- what is past a part
 pub part-and-rest : (skip part : ℕ) (xs : List ℕ) → take part (drop skip xs) ++ drop (skip + part) xs ≡ drop skip xs

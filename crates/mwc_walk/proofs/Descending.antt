@@ -31,7 +31,8 @@ filter-filter q p (x ∷ xs) =
     ]
 
 -- tests that agree on these numbers
-filter-above : (p q : ℕ → Bool) (low more : ℕ) → ((c : ℕ) → low ≤ c → c < low + more → p c ≡ q c) → filter p (above low more) ≡ filter q (above low more)
+filter-above : (p q : ℕ → Bool) (low more : ℕ) → ((c : ℕ) → low ≤ c → c < low + more → p c ≡ q c)
+    → filter p (above low more) ≡ filter q (above low more)
 filter-above p q low zero same = refl
 filter-above p q low (suc more) same =
     rw (same (low + more) (omega arith) (omega arith), filter-above p q low more (λ c from to. same c from (omega arith))) refl
@@ -41,11 +42,19 @@ filter-never [] = refl
 filter-never (x ∷ xs) = filter-never xs
 
 -- numbers that fail the test may be left out at the top
-pub filter-down_skip : (p : ℕ → Bool) (low more : ℕ) → ((c : ℕ) → low ≤ c → c < low + more → p c ≡ false) → filter p (down (low + more)) ≡ filter p (down low)
+pub filter-down_skip : (p : ℕ → Bool) (low more : ℕ) → ((c : ℕ) → low ≤ c → c < low + more → p c ≡ false)
+    → filter p (down (low + more)) ≡ filter p (down low)
 filter-down_skip p low more fails =
-    rw (down-split low more, filter-append p (above low more) (down low), filter-above p (λ c. false) low more fails, filter-never (above low more)) refl
+    rw (
+      down-split low more,
+      filter-append p (above low more) (down low),
+      filter-above p (λ c. false) low more fails,
+      filter-never
+          (above low more),
+    ) refl
 
-pub filter-filter_skip : (q p : ℕ → Bool) (low more : ℕ) → ((c : ℕ) → low ≤ c → c < low + more → q c ≡ false) → filter q (filter p (down (low + more))) ≡ filter q (filter p (down low))
+pub filter-filter_skip : (q p : ℕ → Bool) (low more : ℕ) → ((c : ℕ) → low ≤ c → c < low + more → q c ≡ false)
+    → filter q (filter p (down (low + more))) ≡ filter q (filter p (down low))
 filter-filter_skip q p low more fails =
     filter-filter q p (down (low + more))
     ∙ filter-down_skip (λ c. p c && q c) low more (λ c from to. and_right (p c) (q c) (fails c from to))
@@ -68,7 +77,14 @@ filter-block q p low more passes fails =
     let top : filter q (filter p (above low more)) ≡ filter p (above low more) =
     filter-filter q p (above low more) ∙ filter-above _ p low more (λ c from to. rw (passes c from to) (and-true (p c))) in
     let none = filter-filter_none q p low fails in
-    rw (down-split low more, filter-append p (above low more) (down low), filter-append q (filter p (above low more)) (filter p (down low)), top, none, append-nil (filter p (above low more))) refl
+    rw (
+      down-split low more,
+      filter-append p (above low more) (down low),
+      filter-append q (filter p (above low more)) (filter p (down low)),
+      top,
+      none,
+      append-nil (filter p (above low more)),
+    ) refl
 
 -- ---- the numbers of a block, which have one quotient
 pub block-prefix : (x h c : ℕ) → x * 2 ^ h ≤ c → c < x * 2 ^ h + 2 ^ h → c / 2 ^ h ≡ x

@@ -23,13 +23,16 @@ place-before n p x q le below in' =
       | inl less ↦ less
       | inr past ↦
           let zero_more : x * 2 ^ (n - p) + 0 ≡ x * 2 ^ (n - p) = omega arith in
-          let digit : (x * 2 ^ (n - p) + 0) / 2 ^ (n - 1 - q) % 2 ≡ 0 / 2 ^ (n - 1 - q) % 2 = bit_at_cat_low x (n - p) 0 (n - 1 - q) (omega arith) in
-          let none : x * 2 ^ (n - p) / 2 ^ (n - 1 - q) % 2 ≡ 0 = ap (λ (i : ℕ). i / 2 ^ (n - 1 - q) % 2) (sym zero_more) ∙ digit ∙ bit_at-zero (n - 1 - q) in
+          let digit : (x * 2 ^ (n - p) + 0) / 2 ^ (n - 1 - q) % 2 ≡ 0 / 2 ^ (n - 1 - q) % 2 =
+          bit_at_cat_low x (n - p) 0 (n - 1 - q) (omega arith) in
+          let none : x * 2 ^ (n - p) / 2 ^ (n - 1 - q) % 2 ≡ 0 = ap (λ (i : ℕ). i / 2 ^ (n - 1 - q) % 2) (sym zero_more) ∙ digit
+          ∙ bit_at-zero (n - 1 - q) in
           let some : x * 2 ^ (n - p) / 2 ^ (n - 1 - q) % 2 ≡ 1 = eqb-true _ _ in' in
           absurd (omega (arith, none, some))
     ]
 
-one-loses : (n p x q : ℕ) (rs : List RuleView) → length rs ≡ 1 → AllByRecursion (IsRule n) rs → IsRanked rs → 0 < p → p ≤ n → wins_at rs (p - 1) (x / 2) ≡ false → q < n → has n q (x * 2 ^ (n - p)) ≡ true → wins rs (without n q (x * 2 ^ (n - p))) ≡ false
+one-loses : (n p x q : ℕ) (rs : List RuleView) → length rs ≡ 1 → AllByRecursion (IsRule n) rs → IsRanked rs → 0 < p → p ≤ n
+    → wins_at rs (p - 1) (x / 2) ≡ false → q < n → has n q (x * 2 ^ (n - p)) ≡ true → wins rs (without n q (x * 2 ^ (n - p))) ≡ false
 unfolding wins wins_at has without
 one-loses n p x q [] one all ranked pos le lost below in' = absurd (omega (arith, one))
 one-loses n p x q (r ∷ s ∷ rs) one all ranked pos le lost below in' = absurd (omega (arith, one))
@@ -41,13 +44,16 @@ one-loses n p x q (r ∷ []) one all ranked pos le lost below in' =
     let pe : p - 1 + 1 ≡ p = omega arith in
     let xe : 2 * (x / 2) + x % 2 ≡ x = omega arith in
     let more = rw (pe, xe) at (weight-step all.0 (p - 1) (x / 2) (x % 2) (omega arith) (omega arith)) in
-    let most : x % 2 * get_or r.weights (p - 1) 0 ≤ 1 * get_or r.weights (p - 1) 0 = mul-le (x % 2) (get_or r.weights (p - 1) 0) 1 (get_or r.weights (p - 1) 0) (omega arith) (omega arith) in
+    let most : x % 2 * get_or r.weights (p - 1) 0 ≤ 1 * get_or r.weights (p - 1) 0 =
+    mul-le (x % 2) (get_or r.weights (p - 1) 0) 1 (get_or r.weights (p - 1) 0) (omega arith) (omega arith) in
     let heavier : get_or r.weights (p - 1) 0 ≤ get_or r.weights q 0 = ranked q (p - 1) (omega arith) (omega arith) in
     let short : weight (take (p - 1) r.weights) (x / 2) < r.quota = leb-false _ _ (sym (and-true _) ∙ lost) in
-    let loses : weight r.weights (x * 2 ^ (n - p) - 2 ^ (n - 1 - q)) < r.quota = omega (arith, less, weight-block all.0 p x le, more, most, heavier, short) in
+    let loses : weight r.weights (x * 2 ^ (n - p) - 2 ^ (n - 1 - q)) < r.quota =
+    omega (arith, less, weight-block all.0 p x le, more, most, heavier, short) in
     and_left _ _ (lt-leb _ _ loses)
 
-pub one-minimal : (v : Votes) (p x : ℕ) → IsVotes v → length v.rules ≡ 1 → 0 < p → p ≤ v.members → wins_at v.rules p x ≡ true → wins_at v.rules (p - 1) (x / 2) ≡ false → minimal v (x * 2 ^ (v.members - p)) ≡ true
+pub one-minimal : (v : Votes) (p x : ℕ) → IsVotes v → length v.rules ≡ 1 → 0 < p → p ≤ v.members → wins_at v.rules p x ≡ true
+    → wins_at v.rules (p - 1) (x / 2) ≡ false → minimal v (x * 2 ^ (v.members - p)) ≡ true
 one-minimal v p x game one pos le won lost =
     (needs-each-member v (x * 2 ^ (v.members - p))).1 (
       wins-prefix v.members v.rules game.rules p x le ∙ won,
@@ -55,7 +61,8 @@ one-minimal v p x game one pos le won lost =
     )
 
 -- a prefix that wins first by its last place has that place in it
-pub won-odd : (n p x : ℕ) (rs : List RuleView) → 0 < p → p ≤ n → AllByRecursion (IsRule n) rs → wins_at rs p x ≡ true → wins_at rs (p - 1) (x / 2) ≡ false → x % 2 ≡ 1
+pub won-odd : (n p x : ℕ) (rs : List RuleView) → 0 < p → p ≤ n → AllByRecursion (IsRule n) rs → wins_at rs p x ≡ true
+    → wins_at rs (p - 1) (x / 2) ≡ false → x % 2 ≡ 1
 won-odd n p x rs pos le all won lost =
     elim (cases_lt 0 (x % 2)) [
       | inl some ↦ omega arith
@@ -87,4 +94,5 @@ slice-short v k j game =
 pub in-slice : (n k p x : ℕ) → k ≤ p → p ≤ n → x * 2 ^ (n - p) / 2 ^ (n - k) ≡ x / 2 ^ (p - k)
 in-slice n k p x low high =
     let e : n - k ≡ (n - p) + (p - k) = omega arith in
-    ap (λ (i : ℕ). x * 2 ^ (n - p) / 2 ^ i) e ∙ sym (shr-shr (x * 2 ^ (n - p)) (n - p) (p - k)) ∙ ap (λ (i : ℕ). i / 2 ^ (p - k)) (shl-shr x (n - p))
+    ap (λ (i : ℕ). x * 2 ^ (n - p) / 2 ^ i) e ∙ sym (shr-shr (x * 2 ^ (n - p)) (n - p) (p - k))
+    ∙ ap (λ (i : ℕ). i / 2 ^ (p - k)) (shl-shr x (n - p))

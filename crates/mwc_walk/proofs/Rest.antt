@@ -17,7 +17,8 @@ pub next-block : (x h : ℕ) → (x + 1) * 2 ^ h ≡ x * 2 ^ h + 2 ^ h
 next-block x h = omega arith
 
 -- below a winning prefix nothing is minimal but the prefix with zeros
-above-not_minimal : (v : Votes) (p x c : ℕ) → IsVotes v → p ≤ v.members → wins_at v.rules p x ≡ true → x * 2 ^ (v.members - p) < c → c < x * 2 ^ (v.members - p) + 2 ^ (v.members - p) → minimal v c ≡ true → ⊥
+above-not_minimal : (v : Votes) (p x c : ℕ) → IsVotes v → p ≤ v.members → wins_at v.rules p x ≡ true → x * 2 ^ (v.members - p) < c
+    → c < x * 2 ^ (v.members - p) + 2 ^ (v.members - p) → minimal v c ≡ true → ⊥
 unfolding has without
 above-not_minimal v p x c game le win low high min =
     let found = some_digit (v.members - p) (c - x * 2 ^ (v.members - p)) (omega arith) (omega arith) in
@@ -27,10 +28,13 @@ above-not_minimal v p x c game le win low high min =
     let place : v.members - 1 - (v.members - 1 - found.0) ≡ found.0 = omega arith in
     let inside : eqb (c / 2 ^ (v.members - 1 - (v.members - 1 - found.0)) % 2) 1 ≡ true =
     eq-eqb _ _ (ap (λ (i : ℕ). c / 2 ^ i % 2) place ∙ digit) in
-    let prefix : (c - 2 ^ found.0) / 2 ^ (v.members - p) ≡ x = block-prefix x (v.members - p) (c - 2 ^ found.0) (omega arith) (omega arith) in
-    let prefix' : (c - 2 ^ (v.members - 1 - (v.members - 1 - found.0))) / 2 ^ (v.members - p) ≡ x = ap (λ (i : ℕ). (c - 2 ^ i) / 2 ^ (v.members - p)) place ∙ prefix in
+    let prefix : (c - 2 ^ found.0) / 2 ^ (v.members - p) ≡ x =
+    block-prefix x (v.members - p) (c - 2 ^ found.0) (omega arith) (omega arith) in
+    let prefix' : (c - 2 ^ (v.members - 1 - (v.members - 1 - found.0))) / 2 ^ (v.members - p) ≡ x =
+    ap (λ (i : ℕ). (c - 2 ^ i) / 2 ^ (v.members - p)) place ∙ prefix in
     let still : wins v.rules (c - 2 ^ (v.members - 1 - (v.members - 1 - found.0))) ≡ true =
-    wins-below v.members v.rules game.rules p (c - 2 ^ (v.members - 1 - (v.members - 1 - found.0))) le (ap (wins_at v.rules p) prefix' ∙ win) in
+    wins-below v.members v.rules game.rules p (c - 2 ^ (v.members - 1 - (v.members - 1 - found.0))) le
+    (ap (wins_at v.rules p) prefix' ∙ win) in
     let lost = ((needs-each-member v c).0 min).1 (v.members - 1 - found.0) (omega (arith, game.some)) inside in
     both_ways _ lost still
 
@@ -51,35 +55,44 @@ left-nothing v k j p x nothing =
     (λ c low high. nothing c (block-prefix x (v.members - p) c low high)))
 
 -- below a winning prefix only the prefix with zeros is left
-pub left-won : (v : Votes) (k j p x : ℕ) → IsVotes v → p ≤ v.members → wins_at v.rules p x ≡ true → slice_below v k j ((x + 1) * 2 ^ (v.members - p)) ≡ slice_below v k j (x * 2 ^ (v.members - p) + 1)
+pub left-won : (v : Votes) (k j p x : ℕ) → IsVotes v → p ≤ v.members → wins_at v.rules p x ≡ true
+    → slice_below v k j ((x + 1) * 2 ^ (v.members - p)) ≡ slice_below v k j (x * 2 ^ (v.members - p) + 1)
 unfolding slice_below minimal_below
 left-won v k j p x game le win =
     let pos : 0 < 2 ^ (v.members - p) = pow_pos (v.members - p) in
-    let e : (x + 1) * 2 ^ (v.members - p) ≡ (x * 2 ^ (v.members - p) + 1) + (2 ^ (v.members - p) - 1) = omega (arith, next-block x (v.members - p)) in
+    let e : (x + 1) * 2 ^ (v.members - p) ≡ (x * 2 ^ (v.members - p) + 1) + (2 ^ (v.members - p) - 1) =
+    omega (arith, next-block x (v.members - p)) in
     ap (in_slice v k j) (
     ap (λ (i : ℕ). filter (minimal v) (down i)) e
     ∙ filter-down_skip (minimal v) (x * 2 ^ (v.members - p) + 1) (2 ^ (v.members - p) - 1)
     (λ c low high. false_from_ne_true _ (above-not_minimal v p x c game le win (omega arith) (omega arith))))
 
 -- c itself, where it is minimal and in the slice
-pub left-take : (v : Votes) (k j c : ℕ) → minimal v c ≡ true → c / 2 ^ (v.members - k) ≡ 2 ^ k - 1 - j → slice_below v k j (c + 1) ≡ c ∷ slice_below v k j c
+pub left-take : (v : Votes) (k j c : ℕ) → minimal v c ≡ true → c / 2 ^ (v.members - k) ≡ 2 ^ k - 1 - j
+    → slice_below v k j (c + 1) ≡ c ∷ slice_below v k j c
 unfolding slice_below minimal_below in_slice
 left-take v k j c h inside =
     ap (λ (l : List ℕ). filter (λ d. eqb (d / 2 ^ (v.members - k)) (2 ^ k - 1 - j)) l) (filter-down_take (minimal v) c h)
     ∙ cond-true (eqb (c / 2 ^ (v.members - k)) (2 ^ k - 1 - j)) _ _ (eq-eqb _ _ inside)
 
 -- where the walk starts, the whole slice is left
-pub left-all : (v : Votes) (k j : ℕ) → k ≤ v.members → j < 2 ^ k → slice_below v k j ((2 ^ k - 1 - j + 1) * 2 ^ (v.members - k)) ≡ slice v k j
+pub left-all : (v : Votes) (k j : ℕ) → k ≤ v.members → j < 2 ^ k
+    → slice_below v k j ((2 ^ k - 1 - j + 1) * 2 ^ (v.members - k)) ≡ slice v k j
 unfolding slice_below minimal_below in_slice slice minimal_coalitions
 left-all v k j le below =
-    let whole : 2 ^ v.members ≡ 2 ^ k * 2 ^ (v.members - k) = ap (λ (i : ℕ). 2 ^ i) (let e : v.members ≡ k + (v.members - k) = omega arith in e) ∙ pow-add 2 k (v.members - k) in
-    let m : (2 ^ k - 1 - j + 1) * 2 ^ (v.members - k) ≤ 2 ^ k * 2 ^ (v.members - k) = mul-le (2 ^ k - 1 - j + 1) (2 ^ (v.members - k)) (2 ^ k) (2 ^ (v.members - k)) (omega arith) (omega arith) in
-    let e : (2 ^ k - 1 - j + 1) * 2 ^ (v.members - k) + (2 ^ v.members - (2 ^ k - 1 - j + 1) * 2 ^ (v.members - k)) ≡ 2 ^ v.members = omega arith in
-    sym (rw e at (filter-filter_skip (λ c. eqb (c / 2 ^ (v.members - k)) (2 ^ k - 1 - j)) (minimal v) ((2 ^ k - 1 - j + 1) * 2 ^ (v.members - k)) (2 ^ v.members - (2 ^ k - 1 - j + 1) * 2 ^ (v.members - k))
+    let whole : 2 ^ v.members ≡ 2 ^ k * 2 ^ (v.members - k) =
+    ap (λ (i : ℕ). 2 ^ i) (let e : v.members ≡ k + (v.members - k) = omega arith in e) ∙ pow-add 2 k (v.members - k) in
+    let m : (2 ^ k - 1 - j + 1) * 2 ^ (v.members - k) ≤ 2 ^ k * 2 ^ (v.members - k) =
+    mul-le (2 ^ k - 1 - j + 1) (2 ^ (v.members - k)) (2 ^ k) (2 ^ (v.members - k)) (omega arith) (omega arith) in
+    let e : (2 ^ k - 1 - j + 1) * 2 ^ (v.members - k) + (2 ^ v.members - (2 ^ k - 1 - j + 1) * 2 ^ (v.members - k)) ≡ 2 ^ v.members =
+    omega arith in
+    sym (rw e at (filter-filter_skip (λ c. eqb (c / 2 ^ (v.members - k)) (2 ^ k - 1 - j)) (minimal v)
+    ((2 ^ k - 1 - j + 1) * 2 ^ (v.members - k)) (2 ^ v.members - (2 ^ k - 1 - j + 1) * 2 ^ (v.members - k))
     (λ c low high. past-block (2 ^ k - 1 - j) (v.members - k) c low)))
 
 -- where it ends, nothing is
 pub left-none : (v : Votes) (k j : ℕ) → slice_below v k j ((2 ^ k - 1 - j) * 2 ^ (v.members - k)) ≡ []
 unfolding slice_below minimal_below in_slice
 left-none v k j =
-    filter-filter_none (λ c. eqb (c / 2 ^ (v.members - k)) (2 ^ k - 1 - j)) (minimal v) ((2 ^ k - 1 - j) * 2 ^ (v.members - k)) (before-block (2 ^ k - 1 - j) (v.members - k))
+    filter-filter_none (λ c. eqb (c / 2 ^ (v.members - k)) (2 ^ k - 1 - j)) (minimal v) ((2 ^ k - 1 - j) * 2 ^ (v.members - k))
+    (before-block (2 ^ k - 1 - j) (v.members - k))

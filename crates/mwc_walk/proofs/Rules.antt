@@ -13,17 +13,20 @@ module _ {n : ℕ} {r : RuleView} (is : IsRule n r) where
   pub weight-block : (p x : ℕ) → p ≤ n → weight r.weights (x * 2 ^ (n - p)) ≡ weight (take p r.weights) x
   weight-block p x le = rw is.full at (weight-prefix r.weights p x (omega (arith, is.full)))
 
-  pub weight-split : (p c : ℕ) → p ≤ n → weight r.weights c ≡ weight (take p r.weights) (c / 2 ^ (n - p)) + weight (drop p r.weights) (c % 2 ^ (n - p))
+  pub weight-split : (p c : ℕ)
+      → p ≤ n → weight r.weights c ≡ weight (take p r.weights) (c / 2 ^ (n - p)) + weight (drop p r.weights) (c % 2 ^ (n - p))
   weight-split p c le = rw is.full at (weight-at r.weights p c (omega (arith, is.full)))
 
-  pub weight-step : (p x b : ℕ) → p < n → b < 2 → weight (take (p + 1) r.weights) (2 * x + b) ≡ weight (take p r.weights) x + b * get_or r.weights p 0
+  pub weight-step : (p x b : ℕ)
+      → p < n → b < 2 → weight (take (p + 1) r.weights) (2 * x + b) ≡ weight (take p r.weights) x + b * get_or r.weights p 0
   weight-step p x b below digit = weight-more r.weights p x b (omega (arith, is.full)) digit
 
   -- the next place is left out
   pub weight-over : (p x : ℕ) → p < n → weight (take (p + 1) r.weights) (2 * x) ≡ weight (take p r.weights) x
   weight-over p x below =
       let e : 2 * x + 0 ≡ 2 * x = omega arith in
-      let out : weight (take (p + 1) r.weights) (2 * x) ≡ weight (take p r.weights) x + 0 * get_or r.weights p 0 = rw e at (weight-step p x 0 below (omega arith)) in
+      let out : weight (take (p + 1) r.weights) (2 * x) ≡ weight (take p r.weights) x + 0 * get_or r.weights p 0 =
+      rw e at (weight-step p x 0 below (omega arith)) in
       omega arith
 
   pub rest-step : (p : ℕ) → p < n → sum (drop p r.weights) ≡ get_or r.weights p 0 + sum (drop (p + 1) r.weights)

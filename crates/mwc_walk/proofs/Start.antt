@@ -16,7 +16,8 @@ pub first-number : (k j : ℕ) → k ≤ 10 → 1 * 2 ^ k % 2 ^ 64 - 1 - j ≡ 2
 first-number k j le = ap (λ (i : ℕ). i - 1 - j) (one_shl k 64 (omega arith))
 
 -- one fixed place more
-pub fixed-in : (n k p x : ℕ) (rs : List RuleView) (ls : List Lane) → p < k → k ≤ n → has k p x ≡ true → LanesAre n p (x / 2 ^ (k - p)) rs ls → LanesAre n (p + 1) (x / 2 ^ (k - (p + 1))) rs (map (lane_with p) ls)
+pub fixed-in : (n k p x : ℕ) (rs : List RuleView) (ls : List Lane) → p < k → k ≤ n → has k p x ≡ true → LanesAre n p (x / 2 ^ (k - p)) rs ls
+    → LanesAre n (p + 1) (x / 2 ^ (k - (p + 1))) rs (map (lane_with p) ls)
 unfolding has
 fixed-in n k p x rs ls below le inside are =
     let e : k - 1 - p ≡ k - (p + 1) = omega arith in
@@ -25,7 +26,8 @@ fixed-in n k p x rs ls below le inside are =
     let whole : 2 * (x / 2 ^ (k - p)) + 1 ≡ x / 2 ^ (k - (p + 1)) = omega (arith, h, odd') in
     subst (λ (i : ℕ). LanesAre n (p + 1) i rs (map (lane_with p) ls)) whole (lanes-in n p (x / 2 ^ (k - p)) rs ls (omega arith) are)
 
-pub fixed-pass : (n k p x : ℕ) (rs : List RuleView) (ls : List Lane) → p < k → k ≤ n → has k p x ≡ false → LanesAre n p (x / 2 ^ (k - p)) rs ls → LanesAre n (p + 1) (x / 2 ^ (k - (p + 1))) rs ls
+pub fixed-pass : (n k p x : ℕ) (rs : List RuleView) (ls : List Lane) → p < k → k ≤ n → has k p x ≡ false
+    → LanesAre n p (x / 2 ^ (k - p)) rs ls → LanesAre n (p + 1) (x / 2 ^ (k - (p + 1))) rs ls
 unfolding has
 fixed-pass n k p x rs ls below le outside are =
     let e : k - 1 - p ≡ k - (p + 1) = omega arith in
@@ -34,7 +36,8 @@ fixed-pass n k p x rs ls below le outside are =
     let whole : 2 * (x / 2 ^ (k - p)) ≡ x / 2 ^ (k - (p + 1)) = omega (arith, h, even') in
     subst (λ (i : ℕ). LanesAre n (p + 1) i rs ls) whole (lanes-pass n p (x / 2 ^ (k - p)) rs ls (omega arith) are)
 
-pub starts : (v : Votes) (k j x m n : ℕ) (ls : List Lane) → IsVotes v → k ≤ v.members → j < 2 ^ k → n ≡ v.members → m ≡ length v.rules → m ≤ length ls
+pub starts : (v : Votes) (k j x m n : ℕ) (ls : List Lane) → IsVotes v → k ≤ v.members → j < 2 ^ k → n ≡ v.members → m ≡ length v.rules
+    → m ≤ length ls
     → LanesAre v.members k (x / 2 ^ (k - k)) v.rules (take m ls) → x ≡ 2 ^ k - 1 - j
     → Starts v k j (record { lanes = ls; rules = m; members = n; bits = k; number = j; prefix = x; place = k; fresh = true; visits = k })
 starts v k j x m n ls game le below members rules room are prefix =
@@ -70,11 +73,15 @@ starts v k j x m n ls game le below members rules room are prefix =
       all = all;
     }
 
-pub first-lanes : (v : Votes) (k j m : ℕ) (ls : List Lane) → IsVotes v → m ≡ length v.rules → length ls ≡ 4 → k ≤ 10 → ((i : ℕ) → i < length v.rules → (d : Lane) → LaneIs v.members 0 0 (rule_at v.rules i) (get_or ls i d)) → LanesAre v.members 0 ((1 * 2 ^ k % 2 ^ 64 - 1 - j) / 2 ^ (k - 0)) v.rules (take m ls)
+pub first-lanes : (v : Votes) (k j m : ℕ) (ls : List Lane) → IsVotes v → m ≡ length v.rules → length ls ≡ 4 → k ≤ 10
+    → ((i : ℕ) → i < length v.rules → (d : Lane) → LaneIs v.members 0 0 (rule_at v.rules i) (get_or ls i d))
+    → LanesAre v.members 0 ((1 * 2 ^ k % 2 ^ 64 - 1 - j) / 2 ^ (k - 0)) v.rules (take m ls)
 first-lanes v k j m ls game e four le is =
     let pos : 0 < 2 ^ k = pow_pos k in
     let small : 2 ^ k - 1 - j < 1 * 2 ^ k = omega arith in
-    let zero_is : (2 ^ k - 1 - j) / 2 ^ k ≡ 0 = (let b : (2 ^ k - 1 - j) / 2 ^ k < 1 = div_below (2 ^ k - 1 - j) (2 ^ k) 1 pos small in omega (arith, b)) in
+    let zero_is : (2 ^ k - 1 - j) / 2 ^ k ≡ 0 =
+    (let b : (2 ^ k - 1 - j) / 2 ^ k < 1 = div_below (2 ^ k - 1 - j) (2 ^ k) 1 pos small in omega (arith, b)) in
     let k0 : k - 0 ≡ k = omega arith in
-    let x : (1 * 2 ^ k % 2 ^ 64 - 1 - j) / 2 ^ (k - 0) ≡ 0 = ap (λ (i : ℕ). i / 2 ^ (k - 0)) (first-number k j le) ∙ ap (λ (i : ℕ). (2 ^ k - 1 - j) / 2 ^ i) k0 ∙ zero_is in
+    let x : (1 * 2 ^ k % 2 ^ 64 - 1 - j) / 2 ^ (k - 0) ≡ 0 = ap (λ (i : ℕ). i / 2 ^ (k - 0)) (first-number k j le)
+    ∙ ap (λ (i : ℕ). (2 ^ k - 1 - j) / 2 ^ i) k0 ∙ zero_is in
     rw (x, e) (lanes-from v.members 0 0 v.rules ls (omega (arith, four, game.few_rules)) is)

@@ -39,7 +39,8 @@ short-step : (p : ℕ) → 2 ^ (p + 1) ≡ 2 ^ p * 2
 short-step p = ap (λ (i : ℕ). 2 ^ i) (let d : p + 1 ≡ suc p = omega arith in d) ∙ pow-suc 2 p
 
 -- the place before does not win either
-lost-before : (n p x : ℕ) (rs : List RuleView) → AllByRecursion (IsRule n) rs → 0 < p → p ≤ n → wins_at rs p x ≡ false → wins_at rs (p - 1) (x / 2) ≡ false
+lost-before : (n p x : ℕ) (rs : List RuleView) → AllByRecursion (IsRule n) rs → 0 < p → p ≤ n → wins_at rs p x ≡ false
+    → wins_at rs (p - 1) (x / 2) ≡ false
 lost-before n p x rs all pos le h =
     let pe : p - 1 + 1 ≡ p = omega arith in
     let xe : 2 * (x / 2) + x % 2 ≡ x = omega arith in
@@ -62,7 +63,8 @@ place-up v k j p y b game digit le is =
     }
 
 -- the place after
-place-down : (v : Votes) (k j p y b : ℕ) → b < 2 → p < v.members → wins_at v.rules p y ≡ false → IsPlace v k j p y → IsPlace v k j (p + 1) (2 * y + b)
+place-down : (v : Votes) (k j p y b : ℕ) → b < 2 → p < v.members → wins_at v.rules p y ≡ false → IsPlace v k j p y
+    → IsPlace v k j (p + 1) (2 * y + b)
 place-down v k j p y b digit below lost is =
     let half : (2 * y + b) / 2 ≡ y = omega arith in
     let back : p + 1 - 1 ≡ p = omega arith in
@@ -82,7 +84,8 @@ moved a ls p x f t = record a { lanes = ls; place = p; prefix = x; fresh = f; vi
 
 follows-at : (v : Votes) (a : Cursor) (ls : List Lane) (p x : ℕ) (f : Bool) (t : ℕ) → CursorIs v a → a.visits ≤ t → a.rules ≤ length ls
     → LanesAre v.members p x v.rules (take a.rules ls) → IsPlace v a.bits a.number p x
-    → CountsVisits v a.bits a.number t (new_visit (moved a ls p x f t)) (open_visits v (moved a ls p x f t)) (rest_of_slice v (moved a ls p x f t))
+    → CountsVisits v a.bits a.number t (new_visit (moved a ls p x f t)) (open_visits v (moved a ls p x f t))
+    (rest_of_slice v (moved a ls p x f t))
     → Follows v a (moved a ls p x f t)
 follows-at v a ls p x f t is counted room lanes place visits = record {
   is = record {
@@ -105,7 +108,8 @@ known : (v : Votes) (a : Cursor) (s : Step) (b : Bool → Cursor) (f : Bool) →
 known v a s b f e = subst (λ (g : Bool). CursorIs v (record a { fresh = g }) → Steps v (record a { fresh = g }) s (b g)) (sym e)
 
 -- back to the place before, which is not in
-pub back-up : (v : Votes) (a : Cursor) → CursorIs v a → a.fresh ≡ false → (a.place ≡ a.bits → ⊥) → (a.prefix % 2 ≡ 1 → ⊥) → Steps v a On (record a { prefix = a.prefix / 2; place = a.place - 1 })
+pub back-up : (v : Votes) (a : Cursor) → CursorIs v a → a.fresh ≡ false → (a.place ≡ a.bits → ⊥) → (a.prefix % 2 ≡ 1 → ⊥)
+    → Steps v a On (record a { prefix = a.prefix / 2; place = a.place - 1 })
 back-up v a is stale more even =
     known v a On (λ f. record a { prefix = a.prefix / 2; place = a.place - 1; fresh = f }) false stale (λ is.
     let below : a.place - 1 < v.members = omega (arith, is.place.to) in
@@ -117,14 +121,17 @@ back-up v a is stale more even =
     record {
       follows = follows-at v _ a.lanes (a.place - 1) (a.prefix / 2) false a.visits is (omega arith) is.room
           (lanes-up v.members (a.place - 1) (a.prefix / 2) v.rules (take a.rules a.lanes) below (rw (pe, xe) is.lanes))
-          (place-up v a.bits a.number (a.place - 1) (a.prefix / 2) 0 is.game (omega arith) (omega (arith, is.place.from)) (rw (pe, ze) is.place))
+          (place-up v a.bits a.number (a.place - 1) (a.prefix / 2) 0 is.game (omega arith) (omega (arith, is.place.from))
+          (rw (pe, ze) is.place))
           (subst (CountsVisits v a.bits a.number a.visits 0 0) (sym same) is.visits);
       same = same;
       falls = omega (arith, bounds);
     }) is
 
 -- the last member is left out
-pub back-out : (v : Votes) (a : Cursor) (ls : List Lane) → CursorIs v a → a.fresh ≡ false → (a.place ≡ a.bits → ⊥) → a.prefix % 2 ≡ 1 → a.rules ≤ length ls → take a.rules ls ≡ map (lane_without (a.place - 1)) (take a.rules a.lanes) → Steps v a On (record a { lanes = ls; prefix = a.prefix - 1; fresh = true })
+pub back-out : (v : Votes) (a : Cursor) (ls : List Lane) → CursorIs v a → a.fresh ≡ false → (a.place ≡ a.bits → ⊥) → a.prefix % 2 ≡ 1
+    → a.rules ≤ length ls → take a.rules ls ≡ map (lane_without (a.place - 1)) (take a.rules a.lanes)
+    → Steps v a On (record a { lanes = ls; prefix = a.prefix - 1; fresh = true })
 back-out v a ls is stale more odd room left_out =
     known v a On (λ _. record a { lanes = ls; prefix = a.prefix - 1; fresh = true }) false stale (λ is.
     let lt : a.bits < a.place = omega (arith, is.place.from) in
@@ -137,7 +144,8 @@ back-out v a ls is stale more odd room left_out =
     let after = lanes-out v.members (a.place - 1) (a.prefix / 2) v.rules (take a.rules a.lanes) below (rw (pe, xe) is.lanes) in
     let bounds : a.prefix - 1 + 1 ≡ a.prefix = omega arith in
     let same = ap (λ (i : ℕ). slice_below v a.bits a.number (i * 2 ^ (v.members - a.place))) bounds in
-    let w : cond (ltb a.bits a.place) ((a.prefix - 1) % 2) a.bits ≡ (a.prefix - 1) % 2 = cond-true (ltb a.bits a.place) _ _ (lt-ltb a.bits a.place lt) in
+    let w : cond (ltb a.bits a.place) ((a.prefix - 1) % 2) a.bits ≡ (a.prefix - 1) % 2 =
+    cond-true (ltb a.bits a.place) _ _ (lt-ltb a.bits a.place lt) in
     record {
       follows = follows-at v _ ls a.place (a.prefix - 1) true a.visits is (omega arith) room
           (rw left_out (rw (pe, ye) at after))
@@ -155,7 +163,8 @@ pub back-end : (v : Votes) (a : Cursor) → CursorIs v a → a.fresh ≡ false �
 back-end v a is stale done =
     known v a End (λ f. record a { fresh = f }) false stale (λ is.
     let none : a.place - a.bits ≡ 0 = omega arith in
-    let first : a.prefix ≡ 2 ^ a.bits - 1 - a.number = (let one : a.prefix / 2 ^ 0 ≡ a.prefix = omega arith in sym one ∙ (rw none at is.place.inside)) in
+    let first : a.prefix ≡ 2 ^ a.bits - 1 - a.number =
+    (let one : a.prefix / 2 ^ 0 ≡ a.prefix = omega arith in sym one ∙ (rw none at is.place.inside)) in
     let end : rest_of_slice v (record a { fresh = false }) ≡ [] = rw (first, done) (left-none v a.bits a.number) in
     record {
       follows = record { is = is; bits = refl; number = refl; counted = omega arith };
@@ -177,7 +186,8 @@ is-part f new q old k e le =
       taken = take_at new q k long ∙ e;
     }
 
-pub out-fits : (v : Votes) (a : Cursor) → CursorIs v a → (a.place ≡ a.bits → ⊥) → a.prefix % 2 ≡ 1 → All (λ l. get_or l.weights (a.place - 1) 0 ≤ l.sum) (take a.rules a.lanes)
+pub out-fits : (v : Votes) (a : Cursor) → CursorIs v a → (a.place ≡ a.bits → ⊥) → a.prefix % 2 ≡ 1
+    → All (λ l. get_or l.weights (a.place - 1) 0 ≤ l.sum) (take a.rules a.lanes)
 out-fits v a is more odd =
     let pe : a.place - 1 + 1 ≡ a.place = omega (arith, is.place.from) in
     let xe : 2 * (a.prefix / 2) + 1 ≡ a.prefix = omega arith in
@@ -189,17 +199,21 @@ open-most : (v : Votes) (p x most : ℕ) → cond (reaches v.rules p x) most 0 �
 open-most v p x most = cond_both (reaches v.rules p x) most 0 (λ i. i ≤ most) (λ _. omega arith) (λ _. omega arith)
 
 -- all below a fresh prefix is looked at: the rest of the cursor stays
-left-behind : (v : Votes) (a : Cursor) → CursorIs v a → CountsVisits v a.bits a.number a.visits 0 0 (rest_of_slice v (record a { fresh = false })) → Follows v a (record a { fresh = false })
+left-behind : (v : Votes) (a : Cursor)
+    → CursorIs v a → CountsVisits v a.bits a.number a.visits 0 0 (rest_of_slice v (record a { fresh = false }))
+    → Follows v a (record a { fresh = false })
 left-behind v a is = follows-at v a a.lanes a.place a.prefix false a.visits is (omega arith) is.room is.lanes is.place
 
 -- a prefix is passed by, where nothing is left below it and no visit is owed
 pass-by : (v : Votes) (a : Cursor) → CursorIs v a → a.fresh ≡ true
-    → slice_below v a.bits a.number (a.prefix * 2 ^ (v.members - a.place)) ≡ slice_below v a.bits a.number ((a.prefix + 1) * 2 ^ (v.members - a.place))
+    → slice_below v a.bits a.number (a.prefix * 2 ^ (v.members - a.place)) ≡ slice_below v a.bits a.number
+    ((a.prefix + 1) * 2 ^ (v.members - a.place))
     → (length v.rules ≡ 1 → cond (reaches v.rules a.place a.prefix) (a.place - a.bits) 0 ≡ 0) → Steps v a On (record a { fresh = false })
 pass-by v a is fresh same none =
     known v a On (λ _. record a { fresh = false }) true fresh (λ is.
     let pos : 0 < 2 ^ (v.members - a.place) = pow_pos (v.members - a.place) in
-    let next : (a.prefix + 1) * 2 ^ (v.members - a.place) ≡ a.prefix * 2 ^ (v.members - a.place) + 2 ^ (v.members - a.place) = omega arith in
+    let next : (a.prefix + 1) * 2 ^ (v.members - a.place) ≡ a.prefix * 2 ^ (v.members - a.place) + 2 ^ (v.members - a.place) =
+    omega arith in
     record {
       follows = left-behind v (record a { fresh = true }) is (record {
         least = omega (arith, ap length same, is.visits.least);
@@ -210,7 +224,8 @@ pass-by v a is fresh same none =
     }) is
 
 -- a prefix that cannot reach some quota is passed by
-pub enter-dead : (v : Votes) (a : Cursor) → CursorIs v a → a.fresh ≡ true → reaches v.rules a.place a.prefix ≡ false → Steps v a On (record a { fresh = false })
+pub enter-dead : (v : Votes) (a : Cursor) → CursorIs v a → a.fresh ≡ true → reaches v.rules a.place a.prefix ≡ false
+    → Steps v a On (record a { fresh = false })
 enter-dead v a is fresh dead =
     pass-by v a is fresh (sym (left-nothing v a.bits a.number a.place a.prefix
     (dead-nothing v a.place a.prefix is.game is.place.to dead))) (λ _. cond-false (reaches v.rules a.place a.prefix) _ _ dead)
@@ -223,27 +238,33 @@ enter-spare v a is fresh nothing fixed =
     (λ one. let at = fixed (is.rules ∙ one) in let extra = open-most v a.place a.prefix (a.place - a.bits) in omega (arith, at, extra))
 
 -- what the tests on the lanes say of the rules
-pub reach-is : (v : Votes) (a : Cursor) → CursorIs v a → (t : Bool) → list_all (lane_reaches a.place) (take a.rules a.lanes) ≡ t → reaches v.rules a.place a.prefix ≡ t
+pub reach-is : (v : Votes) (a : Cursor) → CursorIs v a → (t : Bool) → list_all (lane_reaches a.place) (take a.rules a.lanes) ≡ t
+    → reaches v.rules a.place a.prefix ≡ t
 reach-is v a is t h = sym (lanes-reach v.members a.place a.prefix v.rules (take a.rules a.lanes) is.place.to is.lanes) ∙ h
 
-pub win-is : (v : Votes) (a : Cursor) → CursorIs v a → (t : Bool) → list_all lane_wins (take a.rules a.lanes) ≡ t → wins_at v.rules a.place a.prefix ≡ t
+pub win-is : (v : Votes) (a : Cursor) → CursorIs v a → (t : Bool) → list_all lane_wins (take a.rules a.lanes) ≡ t
+    → wins_at v.rules a.place a.prefix ≡ t
 win-is v a is t h = sym (lanes-win v.members a.place a.prefix v.rules (take a.rules a.lanes) is.lanes) ∙ h
 
 -- a prefix that reaches and does not win has a place after it
-module _ (v : Votes) (a : Cursor) (is : CursorIs v a) (reach : list_all (lane_reaches a.place) (take a.rules a.lanes) ≡ true) (lose : list_all lane_wins (take a.rules a.lanes) ≡ false) where
+module _ (v : Votes) (a : Cursor) (is : CursorIs v a) (reach : list_all (lane_reaches a.place) (take a.rules a.lanes) ≡ true)
+    (lose : list_all lane_wins (take a.rules a.lanes) ≡ false) where
   pub in-room : a.place < v.members
   in-room =
       elim (cases_lt a.place v.members) [
         | inl less ↦ less
-        | inr past ↦ absurd (both_ways _ (win-is v a is false lose) (sym (full-reach v.members v.rules is.game.rules a.place a.prefix past) ∙ reach-is v a is true reach))
+        | inr past ↦ absurd (both_ways _ (win-is v a is false lose)
+            (sym (full-reach v.members v.rules is.game.rules a.place a.prefix past) ∙ reach-is v a is true reach))
       ]
 
   pub in-fits : All (λ l. l.sum + get_or l.weights a.place 0 < 2 ^ 64) (take a.rules a.lanes)
   in-fits = fits-in v.members a.place a.prefix v.rules (take a.rules a.lanes) in-room is.lanes
 
 -- the next member is taken in
-pub enter-in : (v : Votes) (a : Cursor) (ls : List Lane) (t : ℕ) → t ≡ min (a.visits + 1) (2 ^ 64 - 1) → a.visits < 2 ^ 64 → CursorIs v a → a.fresh ≡ true
-    → list_all (lane_reaches a.place) (take a.rules a.lanes) ≡ true → list_all lane_wins (take a.rules a.lanes) ≡ false → a.rules ≤ length ls → take a.rules ls ≡ map (lane_with a.place) (take a.rules a.lanes)
+pub enter-in : (v : Votes) (a : Cursor) (ls : List Lane) (t : ℕ) → t ≡ min (a.visits + 1) (2 ^ 64 - 1) → a.visits < 2 ^ 64 → CursorIs v a
+    → a.fresh ≡ true
+    → list_all (lane_reaches a.place) (take a.rules a.lanes) ≡ true → list_all lane_wins (take a.rules a.lanes) ≡ false
+    → a.rules ≤ length ls → take a.rules ls ≡ map (lane_with a.place) (take a.rules a.lanes)
     → Steps v a On (record a { lanes = ls; prefix = 2 * a.prefix + 1; place = a.place + 1; visits = t })
 enter-in v a ls t counted holds is fresh reach lose room taken =
     let below = in-room v a is reach lose in
@@ -254,9 +275,11 @@ enter-in v a ls t counted holds is fresh reach lose room taken =
     let bounds = ap (λ (i : ℕ). i * 2 ^ (v.members - (a.place + 1))) twice ∙ halves v.members a.place (a.prefix + 1) below in
     let same = ap (slice_below v a.bits a.number) bounds in
     let lt : a.bits < a.place + 1 = omega (arith, is.place.from) in
-    let w : cond (ltb a.bits (a.place + 1)) ((2 * a.prefix + 1) % 2) a.bits ≡ (2 * a.prefix + 1) % 2 = cond-true (ltb a.bits (a.place + 1)) _ _ (lt-ltb a.bits (a.place + 1) lt) in
+    let w : cond (ltb a.bits (a.place + 1)) ((2 * a.prefix + 1) % 2) a.bits ≡ (2 * a.prefix + 1) % 2 =
+    cond-true (ltb a.bits (a.place + 1)) _ _ (lt-ltb a.bits (a.place + 1) lt) in
     let old = cond-true (reaches v.rules a.place a.prefix) (a.place - a.bits) 0 can in
-    let new = cond-true (reaches v.rules (a.place + 1) (2 * a.prefix + 1)) (a.place + 1 - a.bits) 0 (reaches-in v.members v.rules is.game.rules a.place a.prefix below can) in
+    let new = cond-true (reaches v.rules (a.place + 1) (2 * a.prefix + 1)) (a.place + 1 - a.bits) 0
+    (reaches-in v.members v.rules is.game.rules a.place a.prefix below can) in
     let few : length (slice v a.bits a.number) ≤ 2 ^ 40 = slice-short v a.bits a.number is.game in
     record {
       follows = follows-at v _ ls (a.place + 1) (2 * a.prefix + 1) true t is (omega arith) room
@@ -272,36 +295,46 @@ enter-in v a ls t counted holds is fresh reach lose room taken =
 
 -- ---- a winning prefix
 won-left : (v : Votes) (a : Cursor) → CursorIs v a → wins_at v.rules a.place a.prefix ≡ true
-    → slice_below v a.bits a.number ((a.prefix + 1) * 2 ^ (v.members - a.place)) ≡ slice_below v a.bits a.number (a.prefix * 2 ^ (v.members - a.place) + 1)
+    → slice_below v a.bits a.number ((a.prefix + 1) * 2 ^ (v.members - a.place)) ≡ slice_below v a.bits a.number
+    (a.prefix * 2 ^ (v.members - a.place) + 1)
 won-left v a is = left-won v a.bits a.number a.place a.prefix is.game is.place.to
 
 -- there was a visit for it
-won-visited : (v : Votes) (a : Cursor) → CursorIs v a → wins_at v.rules a.place a.prefix ≡ true → 1 ≤ cond (ltb a.bits a.place) (a.prefix % 2) a.bits
+won-visited : (v : Votes) (a : Cursor) → CursorIs v a → wins_at v.rules a.place a.prefix ≡ true
+    → 1 ≤ cond (ltb a.bits a.place) (a.prefix % 2) a.bits
 won-visited v a is won =
     elim (cases_lt a.bits a.place) [
       | inl lt ↦
-          let odd : a.prefix % 2 ≡ 1 = won-odd v.members a.place a.prefix v.rules (omega arith) is.place.to is.game.rules won (is.place.passed lt) in
-          let t : cond (ltb a.bits a.place) (a.prefix % 2) a.bits ≡ a.prefix % 2 = cond-true (ltb a.bits a.place) _ _ (lt-ltb a.bits a.place lt) in
+          let odd : a.prefix % 2 ≡ 1 =
+          won-odd v.members a.place a.prefix v.rules (omega arith) is.place.to is.game.rules won (is.place.passed lt) in
+          let t : cond (ltb a.bits a.place) (a.prefix % 2) a.bits ≡ a.prefix % 2 =
+          cond-true (ltb a.bits a.place) _ _ (lt-ltb a.bits a.place lt) in
           omega (arith, t, odd)
       | inr ge ↦
-          let t : cond (ltb a.bits a.place) (a.prefix % 2) a.bits ≡ a.bits = cond-false (ltb a.bits a.place) _ _ (le-ltb a.bits a.place ge) in
+          let t : cond (ltb a.bits a.place) (a.prefix % 2) a.bits ≡ a.bits =
+          cond-false (ltb a.bits a.place) _ _ (le-ltb a.bits a.place ge) in
           elim (cases_lt 0 a.bits) [
             | inl some ↦ omega (arith, t)
             | inr none ↦
                 let p0 : a.place ≡ 0 = omega arith in
                 let short : a.prefix < 2 ^ 0 = subst (λ (i : ℕ). a.prefix < 2 ^ i) p0 is.place.short in
                 let x0 : a.prefix ≡ 0 = omega arith in
-                absurd (both_ways _ (empty-loses v.members v.rules is.game.has_rule is.game.rules) (ap (λ (i : ℕ). wins_at v.rules i 0) (sym p0) ∙ ap (wins_at v.rules a.place) (sym x0) ∙ won))
+                absurd (both_ways _ (empty-loses v.members v.rules is.game.has_rule is.game.rules)
+                (ap (λ (i : ℕ). wins_at v.rules i 0) (sym p0) ∙ ap (wins_at v.rules a.place) (sym x0) ∙ won))
           ]
     ]
 
 -- a minimal one is given
-pub enter-give : (v : Votes) (a : Cursor) → CursorIs v a → a.fresh ≡ true → wins_at v.rules a.place a.prefix ≡ true → minimal v (a.prefix * 2 ^ (v.members - a.place)) ≡ true → Steps v a (Give (a.prefix * 2 ^ (v.members - a.place))) (record a { fresh = false })
+pub enter-give : (v : Votes) (a : Cursor) → CursorIs v a → a.fresh ≡ true → wins_at v.rules a.place a.prefix ≡ true
+    → minimal v (a.prefix * 2 ^ (v.members - a.place)) ≡ true
+    → Steps v a (Give (a.prefix * 2 ^ (v.members - a.place))) (record a { fresh = false })
 enter-give v a is fresh won min =
     known v a (Give (a.prefix * 2 ^ (v.members - a.place))) (λ _. record a { fresh = false }) true fresh (λ is.
     let now : Cursor = record a { fresh = true } in
     let given = won-left v now is won
-    ∙ left-take v a.bits a.number (a.prefix * 2 ^ (v.members - a.place)) min (in-slice v.members a.bits a.place a.prefix is.place.from is.place.to ∙ is.place.inside) in
+    ∙ left-take v a.bits a.number
+    (a.prefix * 2 ^ (v.members - a.place)) min (in-slice v.members a.bits a.place a.prefix is.place.from is.place.to
+    ∙ is.place.inside) in
     let visited = won-visited v now is won in
     let extra = open-most v a.place a.prefix (a.place - a.bits) in
     record {
@@ -317,10 +350,12 @@ enter-give v a is fresh won min =
 pub enter-short : (v : Votes) (a : Cursor) → CursorIs v a → a.prefix * 2 ^ (v.members - a.place) < 2 ^ v.members
 enter-short v a is =
     let e : a.place + (v.members - a.place) ≡ v.members = omega arith in
-    let s : a.prefix * 2 ^ (v.members - a.place) < 2 ^ (a.place + (v.members - a.place)) = shl_below a.prefix a.place (v.members - a.place) is.place.short in
+    let s : a.prefix * 2 ^ (v.members - a.place) < 2 ^ (a.place + (v.members - a.place)) =
+    shl_below a.prefix a.place (v.members - a.place) is.place.short in
     subst (λ (i : ℕ). a.prefix * 2 ^ (v.members - a.place) < 2 ^ i) e s
 
-pub enter-mask : (v : Votes) (a : Cursor) → CursorIs v a → a.prefix * 2 ^ (a.members - a.place) % 2 ^ 64 ≡ a.prefix * 2 ^ (v.members - a.place)
+pub enter-mask : (v : Votes) (a : Cursor)
+    → CursorIs v a → a.prefix * 2 ^ (a.members - a.place) % 2 ^ 64 ≡ a.prefix * 2 ^ (v.members - a.place)
 enter-mask v a is =
     ap (λ (i : ℕ). a.prefix * 2 ^ (i - a.place) % 2 ^ 64) is.members
     ∙ shl_whole a.prefix a.place (v.members - a.place) 64 is.place.short (omega arith)
@@ -338,7 +373,8 @@ even-loses v a is lt even won =
     omega (arith, even, odd)
 
 -- between two calls no descent is under way
-pub rest-most : (v : Votes) (a : Cursor) → CursorIs v a → (a.fresh ≡ true → a.place ≡ a.bits) → length v.rules ≡ 1 → a.visits + (v.members - a.bits) * length (rest_of_slice v a) ≤ a.bits + (v.members - a.bits) * length (slice v a.bits a.number)
+pub rest-most : (v : Votes) (a : Cursor) → CursorIs v a → (a.fresh ≡ true → a.place ≡ a.bits) → length v.rules ≡ 1
+    → a.visits + (v.members - a.bits) * length (rest_of_slice v a) ≤ a.bits + (v.members - a.bits) * length (slice v a.bits a.number)
 rest-most v a is rests one =
     let none : open_visits v a ≡ 0 = cond_both a.fresh (cond (reaches v.rules a.place a.prefix) (a.place - a.bits) 0) 0 (λ i. i ≡ 0)
     (λ fresh. (let at_rest = rests fresh in let extra = open-most v a.place a.prefix (a.place - a.bits) in omega arith)) (λ _. refl) in

@@ -15,7 +15,8 @@ use Rattle.mwc_walk.proofs.Rules.{weight-step, weight-over, rest-step}
 sub-leb : (a b c : ℕ) → leb (a - b) c ≡ leb a (b + c)
 sub-leb a b c = grind (arith, nat_tests)
 
-pub lanes-reach : (n p x : ℕ) (rs : List RuleView) (ls : List Lane) → p ≤ n → LanesAre n p x rs ls → list_all (lane_reaches p) ls ≡ reaches rs p x
+pub lanes-reach : (n p x : ℕ) (rs : List RuleView) (ls : List Lane) → p ≤ n → LanesAre n p x rs ls
+    → list_all (lane_reaches p) ls ≡ reaches rs p x
 unfolding reaches
 lanes-reach n p x rs ls le are =
     list_all-beside (LaneIs n p x) _ _ (λ r l is.
@@ -26,7 +27,8 @@ unfolding wins_at
 lanes-win n p x rs ls are = list_all-beside (LaneIs n p x) _ _ (λ r l is. rw (is.quota, is.sum_is) refl) rs ls are
 
 -- the lane at another prefix
-lane-at : {n p q x y : ℕ} {r : RuleView} {l : Lane} (s : ℕ) → LaneIs n p x r l → s ≡ weight (take q r.weights) y → LaneIs n q y r (record l { sum = s })
+lane-at : {n p q x y : ℕ} {r : RuleView} {l : Lane} (s : ℕ) → LaneIs n p x r l → s ≡ weight (take q r.weights) y
+    → LaneIs n q y r (record l { sum = s })
 lane-at s is e = record {
   rule = is.rule;
   quota = is.quota;
@@ -37,19 +39,29 @@ lane-at s is e = record {
 }
 
 -- place p is taken in
-pub lanes-in : (n p x : ℕ) (rs : List RuleView) (ls : List Lane) → p < n → LanesAre n p x rs ls → LanesAre n (p + 1) (2 * x + 1) rs (map (lane_with p) ls)
+pub lanes-in : (n p x : ℕ) (rs : List RuleView) (ls : List Lane) → p < n → LanesAre n p x rs ls
+    → LanesAre n (p + 1) (2 * x + 1) rs (map (lane_with p) ls)
 lanes-in n p x rs ls below are =
     AllZip-moved (LaneIs n p x) (LaneIs n (p + 1) (2 * x + 1)) (lane_with p) (λ r l is.
     lane-at _ is (omega (arith, weight-step is.rule p x 1 below (omega arith), is.sum_is, is.weights p below))) rs ls are
 
 -- it comes out again
-pub lanes-out : (n p y : ℕ) (rs : List RuleView) (ls : List Lane) → p < n → LanesAre n (p + 1) (2 * y + 1) rs ls → LanesAre n (p + 1) (2 * y) rs (map (lane_without p) ls)
+pub lanes-out : (n p y : ℕ) (rs : List RuleView) (ls : List Lane) → p < n → LanesAre n (p + 1) (2 * y + 1) rs ls
+    → LanesAre n (p + 1) (2 * y) rs (map (lane_without p) ls)
 lanes-out n p y rs ls below are =
     AllZip-moved (LaneIs n (p + 1) (2 * y + 1)) (LaneIs n (p + 1) (2 * y)) (lane_without p) (λ r l is.
-    lane-at _ is (omega (arith, weight-step is.rule p y 1 below (omega arith), weight-over is.rule p y below, is.sum_is, is.weights p below))) rs ls are
+    lane-at _ is (omega (
+      arith,
+      weight-step is.rule p y 1 below (omega arith),
+      weight-over is.rule p y below,
+      is.sum_is,
+      is.weights p below,
+    ))) rs ls are
 
 -- the same lanes at another prefix
-lanes-stay : (n p q x y : ℕ) (rs : List RuleView) (ls : List Lane) → ((r : RuleView) → IsRule n r → weight (take p r.weights) x ≡ weight (take q r.weights) y) → LanesAre n p x rs ls → LanesAre n q y rs ls
+lanes-stay : (n p q x y : ℕ) (rs : List RuleView) (ls : List Lane)
+    → ((r : RuleView) → IsRule n r → weight (take p r.weights) x ≡ weight (take q r.weights) y) → LanesAre n p x rs ls
+    → LanesAre n q y rs ls
 lanes-stay n p q x y rs ls same are =
     rw map-id at (AllZip-moved (LaneIs n p x) (LaneIs n q y) (λ l. l) (λ r l is. lane-at l.sum is (is.sum_is ∙ same r is.rule)) rs ls are)
 
@@ -61,14 +73,16 @@ lanes-up n p y rs ls below = lanes-stay n (p + 1) p (2 * y) y rs ls (λ r is. we
 pub lanes-pass : (n p y : ℕ) (rs : List RuleView) (ls : List Lane) → p < n → LanesAre n p y rs ls → LanesAre n (p + 1) (2 * y) rs ls
 lanes-pass n p y rs ls below = lanes-stay n p (p + 1) y (2 * y) rs ls (λ r is. sym (weight-over is p y below))
 
-pub fits-in : (n p x : ℕ) (rs : List RuleView) (ls : List Lane) → p < n → LanesAre n p x rs ls → All (λ l. l.sum + get_or l.weights p 0 < 2 ^ 64) ls
+pub fits-in : (n p x : ℕ) (rs : List RuleView) (ls : List Lane) → p < n → LanesAre n p x rs ls
+    → All (λ l. l.sum + get_or l.weights p 0 < 2 ^ 64) ls
 fits-in n p x rs ls below are =
     All-beside (LaneIs n p x) (λ l. l.sum + get_or l.weights p 0 < 2 ^ 64) (λ r l is.
     let cut : sum (take p r.weights) + sum (drop p r.weights) ≡ sum r.weights = sum_by-take-drop (λ (y : ℕ). y) r.weights p in
     let most : weight (take p r.weights) x ≤ sum (take p r.weights) = weight-le (take p r.weights) x in
     omega (arith, cut, rest-step is.rule p below, most, is.rule.light, is.sum_is, is.weights p below)) rs ls are
 
-pub fits-out : (n p y : ℕ) (rs : List RuleView) (ls : List Lane) → p < n → LanesAre n (p + 1) (2 * y + 1) rs ls → All (λ l. get_or l.weights p 0 ≤ l.sum) ls
+pub fits-out : (n p y : ℕ) (rs : List RuleView) (ls : List Lane) → p < n → LanesAre n (p + 1) (2 * y + 1) rs ls
+    → All (λ l. get_or l.weights p 0 ≤ l.sum) ls
 fits-out n p y rs ls below are =
     All-beside (LaneIs n (p + 1) (2 * y + 1)) (λ l. get_or l.weights p 0 ≤ l.sum) (λ r l is.
     omega (arith, weight-step is.rule p y 1 below (omega arith), is.sum_is, is.weights p below)) rs ls are
@@ -78,17 +92,20 @@ zero-at zero q = refl
 zero-at (suc n) zero = refl
 zero-at (suc n) (suc q) = zero-at n q
 
-pub same-weights : (n : ℕ) (ws vs : List ℕ) → n ≤ length ws → length vs ≡ n → ((q : ℕ) → q < n → get_or ws q 0 ≡ get_or vs q 0) → take n ws ≡ vs
+pub same-weights : (n : ℕ) (ws vs : List ℕ) → n ≤ length ws → length vs ≡ n → ((q : ℕ) → q < n → get_or ws q 0 ≡ get_or vs q 0)
+    → take n ws ≡ vs
 same-weights n ws vs le long same =
     let size : length (take n ws) ≡ n = length-take-le n ws le in
     ext_get_or 0 (take n ws) vs (size ∙ sym long) (λ i below.
     let lt : i < n = omega (arith, size) in
     get_or-take n ws i 0 lt ∙ same i lt)
 
-pub fills-down : (ws : List ℕ) (m p : ℕ) (rest : List ℕ) → m ≤ length ws → p < m → get_or rest (p + 1) 0 ≡ sum (drop (p + 1) (take m ws)) → get_or ws p 0 + get_or rest (p + 1) 0 ≡ sum (drop p (take m ws))
+pub fills-down : (ws : List ℕ) (m p : ℕ) (rest : List ℕ) → m ≤ length ws → p < m → get_or rest (p + 1) 0 ≡ sum (drop (p + 1) (take m ws))
+    → get_or ws p 0 + get_or rest (p + 1) 0 ≡ sum (drop p (take m ws))
 fills-down ws m p rest le below here =
     let size : length (take m ws) ≡ m = length-take-le m ws le in
-    let more : sum (drop p (take m ws)) ≡ get_or (take m ws) p 0 + sum (drop (p + 1) (take m ws)) = sum_by-drop_more (λ (y : ℕ). y) (take m ws) p 0 (omega arith) in
+    let more : sum (drop p (take m ws)) ≡ get_or (take m ws) p 0 + sum (drop (p + 1) (take m ws)) =
+    sum_by-drop_more (λ (y : ℕ). y) (take m ws) p 0 (omega arith) in
     let same : get_or (take m ws) p 0 ≡ get_or ws p 0 = get_or-take m ws p 0 below in
     omega (arith, more, same, here)
 
@@ -98,7 +115,8 @@ drop-most xs p = omega (arith, sum_by-take-drop (λ (y : ℕ). y) xs p)
 pub weight-none : (ws : List ℕ) → 0 ≡ weight (take 0 ws) 0
 weight-none ws = sym (weight-zero (take 0 ws))
 
-pub lanes-from : (n p x : ℕ) (rs : List RuleView) (ls : List Lane) → length rs ≤ length ls → ((i : ℕ) → i < length rs → (d : Lane) → LaneIs n p x (rule_at rs i) (get_or ls i d)) → LanesAre n p x rs (take (length rs) ls)
+pub lanes-from : (n p x : ℕ) (rs : List RuleView) (ls : List Lane) → length rs ≤ length ls
+    → ((i : ℕ) → i < length rs → (d : Lane) → LaneIs n p x (rule_at rs i) (get_or ls i d)) → LanesAre n p x rs (take (length rs) ls)
 lanes-from n p x [] ls le is = tt
 lanes-from n p x (r ∷ rs) [] le is = absurd (omega arith)
 lanes-from n p x (r ∷ rs) (l ∷ ls) le is =

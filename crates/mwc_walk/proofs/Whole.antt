@@ -12,7 +12,8 @@ pub one-slice : (v : Votes) → IsVotes v → slice v 0 0 ≡ minimal_coalitions
 one-slice v game = sym (append-nil (slice v 0 0)) ∙ slices-joined v 0 (omega arith) (omega arith)
 
 -- a walk at its end gave all
-pub lists-all : (g : GameView) (most : ℕ) (list : List ℕ) → IsVotes (votes_of g) → list ++ [] ≡ slice (votes_of g) 0 0 → length list ≤ most → ListsAll g most list
+pub lists-all : (g : GameView) (most : ℕ) (list : List ℕ) → IsVotes (votes_of g) → list ++ [] ≡ slice (votes_of g) 0 0 → length list ≤ most
+    → ListsAll g most list
 lists-all g most list game joined few =
     let whole : list ≡ minimal_coalitions (votes_of g) = sym (append-nil list) ∙ joined ∙ one-slice (votes_of g) game in
     let listing = listing-is (votes_of g) game in
@@ -26,7 +27,8 @@ lists-all g most list game joined few =
     }
 
 -- a walk with more to come has more
-pub more-than : (v : Votes) (most c : ℕ) (list rest to_come : List ℕ) → IsVotes v → list ++ to_come ≡ slice v 0 0 → to_come ≡ c ∷ rest → most ≤ length list → most < length (minimal_coalitions v)
+pub more-than : (v : Votes) (most c : ℕ) (list rest to_come : List ℕ) → IsVotes v → list ++ to_come ≡ slice v 0 0 → to_come ≡ c ∷ rest
+    → most ≤ length list → most < length (minimal_coalitions v)
 more-than v most c list rest to_come game joined next many =
     let whole : list ++ to_come ≡ minimal_coalitions v = joined ∙ one-slice v game in
     let all = ap length whole in

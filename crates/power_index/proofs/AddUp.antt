@@ -19,7 +19,8 @@ over_one : (k : ℕ) (q : ℕ → ℕ × ℕ) (w : ℕ → ℕ) → ((i : ℕ) �
     → (pair_sum (map q is)).0 * k ≡ sum_by w is * (pair_sum (map q is)).1
 over_one k q w each [] = omega arith
 over_one k q w each (i ∷ is) =
-    rw (sum_by-cons w i is) (step (q i).0 (q i).1 (w i) (pair_sum (map q is)).0 (pair_sum (map q is)).1 (sum_by w is) (each i) (over_one k q w each is))
+    rw (sum_by-cons w i is)
+    (step (q i).0 (q i).1 (w i) (pair_sum (map q is)).0 (pair_sum (map q is)).1 (sum_by w is) (each i) (over_one k q w each is))
   where
     step : (a b w t u s : ℕ) → a * k ≡ w * b → t * k ≡ s * u → (a * u + t * b) * k ≡ (w + s) * (b * u)
     step a b w t u s e ih = omega (arith, ap (λ v. v * u) e, ap (λ v. v * b) ih)
@@ -28,7 +29,8 @@ all_pos : (q : ℕ → ℕ × ℕ) → ((i : ℕ) → 0 < (q i).1) → (is : Lis
 all_pos q each [] = omega arith
 all_pos q each (i ∷ is) = mul-pos (each i) (all_pos q each is)
 
-adds_up : (k : ℕ) (q : ℕ → ℕ × ℕ) (w : ℕ → ℕ) (is : List ℕ) → 0 < k → ((i : ℕ) → (q i).0 * k ≡ w i * (q i).1) → ((i : ℕ) → 0 < (q i).1) → sum_by w is ≡ k → AddUpToOne (map q is)
+adds_up : (k : ℕ) (q : ℕ → ℕ × ℕ) (w : ℕ → ℕ) (is : List ℕ) → 0 < k → ((i : ℕ) → (q i).0 * k ≡ w i * (q i).1) → ((i : ℕ) → 0 < (q i).1)
+    → sum_by w is ≡ k → AddUpToOne (map q is)
 adds_up k q w is pos each bottoms whole = record {
   positive = all_pos q bottoms is;
   one = go (pair_sum (map q is)).0 (pair_sum (map q is)).1 (over_one k q w each is);
@@ -41,7 +43,8 @@ adds_up k q w is pos each bottoms whole = record {
         omega (arith, s)
 
 -- each coalition weighs its size times the unit fraction of its size
-whole_weight : (g : GameView) (list : List ℕ) → length g.names ≤ 40 → AreNonemptyCoalitions g list → sum_by (λ c. size_of g c * (denominator / size_of g c)) list ≡ length list * denominator
+whole_weight : (g : GameView) (list : List ℕ) → length g.names ≤ 40 → AreNonemptyCoalitions g list
+    → sum_by (λ c. size_of g c * (denominator / size_of g c)) list ≡ length list * denominator
 whole_weight g [] few h = omega arith
 whole_weight g (c ∷ cs) few h =
     let head = h 0 c (omega arith) in
@@ -60,24 +63,31 @@ weights g list game h =
     unit c = denominator / size_of g c
 
     own : (i : ℕ) → sum_by (λ s. denominator / s) (sizes_of_member g list i) ≡ sum_by (λ c. cond (contains g i c) 1 0 * unit c) list
-    own i = fold-map (λ (a : ℕ) (s : ℕ). a + denominator / s) (size_of g) 0 (filter (contains g i) list) ∙ sum-filter unit (contains g i) list
+    own i = fold-map (λ (a : ℕ) (s : ℕ). a + denominator / s) (size_of g) 0 (filter (contains g i) list)
+        ∙ sum-filter unit (contains g i) list
 
     each : (c : ℕ) → sum_by (λ i. cond (contains g i c) 1 0 * unit c) (members g) ≡ size_of g c * unit c
     each c = sum-times (λ i. cond (contains g i c) 1 0) (unit c) (members g) ∙ ap (λ n. n * unit c) (members-of g game c)
 
-pub deegan_packel_adds_up : (g : GameView) (list : List ℕ) → IsGame g → 0 < length list → AreNonemptyCoalitions g list → AddUpToOne (map (deegan_packel g list) (members g))
+pub deegan_packel_adds_up : (g : GameView) (list : List ℕ) → IsGame g → 0 < length list → AreNonemptyCoalitions g list
+    → AddUpToOne (map (deegan_packel g list) (members g))
 unfolding deegan_packel
 deegan_packel_adds_up g list game some h =
-    adds_up (denominator * length list) (deegan_packel g list) (λ i. sum_by (λ s. denominator / s) (sizes_of_member g list i)) (members g) (omega arith)
-    (λ i. scale (sum_by (λ s. denominator / s) (sizes_of_member g list i)) (unit_sum (sizes_of_member g list i)).1 (unit_sum (sizes_of_member g list i)).0
-    (over_common denominator (sizes_of_member g list i) (each_divides (length g.names) (sizes_of_member g list i) (few-members g game) (sizes-within g list i (votes-are g game).some))))
+    adds_up (denominator * length list) (deegan_packel g list) (λ i. sum_by (λ s. denominator / s) (sizes_of_member g list i)) (members g)
+    (omega arith)
+    (λ i. scale (sum_by (λ s. denominator / s) (sizes_of_member g list i)) (unit_sum (sizes_of_member g list i)).1
+    (unit_sum (sizes_of_member g list i)).0
+    (over_common denominator
+    (sizes_of_member g list i)
+    (each_divides (length g.names) (sizes_of_member g list i) (few-members g game) (sizes-within g list i (votes-are g game).some))))
     (λ i. mul-pos (bottom_pos (length g.names) (sizes_of_member g list i) (sizes-within g list i (votes-are g game).some)) some)
     (weights g list game h ∙ omega arith)
   where
     scale : (w b a : ℕ) → w * b ≡ a * denominator → a * (denominator * length list) ≡ w * (b * length list)
     scale w b a e = omega (arith, ap (λ v. v * length list) e)
 
-pub public_good_adds_up : (g : GameView) (list : List ℕ) → IsGame g → 0 < length list → AreNonemptyCoalitions g list → AddUpToOne (map (public_good g list) (members g))
+pub public_good_adds_up : (g : GameView) (list : List ℕ) → IsGame g → 0 < length list → AreNonemptyCoalitions g list
+    → AddUpToOne (map (public_good g list) (members g))
 unfolding public_good
 public_good_adds_up g list game some h =
     adds_up (sum_by (λ j. count_of_member g j list) (members g)) (public_good g list) (λ i. count_of_member g i list) (members g) all-some

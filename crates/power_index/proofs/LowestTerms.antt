@@ -21,7 +21,8 @@ found-divides : (a b n : ℕ) → (common_divisor_up_to a b n ∣ a) × (common_
 unfolding common_divisor_up_to
 found-divides a b zero = (one-dvd a, one-dvd b)
 found-divides a b (suc n) =
-    cond_both (divides_both a b (suc n)) (suc n) (common_divisor_up_to a b n) (λ d. (d ∣ a) × (d ∣ b)) (from-test a b (suc n)) (λ fails. found-divides a b n)
+    cond_both (divides_both a b (suc n)) (suc n) (common_divisor_up_to a b n) (λ d. (d ∣ a) × (d ∣ b)) (from-test a b (suc n))
+    (λ fails. found-divides a b n)
 
 -- and no common divisor that it came by is greater
 found-greatest : (a b n d : ℕ) → 0 < d → d ≤ n → d ∣ a → d ∣ b → d ≤ common_divisor_up_to a b n

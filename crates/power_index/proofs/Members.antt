@@ -73,10 +73,12 @@ size-pos-in g i c some h = elim (cases_lt (get_or g.ranks i 0) (length g.names))
       size-pos-at (length g.names) (length g.names - 1) c (omega arith) (ap (λ k. c / 2 ^ k % 2 == 1) (sym low) ∙ h)
 ]
 
-pub sizes-within : (g : GameView) (list : List ℕ) (i : ℕ) → 0 < length g.names → AllByRecursion (λ s. (0 < s) × (s ≤ length g.names)) (sizes_of_member g list i)
+pub sizes-within : (g : GameView) (list : List ℕ) (i : ℕ) → 0 < length g.names
+    → AllByRecursion (λ s. (0 < s) × (s ≤ length g.names)) (sizes_of_member g list i)
 sizes-within g list i some =
     let IsWithin : ℕ → Type 0 = λ s. (0 < s) × (s ≤ length g.names) in
-    let each : (c : ℕ) → contains g i c ≡ true → IsWithin (size_of g c) = λ c in'. (size-pos-in g i c some in', size-le (length g.names) c) in
+    let each : (c : ℕ) → contains g i c ≡ true → IsWithin (size_of g c) =
+    λ c in'. (size-pos-in g i c some in', size-le (length g.names) c) in
     let own : List ℕ = filter (contains g i) list in
     recursion_from_All IsWithin (map (size_of g) own) (All-map IsWithin (size_of g) own
     (All-weaker (λ c. contains g i c ≡ true) (λ c. IsWithin (size_of g c)) each own (filter_passes (contains g i) list)))

@@ -38,8 +38,10 @@ parts a b d q h =
 pub turned : (a b c d : ℕ) → a / b ≡ c / d → nat_cmp (d * (a % b)) (b * (c % d)) ≡ nat_cmp (a * d) (c * b)
 turned a b c d h =
     let first : a * d ≡ b * d * (c / d) + d * (a % b) = parts a b d (c / d) h in
-    let second : c * b ≡ b * d * (c / d) + b * (c % d) = parts c d b (c / d) (λ i. c / d) ∙ ap (λ (n : ℕ). n * (c / d) + b * (c % d)) (omega arith) in
-    sym (shifted (b * d * (c / d)) (d * (a % b)) (b * (c % d))) ∙ sym (ap (λ (n : ℕ). nat_cmp n (c * b)) first ∙ ap (λ (n : ℕ). nat_cmp (b * d * (c / d) + d * (a % b)) n) second)
+    let second : c * b ≡ b * d * (c / d) + b * (c % d) = parts c d b (c / d) (λ i. c / d)
+    ∙ ap (λ (n : ℕ). n * (c / d) + b * (c % d)) (omega arith) in
+    sym (shifted (b * d * (c / d)) (d * (a % b)) (b * (c % d)))
+    ∙ sym (ap (λ (n : ℕ). nat_cmp n (c * b)) first ∙ ap (λ (n : ℕ). nat_cmp (b * d * (c / d) + d * (a % b)) n) second)
 
 -- a smaller quotient is a smaller fraction
 below : (a b c d : ℕ) → 0 < b → 0 < d → a / b < c / d → a * d < c * b
@@ -56,19 +58,27 @@ below a b c d pos pos' h =
         omega (arith, one, more, first, second, pos')
 
 -- where the quotients differ, or nothing is left of one, these and what is left decide
-pub decided : (a b c d : ℕ) → 0 < b → 0 < d → (a / b ≡ c / d → a % b ≢ 0 → c % d ≡ 0) → ordering_then (nat_cmp (a / b) (c / d)) (nat_cmp (a % b) (c % d)) ≡ nat_cmp (a * d) (c * b)
+pub decided : (a b c d : ℕ) → 0 < b → 0 < d → (a / b ≡ c / d → a % b ≢ 0 → c % d ≡ 0)
+    → ordering_then (nat_cmp (a / b) (c / d)) (nat_cmp (a % b) (c % d)) ≡ nat_cmp (a * d) (c * b)
 decided a b c d pos pos' stop = elim (cases_lt (a / b) (c / d)) [
-  | inl lt ↦ ap (λ o. ordering_then o (nat_cmp (a % b) (c % d))) (less (a / b) (c / d) lt) ∙ sym (less (a * d) (c * b) (below a b c d pos pos' lt))
+  | inl lt ↦ ap (λ o. ordering_then o (nat_cmp (a % b) (c % d))) (less (a / b) (c / d) lt)
+      ∙ sym (less (a * d) (c * b) (below a b c d pos pos' lt))
   | inr ge ↦ elim (cases_eq (a / b) (c / d)) [
-    | inl same ↦ ap (λ o. ordering_then o (nat_cmp (a % b) (c % d))) (equal (a / b) (c / d) same) ∙ last (a % b) (c % d) (stop same) ∙ turned a b c d same
+    | inl same ↦ ap (λ o. ordering_then o (nat_cmp (a % b) (c % d))) (equal (a / b) (c / d) same) ∙ last (a % b) (c % d) (stop same)
+        ∙ turned a b c d same
     | inr other ↦
         let gt : c / d < a / b = omega (arith, ge, other) in
-        ap (λ o. ordering_then o (nat_cmp (a % b) (c % d))) (greater (a / b) (c / d) gt) ∙ sym (greater (a * d) (c * b) (below c d a b pos' pos gt))
+        ap (λ o. ordering_then o (nat_cmp (a % b) (c % d))) (greater (a / b) (c / d) gt)
+        ∙ sym (greater (a * d) (c * b) (below c d a b pos' pos gt))
   ]
 ]
   where
     last : (r s : ℕ) → (r ≢ 0 → s ≡ 0) → nat_cmp r s ≡ nat_cmp (d * r) (b * s)
     last zero zero h = equal 0 0 (omega arith) ∙ sym (equal (d * 0) (b * 0) (omega arith))
-    last zero (suc s) h = less 0 (suc s) (omega arith) ∙ sym (less (d * 0) (b * suc s) (let p : b * 1 ≤ b * suc s = mul-le-mul (omega arith) (omega arith) in omega (arith, p, pos)))
-    last (suc r) zero h = greater (suc r) 0 (omega arith) ∙ sym (greater (d * suc r) (b * 0) (let p : d * 1 ≤ d * suc r = mul-le-mul (omega arith) (omega arith) in omega (arith, p, pos')))
+    last zero (suc s) h =
+        less 0 (suc s) (omega arith)
+        ∙ sym (less (d * 0) (b * suc s) (let p : b * 1 ≤ b * suc s = mul-le-mul (omega arith) (omega arith) in omega (arith, p, pos)))
+    last (suc r) zero h =
+        greater (suc r) 0 (omega arith)
+        ∙ sym (greater (d * suc r) (b * 0) (let p : d * 1 ≤ d * suc r = mul-le-mul (omega arith) (omega arith) in omega (arith, p, pos')))
     last (suc r) (suc s) h = absurd (let e : suc s ≡ 0 = h (λ e. omega (arith, e)) in omega (arith, e))

@@ -12,7 +12,8 @@ use Rattle.power_index.proofs.Units.{mean, bottom_pos}
 use Rattle.power_index.proofs.Weights.{within, weight, memberships-are}
 
 pub deegan-packel-is : (g : GameView) (list : List ℕ) (t : Tables) (i top bottom : ℕ) → i < t.members → t.members ≤ 40 → AreCounts g list t
-    → IsLowestOf (weighted_sum denominator (table_of_member_size t i) t.members, denominator * table_total t) (top, bottom) → IsLowestOf (deegan_packel g list i) (top, bottom)
+    → IsLowestOf (weighted_sum denominator (table_of_member_size t i) t.members, denominator * table_total t) (top, bottom)
+    → IsLowestOf (deegan_packel g list i) (top, bottom)
 unfolding deegan_packel
 deegan-packel-is g list t i top bottom lt few h is = record {
   positive = is.positive;
@@ -21,9 +22,11 @@ deegan-packel-is g list t i top bottom lt few h is = record {
   lowest = is.lowest;
 }
 
-pub deegan-packel-bottom : (g : GameView) (list : List ℕ) (t : Tables) (i : ℕ) → i < t.members → 1 ≤ table_total t → AreCounts g list t → 0 < (deegan_packel g list i).1
+pub deegan-packel-bottom : (g : GameView) (list : List ℕ) (t : Tables) (i : ℕ) → i < t.members → 1 ≤ table_total t → AreCounts g list t
+    → 0 < (deegan_packel g list i).1
 unfolding deegan_packel
-deegan-packel-bottom g list t i lt some h = mul-pos (bottom_pos (length g.names) (sizes_of_member g list i) (within g list t i lt h)) (omega (arith, some, h.total))
+deegan-packel-bottom g list t i lt some h =
+    mul-pos (bottom_pos (length g.names) (sizes_of_member g list i) (within g list t i lt h)) (omega (arith, some, h.total))
 
 at-most-one : (sum whole top bottom : ℕ) → 0 < whole → sum ≤ whole → top * whole ≡ sum * bottom → top ≤ bottom
 at-most-one sum whole top bottom pos le same =
@@ -31,12 +34,15 @@ at-most-one sum whole top bottom pos le same =
     let both : top * whole ≤ bottom * whole = omega (arith, up, same) in
     le_of_mul-le-mul_right both pos
 
-pub deegan-packel-le : (t : Tables) (i top bottom : ℕ) → 1 ≤ table_total t → weighted_sum denominator (table_of_member_size t i) t.members ≤ denominator * table_total t
+pub deegan-packel-le : (t : Tables) (i top bottom : ℕ) → 1 ≤ table_total t
+    → weighted_sum denominator (table_of_member_size t i) t.members ≤ denominator * table_total t
     → IsLowestOf (weighted_sum denominator (table_of_member_size t i) t.members, denominator * table_total t) (top, bottom) → top ≤ bottom
 deegan-packel-le t i top bottom some light is =
-    at-most-one (weighted_sum denominator (table_of_member_size t i) t.members) (denominator * table_total t) top bottom (omega arith) light is.same
+    at-most-one (weighted_sum denominator (table_of_member_size t i) t.members) (denominator * table_total t) top bottom
+    (omega arith) light is.same
 
-pub public-good-bottom : (g : GameView) (list : List ℕ) (t : Tables) (i : ℕ) → 1 ≤ table_memberships t → AreCounts g list t → 0 < (public_good g list i).1
+pub public-good-bottom : (g : GameView) (list : List ℕ) (t : Tables) (i : ℕ) → 1 ≤ table_memberships t → AreCounts g list t
+    → 0 < (public_good g list i).1
 unfolding public_good
 public-good-bottom g list t i some h = let e = memberships-are g list t h in omega (arith, some, e)
 

@@ -28,7 +28,8 @@ lowest-below k p h =
     (omega (arith, div-le_self p.0 d, h.0), omega (arith, div-le_self p.1 d, h.1))
 
 -- the Deegan-Packel index as a sum over one denominator, which all sizes divide
-pub deegan_packel-wide : (g : GameView) (list : List ℕ) (i : ℕ) → IsGame g → 0 < length list → length list ≤ 2 ^ 40 → AreBelow (10 ^ 28) (lowest_terms (deegan_packel g list i))
+pub deegan_packel-wide : (g : GameView) (list : List ℕ) (i : ℕ) → IsGame g → 0 < length list → length list ≤ 2 ^ 40
+    → AreBelow (10 ^ 28) (lowest_terms (deegan_packel g list i))
 unfolding deegan_packel
 deegan_packel-wide g list i game some few =
     let sizes : List ℕ = sizes_of_member g list i in
@@ -41,17 +42,22 @@ deegan_packel-wide g list i game some few =
     let lowest = lowest_terms-lowest (sum, whole) (omega (arith, some)) in
     let same : IsLowestOf (deegan_packel g list i) (lowest_terms (sum, whole)) = record {
       positive = lowest.positive;
-      same = mean (length g.names) sizes (length list) (lowest_terms (sum, whole)).0 (lowest_terms (sum, whole)).1 (few-members g game) within lowest.same;
+      same = mean (length g.names) sizes (length list) (lowest_terms (sum, whole)).0 (lowest_terms (sum, whole)).1
+          (few-members g game) within lowest.same;
       lowest = lowest.lowest;
     } in
-    let one = lowest_terms-only (deegan_packel g list i) (lowest_terms (sum, whole)) (mul-pos (bottom_pos (length g.names) sizes within) some) same in
+    let one = lowest_terms-only (deegan_packel g list i) (lowest_terms (sum, whole))
+    (mul-pos (bottom_pos (length g.names) sizes within) some) same in
     subst (AreBelow (10 ^ 28)) one (lowest-below (10 ^ 28) (sum, whole) (omega (arith, bound, count, less, few), omega (arith, few)))
 
-pub public_good-wide : (g : GameView) (list : List ℕ) (i : ℕ) → IsGame g → length list ≤ 2 ^ 40 → AreBelow (10 ^ 28) (lowest_terms (public_good g list i))
+pub public_good-wide : (g : GameView) (list : List ℕ) (i : ℕ) → IsGame g → length list ≤ 2 ^ 40
+    → AreBelow (10 ^ 28) (lowest_terms (public_good g list i))
 unfolding public_good
 public_good-wide g list i game few =
     let all : sum_by (λ j. count_of_member g j list) (members g) ≤ length (members g) * 2 ^ 40 =
-    sum_by-le (λ j. count_of_member g j list) (2 ^ 40) (members g) (λ k d lt. let less = length-filter-le (contains g (get_or (members g) k d)) list in omega (arith, less, few)) in
+    sum_by-le (λ j. count_of_member g j list) (2 ^ 40) (members g)
+    (λ k d lt. let less = length-filter-le (contains g (get_or (members g) k d)) list in omega (arith, less, few)) in
     let forty : length (members g) ≤ 40 = omega (arith, few-members g game, length-range_with_len 0 (length g.names)) in
     let own = length-filter-le (contains g i) list in
-    lowest-below (10 ^ 28) (count_of_member g i list, sum_by (λ j. count_of_member g j list) (members g)) (omega (arith, own, few), omega (arith, all, forty))
+    lowest-below (10 ^ 28) (count_of_member g i list, sum_by (λ j. count_of_member g j list) (members g))
+    (omega (arith, own, few), omega (arith, all, forty))

@@ -21,7 +21,8 @@ filter-all [] = refl
 filter-all (c ∷ cs) = ap (λ n. suc n) (filter-all cs)
 
 -- the tally of a member's coalitions
-member-tallies : (g : GameView) (list : List ℕ) (t : Tables) (i : ℕ) → i < t.members → AreTallies g list t → IsTallyOf (length g.names) (contains g i) list (get_or t.each (get_or t.ranks i 0) no_tally)
+member-tallies : (g : GameView) (list : List ℕ) (t : Tables) (i : ℕ) → i < t.members → AreTallies g list t
+    → IsTallyOf (length g.names) (contains g i) list (get_or t.each (get_or t.ranks i 0) no_tally)
 member-tallies g list t i lt h =
     subst (λ (p : ℕ). IsTallyOf (length g.names) (contains g i) list (get_or t.each p no_tally)) (sym (h.of_game.ranks i lt))
     (h.tallies.each (get_or g.ranks i 0) ((ranks-are g h.of_game.is_game).place_below i (omega (arith, h.of_game.members))))
@@ -30,7 +31,8 @@ member-tallies g list t i lt h =
 pub total-is : (g : GameView) (list : List ℕ) (t : Tables) → AreTallies g list t → table_total t ≡ length list
 total-is g list t h =
     let few = few-members g h.of_game.is_game in
-    ap (λ (n : ℕ). tally_total n t.all) h.of_game.members ∙ (tallies-total (length g.names) (λ c. true) list t.all few h.tallies.all ∙ filter-all list)
+    ap (λ (n : ℕ). tally_total n t.all) h.of_game.members
+    ∙ (tallies-total (length g.names) (λ c. true) list t.all few h.tallies.all ∙ filter-all list)
 
 pub tallies-are_counts : (g : GameView) (list : List ℕ) (t : Tables) → AreTallies g list t → AreCounts g list t
 tallies-are_counts g list t h =
@@ -39,11 +41,13 @@ tallies-are_counts g list t h =
       members = h.of_game.members;
       total = total-is g list t h;
       of_size = λ s le. h.tallies.all.sizes s (omega (arith, h.of_game.members));
-      of_member = λ i lt. ap (λ (n : ℕ). tally_total n (get_or t.each (get_or t.ranks i 0) no_tally)) h.of_game.members ∙ tallies-total (length g.names) (contains g i) list _ few (member-tallies g list t i lt h);
+      of_member = λ i lt. ap (λ (n : ℕ). tally_total n (get_or t.each (get_or t.ranks i 0) no_tally)) h.of_game.members
+          ∙ tallies-total (length g.names) (contains g i) list _ few (member-tallies g list t i lt h);
       of_member_size = λ i s lt le. (member-tallies g list t i lt h).sizes s (omega (arith, h.of_game.members));
     }
 
-pub counts-sound : (most : ℕ) (g : GameView) (list : List ℕ) (t : Tables) → IsGame g → 1 ≤ length list → length list ≤ most → AreNonemptyCoalitions g list
+pub counts-sound : (most : ℕ) (g : GameView) (list : List ℕ) (t : Tables) → IsGame g → 1 ≤ length list → length list ≤ most
+    → AreNonemptyCoalitions g list
     → AreCounts g list t → AreWithin most t
 counts-sound most g list t game some few within h = record {
   some_members = omega (arith, h.members, (votes-are g game).some);
@@ -52,7 +56,8 @@ counts-sound most g list t game some few within h = record {
   few = omega (arith, h.total);
   few_of_size = λ s le. omega (arith, h.of_size s le, length-filter-le (λ c. size_of g c == s) list);
   few_of_member = λ i lt. omega (arith, h.of_member i lt, length-filter-le (contains g i) list);
-  few_of_member_size = λ i s lt le. omega (arith, h.of_member_size i s lt le, length-filter-le (λ c. contains g i c && (size_of g c == s)) list);
+  few_of_member_size =
+      λ i s lt le. omega (arith, h.of_member_size i s lt le, length-filter-le (λ c. contains g i c && (size_of g c == s)) list);
   memberships = omega (arith, memberships-are g list t h, memberships g list game, sizes-some g list (few-members g game) within);
   light = λ i lt. weight-light g list t i lt h;
 }
@@ -64,7 +69,8 @@ some-counts t h = tallies-are_counts h.game h.list t h.tallies
 pub some-within : (most : ℕ) (t : Tables) → AreOfSomeList t → 1 ≤ table_total t → table_total t ≤ most → AreWithin most t
 some-within most t h some few =
     let counts = some-counts t h in
-    counts-sound most h.game h.list t h.tallies.of_game.is_game (omega (arith, some, counts.total)) (omega (arith, few, counts.total)) h.coalitions counts
+    counts-sound most h.game h.list t h.tallies.of_game.is_game (omega (arith, some, counts.total))
+    (omega (arith, few, counts.total)) h.coalitions counts
 
 pub some-members : (t : Tables) → AreOfSomeList t → (1 ≤ t.members) × (t.members ≤ 40)
 some-members t h =
@@ -84,10 +90,16 @@ some-of_member t i lt h =
     let counts = some-counts t h in
     omega (arith, counts.of_member i lt, length-filter-le (contains h.game i) h.list, counts.total)
 
-pub some-of_member_size : (t : Tables) (i s : ℕ) → i < t.members → s ≤ t.members → AreOfSomeList t → get_or (get_or t.each (get_or t.ranks i 0) no_tally).sizes s 0 ≤ table_total t
+pub some-of_member_size : (t : Tables) (i s : ℕ) → i < t.members → s ≤ t.members → AreOfSomeList t
+    → get_or (get_or t.each (get_or t.ranks i 0) no_tally).sizes s 0 ≤ table_total t
 some-of_member_size t i s lt le h =
     let counts = some-counts t h in
-    omega (arith, counts.of_member_size i s lt le, length-filter-le (λ c. contains h.game i c && (size_of h.game c == s)) h.list, counts.total)
+    omega (
+      arith,
+      counts.of_member_size i s lt le,
+      length-filter-le (λ c. contains h.game i c && (size_of h.game c == s)) h.list,
+      counts.total,
+    )
 
 -- a member's place is one of the places
 some-place : (t : Tables) (i : ℕ) → i < t.members → AreOfSomeList t → get_or t.ranks i 0 < t.members
@@ -105,7 +117,8 @@ some-room t u i same lt h =
 -- no number of a place is greater than the list is long
 pub some-of_place : (t : Tables) (p s : ℕ) → p < t.members → s ≤ 40 → AreOfSomeList t → get_or (get_or t.each p no_tally).sizes s 0 ≤ 2 ^ 40
 some-of_place t p s lt le h =
-    let few = tallies-few (length h.game.names) (has (length h.game.names) p) h.list (get_or t.each p no_tally) s le (h.tallies.tallies.each p (omega (arith, h.tallies.of_game.members))) in
+    let few = tallies-few (length h.game.names) (has (length h.game.names) p) h.list (get_or t.each p no_tally) s le
+    (h.tallies.tallies.each p (omega (arith, h.tallies.of_game.members))) in
     omega (arith, few, h.few)
 
 pub some-of_all : (t : Tables) (s : ℕ) → s ≤ 40 → AreOfSomeList t → get_or t.all.sizes s 0 ≤ 2 ^ 40
@@ -114,14 +127,17 @@ some-of_all t s le h =
     omega (arith, few, h.few)
 
 -- no coalition is counted
-pub none-hold : (g : GameView) (m : ℕ) (ranks : List ℕ) (all one : Tally) → IsGame g → m ≡ length g.names → ((i : ℕ) → i < m → get_or ranks i 0 ≡ get_or g.ranks i 0)
+pub none-hold : (g : GameView) (m : ℕ) (ranks : List ℕ) (all one : Tally) → IsGame g → m ≡ length g.names
+    → ((i : ℕ) → i < m → get_or ranks i 0 ≡ get_or g.ranks i 0)
     → IsTallyOf (length g.names) (λ c. true) [] all → ((p : ℕ) → IsTallyOf (length g.names) (has (length g.names) p) [] one)
     → AreTallies g [] (record { members = m; ranks = ranks; all = all; each = replicate 40 one })
 none-hold g m ranks all one game m-is same whole each = record {
   of_game = record { is_game = game; members = m-is; ranks = same };
   tallies = record {
     all = whole;
-    each = λ p lt. (let few = few-members g game in subst (IsTallyOf (length g.names) (has (length g.names) p) []) (sym (get_or-replicate 40 p one no_tally (omega (arith, lt, few)))) (each p));
+    each = λ p lt. (let few =
+        few-members g game in subst (IsTallyOf (length g.names) (has (length g.names) p) [])
+        (sym (get_or-replicate 40 p one no_tally (omega (arith, lt, few)))) (each p));
   };
 }
 
@@ -129,8 +145,10 @@ pub none-some : (g : GameView) (t : Tables) → AreTallies g [] t → AreOfSomeL
 none-some g t h = record { game = g; list = []; coalitions = λ k d lt. absurd (omega arith); few = omega arith; tallies = h }
 
 -- one coalition more
-pub more-hold : (g : GameView) (list : List ℕ) (t : Tables) (c s : ℕ) (all : Tally) (each : List Tally) → s ≡ size t.members c → all ≡ with_one t.all s
-    → ((p : ℕ) → p < t.members → get_or each p no_tally ≡ cond (has t.members p c) (with_one (get_or t.each p no_tally) s) (get_or t.each p no_tally))
+pub more-hold : (g : GameView) (list : List ℕ) (t : Tables) (c s : ℕ) (all : Tally) (each : List Tally) → s ≡ size t.members c
+    → all ≡ with_one t.all s
+    → ((p : ℕ) → p < t.members
+    → get_or each p no_tally ≡ cond (has t.members p c) (with_one (get_or t.each p no_tally) s) (get_or t.each p no_tally))
     → AreTallies g list t → AreTallies g (list ++ c ∷ []) (record { members = t.members; ranks = t.ranks; all = all; each = each })
 more-hold g list t c s all each s-is all-is each-is h =
     let few = few-members g h.of_game.is_game in
@@ -141,17 +159,21 @@ more-hold g list t c s all each s-is all-is each-is h =
       of_game = record { is_game = h.of_game.is_game; members = h.of_game.members; ranks = h.of_game.ranks };
       tallies = record {
         all = tallies-more (length g.names) (λ c. true) list c s t.all all same small all-is h.tallies.all;
-        each = λ p lt. tallies-more (length g.names) (has (length g.names) p) list c s (get_or t.each p no_tally) (get_or each p no_tally) same small
-            (each-is p (omega (arith, h.of_game.members, lt)) ∙ ap (λ (n : ℕ). cond (has n p c) (with_one (get_or t.each p no_tally) s) (get_or t.each p no_tally)) h.of_game.members)
+        each = λ p lt. tallies-more (length g.names) (has (length g.names) p) list c s (get_or t.each p no_tally)
+            (get_or each p no_tally) same small
+            (each-is p (omega (arith, h.of_game.members, lt))
+            ∙ ap (λ (n : ℕ). cond (has n p c) (with_one (get_or t.each p no_tally) s) (get_or t.each p no_tally)) h.of_game.members)
             (h.tallies.each p lt);
       };
     }
 
-pub more-some : (t u : Tables) (c : ℕ) (h : AreOfSomeList t) → 0 < c → c < 2 ^ t.members → table_total t < 2 ^ 40 → AreTallies h.game (h.list ++ c ∷ []) u → AreOfSomeList u
+pub more-some : (t u : Tables) (c : ℕ) (h : AreOfSomeList t) → 0 < c → c < 2 ^ t.members → table_total t < 2 ^ 40
+    → AreTallies h.game (h.list ++ c ∷ []) u → AreOfSomeList u
 more-some t u c h some below room more = record {
   game = h.game;
   list = h.list ++ c ∷ [];
-  coalitions = All-push (λ c. (0 < c) × (c < 2 ^ length h.game.names)) h.list c h.coalitions (some, subst (λ (n : ℕ). c < 2 ^ n) h.tallies.of_game.members below);
+  coalitions = All-push (λ c. (0 < c) × (c < 2 ^ length h.game.names)) h.list c h.coalitions
+      (some, subst (λ (n : ℕ). c < 2 ^ n) h.tallies.of_game.members below);
   few = (let total = total-is h.game h.list t h.tallies in let long = length-append h.list (c ∷ []) in omega (arith, total, long, room));
   tallies = more;
 }
@@ -160,17 +182,21 @@ more-some t u c h some below room more = record {
 pub join-hold : (g : GameView) (first second : List ℕ) (s t : Tables) (all : Tally) (each : List Tally) → length all.sizes ≡ 41
     → ((k : ℕ) → k ≤ 40 → get_or all.sizes k 0 ≡ get_or s.all.sizes k 0 + get_or t.all.sizes k 0)
     → ((p : ℕ) → p < s.members → IsJoined (get_or s.each p no_tally) (get_or t.each p no_tally) (get_or each p no_tally))
-    → AreTallies g first s → AreTallies g second t → AreTallies g (first ++ second) (record { members = s.members; ranks = s.ranks; all = all; each = each })
+    → AreTallies g first s
+    → AreTallies g second t → AreTallies g (first ++ second) (record { members = s.members; ranks = s.ranks; all = all; each = each })
 join-hold g first second s t all each long sum each-is a b = record {
   of_game = record { is_game = a.of_game.is_game; members = a.of_game.members; ranks = a.of_game.ranks };
   tallies = record {
     all = tallies-join (length g.names) (λ c. true) first second s.all t.all all long sum a.tallies.all b.tallies.all;
-    each = λ p lt. (let one = each-is p (omega (arith, lt, a.of_game.members)) in tallies-join (length g.names) (has (length g.names) p) first second _ _ _ one.long one.sizes (a.tallies.each p lt) (b.tallies.each p lt));
+    each = λ p lt. (let one =
+        each-is p (omega (arith, lt, a.of_game.members)) in tallies-join (length g.names)
+        (has (length g.names) p) first second _ _ _ one.long one.sizes (a.tallies.each p lt) (b.tallies.each p lt));
   };
 }
 
 -- the tables of a list of a game are those of the list in another game with the same rank places
-pub of-first : (s t : Tables) (g g' : GameView) (first second : List ℕ) → AreOfOneGame s t → AreTallies g first s → AreTallies g' second t → AreTallies g second t
+pub of-first : (s t : Tables) (g g' : GameView) (first second : List ℕ) → AreOfOneGame s t → AreTallies g first s → AreTallies g' second t
+    → AreTallies g second t
 of-first s t g g' first second one a b =
     let names : length g'.names ≡ length g.names = omega (arith, a.of_game.members, b.of_game.members, one.members) in
     record {
@@ -186,7 +212,8 @@ pub join-some : (s t u : Tables) (a : AreOfSomeList s) (b : AreOfSomeList t) →
     → (AreTallies a.game b.list t → AreTallies a.game (a.list ++ b.list) u) → AreOfSomeList u
 join-some s t u a b one room made =
     let moved = of-first s t a.game b.game a.list b.list one a.tallies b.tallies in
-    let names : length b.game.names ≡ length a.game.names = omega (arith, a.tallies.of_game.members, b.tallies.of_game.members, one.members) in
+    let names : length b.game.names ≡ length a.game.names =
+    omega (arith, a.tallies.of_game.members, b.tallies.of_game.members, one.members) in
     let others : AreNonemptyCoalitions a.game b.list = subst (λ (n : ℕ). All (λ c. (0 < c) × (c < 2 ^ n)) b.list) names b.coalitions in
     record {
       game = a.game;
@@ -202,7 +229,8 @@ more-total t u c h more =
     let new = total-is h.game (h.list ++ c ∷ []) u more in
     omega (arith, total-is h.game h.list t h.tallies, new, length-append h.list (c ∷ []))
 
-pub join-total : (s t u : Tables) (a : AreOfSomeList s) (b : AreOfSomeList t) → AreOfOneGame s t → (AreTallies a.game b.list t → AreTallies a.game (a.list ++ b.list) u) → table_total u ≡ table_total s + table_total t
+pub join-total : (s t u : Tables) (a : AreOfSomeList s) (b : AreOfSomeList t) → AreOfOneGame s t
+    → (AreTallies a.game b.list t → AreTallies a.game (a.list ++ b.list) u) → table_total u ≡ table_total s + table_total t
 join-total s t u a b one made =
     let moved = of-first s t a.game b.game a.list b.list one a.tallies b.tallies in
     let both = total-is a.game (a.list ++ b.list) u (made moved) in

@@ -44,7 +44,14 @@ bumped : (xs : List ℕ) (k s : ℕ) → k < length xs → get_or (set xs k (get
 bumped xs k s lt = elim (cases_eq k s) [
   | inl e ↦
       let yes = ap {B = ℕ} (λ b. cond b 1 0) (eq-eqb k s e) in
-      omega (arith, yes, ap (λ i. get_or (set xs k (get_or xs k 0 + 1)) i 0) e, get_or-set_same xs k (get_or xs k 0 + 1) 0 lt, ap (λ i. get_or xs i 0) e)
+      omega (
+        arith,
+        yes,
+        ap (λ i. get_or (set xs k (get_or xs k 0 + 1)) i 0) e,
+        get_or-set_same xs k (get_or xs k 0 + 1) 0 lt,
+        ap
+            (λ i. get_or xs i 0) e,
+      )
   | inr ne ↦
       let no = ap {B = ℕ} (λ b. cond b 1 0) (ne_eqb k s ne) in
       omega (arith, no, get_or-set_other xs k s (get_or xs k 0 + 1) 0 (λ (q : s ≡ k). ne (sym q)))
@@ -56,7 +63,8 @@ pub tallies-more : (n : ℕ) (p : ℕ → Bool) (list : List ℕ) (c s : ℕ) (t
 tallies-more n p list c s t v is small v-is h = subst (IsTallyOf n p (list ++ c ∷ [])) (sym v-is) (cases (p c) refl)
   where
     more : (b : Bool) → p c ≡ b → (k : ℕ)
-        → length (filter (λ x. p x && (size n x == k)) (list ++ c ∷ [])) ≡ length (filter (λ x. p x && (size n x == k)) list) + cond (b && (s == k)) 1 0
+        → length (filter (λ x. p x && (size n x == k)) (list ++ c ∷ [])) ≡ length (filter (λ x. p x && (size n x == k)) list) + cond
+        (b && (s == k)) 1 0
     more b e k =
         length-filter-push (λ x. p x && (size n x == k)) list c
         ∙ (λ i. length (filter (λ x. p x && (size n x == k)) list) + cond (e i && (sym is i == k)) 1 0)
@@ -76,7 +84,8 @@ tallies-join n p first second s t u long sum a b = record {
   long = long;
   sizes = λ k le.
       (let of_size : ℕ → Bool = λ x. p x && (size n x == k) in
-      let both = ap (λ (l : List ℕ). length l) (filter-append of_size first second) ∙ length-append (filter of_size first) (filter of_size second) in
+      let both = ap (λ (l : List ℕ). length l) (filter-append of_size first second)
+      ∙ length-append (filter of_size first) (filter of_size second) in
       let one = a.sizes k le in
       let other = b.sizes k le in
       let here = sum k le in
@@ -84,12 +93,15 @@ tallies-join n p first second s t u long sum a b = record {
 }
 
 -- no number of a tally is greater than the list is long
-pub tallies-few : (n : ℕ) (p : ℕ → Bool) (list : List ℕ) (t : Tally) (s : ℕ) → s ≤ 40 → IsTallyOf n p list t → get_or t.sizes s 0 ≤ length list
+pub tallies-few : (n : ℕ) (p : ℕ → Bool) (list : List ℕ) (t : Tally) (s : ℕ) → s ≤ 40 → IsTallyOf n p list t
+    → get_or t.sizes s 0 ≤ length list
 tallies-few n p list t s le h = let a = h.sizes s le in let b = length-filter-le (λ c. p c && (size n c == s)) list in omega (arith, a, b)
 
 -- the sizes of a tally add up to how many pass
-pub tallies-total : (n : ℕ) (p : ℕ → Bool) (list : List ℕ) (t : Tally) → n ≤ 40 → IsTallyOf n p list t → tally_total n t ≡ length (filter p list)
+pub tallies-total : (n : ℕ) (p : ℕ → Bool) (list : List ℕ) (t : Tally) → n ≤ 40 → IsTallyOf n p list t
+    → tally_total n t ≡ length (filter p list)
 tallies-total n p list t few h =
-    sum-range (λ s. get_or t.sizes s 0) (λ s. length (filter (λ c. p c && (size n c == s)) list) * 1) 0 (n + 1) (λ s _ lt. omega (arith, h.sizes s (omega arith)))
+    sum-range (λ s. get_or t.sizes s 0) (λ s. length (filter (λ c. p c && (size n c == s)) list) * 1) 0 (n + 1)
+    (λ s _ lt. omega (arith, h.sizes s (omega arith)))
     ∙ sum-by_size (λ s. 1) (size n) p 0 (n + 1) list (λ c _. (omega arith, omega (arith, size-le n c)))
     ∙ sym (is_sum_by (λ xs. length xs) (λ x. 1) refl (λ x xs. omega arith) (filter p list))

@@ -29,11 +29,13 @@ scaled (suc n) m (suc x) (suc y) le h = elim (cases_lt x y) [
       let e : m * (suc y - suc x) ≡ m * suc y - m * suc x = less (suc y) (suc x) (omega arith) in
       IsGcd-swap (m * suc y) (m * suc x) m
       (IsGcd-from_sub (m * suc y) (m * suc x) m (grow (suc x) (suc y) (omega arith))
-      (subst (λ (k : ℕ). IsGcd k (m * suc x) m) e (scaled n m (suc y - suc x) (suc x) (omega arith) (lower (suc y) (suc x) (omega arith) (coprime-swap (suc x) (suc y) h)))))
+      (subst (λ (k : ℕ). IsGcd k (m * suc x) m) e
+      (scaled n m (suc y - suc x) (suc x) (omega arith) (lower (suc y) (suc x) (omega arith) (coprime-swap (suc x) (suc y) h)))))
   | inr ge ↦
       let e : m * (suc x - suc y) ≡ m * suc x - m * suc y = less (suc x) (suc y) (omega arith) in
       IsGcd-from_sub (m * suc x) (m * suc y) m (grow (suc y) (suc x) (omega arith))
-      (subst (λ (k : ℕ). IsGcd k (m * suc y) m) e (scaled n m (suc x - suc y) (suc y) (omega arith) (lower (suc x) (suc y) (omega arith) h)))
+      (subst (λ (k : ℕ). IsGcd k (m * suc y) m) e
+      (scaled n m (suc x - suc y) (suc y) (omega arith) (lower (suc x) (suc y) (omega arith) h)))
 ]
   where
     grow : (a b : ℕ) → a ≤ b → m * a ≤ m * b
@@ -53,9 +55,12 @@ same-pair t u t' u' e f = cc
 
 pub lowest-unique : (p q r : ℕ × ℕ) → 0 < p.1 → IsLowestOf p q → IsLowestOf p r → q ≡ r
 lowest-unique p q r pos h k =
-    let cross : q.0 * r.1 ≡ r.0 * q.1 = eq_of_mul-eq-mul_right p.1 pos (q.0 * r.1) (r.0 * q.1) (omega (arith, ap (λ v. v * r.1) h.same, ap (λ v. v * q.1) k.same)) in
-    let a : q.1 ∣ r.1 = divides-other q.0 q.1 r.1 h.lowest (let e : r.0 * q.1 ≡ r.1 * q.0 = omega (arith, cross) in subst (λ (x : ℕ). q.1 ∣ x) e (dvd-mul_left q.1 r.0)) in
-    let b : r.1 ∣ q.1 = divides-other r.0 r.1 q.1 k.lowest (let e : q.0 * r.1 ≡ q.1 * r.0 = omega (arith, cross) in subst (λ (x : ℕ). r.1 ∣ x) e (dvd-mul_left r.1 q.0)) in
+    let cross : q.0 * r.1 ≡ r.0 * q.1 =
+    eq_of_mul-eq-mul_right p.1 pos (q.0 * r.1) (r.0 * q.1) (omega (arith, ap (λ v. v * r.1) h.same, ap (λ v. v * q.1) k.same)) in
+    let a : q.1 ∣ r.1 = divides-other q.0 q.1 r.1 h.lowest
+    (let e : r.0 * q.1 ≡ r.1 * q.0 = omega (arith, cross) in subst (λ (x : ℕ). q.1 ∣ x) e (dvd-mul_left q.1 r.0)) in
+    let b : r.1 ∣ q.1 = divides-other r.0 r.1 q.1 k.lowest
+    (let e : q.0 * r.1 ≡ q.1 * r.0 = omega (arith, cross) in subst (λ (x : ℕ). r.1 ∣ x) e (dvd-mul_left r.1 q.0)) in
     let bottoms : q.1 ≡ r.1 = dvd_antisymm a b in
     same-pair q.0 q.1 r.0 r.1 (eq_of_mul-eq-mul_right q.1 h.positive q.0 r.0 (ap (λ v. q.0 * v) bottoms ∙ cross)) bottoms
 

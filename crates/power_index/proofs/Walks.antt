@@ -13,13 +13,15 @@ pub record Walked (n c size : ℕ) (old now : List Tally) (rest : ℕ) : Type 0 
   pub long : length now ≡ 40
   pub inside : (p : ℕ) → p < n → has n p rest ≡ true → has n p c ≡ true
   pub waiting : (p : ℕ) → p < n → has n p rest ≡ true → get_or now p no_tally ≡ get_or old p no_tally
-  pub done : (p : ℕ) → p < n → has n p rest ≡ false → get_or now p no_tally ≡ cond (has n p c) (with_one (get_or old p no_tally) size) (get_or old p no_tally)
+  pub done : (p : ℕ) → p < n
+      → has n p rest ≡ false → get_or now p no_tally ≡ cond (has n p c) (with_one (get_or old p no_tally) size) (get_or old p no_tally)
 
 without-le : (n q c : ℕ) → without n q c ≤ c
 unfolding without
 without-le n q c = omega arith
 
-step : (n c size : ℕ) (old now : List Tally) (rest q : ℕ) (v : Tally) → q < n → q < length now → has n q rest ≡ true → v ≡ with_one (get_or now q no_tally) size
+step : (n c size : ℕ) (old now : List Tally) (rest q : ℕ) (v : Tally) → q < n → q < length now → has n q rest ≡ true
+    → v ≡ with_one (get_or now q no_tally) size
     → Walked n c size old now rest → Walked n c size old (set now q v) (without n q rest)
 step n c size old now rest q v below long in' is h = record {
   below = less;
@@ -33,7 +35,8 @@ step n c size old now rest q v below long in' is h = record {
     | inr other ↦ get_or-set_other now q p v no_tally other ∙ h.waiting p lt (sym (has-kept n p q rest lt below other in') ∙ still)
   ];
   done = λ p lt out. elim (cases_eq p q) [
-    | inl same ↦ subst (λ (i : ℕ). get_or (set now q v) i no_tally ≡ cond (has n i c) (with_one (get_or old i no_tally) size) (get_or old i no_tally)) (sym same) here
+    | inl same ↦ subst (λ (i : ℕ). get_or (set now q v) i no_tally ≡ cond (has n i c) (with_one (get_or old i no_tally) size)
+        (get_or old i no_tally)) (sym same) here
     | inr other ↦ get_or-set_other now q p v no_tally other ∙ h.done p lt (sym (has-kept n p q rest lt below other in') ∙ out)
   ];
 }
@@ -52,10 +55,12 @@ step n c size old now rest q v below long in' is h = record {
         ∙ sym (cond-true (has n q c) (with_one (get_or old q no_tally) size) (get_or old q no_tally) (h.inside q below in'))
 
 -- the place q of rest is counted, and what is left is rest without it
-pub walked-step : (n c size : ℕ) (old now : List Tally) (rest left q : ℕ) (v : Tally) → n ≤ 40 → q < n → has n q rest ≡ true → left ≡ without n q rest → v ≡ with_one (get_or now q no_tally) size
+pub walked-step : (n c size : ℕ) (old now : List Tally) (rest left q : ℕ) (v : Tally) → n ≤ 40 → q < n → has n q rest ≡ true
+    → left ≡ without n q rest → v ≡ with_one (get_or now q no_tally) size
     → Walked n c size old now rest → Walked n c size old (set now q v) left
 walked-step n c size old now rest left q v few below in' left-is is h =
     subst (Walked n c size old (set now q v)) (sym left-is) (step n c size old now rest q v below (omega (arith, h.long)) in' is h)
 
-pub walked-all : (n c size : ℕ) (old now : List Tally) (p : ℕ) → p < n → Walked n c size old now 0 → get_or now p no_tally ≡ cond (has n p c) (with_one (get_or old p no_tally) size) (get_or old p no_tally)
+pub walked-all : (n c size : ℕ) (old now : List Tally) (p : ℕ) → p < n → Walked n c size old now 0
+    → get_or now p no_tally ≡ cond (has n p c) (with_one (get_or old p no_tally) size) (get_or old p no_tally)
 walked-all n c size old now p lt h = h.done p lt (has-none n p)

@@ -11,7 +11,8 @@ use Rattle.power_index.proofs.Sums.{sum-range, sum-by_size, length-filter-le}
 use Rattle.power_index.proofs.Members.{sizes-within, size-pos-in, size-le}
 use Rattle.power_index.proofs.Units.{sum_few}
 
-pub within : (g : GameView) (list : List ℕ) (t : Tables) (i : ℕ) → i < t.members → AreCounts g list t → AllByRecursion (λ s. (0 < s) × (s ≤ length g.names)) (sizes_of_member g list i)
+pub within : (g : GameView) (list : List ℕ) (t : Tables) (i : ℕ) → i < t.members → AreCounts g list t
+    → AllByRecursion (λ s. (0 < s) × (s ≤ length g.names)) (sizes_of_member g list i)
 within g list t i lt h = sizes-within g list i (omega (arith, h.members))
 
 pub weight : (g : GameView) (list : List ℕ) (t : Tables) (i : ℕ) → i < t.members → AreCounts g list t
@@ -26,14 +27,16 @@ weight g list t i lt h =
     ∙ sym (fold-map (λ (a : ℕ) (s : ℕ). a + denominator / s) (size_of g) 0 (filter (contains g i) list))
 
 -- a member's unit fractions are at most as many as all coalitions
-pub weight-light : (g : GameView) (list : List ℕ) (t : Tables) (i : ℕ) → i < t.members → AreCounts g list t → weighted_sum denominator (table_of_member_size t i) t.members ≤ denominator * table_total t
+pub weight-light : (g : GameView) (list : List ℕ) (t : Tables) (i : ℕ) → i < t.members → AreCounts g list t
+    → weighted_sum denominator (table_of_member_size t i) t.members ≤ denominator * table_total t
 weight-light g list t i lt h =
     let few = sum_few denominator (sizes_of_member g list i) in
     let long = length-map (filter (contains g i) list) (size_of g) in
     omega (arith, weight g list t i lt h, few, long, length-filter-le (contains g i) list, h.total)
 
 -- the numbers of all members, as the table has them
-pub memberships-are : (g : GameView) (list : List ℕ) (t : Tables) → AreCounts g list t → table_memberships t ≡ sum_by (λ j. count_of_member g j list) (members g)
+pub memberships-are : (g : GameView) (list : List ℕ) (t : Tables) → AreCounts g list t
+    → table_memberships t ≡ sum_by (λ j. count_of_member g j list) (members g)
 memberships-are g list t h =
     sum-range (table_of_member t) (λ i. count_of_member g i list) 0 t.members (λ j _ lt. h.of_member j (omega arith))
     ∙ ap (λ n. sum_by (λ i. count_of_member g i list) (range_with_len 0 n)) h.members

@@ -6,17 +6,23 @@ pub returns-then-not-take_opening : goal.returns-then-not-take_opening
 returns-then-not-take_opening c = rw (← c.new-scanner.ensures) (rule_without_opening c.new-scanner.result c.if-not-take_opening.ensures)
 
 pub returns-in_default : goal.returns-in_default
-returns-in_default c = rw (← c.new-scanner.ensures) (rule_without_quota c.new-scanner.result _ c.if-not-take_opening.ensures (sym c.in_default.ensures))
+returns-in_default c =
+    rw (← c.new-scanner.ensures) (rule_without_quota c.new-scanner.result _ c.if-not-take_opening.ensures (sym c.in_default.ensures))
 
 pub returns-then-not-take_semicolon : goal.returns-then-not-take_semicolon
-returns-then-not-take_semicolon c = rw (← c.new-scanner.ensures) (rule_without_semicolon c.new-scanner.result _ _ _ c.if-not-take_opening.ensures (sym c.in-Some.ensures) c.if-not-take_semicolon.ensures)
+returns-then-not-take_semicolon c =
+    rw (← c.new-scanner.ensures)
+    (rule_without_semicolon c.new-scanner.result _ _ _ c.if-not-take_opening.ensures
+    (sym c.in-Some.ensures) c.if-not-take_semicolon.ensures)
 
 pub returns-in-Some-2 : goal.returns-in-Some-2
 returns-in-Some-2 c = rw (← c.new-scanner.ensures)
-    (rule_is c.new-scanner.result _ _ _ c.in-Some.quota (Some c.in-Some-2.weights.items) c.if-not-take_opening.ensures (sym c.in-Some.ensures) c.if-not-take_semicolon.ensures
+    (rule_is c.new-scanner.result _ _ _ c.in-Some.quota (Some c.in-Some-2.weights.items) c.if-not-take_opening.ensures
+    (sym c.in-Some.ensures) c.if-not-take_semicolon.ensures
     (rw c.in-Some-2.is at c.in_ok-weights.ensures))
 
 pub returns-in-None : goal.returns-in-None
 returns-in-None c = rw (← c.new-scanner.ensures)
-    (rule_is c.new-scanner.result _ _ _ c.in-Some.quota None c.if-not-take_opening.ensures (sym c.in-Some.ensures) c.if-not-take_semicolon.ensures
+    (rule_is c.new-scanner.result _ _ _ c.in-Some.quota None c.if-not-take_opening.ensures
+    (sym c.in-Some.ensures) c.if-not-take_semicolon.ensures
     (rw c.in-None.is at c.in_ok-weights.ensures))

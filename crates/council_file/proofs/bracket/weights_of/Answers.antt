@@ -10,7 +10,8 @@ pub returns : goal.returns
 returns c = no_number c.args.scanner.now c.loop-weight.scanner c.loop-weight.weights.items c.loop-weight.invariant c.in_default.ensures
 
 pub returns-in_default-next : goal.returns-in_default-next
-returns-in_default-next c = after_nothing c.args.scanner.now c.loop-weight.scanner c.number.new.self c.loop-weight.weights.items c.in-Some.weight
+returns-in_default-next c =
+    after_nothing c.args.scanner.now c.loop-weight.scanner c.number.new.self c.loop-weight.weights.items c.in-Some.weight
     c.loop-weight.invariant c.in-Some.ensures c.in_default-next.ensures.is.0
 
 pub returns-in-None : goal.returns-in-None
@@ -19,9 +20,12 @@ returns-in-None c = rw c.in_ok-push.ensures.items
     c.loop-weight.invariant c.in-Some.ensures c.in-Some-next.ensures.is c.in-Closing.is c.in-None.ensures.is.0)
 
 pub returns-in-Some-next-2 : goal.returns-in-Some-next-2
-returns-in-Some-next-2 c = after_closing_more c.args.scanner.now c.loop-weight.scanner c.number.new.self c.next.new.self _ c.loop-weight.weights.items c.in-Some.weight _ _
+returns-in-Some-next-2 c =
+    after_closing_more c.args.scanner.now c.loop-weight.scanner c.number.new.self c.next.new.self _ c.loop-weight.weights.items
+    c.in-Some.weight _ _
     c.loop-weight.invariant c.in-Some.ensures c.in-Some-next.ensures.is c.in-Closing.is c.in-Some-next-2.ensures.is
 
 pub returns-in_default-token : goal.returns-in_default-token
-returns-in_default-token c = after_stray c.args.scanner.now c.loop-weight.scanner c.number.new.self c.next.new.self c.loop-weight.weights.items c.in-Some.weight _
+returns-in_default-token c =
+    after_stray c.args.scanner.now c.loop-weight.scanner c.number.new.self c.next.new.self c.loop-weight.weights.items c.in-Some.weight _
     c.loop-weight.invariant c.in-Some.ensures c.in-Some-next.ensures.is c.in_default-token.not-Comma c.in_default-token.not-Closing

@@ -7,7 +7,8 @@ use Rattle.council_file.proofs.NeverRead.{never-read, of-bracket, of-tree, to-tr
 use Rattle.council_file.proofs.parse.parse_game.Goals as goal
 
 pub returns-then-is_bracket-clause-no_read : goal.returns-then-is_bracket-clause-no_read
-returns-then-is_bracket-clause-no_read c = never-read (λ g. g) c.game_of_bracket.result (game_of_bracket c.args.bytes.now) (of-bracket _) c.game_of_bracket.ensures
+returns-then-is_bracket-clause-no_read c =
+    never-read (λ g. g) c.game_of_bracket.result (game_of_bracket c.args.bytes.now) (of-bracket _) c.game_of_bracket.ensures
 
 pub returns-in_err-table-clause-no_read : goal.returns-in_err-table-clause-no_read
 returns-in_err-table-clause-no_read c =
@@ -15,4 +16,5 @@ returns-in_err-table-clause-no_read c =
     rw (p.1, p.2) (never-read table_view (Err c.in_err-table.field-0.0) (tree_of c.args.bytes.now) (to-tree _) c.in_err-table.ensures)
 
 pub returns-clause-no_read : goal.returns-clause-no_read
-returns-clause-no_read c = never-read (λ g. g) c.game_of_tree.result (game_of_tree (table_view c.in_ok-table.table)) (of-tree _) c.game_of_tree.ensures
+returns-clause-no_read c =
+    never-read (λ g. g) c.game_of_tree.result (game_of_tree (table_view c.in_ok-table.table)) (of-tree _) c.game_of_tree.ensures

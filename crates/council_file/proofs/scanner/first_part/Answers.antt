@@ -7,7 +7,8 @@ returns-in-empty-clause-is c = parts_end c.args.text.now c.in-empty.len_below
 
 pub returns-in-len1-up-clause-is : goal.returns-in-len1-up-clause-is
 returns-in-len1-up-clause-is c = rw (c.split_at.ensures.front, c.split_at.ensures.back)
-    (parts_behind_number c.args.text.now c.digits_in_front.result c.in-len1-up.len_at_least (sym c.if-is_ascii_digit.ensures.value) c.digits_in_front.ensures.digits c.digits_in_front.ensures.all)
+    (parts_behind_number c.args.text.now c.digits_in_front.result c.in-len1-up.len_at_least
+    (sym c.if-is_ascii_digit.ensures.value) c.digits_in_front.ensures.digits c.digits_in_front.ensures.all)
 
 pub returns-in-len1-up-2-clause-is : goal.returns-in-len1-up-2-clause-is
 returns-in-len1-up-2-clause-is c = rw c.mark.ensures.is

@@ -22,4 +22,5 @@ overflow_add-value c =
 pub loop-digit-preserved : goal.loop-digit-preserved
 loop-digit-preserved c =
     let now : c.loop-digit.value ≡ digits_value 10 (take c.loop-digit.digit-index c.args.digits.now) = c.loop-digit.invariant in
-    ap (λ (v : ℕ). v * 10 + (get_or c.args.digits.now c.loop-digit.digit-index 0 - 48)) now ∙ sym (digits_more c.args.digits.now c.loop-digit.digit-index c.requires c.loop-digit-test.true)
+    ap (λ (v : ℕ). v * 10 + (get_or c.args.digits.now c.loop-digit.digit-index 0 - 48)) now
+    ∙ sym (digits_more c.args.digits.now c.loop-digit.digit-index c.requires c.loop-digit-test.true)

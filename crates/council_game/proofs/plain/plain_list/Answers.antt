@@ -7,19 +7,25 @@ use Rattle.council_game.proofs.plain.plain_list.Goals as goal
 
 pub loop-mask-init : goal.loop-mask-init
 loop-mask-init c =
-    let start = listed-start (votes_of c.args.game.now) c.new-list.result.items c.members-members.result c.new-list.ensures.items c.members-members.ensures.count (omega (arith, c.members-members.ensures.count, c.requires)) in
+    let start = listed-start
+    (votes_of c.args.game.now) c.new-list.result.items c.members-members.result c.new-list.ensures.items c.members-members.ensures.count
+    (omega (arith, c.members-members.ensures.count, c.requires)) in
     record { range = start.1; done = start.0 }
 
 pub loop-mask-preserved-in-Continue-1 : goal.loop-mask-preserved-in-Continue-1
 loop-mask-preserved-in-Continue-1 c = record {
   range = omega (arith, c.loop-mask.invariant.range);
-  done = listed-more (votes_of c.args.game.now) c.loop-mask.list.items c.push.new.self.items (minimal_coalitions (votes_of c.args.game.now)) c.loop-mask.mask c.of_mask-coalition.result c.loop-mask-test.true c.of_mask-coalition.ensures (sym c.is_minimal.ensures ∙ c.if-is_minimal.true) c.in_ok-push.ensures.items c.loop-mask.invariant.done;
+  done = listed-more (votes_of c.args.game.now) c.loop-mask.list.items c.push.new.self.items
+      (minimal_coalitions (votes_of c.args.game.now)) c.loop-mask.mask c.of_mask-coalition.result c.loop-mask-test.true
+      c.of_mask-coalition.ensures (sym c.is_minimal.ensures ∙ c.if-is_minimal.true) c.in_ok-push.ensures.items c.loop-mask.invariant.done;
 }
 
 pub loop-mask-preserved : goal.loop-mask-preserved
 loop-mask-preserved c = record {
   range = omega (arith, c.loop-mask.invariant.range);
-  done = listed-less (votes_of c.args.game.now) c.loop-mask.list.items (minimal_coalitions (votes_of c.args.game.now)) c.loop-mask.mask c.of_mask-coalition.result c.loop-mask-test.true c.of_mask-coalition.ensures (sym c.is_minimal.ensures ∙ c.if-is_minimal.false) c.loop-mask.invariant.done;
+  done = listed-less (votes_of c.args.game.now) c.loop-mask.list.items
+      (minimal_coalitions (votes_of c.args.game.now)) c.loop-mask.mask c.of_mask-coalition.result c.loop-mask-test.true
+      c.of_mask-coalition.ensures (sym c.is_minimal.ensures ∙ c.if-is_minimal.false) c.loop-mask.invariant.done;
 }
 
 pub returns-clause-all : goal.returns-clause-all

@@ -9,7 +9,8 @@ use Rattle.council_game.proofs.winning.is_minimal.Goals.{else-has-via-then-has+e
 
 pub returns-then-not-wins_weighed : goal.returns-then-not-wins_weighed
 returns-then-not-wins_weighed c =
-    let lost = ap (wins (rule_views c.args.rules.now)) (sym c.weigh-weighed.ensures.same) ∙ sym c.wins_weighed.ensures ∙ c.if-not-wins_weighed.true in
+    let lost = ap (wins (rule_views c.args.rules.now)) (sym c.weigh-weighed.ensures.same) ∙ sym c.wins_weighed.ensures
+    ∙ c.if-not-wins_weighed.true in
     lost-not_minimal (votes c.args.members c.args.rules.now) c.args.mask lost
 
 pub loop-place-init : goal.loop-place-init
@@ -17,21 +18,27 @@ loop-place-init c = λ p below. absurd (omega arith)
 
 pub returns-then-wins_without : goal.returns-then-wins_without
 returns-then-wins_without c =
-    let won = ap (λ (m : ℕ). wins (rule_views c.args.rules.now) (without c.args.members c.loop-place.place m)) (sym c.weigh-weighed.ensures.same) ∙ sym c.wins_without.ensures ∙ c.if-wins_without.true in
-    sym (not-minimal (votes c.args.members c.args.rules.now) c.args.mask c.loop-place.place c.loop-place-test.true (sym c.has.ensures ∙ c.if-has.true) won)
+    let won = ap (λ (m : ℕ). wins (rule_views c.args.rules.now) (without c.args.members c.loop-place.place m))
+    (sym c.weigh-weighed.ensures.same) ∙ sym c.wins_without.ensures ∙ c.if-wins_without.true in
+    sym (not-minimal (votes c.args.members c.args.rules.now) c.args.mask c.loop-place.place c.loop-place-test.true
+    (sym c.has.ensures ∙ c.if-has.true) won)
 
 pub loop-place-preserved : goal.loop-place-preserved
 loop-place-preserved c =
     elim c.else-has.branch [
       | else-has-via-then-has+else-wins_without w ↦
-          let lost = ap (λ (m : ℕ). wins (rule_views c.args.rules.now) (without c.args.members c.loop-place.place m)) (sym c.weigh-weighed.ensures.same) ∙ sym w.wins_without.ensures ∙ w.if-wins_without.false in
-          below_more (λ p. has c.args.members p c.args.mask ≡ true → wins (rule_views c.args.rules.now) (without c.args.members p c.args.mask) ≡ false) _ c.loop-place.invariant (λ inside. lost)
+          let lost = ap (λ (m : ℕ). wins (rule_views c.args.rules.now) (without c.args.members c.loop-place.place m))
+          (sym c.weigh-weighed.ensures.same) ∙ sym w.wins_without.ensures ∙ w.if-wins_without.false in
+          below_more (λ p. has c.args.members p c.args.mask ≡ true
+          → wins (rule_views c.args.rules.now) (without c.args.members p c.args.mask) ≡ false) _ c.loop-place.invariant (λ inside. lost)
       | else-has-via-else-has w ↦
-          below_more (λ p. has c.args.members p c.args.mask ≡ true → wins (rule_views c.args.rules.now) (without c.args.members p c.args.mask) ≡ false) _ c.loop-place.invariant
+          below_more (λ p. has c.args.members p c.args.mask ≡ true
+          → wins (rule_views c.args.rules.now) (without c.args.members p c.args.mask) ≡ false) _ c.loop-place.invariant
           (λ inside. absurd (both_ways _ (sym c.has.ensures ∙ w.if-has.false) inside))
     ]
 
 pub returns : goal.returns
 returns c =
-    let won = ap (wins (rule_views c.args.rules.now)) (sym c.weigh-weighed.ensures.same) ∙ sym c.wins_weighed.ensures ∙ c.if-not-wins_weighed.false in
+    let won = ap (wins (rule_views c.args.rules.now)) (sym c.weigh-weighed.ensures.same) ∙ sym c.wins_weighed.ensures
+    ∙ c.if-not-wins_weighed.false in
     is-minimal (votes c.args.members c.args.rules.now) c.args.mask c.loop-place.place (omega arith) won c.loop-place.invariant

@@ -11,16 +11,20 @@ loop-r-init c = refl
 pub returns-then-saturating_sub-rule : goal.returns-then-saturating_sub-rule
 returns-then-saturating_sub-rule c =
     let sum = c.requires.weighed c.loop-r.r (omega (arith, count-rules c.args.rules.now)) in
-    let less = less-at c.args.members c.args.rules.now c.loop-r.r c.args.weighed.now.mask c.args.place _ c.index.result.now c.saturating_sub.result c.index-rules-r.result
+    let less = less-at c.args.members c.args.rules.now c.loop-r.r c.args.weighed.now.mask c.args.place _ c.index.result.now
+    c.saturating_sub.result c.index-rules-r.result
     c.requires.votes (omega arith) c.index-rules-r.is c.requires.place c.requires.inside sum c.index.ensures c.saturating_sub.ensures in
-    sym (lost-at c.args.rules.now c.loop-r.r _ c.saturating_sub.result c.index-rules-r.result (omega arith) c.index-rules-r.is less c.if-saturating_sub-rule.true)
+    sym (lost-at c.args.rules.now c.loop-r.r _ c.saturating_sub.result c.index-rules-r.result
+    (omega arith) c.index-rules-r.is less c.if-saturating_sub-rule.true)
 
 pub loop-r-preserved : goal.loop-r-preserved
 loop-r-preserved c =
     let sum = c.requires.weighed c.loop-r.r (omega (arith, count-rules c.args.rules.now)) in
-    let less = less-at c.args.members c.args.rules.now c.loop-r.r c.args.weighed.now.mask c.args.place _ c.index.result.now c.saturating_sub.result c.index-rules-r.result
+    let less = less-at c.args.members c.args.rules.now c.loop-r.r c.args.weighed.now.mask c.args.place _ c.index.result.now
+    c.saturating_sub.result c.index-rules-r.result
     c.requires.votes (omega arith) c.index-rules-r.is c.requires.place c.requires.inside sum c.index.ensures c.saturating_sub.ensures in
-    won-at c.args.rules.now c.loop-r.r _ c.saturating_sub.result c.index-rules-r.result (omega arith) c.index-rules-r.is less c.loop-r.invariant c.if-saturating_sub-rule.false
+    won-at c.args.rules.now c.loop-r.r _ c.saturating_sub.result c.index-rules-r.result
+    (omega arith) c.index-rules-r.is less c.loop-r.invariant c.if-saturating_sub-rule.false
 
 pub returns : goal.returns
 returns c = sym (wins-all (rule_views c.args.rules.now) c.loop-r.r _ (omega (arith, count-rules c.args.rules.now)) c.loop-r.invariant)

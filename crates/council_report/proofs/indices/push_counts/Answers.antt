@@ -13,8 +13,10 @@ loop-member-preserved g c =
     let start : List ℕ = c.args.out.now.items in
     let k : ℕ = c.loop-member.member in
     let members = c.requires.0.counts.members in
-    let inside : k < length c.args.counted.now.game.now.names = omega (arith, c.loop-member-test.true, c.members-member-end.ensures.count) in
-    let count = c.of_member_size.ensures.count ∙ c.requires.0.counts.of_member_size k c.args.size (omega (arith, members, inside)) (omega (arith, members, c.requires.1)) in
+    let inside : k < length c.args.counted.now.game.now.names =
+    omega (arith, c.loop-member-test.true, c.members-member-end.ensures.count) in
+    let count = c.of_member_size.ensures.count
+    ∙ c.requires.0.counts.of_member_size k c.args.size (omega (arith, members, inside)) (omega (arith, members, c.requires.1)) in
     record {
       items = rw (c.loop-member.invariant.items, count) at c.in_ok-push_number.ensures.items
           ∙ put-row with_tab start (map text (range_with_len 0 k)) (text k)
@@ -24,17 +26,21 @@ loop-member-preserved g c =
 
 pub returns-clause-items : goal.returns-clause-items
 returns-clause-items g c =
-    let n : c.loop-member.member ≡ length c.args.counted.now.game.now.names = omega (arith, c.members-member-end.ensures.count, c.loop-member-test.false, c.loop-member.auto.member-end) in
+    let n : c.loop-member.member ≡ length c.args.counted.now.game.now.names =
+    omega (arith, c.members-member-end.ensures.count, c.loop-member-test.false, c.loop-member.auto.member-end) in
     c.loop-member.invariant.items
-    ∙ ap (λ (k : ℕ). c.args.out.now.items ++ flat_map with_tab (map (λ i. decimal (count_of_member_size c.args.counted.now.game.now i c.args.size g.list)) (range_with_len 0 k))) n
+    ∙ ap (λ (k : ℕ). c.args.out.now.items ++ flat_map with_tab
+    (map (λ i. decimal (count_of_member_size c.args.counted.now.game.now i c.args.size g.list)) (range_with_len 0 k))) n
 
 pub returns-in_err-push_number-clause-room : goal.returns-in_err-push_number-clause-room
 returns-in_err-push_number-clause-room g c =
     let text : ℕ → List ℕ = λ i. decimal (count_of_member_size c.args.counted.now.game.now i c.args.size g.list) in
     let k : ℕ = c.loop-member.member in
     let members = c.requires.0.counts.members in
-    let inside : k < length c.args.counted.now.game.now.names = omega (arith, c.loop-member-test.true, c.members-member-end.ensures.count) in
-    let count = c.of_member_size.ensures.count ∙ c.requires.0.counts.of_member_size k c.args.size (omega (arith, members, inside)) (omega (arith, members, c.requires.1)) in
+    let inside : k < length c.args.counted.now.game.now.names =
+    omega (arith, c.loop-member-test.true, c.members-member-end.ensures.count) in
+    let count = c.of_member_size.ensures.count
+    ∙ c.requires.0.counts.of_member_size k c.args.size (omega (arith, members, inside)) (omega (arith, members, c.requires.1)) in
     let refused = rw (count) at c.in_err-push_number.ensures.room in
     takes-not (flat_map with_tab (map text (range_with_len 0 k))) refused c.loop-member.invariant.capacity c.loop-member.invariant.items
     (field-within text k (length c.args.counted.now.game.now.names) inside)

@@ -6,4 +6,6 @@ use Rattle.council_report.proofs.Room.{Put}
 use Rattle.council_report.proofs.indices.push_counts.Given as goal
 
 abbrev pub invariant-loop-member : goal.invariant-loop-member
-invariant-loop-member g l = Put l.initial.out l.out (flat_map with_tab (map (λ i. decimal (count_of_member_size l.counted.game.now i l.size g.list)) (range_with_len 0 l.member)))
+invariant-loop-member g l =
+    Put l.initial.out l.out
+    (flat_map with_tab (map (λ i. decimal (count_of_member_size l.counted.game.now i l.size g.list)) (range_with_len 0 l.member)))

@@ -21,4 +21,6 @@ returns g c =
     let coalitions : List ℕ = coalition_lines c.args.shown c.args.counted.now.game.now g.list in
     let sizes : List ℕ = size_lines c.args.shown c.args.counted.now.game.now g.list in
     let before = tells-then _ _ _ coalitions sizes c.in_ok-put_shown_coalitions.ensures.tells c.in_ok-put_shown_sizes.ensures.tells in
-    puts-next (coalitions ++ sizes) (member_lines c.args.counted.now.game.now g.list) _ _ _ c.args.block.now c.put_shown_sizes.new.block c.put_members.new.block c.put_members.result before c.put_members.ensures
+    puts-next (coalitions ++ sizes)
+    (member_lines c.args.counted.now.game.now g.list) _ _ _ c.args.block.now c.put_shown_sizes.new.block c.put_members.new.block
+    c.put_members.result before c.put_members.ensures

@@ -12,9 +12,14 @@ put_pieces-requires-clause-coalitions g c =
 
 pub put_pieces-requires-clause-counted : goal.put_pieces-requires-clause-counted
 put_pieces-requires-clause-counted g c =
-    subst (CanCount c.args.block.now) (sym (listed-text c.args.shown c.args.game.now g.list (λ p. p.now) c.args.pieces.now c.if-shown.true (c.requires.1.0 c.if-shown.true))) c.requires.1.1.1.1.1
+    subst (CanCount c.args.block.now)
+    (sym (listed-text c.args.shown c.args.game.now g.list (λ p. p.now) c.args.pieces.now c.if-shown.true
+    (c.requires.1.0 c.if-shown.true))) c.requires.1.1.1.1.1
 
 pub returns-then-shown : goal.returns-then-shown
 returns-then-shown g c =
-    let TellsAll : List ℕ → Type 0 = λ t. Puts t (g.W.Write.contents c.args.writer.now) c.args.block.now (g.W.Write.contents c.put_pieces.new.writer) c.put_pieces.new.block c.put_pieces.result in
-    subst TellsAll (listed-text c.args.shown c.args.game.now g.list (λ p. p.now) c.args.pieces.now c.if-shown.true (c.requires.1.0 c.if-shown.true)) c.put_pieces.ensures
+    let TellsAll : List ℕ
+    → Type 0 = λ t. Puts t (g.W.Write.contents c.args.writer.now) c.args.block.now
+    (g.W.Write.contents c.put_pieces.new.writer) c.put_pieces.new.block c.put_pieces.result in
+    subst TellsAll (listed-text c.args.shown c.args.game.now g.list (λ p. p.now) c.args.pieces.now c.if-shown.true
+    (c.requires.1.0 c.if-shown.true)) c.put_pieces.ensures

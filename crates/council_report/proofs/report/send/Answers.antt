@@ -7,7 +7,8 @@ use Rattle.council_report.proofs.report.send.Goals as goal
 pub returns-in_err-put_lines-clause-err : goal.returns-in_err-put_lines-clause-err
 returns-in_err-put_lines-clause-err g c =
     let p = err_from_is_err_and c.from_residual-in_err-put_lines.result c.from_residual-in_err-put_lines.ensures.1 in
-    let stopped = stopped-next _ _ [] (lines c.args.shown c.args.counted.now.game.now g.list) _ _ c.in_ok-settle.ensures.ok c.in_err-put_lines.ensures in
+    let stopped = stopped-next _ _ []
+    (lines c.args.shown c.args.counted.now.game.now g.list) _ _ c.in_ok-settle.ensures.ok c.in_err-put_lines.ensures in
     rw (p.1, p.2) stopped
 
 pub returns-clause-err : goal.returns-clause-err

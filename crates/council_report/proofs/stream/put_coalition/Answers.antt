@@ -9,5 +9,7 @@ unreachable-requires g c =
 
 pub returns-clause-puts : goal.returns-clause-puts
 returns-clause-puts g c =
-    puts-line _ _ _ c.args.block.now (record { bytes = c.push.new.out; written = c.args.block.now.written }) c.settle.new.self c.settle.result c.requires.ready
-    refl (rw c.move_to.ensures.coalition at c.in-Ok.ensures.items) c.in-Ok.ensures.room.capacity c.settle.ensures.ok c.settle.ensures.ready c.settle.ensures.err
+    puts-line _ _ _ c.args.block.now
+    (record { bytes = c.push.new.out; written = c.args.block.now.written }) c.settle.new.self c.settle.result c.requires.ready
+    refl (rw c.move_to.ensures.coalition at c.in-Ok.ensures.items) c.in-Ok.ensures.room.capacity c.settle.ensures.ok c.settle.ensures.ready
+    c.settle.ensures.err

@@ -19,9 +19,11 @@ loop-r-preserved g c = record {
       let text = c.in_ok-push_decimal.ensures.items in
       elim c.if-r-gt0.branch [
         | then-r-gt0+in_ok-extend_from_slice w ↦
-            rw (w.out-is, w.in_ok-extend_from_slice.ensures.items, before, here) at text ∙ put-more separator start vs c.loop-r.r below w.if-r-gt0.true
+            rw (w.out-is, w.in_ok-extend_from_slice.ensures.items, before, here) at text
+            ∙ put-more separator start vs c.loop-r.r below w.if-r-gt0.true
         | else-r-gt0 w ↦
-            rw (w.out-is, before, here) at text ∙ put-first separator start vs c.loop-r.r (omega (arith, w.if-r-gt0.false)) (omega (arith, below))
+            rw (w.out-is, before, here) at text
+            ∙ put-first separator start vs c.loop-r.r (omega (arith, w.if-r-gt0.false)) (omega (arith, below))
       ];
   front =
       let more = c.loop-r.invariant.front in
@@ -33,7 +35,13 @@ loop-r-preserved g c = record {
         | else-r-gt0 w ↦ further start _ more (rw w.out-is at text)
       ];
   capacity = elim c.if-r-gt0.branch [
-    | then-r-gt0+in_ok-extend_from_slice w ↦ omega (arith, room-is w.out-is, w.in_ok-extend_from_slice.ensures.capacity, c.loop-r.invariant.capacity, c.in_ok-push_decimal.ensures.room.capacity)
+    | then-r-gt0+in_ok-extend_from_slice w ↦ omega (
+      arith,
+      room-is w.out-is,
+      w.in_ok-extend_from_slice.ensures.capacity,
+      c.loop-r.invariant.capacity,
+      c.in_ok-push_decimal.ensures.room.capacity,
+    )
     | else-r-gt0 w ↦ omega (arith, room-is w.out-is, c.loop-r.invariant.capacity, c.in_ok-push_decimal.ensures.room.capacity)
   ];
 }
@@ -41,7 +49,8 @@ loop-r-preserved g c = record {
 pub returns-clause-items : goal.returns-clause-items
 returns-clause-items g c vs long each =
     c.loop-r.invariant.items vs long each
-    ∙ ap (λ (ws : List ℕ). c.args.out.now.items ++ joined_numbers c.args.separator.now ws) (take_all c.loop-r.r vs (omega (arith, long, c.loop-r-test.false)))
+    ∙ ap (λ (ws : List ℕ). c.args.out.now.items ++ joined_numbers c.args.separator.now ws)
+    (take_all c.loop-r.r vs (omega (arith, long, c.loop-r-test.false)))
 
 pub returns-clause-room : goal.returns-clause-room
 returns-clause-room g c vs long each = record { capacity = c.loop-r.invariant.capacity; full = tt }
@@ -50,8 +59,10 @@ pub returns-in_err-extend_from_slice-clause-room : goal.returns-in_err-extend_fr
 returns-in_err-extend_from_slice-clause-room g c vs long each =
     let separator : List ℕ = c.args.separator.now in
     let whole = more-within separator vs c.loop-r.r (omega (arith, long, c.loop-r-test.true)) c.if-r-gt0.true in
-    let refused : MakesRoomFor c.loop-r.out c.extend_from_slice.new.self (Err c.in_err-extend_from_slice.field-0.0) separator = record { capacity = omega arith; full = omega (arith, c.in_err-extend_from_slice.ensures.full) } in
-    takes-not (joined_numbers separator (take c.loop-r.r vs)) refused c.loop-r.invariant.capacity (c.loop-r.invariant.items vs long each) (omega (arith, whole))
+    let refused : MakesRoomFor c.loop-r.out c.extend_from_slice.new.self (Err c.in_err-extend_from_slice.field-0.0) separator =
+    record { capacity = omega arith; full = omega (arith, c.in_err-extend_from_slice.ensures.full) } in
+    takes-not (joined_numbers separator (take c.loop-r.r vs)) refused c.loop-r.invariant.capacity (c.loop-r.invariant.items vs long each)
+    (omega (arith, whole))
 
 pub returns-in_err-push_decimal-clause-err : goal.returns-in_err-push_decimal-clause-err
 returns-in_err-push_decimal-clause-err g c =

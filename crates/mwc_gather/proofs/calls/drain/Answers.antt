@@ -12,7 +12,8 @@ loop-word-preserved c =
       kept = (
         done ++ word ∷ [],
         append_assoc done (word ∷ []) c.next.new.self ∙ ap (λ (w : List Word). done ++ w) (sym c.in-Some.ensures) ∙ i.kept.1,
-        λ words keeps. subst (λ (w : List Word). IsDraftOf w c.hear.new.self) (append_assoc words done (word ∷ [])) (c.hear.ensures.keeps (words ++ done) (i.kept.2 words keeps)),
+        λ words keeps. subst (λ (w : List Word). IsDraftOf w c.hear.new.self) (append_assoc words done (word ∷ []))
+            (c.hear.ensures.keeps (words ++ done) (i.kept.2 words keeps)),
       );
       lost = λ z. i.lost (c.hear.ensures.lost z);
       cut = λ z. i.cut (c.hear.ensures.cut z);

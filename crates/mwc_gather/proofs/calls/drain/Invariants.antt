@@ -6,7 +6,8 @@ use Rattle.mwc_gather.proofs.calls.drain.Given as goal
 abbrev pub invariant-loop-word : goal.invariant-loop-word
 invariant-loop-word l =
     record {
-      kept : (done : List Word) × (done ++ l.rest ≡ l.fn.rest) × ((words : List Word) → IsDraftOf words l.fn.draft → IsDraftOf (words ++ done) l.draft);
+      kept : (done : List Word)
+          × (done ++ l.rest ≡ l.fn.rest) × ((words : List Word) → IsDraftOf words l.fn.draft → IsDraftOf (words ++ done) l.draft);
       lost : l.draft.lost ≡ false → l.fn.draft.lost ≡ false;
       cut : l.draft.cut ≡ false → l.fn.draft.cut ≡ false;
     }

@@ -9,7 +9,8 @@ pub loop-i-preserved : goal.loop-i-preserved
 loop-i-preserved g c =
     let q = c.loop-i.auto.desks in
     let l : c.loop-i.i < length c.loop-i.desks = omega arith in
-    first_of_place c.loop-i.desks c.loop-i.i c.index-desks-i.result c.deal-stopped.new.desk l c.loop-i.invariant c.deal-stopped.ensures.worker c.deal-stopped.ensures.turns
+    first_of_place c.loop-i.desks c.loop-i.i c.index-desks-i.result c.deal-stopped.new.desk l c.loop-i.invariant
+    c.deal-stopped.ensures.worker c.deal-stopped.ensures.turns
 
 pub returns : goal.returns
 returns g c =

@@ -6,4 +6,5 @@ pub loop-i-preserved : goal.loop-i-preserved
 loop-i-preserved g c =
     let q = c.loop-i.auto.desks in
     let l : c.loop-i.i < length c.loop-i.desks = omega arith in
-    turn_of c.loop-i.desks c.loop-i.i c.index-desks-i.result c.turn-progress.new.desk l c.loop-i.invariant c.turn-progress.ensures.worker c.turn-progress.ensures.turns.2
+    turn_of c.loop-i.desks c.loop-i.i c.index-desks-i.result c.turn-progress.new.desk l c.loop-i.invariant c.turn-progress.ensures.worker
+    c.turn-progress.ensures.turns.2

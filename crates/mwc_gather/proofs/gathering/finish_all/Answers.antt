@@ -15,8 +15,10 @@ loop-desk-preserved g c =
 pub loop-desk-preserved-then-is_err : goal.loop-desk-preserved-then-is_err
 loop-desk-preserved-then-is_err g c =
     let order = c.in-Some.desk.worker.promise.order in
-    fault_met c.in-Some.desk Memory c.loop-desk.invariant c.in-Some.ensures.steps.0 c.note.ensures (memory_ends (slicing_of order) order.most c.in-Some.desk)
+    fault_met c.in-Some.desk Memory c.loop-desk.invariant c.in-Some.ensures.steps.0 c.note.ensures
+    (memory_ends (slicing_of order) order.most c.in-Some.desk)
 
 pub loop-desk-preserved-else-is_err : goal.loop-desk-preserved-else-is_err
 loop-desk-preserved-else-is_err g c =
-    part_kept c.in-Some.desk c.in-Ok.part c.loop-desk.invariant c.in-Some.ensures.steps.0 (search rules) c.in-Ok.ensures.part c.in-Ok.ensures.ends
+    part_kept c.in-Some.desk c.in-Ok.part c.loop-desk.invariant c.in-Some.ensures.steps.0
+    (search rules) c.in-Ok.ensures.part c.in-Ok.ensures.ends

@@ -24,7 +24,9 @@ loop-worker-preserved g c =
     let i = c.loop-worker.invariant in (
       search rules,
       search rules,
-      subst (λ (w : List Desk). AllOf game c.args.job.now.most w) (sym c.push_reserved.ensures.items) (All-push (IsOf game c.args.job.now.most) c.loop-worker.desks.items c.in-Ok.desk i.2 c.in-Ok.ensures.order),
-      subst (λ (w : List Desk). All IsFresh (seats w)) (sym c.push_reserved.ensures.items) (fresh_push c.loop-worker.desks.items c.in-Ok.desk i.3 c.in-Ok.ensures.fresh),
+      subst (λ (w : List Desk). AllOf game c.args.job.now.most w) (sym c.push_reserved.ensures.items)
+          (All-push (IsOf game c.args.job.now.most) c.loop-worker.desks.items c.in-Ok.desk i.2 c.in-Ok.ensures.order),
+      subst (λ (w : List Desk). All IsFresh (seats w)) (sym c.push_reserved.ensures.items)
+          (fresh_push c.loop-worker.desks.items c.in-Ok.desk i.3 c.in-Ok.ensures.fresh),
       i.4,
     )

@@ -8,4 +8,5 @@ use Rattle.mwc_gather.proofs.gathering.open_all.Given as goal
 
 abbrev pub invariant-loop-worker : goal.invariant-loop-worker
 invariant-loop-worker g l =
-    (vec_len l.desks ≡ l.worker) × (l.workers ≤ vec_capacity l.desks) × AllOf (slicing l.job.guarded l.job.bits) l.job.most l.desks.items × All IsFresh (seats l.desks.items) × (l.met ≡ nothing)
+    (vec_len l.desks ≡ l.worker) × (l.workers ≤ vec_capacity l.desks) × AllOf (slicing l.job.guarded l.job.bits) l.job.most l.desks.items
+    × All IsFresh (seats l.desks.items) × (l.met ≡ nothing)

@@ -19,7 +19,8 @@ use Rattle.mwc_gather.proofs.Faults.{opens_few}
 use Rattle.mwc_gather.proofs.gathering.run.Goals as goal
 
 -- an order's slices are those of its game
-slicing_is : (order : Order) (game : GameView) (bits : ℕ) → order.game.value ≡ game → order.bits ≡ bits → slicing_of order ≡ slicing game bits
+slicing_is : (order : Order) (game : GameView) (bits : ℕ) → order.game.value ≡ game → order.bits ≡ bits
+    → slicing_of order ≡ slicing game bits
 slicing_is order game bits e f = ap (λ (x : GameView). slicing x order.bits) e ∙ ap (slicing game) f
 
 -- what was written back through a whole slice
@@ -27,7 +28,9 @@ written : (new items : List Desk) (n : ℕ) → length new ≡ n → take n (new
 written new items n e = take_at new (drop (length new) items) n e
 
 pub new-marks-requires : goal.new-marks-requires
-new-marks-requires g c = rw c.slice_count.ensures (pow_mono {i = 0} {j = c.args.job.now.bits} (omega arith), pow_mono {i = c.args.job.now.bits} {j = 10} c.args.job.now.bits_fit.0)
+new-marks-requires g c =
+    rw c.slice_count.ensures
+    (pow_mono {i = 0} {j = c.args.job.now.bits} (omega arith), pow_mono {i = c.args.job.now.bits} {j = 10} c.args.job.now.bits_fit.0)
 
 pub read_all-stopped-requires-clause-all_of : goal.read_all-stopped-requires-clause-all_of
 read_all-stopped-requires-clause-all_of g c =
@@ -44,10 +47,12 @@ finish_all-requires-clause-within g c =
     let ok = c.open_all-met.new.desks.ok in
     let e = written new c.open_all-met.new.desks.items n (omega arith) in
     let game : Slicing = slicing_of c.order-order.result in
-    subst (λ (w : List Desk). All (λ (d : Desk). coalition_count game d.given.items ≤ all_total game) w) (sym e) (desks_within new c.read_all-stopped.ensures)
+    subst (λ (w : List Desk). All (λ (d : Desk). coalition_count game d.given.items ≤ all_total game) w) (sym e)
+    (desks_within new c.read_all-stopped.ensures)
 
 pub finish_all-requires-clause-start : goal.finish_all-requires-clause-start
-finish_all-requires-clause-start g c = opens_few c.args.workers c.open_all-met.new.desks.len c.open_all-met.result c.open_all-met.ensures.met
+finish_all-requires-clause-start g c =
+    opens_few c.args.workers c.open_all-met.new.desks.len c.open_all-met.result c.open_all-met.ensures.met
 
 pub finish_all-requires-clause-dealt : goal.finish_all-requires-clause-dealt
 finish_all-requires-clause-dealt g c =
@@ -61,8 +66,10 @@ finish_all-requires-clause-dealt g c =
     let early = c.is_some-early.ensures ∙ ap is_some c.fault.ensures in (
       c.read_all-stopped.new.marks,
       c.read_all-stopped.result,
-      subst (λ (w : List Desk). DealsTo (slicing_of order) order.most (is_some (fault_of c.open_all-met.result)) c.read_all-stopped.new.marks c.read_all-stopped.result w) (sym e)
-          (subst (λ (b : Bool). DealsTo (slicing_of order) order.most b c.read_all-stopped.new.marks c.read_all-stopped.result new) early c.read_all-stopped.ensures),
+      subst (λ (w : List Desk). DealsTo (slicing_of order) order.most
+          (is_some (fault_of c.open_all-met.result)) c.read_all-stopped.new.marks c.read_all-stopped.result w) (sym e)
+          (subst (λ (b : Bool). DealsTo
+          (slicing_of order) order.most b c.read_all-stopped.new.marks c.read_all-stopped.result new) early c.read_all-stopped.ensures),
     )
 
 pub returns-in_err-parts-clause-many : goal.returns-in_err-parts-clause-many

@@ -8,7 +8,8 @@ returns-then-came-clause-refused g c = λ z.
     let accepted = g.P.PipeIn.accepted in (
       (
         drop came.result.accepted c.loop.rest.now,
-        first_more (accepted c.args.out.now) c.args.words.now (accepted c.loop.out) c.loop.rest.now (accepted came.new.out) came.result.accepted c.loop.invariant.first came.ensures.accepted,
+        first_more (accepted c.args.out.now) c.args.words.now (accepted c.loop.out) c.loop.rest.now
+            (accepted came.new.out) came.result.accepted c.loop.invariant.first came.ensures.accepted,
       ),
       came.ensures.refused c.if-came.true,
     )

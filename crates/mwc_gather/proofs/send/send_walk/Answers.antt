@@ -46,7 +46,11 @@ returns-then-not-send-2-clause-sends g c =
     let none : c.loop-coalition.walk.to_come ≡ [] = search rules in
     let added = c.if-not-add-2.ensures.added (search rules) in
     let no = c.if-not-send-2.ensures.refused (search rules) in
-    λ h e. (no.1, refused_end h e (rw none at c.loop-coalition.invariant.sent) c.loop-coalition.invariant.some_left added.0 (rw c.words-2.ensures at no.0))
+    λ h e. (
+      no.1,
+      refused_end h e (rw none at c.loop-coalition.invariant.sent) c.loop-coalition.invariant.some_left added.0
+          (rw c.words-2.ensures at no.0),
+    )
 
 pub returns-clause-sends : goal.returns-clause-sends
 returns-clause-sends g c =

@@ -9,4 +9,6 @@ invariant-loop g l =
     (l.out.ring ≡ l.initial.out.ring)
     × (l.tasks.ring ≡ l.initial.tasks.ring)
     × (0 < l.left)
-    × ((s : List ℕ) × (l.tasks.taken ≡ open_words s) × (l.out.accepted ≡ wording (slicing l.job.guarded l.job.bits) s) × (coalition_count (slicing l.job.guarded l.job.bits) s + l.left ≡ l.job.most + 1) × All (λ j. j < (slicing l.job.guarded l.job.bits).slices) s)
+    × ((s : List ℕ) × (l.tasks.taken ≡ open_words s) × (l.out.accepted ≡ wording (slicing l.job.guarded l.job.bits) s)
+    × (coalition_count (slicing l.job.guarded l.job.bits) s + l.left ≡ l.job.most + 1)
+    × All (λ j. j < (slicing l.job.guarded l.job.bits).slices) s)

@@ -11,7 +11,8 @@ pub add-requires-clause-room : goal.add-requires-clause-room
 add-requires-clause-room g c =
     let own = total-is c.args.game.now _ c.loop-slice.counts c.loop-slice.invariant in
     let one = total-is c.args.game.now _ c.tally_watched.result c.tally_watched.ensures in
-    let room = slices-room c.args.game.now c.args.bits c.loop-slice.slice c.members-members.ensures.game c.requires.few c.requires.bits (omega (arith, c.loop-slice-test.true, c.slice_count-slice-end.ensures)) in
+    let room = slices-room c.args.game.now c.args.bits c.loop-slice.slice c.members-members.ensures.game c.requires.few c.requires.bits
+    (omega (arith, c.loop-slice-test.true, c.slice_count-slice-end.ensures)) in
     omega (arith, own, one, room)
 
 pub loop-slice-preserved : goal.loop-slice-preserved
@@ -21,7 +22,10 @@ loop-slice-preserved g c =
 
 pub returns : goal.returns
 returns g c =
-    let last : c.loop-slice.slice ≡ 2 ^ c.args.bits = omega (arith, c.loop-slice-test.false, c.loop-slice.auto, c.slice_count-slice-end.ensures) in
-    let whole = subst (λ (n : ℕ). AreTallies c.args.game.now (flat_map (slice (votes_of c.args.game.now) c.args.bits) (range_with_len 0 n)) c.loop-slice.counts) last c.loop-slice.invariant in
-    subst (λ (l : List ℕ). AreCounts c.args.game.now l c.loop-slice.counts) (all-slices c.args.game.now c.args.bits c.members-members.ensures.game c.requires.few c.requires.bits)
+    let last : c.loop-slice.slice ≡ 2 ^ c.args.bits =
+    omega (arith, c.loop-slice-test.false, c.loop-slice.auto, c.slice_count-slice-end.ensures) in
+    let whole = subst (λ (n : ℕ). AreTallies c.args.game.now
+    (flat_map (slice (votes_of c.args.game.now) c.args.bits) (range_with_len 0 n)) c.loop-slice.counts) last c.loop-slice.invariant in
+    subst (λ (l : List ℕ). AreCounts c.args.game.now l c.loop-slice.counts)
+    (all-slices c.args.game.now c.args.bits c.members-members.ensures.game c.requires.few c.requires.bits)
     (tallies-are_counts c.args.game.now _ _ whole)

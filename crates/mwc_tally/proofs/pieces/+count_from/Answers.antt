@@ -22,4 +22,5 @@ returns-clause-ok g t c =
     let list : List ℕ = flat_map (λ p. p.now) c.args.pieces.now in
     let part = is-part c.in-Some.thread.promise c.args.game.now list c.args.skip c.args.part c.in-Some.ensures _ c.join-counts.ensures in
     subst (λ (l : List ℕ). AreTallies c.args.game.now l c.add.new.self) (part-and-rest c.args.skip c.args.part list)
-    (c.add.ensures.tallies c.args.game.now (take c.args.part (drop c.args.skip list)) (drop (c.args.skip + c.args.part) list) part c.in_ok-rest.ensures.ok)
+    (c.add.ensures.tallies c.args.game.now (take c.args.part (drop c.args.skip list))
+    (drop (c.args.skip + c.args.part) list) part c.in_ok-rest.ensures.ok)

@@ -16,7 +16,8 @@ count-requires-clause-below g c =
 
 pub count-requires-clause-room : goal.count-requires-clause-room
 count-requires-clause-room g c =
-    counted-room c.in-Some.ensures.next c.loop-coalition.invariant.counted (slice-short (votes_of c.args.game.now) c.args.bits c.args.j c.members-members.ensures.votes)
+    counted-room c.in-Some.ensures.next c.loop-coalition.invariant.counted
+    (slice-short (votes_of c.args.game.now) c.args.bits c.args.j c.members-members.ensures.votes)
 
 pub loop-coalition-preserved : goal.loop-coalition-preserved
 loop-coalition-preserved g c = record {

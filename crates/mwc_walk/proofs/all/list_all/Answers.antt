@@ -10,7 +10,8 @@ returns-in-None-clause-all c =
 
 pub returns-in-Some-next-clause-more : goal.returns-in-Some-next-clause-more
 returns-in-Some-next-clause-more c =
-    more-than (votes_of c.args.game.now) c.args.most _ c.loop.list.items _ _ c.members-members.ensures.votes c.loop.invariant.joined c.in-Some-next.ensures.next (omega (arith, c.loop.invariant.count))
+    more-than (votes_of c.args.game.now) c.args.most _ c.loop.list.items _ _ c.members-members.ensures.votes c.loop.invariant.joined
+    c.in-Some-next.ensures.next (omega (arith, c.loop.invariant.count))
 
 pub returns-in-None-next-clause-all : goal.returns-in-None-next-clause-all
 returns-in-None-next-clause-all c =

@@ -6,5 +6,6 @@ use Rattle.mwc_walk.proofs.lane.leave_out.Goals as goal
 
 pub loop-lane-preserved : goal.loop-lane-preserved
 loop-lane-preserved c =
-    map_over_more (lane_without c.args.place) c.args.lanes.now c.loop-lane.lanes c.loop-lane.lane-index _ (omega arith) c.loop-lane.invariant
+    map_over_more (lane_without c.args.place) c.args.lanes.now c.loop-lane.lanes c.loop-lane.lane-index _
+    (omega arith) c.loop-lane.invariant
     (get_or_default c.loop-lane.lanes c.loop-lane.lane-index _ _ (omega arith))

@@ -8,5 +8,8 @@ loop-place-preserved c = record {
   long = length-set _ _ _ ∙ c.loop-place.invariant.long;
   done = below_more _ _
       (λ k h. let ne : k ≢ c.loop-place.place = omega arith in rw get_or-set_other (c.loop-place.invariant.done k h))
-      (let lt : c.loop-place.place < length c.loop-place.weights = omega (arith, c.loop-place.invariant.long, c.members-members.ensures.votes.few) in rw get_or-set_same (c.rule_weight.ensures.votes ∙ ap (λ (q : ℕ). get_or (rule_at (votes_of c.args.game.now).rules c.args.rule).weights q 0) c.member_at.ensures.back));
+      (let lt : c.loop-place.place < length c.loop-place.weights =
+      omega (arith, c.loop-place.invariant.long, c.members-members.ensures.votes.few) in rw get_or-set_same
+      (c.rule_weight.ensures.votes
+      ∙ ap (λ (q : ℕ). get_or (rule_at (votes_of c.args.game.now).rules c.args.rule).weights q 0) c.member_at.ensures.back));
 }

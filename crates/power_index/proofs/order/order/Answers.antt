@@ -8,10 +8,12 @@ pub loop-x-preserved : goal.loop-x-preserved
 loop-x-preserved c = record {
   first = omega (arith, c.if-y-ne0.true);
   second = omega (arith, c.if-x-ne0.true);
-  same = turned c.loop-x.x.top c.loop-x.x.bottom c.loop-x.y.top c.loop-x.y.bottom (omega (arith, c.loop-x-test.true)) ∙ c.loop-x.invariant.same;
+  same = turned c.loop-x.x.top c.loop-x.x.bottom c.loop-x.y.top c.loop-x.y.bottom (omega (arith, c.loop-x-test.true))
+      ∙ c.loop-x.invariant.same;
 }
 
-stops : (c : goal.After-then) → c.loop-x.x.top / c.loop-x.x.bottom ≡ c.loop-x.y.top / c.loop-x.y.bottom → c.loop-x.x.top % c.loop-x.x.bottom ≢ 0 → c.loop-x.y.top % c.loop-x.y.bottom ≡ 0
+stops : (c : goal.After-then) → c.loop-x.x.top / c.loop-x.x.bottom ≡ c.loop-x.y.top / c.loop-x.y.bottom
+    → c.loop-x.x.top % c.loop-x.x.bottom ≢ 0 → c.loop-x.y.top % c.loop-x.y.bottom ≡ 0
 stops c = elim c.loop-x-test.branch [
   | then-loop-x-test+then-x-ne0+else-y-ne0 w ↦ λ same some. omega (arith, w.if-y-ne0)
   | then-loop-x-test+else-x-ne0 w ↦ λ same some. absurd (some (omega (arith, w.if-x-ne0)))

@@ -22,9 +22,12 @@ loop-rest-preserved c =
     let next = lowest-place c.args.members c.loop-rest.rest c.requires.few (omega arith) c.loop-rest.invariant.below in
     let place : ℕ = c.args.members - 1 - trailing_zeros w64 c.loop-rest.rest in
     let left = lowest-cleared c.args.members c.loop-rest.rest c.requires.few (omega arith) c.loop-rest.invariant.below in
-    walked-step c.args.members c.args.coalition c.args.size c.args.by_place.now c.loop-rest.by_place c.loop-rest.rest _ place _ c.requires.few (omega (arith, next.0)) next.1 left c.add.ensures c.loop-rest.invariant
+    walked-step c.args.members c.args.coalition c.args.size c.args.by_place.now c.loop-rest.by_place c.loop-rest.rest _ place _
+    c.requires.few (omega (arith, next.0)) next.1 left c.add.ensures c.loop-rest.invariant
 
 pub returns : goal.returns
 returns c p lt =
     let none : c.loop-rest.rest ≡ 0 = omega arith in
-    walked-all c.args.members c.args.coalition c.args.size c.args.by_place.now c.loop-rest.by_place p lt (subst (λ (r : ℕ). Walked c.args.members c.args.coalition c.args.size c.args.by_place.now c.loop-rest.by_place r) none c.loop-rest.invariant)
+    walked-all c.args.members c.args.coalition c.args.size c.args.by_place.now c.loop-rest.by_place p lt
+    (subst (λ (r : ℕ). Walked c.args.members c.args.coalition c.args.size c.args.by_place.now c.loop-rest.by_place r) none
+    c.loop-rest.invariant)

@@ -13,6 +13,7 @@ returns-in-Err-clause-err g c =
     let rest : length bytes - done ≡ (c.args.self.now.written + length bytes) - (c.args.self.now.written + done) = omega arith in
     record {
       within = omega (arith, within);
-      holds = subst (HoldsBut (progress_of (g.W.Write.contents c.args.writer.now) c.args.self.now).bytes (g.W.Write.contents c.write_whole.new.writer)) rest
+      holds = subst (HoldsBut (progress_of (g.W.Write.contents c.args.writer.now) c.args.self.now).bytes
+          (g.W.Write.contents c.write_whole.new.writer)) rest
           (holds-part (g.W.Write.contents c.args.writer.now) (g.W.Write.contents c.write_whole.new.writer) bytes done within part);
     }

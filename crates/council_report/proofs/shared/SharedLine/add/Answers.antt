@@ -5,20 +5,26 @@ use Rattle.council_report.proofs.shared.SharedLine.add.Goals as goal
 
 pub with-mark-requires-clause-weights : goal.with-mark-requires-clause-weights
 with-mark-requires-clause-weights c =
-    let is = subst (IsSeat c.args.game.now c.args.self.now.end) (sym c.index-seat.ensures) (c.requires.line.seats.each c.args.self.now.end c.index-seat.result.now c.requires.more) in
+    let is = subst (IsSeat c.args.game.now c.args.self.now.end) (sym c.index-seat.ensures)
+    (c.requires.line.seats.each c.args.self.now.end c.index-seat.result.now c.requires.more) in
     added-light c.args.game.now c.args.self.now no_mark c.index-seat.result.now c.requires.line c.requires.more c.requires.inside is
 
 pub unreachable-requires : goal.unreachable-requires
 unreachable-requires c =
-    let is = subst (IsSeat c.args.game.now c.args.self.now.end) (sym c.index-seat.ensures) (c.requires.line.seats.each c.args.self.now.end c.index-seat.result.now c.requires.more) in
+    let is = subst (IsSeat c.args.game.now c.args.self.now.end) (sym c.index-seat.ensures)
+    (c.requires.line.seats.each c.args.self.now.end c.index-seat.result.now c.requires.more) in
     let short = added-short c.args.game.now c.args.self.now c.index-seat.result.now c.requires.line c.requires.more c.requires.inside is in
     let field = ap (λ (t : List ℕ). length t) c.deref.ensures.value in
     omega (arith, short, field, c.in-Err.ensures.full, c.requires.line.room)
 
 pub returns-clause-line : goal.returns-clause-line
 returns-clause-line c =
-    let is = subst (IsSeat c.args.game.now c.args.self.now.end) (sym c.index-seat.ensures) (c.requires.line.seats.each c.args.self.now.end c.index-seat.result.now c.requires.more) in
-    line-added c.args.game.now c.args.self.now c.extend_from_slice.new.self c.with-mark.result c.index-seat.result.now c.requires.line c.requires.more c.requires.inside is
-    (mark-more c.args.game.now _ c.args.self.now.end _ c.with-mark.result c.index-seat.result.now (c.requires.line.marks c.args.self.now.end no_mark (omega arith)) is c.with-mark.ensures.length c.with-mark.ensures.long c.with-mark.ensures.weights)
+    let is = subst (IsSeat c.args.game.now c.args.self.now.end) (sym c.index-seat.ensures)
+    (c.requires.line.seats.each c.args.self.now.end c.index-seat.result.now c.requires.more) in
+    line-added c.args.game.now c.args.self.now c.extend_from_slice.new.self c.with-mark.result c.index-seat.result.now c.requires.line
+    c.requires.more c.requires.inside is
+    (mark-more c.args.game.now _ c.args.self.now.end _ c.with-mark.result c.index-seat.result.now
+    (c.requires.line.marks c.args.self.now.end no_mark
+    (omega arith)) is c.with-mark.ensures.length c.with-mark.ensures.long c.with-mark.ensures.weights)
     (c.in-Ok.ensures.items ∙ ap (λ (t : List ℕ). c.args.self.now.names.items ++ t) c.deref.ensures.value)
     c.in-Ok.ensures.capacity

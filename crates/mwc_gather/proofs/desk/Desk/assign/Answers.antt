@@ -18,4 +18,5 @@ pub invariant_of-self-clause-below : goal.invariant_of-self-clause-below
 invariant_of-self-clause-below g c =
     let d = c.args.self.now in
     let n : ℕ = 2 ^ d.worker.promise.order.bits in
-    subst (λ (w : List ℕ). All (λ j. j < n) w) (sym c.push_reserved.ensures.items) (All-push (λ j. j < n) d.given.items c.args.slice d.below c.requires.slice)
+    subst (λ (w : List ℕ). All (λ j. j < n) w) (sym c.push_reserved.ensures.items)
+    (All-push (λ j. j < n) d.given.items c.args.slice d.below c.requires.slice)

@@ -13,7 +13,8 @@ returns-clause-whole g c =
     record {
       words = closed.accepted;
       settled =
-          join_settles (slicing_of order) order.most d.worker.promise.out.value d.worker.promise.tasks.value c.join-closed.result closed c.end-left.result d.given.items d.told closed.accepted
+          join_settles (slicing_of order) order.most d.worker.promise.out.value d.worker.promise.tasks.value c.join-closed.result closed
+          c.end-left.result d.given.items d.told closed.accepted
           c.join-closed.ensures c.in-Ok-closed.is d.below (c.end-left.ensures ∙ c.in-Ok.ensures.1 ∙ d.tasks_are) refl;
       keeps = subst (λ (w : List Word). IsDraftOf w c.drain.new.draft) c.end.ensures (c.drain.ensures.keeps d.words.taken d.keeps);
     }

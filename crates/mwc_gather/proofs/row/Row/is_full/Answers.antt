@@ -7,14 +7,16 @@ use Rattle.mwc_gather.proofs.row.Row.is_full.Goals as goal
 
 pub returns-clause-full : goal.returns-clause-full
 returns-clause-full c =
-    let v : length (take c.self.inside.count c.self.inside.words) ≡ length c.args.self.now = ap (λ (w : List Word). length w) c.self.view_is in
+    let v : length (take c.self.inside.count c.self.inside.words) ≡ length c.args.self.now =
+    ap (λ (w : List Word). length w) c.self.view_is in
     let t = length-take c.self.inside.count c.self.inside.words in
     let i = c.self.invariant in
     grind (arith, nat_tests)
 
 pub returns-clause-room : goal.returns-clause-room
 returns-clause-room c =
-    let v : length (take c.self.inside.count c.self.inside.words) ≡ length c.args.self.now = ap (λ (w : List Word). length w) c.self.view_is in
+    let v : length (take c.self.inside.count c.self.inside.words) ≡ length c.args.self.now =
+    ap (λ (w : List Word). length w) c.self.view_is in
     let t = length-take c.self.inside.count c.self.inside.words in
     let i = c.self.invariant in
     grind (arith, nat_tests)

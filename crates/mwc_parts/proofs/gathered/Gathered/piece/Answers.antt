@@ -13,7 +13,8 @@ loop-part-preserved c =
     let v = c.deref-part-items.ensures.value in
     let q = ap length v in
     let part : Part = c.part-item.result in
-    shares_more c.args.self.now.parts.items c.args.j c.loop-part.part-index part (omega arith) (c.part-item.is ∙ ap (λ (l : List Part). get_or l c.loop-part.part-index part) v) c.in_default.ensures c.loop-part.invariant
+    shares_more c.args.self.now.parts.items c.args.j c.loop-part.part-index part (omega arith)
+    (c.part-item.is ∙ ap (λ (l : List Part). get_or l c.loop-part.part-index part) v) c.in_default.ensures c.loop-part.invariant
 
 pub unreachable-requires : goal.unreachable-requires
 unreachable-requires c =

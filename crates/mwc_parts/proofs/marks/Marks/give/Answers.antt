@@ -12,4 +12,5 @@ returns-clause-marks c =
     let m = ap length is in
     let k = length-take n hs in
     let i : j < n = omega arith in
-    ap (λ (k : ℕ). take n (set hs k (Some c.args.worker))) c.from-2.ensures ∙ take-set-lt n hs j (Some c.args.worker) i ∙ ap (λ (w : List (Option ℕ)). set w j (Some c.args.worker)) (sym is)
+    ap (λ (k : ℕ). take n (set hs k (Some c.args.worker))) c.from-2.ensures ∙ take-set-lt n hs j (Some c.args.worker) i
+    ∙ ap (λ (w : List (Option ℕ)). set w j (Some c.args.worker)) (sym is)

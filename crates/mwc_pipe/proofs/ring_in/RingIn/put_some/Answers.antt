@@ -20,5 +20,6 @@ returns-clause-replies c = λ past seen.
     let most = c.push_partial_slice.ensures.most in
     let enough = c.self.invariant in
     let gone : ℕ = length (sent new) + known_free new - producer_capacity new in
-    let full : length first < length row → length c.args.self.now.accepted + length first ≡ gone + c.args.self.now.capacity = λ z. omega (arith, most (omega arith)) in
+    let full : length first < length row → length c.args.self.now.accepted + length first ≡ gone + c.args.self.now.capacity =
+    λ z. omega (arith, most (omega arith)) in
     puts_answered c.args.self.now.capacity gone c.args.self.now.accepted past row (length first) seen (omega arith) (omega arith) full

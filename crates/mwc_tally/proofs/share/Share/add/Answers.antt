@@ -10,5 +10,6 @@ pub returns : goal.returns
 returns c =
     let f : ℕ → List ℕ = slice (votes_of c.args.game.now) c.args.bits in
     let items : c.extend_from_slice.new.self.items ≡ c.args.self.now.taken.items ++ c.args.taken.now = search rules in
-    subst (λ (l : List ℕ). AreTallies c.args.game.now l c.add.new.self) (sym (flat_map-append f c.args.self.now.taken.items c.args.taken.now) ∙ ap (flat_map f) (sym items))
+    subst (λ (l : List ℕ). AreTallies c.args.game.now l c.add.new.self)
+    (sym (flat_map-append f c.args.self.now.taken.items c.args.taken.now) ∙ ap (flat_map f) (sym items))
     (c.add.ensures.tallies c.args.game.now _ _ c.requires.own c.requires.more)

@@ -14,7 +14,10 @@ returns c =
     elim c.if-self-eq1.branch [
       | then-self-eq1 w ↦
           let part = is-part _ _ _ _ _ w.leave_out.ensures c.requires.is.room in
-          rw w.self-is (back-out (votes_of c.args.game.now) c.args.self.now _ c.requires.is c.requires.stale c.if-self.false w.if-self-eq1.true part.room part.taken)
+          rw w.self-is (back-out
+          (votes_of c.args.game.now) c.args.self.now _ c.requires.is c.requires.stale c.if-self.false w.if-self-eq1.true part.room
+          part.taken)
       | else-self-eq1 w ↦
-          rw w.self-is (back-up (votes_of c.args.game.now) c.args.self.now c.requires.is c.requires.stale c.if-self.false w.if-self-eq1.false)
+          rw w.self-is (back-up
+          (votes_of c.args.game.now) c.args.self.now c.requires.is c.requires.stale c.if-self.false w.if-self-eq1.false)
     ]

@@ -19,12 +19,14 @@ returns-then-not-all_reach c =
 
 pub take_in-requires-clause-place : goal.take_in-requires-clause-place
 take_in-requires-clause-place c =
-    let room = in-room (votes_of c.args.game.now) c.args.self.now c.requires.is (sym c.all_reach.ensures ∙ c.if-not-all_reach.false) (sym c.all_win.ensures ∙ c.if-not-all_win.true) in
+    let room = in-room (votes_of c.args.game.now) c.args.self.now c.requires.is (sym c.all_reach.ensures ∙ c.if-not-all_reach.false)
+    (sym c.all_win.ensures ∙ c.if-not-all_win.true) in
     omega (arith, room, c.requires.is.game.few)
 
 pub take_in-requires-clause-fits : goal.take_in-requires-clause-fits
 take_in-requires-clause-fits c =
-    in-fits (votes_of c.args.game.now) c.args.self.now c.requires.is (sym c.all_reach.ensures ∙ c.if-not-all_reach.false) (sym c.all_win.ensures ∙ c.if-not-all_win.true)
+    in-fits (votes_of c.args.game.now) c.args.self.now c.requires.is (sym c.all_reach.ensures ∙ c.if-not-all_reach.false)
+    (sym c.all_win.ensures ∙ c.if-not-all_win.true)
 
 pub returns-then-not-all_win : goal.returns-then-not-all_win
 returns-then-not-all_win c =

@@ -38,7 +38,8 @@ returns-then-all_spare-clause-some c =
     (omega (arith, c.loop-rest-test.true)) c.loop-rest.invariant in
     let spared = sym (lanes-spare (votes_of c.args.game.now).members c.args.self.now.place c.args.self.now.prefix _
     (votes_of c.args.game.now).rules _ last.below c.requires.lanes) ∙ sym c.all_spare.ensures ∙ c.if-all_spare.true in
-    λ _. spared-nothing (votes_of c.args.game.now) c.args.self.now.place c.args.self.now.prefix _ c.requires.game c.requires.place.to last.below last.in_prefix spared
+    λ _. spared-nothing (votes_of c.args.game.now) c.args.self.now.place c.args.self.now.prefix _ c.requires.game c.requires.place.to
+    last.below last.in_prefix spared
 
 pub loop-rest-preserved : goal.loop-rest-preserved
 loop-rest-preserved c =
@@ -46,7 +47,9 @@ loop-rest-preserved c =
     let last = last-place (votes_of c.args.game.now) c.args.self.now c.loop-rest.rest c.requires some c.loop-rest.invariant in
     let kept = sym (lanes-spare (votes_of c.args.game.now).members c.args.self.now.place c.args.self.now.prefix _
     (votes_of c.args.game.now).rules _ last.below c.requires.lanes) ∙ sym c.all_spare.ensures ∙ c.if-all_spare.false in
-    rw last.left (tried-more (votes_of c.args.game.now) c.args.self.now.place c.args.self.now.prefix c.loop-rest.rest _ some last.below last.inside kept c.loop-rest.invariant)
+    rw last.left (tried-more
+    (votes_of c.args.game.now) c.args.self.now.place c.args.self.now.prefix c.loop-rest.rest _ some last.below last.inside kept
+    c.loop-rest.invariant)
 
 pub returns-clause-none : goal.returns-clause-none
 returns-clause-none c =

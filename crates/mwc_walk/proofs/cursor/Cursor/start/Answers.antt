@@ -10,13 +10,15 @@ use Rattle.mwc_walk.proofs.cursor.Cursor.start.Goals.{then-has, else-has}
 pub loop-place-init : goal.loop-place-init
 loop-place-init c = record {
   room = omega (arith, c.rules-rules.ensures.votes, c.loop-rule.invariant.long, c.members-members.ensures.votes.few_rules);
-  are = first-lanes (votes_of c.args.game.now) c.args.bits c.args.number c.rules-rules.result c.loop-rule.lanes c.members-members.ensures.votes c.rules-rules.ensures.votes c.loop-rule.invariant.long c.requires.few
+  are = first-lanes (votes_of c.args.game.now) c.args.bits c.args.number c.rules-rules.result c.loop-rule.lanes
+      c.members-members.ensures.votes c.rules-rules.ensures.votes c.loop-rule.invariant.long c.requires.few
       (λ i below d. c.loop-rule.invariant.done i (omega arith) d);
 }
 
 pub take_in-requires-clause-fits : goal.take_in-requires-clause-fits
 take_in-requires-clause-fits c =
-    fits-in (votes_of c.args.game.now).members c.loop-place.place _ (votes_of c.args.game.now).rules (take c.rules-rules.result c.loop-place.lanes) (omega arith) c.loop-place.invariant.are
+    fits-in (votes_of c.args.game.now).members c.loop-place.place _ (votes_of c.args.game.now).rules
+    (take c.rules-rules.result c.loop-place.lanes) (omega arith) c.loop-place.invariant.are
 
 pub loop-place-preserved : goal.loop-place-preserved
 loop-place-preserved c =
@@ -25,18 +27,26 @@ loop-place-preserved c =
           let part = is-part _ _ _ _ _ w.take_in.ensures c.loop-place.invariant.room in
           record {
             room = rw w.lanes-is part.room;
-            are = rw (w.lanes-is, part.taken) (fixed-in (votes_of c.args.game.now).members c.args.bits c.loop-place.place _ (votes_of c.args.game.now).rules _ c.loop-place-test.true c.requires.bits (sym (ap (has c.args.bits c.loop-place.place) c.of_mask-fixed.ensures) ∙ sym c.has.ensures ∙ w.if-has.true) c.loop-place.invariant.are);
+            are = rw (w.lanes-is, part.taken)
+                (fixed-in (votes_of c.args.game.now).members c.args.bits c.loop-place.place _
+                (votes_of c.args.game.now).rules _ c.loop-place-test.true c.requires.bits
+                (sym (ap (has c.args.bits c.loop-place.place) c.of_mask-fixed.ensures) ∙ sym c.has.ensures
+                ∙ w.if-has.true) c.loop-place.invariant.are);
           }
       | else-has w ↦ record {
         room = rw w.lanes-is c.loop-place.invariant.room;
-        are = rw w.lanes-is (fixed-pass (votes_of c.args.game.now).members c.args.bits c.loop-place.place _ (votes_of c.args.game.now).rules _ c.loop-place-test.true c.requires.bits (sym (ap (has c.args.bits c.loop-place.place) c.of_mask-fixed.ensures) ∙ sym c.has.ensures ∙ w.if-has.false) c.loop-place.invariant.are);
+        are = rw w.lanes-is (fixed-pass (votes_of c.args.game.now).members c.args.bits c.loop-place.place _
+            (votes_of c.args.game.now).rules _ c.loop-place-test.true c.requires.bits
+            (sym (ap (has c.args.bits c.loop-place.place) c.of_mask-fixed.ensures) ∙ sym c.has.ensures
+            ∙ w.if-has.false) c.loop-place.invariant.are);
       }
     ]
 
 pub returns : goal.returns
 returns c =
     let e : c.loop-place.place ≡ c.args.bits = omega arith in
-    starts (votes_of c.args.game.now) c.args.bits c.args.number _ _ _ _ c.members-members.ensures.votes c.requires.bits c.requires.number c.members-members.ensures.count c.rules-rules.ensures.votes
+    starts (votes_of c.args.game.now) c.args.bits c.args.number _ _ _ _ c.members-members.ensures.votes c.requires.bits c.requires.number
+    c.members-members.ensures.count c.rules-rules.ensures.votes
     c.loop-place.invariant.room
     (rw e at c.loop-place.invariant.are)
     (first-number c.args.bits c.args.number c.requires.few)

@@ -15,10 +15,15 @@ join_places-requires-clause-room c p s lt le =
     omega (arith, a, b)
 
 hold : (c : goal.After-join_places) (g : GameView) (first second : List ℕ)
-    → AreTallies g first (record { members = c.self.inside.members; ranks = c.self.inside.ranks; all = c.self.inside.all; each = c.self.inside.each })
-    → AreTallies g second (record { members = c.other.inside.members; ranks = c.other.inside.ranks; all = c.other.inside.all; each = c.other.inside.each })
-    → AreTallies g (first ++ second) (record { members = c.self.inside.members; ranks = c.self.inside.ranks; all = c.join.new.self; each = c.join_places.new.by_place })
-hold c g first second a b = join-hold g first second _ _ c.join.new.self c.join_places.new.by_place c.join.ensures.long c.join.ensures.sizes c.join_places.ensures a b
+    → AreTallies g first
+    (record { members = c.self.inside.members; ranks = c.self.inside.ranks; all = c.self.inside.all; each = c.self.inside.each })
+    → AreTallies g second
+    (record { members = c.other.inside.members; ranks = c.other.inside.ranks; all = c.other.inside.all; each = c.other.inside.each })
+    → AreTallies g (first ++ second)
+    (record { members = c.self.inside.members; ranks = c.self.inside.ranks; all = c.join.new.self; each = c.join_places.new.by_place })
+hold c g first second a b =
+    join-hold g first second _ _ c.join.new.self c.join_places.new.by_place c.join.ensures.long c.join.ensures.sizes c.join_places.ensures a
+    b
 
 pub invariant_of-self : goal.invariant_of-self
 invariant_of-self c =

@@ -11,11 +11,19 @@ pub add_to_places-requires-clause-room : goal.add_to_places-requires-clause-room
 add_to_places-requires-clause-room c p lt = some-of_place _ p c.from-size.result lt (omega arith) c.self.invariant
 
 hold : (c : goal.After-add_to_places) (g : GameView) (list : List ℕ)
-    → AreTallies g list (record { members = c.self.inside.members; ranks = c.self.inside.ranks; all = c.self.inside.all; each = c.self.inside.each })
-    → AreTallies g (list ++ c.args.coalition ∷ []) (record { members = c.self.inside.members; ranks = c.self.inside.ranks; all = c.add.new.self; each = c.add_to_places.new.by_place })
+    → AreTallies g list (record {
+      members = c.self.inside.members;
+      ranks = c.self.inside.ranks;
+      all = c.self.inside.all;
+      each =
+          c.self.inside.each;
+    })
+    → AreTallies g (list ++ c.args.coalition ∷ [])
+    (record { members = c.self.inside.members; ranks = c.self.inside.ranks; all = c.add.new.self; each = c.add_to_places.new.by_place })
 hold c g list h =
     let below : c.args.coalition < 2 ^ c.self.inside.members = rw (← c.self.view_is) at c.requires.below in
-    more-hold g list _ c.args.coalition c.from-size.result c.add.new.self c.add_to_places.new.by_place (c.from-size.ensures ∙ c.size.ensures.size c.self.inside.members below) c.add.ensures c.add_to_places.ensures h
+    more-hold g list _ c.args.coalition c.from-size.result c.add.new.self c.add_to_places.new.by_place
+    (c.from-size.ensures ∙ c.size.ensures.size c.self.inside.members below) c.add.ensures c.add_to_places.ensures h
 
 pub invariant_of-self : goal.invariant_of-self
 invariant_of-self c =

@@ -10,7 +10,11 @@ loop-i-preserved c =
     let more = sum_by-range-more (table_of_member c.args.self.now) c.loop-i.i in
     let total = some-total _ c.self.invariant in
     let most : table_total c.args.self.now ≤ 2 ^ 40 = rw (← c.self.view_is) total in
-    record { sum = omega (arith, more, c.loop-i.invariant.sum, c.of_member-sum.ensures.count); small = omega (arith, c.loop-i.invariant.small, c.of_member-sum.ensures.few, most) }
+    record {
+      sum = omega (arith, more, c.loop-i.invariant.sum, c.of_member-sum.ensures.count);
+      small =
+          omega (arith, c.loop-i.invariant.small, c.of_member-sum.ensures.few, most);
+    }
 
 pub overflow_add-sum : goal.overflow_add-sum
 overflow_add-sum c =

@@ -12,7 +12,8 @@ pub bounds-each-self-inside : goal.bounds-each-self-inside
 bounds-each-self-inside c = (some-room _ _ _ c.self.view_is c.requires.member c.self.invariant).1
 
 pub bounds-each-size : goal.bounds-each-size
-bounds-each-size c = let few = some-members _ c.self.invariant in let size = rw (← c.self.view_is) at c.requires.size in omega (arith, few.1, size)
+bounds-each-size c = let few = some-members _ c.self.invariant in let size =
+    rw (← c.self.view_is) at c.requires.size in omega (arith, few.1, size)
 
 pub returns-clause-few : goal.returns-clause-few
 returns-clause-few c =

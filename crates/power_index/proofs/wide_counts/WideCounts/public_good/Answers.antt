@@ -5,10 +5,14 @@ use Rattle.power_index.proofs.Printed.{public-good-is, public-good-le, public-go
 use Rattle.power_index.proofs.LowestTerms.{lowest_terms-only}
 use Rattle.power_index.proofs.wide_counts.WideCounts.public_good.Goals as goal
 
-made : (c : goal.After-lowest) → IsLowestOf (table_of_member c.args.self.now c.args.member, table_memberships c.args.self.now) (c.lowest.result.top, c.lowest.result.bottom)
+made : (c : goal.After-lowest)
+    → IsLowestOf (table_of_member c.args.self.now c.args.member, table_memberships c.args.self.now)
+    (c.lowest.result.top, c.lowest.result.bottom)
 made c =
-    subst (λ (n : ℕ). IsLowestOf (n, table_memberships c.args.self.now) (c.lowest.result.top, c.lowest.result.bottom)) (c.from.ensures ∙ c.of_member.ensures.count)
-    (subst (λ (n : ℕ). IsLowestOf (c.from.result, n) (c.lowest.result.top, c.lowest.result.bottom)) (c.from-2.ensures ∙ c.memberships.ensures.sum) c.lowest.ensures.lowest)
+    subst (λ (n : ℕ). IsLowestOf (n, table_memberships c.args.self.now) (c.lowest.result.top, c.lowest.result.bottom))
+    (c.from.ensures ∙ c.of_member.ensures.count)
+    (subst (λ (n : ℕ). IsLowestOf (c.from.result, n) (c.lowest.result.top, c.lowest.result.bottom))
+    (c.from-2.ensures ∙ c.memberships.ensures.sum) c.lowest.ensures.lowest)
 
 memberships-some : (c : goal.After-lowest) → 1 ≤ table_memberships c.args.self.now
 memberships-some c = let p = c.memberships.ensures in let some = p.some c.requires.some in omega (arith, some, p.sum)
