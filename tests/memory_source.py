@@ -45,7 +45,7 @@ ALLOWED = {
     "council_run/src/fault.rt": [
         ("", "Cause::Memory => 4,", "its number is told, no want of memory"),
         ("", "Cause::Game(GameFault::Memory) => 5,", "its status is told, no want of memory"),
-        ("", "Cause::Gather(_) | Cause::Write | Cause::Memory => 5,", "its status is told, no want of memory"),
+        ("", "Cause::Gather(_) | Cause::Write | Cause::Memory | Cause::Stopped => 5,", "its status is told, no want of memory"),
     ],
     "mwc_gather/src/calls.rt": [
         ("if draft.lost {", "GatherFault::Memory", "a draft is lost where a growth was refused"),
@@ -61,7 +61,7 @@ ALLOWED = {
     ],
     "mwc_tally/src/all.rt": [
         ("if lost {", "return Err(TallyFault::Memory);", "a share is lost where a growth was refused"),
-        ("work.stop(bits);", "met = Some(TallyFault::Start);", "the thread was not started"),
+        ("if !started {", "return Err(TallyFault::Start);", "a thread was not started"),
         ("let mut all = Share::none(alloc, game, bits);", "let mut lost = false;", "nothing is lost yet"),
         ("match thread.join(rt) {", "Ok(share) => lost |= all.add(game, bits, &share.taken, &share.counts).is_err(),", "the growth was refused"),
         ("Ok(share) => lost |= all.add(game, bits, &share.taken, &share.counts).is_err(),", "Err(_) => lost = true,", "the thread's one error is Memory"),

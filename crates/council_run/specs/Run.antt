@@ -34,13 +34,16 @@ abbrev pub Reports : (GameView → List ℕ) → (GameView → Type 0) → Strea
 Reports text IsWithin at len =
     (g : GameView) × Reads at (Ok g) × IsWithin g × (len ≡ length (text g)) × Appends at.before at.after (text g)
 
--- A run that stops wrote nothing, or the first bytes of the text; the fault of a game is that of the bytes read.
-abbrev pub Stops : (GameView → List ℕ) → (GameView → Type 0) → Streams → Cause → ℕ → Type 0
-Stops text IsWithin at (cause.Game game.Read) written = WritesNothing at written
-Stops text IsWithin at (cause.Game game.Memory) written = WritesNothing at written
-Stops text IsWithin at (cause.Game fault) written = WritesNothing at written × Reads at (Err fault)
-Stops text IsWithin at (cause.Gather gather.TooMany) written = WritesNothing at written × ((g : GameView) × Reads at (Ok g) × (IsWithin g → ⊥))
-Stops text IsWithin at (cause.Gather fault) written = WritesNothing at written
-Stops text IsWithin at cause.Memory written = WritesNothing at written
-Stops text IsWithin at cause.Write written =
+-- A run that stops wrote nothing, or the first bytes of the text; the fault of a game is that of the bytes read; it was stopped only
+-- where it may be.
+abbrev pub Stops : (GameView → List ℕ) → (GameView → Type 0) → Type 0 → Streams → Cause → ℕ → Type 0
+Stops text IsWithin MayStop at (cause.Game game.Read) written = WritesNothing at written
+Stops text IsWithin MayStop at (cause.Game game.Memory) written = WritesNothing at written
+Stops text IsWithin MayStop at (cause.Game fault) written = WritesNothing at written × Reads at (Err fault)
+Stops text IsWithin MayStop at (cause.Gather gather.TooMany) written =
+    WritesNothing at written × ((g : GameView) × Reads at (Ok g) × (IsWithin g → ⊥))
+Stops text IsWithin MayStop at (cause.Gather fault) written = WritesNothing at written
+Stops text IsWithin MayStop at cause.Memory written = WritesNothing at written
+Stops text IsWithin MayStop at cause.Stopped written = WritesNothing at written × MayStop
+Stops text IsWithin MayStop at cause.Write written =
     (g : GameView) × Reads at (Ok g) × IsWithin g × (written ≤ length (text g)) × Appends at.before at.after (take written (text g))

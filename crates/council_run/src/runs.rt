@@ -67,7 +67,7 @@ fn report<T: Threads + Wait + Sync, W: Write, G: Gate + Sync>(
         × Appends (W.contents writer.old) (W.contents writer.new)
         (report (shown_of options.now) game.now)) }
     ensures err { IfErr result (λ fault.
-        Ends (report (shown_of options.now) game.now) (count_of game.now ≤ options.now.most)
+        Ends (report (shown_of options.now) game.now) (count_of game.now ≤ options.now.most) ⊥
         (W.contents writer.old) (W.contents writer.new) fault.cause fault.written) }
 {
     let gathered = gathered(rt, alloc, game, options, gate)?;
@@ -107,7 +107,7 @@ pub fn run<T: Threads + Wait + Sync, R: Read, W: Write, G: Gate + Sync>(
           after = W.contents writer.new;
         }) len) }
     ensures err { IfErr result (λ fault.
-        Stops (report (shown_of options.now)) (λ g. count_of g ≤ options.now.most)
+        Stops (report (shown_of options.now)) (λ g. count_of g ≤ options.now.most) ⊥
         (record {
           unread = R.remaining reader.old;
           left = R.remaining reader.new;

@@ -1,5 +1,5 @@
 //! A tally: a run that keeps no coalition.
-ghost use Rattle.std.specs.Prelude.{◌≡◌, IfOk, IfErr, length};
+ghost use Rattle.std.specs.Prelude.{◌≡◌, Err, IfOk, IfErr, length};
 ghost use Rattle.std.specs.Io.KnownBytes.{Appends};
 ghost use Rattle.council_game.specs.Game.{votes_of};
 ghost use Rattle.council_game.specs.Votes.{minimal_coalitions};
@@ -49,8 +49,9 @@ fn count<T: Threads + Wait + Sync, V: Watch + Sync>(
     options: &Options,
     watch: &V,
 ) -> Result<WideCounts, TallyFault>
-    ensures { IfOk result
+    ensures counts { IfOk result
         (λ c. AreCounts game.now (minimal_coalitions (votes_of game.now)) c) }
+    ensures stopped { result ≡ Err TallyFault.Stopped → V.may_stop }
 {
     if let Some(counts) = count_by_sums(alloc, game)? {
         return Ok(counts);
@@ -72,7 +73,7 @@ fn report<T: Threads + Wait + Sync, W: Write, V: Watch + Sync>(
         × Appends (W.contents writer.old) (W.contents writer.new)
         (report (unlisted options.now) game.now)) }
     ensures err { IfErr result (λ fault. Ends (report (unlisted options.now) game.now) (Unit {0})
-        (W.contents writer.old) (W.contents writer.new) fault.cause fault.written) }
+        V.may_stop (W.contents writer.old) (W.contents writer.new) fault.cause fault.written) }
     ensures threads { IfErr result (λ fault. (why : GatherFault) →
         fault.cause ≡ cause.Gather why → why ≡ gather.Start) }
 {
@@ -89,7 +90,8 @@ fn report<T: Threads + Wait + Sync, W: Write, V: Watch + Sync>(
 ///
 /// # Errors
 ///
-/// As for `run`, but that there are never too many coalitions.
+/// As for `run`, but that there are never too many coalitions; and `Stopped` where the watch stopped it, as only a
+/// watch does that may. Sums ask no watch.
 pub fn tally<T: Threads + Wait + Sync, R: Read, W: Write, V: Watch + Sync>(
     rt: &T,
     alloc: Global,
@@ -106,7 +108,7 @@ pub fn tally<T: Threads + Wait + Sync, R: Read, W: Write, V: Watch + Sync>(
           after = W.contents writer.new;
         }) len) }
     ensures err { IfErr result (λ fault. Stops (report (unlisted options.now)) (λ g. Unit {0})
-        (record {
+        V.may_stop (record {
           unread = R.remaining reader.old;
           left = R.remaining reader.new;
           before = W.contents writer.old;

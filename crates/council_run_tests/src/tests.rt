@@ -540,6 +540,7 @@ fn statuses(rt: HostRuntime) {
         (Cause::Gather(GatherFault::Ring), 5, 2),
         (Cause::Write, 5, 3),
         (Cause::Memory, 5, 4),
+        (Cause::Stopped, 5, 5),
     ];
     for (cause, wanted, number) in causes {
         same(

@@ -1,5 +1,5 @@
 //! The counts of all slices.
-ghost use Rattle.std.specs.Prelude.{◌≡◌, ◌≤◌, ◌<◌, ◌^◌, All, length, vec_len, vec_capacity, IfOk, MatchOption, ⊤};
+ghost use Rattle.std.specs.Prelude.{◌≡◌, ◌≤◌, ◌<◌, ◌^◌, All, length, vec_len, vec_capacity, Err, IfOk, MatchOption, ⊤};
 ghost use Rattle.council_game.specs.Game.{votes_of};
 ghost use Rattle.council_game.specs.Votes.{minimal_coalitions};
 ghost use Rattle.power_index.specs.Tables.{AreCounts};
@@ -32,7 +32,8 @@ type Started = PromisedHandle<Result<Share, Memory>, Given>;
 /// # Errors
 ///
 /// `Start` where a thread could not be started, else `Memory` where a growth was refused. After
-/// either nobody takes a further slice.
+/// either nobody takes a further slice. Else `Stopped` where the watch stopped it before all slices were
+/// counted; what was counted is lost then.
 pub fn tally<R: Threads + Wait + Sync, W: Watch + Sync>(
     rt: &R,
     alloc: Global,
@@ -44,8 +45,9 @@ pub fn tally<R: Threads + Wait + Sync, W: Watch + Sync>(
     requires few { bits ≤ 10 }
     requires bits { bits ≤ length game.now.names }
     requires workers { (1 ≤ workers) × (workers ≤ 16) }
-    ensures { IfOk result
+    ensures counts { IfOk result
         (λ c. AreCounts game.now (minimal_coalitions (votes_of game.now)) c) }
+    ensures stopped { result ≡ Err TallyFault.Stopped → W.may_stop }
 {
     let next = AtomicU64::new(0);
     let work = Work::new(game, &next, watch);
@@ -55,12 +57,13 @@ pub fn tally<R: Threads + Wait + Sync, W: Watch + Sync>(
         move |scope| -> Result<Share, TallyFault>
             requires few { bits ≤ 10 }
             requires bits { bits ≤ length work.names }
-            ensures { IfOk result (IsShare work.entry bits) }
+            ensures share { IfOk result (IsShare work.entry bits) }
+            ensures started { result ≡ Err TallyFault.Stopped → ⊥ }
         { count_beside(scope, rt, alloc, &work, bits, workers) },
     )?;
     match share.whole(game, bits) {
         Some(counts) => Ok(counts),
-        None => Ok(one_by_one(game, bits, watch)),
+        None => one_by_one(game, bits, watch).ok_or(TallyFault::Stopped),
     }
 }
 
@@ -102,24 +105,25 @@ fn count_beside<'s, E, R: Threads, W: Watch + Sync>(
 ) -> Result<Share, TallyFault>
     requires few { bits ≤ 10 }
     requires bits { bits ≤ length work.now.names }
-    ensures { IfOk result (IsShare work.now bits) }
+    ensures share { IfOk result (IsShare work.now bits) }
+    ensures started { result ≡ Err TallyFault.Stopped → ⊥ }
 {
     let mut threads = Vec::new(alloc);
     threads.reserve(usize::from(workers))?;
-    let mut met = None;
+    let mut started = true;
     for _ in 0..workers {
         match start(scope, alloc, work, bits) {
             Some(thread) => threads.push_reserved(thread),
             None => {
                 work.stop(bits);
-                met = Some(TallyFault::Start);
+                started = false;
                 break;
             }
         }
     }
     let (share, lost) = joined(rt, alloc, work, bits, threads);
-    if let Some(fault) = met {
-        return Err(fault);
+    if !started {
+        return Err(TallyFault::Start);
     }
     if lost {
         return Err(TallyFault::Memory);
@@ -150,16 +154,23 @@ fn joined<R: Threads, W: Watch>(
     (all, lost)
 }
 
-/// The counts of all slices, one after the other. The watch is told of each again.
-fn one_by_one<W: Watch>(game: &Game, bits: u8, watch: &W) -> WideCounts
+/// The counts of all slices, one after the other; none where the watch stops it. The watch is told of each again.
+fn one_by_one<W: Watch>(game: &Game, bits: u8, watch: &W) -> Option<WideCounts>
     requires few { bits ≤ 10 }
     requires bits { bits ≤ length game.now.names }
-    ensures { AreCounts game.now (minimal_coalitions (votes_of game.now)) result }
+    ensures { MatchOption result W.may_stop
+        (λ c. AreCounts game.now (minimal_coalitions (votes_of game.now)) c) }
 {
     let _members = game.members();
     let mut counts = WideCounts::none(game);
     for slice in 0..slice_count(bits) {
-        counts.add(&tally_watched(game, bits, slice, watch));
+        if watch.stops() {
+            return None;
+        }
+        let Some(own) = tally_watched(game, bits, slice, watch) else {
+            return None;
+        };
+        counts.add(&own);
     }
-    counts
+    Some(counts)
 }

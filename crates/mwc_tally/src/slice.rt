@@ -1,5 +1,5 @@
 //! The counts of one slice.
-ghost use Rattle.std.specs.Prelude.{◌≤◌, ◌<◌, ◌^◌, length};
+ghost use Rattle.std.specs.Prelude.{◌≡◌, ◌≤◌, ◌<◌, ◌^◌, length, None, MatchOption};
 ghost use Rattle.council_game.specs.Game.{votes_of};
 ghost use Rattle.mwc_walk.specs.Slices.{slice};
 ghost use Rattle.power_index.specs.Tables.{AreTallies};
@@ -18,7 +18,10 @@ pub fn tally_slice(game: &Game, bits: u8, j: u16) -> WideCounts
     requires slice { j < 2 ^ bits }
     ensures { AreTallies game.now (slice (votes_of game.now) bits j) result }
 {
-    tally_watched(game, bits, j, &NoWatch)
+    match tally_watched(game, bits, j, &NoWatch) {
+        Some(counts) => counts,
+        None => unreachable!(),
+    }
 }
 
 /// Tells a watch of so many coalitions more where they are enough. How many it is still to be told of.
@@ -33,12 +36,18 @@ fn told<W: Watch>(watch: &W, more: u64, slices: u16) -> u64
     0
 }
 
-/// The same as `tally_slice`, and a watch is told of it.
-pub(crate) fn tally_watched<W: Watch>(game: &Game, bits: u8, j: u16, watch: &W) -> WideCounts
+/// The same as `tally_slice`, and a watch is told of it; none where the watch stops it.
+pub(crate) fn tally_watched<W: Watch>(
+    game: &Game,
+    bits: u8,
+    j: u16,
+    watch: &W,
+) -> Option<WideCounts>
     requires few { bits ≤ 10 }
     requires bits { bits ≤ length game.now.names }
     requires slice { j < 2 ^ bits }
-    ensures { AreTallies game.now (slice (votes_of game.now) bits j) result }
+    ensures { MatchOption result W.may_stop
+        (λ c. AreTallies game.now (slice (votes_of game.now) bits j) c) }
 {
     let _members = game.members();
     let slices = slice_count(bits);
@@ -48,8 +57,11 @@ pub(crate) fn tally_watched<W: Watch>(game: &Game, bits: u8, j: u16, watch: &W) 
     while let Some(coalition) = walk.next() {
         counts.count(coalition);
         more = told(watch, more + 1, slices);
+        if more == 0 && watch.stops() {
+            return None;
+        }
     }
     watch.met(more, slices);
     watch.counted(j, slices);
-    counts
+    Some(counts)
 }

@@ -1,10 +1,15 @@
-//! What is told while slices are counted.
+//! What is told and asked while slices are counted.
+ghost use Rattle.std.specs.Prelude.{◌≡◌, true};
 
 /// A thread tells of each so many coalitions that it counted, and of those that are left at the end of a slice.
 pub(crate) const EACH: u64 = 1 << 20;
 
-/// Who is told of each slice that was counted, and meanwhile of how many coalitions were.
+/// Who is told of each slice that was counted, and meanwhile of how many coalitions were, and who may stop
+/// the tally.
 pub trait Watch {
+    /// What holds only of a watch that may stop a tally: nothing, where a watch does not say otherwise.
+    ghost may_stop: { Type 0 } = { ⊥ };
+
     /// Slice `slice`, one of so many, was counted. The thread that counted it calls this, so calls
     /// may overlap.
     fn counted(&self, slice: u16, slices: u16);
@@ -13,9 +18,18 @@ pub trait Watch {
     /// is being counted, and before `counted`; all that is told together is what was counted. The thread
     /// that counts calls this, so calls may overlap.
     fn met(&self, _more: u64, _slices: u16) {}
+
+    /// Whether the tally is to stop: it is not, where a watch does not say otherwise. Each thread asks before each slice
+    /// and behind each 1,048,576 coalitions of one, so calls may overlap. A watch that has said so goes on to
+    /// say so: else what is left may be counted after all.
+    fn stops(&self) -> bool
+        ensures { result ≡ true → may_stop }
+    {
+        false
+    }
 }
 
-/// Nobody is told.
+/// Nobody is told, and nobody stops the tally.
 #[derive(Clone, Copy, Debug)]
 pub struct NoWatch;
 

@@ -80,7 +80,7 @@ impl<'a, W: Watch> Work<'a, W> {
             .store(u64::from(slice_count(bits)), Ordering::SeqCst);
     }
 
-    /// Counts the next slice that nobody took yet, until none is left. The last slice comes first: the
+    /// Counts the next slice that nobody took yet, until none is left or the watch stops it. The last slice comes first: the
     /// heaviest members are out there, and it mostly takes longest.
     fn count_next(&self, alloc: Global, bits: u8) -> Result<Share, Memory>
         requires few { bits ≤ 10 }
@@ -90,17 +90,18 @@ impl<'a, W: Watch> Work<'a, W> {
         let slices = slice_count(bits);
         let mut share = Share::none(alloc, self.game, bits);
         for _ in 0..slices {
+            if self.watch.stops() {
+                break;
+            }
             let ticket = self.next.fetch_add(1, Ordering::SeqCst);
             if ticket >= u64::from(slices) {
                 break;
             }
             let slice = slices - 1 - ticket as u16;
-            share.add(
-                self.game,
-                bits,
-                &[slice],
-                &tally_watched(self.game, bits, slice, self.watch),
-            )?;
+            let Some(counts) = tally_watched(self.game, bits, slice, self.watch) else {
+                break;
+            };
+            share.add(self.game, bits, &[slice], &counts)?;
         }
         Ok(share)
     }

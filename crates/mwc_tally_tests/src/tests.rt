@@ -1,6 +1,7 @@
 //! Counts of worked games, by one thread and by several.
 mod pieces;
 mod refusals;
+mod stops;
 
 ghost use Rattle.std.specs.Prelude.{◌≤◌};
 

@@ -51,6 +51,7 @@ fn texts(rt: HostRuntime) -> Result<(), Fail> {
         ),
         (Cause::Write, "output failed"),
         (Cause::Memory, "out of memory"),
+        (Cause::Stopped, "stopped"),
     ];
     for (cause, wanted) in rows {
         let text = format!(in rt.alloc(); "{cause}")?;
@@ -84,6 +85,7 @@ fn texts_below(rt: HostRuntime) -> Result<(), Fail> {
         says(&rt, alloc, fault, wanted)?;
     }
     says(&rt, alloc, TallyFault::Memory, "out of memory")?;
+    says(&rt, alloc, TallyFault::Stopped, "stopped")?;
     says(
         &rt,
         alloc,

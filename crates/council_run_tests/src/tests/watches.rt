@@ -1,4 +1,6 @@
-//! Who counts a tally that sums do not serve.
+//! Who counts a tally that sums do not serve, and who stops it.
+ghost use Rattle.std.specs.Prelude.{⊤};
+
 use super::*;
 use council_run::Watch;
 
@@ -82,5 +84,39 @@ fn a_tally_has_its_threads_and_slices(rt: HostRuntime) -> Result<(), Fail> {
         meeting.missed.load(Ordering::SeqCst),
     );
     same(&rt, found, (256, 256, 0), "slices, those of 256, missed");
+    Ok(())
+}
+
+/// Stops a tally at once.
+struct Never;
+
+impl Watch for Never {
+    ghost may_stop = { ⊤ };
+
+    fn counted(&self, _slice: u16, _slices: u16) {}
+
+    fn stops(&self) -> bool {
+        true
+    }
+}
+
+/// A tally that threads count is stopped by its watch, and nothing is written; sums ask no watch.
+#[test]
+fn a_watch_stops_a_tally(rt: HostRuntime) -> Result<(), Fail> {
+    for (file, stopped) in [(THREE, true), (BOARD, false)] {
+        let mut reader = file;
+        let mut written = Vec::new(rt.alloc());
+        let answer = tally(&rt, rt.alloc(), &mut reader, &plain(), &Never, &mut written);
+        let wanted = if stopped {
+            Err(RunFault {
+                cause: Cause::Stopped,
+                written: 0,
+            })
+        } else {
+            Ok(BOARD_REPORT.len() as u64)
+        };
+        same(&rt, answer, wanted, stopped);
+        same(&rt, written.is_empty(), stopped, "nothing is written");
+    }
     Ok(())
 }

@@ -17,6 +17,7 @@ fn tallies(rt: HostRuntime) -> Result<(), Fail> {
         }
         Err(TallyFault::Memory) => rt.println("out of memory")?,
         Err(TallyFault::Start) => rt.println("not started")?,
+        Err(TallyFault::Stopped) => rt.println("stopped")?,
     }
     Ok(())
 }
@@ -46,6 +47,7 @@ fn tallies_pieces(rt: HostRuntime) -> Result<(), Fail> {
         }
         Err(TallyFault::Memory) => rt.println("out of memory")?,
         Err(TallyFault::Start) => rt.println("not started")?,
+        Err(TallyFault::Stopped) => rt.println("stopped")?,
     }
     Ok(())
 }

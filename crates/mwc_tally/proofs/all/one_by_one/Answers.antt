@@ -10,7 +10,7 @@ use Rattle.mwc_tally.proofs.all.one_by_one.Goals as goal
 pub add-requires-clause-room : goal.add-requires-clause-room
 add-requires-clause-room g c =
     let own = total-is c.args.game.now _ c.loop-slice.counts c.loop-slice.invariant in
-    let one = total-is c.args.game.now _ c.tally_watched.result c.tally_watched.ensures in
+    let one = total-is c.args.game.now _ c.in-Some.own c.in-Some.ensures in
     let room = slices-room c.args.game.now c.args.bits c.loop-slice.slice c.members-members.ensures.game c.requires.few c.requires.bits
     (omega (arith, c.loop-slice-test.true, c.slice_count-slice-end.ensures)) in
     omega (arith, own, one, room)
@@ -18,7 +18,7 @@ add-requires-clause-room g c =
 pub loop-slice-preserved : goal.loop-slice-preserved
 loop-slice-preserved g c =
     subst (λ (l : List ℕ). AreTallies c.args.game.now l c.add.new.self) (slices-more c.args.game.now c.args.bits c.loop-slice.slice)
-    (c.add.ensures.tallies c.args.game.now _ _ c.loop-slice.invariant c.tally_watched.ensures)
+    (c.add.ensures.tallies c.args.game.now _ _ c.loop-slice.invariant c.in-Some.ensures)
 
 pub returns : goal.returns
 returns g c =
