@@ -1,8 +1,8 @@
 #!/usr/bin/env bash
 # Wrong bodies that no clause refuses, or not with every reading of it, since want of memory, a failed read or
 # write, threads and time are in no contract. Each edit of bodies/ is of the form of a must-fail edit, with a
-# first line `test: NAME in CRATE`; it is put into a copy of the crate, with the tests that stand beside it in
-# CRATE_tests as a module of it, the tests are run without a proof, and the test of that name must fail.
+# first line `test: NAME in CRATE`; it is put into a copy of the crate, with its tests, the module CRATE_tests of another
+# crate, as a module of it, the tests are run without a proof, and the test of that name must fail.
 #
 #     tests/bodies.sh [NAME..]            the edits of these names, or all, half a minute to a minute each
 #     tests/bodies.sh --fit [NAME..]      says only whether each can still be put into the sources
@@ -37,10 +37,10 @@ for crate in "$top"/crates/*; do
         cp -rp "$top/crates/$crate/out/rlib" "$room/crates/$crate/out/"
     fi
 done
-# Puts the tests that stand beside each library into it, as a module of its own, and what they use into its line
-# of crates.txt.
+# Puts the tests of each library into it, as a module of its own, with the helpers that tests share, and what they use into
+# its line of crates.txt.
 python3 - "$room" <<'END'
-import os, re, sys
+import glob, os, re, sys
 room = sys.argv[1]
 lines = {}
 for line in open(f"{room}/crates.txt", encoding="utf-8"):
@@ -48,25 +48,26 @@ for line in open(f"{room}/crates.txt", encoding="utf-8"):
     if colon:
         lines[head.split()[0]] = head.split()[1:], tail.split()
 for name, (said, used) in lines.items():
-    beside = f"{name}_tests"
-    if beside not in lines:
+    modules = glob.glob(f"{room}/crates/*_tests/src/{name}_tests.rt")
+    if not modules:
         continue
-    own, other = f"{room}/crates/{name}", f"{room}/crates/{beside}"
+    whole = modules[0][: -len(".rt")]
+    beside = os.path.basename(os.path.dirname(os.path.dirname(whole)))
+    own = f"{room}/crates/{name}"
     said += lines[beside][0]
-    used += [it for it in lines[beside][1] if it != name and it not in used]
-    for folder, _, files in os.walk(f"{other}/src"):
-        for file in files:
-            to = f"{own}/src{folder[len(f'{other}/src'):]}/{file}"
-            if file == "lib.rt" and folder == f"{other}/src":
-                continue
-            with open(f"{folder}/{file}", encoding="utf-8") as it:
-                text = re.sub(rf"\buse {name}\b", "use crate", it.read())
-            text = re.sub(rf"(?<![\w.:]){name}::", "crate::", text)
-            os.makedirs(os.path.dirname(to), exist_ok=True)
-            with open(to, "w", encoding="utf-8") as it:
-                it.write(text)
+    shared = f"{os.path.dirname(whole)}/helpers.rt"
+    for file in [f"{whole}.rt", *sorted(glob.glob(f"{whole}/**/*.rt", recursive=True)), shared]:
+        to = f"{own}/src/helpers.rt" if file == shared else f"{own}/src/tests{file[len(whole):]}"
+        with open(file, encoding="utf-8") as it:
+            text = it.read()
+        used += [it for it in lines[beside][1] if it not in (name, *used) and re.search(rf"\b{it}\b", text)]
+        text = re.sub(rf"\buse {name}\b", "use crate", text)
+        text = re.sub(rf"(?<![\w.:]){name}::", "crate::", text)
+        os.makedirs(os.path.dirname(to), exist_ok=True)
+        with open(to, "w", encoding="utf-8") as it:
+            it.write(text)
     with open(f"{own}/src/lib.rt", "a", encoding="utf-8") as it:
-        it.write("\n#[cfg(test)]\nmod tests;\n")
+        it.write("\n#[cfg(test)]\nmod helpers;\n#[cfg(test)]\nmod tests;\n")
 with open(f"{room}/crates.txt", "w", encoding="utf-8") as it:
     for name, (said, used) in lines.items():
         it.write(f"{' '.join([name, *said])}: {' '.join(used)}\n")

@@ -194,7 +194,7 @@ def main(words):
     faults = []
     for path in sorted(glob.glob(f"{top}/*/src/**/*.rt", recursive=True)):
         name = os.path.relpath(path, top)
-        if "/tests/" not in name and not name.endswith("/tests.rt"):
+        if "_tests/" not in name:
             faults += faults_of(path, name)
     for fault in faults:
         print(f"FAILED memory_source: {fault}")

@@ -1,6 +1,6 @@
 #!/usr/bin/env bash
 # Makes the library's calls while their allocations are refused, one after the other, and then all
-# from one on. Each call is a test in src/tests/refusals.rt of the crate's tests, that prints `call` before
+# from one on. Each call is a test in src/NAME_tests/refusals.rt of the crate that tests the library NAME, that prints `call` before
 # it and its answer after it, `worked`, `out of memory` or `not started`, or which part of a run found
 # no memory, looks whether all stands as it must after that answer, and fails if not. Where no
 # allocation was refused the answer is the worked one. Where one was, it is want of memory or, for
@@ -11,9 +11,11 @@
 compile_refuse
 crates=$top/crates
 
-# tests_of CRATE: the crate of its tests, which stands beside it.
+# tests_of CRATE: the crate that has its tests, as a module CRATE_tests.
 tests_of() {
-    if [ -d "$crates/$1_tests" ]; then echo "$1_tests"; else echo "$1"; fi
+    local module
+    module=$(find "$crates" -path "*_tests/src/$1_tests.rt")
+    basename "${module%/src/*}"
 }
 
 # are_built CRATE: whether the built tests of the crate are there, and no source of them or of the libraries
@@ -51,7 +53,7 @@ call() {
     own=$(tests_of "$2")
     : >"$temp/said"
     timeout -k 5 "$seconds" env "$1" REFUSE_CALL=1 REFUSE_TO=9 LD_PRELOAD="$temp/refuse.so" \
-        "$crates/$own/out/${own}_tests" "tests::refusals::$3" >"$temp/out" 2>"$temp/err" 9>"$temp/said" </dev/null
+        "$crates/$own/out/${own}_tests" "$2_tests::refusals::$3" >"$temp/out" 2>"$temp/err" 9>"$temp/said" </dev/null
     status=$?
     answer=$(sed -n 2p "$temp/out")
 }

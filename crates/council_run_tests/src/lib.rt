@@ -1,5 +1,0 @@
-//! The tests of `council_run` by its public calls. They stand beside it, so that it is proved once.
-#![tactic(auto)]
-
-#[cfg(test)]
-mod tests;

@@ -1,0 +1,278 @@
+//! Counts by sums: against binomial numbers, against every subset and against the threads.
+mod refusals;
+
+use crate::helpers::same;
+use council_game::{Game, GameFault, Rule, plain_list};
+use mwc_sums::count_by_sums;
+use mwc_tally::{NoWatch, tally};
+use power_index::WideCounts;
+use power_index::laws::minimal_coalitions_can_be_counted;
+use std::alloc::Global;
+use std::process::Abort;
+use std::test::Fail;
+
+/// A game of members named 0, 1, ..
+fn game(alloc: Global, quota: u64, weights: &[u64]) -> Result<Game, GameFault> {
+    let mut names = Vec::new(alloc);
+    let mut own = Vec::new(alloc);
+    for (i, weight) in weights.iter().enumerate() {
+        names.push(format!(in alloc; "{i}")?)?;
+        own.push(*weight)?;
+    }
+    if own.len() != names.len() {
+        return Err(GameFault::Members);
+    }
+    Game::new(alloc, None, names, own, quota)
+}
+
+/// All numbers of two counts are the same.
+fn same_counts(rt: &impl Abort, found: &WideCounts, wanted: &WideCounts) {
+    let members = found.members();
+    assert!(rt; members == wanted.members());
+    same(rt, found.total(), wanted.total(), "total");
+    for size in 0..members + 1 {
+        same(rt, found.of_size(size), wanted.of_size(size), "of a size");
+    }
+    for member in 0..members {
+        same(
+            rt,
+            found.of_member(member),
+            wanted.of_member(member),
+            "of a member",
+        );
+        for size in 0..members + 1 {
+            let own = found.of_member_size(member, size);
+            same(
+                rt,
+                own,
+                wanted.of_member_size(member, size),
+                "of a member and a size",
+            );
+        }
+    }
+}
+
+/// The counts by sums, which serve here.
+fn by_sums(alloc: Global, game: &Game) -> Result<WideCounts, Fail> {
+    match count_by_sums(alloc, game) {
+        Ok(Some(counts)) => Ok(counts),
+        Ok(None) => Err(Fail::from("sums do not serve")),
+        Err(_) => Err(Fail::from("out of memory")),
+    }
+}
+
+/// The counts of the minimal ones of all subsets, of a game of at most 20 members.
+fn by_subsets(rt: &impl Abort, alloc: Global, game: &Game) -> Result<WideCounts, Fail> {
+    assert!(rt; game.members() <= 20);
+    let list = plain_list(alloc, game)?;
+    minimal_coalitions_can_be_counted();
+    Ok(WideCounts::of(game, &list))
+}
+
+/// Numbers that look random, each made from the one before.
+fn next(state: u64) -> u64 {
+    state
+        .wrapping_mul(6_364_136_223_846_793_005)
+        .wrapping_add(1_442_695_040_888_963_407)
+}
+
+/// A game of so many members at most and weights below a number above 0, chosen by a seed: with ties, zeros
+/// and quotas of every kind. The last member has some weight, so that a quota can be met.
+fn random_game(
+    rt: &impl Abort,
+    alloc: Global,
+    seed: u64,
+    most: u64,
+    below: u64,
+) -> Result<Game, Fail> {
+    assert!(rt; 0 < most);
+    assert!(rt; 0 < below);
+    let mut state = next(seed);
+    let members = (state >> 33) % most;
+    let mut weights = Vec::new(alloc);
+    let mut total: u64 = 1;
+    for _ in 0..members {
+        state = next(state);
+        let weight = (state >> 20) % below;
+        weights.push(weight)?;
+        total = total.saturating_add(weight);
+    }
+    weights.push(1)?;
+    state = next(state);
+    assert!(rt; 0 < total);
+    Ok(game(alloc, (state >> 20) % total + 1, &weights)?)
+}
+
+#[test]
+fn random_games_as_all_subsets(rt: HostRuntime) -> Result<(), Fail> {
+    let alloc = rt.alloc();
+    for seed in 0..60 {
+        for below in [2, 3, 7, 100, 1_000_000_000_000] {
+            let game = random_game(&rt, alloc, seed, 10, below)?;
+            let found = by_sums(alloc, &game)?;
+            same_counts(&rt, &found, &by_subsets(&rt, alloc, &game)?);
+        }
+    }
+    Ok(())
+}
+
+#[test]
+fn random_games_as_the_threads(rt: HostRuntime) -> Result<(), Fail> {
+    let alloc = rt.alloc();
+    for seed in 100..120 {
+        for below in [2, 5, 40, 1000, 1_000_000] {
+            let game = random_game(&rt, alloc, seed, 22, below)?;
+            let found = by_sums(alloc, &game)?;
+            let wanted = tally(&rt, alloc, &game, 0, 2, &NoWatch)?;
+            same_counts(&rt, &found, &wanted);
+        }
+    }
+    Ok(())
+}
+
+/// Of 40 equal members those coalitions are minimal that have just as many members as the quota asks for.
+#[test]
+fn forty_equal_members_by_binomial_numbers(rt: HostRuntime) -> Result<(), Fail> {
+    let alloc = rt.alloc();
+    let mut all: u64 = 1;
+    for quota in 1..41u64 {
+        all = all.saturating_mul(41 - quota) / quota;
+        let game = game(alloc, quota, &[1; 40])?;
+        let counts = by_sums(alloc, &game)?;
+        assert!(rt; counts.members() == 40);
+        same(&rt, counts.total(), all, "of 40");
+        same(&rt, counts.of_size(quota as usize), all, "of 40 by size");
+        for member in 0..40 {
+            let found = counts.of_member(member).saturating_mul(40);
+            same(
+                &rt,
+                found,
+                all.saturating_mul(quota),
+                "of a member, 40 times",
+            );
+        }
+    }
+    Ok(())
+}
+
+/// A game of so many members whose weights have nothing in common, from 1,000,000 to 2,048,575: half of
+/// their total is asked for.
+fn uneven_game(alloc: Global, members: usize) -> Result<Game, GameFault> {
+    let mut weights = Vec::new(alloc);
+    let mut state = 1;
+    let mut total: u64 = 0;
+    for _ in 0..members {
+        state = next(state);
+        let weight = 1_000_000 + (state >> 44);
+        weights.push(weight)?;
+        total = total.saturating_add(weight);
+    }
+    game(alloc, total / 2, &weights)
+}
+
+/// Whether sums serve for a game.
+fn is_taken(alloc: Global, game: &Game) -> bool {
+    count_by_sums(alloc, game).is_ok_and(|counts| counts.is_some())
+}
+
+/// The rows of the pass over all members have 935,790 entries for 22 members and 1,728,884 for 23, as a script
+/// counted them; there is room for 1,048,576. Rows of weights near 10^12 that have nothing in common double with
+/// each member: there are more than 2^20 needs at one place.
+#[test]
+fn as_much_room_as_is_said(rt: HostRuntime) -> Result<(), Fail> {
+    let alloc = rt.alloc();
+    let within = uneven_game(alloc, 22)?;
+    let found = by_sums(alloc, &within)?;
+    same_counts(&rt, &found, &tally(&rt, alloc, &within, 0, 2, &NoWatch)?);
+    assert!(rt; !is_taken(alloc, &uneven_game(alloc, 23)?));
+    let mut weights = [0; 40];
+    let mut state = 1;
+    for member in 0..40 {
+        state = next(state);
+        weights[member] = 1_000_000_000_000 - (state >> 30);
+    }
+    assert!(rt; !is_taken(alloc, &game(alloc, 15_000_000_000_000, &weights)?));
+    Ok(())
+}
+
+/// The game of a seed as before, with a rule before or after it that gives each member 3.
+fn random_game_of_heads(
+    rt: &impl Abort,
+    alloc: Global,
+    seed: u64,
+    below: u64,
+    is_first: bool,
+) -> Result<Game, Fail> {
+    let first = random_game(rt, alloc, seed, 10, below)?;
+    let members = first.members();
+    assert!(rt; first.rules() == 1);
+    let mut names = Vec::new(alloc);
+    let mut weights = Vec::new(alloc);
+    let mut heads = Vec::new(alloc);
+    for member in 0..members {
+        names.push(format!(in alloc; "{member}")?)?;
+        weights.push(first.rule_weight(0, member))?;
+        heads.push(3)?;
+    }
+    let one = Rule {
+        quota: first.rule_quota(0),
+        weights,
+    };
+    let two = Rule {
+        quota: (next(seed) >> 33) % (members as u64 * 3) + 1,
+        weights: heads,
+    };
+    assert!(rt; one.weights.len() == names.len());
+    assert!(rt; two.weights.len() == names.len());
+    let mut rules = Vec::new(alloc);
+    if is_first {
+        rules.push(two)?;
+        rules.push(one)?;
+    } else {
+        rules.push(one)?;
+        rules.push(two)?;
+    }
+    Ok(Game::with_rules(alloc, None, names, rules)?)
+}
+
+#[test]
+fn random_games_of_heads_as_all_subsets(rt: HostRuntime) -> Result<(), Fail> {
+    let alloc = rt.alloc();
+    for seed in 200..240 {
+        for below in [2, 7, 100, 1_000_000_000_000] {
+            for is_first in [false, true] {
+                let game = random_game_of_heads(&rt, alloc, seed, below, is_first)?;
+                let found = by_sums(alloc, &game)?;
+                same_counts(&rt, &found, &by_subsets(&rt, alloc, &game)?);
+            }
+        }
+    }
+    Ok(())
+}
+
+/// A game of two rules over two members, the second of these weights.
+fn game_of_two(rt: &impl Abort, alloc: Global, second: &[u64]) -> Result<Game, Fail> {
+    let mut names = Vec::new(alloc);
+    names.push(format!(in alloc; "A")?)?;
+    names.push(format!(in alloc; "B")?)?;
+    let one = Rule {
+        quota: 1,
+        weights: [2, 1].to_vec(alloc)?,
+    };
+    let two = Rule {
+        quota: 1,
+        weights: second.to_vec(alloc)?,
+    };
+    assert!(rt; one.weights.len() == names.len());
+    assert!(rt; two.weights.len() == names.len());
+    let mut rules = Vec::new(alloc);
+    rules.push(one)?;
+    rules.push(two)?;
+    Ok(Game::with_rules(alloc, None, names, rules)?)
+}
+
+#[test]
+fn a_second_rule_of_other_weights_is_not_taken(rt: HostRuntime) -> Result<(), Fail> {
+    assert!(rt; !is_taken(rt.alloc(), &game_of_two(&rt, rt.alloc(), &[1, 2])?));
+    Ok(())
+}

@@ -1,0 +1,194 @@
+//! The calls that take memory. `tests/refusals.sh` refuses the allocations between the line `call` and
+//! the line of the answer, one after the other.
+use super::*;
+use crate::helpers::say;
+use council_text::{push_decimal, push_joined};
+use std::io::Print;
+
+/// Tells the answer of a call that makes a game: what is shown of the game here, or want of memory.
+fn tells_game<R: Abort + Print>(
+    rt: &R,
+    alloc: Global,
+    answer: Result<Game, GameFault>,
+    wanted: &str,
+) -> Result<(), Fail> {
+    if let Err(fault) = &answer {
+        say(rt, "out of memory");
+        same(rt, *fault, GameFault::Memory, "fault");
+        return Ok(());
+    }
+    say(rt, "worked");
+    same(rt, shown(alloc, answer)?.as_str(), wanted, "game");
+    Ok(())
+}
+
+#[test]
+fn parses_toml(rt: HostRuntime) -> Result<(), Fail> {
+    let file =
+        "title = \"Board\"\nquotas = [51, 2]\nmember = [{name = \"A\", weights = [50, 1]}, {name = \"B\", weights = [49, 1]}]";
+    say(&rt, "call");
+    let answer = parse_game(rt.alloc(), file.as_bytes());
+    tells_game(&rt, rt.alloc(), answer, "Board: A B [51; 50, 49] [2; 1, 1]")
+}
+
+#[test]
+fn parses_brackets(rt: HostRuntime) -> Result<(), Fail> {
+    say(&rt, "call");
+    let answer = parse_game(rt.alloc(), b"[51; 50, 49, 1]");
+    tells_game(&rt, rt.alloc(), answer, "1 2 3 [51; 50, 49, 1]")
+}
+
+#[test]
+fn reads_pieces(rt: HostRuntime) -> Result<(), Fail> {
+    let mut reader = Piecemeal {
+        left: BOARD.as_bytes(),
+        at_once: 7,
+        error: None,
+    };
+    say(&rt, "call");
+    let answer = read_game(rt.alloc(), &mut reader);
+    tells_game(&rt, rt.alloc(), answer, "A B C [51; 50, 49, 1]")
+}
+
+#[test]
+fn writes_notation(rt: HostRuntime) -> Result<(), Fail> {
+    let alloc = rt.alloc();
+    let Ok(game) = parse_game(alloc, BOARD.as_bytes()) else {
+        return Err(Fail::from("the game was refused"));
+    };
+    let mut out = Vec::new(alloc);
+    out.push(b'x')?;
+    assert!(rt; 0 < game.rules());
+    say(&rt, "call");
+    match write_notation(&game, 0, &mut out) {
+        Ok(()) => say(&rt, "worked"),
+        Err(_) => {
+            say(&rt, "out of memory");
+            same(&rt, out.as_slice(), b"x", "what is there");
+            write_notation(&game, 0, &mut out)?;
+        }
+    }
+    same(&rt, out.as_slice(), b"x[51; 50, 49, 1]", "notation");
+    Ok(())
+}
+
+/// Tells the answer of a call on a file that has this fault: the fault, or want of memory.
+fn tells_fault<R: Abort + Print>(
+    rt: &R,
+    answer: Result<Game, GameFault>,
+    wanted: GameFault,
+) -> Result<(), Fail> {
+    match answer.err() {
+        Some(GameFault::Memory) => say(rt, "out of memory"),
+        said => {
+            say(rt, "worked");
+            same(rt, said, Some(wanted), "fault");
+        }
+    }
+    Ok(())
+}
+
+#[test]
+fn finds_a_repeated_name(rt: HostRuntime) -> Result<(), Fail> {
+    let file =
+        "title = \"Board\"\nquotas = [51, 2]\nmember = [{name = \"A\", weights = [50, 1]}, {name = \"A\", weights = [49, 1]}]";
+    say(&rt, "call");
+    let answer = parse_game(rt.alloc(), file.as_bytes());
+    tells_fault(&rt, answer, GameFault::SameName { member: 2 })
+}
+
+#[test]
+fn finds_an_unknown_key(rt: HostRuntime) -> Result<(), Fail> {
+    let file =
+        "quota = 51\nmember = [{name = \"A\", weight = 50}, {name = \"B\", weight = 49, vote = 1}]";
+    say(&rt, "call");
+    let answer = parse_game(rt.alloc(), file.as_bytes());
+    tells_fault(&rt, answer, GameFault::UnknownKey)
+}
+
+#[test]
+fn finds_a_bad_weight(rt: HostRuntime) -> Result<(), Fail> {
+    let file = "quota = 51\nmember = [{name = \"A\", weight = 50}, {name = \"B\", weight = 49.0}]";
+    say(&rt, "call");
+    let answer = parse_game(rt.alloc(), file.as_bytes());
+    tells_fault(&rt, answer, GameFault::Weight { member: 2 })
+}
+
+#[test]
+fn finds_no_toml(rt: HostRuntime) -> Result<(), Fail> {
+    let file = "quota = 51\nmember = [{name = \"A\", weight = 50}, {name = \"B\"";
+    say(&rt, "call");
+    let answer = parse_game(rt.alloc(), file.as_bytes());
+    tells_fault(&rt, answer, GameFault::Text)
+}
+
+#[test]
+fn finds_a_bad_bracket_text(rt: HostRuntime) -> Result<(), Fail> {
+    say(&rt, "call");
+    let answer = parse_game(rt.alloc(), b"[51; 50, 49, 1, 1, 1, 1, 1, 1, 1,, 1]");
+    tells_fault(&rt, answer, GameFault::Bracket)
+}
+
+#[test]
+fn finds_a_quota_out_of_range(rt: HostRuntime) -> Result<(), Fail> {
+    say(&rt, "call");
+    let answer = parse_game(rt.alloc(), b"[101; 50, 49, 1]");
+    tells_fault(&rt, answer, GameFault::QuotaRange)
+}
+
+#[test]
+fn reads_a_fault(rt: HostRuntime) -> Result<(), Fail> {
+    let mut reader = Piecemeal {
+        left: b"[51; 50, 49, 1",
+        at_once: 7,
+        error: None,
+    };
+    say(&rt, "call");
+    let answer = read_game(rt.alloc(), &mut reader);
+    tells_fault(&rt, answer, GameFault::Bracket)
+}
+
+#[test]
+fn reads_up_to_an_error(rt: HostRuntime) -> Result<(), Fail> {
+    let mut reader = Piecemeal {
+        left: BOARD.as_bytes(),
+        at_once: 7,
+        error: Some(ErrorKind::TimedOut),
+    };
+    say(&rt, "call");
+    let answer = read_game(rt.alloc(), &mut reader);
+    tells_fault(&rt, answer, GameFault::Read)
+}
+
+#[test]
+fn reads_too_much(rt: HostRuntime) -> Result<(), Fail> {
+    let mut reader = Blanks { reads: 0 };
+    say(&rt, "call");
+    let answer = read_game(rt.alloc(), &mut reader);
+    tells_fault(&rt, answer, GameFault::TooLong)
+}
+
+/// Puts numbers behind a text: where a growth is refused, the text still stands in front.
+#[test]
+fn puts_numbers(rt: HostRuntime) -> Result<(), Fail> {
+    let mut text = Vec::new(rt.alloc());
+    text.extend_from_slice(b"x")?;
+    say(&rt, "call");
+    let joined = push_joined(&mut text, b", ", 300, |i| 1_000_000 + i as u64);
+    let length = text.len();
+    let last = push_decimal(&mut text, 7);
+    if joined.is_ok() && last.is_ok() {
+        say(&rt, "worked");
+        same(&rt, text.len(), 2_700, "length");
+    } else {
+        say(&rt, "out of memory");
+        let kept = last.is_ok() || text.len() == length;
+        same(
+            &rt,
+            (text.starts_with(b"x"), kept),
+            (true, true),
+            "what was there",
+        );
+    }
+    Ok(())
+}

@@ -1,0 +1,342 @@
+//! A listing against lines that are made independently, in several orders.
+mod asked;
+mod refusals;
+
+ghost use Rattle.std.specs.Prelude.{◌≡◌, length, IfOk};
+ghost use Rattle.council_game.specs.Game.{AreNonemptyCoalitions};
+
+use crate::helpers::same;
+use council_file::parse_game;
+use council_game::{Coalition, Game, plain_list};
+use council_report::{ReportFault, Shown, write_report, write_report_of, write_tally};
+use power_index::WideCounts;
+use power_index::laws::{minimal_coalitions_can_be_counted, tallies_are_counts};
+use std::alloc::{AllocError, Global};
+use std::io::{self, Error, ErrorKind, Write};
+use std::process::Abort;
+use std::test::Fail;
+
+/// A game of three rules. Its members stand in the opposite order of their rank.
+const GAME: &str = "quotas = [140, 7, 1]
+[[member]]
+name = \"Northumbria of the North\"
+weights = [14, 1, 947000000]
+[[member]]
+name = \"Mercia\"
+weights = [15, 1, 2800000]
+[[member]]
+name = \"L\"
+weights = [16, 1, 1090000]
+[[member]]
+name = \"Kent\"
+weights = [17, 1, 190000]
+[[member]]
+name = \"J\"
+weights = [18, 1, 27100]
+[[member]]
+name = \"Iberia and the Balearic Islands\"
+weights = [19, 1, 3520]
+[[member]]
+name = \"H\"
+weights = [20, 1, 433]
+[[member]]
+name = \"Gaul\"
+weights = [21, 1, 514000000]
+[[member]]
+name = \"Far Away Islands\"
+weights = [22, 1, 59500000]
+[[member]]
+name = \"Eire\"
+weights = [23, 1, 6760000]
+[[member]]
+name = \"D\"
+weights = [24, 1, 757000]
+[[member]]
+name = \"Caledonia the Greater\"
+weights = [25, 1, 83800]
+[[member]]
+name = \"Bo\"
+weights = [26, 1, 9190]
+[[member]]
+name = \"Alba\"
+weights = [27, 1, 0]
+";
+
+/// Its names and weights by rank.
+const NAMES: [&str; 14] = [
+    "Alba",
+    "Bo",
+    "Caledonia the Greater",
+    "D",
+    "Eire",
+    "Far Away Islands",
+    "Gaul",
+    "H",
+    "Iberia and the Balearic Islands",
+    "J",
+    "Kent",
+    "L",
+    "Mercia",
+    "Northumbria of the North",
+];
+
+const WEIGHTS: [[u64; 14]; 3] = [
+    [27, 26, 25, 24, 23, 22, 21, 20, 19, 18, 17, 16, 15, 14],
+    [1; 14],
+    [
+        0,
+        9190,
+        83_800,
+        757_000,
+        6_760_000,
+        59_500_000,
+        514_000_000,
+        433,
+        3520,
+        27_100,
+        190_000,
+        1_090_000,
+        2_800_000,
+        947_000_000,
+    ],
+];
+
+/// The minimal winning coalitions of a game of 14 members: in listing order at step 16383, in its
+/// opposite at step 1, and at other odd steps in other orders.
+fn coalitions(alloc: Global, game: &Game, step: u64) -> Result<Vec<Coalition>, AllocError>
+    requires { length game.now.names ≡ 14 }
+    ensures { IfOk result (λ v. AreNonemptyCoalitions game.now v.items) }
+{
+    let mut list = Vec::new(alloc);
+    for k in 1..16_384_u64 {
+        let mask = k.wrapping_mul(step) % 16_384;
+        if mask != 0 && game.is_minimal(Coalition::of_mask(mask)) {
+            list.push(Coalition::of_mask(mask))?;
+        }
+    }
+    Ok(list)
+}
+
+/// The game, which has 14 members.
+fn game(rt: &impl Abort, alloc: Global) -> Result<Game, Fail>
+    ensures { IfOk result (λ g. length g.names ≡ 14) }
+{
+    let game = parse_game(alloc, GAME.as_bytes())?;
+    assert!(rt; game.members() == 14);
+    Ok(game)
+}
+
+/// All 2,650 of its minimal winning coalitions, by such a step.
+fn listing(rt: &impl Abort, alloc: Global, game: &Game, step: u64) -> Result<Vec<Coalition>, Fail>
+    requires { length game.now.names ≡ 14 }
+    ensures coalitions { IfOk result (λ v. AreNonemptyCoalitions game.now v.items) }
+    ensures length { IfOk result (λ v. length v.items ≡ 2650) }
+{
+    let list = coalitions(alloc, game, step)?;
+    assert!(rt; list.len() == 2_650);
+    Ok(list)
+}
+
+/// The lines of these coalitions, each made for itself.
+fn lines(alloc: Global, list: &[Coalition]) -> Result<Vec<u8>, AllocError> {
+    let mut lines = Vec::new(alloc);
+    for coalition in list {
+        let mut size = 0_u64;
+        let mut sums = [0_u64; 3];
+        let mut names = Vec::new(alloc);
+        for place in 0..14 {
+            if (coalition.mask() >> (13 - place)) % 2 == 1 {
+                size = size.wrapping_add(1);
+                for rule in 0..3 {
+                    sums[rule] = sums[rule].wrapping_add(WEIGHTS[rule][place]);
+                }
+                names.push(b'\t')?;
+                names.extend_from_slice(NAMES[place].as_bytes())?;
+            }
+        }
+        let head = format!(in alloc; "coalition\t{size}\t{}/{}/{}", sums[0], sums[1], sums[2])?;
+        lines.extend_from_slice(head.as_bytes())?;
+        lines.extend_from_slice(&names)?;
+        lines.push(b'\n')?;
+    }
+    Ok(lines)
+}
+
+const HEADING: &[u8] = b"members\t14\nquota\t140/7/1\ntotal\t287/14/1532221043\nminimal\t2650\n";
+
+/// A report with a line for each coalition.
+const LIST: Shown = Shown {
+    list: true,
+    sizes: false,
+    notation: false,
+};
+
+#[test]
+fn lists_in_any_order(rt: HostRuntime) -> Result<(), Fail> {
+    let alloc = rt.alloc();
+    let game = game(&rt, alloc)?;
+    for step in [16_383, 1, 4_097, 5, 11_111] {
+        let list = listing(&rt, alloc, &game, step)?;
+        let mut written = Vec::new(alloc);
+        let answer = write_report(alloc, &game, &list, LIST, &mut written);
+        let mut wanted = Vec::from_slice(alloc, HEADING)?;
+        wanted.extend_from_slice(&lines(alloc, &list)?)?;
+        let found = (
+            step,
+            answer,
+            65_536 < wanted.len(),
+            written.starts_with(&wanted),
+        );
+        same(
+            &rt,
+            found,
+            (step, Ok(written.len() as u64), true, true),
+            "step",
+        );
+    }
+    Ok(())
+}
+
+const HEADING_TWICE: &[u8] =
+    b"members\t14\nquota\t140/7/1\ntotal\t287/14/1532221043\nminimal\t5300\n";
+
+#[test]
+fn lists_in_pieces(rt: HostRuntime) -> Result<(), Fail> {
+    let alloc = rt.alloc();
+    let game = game(&rt, alloc)?;
+    let first = listing(&rt, alloc, &game, 16_383)?;
+    let second = listing(&rt, alloc, &game, 5)?;
+    let mut counts = WideCounts::none(&game);
+    counts.count_row(&first);
+    counts.count_row(&second);
+    tallies_are_counts();
+    let mut written = Vec::new(alloc);
+    let answer = write_report_of(
+        alloc,
+        &game,
+        &[&first, &second],
+        &counts,
+        LIST,
+        &mut written,
+    );
+    let mut wanted = Vec::from_slice(alloc, HEADING_TWICE)?;
+    wanted.extend_from_slice(&lines(alloc, &first)?)?;
+    wanted.extend_from_slice(&lines(alloc, &second)?)?;
+    let found = (answer, written.starts_with(&wanted));
+    same(&rt, found, (Ok(written.len() as u64), true), "two pieces");
+    Ok(())
+}
+
+#[test]
+fn tallies_as_it_reports(rt: HostRuntime) -> Result<(), Fail> {
+    let alloc = rt.alloc();
+    let game = game(&rt, alloc)?;
+    let list = plain_list(alloc, &game)?;
+    assert!(rt; list.len() == 2_650);
+    minimal_coalitions_can_be_counted();
+    let shown = Shown {
+        list: false,
+        sizes: true,
+        notation: true,
+    };
+    let mut reported = Vec::new(alloc);
+    let first = write_report(alloc, &game, &list, shown, &mut reported);
+    let mut tallied = Vec::new(alloc);
+    let counts = WideCounts::of(&game, &list);
+    let second = write_tally(alloc, &game, &counts, shown, &mut tallied);
+    let length = Ok(reported.len() as u64);
+    same(&rt, (first, second), (length, length), "lengths");
+    same(&rt, tallied.as_slice(), reported.as_slice(), "reports");
+    Ok(())
+}
+
+/// A writer that takes so many bytes, at most so many a call, fails once, and would then take all. It
+/// counts its flushes, and the calls after the failure.
+#[derive(Drop)]
+struct Narrow {
+    taken: Vec<u8>,
+    room: usize,
+    step: usize,
+    failed: bool,
+    flushes: u32,
+    after: u32,
+}
+
+impl Narrow {
+    fn new(alloc: Global, room: usize, step: usize) -> Narrow {
+        Narrow {
+            taken: Vec::new(alloc),
+            room,
+            step,
+            failed: false,
+            flushes: 0,
+            after: 0,
+        }
+    }
+}
+
+impl Write for Narrow {
+    fn write(&mut self, bytes: &[u8]) -> io::Result<usize> {
+        if self.failed {
+            self.after = self.after.saturating_add(1);
+            return Ok(bytes.len());
+        }
+        if self.room == 0 {
+            self.failed = true;
+            return Err(Error::from(ErrorKind::Other));
+        }
+        let count = bytes.len().min(self.room).min(self.step);
+        self.taken.extend_from_slice(&bytes[..count])?;
+        self.room -= count;
+        Ok(count)
+    }
+
+    fn flush(&mut self) -> io::Result<()> {
+        self.flushes = self.flushes.saturating_add(1);
+        Ok(())
+    }
+}
+
+/// A block is 64 KiB: these writers fail in the first, the second and a later one. What was refused is
+/// not tried again, and nothing is flushed then; a whole report is flushed once.
+#[test]
+fn tells_what_a_writer_took_of_many_blocks(rt: HostRuntime) -> Result<(), Fail> {
+    let alloc = rt.alloc();
+    let game = game(&rt, alloc)?;
+    let list = listing(&rt, alloc, &game, 16_383)?;
+    let mut wanted = Vec::from_slice(alloc, HEADING)?;
+    wanted.extend_from_slice(&lines(alloc, &list)?)?;
+    assert!(rt; 150_000 < wanted.len());
+    for step in [1000, 65_536, 1_000_000] {
+        for room in [
+            61_439usize,
+            65_535,
+            65_536,
+            65_537,
+            70_000,
+            131_072,
+            150_000,
+        ] {
+            assert!(rt; room <= 150_000);
+            let mut writer = Narrow::new(alloc, room, step);
+            let answer = write_report(alloc, &game, &list, LIST, &mut writer);
+            let written = room as u64;
+            let took = writer.taken.as_slice() == &wanted[..room];
+            let found = (step, answer, took, writer.flushes, writer.after);
+            let fault = Err(ReportFault::Write { written });
+            same(&rt, found, (step, fault, true, 0, 0), "a writer that fails");
+        }
+        let mut writer = Narrow::new(alloc, 1_000_000, step);
+        let answer = write_report(alloc, &game, &list, LIST, &mut writer);
+        let took = writer.taken.starts_with(&wanted);
+        let found = (step, answer, took, writer.flushes, writer.after);
+        let length = Ok(writer.taken.len() as u64);
+        same(
+            &rt,
+            found,
+            (step, length, true, 1, 0),
+            "a writer that takes all",
+        );
+    }
+    Ok(())
+}

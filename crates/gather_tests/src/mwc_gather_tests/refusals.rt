@@ -1,0 +1,139 @@
+//! The calls that take memory, and one that takes none. `tests/refusals.sh` refuses the allocations
+//! between the line `call` and the line of the answer.
+use super::*;
+use crate::helpers::{say, say_memory};
+
+#[test]
+fn gathers(rt: HostRuntime) -> Result<(), Fail> {
+    let game = five(rt.alloc())?;
+    let passes = Passes::none();
+    say(&rt, "call");
+    let answer = gathered(&rt, rt.alloc(), &game, &passes, 2, 3, 5);
+    match answer {
+        Ok(gathered) => {
+            say(&rt, "worked");
+            assert!(rt; gathered.parts.len() == 3);
+            same(&rt, passes.counts(), [1, 1, 1, 1], "passes.counts");
+        }
+        Err(GatherFault::Memory) => say(&rt, "out of memory"),
+        Err(fault) => {
+            say(&rt, "not started");
+            assert!(rt; matches!(fault, GatherFault::Start));
+        }
+    }
+    let counts = passes.counts();
+    for _ in 0..1000 {
+        thread::yield_now();
+    }
+    same(&rt, passes.counts(), counts, "passes.counts 2");
+    let list = listed(&rt, rt.alloc(), &game, &NoGate, 2, 3, 5).expect(&rt, "a list");
+    same(
+        &rt,
+        list.as_slice(),
+        [24, 22, 21, 19, 15].as_slice(),
+        "list",
+    );
+    Ok(())
+}
+
+/// Where the list is too long and something is refused, the refusal is told.
+#[test]
+fn gathers_too_many(rt: HostRuntime) -> Result<(), Fail> {
+    let game = five(rt.alloc())?;
+    say(&rt, "call");
+    match gathered(&rt, rt.alloc(), &game, &NoGate, 2, 3, 4) {
+        Err(GatherFault::TooMany) => say(&rt, "worked"),
+        Err(GatherFault::Memory) => say(&rt, "out of memory"),
+        Err(GatherFault::Start) => say(&rt, "not started"),
+        _ => say(&rt, "another answer"),
+    }
+    Ok(())
+}
+
+#[test]
+fn puts_parts_in_order(rt: HostRuntime) -> Result<(), Fail> {
+    let game = five(rt.alloc())?;
+    let gathered = gathered(&rt, rt.alloc(), &game, &NoGate, 2, 3, 5)?;
+    say(&rt, "call");
+    let answer = gathered.in_order(rt.alloc());
+    say_memory(&rt, answer.is_ok());
+    let list = match answer {
+        Ok(list) => list,
+        Err(_) => gathered.in_order(rt.alloc()).expect(&rt, "a list"),
+    };
+    are_masks(&rt, &list, &FIVE, "the list");
+    Ok(())
+}
+
+/// How many coalitions each piece has.
+fn lens_of(alloc: Global, gathered: &Gathered) -> Result<Vec<usize>, AllocError> {
+    let Ok(pieces) = gathered.pieces(alloc) else {
+        return Err(AllocError);
+    };
+    let mut lens = Vec::new(alloc);
+    for piece in &pieces {
+        lens.push(piece.len())?;
+    }
+    Ok(lens)
+}
+
+#[test]
+fn finds_the_pieces(rt: HostRuntime) -> Result<(), Fail> {
+    let game = five(rt.alloc())?;
+    let gathered = gathered(&rt, rt.alloc(), &game, &NoGate, 2, 3, 5)?;
+    say(&rt, "call");
+    let answer = lens_of(rt.alloc(), &gathered);
+    say_memory(&rt, answer.is_ok());
+    let lens = match answer {
+        Ok(lens) => lens,
+        Err(_) => lens_of(rt.alloc(), &gathered).expect(&rt, "lengths"),
+    };
+    same(&rt, lens.as_slice(), [1, 3, 1, 0].as_slice(), "lens");
+    Ok(())
+}
+
+#[test]
+fn sends_into_a_batch(rt: HostRuntime) -> Result<(), Fail> {
+    let game = five(rt.alloc())?;
+    assert!(rt; game.members() == 5);
+    let guarded = Guarded::new(&game, &NoGate);
+    let mut batch = Batch::new(rt.alloc(), 16);
+    say(&rt, "call");
+    let sent = send_slice(&rt, &guarded, 2, 1, 1, 6, &mut batch);
+    let wanted = if sent == Sent::Refused {
+        Sent::Refused
+    } else {
+        Sent::Whole { left: 3 }
+    };
+    say_memory(&rt, sent != Sent::Refused);
+    same(&rt, sent, wanted, "sent");
+    let words = words_of_slice();
+    let mut pipe = batch.close();
+    let count = pipe.len() as usize;
+    same(
+        &rt,
+        count == words.len(),
+        sent != Sent::Refused,
+        "count == words.len",
+    );
+    for word in words.iter().take(count) {
+        same(&rt, pipe.take(), Taken::Item(*word), "pipe.take");
+    }
+    same(&rt, pipe.take(), Taken::Ended, "pipe.take 2");
+    Ok(())
+}
+
+#[test]
+fn marks_without_memory(rt: HostRuntime) -> Result<(), Fail> {
+    say(&rt, "call");
+    let mut marks = Marks::new(2);
+    assert!(rt; marks.give(0, 3));
+    assert!(rt; !marks.give(0, 4));
+    same(&rt, marks.holder(0), Some(3), "marks.holder");
+    same(&rt, marks.holder(1), None, "marks.holder 2");
+    assert!(rt; !marks.all_given());
+    assert!(rt; marks.give(1, 3));
+    assert!(rt; marks.all_given());
+    say(&rt, "worked");
+    Ok(())
+}

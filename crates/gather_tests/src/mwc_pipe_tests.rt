@@ -1,0 +1,482 @@
+//! Rows worked by hand, and two threads that move words through a ring.
+mod refusals;
+
+ghost use Rattle.std.specs.Prelude.{◌≡◌, ◌≤◌, IfOk};
+
+use crate::helpers::same;
+use council_game::Coalition;
+use mwc_pipe::{
+    Batch, Closed, Pipe, PipeIn, Refused, Reply, RingIn, RingOut, Step, Taken, Unfinished, Word,
+    replay, ring,
+};
+use std::snapshot::Snapshot;
+use std::test::Fail;
+use std::thread;
+use std::thread::Promise;
+
+const STEPS: [Step<char>; 12] = [
+    Step::Take,
+    Step::Put('a'),
+    Step::Put('b'),
+    Step::Put('c'),
+    Step::Take,
+    Step::Put('c'),
+    Step::Close,
+    Step::Put('d'),
+    Step::Take,
+    Step::Take,
+    Step::Take,
+    Step::Close,
+];
+
+const REPLIES: [Reply<char>; 12] = [
+    Reply::Empty,
+    Reply::Accepted,
+    Reply::Accepted,
+    Reply::Full,
+    Reply::Item('a'),
+    Reply::Accepted,
+    Reply::First,
+    Reply::Closed,
+    Reply::Item('b'),
+    Reply::Item('c'),
+    Reply::Ended,
+    Reply::Again,
+];
+
+#[test]
+fn replays_a_history(rt: HostRuntime) -> Result<(), Fail> {
+    let trace = replay(rt.alloc(), 2, &STEPS)?;
+    same(
+        &rt,
+        trace.replies.as_slice(),
+        REPLIES.as_slice(),
+        "trace.replies",
+    );
+    same(
+        &rt,
+        trace.came.as_slice(),
+        ['a', 'b', 'c'].as_slice(),
+        "trace.came",
+    );
+    same(
+        &rt,
+        trace.gone.as_slice(),
+        ['a', 'b', 'c'].as_slice(),
+        "trace.gone",
+    );
+    same(&rt, trace.inside.len(), 0, "trace.inside.len");
+    assert!(rt; trace.closed);
+    Ok(())
+}
+
+#[test]
+fn serves_the_same_calls(rt: HostRuntime) {
+    let mut pipe = Pipe::new(rt.alloc(), 2);
+    same(&rt, pipe.take(), Taken::Empty, "pipe.take");
+    same(&rt, pipe.put('a'), Ok(()), "pipe.put");
+    same(&rt, pipe.put('b'), Ok(()), "pipe.put 2");
+    same(&rt, pipe.put('c'), Err(Refused::Full('c')), "pipe.put 3");
+    same(&rt, pipe.take(), Taken::Item('a'), "pipe.take 2");
+    same(&rt, pipe.put('c'), Ok(()), "pipe.put 4");
+    same(&rt, pipe.len(), 2, "pipe.len");
+    assert!(rt; !pipe.is_closed());
+    assert!(rt; pipe.close());
+    same(&rt, pipe.put('d'), Err(Refused::Closed('d')), "pipe.put 5");
+    same(&rt, pipe.take(), Taken::Item('b'), "pipe.take 3");
+    same(&rt, pipe.take(), Taken::Item('c'), "pipe.take 4");
+    same(&rt, pipe.take(), Taken::Ended, "pipe.take 5");
+    assert!(rt; !pipe.close());
+}
+
+const END: Word = Word::End { cut: false };
+
+#[test]
+fn fills_a_batch(rt: HostRuntime) {
+    let mut batch = Batch::new(rt.alloc(), 2);
+    same(&rt, batch.put(Word::Open(0)), Ok(()), "batch.put");
+    same(&rt, batch.put(Word::Done(0)), Ok(()), "batch.put 2");
+    same(&rt, batch.put(END), Err(Refused::Full(END)), "batch.put 3");
+    let mut pipe = batch.close();
+    same(&rt, pipe.take(), Taken::Item(Word::Open(0)), "pipe.take");
+    same(&rt, pipe.take(), Taken::Item(Word::Done(0)), "pipe.take 2");
+    same(&rt, pipe.take(), Taken::Ended, "pipe.take 3");
+    same(&rt, pipe.take(), Taken::Ended, "pipe.take 4");
+    same(&rt, pipe.put(END), Err(Refused::Closed(END)), "pipe.put");
+    assert!(rt; !pipe.close());
+    same(&rt, pipe.len(), 0, "pipe.len");
+    same(&rt, pipe.capacity(), 2, "pipe.capacity");
+    assert!(rt; pipe.is_closed());
+}
+
+/// Puts the word in until it is refused, at most `most` times, and says how often it went in.
+fn fill<P: PipeIn<Word>>(pipe: &mut P, word: Word, most: u32) -> u32 {
+    for done in 0..most {
+        // a copy for the call: the prover does not follow a word that is given away in a loop
+        let again = word;
+        if pipe.put(again).is_err() {
+            return done;
+        }
+    }
+    most
+}
+
+#[test]
+fn fills_both_kinds_of_pipe(rt: HostRuntime) -> Result<(), Fail> {
+    let mut batch = Batch::new(rt.alloc(), 3);
+    same(&rt, fill(&mut batch, Word::Done(7), 5), 3, "fill");
+    let (mut to, mut from) = ring(rt.alloc(), 3)?;
+    same(&rt, fill(&mut to, Word::Done(7), 5), 3, "fill 2");
+    same(
+        &rt,
+        PipeIn::put(&mut to, Word::Open(7)),
+        Err(Refused::Full(Word::Open(7))),
+        "PipeIn::put",
+    );
+    same(&rt, from.take(), Some(Word::Done(7)), "from.take");
+    same(&rt, fill(&mut to, Word::Done(7), 5), 1, "fill 3");
+    Ok(())
+}
+
+const ROW: [Word; 4] = [Word::Open(0), Word::Done(0), Word::Open(1), Word::Done(1)];
+
+#[test]
+fn moves_rows_through_a_ring(rt: HostRuntime) -> Result<(), Fail> {
+    let (mut to, mut from) = ring(rt.alloc(), 3)?;
+    let row = ROW.as_slice();
+    let mut taken = [END; 4];
+    same(&rt, from.take_some(&mut taken), 0, "from.take_some");
+    same(&rt, taken.as_slice(), [END; 4].as_slice(), "taken");
+    same(&rt, to.put_some(&row[..2]), 2, "to.put_some");
+    same(&rt, to.put_some(&row[..0]), 0, "to.put_some 2");
+    same(&rt, to.put_some(row), 1, "to.put_some 3");
+    same(&rt, to.put_some(row), 0, "to.put_some 4");
+    same(&rt, from.take_some(&mut taken[..1]), 1, "from.take_some 2");
+    same(&rt, from.take_some(&mut taken[..0]), 0, "from.take_some 3");
+    same(
+        &rt,
+        taken.as_slice(),
+        [Word::Open(0), END, END, END].as_slice(),
+        "taken 2",
+    );
+    same(&rt, to.put_some(&row[2..]), 1, "to.put_some 5");
+    same(&rt, from.take_some(&mut taken), 3, "from.take_some 4");
+    same(
+        &rt,
+        taken.as_slice(),
+        [Word::Done(0), Word::Open(0), Word::Open(1), END].as_slice(),
+        "taken 3",
+    );
+    Ok(())
+}
+
+#[test]
+fn fills_the_largest_ring_by_rows(rt: HostRuntime) -> Result<(), Fail> {
+    let (mut to, mut from) = ring(rt.alloc(), 65536)?;
+    let row = [Word::Open(7); 1000];
+    for _ in 0..65 {
+        same(&rt, to.put_some(&row), 1000, "to.put_some");
+    }
+    same(&rt, to.put_some(&row), 536, "to.put_some 2");
+    same(&rt, to.put_some(&row), 0, "to.put_some 3");
+    let mut taken = [END; 1000];
+    for _ in 0..65 {
+        same(&rt, from.take_some(&mut taken), 1000, "from.take_some");
+        same(&rt, taken.as_slice(), row.as_slice(), "taken");
+    }
+    same(&rt, from.take_some(&mut taken), 536, "from.take_some 2");
+    Ok(())
+}
+
+#[test]
+fn ends_a_ring(rt: HostRuntime) -> Result<(), Fail> {
+    let (mut to, mut from) = ring(rt.alloc(), 2)?;
+    same(&rt, from.take(), None, "from.take");
+    same(&rt, to.put(Word::Open(0)), Ok(()), "to.put");
+    same(&rt, to.put(Word::Done(0)), Ok(()), "to.put 2");
+    same(&rt, to.put(END), Err(END), "to.put 3");
+    same(&rt, from.take(), Some(Word::Open(0)), "from.take 2");
+    let closed = to.close()?;
+    let mut rest = from.end(closed);
+    same(&rt, rest.next(), Some(Word::Done(0)), "rest.next");
+    same(&rt, rest.next(), None, "rest.next 2");
+    same(&rt, rest.next(), None, "rest.next 3");
+    Ok(())
+}
+
+#[test]
+fn fills_the_largest_ring(rt: HostRuntime) -> Result<(), Fail> {
+    let (mut to, _from) = ring(rt.alloc(), 65536)?;
+    same(&rt, fill(&mut to, Word::Open(0), 70_000), 65_536, "fill");
+    Ok(())
+}
+
+/// Each ring takes as many words as it has room for, gives them, and takes as many again.
+#[test]
+fn fills_rings_of_many_capacities(rt: HostRuntime) -> Result<(), Fail> {
+    for room in [1usize, 2, 3, 63, 64, 65, 1000, 4096, 4097, 65_535] {
+        assert!(rt; 1 <= room && room <= 65_535);
+        let (mut to, mut from) = ring(rt.alloc(), room)?;
+        for _ in 0..2 {
+            same(&rt, fill(&mut to, END, 70_000) as usize, room, "fill");
+            for _ in 0..room {
+                same(&rt, from.take(), Some(END), ("room", room));
+            }
+            same(&rt, from.take(), None, ("room", room));
+        }
+    }
+    Ok(())
+}
+
+/// How many items the pure pipes below are given.
+const ITEMS: u32 = 20_000;
+
+#[test]
+fn holds_thousands_of_items(rt: HostRuntime) -> Result<(), Fail> {
+    for capacity in [1u32, 1000, 4097, 19_999, 20_000, 8_388_608] {
+        assert!(rt; 1 <= capacity && capacity <= 8_388_608);
+        let mut pipe = Pipe::new(rt.alloc(), capacity);
+        let inside = ITEMS.min(capacity);
+        for item in 0..ITEMS {
+            let wanted = if item < capacity {
+                Ok(())
+            } else {
+                Err(Refused::Full(item))
+            };
+            same(&rt, pipe.put(item), wanted, ("capacity", capacity));
+        }
+        same(&rt, pipe.len(), inside, "pipe.len");
+        assert!(rt; pipe.close());
+        for item in 0..inside {
+            same(&rt, pipe.take(), Taken::Item(item), ("capacity", capacity));
+        }
+        same(&rt, pipe.take(), Taken::Ended, ("capacity", capacity));
+    }
+    Ok(())
+}
+
+/// All items are put, taken and put again through a pipe that has room for half of them.
+#[test]
+fn replays_thousands_of_steps(rt: HostRuntime) -> Result<(), Fail> {
+    let alloc = rt.alloc();
+    let half = ITEMS / 2;
+    let mut steps = Vec::new(alloc);
+    for item in 0..ITEMS {
+        steps.push(Step::Put(item))?;
+    }
+    for _ in 0..half {
+        steps.push(Step::Take)?;
+    }
+    for item in half..ITEMS {
+        steps.push(Step::Put(item))?;
+    }
+    steps.push(Step::Close)?;
+    let trace = replay(alloc, half, &steps)?;
+    let found = (trace.came.len(), trace.gone.len(), trace.inside.len());
+    let wanted = (ITEMS as usize, half as usize, half as usize);
+    same(
+        &rt,
+        found,
+        wanted,
+        "how many came, are gone, and are inside",
+    );
+    same(&rt, trace.replies.len(), steps.len(), "trace.replies.len");
+    assert!(rt; trace.closed);
+    for (number, item) in trace.came.iter().enumerate() {
+        same(&rt, *item as usize, number, "*item as usize");
+    }
+    for (number, item) in trace.gone.iter().enumerate() {
+        same(&rt, *item as usize, number, "*item as usize 2");
+    }
+    for (number, item) in trace.inside.iter().enumerate() {
+        same(
+            &rt,
+            *item as usize,
+            number.wrapping_add(half as usize),
+            "*item as usize 3",
+        );
+    }
+    Ok(())
+}
+
+/// How many words go from one thread to the other.
+const WORDS: u32 = 100_000;
+
+/// Word number so many.
+fn numbered(number: u32) -> Word {
+    Word::One(Coalition::of_mask(u64::from(number)))
+}
+
+/// What a thread that fills a ring promises: the closed end is of that ring.
+#[derive(Drop)]
+struct Fills(Snapshot<RingIn>);
+
+impl Promise<Result<Closed, Unfinished>> for Fills {
+    ghost kept_by = { λ p r. IfOk r (λ c. c.ring ≡ p.0.value.ring) };
+}
+
+/// How often a thread looks for room or for a word before it gives up.
+const TURNS: u32 = 20_000_000;
+
+/// Puts the word in, waits while the ring is full, and says whether it went in.
+fn put_waiting(to: &mut RingIn, word: Word) -> bool
+    ensures { to.new.ring ≡ to.old.ring }
+{
+    let mut word = word;
+    for _ in 0..TURNS {
+        match to.put(word) {
+            Ok(()) => return true,
+            Err(back) => word = back,
+        }
+        thread::yield_now();
+    }
+    false
+}
+
+/// Takes the next word, and waits while there is none.
+fn take_waiting(from: &mut RingOut) -> Option<Word>
+    ensures { from.new.ring ≡ from.old.ring }
+{
+    for _ in 0..TURNS {
+        if let Some(word) = from.take() {
+            return Some(word);
+        }
+        thread::yield_now();
+    }
+    None
+}
+
+/// Puts all words in, in order, up to one that does not go in, and closes the ring.
+fn put_all(to: RingIn) -> Result<Closed, Unfinished>
+    ensures { IfOk result (λ c. c.ring ≡ to.ring) }
+{
+    let mut to = to;
+    for number in 0..WORDS {
+        if !put_waiting(&mut to, numbered(number)) {
+            return to.close();
+        }
+    }
+    to.close()
+}
+
+/// Takes the first words, and says how many came in their order.
+fn take_first(from: &mut RingOut, count: u32) -> u32
+    ensures { from.new.ring ≡ from.old.ring }
+{
+    for number in 0..count {
+        if take_waiting(from) != Some(numbered(number)) {
+            return number;
+        }
+    }
+    count
+}
+
+#[test]
+fn moves_words_between_threads(rt: HostRuntime) -> Result<(), Fail> {
+    for room in [1, 2, 64, 65, 1000] {
+        assert!(rt; 1 <= room && room <= 1000);
+        let (to, mut from) = ring(rt.alloc(), room)?;
+        let fills = Fills(Snapshot::of(&to));
+        let Ok(filler) = thread::spawn_with(&rt, fills, move || put_all(to)) else {
+            return Err(Fail::from("no thread"));
+        };
+        let before = WORDS - room as u32;
+        same(&rt, take_first(&mut from, before), before, ("room", room));
+        let mut rest = from.end(filler.join(&rt)?);
+        for number in before..WORDS {
+            same(&rt, rest.next(), Some(numbered(number)), ("room", room));
+        }
+        same(&rt, rest.next(), None, ("room", room));
+    }
+    Ok(())
+}
+
+/// Puts all words in, in order, by rows of at most so many, and closes the ring; it gives up where it
+/// found no room too often.
+fn put_all_rows(to: RingIn, most: u32) -> Result<Closed, Unfinished>
+    requires { most ≤ 64 }
+    ensures { IfOk result (λ c. c.ring ≡ to.ring) }
+{
+    let mut to = to;
+    let mut row = [END; 64];
+    let mut number = 0;
+    for _ in 0..TURNS {
+        if number >= WORDS {
+            return to.close();
+        }
+        let count = (WORDS - number).min(most) as usize;
+        for at in 0..count {
+            row[at] = numbered(number + at as u32);
+        }
+        let put = to.put_some(&row[..count]);
+        number += put as u32;
+        if put == 0 {
+            thread::yield_now();
+        }
+    }
+    to.close()
+}
+
+/// Takes the first words by rows of at most so many, and says how many came in their order.
+fn take_first_rows(from: &mut RingOut, count: u32, most: u32) -> u32
+    requires { most ≤ 64 }
+    ensures { from.new.ring ≡ from.old.ring }
+{
+    let mut row = [END; 64];
+    let mut number = 0;
+    for _ in 0..TURNS {
+        if number >= count {
+            return count;
+        }
+        let room = (count - number).min(most) as usize;
+        let taken = from.take_some(&mut row[..room]);
+        for word in &row[..taken] {
+            if *word != numbered(number) {
+                return number;
+            }
+            number += 1;
+        }
+        if taken == 0 {
+            thread::yield_now();
+        }
+    }
+    number
+}
+
+#[test]
+fn moves_rows_between_threads(rt: HostRuntime) -> Result<(), Fail> {
+    for (room, put, take) in [
+        (1, 1, 64),
+        (2, 64, 1),
+        (3, 2, 2),
+        (64, 64, 64),
+        (64, 7, 64),
+        (64, 64, 5),
+        (65, 64, 64),
+        (1000, 64, 7),
+    ] {
+        assert!(rt; 1 <= room && room <= 1000 && put <= 64 && take <= 64);
+        let (to, mut from) = ring(rt.alloc(), room)?;
+        let fills = Fills(Snapshot::of(&to));
+        let filling = move || -> Result<Closed, Unfinished>
+            requires { put ≤ 64 }
+            ensures { IfOk result (λ c. c.ring ≡ to.ring) }
+        { put_all_rows(to, put) };
+        let Ok(filler) = thread::spawn_with(&rt, fills, filling) else {
+            return Err(Fail::from("no thread"));
+        };
+        let before = WORDS - room as u32;
+        same(
+            &rt,
+            take_first_rows(&mut from, before, take),
+            before,
+            ("room", room),
+        );
+        let mut rest = from.end(filler.join(&rt)?);
+        for number in before..WORDS {
+            same(&rt, rest.next(), Some(numbered(number)), ("room", room));
+        }
+        same(&rt, rest.next(), None, ("room", room));
+    }
+    Ok(())
+}

@@ -1,5 +1,0 @@
-//! The tests of `mwc_gather` by its public calls. They stand beside it, so that it is proved once.
-#![tactic(auto)]
-
-#[cfg(test)]
-mod tests;

@@ -1,6 +1,0 @@
-use Rattle.std.proofs.Common.{◌<◌, ◌^◌}
-use Rattle.std.specs.List.{All}
-use Rattle.mwc_tally_tests.proofs.tests.pieces.coalitions.Given as goal
-
-abbrev pub invariant-loop-mask : goal.invariant-loop-mask
-invariant-loop-mask g l = All (λ c. (0 < c) × (c < 2 ^ l.members)) l.list.items

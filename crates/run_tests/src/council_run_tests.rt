@@ -1,0 +1,543 @@
+//! Worked reports, command lines, statuses, and readers and writers that fail.
+mod asked;
+mod gates;
+mod refusals;
+mod texts;
+mod watches;
+
+ghost use Rattle.std.specs.Prelude.{ℕ, ◌≤◌, ◌<◌, ⊤};
+
+use crate::helpers::same;
+use council_game::GameFault;
+use council_run::{Cause, NoWatch, Options, RunFault, run, status, tally};
+use mwc_gather::{Gate, GatherFault, NoGate};
+use std::alloc::Global;
+use std::io::{Error, ErrorKind, Read, Write};
+use std::sync::Wait;
+use std::sync::atomic::{AtomicU64, Ordering};
+use std::test::Fail;
+use std::thread::Threads;
+use std::{hint, io, thread};
+
+/// The game [51; 50, 49, 1] of members A, B, C.
+const BOARD: &[u8] =
+    b"quota = 51\n[[member]]\nname = \"A\"\nweight = 50\n[[member]]\nname = \"B\"\nweight = 49\n[[member]]\nname = \"C\"\nweight = 1\n";
+
+const BOARD_REPORT: &[u8] =
+    b"members\t3\nquota\t51\ntotal\t100\nminimal\t2\nmember\tA\t50\t2\t1/2\t0.500000\t1/2\t0.500000\nmember\tB\t49\t1\t1/4\t0.250000\t1/4\t0.250000\nmember\tC\t1\t1\t1/4\t0.250000\t1/4\t0.250000\n";
+
+const FIVE: &[u8] = b"[51; 35, 20, 15, 15, 15]";
+
+const FIVE_REPORT: &[u8] =
+    b"members\t5\nquota\t51\ntotal\t100\nminimal\t5\ncoalition\t2\t55\t1\t2\ncoalition\t3\t65\t1\t3\t4\ncoalition\t3\t65\t1\t3\t5\ncoalition\t3\t65\t1\t4\t5\ncoalition\t4\t65\t2\t3\t4\t5\nsize\t2\t1\t1\t1\t0\t0\t0\nsize\t3\t3\t3\t0\t2\t2\t2\nsize\t4\t1\t0\t1\t1\t1\t1\nmember\t1\t35\t4\t3/10\t0.300000\t4/15\t0.266666\nmember\t2\t20\t2\t3/20\t0.150000\t2/15\t0.133333\nmember\t3\t15\t3\t11/60\t0.183333\t1/5\t0.200000\nmember\t4\t15\t3\t11/60\t0.183333\t1/5\t0.200000\nmember\t5\t15\t3\t11/60\t0.183333\t1/5\t0.200000\n";
+
+/// The options that the program uses where none is given.
+fn plain() -> Options {
+    Options {
+        workers: 4,
+        bits: 6,
+        most: 1_000_000,
+        list: false,
+        sizes: false,
+        notation: false,
+    }
+}
+
+fn listing() -> Options {
+    Options {
+        workers: 3,
+        bits: 2,
+        most: 5,
+        list: true,
+        sizes: true,
+        notation: false,
+    }
+}
+
+fn with_notation() -> Options {
+    Options {
+        workers: 4,
+        bits: 6,
+        most: 1_000_000,
+        list: false,
+        sizes: false,
+        notation: true,
+    }
+}
+
+fn with_list() -> Options {
+    Options {
+        workers: 16,
+        bits: 10,
+        most: 1_000_000,
+        list: true,
+        sizes: false,
+        notation: false,
+    }
+}
+
+fn most(most: u32) -> Options
+    requires { (1 ≤ most) × (most ≤ 4000000) }
+{
+    Options {
+        workers: 4,
+        bits: 6,
+        most,
+        list: false,
+        sizes: false,
+        notation: false,
+    }
+}
+
+/// Worked games, each with its options and its report.
+fn worked() -> [(&'static [u8], Options, &'static [u8]); 8] {
+    [
+        (BOARD, plain(), BOARD_REPORT),
+        (
+            BOARD,
+            with_list(),
+            b"members\t3\nquota\t51\ntotal\t100\nminimal\t2\ncoalition\t2\t99\tA\tB\ncoalition\t2\t51\tA\tC\nmember\tA\t50\t2\t1/2\t0.500000\t1/2\t0.500000\nmember\tB\t49\t1\t1/4\t0.250000\t1/4\t0.250000\nmember\tC\t1\t1\t1/4\t0.250000\t1/4\t0.250000\n",
+        ),
+        (
+            b"[51; 50, 49, 1]",
+            with_notation(),
+            b"members\t3\nquota\t51\ntotal\t100\nnotation\t[51; 50, 49, 1]\nminimal\t2\nmember\t1\t50\t2\t1/2\t0.500000\t1/2\t0.500000\nmember\t2\t49\t1\t1/4\t0.250000\t1/4\t0.250000\nmember\t3\t1\t1\t1/4\t0.250000\t1/4\t0.250000\n",
+        ),
+        (
+            b"title = \"Board\"\nquota = 1\nmember = [{name = \"A\", weight = 1}]",
+            plain(),
+            b"title\tBoard\nmembers\t1\nquota\t1\ntotal\t1\nminimal\t1\nmember\tA\t1\t1\t1/1\t1.000000\t1/1\t1.000000\n",
+        ),
+        (FIVE, listing(), FIVE_REPORT),
+        (
+            b"[1; 1, 0, 1]",
+            with_list(),
+            b"members\t3\nquota\t1\ntotal\t2\nminimal\t2\ncoalition\t1\t1\t1\ncoalition\t1\t1\t3\nmember\t1\t1\t1\t1/2\t0.500000\t1/2\t0.500000\nmember\t2\t0\t0\t0/1\t0.000000\t0/1\t0.000000\nmember\t3\t1\t1\t1/2\t0.500000\t1/2\t0.500000\n",
+        ),
+        (
+            b"quotas = [5, 3]\nmember = [{name = \"A\", weights = [3, 1]}, {name = \"B\", weights = [2, 1]}, {name = \"C\", weights = [2, 1]}, {name = \"D\", weights = [1, 1]}]",
+            with_list(),
+            b"members\t4\nquota\t5/3\ntotal\t8/4\nminimal\t4\ncoalition\t3\t7/3\tA\tB\tC\ncoalition\t3\t6/3\tA\tB\tD\ncoalition\t3\t6/3\tA\tC\tD\ncoalition\t3\t5/3\tB\tC\tD\nmember\tA\t3/1\t3\t1/4\t0.250000\t1/4\t0.250000\nmember\tB\t2/1\t3\t1/4\t0.250000\t1/4\t0.250000\nmember\tC\t2/1\t3\t1/4\t0.250000\t1/4\t0.250000\nmember\tD\t1/1\t3\t1/4\t0.250000\t1/4\t0.250000\n",
+        ),
+        (
+            b"[12; 4, 4, 4, 2, 2, 1]",
+            plain(),
+            b"members\t6\nquota\t12\ntotal\t17\nminimal\t4\nmember\t1\t4\t3\t5/24\t0.208333\t1/5\t0.200000\nmember\t2\t4\t3\t5/24\t0.208333\t1/5\t0.200000\nmember\t3\t4\t3\t5/24\t0.208333\t1/5\t0.200000\nmember\t4\t2\t3\t3/16\t0.187500\t1/5\t0.200000\nmember\t5\t2\t3\t3/16\t0.187500\t1/5\t0.200000\nmember\t6\t1\t0\t0/1\t0.000000\t0/1\t0.000000\n",
+        ),
+    ]
+}
+
+#[test]
+fn writes_the_worked_reports(rt: HostRuntime) -> Result<(), Fail> {
+    same(&rt, BOARD_REPORT.len(), 158, "BOARD_REPORT.len");
+    let alloc = rt.alloc();
+    for (file, options, report) in worked() {
+        let mut reader = file;
+        let mut written = Vec::new(alloc);
+        let answer = run(&rt, alloc, &mut reader, &options, &NoGate, &mut written);
+        same(&rt, written.as_slice(), report, "written");
+        assert!(rt; answer == Ok(report.len() as u64));
+    }
+    Ok(())
+}
+
+/// A writer that looks whether the bytes that it takes are those that it awaits, and takes no memory:
+/// all of each write or, with a number to begin with, a part whose length is drawn anew each time.
+#[derive(Drop)]
+struct Awaiting<'a> {
+    awaited: &'a [u8],
+    differs: bool,
+    calls: u32,
+    part: Option<u32>,
+}
+
+impl Awaiting<'_> {
+    /// How many of so many bytes are taken.
+    fn count(&mut self, length: usize) -> usize {
+        match self.part {
+            Some(drawn) if length > 0 => {
+                let drawn = drawn.wrapping_mul(1_664_525).wrapping_add(1_013_904_223);
+                self.part = Some(drawn);
+                1 + (drawn >> 16) as usize % length
+            }
+            _ => length,
+        }
+    }
+}
+
+impl Write for Awaiting<'_> {
+    fn write(&mut self, bytes: &[u8]) -> io::Result<usize> {
+        self.calls = self.calls.saturating_add(1);
+        let count = self.count(bytes.len()).min(bytes.len());
+        match self.awaited.strip_prefix(&bytes[..count]) {
+            Some(rest) => self.awaited = rest,
+            None => self.differs = true,
+        }
+        Ok(count)
+    }
+
+    fn flush(&mut self) -> io::Result<()> {
+        Ok(())
+    }
+}
+
+#[test]
+fn writes_through_parts_of_any_length(rt: HostRuntime) -> Result<(), Fail> {
+    for seed in 0..100 {
+        for (file, options, report) in worked() {
+            let mut reader = file;
+            let mut writer = Awaiting {
+                awaited: report,
+                differs: false,
+                calls: 0,
+                part: Some(seed),
+            };
+            let answer = run(&rt, rt.alloc(), &mut reader, &options, &NoGate, &mut writer);
+            assert!(rt; answer == Ok(report.len() as u64), "{seed}");
+            assert!(rt; writer.awaited.is_empty() && !writer.differs, "{seed}");
+        }
+    }
+    Ok(())
+}
+
+/// A writer that takes so many bytes, at most so many a call, and then fails.
+#[derive(Drop)]
+struct Narrow {
+    taken: Vec<u8>,
+    room: usize,
+    step: usize,
+    kind: Option<ErrorKind>,
+    flushes: bool,
+}
+
+impl Write for Narrow {
+    fn write(&mut self, bytes: &[u8]) -> io::Result<usize> {
+        if self.room == 0 {
+            return match self.kind {
+                Some(kind) => Err(Error::from(kind)),
+                None => Ok(0),
+            };
+        }
+        let count = bytes.len().min(self.room).min(self.step);
+        self.taken.extend_from_slice(&bytes[..count])?;
+        self.room -= count;
+        Ok(count)
+    }
+
+    fn flush(&mut self) -> io::Result<()> {
+        if self.flushes {
+            Ok(())
+        } else {
+            Err(Error::from(ErrorKind::Other))
+        }
+    }
+}
+
+#[test]
+fn tells_what_a_failing_writer_took(rt: HostRuntime) -> Result<(), Fail> {
+    let alloc = rt.alloc();
+    for kind in [None, Some(ErrorKind::Interrupted), Some(ErrorKind::Other)] {
+        for room in 0..158usize {
+            let mut writer = Narrow {
+                taken: Vec::new(alloc),
+                room,
+                step: 7,
+                kind,
+                flushes: true,
+            };
+            let mut reader = BOARD;
+            let answer = run(&rt, alloc, &mut reader, &plain(), &NoGate, &mut writer);
+            let wanted = RunFault {
+                cause: Cause::Write,
+                written: room as u64,
+            };
+            assert!(rt; answer == Err(wanted), "{room}");
+            same(
+                &rt,
+                writer.taken.as_slice(),
+                &BOARD_REPORT[..room],
+                "writer.taken",
+            );
+        }
+    }
+    Ok(())
+}
+
+#[test]
+fn writes_through_parts_and_one_flush(rt: HostRuntime) -> Result<(), Fail> {
+    let alloc = rt.alloc();
+    for flushes in [true, false] {
+        for step in [1, 10, 157, 158] {
+            let mut writer = Narrow {
+                taken: Vec::new(alloc),
+                room: 158,
+                step,
+                kind: None,
+                flushes,
+            };
+            let mut reader = BOARD;
+            let answer = run(&rt, alloc, &mut reader, &plain(), &NoGate, &mut writer);
+            let fault = RunFault {
+                cause: Cause::Write,
+                written: 158,
+            };
+            let wanted = if flushes { Ok(158) } else { Err(fault) };
+            assert!(rt; answer == wanted, "{step}");
+            same(&rt, writer.taken.as_slice(), BOARD_REPORT, "writer.taken");
+        }
+    }
+    Ok(())
+}
+
+/// A reader that gives the board's file byte by byte, and fails after so many.
+#[derive(Drop)]
+struct Cut {
+    given: usize,
+    end: usize,
+    kind: ErrorKind,
+}
+
+impl Read for Cut {
+    fn read(&mut self, buffer: &mut [u8]) -> io::Result<usize> {
+        if self.given >= self.end {
+            return Err(Error::from(self.kind));
+        }
+        if self.given >= BOARD.len() || buffer.is_empty() {
+            return Ok(0);
+        }
+        buffer[0] = BOARD[self.given];
+        self.given += 1;
+        Ok(1)
+    }
+}
+
+#[test]
+fn a_failing_reader_is_the_fault_of_the_game(rt: HostRuntime) -> Result<(), Fail> {
+    let alloc = rt.alloc();
+    let length = BOARD.len();
+    for kind in [ErrorKind::Interrupted, ErrorKind::Other] {
+        for end in 0..length + 2 {
+            let mut reader = Cut {
+                given: 0,
+                end,
+                kind,
+            };
+            let mut written = Vec::new(alloc);
+            let answer = run(&rt, alloc, &mut reader, &plain(), &NoGate, &mut written);
+            let fault = RunFault {
+                cause: Cause::Game(GameFault::Read),
+                written: 0,
+            };
+            if end <= length {
+                assert!(rt; answer == Err(fault), "{end}");
+                assert!(rt; written.is_empty(), "{end}");
+            } else {
+                assert!(rt; answer == Ok(158));
+                same(&rt, written.as_slice(), BOARD_REPORT, "written");
+            }
+        }
+    }
+    Ok(())
+}
+
+/// A tally writes the same report, whatever the greatest number is.
+#[test]
+fn a_tally_writes_the_same_report(rt: HostRuntime) -> Result<(), Fail> {
+    let mut input: &[u8] = BOARD;
+    let mut report = Vec::new(rt.alloc());
+    let count = tally(&rt, rt.alloc(), &mut input, &most(1), &NoWatch, &mut report);
+    same(&rt, report.as_slice(), BOARD_REPORT, "report");
+    same(&rt, count, Ok(BOARD_REPORT.len() as u64), "count");
+    Ok(())
+}
+
+#[test]
+fn refuses_more_than_the_most(rt: HostRuntime) -> Result<(), Fail> {
+    let alloc = rt.alloc();
+    let mut forty = Vec::new(alloc);
+    forty.extend_from_slice(b"[20; 1")?;
+    for _ in 1..40 {
+        forty.extend_from_slice(b", 1")?;
+    }
+    forty.push(b']')?;
+    for (file, options, many) in [
+        (FIVE, most(4), true),
+        (FIVE, most(5), false),
+        (forty.as_slice(), most(1), true),
+    ] {
+        let mut reader = file;
+        let mut written = Vec::new(alloc);
+        let answer = run(&rt, alloc, &mut reader, &options, &NoGate, &mut written);
+        let wanted = RunFault {
+            cause: Cause::Gather(GatherFault::TooMany),
+            written: 0,
+        };
+        same(&rt, answer == Err(wanted), many, "answer == Err");
+        same(&rt, written.is_empty(), many, "written.is_empty");
+    }
+    Ok(())
+}
+
+/// A gate that counts how often each of four slices passes.
+#[derive(Drop)]
+struct Passes {
+    of: [AtomicU64; 4],
+}
+
+impl Gate for Passes {
+    ghost takes = { λ _ _. ⊤ };
+
+    fn pass(&self, _worker: u8, slice: u16) {
+        if slice < 4 {
+            self.of[slice as usize].fetch_add(1, Ordering::SeqCst);
+        }
+    }
+}
+
+/// The report of the five-coalition game behind a gate.
+fn gated<T: Threads + Wait + Sync, G: Gate + Sync>(
+    rt: &T,
+    alloc: Global,
+    workers: u8,
+    bits: u8,
+    gate: &G,
+) -> Result<Vec<u8>, RunFault>
+    requires workers { (1 ≤ workers) × (workers ≤ 16) }
+    requires bits { bits ≤ 10 }
+    requires gate { (w j : ℕ) → G.takes w j }
+{
+    let options = Options {
+        workers,
+        bits,
+        most: 5,
+        list: true,
+        sizes: true,
+        notation: false,
+    };
+    let mut reader = FIVE;
+    let mut written = Vec::new(alloc);
+    let _count = run(rt, alloc, &mut reader, &options, gate, &mut written)?;
+    Ok(written)
+}
+
+#[test]
+fn the_same_bytes_for_any_workers_and_bits(rt: HostRuntime) -> Result<(), Fail> {
+    for workers in 1..17 {
+        for bits in 0..11 {
+            let written = gated(&rt, rt.alloc(), workers, bits, &NoGate).expect(&rt, "a report");
+            same(&rt, written.as_slice(), FIVE_REPORT, (workers, bits));
+        }
+    }
+    Ok(())
+}
+
+#[test]
+fn each_slice_passes_once(rt: HostRuntime) -> Result<(), Fail> {
+    for workers in 1..17 {
+        let passes = Passes {
+            of: [
+                AtomicU64::new(0),
+                AtomicU64::new(0),
+                AtomicU64::new(0),
+                AtomicU64::new(0),
+            ],
+        };
+        let written = gated(&rt, rt.alloc(), workers, 2, &passes).expect(&rt, "a report");
+        same(&rt, written.as_slice(), FIVE_REPORT, workers);
+        for slice in 0..4usize {
+            same(&rt, passes.of[slice].load(Ordering::SeqCst), 1, workers);
+        }
+    }
+    Ok(())
+}
+
+/// A gate that holds each of two workers until the other has come, for so many turns at most.
+#[derive(Drop)]
+struct Meeting {
+    here: [AtomicU64; 2],
+    missed: AtomicU64,
+}
+
+impl Meeting {
+    fn comes(&self, other: usize) -> bool
+        requires { other < 2 }
+    {
+        for turn in 0..100_000_000u32 {
+            if self.here[other].load(Ordering::SeqCst) != 0 {
+                return true;
+            }
+            if turn % 64 == 0 {
+                thread::yield_now();
+            }
+            hint::spin_loop();
+        }
+        false
+    }
+}
+
+impl Gate for Meeting {
+    ghost takes = { λ _ _. ⊤ };
+
+    fn pass(&self, worker: u8, _slice: u16) {
+        if worker < 2 {
+            self.here[worker as usize].store(1, Ordering::SeqCst);
+            if !self.comes(1 - worker as usize) {
+                self.missed.store(1, Ordering::SeqCst);
+            }
+        }
+    }
+}
+
+#[test]
+fn two_workers_meet(rt: HostRuntime) -> Result<(), Fail> {
+    let meeting = Meeting {
+        here: [AtomicU64::new(0), AtomicU64::new(0)],
+        missed: AtomicU64::new(0),
+    };
+    let written = gated(&rt, rt.alloc(), 2, 1, &meeting).expect(&rt, "a report");
+    same(&rt, written.as_slice(), FIVE_REPORT, "written");
+    same(
+        &rt,
+        meeting.here[0].load(Ordering::SeqCst),
+        1,
+        "meeting.here[0].load",
+    );
+    same(
+        &rt,
+        meeting.here[1].load(Ordering::SeqCst),
+        1,
+        "meeting.here[1].load",
+    );
+    same(
+        &rt,
+        meeting.missed.load(Ordering::SeqCst),
+        0,
+        "meeting.missed.load",
+    );
+    Ok(())
+}
+
+#[test]
+fn statuses(rt: HostRuntime) {
+    let causes = [
+        (Cause::Game(GameFault::Read), 1, 1),
+        (Cause::Game(GameFault::Text), 3, 1),
+        (Cause::Game(GameFault::Memory), 5, 1),
+        (Cause::Gather(GatherFault::TooMany), 4, 2),
+        (Cause::Gather(GatherFault::Start), 5, 2),
+        (Cause::Gather(GatherFault::Memory), 5, 2),
+        (Cause::Gather(GatherFault::Ring), 5, 2),
+        (Cause::Write, 5, 3),
+        (Cause::Memory, 5, 4),
+        (Cause::Stopped, 5, 5),
+    ];
+    for (cause, wanted, number) in causes {
+        same(
+            &rt,
+            status(&RunFault { cause, written: 0 }),
+            wanted,
+            "status",
+        );
+        same(&rt, cause.number(), number, "cause.number");
+    }
+}

@@ -1,0 +1,13 @@
+//! What the tests of this crate share.
+use std::fmt::Debug;
+use std::process::Abort;
+
+/// Fails with the label where what was found is not what was wanted.
+pub(crate) fn same<T: PartialEq + Debug + Drop, L: Debug + Drop>(
+    rt: &impl Abort,
+    found: T,
+    wanted: T,
+    label: L,
+) {
+    assert_eq!(rt; found, wanted, "{label:?}");
+}
