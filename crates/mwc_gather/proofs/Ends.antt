@@ -7,7 +7,8 @@ use Rattle.std.proofs.lemmas.List.{length-map, get_or-map, map_push}
 use Rattle.std.proofs.lemmas.List.Elements.{All-nil, All-head, All-tail, All-cons, All-map, All-push}
 use Rattle.std.proofs.lemmas.Slice.Zip.{AllZip-long, all_zipped_more}
 use Rattle.mwc_parts.specs.Slicing.{Slicing}
-use Rattle.mwc_parts.specs.Sums.{sum_of}
+use Rattle.std.specs.List.{sum_by}
+use Rattle.std.proofs.lemmas.List.Sums.{sum_by-cons}
 use Rattle.mwc_parts.specs.Wording.{coalition_count}
 use Rattle.std.specs.List.Sorted.{IsStrictlyIncreasing}
 use Rattle.mwc_parts.specs.Inner.Deals.{AreDealt}
@@ -70,13 +71,13 @@ zip_parts g desks parts z =
     let both = zip_each (IsPartOfDesk g) (λ (d : Desk). d.told ≡ true) (IsPart g) (λ d p f. (f.told, f.part)) desks parts z in both.1
 
 parts_sum : (g : Slicing) (parts : List Part) → All (IsPart g) parts
-    → sum_of (λ (p : Part). length p.got.items) parts ≡ sum_of (coalition_count g) (shares parts)
+    → sum_by (λ (p : Part). length p.got.items) parts ≡ sum_by (coalition_count g) (shares parts)
 parts_sum g [] a = refl
 parts_sum g (p ∷ parts) a =
     let part = All-head (IsPart g) p parts a in
     let x = ap length part.0 in let b = length-joined g p.slices.items in
     let c = parts_sum g parts (All-tail (IsPart g) p parts a) in
-    omega arith
+    omega (arith, sum_by-cons (λ (p : Part). length p.got.items) p parts, sum_by-cons (coalition_count g) p.slices.items (shares parts))
 
 -- where all workers have finished, all slices are dealt
 pub end_dealt : {g : Slicing} {most : ℕ} {early stopped : Bool} {marks : List (Option ℕ)} (desks : List Desk) (parts : List Part)
@@ -89,7 +90,7 @@ end_dealt {g} {most} {early} {stopped} {marks} desks parts h e l z =
 
 -- all parts have as many coalitions as the slices
 pub complete_sum : {g : Slicing} {workers : ℕ} {parts : List Part} → IsComplete g workers parts
-    → sum_of (λ (p : Part). length p.got.items) parts ≡ all_total g
+    → sum_by (λ (p : Part). length p.got.items) parts ≡ all_total g
 complete_sum {g} {workers} {parts} c = parts_sum g parts c.are_parts ∙ dealt_total g c.dealt
 
 pub end_increases : {n : ℕ} (parts : List Part) → AreDealt n (shares parts) → All (λ (p : Part). IsStrictlyIncreasing p.slices.items) parts

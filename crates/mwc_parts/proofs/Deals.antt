@@ -7,11 +7,11 @@ use Rattle.std.proofs.lemmas.Bool.{eq-eqb, ne_eqb}
 use Rattle.std.proofs.lemmas.Bool.Decides.{nat_tests}
 use Rattle.std.proofs.lemmas.List.{append-nil, take_all, take_more, length-take-le}
 use Rattle.std.proofs.lemmas.List.FromFn.{get_or-map-range_with_len, length-map-range_with_len}
-use Rattle.mwc_parts.specs.Sums.{sum_of}
+use Rattle.std.specs.List.{sum_by}
 use Rattle.mwc_parts.specs.Inner.Sums.{times_in}
 use Rattle.mwc_parts.specs.Inner.Deals.{share_from, share_of, shares_by, AscendsFrom}
 use Rattle.mwc_parts.proofs.Ranges.{range_more}
-use Rattle.mwc_parts.proofs.Sums.{sum_of-push, sum_of-set}
+use Rattle.std.proofs.lemmas.List.Sums.{sum_by-cons, sum_by_push, sum_by-set}
 
 cons_if : (b : Bool) (j : ℕ) (x a c : List ℕ) → x ≡ a ++ c → cond b (j ∷ x) x ≡ cond b (j ∷ a) a ++ c
 cons_if true j x a c e = ap (λ (w : List ℕ). j ∷ w) e
@@ -84,16 +84,16 @@ pub held_increases : (w : ℕ) (hs : List ℕ) → IsStrictlyIncreasing (share_o
 held_increases w hs = increases 0 (share_of hs w) (held_ascends w 0 hs)
 
 -- ---- sums
-none_held : (f : ℕ → ℕ) (j : ℕ) (ws : List ℕ) → sum_of (sum_of f) (map (λ w. share_from w j []) ws) ≡ 0
+none_held : (f : ℕ → ℕ) (j : ℕ) (ws : List ℕ) → sum_by (sum_by f) (map (λ w. share_from w j []) ws) ≡ 0
 none_held f j [] = refl
-none_held f j (w ∷ ws) = let r = none_held f j ws in omega arith
+none_held f j (w ∷ ws) = omega (arith, sum_by-cons (sum_by f) (share_from w j []) (map (λ w. share_from w j []) ws), none_held f j ws)
 
-pub range_sum : (f : ℕ → ℕ) (n : ℕ) → sum_of f (range_with_len 0 (n + 1)) ≡ sum_of f (range_with_len 0 n) + f n
-range_sum f n = rw (range_more n) (sum_of-push f (range_with_len 0 n) n)
+pub range_sum : (f : ℕ → ℕ) (n : ℕ) → sum_by f (range_with_len 0 (n + 1)) ≡ sum_by f (range_with_len 0 n) + f n
+range_sum f n = rw (range_more n) (sum_by_push f (range_with_len 0 n) n)
 
 -- of the first m holders
 sum_up_to : (f : ℕ → ℕ) (k : ℕ) (hs : List ℕ) → All (λ h. h < k) hs → (m : ℕ) → m ≤ length hs
-    → sum_of (sum_of f) (shares_by (take m hs) k) ≡ sum_of f (range_with_len 0 m)
+    → sum_by (sum_by f) (shares_by (take m hs) k) ≡ sum_by f (range_with_len 0 m)
 sum_up_to f k hs a zero l = none_held f 0 (range_with_len 0 k)
 sum_up_to f k hs a (suc m) l =
     let h : ℕ = get_or hs m 0 in
@@ -105,14 +105,14 @@ sum_up_to f k hs a (suc m) l =
     get_or-map-range_with_len (share_of first) 0 k h h [] below (omega arith) in
     let before = sum_up_to f k hs a m (omega arith) in
     let dealt = deal_from first h 0 k h (omega arith) below in
-    let given = sum_of-set (sum_of f) (shares_by first k) h (share_of first h ++ length first ∷ []) []
+    let given = sum_by-set (sum_by f) (shares_by first k) h (share_of first h ++ length first ∷ []) []
     (omega (arith, length-map-range_with_len (share_of first) 0 k)) in
     let next = rw add-one at (range_sum f m) in
-    rw (more, dealt) (omega (arith, given, ap (sum_of f) held, sum_of-push f (share_of first h) (length first), before, next, ap f number))
+    rw (more, dealt) (omega (arith, given, ap (sum_by f) held, sum_by_push f (share_of first h) (length first), before, next, ap f number))
 
 -- any sum over the shares is the sum over the slices
 pub shares_sum : (f : ℕ → ℕ) (k : ℕ) (hs : List ℕ) → All (λ h. h < k) hs
-    → sum_of (sum_of f) (shares_by hs k) ≡ sum_of f (range_with_len 0 (length hs))
+    → sum_by (sum_by f) (shares_by hs k) ≡ sum_by f (range_with_len 0 (length hs))
 shares_sum f k hs a = rw (take_all (length hs) hs (omega arith)) at (sum_up_to f k hs a (length hs) (omega arith))
 
 -- each number below n stands once in the row up to n
@@ -124,10 +124,16 @@ range_once i (suc n) =
     grind (arith, nat_tests)
 
 -- each slice stands once in the shares, and no other number does
-pub each_held_once : (i k : ℕ) (hs : List ℕ) → All (λ h. h < k) hs → sum_of (times_in i) (shares_by hs k) ≡ cond (ltb i (length hs)) 1 0
+pub each_held_once : (i k : ℕ) (hs : List ℕ) → All (λ h. h < k) hs → sum_by (times_in i) (shares_by hs k) ≡ cond (ltb i (length hs)) 1 0
 each_held_once i k hs a = shares_sum (λ x. cond (eqb x i) 1 0) k hs a ∙ range_once i (length hs)
 
-pub sum_range_le : (f : ℕ → ℕ) (j m n : ℕ) → m ≤ n → sum_of f (range_with_len j m) ≤ sum_of f (range_with_len j n)
+pub sum_range_le : (f : ℕ → ℕ) (j m n : ℕ) → m ≤ n → sum_by f (range_with_len j m) ≤ sum_by f (range_with_len j n)
 sum_range_le f j zero n l = omega arith
 sum_range_le f j (suc m) zero l = absurd (omega arith)
-sum_range_le f j (suc m) (suc n) l = let r = sum_range_le f (j + 1) m n (omega arith) in omega arith
+sum_range_le f j (suc m) (suc n) l =
+    omega (
+      arith,
+      sum_by-cons f j (range_with_len (j + 1) m),
+      sum_by-cons f j (range_with_len (j + 1) n),
+      sum_range_le f (j + 1) m n (omega arith),
+    )

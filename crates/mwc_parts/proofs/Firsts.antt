@@ -8,13 +8,13 @@ use Rattle.std.proofs.lemmas.Bool.{false≢true, eq-eqb, ne_eqb}
 use Rattle.std.proofs.lemmas.List.{length-append, get_or_push}
 use Rattle.std.proofs.lemmas.List.Elements.{All-head, All-tail, All-map, All-weaker}
 use Rattle.mwc_parts.specs.Slicing.{Slicing}
-use Rattle.mwc_parts.specs.Sums.{sum_of}
+use Rattle.std.specs.List.{sum_by}
 use Rattle.mwc_parts.specs.Inner.Sums.{times_in}
 use Rattle.mwc_parts.specs.Wording.{coalition_count}
 use Rattle.mwc_parts.specs.Inner.Deals.{share_from, share_of, AreDealt}
 use Rattle.mwc_parts.specs.Inner.Dealing.{Seat, IsWell, given_slices, DealsInTurn, TakesTurn, DealsOneEach, IsFresh}
 use Rattle.mwc_parts.proofs.Deals.{shares_sum, each_held_once, held_increases, sum_range_le}
-use Rattle.mwc_parts.proofs.Sums.{one_of_sum}
+use Rattle.std.proofs.lemmas.List.Sums.{get_or-le-sum_by}
 use Rattle.mwc_parts.proofs.Turns.{turn_nothing, turn_one, none_free, none_ill, still_held, went_on, share_at}
 
 no_shares : (seats : List Seat) (from : ℕ) → All IsFresh seats → given_slices seats ≡ map (share_of []) (range_with_len from (length seats))
@@ -102,15 +102,15 @@ first_turn {n} {early} {stopped} {stops} seats k s t l e fresh f r =
     ]
 
 -- who told what at the end
-pub dealt_once : {n : ℕ} {shares : List (List ℕ)} (j : ℕ) → AreDealt n shares → sum_of (times_in j) shares ≡ cond (ltb j n) 1 0
+pub dealt_once : {n : ℕ} {shares : List (List ℕ)} (j : ℕ) → AreDealt n shares → sum_by (times_in j) shares ≡ cond (ltb j n) 1 0
 dealt_once {n} {shares} j d =
-    ap (sum_of (times_in j)) d.shares_are ∙ each_held_once j (length shares) d.holders d.by_workers
+    ap (sum_by (times_in j)) d.shares_are ∙ each_held_once j (length shares) d.holders d.by_workers
     ∙ ap (λ (m : ℕ). cond (ltb j m) 1 0) d.each_held
 
 pub dealt_total : {n : ℕ} {shares : List (List ℕ)} (g : Slicing) → AreDealt n shares
-    → sum_of (coalition_count g) shares ≡ coalition_count g (range_with_len 0 n)
+    → sum_by (coalition_count g) shares ≡ coalition_count g (range_with_len 0 n)
 dealt_total {n} {shares} g d =
-    ap (sum_of (coalition_count g)) d.shares_are ∙ shares_sum (λ j. length (g.slice j)) (length shares) d.holders d.by_workers
+    ap (sum_by (coalition_count g)) d.shares_are ∙ shares_sum (λ j. length (g.slice j)) (length shares) d.holders d.by_workers
     ∙ ap (λ (m : ℕ). coalition_count g (range_with_len 0 m)) d.each_held
 
 pub dealt_increase : {n : ℕ} {shares : List (List ℕ)} → AreDealt n shares → All IsStrictlyIncreasing shares
@@ -125,13 +125,13 @@ pub each_within : {n k : ℕ} {early stopped : Bool} {marks : List (Option ℕ)}
     → All (λ (s : List ℕ). coalition_count g s ≤ coalition_count g (range_with_len 0 n)) (given_slices seats)
 each_within {n} g seats deal =
     let d = deal.in_order in
-    let a : sum_of (coalition_count g) (given_slices seats) ≡ coalition_count g (range_with_len 0 (length d.holders)) =
-    ap (sum_of (coalition_count g)) d.given_are ∙ shares_sum (λ j. length (g.slice j)) (length seats) d.holders d.by_workers in
+    let a : sum_by (coalition_count g) (given_slices seats) ≡ coalition_count g (range_with_len 0 (length d.holders)) =
+    ap (sum_by (coalition_count g)) d.given_are ∙ shares_sum (λ j. length (g.slice j)) (length seats) d.holders d.by_workers in
     let m : coalition_count g (range_with_len 0 (length d.holders)) ≤ coalition_count g (range_with_len 0 n) =
     sum_range_le (λ j. length (g.slice j)) 0 (length d.holders) n (omega arith) in
-    All-weaker (λ (s : List ℕ). coalition_count g s ≤ sum_of (coalition_count g) (given_slices seats))
+    All-weaker (λ (s : List ℕ). coalition_count g s ≤ sum_by (coalition_count g) (given_slices seats))
     (λ (s : List ℕ). coalition_count g s ≤ coalition_count g (range_with_len 0 n)) (λ s l. omega arith) (given_slices seats)
-    (one_of_sum (coalition_count g) (given_slices seats))
+    (get_or-le-sum_by (coalition_count g) (given_slices seats))
 
 -- the first slice that a worker holds
 begins_with : (w j : ℕ) (hs : List ℕ) (m : ℕ) → j + m ≡ w → m < length hs → ((v : ℕ) → v < m + 1 → get_or hs v 0 ≡ j + v) → (rest : List ℕ)

@@ -3,22 +3,21 @@ use Rattle.std.specs.Prelude.{◌≡◌, ℕ, ◌<◌, Bool, cond, List, [], ◌
 use Rattle.std.specs.List.{flat_map}
 use Rattle.std.proofs.Common.{eqb, ap, arith, sym, ◌∙◌}
 use Rattle.std.proofs.lemmas.Bool.{lt-ltb}
-use Rattle.std.proofs.lemmas.List.Sums.{sum_by-append}
-use Rattle.mwc_parts.specs.Sums.{sum_of}
+use Rattle.std.proofs.lemmas.List.Sums.{sum_by-append, sum_by-cons}
+use Rattle.std.specs.List.{sum_by}
 use Rattle.mwc_parts.specs.Inner.Sums.{times_in}
 use Rattle.mwc_parts.specs.Inner.Deals.{AreDealt}
 use Rattle.mwc_parts.specs.Parts.{shares, HasEachSliceOnce}
 use Rattle.mwc_parts.specs.declared.part.Part.{Part}
 use Rattle.mwc_parts.proofs.Firsts.{dealt_once}
-use Rattle.mwc_parts.proofs.Sums.{sum_is}
 
 -- how often a slice stands in all parts
 count_is : (j : ℕ) (parts : List Part)
-    → count_by (λ i. eqb i j) (flat_map (λ (p : Part). p.slices.items) parts) ≡ sum_of (times_in j) (shares parts)
+    → count_by (λ i. eqb i j) (flat_map (λ (p : Part). p.slices.items) parts) ≡ sum_by (times_in j) (shares parts)
 count_is j [] = refl
 count_is j (p ∷ parts) =
     let a = sum_by-append (λ (i : ℕ). cond {A = ℕ} (eqb i j) 1 0) p.slices.items (flat_map (λ (p : Part). p.slices.items) parts) in
-    let t = sum_is (λ (i : ℕ). cond {A = ℕ} (eqb i j) 1 0) p.slices.items in
+    let t = sum_by-cons (times_in j) p.slices.items (shares parts) in
     let r = count_is j parts in
     omega arith
 
@@ -27,5 +26,5 @@ pub dealt_each_once : {n : ℕ} (parts : List Part) → AreDealt n (shares parts
 dealt_each_once parts d j = count_is j parts ∙ dealt_once j d
 
 -- each slice stands in a part
-pub each_once : (n : ℕ) (parts : List Part) → HasEachSliceOnce n parts → (j : ℕ) → j < n → sum_of (times_in j) (shares parts) ≡ 1
+pub each_once : (n : ℕ) (parts : List Part) → HasEachSliceOnce n parts → (j : ℕ) → j < n → sum_by (times_in j) (shares parts) ≡ 1
 each_once n parts h j l = sym (count_is j parts) ∙ h j ∙ ap (λ (b : Bool). cond {A = ℕ} b 1 0) (lt-ltb j n l)

@@ -9,8 +9,8 @@ use Rattle.mwc_parts.specs.Slicing.{Slicing}
 use Rattle.mwc_pipe.specs.declared.word.Word.{Word}
 use Rattle.mwc_pipe.specs.declared.word.Word.TheVariants.{Open, One, Done, End}
 use Rattle.mwc_parts.specs.Wording.{wording, coalition_count}
+use Rattle.mwc_parts.proofs.Sums.{coalitions-cons}
 use Rattle.mwc_parts.specs.Settled.{IsSentWhole}
-use Rattle.mwc_parts.proofs.Sums.{sum_is}
 use Rattle.mwc_parts.specs.Pieces.{one_in, ones, done_counts, ends_from, Rises}
 
 ones-slice : (j : ℕ) (l : List ℕ) (rest : List Word) → ones (((Open j ∷ map One l) ++ Done j ∷ []) ++ rest) ≡ l ++ ones rest
@@ -37,7 +37,7 @@ done_counts-wording g n (j ∷ s) =
     ∙ ap (λ (w : List ℕ). (n + length (g.slice j)) ∷ w) (done_counts-wording g (n + length (g.slice j)) s)
 
 pub length-joined : (g : Slicing) (s : List ℕ) → length (flat_map g.slice s) ≡ coalition_count g s
-length-joined g s = length-flat_map g.slice s ∙ sum_is (λ j. length (g.slice j)) s
+length-joined g s = length-flat_map g.slice s
 
 pub length-ends : (g : Slicing) (n : ℕ) (s : List ℕ) → length (ends_from g n s) ≡ length s
 length-ends g n [] = refl
@@ -70,14 +70,14 @@ piece_is g s m l = piece_from g [] 0 s m refl l
 rises_from : (g : Slicing) (n : ℕ) (s : List ℕ) (m : ℕ) → m < length (ends_from g n s)
     → (get_or (n ∷ ends_from g n s) m 0 ≤ get_or (ends_from g n s) m 0) × (get_or (ends_from g n s) m 0 ≤ n + coalition_count g s)
 rises_from g n [] m l = absurd (omega arith)
-rises_from g n (j ∷ s) zero l = (omega arith, omega arith)
+rises_from g n (j ∷ s) zero l = (omega arith, omega (arith, coalitions-cons g j s))
 rises_from g n (j ∷ s) (suc m) l =
     let r = rises_from g (n + length (g.slice j)) s m (omega arith) in
-    (r.0, omega arith)
+    (r.0, omega (arith, coalitions-cons g j s))
 
 last_from : (g : Slicing) (n : ℕ) (s : List ℕ) → get_or (n ∷ ends_from g n s) (length (ends_from g n s)) 0 ≡ n + coalition_count g s
 last_from g n [] = omega arith
-last_from g n (j ∷ s) = let r = last_from g (n + length (g.slice j)) s in omega arith
+last_from g n (j ∷ s) = omega (arith, coalitions-cons g j s, last_from g (n + length (g.slice j)) s)
 
 -- words joined
 pub ones-append : (xs ys : List Word) → ones (xs ++ ys) ≡ ones xs ++ ones ys

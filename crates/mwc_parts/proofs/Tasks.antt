@@ -6,6 +6,7 @@ use Rattle.mwc_parts.specs.Slicing.{Slicing}
 use Rattle.mwc_pipe.specs.declared.word.Word.{Word}
 use Rattle.mwc_pipe.specs.declared.word.Word.TheVariants.{Open, One, Done, End}
 use Rattle.mwc_parts.specs.Wording.{open_words, IsLast, coalition_count}
+use Rattle.mwc_parts.proofs.Sums.{coalitions-cons}
 use Rattle.mwc_parts.specs.Inner.Wording.{end_words}
 
 -- no word that ends the work is a task that gives a slice
@@ -38,7 +39,7 @@ cut_taken g [] [] slice left true e = cc
 cut_taken g [] [] slice left false e = cc
 cut_taken g [] (j ∷ given) slice left told e =
     let q : slice ≡ j = cc in
-    let r = ap (λ (k : ℕ). length (g.slice k)) q in omega arith
+    let r = ap (λ (k : ℕ). length (g.slice k)) q in omega (arith, coalitions-cons g j given)
 cut_taken g (i ∷ s) [] slice left true e = cc
 cut_taken g (i ∷ s) [] slice left false e = cc
 cut_taken g (i ∷ s) (j ∷ given) slice left told e =
@@ -46,4 +47,4 @@ cut_taken g (i ∷ s) (j ∷ given) slice left told e =
     let f = ap (λ (k : ℕ). length (g.slice k)) q in
     let r : (open_words s ++ Open slice ∷ []) ++ left ≡ open_words given ++ end_words told = cc in
     let t = cut_taken g s given slice left told r in
-    omega arith
+    omega (arith, coalitions-cons g i s, coalitions-cons g j given)

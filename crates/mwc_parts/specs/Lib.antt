@@ -1,5 +1,4 @@
 pub mod Slicing
-pub mod Sums
 pub mod Table
 pub mod Wording
 pub mod Pieces

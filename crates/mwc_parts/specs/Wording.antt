@@ -1,7 +1,7 @@
 -- The words that a worker sends.
 use Rattle.std.specs.Prelude.{◌≡◌, ℕ, ◌+◌, ◌<◌, ◌≤◌, true, false, List, [], ◌∷◌, ◌++◌, length, map, take, All, ⊤}
 use Rattle.std.specs.List.{flat_map}
-use Rattle.mwc_parts.specs.Sums.{sum_of}
+use Rattle.std.specs.List.{sum_by}
 use Rattle.mwc_parts.specs.Slicing.{Slicing}
 use Rattle.mwc_pipe.specs.declared.word.Word.{Word}
 use Rattle.mwc_pipe.specs.declared.word.Word.TheVariants.{Open, One, Done, End}
@@ -20,7 +20,7 @@ wording g slices = flat_map (slice_words g) slices
 
 -- how many coalitions the slices have in all
 abbrev pub coalition_count : Slicing → List ℕ → ℕ
-coalition_count g js = sum_of (λ j. length (g.slice j)) js
+coalition_count g js = sum_by (λ j. length (g.slice j)) js
 
 -- the tasks that give these slices
 abbrev pub open_words : List ℕ → List Word

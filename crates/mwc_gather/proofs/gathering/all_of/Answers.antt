@@ -1,6 +1,6 @@
 use Rattle.std.proofs.Common.{List, length, ap, arith}
 use Rattle.mwc_parts.specs.Slicing.{Slicing}
-use Rattle.mwc_parts.specs.Sums.{sum_of}
+use Rattle.std.specs.List.{sum_by}
 use Rattle.mwc_parts.specs.declared.part.Part.{Part}
 use Rattle.mwc_parts.proofs.Once.{dealt_each_once}
 use Rattle.mwc_gather.specs.Inner.Orders.{slicing_of}
@@ -14,7 +14,7 @@ returns-then-not-fits-clause-many c =
     let sum = complete_sum c.requires.complete in
     let all = all_total_is order.game.value order.bits c.requires.bits.0 c.requires.bits.1 in
     let over = c.fits.ensures.many c.if-not-fits.true in
-    let items = ap (sum_of (λ (p : Part). length p.got.items)) c.as_slice.ensures.value in
+    let items = ap (sum_by (λ (p : Part). length p.got.items)) c.as_slice.ensures.value in
     omega arith
 
 pub invariant_of-result : goal.invariant_of-result
@@ -30,7 +30,7 @@ returns-clause-gathers c =
     let sum = complete_sum complete in
     let all = all_total_is order.game.value order.bits c.requires.bits.0 c.requires.bits.1 in
     let under = c.fits.ensures.few c.if-not-fits.false in
-    let items = ap (sum_of (λ (p : Part). length p.got.items)) c.as_slice.ensures.value in
+    let items = ap (sum_by (λ (p : Part). length p.got.items)) c.as_slice.ensures.value in
     record {
       a_part_each = complete.a_part_each;
       slices = c.slice_count.ensures;

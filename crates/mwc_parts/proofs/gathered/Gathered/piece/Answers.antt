@@ -1,7 +1,7 @@
 use Rattle.std.proofs.Common.{List, length, get_or, ap, arith, ◌∙◌}
 use Rattle.mwc_parts.specs.declared.part.Part.{Part}
 use Rattle.std.proofs.lemmas.List.{take_all}
-use Rattle.mwc_parts.specs.Sums.{sum_of}
+use Rattle.std.specs.List.{sum_by}
 use Rattle.mwc_parts.specs.Inner.Sums.{times_in}
 use Rattle.mwc_parts.specs.Parts.{shares}
 use Rattle.mwc_parts.proofs.Once.{each_once}
@@ -20,6 +20,6 @@ pub unreachable-requires : goal.unreachable-requires
 unreachable-requires c =
     let parts : List Part = c.args.self.now.parts.items in
     let q = ap length c.deref-part-items.ensures.value in
-    let all = ap (λ (w : List Part). sum_of (times_in c.args.j) (shares w)) (take_all c.loop-part.part-index parts (omega arith)) in
+    let all = ap (λ (w : List Part). sum_by (times_in c.args.j) (shares w)) (take_all c.loop-part.part-index parts (omega arith)) in
     let once = each_once c.args.self.now.slices parts c.args.self.now.each_slice_once c.args.j c.requires in
     omega arith

@@ -1,8 +1,8 @@
 use Rattle.std.proofs.Common.{◌≡◌, take}
-use Rattle.mwc_parts.specs.Sums.{sum_of}
+use Rattle.std.specs.List.{sum_by}
 use Rattle.mwc_parts.specs.Inner.Sums.{times_in}
 use Rattle.mwc_parts.specs.Parts.{shares}
 use Rattle.mwc_parts.proofs.gathered.Gathered.piece.Given as goal
 
 abbrev pub invariant-loop-part : goal.invariant-loop-part
-invariant-loop-part l = sum_of (times_in l.j) (shares (take l.part-index l.self.parts.items)) ≡ 0
+invariant-loop-part l = sum_by (times_in l.j) (shares (take l.part-index l.self.parts.items)) ≡ 0
