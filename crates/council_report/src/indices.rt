@@ -26,7 +26,7 @@ fn push_fraction(out: &mut Vec<u8>, fraction: Fraction) -> Result<(), AllocError
 {
     let mut buffer = Buffer::new();
     push_field(out, buffer.format(fraction.top).as_bytes())?;
-    out.push(b'/')?;
+    out.extend_from_slice(b"/")?;
     out.extend_from_slice(buffer.format(fraction.bottom).as_bytes())
 }
 

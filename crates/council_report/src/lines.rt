@@ -14,8 +14,7 @@ pub(crate) fn end_line(out: &mut Vec<u8>) -> Result<(), AllocError>
     ensures items { OnOk result (out.new.items ≡ out.old.items ++ 10 ∷ []) }
     ensures room { MakesRoomFor out.old out.new result (10 ∷ []) }
 {
-    out.push(b'\n')?;
-    Ok(())
+    out.extend_from_slice(b"\n")
 }
 
 /// `title`, the title; no line where there is none.

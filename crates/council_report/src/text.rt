@@ -13,7 +13,7 @@ pub(crate) fn push_field(out: &mut Vec<u8>, field: &[u8]) -> Result<(), AllocErr
     ensures items { OnOk result (out.new.items ≡ out.old.items ++ with_tab field.now) }
     ensures room { MakesRoomFor out.old out.new result (with_tab field.now) }
 {
-    out.push(b'\t')?;
+    out.extend_from_slice(b"\t")?;
     out.extend_from_slice(field)
 }
 
@@ -22,7 +22,7 @@ pub(crate) fn push_number(out: &mut Vec<u8>, number: u64) -> Result<(), AllocErr
     ensures items { OnOk result (out.new.items ≡ out.old.items ++ with_tab (decimal number)) }
     ensures room { MakesRoomFor out.old out.new result (with_tab (decimal number)) }
 {
-    out.push(b'\t')?;
+    out.extend_from_slice(b"\t")?;
     push_decimal(out, number)
 }
 
@@ -39,6 +39,6 @@ pub(crate) fn push_values<F: Fn(usize) -> u64>(
     ensures room { (vs : List ℕ) → length vs ≡ rules → GivesEach (F.post value) vs
         → MakesRoomFor out.old out.new result (with_tab (with_slashes vs)) }
 {
-    out.push(b'\t')?;
+    out.extend_from_slice(b"\t")?;
     push_joined(out, b"/", rules, value)
 }
