@@ -9,8 +9,9 @@ with the libraries below it as they were built, and what was kept of the work go
 where every other command of `rt` finds it. What did not change since an earlier run is not proved again.
 After an interrupt, what was proved by then stays.
 
-As many libraries are proved at once as there are processors, and memory for (some 3 GB each). The log goes
-to crates/council/out/build.log, and a line for each library to standard error.
+As many libraries are proved at once as there are processors, and memory for (some 3 GB each). What only the
+program waits for gives way to all others, and has two lanes more. The log goes to crates/council/out/build.log, and a
+line for each library to standard error.
 """
 import fcntl
 import os
@@ -29,6 +30,10 @@ ROOMS = f"{OUT}/rooms"
 LOG = f"{OUT}/build.log"
 # what a proof may take
 MEMORY = 3_000_000_000
+# how far a proof gives way to the first one: one that other libraries wait for, and one that only the program waits for
+NICE, NICE_LAST = 10, 15
+# what only the program waits for may use so many lanes more than there are processors
+MORE_LANES = 2
 # how long the proof of a crate takes on one processor, in seconds
 SECONDS = {
     "council_text": 15,
@@ -41,10 +46,10 @@ SECONDS = {
     "mwc_gather": 180,
     "mwc_tally": 95,
     "mwc_sums": 100,
-    "council_report": 200,
+    "council_report": 185,
     "council_run": 70,
-    "council_words": 65,
-    "council_explain": 250,
+    "council_words": 110,
+    "council_explain": 150,
     "council_progress": 30,
 }
 # the proofs under way
@@ -85,10 +90,11 @@ def cost(name):
 
 
 def lanes():
-    """How many proofs there is room for."""
+    """How many proofs may be under way at once, of what other libraries wait for, and of all."""
     with open("/proc/meminfo", encoding="utf-8") as it:
         free = 1024 * int(re.search(r"MemAvailable:\s+(\d+)", it.read())[1])
-    return max(1, min(len(os.sched_getaffinity(0)), free // MEMORY))
+    processors, room = len(os.sched_getaffinity(0)), max(1, free // MEMORY)
+    return min(processors, room), min(processors + MORE_LANES, room)
 
 
 def hold(names):
@@ -144,23 +150,32 @@ def prove(name, lines, nice):
         bring_back(name)
 
 
-def prove_all(names, lines):
-    """Proves the libraries, each after those below it; whether all were. The one with the longest chain above it
-    uses all processors that it can, once it can begin; the others give way to it."""
+def plan(names, lines):
+    """The libraries in the order in which they begin, with how far each gives way: what others wait for comes before
+    what only the program waits for, and among each the one with the longest chain above it."""
     behind, nice = {name: cost(name) for name in names}, {}
     for name in reversed(names):
         above = [behind[it] for it in names if name in below(it, lines)]
         behind[name] += max(above, default=0)
-        # what only the program waits for gives way to all that others wait for
-        nice[name] = 10 if above else 19
-    left, running, done, start = sorted(names, key=lambda it: -behind[it]), {}, [], time.time()
-    count, first = lanes(), None
+        nice[name] = NICE if above else NICE_LAST
+    return sorted(names, key=lambda it: (nice[it], -behind[it])), nice
+
+
+def prove_all(names, lines):
+    """Proves the libraries, each after those below it; whether all were. The one with the longest chain above it
+    uses all processors that it can, once it can begin; the others give way to it."""
+    left, nice = plan(names, lines)
+    few, all_lanes = lanes()
+    running, done, start, first = {}, [], time.time(), None
     with ThreadPoolExecutor(len(names)) as pool:
         while left or running:
             for name in [it for it in left if all(other in done for other in below(it, lines))]:
-                if not first and count > 1 and name == left[0]:
+                if not first and few > 1 and name == left[0]:
                     first = name
-                if name == first or len(running) < count:
+                # what only the program waits for takes no lane of the others, but what they leave of the processors
+                others = sum(nice[it] == NICE for it in running.values())
+                has_lane = len(running) < all_lanes and (others < few or nice[name] != NICE)
+                if name == first or has_lane:
                     left.remove(name)
                     running[pool.submit(prove, name, lines, 0 if name == first else nice[name])] = name
             for it in wait(running, return_when=FIRST_COMPLETED).done:
