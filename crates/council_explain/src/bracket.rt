@@ -1,9 +1,10 @@
 //! What a fault says of a bracket text.
+use crate::file::index_of;
 use crate::grammar::{Read, first_misfit};
 use crate::rules::say_range;
-use crate::said::{Said, decimal};
+use crate::said::Said;
 use crate::source::say_place;
-use council_game::{GameFault, Memory, limits};
+use council_game::{GameFault, Memory};
 use std::alloc::Global;
 
 /// Whether a text begins with `[` and a digit, but for blanks.
@@ -50,34 +51,17 @@ fn say_grammar(said: &mut Said, bytes: &[u8]) -> Result<(), Memory> {
 
 /// Says which weight is too great.
 fn say_weight(said: &mut Said, weights: &[u64], member: u8) -> Result<(), Memory> {
-    let alloc = said.alloc();
-    let number = decimal(alloc, usize::from(member))?;
-    for weight in weights
-        .iter()
-        .skip(usize::from(member).saturating_sub(1))
-        .take(1)
-    {
-        let weight = weight.to_string(alloc)?;
-        said.line(&[
-            "weight ",
-            number.as_str(),
-            " is ",
-            weight.as_str(),
-            ": the greatest is 1000000000000",
-        ])?;
-    }
-    Ok(())
-}
-
-fn say_members(said: &mut Said, count: usize) -> Result<(), Memory> {
-    let count = decimal(said.alloc(), count)?;
-    let most = decimal(said.alloc(), limits::MEMBERS)?;
+    let Some(weight) = weights.get(index_of(member)) else {
+        return Ok(());
+    };
+    let member = member.to_string(said.alloc())?;
+    let weight = weight.to_string(said.alloc())?;
     said.line(&[
-        "the text has ",
-        count.as_str(),
-        " weights: at most ",
-        most.as_str(),
-        " are allowed",
+        "weight ",
+        member.as_str(),
+        " is ",
+        weight.as_str(),
+        ": the greatest is 1000000000000",
     ])
 }
 
@@ -91,12 +75,16 @@ pub(crate) fn say_bracket(said: &mut Said, bytes: &[u8], fault: GameFault) -> Re
         return Ok(());
     };
     match fault {
-        GameFault::Members => say_members(said, weights.len()),
+        GameFault::Members => {
+            let wanted = "at most 40 are allowed";
+            said.count("the text has ", weights.len(), " weights: ", wanted)
+        }
         GameFault::Weight { member } => say_weight(said, weights, member),
         GameFault::QuotaRange => {
-            let total = weights
-                .iter()
-                .fold(0u64, |sum, weight| sum.saturating_add(*weight));
+            let mut total = 0u64;
+            for weight in weights {
+                total = total.saturating_add(*weight);
+            }
             let quota = quota.to_string(said.alloc())?;
             say_range(said, "the quota", quota.as_str(), total)
         }

@@ -1,26 +1,16 @@
 //! What a fault says of a file in TOML: its keys, title and quota.
-use crate::said::{Said, decimal, shown};
+use crate::said::{Said, shown};
 use crate::source::Source;
-use crate::values::described;
+use crate::values::{elements, say_text, say_value};
 use council_game::{GameFault, Memory};
 use std::alloc::Global;
 use toml::{Table, Value};
 
-/// The keys of a table.
-#[derive(Clone, Copy)]
-enum Keys {
-    Top,
-    Member,
-}
+/// The keys of the top.
+const TOP: &[&str] = &["title", "quota", "quotas", "member"];
 
-impl Keys {
-    fn has(self, key: &str) -> bool {
-        match self {
-            Keys::Top => matches!(key, "title" | "quota" | "quotas" | "member"),
-            Keys::Member => matches!(key, "name" | "weight" | "weights"),
-        }
-    }
-}
+/// The keys of a member.
+const OF_MEMBER: &[&str] = &["name", "weight", "weights"];
 
 /// A file in TOML: its text, and its tree.
 #[derive(Drop)]
@@ -29,10 +19,20 @@ pub(crate) struct File<'a> {
     pub(crate) table: &'a Table,
 }
 
+/// Whether a word is one of these.
+pub(crate) fn is_among(word: &str, words: &[&str]) -> bool {
+    for it in words {
+        if word == *it {
+            return true;
+        }
+    }
+    false
+}
+
 /// The first key of a table that is not one of these.
-fn other_key(table: &Table, keys: Keys) -> Option<&str> {
+fn other_key<'a>(table: &'a Table, keys: &[&str]) -> Option<&'a str> {
     for key in table.keys() {
-        if !keys.has(key.as_str()) {
+        if !is_among(key.as_str(), keys) {
             return Some(key.as_str());
         }
     }
@@ -47,9 +47,14 @@ impl<'a> File<'a> {
 
     /// The members, and none where they are no array.
     pub(crate) fn members(&self) -> &'a [Value] {
-        match self.table.get("member") {
-            Some(Value::Array(members)) => members.as_slice(),
-            _ => &[],
+        elements(self.table.get("member"))
+    }
+
+    /// The value at a key of the member with this index.
+    pub(crate) fn value_of(&self, index: usize, key: &str) -> Option<&'a Value> {
+        match self.members().get(index) {
+            Some(Value::Table(table)) => table.get(key),
+            _ => None,
         }
     }
 
@@ -58,44 +63,28 @@ impl<'a> File<'a> {
         self.source.say(said, self.source.key(key))
     }
 
-    /// Says what a value is, and what is wanted in its place.
-    pub(crate) fn say_value(
-        &self,
-        said: &mut Said,
-        value: &Value,
-        wanted: &str,
-    ) -> Result<(), Memory> {
-        let text = described(said.alloc(), value)?;
-        said.line(&[text.as_str(), ": ", wanted])
+    /// Says where a key of the member with this index stands, or else the member.
+    pub(crate) fn say_place(&self, said: &mut Said, index: usize, key: &str) -> Result<(), Memory> {
+        self.source.say(said, self.source.member_key(index, key))
     }
 
-    /// Says that a text has a character that may not be in it, or else how long it is.
-    pub(crate) fn say_text(&self, said: &mut Said, text: &str, wanted: &str) -> Result<(), Memory> {
-        if text.bytes().any(|byte| byte < 0x20 || byte == 0x7F) {
-            let odd = "the text has a TAB, the end of a line or another control character: ";
-            return said.line(&[odd, wanted]);
-        }
-        let length = decimal(said.alloc(), text.len())?;
-        said.line(&["the text has ", length.as_str(), " bytes: ", wanted])
-    }
-
-    /// Says that a member has a key that is not one of its own.
+    /// Says that the member with this index has a key that is not one of its own.
     fn say_key_of_member(&self, said: &mut Said, index: usize, key: &str) -> Result<(), Memory> {
-        self.source.say(said, self.source.member_key(index, key))?;
+        self.say_place(said, index, key)?;
         let word = shown(said.alloc(), key)?;
         said.line(&[
             "a member has no key ",
             word.as_str(),
             ": its keys are name, weight and weights",
         ])?;
-        if Keys::Top.has(key) {
+        if is_among(key, TOP) {
             said.line(&["what belongs to the game stands before the first [[member]]"])?;
         }
         Ok(())
     }
 
     fn say_unknown_key(&self, said: &mut Said) -> Result<(), Memory> {
-        if let Some(key) = other_key(self.table, Keys::Top) {
+        if let Some(key) = other_key(self.table, TOP) {
             self.say_key(said, key)?;
             let key = shown(said.alloc(), key)?;
             return said.line(&[
@@ -105,11 +94,10 @@ impl<'a> File<'a> {
             ]);
         }
         for (index, member) in self.members().iter().enumerate() {
-            if let Some(key) = member
-                .as_table()
-                .and_then(|table| other_key(table, Keys::Member))
-            {
-                return self.say_key_of_member(said, index, key);
+            if let Value::Table(table) = member {
+                if let Some(key) = other_key(table, OF_MEMBER) {
+                    return self.say_key_of_member(said, index, key);
+                }
             }
         }
         Ok(())
@@ -119,8 +107,7 @@ impl<'a> File<'a> {
         let wanted = "a title is a text in quotes, of at most 200 bytes, on one line";
         self.say_key(said, "title")?;
         match self.table.get("title") {
-            Some(Value::String(title)) => self.say_text(said, title.as_str(), wanted),
-            Some(value) => self.say_value(said, value, wanted),
+            Some(value) => say_text(said, value, wanted),
             None => Ok(()),
         }
     }
@@ -128,14 +115,14 @@ impl<'a> File<'a> {
     fn say_quota(&self, said: &mut Said) -> Result<(), Memory> {
         self.say_key(said, "quota")?;
         match self.table.get("quota") {
-            Some(value) => self.say_value(said, value, "a quota is a whole number, without quotes"),
+            Some(value) => say_value(said, value, "a quota is a whole number, without quotes"),
             None => said.line(&[
                 "the file has no quota: write a line such as quota = 51 before the members",
             ]),
         }
     }
 
-    /// Says what a fault says of the file.
+    /// Says what a fault says of the file. The members of a fault are numbered from 1.
     pub(crate) fn say(&self, said: &mut Said, fault: GameFault) -> Result<(), Memory> {
         match fault {
             GameFault::UnknownKey => self.say_unknown_key(said),
@@ -143,11 +130,16 @@ impl<'a> File<'a> {
             GameFault::Rules => self.say_rules(said),
             GameFault::Quota => self.say_quota(said),
             GameFault::Members => self.say_members(said),
-            GameFault::Name { member } => self.say_name(said, member),
-            GameFault::SameName { member } => self.say_same_name(said, member),
-            GameFault::Weight { member } => self.say_weight(said, member),
+            GameFault::Name { member } => self.say_name(said, index_of(member)),
+            GameFault::SameName { member } => self.say_same_name(said, index_of(member)),
+            GameFault::Weight { member } => self.say_weight(said, index_of(member)),
             GameFault::QuotaRange => self.say_quota_range(said),
             _ => Ok(()),
         }
     }
+}
+
+/// The index of the member of a number from 1.
+pub(crate) fn index_of(member: u8) -> usize {
+    usize::from(member).saturating_sub(1)
 }

@@ -1,7 +1,7 @@
 //! Where a bracket text breaks its grammar.
 
 /// What was read of a bracket text last.
-#[derive(Clone, Copy, PartialEq, Eq)]
+#[derive(Clone, Copy)]
 pub(crate) enum Read {
     Nothing,
     Opening,

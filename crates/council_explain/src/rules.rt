@@ -1,7 +1,7 @@
 //! What a fault says of the rules of a file.
 use crate::file::File;
-use crate::said::{Said, decimal};
-use crate::values::value_text;
+use crate::said::Said;
+use crate::values::{elements, number, say_value, value_text};
 use council_game::{Memory, limits};
 use toml::Value;
 
@@ -23,59 +23,32 @@ pub(crate) fn say_range(
     ])
 }
 
-/// The number that a value is, and 0 of any other value.
-fn number(value: Option<&Value>) -> u64 {
-    match value {
-        Some(Value::Integer(n)) if 0 <= *n => *n as u64,
-        _ => 0,
+/// Says what is wrong with quotas; whether there is.
+fn say_quotas(said: &mut Said, value: &Value) -> Result<bool, Memory> {
+    let Value::Array(quotas) = value else {
+        say_value(said, value, "quotas are an array of 1 to 4 whole numbers")?;
+        return Ok(true);
+    };
+    if quotas.is_empty() || limits::RULES < quotas.len() {
+        let wanted = "quotas are 1 to 4 whole numbers";
+        said.count("there are ", quotas.len(), " of them: ", wanted)?;
+        return Ok(true);
     }
+    for quota in quotas.as_slice() {
+        if !quota.is_integer() {
+            say_value(said, quota, "quotas are 1 to 4 whole numbers")?;
+            return Ok(true);
+        }
+    }
+    Ok(false)
 }
 
 impl<'a> File<'a> {
-    /// The quotas of several rules, and none where they are no array.
-    pub(crate) fn quotas(&self) -> &'a [Value] {
-        match self.table.get("quotas") {
-            Some(Value::Array(quotas)) => quotas.as_slice(),
-            _ => &[],
-        }
-    }
-
-    /// Says what is wrong with an array of quotas; whether there is.
-    fn say_array(&self, said: &mut Said, quotas: &[Value]) -> Result<bool, Memory> {
-        if quotas.is_empty() || limits::RULES < quotas.len() {
-            let count = decimal(said.alloc(), quotas.len())?;
-            said.line(&[
-                "there are ",
-                count.as_str(),
-                " of them: quotas are 1 to 4 whole numbers",
-            ])?;
-            return Ok(true);
-        }
-        for quota in quotas {
-            if !quota.is_integer() {
-                self.say_value(said, quota, "quotas are 1 to 4 whole numbers")?;
-                return Ok(true);
-            }
-        }
-        Ok(false)
-    }
-
-    /// Says what is wrong with quotas; whether there is.
-    fn say_quotas(&self, said: &mut Said, value: &Value) -> Result<bool, Memory> {
-        match value {
-            Value::Array(quotas) => self.say_array(said, quotas.as_slice()),
-            _ => {
-                self.say_value(said, value, "quotas are an array of 1 to 4 whole numbers")?;
-                Ok(true)
-            }
-        }
-    }
-
     /// Says which member has a key that does not go with that of the quota.
     fn say_mixed(&self, said: &mut Said, key: &str) -> Result<(), Memory> {
-        for (index, member) in self.members().iter().enumerate() {
-            if member.get(key).is_some() {
-                self.source.say(said, self.source.member_key(index, key))?;
+        for index in 0..self.members().len() {
+            if self.value_of(index, key).is_some() {
+                self.say_place(said, index, key)?;
                 break;
             }
         }
@@ -92,7 +65,7 @@ impl<'a> File<'a> {
             self.say_key(said, "quota")?;
             return said.line(&["quota and quotas are both there: a game has one of them"]);
         }
-        if self.say_quotas(said, quotas)? {
+        if say_quotas(said, quotas)? {
             return Ok(());
         }
         self.say_mixed(said, "weight")
@@ -101,10 +74,10 @@ impl<'a> File<'a> {
     /// What the weights of a rule add up to.
     fn total(&self, rule: usize) -> u64 {
         let mut total = 0u64;
-        for member in self.members() {
-            let weight = match member.get("weights") {
+        for index in 0..self.members().len() {
+            let weight = match self.value_of(index, "weights") {
                 Some(Value::Array(weights)) => number(weights.get(rule)),
-                _ => number(member.get("weight")),
+                _ => number(self.value_of(index, "weight")),
             };
             total = total.saturating_add(weight);
         }
@@ -136,10 +109,15 @@ impl<'a> File<'a> {
             return Ok(());
         }
         self.say_key(said, "quotas")?;
-        for (rule, quota) in self.quotas().iter().enumerate() {
-            let number = decimal(said.alloc(), rule.saturating_add(1))?;
-            let which = format!(in said.alloc(); "quota {number}")?;
-            if self.say_one_quota(said, which.as_str(), quota, rule)? {
+        let quotas = elements(self.table.get("quotas"));
+        for (rule, quota) in quotas.iter().enumerate() {
+            let which = match rule {
+                0 => "quota 1",
+                1 => "quota 2",
+                2 => "quota 3",
+                _ => "quota 4",
+            };
+            if self.say_one_quota(said, which, quota, rule)? {
                 break;
             }
         }

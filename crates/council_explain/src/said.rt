@@ -33,14 +33,21 @@ impl Said {
         Ok(())
     }
 
+    /// Adds a line with a number in it.
+    pub(crate) fn count<'t>(
+        &mut self,
+        before: &'t str,
+        number: usize,
+        behind: &'t str,
+        wanted: &'t str,
+    ) -> Result<(), Memory> {
+        let number = number.to_string(self.alloc())?;
+        self.line(&[before, number.as_str(), behind, wanted])
+    }
+
     pub(crate) fn into_text(self) -> String {
         self.text
     }
-}
-
-/// A number in decimal.
-pub(crate) fn decimal(alloc: Global, number: usize) -> Result<String, Memory> {
-    Ok(number.to_string(alloc)?)
 }
 
 /// A text as it can stand in a line: at most so many characters of it, and none that moves a terminal.

@@ -1,10 +1,10 @@
 //! The text of a game file, and where its keys stand.
-use crate::said::{Said, decimal, shown};
+use crate::said::{Said, shown};
 use council_game::Memory;
 use std::alloc::Global;
 
 /// What a byte of a text stands in.
-#[derive(Clone, Copy, PartialEq, Eq)]
+#[derive(Clone, Copy)]
 enum Within {
     Nothing,
     Comment,
@@ -30,64 +30,43 @@ impl Within {
     }
 }
 
-/// What begins a member.
-#[derive(Clone, Copy)]
-enum Beginning {
-    /// `[[member]]`
-    Header,
-    /// `{`
-    Brace,
+/// What comes behind a word and blanks, where the text begins with the word.
+fn behind<'t>(text: &'t [u8], word: &[u8]) -> Option<&'t [u8]> {
+    Some(text.strip_prefix(word)?.trim_ascii_start())
 }
 
-impl Beginning {
-    fn is_at(self, text: &[u8]) -> bool {
-        match self {
-            Beginning::Header => is_header(text),
-            Beginning::Brace => text.first() == Some(&b'{'),
-        }
-    }
-}
-
+/// Whether `[[member]]` begins here.
 fn is_header(text: &[u8]) -> bool {
-    let Some(name) = text.strip_prefix(b"[[") else {
+    let Some(name) = behind(text, b"[[") else {
         return false;
     };
-    match name.trim_ascii_start().strip_prefix(b"member") {
-        Some(rest) => rest.trim_ascii_start().starts_with(b"]]"),
+    match behind(name, b"member") {
+        Some(rest) => behind(rest, b"]]").is_some(),
         None => false,
     }
 }
 
 /// Whether the text begins with the key, and what comes then fits a key.
 fn begins_with_key(text: &[u8], key: &[u8]) -> bool {
-    match text.strip_prefix(key) {
-        Some(rest) => matches!(rest.trim_ascii_start().first(), Some(b'=' | b'.' | b']')),
+    match behind(text, key) {
+        Some(rest) => matches!(rest.first(), Some(b'=' | b'.' | b']')),
         None => false,
     }
 }
 
-/// The line of a place, from 1.
-pub(crate) fn line_of(text: &[u8], place: usize) -> usize {
+/// The line and the column of a place, from 1; the column in characters.
+fn line_and_column(text: &[u8], place: usize) -> (usize, usize) {
     let mut line = 1usize;
-    for byte in text.iter().take(place) {
-        if *byte == b'\n' {
-            line = line.saturating_add(1);
-        }
-    }
-    line
-}
-
-/// The column of a place, from 1, in characters.
-pub(crate) fn column_of(text: &[u8], place: usize) -> usize {
     let mut column = 1usize;
     for byte in text.iter().take(place) {
         if *byte == b'\n' {
+            line = line.saturating_add(1);
             column = 1;
         } else if *byte & 0xC0 != 0x80 {
             column = column.saturating_add(1);
         }
     }
-    column
+    (line, column)
 }
 
 /// The text of a line, from 1.
@@ -105,13 +84,13 @@ fn text_of_line(text: &str, line: usize) -> &str {
 /// Says the line and the column of a place, and what stands in the line.
 pub(crate) fn say_place(said: &mut Said, text: &str, place: usize) -> Result<(), Memory> {
     let alloc = said.alloc();
-    let line = line_of(text.as_bytes(), place);
-    let number = decimal(alloc, line)?;
-    let column = decimal(alloc, column_of(text.as_bytes(), place))?;
+    let (line, column) = line_and_column(text.as_bytes(), place);
     let row = shown(alloc, text_of_line(text, line))?;
+    let line = line.to_string(alloc)?;
+    let column = column.to_string(alloc)?;
     said.line(&[
         "line ",
-        number.as_str(),
+        line.as_str(),
         ", column ",
         column.as_str(),
         ": ",
@@ -132,7 +111,7 @@ impl<'a> Source<'a> {
         let mut within = Within::Nothing;
         for byte in text.as_bytes() {
             within = within.at(*byte);
-            let is_plain = within == Within::Nothing || *byte == b'\n';
+            let is_plain = matches!(within, Within::Nothing) || *byte == b'\n';
             plain.push(if is_plain { *byte } else { b' ' })?;
         }
         Ok(Source { text, plain })
@@ -155,11 +134,17 @@ impl<'a> Source<'a> {
         self.key_between(key, 0, self.plain.len())
     }
 
-    /// The place of the member with this index that begins so.
-    fn beginning(&self, beginning: Beginning, index: usize) -> Option<usize> {
+    /// The place of the member with this index: the one behind so many headers, or else behind so many braces.
+    fn member_by(&self, by_header: bool, index: usize) -> Option<usize> {
         let mut left = index;
         for place in 0..self.plain.len() {
-            if beginning.is_at(self.plain.get(place..)?) {
+            let rest = self.plain.get(place..)?;
+            let begins = if by_header {
+                is_header(rest)
+            } else {
+                rest.first() == Some(&b'{')
+            };
+            if begins {
                 if left == 0 {
                     return Some(place);
                 }
@@ -170,13 +155,8 @@ impl<'a> Source<'a> {
     }
 
     /// The place of the member with this index.
-    pub(crate) fn member(&self, index: usize) -> Option<usize> {
-        let beginning = if self.beginning(Beginning::Header, 0).is_some() {
-            Beginning::Header
-        } else {
-            Beginning::Brace
-        };
-        self.beginning(beginning, index)
+    fn member(&self, index: usize) -> Option<usize> {
+        self.member_by(self.member_by(true, 0).is_some(), index)
     }
 
     /// Where a key of the member with this index stands, or else the member.
@@ -193,10 +173,8 @@ impl<'a> Source<'a> {
         let Some(place) = place else {
             return Ok(());
         };
-        let alloc = said.alloc();
-        let line = line_of(self.text.as_bytes(), place);
-        let number = decimal(alloc, line)?;
-        let row = shown(alloc, text_of_line(self.text, line).trim())?;
-        said.line(&["line ", number.as_str(), ": ", row.as_str()])
+        let (line, _) = line_and_column(self.text.as_bytes(), place);
+        let row = shown(said.alloc(), text_of_line(self.text, line).trim())?;
+        said.count("line ", line, ": ", row.as_str())
     }
 }

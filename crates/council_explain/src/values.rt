@@ -1,5 +1,5 @@
 //! Values of a file, as an explanation shows them.
-use crate::said::shown;
+use crate::said::{Said, shown};
 use council_game::Memory;
 use std::alloc::Global;
 use toml::Value;
@@ -23,10 +23,48 @@ pub(crate) fn value_text(alloc: Global, value: &Value) -> Result<String, Memory>
     shown(alloc, text.as_str())
 }
 
-/// A value, and what kind of value it is.
-pub(crate) fn described(alloc: Global, value: &Value) -> Result<String, Memory> {
-    let mut text = value_text(alloc, value)?;
+/// Says what a value is, and what is wanted in its place.
+pub(crate) fn say_value(said: &mut Said, value: &Value, wanted: &str) -> Result<(), Memory> {
+    let mut text = value_text(said.alloc(), value)?;
     text.push_str(" is ")?;
     text.push_str(kind(value))?;
-    Ok(text)
+    said.line(&[text.as_str(), ": ", wanted])
+}
+
+/// Whether a text has a TAB, the end of a line or another control character.
+fn has_control(text: &str) -> bool {
+    for byte in text.as_bytes() {
+        if *byte < 0x20 || *byte == 0x7F {
+            return true;
+        }
+    }
+    false
+}
+
+/// Says what is wrong with what is to be a text on one line: what it is, what it has, or else how long it is.
+pub(crate) fn say_text(said: &mut Said, value: &Value, wanted: &str) -> Result<(), Memory> {
+    let Value::String(text) = value else {
+        return say_value(said, value, wanted);
+    };
+    if has_control(text.as_str()) {
+        let odd = "the text has a TAB, the end of a line or another control character: ";
+        return said.line(&[odd, wanted]);
+    }
+    said.count("the text has ", text.len(), " bytes: ", wanted)
+}
+
+/// The elements of an array, and none of another value.
+pub(crate) fn elements(value: Option<&Value>) -> &[Value] {
+    match value {
+        Some(Value::Array(items)) => items.as_slice(),
+        _ => &[],
+    }
+}
+
+/// The number that a value is, and 0 of any other value.
+pub(crate) fn number(value: Option<&Value>) -> u64 {
+    match value {
+        Some(Value::Integer(n)) if 0 <= *n => *n as u64,
+        _ => 0,
+    }
 }
