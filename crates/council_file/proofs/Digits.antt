@@ -1,4 +1,4 @@
--- The parts of a text, from its front.
+-- The symbols of a text, from its front.
 use Rattle.std.proofs.lemmas.List.{length-map, map_push, take_all, take-append-drop}
 use Rattle.std.proofs.lemmas.List.FromFn.{map-range_with_len_more, length-map-range_with_len}
 use Rattle.std.specs.List.{range_with_len}
@@ -9,7 +9,7 @@ use Rattle.std.proofs.lemmas.Bool.{false≢true}
 use Rattle.std.proofs.lemmas.Bool.Decides.{nat_tests}
 use Rattle.std.proofs.lemmas.Str.Parse.{digit_at, digit_from_value, digits_value_short, digits_value-take-le, numerals_by_value, tells_digits}
 use Rattle.std.proofs.lemmas.Int.Digits.{digits_value_more}
-use Rattle.council_file.specs.Bracket.{number, mark, parts, is_blank, begins_with_digit, with_digit}
+use Rattle.council_file.specs.Bracket.{number, mark, symbols, is_blank, begins_with_digit, with_digit}
 use Rattle.council_file.specs.Inner.Scan.{begins_with_blank}
 
 digit_test : (c : ℕ) → digit_value c < 10 → is_ascii_digit c ≡ true
@@ -18,32 +18,32 @@ digit_test c h = let r = digit_from_value c h in grind (arith, nat_tests)
 blank_no_digit : (b : ℕ) → is_blank b ≡ true → is_ascii_digit b ≡ false
 blank_no_digit b h = grind (arith, nat_tests)
 
-parts-blank : (b : ℕ) (bs : List ℕ) → is_blank b ≡ true → parts (b ∷ bs) ≡ parts bs
-unfolding parts
-parts-blank b bs blank = rw (blank_no_digit b blank, blank) refl
+symbols-blank : (b : ℕ) (bs : List ℕ) → is_blank b ≡ true → symbols (b ∷ bs) ≡ symbols bs
+unfolding symbols
+symbols-blank b bs blank = rw (blank_no_digit b blank, blank) refl
 
-parts-mark : (b : ℕ) (bs : List ℕ) → is_ascii_digit b ≡ false → is_blank b ≡ false → parts (b ∷ bs) ≡ mark b ∷ parts bs
-unfolding parts
-parts-mark b bs other full = rw (other, full) refl
+symbols-mark : (b : ℕ) (bs : List ℕ) → is_ascii_digit b ≡ false → is_blank b ≡ false → symbols (b ∷ bs) ≡ mark b ∷ symbols bs
+unfolding symbols
+symbols-mark b bs other full = rw (other, full) refl
 
-parts-digit : (d : ℕ) (bs : List ℕ) → is_ascii_digit d ≡ true → parts (d ∷ bs) ≡ with_digit d (begins_with_digit bs) (parts bs)
-unfolding parts
-parts-digit d bs h = rw h refl
+symbols-digit : (d : ℕ) (bs : List ℕ) → is_ascii_digit d ≡ true → symbols (d ∷ bs) ≡ with_digit d (begins_with_digit bs) (symbols bs)
+unfolding symbols
+symbols-digit d bs h = rw h refl
 
 -- digits, and no digit behind them, are one number
-pub parts-number : (d : ℕ) (ds rest : List ℕ) → AllDigits 10 (d ∷ ds) → begins_with_digit rest ≡ false
-    → parts ((d ∷ ds) ++ rest) ≡ number (d ∷ ds) ∷ parts rest
-parts-number d [] rest whole stop = parts-digit d rest (digit_test d whole.0) ∙ ap (λ (j : Bool). with_digit d j (parts rest)) stop
-parts-number d (e ∷ ds) rest whole stop =
-    parts-digit d (e ∷ (ds ++ rest)) (digit_test d whole.0)
-    ∙ ap (λ (j : Bool). with_digit d j (parts (e ∷ (ds ++ rest)))) (digit_test e whole.1.0)
-    ∙ ap (with_digit d true) (parts-number e ds rest whole.1 stop)
+pub symbols-number : (d : ℕ) (ds rest : List ℕ) → AllDigits 10 (d ∷ ds) → begins_with_digit rest ≡ false
+    → symbols ((d ∷ ds) ++ rest) ≡ number (d ∷ ds) ∷ symbols rest
+symbols-number d [] rest whole stop = symbols-digit d rest (digit_test d whole.0) ∙ ap (λ (j : Bool). with_digit d j (symbols rest)) stop
+symbols-number d (e ∷ ds) rest whole stop =
+    symbols-digit d (e ∷ (ds ++ rest)) (digit_test d whole.0)
+    ∙ ap (λ (j : Bool). with_digit d j (symbols (e ∷ (ds ++ rest)))) (digit_test e whole.1.0)
+    ∙ ap (with_digit d true) (symbols-number e ds rest whole.1 stop)
 
 number_in_front : (b : ℕ) (bs : List ℕ) (n : ℕ) → is_ascii_digit b ≡ true → AllDigits 10 (take n (b ∷ bs))
-    → begins_with_digit (drop n (b ∷ bs)) ≡ false → parts (b ∷ bs) ≡ number (take n (b ∷ bs)) ∷ parts (drop n (b ∷ bs))
+    → begins_with_digit (drop n (b ∷ bs)) ≡ false → symbols (b ∷ bs) ≡ number (take n (b ∷ bs)) ∷ symbols (drop n (b ∷ bs))
 number_in_front b bs zero digit whole stop = absurd (false≢true (sym stop ∙ digit))
-number_in_front b bs (suc n) digit whole stop = ap (λ (t : List ℕ). parts (b ∷ t)) (sym (take-append-drop n bs))
-    ∙ parts-number b (take n bs) (drop n bs) whole stop
+number_in_front b bs (suc n) digit whole stop = ap (λ (t : List ℕ). symbols (b ∷ t)) (sym (take-append-drop n bs))
+    ∙ symbols-number b (take n bs) (drop n bs) whole stop
 
 digit_value-minus : (c : ℕ) → (48 ≤ c) × (c ≤ 57) → digit_value c ≡ c - 48
 digit_value-minus c range = let low = range.0 in let high = range.1 in grind (arith, nat_tests)
@@ -70,25 +70,25 @@ names_more names name k before this =
 rest_of : (b : ℕ) (bs : List ℕ) → take (length (b ∷ bs) - 1) (drop 1 (b ∷ bs)) ≡ bs
 rest_of b bs = take_all (length (b ∷ bs) - 1) bs (omega arith)
 
-pub parts_end : (bs : List ℕ) → length bs < 1 → parts bs ≡ []
-unfolding parts
-parts_end [] h = refl
-parts_end (b ∷ bs) h = absurd (omega arith)
+pub symbols_end : (bs : List ℕ) → length bs < 1 → symbols bs ≡ []
+unfolding symbols
+symbols_end [] h = refl
+symbols_end (b ∷ bs) h = absurd (omega arith)
 
-pub parts_behind_blank : (bs : List ℕ) → 1 ≤ length bs → is_blank (get_or bs 0 0) ≡ true
-    → parts bs ≡ parts (take (length bs - 1) (drop 1 bs))
-parts_behind_blank [] some blank = absurd (omega arith)
-parts_behind_blank (b ∷ bs) some blank = parts-blank b bs blank ∙ ap parts (sym (rest_of b bs))
+pub symbols_behind_blank : (bs : List ℕ) → 1 ≤ length bs → is_blank (get_or bs 0 0) ≡ true
+    → symbols bs ≡ symbols (take (length bs - 1) (drop 1 bs))
+symbols_behind_blank [] some blank = absurd (omega arith)
+symbols_behind_blank (b ∷ bs) some blank = symbols-blank b bs blank ∙ ap symbols (sym (rest_of b bs))
 
-pub parts_behind_mark : (bs : List ℕ) → 1 ≤ length bs → is_ascii_digit (get_or bs 0 0) ≡ false → begins_with_blank bs ≡ false
-    → parts bs ≡ mark (get_or bs 0 0) ∷ parts (take (length bs - 1) (drop 1 bs))
-parts_behind_mark [] some other full = absurd (omega arith)
-parts_behind_mark (b ∷ bs) some other full = parts-mark b bs other full ∙ ap (λ (t : List ℕ). mark b ∷ parts t) (sym (rest_of b bs))
+pub symbols_behind_mark : (bs : List ℕ) → 1 ≤ length bs → is_ascii_digit (get_or bs 0 0) ≡ false → begins_with_blank bs ≡ false
+    → symbols bs ≡ mark (get_or bs 0 0) ∷ symbols (take (length bs - 1) (drop 1 bs))
+symbols_behind_mark [] some other full = absurd (omega arith)
+symbols_behind_mark (b ∷ bs) some other full = symbols-mark b bs other full ∙ ap (λ (t : List ℕ). mark b ∷ symbols t) (sym (rest_of b bs))
 
-pub parts_behind_number : (bs : List ℕ) (n : ℕ) → 1 ≤ length bs → is_ascii_digit (get_or bs 0 0) ≡ true → AllDigits 10 (take n bs)
-    → begins_with_digit (drop n bs) ≡ false → parts bs ≡ number (take n bs) ∷ parts (drop n bs)
-parts_behind_number [] n some digit whole stop = absurd (omega arith)
-parts_behind_number (b ∷ bs) n some digit whole stop = number_in_front b bs n digit whole stop
+pub symbols_behind_number : (bs : List ℕ) (n : ℕ) → 1 ≤ length bs → is_ascii_digit (get_or bs 0 0) ≡ true → AllDigits 10 (take n bs)
+    → begins_with_digit (drop n bs) ≡ false → symbols bs ≡ number (take n bs) ∷ symbols (drop n bs)
+symbols_behind_number [] n some digit whole stop = absurd (omega arith)
+symbols_behind_number (b ∷ bs) n some digit whole stop = number_in_front b bs n digit whole stop
 
 pub names_count : (names : List (String Global)) (n : ℕ) → map string_bytes names ≡ map decimal (range_with_len 1 n) → n ≡ length names
 names_count names n same = sym (length-map-range_with_len decimal 1 n) ∙ ap (λ (xs : List (List ℕ)). length xs) (sym same)

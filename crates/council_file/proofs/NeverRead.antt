@@ -12,7 +12,7 @@ use Rattle.council_game.specs.Fault.{◌>>=◌, refuse, refuse_at, Gives}
 use Rattle.council_game.specs.Votes.{RuleView}
 use Rattle.council_game.specs.Ranks.{places}
 use Rattle.council_game.specs.Game.{has_bad_quota, is_heavy, is_name, is_repeat, is_title, made_game}
-use Rattle.council_file.specs.Bracket.{counted_names, game_of_bracket, parts, rule_of}
+use Rattle.council_file.specs.Bracket.{counted_names, game_of_bracket, symbols, rule_of}
 use Rattle.council_file.specs.File.{are_members, breaks_rules, game_of_tree, has_unknown_key, lacks_quota, member_list, name_from, rules_of, title_from, tree_of}
 
 -- a fault of the bytes
@@ -81,7 +81,7 @@ to-tree bytes = step _ _ (refused (not (is_utf8 bytes)) Text tt) (λ _. or (pars
 
 pub of-bracket : (bytes : List ℕ) → NoRead (game_of_bracket bytes)
 unfolding game_of_bracket
-of-bracket bytes = step _ _ (or (rule_of (parts bytes)) Bracket tt) (λ r. made None (counted_names (length r.weights)) (r ∷ []))
+of-bracket bytes = step _ _ (or (rule_of (symbols bytes)) Bracket tt) (λ r. made None (counted_names (length r.weights)) (r ∷ []))
 
 -- an answer to what has no fault Read
 pub never-read : {X Y : Type 0} (view : X → Y) (answer : Result X GameFault) (wanted : Result Y GameFault) → NoRead wanted

@@ -12,27 +12,27 @@ use Rattle.council_game.specs.Votes.{RuleView, rule_at}
 use Rattle.council_game.specs.Ranks.{places, rank_places}
 use Rattle.council_game.specs.Game.{GameView, IsGame, made_game, is_name, is_repeat, is_heavy, has_bad_quota}
 use Rattle.council_game.proofs.Games.{passed, none-any, light-weights, light-sum}
-use Rattle.council_file.specs.Bracket.{Part, number, opening, closing, comma, semicolon, parts, value_of, weights_of, rule_of, is_bracket, begins_bracket, begins_with_digit, game_of_bracket, counted_names, nameless_game}
+use Rattle.council_file.specs.Bracket.{Symbol, number, opening, closing, comma, semicolon, symbols, value_of, weights_of, rule_of, is_bracket, begins_bracket, begins_with_digit, game_of_bracket, counted_names, nameless_game}
 use Rattle.council_file.specs.File.{game_of}
 use Rattle.council_text.specs.Joined.{joined_numbers}
 use Rattle.council_text.specs.Notation.{notation}
 use Rattle.council_file.specs.Laws.{lone_game, NotationReadsBack}
-use Rattle.council_file.proofs.Digits.{parts-number}
+use Rattle.council_file.proofs.Digits.{symbols-number}
 use Rattle.council_text.proofs.Joins.{one-number, next-numbers}
 use Rattle.council_file.proofs.Named.{nowhere_below, names_pass, repeats_pass}
 
 -- ---- numbers
 
-parts-digits : (ds rest : List ℕ) → 0 < length ds → AllDigits 10 ds → begins_with_digit rest ≡ false
-    → parts (ds ++ rest) ≡ number ds ∷ parts rest
-parts-digits [] rest some whole stop = absurd (omega arith)
-parts-digits (d ∷ ds) rest some whole stop = parts-number d ds rest whole stop
+symbols-digits : (ds rest : List ℕ) → 0 < length ds → AllDigits 10 ds → begins_with_digit rest ≡ false
+    → symbols (ds ++ rest) ≡ number ds ∷ symbols rest
+symbols-digits [] rest some whole stop = absurd (omega arith)
+symbols-digits (d ∷ ds) rest some whole stop = symbols-number d ds rest whole stop
 
-parts-decimal : (n : ℕ) (rest : List ℕ) → n < 10 ^ 18 → begins_with_digit rest ≡ false
-    → parts (decimal n ++ rest) ≡ number (decimal n) ∷ parts rest
-parts-decimal n rest small stop =
+symbols-decimal : (n : ℕ) (rest : List ℕ) → n < 10 ^ 18 → begins_with_digit rest ≡ false
+    → symbols (decimal n ++ rest) ≡ number (decimal n) ∷ symbols rest
+symbols-decimal n rest small stop =
     let numeral = decimal_is_IsNumeral n (omega arith) in
-    parts-digits (decimal n) rest numeral.0.0 numeral.0.1 stop
+    symbols-digits (decimal n) rest numeral.0.0 numeral.0.1 stop
 
 short : (n : ℕ) → n < 10 ^ 18 → length (decimal n) ≤ 18
 short n small = length-decimal-le 18 n (omega arith) small (omega arith)
@@ -46,17 +46,17 @@ last_is : (w : ℕ) → w < 10 ^ 18 → weights_of (number (decimal w) ∷ closi
 unfolding weights_of
 last_is w small = ap (λ (o : Option ℕ). option_map (λ v. v ∷ []) o) (value_is w small)
 
-next_is : (w : ℕ) (ps : List Part) (ws : List ℕ) → w < 10 ^ 18 → weights_of ps ≡ Some ws
+next_is : (w : ℕ) (ps : List Symbol) (ws : List ℕ) → w < 10 ^ 18 → weights_of ps ≡ Some ws
     → weights_of (number (decimal w) ∷ comma ∷ ps) ≡ Some (w ∷ ws)
 unfolding weights_of
 next_is w ps ws small rest = rw (value_is w small, rest) refl
 
 weights_read : (w : ℕ) (ws : List ℕ) → AllByRecursion (λ v. v < 10 ^ 18) (w ∷ ws)
-    → weights_of (parts (joined_numbers (codes ", ") (w ∷ ws) ++ codes "]")) ≡ Some (w ∷ ws)
-unfolding parts
+    → weights_of (symbols (joined_numbers (codes ", ") (w ∷ ws) ++ codes "]")) ≡ Some (w ∷ ws)
+unfolding symbols
 weights_read w [] small =
-    ap (λ (t : List ℕ). weights_of (parts (t ++ codes "]"))) (one-number (codes ", ") w)
-    ∙ ap weights_of (parts-decimal w (codes "]") small.0 refl)
+    ap (λ (t : List ℕ). weights_of (symbols (t ++ codes "]"))) (one-number (codes ", ") w)
+    ∙ ap weights_of (symbols-decimal w (codes "]") small.0 refl)
     ∙ last_is w small.0
 weights_read w (v ∷ ws) small =
     let rest : List ℕ = joined_numbers (codes ", ") (v ∷ ws) in
@@ -64,9 +64,9 @@ weights_read w (v ∷ ws) small =
     ap (λ (t : List ℕ). t ++ codes "]") (next-numbers (codes ", ") w v ws)
     ∙ append_assoc (decimal w) (codes ", " ++ rest) (codes "]")
     ∙ ap (λ (t : List ℕ). decimal w ++ t) (append_assoc (codes ", ") rest (codes "]")) in
-    ap (λ (t : List ℕ). weights_of (parts t)) regrouped
-    ∙ ap weights_of (parts-decimal w (codes ", " ++ (rest ++ codes "]")) small.0 refl)
-    ∙ next_is w (parts (rest ++ codes "]")) (v ∷ ws) small.0 (weights_read v ws small.1)
+    ap (λ (t : List ℕ). weights_of (symbols t)) regrouped
+    ∙ ap weights_of (symbols-decimal w (codes ", " ++ (rest ++ codes "]")) small.0 refl)
+    ∙ next_is w (symbols (rest ++ codes "]")) (v ∷ ws) small.0 (weights_read v ws small.1)
 
 joined_short : (ws : List ℕ) → AllByRecursion (λ v. v < 10 ^ 18) ws → length (joined_numbers (codes ", ") ws) ≤ 20 * length ws
 joined_short [] small = omega arith
@@ -109,30 +109,31 @@ tail_of r = joined_numbers (codes ", ") r.weights ++ codes "]"
 regrouped_text : (a b c d e : List ℕ) → a ++ b ++ c ++ d ++ e ≡ a ++ (b ++ (c ++ (d ++ e)))
 regrouped_text a b c d e = simp append_assoc
 
-text_parts : (r : RuleView) → r.quota < 10 ^ 18 → parts (notation r) ≡ opening ∷ number (decimal r.quota) ∷ semicolon ∷ parts (tail_of r)
-unfolding notation tail_of parts
-text_parts r small =
-    ap parts (regrouped_text (codes "[") (decimal r.quota) (codes "; ") (joined_numbers (codes ", ") r.weights) (codes "]"))
-    ∙ ap (λ (ps : List Part). opening ∷ ps)
-    (parts-decimal r.quota (codes "; " ++ (joined_numbers (codes ", ") r.weights ++ codes "]")) small refl)
+text_symbols : (r : RuleView) → r.quota < 10 ^ 18
+    → symbols (notation r) ≡ opening ∷ number (decimal r.quota) ∷ semicolon ∷ symbols (tail_of r)
+unfolding notation tail_of symbols
+text_symbols r small =
+    ap symbols (regrouped_text (codes "[") (decimal r.quota) (codes "; ") (joined_numbers (codes ", ") r.weights) (codes "]"))
+    ∙ ap (λ (ps : List Symbol). opening ∷ ps)
+    (symbols-decimal r.quota (codes "; " ++ (joined_numbers (codes ", ") r.weights ++ codes "]")) small refl)
 
 tail_weights : (ws : List ℕ) → 0 < length ws → AllByRecursion (λ v. v < 10 ^ 18) ws
-    → weights_of (parts (joined_numbers (codes ", ") ws ++ codes "]")) ≡ Some ws
+    → weights_of (symbols (joined_numbers (codes ", ") ws ++ codes "]")) ≡ Some ws
 tail_weights [] some small = absurd (omega arith)
 tail_weights (w ∷ ws) some small = weights_read w ws small
 
-tail_read : (n : ℕ) (r : RuleView) → Fits n r → weights_of (parts (tail_of r)) ≡ Some r.weights
+tail_read : (n : ℕ) (r : RuleView) → Fits n r → weights_of (symbols (tail_of r)) ≡ Some r.weights
 unfolding tail_of
 tail_read n r fits = tail_weights r.weights (omega (arith, fits.full, fits.some)) (weights_small n r fits)
 
-rule_parts : (q : ℕ) (ps : List Part) (ws : List ℕ) → q < 10 ^ 18 → weights_of ps ≡ Some ws
+rule_symbols : (q : ℕ) (ps : List Symbol) (ws : List ℕ) → q < 10 ^ 18 → weights_of ps ≡ Some ws
     → rule_of (opening ∷ number (decimal q) ∷ semicolon ∷ ps) ≡ Some (record { quota = q; weights = ws })
 unfolding rule_of
-rule_parts q ps ws small rest = rw (value_is q small, rest) refl
+rule_symbols q ps ws small rest = rw (value_is q small, rest) refl
 
-rule_read : (n : ℕ) (r : RuleView) → Fits n r → rule_of (parts (notation r)) ≡ Some r
-rule_read n r fits = ap rule_of (text_parts r (quota_small n r fits))
-    ∙ rule_parts r.quota (parts (tail_of r)) r.weights (quota_small n r fits) (tail_read n r fits)
+rule_read : (n : ℕ) (r : RuleView) → Fits n r → rule_of (symbols (notation r)) ≡ Some r
+rule_read n r fits = ap rule_of (text_symbols r (quota_small n r fits))
+    ∙ rule_symbols r.quota (symbols (tail_of r)) r.weights (quota_small n r fits) (tail_read n r fits)
 
 lengths_of_five : (a b c d e : List ℕ) → length (a ++ b ++ c ++ d ++ e) ≡ length a + (length b + (length c + (length d + length e)))
 lengths_of_five a b c d e = simp length-append (omega arith)
@@ -172,7 +173,7 @@ made n r fits =
     (weights_pass n _ r (count ∙ fits.full) fits)
     (ap (λ (b : Bool). b || false) fits.quota)
 
-bracket_game : (text : List ℕ) (r : RuleView) → rule_of (parts text) ≡ Some r → game_of_bracket text ≡ nameless_game r
+bracket_game : (text : List ℕ) (r : RuleView) → rule_of (symbols text) ≡ Some r → game_of_bracket text ≡ nameless_game r
 unfolding game_of_bracket
 bracket_game text r h = ap (λ (o : Option RuleView). ok_or o Bracket >>= nameless_game) h
 
@@ -182,7 +183,7 @@ file_game text few h = rw (le-ltb 65536 (length text) few, h) refl
 
 rule_game : (n : ℕ) (r : RuleView) → Fits n r → game_of (notation r) ≡ Ok (lone_game r)
 rule_game n r fits =
-    file_game (notation r) (text_short n r fits) (ap begins_bracket (text_parts r (quota_small n r fits)))
+    file_game (notation r) (text_short n r fits) (ap begins_bracket (text_symbols r (quota_small n r fits)))
     ∙ bracket_game (notation r) r (rule_read n r fits)
     ∙ made n r fits
 

@@ -2,7 +2,7 @@
 ghost use Rattle.std.specs.Prelude.{◌≡◌, IfOk, map, option_map, string_bytes};
 ghost use Rattle.council_game.specs.Fault.{Answers};
 ghost use Rattle.council_game.specs.Rules.{rule_view};
-ghost use Rattle.council_file.specs.Bracket.{parts, weights_of, rule_of, is_bracket, counted_names, game_of_bracket};
+ghost use Rattle.council_file.specs.Bracket.{symbols, weights_of, rule_of, is_bracket, counted_names, game_of_bracket};
 
 use crate::scanner::Scanner;
 use crate::token::Token;
@@ -43,7 +43,7 @@ fn weights_of(alloc: Global, scanner: &mut Scanner<'_>) -> Result<Option<Vec<u64
 
 /// The rule of a bracket text, and nothing where the text breaks the grammar.
 fn rule_of(alloc: Global, bytes: &[u8]) -> Result<Option<Rule>, AllocError>
-    ensures { IfOk result (λ o. option_map rule_view o ≡ rule_of (parts bytes.now)) }
+    ensures { IfOk result (λ o. option_map rule_view o ≡ rule_of (symbols bytes.now)) }
 {
     let mut scanner = Scanner::new(bytes);
     if !scanner.take_opening() {

@@ -16,7 +16,7 @@ use council_game::{Game, GameFault, limits};
 use std::alloc::{AllocError, Global};
 use toml::Table;
 
-fn copied(alloc: Global, title: Option<&str>) -> Result<Option<String>, AllocError>
+fn copy_of(alloc: Global, title: Option<&str>) -> Result<Option<String>, AllocError>
     ensures { IfOk result (λ t. option_map string_bytes t ≡ option_map (λ s. s.now) title.entry) }
 {
     match title {
@@ -42,7 +42,7 @@ fn game_of_tree(alloc: Global, table: &Table) -> Result<Game, GameFault>
     if !are_members(member_list(table)) {
         return Err(GameFault::Members);
     }
-    let title = copied(alloc, title)?;
+    let title = copy_of(alloc, title)?;
     let names = names_of(alloc, member_list(table))?;
     let rules = rules_of(alloc, table)?;
     Game::with_rules(alloc, title, names, rules)

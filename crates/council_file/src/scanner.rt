@@ -1,8 +1,8 @@
-//! A scanner that gives a bracket text part by part.
+//! A scanner that gives a bracket text symbol by symbol.
 ghost use Rattle.std.specs.Prelude.{◌≡◌, ◌≤◌, ◌<◌, [], ◌∷◌, List, length, take, drop, false, IfSome, MatchOption, option_map, Some, None, if◌then◌else◌};
 ghost use Rattle.std.specs.Str.Parse.{AllDigits};
-ghost use Rattle.council_file.specs.Bracket.{Part, parts, is_blank, mark, begins_with_digit, value_of};
-ghost use Rattle.council_file.specs.Inner.Scan.{after_opening, after_semicolon, begins_with_number, begins_with_blank, part, IsWhole, first_number};
+ghost use Rattle.council_file.specs.Bracket.{Symbol, symbols, is_blank, mark, begins_with_digit, value_of};
+ghost use Rattle.council_file.specs.Inner.Scan.{after_opening, after_semicolon, begins_with_number, begins_with_blank, symbol, IsWhole, first_number};
 
 use crate::token::Token;
 use std::marker::Model;
@@ -14,7 +14,7 @@ fn is_blank(byte: u8) -> bool
 }
 
 fn mark(byte: u8) -> Token<'static>
-    ensures is { part result ≡ mark byte }
+    ensures is { symbol result ≡ mark byte }
     ensures whole { IsWhole result }
 {
     match byte {
@@ -41,7 +41,7 @@ fn digits_in_front(bytes: &[u8]) -> usize
 
 /// The text from its first byte that is not blank.
 fn after_blanks(text: &[u8]) -> &[u8]
-    ensures same { parts result.now ≡ parts text.now }
+    ensures same { symbols result.now ≡ symbols text.now }
     ensures all { begins_with_blank result.now ≡ false }
 {
     let mut left = text;
@@ -54,11 +54,11 @@ fn after_blanks(text: &[u8]) -> &[u8]
     left
 }
 
-/// The first part of a text that begins with no blank, and what is left behind it.
-fn first_part(text: &[u8]) -> Option<(Token<'_>, &[u8])>
+/// The first symbol of a text that begins with no blank, and what is left behind it.
+fn first_symbol(text: &[u8]) -> Option<(Token<'_>, &[u8])>
     requires { begins_with_blank text.now ≡ false }
-    ensures is { MatchOption result (parts text.now ≡ [])
-        (λ f. parts text.now ≡ part f.0 ∷ parts f.1.now) }
+    ensures is { MatchOption result (symbols text.now ≡ [])
+        (λ f. symbols text.now ≡ symbol f.0 ∷ symbols f.1.now) }
     ensures whole { IfSome result (λ f. IsWhole f.0) }
 {
     match text {
@@ -86,51 +86,51 @@ fn value_of(digits: &[u8]) -> Option<u64>
     Some(value)
 }
 
-/// What is left of a text. Contracts see it as its parts.
+/// What is left of a text. Contracts see it as its symbols.
 #[derive(Drop)]
 pub(crate) struct Scanner<'a> {
     left: &'a [u8],
 }
 
 impl<'a> Model for Scanner<'a> {
-    ghost Value = { List Part };
+    ghost Value = { List Symbol };
 
-    ghost view = { λ s. parts s.left.now };
+    ghost view = { λ s. symbols s.left.now };
 }
 
 impl<'a> Scanner<'a> {
     pub(crate) fn new(text: &'a [u8]) -> Self
-        ensures { result ≡ parts text.now }
+        ensures { result ≡ symbols text.now }
     {
         Scanner { left: text }
     }
 
-    /// The next part.
+    /// The next symbol.
     pub(crate) fn next(&mut self) -> Option<Token<'a>>
         ensures is { MatchOption result ((self.old ≡ []) × (self.new ≡ []))
-            (λ t. self.old ≡ part t ∷ self.new) }
+            (λ t. self.old ≡ symbol t ∷ self.new) }
         ensures whole { IfSome result IsWhole }
     {
-        let (token, left) = first_part(after_blanks(self.left))?;
+        let (token, left) = first_symbol(after_blanks(self.left))?;
         self.left = left;
         Some(token)
     }
 
-    /// Takes the next part, and says whether it is `[`.
+    /// Takes the next symbol, and says whether it is `[`.
     pub(crate) fn take_opening(&mut self) -> bool
         ensures { after_opening self.old ≡ (if result then Some self.new else None) }
     {
         matches!(self.next(), Some(Token::Opening))
     }
 
-    /// Takes the next part, and says whether it is `;`.
+    /// Takes the next symbol, and says whether it is `;`.
     pub(crate) fn take_semicolon(&mut self) -> bool
         ensures { after_semicolon self.old ≡ (if result then Some self.new else None) }
     {
         matches!(self.next(), Some(Token::Semicolon))
     }
 
-    /// Takes the next part, and says whether it is a number.
+    /// Takes the next symbol, and says whether it is a number.
     pub(crate) fn take_digits(&mut self) -> bool
         ensures { result ≡ begins_with_number self.old }
     {

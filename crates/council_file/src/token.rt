@@ -1,6 +1,6 @@
-//! The parts of a bracket text.
+//! The symbols of a bracket text.
 
-/// A part of a bracket text: the digits of a number, a mark, or any other byte that is not blank.
+/// A symbol of a bracket text: the digits of a number, a mark, or any other byte that is not blank.
 #[derive(Clone, Copy)]
 pub(crate) enum Token<'a> {
     Number(&'a [u8]),

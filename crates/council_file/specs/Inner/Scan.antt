@@ -3,15 +3,15 @@ use Rattle.std.specs.Prelude.{ℕ, Bool, true, false, List, [], ◌∷◌, Optio
 use Rattle.std.specs.Str.Parse.{AllDigits}
 use Rattle.council_file.specs.declared.token.Token.{Token}
 use Rattle.council_file.specs.declared.token.Token.TheVariants.{Number, Opening, Closing, Comma, Semicolon, Other}
-use Rattle.council_file.specs.Bracket.{Part, number, opening, closing, comma, semicolon, other, is_blank, value_of}
+use Rattle.council_file.specs.Bracket.{Symbol, number, opening, closing, comma, semicolon, other, is_blank, value_of}
 
-abbrev pub part : Token → Part
-part (Number digits) = number digits.now
-part Opening = opening
-part Closing = closing
-part Comma = comma
-part Semicolon = semicolon
-part Other = other
+abbrev pub symbol : Token → Symbol
+symbol (Number digits) = number digits.now
+symbol Opening = opening
+symbol Closing = closing
+symbol Comma = comma
+symbol Semicolon = semicolon
+symbol Other = other
 
 abbrev pub begins_with_blank : List ℕ → Bool
 begins_with_blank [] = false
@@ -26,20 +26,20 @@ IsWhole Comma = Unit {0}
 IsWhole Semicolon = Unit {0}
 IsWhole Other = Unit {0}
 
--- the number that stands first, and the parts behind it
-abbrev pub first_number : List Part → Option (ℕ × List Part)
+-- the number that stands first, and the symbols behind it
+abbrev pub first_number : List Symbol → Option (ℕ × List Symbol)
 first_number (number ds ∷ ps) = option_map (λ n. (n, ps)) (value_of ds)
 first_number ps = None
 
--- the parts behind a mark that stands first
-abbrev pub after_opening : List Part → Option (List Part)
+-- the symbols behind a mark that stands first
+abbrev pub after_opening : List Symbol → Option (List Symbol)
 after_opening (opening ∷ ps) = Some ps
 after_opening ps = None
 
-abbrev pub after_semicolon : List Part → Option (List Part)
+abbrev pub after_semicolon : List Symbol → Option (List Symbol)
 after_semicolon (semicolon ∷ ps) = Some ps
 after_semicolon ps = None
 
-abbrev pub begins_with_number : List Part → Bool
+abbrev pub begins_with_number : List Symbol → Bool
 begins_with_number (number ds ∷ ps) = true
 begins_with_number ps = false
