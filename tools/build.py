@@ -137,12 +137,12 @@ def make_room(name, lines):
     return f"{room}/crates/{name}"
 
 
-def prove(name, lines, nice):
-    """Proves a library, by one job that gives way to others by so much, or by as many as `rt` chooses; its status."""
+def prove(name, lines, nice, jobs):
+    """Proves a library, by so many jobs or else as many as `rt` chooses, which give way to others by so much; its status."""
     folder = make_room(name, lines)
     try:
         with open(f"{ROOMS}/{name}.log", "w", encoding="utf-8") as log:
-            words = ["nice", "-n", str(nice), "rt", "lib", "--jobs", "1"] if nice else ["rt", "lib"]
+            words = ["nice", "-n", str(nice), "rt", "lib", *["--jobs", str(jobs)] * (jobs > 0)]
             proof = subprocess.Popen(words, cwd=folder, stdin=subprocess.DEVNULL, stdout=log, stderr=subprocess.STDOUT)
             PROOFS.append(proof)
             return proof.wait()
@@ -163,21 +163,28 @@ def plan(names, lines):
 
 def prove_all(names, lines):
     """Proves the libraries, each after those below it; whether all were. The one with the longest chain above it
-    uses all processors that it can, once it can begin; the others give way to it."""
+    begins at once, and the others give way to it. It has two jobs, and as many as `rt` chooses where no other can run that
+    others wait for: each further job is work of its own, since it reads the statements below once more."""
     left, nice = plan(names, lines)
     few, all_lanes = lanes()
     running, done, start, first = {}, [], time.time(), None
     with ThreadPoolExecutor(len(names)) as pool:
         while left or running:
-            for name in [it for it in left if all(other in done for other in below(it, lines))]:
+            ready = [it for it in left if all(other in done for other in below(it, lines))]
+            for name in ready:
                 if not first and few > 1 and name == left[0]:
                     first = name
                 # what only the program waits for takes no lane of the others, but what they leave of the processors
                 others = sum(nice[it] == NICE for it in running.values())
                 has_lane = len(running) < all_lanes and (others < few or nice[name] != NICE)
+                if name == first:
+                    alone = not others and all(it == name or nice[it] != NICE for it in ready)
+                    how = (0, 0 if alone else 2)
+                else:
+                    how = (nice[name], 1)
                 if name == first or has_lane:
                     left.remove(name)
-                    running[pool.submit(prove, name, lines, 0 if name == first else nice[name])] = name
+                    running[pool.submit(prove, name, lines, *how)] = name
             for it in wait(running, return_when=FIRST_COMPLETED).done:
                 name = running.pop(it)
                 first = None if name == first else first
