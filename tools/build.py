@@ -10,7 +10,7 @@ where every other command of `rt` finds it. What did not change since an earlier
 After an interrupt, what was proved by then stays.
 
 As many libraries are proved at once as there are processors, and memory for (some 3 GB each). What only the
-program waits for gives way to all others, and has two lanes more. The log goes to crates/council/out/build.log, and a
+program waits for gives way to all others, and has a lane more. The log goes to crates/council/out/build.log, and a
 line for each library to standard error.
 """
 import fcntl
@@ -31,9 +31,9 @@ LOG = f"{OUT}/build.log"
 # what a proof may take
 MEMORY = 3_000_000_000
 # how far a proof gives way to the first one: one that other libraries wait for, and one that only the program waits for
-NICE, NICE_LAST = 10, 15
-# what only the program waits for may use so many lanes more than there are processors
-MORE_LANES = 2
+NICE, NICE_LAST = 10, 12
+# what only the program waits for may use so many lanes beside those that there are processors for
+MORE_LANES = 1
 # how long the proof of a crate takes on one processor, in seconds
 SECONDS = {
     "council_text": 15,
@@ -48,8 +48,8 @@ SECONDS = {
     "mwc_sums": 100,
     "council_report": 185,
     "council_run": 70,
-    "council_words": 110,
-    "council_explain": 150,
+    "council_words": 85,
+    "council_explain": 205,
     "council_progress": 30,
 }
 # the proofs under way
