@@ -3,7 +3,7 @@ ghost use Rattle.std.specs.Prelude.{◌≡◌, length};
 ghost use Rattle.council_game.specs.Game.{IsGame};
 
 use council_game::Game;
-use power_index::WideCounts;
+use power_index::Counts;
 
 /// A game, the number of its members, and the counts of a list of its coalitions, none of them empty.
 /// The list itself need not be there.
@@ -11,7 +11,7 @@ use power_index::WideCounts;
 pub(crate) struct Counted<'a> {
     pub(crate) game: &'a Game,
     pub(crate) members: usize,
-    pub(crate) counts: &'a WideCounts,
+    pub(crate) counts: &'a Counts,
     ghost is_game: { IsGame game.now },
     ghost all_members: { members ≡ length game.now.names },
 }

@@ -3,7 +3,7 @@ ghost use Rattle.std.specs.Prelude.{◌≡◌, ◌++◌, ◌<◌, ◌≤◌, ◌
 ghost use Rattle.std.specs.List.{flat_map};
 ghost use Rattle.power_index.specs.Counting.{members, count_of_member, count_of_member_size};
 ghost use Rattle.power_index.specs.Indices.{deegan_packel, public_good};
-ghost use Rattle.power_index.specs.Fractions.{pair_of, decimals};
+ghost use Rattle.power_index.specs.Fractions.{IsIndex, pair_of, decimals};
 ghost use Rattle.council_text.specs.Room.{MakesRoomFor};
 ghost use Rattle.council_report.specs.Inner.Counted.{IsCounted};
 ghost use Rattle.council_report.specs.Lines.{with_tab, with_slashes, weights_of_member, size_line, member_line, member_fields, index_fields};
@@ -14,7 +14,7 @@ use crate::lines::end_line;
 use crate::text::{push_field, push_number, push_values};
 use council_game::Game;
 use itoa::Buffer;
-use power_index::Fraction;
+use power_index::{Fraction, deegan_packel, public_good};
 use std::alloc::AllocError;
 
 /// A field `top/bottom`.
@@ -32,9 +32,7 @@ fn push_fraction(out: &mut Vec<u8>, fraction: Fraction) -> Result<(), AllocError
 
 /// Two fields: an index as a fraction and as decimals.
 fn push_index(out: &mut Vec<u8>, index: Fraction) -> Result<(), AllocError>
-    requires positive { 0 < index.bottom }
-    requires at_most_one { index.top ≤ index.bottom }
-    requires small { index.bottom ≤ 10 ^ 30 }
+    requires { IsIndex (pair_of index) }
     ensures items { OnOk result (out.new.items ≡ out.old.items ++ fraction_fields (pair_of index)) }
     ensures room { MakesRoomFor out.old out.new result (fraction_fields (pair_of index)) }
 {
@@ -56,7 +54,7 @@ fn push_deegan_packel(
     ensures room { MakesRoomFor out.old out.new result
         (index_text (deegan_packel counted.now.game.now list member)) }
 {
-    push_index(out, counted.counts.deegan_packel(member))
+    push_index(out, deegan_packel(counted.counts, member))
 }
 
 /// The public good index of a member.
@@ -73,7 +71,7 @@ fn push_public_good(
     ensures room { MakesRoomFor out.old out.new result
         (index_text (public_good counted.now.game.now list member)) }
 {
-    push_index(out, counted.counts.public_good(member))
+    push_index(out, public_good(counted.counts, member))
 }
 
 /// For each member, how many coalitions of a size contain it.
@@ -89,7 +87,7 @@ fn push_counts(out: &mut Vec<u8>, counted: &Counted<'_>, size: usize) -> Result<
         (count_of_member_size counted.now.game.now i size list)) (members counted.now.game.now))) }
 {
     for member in 0..counted.game.members() {
-        push_number(out, counted.counts.of_member_size(member, size))?;
+        push_number(out, counted.counts.wide_of_member_size(member, size))?;
     }
     Ok(())
 }
@@ -108,7 +106,7 @@ pub(crate) fn push_size(
         ++ size_line counted.now.game.now list size) }
     ensures room { MakesRoomFor out.old out.new result (size_line counted.now.game.now list size) }
 {
-    let count = counted.counts.of_size(size);
+    let count = counted.counts.wide_of_size(size);
     if count == 0 {
         return Ok(());
     }
@@ -129,7 +127,7 @@ fn push_count(out: &mut Vec<u8>, counted: &Counted<'_>, member: usize) -> Result
     ensures room { MakesRoomFor out.old out.new result
         (with_tab (decimal (count_of_member counted.now.game.now member list))) }
 {
-    push_number(out, counted.counts.of_member(member))
+    push_number(out, counted.counts.wide_of_member(member))
 }
 
 /// The weights of a member, one for each rule.

@@ -21,7 +21,7 @@ use crate::output::{Block, WriteFault};
 use crate::shared::SharedLine;
 use crate::stream::{put_members, put_pieces, put_sizes};
 use council_game::{Coalition, Game};
-use power_index::WideCounts;
+use power_index::Counts;
 use power_index::laws::minimal_coalitions_can_be_counted;
 use std::alloc::Global;
 use std::io::Write;
@@ -146,7 +146,7 @@ fn write_over<W: Write>(
 {
     let game = counted.game;
     let mut block = Block::new(alloc)?;
-    push_heading(&mut block.bytes, game, counted.counts.total(), shown)?;
+    push_heading(&mut block.bytes, game, counted.counts.wide_total(), shown)?;
     let line = SharedLine::new(alloc, game)?;
     match send(block, writer, counted, pieces, line, shown) {
         Ok(count) => Ok(count),
@@ -169,7 +169,7 @@ pub fn write_report_of<W: Write>(
     alloc: Global,
     game: &Game,
     pieces: &[&[Coalition]],
-    counts: &WideCounts,
+    counts: &Counts,
     shown: Shown,
     writer: &mut W,
 ) -> Result<u64, ReportFault>
@@ -203,7 +203,7 @@ pub fn write_report_of<W: Write>(
 pub fn write_tally<W: Write>(
     alloc: Global,
     game: &Game,
-    counts: &WideCounts,
+    counts: &Counts,
     shown: Shown,
     writer: &mut W,
 ) -> Result<u64, ReportFault>
@@ -249,6 +249,6 @@ pub fn write_report<W: Write>(
     ensures err { IfErr result (Falls (W.contents writer.old) (W.contents writer.new)
         (report_over shown game.now list.now)) }
 {
-    let counts = WideCounts::of(game, list);
+    let counts = Counts::of(game, list);
     write_report_of(alloc, game, &[list], &counts, shown, writer)
 }

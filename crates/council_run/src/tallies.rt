@@ -19,7 +19,7 @@ use council_game::Game;
 use council_report::{Shown, write_tally};
 use mwc_sums::count_by_sums;
 use mwc_tally::{TallyFault, Watch};
-use power_index::WideCounts;
+use power_index::Counts;
 use std::alloc::Global;
 use std::io::{Read, Write};
 use std::sync::Wait;
@@ -48,7 +48,7 @@ fn count<T: Threads + Wait + Sync, V: Watch + Sync>(
     game: &Game,
     options: &Options,
     watch: &V,
-) -> Result<WideCounts, TallyFault>
+) -> Result<Counts, TallyFault>
     ensures counts { IfOk result
         (λ c. AreCounts game.now (minimal_coalitions (votes_of game.now)) c) }
     ensures stopped { result ≡ Err TallyFault.Stopped → V.may_stop }

@@ -5,7 +5,7 @@ use crate::helpers::same;
 use council_game::{Game, GameFault, Rule, plain_list};
 use mwc_sums::count_by_sums;
 use mwc_tally::{NoWatch, tally};
-use power_index::WideCounts;
+use power_index::Counts;
 use power_index::laws::minimal_coalitions_can_be_counted;
 use std::alloc::Global;
 use std::process::Abort;
@@ -26,26 +26,26 @@ fn game(alloc: Global, quota: u64, weights: &[u64]) -> Result<Game, GameFault> {
 }
 
 /// All numbers of two counts are the same.
-fn same_counts(rt: &impl Abort, found: &WideCounts, wanted: &WideCounts) {
+fn same_counts(rt: &impl Abort, found: &Counts, wanted: &Counts) {
     let members = found.members();
     assert!(rt; members == wanted.members());
-    same(rt, found.total(), wanted.total(), "total");
+    same(rt, found.wide_total(), wanted.wide_total(), "total");
     for size in 0..members + 1 {
-        same(rt, found.of_size(size), wanted.of_size(size), "of a size");
+        same(rt, found.wide_of_size(size), wanted.wide_of_size(size), "of a size");
     }
     for member in 0..members {
         same(
             rt,
-            found.of_member(member),
-            wanted.of_member(member),
+            found.wide_of_member(member),
+            wanted.wide_of_member(member),
             "of a member",
         );
         for size in 0..members + 1 {
-            let own = found.of_member_size(member, size);
+            let own = found.wide_of_member_size(member, size);
             same(
                 rt,
                 own,
-                wanted.of_member_size(member, size),
+                wanted.wide_of_member_size(member, size),
                 "of a member and a size",
             );
         }
@@ -53,7 +53,7 @@ fn same_counts(rt: &impl Abort, found: &WideCounts, wanted: &WideCounts) {
 }
 
 /// The counts by sums, which serve here.
-fn by_sums(alloc: Global, game: &Game) -> Result<WideCounts, Fail> {
+fn by_sums(alloc: Global, game: &Game) -> Result<Counts, Fail> {
     match count_by_sums(alloc, game) {
         Ok(Some(counts)) => Ok(counts),
         Ok(None) => Err(Fail::from("sums do not serve")),
@@ -62,11 +62,11 @@ fn by_sums(alloc: Global, game: &Game) -> Result<WideCounts, Fail> {
 }
 
 /// The counts of the minimal ones of all subsets, of a game of at most 20 members.
-fn by_subsets(rt: &impl Abort, alloc: Global, game: &Game) -> Result<WideCounts, Fail> {
+fn by_subsets(rt: &impl Abort, alloc: Global, game: &Game) -> Result<Counts, Fail> {
     assert!(rt; game.members() <= 20);
     let list = plain_list(alloc, game)?;
     minimal_coalitions_can_be_counted();
-    Ok(WideCounts::of(game, &list))
+    Ok(Counts::of(game, &list))
 }
 
 /// Numbers that look random, each made from the one before.
@@ -140,10 +140,10 @@ fn forty_equal_members_by_binomial_numbers(rt: HostRuntime) -> Result<(), Fail> 
         let game = game(alloc, quota, &[1; 40])?;
         let counts = by_sums(alloc, &game)?;
         assert!(rt; counts.members() == 40);
-        same(&rt, counts.total(), all, "of 40");
-        same(&rt, counts.of_size(quota as usize), all, "of 40 by size");
+        same(&rt, counts.wide_total(), all, "of 40");
+        same(&rt, counts.wide_of_size(quota as usize), all, "of 40 by size");
         for member in 0..40 {
-            let found = counts.of_member(member).saturating_mul(40);
+            let found = counts.wide_of_member(member).saturating_mul(40);
             same(
                 &rt,
                 found,

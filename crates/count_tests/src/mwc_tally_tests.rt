@@ -8,7 +8,7 @@ ghost use Rattle.std.specs.Prelude.{◌≤◌};
 use crate::helpers::same;
 use council_game::{Game, GameFault};
 use mwc_tally::{NoWatch, Watch, tally, tally_slice};
-use power_index::WideCounts;
+use power_index::Counts;
 use std::alloc::Global;
 use std::process::Abort;
 use std::sync::atomic::{AtomicU64, Ordering};
@@ -40,16 +40,16 @@ impl Watch for Counted {
 }
 
 /// The counts of the five members of weights 35, 20, 15, 15, 15 with quota 51.
-fn assert_of_five(rt: &impl Abort, counts: &WideCounts) {
+fn assert_of_five(rt: &impl Abort, counts: &Counts) {
     assert!(rt; counts.members() == 5);
-    same(rt, counts.total(), 5, "counts.total");
+    same(rt, counts.wide_total(), 5, "counts.total");
     for (size, count) in [0, 0, 1, 3, 1, 0].iter().enumerate() {
         assert!(rt; size <= 5);
-        same(rt, counts.of_size(size), *count, "counts.of_size");
+        same(rt, counts.wide_of_size(size), *count, "counts.of_size");
     }
     for (member, count) in [4, 2, 3, 3, 3].iter().enumerate() {
         assert!(rt; member < 5);
-        same(rt, counts.of_member(member), *count, "counts.of_member");
+        same(rt, counts.wide_of_member(member), *count, "counts.of_member");
     }
 }
 
@@ -79,9 +79,9 @@ fn one_slice(rt: HostRuntime) -> Result<(), Fail> {
     assert!(rt; game.members() == 5);
     let counts = tally_slice(&game, 2, 1);
     assert!(rt; counts.members() == 5);
-    same(&rt, counts.total(), 3, "counts.total");
-    same(&rt, counts.of_member(0), 3, "counts.of_member");
-    same(&rt, counts.of_member(1), 0, "counts.of_member 2");
+    same(&rt, counts.wide_total(), 3, "counts.total");
+    same(&rt, counts.wide_of_member(0), 3, "counts.of_member");
+    same(&rt, counts.wide_of_member(1), 0, "counts.of_member 2");
     Ok(())
 }
 
@@ -91,9 +91,9 @@ fn five_of_forty_win(rt: HostRuntime) -> Result<(), Fail> {
     assert!(rt; game.members() == 40);
     let counts = tally(&rt, rt.alloc(), &game, 6, 4, &NoWatch)?;
     assert!(rt; counts.members() == 40);
-    same(&rt, counts.total(), 658_008, "counts.total");
+    same(&rt, counts.wide_total(), 658_008, "counts.total");
     for member in 0..40 {
-        same(&rt, counts.of_member(member), 82_251, "counts.of_member");
+        same(&rt, counts.wide_of_member(member), 82_251, "counts.of_member");
     }
     Ok(())
 }
@@ -235,7 +235,7 @@ fn is_told_of_coalitions_meanwhile(rt: HostRuntime) -> Result<(), Fail> {
     };
     let counts = tally(&rt, rt.alloc(), &game, 0, 1, &met)?;
     let found = (
-        counts.total(),
+        counts.wide_total(),
         met.coalitions.load(Ordering::SeqCst),
         met.times.load(Ordering::SeqCst),
     );

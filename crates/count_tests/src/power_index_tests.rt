@@ -5,6 +5,7 @@ mod wide;
 
 ghost use Rattle.std.specs.Prelude.{◌<◌, ◌≤◌, ◌^◌, IfOk, length};
 ghost use Rattle.council_game.specs.Game.{AreNonemptyCoalitions};
+ghost use Rattle.power_index.specs.Fractions.{IsIndex, pair_of};
 
 use crate::helpers::same;
 use council_game::{Coalition, Game, plain_list};
@@ -90,9 +91,7 @@ fn counts_of_forty(
 type Printed = (u128, u128, [u8; 8]);
 
 fn printed(index: Fraction) -> Printed
-    requires positive { 0 < index.bottom }
-    requires at_most_one { index.top ≤ index.bottom }
-    requires small { index.bottom ≤ 10 ^ 30 }
+    requires { IsIndex (pair_of index) }
 {
     (index.top, index.bottom, index.decimals())
 }

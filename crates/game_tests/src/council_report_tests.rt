@@ -9,7 +9,7 @@ use crate::helpers::same;
 use council_file::parse_game;
 use council_game::{Coalition, Game, plain_list};
 use council_report::{ReportFault, Shown, write_report, write_report_of, write_tally};
-use power_index::WideCounts;
+use power_index::Counts;
 use power_index::laws::{minimal_coalitions_can_be_counted, tallies_are_counts};
 use std::alloc::{AllocError, Global};
 use std::io::{self, Error, ErrorKind, Write};
@@ -206,7 +206,7 @@ fn lists_in_pieces(rt: HostRuntime) -> Result<(), Fail> {
     let game = game(&rt, alloc)?;
     let first = listing(&rt, alloc, &game, 16_383)?;
     let second = listing(&rt, alloc, &game, 5)?;
-    let mut counts = WideCounts::none(&game);
+    let mut counts = Counts::none(&game);
     counts.count_row(&first);
     counts.count_row(&second);
     tallies_are_counts();
@@ -242,7 +242,7 @@ fn tallies_as_it_reports(rt: HostRuntime) -> Result<(), Fail> {
     let mut reported = Vec::new(alloc);
     let first = write_report(alloc, &game, &list, shown, &mut reported);
     let mut tallied = Vec::new(alloc);
-    let counts = WideCounts::of(&game, &list);
+    let counts = Counts::of(&game, &list);
     let second = write_tally(alloc, &game, &counts, shown, &mut tallied);
     let length = Ok(reported.len() as u64);
     same(&rt, (first, second), (length, length), "lengths");

@@ -29,5 +29,5 @@ pub fn indices_of(alloc: Global, game: &Game) -> Result<Option<Vec<MemberIndices
         return Ok(None);
     };
     let counts = Counts::of(game, &list);
-    Ok(Some(all_indices(alloc, counts.wide())?))
+    Ok(Some(all_indices(alloc, &counts)?))
 }

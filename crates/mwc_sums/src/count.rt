@@ -11,7 +11,7 @@ use crate::laws::counts_do_not_depend_on_the_order_of_rules;
 use crate::tallies::{tally_all, tally_each};
 use crate::turned::turned;
 use council_game::{Game, Memory, limits};
-use power_index::WideCounts;
+use power_index::Counts;
 use std::alloc::Global;
 
 /// The weights of the first rule, by rank.
@@ -80,7 +80,7 @@ fn total_of(weights: &[u64]) -> u64
 }
 
 /// The counts of a game that asks for so many heads besides its first rule; none where there is no room.
-fn count_with_heads(alloc: Global, game: &Game, heads: usize) -> Result<Option<WideCounts>, Memory>
+fn count_with_heads(alloc: Global, game: &Game, heads: usize) -> Result<Option<Counts>, Memory>
     requires few { heads ≤ 40 }
     requires asked { IsAsked (votes_of game.now) heads }
     ensures { IfOk result (λ counts. IfSome counts
@@ -97,12 +97,12 @@ fn count_with_heads(alloc: Global, game: &Game, heads: usize) -> Result<Option<W
     let Some(each) = tally_each(alloc, &weights, quota, total, &heads, &all)? else {
         return Ok(None);
     };
-    Ok(Some(WideCounts::of_tallies(game, all, each)))
+    Ok(Some(Counts::of_tallies(game, all, each)))
 }
 
 /// The counts of a game of two rules of which the first asks for heads, by the game with these in the other
 /// order: the counts of each member are the same. None for any other game, or where there is no room.
-fn count_turned(alloc: Global, game: &Game) -> Result<Option<WideCounts>, Memory>
+fn count_turned(alloc: Global, game: &Game) -> Result<Option<Counts>, Memory>
     ensures { IfOk result (λ counts. IfSome counts
         (λ c. AreCounts game.now (minimal_coalitions (votes_of game.now)) c)) }
 {
@@ -125,7 +125,7 @@ fn count_turned(alloc: Global, game: &Game) -> Result<Option<WideCounts>, Memory
 /// # Errors
 ///
 /// `Memory` where a growth was refused.
-pub fn count_by_sums(alloc: Global, game: &Game) -> Result<Option<WideCounts>, Memory>
+pub fn count_by_sums(alloc: Global, game: &Game) -> Result<Option<Counts>, Memory>
     ensures { IfOk result (λ counts. IfSome counts
         (λ c. AreCounts game.now (minimal_coalitions (votes_of game.now)) c)) }
 {

@@ -13,7 +13,7 @@ use crate::watch::Watch;
 use crate::work::{Given, Work};
 use council_game::{Game, Memory};
 use mwc_walk::slice_count;
-use power_index::WideCounts;
+use power_index::Counts;
 use std::alloc::Global;
 use std::sync::Wait;
 use std::sync::atomic::AtomicU64;
@@ -41,7 +41,7 @@ pub fn tally<R: Threads + Wait + Sync, W: Watch + Sync>(
     bits: u8,
     workers: u8,
     watch: &W,
-) -> Result<WideCounts, TallyFault>
+) -> Result<Counts, TallyFault>
     requires few { bits ≤ 10 }
     requires bits { bits ≤ length game.now.names }
     requires workers { (1 ≤ workers) × (workers ≤ 16) }
@@ -155,14 +155,14 @@ fn joined<R: Threads, W: Watch>(
 }
 
 /// The counts of all slices, one after the other; none where the watch stops it. The watch is told of each again.
-fn one_by_one<W: Watch>(game: &Game, bits: u8, watch: &W) -> Option<WideCounts>
+fn one_by_one<W: Watch>(game: &Game, bits: u8, watch: &W) -> Option<Counts>
     requires few { bits ≤ 10 }
     requires bits { bits ≤ length game.now.names }
     ensures { MatchOption result W.may_stop
         (λ c. AreCounts game.now (minimal_coalitions (votes_of game.now)) c) }
 {
     let _members = game.members();
-    let mut counts = WideCounts::none(game);
+    let mut counts = Counts::none(game);
     for slice in 0..slice_count(bits) {
         if watch.stops() {
             return None;

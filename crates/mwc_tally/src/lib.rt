@@ -4,7 +4,7 @@
 //!
 //! ```text
 //! let counts = tally(rt, alloc, &game, 6, 4, &NoWatch)?;
-//! let index = counts.public_good(0);
+//! let index = public_good(&counts, 0);
 //! ```
 #![tactic(auto)]
 

@@ -7,7 +7,7 @@ ghost use Rattle.mwc_tally.specs.Inner.Threads.{IsGivenPart};
 
 use crate::fault::TallyFault;
 use council_game::{Coalition, Game};
-use power_index::WideCounts;
+use power_index::Counts;
 use std::snapshot::Snapshot;
 use std::sync::Wait;
 use std::thread;
@@ -22,7 +22,7 @@ pub(crate) struct GivenPart<'s> {
     pub most: usize,
 }
 
-impl<'s> Promise<WideCounts> for GivenPart<'s> {
+impl<'s> Promise<Counts> for GivenPart<'s> {
     ghost use Rattle.std.specs.Prelude.{take, drop};
     ghost use Rattle.std.specs.List.{flat_map};
     ghost use Rattle.power_index.specs.Tables.{AreTallies};
@@ -32,7 +32,7 @@ impl<'s> Promise<WideCounts> for GivenPart<'s> {
 }
 
 /// A thread that counts a part.
-type Counting<'s> = PromisedHandle<WideCounts, GivenPart<'s>>;
+type Counting<'s> = PromisedHandle<Counts, GivenPart<'s>>;
 
 /// How many coalitions pieces have together.
 fn length_of(pieces: &[&[Coalition]]) -> usize
@@ -47,13 +47,13 @@ fn length_of(pieces: &[&[Coalition]]) -> usize
 }
 
 /// The counts of at most `most` coalitions of a list in pieces, past its first `skip`.
-fn of_part(game: &Game, pieces: &[&[Coalition]], skip: usize, most: usize) -> WideCounts
+fn of_part(game: &Game, pieces: &[&[Coalition]], skip: usize, most: usize) -> Counts
     requires few { length (flat_map (λ p. p.now) pieces.now) ≤ 2 ^ 40 }
     requires coalitions { AreNonemptyCoalitions game.now (flat_map (λ p. p.now) pieces.now) }
     ensures { AreTallies game.now
         (take most (drop skip (flat_map (λ p. p.now) pieces.now))) result }
 {
-    let mut counts = WideCounts::none(game);
+    let mut counts = Counts::none(game);
     let mut skip = skip;
     let mut left = most;
     for piece in pieces {
@@ -78,7 +78,7 @@ pub fn tally_pieces<R: Threads + Wait + Sync>(
     game: &Game,
     pieces: &[&[Coalition]],
     threads: u8,
-) -> Result<WideCounts, TallyFault>
+) -> Result<Counts, TallyFault>
     requires threads { (1 ≤ threads) × (threads ≤ 16) }
     requires few { length (flat_map (λ p. p.now) pieces.now) ≤ 2 ^ 40 }
     requires coalitions { AreNonemptyCoalitions game.now (flat_map (λ p. p.now) pieces.now) }
@@ -89,7 +89,7 @@ pub fn tally_pieces<R: Threads + Wait + Sync>(
     thread::scope(
         thread::scope_env(),
         rt,
-        move |scope| -> Result<WideCounts, TallyFault>
+        move |scope| -> Result<Counts, TallyFault>
             requires few { length (flat_map (λ p. p.now) pieces.now) ≤ 2 ^ 40 }
             requires coalitions { AreNonemptyCoalitions game.now
                 (flat_map (λ p. p.now) pieces.now) }
@@ -122,7 +122,7 @@ fn start<'s, E>(
         skip,
         most,
     };
-    let body = move || -> WideCounts
+    let body = move || -> Counts
         requires few { length (flat_map (λ p. p.now) pieces.now) ≤ 2 ^ 40 }
         requires coalitions { AreNonemptyCoalitions game.now (flat_map (λ p. p.now) pieces.now) }
         ensures { AreTallies game.entry.now
@@ -141,7 +141,7 @@ fn count_from<'s, E, R: Threads>(
     skip: usize,
     part: usize,
     others: u8,
-) -> Result<WideCounts, TallyFault>
+) -> Result<Counts, TallyFault>
     requires few { length (flat_map (λ p. p.now) pieces.now) ≤ 2 ^ 40 }
     requires coalitions { AreNonemptyCoalitions game.now (flat_map (λ p. p.now) pieces.now) }
     requires room { skip + others * part ≤ 2 ^ 46 }

@@ -9,7 +9,7 @@ ghost use Rattle.mwc_tally.specs.Inner.Shares.{IsShare};
 
 use council_game::{Game, Memory};
 use mwc_walk::slice_count;
-use power_index::WideCounts;
+use power_index::Counts;
 use std::alloc::Global;
 
 /// No game has more minimal winning coalitions.
@@ -20,7 +20,7 @@ const MOST: u64 = 1 << 40;
 #[derive(Drop)]
 pub(crate) struct Share {
     pub taken: Vec<u16>,
-    pub counts: WideCounts,
+    pub counts: Counts,
 }
 
 impl Share {
@@ -30,7 +30,7 @@ impl Share {
     {
         Share {
             taken: Vec::new(alloc),
-            counts: WideCounts::none(game),
+            counts: Counts::none(game),
         }
     }
 
@@ -42,14 +42,14 @@ impl Share {
         game: &Game,
         bits: u8,
         taken: &[u16],
-        counts: &WideCounts,
+        counts: &Counts,
     ) -> Result<(), Memory>
         requires own { IsShare game.now bits self.old }
         requires more { AreTallies game.now
             (flat_map (slice (votes_of game.now) bits) taken.now) counts.now }
         ensures { IsShare game.now bits self.new }
     {
-        if self.counts.total() + counts.total() > MOST {
+        if self.counts.wide_total() + counts.wide_total() > MOST {
             return Ok(());
         }
         self.taken.extend_from_slice(taken)?;
@@ -58,7 +58,7 @@ impl Share {
     }
 
     /// The counts, where the slices are all those of the game, each once.
-    pub(crate) fn whole(self, game: &Game, bits: u8) -> Option<WideCounts>
+    pub(crate) fn whole(self, game: &Game, bits: u8) -> Option<Counts>
         requires bits { bits ≤ 10 }
         requires members { bits ≤ length game.now.names }
         requires share { IsShare game.now bits self }

@@ -7,12 +7,12 @@ ghost use Rattle.power_index.specs.Tables.{AreTallies};
 use crate::watch::{EACH, NoWatch, Watch};
 use council_game::Game;
 use mwc_walk::{Walk, slice_count};
-use power_index::WideCounts;
+use power_index::Counts;
 
 /// The counts of slice `j` of a game at so many bits, by a walk over it. It takes no memory.
 ///
 /// There are at most 10 bits, and no more than members; `j` is below 2^bits.
-pub fn tally_slice(game: &Game, bits: u8, j: u16) -> WideCounts
+pub fn tally_slice(game: &Game, bits: u8, j: u16) -> Counts
     requires few { bits ≤ 10 }
     requires bits { bits ≤ length game.now.names }
     requires slice { j < 2 ^ bits }
@@ -42,7 +42,7 @@ pub(crate) fn tally_watched<W: Watch>(
     bits: u8,
     j: u16,
     watch: &W,
-) -> Option<WideCounts>
+) -> Option<Counts>
     requires few { bits ≤ 10 }
     requires bits { bits ≤ length game.now.names }
     requires slice { j < 2 ^ bits }
@@ -52,7 +52,7 @@ pub(crate) fn tally_watched<W: Watch>(
     let _members = game.members();
     let slices = slice_count(bits);
     let mut walk = Walk::new(game, bits, j);
-    let mut counts = WideCounts::none(game);
+    let mut counts = Counts::none(game);
     let mut more = 0;
     while let Some(coalition) = walk.next() {
         counts.count(coalition);

@@ -9,7 +9,7 @@ use Rattle.council_game.proofs.Games.{votes-are}
 use Rattle.council_game.proofs.Making.{ranks-are}
 use Rattle.power_index.specs.declared.tally.Tally.{Tally}
 use Rattle.power_index.specs.Counting.{contains, size_of}
-use Rattle.power_index.specs.Tables.{Tables, IsTallyOf, AreTalliesOf, AreTallies, AreOfOneGame, AreCounts, AreWithin, no_tally, tally_total, table_total, table_of_member}
+use Rattle.power_index.specs.Tables.{Tables, IsTallyOf, AreTalliesOf, AreTallies, AreOfOneGame, AreCounts, AreSound, no_tally, tally_total, table_total}
 use Rattle.power_index.specs.Inner.Tables.{AreOfSomeList, IsJoined, with_one}
 use Rattle.power_index.proofs.Sums.{length-filter-le}
 use Rattle.power_index.proofs.Members.{few-members, memberships, sizes-some, size-le}
@@ -46,60 +46,32 @@ tallies-are_counts g list t h =
       of_member_size = λ i s lt le. (member-tallies g list t i lt h).sizes s (omega (arith, h.of_game.members));
     }
 
-pub counts-sound : (most : ℕ) (g : GameView) (list : List ℕ) (t : Tables) → IsGame g → 1 ≤ length list → length list ≤ most
-    → AreNonemptyCoalitions g list
-    → AreCounts g list t → AreWithin most t
-counts-sound most g list t game some few within h = record {
-  some_members = omega (arith, h.members, (votes-are g game).some);
-  few_members = omega (arith, h.members, few-members g game);
-  some = omega (arith, h.total);
-  few = omega (arith, h.total);
-  few_of_size = λ s le. omega (arith, h.of_size s le, length-filter-le (λ c. size_of g c == s) list);
-  few_of_member = λ i lt. omega (arith, h.of_member i lt, length-filter-le (contains g i) list);
-  few_of_member_size =
-      λ i s lt le. omega (arith, h.of_member_size i s lt le, length-filter-le (λ c. contains g i c && (size_of g c == s)) list);
-  memberships = omega (arith, memberships-are g list t h, memberships g list game, sizes-some g list (few-members g game) within);
-  light = λ i lt. weight-light g list t i lt h;
-}
-
--- the tables of some list hold its counts
-pub some-counts : (t : Tables) (h : AreOfSomeList t) → AreCounts h.game h.list t
-some-counts t h = tallies-are_counts h.game h.list t h.tallies
-
-pub some-within : (most : ℕ) (t : Tables) → AreOfSomeList t → 1 ≤ table_total t → table_total t ≤ most → AreWithin most t
-some-within most t h some few =
-    let counts = some-counts t h in
-    counts-sound most h.game h.list t h.tallies.of_game.is_game (omega (arith, some, counts.total))
-    (omega (arith, few, counts.total)) h.coalitions counts
-
-pub some-members : (t : Tables) → AreOfSomeList t → (1 ≤ t.members) × (t.members ≤ 40)
-some-members t h =
-    let votes = votes-are h.game h.tallies.of_game.is_game in
-    (omega (arith, h.tallies.of_game.members, votes.some), omega (arith, h.tallies.of_game.members, votes.few))
-
-pub some-total : (t : Tables) → AreOfSomeList t → table_total t ≤ 2 ^ 40
-some-total t h = let counts = some-counts t h in omega (arith, counts.total, h.few)
-
-pub some-of_size : (t : Tables) (s : ℕ) → s ≤ t.members → AreOfSomeList t → get_or t.all.sizes s 0 ≤ table_total t
-some-of_size t s le h =
-    let counts = some-counts t h in
-    omega (arith, counts.of_size s le, length-filter-le (λ c. size_of h.game c == s) h.list, counts.total)
-
-pub some-of_member : (t : Tables) (i : ℕ) → i < t.members → AreOfSomeList t → table_of_member t i ≤ table_total t
-some-of_member t i lt h =
-    let counts = some-counts t h in
-    omega (arith, counts.of_member i lt, length-filter-le (contains h.game i) h.list, counts.total)
-
-pub some-of_member_size : (t : Tables) (i s : ℕ) → i < t.members → s ≤ t.members → AreOfSomeList t
-    → get_or (get_or t.each (get_or t.ranks i 0) no_tally).sizes s 0 ≤ table_total t
-some-of_member_size t i s lt le h =
-    let counts = some-counts t h in
-    omega (
-      arith,
-      counts.of_member_size i s lt le,
-      length-filter-le (λ c. contains h.game i c && (size_of h.game c == s)) h.list,
-      counts.total,
-    )
+-- what holds of the tables of some list
+pub some-sound : (t : Tables) → AreOfSomeList t → AreSound t
+some-sound t h =
+    let game = h.tallies.of_game.is_game in
+    let counts = tallies-are_counts h.game h.list t h.tallies in
+    record {
+      some_members = omega (arith, counts.members, (votes-are h.game game).some);
+      few_members = omega (arith, counts.members, few-members h.game game);
+      few = omega (arith, counts.total, h.few);
+      few_of_size = λ s le. omega (arith, counts.of_size s le, length-filter-le (λ c. size_of h.game c == s) h.list, counts.total);
+      few_of_member = λ i lt. omega (arith, counts.of_member i lt, length-filter-le (contains h.game i) h.list, counts.total);
+      few_of_member_size = λ i s lt le. omega (
+        arith,
+        counts.of_member_size i s lt le,
+        length-filter-le (λ c. contains h.game i c && (size_of h.game c == s)) h.list,
+        counts.total,
+      );
+      memberships = omega (
+        arith,
+        memberships-are h.game h.list t counts,
+        memberships h.game h.list game,
+        sizes-some h.game h.list (few-members h.game game) h.coalitions,
+        counts.total,
+      );
+      light = λ i lt. weight-light h.game h.list t i lt counts;
+    }
 
 -- a member's place is one of the places
 some-place : (t : Tables) (i : ℕ) → i < t.members → AreOfSomeList t → get_or t.ranks i 0 < t.members
@@ -111,8 +83,8 @@ some-place t i lt h =
 pub some-room : (t u : Tables) (i : ℕ) → t ≡ u → i < u.members → AreOfSomeList t → (i < 40) × (get_or t.ranks i 0 < 40)
 some-room t u i same lt h =
     let own : i < t.members = rw same lt in
-    let few = some-members t h in
-    (omega (arith, own, few.1), omega (arith, some-place t i own h, few.1))
+    let few = (some-sound t h).few_members in
+    (omega (arith, own, few), omega (arith, some-place t i own h, few))
 
 -- no number of a place is greater than the list is long
 pub some-of_place : (t : Tables) (p s : ℕ) → p < t.members → s ≤ 40 → AreOfSomeList t → get_or (get_or t.each p no_tally).sizes s 0 ≤ 2 ^ 40

@@ -1,5 +1,5 @@
 -- Tables of counts, and when they hold the counts of a list of coalitions.
-use Rattle.std.specs.Prelude.{ℕ, ◌+◌, ◌*◌, ◌/◌, ◌≡◌, ◌≤◌, ◌<◌, ◌==◌, ◌&&◌, Bool, true, List, [], length, slice_index, slice_index_or, sum_by}
+use Rattle.std.specs.Prelude.{ℕ, ◌+◌, ◌*◌, ◌/◌, ◌^◌, ◌≡◌, ◌≤◌, ◌<◌, ◌==◌, ◌&&◌, Bool, true, List, [], length, slice_index, slice_index_or, sum_by}
 use Rattle.std.specs.List.{filter, range_with_len}
 use Rattle.council_game.specs.Votes.{has, size}
 use Rattle.council_game.specs.Game.{GameView, IsGame}
@@ -85,20 +85,15 @@ pub record AreOfOneGame (s t : Tables) : Type 0 where
   pub members : t.members ≡ s.members
   pub ranks : (i : ℕ) → i < s.members → slice_index t.ranks i ≡ slice_index s.ranks i
 
--- what holds of the tables of 1 to so many coalitions, none of them empty
-pub record AreWithin (most : ℕ) (t : Tables) : Type 0 where
+-- what holds of the tables of a list of coalitions of a game, none of them empty
+pub record AreSound (t : Tables) : Type 0 where
   pub some_members : 1 ≤ t.members
   pub few_members : t.members ≤ 40
-  pub some : 1 ≤ table_total t
-  pub few : table_total t ≤ most
-  pub few_of_size : (s : ℕ) → s ≤ t.members → table_of_size t s ≤ most
-  pub few_of_member : (i : ℕ) → i < t.members → table_of_member t i ≤ most
+  pub few : table_total t ≤ 2 ^ 40
+  pub few_of_size : (s : ℕ) → s ≤ t.members → table_of_size t s ≤ table_total t
+  pub few_of_member : (i : ℕ) → i < t.members → table_of_member t i ≤ table_total t
   pub few_of_member_size : (i s : ℕ) → i < t.members → s ≤ t.members →
-      table_of_member_size t i s ≤ most
-  pub memberships : 1 ≤ table_memberships t
+      table_of_member_size t i s ≤ table_total t
+  pub memberships : table_total t ≤ table_memberships t
   pub light : (i : ℕ) → i < t.members →
       weighted_sum denominator (table_of_member_size t i) t.members ≤ denominator * table_total t
-
--- what holds of the tables of 1 to 4000000 coalitions, none of them empty
-abbrev pub AreSound : Tables → Type 0
-AreSound t = AreWithin 4000000 t

@@ -5,7 +5,7 @@ ghost use Rattle.power_index.specs.Both.{indices_of_member};
 ghost use Rattle.power_index.specs.Tables.{AreCounts, table_total};
 ghost use Rattle.std.specs.Prelude.{◌≡◌, ℕ, List, ◌≤◌, IfOk, length, map};
 
-use crate::{Index, WideCounts};
+use crate::{Counts, Index, deegan_packel, public_good};
 use council_game::Memory;
 use std::alloc::Global;
 
@@ -23,7 +23,7 @@ pub struct MemberIndices {
 /// # Errors
 ///
 /// `Memory` where a growth was refused.
-pub fn all_indices(alloc: Global, counts: &WideCounts) -> Result<Vec<MemberIndices>, Memory>
+pub fn all_indices(alloc: Global, counts: &Counts) -> Result<Vec<MemberIndices>, Memory>
     requires { 1 ≤ table_total counts.now }
     ensures count { IfOk result (λ v. length v.items ≡ counts.now.members) }
     ensures indices { IfOk result (λ v. (g : GameView) (list : List ℕ) → AreCounts g list counts.now →
@@ -32,8 +32,8 @@ pub fn all_indices(alloc: Global, counts: &WideCounts) -> Result<Vec<MemberIndic
     let mut all = Vec::new(alloc);
     for member in 0..counts.members() {
         all.push(MemberIndices {
-            deegan_packel: Index::deegan_packel(counts, member),
-            public_good: Index::public_good(counts, member),
+            deegan_packel: Index::of(deegan_packel(counts, member)),
+            public_good: Index::of(public_good(counts, member)),
         })?;
     }
     Ok(all)

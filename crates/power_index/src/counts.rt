@@ -1,99 +1,308 @@
-//! Counts of a list of at most 4,000,000 coalitions, by member and by size.
-ghost use Rattle.council_game.specs.Game.{AreNonemptyCoalitions};
-ghost use Rattle.power_index.specs.Tables.{AreCounts, AreSound};
-ghost use Rattle.power_index.specs.Tables.{table_of_member, table_of_member_size};
-ghost use Rattle.power_index.specs.Tables.{table_of_size, table_total};
-ghost use Rattle.std.specs.Prelude.{◌≡◌, ℕ, ◌<◌, ◌≤◌, length};
+//! Counts of coalitions, by member and by size.
+ghost use Rattle.council_game.specs.Game.{GameView, AreNonemptyCoalitions};
+ghost use Rattle.council_game.specs.Votes.{has};
+ghost use Rattle.power_index.specs.Tables.{AreCounts, AreOf, AreOfOneGame, AreSound, AreTallies, IsTallyOf};
+ghost use Rattle.power_index.specs.Tables.{no_tally, table_memberships, table_of_member};
+ghost use Rattle.power_index.specs.Inner.Tables.{IsJoined};
+ghost use Rattle.power_index.specs.Tables.{table_of_member_size, table_of_size, table_total};
+ghost use Rattle.power_index.specs.Inner.Tables.{with_one};
+ghost use Rattle.std.specs.Prelude.{◌≡◌, ℕ, ◌+◌, ◌-◌, ◌*◌, ◌<◌, ◌≤◌, ◌^◌, cond, List, [], ◌∷◌, ◌++◌, length, slice_index, slice_index_or, All, min, true};
 
-use crate::WideCounts;
-use council_game::{Coalition, Game};
+use crate::tally::Tally;
+use council_game::{Coalition, Game, limits};
 use std::marker::Model;
 
-/// The counts of a list of 1 to 4,000,000 coalitions of a game: how many there are, how many have
-/// each size, how many contain each member, and how many have each size among those. Contracts see
-/// its tables.
+/// The counts of a list of coalitions of a game, none of them empty: how many there are, how many
+/// have each size, how many contain each member, and how many have each size among those. They are
+/// counted one by one, and the counts of two lists can be added.
+///
+/// The numbers have 64 bits. No game of 40 members has more than 2^40 coalitions, so nothing that
+/// is counted once is ever too many. The plain readers give 32 bits, which hold the counts of any list
+/// of a run, as it has at most 4,000,000 coalitions; the wide ones give all. Contracts see the tables.
 #[derive(Drop)]
 pub struct Counts {
-    wide: WideCounts,
+    members: usize,
+    /// The rank place of each member, in file order.
+    ranks: [usize; limits::MEMBERS],
+    /// The tally of all coalitions.
+    all: Tally,
+    /// The tallies of the coalitions that contain each member, by rank place.
+    each: [Tally; limits::MEMBERS],
 }
 
 impl Model for Counts {
-    ghost use Rattle.power_index.specs.Tables.{AreSound, Tables};
+    ghost use Rattle.power_index.specs.Tables.{Tables};
+    ghost use Rattle.power_index.specs.Inner.Tables.{AreOfSomeList};
 
     ghost Value = { Tables };
 
-    ghost view = { λ c. c.wide };
+    ghost view = { λ c. record {
+      members = c.members;
+      ranks = c.ranks;
+      all = c.all;
+      each = c.each;
+    } };
 
-    ghost invariant = { λ c. AreSound c.wide };
+    ghost invariant = { λ c. AreOfSomeList (record {
+      members = c.members;
+      ranks = c.ranks;
+      all = c.all;
+      each = c.each;
+    }) };
+}
+
+/// Counts a coalition at each place that is in it: one step for each binary digit 1 of its mask.
+fn add_to_places(
+    members: usize,
+    coalition: Coalition,
+    size: usize,
+    by_place: &mut [Tally; limits::MEMBERS],
+)
+    requires few { members ≤ 40 }
+    requires below { coalition < 2 ^ members }
+    requires size { size ≤ 40 }
+    requires room { (p : ℕ) → p < members →
+        slice_index (slice_index_or by_place.old p no_tally).sizes size ≤ 2 ^ 40 }
+    ensures { (p : ℕ) → p < members → slice_index_or by_place.new p no_tally ≡
+        cond (has members p coalition)
+        (with_one (slice_index_or by_place.old p no_tally) size)
+        (slice_index_or by_place.old p no_tally) }
+{
+    let mut rest = coalition.mask();
+    while rest != 0 {
+        let place = members - 1 - rest.trailing_zeros() as usize;
+        by_place[place].add(size);
+        rest &= rest - 1;
+    }
+}
+
+/// Adds the numbers of other tallies, place by place.
+fn join_places(
+    members: usize,
+    by_place: &mut [Tally; limits::MEMBERS],
+    other: &[Tally; limits::MEMBERS],
+)
+    requires few { members ≤ 40 }
+    requires room { (p s : ℕ) → p < members → s ≤ 40 →
+        slice_index (slice_index_or by_place.old p no_tally).sizes s +
+        slice_index (slice_index_or other.now p no_tally).sizes s < 2 ^ 64 }
+    ensures { (p : ℕ) → p < members →
+        IsJoined (slice_index_or by_place.old p no_tally) (slice_index_or other.now p no_tally)
+        (slice_index_or by_place.new p no_tally) }
+{
+    for place in 0..members {
+        by_place[place].join(&other[place]);
+    }
+}
+
+/// A number in 32 bits, or the greatest that these hold.
+fn narrow(number: u64) -> u32
+    ensures { result ≡ min number (2 ^ 32 - 1) }
+{
+    number.min(u64::from(u32::MAX)) as u32
 }
 
 impl Counts {
-    /// Counts 1 to 4,000,000 coalitions of a game, none of them empty, in one pass.
-    pub fn of(game: &Game, list: &[Coalition]) -> Counts
-        requires some { 1 ≤ length list.now }
-        requires few { length list.now ≤ 4000000 }
-        requires coalitions { AreNonemptyCoalitions game.now list.now }
-        ensures { AreCounts game.now list.now result }
+    /// The counts of no coalition of a game.
+    pub fn none(game: &Game) -> Counts
+        ensures tallies { AreTallies game.now [] result }
+        ensures counts { AreCounts game.now [] result }
     {
+        let members = game.members();
+        let mut ranks = [0; limits::MEMBERS];
+        for i in 0..members {
+            ranks[i] = game.place_of(i);
+        }
+        let none = Tally::new();
         Counts {
-            wide: WideCounts::of(game, list),
+            members,
+            ranks,
+            all: none,
+            each: [none; limits::MEMBERS],
         }
     }
 
-    /// The same counts as wide ones.
-    pub fn wide(&self) -> &WideCounts
-        ensures same { result.now ≡ self.now }
-        ensures some { 1 ≤ table_total result.now }
+    /// The counts of a list of coalitions, none of them empty, that were counted elsewhere: the tally of
+    /// all, and by rank place those of the coalitions that contain it.
+    pub fn of_tallies(game: &Game, all: Tally, each: [Tally; limits::MEMBERS]) -> Counts
+        ghost list: { List ℕ }
+        requires few { length list ≤ 2 ^ 40 }
+        requires coalitions { AreNonemptyCoalitions game.now list }
+        requires all { IsTallyOf (length game.now.names) (λ _. true) list all }
+        requires each { (p : ℕ) → p < length game.now.names →
+            IsTallyOf (length game.now.names) (has (length game.now.names) p) list
+            (slice_index_or each p no_tally) }
+        ensures tallies { AreTallies game.now list result }
+        ensures counts { AreCounts game.now list result }
     {
-        &self.wide
+        let none = Counts::none(game);
+        let ranks = none.ranks;
+        Counts {
+            members: none.members,
+            ranks,
+            all,
+            each,
+        }
     }
 
-    /// The number of members of the game, 1 to 40, and what all counts keep: there are 1 to
-    /// 4,000,000 coalitions, and the fractions of each member add up to at most 1.
+    /// Counts one coalition more. Where these were the counts of a list, they are then those of the
+    /// list with the coalition at its end.
+    pub fn count(&mut self, coalition: Coalition)
+        requires some { 0 < coalition }
+        requires below { coalition < 2 ^ self.old.members }
+        requires room { table_total self.old < 2 ^ 40 }
+        ensures game { AreOfOneGame self.old self.new }
+        ensures total { table_total self.new ≡ table_total self.old + 1 }
+        ensures tallies { (g : GameView) (list : List ℕ) → AreTallies g list self.old →
+            AreTallies g (list ++ coalition ∷ []) self.new }
+    {
+        let size = usize::from(coalition.size());
+        self.all.add(size);
+        add_to_places(self.members, coalition, size, &mut self.each);
+    }
+
+    /// Counts a row of coalitions more.
+    pub fn count_row(&mut self, row: &[Coalition])
+        requires coalitions { All (λ c. (0 < c) × (c < 2 ^ self.old.members)) row.now }
+        requires room { table_total self.old + length row.now ≤ 2 ^ 40 }
+        ensures game { AreOfOneGame self.old self.new }
+        ensures total { table_total self.new ≡ table_total self.old + length row.now }
+        ensures tallies { (g : GameView) (list : List ℕ) → AreTallies g list self.old →
+            AreTallies g (list ++ row.now) self.new }
+    {
+        for coalition in row {
+            self.count(*coalition);
+        }
+    }
+
+    /// Adds the counts of another list of coalitions of the same game: these are then the counts of
+    /// both lists, one after the other.
+    pub fn add(&mut self, other: &Counts)
+        requires game { AreOfOneGame self.old other.now }
+        requires room { table_total self.old + table_total other.now ≤ 2 ^ 40 }
+        ensures game { AreOfOneGame self.old self.new }
+        ensures total { table_total self.new ≡ table_total self.old + table_total other.now }
+        ensures tallies { (g : GameView) (first second : List ℕ) → AreTallies g first self.old →
+            AreTallies g second other.now → AreTallies g (first ++ second) self.new }
+    {
+        self.all.join(&other.all);
+        join_places(self.members, &mut self.each, &other.each);
+    }
+
+    /// Counts the coalitions of a list, none of them empty, in one pass.
+    pub fn of(game: &Game, list: &[Coalition]) -> Counts
+        requires few { length list.now ≤ 2 ^ 40 }
+        requires coalitions { AreNonemptyCoalitions game.now list.now }
+        ensures tallies { AreTallies game.now list.now result }
+        ensures counts { AreCounts game.now list.now result }
+    {
+        let mut counts = Counts::none(game);
+        counts.count_row(list);
+        counts
+    }
+
+    /// The number of members of the game, 1 to 40, and what all counts keep: there are at most 2^40
+    /// coalitions, no count is above that of all, and the fractions of each member add up to at most 1.
     pub fn members(&self) -> usize
         ensures members { result ≡ self.now.members }
+        ensures some { 1 ≤ result }
+        ensures few { result ≤ 40 }
         ensures sound { AreSound self.now }
     {
-        self.wide.members()
+        self.members
     }
 
-    /// The number of coalitions.
-    pub fn total(&self) -> u32
+    /// The number of coalitions, at most 2^40.
+    pub fn wide_total(&self) -> u64
         ensures total { result ≡ table_total self.now }
-        ensures some { 1 ≤ result }
-        ensures few { result ≤ 4000000 }
+        ensures few { result ≤ 2 ^ 40 }
     {
-        self.wide.total() as u32
+        self.all.total(self.members)
     }
 
-    /// The number of coalitions with so many members, at most that of all.
-    pub fn of_size(&self, size: usize) -> u32
+    /// The number of coalitions with so many members.
+    pub fn wide_of_size(&self, size: usize) -> u64
         requires { size ≤ self.now.members }
         ensures count { result ≡ table_of_size self.now size }
-        ensures within { result ≤ table_total self.now }
-        ensures few { result ≤ 4000000 }
+        ensures few { result ≤ table_total self.now }
     {
-        self.wide.of_size(size) as u32
+        let all = &self.all;
+        all.sizes[size]
     }
 
-    /// The number of coalitions that contain a member, given by its place in the file: at most that of all.
-    pub fn of_member(&self, member: usize) -> u32
+    /// The number of coalitions that contain a member, given by its place in the file.
+    pub fn wide_of_member(&self, member: usize) -> u64
         requires { member < self.now.members }
         ensures count { result ≡ table_of_member self.now member }
-        ensures within { result ≤ table_total self.now }
-        ensures few { result ≤ 4000000 }
+        ensures few { result ≤ table_total self.now }
     {
-        self.wide.of_member(member) as u32
+        let each = &self.each;
+        each[self.ranks[member]].total(self.members)
     }
 
-    /// The number of coalitions with so many members that contain a member, at most that of all.
-    pub fn of_member_size(&self, member: usize, size: usize) -> u32
+    /// The number of coalitions with so many members that contain a member.
+    pub fn wide_of_member_size(&self, member: usize, size: usize) -> u64
         requires member { member < self.now.members }
         requires size { size ≤ self.now.members }
         ensures count { result ≡ table_of_member_size self.now member size }
-        ensures within { result ≤ table_total self.now }
-        ensures few { result ≤ 4000000 }
+        ensures few { result ≤ table_total self.now }
     {
-        self.wide.of_member_size(member, size) as u32
+        let each = &self.each;
+        each[self.ranks[member]].sizes[size]
+    }
+
+    /// The number of coalitions in 32 bits, or the greatest number of 32 bits where there are more.
+    pub fn total(&self) -> u32
+        ensures { result ≡ min (table_total self.now) (2 ^ 32 - 1) }
+    {
+        narrow(self.wide_total())
+    }
+
+    /// The number of coalitions with so many members in 32 bits, or the greatest number of 32 bits
+    /// where there are more.
+    pub fn of_size(&self, size: usize) -> u32
+        requires { size ≤ self.now.members }
+        ensures count { table_total self.now < 2 ^ 32 → result ≡ table_of_size self.now size }
+        ensures most { result ≡ min (table_of_size self.now size) (2 ^ 32 - 1) }
+        ensures within { result ≤ table_total self.now }
+    {
+        narrow(self.wide_of_size(size))
+    }
+
+    /// The number of coalitions that contain a member, given by its place in the file, in 32 bits, or
+    /// the greatest number of 32 bits where there are more.
+    pub fn of_member(&self, member: usize) -> u32
+        requires { member < self.now.members }
+        ensures count { table_total self.now < 2 ^ 32 → result ≡ table_of_member self.now member }
+        ensures most { result ≡ min (table_of_member self.now member) (2 ^ 32 - 1) }
+        ensures within { result ≤ table_total self.now }
+    {
+        narrow(self.wide_of_member(member))
+    }
+
+    /// The number of coalitions with so many members that contain a member, in 32 bits, or the
+    /// greatest number of 32 bits where there are more.
+    pub fn of_member_size(&self, member: usize, size: usize) -> u32
+        requires member { member < self.now.members }
+        requires size { size ≤ self.now.members }
+        ensures count { table_total self.now < 2 ^ 32 →
+            result ≡ table_of_member_size self.now member size }
+        ensures most { result ≡ min (table_of_member_size self.now member size) (2 ^ 32 - 1) }
+        ensures within { result ≤ table_total self.now }
+    {
+        narrow(self.wide_of_member_size(member, size))
+    }
+
+    /// The numbers of all members, added.
+    pub(crate) fn memberships(&self) -> u64
+        ensures sum { result ≡ table_memberships self.now }
+        ensures some { table_total self.now ≤ result }
+        ensures few { result ≤ 40 * 2 ^ 40 }
+    {
+        let mut sum = 0;
+        for i in 0..self.members {
+            sum += self.wide_of_member(i);
+        }
+        sum
     }
 }

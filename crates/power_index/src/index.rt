@@ -1,12 +1,9 @@
 //! An index as a value: a fraction from 0 to 1 in lowest terms.
-ghost use Rattle.council_game.specs.Game.{GameView};
-ghost use Rattle.power_index.specs.Fractions.{IsIndex, decimals, fraction_cmp, lowest_terms, pair_of};
-ghost use Rattle.power_index.specs.Indices.{deegan_packel, public_good};
-ghost use Rattle.power_index.specs.Tables.{AreCounts, table_total};
-ghost use Rattle.std.specs.Prelude.{◌≡◌, ℕ, List, ◌<◌, ◌≤◌, ◌^◌, Some};
+ghost use Rattle.power_index.specs.Fractions.{IsIndex, decimals, fraction_cmp, pair_of};
+ghost use Rattle.std.specs.Prelude.{◌≡◌, ◌≤◌, ◌^◌, Some};
 
+use crate::Fraction;
 use crate::order::order;
-use crate::{Fraction, WideCounts};
 use std::cmp::Ordering;
 use std::fmt;
 use std::marker::Model;
@@ -33,29 +30,7 @@ impl Model for Index {
 }
 
 impl Index {
-    /// The Deegan-Packel index of a member, over each list that has these counts. `Counts::wide` gives
-    /// the counts where the list was counted as `Counts`.
-    pub fn deegan_packel(counts: &WideCounts, member: usize) -> Index
-        requires member { member < counts.now.members }
-        requires some { 1 ≤ table_total counts.now }
-        ensures { (g : GameView) (list : List ℕ) → AreCounts g list counts.now →
-            result ≡ lowest_terms (deegan_packel g list member) }
-    {
-        Index::of(counts.deegan_packel(member))
-    }
-
-    /// The public good index of a member, over each list that has these counts. `Counts::wide` gives the
-    /// counts where the list was counted as `Counts`.
-    pub fn public_good(counts: &WideCounts, member: usize) -> Index
-        requires member { member < counts.now.members }
-        requires some { 1 ≤ table_total counts.now }
-        ensures { (g : GameView) (list : List ℕ) → AreCounts g list counts.now →
-            result ≡ lowest_terms (public_good g list member) }
-    {
-        Index::of(counts.public_good(member))
-    }
-
-    /// The index that a fraction is.
+    /// The index that a fraction is, as `deegan_packel` and `public_good` give it.
     pub fn of(fraction: Fraction) -> Index
         requires { IsIndex (pair_of fraction) }
         ensures { result ≡ pair_of fraction }

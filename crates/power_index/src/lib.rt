@@ -7,7 +7,7 @@
 //! let counts = Counts::of(&game, &list);
 //! let index = deegan_packel(&counts, 0);
 //! let text = index.decimals();
-//! let order = Index::of(index).compare(Index::public_good(counts.wide(), 0));
+//! let order = Index::of(index).compare(Index::of(public_good(&counts, 0)));
 //! ```
 #![tactic(auto)]
 
@@ -19,7 +19,6 @@ mod indices;
 pub mod laws;
 mod order;
 mod tally;
-mod wide_counts;
 
 pub use both::{MemberIndices, all_indices};
 pub use counts::Counts;
@@ -27,4 +26,3 @@ pub use fraction::{Fraction, lowest};
 pub use index::Index;
 pub use indices::{deegan_packel, public_good};
 pub use tally::Tally;
-pub use wide_counts::WideCounts;

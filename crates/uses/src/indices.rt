@@ -13,7 +13,7 @@ use mwc_walk::list_all;
 use power_index::laws::{
     deegan_packel_adds_up, minimal_coalitions_can_be_counted, public_good_adds_up,
 };
-use power_index::{Counts, Index};
+use power_index::{Counts, Index, deegan_packel, public_good};
 use std::alloc::Global;
 
 /// Both indices of a member; none where the game has more than 4,000,000 minimal winning coalitions.
@@ -41,8 +41,8 @@ pub fn both_indices(
     };
     let counts = Counts::of(game, &list);
     Ok(Some((
-        Index::deegan_packel(counts.wide(), member),
-        Index::public_good(counts.wide(), member),
+        Index::of(deegan_packel(&counts, member)),
+        Index::of(public_good(&counts, member)),
     )))
 }
 

@@ -7,7 +7,7 @@ ghost use Rattle.std.specs.Prelude.{◌≡◌, ◌≤◌, ◌<◌, IfOk, length}
 
 use council_game::{Game, limits};
 use mwc_tally::{NoWatch, TallyFault, tally};
-use power_index::Index;
+use power_index::{Index, deegan_packel};
 use power_index::laws::minimal_coalitions_can_be_counted;
 use std::alloc::Global;
 use std::sync::Wait;
@@ -35,5 +35,5 @@ pub fn tallied_index<R: Threads + Wait + Sync>(
     let bits = limits::BITS.min(game.members() as u8);
     minimal_coalitions_can_be_counted();
     let counts = tally(rt, alloc, game, bits, workers, &NoWatch)?;
-    Ok(Index::deegan_packel(&counts, member))
+    Ok(Index::of(deegan_packel(&counts, member)))
 }

@@ -38,7 +38,7 @@ pub(super) fn counts_of_three<R: Threads + Wait + Sync>(
     second: &[Coalition],
     third: &[Coalition],
     threads: u8,
-) -> Result<WideCounts, TallyFault>
+) -> Result<Counts, TallyFault>
     requires first { (length first.now ≤ 1000) × AreNonemptyCoalitions game.now first.now }
     requires second { (length second.now ≤ 1000) × AreNonemptyCoalitions game.now second.now }
     requires third { (length third.now ≤ 1000) × AreNonemptyCoalitions game.now third.now }

@@ -56,16 +56,10 @@ fn check(rt: &impl Abort, index: Index, fraction: Fraction, wanted: Printed) {
 fn an_index_is_stored_and_compared(rt: HostRuntime) -> Result<(), Fail> {
     let counts = counts(&rt, rt.alloc(), 51, &FIVE)?;
     assert!(rt; counts.members() == 5);
-    let first = Index::deegan_packel(counts.wide(), 0);
+    let first = Index::of(deegan_packel(&counts, 0));
     check(&rt, first, deegan_packel(&counts, 0), (3, 10, *b"0.300000"));
     let second = Index::of(public_good(&counts, 0));
     check(&rt, second, public_good(&counts, 0), (4, 15, *b"0.266666"));
-    same(
-        &rt,
-        Index::public_good(counts.wide(), 0),
-        second,
-        "public good index",
-    );
     let found = [
         first.compare(second),
         second.compare(first),

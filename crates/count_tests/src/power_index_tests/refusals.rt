@@ -26,7 +26,7 @@ fn gives_all_indices(rt: HostRuntime) -> Result<(), Fail> {
     assert!(rt; list.len() == 5);
     let counts = Counts::of(&game, &list);
     rt.println("call")?;
-    let Ok(all) = all_indices(rt.alloc(), counts.wide()) else {
+    let Ok(all) = all_indices(rt.alloc(), &counts) else {
         return Ok(rt.println("out of memory")?);
     };
     rt.println("worked")?;

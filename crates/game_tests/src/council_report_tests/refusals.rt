@@ -44,7 +44,7 @@ fn writes_a_tally(rt: HostRuntime) -> Result<(), Fail> {
     let list = plain_list(alloc, &game)?;
     assert!(rt; list.len() == 2_650);
     minimal_coalitions_can_be_counted();
-    let counts = WideCounts::of(&game, &list);
+    let counts = Counts::of(&game, &list);
     let shown = Shown {
         list: false,
         sizes: true,

@@ -15,7 +15,7 @@ loop-member-preserved g c =
     let members = c.requires.0.counts.members in
     let inside : k < length c.args.counted.now.game.now.names =
     omega (arith, c.loop-member-test.true, c.members-member-end.ensures.count) in
-    let count = c.of_member_size.ensures.count
+    let count = c.wide_of_member_size.ensures.count
     ∙ c.requires.0.counts.of_member_size k c.args.size (omega (arith, members, inside)) (omega (arith, members, c.requires.1)) in
     record {
       items = rw (c.loop-member.invariant.items, count) at c.in_ok-push_number.ensures.items
@@ -39,7 +39,7 @@ returns-in_err-push_number-clause-room g c =
     let members = c.requires.0.counts.members in
     let inside : k < length c.args.counted.now.game.now.names =
     omega (arith, c.loop-member-test.true, c.members-member-end.ensures.count) in
-    let count = c.of_member_size.ensures.count
+    let count = c.wide_of_member_size.ensures.count
     ∙ c.requires.0.counts.of_member_size k c.args.size (omega (arith, members, inside)) (omega (arith, members, c.requires.1)) in
     let refused = rw (count) at c.in_err-push_number.ensures.room in
     takes-not (flat_map with_tab (map text (range_with_len 0 k))) refused c.loop-member.invariant.capacity c.loop-member.invariant.items

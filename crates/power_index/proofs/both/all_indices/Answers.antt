@@ -1,4 +1,4 @@
-use Rattle.std.proofs.Common.{◌≡◌, ◌∙◌, ℕ, ◌+◌, List, [], ◌∷◌, ◌++◌, length, map, sym, ap, arith}
+use Rattle.std.proofs.Common.{◌≡◌, ◌∙◌, ℕ, ◌+◌, ◌<◌, List, [], ◌∷◌, ◌++◌, length, map, sym, ap, arith}
 use Rattle.std.specs.List.{range_with_len}
 use Rattle.std.proofs.lemmas.List.{length-append}
 use Rattle.council_game.proofs.Lists.{map_one_more}
@@ -25,8 +25,10 @@ loop-member-preserved c = record {
   count = (let long = ap length c.in_ok-push.ensures.items ∙ length-append c.loop-member.all.items _ in omega
       (arith, long, c.loop-member.invariant.count));
   indices = λ g list are.
+      (let some : 0 < length list = omega (arith, c.requires, are.total) in
       one-more (indices_of_member g list) c.loop-member.all.items c.push.new.self.items _ c.loop-member.member
       c.in_ok-push.ensures.items (c.loop-member.invariant.indices g list are)
-      (both-are c.deegan_packel.result c.public_good.result (lowest_terms (deegan_packel g list c.loop-member.member))
-      (lowest_terms (public_good g list c.loop-member.member)) (c.deegan_packel.ensures g list are) (c.public_good.ensures g list are));
+      (both-are c.of.result c.of-in-loop-member.result (lowest_terms (deegan_packel g list c.loop-member.member))
+      (lowest_terms (public_good g list c.loop-member.member)) (c.of.ensures ∙ c.deegan_packel.ensures.terms g list some are)
+      (c.of-in-loop-member.ensures ∙ c.public_good.ensures.terms g list some are)));
 }

@@ -1,0 +1,11 @@
+use Rattle.std.proofs.Common.{◌≡◌, ℕ, ◌+◌, ◌++◌, List, take}
+use Rattle.council_game.specs.Game.{GameView}
+use Rattle.power_index.specs.Tables.{AreOfOneGame, AreTallies, table_total}
+use Rattle.power_index.proofs.counts.Counts.count_row.Given as goal
+
+abbrev pub invariant-loop-coalition : goal.invariant-loop-coalition
+invariant-loop-coalition l = record {
+  game : AreOfOneGame l.initial.self l.self;
+  total : table_total l.self ≡ table_total l.initial.self + l.coalition-index;
+  tallies : (g : GameView) (list : List ℕ) → AreTallies g list l.initial.self → AreTallies g (list ++ take l.coalition-index l.row) l.self;
+}

@@ -1,0 +1,6 @@
+use Rattle.std.proofs.Common.{rules}
+use Rattle.power_index.proofs.Sound.{tallies-are_counts}
+use Rattle.power_index.proofs.counts.Counts.of_tallies.Goals as goal
+
+pub returns-clause-counts : goal.returns-clause-counts
+returns-clause-counts g c = tallies-are_counts c.args.game.now g.list _ (search rules)

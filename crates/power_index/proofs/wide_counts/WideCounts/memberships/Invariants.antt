@@ -1,7 +1,0 @@
-use Rattle.std.proofs.Common.{◌≡◌, ◌≤◌, ◌*◌, ◌^◌, sum_by}
-use Rattle.std.specs.List.{range_with_len}
-use Rattle.power_index.specs.Tables.{table_of_member}
-use Rattle.power_index.proofs.wide_counts.WideCounts.memberships.Given as goal
-
-abbrev pub invariant-loop-i : goal.invariant-loop-i
-invariant-loop-i l = record { sum : l.sum ≡ sum_by (table_of_member l.self) (range_with_len 0 l.i); small : l.sum ≤ l.i * 2 ^ 40 }

@@ -1,7 +1,0 @@
-use Rattle.power_index.proofs.Sound.{tallies-are_counts}
-use Rattle.power_index.proofs.wide_counts.WideCounts.of.Goals as goal
-
-pub returns-clause-counts : goal.returns-clause-counts
-returns-clause-counts c =
-    tallies-are_counts c.args.game.now c.args.list.now c.count_row.new.self
-    (c.count_row.ensures.tallies c.args.game.now _ c.none-counts.ensures.tallies)
