@@ -31,7 +31,12 @@ fn same_counts(rt: &impl Abort, found: &Counts, wanted: &Counts) {
     assert!(rt; members == wanted.members());
     same(rt, found.wide_total(), wanted.wide_total(), "total");
     for size in 0..members + 1 {
-        same(rt, found.wide_of_size(size), wanted.wide_of_size(size), "of a size");
+        same(
+            rt,
+            found.wide_of_size(size),
+            wanted.wide_of_size(size),
+            "of a size",
+        );
     }
     for member in 0..members {
         same(
@@ -141,7 +146,12 @@ fn forty_equal_members_by_binomial_numbers(rt: HostRuntime) -> Result<(), Fail> 
         let counts = by_sums(alloc, &game)?;
         assert!(rt; counts.members() == 40);
         same(&rt, counts.wide_total(), all, "of 40");
-        same(&rt, counts.wide_of_size(quota as usize), all, "of 40 by size");
+        same(
+            &rt,
+            counts.wide_of_size(quota as usize),
+            all,
+            "of 40 by size",
+        );
         for member in 0..40 {
             let found = counts.wide_of_member(member).saturating_mul(40);
             same(

@@ -49,7 +49,12 @@ fn assert_of_five(rt: &impl Abort, counts: &Counts) {
     }
     for (member, count) in [4, 2, 3, 3, 3].iter().enumerate() {
         assert!(rt; member < 5);
-        same(rt, counts.wide_of_member(member), *count, "counts.of_member");
+        same(
+            rt,
+            counts.wide_of_member(member),
+            *count,
+            "counts.of_member",
+        );
     }
 }
 
@@ -93,7 +98,12 @@ fn five_of_forty_win(rt: HostRuntime) -> Result<(), Fail> {
     assert!(rt; counts.members() == 40);
     same(&rt, counts.wide_total(), 658_008, "counts.total");
     for member in 0..40 {
-        same(&rt, counts.wide_of_member(member), 82_251, "counts.of_member");
+        same(
+            &rt,
+            counts.wide_of_member(member),
+            82_251,
+            "counts.of_member",
+        );
     }
     Ok(())
 }

@@ -37,12 +37,7 @@ fn told<W: Watch>(watch: &W, more: u64, slices: u16) -> u64
 }
 
 /// The same as `tally_slice`, and a watch is told of it; none where the watch stops it.
-pub(crate) fn tally_watched<W: Watch>(
-    game: &Game,
-    bits: u8,
-    j: u16,
-    watch: &W,
-) -> Option<Counts>
+pub(crate) fn tally_watched<W: Watch>(game: &Game, bits: u8, j: u16, watch: &W) -> Option<Counts>
     requires few { bits ≤ 10 }
     requires bits { bits ≤ length game.now.names }
     requires slice { j < 2 ^ bits }

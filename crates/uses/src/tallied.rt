@@ -7,8 +7,8 @@ ghost use Rattle.std.specs.Prelude.{◌≡◌, ◌≤◌, ◌<◌, IfOk, length}
 
 use council_game::{Game, limits};
 use mwc_tally::{NoWatch, TallyFault, tally};
-use power_index::{Index, deegan_packel};
 use power_index::laws::minimal_coalitions_can_be_counted;
+use power_index::{Index, deegan_packel};
 use std::alloc::Global;
 use std::sync::Wait;
 use std::thread::Threads;

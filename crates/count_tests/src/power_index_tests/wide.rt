@@ -19,7 +19,10 @@ fn check_five(rt: &impl Abort, counts: &Counts, label: &str) {
             label,
         );
     }
-    let found = [counts.wide_of_member_size(0, 3), counts.wide_of_member_size(1, 4)];
+    let found = [
+        counts.wide_of_member_size(0, 3),
+        counts.wide_of_member_size(1, 4),
+    ];
     same(rt, found, [3, 1], label);
     same(rt, counts.wide_total(), 5, label);
     check_indices(rt, counts, 4, [(11, 60, *b"0.183333"), FIFTH]);
@@ -47,7 +50,12 @@ fn check_added(rt: &impl Abort, game: &Game, first: &[Coalition], second: &[Coal
 {
     let mut counts = Counts::of(game, first);
     let more = Counts::of(game, second);
-    same(rt, [counts.wide_total(), more.wide_total()], [2, 3], "two lists");
+    same(
+        rt,
+        [counts.wide_total(), more.wide_total()],
+        [2, 3],
+        "two lists",
+    );
     counts.add(&more);
     check_five(rt, &counts, "two lists added");
 }
