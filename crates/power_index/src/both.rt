@@ -12,7 +12,7 @@ use std::alloc::Global;
 /// Both indices of a member. Each can be printed, as a digit, a point and six digits.
 #[derive(Clone, Copy, Debug, PartialEq, Eq)]
 pub struct MemberIndices {
-    /// The index of Deegan and Packel (1978).
+    /// The Deegan-Packel index (Deegan and Packel 1978).
     pub deegan_packel: Index,
     /// The public good index (Holler 1982; Holler and Packel 1983).
     pub public_good: Index,

@@ -41,8 +41,8 @@ pub fn deegan_packel(counts: &Counts, member: usize) -> Fraction
 
 /// The public good index of a member, in lowest terms, over each list that has these counts: the
 /// number of coalitions that contain the member, divided by the sum of these numbers over all
-/// members (Holler and Packel 1983, over the minimal winning coalitions). It is 0/1 for a member of
-/// none.
+/// members (Holler 1982; Holler and Packel 1983, over the minimal winning coalitions). It is 0/1 for a
+/// member of none.
 pub fn public_good(counts: &Counts, member: usize) -> Fraction
     requires { member < counts.now.members }
     ensures lowest { (g : GameView) (list : List ℕ) → AreCounts g list counts.now →

@@ -1,5 +1,6 @@
 //! Counts of coalitions, fractions in lowest terms, and the two power indices that rest on minimal
-//! winning coalitions: Deegan and Packel's (1978) and Holler and Packel's public good index (1983).
+//! winning coalitions: the Deegan-Packel index (Deegan and Packel 1978) and the public good index (Holler 1982;
+//! Holler and Packel 1983).
 //!
 //! Nothing here but `all_indices` takes memory.
 //!
