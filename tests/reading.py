@@ -32,7 +32,7 @@ HEADLINE = [
 ]
 # in reading order: the first pattern that fits a module
 PARTS = [
-    ("The mathematics", r"council_game\.(Votes|Ranks)|mwc_walk\.Slices|power_index\."),
+    ("The mathematics", r"coalitions\.|council_game\.(Votes|Ranks)|mwc_walk\.Slices|power_index\."),
     ("The pipe", r"mwc_pipe\."),
     ("The gathering", r"mwc_parts\.|mwc_gather\."),
     ("The game file", r"council_game\.|council_file\.(Bracket|File)"),
@@ -46,7 +46,7 @@ CRATES = os.path.join(TOP, "crates")
 def imports(text):
     names, aliases = {}, {}
     for line in text.split("\n"):
-        m = re.match(r"\s*(?:pub )?(?:ghost )?use ([\w.×]+)\.\{(.*)\};?\s*$", line)
+        m = re.match(r"\s*(?:unfoldable )?(?:pub )?(?:ghost )?use ([\w.×]+)\.\{(.*)\};?\s*$", line)
         if m:
             for item in m.group(2).split(","):
                 new, _, old = reversed(item.strip().partition(" as ")) if " as " in item else (item.strip(), "", "")
@@ -70,7 +70,7 @@ def load(path, module):
         code = line.strip()
         inside = key and kind in ("record", "data") and len(line) - len(line.lstrip()) > indent
         m = None if inside else START.match(line)
-        if not code or code.startswith(("use ", "pub use", "pub mod", "module ", "infix", "--")):
+        if not code or code.startswith(("use ", "pub use", "unfoldable pub use", "pub mod", "module ", "infix", "--")):
             key = key if inside and code.startswith("--") else None if not code else key
         elif m:
             key = (module, m.group(1))
@@ -145,6 +145,10 @@ def closure(roots):
         if key in defs:
             seen.add(key)
             todo += mentioned("\n".join(defs[key]), *uses[key[0]], key[0]) - {key}
+            continue
+        if key[0] in uses and key[1] in uses[key[0]][0]:
+            # a module passes it on
+            todo.append(uses[key[0]][0][key[1]])
             continue
         other.add(key)
         m = re.match(r"Rattle\.(\w+)\.specs\.declared\.[\w.]*?([A-Z]\w*)", key[0])

@@ -7,7 +7,6 @@ pub mod Sorting
 pub mod Games
 pub mod Making
 pub mod Named
-pub mod Digits
 pub mod WeightByDigits
 pub mod Places
 pub mod Meanings
@@ -16,7 +15,6 @@ pub mod Weights
 pub mod GameTests
 pub mod Subsets
 pub mod Listing
-pub mod Sizes
 pub mod RankPlaces
 pub mod Bounds
 pub mod Seen

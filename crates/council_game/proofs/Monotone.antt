@@ -4,7 +4,7 @@ use Rattle.std.specs.List.{list_all}
 use Rattle.std.proofs.lemmas.Nat.{mul-le}
 use Rattle.std.proofs.lemmas.Bool.{and_from, both_ways, cases_Bool, cases_lt, not-false}
 use Rattle.council_game.specs.Votes.{Votes, has, without, weight, wins, places_of, minimal}
-use Rattle.council_game.proofs.Digits.{has-none, without-less}
+use Rattle.coalitions.proofs.Digits.{has-none, without-less}
 use Rattle.council_game.proofs.Places.{spare-place}
 use Rattle.council_game.proofs.WeightByDigits.{weight-nil, weight-cons}
 

@@ -1,3 +1,4 @@
+pub use Rattle.coalitions.specs.Coalitions
 pub mod Fault
 pub mod Faults
 pub mod Votes

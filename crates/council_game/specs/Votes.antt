@@ -1,6 +1,8 @@
 -- Weighted voting games as plain data, and their minimal winning coalitions.
 use Rattle.std.specs.Prelude.{ℕ, zero, suc, ◌-◌, ◌/◌, ◌%◌, ◌^◌, Bool, not, ◌&&◌, ◌==◌, nat_le, List, [], ◌∷◌, length, ◌≡◌, ◌≤◌, ◌<◌, slice_index, slice_index_or, sum_by, ⊤}
 use Rattle.std.specs.List.{filter, sum, list_all, range_with_len, AllByRecursion}
+unfoldable pub use Rattle.coalitions.specs.Coalitions.{has, without}
+pub use Rattle.coalitions.specs.Coalitions.{places_of, size}
 
 -- a quota, and a weight for each member: in a game by the file's order, in its votes by rank
 pub record RuleView : Type 0 where
@@ -36,22 +38,6 @@ pub record IsVotes (v : Votes) : Type 0 where
   pub few_rules : length v.rules ≤ 4
   pub rules : AllByRecursion (IsRule v.members) v.rules
   pub ranked : IsRanked v.rules
-
--- in a game of n members, place p is in c where this binary digit of c is 1
-unfoldable pub has : ℕ → ℕ → ℕ → Bool
-has n p c = c / 2 ^ (n - 1 - p) % 2 == 1
-
--- c without place p, which is in c
-unfoldable pub without : ℕ → ℕ → ℕ → ℕ
-without n p c = c - 2 ^ (n - 1 - p)
-
--- the places that are in c, the heaviest first
-abbrev pub places_of : ℕ → ℕ → List ℕ
-places_of n c = filter (λ p. has n p c) (range_with_len 0 n)
-
--- how many places are in c
-abbrev pub size : ℕ → ℕ → ℕ
-size n c = length (places_of n c)
 
 -- the sum of the weights of the places in c
 unfoldable pub weight : List ℕ → ℕ → ℕ

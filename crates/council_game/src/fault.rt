@@ -3,7 +3,7 @@ ghost use Rattle.std.specs.Prelude.{◌≡◌};
 ghost use Rattle.council_game.specs.declared.fault.GameFault.TheVariants.{Memory};
 ghost use Rattle.council_game.specs.Faults.{number_of};
 
-use crate::memory;
+use crate::Memory;
 use std::alloc::{AllocError, AllocFailed};
 use thiserror::Error;
 
@@ -97,10 +97,10 @@ impl<T: Drop> From<AllocFailed<T>> for GameFault {
     }
 }
 
-impl From<memory::Memory> for GameFault {
+impl From<Memory> for GameFault {
     ghost from_gives = { λ _ e. e ≡ Memory };
 
-    fn from(_e: memory::Memory) -> GameFault {
+    fn from(_e: Memory) -> GameFault {
         GameFault::Memory
     }
 }

@@ -8,12 +8,9 @@
 #![tactic(auto)]
 
 mod checks;
-mod coalition;
 mod fault;
 mod game;
 pub mod laws;
-pub mod limits;
-mod memory;
 mod naming;
 mod plain;
 mod ranks;
@@ -21,9 +18,8 @@ mod rule;
 mod winning;
 
 pub use checks::is_title;
-pub use coalition::Coalition;
+pub use coalitions::{Coalition, Memory, limits};
 pub use fault::GameFault;
 pub use game::Game;
-pub use memory::Memory;
 pub use plain::plain_list;
 pub use rule::Rule;

@@ -4,25 +4,25 @@ ghost use Rattle.council_game.specs.Votes.{IsVotes, weight, has, without, wins, 
 ghost use Rattle.council_game.specs.Rules.{rule_views};
 ghost use Rattle.council_game.specs.Inner.Weighing.{votes, IsWeighed};
 
-use crate::{Rule, limits};
+use crate::{Coalition, Rule, limits};
 
 /// A coalition, and its weight under each rule.
 #[derive(Drop)]
 pub(crate) struct Weighed {
-    pub(crate) mask: u64,
+    pub(crate) coalition: Coalition,
     pub(crate) sums: [u64; limits::RULES],
 }
 
 /// The weight of a coalition: the last place is the lowest digit.
-pub(crate) fn weight_of(weights: &[u64], mask: u64) -> u64
+pub(crate) fn weight_of(weights: &[u64], coalition: Coalition) -> u64
     requires few { length weights.now ≤ 40 }
     requires fits { sum weights.now ≤ 40000000000000 }
-    ensures { result ≡ weight weights.now mask }
+    ensures { result ≡ weight weights.now coalition }
 {
     let members = weights.len();
     let mut sum = 0;
     for place in 0..members {
-        if has(members, place, mask) {
+        if coalition.has(members, place) {
             sum += weights[place];
         }
     }
@@ -30,23 +30,23 @@ pub(crate) fn weight_of(weights: &[u64], mask: u64) -> u64
 }
 
 /// The coalition with its weights.
-fn weigh(rules: &[Rule], members: usize, mask: u64) -> Weighed
+fn weigh(rules: &[Rule], members: usize, coalition: Coalition) -> Weighed
     requires { IsVotes (votes members rules.now) }
     ensures weighed { IsWeighed (rule_views rules.now) result }
-    ensures same { result.mask ≡ mask }
+    ensures same { result.coalition ≡ coalition }
 {
     let mut sums = [0; limits::RULES];
     for r in 0..rules.len() {
         let rule = &rules[r];
-        sums[r] = weight_of(&rule.weights, mask);
+        sums[r] = weight_of(&rule.weights, coalition);
     }
-    Weighed { mask, sums }
+    Weighed { coalition, sums }
 }
 
 fn wins_weighed(rules: &[Rule], members: usize, weighed: &Weighed) -> bool
     requires votes { IsVotes (votes members rules.now) }
     requires weighed { IsWeighed (rule_views rules.now) weighed.now }
-    ensures { result ≡ wins (rule_views rules.now) weighed.now.mask }
+    ensures { result ≡ wins (rule_views rules.now) weighed.now.coalition }
 {
     for r in 0..rules.len() {
         let rule = &rules[r];
@@ -62,8 +62,8 @@ fn wins_without(rules: &[Rule], members: usize, weighed: &Weighed, place: usize)
     requires votes { IsVotes (votes members rules.now) }
     requires weighed { IsWeighed (rule_views rules.now) weighed.now }
     requires place { place < members }
-    requires inside { has members place weighed.now.mask ≡ true }
-    ensures { result ≡ wins (rule_views rules.now) (without members place weighed.now.mask) }
+    requires inside { has members place weighed.now.coalition ≡ true }
+    ensures { result ≡ wins (rule_views rules.now) (without members place weighed.now.coalition) }
 {
     for r in 0..rules.len() {
         let rule = &rules[r];
@@ -74,33 +74,24 @@ fn wins_without(rules: &[Rule], members: usize, weighed: &Weighed, place: usize)
     true
 }
 
-pub(crate) fn wins(rules: &[Rule], members: usize, mask: u64) -> bool
+pub(crate) fn wins(rules: &[Rule], members: usize, coalition: Coalition) -> bool
     requires { IsVotes (votes members rules.now) }
-    ensures { result ≡ wins (rule_views rules.now) mask }
+    ensures { result ≡ wins (rule_views rules.now) coalition }
 {
-    let weighed = weigh(rules, members, mask);
+    let weighed = weigh(rules, members, coalition);
     wins_weighed(rules, members, &weighed)
 }
 
-/// Whether the member of a place is in a coalition.
-pub(crate) fn has(members: usize, place: usize, mask: u64) -> bool
-    requires few { members ≤ 40 }
-    requires place { place < members }
-    ensures { result ≡ has members place mask }
-{
-    (mask >> (members - 1 - place)) % 2 == 1
-}
-
-pub(crate) fn is_minimal(rules: &[Rule], members: usize, mask: u64) -> bool
+pub(crate) fn is_minimal(rules: &[Rule], members: usize, coalition: Coalition) -> bool
     requires { IsVotes (votes members rules.now) }
-    ensures { result ≡ minimal (votes members rules.now) mask }
+    ensures { result ≡ minimal (votes members rules.now) coalition }
 {
-    let weighed = weigh(rules, members, mask);
+    let weighed = weigh(rules, members, coalition);
     if !wins_weighed(rules, members, &weighed) {
         return false;
     }
     for place in 0..members {
-        if has(members, place, mask) && wins_without(rules, members, &weighed, place) {
+        if coalition.has(members, place) && wins_without(rules, members, &weighed, place) {
             return false;
         }
     }

@@ -2,7 +2,7 @@
 ghost use Rattle.std.specs.Prelude.{◌≤◌};
 
 use clap::{Arg, ArgAction, ArgMatches, Command, Error, value_parser};
-use council_game::limits;
+use coalitions::limits;
 use std::alloc::Global;
 
 /// Why there is nothing to do for a command line.

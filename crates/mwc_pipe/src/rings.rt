@@ -3,7 +3,7 @@ ghost use Rattle.std.specs.Prelude.{◌≡◌, ◌≤◌, [], IfOk};
 
 use crate::ring_in::RingIn;
 use crate::ring_out::RingOut;
-use council_game::Memory;
+use coalitions::Memory;
 use rtrb::RingBuffer;
 use std::alloc::Global;
 

@@ -8,8 +8,8 @@ use Rattle.std.proofs.lemmas.List.{length-map}
 use Rattle.std.proofs.lemmas.List.Elements.{filter-append, All-nil, All-cons, All-head, All-tail, All-append, All-map, All-weaker}
 use Rattle.std.proofs.lemmas.Nat.{pow_pos, ones_cat}
 use Rattle.council_game.specs.Votes.{has, size}
-use Rattle.council_game.proofs.Digits.{has-none}
-use Rattle.council_game.proofs.Sizes.{size-ones}
+use Rattle.coalitions.proofs.Digits.{has-none}
+use Rattle.coalitions.proofs.Sizes.{size-ones}
 use Rattle.mwc_sums.specs.Completing.{completing}
 use Rattle.mwc_sums.specs.Inner.Rows.{one_of_size, taken, left_out}
 use Rattle.mwc_sums.proofs.Completing.{double-pow, first-in, first-out, rest-in, rest-out, filter-map}

@@ -7,7 +7,7 @@ use Rattle.std.proofs.lemmas.Nat.Bits.{bit_at-suc, same_from_bits_below}
 use Rattle.council_game.specs.Votes.{has, without}
 use Rattle.council_game.specs.Ranks.{member_at}
 use Rattle.council_game.specs.Game.{GameView}
-use Rattle.council_game.proofs.Digits.{has-kept, has-gone}
+use Rattle.coalitions.proofs.Digits.{has-kept, has-gone}
 use Rattle.council_game.proofs.Making.{RanksAre}
 use Rattle.power_index.specs.Counting.{contains}
 

@@ -9,7 +9,7 @@ use Rattle.std.proofs.Math.Pow.{pow_mono}
 use Rattle.std.proofs.lemmas.Nat.{shr-shr}
 use Rattle.std.proofs.lemmas.Nat.Bits.{bit_at-trailing_zeros}
 use Rattle.council_game.specs.Votes.{RuleView, Votes, IsRule, IsVotes, IsRanked, has, without, weight, wins, minimal}
-use Rattle.council_game.proofs.Digits.{has-kept, has-gone, has-none, lowest-place, lowest-cleared, without-less}
+use Rattle.coalitions.proofs.Digits.{has-kept, has-gone, has-none, lowest-place, lowest-cleared, without-less}
 use Rattle.council_game.proofs.GameTests.{sum-without}
 use Rattle.council_game.proofs.Meanings.{needs-each-member}
 use Rattle.mwc_walk.specs.declared.lane.Lane.{Lane}

@@ -16,7 +16,7 @@ use Rattle.council_game.proofs.Making.{ranks-are}
 use Rattle.council_game.proofs.RankPlaces.{game-rank_places}
 use Rattle.power_index.specs.Counting.{members, contains, size_of, count_of_member}
 use Rattle.power_index.specs.Indices.{sizes_of_member}
-use Rattle.council_game.proofs.Digits.{lowest-place}
+use Rattle.coalitions.proofs.Digits.{lowest-place}
 use Rattle.power_index.proofs.Sums.{exchange, length-filter-le}
 
 pub few-members : (g : GameView) → IsGame g → length g.names ≤ 40

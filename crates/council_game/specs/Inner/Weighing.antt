@@ -11,4 +11,4 @@ votes n rules = record { members = n; rules = rule_views rules }
 
 abbrev pub IsWeighed : List RuleView → Weighed → Type 0
 IsWeighed rs w =
-    (r : ℕ) → r < length rs → slice_index w.sums r ≡ weight (rule_at rs r).weights w.mask
+    (r : ℕ) → r < length rs → slice_index w.sums r ≡ weight (rule_at rs r).weights w.coalition

@@ -11,7 +11,7 @@ pub returns-then-not-wins_weighed : goal.returns-then-not-wins_weighed
 returns-then-not-wins_weighed c =
     let lost = ap (wins (rule_views c.args.rules.now)) (sym c.weigh-weighed.ensures.same) ∙ sym c.wins_weighed.ensures
     ∙ c.if-not-wins_weighed.true in
-    lost-not_minimal (votes c.args.members c.args.rules.now) c.args.mask lost
+    lost-not_minimal (votes c.args.members c.args.rules.now) c.args.coalition lost
 
 pub loop-place-init : goal.loop-place-init
 loop-place-init c = λ p below. absurd (omega arith)
@@ -20,7 +20,7 @@ pub returns-then-wins_without : goal.returns-then-wins_without
 returns-then-wins_without c =
     let won = ap (λ (m : ℕ). wins (rule_views c.args.rules.now) (without c.args.members c.loop-place.place m))
     (sym c.weigh-weighed.ensures.same) ∙ sym c.wins_without.ensures ∙ c.if-wins_without.true in
-    sym (not-minimal (votes c.args.members c.args.rules.now) c.args.mask c.loop-place.place c.loop-place-test.true
+    sym (not-minimal (votes c.args.members c.args.rules.now) c.args.coalition c.loop-place.place c.loop-place-test.true
     (sym c.has.ensures ∙ c.if-has.true) won)
 
 pub loop-place-preserved : goal.loop-place-preserved
@@ -29,11 +29,11 @@ loop-place-preserved c =
       | else-has-via-then-has+else-wins_without w ↦
           let lost = ap (λ (m : ℕ). wins (rule_views c.args.rules.now) (without c.args.members c.loop-place.place m))
           (sym c.weigh-weighed.ensures.same) ∙ sym w.wins_without.ensures ∙ w.if-wins_without.false in
-          below_more (λ p. has c.args.members p c.args.mask ≡ true
-          → wins (rule_views c.args.rules.now) (without c.args.members p c.args.mask) ≡ false) _ c.loop-place.invariant (λ inside. lost)
+          below_more (λ p. has c.args.members p c.args.coalition ≡ true
+          → wins (rule_views c.args.rules.now) (without c.args.members p c.args.coalition) ≡ false) _ c.loop-place.invariant (λ inside. lost)
       | else-has-via-else-has w ↦
-          below_more (λ p. has c.args.members p c.args.mask ≡ true
-          → wins (rule_views c.args.rules.now) (without c.args.members p c.args.mask) ≡ false) _ c.loop-place.invariant
+          below_more (λ p. has c.args.members p c.args.coalition ≡ true
+          → wins (rule_views c.args.rules.now) (without c.args.members p c.args.coalition) ≡ false) _ c.loop-place.invariant
           (λ inside. absurd (both_ways _ (sym c.has.ensures ∙ w.if-has.false) inside))
     ]
 
@@ -41,4 +41,4 @@ pub returns : goal.returns
 returns c =
     let won = ap (wins (rule_views c.args.rules.now)) (sym c.weigh-weighed.ensures.same) ∙ sym c.wins_weighed.ensures
     ∙ c.if-not-wins_weighed.false in
-    is-minimal (votes c.args.members c.args.rules.now) c.args.mask c.loop-place.place (omega arith) won c.loop-place.invariant
+    is-minimal (votes c.args.members c.args.rules.now) c.args.coalition c.loop-place.place (omega arith) won c.loop-place.invariant

@@ -5,5 +5,5 @@ use Rattle.council_game.proofs.winning.is_minimal.Given as goal
 
 abbrev pub invariant-loop-place : goal.invariant-loop-place
 invariant-loop-place l =
-    (p : ℕ) → p < l.place → has l.members p l.mask ≡ true
-    → wins (rule_views l.rules) (without l.members p l.mask) ≡ false
+    (p : ℕ) → p < l.place → has l.members p l.coalition ≡ true
+    → wins (rule_views l.rules) (without l.members p l.coalition) ≡ false

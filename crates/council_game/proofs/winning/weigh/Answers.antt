@@ -18,8 +18,8 @@ loop-r-preserved c =
     let at = rule-at c.args.rules.now c.loop-r.r c.index-rules-r.result (omega arith) c.index-rules-r.is in
     let few = c.requires.few_rules in
     let count = count-rules c.args.rules.now in
-    let here = c.weight_of.ensures ∙ ap (λ (l : List ℕ). weight l c.args.mask) c.deref.ensures.value
-    ∙ ap (λ (r : RuleView). weight r.weights c.args.mask) (sym at) in
+    let here = c.weight_of.ensures ∙ ap (λ (l : List ℕ). weight l c.args.coalition) c.deref.ensures.value
+    ∙ ap (λ (r : RuleView). weight r.weights c.args.coalition) (sym at) in
     record {
       long = length-set _ _ _ ∙ c.loop-r.invariant.long;
       done = below_more _ _

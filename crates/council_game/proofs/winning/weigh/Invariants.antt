@@ -6,5 +6,5 @@ use Rattle.council_game.proofs.winning.weigh.Given as goal
 abbrev pub invariant-loop-r : goal.invariant-loop-r
 invariant-loop-r l = record {
   long : length l.sums ≡ 4;
-  done : (k : ℕ) → k < l.r → slice_index l.sums k ≡ weight (rule_at (rule_views l.rules) k).weights l.mask;
+  done : (k : ℕ) → k < l.r → slice_index l.sums k ≡ weight (rule_at (rule_views l.rules) k).weights l.coalition;
 }

@@ -3,4 +3,4 @@ use Rattle.council_game.specs.Votes.{weight}
 use Rattle.council_game.proofs.winning.weight_of.Given as goal
 
 abbrev pub invariant-loop-place : goal.invariant-loop-place
-invariant-loop-place l = l.sum ≡ weight (take l.place l.weights) (l.mask / 2 ^ (l.members - l.place))
+invariant-loop-place l = l.sum ≡ weight (take l.place l.weights) (l.coalition / 2 ^ (l.members - l.place))

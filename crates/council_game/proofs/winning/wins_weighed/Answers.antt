@@ -11,15 +11,15 @@ loop-r-init c = refl
 pub returns-then-weighed-r : goal.returns-then-weighed-r
 returns-then-weighed-r c =
     let sum = c.requires.weighed c.loop-r.r (omega (arith, count-rules c.args.rules.now)) in
-    sym (lost-at c.args.rules.now c.loop-r.r c.args.weighed.now.mask _ c.index-rules-r.result
+    sym (lost-at c.args.rules.now c.loop-r.r c.args.weighed.now.coalition _ c.index-rules-r.result
     (omega arith) c.index-rules-r.is sum c.if-weighed-r.true)
 
 pub loop-r-preserved : goal.loop-r-preserved
 loop-r-preserved c =
     let sum = c.requires.weighed c.loop-r.r (omega (arith, count-rules c.args.rules.now)) in
-    won-at c.args.rules.now c.loop-r.r c.args.weighed.now.mask _ c.index-rules-r.result
+    won-at c.args.rules.now c.loop-r.r c.args.weighed.now.coalition _ c.index-rules-r.result
     (omega arith) c.index-rules-r.is sum c.loop-r.invariant c.if-weighed-r.false
 
 pub returns : goal.returns
-returns c = sym (wins-all (rule_views c.args.rules.now) c.loop-r.r c.args.weighed.now.mask
+returns c = sym (wins-all (rule_views c.args.rules.now) c.loop-r.r c.args.weighed.now.coalition
     (omega (arith, count-rules c.args.rules.now)) c.loop-r.invariant)

@@ -11,7 +11,7 @@ loop-r-init c = refl
 pub returns-then-saturating_sub-rule : goal.returns-then-saturating_sub-rule
 returns-then-saturating_sub-rule c =
     let sum = c.requires.weighed c.loop-r.r (omega (arith, count-rules c.args.rules.now)) in
-    let less = less-at c.args.members c.args.rules.now c.loop-r.r c.args.weighed.now.mask c.args.place _ c.index.result.now
+    let less = less-at c.args.members c.args.rules.now c.loop-r.r c.args.weighed.now.coalition c.args.place _ c.index.result.now
     c.saturating_sub.result c.index-rules-r.result
     c.requires.votes (omega arith) c.index-rules-r.is c.requires.place c.requires.inside sum c.index.ensures c.saturating_sub.ensures in
     sym (lost-at c.args.rules.now c.loop-r.r _ c.saturating_sub.result c.index-rules-r.result
@@ -20,7 +20,7 @@ returns-then-saturating_sub-rule c =
 pub loop-r-preserved : goal.loop-r-preserved
 loop-r-preserved c =
     let sum = c.requires.weighed c.loop-r.r (omega (arith, count-rules c.args.rules.now)) in
-    let less = less-at c.args.members c.args.rules.now c.loop-r.r c.args.weighed.now.mask c.args.place _ c.index.result.now
+    let less = less-at c.args.members c.args.rules.now c.loop-r.r c.args.weighed.now.coalition c.args.place _ c.index.result.now
     c.saturating_sub.result c.index-rules-r.result
     c.requires.votes (omega arith) c.index-rules-r.is c.requires.place c.requires.inside sum c.index.ensures c.saturating_sub.ensures in
     won-at c.args.rules.now c.loop-r.r _ c.saturating_sub.result c.index-rules-r.result

@@ -1,7 +1,7 @@
 use Rattle.std.proofs.Common.{◌≡◌, ℕ, true, length, get_or, ap, ◌∙◌, subst, arith}
 use Rattle.std.proofs.lemmas.Nat.{pow_pos}
 use Rattle.council_game.specs.Votes.{has}
-use Rattle.council_game.proofs.Digits.{has-none}
+use Rattle.coalitions.proofs.Digits.{has-none}
 use Rattle.council_game.proofs.Named.{taken-in}
 use Rattle.council_game.proofs.game.Game.coalition_of.Goals as goal
 

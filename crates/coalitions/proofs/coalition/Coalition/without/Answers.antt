@@ -1,9 +1,9 @@
 use Rattle.std.proofs.Common.{sym, ◌∙◌}
 use Rattle.std.proofs.lemmas.Bool.{cond-true}
-use Rattle.council_game.specs.Votes.{without}
-use Rattle.council_game.proofs.Sizes.{digit-shifted, has-least}
-use Rattle.council_game.proofs.Digits.{has-gone, has-kept}
-use Rattle.council_game.proofs.coalition.Coalition.without.Goals as goal
+use Rattle.coalitions.specs.Coalitions.{without}
+use Rattle.coalitions.proofs.Sizes.{digit-shifted, has-least}
+use Rattle.coalitions.proofs.Digits.{has-gone, has-kept}
+use Rattle.coalitions.proofs.coalition.Coalition.without.Goals as goal
 
 pub overflow_sub-self-inside : goal.overflow_sub-self-inside
 overflow_sub-self-inside c =

@@ -1,8 +1,7 @@
 //! Coalitions.
 ghost use Rattle.std.specs.Prelude.{◌≡◌, ◌≢◌, ◌^◌, ◌<◌, ◌≤◌, ◌-◌, ℕ, cond, false, true};
-ghost use Rattle.council_game.specs.Votes.{has, without, size};
+ghost use Rattle.coalitions.specs.Coalitions.{has, without, size};
 
-use crate::winning::has;
 use std::marker::Model;
 
 /// A set of members. It is held as its rank mask, a number of 40 binary digits: among n members, the
@@ -48,7 +47,7 @@ impl Coalition {
         requires place { place < members }
         ensures { result ≡ has members place self }
     {
-        has(members, place, self.mask)
+        (self.mask >> (members - 1 - place)) % 2 == 1
     }
 
     /// In a game of so many members, at most 40, the coalition with the member of this rank place besides;

@@ -1,7 +1,7 @@
 use Rattle.std.proofs.Common.{sym, ◌∙◌}
-use Rattle.council_game.proofs.Sizes.{digit-shifted}
-use Rattle.council_game.proofs.Digits.{has-added, has-beside, added-below, added-room}
-use Rattle.council_game.proofs.coalition.Coalition.with.Goals as goal
+use Rattle.coalitions.proofs.Sizes.{digit-shifted}
+use Rattle.coalitions.proofs.Digits.{has-added, has-beside, added-below, added-room}
+use Rattle.coalitions.proofs.coalition.Coalition.with.Goals as goal
 
 pub invariant_of-result : goal.invariant_of-result
 invariant_of-result c =

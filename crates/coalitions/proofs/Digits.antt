@@ -7,7 +7,7 @@ use Rattle.std.proofs.lemmas.Nat.{pow_pos, pow-add, mul-le, div-mul-add, and_blo
 use Rattle.std.proofs.lemmas.Bool.{cases_lt, eqb-true, eqb-false}
 use Rattle.std.proofs.Math.Nat.{mod-lt, div-add-mod}
 use Rattle.std.proofs.Math.Pow.{pow_mono}
-use Rattle.council_game.specs.Votes.{has, without}
+use Rattle.coalitions.specs.Coalitions.{has, without}
 
 -- a number whose digit k is 1, with that digit and without
 record Split (c k : ℕ) : Type 0 where

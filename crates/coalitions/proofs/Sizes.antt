@@ -6,7 +6,7 @@ use Rattle.std.specs.Int.Count.{ones-ones}
 use Rattle.std.proofs.Math.Nat.{mod-eq_of_lt, mod-lt, div-mul-le_self, mul-le-mul_right}
 use Rattle.std.proofs.lemmas.Nat.{pow_pos}
 use Rattle.std.proofs.lemmas.Bool.{cond_both, eqb-true, eqb-false}
-use Rattle.council_game.specs.Votes.{has, size}
+use Rattle.coalitions.specs.Coalitions.{has, size}
 
 bit-ones : (b : ℕ) → b < 2 → count_ones b ≡ b
 bit-ones zero h = let le = ones-le 0 0 (omega arith) in omega arith

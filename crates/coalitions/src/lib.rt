@@ -1,0 +1,9 @@
+//! Coalitions, and what every crate shares: want of memory, and the limits. `council_game` passes them on.
+#![tactic(auto)]
+
+mod coalition;
+pub mod limits;
+mod memory;
+
+pub use coalition::Coalition;
+pub use memory::Memory;
