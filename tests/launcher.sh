@@ -49,10 +49,11 @@ chmod +x "$temp/kit/rt"
 echo "kit one" >"$temp/version"
 echo none >"$temp/fails"
 
-# Runs the copy from another folder; what it asked the toolchain for goes to $temp/asked.
+# Runs the copy from another folder, with the toolchain of a folder; what it asked it for goes to $temp/asked.
+kit=$temp/kit
 use() {
     : >"$temp/asked"
-    PATH=$temp/kit:$PATH timeout "$seconds" "$copy/council" >"$temp/out" 2>"$temp/err" </dev/null
+    PATH=$kit:$PATH timeout "$seconds" "$copy/council" >"$temp/out" 2>"$temp/err" </dev/null
     status=$?
 }
 
@@ -98,7 +99,48 @@ asked_for "another toolchain builds" "version lib:low lib:high run version "
 use
 use
 asked_for "and is then the one that built" ""
-rm "$temp/kit/rt"
+
+# ---- with the whole of a toolchain each library is proved once, and a program is built of their statements
+whole=$temp/whole
+mkdir -p "$whole/bin" "$whole/c" "$whole/logic_built" "$whole/rlibs" "$whole/rattle/logic" "$whole/toolchain"
+echo "kit two" >"$whole/KIT-ID"
+touch "$whole/rattle/logic/antt-project.json"
+cp "$temp/kit/rt" "$whole/bin/rt"
+cat >"$whole/bin/rattle" <<END
+#!/bin/sh
+case " \$* " in
+*" --statements "*) what=statements ;;
+*) what=program ;;
+esac
+echo "\$what:\$3" >>"$temp/asked"
+while [ "\$1" != -o ]; do shift; done
+touch "\$2"
+END
+cat >"$whole/bin/rattle-link" <<END
+#!/bin/sh
+echo link >>"$temp/asked"
+while [ "\$1" != -o ]; do shift; done
+printf '#!/bin/sh\necho built\n' >"\$2"
+chmod +x "\$2"
+END
+chmod +x "$whole/bin/rattle" "$whole/bin/rattle-link"
+kit=$whole/bin
+rm -rf "$copy"/crates/*/out
+use
+asked_for "a first use proves each library once" "statements:low statements:high program:council link version "
+echo "// another text" >>"$copy/crates/high/src/lib.rt"
+touch -d '1 hour' "$copy/crates/high/src/lib.rt"
+use
+asked_for "a library that has another text is proved again, and none below it" "statements:high program:council link version "
+touch -d '1 hour ago' "$copy/crates/high/src/lib.rt"
+mkdir -p "$copy/crates/low/out/incremental"
+touch -d '1 hour' "$copy/crates/council/src/main.rt"
+use
+asked_for "where work is kept, it is kept on" "lib:low lib:high run version "
+touch -d '1 hour ago' "$copy/crates/council/src/main.rt"
+
+# ---- without a toolchain
+rm "$kit/rt"
 PATH=/usr/bin:/bin use
 if [ "$status" -eq 0 ]; then ok "a built program runs without a toolchain"; else failed "a built program runs without a toolchain" "status $status"; fi
 rm "$copy/crates/council/out/council"

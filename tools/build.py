@@ -1,19 +1,25 @@
 #!/usr/bin/env python3
 """Proves what the program stands on, side by side, and builds the program.
 
-    tools/build.py
+    tools/build.py [--keep]
 
-`rt` itself proves one library after the other, since each of its runs keeps all others out of the folders
-of the libraries below. So each library is proved in a room of its own, crates/council/out/rooms/NAME,
-with the libraries below it as they were built, and what was kept of the work goes back to crates/NAME/out,
-where every other command of `rt` finds it. What did not change since an earlier run is not proved again.
-After an interrupt, what was proved by then stays.
+For whoever wants the program, each library is proved once, from nothing, as `rt ci` does it: what is built of it
+holds its statements, and not its proofs, so that the crates above have a fifth less work. It stands in
+crates/NAME/out/statements, and is proved again where its text or that of a library below has changed.
 
-As many libraries are proved at once as there are processors, and memory for (some 3 GB each). What only the
-program waits for gives way to all others, and has a lane more. The log goes to crates/council/out/build.log, and a
+For whoever works on the sources (--keep, or where an earlier run of `rt` has kept work) it is `rt lib` that proves
+each, and keeps its work: more at first, and after a change only what changed. `rt` itself proves one library after
+the other, since each of its runs keeps all others out of the folders of the libraries below. So each has a room
+of its own, crates/council/out/rooms/NAME, with the libraries below it as they were built, and what was kept goes
+back to crates/NAME/out, where every other command of `rt` finds it.
+
+After an interrupt, what was proved by then stays. As many libraries are proved at once as there are processors, and memory for (some 3 GB each). What only the
+program waits for, and does not take long, gives way to all others, and has a lane more: it fills the time in which
+the last library is proved. The log goes to crates/council/out/build.log, and a
 line for each library to standard error.
 """
 import fcntl
+import hashlib
 import os
 import re
 import shutil
@@ -30,14 +36,17 @@ ROOMS = f"{OUT}/rooms"
 LOG = f"{OUT}/build.log"
 # what a proof may take
 MEMORY = 3_000_000_000
-# how far a proof gives way to the first one: one that other libraries wait for, and one that only the program waits for
-NICE, NICE_LAST = 10, 12
-# what only the program waits for may use so many lanes beside those that there are processors for
+# how far a proof gives way to the first one: any other, and one that fills the time at the end
+NICE, NICE_LAST = 10, 19
+# what only the program waits for fills the time at the end if it takes at most so many seconds
+FILLS = 100
+# what fills the time at the end may use so many lanes beside those that there are processors for
 MORE_LANES = 1
 # how long the proof of a crate takes on one processor, in seconds
 SECONDS = {
+    "coalitions": 15,
     "council_text": 15,
-    "council_game": 65,
+    "council_game": 80,
     "council_file": 160,
     "power_index": 45,
     "mwc_walk": 60,
@@ -111,6 +120,12 @@ def hold(names):
     return held
 
 
+def release(held):
+    """Lets other runs into the crates that were held."""
+    while held:
+        os.close(held.pop())
+
+
 def bring_back(name):
     """Puts what was kept of a crate's work from its room to its folder."""
     kept, own = f"{ROOMS}/{name}/crates/{name}/out", f"{TOP}/crates/{name}/out"
@@ -137,34 +152,111 @@ def make_room(name, lines):
     return f"{room}/crates/{name}"
 
 
-def prove(name, lines, nice, jobs):
-    """Proves a library, by so many jobs or else as many as `rt` chooses, which give way to others by so much; its status."""
+def do(words, folder, name, nice=0):
+    """Does a command in a folder, which gives way to others by so much; what it says goes to the log of a crate. Its status."""
+    with open(f"{ROOMS}/{name}.log", "a", encoding="utf-8") as log:
+        how = {"cwd": folder, "stdin": subprocess.DEVNULL, "stdout": log, "stderr": subprocess.STDOUT}
+        proof = subprocess.Popen(["nice", "-n", str(nice), *words], **how)
+        PROOFS.append(proof)
+        return proof.wait()
+
+
+def prove_and_keep(name, lines, nice, jobs):
+    """Proves a library by `rt lib`, by so many jobs or else as many as it chooses, which give way to others by so much; its status."""
     folder = make_room(name, lines)
     try:
-        with open(f"{ROOMS}/{name}.log", "w", encoding="utf-8") as log:
-            words = ["nice", "-n", str(nice), "rt", "lib", *["--jobs", str(jobs)] * (jobs > 0)]
-            proof = subprocess.Popen(words, cwd=folder, stdin=subprocess.DEVNULL, stdout=log, stderr=subprocess.STDOUT)
-            PROOFS.append(proof)
-            return proof.wait()
+        return do(["rt", "lib", *["--jobs", str(jobs)] * (jobs > 0)], folder, name, nice)
     finally:
         bring_back(name)
 
 
+def kit():
+    """The folder of the toolchain, where all that a proof without `rt` needs is in its place; else none."""
+    found = os.path.dirname(os.path.dirname(os.path.realpath(shutil.which("rt") or "rt")))
+    parts = ("KIT-ID", "bin/rattle", "bin/rattle-link", "c", "logic_built", "rlibs", "rattle/logic/antt-project.json", "toolchain")
+    return found if all(os.path.exists(f"{found}/{it}") for it in parts) else None
+
+
+def statements(name):
+    """What is built of a library."""
+    return f"{TOP}/crates/{name}/out/statements/{name}.rlib"
+
+
+def sum_of(name, lines):
+    """A sum of all that a crate is proved from."""
+    sum = hashlib.sha256(repr([lines[it] for it in [*below(name, lines), name]]).encode())
+    files = [f"{kit()}/KIT-ID"]
+    for it in [*below(name, lines), name]:
+        for part in ("src", "specs", "proofs"):
+            files += sorted(f"{at}/{file}" for at, _, found in os.walk(f"{TOP}/crates/{it}/{part}") for file in found)
+    for file in files:
+        with open(file, "rb") as it:
+            sum.update(repr((file.replace(TOP, ""), it.read())).encode())
+    return sum.hexdigest()
+
+
+def words_of(name, lines, root):
+    """What the prover is told of a crate: its root, its libraries, and the logic."""
+    own = lines[name].split(":")[1].split()
+    words = ["--crate-name", name, root]
+    for it in ["std", *own]:
+        words += ["--extern", f"{it}={statements(it) if it in lines else f'{kit()}/rlibs/{it}.rlib'}"]
+    for it in below(name, lines):
+        words += ["-L", f"dependency={os.path.dirname(statements(it))}"]
+    words += ["-L", f"dependency={kit()}/rlibs", "--antt-project", f"{kit()}/rattle/logic/antt-project.json"]
+    return [*words, "--logic-built", f"{kit()}/logic_built", "--links", f"{name}="]
+
+
+def prove_once(name, lines, nice, jobs):
+    """Proves a library from nothing, unless it is proved, by so many jobs or else one for each processor; its status."""
+    made, sum = os.path.dirname(statements(name)), sum_of(name, lines)
+    if os.path.isfile(f"{made}/sum"):
+        with open(f"{made}/sum", encoding="utf-8") as it:
+            if it.read() == sum:
+                return 0
+    shutil.rmtree(made, ignore_errors=True)
+    os.makedirs(made)
+    words = [f"{kit()}/bin/rattle", "build", *words_of(name, lines, "src/lib.rt"), "--jobs", str(jobs or lanes()[0])]
+    status = do([*words, "--statements", "-o", statements(name)], f"{TOP}/crates/{name}", name, nice)
+    if status == 0 and sum == sum_of(name, lines):
+        with open(f"{made}/sum", "w", encoding="utf-8") as it:
+            it.write(sum)
+    return status
+
+
+def build_once(lines):
+    """Proves the program over what was built of its libraries, and makes it; the status."""
+    folder, to = f"{TOP}/crates/{PROGRAM}", f"out/{PROGRAM}"
+    words = [f"{kit()}/bin/rattle", "build", *words_of(PROGRAM, lines, "src/main.rt"), "--jobs", str(lanes()[0])]
+    link = [f"{kit()}/bin/rattle-link", "--target", "x86_64-unknown-linux-gnu", "--toolchain", f"{kit()}/toolchain", "-o", to, f"{to}.o"]
+    return (
+        do([*words, "--toolchain", f"{kit()}/toolchain", "-o", f"{to}.o"], folder, PROGRAM)
+        or do([*link, f"{kit()}/c/libos_c.a", f"{kit()}/c/liblibc_c.a"], folder, PROGRAM)
+        or do([to, "--version"], folder, PROGRAM)
+    )
+
+
+def log_of(name):
+    """Puts the log of a crate behind the others."""
+    with open(f"{ROOMS}/{name}.log", encoding="utf-8", errors="replace") as log, open(LOG, "a", encoding="utf-8") as whole:
+        whole.write(f"== {name}\n{log.read()}")
+
+
 def plan(names, lines):
-    """The libraries in the order in which they begin, with how far each gives way: what others wait for comes before
-    what only the program waits for, and among each the one with the longest chain above it."""
+    """The libraries in the order in which they begin, with how far each gives way: what fills the time at the end comes
+    last, and among the others the one with the longest chain above it first."""
     behind, nice = {name: cost(name) for name in names}, {}
     for name in reversed(names):
         above = [behind[it] for it in names if name in below(it, lines)]
         behind[name] += max(above, default=0)
-        nice[name] = NICE if above else NICE_LAST
+        nice[name] = NICE if above or cost(name) > FILLS or name == names[-1] else NICE_LAST
     return sorted(names, key=lambda it: (nice[it], -behind[it])), nice
 
 
-def prove_all(names, lines):
+def prove_all(names, lines, prove):
     """Proves the libraries, each after those below it; whether all were. The one with the longest chain above it
-    begins at once, and the others give way to it. It has two jobs, and as many as `rt` chooses where no other can run that
-    others wait for: each further job is work of its own, since it reads the statements below once more."""
+    begins at once, and the others give way to it. It has a second job where a processor is free, and one for each where no
+    other can run: each further job is work of its own, since it reads the statements below once more."""
     left, nice = plan(names, lines)
     few, all_lanes = lanes()
     running, done, start, first = {}, [], time.time(), None
@@ -174,12 +266,12 @@ def prove_all(names, lines):
             for name in ready:
                 if not first and few > 1 and name == left[0]:
                     first = name
-                # what only the program waits for takes no lane of the others, but what they leave of the processors
+                # what fills the time at the end takes no lane of the others, but what they leave of the processors
                 others = sum(nice[it] == NICE for it in running.values())
                 has_lane = len(running) < all_lanes and (others < few or nice[name] != NICE)
                 if name == first:
-                    alone = not others and all(it == name or nice[it] != NICE for it in ready)
-                    how = (0, 0 if alone else 2)
+                    beside = others + sum(it in left and it != name and nice[it] == NICE for it in ready)
+                    how = (0, 0 if not beside else 2 if beside + 1 < few else 1)
                 else:
                     how = (nice[name], 1)
                 if name == first or has_lane:
@@ -188,8 +280,8 @@ def prove_all(names, lines):
             for it in wait(running, return_when=FIRST_COMPLETED).done:
                 name = running.pop(it)
                 first = None if name == first else first
-                with open(f"{ROOMS}/{name}.log", encoding="utf-8", errors="replace") as log, open(LOG, "a", encoding="utf-8") as whole:
-                    whole.write(f"== {name}\n{log.read()}")
+                open(f"{ROOMS}/{name}.log", "a", encoding="utf-8").close()
+                log_of(name)
                 if it.result():
                     say(f"{name} was not proved")
                     left.clear()
@@ -221,19 +313,21 @@ def main():
             bring_back(name)
         shutil.rmtree(ROOMS, ignore_errors=True)
     os.makedirs(ROOMS)
+    keeps = "--keep" in sys.argv[1:] or not kit() or any(os.path.isdir(f"{TOP}/crates/{it}/out/incremental") for it in names)
     try:
-        if not prove_all(names, lines):
+        if not prove_all(names, lines, prove_and_keep if keeps else prove_once):
             return 1
+        if not keeps:
+            status = build_once(lines)
+        else:
+            # `rt` takes these crates for itself
+            release(held)
+            status = do(["rt", "run", "--", "--version"], f"{TOP}/crates/{PROGRAM}", PROGRAM)
+        log_of(PROGRAM)
+        return status
     finally:
         shutil.rmtree(ROOMS, ignore_errors=True)
-        for folder in held:
-            os.close(folder)
-    with open(LOG, "a", encoding="utf-8") as log:
-        log.write(f"== {PROGRAM}\n")
-        log.flush()
-        words = ["rt", "run", "--", "--version"]
-        status = subprocess.run(words, cwd=f"{TOP}/crates/{PROGRAM}", stdin=subprocess.DEVNULL, stdout=log, stderr=log).returncode
-    return status
+        release(held)
 
 
 sys.exit(main())
