@@ -5,16 +5,17 @@ use Rattle.std.proofs.Math.Bool.{or-false}
 use Rattle.std.proofs.lemmas.List.{length-set, map-set, get_or-set_other, length-map, get_or_default}
 use Rattle.std.proofs.lemmas.List.Elements.{All-set, All-head, All-tail}
 use Rattle.mwc_parts.specs.Slicing.{Slicing}
-use Rattle.mwc_parts.specs.Inner.Dealing.{Seat, DealsInTurn, TakesTurn, DealsOneEach, IsFresh, is_ill}
+use Rattle.mwc_parts.specs.Inner.Dealing.{DeskView, DealsInTurn, TakesTurn, DealsOneEach, IsFresh, is_ill}
 use Rattle.mwc_parts.proofs.Turns as turns
 use Rattle.mwc_parts.proofs.Firsts as firsts
 use Rattle.mwc_gather.specs.declared.promise.Task.{Task}
 use Rattle.mwc_gather.specs.declared.desk.Desk.{Desk}
 use Rattle.mwc_gather.specs.Inner.Orders.{slicing_of}
-use Rattle.mwc_gather.specs.Inner.Desks.{IsOf, AllOf, seat, seats, DealsTo, DealsFirst}
+use Rattle.mwc_gather.specs.Inner.Desks.{IsOf, AllOf, view_of, views_of, DealsTo, DealsFirst}
 
-seat_at : (desks : List Desk) (i : ℕ) (d : Desk) → i < length desks → d ≡ get_or desks i d → seat d ≡ get_or (seats desks) i (seat d)
-seat_at desks i d l e = turns.map_at seat desks i d (seat d) l e
+view_at : (desks : List Desk) (i : ℕ) (d : Desk) → i < length desks → d ≡ get_or desks i d
+    → view_of d ≡ get_or (views_of desks) i (view_of d)
+view_at desks i d l e = turns.map_at view_of desks i d (view_of d) l e
 
 all_of_set : (g : Slicing) (most : ℕ) (desks : List Desk) (i : ℕ) (d t : Desk) → i < length desks → d ≡ get_or desks i d
     → t.worker.promise ≡ d.worker.promise → AllOf g most desks → AllOf g most (set desks i t)
@@ -23,59 +24,59 @@ all_of_set g most desks i d t l e p a =
     let o : P d = subst P (sym e) (a i d l) in
     All-set P desks i t (ap (λ (x : Task). slicing_of x.order) p ∙ o.0, ap (λ (x : Task). x.order.most) p ∙ o.1) a
 
-fresh_at : (desks : List Desk) → All IsFresh (seats desks) → (k : ℕ) (d : Desk) → k < length desks → IsFresh (seat (get_or desks k d))
+fresh_at : (desks : List Desk) → All IsFresh (views_of desks) → (k : ℕ) (d : Desk) → k < length desks → IsFresh (view_of (get_or desks k d))
 fresh_at [] f k d l = absurd (omega arith)
-fresh_at (x ∷ desks) f zero d l = All-head IsFresh (seat x) (seats desks) f
-fresh_at (x ∷ desks) f (suc k) d l = fresh_at desks (All-tail IsFresh (seat x) (seats desks) f) k d (omega arith)
+fresh_at (x ∷ desks) f zero d l = All-head IsFresh (view_of x) (views_of desks) f
+fresh_at (x ∷ desks) f (suc k) d l = fresh_at desks (All-tail IsFresh (view_of x) (views_of desks) f) k d (omega arith)
 
 -- a fresh desk does not stop the deal
-pub fresh_goes : (stopped : Bool) (d : Desk) → IsFresh (seat d) → (stopped || is_ill (seat d)) ≡ stopped
-fresh_goes stopped d f = ap (λ (b : Bool). stopped || b) (turns.not_ill (seat d) f.well) ∙ or-false stopped
+pub fresh_goes : (stopped : Bool) (d : Desk) → IsFresh (view_of d) → (stopped || is_ill (view_of d)) ≡ stopped
+fresh_goes stopped d f = ap (λ (b : Bool). stopped || b) (turns.not_ill (view_of d) f.well) ∙ or-false stopped
 
 -- a turn of desk i
 pub turn_of : {g : Slicing} {most : ℕ} {done early stopped stops : Bool} {marks after : List (Option ℕ)} (desks : List Desk) (i : ℕ)
     (x t : Desk) → i < length desks
     → DealsTo g most early marks stopped desks → t.worker.promise ≡ (get_or desks i x).worker.promise
-    → TakesTurn done marks stopped (seat (get_or desks i x)) i after stops (seat t) → DealsTo g most early after stops (set desks i t)
+    → TakesTurn done marks stopped (view_of (get_or desks i x)) i after stops (view_of t) → DealsTo g most early after stops (set desks i t)
 turn_of {g} {most} {done} {early} {stopped} {stops} {marks} {after} desks i x t l h p r =
     let d = get_or desks i x in
     let e = get_or_default desks i x d l in
-    let n = length-map desks seat in
+    let n = length-map desks view_of in
     let same : length (set desks i t) ≡ length desks = length-set desks i t in
-    let dealt = turns.turn (seats desks) i (seat d) (seat t) (omega arith) (seat_at desks i d l e) h.dealing r in
-    let here : DealsInTurn g.slices (length desks) early after stops (seats (set desks i t)) =
-    subst (λ (w : List Seat). DealsInTurn g.slices (length desks) early after stops w) (sym (map-set seat desks i t)) dealt in
+    let dealt = turns.turn (views_of desks) i (view_of d) (view_of t) (omega arith) (view_at desks i d l e) h.dealing r in
+    let here : DealsInTurn g.slices (length desks) early after stops (views_of (set desks i t)) =
+    subst (λ (w : List DeskView). DealsInTurn g.slices (length desks) early after stops w) (sym (map-set view_of desks i t)) dealt in
     record {
       all_of = all_of_set g most desks i d t l e p h.all_of;
-      dealing = subst (λ (k : ℕ). DealsInTurn g.slices k early after stops (seats (set desks i t))) (sym same) here;
+      dealing = subst (λ (k : ℕ). DealsInTurn g.slices k early after stops (views_of (set desks i t))) (sym same) here;
     }
 
 -- the first deal to desk k
 pub first_of_place : {g : Slicing} {most : ℕ} {early stopped stops : Bool} {marks after : List (Option ℕ)} (desks : List Desk) (k : ℕ)
     (x t : Desk) → k < length desks
     → DealsFirst g most early marks stopped k desks → t.worker.promise ≡ (get_or desks k x).worker.promise
-    → TakesTurn false marks stopped (seat (get_or desks k x)) k after stops (seat t)
+    → TakesTurn false marks stopped (view_of (get_or desks k x)) k after stops (view_of t)
     → DealsFirst g most early after stops (k + 1) (set desks k t)
 first_of_place {g} {most} {early} {stopped} {stops} {marks} {after} desks k x t l h p r =
     let d = get_or desks k x in
     let e = get_or_default desks k x d l in
-    let n = length-map desks seat in
+    let n = length-map desks view_of in
     let same : length (set desks k t) ≡ length desks = length-set desks k t in
-    let dealt = firsts.first_turn (seats desks) k (seat d) (seat t) (omega arith) (seat_at desks k d l e)
+    let dealt = firsts.first_turn (views_of desks) k (view_of d) (view_of t) (omega arith) (view_at desks k d l e)
     (h.to_come k x (omega arith) l) h.firsts r in
     record {
       all_of = all_of_set g most desks k d t l e p h.all_of;
-      firsts = subst (λ (w : List Seat). DealsOneEach g.slices (k + 1) early after stops w) (sym (map-set seat desks k t)) dealt;
-      to_come = λ q a low high. subst (λ (x : Desk). IsFresh (seat x)) (sym (get_or-set_other desks k q t a (λ z. omega arith)))
+      firsts = subst (λ (w : List DeskView). DealsOneEach g.slices (k + 1) early after stops w) (sym (map-set view_of desks k t)) dealt;
+      to_come = λ q a low high. subst (λ (x : Desk). IsFresh (view_of x)) (sym (get_or-set_other desks k q t a (λ z. omega arith)))
           (h.to_come q a (omega arith) (omega arith));
     }
 
 pub deal_starts : {g : Slicing} {most : ℕ} (early : Bool) (marks : List (Option ℕ)) (desks : List Desk) → AllOf g most desks
-    → All IsFresh (seats desks) → marks ≡ replicate g.slices None → DealsFirst g most early marks early 0 desks
+    → All IsFresh (views_of desks) → marks ≡ replicate g.slices None → DealsFirst g most early marks early 0 desks
 deal_starts {g} {most} early marks desks a f e = record {
   all_of = a;
-  firsts = subst (λ (m : List (Option ℕ)). DealsOneEach g.slices 0 early m early (seats desks)) (sym e)
-      (firsts.begin g.slices early (seats desks) f);
+  firsts = subst (λ (m : List (Option ℕ)). DealsOneEach g.slices 0 early m early (views_of desks)) (sym e)
+      (firsts.begin g.slices early (views_of desks) f);
   to_come = λ k d low high. fresh_at desks f k d high;
 }
 

@@ -12,7 +12,7 @@ use Rattle.std.proofs.lemmas.List.Sums.{sum_by-cons}
 use Rattle.mwc_parts.specs.Wording.{coalition_count}
 use Rattle.std.specs.List.Sorted.{IsStrictlyIncreasing}
 use Rattle.mwc_parts.specs.Inner.Deals.{AreDealt}
-use Rattle.mwc_parts.specs.Inner.Dealing.{Seat, IsWell, given_slices, IsFresh}
+use Rattle.mwc_parts.specs.Inner.Dealing.{DeskView, IsWell, given_slices, IsFresh}
 use Rattle.mwc_parts.specs.Parts.{IsPart, shares}
 use Rattle.mwc_parts.specs.Fault.{fault_of, also}
 use Rattle.mwc_parts.specs.declared.part.Part.{Part}
@@ -23,7 +23,7 @@ use Rattle.mwc_parts.proofs.Turns as turns
 use Rattle.mwc_parts.proofs.Firsts.{each_within, dealt_total, dealt_increase, share_begins}
 use Rattle.mwc_parts.proofs.Readings.{length-joined}
 use Rattle.mwc_gather.specs.declared.desk.Desk.{Desk}
-use Rattle.mwc_gather.specs.Inner.Desks.{seat, seats, DealsTo, IsPartOfDesk}
+use Rattle.mwc_gather.specs.Inner.Desks.{view_of, views_of, DealsTo, IsPartOfDesk}
 use Rattle.mwc_gather.specs.Inner.Gathering.{all_total, IsComplete}
 
 module _ {X Y : Type 0} where
@@ -33,12 +33,12 @@ module _ {X Y : Type 0} where
 pub desks_within : {g : Slicing} {most : ℕ} {early stopped : Bool} {marks : List (Option ℕ)} (desks : List Desk)
     → DealsTo g most early marks stopped desks → All (λ (d : Desk). coalition_count g d.given.items ≤ all_total g) desks
 desks_within {g} desks h =
-    all_of_map (λ (s : Seat). coalition_count g s.given ≤ all_total g) seat desks
-    (all_of_map (λ (s : List ℕ). coalition_count g s ≤ all_total g) (λ (s : Seat). s.given) (seats desks)
-    (each_within g (seats desks) h.dealing))
+    all_of_map (λ (s : DeskView). coalition_count g s.given ≤ all_total g) view_of desks
+    (all_of_map (λ (s : List ℕ). coalition_count g s ≤ all_total g) (λ (s : DeskView). s.given) (views_of desks)
+    (each_within g (views_of desks) h.dealing))
 
 zip_shares : (g : Slicing) (desks : List Desk) (parts : List Part) → AllZip (IsPartOfDesk g) desks parts
-    → shares parts ≡ given_slices (seats desks)
+    → shares parts ≡ given_slices (views_of desks)
 zip_shares g [] [] z = refl
 zip_shares g [] (p ∷ parts) z = absurd z
 zip_shares g (d ∷ desks) [] z = absurd z
@@ -55,16 +55,16 @@ zip_each R P Q h (x ∷ xs) (y ∷ ys) z =
     let now = h x y z.0 in let rest = zip_each R P Q h xs ys z.1 in
     (All-cons P x xs now.0 rest.0, All-cons Q y ys now.1 rest.1)
 
-zip_well : (g : Slicing) (desks : List Desk) (parts : List Part) → AllZip (IsPartOfDesk g) desks parts → All IsWell (seats desks)
+zip_well : (g : Slicing) (desks : List Desk) (parts : List Part) → AllZip (IsPartOfDesk g) desks parts → All IsWell (views_of desks)
 zip_well g desks parts z =
-    let both = zip_each (IsPartOfDesk g) (λ (d : Desk). IsWell (seat d)) (IsPart g) (λ d p f. (f.well, f.part)) desks parts z in
-    All-map IsWell seat desks both.0
+    let both = zip_each (IsPartOfDesk g) (λ (d : Desk). IsWell (view_of d)) (IsPart g) (λ d p f. (f.well, f.part)) desks parts z in
+    All-map IsWell view_of desks both.0
 
 zip_told : (g : Slicing) (desks : List Desk) (parts : List Part) → AllZip (IsPartOfDesk g) desks parts
-    → All (λ (s : Seat). s.told ≡ true) (seats desks)
+    → All (λ (s : DeskView). s.told ≡ true) (views_of desks)
 zip_told g desks parts z =
     let both = zip_each (IsPartOfDesk g) (λ (d : Desk). d.told ≡ true) (IsPart g) (λ d p f. (f.told, f.part)) desks parts z in
-    All-map (λ (s : Seat). s.told ≡ true) seat desks both.0
+    All-map (λ (s : DeskView). s.told ≡ true) view_of desks both.0
 
 zip_parts : (g : Slicing) (desks : List Desk) (parts : List Part) → AllZip (IsPartOfDesk g) desks parts → All (IsPart g) parts
 zip_parts g desks parts z =
@@ -84,8 +84,8 @@ pub end_dealt : {g : Slicing} {most : ℕ} {early stopped : Bool} {marks : List 
     → DealsTo g most early marks stopped desks → early ≡ false → 0 < length desks → AllZip (IsPartOfDesk g) desks parts
     → AreDealt g.slices (shares parts)
 end_dealt {g} {most} {early} {stopped} {marks} desks parts h e l z =
-    let n = length-map desks seat in
-    let d = turns.all_dealt (seats desks) e (omega arith) h.dealing (zip_well g desks parts z) (zip_told g desks parts z) in
+    let n = length-map desks view_of in
+    let d = turns.all_dealt (views_of desks) e (omega arith) h.dealing (zip_well g desks parts z) (zip_told g desks parts z) in
     subst (λ (s : List (List ℕ)). AreDealt g.slices s) (sym (zip_shares g desks parts z)) d
 
 -- all parts have as many coalitions as the slices
@@ -96,9 +96,10 @@ complete_sum {g} {workers} {parts} c = parts_sum g parts c.are_parts ∙ dealt_t
 pub end_increases : {n : ℕ} (parts : List Part) → AreDealt n (shares parts) → All (λ (p : Part). IsStrictlyIncreasing p.slices.items) parts
 end_increases parts d = all_of_map IsStrictlyIncreasing (λ (p : Part). p.slices.items) parts (dealt_increase d)
 
-pub fresh_push : (desks : List Desk) (d : Desk) → All IsFresh (seats desks) → IsFresh (seat d) → All IsFresh (seats (desks ++ d ∷ []))
+pub fresh_push : (desks : List Desk) (d : Desk) → All IsFresh (views_of desks) → IsFresh (view_of d)
+    → All IsFresh (views_of (desks ++ d ∷ []))
 fresh_push desks d a f =
-    subst (λ (w : List Seat). All IsFresh w) (sym (map_push seat desks d)) (All-push IsFresh (seats desks) (seat d) a f)
+    subst (λ (w : List DeskView). All IsFresh w) (sym (map_push view_of desks d)) (All-push IsFresh (views_of desks) (view_of d) a f)
 
 pub note_many : (m : Met) (why : GatherFault) (P : Type 0) → (why ≡ TooMany → P) → (m.many ≡ true → P) → (also m why).many ≡ true → P
 note_many m TooMany P f h e = f refl
@@ -154,8 +155,8 @@ pub end_begins : {g : Slicing} {most : ℕ} {early stopped : Bool} {marks : List
     → DealsTo g most early marks stopped desks → early ≡ false → AllZip (IsPartOfDesk g) desks parts → (w : ℕ) → w < length desks
     → w < g.slices → slice_get (get_or (shares parts) w []) 0 ≡ Some w
 end_begins {g} desks parts h e z w a b =
-    let n = length-map desks seat in
-    let r = share_begins (seats desks) h.dealing (turns.well_goes_on (seats desks) e h.dealing (zip_well g desks parts z))
+    let n = length-map desks view_of in
+    let r = share_begins (views_of desks) h.dealing (turns.well_goes_on (views_of desks) e h.dealing (zip_well g desks parts z))
     (omega arith) w a b in
     ap (λ (s : List ℕ). slice_get s 0) (ap (λ (s : List (List ℕ)). get_or s w []) (zip_shares g desks parts z) ∙ r.1)
 

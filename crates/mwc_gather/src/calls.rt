@@ -11,7 +11,7 @@ ghost use Rattle.mwc_parts.specs.Settled.{IsDraftOf, HasAllWords};
 ghost use Rattle.mwc_gather.specs.Slicings.{slicing};
 ghost use Rattle.mwc_gather.specs.Sending.{HasWorked};
 ghost use Rattle.mwc_gather.specs.Inner.Orders.{slicing_of};
-ghost use Rattle.mwc_gather.specs.Inner.Desks.{IsOf, seat, IsPartOfDesk, CanEndWith};
+ghost use Rattle.mwc_gather.specs.Inner.Desks.{IsOf, view_of, IsPartOfDesk, CanEndWith};
 
 use crate::desk::Desk;
 use crate::guarded::Gate;
@@ -46,7 +46,7 @@ impl Desk {
         requires worker { worker < 16 }
         requires gate { (j : ℕ) → j < 2 ^ job.now.bits → G.takes worker j }
         ensures order { IfOk result (IsOf (slicing job.now.guarded job.now.bits) job.now.most) }
-        ensures fresh { IfOk result (λ d. IsFresh (seat d)) }
+        ensures fresh { IfOk result (λ d. IsFresh (view_of d)) }
         ensures fault { IfErr result IsEarly }
     {
         let slices = slice_count(job.bits);
@@ -91,8 +91,9 @@ impl Desk {
     pub fn ready(&mut self) -> bool
         ensures worker { self.new.worker.promise ≡ self.old.worker.promise }
         ensures room { IsTrue result → (vec_len self.new.given < vec_capacity self.new.given)
-            × (seat self.new ≡ seat self.old) }
-        ensures lost { IsFalse result → seat self.new ≡ record (seat self.old) { lost = true } }
+            × (view_of self.new ≡ view_of self.old) }
+        ensures lost { IsFalse result
+            → view_of self.new ≡ record (view_of self.old) { lost = true } }
         ensures full { IsFalse result → vec_capacity self.old.given ≤ vec_len self.old.given }
         ensures same { (self.new.words.taken ≡ self.old.words.taken)
             × (self.new.ended ≡ self.old.ended) }
@@ -111,8 +112,8 @@ impl Desk {
         requires told { self.old.told ≡ false }
         requires idle { self.old.idle ≡ true }
         ensures worker { self.new.worker.promise ≡ self.old.worker.promise }
-        ensures given { seat self.new ≡
-            record (seat self.old) { given = self.old.given.items ++ slice ∷ []; idle = false } }
+        ensures given { view_of self.new ≡
+            record (view_of self.old) { given = self.old.given.items ++ slice ∷ []; idle = false } }
         ensures same { (self.new.words.taken ≡ self.old.words.taken)
             × (self.new.ended ≡ self.old.ended) }
     {
@@ -125,7 +126,7 @@ impl Desk {
     pub fn tell<R: Wait>(&mut self, rt: &R, pair: BellPair<'_>)
         requires { self.old.told ≡ false }
         ensures worker { self.new.worker.promise ≡ self.old.worker.promise }
-        ensures told { seat self.new ≡ record (seat self.old) { told = true } }
+        ensures told { view_of self.new ≡ record (view_of self.old) { told = true } }
         ensures same { (self.new.words.taken ≡ self.old.words.taken)
             × (self.new.ended ≡ self.old.ended) }
     {

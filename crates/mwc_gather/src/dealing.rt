@@ -5,7 +5,7 @@ ghost use Rattle.mwc_pipe.specs.declared.word.Word.{Word};
 ghost use Rattle.mwc_parts.specs.Inner.Wording.{is_done};
 ghost use Rattle.mwc_parts.specs.Inner.Dealing.{TakesTurn, IsFresh, is_ill};
 ghost use Rattle.mwc_gather.specs.Inner.Orders.{slicing_of};
-ghost use Rattle.mwc_gather.specs.Inner.Desks.{seat, seats, AllOf, DealsTo, DealsFirst};
+ghost use Rattle.mwc_gather.specs.Inner.Desks.{view_of, views_of, AllOf, DealsTo, DealsFirst};
 
 use crate::desk::Desk;
 use crate::order::Order;
@@ -34,11 +34,11 @@ fn deal<R: Wait>(
 ) -> bool
     requires slices { length marks.old ≡ 2 ^ desk.old.worker.promise.order.bits }
     requires worker { worker < 16 }
-    requires stops { (stopped || is_ill (seat desk.old)) ≡ stopped }
+    requires stops { (stopped || is_ill (view_of desk.old)) ≡ stopped }
     ensures worker { desk.new.worker.promise ≡ desk.old.worker.promise }
     ensures words { desk.new.words.taken ≡ desk.old.words.taken }
-    ensures turns { TakesTurn false marks.old stopped (seat desk.old) worker
-        marks.new result (seat desk.new) }
+    ensures turns { TakesTurn false marks.old stopped (view_of desk.old) worker
+        marks.new result (view_of desk.new) }
 {
     if desk.told {
         return stopped;
@@ -86,8 +86,8 @@ fn turn<R: Wait>(
     requires worker { worker < 16 }
     ensures worker { desk.new.worker.promise ≡ desk.old.worker.promise }
     ensures turns { (words : List Word) × (desk.new.words.taken ≡ desk.old.words.taken ++ words)
-        × TakesTurn (list_any is_done words) marks.old stopped (seat desk.old) worker
-        marks.new result.stopped (seat desk.new) }
+        × TakesTurn (list_any is_done words) marks.old stopped (view_of desk.old) worker
+        marks.new result.stopped (view_of desk.new) }
 {
     let count = desk.read(row);
     if count > 0 {
@@ -112,7 +112,7 @@ fn deal_first<R: Wait>(
 ) -> bool
     requires few { length desks.old ≤ 16 }
     requires all_of { AllOf (slicing_of order.now) order.now.most desks.old }
-    requires fresh { All IsFresh (seats desks.old) }
+    requires fresh { All IsFresh (views_of desks.old) }
     requires marks { marks.old ≡ replicate (2 ^ order.now.bits) None }
     ensures { DealsFirst (slicing_of order.now) order.now.most early
         marks.new result (length desks.old) desks.new }
@@ -173,7 +173,7 @@ pub(crate) fn read_all<R: Wait>(
 ) -> bool
     requires few { length desks.old ≤ 16 }
     requires all_of { AllOf (slicing_of order.now) order.now.most desks.old }
-    requires fresh { All IsFresh (seats desks.old) }
+    requires fresh { All IsFresh (views_of desks.old) }
     requires marks { marks.old ≡ replicate (2 ^ order.now.bits) None }
     ensures { DealsTo (slicing_of order.now) order.now.most early marks.new result desks.new }
 {

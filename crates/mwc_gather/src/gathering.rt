@@ -10,7 +10,7 @@ ghost use Rattle.mwc_parts.specs.Fault.{fault_of};
 ghost use Rattle.mwc_parts.specs.Inner.Fault.{fault_in, also_all};
 ghost use Rattle.mwc_gather.specs.Slicings.{slicing};
 ghost use Rattle.mwc_gather.specs.Inner.Orders.{slicing_of};
-ghost use Rattle.mwc_gather.specs.Inner.Desks.{AllOf, DealsTo, CanEndWith, IsPartOfDesk, HasStarted, seats};
+ghost use Rattle.mwc_gather.specs.Inner.Desks.{AllOf, DealsTo, CanEndWith, IsPartOfDesk, HasStarted, views_of};
 ghost use Rattle.mwc_gather.specs.Gathering.{Gathers};
 ghost use Rattle.mwc_gather.specs.Inner.Gathering.{all_total, IsComplete};
 
@@ -135,7 +135,7 @@ fn open_all<'s, E, R: Threads + Wait + Sync, G: Gate + Sync>(
     ensures all { fault_of result ≡ None → vec_len desks.new ≡ workers }
     ensures met { HasStarted workers (vec_len desks.new) result }
     ensures order { AllOf (slicing job.now.guarded job.now.bits) job.now.most desks.new.items }
-    ensures fresh { All IsFresh (seats desks.new.items) }
+    ensures fresh { All IsFresh (views_of desks.new.items) }
 {
     let mut met = Met::nothing();
     if desks.reserve(usize::from(workers)).is_err() {

@@ -12,21 +12,22 @@ use Rattle.std.specs.List.{sum_by}
 use Rattle.mwc_parts.specs.Inner.Sums.{times_in}
 use Rattle.mwc_parts.specs.Wording.{coalition_count}
 use Rattle.mwc_parts.specs.Inner.Deals.{share_from, share_of, AreDealt}
-use Rattle.mwc_parts.specs.Inner.Dealing.{Seat, IsWell, given_slices, DealsInTurn, TakesTurn, DealsOneEach, IsFresh}
+use Rattle.mwc_parts.specs.Inner.Dealing.{DeskView, IsWell, given_slices, DealsInTurn, TakesTurn, DealsOneEach, IsFresh}
 use Rattle.mwc_parts.proofs.Deals.{shares_sum, each_held_once, held_increases, sum_range_le}
 use Rattle.std.proofs.lemmas.List.Sums.{get_or-le-sum_by}
 use Rattle.mwc_parts.proofs.Turns.{turn_nothing, turn_one, none_free, none_ill, still_held, went_on, share_at}
 
-no_shares : (seats : List Seat) (from : ℕ) → All IsFresh seats → given_slices seats ≡ map (share_of []) (range_with_len from (length seats))
+no_shares : (desks : List DeskView) (from : ℕ) → All IsFresh desks
+    → given_slices desks ≡ map (share_of []) (range_with_len from (length desks))
 no_shares [] from a = refl
-no_shares (s ∷ seats) from a =
-    let h = All-head IsFresh s seats a in
-    ap (λ (x : List ℕ). x ∷ given_slices seats) h.none_given
-    ∙ ap (λ (xs : List (List ℕ)). [] ∷ xs) (no_shares seats (from + 1) (All-tail IsFresh s seats a))
+no_shares (s ∷ desks) from a =
+    let h = All-head IsFresh s desks a in
+    ap (λ (x : List ℕ). x ∷ given_slices desks) h.none_given
+    ∙ ap (λ (xs : List (List ℕ)). [] ∷ xs) (no_shares desks (from + 1) (All-tail IsFresh s desks a))
 
 -- before the first deal
-pub begin : (n : ℕ) (early : Bool) (seats : List Seat) → All IsFresh seats → DealsOneEach n 0 early (replicate n None) early seats
-begin n early seats a = record {
+pub begin : (n : ℕ) (early : Bool) (desks : List DeskView) → All IsFresh desks → DealsOneEach n 0 early (replicate n None) early desks
+begin n early desks a = record {
   deal = record {
     in_order = record {
       holders = [];
@@ -34,10 +35,10 @@ begin n early seats a = record {
       marks_are = refl;
       all_slices = omega arith;
       by_workers = λ k d l. absurd (omega arith);
-      given_are = no_shares seats 0 a;
-      told_late = All-weaker IsFresh (λ (s : Seat). s.told ≡ true → (n ≡ 0) ⊎ (early ≡ true))
-          (λ x h q. absurd (false≢true (sym h.not_told ∙ q))) seats a;
-      stops_are = sym (ap (λ (b : Bool). early || b) (none_ill seats (All-weaker IsFresh IsWell (λ x h. h.well) seats a)) ∙ or-false early);
+      given_are = no_shares desks 0 a;
+      told_late = All-weaker IsFresh (λ (s : DeskView). s.told ≡ true → (n ≡ 0) ⊎ (early ≡ true))
+          (λ x h q. absurd (false≢true (sym h.not_told ∙ q))) desks a;
+      stops_are = sym (ap (λ (b : Bool). early || b) (none_ill desks (All-weaker IsFresh IsWell (λ x h. h.well) desks a)) ∙ or-false early);
       none_early = λ z. refl;
     };
     begins = λ z w l m. absurd (omega arith);
@@ -53,12 +54,12 @@ reached zero n m l h = omega arith
 reached (suc k) n m l h = let q = h k (omega arith) (omega arith) in omega arith
 
 -- the first deal to worker k
-pub first_turn : {n : ℕ} {early stopped stops : Bool} {marks after : List (Option ℕ)} (seats : List Seat) (k : ℕ) (s t : Seat)
-    → k < length seats → s ≡ get_or seats k s → IsFresh s
-    → DealsOneEach n k early marks stopped seats → TakesTurn false marks stopped s k after stops t
-    → DealsOneEach n (k + 1) early after stops (set seats k t)
+pub first_turn : {n : ℕ} {early stopped stops : Bool} {marks after : List (Option ℕ)} (desks : List DeskView) (k : ℕ) (s t : DeskView)
+    → k < length desks → s ≡ get_or desks k s → IsFresh s
+    → DealsOneEach n k early marks stopped desks → TakesTurn false marks stopped s k after stops t
+    → DealsOneEach n (k + 1) early after stops (set desks k t)
 unfolding turn_nothing turn_one
-first_turn {n} {early} {stopped} {stops} seats k s t l e fresh f r =
+first_turn {n} {early} {stopped} {stops} desks k s t l e fresh f r =
     let d = f.deal in let old = d.in_order in let most = f.at_most in
     elim r.gives [
       | inl g ↦
@@ -72,7 +73,7 @@ first_turn {n} {early} {stopped} {stops} seats k s t l e fresh f r =
           ] in
           record {
             deal = record {
-              in_order = turn_nothing seats k s t l e old r g;
+              in_order = turn_nothing desks k s t l e old r g;
               begins = λ z w v u.
                   elim (near w k v) [
                     | inl b ↦ d.begins (went_on s t k r z) w b u
@@ -86,7 +87,7 @@ first_turn {n} {early} {stopped} {stops} seats k s t l e fresh f r =
           let longer : length (hs ++ k ∷ []) ≡ length hs + 1 = length-append hs (k ∷ []) in
           record {
             deal = record {
-              in_order = turn_one seats k s t l e old r g;
+              in_order = turn_one desks k s t l e old r g;
               begins = λ z w v u.
                   let go = went_on s t k r z in
                   elim (near w k v) [
@@ -120,18 +121,18 @@ dealt_increase {n} {shares} d =
     (λ k w l. held_increases (get_or (range_with_len 0 (length shares)) k w) d.holders))
 
 -- no worker was given more than all slices
-pub each_within : {n k : ℕ} {early stopped : Bool} {marks : List (Option ℕ)} (g : Slicing) (seats : List Seat)
-    → DealsInTurn n k early marks stopped seats
-    → All (λ (s : List ℕ). coalition_count g s ≤ coalition_count g (range_with_len 0 n)) (given_slices seats)
-each_within {n} g seats deal =
+pub each_within : {n k : ℕ} {early stopped : Bool} {marks : List (Option ℕ)} (g : Slicing) (desks : List DeskView)
+    → DealsInTurn n k early marks stopped desks
+    → All (λ (s : List ℕ). coalition_count g s ≤ coalition_count g (range_with_len 0 n)) (given_slices desks)
+each_within {n} g desks deal =
     let d = deal.in_order in
-    let a : sum_by (coalition_count g) (given_slices seats) ≡ coalition_count g (range_with_len 0 (length d.holders)) =
-    ap (sum_by (coalition_count g)) d.given_are ∙ shares_sum (λ j. length (g.slice j)) (length seats) d.holders d.by_workers in
+    let a : sum_by (coalition_count g) (given_slices desks) ≡ coalition_count g (range_with_len 0 (length d.holders)) =
+    ap (sum_by (coalition_count g)) d.given_are ∙ shares_sum (λ j. length (g.slice j)) (length desks) d.holders d.by_workers in
     let m : coalition_count g (range_with_len 0 (length d.holders)) ≤ coalition_count g (range_with_len 0 n) =
     sum_range_le (λ j. length (g.slice j)) 0 (length d.holders) n (omega arith) in
-    All-weaker (λ (s : List ℕ). coalition_count g s ≤ sum_by (coalition_count g) (given_slices seats))
-    (λ (s : List ℕ). coalition_count g s ≤ coalition_count g (range_with_len 0 n)) (λ s l. omega arith) (given_slices seats)
-    (get_or-le-sum_by (coalition_count g) (given_slices seats))
+    All-weaker (λ (s : List ℕ). coalition_count g s ≤ sum_by (coalition_count g) (given_slices desks))
+    (λ (s : List ℕ). coalition_count g s ≤ coalition_count g (range_with_len 0 n)) (λ s l. omega arith) (given_slices desks)
+    (get_or-le-sum_by (coalition_count g) (given_slices desks))
 
 -- the first slice that a worker holds
 begins_with : (w j : ℕ) (hs : List ℕ) (m : ℕ) → j + m ≡ w → m < length hs → ((v : ℕ) → v < m + 1 → get_or hs v 0 ≡ j + v) → (rest : List ℕ)
@@ -156,14 +157,14 @@ first_held hs w l h =
     begins_with w 0 hs w (omega arith) l (λ v b. let o = h v b in omega arith)
 
 -- the first slice of worker w is slice w, where there are so many slices and workers
-pub share_begins : {n k : ℕ} {early stopped : Bool} {marks : List (Option ℕ)} (seats : List Seat)
-    → DealsInTurn n k early marks stopped seats → stopped ≡ false → k ≡ length seats → (w : ℕ) → w < k → w < n → (rest : List ℕ)
-    × (get_or (given_slices seats) w [] ≡ w ∷ rest)
-share_begins seats d z e w a b =
+pub share_begins : {n k : ℕ} {early stopped : Bool} {marks : List (Option ℕ)} (desks : List DeskView)
+    → DealsInTurn n k early marks stopped desks → stopped ≡ false → k ≡ length desks → (w : ℕ) → w < k → w < n → (rest : List ℕ)
+    × (get_or (given_slices desks) w [] ≡ w ∷ rest)
+share_begins desks d z e w a b =
     let o = d.begins z w a b in
     let h = first_held d.in_order.holders w o.0 (λ v u. let q = d.begins z v (omega arith) (omega arith) in q.1) in
     let zero : 0 + w ≡ w = omega arith in (
       h.0,
-      ap (λ (s : List (List ℕ)). get_or s w []) d.in_order.given_are ∙ share_at d.in_order.holders 0 (length seats) w (omega arith)
+      ap (λ (s : List (List ℕ)). get_or s w []) d.in_order.given_are ∙ share_at d.in_order.holders 0 (length desks) w (omega arith)
           ∙ ap (share_of d.in_order.holders) zero ∙ h.1,
     )

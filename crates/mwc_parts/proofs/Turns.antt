@@ -10,7 +10,7 @@ use Rattle.std.proofs.lemmas.Bool.{false≢true}
 use Rattle.std.proofs.lemmas.List.Elements.{All-head, All-tail, All-weaker, All-set, All-push}
 use Rattle.mwc_parts.specs.Table.{IsFirstFree}
 use Rattle.mwc_parts.specs.Inner.Deals.{share_of, shares_by, AreDealt}
-use Rattle.mwc_parts.specs.Inner.Dealing.{Seat, IsWell, is_ill, given_slices, DealsInOrder, DealsInTurn, GivesNothing, GivesOne, TakesTurn}
+use Rattle.mwc_parts.specs.Inner.Dealing.{DeskView, IsWell, is_ill, given_slices, DealsInOrder, DealsInTurn, GivesNothing, GivesOne, TakesTurn}
 use Rattle.mwc_parts.proofs.Deals.{deal_from}
 
 -- the first free slice is the one after those that have a holder
@@ -45,11 +45,11 @@ pub share_at : (hs : List ℕ) (from k w : ℕ) → w < k → get_or (map (share
 share_at hs from k w l = get_or-map-range_with_len (share_of hs) from k w (from + w) [] l refl
 
 -- what a worker was given is what it holds
-pub given_is : (hs : List ℕ) (seats : List Seat) (i : ℕ) (s : Seat) → given_slices seats ≡ shares_by hs (length seats) → i < length seats
-    → s ≡ get_or seats i s → s.given ≡ share_of hs i
-given_is hs seats i s g l e =
+pub given_is : (hs : List ℕ) (desks : List DeskView) (i : ℕ) (s : DeskView) → given_slices desks ≡ shares_by hs (length desks)
+    → i < length desks → s ≡ get_or desks i s → s.given ≡ share_of hs i
+given_is hs desks i s g l e =
     let z : 0 + i ≡ i = omega arith in
-    map_at (λ (s : Seat). s.given) seats i s [] l e ∙ ap (λ (w : List (List ℕ)). get_or w i []) g ∙ share_at hs 0 (length seats) i l
+    map_at (λ (s : DeskView). s.given) desks i s [] l e ∙ ap (λ (w : List (List ℕ)). get_or w i []) g ∙ share_at hs 0 (length desks) i l
     ∙ ap (share_of hs) z
 
 -- a refusal that was met stays met
@@ -58,10 +58,10 @@ or_stays a b true d p q e = refl
 or_stays a b false true p q e = refl
 or_stays a b false false p q e = let x = p refl in let y = q refl in sym (ap (λ (z : Bool). z || b) x ∙ y) ∙ e
 
-pub ill_stays : (s t : Seat) → (t.lost ≡ false → s.lost ≡ false) → (t.cut ≡ false → s.cut ≡ false) → is_ill s ≡ true → is_ill t ≡ true
+pub ill_stays : (s t : DeskView) → (t.lost ≡ false → s.lost ≡ false) → (t.cut ≡ false → s.cut ≡ false) → is_ill s ≡ true → is_ill t ≡ true
 ill_stays s t lost cut e = or_stays s.lost s.cut t.lost t.cut lost cut e
 
-pub not_ill : (s : Seat) → IsWell s → is_ill s ≡ false
+pub not_ill : (s : DeskView) → IsWell s → is_ill s ≡ false
 not_ill s w = ap (λ (z : Bool). z || s.cut) w.0 ∙ w.1
 
 or_moves : (a b c : Bool) → (c ≡ true → a ≡ true) → (a || b) ≡ ((c || b) || a)
@@ -69,34 +69,34 @@ or_moves true b c h = sym (or-true (c || b))
 or_moves false b true h = absurd (false≢true (h refl))
 or_moves false b false h = sym (or-false b)
 
-ill_set : (seats : List Seat) (i : ℕ) (s t : Seat) → i < length seats → s ≡ get_or seats i s → (is_ill s ≡ true → is_ill t ≡ true)
-    → list_any is_ill (set seats i t) ≡ (list_any is_ill seats || is_ill t)
+ill_set : (desks : List DeskView) (i : ℕ) (s t : DeskView) → i < length desks → s ≡ get_or desks i s → (is_ill s ≡ true → is_ill t ≡ true)
+    → list_any is_ill (set desks i t) ≡ (list_any is_ill desks || is_ill t)
 ill_set [] i s t l e h = absurd (omega arith)
-ill_set (x ∷ seats) zero s t l e h = or_moves (is_ill t) (list_any is_ill seats) (is_ill x) (λ q. h (ap is_ill e ∙ q))
-ill_set (x ∷ seats) (suc i) s t l e h =
-    ap (λ (b : Bool). is_ill x || b) (ill_set seats i s t (omega arith) e h) ∙ sym (or_assoc (is_ill x) (list_any is_ill seats) (is_ill t))
+ill_set (x ∷ desks) zero s t l e h = or_moves (is_ill t) (list_any is_ill desks) (is_ill x) (λ q. h (ap is_ill e ∙ q))
+ill_set (x ∷ desks) (suc i) s t l e h =
+    ap (λ (b : Bool). is_ill x || b) (ill_set desks i s t (omega arith) e h) ∙ sym (or_assoc (is_ill x) (list_any is_ill desks) (is_ill t))
 
 -- the deal is stopped exactly where it should be after a turn too
-pub stops_then : (early : Bool) (seats : List Seat) (stopped stops : Bool) (i : ℕ)
-    (s t : Seat) {done : Bool} {marks after : List (Option ℕ)} → i < length seats → s ≡ get_or seats i s
-    → TakesTurn done marks stopped s i after stops t → stopped ≡ (early || list_any is_ill seats)
-    → stops ≡ (early || list_any is_ill (set seats i t))
-stops_then early seats stopped stops i s t l e r h =
-    r.stops_are ∙ ap (λ (b : Bool). b || is_ill t) h ∙ or_assoc early (list_any is_ill seats) (is_ill t)
-    ∙ ap (λ (b : Bool). early || b) (sym (ill_set seats i s t l e (ill_stays s t r.lost_stays r.cut_stays)))
+pub stops_then : (early : Bool) (desks : List DeskView) (stopped stops : Bool) (i : ℕ)
+    (s t : DeskView) {done : Bool} {marks after : List (Option ℕ)} → i < length desks → s ≡ get_or desks i s
+    → TakesTurn done marks stopped s i after stops t → stopped ≡ (early || list_any is_ill desks)
+    → stops ≡ (early || list_any is_ill (set desks i t))
+stops_then early desks stopped stops i s t l e r h =
+    r.stops_are ∙ ap (λ (b : Bool). b || is_ill t) h ∙ or_assoc early (list_any is_ill desks) (is_ill t)
+    ∙ ap (λ (b : Bool). early || b) (sym (ill_set desks i s t l e (ill_stays s t r.lost_stays r.cut_stays)))
 
 pub stays_by : (a b x : Bool) → b ≡ (a || x) → a ≡ true → b ≡ true
 stays_by a b x e h = e ∙ ap (λ (z : Bool). z || x) h
 
-pub none_ill : (seats : List Seat) → All IsWell seats → list_any is_ill seats ≡ false
+pub none_ill : (desks : List DeskView) → All IsWell desks → list_any is_ill desks ≡ false
 none_ill [] a = refl
-none_ill (s ∷ seats) a = ap (λ (z : Bool). z || list_any is_ill seats) (not_ill s (All-head IsWell s seats a))
-    ∙ none_ill seats (All-tail IsWell s seats a)
+none_ill (s ∷ desks) a = ap (λ (z : Bool). z || list_any is_ill desks) (not_ill s (All-head IsWell s desks a))
+    ∙ none_ill desks (All-tail IsWell s desks a)
 
 -- where no start failed and no refusal was met, the deal goes on
-pub well_goes_on : {n k : ℕ} {early stopped : Bool} {marks : List (Option ℕ)} (seats : List Seat) → early ≡ false
-    → DealsInTurn n k early marks stopped seats → All IsWell seats → stopped ≡ false
-well_goes_on seats z d a = d.in_order.stops_are ∙ ap (λ (b : Bool). b || list_any is_ill seats) z ∙ none_ill seats a
+pub well_goes_on : {n k : ℕ} {early stopped : Bool} {marks : List (Option ℕ)} (desks : List DeskView) → early ≡ false
+    → DealsInTurn n k early marks stopped desks → All IsWell desks → stopped ≡ false
+well_goes_on desks z d a = d.in_order.stops_are ∙ ap (λ (b : Bool). b || list_any is_ill desks) z ∙ none_ill desks a
 
 pub still : (a b : Bool) → (a ≡ true → b ≡ true) → b ≡ false → a ≡ false
 still true b h e = let q = h refl in cc
@@ -106,38 +106,39 @@ pub later : (P : Type 0) (a b : Bool) → (a ≡ true → b ≡ true) → P ⊎ 
 later P a b h (inl p) = inl p
 later P a b h (inr q) = inr (h q)
 
-pub at_read : (P : Seat → Type 0) (seats : List Seat) (i : ℕ) (s : Seat) → i < length seats → s ≡ get_or seats i s → All P seats → P s
-at_read P seats i s l e a = subst P (sym e) (a i s l)
+pub at_read : (P : DeskView → Type 0) (desks : List DeskView) (i : ℕ) (s : DeskView) → i < length desks → s ≡ get_or desks i s
+    → All P desks → P s
+at_read P desks i s l e a = subst P (sym e) (a i s l)
 
 -- nothing was given
-unfoldable pub turn_nothing : {n : ℕ} {done early stopped stops : Bool} {marks after : List (Option ℕ)} (seats : List Seat) (i : ℕ)
-    (s t : Seat) → i < length seats → s ≡ get_or seats i s
-    → DealsInOrder n early marks stopped seats → TakesTurn done marks stopped s i after stops t → GivesNothing done marks s after stops t
-    → DealsInOrder n early after stops (set seats i t)
-turn_nothing {n} {done} {early} {stopped} {stops} {marks} {after} seats i s t l e d r g =
+unfoldable pub turn_nothing : {n : ℕ} {done early stopped stops : Bool} {marks after : List (Option ℕ)} (desks : List DeskView) (i : ℕ)
+    (s t : DeskView) → i < length desks → s ≡ get_or desks i s
+    → DealsInOrder n early marks stopped desks → TakesTurn done marks stopped s i after stops t → GivesNothing done marks s after stops t
+    → DealsInOrder n early after stops (set desks i t)
+turn_nothing {n} {done} {early} {stopped} {stops} {marks} {after} desks i s t l e d r g =
     let stays : stopped ≡ true → stops ≡ true = stays_by stopped stops (is_ill t) r.stops_are in
-    let same : length (set seats i t) ≡ length seats = length-set seats i t in
+    let same : length (set desks i t) ≡ length desks = length-set desks i t in
     record {
       holders = d.holders;
       free = d.free;
       marks_are = g.marks_stay ∙ d.marks_are;
       all_slices = d.all_slices;
       by_workers = subst (λ (m : ℕ). All (λ h. h < m) d.holders) (sym same) d.by_workers;
-      given_are = map_set_same (λ (s : Seat). s.given) seats i s t e g.given_stay ∙ d.given_are ∙ ap (shares_by d.holders) (sym same);
-      told_late = All-set (λ (s : Seat). s.told ≡ true → (d.free ≡ 0) ⊎ (stops ≡ true)) seats i t
+      given_are = map_set_same (λ (s : DeskView). s.given) desks i s t e g.given_stay ∙ d.given_are ∙ ap (shares_by d.holders) (sym same);
+      told_late = All-set (λ (s : DeskView). s.told ≡ true → (d.free ≡ 0) ⊎ (stops ≡ true)) desks i t
           (λ q. elim (g.told_if q) [
             | inl old ↦ later (d.free ≡ 0) stopped stops stays
-                (at_read (λ (s : Seat). s.told ≡ true → (d.free ≡ 0) ⊎ (stopped ≡ true)) seats i s l e d.told_late old)
+                (at_read (λ (s : DeskView). s.told ≡ true → (d.free ≡ 0) ⊎ (stopped ≡ true)) desks i s l e d.told_late old)
             | inr why ↦ elim why [
               | inl all ↦ inl
                   (none_free d.holders d.free (subst (λ (m : List (Option ℕ)). All IsSome m) d.marks_are all))
               | inr z ↦ inr z
             ]
           ])
-          (All-weaker (λ (s : Seat). s.told ≡ true → (d.free ≡ 0) ⊎ (stopped ≡ true))
-          (λ (s : Seat). s.told ≡ true → (d.free ≡ 0) ⊎ (stops ≡ true))
-          (λ x h q. later (d.free ≡ 0) stopped stops stays (h q)) seats d.told_late);
-      stops_are = stops_then early seats stopped stops i s t l e r d.stops_are;
+          (All-weaker (λ (s : DeskView). s.told ≡ true → (d.free ≡ 0) ⊎ (stopped ≡ true))
+          (λ (s : DeskView). s.told ≡ true → (d.free ≡ 0) ⊎ (stops ≡ true))
+          (λ x h q. later (d.free ≡ 0) stopped stops stays (h q)) desks d.told_late);
+      stops_are = stops_then early desks stopped stops i s t l e r d.stops_are;
       none_early = d.none_early;
     }
 
@@ -146,20 +147,20 @@ above zero l = absurd (omega arith)
 above (suc f) l = (f, refl)
 
 -- the lowest slice was given
-unfoldable pub turn_one : {n : ℕ} {done early stopped stops : Bool} {marks after : List (Option ℕ)} (seats : List Seat) (i : ℕ) (s t : Seat)
-    → i < length seats → s ≡ get_or seats i s
-    → DealsInOrder n early marks stopped seats → TakesTurn done marks stopped s i after stops t → GivesOne done marks stops s i after t
-    → DealsInOrder n early after stops (set seats i t)
-turn_one {n} {done} {early} {stopped} {stops} {marks} {after} seats i s t l e d r g =
+unfoldable pub turn_one : {n : ℕ} {done early stopped stops : Bool} {marks after : List (Option ℕ)} (desks : List DeskView) (i : ℕ)
+    (s t : DeskView) → i < length desks → s ≡ get_or desks i s
+    → DealsInOrder n early marks stopped desks → TakesTurn done marks stopped s i after stops t → GivesOne done marks stops s i after t
+    → DealsInOrder n early after stops (set desks i t)
+turn_one {n} {done} {early} {stopped} {stops} {marks} {after} desks i s t l e d r g =
     let stays : stopped ≡ true → stops ≡ true = stays_by stopped stops (is_ill t) r.stops_are in
-    let same : length (set seats i t) ≡ length seats = length-set seats i t in
+    let same : length (set desks i t) ≡ length desks = length-set desks i t in
     let hs : List ℕ = d.holders in
     let z : 0 + i ≡ i = omega arith in
     let first = first_free hs d.free g.slice (subst (λ (m : List (Option ℕ)). IsFirstFree m g.slice) d.marks_are g.lowest) in
     let few = above d.free first.1 in
     let f : ℕ = few.0 in
     let one : t.given ≡ share_of hs i ++ length hs ∷ [] = g.given
-    ∙ ap (λ (w : List ℕ). w ++ g.slice ∷ []) (given_is hs seats i s d.given_are l e)
+    ∙ ap (λ (w : List ℕ). w ++ g.slice ∷ []) (given_is hs desks i s d.given_are l e)
     ∙ ap (λ (j : ℕ). share_of hs i ++ j ∷ []) first.0 in
     let longer : length (hs ++ i ∷ []) ≡ length hs + 1 = length-append hs (i ∷ []) in
     record {
@@ -170,17 +171,17 @@ turn_one {n} {done} {early} {stopped} {stops} {marks} {after} seats i s t l e d 
           ∙ ap (λ (q : ℕ). set (map Some hs ++ replicate q None) (length hs) (Some i)) few.1
           ∙ set_free hs f i;
       all_slices = omega arith;
-      by_workers = subst (λ (m : ℕ). All (λ h. h < m) (hs ++ i ∷ [])) (sym same) (All-push (λ h. h < length seats) hs i d.by_workers l);
-      given_are = map-set (λ (s : Seat). s.given) seats i t ∙ ap (λ (w : List (List ℕ)). set w i t.given) d.given_are
-          ∙ ap (λ (w : List ℕ). set (shares_by hs (length seats)) i w) one
-          ∙ sym (deal_from hs i 0 (length seats) i z l) ∙ ap (shares_by (hs ++ i ∷ [])) (sym same);
-      told_late = All-set (λ (s : Seat). s.told ≡ true → (f ≡ 0) ⊎ (stops ≡ true)) seats i t
+      by_workers = subst (λ (m : ℕ). All (λ h. h < m) (hs ++ i ∷ [])) (sym same) (All-push (λ h. h < length desks) hs i d.by_workers l);
+      given_are = map-set (λ (s : DeskView). s.given) desks i t ∙ ap (λ (w : List (List ℕ)). set w i t.given) d.given_are
+          ∙ ap (λ (w : List ℕ). set (shares_by hs (length desks)) i w) one
+          ∙ sym (deal_from hs i 0 (length desks) i z l) ∙ ap (shares_by (hs ++ i ∷ [])) (sym same);
+      told_late = All-set (λ (s : DeskView). s.told ≡ true → (f ≡ 0) ⊎ (stops ≡ true)) desks i t
           (λ q. absurd (false≢true (sym g.told_not ∙ q)))
-          (All-weaker (λ (s : Seat). s.told ≡ true → (d.free ≡ 0) ⊎ (stopped ≡ true))
-          (λ (s : Seat). s.told ≡ true → (f ≡ 0) ⊎ (stops ≡ true))
-          (λ x h q. elim (h q) [ inl none ↦ absurd (omega arith) | inr y ↦ inr (stays y) ]) seats d.told_late);
-      stops_are = stops_then early seats stopped stops i s t l e r d.stops_are;
-      none_early = λ z. absurd (false≢true (sym g.goes_on ∙ stays (stays_by early stopped (list_any is_ill seats) d.stops_are z)));
+          (All-weaker (λ (s : DeskView). s.told ≡ true → (d.free ≡ 0) ⊎ (stopped ≡ true))
+          (λ (s : DeskView). s.told ≡ true → (f ≡ 0) ⊎ (stops ≡ true))
+          (λ x h q. elim (h q) [ inl none ↦ absurd (omega arith) | inr y ↦ inr (stays y) ]) desks d.told_late);
+      stops_are = stops_then early desks stopped stops i s t l e r d.stops_are;
+      none_early = λ z. absurd (false≢true (sym g.goes_on ∙ stays (stays_by early stopped (list_any is_ill desks) d.stops_are z)));
     }
 
 -- a worker that holds the slice of its number still holds it when one more is given
@@ -191,47 +192,47 @@ still_held hs i w h =
     (omega arith, get_or_append_left hs (i ∷ []) 0 w m ∙ h.1)
 
 -- a deal that goes on after a turn went on before it
-pub went_on : {done stopped stops : Bool} {marks after : List (Option ℕ)} (s t : Seat) (w : ℕ)
+pub went_on : {done stopped stops : Bool} {marks after : List (Option ℕ)} (s t : DeskView) (w : ℕ)
     → TakesTurn done marks stopped s w after stops t → stops ≡ false → stopped ≡ false
 went_on {done} {stopped} {stops} s t w r = still stopped stops (stays_by stopped stops (is_ill t) r.stops_are)
 
 -- a turn keeps the deal
-pub turn : {n k : ℕ} {done early stopped stops : Bool} {marks after : List (Option ℕ)} (seats : List Seat) (i : ℕ) (s t : Seat)
-    → i < length seats → s ≡ get_or seats i s
-    → DealsInTurn n k early marks stopped seats → TakesTurn done marks stopped s i after stops t
-    → DealsInTurn n k early after stops (set seats i t)
+pub turn : {n k : ℕ} {done early stopped stops : Bool} {marks after : List (Option ℕ)} (desks : List DeskView) (i : ℕ) (s t : DeskView)
+    → i < length desks → s ≡ get_or desks i s
+    → DealsInTurn n k early marks stopped desks → TakesTurn done marks stopped s i after stops t
+    → DealsInTurn n k early after stops (set desks i t)
 unfolding turn_nothing turn_one
-turn seats i s t l e d r =
+turn desks i s t l e d r =
     elim r.gives [
       | inl g ↦ record {
-        in_order = turn_nothing seats i s t l e d.in_order r g;
+        in_order = turn_nothing desks i s t l e d.in_order r g;
         begins = λ z. d.begins (went_on s t i r z);
       }
       | inr g ↦ record {
-        in_order = turn_one seats i s t l e d.in_order r g;
+        in_order = turn_one desks i s t l e d.in_order r g;
         begins = λ z w v u. still_held d.in_order.holders i w (d.begins (went_on s t i r z) w v u);
       }
     ]
 
-none_left : {free : ℕ} {stopped : Bool} (seats : List Seat) → 0 < length seats → stopped ≡ false
-    → All (λ (s : Seat). s.told ≡ true → (free ≡ 0) ⊎ (stopped ≡ true)) seats → All (λ (s : Seat). s.told ≡ true) seats → free ≡ 0
+none_left : {free : ℕ} {stopped : Bool} (desks : List DeskView) → 0 < length desks → stopped ≡ false
+    → All (λ (s : DeskView). s.told ≡ true → (free ≡ 0) ⊎ (stopped ≡ true)) desks → All (λ (s : DeskView). s.told ≡ true) desks → free ≡ 0
 none_left [] l z a b = absurd (omega arith)
-none_left {free} {stopped} (s ∷ seats) l z a b =
-    elim (All-head (λ (s : Seat). s.told ≡ true → (free ≡ 0) ⊎ (stopped ≡ true)) s seats a
-    (All-head (λ (s : Seat). s.told ≡ true) s seats b)) [
+none_left {free} {stopped} (s ∷ desks) l z a b =
+    elim (All-head (λ (s : DeskView). s.told ≡ true → (free ≡ 0) ⊎ (stopped ≡ true)) s desks a
+    (All-head (λ (s : DeskView). s.told ≡ true) s desks b)) [
       | inl e ↦ e
       | inr y ↦ absurd (false≢true (sym z ∙ y))
     ]
 
 -- where nothing was refused, and a worker was told, all slices are dealt
-pub all_dealt : {n k : ℕ} {stopped early : Bool} {marks : List (Option ℕ)} (seats : List Seat) → early ≡ false → 0 < length seats
-    → DealsInTurn n k early marks stopped seats → All IsWell seats → All (λ (s : Seat). s.told ≡ true) seats
-    → AreDealt n (given_slices seats)
-all_dealt {n} {k} {stopped} {early} {marks} seats z l deal well told =
+pub all_dealt : {n k : ℕ} {stopped early : Bool} {marks : List (Option ℕ)} (desks : List DeskView) → early ≡ false → 0 < length desks
+    → DealsInTurn n k early marks stopped desks → All IsWell desks → All (λ (s : DeskView). s.told ≡ true) desks
+    → AreDealt n (given_slices desks)
+all_dealt {n} {k} {stopped} {early} {marks} desks z l deal well told =
     let d = deal.in_order in
-    let same : length (given_slices seats) ≡ length seats = length-map seats (λ (s : Seat). s.given) in
-    let go : stopped ≡ false = well_goes_on seats z deal well in
-    let none : d.free ≡ 0 = none_left seats l go d.told_late told in
+    let same : length (given_slices desks) ≡ length desks = length-map desks (λ (s : DeskView). s.given) in
+    let go : stopped ≡ false = well_goes_on desks z deal well in
+    let none : d.free ≡ 0 = none_left desks l go d.told_late told in
     record {
       holders = d.holders;
       each_held = omega arith;

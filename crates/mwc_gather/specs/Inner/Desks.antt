@@ -10,7 +10,7 @@ use Rattle.mwc_parts.specs.declared.part.Part.{Part}
 use Rattle.mwc_parts.specs.declared.met.Met.{Met}
 use Rattle.mwc_parts.specs.declared.fault.GatherFault.{GatherFault}
 use Rattle.mwc_parts.specs.declared.fault.GatherFault.TheVariants.{TooMany, Start, Memory}
-use Rattle.mwc_parts.specs.Inner.Dealing.{Seat, IsWell, IsFresh, DealsInTurn, DealsOneEach}
+use Rattle.mwc_parts.specs.Inner.Dealing.{DeskView, IsWell, IsFresh, DealsInTurn, DealsOneEach}
 use Rattle.mwc_gather.specs.Inner.Orders.{slicing_of}
 use Rattle.mwc_gather.specs.declared.desk.Desk.{Desk}
 
@@ -21,23 +21,23 @@ IsOf g most d = (slicing_of d.worker.promise.order ≡ g) × (d.worker.promise.o
 abbrev pub AllOf : Slicing → ℕ → List Desk → Type 0
 AllOf g most desks = All (IsOf g most) desks
 
-abbrev pub seat : Desk → Seat
-seat d = record { given = d.given.items; idle = d.idle; told = d.told; lost = d.draft.lost; cut = d.draft.cut }
+abbrev pub view_of : Desk → DeskView
+view_of d = record { given = d.given.items; idle = d.idle; told = d.told; lost = d.draft.lost; cut = d.draft.cut }
 
-abbrev pub seats : List Desk → List Seat
-seats desks = map seat desks
+abbrev pub views_of : List Desk → List DeskView
+views_of desks = map view_of desks
 
 -- what a desk's worker has sent, where its answer is a part
 pub record IsPartOfDesk (g : Slicing) (d : Desk) (p : Part) : Type 0 where
   pub slices : p.slices.items ≡ d.given.items
   pub part : IsPart g p
-  pub well : IsWell (seat d)
+  pub well : IsWell (view_of d)
   pub told : d.told ≡ true
 
 -- what the end of a desk's worker may be answered, of which None is a part: whose worker was well and told, or a fault other than
 -- Start; where something was lost it is Memory, and it is TooMany only where the slices given have more coalitions than were asked for
 abbrev pub CanEndWith : Slicing → ℕ → Desk → Option GatherFault → Type 0
-CanEndWith g most d None = IsWell (seat d) × (d.told ≡ true)
+CanEndWith g most d None = IsWell (view_of d) × (d.told ≡ true)
 CanEndWith g most d (Some why) = (why ≢ Start) × (d.draft.lost ≡ true → why ≡ Memory) × (why ≡ TooMany → most < coalition_count g d.given.items)
 
 -- what was met where so many workers were to be started and so many were: nothing where these are all, or else one fault, which is
@@ -49,10 +49,10 @@ HasStarted workers started met =
 -- the slices of the game are dealt to the desks
 pub record DealsTo (g : Slicing) (most : ℕ) (early : Bool) (marks : List (Option ℕ)) (stopped : Bool) (desks : List Desk) : Type 0 where
   pub all_of : AllOf g most desks
-  pub dealing : DealsInTurn g.slices (length desks) early marks stopped (seats desks)
+  pub dealing : DealsInTurn g.slices (length desks) early marks stopped (views_of desks)
 
 -- the first k desks were dealt to
 pub record DealsFirst (g : Slicing) (most : ℕ) (early : Bool) (marks : List (Option ℕ)) (stopped : Bool) (k : ℕ) (desks : List Desk) : Type 0 where
   pub all_of : AllOf g most desks
-  pub firsts : DealsOneEach g.slices k early marks stopped (seats desks)
-  pub to_come : AllWithin (λ (d : Desk). IsFresh (seat d)) desks k (length desks)
+  pub firsts : DealsOneEach g.slices k early marks stopped (views_of desks)
+  pub to_come : AllWithin (λ (d : Desk). IsFresh (view_of d)) desks k (length desks)

@@ -7,7 +7,7 @@ use Rattle.mwc_parts.specs.Inner.Dealing.{IsFresh}
 use Rattle.mwc_parts.specs.Slicing.{Slicing}
 use Rattle.mwc_gather.specs.Slicings.{slicing}
 use Rattle.mwc_gather.specs.declared.desk.Desk.{Desk}
-use Rattle.mwc_gather.specs.Inner.Desks.{seats, IsOf, AllOf}
+use Rattle.mwc_gather.specs.Inner.Desks.{views_of, IsOf, AllOf}
 use Rattle.mwc_gather.proofs.Ends.{fresh_push}
 use Rattle.mwc_gather.proofs.gathering.open_all.Goals as goal
 
@@ -26,7 +26,7 @@ loop-worker-preserved g c =
       search rules,
       subst (λ (w : List Desk). AllOf game c.args.job.now.most w) (sym c.push_reserved.ensures.items)
           (All-push (IsOf game c.args.job.now.most) c.loop-worker.desks.items c.in-Ok.desk i.2 c.in-Ok.ensures.order),
-      subst (λ (w : List Desk). All IsFresh (seats w)) (sym c.push_reserved.ensures.items)
+      subst (λ (w : List Desk). All IsFresh (views_of w)) (sym c.push_reserved.ensures.items)
           (fresh_push c.loop-worker.desks.items c.in-Ok.desk i.3 c.in-Ok.ensures.fresh),
       i.4,
     )

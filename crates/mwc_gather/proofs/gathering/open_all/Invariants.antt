@@ -3,10 +3,10 @@ use Rattle.std.specs.Prelude.{All}
 use Rattle.mwc_parts.specs.Inner.Dealing.{IsFresh}
 use Rattle.mwc_parts.specs.Fault.{nothing}
 use Rattle.mwc_gather.specs.Slicings.{slicing}
-use Rattle.mwc_gather.specs.Inner.Desks.{AllOf, seats}
+use Rattle.mwc_gather.specs.Inner.Desks.{AllOf, views_of}
 use Rattle.mwc_gather.proofs.gathering.open_all.Given as goal
 
 abbrev pub invariant-loop-worker : goal.invariant-loop-worker
 invariant-loop-worker g l =
     (vec_len l.desks ≡ l.worker) × (l.workers ≤ vec_capacity l.desks) × AllOf (slicing l.job.guarded l.job.bits) l.job.most l.desks.items
-    × All IsFresh (seats l.desks.items) × (l.met ≡ nothing)
+    × All IsFresh (views_of l.desks.items) × (l.met ≡ nothing)
