@@ -134,23 +134,6 @@ head_of {X} P x xs ys e a = All-head P x xs (subst (λ (l : List X). All P l) e 
 pub one_done : (done rest old all : List Desk) (d : Desk) → old ≡ d ∷ rest → done ++ old ≡ all → (done ++ d ∷ []) ++ rest ≡ all
 one_done done rest old all d e f = append_assoc done (d ∷ []) rest ∙ ap (λ (w : List Desk). done ++ w) (sym e) ∙ f
 
-pub not_noted : (m after : Met) (why : GatherFault) (P : Type 0) → after ≡ also m why → fault_of after ≡ None → P
-not_noted m after why P e f = absurd (noted m why (sym (ap fault_of e) ∙ f))
-
-pub zip_more : (g : Slicing) (done : List Desk) (parts after : List Part) (d : Desk) (p : Part) → after ≡ parts ++ p ∷ []
-    → IsPartOfDesk g d p → AllZip (IsPartOfDesk g) done parts → AllZip (IsPartOfDesk g) (done ++ d ∷ []) after
-zip_more g done parts after d p e f z =
-    subst (λ (w : List Part). AllZip (IsPartOfDesk g) (done ++ d ∷ []) w) (sym e) (all_zipped_more (IsPartOfDesk g) done parts d p z f)
-
--- where no fault was met, all slices are dealt to the parts
-pub ends_well : {g : Slicing} {most : ℕ} {early stopped : Bool} {marks : List (Option ℕ)} (desks taken : List Desk) (parts : List Part)
-    (start : Met) (f : Option GatherFault) → DealsTo g most early marks stopped desks → taken ≡ desks → early ≡ is_some f
-    → f ≡ fault_of start → fault_of start ≡ None → 0 < length desks → AllZip (IsPartOfDesk g) taken parts → AreDealt g.slices (shares parts)
-    × AllZip (IsPartOfDesk g) desks parts
-ends_well {g} desks taken parts start f h e a b n l z =
-    let w = subst (λ (x : List Desk). AllZip (IsPartOfDesk g) x parts) e z in
-    (end_dealt desks parts h (a ∙ ap is_some (b ∙ n)) l w, w)
-
 pub end_begins : {g : Slicing} {most : ℕ} {early stopped : Bool} {marks : List (Option ℕ)} (desks : List Desk) (parts : List Part)
     → DealsTo g most early marks stopped desks → early ≡ false → AllZip (IsPartOfDesk g) desks parts → (w : ℕ) → w < length desks
     → w < g.slices → slice_get (get_or (shares parts) w []) 0 ≡ Some w
@@ -161,16 +144,14 @@ end_begins {g} desks parts h e z w a b =
     ap (λ (s : List ℕ). slice_get s 0) (ap (λ (s : List (List ℕ)). get_or s w []) (zip_shares g desks parts z) ∙ r.1)
 
 -- where no fault was met, the parts are complete
-pub completes : {g : Slicing} {most workers : ℕ} {early stopped : Bool} {marks : List (Option ℕ)} (desks taken : List Desk)
-    (parts : List Part) (start : Met) (f : Option GatherFault) → DealsTo g most early marks stopped desks → taken ≡ desks
-    → early ≡ is_some f → f ≡ fault_of start → fault_of start ≡ None → 0 < length desks → length desks ≡ workers
-    → AllZip (IsPartOfDesk g) taken parts → IsComplete g workers parts
-completes {g} {most} {workers} desks taken parts start f h e a b n l k z =
-    let both = ends_well desks taken parts start f h e a b n l z in
-    let same = AllZip-long (IsPartOfDesk g) desks parts both.1 in
+pub completes : {g : Slicing} {most workers : ℕ} {early stopped : Bool} {marks : List (Option ℕ)} (desks : List Desk) (parts : List Part)
+    → DealsTo g most early marks stopped desks → early ≡ false → length desks ≡ workers → 0 < workers
+    → AllZip (IsPartOfDesk g) desks parts → IsComplete g workers parts
+completes {g} desks parts h e k l z =
+    let same = AllZip-long (IsPartOfDesk g) desks parts z in
     record {
       a_part_each = omega arith;
-      dealt = both.0;
-      are_parts = zip_parts g desks parts both.1;
-      begins = λ w below slice. end_begins desks parts h (a ∙ ap is_some (b ∙ n)) both.1 w (omega arith) slice;
+      dealt = end_dealt desks parts h e (omega arith) z;
+      are_parts = zip_parts g desks parts z;
+      begins = λ w below slice. end_begins desks parts h e z w (omega arith) slice;
     }

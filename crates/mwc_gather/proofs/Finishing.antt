@@ -1,5 +1,6 @@
 -- Workers that are joined, one after another.
-use Rattle.std.specs.Prelude.{◌≡◌, ℕ, ◌<◌, ◌≤◌, true, false, List, [], ◌∷◌, ◌++◌, Option, Some, None, All, refl}
+use Rattle.std.specs.Prelude.{◌≡◌, ℕ, ◌<◌, ◌≤◌, Bool, true, false, List, [], ◌∷◌, ◌++◌, Option, Some, None, All, length, refl}
+use Rattle.std.specs.Option.{is_some}
 use Rattle.std.specs.List.{AllZip}
 use Rattle.std.proofs.Common.{ap, subst, arith, sym, ◌∙◌}
 use Rattle.std.proofs.lemmas.Bool.{false≢true}
@@ -15,9 +16,9 @@ use Rattle.mwc_parts.specs.declared.met.Met.{Met}
 use Rattle.mwc_parts.specs.declared.fault.GatherFault.{GatherFault}
 use Rattle.mwc_gather.specs.declared.desk.Desk.{Desk}
 use Rattle.mwc_gather.specs.Inner.Orders.{slicing_of}
-use Rattle.mwc_gather.specs.Inner.Desks.{IsOf, AllOf, CanEndWith, IsPartOfDesk}
-use Rattle.mwc_gather.specs.Inner.Gathering.{all_total}
-use Rattle.mwc_gather.proofs.Ends.{note_many, noted, head_of, one_done}
+use Rattle.mwc_gather.specs.Inner.Desks.{IsOf, AllOf, CanEndWith, IsPartOfDesk, DealsTo}
+use Rattle.mwc_gather.specs.Inner.Gathering.{all_total, IsComplete}
+use Rattle.mwc_gather.proofs.Ends.{note_many, noted, head_of, one_done, desks_within, completes}
 use Rattle.mwc_gather.proofs.Faults.{noted_after, noted_none, ends_of}
 
 -- some of the workers have ended, and the rest are still to be joined: what was met follows from their answers, and where nothing was met
@@ -35,17 +36,16 @@ pub record Finishing (g : Slicing) (most : ℕ) (start : Met) (desks rest : List
 
 -- no worker is joined yet
 pub none_joined : {g : Slicing} {most : ℕ} {start : Met} {desks rest : List Desk} {parts : List Part} → rest ≡ desks → parts ≡ []
-    → AllOf g most desks → All (λ (d : Desk). coalition_count g d.given.items ≤ all_total g) desks
+    → {early stopped : Bool} {marks : List (Option ℕ)} → DealsTo g most early marks stopped desks
     → start.many ≡ false → Finishing g most start desks rest start parts
-none_joined e f all within few =
+none_joined {desks = desks} e f h few =
     rw (e, f) (record {
-      all_of = all;
-      within = within;
+      all_of = h.all_of;
+      within = desks_within desks h;
       many = λ z. absurd (false≢true (sym few ∙ z));
       done = [];
       split = refl;
-      whys =
-          [];
+      whys = [];
       ends = tt;
       met_is = refl;
       none = λ n. (n, tt);
@@ -94,7 +94,11 @@ module _ {g : Slicing} {most : ℕ} {start met : Met} {desks old rest : List Des
             (kept.0, rw e (all_zipped_more (IsPartOfDesk g) f.done parts d p kept.1 here));
       }
 
--- all have ended
-pub finished : {g : Slicing} {most : ℕ} {start met : Met} {desks : List Desk} {parts : List Part}
-    (f : Finishing g most start desks [] met parts) → f.done ≡ desks
-finished f = sym (append-nil f.done) ∙ f.split
+-- all have ended: where nothing was met, the parts are complete
+pub all_complete : {g : Slicing} {most workers : ℕ} {start met : Met} {stopped : Bool} {marks : List (Option ℕ)} (desks rest : List Desk)
+    (parts : List Part) → Finishing g most start desks rest met parts → rest ≡ [] → fault_of met ≡ None
+    → DealsTo g most (is_some (fault_of start)) marks stopped desks → length desks ≡ workers → 0 < workers → IsComplete g workers parts
+all_complete {g} desks rest parts f e n h same some =
+    let kept = f.none n in
+    let all = sym (append-nil f.done) ∙ ap (λ (w : List Desk). f.done ++ w) (sym e) ∙ f.split in
+    completes desks parts h (ap is_some kept.0) same some (subst (λ (x : List Desk). AllZip (IsPartOfDesk g) x parts) all kept.1)

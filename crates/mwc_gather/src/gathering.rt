@@ -4,13 +4,12 @@ ghost use Rattle.std.specs.Option.{is_some};
 ghost use Rattle.std.specs.List.{AllZip};
 ghost use Rattle.council_game.specs.Votes.{minimal_coalitions};
 ghost use Rattle.council_game.specs.Game.{votes_of};
-ghost use Rattle.mwc_parts.specs.Wording.{coalition_count};
 ghost use Rattle.mwc_parts.specs.Inner.Dealing.{IsFresh};
 ghost use Rattle.mwc_parts.specs.Fault.{fault_of};
 ghost use Rattle.mwc_parts.specs.Inner.Fault.{fault_in, also_all};
 ghost use Rattle.mwc_gather.specs.Slicings.{slicing};
 ghost use Rattle.mwc_gather.specs.Inner.Orders.{slicing_of};
-ghost use Rattle.mwc_gather.specs.Inner.Desks.{AllOf, DealsTo, CanEndWith, IsPartOfDesk, HasStarted, views_of};
+ghost use Rattle.mwc_gather.specs.Inner.Desks.{AllOf, DealsTo, CanEndWith, HasStarted, views_of};
 ghost use Rattle.mwc_gather.specs.Gathering.{Gathers};
 ghost use Rattle.mwc_gather.specs.Inner.Gathering.{all_total, IsComplete};
 
@@ -162,9 +161,6 @@ fn finish_all<R: Threads>(
     desks: Vec<Desk>,
     start: Met,
 ) -> Result<Vec<Part>, GatherFault>
-    requires all { AllOf (slicing_of order.now) order.now.most desks.items }
-    requires within { All (λ d. coalition_count (slicing_of order.now)
-        d.given.items ≤ all_total (slicing_of order.now)) desks.items }
     requires start { start.many ≡ false }
     requires dealt { (marks : List (Option ℕ)) × (stopped : Bool)
         × DealsTo (slicing_of order.now) order.now.most (is_some (fault_of start))
@@ -173,8 +169,8 @@ fn finish_all<R: Threads>(
         × AllZip (CanEndWith (slicing_of order.now) order.now.most) desks.items whys
         × (fault_in result ≡ fault_of (also_all start whys)) }
     ensures none { IfOk result (λ v. fault_of start ≡ None) }
-    ensures parts { IfOk result
-        (λ v. AllZip (IsPartOfDesk (slicing_of order.now)) desks.items v.items) }
+    ensures parts { IfOk result (λ v. 0 < vec_len desks
+        → IsComplete (slicing_of order.now) (vec_len desks) v.items) }
     ensures many { result ≡ Err GatherFault.TooMany
         → order.now.most < all_total (slicing_of order.now) }
 {

@@ -1,12 +1,14 @@
-use Rattle.std.proofs.Common.{rules}
+use Rattle.std.proofs.Common.{◌≡◌, length, vec_len, rules, arith}
+use Rattle.std.proofs.lemmas.Grind.{common_steps}
+use Rattle.std.specs.Vec.Iter.{into_iter_items}
 use Rattle.mwc_parts.specs.declared.fault.GatherFault.TheVariants.{Memory}
 use Rattle.mwc_gather.specs.Inner.Orders.{slicing_of}
 use Rattle.mwc_gather.proofs.Faults.{memory_ends}
-use Rattle.mwc_gather.proofs.Finishing.{none_joined, fault_met, part_kept}
+use Rattle.mwc_gather.proofs.Finishing.{none_joined, fault_met, part_kept, all_complete}
 use Rattle.mwc_gather.proofs.gathering.finish_all.Goals as goal
 
 pub loop-desk-init : goal.loop-desk-init
-loop-desk-init g c = none_joined (search rules) (search rules) c.requires.all c.requires.within c.requires.start
+loop-desk-init g c = none_joined (search rules) (search rules) c.requires.dealt.2 c.requires.start
 
 pub loop-desk-preserved : goal.loop-desk-preserved
 loop-desk-preserved g c =
@@ -22,3 +24,9 @@ pub loop-desk-preserved-else-is_err : goal.loop-desk-preserved-else-is_err
 loop-desk-preserved-else-is_err g c =
     part_kept c.in-Some.desk c.in-Ok.part c.loop-desk.invariant c.in-Some.ensures.steps.0
     (search rules) c.in-Ok.ensures.part c.in-Ok.ensures.ends
+
+pub returns-in-None-fault-clause-parts : goal.returns-in-None-fault-clause-parts
+returns-in-None-fault-clause-parts g c = λ some.
+    let ok = c.args.desks.ok in
+    all_complete c.args.desks.items (into_iter_items c.loop-desk.desk-iterator) c.loop-desk.parts.items c.loop-desk.invariant
+    (grind (arith, common_steps)) (search rules) c.requires.dealt.2 (omega arith) some

@@ -12,9 +12,8 @@ use Rattle.mwc_gather.specs.declared.desk.Desk.{Desk}
 use Rattle.mwc_gather.specs.Slicings.{slicing}
 use Rattle.mwc_gather.specs.Inner.Orders.{slicing_of}
 use Rattle.mwc_gather.specs.Inner.Desks.{DealsTo}
-use Rattle.mwc_gather.specs.Inner.Gathering.{all_total}
+use Rattle.mwc_gather.specs.Inner.Gathering.{all_total, IsComplete}
 use Rattle.mwc_gather.proofs.Wholes.{all_total_is}
-use Rattle.mwc_gather.proofs.Ends.{desks_within, completes}
 use Rattle.mwc_gather.proofs.Faults.{opens_few}
 use Rattle.mwc_gather.proofs.gathering.run.Goals as goal
 
@@ -37,18 +36,6 @@ read_all-stopped-requires-clause-all_of g c =
     let order = c.order-order.ensures in
     let same = slicing_is c.order-order.result c.args.job.now.guarded c.args.job.now.bits order.game order.asked.0 in
     rw (c.as_mut_slice.ensures.value, same, order.asked.1) c.open_all-met.ensures.order
-
-pub finish_all-requires-clause-within : goal.finish_all-requires-clause-within
-finish_all-requires-clause-within g c =
-    let new : List Desk = c.read_all-stopped.new.desks in
-    let n : ℕ = c.open_all-met.new.desks.len in
-    let v = ap length c.as_mut_slice.ensures.value in
-    let au = c.read_all-stopped.auto.desks in
-    let ok = c.open_all-met.new.desks.ok in
-    let e = written new c.open_all-met.new.desks.items n (omega arith) in
-    let game : Slicing = slicing_of c.order-order.result in
-    subst (λ (w : List Desk). All (λ (d : Desk). coalition_count game d.given.items ≤ all_total game) w) (sym e)
-    (desks_within new c.read_all-stopped.ensures)
 
 pub finish_all-requires-clause-start : goal.finish_all-requires-clause-start
 finish_all-requires-clause-start g c =
@@ -82,15 +69,6 @@ returns-in_err-parts-clause-many g c = λ e.
 
 pub all_of-requires-clause-complete : goal.all_of-requires-clause-complete
 all_of-requires-clause-complete g c =
-    let new : List Desk = c.read_all-stopped.new.desks in
-    let n : ℕ = c.open_all-met.new.desks.len in
-    let v = ap length c.as_mut_slice.ensures.value in
-    let au = c.read_all-stopped.auto.desks in
-    let ok = c.open_all-met.new.desks.ok in
-    let items = c.open_all-met.new.desks.items in
-    let e = written new items n (omega arith) in
-    let none = c.in_ok-parts.ensures.none in
-    let all = c.open_all-met.ensures.all none in
+    let same = c.open_all-met.ensures.all c.in_ok-parts.ensures.none in
     let some = c.requires.workers.0 in
-    completes new (take n (new ++ drop (length new) items)) c.in_ok-parts.parts.items c.open_all-met.result c.fault.result
-    c.read_all-stopped.ensures e c.is_some-early.ensures c.fault.ensures none (omega arith) (omega arith) c.in_ok-parts.ensures.parts
+    subst (λ (n : ℕ). IsComplete (slicing_of c.order-order.result) n c.in_ok-parts.parts.items) same (c.in_ok-parts.ensures.parts (omega arith))
