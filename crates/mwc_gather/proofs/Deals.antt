@@ -1,15 +1,15 @@
 -- Turns of desks.
-use Rattle.std.specs.Prelude.{◌≡◌, ℕ, ◌+◌, ◌<◌, Bool, false, ◌||◌, zero, suc, [], ◌∷◌, List, Option, None, All, length, replicate}
+use Rattle.std.specs.Prelude.{◌≡◌, ℕ, ◌+◌, ◌<◌, Bool, false, zero, suc, [], ◌∷◌, List, Option, None, All, length, replicate}
 use Rattle.std.proofs.Common.{set, get_or, ap, subst, arith, sym, ◌∙◌}
-use Rattle.std.proofs.Math.Bool.{or-false}
 use Rattle.std.proofs.lemmas.List.{length-set, map-set, get_or-set_other, length-map, get_or_default}
 use Rattle.std.proofs.lemmas.List.Elements.{All-set, All-head, All-tail}
 use Rattle.mwc_parts.specs.Slicing.{Slicing}
-use Rattle.mwc_parts.specs.Inner.Dealing.{DeskView, DealsInTurn, TakesTurn, DealsOneEach, IsFresh, is_ill}
+use Rattle.mwc_parts.specs.Inner.Dealing.{DeskView, DealsInTurn, TakesTurn, DealsOneEach, IsFresh}
 use Rattle.mwc_parts.proofs.Turns as turns
 use Rattle.mwc_parts.proofs.Firsts as firsts
 use Rattle.mwc_gather.specs.declared.promise.Task.{Task}
 use Rattle.mwc_gather.specs.declared.desk.Desk.{Desk}
+use Rattle.mwc_gather.specs.declared.dealing.Deal.{Deal}
 use Rattle.mwc_gather.specs.Inner.Orders.{slicing_of}
 use Rattle.mwc_gather.specs.Inner.Desks.{IsOf, AllOf, view_of, views_of, DealsTo, DealsFirst}
 
@@ -29,35 +29,29 @@ fresh_at [] f k d l = absurd (omega arith)
 fresh_at (x ∷ desks) f zero d l = All-head IsFresh (view_of x) (views_of desks) f
 fresh_at (x ∷ desks) f (suc k) d l = fresh_at desks (All-tail IsFresh (view_of x) (views_of desks) f) k d (omega arith)
 
--- a fresh desk does not stop the deal
-pub fresh_goes : (stopped : Bool) (d : Desk) → IsFresh (view_of d) → (stopped || is_ill (view_of d)) ≡ stopped
-fresh_goes stopped d f = ap (λ (b : Bool). stopped || b) (turns.not_ill (view_of d) f.well) ∙ or-false stopped
-
 -- a turn of desk i
-pub turn_of : {g : Slicing} {most : ℕ} {done early stopped stops : Bool} {marks after : List (Option ℕ)} (desks : List Desk) (i : ℕ)
-    (x t : Desk) → i < length desks
-    → DealsTo g most early marks stopped desks → t.worker.promise ≡ (get_or desks i x).worker.promise
-    → TakesTurn done marks stopped (view_of (get_or desks i x)) i after stops (view_of t) → DealsTo g most early after stops (set desks i t)
-turn_of {g} {most} {done} {early} {stopped} {stops} {marks} {after} desks i x t l h p r =
+pub turn_of : {g : Slicing} {most : ℕ} {done early : Bool} {deal after : Deal} (desks : List Desk) (i : ℕ) (x t : Desk) → i < length desks
+    → DealsTo g most early deal desks → t.worker.promise ≡ (get_or desks i x).worker.promise
+    → TakesTurn done deal.marks deal.stopped (view_of (get_or desks i x)) i after.marks after.stopped (view_of t)
+    → DealsTo g most early after (set desks i t)
+turn_of {g} {most} {done} {early} {deal} {after} desks i x t l h p r =
     let d = get_or desks i x in
     let e = get_or_default desks i x d l in
     let n = length-map desks view_of in
-    let same : length (set desks i t) ≡ length desks = length-set desks i t in
+    let P : ℕ → List DeskView → Type 0 = λ k w. DealsInTurn g.slices k early after.marks after.stopped w in
     let dealt = turns.turn (views_of desks) i (view_of d) (view_of t) (omega arith) (view_at desks i d l e) h.dealing r in
-    let here : DealsInTurn g.slices (length desks) early after stops (views_of (set desks i t)) =
-    subst (λ (w : List DeskView). DealsInTurn g.slices (length desks) early after stops w) (sym (map-set view_of desks i t)) dealt in
+    let here : P (length desks) (views_of (set desks i t)) = subst (P (length desks)) (sym (map-set view_of desks i t)) dealt in
     record {
       all_of = all_of_set g most desks i d t l e p h.all_of;
-      dealing = subst (λ (k : ℕ). DealsInTurn g.slices k early after stops (views_of (set desks i t))) (sym same) here;
+      dealing = subst (λ (k : ℕ). P k (views_of (set desks i t))) (sym (length-set desks i t)) here;
     }
 
 -- the first deal to desk k
-pub first_of_place : {g : Slicing} {most : ℕ} {early stopped stops : Bool} {marks after : List (Option ℕ)} (desks : List Desk) (k : ℕ)
-    (x t : Desk) → k < length desks
-    → DealsFirst g most early marks stopped k desks → t.worker.promise ≡ (get_or desks k x).worker.promise
-    → TakesTurn false marks stopped (view_of (get_or desks k x)) k after stops (view_of t)
-    → DealsFirst g most early after stops (k + 1) (set desks k t)
-first_of_place {g} {most} {early} {stopped} {stops} {marks} {after} desks k x t l h p r =
+pub first_of_place : {g : Slicing} {most : ℕ} {early : Bool} {deal after : Deal} (desks : List Desk) (k : ℕ) (x t : Desk)
+    → k < length desks → DealsFirst g most early deal k desks → t.worker.promise ≡ (get_or desks k x).worker.promise
+    → TakesTurn false deal.marks deal.stopped (view_of (get_or desks k x)) k after.marks after.stopped (view_of t)
+    → DealsFirst g most early after (k + 1) (set desks k t)
+first_of_place {g} {most} {early} {deal} {after} desks k x t l h p r =
     let d = get_or desks k x in
     let e = get_or_default desks k x d l in
     let n = length-map desks view_of in
@@ -66,20 +60,16 @@ first_of_place {g} {most} {early} {stopped} {stops} {marks} {after} desks k x t 
     (h.to_come k x (omega arith) l) h.firsts r in
     record {
       all_of = all_of_set g most desks k d t l e p h.all_of;
-      firsts = subst (λ (w : List DeskView). DealsOneEach g.slices (k + 1) early after stops w) (sym (map-set view_of desks k t)) dealt;
+      firsts = subst (DealsOneEach g.slices (k + 1) early after.marks after.stopped) (sym (map-set view_of desks k t)) dealt;
       to_come = λ q a low high. subst (λ (x : Desk). IsFresh (view_of x)) (sym (get_or-set_other desks k q t a (λ z. omega arith)))
           (h.to_come q a (omega arith) (omega arith));
     }
 
-pub deal_starts : {g : Slicing} {most : ℕ} (early : Bool) (marks : List (Option ℕ)) (desks : List Desk) → AllOf g most desks
-    → All IsFresh (views_of desks) → marks ≡ replicate g.slices None → DealsFirst g most early marks early 0 desks
-deal_starts {g} {most} early marks desks a f e = record {
+pub deal_starts : {g : Slicing} {most : ℕ} (deal : Deal) (desks : List Desk) → AllOf g most desks → All IsFresh (views_of desks)
+    → deal.marks ≡ replicate g.slices None → DealsFirst g most deal.stopped deal 0 desks
+deal_starts {g} {most} deal desks a f e = record {
   all_of = a;
-  firsts = subst (λ (m : List (Option ℕ)). DealsOneEach g.slices 0 early m early (views_of desks)) (sym e)
-      (firsts.begin g.slices early (views_of desks) f);
+  firsts = subst (λ (m : List (Option ℕ)). DealsOneEach g.slices 0 deal.stopped m deal.stopped (views_of desks)) (sym e)
+      (firsts.begin g.slices deal.stopped (views_of desks) f);
   to_come = λ k d low high. fresh_at desks f k d high;
 }
-
-pub firsts_end : {g : Slicing} {most : ℕ} {early stopped : Bool} {marks : List (Option ℕ)} (k m : ℕ) (desks : List Desk) → k ≡ m
-    → DealsFirst g most early marks stopped k desks → DealsFirst g most early marks stopped m desks
-firsts_end {g} {most} {early} {stopped} {marks} k m desks e h = subst (λ (q : ℕ). DealsFirst g most early marks stopped q desks) e h

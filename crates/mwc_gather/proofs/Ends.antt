@@ -1,11 +1,10 @@
 -- The end of gathering.
-use Rattle.std.specs.Prelude.{◌≡◌, ℕ, ◌<◌, ◌≤◌, Bool, true, false, List, [], ◌∷◌, ◌++◌, Option, Some, None, cond, All, length, map, slice_get, refl}
+use Rattle.std.specs.Prelude.{◌≡◌, ℕ, ◌<◌, ◌≤◌, Bool, true, false, List, [], ◌∷◌, ◌++◌, Some, None, cond, All, length, map, slice_get, refl}
 use Rattle.std.specs.List.{AllZip}
-use Rattle.std.specs.Option.{is_some}
 use Rattle.std.proofs.Common.{get_or, append_assoc, ap, subst, arith, sym, ◌∙◌}
 use Rattle.std.proofs.lemmas.List.{length-map, get_or-map, map_push}
 use Rattle.std.proofs.lemmas.List.Elements.{All-nil, All-head, All-tail, All-cons, All-map, All-push}
-use Rattle.std.proofs.lemmas.Slice.Zip.{AllZip-long, all_zipped_more}
+use Rattle.std.proofs.lemmas.Slice.Zip.{AllZip-long}
 use Rattle.mwc_parts.specs.Slicing.{Slicing}
 use Rattle.std.specs.List.{sum_by}
 use Rattle.std.proofs.lemmas.List.Sums.{sum_by-cons}
@@ -23,6 +22,7 @@ use Rattle.mwc_parts.proofs.Turns as turns
 use Rattle.mwc_parts.proofs.Firsts.{each_within, dealt_total, dealt_increase, share_begins}
 use Rattle.mwc_parts.proofs.Readings.{length-joined}
 use Rattle.mwc_gather.specs.declared.desk.Desk.{Desk}
+use Rattle.mwc_gather.specs.declared.dealing.Deal.{Deal}
 use Rattle.mwc_gather.specs.Inner.Desks.{view_of, views_of, DealsTo, IsPartOfDesk}
 use Rattle.mwc_gather.specs.Inner.Gathering.{all_total, IsComplete}
 
@@ -30,8 +30,8 @@ module _ {X Y : Type 0} where
   all_of_map : (P : Y → Type 0) (f : X → Y) (xs : List X) → All P (map f xs) → All (λ x. P (f x)) xs
   all_of_map P f xs a = λ k d l. let n = length-map xs f in subst P (get_or-map f xs k d (f d) l) (a k (f d) (omega arith))
 
-pub desks_within : {g : Slicing} {most : ℕ} {early stopped : Bool} {marks : List (Option ℕ)} (desks : List Desk)
-    → DealsTo g most early marks stopped desks → All (λ (d : Desk). coalition_count g d.given.items ≤ all_total g) desks
+pub desks_within : {g : Slicing} {most : ℕ} {early : Bool} {deal : Deal} (desks : List Desk)
+    → DealsTo g most early deal desks → All (λ (d : Desk). coalition_count g d.given.items ≤ all_total g) desks
 desks_within {g} desks h =
     all_of_map (λ (s : DeskView). coalition_count g s.given ≤ all_total g) view_of desks
     (all_of_map (λ (s : List ℕ). coalition_count g s ≤ all_total g) (λ (s : DeskView). s.given) (views_of desks)
@@ -80,10 +80,10 @@ parts_sum g (p ∷ parts) a =
     omega (arith, sum_by-cons (λ (p : Part). length p.got.items) p parts, sum_by-cons (coalition_count g) p.slices.items (shares parts))
 
 -- where all workers have finished, all slices are dealt
-pub end_dealt : {g : Slicing} {most : ℕ} {early stopped : Bool} {marks : List (Option ℕ)} (desks : List Desk) (parts : List Part)
-    → DealsTo g most early marks stopped desks → early ≡ false → 0 < length desks → AllZip (IsPartOfDesk g) desks parts
+pub end_dealt : {g : Slicing} {most : ℕ} {early : Bool} {deal : Deal} (desks : List Desk) (parts : List Part)
+    → DealsTo g most early deal desks → early ≡ false → 0 < length desks → AllZip (IsPartOfDesk g) desks parts
     → AreDealt g.slices (shares parts)
-end_dealt {g} {most} {early} {stopped} {marks} desks parts h e l z =
+end_dealt {g} desks parts h e l z =
     let n = length-map desks view_of in
     let d = turns.all_dealt (views_of desks) e (omega arith) h.dealing (zip_well g desks parts z) (zip_told g desks parts z) in
     subst (λ (s : List (List ℕ)). AreDealt g.slices s) (sym (zip_shares g desks parts z)) d
@@ -134,8 +134,8 @@ head_of {X} P x xs ys e a = All-head P x xs (subst (λ (l : List X). All P l) e 
 pub one_done : (done rest old all : List Desk) (d : Desk) → old ≡ d ∷ rest → done ++ old ≡ all → (done ++ d ∷ []) ++ rest ≡ all
 one_done done rest old all d e f = append_assoc done (d ∷ []) rest ∙ ap (λ (w : List Desk). done ++ w) (sym e) ∙ f
 
-pub end_begins : {g : Slicing} {most : ℕ} {early stopped : Bool} {marks : List (Option ℕ)} (desks : List Desk) (parts : List Part)
-    → DealsTo g most early marks stopped desks → early ≡ false → AllZip (IsPartOfDesk g) desks parts → (w : ℕ) → w < length desks
+pub end_begins : {g : Slicing} {most : ℕ} {early : Bool} {deal : Deal} (desks : List Desk) (parts : List Part)
+    → DealsTo g most early deal desks → early ≡ false → AllZip (IsPartOfDesk g) desks parts → (w : ℕ) → w < length desks
     → w < g.slices → slice_get (get_or (shares parts) w []) 0 ≡ Some w
 end_begins {g} desks parts h e z w a b =
     let n = length-map desks view_of in
@@ -144,8 +144,8 @@ end_begins {g} desks parts h e z w a b =
     ap (λ (s : List ℕ). slice_get s 0) (ap (λ (s : List (List ℕ)). get_or s w []) (zip_shares g desks parts z) ∙ r.1)
 
 -- where no fault was met, the parts are complete
-pub completes : {g : Slicing} {most workers : ℕ} {early stopped : Bool} {marks : List (Option ℕ)} (desks : List Desk) (parts : List Part)
-    → DealsTo g most early marks stopped desks → early ≡ false → length desks ≡ workers → 0 < workers
+pub completes : {g : Slicing} {most workers : ℕ} {early : Bool} {deal : Deal} (desks : List Desk) (parts : List Part)
+    → DealsTo g most early deal desks → early ≡ false → length desks ≡ workers → 0 < workers
     → AllZip (IsPartOfDesk g) desks parts → IsComplete g workers parts
 completes {g} desks parts h e k l z =
     let same = AllZip-long (IsPartOfDesk g) desks parts z in

@@ -15,6 +15,7 @@ use Rattle.mwc_parts.specs.declared.part.Part.{Part}
 use Rattle.mwc_parts.specs.declared.met.Met.{Met}
 use Rattle.mwc_parts.specs.declared.fault.GatherFault.{GatherFault}
 use Rattle.mwc_gather.specs.declared.desk.Desk.{Desk}
+use Rattle.mwc_gather.specs.declared.dealing.Deal.{Deal}
 use Rattle.mwc_gather.specs.Inner.Orders.{slicing_of}
 use Rattle.mwc_gather.specs.Inner.Desks.{IsOf, AllOf, CanEndWith, IsPartOfDesk, DealsTo}
 use Rattle.mwc_gather.specs.Inner.Gathering.{all_total, IsComplete}
@@ -36,7 +37,7 @@ pub record Finishing (g : Slicing) (most : ℕ) (start : Met) (desks rest : List
 
 -- no worker is joined yet
 pub none_joined : {g : Slicing} {most : ℕ} {start : Met} {desks rest : List Desk} {parts : List Part} → rest ≡ desks → parts ≡ []
-    → {early stopped : Bool} {marks : List (Option ℕ)} → DealsTo g most early marks stopped desks
+    → {early : Bool} {deal : Deal} → DealsTo g most early deal desks
     → start.many ≡ false → Finishing g most start desks rest start parts
 none_joined {desks = desks} e f h few =
     rw (e, f) (record {
@@ -95,9 +96,9 @@ module _ {g : Slicing} {most : ℕ} {start met : Met} {desks old rest : List Des
       }
 
 -- all have ended: where nothing was met, the parts are complete
-pub all_complete : {g : Slicing} {most workers : ℕ} {start met : Met} {stopped : Bool} {marks : List (Option ℕ)} (desks rest : List Desk)
+pub all_complete : {g : Slicing} {most workers : ℕ} {start met : Met} {deal : Deal} (desks rest : List Desk)
     (parts : List Part) → Finishing g most start desks rest met parts → rest ≡ [] → fault_of met ≡ None
-    → DealsTo g most (is_some (fault_of start)) marks stopped desks → length desks ≡ workers → 0 < workers → IsComplete g workers parts
+    → DealsTo g most (is_some (fault_of start)) deal desks → length desks ≡ workers → 0 < workers → IsComplete g workers parts
 all_complete {g} desks rest parts f e n h same some =
     let kept = f.none n in
     let all = sym (append-nil f.done) ∙ ap (λ (w : List Desk). f.done ++ w) (sym e) ∙ f.split in

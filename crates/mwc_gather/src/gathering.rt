@@ -1,5 +1,5 @@
 //! Workers that run beside each other.
-ghost use Rattle.std.specs.Prelude.{◌≡◌, ◌<◌, ◌≤◌, ◌^◌, [], All, Bool, List, ℕ, Option, None, false, IfOk, length, vec_len};
+ghost use Rattle.std.specs.Prelude.{◌≡◌, ◌<◌, ◌≤◌, ◌^◌, [], All, List, ℕ, Option, None, false, IfOk, length, vec_len};
 ghost use Rattle.std.specs.Option.{is_some};
 ghost use Rattle.std.specs.List.{AllZip};
 ghost use Rattle.council_game.specs.Votes.{minimal_coalitions};
@@ -10,11 +10,12 @@ ghost use Rattle.mwc_parts.specs.Inner.Fault.{fault_in, also_all};
 ghost use Rattle.mwc_gather.specs.Slicings.{slicing};
 ghost use Rattle.mwc_gather.specs.Inner.Orders.{slicing_of};
 ghost use Rattle.mwc_gather.specs.Inner.Desks.{AllOf, DealsTo, CanEndWith, HasStarted, views_of};
+ghost use Rattle.mwc_gather.specs.declared.dealing.Deal.{Deal};
 ghost use Rattle.mwc_gather.specs.Gathering.{Gathers};
 ghost use Rattle.mwc_gather.specs.Inner.Gathering.{all_total, IsComplete};
 
 use crate::calls::finish_part;
-use crate::dealing::read_all;
+use crate::dealing::Deal;
 use crate::desk::Desk;
 use crate::guarded::{Gate, Guarded};
 use crate::job::Job;
@@ -92,9 +93,11 @@ fn run<'s, E, R: Threads + Wait + Sync, G: Gate + Sync>(
     let order = job.order();
     let mut desks = Vec::new(alloc);
     let met = open_all(scope, rt, alloc, job, workers, &mut desks, bells);
-    let early = met.fault().is_some();
-    let mut marks = Marks::new(slice_count(job.bits));
-    let _stopped = read_all(rt, &order, early, &mut marks, desks.as_mut_slice(), bells);
+    let mut deal = Deal {
+        marks: Marks::new(slice_count(job.bits)),
+        stopped: met.fault().is_some(),
+    };
+    deal.read_all(rt, &order, desks.as_mut_slice(), bells);
     let parts = finish_all(rt, alloc, &order, desks, met)?;
     all_of(&order, workers, parts)
 }
@@ -162,9 +165,8 @@ fn finish_all<R: Threads>(
     start: Met,
 ) -> Result<Vec<Part>, GatherFault>
     requires start { start.many ≡ false }
-    requires dealt { (marks : List (Option ℕ)) × (stopped : Bool)
-        × DealsTo (slicing_of order.now) order.now.most (is_some (fault_of start))
-        marks stopped desks.items }
+    requires dealt { (deal : Deal) × DealsTo (slicing_of order.now) order.now.most
+        (is_some (fault_of start)) deal desks.items }
     ensures first { (whys : List (Option GatherFault))
         × AllZip (CanEndWith (slicing_of order.now) order.now.most) desks.items whys
         × (fault_in result ≡ fault_of (also_all start whys)) }

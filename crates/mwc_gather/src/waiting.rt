@@ -3,6 +3,8 @@
 //! looks follows what came of it: an eighth less often after each sleep, as where there are fewer
 //! processors than threads, and twice as often after a look that found something. No contract depends
 //! on it. A wake-up that is lost costs one millisecond, the longest sleep, and no more.
+ghost use Rattle.std.specs.Prelude.{◌<◌};
+
 use std::sync::Wait;
 use std::sync::atomic::{AtomicBool, AtomicU32, Ordering};
 use std::thread::Parker;
@@ -71,6 +73,16 @@ impl Bells {
         Bells {
             gatherer: Bell::new(),
             workers: array::from_fn(|_| Bell::new()),
+        }
+    }
+
+    /// The bells of the ring of a worker, as the gatherer sees them.
+    pub fn pair(&self, worker: usize) -> BellPair<'_>
+        requires { worker < 16 }
+    {
+        BellPair {
+            own: &self.gatherer,
+            other: &self.workers[worker],
         }
     }
 }

@@ -13,6 +13,7 @@ use Rattle.mwc_parts.specs.declared.fault.GatherFault.TheVariants.{TooMany, Star
 use Rattle.mwc_parts.specs.Inner.Dealing.{DeskView, IsWell, IsFresh, DealsInTurn, DealsOneEach}
 use Rattle.mwc_gather.specs.Inner.Orders.{slicing_of}
 use Rattle.mwc_gather.specs.declared.desk.Desk.{Desk}
+use Rattle.mwc_gather.specs.declared.dealing.Deal.{Deal}
 
 -- the worker was given this game and this limit
 abbrev pub IsOf : Slicing → ℕ → Desk → Type 0
@@ -46,13 +47,13 @@ abbrev pub HasStarted : ℕ → ℕ → Met → Type 0
 HasStarted workers started met =
     ((met ≡ nothing) × (started ≡ workers)) ⊎ ((why : GatherFault) × IsEarly why × (met ≡ also nothing why) × (started < workers))
 
--- the slices of the game are dealt to the desks
-pub record DealsTo (g : Slicing) (most : ℕ) (early : Bool) (marks : List (Option ℕ)) (stopped : Bool) (desks : List Desk) : Type 0 where
+-- the slices of the game are dealt to the desks; nothing is, where the deal was stopped early, from its beginning
+pub record DealsTo (g : Slicing) (most : ℕ) (early : Bool) (deal : Deal) (desks : List Desk) : Type 0 where
   pub all_of : AllOf g most desks
-  pub dealing : DealsInTurn g.slices (length desks) early marks stopped (views_of desks)
+  pub dealing : DealsInTurn g.slices (length desks) early deal.marks deal.stopped (views_of desks)
 
 -- the first k desks were dealt to
-pub record DealsFirst (g : Slicing) (most : ℕ) (early : Bool) (marks : List (Option ℕ)) (stopped : Bool) (k : ℕ) (desks : List Desk) : Type 0 where
+pub record DealsFirst (g : Slicing) (most : ℕ) (early : Bool) (deal : Deal) (k : ℕ) (desks : List Desk) : Type 0 where
   pub all_of : AllOf g most desks
-  pub firsts : DealsOneEach g.slices k early marks stopped (views_of desks)
+  pub firsts : DealsOneEach g.slices k early deal.marks deal.stopped (views_of desks)
   pub to_come : AllWithin (λ (d : Desk). IsFresh (view_of d)) desks k (length desks)

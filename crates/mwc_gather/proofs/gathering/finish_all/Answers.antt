@@ -1,4 +1,4 @@
-use Rattle.std.proofs.Common.{◌≡◌, length, vec_len, rules, arith}
+use Rattle.std.proofs.Common.{rules, arith}
 use Rattle.std.proofs.lemmas.Grind.{common_steps}
 use Rattle.std.specs.Vec.Iter.{into_iter_items}
 use Rattle.mwc_parts.specs.declared.fault.GatherFault.TheVariants.{Memory}
@@ -8,7 +8,7 @@ use Rattle.mwc_gather.proofs.Finishing.{none_joined, fault_met, part_kept, all_c
 use Rattle.mwc_gather.proofs.gathering.finish_all.Goals as goal
 
 pub loop-desk-init : goal.loop-desk-init
-loop-desk-init g c = none_joined (search rules) (search rules) c.requires.dealt.2 c.requires.start
+loop-desk-init g c = none_joined (search rules) (search rules) c.requires.dealt.1 c.requires.start
 
 pub loop-desk-preserved : goal.loop-desk-preserved
 loop-desk-preserved g c =
@@ -29,4 +29,4 @@ pub returns-in-None-fault-clause-parts : goal.returns-in-None-fault-clause-parts
 returns-in-None-fault-clause-parts g c = λ some.
     let ok = c.args.desks.ok in
     all_complete c.args.desks.items (into_iter_items c.loop-desk.desk-iterator) c.loop-desk.parts.items c.loop-desk.invariant
-    (grind (arith, common_steps)) (search rules) c.requires.dealt.2 (omega arith) some
+    (grind (arith, common_steps)) (search rules) c.requires.dealt.1 (omega arith) some

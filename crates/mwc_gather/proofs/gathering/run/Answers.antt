@@ -1,11 +1,9 @@
-use Rattle.std.proofs.Common.{rules, ◌≡◌, ℕ, ◌<◌, ◌≤◌, ◌++◌, List, length, take, drop, subst, ap, sym, ◌∙◌, arith}
-use Rattle.std.specs.Prelude.{All, Bool}
+use Rattle.std.proofs.Common.{rules, ◌≡◌, ℕ, ◌<◌, List, length, drop, subst, ap, sym, ◌∙◌, arith}
+use Rattle.std.specs.Prelude.{Bool}
 use Rattle.std.specs.Option.{is_some}
 use Rattle.std.proofs.lemmas.List.{take_at}
 use Rattle.std.proofs.Math.Pow.{pow_mono}
 use Rattle.council_game.specs.Game.{GameView}
-use Rattle.mwc_parts.specs.Slicing.{Slicing}
-use Rattle.mwc_parts.specs.Wording.{coalition_count}
 use Rattle.mwc_parts.specs.Fault.{fault_of}
 use Rattle.mwc_gather.specs.declared.order.Order.{Order}
 use Rattle.mwc_gather.specs.declared.desk.Desk.{Desk}
@@ -22,17 +20,13 @@ slicing_is : (order : Order) (game : GameView) (bits : ℕ) → order.game.value
     → slicing_of order ≡ slicing game bits
 slicing_is order game bits e f = ap (λ (x : GameView). slicing x order.bits) e ∙ ap (slicing game) f
 
--- what was written back through a whole slice
-written : (new items : List Desk) (n : ℕ) → length new ≡ n → take n (new ++ drop (length new) items) ≡ new
-written new items n e = take_at new (drop (length new) items) n e
-
-pub new-marks-requires : goal.new-marks-requires
-new-marks-requires g c =
+pub new-requires : goal.new-requires
+new-requires g c =
     rw c.slice_count.ensures
     (pow_mono {i = 0} {j = c.args.job.now.bits} (omega arith), pow_mono {i = c.args.job.now.bits} {j = 10} c.args.job.now.bits_fit.0)
 
-pub read_all-stopped-requires-clause-all_of : goal.read_all-stopped-requires-clause-all_of
-read_all-stopped-requires-clause-all_of g c =
+pub read_all-requires-clause-all_of : goal.read_all-requires-clause-all_of
+read_all-requires-clause-all_of g c =
     let order = c.order-order.ensures in
     let same = slicing_is c.order-order.result c.args.job.now.guarded c.args.job.now.bits order.game order.asked.0 in
     rw (c.as_mut_slice.ensures.value, same, order.asked.1) c.open_all-met.ensures.order
@@ -43,21 +37,16 @@ finish_all-requires-clause-start g c =
 
 pub finish_all-requires-clause-dealt : goal.finish_all-requires-clause-dealt
 finish_all-requires-clause-dealt g c =
-    let new : List Desk = c.read_all-stopped.new.desks in
+    let new : List Desk = c.read_all.new.desks in
     let n : ℕ = c.open_all-met.new.desks.len in
     let v = ap length c.as_mut_slice.ensures.value in
-    let au = c.read_all-stopped.auto.desks in
+    let au = c.read_all.auto.desks in
     let ok = c.open_all-met.new.desks.ok in
-    let e = written new c.open_all-met.new.desks.items n (omega arith) in
+    let all = take_at new (drop (length new) c.open_all-met.new.desks.items) n (omega arith) in
     let order : Order = c.order-order.result in
-    let early = c.is_some-early.ensures ∙ ap is_some c.fault.ensures in (
-      c.read_all-stopped.new.marks,
-      c.read_all-stopped.result,
-      subst (λ (w : List Desk). DealsTo (slicing_of order) order.most
-          (is_some (fault_of c.open_all-met.result)) c.read_all-stopped.new.marks c.read_all-stopped.result w) (sym e)
-          (subst (λ (b : Bool). DealsTo
-          (slicing_of order) order.most b c.read_all-stopped.new.marks c.read_all-stopped.result new) early c.read_all-stopped.ensures),
-    )
+    let early = c.is_some.ensures ∙ ap is_some c.fault.ensures in
+    let P : Bool → List Desk → Type 0 = λ b w. DealsTo (slicing_of order) order.most b c.read_all.new.self w in
+    (c.read_all.new.self, subst (P (is_some (fault_of c.open_all-met.result))) (sym all) (subst (λ b. P b new) early c.read_all.ensures))
 
 pub returns-in_err-parts-clause-many : goal.returns-in_err-parts-clause-many
 returns-in_err-parts-clause-many g c = λ e.
@@ -69,6 +58,7 @@ returns-in_err-parts-clause-many g c = λ e.
 
 pub all_of-requires-clause-complete : goal.all_of-requires-clause-complete
 all_of-requires-clause-complete g c =
+    let order : Order = c.order-order.result in
     let same = c.open_all-met.ensures.all c.in_ok-parts.ensures.none in
     let some = c.requires.workers.0 in
-    subst (λ (n : ℕ). IsComplete (slicing_of c.order-order.result) n c.in_ok-parts.parts.items) same (c.in_ok-parts.ensures.parts (omega arith))
+    subst (λ (n : ℕ). IsComplete (slicing_of order) n c.in_ok-parts.parts.items) same (c.in_ok-parts.ensures.parts (omega arith))

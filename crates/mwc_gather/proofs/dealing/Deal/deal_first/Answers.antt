@@ -1,0 +1,21 @@
+use Rattle.std.proofs.Common.{◌≡◌, ◌<◌, ℕ, length, subst, arith}
+use Rattle.mwc_gather.specs.Inner.Orders.{slicing_of}
+use Rattle.mwc_gather.specs.Inner.Desks.{DealsFirst}
+use Rattle.mwc_gather.proofs.Deals.{first_of_place, deal_starts}
+use Rattle.mwc_gather.proofs.dealing.Deal.deal_first.Goals as goal
+
+pub loop-i-init : goal.loop-i-init
+loop-i-init g c = deal_starts c.args.self.now c.args.desks.now c.requires.all_of c.requires.fresh c.requires.marks
+
+pub loop-i-preserved : goal.loop-i-preserved
+loop-i-preserved g c =
+    let q = c.loop-i.auto.desks in
+    let l : c.loop-i.i < length c.loop-i.desks = omega arith in
+    first_of_place c.loop-i.desks c.loop-i.i c.index-desks-i.result c.deal_to.new.desk l c.loop-i.invariant
+    c.deal_to.ensures.worker c.deal_to.ensures.turns
+
+pub returns : goal.returns
+returns g c =
+    let q : c.loop-i.i ≡ length c.args.desks.now = omega arith in
+    let order = c.args.order.now in
+    subst (λ (k : ℕ). DealsFirst (slicing_of order) order.most c.args.self.now.stopped c.loop-i.self k c.loop-i.desks) q c.loop-i.invariant
