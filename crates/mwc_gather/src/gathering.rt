@@ -1,5 +1,5 @@
 //! Workers that run beside each other.
-ghost use Rattle.std.specs.Prelude.{◌≡◌, ◌<◌, ◌≤◌, ◌^◌, [], All, List, ℕ, Option, None, false, IfOk, length, vec_len};
+ghost use Rattle.std.specs.Prelude.{◌≡◌, ◌<◌, ◌≤◌, ◌^◌, All, List, ℕ, Option, None, false, IfOk, length, vec_len};
 ghost use Rattle.std.specs.Option.{is_some};
 ghost use Rattle.std.specs.List.{AllZip};
 ghost use Rattle.council_game.specs.Votes.{minimal_coalitions};
@@ -91,8 +91,7 @@ fn run<'s, E, R: Threads + Wait + Sync, G: Gate + Sync>(
         → job.now.most < length (minimal_coalitions (votes_of job.now.guarded)) }
 {
     let order = job.order();
-    let mut desks = Vec::new(alloc);
-    let met = open_all(scope, rt, alloc, job, workers, &mut desks, bells);
+    let (mut desks, met) = open_all(scope, rt, alloc, job, workers, bells);
     let mut deal = Deal {
         marks: Marks::new(slice_count(job.bits)),
         stopped: met.fault().is_some(),
@@ -120,40 +119,40 @@ fn all_of(order: &Order, workers: u8, parts: Vec<Part>) -> Result<Gathered, Gath
     })
 }
 
-/// Starts the workers, until one cannot be started. Room for the desks is made first.
+/// Starts the workers, until one cannot be started: their desks, and what was met. Room for the desks
+/// is made first.
 fn open_all<'s, E, R: Threads + Wait + Sync, G: Gate + Sync>(
     scope: &Scope<'s, E>,
     rt: &'s R,
     alloc: Global,
     job: &Job<'s, G>,
     workers: u8,
-    desks: &mut Vec<Desk>,
     bells: &'s Bells,
-) -> Met
+) -> (Vec<Desk>, Met)
     requires workers { (1 ≤ workers) × (workers ≤ 16) }
-    requires none { desks.old.items ≡ [] }
     requires gate { (w j : ℕ) → w < workers → j < 2 ^ job.now.bits → G.takes w j }
-    ensures few { vec_len desks.new ≤ workers }
-    ensures all { fault_of result ≡ None → vec_len desks.new ≡ workers }
-    ensures met { HasStarted workers (vec_len desks.new) result }
-    ensures order { AllOf (slicing job.now.guarded job.now.bits) job.now.most desks.new.items }
-    ensures fresh { All IsFresh (views_of desks.new.items) }
+    ensures few { vec_len result.0 ≤ workers }
+    ensures all { fault_of result.1 ≡ None → vec_len result.0 ≡ workers }
+    ensures met { HasStarted workers (vec_len result.0) result.1 }
+    ensures order { AllOf (slicing job.now.guarded job.now.bits) job.now.most result.0.items }
+    ensures fresh { All IsFresh (views_of result.0.items) }
 {
+    let mut desks = Vec::new(alloc);
     let mut met = Met::nothing();
     if desks.reserve(usize::from(workers)).is_err() {
         met.note(GatherFault::Memory);
-        return met;
+        return (desks, met);
     }
     for worker in 0..workers {
         match Desk::open(scope, rt, alloc, job, worker, bells) {
             Ok(desk) => desks.push_reserved(desk),
             Err(why) => {
                 met.note(why);
-                return met;
+                return (desks, met);
             }
         }
     }
-    met
+    (desks, met)
 }
 
 /// Joins all workers, and gives the part of each, or the fault that goes before the others.

@@ -29,24 +29,24 @@ pub read_all-requires-clause-all_of : goal.read_all-requires-clause-all_of
 read_all-requires-clause-all_of g c =
     let order = c.order-order.ensures in
     let same = slicing_is c.order-order.result c.args.job.now.guarded c.args.job.now.bits order.game order.asked.0 in
-    rw (c.as_mut_slice.ensures.value, same, order.asked.1) c.open_all-met.ensures.order
+    rw (c.as_mut_slice.ensures.value, same, order.asked.1) c.open_all-desks.ensures.order
 
 pub finish_all-requires-clause-start : goal.finish_all-requires-clause-start
 finish_all-requires-clause-start g c =
-    opens_few c.args.workers c.open_all-met.new.desks.len c.open_all-met.result c.open_all-met.ensures.met
+    opens_few c.args.workers c.open_all-desks.result.0.len c.open_all-desks.result.1 c.open_all-desks.ensures.met
 
 pub finish_all-requires-clause-dealt : goal.finish_all-requires-clause-dealt
 finish_all-requires-clause-dealt g c =
     let new : List Desk = c.read_all.new.desks in
-    let n : ℕ = c.open_all-met.new.desks.len in
+    let n : ℕ = c.open_all-desks.result.0.len in
     let v = ap length c.as_mut_slice.ensures.value in
     let au = c.read_all.auto.desks in
-    let ok = c.open_all-met.new.desks.ok in
-    let all = take_at new (drop (length new) c.open_all-met.new.desks.items) n (omega arith) in
+    let ok = c.open_all-desks.result.0.ok in
+    let all = take_at new (drop (length new) c.open_all-desks.result.0.items) n (omega arith) in
     let order : Order = c.order-order.result in
     let early = c.is_some.ensures ∙ ap is_some c.fault.ensures in
     let P : Bool → List Desk → Type 0 = λ b w. DealsTo (slicing_of order) order.most b c.read_all.new.self w in
-    (c.read_all.new.self, subst (P (is_some (fault_of c.open_all-met.result))) (sym all) (subst (λ b. P b new) early c.read_all.ensures))
+    (c.read_all.new.self, subst (P (is_some (fault_of c.open_all-desks.result.1))) (sym all) (subst (λ b. P b new) early c.read_all.ensures))
 
 pub returns-in_err-parts-clause-many : goal.returns-in_err-parts-clause-many
 returns-in_err-parts-clause-many g c = λ e.
@@ -59,6 +59,6 @@ returns-in_err-parts-clause-many g c = λ e.
 pub all_of-requires-clause-complete : goal.all_of-requires-clause-complete
 all_of-requires-clause-complete g c =
     let order : Order = c.order-order.result in
-    let same = c.open_all-met.ensures.all c.in_ok-parts.ensures.none in
+    let same = c.open_all-desks.ensures.all c.in_ok-parts.ensures.none in
     let some = c.requires.workers.0 in
     subst (λ (n : ℕ). IsComplete (slicing_of order) n c.in_ok-parts.parts.items) same (c.in_ok-parts.ensures.parts (omega arith))
