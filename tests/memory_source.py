@@ -62,15 +62,15 @@ ALLOWED = {
     "mwc_tally/src/all.rt": [
         ("if lost {", "return Err(TallyFault::Memory);", "a share is lost where a growth was refused"),
         ("if !started {", "return Err(TallyFault::Start);", "a thread was not started"),
-        ("let mut all = Share::none(alloc, game, bits);", "let mut lost = false;", "nothing is lost yet"),
-        ("match thread.join(rt) {", "Ok(share) => lost |= all.add(game, bits, &share.taken, &share.counts).is_err(),", "the growth was refused"),
-        ("Ok(share) => lost |= all.add(game, bits, &share.taken, &share.counts).is_err(),", "Err(_) => lost = true,", "the thread's one error is Memory"),
+        ("let mut all = Share::none(alloc, slices);", "let mut lost = false;", "nothing is lost yet"),
+        ("match thread.join(rt) {", "Ok(share) => lost |= all.add(slices, &share.taken, &share.counts).is_err(),", "the growth was refused"),
+        ("Ok(share) => lost |= all.add(slices, &share.taken, &share.counts).is_err(),", "Err(_) => lost = true,", "the thread's one error is Memory"),
     ],
     "mwc_tally/src/pieces.rt": [
         ("let Some(thread) = start(scope, game, pieces, skip, part) else {", "return Err(TallyFault::Start);", "the thread was not started"),
     ],
     "mwc_tally/src/work.rt": [
-        ("let share = self.count_next(alloc, bits);", "if share.is_err() {", "nobody takes a further slice"),
+        ("let share = self.count_next(alloc);", "if share.is_err() {", "nobody takes a further slice"),
     ],
     "mwc_sums/src/choices.rt": [
         ("", "let mut rows = Vec::with_capacity(alloc, limits::SIZES)?;", "41 rows of 41 numbers"),

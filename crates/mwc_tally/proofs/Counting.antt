@@ -10,13 +10,16 @@ use Rattle.std.proofs.lemmas.List.Sums.{sum_by-cons}
 use Rattle.std.proofs.lemmas.List.Sorted.{sum_by-IsPermutation}
 use Rattle.council_game.specs.Game.{GameView, IsGame, votes_of}
 use Rattle.council_game.specs.Votes.{minimal_coalitions}
+use Rattle.council_game.proofs.Games.{votes-are}
 use Rattle.mwc_walk.specs.Slices.{slice}
 use Rattle.mwc_walk.proofs.Joined.{slices-joined}
+use Rattle.mwc_walk.proofs.One.{slice-short}
 use Rattle.power_index.specs.Tables.{Tables, AreTallies, AreCounts, table_total}
 use Rattle.power_index.proofs.Minimal.{minimal-are-coalitions, minimal-few}
 use Rattle.power_index.proofs.Sound.{total-is, tallies-are_counts}
 use Rattle.power_index.proofs.Tallies.{range-more, sum_by-range-more, sum_by-range-le}
-use Rattle.mwc_tally.specs.Inner.Shares.{CountedUpTo}
+use Rattle.mwc_tally.specs.Inner.Shares.{CountedUpTo, CountSlices, CountWhole, slice_of}
+use Rattle.mwc_tally.specs.declared.slices.Slices.{Slices}
 
 later : (P : ℕ → Type 0) (before rest : List ℕ) (c : ℕ) → All P (before ++ c ∷ rest) → P c
 later P [] rest c h = h 0 0 (omega arith)
@@ -48,42 +51,43 @@ module _ {g : GameView} {whole to_come rest : List ℕ} {c : ℕ} {t : Tables} (
   pub counted-next : (P : ℕ → Type 0) → All P whole → P c
   counted-next P all = later P h.before rest c (subst (All P) (sym next-joined) all)
 
--- what a walk over a slice gives next is a coalition of the game
-pub slice-next : {g : GameView} {to_come rest : List ℕ} {c : ℕ} {t : Tables} (bits j : ℕ) → IsGame g → to_come ≡ c ∷ rest
-    → CountedUpTo g (slice (votes_of g) bits j) to_come t
-    → (0 < c) × (c < 2 ^ length g.names)
-unfolding slice
-slice-next {g} bits j game next h =
-    let own : ℕ → Type 0 = λ c. (0 < c) × (c < 2 ^ length g.names) in
-    counted-next next h own (All-filter _ own (minimal_coalitions (votes_of g)) (minimal-are-coalitions g game))
+-- what a walk over a slice gives next is a coalition of the game, and there is room for it
+module _ (s : Slices) (j : ℕ) {to_come rest : List ℕ} {c : ℕ} {t : Tables} (next : to_come ≡ c ∷ rest)
+    (h : CountedUpTo s.game.now (slice_of s j) to_come t) where
+  pub slice-next : (0 < c) × (c < 2 ^ length s.game.now.names)
+  unfolding slice
+  slice-next =
+      let own : ℕ → Type 0 = λ c. (0 < c) × (c < 2 ^ length s.game.now.names) in
+      counted-next next h own (All-filter _ own _ (minimal-are-coalitions s.game.now h.tallies.of_game.is_game))
+
+  pub slice-room : table_total t < 2 ^ 40
+  slice-room = counted-room next h (slice-short (votes_of s.game.now) s.bits j (votes-are s.game.now h.tallies.of_game.is_game))
 
 -- all slices are the whole list
-pub all-slices : (g : GameView) (bits : ℕ) → IsGame g → bits ≤ 10 → bits ≤ length g.names
-    → flat_map (slice (votes_of g) bits) (range_with_len 0 (2 ^ bits)) ≡ minimal_coalitions (votes_of g)
-all-slices g bits game few le = slices-joined (votes_of g) bits few le
+pub all-slices : (s : Slices) → flat_map (slice_of s) (range_with_len 0 (2 ^ s.bits)) ≡ minimal_coalitions (votes_of s.game.now)
+all-slices s = slices-joined (votes_of s.game.now) s.bits s.bits_fit.0 s.bits_fit.1
 
 -- the first j slices and slice j are not too many
-pub slices-room : (g : GameView) (bits j : ℕ) → IsGame g → bits ≤ 10 → bits ≤ length g.names → j < 2 ^ bits
-    → length (flat_map (slice (votes_of g) bits) (range_with_len 0 j)) + length (slice (votes_of g) bits j) ≤ 2 ^ 40
-slices-room g bits j game few le lt =
-    let f : ℕ → ℕ = λ i. length (slice (votes_of g) bits i) in
-    let first = length-flat_map (slice (votes_of g) bits) (range_with_len 0 j) in
-    let whole = length-flat_map (slice (votes_of g) bits) (range_with_len 0 (2 ^ bits)) in
-    let same = ap (λ (l : List ℕ). length l) (all-slices g bits game few le) in
+pub slices-room : (s : Slices) (j : ℕ) → IsGame s.game.now → j < 2 ^ s.bits
+    → length (flat_map (slice_of s) (range_with_len 0 j)) + length (slice_of s j) ≤ 2 ^ 40
+slices-room s j game lt =
+    let f : ℕ → ℕ = λ i. length (slice_of s i) in
+    let first = length-flat_map (slice_of s) (range_with_len 0 j) in
+    let whole = length-flat_map (slice_of s) (range_with_len 0 (2 ^ s.bits)) in
+    let same = ap (λ (l : List ℕ). length l) (all-slices s) in
     let more = sum_by-range-more f j in
-    let less = sum_by-range-le f (j + 1) (2 ^ bits) (omega (arith, lt)) in
-    let most = minimal-few g game in
+    let less = sum_by-range-le f (j + 1) (2 ^ s.bits) (omega (arith, lt)) in
+    let most = minimal-few s.game.now game in
     omega (arith, first, whole, same, more, less, most)
 
-pub slices-more : (g : GameView) (bits j : ℕ)
-    → flat_map (slice (votes_of g) bits) (range_with_len 0 j) ++ slice (votes_of g) bits j ≡ flat_map (slice (votes_of g) bits)
-    (range_with_len 0 (j + 1))
-slices-more g bits j =
-    let one : slice (votes_of g) bits j ≡ flat_map (slice (votes_of g) bits) ((0 + j) ∷ []) = sym (append-nil _)
-    ∙ ap (λ (i : ℕ). slice (votes_of g) bits i ++ []) (omega arith) in
-    ap (λ (l : List ℕ). flat_map (slice (votes_of g) bits) (range_with_len 0 j) ++ l) one
-    ∙ sym (flat_map-append (slice (votes_of g) bits) (range_with_len 0 j) ((0 + j) ∷ []))
-    ∙ ap (flat_map (slice (votes_of g) bits)) (sym (range-more 0 j))
+pub slices-more : (s : Slices) (j : ℕ)
+    → flat_map (slice_of s) (range_with_len 0 j) ++ slice_of s j ≡ flat_map (slice_of s) (range_with_len 0 (j + 1))
+slices-more s j =
+    let one : slice_of s j ≡ flat_map (slice_of s) ((0 + j) ∷ []) = sym (append-nil _)
+    ∙ ap (λ (i : ℕ). slice_of s i ++ []) (omega arith) in
+    ap (λ (l : List ℕ). flat_map (slice_of s) (range_with_len 0 j) ++ l) one
+    ∙ sym (flat_map-append (slice_of s) (range_with_len 0 j) ((0 + j) ∷ []))
+    ∙ ap (flat_map (slice_of s)) (sym (range-more 0 j))
 
 -- how many of a joined list pass a test
 pass-flat_map : (q : ℕ → Bool) (f : ℕ → List ℕ) (xs : List ℕ) → length (filter q (flat_map f xs)) ≡ sum_by (λ x. length (filter q (f x))) xs
@@ -113,12 +117,11 @@ permuted g f xs ys t same h = record {
 }
 
 -- the slices, each once, have the counts of the whole list
-pub whole-counts : (g : GameView) (bits : ℕ) (taken : List ℕ) (t : Tables) → bits ≤ 10 → bits ≤ length g.names
-    → IsPermutation taken (range_with_len 0 (2 ^ bits)) → AreTallies g (flat_map (slice (votes_of g) bits) taken) t
-    → AreCounts g (minimal_coalitions (votes_of g)) t
-whole-counts g bits taken t few le same h =
-    subst (λ (l : List ℕ). AreCounts g l t) (all-slices g bits h.of_game.is_game few le)
-    (tallies-are_counts g _ t (permuted g (slice (votes_of g) bits) taken (range_with_len 0 (2 ^ bits)) t same h))
+pub whole-counts : (s : Slices) (taken : List ℕ) (t : Tables) → IsPermutation taken (range_with_len 0 (2 ^ s.bits))
+    → CountSlices s taken t → CountWhole s t
+whole-counts s taken t same h =
+    subst (λ (l : List ℕ). AreCounts s.game.now l t) (all-slices s)
+    (tallies-are_counts s.game.now _ t (permuted s.game.now (slice_of s) taken _ t same h))
 
 -- a list with the numbers 0, 1, .. at its places
 pub is-range : (row : List ℕ) (n : ℕ) → length row ≡ n → ((k : ℕ) → k < n → get_or row k 0 ≡ k) → row ≡ range_with_len 0 n

@@ -1,18 +1,17 @@
 //! The counts of all slices.
-ghost use Rattle.std.specs.Prelude.{◌≡◌, ◌≤◌, ◌<◌, ◌^◌, All, length, vec_len, vec_capacity, Err, IfOk, MatchOption, ⊤};
+ghost use Rattle.std.specs.Prelude.{◌≡◌, ◌≤◌, All, length, vec_len, vec_capacity, Err, IfOk, MatchOption, ⊤};
 ghost use Rattle.council_game.specs.Game.{votes_of};
 ghost use Rattle.council_game.specs.Votes.{minimal_coalitions};
 ghost use Rattle.power_index.specs.Tables.{AreCounts};
-ghost use Rattle.mwc_tally.specs.Inner.Shares.{IsShare};
-ghost use Rattle.mwc_tally.specs.Inner.Threads.{IsGiven};
+ghost use Rattle.mwc_tally.specs.Inner.Shares.{IsShare, IsShareAt, CountWhole};
 
 use crate::fault::TallyFault;
 use crate::share::Share;
 use crate::slice::tally_watched;
+use crate::slices::Slices;
 use crate::watch::Watch;
-use crate::work::{Given, Work};
+use crate::work::Work;
 use council_game::{Game, Memory};
-use mwc_walk::slice_count;
 use power_index::Counts;
 use std::alloc::Global;
 use std::sync::Wait;
@@ -21,7 +20,7 @@ use std::thread;
 use std::thread::{PromisedHandle, Scope, Threads};
 
 /// A thread that was started.
-type Started = PromisedHandle<Result<Share, Memory>, Given>;
+type Started<'s> = PromisedHandle<Result<Share, Memory>, Slices<'s>>;
 
 /// The counts of all minimal winning coalitions of a game (`council_run::tally`, which reads a file and writes
 /// a report, rests on it), by so many threads, each of which takes
@@ -50,20 +49,23 @@ pub fn tally<R: Threads + Wait + Sync, W: Watch + Sync>(
     ensures stopped { result ≡ Err TallyFault.Stopped → W.may_stop }
 {
     let next = AtomicU64::new(0);
-    let work = Work::new(game, &next, watch);
+    let next = &next;
     let share = thread::scope(
         thread::scope_env(),
         rt,
         move |scope| -> Result<Share, TallyFault>
-            requires few { bits ≤ 10 }
-            requires bits { bits ≤ length work.names }
-            ensures share { IfOk result (IsShare work.entry bits) }
+            requires { (bits ≤ 10) × (bits ≤ length game.now.names) }
+            ensures share { IfOk result (IsShareAt game.entry.now bits) }
             ensures started { result ≡ Err TallyFault.Stopped → ⊥ }
-        { count_beside(scope, rt, alloc, &work, bits, workers) },
+        {
+            let work = Work::new(Slices { game, bits }, next, watch);
+            count_beside(scope, rt, alloc, &work, workers)
+        },
     )?;
-    match share.whole(game, bits) {
+    let slices = Slices { game, bits };
+    match share.whole(slices) {
         Some(counts) => Ok(counts),
-        None => one_by_one(game, bits, watch).ok_or(TallyFault::Stopped),
+        None => one_by_one(slices, watch).ok_or(TallyFault::Stopped),
     }
 }
 
@@ -72,26 +74,14 @@ fn start<'s, E, W: Watch + Sync>(
     scope: &Scope<'s, E>,
     alloc: Global,
     work: &Work<'s, W>,
-    bits: u8,
-) -> Option<Started>
-    requires few { bits ≤ 10 }
-    requires bits { bits ≤ length work.now.names }
-    ensures { MatchOption result ⊤ (λ t. IsGiven work.now bits t.promise) }
+) -> Option<Started<'s>>
+    ensures { MatchOption result ⊤ (λ t. t.promise ≡ work.now.slices) }
 {
     let own = work.share();
-    let given = Given {
-        game: own.seen(),
-        bits,
-    };
     let body = move || -> Result<Share, Memory>
-        requires few { bits ≤ 10 }
-        requires bits { bits ≤ length own.names }
-        ensures { IfOk result (IsShare own.entry bits) }
-    { own.run(alloc, bits) };
-    match scope.spawn_with(given, body) {
-        Ok(thread) => Some(thread),
-        Err(_) => None,
-    }
+        ensures { IfOk result (IsShare own.entry.slices) }
+    { own.run(alloc) };
+    scope.spawn_with(work.slices, body).ok()
 }
 
 /// Starts the threads, and adds what they counted.
@@ -100,28 +90,25 @@ fn count_beside<'s, E, R: Threads, W: Watch + Sync>(
     rt: &R,
     alloc: Global,
     work: &Work<'s, W>,
-    bits: u8,
     workers: u8,
 ) -> Result<Share, TallyFault>
-    requires few { bits ≤ 10 }
-    requires bits { bits ≤ length work.now.names }
-    ensures share { IfOk result (IsShare work.now bits) }
+    ensures share { IfOk result (IsShare work.now.slices) }
     ensures started { result ≡ Err TallyFault.Stopped → ⊥ }
 {
     let mut threads = Vec::new(alloc);
     threads.reserve(usize::from(workers))?;
     let mut started = true;
     for _ in 0..workers {
-        match start(scope, alloc, work, bits) {
+        match start(scope, alloc, work) {
             Some(thread) => threads.push_reserved(thread),
             None => {
-                work.stop(bits);
+                work.stop();
                 started = false;
                 break;
             }
         }
     }
-    let (share, lost) = joined(rt, alloc, work, bits, threads);
+    let (share, lost) = join_all(rt, alloc, work.slices, threads);
     if !started {
         return Err(TallyFault::Start);
     }
@@ -132,22 +119,20 @@ fn count_beside<'s, E, R: Threads, W: Watch + Sync>(
 }
 
 /// Joins the threads: what they counted together, and whether any of it was lost for want of memory.
-fn joined<R: Threads, W: Watch>(
+fn join_all<'s, R: Threads>(
     rt: &R,
     alloc: Global,
-    work: &Work<'_, W>,
-    bits: u8,
-    threads: Vec<Started>,
+    slices: Slices<'s>,
+    threads: Vec<Started<'s>>,
 ) -> (Share, bool)
-    requires { All (λ t. IsGiven work.now bits t.promise) threads.items }
-    ensures { IsShare work.now bits result.0 }
+    requires { All (λ t. t.promise ≡ slices) threads.items }
+    ensures { IsShare slices.entry result.0 }
 {
-    let game = work.game();
-    let mut all = Share::none(alloc, game, bits);
+    let mut all = Share::none(alloc, slices);
     let mut lost = false;
     for thread in threads {
         match thread.join(rt) {
-            Ok(share) => lost |= all.add(game, bits, &share.taken, &share.counts).is_err(),
+            Ok(share) => lost |= all.add(slices, &share.taken, &share.counts).is_err(),
             Err(_) => lost = true,
         }
     }
@@ -155,19 +140,15 @@ fn joined<R: Threads, W: Watch>(
 }
 
 /// The counts of all slices, one after the other; none where the watch stops it. The watch is told of each again.
-fn one_by_one<W: Watch>(game: &Game, bits: u8, watch: &W) -> Option<Counts>
-    requires few { bits ≤ 10 }
-    requires bits { bits ≤ length game.now.names }
-    ensures { MatchOption result W.may_stop
-        (λ c. AreCounts game.now (minimal_coalitions (votes_of game.now)) c) }
+fn one_by_one<W: Watch>(slices: Slices<'_>, watch: &W) -> Option<Counts>
+    ensures { MatchOption result W.may_stop (CountWhole slices.entry) }
 {
-    let _members = game.members();
-    let mut counts = Counts::none(game);
-    for slice in 0..slice_count(bits) {
+    let mut counts = Counts::none(slices.game);
+    for slice in 0..slices.count() {
         if watch.stops() {
             return None;
         }
-        let Some(own) = tally_watched(game, bits, slice, watch) else {
+        let Some(own) = tally_watched(slices, slice, watch) else {
             return None;
         };
         counts.add(&own);

@@ -13,6 +13,7 @@ mod fault;
 mod pieces;
 mod share;
 mod slice;
+mod slices;
 mod watch;
 mod work;
 

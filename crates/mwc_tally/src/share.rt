@@ -1,14 +1,10 @@
 //! What one thread counted.
-ghost use Rattle.std.specs.Prelude.{◌≡◌, ◌≤◌, ◌<◌, ◌^◌, true, length, IfOk, MatchOption, ⊤};
-ghost use Rattle.std.specs.List.{All, flat_map, range_with_len};
-ghost use Rattle.council_game.specs.Game.{votes_of};
-ghost use Rattle.council_game.specs.Votes.{minimal_coalitions};
-ghost use Rattle.mwc_walk.specs.Slices.{slice};
-ghost use Rattle.power_index.specs.Tables.{AreCounts, AreTallies};
-ghost use Rattle.mwc_tally.specs.Inner.Shares.{IsShare};
+ghost use Rattle.std.specs.Prelude.{◌≡◌, true, MatchOption, ⊤};
+ghost use Rattle.std.specs.List.{range_with_len};
+ghost use Rattle.mwc_tally.specs.Inner.Shares.{IsShare, CountSlices, CountWhole};
 
-use council_game::{Game, Memory};
-use mwc_walk::slice_count;
+use crate::slices::Slices;
+use council_game::Memory;
 use power_index::Counts;
 use std::alloc::Global;
 
@@ -25,12 +21,12 @@ pub(crate) struct Share {
 
 impl Share {
     /// No slice.
-    pub(crate) fn none(alloc: Global, game: &Game, bits: u8) -> Share
-        ensures { IsShare game.now bits result }
+    pub(crate) fn none(alloc: Global, slices: Slices<'_>) -> Share
+        ensures { IsShare slices.entry result }
     {
         Share {
             taken: Vec::new(alloc),
-            counts: Counts::none(game),
+            counts: Counts::none(slices.game),
         }
     }
 
@@ -39,15 +35,13 @@ impl Share {
     /// where a growth was refused.
     pub(crate) fn add(
         &mut self,
-        game: &Game,
-        bits: u8,
+        slices: Slices<'_>,
         taken: &[u16],
         counts: &Counts,
     ) -> Result<(), Memory>
-        requires own { IsShare game.now bits self.old }
-        requires more { AreTallies game.now
-            (flat_map (slice (votes_of game.now) bits) taken.now) counts.now }
-        ensures { IsShare game.now bits self.new }
+        requires own { IsShare slices self.old }
+        requires more { CountSlices slices taken.now counts.now }
+        ensures { IsShare slices.entry self.new }
     {
         if self.counts.wide_total() + counts.wide_total() > MOST {
             return Ok(());
@@ -58,16 +52,13 @@ impl Share {
     }
 
     /// The counts, where the slices are all those of the game, each once.
-    pub(crate) fn whole(self, game: &Game, bits: u8) -> Option<Counts>
-        requires bits { bits ≤ 10 }
-        requires members { bits ≤ length game.now.names }
-        requires share { IsShare game.now bits self }
-        ensures { MatchOption result ⊤
-            (λ c. AreCounts game.now (minimal_coalitions (votes_of game.now)) c) }
+    pub(crate) fn whole(self, slices: Slices<'_>) -> Option<Counts>
+        requires { IsShare slices self }
+        ensures { MatchOption result ⊤ (CountWhole slices.entry) }
     {
         let Share { mut taken, counts } = self;
         taken.sort_unstable();
-        if is_each_once(&taken, slice_count(bits)) {
+        if is_each_once(&taken, slices.count()) {
             Some(counts)
         } else {
             None

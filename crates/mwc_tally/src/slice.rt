@@ -1,12 +1,14 @@
 //! The counts of one slice.
-ghost use Rattle.std.specs.Prelude.{◌≡◌, ◌≤◌, ◌<◌, ◌^◌, length, None, MatchOption};
+ghost use Rattle.std.specs.Prelude.{◌≡◌, ◌≤◌, ◌<◌, ◌^◌, length, MatchOption};
 ghost use Rattle.council_game.specs.Game.{votes_of};
 ghost use Rattle.mwc_walk.specs.Slices.{slice};
 ghost use Rattle.power_index.specs.Tables.{AreTallies};
+ghost use Rattle.mwc_tally.specs.Inner.Shares.{slice_of};
 
+use crate::slices::Slices;
 use crate::watch::{EACH, NoWatch, Watch};
 use council_game::Game;
-use mwc_walk::{Walk, slice_count};
+use mwc_walk::Walk;
 use power_index::Counts;
 
 /// The counts of slice `j` of a game at so many bits, by a walk over it. It takes no memory.
@@ -18,14 +20,14 @@ pub fn tally_slice(game: &Game, bits: u8, j: u16) -> Counts
     requires slice { j < 2 ^ bits }
     ensures { AreTallies game.now (slice (votes_of game.now) bits j) result }
 {
-    match tally_watched(game, bits, j, &NoWatch) {
+    match tally_watched(Slices { game, bits }, j, &NoWatch) {
         Some(counts) => counts,
         None => unreachable!(),
     }
 }
 
 /// Tells a watch of so many coalitions more where they are enough. How many it is still to be told of.
-fn told<W: Watch>(watch: &W, more: u64, slices: u16) -> u64
+fn tell_if_enough<W: Watch>(watch: &W, more: u64, slices: u16) -> u64
     requires { more ≤ 1048576 }
     ensures { result < 1048576 }
 {
@@ -37,26 +39,23 @@ fn told<W: Watch>(watch: &W, more: u64, slices: u16) -> u64
 }
 
 /// The same as `tally_slice`, and a watch is told of it; none where the watch stops it.
-pub(crate) fn tally_watched<W: Watch>(game: &Game, bits: u8, j: u16, watch: &W) -> Option<Counts>
-    requires few { bits ≤ 10 }
-    requires bits { bits ≤ length game.now.names }
-    requires slice { j < 2 ^ bits }
+pub(crate) fn tally_watched<W: Watch>(slices: Slices<'_>, j: u16, watch: &W) -> Option<Counts>
+    requires { j < 2 ^ slices.bits }
     ensures { MatchOption result W.may_stop
-        (λ c. AreTallies game.now (slice (votes_of game.now) bits j) c) }
+        (AreTallies slices.entry.game.now (slice_of slices.entry j)) }
 {
-    let _members = game.members();
-    let slices = slice_count(bits);
-    let mut walk = Walk::new(game, bits, j);
-    let mut counts = Counts::none(game);
+    let count = slices.count();
+    let mut walk = Walk::new(slices.game, slices.bits, j);
+    let mut counts = Counts::none(slices.game);
     let mut more = 0;
     while let Some(coalition) = walk.next() {
         counts.count(coalition);
-        more = told(watch, more + 1, slices);
+        more = tell_if_enough(watch, more + 1, count);
         if more == 0 && watch.stops() {
             return None;
         }
     }
-    watch.met(more, slices);
-    watch.counted(j, slices);
+    watch.met(more, count);
+    watch.counted(j, count);
     Some(counts)
 }

@@ -2,12 +2,7 @@
 use Rattle.std.specs.Prelude.{ℕ, ◌≡◌, List}
 use Rattle.std.specs.List.{flat_map}
 use Rattle.council_game.specs.Game.{GameView}
-use Rattle.mwc_tally.specs.declared.work.Given.{Given}
 use Rattle.mwc_tally.specs.declared.pieces.GivenPart.{GivenPart}
-
--- the thread counts slices of this game at so many bits
-abbrev pub IsGiven : GameView → ℕ → Given → Type 0
-IsGiven g bits given = (given.game.value ≡ g) × (given.bits ≡ bits)
 
 -- the thread counts at most so many coalitions of this list, past so many
 pub record IsGivenPart (g : GameView) (list : List ℕ) (skip most : ℕ) (given : GivenPart)

@@ -1,15 +1,14 @@
 use Rattle.std.proofs.Common.{◌≡◌, ◌∙◌, ◌++◌, List, ℕ, subst, sym, ap, rules}
 use Rattle.std.specs.List.{flat_map}
 use Rattle.std.proofs.lemmas.List.Concat.{flat_map-append}
-use Rattle.council_game.specs.Game.{votes_of}
-use Rattle.mwc_walk.specs.Slices.{slice}
 use Rattle.power_index.specs.Tables.{AreTallies}
+use Rattle.mwc_tally.specs.Inner.Shares.{slice_of}
 use Rattle.mwc_tally.proofs.share.Share.add.Goals as goal
 
 pub returns : goal.returns
 returns c =
-    let f : ℕ → List ℕ = slice (votes_of c.args.game.now) c.args.bits in
+    let f : ℕ → List ℕ = slice_of c.args.slices in
     let items : c.extend_from_slice.new.self.items ≡ c.args.self.now.taken.items ++ c.args.taken.now = search rules in
-    subst (λ (l : List ℕ). AreTallies c.args.game.now l c.add.new.self)
+    subst (λ (l : List ℕ). AreTallies c.args.slices.game.now l c.add.new.self)
     (sym (flat_map-append f c.args.self.now.taken.items c.args.taken.now) ∙ ap (flat_map f) (sym items))
-    (c.add.ensures.tallies c.args.game.now _ _ c.requires.own c.requires.more)
+    (c.add.ensures.tallies c.args.slices.game.now _ _ c.requires.own c.requires.more)

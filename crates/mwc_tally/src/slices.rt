@@ -1,0 +1,33 @@
+//! A game cut into slices.
+ghost use Rattle.std.specs.Prelude.{◌≡◌, ◌≤◌, ◌^◌, length};
+
+use crate::share::Share;
+use council_game::{Game, Memory};
+use mwc_walk::slice_count;
+use std::thread::Promise;
+
+/// A game cut into slices: so many of its heaviest members are fixed in each.
+#[derive(Clone, Copy)]
+pub(crate) struct Slices<'a> {
+    pub game: &'a Game,
+    /// 0 to 10, and no more than members.
+    pub bits: u8,
+    ghost bits_fit: { (bits ≤ 10) × (bits ≤ length game.now.names) },
+}
+
+impl<'a> Slices<'a> {
+    /// How many slices there are.
+    pub(crate) fn count(self) -> u16
+        ensures { result ≡ 2 ^ self.entry.bits }
+    {
+        slice_count(self.bits)
+    }
+}
+
+/// A thread that was given these slices promises a share of them.
+impl<'a> Promise<Result<Share, Memory>> for Slices<'a> {
+    ghost use Rattle.std.specs.Prelude.{IfOk};
+    ghost use Rattle.mwc_tally.specs.Inner.Shares.{IsShare};
+
+    ghost kept_by = { λ s r. IfOk r (IsShare s) };
+}
