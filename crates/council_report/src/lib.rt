@@ -10,7 +10,6 @@ mod fault;
 mod heading;
 mod indices;
 mod lines;
-mod mark;
 mod output;
 mod places;
 mod report;
@@ -18,6 +17,7 @@ mod seat;
 mod shared;
 mod shown;
 mod stream;
+mod subtotal;
 mod text;
 
 pub use fault::ReportFault;

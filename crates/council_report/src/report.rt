@@ -207,7 +207,7 @@ pub fn write_tally<W: Write>(
     shown: Shown,
     writer: &mut W,
 ) -> Result<u64, ReportFault>
-    requires unlisted { shown.list ≡ false }
+    requires without_list { shown.list ≡ false }
     requires counts { AreCounts game.now (minimal_coalitions (votes_of game.now)) counts.now }
     ensures count { IfOk result (λ count. count ≡ length (report shown game.now)) }
     ensures ok { OnOk result (Appends (W.contents writer.old) (W.contents writer.new)

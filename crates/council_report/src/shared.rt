@@ -8,9 +8,9 @@ ghost use Rattle.council_report.specs.Lines.{coalition_line, with_tab, with_slas
 ghost use Rattle.council_report.specs.Inner.Shared.{IsLine, IsReadyLine, IsWholeLine, HasNoneFrom, SameBefore};
 
 use crate::lines::end_line;
-use crate::mark::Mark;
 use crate::places::{first_difference, past_last};
 use crate::seat::{Seat, seats_of};
+use crate::subtotal::Subtotal;
 use crate::text::{push_number, push_values};
 use council_game::{Coalition, Game, limits};
 use std::alloc::{AllocError, Global};
@@ -18,7 +18,7 @@ use std::alloc::{AllocError, Global};
 /// The bytes that are kept for the names of a line.
 const ROOM: usize = 4_096;
 
-/// The line of a coalition, with a mark at each place up to its last member. What the next coalition
+/// The line of a coalition, with a subtotal at each place up to its last member. What the next coalition
 /// shares with it is kept, and only what follows is made anew; in listing order this is little.
 #[derive(Drop)]
 pub(crate) struct SharedLine {
@@ -31,7 +31,7 @@ pub(crate) struct SharedLine {
     /// How many places were looked at: no member comes behind.
     pub(crate) end: usize,
     /// How long the names before each place are, and what their members weigh.
-    pub(crate) marks: [Mark; limits::SIZES],
+    pub(crate) subtotals: [Subtotal; limits::SIZES],
 }
 
 impl SharedLine {
@@ -45,7 +45,7 @@ impl SharedLine {
             coalition: Coalition::of_mask(0),
             names: Vec::with_capacity(alloc, ROOM)?,
             end: 0,
-            marks: [Mark::none(); limits::SIZES],
+            subtotals: [Subtotal::none(); limits::SIZES],
         })
     }
 
@@ -58,7 +58,7 @@ impl SharedLine {
         ensures coalition { self.new.coalition ≡ coalition }
         ensures end { self.new.end ≡ shared }
     {
-        self.names.truncate(self.marks[shared].length);
+        self.names.truncate(self.subtotals[shared].length);
         self.end = shared;
         self.coalition = coalition;
     }
@@ -72,9 +72,9 @@ impl SharedLine {
         ensures coalition { self.new.coalition ≡ self.old.coalition }
         ensures end { self.new.end ≡ self.old.end + 1 }
     {
-        let mark = self.marks[self.end];
+        let subtotal = self.subtotals[self.end];
         self.end += 1;
-        self.marks[self.end] = mark;
+        self.subtotals[self.end] = subtotal;
     }
 
     /// Takes in the next place, whose member is in.
@@ -87,14 +87,14 @@ impl SharedLine {
         ensures end { self.new.end ≡ self.old.end + 1 }
     {
         let seat = &self.seats[self.end];
-        let mark = self.marks[self.end];
-        let mark = mark.with(seat);
+        let subtotal = self.subtotals[self.end];
+        let subtotal = subtotal.with(seat);
         match self.names.extend_from_slice(&seat.field) {
             Ok(()) => {}
             Err(_) => unreachable!(),
         }
         self.end += 1;
-        self.marks[self.end] = mark;
+        self.subtotals[self.end] = subtotal;
     }
 
     /// Moves on to the line of another coalition, whichever that is.
@@ -125,8 +125,8 @@ impl SharedLine {
         ensures { result ≡
             weight (rule_at (votes_of game.now).rules rule).weights self.now.coalition }
     {
-        let mark = self.marks[self.end];
-        mark.weights[rule]
+        let subtotal = self.subtotals[self.end];
+        subtotal.weights[rule]
     }
 
     /// The weights of the coalition, one for each rule.

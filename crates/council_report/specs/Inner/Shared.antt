@@ -7,7 +7,7 @@ use Rattle.council_game.specs.Ranks.{member_at}
 use Rattle.council_game.specs.Game.{GameView, IsGame, votes_of}
 use Rattle.council_report.specs.Lines.{with_tab, name_of}
 use Rattle.council_report.specs.declared.seat.Seat.{Seat}
-use Rattle.council_report.specs.declared.mark.Mark.{Mark}
+use Rattle.council_report.specs.declared.subtotal.Subtotal.{Subtotal}
 use Rattle.council_report.specs.declared.shared.SharedLine.{SharedLine}
 
 -- the places below k that are in c, in a game of n members
@@ -42,12 +42,12 @@ pub record AreSeats (g : GameView) (k : ℕ) (seats : List Seat) : Type 0 where
   pub each : (p : ℕ) (d : Seat) → p < k → IsSeat g p (slice_index_or seats p d)
 
 -- how long the names of these places are, and what they weigh under each rule
-pub record IsMark (g : GameView) (places : List ℕ) (mark : Mark) : Type 0 where
-  pub names : mark.length ≡ length (fields_of g places)
-  pub long : length mark.weights ≡ 4
-  pub weights : (r : ℕ) → r < 4 → slice_index mark.weights r ≡ weight_of_places g r places
+pub record IsSubtotal (g : GameView) (places : List ℕ) (subtotal : Subtotal) : Type 0 where
+  pub names : subtotal.length ≡ length (fields_of g places)
+  pub long : length subtotal.weights ≡ 4
+  pub weights : (r : ℕ) → r < 4 → slice_index subtotal.weights r ≡ weight_of_places g r places
 
--- The line of its coalition up to the place where it ends: the names of the members of the places before, and a mark
+-- The line of its coalition up to the place where it ends: the names of the members of the places before, and a subtotal
 -- for each of these places.
 pub record IsLine (g : GameView) (line : SharedLine) : Type 0 where
   pub game : IsGame g
@@ -57,9 +57,9 @@ pub record IsLine (g : GameView) (line : SharedLine) : Type 0 where
   pub within : line.end ≤ length g.names
   pub names : line.names.items ≡
       fields_of g (places_before (length g.names) line.coalition line.end)
-  pub long : length line.marks ≡ 41
-  pub marks : (k : ℕ) (d : Mark) → k ≤ line.end →
-      IsMark g (places_before (length g.names) line.coalition k) (slice_index_or line.marks k d)
+  pub long : length line.subtotals ≡ 41
+  pub subtotals : (k : ℕ) (d : Subtotal) → k ≤ line.end →
+      IsSubtotal g (places_before (length g.names) line.coalition k) (slice_index_or line.subtotals k d)
 
 -- no place from k on is in c
 abbrev pub HasNoneFrom : ℕ → ℕ → ℕ → Type 0

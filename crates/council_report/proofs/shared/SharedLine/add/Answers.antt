@@ -1,13 +1,13 @@
 use Rattle.std.proofs.Common.{◌++◌, ℕ, List, length, sym, ap, ◌∙◌, subst, arith}
 use Rattle.council_report.specs.Inner.Shared.{IsSeat}
-use Rattle.council_report.proofs.SharedLines.{line-added, mark-more, no_mark, added-light, added-short}
+use Rattle.council_report.proofs.SharedLines.{line-added, subtotal-more, no_subtotal, added-light, added-short}
 use Rattle.council_report.proofs.shared.SharedLine.add.Goals as goal
 
-pub with-mark-requires-clause-weights : goal.with-mark-requires-clause-weights
-with-mark-requires-clause-weights c =
+pub with-subtotal-requires-clause-weights : goal.with-subtotal-requires-clause-weights
+with-subtotal-requires-clause-weights c =
     let is = subst (IsSeat c.args.game.now c.args.self.now.end) (sym c.index-seat.ensures)
     (c.requires.line.seats.each c.args.self.now.end c.index-seat.result.now c.requires.more) in
-    added-light c.args.game.now c.args.self.now no_mark c.index-seat.result.now c.requires.line c.requires.more c.requires.inside is
+    added-light c.args.game.now c.args.self.now no_subtotal c.index-seat.result.now c.requires.line c.requires.more c.requires.inside is
 
 pub unreachable-requires : goal.unreachable-requires
 unreachable-requires c =
@@ -21,10 +21,10 @@ pub returns-clause-line : goal.returns-clause-line
 returns-clause-line c =
     let is = subst (IsSeat c.args.game.now c.args.self.now.end) (sym c.index-seat.ensures)
     (c.requires.line.seats.each c.args.self.now.end c.index-seat.result.now c.requires.more) in
-    line-added c.args.game.now c.args.self.now c.extend_from_slice.new.self c.with-mark.result c.index-seat.result.now c.requires.line
+    line-added c.args.game.now c.args.self.now c.extend_from_slice.new.self c.with-subtotal.result c.index-seat.result.now c.requires.line
     c.requires.more c.requires.inside is
-    (mark-more c.args.game.now _ c.args.self.now.end _ c.with-mark.result c.index-seat.result.now
-    (c.requires.line.marks c.args.self.now.end no_mark
-    (omega arith)) is c.with-mark.ensures.length c.with-mark.ensures.long c.with-mark.ensures.weights)
+    (subtotal-more c.args.game.now _ c.args.self.now.end _ c.with-subtotal.result c.index-seat.result.now
+    (c.requires.line.subtotals c.args.self.now.end no_subtotal
+    (omega arith)) is c.with-subtotal.ensures.length c.with-subtotal.ensures.long c.with-subtotal.ensures.weights)
     (c.in-Ok.ensures.items ∙ ap (λ (t : List ℕ). c.args.self.now.names.items ++ t) c.deref.ensures.value)
     c.in-Ok.ensures.capacity

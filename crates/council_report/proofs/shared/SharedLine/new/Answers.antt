@@ -1,6 +1,6 @@
 use Rattle.std.proofs.Common.{◌^◌, ◌<◌, length, refl, arith}
 use Rattle.std.proofs.lemmas.Nat.{pow_pos}
-use Rattle.council_report.proofs.SharedLines.{line-first, none-mark}
+use Rattle.council_report.proofs.SharedLines.{line-first, none-subtotal}
 use Rattle.council_report.proofs.shared.SharedLine.new.Goals as goal
 
 pub returns : goal.returns
@@ -9,6 +9,6 @@ returns c =
     record {
       is = line-first c.args.game.now _ c.requires c.in_ok-seats_of.ensures refl c.in_ok-with_capacity.ensures.items
           (omega (arith, c.in_ok-with_capacity.ensures.exact)) refl
-          (λ d. none-mark c.args.game.now c.none.result c.none.ensures.length c.none.ensures.long c.none.ensures.weights);
+          (λ d. none-subtotal c.args.game.now c.none.result c.none.ensures.length c.none.ensures.long c.none.ensures.weights);
       below = omega (arith, zero, c.of_mask.ensures);
     }

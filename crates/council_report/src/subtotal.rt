@@ -6,26 +6,26 @@ use council_game::limits;
 
 /// How long the names of the members before a place are, and what these weigh under each rule.
 #[derive(Clone, Copy)]
-pub(crate) struct Mark {
+pub(crate) struct Subtotal {
     pub(crate) length: usize,
     pub(crate) weights: [u64; limits::RULES],
 }
 
-impl Mark {
-    /// The mark of no member.
-    pub(crate) fn none() -> Mark
+impl Subtotal {
+    /// The subtotal of no member.
+    pub(crate) fn none() -> Subtotal
         ensures length { result.length ≡ 0 }
         ensures long { length result.weights ≡ 4 }
         ensures weights { (r : ℕ) → slice_index result.weights r ≡ 0 }
     {
-        Mark {
+        Subtotal {
             length: 0,
             weights: [0; limits::RULES],
         }
     }
 
-    /// The mark with one member more.
-    pub(crate) fn with(self, seat: &Seat) -> Mark
+    /// The subtotal with one member more.
+    pub(crate) fn with(self, seat: &Seat) -> Subtotal
         requires length { self.length + length seat.now.field.items < 2 ^ 64 }
         requires long { length self.weights ≡ 4 }
         requires seat_long { length seat.now.weights ≡ 4 }
@@ -41,7 +41,7 @@ impl Mark {
         for rule in 0..limits::RULES {
             weights[rule] += seat.weights[rule];
         }
-        Mark {
+        Subtotal {
             length: self.length + seat.field.len(),
             weights,
         }

@@ -1,5 +1,5 @@
 use Rattle.std.proofs.Common.{◌≡◌, ◌+◌, ◌<◌, ◌≤◌, ℕ, length, slice_index}
-use Rattle.council_report.proofs.mark.Mark.with.Given as goal
+use Rattle.council_report.proofs.subtotal.Subtotal.with.Given as goal
 
 -- the first so many were added
 abbrev pub invariant-loop-rule : goal.invariant-loop-rule
