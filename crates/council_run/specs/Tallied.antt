@@ -4,5 +4,5 @@ use Rattle.council_report.specs.declared.shown.Shown.{Shown}
 use Rattle.council_run.specs.declared.options.Options.{Options}
 
 -- no line for a coalition
-abbrev pub unlisted : Options → Shown
-unlisted o = record { list = false; sizes = o.sizes; notation = o.notation }
+abbrev pub without_list : Options → Shown
+without_list o = record { list = false; sizes = o.sizes; notation = o.notation }

@@ -9,7 +9,7 @@ ghost use Rattle.mwc_parts.specs.declared.fault.GatherFault.TheVariants as gathe
 ghost use Rattle.power_index.specs.Tables.{AreCounts};
 ghost use Rattle.council_run.specs.declared.fault.Cause.TheVariants as cause;
 ghost use Rattle.council_run.specs.Run.{Reports, Stops};
-ghost use Rattle.council_run.specs.Tallied.{unlisted};
+ghost use Rattle.council_run.specs.Tallied.{without_list};
 ghost use Rattle.council_run.specs.Inner.Ends.{Ends};
 
 use crate::fault::RunFault;
@@ -30,8 +30,8 @@ use std::thread::Threads;
 const LEAST_BITS: u8 = 8;
 
 /// The lines that the report of a tally shows: none for a coalition.
-fn unlisted(options: &Options) -> Shown
-    ensures { result ≡ unlisted options.now }
+fn without_list(options: &Options) -> Shown
+    ensures { result ≡ without_list options.now }
 {
     Shown {
         list: false,
@@ -69,16 +69,16 @@ fn report<T: Threads + Wait + Sync, W: Write, V: Watch + Sync>(
     watch: &V,
     writer: &mut W,
 ) -> Result<u64, RunFault>
-    ensures ok { IfOk result (λ len. (len ≡ length (report (unlisted options.now) game.now))
+    ensures ok { IfOk result (λ len. (len ≡ length (report (without_list options.now) game.now))
         × Appends (W.contents writer.old) (W.contents writer.new)
-        (report (unlisted options.now) game.now)) }
-    ensures err { IfErr result (λ fault. Ends (report (unlisted options.now) game.now) (Unit {0})
+        (report (without_list options.now) game.now)) }
+    ensures err { IfErr result (λ fault. Ends (report (without_list options.now) game.now) (Unit {0})
         V.may_stop (W.contents writer.old) (W.contents writer.new) fault.cause fault.written) }
     ensures threads { IfErr result (λ fault. (why : GatherFault) →
         fault.cause ≡ cause.Gather why → why ≡ gather.Start) }
 {
     let counts = count(rt, alloc, game, options, watch)?;
-    Ok(write_tally(alloc, game, &counts, unlisted(options), writer)?)
+    Ok(write_tally(alloc, game, &counts, without_list(options), writer)?)
 }
 
 /// Reads a game, counts its minimal winning coalitions, however many these are, by sums where these serve
@@ -100,14 +100,14 @@ pub fn tally<T: Threads + Wait + Sync, R: Read, W: Write, V: Watch + Sync>(
     watch: &V,
     writer: &mut W,
 ) -> Result<u64, RunFault>
-    ensures ok { IfOk result (λ len. Reports (report (unlisted options.now)) (λ g. Unit {0})
+    ensures ok { IfOk result (λ len. Reports (report (without_list options.now)) (λ g. Unit {0})
         (record {
           unread = R.remaining reader.old;
           left = R.remaining reader.new;
           before = W.contents writer.old;
           after = W.contents writer.new;
         }) len) }
-    ensures err { IfErr result (λ fault. Stops (report (unlisted options.now)) (λ g. Unit {0})
+    ensures err { IfErr result (λ fault. Stops (report (without_list options.now)) (λ g. Unit {0})
         V.may_stop (record {
           unread = R.remaining reader.old;
           left = R.remaining reader.new;
