@@ -1,10 +1,8 @@
 -- Lists in pieces.
-use Rattle.std.proofs.Common.{◌≡◌, ◌+◌, ◌++◌, ℕ, List, [], ◌∷◌, true, length, refl, sym, ap, ◌∙◌, subst, arith, length-append}
-use Rattle.std.specs.List.{All, flat_map}
+use Rattle.std.proofs.Common.{◌≡◌, ◌++◌, ℕ, List, [], ◌∷◌, true, refl, sym, ap, ◌∙◌}
+use Rattle.std.specs.List.{flat_map}
 use Rattle.std.proofs.lemmas.Bool.{cond-true}
 use Rattle.std.proofs.lemmas.Grind.{flat_map-append}
-use Rattle.std.proofs.lemmas.List.{get_or_append_left, get_or-append-add}
-use Rattle.std.proofs.lemmas.List.Elements.{All-nil, All-cons}
 use Rattle.council_game.specs.Game.{GameView}
 use Rattle.council_report.specs.declared.shown.Shown.{Shown}
 use Rattle.council_report.specs.Lines.{coalition_line}
@@ -23,15 +21,3 @@ pub listed-text : {X : Type 0} (shown : Shown) (g : GameView) (list : List ℕ) 
 listed-text shown g list h pieces is joined =
     texts-joined (coalition_line g) h pieces ∙ ap (flat_map (coalition_line g)) joined
     ∙ sym (cond-true shown.list (flat_map (coalition_line g) list) [] is)
-
-front-all : {Y : Type 0} (P : Y → Type 0) (ys zs : List Y) → All P (ys ++ zs) → All P ys
-front-all P ys zs h = λ i d lt. subst P (get_or_append_left ys zs d i lt) (h i d (omega (arith, lt, length-append ys zs)))
-
-back-all : {Y : Type 0} (P : Y → Type 0) (ys zs : List Y) → All P (ys ++ zs) → All P zs
-back-all P ys zs h = λ i d lt. subst P (get_or-append-add ys zs i d) (h (length ys + i) d (omega (arith, lt, length-append ys zs)))
-
--- what holds of each element of the list holds of each of a piece
-pub pieces-all : {X Y : Type 0} (P : Y → Type 0) (h : X → List Y) (xs : List X) → All P (flat_map h xs) → All (λ x. All P (h x)) xs
-pieces-all P h [] all = All-nil (λ x. All P (h x))
-pieces-all P h (x ∷ xs) all =
-    All-cons (λ x. All P (h x)) x xs (front-all P (h x) (flat_map h xs) all) (pieces-all P h xs (back-all P (h x) (flat_map h xs) all))

@@ -1,12 +1,12 @@
 -- Parts of a list that lies in pieces.
 use Rattle.std.proofs.Common.{◌≡◌, ◌∙◌, ℕ, ◌+◌, ◌-◌, ◌<◌, ◌≤◌, zero, suc, min, List, [], ◌∷◌, ◌++◌, length, get_or, take, drop, sym, ap, refl, arith, subst, length-append, length-drop, IfOk, Result, Ok, Err}
 use Rattle.std.specs.List.{All, flat_map}
-use Rattle.std.proofs.lemmas.List.{take_all, take_at, take_more, take_min, drop_at, drop-drop, drop_min, length-take, take-append-drop, append-nil}
-use Rattle.std.proofs.lemmas.List.Elements.{All-drop, All-take}
+use Rattle.std.proofs.lemmas.List.{take_all, take_more, take_min, drop-drop, drop_min, length-take, take-append-drop, append-nil}
 use Rattle.std.proofs.lemmas.List.Concat.{flat_map-append}
 use Rattle.std.proofs.lemmas.List.Folds.{length-flat_map-take}
 use Rattle.council_game.specs.Game.{GameView}
 use Rattle.power_index.specs.Tables.{Tables, AreTallies, AreCounts}
+use Rattle.power_index.proofs.Pieces.{pieces-all}
 use Rattle.power_index.proofs.Sound.{tallies-are_counts}
 use Rattle.mwc_tally.specs.Inner.Threads.{IsGivenPart}
 use Rattle.mwc_tally.specs.declared.pieces.GivenPart.{GivenPart}
@@ -54,19 +54,10 @@ pieces-more f xs k x lt is =
     ∙ flat_map-append f (take k xs) (get_or xs k x ∷ [])
     ∙ ap (λ (l : List ℕ). flat_map f (take k xs) ++ l) (append-nil (f (get_or xs k x)) ∙ ap f (sym is))
 
-all-front : (P : ℕ → Type 0) (a b : List ℕ) → All P (a ++ b) → All P a
-all-front P a b h = subst (All P) (take_at a b (length a) refl) (All-take P (length a) (a ++ b) h)
-
-all-back : (P : ℕ → Type 0) (a b : List ℕ) → All P (a ++ b) → All P b
-all-back P a b h = subst (All P) (drop_at a b (length a) refl) (All-drop P (length a) (a ++ b) h)
-
 -- what holds of all holds of a piece
 pub piece-all : {X : Type 0} (P : ℕ → Type 0) (f : X → List ℕ) (xs : List X) (k : ℕ) (x : X) → k < length xs → x ≡ get_or xs k x
     → All P (flat_map f xs) → All P (f x)
-piece-all P f xs k x lt is h =
-    let cut : flat_map f xs ≡ flat_map f (take (k + 1) xs) ++ flat_map f (drop (k + 1) xs) =
-    ap (flat_map f) (sym (take-append-drop (k + 1) xs)) ∙ flat_map-append f (take (k + 1) xs) (drop (k + 1) xs) in
-    all-back P (flat_map f (take k xs)) (f x) (subst (All P) (pieces-more f xs k x lt is) (all-front P _ _ (subst (All P) cut h)))
+piece-all P f xs k x lt is h = subst (λ y. All P (f y)) (sym is) (pieces-all P f xs h k x lt)
 
 -- a piece and those before it are no longer than all
 pub pieces-length : {X : Type 0} (f : X → List ℕ) (xs : List X) (k : ℕ) (x : X) → k < length xs → x ≡ get_or xs k x

@@ -3,6 +3,7 @@ pub mod LowestTerms
 pub mod Members
 pub mod Minimal
 pub mod Ordered
+pub mod Pieces
 pub mod Printed
 pub mod Quotients
 pub mod Small

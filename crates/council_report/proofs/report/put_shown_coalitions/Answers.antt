@@ -1,8 +1,9 @@
 use Rattle.std.proofs.Common.{◌<◌, ◌^◌, ℕ, List, length, sym, subst}
 use Rattle.council_game.specs.Game.{AreNonemptyCoalitions}
+use Rattle.power_index.proofs.Pieces.{pieces-all}
 use Rattle.council_report.specs.Inner.Ready.{CanCount}
 use Rattle.council_report.specs.Inner.Puts.{Puts}
-use Rattle.council_report.proofs.Joins.{listed-text, pieces-all}
+use Rattle.council_report.proofs.Joins.{listed-text}
 use Rattle.council_report.proofs.report.put_shown_coalitions.Goals as goal
 
 pub put_pieces-requires-clause-coalitions : goal.put_pieces-requires-clause-coalitions
