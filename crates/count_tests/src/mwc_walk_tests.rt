@@ -112,14 +112,14 @@ fn four_groups(rt: &impl Abort, alloc: Global) -> Result<Game, Fail> {
     )
 }
 
-/// The slices at so many bits, joined.
-fn joined(rt: &impl Abort, alloc: Global, game: &Game, bits: u8) -> Result<Vec<Coalition>, Fail> {
+/// The slices at so many bits, one behind the other.
+fn slices(rt: &impl Abort, alloc: Global, game: &Game, bits: u8) -> Result<Vec<Coalition>, Fail> {
     assert!(rt; bits <= 10 && bits as usize <= game.members());
-    let mut joined = Vec::new(alloc);
+    let mut all = Vec::new(alloc);
     for j in 0..slice_count(bits) {
-        joined.extend_from_slice(&list_slice(alloc, game, bits, j, u32::MAX)?)?;
+        all.extend_from_slice(&list_slice(alloc, game, bits, j, u32::MAX)?)?;
     }
-    Ok(joined)
+    Ok(all)
 }
 
 fn masks(alloc: Global, list: &[Coalition]) -> Result<Vec<u64>, Fail> {
@@ -202,8 +202,8 @@ fn all_lists_agree(rt: &impl Abort, alloc: Global, game: &Game) -> Result<(), Fa
     same(rt, whole.as_slice(), plain.as_slice(), "the whole list");
     for bits in 0..11 {
         if bits as usize <= game.members() {
-            let joined = joined(rt, alloc, game, bits)?;
-            same(rt, joined.as_slice(), plain.as_slice(), "slices joined");
+            let all = slices(rt, alloc, game, bits)?;
+            same(rt, all.as_slice(), plain.as_slice(), "slices joined");
         }
     }
     Ok(())
