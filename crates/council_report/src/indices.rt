@@ -1,8 +1,9 @@
 //! The lines of sizes and of members.
-ghost use Rattle.std.specs.Prelude.{◌≡◌, ◌++◌, ◌<◌, ◌≤◌, ◌^◌, ◌∷◌, ℕ, List, length, map, OnOk, decimal};
+ghost use Rattle.std.specs.Prelude.{◌≡◌, ◌++◌, ◌<◌, ◌≤◌, ◌∷◌, ℕ, List, length, map, OnOk, decimal};
 ghost use Rattle.std.specs.List.{flat_map};
-ghost use Rattle.power_index.specs.Counting.{members, count_of_member, count_of_member_size};
+ghost use Rattle.power_index.specs.Counting.{members, count_of_member_size};
 ghost use Rattle.power_index.specs.Indices.{deegan_packel, public_good};
+ghost use Rattle.power_index.specs.Tables.{table_of_member};
 ghost use Rattle.power_index.specs.Fractions.{IsIndex, pair_of, decimals};
 ghost use Rattle.council_text.specs.Room.{MakesRoomFor};
 ghost use Rattle.council_report.specs.Inner.Counted.{IsCounted};
@@ -14,7 +15,7 @@ use crate::lines::end_line;
 use crate::text::{push_field, push_number, push_values};
 use council_game::Game;
 use itoa::Buffer;
-use power_index::{Fraction, deegan_packel, public_good};
+use power_index::{Counts, Fraction, deegan_packel, public_good};
 use std::alloc::AllocError;
 
 /// A field `top/bottom`.
@@ -118,16 +119,14 @@ pub(crate) fn push_size(
 }
 
 /// How many coalitions contain a member.
-fn push_count(out: &mut Vec<u8>, counted: &Counted<'_>, member: usize) -> Result<(), AllocError>
-    ghost list: { List ℕ }
-    requires list { IsCounted counted.now.game.now list counted.now.counts.now }
-    requires member { member < length counted.now.game.now.names }
+fn push_count(out: &mut Vec<u8>, counts: &Counts, member: usize) -> Result<(), AllocError>
+    requires { member < counts.now.members }
     ensures items { OnOk result (out.new.items ≡ out.old.items
-        ++ with_tab (decimal (count_of_member counted.now.game.now member list))) }
+        ++ with_tab (decimal (table_of_member counts.now member))) }
     ensures room { MakesRoomFor out.old out.new result
-        (with_tab (decimal (count_of_member counted.now.game.now member list))) }
+        (with_tab (decimal (table_of_member counts.now member))) }
 {
-    push_number(out, counted.counts.wide_of_member(member))
+    push_number(out, counts.wide_of_member(member))
 }
 
 /// The weights of a member, one for each rule.
@@ -158,7 +157,7 @@ fn push_member_counts(
     let game = counted.game;
     push_field(out, game.name(member).as_bytes())?;
     push_weights(out, game, member)?;
-    push_count(out, counted, member)
+    push_count(out, counted.counts, member)
 }
 
 /// Both indices of a member.
