@@ -2,13 +2,12 @@
 ghost use Rattle.std.specs.Prelude.{◌≡◌, ◌++◌, ◌<◌, ◌≤◌, ◌∷◌, ℕ, List, length, map, OnOk, decimal};
 ghost use Rattle.std.specs.List.{flat_map};
 ghost use Rattle.power_index.specs.Counting.{members, count_of_member_size};
-ghost use Rattle.power_index.specs.Indices.{deegan_packel, public_good};
 ghost use Rattle.power_index.specs.Tables.{table_of_member};
-ghost use Rattle.power_index.specs.Fractions.{IsIndex, pair_of, decimals};
+ghost use Rattle.power_index.specs.Fractions.{IsIndex, pair_of};
 ghost use Rattle.council_text.specs.Room.{MakesRoomFor};
 ghost use Rattle.council_report.specs.Inner.Counted.{IsCounted};
 ghost use Rattle.council_report.specs.Lines.{with_tab, with_slashes, weights_of_member, size_line, member_line, member_fields, index_fields};
-ghost use Rattle.council_report.specs.Inner.Lines.{fraction_fields, index_text};
+ghost use Rattle.council_report.specs.Inner.Lines.{fraction_fields};
 
 use crate::counted::Counted;
 use crate::lines::end_line;
@@ -39,40 +38,6 @@ fn push_index(out: &mut Vec<u8>, index: Fraction) -> Result<(), AllocError>
 {
     push_fraction(out, index)?;
     push_field(out, &index.decimals())
-}
-
-/// The Deegan-Packel index of a member.
-fn push_deegan_packel(
-    out: &mut Vec<u8>,
-    counted: &Counted<'_>,
-    member: usize,
-) -> Result<(), AllocError>
-    ghost list: { List ℕ }
-    requires list { IsCounted counted.now.game.now list counted.now.counts.now }
-    requires member { member < length counted.now.game.now.names }
-    ensures items { OnOk result (out.new.items ≡ out.old.items
-        ++ index_text (deegan_packel counted.now.game.now list member)) }
-    ensures room { MakesRoomFor out.old out.new result
-        (index_text (deegan_packel counted.now.game.now list member)) }
-{
-    push_index(out, deegan_packel(counted.counts, member))
-}
-
-/// The public good index of a member.
-fn push_public_good(
-    out: &mut Vec<u8>,
-    counted: &Counted<'_>,
-    member: usize,
-) -> Result<(), AllocError>
-    ghost list: { List ℕ }
-    requires list { IsCounted counted.now.game.now list counted.now.counts.now }
-    requires member { member < length counted.now.game.now.names }
-    ensures items { OnOk result (out.new.items ≡ out.old.items
-        ++ index_text (public_good counted.now.game.now list member)) }
-    ensures room { MakesRoomFor out.old out.new result
-        (index_text (public_good counted.now.game.now list member)) }
-{
-    push_index(out, public_good(counted.counts, member))
 }
 
 /// For each member, how many coalitions of a size contain it.
@@ -170,8 +135,8 @@ fn push_indices(out: &mut Vec<u8>, counted: &Counted<'_>, member: usize) -> Resu
     ensures room { MakesRoomFor out.old out.new result
         (flat_map with_tab (index_fields counted.now.game.now list member)) }
 {
-    push_deegan_packel(out, counted, member)?;
-    push_public_good(out, counted, member)
+    push_index(out, deegan_packel(counted.counts, member))?;
+    push_index(out, public_good(counted.counts, member))
 }
 
 /// `member`, a name, its weights, how many coalitions contain it, and its two indices.
