@@ -1,9 +1,8 @@
 //! The lines of a report, one function for each kind.
-ghost use Rattle.std.specs.Prelude.{◌≡◌, ◌++◌, ◌^◌, ◌<◌, ◌≤◌, ◌∷◌, [], ℕ, List, length, OnOk, Some};
-ghost use Rattle.std.specs.List.{flat_map};
+ghost use Rattle.std.specs.Prelude.{◌≡◌, ◌++◌, ◌<◌, ◌≤◌, ◌∷◌, [], ℕ, List, length, OnOk, Some};
 ghost use Rattle.std.specs.Vec.{vec_capacity};
 ghost use Rattle.council_text.specs.Room.{MakesRoomFor};
-ghost use Rattle.council_report.specs.Lines.{with_tab, with_slashes, weights_of_coalition, title_line, members_line, quota_line, total_line, minimal_line, coalition_line, names_of};
+ghost use Rattle.council_report.specs.Lines.{title_line, members_line, quota_line, total_line, minimal_line};
 
 use crate::text::{push_field, push_number, push_values};
 use council_game::Game;

@@ -1,5 +1,5 @@
 //! Which places two coalitions have in common.
-ghost use Rattle.std.specs.Prelude.{◌^◌, ◌<◌, ◌≤◌, length};
+ghost use Rattle.std.specs.Prelude.{◌^◌, ◌<◌, ◌≤◌};
 ghost use Rattle.council_report.specs.Inner.Shared.{HasNoneFrom, SameBefore};
 
 use council_game::Coalition;
