@@ -1,7 +1,7 @@
 //! Counts of coalitions, by member and by size.
 ghost use Rattle.council_game.specs.Game.{GameView, AreNonemptyCoalitions};
 ghost use Rattle.council_game.specs.Votes.{has};
-ghost use Rattle.power_index.specs.Tables.{AreCounts, AreOf, AreOfOneGame, AreSound, AreTallies, IsTallyOf};
+ghost use Rattle.power_index.specs.Tables.{AreCounts, AreOfOneGame, AreSound, AreTallies, IsTallyOf};
 ghost use Rattle.power_index.specs.Tables.{no_tally, table_memberships, table_of_member};
 ghost use Rattle.power_index.specs.Inner.Tables.{IsJoined};
 ghost use Rattle.power_index.specs.Tables.{table_of_member_size, table_of_size, table_total};

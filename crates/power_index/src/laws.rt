@@ -6,7 +6,7 @@ ghost use Rattle.power_index.specs.Counting.{members};
 ghost use Rattle.power_index.specs.Fractions.{AddUpToOne, HasLowestTerms, IsIndex, SameFraction};
 ghost use Rattle.power_index.specs.Indices.{deegan_packel, public_good};
 ghost use Rattle.power_index.specs.Tables.{AreCounts, AreTallies, Tables};
-ghost use Rattle.std.specs.Prelude.{◌≡◌, ℕ, ◌<◌, ◌≤◌, ◌^◌, ◌++◌, List, length, map};
+ghost use Rattle.std.specs.Prelude.{◌≡◌, ℕ, ◌<◌, ◌≤◌, ◌^◌, List, length, map};
 
 /// The Deegan-Packel indices of a game's members add up to 1, over each list of coalitions that are not
 /// empty, if there is one in it.
