@@ -148,9 +148,7 @@ fn one_by_one<W: Watch>(slices: Slices<'_>, watch: &W) -> Option<Counts>
         if watch.stops() {
             return None;
         }
-        let Some(own) = tally_watched(slices, slice, watch) else {
-            return None;
-        };
+        let own = tally_watched(slices, slice, watch)?;
         counts.add(&own);
     }
     Some(counts)

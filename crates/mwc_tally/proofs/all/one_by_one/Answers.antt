@@ -10,7 +10,7 @@ pub add-requires-clause-room : goal.add-requires-clause-room
 add-requires-clause-room g c =
     let game = c.args.slices.game.now in
     let own = total-is game _ c.loop-slice.counts c.loop-slice.invariant in
-    let one = total-is game _ c.in-Some.own c.in-Some.ensures in
+    let one = total-is game _ c.in_ok-own.own c.in_ok-own.ensures in
     let room = slices-room c.args.slices c.loop-slice.slice c.loop-slice.invariant.of_game.is_game
     (omega (arith, c.loop-slice-test.true, c.count-slice-end.ensures)) in
     omega (arith, own, one, room)
@@ -18,7 +18,7 @@ add-requires-clause-room g c =
 pub loop-slice-preserved : goal.loop-slice-preserved
 loop-slice-preserved g c =
     subst (λ (l : List ℕ). AreTallies c.args.slices.game.now l c.add.new.self) (slices-more c.args.slices c.loop-slice.slice)
-    (c.add.ensures.tallies c.args.slices.game.now _ _ c.loop-slice.invariant c.in-Some.ensures)
+    (c.add.ensures.tallies c.args.slices.game.now _ _ c.loop-slice.invariant c.in_ok-own.ensures)
 
 pub returns : goal.returns
 returns g c =
