@@ -162,10 +162,10 @@ def do(words, folder, name, nice=0):
 
 
 def prove_and_keep(name, lines, nice, jobs):
-    """Proves a library by `rt lib`, by so many jobs or else as many as it chooses, which give way to others by so much; its status."""
+    """Proves a library by `rt lib`, by so many jobs, which give way to others by so much; its status."""
     folder = make_room(name, lines)
     try:
-        return do(["rt", "lib", *["--jobs", str(jobs)] * (jobs > 0)], folder, name, nice)
+        return do(["rt", "lib", "--jobs", str(jobs)], folder, name, nice)
     finally:
         bring_back(name)
 
@@ -208,7 +208,7 @@ def words_of(name, lines, root):
 
 
 def prove_once(name, lines, nice, jobs):
-    """Proves a library from nothing, unless it is proved, by so many jobs or else one for each processor; its status."""
+    """Proves a library from nothing, unless it is proved, by so many jobs; its status."""
     made, sum = os.path.dirname(statements(name)), sum_of(name, lines)
     if os.path.isfile(f"{made}/sum"):
         with open(f"{made}/sum", encoding="utf-8") as it:
@@ -216,7 +216,7 @@ def prove_once(name, lines, nice, jobs):
                 return 0
     shutil.rmtree(made, ignore_errors=True)
     os.makedirs(made)
-    words = [f"{kit()}/bin/rattle", "build", *words_of(name, lines, "src/lib.rt"), "--jobs", str(jobs or lanes()[0])]
+    words = [f"{kit()}/bin/rattle", "build", *words_of(name, lines, "src/lib.rt"), "--jobs", str(jobs)]
     status = do([*words, "--statements", "-o", statements(name)], f"{TOP}/crates/{name}", name, nice)
     if status == 0 and sum == sum_of(name, lines):
         with open(f"{made}/sum", "w", encoding="utf-8") as it:
@@ -256,28 +256,29 @@ def plan(names, lines):
 
 def prove_all(names, lines, prove):
     """Proves the libraries, each after those below it; whether all were. The one with the longest chain above it
-    begins at once, and the others give way to it. It has a second job where a processor is free, and one for each where no
-    other can run: each further job is work of its own, since it reads the statements below once more."""
+    begins at once, and the others give way to it. The processors that are free are shared among those that can begin: a further
+    job is work of its own, since it reads the statements below once more, so that no other has one."""
     left, nice = plan(names, lines)
     few, all_lanes = lanes()
-    running, done, start, first = {}, [], time.time(), None
+    running, jobs, done, start, first = {}, {}, [], time.time(), None
     with ThreadPoolExecutor(len(names)) as pool:
         while left or running:
             ready = [it for it in left if all(other in done for other in below(it, lines))]
             for name in ready:
-                if not first and few > 1 and name == left[0]:
-                    first = name
-                # what fills the time at the end takes no lane of the others, but what they leave of the processors
+                busy = sum(jobs[it] for it in running.values())
                 others = sum(nice[it] == NICE for it in running.values())
-                has_lane = len(running) < all_lanes and (others < few or nice[name] != NICE)
-                if name == first:
-                    beside = others + sum(it in left and it != name and nice[it] == NICE for it in ready)
-                    how = (0, 0 if not beside else 2 if beside + 1 < few else 1)
+                if nice[name] == NICE:
+                    has_lane = others < few
                 else:
-                    how = (nice[name], 1)
+                    # what fills the time at the end takes what the others leave
+                    has_lane = len(running) < all_lanes and (busy < few or all(nice[it] != NICE for it in left))
+                if not first and name == left[0] and few > 1:
+                    first = name
                 if name == first or has_lane:
+                    waiting = sum(it in left and nice[it] == NICE for it in ready if it != name)
+                    jobs[name] = max(1, (few - busy) // (waiting + 1))
                     left.remove(name)
-                    running[pool.submit(prove, name, lines, *how)] = name
+                    running[pool.submit(prove, name, lines, 0 if name == first else nice[name], jobs[name])] = name
             for it in wait(running, return_when=FIRST_COMPLETED).done:
                 name = running.pop(it)
                 first = None if name == first else first
