@@ -4,7 +4,7 @@
     tools/build.py [--keep]
 
 For whoever wants the program, each library is proved once, from nothing, as `rt ci` does it: what is built of it
-holds its statements, and not its proofs, so that the crates above have a fifth less work. It stands in
+holds its statements, and not its proofs, so that the crates above do not load these. It stands in
 crates/NAME/out/statements, and is proved again where its text or that of a library below has changed.
 
 For whoever works on the sources (--keep, or where an earlier run of `rt` has kept work) it is `rt lib` that proves
