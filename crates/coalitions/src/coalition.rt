@@ -1,5 +1,5 @@
 //! Coalitions.
-ghost use Rattle.std.specs.Prelude.{◌≡◌, ◌≢◌, ◌^◌, ◌<◌, ◌≤◌, ◌-◌, ℕ, cond, false, true};
+ghost use Rattle.std.specs.Prelude.{◌≡◌, ◌≢◌, ◌^◌, ◌<◌, ◌≤◌, ◌-◌, ℕ, if◌then◌else◌, false, true};
 ghost use Rattle.coalitions.specs.Coalitions.{has, without, size};
 
 use std::marker::Model;
@@ -74,7 +74,8 @@ impl Coalition {
     pub fn without(self, members: usize, place: usize) -> Coalition
         requires few { members ≤ 40 }
         requires place { place < members }
-        ensures mask { result ≡ cond (has members place self) (without members place self) self }
+        ensures mask { result ≡
+            if has members place self then without members place self else self }
         ensures outside { has members place result ≡ false }
         ensures others { (p : ℕ) → p < members → p ≢ place →
             has members p result ≡ has members p self }

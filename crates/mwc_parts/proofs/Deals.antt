@@ -10,7 +10,7 @@ use Rattle.std.proofs.lemmas.List.FromFn.{get_or-map-range_with_len, length-map-
 use Rattle.std.specs.List.{sum_by}
 use Rattle.mwc_parts.specs.Inner.Sums.{times_in}
 use Rattle.mwc_parts.specs.Inner.Deals.{share_from, share_of, shares_by, AscendsFrom}
-use Rattle.mwc_parts.proofs.Ranges.{range_more}
+use Rattle.coalitions.proofs.Ranges.{sum_by-range-more}
 use Rattle.std.proofs.lemmas.List.Sums.{sum_by-cons, sum_by_push, sum_by-set}
 
 cons_if : (b : Bool) (j : ℕ) (x a c : List ℕ) → x ≡ a ++ c → cond b (j ∷ x) x ≡ cond b (j ∷ a) a ++ c
@@ -88,9 +88,6 @@ none_held : (f : ℕ → ℕ) (j : ℕ) (ws : List ℕ) → sum_by (sum_by f) (m
 none_held f j [] = refl
 none_held f j (w ∷ ws) = omega (arith, sum_by-cons (sum_by f) (share_from w j []) (map (λ w. share_from w j []) ws), none_held f j ws)
 
-pub range_sum : (f : ℕ → ℕ) (n : ℕ) → sum_by f (range_with_len 0 (n + 1)) ≡ sum_by f (range_with_len 0 n) + f n
-range_sum f n = rw (range_more n) (sum_by_push f (range_with_len 0 n) n)
-
 -- of the first m holders
 sum_up_to : (f : ℕ → ℕ) (k : ℕ) (hs : List ℕ) → All (λ h. h < k) hs → (m : ℕ) → m ≤ length hs
     → sum_by (sum_by f) (shares_by (take m hs) k) ≡ sum_by f (range_with_len 0 m)
@@ -107,7 +104,7 @@ sum_up_to f k hs a (suc m) l =
     let dealt = deal_from first h 0 k h (omega arith) below in
     let given = sum_by-set (sum_by f) (shares_by first k) h (share_of first h ++ length first ∷ []) []
     (omega (arith, length-map-range_with_len (share_of first) 0 k)) in
-    let next = rw add-one at (range_sum f m) in
+    let next = rw add-one at (sum_by-range-more f m) in
     rw (more, dealt) (omega (arith, given, ap (sum_by f) held, sum_by_push f (share_of first h) (length first), before, next, ap f number))
 
 -- any sum over the shares is the sum over the slices
@@ -120,20 +117,9 @@ range_once : (i n : ℕ) → times_in i (range_with_len 0 n) ≡ cond (ltb i n) 
 range_once i zero = grind (arith, nat_tests)
 range_once i (suc n) =
     let rest = range_once i n in
-    let next = rw add-one at (range_sum (λ x. cond (eqb x i) 1 0) n) in
+    let next = rw add-one at (sum_by-range-more (λ x. cond (eqb x i) 1 0) n) in
     grind (arith, nat_tests)
 
 -- each slice stands once in the shares, and no other number does
 pub each_held_once : (i k : ℕ) (hs : List ℕ) → All (λ h. h < k) hs → sum_by (times_in i) (shares_by hs k) ≡ cond (ltb i (length hs)) 1 0
 each_held_once i k hs a = shares_sum (λ x. cond (eqb x i) 1 0) k hs a ∙ range_once i (length hs)
-
-pub sum_range_le : (f : ℕ → ℕ) (j m n : ℕ) → m ≤ n → sum_by f (range_with_len j m) ≤ sum_by f (range_with_len j n)
-sum_range_le f j zero n l = omega arith
-sum_range_le f j (suc m) zero l = absurd (omega arith)
-sum_range_le f j (suc m) (suc n) l =
-    omega (
-      arith,
-      sum_by-cons f j (range_with_len (j + 1) m),
-      sum_by-cons f j (range_with_len (j + 1) n),
-      sum_range_le f (j + 1) m n (omega arith),
-    )

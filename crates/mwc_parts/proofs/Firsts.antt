@@ -13,7 +13,7 @@ use Rattle.mwc_parts.specs.Inner.Sums.{times_in}
 use Rattle.mwc_parts.specs.Wording.{coalition_count}
 use Rattle.mwc_parts.specs.Inner.Deals.{share_from, share_of, AreDealt}
 use Rattle.mwc_parts.specs.Inner.Dealing.{DeskView, IsWell, given_slices, DealsInTurn, TakesTurn, DealsOneEach, IsFresh}
-use Rattle.mwc_parts.proofs.Deals.{shares_sum, each_held_once, held_increases, sum_range_le}
+use Rattle.mwc_parts.proofs.Deals.{shares_sum, each_held_once, held_increases}
 use Rattle.std.proofs.lemmas.List.Sums.{get_or-le-sum_by}
 use Rattle.mwc_parts.proofs.Turns.{turn_nothing, turn_one, none_free, none_ill, still_held, went_on, share_at}
 
@@ -129,7 +129,7 @@ each_within {n} g desks deal =
     let a : sum_by (coalition_count g) (given_slices desks) ≡ coalition_count g (range_with_len 0 (length d.holders)) =
     ap (sum_by (coalition_count g)) d.given_are ∙ shares_sum (λ j. length (g.slice j)) (length desks) d.holders d.by_workers in
     let m : coalition_count g (range_with_len 0 (length d.holders)) ≤ coalition_count g (range_with_len 0 n) =
-    sum_range_le (λ j. length (g.slice j)) 0 (length d.holders) n (omega arith) in
+    sum_by-range-le (λ j. length (g.slice j)) (length d.holders) n (omega arith) in
     All-weaker (λ (s : List ℕ). coalition_count g s ≤ sum_by (coalition_count g) (given_slices desks))
     (λ (s : List ℕ). coalition_count g s ≤ coalition_count g (range_with_len 0 n)) (λ s l. omega arith) (given_slices desks)
     (get_or-le-sum_by (coalition_count g) (given_slices desks))

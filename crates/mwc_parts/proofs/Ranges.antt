@@ -2,17 +2,15 @@
 use Rattle.std.specs.Prelude.{◌≡◌, ℕ, ◌+◌, List, [], ◌∷◌, ◌++◌, map}
 use Rattle.std.specs.List.{range_with_len, flat_map}
 use Rattle.std.proofs.Common.{ap, arith, sym, ◌∙◌}
-use Rattle.std.proofs.lemmas.List.{flat_map_more, map-append, map-id}
+use Rattle.std.proofs.lemmas.List.{flat_map_more, map-append}
 use Rattle.std.proofs.lemmas.List.Folds.{flat_map-map}
 use Rattle.std.proofs.lemmas.List.FromFn.{map-range_with_len_more}
-
-pub range_more : (n : ℕ) → range_with_len 0 (n + 1) ≡ range_with_len 0 n ++ n ∷ []
-range_more n = simp map-id at (map-range_with_len_more (λ (i : ℕ). i) 0 n n (omega arith))
+use Rattle.coalitions.proofs.Ranges.{range-more}
 
 -- one more slice
 pub in_order_more : (slice : ℕ → List ℕ) (n : ℕ) (all piece : List ℕ) → all ≡ flat_map slice (range_with_len 0 n) → piece ≡ slice n
     → all ++ piece ≡ flat_map slice (range_with_len 0 (n + 1))
-in_order_more slice n all piece e f = rw (e, f, range_more n) (flat_map_more slice [] (range_with_len 0 n) n)
+in_order_more slice n all piece e f = rw (e, f, range-more 0 n) (flat_map_more slice [] (range_with_len 0 n) n)
 
 -- one more piece of a row
 pub pieces_more : {X : Type 0} (f : X → List ℕ) (slice : ℕ → List ℕ) (n : ℕ) (row : List X) (x : X)

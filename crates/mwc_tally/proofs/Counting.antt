@@ -17,7 +17,7 @@ use Rattle.mwc_walk.proofs.One.{slice-short}
 use Rattle.power_index.specs.Tables.{Tables, AreTallies, AreCounts, table_total}
 use Rattle.power_index.proofs.Minimal.{minimal-are-coalitions, minimal-few}
 use Rattle.power_index.proofs.Sound.{total-is, tallies-are_counts}
-use Rattle.power_index.proofs.Tallies.{range-more, sum_by-range-more, sum_by-range-le}
+use Rattle.coalitions.proofs.Ranges.{range-more, sum_by-range-more, sum_by-range-le}
 use Rattle.mwc_tally.specs.Inner.Shares.{CountedUpTo, CountSlices, CountWhole, slice_of}
 use Rattle.mwc_tally.specs.declared.slices.Slices.{Slices}
 

@@ -1,11 +1,9 @@
 -- A tally of a list, one coalition more, two lists together, and what its sizes add up to.
-use Rattle.std.proofs.Common.{◌≡◌, ◌∙◌, ◌==◌, ◌&&◌, ℕ, ◌+◌, ◌*◌, ◌<◌, ◌≤◌, List, [], ◌∷◌, ◌++◌, length, get_or, set, take, cond, Bool, true, false, sym, ap, refl, arith, zero, suc, eq-eqb, get_or-set_same, get_or-set_other, length-set, length-append, replicate, inl, inr, subst}
-use Rattle.std.specs.List.{filter, sum_by, range_with_len}
-use Rattle.std.proofs.lemmas.List.{map-id}
+use Rattle.std.proofs.Common.{◌≡◌, ◌∙◌, ◌==◌, ◌&&◌, ℕ, ◌+◌, ◌*◌, ◌<◌, ◌≤◌, List, [], ◌∷◌, ◌++◌, length, get_or, set, cond, Bool, true, false, sym, ap, refl, arith, zero, suc, eq-eqb, get_or-set_same, get_or-set_other, length-set, length-append, replicate, inl, inr, subst}
+use Rattle.std.specs.List.{filter}
 use Rattle.std.proofs.lemmas.List.Elements.{filter-append}
-use Rattle.std.proofs.lemmas.List.FromFn.{map-range_with_len_more, sum_by-map-range_with_len_more, take-map-range_with_len}
 use Rattle.std.proofs.lemmas.List.Recursion.{is_sum_by}
-use Rattle.std.proofs.lemmas.List.Sums.{sum_by_push, sum_by-take-le, length-filter}
+use Rattle.std.proofs.lemmas.List.Sums.{sum_by_push, length-filter}
 use Rattle.std.proofs.lemmas.Bool.{cases_eq, ne_eqb}
 use Rattle.council_game.specs.Votes.{size}
 use Rattle.power_index.specs.declared.tally.Tally.{Tally}
@@ -13,19 +11,6 @@ use Rattle.power_index.specs.Tables.{tally_total, IsTallyOf}
 use Rattle.power_index.specs.Inner.Tables.{with_one}
 use Rattle.power_index.proofs.Members.{size-le}
 use Rattle.power_index.proofs.Sums.{sum-range, sum-by_size, length-filter-le}
-
-pub range-more : (a n : ℕ) → range_with_len a (n + 1) ≡ range_with_len a n ++ (a + n) ∷ []
-range-more a n = simp map-id at (map-range_with_len_more (λ x. x) a n (a + n) refl)
-
--- one number more
-pub sum_by-range-more : (f : ℕ → ℕ) (n : ℕ) → sum_by f (range_with_len 0 (n + 1)) ≡ sum_by f (range_with_len 0 n) + f n
-sum_by-range-more f n = simp map-id at (sum_by-map-range_with_len_more f (λ x. x) 0 n n (omega arith))
-
--- a sum of fewer numbers is no greater
-pub sum_by-range-le : (f : ℕ → ℕ) (k n : ℕ) → k ≤ n → sum_by f (range_with_len 0 k) ≤ sum_by f (range_with_len 0 n)
-sum_by-range-le f k n le =
-    let front : take k (range_with_len 0 n) ≡ range_with_len 0 k = simp map-id at (take-map-range_with_len (λ x. x) 0 n k le) in
-    omega (arith, sum_by-take-le f (range_with_len 0 n) k, ap (sum_by f) front)
 
 pub get_or-zeros : (n s : ℕ) → get_or {A = ℕ} (replicate {A = ℕ} n 0) s 0 ≡ 0
 get_or-zeros zero s = refl

@@ -6,7 +6,7 @@ ghost use Rattle.power_index.specs.Tables.{no_tally, table_memberships, table_of
 ghost use Rattle.power_index.specs.Inner.Tables.{IsJoined};
 ghost use Rattle.power_index.specs.Tables.{table_of_member_size, table_of_size, table_total};
 ghost use Rattle.power_index.specs.Inner.Tables.{with_one};
-ghost use Rattle.std.specs.Prelude.{◌≡◌, ℕ, ◌+◌, ◌-◌, ◌*◌, ◌<◌, ◌≤◌, ◌^◌, cond, List, [], ◌∷◌, ◌++◌, length, slice_index, slice_index_or, All, min, true};
+ghost use Rattle.std.specs.Prelude.{◌≡◌, ℕ, ◌+◌, ◌-◌, ◌*◌, ◌<◌, ◌≤◌, ◌^◌, if◌then◌else◌, List, [], ◌∷◌, ◌++◌, length, slice_index, slice_index_or, All, min, true};
 
 use crate::tally::Tally;
 use council_game::{Coalition, Game, limits};
@@ -64,9 +64,9 @@ fn add_to_places(
     requires room { (p : ℕ) → p < members →
         slice_index (slice_index_or by_place.old p no_tally).sizes size ≤ 2 ^ 40 }
     ensures { (p : ℕ) → p < members → slice_index_or by_place.new p no_tally ≡
-        cond (has members p coalition)
-        (with_one (slice_index_or by_place.old p no_tally) size)
-        (slice_index_or by_place.old p no_tally) }
+        if has members p coalition
+        then with_one (slice_index_or by_place.old p no_tally) size
+        else slice_index_or by_place.old p no_tally }
 {
     let mut rest = coalition.mask();
     while rest != 0 {

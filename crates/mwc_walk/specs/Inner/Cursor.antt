@@ -1,5 +1,5 @@
 -- How far a walk has come, and what is left to it.
-use Rattle.std.specs.Prelude.{ℕ, ◌+◌, ◌-◌, ◌*◌, ◌/◌, ◌%◌, ◌^◌, ◌≡◌, ◌≤◌, ◌<◌, false, cond, ltb, List, [], ◌∷◌, length, take}
+use Rattle.std.specs.Prelude.{ℕ, ◌+◌, ◌-◌, ◌*◌, ◌/◌, ◌%◌, ◌^◌, ◌≡◌, ◌≤◌, ◌<◌, false, if◌then◌else◌, ltb, List, [], ◌∷◌, length, take}
 use Rattle.std.specs.Prelude.{Option, Some, None}
 use Rattle.council_game.specs.Votes.{Votes, IsVotes}
 use Rattle.mwc_walk.specs.declared.cursor.Cursor.{Cursor}
@@ -10,7 +10,7 @@ use Rattle.mwc_walk.specs.Inner.Places.{slice_below, reaches, wins_at, LanesAre}
 
 -- the numbers below this one are still to be looked at
 abbrev pub bound : Votes → Cursor → ℕ
-bound v c = cond c.fresh (c.prefix + 1) c.prefix * 2 ^ (v.members - c.place)
+bound v c = (if c.fresh then c.prefix + 1 else c.prefix) * 2 ^ (v.members - c.place)
 
 -- the coalitions of the slice that are still to come
 abbrev pub rest_of_slice : Votes → Cursor → List ℕ
@@ -18,15 +18,15 @@ rest_of_slice v c = slice_below v c.bits c.number (bound v c)
 
 -- a number that falls with each step
 abbrev pub steps_left : Votes → Cursor → ℕ
-steps_left v c = 128 * bound v c + cond c.fresh (v.members - c.place) (64 + c.place)
+steps_left v c = 128 * bound v c + (if c.fresh then v.members - c.place else 64 + c.place)
 
 -- the visits that a fresh prefix came by: one where its last member was taken in, those of the fixed places at their end
 abbrev pub new_visit : Cursor → ℕ
-new_visit c = cond c.fresh (cond (ltb c.bits c.place) (c.prefix % 2) c.bits) 0
+new_visit c = if c.fresh then (if ltb c.bits c.place then c.prefix % 2 else c.bits) else 0
 
 -- the visits on the way down to a fresh prefix that can still meet each quota: a coalition is still to be given for them
 abbrev pub open_visits : Votes → Cursor → ℕ
-open_visits v c = cond c.fresh (cond (reaches v.rules c.place c.prefix) (c.place - c.bits) 0) 0
+open_visits v c = if c.fresh then (if reaches v.rules c.place c.prefix then c.place - c.bits else 0) else 0
 
 -- x is the number of the first p places, at a slice, and what was passed on the way to them did not win yet
 pub record IsPlace (v : Votes) (bits number p x : ℕ) : Type 0 where

@@ -2,7 +2,7 @@ use Rattle.std.proofs.Common.{arith, ◌≡◌, ◌∙◌, ◌≤◌, ◌^◌, �
 use Rattle.std.specs.List.{range_with_len}
 use Rattle.power_index.specs.Tables.{Tables, table_of_member, table_total, table_memberships}
 use Rattle.power_index.proofs.Sound.{some-sound}
-use Rattle.power_index.proofs.Tallies.{sum_by-range-more}
+use Rattle.coalitions.proofs.Ranges.{sum_by-range-more}
 use Rattle.power_index.proofs.counts.Counts.memberships.Goals as goal
 
 pub loop-i-preserved : goal.loop-i-preserved
