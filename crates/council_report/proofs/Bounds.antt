@@ -1,12 +1,12 @@
 -- No line of coalitions, sizes or members is longer than the room that a block keeps for it.
-use Rattle.std.proofs.Common.{◌≡◌, ℕ, ◌+◌, ◌*◌, ◌^◌, ◌<◌, ◌≤◌, ◌++◌, List, [], ◌∷◌, length, get_or, map, codes, decimal, Bool, cond, ◌==◌, ◌&&◌, arith, length-append, subst, sym, ap}
-use Rattle.std.specs.List.{All, AllByRecursion, flat_map, filter, range_with_len}
+use Rattle.std.proofs.Common.{◌≡◌, ℕ, ◌+◌, ◌*◌, ◌^◌, ◌<◌, ◌≤◌, ◌++◌, List, [], ◌∷◌, length, get_or, map, codes, decimal, Bool, cond, true, zero, suc, ◌==◌, arith, length-append, subst, sym, ap}
+use Rattle.std.specs.List.{All, AllByRecursion, flat_map, range_with_len}
 use Rattle.std.proofs.lemmas.Fmt.{length-decimal-le, length-decimal-le_wide}
 use Rattle.std.proofs.lemmas.Bool.{cond_both}
 use Rattle.std.proofs.lemmas.List.{length-map}
 use Rattle.std.proofs.lemmas.List.Concat.{length-flat_map}
 use Rattle.std.proofs.lemmas.List.Sums.{sum_by-le}
-use Rattle.std.proofs.lemmas.List.FromFn.{length-range_with_len, get_or-range_with_len}
+use Rattle.std.proofs.lemmas.List.FromFn.{length-range_with_len, length-map-range_with_len, get_or-range_with_len}
 use Rattle.std.proofs.lemmas.List.Elements.{All-from_recursion}
 use Rattle.council_game.specs.Votes.{RuleView, IsRule, places_of, size, weight}
 use Rattle.council_game.specs.Ranks.{member_at}
@@ -14,15 +14,16 @@ use Rattle.council_game.specs.Game.{GameView, IsGame, votes_of}
 use Rattle.council_game.proofs.Games.{names-fit, votes-are, light-weights}
 use Rattle.council_game.proofs.Weights.{weight-le}
 use Rattle.council_text.proofs.Joins.{one-number, next-numbers}
-use Rattle.power_index.specs.Counting.{members, contains, size_of, count_of_size, count_of_member_size}
+use Rattle.power_index.specs.Counting.{members}
 use Rattle.power_index.specs.Fractions.{lowest_terms}
-use Rattle.power_index.specs.Indices.{deegan_packel, public_good}
-use Rattle.power_index.proofs.Sums.{length-filter-le}
+use Rattle.power_index.specs.Tables.{table_of_size, table_of_member, table_of_member_size, table_deegan_packel, table_public_good}
 use Rattle.power_index.proofs.Members.{few-members, size-le}
-use Rattle.power_index.proofs.Small.{deegan_packel-wide, public_good-wide}
+use Rattle.power_index.proofs.Small.{AreBelow, deegan_packel-wide, public_good-wide}
+use Rattle.council_report.specs.declared.counted.Counted.{Counted}
 use Rattle.council_report.specs.declared.shown.Shown.{Shown}
-use Rattle.council_report.specs.Report.{coalition_lines, size_lines, member_lines, lines}
-use Rattle.council_report.specs.Lines.{with_tab, line, with_slashes, name_of, names_of, weights_of_coalition, weights_of_member, member_fields, index_fields, coalition_line, size_line, member_line}
+use Rattle.council_report.specs.Report.{coalition_lines}
+use Rattle.council_report.specs.Inner.Lines.{line_of_size, line_of_member, lines_of_sizes, lines_of_members, lines_of}
+use Rattle.council_report.specs.Lines.{with_tab, line, with_slashes, name_of, names_of, weights_of_coalition, weights_of_member, index_fields, coalition_line, size_line, member_line}
 
 -- a field of a line
 abbrev pub IsField : List ℕ → Type 0
@@ -74,11 +75,11 @@ length-with_slashes (v ∷ w ∷ vs) h =
 with_slashes-fits : (values : List ℕ) → length values ≤ 4 → AllByRecursion (λ v. v < 2 ^ 64) values → IsField (with_slashes values)
 with_slashes-fits values few h = let fit = length-with_slashes values h in omega (arith, fit, few)
 
-fraction-fits : (top bottom : ℕ) → top < 10 ^ 28 → bottom < 10 ^ 28 → IsField (decimal top ++ 47 ∷ decimal bottom)
-fraction-fits top bottom a b =
-    let first = length-decimal-le_wide 28 top (omega arith) a (omega arith) in
-    let last = length-decimal-le_wide 28 bottom (omega arith) b (omega arith) in
-    omega (arith, first, last, length-append (decimal top) (47 ∷ decimal bottom))
+fraction-fits : (p : ℕ × ℕ) → AreBelow (10 ^ 28) p → IsField (decimal p.0 ++ 47 ∷ decimal p.1)
+fraction-fits p below =
+    let first = length-decimal-le_wide 28 p.0 (omega arith) below.0 (omega arith) in
+    let last = length-decimal-le_wide 28 p.1 (omega arith) below.1 (omega arith) in
+    omega (arith, first, last, length-append (decimal p.0) (47 ∷ decimal p.1))
 
 -- ---- rows of fields
 pub each-field : {X : Type 0} (f : X → List ℕ) → ((x : X) → IsField (f x)) → (xs : List X) → AllByRecursion IsField (map f xs)
@@ -115,44 +116,51 @@ coalition-fits g game c =
       ),
     )
 
-count-field : (p : ℕ → Bool) (list : List ℕ) → length list ≤ 2 ^ 40 → IsField (decimal (length (filter p list)))
-count-field p list few = let less = length-filter-le p list in number-field (length (filter p list)) (omega (arith, less, few))
+-- numbers of a range
+numbers-field : (f : ℕ → ℕ) (a n : ℕ) → ((i : ℕ) → i < a + n → f i < 2 ^ 64)
+    → AllByRecursion IsField (map (λ i. decimal (f i)) (range_with_len a n))
+numbers-field f a zero small = tt
+numbers-field f a (suc n) small = (number-field (f a) (small a (omega arith)), numbers-field f (a + 1) n (λ i lt. small i (omega arith)))
 
-pub size-fits : (g : GameView) → IsGame g → (list : List ℕ) → length list ≤ 2 ^ 40 → (s : ℕ) → s ≤ length g.names
-    → length (size_line g list s) ≤ 4096
+pub size-fits : (k : Counted) (s : ℕ) → s ≤ k.members → length (line_of_size k s) ≤ 4096
 unfolding size_line
-size-fits g game list few s le =
-    let forty = few-members g game in
-    let count : ℕ → List ℕ = λ i. decimal (count_of_member_size g i s list) in
-    let long = length-map (members g) count in
-    let all = length-range_with_len 0 (length g.names) in
-    cond_both (count_of_size g s list == 0) [] (line (codes "size") (decimal s ∷ decimal (count_of_size g s list) ∷ map count (members g)))
-    (λ text. length text ≤ 4096) (λ _. omega arith)
-    (λ _. line-fits (codes "size") (decimal s ∷ decimal (count_of_size g s list) ∷ map count (members g)) (omega arith)
-    (omega (arith, long, all, forty)) (
-      number-field s (omega (arith, le, forty)),
+size-fits k s le =
+    let count : ℕ = table_of_size k.counts.now s in
+    let count_of_member : ℕ → ℕ = λ i. table_of_member_size k.counts.now i s in
+    let fields : List (List ℕ) = decimal s ∷ decimal count ∷ map (λ i. decimal (count_of_member i)) (members k.game.now) in
+    let few = k.sound.few in
+    let forty = k.sound.few_members in
+    let in' : s ≤ k.counts.now.members = omega (arith, le, k.counted_members) in
+    let long = length-map-range_with_len (λ i. decimal (count_of_member i)) 0 (length k.game.now.names) in
+    cond_both (count == 0) [] (line (codes "size") fields) (λ text. length text ≤ 4096) (λ _. omega arith)
+    (λ _. line-fits (codes "size") fields (omega arith) (omega (arith, long, k.all_members, k.counted_members, forty)) (
+      number-field s (omega (arith, in', forty)),
       (
-        count-field (λ c. size_of g c == s) list few,
-        each-field count (λ i. count-field (λ c. contains g i c && (size_of g c == s)) list few) (members g),
+        number-field count (omega (arith, k.sound.few_of_size s in', few)),
+        numbers-field count_of_member 0 (length k.game.now.names) (λ i lt.
+            omega (arith, k.sound.few_of_member_size i s (omega (arith, lt, k.all_members, k.counted_members)) in', few)),
       ),
     ))
 
-pub member-fits : (g : GameView) → IsGame g → (list : List ℕ) → 1 ≤ length list → length list ≤ 2 ^ 40 → (i : ℕ) → i < length g.names
-    → length (member_line g list i) ≤ 4096
+pub member-fits : (k : Counted) (i : ℕ) → i < k.members → length (line_of_member k i) ≤ 4096
 unfolding member_line
-member-fits g game list some few i lt =
-    let deegan = deegan_packel-wide g list i game some few in
-    let public = public_good-wide g list i game few in
+member-fits k i lt =
+    let inside : i < k.counts.now.members = omega (arith, lt, k.counted_members) in
+    let deegan = deegan_packel-wide k.counts.now i k.sound inside in
+    let public = public_good-wide k.counts.now i k.sound inside in
+    let g : GameView = k.game.now in
     let rules = length-map g.rules (λ r. get_or r.weights i 0) in
     let IsLight : RuleView → Type 0 = λ r. (k : ℕ) → k < length g.names → get_or r.weights k 0 ≤ 1000000000000 in
-    let own = each-number IsLight (λ r. get_or r.weights i 0) (λ r light. let most = light i lt in omega (arith, most)) g.rules
-    (light-weights g game) in
-    let weights = with_slashes-fits (weights_of_member g i) (omega (arith, rules, game.few_rules)) own in
-    let first = fraction-fits (lowest_terms (deegan_packel g list i)).0 (lowest_terms (deegan_packel g list i)).1 deegan.0 deegan.1 in
-    let second = fraction-fits (lowest_terms (public_good g list i)).0 (lowest_terms (public_good g list i)).1 public.0 public.1 in
-    let indices : AllByRecursion IsField (index_fields g list i) = (first, (omega arith, (second, (omega arith, tt)))) in
-    line-fits (codes "member") (member_fields g list i ++ index_fields g list i) (omega arith) (omega arith)
-    (name-fits g game i, (weights, (count-field (contains g i) list few, indices)))
+    let own = each-number IsLight (λ r. get_or r.weights i 0)
+    (λ r light. let most = light i (omega (arith, lt, k.all_members)) in omega (arith, most)) g.rules (light-weights g k.is_game) in
+    let weights = with_slashes-fits (weights_of_member g i) (omega (arith, rules, k.is_game.few_rules)) own in
+    let first = fraction-fits (lowest_terms (table_deegan_packel k.counts.now i)) deegan in
+    let second = fraction-fits (lowest_terms (table_public_good k.counts.now i)) public in
+    let count = number-field (table_of_member k.counts.now i) (omega (arith, k.sound.few_of_member i inside, k.sound.few)) in
+    line-fits (codes "member") (name_of g i ∷ with_slashes (weights_of_member g i) ∷ decimal (table_of_member k.counts.now i)
+    ∷ index_fields (lowest_terms (table_deegan_packel k.counts.now i))
+    ++ index_fields (lowest_terms (table_public_good k.counts.now i))) (omega arith) (omega arith)
+    (name-fits g k.is_game i, (weights, (count, (first, (omega arith, (second, (omega arith, tt)))))))
 
 -- ---- the lines together
 rows-fit : {X : Type 0} (f : X → List ℕ) (xs : List X) → All (λ x. length (f x) ≤ 4096) xs → length (flat_map f xs) ≤ length xs * 4096
@@ -168,22 +176,30 @@ numbers-fit f a n h =
     subst (λ k. length (f k) ≤ 4096) (sym (get_or-range_with_len a n i d below)) (h i below)) in
     omega (arith, all, long)
 
-chosen-fits : (b : Bool) (text : List ℕ) (n : ℕ) → length text ≤ n → length (cond b text []) ≤ n
-chosen-fits b text n h = cond_both b text [] (λ t. length t ≤ n) (λ _. h) (λ _. omega arith)
+chosen-fits : (b : Bool) (text : List ℕ) (n : ℕ) → (b ≡ true → length text ≤ n) → length (cond b text []) ≤ n
+chosen-fits b text n h = cond_both b text [] (λ t. length t ≤ n) h (λ _. omega arith)
 
 -- 2^40 + 80 lines at most
-pub lines-fit : (shown : Shown) (g : GameView) → IsGame g → (list : List ℕ) → 1 ≤ length list → length list ≤ 2 ^ 40
-    → length (lines shown g list) ≤ 2 ^ 53
-lines-fit shown g game list some few =
-    let n : ℕ = length g.names in
-    let forty = few-members g game in
+pub lines-fit : (shown : Shown) (k : Counted) (list : List ℕ) → (shown.list ≡ true → length list ≤ 2 ^ 40)
+    → length (lines_of shown k list) ≤ 2 ^ 53
+unfolding lines_of
+lines-fit shown k list few =
+    let g : GameView = k.game.now in
+    let n : ℕ = k.members in
+    let forty = k.sound.few_members in
     let coalitions : length (coalition_lines shown g list) ≤ 2 ^ 52 =
-    let fit = rows-fit (coalition_line g) list (λ k d lt. coalition-fits g game (get_or list k d)) in
-    chosen-fits shown.list (flat_map (coalition_line g) list) (2 ^ 52) (omega (arith, fit, few)) in
-    let sizes : length (size_lines shown g list) ≤ 163840 =
-    let fit = numbers-fit (size_line g list) 1 n (λ k lt. size-fits g game list few (1 + k) (omega (arith, lt))) in
-    chosen-fits shown.sizes (flat_map (size_line g list) (range_with_len 1 n)) 163840 (omega (arith, fit, forty)) in
-    let members = numbers-fit (member_line g list) 0 n (λ k lt. member-fits g game list some few (0 + k) (omega (arith, lt))) in
-    let first = length-append (coalition_lines shown g list ++ size_lines shown g list) (member_lines g list) in
-    let second = length-append (coalition_lines shown g list) (size_lines shown g list) in
-    omega (arith, coalitions, sizes, members, forty, first, second)
+    chosen-fits shown.list (flat_map (coalition_line g) list) (2 ^ 52) (λ on.
+    let fit = rows-fit (coalition_line g) list (λ i d lt. coalition-fits g k.is_game (get_or list i d)) in omega (arith, fit, few on)) in
+    let sizes : length (lines_of_sizes shown k) ≤ 163840 =
+    chosen-fits shown.sizes (flat_map (line_of_size k) (range_with_len 1 n)) 163840 (λ _.
+    let fit = numbers-fit (line_of_size k) 1 n (λ s lt. size-fits k (1 + s) (omega (arith, lt))) in
+    omega (arith, fit, forty, k.counted_members)) in
+    let members = numbers-fit (line_of_member k) 0 n (λ i lt. member-fits k (0 + i) (omega (arith, lt))) in
+    let first = length-append (coalition_lines shown g list ++ lines_of_sizes shown k) (lines_of_members k) in
+    let second = length-append (coalition_lines shown g list) (lines_of_sizes shown k) in
+    omega (arith, coalitions, sizes, members, forty, k.counted_members, first, second)
+
+-- their bytes can be counted
+pub lines-count : (shown : Shown) (k : Counted) (list : List ℕ) (told : ℕ) → (shown.list ≡ true → length list ≤ 2 ^ 40) → told < 2 ^ 63
+    → told + length (lines_of shown k list) < 2 ^ 64
+lines-count shown k list told few small = let fit = lines-fit shown k list few in omega (arith, fit, small)

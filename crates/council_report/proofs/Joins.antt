@@ -16,8 +16,7 @@ texts-joined {Z} f h (x ∷ xs) =
     ap (λ (t : List Z). flat_map f (h x) ++ t) (texts-joined f h xs) ∙ sym (flat_map-append f (h x) (flat_map h xs))
 
 -- where they are shown, they are the lines of the list
-pub listed-text : {X : Type 0} (shown : Shown) (g : GameView) (list : List ℕ) (h : X → List ℕ) (pieces : List X) → shown.list ≡ true
-    → flat_map h pieces ≡ list → flat_map (λ p. flat_map (coalition_line g) (h p)) pieces ≡ coalition_lines shown g list
-listed-text shown g list h pieces is joined =
-    texts-joined (coalition_line g) h pieces ∙ ap (flat_map (coalition_line g)) joined
-    ∙ sym (cond-true shown.list (flat_map (coalition_line g) list) [] is)
+pub listed-text : {X : Type 0} (shown : Shown) (g : GameView) (h : X → List ℕ) (pieces : List X) → shown.list ≡ true
+    → flat_map (λ p. flat_map (coalition_line g) (h p)) pieces ≡ coalition_lines shown g (flat_map h pieces)
+listed-text shown g h pieces is =
+    texts-joined (coalition_line g) h pieces ∙ sym (cond-true shown.list (flat_map (coalition_line g) (flat_map h pieces)) [] is)

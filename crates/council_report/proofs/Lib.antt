@@ -10,3 +10,4 @@ pub mod Beginnings
 pub mod SharedLines
 pub mod Differences
 pub mod Joins
+pub mod FromCounts

@@ -1,5 +1,4 @@
 -- What only proofs, private functions and invariants need: no public contract mentions it.
-pub mod Counted
 pub mod Lines
 pub mod Told
 pub mod Ready

@@ -5,9 +5,8 @@ use Rattle.std.specs.Option.{option_map_or}
 use Rattle.council_game.specs.Votes.{RuleView, weight, places_of, size}
 use Rattle.council_game.specs.Ranks.{member_at}
 use Rattle.council_game.specs.Game.{GameView, votes_of, total}
-use Rattle.power_index.specs.Counting.{members, count_of_size, count_of_member, count_of_member_size}
-use Rattle.power_index.specs.Fractions.{lowest_terms, decimals}
-use Rattle.power_index.specs.Indices.{deegan_packel, public_good}
+use Rattle.power_index.specs.Counting.{members}
+use Rattle.power_index.specs.Fractions.{decimals}
 use Rattle.council_text.specs.Joined.{joined_numbers}
 use Rattle.council_text.specs.Notation.{notation}
 
@@ -60,36 +59,24 @@ total_line g = line (codes "total") (with_slashes (totals g) ∷ [])
 unfoldable pub notation_line : RuleView → List ℕ
 notation_line r = line (codes "notation") (notation r ∷ [])
 
-unfoldable pub minimal_line : List ℕ → List ℕ
-minimal_line list = line (codes "minimal") (decimal (length list) ∷ [])
+unfoldable pub minimal_line : ℕ → List ℕ
+minimal_line count = line (codes "minimal") (decimal count ∷ [])
 
 unfoldable pub coalition_line : GameView → ℕ → List ℕ
 coalition_line g c =
     line (codes "coalition") (decimal (size (length g.names) c) ∷ with_slashes (weights_of_coalition g c) ∷ names_of g c)
 
--- size s, how many of the coalitions have it, and for each member how many of those contain it; no line where none has it
-unfoldable pub size_line : GameView → List ℕ → ℕ → List ℕ
-size_line g list s = if count_of_size g s list == 0 then [] else
-    line (codes "size")
-    (decimal s ∷ decimal (count_of_size g s list) ∷ map (λ i. decimal (count_of_member_size g i s list)) (members g))
+-- size s, how many coalitions have it, and for each member how many of those contain it; no line where none has it
+unfoldable pub size_line : GameView → ℕ → ℕ → (ℕ → ℕ) → List ℕ
+size_line g s count count_of_member = if count == 0 then [] else
+    line (codes "size") (decimal s ∷ decimal count ∷ map (λ i. decimal (count_of_member i)) (members g))
 
--- a fraction in lowest terms
-abbrev pub fraction_text : ℕ × ℕ → List ℕ
-fraction_text p = decimal (lowest_terms p).0 ++ 47 ∷ decimal (lowest_terms p).1
+-- an index, as a fraction in lowest terms, and as one digit, a point and six digits, cut off
+abbrev pub index_fields : ℕ × ℕ → List (List ℕ)
+index_fields p = (decimal p.0 ++ 47 ∷ decimal p.1) ∷ decimals p ∷ []
 
--- a fraction as one digit, a point and six digits, cut off
-abbrev pub decimals_text : ℕ × ℕ → List ℕ
-decimals_text p = decimals (lowest_terms p)
-
--- member i: name, weights, how many of the coalitions contain it
-abbrev pub member_fields : GameView → List ℕ → ℕ → List (List ℕ)
-member_fields g list i = name_of g i ∷ with_slashes (weights_of_member g i) ∷ decimal (count_of_member g i list) ∷ []
-
--- the two indices of member i over the coalitions
-abbrev pub index_fields : GameView → List ℕ → ℕ → List (List ℕ)
-index_fields g list i =
-    fraction_text (deegan_packel g list i) ∷ decimals_text (deegan_packel g list i)
-    ∷ fraction_text (public_good g list i) ∷ decimals_text (public_good g list i) ∷ []
-
-unfoldable pub member_line : GameView → List ℕ → ℕ → List ℕ
-member_line g list i = line (codes "member") (member_fields g list i ++ index_fields g list i)
+-- member i: name, weights, how many coalitions contain it, and its two indices
+unfoldable pub member_line : GameView → ℕ → ℕ → ℕ × ℕ → ℕ × ℕ → List ℕ
+member_line g i count deegan_packel public_good =
+    line (codes "member")
+    (name_of g i ∷ with_slashes (weights_of_member g i) ∷ decimal count ∷ index_fields deegan_packel ++ index_fields public_good)

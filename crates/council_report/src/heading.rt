@@ -1,5 +1,5 @@
 //! The lines before those of the coalitions.
-ghost use Rattle.std.specs.Prelude.{◌≡◌, ◌++◌, ◌<◌, ◌≤◌, ℕ, List, length, OnOk};
+ghost use Rattle.std.specs.Prelude.{◌≡◌, ◌++◌, ◌<◌, ◌≤◌, length, OnOk};
 ghost use Rattle.std.specs.List.{flat_map};
 ghost use Rattle.std.specs.Vec.{vec_capacity};
 ghost use Rattle.council_game.specs.Votes.{rule_at};
@@ -56,9 +56,7 @@ pub(crate) fn push_heading(
     count: u64,
     shown: Shown,
 ) -> Result<(), Memory>
-    ghost list: { List ℕ }
-    requires { length list ≡ count }
-    ensures items { OnOk result (out.new.items ≡ out.old.items ++ heading shown game.now list) }
+    ensures items { OnOk result (out.new.items ≡ out.old.items ++ heading shown game.now count) }
     ensures capacity { vec_capacity out.old ≤ vec_capacity out.new }
 {
     push_title(out, game)?;

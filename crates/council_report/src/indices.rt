@@ -1,13 +1,12 @@
 //! The lines of sizes and of members.
 ghost use Rattle.std.specs.Prelude.{◌≡◌, ◌++◌, ◌<◌, ◌≤◌, ◌∷◌, ℕ, List, length, map, OnOk, decimal};
 ghost use Rattle.std.specs.List.{flat_map};
-ghost use Rattle.power_index.specs.Counting.{members, count_of_member_size};
-ghost use Rattle.power_index.specs.Tables.{table_of_member};
-ghost use Rattle.power_index.specs.Fractions.{IsIndex, pair_of};
+ghost use Rattle.power_index.specs.Counting.{members};
+ghost use Rattle.power_index.specs.Tables.{table_of_member, table_of_member_size, table_deegan_packel, table_public_good};
+ghost use Rattle.power_index.specs.Fractions.{IsIndex, lowest_terms, pair_of};
 ghost use Rattle.council_text.specs.Room.{MakesRoomFor};
-ghost use Rattle.council_report.specs.Inner.Counted.{IsCounted};
-ghost use Rattle.council_report.specs.Lines.{with_tab, with_slashes, weights_of_member, size_line, member_line, member_fields, index_fields};
-ghost use Rattle.council_report.specs.Inner.Lines.{fraction_fields};
+ghost use Rattle.council_report.specs.Lines.{with_tab, with_slashes, name_of, weights_of_member, index_fields};
+ghost use Rattle.council_report.specs.Inner.Lines.{line_of_size, line_of_member};
 
 use crate::counted::Counted;
 use crate::lines::end_line;
@@ -33,8 +32,8 @@ fn push_fraction(out: &mut Vec<u8>, fraction: Fraction) -> Result<(), AllocError
 /// Two fields: an index as a fraction and as decimals.
 fn push_index(out: &mut Vec<u8>, index: Fraction) -> Result<(), AllocError>
     requires { IsIndex (pair_of index) }
-    ensures items { OnOk result (out.new.items ≡ out.old.items ++ fraction_fields (pair_of index)) }
-    ensures room { MakesRoomFor out.old out.new result (fraction_fields (pair_of index)) }
+    ensures items { OnOk result (out.new.items ≡ out.old.items ++ flat_map with_tab (index_fields (pair_of index))) }
+    ensures room { MakesRoomFor out.old out.new result (flat_map with_tab (index_fields (pair_of index))) }
 {
     push_fraction(out, index)?;
     push_field(out, &index.decimals())
@@ -42,17 +41,15 @@ fn push_index(out: &mut Vec<u8>, index: Fraction) -> Result<(), AllocError>
 
 /// For each member, how many coalitions of a size contain it.
 fn push_counts(out: &mut Vec<u8>, counted: &Counted<'_>, size: usize) -> Result<(), AllocError>
-    ghost list: { List ℕ }
-    requires list { IsCounted counted.now.game.now list counted.now.counts.now }
-    requires size { size ≤ length counted.now.game.now.names }
+    requires { size ≤ counted.now.members }
     ensures items { OnOk result (out.new.items ≡ out.old.items
         ++ flat_map with_tab (map (λ i. decimal
-        (count_of_member_size counted.now.game.now i size list)) (members counted.now.game.now))) }
+        (table_of_member_size counted.now.counts.now i size)) (members counted.now.game.now))) }
     ensures room { MakesRoomFor out.old out.new result
         (flat_map with_tab (map (λ i. decimal
-        (count_of_member_size counted.now.game.now i size list)) (members counted.now.game.now))) }
+        (table_of_member_size counted.now.counts.now i size)) (members counted.now.game.now))) }
 {
-    for member in 0..counted.game.members() {
+    for member in 0..counted.members {
         push_number(out, counted.counts.wide_of_member_size(member, size))?;
     }
     Ok(())
@@ -65,12 +62,9 @@ pub(crate) fn push_size(
     counted: &Counted<'_>,
     size: usize,
 ) -> Result<(), AllocError>
-    ghost list: { List ℕ }
-    requires list { IsCounted counted.now.game.now list counted.now.counts.now }
-    requires size { size ≤ length counted.now.game.now.names }
-    ensures items { OnOk result (out.new.items ≡ out.old.items
-        ++ size_line counted.now.game.now list size) }
-    ensures room { MakesRoomFor out.old out.new result (size_line counted.now.game.now list size) }
+    requires { size ≤ counted.now.members }
+    ensures items { OnOk result (out.new.items ≡ out.old.items ++ line_of_size counted.now size) }
+    ensures room { MakesRoomFor out.old out.new result (line_of_size counted.now size) }
 {
     let count = counted.counts.wide_of_size(size);
     if count == 0 {
@@ -111,13 +105,15 @@ fn push_member_counts(
     counted: &Counted<'_>,
     member: usize,
 ) -> Result<(), AllocError>
-    ghost list: { List ℕ }
-    requires list { IsCounted counted.now.game.now list counted.now.counts.now }
-    requires member { member < length counted.now.game.now.names }
+    requires { member < counted.now.members }
     ensures items { OnOk result (out.new.items ≡ out.old.items
-        ++ flat_map with_tab (member_fields counted.now.game.now list member)) }
+        ++ with_tab (name_of counted.now.game.now member)
+        ++ with_tab (with_slashes (weights_of_member counted.now.game.now member))
+        ++ with_tab (decimal (table_of_member counted.now.counts.now member))) }
     ensures room { MakesRoomFor out.old out.new result
-        (flat_map with_tab (member_fields counted.now.game.now list member)) }
+        (with_tab (name_of counted.now.game.now member)
+        ++ with_tab (with_slashes (weights_of_member counted.now.game.now member))
+        ++ with_tab (decimal (table_of_member counted.now.counts.now member))) }
 {
     let game = counted.game;
     push_field(out, game.name(member).as_bytes())?;
@@ -127,13 +123,13 @@ fn push_member_counts(
 
 /// Both indices of a member.
 fn push_indices(out: &mut Vec<u8>, counted: &Counted<'_>, member: usize) -> Result<(), AllocError>
-    ghost list: { List ℕ }
-    requires list { IsCounted counted.now.game.now list counted.now.counts.now }
-    requires member { member < length counted.now.game.now.names }
-    ensures items { OnOk result (out.new.items ≡ out.old.items
-        ++ flat_map with_tab (index_fields counted.now.game.now list member)) }
-    ensures room { MakesRoomFor out.old out.new result
-        (flat_map with_tab (index_fields counted.now.game.now list member)) }
+    requires { member < counted.now.members }
+    ensures items { OnOk result (out.new.items ≡ out.old.items ++ flat_map with_tab
+        (index_fields (lowest_terms (table_deegan_packel counted.now.counts.now member))
+        ++ index_fields (lowest_terms (table_public_good counted.now.counts.now member)))) }
+    ensures room { MakesRoomFor out.old out.new result (flat_map with_tab
+        (index_fields (lowest_terms (table_deegan_packel counted.now.counts.now member))
+        ++ index_fields (lowest_terms (table_public_good counted.now.counts.now member)))) }
 {
     push_index(out, deegan_packel(counted.counts, member))?;
     push_index(out, public_good(counted.counts, member))
@@ -146,13 +142,9 @@ pub(crate) fn push_member(
     counted: &Counted<'_>,
     member: usize,
 ) -> Result<(), AllocError>
-    ghost list: { List ℕ }
-    requires list { IsCounted counted.now.game.now list counted.now.counts.now }
-    requires member { member < length counted.now.game.now.names }
-    ensures items { OnOk result (out.new.items ≡ out.old.items
-        ++ member_line counted.now.game.now list member) }
-    ensures room { MakesRoomFor out.old out.new result
-        (member_line counted.now.game.now list member) }
+    requires { member < counted.now.members }
+    ensures items { OnOk result (out.new.items ≡ out.old.items ++ line_of_member counted.now member) }
+    ensures room { MakesRoomFor out.old out.new result (line_of_member counted.now member) }
 {
     out.extend_from_slice(b"member")?;
     push_member_counts(out, counted, member)?;

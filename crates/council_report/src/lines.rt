@@ -66,9 +66,7 @@ pub(crate) fn push_total(out: &mut Vec<u8>, game: &Game) -> Result<(), AllocErro
 /// `minimal`, the number of minimal winning coalitions.
 #[tactic(auto, unfolding(crate::specs::Lines::minimal_line))]
 pub(crate) fn push_minimal(out: &mut Vec<u8>, count: u64) -> Result<(), AllocError>
-    ghost list: { List ℕ }
-    requires { length list ≡ count }
-    ensures items { OnOk result (out.new.items ≡ out.old.items ++ minimal_line list) }
+    ensures items { OnOk result (out.new.items ≡ out.old.items ++ minimal_line count) }
     ensures capacity { vec_capacity out.old ≤ vec_capacity out.new }
 {
     out.extend_from_slice(b"minimal")?;

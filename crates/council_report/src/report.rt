@@ -2,11 +2,11 @@
 ghost use Rattle.std.specs.Prelude.{◌≡◌, ◌+◌, ◌≤◌, ◌^◌, true, false, ℕ, List, length, IfOk, IfErr, OnOk};
 ghost use Rattle.std.specs.List.{flat_map};
 ghost use Rattle.std.specs.Io.KnownBytes.{Appends};
-ghost use Rattle.council_game.specs.Game.{votes_of, AreNonemptyCoalitions};
+ghost use Rattle.council_game.specs.Game.{votes_of, AreNonemptyCoalitions, IsGame};
 ghost use Rattle.council_game.specs.Votes.{minimal_coalitions};
 ghost use Rattle.power_index.specs.Tables.{AreCounts};
-ghost use Rattle.council_report.specs.Inner.Counted.{IsCounted};
-ghost use Rattle.council_report.specs.Report.{coalition_lines, size_lines, lines, report, report_over};
+ghost use Rattle.council_report.specs.Inner.Lines.{lines_of, lines_of_sizes};
+ghost use Rattle.council_report.specs.Report.{coalition_lines, report, report_over};
 ghost use Rattle.council_report.specs.Inner.Shared.{IsReadyLine};
 ghost use Rattle.council_report.specs.Inner.Told.{progress_of, StopsIn};
 ghost use Rattle.council_report.specs.Inner.Ready.{HasRoom, IsReady, CanCount};
@@ -35,13 +35,12 @@ fn put_shown_coalitions<W: Write>(
     line: &mut SharedLine,
     shown: Shown,
 ) -> Result<(), WriteFault>
-    ghost list: { List ℕ }
-    requires pieces { shown.list ≡ true → flat_map (λ p. p.now) pieces.now ≡ list }
-    requires coalitions { shown.list ≡ true → AreNonemptyCoalitions game.now list }
+    requires coalitions { AreNonemptyCoalitions game.now (flat_map (λ p. p.now) pieces.now) }
     requires line { IsReadyLine game.now line.old }
     requires ready { IsReady block.old }
-    requires counted { CanCount block.old (coalition_lines shown game.now list) }
-    ensures { Puts (coalition_lines shown game.now list)
+    requires counted { CanCount block.old
+        (coalition_lines shown game.now (flat_map (λ p. p.now) pieces.now)) }
+    ensures { Puts (coalition_lines shown game.now (flat_map (λ p. p.now) pieces.now))
         (W.contents writer.old) block.old (W.contents writer.new) block.new result }
 {
     if shown.list {
@@ -58,11 +57,9 @@ fn put_shown_sizes<W: Write>(
     counted: &Counted<'_>,
     shown: Shown,
 ) -> Result<(), WriteFault>
-    ghost list: { List ℕ }
-    requires list { IsCounted counted.now.game.now list counted.now.counts.now }
     requires ready { IsReady block.old }
-    requires counted { CanCount block.old (size_lines shown counted.now.game.now list) }
-    ensures { Puts (size_lines shown counted.now.game.now list)
+    requires counted { CanCount block.old (lines_of_sizes shown counted.now) }
+    ensures { Puts (lines_of_sizes shown counted.now)
         (W.contents writer.old) block.old (W.contents writer.new) block.new result }
 {
     if shown.sizes {
@@ -73,6 +70,7 @@ fn put_shown_sizes<W: Write>(
 }
 
 /// The lines after the heading.
+#[tactic(auto, unfolding(crate::specs::Inner::Lines::lines_of))]
 fn put_lines<W: Write>(
     block: &mut Block,
     writer: &mut W,
@@ -81,14 +79,13 @@ fn put_lines<W: Write>(
     line: &mut SharedLine,
     shown: Shown,
 ) -> Result<(), WriteFault>
-    ghost list: { List ℕ }
-    requires list { IsCounted counted.now.game.now list counted.now.counts.now }
-    requires pieces { shown.list ≡ true → flat_map (λ p. p.now) pieces.now ≡ list }
-    requires coalitions { shown.list ≡ true → AreNonemptyCoalitions counted.now.game.now list }
+    requires coalitions { AreNonemptyCoalitions counted.now.game.now
+        (flat_map (λ p. p.now) pieces.now) }
     requires line { IsReadyLine counted.now.game.now line.old }
     requires ready { IsReady block.old }
-    requires counted { CanCount block.old (lines shown counted.now.game.now list) }
-    ensures { Puts (lines shown counted.now.game.now list)
+    requires counted { CanCount block.old
+        (lines_of shown counted.now (flat_map (λ p. p.now) pieces.now)) }
+    ensures { Puts (lines_of shown counted.now (flat_map (λ p. p.now) pieces.now))
         (W.contents writer.old) block.old (W.contents writer.new) block.new result }
 {
     put_shown_coalitions(block, writer, counted.game, pieces, line, shown)?;
@@ -97,6 +94,7 @@ fn put_lines<W: Write>(
 }
 
 /// The lines after the heading, and the flush.
+#[tactic(auto, unfolding(crate::specs::Inner::Lines::lines_of))]
 fn send<W: Write>(
     mut block: Block,
     writer: &mut W,
@@ -105,19 +103,18 @@ fn send<W: Write>(
     mut line: SharedLine,
     shown: Shown,
 ) -> Result<u64, WriteFault>
-    ghost list: { List ℕ }
-    requires list { IsCounted counted.now.game.now list counted.now.counts.now }
-    requires pieces { shown.list ≡ true → flat_map (λ p. p.now) pieces.now ≡ list }
-    requires coalitions { shown.list ≡ true → AreNonemptyCoalitions counted.now.game.now list }
+    requires coalitions { AreNonemptyCoalitions counted.now.game.now
+        (flat_map (λ p. p.now) pieces.now) }
     requires line { IsReadyLine counted.now.game.now line }
     requires room { HasRoom block }
-    requires counted { CanCount block (lines shown counted.now.game.now list) }
+    requires counted { CanCount block
+        (lines_of shown counted.now (flat_map (λ p. p.now) pieces.now)) }
     ensures count { IfOk result (λ count. count ≡ (progress_of (W.contents writer.old) block).count
-        + length (lines shown counted.now.game.now list)) }
+        + length (lines_of shown counted.now (flat_map (λ p. p.now) pieces.now))) }
     ensures ok { OnOk result (Appends (progress_of (W.contents writer.old) block).bytes
-        (W.contents writer.new) (lines shown counted.now.game.now list)) }
+        (W.contents writer.new) (lines_of shown counted.now (flat_map (λ p. p.now) pieces.now))) }
     ensures err { IfErr result (λ fault. StopsIn (progress_of (W.contents writer.old) block)
-        (lines shown counted.now.game.now list) (W.contents writer.new) fault.written) }
+        (lines_of shown counted.now (flat_map (λ p. p.now) pieces.now)) (W.contents writer.new) fault.written) }
 {
     block.settle(writer)?;
     put_lines(&mut block, writer, counted, pieces, &mut line, shown)?;
@@ -128,27 +125,33 @@ fn send<W: Write>(
 /// in pieces, only where it is shown.
 fn write_over<W: Write>(
     alloc: Global,
-    counted: &Counted<'_>,
+    game: &Game,
     pieces: &[&[Coalition]],
+    counts: &Counts,
     shown: Shown,
     writer: &mut W,
 ) -> Result<u64, ReportFault>
     ghost list: { List ℕ }
-    requires list { IsCounted counted.now.game.now list counted.now.counts.now }
+    requires some { IsGame game.now → 1 ≤ length list }
     requires pieces { shown.list ≡ true → flat_map (λ p. p.now) pieces.now ≡ list }
-    requires coalitions { shown.list ≡ true → AreNonemptyCoalitions counted.now.game.now list }
+    requires coalitions { AreNonemptyCoalitions game.now (flat_map (λ p. p.now) pieces.now) }
+    requires counts { AreCounts game.now list counts.now }
     ensures count { IfOk result (λ count.
-        count ≡ length (report_over shown counted.now.game.now list)) }
+        count ≡ length (report_over shown game.now list)) }
     ensures ok { OnOk result (Appends (W.contents writer.old) (W.contents writer.new)
-        (report_over shown counted.now.game.now list)) }
+        (report_over shown game.now list)) }
     ensures err { IfErr result (Falls (W.contents writer.old) (W.contents writer.new)
-        (report_over shown counted.now.game.now list)) }
+        (report_over shown game.now list)) }
 {
-    let game = counted.game;
     let mut block = Block::new(alloc)?;
-    push_heading(&mut block.bytes, game, counted.counts.wide_total(), shown)?;
+    push_heading(&mut block.bytes, game, counts.wide_total(), shown)?;
     let line = SharedLine::new(alloc, game)?;
-    match send(block, writer, counted, pieces, line, shown) {
+    let counted = Counted {
+        game,
+        members: counts.members(),
+        counts,
+    };
+    match send(block, writer, &counted, pieces, line, shown) {
         Ok(count) => Ok(count),
         Err(fault) => Err(ReportFault::Write {
             written: fault.written,
@@ -184,12 +187,7 @@ pub fn write_report_of<W: Write>(
     ensures err { IfErr result (Falls (W.contents writer.old) (W.contents writer.new)
         (report_over shown game.now (flat_map (λ p. p.now) pieces.now))) }
 {
-    let counted = Counted {
-        game,
-        members: game.members(),
-        counts,
-    };
-    write_over(alloc, &counted, pieces, shown, writer)
+    write_over(alloc, game, pieces, counts, shown, writer)
 }
 
 /// Writes the report of a game, with no line for a coalition, from the counts of its minimal winning
@@ -216,12 +214,7 @@ pub fn write_tally<W: Write>(
         (report shown game.now)) }
 {
     minimal_coalitions_can_be_counted();
-    let counted = Counted {
-        game,
-        members: game.members(),
-        counts,
-    };
-    write_over(alloc, &counted, &[], shown, writer)
+    write_over(alloc, game, &[], counts, shown, writer)
 }
 
 /// Writes the report of a game over a list of 1 to 4,000,000 of its coalitions, none of them empty, and

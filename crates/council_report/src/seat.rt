@@ -52,7 +52,8 @@ impl Seat {
 
 /// The seats of a game's members, by rank.
 pub(crate) fn seats_of(alloc: Global, game: &Game) -> Result<Vec<Seat>, AllocError>
-    ensures { IfOk result (λ seats. AreSeats game.now (length game.now.names) seats.items) }
+    ensures game { IsGame game.now }
+    ensures seats { IfOk result (λ seats. AreSeats game.now (length game.now.names) seats.items) }
 {
     let members = game.members();
     let mut seats = Vec::with_capacity(alloc, members)?;

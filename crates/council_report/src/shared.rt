@@ -1,7 +1,7 @@
 //! A line that one coalition shares with the next.
 ghost use Rattle.std.specs.Prelude.{◌≡◌, ◌++◌, ◌+◌, ◌^◌, ◌<◌, ◌≤◌, true, false, length, IfOk, OnOk};
 ghost use Rattle.std.specs.List.{flat_map};
-ghost use Rattle.council_game.specs.Game.{IsGame, votes_of};
+ghost use Rattle.council_game.specs.Game.{votes_of};
 ghost use Rattle.council_game.specs.Votes.{has, rule_at, weight};
 ghost use Rattle.council_text.specs.Room.{MakesRoomFor};
 ghost use Rattle.council_report.specs.Lines.{coalition_line, with_tab, with_slashes, weights_of_coalition, names_of};
@@ -37,7 +37,6 @@ pub(crate) struct SharedLine {
 impl SharedLine {
     /// The line of no member, with room for those of all.
     pub(crate) fn new(alloc: Global, game: &Game) -> Result<SharedLine, AllocError>
-        requires { IsGame game.now }
         ensures { IfOk result (IsReadyLine game.now) }
     {
         Ok(SharedLine {

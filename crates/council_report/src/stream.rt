@@ -1,10 +1,9 @@
 //! The lines of a report on their way to its writer.
 ghost use Rattle.std.specs.Prelude.{◌<◌, ◌≤◌, ◌^◌, ℕ, List, length, All, OnOk};
 ghost use Rattle.std.specs.List.{flat_map, range_with_len};
-ghost use Rattle.power_index.specs.Counting.{members};
 ghost use Rattle.council_game.specs.Game.{AreNonemptyCoalitions};
-ghost use Rattle.council_report.specs.Inner.Counted.{IsCounted};
-ghost use Rattle.council_report.specs.Lines.{coalition_line, size_line, member_line};
+ghost use Rattle.council_report.specs.Lines.{coalition_line};
+ghost use Rattle.council_report.specs.Inner.Lines.{line_of_size, line_of_member, lines_of_members};
 ghost use Rattle.council_report.specs.Inner.Shared.{IsReadyLine};
 ghost use Rattle.council_report.specs.Inner.Ready.{IsReady, CanCount};
 ghost use Rattle.council_report.specs.Inner.Puts.{Puts};
@@ -91,12 +90,10 @@ fn put_size<W: Write>(
     counted: &Counted<'_>,
     size: usize,
 ) -> Result<(), WriteFault>
-    ghost list: { List ℕ }
-    requires list { IsCounted counted.now.game.now list counted.now.counts.now }
-    requires size { size ≤ length counted.now.game.now.names }
+    requires size { size ≤ counted.now.members }
     requires ready { IsReady block.old }
-    requires counted { CanCount block.old (size_line counted.now.game.now list size) }
-    ensures { Puts (size_line counted.now.game.now list size)
+    requires counted { CanCount block.old (line_of_size counted.now size) }
+    ensures { Puts (line_of_size counted.now size)
         (W.contents writer.old) block.old (W.contents writer.new) block.new result }
 {
     match push_size(&mut block.bytes, counted, size) {
@@ -111,13 +108,10 @@ pub(crate) fn put_sizes<W: Write>(
     writer: &mut W,
     counted: &Counted<'_>,
 ) -> Result<(), WriteFault>
-    ghost list: { List ℕ }
-    requires list { IsCounted counted.now.game.now list counted.now.counts.now }
     requires ready { IsReady block.old }
-    requires counted { CanCount block.old (flat_map (size_line counted.now.game.now list)
-        (range_with_len 1 (length counted.now.game.now.names))) }
-    ensures { Puts (flat_map (size_line counted.now.game.now list)
-        (range_with_len 1 (length counted.now.game.now.names)))
+    requires counted { CanCount block.old
+        (flat_map (line_of_size counted.now) (range_with_len 1 counted.now.members)) }
+    ensures { Puts (flat_map (line_of_size counted.now) (range_with_len 1 counted.now.members))
         (W.contents writer.old) block.old (W.contents writer.new) block.new result }
 {
     for size in 1..counted.members + 1 {
@@ -133,12 +127,10 @@ fn put_member<W: Write>(
     counted: &Counted<'_>,
     member: usize,
 ) -> Result<(), WriteFault>
-    ghost list: { List ℕ }
-    requires list { IsCounted counted.now.game.now list counted.now.counts.now }
-    requires member { member < length counted.now.game.now.names }
+    requires member { member < counted.now.members }
     requires ready { IsReady block.old }
-    requires counted { CanCount block.old (member_line counted.now.game.now list member) }
-    ensures { Puts (member_line counted.now.game.now list member)
+    requires counted { CanCount block.old (line_of_member counted.now member) }
+    ensures { Puts (line_of_member counted.now member)
         (W.contents writer.old) block.old (W.contents writer.new) block.new result }
 {
     match push_member(&mut block.bytes, counted, member) {
@@ -153,12 +145,9 @@ pub(crate) fn put_members<W: Write>(
     writer: &mut W,
     counted: &Counted<'_>,
 ) -> Result<(), WriteFault>
-    ghost list: { List ℕ }
-    requires list { IsCounted counted.now.game.now list counted.now.counts.now }
     requires ready { IsReady block.old }
-    requires counted { CanCount block.old
-        (flat_map (member_line counted.now.game.now list) (members counted.now.game.now)) }
-    ensures { Puts (flat_map (member_line counted.now.game.now list) (members counted.now.game.now))
+    requires counted { CanCount block.old (lines_of_members counted.now) }
+    ensures { Puts (lines_of_members counted.now)
         (W.contents writer.old) block.old (W.contents writer.new) block.new result }
 {
     for member in 0..counted.members {

@@ -1,16 +1,16 @@
 -- The fractions that the code makes, as the indices.
-use Rattle.std.proofs.Common.{◌∙◌, ℕ, ◌*◌, ◌<◌, ◌≤◌, List, length, sym, ap, arith}
+use Rattle.std.proofs.Common.{◌≡◌, ◌∙◌, ℕ, ◌*◌, ◌<◌, ◌≤◌, List, length, sym, ap, arith}
 use Rattle.std.proofs.Math.Nat.{mul-pos}
 use Rattle.council_game.specs.Game.{GameView}
-use Rattle.power_index.specs.Tables.{Tables, denominator, weighted_sum, AreCounts, table_total, table_of_member, table_of_member_size, table_memberships}
-use Rattle.power_index.specs.Fractions.{IsLowestOf}
+use Rattle.power_index.specs.Tables.{Tables, denominator, AreCounts, table_total, table_memberships, table_deegan_packel, table_public_good}
+use Rattle.power_index.specs.Fractions.{IsLowestOf, lowest_terms}
 use Rattle.power_index.specs.Indices.{deegan_packel, public_good, sizes_of_member}
 use Rattle.power_index.proofs.Units.{mean, bottom_pos}
 use Rattle.power_index.proofs.Weights.{within, weight, memberships-are}
+use Rattle.power_index.proofs.LowestTerms.{lowest_terms-lowest, lowest_terms-only}
 
 pub deegan-packel-is : (g : GameView) (list : List ℕ) (t : Tables) (i top bottom : ℕ) → i < t.members → t.members ≤ 40 → AreCounts g list t
-    → IsLowestOf (weighted_sum denominator (table_of_member_size t i) t.members, denominator * table_total t) (top, bottom)
-    → IsLowestOf (deegan_packel g list i) (top, bottom)
+    → IsLowestOf (table_deegan_packel t i) (top, bottom) → IsLowestOf (deegan_packel g list i) (top, bottom)
 unfolding deegan_packel
 deegan-packel-is g list t i top bottom lt few h is = record {
   positive = is.positive;
@@ -31,10 +31,24 @@ unfolding public_good
 public-good-bottom g list t i some h = let e = memberships-are g list t h in omega (arith, some, e)
 
 pub public-good-is : (g : GameView) (list : List ℕ) (t : Tables) (i top bottom : ℕ) → i < t.members → AreCounts g list t
-    → IsLowestOf (table_of_member t i, table_memberships t) (top, bottom) → IsLowestOf (public_good g list i) (top, bottom)
+    → IsLowestOf (table_public_good t i) (top, bottom) → IsLowestOf (public_good g list i) (top, bottom)
 unfolding public_good
 public-good-is g list t i top bottom lt h is = record {
   positive = is.positive;
   same = ap (λ n. top * n) (sym (memberships-are g list t h)) ∙ (is.same ∙ ap (λ n. n * bottom) (h.of_member i lt));
   lowest = is.lowest;
 }
+
+-- in lowest terms the indices over tables are those over each list with these counts
+pub deegan-packel-same : (g : GameView) (list : List ℕ) (t : Tables) (i : ℕ) → i < t.members → t.members ≤ 40 → 1 ≤ table_total t
+    → AreCounts g list t → lowest_terms (table_deegan_packel t i) ≡ lowest_terms (deegan_packel g list i)
+deegan-packel-same g list t i lt few some h =
+    lowest_terms-only (deegan_packel g list i) (lowest_terms (table_deegan_packel t i))
+    (deegan-packel-bottom g list t i lt (omega (arith, some, h.total)) h)
+    (deegan-packel-is g list t i _ _ lt few h (lowest_terms-lowest (table_deegan_packel t i) (omega (arith, some))))
+
+pub public-good-same : (g : GameView) (list : List ℕ) (t : Tables) (i : ℕ) → i < t.members → 1 ≤ table_memberships t
+    → AreCounts g list t → lowest_terms (table_public_good t i) ≡ lowest_terms (public_good g list i)
+public-good-same g list t i lt some h =
+    lowest_terms-only (public_good g list i) (lowest_terms (table_public_good t i)) (public-good-bottom g list t i some h)
+    (public-good-is g list t i _ _ lt h (lowest_terms-lowest (table_public_good t i) some))

@@ -49,6 +49,13 @@ denominator = 5342931457063200
 abbrev pub weighted_sum : ℕ → (ℕ → ℕ) → ℕ → ℕ
 weighted_sum d f n = sum_by (λ s. f s * (d / s)) (range_with_len 1 n)
 
+-- the two indices of member i over a list of coalitions with these tables, as pairs
+abbrev pub table_deegan_packel : Tables → ℕ → ℕ × ℕ
+table_deegan_packel t i = (weighted_sum denominator (table_of_member_size t i) t.members, denominator * table_total t)
+
+abbrev pub table_public_good : Tables → ℕ → ℕ × ℕ
+table_public_good t i = (table_of_member t i, table_memberships t)
+
 -- the tables hold the counts of a list of coalitions of a game
 pub record AreCounts (g : GameView) (list : List ℕ) (t : Tables) : Type 0 where
   pub members : t.members ≡ length g.names

@@ -2,7 +2,7 @@
 ghost use Rattle.council_game.specs.Game.{GameView};
 ghost use Rattle.power_index.specs.Fractions.{IsIndex, IsLowestOf, lowest_terms, pair_of};
 ghost use Rattle.power_index.specs.Indices.{deegan_packel, public_good};
-ghost use Rattle.power_index.specs.Tables.{AreCounts};
+ghost use Rattle.power_index.specs.Tables.{AreCounts, table_deegan_packel, table_public_good, table_total};
 ghost use Rattle.std.specs.Prelude.{◌≡◌, ℕ, List, ◌<◌, ◌≤◌, ◌^◌, length};
 
 use crate::{Counts, Fraction, lowest};
@@ -30,6 +30,8 @@ pub fn deegan_packel(counts: &Counts, member: usize) -> Fraction
         IsLowestOf (deegan_packel g list member) (pair_of result) }
     ensures terms { (g : GameView) (list : List ℕ) → 0 < length list → AreCounts g list counts.now →
         pair_of result ≡ lowest_terms (deegan_packel g list member) }
+    ensures tables { 1 ≤ table_total counts.now →
+        pair_of result ≡ lowest_terms (table_deegan_packel counts.now member) }
     ensures index { IsIndex (pair_of result) }
 {
     let mut sum = 0;
@@ -49,6 +51,8 @@ pub fn public_good(counts: &Counts, member: usize) -> Fraction
         IsLowestOf (public_good g list member) (pair_of result) }
     ensures terms { (g : GameView) (list : List ℕ) → 0 < length list → AreCounts g list counts.now →
         pair_of result ≡ lowest_terms (public_good g list member) }
+    ensures tables { 1 ≤ table_total counts.now →
+        pair_of result ≡ lowest_terms (table_public_good counts.now member) }
     ensures index { IsIndex (pair_of result) }
 {
     share(

@@ -1,46 +1,35 @@
-use Rattle.std.proofs.Common.{◌≡◌, ◌<◌, zero-add, ◌++◌, ℕ, List, length, map, decimal, arith, ap, ◌∙◌, sym}
+use Rattle.std.proofs.Common.{◌≡◌, zero-add, ◌++◌, ℕ, List, length, map, decimal, arith, ap, ◌∙◌, sym}
 use Rattle.std.specs.List.{flat_map, range_with_len}
 use Rattle.std.proofs.lemmas.List.FromFn.{map-range_with_len_more}
-use Rattle.power_index.specs.Counting.{count_of_member_size}
+use Rattle.power_index.specs.Tables.{table_of_member_size}
 use Rattle.council_report.specs.Lines.{with_tab}
 use Rattle.council_text.proofs.Room.{takes-not}
 use Rattle.council_report.proofs.Rows.{put-row, field-within}
 use Rattle.council_report.proofs.indices.push_counts.Goals as goal
 
 pub loop-member-preserved : goal.loop-member-preserved
-loop-member-preserved g c =
-    let text : ℕ → List ℕ = λ i. decimal (count_of_member_size c.args.counted.now.game.now i c.args.size g.list) in
+loop-member-preserved c =
+    let text : ℕ → List ℕ = λ i. decimal (table_of_member_size c.args.counted.now.counts.now i c.args.size) in
     let start : List ℕ = c.args.out.now.items in
     let k : ℕ = c.loop-member.member in
-    let members = c.requires.0.counts.members in
-    let inside : k < length c.args.counted.now.game.now.names =
-    omega (arith, c.loop-member-test.true, c.members-member-end.ensures.count) in
-    let count = c.wide_of_member_size.ensures.count
-    ∙ c.requires.0.counts.of_member_size k c.args.size (omega (arith, members, inside)) (omega (arith, members, c.requires.1)) in
     record {
-      items = rw (c.loop-member.invariant.items, count) at c.in_ok-push_number.ensures.items
+      items = rw (c.loop-member.invariant.items, c.wide_of_member_size.ensures.count) at c.in_ok-push_number.ensures.items
           ∙ put-row with_tab start (map text (range_with_len 0 k)) (text k)
           ∙ ap (λ (ts : List (List ℕ)). start ++ flat_map with_tab ts) (sym (map-range_with_len_more text 0 k k (zero-add k)));
       capacity = omega (arith, c.loop-member.invariant.capacity, c.in_ok-push_number.ensures.room.capacity);
     }
 
 pub returns-clause-items : goal.returns-clause-items
-returns-clause-items g c =
-    let n : c.loop-member.member ≡ length c.args.counted.now.game.now.names =
-    omega (arith, c.members-member-end.ensures.count, c.loop-member-test.false, c.loop-member.auto.member-end) in
+returns-clause-items c =
+    let n : c.loop-member.member ≡ length c.args.counted.now.game.now.names = omega (arith, c.args.counted.now.all_members) in
     c.loop-member.invariant.items
     ∙ ap (λ (k : ℕ). c.args.out.now.items ++ flat_map with_tab
-    (map (λ i. decimal (count_of_member_size c.args.counted.now.game.now i c.args.size g.list)) (range_with_len 0 k))) n
+    (map (λ i. decimal (table_of_member_size c.args.counted.now.counts.now i c.args.size)) (range_with_len 0 k))) n
 
 pub returns-in_err-push_number-clause-room : goal.returns-in_err-push_number-clause-room
-returns-in_err-push_number-clause-room g c =
-    let text : ℕ → List ℕ = λ i. decimal (count_of_member_size c.args.counted.now.game.now i c.args.size g.list) in
+returns-in_err-push_number-clause-room c =
+    let text : ℕ → List ℕ = λ i. decimal (table_of_member_size c.args.counted.now.counts.now i c.args.size) in
     let k : ℕ = c.loop-member.member in
-    let members = c.requires.0.counts.members in
-    let inside : k < length c.args.counted.now.game.now.names =
-    omega (arith, c.loop-member-test.true, c.members-member-end.ensures.count) in
-    let count = c.wide_of_member_size.ensures.count
-    ∙ c.requires.0.counts.of_member_size k c.args.size (omega (arith, members, inside)) (omega (arith, members, c.requires.1)) in
-    let refused = rw (count) at c.in_err-push_number.ensures.room in
+    let refused = rw (c.wide_of_member_size.ensures.count) at c.in_err-push_number.ensures.room in
     takes-not (flat_map with_tab (map text (range_with_len 0 k))) refused c.loop-member.invariant.capacity c.loop-member.invariant.items
-    (field-within text k (length c.args.counted.now.game.now.names) inside)
+    (field-within text k (length c.args.counted.now.game.now.names) (omega (arith, c.args.counted.now.all_members)))

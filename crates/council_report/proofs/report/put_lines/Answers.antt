@@ -1,26 +1,30 @@
 use Rattle.std.proofs.Common.{◌++◌, ℕ, List}
+use Rattle.std.specs.List.{flat_map}
 use Rattle.std.proofs.lemmas.Result.{err_from_is_err_and}
-use Rattle.council_report.specs.Report.{coalition_lines, size_lines, member_lines}
+use Rattle.council_report.specs.Report.{coalition_lines}
+use Rattle.council_report.specs.Inner.Lines.{lines_of_sizes, lines_of_members, lines_of}
 use Rattle.council_report.proofs.Telling.{tells-then, stopped-first, stopped-next}
 use Rattle.council_report.proofs.Lasting.{puts-next}
 use Rattle.council_report.proofs.report.put_lines.Goals as goal
 
 pub returns-in_err-put_shown_sizes : goal.returns-in_err-put_shown_sizes
+unfolding lines_of
 returns-in_err-put_shown_sizes g c =
-    let coalitions : List ℕ = coalition_lines c.args.shown c.args.counted.now.game.now g.list in
-    let sizes : List ℕ = size_lines c.args.shown c.args.counted.now.game.now g.list in
+    let coalitions : List ℕ = coalition_lines c.args.shown c.args.counted.now.game.now (flat_map (λ p. p.now) c.args.pieces.now) in
+    let sizes : List ℕ = lines_of_sizes c.args.shown c.args.counted.now in
     let p = err_from_is_err_and c.from_residual-in_err-put_shown_sizes.result c.from_residual-in_err-put_shown_sizes.ensures.1 in
     let stopped =
-    stopped-first _ (coalitions ++ sizes) (member_lines c.args.counted.now.game.now g.list) _ _
+    stopped-first _ (coalitions ++ sizes) (lines_of_members c.args.counted.now) _ _
     (stopped-next _ _ coalitions sizes _ _ c.in_ok-put_shown_coalitions.ensures.tells c.in_err-put_shown_sizes.ensures)
     in
     rw (p.1, p.2) stopped
 
 pub returns : goal.returns
+unfolding lines_of
 returns g c =
-    let coalitions : List ℕ = coalition_lines c.args.shown c.args.counted.now.game.now g.list in
-    let sizes : List ℕ = size_lines c.args.shown c.args.counted.now.game.now g.list in
+    let coalitions : List ℕ = coalition_lines c.args.shown c.args.counted.now.game.now (flat_map (λ p. p.now) c.args.pieces.now) in
+    let sizes : List ℕ = lines_of_sizes c.args.shown c.args.counted.now in
     let before = tells-then _ _ _ coalitions sizes c.in_ok-put_shown_coalitions.ensures.tells c.in_ok-put_shown_sizes.ensures.tells in
     puts-next (coalitions ++ sizes)
-    (member_lines c.args.counted.now.game.now g.list) _ _ _ c.args.block.now c.put_shown_sizes.new.block c.put_members.new.block
+    (lines_of_members c.args.counted.now) _ _ _ c.args.block.now c.put_shown_sizes.new.block c.put_members.new.block
     c.put_members.result before c.put_members.ensures

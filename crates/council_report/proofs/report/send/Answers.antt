@@ -1,6 +1,7 @@
 use Rattle.std.proofs.Common.{ℕ, List, []}
+use Rattle.std.specs.List.{flat_map}
 use Rattle.std.proofs.lemmas.Result.{err_from_is_err_and}
-use Rattle.council_report.specs.Report.{lines}
+use Rattle.council_report.specs.Inner.Lines.{lines_of}
 use Rattle.council_report.proofs.Telling.{tells-then, stopped-next, stopped-after, err-map}
 use Rattle.council_report.proofs.report.send.Goals as goal
 
@@ -8,11 +9,11 @@ pub returns-in_err-put_lines-clause-err : goal.returns-in_err-put_lines-clause-e
 returns-in_err-put_lines-clause-err g c =
     let p = err_from_is_err_and c.from_residual-in_err-put_lines.result c.from_residual-in_err-put_lines.ensures.1 in
     let stopped = stopped-next _ _ []
-    (lines c.args.shown c.args.counted.now.game.now g.list) _ _ c.in_ok-settle.ensures.ok c.in_err-put_lines.ensures in
+    (lines_of c.args.shown c.args.counted.now (flat_map (λ p. p.now) c.args.pieces.now)) _ _ c.in_ok-settle.ensures.ok c.in_err-put_lines.ensures in
     rw (p.1, p.2) stopped
 
 pub returns-clause-err : goal.returns-clause-err
 returns-clause-err g c =
-    let text : List ℕ = lines c.args.shown c.args.counted.now.game.now g.list in
+    let text : List ℕ = lines_of c.args.shown c.args.counted.now (flat_map (λ p. p.now) c.args.pieces.now) in
     let all = tells-then _ _ _ [] text c.in_ok-settle.ensures.ok c.in_ok-put_lines.ensures.tells in
     err-map c.finish.result (λ fault stopped. stopped-after _ _ text _ _ all stopped) c.finish.ensures.err

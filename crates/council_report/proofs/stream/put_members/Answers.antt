@@ -1,48 +1,32 @@
-use Rattle.std.proofs.Common.{length, arith}
+use Rattle.std.proofs.Common.{arith}
 use Rattle.std.proofs.lemmas.Result.{err_from_is_err_and}
-use Rattle.council_report.specs.Lines.{member_line}
+use Rattle.council_report.specs.Inner.Lines.{line_of_member}
 use Rattle.council_report.proofs.Turns.{next-number, numbers-told, turn-told, turn-counts, turn-stopped}
 use Rattle.council_report.proofs.stream.put_members.Goals as goal
 
-pub put_member-requires : goal.put_member-requires
-put_member-requires g c κs within =
-    let next = next-number 0 (length c.args.counted.now.game.now.names) c.loop-member.member c.loop-member.member (omega arith)
-    (omega arith) in (
-      within,
-      (
-        c.requires.1.0,
-        (
-          omega arith,
-          (
-            c.loop-member.invariant.ready,
-            turn-counts
-                (member_line c.args.counted.now.game.now g.list) next c.loop-member.invariant.tells c.requires.1.1.1,
-          ),
-        ),
-      ),
-    )
+pub put_member-requires-clause-counted : goal.put_member-requires-clause-counted
+put_member-requires-clause-counted g c =
+    let next = next-number 0 c.args.counted.now.members c.loop-member.member c.loop-member.member (omega arith) (omega arith) in
+    turn-counts (line_of_member c.args.counted.now) next c.loop-member.invariant.tells c.requires.counted
 
 pub returns-in_err-put_member : goal.returns-in_err-put_member
 returns-in_err-put_member g c =
-    let next = next-number 0 (length c.args.counted.now.game.now.names) c.loop-member.member c.loop-member.member (omega arith)
-    (omega arith) in
+    let next = next-number 0 c.args.counted.now.members c.loop-member.member c.loop-member.member (omega arith) (omega arith) in
     let failed = err_from_is_err_and c.from_residual.result c.from_residual.ensures.1 in
     rw (failed.1, failed.2)
-    (turn-stopped (member_line c.args.counted.now.game.now g.list) next c.loop-member.invariant.tells c.in_err-put_member.ensures)
+    (turn-stopped (line_of_member c.args.counted.now) next c.loop-member.invariant.tells c.in_err-put_member.ensures)
 
 pub loop-member-preserved : goal.loop-member-preserved
 loop-member-preserved g c =
-    let next = next-number 0 (length c.args.counted.now.game.now.names) c.loop-member.member c.loop-member.member (omega arith)
-    (omega arith) in
+    let next = next-number 0 c.args.counted.now.members c.loop-member.member c.loop-member.member (omega arith) (omega arith) in
     record {
-      tells = turn-told (member_line c.args.counted.now.game.now g.list) next c.loop-member.invariant.tells
-          c.in_ok-put_member.ensures.tells;
+      tells = turn-told (line_of_member c.args.counted.now) next c.loop-member.invariant.tells c.in_ok-put_member.ensures.tells;
       ready = c.in_ok-put_member.ensures.ready;
     }
 
 pub returns : goal.returns
 returns g c = record {
-  tells = numbers-told (member_line c.args.counted.now.game.now g.list) 0 (length c.args.counted.now.game.now.names) c.loop-member.member
-      (omega arith) c.loop-member.invariant.tells;
+  tells = numbers-told (line_of_member c.args.counted.now) 0 c.args.counted.now.members c.loop-member.member (omega arith)
+      c.loop-member.invariant.tells;
   ready = c.loop-member.invariant.ready;
 }

@@ -5,11 +5,10 @@ use Rattle.council_report.proofs.stream.put_size.Goals as goal
 
 pub unreachable-requires : goal.unreachable-requires
 unreachable-requires g c =
-    ready-takes c.requires.1.1.1.0 c.in-Err.ensures.room
-    (size-fits c.args.counted.now.game.now c.args.counted.now.is_game g.list c.requires.1.0.few c.args.size c.requires.1.1.0)
+    ready-takes c.requires.ready c.in-Err.ensures.room (size-fits c.args.counted.now c.args.size c.requires.size)
 
 pub returns : goal.returns
 returns g c =
     puts-line _ _ _ c.args.block.now
-    (record { bytes = c.push_size.new.out; written = c.args.block.now.written }) c.settle.new.self c.settle.result c.requires.1.1.1.0
+    (record { bytes = c.push_size.new.out; written = c.args.block.now.written }) c.settle.new.self c.settle.result c.requires.ready
     refl c.in-Ok.ensures.items c.in-Ok.ensures.room.capacity c.settle.ensures.ok c.settle.ensures.ready c.settle.ensures.err

@@ -1,6 +1,6 @@
 use Rattle.std.proofs.Common.{◌≡◌, ◌∙◌, ◌-◌, ◌*◌, ◌+◌, ◌/◌, ◌^◌, ◌≤◌, sym, ap, arith, ℕ}
-use Rattle.power_index.specs.Tables.{denominator, weighted_sum, table_of_member_size}
-use Rattle.power_index.proofs.Printed.{deegan-packel-is, deegan-packel-bottom}
+use Rattle.power_index.specs.Tables.{denominator, weighted_sum, table_of_member_size, table_total, table_deegan_packel}
+use Rattle.power_index.proofs.Printed.{deegan-packel-is, deegan-packel-same}
 use Rattle.std.proofs.Math.Nat.{div-le_self, mul-le-mul}
 use Rattle.power_index.proofs.Units.{weighted_sum-more}
 use Rattle.power_index.proofs.LowestTerms.{lowest_terms-only}
@@ -44,7 +44,16 @@ returns-clause-lowest c g list h =
     deegan-packel-is g list c.args.counts.now c.args.member _ _ c.requires few h
     (rw (← sum, ← whole) c.share.ensures.lowest)
 
+pub returns-clause-tables : goal.returns-clause-tables
+returns-clause-tables c some =
+    let end : c.loop-size.size ≡ c.args.counts.now.members + 1 = omega arith in
+    let sum = all-sizes _ _ _ c.args.counts.now.members c.loop-size.invariant.sum end in
+    let whole = c.from-2.ensures ∙ c.wide_total.ensures.total in
+    lowest_terms-only (table_deegan_packel c.args.counts.now c.args.member) _ (omega (arith, some))
+    (rw (← sum, ← whole) c.share.ensures.lowest)
+
 pub returns-clause-terms : goal.returns-clause-terms
 returns-clause-terms c g list some h =
-    lowest_terms-only _ _ (deegan-packel-bottom g list c.args.counts.now c.args.member c.requires some h)
-    (returns-clause-lowest c g list h)
+    let one : 1 ≤ table_total c.args.counts.now = omega (arith, some, h.total) in
+    returns-clause-tables c one
+    ∙ deegan-packel-same g list c.args.counts.now c.args.member c.requires c.members-size-end.ensures.sound.few_members one h

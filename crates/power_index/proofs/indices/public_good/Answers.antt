@@ -1,7 +1,7 @@
 use Rattle.std.proofs.Common.{◌∙◌, ◌≤◌, arith, subst, ℕ}
-use Rattle.power_index.specs.Tables.{table_memberships}
+use Rattle.power_index.specs.Tables.{table_memberships, table_public_good}
 use Rattle.power_index.specs.Fractions.{IsLowestOf, pair_of}
-use Rattle.power_index.proofs.Printed.{public-good-is, public-good-bottom}
+use Rattle.power_index.proofs.Printed.{public-good-is, public-good-same}
 use Rattle.power_index.proofs.LowestTerms.{lowest_terms-only}
 use Rattle.power_index.proofs.indices.public_good.Goals as goal
 
@@ -13,7 +13,16 @@ returns-clause-lowest c g list h =
     (subst (λ (n : ℕ). IsLowestOf (c.from.result, n) (pair_of c.share.result)) (c.from-2.ensures ∙ c.memberships.ensures.sum)
     c.share.ensures.lowest))
 
+pub returns-clause-tables : goal.returns-clause-tables
+returns-clause-tables c some =
+    lowest_terms-only (table_public_good c.args.counts.now c.args.member) _
+    (omega (arith, c.memberships.ensures.some, c.memberships.ensures.sum, some))
+    (subst (λ (n : ℕ). IsLowestOf (n, table_memberships c.args.counts.now) (pair_of c.share.result))
+    (c.from.ensures ∙ c.wide_of_member.ensures.count)
+    (subst (λ (n : ℕ). IsLowestOf (c.from.result, n) (pair_of c.share.result)) (c.from-2.ensures ∙ c.memberships.ensures.sum)
+    c.share.ensures.lowest))
+
 pub returns-clause-terms : goal.returns-clause-terms
 returns-clause-terms c g list some h =
     let one : 1 ≤ table_memberships c.args.counts.now = omega (arith, c.memberships.ensures.some, c.memberships.ensures.sum, h.total, some) in
-    lowest_terms-only _ _ (public-good-bottom g list c.args.counts.now c.args.member one h) (returns-clause-lowest c g list h)
+    returns-clause-tables c (omega (arith, h.total, some)) ∙ public-good-same g list c.args.counts.now c.args.member c.requires one h
