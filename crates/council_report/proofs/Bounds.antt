@@ -179,27 +179,19 @@ numbers-fit f a n h =
 chosen-fits : (b : Bool) (text : List ℕ) (n : ℕ) → (b ≡ true → length text ≤ n) → length (cond b text []) ≤ n
 chosen-fits b text n h = cond_both b text [] (λ t. length t ≤ n) h (λ _. omega arith)
 
--- 2^40 + 80 lines at most
-pub lines-fit : (shown : Shown) (k : Counted) (list : List ℕ) → (shown.list ≡ true → length list ≤ 2 ^ 40)
-    → length (lines_of shown k list) ≤ 2 ^ 53
+-- 2^40 + 80 lines at most, whose bytes can be counted
+pub lines-count : (shown : Shown) (k : Counted) (list : List ℕ) (told : ℕ) → (shown.list ≡ true → length list ≤ 2 ^ 40) → told < 2 ^ 63
+    → told + length (lines_of shown k list) < 2 ^ 64
 unfolding lines_of
-lines-fit shown k list few =
+lines-count shown k list told few small =
     let g : GameView = k.game.now in
     let n : ℕ = k.members in
-    let forty = k.sound.few_members in
-    let coalitions : length (coalition_lines shown g list) ≤ 2 ^ 52 =
-    chosen-fits shown.list (flat_map (coalition_line g) list) (2 ^ 52) (λ on.
+    let forty : n ≤ 40 = omega (arith, k.sound.few_members, k.counted_members) in
+    let coalitions : length (coalition_lines shown g list) ≤ 2 ^ 52 = chosen-fits shown.list _ (2 ^ 52) (λ on.
     let fit = rows-fit (coalition_line g) list (λ i d lt. coalition-fits g k.is_game (get_or list i d)) in omega (arith, fit, few on)) in
-    let sizes : length (lines_of_sizes shown k) ≤ 163840 =
-    chosen-fits shown.sizes (flat_map (line_of_size k) (range_with_len 1 n)) 163840 (λ _.
-    let fit = numbers-fit (line_of_size k) 1 n (λ s lt. size-fits k (1 + s) (omega (arith, lt))) in
-    omega (arith, fit, forty, k.counted_members)) in
+    let sizes : length (lines_of_sizes shown k) ≤ 163840 = chosen-fits shown.sizes _ 163840 (λ _.
+    let fit = numbers-fit (line_of_size k) 1 n (λ s lt. size-fits k (1 + s) (omega (arith, lt))) in omega (arith, fit, forty)) in
     let members = numbers-fit (line_of_member k) 0 n (λ i lt. member-fits k (0 + i) (omega (arith, lt))) in
     let first = length-append (coalition_lines shown g list ++ lines_of_sizes shown k) (lines_of_members k) in
     let second = length-append (coalition_lines shown g list) (lines_of_sizes shown k) in
-    omega (arith, coalitions, sizes, members, forty, k.counted_members, first, second)
-
--- their bytes can be counted
-pub lines-count : (shown : Shown) (k : Counted) (list : List ℕ) (told : ℕ) → (shown.list ≡ true → length list ≤ 2 ^ 40) → told < 2 ^ 63
-    → told + length (lines_of shown k list) < 2 ^ 64
-lines-count shown k list told few small = let fit = lines-fit shown k list few in omega (arith, fit, small)
+    omega (arith, coalitions, sizes, members, forty, first, second, small)

@@ -2,16 +2,14 @@
 use Rattle.std.proofs.Common.{◌≡◌, ◌∙◌, ◌==◌, ◌<◌, ◌≤◌, ◌+◌, ℕ, zero, suc, List, [], ◌∷◌, map, length, codes, decimal, cond, refl, ap, sym, subst, arith, Bool, true, false}
 use Rattle.std.specs.List.{flat_map, range_with_len}
 use Rattle.std.proofs.lemmas.List.Folds.{flat_map-map}
-use Rattle.power_index.specs.Counting.{count_of_size, count_of_member, count_of_member_size}
-use Rattle.power_index.specs.Tables.{AreCounts, table_of_member_size, table_deegan_packel, table_public_good}
-use Rattle.power_index.specs.Fractions.{lowest_terms}
-use Rattle.power_index.specs.Indices.{deegan_packel}
+use Rattle.power_index.specs.Counting.{count_of_size, count_of_member_size}
+use Rattle.power_index.specs.Tables.{AreCounts, table_of_member_size}
 use Rattle.power_index.proofs.Printed.{deegan-packel-same, public-good-same}
 use Rattle.council_report.specs.declared.counted.Counted.{Counted}
 use Rattle.council_report.specs.declared.shown.Shown.{Shown}
-use Rattle.council_report.specs.Lines.{line, coalition_line, size_line, member_line}
-use Rattle.council_report.specs.Report.{coalition_lines, size_line_of, size_lines, member_line_of, member_lines, lines}
-use Rattle.council_report.specs.Inner.Lines.{line_of_size, line_of_member, lines_of_sizes, lines_of_members, lines_of}
+use Rattle.council_report.specs.Lines.{line, coalition_line, size_line}
+use Rattle.council_report.specs.Report.{size_line_of, member_line_of, lines}
+use Rattle.council_report.specs.Inner.Lines.{line_of_size, line_of_member, lines_of}
 
 -- two functions that agree on a range
 range-same : {X : Type 0} (f h : ℕ → X) (a n : ℕ) → ((i : ℕ) → a ≤ i → i < a + n → f i ≡ h i)
@@ -45,35 +43,25 @@ member-same : (k : Counted) (list : List ℕ) → AreCounts k.game.now list k.co
     → line_of_member k i ≡ member_line_of k.game.now list i
 member-same k list h i lt =
     let inside : i < k.counts.now.members = omega (arith, lt, k.counted_members) in
-    let deegan : ℕ × ℕ = lowest_terms (table_deegan_packel k.counts.now i) in
-    let public : ℕ × ℕ = lowest_terms (table_public_good k.counts.now i) in
-    let count : ℕ = count_of_member k.game.now i list in
-    ap (λ n. member_line k.game.now i n deegan public) (h.of_member i inside)
-    ∙ ap (λ p. member_line k.game.now i count p public)
-    (deegan-packel-same k.game.now list k.counts.now i inside k.sound.few_members k.some h)
-    ∙ ap (member_line k.game.now i count (lowest_terms (deegan_packel k.game.now list i)))
-    (public-good-same k.game.now list k.counts.now i inside (omega (arith, k.some, k.sound.memberships)) h)
+    let count = h.of_member i inside in
+    let deegan = deegan-packel-same k.game.now list k.counts.now i inside k.sound.few_members k.some h in
+    let public = public-good-same k.game.now list k.counts.now i inside (omega (arith, k.some, k.sound.memberships)) h in
+    cc
 
 shown-same : (b : Bool) (x y : List ℕ) → (b ≡ true → x ≡ y) → cond b x [] ≡ cond b y []
 shown-same true x y same = same refl
 shown-same false x y same = refl
 
-lines-same : (shown : Shown) (k : Counted) (listed list : List ℕ) → AreCounts k.game.now list k.counts.now
-    → (shown.list ≡ true → listed ≡ list) → lines_of shown k listed ≡ lines shown k.game.now list
-unfolding lines_of
-lines-same shown k listed list h is =
-    let coalitions : coalition_lines shown k.game.now listed ≡ coalition_lines shown k.game.now list =
-    shown-same shown.list (flat_map (coalition_line k.game.now) listed) (flat_map (coalition_line k.game.now) list)
-    (λ on. ap (flat_map (coalition_line k.game.now)) (is on)) in
-    let sizes : lines_of_sizes shown k ≡ size_lines shown k.game.now list =
-    shown-same shown.sizes _ _ (λ _. texts-same (line_of_size k) (size_line_of k.game.now list) 1 k.members (length k.game.now.names)
-    k.all_members (λ s _ lt. size-same k list h s (omega arith))) in
-    let members : lines_of_members k ≡ member_lines k.game.now list =
-    texts-same (line_of_member k) (member_line_of k.game.now list) 0 k.members (length k.game.now.names) k.all_members
-    (λ i _ lt. member-same k list h i (omega arith)) in
-    cc
-
 -- what holds of the lines from the counts holds of those of the list
 pub from-counts : (P : List ℕ → Type 0) (shown : Shown) (k : Counted) (listed list : List ℕ) → P (lines_of shown k listed)
     → AreCounts k.game.now list k.counts.now → (shown.list ≡ true → listed ≡ list) → P (lines shown k.game.now list)
-from-counts P shown k listed list holds h is = subst P (lines-same shown k listed list h is) holds
+unfolding lines_of
+from-counts P shown k listed list holds h is =
+    let n : ℕ = length k.game.now.names in
+    let coalitions = shown-same shown.list _ _ (λ on. ap (flat_map (coalition_line k.game.now)) (is on)) in
+    let sizes = shown-same shown.sizes _ _ (λ _. texts-same (line_of_size k) (size_line_of k.game.now list) 1 k.members n k.all_members
+    (λ s _ lt. size-same k list h s (omega arith))) in
+    let members = texts-same (line_of_member k) (member_line_of k.game.now list) 0 k.members n k.all_members
+    (λ i _ lt. member-same k list h i (omega arith)) in
+    let same : lines_of shown k listed ≡ lines shown k.game.now list = cc in
+    subst P same holds
