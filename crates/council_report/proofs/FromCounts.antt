@@ -1,5 +1,5 @@
 -- The lines from the counts of a list are those of the list.
-use Rattle.std.proofs.Common.{◌≡◌, ◌∙◌, ◌==◌, ◌<◌, ◌≤◌, ◌+◌, ℕ, zero, suc, List, [], ◌∷◌, map, length, codes, decimal, cond, refl, ap, sym, subst, arith, Bool, true, false}
+use Rattle.std.proofs.Common.{◌≡◌, ◌∙◌, ◌==◌, ◌<◌, ◌≤◌, ◌+◌, ◌++◌, ℕ, zero, suc, List, [], ◌∷◌, map, length, codes, decimal, cond, refl, ap, sym, subst, arith, Bool, true, false}
 use Rattle.std.specs.List.{flat_map, range_with_len}
 use Rattle.std.proofs.lemmas.List.Folds.{flat_map-map}
 use Rattle.power_index.specs.Counting.{count_of_size, count_of_member_size}
@@ -8,7 +8,7 @@ use Rattle.power_index.proofs.Printed.{deegan-packel-same, public-good-same}
 use Rattle.council_report.specs.declared.counted.Counted.{Counted}
 use Rattle.council_report.specs.declared.shown.Shown.{Shown}
 use Rattle.council_report.specs.Lines.{line, coalition_line, size_line}
-use Rattle.council_report.specs.Report.{size_line_of, member_line_of, lines}
+use Rattle.council_report.specs.Report.{heading, size_line_of, member_line_of, report_over}
 use Rattle.council_report.specs.Inner.Lines.{line_of_size, line_of_member, lines_of}
 
 -- two functions that agree on a range
@@ -52,16 +52,17 @@ shown-same : (b : Bool) (x y : List ℕ) → (b ≡ true → x ≡ y) → cond b
 shown-same true x y same = same refl
 shown-same false x y same = refl
 
--- what holds of the lines from the counts holds of those of the list
-pub from-counts : (P : List ℕ → Type 0) (shown : Shown) (k : Counted) (listed list : List ℕ) → P (lines_of shown k listed)
-    → AreCounts k.game.now list k.counts.now → (shown.list ≡ true → listed ≡ list) → P (lines shown k.game.now list)
+-- what holds of the report from the counts holds of that over the list
+pub from-counts : (P : List ℕ → Type 0) (shown : Shown) (k : Counted) (listed list : List ℕ) (count : ℕ)
+    → P (heading shown k.game.now count ++ lines_of shown k listed) → AreCounts k.game.now list k.counts.now → count ≡ length list
+    → (shown.list ≡ true → listed ≡ list) → P (report_over shown k.game.now list)
 unfolding lines_of
-from-counts P shown k listed list holds h is =
+from-counts P shown k listed list count holds h total is =
     let n : ℕ = length k.game.now.names in
     let coalitions = shown-same shown.list _ _ (λ on. ap (flat_map (coalition_line k.game.now)) (is on)) in
     let sizes = shown-same shown.sizes _ _ (λ _. texts-same (line_of_size k) (size_line_of k.game.now list) 1 k.members n k.all_members
     (λ s _ lt. size-same k list h s (omega arith))) in
     let members = texts-same (line_of_member k) (member_line_of k.game.now list) 0 k.members n k.all_members
     (λ i _ lt. member-same k list h i (omega arith)) in
-    let same : lines_of shown k listed ≡ lines shown k.game.now list = cc in
+    let same : heading shown k.game.now count ++ lines_of shown k listed ≡ report_over shown k.game.now list = cc in
     subst P same holds

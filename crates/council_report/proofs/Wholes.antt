@@ -7,6 +7,11 @@ use Rattle.std.proofs.lemmas.List.{take-append-le}
 use Rattle.council_report.specs.Inner.Told.{progress_of, HoldsBut, StopsIn}
 use Rattle.council_report.specs.declared.output.Block.{Block}
 
+pub counts-whole : (count : ℕ) (block : Block) (heading lines : List ℕ) → block.written ≡ 0 → block.bytes.items ≡ heading
+    → count ≡ block.written + length block.bytes.items + length lines → count ≡ length (heading ++ lines)
+counts-whole count block heading lines none is told =
+    omega (arith, told, none, ap (λ (t : List ℕ). length t) is, length-append heading lines)
+
 -- the block held the heading, and the writer what it held before
 appends-heading : (contents : Option (List ℕ)) (heading : List ℕ) → Appends contents (option_map (λ held. held ++ heading) contents) heading
 appends-heading None heading = tt
