@@ -1,11 +1,14 @@
 -- A report as a heading and the lines after it.
-use Rattle.std.proofs.Common.{◌≡◌, ◌≤◌, ◌+◌, ◌-◌, ◌++◌, ℕ, List, length, take, Option, Some, None, option_map, refl, sym, ap, ◌∙◌, arith, append_assoc, length-append, subst}
+use Rattle.std.proofs.Common.{◌≡◌, ◌≤◌, ◌+◌, ◌-◌, ◌++◌, ℕ, List, [], length, take, Option, Some, None, option_map, refl, sym, ap, ◌∙◌, arith, append_assoc, length-append, subst}
 use Rattle.std.specs.Io.KnownBytes.{Appends}
 use Rattle.std.proofs.KnownBytes.{Appends-trans}
 use Rattle.std.proofs.Math.Seq.{take-append-add}
 use Rattle.std.proofs.lemmas.List.{take-append-le}
 use Rattle.council_report.specs.Inner.Told.{progress_of, HoldsBut, StopsIn}
 use Rattle.council_report.specs.declared.output.Block.{Block}
+
+pub after-none : {a b c : List ℕ} → c ≡ a ++ b → a ≡ [] → c ≡ b
+after-none {b = b} more none = more ∙ ap (λ (t : List ℕ). t ++ b) none
 
 pub counts-whole : (count : ℕ) (block : Block) (heading lines : List ℕ) → block.written ≡ 0 → block.bytes.items ≡ heading
     → count ≡ block.written + length block.bytes.items + length lines → count ≡ length (heading ++ lines)

@@ -1,12 +1,11 @@
-use Rattle.std.proofs.Common.{◌≡◌, ◌∙◌, ◌++◌, ℕ, List, length, ap, arith}
+use Rattle.std.proofs.Common.{◌≡◌, ◌∙◌, ℕ, List, length, ap, arith}
 use Rattle.std.specs.Io.KnownBytes.{Appends}
 use Rattle.council_report.specs.declared.output.Block.{Block}
-use Rattle.council_report.specs.Report.{heading}
 use Rattle.council_report.specs.Outcome.{Falls}
 use Rattle.council_report.specs.declared.fault.ReportFault.TheVariants.{Write}
 use Rattle.council_report.proofs.Bounds.{lines-count}
 use Rattle.council_report.proofs.FromCounts.{from-counts}
-use Rattle.council_report.proofs.Wholes.{counts-whole, appends-whole, stopped-whole}
+use Rattle.council_report.proofs.Wholes.{after-none, counts-whole, appends-whole, stopped-whole}
 use Rattle.council_report.proofs.report.write_over.Goals as goal
 
 pub send-requires-clause-counted : goal.send-requires-clause-counted
@@ -23,31 +22,25 @@ send-requires-clause-counted g c =
 
 pub returns-in-Ok-clause-count : goal.returns-in-Ok-clause-count
 returns-in-Ok-clause-count g c =
-    let first : List ℕ = heading c.args.shown c.args.game.now c.wide_total.result in
-    let is : c.push_heading.new.out.items ≡ first =
-    c.in_ok-push_heading.ensures.items ∙ ap (λ (t : List ℕ). t ++ first) c.in_ok-block.ensures.empty.0 in
+    let is = after-none c.in_ok-push_heading.ensures.items c.in_ok-block.ensures.empty.0 in
     let block : Block = record { bytes = c.push_heading.new.out; written = c.in_ok-block.block.written } in
     from-counts (λ t. c.in-Ok.count ≡ length t) c.args.shown _ _ g.list c.wide_total.result
-    (counts-whole c.in-Ok.count block first _ c.in_ok-block.ensures.empty.1 is c.in-Ok.ensures.count)
+    (counts-whole c.in-Ok.count block _ _ c.in_ok-block.ensures.empty.1 is c.in-Ok.ensures.count)
     c.requires.1.1.1.1 (c.wide_total.ensures.total ∙ c.requires.1.1.1.1.total) c.requires.1.1.0
 
 pub returns-in-Ok-clause-ok : goal.returns-in-Ok-clause-ok
 returns-in-Ok-clause-ok g c =
-    let first : List ℕ = heading c.args.shown c.args.game.now c.wide_total.result in
-    let is : c.push_heading.new.out.items ≡ first =
-    c.in_ok-push_heading.ensures.items ∙ ap (λ (t : List ℕ). t ++ first) c.in_ok-block.ensures.empty.0 in
+    let is = after-none c.in_ok-push_heading.ensures.items c.in_ok-block.ensures.empty.0 in
     let block : Block = record { bytes = c.push_heading.new.out; written = c.in_ok-block.block.written } in
     from-counts (Appends (g.W.Write.contents c.args.writer.now) (g.W.Write.contents c.send.new.writer)) c.args.shown _ _ g.list
-    c.wide_total.result (appends-whole _ _ block first _ is c.in-Ok.ensures.ok)
+    c.wide_total.result (appends-whole _ _ block _ _ is c.in-Ok.ensures.ok)
     c.requires.1.1.1.1 (c.wide_total.ensures.total ∙ c.requires.1.1.1.1.total) c.requires.1.1.0
 
 pub returns-in-Err-clause-err : goal.returns-in-Err-clause-err
 returns-in-Err-clause-err g c =
-    let first : List ℕ = heading c.args.shown c.args.game.now c.wide_total.result in
-    let is : c.push_heading.new.out.items ≡ first =
-    c.in_ok-push_heading.ensures.items ∙ ap (λ (t : List ℕ). t ++ first) c.in_ok-block.ensures.empty.0 in
+    let is = after-none c.in_ok-push_heading.ensures.items c.in_ok-block.ensures.empty.0 in
     let block : Block = record { bytes = c.push_heading.new.out; written = c.in_ok-block.block.written } in
     from-counts (λ t. Falls (g.W.Write.contents c.args.writer.now) (g.W.Write.contents c.send.new.writer) t (Write c.in-Err.fault.written))
     c.args.shown _ _ g.list c.wide_total.result
-    (stopped-whole _ _ block first _ c.in-Err.fault.written c.in_ok-block.ensures.empty.1 is c.in-Err.ensures.err)
+    (stopped-whole _ _ block _ _ c.in-Err.fault.written c.in_ok-block.ensures.empty.1 is c.in-Err.ensures.err)
     c.requires.1.1.1.1 (c.wide_total.ensures.total ∙ c.requires.1.1.1.1.total) c.requires.1.1.0
