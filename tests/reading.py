@@ -19,7 +19,7 @@ import re
 import sys
 
 # lower it with each definition that goes; never raise it without a reason
-LIMIT = 419
+LIMIT = 417
 # crate, source module, type or None, function or None for all
 HEADLINE = [
     ("mwc_pipe", "trace", None, "replay"),
