@@ -1,5 +1,6 @@
 //! Coalitions.
 ghost use Rattle.std.specs.Prelude.{◌≡◌, ◌≢◌, ◌^◌, ◌<◌, ◌≤◌, ◌-◌, ℕ, if◌then◌else◌, false, true};
+ghost use Rattle.coalitions.specs.declared.limits.TheConstants.{MEMBERS};
 ghost use Rattle.coalitions.specs.Coalitions.{has, without, size};
 
 use std::marker::Model;
@@ -13,12 +14,13 @@ pub struct Coalition {
 
 impl Model for Coalition {
     ghost use Rattle.std.specs.Prelude.{ℕ, ◌<◌, ◌^◌};
+    ghost use Rattle.coalitions.specs.declared.limits.TheConstants.{MEMBERS};
 
     ghost Value = { ℕ };
 
     ghost view = { λ c. c.mask };
 
-    ghost invariant = { λ c. c.mask < 2 ^ 40 };
+    ghost invariant = { λ c. c.mask < 2 ^ MEMBERS };
 
     ghost inverse = { λ m. record { mask = m } };
 }
@@ -26,7 +28,7 @@ impl Model for Coalition {
 impl Coalition {
     /// The coalition with this rank mask, a number below 2^40.
     pub fn of_mask(mask: u64) -> Coalition
-        requires { mask < 2 ^ 40 }
+        requires { mask < 2 ^ MEMBERS }
         ensures { result ≡ mask }
     {
         Coalition { mask }
@@ -35,7 +37,7 @@ impl Coalition {
     /// The rank mask, a number below 2^40.
     pub fn mask(self) -> u64
         ensures same { result ≡ self }
-        ensures bound { result < 2 ^ 40 }
+        ensures bound { result < 2 ^ MEMBERS }
     {
         self.mask
     }
@@ -43,7 +45,7 @@ impl Coalition {
     /// In a game of so many members, at most 40, whether the member of this rank place is in. Places
     /// count from 0, the heaviest first.
     pub fn has(self, members: usize, place: usize) -> bool
-        requires few { members ≤ 40 }
+        requires few { members ≤ MEMBERS }
         requires place { place < members }
         ensures { result ≡ has members place self }
     {
@@ -53,7 +55,7 @@ impl Coalition {
     /// In a game of so many members, at most 40, the coalition with the member of this rank place besides;
     /// the same where that member is in.
     pub fn with(self, members: usize, place: usize) -> Coalition
-        requires few { members ≤ 40 }
+        requires few { members ≤ MEMBERS }
         requires place { place < members }
         ensures inside { has members place result ≡ true }
         ensures others { (p : ℕ) → p < members → p ≢ place →
@@ -72,7 +74,7 @@ impl Coalition {
     /// In a game of so many members, at most 40, the coalition without the member of this rank place;
     /// the same where that member is not in.
     pub fn without(self, members: usize, place: usize) -> Coalition
-        requires few { members ≤ 40 }
+        requires few { members ≤ MEMBERS }
         requires place { place < members }
         ensures mask { result ≡
             if has members place self then without members place self else self }
@@ -92,7 +94,7 @@ impl Coalition {
     /// How many members are in, 0 to 40.
     pub fn size(self) -> u8
         ensures size { (n : ℕ) → self < 2 ^ n → result ≡ size n self }
-        ensures bound { result ≤ 40 }
+        ensures bound { result ≤ MEMBERS }
     {
         self.mask.count_ones() as u8
     }

@@ -4,6 +4,7 @@ use Rattle.std.specs.List.{list_any, list_all, range_with_len}
 use Rattle.std.specs.Option.{option_map_or}
 use Rattle.std.specs.Str.{is_utf8}
 use Rattle.std.specs.Cmp.Lexicographic.{pointwise}
+use Rattle.coalitions.specs.declared.limits.TheConstants.{MEMBERS, RULES, FILE_BYTES}
 use Rattle.toml.specs.Data.{Data, Items, no_items, item, Members, no_members, member, get_member, get, as_str, as_integer, as_array, as_table}
 use Rattle.toml.specs.Parse.{parse_document}
 use Rattle.council_game.specs.declared.fault.GameFault.{GameFault}
@@ -66,7 +67,7 @@ title_of t = title_from (get_member (codes "title") t)
 
 -- 1 to 4 integers
 abbrev pub are_quotas : List Data → Bool
-are_quotas ds = (nat_le 1 (length ds) && nat_le (length ds) 4) && list_all (λ d. is_some (as_integer d)) ds
+are_quotas ds = (nat_le 1 (length ds) && nat_le (length ds) RULES) && list_all (λ d. is_some (as_integer d)) ds
 
 abbrev pub breaks_rules : Members → Bool
 breaks_rules t = (has_key (codes "quota") t && has_key (codes "quotas") t)
@@ -80,7 +81,7 @@ lacks_quota t =
 
 -- 1 to 40 tables
 abbrev pub are_members : List Data → Bool
-are_members ds = (nat_le 1 (length ds) && nat_le (length ds) 40) && list_all (λ d. is_some (as_table d)) ds
+are_members ds = (nat_le 1 (length ds) && nat_le (length ds) MEMBERS) && list_all (λ d. is_some (as_table d)) ds
 
 -- ---- the values
 
@@ -146,5 +147,5 @@ game_of_tree t = do
 -- a bracket text, or else a TOML document
 unfoldable pub game_of : List ℕ → Result GameView GameFault
 game_of bytes = do
-  _ ← refuse (nat_lt 65536 (length bytes)) TooLong
+  _ ← refuse (nat_lt FILE_BYTES (length bytes)) TooLong
   if is_bracket bytes then game_of_bracket bytes else (tree_of bytes >>= game_of_tree)

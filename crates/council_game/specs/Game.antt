@@ -3,6 +3,7 @@ use Rattle.std.specs.Prelude.{◌≡◌, ◌<◌, ◌≤◌, ◌^◌, All, ℕ, 
 use Rattle.std.specs.List.{list_any, list_all, range_with_len}
 use Rattle.std.specs.Option.{option_map_or}
 use Rattle.std.specs.Cmp.Lexicographic.{pointwise}
+use Rattle.coalitions.specs.declared.limits.TheConstants.{MEMBERS, RULES, WEIGHT, TITLE_BYTES, NAME_BYTES}
 use Rattle.council_game.specs.declared.fault.GameFault.{GameFault}
 use Rattle.council_game.specs.declared.fault.GameFault.TheVariants.{Title, Members, Name, SameName, Weight, QuotaRange}
 use Rattle.council_game.specs.Fault.{◌>>=◌, refuse, refuse_at}
@@ -20,10 +21,10 @@ abbrev pub is_plain : List ℕ → Bool
 is_plain bs = list_all (λ b. nat_le 32 b && not (b == 127)) bs
 
 abbrev pub is_title : List ℕ → Bool
-is_title bs = nat_le (length bs) 200 && is_plain bs
+is_title bs = nat_le (length bs) TITLE_BYTES && is_plain bs
 
 abbrev pub is_name : List ℕ → Bool
-is_name bs = (nat_le 1 (length bs) && nat_le (length bs) 64) && is_plain bs
+is_name bs = (nat_le 1 (length bs) && nat_le (length bs) NAME_BYTES) && is_plain bs
 
 -- an earlier member has the name of member k
 abbrev pub is_repeat : List (List ℕ) → ℕ → Bool
@@ -31,7 +32,7 @@ is_repeat names k = list_any (pointwise nat_eq (slice_index_or names k [])) (tak
 
 -- a weight of member k is above the limit
 abbrev pub is_heavy : List RuleView → ℕ → Bool
-is_heavy rules k = list_any (λ r. nat_lt 1000000000000 (slice_index r.weights k)) rules
+is_heavy rules k = list_any (λ r. nat_lt WEIGHT (slice_index r.weights k)) rules
 
 abbrev pub has_bad_quota : RuleView → Bool
 has_bad_quota r = nat_lt r.quota 1 || nat_lt (sum r.weights) r.quota
@@ -48,7 +49,7 @@ first_weights (r ∷ rs) = r.weights
 unfoldable pub made_game : Option (List ℕ) → List (List ℕ) → List RuleView → Result GameView GameFault
 made_game title names rules = do
   _ ← refuse (option_map_or (λ t. not (is_title t)) title false) Title
-  _ ← refuse (nat_lt (length names) 1 || nat_lt 40 (length names)) Members
+  _ ← refuse (nat_lt (length names) 1 || nat_lt MEMBERS (length names)) Members
   _ ← refuse_at Name (position (λ name. not (is_name name)) names)
   _ ← refuse_at SameName (position (is_repeat names) (places names))
   _ ← refuse_at Weight (position (is_heavy rules) (range_with_len 0 (length names)))
@@ -59,7 +60,7 @@ made_game title names rules = do
 pub record IsGame (g : GameView) : Type 0 where
   pub made : made_game g.title g.names g.rules ≡ Ok g
   pub has_rule : 0 < length g.rules
-  pub few_rules : length g.rules ≤ 4
+  pub few_rules : length g.rules ≤ RULES
   pub full : All (λ r. length r.weights ≡ length g.names) g.rules
 
 -- the votes of a game: its rules by rank

@@ -1,6 +1,7 @@
 -- Weighted voting games as plain data, and their minimal winning coalitions.
 use Rattle.std.specs.Prelude.{ℕ, zero, suc, ◌-◌, ◌/◌, ◌%◌, ◌^◌, Bool, not, ◌&&◌, ◌==◌, nat_le, List, [], ◌∷◌, length, ◌≡◌, ◌≤◌, ◌<◌, slice_index, slice_index_or, sum_by, ⊤}
 use Rattle.std.specs.List.{filter, sum, list_all, range_with_len, AllByRecursion}
+use Rattle.coalitions.specs.declared.limits.TheConstants.{MEMBERS, RULES, TOTAL}
 unfoldable pub use Rattle.coalitions.specs.Coalitions.{has, without}
 pub use Rattle.coalitions.specs.Coalitions.{places_of, size}
 
@@ -23,7 +24,7 @@ pub record IsRule (n : ℕ) (r : RuleView) : Type 0 where
   pub full : length r.weights ≡ n
   pub some : 1 ≤ r.quota
   pub met : r.quota ≤ sum r.weights
-  pub light : sum r.weights ≤ 40000000000000
+  pub light : sum r.weights ≤ TOTAL
 
 -- heavier places come first
 abbrev pub IsRanked : List RuleView → Type 0
@@ -33,9 +34,9 @@ IsRanked (r ∷ rs) = (a b : ℕ) → a ≤ b → b < length r.weights → slice
 -- 1 to 40 members, 1 to 4 rules, and the places ranked by the first
 pub record IsVotes (v : Votes) : Type 0 where
   pub some : 1 ≤ v.members
-  pub few : v.members ≤ 40
+  pub few : v.members ≤ MEMBERS
   pub has_rule : 1 ≤ length v.rules
-  pub few_rules : length v.rules ≤ 4
+  pub few_rules : length v.rules ≤ RULES
   pub rules : AllByRecursion (IsRule v.members) v.rules
   pub ranked : IsRanked v.rules
 

@@ -2,6 +2,7 @@
 ghost use Rattle.std.specs.Prelude.{◌≡◌, ◌≤◌, ◌<◌, ◌^◌, length, map, not, string_bytes, sum, min, ◌-◌, position, nat_eq, nat_lt, slice_index, IfSome};
 ghost use Rattle.std.specs.List.{list_any, range_with_len};
 ghost use Rattle.std.specs.Cmp.Lexicographic.{pointwise};
+ghost use Rattle.coalitions.specs.declared.limits.TheConstants.{MEMBERS, WEIGHT};
 ghost use Rattle.council_game.specs.Game.{is_plain, is_title, is_name, is_repeat, is_heavy, has_bad_quota};
 ghost use Rattle.council_game.specs.Inner.Checks.{check_names, check_repeats, check_weights};
 ghost use Rattle.council_game.specs.Rules.{rule_view, rule_views};
@@ -18,13 +19,13 @@ fn is_plain(text: &str) -> bool
 pub fn is_title(text: &str) -> bool
     ensures { result ≡ is_title text.now }
 {
-    text.len() <= 200 && is_plain(text)
+    text.len() <= limits::TITLE_BYTES && is_plain(text)
 }
 
 fn is_name(text: &str) -> bool
     ensures { result ≡ is_name text.now }
 {
-    1 <= text.len() && text.len() <= 64 && is_plain(text)
+    1 <= text.len() && text.len() <= limits::NAME_BYTES && is_plain(text)
 }
 
 /// The place of the first name that is refused.
@@ -37,7 +38,7 @@ fn first_bad_name(names: &[String]) -> Option<usize>
 /// The first member, from 1, whose name is refused.
 #[tactic(auto, using(crate::proofs::Lists::position_map))]
 pub(crate) fn check_names(names: &[String]) -> Result<(), GameFault>
-    requires { length names.now ≤ 40 }
+    requires { length names.now ≤ MEMBERS }
     ensures { result ≡ check_names (map string_bytes names.now) }
 {
     match first_bad_name(names) {
@@ -94,7 +95,7 @@ fn first_repeat(names: &[String]) -> Option<usize>
 /// The first member, from 1, that repeats a name.
 #[tactic(auto, using(crate::proofs::Lists::maps))]
 pub(crate) fn check_repeats(names: &[String]) -> Result<(), GameFault>
-    requires { length names.now ≤ 40 }
+    requires { length names.now ≤ MEMBERS }
     ensures { result ≡ check_repeats (map string_bytes names.now) }
 {
     match first_repeat(names) {
@@ -107,7 +108,7 @@ pub(crate) fn check_repeats(names: &[String]) -> Result<(), GameFault>
 
 /// The rule gives this member a weight above the limit.
 fn is_over(rule: &Rule, k: usize) -> bool
-    ensures { result ≡ nat_lt 1000000000000 (slice_index rule.now.weights.items k) }
+    ensures { result ≡ nat_lt WEIGHT (slice_index rule.now.weights.items k) }
 {
     match rule.weights.get(k) {
         Some(weight) => limits::WEIGHT < *weight,
@@ -117,7 +118,7 @@ fn is_over(rule: &Rule, k: usize) -> bool
 
 fn any_over(rules: &[Rule], k: usize) -> bool
     ensures { result
-        ≡ list_any (λ r. nat_lt 1000000000000 (slice_index r.weights.items k)) rules.now }
+        ≡ list_any (λ r. nat_lt WEIGHT (slice_index r.weights.items k)) rules.now }
 {
     rules.iter().any(|rule| is_over(rule, k))
 }
@@ -139,7 +140,7 @@ fn first_heavy(rules: &[Rule], members: usize) -> Option<usize>
 
 /// The first member, from 1, with a weight above the limit.
 pub(crate) fn check_weights(rules: &[Rule], members: usize) -> Result<(), GameFault>
-    requires { members ≤ 40 }
+    requires { members ≤ MEMBERS }
     ensures { result ≡ check_weights (rule_views rules.now) members }
 {
     match first_heavy(rules, members) {

@@ -1,5 +1,6 @@
 //! All minimal coalitions, by trying each.
-ghost use Rattle.std.specs.Prelude.{◌≡◌, ◌≤◌, length, IfOk};
+ghost use Rattle.std.specs.Prelude.{◌≡◌, ◌≤◌, ◌^◌, length, IfOk};
+ghost use Rattle.coalitions.specs.declared.limits.TheConstants.{PLAIN_MEMBERS};
 ghost use Rattle.council_game.specs.Votes.{minimal_coalitions};
 ghost use Rattle.council_game.specs.Game.{votes_of};
 
@@ -12,10 +13,10 @@ use std::alloc::Global;
 ///
 /// Memory where a growth was refused.
 pub fn plain_list(alloc: Global, game: &Game) -> Result<Vec<Coalition>, Memory>
-    requires { length game.now.names ≤ 20 }
+    requires { length game.now.names ≤ PLAIN_MEMBERS }
     ensures all { IfOk result (λ v. v.items ≡ minimal_coalitions (votes_of game.now)) }
     ensures some { IfOk result (λ v. 1 ≤ length v.items) }
-    ensures few { IfOk result (λ v. length v.items ≤ 1048576) }
+    ensures few { IfOk result (λ v. length v.items ≤ 2 ^ PLAIN_MEMBERS) }
 {
     let members = game.members();
     let mut list = Vec::new(alloc);

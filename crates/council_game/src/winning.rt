@@ -1,5 +1,6 @@
 //! Whether a coalition wins, and whether it is minimal.
 ghost use Rattle.std.specs.Prelude.{◌≡◌, ◌+◌, ◌-◌, ◌<◌, ◌≤◌, length, sum, true};
+ghost use Rattle.coalitions.specs.declared.limits.TheConstants.{MEMBERS, TOTAL};
 ghost use Rattle.council_game.specs.Votes.{IsVotes, weight, has, without, wins, minimal};
 ghost use Rattle.council_game.specs.Rules.{rule_views};
 ghost use Rattle.council_game.specs.Inner.Weighing.{votes, IsWeighed};
@@ -15,8 +16,8 @@ pub(crate) struct Weighed {
 
 /// The weight of a coalition: the last place is the lowest digit.
 pub(crate) fn weight_of(weights: &[u64], coalition: Coalition) -> u64
-    requires few { length weights.now ≤ 40 }
-    requires fits { sum weights.now ≤ 40000000000000 }
+    requires few { length weights.now ≤ MEMBERS }
+    requires fits { sum weights.now ≤ TOTAL }
     ensures { result ≡ weight weights.now coalition }
 {
     let members = weights.len();

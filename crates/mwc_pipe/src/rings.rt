@@ -1,5 +1,6 @@
 //! Making a ring.
 ghost use Rattle.std.specs.Prelude.{◌≡◌, ◌≤◌, [], IfOk};
+ghost use Rattle.coalitions.specs.declared.limits.TheConstants.{CAPACITY};
 
 use crate::ring_in::RingIn;
 use crate::ring_out::RingOut;
@@ -14,7 +15,7 @@ use std::alloc::Global;
 ///
 /// Memory where there was none for the words.
 pub fn ring(alloc: Global, capacity: usize) -> Result<(RingIn, RingOut), Memory>
-    requires { (1 ≤ capacity) × (capacity ≤ 65536) }
+    requires { (1 ≤ capacity) × (capacity ≤ CAPACITY) }
     ensures pair { IfOk result (λ r. r.1.ring ≡ r.0.ring) }
     ensures empty { IfOk result (λ r. (r.0.accepted ≡ []) × (r.1.taken ≡ [])) }
     ensures capacity { IfOk result (λ r. r.0.capacity ≡ capacity) }

@@ -1,5 +1,6 @@
 //! How far a walk has come, and its steps.
 ghost use Rattle.std.specs.Prelude.{◌≡◌, ◌*◌, ◌-◌, ◌^◌, ◌<◌, ◌≤◌, false, true, length};
+ghost use Rattle.coalitions.specs.declared.limits.TheConstants.{BITS};
 ghost use Rattle.council_game.specs.Game.{votes_of};
 ghost use Rattle.council_game.specs.Votes.{minimal};
 ghost use Rattle.mwc_walk.specs.Inner.Places.{wins_at, NothingBelow};
@@ -31,7 +32,7 @@ pub(crate) struct Cursor {
 impl Cursor {
     /// The cursor at the fixed places of a slice, which is all still to come.
     pub(crate) fn start(game: &Game, bits: u8, number: u16) -> Cursor
-        requires few { bits ≤ 10 }
+        requires few { bits ≤ BITS }
         requires bits { bits ≤ length game.now.names }
         requires number { number < 2 ^ bits }
         ensures { Starts (votes_of game.now) bits number result }

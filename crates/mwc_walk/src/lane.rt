@@ -2,6 +2,7 @@
 //! straight to its lane, which takes a fifth off the time of a walk.
 ghost use Rattle.std.specs.Prelude.{◌≡◌, ◌==◌, ◌&&◌, ◌+◌, ◌^◌, ◌<◌, ◌≤◌, ℕ, length, take, drop, map, slice_index};
 ghost use Rattle.std.specs.List.{list_all, All, sum};
+ghost use Rattle.coalitions.specs.declared.limits.TheConstants.{MEMBERS};
 ghost use Rattle.council_game.specs.Game.{votes_of};
 ghost use Rattle.council_game.specs.Votes.{rule_at, has};
 ghost use Rattle.mwc_walk.specs.Inner.Places.{LaneIs};
@@ -43,7 +44,7 @@ impl Lane {
 
     /// Whether the quota can still be met, by all members from a place on.
     fn reaches(&self, place: usize) -> bool
-        requires { place ≤ 40 }
+        requires { place ≤ MEMBERS }
         ensures { result ≡ lane_reaches place self.now }
     {
         self.quota.saturating_sub(self.sum) <= self.rest[place]
@@ -58,7 +59,7 @@ impl Lane {
 
     /// Whether the member of a place can be spared: what the rule has beyond its quota weighs as much.
     pub(crate) fn spares(&self, place: usize) -> bool
-        requires { place < 40 }
+        requires { place < MEMBERS }
         ensures { result ≡ lane_spares place self.now }
     {
         self.weights[place] <= self.sum.saturating_sub(self.quota)
@@ -68,7 +69,7 @@ impl Lane {
 /// The weights of a rule, in rank order.
 fn weights_of(game: &Game, rule: usize) -> [u64; limits::MEMBERS]
     requires { rule < length game.now.rules }
-    ensures long { length result ≡ 40 }
+    ensures long { length result ≡ MEMBERS }
     ensures same { (q : ℕ) → q < (votes_of game.now).members →
         slice_index result q ≡ slice_index (rule_at (votes_of game.now).rules rule).weights q }
 {
@@ -82,7 +83,7 @@ fn weights_of(game: &Game, rule: usize) -> [u64; limits::MEMBERS]
 
 /// What the places from each one on weigh together.
 fn rest_of(weights: &[u64; limits::MEMBERS], members: usize) -> [u64; limits::SIZES]
-    requires members { members ≤ 40 }
+    requires members { members ≤ MEMBERS }
     requires fits { sum (take members weights.now) < 2 ^ 64 }
     ensures { (q : ℕ) → q ≤ members →
         slice_index result q ≡ sum (drop q (take members weights.now)) }
@@ -96,7 +97,7 @@ fn rest_of(weights: &[u64; limits::MEMBERS], members: usize) -> [u64; limits::SI
 
 /// The rank mask of the members without weight.
 fn weightless_of(weights: &[u64; limits::MEMBERS], members: usize) -> u64
-    requires { members ≤ 40 }
+    requires { members ≤ MEMBERS }
     ensures { (q : ℕ) → q < members → has members q result ≡ (slice_index weights.now q == 0) }
 {
     let mut mask = 0;
@@ -108,7 +109,7 @@ fn weightless_of(weights: &[u64; limits::MEMBERS], members: usize) -> u64
 
 /// Whether each quota can still be met, by all members from a place on.
 pub(crate) fn all_reach(lanes: &[Lane], place: usize) -> bool
-    requires { place ≤ 40 }
+    requires { place ≤ MEMBERS }
     ensures { result ≡ list_all (lane_reaches place) lanes.now }
 {
     match lanes {
@@ -129,7 +130,7 @@ pub(crate) fn all_win(lanes: &[Lane]) -> bool
 
 /// Whether each rule can spare the member of a place.
 pub(crate) fn all_spare(lanes: &[Lane], place: usize) -> bool
-    requires { place < 40 }
+    requires { place < MEMBERS }
     ensures { result ≡ list_all (lane_spares place) lanes.now }
 {
     lanes.iter().all(|lane| lane.weights[place] <= lane.sum.saturating_sub(lane.quota))
@@ -153,7 +154,7 @@ pub(crate) fn may_be_spared(lanes: &[Lane], mask: u64) -> u64
 
 /// Takes the member of a place in.
 pub(crate) fn take_in(lanes: &mut [Lane], place: usize)
-    requires place { place < 40 }
+    requires place { place < MEMBERS }
     requires fits { All (λ l. l.sum + slice_index l.weights place < 2 ^ 64) lanes.old }
     ensures { lanes.new ≡ map (lane_with place) lanes.old }
 {
@@ -168,7 +169,7 @@ pub(crate) fn take_in(lanes: &mut [Lane], place: usize)
 
 /// Leaves the member of a place out again.
 pub(crate) fn leave_out(lanes: &mut [Lane], place: usize)
-    requires place { place < 40 }
+    requires place { place < MEMBERS }
     requires fits { All (λ l. slice_index l.weights place ≤ l.sum) lanes.old }
     ensures { lanes.new ≡ map (lane_without place) lanes.old }
 {

@@ -1,5 +1,6 @@
 //! A slice as a list.
 ghost use Rattle.std.specs.Prelude.{◌≡◌, ◌≤◌, ◌<◌, ◌^◌, length, take, IfOk};
+ghost use Rattle.coalitions.specs.declared.limits.TheConstants.{BITS};
 ghost use Rattle.council_game.specs.Game.{votes_of};
 ghost use Rattle.mwc_walk.specs.Slices.{slice};
 
@@ -22,7 +23,7 @@ pub fn list_slice(
     j: u16,
     most: u32,
 ) -> Result<Vec<Coalition>, Memory>
-    requires few { bits ≤ 10 }
+    requires few { bits ≤ BITS }
     requires bits { bits ≤ length game.now.names }
     requires slice { j < 2 ^ bits }
     ensures { IfOk result (λ v. v.items ≡ take most (slice (votes_of game.now) bits j)) }

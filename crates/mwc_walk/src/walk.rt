@@ -1,5 +1,6 @@
 //! A walk over the minimal winning coalitions of a slice.
 ghost use Rattle.std.specs.Prelude.{◌≡◌, ◌+◌, ◌-◌, ◌*◌, ◌^◌, ◌<◌, ◌≤◌, [], ◌∷◌, ◌++◌, drop, length, MatchOption};
+ghost use Rattle.coalitions.specs.declared.limits.TheConstants.{BITS};
 ghost use Rattle.council_game.specs.Game.{votes_of};
 ghost use Rattle.mwc_walk.specs.Slices.{slice};
 ghost use Rattle.mwc_walk.specs.WalkView.{given, given_count};
@@ -43,7 +44,7 @@ impl<'a> Walk<'a> {
     /// Listing order goes by members, the heaviest first, and not by weight: what comes first has the heaviest
     /// members, and may weigh less than what comes later.
     pub fn new(game: &'a Game, bits: u8, j: u16) -> Walk<'a>
-        requires few { bits ≤ 10 }
+        requires few { bits ≤ BITS }
         requires bits { bits ≤ length game.now.names }
         requires slice { j < 2 ^ bits }
         ensures view { result ≡ record {

@@ -1,6 +1,7 @@
 -- Tables of counts, and when they hold the counts of a list of coalitions.
 use Rattle.std.specs.Prelude.{ℕ, ◌+◌, ◌*◌, ◌/◌, ◌^◌, ◌≡◌, ◌≤◌, ◌<◌, ◌==◌, ◌&&◌, Bool, true, List, [], length, slice_index, slice_index_or, sum_by}
 use Rattle.std.specs.List.{filter, range_with_len}
+use Rattle.coalitions.specs.declared.limits.TheConstants.{MEMBERS, SIZES}
 use Rattle.council_game.specs.Votes.{has, size}
 use Rattle.council_game.specs.Game.{GameView, IsGame}
 use Rattle.power_index.specs.Counting.{count_of_size, count_of_member, count_of_member_size}
@@ -67,8 +68,8 @@ pub record AreCounts (g : GameView) (list : List ℕ) (t : Tables) : Type 0 wher
 
 -- a tally counts those of a list, coalitions of n members, that pass a test, by size
 pub record IsTallyOf (n : ℕ) (p : ℕ → Bool) (list : List ℕ) (t : Tally) : Type 0 where
-  pub long : length t.sizes ≡ 41
-  pub sizes : (s : ℕ) → s ≤ 40 →
+  pub long : length t.sizes ≡ SIZES
+  pub sizes : (s : ℕ) → s ≤ MEMBERS →
       slice_index t.sizes s ≡ length (filter (λ c. p c && (size n c == s)) list)
 
 -- the tallies are those of a list: of all, and of those that contain each rank place
@@ -95,8 +96,8 @@ pub record AreOfOneGame (s t : Tables) : Type 0 where
 -- what holds of the tables of a list of coalitions of a game, none of them empty
 pub record AreSound (t : Tables) : Type 0 where
   pub some_members : 1 ≤ t.members
-  pub few_members : t.members ≤ 40
-  pub few : table_total t ≤ 2 ^ 40
+  pub few_members : t.members ≤ MEMBERS
+  pub few : table_total t ≤ 2 ^ MEMBERS
   pub few_of_size : (s : ℕ) → s ≤ t.members → table_of_size t s ≤ table_total t
   pub few_of_member : (i : ℕ) → i < t.members → table_of_member t i ≤ table_total t
   pub few_of_member_size : (i s : ℕ) → i < t.members → s ≤ t.members →

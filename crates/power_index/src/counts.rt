@@ -1,4 +1,5 @@
 //! Counts of coalitions, by member and by size.
+ghost use Rattle.coalitions.specs.declared.limits.TheConstants.{MEMBERS};
 ghost use Rattle.council_game.specs.Game.{GameView, AreNonemptyCoalitions};
 ghost use Rattle.council_game.specs.Votes.{has};
 ghost use Rattle.power_index.specs.Tables.{AreCounts, AreOfOneGame, AreSound, AreTallies, IsTallyOf};
@@ -58,11 +59,11 @@ fn add_to_places(
     size: usize,
     by_place: &mut [Tally; limits::MEMBERS],
 )
-    requires few { members ≤ 40 }
+    requires few { members ≤ MEMBERS }
     requires below { coalition < 2 ^ members }
-    requires size { size ≤ 40 }
+    requires size { size ≤ MEMBERS }
     requires room { (p : ℕ) → p < members →
-        slice_index (slice_index_or by_place.old p no_tally).sizes size ≤ 2 ^ 40 }
+        slice_index (slice_index_or by_place.old p no_tally).sizes size ≤ 2 ^ MEMBERS }
     ensures { (p : ℕ) → p < members → slice_index_or by_place.new p no_tally ≡
         if has members p coalition
         then with_one (slice_index_or by_place.old p no_tally) size
@@ -82,8 +83,8 @@ fn join_places(
     by_place: &mut [Tally; limits::MEMBERS],
     other: &[Tally; limits::MEMBERS],
 )
-    requires few { members ≤ 40 }
-    requires room { (p s : ℕ) → p < members → s ≤ 40 →
+    requires few { members ≤ MEMBERS }
+    requires room { (p s : ℕ) → p < members → s ≤ MEMBERS →
         slice_index (slice_index_or by_place.old p no_tally).sizes s +
         slice_index (slice_index_or other.now p no_tally).sizes s < 2 ^ 64 }
     ensures { (p : ℕ) → p < members →
@@ -126,7 +127,7 @@ impl Counts {
     /// all, and by rank place those of the coalitions that contain it.
     pub fn of_tallies(game: &Game, all: Tally, each: [Tally; limits::MEMBERS]) -> Counts
         ghost list: { List ℕ }
-        requires few { length list ≤ 2 ^ 40 }
+        requires few { length list ≤ 2 ^ MEMBERS }
         requires coalitions { AreNonemptyCoalitions game.now list }
         requires all { IsTallyOf (length game.now.names) (λ _. true) list all }
         requires each { (p : ℕ) → p < length game.now.names →
@@ -150,7 +151,7 @@ impl Counts {
     pub fn count(&mut self, coalition: Coalition)
         requires some { 0 < coalition }
         requires below { coalition < 2 ^ self.old.members }
-        requires room { table_total self.old < 2 ^ 40 }
+        requires room { table_total self.old < 2 ^ MEMBERS }
         ensures game { AreOfOneGame self.old self.new }
         ensures total { table_total self.new ≡ table_total self.old + 1 }
         ensures tallies { (g : GameView) (list : List ℕ) → AreTallies g list self.old →
@@ -164,7 +165,7 @@ impl Counts {
     /// Counts a row of coalitions more.
     pub fn count_row(&mut self, row: &[Coalition])
         requires coalitions { All (λ c. (0 < c) × (c < 2 ^ self.old.members)) row.now }
-        requires room { table_total self.old + length row.now ≤ 2 ^ 40 }
+        requires room { table_total self.old + length row.now ≤ 2 ^ MEMBERS }
         ensures game { AreOfOneGame self.old self.new }
         ensures total { table_total self.new ≡ table_total self.old + length row.now }
         ensures tallies { (g : GameView) (list : List ℕ) → AreTallies g list self.old →
@@ -179,7 +180,7 @@ impl Counts {
     /// both lists, one after the other.
     pub fn add(&mut self, other: &Counts)
         requires game { AreOfOneGame self.old other.now }
-        requires room { table_total self.old + table_total other.now ≤ 2 ^ 40 }
+        requires room { table_total self.old + table_total other.now ≤ 2 ^ MEMBERS }
         ensures game { AreOfOneGame self.old self.new }
         ensures total { table_total self.new ≡ table_total self.old + table_total other.now }
         ensures tallies { (g : GameView) (first second : List ℕ) → AreTallies g first self.old →
@@ -191,7 +192,7 @@ impl Counts {
 
     /// Counts the coalitions of a list, none of them empty, in one pass.
     pub fn of(game: &Game, list: &[Coalition]) -> Counts
-        requires few { length list.now ≤ 2 ^ 40 }
+        requires few { length list.now ≤ 2 ^ MEMBERS }
         requires coalitions { AreNonemptyCoalitions game.now list.now }
         ensures tallies { AreTallies game.now list.now result }
         ensures counts { AreCounts game.now list.now result }
@@ -206,7 +207,7 @@ impl Counts {
     pub fn members(&self) -> usize
         ensures members { result ≡ self.now.members }
         ensures some { 1 ≤ result }
-        ensures few { result ≤ 40 }
+        ensures few { result ≤ MEMBERS }
         ensures sound { AreSound self.now }
     {
         self.members
@@ -215,7 +216,7 @@ impl Counts {
     /// The number of coalitions, at most 2^40.
     pub fn wide_total(&self) -> u64
         ensures total { result ≡ table_total self.now }
-        ensures few { result ≤ 2 ^ 40 }
+        ensures few { result ≤ 2 ^ MEMBERS }
     {
         self.all.total(self.members)
     }
@@ -297,7 +298,7 @@ impl Counts {
     pub(crate) fn memberships(&self) -> u64
         ensures sum { result ≡ table_memberships self.now }
         ensures some { table_total self.now ≤ result }
-        ensures few { result ≤ 40 * 2 ^ 40 }
+        ensures few { result ≤ MEMBERS * 2 ^ MEMBERS }
     {
         let mut sum = 0;
         for i in 0..self.members {

@@ -1,5 +1,6 @@
 //! Laws of the definitions, with nothing to run: each index adds up to 1, what lowest terms are, and
 //! that two indices which are the same number are equal.
+ghost use Rattle.coalitions.specs.declared.limits.TheConstants.{MEMBERS};
 ghost use Rattle.council_game.specs.Game.{GameView, IsGame, votes_of, AreNonemptyCoalitions};
 ghost use Rattle.council_game.specs.Votes.{minimal_coalitions};
 ghost use Rattle.power_index.specs.Counting.{members};
@@ -28,7 +29,7 @@ pub fn public_good_adds_up()
 /// The minimal winning coalitions of a game are such a list: there is one, none is empty, and there
 /// are at most 2^40.
 pub fn minimal_coalitions_can_be_counted()
-    ensures few { (g : GameView) → IsGame g → length (minimal_coalitions (votes_of g)) ≤ 2 ^ 40 }
+    ensures few { (g : GameView) → IsGame g → length (minimal_coalitions (votes_of g)) ≤ 2 ^ MEMBERS }
     ensures some { (g : GameView) → IsGame g → 0 < length (minimal_coalitions (votes_of g)) }
     ensures coalitions { (g : GameView) → IsGame g →
         AreNonemptyCoalitions g (minimal_coalitions (votes_of g)) }

@@ -1,4 +1,5 @@
 //! Tallies of coalitions by size.
+ghost use Rattle.coalitions.specs.declared.limits.TheConstants.{MEMBERS, SIZES};
 ghost use Rattle.power_index.specs.Tables.{tally_total};
 ghost use Rattle.power_index.specs.Inner.Tables.{IsJoined, with_one};
 ghost use Rattle.std.specs.Prelude.{◌≡◌, ℕ, ◌+◌, ◌<◌, ◌≤◌, ◌^◌, length, slice_index};
@@ -16,7 +17,7 @@ pub struct Tally {
 impl Tally {
     /// The tally of no coalition.
     pub(crate) fn new() -> Tally
-        ensures long { length result.sizes ≡ 41 }
+        ensures long { length result.sizes ≡ SIZES }
         ensures sizes { (s : ℕ) → slice_index result.sizes s ≡ 0 }
     {
         Tally {
@@ -26,8 +27,8 @@ impl Tally {
 
     /// Counts one more coalition, of this size.
     pub(crate) fn add(&mut self, size: usize)
-        requires size { size ≤ 40 }
-        requires room { slice_index self.old.sizes size ≤ 2 ^ 40 }
+        requires size { size ≤ MEMBERS }
+        requires room { slice_index self.old.sizes size ≤ 2 ^ MEMBERS }
         ensures { self.new ≡ with_one self.old size }
     {
         self.sizes[size] += 1;
@@ -35,7 +36,7 @@ impl Tally {
 
     /// Adds the numbers of another tally, size by size.
     pub(crate) fn join(&mut self, other: &Tally)
-        requires { (s : ℕ) → s ≤ 40 →
+        requires { (s : ℕ) → s ≤ MEMBERS →
             slice_index self.old.sizes s + slice_index other.now.sizes s < 2 ^ 64 }
         ensures { IsJoined self.old other.now self.new }
     {
@@ -46,8 +47,8 @@ impl Tally {
 
     /// How many coalitions of these sizes there are: 0 to so many members.
     pub(crate) fn total(&self, members: usize) -> u64
-        requires members { members ≤ 40 }
-        requires room { tally_total members self.now ≤ 2 ^ 40 }
+        requires members { members ≤ MEMBERS }
+        requires room { tally_total members self.now ≤ 2 ^ MEMBERS }
         ensures { result ≡ tally_total members self.now }
     {
         let mut total = 0;

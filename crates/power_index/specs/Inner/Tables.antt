@@ -1,5 +1,6 @@
 -- Tables of counts, and when they hold the counts of a list of coalitions: what only proofs and private functions need.
 use Rattle.std.specs.Prelude.{ℕ, ◌+◌, ◌^◌, ◌≡◌, ◌≤◌, List, length, slice_index, slice_set}
+use Rattle.coalitions.specs.declared.limits.TheConstants.{MEMBERS, SIZES}
 use Rattle.council_game.specs.Game.{GameView, AreNonemptyCoalitions}
 use Rattle.power_index.specs.declared.tally.Tally.{Tally}
 use Rattle.power_index.specs.Tables.{Tables, AreTallies}
@@ -10,8 +11,8 @@ with_one t s = record { sizes = slice_set t.sizes s (slice_index t.sizes s + 1) 
 
 -- a tally has the numbers of two, added size by size
 pub record IsJoined (s t u : Tally) : Type 0 where
-  pub long : length u.sizes ≡ 41
-  pub sizes : (k : ℕ) → k ≤ 40 →
+  pub long : length u.sizes ≡ SIZES
+  pub sizes : (k : ℕ) → k ≤ MEMBERS →
       slice_index u.sizes k ≡ slice_index s.sizes k + slice_index t.sizes k
 
 -- the tables are those of some list of coalitions of a game: no game has more than 2 ^ 40
@@ -19,5 +20,5 @@ pub record AreOfSomeList (t : Tables) : Type 0 where
   pub game : GameView
   pub list : List ℕ
   pub coalitions : AreNonemptyCoalitions game list
-  pub few : length list ≤ 2 ^ 40
+  pub few : length list ≤ 2 ^ MEMBERS
   pub tallies : AreTallies game list t
