@@ -10,7 +10,9 @@ use Rattle.coalitions.proofs.Ranges.{range-more}
 -- one more slice
 pub in_order_more : (slice : ℕ → List ℕ) (n : ℕ) (all piece : List ℕ) → all ≡ flat_map slice (range_with_len 0 n) → piece ≡ slice n
     → all ++ piece ≡ flat_map slice (range_with_len 0 (n + 1))
-in_order_more slice n all piece e f = rw (e, f, range-more 0 n) (flat_map_more slice [] (range_with_len 0 n) n)
+in_order_more slice n all piece e f =
+    let z : 0 + n ≡ n = omega arith in
+    rw (e, f, range-more 0 n, z) (flat_map_more slice [] (range_with_len 0 n) n)
 
 -- one more piece of a row
 pub pieces_more : {X : Type 0} (f : X → List ℕ) (slice : ℕ → List ℕ) (n : ℕ) (row : List X) (x : X)

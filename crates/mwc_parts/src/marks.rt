@@ -1,7 +1,9 @@
 //! Which slice was given to which worker.
 ghost use Rattle.std.specs.Prelude.{◌≡◌, ℕ, ◌<◌, ◌≤◌, ◌↔◌, List, length, take, replicate, IsTrue, IsSome, All, MatchOption, slice_index_or, slice_set, if◌then◌else◌};
+ghost use Rattle.coalitions.specs.declared.limits.TheConstants.{SLICES, WORKERS};
 ghost use Rattle.mwc_parts.specs.Table.{IsFirstFree};
 
+use coalitions::limits;
 use std::marker::Model;
 
 /// Which slice was given to which worker: a fixed table for up to 1024 slices. Contracts see the
@@ -9,35 +11,36 @@ use std::marker::Model;
 #[derive(Drop)]
 pub struct Marks {
     slices: u16,
-    holders: [Option<u8>; 1024],
+    holders: [Option<u8>; limits::SLICES],
 }
 
 impl Model for Marks {
     ghost use Rattle.std.specs.Prelude.{ℕ, ◌≤◌, List, Option, take};
+    ghost use Rattle.coalitions.specs.declared.limits.TheConstants.{SLICES};
 
     ghost Value = { List (Option ℕ) };
 
     ghost view = { λ m. take m.slices m.holders };
 
-    ghost invariant = { λ m. m.slices ≤ 1024 };
+    ghost invariant = { λ m. m.slices ≤ SLICES };
 }
 
 impl Marks {
     /// A table of 1 to 1024 slices, in which none has a holder.
     pub fn new(slices: u16) -> Marks
-        requires { (1 ≤ slices) × (slices ≤ 1024) }
+        requires { (1 ≤ slices) × (slices ≤ SLICES) }
         ensures { result ≡ replicate slices None }
     {
         Marks {
             slices,
-            holders: [None; 1024],
+            holders: [None; limits::SLICES],
         }
     }
 
     /// Gives the slice to the worker and answers true, if it has no holder; else changes nothing.
     pub fn give(&mut self, slice: u16, worker: u8) -> bool
         requires slice { slice < length self.old }
-        requires worker { worker < 16 }
+        requires worker { worker < WORKERS }
         ensures given { IsTrue result ↔ slice_index_or self.old slice None ≡ None }
         ensures marks { self.new ≡
             (if result then slice_set self.old slice (Some worker) else self.old) }

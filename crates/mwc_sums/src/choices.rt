@@ -1,5 +1,6 @@
 //! How many members are asked for, and in how many ways some of the members can be chosen.
 ghost use Rattle.std.specs.Prelude.{◌≡◌, ℕ, ◌+◌, ◌-◌, ◌≤◌, ◌<◌, if◌then◌else◌, nat_lt, IfOk, length, slice_index};
+ghost use Rattle.coalitions.specs.declared.limits.TheConstants.{MEMBERS};
 ghost use Rattle.mwc_sums.specs.Inner.Choices.{choose};
 ghost use Rattle.mwc_sums.specs.Inner.Rows.{AreChoices};
 
@@ -8,9 +9,9 @@ use std::alloc::Global;
 
 /// The row for one member more: each number and the one before it, added (Pascal 1654).
 fn next_row(row: &[u64; limits::SIZES], of: usize) -> [u64; limits::SIZES]
-    requires few { of ≤ 39 }
-    requires row { (k : ℕ) → k ≤ 40 → slice_index row.now k ≡ choose of k }
-    ensures { (k : ℕ) → k ≤ 40 → slice_index result k ≡ choose (of + 1) k }
+    requires few { of < MEMBERS }
+    requires row { (k : ℕ) → k ≤ MEMBERS → slice_index row.now k ≡ choose of k }
+    ensures { (k : ℕ) → k ≤ MEMBERS → slice_index result k ≡ choose (of + 1) k }
 {
     let mut next = *row;
     for k in 1..limits::SIZES {
@@ -41,14 +42,14 @@ pub(crate) struct Heads {
     pub asked: usize,
     /// Row m has in how many ways so many of m members can be chosen.
     choices: Vec<[u64; limits::SIZES]>,
-    ghost few: { asked ≤ 40 },
+    ghost few: { asked ≤ MEMBERS },
     ghost are: { AreChoices choices.items },
 }
 
 impl Heads {
     /// So many members are asked for.
     pub(crate) fn new(alloc: Global, asked: usize) -> Result<Heads, Memory>
-        requires { asked ≤ 40 }
+        requires { asked ≤ MEMBERS }
         ensures { IfOk result (λ heads. heads.asked ≡ asked) }
     {
         let choices = choices(alloc)?;
@@ -58,7 +59,7 @@ impl Heads {
     /// In how many ways a coalition of this size is filled up to so many members by others, of so many that
     /// are left; 1 where it has more.
     pub(crate) fn filled(&self, size: usize, left: usize) -> u64
-        requires { left ≤ 40 }
+        requires { left ≤ MEMBERS }
         ensures { result ≡ (if nat_lt self.now.asked size then 1
             else choose left (self.now.asked - size)) }
     {

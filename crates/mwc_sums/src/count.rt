@@ -1,4 +1,5 @@
 //! The counts of a game by sums.
+ghost use Rattle.coalitions.specs.declared.limits.TheConstants.{MEMBERS, TOTAL};
 ghost use Rattle.council_game.specs.Game.{votes_of};
 ghost use Rattle.council_game.specs.Votes.{minimal_coalitions, rule_at};
 ghost use Rattle.mwc_sums.specs.Heads.{AsksForHeads};
@@ -30,7 +31,7 @@ fn ranked_weights(alloc: Global, game: &Game) -> Result<Vec<u64>, Memory>
 /// How many members a rule of a game asks for, where it gives each of them the same weight above 0.
 fn heads_of_rule(game: &Game, rule: usize) -> Option<usize>
     requires { rule < length game.now.rules }
-    ensures few { IfSome result (λ heads. heads ≤ 40) }
+    ensures few { IfSome result (λ heads. heads ≤ MEMBERS) }
     ensures asks { IfSome result (λ heads. AsksForHeads (length game.now.names) heads
         (rule_at (votes_of game.now).rules rule)) }
 {
@@ -45,7 +46,7 @@ fn heads_of_rule(game: &Game, rule: usize) -> Option<usize>
         }
     }
     let heads = (game.rule_quota(rule) + (each - 1)) / each;
-    if heads > 40 {
+    if heads > limits::MEMBERS as u64 {
         return None;
     }
     Some(heads as usize)
@@ -54,7 +55,7 @@ fn heads_of_rule(game: &Game, rule: usize) -> Option<usize>
 /// How many members a game asks for besides its first rule: 0 where there is no other; none where another asks for
 /// more than heads.
 fn heads_of(game: &Game) -> Option<usize>
-    ensures few { IfSome result (λ heads. heads ≤ 40) }
+    ensures few { IfSome result (λ heads. heads ≤ MEMBERS) }
     ensures asked { IfSome result (λ heads. IsAsked (votes_of game.now) heads) }
 {
     let rules = game.rules();
@@ -69,7 +70,7 @@ fn heads_of(game: &Game) -> Option<usize>
 
 /// What weights come to together.
 fn total_of(weights: &[u64]) -> u64
-    requires { sum weights.now ≤ 40000000000000 }
+    requires { sum weights.now ≤ TOTAL }
     ensures { result ≡ sum weights.now }
 {
     let mut total = 0;
@@ -81,7 +82,7 @@ fn total_of(weights: &[u64]) -> u64
 
 /// The counts of a game that asks for so many heads besides its first rule; none where there is no room.
 fn count_with_heads(alloc: Global, game: &Game, heads: usize) -> Result<Option<Counts>, Memory>
-    requires few { heads ≤ 40 }
+    requires few { heads ≤ MEMBERS }
     requires asked { IsAsked (votes_of game.now) heads }
     ensures { IfOk result (λ counts. IfSome counts
         (λ c. AreCounts game.now (minimal_coalitions (votes_of game.now)) c)) }

@@ -1,6 +1,7 @@
 //! Prefixes of members that are not complete, in rows.
 ghost use Rattle.std.specs.Prelude.{◌≡◌, ℕ, ◌+◌, ◌*◌, ◌<◌, ◌≤◌, ◌^◌, IfOk, length, slice_index, take};
 ghost use Rattle.std.specs.List.{All};
+ghost use Rattle.coalitions.specs.declared.limits.TheConstants.{MEMBERS};
 ghost use Rattle.mwc_sums.specs.Inner.Rows.{fill, prefixes, taken, weigh};
 
 use crate::choices::Heads;
@@ -39,10 +40,10 @@ pub(crate) fn with_member(
     done: &mut [u64; limits::SIZES],
     others: &mut Vec<Open>,
 ) -> Result<(), Memory>
-    requires left { left ≤ 40 }
-    requires sizes { All (λ o. o.size ≤ 39) row.now }
-    requires room { (s : ℕ) → s ≤ 40 → slice_index done.old s + prefixes row.now * 2 ^ left < 2 ^ 64 }
-    ensures counted { IfOk result (λ _. (g : ℕ → ℕ → ℕ) (s : ℕ) → s ≤ 40
+    requires left { left ≤ MEMBERS }
+    requires sizes { All (λ o. o.size < MEMBERS) row.now }
+    requires room { (s : ℕ) → s ≤ MEMBERS → slice_index done.old s + prefixes row.now * 2 ^ left < 2 ^ 64 }
+    ensures counted { IfOk result (λ _. (g : ℕ → ℕ → ℕ) (s : ℕ) → s ≤ MEMBERS
         → slice_index done.new s + weigh g others.new.items
         ≡ slice_index done.old s + weigh (taken weight (fill heads.now.asked s left) g) row.now) }
     ensures sizes { IfOk result (λ _. (p : ℕ) → All (λ o. o.size ≤ p) row.now

@@ -1,6 +1,7 @@
 //! Rows of prefixes, one member after another.
 ghost use Rattle.std.specs.Prelude.{◌≡◌, ℕ, ◌+◌, ◌-◌, ◌*◌, ◌<◌, ◌≤◌, ◌^◌, IfOk, List, [], ◌∷◌, true, length, sum, slice_index, drop};
 ghost use Rattle.std.specs.List.{All};
+ghost use Rattle.coalitions.specs.declared.limits.TheConstants.{MEMBERS};
 ghost use Rattle.mwc_sums.specs.Inner.Rows.{AreOfPrefixes, endings, prefixes, weigh};
 
 use crate::choices::Heads;
@@ -58,16 +59,16 @@ impl Rows {
         heads: &Heads,
         done: &mut [u64; limits::SIZES],
     ) -> Result<(), Memory>
-        requires left { left ≤ 39 }
-        requires sizes { All (λ o. o.size ≤ 39) self.old.row.items }
-        requires room { (s : ℕ) → s ≤ 40
+        requires left { left < MEMBERS }
+        requires sizes { All (λ o. o.size < MEMBERS) self.old.row.items }
+        requires room { (s : ℕ) → s ≤ MEMBERS
             → slice_index done.old s + prefixes self.old.row.items * 2 ^ (left + 1) < 2 ^ 64 }
         ensures counted { IfOk result (λ _. (ws : List ℕ) (s : ℕ) → sum ws ≤ rest
-            → length ws ≡ left → s ≤ 40
+            → length ws ≡ left → s ≤ MEMBERS
             → slice_index done.new s + weigh (endings ws heads.now.asked s) self.new.row.items
             ≡ slice_index done.old s
             + weigh (endings (weight ∷ ws) heads.now.asked s) self.old.row.items) }
-        ensures few { IfOk result (λ _. (s : ℕ) → s ≤ 40
+        ensures few { IfOk result (λ _. (s : ℕ) → s ≤ MEMBERS
             → slice_index done.new s + prefixes self.new.row.items * 2 ^ left
             ≤ slice_index done.old s + prefixes self.old.row.items * 2 ^ (left + 1)) }
         ensures sizes { IfOk result (λ _. (p : ℕ) → All (λ o. o.size ≤ p) self.old.row.items
@@ -89,12 +90,12 @@ impl Rows {
         heads: &Heads,
         done: &mut [u64; limits::SIZES],
     ) -> Result<bool, Memory>
-        requires few { length weights.now ≤ 40 }
+        requires few { length weights.now ≤ MEMBERS }
         requires place { place ≤ length weights.now }
         requires rest { rest ≡ sum (drop place weights.now) }
         requires row { AreOfPrefixes place (length weights.now - place) done.old
             self.old.row.items }
-        ensures { IfOk result (λ full. full ≡ true → (s : ℕ) → s ≤ 40 → slice_index done.new s ≡
+        ensures { IfOk result (λ full. full ≡ true → (s : ℕ) → s ≤ MEMBERS → slice_index done.new s ≡
             slice_index done.old s
             + weigh (endings (drop place weights.now) heads.now.asked s) self.old.row.items) }
     {

@@ -1,4 +1,5 @@
 //! Tallies of the coalitions that complete a quota.
+ghost use Rattle.coalitions.specs.declared.limits.TheConstants.{MEMBERS, SIZES};
 ghost use Rattle.mwc_sums.specs.Inner.Rows.{AreEndings, AreEndingsWith, endings, left_out};
 ghost use Rattle.power_index.specs.Tables.{no_tally};
 ghost use Rattle.std.specs.Prelude.{◌≡◌, ℕ, ◌+◌, ◌<◌, ◌≤◌, IfOk, IfSome, length, sum, slice_index, slice_index_or};
@@ -17,7 +18,7 @@ pub(crate) fn tally_all(
     total: u64,
     heads: &Heads,
 ) -> Result<Option<Tally>, Memory>
-    requires few { length weights.now ≤ 40 }
+    requires few { length weights.now ≤ MEMBERS }
     requires total { total ≡ sum weights.now }
     ensures { IfOk result (λ tally. IfSome tally (AreEndings weights.now heads.now.asked quota)) }
 {
@@ -31,9 +32,9 @@ pub(crate) fn tally_all(
 
 /// What a tally has above another.
 fn difference(all: &Tally, part: &[u64; limits::SIZES]) -> Tally
-    requires { (s : ℕ) → s ≤ 40 → slice_index part.now s ≤ slice_index all.now.sizes s }
-    ensures long { length result.sizes ≡ 41 }
-    ensures sizes { (s : ℕ) → s ≤ 40 →
+    requires { (s : ℕ) → s ≤ MEMBERS → slice_index part.now s ≤ slice_index all.now.sizes s }
+    ensures long { length result.sizes ≡ SIZES }
+    ensures sizes { (s : ℕ) → s ≤ MEMBERS →
         slice_index result.sizes s + slice_index part.now s ≡ slice_index all.now.sizes s }
 {
     let mut sizes = [0; limits::SIZES];
@@ -54,10 +55,10 @@ pub(crate) fn tally_each(
     heads: &Heads,
     all: &Tally,
 ) -> Result<Option<[Tally; limits::MEMBERS]>, Memory>
-    requires few { length weights.now ≤ 40 }
+    requires few { length weights.now ≤ MEMBERS }
     requires total { total ≡ sum weights.now }
     requires all { AreEndings weights.now heads.now.asked quota all.now }
-    requires less { (p s : ℕ) → p < length weights.now → s ≤ 40 →
+    requires less { (p s : ℕ) → p < length weights.now → s ≤ MEMBERS →
         endings (left_out p weights.now) heads.now.asked s quota 0 ≤ endings weights.now heads.now.asked s quota 0 }
     ensures { IfOk result (λ tallies. IfSome tallies (λ each. (p : ℕ) → p < length weights.now →
         AreEndingsWith weights.now heads.now.asked quota p (slice_index_or each p no_tally))) }

@@ -1,5 +1,6 @@
 //! The counts of all slices.
 ghost use Rattle.std.specs.Prelude.{◌≡◌, ◌≤◌, All, length, vec_len, vec_capacity, Err, IfOk, MatchOption, ⊤};
+ghost use Rattle.coalitions.specs.declared.limits.TheConstants.{BITS, WORKERS};
 ghost use Rattle.council_game.specs.Game.{votes_of};
 ghost use Rattle.council_game.specs.Votes.{minimal_coalitions};
 ghost use Rattle.power_index.specs.Tables.{AreCounts};
@@ -41,9 +42,9 @@ pub fn tally<R: Threads + Wait + Sync, W: Watch + Sync>(
     workers: u8,
     watch: &W,
 ) -> Result<Counts, TallyFault>
-    requires few { bits ≤ 10 }
+    requires few { bits ≤ BITS }
     requires bits { bits ≤ length game.now.names }
-    requires workers { (1 ≤ workers) × (workers ≤ 16) }
+    requires workers { (1 ≤ workers) × (workers ≤ WORKERS) }
     ensures counts { IfOk result
         (λ c. AreCounts game.now (minimal_coalitions (votes_of game.now)) c) }
     ensures stopped { result ≡ Err TallyFault.Stopped → W.may_stop }
@@ -54,7 +55,7 @@ pub fn tally<R: Threads + Wait + Sync, W: Watch + Sync>(
         thread::scope_env(),
         rt,
         move |scope| -> Result<Share, TallyFault>
-            requires { (bits ≤ 10) × (bits ≤ length game.now.names) }
+            requires { (bits ≤ BITS) × (bits ≤ length game.now.names) }
             ensures share { IfOk result (IsShareAt game.entry.now bits) }
             ensures started { result ≡ Err TallyFault.Stopped → ⊥ }
         {

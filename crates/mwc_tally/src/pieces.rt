@@ -1,4 +1,5 @@
 //! Counts of a list that lies in pieces, by several threads.
+ghost use Rattle.coalitions.specs.declared.limits.TheConstants.{MEMBERS, WORKERS};
 ghost use Rattle.council_game.specs.Game.{IsGame, AreNonemptyCoalitions};
 ghost use Rattle.power_index.specs.Tables.{AreCounts, AreTallies};
 ghost use Rattle.std.specs.List.{flat_map};
@@ -36,7 +37,7 @@ type Counting<'s> = PromisedHandle<Counts, GivenPart<'s>>;
 
 /// How many coalitions pieces have together.
 fn length_of(pieces: &[&[Coalition]]) -> usize
-    requires { length (flat_map (λ p. p.now) pieces.now) ≤ 2 ^ 40 }
+    requires { length (flat_map (λ p. p.now) pieces.now) ≤ 2 ^ MEMBERS }
     ensures { result ≡ length (flat_map (λ p. p.now) pieces.now) }
 {
     let mut length = 0;
@@ -48,7 +49,7 @@ fn length_of(pieces: &[&[Coalition]]) -> usize
 
 /// The counts of at most `most` coalitions of a list in pieces, past its first `skip`.
 fn of_part(game: &Game, pieces: &[&[Coalition]], skip: usize, most: usize) -> Counts
-    requires few { length (flat_map (λ p. p.now) pieces.now) ≤ 2 ^ 40 }
+    requires few { length (flat_map (λ p. p.now) pieces.now) ≤ 2 ^ MEMBERS }
     requires coalitions { AreNonemptyCoalitions game.now (flat_map (λ p. p.now) pieces.now) }
     ensures { AreTallies game.now
         (take most (drop skip (flat_map (λ p. p.now) pieces.now))) result }
@@ -79,8 +80,8 @@ pub fn tally_pieces<R: Threads + Wait + Sync>(
     pieces: &[&[Coalition]],
     threads: u8,
 ) -> Result<Counts, TallyFault>
-    requires threads { (1 ≤ threads) × (threads ≤ 16) }
-    requires few { length (flat_map (λ p. p.now) pieces.now) ≤ 2 ^ 40 }
+    requires threads { (1 ≤ threads) × (threads ≤ WORKERS) }
+    requires few { length (flat_map (λ p. p.now) pieces.now) ≤ 2 ^ MEMBERS }
     requires coalitions { AreNonemptyCoalitions game.now (flat_map (λ p. p.now) pieces.now) }
     ensures ok { IfOk result (AreCounts game.now (flat_map (λ p. p.now) pieces.now)) }
     ensures err { IfErr result (λ fault. fault ≡ TallyFault.Start) }
@@ -90,12 +91,12 @@ pub fn tally_pieces<R: Threads + Wait + Sync>(
         thread::scope_env(),
         rt,
         move |scope| -> Result<Counts, TallyFault>
-            requires few { length (flat_map (λ p. p.now) pieces.now) ≤ 2 ^ 40 }
+            requires few { length (flat_map (λ p. p.now) pieces.now) ≤ 2 ^ MEMBERS }
             requires coalitions { AreNonemptyCoalitions game.now
                 (flat_map (λ p. p.now) pieces.now) }
             requires part { part ≤ 2 ^ 41 }
             requires enough { length (flat_map (λ p. p.now) pieces.now) ≤ threads * part }
-            requires threads { (1 ≤ threads) × (threads ≤ 16) }
+            requires threads { (1 ≤ threads) × (threads ≤ WORKERS) }
             ensures ok { IfOk result
                 (AreTallies game.entry.now (flat_map (λ p. p.now) pieces.entry.now)) }
             ensures err { IfErr result (λ fault. fault ≡ TallyFault.Start) }
@@ -111,7 +112,7 @@ fn start<'s, E>(
     skip: usize,
     most: usize,
 ) -> Option<Counting<'s>>
-    requires few { length (flat_map (λ p. p.now) pieces.now) ≤ 2 ^ 40 }
+    requires few { length (flat_map (λ p. p.now) pieces.now) ≤ 2 ^ MEMBERS }
     requires coalitions { AreNonemptyCoalitions game.now (flat_map (λ p. p.now) pieces.now) }
     ensures { MatchOption result ⊤ (λ t. IsGivenPart game.now (flat_map (λ p. p.now) pieces.now)
         skip most t.promise) }
@@ -123,7 +124,7 @@ fn start<'s, E>(
         most,
     };
     let body = move || -> Counts
-        requires few { length (flat_map (λ p. p.now) pieces.now) ≤ 2 ^ 40 }
+        requires few { length (flat_map (λ p. p.now) pieces.now) ≤ 2 ^ MEMBERS }
         requires coalitions { AreNonemptyCoalitions game.now (flat_map (λ p. p.now) pieces.now) }
         ensures { AreTallies game.entry.now
             (take most (drop skip (flat_map (λ p. p.now) pieces.entry.now))) result }
@@ -142,7 +143,7 @@ fn count_from<'s, E, R: Threads>(
     part: usize,
     others: u8,
 ) -> Result<Counts, TallyFault>
-    requires few { length (flat_map (λ p. p.now) pieces.now) ≤ 2 ^ 40 }
+    requires few { length (flat_map (λ p. p.now) pieces.now) ≤ 2 ^ MEMBERS }
     requires coalitions { AreNonemptyCoalitions game.now (flat_map (λ p. p.now) pieces.now) }
     requires room { skip + others * part ≤ 2 ^ 46 }
     requires enough { length (flat_map (λ p. p.now) pieces.now) ≤ skip + (others + 1) * part }

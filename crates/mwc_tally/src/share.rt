@@ -4,12 +4,12 @@ ghost use Rattle.std.specs.List.{range_with_len};
 ghost use Rattle.mwc_tally.specs.Inner.Shares.{IsShare, CountSlices, CountWhole};
 
 use crate::slices::Slices;
-use council_game::Memory;
+use council_game::{Memory, limits};
 use power_index::Counts;
 use std::alloc::Global;
 
 /// No game has more minimal winning coalitions.
-const MOST: u64 = 1 << 40;
+const MOST: u64 = 1 << limits::MEMBERS;
 
 /// The counts of some slices of a game together, and which slices they were, in the order in which
 /// they were added.

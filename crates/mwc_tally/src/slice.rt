@@ -1,5 +1,7 @@
 //! The counts of one slice.
 ghost use Rattle.std.specs.Prelude.{◌≡◌, ◌≤◌, ◌<◌, ◌^◌, length, MatchOption};
+ghost use Rattle.coalitions.specs.declared.limits.TheConstants.{BITS};
+ghost use Rattle.mwc_tally.specs.declared.watch.TheConstants.{EACH};
 ghost use Rattle.council_game.specs.Game.{votes_of};
 ghost use Rattle.mwc_walk.specs.Slices.{slice};
 ghost use Rattle.power_index.specs.Tables.{AreTallies};
@@ -15,7 +17,7 @@ use power_index::Counts;
 ///
 /// There are at most 10 bits, and no more than members; `j` is below 2^bits.
 pub fn tally_slice(game: &Game, bits: u8, j: u16) -> Counts
-    requires few { bits ≤ 10 }
+    requires few { bits ≤ BITS }
     requires bits { bits ≤ length game.now.names }
     requires slice { j < 2 ^ bits }
     ensures { AreTallies game.now (slice (votes_of game.now) bits j) result }
@@ -28,8 +30,8 @@ pub fn tally_slice(game: &Game, bits: u8, j: u16) -> Counts
 
 /// Tells a watch of so many coalitions more where they are enough. How many it is still to be told of.
 fn tell_if_enough<W: Watch>(watch: &W, more: u64, slices: u16) -> u64
-    requires { more ≤ 1048576 }
-    ensures { result < 1048576 }
+    requires { more ≤ EACH }
+    ensures { result < EACH }
 {
     if more < EACH {
         return more;

@@ -1,5 +1,6 @@
 //! A game cut into slices.
 ghost use Rattle.std.specs.Prelude.{◌≡◌, ◌≤◌, ◌^◌, length};
+ghost use Rattle.coalitions.specs.declared.limits.TheConstants.{BITS};
 
 use crate::share::Share;
 use council_game::{Game, Memory};
@@ -12,7 +13,7 @@ pub(crate) struct Slices<'a> {
     pub game: &'a Game,
     /// 0 to 10, and no more than members.
     pub bits: u8,
-    ghost bits_fit: { (bits ≤ 10) × (bits ≤ length game.now.names) },
+    ghost bits_fit: { (bits ≤ BITS) × (bits ≤ length game.now.names) },
 }
 
 impl<'a> Slices<'a> {

@@ -1,6 +1,7 @@
 -- Rows of prefixes that are not complete, and how they go on.
 use Rattle.std.specs.Prelude.{ℕ, zero, suc, ◌+◌, ◌-◌, ◌*◌, ◌==◌, ◌≤◌, ◌^◌, ◌≡◌, if◌then◌else◌, nat_le, nat_lt, List, [], ◌∷◌, length, slice_index, slice_index_or, sum_by}
 use Rattle.std.specs.List.{All}
+use Rattle.coalitions.specs.declared.limits.TheConstants.{MEMBERS, SIZES}
 use Rattle.mwc_sums.specs.declared.row.Open.{Open}
 use Rattle.mwc_sums.specs.Inner.Choices.{choose}
 use Rattle.power_index.specs.declared.tally.Tally.{Tally}
@@ -41,21 +42,21 @@ left_out (suc p) (w ∷ ws) = w ∷ left_out p ws
 
 -- a row of prefixes of at most p members, where so many are left, and the coalitions counted by then, by size
 pub record AreOfPrefixes (p left : ℕ) (done : List ℕ) (row : List Open) : Type 0 where
-  pub few : (s : ℕ) → s ≤ 40 → slice_index done s + prefixes row * 2 ^ left ≤ 2 ^ 40
+  pub few : (s : ℕ) → s ≤ MEMBERS → slice_index done s + prefixes row * 2 ^ left ≤ 2 ^ MEMBERS
   pub sizes : All (λ o. o.size ≤ p) row
 
 -- row m has in how many ways so many of m can be chosen
 pub record AreChoices (rows : List (List ℕ)) : Type 0 where
-  pub long : length rows ≡ 41
-  pub each : (m k : ℕ) → m ≤ 40 → k ≤ 40 → slice_index (slice_index_or rows m []) k ≡ choose m k
+  pub long : length rows ≡ SIZES
+  pub each : (m k : ℕ) → m ≤ MEMBERS → k ≤ MEMBERS → slice_index (slice_index_or rows m []) k ≡ choose m k
 
 -- a tally has so many coalitions of each size as the members lead to from a quota
 pub record AreEndings (ws : List ℕ) (heads quota : ℕ) (t : Tally) : Type 0 where
-  pub long : length t.sizes ≡ 41
-  pub sizes : (s : ℕ) → s ≤ 40 → slice_index t.sizes s ≡ endings ws heads s quota 0
+  pub long : length t.sizes ≡ SIZES
+  pub sizes : (s : ℕ) → s ≤ MEMBERS → slice_index t.sizes s ≡ endings ws heads s quota 0
 
 -- a tally has those that the members do not lead to without the member of place p
 pub record AreEndingsWith (ws : List ℕ) (heads quota p : ℕ) (t : Tally) : Type 0 where
-  pub long : length t.sizes ≡ 41
-  pub sizes : (s : ℕ) → s ≤ 40 →
+  pub long : length t.sizes ≡ SIZES
+  pub sizes : (s : ℕ) → s ≤ MEMBERS →
       slice_index t.sizes s + endings (left_out p ws) heads s quota 0 ≡ endings ws heads s quota 0

@@ -20,7 +20,8 @@ pub overflow_add-next : goal.overflow_add-next
 overflow_add-next c =
     let a = c.requires.row c.loop-k.k (omega arith) in
     let b = c.requires.row (c.loop-k.k - 1) (omega arith) in
-    let up : 2 ^ c.args.of ≤ 2 ^ 39 = pow_mono c.requires.few in
+    let few : c.args.of ≤ 39 = omega (arith, c.requires.few) in
+    let up : 2 ^ c.args.of ≤ 2 ^ 39 = pow_mono few in
     omega (arith, a, b, choose-most c.args.of c.loop-k.k, choose-most c.args.of (c.loop-k.k - 1), up)
 
 pub loop-k-preserved : goal.loop-k-preserved
