@@ -1,12 +1,13 @@
 //! Which places two coalitions have in common.
 ghost use Rattle.std.specs.Prelude.{◌^◌, ◌<◌, ◌≤◌};
+ghost use Rattle.coalitions.specs.declared.limits.TheConstants.{MEMBERS};
 ghost use Rattle.council_report.specs.Inner.Shared.{HasNoneFrom, SameBefore};
 
 use council_game::Coalition;
 
 /// The first place, of so many, at which two coalitions differ; the number of places where they are the same.
 pub(crate) fn first_difference(members: usize, a: Coalition, b: Coalition) -> usize
-    requires few { members ≤ 40 }
+    requires few { members ≤ MEMBERS }
     requires a_below { a < 2 ^ members }
     requires b_below { b < 2 ^ members }
     ensures within { result ≤ members }
@@ -18,7 +19,7 @@ pub(crate) fn first_difference(members: usize, a: Coalition, b: Coalition) -> us
 
 /// The place behind the last one that is in a coalition.
 pub(crate) fn past_last(members: usize, coalition: Coalition) -> usize
-    requires few { members ≤ 40 }
+    requires few { members ≤ MEMBERS }
     requires some { 0 < coalition }
     requires below { coalition < 2 ^ members }
     ensures within { result ≤ members }

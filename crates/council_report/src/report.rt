@@ -2,6 +2,7 @@
 ghost use Rattle.std.specs.Prelude.{◌≡◌, ◌+◌, ◌≤◌, ◌^◌, true, false, ℕ, List, length, IfOk, IfErr, OnOk};
 ghost use Rattle.std.specs.List.{flat_map};
 ghost use Rattle.std.specs.Io.KnownBytes.{Appends};
+ghost use Rattle.coalitions.specs.declared.limits.TheConstants.{MEMBERS, COALITIONS};
 ghost use Rattle.council_game.specs.Game.{votes_of, AreNonemptyCoalitions, IsGame};
 ghost use Rattle.council_game.specs.Votes.{minimal_coalitions};
 ghost use Rattle.power_index.specs.Tables.{AreCounts};
@@ -177,7 +178,7 @@ pub fn write_report_of<W: Write>(
     writer: &mut W,
 ) -> Result<u64, ReportFault>
     requires some { 1 ≤ length (flat_map (λ p. p.now) pieces.now) }
-    requires few { length (flat_map (λ p. p.now) pieces.now) ≤ 2 ^ 40 }
+    requires few { length (flat_map (λ p. p.now) pieces.now) ≤ 2 ^ MEMBERS }
     requires coalitions { AreNonemptyCoalitions game.now (flat_map (λ p. p.now) pieces.now) }
     requires counts { AreCounts game.now (flat_map (λ p. p.now) pieces.now) counts.now }
     ensures count { IfOk result (λ count. count ≡
@@ -234,7 +235,7 @@ pub fn write_report<W: Write>(
     writer: &mut W,
 ) -> Result<u64, ReportFault>
     requires some { 1 ≤ length list.now }
-    requires few { length list.now ≤ 4000000 }
+    requires few { length list.now ≤ COALITIONS }
     requires coalitions { AreNonemptyCoalitions game.now list.now }
     ensures count { IfOk result (λ count. count ≡ length (report_over shown game.now list.now)) }
     ensures ok { OnOk result (Appends (W.contents writer.old) (W.contents writer.new)

@@ -1,5 +1,6 @@
 //! What a member adds to the line of a coalition.
 ghost use Rattle.std.specs.Prelude.{◌≡◌, ◌<◌, ℕ, length, slice_index, IfOk};
+ghost use Rattle.coalitions.specs.declared.limits.TheConstants.{RULES};
 ghost use Rattle.council_game.specs.Game.{IsGame};
 ghost use Rattle.council_report.specs.Inner.Shared.{IsSeat, AreSeats, weights_under};
 
@@ -21,8 +22,8 @@ pub(crate) struct Seat {
 fn weights_at(game: &Game, place: usize) -> [u64; limits::RULES]
     requires game { IsGame game.now }
     requires place { place < length game.now.names }
-    ensures long { length result ≡ 4 }
-    ensures weights { (r : ℕ) → r < 4 →
+    ensures long { length result ≡ RULES }
+    ensures weights { (r : ℕ) → r < RULES →
         slice_index result r ≡ slice_index (weights_under game.now r) place }
 {
     let member = game.member_at(place);

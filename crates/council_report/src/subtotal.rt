@@ -1,5 +1,6 @@
 //! How long a line's names are at a place, and what their members weigh.
 ghost use Rattle.std.specs.Prelude.{◌≡◌, ◌+◌, ◌^◌, ◌<◌, ℕ, length, slice_index};
+ghost use Rattle.coalitions.specs.declared.limits.TheConstants.{RULES};
 
 use crate::seat::Seat;
 use council_game::limits;
@@ -15,7 +16,7 @@ impl Subtotal {
     /// The subtotal of no member.
     pub(crate) fn none() -> Subtotal
         ensures length { result.length ≡ 0 }
-        ensures long { length result.weights ≡ 4 }
+        ensures long { length result.weights ≡ RULES }
         ensures weights { (r : ℕ) → slice_index result.weights r ≡ 0 }
     {
         Subtotal {
@@ -27,13 +28,13 @@ impl Subtotal {
     /// The subtotal with one member more.
     pub(crate) fn with(self, seat: &Seat) -> Subtotal
         requires length { self.length + length seat.now.field.items < 2 ^ 64 }
-        requires long { length self.weights ≡ 4 }
-        requires seat_long { length seat.now.weights ≡ 4 }
-        requires weights { (r : ℕ) → r < 4 →
+        requires long { length self.weights ≡ RULES }
+        requires seat_long { length seat.now.weights ≡ RULES }
+        requires weights { (r : ℕ) → r < RULES →
             slice_index self.weights r + slice_index seat.now.weights r < 2 ^ 64 }
         ensures length { result.length ≡ self.length + length seat.now.field.items }
-        ensures long { length result.weights ≡ 4 }
-        ensures weights { (r : ℕ) → r < 4 →
+        ensures long { length result.weights ≡ RULES }
+        ensures weights { (r : ℕ) → r < RULES →
             slice_index result.weights r ≡
             slice_index self.weights r + slice_index seat.now.weights r }
     {

@@ -2,10 +2,12 @@
 use Rattle.std.specs.Prelude.{◌≡◌, ◌≤◌, ◌<◌, ◌^◌, ℕ, List, false, length, map, slice_index, slice_index_or}
 use Rattle.std.specs.List.{filter, flat_map, sum, range_with_len}
 use Rattle.std.specs.Vec.{vec_capacity}
+use Rattle.coalitions.specs.declared.limits.TheConstants.{MEMBERS, SIZES, RULES}
 use Rattle.council_game.specs.Votes.{has, rule_at}
 use Rattle.council_game.specs.Ranks.{member_at}
 use Rattle.council_game.specs.Game.{GameView, IsGame, votes_of}
 use Rattle.council_report.specs.Lines.{with_tab, name_of}
+use Rattle.council_report.specs.declared.output.TheConstants.{LINE}
 use Rattle.council_report.specs.declared.seat.Seat.{Seat}
 use Rattle.council_report.specs.declared.subtotal.Subtotal.{Subtotal}
 use Rattle.council_report.specs.declared.shared.SharedLine.{SharedLine}
@@ -33,8 +35,8 @@ weight_of_places g r places = sum (map (λ p. slice_index (weights_under g r) p)
 -- what the member of place p adds to a line: its name after a TAB, and its weight under each rule
 pub record IsSeat (g : GameView) (p : ℕ) (seat : Seat) : Type 0 where
   pub field : seat.field.items ≡ with_tab (name_at g p)
-  pub long : length seat.weights ≡ 4
-  pub weights : (r : ℕ) → r < 4 → slice_index seat.weights r ≡ slice_index (weights_under g r) p
+  pub long : length seat.weights ≡ RULES
+  pub weights : (r : ℕ) → r < RULES → slice_index seat.weights r ≡ slice_index (weights_under g r) p
 
 -- the seats of the first k places
 pub record AreSeats (g : GameView) (k : ℕ) (seats : List Seat) : Type 0 where
@@ -44,20 +46,20 @@ pub record AreSeats (g : GameView) (k : ℕ) (seats : List Seat) : Type 0 where
 -- how long the names of these places are, and what they weigh under each rule
 pub record IsSubtotal (g : GameView) (places : List ℕ) (subtotal : Subtotal) : Type 0 where
   pub names : subtotal.length ≡ length (fields_of g places)
-  pub long : length subtotal.weights ≡ 4
-  pub weights : (r : ℕ) → r < 4 → slice_index subtotal.weights r ≡ weight_of_places g r places
+  pub long : length subtotal.weights ≡ RULES
+  pub weights : (r : ℕ) → r < RULES → slice_index subtotal.weights r ≡ weight_of_places g r places
 
 -- The line of its coalition up to the place where it ends: the names of the members of the places before, and a subtotal
 -- for each of these places.
 pub record IsLine (g : GameView) (line : SharedLine) : Type 0 where
   pub game : IsGame g
-  pub few : length g.names ≤ 40
+  pub few : length g.names ≤ MEMBERS
   pub seats : AreSeats g (length g.names) line.seats.items
-  pub room : 4096 ≤ vec_capacity line.names
+  pub room : LINE ≤ vec_capacity line.names
   pub within : line.end ≤ length g.names
   pub names : line.names.items ≡
       fields_of g (places_before (length g.names) line.coalition line.end)
-  pub long : length line.subtotals ≡ 41
+  pub long : length line.subtotals ≡ SIZES
   pub subtotals : (k : ℕ) (d : Subtotal) → k ≤ line.end →
       IsSubtotal g (places_before (length g.names) line.coalition k) (slice_index_or line.subtotals k d)
 
