@@ -1,6 +1,7 @@
 //! Both indices of each member of a game.
 #![tactic(auto)]
 
+ghost use Rattle.coalitions.specs.declared.limits.TheConstants.{COALITIONS};
 ghost use Rattle.council_game.specs.Game.{votes_of};
 ghost use Rattle.council_game.specs.Votes.{minimal_coalitions};
 ghost use Rattle.power_index.specs.Both.{indices_of_member};
@@ -23,7 +24,7 @@ pub fn indices_of(alloc: Global, game: &Game) -> Result<Option<Vec<MemberIndices
         map (indices_of_member game.now (minimal_coalitions (votes_of game.now))) (members game.now))) }
     ensures count { IfOk result (λ o. IfSome o (λ v. length v.items ≡ length game.now.names)) }
     ensures more { IfOk result
-        (λ o. IfNone o (4000000 < length (minimal_coalitions (votes_of game.now)))) }
+        (λ o. IfNone o (COALITIONS < length (minimal_coalitions (votes_of game.now)))) }
 {
     let Some(list) = list_all(alloc, game, limits::COALITIONS)? else {
         return Ok(None);

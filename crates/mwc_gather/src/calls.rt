@@ -1,6 +1,7 @@
 //! What the gatherer does with a desk.
 ghost use Rattle.std.specs.Prelude.{◌≡◌, ◌≢◌, ℕ, ◌||◌, ◌+◌, ◌<◌, ◌≤◌, ◌^◌, ◌++◌, ◌∷◌, [], List, IfOk, IfErr, if◌then◌else◌, IsTrue, IsFalse, true, false, length, take, vec_len, vec_capacity};
 ghost use Rattle.std.specs.List.{list_any};
+ghost use Rattle.coalitions.specs.declared.limits.TheConstants.{WORKERS};
 ghost use Rattle.mwc_pipe.specs.declared.word.Word.{Word};
 ghost use Rattle.mwc_parts.specs.Wording.{coalition_count};
 ghost use Rattle.mwc_parts.specs.Inner.Wording.{is_done};
@@ -17,6 +18,7 @@ use crate::desk::Desk;
 use crate::guarded::Gate;
 use crate::job::Job;
 use crate::promise::{Answer, Task};
+use crate::row::WORDS;
 use crate::waiting::{BellPair, Bells, Patience};
 use crate::worker::work_beside;
 use mwc_parts::{Draft, GatherFault, Part, settle};
@@ -27,10 +29,7 @@ use std::snapshot::Snapshot;
 use std::sync::Wait;
 use std::thread::{Scope, Threads};
 
-/// How many words a worker may be ahead of the gatherer.
-const WORDS: usize = 64;
-
-/// How many tasks a worker may be behind it.
+/// How many tasks a worker may be behind the gatherer.
 const TASKS: usize = 2;
 
 impl Desk {
@@ -43,7 +42,7 @@ impl Desk {
         worker: u8,
         bells: &'s Bells,
     ) -> Result<Desk, GatherFault>
-        requires worker { worker < 16 }
+        requires worker { worker < WORKERS }
         requires gate { (j : ℕ) → j < 2 ^ job.now.bits → G.takes worker j }
         ensures order { IfOk result (IsOf (slicing job.now.guarded job.now.bits) job.now.most) }
         ensures fresh { IfOk result (λ d. IsFresh (view_of d)) }
@@ -66,7 +65,7 @@ impl Desk {
             other: &bells.gatherer,
         };
         let body = move || -> Answer
-            requires worker { worker < 16 }
+            requires worker { worker < WORKERS }
             requires fresh { (out.accepted ≡ []) × (list.taken ≡ []) }
             requires gate { (j : ℕ) → j < 2 ^ own.bits → G.takes worker j }
             ensures { HasWorked (slicing own.entry.guarded own.entry.bits) own.entry.most

@@ -1,6 +1,7 @@
 //! Dealing slices to the workers while they run.
 ghost use Rattle.std.specs.Prelude.{◌≡◌, ◌<◌, ◌≤◌, ◌^◌, ◌++◌, List, All, length, replicate, false};
 ghost use Rattle.std.specs.List.{list_any};
+ghost use Rattle.coalitions.specs.declared.limits.TheConstants.{WORKERS};
 ghost use Rattle.mwc_pipe.specs.declared.word.Word.{Word};
 ghost use Rattle.mwc_parts.specs.Inner.Wording.{is_done};
 ghost use Rattle.mwc_parts.specs.Inner.Dealing.{TakesTurn, IsFresh};
@@ -9,6 +10,7 @@ ghost use Rattle.mwc_gather.specs.Inner.Desks.{view_of, views_of, AllOf, DealsTo
 
 use crate::desk::Desk;
 use crate::order::Order;
+use crate::row::WORDS;
 use crate::waiting::{BellPair, Bells, Patience};
 use mwc_parts::Marks;
 use mwc_pipe::Word;
@@ -28,7 +30,7 @@ impl Deal {
     /// it that there are no more. A loss or a cut stops the deal, and then nothing is given.
     fn deal_to<R: Wait>(&mut self, rt: &R, desk: &mut Desk, worker: u8, pair: BellPair<'_>)
         requires slices { length self.old.marks ≡ 2 ^ desk.old.worker.promise.order.bits }
-        requires worker { worker < 16 }
+        requires worker { worker < WORKERS }
         ensures worker { desk.new.worker.promise ≡ desk.old.worker.promise }
         ensures words { desk.new.words.taken ≡ desk.old.words.taken }
         ensures turns { TakesTurn false self.old.marks self.old.stopped (view_of desk.old) worker
@@ -65,7 +67,7 @@ impl Deal {
         pair: BellPair<'_>,
     ) -> bool
         requires slices { length self.old.marks ≡ 2 ^ desk.old.worker.promise.order.bits }
-        requires worker { worker < 16 }
+        requires worker { worker < WORKERS }
         ensures worker { desk.new.worker.promise ≡ desk.old.worker.promise }
         ensures turns { (words : List Word)
             × (desk.new.words.taken ≡ desk.old.words.taken ++ words)
@@ -82,7 +84,7 @@ impl Deal {
 
     /// Deals one slice to each worker.
     fn deal_first<R: Wait>(&mut self, rt: &R, order: &Order, desks: &mut [Desk], bells: &Bells)
-        requires few { length desks.old ≤ 16 }
+        requires few { length desks.old ≤ WORKERS }
         requires all_of { AllOf (slicing_of order.now) order.now.most desks.old }
         requires fresh { All IsFresh (views_of desks.old) }
         requires marks { self.old.marks ≡ replicate (2 ^ order.now.bits) None }
@@ -97,14 +99,14 @@ impl Deal {
     /// Deals the slices and reads the rings in turn, until each worker has sent its End. Where no word
     /// is there it waits.
     pub fn read_all<R: Wait>(&mut self, rt: &R, order: &Order, desks: &mut [Desk], bells: &Bells)
-        requires few { length desks.old ≤ 16 }
+        requires few { length desks.old ≤ WORKERS }
         requires all_of { AllOf (slicing_of order.now) order.now.most desks.old }
         requires fresh { All IsFresh (views_of desks.old) }
         requires marks { self.old.marks ≡ replicate (2 ^ order.now.bits) None }
         ensures { DealsTo (slicing_of order.now) order.now.most self.old.stopped
             self.new desks.new }
     {
-        let mut row = [Word::Open(0); 64];
+        let mut row = [Word::Open(0); WORDS];
         let mut patience = Patience::new();
         self.deal_first(rt, order, desks, bells);
         for _ in rt.forever() {

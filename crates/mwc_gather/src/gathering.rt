@@ -2,6 +2,7 @@
 ghost use Rattle.std.specs.Prelude.{◌≡◌, ◌<◌, ◌≤◌, ◌^◌, All, List, ℕ, Option, None, false, IfOk, length, vec_len};
 ghost use Rattle.std.specs.Option.{is_some};
 ghost use Rattle.std.specs.List.{AllZip};
+ghost use Rattle.coalitions.specs.declared.limits.TheConstants.{BITS, WORKERS, COALITIONS};
 ghost use Rattle.council_game.specs.Votes.{minimal_coalitions};
 ghost use Rattle.council_game.specs.Game.{votes_of};
 ghost use Rattle.mwc_parts.specs.Inner.Dealing.{IsFresh};
@@ -49,9 +50,9 @@ pub fn gather<R: Threads + Wait + Sync, G: Gate + Sync>(
     workers: u8,
     most: u32,
 ) -> Result<Gathered, GatherFault>
-    requires bits { (bits ≤ 10) × (bits ≤ length guarded.now.names) }
-    requires workers { (1 ≤ workers) × (workers ≤ 16) }
-    requires most { (1 ≤ most) × (most ≤ 4000000) }
+    requires bits { (bits ≤ BITS) × (bits ≤ length guarded.now.names) }
+    requires workers { (1 ≤ workers) × (workers ≤ WORKERS) }
+    requires most { (1 ≤ most) × (most ≤ COALITIONS) }
     requires gate { (w j : ℕ) → w < workers → j < 2 ^ bits → G.takes w j }
     ensures gathers { IfOk result (Gathers (votes_of guarded.now) bits workers most) }
     ensures many { result ≡ Err GatherFault.TooMany
@@ -64,7 +65,7 @@ pub fn gather<R: Threads + Wait + Sync, G: Gate + Sync>(
         thread::scope_env(),
         rt,
         move |scope| -> Result<Gathered, GatherFault>
-            requires workers { (1 ≤ workers) × (workers ≤ 16) }
+            requires workers { (1 ≤ workers) × (workers ≤ WORKERS) }
             requires gate { (w j : ℕ) → w < workers → j < 2 ^ job.bits → G.takes w j }
             ensures gathers { IfOk result
                 (Gathers (votes_of job.entry.guarded) job.entry.bits workers job.entry.most) }
@@ -83,7 +84,7 @@ fn run<'s, E, R: Threads + Wait + Sync, G: Gate + Sync>(
     workers: u8,
     bells: &'s Bells,
 ) -> Result<Gathered, GatherFault>
-    requires workers { (1 ≤ workers) × (workers ≤ 16) }
+    requires workers { (1 ≤ workers) × (workers ≤ WORKERS) }
     requires gate { (w j : ℕ) → w < workers → j < 2 ^ job.now.bits → G.takes w j }
     ensures gathers { IfOk result
         (Gathers (votes_of job.now.guarded) job.now.bits workers job.now.most) }
@@ -103,7 +104,7 @@ fn run<'s, E, R: Threads + Wait + Sync, G: Gate + Sync>(
 
 /// All that was gathered, unless there is more than was asked for.
 fn all_of(order: &Order, workers: u8, parts: Vec<Part>) -> Result<Gathered, GatherFault>
-    requires bits { (order.now.bits ≤ 10) × (order.now.bits ≤ length order.now.game.value.names) }
+    requires bits { (order.now.bits ≤ BITS) × (order.now.bits ≤ length order.now.game.value.names) }
     requires complete { IsComplete (slicing_of order.now) workers parts.items }
     ensures gathers { IfOk result
         (Gathers (votes_of order.now.game.value) order.now.bits workers order.now.most) }
@@ -129,7 +130,7 @@ fn open_all<'s, E, R: Threads + Wait + Sync, G: Gate + Sync>(
     workers: u8,
     bells: &'s Bells,
 ) -> (Vec<Desk>, Met)
-    requires workers { (1 ≤ workers) × (workers ≤ 16) }
+    requires workers { (1 ≤ workers) × (workers ≤ WORKERS) }
     requires gate { (w j : ℕ) → w < workers → j < 2 ^ job.now.bits → G.takes w j }
     ensures few { vec_len result.0 ≤ workers }
     ensures all { fault_of result.1 ≡ None → vec_len result.0 ≡ workers }

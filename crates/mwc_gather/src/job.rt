@@ -1,5 +1,6 @@
 //! What the workers are to do.
 ghost use Rattle.std.specs.Prelude.{◌≡◌, ◌≤◌, length};
+ghost use Rattle.coalitions.specs.declared.limits.TheConstants.{BITS, COALITIONS};
 ghost use Rattle.council_game.specs.Votes.{IsVotes};
 ghost use Rattle.council_game.specs.Game.{votes_of};
 
@@ -15,14 +16,14 @@ pub(crate) struct Job<'a, G> {
     pub bits: u8,
     /// How many coalitions are wanted at most, 1 to 4,000,000.
     pub most: u32,
-    ghost bits_fit: { (bits ≤ 10) × (bits ≤ length guarded.names) },
-    ghost most_fits: { (1 ≤ most) × (most ≤ 4000000) },
+    ghost bits_fit: { (bits ≤ BITS) × (bits ≤ length guarded.names) },
+    ghost most_fits: { (1 ≤ most) × (most ≤ COALITIONS) },
 }
 
 impl<'a, G: Gate> Job<'a, G> {
     pub fn new(guarded: &Guarded<'a, G>, bits: u8, most: u32) -> Job<'a, G>
-        requires bits { (bits ≤ 10) × (bits ≤ length guarded.now.names) }
-        requires most { (1 ≤ most) × (most ≤ 4000000) }
+        requires bits { (bits ≤ BITS) × (bits ≤ length guarded.now.names) }
+        requires most { (1 ≤ most) × (most ≤ COALITIONS) }
         ensures game { result.guarded ≡ guarded.now }
         ensures asked { (result.bits ≡ bits) × (result.most ≡ most) }
     {

@@ -1,29 +1,31 @@
 //! Words that wait to be sent together.
 ghost use Rattle.std.specs.Prelude.{◌≡◌, ◌<◌, ◌↔◌, ◌++◌, ◌∷◌, [], IsTrue, IsFalse, length};
+ghost use Rattle.mwc_gather.specs.declared.row.TheConstants.{WORDS};
 
 use mwc_pipe::Word;
 use std::marker::Model;
 
-/// How many words a row has room for.
-const ROOM: usize = 64;
+/// How many words a row or a ring has room for: a worker may be so far ahead of the gatherer.
+pub(crate) const WORDS: usize = 64;
 
 /// A row of up to 64 words that wait to be sent together. Contracts see the words. No call takes
 /// memory.
 #[derive(Drop)]
 pub(crate) struct Row {
-    words: [Word; 64],
+    words: [Word; WORDS],
     count: usize,
 }
 
 impl Model for Row {
     ghost use Rattle.std.specs.Prelude.{◌≡◌, ◌≤◌, List, length, take};
     ghost use Rattle.mwc_pipe.specs.declared.word.Word.{Word};
+    ghost use Rattle.mwc_gather.specs.declared.row.TheConstants.{WORDS};
 
     ghost Value = { List Word };
 
     ghost view = { λ r. take r.count r.words };
 
-    ghost invariant = { λ r. (r.count ≤ 64) × (length r.words ≡ 64) };
+    ghost invariant = { λ r. (r.count ≤ WORDS) × (length r.words ≡ WORDS) };
 }
 
 impl Row {
@@ -32,22 +34,22 @@ impl Row {
         ensures { result ≡ [] }
     {
         Row {
-            words: [Word::Open(0); 64],
+            words: [Word::Open(0); WORDS],
             count: 0,
         }
     }
 
     /// Whether there is no room for one more.
     pub fn is_full(&self) -> bool
-        ensures full { IsTrue result ↔ length self.now ≡ 64 }
-        ensures room { IsFalse result → length self.now < 64 }
+        ensures full { IsTrue result ↔ length self.now ≡ WORDS }
+        ensures room { IsFalse result → length self.now < WORDS }
     {
-        self.count == ROOM
+        self.count == WORDS
     }
 
     /// Adds a word behind the others.
     pub fn push(&mut self, word: Word)
-        requires { length self.old < 64 }
+        requires { length self.old < WORDS }
         ensures { self.new ≡ self.old ++ word ∷ [] }
     {
         self.words[self.count] = word;

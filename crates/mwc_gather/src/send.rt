@@ -1,5 +1,6 @@
 //! Sending the words of a slice.
-ghost use Rattle.std.specs.Prelude.{◌≡◌, ◌<◌, ◌≤◌, ◌^◌, ◌++◌, ◌∷◌, [], IsTrue, IsFalse, true, length};
+ghost use Rattle.std.specs.Prelude.{◌≡◌, ◌<◌, ◌≤◌, ◌^◌, ◌++◌, ◌∷◌, [], IsTrue, IsFalse, true, length, ◌+◌};
+ghost use Rattle.coalitions.specs.declared.limits.TheConstants.{BITS, WORKERS, COALITIONS};
 ghost use Rattle.mwc_parts.specs.Slicing.{Slicing};
 ghost use Rattle.mwc_gather.specs.Slicings.{slicing};
 ghost use Rattle.mwc_gather.specs.Sending.{Sends, BreaksOnlyIfRefused};
@@ -89,10 +90,10 @@ pub fn send_slice<R: Wait, P: PipeIn<Word>, G: Gate>(
     left: u32,
     out: &mut P,
 ) -> Sent
-    requires bits { (bits ≤ 10) × (bits ≤ length guarded.now.names) }
+    requires bits { (bits ≤ BITS) × (bits ≤ length guarded.now.names) }
     requires slice { slice < 2 ^ bits }
-    requires worker { worker < 16 }
-    requires left { (0 < left) × (left ≤ 4000001) }
+    requires worker { worker < WORKERS }
+    requires left { (0 < left) × (left ≤ COALITIONS + 1) }
     requires gate { G.takes worker slice }
     ensures identity { P.identity out.new ≡ P.identity out.old }
     ensures sends { Sends (slicing guarded.now bits) slice left (P.accepted out.old)
@@ -120,9 +121,9 @@ pub(crate) fn send_behind<W: PutsRows<P>, R: Wait, P: PipeIn<Word>, G: Gate>(
     out: &mut P,
     pair: BellPair<'_>,
 ) -> Sent
-    requires bits { (bits ≤ 10) × (bits ≤ length guarded.now.names) }
+    requires bits { (bits ≤ BITS) × (bits ≤ length guarded.now.names) }
     requires slice { slice < 2 ^ bits }
-    requires left { (0 < left) × (left ≤ 4000001) }
+    requires left { (0 < left) × (left ≤ COALITIONS + 1) }
     requires gate { G.takes worker slice }
     ensures identity { P.identity out.new ≡ P.identity out.old }
     ensures sends { Sends (slicing guarded.now bits) slice left (P.accepted out.old)
@@ -142,7 +143,7 @@ fn send_walk<W: PutsRows<P>, R: Wait, P: PipeIn<Word>>(
     out: &mut P,
     pair: BellPair<'_>,
 ) -> Sent
-    requires left { (0 < left) × (left ≤ 4000001) }
+    requires left { (0 < left) × (left ≤ COALITIONS + 1) }
     ensures identity { P.identity out.new ≡ P.identity out.old }
     ensures sends { (g : Slicing) → g.slice slice ≡ walk.entry.to_come
         → Sends g slice left (P.accepted out.old) (P.accepted out.new) (P.broken out.new) result }

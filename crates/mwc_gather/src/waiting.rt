@@ -4,7 +4,9 @@
 //! processors than threads, and twice as often after a look that found something. No contract depends
 //! on it. A wake-up that is lost costs one millisecond, the longest sleep, and no more.
 ghost use Rattle.std.specs.Prelude.{◌<◌};
+ghost use Rattle.coalitions.specs.declared.limits.TheConstants.{WORKERS};
 
+use council_game::limits;
 use std::sync::Wait;
 use std::sync::atomic::{AtomicBool, AtomicU32, Ordering};
 use std::thread::Parker;
@@ -65,7 +67,7 @@ impl Bell {
 #[derive(Drop)]
 pub(crate) struct Bells {
     pub gatherer: Bell,
-    pub workers: [Bell; 16],
+    pub workers: [Bell; limits::WORKERS as usize],
 }
 
 impl Bells {
@@ -78,7 +80,7 @@ impl Bells {
 
     /// The bells of the ring of a worker, as the gatherer sees them.
     pub fn pair(&self, worker: usize) -> BellPair<'_>
-        requires { worker < 16 }
+        requires { worker < WORKERS }
     {
         BellPair {
             own: &self.gatherer,

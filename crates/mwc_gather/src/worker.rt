@@ -1,5 +1,6 @@
 //! The body of a worker's thread.
 ghost use Rattle.std.specs.Prelude.{◌≡◌, ℕ, ◌+◌, ◌<◌, ◌≤◌, ◌^◌, ◌++◌, ◌∷◌, [], length, IfOk, MatchOption};
+ghost use Rattle.coalitions.specs.declared.limits.TheConstants.{BITS, WORKERS, COALITIONS};
 ghost use Rattle.mwc_gather.specs.Slicings.{slicing};
 ghost use Rattle.mwc_gather.specs.Sending.{HasWorked};
 ghost use Rattle.mwc_gather.specs.Inner.Sending.{TakesLast, TakesTask};
@@ -68,9 +69,9 @@ pub fn work<R: Wait, G: Gate>(
     out: RingIn,
     tasks: RingOut,
 ) -> (Result<Closed, Unfinished>, RingOut)
-    requires bits { (bits ≤ 10) × (bits ≤ length guarded.now.names) }
-    requires worker { worker < 16 }
-    requires most { (1 ≤ most) × (most ≤ 4000000) }
+    requires bits { (bits ≤ BITS) × (bits ≤ length guarded.now.names) }
+    requires worker { worker < WORKERS }
+    requires most { (1 ≤ most) × (most ≤ COALITIONS) }
     requires fresh { (out.accepted ≡ []) × (tasks.taken ≡ []) }
     requires gate { (j : ℕ) → j < 2 ^ bits → G.takes worker j }
     ensures { HasWorked (slicing guarded.now bits) most out tasks result }
@@ -94,7 +95,7 @@ pub(crate) fn work_beside<R: Wait, G: Gate>(
     tasks: RingOut,
     pair: BellPair<'_>,
 ) -> (Result<Closed, Unfinished>, RingOut)
-    requires worker { worker < 16 }
+    requires worker { worker < WORKERS }
     requires fresh { (out.accepted ≡ []) × (tasks.taken ≡ []) }
     requires gate { (j : ℕ) → j < 2 ^ job.now.bits → G.takes worker j }
     ensures { HasWorked (slicing job.now.guarded job.now.bits) job.now.most out tasks result }
