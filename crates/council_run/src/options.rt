@@ -1,5 +1,6 @@
 //! What a run is to do.
 ghost use Rattle.std.specs.Prelude.{◌≤◌};
+ghost use Rattle.coalitions.specs.declared.limits.TheConstants.{BITS, WORKERS, COALITIONS};
 
 use council_report::Shown;
 
@@ -18,9 +19,9 @@ pub struct Options {
     pub sizes: bool,
     /// A line with the notation of each rule.
     pub notation: bool,
-    ghost workers_in_range: { (1 ≤ workers) × (workers ≤ 16) },
-    ghost bits_in_range: { bits ≤ 10 },
-    ghost most_in_range: { (1 ≤ most) × (most ≤ 4000000) },
+    ghost workers_in_range: { (1 ≤ workers) × (workers ≤ WORKERS) },
+    ghost bits_in_range: { bits ≤ BITS },
+    ghost most_in_range: { (1 ≤ most) × (most ≤ COALITIONS) },
 }
 
 impl Options {

@@ -1,5 +1,6 @@
 //! The words of the command line.
 ghost use Rattle.std.specs.Prelude.{◌≤◌};
+ghost use Rattle.coalitions.specs.declared.limits.TheConstants.{BITS, WORKERS, COALITIONS};
 
 use clap::{Arg, ArgAction, ArgMatches, Command, Error, value_parser};
 use coalitions::limits;
@@ -35,9 +36,9 @@ pub struct Wanted<'a> {
     pub tally: bool,
     /// Lines that say more of a fault of the game.
     pub explain: bool,
-    ghost workers_in_range: { (1 ≤ workers) × (workers ≤ 16) },
-    ghost bits_in_range: { bits ≤ 10 },
-    ghost most_in_range: { (1 ≤ most) × (most ≤ 4000000) },
+    ghost workers_in_range: { (1 ≤ workers) × (workers ≤ WORKERS) },
+    ghost bits_in_range: { bits ≤ BITS },
+    ghost most_in_range: { (1 ≤ most) × (most ≤ COALITIONS) },
 }
 
 const ABOUT: &str =

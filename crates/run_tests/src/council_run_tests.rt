@@ -6,6 +6,7 @@ mod texts;
 mod watches;
 
 ghost use Rattle.std.specs.Prelude.{ℕ, ◌≤◌, ◌<◌, ⊤};
+ghost use Rattle.coalitions.specs.declared.limits.TheConstants.{BITS, COALITIONS, WORKERS};
 
 use crate::helpers::same;
 use council_game::GameFault;
@@ -77,7 +78,7 @@ fn with_list() -> Options {
 }
 
 fn most(most: u32) -> Options
-    requires { (1 ≤ most) × (most ≤ 4000000) }
+    requires { (1 ≤ most) × (most ≤ COALITIONS) }
 {
     Options {
         workers: 4,
@@ -402,8 +403,8 @@ fn gated<T: Threads + Wait + Sync, G: Gate + Sync>(
     bits: u8,
     gate: &G,
 ) -> Result<Vec<u8>, RunFault>
-    requires workers { (1 ≤ workers) × (workers ≤ 16) }
-    requires bits { bits ≤ 10 }
+    requires workers { (1 ≤ workers) × (workers ≤ WORKERS) }
+    requires bits { bits ≤ BITS }
     requires gate { (w j : ℕ) → G.takes w j }
 {
     let options = Options {

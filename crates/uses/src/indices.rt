@@ -1,4 +1,5 @@
 //! The indices of a game.
+ghost use Rattle.coalitions.specs.declared.limits.TheConstants.{COALITIONS};
 ghost use Rattle.council_file.specs.File.{game_of};
 ghost use Rattle.council_game.specs.Game.{GameView, votes_of};
 ghost use Rattle.council_game.specs.Votes.{minimal_coalitions};
@@ -34,7 +35,7 @@ pub fn both_indices(
         p.1 ≡ lowest_terms
         (public_good game.now (minimal_coalitions (votes_of game.now)) member))) }
     ensures more { IfOk result
-        (λ o. IfNone o (4000000 < length (minimal_coalitions (votes_of game.now)))) }
+        (λ o. IfNone o (COALITIONS < length (minimal_coalitions (votes_of game.now)))) }
 {
     let Some(list) = list_all(alloc, game, limits::COALITIONS)? else {
         return Ok(None);
@@ -57,7 +58,7 @@ pub fn first_of_bytes(alloc: Global, bytes: &[u8]) -> Result<Option<(Index, Inde
         × (p.0 ≡ lowest_terms (deegan_packel g (minimal_coalitions (votes_of g)) 0))
         × (p.1 ≡ lowest_terms (public_good g (minimal_coalitions (votes_of g)) 0)))) }
     ensures more { IfOk result (λ o. IfNone o ((g : GameView) × (game_of bytes.now ≡ Ok g)
-        × (4000000 < length (minimal_coalitions (votes_of g))))) }
+        × (COALITIONS < length (minimal_coalitions (votes_of g))))) }
 {
     let game = parse_game(alloc, bytes)?;
     let _members = game.members();

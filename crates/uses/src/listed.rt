@@ -1,4 +1,5 @@
 //! Questions to the list of minimal winning coalitions.
+ghost use Rattle.coalitions.specs.declared.limits.TheConstants.{COALITIONS, PLAIN_MEMBERS};
 ghost use Rattle.council_game.specs.Game.{votes_of};
 ghost use Rattle.council_game.specs.Votes.{minimal_coalitions};
 ghost use Rattle.power_index.specs.Counting.{contains, count_of_member};
@@ -21,7 +22,7 @@ pub fn is_dummy(alloc: Global, game: &Game, member: usize) -> Result<Option<bool
     ensures dummy { IfOk result (λ o. IfSome o (λ dummy. dummy ≡
         (count_of_member game.now member (minimal_coalitions (votes_of game.now)) == 0))) }
     ensures more { IfOk result
-        (λ o. IfNone o (4000000 < length (minimal_coalitions (votes_of game.now)))) }
+        (λ o. IfNone o (COALITIONS < length (minimal_coalitions (votes_of game.now)))) }
 {
     let Some(list) = list_all(alloc, game, limits::COALITIONS)? else {
         return Ok(None);
@@ -65,11 +66,11 @@ pub fn listed_twice(
     alloc: Global,
     game: &Game,
 ) -> Result<Option<(Vec<Coalition>, Vec<Coalition>)>, Memory>
-    requires { length game.now.names ≤ 20 }
+    requires { length game.now.names ≤ PLAIN_MEMBERS }
     ensures twice { IfOk result (λ o. IfSome o (λ p. (p.0.items ≡ p.1.items)
         × (p.0.items ≡ minimal_coalitions (votes_of game.now)))) }
     ensures more { IfOk result
-        (λ o. IfNone o (4000000 < length (minimal_coalitions (votes_of game.now)))) }
+        (λ o. IfNone o (COALITIONS < length (minimal_coalitions (votes_of game.now)))) }
 {
     let Some(list) = list_all(alloc, game, limits::COALITIONS)? else {
         return Ok(None);

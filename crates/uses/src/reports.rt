@@ -1,4 +1,5 @@
 //! Reports in memory.
+ghost use Rattle.coalitions.specs.declared.limits.TheConstants.{COALITIONS};
 ghost use Rattle.council_game.specs.Game.{votes_of};
 ghost use Rattle.council_game.specs.Votes.{minimal_coalitions};
 ghost use Rattle.council_report.specs.Report.{report};
@@ -21,7 +22,7 @@ pub fn report_into_memory(
 ) -> Result<Option<Vec<u8>>, ReportFault>
     ensures report { IfOk result (λ o. IfSome o (λ v. v.items ≡ report shown game.now)) }
     ensures more { IfOk result
-        (λ o. IfNone o (4000000 < length (minimal_coalitions (votes_of game.now)))) }
+        (λ o. IfNone o (COALITIONS < length (minimal_coalitions (votes_of game.now)))) }
 {
     let Some(list) = list_all(alloc, game, limits::COALITIONS)? else {
         return Ok(None);

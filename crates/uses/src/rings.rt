@@ -1,5 +1,6 @@
 //! Words through a ring, from one thread to another.
 ghost use Rattle.std.specs.Prelude.{◌≡◌, ◌≤◌, [], IfOk, IfSome, length};
+ghost use Rattle.coalitions.specs.declared.limits.TheConstants.{CAPACITY};
 
 use council_game::Memory;
 use mwc_pipe::{Closed, Rest, RingIn, Unfinished, Word, ring};
@@ -43,7 +44,7 @@ pub fn through_a_ring<R: Threads>(
     words: Vec<Word>,
 ) -> Result<Option<Rest>, Memory>
     requires some { 1 ≤ length words.items }
-    requires few { length words.items ≤ 65536 }
+    requires few { length words.items ≤ CAPACITY }
     ensures { IfOk result (λ o. IfSome o (λ rest. rest ≡ words.items)) }
 {
     let (to, from) = ring(alloc, words.len())?;

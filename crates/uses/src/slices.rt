@@ -1,4 +1,5 @@
 //! A gate and a pipe of one's own.
+ghost use Rattle.coalitions.specs.declared.limits.TheConstants.{BITS};
 ghost use Rattle.mwc_gather.specs.Slicings.{slicing};
 ghost use Rattle.mwc_parts.specs.Wording.{slice_words};
 ghost use Rattle.std.specs.Prelude.{◌≡◌, ◌≤◌, ◌<◌, ◌^◌, ℕ, IfSome, length};
@@ -75,7 +76,7 @@ pub fn words_of_slice<R: Wait>(
     bits: u8,
     slice: u16,
 ) -> Option<Vec<Word>>
-    requires bits { (bits ≤ 10) × (bits ≤ length game.now.names) }
+    requires bits { (bits ≤ BITS) × (bits ≤ length game.now.names) }
     requires slice { slice < 2 ^ bits }
     ensures { IfSome result (λ v. v.items ≡ slice_words (slicing game.now bits) slice) }
 {

@@ -1,4 +1,5 @@
 //! Games with more coalitions than fit into memory.
+ghost use Rattle.coalitions.specs.declared.limits.TheConstants.{WORKERS};
 ghost use Rattle.council_game.specs.Game.{votes_of};
 ghost use Rattle.council_game.specs.Votes.{minimal_coalitions};
 ghost use Rattle.power_index.specs.Fractions.{lowest_terms};
@@ -27,7 +28,7 @@ pub fn tallied_index<R: Threads + Wait + Sync>(
     workers: u8,
 ) -> Result<Index, TallyFault>
     requires member { member < length game.now.names }
-    requires workers { (1 ≤ workers) × (workers ≤ 16) }
+    requires workers { (1 ≤ workers) × (workers ≤ WORKERS) }
     ensures { IfOk result (λ index. index ≡
         lowest_terms (deegan_packel game.now (minimal_coalitions (votes_of game.now)) member)) }
 {

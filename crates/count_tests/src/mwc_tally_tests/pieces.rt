@@ -1,4 +1,5 @@
 //! A list in three pieces, by any number of threads.
+ghost use Rattle.coalitions.specs.declared.limits.TheConstants.{WORKERS};
 ghost use Rattle.council_game.specs.Game.{AreNonemptyCoalitions};
 ghost use Rattle.std.specs.Prelude.{◌≤◌, IfOk, length};
 
@@ -42,7 +43,7 @@ pub(super) fn counts_of_three<R: Threads + Wait + Sync>(
     requires first { (length first.now ≤ 1000) × AreNonemptyCoalitions game.now first.now }
     requires second { (length second.now ≤ 1000) × AreNonemptyCoalitions game.now second.now }
     requires third { (length third.now ≤ 1000) × AreNonemptyCoalitions game.now third.now }
-    requires threads { (1 ≤ threads) × (threads ≤ 16) }
+    requires threads { (1 ≤ threads) × (threads ≤ WORKERS) }
 {
     let pieces = [first, second, third];
     tally_pieces(rt, game, &pieces, threads)

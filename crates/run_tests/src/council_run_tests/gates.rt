@@ -1,5 +1,6 @@
 //! Gates that see every slice of games with many of them.
 ghost use Rattle.std.specs.Prelude.{◌≤◌, ⊤};
+ghost use Rattle.coalitions.specs.declared.limits.TheConstants.{BITS, WORKERS};
 
 use super::same;
 use council_run::{Options, run};
@@ -58,8 +59,8 @@ fn sees_all<R: Abort + Print + Threads + Wait + Sync>(
     bits: u8,
     slices: u64,
 ) -> Result<(), Fail>
-    requires workers { (1 ≤ workers) × (workers ≤ 16) }
-    requires bits { bits ≤ 10 }
+    requires workers { (1 ≤ workers) × (workers ≤ WORKERS) }
+    requires bits { bits ≤ BITS }
 {
     let options = Options {
         workers,
