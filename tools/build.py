@@ -13,10 +13,10 @@ the other, since each of its runs keeps all others out of the folders of the lib
 of its own, crates/council/out/rooms/NAME, with the libraries below it as they were built, and what was kept goes
 back to crates/NAME/out, where every other command of `rt` finds it.
 
-After an interrupt, what was proved by then stays. As many libraries are proved at once as there are processors, and memory for (some 3 GB each). What only the
-program waits for, and does not take long, gives way to all others, and has a lane more: it fills the time in which
-the last library is proved. The log goes to crates/council/out/build.log, and a
-line for each library to standard error.
+After an interrupt, what was proved by then stays. As many libraries are proved at once as there are processors, and
+memory for (some 3 GB each). What only the program waits for, and does not take long, gives way to all others, and has
+a lane more: it fills the time in which the last library is proved. The log goes to crates/council/out/build.log, and
+a line for each library to standard error.
 """
 import fcntl
 import hashlib
