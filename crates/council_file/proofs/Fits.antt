@@ -21,8 +21,8 @@ none_gives : (f : Data → Bool) (o : Option Data) (d : Bool) → is_some o ≡ 
 none_gives f None d h = refl
 none_gives f (Some x) d h = absurd (false≢true (sym h))
 
-counted : (ds : List Data) → are_quotas ds ≡ true → (0 < length ds) × (length ds ≤ 4)
-counted ds h = (grind (arith, nat_tests), grind (arith, nat_tests))
+one_to_four : (ds : List Data) → are_quotas ds ≡ true → (0 < length ds) × (length ds ≤ 4)
+one_to_four ds h = (grind (arith, nat_tests), grind (arith, nat_tests))
 
 pub rules_count : (t : Members) → breaks_rules t ≡ false → lacks_quota t ≡ false → (0 < length (rules_of t)) × (length (rules_of t) ≤ 4)
 rules_count t ok quota =
@@ -33,7 +33,7 @@ rules_count t ok quota =
           let pass = quotas_pass (has_key (codes "quota") t) (has_key (codes "quotas") t) (are_quotas (elements_at (codes "quotas") t))
           (some_member_has (codes "weights") t) (some_member_has (codes "weight") t) many listed ok in
           let n = length (elements_at (codes "quotas") t) in
-          rw (many, length-map-range_with_len (rule_from t n) 0 n) (counted (elements_at (codes "quotas") t) pass)
+          rw (many, length-map-range_with_len (rule_from t n) 0 n) (one_to_four (elements_at (codes "quotas") t) pass)
     ]
 
 only_full : (t : Members) → length (only_rule t).weights ≡ length (member_list t)

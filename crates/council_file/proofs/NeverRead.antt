@@ -32,9 +32,9 @@ step : {A B : Type 0} (r : Result A GameFault) (f : A → Result B GameFault) �
 step (Ok x) f first second = second x
 step (Err fault) f first second = record { own = first.own }
 
-refused : (b : Bool) (fault : GameFault) → IsOwn fault → NoRead (refuse b fault)
-refused true fault own = record { own = own }
-refused false fault own = record { own = tt }
+no_read-refuse : (b : Bool) (fault : GameFault) → IsOwn fault → NoRead (refuse b fault)
+no_read-refuse true fault own = record { own = own }
+no_read-refuse false fault own = record { own = tt }
 
 refused_at : (fault : ℕ → GameFault) (found : Option ℕ) → ((k : ℕ) → IsOwn (fault k)) → NoRead (refuse_at fault found)
 refused_at fault None own = record { own = tt }
@@ -44,23 +44,23 @@ or : {A : Type 0} (o : Option A) (fault : GameFault) → IsOwn fault → NoRead 
 or None fault own = record { own = own }
 or (Some x) fault own = record { own = tt }
 
-chosen : {A : Type 0} (b : Bool) (x y : Result A GameFault) → NoRead x → NoRead y → NoRead (if b then x else y)
-chosen true x y first second = first
-chosen false x y first second = second
+no_read-if : {A : Type 0} (b : Bool) (x y : Result A GameFault) → NoRead x → NoRead y → NoRead (if b then x else y)
+no_read-if true x y first second = first
+no_read-if false x y first second = second
 
 made : (title : Option (List ℕ)) (names : List (List ℕ)) (rules : List RuleView) → NoRead (made_game title names rules)
 unfolding made_game
 made title names rules =
-    step _ _ (refused (option_map_or (λ t. not (is_title t)) title false) Title tt) (λ _.
-    step _ _ (refused (nat_lt (length names) 1 || nat_lt 40 (length names)) NoMembers tt) (λ _.
+    step _ _ (no_read-refuse (option_map_or (λ t. not (is_title t)) title false) Title tt) (λ _.
+    step _ _ (no_read-refuse (nat_lt (length names) 1 || nat_lt 40 (length names)) NoMembers tt) (λ _.
     step _ _ (refused_at Name (position (λ name. not (is_name name)) names) (λ _. tt)) (λ _.
     step _ _ (refused_at SameName (position (is_repeat names) (places names)) (λ _. tt)) (λ _.
     step _ _ (refused_at Weight (position (is_heavy rules) (range_with_len 0 (length names))) (λ _. tt)) (λ _.
-    step _ (λ _. Ok _) (refused (list_any has_bad_quota rules) QuotaRange tt) (λ _. record { own = tt }))))))
+    step _ (λ _. Ok _) (no_read-refuse (list_any has_bad_quota rules) QuotaRange tt) (λ _. record { own = tt }))))))
 
 text : (o : Option (List ℕ)) → NoRead (option_map_or (λ s. if is_title s then Ok (Some s) else Err Title) o (Err Title))
 text None = record { own = tt }
-text (Some s) = chosen (is_title s) (Ok (Some s)) (Err Title) (record { own = tt }) (record { own = tt })
+text (Some s) = no_read-if (is_title s) (Ok (Some s)) (Err Title) (record { own = tt }) (record { own = tt })
 
 titled : (o : Option Data) → NoRead (title_from o)
 titled None = record { own = tt }
@@ -69,15 +69,15 @@ titled (Some d) = text (as_str d)
 pub of-tree : (t : Members) → NoRead (game_of_tree t)
 unfolding game_of_tree
 of-tree t =
-    step _ _ (refused (has_unknown_key t) UnknownKey tt) (λ _.
+    step _ _ (no_read-refuse (has_unknown_key t) UnknownKey tt) (λ _.
     step _ _ (titled (get_member (codes "title") t)) (λ title.
-    step _ _ (refused (breaks_rules t) Rules tt) (λ _.
-    step _ _ (refused (lacks_quota t) Quota tt) (λ _.
-    step _ _ (refused (not (are_members (member_list t))) NoMembers tt) (λ _. made title (map name_from (member_list t)) (rules_of t))))))
+    step _ _ (no_read-refuse (breaks_rules t) Rules tt) (λ _.
+    step _ _ (no_read-refuse (lacks_quota t) Quota tt) (λ _.
+    step _ _ (no_read-refuse (not (are_members (member_list t))) NoMembers tt) (λ _. made title (map name_from (member_list t)) (rules_of t))))))
 
 pub to-tree : (bytes : List ℕ) → NoRead (tree_of bytes)
 unfolding tree_of
-to-tree bytes = step _ _ (refused (not (is_utf8 bytes)) Text tt) (λ _. or (parse_document bytes) Text tt)
+to-tree bytes = step _ _ (no_read-refuse (not (is_utf8 bytes)) Text tt) (λ _. or (parse_document bytes) Text tt)
 
 pub of-bracket : (bytes : List ℕ) → NoRead (game_of_bracket bytes)
 unfolding game_of_bracket

@@ -101,32 +101,32 @@ pub fresh_push : (desks : List Desk) (d : Desk) → All IsFresh (views_of desks)
 fresh_push desks d a f =
     subst (λ (w : List DeskView). All IsFresh w) (sym (map_push view_of desks d)) (All-push IsFresh (views_of desks) (view_of d) a f)
 
-pub note_many : (m : Met) (why : GatherFault) (P : Type 0) → (why ≡ TooMany → P) → (m.many ≡ true → P) → (also m why).many ≡ true → P
-note_many m TooMany P f h e = f refl
-note_many m Start P f h e = h e
-note_many m Memory P f h e = h e
-note_many m Ring P f h e = h e
+pub many_is_new_or_old : (m : Met) (why : GatherFault) (P : Type 0) → (why ≡ TooMany → P) → (m.many ≡ true → P) → (also m why).many ≡ true → P
+many_is_new_or_old m TooMany P f h e = f refl
+many_is_new_or_old m Start P f h e = h e
+many_is_new_or_old m Memory P f h e = h e
+many_is_new_or_old m Ring P f h e = h e
 
-noted_memory : (a : Bool) → cond a (Some Start) (Some Memory) ≡ None → ⊥
-noted_memory true e = cc
-noted_memory false e = cc
+memory_is_met : (a : Bool) → cond a (Some Start) (Some Memory) ≡ None → ⊥
+memory_is_met true e = cc
+memory_is_met false e = cc
 
-noted_ring : (a b : Bool) → cond a (Some Start) (cond b (Some Memory) (Some Ring)) ≡ None → ⊥
-noted_ring true b e = cc
-noted_ring false true e = cc
-noted_ring false false e = cc
+ring_is_met : (a b : Bool) → cond a (Some Start) (cond b (Some Memory) (Some Ring)) ≡ None → ⊥
+ring_is_met true b e = cc
+ring_is_met false true e = cc
+ring_is_met false false e = cc
 
-noted_many : (a b c : Bool) → cond a (Some Start) (cond b (Some Memory) (cond c (Some Ring) (Some TooMany))) ≡ None → ⊥
-noted_many true b c e = cc
-noted_many false true c e = cc
-noted_many false false true e = cc
-noted_many false false false e = cc
+many_is_met : (a b c : Bool) → cond a (Some Start) (cond b (Some Memory) (cond c (Some Ring) (Some TooMany))) ≡ None → ⊥
+many_is_met true b c e = cc
+many_is_met false true c e = cc
+many_is_met false false true e = cc
+many_is_met false false false e = cc
 
-pub noted : (m : Met) (why : GatherFault) → fault_of (also m why) ≡ None → ⊥
-noted m Start e = cc
-noted m Memory e = noted_memory m.start e
-noted m Ring e = noted_ring m.start m.memory e
-noted m TooMany e = noted_many m.start m.memory m.ring e
+pub one_is_met : (m : Met) (why : GatherFault) → fault_of (also m why) ≡ None → ⊥
+one_is_met m Start e = cc
+one_is_met m Memory e = memory_is_met m.start e
+one_is_met m Ring e = ring_is_met m.start m.memory e
+one_is_met m TooMany e = many_is_met m.start m.memory m.ring e
 
 pub head_of : {X : Type 0} (P : X → Type 0) (x : X) (xs ys : List X) → ys ≡ x ∷ xs → All P ys → P x
 head_of {X} P x xs ys e a = All-head P x xs (subst (λ (l : List X). All P l) e a)

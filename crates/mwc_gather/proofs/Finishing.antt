@@ -19,7 +19,7 @@ use Rattle.mwc_gather.specs.declared.dealing.Deal.{Deal}
 use Rattle.mwc_gather.specs.Inner.Orders.{slicing_of}
 use Rattle.mwc_gather.specs.Inner.Desks.{IsOf, AllOf, CanEndWith, IsPartOfDesk, DealsTo}
 use Rattle.mwc_gather.specs.Inner.Gathering.{all_total, IsComplete}
-use Rattle.mwc_gather.proofs.Ends.{note_many, noted, head_of, one_done, desks_within, completes}
+use Rattle.mwc_gather.proofs.Ends.{many_is_new_or_old, one_is_met, head_of, one_done, desks_within, completes}
 use Rattle.mwc_gather.proofs.Faults.{noted_after, noted_none, ends_of}
 
 -- some of the workers have ended, and the rest are still to be joined: what was met follows from their answers, and where nothing was met
@@ -64,14 +64,14 @@ module _ {g : Slicing} {most : ℕ} {start met : Met} {desks old rest : List Des
       let few : within d = head_of within d rest old step f.within in record {
         all_of = All-rest (IsOf g most) d rest old step f.all_of;
         within = All-rest within d rest old step f.within;
-        many = λ z. note_many met why (most < all_total g) (λ t. let over = ends.2 t in omega arith) f.many
+        many = λ z. many_is_new_or_old met why (most < all_total g) (λ t. let over = ends.2 t in omega arith) f.many
             (sym (ap (λ (m : Met). m.many) e) ∙ z);
         done = f.done ++ d ∷ [];
         split = one_done f.done rest old desks d step f.split;
         whys = f.whys ++ Some why ∷ [];
         ends = all_zipped_more (CanEndWith g most) f.done f.whys d (Some why) f.ends ends;
         met_is = noted_after start met after f.whys why f.met_is e;
-        none = λ n. absurd (noted met why (sym (ap fault_of e) ∙ n));
+        none = λ n. absurd (one_is_met met why (sym (ap fault_of e) ∙ n));
       }
 
   -- one more has ended with a part

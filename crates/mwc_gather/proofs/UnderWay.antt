@@ -37,10 +37,10 @@ module _ {all : List ℕ} {j wanted left : ℕ} {before : List Word} where
       }
 
   -- the pipe took some of the row, and no more
-  pub refused : {to_come : List ℕ} {out row after : List Word} (g : Slicing) → g.slice j ≡ all
+  pub takes_some : {to_come : List ℕ} {out row after : List Word} (g : Slicing) → g.slice j ≡ all
       → UnderWay all j wanted left before to_come out row → SendsSome out row after
       → (words : List Word) × (after ≡ before ++ words) × IsPrefix words (sending g j wanted)
-  refused {to_come} {out} {row} {after} g e u some =
+  takes_some {to_come} {out} {row} {after} g e u some =
       let count = u.count in
       some_starts before (Open j ∷ map One u.given) out row after (sending g j wanted) u.first some
       (starts_sending g j wanted u.given to_come (e ∙ u.split) (omega arith))
@@ -60,10 +60,10 @@ module _ {all : List ℕ} {j wanted left : ℕ} {before : List Word} where
       )
 
   -- with the word that ends it, where nothing is to come
-  ended : {out row mid new : List Word} (g : Slicing) → g.slice j ≡ all → (u : UnderWay all j wanted left before [] out row)
+  sends_end : {out row mid new : List Word} (g : Slicing) → g.slice j ≡ all → (u : UnderWay all j wanted left before [] out row)
       → SendsFirst out (row ++ Done j ∷ []) mid new
       → SendsFirst before (slice_words g j) mid new
-  ended {out} {row} {mid} {new} g e u s =
+  sends_end {out} {row} {mid} {new} g e u s =
       let whole : g.slice j ≡ u.given = e ∙ u.split ∙ append-nil u.given in
       subst (λ (w : List ℕ). SendsFirst before ((Open j ∷ map One w) ++ Done j ∷ []) mid new) (sym whole)
       (first_added before (Open j ∷ map One u.given) out row (Done j ∷ []) mid new u.first s)
@@ -72,15 +72,15 @@ module _ {all : List ℕ} {j wanted left : ℕ} {before : List Word} where
       → left + length (g.slice j) ≡ wanted
   short g e u = let count = u.count in let whole = ap length (e ∙ u.split ∙ append-nil u.given) in omega arith
 
-  pub refused_end : {out row mid new after : List Word} (g : Slicing) → g.slice j ≡ all → UnderWay all j wanted left before [] out row
+  pub takes_some_at_end : {out row mid new after : List Word} (g : Slicing) → g.slice j ≡ all → UnderWay all j wanted left before [] out row
       → 0 < left → SendsFirst out (row ++ Done j ∷ []) mid new
       → SendsSome mid new after → (words : List Word) × (after ≡ before ++ words) × IsPrefix words (sending g j wanted)
-  refused_end {out} {row} {mid} {new} {after} g e u more s some =
+  takes_some_at_end {out} {row} {mid} {new} {after} g e u more s some =
       let count = short g e u in
-      some_starts before (slice_words g j) mid new after (sending g j wanted) (ended g e u s) some (whole_starts g j wanted (omega arith))
+      some_starts before (slice_words g j) mid new after (sending g j wanted) (sends_end g e u s) some (whole_starts g j wanted (omega arith))
 
   pub sent_whole : {out row mid new after : List Word} (g : Slicing) → g.slice j ≡ all → UnderWay all j wanted left before [] out row
       → 0 < left → SendsFirst out (row ++ Done j ∷ []) mid new
       → after ≡ mid ++ new → (after ≡ before ++ slice_words g j) × (length (g.slice j) < wanted) × (left + length (g.slice j) ≡ wanted)
   sent_whole {out} {row} {mid} {new} {after} g e u more s sent =
-      let count = short g e u in (first_all before (slice_words g j) mid new after (ended g e u s) sent, omega arith, count)
+      let count = short g e u in (first_all before (slice_words g j) mid new after (sends_end g e u s) sent, omega arith, count)

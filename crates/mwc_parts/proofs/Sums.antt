@@ -39,10 +39,10 @@ shares_more parts j i part l e z h =
     let q = ap f e in
     omega arith
 
-pub counted : (parts : List Part) (i : ℕ) (part : Part) → i < length parts → part ≡ get_or parts i part
+pub lengths_more : (parts : List Part) (i : ℕ) (part : Part) → i < length parts → part ≡ get_or parts i part
     → sum_by (λ (p : Part). length p.got.items) (take (i + 1) parts) ≡ sum_by (λ (p : Part). length p.got.items)
     (take i parts) + length part.got.items
-counted parts i part l e =
+lengths_more parts i part l e =
     let f = λ (p : Part). length p.got.items in
     let a = sum_by_more f parts i part l in
     let q = ap f e in

@@ -95,10 +95,10 @@ members-are g ws q heads h =
     let some = h.votes.has_rule in
     ap (λ (l : List ℕ). length l) h.weights ∙ (rule-is (votes_of g) 0 h.votes (omega (arith, some))).full
 
-ended : (g : GameView) (ws : List ℕ) (q heads : ℕ) → AreAsked g ws q heads
+game-ended : (g : GameView) (ws : List ℕ) (q heads : ℕ) → AreAsked g ws q heads
     → AreEnded (length ws) (minimal_coalitions (votes_of g)) ws heads q
 unfolding minimal_coalitions
-ended g ws q heads h = by_case h.asked
+game-ended g ws q heads h = by_case h.asked
   where
     v : Votes
     v = votes_of g
@@ -142,13 +142,13 @@ ended g ws q heads h = by_case h.asked
 
 pub game-less : (g : GameView) (ws : List ℕ) (q heads : ℕ) → AreAsked g ws q heads → (p s : ℕ) → p < length ws → s ≤ 40
     → endings (left_out p ws) heads s q 0 ≤ endings ws heads s q 0
-game-less g ws q heads h p s lt small = let e = (ended g ws q heads h).each p s lt in omega (arith, e)
+game-less g ws q heads h p s lt small = let e = (game-ended g ws q heads h).each p s lt in omega (arith, e)
 
 pub game-all : (g : GameView) (ws : List ℕ) (q heads : ℕ) (t : Tally) → AreAsked g ws q heads → AreEndings ws heads q t
     → IsTallyOf (length g.names) (λ c. true) (minimal_coalitions (votes_of g)) t
 game-all g ws q heads t h is =
     subst (λ (n : ℕ). IsTallyOf n (λ c. true) (minimal_coalitions (votes_of g)) t) (members-are g ws q heads h)
-    (record { long = is.long; sizes = λ s small. is.sizes s small ∙ sym ((ended g ws q heads h).all s) })
+    (record { long = is.long; sizes = λ s small. is.sizes s small ∙ sym ((game-ended g ws q heads h).all s) })
 
 pub game-each : (g : GameView) (ws : List ℕ) (q heads : ℕ) (each : List Tally) → AreAsked g ws q heads
     → ((p : ℕ) → p < length ws → AreEndingsWith ws heads q p (get_or each p no_tally))
@@ -162,6 +162,6 @@ game-each g ws q heads each h are p lt =
       long = own.long;
       sizes = λ s small. (
           let a = own.sizes s small in
-          let b = (ended g ws q heads h).each p s (omega (arith, long, lt)) in
+          let b = (game-ended g ws q heads h).each p s (omega (arith, long, lt)) in
           omega (arith, a, b));
     })

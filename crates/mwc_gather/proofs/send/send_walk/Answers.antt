@@ -1,13 +1,13 @@
 use Rattle.std.specs.Prelude.{◌≡◌, [], ◌++◌, List}
 use Rattle.std.proofs.Common.{rules, arith, ◌∙◌, ap}
 use Rattle.mwc_pipe.specs.declared.word.Word.{Word}
-use Rattle.mwc_gather.proofs.UnderWay.{one_more, refused, sent_cut, refused_end, sent_whole}
+use Rattle.mwc_gather.proofs.UnderWay.{one_more, takes_some, sent_cut, takes_some_at_end, sent_whole}
 use Rattle.mwc_gather.proofs.send.send_walk.Goals as goal
 
 pub returns-then-not-add-clause-sends : goal.returns-then-not-add-clause-sends
 returns-then-not-add-clause-sends g c =
     let no = c.if-not-add.ensures.refused (search rules) in
-    λ h e. (no.1, refused h e c.loop-coalition.invariant.sent no.0)
+    λ h e. (no.1, takes_some h e c.loop-coalition.invariant.sent no.0)
 
 pub returns-then-not-send-clause-sends : goal.returns-then-not-send-clause-sends
 returns-then-not-send-clause-sends g c =
@@ -15,7 +15,7 @@ returns-then-not-send-clause-sends g c =
     let added = c.if-not-add.ensures.added (search rules) in
     let more = one_more {next = 0} c.in-Some.coalition c.loop-coalition.invariant.sent c.in-Some.ensures.next (omega arith) added.0 in
     let no = c.if-not-send.ensures.refused (search rules) in
-    λ h e. (no.1, refused h e more (rw c.words.ensures at no.0))
+    λ h e. (no.1, takes_some h e more (rw c.words.ensures at no.0))
 
 pub returns-then-left-eq0-clause-sends : goal.returns-then-left-eq0-clause-sends
 returns-then-left-eq0-clause-sends g c =
@@ -39,7 +39,7 @@ loop-coalition-preserved g c =
 pub returns-then-not-add-2-clause-sends : goal.returns-then-not-add-2-clause-sends
 returns-then-not-add-2-clause-sends g c =
     let no = c.if-not-add-2.ensures.refused (search rules) in
-    λ h e. (no.1, refused h e c.loop-coalition.invariant.sent no.0)
+    λ h e. (no.1, takes_some h e c.loop-coalition.invariant.sent no.0)
 
 pub returns-then-not-send-2-clause-sends : goal.returns-then-not-send-2-clause-sends
 returns-then-not-send-2-clause-sends g c =
@@ -48,7 +48,7 @@ returns-then-not-send-2-clause-sends g c =
     let no = c.if-not-send-2.ensures.refused (search rules) in
     λ h e. (
       no.1,
-      refused_end h e (rw none at c.loop-coalition.invariant.sent) c.loop-coalition.invariant.some_left added.0
+      takes_some_at_end h e (rw none at c.loop-coalition.invariant.sent) c.loop-coalition.invariant.some_left added.0
           (rw c.words-2.ensures at no.0),
     )
 
