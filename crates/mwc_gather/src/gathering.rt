@@ -104,8 +104,7 @@ fn run<'s, E, R: Threads + Wait + Sync, G: Gate + Sync>(
 
 /// All that was gathered, unless there is more than was asked for.
 fn all_of(order: &Order, workers: u8, parts: Vec<Part>) -> Result<Gathered, GatherFault>
-    requires bits { (order.now.bits ≤ BITS) × (order.now.bits ≤ length order.now.game.value.names) }
-    requires complete { IsComplete (slicing_of order.now) workers parts.items }
+    requires { IsComplete (slicing_of order.now) workers parts.items }
     ensures gathers { IfOk result
         (Gathers (votes_of order.now.game.value) order.now.bits workers order.now.most) }
     ensures many { result ≡ Err GatherFault.TooMany

@@ -1,4 +1,7 @@
 //! What is asked of the workers, for proofs.
+ghost use Rattle.std.specs.Prelude.{◌≤◌, length};
+ghost use Rattle.coalitions.specs.declared.limits.TheConstants.{BITS};
+
 use council_game::Game;
 use std::snapshot::Snapshot;
 
@@ -8,8 +11,9 @@ use std::snapshot::Snapshot;
 pub(crate) struct Order {
     /// The game, for proofs alone.
     pub game: Snapshot<Game>,
-    /// How many of the heaviest members are fixed in each slice, 0 to 10.
+    /// How many of the heaviest members are fixed in each slice, 0 to 10, and no more than members.
     pub bits: u8,
     /// How many coalitions are wanted at most, 1 to 4,000,000.
     pub most: u32,
+    ghost bits_fit: { (bits ≤ BITS) × (bits ≤ length game.value.names) },
 }

@@ -11,24 +11,24 @@ use Rattle.mwc_gather.proofs.gathering.all_of.Goals as goal
 pub returns-then-not-fits-clause-many : goal.returns-then-not-fits-clause-many
 returns-then-not-fits-clause-many c =
     let order = c.args.order.now in
-    let sum = complete_sum c.requires.complete in
-    let all = all_total_is order.game.value order.bits c.requires.bits.0 c.requires.bits.1 in
+    let sum = complete_sum c.requires in
+    let all = all_total_is order.game.value order.bits order.bits_fit.0 order.bits_fit.1 in
     let over = c.fits.ensures.many c.if-not-fits.true in
     let items = ap (sum_by (λ (p : Part). length p.got.items)) c.as_slice.ensures.value in
     omega arith
 
 pub invariant_of-result : goal.invariant_of-result
 invariant_of-result c =
-    record { each_slice_once = rw c.slice_count.ensures (dealt_each_once c.args.parts.items c.requires.complete.dealt) }
+    record { each_slice_once = rw c.slice_count.ensures (dealt_each_once c.args.parts.items c.requires.dealt) }
 
 pub returns-clause-gathers : goal.returns-clause-gathers
 returns-clause-gathers c =
     let order = c.args.order.now in
-    let complete = c.requires.complete in
+    let complete = c.requires in
     let game : Slicing = slicing_of order in
     let parts : List Part = c.args.parts.items in
     let sum = complete_sum complete in
-    let all = all_total_is order.game.value order.bits c.requires.bits.0 c.requires.bits.1 in
+    let all = all_total_is order.game.value order.bits order.bits_fit.0 order.bits_fit.1 in
     let under = c.fits.ensures.few c.if-not-fits.false in
     let items = ap (sum_by (λ (p : Part). length p.got.items)) c.as_slice.ensures.value in
     record {
@@ -38,5 +38,5 @@ returns-clause-gathers c =
       pieces = all_pieces game parts complete.are_parts;
       begins = complete.begins;
       few = omega arith;
-      whole = rw c.slice_count.ensures (whole order.game.value order.bits c.requires.bits.0 c.requires.bits.1);
+      whole = rw c.slice_count.ensures (whole order.game.value order.bits order.bits_fit.0 order.bits_fit.1);
     }

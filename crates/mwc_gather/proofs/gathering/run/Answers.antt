@@ -56,8 +56,8 @@ returns-in_err-parts-clause-many g c = λ e.
     let over : c.order-order.result.most < all_total (slicing_of c.order-order.result) = search rules in
     omega arith
 
-pub all_of-requires-clause-complete : goal.all_of-requires-clause-complete
-all_of-requires-clause-complete g c =
+pub all_of-requires : goal.all_of-requires
+all_of-requires g c =
     let order : Order = c.order-order.result in
     let same = c.open_all-desks.ensures.all c.in_ok-parts.ensures.none in
     let some = c.requires.workers.0 in
