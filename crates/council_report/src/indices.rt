@@ -32,8 +32,10 @@ fn push_fraction(out: &mut Vec<u8>, fraction: Fraction) -> Result<(), AllocError
 /// Two fields: an index as a fraction and as decimals.
 fn push_index(out: &mut Vec<u8>, index: Fraction) -> Result<(), AllocError>
     requires { IsIndex (pair_of index) }
-    ensures items { OnOk result (out.new.items ≡ out.old.items ++ flat_map with_tab (index_fields (pair_of index))) }
-    ensures room { MakesRoomFor out.old out.new result (flat_map with_tab (index_fields (pair_of index))) }
+    ensures items { OnOk result (out.new.items ≡ out.old.items
+        ++ flat_map with_tab (index_fields (pair_of index))) }
+    ensures room { MakesRoomFor out.old out.new result
+        (flat_map with_tab (index_fields (pair_of index))) }
 {
     push_fraction(out, index)?;
     push_field(out, &index.decimals())

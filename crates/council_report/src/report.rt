@@ -115,7 +115,8 @@ fn send<W: Write>(
     ensures ok { OnOk result (Appends (progress_of (W.contents writer.old) block).bytes
         (W.contents writer.new) (lines_of shown counted.now (flat_map (λ p. p.now) pieces.now))) }
     ensures err { IfErr result (λ fault. StopsIn (progress_of (W.contents writer.old) block)
-        (lines_of shown counted.now (flat_map (λ p. p.now) pieces.now)) (W.contents writer.new) fault.written) }
+        (lines_of shown counted.now (flat_map (λ p. p.now) pieces.now))
+        (W.contents writer.new) fault.written) }
 {
     block.settle(writer)?;
     put_lines(&mut block, writer, counted, pieces, &mut line, shown)?;
@@ -123,7 +124,8 @@ fn send<W: Write>(
 }
 
 /// Writes the report of a game over a list of its coalitions with these counts. The list need be there,
-/// in pieces, only where it is shown.
+/// in pieces, only where it is shown. The lines are made from the counts; that they are those of the
+/// list is shown here.
 fn write_over<W: Write>(
     alloc: Global,
     game: &Game,
@@ -137,8 +139,7 @@ fn write_over<W: Write>(
     requires pieces { shown.list ≡ true → flat_map (λ p. p.now) pieces.now ≡ list }
     requires coalitions { AreNonemptyCoalitions game.now (flat_map (λ p. p.now) pieces.now) }
     requires counts { AreCounts game.now list counts.now }
-    ensures count { IfOk result (λ count.
-        count ≡ length (report_over shown game.now list)) }
+    ensures count { IfOk result (λ count. count ≡ length (report_over shown game.now list)) }
     ensures ok { OnOk result (Appends (W.contents writer.old) (W.contents writer.new)
         (report_over shown game.now list)) }
     ensures err { IfErr result (Falls (W.contents writer.old) (W.contents writer.new)
