@@ -1,4 +1,6 @@
 //! The limits of games and of runs, each in one place.
+ghost use Rattle.std.specs.Prelude.{◌≡◌, ◌*◌, ◌^◌, ◌+◌};
+ghost use Rattle.coalitions.specs.declared.limits.TheConstants.{MEMBERS, SIZES, RULES, WEIGHT, TOTAL, TITLE_BYTES, NAME_BYTES, FILE_BYTES, BITS, SLICES, WORKERS, COALITIONS, CAPACITY, PLAIN_MEMBERS};
 
 /// A game has at most so many members.
 pub const MEMBERS: usize = 40;
@@ -41,3 +43,21 @@ pub const CAPACITY: usize = 65_536;
 
 /// Each coalition of a game is tried only where it has at most so many members.
 pub const PLAIN_MEMBERS: usize = 20;
+
+/// What the limits are, as numbers: contracts and definitions name them.
+pub fn are_these_numbers()
+    ensures members { MEMBERS ≡ 40 }
+    ensures sizes { SIZES ≡ MEMBERS + 1 }
+    ensures rules { RULES ≡ 4 }
+    ensures weight { WEIGHT ≡ 10 ^ 12 }
+    ensures total { TOTAL ≡ MEMBERS * WEIGHT }
+    ensures title { TITLE_BYTES ≡ 200 }
+    ensures name { NAME_BYTES ≡ 64 }
+    ensures file { FILE_BYTES ≡ 65536 }
+    ensures bits { BITS ≡ 10 }
+    ensures slices { SLICES ≡ 2 ^ BITS }
+    ensures workers { WORKERS ≡ 16 }
+    ensures coalitions { COALITIONS ≡ 4000000 }
+    ensures capacity { CAPACITY ≡ 65536 }
+    ensures plain { PLAIN_MEMBERS ≡ 20 }
+{}
