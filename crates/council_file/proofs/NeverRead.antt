@@ -73,7 +73,8 @@ of-tree t =
     step _ _ (titled (get_member (codes "title") t)) (λ title.
     step _ _ (no_read-refuse (breaks_rules t) Rules tt) (λ _.
     step _ _ (no_read-refuse (lacks_quota t) Quota tt) (λ _.
-    step _ _ (no_read-refuse (not (are_members (member_list t))) NoMembers tt) (λ _. made title (map name_from (member_list t)) (rules_of t))))))
+    step _ _ (no_read-refuse (not (are_members (member_list t))) NoMembers tt) (λ _.
+    made title (map name_from (member_list t)) (rules_of t))))))
 
 pub to-tree : (bytes : List ℕ) → NoRead (tree_of bytes)
 unfolding tree_of

@@ -1,7 +1,6 @@
 //! Coalitions by their members, and members by their names.
-ghost use Rattle.std.specs.Prelude.{◌≡◌, ◌<◌, ◌^◌, ◌==◌, ℕ, All, IfOk, IfSome, length, map, position, slice_index, nat_eq};
+ghost use Rattle.std.specs.Prelude.{◌≡◌, ◌<◌, ◌^◌, ◌==◌, ℕ, All, IfOk, length, map, slice_index};
 ghost use Rattle.std.specs.List.{list_any};
-ghost use Rattle.std.specs.Cmp.Lexicographic.{pointwise};
 ghost use Rattle.council_game.specs.Ranks.{member_at};
 ghost use Rattle.council_game.specs.Votes.{has, places_of};
 

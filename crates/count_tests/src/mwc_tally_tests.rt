@@ -3,8 +3,6 @@ mod pieces;
 mod refusals;
 mod stops;
 
-ghost use Rattle.std.specs.Prelude.{◌≤◌};
-
 use crate::helpers::same;
 use council_game::{Game, GameFault};
 use mwc_tally::{NoWatch, Watch, tally, tally_slice};

@@ -101,7 +101,8 @@ pub fresh_push : (desks : List Desk) (d : Desk) → All IsFresh (views_of desks)
 fresh_push desks d a f =
     subst (λ (w : List DeskView). All IsFresh w) (sym (map_push view_of desks d)) (All-push IsFresh (views_of desks) (view_of d) a f)
 
-pub many_is_new_or_old : (m : Met) (why : GatherFault) (P : Type 0) → (why ≡ TooMany → P) → (m.many ≡ true → P) → (also m why).many ≡ true → P
+pub many_is_new_or_old : (m : Met) (why : GatherFault) (P : Type 0) → (why ≡ TooMany → P) → (m.many ≡ true → P)
+    → (also m why).many ≡ true → P
 many_is_new_or_old m TooMany P f h e = f refl
 many_is_new_or_old m Start P f h e = h e
 many_is_new_or_old m Memory P f h e = h e

@@ -77,7 +77,8 @@ module _ {all : List ℕ} {j wanted left : ℕ} {before : List Word} where
       → SendsSome mid new after → (words : List Word) × (after ≡ before ++ words) × IsPrefix words (sending g j wanted)
   takes_some_at_end {out} {row} {mid} {new} {after} g e u more s some =
       let count = short g e u in
-      some_starts before (slice_words g j) mid new after (sending g j wanted) (sends_end g e u s) some (whole_starts g j wanted (omega arith))
+      some_starts before (slice_words g j) mid new after (sending g j wanted) (sends_end g e u s) some
+      (whole_starts g j wanted (omega arith))
 
   pub sent_whole : {out row mid new after : List Word} (g : Slicing) → g.slice j ≡ all → UnderWay all j wanted left before [] out row
       → 0 < left → SendsFirst out (row ++ Done j ∷ []) mid new

@@ -1,5 +1,5 @@
 //! How many members are asked for, and in how many ways some of the members can be chosen.
-ghost use Rattle.std.specs.Prelude.{◌≡◌, ℕ, ◌+◌, ◌-◌, ◌≤◌, ◌<◌, if◌then◌else◌, nat_lt, IfOk, length, slice_index};
+ghost use Rattle.std.specs.Prelude.{◌≡◌, ℕ, ◌+◌, ◌-◌, ◌≤◌, ◌<◌, if◌then◌else◌, nat_lt, IfOk, slice_index};
 ghost use Rattle.coalitions.specs.declared.limits.TheConstants.{MEMBERS};
 ghost use Rattle.mwc_sums.specs.Inner.Choices.{choose};
 ghost use Rattle.mwc_sums.specs.Inner.Rows.{AreChoices};

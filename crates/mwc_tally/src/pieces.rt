@@ -1,9 +1,9 @@
 //! Counts of a list that lies in pieces, by several threads.
 ghost use Rattle.coalitions.specs.declared.limits.TheConstants.{MEMBERS, WORKERS};
-ghost use Rattle.council_game.specs.Game.{IsGame, AreNonemptyCoalitions};
+ghost use Rattle.council_game.specs.Game.{AreNonemptyCoalitions};
 ghost use Rattle.power_index.specs.Tables.{AreCounts, AreTallies};
 ghost use Rattle.std.specs.List.{flat_map};
-ghost use Rattle.std.specs.Prelude.{◌≡◌, ℕ, ◌+◌, ◌*◌, ◌<◌, ◌≤◌, ◌^◌, ⊤, IfOk, IfErr, MatchOption, length, drop, take};
+ghost use Rattle.std.specs.Prelude.{◌≡◌, ◌+◌, ◌*◌, ◌<◌, ◌≤◌, ◌^◌, ⊤, IfOk, IfErr, MatchOption, length, drop, take};
 ghost use Rattle.mwc_tally.specs.Inner.Threads.{IsGivenPart};
 
 use crate::fault::TallyFault;

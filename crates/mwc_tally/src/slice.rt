@@ -1,5 +1,5 @@
 //! The counts of one slice.
-ghost use Rattle.std.specs.Prelude.{◌≡◌, ◌≤◌, ◌<◌, ◌^◌, length, MatchOption};
+ghost use Rattle.std.specs.Prelude.{◌≤◌, ◌<◌, ◌^◌, length, MatchOption};
 ghost use Rattle.coalitions.specs.declared.limits.TheConstants.{BITS};
 ghost use Rattle.mwc_tally.specs.declared.watch.TheConstants.{EACH};
 ghost use Rattle.council_game.specs.Game.{votes_of};

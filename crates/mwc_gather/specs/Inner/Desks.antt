@@ -39,7 +39,8 @@ pub record IsPartOfDesk (g : Slicing) (d : Desk) (p : Part) : Type 0 where
 -- Start; where something was lost it is Memory, and it is TooMany only where the slices given have more coalitions than were asked for
 abbrev pub CanEndWith : Slicing → ℕ → Desk → Option GatherFault → Type 0
 CanEndWith g most d None = IsWell (view_of d) × (d.told ≡ true)
-CanEndWith g most d (Some why) = (why ≢ Start) × (d.draft.lost ≡ true → why ≡ Memory) × (why ≡ TooMany → most < coalition_count g d.given.items)
+CanEndWith g most d (Some why) = (why ≢ Start) × (d.draft.lost ≡ true → why ≡ Memory)
+    × (why ≡ TooMany → most < coalition_count g d.given.items)
 
 -- what was met where so many workers were to be started and so many were: nothing where these are all, or else one fault, which is
 -- Start or want of memory

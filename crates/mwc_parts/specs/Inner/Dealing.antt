@@ -25,7 +25,8 @@ IsWell s = (s.lost ≡ false) × (s.cut ≡ false)
 abbrev pub given_slices : List DeskView → List (List ℕ)
 given_slices desks = map (λ (s : DeskView). s.given) desks
 
--- the slices 0 to n - 1 are dealt in order, until they are all given or the deal is stopped; it is stopped exactly where a start failed early,
+-- the slices 0 to n - 1 are dealt in order, until they are all given or the deal is stopped; it is stopped exactly where a
+-- start failed early,
 -- something was lost, or a cut was told; and where a start failed nothing is given
 pub record DealsInOrder (n : ℕ) (early : Bool) (marks : List (Option ℕ)) (stopped : Bool)
     (desks : List DeskView) : Type 0 where
@@ -66,7 +67,8 @@ pub record GivesOne (done : Bool) (marks : List (Option ℕ)) (stopped : Bool) (
   pub given : t.given ≡ s.given ++ slice ∷ []
   pub told_not : t.told ≡ false
 
--- one turn of worker w, in which it has, or has not, said that a slice is done: a loss or a cut that is met in it stops the deal before anything is given
+-- one turn of worker w, in which it has, or has not, said that a slice is done: a loss or a cut that is met in it stops the
+-- deal before anything is given
 pub record TakesTurn (done : Bool) (marks : List (Option ℕ)) (stopped : Bool) (s : DeskView) (w : ℕ)
     (after : List (Option ℕ)) (stops : Bool) (t : DeskView) : Type 0 where
   pub lost_stays : t.lost ≡ false → s.lost ≡ false

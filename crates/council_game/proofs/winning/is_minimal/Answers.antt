@@ -30,7 +30,8 @@ loop-place-preserved c =
           let lost = ap (λ (m : ℕ). wins (rule_views c.args.rules.now) (without c.args.members c.loop-place.place m))
           (sym c.weigh-weighed.ensures.same) ∙ sym w.wins_without.ensures ∙ w.if-wins_without.false in
           below_more (λ p. has c.args.members p c.args.coalition ≡ true
-          → wins (rule_views c.args.rules.now) (without c.args.members p c.args.coalition) ≡ false) _ c.loop-place.invariant (λ inside. lost)
+          → wins (rule_views c.args.rules.now) (without c.args.members p c.args.coalition) ≡ false) _
+          c.loop-place.invariant (λ inside. lost)
       | else-has-via-else-has w ↦
           below_more (λ p. has c.args.members p c.args.coalition ≡ true
           → wins (rule_views c.args.rules.now) (without c.args.members p c.args.coalition) ≡ false) _ c.loop-place.invariant

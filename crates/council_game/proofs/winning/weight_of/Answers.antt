@@ -16,9 +16,11 @@ overflow_add-sum c =
 pub loop-place-preserved : goal.loop-place-preserved
 loop-place-preserved c =
     elim c.if-has.branch [
-      | then-has w ↦ weight-in c.args.weights.now (length c.args.weights.now) _ c.args.coalition c.loop-place.place c.loop-place.sum _ refl refl
+      | then-has w ↦ weight-in c.args.weights.now (length c.args.weights.now) _ c.args.coalition c.loop-place.place
+          c.loop-place.sum _ refl refl
           (omega arith) c.loop-place.invariant (sym c.has.ensures ∙ w.if-has.true) w.sum-is
-      | else-has w ↦ weight-out c.args.weights.now (length c.args.weights.now) _ c.args.coalition c.loop-place.place c.loop-place.sum _ refl refl
+      | else-has w ↦ weight-out c.args.weights.now (length c.args.weights.now) _ c.args.coalition c.loop-place.place
+          c.loop-place.sum _ refl refl
           (omega arith) c.loop-place.invariant (sym c.has.ensures ∙ w.if-has.false) w.sum-is
     ]
 

@@ -7,4 +7,5 @@ use Rattle.council_report.proofs.indices.push_counts.Given as goal
 
 abbrev pub invariant-loop-member : goal.invariant-loop-member
 invariant-loop-member l =
-    Put l.initial.out l.out (flat_map with_tab (map (λ i. decimal (table_of_member_size l.counted.counts.now i l.size)) (range_with_len 0 l.member)))
+    Put l.initial.out l.out (flat_map with_tab
+    (map (λ i. decimal (table_of_member_size l.counted.counts.now i l.size)) (range_with_len 0 l.member)))

@@ -9,7 +9,8 @@ pub returns-in_err-put_lines-clause-err : goal.returns-in_err-put_lines-clause-e
 returns-in_err-put_lines-clause-err g c =
     let p = err_from_is_err_and c.from_residual-in_err-put_lines.result c.from_residual-in_err-put_lines.ensures.1 in
     let stopped = stopped-next _ _ []
-    (lines_of c.args.shown c.args.counted.now (flat_map (λ p. p.now) c.args.pieces.now)) _ _ c.in_ok-settle.ensures.ok c.in_err-put_lines.ensures in
+    (lines_of c.args.shown c.args.counted.now (flat_map (λ p. p.now) c.args.pieces.now)) _ _ c.in_ok-settle.ensures.ok
+    c.in_err-put_lines.ensures in
     rw (p.1, p.2) stopped
 
 pub returns-clause-err : goal.returns-clause-err

@@ -10,7 +10,8 @@ write_report_of-answer-requires-clause-coalitions g c =
     let first = subst (AreNonemptyCoalitions c.in_ok-game.game) (sym c.deref-3.ensures.value) c.in_ok-first.ensures.coalitions in
     let second = subst (AreNonemptyCoalitions c.in_ok-game.game) (sym c.deref-4.ensures.value) c.in_ok-second.ensures.coalitions in
     All-append (λ m. (0 < m) × (m < 2 ^ length c.in_ok-game.game.names)) c.deref-3.result.now (c.deref-4.result.now ++ []) first
-    (All-append (λ m. (0 < m) × (m < 2 ^ length c.in_ok-game.game.names)) c.deref-4.result.now [] second (All-nil (λ m. (0 < m) × (m < 2 ^ length c.in_ok-game.game.names))))
+    (All-append (λ m. (0 < m) × (m < 2 ^ length c.in_ok-game.game.names)) c.deref-4.result.now [] second
+    (All-nil (λ m. (0 < m) × (m < 2 ^ length c.in_ok-game.game.names))))
 
 pub write_report_of-answer-requires-clause-counts : goal.write_report_of-answer-requires-clause-counts
 write_report_of-answer-requires-clause-counts g c =
@@ -21,4 +22,5 @@ write_report_of-answer-requires-clause-counts g c =
     ∙ ap (λ (t : List ℕ). c.deref-3.result.now ++ t) (second ∙ sym (append-nil c.deref-4.result.now)) in
     let Counts : List ℕ → Type 0 = λ list. AreCounts c.in_ok-game.game list c.count_row-2.new.self in
     subst Counts both (c.tallies_are_counts.ensures c.in_ok-game.game (c.deref.result.now ++ c.deref-2.result.now) c.count_row-2.new.self
-    (c.count_row-2.ensures.tallies c.in_ok-game.game c.deref.result.now (c.count_row.ensures.tallies c.in_ok-game.game [] c.none-counts.ensures.tallies)))
+    (c.count_row-2.ensures.tallies c.in_ok-game.game c.deref.result.now
+    (c.count_row.ensures.tallies c.in_ok-game.game [] c.none-counts.ensures.tallies)))

@@ -45,8 +45,10 @@ finish_all-requires-clause-dealt g c =
     let all = take_at new (drop (length new) c.open_all-desks.result.0.items) n (omega arith) in
     let order : Order = c.order-order.result in
     let early = c.is_some.ensures ∙ ap is_some c.fault.ensures in
-    let P : Bool → List Desk → Type 0 = λ b w. DealsTo (slicing_of order) order.most b c.read_all.new.self w in
-    (c.read_all.new.self, subst (P (is_some (fault_of c.open_all-desks.result.1))) (sym all) (subst (λ b. P b new) early c.read_all.ensures))
+    let P : Bool → List Desk → Type 0 = λ b w. DealsTo (slicing_of order) order.most b c.read_all.new.self w in (
+      c.read_all.new.self,
+      subst (P (is_some (fault_of c.open_all-desks.result.1))) (sym all) (subst (λ b. P b new) early c.read_all.ensures),
+    )
 
 pub returns-in_err-parts-clause-many : goal.returns-in_err-parts-clause-many
 returns-in_err-parts-clause-many g c = λ e.

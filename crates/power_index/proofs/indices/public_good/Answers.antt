@@ -19,5 +19,6 @@ returns-clause-tables c some =
 
 pub returns-clause-terms : goal.returns-clause-terms
 returns-clause-terms c g list some h =
-    let one : 1 ≤ table_memberships c.args.counts.now = omega (arith, c.memberships.ensures.some, c.memberships.ensures.sum, h.total, some) in
+    let one : 1 ≤ table_memberships c.args.counts.now =
+    omega (arith, c.memberships.ensures.some, c.memberships.ensures.sum, h.total, some) in
     returns-clause-tables c (omega (arith, h.total, some)) ∙ public-good-same g list c.args.counts.now c.args.member c.requires one h
