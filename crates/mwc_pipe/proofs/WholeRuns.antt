@@ -149,21 +149,21 @@ module _ {T : Type 0} where
       }
 
   -- the pipe is closed where a close stands among the steps
-  pub replayed_closed : (capacity : ℕ) (steps : List (Step T)) (given : List (Reply T)) (ins outs : List T) (pipe : PipeView T) →
-      Replayed capacity steps given ins outs pipe → pipe.closed ≡ list_any is_close steps
-  replayed_closed capacity steps given ins outs pipe so_far = so_far.leaves.closed ∙ shut_after capacity [] steps
+  pub replayed_closed : (capacity : ℕ) (steps : List (Step T)) (pipe : PipeView T) →
+      Leaves (history capacity steps) pipe → pipe.closed ≡ list_any is_close steps
+  replayed_closed capacity steps pipe leaves = leaves.closed ∙ shut_after capacity [] steps
 
   -- at most the capacity is inside
-  pub replayed_short : (capacity : ℕ) (steps : List (Step T)) (given : List (Reply T)) (ins outs : List T) (pipe : PipeView T) →
-      Replayed capacity steps given ins outs pipe → length pipe.inside ≤ capacity
-  replayed_short capacity steps given ins outs pipe so_far =
+  pub replayed_short : (capacity : ℕ) (steps : List (Step T)) (pipe : PipeView T) →
+      Leaves (history capacity steps) pipe → length pipe.inside ≤ capacity
+  replayed_short capacity steps pipe leaves =
       let past : List (Event T) = history capacity steps in
       let (rest, lawful, short) = nothing_is_lost_lem capacity steps in
       omega (
         arith,
         short,
         ap length lawful,
-        ap length so_far.leaves.lawful,
+        ap length leaves.lawful,
         length-append (items_out past) rest,
         length-append
             (items_out past) pipe.inside,
@@ -171,18 +171,17 @@ module _ {T : Type 0} where
 
   -- the same, for a loop over the steps
   pub replayed_next : (capacity : ℕ) (steps : List (Step T)) (i : ℕ) (given given' : List (Reply T)) (ins ins' outs outs' : List T)
-      (old new : PipeView T) (step : Step T) (reply : Reply T) (in_item out_item : Option T) →
+      (old new : PipeView T) (step : Step T) (reply : Reply T) →
       Replayed capacity (take i steps) given ins outs old → IsStep old step reply new →
       i < length steps → step ≡ get_or steps i step →
       given' ≡ given ++ reply ∷ [] →
-      in_item ≡ item_in (step, reply) → ins' ≡ ins ++ option_to_list in_item →
-      out_item ≡ item_out (step, reply) → outs' ≡ outs ++ option_to_list out_item →
+      ins' ≡ ins ++ option_to_list (item_in (step, reply)) →
+      outs' ≡ outs ++ option_to_list (item_out (step, reply)) →
       Replayed capacity (take (i + 1) steps) given' ins' outs' new
-  replayed_next capacity steps i given given' ins ins' outs outs' old new step reply in_item out_item so_far next less at eg ei eins eo
-      eouts =
+  replayed_next capacity steps i given given' ins ins' outs outs' old new step reply so_far next less at eg eins eouts =
       let longer : take (i + 1) steps ≡ take i steps ++ step ∷ [] =
       take_more steps i step less ∙ ap (λ s. take i steps ++ s ∷ []) (sym at) in
-      rw (longer, eg, eins, ei, eouts, eo) (replayed_more capacity (take i steps) given ins outs old new step reply so_far next)
+      rw (longer, eg, eins, eouts) (replayed_more capacity (take i steps) given ins outs old new step reply so_far next)
 
   pub each_reply_is_counted_lem : (capacity : ℕ) (steps : List (Step T)) → EachReplyIsCounted capacity steps
   each_reply_is_counted_lem capacity steps k step at =

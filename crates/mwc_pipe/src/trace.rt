@@ -1,8 +1,8 @@
 //! A whole history of a pipe.
-ghost use Rattle.std.specs.Prelude.{◌≡◌, ◌≤◌, ◌^◌, ◌++◌, length, IfOk, OnOk};
+ghost use Rattle.std.specs.Prelude.{◌≡◌, ◌≤◌, ◌^◌, [], ◌∷◌, ◌++◌, length, false, IfOk, OnOk};
 ghost use Rattle.std.specs.Option.{option_to_list};
 ghost use Rattle.std.specs.List.{list_any};
-ghost use Rattle.mwc_pipe.specs.PipeView.{IsStep};
+ghost use Rattle.mwc_pipe.specs.PipeView.{IsStep, Leaves};
 ghost use Rattle.mwc_pipe.specs.History.{history, replies, items_in, items_out, is_close, item_in, item_out, IsLawful};
 ghost use Rattle.mwc_pipe.specs.Laws.{NothingEntersAfterClose};
 
@@ -48,24 +48,62 @@ pub fn replay<T: Copy>(alloc: Global, capacity: u32, steps: &[Step<T>]) -> Resul
     ensures closed { IfOk result (λ trace. trace.closed ≡ list_any is_close steps.now) }
 {
     let mut pipe = Pipe::new(alloc, capacity);
-    let mut replies = Vec::new(alloc);
-    let mut came = Vec::new(alloc);
-    let mut gone = Vec::new(alloc);
-    for step in steps {
-        let reply = serve(&mut pipe, *step)?;
-        keep(&mut came, accepted_item(*step, reply))?;
-        keep(&mut gone, taken_item(*step, reply))?;
-        replies.push(reply)?;
+    let mut trace = Trace::new(alloc);
+    trace.serve_all(&mut pipe, steps)?;
+    trace.closed = pipe.is_closed();
+    trace.inside = items_of(alloc, pipe)?;
+    Ok(trace)
+}
+
+impl<T: Copy> Trace<T> {
+    /// That of no step.
+    fn new(alloc: Global) -> Trace<T>
+        ensures replies { result.replies.items ≡ [] }
+        ensures came { result.came.items ≡ [] }
+        ensures gone { result.gone.items ≡ [] }
+    {
+        Trace {
+            replies: Vec::new(alloc),
+            came: Vec::new(alloc),
+            gone: Vec::new(alloc),
+            inside: Vec::new(alloc),
+            closed: false,
+        }
     }
-    let closed = pipe.is_closed();
-    let inside = items_of(alloc, pipe)?;
-    Ok(Trace {
-        replies,
-        came,
-        gone,
-        inside,
-        closed,
-    })
+
+    /// Notes a step and the reply to it.
+    fn add(&mut self, step: Step<T>, reply: Reply<T>) -> Result<(), Memory>
+        ensures replies { OnOk result (self.new.replies.items ≡ self.old.replies.items ++ reply ∷ []) }
+        ensures came { OnOk result
+            (self.new.came.items ≡ self.old.came.items ++ option_to_list (item_in (step, reply))) }
+        ensures gone { OnOk result
+            (self.new.gone.items ≡ self.old.gone.items ++ option_to_list (item_out (step, reply))) }
+    {
+        keep(&mut self.came, accepted_item(step, reply))?;
+        keep(&mut self.gone, taken_item(step, reply))?;
+        self.replies.push(reply)?;
+        Ok(())
+    }
+
+    /// Serves steps by a new pipe, and notes them in a new trace.
+    fn serve_all(&mut self, pipe: &mut Pipe<T>, steps: &[Step<T>]) -> Result<(), Memory>
+        requires new { (self.old.replies.items ≡ []) × (self.old.came.items ≡ [])
+            × (self.old.gone.items ≡ []) }
+        requires pipe { (pipe.old.inside ≡ []) × (pipe.old.closed ≡ false) }
+        ensures replies { OnOk result
+            (self.new.replies.items ≡ replies pipe.old.capacity steps.now) }
+        ensures came { OnOk result
+            (self.new.came.items ≡ items_in (history pipe.old.capacity steps.now)) }
+        ensures gone { OnOk result
+            (self.new.gone.items ≡ items_out (history pipe.old.capacity steps.now)) }
+        ensures leaves { OnOk result (Leaves (history pipe.old.capacity steps.now) pipe.new) }
+    {
+        for step in steps {
+            let reply = serve(pipe, *step)?;
+            self.add(*step, reply)?;
+        }
+        Ok(())
+    }
 }
 
 /// One step. Only a put may fail for memory.
