@@ -1,5 +1,5 @@
 //! Prefixes of members that are not complete, in rows.
-ghost use Rattle.std.specs.Prelude.{◌≡◌, ℕ, ◌+◌, ◌*◌, ◌<◌, ◌≤◌, ◌^◌, IfOk, length, slice_index, take};
+ghost use Rattle.std.specs.Prelude.{◌≡◌, ℕ, ◌+◌, ◌*◌, ◌<◌, ◌≤◌, ◌^◌, IfOk, length, slice_index, take, drop};
 ghost use Rattle.std.specs.List.{All};
 ghost use Rattle.coalitions.specs.declared.limits.TheConstants.{MEMBERS};
 ghost use Rattle.mwc_sums.specs.Inner.Rows.{fill, prefixes, taken, weigh};
@@ -72,6 +72,39 @@ fn is_first(a: &Open, b: &Open) -> bool {
     a.need < b.need || (a.need == b.need && a.size <= b.size)
 }
 
+/// The next prefix of two ascending rows from these places on, which move past it: prefixes with the same need
+/// and size go together.
+fn next_open(a: &[Open], b: &[Open], i: &mut usize, j: &mut usize) -> Open
+    requires left { i.old < length a.now }
+    requires right { j.old < length b.now }
+    requires fits { prefixes a.now + prefixes b.now < 2 ^ 64 }
+    ensures left { i.new ≤ length a.now }
+    ensures right { j.new ≤ length b.now }
+    ensures further { i.old + j.old < i.new + j.new }
+    ensures all { (g : ℕ → ℕ → ℕ) → result.ways * g result.need result.size
+        + weigh g (drop i.new a.now) + weigh g (drop j.new b.now)
+        ≡ weigh g (drop i.old a.now) + weigh g (drop j.old b.now) }
+    ensures sizes { (p : ℕ) → All (λ o. o.size ≤ p) a.now → All (λ o. o.size ≤ p) b.now
+        → result.size ≤ p }
+{
+    let (left, right) = (a[*i], b[*j]);
+    if left.need == right.need && left.size == right.size {
+        *i += 1;
+        *j += 1;
+        Open {
+            need: left.need,
+            size: left.size,
+            ways: left.ways + right.ways,
+        }
+    } else if is_first(&left, &right) {
+        *i += 1;
+        left
+    } else {
+        *j += 1;
+        right
+    }
+}
+
 /// Merges two ascending rows into one: prefixes with the same need and size go together.
 pub(crate) fn merge(a: &[Open], b: &[Open], row: &mut Vec<Open>) -> Result<(), Memory>
     requires { prefixes a.now + prefixes b.now < 2 ^ 64 }
@@ -85,22 +118,7 @@ pub(crate) fn merge(a: &[Open], b: &[Open], row: &mut Vec<Open>) -> Result<(), M
     row.reserve(b.len())?;
     let (mut i, mut j) = (0, 0);
     while i < a.len() && j < b.len() {
-        let (left, right) = (&a[i], &b[j]);
-        if left.need == right.need && left.size == right.size {
-            row.push(Open {
-                need: left.need,
-                size: left.size,
-                ways: left.ways + right.ways,
-            })?;
-            i += 1;
-            j += 1;
-        } else if is_first(left, right) {
-            row.push(*left)?;
-            i += 1;
-        } else {
-            row.push(*right)?;
-            j += 1;
-        }
+        row.push(next_open(a, b, &mut i, &mut j))?;
     }
     row.extend_from_slice(&a[i..])?;
     row.extend_from_slice(&b[j..])?;
