@@ -1,5 +1,5 @@
 //! Where a slice stands in a part.
-ghost use Rattle.std.specs.Prelude.{◌≡◌, ◌<◌, length, MatchOption, slice_index};
+ghost use Rattle.std.specs.Prelude.{◌≡◌, ◌<◌, ◌∷◌, length, MatchOption, slice_index};
 ghost use Rattle.mwc_parts.specs.Inner.Sums.{times_in};
 ghost use Rattle.mwc_parts.specs.Parts.{piece};
 
@@ -26,7 +26,17 @@ impl Part {
         requires { m < length self.now.slices.items }
         ensures { result.now ≡ piece self.now m }
     {
-        let start = if m == 0 { 0 } else { self.ends[m - 1] as usize };
-        &self.got[start..self.ends[m] as usize]
+        &self.got[self.start(m)..self.ends[m] as usize]
+    }
+
+    /// How many coalitions there are before a slice.
+    fn start(&self, m: usize) -> usize
+        requires { m < length self.now.slices.items }
+        ensures { result ≡ slice_index (0 ∷ self.now.ends.items) m }
+    {
+        if m == 0 {
+            return 0;
+        }
+        self.ends[m - 1] as usize
     }
 }
