@@ -4,7 +4,7 @@ ghost use Rattle.coalitions.specs.declared.limits.TheConstants.{BITS, WORKERS, C
 
 use clap::{Arg, ArgAction, ArgMatches, Command, Error, value_parser};
 use coalitions::limits;
-use std::alloc::Global;
+use std::alloc::{AllocError, Global};
 
 /// Why there is nothing to do for a command line.
 #[derive(Debug, Drop)]
@@ -107,57 +107,46 @@ fn flag<'a>(alloc: Global, name: &'a str, help: &'a str) -> Arg<'a> {
         .action(ArgAction::SetTrue)
 }
 
-fn numbers<'a>(alloc: Global, command: Command<'a>) -> Result<Command<'a>, Error> {
-    let workers = number_option(alloc, "workers", "N", "4", "Worker threads, 1 to 16").value_parser(
-        value_parser!(u8).range(1..=i64::from(limits::WORKERS)),
-    );
-    let bits = number_option(
-        alloc,
-        "bits",
-        "K",
-        "6",
-        "How many of the heaviest members are fixed in each slice, 0 to 10",
-    )
-    .value_parser(value_parser!(u8).range(0..=i64::from(limits::BITS)));
-    let most = number_option(
-        alloc,
-        "most",
-        "N",
-        "1000000",
-        "A game with more coalitions is refused, 1 to 4000000; --tally takes any number",
-    )
-    .value_parser(value_parser!(u32).range(1..=i64::from(limits::COALITIONS)));
-    Ok(command.arg(workers)?.arg(bits)?.arg(most)?)
+fn tally<'a>(alloc: Global) -> Result<Arg<'a>, AllocError> {
+    let help = "Counts the coalitions and keeps none, however many they are";
+    flag(alloc, "tally", help)
+        .conflicts_with("list")?
+        .conflicts_with("most")
 }
 
-fn command<'a>(alloc: Global) -> Result<Command<'a>, Error> {
-    let file = Arg::new(alloc, "FILE").help(
-        "The game file; where none is named, standard input is read",
-    );
-    let command = Command::new(alloc, "council")
+/// What the command takes, in the order of `--help`.
+fn arguments<'a>(alloc: Global) -> Result<Vec<Arg<'a>>, Error> {
+    let file = "The game file; where none is named, standard input is read";
+    let workers = "Worker threads, 1 to 16";
+    let bits = "How many of the heaviest members are fixed in each slice, 0 to 10";
+    let most = "A game with more coalitions is refused, 1 to 4000000; --tally takes any number";
+    let explain = "Where a game is refused, lines that say where and why";
+    let tally = tally(alloc)?;
+    Ok(vec![in alloc;
+        Arg::new(alloc, "FILE").help(file),
+        number_option(alloc, "workers", "N", "4", workers).value_parser(value_parser!(u8).range(
+            1..=i64::from(limits::WORKERS)
+        )),
+        number_option(alloc, "bits", "K", "6", bits).value_parser(value_parser!(u8).range(
+            0..=i64::from(limits::BITS)
+        )),
+        number_option(alloc, "most", "N", "1000000", most).value_parser(value_parser!(u32).range(
+            1..=i64::from(limits::COALITIONS)
+        )),
+        flag(alloc, "list", "A line for each minimal winning coalition"),
+        flag(alloc, "sizes", "A line for each size of a coalition"),
+        flag(alloc, "notation", "A line [q; w1, .., wn] for each rule"),
+        tally,
+        flag(alloc, "explain", explain),
+    ]?)
+}
+
+fn command<'a>(alloc: Global, arguments: Vec<Arg<'a>>) -> Result<Command<'a>, AllocError> {
+    Command::new(alloc, "council")
         .version("1.1.0")
         .about(ABOUT)
         .after_help(FORMS)
-        .arg(file)?;
-    let command = numbers(alloc, command)?
-        .arg(flag(alloc, "list", "A line for each minimal winning coalition"))?
-        .arg(flag(alloc, "sizes", "A line for each size of a coalition"))?
-        .arg(flag(alloc, "notation", "A line [q; w1, .., wn] for each rule"))?
-        .arg(tally(alloc)?)?
-        .arg(flag(
-            alloc,
-            "explain",
-            "Where a game is refused, lines that say where and why",
-        ))?;
-    Ok(command)
-}
-
-fn tally<'a>(alloc: Global) -> Result<Arg<'a>, Error> {
-    let help = "Counts the coalitions and keeps none, however many they are";
-    let tally = flag(alloc, "tally", help)
-        .conflicts_with("list")?
-        .conflicts_with("most")?;
-    Ok(tally)
+        .args(arguments)
 }
 
 /// What the parser found; none where a number is missing or out of its range.
@@ -183,15 +172,18 @@ fn wanted_of<'a>(matches: &ArgMatches<'a>) -> Option<Wanted<'a>> {
     })
 }
 
+/// What the parser makes of the words.
+fn matches_of<'a>(alloc: Global, words: &'a [String]) -> Result<ArgMatches<'a>, Error> {
+    let arguments = arguments(alloc)?;
+    command(alloc, arguments)?.try_get_matches_from(words)
+}
+
 /// Reads a command line, its first word the name of the program.
 ///
 /// # Errors
 ///
 /// `Parse` where the parser refuses it, or answers `--help` or `--version`.
 pub fn read_words<'a>(alloc: Global, words: &'a [String]) -> Result<Wanted<'a>, WordsFault> {
-    let command = command(alloc).map_err(WordsFault::Parse)?;
-    let matches = command
-        .try_get_matches_from(words)
-        .map_err(WordsFault::Parse)?;
+    let matches = matches_of(alloc, words).map_err(WordsFault::Parse)?;
     wanted_of(&matches).ok_or(WordsFault::Range)
 }
