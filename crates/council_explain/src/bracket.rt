@@ -2,6 +2,7 @@
 use crate::file::index_of;
 use crate::grammar::{Read, first_misfit};
 use crate::rules::say_range;
+use crate::said::Part::{Number, Text};
 use crate::said::Said;
 use crate::source::say_place;
 use council_game::{GameFault, Memory};
@@ -54,26 +55,22 @@ fn say_weight(said: &mut Said, weights: &[u64], member: u8) -> Result<(), Memory
     let Some(weight) = weights.get(index_of(member)) else {
         return Ok(());
     };
-    let member = member.to_string(said.alloc())?;
-    let weight = weight.to_string(said.alloc())?;
-    said.line(&[
-        "weight ",
-        member.as_str(),
-        " is ",
-        weight.as_str(),
-        ": the greatest is 1000000000000",
+    said.write(&[
+        Text("weight "),
+        Number(u64::from(member)),
+        Text(" is "),
+        Number(*weight),
+        Text(": the greatest is 1000000000000"),
     ])
 }
 
-/// Says what a fault says of a bracket text.
-pub(crate) fn say_bracket(said: &mut Said, bytes: &[u8], fault: GameFault) -> Result<(), Memory> {
-    if fault == GameFault::Bracket {
-        return say_grammar(said, bytes);
-    }
-    let numbers = numbers_of(said.alloc(), bytes)?;
-    let [quota, weights @ ..] = numbers.as_slice() else {
-        return Ok(());
-    };
+/// Says what a fault says of the numbers of a bracket text.
+fn say_numbers(
+    said: &mut Said,
+    quota: u64,
+    weights: &[u64],
+    fault: GameFault,
+) -> Result<(), Memory> {
     match fault {
         GameFault::Members => {
             let wanted = "at most 40 are allowed";
@@ -85,9 +82,20 @@ pub(crate) fn say_bracket(said: &mut Said, bytes: &[u8], fault: GameFault) -> Re
             for weight in weights {
                 total = total.saturating_add(*weight);
             }
-            let quota = quota.to_string(said.alloc())?;
-            say_range(said, "the quota", quota.as_str(), total)
+            say_range(said, "the quota", Number(quota), total)
         }
         _ => Ok(()),
+    }
+}
+
+/// Says what a fault says of a bracket text.
+pub(crate) fn say_bracket(said: &mut Said, bytes: &[u8], fault: GameFault) -> Result<(), Memory> {
+    if fault == GameFault::Bracket {
+        return say_grammar(said, bytes);
+    }
+    let numbers = numbers_of(said.alloc(), bytes)?;
+    match numbers.as_slice() {
+        [quota, weights @ ..] => say_numbers(said, *quota, weights, fault),
+        [] => Ok(()),
     }
 }

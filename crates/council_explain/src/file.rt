@@ -1,5 +1,6 @@
 //! What a fault says of a file in TOML: its keys, title and quota.
-use crate::said::{Said, shown};
+use crate::said::Part::{Shown, Text};
+use crate::said::Said;
 use crate::source::Source;
 use crate::values::{elements, say_text, say_value};
 use council_game::{GameFault, Memory};
@@ -71,11 +72,10 @@ impl<'a> File<'a> {
     /// Says that the member with this index has a key that is not one of its own.
     fn say_key_of_member(&self, said: &mut Said, index: usize, key: &str) -> Result<(), Memory> {
         self.say_place(said, index, key)?;
-        let word = shown(said.alloc(), key)?;
-        said.line(&[
-            "a member has no key ",
-            word.as_str(),
-            ": its keys are name, weight and weights",
+        said.write(&[
+            Text("a member has no key "),
+            Shown(key),
+            Text(": its keys are name, weight and weights"),
         ])?;
         if is_among(key, TOP) {
             said.line(&["what belongs to the game stands before the first [[member]]"])?;
@@ -86,11 +86,10 @@ impl<'a> File<'a> {
     fn say_unknown_key(&self, said: &mut Said) -> Result<(), Memory> {
         if let Some(key) = other_key(self.table, TOP) {
             self.say_key(said, key)?;
-            let key = shown(said.alloc(), key)?;
-            return said.line(&[
-                "at the top there is no key ",
-                key.as_str(),
-                ": the keys are title, quota, quotas and member",
+            return said.write(&[
+                Text("at the top there is no key "),
+                Shown(key),
+                Text(": the keys are title, quota, quotas and member"),
             ]);
         }
         for (index, member) in self.members().iter().enumerate() {

@@ -1,6 +1,7 @@
 //! What a fault says of the members of a file.
 use crate::file::{File, is_among};
-use crate::said::{Said, shown};
+use crate::said::Part::{Number, Shown, Text};
+use crate::said::Said;
 use crate::values::{elements, kind, say_text, say_value, value_text};
 use council_game::{Memory, limits};
 use toml::Value;
@@ -62,14 +63,12 @@ impl<'a> File<'a> {
         let Some(earlier) = self.namesake(name.as_str(), index) else {
             return Ok(());
         };
-        let name = shown(said.alloc(), name.as_str())?;
-        let number = earlier.saturating_add(1).to_string(said.alloc())?;
-        said.line(&[
-            "member ",
-            number.as_str(),
-            " is named ",
-            name.as_str(),
-            " too: each name stands once",
+        said.write(&[
+            Text("member "),
+            Number(earlier.saturating_add(1) as u64),
+            Text(" is named "),
+            Shown(name.as_str()),
+            Text(" too: each name stands once"),
         ])?;
         self.say_place(said, earlier, "name")
     }
@@ -90,14 +89,12 @@ impl<'a> File<'a> {
     fn say_weights(&self, said: &mut Said, weights: &[Value]) -> Result<(), Memory> {
         let rules = elements(self.table.get("quotas")).len();
         if weights.len() != rules {
-            let rules = rules.to_string(said.alloc())?;
-            let count = weights.len().to_string(said.alloc())?;
-            return said.line(&[
-                "the number of weights is ",
-                count.as_str(),
-                ", and that of quotas ",
-                rules.as_str(),
-                ": a member has a weight for each rule",
+            return said.write(&[
+                Text("the number of weights is "),
+                Number(weights.len() as u64),
+                Text(", and that of quotas "),
+                Number(rules as u64),
+                Text(": a member has a weight for each rule"),
             ]);
         }
         for weight in weights {

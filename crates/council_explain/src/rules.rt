@@ -1,25 +1,25 @@
 //! What a fault says of the rules of a file.
 use crate::file::File;
-use crate::said::Said;
+use crate::said::Part::Text;
+use crate::said::{Part, Said};
 use crate::values::{elements, number, say_value, value_text};
 use council_game::{Memory, limits};
 use toml::Value;
 
 /// Says that a quota is not within its total.
-pub(crate) fn say_range(
+pub(crate) fn say_range<'t>(
     said: &mut Said,
-    which: &str,
-    quota: &str,
+    which: &'t str,
+    quota: Part<'t>,
     total: u64,
 ) -> Result<(), Memory> {
-    let total = total.to_string(said.alloc())?;
-    said.line(&[
-        which,
-        " is ",
+    said.write(&[
+        Text(which),
+        Text(" is "),
         quota,
-        ", and the weights add up to ",
-        total.as_str(),
-        ": a quota is from 1 to that total",
+        Text(", and the weights add up to "),
+        Part::Number(total),
+        Text(": a quota is from 1 to that total"),
     ])
 }
 
@@ -98,7 +98,7 @@ impl<'a> File<'a> {
             return Ok(false);
         }
         let quota = value_text(said.alloc(), quota)?;
-        say_range(said, which, quota.as_str(), total)?;
+        say_range(said, which, Text(quota.as_str()), total)?;
         Ok(true)
     }
 

@@ -5,6 +5,15 @@ use std::alloc::Global;
 /// No part of a line is longer, in characters.
 const LONGEST: usize = 100;
 
+/// A part of a line.
+#[derive(Clone, Copy)]
+pub(crate) enum Part<'t> {
+    Text(&'t str),
+    /// A text of the file, as it can stand in a line.
+    Shown(&'t str),
+    Number(u64),
+}
+
 /// The lines of an explanation, each begun with two blanks and ended with LF.
 #[derive(Drop)]
 pub(crate) struct Said {
@@ -33,6 +42,26 @@ impl Said {
         Ok(())
     }
 
+    fn push(&mut self, part: Part<'_>) -> Result<(), Memory> {
+        let alloc = self.alloc();
+        let text = match part {
+            Part::Text(text) => return Ok(self.text.push_str(text)?),
+            Part::Shown(text) => shown(alloc, text)?,
+            Part::Number(number) => number.to_string(alloc)?,
+        };
+        Ok(self.text.push_str(text.as_str())?)
+    }
+
+    /// Adds a line of these parts, some of which are no plain text.
+    pub(crate) fn write(&mut self, parts: &[Part<'_>]) -> Result<(), Memory> {
+        self.text.push_str("  ")?;
+        for part in parts {
+            self.push(*part)?;
+        }
+        self.text.push_str("\n")?;
+        Ok(())
+    }
+
     /// Adds a line with a number in it.
     pub(crate) fn count<'t>(
         &mut self,
@@ -41,8 +70,12 @@ impl Said {
         behind: &'t str,
         wanted: &'t str,
     ) -> Result<(), Memory> {
-        let number = number.to_string(self.alloc())?;
-        self.line(&[before, number.as_str(), behind, wanted])
+        self.write(&[
+            Part::Text(before),
+            Part::Number(number as u64),
+            Part::Text(behind),
+            Part::Text(wanted),
+        ])
     }
 
     pub(crate) fn into_text(self) -> String {

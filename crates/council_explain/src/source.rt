@@ -1,5 +1,6 @@
 //! The text of a game file, and where its keys stand.
-use crate::said::{Said, shown};
+use crate::said::Part::{Number, Shown, Text};
+use crate::said::Said;
 use council_game::Memory;
 use std::alloc::Global;
 
@@ -83,18 +84,14 @@ fn text_of_line(text: &str, line: usize) -> &str {
 
 /// Says the line and the column of a place, and what stands in the line.
 pub(crate) fn say_place(said: &mut Said, text: &str, place: usize) -> Result<(), Memory> {
-    let alloc = said.alloc();
     let (line, column) = line_and_column(text.as_bytes(), place);
-    let row = shown(alloc, text_of_line(text, line))?;
-    let line = line.to_string(alloc)?;
-    let column = column.to_string(alloc)?;
-    said.line(&[
-        "line ",
-        line.as_str(),
-        ", column ",
-        column.as_str(),
-        ": ",
-        row.as_str(),
+    said.write(&[
+        Text("line "),
+        Number(line as u64),
+        Text(", column "),
+        Number(column as u64),
+        Text(": "),
+        Shown(text_of_line(text, line)),
     ])
 }
 
@@ -174,7 +171,11 @@ impl<'a> Source<'a> {
             return Ok(());
         };
         let (line, _) = line_and_column(self.text.as_bytes(), place);
-        let row = shown(said.alloc(), text_of_line(self.text, line).trim())?;
-        said.count("line ", line, ": ", row.as_str())
+        said.write(&[
+            Text("line "),
+            Number(line as u64),
+            Text(": "),
+            Shown(text_of_line(self.text, line).trim()),
+        ])
     }
 }
