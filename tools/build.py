@@ -244,16 +244,14 @@ def log_of(name):
 
 def plan(names, lines):
     """The libraries in the order in which they begin, with how far each gives way: what fills the time at the end comes
-    last, before it what the last library does not wait for, and among the others the one with the longest chain
-    above it first."""
+    last, and among the others the one with the longest chain above it first."""
     behind, nice = {name: cost(name) for name in names}, {}
     last = max(names, key=lambda it: len(below(it, lines)))
     for name in reversed(names):
         above = [behind[it] for it in names if name in below(it, lines)]
         behind[name] += max(above, default=0)
         nice[name] = NICE if above or cost(name) > FILLS or name == last else NICE_LAST
-    waited_for = [*below(last, lines), last]
-    return sorted(names, key=lambda it: (nice[it], it not in waited_for, -behind[it])), nice
+    return sorted(names, key=lambda it: (nice[it], -behind[it])), nice
 
 
 def prove_all(names, lines, prove):
