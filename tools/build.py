@@ -16,7 +16,11 @@ back to crates/NAME/out, where every other command of `rt` finds it.
 After an interrupt, what was proved by then stays. As many libraries are proved at once as there are processors, and
 memory for (some 3 GB each). What only the program waits for, and does not take long, gives way to all others, and has
 a lane more: it fills the time in which the last library is proved. The log goes to crates/council/out/build.log, and
-a line for each library to standard error.
+a line for each library to standard error. How long each took stands in crates/council/out/seconds; the order of the
+next build rests on it, and where it has nothing on the lines of code.
+
+A second start beside the first waits, and has nothing to do where that has built the program. What was built of
+what is kept by tools/built.sh.
 """
 import fcntl
 import hashlib
@@ -42,27 +46,20 @@ NICE, NICE_LAST = 10, 19
 FILLS = 100
 # what fills the time at the end may use so many lanes beside those that there are processors for
 MORE_LANES = 1
-# how long the proof of a crate takes on one processor, in seconds
-SECONDS = {
-    "coalitions": 15,
-    "council_text": 15,
-    "council_game": 80,
-    "council_file": 160,
-    "power_index": 45,
-    "mwc_walk": 60,
-    "mwc_pipe": 105,
-    "mwc_parts": 70,
-    "mwc_gather": 180,
-    "mwc_tally": 95,
-    "mwc_sums": 100,
-    "council_report": 185,
-    "council_run": 70,
-    "council_words": 85,
-    "council_explain": 205,
-    "council_progress": 30,
-}
-# the proofs under way
-PROOFS = []
+# how long each proof took when it was last made from nothing
+MEASURED = f"{OUT}/seconds"
+# where that is not known: a second for so many lines of code (not of proofs and definitions), as most crates take
+LINES_A_SECOND = 8
+# how long the program is compiled and linked, in seconds
+COMPILED = 60
+# how many processors a proof keeps busy, on the whole
+BUSY = 1.5
+# how many seconds must have been measured until they count as much as what was guessed
+GUESSED = 120
+# what ends a build
+SIGNALS = (signal.SIGTERM, signal.SIGINT, signal.SIGHUP)
+# the proofs under way, and whether they are to end
+PROOFS, STOPPED = [], []
 
 
 def say(text):
@@ -85,17 +82,50 @@ def below(name, lines):
     return found
 
 
-def cost(name):
-    """How long the proof of a crate takes: as measured, or guessed by its lines. Only the order rests on it."""
-    if name in SECONDS:
-        return SECONDS[name]
-    count = 0
-    for part in ("src", "specs", "proofs"):
-        for folder, _, files in os.walk(f"{TOP}/crates/{name}/{part}"):
-            for file in files:
-                with open(f"{folder}/{file}", "rb") as it:
-                    count += it.read().count(b"\n")
-    return 30 + count // 25
+def measured():
+    """How long the proofs took in the last builds, in seconds, by the names of the crates."""
+    try:
+        with open(MEASURED, encoding="utf-8") as it:
+            return {name: float(seconds) for name, seconds in (line.split() for line in it)}
+    except (OSError, ValueError):
+        return {}
+
+
+def keep_measured(seconds):
+    """Keeps how long proofs took just now, beside what is known of others."""
+    with open(f"{MEASURED}.new", "w", encoding="utf-8") as it:
+        it.writelines(f"{name} {took:.1f}\n" for name, took in sorted({**measured(), **seconds}.items()))
+    os.replace(f"{MEASURED}.new", MEASURED)
+
+
+def costs(names):
+    """How long the proof of each crate takes, in seconds: as measured, or guessed by its lines of code. The order of the
+    proofs rests on it, and what is said of the time that is left."""
+    guessed = {}
+    for name in names:
+        files = [f"{at}/{file}" for at, _, found in os.walk(f"{TOP}/crates/{name}/src") for file in found]
+        guessed[name] = COMPILED if name == PROGRAM else 5
+        for file in files:
+            with open(file, "rb") as it:
+                guessed[name] += it.read().count(b"\n") / LINES_A_SECOND
+    return {**guessed, **{name: took for name, took in measured().items() if name in guessed}}
+
+
+def chains(names, lines, cost):
+    """How long the longest chain of proofs takes that begins with each crate, of those that are named."""
+    behind = {}
+    for name in reversed(names):
+        behind[name] = cost[name] + max((behind[it] for it in behind if name in below(it, lines)), default=0)
+    return behind
+
+
+def minutes(left, lines, cost, took, few):
+    """How many minutes what is left takes: as so many processors share it, or as its longest chain does; as much longer or
+    shorter as what was proved took."""
+    names = [it for it in lines if it in left]
+    pace = (GUESSED + sum(took.values())) / (GUESSED + sum(cost[it] for it in took))
+    shared = BUSY * sum(left.values()) / few
+    return max(1, round(pace * max(shared, *chains(names, lines, left).values()) / 60))
 
 
 def lanes():
@@ -156,8 +186,12 @@ def do(words, folder, name, nice=0):
     """Does a command in a folder, which gives way to others by so much; what it says goes to the log of a crate. Its status."""
     with open(f"{ROOMS}/{name}.log", "a", encoding="utf-8") as log:
         how = {"cwd": folder, "stdin": subprocess.DEVNULL, "stdout": log, "stderr": subprocess.STDOUT}
+        if STOPPED:
+            return 1
         proof = subprocess.Popen(["nice", "-n", str(nice), *words], **how)
         PROOFS.append(proof)
+        if STOPPED:
+            proof.terminate()
         return proof.wait()
 
 
@@ -242,25 +276,52 @@ def log_of(name):
         whole.write(f"== {name}\n{log.read()}")
 
 
-def plan(names, lines):
+def plan(names, lines, cost):
     """The libraries in the order in which they begin, with how far each gives way: what fills the time at the end comes
     last, and among the others the one with the longest chain above it first."""
-    behind, nice = {name: cost(name) for name in names}, {}
+    behind, nice = chains(names, lines, cost), {}
     last = max(names, key=lambda it: len(below(it, lines)))
-    for name in reversed(names):
-        above = [behind[it] for it in names if name in below(it, lines)]
-        behind[name] += max(above, default=0)
-        nice[name] = NICE if above or cost(name) > FILLS or name == last else NICE_LAST
+    for name in names:
+        above = any(name in below(it, lines) for it in names)
+        nice[name] = NICE if above or cost[name] > FILLS or name == last else NICE_LAST
     return sorted(names, key=lambda it: (nice[it], -behind[it])), nice
 
 
-def prove_all(names, lines, prove):
+class Told:
+    """What is told of a build while it goes on."""
+
+    def __init__(self, names, lines, cost):
+        self.lines, self.cost, self.start = lines, cost, time.time()
+        self.begun, self.took, self.left = {}, {}, [*names, PROGRAM]
+        self.count = len(self.left)
+        self.few = lanes()[0]
+        say(f"{self.count} proofs, {self.few} at once: some {self.minutes()} minutes where nothing else runs")
+
+    def minutes(self):
+        now = time.time()
+        left = {it: max(1, self.cost[it] - (now - self.begun.get(it, now))) for it in self.left}
+        return minutes(left, self.lines, self.cost, self.took, self.few)
+
+    def begin(self, name):
+        self.begun[name] = time.time()
+
+    def end(self, name):
+        self.left.remove(name)
+        took = time.time() - self.begun[name]
+        if took > 1:
+            # (one that was proved before takes no time)
+            self.took[name] = took
+        text = f"{name} is proved, {self.count - len(self.left)} of {self.count}, {time.time() - self.start:.0f} s"
+        say(f"{text}; some {self.minutes()} min left")
+
+
+def prove_all(names, lines, prove, told):
     """Proves the libraries, each after those below it; whether all were. The one with the longest chain above it
     begins at once, and the others give way to it. The processors that are free are shared among those that can begin: a further
     job is work of its own, since it reads the statements below once more, so that no other has one."""
-    left, nice = plan(names, lines)
+    left, nice = plan(names, lines, told.cost)
     few, all_lanes = lanes()
-    running, jobs, done, start, first = {}, {}, [], time.time(), None
+    running, jobs, done, first = {}, {}, [], None
     with ThreadPoolExecutor(len(names)) as pool:
         while left or running:
             ready = [it for it in left if all(other in done for other in below(it, lines))]
@@ -278,6 +339,7 @@ def prove_all(names, lines, prove):
                     waiting = sum(it in left and nice[it] == NICE for it in ready if it != name)
                     jobs[name] = max(1, (few - busy) // (waiting + 1))
                     left.remove(name)
+                    told.begin(name)
                     running[pool.submit(prove, name, lines, 0 if name == first else nice[name], jobs[name])] = name
             for it in wait(running, return_when=FIRST_COMPLETED).done:
                 name = running.pop(it)
@@ -290,23 +352,70 @@ def prove_all(names, lines, prove):
                     done.append(None)
                 else:
                     done.append(name)
-                    say(f"{name} is proved, {len(done)} of {len(names) + 1}, {time.time() - start:.0f} s")
+                    told.end(name)
     return None not in done
 
 
 def stop(number, _):
     """Ends the proofs under way; what they kept is brought back."""
+    for it in SIGNALS:
+        signal.signal(it, signal.SIG_IGN)
+    say(f"{signal.Signals(number).name}: stopping")
+    STOPPED.append(number)
     for proof in PROOFS:
         proof.terminate()
     sys.exit(128 + number)
 
 
+def built(*words):
+    """What tools/built.sh says."""
+    return subprocess.run(["sh", f"{TOP}/tools/built.sh", *words], stdout=subprocess.PIPE, text=True, check=True).stdout.strip()
+
+
+def wait_for_others():
+    """Waits until no other build works here; whether one did."""
+    held = os.open(OUT, os.O_RDONLY)
+    try:
+        fcntl.flock(held, fcntl.LOCK_EX | fcntl.LOCK_NB)
+        return False
+    except BlockingIOError:
+        say("another start builds the program: waiting until it has ended")
+        fcntl.flock(held, fcntl.LOCK_EX)
+        return True
+    except OSError:
+        # some file systems have no locks
+        return False
+
+
+def build(names, lines, keeps, held):
+    """Proves and builds all; the status. These crates are held until then."""
+    told = Told(names, lines, costs([*names, PROGRAM]))
+    if not prove_all(names, lines, prove_and_keep if keeps else prove_once, told):
+        return 1
+    told.begin(PROGRAM)
+    if not keeps:
+        status = build_once(lines)
+        told.took[PROGRAM] = time.time() - told.begun[PROGRAM]
+        keep_measured(told.took)
+    else:
+        # `rt` takes these crates for itself
+        release(held)
+        status = do(["rt", "run", "--", "--version"], f"{TOP}/crates/{PROGRAM}", PROGRAM)
+    log_of(PROGRAM)
+    return status
+
+
 def main():
-    signal.signal(signal.SIGTERM, stop)
-    signal.signal(signal.SIGINT, stop)
+    for it in SIGNALS:
+        # (one that `nohup` has set aside stays so)
+        if it != signal.SIGHUP or signal.getsignal(it) != signal.SIG_IGN:
+            signal.signal(it, stop)
     lines = lines_of_crates()
     names = below(PROGRAM, lines) if PROGRAM in lines else []
     os.makedirs(OUT, exist_ok=True)
+    if wait_for_others() and "--keep" not in sys.argv[1:] and not built("why"):
+        say("the other start has built the program")
+        return 0
     open(LOG, "w", encoding="utf-8").close()
     held = hold(names)
     if os.path.isdir(ROOMS):
@@ -315,21 +424,20 @@ def main():
             bring_back(name)
         shutil.rmtree(ROOMS, ignore_errors=True)
     os.makedirs(ROOMS)
+    sources = built("sources")
     keeps = "--keep" in sys.argv[1:] or not kit() or any(os.path.isdir(f"{TOP}/crates/{it}/out/incremental") for it in names)
     try:
-        if not prove_all(names, lines, prove_and_keep if keeps else prove_once):
-            return 1
-        if not keeps:
-            status = build_once(lines)
-        else:
-            # `rt` takes these crates for itself
-            release(held)
-            status = do(["rt", "run", "--", "--version"], f"{TOP}/crates/{PROGRAM}", PROGRAM)
-        log_of(PROGRAM)
+        status = build(names, lines, keeps, held)
+        if status == 0:
+            built("keep", sources)
         return status
     finally:
         shutil.rmtree(ROOMS, ignore_errors=True)
         release(held)
 
 
-sys.exit(main())
+try:
+    sys.exit(main())
+except OSError as error:
+    say(error)
+    sys.exit(1)
