@@ -49,6 +49,15 @@ explained "a quota in percent" <<'END'
 line 1, column 11: quota = 51%
 unexpected key or value, expected newline, `#`
 END
+# what moves a terminal, ends a line, turns the direction of writing or shows nothing is a blank
+game 'quota = "\xe2\x80\xae1\xe2\x81\xa62\xe2\x80\xa83\xef\xbb\xbf45"\n'
+explained "letters that are not plain" <<'END'
+line 1: quota = " 1 2 3 45"
+" 1 2 3 45" is a text: a quota is a whole number, without quotes
+END
+run --explain "$(printf 'no\033[31m\n\xe2\x80\xae\xe2\x81\xa6\xe2\x80\xa8\xef\xbb\xbffile')"
+printf 'council: the game file cannot be opened\n  no [31m     file: No such file or directory (os error 2)\n' >"$temp/wanted"
+if cmp -s "$temp/err" "$temp/wanted"; then ok "explained: a path"; else failed "explained: a path" "$(head -n 3 "$temp/err" | tr '\n' ';')"; fi
 game "$a"
 explained "no quota" <<'END'
 the file has no quota: write a line such as quota = 51 before the members

@@ -66,14 +66,31 @@ esac
 
 # ---- one version
 run --version </dev/null
-version=$(sed 's/^council //' "$temp/out")
+version=$(sed -n '1s/^council //p' "$temp/out")
+kit=$(sed -n '2s/^proved with //p' "$temp/out")
+date=$(sed -n "s/^## $version, //p" "$top/CHANGELOG.md")
 has_version() {
     if grep -qF "$2" "$top/$1"; then ok "the version in $1"; else failed "the version in $1" "it is not $version"; fi
 }
 has_version README.md "version $version"
 has_version CITATION.cff "version: $version"
 has_version docs/council.1 "council $version"
-has_version CHANGELOG.md "## $version"
+has_version CITATION.cff "date-released: $date"
+has_version docs/council.1 ".TH COUNCIL 1 $date "
+if [ "$(sed -n 's/^## //p' "$top/CHANGELOG.md" | head -n 1)" = "$version, $date" ] && [ -n "$date" ]; then
+    ok "the version in CHANGELOG.md"
+else
+    failed "the version in CHANGELOG.md" "its first is not $version with a date"
+fi
+if [ -n "$kit" ] && grep -qF "\`$kit\`" "$top/README.md"; then ok "the kit in README.md"; else failed "the kit in README.md" "it is not $kit"; fi
+if needs rt "the kit of --version is the one at hand"; then
+    found=$(rt version 2>/dev/null)
+    if [ "$found" = "$kit" ]; then
+        ok "the kit of --version is the one at hand"
+    else
+        skipped "the kit of --version is the one at hand" "that is $found, and --version says $kit"
+    fi
+fi
 
 # ---- the code in docs/LIBRARY.md is that of the crates
 if needs python3 "docs/LIBRARY.md has code of the crates"; then

@@ -85,8 +85,15 @@ run missing.toml --list --workers 16
 refused "good words and a FILE that is not there" 1 "the game file cannot be opened"
 
 # ---- words that look like others
-run - --list
-refused "- is a FILE like another" 1 "the game file cannot be opened"
+cp g.toml ./-
+run - <a.toml
+printed "- reads standard input" "$report"
+run --workers 2 -- - <a.toml
+printed "- behind -- reads standard input" "$report"
+run - --list <<<'[2; 1, 1'
+refused "- with no game on standard input" 3 "bad bracket text"
+run ./- <<<'[2; 1, 1'
+printed "./- is a FILE of that name" "$report"
 refused_words -w 2
 refused_words --worker
 run -- g.toml

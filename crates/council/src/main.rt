@@ -2,7 +2,7 @@
 //! indices that rest on them.
 #![tactic(auto)]
 
-use council_explain::{Kept, explain};
+use council_explain::{Kept, explain, shown};
 use council_progress::{Progress, Wiping};
 use council_run::{Cause, Options, RunFault, run, status, tally};
 use council_words::{Wanted, command_line, wanted};
@@ -39,10 +39,20 @@ fn say_more(rt: &(impl Eprint + AllocGlobal), cause: Cause, bytes: &[u8]) {
     }
 }
 
+/// The longest path that is shown, in characters.
+const LONGEST_PATH: usize = 4096;
+
 /// Says why the file could not be opened.
-fn not_opened(rt: &impl Eprint, wanted: &Wanted<'_>, path: &str, error: &io::Error) -> ExitCode {
+fn not_opened(
+    rt: &(impl Eprint + AllocGlobal),
+    wanted: &Wanted<'_>,
+    path: &str,
+    error: &io::Error,
+) -> ExitCode {
     let _ = eprintln!(rt; "council: the game file cannot be opened");
-    if wanted.explain {
+    if wanted.explain
+        && let Ok(path) = shown(rt.alloc(), path, LONGEST_PATH)
+    {
         let _ = eprintln!(rt; "  {path}: {error}");
     }
     ExitCode::from(1)

@@ -19,3 +19,4 @@ mod values;
 
 pub use explaining::explain;
 pub use kept::Kept;
+pub use said::shown;

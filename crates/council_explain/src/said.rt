@@ -3,7 +3,7 @@ use council_game::Memory;
 use std::alloc::Global;
 
 /// No part of a line is longer, in characters.
-const LONGEST: usize = 100;
+pub(crate) const LONGEST: usize = 100;
 
 /// A part of a line.
 #[derive(Clone, Copy)]
@@ -46,7 +46,7 @@ impl Said {
         let alloc = self.alloc();
         let text = match part {
             Part::Text(text) => return Ok(self.text.push_str(text)?),
-            Part::Shown(text) => shown(alloc, text)?,
+            Part::Shown(text) => shown(alloc, text, LONGEST)?,
             Part::Number(number) => number.to_string(alloc)?,
         };
         Ok(self.text.push_str(text.as_str())?)
@@ -83,17 +83,32 @@ impl Said {
     }
 }
 
-/// A text as it can stand in a line: at most so many characters of it, and none that moves a terminal.
-pub(crate) fn shown(alloc: Global, text: &str) -> Result<String, Memory> {
+/// Whether a letter can't stand in a line as it is: it moves a terminal, ends a line, turns the direction in which
+/// a line is written, or shows nothing.
+fn is_harmful(letter: char) -> bool {
+    letter.is_control()
+        || matches!(
+            u32::from(letter),
+            0xAD | 0x61C | 0x180E | 0x200B..=0x200F | 0x2028..=0x202E | 0x2060..=0x206F | 0xFEFF | 0xFFF9..=0xFFFB | 0xE0000..=0xE007F
+        )
+}
+
+/// A text that is not the program's own as it can stand in a line: at most so many characters of it, and a blank in place of
+/// each that moves a terminal, ends a line, turns the direction of writing, or shows nothing.
+///
+/// # Errors
+///
+/// Memory where a growth was refused.
+pub fn shown(alloc: Global, text: &str, most: usize) -> Result<String, Memory> {
     let mut shown = String::new(alloc);
-    let mut left = LONGEST;
+    let mut left = most;
     for letter in text.chars() {
         if left == 0 {
             shown.push_str("...")?;
             break;
         }
         left -= 1;
-        shown.push(if letter.is_control() { ' ' } else { letter })?;
+        shown.push(if is_harmful(letter) { ' ' } else { letter })?;
     }
     Ok(shown)
 }

@@ -1,5 +1,5 @@
 //! Values of a file, as an explanation shows them.
-use crate::said::{Said, shown};
+use crate::said::{LONGEST, Said, shown};
 use council_game::Memory;
 use std::alloc::Global;
 use toml::Value;
@@ -20,7 +20,7 @@ pub(crate) fn kind(value: &Value) -> &'static str {
 /// A value as TOML writes it, cut where it is long.
 pub(crate) fn value_text(alloc: Global, value: &Value) -> Result<String, Memory> {
     let text = format!(in alloc; "{value}")?;
-    shown(alloc, text.as_str())
+    shown(alloc, text.as_str(), LONGEST)
 }
 
 /// Says what a value is, and what is wanted in its place.

@@ -44,6 +44,9 @@ pub struct Wanted<'a> {
 const ABOUT: &str =
     "Lists the minimal winning coalitions of a weighted voting game, and computes two power indices that rest on them: the Deegan-Packel index and the public good index (Holler and Packel), as exact fractions and as six decimals that are cut off.";
 
+/// The version, and with which kit it was proved.
+const VERSION: &str = "1.2.0\nproved with rattle-kit-13f logic dac8208d650f15bf";
+
 const FORMS: &str = "A game file has one of two forms:
 
   quota = 51                       [51; 50, 49, 1]
@@ -116,7 +119,7 @@ fn tally<'a>(alloc: Global) -> Result<Arg<'a>, AllocError> {
 
 /// What the command takes, in the order of `--help`.
 fn arguments<'a>(alloc: Global) -> Result<Vec<Arg<'a>>, Error> {
-    let file = "The game file; where none is named, standard input is read";
+    let file = "The game file; where none is named, or -, standard input is read";
     let workers = "Worker threads, 1 to 16";
     let bits = "How many of the heaviest members are fixed in each slice, 0 to 10";
     let most = "A game with more coalitions is refused, 1 to 4000000; --tally takes any number";
@@ -143,10 +146,16 @@ fn arguments<'a>(alloc: Global) -> Result<Vec<Arg<'a>>, Error> {
 
 fn command<'a>(alloc: Global, arguments: Vec<Arg<'a>>) -> Result<Command<'a>, AllocError> {
     Command::new(alloc, "council")
-        .version("1.1.0")
+        .version(VERSION)
         .about(ABOUT)
         .after_help(FORMS)
         .args(arguments)
+}
+
+/// The game file that is named; none where standard input is to be read, as `-` says too.
+fn file_of<'a>(matches: &ArgMatches<'a>) -> Option<&'a str> {
+    let file = matches.get_str("FILE")?;
+    if file == "-" { None } else { Some(file) }
 }
 
 /// What the parser found; none where a number is missing or out of its range.
@@ -160,7 +169,7 @@ fn wanted_of<'a>(matches: &ArgMatches<'a>) -> Option<Wanted<'a>> {
         return None;
     }
     Some(Wanted {
-        file: matches.get_str("FILE"),
+        file: file_of(matches),
         workers,
         bits,
         most,
