@@ -1,7 +1,7 @@
 //! Coalitions.
 ghost use Rattle.std.specs.Prelude.{◌≡◌, ◌≢◌, ◌^◌, ◌<◌, ◌≤◌, ◌-◌, ℕ, if◌then◌else◌, false, true};
 ghost use Rattle.coalitions.specs.declared.limits.TheConstants.{MEMBERS};
-ghost use Rattle.coalitions.specs.Coalitions.{has, without, size};
+ghost use Rattle.coalitions.specs.Coalitions.{has, with_member, without, size};
 
 use std::marker::Model;
 
@@ -57,6 +57,8 @@ impl Coalition {
     pub fn with(self, members: usize, place: usize) -> Coalition
         requires few { members ≤ MEMBERS }
         requires place { place < members }
+        ensures mask { result ≡
+            if has members place self then self else with_member members place self }
         ensures inside { has members place result ≡ true }
         ensures others { (p : ℕ) → p < members → p ≢ place →
             has members p result ≡ has members p self }

@@ -1,4 +1,6 @@
 use Rattle.std.proofs.Common.{sym, ◌∙◌}
+use Rattle.std.proofs.lemmas.Bool.{cond-false}
+use Rattle.coalitions.specs.Coalitions.{with_member}
 use Rattle.coalitions.proofs.Sizes.{digit-shifted}
 use Rattle.coalitions.proofs.Digits.{has-added, has-beside, added-below, added-room}
 use Rattle.coalitions.proofs.coalition.Coalition.with.Goals as goal
@@ -9,6 +11,12 @@ invariant_of-result c =
     let out = sym c.has.ensures ∙ c.if-has.false in
     rw (digit, c.self.view_is) (added-room c.args.members c.args.place c.args.self c.requires.few c.requires.place
     (rw (← c.self.view_is) c.self.invariant) out)
+
+pub returns-else-has-clause-mask : goal.returns-else-has-clause-mask
+unfolding with_member
+returns-else-has-clause-mask c =
+    let digit = digit-shifted c.args.members c.args.place c.requires.few c.requires.place in
+    rw (digit, c.self.view_is) (sym (cond-false _ _ _ (sym c.has.ensures ∙ c.if-has.false)))
 
 pub returns-else-has-clause-inside : goal.returns-else-has-clause-inside
 returns-else-has-clause-inside c =
