@@ -2,19 +2,29 @@
 # Wrong bodies that no clause refuses, or not with every reading of it, since want of memory, a failed read or
 # write, threads and time are in no contract. Each edit of bodies/ is of the form of a must-fail edit, with a
 # first line `test: NAME in CRATE`; it is put into a copy of the crate, with its tests, the module CRATE_tests of another
-# crate, as a module of it, the tests are run without a proof, and the test of that name must fail.
+# crate, as a module of it, that test is run without a proof, and must fail. It must pass before, on the clean crate,
+# and a test that the time limit ended says nothing: but where the line is `test: NAME in CRATE late` the body makes a call so
+# slow that its test does not end. `test: NAME in CRATE slow` says that the test takes minutes without a proof.
 #
-#     tests/bodies.sh [NAME..]            the edits of these names, or all, half a minute to a minute each
+#     tests/bodies.sh [NAME..]            the edits of these names, or all, half a minute to two minutes each
+#     tests/bodies.sh --some N            N of those that are neither late nor slow, others with each day and each commit
 #     tests/bodies.sh --fit [NAME..]      says only whether each can still be put into the sources
 #
 # It needs python3 and the toolchain's rt, and the libraries below each crate as `rt check` leaves them.
 set -u
 top=$(cd "$(dirname "${BASH_SOURCE[0]}")/.." && pwd)
 fit=no
-if [ "${1:-}" = --fit ]; then
+some=0
+case ${1:-} in
+--fit)
     fit=yes
     shift
-fi
+    ;;
+--some)
+    some=$2
+    shift 2
+    ;;
+esac
 for command in python3 rt; do
     command -v "$command" >/dev/null || {
         echo "skipped bodies.sh: the command $command was not found"
@@ -72,25 +82,57 @@ with open(f"{room}/crates.txt", "w", encoding="utf-8") as it:
     for name, (said, used) in lines.items():
         it.write(f"{' '.join([name, *said])}: {' '.join(used)}\n")
 END
-# Whether the test failed.
+# What the test of this name says in the crate as it stands: `passes`, `fails`, `late` where the time limit ended it,
+# or `none` where it was not run.
+say_test() {
+    (cd "$room/crates/$crate" && rt try --test --seconds 300 -- "$test") >"$room/said" 2>&1 </dev/null
+    awk -v name="$test" '
+        /^test / {
+            ours = $2 ~ ("^tests::(.*::)?" name "$")
+            if (ours) said = $NF == "ok" ? "passes" : "fails"
+        }
+        ours && /^ / && /no-answer/ { said = "late" }
+        END { print said == "" ? "none" : said }
+    ' "$room/said"
+}
+
+# Judges the body by what its test said on the clean crate and says with the body in it. No answer is no notice, unless the
+# body is one that makes a call endless.
 judge() {
-    if grep -q "^test tests::\(.*::\)\{0,1\}$test \.\.\. FAILED" "$room/said"; then
-        echo "ok body $name: $test fails, and $(grep -c '^test .* \.\.\. FAILED' "$room/said") tests in all"
-    elif ! grep -q '^test result: ' "$room/said"; then
-        echo "FAILED body $name: no test was run: $(grep -m 1 error "$room/said" | head -c 200)"
-        found=1
+    local said
+    said=$(say_test)
+    if [ "$said" = fails ] || [ "$said $late" = "late late" ]; then
+        echo "ok body $name: $test, which passes on the clean crate, $said"
     else
-        echo "FAILED body $name: $test did not fail"
+        echo "FAILED body $name: $test $said$([ "$said" != none ] || grep -m 1 error "$room/said" | head -c 200)"
         found=1
     fi
 }
 
 found=0
+# Some of them: others with each day and each commit, so that all come round.
+if [ $some -gt 0 ]; then
+    mapfile -t all < <(grep -LE '^test: .* (late|slow)$' "$top"/tests/bodies/*.edit)
+    first=$((($(date +%s) / 86400 + $(git -C "$top" rev-list --count HEAD 2>/dev/null || echo 0)) * some))
+    set --
+    for ((k = 0; k < some; k++)); do set -- "$@" "${all[(first + k) % ${#all[@]}]}"; done
+fi
 [ $# -gt 0 ] || set -- "$top"/tests/bodies/*.edit
 for edit in "$@"; do
     name=$(basename "$edit" .edit)
     edit=$top/tests/bodies/$name.edit
-    read -r _ test _ crate <"$edit"
+    read -r _ test _ crate late <"$edit"
+    if [ $fit = no ]; then
+        # the clean crate, once for each test
+        if [ ! -e "$room/clean.$crate.$test" ]; then
+            say_test >"$room/clean.$crate.$test"
+        fi
+        if [ "$(cat "$room/clean.$crate.$test")" != passes ]; then
+            echo "FAILED body $name: $test on the clean crate: $(cat "$room/clean.$crate.$test")"
+            found=1
+            continue
+        fi
+    fi
     rm -rf "$room/whole"
     cp -rp "$room/crates/$crate/src" "$room/whole"
     if ! python3 - "$edit" "$room/crates/$crate" >"$room/why" 2>&1 <<'END'
@@ -116,7 +158,6 @@ END
     elif [ $fit = yes ]; then
         echo "ok body $name: it can be put into the sources"
     else
-        (cd "$room/crates/$crate" && rt try --test) >"$room/said" 2>&1 </dev/null
         judge
     fi
     rm -rf "$room/crates/$crate/src"

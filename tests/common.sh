@@ -21,17 +21,19 @@ for command in awk cmp cp cut date diff env grep head mktemp sed sort tail timeo
     fi
 done
 
-# The seconds that one run may take before it is taken for a hang: 300, or on a slower or busier machine
-# as many more times as one example takes longer there than a tenth of a second. One script after the other
+# The seconds that one run may take before it is taken for a hang: 60, ten times what the longest takes, or on a slower
+# or busier machine as many more times as one example takes longer there than a tenth of a second. A script of short
+# runs says fewer by `limit`. One script after the other
 # may be told by SECONDS_EACH, which says the seconds.
 if [ -z "${SECONDS_EACH:-}" ]; then
     begun=$(date +%s%N)
-    timeout 3000 "$program" --workers 1 "$top/examples/eu-1995.toml" >/dev/null 2>&1 </dev/null
-    SECONDS_EACH=$((($(date +%s%N) - begun) / 1000000 * 3))
-    [ "$SECONDS_EACH" -ge 300 ] || SECONDS_EACH=300
+    timeout 600 "$program" --workers 1 "$top/examples/eu-1995.toml" >/dev/null 2>&1 </dev/null
+    SECONDS_EACH=$((($(date +%s%N) - begun) / 1000000 * 6 / 10))
+    [ "$SECONDS_EACH" -ge 60 ] || SECONDS_EACH=60
     export SECONDS_EACH
 fi
 seconds=$SECONDS_EACH
+limit=$seconds
 
 ok() {
     echo "ok $1"
@@ -58,7 +60,7 @@ needs() {
 # Runs the program on the words, with the standard input of this call, and keeps its status, its
 # standard output and its standard error.
 run() {
-    timeout "$seconds" "$program" "$@" >"$temp/out" 2>"$temp/err"
+    timeout "$limit" "$program" "$@" >"$temp/out" 2>"$temp/err"
     status=$?
 }
 

@@ -44,6 +44,16 @@ explained "a quota as a text" <<'END'
 line 3: quota = "2/3"
 "2/3" is a text: a quota is a whole number, without quotes
 END
+game 'title = "\\" quota = 9"\n'"quota = 49.5\n$a"
+explained "a quota behind a quote in a text" <<'END'
+line 2: quota = 49.5
+49.5 is a number with a point: a quota is a whole number, without quotes
+END
+game "title = 'quota = 9'\nquota = 49.5\n$a"
+explained "a quota behind a text in single quotes" <<'END'
+line 2: quota = 49.5
+49.5 is a number with a point: a quota is a whole number, without quotes
+END
 game "quota = 51%%\n$a"
 explained "a quota in percent" <<'END'
 line 1, column 11: quota = 51%
@@ -62,6 +72,11 @@ game "$a"
 explained "no quota" <<'END'
 the file has no quota: write a line such as quota = 51 before the members
 END
+game "quota = 0\n$a"
+explained "a quota of 0" <<'END'
+line 1: quota = 0
+the quota is 0, and the weights add up to 50: a quota is from 1 to that total
+END
 game "quota = 51\n$a"
 explained "a quota above the total" <<'END'
 line 1: quota = 51
@@ -74,7 +89,7 @@ quota 2 is 5, and the weights add up to 4: a quota is from 1 to that total
 END
 
 # ---- the rules
-game "quotas = [1, 1]\n$a"
+game "quotas = [1, 1]\n$a${a/A/B}"
 explained "one weight under two rules" <<'END'
 line 1: quotas = [1, 1]
 line 4: weight = 50
@@ -124,6 +139,11 @@ explained "a key with a slip at the top" <<'END'
 line 1: qouta = 51
 at the top there is no key qouta: the keys are title, quota, quotas and member
 END
+game "quota = 51\nota = 1\n$a"
+explained "a key that is the end of another" <<'END'
+line 2: ota = 1
+at the top there is no key ota: the keys are title, quota, quotas and member
+END
 game "quota = 51\n${a/member/members}"
 explained "a header with a slip" <<'END'
 line 2: [[members]]
@@ -147,6 +167,11 @@ explained "a title of two lines" <<'END'
 line 1: title = "a\nb"
 the text has a TAB, the end of a line or another control character: a title is a text in quotes, of at most 200 bytes, on one line
 END
+game 'title = "a\\u007Fb"\n'"quota = 1\n$a"
+explained "a title with a control character" <<'END'
+line 1: title = "a\u007Fb"
+the text has a TAB, the end of a line or another control character: a title is a text in quotes, of at most 200 bytes, on one line
+END
 
 # ---- the members
 game 'quota = 1\n[member]\nname = "A"\nweight = 1\n'
@@ -168,6 +193,14 @@ END
 } >"$temp/game"
 explained "41 members" <<'END'
 the file has 41 members: 1 to 40 are allowed
+END
+{
+    printf 'quota = 1\nmember = ['
+    for ((i = 1; i <= 39; i++)); do printf '{name = "%s", weight = 1}, ' "$i"; done
+    echo '"A"]'
+} >"$temp/game"
+explained "40 members, the last of them a text" <<'END'
+"A" is a text: a member is a table with a name and a weight
 END
 game "quota = 1\n$a[[member]]\nweight = 1\n"
 explained "no name" <<'END'
@@ -217,6 +250,11 @@ explained "a weight too few" <<'END'
 line 4: {name = "B", weights = [5]}]
 the number of weights is 1, and that of quotas 2: a member has a weight for each rule
 END
+game 'quotas = [1, 1]\nmember = [{name = "A", weights = [1000000000000, -1]}]\n'
+explained "the greatest weight, and one below 0" <<'END'
+line 2: member = [{name = "A", weights = [1000000000000, -1]}]
+-1 is out of range: a weight is from 0 to 1000000000000
+END
 game 'quotas = [1]\n[[member]]\nname = "A"\nweights = 5\n'
 explained "weights that are no array" <<'END'
 line 4: weights = 5
@@ -237,6 +275,15 @@ END
 game '\377\376q\0u\0o\0t\0a\0'
 explained "a file saved as UTF-16" <<'END'
 the file is saved as UTF-16: save it as UTF-8
+END
+game '\376\377\0q\0u\0o\0t\0a'
+explained "a file saved as UTF-16, the other byte first" <<'END'
+the file is saved as UTF-16: save it as UTF-8
+END
+game 'quota = 1\n[[member]]\nname = "Espa\303\261a" \361\nweight = 1\n'
+explained "a byte behind a letter of two bytes" <<'END'
+line 3, column 17: name = "España" �
+a byte there is not UTF-8: save the file as UTF-8
 END
 game 'quota = 1\n[[member]]\nname = "Espa\361a"\nweight = 1\n'
 explained "a file saved as Latin 1" <<'END'
@@ -262,6 +309,11 @@ END
 game '[51; 50,, 1]\n'
 explained "two commas" <<'END'
 line 1, column 9: [51; 50,, 1]
+a weight is expected here, a whole number
+END
+game '[51;\r\n 50,, 1]\n'
+explained "two commas on a second line" <<'END'
+line 2, column 5:  50,, 1]
 a weight is expected here, a whole number
 END
 game '[51; 50, 49, 1\n'
@@ -318,6 +370,11 @@ END
 explained "a game without a fault" "$top/examples/board.toml" --list --sizes --notation </dev/null
 
 # ---- long values are cut, and nothing moves a terminal
+game "quota = \"$(printf '%300s' '' | tr ' ' a)\"\n"
+explained "a value of 302 characters" <<END
+line 1: quota = "$(printf '%91s' '' | tr ' ' a)...
+"$(printf '%99s' '' | tr ' ' a)... is a text: a quota is a whole number, without quotes
+END
 game "quota = \"$(printf '%300s' '' | tr ' ' a)\\\\u001B[2J\"\n"
 run --explain <"$temp/game"
 if [ "$status" -eq 3 ] && [ "$(wc -l <"$temp/err")" -eq 3 ] && [ "$(wc -c <"$temp/err")" -lt 400 ] && ! grep -q "$(printf '\033')" "$temp/err"; then

@@ -24,7 +24,7 @@ echo "a game by its name" >--list
 look() {
     local name="tools/look $1" words="try --data game.toml=GAME -- $2" game=$3 input=$4
     shift 4
-    echo "the input" | PATH=$temp/kit:$PATH timeout "$seconds" "$top/tools/look" "$@" >"$temp/out" 2>"$temp/err"
+    echo "the input" | PATH=$temp/kit:$PATH timeout "$((seconds * 10))" "$top/tools/look" "$@" >"$temp/out" 2>"$temp/err"
     status=$?
     if [ "$status" -ne 3 ] || [ "$(cat "$temp/out")" != report ]; then
         failed "$name" "status $status: $(head -n 1 "$temp/err")"
@@ -52,7 +52,7 @@ if [ -z "$(ls -A "$temp/tmp")" ]; then ok "$name"; else failed "$name" "$(ls -A 
 name="tools/look runs the sources"
 if needs rt "$name"; then
     ln -s "$top/tools/look" "$temp/link"
-    timeout "$seconds" "$temp/link" "$top/examples/board.toml" >"$temp/out" 2>"$temp/err" </dev/null
+    timeout "$((seconds * 10))" "$temp/link" "$top/examples/board.toml" >"$temp/out" 2>"$temp/err" </dev/null
     status=$?
     if [ "$status" -eq 0 ] && cmp -s "$temp/out" "$top/examples/board.tsv" && [ "$(wc -l <"$temp/err")" -eq 1 ]; then
         ok "$name"

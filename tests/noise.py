@@ -33,7 +33,7 @@ TIMES = 3
 PAUSE = 5
 # After so many seconds a run has not ended. Where other work holds all processors, each hand-over of a
 # full ring waits for its turn, so a long list may take half a minute.
-HANGS = int(os.environ.get("SECONDS_EACH", 300))
+HANGS = 5 * int(os.environ.get("SECONDS_EACH", 60))
 # Bytes that mean something in one of the two forms.
 TELLING = [b"[", b"]", b"[[", b"]]", b"=", b"\n", b"\r\n", b'"', b"'", b'"""', b"#", b",", b";", b".", b"-", b"{", b"}",
            b"0", b"9", b"1000000000000", b"9223372036854775807", b"1e3", b"inf", b"0x10", b"1_0", b"\\u0000", b"\\",

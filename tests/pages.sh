@@ -97,6 +97,11 @@ if needs python3 "docs/LIBRARY.md has code of the crates"; then
     python3 "$top/tests/library.py" || failed "docs/LIBRARY.md has code of the crates" "tests/library.py stopped"
 fi
 
+# ---- the pictures of docs/ARCHITECTURE.md are those of crates.txt
+if needs python3 "docs/ARCHITECTURE.md has the crates"; then
+    python3 "$top/tests/architecture.py" || failed "docs/ARCHITECTURE.md has the crates" "tests/architecture.py stopped"
+fi
+
 # ---- each text that the program prints stands in docs/FORMATS.md
 sed -n 's/.*#\[error("\(.*\)")\].*/\1/p' "$top"/crates/council_game/src/fault.rt "$top"/crates/mwc_parts/src/fault.rt \
     "$top"/crates/council/src/fault.rt "$top"/crates/council_run/src/fault.rt "$top"/crates/mwc_tally/src/*.rt 2>/dev/null |

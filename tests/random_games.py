@@ -75,7 +75,7 @@ def by_every_subset(game):
 
 
 def printed(program, file, words):
-    made = subprocess.run([program, *words, file], stdin=subprocess.DEVNULL, capture_output=True, timeout=int(os.environ.get("SECONDS_EACH", 300)))
+    made = subprocess.run([program, *words, file], stdin=subprocess.DEVNULL, capture_output=True, timeout=int(os.environ.get("SECONDS_EACH", 60)))
     if made.returncode or made.stderr:
         return f"status {made.returncode}: {made.stderr[:80]!r}".encode()
     return made.stdout

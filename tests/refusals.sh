@@ -141,10 +141,23 @@ takes_none() {
     fi
 }
 
+# asks_for_little CRATE TEST: the call works while each allocation of more than 4,096 bytes is refused, whatever the
+# limits and counts are that it is given: it asks for the room that its answer needs.
+asks_for_little() {
+    local why=''
+    call REFUSE_OVER=4096 "$1" "$2"
+    if answers worked && [ ! -s "$temp/said" ]; then
+        ok "$1 $2, REFUSE_OVER 4096"
+    else
+        failed "$1 $2, REFUSE_OVER 4096" "${why:-$(cat "$temp/said")}"
+    fi
+}
+
 takes_memory council_game makes_a_game
 takes_memory council_game makes_a_game_of_two_rules
 takes_memory council_game lists_plainly
 takes_memory council_game lists_members
+asks_for_little council_game lists_members
 takes_memory council_file parses_toml
 takes_memory council_file parses_brackets
 takes_memory council_file reads_pieces
@@ -160,6 +173,7 @@ takes_memory council_report writes_a_report
 takes_memory council_report writes_a_tally
 takes_memory mwc_walk lists_a_slice
 takes_memory mwc_walk lists_all
+asks_for_little mwc_walk lists_a_slice
 takes_none mwc_walk walks_without_memory
 takes_none mwc_walk walks_under_two_rules_without_memory
 takes_none mwc_walk walks_under_four_rules_without_memory
@@ -170,6 +184,7 @@ takes_memory mwc_pipe makes_a_ring
 takes_none mwc_pipe moves_words_without_memory
 takes_none power_index counts_without_memory
 takes_memory power_index gives_all_indices
+asks_for_little power_index gives_all_indices
 takes_memory mwc_tally tallies "not started"
 starts_threads mwc_tally tallies_pieces
 takes_none mwc_tally tallies_a_slice_without_memory
@@ -185,7 +200,7 @@ takes_memory mwc_gather sends_into_a_batch
 takes_none mwc_gather marks_without_memory
 # a run of three workers: the game, the gathering as above, the row of pieces, the two threads that it starts
 # for counting, and the report
-shape='g+m+(m{4,})(s+)\1\2\1\2m+o+s+o+'
+shape='g+m+(m{4,})(s+)\1\2\1\2m+o+(s+)\3o+'
 for game in runs_on_brackets runs_on_toml; do
     for how in REFUSE_AT REFUSE_FROM; do
         sweep "$how" council_run "$game" "no memory for the game" "no memory to gather" "not started" "out of memory"

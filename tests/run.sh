@@ -7,8 +7,8 @@
 # this machine. The last line is `N passed, M failed`, with `, K skipped` behind it where some were, and
 # the status is not 0 if any failed.
 #
-# With COUNCIL_BODIES=1 it also plants the wrong bodies of bodies/, some fifteen minutes more (bodies.sh);
-# else it only sees whether each can still be planted.
+# It sees whether each of the wrong bodies of bodies/ can still be planted, and plants two of them, others with each
+# day and each commit (bodies.sh); with COUNCIL_BODIES=1 it plants them all, more than half an hour more.
 #
 # A machine must have bash, python3, cc (to refuse allocations), taskset (for runs on one processor),
 # and the toolchain's rt; what is missing is said, and what wants it is skipped.
@@ -57,7 +57,7 @@ else
     SECONDS_EACH=$(bash -c '. tests/common.sh; echo "$seconds"' common.sh "$program")
     export SECONDS_EACH
     lanes=$(nproc 2>/dev/null || echo 1)
-    for name in $scripts bodies $programs; do
+    for name in bodies $scripts bodies_fit $programs; do
         while [ "$(jobs -rp | wc -l)" -ge "$lanes" ]; do
             wait -n
         done
@@ -66,9 +66,10 @@ else
             if [ "${COUNCIL_BODIES:-0}" = 1 ]; then
                 keep bodies bash tests/bodies.sh &
             else
-                keep bodies bash tests/bodies.sh --fit &
+                keep bodies bash tests/bodies.sh --some 2 &
             fi
             ;;
+        bodies_fit) keep bodies_fit bash tests/bodies.sh --fit & ;;
         random_games) keep $name python3 tests/random_games.py "$program" 150 1 & ;;
         reading | memory_source | gate_source) keep $name python3 tests/$name.py & ;;
         *) keep "$name" bash "tests/$name.sh" "$program" & ;;
@@ -77,7 +78,7 @@ else
     wait
     # each of its runs is to end within a second, so nothing runs beside it
     [ -z "$programs" ] || keep noise python3 tests/noise.py "$program" 300 1
-    for name in $scripts bodies $programs ${programs:+noise}; do
+    for name in $scripts bodies bodies_fit $programs ${programs:+noise}; do
         count "$name"
     done
     if [ -z "$programs" ]; then

@@ -3,6 +3,8 @@
 # it has come.
 . "$(dirname "$0")/common.sh"
 
+# these take less than a second, by sums milliseconds; without sums some would take minutes
+limit=$((seconds / 6))
 for game in "$top"/examples/*.toml "$top"/examples/*.txt; do
     run --tally "$game"
     printed "--tally $(basename "$game")" "${game%.toml}.tsv"
@@ -29,7 +31,7 @@ done
 # equal QUOTA COALITIONS OF_EACH: the tally of 40 equal members
 equal() {
     equal_members 40 "$1" >"$temp/equal.txt"
-    run --tally "$temp/equal.txt"
+    run --tally --workers 1 "$temp/equal.txt"
     {
         printf 'members\t40\nquota\t%s\ntotal\t40\nminimal\t%s\n' "$1" "$2"
         for ((member = 1; member <= 40; member++)); do
@@ -42,6 +44,7 @@ equal 7 18643560 3262623
 equal 8 76904685 15380937
 equal 20 137846528820 68923264410
 equal 39 40 39
+limit=$seconds
 
 # ---- games of several rules: the same bytes as a run
 # same_as_run NAME QUOTAS WEIGHTS..: of a game of these rules, the numbers of each with commas between them
@@ -153,8 +156,12 @@ assert lines, run.told[:200]
 for column in (0, 1):
     numbers = [int(it[column]) for it in lines]
     assert numbers == sorted(numbers) and numbers[0] < numbers[-1], numbers
-assert int(lines[-1][1]) <= 76904685, lines[-1]
-assert b"\n" not in run.told and run.told.endswith(b"\r\x1b[K"), run.told[-60:]
+slices = [int(it[0]) for it in lines]
+assert all(there - here in (0, 1) for here, there in zip(slices, slices[1:])), slices
+# the last slice is told of once all its coalitions are counted, and then all is wiped, once
+assert lines[-1] == (b"1023", b"76904685"), lines[-1]
+assert b"\n" not in run.told and run.told.endswith(b" coalitions are counted\r\x1b[K"), run.told[-60:]
+assert run.told.count(b"\r\x1b[K") == 1, run.told.count(b"\r\x1b[K")
 END
     then ok "a long tally on a terminal"; else failed "a long tally on a terminal" "$(tail -n 1 "$temp/told")"; fi
     # a first slice of 225,792,840 coalitions: it is told of while none is done

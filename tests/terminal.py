@@ -11,12 +11,12 @@ import time
 
 
 class Run:
-    """A program whose standard error is a terminal."""
+    """A program whose standard error is a terminal, and its standard output too where it says so."""
 
-    def __init__(self, words, stdout=subprocess.DEVNULL):
+    def __init__(self, words, stdout=subprocess.DEVNULL, both=False):
         self.leader, follower = pty.openpty()
         began = time.monotonic()
-        self.process = subprocess.Popen(words, stdin=subprocess.DEVNULL, stdout=stdout, stderr=follower)
+        self.process = subprocess.Popen(words, stdin=subprocess.DEVNULL, stdout=follower if both else stdout, stderr=follower)
         os.close(follower)
         self.began = began
         # after so many seconds it first said something, and what it has said so far

@@ -13,41 +13,30 @@ draws() {
     printed "$name" "$wanted"
 }
 
-if needs python3 "docs/using/table.py" "docs/using/table.py on each example"; then
+if needs python3 docs/using/table.py "docs/using/table.py on each example" "docs/using/table.py on a refused game"; then
     draws docs/using/table.py docs/using/table.py.out python3 docs/using/table.py <examples/eec-1958.tsv
     why=
     for report in examples/*.tsv; do
         python3 docs/using/table.py <"$report" >/dev/null 2>"$temp/err" || why="$report: $(tail -n 1 "$temp/err")"
     done
     if [ -z "$why" ]; then ok "docs/using/table.py on each example"; else failed "docs/using/table.py on each example" "$why"; fi
-fi
-# The other programs of docs/using, on reports with long fractions.
-if needs python3 docs/using/compare.py docs/using/export.py docs/using/bars.py docs/using/sweep.py; then
-    draws docs/using/compare.py docs/using/compare.py.out python3 docs/using/compare.py examples/eec-1958.tsv examples/ec-1973.tsv
-    python3 docs/using/export.py csv <examples/eu-27-lisbon.tsv >"$temp/members.csv" 2>"$temp/err"
-    python3 docs/using/export.py json <examples/eu-27-lisbon.tsv >"$temp/game.json" 2>>"$temp/err"
-    python3 docs/using/bars.py <examples/eu-27-lisbon.tsv >"$temp/bars.svg" 2>>"$temp/err"
-    # shellcheck disable=SC2016
-    python3 -c '
-import csv, json, sys
-from fractions import Fraction
-from xml.etree import ElementTree
-rows = list(csv.DictReader(open(sys.argv[1], encoding="utf-8")))
-game = json.load(open(sys.argv[2], encoding="utf-8"))
-assert len(rows) == len(game["members"]) == 27
-for key in "deegan_packel", "public_good":
-    assert sum(Fraction(it[key]) for it in rows) == sum(Fraction(it[key]) for it in game["members"]) == 1
-assert [it["name"] for it in rows] == [it["name"] for it in game["members"]]
-assert len(ElementTree.parse(sys.argv[3]).getroot().findall("{*}rect")) == 3 * 27 + 3
-' "$temp/members.csv" "$temp/game.json" "$temp/bars.svg" 2>>"$temp/err"
-    if [ $? -eq 0 ]; then ok "docs/using/export.py and bars.py"; else failed "docs/using/export.py and bars.py" "$(tail -n 1 "$temp/err")"; fi
-    python3 docs/using/sweep.py "$program" 1 17 4 4 4 2 2 1 >"$temp/sweep.tsv" 2>"$temp/err"
-    # 17 quotas of six members, and at quota 12 Germany as in the stored report
-    if [ "$(wc -l <"$temp/sweep.tsv")" -eq 103 ] && grep -qx "$(printf '12\t1\t5/24\t0.208333\t1/5\t0.200000')" "$temp/sweep.tsv"; then
-        ok docs/using/sweep.py
+    told=$(python3 docs/using/table.py </dev/null 2>&1)
+    status=$?
+    if [ "$status" -eq 1 ] && [ "$told" = "table.py: there is no report: nothing was read (was the game refused?)" ]; then
+        ok "docs/using/table.py on a refused game"
     else
-        failed docs/using/sweep.py "$(tail -n 1 "$temp/err")"
+        failed "docs/using/table.py on a refused game" "status $status: $told"
     fi
+fi
+if needs python3 docs/using/compare.py; then
+    draws docs/using/compare.py docs/using/compare.py.out python3 docs/using/compare.py examples/eec-1958.tsv examples/ec-1973.tsv
+fi
+# What each program does with tables, names and reports of any kind, and what it refuses.
+if needs python3 tests/using; then
+    for test in tests/using/*.py; do
+        [ "$test" != tests/using/cases.py ] || continue
+        python3 "$test" "$program" 2>"$temp/err" || failed "$test" "it stopped: $(tail -n 1 "$temp/err")"
+    done
 fi
 if needs column "docs/using/table.sh"; then
     draws docs/using/table.sh docs/using/table.sh.out sh docs/using/table.sh <examples/eec-1958.tsv

@@ -26,7 +26,7 @@ for game in board.txt five.toml two.toml ec-1986.toml; do
 done
 
 # ---- on a terminal: how far a run has come, and that a game is read from standard input
-if needs python3 "a long run on a terminal" "a late fault on a terminal" "a game from a terminal"; then
+if needs python3 "a long run on a terminal" "a late fault on a terminal" "a late report on a terminal" "a game from a terminal"; then
     # a game that takes hours, though it has one minimal winning coalition: it is ended once it was told of
     {
         echo 'quotas = [1, 1, 20]'
@@ -64,6 +64,26 @@ assert b"is begun" in run.told, run.told[:60]
 assert run.told.endswith(b"\r\x1b[Kcouncil: too many minimal winning coalitions\r\n"), run.told[-80:]
 END
     then ok "a late fault on a terminal"; else failed "a late fault on a terminal" "$(tail -n 1 "$temp/told")"; fi
+    # the same game where both coalitions are wanted: once it is told of, each slice is, one after the other; the line is wiped
+    # once, before the first byte of the report, which is on the same terminal, and nothing is written between and after
+    run --workers 1 "$temp/late.toml"
+    sed 's/$/\r/' "$temp/out" >"$temp/report"
+    if timeout "$seconds" python3 - "$program" "$temp/late.toml" "$temp/report" >"$temp/told" 2>&1 <<'END'
+import re, sys
+from terminal import Run
+run = Run([sys.argv[1], "--workers", "1", "--bits", "10", sys.argv[2]], both=True)
+status = run.read_all()
+assert status == 0, status
+with open(sys.argv[3], "rb") as it:
+    report = it.read()
+assert b"minimal\t2\r\n" in report, report[:80]
+line, wiped, shown = run.told.partition(b"\r\x1b[K")
+assert shown == report, run.told[-200:]
+numbers = [int(it) for it in re.findall(rb"\rcouncil: slice ([0-9]+) is begun", line)]
+assert len(numbers) > 1 and numbers == list(range(numbers[0], 1025)), numbers
+assert line == b"".join(b"\rcouncil: slice %d is begun" % it for it in numbers), line[:80]
+END
+    then ok "a late report on a terminal"; else failed "a late report on a terminal" "$(tail -n 1 "$temp/told")"; fi
     if timeout "$seconds" python3 - "$program" >"$temp/told" 2>&1 <<'END'
 import sys
 from terminal import type_in

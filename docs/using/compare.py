@@ -1,28 +1,123 @@
 #!/usr/bin/env python3
-"""Two games side by side, member by member, by name: compare.py REPORT REPORT
+"""Two games or more side by side, member by member: compare.py [OPTIONS] REPORT REPORT..
 
-A member that only one of the games has stands with a dash under the other.
+For each game its weights and both indices, and for each but the first what an index has more or less than in the
+first. A member that a game has not stands with a dash there. Members are matched by their names, to the letter; names
+that one game has and another has not, and that look like one, are told on standard error: --same makes them one.
 """
-import sys
+import difflib
+import unicodedata
 
-from report import Report
-
-reports = []
-for path in sys.argv[1:3]:
-    with open(path, encoding="utf-8") as it:
-        reports.append({member.name: member for member in Report(it).members})
-before, after = reports
-names = [*before, *(name for name in after if name not in before)]
+from command import Words, note, report_of, run, shown
+from game import quoted
+from report import Fault, rounded
 
 
-def texts(members, name):
-    it = members.get(name)
-    return [it.weight, it.dp_decimals, it.pg_decimals] if it else ["-", "-", "-"]
+def signed(value):
+    """A difference with six decimals, rounded from the fractions."""
+    digits = rounded(abs(value), 6)
+    sign = "" if float(digits) == 0 else "-" if value < 0 else "+"
+    return sign + digits
 
 
-heading = ["", "weight", "DP", "PG", "weight", "DP", "PG"]
-rows = [[name, *texts(before, name), *texts(after, name)] for name in names]
-widths = [max(map(len, column)) for column in zip(heading, *rows)]
-for row in [heading, *rows]:
-    first, *others = zip(row, widths)
-    print("  ".join([first[0].ljust(first[1]), *(text.rjust(width) for text, width in others)]))
+def folded(name):
+    """A name without accents, capitals and signs, as words."""
+    letters = unicodedata.normalize("NFKD", name.casefold())
+    return "".join(it if it.isalnum() else " " for it in letters if not unicodedata.combining(it)).split()
+
+
+def is_near(one, other):
+    """Whether two names may be of one member: Czechia and Czech Republic, Germany and Germany (West)."""
+    one, other = folded(one), folded(other)
+    short, long = sorted((" ".join(one), " ".join(other)), key=len)
+    if not short or short == long:
+        return short == long
+    first, grown = sorted((one[0], other[0]), key=len)
+    begins = len(short) >= 4 and long.startswith(short)
+    grows = 5 <= len(first) < len(grown) and grown.startswith(first)
+    return begins or grows or difflib.SequenceMatcher(None, short, long).ratio() >= 0.8
+
+
+def warn(games):
+    """Tells of names that only one game has, and that are near to a name that only another has."""
+    told = set()
+    for at, one in enumerate(games, 1):
+        for number, other in enumerate(games[at:], at + 1):
+            for name in one:
+                for it in other:
+                    if name not in other and it not in one and (name, it) not in told and is_near(name, it):
+                        told.add((name, it))
+                        note(f"{quoted(name)} of report {at} and {quoted(it)} of report {number} may be one member: --same {quoted(name)} {quoted(it)} makes them one")
+
+
+def members_of(report, same):
+    """The members by name; where two names are to be one, by the first of them."""
+    members = {}
+    for it in report.members:
+        name = next((first for first, other in same if it.name == other), it.name)
+        if name in members:
+            raise Fault(f"--same {quoted(name)} {quoted(it.name)}: one report has both", 2)
+        members[name] = it
+    return members
+
+
+def cells(games, name):
+    """A row: the groups of cells of each game, and of each difference to the first."""
+    first = games[0].get(name)
+    for at, members in enumerate(games):
+        it = members.get(name)
+        yield [it.weight, it.dp_decimals, it.pg_decimals] if it else ["-", "-", "-"]
+        if at:
+            whole = it and first
+            yield [signed(it.deegan_packel - first.deegan_packel), signed(it.public_good - first.public_good)] if whole else ["-", "-"]
+
+
+def width(text):
+    return sum(0 if unicodedata.combining(it) else 2 if unicodedata.east_asian_width(it) in "WF" else 1 for it in text)
+
+
+def table(games):
+    """The lines of the table. A heading stands over each group."""
+    names = list(dict.fromkeys(name for members in games for name in members))
+    over = ["1"]
+    for at in range(2, len(games) + 1):
+        over += [str(at), f"{at} - 1"]
+    groups = [["weight", "DP", "PG"] if "-" not in it else ["DP", "PG"] for it in over]
+    rows = [["", groups]] + [[shown(name), list(cells(games, name))] for name in names]
+    # each group is as wide as its cells, whose columns are as wide as their longest text
+    widths = [[max(width(row[1][at][column]) for row in rows) for column in range(len(group))] for at, group in enumerate(groups)]
+    first = max(width(row[0]) for row in rows)
+
+    def line(name, its):
+        parts = [name + " " * (first - width(name))]
+        for group, wide in zip(its, widths):
+            parts.append("  ".join(" " * (most - width(it)) + it for it, most in zip(group, wide)))
+        return "   ".join(parts).rstrip()
+
+    yield line("", [[""] * (len(group) - 1) + [it] for it, group in zip(over, groups)])
+    for name, its in rows:
+        yield line(name, its)
+
+
+def main(words):
+    reader = Words(__doc__)
+    reader.add_argument("reports", metavar="REPORT", nargs="+", help="a report of council; - is standard input")
+    reader.add_argument("--same", metavar=("NAME", "OTHER"), nargs=2, action="append", default=[], help="two names that are one member")
+    words = reader.parse_args(words)
+    if len(words.reports) < 2 or words.reports.count("-") > 1:
+        raise Fault("name two reports or more", 2)
+    reports = [report_of(it) for it in words.reports]
+    games = [members_of(it, words.same) for it in reports]
+    for first, other in words.same:
+        if not any(it.name in (first, other) for report in reports for it in report.members):
+            raise Fault(f"--same {quoted(first)} {quoted(other)}: no report has one of them", 2)
+    for at, it in enumerate(reports, 1):
+        print(f"{at}  {shown(it.title) or 'a game'}: {it.quota} of {it.total}, minimal winning coalitions: {it.minimal}")
+    print()
+    for line in table(games):
+        print(line)
+    warn(games)
+
+
+if __name__ == "__main__":
+    run(main)

@@ -1,34 +1,199 @@
 #!/usr/bin/env python3
-"""A report of council as CSV or as JSON: export.py csv|json <REPORT
+"""A report of council as CSV, JSON, LaTeX or Markdown:
 
-CSV has a line for each member, with a heading, and a comma between the fields; a field that needs it is
-quoted. Fractions are text in both. JSON also has the title, the quota, the total and the number of minimal
-winning coalitions; weights are lists, one number for each rule.
+    export.py csv|json|latex|markdown [OPTIONS] <REPORT
+
+csv       A line for each member, with a heading. Names and fractions stand in quotes; a name that a spreadsheet
+          would take for a formula has an apostrophe in front.
+json      The whole report: numbers as numbers, fractions as two integers, and the coalitions where they are listed.
+latex     A table for the package booktabs. Letters that pdflatex has not stand by their numbers.
+markdown  A table, in which no letter of a name has a meaning of its own.
+
+The columns of a table are name, weight, share (of the votes), coalitions, dp and pg (the Deegan-Packel index and
+the public good index as decimals), deegan_packel and public_good (the same as fractions). With several rules there
+is a weight and a share for each.
 """
-import csv
 import json
+import re
 import sys
+import unicodedata
 
-from report import Report
+from command import Words, run
+from game import quoted
+from report import Fault, Report, rounded
 
-report = Report(sys.stdin)
-if sys.argv[1] == "csv":
-    table = csv.writer(sys.stdout, lineterminator="\n")
-    table.writerow(["name", "weight", "coalitions", "deegan_packel", "dp", "public_good", "pg"])
-    for it in report.members:
-        indices = [it.dp_fraction, it.dp_decimals, it.pg_fraction, it.pg_decimals]
-        table.writerow([it.name, it.weight, it.coalitions, *indices])
-else:
-    members = [
-        {
-            "name": it.name,
-            "weights": it.weights,
-            "coalitions": it.coalitions,
-            "deegan_packel": it.dp_fraction,
-            "public_good": it.pg_fraction,
-        }
-        for it in report.members
-    ]
-    whole = {"title": report.title, "quota": report.quota, "total": report.total, "minimal": report.minimal, "members": members}
-    json.dump(whole, sys.stdout, indent=1, ensure_ascii=False)
-    print()
+FORMATS = ["csv", "json", "latex", "markdown"]
+HEADINGS = {
+    "name": "Member", "weight": "Weight", "share": "Share", "coalitions": "Coalitions", "deegan_packel": "Deegan-Packel",
+    "dp": "Deegan-Packel", "public_good": "Public good", "pg": "Public good",
+}
+IN_CSV = ["name", "weight", "coalitions", "deegan_packel", "dp", "public_good", "pg"]
+IN_PRINT = ["name", "weight", "dp", "pg"]
+TEXTS = ["name", "deegan_packel", "public_good"]
+
+
+class Column:
+    """A column: what it has, and of which rule where there are several."""
+
+    def __init__(self, kind, rule=None):
+        self.kind, self.rule = kind, rule
+
+    def heading(self):
+        return self.kind if self.rule is None else f"{self.kind}_{self.rule + 1}"
+
+    def words(self):
+        return HEADINGS[self.kind] + ("" if self.rule is None else f", rule {self.rule + 1}")
+
+    def text(self, report, member, places):
+        """The cell of a member; decimals are rounded to so many places, or as the report has them."""
+        kind, rule = self.kind, self.rule or 0
+        if kind == "weight":
+            return str(member.weights[rule])
+        if kind == "share":
+            return rounded(report.share(member, rule), 6 if places is None else places)
+        if kind == "dp":
+            return member.dp_decimals if places is None else rounded(member.deegan_packel, places)
+        if kind == "pg":
+            return member.pg_decimals if places is None else rounded(member.public_good, places)
+        return {"name": member.name, "coalitions": str(member.coalitions), "deegan_packel": member.dp_fraction, "public_good": member.pg_fraction}[kind]
+
+
+def columns_of(report, kinds):
+    several = len(report.quotas) > 1
+    for kind in kinds:
+        if several and kind in ("weight", "share"):
+            yield from (Column(kind, rule) for rule in range(len(report.quotas)))
+        else:
+            yield Column(kind)
+
+
+def csv(report, columns, places):
+    yield ",".join(it.heading() for it in columns)
+    for member in report.members:
+        cells = []
+        for it in columns:
+            text = it.text(report, member, places)
+            if it.kind == "name" and text.lstrip()[:1] in tuple("=+-@\t\r＝＋－＠"):
+                text = "'" + text
+            cells.append('"' + text.replace('"', '""') + '"' if it.kind in TEXTS else text)
+        yield ",".join(cells)
+
+
+def in_latex(text):
+    """A text as LaTeX prints it, letter by letter."""
+    names = {"\\": "textbackslash", "~": "textasciitilde", "^": "textasciicircum", "<": "textless", ">": "textgreater", "|": "textbar"}
+    text = unicodedata.normalize("NFC", text)
+    letters = []
+    for at, it in enumerate(text):
+        if it in names:
+            letters.append(f"\\{names[it]}{{}}")
+        elif it in "&%$#_{}":
+            letters.append("\\" + it)
+        elif it == '"':
+            letters.append("{\\char34}")
+        elif it in "[]*":
+            letters.append("{" + it + "}")
+        elif it == " " and (at == 0 or at + 1 == len(text) or text[at - 1] == " "):
+            letters.append("\\ ")
+        elif it in "-'`,?!" and text[at + 1 : at + 2] in tuple("-'`,?!"):
+            letters.append(it + "{}")
+        else:
+            letters.append(it)
+    return "".join(letters)
+
+
+def latex(report, columns, places):
+    if report.title:
+        yield f"% {report.title}"
+    yield "% \\usepackage{booktabs}, and \\usepackage[T1]{fontenc} for letters with accents"
+    for it in sorted(set(unicodedata.normalize("NFC", "".join(it.name for it in report.members)))):
+        if it > "\u017f" or "\x7f" < it < "\xa0":
+            # where this TeX has no such letter, its number
+            name = f"u8:\\detokenize{{{it}}}\\endcsname"
+            yield f"\\ifcsname {name}\\else\\expandafter\\def\\csname {name}{{[U+{ord(it):04X}]}}\\fi"
+    yield "\\begin{tabular}{" + "".join("l" if it.kind == "name" else "r" for it in columns) + "}"
+    yield "\\toprule"
+    yield " & ".join(it.words() for it in columns) + " \\\\"
+    yield "\\midrule"
+    for member in report.members:
+        cells = []
+        for it in columns:
+            text = it.text(report, member, places)
+            cells.append(in_latex(text) if it.kind == "name" else f"${text}$" if it.kind in TEXTS else text)
+        yield " & ".join(cells) + " \\\\"
+    yield "\\bottomrule"
+    yield "\\end{tabular}"
+
+
+def markdown(report, columns, places):
+    def row(cells):
+        return "| " + " | ".join(cells) + " |"
+
+    yield row([it.words() for it in columns])
+    yield row([":--" if it.kind == "name" else "--:" for it in columns])
+    for member in report.members:
+        yield row([re.sub(r"([!-/:-@\[-`{-~])", r"\\\1", it.text(report, member, places)) if it.kind == "name" else it.text(report, member, places) for it in columns])
+
+
+def pair(value):
+    return [value.numerator, value.denominator]
+
+
+def whole(report, places):
+    """The whole report as one value."""
+
+    def index(value, decimals):
+        return {"fraction": pair(value), "decimals": float(decimals if places is None else rounded(value, places))}
+
+    value = {
+        "title": report.title or None,
+        "quotas": report.quotas,
+        "totals": report.totals,
+        "minimal": report.minimal,
+        "members": [
+            {
+                "name": it.name,
+                "weights": it.weights,
+                "coalitions": it.coalitions,
+                "deegan_packel": index(it.deegan_packel, it.dp_decimals),
+                "public_good": index(it.public_good, it.pg_decimals),
+            }
+            for it in report.members
+        ],
+    }
+    if report.coalitions:
+        value["coalitions"] = [{"members": it.names, "weights": it.weights} for it in report.coalitions]
+    return value
+
+
+def main(words):
+    reader = Words(__doc__)
+    reader.add_argument("format", metavar="FORMAT", nargs="?", default="", help="csv, json, latex or markdown")
+    reader.add_argument("--columns", metavar="NAME,..", help="the columns of a table, in this order")
+    reader.add_argument("--decimals", metavar="N", type=int, choices=range(1, 31),
+                        help="decimals, 1 to 30, rounded from the fractions, a half upwards; else in csv and json six, cut off, and in tables four")
+    reader.add_argument("--mark", action="store_true", help="a byte order mark in front of csv, by which Excel knows UTF-8")
+    words = reader.parse_args(words)
+    if words.format not in FORMATS:
+        said = f"{quoted(words.format)} is no format" if words.format else "say a format"
+        raise Fault(f"{said}: csv, json, latex or markdown", 2)
+    kinds = words.columns.split(",") if words.columns is not None else IN_CSV if words.format == "csv" else IN_PRINT
+    for it in kinds:
+        if it not in HEADINGS:
+            raise Fault(f"{quoted(it)} is no column: {', '.join(HEADINGS)}", 2)
+    report = Report(sys.stdin)
+    if words.format == "json":
+        print(json.dumps(whole(report, words.decimals), indent=1, ensure_ascii=False))
+        return
+    columns = list(columns_of(report, kinds))
+    if words.format == "csv":
+        lines = csv(report, columns, words.decimals)
+        sys.stdout.write("\ufeff" if words.mark else "")
+    else:
+        lines = {"latex": latex, "markdown": markdown}[words.format](report, columns, words.decimals or 4)
+    for it in lines:
+        print(it)
+
+
+if __name__ == "__main__":
+    run(main)

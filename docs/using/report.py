@@ -1,30 +1,103 @@
-"""Reads a report of council: the title, the members with both indices, and the lines by their first field."""
-import csv
+"""Reads a report of council: the title, the quotas, the members with both indices, and the coalitions where they are listed."""
+import math
 from fractions import Fraction
 
 
+class Fault(Exception):
+    """What a user is told in one line, and the status with which a program ends then."""
+
+    def __init__(self, text, status=1):
+        super().__init__(text)
+        self.status = status
+
+
+def number(text):
+    """A number of a report: digits alone."""
+    if not (text.isascii() and text.isdigit()):
+        raise ValueError(text)
+    return int(text)
+
+
+def numbers(text):
+    """A field that has one number for each rule, with / between them."""
+    return [number(it) for it in text.split("/")]
+
+
+def fraction(text):
+    top, bottom = text.split("/")
+    return Fraction(number(top), number(bottom))
+
+
+def rounded(value, places):
+    """A value of at least 0 as a text with so many decimals, a half rounded upwards, from the exact fraction."""
+    digits = str(math.floor(value * 10**places + Fraction(1, 2))).rjust(places + 1, "0")
+    return digits[:-places] + "." + digits[-places:] if places else digits
+
+
 class Member:
-    def __init__(self, fields):
-        self.name, self.weight, self.coalitions = fields[0], fields[1], int(fields[2])
+    def __init__(self, name, weight, coalitions, *indices):
+        self.name, self.weight, self.coalitions = name, weight, number(coalitions)
         # one number for each rule
-        self.weights = [int(it) for it in self.weight.split("/")]
+        self.weights = numbers(weight)
         # the fractions and the decimals as the report has them
-        self.dp_fraction, self.dp_decimals, self.pg_fraction, self.pg_decimals = fields[3:7]
-        self.deegan_packel = Fraction(self.dp_fraction)
-        self.public_good = Fraction(self.pg_fraction)
+        self.dp_fraction, self.dp_decimals, self.pg_fraction, self.pg_decimals = indices
+        self.deegan_packel = fraction(self.dp_fraction)
+        self.public_good = fraction(self.pg_fraction)
+
+
+class Coalition:
+    def __init__(self, size, weight, *names):
+        self.weights = numbers(weight)
+        self.names = list(names)
+        if number(size) != len(names):
+            raise ValueError(size)
 
 
 class Report:
-    """A report has lines with different numbers of fields, and a name may hold quotes: so the fields are
-    split at TABs and nothing else."""
+    """A report, from its lines. They have different numbers of fields, and a name may hold quotes: so the fields
+    are split at TABs and nothing else. What is no report is a Fault."""
 
     def __init__(self, lines):
-        rows = list(csv.reader(lines, delimiter="\t", quoting=csv.QUOTE_NONE))
-        first = {row[0]: row[1] for row in reversed(rows) if len(row) > 1}
-        self.title = first.get("title", "")
-        self.quota, self.total = first["quota"], first["total"]
-        self.minimal = int(first["minimal"])
-        self.members = [Member(row[1:]) for row in rows if row[0] == "member"]
+        self.title = ""
+        self.members, self.coalitions = [], []
+        one = {}
+        for at, line in enumerate(lines, 1):
+            kind, *fields = line.rstrip("\r\n").split("\t")
+            try:
+                if kind == "member":
+                    self.members.append(Member(*fields))
+                elif kind == "coalition":
+                    self.coalitions.append(Coalition(*fields))
+                elif kind in ("title", "members", "quota", "total", "minimal"):
+                    (one[kind],) = fields
+                elif kind not in ("notation", "size"):
+                    raise ValueError(kind)
+            except (TypeError, ValueError, ZeroDivisionError):
+                raise Fault(f"line {at} is no line of a report of council") from None
+        if not one and not self.members:
+            raise Fault("there is no report: nothing was read (was the game refused?)")
+        try:
+            self.title = one.get("title", "")
+            self.quota, self.total = one["quota"], one["total"]
+            self.quotas, self.totals = numbers(self.quota), numbers(self.total)
+            self.minimal = number(one["minimal"])
+            whole = number(one["members"]) == len(self.members) and self.coalitions[self.minimal :] == []
+        except (KeyError, ValueError):
+            whole = False
+        if not (whole and self.is_sound()):
+            raise Fault("the report is not whole, or its numbers are not those of council")
         # the share of the votes under the first rule
-        whole = int(self.total.split("/")[0])
-        self.shares = [Fraction(it.weights[0], whole) for it in self.members]
+        self.shares = [self.share(it) for it in self.members]
+
+    def is_sound(self):
+        """Whether the weights of each rule add up to its total, and each index adds up to 1."""
+        rules = len(self.quotas)
+        if len(self.totals) != rules or any(len(it.weights) != rules for it in self.members):
+            return False
+        sums = [sum(it.weights[rule] for it in self.members) for rule in range(rules)]
+        ones = [sum(it.deegan_packel for it in self.members), sum(it.public_good for it in self.members)]
+        return sums == self.totals and min(sums) > 0 and ones == [1, 1]
+
+    def share(self, member, rule=0):
+        """A member's share of the votes under a rule."""
+        return Fraction(member.weights[rule], self.totals[rule])

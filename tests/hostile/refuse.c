@@ -2,6 +2,7 @@
  *
  *     REFUSE_AT=3 LD_PRELOAD=./refuse.so PROGRAM      refuses the third allocation alone
  *     REFUSE_FROM=3 LD_PRELOAD=./refuse.so PROGRAM    refuses the third and each later one
+ *     REFUSE_OVER=65536 LD_PRELOAD=./refuse.so PROGRAM    refuses each of more bytes than so many
  *
  * Calls of malloc, calloc, realloc, aligned_alloc, memalign and posix_memalign count from 1, from the
  * start of `main` on, in all threads together: what the C library itself takes before is no part of
@@ -31,7 +32,7 @@ extern void *__libc_memalign(size_t align, size_t size);
 static atomic_int counting;
 static atomic_ulong allocations;
 static atomic_int told;
-static unsigned long refuse_at, refuse_from;
+static unsigned long refuse_at, refuse_from, refuse_over;
 static int refuse_to = STDERR_FILENO;
 static int one_call;
 
@@ -53,12 +54,12 @@ static void tell(unsigned long number)
 	errno = kept;
 }
 
-static int is_refused(void)
+static int is_refused(size_t size)
 {
 	if (!atomic_load(&counting))
 		return 0;
 	unsigned long number = atomic_fetch_add(&allocations, 1) + 1;
-	if (number != refuse_at && (!refuse_from || number < refuse_from))
+	if (number != refuse_at && (!refuse_from || number < refuse_from) && (!refuse_over || size <= refuse_over))
 		return 0;
 	if (!atomic_exchange(&told, 1))
 		tell(number);
@@ -68,22 +69,22 @@ static int is_refused(void)
 
 void *malloc(size_t size)
 {
-	return is_refused() ? NULL : __libc_malloc(size);
+	return is_refused(size) ? NULL : __libc_malloc(size);
 }
 
 void *calloc(size_t count, size_t size)
 {
-	return is_refused() ? NULL : __libc_calloc(count, size);
+	return is_refused(count * size) ? NULL : __libc_calloc(count, size);
 }
 
 void *realloc(void *old, size_t size)
 {
-	return is_refused() ? NULL : __libc_realloc(old, size);
+	return is_refused(size) ? NULL : __libc_realloc(old, size);
 }
 
 void *memalign(size_t align, size_t size)
 {
-	return is_refused() ? NULL : __libc_memalign(align, size);
+	return is_refused(size) ? NULL : __libc_memalign(align, size);
 }
 
 void *aligned_alloc(size_t align, size_t size)
@@ -93,7 +94,7 @@ void *aligned_alloc(size_t align, size_t size)
 
 int posix_memalign(void **made, size_t align, size_t size)
 {
-	if (is_refused())
+	if (is_refused(size))
 		return ENOMEM;
 	void *it = __libc_memalign(align, size);
 	if (!it)
@@ -121,6 +122,7 @@ static int counted_main(int words, char **word, char **environment)
 {
 	refuse_at = number_in("REFUSE_AT");
 	refuse_from = number_in("REFUSE_FROM");
+	refuse_over = number_in("REFUSE_OVER");
 	if (getenv("REFUSE_TO"))
 		refuse_to = (int)number_in("REFUSE_TO");
 	one_call = getenv("REFUSE_CALL") != NULL;

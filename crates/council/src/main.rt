@@ -2,11 +2,17 @@
 //! indices that rest on them.
 #![tactic(auto)]
 
-use council_explain::{Kept, explain, shown};
-use council_progress::{Progress, Wiping};
-use council_run::{Cause, Options, RunFault, run, status, tally};
+ghost use Rattle.std.specs.Prelude.{◌≡◌, IfOk, IfErr, false, true};
+ghost use Rattle.council_report.specs.Report.{report};
+ghost use Rattle.council_run.specs.Run.{Reports, Stops};
+ghost use Rattle.council.specs.Inner.Wants.{IsTaken, lines_wanted};
+
+use council_explain::{explain, shown};
+use council_progress::{Line, Progress};
+use council_run::{Cause, Options, RunFault, Watch, run, status, tally};
+use council_streams::{Kept, Wiping};
 use council_words::{Wanted, command_line, wanted};
-use mwc_gather::GatherFault;
+use mwc_gather::{Gate, GatherFault};
 use std::io::IsTerminal;
 use std::process::ExitCode;
 use std::rt::Files;
@@ -58,8 +64,15 @@ fn not_opened(
     ExitCode::from(1)
 }
 
-/// What a run is to do.
-fn options_of(wanted: &Wanted<'_>) -> Options {
+/// What a run is to do, as the words say it.
+fn options_of(wanted: &Wanted<'_>) -> Options
+    ensures workers { result.workers ≡ wanted.now.workers }
+    ensures bits { result.bits ≡ wanted.now.bits }
+    ensures most { result.most ≡ wanted.now.most }
+    ensures list { result.list ≡ wanted.now.list }
+    ensures sizes { result.sizes ≡ wanted.now.sizes }
+    ensures notation { result.notation ≡ wanted.now.notation }
+{
     Options {
         workers: wanted.workers,
         bits: wanted.bits,
@@ -67,6 +80,52 @@ fn options_of(wanted: &Wanted<'_>) -> Options {
         list: wanted.list,
         sizes: wanted.sizes,
         notation: wanted.notation,
+    }
+}
+
+/// Does what the words ask for: a run or a tally, under their options.
+fn answer<
+    R: AllocGlobal + Threads + Wait + Sync,
+    I: io::Read,
+    P: Gate + Watch + Sync,
+    W: io::Write,
+>(
+    rt: &R,
+    wanted: &Wanted<'_>,
+    reader: &mut I,
+    progress: &P,
+    writer: &mut W,
+) -> Result<u64, RunFault>
+    ensures ok { IfOk result (λ len. Reports (report (lines_wanted wanted.now)) (IsTaken wanted.now)
+        (record {
+          unread = I.remaining reader.old;
+          left = I.remaining reader.new;
+          before = W.contents writer.old;
+          after = W.contents writer.new;
+        }) len) }
+    ensures run { wanted.now.tally ≡ false → IfErr result (λ fault.
+        Stops (report (lines_wanted wanted.now)) (IsTaken wanted.now) ⊥
+        (record {
+          unread = I.remaining reader.old;
+          left = I.remaining reader.new;
+          before = W.contents writer.old;
+          after = W.contents writer.new;
+        }) fault.cause fault.written) }
+    ensures tally { wanted.now.tally ≡ true → IfErr result (λ fault.
+        Stops (report (lines_wanted wanted.now)) (IsTaken wanted.now) P.may_stop
+        (record {
+          unread = I.remaining reader.old;
+          left = I.remaining reader.new;
+          before = W.contents writer.old;
+          after = W.contents writer.new;
+        }) fault.cause fault.written) }
+{
+    let alloc = rt.alloc();
+    let options = options_of(wanted);
+    if wanted.tally {
+        tally(rt, alloc, reader, &options, progress, writer)
+    } else {
+        run(rt, alloc, reader, &options, progress, writer)
     }
 }
 
@@ -79,20 +138,15 @@ fn run_on<R: AllocGlobal + Print + Eprint + Clock + Threads + Wait + Sync, I: io
     reader: &mut I,
 ) -> ExitCode {
     let alloc = rt.alloc();
-    let options = options_of(wanted);
     let mut reader = Kept::new(alloc, reader, wanted.explain);
     let progress = Progress::new(rt, terminal);
     let mut writer = Wiping {
-        progress: &progress,
+        line: Line(&progress),
         writer: io::writer(rt),
     };
-    let answer = if wanted.tally {
-        tally(rt, alloc, &mut reader, &options, &progress, &mut writer)
-    } else {
-        run(rt, alloc, &mut reader, &options, &progress, &mut writer)
-    };
+    let answered = answer(rt, wanted, &mut reader, &progress, &mut writer);
     progress.wipe();
-    match answer {
+    match answered {
         Ok(_) => ExitCode::SUCCESS,
         Err(fault) => {
             let code = stop(rt, fault);

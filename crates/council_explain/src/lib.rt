@@ -10,7 +10,6 @@ mod bracket;
 mod explaining;
 mod file;
 mod grammar;
-mod kept;
 mod members;
 mod rules;
 mod said;
@@ -18,5 +17,4 @@ mod source;
 mod values;
 
 pub use explaining::explain;
-pub use kept::Kept;
 pub use said::shown;

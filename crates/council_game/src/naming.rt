@@ -1,6 +1,7 @@
 //! Coalitions by their members, and members by their names.
-ghost use Rattle.std.specs.Prelude.{◌≡◌, ◌<◌, ◌^◌, ◌==◌, ℕ, All, IfOk, length, map, slice_index};
+ghost use Rattle.std.specs.Prelude.{◌≡◌, ◌≢◌, ◌<◌, ◌^◌, ◌==◌, ◌++◌, ◌∷◌, [], ℕ, All, IfOk, OnOk, length, map, slice_index, true};
 ghost use Rattle.std.specs.List.{list_any};
+ghost use Rattle.council_game.specs.Game.{IsGame};
 ghost use Rattle.council_game.specs.Ranks.{member_at};
 ghost use Rattle.council_game.specs.Votes.{has, places_of};
 
@@ -17,12 +18,24 @@ impl Game {
             ≡ list_any (λ j. j == i) members.now }
         ensures below { result < 2 ^ length self.now.names }
     {
-        let count = self.members();
         let mut coalition = Coalition::of_mask(0);
         for member in members {
-            coalition = coalition.with(count, self.place_of(*member));
+            coalition = self.with_member(coalition, *member);
         }
         coalition
+    }
+
+    /// The coalition with one member besides, given by its place in the file.
+    fn with_member(&self, coalition: Coalition, member: usize) -> Coalition
+        requires { member < length self.now.names }
+        ensures inside { has (length self.now.names) (slice_index self.now.ranks member) result
+            ≡ true }
+        ensures others { (p : ℕ) → p < length self.now.names → p ≢ slice_index self.now.ranks member
+            → has (length self.now.names) p result ≡ has (length self.now.names) p coalition }
+        ensures below { coalition < 2 ^ length self.now.names → result < 2 ^ length self.now.names }
+        ensures game { IsGame self.now }
+    {
+        coalition.with(self.members(), self.place_of(member))
     }
 
     /// The members of a coalition, each by its place in the file, from 0: by rank, the heaviest first.
@@ -38,9 +51,18 @@ impl Game {
         let mut members = Vec::new(alloc);
         for place in 0..count {
             if coalition.has(count, place) {
-                members.push(self.member_at(place))?;
+                self.push_member(&mut members, place)?;
             }
         }
         Ok(members)
+    }
+
+    /// Adds the member at a place by rank to a row.
+    fn push_member(&self, members: &mut Vec<usize>, place: usize) -> Result<(), Memory>
+        requires { place < length self.now.names }
+        ensures { OnOk result (members.new.items
+            ≡ members.old.items ++ member_at self.now.ranks place ∷ []) }
+    {
+        Ok(members.push(self.member_at(place))?)
     }
 }

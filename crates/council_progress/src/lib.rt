@@ -3,10 +3,10 @@
 //!
 //! ```text
 //! let progress = Progress::new(rt, rt.stderr().is_terminal());
-//! let mut writer = Wiping { progress: &progress, writer: io::writer(rt) };
+//! let mut writer = Wiping { line: Line(&progress), writer: io::writer(rt) };
 //! ```
 #![tactic(auto)]
 
 mod progress;
 
-pub use progress::{Progress, Wiping};
+pub use progress::{Line, Progress};

@@ -1,8 +1,7 @@
 //! How far a run or a tally has come, told on standard error.
+use council_streams::Wipe;
 use mwc_gather::Gate;
 use mwc_tally::Watch;
-use std::io;
-use std::io::Write;
 use std::sync::{Mutex, Wait};
 use std::time::{Clock, Duration};
 
@@ -81,6 +80,16 @@ impl<'a, R: Eprint + Clock + Wait> Progress<'a, R> {
     }
 }
 
+/// The line that a progress writes.
+#[derive(Drop)]
+pub struct Line<'a, R>(pub &'a Progress<'a, R>);
+
+impl<'a, R: Eprint + Clock + Wait> Wipe for Line<'a, R> {
+    fn wipe(&self) {
+        self.0.wipe();
+    }
+}
+
 impl<'a, R: Eprint + Clock + Wait> Gate for Progress<'a, R> {
     fn pass(&self, _worker: u8, _slice: u16) {
         let mut told = self.told.lock(self.rt);
@@ -90,24 +99,6 @@ impl<'a, R: Eprint + Clock + Wait> Gate for Progress<'a, R> {
             told.shown = true;
             let _ = eprint!(self.rt; "\rcouncil: slice {done} is begun");
         }
-    }
-}
-
-/// A writer that wipes the line before it writes.
-#[derive(Drop)]
-pub struct Wiping<'a, R, W> {
-    pub progress: &'a Progress<'a, R>,
-    pub writer: W,
-}
-
-impl<'a, R: Eprint + Clock + Wait, W: Write> Write for Wiping<'a, R, W> {
-    fn write(&mut self, bytes: &[u8]) -> io::Result<usize> {
-        self.progress.wipe();
-        self.writer.write(bytes)
-    }
-
-    fn flush(&mut self) -> io::Result<()> {
-        self.writer.flush()
     }
 }
 

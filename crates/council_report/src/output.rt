@@ -2,6 +2,7 @@
 ghost use Rattle.std.specs.Prelude.{◌≡◌, ◌≤◌, ◌<◌, ◌+◌, [], length, take, IfOk, IfErr, OnOk};
 ghost use Rattle.std.specs.Vec.{vec_capacity};
 ghost use Rattle.std.specs.Io.KnownBytes.{Appends, Keeps};
+ghost use Rattle.council_report.specs.declared.output.TheConstants.{LINE, ROOM};
 
 use std::alloc::{AllocError, Global};
 use std::io::Write;
@@ -10,7 +11,13 @@ use std::io::Write;
 const ROOM: usize = 65_536;
 
 /// The bytes that are kept free for the next line, which is no longer.
-const LINE: usize = 4_096;
+pub(crate) const LINE: usize = 4_096;
+
+/// What the constants are, as numbers: clauses name them.
+fn are_these_numbers()
+    ensures room { ROOM ≡ 65536 }
+    ensures line { LINE ≡ 4096 }
+{}
 
 /// A write or the flush failed.
 #[derive(Clone, Copy, Debug, PartialEq, Eq)]
@@ -58,6 +65,7 @@ impl Block {
         ensures room { IfOk result HasRoom }
     {
         Ok(Block {
+            // memory: a block, whose room a clause says
             bytes: Vec::with_capacity(alloc, ROOM)?,
             written: 0,
         })

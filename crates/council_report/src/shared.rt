@@ -8,15 +8,13 @@ ghost use Rattle.council_report.specs.Lines.{coalition_line, with_tab, with_slas
 ghost use Rattle.council_report.specs.Inner.Shared.{IsLine, IsReadyLine, IsWholeLine, SameBefore};
 
 use crate::lines::end_line;
+use crate::output::LINE;
 use crate::places::{first_difference, past_last};
 use crate::seat::{Seat, seats_of};
 use crate::subtotal::Subtotal;
 use crate::text::{push_number, push_values};
 use council_game::{Coalition, Game, limits};
 use std::alloc::{AllocError, Global};
-
-/// The bytes that are kept for the names of a line.
-const ROOM: usize = 4_096;
 
 /// The line of a coalition, with a subtotal at each place up to its last member. What the next coalition
 /// shares with it is kept, and only what follows is made anew; in listing order this is little.
@@ -42,7 +40,8 @@ impl SharedLine {
         Ok(SharedLine {
             seats: seats_of(alloc, game)?,
             coalition: Coalition::of_mask(0),
-            names: Vec::with_capacity(alloc, ROOM)?,
+            // memory: a line, whose room a clause says
+            names: Vec::with_capacity(alloc, LINE)?,
             end: 0,
             subtotals: [Subtotal::none(); limits::SIZES],
         })

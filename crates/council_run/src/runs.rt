@@ -1,5 +1,5 @@
 //! A run: from the bytes of a game to its report.
-ghost use Rattle.std.specs.Prelude.{◌≡◌, ◌<◌, ◌≤◌, ◌^◌, ℕ, IfOk, IfErr, length};
+ghost use Rattle.std.specs.Prelude.{◌≡◌, ◌<◌, ◌≤◌, IfOk, IfErr, length};
 ghost use Rattle.std.specs.List.{flat_map};
 ghost use Rattle.std.specs.Io.KnownBytes.{Appends};
 ghost use Rattle.council_report.specs.Report.{report};
@@ -29,8 +29,8 @@ fn gathered<T: Threads + Wait + Sync, G: Gate + Sync>(
     options: &Options,
     gate: &G,
 ) -> Result<Gathered, GatherFault>
-    requires { (w j : ℕ) → w < options.now.workers → j < 2 ^ options.now.bits → G.takes w j }
     ensures ok { IfOk result (IsGathered game.now options.now.most) }
+    ensures parts { IfOk result (λ r. length r.parts.items ≡ options.now.workers) }
     ensures many { result ≡ Err GatherFault.TooMany → options.now.most < count_of game.now }
 {
     let bits = options.bits.min(game.members() as u8);
@@ -61,7 +61,6 @@ fn report<T: Threads + Wait + Sync, W: Write, G: Gate + Sync>(
     gate: &G,
     writer: &mut W,
 ) -> Result<u64, RunFault>
-    requires { (w j : ℕ) → w < options.now.workers → j < 2 ^ options.now.bits → G.takes w j }
     ensures ok { IfOk result (λ len. (count_of game.now ≤ options.now.most)
         × (len ≡ length (report (shown_of options.now) game.now))
         × Appends (W.contents writer.old) (W.contents writer.new)
@@ -80,15 +79,15 @@ fn report<T: Threads + Wait + Sync, W: Write, G: Gate + Sync>(
 /// nothing else. It returns the number of bytes written. It may wait for its workers.
 ///
 /// A writer that takes fewer bytes than it is given is asked again for those that are left. There is one
-/// flush, after the last byte. The gate takes each of the workers with each of the slices that the options
-/// name.
+/// flush, after the last byte.
 ///
 /// # Errors
 ///
-/// The first fault that is met: of the game file, of the gathering, out of memory, or of the writer. No
-/// byte goes out before all memory is there: after each fault but `Write` the writer took nothing, and
-/// after `Write` it has the first bytes of the report. A write that takes no byte or fails, whatever the
-/// cause, is `Write`, and so is a flush that fails.
+/// The first fault that is met, in this order: of the game file; of the gathering, its Start before its Memory, Ring and
+/// TooMany; out of memory for the row of its pieces; Start where a thread that counts them could not be started; out of
+/// memory for the report; of the writer. No byte goes out before all memory is there: after each fault but `Write`
+/// the writer took nothing, and after `Write` it has the first bytes of the report. A write that takes no byte or
+/// fails, whatever the cause, is `Write`, and so is a flush that fails.
 pub fn run<T: Threads + Wait + Sync, R: Read, W: Write, G: Gate + Sync>(
     rt: &T,
     alloc: Global,
@@ -97,7 +96,6 @@ pub fn run<T: Threads + Wait + Sync, R: Read, W: Write, G: Gate + Sync>(
     gate: &G,
     writer: &mut W,
 ) -> Result<u64, RunFault>
-    requires { (w j : ℕ) → w < options.now.workers → j < 2 ^ options.now.bits → G.takes w j }
     ensures ok { IfOk result (λ len.
         Reports (report (shown_of options.now)) (λ g. count_of g ≤ options.now.most)
         (record {

@@ -42,7 +42,10 @@ pub struct Wanted<'a> {
 }
 
 const ABOUT: &str =
-    "Lists the minimal winning coalitions of a weighted voting game, and computes two power indices that rest on them: the Deegan-Packel index and the public good index (Holler and Packel), as exact fractions and as six decimals that are cut off.";
+    "Lists the minimal winning coalitions of a weighted voting game, and computes two
+power indices that rest on them, as exact fractions and with six decimals that
+are cut off: the Deegan-Packel index (Deegan and Packel 1978) and the public
+good index (Holler 1982; Holler and Packel 1983).";
 
 /// The version, and with which kit it was proved.
 const VERSION: &str = "1.2.0\nproved with rattle-kit-13f logic dac8208d650f15bf";
@@ -60,11 +63,14 @@ const FORMS: &str = "A game file has one of two forms:
   name = \"C\"
   weight = 1
 
-The first is TOML; a title, and up to 4 rules by quotas and weights, may stand in it. The second names
-the members 1, 2, 3. There are 1 to 40 members, each weight is from 0 to 1000000000000.
+A coalition wins that reaches or passes the quota: more than half of 100 is 51.
+The first form is TOML; a title, and up to 4 rules by quotas and weights, may
+stand in it, and then a coalition wins that meets each quota. The second names
+the members 1, 2, 3. There are 1 to 40 members, and weights from 0 to
+1000000000000.
 
-The report has these lines. The fields of a line are separated by one TAB; under several rules a quota,
-a total or a weight has one value for each rule, with / between them.
+The report has these lines, whose fields are separated by one TAB. Under several
+rules a quota, a total or a weight has one value for each rule, with / between.
 
   title      the title, where the file has one
   members    the number of members
@@ -72,21 +78,27 @@ a total or a weight has one value for each rule, with / between them.
   total      the total of the weights
   notation   [q; w1, .., wn], a line for each rule (--notation)
   minimal    the number of minimal winning coalitions
-  coalition  its size, its weight, and its members' names, the heaviest first (--list)
-  size       a size, how many coalitions have it, and how many of those contain each member (--sizes)
-  member     a name, its weight, how many coalitions contain the member, the Deegan-Packel index as a
-             fraction and as decimals, and the public good index likewise
+  coalition  its size, its weight, and its members' names, the heaviest first
+             (--list)
+  size       a size, how many coalitions have it, and how many of those contain
+             each member (--sizes)
+  member     a name, its weight, how many coalitions contain the member, the
+             Deegan-Packel index as a fraction and as decimals, and the public
+             good index likewise
 
-With --tally a game may have any number of coalitions: they are counted, and none is kept. Where
-it has one rule, or two of which one gives each member the same weight, they are mostly counted by
-sums, and --workers and --bits then have no effect.
+With --tally a game may have any number of coalitions: they are counted, and
+none is kept. Where it has one rule, or two of which one gives each member the
+same weight, they are mostly counted by sums, and --workers and --bits then have
+no effect.
 
-With --explain the one line that says why a game is refused is followed by others, which begin with
-blanks: the line of the file, what stands there, and what is allowed.
+With --explain the one line that says why a game is refused is followed by
+others, which begin with blanks: the line of the file, what stands there, and
+what is allowed.
 
-The status is 0 where the report was written, 1 where the game file cannot be opened or read,
-2 where the command line is wrong, 3 where the file has no game, 4 where the game has more than
---most coalitions, 5 where memory, a thread or the output failed.";
+The status is 0 where the report was written, 1 where the game file cannot be
+opened or read, 2 where the command line is wrong, 3 where the file has no game,
+4 where the game has more than --most coalitions, 5 where memory, a thread or
+the output failed.";
 
 fn number_option<'a>(
     alloc: Global,
@@ -111,7 +123,7 @@ fn flag<'a>(alloc: Global, name: &'a str, help: &'a str) -> Arg<'a> {
 }
 
 fn tally<'a>(alloc: Global) -> Result<Arg<'a>, AllocError> {
-    let help = "Counts the coalitions and keeps none, however many they are";
+    let help = "Counts the coalitions, any number of them, and keeps none";
     flag(alloc, "tally", help)
         .conflicts_with("list")?
         .conflicts_with("most")
@@ -119,10 +131,11 @@ fn tally<'a>(alloc: Global) -> Result<Arg<'a>, AllocError> {
 
 /// What the command takes, in the order of `--help`.
 fn arguments<'a>(alloc: Global) -> Result<Vec<Arg<'a>>, Error> {
-    let file = "The game file; where none is named, or -, standard input is read";
+    let file = "The game file; none, or -, is standard input";
     let workers = "Worker threads, 1 to 16";
-    let bits = "How many of the heaviest members are fixed in each slice, 0 to 10";
-    let most = "A game with more coalitions is refused, 1 to 4000000; --tally takes any number";
+    let bits = "Tuning only: how the work is cut, 0 to 10";
+    let most = "A game with more coalitions is refused, 1 to 4000000;
+--tally takes any number";
     let explain = "Where a game is refused, lines that say where and why";
     let tally = tally(alloc)?;
     Ok(vec![in alloc;

@@ -106,11 +106,14 @@ fn five_of_forty_win(rt: HostRuntime) -> Result<(), Fail> {
     Ok(())
 }
 
-/// Which of 32 slices were counted, a binary digit for each, and how often one was counted again.
+/// Which of 32 slices were counted, a binary digit for each, how often one was counted again, and how many came in
+/// descending order: slice 31 first.
 #[derive(Drop)]
 struct Once {
     seen: AtomicU64,
     again: AtomicU64,
+    came: AtomicU64,
+    descending: AtomicU64,
 }
 
 impl Watch for Once {
@@ -119,10 +122,15 @@ impl Watch for Once {
         if digit == 0 || self.seen.fetch_or(digit, Ordering::SeqCst) & digit != 0 {
             self.again.fetch_add(1, Ordering::SeqCst);
         }
+        let before = self.came.fetch_add(1, Ordering::SeqCst);
+        if before < 32 && u64::from(slice) == 31 - before {
+            self.descending.fetch_add(1, Ordering::SeqCst);
+        }
     }
 }
 
-/// The threads count each slice, and none twice: nothing is left to be counted anew at the end.
+/// The threads count each slice, and none twice: nothing is left to be counted anew at the end. One thread takes the
+/// last slice first.
 #[test]
 fn each_slice_is_counted_once(rt: HostRuntime) -> Result<(), Fail> {
     let game = game(rt.alloc(), 51, &[35, 20, 15, 15, 15])?;
@@ -131,6 +139,8 @@ fn each_slice_is_counted_once(rt: HostRuntime) -> Result<(), Fail> {
         let once = Once {
             seen: AtomicU64::new(0),
             again: AtomicU64::new(0),
+            came: AtomicU64::new(0),
+            descending: AtomicU64::new(0),
         };
         let counts = tally(&rt, rt.alloc(), &game, 5, workers, &once)?;
         assert_of_five(&rt, &counts);
@@ -147,6 +157,8 @@ fn each_slice_is_counted_once(rt: HostRuntime) -> Result<(), Fail> {
             0,
             ("again", workers),
         );
+        let descending = once.descending.load(Ordering::SeqCst);
+        same(&rt, workers > 1 || descending == 32, true, workers);
     }
     Ok(())
 }
@@ -215,7 +227,7 @@ fn a_held_thread_holds_no_slice(rt: HostRuntime) -> Result<(), Fail> {
     Ok(())
 }
 
-/// How many coalitions were told of, and how often.
+/// How many coalitions were told of, and how often of two slices.
 #[derive(Drop)]
 struct Met {
     coalitions: AtomicU64,
@@ -225,14 +237,15 @@ struct Met {
 impl Watch for Met {
     fn counted(&self, _slice: u16, _slices: u16) {}
 
-    fn met(&self, more: u64, _slices: u16) {
+    fn met(&self, more: u64, slices: u16) {
         self.coalitions.fetch_add(more, Ordering::SeqCst);
-        self.times.fetch_add(1, Ordering::SeqCst);
+        self.times
+            .fetch_add(u64::from(slices == 2), Ordering::SeqCst);
     }
 }
 
-/// While one slice of 3,838,380 coalitions is counted, three times 1,048,576 of them are told of, and then the
-/// 692,652 that are left.
+/// While a slice of 3,262,623 coalitions is counted, three times 1,048,576 of them are told of, and then the
+/// 116,895 that are left; and at the end of the other slice its 575,757.
 #[test]
 fn is_told_of_coalitions_meanwhile(rt: HostRuntime) -> Result<(), Fail> {
     let game = game(rt.alloc(), 6, &[1; 40])?;
@@ -241,12 +254,12 @@ fn is_told_of_coalitions_meanwhile(rt: HostRuntime) -> Result<(), Fail> {
         coalitions: AtomicU64::new(0),
         times: AtomicU64::new(0),
     };
-    let counts = tally(&rt, rt.alloc(), &game, 0, 1, &met)?;
+    let counts = tally(&rt, rt.alloc(), &game, 1, 1, &met)?;
     let found = (
         counts.wide_total(),
         met.coalitions.load(Ordering::SeqCst),
         met.times.load(Ordering::SeqCst),
     );
-    same(&rt, found, (3_838_380, 3_838_380, 4), "coalitions");
+    same(&rt, found, (3_838_380, 3_838_380, 5), "coalitions");
     Ok(())
 }

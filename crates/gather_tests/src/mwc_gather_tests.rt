@@ -1,5 +1,4 @@
 //! Rows worked by hand, and workers that are held by their gates.
-ghost use Rattle.std.specs.Prelude.{ℕ, ⊤};
 
 mod gates;
 mod refusals;
@@ -78,9 +77,7 @@ fn gathered<R: Threads + Wait + Abort + Sync, G: Gate + Sync>(
     bits: u8,
     workers: u8,
     most: u32,
-) -> Result<Gathered, GatherFault>
-    requires { (w j : ℕ) → G.takes w j }
-{
+) -> Result<Gathered, GatherFault> {
     assert!(rt; bits <= 10 && bits as usize <= game.members());
     assert!(rt; 1 <= workers && workers <= 16);
     assert!(rt; 1 <= most && most <= 4_000_000);
@@ -96,9 +93,7 @@ fn listed<R: Threads + Wait + Abort + Sync, G: Gate + Sync>(
     bits: u8,
     workers: u8,
     most: u32,
-) -> Result<Vec<u64>, GatherFault>
-    requires { (w j : ℕ) → G.takes w j }
-{
+) -> Result<Vec<u64>, GatherFault> {
     let gathered = gathered(rt, alloc, game, gate, bits, workers, most)?;
     let Ok(list) = gathered.in_order(alloc) else {
         return Err(GatherFault::Memory);
@@ -241,8 +236,6 @@ impl Passes {
 }
 
 impl Gate for Passes {
-    ghost takes = { λ _ _. ⊤ };
-
     fn pass(&self, _worker: u8, slice: u16) {
         self.note(slice);
     }
@@ -273,8 +266,6 @@ struct Slow {
 }
 
 impl Gate for Slow {
-    ghost takes = { λ _ _. ⊤ };
-
     fn pass(&self, _worker: u8, _slice: u16) {
         self.came.fetch_add(1, Ordering::SeqCst);
         for _ in 0..2000 {
@@ -328,8 +319,6 @@ struct Meeting {
 }
 
 impl Gate for Meeting {
-    ghost takes = { λ _ _. ⊤ };
-
     fn pass(&self, worker: u8, _slice: u16) {
         if worker < 2 {
             self.here[worker as usize].store(1, Ordering::SeqCst);
@@ -372,8 +361,6 @@ struct Holding {
 }
 
 impl Gate for Holding {
-    ghost takes = { λ _ _. ⊤ };
-
     fn pass(&self, worker: u8, slice: u16) {
         self.passes.note(slice);
         if worker == self.held && slice == self.held as u16 && !comes(&self.passes.of[2]) {

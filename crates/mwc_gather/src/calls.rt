@@ -12,13 +12,14 @@ ghost use Rattle.mwc_parts.specs.Settled.{IsDraftOf, HasAllWords};
 ghost use Rattle.mwc_gather.specs.Slicings.{slicing};
 ghost use Rattle.mwc_gather.specs.Sending.{HasWorked};
 ghost use Rattle.mwc_gather.specs.Inner.Orders.{slicing_of};
+ghost use Rattle.mwc_gather.specs.declared.calls.TheConstants.{TASKS};
 ghost use Rattle.mwc_gather.specs.Inner.Desks.{IsOf, view_of, IsPartOfDesk, CanEndWith};
 
 use crate::desk::Desk;
-use crate::guarded::Gate;
 use crate::job::Job;
 use crate::promise::{Answer, Task};
 use crate::row::WORDS;
+use crate::told::Told;
 use crate::waiting::{BellPair, Bells, Patience};
 use crate::worker::work_beside;
 use mwc_parts::{Draft, GatherFault, Part, settle};
@@ -32,9 +33,14 @@ use std::thread::{Scope, Threads};
 /// How many tasks a worker may be behind the gatherer.
 const TASKS: usize = 2;
 
+/// What the constant is, as a number.
+fn is_this_number()
+    ensures { TASKS ≡ 2 }
+{}
+
 impl Desk {
     /// Makes room for what is kept of a worker, and starts it.
-    pub fn open<'s, E, R: Threads + Wait + Sync, G: Gate + Sync>(
+    pub fn open<'s, E, R: Threads + Wait + Sync, G: Told + Sync>(
         scope: &Scope<'s, E>,
         rt: &'s R,
         alloc: Global,
@@ -208,6 +214,7 @@ fn ring_fault(draft: &Draft) -> GatherFault
     ensures { result ≡ (if draft.now.lost then GatherFault.Memory else GatherFault.Ring) }
 {
     if draft.lost {
+        // memory: a draft is lost where a growth was refused
         GatherFault::Memory
     } else {
         GatherFault::Ring

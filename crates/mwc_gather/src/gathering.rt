@@ -21,6 +21,7 @@ use crate::desk::Desk;
 use crate::guarded::{Gate, Guarded};
 use crate::job::Job;
 use crate::order::Order;
+use crate::told::Told;
 use crate::waiting::Bells;
 use mwc_parts::{GatherFault, Gathered, Marks, Met, Part, fits};
 use mwc_walk::slice_count;
@@ -34,8 +35,7 @@ use std::thread::{Scope, Threads};
 /// lowest slice that no worker has to the one that has finished its own. It returns once all workers
 /// have ended.
 ///
-/// There are at most 10 bits, and no more than members; 1 to 16 workers; `most` is 1 to 4,000,000. The
-/// gate takes each of the workers with each of the slices.
+/// There are at most 10 bits, and no more than members; 1 to 16 workers; `most` is 1 to 4,000,000.
 ///
 /// # Errors
 ///
@@ -53,7 +53,6 @@ pub fn gather<R: Threads + Wait + Sync, G: Gate + Sync>(
     requires bits { (bits ≤ BITS) × (bits ≤ length guarded.now.names) }
     requires workers { (1 ≤ workers) × (workers ≤ WORKERS) }
     requires most { (1 ≤ most) × (most ≤ COALITIONS) }
-    requires gate { (w j : ℕ) → w < workers → j < 2 ^ bits → G.takes w j }
     ensures gathers { IfOk result (Gathers (votes_of guarded.now) bits workers most) }
     ensures many { result ≡ Err GatherFault.TooMany
         → most < length (minimal_coalitions (votes_of guarded.now)) }
@@ -65,8 +64,7 @@ pub fn gather<R: Threads + Wait + Sync, G: Gate + Sync>(
         thread::scope_env(),
         rt,
         move |scope| -> Result<Gathered, GatherFault>
-            requires workers { (1 ≤ workers) × (workers ≤ WORKERS) }
-            requires gate { (w j : ℕ) → w < workers → j < 2 ^ job.bits → G.takes w j }
+            requires { (1 ≤ workers) × (workers ≤ WORKERS) }
             ensures gathers { IfOk result
                 (Gathers (votes_of job.entry.guarded) job.entry.bits workers job.entry.most) }
             ensures many { result ≡ Err GatherFault.TooMany
@@ -76,7 +74,7 @@ pub fn gather<R: Threads + Wait + Sync, G: Gate + Sync>(
 }
 
 /// Starts the workers, deals the slices while they run, and joins them.
-fn run<'s, E, R: Threads + Wait + Sync, G: Gate + Sync>(
+fn run<'s, E, R: Threads + Wait + Sync, G: Told + Sync>(
     scope: &Scope<'s, E>,
     rt: &'s R,
     alloc: Global,
@@ -121,7 +119,7 @@ fn all_of(order: &Order, workers: u8, parts: Vec<Part>) -> Result<Gathered, Gath
 
 /// Starts the workers, until one cannot be started: their desks, and what was met. Room for the desks
 /// is made first.
-fn open_all<'s, E, R: Threads + Wait + Sync, G: Gate + Sync>(
+fn open_all<'s, E, R: Threads + Wait + Sync, G: Told + Sync>(
     scope: &Scope<'s, E>,
     rt: &'s R,
     alloc: Global,

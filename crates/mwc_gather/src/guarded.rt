@@ -1,20 +1,17 @@
 //! A game behind a gate.
-ghost use Rattle.std.specs.Prelude.{◌≡◌, ℕ, ⊤};
+ghost use Rattle.std.specs.Prelude.{◌≡◌};
 ghost use Rattle.council_game.specs.Votes.{IsVotes};
 ghost use Rattle.council_game.specs.Game.{votes_of};
 
+use crate::told::Told;
 use council_game::Game;
 use std::marker::Model;
 use std::snapshot::Snapshot;
 
 /// What a worker passes before it sends a slice.
 pub trait Gate {
-    /// Which workers and slices it may be told of: all, where a gate does not say otherwise.
-    ghost takes: { ℕ → ℕ → Type 0 } = { λ _ _. ⊤ };
-
     /// Worker `worker` is about to send slice `slice`.
-    fn pass(&self, worker: u8, slice: u16)
-        requires { takes worker slice };
+    fn pass(&self, worker: u8, slice: u16);
 }
 
 /// The gate that returns at once.
@@ -50,13 +47,24 @@ impl<'a, G: Gate> Guarded<'a, G> {
 
     /// Calls the gate once, and then gives the game.
     pub fn pass(&self, worker: u8, slice: u16) -> &Game
+        ensures { result.now ≡ self.now }
+    {
+        self.behind(worker, slice)
+    }
+}
+
+impl<'a, G: Told> Guarded<'a, G> {
+    /// As `pass`: of another worker or slice it can not tell the gate.
+    pub(crate) fn behind(&self, worker: u8, slice: u16) -> &Game
         requires { G.takes worker slice }
         ensures { result.now ≡ self.now }
     {
-        self.gate.pass(worker, slice);
+        self.gate.announce(worker, slice);
         self.game
     }
+}
 
+impl<'a, G> Guarded<'a, G> {
     /// The same game behind the same gate, for another thread.
     pub(crate) fn share(&self) -> Guarded<'a, G>
         ensures { result ≡ self.now }

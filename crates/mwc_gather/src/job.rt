@@ -4,7 +4,7 @@ ghost use Rattle.coalitions.specs.declared.limits.TheConstants.{BITS, COALITIONS
 ghost use Rattle.council_game.specs.Votes.{IsVotes};
 ghost use Rattle.council_game.specs.Game.{votes_of};
 
-use crate::guarded::{Gate, Guarded};
+use crate::guarded::Guarded;
 use crate::order::Order;
 
 /// What the workers are to do: to list the slices of the game behind a gate at so many bits, up to a
@@ -20,7 +20,7 @@ pub(crate) struct Job<'a, G> {
     ghost most_fits: { (1 ≤ most) × (most ≤ COALITIONS) },
 }
 
-impl<'a, G: Gate> Job<'a, G> {
+impl<'a, G> Job<'a, G> {
     pub fn new(guarded: &Guarded<'a, G>, bits: u8, most: u32) -> Job<'a, G>
         requires bits { (bits ≤ BITS) × (bits ≤ length guarded.now.names) }
         requires most { (1 ≤ most) × (most ≤ COALITIONS) }

@@ -19,6 +19,7 @@ mod putting;
 mod row;
 mod send;
 mod sent;
+mod told;
 mod waiting;
 mod worker;
 

@@ -8,6 +8,11 @@ use std::marker::Model;
 /// How many words a row or a ring has room for: a worker may be so far ahead of the gatherer.
 pub(crate) const WORDS: usize = 64;
 
+/// What the constant is, as a number: clauses name it.
+fn is_this_number()
+    ensures { WORDS ≡ 64 }
+{}
+
 /// A row of up to 64 words that wait to be sent together. Contracts see the words. No call takes
 /// memory.
 #[derive(Drop)]

@@ -10,6 +10,7 @@ use crate::guarded::{Gate, Guarded};
 use crate::putting::{PutsRows, WordByWord};
 use crate::row::Row;
 use crate::sent::Sent;
+use crate::told::Told;
 use crate::waiting::{Bell, BellPair, Patience};
 use mwc_pipe::{PipeIn, Word};
 use mwc_walk::Walk;
@@ -79,8 +80,7 @@ fn add<W: PutsRows<P>, R: Wait, P: PipeIn<Word>>(
 /// Passes the gate, and sends the words of a slice, but of its coalitions no more than the first
 /// `left`, which is 1 to 4,000,001. While the pipe is full it waits. It takes no memory.
 ///
-/// There are at most 10 bits, and no more than members; `slice` is below 2^bits, `worker` below 16. The
-/// gate takes the two.
+/// There are at most 10 bits, and no more than members; `slice` is below 2^bits, `worker` below 16.
 pub fn send_slice<R: Wait, P: PipeIn<Word>, G: Gate>(
     rt: &R,
     guarded: &Guarded<'_, G>,
@@ -94,7 +94,6 @@ pub fn send_slice<R: Wait, P: PipeIn<Word>, G: Gate>(
     requires slice { slice < 2 ^ bits }
     requires worker { worker < WORKERS }
     requires left { (0 < left) × (left ≤ COALITIONS + 1) }
-    requires gate { G.takes worker slice }
     ensures identity { P.identity out.new ≡ P.identity out.old }
     ensures sends { Sends (slicing guarded.now bits) slice left (P.accepted out.old)
         (P.accepted out.new) (P.broken out.new) result }
@@ -111,7 +110,7 @@ pub fn send_slice<R: Wait, P: PipeIn<Word>, G: Gate>(
 
 /// As `send_slice`, by rows. Only here a gate is passed: whatever sends a slice comes by. It rings the
 /// other bell for what it has put in, and sleeps at its own.
-pub(crate) fn send_behind<W: PutsRows<P>, R: Wait, P: PipeIn<Word>, G: Gate>(
+pub(crate) fn send_behind<W: PutsRows<P>, R: Wait, P: PipeIn<Word>, G: Told>(
     rt: &R,
     guarded: &Guarded<'_, G>,
     bits: u8,
@@ -130,7 +129,7 @@ pub(crate) fn send_behind<W: PutsRows<P>, R: Wait, P: PipeIn<Word>, G: Gate>(
         (P.accepted out.new) (P.broken out.new) result }
     ensures unbroken { BreaksOnlyIfRefused (P.broken out.old) (P.broken out.new) result }
 {
-    let walk = Walk::new(guarded.pass(worker, slice), bits, slice);
+    let walk = Walk::new(guarded.behind(worker, slice), bits, slice);
     send_walk::<W, _, _>(rt, walk, slice, left, out, pair)
 }
 

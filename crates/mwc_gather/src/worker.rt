@@ -11,6 +11,7 @@ use crate::job::Job;
 use crate::putting::RowByRow;
 use crate::send::{send, send_behind};
 use crate::sent::Sent;
+use crate::told::Told;
 use crate::waiting::{Bell, BellPair, Patience};
 use mwc_pipe::{Closed, RingIn, RingOut, Unfinished, Word};
 use mwc_walk::slice_count;
@@ -54,8 +55,7 @@ fn finish<R: Wait>(rt: &R, out: RingIn, cut: bool, pair: BellPair<'_>) -> Result
 /// the tasks came from. It takes no memory.
 ///
 /// There are at most 10 bits, and no more than members; `worker` is below 16, `most` 1 to 4,000,000.
-/// Both ends are new: `out` has accepted no word, and none was taken from `tasks`. The gate takes the
-/// worker with each slice.
+/// Both ends are new: `out` has accepted no word, and none was taken from `tasks`.
 ///
 /// # Errors
 ///
@@ -73,7 +73,6 @@ pub fn work<R: Wait, G: Gate>(
     requires worker { worker < WORKERS }
     requires most { (1 ≤ most) × (most ≤ COALITIONS) }
     requires fresh { (out.accepted ≡ []) × (tasks.taken ≡ []) }
-    requires gate { (j : ℕ) → j < 2 ^ bits → G.takes worker j }
     ensures { HasWorked (slicing guarded.now bits) most out tasks result }
 {
     let own = Bell::new();
@@ -87,7 +86,7 @@ pub fn work<R: Wait, G: Gate>(
 }
 
 /// As `work`. It rings the other bell for what it has put in or taken, and sleeps at its own.
-pub(crate) fn work_beside<R: Wait, G: Gate>(
+pub(crate) fn work_beside<R: Wait, G: Told>(
     rt: &R,
     job: &Job<'_, G>,
     worker: u8,

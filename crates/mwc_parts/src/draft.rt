@@ -57,7 +57,9 @@ impl Draft {
         if self.lost {
             return;
         }
+        // memory: a growth that was refused, or the count below
         if self.keep(word).is_err() {
+            // memory: the growth was refused
             self.lost = true;
         }
     }
@@ -85,6 +87,7 @@ impl Draft {
         ensures cut { self.new.cut ≡ self.old.cut }
         ensures same { Grows self.old 0 self.new }
     {
+        // memory: the call that tells a loss
         self.lost = true;
     }
 
@@ -102,6 +105,7 @@ impl Draft {
             Word::One(coalition) => self.got.push(coalition)?,
             Word::Done(_) => {
                 let Ok(end) = u32::try_from(self.got.len()) else {
+                    // memory: a count past 32 bits: so many coalitions take more than 32 GB
                     return Err(Memory);
                 };
                 self.ends.push(end)?;

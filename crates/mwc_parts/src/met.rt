@@ -47,9 +47,11 @@ impl Met {
         ensures { result ≡ fault_of self.now }
     {
         if self.start {
+            // memory: it was answered elsewhere, and noted
             return Some(GatherFault::Start);
         }
         if self.memory {
+            // memory: it was answered elsewhere, and noted
             return Some(GatherFault::Memory);
         }
         if self.ring {

@@ -31,6 +31,7 @@ pub fn settle(given: Vec<u16>, draft: Draft) -> Result<Part, GatherFault>
         → result ≡ Err GatherFault.TooMany → most < coalition_count g given.items }
 {
     if draft.lost {
+        // memory: a draft is lost where a growth was refused
         return Err(GatherFault::Memory);
     }
     if draft.cut {

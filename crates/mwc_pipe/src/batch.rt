@@ -93,6 +93,7 @@ impl PipeIn<Word> for Batch {
             }
             Err(Refused::Memory(word)) => {
                 self.broken = true;
+                // memory: the pipe inside told it
                 Err(Refused::Memory(word))
             }
         }

@@ -9,3 +9,6 @@ pub mod Ended
 pub mod Whole
 pub mod Masks
 pub mod Orders
+pub mod SetLaws
+pub mod SetLists
+pub mod FittingSets

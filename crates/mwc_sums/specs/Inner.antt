@@ -2,3 +2,5 @@
 pub mod Rows
 pub mod Asked
 pub mod Choices
+pub mod Sets
+pub mod Fitting

@@ -6,13 +6,19 @@
 //!     None => ..,
 //! }
 //! ```
+//!
+//! `sets`, `fitting` and `halves` count the coalitions of one rule from the sets of its lighter and its heavier half, whatever their
+//! weights. They are proved, and not called yet.
 #![tactic(auto)]
 
 mod choices;
 mod count;
+mod fitting;
+mod halves;
 pub mod laws;
 mod row;
 mod rows;
+mod sets;
 mod tallies;
 mod turned;
 

@@ -1,5 +1,5 @@
 //! The counts of all slices.
-ghost use Rattle.std.specs.Prelude.{◌≡◌, ◌≤◌, All, length, Err, IfOk, MatchOption, ⊤};
+ghost use Rattle.std.specs.Prelude.{◌≡◌, ◌≤◌, All, length, vec_len, Err, IfOk, IfErr, MatchOption, if◌then◌else◌, true, false, ⊤};
 ghost use Rattle.coalitions.specs.declared.limits.TheConstants.{BITS, WORKERS};
 ghost use Rattle.council_game.specs.Game.{votes_of};
 ghost use Rattle.council_game.specs.Votes.{minimal_coalitions};
@@ -31,8 +31,7 @@ type Started<'s> = PromisedHandle<Result<Share, Memory>, Slices<'s>>;
 ///
 /// # Errors
 ///
-/// `Start` where a thread could not be started, else `Memory` where a growth was refused. After
-/// either nobody takes a further slice. Else `Stopped` where the watch stopped it before all slices were
+/// `Start` where a thread could not be started, else `Memory` where a growth was refused. Else `Stopped` where the watch stopped it before all slices were
 /// counted; what was counted is lost then.
 pub fn tally<R: Threads + Wait + Sync, W: Watch + Sync>(
     rt: &R,
@@ -85,6 +84,30 @@ fn start<'s, E, W: Watch + Sync>(
     scope.spawn_with(work.slices, body).ok()
 }
 
+/// Starts so many threads, until one cannot be started: those that run, and whether they are all.
+fn start_all<'s, E, W: Watch + Sync>(
+    scope: &Scope<'s, E>,
+    alloc: Global,
+    work: &Work<'s, W>,
+    workers: u8,
+) -> Result<(Vec<Started<'s>>, bool), Memory>
+    ensures given { IfOk result (λ r. All (λ t. t.promise ≡ work.now.slices) r.0.items) }
+    ensures all { IfOk result (λ r. r.1 ≡ true → vec_len r.0 ≡ workers) }
+{
+    let mut threads = Vec::new(alloc);
+    threads.reserve(usize::from(workers))?;
+    for _ in 0..workers {
+        match start(scope, alloc, work) {
+            Some(thread) => threads.push_reserved(thread),
+            None => {
+                work.stop();
+                return Ok((threads, false));
+            }
+        }
+    }
+    Ok((threads, true))
+}
+
 /// Starts the threads, and adds what they counted.
 fn count_beside<'s, E, R: Threads, W: Watch + Sync>(
     scope: &Scope<'s, E>,
@@ -96,24 +119,22 @@ fn count_beside<'s, E, R: Threads, W: Watch + Sync>(
     ensures share { IfOk result (IsShare work.now.slices) }
     ensures started { result ≡ Err TallyFault.Stopped → ⊥ }
 {
-    let mut threads = Vec::new(alloc);
-    threads.reserve(usize::from(workers))?;
-    let mut started = true;
-    for _ in 0..workers {
-        match start(scope, alloc, work) {
-            Some(thread) => threads.push_reserved(thread),
-            None => {
-                work.stop();
-                started = false;
-                break;
-            }
-        }
-    }
+    let (threads, started) = start_all(scope, alloc, work, workers)?;
     let (share, lost) = join_all(rt, alloc, work.slices, threads);
+    all_of(share, started, lost)
+}
+
+/// What the threads counted, where all were started and nothing was lost; else Start goes before Memory.
+fn all_of(share: Share, started: bool, lost: bool) -> Result<Share, TallyFault>
+    ensures ok { IfOk result (λ all. (all ≡ share) × (started ≡ true) × (lost ≡ false)) }
+    ensures err { IfErr result (λ fault. fault ≡ (if started then TallyFault.Memory else TallyFault.Start)) }
+{
     if !started {
+        // memory: a thread was not started
         return Err(TallyFault::Start);
     }
     if lost {
+        // memory: a share is lost where a growth was refused
         return Err(TallyFault::Memory);
     }
     Ok(share)
@@ -133,7 +154,9 @@ fn join_all<'s, R: Threads>(
     let mut lost = false;
     for thread in threads {
         match thread.join(rt) {
+            // memory: a growth that was refused
             Ok(share) => lost |= all.add(slices, &share.taken, &share.counts).is_err(),
+            // memory: the one error of a thread is Memory
             Err(_) => lost = true,
         }
     }

@@ -154,6 +154,7 @@ fn count_from<'s, E, R: Threads>(
         return Ok(of_part(game, pieces, skip, part));
     }
     let Some(thread) = start(scope, game, pieces, skip, part) else {
+        // memory: the thread was not started
         return Err(TallyFault::Start);
     };
     let rest = count_from(scope, rt, game, pieces, skip + part, part, others - 1);

@@ -1,8 +1,14 @@
 //! What is told and asked while slices are counted.
-ghost use Rattle.std.specs.Prelude.{◌≡◌, true};
+ghost use Rattle.std.specs.Prelude.{◌≡◌, ◌^◌, true};
+ghost use Rattle.mwc_tally.specs.declared.watch.TheConstants.{EACH};
 
 /// A thread tells of each so many coalitions that it counted, and of those that are left at the end of a slice.
 pub(crate) const EACH: u64 = 1 << 20;
+
+/// What the constant is, as a number: clauses name it.
+fn is_this_number()
+    ensures { EACH ≡ 2 ^ 20 }
+{}
 
 /// Who is told of each slice that was counted, and meanwhile of how many coalitions were, and who may stop
 /// the tally.

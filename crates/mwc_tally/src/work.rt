@@ -67,11 +67,12 @@ impl<'a, W: Watch> Work<'a, W> {
         Ok(share)
     }
 
-    /// The same, and where memory ran out nobody takes a further slice.
+    /// The same; where memory ran out, what is left is not worth counting.
     pub(crate) fn run(&self, alloc: Global) -> Result<Share, Memory>
         ensures { IfOk result (IsShare self.now.slices) }
     {
         let share = self.count_next(alloc);
+        // memory: the one error of a share is Memory
         if share.is_err() {
             self.stop();
         }

@@ -1,16 +1,18 @@
 -- The cursor at the fixed places of a slice.
-use Rattle.std.proofs.Common.{◌≡◌, ℕ, ◌+◌, ◌-◌, ◌*◌, ◌/◌, ◌%◌, ◌^◌, ◌<◌, ◌≤◌, true, false, cond, ltb, List, map, length, take, get_or, refl, sym, ap, ◌∙◌, subst, arith}
+use Rattle.std.proofs.Common.{◌≡◌, ℕ, ◌+◌, ◌-◌, ◌*◌, ◌/◌, ◌%◌, ◌^◌, ◌<◌, ◌≤◌, true, false, cond, ltb, List, map, length, take, refl, sym, ap, ◌∙◌, subst, arith}
 use Rattle.std.proofs.lemmas.Nat.{pow_pos, one_shl, div_below}
 use Rattle.std.proofs.lemmas.Bool.{le-ltb, cond-false, eq-eqb, eqb-true, both_ways}
 use Rattle.mwc_walk.specs.declared.lane.Lane.{Lane}
 use Rattle.mwc_walk.specs.Inner.Lanes.{lane_with}
-use Rattle.council_game.specs.Votes.{RuleView, Votes, IsVotes, rule_at, has}
+use Rattle.council_game.specs.Votes.{RuleView, Votes, IsVotes, has}
 use Rattle.mwc_walk.specs.Slices.{slice}
 use Rattle.council_game.proofs.GameTests.{fixed-half}
-use Rattle.mwc_walk.specs.Inner.Places.{slice_below, LaneIs, LanesAre}
+use Rattle.mwc_walk.specs.Inner.Places.{slice_below, LanesAre}
+use Rattle.mwc_walk.specs.declared.vetoes.Vetoes.{Vetoes}
+use Rattle.mwc_walk.specs.Inner.Vetoes.{BringsAre}
 use Rattle.mwc_walk.specs.Inner.Cursor.{Starts}
 use Rattle.mwc_walk.proofs.Rest.{left-all}
-use Rattle.mwc_walk.proofs.Tables.{lanes-in, lanes-pass, lanes-from}
+use Rattle.mwc_walk.proofs.Tables.{lanes-in, lanes-pass}
 
 pub first-number : (k j : ℕ) → k ≤ 10 → 1 * 2 ^ k % 2 ^ 64 - 1 - j ≡ 2 ^ k - 1 - j
 first-number k j le = ap (λ (i : ℕ). i - 1 - j) (one_shl k 64 (omega arith))
@@ -36,11 +38,11 @@ fixed-pass n k p x rs ls below le outside are =
     let whole : 2 * (x / 2 ^ (k - p)) ≡ x / 2 ^ (k - (p + 1)) = omega (arith, h, even') in
     subst (λ (i : ℕ). LanesAre n (p + 1) i rs ls) whole (lanes-pass n p (x / 2 ^ (k - p)) rs ls (omega arith) are)
 
-pub starts : (v : Votes) (k j x m n : ℕ) (ls : List Lane) → IsVotes v → k ≤ v.members → j < 2 ^ k → n ≡ v.members → m ≡ length v.rules
-    → m ≤ length ls
+pub starts : (v : Votes) (k j x m n : ℕ) (ls : List Lane) (vs : List Vetoes) → IsVotes v → k ≤ v.members → j < 2 ^ k → n ≡ v.members → m ≡ length v.rules
+    → m ≤ length ls → BringsAre v vs
     → LanesAre v.members k (x / 2 ^ (k - k)) v.rules (take m ls) → x ≡ 2 ^ k - 1 - j
-    → Starts v k j (record { lanes = ls; rules = m; members = n; bits = k; number = j; prefix = x; place = k; fresh = true; visits = k })
-starts v k j x m n ls game le below members rules room are prefix =
+    → Starts v k j (record { lanes = ls; vetoes = vs; rules = m; members = n; bits = k; number = j; prefix = x; place = k; fresh = true; visits = k })
+starts v k j x m n ls vs game le below members rules room brings are prefix =
     let pos : 0 < 2 ^ k = pow_pos k in
     let none : k - k ≡ 0 = omega arith in
     let whole : x / 2 ^ 0 ≡ x = omega arith in
@@ -53,6 +55,7 @@ starts v k j x m n ls game le below members rules room are prefix =
         rules = rules;
         room = room;
         lanes = rw (none, whole) at are;
+        vetoes = brings;
         place = record {
           from = omega arith;
           to = le;
@@ -73,10 +76,9 @@ starts v k j x m n ls game le below members rules room are prefix =
       all = all;
     }
 
-pub first-lanes : (v : Votes) (k j m : ℕ) (ls : List Lane) → IsVotes v → m ≡ length v.rules → length ls ≡ 4 → k ≤ 10
-    → ((i : ℕ) → i < length v.rules → (d : Lane) → LaneIs v.members 0 0 (rule_at v.rules i) (get_or ls i d))
+pub first-lanes : (v : Votes) (k j m : ℕ) (ls : List Lane) → m ≡ length v.rules → k ≤ 10 → LanesAre v.members 0 0 v.rules (take (length v.rules) ls)
     → LanesAre v.members 0 ((1 * 2 ^ k % 2 ^ 64 - 1 - j) / 2 ^ (k - 0)) v.rules (take m ls)
-first-lanes v k j m ls game e four le is =
+first-lanes v k j m ls e le are =
     let pos : 0 < 2 ^ k = pow_pos k in
     let small : 2 ^ k - 1 - j < 1 * 2 ^ k = omega arith in
     let zero_is : (2 ^ k - 1 - j) / 2 ^ k ≡ 0 =
@@ -84,4 +86,4 @@ first-lanes v k j m ls game e four le is =
     let k0 : k - 0 ≡ k = omega arith in
     let x : (1 * 2 ^ k % 2 ^ 64 - 1 - j) / 2 ^ (k - 0) ≡ 0 = ap (λ (i : ℕ). i / 2 ^ (k - 0)) (first-number k j le)
     ∙ ap (λ (i : ℕ). (2 ^ k - 1 - j) / 2 ^ i) k0 ∙ zero_is in
-    rw (x, e) (lanes-from v.members 0 0 v.rules ls (omega (arith, four, game.few_rules)) is)
+    rw (x, e) are

@@ -87,10 +87,15 @@ fits-out n p y rs ls below are =
     All-beside (LaneIs n (p + 1) (2 * y + 1)) (λ l. get_or l.weights p 0 ≤ l.sum) (λ r l is.
     omega (arith, weight-step is.rule p y 1 below (omega arith), is.sum_is, is.weights p below)) rs ls are
 
-pub zero-at : (n q : ℕ) → get_or (replicate {A = ℕ} n 0) q 0 ≡ 0
-zero-at zero q = refl
-zero-at (suc n) zero = refl
-zero-at (suc n) (suc q) = zero-at n q
+pub same-at : {A : Type 0} (x : A) (n q : ℕ) → get_or (replicate n x) q x ≡ x
+same-at x zero q = refl
+same-at x (suc n) zero = refl
+same-at x (suc n) (suc q) = same-at x n q
+
+pub same-below : {A : Type 0} (x d : A) (n q : ℕ) → q < n → get_or (replicate n x) q d ≡ x
+same-below x d zero q below = absurd (omega arith)
+same-below x d (suc n) zero below = refl
+same-below x d (suc n) (suc q) below = same-below x d n q (omega (arith, below))
 
 pub same-weights : (n : ℕ) (ws vs : List ℕ) → n ≤ length ws → length vs ≡ n → ((q : ℕ) → q < n → get_or ws q 0 ≡ get_or vs q 0)
     → take n ws ≡ vs
@@ -100,14 +105,17 @@ same-weights n ws vs le long same =
     let lt : i < n = omega (arith, size) in
     get_or-take n ws i 0 lt ∙ same i lt)
 
-pub fills-down : (ws : List ℕ) (m p : ℕ) (rest : List ℕ) → m ≤ length ws → p < m → get_or rest (p + 1) 0 ≡ sum (drop (p + 1) (take m ws))
-    → get_or ws p 0 + get_or rest (p + 1) 0 ≡ sum (drop p (take m ws))
-fills-down ws m p rest le below here =
+pub sum-from : (ws : List ℕ) (m p : ℕ) → m ≤ length ws → p < m → sum (drop p (take m ws)) ≡ get_or ws p 0 + sum (drop (p + 1) (take m ws))
+sum-from ws m p le below =
     let size : length (take m ws) ≡ m = length-take-le m ws le in
     let more : sum (drop p (take m ws)) ≡ get_or (take m ws) p 0 + sum (drop (p + 1) (take m ws)) =
     sum_by-drop_more (λ (y : ℕ). y) (take m ws) p 0 (omega arith) in
     let same : get_or (take m ws) p 0 ≡ get_or ws p 0 = get_or-take m ws p 0 below in
-    omega (arith, more, same, here)
+    omega (arith, more, same)
+
+pub fills-down : (ws : List ℕ) (m p : ℕ) (rest : List ℕ) → m ≤ length ws → p < m → get_or rest (p + 1) 0 ≡ sum (drop (p + 1) (take m ws))
+    → get_or ws p 0 + get_or rest (p + 1) 0 ≡ sum (drop p (take m ws))
+fills-down ws m p rest le below here = omega (arith, sum-from ws m p le below, here)
 
 pub drop-most : (xs : List ℕ) (p : ℕ) → sum (drop p xs) ≤ sum xs
 drop-most xs p = omega (arith, sum_by-take-drop (λ (y : ℕ). y) xs p)
@@ -121,3 +129,17 @@ lanes-from n p x [] ls le is = tt
 lanes-from n p x (r ∷ rs) [] le is = absurd (omega arith)
 lanes-from n p x (r ∷ rs) (l ∷ ls) le is =
     (is 0 (omega arith) l, lanes-from n p x rs ls (omega arith) (λ i below d. is (suc i) (omega arith) d))
+
+pub lane-of : (n p x : ℕ) (rs : List RuleView) (ls : List Lane) → LanesAre n p x rs ls → (i : ℕ) → i < length rs → (d : Lane)
+    → LaneIs n p x (rule_at rs i) (get_or ls i d)
+lane-of n p x [] [] are i below d = absurd (omega (arith, below))
+lane-of n p x [] (l ∷ ls) are i below d = elim are [ ]
+lane-of n p x (r ∷ rs) [] are i below d = elim are [ ]
+lane-of n p x (r ∷ rs) (l ∷ ls) are zero below d = are.0
+lane-of n p x (r ∷ rs) (l ∷ ls) are (suc i) below d = lane-of n p x rs ls are.1 i (omega (arith, below)) d
+
+pub lanes-count : (n p x : ℕ) (rs : List RuleView) (ls : List Lane) → LanesAre n p x rs ls → length ls ≡ length rs
+lanes-count n p x [] [] are = refl
+lanes-count n p x [] (l ∷ ls) are = elim are [ ]
+lanes-count n p x (r ∷ rs) [] are = elim are [ ]
+lanes-count n p x (r ∷ rs) (l ∷ ls) are = omega (arith, lanes-count n p x rs ls are.1)

@@ -1,14 +1,22 @@
 //! How far a walk has come, and its steps.
-ghost use Rattle.std.specs.Prelude.{◌≡◌, ◌*◌, ◌-◌, ◌^◌, ◌<◌, ◌≤◌, false, true, length};
-ghost use Rattle.coalitions.specs.declared.limits.TheConstants.{BITS};
+ghost use Rattle.std.specs.Prelude.{◌≡◌, ◌*◌, ◌+◌, ◌-◌, ◌^◌, ◌<◌, ◌≤◌, false, true, min, length, slice_index, IfSome, MatchOption};
+ghost use Rattle.coalitions.specs.declared.limits.TheConstants.{BITS, MEMBERS, RULES};
 ghost use Rattle.council_game.specs.Game.{votes_of};
 ghost use Rattle.council_game.specs.Votes.{minimal};
-ghost use Rattle.mwc_walk.specs.Inner.Places.{wins_at, NothingBelow};
-ghost use Rattle.mwc_walk.specs.Inner.Cursor.{CursorIs, Steps, Runs, Starts};
+ghost use Rattle.mwc_walk.specs.Inner.Places.{wins_at, NothingBelow, NoneWins, IsExcess, AreExcesses, CanSpare};
+ghost use Rattle.mwc_walk.specs.Inner.Spared.{lane_at, IsEnough, IsNeed, NoneSpared, Tried};
+ghost use Rattle.mwc_walk.specs.Inner.Vetoes.{vetoes_at};
+ghost use Rattle.mwc_walk.specs.Inner.Ahead.{AheadIs};
+ghost use Rattle.mwc_walk.specs.Inner.Cursor.{CursorIs, Steps, SomeSteps, Runs, Starts};
 
-use crate::lane::{Lane, all_reach, all_spare, all_win, leave_out, may_be_spared, take_in};
+use crate::ahead::Ahead;
+use crate::lane::{Lane, all_reach, all_win, lanes_of, leave_out, take_in};
 use crate::step::Step;
+use crate::vetoes::{Vetoes, brought};
 use council_game::{Coalition, Game, limits};
+
+/// The steps after which what can still come is looked at, where they came to no coalition.
+const NEAR: u64 = 128;
 
 /// How far the walk over one slice has come: the first `place` places are decided, as the binary
 /// digits of `prefix` say, the heaviest first.
@@ -16,6 +24,8 @@ use council_game::{Coalition, Game, limits};
 pub(crate) struct Cursor {
     /// A lane for each rule, and copies past the last.
     pub(crate) lanes: [Lane; limits::RULES],
+    /// What the vetoers bring, for each rule, and copies past the last.
+    pub(crate) vetoes: [Vetoes; limits::RULES],
     pub(crate) rules: usize,
     pub(crate) members: usize,
     /// How many places are fixed: the walk goes back no further.
@@ -40,10 +50,8 @@ impl Cursor {
         let members = game.members();
         let rules = game.rules();
         let bits = bits as usize;
-        let mut lanes = [Lane::new(game, 0); limits::RULES];
-        for rule in 0..rules {
-            lanes[rule] = Lane::new(game, rule);
-        }
+        let mut lanes = lanes_of(game);
+        let vetoes = brought(game, &lanes[..rules]);
         let prefix = (1 << bits) - 1 - number as u64;
         let fixed = Coalition::of_mask(prefix);
         for place in 0..bits {
@@ -53,6 +61,7 @@ impl Cursor {
         }
         Cursor {
             lanes,
+            vetoes,
             rules,
             members,
             bits,
@@ -64,13 +73,52 @@ impl Cursor {
         }
     }
 
-    /// Steps up to the next coalition of the slice, or to its end.
-    pub(crate) fn next(&mut self, game: &Game) -> Option<Coalition>
+    /// Steps up to the next coalition of the slice, or to its end. Under several rules what can still come is looked
+    /// at where the first steps came to none; `ahead` keeps what the game has ahead, once it was asked for.
+    pub(crate) fn find(&mut self, game: &Game, ahead: &mut Option<Ahead>) -> Option<Coalition>
+        requires is { CursorIs (votes_of game.now) self.old }
+        requires ahead { IfSome ahead.old (AheadIs (votes_of game.now)) }
+        ensures runs { Runs (votes_of game.now) self.old result self.new }
+        ensures ahead { IfSome ahead.new (AheadIs (votes_of game.now)) }
+    {
+        if self.rules == 1 {
+            return self.next(game, None);
+        }
+        match self.some_steps(game, NEAR) {
+            Step::Give(coalition) => Some(coalition),
+            Step::End => None,
+            Step::On => {
+                if ahead.is_none() {
+                    *ahead = Some(Ahead::of(game));
+                }
+                self.next(game, ahead.as_ref())
+            }
+        }
+    }
+
+    /// Some steps: up to the next coalition of the slice, to its end, or no further than this many.
+    fn some_steps(&mut self, game: &Game, steps: u64) -> Step
         requires { CursorIs (votes_of game.now) self.old }
+        ensures { SomeSteps (votes_of game.now) self.old result self.new }
+    {
+        for _ in 0..steps {
+            match self.step(game, None) {
+                Step::On => {}
+                step => return step,
+            }
+        }
+        Step::On
+    }
+
+    /// Steps up to the next coalition of the slice, or to its end, and looks at what can still come where that
+    /// is told.
+    fn next(&mut self, game: &Game, ahead: Option<&Ahead>) -> Option<Coalition>
+        requires is { CursorIs (votes_of game.now) self.old }
+        requires ahead { IfSome ahead (λ a. AheadIs (votes_of game.now) a.now) }
         ensures { Runs (votes_of game.now) self.old result self.new }
     {
         loop {
-            match self.step(game) {
+            match self.step(game, ahead) {
                 Step::On => {}
                 Step::Give(coalition) => return Some(coalition),
                 Step::End => return None,
@@ -78,28 +126,30 @@ impl Cursor {
         }
     }
 
-    fn step(&mut self, game: &Game) -> Step
-        requires { CursorIs (votes_of game.now) self.old }
+    fn step(&mut self, game: &Game, ahead: Option<&Ahead>) -> Step
+        requires is { CursorIs (votes_of game.now) self.old }
+        requires ahead { IfSome ahead (λ a. AheadIs (votes_of game.now) a.now) }
         ensures { Steps (votes_of game.now) self.old result self.new }
     {
         if self.fresh {
-            self.enter(game)
+            self.enter(game, ahead)
         } else {
             self.back(game)
         }
     }
 
-    /// Looks at a fresh prefix: passes by one that can no longer meet some quota, and one with a member
-    /// who can be spared; takes the next member into one that does not win yet; and gives one that
+    /// Looks at a fresh prefix: passes by one that can no longer meet some quota, and one below which no
+    /// coalition is minimal; takes the next member into one that does not win yet; and gives one that
     /// wins, never going on below it.
-    fn enter(&mut self, game: &Game) -> Step
+    fn enter(&mut self, game: &Game, ahead: Option<&Ahead>) -> Step
         requires is { CursorIs (votes_of game.now) self.old }
+        requires ahead { IfSome ahead (λ a. AheadIs (votes_of game.now) a.now) }
         requires fresh { self.old.fresh ≡ true }
         ensures { Steps (votes_of game.now) self.old result self.new }
     {
         let rules = self.rules;
         let place = self.place;
-        if !all_reach(&self.lanes[..rules], place) || self.spares_one(game) {
+        if !all_reach(&self.lanes[..rules], place) || self.passes_by(game, ahead) {
             self.fresh = false;
             return Step::On;
         }
@@ -115,11 +165,31 @@ impl Cursor {
         Step::Give(found)
     }
 
-    /// Whether the prefix has a member whom each rule can spare, here and so in each coalition below: none
-    /// of them is minimal then, and a winning prefix without such a member is. Sought only where a
-    /// member was taken in, and at the fixed places; never past them with one rule, under which the last
-    /// member is the lightest and was needed. Tried from the last by rank, up to one whom the first
-    /// rule can not spare: by that rule no member before it is lighter.
+    /// Whether the prefix is passed by, since no coalition below it is minimal: a member can be spared by what is
+    /// there, or, where that is looked at, by what can still come. A winning prefix that is not passed by is minimal.
+    fn passes_by(&self, game: &Game, ahead: Option<&Ahead>) -> bool
+        requires is { CursorIs (votes_of game.now) self.now }
+        requires ahead { IfSome ahead (λ a. AheadIs (votes_of game.now) a.now) }
+        ensures some { result ≡ true →
+            NothingBelow (votes_of game.now) self.now.place self.now.prefix }
+        ensures one { result ≡ true → self.now.rules ≡ 1 → self.now.place ≡ self.now.bits }
+        ensures none { result ≡ false →
+            wins_at (votes_of game.now).rules self.now.place self.now.prefix ≡ true →
+            minimal (votes_of game.now)
+            (self.now.prefix * 2 ^ ((votes_of game.now).members - self.now.place)) ≡ true }
+    {
+        if self.spares_one(game) {
+            return true;
+        }
+        match ahead {
+            Some(ahead) => self.rules > 1 && self.leads_nowhere(game, ahead),
+            None => false,
+        }
+    }
+
+    /// Whether the prefix has a member whom each rule can spare by what is there, here and so in each coalition
+    /// below. Sought only where a member was taken in, and at the fixed places; never past them with one rule,
+    /// under which the last member is the lightest and was needed.
     fn spares_one(&self, game: &Game) -> bool
         requires { CursorIs (votes_of game.now) self.now }
         ensures some { result ≡ true →
@@ -133,19 +203,153 @@ impl Cursor {
         if self.place > self.bits && (self.rules == 1 || self.prefix % 2 == 0) {
             return false;
         }
-        let lanes = &self.lanes[..self.rules];
-        let mut rest = may_be_spared(lanes, self.prefix << (self.members - self.place));
+        self.has_spared(game, &self.excess(game))
+    }
+
+    /// By how much each rule's quota is passed by what is there and what vetoers bring; 0 where it is not.
+    fn excess(&self, game: &Game) -> [u64; limits::RULES]
+        requires { CursorIs (votes_of game.now) self.now }
+        ensures are { AreExcesses (votes_of game.now) self.now.place self.now.prefix result }
+        ensures enough { IsEnough (votes_of game.now) self.now.place self.now.prefix result }
+    {
+        let mut excess = [0; limits::RULES];
+        for rule in 0..self.rules {
+            excess[rule] = self
+                .there(&self.vetoes, rule)
+                .saturating_sub(self.lanes[rule].quota);
+        }
+        excess
+    }
+
+    /// What is there under a rule, with what vetoers bring.
+    fn there(&self, vetoes: &[Vetoes; limits::RULES], rule: usize) -> u64
+        requires rule { rule < RULES }
+        requires place { self.now.place ≤ MEMBERS }
+        ensures { result ≡ min (2 ^ 64 - 1)
+            ((lane_at self.now.lanes rule).sum
+            + slice_index (vetoes_at vetoes.now rule).brings self.now.place) }
+    {
+        self.lanes[rule]
+            .sum
+            .saturating_add(vetoes[rule].brings[self.place])
+    }
+
+    /// Whether no coalition below is minimal by what can still come: some quota can not be met by any sum that
+    /// can, or each is passed by so much that a member can be spared.
+    fn leads_nowhere(&self, game: &Game, ahead: &Ahead) -> bool
+        requires is { CursorIs (votes_of game.now) self.now }
+        requires ahead { AheadIs (votes_of game.now) ahead.now }
+        ensures { result ≡ true → NothingBelow (votes_of game.now) self.now.place self.now.prefix }
+    {
+        let mut excess = [0; limits::RULES];
+        for rule in 0..self.rules {
+            match self.excess_ahead(game, ahead, rule) {
+                Some(least) => excess[rule] = least,
+                None => return true,
+            }
+        }
+        self.has_spared(game, &excess)
+    }
+
+    /// The least by which each winning coalition below passes a rule's quota; none where there is none.
+    fn excess_ahead(&self, game: &Game, ahead: &Ahead, rule: usize) -> Option<u64>
+        requires is { CursorIs (votes_of game.now) self.now }
+        requires ahead { AheadIs (votes_of game.now) ahead.now }
+        requires rule { rule < self.now.rules }
+        ensures { MatchOption result (NoneWins (votes_of game.now) self.now.place self.now.prefix)
+            (λ e. IsExcess (votes_of game.now) self.now.place self.now.prefix rule e) }
+    {
+        let need = self.need(game, ahead, rule);
+        match ahead.outlooks[rule].sums.from[self.place].least_from(need) {
+            Some(comes) => {
+                let all = self.there(&ahead.vetoes, rule).saturating_add(comes);
+                Some(all.saturating_sub(self.lanes[rule].quota))
+            }
+            None => None,
+        }
+    }
+
+    /// What others than vetoers bring to each winning coalition below, at the least: what the rule needs, and what
+    /// comes with the needs of the other rules.
+    fn need(&self, game: &Game, ahead: &Ahead, rule: usize) -> u64
+        requires is { CursorIs (votes_of game.now) self.now }
+        requires ahead { AheadIs (votes_of game.now) ahead.now }
+        requires rule { rule < self.now.rules }
+        ensures { IsNeed (votes_of game.now) self.now.place self.now.prefix (vetoes_at ahead.now.vetoes rule) result }
+    {
+        let mut need = self.short(game, ahead, rule);
+        for other in 0..self.rules {
+            if other != rule {
+                let price = ahead.outlooks[rule].prices[other].from[self.place];
+                need = need.max(price.of(self.short(game, ahead, other)));
+            }
+        }
+        need
+    }
+
+    /// What a rule's quota still asks for, beside what vetoers bring.
+    fn short(&self, game: &Game, ahead: &Ahead, rule: usize) -> u64
+        requires is { CursorIs (votes_of game.now) self.now }
+        requires ahead { AheadIs (votes_of game.now) ahead.now }
+        requires rule { rule < self.now.rules }
+        ensures { IsNeed (votes_of game.now) self.now.place self.now.prefix (vetoes_at ahead.now.vetoes rule) result }
+    {
+        self.lanes[rule]
+            .quota
+            .saturating_sub(self.there(&ahead.vetoes, rule))
+    }
+
+    /// Whether the prefix has a member whom each rule can spare, where the quotas are passed by so much. Tried from the
+    /// last by rank, up to one whom the first rule can not spare: by that rule no member before it is lighter.
+    fn has_spared(&self, game: &Game, excess: &[u64; limits::RULES]) -> bool
+        requires { CursorIs (votes_of game.now) self.now }
+        ensures some { result ≡ true →
+            AreExcesses (votes_of game.now) self.now.place self.now.prefix excess.now →
+            NothingBelow (votes_of game.now) self.now.place self.now.prefix }
+        ensures none { result ≡ false → NoneSpared (votes_of game.now) self.now.place self.now.prefix excess.now }
+    {
+        let mut rest = self.may_be_spared(game, excess);
         while rest != 0 {
             let place = self.members - 1 - rest.trailing_zeros() as usize;
-            if !lanes[0].spares(place) {
+            if self.lanes[0].weights[place] > excess[0] {
                 return false;
             }
-            if all_spare(lanes, place) {
+            if self.spares(game, excess, place) {
                 return true;
             }
             rest &= rest - 1;
         }
         false
+    }
+
+    /// Of the members of the prefix those that each rule may spare: a rule that passes its quota by nothing spares
+    /// none that has a weight.
+    fn may_be_spared(&self, game: &Game, excess: &[u64; limits::RULES]) -> u64
+        requires { CursorIs (votes_of game.now) self.now }
+        ensures { Tried (votes_of game.now) self.now.place self.now.prefix excess.now result }
+    {
+        let mut few = self.prefix << (self.members - self.place);
+        for rule in 0..self.rules {
+            if excess[rule] == 0 {
+                few &= self.lanes[rule].weightless;
+            }
+        }
+        few
+    }
+
+    /// Whether each rule can spare the member of a place.
+    fn spares(&self, game: &Game, excess: &[u64; limits::RULES], place: usize) -> bool
+        requires is { CursorIs (votes_of game.now) self.now }
+        requires place { place < self.now.members }
+        ensures all { result ≡ true → CanSpare (votes_of game.now) excess.now place }
+        ensures none { result ≡ false → CanSpare (votes_of game.now) excess.now place → ⊥ }
+    {
+        for rule in 0..self.rules {
+            if self.lanes[rule].weights[place] > excess[rule] {
+                return false;
+            }
+        }
+        true
     }
 
     /// Comes back: leaves the last member out, where it is in, or goes up by one place.

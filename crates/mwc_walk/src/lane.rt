@@ -1,12 +1,12 @@
 //! What the walk knows of each rule. Most games have one rule: the functions over all rules then go
 //! straight to its lane, which takes a fifth off the time of a walk.
-ghost use Rattle.std.specs.Prelude.{◌≡◌, ◌==◌, ◌&&◌, ◌+◌, ◌^◌, ◌<◌, ◌≤◌, ℕ, length, take, drop, map, slice_index};
+ghost use Rattle.std.specs.Prelude.{◌≡◌, ◌==◌, ◌+◌, ◌^◌, ◌<◌, ◌≤◌, ℕ, length, take, drop, map, slice_index};
 ghost use Rattle.std.specs.List.{list_all, All, sum};
-ghost use Rattle.coalitions.specs.declared.limits.TheConstants.{MEMBERS};
+ghost use Rattle.coalitions.specs.declared.limits.TheConstants.{MEMBERS, RULES};
 ghost use Rattle.council_game.specs.Game.{votes_of};
 ghost use Rattle.council_game.specs.Votes.{rule_at, has};
-ghost use Rattle.mwc_walk.specs.Inner.Places.{LaneIs};
-ghost use Rattle.mwc_walk.specs.Inner.Lanes.{lane_reaches, lane_wins, lane_spares, lane_may_spare, lane_with, lane_without};
+ghost use Rattle.mwc_walk.specs.Inner.Places.{LaneIs, LanesAre};
+ghost use Rattle.mwc_walk.specs.Inner.Lanes.{lane_reaches, lane_wins, lane_with, lane_without};
 
 use council_game::{Game, limits};
 
@@ -56,14 +56,20 @@ impl Lane {
     {
         self.quota <= self.sum
     }
+}
 
-    /// Whether the member of a place can be spared: what the rule has beyond its quota weighs as much.
-    pub(crate) fn spares(&self, place: usize) -> bool
-        requires { place < MEMBERS }
-        ensures { result ≡ lane_spares place self.now }
-    {
-        self.weights[place] <= self.sum.saturating_sub(self.quota)
+/// The lane of each rule, with no member in, and copies past the last.
+pub(crate) fn lanes_of(game: &Game) -> [Lane; limits::RULES]
+    ensures long { length result ≡ RULES }
+    ensures lanes { LanesAre (votes_of game.now).members 0 0 (votes_of game.now).rules
+        (take (length (votes_of game.now).rules) result) }
+{
+    let _members = game.members();
+    let mut lanes = [Lane::new(game, 0); limits::RULES];
+    for rule in 0..game.rules() {
+        lanes[rule] = Lane::new(game, rule);
     }
+    lanes
 }
 
 /// The weights of a rule, in rank order.
@@ -82,7 +88,7 @@ fn weights_of(game: &Game, rule: usize) -> [u64; limits::MEMBERS]
 }
 
 /// What the places from each one on weigh together.
-fn rest_of(weights: &[u64; limits::MEMBERS], members: usize) -> [u64; limits::SIZES]
+pub(crate) fn rest_of(weights: &[u64; limits::MEMBERS], members: usize) -> [u64; limits::SIZES]
     requires members { members ≤ MEMBERS }
     requires fits { sum (take members weights.now) < 2 ^ 64 }
     ensures { (q : ℕ) → q ≤ members →
@@ -126,30 +132,6 @@ pub(crate) fn all_win(lanes: &[Lane]) -> bool
         [lane] => lane.wins(),
         _ => lanes.iter().all(|lane| lane.wins()),
     }
-}
-
-/// Whether each rule can spare the member of a place.
-pub(crate) fn all_spare(lanes: &[Lane], place: usize) -> bool
-    requires { place < MEMBERS }
-    ensures { result ≡ list_all (lane_spares place) lanes.now }
-{
-    lanes.iter().all(|lane| lane.weights[place] <= lane.sum.saturating_sub(lane.quota))
-}
-
-/// Of the members of a mask those that each rule may spare: a rule whose quota is not met yet spares
-/// none that has a weight.
-pub(crate) fn may_be_spared(lanes: &[Lane], mask: u64) -> u64
-    ensures less { result ≤ mask }
-    ensures places { (n q : ℕ) → has n q result ≡
-        (has n q mask && list_all (lane_may_spare n q) lanes.now) }
-{
-    let mut few = mask;
-    for lane in lanes {
-        if !lane.wins() {
-            few &= lane.weightless;
-        }
-    }
-    few
 }
 
 /// Takes the member of a place in.

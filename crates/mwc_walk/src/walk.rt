@@ -5,6 +5,7 @@ ghost use Rattle.council_game.specs.Game.{votes_of};
 ghost use Rattle.mwc_walk.specs.Slices.{slice};
 ghost use Rattle.mwc_walk.specs.WalkView.{given, given_count};
 
+use crate::ahead::Ahead;
 use crate::cursor::Cursor;
 use council_game::{Coalition, Game};
 use std::marker::Model;
@@ -20,6 +21,8 @@ use std::marker::Model;
 pub struct Walk<'a> {
     game: &'a Game,
     cursor: Cursor,
+    /// What the game has ahead, once it was looked at.
+    ahead: Option<Ahead>,
 }
 
 impl<'a> Model for Walk<'a> {
@@ -59,6 +62,7 @@ impl<'a> Walk<'a> {
         Walk {
             game,
             cursor: Cursor::start(game, bits, j),
+            ahead: None,
         }
     }
 
@@ -76,7 +80,7 @@ impl<'a> Walk<'a> {
         ensures number { self.new.number ≡ self.old.number }
         ensures counted { self.old.visits ≤ self.new.visits }
     {
-        self.cursor.next(self.game)
+        self.cursor.find(self.game, &mut self.ahead)
     }
 
     /// How many visits there were. Each fixed place is visited once, when it is checked, and a later place

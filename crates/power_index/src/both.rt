@@ -3,7 +3,7 @@ ghost use Rattle.council_game.specs.Game.{GameView};
 ghost use Rattle.power_index.specs.Counting.{members};
 ghost use Rattle.power_index.specs.Both.{indices_of_member};
 ghost use Rattle.power_index.specs.Tables.{AreCounts, table_total};
-ghost use Rattle.std.specs.Prelude.{◌≡◌, ℕ, List, ◌≤◌, IfOk, length, map};
+ghost use Rattle.std.specs.Prelude.{◌≡◌, ℕ, List, ◌<◌, ◌≤◌, IfOk, length, map};
 
 use crate::{Counts, Index, deegan_packel, public_good};
 use council_game::Memory;
@@ -16,6 +16,19 @@ pub struct MemberIndices {
     pub deegan_packel: Index,
     /// The public good index (Holler 1982; Holler and Packel 1983).
     pub public_good: Index,
+}
+
+/// Both indices of a member.
+fn indices_of(counts: &Counts, member: usize) -> MemberIndices
+    requires some { 1 ≤ table_total counts.now }
+    requires member { member < counts.now.members }
+    ensures { (g : GameView) (list : List ℕ) → AreCounts g list counts.now
+        → result ≡ indices_of_member g list member }
+{
+    MemberIndices {
+        deegan_packel: Index::of(deegan_packel(counts, member)),
+        public_good: Index::of(public_good(counts, member)),
+    }
 }
 
 /// Both indices of each member, in the order of the file, over each list that has these counts.
@@ -31,10 +44,7 @@ pub fn all_indices(alloc: Global, counts: &Counts) -> Result<Vec<MemberIndices>,
 {
     let mut all = Vec::new(alloc);
     for member in 0..counts.members() {
-        all.push(MemberIndices {
-            deegan_packel: Index::of(deegan_packel(counts, member)),
-            public_good: Index::of(public_good(counts, member)),
-        })?;
+        all.push(indices_of(counts, member))?;
     }
     Ok(all)
 }

@@ -5,7 +5,7 @@ mod refusals;
 mod texts;
 mod watches;
 
-ghost use Rattle.std.specs.Prelude.{ℕ, ◌≤◌, ◌<◌, ⊤};
+ghost use Rattle.std.specs.Prelude.{◌≤◌, ◌<◌};
 ghost use Rattle.coalitions.specs.declared.limits.TheConstants.{BITS, COALITIONS, WORKERS};
 
 use crate::helpers::same;
@@ -386,8 +386,6 @@ struct Passes {
 }
 
 impl Gate for Passes {
-    ghost takes = { λ _ _. ⊤ };
-
     fn pass(&self, _worker: u8, slice: u16) {
         if slice < 4 {
             self.of[slice as usize].fetch_add(1, Ordering::SeqCst);
@@ -405,7 +403,6 @@ fn gated<T: Threads + Wait + Sync, G: Gate + Sync>(
 ) -> Result<Vec<u8>, RunFault>
     requires workers { (1 ≤ workers) × (workers ≤ WORKERS) }
     requires bits { bits ≤ BITS }
-    requires gate { (w j : ℕ) → G.takes w j }
 {
     let options = Options {
         workers,
@@ -477,8 +474,6 @@ impl Meeting {
 }
 
 impl Gate for Meeting {
-    ghost takes = { λ _ _. ⊤ };
-
     fn pass(&self, worker: u8, _slice: u16) {
         if worker < 2 {
             self.here[worker as usize].store(1, Ordering::SeqCst);

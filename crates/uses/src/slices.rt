@@ -11,7 +11,7 @@ use std::alloc::Global;
 use std::sync::Wait;
 use std::sync::atomic::{AtomicU64, Ordering};
 
-/// A gate that counts how often it was passed. It takes all workers and slices.
+/// A gate that counts how often it was passed.
 #[derive(Drop)]
 pub struct Passes {
     count: AtomicU64,

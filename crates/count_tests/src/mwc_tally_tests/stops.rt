@@ -64,18 +64,53 @@ fn a_watch_stops_between_slices(rt: HostRuntime) -> Result<(), Fail> {
     Ok(())
 }
 
-/// Within a slice: of one slice of 3,838,380 coalitions no more than the first 1,048,576 are counted.
+/// Within a slice: of the last one, which comes first and has 3,262,623 coalitions, no more than the first 1,048,576
+/// are counted.
 #[test]
 fn a_watch_stops_within_a_slice(rt: HostRuntime) -> Result<(), Fail> {
     let game = game(rt.alloc(), 6, &[1; 40])?;
     assert!(rt; game.members() == 40);
     let watch = Stopping::after(u64::MAX, 1);
-    let fault = tally(&rt, rt.alloc(), &game, 0, 1, &watch).err();
+    let fault = tally(&rt, rt.alloc(), &game, 1, 1, &watch).err();
     same(&rt, fault, Some(TallyFault::Stopped), "fault");
     let found = (
         watch.met.load(Ordering::SeqCst),
         watch.counted.load(Ordering::SeqCst),
     );
     same(&rt, found, (1_048_576, 0), "coalitions and slices");
+    Ok(())
+}
+
+/// Stops a tally when it is asked first, and takes that back.
+#[derive(Drop)]
+struct Relenting {
+    asked: AtomicU64,
+    counted: AtomicU64,
+}
+
+impl Watch for Relenting {
+    ghost may_stop = { ⊤ };
+
+    fn counted(&self, _slice: u16, _slices: u16) {
+        self.counted.fetch_add(1, Ordering::SeqCst);
+    }
+
+    fn stops(&self) -> bool {
+        self.asked.fetch_add(1, Ordering::SeqCst) == 0
+    }
+}
+
+/// A thread that stopped leaves slices to be counted at the end, and the watch is told of each of them.
+#[test]
+fn a_stop_that_is_taken_back(rt: HostRuntime) -> Result<(), Fail> {
+    let game = game(rt.alloc(), 51, &[35, 20, 15, 15, 15])?;
+    assert!(rt; game.members() == 5);
+    let watch = Relenting {
+        asked: AtomicU64::new(0),
+        counted: AtomicU64::new(0),
+    };
+    let counts = tally(&rt, rt.alloc(), &game, 5, 1, &watch)?;
+    assert_of_five(&rt, &counts);
+    same(&rt, watch.counted.load(Ordering::SeqCst), 32, "slices");
     Ok(())
 }

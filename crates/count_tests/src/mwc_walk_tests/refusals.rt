@@ -28,7 +28,7 @@ fn lists_a_slice(rt: HostRuntime) -> Result<(), Fail> {
     let game = worked(&rt, alloc)?;
     assert!(rt; game.members() == 5);
     say(&rt, "call");
-    let answer = list_slice(alloc, &game, 0, 0, 9);
+    let answer = list_slice(alloc, &game, 0, 0, u32::MAX);
     tells(&rt, alloc, answer)
 }
 

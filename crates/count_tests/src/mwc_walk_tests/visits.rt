@@ -1,6 +1,7 @@
 //! Counts of visits. Those of a game of several rules were found by plain programs beside this one, which
-//! look at the prefixes of rank places one by one, by their definition: a visit is a prefix that does not win
-//! yet, can still meet each quota, and holds no member whom each rule can spare.
+//! look at the prefixes of rank places one by one: a visit is a prefix that does not win yet, can still meet each
+//! quota, and holds no member whom each rule can spare, by what is there and what vetoers bring, or, past 128 steps
+//! without a coalition, by what can still come.
 use super::*;
 
 /// The walk gives these coalitions, each by so many visits in all, then none twice, with no visit more
@@ -20,8 +21,8 @@ fn gives(rt: &impl Abort, walk: &mut Walk<'_>, coalitions: &[(u64, u64)], visits
 }
 
 /// The visits, counted by hand: of the worked game, two fixed places, and five decisions in the second slice;
-/// under two rules, three decisions for all members, who win and are not minimal, one for the first and
-/// the last, and two for the second and the last.
+/// under two rules, of which the last member is a vetoer, two decisions for the first two, of whom one can be spared with
+/// what the last brings, one for the first and the last, and two for the second and the last.
 #[test]
 fn a_walk_makes_few_visits(rt: HostRuntime) -> Result<(), Fail> {
     let alloc = rt.alloc();
@@ -39,7 +40,7 @@ fn a_walk_makes_few_visits(rt: HostRuntime) -> Result<(), Fail> {
     let all = game(&rt, alloc, 40, &[1; 40])?;
     gives(&rt, &mut Walk::new(&all, 0, 0), &[((1 << 40) - 1, 40)], 40);
     let two = two_rules(&rt, alloc)?;
-    gives(&rt, &mut Walk::new(&two, 0, 0), &[(5, 4), (3, 6)], 6);
+    gives(&rt, &mut Walk::new(&two, 0, 0), &[(5, 3), (3, 5)], 5);
     Ok(())
 }
 
@@ -126,10 +127,90 @@ fn visits_of_slices_under_several_rules(rt: HostRuntime) -> Result<(), Fail> {
     Ok(())
 }
 
-/// A game of 16 members whose only minimal winning coalition is its last member alone, and most of whose sets
-/// are looked at.
+/// Members who weigh alike: how many they are, and what each weighs under each rule.
+type Group = (usize, [u64; 3]);
+
+/// The game of rules over groups of members; `order` says which weights and quota stand first.
+fn game_by_groups(
+    rt: &impl Abort,
+    alloc: Global,
+    order: &[usize],
+    quotas: [u64; 3],
+    groups: &[Group],
+) -> Result<Game, Fail> {
+    let mut rules = Vec::new(alloc);
+    let mut members = 0;
+    for rule in order {
+        assert!(rt; *rule < 3);
+        let mut weights = Vec::new(alloc);
+        for (count, all) in groups {
+            for _ in 0..*count {
+                weights.push(all[*rule])?;
+            }
+        }
+        members = weights.len();
+        rules.push(Rule {
+            quota: quotas[*rule],
+            weights,
+        })?;
+    }
+    game_of(rt, alloc, members, rules)
+}
+
+/// Statutes of 40 members, each in two orders of its rules: two signatures, or six, and half of the shares, of
+/// which an owner has most; two of three large owners; two classes of shares; vetoers behind many members; joint
+/// owners.
 #[test]
-fn many_visits_for_one_coalition(rt: HostRuntime) -> Result<(), Fail> {
+fn visits_of_natural_statutes(rt: HostRuntime) -> Result<(), Fail> {
+    let alloc = rt.alloc();
+    let owner = [(39, [1, 1, 0]), (1, [1, 61, 0])].as_slice();
+    let three = [(37, [1, 1, 0]), (3, [1, 40, 0])].as_slice();
+    let classes = [(36, [1, 1, 0]), (4, [0, 100, 0])].as_slice();
+    let vetoers = [(32, [1, 0, 0]), (8, [1, 1, 0])].as_slice();
+    let joint = [(38, [1, 1, 0]), (2, [1, 60, 0])].as_slice();
+    let rows = [
+        ([2, 51, 0], owner, 39, [819, 40]),
+        ([6, 51, 0], owner, 575_757, [4_496_387, 658_008]),
+        ([3, 80, 0], three, 112, [2_225, 117]),
+        ([3, 201, 0], classes, 42_840, [336_505, 46_715]),
+        ([14, 8, 0], vetoers, 906_192, [11_722_959, 1_107_575]),
+        ([2, 100, 0], joint, 1, [40, 2]),
+    ];
+    for (quotas, groups, coalitions, visits) in rows {
+        let game = game_by_groups(&rt, alloc, &[0, 1], quotas, groups)?;
+        counts(&rt, &mut Walk::new(&game, 0, 0), coalitions, visits[0]);
+        let game = game_by_groups(&rt, alloc, &[1, 0], quotas, groups)?;
+        counts(&rt, &mut Walk::new(&game, 0, 0), coalitions, visits[1]);
+    }
+    Ok(())
+}
+
+/// Two chambers and a budget, and a member who alone has what three rules ask for, in each order of the rules.
+#[test]
+fn visits_of_three_rules_in_each_order(rt: HostRuntime) -> Result<(), Fail> {
+    let alloc = rt.alloc();
+    let chambers = [(20, [1, 0, 1]), (18, [0, 1, 1]), (2, [0, 1, 50])].as_slice();
+    let alone = [(39, [2, 0, 1]), (1, [1, 1, 20])].as_slice();
+    let rows = [
+        ([0, 1, 2], 5_149, 40),
+        ([0, 2, 1], 5_149, 40),
+        ([1, 0, 2], 229, 1),
+        ([1, 2, 0], 229, 1),
+        ([2, 0, 1], 211, 1),
+        ([2, 1, 0], 211, 1),
+    ];
+    for (order, of_chambers, of_one) in rows {
+        let game = game_by_groups(&rt, alloc, &order, [2, 2, 100], chambers)?;
+        counts(&rt, &mut Walk::new(&game, 0, 0), 190, of_chambers);
+        let game = game_by_groups(&rt, alloc, &order, [1, 1, 20], alone)?;
+        counts(&rt, &mut Walk::new(&game, 0, 0), 1, of_one);
+    }
+    Ok(())
+}
+
+/// A game of 16 members whose only minimal winning coalition is its last member alone, who is a vetoer.
+#[test]
+fn few_visits_for_one_coalition(rt: HostRuntime) -> Result<(), Fail> {
     let alloc = rt.alloc();
     let mut twos = [2; 16];
     twos[15] = 1;
@@ -138,7 +219,7 @@ fn many_visits_for_one_coalition(rt: HostRuntime) -> Result<(), Fail> {
     let mut ones = [1; 16];
     ones[15] = 8;
     let game = game_by_weights(&rt, alloc, 16, &[(1, &twos), (1, &last), (8, &ones)])?;
-    counts(&rt, &mut Walk::new(&game, 0, 0), 1, 50_642);
+    counts(&rt, &mut Walk::new(&game, 0, 0), 1, 16);
     Ok(())
 }
 
@@ -147,9 +228,9 @@ fn many_visits_for_one_coalition(rt: HostRuntime) -> Result<(), Fail> {
 fn visits_of_random_games(rt: HostRuntime) -> Result<(), Fail> {
     let alloc = rt.alloc();
     let rows = [
-        (1, 2, 9_807, 104_923),
-        (5, 3, 32_261, 594_519),
-        (6, 4, 89_432, 1_162_566),
+        (1, 2, 9_807, 89_004),
+        (5, 3, 32_261, 456_282),
+        (6, 4, 89_432, 974_271),
     ];
     for (seed, rules, coalitions, visits) in rows {
         let game = random_game(&rt, alloc, seed, 26, rules)?;

@@ -23,8 +23,8 @@ fn counts_without_memory(rt: HostRuntime) -> Result<(), Fail> {
 fn gives_all_indices(rt: HostRuntime) -> Result<(), Fail> {
     let game = game(&rt, rt.alloc(), 51, &FIVE)?;
     let list = coalitions(&rt, rt.alloc(), &game, &MASKS)?;
-    assert!(rt; list.len() == 5);
-    let counts = Counts::of(&game, &list);
+    let counts = wide::grown(&rt, &game, &list);
+    assert!(rt; counts.members() == 5 && counts.wide_total() > 1 << 32);
     rt.println("call")?;
     let Ok(all) = all_indices(rt.alloc(), &counts) else {
         return Ok(rt.println("out of memory")?);

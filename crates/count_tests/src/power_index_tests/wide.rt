@@ -107,7 +107,7 @@ fn coalitions_are_counted_one_by_one(rt: HostRuntime) -> Result<(), Fail> {
 }
 
 /// The counts grow as the Fibonacci numbers do, each of the two by the other in turn.
-fn grown(rt: &impl Abort, game: &Game, list: &[Coalition]) -> Counts
+pub(super) fn grown(rt: &impl Abort, game: &Game, list: &[Coalition]) -> Counts
     requires list { AreNonemptyCoalitions game.now list.now }
     requires few { length list.now ≤ 1000 }
 {

@@ -1,5 +1,5 @@
 //! Gates that see every worker and slice, and a pipe that sees when its gate was passed.
-ghost use Rattle.std.specs.Prelude.{◌≡◌, ℕ, ⊤};
+ghost use Rattle.std.specs.Prelude.{◌≡◌, ℕ};
 
 use super::*;
 use mwc_pipe::Refused;
@@ -43,8 +43,6 @@ impl Seen {
 }
 
 impl Gate for Seen {
-    ghost takes = { λ _ _. ⊤ };
-
     fn pass(&self, worker: u8, slice: u16) {
         if slice < 64 && worker < self.workers {
             self.passed[slice as usize].fetch_add(1, Ordering::SeqCst);

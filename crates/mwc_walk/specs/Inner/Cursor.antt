@@ -6,6 +6,7 @@ use Rattle.mwc_walk.specs.declared.cursor.Cursor.{Cursor}
 use Rattle.mwc_walk.specs.declared.step.Step.{Step}
 use Rattle.mwc_walk.specs.declared.step.Step.TheVariants.{On, Give, End}
 use Rattle.mwc_walk.specs.Slices.{slice}
+use Rattle.mwc_walk.specs.Inner.Vetoes.{BringsAre}
 use Rattle.mwc_walk.specs.Inner.Places.{slice_below, reaches, wins_at, LanesAre}
 
 -- the numbers below this one are still to be looked at
@@ -52,6 +53,7 @@ pub record CursorIs (v : Votes) (c : Cursor) : Type 0 where
   pub rules : c.rules ≡ length v.rules
   pub room : c.rules ≤ length c.lanes
   pub lanes : LanesAre v.members c.place c.prefix v.rules (take c.rules c.lanes)
+  pub vetoes : BringsAre v c.vetoes
   pub place : IsPlace v c.bits c.number c.place c.prefix
   pub visits :
       CountsVisits v c.bits c.number c.visits (new_visit c) (open_visits v c) (rest_of_slice v c)
@@ -87,6 +89,12 @@ abbrev pub Steps : Votes → Cursor → Step → Cursor → Type 0
 Steps v a On b = GoesOn v a b
 Steps v a (Give m) b = GivesNext v a m b
 Steps v a End b = FindsEnd v a b
+
+-- some steps, which may come to no coalition
+abbrev pub SomeSteps : Votes → Cursor → Step → Cursor → Type 0
+SomeSteps v a On b = Follows v a b × (rest_of_slice v b ≡ rest_of_slice v a)
+SomeSteps v a (Give m) b = GivesNext v a m b
+SomeSteps v a End b = FindsEnd v a b
 
 -- steps up to the next coalition, or to the end
 abbrev pub Runs : Votes → Cursor → Option ℕ → Cursor → Type 0

@@ -1,8 +1,8 @@
 -- A place of the walk: x is the number of the first p places.
-use Rattle.std.specs.Prelude.{ℕ, ◌+◌, ◌-◌, ◌/◌, ◌^◌, ◌==◌, ◌≡◌, ◌≤◌, ◌<◌, Bool, false, nat_le, List, take, drop, slice_index}
+use Rattle.std.specs.Prelude.{ℕ, ◌+◌, ◌-◌, ◌/◌, ◌^◌, ◌==◌, ◌≡◌, ◌≤◌, ◌<◌, Bool, true, false, nat_le, List, length, take, drop, slice_index}
 use Rattle.std.specs.List.{filter, sum, list_all, AllZip}
 use Rattle.mwc_walk.specs.declared.lane.Lane.{Lane}
-use Rattle.council_game.specs.Votes.{Votes, RuleView, IsRule, has, weight, minimal}
+use Rattle.council_game.specs.Votes.{Votes, RuleView, IsRule, rule_at, has, weight, wins, minimal}
 use Rattle.council_game.specs.Inner.Below.{minimal_below}
 
 -- of a list of coalitions, those of slice j at k bits
@@ -22,10 +22,21 @@ reaches rules p x =
 unfoldable pub wins_at : List RuleView → ℕ → ℕ → Bool
 wins_at rules p x = list_all (λ r. nat_le r.quota (weight (take p r.weights) x)) rules
 
--- each rule can spare place q, which is in: what it has beyond its quota weighs as much
-unfoldable pub spares : List RuleView → ℕ → ℕ → ℕ → Bool
-spares rules p x q =
-    list_all (λ r. nat_le (slice_index r.weights q) (weight (take p r.weights) x - r.quota)) rules
+-- each winning coalition that begins with the prefix passes the quota of rule i by e at least
+abbrev pub IsExcess : Votes → ℕ → ℕ → ℕ → ℕ → Type 0
+IsExcess v p x i e = (c : ℕ) → c / 2 ^ (v.members - p) ≡ x → wins v.rules c ≡ true →
+    (rule_at v.rules i).quota + e ≤ weight (rule_at v.rules i).weights c
+
+abbrev pub AreExcesses : Votes → ℕ → ℕ → List ℕ → Type 0
+AreExcesses v p x es = (i : ℕ) → i < length v.rules → IsExcess v p x i (slice_index es i)
+
+-- each rule can spare place q: by so much the quotas are passed
+abbrev pub CanSpare : Votes → List ℕ → ℕ → Type 0
+CanSpare v es q = (i : ℕ) → i < length v.rules → slice_index (rule_at v.rules i).weights q ≤ slice_index es i
+
+-- no winning coalition begins with the prefix
+abbrev pub NoneWins : Votes → ℕ → ℕ → Type 0
+NoneWins v p x = (c : ℕ) → c / 2 ^ (v.members - p) ≡ x → wins v.rules c ≡ true → ⊥
 
 -- no coalition that begins with the prefix is minimal
 abbrev pub NothingBelow : Votes → ℕ → ℕ → Type 0

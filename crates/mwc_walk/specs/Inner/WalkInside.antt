@@ -1,8 +1,9 @@
 -- A walk by its fields.
-use Rattle.std.specs.Prelude.{◌≡◌, true}
+use Rattle.std.specs.Prelude.{◌≡◌, true, IfSome}
 use Rattle.council_game.specs.Game.{votes_of}
 use Rattle.mwc_walk.specs.declared.walk.Walk.TheInside.{Inside}
 use Rattle.mwc_walk.specs.WalkView.{WalkView}
+use Rattle.mwc_walk.specs.Inner.Ahead.{AheadIs}
 use Rattle.mwc_walk.specs.Inner.Cursor.{CursorIs, rest_of_slice}
 
 abbrev pub walk_view : Inside → WalkView
@@ -17,4 +18,5 @@ walk_view w = record {
 -- between two calls no descent is under way
 pub record IsInside (w : Inside) : Type 0 where
   pub cursor : CursorIs (votes_of w.game.now) w.cursor
+  pub ahead : IfSome w.ahead (AheadIs (votes_of w.game.now))
   pub rests : w.cursor.fresh ≡ true → w.cursor.place ≡ w.cursor.bits

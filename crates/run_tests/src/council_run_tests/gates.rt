@@ -1,5 +1,5 @@
 //! Gates that see every slice of games with many of them.
-ghost use Rattle.std.specs.Prelude.{◌≤◌, ⊤};
+ghost use Rattle.std.specs.Prelude.{◌≤◌};
 ghost use Rattle.coalitions.specs.declared.limits.TheConstants.{BITS, WORKERS};
 
 use super::same;
@@ -35,8 +35,6 @@ impl Seen {
 }
 
 impl Gate for Seen {
-    ghost takes = { λ _ _. ⊤ };
-
     fn pass(&self, worker: u8, slice: u16) {
         if slice < 1024 && worker < 16 {
             self.of[slice as usize].fetch_add(1, Ordering::SeqCst);

@@ -100,13 +100,22 @@ impl Watch for Never {
     }
 }
 
-/// A tally that threads count is stopped by its watch, and nothing is written; sums ask no watch.
+/// A tally that threads count is stopped by its watch, and nothing is written; sums, also those of one worker, ask no
+/// watch.
 #[test]
 fn a_watch_stops_a_tally(rt: HostRuntime) -> Result<(), Fail> {
+    let options = Options {
+        workers: 1,
+        bits: 6,
+        most: 1,
+        list: false,
+        sizes: false,
+        notation: false,
+    };
     for (file, stopped) in [(THREE, true), (BOARD, false)] {
         let mut reader = file;
         let mut written = Vec::new(rt.alloc());
-        let answer = tally(&rt, rt.alloc(), &mut reader, &plain(), &Never, &mut written);
+        let answer = tally(&rt, rt.alloc(), &mut reader, &options, &Never, &mut written);
         let wanted = if stopped {
             Err(RunFault {
                 cause: Cause::Stopped,

@@ -1,5 +1,3 @@
-use Rattle.std.proofs.Common.{◌≤◌, ◌^◌, arith}
-use Rattle.std.proofs.Math.Pow.{pow_mono}
 use Rattle.council_game.specs.Game.{votes_of}
 use Rattle.mwc_gather.specs.Gathering.{Gathers}
 use Rattle.council_run.proofs.Whole.{ok-map}
@@ -17,10 +15,5 @@ returns-clause-ok g c =
     })
     (rw c.new-guarded.ensures at c.gather.ensures.gathers)
 
--- no more slices than the options name
-pub gather-requires-clause-gate : goal.gather-requires-clause-gate
-gather-requires-clause-gate g c κs lasts w j below within =
-    let least = c.min-bits.ensures in
-    let few : c.min-bits.result ≤ c.args.options.now.bits = omega arith in
-    let fewer : 2 ^ c.min-bits.result ≤ 2 ^ c.args.options.now.bits = pow_mono {i = c.min-bits.result} {j = c.args.options.now.bits} few in
-    c.requires w j below (omega arith)
+pub returns-clause-parts : goal.returns-clause-parts
+returns-clause-parts g c = ok-map c.gather.result (λ r all. all.a_part_each) c.gather.ensures.gathers

@@ -1,7 +1,7 @@
 use Rattle.std.proofs.Common.{◌≡◌, ◌<◌, ◌+◌, ◌-◌, [], length, take, drop, arith, refl, ◌∙◌, inl, inr, get_or-set_other, get_or-set_same, length-set}
 use Rattle.std.proofs.lemmas.List.{drop_all, length-take-le}
 use Rattle.std.proofs.lemmas.Bool.{cases_eq}
-use Rattle.mwc_walk.proofs.Tables.{zero-at, fills-down, drop-most}
+use Rattle.mwc_walk.proofs.Tables.{same-at, fills-down, drop-most}
 use Rattle.mwc_walk.proofs.lane.rest_of.Goals as goal
 
 pub loop-place-init : goal.loop-place-init
@@ -11,7 +11,7 @@ loop-place-init c = record {
       let size : length (take c.args.members c.args.weights.now) ≡ c.args.members =
       length-take-le c.args.members c.args.weights.now (omega arith) in
       let none : drop q (take c.args.members c.args.weights.now) ≡ [] = drop_all q (take c.args.members c.args.weights.now) (omega arith) in
-      rw none (zero-at 41 q);
+      rw none (same-at 0 41 q);
 }
 
 pub overflow_add-rest-in-loop-place : goal.overflow_add-rest-in-loop-place

@@ -1,4 +1,4 @@
-use Rattle.std.proofs.Common.{◌≡◌, ℕ, true, length, get_or, ap, ◌∙◌, subst, arith}
+use Rattle.std.proofs.Common.{◌≡◌, ℕ, length, get_or, refl, ap, ◌∙◌, arith}
 use Rattle.std.proofs.lemmas.Nat.{pow_pos}
 use Rattle.council_game.specs.Votes.{has}
 use Rattle.coalitions.proofs.Digits.{has-none}
@@ -14,14 +14,12 @@ loop-member-init c = record {
 
 pub loop-member-preserved : goal.loop-member-preserved
 loop-member-preserved c =
-    let count = c.members-count.ensures.count in
+    let game = c.args.self.now in
     record {
-      members = taken-in c.args.self.now c.args.members.now c.loop-member.member-index c.place_of.result c.loop-member.coalition
-          c.with-coalition.result
-          c.members-count.ensures.game c.loop-member-test.true (c.requires c.loop-member.member-index 0 c.loop-member-test.true)
-          c.place_of.ensures.place
-          (subst (λ (n : ℕ). has n c.place_of.result c.with-coalition.result ≡ true) count c.with-coalition.ensures.inside)
-          (λ p lt other. rw count at (c.with-coalition.ensures.others p (rw count lt) other))
-          c.loop-member.invariant.members;
-      below = rw count at (c.with-coalition.ensures.below (rw count c.loop-member.invariant.below));
+      members = taken-in game c.args.members.now c.loop-member.member-index
+          (get_or game.ranks (get_or c.args.members.now c.loop-member.member-index 0) 0)
+          c.loop-member.coalition c.with_member-coalition.result c.with_member-coalition.ensures.game c.loop-member-test.true
+          (c.requires c.loop-member.member-index 0 c.loop-member-test.true) refl
+          c.with_member-coalition.ensures.inside c.with_member-coalition.ensures.others c.loop-member.invariant.members;
+      below = c.with_member-coalition.ensures.below c.loop-member.invariant.below;
     }

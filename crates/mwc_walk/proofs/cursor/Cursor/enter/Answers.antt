@@ -4,7 +4,7 @@ use Rattle.council_game.specs.Game.{votes_of}
 use Rattle.mwc_walk.specs.Inner.Cursor.{GivesNext}
 use Rattle.mwc_walk.proofs.Steps.{enter-dead, enter-spare, enter-in, enter-give, enter-mask, enter-short, reach-is, win-is, in-fits, in-room, is-part}
 use Rattle.mwc_walk.proofs.cursor.Cursor.enter.Goals as goal
-use Rattle.mwc_walk.proofs.cursor.Cursor.enter.Goals.{then-not-all_reach-via-then-not-all_reach, then-not-all_reach-via-else-not-all_reach+then-spares_one}
+use Rattle.mwc_walk.proofs.cursor.Cursor.enter.Goals.{then-not-all_reach-via-then-not-all_reach, then-not-all_reach-via-else-not-all_reach+then-passes_by}
 
 pub returns-then-not-all_reach : goal.returns-then-not-all_reach
 returns-then-not-all_reach c =
@@ -12,9 +12,9 @@ returns-then-not-all_reach c =
       | then-not-all_reach-via-then-not-all_reach w ↦
           enter-dead (votes_of c.args.game.now) c.args.self.now c.requires.is c.requires.fresh
           (reach-is _ _ c.requires.is false (sym c.all_reach.ensures ∙ w.if-not-all_reach.true))
-      | then-not-all_reach-via-else-not-all_reach+then-spares_one w ↦
-          enter-spare (votes_of c.args.game.now) c.args.self.now c.requires.is c.requires.fresh (w.if-spares_one.ensures.some refl)
-          (w.if-spares_one.ensures.one refl)
+      | then-not-all_reach-via-else-not-all_reach+then-passes_by w ↦
+          enter-spare (votes_of c.args.game.now) c.args.self.now c.requires.is c.requires.fresh (w.if-passes_by.ensures.some refl)
+          (w.if-passes_by.ensures.one refl)
     ]
 
 pub take_in-requires-clause-place : goal.take_in-requires-clause-place
@@ -46,4 +46,4 @@ returns c =
     let m = c.of_mask-found.ensures ∙ enter-mask (votes_of c.args.game.now) c.args.self.now c.requires.is in
     let won = win-is _ _ c.requires.is true (sym c.all_win.ensures ∙ c.if-not-all_win.false) in
     subst (λ (i : ℕ). GivesNext (votes_of c.args.game.now) c.args.self.now i (record c.args.self.now { fresh = false })) (sym m)
-    (enter-give (votes_of c.args.game.now) c.args.self.now c.requires.is c.requires.fresh won (c.if-spares_one.ensures.none refl won))
+    (enter-give (votes_of c.args.game.now) c.args.self.now c.requires.is c.requires.fresh won (c.if-passes_by.ensures.none refl won))

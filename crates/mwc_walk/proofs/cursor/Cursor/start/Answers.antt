@@ -9,10 +9,9 @@ use Rattle.mwc_walk.proofs.cursor.Cursor.start.Goals.{then-has, else-has}
 
 pub loop-place-init : goal.loop-place-init
 loop-place-init c = record {
-  room = omega (arith, c.rules-rules.ensures.votes, c.loop-rule.invariant.long, c.members-members.ensures.votes.few_rules);
-  are = first-lanes (votes_of c.args.game.now) c.args.bits c.args.number c.rules-rules.result c.loop-rule.lanes
-      c.members-members.ensures.votes c.rules-rules.ensures.votes c.loop-rule.invariant.long c.requires.few
-      (λ i below d. c.loop-rule.invariant.done i (omega arith) d);
+  room = omega (arith, c.rules-rules.ensures.votes, c.lanes_of-lanes.ensures.long, c.members-members.ensures.votes.few_rules);
+  are = first-lanes (votes_of c.args.game.now) c.args.bits c.args.number c.rules-rules.result c.lanes_of-lanes.result
+      c.rules-rules.ensures.votes c.requires.few c.lanes_of-lanes.ensures.lanes;
 }
 
 pub take_in-requires-clause-fits : goal.take_in-requires-clause-fits
@@ -45,8 +44,8 @@ loop-place-preserved c =
 pub returns : goal.returns
 returns c =
     let e : c.loop-place.place ≡ c.args.bits = omega arith in
-    starts (votes_of c.args.game.now) c.args.bits c.args.number _ _ _ _ c.members-members.ensures.votes c.requires.bits c.requires.number
+    starts (votes_of c.args.game.now) c.args.bits c.args.number _ _ _ _ _ c.members-members.ensures.votes c.requires.bits c.requires.number
     c.members-members.ensures.count c.rules-rules.ensures.votes
-    c.loop-place.invariant.room
+    c.loop-place.invariant.room c.brought-vetoes.ensures
     (rw e at c.loop-place.invariant.are)
     (first-number c.args.bits c.args.number c.requires.few)

@@ -4,8 +4,8 @@ use Rattle.mwc_walk.proofs.walk.Walk.next.Goals as goal
 
 pub returns-clause-given : goal.returns-clause-given
 returns-clause-given c =
-    rw (← c.self.view_is) (given-next (votes_of c.self.inside.game.now) c.self.inside.cursor c.next.result c.next.new.self
-    c.self.invariant.cursor c.next.ensures)
+    rw (← c.self.view_is) (given-next (votes_of c.self.inside.game.now) c.self.inside.cursor c.find.result c.find.new.self
+    c.self.invariant.cursor c.find.ensures.runs)
 
 pub returns-clause-whole : goal.returns-clause-whole
-returns-clause-whole c = whole-after (votes_of c.self.inside.game.now) c.self.inside.cursor c.next.result c.next.new.self c.next.ensures
+returns-clause-whole c = whole-after (votes_of c.self.inside.game.now) c.self.inside.cursor c.find.result c.find.new.self c.find.ensures.runs

@@ -1,0 +1,2 @@
+-- What only private functions need.
+pub mod Wants

@@ -1,0 +1,10 @@
+use Rattle.std.proofs.Common.{◌≡◌, ◌≤◌, vec_len, vec_capacity}
+use Rattle.std.specs.Prelude.{All}
+use Rattle.mwc_tally.proofs.all.start_all.Given as goal
+
+abbrev pub invariant-loop : goal.invariant-loop
+invariant-loop g l = record {
+  count : vec_len l.threads ≡ l.counter;
+  room : l.workers ≤ vec_capacity l.threads;
+  given : All (λ t. t.promise ≡ l.work.slices) l.threads.items;
+}

@@ -1,0 +1,132 @@
+-- Vetoers are in every winning coalition.
+use Rattle.std.proofs.Common.{◌≡◌, ◌⊎◌, ℕ, zero, suc, ◌+◌, ◌-◌, ◌/◌, ◌%◌, ◌^◌, ◌<◌, ◌≤◌, true, false, List, [], ◌∷◌, length, take, drop, get_or, sum, refl, arith, inl, inr}
+use Rattle.std.specs.List.{list_any}
+use Rattle.std.proofs.lemmas.Bool.{both_ways, and_parts, or_cases, leb-true, ltb-true, cases_Bool, cases_eq}
+use Rattle.std.proofs.lemmas.List.{drop_all, take_all, length-take-le}
+use Rattle.std.proofs.lemmas.Nat.Bits.{bit_at-lt}
+use Rattle.coalitions.proofs.Digits.{digit-added}
+use Rattle.council_game.specs.Votes.{RuleView, Votes, IsRule, rule_at, weight, wins}
+use Rattle.council_game.proofs.Weights.{weight-le, weight-without}
+use Rattle.mwc_walk.specs.declared.lane.Lane.{Lane}
+use Rattle.mwc_walk.specs.Inner.Lanes.{lane_needs}
+use Rattle.mwc_walk.specs.Inner.Vetoes.{IsSplit}
+use Rattle.mwc_walk.specs.Inner.Places.{LaneIs, LanesAre}
+use Rattle.mwc_walk.proofs.Coming.{weight-from, weight-past}
+use Rattle.mwc_walk.proofs.Tables.{sum-from}
+
+-- who is out weighs nothing
+weight-out : (ws : List ℕ) (q c : ℕ) → q < length ws → c / 2 ^ (length ws - 1 - q) % 2 ≡ 0 → weight ws c + get_or ws q 0 ≤ sum ws
+weight-out ws q c below out =
+    let digit : (c + 2 ^ (length ws - 1 - q)) / 2 ^ (length ws - 1 - q) % 2 ≡ 1 = digit-added c (length ws - 1 - q) out in
+    let more = weight-without ws q (c + 2 ^ (length ws - 1 - q)) below digit in
+    let back : c + 2 ^ (length ws - 1 - q) - 2 ^ (length ws - 1 - q) ≡ c = omega arith in
+    let most = weight-le ws (c + 2 ^ (length ws - 1 - q)) in
+    omega (arith, rw back at more, most)
+
+-- a rule that needs the member of a place is not met without it
+needs-it : (n q c : ℕ) (r : RuleView) (l : Lane) → q < n → LaneIs n 0 0 r l → lane_needs q l ≡ true → r.quota ≤ weight r.weights c
+    → c / 2 ^ (n - 1 - q) % 2 ≡ 0 → ⊥
+needs-it n q c r l below is needs met out =
+    let full : length r.weights ≡ n = is.rule.full in
+    let short : get_or l.rest 0 0 - get_or l.weights q 0 < l.quota = ltb-true _ _ needs in
+    let most = weight-out r.weights q c (omega (arith, full)) (rw full out) in
+    omega (arith, short, most, met, is.rest 0 (omega arith), is.weights q below, is.quota)
+
+pub vetoer-in : (n q c : ℕ) (rs : List RuleView) (ls : List Lane) → q < n → LanesAre n 0 0 rs ls → list_any (lane_needs q) ls ≡ true
+    → wins rs c ≡ true → c / 2 ^ (n - 1 - q) % 2 ≡ 0 → ⊥
+unfolding wins
+vetoer-in n q c [] [] below are needs won out = absurd (both_ways false refl needs)
+vetoer-in n q c [] (l ∷ ls) below are needs won out = elim are [ ]
+vetoer-in n q c (r ∷ rs) [] below are needs won out = elim are [ ]
+vetoer-in n q c (r ∷ rs) (l ∷ ls) below are needs won out =
+    let met = and_parts _ _ won in
+    elim (or_cases _ _ needs) [
+      | inl here ↦ needs-it n q c r l below are.0 here (leb-true _ _ met.0) out
+      | inr later ↦ vetoer-in n q c rs ls below are.1 later met.1 out
+    ]
+
+-- ---- weights in two parts
+module _ (n : ℕ) (ws vs fs : List ℕ) (lw : n ≤ length ws) (lv : n ≤ length vs) (lf : n ≤ length fs)
+    (parted : (q : ℕ) → q < n → get_or vs q 0 + get_or fs q 0 ≡ get_or ws q 0) where
+  -- where the first part is in the coalition, it is weighed whole
+  pub split-from : (c k p : ℕ) → ((q : ℕ) → q < n → (get_or vs q 0 ≡ 0) ⊎ (c / 2 ^ (n - (q + 1)) % 2 ≡ 1)) → p + k ≡ n
+      → sum (drop p (take n vs)) + weight (drop p (take n fs)) c ≡ weight (drop p (take n ws)) c
+  split-from c zero p inside at =
+      let none : drop p (take n vs) ≡ [] = drop_all p (take n vs) (omega (arith, length-take-le n vs lv)) in
+      rw (none, weight-past fs n p c (omega arith) lf, weight-past ws n p c (omega arith) lw) refl
+  split-from c (suc k) p inside at =
+      let below : p < n = omega arith in
+      let rest = split-from c k (p + 1) inside (omega arith) in
+      let first = sum-from vs n p lv below in
+      let others = weight-from fs n p c below lf in
+      let all = weight-from ws n p c below lw in
+      let whole = parted p below in
+      elim (inside p below) [
+        | inl none ↦
+            let same : get_or fs p 0 ≡ get_or ws p 0 = omega (arith, whole, none) in
+            omega (arith, rest, first, rw same at others, all, none)
+        | inr one ↦ omega (arith, rest, first, rw one at others, rw one at all, whole)
+      ]
+
+  pub parts-fit : (k p : ℕ) → p + k ≡ n
+      → sum (drop p (take n vs)) + sum (drop p (take n fs)) ≡ sum (drop p (take n ws))
+  parts-fit zero p at =
+      let v : drop p (take n vs) ≡ [] = drop_all p (take n vs) (omega (arith, length-take-le n vs lv)) in
+      let f : drop p (take n fs) ≡ [] = drop_all p (take n fs) (omega (arith, length-take-le n fs lf)) in
+      let w : drop p (take n ws) ≡ [] = drop_all p (take n ws) (omega (arith, length-take-le n ws lw)) in
+      rw (v, f, w) refl
+  parts-fit (suc k) p at =
+      let below : p < n = omega arith in
+      omega (
+        arith,
+        parts-fit k (p + 1) (omega arith),
+        sum-from vs n p lv below,
+        sum-from fs n p lf below,
+        sum-from ws n p lw below,
+        parted p below,
+      )
+
+-- the weights of rule i: those of the vetoers, and those of the others
+pub record Parts (v : Votes) (ls : List Lane) (i : ℕ) (vs fs : List ℕ) : Type 0 where
+  pub rule : IsRule v.members (rule_at v.rules i)
+  pub long_vetoed : v.members ≤ length vs
+  pub long_free : v.members ≤ length fs
+  pub parted : (q : ℕ) → q < v.members → get_or vs q 0 + get_or fs q 0 ≡ get_or (rule_at v.rules i).weights q 0
+  pub needed : (q : ℕ) → q < v.members → list_any (lane_needs q) ls ≡ false → get_or vs q 0 ≡ 0
+
+pub parts-sum : (v : Votes) (ls : List Lane) (i : ℕ) (vs fs : List ℕ) → Parts v ls i vs fs
+    → sum (take v.members vs) + sum (take v.members fs) < 2 ^ 64
+parts-sum v ls i vs fs parts =
+    let full : length (rule_at v.rules i).weights ≡ v.members = parts.rule.full in
+    let whole : take v.members (rule_at v.rules i).weights ≡ (rule_at v.rules i).weights = take_all v.members _ (omega (arith, full)) in
+    let all = parts-fit v.members (rule_at v.rules i).weights vs fs (omega (arith, full)) parts.long_vetoed parts.long_free parts.parted
+    v.members 0 (omega arith) in
+    omega (arith, rw whole at all, parts.rule.light)
+
+pub split-is : (v : Votes) (ls : List Lane) (i : ℕ) (vs fs brings : List ℕ) → Parts v ls i vs fs
+    → LanesAre v.members 0 0 v.rules ls → ((p : ℕ) → p ≤ v.members → get_or brings p 0 ≡ sum (drop p (take v.members vs)))
+    → IsSplit v i (record { brings = brings; free = fs })
+split-is v ls i vs fs brings parts are sums =
+    let full : length (rule_at v.rules i).weights ≡ v.members = parts.rule.full in
+    let whole : take v.members (rule_at v.rules i).weights ≡ (rule_at v.rules i).weights = take_all v.members _ (omega (arith, full)) in
+    record {
+      room = parts.long_free;
+      fits = omega (arith, parts-sum v ls i vs fs parts);
+      parts = λ p c le won.
+          let all = split-from v.members (rule_at v.rules i).weights vs fs (omega (arith, full)) parts.long_vetoed parts.long_free parts.parted
+          c (v.members - p) p (λ q below. inside c won q below) (omega arith) in
+          rw (sums p le) (rw whole at all);
+    }
+  where
+    inside : (c : ℕ) → wins v.rules c ≡ true → (q : ℕ) → q < v.members → (get_or vs q 0 ≡ 0) ⊎ (c / 2 ^ (v.members - (q + 1)) % 2 ≡ 1)
+    inside c won q below = elim (cases_Bool (list_any (lane_needs q) ls)) [
+      | inr spare ↦ inl (parts.needed q below spare)
+      | inl needs ↦
+          let e : v.members - 1 - q ≡ v.members - (q + 1) = omega arith in
+          let kept = rw e at (vetoer-in v.members q c v.rules ls below are needs won) in
+          let digit : c / 2 ^ (v.members - (q + 1)) % 2 < 2 = bit_at-lt c (v.members - (q + 1)) in
+          inr (elim (cases_eq (c / 2 ^ (v.members - (q + 1)) % 2) 0) [
+            | inl out ↦ absurd (kept out)
+            | inr other ↦ omega (arith, digit, other)
+          ])
+    ]

@@ -1,0 +1,9 @@
+use Rattle.council_game.specs.Game.{votes_of}
+use Rattle.mwc_walk.specs.Inner.Spared.{Tried}
+use Rattle.mwc_walk.proofs.cursor.Cursor.has_spared.Given as goal
+
+abbrev pub invariant-loop-rest : goal.invariant-loop-rest
+invariant-loop-rest l = Tried (votes_of l.game) l.self.place l.self.prefix l.excess l.rest
+
+abbrev pub decreases-loop-rest : goal.decreases-loop-rest
+decreases-loop-rest l = l.rest

@@ -1,0 +1,6 @@
+use Rattle.council_game.specs.Game.{votes_of}
+use Rattle.mwc_walk.specs.Inner.Spared.{Tried}
+use Rattle.mwc_walk.proofs.cursor.Cursor.may_be_spared.Given as goal
+
+abbrev pub invariant-loop-rule : goal.invariant-loop-rule
+invariant-loop-rule l = Tried (votes_of l.game) l.self.place l.self.prefix l.excess l.few

@@ -1,0 +1,7 @@
+use Rattle.council_game.specs.Game.{votes_of}
+use Rattle.mwc_walk.specs.Inner.Spared.{IsNeed}
+use Rattle.mwc_walk.specs.Inner.Vetoes.{vetoes_at}
+use Rattle.mwc_walk.proofs.cursor.Cursor.need.Given as goal
+
+abbrev pub invariant-loop-other : goal.invariant-loop-other
+invariant-loop-other l = IsNeed (votes_of l.game) l.self.place l.self.prefix (vetoes_at l.ahead.vetoes l.rule) l.need

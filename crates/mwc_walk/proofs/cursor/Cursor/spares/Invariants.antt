@@ -1,0 +1,8 @@
+use Rattle.std.proofs.Common.{◌≤◌, ◌<◌, ℕ, slice_index}
+use Rattle.council_game.specs.Game.{votes_of}
+use Rattle.council_game.specs.Votes.{rule_at}
+use Rattle.mwc_walk.proofs.cursor.Cursor.spares.Given as goal
+
+abbrev pub invariant-loop-rule : goal.invariant-loop-rule
+invariant-loop-rule l =
+    (i : ℕ) → i < l.rule → slice_index (rule_at (votes_of l.game).rules i).weights l.place ≤ slice_index l.excess i

@@ -1,0 +1,46 @@
+use Rattle.std.proofs.Common.{◌∙◌, ◌<◌, ◌+◌, arith, below_more}
+use Rattle.mwc_walk.proofs.intervals.Intervals.with.Goals as goal
+use Rattle.mwc_walk.proofs.intervals.Intervals.with.Goals.{else-without-self-via-then-without-self+else-self-without, then-with-self, else-with-self, else-without-self-via-else-without-self}
+use Rattle.std.proofs.lemmas.Bool.{both_ways, eq-eqb}
+
+pub loop-without-preserved-then-self-without : goal.loop-without-preserved-then-self-without
+loop-without-preserved-then-self-without c = record {
+  few = c.push.ensures.few;
+  without_few = omega (arith, c.if-without-self.true);
+  with_few = c.loop-without.invariant.with_few;
+  without = below_more _ _ (λ k below y inside. c.push.ensures.kept y (c.loop-without.invariant.without k below y inside))
+      (λ y inside. c.push.ensures.new y inside.0 inside.1);
+  with = λ k below y fits inside. c.push.ensures.kept (c.args.weight + y) (c.loop-without.invariant.with k below y fits inside);
+}
+
+pub loop-without-preserved : goal.loop-without-preserved
+loop-without-preserved c =
+    let few = c.loop-without.invariant in
+    let below : c.loop-without.with < c.args.self.now.count = elim c.else-without-self.branch [
+      | else-without-self-via-then-without-self+else-self-without w ↦ elim w.if-with-self.branch [
+        | then-with-self w' ↦ absurd (both_ways _ w.if-self-without.false (w'.value-is ∙ eq-eqb _ _ w'.if-with-self.true))
+        | else-with-self w' ↦ omega (arith, w'.if-with-self.false, few.with_few)
+      ]
+      | else-without-self-via-else-without-self w ↦ omega (arith, w.if-without-self.false, c.loop-without-test.true, few.without_few)
+    ] in
+    record {
+      few = c.push-else-without-self.ensures.few;
+      without_few = c.loop-without.invariant.without_few;
+      with_few = omega (arith, below);
+      without = λ k lt y inside. c.push-else-without-self.ensures.kept y (c.loop-without.invariant.without k lt y inside);
+      with = below_more _ _ (λ k lt y fits inside. c.push-else-without-self.ensures.kept (c.args.weight + y)
+          (c.loop-without.invariant.with k lt y fits inside))
+          (λ y fits inside. let here = c.moved-more.ensures below y fits inside in
+          c.push-else-without-self.ensures.new (c.args.weight + y) here.0 here.1);
+    }
+
+pub returns-clause-without : goal.returns-clause-without
+returns-clause-without c =
+    λ y covered. c.loop-without.invariant.without covered.0
+    (omega (arith, covered.1, c.loop-without-test.false, c.loop-without.invariant.without_few, c.loop-without.invariant.with_few)) y covered.2
+
+pub returns-clause-with : goal.returns-clause-with
+returns-clause-with c =
+    λ y fits covered. c.loop-without.invariant.with covered.0
+    (omega (arith, covered.1, c.loop-without-test.false, c.loop-without.invariant.without_few, c.loop-without.invariant.with_few)) y fits
+    covered.2

@@ -1,0 +1,77 @@
+//! The least that members weigh by one rule for what they weigh by another.
+ghost use Rattle.std.specs.Prelude.{◌≡◌, ◌<◌, ◌≤◌, ◌+◌, ◌*◌, ℕ, true, false, take, drop};
+ghost use Rattle.coalitions.specs.declared.limits.TheConstants.{MEMBERS};
+ghost use Rattle.council_game.specs.Votes.{weight};
+ghost use Rattle.mwc_walk.specs.Inner.Prices.{IsPrice, price_at};
+
+use council_game::limits;
+
+/// The cheapest of some members: what it weighs by one rule, `own`, and what by another, `other`. No
+/// member has less by the one for what it has by the other. Both are 0 where none weighs by the other.
+#[derive(Clone, Copy)]
+pub(crate) struct Price {
+    pub(crate) own: u64,
+    pub(crate) other: u64,
+}
+
+impl Price {
+    /// Whether a member is cheaper, or the first who weighs by the other rule.
+    fn is_above(&self, own: u64, other: u64) -> bool
+        ensures some { result ≡ true → 0 < other }
+        ensures less { result ≡ true → own * self.now.other ≤ self.now.own * other }
+        ensures more { result ≡ false → self.now.own * other ≤ own * self.now.other }
+        ensures none { result ≡ false → self.now.other ≡ 0 → other ≡ 0 }
+    {
+        if other == 0 || self.other == 0 {
+            return other > 0;
+        }
+        u128::from(own) * u128::from(self.other) < u128::from(self.own) * u128::from(other)
+    }
+
+    /// The price of these members and one more.
+    fn or(&self, own: u64, other: u64) -> Price
+        ensures { (f g d : ℕ) → IsPrice self.now f g → IsPrice result (d * other + f) (d * own + g) }
+    {
+        if self.is_above(own, other) {
+            Price { own, other }
+        } else {
+            *self
+        }
+    }
+
+    /// The least that members weigh by the one rule who weigh so much by the other.
+    pub(crate) fn of(&self, need: u64) -> u64
+        ensures { (f g : ℕ) → IsPrice self.now f g → need ≤ f → result ≤ g }
+    {
+        if self.other == 0 || need == 0 {
+            return 0;
+        }
+        let least = (u128::from(need) * u128::from(self.own)).div_ceil(u128::from(self.other));
+        least.min(u128::from(u64::MAX)) as u64
+    }
+}
+
+/// For each place the price of the members from there on.
+#[derive(Clone, Copy)]
+pub(crate) struct Prices {
+    pub(crate) from: [Price; limits::SIZES],
+}
+
+impl Prices {
+    /// The prices of members by their weights under the two rules.
+    pub(crate) fn new(
+        own: &[u64; limits::MEMBERS],
+        other: &[u64; limits::MEMBERS],
+        members: usize,
+    ) -> Prices
+        requires { members ≤ MEMBERS }
+        ensures { (p c : ℕ) → p ≤ members →
+            IsPrice (price_at result p) (weight (drop p (take members other.now)) c) (weight (drop p (take members own.now)) c) }
+    {
+        let mut from = [Price { own: 0, other: 0 }; limits::SIZES];
+        for place in (0..members).rev() {
+            from[place] = from[place + 1].or(own[place], other[place]);
+        }
+        Prices { from }
+    }
+}

@@ -1,0 +1,119 @@
+"""What the programs of this folder share: their words, their faults, the files they read, and the program council."""
+import argparse
+import os
+import shutil
+import subprocess
+import sys
+
+from report import Fault, Report
+
+
+def shown(text):
+    """A text of the user on one line: a blank for each letter that moves a terminal, ends a line or shows nothing."""
+    return "".join(it if it.isprintable() else " " for it in str(text))
+
+
+class Words(argparse.ArgumentParser):
+    """Reads the words of a command line. What is wrong with them is told in one line, with status 2."""
+
+    def __init__(self, about):
+        super().__init__(description=about, formatter_class=argparse.RawDescriptionHelpFormatter, allow_abbrev=False)
+
+    def error(self, message):
+        raise Fault(f"{message} (--help says more)", 2)
+
+
+def run(main):
+    """Runs a program on the words of its command line. Each fault is one line and a status, never a traceback."""
+    status = 0
+    try:
+        sys.stdin = sys.stdin or open(os.devnull, encoding="utf-8")
+        sys.stdout = sys.stdout or open(os.devnull, "r+", encoding="utf-8")
+        sys.stdin.reconfigure(encoding="utf-8-sig")
+        sys.stdout.reconfigure(encoding="utf-8", newline="\n")
+        sys.stderr.reconfigure(errors="backslashreplace")
+        if any("\ud800" <= letter <= "\udfff" for it in sys.argv for letter in it):
+            raise Fault("the command line is not UTF-8", 2)
+        main(sys.argv[1:])
+        sys.stdout.flush()
+    except Fault as it:
+        status = tell(it, it.status)
+    except UnicodeDecodeError:
+        status = tell("what was read is not UTF-8", 1)
+    except OSError as it:
+        if it.filename:
+            status = tell(f"{it.filename}: {it.strerror}", 1)
+        else:
+            # what is still to be written, as when the program ends, goes nowhere
+            os.dup2(os.open(os.devnull, os.O_WRONLY), sys.stdout.fileno())
+            status = tell("output failed", 1)
+    except KeyboardInterrupt:
+        status = 130
+    sys.exit(status)
+
+
+def tell(text, status):
+    print(f"{os.path.basename(sys.argv[0])}: {shown(text)}", file=sys.stderr, flush=True)
+    return status
+
+
+def note(text):
+    """Says what is no fault, but what a user may want to know."""
+    tell(text, 0)
+
+
+def report_of(path):
+    """The report in a file; - is standard input."""
+    if path == "-":
+        return Report(sys.stdin)
+    with open(path, encoding="utf-8-sig") as it:
+        try:
+            return Report(it)
+        except Fault as fault:
+            raise Fault(f"{path}: {fault}") from None
+        except UnicodeDecodeError:
+            raise Fault(f"{path}: it is not UTF-8") from None
+
+
+def built_program():
+    """The program as it is built in a clone, or None."""
+    path = os.path.join(os.path.dirname(os.path.realpath(__file__)), "../../crates/council/out/council")
+    return os.path.realpath(path) if os.access(path, os.X_OK) else None
+
+
+def program_at_hand(named=None):
+    """The program council: the one that was named, the one of this clone or archive, or the one on the PATH."""
+    if named:
+        path = shutil.which(named)
+        if not path:
+            raise Fault(f"{named}: no program of that name was found")
+        return path
+    path = os.path.realpath(os.path.join(os.path.dirname(os.path.realpath(__file__)), "../../council"))
+    if os.path.isfile(path) and os.access(path, os.X_OK):
+        return path
+    path = shutil.which("council")
+    if not path:
+        raise Fault("the program council was not found: name it by --program")
+    return path
+
+
+def ready(program):
+    """A program that starts at once. The launcher of a clone proves and builds first, where it must; what it built
+    is then run without it."""
+    with open(program, "rb") as it:
+        is_script = it.read(2) == b"#!"
+    if not (is_script and os.path.basename(program) == "council"):
+        return program
+    status = subprocess.run([program, "--version"], stdin=subprocess.DEVNULL, stdout=subprocess.DEVNULL).returncode
+    if status:
+        raise Fault(f"{program} ended with status {status}")
+    return built_program() or program
+
+
+def computed(program, game, *words):
+    """The report of a game, from the bytes of its file. What the program says of a game that it refuses is the fault."""
+    done = subprocess.run([program, *words], input=game, stdout=subprocess.PIPE, stderr=subprocess.PIPE)
+    if done.returncode:
+        told = done.stderr.decode("utf-8", "replace").strip().split("\n")[0]
+        raise Fault(told or f"{program} ended with status {done.returncode}", max(done.returncode, 1))
+    return Report(done.stdout.decode("utf-8").split("\n")[:-1])

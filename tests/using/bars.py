@@ -1,0 +1,65 @@
+#!/usr/bin/env python3
+"""docs/using/bars.py: a picture of a report.
+
+    tests/using/bars.py PROGRAM
+"""
+import os
+import re
+import subprocess
+import sys
+from xml.etree import ElementTree
+
+from cases import HOSTILE, TEMP, TOP, Run, case, done, fault, hostile_game, report, same
+
+TOOL = "bars.py"
+
+
+def drawn(data):
+    """The picture of a report: its root and its texts."""
+    run = Run(TOOL, input=data)
+    root = ElementTree.fromstring(run.out)
+    return root, root.findall("{*}text")
+
+
+def stored(name):
+    with open(f"{TOP}/examples/{name}.tsv", encoding="utf-8") as it:
+        return it.read()
+
+
+# each member a bar for each share and index, the legend one for each, and the ground
+root, texts = drawn(stored("eec-1958"))
+same("bars.py: bars of one rule", len(root.findall("{*}rect")), 6 * 3 + 3 + 1)
+root, texts = drawn(stored("eu-27-nice"))
+same("bars.py: bars of three rules", len(root.findall("{*}rect")), 27 * 5 + 5 + 1)
+legend = [it.text for it in texts if it.text.startswith("share")]
+same("bars.py: the legend tells the rules", legend, [f"share of the votes, rule {at} (quota {q} of {t})" for at, q, t in [(1, 255, 345), (2, 620, 1000), (3, 14, 27)]])
+case("bars.py: rounded decimals", "0.0841" in [it.text for it in texts], [it.text for it in texts][:12])
+
+# the longest names of the examples, and any others, have room
+for name, data in [("the Bundesrat", stored("de-bundesrat")), ("hostile names", report(hostile_game(4)))]:
+    root, texts = drawn(data)
+    ends = [it for it in texts if it.get("text-anchor") == "end"]
+    left = [float(it.get("x")) - 7 * len(it.text) for it in ends if it.text.isascii()]
+    case(f"bars.py: {name} have room to the left", min(left) > 0, min(left))
+    right = max(float(it.get("x")) + 12 * 0.5 * len(it.text) for it in texts if it.get("text-anchor") != "end")
+    case(f"bars.py: {name} have room to the right", right <= float(root.get("width")), (right, root.get("width")))
+wide = [float(it.get("x")) for it in ends if it.text == "W" * 64][0]
+case("bars.py: 64 letters W have room", wide >= 64 * 11.4, wide)
+same("bars.py: hostile names", [it.text for it in ends], [re.sub("[\ufffe\u202e\u0085]", "\ufffd", it) for it in HOSTILE])
+text = Run(TOOL, input=report(hostile_game(4))).out
+case("bars.py: no letter that SVG refuses, and no element of a name", not re.search("[\ufffe\uffff\u202e\x80-\x9f]", text) and "<script" not in text)
+
+# ---- what is refused
+for name, data, text in [
+    ("a refused game", "", "there is no report: nothing was read (was the game refused?)"),
+    ("a game file", "quota = 1\n", "line 1 is no line of a report of council"),
+    ("bytes that are no text", b"title\t\xff\n", "what was read is not UTF-8"),
+]:
+    fault(f"bars.py refuses {name}", Run(TOOL, input=data), 1, text)
+fault("bars.py, as a user runs it, refuses a refused game", Run(TOOL, apart=True), 1, "there is no report: nothing was read (was the game refused?)")
+if os.path.exists("/dev/full"):
+    with open("/dev/full", "w") as full, open(f"{TEMP}/err", "w+") as err:
+        ran = subprocess.run([sys.executable, f"{TOP}/docs/using/bars.py"], input=stored("eec-1958").encode(), stdout=full, stderr=err)
+        err.seek(0)
+        same("bars.py: a full disk", (ran.returncode, err.read()), (1, "bars.py: output failed\n"))
+done()

@@ -1,0 +1,105 @@
+"""What the tests of docs/using share: each prints `ok NAME`, `FAILED NAME: why` or `skipped NAME: why` for a case."""
+import importlib.util
+import io
+import os
+import shutil
+import subprocess
+import sys
+import tempfile
+
+TOP = os.path.dirname(os.path.dirname(os.path.dirname(os.path.realpath(__file__))))
+TOOLS = os.path.join(TOP, "docs/using")
+PROGRAM = os.path.realpath(sys.argv[1]) if len(sys.argv) > 1 else None
+TEMP = tempfile.mkdtemp()
+sys.dont_write_bytecode = True
+sys.path.insert(0, TOOLS)
+# names that a table, a page or a picture might take for something else
+HOSTILE = [
+    "=1+1", "+1", "-1", "@x", '"quoted"', "it's", "<script>alert(1)</script>", "</title>&amp;", "]]>", "a|b `c` *d* [e](f)",
+    "\\LaTeX & 100% #_{x}^2~$\\end{tabular}", "${x} {{y}} %s {0}", "\ufffe", "\u202egnp.exe", "a\u2028b\u0085c", "中文 ñ é Ł",
+    "e\u0301", "\U0001f600", "x" * 64, "W" * 64, "m, n; o", "CON", " ", "\\u0041",
+]
+
+
+class Run:
+    """What a program of docs/using did: its status, its standard output and its standard error. It runs in this
+    process, which takes a hundredth of the time, or, where it is to be as a user runs it, in one of its own."""
+
+    def __init__(self, tool, *words, input=b"", apart=False):
+        self.tool = tool
+        data = input.encode() if isinstance(input, str) else input
+        if apart:
+            done = subprocess.run([sys.executable, os.path.join(TOOLS, tool), *words], input=data, capture_output=True)
+            self.status, self.raw, err = done.returncode, done.stdout, done.stderr
+        else:
+            self.status, self.raw, err = inside(tool, words, data)
+        self.out, self.err = self.raw.decode(), err.decode()
+
+
+def inside(tool, words, data):
+    """Runs a program of docs/using in this process; its status, its standard output and its standard error."""
+    spec = importlib.util.spec_from_file_location("tool", os.path.join(TOOLS, tool))
+    module = importlib.util.module_from_spec(spec)
+    spec.loader.exec_module(module)
+    kept = sys.argv, sys.stdin, sys.stdout, sys.stderr
+    sys.argv = [tool, *(os.fsdecode(it) for it in words)]
+    sys.stdin, sys.stdout, sys.stderr = (io.TextIOWrapper(io.BytesIO(it), encoding="utf-8") for it in (data, b"", b""))
+    try:
+        module.run(module.main)
+        status = 0
+    except SystemExit as it:
+        status = it.code or 0
+    finally:
+        out, err = sys.stdout, sys.stderr
+        sys.argv, sys.stdin, sys.stdout, sys.stderr = kept
+    for it in out, err:
+        it.flush()
+    return status, out.buffer.getvalue(), err.buffer.getvalue()
+
+
+def case(name, good, why=""):
+    print(f"ok {name}" if good else f"FAILED {name}: {' '.join(str(why).split())[:300]}", flush=True)
+
+
+def same(name, found, wanted):
+    case(name, found == wanted, f"{found!r} in place of {wanted!r}")
+
+
+def fault(name, run, status, text):
+    """Whether a run ended with this status and one line of fault, and printed nothing."""
+    wanted = f"{run.tool}: {text}\n"
+    case(name, (run.status, run.out, run.err) == (status, "", wanted), f"status {run.status}: {run.err!r}, {run.out[:60]!r}")
+
+
+def skipped(name, why):
+    print(f"skipped {name}: {why}")
+
+
+def needs(command, *names):
+    """Whether there is such a command; where not, the cases of these names are skipped."""
+    if shutil.which(command):
+        return True
+    for name in names:
+        skipped(name, f"the command {command} was not found")
+    return False
+
+
+def report(game, *words):
+    """The report of a game, as text."""
+    data = game.encode() if isinstance(game, str) else game
+    done = subprocess.run([PROGRAM, "--tally" if "--list" not in words else "--list", *(it for it in words if it != "--list")], input=data, capture_output=True)
+    if done.returncode:
+        raise SystemExit(f"the program refused a game: {done.stderr.decode()}")
+    return done.stdout.decode()
+
+
+def hostile_game(rules=1):
+    """A game file whose members have the hostile names, under so many rules."""
+    from game import game_file
+    weights = [[at % 5 + 1] + [1] * (rules - 1) for at in range(len(HOSTILE))]
+    quotas = [sum(it[0] for it in weights) - 4] + [len(HOSTILE) - 2] * (rules - 1)
+    return game_file(HOSTILE, quotas, weights, 'A <title> & "more" \\ % = $x$')
+
+
+def done():
+    shutil.rmtree(TEMP)

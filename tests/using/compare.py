@@ -1,0 +1,80 @@
+#!/usr/bin/env python3
+"""docs/using/compare.py: two reports or more side by side, differences, and names that look like one.
+
+    tests/using/compare.py PROGRAM
+"""
+from cases import HOSTILE, TEMP, TOP, Run, case, done, fault, hostile_game, report, same
+
+TOOL = "compare.py"
+
+
+def put(name, text):
+    with open(f"{TEMP}/{name}.tsv", "w", encoding="utf-8") as it:
+        it.write(text)
+    return f"{TEMP}/{name}.tsv"
+
+
+def game(name, *names):
+    members = ", ".join(f'{{name = "{it}", weight = 1}}' for it in names)
+    return put(name, report(f"quota = {len(names)}\nmember = [{members}]\n"))
+
+
+def stored(name):
+    return f"{TOP}/examples/{name}.tsv"
+
+
+# ---- titles, columns, differences
+run = Run(TOOL, stored("eec-1958"), stored("ec-1973"), stored("ec-1981"))
+lines = run.out.split("\n")
+same("compare.py: titles, quotas, numbers of coalitions", lines[0], "1  Council of the European Economic Community, 1958: 12 of 17, minimal winning coalitions: 4")
+case("compare.py: three reports", lines[2].startswith("3  ") and lines[4].split() == ["1", "2", "2", "-", "1", "3", "3", "-", "1"], lines[:6])
+row = next(it.split() for it in lines if it.startswith("Luxembourg"))
+same("compare.py: a member and its differences", row[1:9], ["1", "0.000000", "0.000000", "2", "0.034666", "0.034482", "+0.034667", "+0.034483"])
+row = next(it.split() for it in lines if it.startswith("Denmark"))
+same("compare.py: a member that the first has not", row[1:9], ["-", "-", "-", "3", "0.088000", "0.089655", "-", "-"])
+case("compare.py: columns stand below each other", len({it.rindex(it.split()[-1]) + len(it.split()[-1]) for it in lines[5:-1]}) == 1, lines[5:8])
+run = Run(TOOL, stored("eu-27-nice"), stored("eu-27-lisbon"), apart=True)
+case("compare.py: several rules, as a user runs it", run.status == 0 and run.err == "" and "255/620/14 of 345/1000/27" in run.out, run.err)
+
+# ---- names that look like one
+old, new = game("old", "Czech Republic", "Germany (West)", "Iceland", "Türkiye"), game("new", "Czechia", "Germany", "Norway", "turkiye", "x")
+run = Run(TOOL, old, new)
+told = [f'{one} of report 1 and {other} of report 2' for one, other in [('"Czech Republic"', '"Czechia"'), ('"Germany (West)"', '"Germany"'), ('"Türkiye"', '"turkiye"')]]
+case("compare.py: names that look like one are told", run.status == 0 and [it.split(" may be")[0][12:] for it in run.err.split("\n")[:-1]] == told, run.err)
+run = Run(TOOL, old, new, "--same", "Czechia", "Czech Republic", "--same", "Germany", "Germany (West)", "--same", "Türkiye", "turkiye")
+row = next(it.split() for it in run.out.split("\n") if it.startswith("Czechia"))
+case("compare.py: --same makes them one", run.err == "" and row[1:] == ["1", "0.250000", "0.250000", "1", "0.200000", "0.200000", "-0.050000", "-0.050000"], (run.err, row))
+for one, other in [("United Kingdom", "United States"), ("Slovakia", "Slovenia"), ("North Macedonia", "North Korea"), ("Alberta", "Belgium"), ("A", "B")]:
+    run = Run(TOOL, game("one", one), game("other", other))
+    case(f"compare.py: {one} and {other} are told apart", run.err == "", run.err)
+run = Run(TOOL, stored("eu-27-nice"), stored("eu-36-lisbon"))
+case("compare.py: the examples name each country in one way", run.err == "", run.err)
+
+# ---- names of any kind
+hard = put("hard", report(hostile_game()))
+run = Run(TOOL, hard, put("several", report(hostile_game(3))))
+case("compare.py: hostile names", run.status == 0 and all(it in run.out for it in HOSTILE if it.isprintable()), run.err)
+case("compare.py: no letter that moves a terminal", all(it.isprintable() or it == "\n" for it in run.out))
+
+# ---- what is refused
+for name, words, text in [
+    ("one report", [hard], "name two reports or more"),
+    ("standard input twice", ["-", "-"], "name two reports or more"),
+    ("two names of one report as one", [old, new, "--same", "Iceland", "Türkiye"], '--same "Iceland" "Türkiye": one report has both'),
+    ("names that nobody has", [old, new, "--same", "a\nb", "c"], '--same "a\\u000Ab" "c": no report has one of them'),
+    ("no report", [], "the following arguments are required: REPORT (--help says more)"),
+]:
+    fault(f"compare.py refuses {name}", Run(TOOL, *words), 2, text)
+for name, data, text in [
+    ("a refused game", "", "there is no report: nothing was read (was the game refused?)"),
+    ("a game file", "quota = 1\n", "line 1 is no line of a report of council"),
+    ("half a report", "members\t1\nquota\t1\ntotal\t1\nminimal\t1\n", "the report is not whole, or its numbers are not those of council"),
+]:
+    path = put("bad", data)
+    fault(f"compare.py refuses {name}", Run(TOOL, hard, path), 1, f"{path}: {text}")
+path = put("bytes", "")
+with open(path, "wb") as it:
+    it.write(b"title\t\xff\n")
+fault("compare.py refuses bytes that are no text", Run(TOOL, path, hard), 1, f"{path}: it is not UTF-8")
+fault("compare.py refuses a file that is not there", Run(TOOL, hard, f"{TEMP}/none.tsv"), 1, f"{TEMP}/none.tsv: No such file or directory")
+done()

@@ -1,0 +1,80 @@
+#!/usr/bin/env python3
+"""docs/using/sweep.py: a rule's quota from one number to another, its table and its picture.
+
+    tests/using/sweep.py PROGRAM
+"""
+import re
+from xml.etree import ElementTree
+
+from cases import HOSTILE, PROGRAM, TEMP, TOP, Run, case, done, fault, hostile_game, same
+
+TOOL = "sweep.py"
+
+
+def put(name, text):
+    with open(f"{TEMP}/{name}", "w", encoding="utf-8") as it:
+        it.write(text)
+    return f"{TEMP}/{name}"
+
+
+def sweep(*words, **more):
+    return Run(TOOL, "--program", PROGRAM, *words, **more)
+
+
+def rows(run):
+    return [it.split("\t") for it in run.out.split("\n")[1:-1]]
+
+
+# ---- the council of 1958, for each quota
+COUNCIL = f"{TOP}/examples/eec-1958.toml"
+run = sweep(COUNCIL, "--picture", f"{TEMP}/council.svg")
+case("sweep.py: all quotas of 1958", len(rows(run)) == 17 * 6 and "\n12\tGermany\t5/24\t0.208333\t1/5\t0.200000\n" in run.out, run.err)
+same("sweep.py: its heading", run.out.split("\n")[0], "quota\tmember\tdeegan_packel\tdp\tpublic_good\tpg")
+drawn = ElementTree.parse(f"{TEMP}/council.svg").getroot()
+same("sweep.py: one line for members with the same index", len(drawn.findall("{*}polyline")), 3)
+legend = [it.text for it in drawn.findall("{*}text")]
+case("sweep.py: a legend", {"Germany, France, Italy", "Belgium, Netherlands", "Luxembourg"} <= set(legend), legend)
+points = drawn.findall("{*}polyline")[0].get("points").split()
+case("sweep.py: a point for each quota", len(points) == 17 and points[0].split(",")[0] == "60.00" and points[-1].split(",")[0] == "620.00", points)
+
+# ---- a range, steps, standard input, a rule of several
+same("sweep.py: a range in steps", [it[0] for it in rows(sweep(COUNCIL, "--from", "10", "--to", "15", "--step", "2"))[::6]], ["10", "12", "14"])
+with open(COUNCIL, "rb") as it:
+    data = it.read()
+case("sweep.py: standard input", rows(sweep("-", "--from", "12", "--to", "12", input=data, apart=True))[0][:3] == ["12", "Germany", "5/24"])
+case("sweep.py: a game in brackets", rows(sweep("-", "--from", "12", "--to", "12", input="[3; 4, 4, 4, 2, 2, 1]"))[0][:3] == ["12", "1", "5/24"])
+two = put("two.toml", 'quotas = [5, 3]\nmember = [{name = "A", weights = [3, 1]}, {name = "B", weights = [2, 1]},\n{name = "C", weights = [2, 1]}, {name = "D", weights = [1, 1]}]\n')
+run = sweep("--rule", "2", two)
+# one head or two: AB, AC, BCD; three heads: each three of the four; four: all of them
+same("sweep.py: the second rule", [(it[0], it[4]) for it in rows(run) if it[1] == "A"], [("1", "2/7"), ("2", "2/7"), ("3", "1/4"), ("4", "1/4")])
+
+# ---- names of any kind, in the table and in the picture
+hard = put("hard.toml", hostile_game(2))
+run = sweep(hard, "--rule", "2", "--from", "23", "--to", "24", "--picture", f"{TEMP}/hard.svg", "--index", "dp")
+same("sweep.py: hostile names", [it[1] for it in rows(run)[: len(HOSTILE)]], HOSTILE)
+with open(f"{TEMP}/hard.svg", encoding="utf-8") as it:
+    text = it.read()
+drawn = ElementTree.fromstring(text)
+legend = "".join(it.text for it in drawn.findall("{*}text"))
+case("sweep.py: hostile names in the picture", all(it in legend for it in HOSTILE if not re.search("[\ufffe\u202e\u0085]", it)), legend)
+case("sweep.py: no letter that SVG refuses", not re.search("[\ufffe\uffff\u202e]", text) and "<script" not in text)
+wide = float(drawn.get("width"))
+case("sweep.py: 64 letters W fit", wide >= float([it for it in drawn.findall("{*}text") if "W" * 64 in it.text][0].get("x")) + 64 * 11.4, wide)
+
+# ---- what is refused
+for name, words, status, text in [
+    ("a quota above the total", [COUNCIL, "--to", "18"], 3, "quota 18: council: quota out of range"),
+    ("a quota of 0", [COUNCIL, "--from", "0"], 3, "quota 0: council: quota out of range"),
+    ("a rule that is not there", [COUNCIL, "--rule", "2"], 2, "there is no rule 2: the game has 1"),
+    ("a range of none", [COUNCIL, "--from", "5", "--to", "4"], 2, "there is no quota from 5 to 4 in steps of 1"),
+    ("a step of 0", [COUNCIL, "--step", "0"], 2, "there is no quota from 1 to 17 in steps of 0"),
+    ("a range without end", [COUNCIL, "--to", "99999999"], 2, "from 1 to 99999999 there are 99999999 quotas, and 20000 are the most: --from, --to and --step choose some"),
+    ("a file that is not there", [f"{TEMP}/none.toml"], 1, f"{TEMP}/none.toml: No such file or directory"),
+    ("a refused game", [put("bad.toml", "quota = 9\nmember = [{name = 'A', weight = 1}]\n")], 3, "council: quota out of range"),
+    ("a program that is not there", [COUNCIL, "--program", "no-such"], 1, "no-such: no program of that name was found"),
+    ("a picture without a folder", [COUNCIL, "--from", "12", "--to", "12", "--picture", f"{TEMP}/none/a.svg"], 1, f"{TEMP}/none/a.svg: No such file or directory"),
+    ("a number that is none", [COUNCIL, "--from", "x"], 2, "argument --from: invalid int value: 'x' (--help says more)"),
+]:
+    fault(f"sweep.py refuses {name}", sweep(*words), status, text)
+fault("sweep.py, as a user runs it, refuses no game", Run(TOOL, "--program", PROGRAM, "-", apart=True, input=""), 3, "council: " + ("bad quota" if PROGRAM.endswith("council") else "the game file is not TOML"))
+done()
