@@ -73,22 +73,22 @@ fn visits_under_several_rules(rt: HostRuntime) -> Result<(), Fail> {
     Ok(())
 }
 
-/// A president, a senate of nine and a house of seventeen, in each order of the rules.
+/// A president, a senate of seven and a house of eleven, in each order of the rules.
 #[test]
 fn visits_in_each_order_of_the_rules(rt: HostRuntime) -> Result<(), Fail> {
     let alloc = rt.alloc();
-    let (president, senate, house) = ((0, 1, 1), (1, 10, 5), (10, 27, 9));
+    let (president, senate, house) = ((0, 1, 1), (1, 8, 4), (8, 19, 6));
     let rows = [
-        ([president, senate, house], 6_126_330),
-        ([president, house, senate], 6_126_330),
-        ([senate, president, house], 6_126_455),
-        ([senate, house, president], 6_126_455),
-        ([house, president, senate], 6_194_187),
-        ([house, senate, president], 6_194_187),
+        ([president, senate, house], 32_396),
+        ([president, house, senate], 32_396),
+        ([senate, president, house], 32_430),
+        ([senate, house, president], 32_430),
+        ([house, president, senate], 33_593),
+        ([house, senate, president], 33_593),
     ];
     for (order, visits) in rows {
-        let game = game_by_seats(&rt, alloc, 27, &order)?;
-        counts(&rt, &mut Walk::new(&game, 0, 0), 3_063_060, visits);
+        let game = game_by_seats(&rt, alloc, 19, &order)?;
+        counts(&rt, &mut Walk::new(&game, 0, 0), 16_170, visits);
     }
     Ok(())
 }
@@ -157,7 +157,7 @@ fn game_by_groups(
     game_of(rt, alloc, members, rules)
 }
 
-/// Statutes of 40 members, each in two orders of its rules: two signatures, or six, and half of the shares, of
+/// Statutes of 40 members, each in two orders of its rules: two signatures, or four, and half of the shares, of
 /// which an owner has most; two of three large owners; two classes of shares; vetoers behind many members; joint
 /// owners.
 #[test]
@@ -170,10 +170,10 @@ fn visits_of_natural_statutes(rt: HostRuntime) -> Result<(), Fail> {
     let joint = [(38, [1, 1, 0]), (2, [1, 60, 0])].as_slice();
     let rows = [
         ([2, 51, 0], owner, 39, [819, 40]),
-        ([6, 51, 0], owner, 575_757, [4_496_387, 658_008]),
+        ([4, 51, 0], owner, 9_139, [101_269, 9_880]),
         ([3, 80, 0], three, 112, [2_225, 117]),
         ([3, 201, 0], classes, 42_840, [336_505, 46_715]),
-        ([14, 8, 0], vetoers, 906_192, [11_722_959, 1_107_575]),
+        ([11, 8, 0], vetoers, 4_960, [81_095, 5_463]),
         ([2, 100, 0], joint, 1, [40, 2]),
     ];
     for (quotas, groups, coalitions, visits) in rows {
@@ -229,8 +229,8 @@ fn visits_of_random_games(rt: HostRuntime) -> Result<(), Fail> {
     let alloc = rt.alloc();
     let rows = [
         (1, 2, 9_807, 89_004),
-        (5, 3, 32_261, 456_282),
-        (6, 4, 89_432, 974_271),
+        (5, 3, 32_261, 456_249),
+        (6, 4, 89_432, 969_365),
     ];
     for (seed, rules, coalitions, visits) in rows {
         let game = random_game(&rt, alloc, seed, 26, rules)?;
