@@ -12,3 +12,4 @@ pub mod Orders
 pub mod SetLaws
 pub mod SetLists
 pub mod FittingSets
+pub mod HalfSums

@@ -10,6 +10,13 @@ use council_game::{Memory, limits};
 use power_index::Tally;
 use std::alloc::Global;
 
+/// The tallies of the coalitions that members lead to: of all, and by place of those that contain it.
+#[derive(Clone, Copy)]
+pub(crate) struct Tallies {
+    pub all: Tally,
+    pub each: [Tally; limits::MEMBERS],
+}
+
 /// The tally of all coalitions that complete a quota; none where there is no room.
 pub(crate) fn tally_all(
     alloc: Global,
@@ -31,7 +38,7 @@ pub(crate) fn tally_all(
 }
 
 /// What a tally has above another.
-fn difference(all: &Tally, part: &[u64; limits::SIZES]) -> Tally
+pub(crate) fn difference(all: &Tally, part: &[u64; limits::SIZES]) -> Tally
     requires { (s : ℕ) → s ≤ MEMBERS → slice_index part.now s ≤ slice_index all.now.sizes s }
     ensures long { length result.sizes ≡ SIZES }
     ensures sizes { (s : ℕ) → s ≤ MEMBERS →
