@@ -13,3 +13,4 @@ pub mod SetLaws
 pub mod SetLists
 pub mod FittingSets
 pub mod HalfSums
+pub mod AlikeRules
