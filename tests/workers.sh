@@ -27,56 +27,52 @@ done
 
 # ---- on a terminal: how far a run has come, and that a game is read from standard input
 if needs python3 "a long run on a terminal" "a late fault on a terminal" "a late report on a terminal" "a game from a terminal"; then
-    # a game that takes hours, though it has one minimal winning coalition: it is ended once it was told of
+    # a game of 3,838,380 coalitions, listed in some tenths of a second; the program is stopped meanwhile, so that more than the
+    # second has gone by after which a run is told of
     {
-        echo 'quotas = [1, 1, 20]'
-        for ((member = 1; member <= 39; member++)); do
-            printf '[[member]]\nname = "%s"\nweights = [2, 0, 1]\n' "$member"
+        echo 'quota = 6'
+        for ((member = 1; member <= 40; member++)); do
+            printf '[[member]]\nname = "%s"\nweight = 1\n' "$member"
         done
-        printf '[[member]]\nname = "40"\nweights = [1, 1, 20]\n'
     } >"$temp/long.toml"
     export PYTHONPATH=$top/tests PYTHONDONTWRITEBYTECODE=1
     if timeout "$seconds" python3 - "$program" "$temp/long.toml" >"$temp/told" 2>&1 <<'END'
 import re, sys
 from terminal import Run
 run = Run([sys.argv[1], "--bits", "10", sys.argv[2]])
+run.pause(0.1, 1.2)
 run.read_until(lambda told: told.count(b"is begun") >= 2)
 run.kill()
 numbers = [int(it) for it in re.findall(rb"\rcouncil: slice ([0-9]+) is begun", run.told)]
 assert len(numbers) >= 2 and numbers == sorted(set(numbers)) and numbers[0] > 4, run.told
 END
     then ok "a long run on a terminal"; else failed "a long run on a terminal" "$(tail -n 1 "$temp/told")"; fi
-    # a game whose two minimal winning coalitions are met after some seconds: the line is wiped before the fault
-    {
-        echo 'quotas = [1, 1, 20]'
-        for ((member = 1; member <= 25; member++)); do
-            printf '[[member]]\nname = "%s"\nweights = [2, 0, 1]\n' "$member"
-        done
-        printf '[[member]]\nname = "%s"\nweights = [1, 1, 20]\n' A B
-    } >"$temp/late.toml"
-    if timeout "$seconds" python3 - "$program" "$temp/late.toml" >"$temp/told" 2>&1 <<'END'
+    # the same game where one coalition fewer is asked for: the line is wiped before the fault
+    if timeout "$seconds" python3 - "$program" "$temp/long.toml" >"$temp/told" 2>&1 <<'END'
 import sys
 from terminal import Run
-run = Run([sys.argv[1], "--workers", "1", "--bits", "10", "--most", "1", sys.argv[2]])
+run = Run([sys.argv[1], "--workers", "1", "--bits", "10", "--most", "3838379", sys.argv[2]])
+run.pause(0.1, 1.2)
 status = run.read_all()
 assert status == 4, status
 assert b"is begun" in run.told, run.told[:60]
 assert run.told.endswith(b"\r\x1b[Kcouncil: too many minimal winning coalitions\r\n"), run.told[-80:]
 END
     then ok "a late fault on a terminal"; else failed "a late fault on a terminal" "$(tail -n 1 "$temp/told")"; fi
-    # the same game where both coalitions are wanted: once it is told of, each slice is, one after the other; the line is wiped
+    # the same game where all are wanted: once it is told of, each slice is, one after the other; the line is wiped
     # once, before the first byte of the report, which is on the same terminal, and nothing is written between and after
-    run --workers 1 "$temp/late.toml"
+    run --workers 1 --most 4000000 "$temp/long.toml"
     sed 's/$/\r/' "$temp/out" >"$temp/report"
-    if timeout "$seconds" python3 - "$program" "$temp/late.toml" "$temp/report" >"$temp/told" 2>&1 <<'END'
+    if timeout "$seconds" python3 - "$program" "$temp/long.toml" "$temp/report" >"$temp/told" 2>&1 <<'END'
 import re, sys
 from terminal import Run
-run = Run([sys.argv[1], "--workers", "1", "--bits", "10", sys.argv[2]], both=True)
+run = Run([sys.argv[1], "--workers", "1", "--bits", "10", "--most", "4000000", sys.argv[2]], both=True)
+run.pause(0.1, 1.2)
 status = run.read_all()
 assert status == 0, status
 with open(sys.argv[3], "rb") as it:
     report = it.read()
-assert b"minimal\t2\r\n" in report, report[:80]
+assert b"minimal\t3838380\r\n" in report, report[:80]
 line, wiped, shown = run.told.partition(b"\r\x1b[K")
 assert shown == report, run.told[-200:]
 numbers = [int(it) for it in re.findall(rb"\rcouncil: slice ([0-9]+) is begun", line)]
