@@ -6,7 +6,7 @@ ghost use Rattle.mwc_sums.specs.Inner.Sets.{AreSets, IsHalf, completed, ended, m
 ghost use Rattle.std.specs.Prelude.{◌≡◌, ℕ, ◌+◌, ◌-◌, ◌<◌, ◌≤◌, ◌++◌, List, IfOk, IsTrue, length, slice_index, slice_index_or, sum, sum_by};
 
 use crate::fitting::Fitting;
-use crate::sets::{Set, fill, sets};
+use crate::sets::{Set, fill};
 use crate::tallies::{Tallies, difference};
 use council_game::{Memory, limits};
 use power_index::Tally;
@@ -114,15 +114,17 @@ struct Halves {
 }
 
 impl Halves {
-    /// The sets of members with these weights.
-    fn new(alloc: Global, weights: &[u64]) -> Result<Halves, Memory>
+    /// The sets of members with these weights; a list is room to make them.
+    fn new(alloc: Global, weights: &[u64], spare: &mut Vec<Set>) -> Result<Halves, Memory>
         requires few { length weights.now ≤ MEMBERS }
         requires light { sum weights.now ≤ TOTAL }
         ensures { IfOk result (AreHalves weights.now) }
     {
         let (front, back) = weights.split_at(weights.len() / 2);
-        let first = sets(alloc, front)?;
-        let second = sets(alloc, back)?;
+        let mut first = Vec::new(alloc);
+        fill(front, &mut first, spare)?;
+        let mut second = Vec::new(alloc);
+        fill(back, &mut second, spare)?;
         Ok(Halves { first, second })
     }
 
@@ -180,15 +182,15 @@ pub(crate) fn by_halves(
         endings (left_out p weights.now) heads s quota 0 ≤ endings weights.now heads s quota 0 }
     ensures { IfOk result (AreAllEndings weights.now heads quota) }
 {
-    let halves = Halves::new(alloc, weights)?;
-    let all = Tally {
-        sizes: endings_of(&halves.first, &halves.second, quota, heads),
-    };
-    let mut each = [all; limits::MEMBERS];
     let mut others = Others {
         sets: Vec::new(alloc),
         spare: Vec::new(alloc),
     };
+    let halves = Halves::new(alloc, weights, &mut others.spare)?;
+    let all = Tally {
+        sizes: endings_of(&halves.first, &halves.second, quota, heads),
+    };
+    let mut each = [all; limits::MEMBERS];
     for place in 0..weights.len() {
         if is_alike(weights, place) {
             each[place] = each[place - 1];

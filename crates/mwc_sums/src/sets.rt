@@ -5,7 +5,6 @@ ghost use Rattle.coalitions.specs.declared.limits.TheConstants.{TOTAL};
 ghost use Rattle.mwc_sums.specs.Inner.Sets.{AreSets, Ascend, joined, left};
 
 use council_game::Memory;
-use std::alloc::Global;
 use std::mem;
 
 /// A set of members.
@@ -100,16 +99,4 @@ pub(crate) fn fill(weights: &[u64], sets: &mut Vec<Set>, spare: &mut Vec<Set>) -
         mem::swap(sets, spare);
     }
     Ok(())
-}
-
-/// All sets of members with these weights, by weight.
-pub(crate) fn sets(alloc: Global, weights: &[u64]) -> Result<Vec<Set>, Memory>
-    requires few { length weights.now ≤ 40 }
-    requires light { sum weights.now ≤ TOTAL }
-    ensures { IfOk result (λ sets. AreSets weights.now sets.items) }
-{
-    let mut sets = Vec::new(alloc);
-    let mut spare = Vec::new(alloc);
-    fill(weights, &mut sets, &mut spare)?;
-    Ok(sets)
 }
