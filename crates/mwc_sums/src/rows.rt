@@ -13,13 +13,13 @@ use std::mem;
 /// All rows of one pass over the members together never have more entries.
 const ROOM: usize = 1 << 20;
 
-/// So many entries all rows of one pass over the members may have together: four times as many as a half of the
+/// So many entries all rows of one pass over the members may have together: twice as many as a half of the
 /// members has sets. With more of them the sets of the halves are counted sooner.
 fn room_for(members: usize) -> usize
     requires { members ≤ MEMBERS }
 {
     let half = 1usize << ((members + 1) / 2);
-    (4 * half).min(ROOM)
+    (2 * half).min(ROOM)
 }
 
 /// The row of the prefixes of the members that are decided, and room for the next.
