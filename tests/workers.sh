@@ -27,33 +27,43 @@ done
 
 # ---- on a terminal: how far a run has come, and that a game is read from standard input
 if needs python3 "a long run on a terminal" "a late fault on a terminal" "a late report on a terminal" "a game from a terminal"; then
-    # a game that takes hours, though it has one minimal winning coalition: it is ended once it was told of
-    {
-        echo 'quotas = [1, 1, 20]'
-        for ((member = 1; member <= 39; member++)); do
-            printf '[[member]]\nname = "%s"\nweights = [2, 0, 1]\n' "$member"
+    # the first members are small, and by heads they come first; twelve large ones behind them differ so that nearly any sum
+    # can still come. All 614 minimal winning coalitions are of large ones alone, and are met at the end
+    large="519823 877546 700281 950433 613372 802119 737614 991027 564385 846973 925268 682491"
+    # barren SMALL: the game of so many small members
+    barren() {
+        local member weight sum=$1
+        for weight in $large; do sum=$((sum + weight)); done
+        echo "quotas = [2, $((sum / 2)), 1]"
+        for ((member = 1; member <= $1; member++)); do
+            printf '[[member]]\nname = "%s"\nweights = [1, 1, 1]\n' "$member"
         done
-        printf '[[member]]\nname = "40"\nweights = [1, 1, 20]\n'
-    } >"$temp/long.toml"
+        for weight in $large; do
+            printf '[[member]]\nname = "L%s"\nweights = [1, %s, 1]\n' "$weight" "$weight"
+        done
+    }
+    # one that takes hours: it is ended once it was told of, before any coalition was met
+    barren 28 >"$temp/long.toml"
     export PYTHONPATH=$top/tests PYTHONDONTWRITEBYTECODE=1
     if timeout "$seconds" python3 - "$program" "$temp/long.toml" >"$temp/told" 2>&1 <<'END'
 import re, sys
 from terminal import Run
-run = Run([sys.argv[1], "--bits", "10", sys.argv[2]])
-run.read_until(lambda told: told.count(b"is begun") >= 2)
+run = Run([sys.argv[1], "--workers", "1", "--bits", "0", sys.argv[2]])
+run.read_until(lambda told: told.count(b" prefixes are looked at") >= 2)
 run.kill()
-numbers = [int(it) for it in re.findall(rb"\rcouncil: slice ([0-9]+) is begun", run.told)]
-assert len(numbers) >= 2 and numbers == sorted(set(numbers)) and numbers[0] > 4, run.told
+assert run.first > 1, f"told of after {run.first} seconds"
+numbers = [int(it) for it in re.findall(rb"\rcouncil: slice 1 is begun, 0 coalitions are found, ([0-9]+) prefixes are looked at", run.told)]
+assert len(numbers) >= 2 and numbers[0] > 0 and numbers[0] % 2**20 == 0, run.told
+assert all(there - here == 2**20 for here, there in zip(numbers, numbers[1:])), numbers
+run = Run([sys.argv[1], "--tally", "--workers", "1", sys.argv[2]])
+run.read_until(lambda told: told.count(b" prefixes are looked at") >= 2)
+run.kill()
+numbers = [int(it) for it in re.findall(rb"\rcouncil: 0 of 256 slices, 0 coalitions are counted, ([0-9]+) prefixes are looked at", run.told)]
+assert len(numbers) >= 2 and numbers == sorted(numbers) and numbers[0] > 0 and numbers[-1] % 2**20 == 0, run.told
 END
     then ok "a long run on a terminal"; else failed "a long run on a terminal" "$(tail -n 1 "$temp/told")"; fi
-    # a game whose two minimal winning coalitions are met after some seconds: the line is wiped before the fault
-    {
-        echo 'quotas = [1, 1, 20]'
-        for ((member = 1; member <= 25; member++)); do
-            printf '[[member]]\nname = "%s"\nweights = [2, 0, 1]\n' "$member"
-        done
-        printf '[[member]]\nname = "%s"\nweights = [1, 1, 20]\n' A B
-    } >"$temp/late.toml"
+    # one that takes seconds: the line is wiped before the fault
+    barren 16 >"$temp/late.toml"
     if timeout "$seconds" python3 - "$program" "$temp/late.toml" >"$temp/told" 2>&1 <<'END'
 import sys
 from terminal import Run
@@ -64,7 +74,7 @@ assert b"is begun" in run.told, run.told[:60]
 assert run.told.endswith(b"\r\x1b[Kcouncil: too many minimal winning coalitions\r\n"), run.told[-80:]
 END
     then ok "a late fault on a terminal"; else failed "a late fault on a terminal" "$(tail -n 1 "$temp/told")"; fi
-    # the same game where both coalitions are wanted: once it is told of, each slice is, one after the other; the line is wiped
+    # the same game where all are wanted: once it is told of, each slice is, one after the other; the line is wiped
     # once, before the first byte of the report, which is on the same terminal, and nothing is written between and after
     run --workers 1 "$temp/late.toml"
     sed 's/$/\r/' "$temp/out" >"$temp/report"
@@ -76,7 +86,7 @@ status = run.read_all()
 assert status == 0, status
 with open(sys.argv[3], "rb") as it:
     report = it.read()
-assert b"minimal\t2\r\n" in report, report[:80]
+assert b"minimal\t614\r\n" in report, report[:80]
 line, wiped, shown = run.told.partition(b"\r\x1b[K")
 assert shown == report, run.told[-200:]
 numbers = [int(it) for it in re.findall(rb"\rcouncil: slice ([0-9]+) is begun", line)]
