@@ -102,6 +102,11 @@ if needs python3 "docs/ARCHITECTURE.md has the crates"; then
     python3 "$top/tests/architecture.py" || failed "docs/ARCHITECTURE.md has the crates" "tests/architecture.py stopped"
 fi
 
+# ---- the reference of the libraries has every public item, and no dead link
+if needs python3 "tools/reference.py has every public item"; then
+    python3 "$top/tests/reference.py" || failed "tools/reference.py has every public item" "tests/reference.py stopped"
+fi
+
 # ---- each text that the program prints stands in docs/FORMATS.md
 sed -n 's/.*#\[error("\(.*\)")\].*/\1/p' "$top"/crates/council_game/src/fault.rt "$top"/crates/mwc_parts/src/fault.rt \
     "$top"/crates/council/src/fault.rt "$top"/crates/council_run/src/fault.rt "$top"/crates/mwc_tally/src/*.rt 2>/dev/null |

@@ -6,6 +6,7 @@
 """
 import os
 import pty
+import signal
 import subprocess
 import time
 
@@ -44,6 +45,13 @@ class Run:
         while self.read():
             pass
         return self.process.wait()
+
+    def pause(self, after, seconds):
+        """Lets it run for some seconds, and then stops it for as many as are told, so that its clock goes on and it does not."""
+        time.sleep(after)
+        self.process.send_signal(signal.SIGSTOP)
+        time.sleep(seconds)
+        self.process.send_signal(signal.SIGCONT)
 
     def kill(self):
         self.process.kill()

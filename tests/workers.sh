@@ -26,48 +26,62 @@ for game in board.txt five.toml two.toml ec-1986.toml; do
 done
 
 # ---- on a terminal: how far a run has come, and that a game is read from standard input
-if needs python3 "a long run on a terminal" "a late fault on a terminal" "a late report on a terminal" "a game from a terminal"; then
-    # the first members are small, and by heads they come first; twelve large ones behind them differ so that nearly any sum
-    # can still come. All 614 minimal winning coalitions are of large ones alone, and are met at the end
-    large="519823 877546 700281 950433 613372 802119 737614 991027 564385 846973 925268 682491"
-    # barren SMALL: the game of so many small members
-    barren() {
-        local member weight sum=$1
-        for weight in $large; do sum=$((sum + weight)); done
-        echo "quotas = [2, $((sum / 2)), 1]"
-        for ((member = 1; member <= $1; member++)); do
-            printf '[[member]]\nname = "%s"\nweights = [1, 1, 1]\n' "$member"
+if needs python3 "a long run on a terminal" "a barren run and tally on a terminal" "a late fault on a terminal" "a late report on a terminal" "a game from a terminal"; then
+    # a game of 3,838,380 coalitions, listed in some tenths of a second; the program is stopped meanwhile, so that more than the
+    # second has gone by after which a run is told of
+    {
+        echo 'quota = 6'
+        for ((member = 1; member <= 40; member++)); do
+            printf '[[member]]\nname = "%s"\nweight = 1\n' "$member"
         done
-        for weight in $large; do
-            printf '[[member]]\nname = "L%s"\nweights = [1, %s, 1]\n' "$weight" "$weight"
-        done
-    }
-    # one that takes hours: it is ended once it was told of, before any coalition was met
-    barren 28 >"$temp/long.toml"
+    } >"$temp/long.toml"
     export PYTHONPATH=$top/tests PYTHONDONTWRITEBYTECODE=1
     if timeout "$seconds" python3 - "$program" "$temp/long.toml" >"$temp/told" 2>&1 <<'END'
 import re, sys
 from terminal import Run
-run = Run([sys.argv[1], "--workers", "1", "--bits", "0", sys.argv[2]])
-run.read_until(lambda told: told.count(b" prefixes are looked at") >= 2)
+run = Run([sys.argv[1], "--bits", "10", sys.argv[2]])
+run.pause(0.1, 1.2)
+run.read_until(lambda told: told.count(b"is begun") >= 2)
 run.kill()
-assert run.first > 1, f"told of after {run.first} seconds"
-numbers = [int(it) for it in re.findall(rb"\rcouncil: slice 1 is begun, 0 coalitions are found, ([0-9]+) prefixes are looked at", run.told)]
-assert len(numbers) >= 2 and numbers[0] > 0 and numbers[0] % 2**20 == 0, run.told
-assert all(there - here == 2**20 for here, there in zip(numbers, numbers[1:])), numbers
-run = Run([sys.argv[1], "--tally", "--workers", "1", sys.argv[2]])
-run.read_until(lambda told: told.count(b" prefixes are looked at") >= 2)
-run.kill()
-numbers = [int(it) for it in re.findall(rb"\rcouncil: 0 of 256 slices, 0 coalitions are counted, ([0-9]+) prefixes are looked at", run.told)]
-assert len(numbers) >= 2 and numbers == sorted(numbers) and numbers[0] > 0 and numbers[-1] % 2**20 == 0, run.told
+numbers = [int(it) for it in re.findall(rb"\rcouncil: slice ([0-9]+) is begun", run.told)]
+assert len(numbers) >= 2 and numbers == sorted(set(numbers)) and numbers[0] > 4, run.told
 END
     then ok "a long run on a terminal"; else failed "a long run on a terminal" "$(tail -n 1 "$temp/told")"; fi
-    # one that takes seconds: the line is wiped before the fault
-    barren 16 >"$temp/late.toml"
-    if timeout "$seconds" python3 - "$program" "$temp/late.toml" >"$temp/told" 2>&1 <<'END'
+    # a game that takes hours: by heads small members come first, and the twelve large ones behind them differ, so that nearly
+    # any sum can still come. Its minimal winning coalitions are of large ones alone, and are met at the end. It is ended once it
+    # was told of twice, before any of them was met
+    large="519823 877546 700281 950433 613372 802119 737614 991027 564385 846973 925268 682491"
+    {
+        echo 'quotas = [2, 4605630, 1]'
+        number=0
+        for weight in 1 1 1 1 1 1 1 1 1 1 1 1 1 1 1 1 1 1 1 1 1 1 1 1 1 1 1 1 $large; do
+            printf '[[member]]\nname = "%s"\nweights = [1, %s, 1]\n' "$((number += 1))" "$weight"
+        done
+    } >"$temp/barren.toml"
+    if timeout "$seconds" python3 - "$program" "$temp/barren.toml" >"$temp/told" 2>&1 <<'END'
+import re, sys
+from terminal import Run
+for words, line in [
+    (["--bits", "0"], rb"\rcouncil: slice 1 is begun, 0 coalitions are found, ([0-9]+) prefixes are looked at"),
+    (["--tally"], rb"\rcouncil: 0 of 256 slices, 0 coalitions are counted, ([0-9]+) prefixes are looked at"),
+]:
+    run = Run([sys.argv[1], "--workers", "1", *words, sys.argv[2]])
+    run.read_until(lambda told: len(set(re.findall(line, told))) >= 2)
+    run.kill()
+    assert run.first > 1, f"told of after {run.first} seconds"
+    # each 1,048,576 of the one thread are told of, once more each, and nothing else is
+    numbers = sorted({int(it) for it in re.findall(line + rb"(?=\r)", run.told)})
+    assert numbers and all(it % 2**20 == 0 for it in numbers), numbers
+    assert all(there - here == 2**20 for here, there in zip(numbers, numbers[1:])), numbers
+    assert re.fullmatch(rb"(?:%s)+.*" % line.replace(b"(", b"(?:"), run.told), run.told[:200]
+END
+    then ok "a barren run and tally on a terminal"; else failed "a barren run and tally on a terminal" "$(tail -n 1 "$temp/told")"; fi
+    # the same game where one coalition fewer is asked for: the line is wiped before the fault
+    if timeout "$seconds" python3 - "$program" "$temp/long.toml" >"$temp/told" 2>&1 <<'END'
 import sys
 from terminal import Run
-run = Run([sys.argv[1], "--workers", "1", "--bits", "10", "--most", "1", sys.argv[2]])
+run = Run([sys.argv[1], "--workers", "1", "--bits", "10", "--most", "3838379", sys.argv[2]])
+run.pause(0.1, 1.2)
 status = run.read_all()
 assert status == 4, status
 assert b"is begun" in run.told, run.told[:60]
@@ -76,17 +90,18 @@ END
     then ok "a late fault on a terminal"; else failed "a late fault on a terminal" "$(tail -n 1 "$temp/told")"; fi
     # the same game where all are wanted: once it is told of, each slice is, one after the other; the line is wiped
     # once, before the first byte of the report, which is on the same terminal, and nothing is written between and after
-    run --workers 1 "$temp/late.toml"
+    run --workers 1 --most 4000000 "$temp/long.toml"
     sed 's/$/\r/' "$temp/out" >"$temp/report"
-    if timeout "$seconds" python3 - "$program" "$temp/late.toml" "$temp/report" >"$temp/told" 2>&1 <<'END'
+    if timeout "$seconds" python3 - "$program" "$temp/long.toml" "$temp/report" >"$temp/told" 2>&1 <<'END'
 import re, sys
 from terminal import Run
-run = Run([sys.argv[1], "--workers", "1", "--bits", "10", sys.argv[2]], both=True)
+run = Run([sys.argv[1], "--workers", "1", "--bits", "10", "--most", "4000000", sys.argv[2]], both=True)
+run.pause(0.1, 1.2)
 status = run.read_all()
 assert status == 0, status
 with open(sys.argv[3], "rb") as it:
     report = it.read()
-assert b"minimal\t614\r\n" in report, report[:80]
+assert b"minimal\t3838380\r\n" in report, report[:80]
 line, wiped, shown = run.told.partition(b"\r\x1b[K")
 assert shown == report, run.told[-200:]
 numbers = [int(it) for it in re.findall(rb"\rcouncil: slice ([0-9]+) is begun", line)]

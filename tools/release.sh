@@ -67,6 +67,7 @@ for file in $(git -C "$top" ls-files LICENSE CITATION.cff CHANGELOG.md docs/USIN
     mkdir -p "$folder/$(dirname "$file")"
     cp "$top/$file" "$folder/$file"
 done
+python3 "$top/tools/reference.py" "$folder/reference"
 {
     echo "version: $version"
     echo "commit: $commit${draft:+, a draft that may have changes which are not committed}"

@@ -45,7 +45,7 @@ class Column:
         return HEADINGS[self.kind] + ("" if self.rule is None else f", rule {self.rule + 1}")
 
     def text(self, report, member, places):
-        """The cell of a member; decimals are rounded to so many places, or as the report has them."""
+        """The cell of a member; decimals are rounded where a number of places is given, or as the report has them."""
         kind, rule = self.kind, self.rule or 0
         if kind == "weight":
             return str(member.weights[rule])

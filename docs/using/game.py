@@ -5,7 +5,7 @@ MEMBERS, RULES, WEIGHT, NAME, TITLE = 40, 4, 10**12, 64, 200
 
 
 def is_text(text, most):
-    """Whether a game file may have this text as a name or a title of at most so many bytes."""
+    """Whether a game file may have this text as a name or a title, which has at most `most` bytes."""
     return len(text.encode("utf-8")) <= most and all(it >= " " and it != "\x7f" for it in text)
 
 

@@ -29,7 +29,7 @@ def fraction(text):
 
 
 def rounded(value, places):
-    """A value of at least 0 as a text with so many decimals, a half rounded upwards, from the exact fraction."""
+    """A value of at least 0 as a text with this number of decimals, a half rounded upwards, from the exact fraction."""
     digits = str(math.floor(value * 10**places + Fraction(1, 2))).rjust(places + 1, "0")
     return digits[:-places] + "." + digits[-places:] if places else digits
 

@@ -80,7 +80,7 @@ for file in README.md LICENSE CITATION.cff CHANGELOG.md PROVED; do
 done
 cd "$here"
 # (the names have no blanks and no line ends)
-for file in $(find docs examples -type f ! -name council.1 | LC_ALL=C sort); do
+for file in $(find docs examples reference -type f ! -name council.1 | LC_ALL=C sort); do
     put "$file" "$doc/$file" 644
 done
 printf '%s%s\n' "$files" "$doc/FILES" >"$root/$doc/FILES"

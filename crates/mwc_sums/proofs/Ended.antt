@@ -19,7 +19,7 @@ plain : (n c : ℕ) → size n c ≡ 0 + size n c
 plain n c = omega arith
 
 -- no heads are asked for
-endings-plain : (ws : List ℕ) (s r a : ℕ) → endings ws 0 s r a ≡ closings ws s r a
+pub endings-plain : (ws : List ℕ) (s r a : ℕ) → endings ws 0 s r a ≡ closings ws s r a
 unfolding endings closings
 endings-plain [] s r a = refl
 endings-plain (w ∷ ws) s r a =

@@ -29,7 +29,7 @@ one-most s k = by_test (eqb k s)
     by_test true = omega arith
     by_test false = omega arith
 
-cond-most : (b : Bool) (n m : ℕ) → n ≤ m → cond b n 0 ≤ m
+pub cond-most : (b : Bool) (n m : ℕ) → n ≤ m → cond b n 0 ≤ m
 cond-most true n m le = le
 cond-most false n m le = omega arith
 
@@ -141,7 +141,7 @@ all-entered need sets t d h meet half last = record {
         omega (arith, parts, out, zeros, into)
 
 -- ---- behind members of another half
-shifted : (k n s : ℕ) → k ≤ s → eqb n (s - k) ≡ eqb (k + n) s
+pub shifted : (k n s : ℕ) → k ≤ s → eqb n (s - k) ≡ eqb (k + n) s
 shifted k n s le = elim (cases_eq n (s - k)) [
   | inl same ↦ eq-eqb n (s - k) same ∙ sym (eq-eqb (k + n) s (omega arith))
   | inr other ↦ ne_eqb n (s - k) other ∙ sym (ne_eqb (k + n) s (λ e. other (omega (arith, e, le))))
@@ -183,12 +183,15 @@ pub fewer-longer : (need : ℕ) (sets : List Set) (t : Fitting) → AreOfNeed ne
     → get_or t.longer s 0 ≤ get_or t.here s 0
 fewer-longer need sets t h half some s = let a = h.here s in let b = h.longer s in let f = half.fewer need s some in omega (arith, a, b, f)
 
-pub ended-few : (need k s : ℕ) (sets : List Set) → IsHalf sets → ended need k s sets ≤ 2 ^ 20
-ended-few need k s sets half =
+pub fits-few : (need k s : ℕ) (sets : List Set) → IsHalf sets → sum_by (fits need k s) sets ≤ 2 ^ 20
+fits-few need k s sets half =
     let most = sum_by-le (fits need k s) 1 sets (λ i d lt. cond-most (leb need (get_or sets i d).weight) (one_of_size s (k + (get_or sets i d).size)) 1
     (one-most s (k + (get_or sets i d).size))) in
     let long = half.long in
     omega (arith, most, long)
+
+pub ended-few : (need k s : ℕ) (sets : List Set) → IsHalf sets → ended need k s sets ≤ 2 ^ 20
+ended-few need k s sets half = let most = fits-few need k s sets half in omega (arith, most)
 
 -- ---- what fits, added to the numbers of each size from one on
 pub record Added (before done here longer : List ℕ) (size j : ℕ) : Type 0 where

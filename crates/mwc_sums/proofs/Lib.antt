@@ -12,3 +12,5 @@ pub mod Orders
 pub mod SetLaws
 pub mod SetLists
 pub mod FittingSets
+pub mod HalfSums
+pub mod AlikeRules

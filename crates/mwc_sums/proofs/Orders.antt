@@ -49,7 +49,7 @@ by-member g is f =
     sym (sum_by-IsPermutation f (places g.names) g.ranks permuted) ∙ ap (sum_by f) same
     ∙ fold-map (λ (a : ℕ) (p : ℕ). a + f p) rank 0 (places g.names)
 
-ranked-weight : (g : GameView) → IsGame g → (r : RuleView) (i : ℕ) → i < length g.names
+pub ranked-weight : (g : GameView) → IsGame g → (r : RuleView) (i : ℕ) → i < length g.names
     → get_or (rule_by_rank g.ranks r).weights (get_or g.ranks i 0) 0 ≡ get_or r.weights i 0
 ranked-weight g is r i lt =
     let are = ranks-are g is in
@@ -312,6 +312,18 @@ made-of-them g rs is perm =
 abbrev pub Made : Result GameView GameFault → GameView → Type 0
 Made answer g = Answers answer (made_game None g.names (rule_at g.rules 1 ∷ rule_at g.rules 0 ∷ []))
 
+ok-same : (a b : GameView) → ◌≡◌ {A = Result GameView GameFault} (Ok a) (Ok b) → a ≡ b
+ok-same a b h = cc
+
+pub made-rules : (g made : GameView) → IsGame g → length g.rules ≡ 2 → Made (Ok made) g
+    → made.rules ≡ rule_at g.rules 1 ∷ rule_at g.rules 0 ∷ []
+made-rules g made is two gives =
+    let rs : List RuleView = rule_at g.rules 1 ∷ rule_at g.rules 0 ∷ [] in
+    let all = made-of-them g rs is (two-turned g.rules two) in
+    let same : ◌≡◌ {A = Result GameView GameFault} (Ok made) (Ok (record
+    { title = None; names = g.names; rules = rs; ranks = rank_places (first_weights rs) })) = sym gives ∙ all in
+    ap (λ (x : GameView). x.rules) (ok-same _ _ same)
+
 pub made-turned : (g made : GameView) → IsGame g → length g.rules ≡ 2 → Made (Ok made) g → HaveTheSameRules g made
 made-turned g made is two gives =
     let rs : List RuleView = rule_at g.rules 1 ∷ rule_at g.rules 0 ∷ [] in
@@ -320,9 +332,6 @@ made-turned g made is two gives =
     { title = None; names = g.names; rules = rs; ranks = rank_places (first_weights rs) })) (Ok made) = sym all ∙ gives in
     let view = ok-same _ _ same in
     subst (HaveTheSameRules g) view (record { members = refl; rules = two-turned g.rules two })
-  where
-    ok-same : (a b : GameView) → ◌≡◌ {A = Result GameView GameFault} (Ok a) (Ok b) → a ≡ b
-    ok-same a b h = cc
 
 pub only-memory : (g : GameView) (fault : GameFault) → IsGame g → length g.rules ≡ 2 → Made (Err fault) g → fault ≡ Memory
 only-memory g fault is two gives =

@@ -1,5 +1,6 @@
--- Games of two rules, of which the second asks for so many members.
-use Rattle.std.specs.Prelude.{ℕ, ◌*◌, ◌<◌, ◌≤◌, ◌≡◌, ◌↔◌, ◌⊎◌, true, take, slice_index}
+-- Games of weights and heads: of one rule, or of two, of which one asks for so many members.
+use Rattle.std.specs.Prelude.{ℕ, ◌*◌, ◌<◌, ◌≤◌, ◌≡◌, ◌↔◌, ◌⊎◌, true, length, take, slice_index}
+use Rattle.council_game.specs.Game.{GameView}
 use Rattle.council_game.specs.Votes.{RuleView, Votes, rule_at, size, weight, minimal}
 
 -- a rule that gives each of n members the same weight above 0, so that it asks for so many heads
@@ -19,3 +20,14 @@ IsMinimalByHeads v heads c =
     let rule = rule_at v.rules 0 in
     ((size v.members c ≡ heads) × (rule.quota ≤ weight rule.weights c))
     ⊎ ((heads < size v.members c) × (minimal (first_rule v) c ≡ true))
+
+-- a rule gives each of n members the same weight
+abbrev pub WeighsAllAlike : ℕ → RuleView → Type 0
+WeighsAllAlike n r = (i : ℕ) → i < n → slice_index r.weights i ≡ slice_index r.weights 0
+
+-- one rule, or two, of which one gives each member the same weight
+abbrev pub IsOfWeightsAndHeads : GameView → Type 0
+IsOfWeightsAndHeads g =
+    let n = length g.names in
+    (length g.rules ≡ 1)
+    ⊎ ((length g.rules ≡ 2) × (WeighsAllAlike n (rule_at g.rules 0) ⊎ WeighsAllAlike n (rule_at g.rules 1)))

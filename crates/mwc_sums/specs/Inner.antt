@@ -4,3 +4,4 @@ pub mod Asked
 pub mod Choices
 pub mod Sets
 pub mod Fitting
+pub mod Halves

@@ -2,16 +2,18 @@
 ghost use Rattle.coalitions.specs.declared.limits.TheConstants.{MEMBERS, TOTAL};
 ghost use Rattle.council_game.specs.Game.{votes_of};
 ghost use Rattle.council_game.specs.Votes.{minimal_coalitions, rule_at};
-ghost use Rattle.mwc_sums.specs.Heads.{AsksForHeads};
+ghost use Rattle.mwc_sums.specs.Heads.{AsksForHeads, IsOfWeightsAndHeads, WeighsAllAlike};
+ghost use Rattle.mwc_sums.specs.Inner.Rows.{AreAllEndings, endings, left_out};
 ghost use Rattle.mwc_sums.specs.Inner.Asked.{IsAsked};
 ghost use Rattle.power_index.specs.Tables.{AreCounts};
-ghost use Rattle.std.specs.Prelude.{◌≡◌, ◌≤◌, ◌<◌, IfOk, IfSome, length, sum};
+ghost use Rattle.std.specs.Prelude.{◌≡◌, ℕ, ◌≤◌, ◌<◌, ◌↔◌, ◌⊎◌, IfOk, IfSome, IsSome, length, sum};
 
 use crate::choices::Heads;
+use crate::halves::by_halves;
 use crate::laws::counts_do_not_depend_on_the_order_of_rules;
-use crate::tallies::{tally_all, tally_each};
+use crate::tallies::{Tallies, by_sums};
 use crate::turned::turned;
-use council_game::{Game, Memory, limits};
+use council_game::{Game, Memory};
 use power_index::Counts;
 use std::alloc::Global;
 
@@ -28,27 +30,22 @@ fn ranked_weights(alloc: Global, game: &Game) -> Result<Vec<u64>, Memory>
     Ok(weights)
 }
 
-/// How many members a rule of a game asks for, where it gives each of them the same weight above 0.
+/// How many members a rule of a game asks for, where it gives each of them the same weight.
 fn heads_of_rule(game: &Game, rule: usize) -> Option<usize>
     requires { rule < length game.now.rules }
     ensures few { IfSome result (λ heads. heads ≤ MEMBERS) }
     ensures asks { IfSome result (λ heads. AsksForHeads (length game.now.names) heads
         (rule_at (votes_of game.now).rules rule)) }
+    ensures kind { IsSome result ↔ WeighsAllAlike (length game.now.names) (rule_at game.now.rules rule) }
 {
     let members = game.members();
     let each = game.rule_weight(rule, game.member_at(0));
-    if each == 0 {
-        return None;
-    }
     for place in 1..members {
         if game.rule_weight(rule, game.member_at(place)) != each {
             return None;
         }
     }
     let heads = (game.rule_quota(rule) + (each - 1)) / each;
-    if heads > limits::MEMBERS as u64 {
-        return None;
-    }
     Some(heads as usize)
 }
 
@@ -57,6 +54,8 @@ fn heads_of_rule(game: &Game, rule: usize) -> Option<usize>
 fn heads_of(game: &Game) -> Option<usize>
     ensures few { IfSome result (λ heads. heads ≤ MEMBERS) }
     ensures asked { IfSome result (λ heads. IsAsked (votes_of game.now) heads) }
+    ensures kind { IsSome result ↔ ((length game.now.rules ≡ 1) ⊎ ((length game.now.rules ≡ 2)
+        × WeighsAllAlike (length game.now.names) (rule_at game.now.rules 1))) }
 {
     let rules = game.rules();
     if rules == 1 {
@@ -80,32 +79,44 @@ fn total_of(weights: &[u64]) -> u64
     total
 }
 
-/// The counts of a game that asks for so many heads besides its first rule; none where there is no room.
-fn count_with_heads(alloc: Global, game: &Game, heads: usize) -> Result<Option<Counts>, Memory>
+/// The tallies of the coalitions that members lead to: by sums where their rows have room, and else by halves.
+fn tallies(alloc: Global, weights: &[u64], quota: u64, heads: usize) -> Result<Tallies, Memory>
+    requires few { length weights.now ≤ MEMBERS }
+    requires light { sum weights.now ≤ TOTAL }
+    requires some { 0 < quota }
+    requires heads { heads ≤ MEMBERS }
+    requires less { (p s : ℕ) → p < length weights.now → s ≤ MEMBERS →
+        endings (left_out p weights.now) heads s quota 0 ≤ endings weights.now heads s quota 0 }
+    ensures { IfOk result (AreAllEndings weights.now heads quota) }
+{
+    let total = total_of(weights);
+    let asked = Heads::new(alloc, heads)?;
+    if let Some(tallies) = by_sums(alloc, weights, quota, total, &asked)? {
+        return Ok(tallies);
+    }
+    by_halves(alloc, weights, quota, heads)
+}
+
+/// The counts of a game that asks for so many heads besides its first rule.
+fn count_with_heads(alloc: Global, game: &Game, heads: usize) -> Result<Counts, Memory>
     requires few { heads ≤ MEMBERS }
     requires asked { IsAsked (votes_of game.now) heads }
-    ensures { IfOk result (λ counts. IfSome counts
-        (λ c. AreCounts game.now (minimal_coalitions (votes_of game.now)) c)) }
+    ensures { IfOk result (λ c. AreCounts game.now (minimal_coalitions (votes_of game.now)) c) }
 {
     let _members = game.members();
     let quota = game.rule_quota(0);
     let weights = ranked_weights(alloc, game)?;
-    let total = total_of(&weights);
-    let heads = Heads::new(alloc, heads)?;
-    let Some(all) = tally_all(alloc, &weights, quota, total, &heads)? else {
-        return Ok(None);
-    };
-    let Some(each) = tally_each(alloc, &weights, quota, total, &heads, &all)? else {
-        return Ok(None);
-    };
-    Ok(Some(Counts::of_tallies(game, all, each)))
+    let tallies = tallies(alloc, &weights, quota, heads)?;
+    Ok(Counts::of_tallies(game, tallies.all, tallies.each))
 }
 
 /// The counts of a game of two rules of which the first asks for heads, by the game with these in the other
-/// order: the counts of each member are the same. None for any other game, or where there is no room.
+/// order: the counts of each member are the same. None for any other game.
 fn count_turned(alloc: Global, game: &Game) -> Result<Option<Counts>, Memory>
-    ensures { IfOk result (λ counts. IfSome counts
+    ensures counts { IfOk result (λ counts. IfSome counts
         (λ c. AreCounts game.now (minimal_coalitions (votes_of game.now)) c)) }
+    ensures kind { IfOk result (λ counts. IsSome counts ↔ ((length game.now.rules ≡ 2)
+        × WeighsAllAlike (length game.now.names) (rule_at game.now.rules 0))) }
 {
     if game.rules() != 2 || heads_of_rule(game, 0).is_none() {
         return Ok(None);
@@ -116,22 +127,24 @@ fn count_turned(alloc: Global, game: &Game) -> Result<Option<Counts>, Memory>
         return Ok(None);
     };
     counts_do_not_depend_on_the_order_of_rules();
-    count_with_heads(alloc, &turned, heads)
+    let counts = count_with_heads(alloc, &turned, heads)?;
+    Ok(Some(counts))
 }
 
-/// The counts of all minimal winning coalitions of a game, by sums: none of them is listed. It serves for
-/// games of one rule, and of two of which one gives each member the same weight above 0. None for any other
-/// game, and where the rows of one pass over the members would have more than 1,048,576 entries together.
+/// The counts of all minimal winning coalitions of a game of one rule, or of two of which one gives each member the
+/// same weight, whatever the weights are: none of them is listed. None for any other game. Up to 64 MB.
 ///
 /// # Errors
 ///
 /// `Memory` where a growth was refused.
 pub fn count_by_sums(alloc: Global, game: &Game) -> Result<Option<Counts>, Memory>
-    ensures { IfOk result (λ counts. IfSome counts
+    ensures counts { IfOk result (λ counts. IfSome counts
         (λ c. AreCounts game.now (minimal_coalitions (votes_of game.now)) c)) }
+    ensures kind { IfOk result (λ counts. IsSome counts ↔ IsOfWeightsAndHeads game.now) }
 {
-    match heads_of(game) {
-        Some(heads) => count_with_heads(alloc, game, heads),
-        None => count_turned(alloc, game),
+    if let Some(heads) = heads_of(game) {
+        let counts = count_with_heads(alloc, game, heads)?;
+        return Ok(Some(counts));
     }
+    count_turned(alloc, game)
 }

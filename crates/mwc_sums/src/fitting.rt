@@ -54,7 +54,6 @@ impl Fitting {
     /// Lets in all that meet a need, which is not above what those that are in meet.
     pub(crate) fn let_in(&mut self, sets: &[Set], need: u64)
         requires half { IsHalf sets.now }
-        requires some { 0 < need }
         requires entered { AreEntered sets.now self.old }
         requires meet { Meet need self.old.outside sets.now }
         ensures entered { AreEntered sets.now self.new }
@@ -79,5 +78,16 @@ impl Fitting {
         for j in 0..HALF + 1 {
             done[size + j] += self.here[j] - self.longer[j];
         }
+    }
+
+    /// How many of them fill so many members up to a number.
+    pub(crate) fn filling(&self, size: usize, up_to: usize) -> u64
+        requires { up_to ≤ MEMBERS }
+        ensures { result ≡ (if nat_le size up_to then slice_index self.now.here (up_to - size) else 0) }
+    {
+        if up_to < size || up_to - size > HALF {
+            return 0;
+        }
+        self.here[up_to - size]
     }
 }

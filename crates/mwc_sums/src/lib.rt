@@ -1,4 +1,4 @@
-//! Counts the minimal winning coalitions of a game by sums, without listing any.
+//! Counts the minimal winning coalitions of a game of one rule, or of weights and heads, without listing any.
 //!
 //! ```text
 //! match count_by_sums(alloc, &game)? {
@@ -7,8 +7,9 @@
 //! }
 //! ```
 //!
-//! `sets`, `fitting` and `halves` count the coalitions of one rule from the sets of its lighter and its heavier half, whatever their
-//! weights. They are proved, and not called yet.
+//! `row`, `rows` and `tallies` go from member to member and put together what misses as much: they serve where few
+//! needs are open. `sets`, `fitting` and `halves` count from the sets of the heavier and of the lighter half of the
+//! members, whatever their weights.
 #![tactic(auto)]
 
 mod choices;

@@ -1,6 +1,6 @@
 //! Tallies of the coalitions that complete a quota.
 ghost use Rattle.coalitions.specs.declared.limits.TheConstants.{MEMBERS, SIZES};
-ghost use Rattle.mwc_sums.specs.Inner.Rows.{AreEndings, AreEndingsWith, endings, left_out};
+ghost use Rattle.mwc_sums.specs.Inner.Rows.{AreAllEndings, AreEndings, AreEndingsWith, endings, left_out};
 ghost use Rattle.power_index.specs.Tables.{no_tally};
 ghost use Rattle.std.specs.Prelude.{◌≡◌, ℕ, ◌+◌, ◌<◌, ◌≤◌, IfOk, IfSome, length, sum, slice_index, slice_index_or};
 
@@ -10,8 +10,15 @@ use council_game::{Memory, limits};
 use power_index::Tally;
 use std::alloc::Global;
 
+/// The tallies of the coalitions that members lead to: of all, and by place of those that contain it.
+#[derive(Clone, Copy)]
+pub(crate) struct Tallies {
+    pub all: Tally,
+    pub each: [Tally; limits::MEMBERS],
+}
+
 /// The tally of all coalitions that complete a quota; none where there is no room.
-pub(crate) fn tally_all(
+fn tally_all(
     alloc: Global,
     weights: &[u64],
     quota: u64,
@@ -31,7 +38,7 @@ pub(crate) fn tally_all(
 }
 
 /// What a tally has above another.
-fn difference(all: &Tally, part: &[u64; limits::SIZES]) -> Tally
+pub(crate) fn difference(all: &Tally, part: &[u64; limits::SIZES]) -> Tally
     requires { (s : ℕ) → s ≤ MEMBERS → slice_index part.now s ≤ slice_index all.now.sizes s }
     ensures long { length result.sizes ≡ SIZES }
     ensures sizes { (s : ℕ) → s ≤ MEMBERS →
@@ -47,7 +54,7 @@ fn difference(all: &Tally, part: &[u64; limits::SIZES]) -> Tally
 /// The tallies, by rank place, of the coalitions that contain the place: of all, those that the members do not
 /// lead to without its member. The rows up to a place are those of one member less, so that one less is left
 /// to fill a coalition up. None where there is no room.
-pub(crate) fn tally_each(
+fn tally_each(
     alloc: Global,
     weights: &[u64],
     quota: u64,
@@ -80,4 +87,27 @@ pub(crate) fn tally_each(
         rows.go_on(weights[place], rest, left, heads, &mut done)?;
     }
     Ok(Some(each))
+}
+
+/// The tallies of the coalitions that members lead to; none where there is no room for the rows.
+pub(crate) fn by_sums(
+    alloc: Global,
+    weights: &[u64],
+    quota: u64,
+    total: u64,
+    heads: &Heads,
+) -> Result<Option<Tallies>, Memory>
+    requires few { length weights.now ≤ MEMBERS }
+    requires total { total ≡ sum weights.now }
+    requires less { (p s : ℕ) → p < length weights.now → s ≤ MEMBERS →
+        endings (left_out p weights.now) heads.now.asked s quota 0 ≤ endings weights.now heads.now.asked s quota 0 }
+    ensures { IfOk result (λ tallies. IfSome tallies (AreAllEndings weights.now heads.now.asked quota)) }
+{
+    let Some(all) = tally_all(alloc, weights, quota, total, heads)? else {
+        return Ok(None);
+    };
+    let Some(each) = tally_each(alloc, weights, quota, total, heads, &all)? else {
+        return Ok(None);
+    };
+    Ok(Some(Tallies { all, each }))
 }

@@ -54,6 +54,8 @@ pub(crate) fn turned(alloc: Global, game: &Game) -> Result<Game, Memory>
     requires { length game.now.rules ≡ 2 }
     ensures game { IfOk result (λ turned. IsGame turned) }
     ensures same { IfOk result (λ turned. HaveTheSameRules game.now turned) }
+    ensures rules { IfOk result (λ turned. turned.rules
+        ≡ rule_at game.now.rules 1 ∷ rule_at game.now.rules 0 ∷ []) }
 {
     let _members = game.members();
     let names = copied_names(alloc, game)?;

@@ -1,6 +1,8 @@
 //! An index as a value: a fraction from 0 to 1 in lowest terms.
 ghost use Rattle.power_index.specs.Fractions.{IsIndex, decimals, fraction_cmp, pair_of};
-ghost use Rattle.std.specs.Prelude.{◌≡◌, ◌≤◌, ◌^◌, Some};
+ghost use Rattle.std.specs.Prelude.{◌≡◌, ◌≤◌, ◌<◌, ◌^◌, Some};
+ghost use Rattle.std.specs.Fmt.{WritesOnOk};
+ghost use Rattle.std.specs.List.{All};
 
 use crate::Fraction;
 use crate::order::order;
@@ -89,9 +91,17 @@ impl fmt::Display for Index {
     ghost output = { λ i. Some (decimals i) };
 
     fn fmt<W: fmt::Write>(&self, f: &mut fmt::Formatter<W>) -> fmt::Result {
-        for digit in self.decimals() {
-            f.write_char(char::from(digit))?;
-        }
-        Ok(())
+        write_digits(f, &self.decimals())
     }
+}
+
+/// Writes digits and points, each as its character.
+fn write_digits<W: fmt::Write>(f: &mut fmt::Formatter<W>, digits: &[u8]) -> fmt::Result
+    requires ascii { All (λ d. d < 128) digits.now }
+    ensures { WritesOnOk W.write_str_gives f.old result digits.now f.new }
+{
+    for digit in digits {
+        f.write_char(char::from(*digit))?;
+    }
+    Ok(())
 }

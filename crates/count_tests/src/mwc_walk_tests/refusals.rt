@@ -71,7 +71,7 @@ fn walks_without_memory(rt: HostRuntime) -> Result<(), Fail> {
 fn walks_under_two_rules_without_memory(rt: HostRuntime) -> Result<(), Fail> {
     let game = two_rules(&rt, rt.alloc())?;
     say(&rt, "call");
-    walks(&rt, &mut Walk::new(&game, 0, 0), 2, 6)
+    walks(&rt, &mut Walk::new(&game, 0, 0), 2, 5)
 }
 
 #[test]

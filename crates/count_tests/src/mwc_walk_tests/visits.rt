@@ -194,17 +194,17 @@ fn visits_of_three_rules_in_each_order(rt: HostRuntime) -> Result<(), Fail> {
     let chambers = [(20, [1, 0, 1]), (18, [0, 1, 1]), (2, [0, 1, 50])].as_slice();
     let alone = [(39, [2, 0, 1]), (1, [1, 1, 20])].as_slice();
     let rows = [
-        ([0, 1, 2], 5_149, 40),
-        ([0, 2, 1], 5_149, 40),
-        ([1, 0, 2], 229, 1),
-        ([1, 2, 0], 229, 1),
-        ([2, 0, 1], 211, 1),
-        ([2, 1, 0], 211, 1),
+        ([0, 1, 2].as_slice(), 5_149, 40),
+        ([0, 2, 1].as_slice(), 5_149, 40),
+        ([1, 0, 2].as_slice(), 229, 1),
+        ([1, 2, 0].as_slice(), 229, 1),
+        ([2, 0, 1].as_slice(), 211, 1),
+        ([2, 1, 0].as_slice(), 211, 1),
     ];
     for (order, of_chambers, of_one) in rows {
-        let game = game_by_groups(&rt, alloc, &order, [2, 2, 100], chambers)?;
+        let game = game_by_groups(&rt, alloc, order, [2, 2, 100], chambers)?;
         counts(&rt, &mut Walk::new(&game, 0, 0), 190, of_chambers);
-        let game = game_by_groups(&rt, alloc, &order, [1, 1, 20], alone)?;
+        let game = game_by_groups(&rt, alloc, order, [1, 1, 20], alone)?;
         counts(&rt, &mut Walk::new(&game, 0, 0), 1, of_one);
     }
     Ok(())

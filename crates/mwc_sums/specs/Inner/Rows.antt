@@ -1,9 +1,11 @@
 -- Rows of prefixes that are not complete, and how they go on.
-use Rattle.std.specs.Prelude.{ℕ, zero, suc, ◌+◌, ◌-◌, ◌*◌, ◌==◌, ◌≤◌, ◌^◌, ◌≡◌, if◌then◌else◌, nat_le, nat_lt, List, [], ◌∷◌, length, slice_index, slice_index_or, sum_by}
+use Rattle.std.specs.Prelude.{ℕ, zero, suc, ◌+◌, ◌-◌, ◌*◌, ◌==◌, ◌<◌, ◌≤◌, ◌^◌, ◌≡◌, if◌then◌else◌, nat_le, nat_lt, List, [], ◌∷◌, length, slice_index, slice_index_or, sum_by}
 use Rattle.std.specs.List.{All}
 use Rattle.coalitions.specs.declared.limits.TheConstants.{MEMBERS, SIZES}
 use Rattle.mwc_sums.specs.declared.row.Open.{Open}
+use Rattle.mwc_sums.specs.declared.tallies.Tallies.{Tallies}
 use Rattle.mwc_sums.specs.Inner.Choices.{choose}
+use Rattle.power_index.specs.Tables.{no_tally}
 use Rattle.power_index.specs.declared.tally.Tally.{Tally}
 
 -- the sum of a number that goes with a need and a size, over the prefixes of a row
@@ -60,3 +62,8 @@ pub record AreEndingsWith (ws : List ℕ) (heads quota p : ℕ) (t : Tally) : Ty
   pub long : length t.sizes ≡ SIZES
   pub sizes : (s : ℕ) → s ≤ MEMBERS →
       slice_index t.sizes s + endings (left_out p ws) heads s quota 0 ≡ endings ws heads s quota 0
+
+-- the tallies of all and of those with each place
+pub record AreAllEndings (ws : List ℕ) (heads quota : ℕ) (t : Tallies) : Type 0 where
+  pub all : AreEndings ws heads quota t.all
+  pub each : (p : ℕ) → p < length ws → AreEndingsWith ws heads quota p (slice_index_or t.each p no_tally)

@@ -43,6 +43,10 @@ ended need k s xs = sum_by (fits need k s) xs - sum_by (longer need k s) xs
 abbrev pub completed : ℕ → ℕ → List Set → Set → ℕ
 completed quota s second x = if nat_lt x.weight quota then ended (quota - x.weight) x.size s second else 0
 
+-- how many sets of a second list meet a quota together with a set of the first, and fill it up to so many members
+abbrev pub meeting : ℕ → ℕ → List Set → Set → ℕ
+meeting quota heads second x = sum_by (fits (quota - x.weight) x.size heads) second
+
 -- the sets of a half of the members
 pub record IsHalf (xs : List Set) : Type 0 where
   pub ascend : Ascend xs

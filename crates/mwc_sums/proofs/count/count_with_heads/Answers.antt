@@ -3,15 +3,14 @@ use Rattle.power_index.proofs.Minimal.{minimal-few, minimal-are-coalitions}
 use Rattle.mwc_sums.proofs.Whole.{game-all, game-each, game-less}
 use Rattle.mwc_sums.proofs.count.count_with_heads.Goals as goal
 
-pub tally_each-requires-clause-less : goal.tally_each-requires-clause-less
-tally_each-requires-clause-less c =
-    game-less c.args.game.now c.deref-3.result.now c.rule_quota-quota.result c.in_ok-heads.heads.asked
+pub tallies-requires-clause-less : goal.tallies-requires-clause-less
+tallies-requires-clause-less c =
+    game-less c.args.game.now c.deref.result.now c.rule_quota-quota.result c.args.heads
     (record {
       votes = c.members-members.ensures.votes;
-      weights = c.deref-3.ensures.value ∙ c.in_ok-weights.ensures;
-      quota =
-          c.rule_quota-quota.ensures.votes;
-      asked = rw c.in_ok-heads.ensures c.requires.asked;
+      weights = c.deref.ensures.value ∙ c.in_ok-weights.ensures;
+      quota = c.rule_quota-quota.ensures.votes;
+      asked = c.requires.asked;
     })
 
 pub of_tallies-requires : goal.of_tallies-requires
@@ -20,24 +19,22 @@ of_tallies-requires c = (
   (
     minimal-are-coalitions c.args.game.now c.members-members.ensures.game,
     (
-      game-all c.args.game.now c.deref-2.result.now c.rule_quota-quota.result c.in_ok-heads.heads.asked c.in-Some.all
+      game-all c.args.game.now c.deref.result.now c.rule_quota-quota.result c.args.heads c.in_ok-tallies.tallies.all
           (record {
             votes = c.members-members.ensures.votes;
-            weights = c.deref-2.ensures.value ∙ c.in_ok-weights.ensures;
-            quota =
-                c.rule_quota-quota.ensures.votes;
-            asked = rw c.in_ok-heads.ensures c.requires.asked;
+            weights = c.deref.ensures.value ∙ c.in_ok-weights.ensures;
+            quota = c.rule_quota-quota.ensures.votes;
+            asked = c.requires.asked;
           })
-          (rw c.in-Some.is at c.in_ok-all.ensures),
-      game-each c.args.game.now c.deref-3.result.now c.rule_quota-quota.result c.in_ok-heads.heads.asked c.in-Some-2.each
+          c.in_ok-tallies.ensures.all,
+      game-each c.args.game.now c.deref.result.now c.rule_quota-quota.result c.args.heads c.in_ok-tallies.tallies.each
           (record {
             votes = c.members-members.ensures.votes;
-            weights = c.deref-3.ensures.value ∙ c.in_ok-weights.ensures;
-            quota =
-                c.rule_quota-quota.ensures.votes;
-            asked = rw c.in_ok-heads.ensures c.requires.asked;
+            weights = c.deref.ensures.value ∙ c.in_ok-weights.ensures;
+            quota = c.rule_quota-quota.ensures.votes;
+            asked = c.requires.asked;
           })
-          (rw c.in-Some-2.is at c.in_ok-each.ensures),
+          c.in_ok-tallies.ensures.each,
     ),
   ),
 )

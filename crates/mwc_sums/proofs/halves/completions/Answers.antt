@@ -2,8 +2,8 @@ use Rattle.std.proofs.Common.{◌+◌, ℕ, List, arith, sym, subst, replicate}
 use Rattle.power_index.proofs.Tallies.{get_or-zeros}
 use Rattle.mwc_sums.specs.declared.sets.Set.{Set}
 use Rattle.mwc_sums.proofs.FittingSets.{Counting, here-few, counting-none, counting-open, counting-met, counting-all}
-use Rattle.mwc_sums.proofs.halves.count.Goals as goal
-use Rattle.mwc_sums.proofs.halves.count.Goals.{then-set-quota, else-set-quota}
+use Rattle.mwc_sums.proofs.halves.completions.Goals as goal
+use Rattle.mwc_sums.proofs.halves.completions.Goals.{then-set-quota, else-set-quota}
 
 pub add-requires-clause-few : goal.add-requires-clause-few
 add-requires-clause-few c j = here-few c.args.first.now c.let_in.new.self j c.let_in.ensures.entered c.requires.first
