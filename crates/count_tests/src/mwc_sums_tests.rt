@@ -167,12 +167,7 @@ fn forty_equal_members_by_binomial_numbers(rt: HostRuntime) -> Result<(), Fail> 
 
 /// A game of so many members whose weights have nothing in common, from 10^12 - 2^34 on, in pairs where they are
 /// to be ties: a part of their total is asked for, of 8.
-fn uneven_game(
-    alloc: Global,
-    members: usize,
-    parts: u64,
-    ties: bool,
-) -> Result<Game, GameFault> {
+fn uneven_game(alloc: Global, members: usize, parts: u64, ties: bool) -> Result<Game, GameFault> {
     let mut weights = Vec::new(alloc);
     let mut state = 1;
     let mut total: u64 = 0;
