@@ -58,3 +58,20 @@ if [ -n "$first" ] && taskset -c "$first" true 2>/dev/null; then
 else
     skipped "$name" "the command taskset was not found, or no processor can be chosen"
 fi
+
+# ---- the stack that a run takes does not grow with its workers
+for words in "--workers 1" "--workers 4" "--workers 16" "--workers 16 --list"; do
+    name="a stack of 256 KB, $words"
+    read -ra options <<<"$words"
+    "$program" "${options[@]}" "$top/examples/eu-27-nice.toml" >"$temp/wanted" 2>/dev/null </dev/null
+    if (ulimit -s 256) 2>/dev/null; then
+        (
+            ulimit -s 256
+            exec timeout "$seconds" "$program" "${options[@]}" "$top/examples/eu-27-nice.toml"
+        ) >"$temp/out" 2>"$temp/err" </dev/null
+        status=$?
+        printed "$name" "$temp/wanted"
+    else
+        skipped "$name" "the stack can't be limited"
+    fi
+done

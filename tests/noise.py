@@ -64,8 +64,48 @@ def several_rules(rng):
             weights[rng.randrange(members)] = 50
             quota = rng.randint(1, max(1, sum(weights) // 4))
         rules.append((quota, weights))
+    return game_file(rules)
+
+
+def statute(rng):
+    """A game file of two to four rules as statutes have them, heads first: many small members, and behind them a small
+    group with much weight, as owners, founders, vetoers or regions."""
+    small, large = rng.randint(20, 38), rng.randint(1, 8)
+    large = min(large, 40 - small)
+    members = small + large
+    heads = [rng.randint(1, 2)] * small + [rng.randint(0, 1)] * large
+    rules = [(rng.randint(1, 8), heads)]
+    for _ in range(rng.randint(1, 3)):
+        kind = rng.randrange(5)
+        if kind == 0:
+            # shares: no coalition has the quota without one or some of the large
+            weights = [1] * small + [rng.randint(small, 4 * small)] * large
+            quota = small + rng.randint(1, sum(weights) - small)
+        elif kind == 1:
+            # the large, all or some of them
+            weights = [0] * small + [1] * large
+            quota = rng.randint(1, large)
+        elif kind == 2:
+            # a region of the small, and its part of the large
+            start = rng.randrange(small)
+            weights = [int(start <= member < start + 12 or member >= small + large // 2) for member in range(members)]
+            quota = rng.randint(1, max(1, sum(weights) // 2))
+        elif kind == 3:
+            # shares as 1, 1/2, 1/3 of the largest, the largest last
+            weights = [1000 * small // (members - member) for member in range(members)]
+            quota = sum(weights) * rng.randint(30, 95) // 100
+        else:
+            # the small bring little, and each large one something of its own
+            weights = [rng.choice([0, 1]) for _ in range(small)] + [rng.randint(10, 100) for _ in range(large)]
+            quota = rng.randint(1, sum(weights))
+        rules.append((min(quota, sum(weights)), weights))
+    return game_file(rules)
+
+
+def game_file(rules):
+    """The game file of rules, each of a quota and weights."""
     lines = [f"quotas = {[quota for quota, _ in rules]}"]
-    for member in range(members):
+    for member in range(len(rules[0][1])):
         lines += ["[[member]]", f'name = "M{member}"', f"weights = {[weights[member] for _, weights in rules]}"]
     return "".join(f"{line}\n" for line in lines).encode()
 

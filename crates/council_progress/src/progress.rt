@@ -8,18 +8,19 @@ use std::time::{Clock, Duration};
 /// What takes no more seconds tells nothing.
 const QUIET: u64 = 1;
 
-/// How many slices are done, or of a run begun, how many coalitions were counted, and whether a line on
-/// standard error says so.
+/// How many slices are done, or of a run begun, how many coalitions were counted, or of a run found, how many
+/// prefixes were looked at on the way to them, as far as that was told, and whether a line on standard error says so.
 #[derive(Drop)]
 struct Told {
     done: u64,
     counted: u64,
+    looked: u64,
     shown: bool,
 }
 
 /// Tells how many slices are done and how many coalitions were counted in them, or of a run how many slices are
-/// begun, in one line that is written anew each time, where standard error is a terminal and it takes more
-/// than a second.
+/// begun, and where it takes many prefixes to find a coalition, how many were looked at, in one line that is written
+/// anew each time, where standard error is a terminal and it takes more than a second.
 #[derive(Drop)]
 pub struct Progress<'a, R> {
     rt: &'a R,
@@ -38,6 +39,7 @@ impl<'a, R: Eprint + Clock + Wait> Progress<'a, R> {
             told: Mutex::new(Told {
                 done: 0,
                 counted: 0,
+                looked: 0,
                 shown: false,
             }),
         }
@@ -63,6 +65,27 @@ impl<'a, R: Eprint + Clock + Wait> Progress<'a, R> {
         }
     }
 
+    /// Writes behind the line how many prefixes were looked at, where that was told.
+    fn add_looked(&self, told: &Told) {
+        let looked = told.looked;
+        if looked > 0 {
+            let _ = eprint!(self.rt; ", {looked} prefixes are looked at");
+        }
+    }
+
+    /// Writes the line of a run anew.
+    fn tell_run(&self, told: &mut Told) {
+        let (begun, found) = (told.done, told.counted);
+        if self.is_long() {
+            told.shown = true;
+            let _ = eprint!(self.rt; "\rcouncil: slice {begun} is begun");
+            if told.looked > 0 {
+                let _ = eprint!(self.rt; ", {found} coalitions are found");
+            }
+            self.add_looked(told);
+        }
+    }
+
     /// Writes the line of a tally anew, and wipes it where all is done.
     fn tell(&self, told: &mut Told, slices: u16) {
         let (done, counted) = (told.done, told.counted);
@@ -72,6 +95,7 @@ impl<'a, R: Eprint + Clock + Wait> Progress<'a, R> {
                 let _ = eprint!(self.rt;
                     "\rcouncil: {done} of {slices} slices, {counted} coalitions are counted"
                 );
+                self.add_looked(told);
             }
         } else if told.shown {
             told.shown = false;
@@ -94,11 +118,14 @@ impl<'a, R: Eprint + Clock + Wait> Gate for Progress<'a, R> {
     fn pass(&self, _worker: u8, _slice: u16) {
         let mut told = self.told.lock(self.rt);
         told.done = told.done.wrapping_add(1);
-        let done = told.done;
-        if self.is_long() {
-            told.shown = true;
-            let _ = eprint!(self.rt; "\rcouncil: slice {done} is begun");
-        }
+        self.tell_run(&mut told);
+    }
+
+    fn looked(&self, prefixes: u64, met: u64) {
+        let mut told = self.told.lock(self.rt);
+        told.looked = told.looked.wrapping_add(prefixes);
+        told.counted = told.counted.wrapping_add(met);
+        self.tell_run(&mut told);
     }
 }
 
@@ -112,6 +139,12 @@ impl<'a, R: Eprint + Clock + Wait> Watch for Progress<'a, R> {
     fn met(&self, more: u64, slices: u16) {
         let mut told = self.told.lock(self.rt);
         told.counted = told.counted.wrapping_add(more);
+        self.tell(&mut told, slices);
+    }
+
+    fn looked(&self, more: u64, slices: u16) {
+        let mut told = self.told.lock(self.rt);
+        told.looked = told.looked.wrapping_add(more);
         self.tell(&mut told, slices);
     }
 }

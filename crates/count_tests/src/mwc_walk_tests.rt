@@ -1,10 +1,11 @@
 //! Worked games, and games that only a pruned walk can end.
 mod refusals;
+mod statutes;
 mod visits;
 
 use crate::helpers::same;
 use council_game::{Coalition, Game, Rule, plain_list};
-use mwc_walk::{Walk, list_all, list_slice, slice_count};
+use mwc_walk::{Seek, Walk, list_all, list_slice, slice_count};
 use std::alloc::Global;
 use std::process::Abort;
 use std::test::Fail;

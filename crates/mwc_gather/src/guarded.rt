@@ -8,10 +8,16 @@ use council_game::Game;
 use std::marker::Model;
 use std::snapshot::Snapshot;
 
-/// What a worker passes before it sends a slice.
+/// What a worker passes before it sends a slice, and who is told meanwhile how far it has come.
 pub trait Gate {
     /// Worker `worker` is about to send slice `slice`.
     fn pass(&self, worker: u8, slice: u16);
+
+    /// So many prefixes more were looked at on the way to the coalitions of a slice, and so many of these were met:
+    /// each 1,048,576 prefixes of a slice are told of, so that a worker that finds nothing says so too. Under one rule,
+    /// where the next coalition is near, they are not told of. The thread that looked at them calls this, so calls may
+    /// overlap.
+    fn looked(&self, _prefixes: u64, _met: u64) {}
 }
 
 /// The gate that returns at once.
@@ -61,6 +67,11 @@ impl<'a, G: Told> Guarded<'a, G> {
     {
         self.gate.announce(worker, slice);
         self.game
+    }
+
+    /// Tells the gate of prefixes that were looked at, and of coalitions that were met.
+    pub(crate) fn tell(&self, prefixes: u64, met: u64) {
+        self.gate.hear(prefixes, met);
     }
 }
 

@@ -17,6 +17,7 @@ mod order;
 mod promise;
 mod putting;
 mod row;
+mod seeking;
 mod send;
 mod sent;
 mod told;

@@ -9,6 +9,7 @@ ghost use Rattle.mwc_gather.specs.Inner.Sending.{SendsFirst, SendsSome};
 use crate::guarded::{Gate, Guarded};
 use crate::putting::{PutsRows, WordByWord};
 use crate::row::Row;
+use crate::seeking::{LastTold, next_told};
 use crate::sent::Sent;
 use crate::told::Told;
 use crate::waiting::{Bell, BellPair, Patience};
@@ -130,12 +131,13 @@ pub(crate) fn send_behind<W: PutsRows<P>, R: Wait, P: PipeIn<Word>, G: Told>(
     ensures unbroken { BreaksOnlyIfRefused (P.broken out.old) (P.broken out.new) result }
 {
     let walk = Walk::new(guarded.behind(worker, slice), bits, slice);
-    send_walk::<W, _, _>(rt, walk, slice, left, out, pair)
+    send_walk::<W, _, _, _>(rt, guarded, walk, slice, left, out, pair)
 }
 
-/// Sends the words of a slice whose walk has it all still to give, as `send_behind`.
-fn send_walk<W: PutsRows<P>, R: Wait, P: PipeIn<Word>>(
+/// Sends the words of a slice whose walk has it all still to give, as `send_behind`, and tells the gate how far it has come.
+fn send_walk<W: PutsRows<P>, R: Wait, P: PipeIn<Word>, G: Told>(
     rt: &R,
+    guarded: &Guarded<'_, G>,
     walk: Walk<'_>,
     slice: u16,
     left: u32,
@@ -152,7 +154,8 @@ fn send_walk<W: PutsRows<P>, R: Wait, P: PipeIn<Word>>(
     let mut row = Row::new();
     row.push(Word::Open(slice));
     let mut left = left;
-    while let Some(coalition) = walk.next() {
+    let mut last = LastTold::nothing(&walk, left);
+    while let Some(coalition) = next_told(guarded, &mut walk, &mut last, left) {
         if !add::<W, _, _>(rt, &mut row, Word::One(coalition), out, pair) {
             return Sent::Refused;
         }

@@ -14,6 +14,9 @@ pub trait Told {
     /// Worker `worker` is about to send slice `slice`.
     fn announce(&self, worker: u8, slice: u16)
         requires { takes worker slice };
+
+    /// So many prefixes more were looked at, and so many coalitions met.
+    fn hear(&self, prefixes: u64, met: u64);
 }
 
 impl<G: Gate> Told for G {
@@ -21,5 +24,9 @@ impl<G: Gate> Told for G {
 
     fn announce(&self, worker: u8, slice: u16) {
         self.pass(worker, slice)
+    }
+
+    fn hear(&self, prefixes: u64, met: u64) {
+        self.looked(prefixes, met)
     }
 }

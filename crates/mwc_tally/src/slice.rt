@@ -10,7 +10,7 @@ ghost use Rattle.mwc_tally.specs.Inner.Shares.{slice_of};
 use crate::slices::Slices;
 use crate::watch::{EACH, NoWatch, Watch};
 use council_game::Game;
-use mwc_walk::Walk;
+use mwc_walk::{Seek, Walk};
 use power_index::Counts;
 
 /// The counts of slice `j` of a game at so many bits, by a walk over it. It takes no memory.
@@ -40,6 +40,15 @@ fn tell_if_enough<W: Watch>(watch: &W, more: u64, slices: u16) -> u64
     0
 }
 
+/// How many prefixes may still be looked at before the watch is told of them, 1 or more: so many were looked at when it was
+/// told last.
+fn until_told(walk: &Walk<'_>, told: u64) -> u64
+    ensures { 0 < result }
+{
+    let looked = walk.visits().saturating_sub(told);
+    EACH.saturating_sub(looked).max(1)
+}
+
 /// The same as `tally_slice`, and a watch is told of it; none where the watch stops it.
 pub(crate) fn tally_watched<W: Watch>(slices: Slices<'_>, j: u16, watch: &W) -> Option<Counts>
     requires { j < 2 ^ slices.bits }
@@ -50,9 +59,21 @@ pub(crate) fn tally_watched<W: Watch>(slices: Slices<'_>, j: u16, watch: &W) -> 
     let mut walk = Walk::new(slices.game, slices.bits, j);
     let mut counts = Counts::none(slices.game);
     let mut more = 0;
-    while let Some(coalition) = walk.next() {
-        counts.count(coalition);
-        more = tell_if_enough(watch, more + 1, count);
+    let mut told = walk.visits();
+    loop {
+        match walk.seek(until_told(&walk, told)) {
+            Seek::Found(coalition) => {
+                counts.count(coalition);
+                more = tell_if_enough(watch, more + 1, count);
+            }
+            Seek::End => break,
+            Seek::NotYet => {
+                watch.met(more, count);
+                watch.looked(walk.visits().saturating_sub(told), count);
+                told = walk.visits();
+                more = 0;
+            }
+        }
         if more == 0 && watch.stops() {
             return None;
         }

@@ -93,8 +93,14 @@ given-next v a None b is h =
     ap (λ (s : List ℕ). take (length s - length (rest_of_slice v b)) s) (same-slice v a b h.follows)
     ∙ ap (λ (r : List ℕ). take (length (slice v a.bits a.number) - length r) (slice v a.bits a.number)) (h.none_after ∙ sym h.none)
 
+-- steps that came to no coalition have given the same
+pub given-same : (v : Votes) (a b : Cursor) → Follows v a b → rest_of_slice v b ≡ rest_of_slice v a → given-by v b ≡ given-by v a
+given-same v a b h same =
+    ap (λ (s : List ℕ). take (length s - length (rest_of_slice v b)) s) (same-slice v a b h)
+    ∙ ap (λ (r : List ℕ). take (length (slice v a.bits a.number) - length r) (slice v a.bits a.number)) same
+
 -- what was given and what is to come
-given-whole : (v : Votes) (a : Cursor) → CursorIs v a → given-by v a ++ rest_of_slice v a ≡ slice v a.bits a.number
+pub given-whole : (v : Votes) (a : Cursor) → CursorIs v a → given-by v a ++ rest_of_slice v a ≡ slice v a.bits a.number
 given-whole v a is =
     ap (λ (r : List ℕ). given-by v a ++ r) (rest-is v a is)
     ∙ take-append-drop (length (slice v a.bits a.number) - length (rest_of_slice v a)) (slice v a.bits a.number)
@@ -105,10 +111,10 @@ whole-after v a (Some c) b h = given-whole v b h.follows.is
 whole-after v a None b h = given-whole v b h.follows.is
 
 -- with one rule, the visits are bounded by what was given
-pub visits-most : (v : Votes) (a : Cursor) → CursorIs v a → (a.fresh ≡ true → a.place ≡ a.bits) → length v.rules ≡ 1
+pub visits-most : (v : Votes) (a : Cursor) → CursorIs v a → (a.rules ≡ 1 → a.fresh ≡ true → a.place ≡ a.bits) → length v.rules ≡ 1
     → a.visits ≤ a.bits + (v.members - a.bits) * (length (slice v a.bits a.number) - length (rest_of_slice v a))
 visits-most v a is rests one =
-    let most = rest-most v a is rests one in
+    let most = rest-most v a is (rests (is.rules ∙ one)) one in
     let ends = left-ends v a.bits a.number (bound v a) (bound-below v a is) in
     let size : length (slice v a.bits a.number) ≡ length ends.front + length (rest_of_slice v a) = ap length ends.joined
     ∙ length-append ends.front (rest_of_slice v a) in

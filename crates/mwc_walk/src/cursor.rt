@@ -1,5 +1,5 @@
 //! How far a walk has come, and its steps.
-ghost use Rattle.std.specs.Prelude.{◌≡◌, ◌*◌, ◌+◌, ◌-◌, ◌^◌, ◌<◌, ◌≤◌, false, true, min, length, slice_index, IfSome, MatchOption};
+ghost use Rattle.std.specs.Prelude.{◌≡◌, ◌≢◌, ◌*◌, ◌+◌, ◌-◌, ◌^◌, ◌<◌, ◌≤◌, false, true, min, length, slice_index, IfSome, MatchOption};
 ghost use Rattle.coalitions.specs.declared.limits.TheConstants.{BITS, MEMBERS, RULES};
 ghost use Rattle.council_game.specs.Game.{votes_of};
 ghost use Rattle.council_game.specs.Votes.{minimal};
@@ -96,13 +96,85 @@ impl Cursor {
         }
     }
 
+    /// As `find`, but no further than so many visits more. Under one rule it always comes to a coalition or to the end.
+    pub(crate) fn seek(&mut self, game: &Game, ahead: &mut Option<Ahead>, visits: u64) -> Step
+        requires is { CursorIs (votes_of game.now) self.old }
+        requires ahead { IfSome ahead.old (AheadIs (votes_of game.now)) }
+        ensures steps { SomeSteps (votes_of game.now) self.old result self.new }
+        ensures not_yet { result ≡ Step.On →
+            (self.new.visits ≡ self.old.visits + visits) × (self.new.visits < 2 ^ 64) }
+        ensures one { self.old.rules ≡ 1 → result ≢ Step.On }
+        ensures few { self.old.rules ≢ 1 → self.new.visits ≤ self.old.visits + visits }
+        ensures ahead { IfSome ahead.new (AheadIs (votes_of game.now)) }
+    {
+        let Some(most) = self.most_visits(visits) else {
+            return self.find_at_last(game, ahead);
+        };
+        match self.some_steps(game, NEAR.min(visits)) {
+            Step::On => {}
+            step => return step,
+        }
+        if ahead.is_none() {
+            *ahead = Some(Ahead::of(game));
+        }
+        self.up_to(game, ahead.as_ref(), most)
+    }
+
+    /// As `find`, and tells it as a step.
+    fn find_at_last(&mut self, game: &Game, ahead: &mut Option<Ahead>) -> Step
+        requires is { CursorIs (votes_of game.now) self.old }
+        requires ahead { IfSome ahead.old (AheadIs (votes_of game.now)) }
+        ensures steps { SomeSteps (votes_of game.now) self.old result self.new }
+        ensures comes { result ≢ Step.On }
+        ensures few { self.new.visits < 2 ^ 64 }
+        ensures ahead { IfSome ahead.new (AheadIs (votes_of game.now)) }
+    {
+        let found = self.find(game, ahead);
+        let _visits = self.visits;
+        match found {
+            Some(coalition) => Step::Give(coalition),
+            None => Step::End,
+        }
+    }
+
+    /// How many visits there are to be after so many more; none where nothing is to stop a walk: under one rule, and
+    /// where the count can not hold them.
+    fn most_visits(&self, more: u64) -> Option<u64>
+        ensures { MatchOption result (self.now.rules ≢ 1 → 2 ^ 64 ≤ self.now.visits + more)
+            (λ most. (self.now.rules ≢ 1) × (most ≡ self.now.visits + more)) }
+    {
+        if self.rules == 1 {
+            return None;
+        }
+        self.visits.checked_add(more)
+    }
+
     /// Some steps: up to the next coalition of the slice, to its end, or no further than this many.
     fn some_steps(&mut self, game: &Game, steps: u64) -> Step
         requires { CursorIs (votes_of game.now) self.old }
-        ensures { SomeSteps (votes_of game.now) self.old result self.new }
+        ensures steps { SomeSteps (votes_of game.now) self.old result self.new }
+        ensures few { self.new.visits ≤ self.old.visits + steps }
     {
         for _ in 0..steps {
             match self.step(game, None) {
+                Step::On => {}
+                step => return step,
+            }
+        }
+        Step::On
+    }
+
+    /// Steps up to the next coalition of the slice, to its end, or until there were so many visits.
+    fn up_to(&mut self, game: &Game, ahead: Option<&Ahead>, visits: u64) -> Step
+        requires is { CursorIs (votes_of game.now) self.old }
+        requires ahead { IfSome ahead (λ a. AheadIs (votes_of game.now) a.now) }
+        requires more { self.old.visits ≤ visits }
+        ensures steps { SomeSteps (votes_of game.now) self.old result self.new }
+        ensures not_yet { result ≡ Step.On → self.new.visits ≡ visits }
+        ensures few { self.new.visits ≤ visits }
+    {
+        while self.visits < visits {
+            match self.step(game, ahead) {
                 Step::On => {}
                 step => return step,
             }
@@ -126,10 +198,12 @@ impl Cursor {
         }
     }
 
+    /// One step, by which there is one visit more at most.
     fn step(&mut self, game: &Game, ahead: Option<&Ahead>) -> Step
         requires is { CursorIs (votes_of game.now) self.old }
         requires ahead { IfSome ahead (λ a. AheadIs (votes_of game.now) a.now) }
-        ensures { Steps (votes_of game.now) self.old result self.new }
+        ensures steps { Steps (votes_of game.now) self.old result self.new }
+        ensures few { self.new.visits ≤ self.old.visits + 1 }
     {
         if self.fresh {
             self.enter(game, ahead)
@@ -145,7 +219,8 @@ impl Cursor {
         requires is { CursorIs (votes_of game.now) self.old }
         requires ahead { IfSome ahead (λ a. AheadIs (votes_of game.now) a.now) }
         requires fresh { self.old.fresh ≡ true }
-        ensures { Steps (votes_of game.now) self.old result self.new }
+        ensures steps { Steps (votes_of game.now) self.old result self.new }
+        ensures few { self.new.visits ≤ self.old.visits + 1 }
     {
         let rules = self.rules;
         let place = self.place;
@@ -356,7 +431,8 @@ impl Cursor {
     fn back(&mut self, game: &Game) -> Step
         requires is { CursorIs (votes_of game.now) self.old }
         requires stale { self.old.fresh ≡ false }
-        ensures { Steps (votes_of game.now) self.old result self.new }
+        ensures steps { Steps (votes_of game.now) self.old result self.new }
+        ensures few { self.new.visits ≤ self.old.visits + 1 }
     {
         if self.place == self.bits {
             return Step::End;

@@ -1,12 +1,14 @@
 //! A walk over the minimal winning coalitions of a slice.
-ghost use Rattle.std.specs.Prelude.{◌≡◌, ◌+◌, ◌-◌, ◌*◌, ◌^◌, ◌<◌, ◌≤◌, [], ◌∷◌, ◌++◌, drop, length, MatchOption};
+ghost use Rattle.std.specs.Prelude.{◌≡◌, ◌+◌, ◌-◌, ◌*◌, ◌^◌, ◌<◌, ◌≤◌, ◌≢◌, [], ◌∷◌, ◌++◌, drop, length, MatchOption};
 ghost use Rattle.coalitions.specs.declared.limits.TheConstants.{BITS};
 ghost use Rattle.council_game.specs.Game.{votes_of};
 ghost use Rattle.mwc_walk.specs.Slices.{slice};
 ghost use Rattle.mwc_walk.specs.WalkView.{given, given_count};
+ghost use Rattle.mwc_walk.specs.Seeks.{Seeks, seeks_left};
 
 use crate::ahead::Ahead;
 use crate::cursor::Cursor;
+use crate::seek::Seek;
 use council_game::{Coalition, Game};
 use std::marker::Model;
 
@@ -81,6 +83,26 @@ impl<'a> Walk<'a> {
         ensures counted { self.old.visits ≤ self.new.visits }
     {
         self.cursor.find(self.game, &mut self.ahead)
+    }
+
+    /// Seeks the next coalition of the slice as `next` does, but makes so many visits at the most, 1 or more: after these it
+    /// answers NotYet, and goes on when it is called again. Nothing else is changed then. Under one rule, where the next
+    /// coalition is near, it never answers NotYet, nor where the count of visits could not hold so many more.
+    pub fn seek(&mut self, visits: u64) -> Seek
+        requires { 0 < visits }
+        ensures seeks { Seeks visits self.old result self.new }
+        ensures whole { given self.new ++ self.new.to_come
+            ≡ slice self.new.votes self.new.bits self.new.number }
+        ensures same { (self.new.votes ≡ self.old.votes) × (self.new.bits ≡ self.old.bits)
+            × (self.new.number ≡ self.old.number) }
+        ensures counted { self.old.visits ≤ self.new.visits }
+        ensures one { length self.old.votes.rules ≡ 1 → result ≢ Seek.NotYet }
+        ensures few { length self.old.votes.rules ≢ 1 → self.new.visits ≤ self.old.visits + visits }
+        ensures falls { result ≢ Seek.End → seeks_left self.new < seeks_left self.old }
+    {
+        self.cursor
+            .seek(self.game, &mut self.ahead, visits)
+            .sought()
     }
 
     /// How many visits there were. Each fixed place is visited once, when it is checked, and a later place

@@ -159,7 +159,7 @@ fn game_by_groups(
 
 /// Statutes of 40 members, each in two orders of its rules: two signatures, or four, and half of the shares, of
 /// which an owner has most; two of three large owners; two classes of shares; vetoers behind many members; joint
-/// owners.
+/// owners; three heads and 90 percent of the people, of whom two states have most.
 #[test]
 fn visits_of_natural_statutes(rt: HostRuntime) -> Result<(), Fail> {
     let alloc = rt.alloc();
@@ -168,6 +168,7 @@ fn visits_of_natural_statutes(rt: HostRuntime) -> Result<(), Fail> {
     let classes = [(36, [1, 1, 0]), (4, [0, 100, 0])].as_slice();
     let vetoers = [(32, [1, 0, 0]), (8, [1, 1, 0])].as_slice();
     let joint = [(38, [1, 1, 0]), (2, [1, 60, 0])].as_slice();
+    let people = [(38, [1, 2, 0]), (2, [1, 440, 0])].as_slice();
     let rows = [
         ([2, 51, 0], owner, 39, [819, 40]),
         ([4, 51, 0], owner, 9_139, [101_269, 9_880]),
@@ -175,6 +176,27 @@ fn visits_of_natural_statutes(rt: HostRuntime) -> Result<(), Fail> {
         ([3, 201, 0], classes, 42_840, [336_505, 46_715]),
         ([11, 8, 0], vetoers, 4_960, [81_095, 5_463]),
         ([2, 100, 0], joint, 1, [40, 2]),
+        ([3, 861, 0], people, 38, [817, 40]),
+    ];
+    for (quotas, groups, coalitions, visits) in rows {
+        let game = game_by_groups(&rt, alloc, &[0, 1], quotas, groups)?;
+        counts(&rt, &mut Walk::new(&game, 0, 0), coalitions, visits[0]);
+        let game = game_by_groups(&rt, alloc, &[1, 0], quotas, groups)?;
+        counts(&rt, &mut Walk::new(&game, 0, 0), coalitions, visits[1]);
+    }
+    Ok(())
+}
+
+/// Statutes of many coalitions: six signatures and half of the shares, of which an owner has most; 8 vetoers behind 32
+/// other members, with 14 heads. (Without a proof, by `rt try`, this test does not end in time.)
+#[test]
+fn visits_of_statutes_of_many_coalitions(rt: HostRuntime) -> Result<(), Fail> {
+    let alloc = rt.alloc();
+    let owner = [(39, [1, 1, 0]), (1, [1, 61, 0])].as_slice();
+    let vetoers = [(32, [1, 0, 0]), (8, [1, 1, 0])].as_slice();
+    let rows = [
+        ([6, 51, 0], owner, 575_757, [4_496_387, 658_008]),
+        ([14, 8, 0], vetoers, 906_192, [11_722_959, 1_107_575]),
     ];
     for (quotas, groups, coalitions, visits) in rows {
         let game = game_by_groups(&rt, alloc, &[0, 1], quotas, groups)?;

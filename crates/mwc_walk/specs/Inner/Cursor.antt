@@ -5,6 +5,8 @@ use Rattle.council_game.specs.Votes.{Votes, IsVotes}
 use Rattle.mwc_walk.specs.declared.cursor.Cursor.{Cursor}
 use Rattle.mwc_walk.specs.declared.step.Step.{Step}
 use Rattle.mwc_walk.specs.declared.step.Step.TheVariants.{On, Give, End}
+use Rattle.mwc_walk.specs.declared.seek.Seek.{Seek}
+use Rattle.mwc_walk.specs.declared.seek.Seek.TheVariants as seek
 use Rattle.mwc_walk.specs.Slices.{slice}
 use Rattle.mwc_walk.specs.Inner.Vetoes.{BringsAre}
 use Rattle.mwc_walk.specs.Inner.Places.{slice_below, reaches, wins_at, LanesAre}
@@ -95,6 +97,12 @@ abbrev pub SomeSteps : Votes → Cursor → Step → Cursor → Type 0
 SomeSteps v a On b = Follows v a b × (rest_of_slice v b ≡ rest_of_slice v a)
 SomeSteps v a (Give m) b = GivesNext v a m b
 SomeSteps v a End b = FindsEnd v a b
+
+-- what a walk tells of them
+abbrev pub sought : Step → Seek
+sought On = seek.NotYet
+sought (Give m) = seek.Found m
+sought End = seek.End
 
 -- steps up to the next coalition, or to the end
 abbrev pub Runs : Votes → Cursor → Option ℕ → Cursor → Type 0

@@ -15,8 +15,8 @@ walk_view w = record {
   visits = w.cursor.visits;
 }
 
--- between two calls no descent is under way
+-- under one rule no descent is under way between two calls
 pub record IsInside (w : Inside) : Type 0 where
   pub cursor : CursorIs (votes_of w.game.now) w.cursor
   pub ahead : IfSome w.ahead (AheadIs (votes_of w.game.now))
-  pub rests : w.cursor.fresh ≡ true → w.cursor.place ≡ w.cursor.bits
+  pub rests : w.cursor.rules ≡ 1 → w.cursor.fresh ≡ true → w.cursor.place ≡ w.cursor.bits

@@ -13,7 +13,7 @@ pub returns-then-not-send-clause-sends : goal.returns-then-not-send-clause-sends
 returns-then-not-send-clause-sends g c =
     let some = c.loop-coalition.invariant.some_left in
     let added = c.if-not-add.ensures.added (search rules) in
-    let more = one_more {next = 0} c.in-Some.coalition c.loop-coalition.invariant.sent c.in-Some.ensures.next (omega arith) added.0 in
+    let more = one_more {next = 0} c.in-Some.coalition c.loop-coalition.invariant.sent c.in-Some.ensures (omega arith) added.0 in
     let no = c.if-not-send.ensures.refused (search rules) in
     λ h e. (no.1, takes_some h e more (rw c.words.ensures at no.0))
 
@@ -21,7 +21,7 @@ pub returns-then-left-eq0-clause-sends : goal.returns-then-left-eq0-clause-sends
 returns-then-left-eq0-clause-sends g c =
     let some = c.loop-coalition.invariant.some_left in
     let added = c.if-not-add.ensures.added (search rules) in
-    let more = one_more {next = 0} c.in-Some.coalition c.loop-coalition.invariant.sent c.in-Some.ensures.next (omega arith) added.0 in
+    let more = one_more {next = 0} c.in-Some.coalition c.loop-coalition.invariant.sent c.in-Some.ensures (omega arith) added.0 in
     let sent = c.if-not-send.ensures.sent (search rules) in
     λ h e. sent_cut h e more (omega arith) (sent.0 ∙ ap (λ (w : List Word). g.P.PipeIn.accepted c.add.new.out ++ w) c.words.ensures)
 
@@ -33,7 +33,7 @@ loop-coalition-preserved g c =
       same = c.if-not-add.ensures.identity ∙ c.loop-coalition.invariant.same;
       broken = added.1 ∙ c.loop-coalition.invariant.broken;
       some_left = omega arith;
-      sent = one_more c.in-Some.coalition c.loop-coalition.invariant.sent c.in-Some.ensures.next (omega arith) added.0;
+      sent = one_more c.in-Some.coalition c.loop-coalition.invariant.sent c.in-Some.ensures (omega arith) added.0;
     }
 
 pub returns-then-not-add-2-clause-sends : goal.returns-then-not-add-2-clause-sends

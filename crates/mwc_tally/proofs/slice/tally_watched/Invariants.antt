@@ -1,4 +1,5 @@
-use Rattle.std.proofs.Common.{◌<◌, length}
+use Rattle.std.proofs.Common.{◌<◌}
+use Rattle.mwc_walk.specs.Seeks.{seeks_left}
 use Rattle.mwc_tally.specs.Inner.Shares.{CountedUpTo, slice_of}
 use Rattle.mwc_tally.proofs.slice.tally_watched.Given as goal
 
@@ -9,4 +10,4 @@ invariant-loop-coalition g l = record {
 }
 
 abbrev pub decreases-loop-coalition : goal.decreases-loop-coalition
-decreases-loop-coalition g l = length l.walk.to_come
+decreases-loop-coalition g l = seeks_left l.walk

@@ -3,14 +3,14 @@ use Rattle.mwc_walk.proofs.Steps.{back-up, back-out, back-end, out-fits, is-part
 use Rattle.mwc_walk.proofs.cursor.Cursor.back.Goals as goal
 use Rattle.mwc_walk.proofs.cursor.Cursor.back.Goals.{then-self-eq1, else-self-eq1}
 
-pub returns-then-self : goal.returns-then-self
-returns-then-self c = back-end (votes_of c.args.game.now) c.args.self.now c.requires.is c.requires.stale c.if-self.true
+pub returns-then-self-clause-steps : goal.returns-then-self-clause-steps
+returns-then-self-clause-steps c = back-end (votes_of c.args.game.now) c.args.self.now c.requires.is c.requires.stale c.if-self.true
 
 pub leave_out-requires-clause-fits : goal.leave_out-requires-clause-fits
 leave_out-requires-clause-fits c = out-fits (votes_of c.args.game.now) c.args.self.now c.requires.is c.if-self.false c.if-self-eq1.true
 
-pub returns : goal.returns
-returns c =
+pub returns-clause-steps : goal.returns-clause-steps
+returns-clause-steps c =
     elim c.if-self-eq1.branch [
       | then-self-eq1 w ↦
           let part = is-part _ _ _ _ _ w.leave_out.ensures c.requires.is.room in

@@ -6,8 +6,8 @@ use Rattle.mwc_walk.proofs.Steps.{enter-dead, enter-spare, enter-in, enter-give,
 use Rattle.mwc_walk.proofs.cursor.Cursor.enter.Goals as goal
 use Rattle.mwc_walk.proofs.cursor.Cursor.enter.Goals.{then-not-all_reach-via-then-not-all_reach, then-not-all_reach-via-else-not-all_reach+then-passes_by}
 
-pub returns-then-not-all_reach : goal.returns-then-not-all_reach
-returns-then-not-all_reach c =
+pub returns-then-not-all_reach-clause-steps : goal.returns-then-not-all_reach-clause-steps
+returns-then-not-all_reach-clause-steps c =
     elim c.then-not-all_reach.branch [
       | then-not-all_reach-via-then-not-all_reach w ↦
           enter-dead (votes_of c.args.game.now) c.args.self.now c.requires.is c.requires.fresh
@@ -28,8 +28,8 @@ take_in-requires-clause-fits c =
     in-fits (votes_of c.args.game.now) c.args.self.now c.requires.is (sym c.all_reach.ensures ∙ c.if-not-all_reach.false)
     (sym c.all_win.ensures ∙ c.if-not-all_win.true)
 
-pub returns-then-not-all_win : goal.returns-then-not-all_win
-returns-then-not-all_win c =
+pub returns-then-not-all_win-clause-steps : goal.returns-then-not-all_win-clause-steps
+returns-then-not-all_win-clause-steps c =
     let part = is-part _ _ _ _ _ c.take_in.ensures c.requires.is.room in
     enter-in (votes_of c.args.game.now) c.args.self.now _ _ c.saturating_add-self.ensures (omega arith) c.requires.is c.requires.fresh
     (sym c.all_reach.ensures ∙ c.if-not-all_reach.false) (sym c.all_win.ensures ∙ c.if-not-all_win.true) part.room part.taken
@@ -41,8 +41,8 @@ of_mask-found-requires c =
     let mask = enter-mask (votes_of c.args.game.now) c.args.self.now c.requires.is in
     omega (arith, short, most, mask)
 
-pub returns : goal.returns
-returns c =
+pub returns-clause-steps : goal.returns-clause-steps
+returns-clause-steps c =
     let m = c.of_mask-found.ensures ∙ enter-mask (votes_of c.args.game.now) c.args.self.now c.requires.is in
     let won = win-is _ _ c.requires.is true (sym c.all_win.ensures ∙ c.if-not-all_win.false) in
     subst (λ (i : ℕ). GivesNext (votes_of c.args.game.now) c.args.self.now i (record c.args.self.now { fresh = false })) (sym m)

@@ -1,5 +1,5 @@
 use Rattle.council_game.specs.Game.{votes_of}
-use Rattle.std.proofs.Common.{◌≡◌, ◌≤◌}
+use Rattle.std.proofs.Common.{◌≡◌, ◌≤◌, ◌+◌}
 use Rattle.mwc_walk.specs.Inner.Cursor.{CursorIs, rest_of_slice}
 use Rattle.mwc_walk.proofs.cursor.Cursor.some_steps.Given as goal
 
@@ -9,5 +9,6 @@ invariant-loop l = record {
   bits : l.self.bits ≡ l.initial.self.bits;
   number : l.self.number ≡ l.initial.self.number;
   counted : l.initial.self.visits ≤ l.self.visits;
+  few : l.self.visits ≤ l.initial.self.visits + l.counter;
   same : rest_of_slice (votes_of l.game) l.self ≡ rest_of_slice (votes_of l.game) l.initial.self;
 }
