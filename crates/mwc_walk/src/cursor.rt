@@ -39,6 +39,16 @@ pub(crate) struct Cursor {
     pub(crate) visits: u64,
 }
 
+/// Makes what the game has ahead. It stands apart since so large a value has its price at each call of a function that
+/// has room for it, made or not.
+#[cold]
+#[inline(never)]
+fn look_ahead(game: &Game, ahead: &mut Option<Ahead>)
+    ensures { IfSome ahead.new (AheadIs (votes_of game.now)) }
+{
+    *ahead = Some(Ahead::of(game));
+}
+
 impl Cursor {
     /// The cursor at the fixed places of a slice, which is all still to come.
     pub(crate) fn start(game: &Game, bits: u8, number: u16) -> Cursor
@@ -89,7 +99,7 @@ impl Cursor {
             Step::End => None,
             Step::On => {
                 if ahead.is_none() {
-                    *ahead = Some(Ahead::of(game));
+                    look_ahead(game, ahead);
                 }
                 self.next(game, ahead.as_ref())
             }
@@ -115,7 +125,7 @@ impl Cursor {
             step => return step,
         }
         if ahead.is_none() {
-            *ahead = Some(Ahead::of(game));
+            look_ahead(game, ahead);
         }
         self.up_to(game, ahead.as_ref(), most)
     }
