@@ -39,6 +39,13 @@ pub(crate) struct Cursor {
     pub(crate) visits: u64,
 }
 
+/// Makes what the game has ahead. It stands apart, since a function pays at each call for the room of so large a value.
+fn make_ahead(game: &Game, ahead: &mut Option<Ahead>)
+    ensures { IfSome ahead.new (AheadIs (votes_of game.now)) }
+{
+    *ahead = Some(Ahead::of(game));
+}
+
 impl Cursor {
     /// The cursor at the fixed places of a slice, which is all still to come.
     pub(crate) fn start(game: &Game, bits: u8, number: u16) -> Cursor
@@ -89,7 +96,7 @@ impl Cursor {
             Step::End => None,
             Step::On => {
                 if ahead.is_none() {
-                    *ahead = Some(Ahead::of(game));
+                    make_ahead(game, ahead);
                 }
                 self.next(game, ahead.as_ref())
             }
@@ -115,7 +122,7 @@ impl Cursor {
             step => return step,
         }
         if ahead.is_none() {
-            *ahead = Some(Ahead::of(game));
+            make_ahead(game, ahead);
         }
         self.up_to(game, ahead.as_ref(), most)
     }
