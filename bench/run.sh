@@ -194,7 +194,8 @@ rows '26 random, two rules' "$temp/random-2.toml"
 rows '26 random, three rules' "$temp/random-3.toml"
 rows '26 random, four rules' "$temp/random-4.toml"
 
-# Games of one rule, and of weights and heads, are counted by sums: their time does not follow the number of coalitions.
+# Games of one rule, and of weights and heads, are counted by sums, and those of many weights that have nothing in common by halves: their
+# time does not follow the number of coalitions. The plain program counts all of them by sums.
 echo
 echo "tallies by sums: the least of $runs runs, in seconds, and memory"
 printf '%-26s %20s %8s %8s %6s %8s\n' game coalitions 'plain s' seconds over KiB
@@ -221,7 +222,7 @@ sums '40 equal, quota 20' "$temp/twenty.txt"
 sums '27 members' examples/eu-27-nice-votes.toml
 sums '27 members, Lisbon' examples/eu-27-lisbon.toml
 sums '36 members, Lisbon' examples/eu-36-lisbon.toml
-for most in 100 1000; do
+for most in 100 1000 10000 60000; do
     x=7
     total=0
     weights=()

@@ -38,26 +38,37 @@ game "quota = 49.5\n$a"
 explained "a quota with decimals" <<'END'
 line 1: quota = 49.5
 49.5 is a number with a point: a quota is a whole number, without quotes
+multiply all weights and the quota by 10
 END
 game "title = \"quota = 1\" # quota = 2\n\nquota = \"2/3\"\n$a"
 explained "a quota as a text" <<'END'
 line 3: quota = "2/3"
 "2/3" is a text: a quota is a whole number, without quotes
+docs/STATUTES.md says how percentages and fractions become whole numbers
 END
 game 'title = "\\" quota = 9"\n'"quota = 49.5\n$a"
 explained "a quota behind a quote in a text" <<'END'
 line 2: quota = 49.5
 49.5 is a number with a point: a quota is a whole number, without quotes
+multiply all weights and the quota by 10
 END
 game "title = 'quota = 9'\nquota = 49.5\n$a"
 explained "a quota behind a text in single quotes" <<'END'
 line 2: quota = 49.5
 49.5 is a number with a point: a quota is a whole number, without quotes
+multiply all weights and the quota by 10
 END
 game "quota = 51%%\n$a"
 explained "a quota in percent" <<'END'
 line 1, column 11: quota = 51%
 unexpected key or value, expected newline, `#`
+docs/STATUTES.md says how percentages and fractions become whole numbers
+END
+game "quota = 2/3\n$a"
+explained "a quota that is a fraction" <<'END'
+line 1, column 10: quota = 2/3
+unexpected key or value, expected newline, `#`
+docs/STATUTES.md says how percentages and fractions become whole numbers
 END
 # what moves a terminal, ends a line, turns the direction of writing or shows nothing is a blank
 game 'quota = "\xe2\x80\xae1\xe2\x81\xa62\xe2\x80\xa83\xef\xbb\xbf45"\n'
@@ -116,6 +127,7 @@ game "quotas = [1, 2.0]\n$a"
 explained "a quota with a point among others" <<'END'
 line 1: quotas = [1, 2.0]
 2.0 is a number with a point: quotas are 1 to 4 whole numbers
+multiply all weights and the quota by 10
 END
 game "quotas = 5\n$a"
 explained "quotas that are no array" <<'END'
@@ -230,10 +242,22 @@ line 3: name = "A"
 END
 
 # ---- weights
-game "quota = 1\n$a[[member]]\nname = \"B\"\nweight = 16.5\n"
-explained "a weight with decimals" <<'END'
-line 7: weight = 16.5
+game "quota = 1 # of 1.2345\n[[member]]\nname = \"1.2345\"\nweight = 16.5\n[[member]]\nname = \"B\"\nweight = 83.50\n"
+explained "a weight with decimals, the most of which another has" <<'END'
+line 4: weight = 16.5
 16.5 is a number with a point: a weight is a whole number from 0 to 1000000000000, without quotes
+multiply all weights and the quota by 100
+END
+game "quota = 1\n${a/50/1e3}"
+explained "a weight with an exponent" <<'END'
+line 4: weight = 1e3
+1000.0 is a number with a point: a weight is a whole number from 0 to 1000000000000, without quotes
+END
+game "quota = 1\n${a/50/\"16 %%\"}"
+explained "a weight in percent" <<'END'
+line 4: weight = "16 %"
+"16 %" is a text: a weight is a whole number from 0 to 1000000000000, without quotes
+docs/STATUTES.md says how percentages and fractions become whole numbers
 END
 game "quota = 1\n${a/50/-50}"
 explained "a weight below 0" <<'END'
@@ -269,8 +293,27 @@ END
 # ---- files that are something else
 game 'name,weight\nA,50\nB,49\n'
 explained "a table with commas" <<'END'
-line 1, column 5: name,weight
+line 1: name,weight
+that looks like a table, with commas between its columns: docs/using/from_table.py makes a game file of it
+END
+game 'The fund\n\nHolder;Share in %%\nA;16,50\n'
+explained "a table with semicolons behind a title" <<'END'
+line 3: Holder;Share in %
+that looks like a table, with semicolons between its columns: docs/using/from_table.py makes a game file of it
+END
+game 'A\t16.50\nB\t49\n'
+explained "a table with TABs" <<'END'
+line 1: A 16.50
+that looks like a table, with TABs between its columns: docs/using/from_table.py makes a game file of it
+END
+game '# a, b\nquota 51\n'
+explained "a comment with a comma, and no table" <<'END'
+line 2, column 7: quota 51
 key with no value, expected `=`
+END
+game '\n'
+explained "a blank line" <<'END'
+the file holds no game: it has neither a quota nor a member
 END
 game '\377\376q\0u\0o\0t\0a\0'
 explained "a file saved as UTF-16" <<'END'
@@ -305,6 +348,13 @@ game '[51;\n 50, 49.5, 1]\n'
 explained "decimals in a bracket text" <<'END'
 line 2, column 8:  50, 49.5, 1]
 a comma or a bracket is expected here, behind the weight
+multiply all weights and the quota by 10
+END
+game '[66%%; 50, 49]\n'
+explained "a percentage in a bracket text" <<'END'
+line 1, column 4: [66%; 50, 49]
+a semicolon is expected here, behind the quota
+docs/STATUTES.md says how percentages and fractions become whole numbers
 END
 game '[51; 50,, 1]\n'
 explained "two commas" <<'END'
@@ -388,6 +438,35 @@ if [ "$status" -eq 3 ] && [ "$(wc -l <"$temp/err")" -eq 3 ] && ! grep -q "$(prin
     ok "explained: a text that would move the terminal"
 else
     failed "explained: a text that would move the terminal" "status $status: $(head -n 3 "$temp/err" | tr '\n' ';')"
+fi
+
+# ---- on a terminal: the option that says more of a fault or helps against it, and a weight that a comma made
+if needs python3 "a hint on a terminal"; then
+    echo '[51; 50, 49]' >"$temp/whole.txt"
+    echo '[51; 1,000, 49, 1]' >"$temp/thousands.txt"
+    echo '[51; 1,0000, 49, 1]' >"$temp/zeros.txt"
+    echo '[51; 50,, 1]' >"$temp/commas.txt"
+    equal_members 40 5 >"$temp/forty.txt"
+    if PYTHONPATH=$top/tests PYTHONDONTWRITEBYTECODE=1 timeout "$seconds" python3 - "$program" "$temp" >"$temp/told" 2>&1 <<'END'
+import sys
+from terminal import Run
+program, folder = sys.argv[1:]
+for words, status, told in (
+    (["whole.txt"], 0, ""),
+    (["zeros.txt"], 0, ""),
+    (["thousands.txt"], 0, "council: a weight 000 was read as 0: a comma ends a weight, also between thousands\r\n"),
+    (["commas.txt"], 3, "council: bad bracket text\r\n  --explain says where, and what is allowed\r\n"),
+    (["commas.txt", "--explain"], 3, "council: bad bracket text\r\n  line 1, column 9: [51; 50,, 1]\r\n"
+        "  a weight is expected here, a whole number\r\n"),
+    (["forty.txt", "--most", "5"], 4, "council: too many minimal winning coalitions\r\n  --tally counts any number of them\r\n"),
+):
+    run = Run([program, f"{folder}/{words[0]}", *words[1:]])
+    found = (run.read_all(), run.told.decode())
+    assert found == (status, told), (words, found)
+END
+    then ok "a hint on a terminal"; else failed "a hint on a terminal" "$(tail -n 1 "$temp/told")"; fi
+    run "$temp/thousands.txt" </dev/null
+    if succeeded "no hint elsewhere"; then ok "no hint elsewhere"; fi
 fi
 
 # ---- memory that is refused takes lines away, and changes nothing else

@@ -58,3 +58,35 @@ if [ -n "$first" ] && taskset -c "$first" true 2>/dev/null; then
 else
     skipped "$name" "the command taskset was not found, or no processor can be chosen"
 fi
+
+# ---- the stack that a run takes does not grow with its workers
+for words in "--workers 1" "--workers 4" "--workers 16" "--workers 16 --list"; do
+    name="a stack of 256 KB, $words"
+    read -ra options <<<"$words"
+    "$program" "${options[@]}" "$top/examples/eu-27-nice.toml" >"$temp/wanted" 2>/dev/null </dev/null
+    if (ulimit -s 256) 2>/dev/null; then
+        (
+            ulimit -s 256
+            exec timeout "$seconds" "$program" "${options[@]}" "$top/examples/eu-27-nice.toml"
+        ) >"$temp/out" 2>"$temp/err" </dev/null
+        status=$?
+        printed "$name" "$temp/wanted"
+    else
+        skipped "$name" "the stack can't be limited"
+    fi
+done
+name="a stack of 256 KB, a tally by sums; of 512 KB, by threads"
+if (ulimit -s 256) 2>/dev/null; then
+    "$program" --tally "$top/examples/eu-1995.toml" >"$temp/sums" 2>/dev/null </dev/null
+    "$program" --tally "$top/examples/eu-27-nice.toml" >"$temp/threads" 2>/dev/null </dev/null
+    (
+        ulimit -s 512
+        timeout "$seconds" "$program" --tally --workers 16 "$top/examples/eu-27-nice.toml" | cmp -s - "$temp/threads" || exit 1
+        ulimit -s 256
+        timeout "$seconds" "$program" --tally "$top/examples/eu-1995.toml" | cmp -s - "$temp/sums"
+    ) 2>"$temp/err" </dev/null
+    status=$?
+    if [ $status -eq 0 ] && [ -s "$temp/sums" ] && [ -s "$temp/threads" ]; then ok "$name"; else failed "$name" "$(head -n 1 "$temp/err")"; fi
+else
+    skipped "$name" "the stack can't be limited"
+fi

@@ -3,7 +3,7 @@
 # it has come.
 . "$(dirname "$0")/common.sh"
 
-# these take less than a second, by sums milliseconds; without sums some would take minutes
+# these take less than a second, by sums milliseconds; one by one some would take minutes
 limit=$((seconds / 6))
 for game in "$top"/examples/*.toml "$top"/examples/*.txt; do
     run --tally "$game"
@@ -197,27 +197,81 @@ END
     if succeeded "a long tally without a terminal"; then ok "a long tally without a terminal"; fi
 fi
 
-# ---- what memory sums take: a little for weights up to 1,000, and never much, also where they give up at last
-if needs python3 "the memory of tallies by sums"; then
+# ---- one rule, or a rule and heads, of weights that have nothing in common: the figures of another program, which counts each
+# member beside the others, in place of leaving it out
+# random MEMBERS MOST: as many weights up to that, in `weights`, and their total
+random() {
+    local x=7 member draw weight
+    weights=()
+    total=0
+    for ((member = 0; member < $1; member++)); do
+        weight=0
+        for draw in 1 2 3; do
+            x=$(((75 * x + 74) % 65537))
+            weight=$((weight * 65537 + x))
+        done
+        weights+=($((weight % $2 + 1)))
+        total=$((total + weight % $2 + 1))
+    done
+}
+# shares HOLDERS: of the first 10^9, and of each other as much less as its rank
+shares() {
+    local rank
+    weights=()
+    total=0
+    for ((rank = 1; rank <= $1; rank++)); do
+        weights+=($((1000000000 / rank)))
+        total=$((total + 1000000000 / rank))
+    done
+}
+# counted NAME FILE MINIMAL FIRST LAST: how many there are, and how many have the first member and the last
+counted() {
+    run --tally --workers 1 "$2"
+    if succeeded "$1"; then
+        awk '$1 == "minimal" { print $2 } $1 == "member" { print $4 }' "$temp/out" | sed -n '1p; 2p; $p' >"$temp/found"
+        if [ "$(cat "$temp/found")" = "$3"$'\n'"$4"$'\n'"$5" ]; then ok "$1"; else failed "$1" "$(tr '\n' ' ' <"$temp/found")"; fi
+    fi
+}
+# bracket QUOTA: a game of one rule of `weights`
+bracket() {
+    local rest
+    printf -v rest ', %s' "${weights[@]}"
+    echo "[$1; ${rest#, }]" >"$temp/half.txt"
+}
+limit=$((seconds / 6))
+random 40 100000
+bracket $((total / 2 + 1))
+counted "40 random weights up to 100,000" "$temp/half.txt" 6084939789 3064740073 3084293898
+random 40 1000000000000
+bracket $((total / 2 + 1))
+counted "40 random weights up to 10^12" "$temp/half.txt" 4373613453 2195520996 1959310211
+shares 36
+bracket $((total / 2 + 1))
+counted "36 holders of shares" "$temp/half.txt" 983479665 512653271 477218840
+random 36 100000000
+{
+    echo "quotas = [$((total * 65 / 100)), 20]"
+    for ((member = 0; member < 36; member++)); do
+        printf '[[member]]\nname = "%s"\nweights = [%s, 1]\n' "$member" "${weights[member]}"
+    done
+} >"$temp/persons.toml"
+counted "36 states by persons, and 20 heads" "$temp/persons.toml" 394303398 182415240 237664887
+limit=$seconds
+
+# ---- what memory a tally of one rule takes: a little for weights up to 1,000, and never much
+if needs python3 "the memory of tallies of one rule"; then
     if timeout "$seconds" python3 - "$program" "$temp" >"$temp/told" 2>&1 <<'END'
 import os, random, subprocess, sys
 rng = random.Random(7)
-for most, limit, told in [(1000, 64_000, True), (10**12, 160_000, False)]:
+for most, limit in [(1000, 32_000), (10**12, 64_000)]:
     weights = [rng.randrange(most // 2, most) + 1 for _ in range(40)]
     game = f"{sys.argv[2]}/heavy.txt"
     with open(game, "w", encoding="utf-8") as it:
         it.write(f"[{sum(weights) * 3 // 8}; {', '.join(map(str, weights))}]")
     made = subprocess.Popen([sys.argv[1], "--tally", game], stdout=subprocess.PIPE)
-    if told:
-        assert made.stdout.read().startswith(b"members\t40\n")
-    else:
-        # sums have given up long before
-        try:
-            made.wait(3)
-        except subprocess.TimeoutExpired:
-            made.kill()
+    assert made.stdout.read().startswith(b"members\t40\n")
     _, _, used = os.wait4(made.pid, 0)
     assert used.ru_maxrss < limit, (most, used.ru_maxrss)
 END
-    then ok "the memory of tallies by sums"; else failed "the memory of tallies by sums" "$(tail -n 1 "$temp/told")"; fi
+    then ok "the memory of tallies of one rule"; else failed "the memory of tallies of one rule" "$(tail -n 1 "$temp/told")"; fi
 fi

@@ -1,5 +1,5 @@
 #!/usr/bin/env bash
-# The programs of docs/using on the stored reports, and the commands of docs/USING.md.
+# The programs of docs/using on the stored reports, and the commands of README.md, docs/USING.md and docs/STATUTES.md.
 . "$(dirname "$0")/common.sh"
 cd "$top" || exit 1
 export PYTHONDONTWRITEBYTECODE=1
@@ -73,7 +73,7 @@ shows() {
 }
 mkdir "$temp/bin"
 ln -s "$program" "$temp/bin/council"
-for document in docs/USING.md docs/STATUTES.md; do
+for document in README.md docs/USING.md docs/STATUTES.md; do
     number=0
     while IFS= read -r line; do
         case $line in
@@ -86,5 +86,5 @@ for document in docs/USING.md docs/STATUTES.md; do
         *) [ -z "$command" ] || printf '%s\n' "$line" >>"$temp/wanted" ;;
         esac
     done <$document
-    if [ "$number" -ge 4 ]; then ok "$document has commands"; else failed "$document has commands" "$number"; fi
+    if [ "$number" -ge 2 ]; then ok "$document has commands"; else failed "$document has commands" "$number"; fi
 done

@@ -84,7 +84,7 @@ run.pause(0.1, 1.2)
 status = run.read_all()
 assert status == 4, status
 assert b"is begun" in run.told, run.told[:60]
-assert run.told.endswith(b"\r\x1b[Kcouncil: too many minimal winning coalitions\r\n"), run.told[-80:]
+assert run.told.endswith(b"\r\x1b[Kcouncil: too many minimal winning coalitions\r\n  --tally counts any number of them\r\n"), run.told[-120:]
 END
     then ok "a late fault on a terminal"; else failed "a late fault on a terminal" "$(tail -n 1 "$temp/told")"; fi
     # the same game where all are wanted: once it is told of, each slice is, one after the other; the line is wiped

@@ -341,7 +341,8 @@ def game_of(data, quotas, words):
     check_names(members)
     left_out += unused(table.rows[columns.heading :][: len(members)], columns, words)
 
-    comments = [f"From a table of {len(members)} members, by from_table.py; {quoted(table.delimiter)} stands between the columns"]
+    number = "1 member" if len(members) == 1 else f"{len(members)} members"
+    comments = [f"From a table of {number}, by from_table.py; {quoted(table.delimiter)} stands between the columns"]
     if decimal:
         comments[0] += f", and {quoted(decimal)} before the decimals"
     rules, weighed = [], iter(range(len(read)))

@@ -7,7 +7,8 @@ ghost use Rattle.council_report.specs.Report.{report};
 ghost use Rattle.council_run.specs.Run.{Reports, Stops};
 ghost use Rattle.council.specs.Inner.Wants.{IsTaken, lines_wanted};
 
-use council_explain::{explain, shown};
+use council_explain::{explain, remark, shown};
+use council_game::GameFault;
 use council_progress::{Line, Progress};
 use council_run::{Cause, Options, RunFault, Watch, run, status, tally};
 use council_streams::{Kept, Wiping};
@@ -43,6 +44,17 @@ fn say_more(rt: &(impl Eprint + AllocGlobal), cause: Cause, bytes: &[u8]) {
         }
         _ => {}
     }
+}
+
+/// Names on a terminal the option that says more of a fault, or that helps against it.
+fn hint(rt: &impl Eprint, cause: Cause) {
+    let line = match cause {
+        Cause::Game(GameFault::Memory) => return,
+        Cause::Game(_) => "--explain says where, and what is allowed",
+        Cause::Gather(GatherFault::TooMany) => "--tally counts any number of them",
+        _ => return,
+    };
+    let _ = eprintln!(rt; "  {line}");
 }
 
 /// The longest path that is shown, in characters.
@@ -138,7 +150,7 @@ fn run_on<R: AllocGlobal + Print + Eprint + Clock + Threads + Wait + Sync, I: io
     reader: &mut I,
 ) -> ExitCode {
     let alloc = rt.alloc();
-    let mut reader = Kept::new(alloc, reader, wanted.explain);
+    let mut reader = Kept::new(alloc, reader, wanted.explain || terminal);
     let progress = Progress::new(rt, terminal);
     let mut writer = Wiping {
         line: Line(&progress),
@@ -147,10 +159,17 @@ fn run_on<R: AllocGlobal + Print + Eprint + Clock + Threads + Wait + Sync, I: io
     let answered = answer(rt, wanted, &mut reader, &progress, &mut writer);
     progress.wipe();
     match answered {
-        Ok(_) => ExitCode::SUCCESS,
+        Ok(_) => {
+            if terminal && let Some(remark) = reader.bytes().and_then(remark) {
+                let _ = eprintln!(rt; "council: {remark}");
+            }
+            ExitCode::SUCCESS
+        }
         Err(fault) => {
             let code = stop(rt, fault);
-            if let Some(bytes) = reader.bytes() {
+            if !wanted.explain && terminal {
+                hint(rt, fault.cause);
+            } else if let Some(bytes) = reader.bytes() {
                 say_more(rt, fault.cause, bytes);
             }
             code

@@ -1,6 +1,7 @@
 //! What a fault says of a bracket text.
 use crate::file::index_of;
 use crate::grammar::{Read, first_misfit};
+use crate::remedies::say_remedy_at;
 use crate::rules::say_range;
 use crate::said::Part::{Number, Text};
 use crate::said::Said;
@@ -47,7 +48,8 @@ fn say_grammar(said: &mut Said, bytes: &[u8]) -> Result<(), Memory> {
     let (place, read) = first_misfit(bytes);
     let text = String::from_utf8_lossy(said.alloc(), bytes)?;
     say_place(said, text.as_str(), place)?;
-    said.line(&[read.wanted()])
+    said.line(&[read.wanted()])?;
+    say_remedy_at(said, bytes, place)
 }
 
 /// Says which weight is too great.
@@ -97,5 +99,35 @@ pub(crate) fn say_bracket(said: &mut Said, bytes: &[u8], fault: GameFault) -> Re
     match numbers.as_slice() {
         [quota, weights @ ..] => say_numbers(said, *quota, weights, fault),
         [] => Ok(()),
+    }
+}
+
+/// Whether some number of a text is written as three zeros.
+fn has_three_zeros(bytes: &[u8]) -> bool {
+    let mut zeros = 0u8;
+    let mut others = false;
+    for byte in bytes {
+        if *byte == b'0' {
+            zeros = zeros.saturating_add(1);
+        } else if byte.is_ascii_digit() {
+            others = true;
+        } else {
+            if zeros == 3 && !others {
+                return true;
+            }
+            zeros = 0;
+            others = false;
+        }
+    }
+    false
+}
+
+/// What is to be said of a game that was read, where another may be meant: of a bracket text with a weight `000`, as a comma
+/// between thousands makes one. The bytes are those of the file.
+pub fn remark(bytes: &[u8]) -> Option<&'static str> {
+    if is_bracket(bytes) && has_three_zeros(bytes) {
+        Some("a weight 000 was read as 0: a comma ends a weight, also between thousands")
+    } else {
+        None
     }
 }

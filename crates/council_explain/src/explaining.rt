@@ -1,8 +1,10 @@
 //! What a fault says of a file.
 use crate::bracket::{is_bracket, say_bracket};
 use crate::file::File;
+use crate::remedies::say_remedy_at;
 use crate::said::Said;
 use crate::source::say_place;
+use crate::tables::say_table;
 use council_game::{GameFault, Memory};
 use std::alloc::Global;
 
@@ -22,10 +24,15 @@ fn say_encoding(said: &mut Said, bytes: &[u8], known: usize) -> Result<(), Memor
 
 /// Says why a text is not TOML.
 fn say_text(said: &mut Said, text: &str, error: &toml::de::Error) -> Result<(), Memory> {
-    if let Some(range) = error.span() {
-        say_place(said, text, range.start)?;
+    if say_table(said, text)? {
+        return Ok(());
     }
+    let Some(range) = error.span() else {
+        return said.line(&[error.message()]);
+    };
+    say_place(said, text, range.start)?;
     said.line(&[error.message()])?;
+    say_remedy_at(said, text.as_bytes(), range.start)?;
     if is_bracket(text.as_bytes()) {
         said.line(&["a byte order mark stands before the bracket: save the file without one"])?;
     }

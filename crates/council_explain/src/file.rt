@@ -1,4 +1,5 @@
 //! What a fault says of a file in TOML: its keys, title and quota.
+use crate::remedies::{is_share, say_factor, say_statutes};
 use crate::said::Part::{Shown, Text};
 use crate::said::Said;
 use crate::source::Source;
@@ -69,6 +70,21 @@ impl<'a> File<'a> {
         self.source.say(said, self.source.member_key(index, key))
     }
 
+    /// Says what a value is that is no whole number, what is wanted in its place, and what helps.
+    pub(crate) fn say_number(
+        &self,
+        said: &mut Said,
+        value: &Value,
+        wanted: &str,
+    ) -> Result<(), Memory> {
+        say_value(said, value, wanted)?;
+        match value {
+            Value::Float(_) => say_factor(said, self.source.plain()),
+            Value::String(text) if is_share(text.as_str()) => say_statutes(said),
+            _ => Ok(()),
+        }
+    }
+
     /// Says that the member with this index has a key that is not one of its own.
     fn say_key_of_member(&self, said: &mut Said, index: usize, key: &str) -> Result<(), Memory> {
         self.say_place(said, index, key)?;
@@ -114,7 +130,14 @@ impl<'a> File<'a> {
     fn say_quota(&self, said: &mut Said) -> Result<(), Memory> {
         self.say_key(said, "quota")?;
         match self.table.get("quota") {
-            Some(value) => say_value(said, value, "a quota is a whole number, without quotes"),
+            Some(value) => self.say_number(
+                said,
+                value,
+                "a quota is a whole number, without quotes",
+            ),
+            None if self.table.is_empty() => said.line(&[
+                "the file holds no game: it has neither a quota nor a member",
+            ]),
             None => said.line(&[
                 "the file has no quota: write a line such as quota = 51 before the members",
             ]),

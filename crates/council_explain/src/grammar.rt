@@ -5,13 +5,13 @@
 pub(crate) enum Read {
     Nothing,
     Opening,
-    /// So many digits of the quota.
+    /// The quota, of this number of digits.
     Quota(u8),
     /// Blanks behind the quota.
     QuotaEnd,
     /// A semicolon, or a comma.
     Mark,
-    /// So many digits of a weight.
+    /// A weight, of this number of digits.
     Weight(u8),
     /// Blanks behind a weight.
     WeightEnd,

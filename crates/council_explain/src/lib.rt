@@ -11,10 +11,13 @@ mod explaining;
 mod file;
 mod grammar;
 mod members;
+mod remedies;
 mod rules;
 mod said;
 mod source;
+mod tables;
 mod values;
 
+pub use bracket::remark;
 pub use explaining::explain;
 pub use said::shown;

@@ -82,7 +82,7 @@ impl<'a> File<'a> {
             None => said.line(&["the member has no ", key, ": each member has its own"]),
             Some(Value::Array(weights)) if several => self.say_weights(said, weights.as_slice()),
             Some(value) if several => say_value(said, value, wanted),
-            Some(value) => say_one_weight(said, value),
+            Some(value) => self.say_one_weight(said, value),
         }
     }
 
@@ -100,22 +100,22 @@ impl<'a> File<'a> {
         for weight in weights {
             match weight {
                 Value::Integer(n) if 0 <= *n && (*n as u64) <= limits::WEIGHT => {}
-                _ => return say_one_weight(said, weight),
+                _ => return self.say_one_weight(said, weight),
             }
         }
         Ok(())
     }
-}
 
-/// Says what is wrong with a weight.
-fn say_one_weight(said: &mut Said, value: &Value) -> Result<(), Memory> {
-    if !value.is_integer() {
-        let wanted = "a weight is a whole number from 0 to 1000000000000, without quotes";
-        return say_value(said, value, wanted);
+    /// Says what is wrong with a weight.
+    fn say_one_weight(&self, said: &mut Said, value: &Value) -> Result<(), Memory> {
+        if !value.is_integer() {
+            let wanted = "a weight is a whole number from 0 to 1000000000000, without quotes";
+            return self.say_number(said, value, wanted);
+        }
+        let text = value_text(said.alloc(), value)?;
+        said.line(&[
+            text.as_str(),
+            " is out of range: a weight is from 0 to 1000000000000",
+        ])
     }
-    let text = value_text(said.alloc(), value)?;
-    said.line(&[
-        text.as_str(),
-        " is out of range: a weight is from 0 to 1000000000000",
-    ])
 }

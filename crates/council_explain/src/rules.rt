@@ -23,27 +23,27 @@ pub(crate) fn say_range<'t>(
     ])
 }
 
-/// Says what is wrong with quotas; whether there is.
-fn say_quotas(said: &mut Said, value: &Value) -> Result<bool, Memory> {
-    let Value::Array(quotas) = value else {
-        say_value(said, value, "quotas are an array of 1 to 4 whole numbers")?;
-        return Ok(true);
-    };
-    if quotas.is_empty() || limits::RULES < quotas.len() {
-        let wanted = "quotas are 1 to 4 whole numbers";
-        said.count("there are ", quotas.len(), " of them: ", wanted)?;
-        return Ok(true);
-    }
-    for quota in quotas.as_slice() {
-        if !quota.is_integer() {
-            say_value(said, quota, "quotas are 1 to 4 whole numbers")?;
+impl<'a> File<'a> {
+    /// Says what is wrong with quotas; whether there is.
+    fn say_quotas(&self, said: &mut Said, value: &Value) -> Result<bool, Memory> {
+        let Value::Array(quotas) = value else {
+            say_value(said, value, "quotas are an array of 1 to 4 whole numbers")?;
+            return Ok(true);
+        };
+        if quotas.is_empty() || limits::RULES < quotas.len() {
+            let wanted = "quotas are 1 to 4 whole numbers";
+            said.count("there are ", quotas.len(), " of them: ", wanted)?;
             return Ok(true);
         }
+        for quota in quotas.as_slice() {
+            if !quota.is_integer() {
+                self.say_number(said, quota, "quotas are 1 to 4 whole numbers")?;
+                return Ok(true);
+            }
+        }
+        Ok(false)
     }
-    Ok(false)
-}
 
-impl<'a> File<'a> {
     /// Says which member has a key that does not go with that of the quota.
     fn say_mixed(&self, said: &mut Said, key: &str) -> Result<(), Memory> {
         for index in 0..self.members().len() {
@@ -65,7 +65,7 @@ impl<'a> File<'a> {
             self.say_key(said, "quota")?;
             return said.line(&["quota and quotas are both there: a game has one of them"]);
         }
-        if say_quotas(said, quotas)? {
+        if self.say_quotas(said, quotas)? {
             return Ok(());
         }
         self.say_mixed(said, "weight")

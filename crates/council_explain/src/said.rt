@@ -93,7 +93,7 @@ fn is_harmful(letter: char) -> bool {
         )
 }
 
-/// A text that is not the program's own as it can stand in a line: at most so many characters of it, and a blank in place of
+/// A text that is not the program's own as it can stand in a line: at most `most` characters of it, and a blank in place of
 /// each that moves a terminal, ends a line, turns the direction of writing, or shows nothing.
 ///
 /// # Errors

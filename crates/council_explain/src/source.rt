@@ -114,6 +114,11 @@ impl<'a> Source<'a> {
         Ok(Source { text, plain })
     }
 
+    /// The text with blanks in place of comments and of what stands in quotes.
+    pub(crate) fn plain(&self) -> &[u8] {
+        self.plain.as_slice()
+    }
+
     /// Where a key stands first, from one place up to another.
     fn key_between(&self, key: &str, from: usize, to: usize) -> Option<usize> {
         let mut inside = false;
@@ -131,7 +136,7 @@ impl<'a> Source<'a> {
         self.key_between(key, 0, self.plain.len())
     }
 
-    /// The place of the member with this index: the one behind so many headers, or else behind so many braces.
+    /// The place of the member with this index: behind the header, or else the brace, that has this index among its like.
     fn member_by(&self, by_header: bool, index: usize) -> Option<usize> {
         let mut left = index;
         for place in 0..self.plain.len() {

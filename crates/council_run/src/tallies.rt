@@ -40,6 +40,24 @@ fn without_list(options: &Options) -> Shown
     }
 }
 
+/// The counts of all minimal winning coalitions of a game, by worker threads that walk over them. (By itself, so
+/// that sums do not take the stack that threads want.)
+#[inline(never)]
+fn count_by_threads<T: Threads + Wait + Sync, V: Watch + Sync>(
+    rt: &T,
+    alloc: Global,
+    game: &Game,
+    options: &Options,
+    watch: &V,
+) -> Result<Counts, TallyFault>
+    ensures counts { IfOk result
+        (λ c. AreCounts game.now (minimal_coalitions (votes_of game.now)) c) }
+    ensures stopped { result ≡ Err TallyFault.Stopped → V.may_stop }
+{
+    let bits = options.bits.max(LEAST_BITS).min(game.members() as u8);
+    mwc_tally::tally(rt, alloc, game, bits, options.workers, watch)
+}
+
 /// The counts of all minimal winning coalitions of a game: by sums where these serve, else by worker threads
 /// that walk over them.
 fn count<T: Threads + Wait + Sync, V: Watch + Sync>(
@@ -56,8 +74,7 @@ fn count<T: Threads + Wait + Sync, V: Watch + Sync>(
     if let Some(counts) = count_by_sums(alloc, game)? {
         return Ok(counts);
     }
-    let bits = options.bits.max(LEAST_BITS).min(game.members() as u8);
-    mwc_tally::tally(rt, alloc, game, bits, options.workers, watch)
+    count_by_threads(rt, alloc, game, options, watch)
 }
 
 /// Counts and writes: all that a tally does with a game.

@@ -1,4 +1,4 @@
-//! Counts by sums: against binomial numbers, against every subset and against the threads.
+//! Counts by sums and by halves: against binomial numbers, against every subset and against the threads.
 mod refusals;
 
 use crate::helpers::same;
@@ -165,43 +165,51 @@ fn forty_equal_members_by_binomial_numbers(rt: HostRuntime) -> Result<(), Fail> 
     Ok(())
 }
 
-/// A game of so many members whose weights have nothing in common, from 1,000,000 to 2,048,575: half of
-/// their total is asked for.
-fn uneven_game(alloc: Global, members: usize) -> Result<Game, GameFault> {
+/// A game of so many members whose weights have nothing in common, from 10^12 - 2^34 on, in pairs where they are
+/// to be ties: a part of their total is asked for, of 8.
+fn uneven_game(alloc: Global, members: usize, parts: u64, ties: bool) -> Result<Game, GameFault> {
     let mut weights = Vec::new(alloc);
     let mut state = 1;
     let mut total: u64 = 0;
-    for _ in 0..members {
-        state = next(state);
-        let weight = 1_000_000 + (state >> 44);
+    for place in 0..members {
+        if place % 2 == 0 || !ties {
+            state = next(state);
+        }
+        let weight = 1_000_000_000_000 - (state >> 30);
         weights.push(weight)?;
         total = total.saturating_add(weight);
     }
-    game(alloc, total / 2, &weights)
+    let quota = total.saturating_mul(parts) / 8;
+    game(alloc, quota.max(1), &weights)
 }
 
-/// Whether sums serve for a game.
-fn is_taken(alloc: Global, game: &Game) -> bool {
-    count_by_sums(alloc, game).is_ok_and(|counts| counts.is_some())
-}
-
-/// The rows of the pass over all members have 935,790 entries for 22 members and 1,728,884 for 23, as a script
-/// counted them; there is room for 1,048,576. Rows of weights near 10^12 that have nothing in common double with
-/// each member: there are more than 2^20 needs at one place.
+/// Sums have no room for these rows, so that the sets of two halves are counted.
 #[test]
-fn as_much_room_as_is_said(rt: HostRuntime) -> Result<(), Fail> {
+fn halves_as_all_subsets(rt: HostRuntime) -> Result<(), Fail> {
     let alloc = rt.alloc();
-    let within = uneven_game(alloc, 22)?;
-    let found = by_sums(alloc, &within)?;
-    same_counts(&rt, &found, &tally(&rt, alloc, &within, 0, 2, &NoWatch)?);
-    assert!(rt; !is_taken(alloc, &uneven_game(alloc, 23)?));
-    let mut weights = [0; 40];
-    let mut state = 1;
-    for member in 0..40 {
-        state = next(state);
-        weights[member] = 1_000_000_000_000 - (state >> 30);
+    for members in [1, 2, 3, 11, 12] {
+        for parts in [0, 1, 3, 4, 7, 8] {
+            for ties in [false, true] {
+                let game = uneven_game(alloc, members, parts, ties)?;
+                let found = by_sums(alloc, &game)?;
+                same_counts(&rt, &found, &by_subsets(&rt, alloc, &game)?);
+            }
+        }
     }
-    assert!(rt; !is_taken(alloc, &game(alloc, 15_000_000_000_000, &weights)?));
+    Ok(())
+}
+
+#[test]
+fn halves_as_the_threads(rt: HostRuntime) -> Result<(), Fail> {
+    let alloc = rt.alloc();
+    for members in [19, 20] {
+        for parts in [0, 2, 4, 5, 8] {
+            let game = uneven_game(alloc, members, parts, parts == 5)?;
+            let found = by_sums(alloc, &game)?;
+            let wanted = tally(&rt, alloc, &game, 0, 2, &NoWatch)?;
+            same_counts(&rt, &found, &wanted);
+        }
+    }
     Ok(())
 }
 
@@ -283,6 +291,7 @@ fn game_of_two(rt: &impl Abort, alloc: Global, second: &[u64]) -> Result<Game, F
 
 #[test]
 fn a_second_rule_of_other_weights_is_not_taken(rt: HostRuntime) -> Result<(), Fail> {
-    assert!(rt; !is_taken(rt.alloc(), &game_of_two(&rt, rt.alloc(), &[1, 2])?));
+    let game = game_of_two(&rt, rt.alloc(), &[1, 2])?;
+    assert!(rt; count_by_sums(rt.alloc(), &game).is_ok_and(|counts| counts.is_none()));
     Ok(())
 }

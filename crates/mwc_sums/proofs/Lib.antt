@@ -13,4 +13,5 @@ pub mod SetLaws
 pub mod SetLists
 pub mod FittingSets
 pub mod HalfSums
+pub mod VetoLaw
 pub mod AlikeRules

@@ -5,3 +5,4 @@ pub mod Completing
 pub mod Heads
 pub mod Inner
 pub mod Orders
+pub mod Vetoers

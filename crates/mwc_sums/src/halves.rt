@@ -6,7 +6,7 @@ ghost use Rattle.mwc_sums.specs.Inner.Sets.{AreSets, IsHalf, completed, ended, m
 ghost use Rattle.std.specs.Prelude.{◌≡◌, ℕ, ◌+◌, ◌-◌, ◌<◌, ◌≤◌, ◌++◌, List, IfOk, IsTrue, length, slice_index, slice_index_or, sum, sum_by};
 
 use crate::fitting::Fitting;
-use crate::sets::{Set, sets};
+use crate::sets::{Set, fill};
 use crate::tallies::{Tallies, difference};
 use council_game::{Memory, limits};
 use power_index::Tally;
@@ -83,18 +83,27 @@ fn endings_of(first: &[Set], second: &[Set], quota: u64, heads: usize) -> [u64; 
     sizes
 }
 
-/// The sets of members without one of them.
-fn sets_without(alloc: Global, weights: &[u64], place: usize) -> Result<Vec<Set>, Memory>
-    requires few { length weights.now ≤ 20 }
-    requires light { sum weights.now ≤ TOTAL }
-    requires place { place < length weights.now }
-    ensures are { IfOk result (λ sets. AreSets (left_out place weights.now) sets.items) }
-    ensures half { IfOk result (λ sets. IsHalf sets.items) }
-{
-    let mut others = weights.to_vec(alloc)?;
-    others.remove(place);
-    let fewer = sets(alloc, &others)?;
-    Ok(fewer)
+/// All sets of some members but one, and room to make them.
+#[derive(Drop)]
+struct Others {
+    sets: Vec<Set>,
+    spare: Vec<Set>,
+}
+
+impl Others {
+    /// Makes them those of members with these weights, without that of a place.
+    fn leave_out(&mut self, alloc: Global, weights: &[u64], place: usize) -> Result<(), Memory>
+        requires few { length weights.now ≤ 20 }
+        requires light { sum weights.now ≤ TOTAL }
+        requires place { place < length weights.now }
+        ensures are { IfOk result (λ _. AreSets (left_out place weights.now) self.new.sets.items) }
+        ensures half { IfOk result (λ _. IsHalf self.new.sets.items) }
+    {
+        let mut left = weights.to_vec(alloc)?;
+        left.remove(place);
+        fill(&left, &mut self.sets, &mut self.spare)?;
+        Ok(())
+    }
 }
 
 /// All sets of the first half of the members and all of the second.
@@ -105,15 +114,17 @@ struct Halves {
 }
 
 impl Halves {
-    /// The sets of members with these weights.
-    fn new(alloc: Global, weights: &[u64]) -> Result<Halves, Memory>
+    /// The sets of members with these weights; a list is room to make them.
+    fn new(alloc: Global, weights: &[u64], spare: &mut Vec<Set>) -> Result<Halves, Memory>
         requires few { length weights.now ≤ MEMBERS }
         requires light { sum weights.now ≤ TOTAL }
         ensures { IfOk result (AreHalves weights.now) }
     {
         let (front, back) = weights.split_at(weights.len() / 2);
-        let first = sets(alloc, front)?;
-        let second = sets(alloc, back)?;
+        let mut first = Vec::new(alloc);
+        fill(front, &mut first, spare)?;
+        let mut second = Vec::new(alloc);
+        fill(back, &mut second, spare)?;
         Ok(Halves { first, second })
     }
 
@@ -126,6 +137,7 @@ impl Halves {
         place: usize,
         quota: u64,
         heads: usize,
+        others: &mut Others,
     ) -> Result<[u64; limits::SIZES], Memory>
         requires few { length weights.now ≤ MEMBERS }
         requires light { sum weights.now ≤ TOTAL }
@@ -138,11 +150,11 @@ impl Halves {
     {
         let (front, back) = weights.split_at(weights.len() / 2);
         if place < front.len() {
-            let fewer = sets_without(alloc, front, place)?;
-            return Ok(endings_of(&fewer, &self.second, quota, heads));
+            others.leave_out(alloc, front, place)?;
+            return Ok(endings_of(&others.sets, &self.second, quota, heads));
         }
-        let fewer = sets_without(alloc, back, place - front.len())?;
-        Ok(endings_of(&self.first, &fewer, quota, heads))
+        others.leave_out(alloc, back, place - front.len())?;
+        Ok(endings_of(&self.first, &others.sets, quota, heads))
     }
 }
 
@@ -170,7 +182,11 @@ pub(crate) fn by_halves(
         endings (left_out p weights.now) heads s quota 0 ≤ endings weights.now heads s quota 0 }
     ensures { IfOk result (AreAllEndings weights.now heads quota) }
 {
-    let halves = Halves::new(alloc, weights)?;
+    let mut others = Others {
+        sets: Vec::new(alloc),
+        spare: Vec::new(alloc),
+    };
+    let halves = Halves::new(alloc, weights, &mut others.spare)?;
     let all = Tally {
         sizes: endings_of(&halves.first, &halves.second, quota, heads),
     };
@@ -179,7 +195,7 @@ pub(crate) fn by_halves(
         if is_alike(weights, place) {
             each[place] = each[place - 1];
         } else {
-            let without = halves.endings_without(alloc, weights, place, quota, heads)?;
+            let without = halves.endings_without(alloc, weights, place, quota, heads, &mut others)?;
             each[place] = difference(&all, &without);
         }
     }

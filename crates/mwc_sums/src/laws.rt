@@ -1,9 +1,10 @@
 //! Laws of the definitions, with nothing to run.
-ghost use Rattle.council_game.specs.Votes.{IsVotes, Votes, minimal, minimal_coalitions, rule_at};
+ghost use Rattle.council_game.specs.Votes.{IsVotes, Votes, has, minimal, minimal_coalitions, rule_at, wins};
 ghost use Rattle.mwc_sums.specs.Completing.{completing};
 ghost use Rattle.council_game.specs.Game.{GameView, IsGame, votes_of};
 ghost use Rattle.mwc_sums.specs.Heads.{AsksForHeads, IsMinimalByHeads};
 ghost use Rattle.mwc_sums.specs.Orders.{HaveTheSameRules};
+ghost use Rattle.mwc_sums.specs.Vetoers.{IsVetoer};
 ghost use Rattle.power_index.specs.Tables.{AreCounts, Tables};
 ghost use Rattle.std.specs.Prelude.{◌≡◌, ℕ, ◌<◌, ◌^◌, ◌↔◌, true, length};
 
@@ -29,4 +30,10 @@ pub fn minimal_coalitions_by_heads()
 pub fn counts_do_not_depend_on_the_order_of_rules()
     ensures { (g h : GameView) (t : Tables) → IsGame g → IsGame h → HaveTheSameRules g h
         → AreCounts h (minimal_coalitions (votes_of h)) t → AreCounts g (minimal_coalitions (votes_of g)) t }
+{}
+
+/// A member without whom the others miss the quota of some rule is in each winning coalition.
+pub fn vetoers_are_in_each_winning_coalition()
+    ensures { (v : Votes) (p c : ℕ) → IsVotes v → p < v.members → IsVetoer v p → c < 2 ^ v.members
+        → wins v.rules c ≡ true → has v.members p c ≡ true }
 {}

@@ -10,8 +10,17 @@ use council_game::{Memory, limits};
 use std::alloc::Global;
 use std::mem;
 
-/// All rows of one pass over the members together have at most so many entries.
-pub(crate) const ROOM: usize = 1 << 20;
+/// All rows of one pass over the members together never have more entries.
+const ROOM: usize = 1 << 20;
+
+/// So many entries all rows of one pass over the members may have together: twice as many as a half of the
+/// members has sets. With more of them the sets of the halves are counted sooner.
+fn room_for(members: usize) -> usize
+    requires { members ≤ MEMBERS }
+{
+    let half = 1usize << ((members + 1) / 2);
+    (2 * half).min(ROOM)
+}
 
 /// The row of the prefixes of the members that are decided, and room for the next.
 #[derive(Drop)]
@@ -100,7 +109,7 @@ impl Rows {
             + weigh (endings (drop place weights.now) heads.now.asked s) self.old.row.items) }
     {
         let mut rest = rest;
-        let mut room = ROOM;
+        let mut room = room_for(weights.len());
         for p in place..weights.len() {
             rest -= weights[p];
             let left = weights.len() - p - 1;

@@ -5,7 +5,6 @@ ghost use Rattle.coalitions.specs.declared.limits.TheConstants.{TOTAL};
 ghost use Rattle.mwc_sums.specs.Inner.Sets.{AreSets, Ascend, joined, left};
 
 use council_game::Memory;
-use std::alloc::Global;
 use std::mem;
 
 /// A set of members.
@@ -62,8 +61,7 @@ fn with_first(sets: &[Set], weight: u64, next: &mut Vec<Set>) -> Result<(), Memo
     ensures ascend { IfOk result (λ _. Ascend next.new.items) }
 {
     next.clear();
-    next.reserve(sets.len())?;
-    next.reserve(sets.len())?;
+    next.reserve(sets.len() * 2)?;
     let (mut i, mut j) = (0, 0);
     while i < sets.len() {
         let (out, with) = (sets[i].left(), sets[j].joined(weight));
@@ -82,24 +80,23 @@ fn with_first(sets: &[Set], weight: u64, next: &mut Vec<Set>) -> Result<(), Memo
     Ok(())
 }
 
-/// All sets of members with these weights, by weight.
-pub(crate) fn sets(alloc: Global, weights: &[u64]) -> Result<Vec<Set>, Memory>
+/// Makes a list all sets of members with these weights, by weight. A second list is room to make it.
+pub(crate) fn fill(weights: &[u64], sets: &mut Vec<Set>, spare: &mut Vec<Set>) -> Result<(), Memory>
     requires few { length weights.now ≤ 40 }
     requires light { sum weights.now ≤ TOTAL }
-    ensures { IfOk result (λ sets. AreSets weights.now sets.items) }
+    ensures { IfOk result (λ _. AreSets weights.now sets.new.items) }
 {
-    let mut sets = Vec::new(alloc);
+    sets.clear();
     sets.push(Set {
         weight: 0,
         size: 0,
         behind: 0,
     })?;
-    let mut next = Vec::new(alloc);
     let mut place = weights.len();
     while place > 0 {
         place -= 1;
-        with_first(&sets, weights[place], &mut next)?;
-        mem::swap(&mut sets, &mut next);
+        with_first(sets, weights[place], spare)?;
+        mem::swap(sets, spare);
     }
-    Ok(sets)
+    Ok(())
 }

@@ -1,7 +1,7 @@
 -- Parts of a list that lies in pieces.
 use Rattle.std.proofs.Common.{◌≡◌, ◌∙◌, ℕ, ◌+◌, ◌-◌, ◌<◌, ◌≤◌, zero, suc, min, List, [], ◌∷◌, ◌++◌, length, get_or, take, drop, sym, ap, arith, subst, length-append, length-drop, IfOk, Result, Ok, Err}
 use Rattle.std.specs.List.{All, flat_map}
-use Rattle.std.proofs.lemmas.List.{take_all, take_more, take_min, drop-drop, drop_min, length-take, take-append-drop, append-nil}
+use Rattle.std.proofs.lemmas.List.{take_all, take_more, take_min, drop_min, length-take, append-nil}
 use Rattle.std.proofs.lemmas.List.Concat.{flat_map-append}
 use Rattle.std.proofs.lemmas.List.Folds.{length-flat_map-take}
 use Rattle.council_game.specs.Game.{GameView}
@@ -77,10 +77,6 @@ row-is piece s l a m a-is m-is =
 pub rest-length : (piece : List ℕ) (s a : ℕ) → a ≡ min s (length piece) → length (take (length piece - a) (drop a piece)) ≡ length piece - s
 rest-length piece s a a-is = let one = length-take (length piece - a) (drop a piece) in let other =
     length-drop a piece in omega (arith, one, other, a-is)
-
--- what is past a part
-pub part-and-rest : (skip part : ℕ) (xs : List ℕ) → take part (drop skip xs) ++ drop (skip + part) xs ≡ drop skip xs
-part-and-rest skip part xs = rw (← drop-drop part skip xs) (take-append-drop part (drop skip xs))
 
 -- what a thread counted is what it was given to count
 pub is-part : (given : GivenPart) (g : GameView) (list : List ℕ) (skip most : ℕ) → IsGivenPart g list skip most given

@@ -100,7 +100,11 @@ pub fn tally_pieces<R: Threads + Wait + Sync>(
             ensures ok { IfOk result
                 (AreTallies game.entry.now (flat_map (λ p. p.now) pieces.entry.now)) }
             ensures err { IfErr result (λ fault. fault ≡ TallyFault.Start) }
-        { count_from(scope, rt, game, pieces, 0, part, threads - 1) },
+        {
+            let mut counts = Counts::none(game);
+            count_up_to(scope, rt, game, pieces, part, threads - 1, &mut counts)?;
+            Ok(counts)
+        },
     )
 }
 
@@ -132,33 +136,64 @@ fn start<'s, E>(
     scope.spawn_with(given, body).ok()
 }
 
-/// The counts of a list past its first `skip` coalitions, by so many other threads, each of which
-/// counts a part, and the calling one, which counts what is left: a part at most.
-fn count_from<'s, E, R: Threads>(
+/// Counts the first part of a list, in place of what was counted before.
+#[inline(never)]
+fn count_first(game: &Game, pieces: &[&[Coalition]], part: usize, counts: &mut Counts)
+    requires few { length (flat_map (λ p. p.now) pieces.now) ≤ 2 ^ MEMBERS }
+    requires coalitions { AreNonemptyCoalitions game.now (flat_map (λ p. p.now) pieces.now) }
+    ensures { AreTallies game.now (take part (flat_map (λ p. p.now) pieces.now)) counts.new }
+{
+    *counts = of_part(game, pieces, 0, part);
+}
+
+/// Joins the thread that counts the part behind the first `skip` coalitions, and adds its counts to theirs.
+#[inline(never)]
+fn add_part<'s, R: Threads>(
+    rt: &R,
+    game: &Game,
+    pieces: &[&[Coalition]],
+    skip: usize,
+    part: usize,
+    thread: Counting<'s>,
+    counts: &mut Counts,
+)
+    requires few { length (flat_map (λ p. p.now) pieces.now) ≤ 2 ^ MEMBERS }
+    requires given { IsGivenPart game.now (flat_map (λ p. p.now) pieces.now) skip part thread.promise }
+    requires before { AreTallies game.now (take skip (flat_map (λ p. p.now) pieces.now)) counts.old }
+    ensures { AreTallies game.now (take (skip + part) (flat_map (λ p. p.now) pieces.now)) counts.new }
+{
+    let own = thread.join(rt);
+    counts.add(&own);
+}
+
+/// The counts of the parts of a list up to one, which a thread counts; other threads count those before it, and the
+/// calling one the first. It calls itself for each thread, so that it keeps no counts of its own on the stack.
+fn count_up_to<'s, E, R: Threads>(
     scope: &Scope<'s, E>,
     rt: &R,
     game: &'s Game,
     pieces: &'s [&'s [Coalition]],
-    skip: usize,
     part: usize,
     others: u8,
-) -> Result<Counts, TallyFault>
+    counts: &mut Counts,
+) -> Result<(), TallyFault>
     requires few { length (flat_map (λ p. p.now) pieces.now) ≤ 2 ^ MEMBERS }
     requires coalitions { AreNonemptyCoalitions game.now (flat_map (λ p. p.now) pieces.now) }
-    requires room { skip + others * part ≤ 2 ^ 46 }
-    requires enough { length (flat_map (λ p. p.now) pieces.now) ≤ skip + (others + 1) * part }
-    ensures ok { IfOk result (AreTallies game.now (drop skip (flat_map (λ p. p.now) pieces.now))) }
+    requires room { part ≤ 2 ^ 41 }
+    ensures ok { IfOk result (λ _. AreTallies game.now
+        (take (others * part + part) (flat_map (λ p. p.now) pieces.now)) counts.new) }
     ensures err { IfErr result (λ fault. fault ≡ TallyFault.Start) }
 {
     if others == 0 {
-        return Ok(of_part(game, pieces, skip, part));
+        count_first(game, pieces, part, counts);
+        return Ok(());
     }
+    let skip = usize::from(others) * part;
     let Some(thread) = start(scope, game, pieces, skip, part) else {
         // memory: the thread was not started
         return Err(TallyFault::Start);
     };
-    let rest = count_from(scope, rt, game, pieces, skip + part, part, others - 1);
-    let mut counts = thread.join(rt);
-    counts.add(&rest?);
-    Ok(counts)
+    count_up_to(scope, rt, game, pieces, part, others - 1, counts)?;
+    add_part(rt, game, pieces, skip, part, thread, counts);
+    Ok(())
 }

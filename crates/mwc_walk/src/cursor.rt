@@ -39,8 +39,11 @@ pub(crate) struct Cursor {
     pub(crate) visits: u64,
 }
 
-/// Makes what the game has ahead. It stands apart, since a function pays at each call for the room of so large a value.
-fn make_ahead(game: &Game, ahead: &mut Option<Ahead>)
+/// Makes what the game has ahead. It stands apart since so large a value has its price at each call of a function that
+/// has room for it, made or not.
+#[cold]
+#[inline(never)]
+fn look_ahead(game: &Game, ahead: &mut Option<Ahead>)
     ensures { IfSome ahead.new (AheadIs (votes_of game.now)) }
 {
     *ahead = Some(Ahead::of(game));
@@ -96,7 +99,7 @@ impl Cursor {
             Step::End => None,
             Step::On => {
                 if ahead.is_none() {
-                    make_ahead(game, ahead);
+                    look_ahead(game, ahead);
                 }
                 self.next(game, ahead.as_ref())
             }
@@ -122,7 +125,7 @@ impl Cursor {
             step => return step,
         }
         if ahead.is_none() {
-            make_ahead(game, ahead);
+            look_ahead(game, ahead);
         }
         self.up_to(game, ahead.as_ref(), most)
     }

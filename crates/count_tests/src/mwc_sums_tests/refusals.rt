@@ -1,21 +1,33 @@
-//! The call, which takes memory. `tests/refusals.sh` refuses the allocations between the line `call` and the
-//! line of the answer.
+//! The calls that take memory, by sums and by halves. `tests/refusals.sh` refuses the allocations between the line `call` and
+//! the line of the answer.
 use super::*;
 use std::io::Print;
 
-#[test]
-fn counts_by_sums(rt: HostRuntime) -> Result<(), Fail> {
-    let alloc = rt.alloc();
-    let game = random_game_of_heads(&rt, alloc, 200, 100, true)?;
-    let wanted = by_subsets(&rt, alloc, &game)?;
+/// Calls it for a game of at most 20 members that it takes.
+fn counts<R: Abort + Print>(rt: &R, alloc: Global, game: &Game) -> Result<(), Fail> {
+    let wanted = by_subsets(rt, alloc, game)?;
     rt.println("call")?;
-    match count_by_sums(alloc, &game) {
+    match count_by_sums(alloc, game) {
         Ok(Some(counts)) => {
             rt.println("worked")?;
-            same_counts(&rt, &counts, &wanted);
+            same_counts(rt, &counts, &wanted);
         }
         Ok(None) => rt.println("not taken")?,
         Err(_) => rt.println("out of memory")?,
     }
     Ok(())
+}
+
+#[test]
+fn counts_by_sums(rt: HostRuntime) -> Result<(), Fail> {
+    let alloc = rt.alloc();
+    let game = random_game_of_heads(&rt, alloc, 200, 100, true)?;
+    counts(&rt, alloc, &game)
+}
+
+#[test]
+fn counts_by_halves(rt: HostRuntime) -> Result<(), Fail> {
+    let alloc = rt.alloc();
+    let game = uneven_game(alloc, 12, 4, false)?;
+    counts(&rt, alloc, &game)
 }

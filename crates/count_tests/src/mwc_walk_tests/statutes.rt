@@ -94,7 +94,12 @@ fn seeks_within_so_many_visits(rt: HostRuntime) -> Result<(), Fail> {
         Coalition::of_mask(15),
     ];
     for coalition in all {
-        same(&rt, walk.seek(1), Seek::Found(coalition), "sought by one visit");
+        same(
+            &rt,
+            walk.seek(1),
+            Seek::Found(coalition),
+            "sought by one visit",
+        );
     }
     same(&rt, walk.seek(1), Seek::End, "the end");
     Ok(())

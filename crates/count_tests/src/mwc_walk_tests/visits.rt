@@ -187,6 +187,26 @@ fn visits_of_natural_statutes(rt: HostRuntime) -> Result<(), Fail> {
     Ok(())
 }
 
+/// Statutes of many coalitions: six signatures and half of the shares, of which an owner has most; 8 vetoers behind 32
+/// other members, with 14 heads. (Without a proof, by `rt try`, this test does not end in time.)
+#[test]
+fn visits_of_statutes_of_many_coalitions(rt: HostRuntime) -> Result<(), Fail> {
+    let alloc = rt.alloc();
+    let owner = [(39, [1, 1, 0]), (1, [1, 61, 0])].as_slice();
+    let vetoers = [(32, [1, 0, 0]), (8, [1, 1, 0])].as_slice();
+    let rows = [
+        ([6, 51, 0], owner, 575_757, [4_496_387, 658_008]),
+        ([14, 8, 0], vetoers, 906_192, [11_722_959, 1_107_575]),
+    ];
+    for (quotas, groups, coalitions, visits) in rows {
+        let game = game_by_groups(&rt, alloc, &[0, 1], quotas, groups)?;
+        counts(&rt, &mut Walk::new(&game, 0, 0), coalitions, visits[0]);
+        let game = game_by_groups(&rt, alloc, &[1, 0], quotas, groups)?;
+        counts(&rt, &mut Walk::new(&game, 0, 0), coalitions, visits[1]);
+    }
+    Ok(())
+}
+
 /// Two chambers and a budget, and a member who alone has what three rules ask for, in each order of the rules.
 #[test]
 fn visits_of_three_rules_in_each_order(rt: HostRuntime) -> Result<(), Fail> {

@@ -3,7 +3,7 @@ use Rattle.std.specs.List.{sum_by}
 use Rattle.mwc_sums.specs.Inner.Sets.{Ascend}
 use Rattle.mwc_sums.specs.declared.sets.Set.{Set}
 use Rattle.mwc_sums.proofs.SetLists.{sets-alone, light-enough, small-enough, few-behind, sets-further}
-use Rattle.mwc_sums.proofs.sets.sets.Goals as goal
+use Rattle.mwc_sums.proofs.sets.fill.Goals as goal
 
 pub loop-place-init : goal.loop-place-init
 loop-place-init c = record {
@@ -11,7 +11,7 @@ loop-place-init c = record {
   are =
       sets-alone c.args.weights.now _ c.push.new.self.items (omega arith)
       (c.in_ok-push.ensures.items
-      ∙ ap (λ (l : List Set). l ++ record { weight = 0; size = 0; behind = 0 } ∷ []) c.new-sets.ensures.items);
+      ∙ ap (λ (l : List Set). l ++ record { weight = 0; size = 0; behind = 0 } ∷ []) c.clear.ensures.items);
 }
 
 pub with_first-requires-clause-light : goal.with_first-requires-clause-light

@@ -3,19 +3,19 @@ use Rattle.mwc_sums.specs.Inner.Rows.{left_out}
 use Rattle.mwc_sums.specs.Inner.Sets.{AreSets}
 use Rattle.mwc_sums.proofs.Members.{left_out-parts}
 use Rattle.mwc_sums.proofs.HalfSums.{half-without}
-use Rattle.mwc_sums.proofs.halves.sets_without.Goals as goal
+use Rattle.mwc_sums.proofs.halves.Others.leave_out.Goals as goal
 
 pub returns-clause-are : goal.returns-clause-are
 returns-clause-are c =
-    let own : c.in_ok-others.others.items ≡ c.args.weights.now = search rules in
+    let own : c.in_ok-left.left.items ≡ c.args.weights.now = search rules in
     let same : c.deref.result.now ≡ left_out c.args.place c.args.weights.now = c.deref.ensures.value ∙ c.remove.ensures.by_index.2
     ∙ (λ i. take c.args.place (own i) ++ drop (c.args.place + 1) (own i)) ∙ sym (left_out-parts c.args.place c.args.weights.now c.requires.place) in
-    subst (λ (l : List ℕ). AreSets l c.in_ok-fewer.fewer.items) same c.in_ok-fewer.ensures
+    subst (λ (l : List ℕ). AreSets l c.fill.new.sets.items) same c.in_ok-fill.ensures
 
 pub returns-clause-half : goal.returns-clause-half
 returns-clause-half c =
-    let own : c.in_ok-others.others.items ≡ c.args.weights.now = search rules in
+    let own : c.in_ok-left.left.items ≡ c.args.weights.now = search rules in
     let same : c.deref.result.now ≡ left_out c.args.place c.args.weights.now = c.deref.ensures.value ∙ c.remove.ensures.by_index.2
     ∙ (λ i. take c.args.place (own i) ++ drop (c.args.place + 1) (own i)) ∙ sym (left_out-parts c.args.place c.args.weights.now c.requires.place) in
-    half-without c.args.place c.args.weights.now c.in_ok-fewer.fewer.items
-    (subst (λ (l : List ℕ). AreSets l c.in_ok-fewer.fewer.items) same c.in_ok-fewer.ensures) c.requires.few c.requires.place
+    half-without c.args.place c.args.weights.now c.fill.new.sets.items
+    (subst (λ (l : List ℕ). AreSets l c.fill.new.sets.items) same c.in_ok-fill.ensures) c.requires.few c.requires.place

@@ -1,6 +1,6 @@
 use Rattle.std.proofs.Common.{◌≤◌, length, drop}
 use Rattle.mwc_sums.specs.Inner.Sets.{AreSets}
-use Rattle.mwc_sums.proofs.sets.sets.Given as goal
+use Rattle.mwc_sums.proofs.sets.fill.Given as goal
 
 abbrev pub invariant-loop-place : goal.invariant-loop-place
 invariant-loop-place l = record {

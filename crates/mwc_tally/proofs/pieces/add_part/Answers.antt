@@ -1,0 +1,26 @@
+use Rattle.std.proofs.Common.{ℕ, ◌+◌, List, length, length-append, take, drop, sym, ap, arith, subst}
+use Rattle.std.specs.List.{flat_map}
+use Rattle.std.proofs.lemmas.List.{length-take}
+use Rattle.std.proofs.Math.Seq.{take-add}
+use Rattle.power_index.specs.Tables.{AreTallies}
+use Rattle.power_index.proofs.Sound.{total-is}
+use Rattle.mwc_tally.proofs.Parts.{is-part}
+use Rattle.mwc_tally.proofs.pieces.add_part.Goals as goal
+
+pub add-requires-clause-room : goal.add-requires-clause-room
+add-requires-clause-room g c =
+    let list : List ℕ = flat_map (λ p. p.now) c.args.pieces.now in
+    let part = is-part c.args.thread.promise c.args.game.now list c.args.skip c.args.part c.requires.given _ c.join-own.ensures in
+    let own = total-is c.args.game.now (take c.args.part (drop c.args.skip list)) c.join-own.result part in
+    let before = total-is c.args.game.now (take c.args.skip list) c.args.counts.now c.requires.before in
+    let both = ap (λ (l : List ℕ). length l) (take-add c.args.skip c.args.part list) in
+    let long = length-append (take c.args.skip list) (take c.args.part (drop c.args.skip list)) in
+    let less = length-take (c.args.skip + c.args.part) list in
+    omega (arith, own, before, both, long, less, c.requires.few)
+
+pub returns : goal.returns
+returns g c =
+    let list : List ℕ = flat_map (λ p. p.now) c.args.pieces.now in
+    let part = is-part c.args.thread.promise c.args.game.now list c.args.skip c.args.part c.requires.given _ c.join-own.ensures in
+    subst (λ (l : List ℕ). AreTallies c.args.game.now l c.add.new.self) (sym (take-add c.args.skip c.args.part list))
+    (c.add.ensures.tallies c.args.game.now (take c.args.skip list) (take c.args.part (drop c.args.skip list)) c.requires.before part)

@@ -1,0 +1,22 @@
+use Rattle.std.proofs.Common.{◌≡◌, ◌∙◌, ℕ, ◌+◌, ◌-◌, ◌*◌, List, ap, arith, subst}
+use Rattle.std.specs.List.{flat_map}
+use Rattle.std.proofs.lemmas.List.{take_all}
+use Rattle.power_index.specs.Tables.{AreTallies}
+use Rattle.mwc_tally.proofs.pieces.fn.tally_pieces.scope.Goals as goal
+
+pub returns : goal.returns
+returns g c =
+    let list : List ℕ = flat_map (λ p. p.now) c.captures.pieces.now in
+    let all = one-more (c.captures.threads - 1) c.captures.threads c.captures.part (omega (arith, c.requires.threads)) in
+    record {
+      ok = subst (λ (l : List ℕ). AreTallies c.captures.game.now l c.count_up_to.new.counts)
+          (take_all ((c.captures.threads - 1) * c.captures.part + c.captures.part) list (omega (arith, all, c.requires.enough)))
+          c.in_ok-count_up_to.ensures.ok;
+      err = tt;
+    }
+  where
+    one-more : (k n part : ℕ) → k + 1 ≡ n → k * part + part ≡ n * part
+    one-more k n part is = plus k part ∙ ap (λ (m : ℕ). m * part) is
+      where
+        plus : (a b : ℕ) → a * b + b ≡ (a + 1) * b
+        plus a b = omega arith
