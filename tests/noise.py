@@ -14,6 +14,11 @@ error, which begins with `council: `, and nothing on standard output. The same S
 files. A file that fails is kept, and its name is printed.
 
 A long run: python3 tests/noise.py crates/council/out/council 20000 $RANDOM
+
+    noise.py PROGRAM COUNT SEED statutes
+
+runs it on COUNT whole statutes of two to four rules and up to 40 members instead. Each with fewer than 100,000 coalitions is to
+end within five seconds of processor time; one that has not ended after a minute is told of too.
 """
 import glob
 import os
@@ -185,9 +190,39 @@ def run(program, file, words, by_name):
     return why, status, took
 
 
+def statutes(program, count, rng):
+    """Runs the program on whole statutes; whether none was slow."""
+    slow, longest = 0, 0.0
+    room = tempfile.mkdtemp(prefix="statutes-")
+    for number in range(count):
+        file = f"{room}/{number}"
+        with open(file, "wb") as it:
+            it.write(statute(rng))
+        used = processor_time()
+        try:
+            status = subprocess.run([program, "--most", "99999", file], stdin=subprocess.DEVNULL, stdout=subprocess.DEVNULL,
+                                    stderr=subprocess.DEVNULL, timeout=60).returncode
+        except subprocess.TimeoutExpired:
+            status = None
+        took = processor_time() - used
+        if status == 0:
+            longest = max(longest, took)
+        if status not in (0, 4) or status == 0 and took > 5:
+            slow += 1
+            print(f"FAILED statutes: {file}: status {status} after {took:.1f} seconds", flush=True)
+        else:
+            os.remove(file)
+    if not slow:
+        os.rmdir(room)
+        print(f"ok statutes: {count}; the longest that was not refused took {longest:.2f} seconds")
+    return not slow
+
+
 def main(words):
+    if len(words) == 4 and words[3] == "statutes":
+        return 0 if statutes(os.path.abspath(words[0]), int(words[1]), random.Random(int(words[2]))) else 1
     if len(words) != 3:
-        sys.exit("usage: noise.py PROGRAM COUNT SEED")
+        sys.exit("usage: noise.py PROGRAM COUNT SEED [statutes]")
     program, count, seed = os.path.abspath(words[0]), int(words[1]), int(words[2])
     rng = random.Random(seed)
     here = os.path.dirname(os.path.abspath(__file__))
