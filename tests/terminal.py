@@ -46,16 +46,29 @@ class Run:
             pass
         return self.process.wait()
 
-    def pause(self, after, seconds):
-        """Lets it run for some seconds, and then stops it for as many as are told, so that its clock goes on and it does not."""
-        time.sleep(after)
-        self.process.send_signal(signal.SIGSTOP)
-        time.sleep(seconds)
-        self.process.send_signal(signal.SIGCONT)
+    def slow_down(self, piece):
+        """Stops it six times, each time after so many seconds, so that its clock goes on for two seconds and it does not."""
+        for _ in range(6):
+            time.sleep(piece)
+            self.process.send_signal(signal.SIGSTOP)
+            time.sleep(0.4)
+            self.process.send_signal(signal.SIGCONT)
 
     def kill(self):
         self.process.kill()
         self.process.wait()
+
+
+def run_slowly(words, lines, both=False):
+    """Runs a program that takes some tenths of a second so that more than a second goes by until it ends: it is stopped now and
+    then, on a busier machine later, until a run has told so many slices that are begun. That run, and its status."""
+    for piece in (0.005, 0.02, 0.08, 0.32):
+        run = Run(words, both=both)
+        run.slow_down(piece)
+        status = run.read_all()
+        if run.told.count(b"is begun") >= lines:
+            break
+    return run, status
 
 
 def type_in(words, typed):

@@ -28,7 +28,7 @@ done
 # ---- on a terminal: how far a run has come, and that a game is read from standard input
 if needs python3 "a long run on a terminal" "a barren run and tally on a terminal" "a late fault on a terminal" "a late report on a terminal" "a game from a terminal"; then
     # a game of 3,838,380 coalitions, listed in some tenths of a second; the program is stopped meanwhile, so that more than the
-    # second has gone by after which a run is told of
+    # second goes by after which a run is told of
     {
         echo 'quota = 6'
         for ((member = 1; member <= 40; member++)); do
@@ -38,11 +38,9 @@ if needs python3 "a long run on a terminal" "a barren run and tally on a termina
     export PYTHONPATH=$top/tests PYTHONDONTWRITEBYTECODE=1
     if timeout "$seconds" python3 - "$program" "$temp/long.toml" >"$temp/told" 2>&1 <<'END'
 import re, sys
-from terminal import Run
-run = Run([sys.argv[1], "--bits", "10", sys.argv[2]])
-run.pause(0.1, 1.2)
-run.read_until(lambda told: told.count(b"is begun") >= 2)
-run.kill()
+from terminal import run_slowly
+run, status = run_slowly([sys.argv[1], "--bits", "10", "--most", "4000000", sys.argv[2]], 2)
+assert status == 0, status
 numbers = [int(it) for it in re.findall(rb"\rcouncil: slice ([0-9]+) is begun", run.told)]
 assert len(numbers) >= 2 and numbers == sorted(set(numbers)) and numbers[0] > 4, run.told
 END
@@ -78,10 +76,8 @@ END
     # the same game where one coalition fewer is asked for: the line is wiped before the fault
     if timeout "$seconds" python3 - "$program" "$temp/long.toml" >"$temp/told" 2>&1 <<'END'
 import sys
-from terminal import Run
-run = Run([sys.argv[1], "--workers", "1", "--bits", "10", "--most", "3838379", sys.argv[2]])
-run.pause(0.1, 1.2)
-status = run.read_all()
+from terminal import run_slowly
+run, status = run_slowly([sys.argv[1], "--workers", "1", "--bits", "10", "--most", "3838379", sys.argv[2]], 1)
 assert status == 4, status
 assert b"is begun" in run.told, run.told[:60]
 assert run.told.endswith(b"\r\x1b[Kcouncil: too many minimal winning coalitions\r\n  --tally counts any number of them\r\n"), run.told[-120:]
@@ -93,10 +89,8 @@ END
     sed 's/$/\r/' "$temp/out" >"$temp/report"
     if timeout "$seconds" python3 - "$program" "$temp/long.toml" "$temp/report" >"$temp/told" 2>&1 <<'END'
 import re, sys
-from terminal import Run
-run = Run([sys.argv[1], "--workers", "1", "--bits", "10", "--most", "4000000", sys.argv[2]], both=True)
-run.pause(0.1, 1.2)
-status = run.read_all()
+from terminal import run_slowly
+run, status = run_slowly([sys.argv[1], "--workers", "1", "--bits", "10", "--most", "4000000", sys.argv[2]], 2, both=True)
 assert status == 0, status
 with open(sys.argv[3], "rb") as it:
     report = it.read()
