@@ -3,9 +3,7 @@ use Rattle.std.proofs.Common.{◌≡◌, ℕ, ◌+◌, ◌-◌, ◌*◌, ◌/◌
 use Rattle.std.specs.Int.Bits.{bit_and}
 use Rattle.std.proofs.lemmas.Bool.{cases_Bool, both_ways, and_parts, and_from, eq-eqb}
 use Rattle.std.proofs.lemmas.List.{get_or-take}
-use Rattle.std.proofs.lemmas.List.Sums.{sum_by-take-le}
 use Rattle.council_game.specs.Votes.{Votes, rule_at, has, weight, wins}
-use Rattle.council_game.proofs.Weights.{weight-le}
 use Rattle.mwc_walk.specs.declared.lane.Lane.{Lane}
 use Rattle.mwc_walk.specs.declared.vetoes.Vetoes.{Vetoes}
 use Rattle.mwc_walk.specs.declared.cursor.Cursor.{Cursor}
@@ -18,7 +16,7 @@ use Rattle.mwc_walk.proofs.Spared.{met-at, weight-parts}
 use Rattle.mwc_walk.proofs.Steps.{enter-short}
 use Rattle.mwc_walk.proofs.Tables.{lane-of}
 
-abbrev none : Lane
+abbrev pub none : Lane
 none = record { quota = 0; sum = 0; weightless = 0; weights = []; rest = [] }
 
 pub lane-here : (v : Votes) (a : Cursor) → CursorIs v a → (i : ℕ) → i < a.rules
@@ -50,13 +48,6 @@ least-excess v a i t b is below most comes =
     let more = comes c prefix won in
     let here = lane-here v a is i below in
     omega (arith, all.0, all.1, more, most, here.quota)
-
--- what is there is no more than a rule has
-pub sum-fits : (v : Votes) (a : Cursor) → CursorIs v a → (i : ℕ) → i < a.rules → (lane_at a.lanes i).sum < 2 ^ 64
-sum-fits v a is i below =
-    let here = lane-here v a is i below in
-    let ws = (rule_at v.rules i).weights in
-    omega (arith, here.sum_is, weight-le (take a.place ws) a.prefix, sum_by-take-le (λ (y : ℕ). y) ws a.place, here.rule.light)
 
 -- what the quota asks for beside what is there and what vetoers bring
 pub short-need : (v : Votes) (a : Cursor) (i t : ℕ) (s : Vetoes) → CursorIs v a → i < a.rules → IsSplit v i s

@@ -8,8 +8,8 @@ use Rattle.council_game.specs.Votes.{RuleView, Votes, IsVotes, has}
 use Rattle.mwc_walk.specs.Slices.{slice}
 use Rattle.council_game.proofs.GameTests.{fixed-half}
 use Rattle.mwc_walk.specs.Inner.Places.{slice_below, LanesAre}
-use Rattle.mwc_walk.specs.declared.vetoes.Vetoes.{Vetoes}
-use Rattle.mwc_walk.specs.Inner.Vetoes.{BringsAre}
+use Rattle.mwc_walk.specs.declared.asked.Asked.{Asked}
+use Rattle.mwc_walk.specs.Inner.Asked.{AreAsked}
 use Rattle.mwc_walk.specs.Inner.Cursor.{Starts}
 use Rattle.mwc_walk.proofs.Rest.{left-all}
 use Rattle.mwc_walk.proofs.Tables.{lanes-in, lanes-pass}
@@ -38,11 +38,11 @@ fixed-pass n k p x rs ls below le outside are =
     let whole : 2 * (x / 2 ^ (k - p)) ≡ x / 2 ^ (k - (p + 1)) = omega (arith, h, even') in
     subst (λ (i : ℕ). LanesAre n (p + 1) i rs ls) whole (lanes-pass n p (x / 2 ^ (k - p)) rs ls (omega arith) are)
 
-pub starts : (v : Votes) (k j x m n : ℕ) (ls : List Lane) (vs : List Vetoes) → IsVotes v → k ≤ v.members → j < 2 ^ k → n ≡ v.members → m ≡ length v.rules
-    → m ≤ length ls → BringsAre v vs
+pub starts : (v : Votes) (k j x m n : ℕ) (ls : List Lane) (qs : List Asked) → IsVotes v → k ≤ v.members → j < 2 ^ k → n ≡ v.members → m ≡ length v.rules
+    → m ≤ length ls → AreAsked v qs
     → LanesAre v.members k (x / 2 ^ (k - k)) v.rules (take m ls) → x ≡ 2 ^ k - 1 - j
-    → Starts v k j (record { lanes = ls; vetoes = vs; rules = m; members = n; bits = k; number = j; prefix = x; place = k; fresh = true; visits = k })
-starts v k j x m n ls vs game le below members rules room brings are prefix =
+    → Starts v k j (record { lanes = ls; asked = qs; rules = m; members = n; bits = k; number = j; prefix = x; place = k; fresh = true; visits = k })
+starts v k j x m n ls qs game le below members rules room asked are prefix =
     let pos : 0 < 2 ^ k = pow_pos k in
     let none : k - k ≡ 0 = omega arith in
     let whole : x / 2 ^ 0 ≡ x = omega arith in
@@ -55,7 +55,7 @@ starts v k j x m n ls vs game le below members rules room brings are prefix =
         rules = rules;
         room = room;
         lanes = rw (none, whole) at are;
-        vetoes = brings;
+        asked = asked;
         place = record {
           from = omega arith;
           to = le;

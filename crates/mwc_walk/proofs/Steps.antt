@@ -94,7 +94,7 @@ follows-at v a ls p x f t is counted room lanes place visits = record {
     rules = is.rules;
     room = room;
     lanes = lanes;
-    vetoes = is.vetoes;
+    asked = is.asked;
     place = place;
     visits = visits;
   };

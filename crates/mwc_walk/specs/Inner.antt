@@ -4,6 +4,7 @@ pub mod Places
 pub mod Covers
 pub mod Prices
 pub mod Vetoes
+pub mod Asked
 pub mod Ahead
 pub mod Spared
 pub mod Cursor

@@ -10,9 +10,9 @@ ghost use Rattle.mwc_walk.specs.Inner.Ahead.{AheadIs};
 ghost use Rattle.mwc_walk.specs.Inner.Cursor.{CursorIs, Steps, SomeSteps, Runs, Starts};
 
 use crate::ahead::Ahead;
+use crate::asked::Asked;
 use crate::lane::{Lane, all_reach, all_win, lanes_of, leave_out, take_in};
 use crate::step::Step;
-use crate::vetoes::{Vetoes, brought};
 use council_game::{Coalition, Game, limits};
 
 /// The steps after which what can still come is looked at, where they came to no coalition.
@@ -24,8 +24,8 @@ const NEAR: u64 = 128;
 pub(crate) struct Cursor {
     /// A lane for each rule, and copies past the last.
     pub(crate) lanes: [Lane; limits::RULES],
-    /// What the vetoers bring, for each rule, and copies past the last.
-    pub(crate) vetoes: [Vetoes; limits::RULES],
+    /// What each rule asks of a prefix, and copies past the last.
+    pub(crate) asked: [Asked; limits::RULES],
     pub(crate) rules: usize,
     pub(crate) members: usize,
     /// How many places are fixed: the walk goes back no further.
@@ -61,7 +61,7 @@ impl Cursor {
         let rules = game.rules();
         let bits = bits as usize;
         let mut lanes = lanes_of(game);
-        let vetoes = brought(game, &lanes[..rules]);
+        let asked = Asked::of_each(game, &lanes[..rules]);
         let prefix = (1 << bits) - 1 - number as u64;
         let fixed = Coalition::of_mask(prefix);
         for place in 0..bits {
@@ -71,7 +71,7 @@ impl Cursor {
         }
         Cursor {
             lanes,
-            vetoes,
+            asked,
             rules,
             members,
             bits,
@@ -208,7 +208,9 @@ impl Cursor {
         }
     }
 
-    /// One step, by which there is one visit more at most.
+    /// One step, by which there is one visit more at most. (It stands in each loop that makes it: a call for each step
+    /// would double the time of a walk.)
+    #[inline(always)]
     fn step(&mut self, game: &Game, ahead: Option<&Ahead>) -> Step
         requires is { CursorIs (votes_of game.now) self.old }
         requires ahead { IfSome ahead (λ a. AheadIs (votes_of game.now) a.now) }
@@ -225,6 +227,7 @@ impl Cursor {
     /// Looks at a fresh prefix: passes by one that can no longer meet some quota, and one below which no
     /// coalition is minimal; takes the next member into one that does not win yet; and gives one that
     /// wins, never going on below it.
+    #[inline(always)]
     fn enter(&mut self, game: &Game, ahead: Option<&Ahead>) -> Step
         requires is { CursorIs (votes_of game.now) self.old }
         requires ahead { IfSome ahead (λ a. AheadIs (votes_of game.now) a.now) }
@@ -252,6 +255,7 @@ impl Cursor {
 
     /// Whether the prefix is passed by, since no coalition below it is minimal: a member can be spared by what is
     /// there, or, where that is looked at, by what can still come. A winning prefix that is not passed by is minimal.
+    #[inline(always)]
     fn passes_by(&self, game: &Game, ahead: Option<&Ahead>) -> bool
         requires is { CursorIs (votes_of game.now) self.now }
         requires ahead { IfSome ahead (λ a. AheadIs (votes_of game.now) a.now) }
@@ -275,6 +279,7 @@ impl Cursor {
     /// Whether the prefix has a member whom each rule can spare by what is there, here and so in each coalition
     /// below. Sought only where a member was taken in, and at the fixed places; never past them with one rule,
     /// under which the last member is the lightest and was needed.
+    #[inline(always)]
     fn spares_one(&self, game: &Game) -> bool
         requires { CursorIs (votes_of game.now) self.now }
         ensures some { result ≡ true →
@@ -292,6 +297,7 @@ impl Cursor {
     }
 
     /// By how much each rule's quota is passed by what is there and what vetoers bring; 0 where it is not.
+    #[inline(always)]
     fn excess(&self, game: &Game) -> [u64; limits::RULES]
         requires { CursorIs (votes_of game.now) self.now }
         ensures are { AreExcesses (votes_of game.now) self.now.place self.now.prefix result }
@@ -299,28 +305,15 @@ impl Cursor {
     {
         let mut excess = [0; limits::RULES];
         for rule in 0..self.rules {
-            excess[rule] = self
-                .there(&self.vetoes, rule)
-                .saturating_sub(self.lanes[rule].quota);
+            let asked = self.asked[rule].before[self.place];
+            excess[rule] = self.lanes[rule].sum.saturating_sub(asked);
         }
         excess
     }
 
-    /// What is there under a rule, with what vetoers bring.
-    fn there(&self, vetoes: &[Vetoes; limits::RULES], rule: usize) -> u64
-        requires rule { rule < RULES }
-        requires place { self.now.place ≤ MEMBERS }
-        ensures { result ≡ min (2 ^ 64 - 1)
-            ((lane_at self.now.lanes rule).sum
-            + slice_index (vetoes_at vetoes.now rule).brings self.now.place) }
-    {
-        self.lanes[rule]
-            .sum
-            .saturating_add(vetoes[rule].brings[self.place])
-    }
-
     /// Whether no coalition below is minimal by what can still come: some quota can not be met by any sum that
     /// can, or each is passed by so much that a member can be spared.
+    #[inline(never)]
     fn leads_nowhere(&self, game: &Game, ahead: &Ahead) -> bool
         requires is { CursorIs (votes_of game.now) self.now }
         requires ahead { AheadIs (votes_of game.now) ahead.now }
@@ -347,7 +340,7 @@ impl Cursor {
         let need = self.need(game, ahead, rule);
         match ahead.outlooks[rule].sums.from[self.place].least_from(need) {
             Some(comes) => {
-                let all = self.there(&ahead.vetoes, rule).saturating_add(comes);
+                let all = self.there(ahead, rule).saturating_add(comes);
                 Some(all.saturating_sub(self.lanes[rule].quota))
             }
             None => None,
@@ -381,11 +374,25 @@ impl Cursor {
     {
         self.lanes[rule]
             .quota
-            .saturating_sub(self.there(&ahead.vetoes, rule))
+            .saturating_sub(self.there(ahead, rule))
+    }
+
+    /// What is there under a rule, with what vetoers bring.
+    fn there(&self, ahead: &Ahead, rule: usize) -> u64
+        requires rule { rule < RULES }
+        requires place { self.now.place ≤ MEMBERS }
+        ensures { result ≡ min (2 ^ 64 - 1)
+            ((lane_at self.now.lanes rule).sum
+            + slice_index (vetoes_at ahead.now.vetoes rule).brings self.now.place) }
+    {
+        self.lanes[rule]
+            .sum
+            .saturating_add(ahead.vetoes[rule].brings[self.place])
     }
 
     /// Whether the prefix has a member whom each rule can spare, where the quotas are passed by so much. Tried from the
     /// last by rank, up to one whom the first rule can not spare: by that rule no member before it is lighter.
+    #[inline(always)]
     fn has_spared(&self, game: &Game, excess: &[u64; limits::RULES]) -> bool
         requires { CursorIs (votes_of game.now) self.now }
         ensures some { result ≡ true →
@@ -409,6 +416,7 @@ impl Cursor {
 
     /// Of the members of the prefix those that each rule may spare: a rule that passes its quota by nothing spares
     /// none that has a weight.
+    #[inline(always)]
     fn may_be_spared(&self, game: &Game, excess: &[u64; limits::RULES]) -> u64
         requires { CursorIs (votes_of game.now) self.now }
         ensures { Tried (votes_of game.now) self.now.place self.now.prefix excess.now result }
@@ -423,6 +431,7 @@ impl Cursor {
     }
 
     /// Whether each rule can spare the member of a place.
+    #[inline(always)]
     fn spares(&self, game: &Game, excess: &[u64; limits::RULES], place: usize) -> bool
         requires is { CursorIs (votes_of game.now) self.now }
         requires place { place < self.now.members }
@@ -438,6 +447,7 @@ impl Cursor {
     }
 
     /// Comes back: leaves the last member out, where it is in, or goes up by one place.
+    #[inline(always)]
     fn back(&mut self, game: &Game) -> Step
         requires is { CursorIs (votes_of game.now) self.old }
         requires stale { self.old.fresh ≡ false }

@@ -8,7 +8,7 @@ use Rattle.mwc_walk.specs.declared.step.Step.TheVariants.{On, Give, End}
 use Rattle.mwc_walk.specs.declared.seek.Seek.{Seek}
 use Rattle.mwc_walk.specs.declared.seek.Seek.TheVariants as seek
 use Rattle.mwc_walk.specs.Slices.{slice}
-use Rattle.mwc_walk.specs.Inner.Vetoes.{BringsAre}
+use Rattle.mwc_walk.specs.Inner.Asked.{AreAsked}
 use Rattle.mwc_walk.specs.Inner.Places.{slice_below, reaches, wins_at, LanesAre}
 
 -- the numbers below this one are still to be looked at
@@ -55,7 +55,7 @@ pub record CursorIs (v : Votes) (c : Cursor) : Type 0 where
   pub rules : c.rules ≡ length v.rules
   pub room : c.rules ≤ length c.lanes
   pub lanes : LanesAre v.members c.place c.prefix v.rules (take c.rules c.lanes)
-  pub vetoes : BringsAre v c.vetoes
+  pub asked : AreAsked v c.asked
   pub place : IsPlace v c.bits c.number c.place c.prefix
   pub visits :
       CountsVisits v c.bits c.number c.visits (new_visit c) (open_visits v c) (rest_of_slice v c)

@@ -46,6 +46,6 @@ returns c =
     let e : c.loop-place.place ≡ c.args.bits = omega arith in
     starts (votes_of c.args.game.now) c.args.bits c.args.number _ _ _ _ _ c.members-members.ensures.votes c.requires.bits c.requires.number
     c.members-members.ensures.count c.rules-rules.ensures.votes
-    c.loop-place.invariant.room c.brought-vetoes.ensures
+    c.loop-place.invariant.room c.of_each-asked.ensures
     (rw e at c.loop-place.invariant.are)
     (first-number c.args.bits c.args.number c.requires.few)
