@@ -119,8 +119,9 @@ fn count_beside<'s, E, R: Threads, W: Watch + Sync>(
     ensures share { IfOk result (IsShare work.now.slices) }
     ensures started { result ≡ Err TallyFault.Stopped → ⊥ }
 {
+    let none = Share::none(alloc, work.slices)?;
     let (threads, started) = start_all(scope, alloc, work, workers)?;
-    let (share, lost) = join_all(rt, alloc, work.slices, threads);
+    let (share, lost) = join_all(rt, work.slices, threads, none);
     all_of(share, started, lost)
 }
 
@@ -140,17 +141,18 @@ fn all_of(share: Share, started: bool, lost: bool) -> Result<Share, TallyFault>
     Ok(share)
 }
 
-/// Joins the threads: what they counted together, and whether any of it was lost for want of memory.
+/// Joins the threads: what they counted together with a share, and whether any of it was lost for want of memory.
 fn join_all<'s, R: Threads>(
     rt: &R,
-    alloc: Global,
     slices: Slices<'s>,
     threads: Vec<Started<'s>>,
+    share: Share,
 ) -> (Share, bool)
-    requires { All (λ t. t.promise ≡ slices) threads.items }
+    requires threads { All (λ t. t.promise ≡ slices) threads.items }
+    requires share { IsShare slices share }
     ensures { IsShare slices.entry result.0 }
 {
-    let mut all = Share::none(alloc, slices);
+    let mut all = share;
     let mut lost = false;
     for thread in threads {
         match thread.join(rt) {

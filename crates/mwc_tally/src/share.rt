@@ -1,5 +1,5 @@
 //! What one thread counted.
-ghost use Rattle.std.specs.Prelude.{◌≡◌, true, MatchOption, ⊤};
+ghost use Rattle.std.specs.Prelude.{◌≡◌, true, MatchOption, ⊤, IfOk};
 ghost use Rattle.std.specs.List.{range_with_len};
 ghost use Rattle.mwc_tally.specs.Inner.Shares.{IsShare, CountSlices, CountWhole};
 
@@ -16,18 +16,19 @@ const MOST: u64 = 1 << limits::MEMBERS;
 #[derive(Drop)]
 pub(crate) struct Share {
     pub taken: Vec<u16>,
-    pub counts: Counts,
+    /// (On the heap: a thread hands its share on by value, and its stack may be small.)
+    pub counts: Box<Counts>,
 }
 
 impl Share {
     /// No slice.
-    pub(crate) fn none(alloc: Global, slices: Slices<'_>) -> Share
-        ensures { IsShare slices.entry result }
+    pub(crate) fn none(alloc: Global, slices: Slices<'_>) -> Result<Share, Memory>
+        ensures { IfOk result (IsShare slices.entry) }
     {
-        Share {
+        Ok(Share {
             taken: Vec::new(alloc),
-            counts: Counts::none(slices.game),
-        }
+            counts: Box::new(alloc, Counts::none(slices.game))?,
+        })
     }
 
     /// Adds the counts of further slices. Where there were more than any game has, nothing is
@@ -59,7 +60,7 @@ impl Share {
         let Share { mut taken, counts } = self;
         taken.sort_unstable();
         if is_each_once(&taken, slices.count()) {
-            Some(counts)
+            Some(Box::into_inner(counts))
         } else {
             None
         }

@@ -49,7 +49,7 @@ impl<'a, W: Watch> Work<'a, W> {
     {
         let slices = self.slices;
         let count = slices.count();
-        let mut share = Share::none(alloc, slices);
+        let mut share = Share::none(alloc, slices)?;
         for _ in 0..count {
             if self.watch.stops() {
                 break;

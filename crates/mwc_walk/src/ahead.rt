@@ -50,6 +50,7 @@ pub(crate) struct Ahead {
 }
 
 impl Ahead {
+    #[inline(never)]
     pub(crate) fn of(game: &Game) -> Ahead
         ensures { AheadIs (votes_of game.now) result }
     {

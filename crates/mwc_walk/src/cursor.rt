@@ -4,7 +4,7 @@ ghost use Rattle.coalitions.specs.declared.limits.TheConstants.{BITS, MEMBERS, R
 ghost use Rattle.council_game.specs.Game.{votes_of};
 ghost use Rattle.council_game.specs.Votes.{minimal};
 ghost use Rattle.mwc_walk.specs.Inner.Places.{wins_at, NothingBelow, NoneWins, IsExcess, AreExcesses, CanSpare};
-ghost use Rattle.mwc_walk.specs.Inner.Spared.{lane_at, IsEnough, IsNeed, NoneSpared, Tried};
+ghost use Rattle.mwc_walk.specs.Inner.Spared.{lane_at, IsEnough, IsNeed, AreNeeds, NoneSpared, Tried};
 ghost use Rattle.mwc_walk.specs.Inner.Vetoes.{vetoes_at};
 ghost use Rattle.mwc_walk.specs.Inner.Ahead.{AheadIs};
 ghost use Rattle.mwc_walk.specs.Inner.Cursor.{CursorIs, Steps, SomeSteps, Runs, Starts};
@@ -16,7 +16,7 @@ use crate::step::Step;
 use council_game::{Coalition, Game, limits};
 
 /// The steps after which what can still come is looked at, where they came to no coalition.
-const NEAR: u64 = 128;
+const NEAR: u64 = 512;
 
 /// How far the walk over one slice has come: the first `place` places are decided, as the binary
 /// digits of `prefix` say, the heaviest first.
@@ -319,9 +319,10 @@ impl Cursor {
         requires ahead { AheadIs (votes_of game.now) ahead.now }
         ensures { result ≡ true → NothingBelow (votes_of game.now) self.now.place self.now.prefix }
     {
+        let short = self.short_of_each(game, ahead);
         let mut excess = [0; limits::RULES];
         for rule in 0..self.rules {
-            match self.excess_ahead(game, ahead, rule) {
+            match self.excess_ahead(game, ahead, &short, rule) {
                 Some(least) => excess[rule] = least,
                 None => return true,
             }
@@ -330,14 +331,21 @@ impl Cursor {
     }
 
     /// The least by which each winning coalition below passes a rule's quota; none where there is none.
-    fn excess_ahead(&self, game: &Game, ahead: &Ahead, rule: usize) -> Option<u64>
+    fn excess_ahead(
+        &self,
+        game: &Game,
+        ahead: &Ahead,
+        short: &[u64; limits::RULES],
+        rule: usize,
+    ) -> Option<u64>
         requires is { CursorIs (votes_of game.now) self.now }
         requires ahead { AheadIs (votes_of game.now) ahead.now }
+        requires short { AreNeeds (votes_of game.now) self.now.place self.now.prefix ahead.now.vetoes short.now }
         requires rule { rule < self.now.rules }
         ensures { MatchOption result (NoneWins (votes_of game.now) self.now.place self.now.prefix)
             (λ e. IsExcess (votes_of game.now) self.now.place self.now.prefix rule e) }
     {
-        let need = self.need(game, ahead, rule);
+        let need = self.need(game, ahead, short, rule);
         match ahead.outlooks[rule].sums.from[self.place].least_from(need) {
             Some(comes) => {
                 let all = self.there(ahead, rule).saturating_add(comes);
@@ -349,23 +357,37 @@ impl Cursor {
 
     /// What others than vetoers bring to each winning coalition below, at the least: what the rule needs, and what
     /// comes with the needs of the other rules.
-    fn need(&self, game: &Game, ahead: &Ahead, rule: usize) -> u64
+    fn need(&self, game: &Game, ahead: &Ahead, short: &[u64; limits::RULES], rule: usize) -> u64
         requires is { CursorIs (votes_of game.now) self.now }
         requires ahead { AheadIs (votes_of game.now) ahead.now }
+        requires short { AreNeeds (votes_of game.now) self.now.place self.now.prefix ahead.now.vetoes short.now }
         requires rule { rule < self.now.rules }
         ensures { IsNeed (votes_of game.now) self.now.place self.now.prefix (vetoes_at ahead.now.vetoes rule) result }
     {
-        let mut need = self.short(game, ahead, rule);
+        let mut need = short[rule];
         for other in 0..self.rules {
             if other != rule {
                 let price = ahead.outlooks[rule].prices[other].from[self.place];
-                need = need.max(price.of(self.short(game, ahead, other)));
+                need = need.max(price.of(short[other]));
             }
         }
         need
     }
 
-    /// What a rule's quota still asks for, beside what vetoers bring.
+    /// What each rule's quota still asks for, beside what vetoers bring.
+    fn short_of_each(&self, game: &Game, ahead: &Ahead) -> [u64; limits::RULES]
+        requires is { CursorIs (votes_of game.now) self.now }
+        requires ahead { AheadIs (votes_of game.now) ahead.now }
+        ensures { AreNeeds (votes_of game.now) self.now.place self.now.prefix ahead.now.vetoes result }
+    {
+        let mut short = [0; limits::RULES];
+        for rule in 0..self.rules {
+            short[rule] = self.short(game, ahead, rule);
+        }
+        short
+    }
+
+    /// The same of one rule.
     fn short(&self, game: &Game, ahead: &Ahead, rule: usize) -> u64
         requires is { CursorIs (votes_of game.now) self.now }
         requires ahead { AheadIs (votes_of game.now) ahead.now }

@@ -46,6 +46,9 @@ impl Price {
         if self.other == 0 || need == 0 {
             return 0;
         }
+        if let Some(own) = need.checked_mul(self.own) {
+            return own.div_ceil(self.other);
+        }
         let least = (u128::from(need) * u128::from(self.own)).div_ceil(u128::from(self.other));
         least.min(u128::from(u64::MAX)) as u64
     }

@@ -1,6 +1,6 @@
 //! Counts of visits. Those of a game of several rules were found by plain programs beside this one, which
 //! look at the prefixes of rank places one by one: a visit is a prefix that does not win yet, can still meet each
-//! quota, and holds no member whom each rule can spare, by what is there and what vetoers bring, or, past 128 steps
+//! quota, and holds no member whom each rule can spare, by what is there and what vetoers bring, or, past 512 steps
 //! without a coalition, by what can still come.
 use super::*;
 
@@ -172,8 +172,8 @@ fn visits_of_natural_statutes(rt: HostRuntime) -> Result<(), Fail> {
     let rows = [
         ([2, 51, 0], owner, 39, [819, 40]),
         ([4, 51, 0], owner, 9_139, [101_269, 9_880]),
-        ([3, 80, 0], three, 112, [2_225, 117]),
-        ([3, 201, 0], classes, 42_840, [336_505, 46_715]),
+        ([3, 80, 0], three, 112, [5_345, 117]),
+        ([3, 201, 0], classes, 42_840, [825_620, 46_764]),
         ([11, 8, 0], vetoers, 4_960, [81_095, 5_463]),
         ([2, 100, 0], joint, 1, [40, 2]),
         ([3, 861, 0], people, 38, [817, 40]),
@@ -250,9 +250,9 @@ fn few_visits_for_one_coalition(rt: HostRuntime) -> Result<(), Fail> {
 fn visits_of_random_games(rt: HostRuntime) -> Result<(), Fail> {
     let alloc = rt.alloc();
     let rows = [
-        (1, 2, 9_807, 89_004),
-        (5, 3, 32_261, 456_249),
-        (6, 4, 89_432, 969_365),
+        (1, 2, 9_807, 104_228),
+        (5, 3, 32_261, 549_758),
+        (6, 4, 89_432, 1_115_683),
     ];
     for (seed, rules, coalitions, visits) in rows {
         let game = random_game(&rt, alloc, seed, 26, rules)?;

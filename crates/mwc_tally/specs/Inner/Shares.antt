@@ -18,11 +18,11 @@ CountSlices s taken t = AreTallies s.game.now (flat_map (slice_of s) taken) t
 
 -- the counts are those of the slices that were taken
 abbrev pub IsShare : Slices → Share → Type 0
-IsShare s share = CountSlices s share.taken.items share.counts
+IsShare s share = CountSlices s share.taken.items share.counts.value
 
 -- the same of a game at so many bits
 abbrev pub IsShareAt : GameView → ℕ → Share → Type 0
-IsShareAt g bits s = AreTallies g (flat_map (slice (votes_of g) bits) s.taken.items) s.counts
+IsShareAt g bits s = AreTallies g (flat_map (slice (votes_of g) bits) s.taken.items) s.counts.value
 
 -- the tables count the whole game
 abbrev pub CountWhole : Slices → Tables → Type 0

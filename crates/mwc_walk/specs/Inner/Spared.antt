@@ -3,7 +3,7 @@ use Rattle.std.specs.Prelude.{ℕ, [], ◌-◌, ◌*◌, ◌/◌, ◌^◌, ◌�
 use Rattle.council_game.specs.Votes.{Votes, rule_at, has, weight, wins}
 use Rattle.mwc_walk.specs.declared.lane.Lane.{Lane}
 use Rattle.mwc_walk.specs.declared.vetoes.Vetoes.{Vetoes}
-use Rattle.mwc_walk.specs.Inner.Vetoes.{free_from}
+use Rattle.mwc_walk.specs.Inner.Vetoes.{vetoes_at, free_from}
 use Rattle.mwc_walk.specs.Inner.Places.{CanSpare}
 
 abbrev pub lane_at : List Lane → ℕ → Lane
@@ -17,6 +17,9 @@ IsEnough v p x es = (i : ℕ) → i < length v.rules →
 -- others than vetoers bring at least so much to each winning coalition that begins with the prefix
 abbrev pub IsNeed : Votes → ℕ → ℕ → Vetoes → ℕ → Type 0
 IsNeed v p x s need = (c : ℕ) → c / 2 ^ (v.members - p) ≡ x → wins v.rules c ≡ true → need ≤ free_from v s p c
+
+abbrev pub AreNeeds : Votes → ℕ → ℕ → List Vetoes → List ℕ → Type 0
+AreNeeds v p x vs needs = (i : ℕ) → i < length v.rules → IsNeed v p x (vetoes_at vs i) (slice_index needs i)
 
 -- no member of the prefix can be spared
 abbrev pub NoneSpared : Votes → ℕ → ℕ → List ℕ → Type 0

@@ -11,4 +11,4 @@ returns c =
     let items : c.extend_from_slice.new.self.items ≡ c.args.self.now.taken.items ++ c.args.taken.now = search rules in
     subst (λ (l : List ℕ). AreTallies c.args.slices.game.now l c.add.new.self)
     (sym (flat_map-append f c.args.self.now.taken.items c.args.taken.now) ∙ ap (flat_map f) (sym items))
-    (c.add.ensures.tallies c.args.slices.game.now _ _ c.requires.own c.requires.more)
+    (c.add.ensures.tallies c.args.slices.game.now _ _ (rw c.deref_mut.ensures.value c.requires.own) c.requires.more)
