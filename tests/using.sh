@@ -49,16 +49,6 @@ if needs Rscript "docs/using/table.R"; then
     fi
 fi
 
-# Each program stands in the document, but for its first comments.
-for program_file in table.py table.sh; do
-    sed '/^#/d; /^"""/d' "docs/using/$program_file" | grep -v '^$' >"$temp/lines"
-    why=
-    while IFS= read -r line; do
-        grep -qxF -e "$line" docs/USING.md || why="it lacks: $line"
-    done <"$temp/lines"
-    if [ -z "$why" ]; then ok "docs/USING.md has $program_file"; else failed "docs/USING.md has $program_file" "$why"; fi
-done
-
 # Each command of the documents prints what the document shows behind it: a line `$ ./council ..` and the
 # lines up to the next such line or the end of the block.
 command=
