@@ -1,5 +1,5 @@
 //! What one thread counted.
-ghost use Rattle.std.specs.Prelude.{◌≡◌, true, MatchOption, ⊤, IfOk};
+ghost use Rattle.std.specs.Prelude.{◌≡◌, true, IfOk, MatchOption, ⊤};
 ghost use Rattle.std.specs.List.{range_with_len};
 ghost use Rattle.mwc_tally.specs.Inner.Shares.{IsShare, CountSlices, CountWhole};
 
@@ -21,7 +21,8 @@ pub(crate) struct Share {
 }
 
 impl Share {
-    /// No slice.
+    /// No slice. (By itself, so that the room in which the counts are made is free again when a walk begins.)
+    #[inline(never)]
     pub(crate) fn none(alloc: Global, slices: Slices<'_>) -> Result<Share, Memory>
         ensures { IfOk result (IsShare slices.entry) }
     {
