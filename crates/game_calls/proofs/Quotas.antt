@@ -1,11 +1,13 @@
 -- The first rule of a game at another quota.
-use Rattle.std.proofs.Common.{◌≡◌, ◌∙◌, ℕ, ◌<◌, ◌≤◌, false, ◌||◌, ltb, List, [], ◌∷◌, length, get_or, sum, refl, ap, sym, arith, Option, Result, Ok}
+use Rattle.std.proofs.Common.{◌≡◌, ◌∙◌, ℕ, ◌<◌, ◌≤◌, false, ◌||◌, ltb, List, [], ◌∷◌, length, get_or, sum, refl, ap, sym, arith, Option, Result, Ok, Err}
 use Rattle.std.specs.List.{list_any}
 use Rattle.std.proofs.lemmas.Bool.{or_parts, le-ltb}
 use Rattle.std.proofs.lemmas.List.Elements.{All-cons, All-nil, recursion_from_All}
 use Rattle.council_game.specs.declared.fault.GameFault.{GameFault}
+use Rattle.council_game.specs.declared.fault.GameFault.TheVariants.{Memory}
+use Rattle.council_game.specs.Fault.{Answers}
 use Rattle.council_game.specs.Votes.{RuleView, rule_at}
-use Rattle.council_game.specs.Game.{GameView, IsGame, total, first_weights, is_heavy, has_bad_quota}
+use Rattle.council_game.specs.Game.{GameView, IsGame, made_game, total, first_weights, is_heavy, has_bad_quota}
 use Rattle.council_game.specs.Ranks.{rank_places}
 use Rattle.council_game.proofs.Games.{passed, makes, first-full, nowhere_below, position-none}
 use Rattle.game_calls.specs.Quotas.{at_quota}
@@ -44,3 +46,12 @@ another_quota g game q some met =
       few_rules = omega arith;
       full = All-cons (λ (r : RuleView). length r.weights ≡ length g.names) _ [] count (All-nil _);
     }
+
+-- so that no fault but want of memory is answered
+pub only-memory : (g : GameView) (q : ℕ) (fault : GameFault) → IsGame g → 1 ≤ q → q ≤ total (rule_at g.rules 0)
+    → Answers (Err fault) (made_game g.title g.names (record { quota = q; weights = (rule_at g.rules 0).weights } ∷ [])) → fault ≡ Memory
+only-memory g q fault game some met gives = by-fault fault (another_quota g game q some met).made gives
+  where
+    by-fault : (f : GameFault) {answer : Result GameView GameFault} {made : GameView} → answer ≡ Ok made → Answers (Err f) answer → f ≡ Memory
+    by-fault Memory all gives = refl
+    by-fault f all gives = absurd (cc)

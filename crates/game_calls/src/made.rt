@@ -69,7 +69,8 @@ fn weights_of(alloc: Global, game: &Game) -> Result<Vec<u64>, AllocError>
     Ok(weights)
 }
 
-/// The game of the same title and members, and of the first rule alone, at another quota: 1 to the total of its weights.
+/// The game of the same title and members, and of the first rule alone, at another quota: 1 to the total of
+/// its weights.
 ///
 /// # Errors
 ///
@@ -86,6 +87,9 @@ pub fn at_quota(alloc: Global, game: &Game, quota: u64) -> Result<Game, Memory>
     let weights = weights_of(alloc, game)?;
     match Game::new(alloc, title, names, weights, quota) {
         Ok(made) => Ok(made),
-        Err(_) => Err(Memory),
+        Err(fault) => {
+            prove!(matches!(fault, GameFault::Memory));
+            Err(Memory)
+        }
     }
 }
