@@ -32,7 +32,7 @@ HEADLINE = [
 ]
 # in reading order: the first pattern that fits a module
 PARTS = [
-    ("The mathematics", r"coalitions\.|council_game\.(Votes|Ranks)|mwc_walk\.Slices|power_index\."),
+    ("The mathematics", r"coalitions\.|council_game\.(Votes|Ranks|Members)|mwc_walk\.Slices|power_index\."),
     ("The pipe", r"mwc_pipe\."),
     ("The gathering", r"mwc_parts\.|mwc_gather\."),
     ("The game file", r"council_game\.|council_file\.(Bracket|File)"),
@@ -195,7 +195,7 @@ def inner():
     """The definitions that no public contract reaches."""
     given = set()
     for path in glob.glob(f"{CRATES}/*/src/lib.rt") + glob.glob(f"{CRATES}/*/src/main.rt"):
-        for m in re.finditer(r"^pub use [\w:]+::\{?([\w, ]+)\}?;", open(path, encoding="utf-8").read(), re.M):
+        for m in re.finditer(r"^pub use [\w:]+::\{?([\w,\s]+)\}?;", open(path, encoding="utf-8").read(), re.M):
             given |= {(path.split("/")[-3], name.strip()) for name in m.group(1).split(",")}
     shown = set(closure(roots_of(HEADLINE))[0])
     for (crate, module, owner, name), (text, names, seen_from) in functions.items():

@@ -26,6 +26,13 @@ impl Model for Coalition {
 }
 
 impl Coalition {
+    /// The empty coalition, of no member.
+    pub fn none() -> Coalition
+        ensures { result ≡ 0 }
+    {
+        Coalition { mask: 0 }
+    }
+
     /// The coalition with this rank mask, a number below 2^40.
     pub fn of_mask(mask: u64) -> Coalition
         requires { mask < 2 ^ MEMBERS }

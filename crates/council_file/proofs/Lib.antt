@@ -7,3 +7,4 @@ pub mod Weights
 pub mod Named
 pub mod ReadsBack
 pub mod NeverRead
+pub mod Given

@@ -1,32 +1,18 @@
 -- The game of a rule without names passes the checks of a game.
-use Rattle.std.proofs.Common.{◌≡◌, ◌≢◌, ℕ, ◌+◌, ◌<◌, ◌≤◌, suc, List, [], ◌∷◌, length, get_or, decimal, Bool, true, false, not, ◌&&◌, ◌==◌, nat_le, nat_eq, None, inl, inr, refl, sym, ap, ◌∙◌, arith}
-use Rattle.std.specs.List.{position, position_or_len, range_with_len}
+use Rattle.std.proofs.Common.{◌≡◌, ◌≢◌, ℕ, ◌+◌, ◌<◌, ◌≤◌, List, [], ◌∷◌, length, get_or, decimal, true, false, not, ◌&&◌, ◌==◌, nat_le, nat_eq, None, inl, inr, refl, sym, ap, ◌∙◌, arith}
+use Rattle.std.specs.List.{position, range_with_len}
 use Rattle.std.specs.Char.{digit_value}
 use Rattle.std.specs.Str.Parse.{AllDigits}
 use Rattle.std.specs.Cmp.Lexicographic.{pointwise, same_text}
-use Rattle.std.proofs.lemmas.Bool.{cases_Bool, le-ltb}
+use Rattle.std.proofs.lemmas.Bool.{cases_Bool}
 use Rattle.std.proofs.lemmas.Bool.Decides.{nat_tests}
 use Rattle.std.proofs.lemmas.Str.Parse.{digit_from_value}
 use Rattle.std.proofs.lemmas.Fmt.{decimal_is_IsNumeral, length-decimal-le, decimal_injective}
 use Rattle.std.proofs.lemmas.List.Folds.{list_any_none}
-use Rattle.std.proofs.lemmas.List.FromFn.{length-range_with_len, length-map-range_with_len, get_or-map-range_with_len, take-map-range_with_len}
+use Rattle.std.proofs.lemmas.List.FromFn.{length-map-range_with_len, get_or-map-range_with_len, take-map-range_with_len}
 use Rattle.council_game.specs.Game.{is_plain, is_name, is_repeat}
-use Rattle.council_game.proofs.Rankings.{places-at}
+use Rattle.council_game.proofs.Games.{nowhere_below, position_nowhere}
 use Rattle.council_file.specs.Bracket.{counted_names}
-
-stops_nowhere : {X : Type 0} (p : X → Bool) (xs : List X) → ((i : ℕ) (d : X) → i < length xs → p (get_or xs i d) ≡ false)
-    → position_or_len p xs ≡ length xs
-stops_nowhere p [] h = refl
-stops_nowhere p (x ∷ xs) h = rw (h 0 x (omega arith), stops_nowhere p xs (λ i d lt. h (suc i) d (omega arith))) (omega arith)
-
-position_nowhere : {X : Type 0} (p : X → Bool) (xs : List X) → ((i : ℕ) (d : X) → i < length xs → p (get_or xs i d) ≡ false)
-    → position p xs ≡ None
-position_nowhere p xs h = rw (stops_nowhere p xs h, le-ltb (length xs) (length xs) (omega arith)) refl
-
-pub nowhere_below : (p : ℕ → Bool) (m : ℕ) → ((i : ℕ) → i < m → p i ≡ false) → position p (range_with_len 0 m) ≡ None
-nowhere_below p m h = position_nowhere p (range_with_len 0 m) (λ i d lt.
-    let below : i < m = omega (arith, length-range_with_len 0 m) in
-    rw (places-at m i d below) (h i below))
 
 plain_digit : (b : ℕ) → digit_value b < 10 → (nat_le 32 b && not (b == 127)) ≡ true
 plain_digit b h = let r = digit_from_value b h in grind (arith, nat_tests)

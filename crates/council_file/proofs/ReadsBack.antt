@@ -19,7 +19,8 @@ use Rattle.council_text.specs.Notation.{notation}
 use Rattle.council_file.specs.Laws.{lone_game, NotationReadsBack}
 use Rattle.council_file.proofs.Digits.{symbols-number}
 use Rattle.council_text.proofs.Joins.{one-number, next-numbers}
-use Rattle.council_file.proofs.Named.{nowhere_below, names_pass, repeats_pass}
+use Rattle.council_game.proofs.Games.{nowhere_below}
+use Rattle.council_file.proofs.Named.{names_pass, repeats_pass}
 
 -- ---- numbers
 

@@ -1,5 +1,5 @@
 -- The votes of a game.
-use Rattle.std.proofs.Common.{◌≡◌, ℕ, ◌*◌, ◌<◌, ◌≤◌, Bool, false, not, ◌||◌, ltb, List, [], ◌∷◌, length, get_or, map, sum, refl, sym, ap, ◌∙◌, subst, arith, inl, inr, Option, Some, None, Ok}
+use Rattle.std.proofs.Common.{◌≡◌, ℕ, suc, ◌*◌, ◌<◌, ◌≤◌, Bool, false, not, ◌||◌, ltb, List, [], ◌∷◌, length, get_or, map, sum, refl, sym, ap, ◌∙◌, subst, arith, inl, inr, Option, Some, None, Ok}
 use Rattle.std.specs.List.{AllByRecursion, list_any, range_with_len, position, position_or_len}
 use Rattle.std.proofs.lemmas.List.FromFn.{length-range_with_len}
 use Rattle.std.specs.Option.{option_map_or}
@@ -7,7 +7,7 @@ use Rattle.std.proofs.lemmas.List.{length-map, get_or_default, get_or_past}
 use Rattle.std.proofs.lemmas.List.Elements.{recursion_from_All}
 use Rattle.std.proofs.lemmas.List.Sums.{sum_by-le, fails_before_first}
 use Rattle.std.proofs.lemmas.Bool.Decides.{nat_tests}
-use Rattle.std.proofs.lemmas.Bool.{cases_lt, or_parts, ltb-false, lt-ltb, cond-true}
+use Rattle.std.proofs.lemmas.Bool.{cases_lt, or_parts, ltb-false, lt-ltb, le-ltb, cond-true}
 use Rattle.council_game.specs.declared.fault.GameFault.TheVariants.{Title, Members, Name, SameName, Weight, QuotaRange}
 use Rattle.council_game.specs.Fault.{◌>>=◌, refuse, refuse_at}
 use Rattle.council_game.specs.Votes.{RuleView, IsRule, IsRanked, IsVotes}
@@ -21,13 +21,15 @@ use Rattle.council_game.proofs.Order.{ranking}
 checks-passed : (title count : Bool) (name repeat weight : Option ℕ) (quota : Bool) (made g : GameView)
     → (refuse title Title >>= (λ _. refuse count Members >>= (λ _. refuse_at Name name >>=
     (λ _. refuse_at SameName repeat >>= (λ _. refuse_at Weight weight >>= (λ _. refuse quota QuotaRange >>= (λ _. Ok made))))))) ≡ Ok g
-    → (count ≡ false) × (name ≡ None) × (weight ≡ None) × (quota ≡ false) × (made ≡ g)
-checks-passed false false None None None false made g h = (refl, refl, refl, refl, cc)
+    → (title ≡ false) × (count ≡ false) × (name ≡ None) × (repeat ≡ None) × (weight ≡ None) × (quota ≡ false) × (made ≡ g)
+checks-passed false false None None None false made g h = (refl, refl, refl, refl, refl, refl, cc)
 checks-passed title count name repeat weight quota made g h = absurd (cc)
 
 pub record Passed (g : GameView) : Type 0 where
+  pub title : option_map_or (λ t. not (is_title t)) g.title false ≡ false
   pub members : (ltb (length g.names) 1 || ltb 40 (length g.names)) ≡ false
   pub names : position (λ name. not (is_name name)) g.names ≡ None
+  pub repeats : position (is_repeat g.names) (places g.names) ≡ None
   pub weights : position (is_heavy g.rules) (range_with_len 0 (length g.names)) ≡ None
   pub quotas : list_any has_bad_quota g.rules ≡ false
   pub ranks : g.ranks ≡ rank_places (first_weights g.rules)
@@ -40,7 +42,27 @@ passed g h =
     (position (is_repeat g.names) (places g.names)) (position (is_heavy g.rules) (range_with_len 0 (length g.names)))
     (list_any has_bad_quota g.rules)
     (record { title = g.title; names = g.names; rules = g.rules; ranks = rank_places (first_weights g.rules) }) g h in
-    record { members = p.0; names = p.1; weights = p.2; quotas = p.3; ranks = sym (ap (λ (v : GameView). v.ranks) p.4) }
+    record {
+      title = p.0;
+      members = p.1;
+      names = p.2;
+      repeats = p.3;
+      weights = p.4;
+      quotas = p.5;
+      ranks = sym (ap (λ (v : GameView). v.ranks) p.6);
+    }
+
+-- what passes the checks is made
+pub makes : (title : Option (List ℕ)) (names : List (List ℕ)) (rules : List RuleView) → option_map_or (λ t. not (is_title t)) title false ≡ false
+    → (ltb (length names) 1 || ltb 40 (length names)) ≡ false → position (λ name. not (is_name name)) names ≡ None
+    → position (is_repeat names) (places names) ≡ None → position (is_heavy rules) (range_with_len 0 (length names)) ≡ None
+    → list_any has_bad_quota rules ≡ false
+    → made_game title names rules ≡ Ok (record { title = title; names = names; rules = rules; ranks = rank_places (first_weights rules) })
+unfolding made_game
+makes title names rules a b c d e f =
+    (λ i. refuse (a i) Title >>= (λ _. refuse (b i) Members >>= (λ _. refuse_at Name (c i) >>=
+    (λ _. refuse_at SameName (d i) >>= (λ _. refuse_at Weight (e i) >>= (λ _. refuse (f i) QuotaRange >>= (λ _. Ok
+    (record { title = title; names = names; rules = rules; ranks = rank_places (first_weights rules) }))))))))
 
 -- ---- no weight is above the limit
 some-none : (i : ℕ) → ◌≡◌ {A = Option ℕ} (Some i) None → ⊥
@@ -53,11 +75,26 @@ none-found f xs none = elim (cases_lt (position_or_len f xs) (length xs)) [
   | inr all ↦ all
 ]
 
-position-none : (f : ℕ → Bool) (n : ℕ) → position f (range_with_len 0 n) ≡ None → (i : ℕ) → i < n → f i ≡ false
+pub position-none : (f : ℕ → Bool) (n : ℕ) → position f (range_with_len 0 n) ≡ None → (i : ℕ) → i < n → f i ≡ false
 position-none f n none i lt =
     let len = length-range_with_len 0 n in
     let all = none-found f (range_with_len 0 n) none in
     ap f (sym (places-at n i 0 lt)) ∙ fails_before_first f (range_with_len 0 n) i 0 (omega (arith, len, all, lt))
+
+-- a test that no entry passes finds none
+stops_nowhere : {X : Type 0} (p : X → Bool) (xs : List X) → ((i : ℕ) (d : X) → i < length xs → p (get_or xs i d) ≡ false)
+    → position_or_len p xs ≡ length xs
+stops_nowhere p [] h = refl
+stops_nowhere p (x ∷ xs) h = rw (h 0 x (omega arith), stops_nowhere p xs (λ i d lt. h (suc i) d (omega arith))) (omega arith)
+
+pub position_nowhere : {X : Type 0} (p : X → Bool) (xs : List X) → ((i : ℕ) (d : X) → i < length xs → p (get_or xs i d) ≡ false)
+    → position p xs ≡ None
+position_nowhere p xs h = rw (stops_nowhere p xs h, le-ltb (length xs) (length xs) (omega arith)) refl
+
+pub nowhere_below : (p : ℕ → Bool) (m : ℕ) → ((i : ℕ) → i < m → p i ≡ false) → position p (range_with_len 0 m) ≡ None
+nowhere_below p m h = position_nowhere p (range_with_len 0 m) (λ i d lt.
+    let below : i < m = omega (arith, length-range_with_len 0 m) in
+    rw (places-at m i d below) (h i below))
 
 -- no name is longer than 64 bytes
 name-fits : (name : List ℕ) → not (is_name name) ≡ false → length name ≤ 64

@@ -10,7 +10,7 @@ use Rattle.council_game.proofs.Monotone.{weight-mono}
 use Rattle.council_game.proofs.Meanings.{needs-each-member}
 
 -- where a set wins, each set wins that has all its places
-wins-mono : (n a c : ℕ) (rs : List RuleView) → AllByRecursion (IsRule n) rs → ((i : ℕ) → i < n → a / 2 ^ i % 2 ≤ c / 2 ^ i % 2)
+pub wins-mono : (n a c : ℕ) (rs : List RuleView) → AllByRecursion (IsRule n) rs → ((i : ℕ) → i < n → a / 2 ^ i % 2 ≤ c / 2 ^ i % 2)
     → wins rs a ≡ true → wins rs c ≡ true
 unfolding wins
 wins-mono n a c [] all sub h = refl
@@ -21,7 +21,7 @@ wins-mono n a c (r ∷ rs) all sub h =
     and_from (leb r.quota (weight r.weights c)) (wins rs c) (le-leb _ _ (omega (arith, quota, more))) (wins-mono n a c rs all.1 sub parts.1)
 
 -- the digits of a subset are at most those of its set
-digits-less : (n a c : ℕ) → ((p : ℕ) → p < n → has n p a ≡ true → has n p c ≡ true) → (i : ℕ) → i < n → a / 2 ^ i % 2 ≤ c / 2 ^ i % 2
+pub digits-less : (n a c : ℕ) → ((p : ℕ) → p < n → has n p a ≡ true → has n p c ≡ true) → (i : ℕ) → i < n → a / 2 ^ i % 2 ≤ c / 2 ^ i % 2
 unfolding has
 digits-less n a c sub i below =
     let place : n - 1 - (n - 1 - i) ≡ i = omega arith in

@@ -4,6 +4,7 @@ pub mod Faults
 pub mod Votes
 pub mod Ranks
 pub mod Game
+pub mod Members
 pub mod Rules
 pub mod Laws
 pub mod Inner

@@ -3,15 +3,20 @@ use crate::helpers::same;
 use council_file::parse_game;
 use council_game::{Coalition, Game, Rule, plain_list};
 use council_report::Shown;
+use game_calls::{
+    at_quota, coalition_named, count_by_walk, critical_members, first_unnamed, game_from_slices,
+    has_member, outsiders, with_member, without_member,
+};
 use mwc_pipe::Word;
 use power_index::Index;
 use std::alloc::{AllocError, Global};
 use std::process::Abort;
 use std::test::Fail;
 use uses::{
-    Passes, are_ranked_alike, both_indices, coalitions_with, count_by_walk, first_of_bytes,
-    indices_add_up, is_dummy, listed_twice, of_one_rule, of_two_rules, quota_in_millionths,
-    report_into_memory, tallied_index, through_a_ring, words_of_slice,
+    Passes, are_ranked_alike, both_indices, coalitions_with, critical_of_named, first_of_bytes,
+    first_wrong_row, indices_add_up, is_blocking, is_dummy, listed_twice, most_powerful,
+    of_one_rule, of_two_rules, quota_in_millionths, report_into_memory, tallied_index,
+    through_a_ring, words_of_slice,
 };
 
 const FIVE: &[u8] = b"[51; 35, 20, 15, 15, 15]";
@@ -61,6 +66,10 @@ fn indices_of_bytes(rt: HostRuntime) -> Result<(), Fail> {
     };
     assert_index(&rt, first, 3, 10, b"0.300000");
     assert_index(&rt, second, 4, 15, b"0.266666");
+    let both = [second, first];
+    same(&rt, most_powerful(&both), Some(1), "most_powerful");
+    let wrong = first_wrong_row(&both, &[(8, 30), (31, 100)]);
+    same(&rt, wrong, Some(1), "first_wrong_row");
     Ok(())
 }
 
@@ -76,6 +85,50 @@ fn the_first_is_not_the_lightest(rt: HostRuntime) -> Result<(), Fail> {
     for (other, wanted) in [("3", Some(true)), ("1", Some(false)), ("5", None)] {
         same(&rt, uses::win_together(&game, "1", other), wanted, other);
     }
+    Ok(())
+}
+
+/// Ada, Bo and Cleo of 50, 49 and 1 votes, and a majority of 51.
+fn board(alloc: Global) -> Result<Game, Fail> {
+    Ok(game_from_slices(alloc, &["Ada", "Bo", "Cleo"], &[50, 49, 1], 51)?)
+}
+
+#[test]
+fn members_of_coalitions(rt: HostRuntime) -> Result<(), Fail> {
+    let alloc = rt.alloc();
+    let game = board(alloc)?;
+    assert!(rt; game.members() == 3);
+    let Ok(two) = coalition_named(&game, &["Ada", "Bo"]) else {
+        return Err(Fail::from("nobody"));
+    };
+    let members = critical_members(alloc, &game, two)?;
+    assert!(rt; members.as_slice() == [0, 1].as_slice());
+    assert!(rt; !has_member(&game, outsiders(&game, two), 0));
+    assert!(rt; has_member(&game, outsiders(&game, two), 2));
+    same(
+        &rt,
+        with_member(&game, without_member(&game, two, 0), 0),
+        two,
+        "one member less and more",
+    );
+    same(&rt, first_unnamed(&game, &["Bo", "Di"]), Some(1), "Di");
+    assert!(rt; is_blocking(&game, two));
+    let Some(critical) = critical_of_named(alloc, &game, &["Cleo", "Ada", "Bo"])? else {
+        return Err(Fail::from("nobody"));
+    };
+    assert!(rt; critical.as_slice() == [0].as_slice());
+    assert!(rt; critical_of_named(alloc, &game, &["Di"])?.is_none());
+    Ok(())
+}
+
+#[test]
+fn other_quotas(rt: HostRuntime) -> Result<(), Fail> {
+    let alloc = rt.alloc();
+    let game = board(alloc)?;
+    assert!(rt; game.total() == 100);
+    let all = at_quota(alloc, &game, 100)?;
+    same(&rt, all.quota(), 100, "quota");
+    same(&rt, count_by_walk(&all), 1, "count_by_walk");
     Ok(())
 }
 

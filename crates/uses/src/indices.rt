@@ -28,10 +28,10 @@ pub fn both_indices(
     member: usize,
 ) -> Result<Option<(Index, Index)>, Memory>
     requires { member < length game.now.names }
-    ensures first { IfOk result (λ o. IfSome o (λ p.
+    ensures deegan_packel { IfOk result (λ o. IfSome o (λ p.
         p.0 ≡ lowest_terms
         (deegan_packel game.now (minimal_coalitions (votes_of game.now)) member))) }
-    ensures second { IfOk result (λ o. IfSome o (λ p.
+    ensures public_good { IfOk result (λ o. IfSome o (λ p.
         p.1 ≡ lowest_terms
         (public_good game.now (minimal_coalitions (votes_of game.now)) member))) }
     ensures more { IfOk result
@@ -54,7 +54,7 @@ pub fn both_indices(
 ///
 /// The first fault of the bytes, or Memory.
 pub fn first_of_bytes(alloc: Global, bytes: &[u8]) -> Result<Option<(Index, Index)>, GameFault>
-    ensures first { IfOk result (λ o. IfSome o (λ p. (g : GameView) × (game_of bytes.now ≡ Ok g)
+    ensures deegan_packel { IfOk result (λ o. IfSome o (λ p. (g : GameView) × (game_of bytes.now ≡ Ok g)
         × (p.0 ≡ lowest_terms (deegan_packel g (minimal_coalitions (votes_of g)) 0))
         × (p.1 ≡ lowest_terms (public_good g (minimal_coalitions (votes_of g)) 0)))) }
     ensures more { IfOk result (λ o. IfNone o ((g : GameView) × (game_of bytes.now ≡ Ok g)
@@ -67,9 +67,9 @@ pub fn first_of_bytes(alloc: Global, bytes: &[u8]) -> Result<Option<(Index, Inde
 
 /// The indices of the members of a game add up to 1, of each kind. Nothing is run for it.
 pub fn indices_add_up(game: &Game)
-    ensures first { AddUpToOne
+    ensures deegan_packel { AddUpToOne
         (map (deegan_packel game.now (minimal_coalitions (votes_of game.now))) (members game.now)) }
-    ensures second { AddUpToOne
+    ensures public_good { AddUpToOne
         (map (public_good game.now (minimal_coalitions (votes_of game.now))) (members game.now)) }
 {
     let _members = game.members();

@@ -1,11 +1,16 @@
 //! Coalitions by the names of their members.
 ghost use Rattle.council_game.specs.Game.{votes_of};
+ghost use Rattle.council_game.specs.Members.{contains, members};
 ghost use Rattle.council_game.specs.Votes.{has, wins};
+ghost use Rattle.game_calls.specs.Critical.{is_critical};
+ghost use Rattle.game_calls.specs.Named.{is_named, is_unnamed};
 ghost use Rattle.std.specs.Cmp.Lexicographic.{pointwise};
-ghost use Rattle.std.specs.List.{list_any};
-ghost use Rattle.std.specs.Prelude.{◌≡◌, ◌==◌, ◌<◌, ◌∷◌, [], ℕ, ◌⊎◌, IfNone, IfSome, None, Some, length, nat_eq, position, slice_index};
+ghost use Rattle.std.specs.List.{filter, list_any};
+ghost use Rattle.std.specs.Prelude.{◌≡◌, ◌==◌, ◌<◌, ◌∷◌, [], ℕ, ◌⊎◌, IfNone, IfOk, IfSome, None, Some, length, nat_eq, position, slice_index};
 
-use council_game::Game;
+use council_game::{Game, Memory};
+use game_calls::{coalition_named, critical_members};
+use std::alloc::Global;
 
 /// Whether two members, given by their names, win together; none where the game has no member of a name.
 pub fn win_together(game: &Game, first: &str, second: &str) -> Option<bool>
@@ -23,4 +28,27 @@ pub fn win_together(game: &Game, first: &str, second: &str) -> Option<bool>
     let first = game.member_named(first)?;
     let second = game.member_named(second)?;
     Some(game.wins(game.coalition_of(&[first, second])))
+}
+
+/// The critical members of the coalition with these names, each by its place in the file; none where nobody has a name.
+///
+/// # Errors
+///
+/// `Memory` where a growth was refused.
+pub fn critical_of_named(
+    alloc: Global,
+    game: &Game,
+    names: &[&str],
+) -> Result<Option<Vec<usize>>, Memory>
+    ensures critical { IfOk result (λ o. IfSome o (λ v. (c : ℕ)
+        × ((i : ℕ) → i < length game.now.names →
+        contains game.now i c ≡ list_any (λ name. is_named game.now i name.now) names.now)
+        × (v.items ≡ filter (is_critical game.now c) (members game.now)))) }
+    ensures unnamed { IfOk result (λ o. IfNone o ((k : ℕ)
+        × (position (λ name. is_unnamed game.now name.now) names.now ≡ Some k))) }
+{
+    match coalition_named(game, names) {
+        Ok(coalition) => Ok(Some(critical_members(alloc, game, coalition)?)),
+        Err(_) => Ok(None),
+    }
 }

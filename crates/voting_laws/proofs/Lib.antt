@@ -1,5 +1,6 @@
-pub mod Given
+pub mod Masks
 pub mod Ranges
 pub mod Minimal
+pub mod Names
 pub mod Ordered
 pub mod Sums

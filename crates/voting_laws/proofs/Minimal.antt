@@ -6,7 +6,11 @@ use Rattle.std.proofs.lemmas.List.Elements.{All-contains, Contains-append_right}
 use Rattle.council_game.specs.Votes.{Votes, IsVotes, has, without, wins, places_of, minimal, down, minimal_coalitions}
 use Rattle.coalitions.proofs.Digits.{has-none, has-kept, without-less}
 use Rattle.council_game.proofs.Places.{spare-place}
+use Rattle.council_game.proofs.Subsets.{wins-mono, digits-less}
 use Rattle.voting_laws.specs.Winning.{IsSubset, HasMinimalSubsets, HasVetoersInAll}
+
+pub larger_wins : (v : Votes) → IsVotes v → (a c : ℕ) → IsSubset v.members a c → wins v.rules a ≡ true → wins v.rules c ≡ true
+larger_wins v game a c inside won = wins-mono v.members a c v.rules game.rules (digits-less v.members a c inside) won
 
 -- a coalition without a place is a subset
 without-inside : (n q c : ℕ) → q < n → has n q c ≡ true → IsSubset n (without n q c) c

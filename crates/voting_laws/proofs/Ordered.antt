@@ -1,12 +1,12 @@
--- Lowest terms keep the order of fractions.
-use Rattle.std.proofs.Common.{◌≡◌, ◌∙◌, ℕ, ◌+◌, ◌*◌, ◌<◌, ◌≤◌, ap, sym, arith, inl, inr}
+-- Lowest terms keep the order of fractions, and tell them apart.
+use Rattle.std.proofs.Common.{◌≡◌, ◌∙◌, ℕ, ◌+◌, ◌*◌, ◌<◌, ◌≤◌, ap, sym, subst, arith, inl, inr}
 use Rattle.std.specs.declared.cmp.Ordering.TheVariants.{Less, Equal, Greater}
 use Rattle.std.specs.Ordering.{nat_cmp}
 use Rattle.std.specs.Cmp.{nat_cmp_is}
 use Rattle.std.proofs.lemmas.Bool.{cases_lt, cases_eq}
-use Rattle.std.proofs.Math.Nat.{mul-pos, mul-le-mul_right}
-use Rattle.power_index.specs.Fractions.{fraction_cmp, lowest_terms}
-use Rattle.power_index.proofs.LowestTerms.{lowest_terms-lowest}
+use Rattle.std.proofs.Math.Nat.{mul-pos, mul-le-mul_right, eq_of_mul-eq-mul_right, lt_of_mul-lt-mul_right}
+use Rattle.power_index.specs.Fractions.{SameFraction, fraction_cmp, lowest_terms}
+use Rattle.power_index.proofs.LowestTerms.{lowest_terms-lowest, lowest_terms-only}
 
 less-times : (k x y : ℕ) → 0 < k → x < y → x * k < y * k
 less-times k x y pos lt =
@@ -43,3 +43,39 @@ lowest_terms_ordered p q pp pq =
     let lq = lowest_terms-lowest q pq in
     same-order (lowest_terms p).0 (lowest_terms p).1 (lowest_terms q).0
     (lowest_terms q).1 p.0 p.1 q.0 q.1 lp.positive lq.positive pp pq lp.same lq.same
+
+-- a fraction that is the same as each of two shows that these are the same
+through : (a b c d l m : ℕ) → 0 < m → l * b ≡ a * m → l * d ≡ c * m → a * d ≡ c * b
+through a b c d l m pos e f =
+    eq_of_mul-eq-mul_right m pos (a * d) (c * b) (omega (arith, ap (λ (n : ℕ). n * d) e, ap (λ (n : ℕ). n * b) f))
+
+-- what is the same as one of two same fractions is the same as the other
+carried : (a b c d l m : ℕ) → 0 < b → l * b ≡ a * m → a * d ≡ c * b → l * d ≡ c * m
+carried a b c d l m pos e f =
+    eq_of_mul-eq-mul_right b pos (l * d) (c * m) (omega (arith, ap (λ (n : ℕ). n * d) e, ap (λ (n : ℕ). n * m) f))
+
+pub same_from_lowest : (p q : ℕ × ℕ) → 0 < p.1 → 0 < q.1 → lowest_terms p ≡ lowest_terms q → SameFraction p q
+same_from_lowest p q pp pq e =
+    let lp = lowest_terms-lowest p pp in
+    let lq = lowest_terms-lowest q pq in
+    through p.0 p.1 q.0 q.1 (lowest_terms p).0 (lowest_terms p).1 lp.positive lp.same
+    (subst (λ (l : ℕ × ℕ). l.0 * q.1 ≡ q.0 * l.1) (sym e) lq.same)
+
+pub lowest_from_same : (p q : ℕ × ℕ) → 0 < p.1 → 0 < q.1 → SameFraction p q → lowest_terms p ≡ lowest_terms q
+lowest_from_same p q pp pq e =
+    let lp = lowest_terms-lowest p pp in
+    lowest_terms-only q (lowest_terms p) pq (record {
+      positive = lp.positive;
+      same = carried p.0 p.1 q.0 q.1 (lowest_terms p).0 (lowest_terms p).1 pp lp.same e;
+      lowest = lp.lowest;
+    })
+
+pub at_most_then_below : (p q r : ℕ × ℕ) → 0 < p.1 → p.0 * q.1 ≤ q.0 * p.1 → q.0 * r.1 < r.0 * q.1 → p.0 * r.1 < r.0 * p.1
+at_most_then_below p q r pos le lt = step p.0 p.1 q.0 q.1 r.0 r.1 pos le lt
+  where
+    step : (a b c d e f : ℕ) → 0 < b → a * d ≤ c * b → c * f < e * d → a * f < e * b
+    step a b c d e f pos le lt =
+        let first : a * d * f ≤ c * b * f = mul-le-mul_right f le in
+        let second : c * f * b < e * d * b = less-times b (c * f) (e * d) pos lt in
+        let both : a * f * d < e * b * d = omega (arith, first, second) in
+        lt_of_mul-lt-mul_right d both

@@ -1,7 +1,5 @@
 pub use Rattle.council_game.specs.Game
 pub use Rattle.council_game.specs.Votes
-pub use Rattle.council_file.specs.File
-pub use Rattle.council_file.specs.Reads
 pub use Rattle.power_index.specs.Counting
 pub use Rattle.power_index.specs.Fractions
 pub use Rattle.power_index.specs.Indices

@@ -1,31 +1,23 @@
 //! Laws of both indices in lowest terms.
 ghost use Rattle.council_game.specs.Game.{GameView, IsGame, AreNonemptyCoalitions};
 ghost use Rattle.power_index.specs.Counting.{members};
-ghost use Rattle.power_index.specs.Fractions.{AddUpToOne, fraction_cmp, lowest_terms};
+ghost use Rattle.power_index.specs.Fractions.{AddUpToOne, lowest_terms};
 ghost use Rattle.power_index.specs.Indices.{deegan_packel, public_good};
-ghost use Rattle.std.specs.Prelude.{◌≡◌, ℕ, ◌<◌, List, length, map};
+ghost use Rattle.std.specs.Prelude.{ℕ, ◌<◌, List, length, map};
 
 /// The indices of a game's members in lowest terms, as the calls give them, add up to 1, of each kind: over
 /// each list of coalitions that are not empty, if there is one in it.
 pub fn lowest_terms_add_up()
-    ensures first { (g : GameView) (list : List ℕ) → IsGame g → 0 < length list → AreNonemptyCoalitions g list
+    ensures deegan_packel { (g : GameView) (list : List ℕ) → IsGame g → 0 < length list → AreNonemptyCoalitions g list
         → AddUpToOne (map (λ i. lowest_terms (deegan_packel g list i)) (members g)) }
-    ensures second { (g : GameView) (list : List ℕ) → IsGame g → 0 < length list → AreNonemptyCoalitions g list
+    ensures public_good { (g : GameView) (list : List ℕ) → IsGame g → 0 < length list → AreNonemptyCoalitions g list
         → AddUpToOne (map (λ i. lowest_terms (public_good g list i)) (members g)) }
 {}
 
 /// The bottom of each index, before it is in lowest terms, is above 0.
 pub fn bottoms_are_positive()
-    ensures first { (g : GameView) (list : List ℕ) (i : ℕ) → IsGame g → 0 < length list
+    ensures deegan_packel { (g : GameView) (list : List ℕ) (i : ℕ) → IsGame g → 0 < length list
         → AreNonemptyCoalitions g list → 0 < (deegan_packel g list i).1 }
-    ensures second { (g : GameView) (list : List ℕ) (i : ℕ) → IsGame g → 0 < length list
+    ensures public_good { (g : GameView) (list : List ℕ) (i : ℕ) → IsGame g → 0 < length list
         → AreNonemptyCoalitions g list → 0 < (public_good g list i).1 }
-{}
-
-/// Fractions with bottoms above 0 are ordered as their lowest terms are. So `Index::compare` orders the indices
-/// as they are defined.
-#[tactic(auto, using(crate::proofs::Ordered::lowest_terms_ordered))]
-pub fn lowest_terms_keep_order()
-    ensures { (p q : ℕ × ℕ) → 0 < p.1 → 0 < q.1 →
-        fraction_cmp (lowest_terms p) (lowest_terms q) ≡ fraction_cmp p q }
 {}

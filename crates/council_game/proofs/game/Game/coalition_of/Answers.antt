@@ -1,4 +1,4 @@
-use Rattle.std.proofs.Common.{◌≡◌, ℕ, length, get_or, refl, ap, ◌∙◌, arith}
+use Rattle.std.proofs.Common.{length, get_or, refl, ap, ◌∙◌, arith}
 use Rattle.std.proofs.lemmas.Nat.{pow_pos}
 use Rattle.council_game.specs.Votes.{has}
 use Rattle.coalitions.proofs.Digits.{has-none}

@@ -1,6 +1,6 @@
 use Rattle.std.proofs.Common.{◌∙◌, ap, arith, length}
 use Rattle.council_game.specs.Game.{votes_of}
-use Rattle.uses.proofs.walked.count_by_walk.Goals as goal
+use Rattle.game_calls.proofs.walked.count_by_walk.Goals as goal
 
 pub loop-coalition-init : goal.loop-coalition-init
 loop-coalition-init c =

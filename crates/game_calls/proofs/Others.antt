@@ -1,0 +1,66 @@
+-- One member more or less leaves the others as they were.
+use Rattle.std.proofs.Common.{◌≡◌, ◌≢◌, ◌∙◌, ℕ, ◌+◌, ◌<◌, Bool, true, false, ◌||◌, List, [], ◌∷◌, ◌++◌, length, get_or, take, filter, refl, sym, ap, arith, Option, Some, None, inl, inr}
+use Rattle.std.specs.List.{list_any, range_with_len}
+use Rattle.std.proofs.lemmas.Bool.{cases_eq, cond-true, cond-false, eq-eqb, ne_eqb, or_right}
+use Rattle.std.proofs.lemmas.List.{append-nil}
+use Rattle.std.proofs.lemmas.List.Folds.{list_any_more}
+use Rattle.council_game.specs.Votes.{has}
+use Rattle.council_game.specs.Ranks.{member_at}
+use Rattle.council_game.specs.Game.{GameView, IsGame}
+use Rattle.council_game.specs.Members.{contains}
+use Rattle.council_game.proofs.Lists.{filter_one_more}
+use Rattle.council_game.proofs.Making.{ranks-are}
+use Rattle.game_calls.specs.Named.{member_named, is_that, is_named}
+
+pub others_kept : (g : GameView) → IsGame g → (n m place a b : ℕ) → n ≡ length g.names → place ≡ get_or g.ranks m 0 → m < length g.names
+    → ((p : ℕ) → p < n → p ≢ place → has n p b ≡ has n p a) → (i : ℕ) → i < length g.names → i ≢ m → contains g i b ≡ contains g i a
+others_kept g game n m place a b count at lm kept i li other =
+    let are = ranks-are g game in
+    let rank : ℕ = get_or g.ranks i 0 in
+    let apart : get_or g.ranks i 0 ≢ place = λ e.
+    other (sym (are.member_back i li) ∙ ap (member_at g.ranks) (e ∙ at) ∙ are.member_back m lm) in
+    ap (λ (k : ℕ). has k rank b) (sym count) ∙ kept rank (omega (arith, count, are.place_below i li)) apart
+    ∙ ap (λ (k : ℕ). has k rank a) count
+
+-- what passes a test among one number more
+pub passes : (p : ℕ → Bool) (n : ℕ) (xs ys : List ℕ) → p n ≡ true → ys ≡ xs ++ n ∷ [] → xs ≡ filter p (range_with_len 0 n)
+    → ys ≡ filter p (range_with_len 0 (n + 1))
+passes p n xs ys met pushed before =
+    pushed ∙ ap (λ (l : List ℕ). l ++ n ∷ []) before
+    ∙ sym (filter_one_more p n ∙ ap (λ (l : List ℕ). filter p (range_with_len 0 n) ++ l) (cond-true (p n) (n ∷ []) [] met))
+
+pub fails : (p : ℕ → Bool) (n : ℕ) (xs : List ℕ) → p n ≡ false → xs ≡ filter p (range_with_len 0 n)
+    → xs ≡ filter p (range_with_len 0 (n + 1))
+fails p n xs unmet before =
+    before ∙ sym (filter_one_more p n ∙ ap (λ (l : List ℕ). filter p (range_with_len 0 n) ++ l) (cond-false (p n) (n ∷ []) [] unmet)
+    ∙ append-nil (filter p (range_with_len 0 n)))
+
+-- ---- one name more
+or-none : (b : Bool) → (b || false) ≡ b
+or-none true = refl
+or-none false = refl
+
+pub named : {X : Type 0} (text : X → List ℕ) (g : GameView) (names : List X) (k m a b : ℕ) (d : X) → k < length names
+    → member_named g (text (get_or names k d)) ≡ Some m → contains g m b ≡ true
+    → ((i : ℕ) → i < length g.names → i ≢ m → contains g i b ≡ contains g i a)
+    → ((i : ℕ) → i < length g.names → contains g i a ≡ list_any (λ name. is_named g i (text name)) (take k names))
+    → (i : ℕ) → i < length g.names → contains g i b ≡ list_any (λ name. is_named g i (text name)) (take (k + 1) names)
+named {X} text g names k m a b d lt found inside others before i li =
+    let p : X → Bool = λ name. is_named g i (text name) in
+    let more : list_any p (take (k + 1) names) ≡ (list_any p (take k names) || is_that i (Some m)) =
+    list_any_more p names k d lt ∙ ap (λ (o : Option ℕ). list_any p (take k names) || is_that i o) found in
+    elim (cases_eq i m) [
+      | inl same ↦ ap (λ (j : ℕ). contains g j b) same ∙ inside ∙ sym (more ∙ or_right _ _ (eq-eqb _ _ same))
+      | inr other ↦
+          others i li other ∙ before i li
+          ∙ sym (more ∙ ap (λ (t : Bool). list_any p (take k names) || t) (ne_eqb _ _ other) ∙ or-none _)
+    ]
+
+pub unnamed : {X : Type 0} (text : X → List ℕ) (g : GameView) (names : List X) (k a : ℕ) (d : X) → k < length names
+    → member_named g (text (get_or names k d)) ≡ None
+    → ((i : ℕ) → i < length g.names → contains g i a ≡ list_any (λ name. is_named g i (text name)) (take k names))
+    → (i : ℕ) → i < length g.names → contains g i a ≡ list_any (λ name. is_named g i (text name)) (take (k + 1) names)
+unnamed {X} text g names k a d lt found before i li =
+    let p : X → Bool = λ name. is_named g i (text name) in
+    before i li ∙ sym (list_any_more p names k d lt
+    ∙ ap (λ (o : Option ℕ). list_any p (take k names) || is_that i o) found ∙ or-none _)

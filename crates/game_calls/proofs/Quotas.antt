@@ -1,0 +1,57 @@
+-- The first rule of a game at another quota.
+use Rattle.std.proofs.Common.{◌≡◌, ◌∙◌, ℕ, ◌<◌, ◌≤◌, false, ◌||◌, ltb, List, [], ◌∷◌, length, get_or, sum, refl, ap, sym, arith, Option, Result, Ok, Err}
+use Rattle.std.specs.List.{list_any}
+use Rattle.std.proofs.lemmas.Bool.{or_parts, le-ltb}
+use Rattle.std.proofs.lemmas.List.Elements.{All-cons, All-nil, recursion_from_All}
+use Rattle.council_game.specs.declared.fault.GameFault.{GameFault}
+use Rattle.council_game.specs.declared.fault.GameFault.TheVariants.{Memory}
+use Rattle.council_game.specs.Fault.{Answers}
+use Rattle.council_game.specs.Votes.{RuleView, rule_at}
+use Rattle.council_game.specs.Game.{GameView, IsGame, made_game, total, first_weights, is_heavy, has_bad_quota}
+use Rattle.council_game.specs.Ranks.{rank_places}
+use Rattle.council_game.proofs.Games.{passed, makes, first-full, nowhere_below, position-none}
+use Rattle.game_calls.specs.Quotas.{at_quota}
+
+first-light : (rs : List RuleView) (q i : ℕ) → 0 < length rs → is_heavy rs i ≡ false
+    → is_heavy (record { quota = q; weights = (rule_at rs 0).weights } ∷ []) i ≡ false
+first-light [] q i some h = absurd (omega arith)
+first-light (r ∷ rs) q i some h = ap (λ b. b || false) (or_parts (ltb 1000000000000 (get_or r.weights i 0)) (is_heavy rs i) h).0
+
+good-quota : (q : ℕ) (ws : List ℕ) → 1 ≤ q → q ≤ sum ws → list_any has_bad_quota (record { quota = q; weights = ws } ∷ []) ≡ false
+good-quota q ws some met = rw (le-ltb q 1 some, le-ltb (sum ws) q met) refl
+
+first-ranks : (rs : List RuleView) → 0 < length rs → first_weights rs ≡ (rule_at rs 0).weights
+first-ranks [] some = absurd (omega arith)
+first-ranks (r ∷ rs) some = refl
+
+ranked : (title : Option (List ℕ)) (names : List (List ℕ)) (rules : List RuleView) (ks ls : List ℕ) → ks ≡ ls
+    → ◌≡◌ {A = Result GameView GameFault} (Ok (record { title = title; names = names; rules = rules; ranks = ks }))
+    (Ok (record { title = title; names = names; rules = rules; ranks = ls }))
+ranked title names rules ks ls e = λ i. Ok (record { title = title; names = names; rules = rules; ranks = e i })
+
+pub another_quota : (g : GameView) → IsGame g → (q : ℕ) → 1 ≤ q → q ≤ total (rule_at g.rules 0) → IsGame (at_quota g q)
+another_quota g game q some met =
+    let p = passed g game.made in
+    let rs : List RuleView = record { quota = q; weights = (rule_at g.rules 0).weights } ∷ [] in
+    let first = first-ranks g.rules game.has_rule in
+    let full = recursion_from_All (λ (r : RuleView). length r.weights ≡ length g.names) g.rules game.full in
+    let count : length (rule_at g.rules 0).weights ≡ length g.names =
+    ap length (sym first) ∙ first-full (length g.names) g.rules game.has_rule full in
+    let light = nowhere_below (is_heavy rs) (length g.names)
+    (λ i lt. first-light g.rules q i game.has_rule (position-none (is_heavy g.rules) (length g.names) p.weights i lt)) in
+    record {
+      made = makes g.title g.names rs p.title p.members p.names p.repeats light (good-quota q (rule_at g.rules 0).weights some met)
+          ∙ ranked g.title g.names rs (rank_places (rule_at g.rules 0).weights) g.ranks (sym (p.ranks ∙ ap rank_places first));
+      has_rule = omega arith;
+      few_rules = omega arith;
+      full = All-cons (λ (r : RuleView). length r.weights ≡ length g.names) _ [] count (All-nil _);
+    }
+
+-- so that no fault but want of memory is answered
+pub only-memory : (g : GameView) (q : ℕ) (fault : GameFault) → IsGame g → 1 ≤ q → q ≤ total (rule_at g.rules 0)
+    → Answers (Err fault) (made_game g.title g.names (record { quota = q; weights = (rule_at g.rules 0).weights } ∷ [])) → fault ≡ Memory
+only-memory g q fault game some met gives = by-fault fault (another_quota g game q some met).made gives
+  where
+    by-fault : (f : GameFault) {answer : Result GameView GameFault} {made : GameView} → answer ≡ Ok made → Answers (Err f) answer → f ≡ Memory
+    by-fault Memory all gives = refl
+    by-fault f all gives = absurd (cc)

@@ -1,0 +1,22 @@
+//! Further calls on games, for callers: members by their places in the file, coalitions by names, critical
+//! members, games from slices or at another quota, and a count by a walk.
+//!
+//! ```text
+//! let game = game_from_slices(alloc, &["Ada", "Bo"], &[2, 1], 2)?;
+//! let coalition = coalition_named(&game, &["Ada"])?;
+//! let critical = critical_members(alloc, &game, coalition)?;
+//! ```
+#![tactic(auto)]
+
+mod critical;
+pub mod laws;
+mod made;
+mod membership;
+mod names;
+mod walked;
+
+pub use critical::{critical_members, is_critical};
+pub use made::{at_quota, game_from_slices};
+pub use membership::{has_member, outsiders, with_member, without_member};
+pub use names::{coalition_named, first_unnamed};
+pub use walked::count_by_walk;

@@ -1,0 +1,95 @@
+//! Games from slices, and at another quota.
+ghost use Rattle.council_game.specs.Fault.{Answers};
+ghost use Rattle.council_game.specs.Game.{made_game, total};
+ghost use Rattle.council_game.specs.Votes.{rule_at};
+ghost use Rattle.game_calls.specs.Quotas.{at_quota};
+ghost use Rattle.std.specs.Prelude.{◌≡◌, ◌∷◌, ◌≤◌, [], IfOk, None, length, map, option_map, string_bytes};
+
+use crate::laws::quotas_can_be_changed;
+use council_game::{Game, GameFault, Memory};
+use std::alloc::{AllocError, Global};
+
+fn copied(alloc: Global, names: &[&str]) -> Result<Vec<String>, AllocError>
+    ensures { IfOk result
+        (λ v. map string_bytes v.items ≡ map (λ name. name.now) names.now) }
+{
+    let mut copies = Vec::new(alloc);
+    for name in names {
+        copies.push(String::from_str(alloc, name)?)?;
+    }
+    Ok(copies)
+}
+
+/// The game of one rule, without a title, of these names and weights; as many weights as names.
+///
+/// # Errors
+///
+/// The first fault of the game, or Memory.
+pub fn game_from_slices(
+    alloc: Global,
+    names: &[&str],
+    weights: &[u64],
+    quota: u64,
+) -> Result<Game, GameFault>
+    requires { length weights.now ≡ length names.now }
+    ensures { Answers result (made_game None (map (λ name. name.now) names.now)
+        (record { quota = quota; weights = weights.now } ∷ [])) }
+{
+    let names = copied(alloc, names)?;
+    let weights = Vec::from_slice(alloc, weights)?;
+    Game::new(alloc, None, names, weights, quota)
+}
+
+fn title_of(alloc: Global, game: &Game) -> Result<Option<String>, AllocError>
+    ensures { IfOk result (λ title. option_map string_bytes title ≡ game.now.title) }
+{
+    match game.title() {
+        Some(title) => Ok(Some(String::from_str(alloc, title)?)),
+        None => Ok(None),
+    }
+}
+
+fn names_of(alloc: Global, game: &Game) -> Result<Vec<String>, AllocError>
+    ensures { IfOk result (λ v. map string_bytes v.items ≡ game.now.names) }
+{
+    let mut names = Vec::new(alloc);
+    for i in 0..game.members() {
+        names.push(String::from_str(alloc, game.name(i))?)?;
+    }
+    Ok(names)
+}
+
+fn weights_of(alloc: Global, game: &Game) -> Result<Vec<u64>, AllocError>
+    ensures { IfOk result (λ v. v.items ≡ (rule_at game.now.rules 0).weights) }
+{
+    let mut weights = Vec::new(alloc);
+    for i in 0..game.members() {
+        weights.push(game.weight(i))?;
+    }
+    Ok(weights)
+}
+
+/// The game of the same title and members, and of the first rule alone, at another quota: 1 to the total of
+/// its weights.
+///
+/// # Errors
+///
+/// Memory where a growth was refused.
+pub fn at_quota(alloc: Global, game: &Game, quota: u64) -> Result<Game, Memory>
+    requires some { 1 ≤ quota }
+    requires met { quota ≤ total (rule_at game.now.rules 0) }
+    ensures { IfOk result (λ made. made ≡ at_quota game.now quota) }
+{
+    let _members = game.members();
+    quotas_can_be_changed();
+    let title = title_of(alloc, game)?;
+    let names = names_of(alloc, game)?;
+    let weights = weights_of(alloc, game)?;
+    match Game::new(alloc, title, names, weights, quota) {
+        Ok(made) => Ok(made),
+        Err(fault) => {
+            prove!(matches!(fault, GameFault::Memory));
+            Err(Memory)
+        }
+    }
+}

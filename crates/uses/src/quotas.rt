@@ -1,0 +1,27 @@
+//! A game at other quotas.
+ghost use Rattle.council_game.specs.Game.{total, votes_of};
+ghost use Rattle.council_game.specs.Votes.{minimal_coalitions, rule_at};
+ghost use Rattle.game_calls.specs.Quotas.{at_quota};
+ghost use Rattle.std.specs.List.{All};
+ghost use Rattle.std.specs.Prelude.{◌≡◌, ◌≤◌, IfOk, length, map};
+
+use council_game::{Game, Memory};
+use game_calls::{at_quota, count_by_walk};
+use std::alloc::Global;
+
+/// How many minimal winning coalitions a game of one rule has at each of some quotas, each within the total.
+///
+/// # Errors
+///
+/// `Memory` where a growth was refused.
+pub fn counts_at_quotas(alloc: Global, game: &Game, quotas: &[u64]) -> Result<Vec<u64>, Memory>
+    requires { All (λ q. (1 ≤ q) × (q ≤ total (rule_at game.now.rules 0))) quotas.now }
+    ensures { IfOk result (λ v. v.items
+        ≡ map (λ q. length (minimal_coalitions (votes_of (at_quota game.now q)))) quotas.now) }
+{
+    let mut counts = Vec::new(alloc);
+    for quota in quotas {
+        counts.push(count_by_walk(&at_quota(alloc, game, *quota)?))?;
+    }
+    Ok(counts)
+}

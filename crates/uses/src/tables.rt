@@ -1,0 +1,65 @@
+//! Indices of all members, compared with each other and with a published table.
+ghost use Rattle.power_index.specs.Fractions.{SameFraction, fraction_cmp};
+ghost use Rattle.std.specs.declared.cmp.Ordering.TheVariants.{Less};
+ghost use Rattle.std.specs.Prelude.{◌≡◌, ◌≢◌, ◌↔◌, ◌<◌, ℕ, IfNone, IfSome, IsTrue, length, slice_index_or};
+
+use power_index::Index;
+
+/// Whether the index of a member is above that of each other.
+fn is_above_others(indices: &[Index], i: usize) -> bool
+    requires { i < length indices.now }
+    ensures { IsTrue result ↔ ((j : ℕ) → j < length indices.now → j ≢ i →
+        fraction_cmp (slice_index_or indices.now j (0, 1)) (slice_index_or indices.now i (0, 1)) ≡ Less) }
+{
+    for j in 0..indices.len() {
+        if j != i && !indices[j].compare(indices[i]).is_lt() {
+            return false;
+        }
+    }
+    true
+}
+
+/// The most powerful member: the one whose index is above that of each other; none where two share the first place.
+pub fn most_powerful(indices: &[Index]) -> Option<usize>
+    ensures member { IfSome result (λ i. i < length indices.now) }
+    ensures above { IfSome result (λ i. (j : ℕ) → j < length indices.now → j ≢ i →
+        fraction_cmp (slice_index_or indices.now j (0, 1)) (slice_index_or indices.now i (0, 1)) ≡ Less) }
+    ensures shared { IfNone result ((i : ℕ) → i < length indices.now → ((j : ℕ) → j < length indices.now → j ≢ i →
+        fraction_cmp (slice_index_or indices.now j (0, 1)) (slice_index_or indices.now i (0, 1)) ≡ Less) → ⊥) }
+{
+    for i in 0..indices.len() {
+        if is_above_others(indices, i) {
+            return Some(i);
+        }
+    }
+    None
+}
+
+/// Whether an index is this top over this bottom.
+fn is_right(index: Index, row_top: u16, row_bottom: u16) -> bool
+    ensures { IsTrue result ↔ SameFraction index (row_top, row_bottom) }
+{
+    let (top, bottom) = (index.top(), index.bottom());
+    let by_index = top * u128::from(row_bottom);
+    let by_row = u128::from(row_top) * bottom;
+    by_index == by_row
+}
+
+/// The first row of a published table, of tops and bottoms, that is not the index of its member.
+pub fn first_wrong_row(indices: &[Index], table: &[(u16, u16)]) -> Option<usize>
+    requires { length table.now ≡ length indices.now }
+    ensures row { IfSome result (λ k. k < length table.now) }
+    ensures wrong { IfSome result (λ k.
+        SameFraction (slice_index_or indices.now k (0, 1)) (slice_index_or table.now k (0, 1)) → ⊥) }
+    ensures before { IfSome result (λ k. (j : ℕ) → j < k →
+        SameFraction (slice_index_or indices.now j (0, 1)) (slice_index_or table.now j (0, 1))) }
+    ensures right { IfNone result ((j : ℕ) → j < length table.now →
+        SameFraction (slice_index_or indices.now j (0, 1)) (slice_index_or table.now j (0, 1))) }
+{
+    for k in 0..table.len() {
+        if !is_right(indices[k], table[k].0, table[k].1) {
+            return Some(k);
+        }
+    }
+    None
+}

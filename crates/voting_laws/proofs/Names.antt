@@ -1,0 +1,39 @@
+-- Names and rank places are distinct.
+use Rattle.std.proofs.Common.{◌≡◌, ◌∙◌, ℕ, ◌<◌, true, List, [], length, get_or, take, sym, ap, arith, inl, inr, nat_eq}
+use Rattle.std.specs.Cmp.Lexicographic.{pointwise}
+use Rattle.std.proofs.lemmas.Bool.{cases_eq, cases_lt, both_ways}
+use Rattle.std.proofs.lemmas.List.{get_or-take, length-take}
+use Rattle.std.proofs.lemmas.List.Folds.{list_any_at}
+use Rattle.std.proofs.lemmas.Slice.Eq.{bytes_eq-Decides}
+use Rattle.council_game.specs.Game.{GameView, IsGame, is_repeat}
+use Rattle.council_game.specs.Ranks.{member_at}
+use Rattle.council_game.proofs.Games.{passed, position-none}
+use Rattle.council_game.proofs.Making.{ranks-are}
+
+pub distinct_places : (g : GameView) → IsGame g → (i j : ℕ) → i < length g.names → j < length g.names → get_or g.ranks i 0 ≡ get_or g.ranks j 0
+    → i ≡ j
+distinct_places g game i j li lj same =
+    let are = ranks-are g game in
+    sym (are.member_back i li) ∙ ap (member_at g.ranks) same ∙ are.member_back j lj
+
+-- a name that stands before is a repeat
+repeats : (names : List (List ℕ)) (i j : ℕ) → i < j → j < length names → get_or names i [] ≡ get_or names j [] → is_repeat names j ≡ true
+repeats names i j before below same =
+    list_any_at (pointwise nat_eq (get_or names j [])) (take j names) i [] (omega (arith, length-take j names, before, below))
+    ((bytes_eq-Decides _ _).1 (sym (get_or-take j names i [] before ∙ same)))
+
+none-before : (g : GameView) → IsGame g → (i j : ℕ) → i < j → j < length g.names → get_or g.names i [] ≡ get_or g.names j [] → ⊥
+none-before g game i j before below same =
+    both_ways _ (position-none (is_repeat g.names) (length g.names) (passed g game.made).repeats j below)
+    (repeats g.names i j before below same)
+
+pub distinct_names : (g : GameView) → IsGame g → (i j : ℕ) → i < length g.names → j < length g.names
+    → get_or g.names i [] ≡ get_or g.names j [] → i ≡ j
+distinct_names g game i j li lj same =
+    elim (cases_eq i j) [
+      | inl is ↦ is
+      | inr other ↦ elim (cases_lt i j) [
+        | inl lt ↦ absurd (none-before g game i j lt lj same)
+        | inr ge ↦ absurd (none-before g game j i (omega (arith, other, ge)) li (sym same))
+      ]
+    ]
