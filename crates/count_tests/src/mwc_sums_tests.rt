@@ -268,6 +268,143 @@ fn random_games_of_heads_as_all_subsets(rt: HostRuntime) -> Result<(), Fail> {
     Ok(())
 }
 
+/// Weights of so many members: numbers from 1 to a limit that a seed chooses, for those from one to before another.
+fn house(
+    rt: &impl Abort,
+    alloc: Global,
+    seed: u64,
+    members: usize,
+    from: usize,
+    to: usize,
+    most: u64,
+) -> Result<Vec<u64>, Fail> {
+    assert!(rt; 0 < most);
+    let mut weights = Vec::new(alloc);
+    let mut state = next(seed);
+    for member in 0..members {
+        if from <= member && member < to {
+            state = next(state);
+            weights.push(((state >> 20) % most).saturating_add(1))?;
+        } else {
+            weights.push(0)?;
+        }
+    }
+    Ok(weights)
+}
+
+/// A quota for these weights that a seed chooses.
+fn random_quota(seed: u64, weights: &[u64]) -> u64 {
+    let mut total: u64 = 0;
+    for weight in weights {
+        total = total.saturating_add(*weight);
+    }
+    (next(next(seed)) >> 20) % total.max(1) + 1
+}
+
+/// The game of members named 0, 1, .. and of three rules.
+fn game_of_three(
+    rt: &impl Abort,
+    alloc: Global,
+    members: usize,
+    quotas: [u64; 3],
+    first: Vec<u64>,
+    second: Vec<u64>,
+    third: Vec<u64>,
+) -> Result<Game, Fail> {
+    let mut names = Vec::new(alloc);
+    for member in 0..members {
+        names.push(format!(in alloc; "{member}")?)?;
+    }
+    assert!(rt; first.len() == names.len());
+    assert!(rt; second.len() == names.len());
+    assert!(rt; third.len() == names.len());
+    let mut rules = Vec::new(alloc);
+    rules.push(Rule {
+        quota: quotas[0],
+        weights: first,
+    })?;
+    rules.push(Rule {
+        quota: quotas[1],
+        weights: second,
+    })?;
+    rules.push(Rule {
+        quota: quotas[2],
+        weights: third,
+    })?;
+    Ok(Game::with_rules(alloc, None, names, rules)?)
+}
+
+/// Three houses of four, of three and of two members, chosen by a seed, and a member without weight.
+fn random_game_of_houses(
+    rt: &impl Abort,
+    alloc: Global,
+    seed: u64,
+    most: u64,
+) -> Result<Game, Fail> {
+    let first = house(rt, alloc, seed, 10, 0, 4, most)?;
+    let second = house(rt, alloc, seed.wrapping_add(1), 10, 4, 7, most)?;
+    let third = house(rt, alloc, seed.wrapping_add(2), 10, 7, 9, most)?;
+    let quotas = [
+        random_quota(seed, &first),
+        random_quota(seed.wrapping_add(1), &second),
+        random_quota(seed.wrapping_add(2), &third),
+    ];
+    game_of_three(rt, alloc, 10, quotas, first, second, third)
+}
+
+#[test]
+fn random_games_of_houses_as_all_subsets(rt: HostRuntime) -> Result<(), Fail> {
+    let alloc = rt.alloc();
+    for seed in 300..340 {
+        for most in [1, 3, 1_000_000_000_000] {
+            let game = random_game_of_houses(&rt, alloc, seed, most)?;
+            let found = by_sums(alloc, &game)?;
+            same_counts(&rt, &found, &by_subsets(&rt, alloc, &game)?);
+        }
+    }
+    Ok(())
+}
+
+/// A president, a house of 20 and one of 19: the houses were counted by another program, and the counts multiplied.
+#[test]
+fn a_president_and_two_houses(rt: HostRuntime) -> Result<(), Fail> {
+    let alloc = rt.alloc();
+    let president = house(&rt, alloc, 0, 40, 0, 1, 1)?;
+    let lower = house(&rt, alloc, 1, 40, 1, 21, 1_000_000)?;
+    let upper = house(&rt, alloc, 2, 40, 21, 40, 1_000_000)?;
+    let game = game_of_three(
+        &rt,
+        alloc,
+        40,
+        [1, 6_209_229, 6_024_772],
+        president,
+        lower,
+        upper,
+    )?;
+    let counts = by_sums(alloc, &game)?;
+    assert!(rt; counts.members() == 40);
+    same(&rt, counts.wide_total(), 24_980 * 11_144, "in all");
+    same(
+        &rt,
+        counts.wide_of_member(0),
+        24_980 * 11_144,
+        "the president",
+    );
+    same(
+        &rt,
+        counts.wide_of_member(1),
+        12_682 * 11_144,
+        "of the house",
+    );
+    same(
+        &rt,
+        counts.wide_of_member(21),
+        24_980 * 6_447,
+        "of the other house",
+    );
+    Ok(())
+}
+
 /// A game of two rules over two members, the second of these weights.
 fn game_of_two(rt: &impl Abort, alloc: Global, second: &[u64]) -> Result<Game, Fail> {
     let mut names = Vec::new(alloc);

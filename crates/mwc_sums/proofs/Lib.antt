@@ -15,3 +15,11 @@ pub mod FittingSets
 pub mod HalfSums
 pub mod VetoLaw
 pub mod AlikeRules
+pub mod Winning
+pub mod Joining
+pub mod AllSums
+pub mod Paired
+pub mod Pairs
+pub mod Apart
+pub mod Remaking
+pub mod Joined

@@ -12,7 +12,7 @@ use Rattle.council_game.proofs.Making.{RanksAre}
 use Rattle.power_index.specs.Counting.{contains}
 
 -- the coalition of the places that pass a test
-mask_of : (ℕ → Bool) → ℕ → ℕ
+pub mask_of : (ℕ → Bool) → ℕ → ℕ
 mask_of test zero = 0
 mask_of test (suc n) = 2 * mask_of test n + cond (test n) 1 0
 
@@ -20,7 +20,7 @@ bit : (b : Bool) → cond b 1 0 < 2
 bit true = omega arith
 bit false = omega arith
 
-mask-below : (test : ℕ → Bool) (n : ℕ) → mask_of test n < 2 ^ n
+pub mask-below : (test : ℕ → Bool) (n : ℕ) → mask_of test n < 2 ^ n
 unfolding mask_of
 mask-below test zero = omega arith
 mask-below test (suc n) =
@@ -33,7 +33,7 @@ last-digit : (m : ℕ) (b : Bool) → (2 * m + cond b 1 0) / 2 ^ 0 % 2 == 1 ≡ 
 last-digit m true = eq-eqb ((2 * m + 1) / 2 ^ 0 % 2) 1 (omega arith)
 last-digit m false = ne_eqb ((2 * m + 0) / 2 ^ 0 % 2) 1 (omega arith)
 
-mask-has : (test : ℕ → Bool) (n p : ℕ) → p < n → has n p (mask_of test n) ≡ test p
+pub mask-has : (test : ℕ → Bool) (n p : ℕ) → p < n → has n p (mask_of test n) ≡ test p
 unfolding mask_of has
 mask-has test zero p lt = absurd (omega arith)
 mask-has test (suc n) p lt = elim (cases_lt p n) [
@@ -53,7 +53,7 @@ mask-has test (suc n) p lt = elim (cases_lt p n) [
 ]
 
 -- coalitions with the same places are the same
-same-places : (n c d : ℕ) → c < 2 ^ n → d < 2 ^ n → ((p : ℕ) → p < n → has n p c ≡ has n p d) → c ≡ d
+pub same-places : (n c d : ℕ) → c < 2 ^ n → d < 2 ^ n → ((p : ℕ) → p < n → has n p c ≡ has n p d) → c ≡ d
 unfolding has
 same-places n c d lc ld same = same_from_bits_below n c d lc ld (λ i lt.
     (let place : n - 1 - (n - 1 - i) ≡ i = omega (arith, lt) in

@@ -1,8 +1,8 @@
 -- The counts of a game do not depend on the order of its rules, nor on the order of its places.
-use Rattle.std.proofs.Common.{◌≡◌, ◌∙◌, ◌==◌, ◌&&◌, ltb, None, Result, Ok, Err, ℕ, zero, suc, ◌+◌, ◌*◌, ◌^◌, ◌<◌, ◌≤◌}
+use Rattle.std.proofs.Common.{◌≡◌, ◌∙◌, ◌==◌, ◌&&◌, ℕ, zero, suc, ◌+◌, ◌*◌, ◌^◌, ◌<◌, ◌≤◌}
 use Rattle.std.proofs.Common.{Bool, true, cond, eqb, leb, List, [], ◌∷◌, length, get_or, map, filter, sym, ap, refl, arith, subst}
 use Rattle.std.proofs.Common.{inl, inr}
-use Rattle.std.specs.List.{sum_by, position, range_with_len, All, AllPairs, Contains, IsDistinct}
+use Rattle.std.specs.List.{sum_by, range_with_len, All, AllPairs, Contains, IsDistinct}
 use Rattle.std.specs.List.Sorted.{IsPermutation}
 use Rattle.std.specs.Set.{is_member}
 use Rattle.std.proofs.lemmas.Bool.{cases_Bool, or_cases, or_left, or_right, and_parts, and_from, leb-true, le-leb, eqb-true, eqb-false}
@@ -13,19 +13,14 @@ use Rattle.std.proofs.lemmas.List.FromFn.{fill_by_all, length-range_with_len}
 use Rattle.std.proofs.lemmas.List.Folds.{fold-map}
 use Rattle.std.proofs.lemmas.List.Elements.{All-cons, All-nil, All-filter, filter_passes}
 use Rattle.std.proofs.lemmas.List.Kept.{AllPairs-filter}
-use Rattle.std.proofs.lemmas.List.Sorted.{sum_by-IsPermutation, Contains-permutation, IsPermutation-sym, IsPermutation-append_comm}
-use Rattle.std.proofs.lemmas.List.Sorted.{list_any-IsPermutation}
+use Rattle.std.proofs.lemmas.List.Sorted.{sum_by-IsPermutation, Contains-permutation, IsPermutation-sym}
 use Rattle.std.proofs.lemmas.Map.Keys.{IsDistinct-from_apart}
 use Rattle.std.proofs.lemmas.Map.Made.{length-le_from_is_member, is_member-filter}
-use Rattle.council_game.specs.Votes.{RuleView, Votes, rule_at, has, without, weight, wins, minimal, down, minimal_coalitions}
-use Rattle.council_game.specs.declared.fault.GameFault.{GameFault}
-use Rattle.council_game.specs.declared.fault.GameFault.TheVariants.{Memory}
-use Rattle.council_game.specs.Fault.{Gives, Answers}
-use Rattle.council_game.specs.Ranks.{places, rank_places, member_at, members_by_rank, rule_by_rank}
-use Rattle.council_game.specs.Game.{GameView, IsGame, votes_of, made_game, first_weights, is_heavy}
-use Rattle.council_game.specs.Game.{has_bad_quota}
+use Rattle.council_game.specs.Votes.{RuleView, Votes, has, without, weight, wins, minimal, down, minimal_coalitions}
+use Rattle.council_game.specs.Ranks.{places, member_at, members_by_rank, rule_by_rank}
+use Rattle.council_game.specs.Game.{GameView, IsGame, votes_of}
 use Rattle.council_game.specs.Laws.{IsListing}
-use Rattle.council_game.proofs.Games.{votes-are, passed, makes}
+use Rattle.council_game.proofs.Games.{votes-are}
 use Rattle.council_game.proofs.Listing.{listing-is}
 use Rattle.council_game.proofs.Making.{ranks-are}
 use Rattle.council_game.proofs.Meanings.{needs-each-member}
@@ -62,7 +57,7 @@ ranked-weight g is r i lt =
     ∙ ap (member_at g.ranks) (places-at (length g.ranks) (get_or g.ranks i 0) 0 (omega (arith, are.count, below)))
     ∙ are.member_back i lt)
 
-weight-by_member : (g : GameView) → IsGame g → (r : RuleView) (c : ℕ)
+pub weight-by_member : (g : GameView) → IsGame g → (r : RuleView) (c : ℕ)
     → weight (rule_by_rank g.ranks r).weights c ≡ sum_by (λ i. cond (contains g i c) 1 0 * get_or r.weights i 0) (places g.names)
 unfolding weight
 weight-by_member g is r c =
@@ -113,7 +108,7 @@ filter-all : (xs : List ℕ) → filter (λ c. true) xs ≡ xs
 filter-all [] = refl
 filter-all (x ∷ xs) = ap (λ (l : List ℕ). x ∷ l) (filter-all xs)
 
-listed-passes : (v : Votes) → All (λ c. minimal v c ≡ true) (minimal_coalitions v)
+pub listed-passes : (v : Votes) → All (λ c. minimal v c ≡ true) (minimal_coalitions v)
 unfolding minimal_coalitions
 listed-passes v = filter_passes (minimal v) (down (2 ^ v.members))
 
@@ -264,55 +259,3 @@ same_counts g h t is_g is_h same counts =
           ∙ sym (count-same g h is_g is_h same (λ c. contains g i c && (size_of g c == s)) (λ c. contains h i c && (size_of h c == s))
           (λ c d alike. (λ k. alike i below k && sizes s c d alike k))));
     }
-
--- ---- the other order of two rules
-pub two-turned : (rs : List RuleView) → length rs ≡ 2 → IsPermutation rs (rule_at rs 1 ∷ rule_at rs 0 ∷ [])
-two-turned [] two = absurd (omega (arith, two))
-two-turned (r ∷ []) two = absurd (omega (arith, two))
-two-turned (r ∷ s ∷ []) two = IsPermutation-append_comm (r ∷ []) (s ∷ [])
-two-turned (r ∷ s ∷ t ∷ rs) two = absurd (omega (arith, two))
-
--- a game is made of its rules in any order
-pub made-of-them : (g : GameView) (rs : List RuleView) → IsGame g → IsPermutation g.rules rs
-    → made_game None g.names rs ≡ Ok (record { title = None; names = g.names; rules = rs; ranks = rank_places (first_weights rs) })
-made-of-them g rs is perm =
-    let p = passed g is.made in
-    let heavy : (k : ℕ) → is_heavy g.rules k ≡ is_heavy rs k =
-    λ k. list_any-IsPermutation (λ (r : RuleView). ltb 1000000000000 (get_or r.weights k 0)) g.rules rs perm in
-    makes None g.names rs refl p.members p.names p.repeats
-    ((λ i. position (λ k. sym (heavy k) i) (range_with_len 0 (length g.names))) ∙ p.weights)
-    (sym (list_any-IsPermutation has_bad_quota g.rules rs perm) ∙ p.quotas)
-
--- what was made of them, or want of memory
-abbrev pub Made : Result GameView GameFault → GameView → Type 0
-Made answer g = Answers answer (made_game None g.names (rule_at g.rules 1 ∷ rule_at g.rules 0 ∷ []))
-
-ok-same : (a b : GameView) → ◌≡◌ {A = Result GameView GameFault} (Ok a) (Ok b) → a ≡ b
-ok-same a b h = cc
-
-pub made-rules : (g made : GameView) → IsGame g → length g.rules ≡ 2 → Made (Ok made) g
-    → made.rules ≡ rule_at g.rules 1 ∷ rule_at g.rules 0 ∷ []
-made-rules g made is two gives =
-    let rs : List RuleView = rule_at g.rules 1 ∷ rule_at g.rules 0 ∷ [] in
-    let all = made-of-them g rs is (two-turned g.rules two) in
-    let same : ◌≡◌ {A = Result GameView GameFault} (Ok made) (Ok (record
-    { title = None; names = g.names; rules = rs; ranks = rank_places (first_weights rs) })) = sym gives ∙ all in
-    ap (λ (x : GameView). x.rules) (ok-same _ _ same)
-
-pub made-turned : (g made : GameView) → IsGame g → length g.rules ≡ 2 → Made (Ok made) g → HaveTheSameRules g made
-made-turned g made is two gives =
-    let rs : List RuleView = rule_at g.rules 1 ∷ rule_at g.rules 0 ∷ [] in
-    let all = made-of-them g rs is (two-turned g.rules two) in
-    let same : ◌≡◌ {A = Result GameView GameFault} (Ok (record
-    { title = None; names = g.names; rules = rs; ranks = rank_places (first_weights rs) })) (Ok made) = sym all ∙ gives in
-    let view = ok-same _ _ same in
-    subst (HaveTheSameRules g) view (record { members = refl; rules = two-turned g.rules two })
-
-pub only-memory : (g : GameView) (fault : GameFault) → IsGame g → length g.rules ≡ 2 → Made (Err fault) g → fault ≡ Memory
-only-memory g fault is two gives =
-    by_fault fault (made-of-them g (rule_at g.rules 1 ∷ rule_at g.rules 0 ∷ []) is (two-turned g.rules two)) gives
-  where
-    by_fault : (f : GameFault) {answer : Result GameView GameFault} {made : GameView} → answer ≡ Ok made → Gives (λ x. x) (Err f) answer
-        → f ≡ Memory
-    by_fault Memory all gives = refl
-    by_fault f all gives = absurd (cc)

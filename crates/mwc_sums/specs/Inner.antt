@@ -5,3 +5,4 @@ pub mod Choices
 pub mod Sets
 pub mod Fitting
 pub mod Halves
+pub mod Fair

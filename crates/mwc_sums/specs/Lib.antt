@@ -1,6 +1,7 @@
 pub use Rattle.council_game.specs.Game
 pub use Rattle.council_game.specs.Votes
 pub use Rattle.power_index.specs.Tables
+pub mod Chambers
 pub mod Completing
 pub mod Heads
 pub mod Inner

@@ -2,17 +2,19 @@
 ghost use Rattle.coalitions.specs.declared.limits.TheConstants.{MEMBERS, TOTAL};
 ghost use Rattle.council_game.specs.Game.{votes_of};
 ghost use Rattle.council_game.specs.Votes.{minimal_coalitions, rule_at};
+ghost use Rattle.mwc_sums.specs.Chambers.{AreApart};
 ghost use Rattle.mwc_sums.specs.Heads.{AsksForHeads, IsOfWeightsAndHeads, WeighsAllAlike};
 ghost use Rattle.mwc_sums.specs.Inner.Rows.{AreAllEndings, endings, left_out};
 ghost use Rattle.mwc_sums.specs.Inner.Asked.{IsAsked};
 ghost use Rattle.power_index.specs.Tables.{AreCounts};
 ghost use Rattle.std.specs.Prelude.{◌≡◌, ℕ, ◌≤◌, ◌<◌, ◌↔◌, ◌⊎◌, IfOk, IfSome, IsSome, length, sum};
 
+use crate::chambers::{are_apart, count_apart};
 use crate::choices::Heads;
 use crate::halves::by_halves;
 use crate::laws::counts_do_not_depend_on_the_order_of_rules;
+use crate::remade::turned;
 use crate::tallies::{Tallies, by_sums};
-use crate::turned::turned;
 use council_game::{Game, Memory};
 use power_index::Counts;
 use std::alloc::Global;
@@ -98,7 +100,7 @@ fn tallies(alloc: Global, weights: &[u64], quota: u64, heads: usize) -> Result<T
 }
 
 /// The counts of a game that asks for so many heads besides its first rule.
-fn count_with_heads(alloc: Global, game: &Game, heads: usize) -> Result<Counts, Memory>
+pub(crate) fn count_with_heads(alloc: Global, game: &Game, heads: usize) -> Result<Counts, Memory>
     requires few { heads ≤ MEMBERS }
     requires asked { IsAsked (votes_of game.now) heads }
     ensures { IfOk result (λ c. AreCounts game.now (minimal_coalitions (votes_of game.now)) c) }
@@ -131,8 +133,9 @@ fn count_turned(alloc: Global, game: &Game) -> Result<Option<Counts>, Memory>
     Ok(Some(counts))
 }
 
-/// The counts of all minimal winning coalitions of a game of one rule, or of two of which one gives each member the
-/// same weight, whatever the weights are: none of them is listed. None for any other game. Up to 64 MB.
+/// The counts of all minimal winning coalitions of a game of one rule, of two of which one gives each member the
+/// same weight, or of rules of which no two give weight to one member, whatever the weights are: none of them is
+/// listed. None for any other game. Up to 64 MB.
 ///
 /// # Errors
 ///
@@ -140,11 +143,14 @@ fn count_turned(alloc: Global, game: &Game) -> Result<Option<Counts>, Memory>
 pub fn count_by_sums(alloc: Global, game: &Game) -> Result<Option<Counts>, Memory>
     ensures counts { IfOk result (λ counts. IfSome counts
         (λ c. AreCounts game.now (minimal_coalitions (votes_of game.now)) c)) }
-    ensures kind { IfOk result (λ counts. IsSome counts ↔ IsOfWeightsAndHeads game.now) }
+    ensures kind { IfOk result (λ counts. IsSome counts ↔ (IsOfWeightsAndHeads game.now ⊎ AreApart game.now)) }
 {
     if let Some(heads) = heads_of(game) {
         let counts = count_with_heads(alloc, game, heads)?;
         return Ok(Some(counts));
+    }
+    if are_apart(game) {
+        return Ok(Some(count_apart(alloc, game)?));
     }
     count_turned(alloc, game)
 }

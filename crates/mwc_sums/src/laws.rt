@@ -1,12 +1,13 @@
 //! Laws of the definitions, with nothing to run.
 ghost use Rattle.council_game.specs.Votes.{IsVotes, Votes, has, minimal, minimal_coalitions, rule_at, wins};
+ghost use Rattle.mwc_sums.specs.Chambers.{AreChambersOf, minimal_of_member_size, minimal_of_size, paired};
 ghost use Rattle.mwc_sums.specs.Completing.{completing};
 ghost use Rattle.council_game.specs.Game.{GameView, IsGame, votes_of};
 ghost use Rattle.mwc_sums.specs.Heads.{AsksForHeads, IsMinimalByHeads};
 ghost use Rattle.mwc_sums.specs.Orders.{HaveTheSameRules};
 ghost use Rattle.mwc_sums.specs.Vetoers.{IsVetoer};
 ghost use Rattle.power_index.specs.Tables.{AreCounts, Tables};
-ghost use Rattle.std.specs.Prelude.{◌≡◌, ℕ, ◌<◌, ◌^◌, ◌↔◌, true, length};
+ghost use Rattle.std.specs.Prelude.{◌≡◌, ℕ, ◌+◌, ◌<◌, ◌^◌, ◌↔◌, true, length};
 
 /// In a game of one rule, the minimal winning coalitions are those that complete the quota.
 #[tactic(auto, using(crate::proofs::Completing::laws))]
@@ -36,4 +37,15 @@ pub fn counts_do_not_depend_on_the_order_of_rules()
 pub fn vetoers_are_in_each_winning_coalition()
     ensures { (v : Votes) (p c : ℕ) → IsVotes v → p < v.members → IsVetoer v p → c < 2 ^ v.members
         → wins v.rules c ≡ true → has v.members p c ≡ true }
+{}
+
+/// Where the rules of a game are those of two others, and no member has weight in both, each minimal winning coalition
+/// is one of each together: so are those of a size, and of a member and a size.
+pub fn coalitions_of_chambers_are_pairs()
+    ensures sizes { (g a b : GameView) (s : ℕ) → IsGame g → IsGame a → IsGame b → AreChambersOf g a b
+        → minimal_of_size g s ≡ paired (minimal_of_size a) (minimal_of_size b) s }
+    ensures members { (g a b : GameView) (i s : ℕ) → IsGame g → IsGame a → IsGame b → AreChambersOf g a b
+        → i < length g.names → minimal_of_member_size g i s
+        ≡ paired (minimal_of_member_size a i) (minimal_of_size b) s
+        + paired (minimal_of_size a) (minimal_of_member_size b i) s }
 {}

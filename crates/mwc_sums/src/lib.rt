@@ -12,15 +12,16 @@
 //! members, whatever their weights.
 #![tactic(auto)]
 
+mod chambers;
 mod choices;
 mod count;
 mod fitting;
 mod halves;
 pub mod laws;
+mod remade;
 mod row;
 mod rows;
 mod sets;
 mod tallies;
-mod turned;
 
 pub use count::count_by_sums;

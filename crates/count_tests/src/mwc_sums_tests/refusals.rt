@@ -1,4 +1,4 @@
-//! The calls that take memory, by sums and by halves. `tests/refusals.sh` refuses the allocations between the line `call` and
+//! The calls that take memory, by sums, by halves and by chambers. `tests/refusals.sh` refuses the allocations between the line `call` and
 //! the line of the answer.
 use super::*;
 use std::io::Print;
@@ -29,5 +29,12 @@ fn counts_by_sums(rt: HostRuntime) -> Result<(), Fail> {
 fn counts_by_halves(rt: HostRuntime) -> Result<(), Fail> {
     let alloc = rt.alloc();
     let game = uneven_game(alloc, 12, 4, false)?;
+    counts(&rt, alloc, &game)
+}
+
+#[test]
+fn counts_by_chambers(rt: HostRuntime) -> Result<(), Fail> {
+    let alloc = rt.alloc();
+    let game = random_game_of_houses(&rt, alloc, 300, 3)?;
     counts(&rt, alloc, &game)
 }

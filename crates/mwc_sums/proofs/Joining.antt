@@ -1,0 +1,139 @@
+-- Sets that win where they win under two conditions, each of which sees members of its own.
+use Rattle.std.proofs.Common.{◌≡◌, ◌∙◌, ◌&&◌, ◌||◌, ℕ, ◌<◌, Bool, true, false, sym, ap, refl, inl, inr}
+use Rattle.std.proofs.lemmas.Bool.{cases_Bool, and_parts, and_from, and_left, and_right, or_cases, or_left, or_right, both_ways, true_from_ne_false}
+use Rattle.mwc_sums.proofs.Winning.{less, IsLeast, less-same, less-alike}
+
+-- a test of sets sees these members alone
+abbrev pub Sees : ℕ → (ℕ → Bool) → ((ℕ → Bool) → Bool) → Type 0
+Sees n side won = (f h : ℕ → Bool) → ((i : ℕ) → i < n → side i ≡ true → f i ≡ h i) → won f ≡ won h
+
+-- a set wins where it wins in both, and these see no member both
+pub record IsJoint (n : ℕ) (own other : ℕ → Bool) (won_g won_a won_b : (ℕ → Bool) → Bool) : Type 0 where
+  pub both : (f : ℕ → Bool) → won_g f ≡ (won_a f && won_b f)
+  pub sees_own : Sees n own won_a
+  pub sees_other : Sees n other won_b
+  pub apart : (i : ℕ) → i < n → own i ≡ true → other i ≡ false
+
+and-swapped : (x y : Bool) → (x && y) ≡ (y && x)
+and-swapped true true = refl
+and-swapped true false = refl
+and-swapped false true = refl
+and-swapped false false = refl
+
+other-half : (x y : Bool) → (x && y) ≡ false → y ≡ true → x ≡ false
+other-half true true h won = h
+other-half false true h won = refl
+other-half x false h won = absurd (cc)
+
+pub flipped-joint : (n : ℕ) (own other : ℕ → Bool) (won_g won_a won_b : (ℕ → Bool) → Bool) → IsJoint n own other won_g won_a won_b
+    → IsJoint n other own won_g won_b won_a
+flipped-joint n own other won_g won_a won_b joint = record {
+  both = λ f. joint.both f ∙ and-swapped (won_a f) (won_b f);
+  sees_own = joint.sees_other;
+  sees_other = joint.sees_own;
+  apart = λ i lt seen. elim (cases_Bool (own i)) [
+    | inl is ↦ absurd (both_ways (other i) (joint.apart i lt is) seen)
+    | inr none ↦ none
+  ];
+}
+
+-- no member of a least set is unseen
+pub least-seen : (n : ℕ) (side : ℕ → Bool) (won : (ℕ → Bool) → Bool) (f : ℕ → Bool) → Sees n side won → IsLeast n won f
+    → (i : ℕ) → i < n → f i ≡ true → side i ≡ true
+least-seen n side won f sees least i lt inside = true_from_ne_false (side i) (λ unseen.
+    both_ways (won (less f i)) (least.needs i lt inside)
+    (sees (less f i) f (λ j lj seen. less-same f i j (λ e. both_ways (side j) (ap side e ∙ unseen) seen)) ∙ least.wins))
+
+module _ (n : ℕ) (own other : ℕ → Bool) (won_g won_a won_b : (ℕ → Bool) → Bool) (joint : IsJoint n own other won_g won_a won_b) where
+  -- a least set is, of each side, a least set
+  pub least-half : (c x : ℕ → Bool) → IsLeast n won_g c → ((i : ℕ) → i < n → x i ≡ (c i && own i)) → IsLeast n won_a x
+  least-half c x least is = record {
+    wins = joint.sees_own x c same ∙ (and_parts (won_a c) (won_b c) wins).0;
+    needs = λ i lt inside.
+        (let parts = and_parts (c i) (own i) (sym (is i lt) ∙ inside) in
+        let rest : won_b (less c i) ≡ true =
+        joint.sees_other (less c i) c (λ j lj seen. less-same c i j (λ e. both_ways (other j)
+        (joint.apart j lj (ap own e ∙ parts.1)) seen)) ∙ (and_parts (won_a c) (won_b c) wins).1 in
+        joint.sees_own (less x i) (less c i) (λ j lj seen. less-alike x c i j (same j lj seen))
+        ∙ other-half (won_a (less c i)) (won_b (less c i)) (sym (joint.both (less c i)) ∙ least.needs i lt parts.0) rest);
+  }
+    where
+      wins : (won_a c && won_b c) ≡ true
+      wins = sym (joint.both c) ∙ least.wins
+
+      seen-all : (b s : Bool) → s ≡ true → (b && s) ≡ b
+      seen-all true true h = refl
+      seen-all false true h = refl
+      seen-all b false h = absurd (cc)
+
+      same : (i : ℕ) → i < n → own i ≡ true → x i ≡ c i
+      same i lt seen = is i lt ∙ seen-all (c i) (own i) seen
+
+  -- each of its members is on a side
+  pub least-sides : (c : ℕ → Bool) → IsLeast n won_g c → (i : ℕ) → i < n → c i ≡ true → (own i || other i) ≡ true
+  least-sides c least i lt inside = elim (cases_Bool (own i)) [
+    | inl seen ↦ or_left (own i) (other i) seen
+    | inr unseen ↦ or_right (own i) (other i) (true_from_ne_false (other i) (λ none.
+        both_ways (won_g (less c i)) (least.needs i lt inside)
+        (joint.both (less c i)
+        ∙ (λ k. joint.sees_own (less c i) c (λ j lj seen. less-same c i j (λ e. both_ways (own j) (ap own e ∙ unseen) seen)) k
+        && joint.sees_other (less c i) c (λ j lj seen. less-same c i j (λ e. both_ways (other j) (ap other e ∙ none) seen)) k)
+        ∙ sym (joint.both c) ∙ least.wins)))
+  ]
+
+  -- members of the one set are not of the other
+  pub least-apart : (x y : ℕ → Bool) → IsLeast n won_a x → IsLeast n won_b y → (i : ℕ) → i < n → x i ≡ true → y i ≡ false
+  least-apart x y least_x least_y i lt inside = elim (cases_Bool (y i)) [
+    | inl in_y ↦ absurd (both_ways (other i) (joint.apart i lt (least-seen n own won_a x joint.sees_own least_x i lt inside))
+        (least-seen n other won_b y joint.sees_other least_y i lt in_y))
+    | inr none ↦ none
+  ]
+
+  -- of the two together, those of one side are the one set
+  pub least-own : (x y : ℕ → Bool) → IsLeast n won_a x → IsLeast n won_b y → (i : ℕ) → i < n → ((x i || y i) && own i) ≡ x i
+  least-own x y least_x least_y i lt =
+      by_case (x i) (y i) (own i) (least-apart x y least_x least_y i lt) (least-seen n own won_a x joint.sees_own least_x i lt)
+      (λ in_y seen. both_ways (other i) (joint.apart i lt seen) (least-seen n other won_b y joint.sees_other least_y i lt in_y))
+    where
+      by_case : (b d s : Bool) → (b ≡ true → d ≡ false) → (b ≡ true → s ≡ true) → (d ≡ true → s ≡ true → ⊥) → ((b || d) && s) ≡ b
+      by_case true d s p q r = ap (λ (t : Bool). t) (q refl)
+      by_case false true true p q r = absurd (r refl refl)
+      by_case false true false p q r = refl
+      by_case false false s p q r = refl
+
+  -- two least sets together are a least set
+  pub least-union : (c x y : ℕ → Bool) → IsLeast n won_a x → IsLeast n won_b y → ((i : ℕ) → i < n → c i ≡ (x i || y i)) → IsLeast n won_g c
+  least-union c x y least_x least_y is = record {
+    wins = joint.both c
+        ∙ and_from (won_a c) (won_b c) (joint.sees_own c x in_x ∙ least_x.wins) (joint.sees_other c y in_y ∙ least_y.wins);
+    needs = λ i lt inside.
+        joint.both (less c i) ∙ elim (or_cases (x i) (y i) (sym (is i lt) ∙ inside)) [
+          | inl own_x ↦ and_left (won_a (less c i)) (won_b (less c i))
+              (joint.sees_own (less c i) (less x i) (λ j lj seen. less-alike c x i j (in_x j lj seen)) ∙ least_x.needs i lt own_x)
+          | inr own_y ↦ and_right (won_a (less c i)) (won_b (less c i))
+              (joint.sees_other (less c i) (less y i) (λ j lj seen. less-alike c y i j (in_y j lj seen)) ∙ least_y.needs i lt own_y)
+        ];
+  }
+    where
+      left : (b d : Bool) → d ≡ false → (b || d) ≡ b
+      left true false h = refl
+      left false false h = refl
+      left b true h = absurd (cc)
+
+      right : (b d : Bool) → b ≡ false → (b || d) ≡ d
+      right false d h = refl
+      right true d h = absurd (cc)
+
+      in_x : (i : ℕ) → i < n → own i ≡ true → c i ≡ x i
+      in_x i lt seen = is i lt ∙ left (x i) (y i) (elim (cases_Bool (y i)) [
+        | inl there ↦ absurd (both_ways (other i) (joint.apart i lt seen)
+            (least-seen n other won_b y joint.sees_other least_y i lt there))
+        | inr none ↦ none
+      ])
+
+      in_y : (i : ℕ) → i < n → other i ≡ true → c i ≡ y i
+      in_y i lt seen = is i lt ∙ right (x i) (y i) (elim (cases_Bool (x i)) [
+        | inl there ↦ absurd (both_ways (other i)
+            (joint.apart i lt (least-seen n own won_a x joint.sees_own least_x i lt there)) seen)
+        | inr none ↦ none
+      ])

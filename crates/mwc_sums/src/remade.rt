@@ -1,0 +1,106 @@
+//! Games of the same members with other rules.
+ghost use Rattle.coalitions.specs.declared.limits.TheConstants.{RULES};
+ghost use Rattle.council_game.specs.Game.{IsGame};
+ghost use Rattle.council_game.specs.Rules.{rule_view, rule_views};
+ghost use Rattle.council_game.specs.Votes.{rule_at};
+ghost use Rattle.mwc_sums.specs.Inner.Fair.{IsFair};
+ghost use Rattle.mwc_sums.specs.Orders.{HaveTheSameRules};
+ghost use Rattle.std.specs.Prelude.{◌≡◌, ◌-◌, ◌<◌, ◌≤◌, ◌∷◌, [], All, IfOk, drop, length, map, string_bytes, take};
+
+use council_game::{Game, GameFault, Memory, Rule};
+use std::alloc::Global;
+
+/// The names of a game's members.
+fn copied_names(alloc: Global, game: &Game) -> Result<Vec<String>, Memory>
+    ensures { IfOk result (λ names. map string_bytes names.items ≡ game.now.names) }
+{
+    let members = game.members();
+    let mut names = Vec::with_capacity(alloc, members)?;
+    for member in 0..members {
+        names.push(String::from_str(alloc, game.name(member))?)?;
+    }
+    Ok(names)
+}
+
+/// A rule of a game.
+fn copied_rule(alloc: Global, game: &Game, rule: usize) -> Result<Rule, Memory>
+    requires { rule < length game.now.rules }
+    ensures { IfOk result (λ r. rule_view r ≡ rule_at game.now.rules rule) }
+{
+    let members = game.members();
+    let mut weights = Vec::with_capacity(alloc, members)?;
+    for member in 0..members {
+        weights.push(game.rule_weight(rule, member))?;
+    }
+    Ok(Rule {
+        quota: game.rule_quota(rule),
+        weights,
+    })
+}
+
+/// The rules of a game from one to before another.
+pub(crate) fn copied_rules(
+    alloc: Global,
+    game: &Game,
+    from: usize,
+    to: usize,
+) -> Result<Vec<Rule>, Memory>
+    requires order { from ≤ to }
+    requires within { to ≤ length game.now.rules }
+    ensures { IfOk result (λ rules. rule_views rules.items ≡ drop from (take to game.now.rules)) }
+{
+    let mut rules = Vec::with_capacity(alloc, to - from)?;
+    for rule in from..to {
+        rules.push(copied_rule(alloc, game, rule)?)?;
+    }
+    Ok(rules)
+}
+
+/// The two rules of a game in the other order.
+fn turned_rules(alloc: Global, game: &Game) -> Result<Vec<Rule>, Memory>
+    requires { length game.now.rules ≡ 2 }
+    ensures { IfOk result (λ rules. rule_views rules.items
+        ≡ rule_at game.now.rules 1 ∷ rule_at game.now.rules 0 ∷ []) }
+{
+    let mut rules = Vec::with_capacity(alloc, 2)?;
+    rules.push(copied_rule(alloc, game, 1)?)?;
+    rules.push(copied_rule(alloc, game, 0)?)?;
+    Ok(rules)
+}
+
+/// The game of the same members with other rules, and with no title. Its places are ranked by the first of them.
+pub(crate) fn remade(alloc: Global, game: &Game, rules: Vec<Rule>) -> Result<Game, Memory>
+    requires some { 0 < length rules.items }
+    requires few { length rules.items ≤ RULES }
+    requires fair { All (IsFair (length game.now.names)) (rule_views rules.items) }
+    ensures game { IfOk result (λ made. IsGame made) }
+    ensures names { IfOk result (λ made. made.names ≡ game.now.names) }
+    ensures rules { IfOk result (λ made. made.rules ≡ rule_views rules.items) }
+{
+    let _members = game.members();
+    let names = copied_names(alloc, game)?;
+    match Game::with_rules(alloc, None, names, rules) {
+        Ok(made) => {
+            let _members = made.members();
+            Ok(made)
+        }
+        Err(fault) => {
+            prove!(matches!(fault, GameFault::Memory));
+            Err(Memory)
+        }
+    }
+}
+
+/// The game of two rules with these in the other order.
+pub(crate) fn turned(alloc: Global, game: &Game) -> Result<Game, Memory>
+    requires { length game.now.rules ≡ 2 }
+    ensures game { IfOk result (λ turned. IsGame turned) }
+    ensures same { IfOk result (λ turned. HaveTheSameRules game.now turned) }
+    ensures rules { IfOk result (λ turned. turned.rules
+        ≡ rule_at game.now.rules 1 ∷ rule_at game.now.rules 0 ∷ []) }
+{
+    let _members = game.members();
+    let rules = turned_rules(alloc, game)?;
+    let turned = remade(alloc, game, rules)?;
+    Ok(turned)
+}
