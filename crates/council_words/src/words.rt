@@ -87,9 +87,9 @@ rules a quota, a total or a weight has one value for each rule, with / between.
              good index likewise
 
 With --tally a game may have any number of coalitions: they are counted, and
-none is kept. Where it has one rule, or two of which one gives each member the
-same weight, they are counted by sums or by halves, and --workers and --bits
-then have no effect.
+none is kept. Where it has one rule, two of which one gives each member the
+same weight, or rules that share no member, they are counted by sums or by
+halves, and --workers and --bits then have no effect.
 
 With --explain the one line that says why a game is refused is followed by
 others, which begin with blanks: the line of the file, what stands there, and
