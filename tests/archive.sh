@@ -79,7 +79,7 @@ run_there() {
 }
 for game in "$here"/examples/*.toml "$here"/examples/*.txt; do
     words=()
-    case $game in *-lisbon.toml) words=(--tally) ;; esac
+    case $game in *-lisbon.toml | *-register.toml) words=(--tally) ;; esac
     run_there "in the archive, example ${game##*/}" "${game%.toml}.tsv" ./council "${words[@]}" "examples/${game##*/}"
 done
 for script in sh py; do

@@ -5,7 +5,7 @@
 for game in "$top"/examples/*.toml "$top"/examples/*.txt; do
     words=()
     # more coalitions than a run keeps
-    case $game in *-lisbon.toml) words=(--tally) ;; esac
+    case $game in *-lisbon.toml | *-register.toml) words=(--tally) ;; esac
     report=${game%.toml}.tsv
     name=$(basename "$game")
     run "${words[@]}" "$game"

@@ -410,6 +410,7 @@ $temp/missing: No such file or directory (os error 2)
 END
 equal_members 40 5 >"$temp/game"
 explained "more coalitions than --most" --most 5 <<'END'
+there are 658008 of them
 --tally counts any number of them, and --most takes up to 4000000
 END
 game "quota = 101\n$a"

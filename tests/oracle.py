@@ -11,10 +11,10 @@ right. Plain Python 3, whole numbers and exact fractions alone.
 It enumerates the coalitions. With --polynomials it lists none: it counts those of a game of one rule, or of two
 of which one gives each member the same weight, by the terms of generating functions.
 
-The reports of examples/ were made by it, and are made again, in about a minute, by
+The reports of examples/ were made by it, and are made again, in some minutes, by
 
     for game in examples/*.toml; do
-        case $game in */eu-36-*) words=--polynomials ;; *) words= ;; esac
+        case $game in */eu-36-* | */share-*) words=--polynomials ;; *) words= ;; esac
         python3 tests/oracle.py "$game" $words >"${game%.toml}.tsv"
     done
     python3 tests/oracle.py examples/board.txt >examples/board.txt.tsv

@@ -10,7 +10,7 @@ ghost use Rattle.council.specs.Inner.Wants.{IsTaken, lines_wanted};
 use council_explain::{explain, remark, shown};
 use council_game::GameFault;
 use council_progress::{Line, Progress};
-use council_run::{Cause, Options, RunFault, Watch, run, status, tally};
+use council_run::{Cause, Options, RunFault, Watch, number_by_sums, run, status, tally};
 use council_streams::{Kept, Wiping};
 use council_words::{Wanted, command_line, wanted};
 use mwc_gather::{Gate, GatherFault};
@@ -38,6 +38,9 @@ fn say_more(rt: &(impl Eprint + AllocGlobal), cause: Cause, bytes: &[u8]) {
             }
         }
         Cause::Gather(GatherFault::TooMany) => {
+            if let Ok(Some(number)) = number_by_sums(rt.alloc(), bytes) {
+                let _ = eprintln!(rt; "  there are {number} of them");
+            }
             let _ = eprintln!(rt;
                 "  --tally counts any number of them, and --most takes up to 4000000"
             );

@@ -1,5 +1,5 @@
 -- What a run reads, writes and answers.
-use Rattle.std.specs.Prelude.{◌≡◌, ◌≤◌, ℕ, List, length, take, Option, Result, Ok, Err}
+use Rattle.std.specs.Prelude.{◌≡◌, ◌≤◌, ◌↔◌, ℕ, List, length, take, Option, IfSome, IsSome, Result, Ok, Err}
 use Rattle.std.specs.Io.KnownBytes.{Appends, Keeps}
 use Rattle.council_game.specs.declared.fault.GameFault.{GameFault}
 use Rattle.council_game.specs.declared.fault.GameFault.TheVariants as game
@@ -8,6 +8,7 @@ use Rattle.council_game.specs.Game.{GameView, votes_of}
 use Rattle.council_file.specs.File.{game_of}
 use Rattle.council_file.specs.Reads.{Gave}
 use Rattle.mwc_parts.specs.declared.fault.GatherFault.TheVariants as gather
+use Rattle.mwc_sums.specs.Vetoers.{IsCountedBySums}
 use Rattle.council_run.specs.declared.fault.Cause.{Cause}
 use Rattle.council_run.specs.declared.fault.Cause.TheVariants as cause
 
@@ -25,6 +26,10 @@ Reads at answer = (bytes : List ℕ) × Gave at.unread at.left bytes × (game_of
 -- the number of minimal winning coalitions of a game
 abbrev pub count_of : GameView → ℕ
 count_of g = length (minimal_coalitions (votes_of g))
+
+-- a number of them, which there is exactly where sums count them
+abbrev pub IsNumberOf : GameView → Option ℕ → Type 0
+IsNumberOf g number = IfSome number (λ n. n ≡ count_of g) × (IsSome number ↔ IsCountedBySums g)
 
 abbrev pub WritesNothing : Streams → ℕ → Type 0
 WritesNothing at written = (written ≡ 0) × Keeps at.before at.after

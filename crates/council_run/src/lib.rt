@@ -8,6 +8,7 @@
 #![tactic(auto)]
 
 mod fault;
+mod number;
 mod options;
 mod runs;
 mod tallies;
@@ -15,6 +16,7 @@ mod tallies;
 pub use council_game::limits;
 pub use fault::{Cause, RunFault, status};
 pub use mwc_tally::{NoWatch, Watch};
+pub use number::number_by_sums;
 pub use options::Options;
 pub use runs::run;
 pub use tallies::tally;

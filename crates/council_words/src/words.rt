@@ -48,7 +48,7 @@ are cut off: the Deegan-Packel index (Deegan and Packel 1978) and the public
 good index (Holler 1982; Holler and Packel 1983).";
 
 /// The version, and with which kit it was proved.
-const VERSION: &str = "1.2.0\nproved with rattle-kit-13b logic dac8208d650f15bf";
+const VERSION: &str = "1.2.0\nproved with rattle-kit-13f logic dac8208d650f15bf";
 
 const FORMS: &str = "A game file has one of two forms:
 
@@ -88,8 +88,8 @@ rules a quota, a total or a weight has one value for each rule, with / between.
 
 With --tally a game may have any number of coalitions: they are counted, and
 none is kept. Where it has one rule, two of which one gives each member the
-same weight, or rules that share no member, they are counted by sums or by
-halves, and --workers and --bits then have no effect.
+same weight, or rules that share no member but those that can veto, they are
+counted by sums or by halves, and --workers and --bits then have no effect.
 
 With --explain the one line that says why a game is refused is followed by
 others, which begin with blanks: the line of the file, what stands there, and

@@ -292,13 +292,18 @@ fn house(
     Ok(weights)
 }
 
-/// A quota for these weights that a seed chooses.
-fn random_quota(seed: u64, weights: &[u64]) -> u64 {
+/// What weights come to together.
+fn total(weights: &[u64]) -> u64 {
     let mut total: u64 = 0;
     for weight in weights {
         total = total.saturating_add(*weight);
     }
-    (next(next(seed)) >> 20) % total.max(1) + 1
+    total
+}
+
+/// A quota for these weights that a seed chooses.
+fn random_quota(seed: u64, weights: &[u64]) -> u64 {
+    (next(next(seed)) >> 20) % total(weights).max(1) + 1
 }
 
 /// The game of members named 0, 1, .. and of three rules.
@@ -360,6 +365,46 @@ fn random_games_of_houses_as_all_subsets(rt: HostRuntime) -> Result<(), Fail> {
             let game = random_game_of_houses(&rt, alloc, seed, most)?;
             let found = by_sums(alloc, &game)?;
             same_counts(&rt, &found, &by_subsets(&rt, alloc, &game)?);
+        }
+    }
+    Ok(())
+}
+
+/// Nine members by weight, of whom two can veto by a second rule and have weight under the first, and a tenth who can veto
+/// by a third; a seed chooses the weights, and a quota that those who can veto do not meet.
+fn random_game_with_vetoers(
+    rt: &impl Abort,
+    alloc: Global,
+    seed: u64,
+    most: u64,
+) -> Result<Game, Fail> {
+    let others = house(rt, alloc, seed, 10, 0, 6, most)?;
+    let agreed = house(rt, alloc, seed, 10, 0, 8, most)?;
+    let first = house(rt, alloc, seed, 10, 0, 9, most)?;
+    let second = house(rt, alloc, seed.wrapping_add(1), 10, 6, 8, most)?;
+    let third = house(rt, alloc, seed.wrapping_add(2), 10, 9, 10, most)?;
+    let beside = total(&agreed).saturating_sub(total(&others));
+    let quotas = [
+        random_quota(seed, &others).saturating_add(beside),
+        total(&second),
+        total(&third),
+    ];
+    game_of_three(rt, alloc, 10, quotas, first, second, third)
+}
+
+/// Where those that can veto win alone, they are the one coalition, and sums do not serve.
+#[test]
+fn random_games_with_vetoers_as_all_subsets(rt: HostRuntime) -> Result<(), Fail> {
+    let alloc = rt.alloc();
+    for seed in 400..440 {
+        for most in [1, 3, 1_000_000_000_000] {
+            let game = random_game_with_vetoers(&rt, alloc, seed, most)?;
+            let wanted = by_subsets(&rt, alloc, &game)?;
+            match count_by_sums(alloc, &game) {
+                Ok(Some(found)) => same_counts(&rt, &found, &wanted),
+                Ok(None) => same(&rt, wanted.wide_total(), 1, "those that can veto"),
+                Err(_) => return Err(Fail::from("out of memory")),
+            }
         }
     }
     Ok(())

@@ -3,7 +3,6 @@ use Rattle.std.proofs.Common.{◌≡◌, ◌∙◌, ◌==◌, ◌&&◌, ◌||◌
 use Rattle.std.proofs.Common.{length, get_or, sym, ap, refl, arith, inl, inr}
 use Rattle.std.specs.List.{list_any}
 use Rattle.std.proofs.lemmas.Bool.{cases_eq, eq-eqb, ne_eqb, or_left, or_right, both_ways}
-use Rattle.std.proofs.lemmas.List.Folds.{list_all-append}
 use Rattle.std.proofs.lemmas.List.Elements.{All-head, All-tail}
 use Rattle.council_game.specs.Votes.{RuleView}
 use Rattle.council_game.specs.Game.{GameView, IsGame}
@@ -45,8 +44,7 @@ joint-of : (g a b : GameView) → AreChambersOf g a b
     → IsJoint (length g.names) (has_weight a.rules) (has_weight b.rules) (met (length g.names) g.rules) (met (length g.names) a.rules)
     (met (length g.names) b.rules)
 joint-of g a b are = record {
-  both = λ f. ap (λ (rs : List RuleView). met (length g.names) rs f) are.rules
-      ∙ list_all-append (λ r. leb r.quota (weighs (length g.names) r f)) a.rules b.rules;
+  both = are.both;
   sees_own = λ f h same. met-seen (length g.names) a.rules f h same;
   sees_other = λ f h same. met-seen (length g.names) b.rules f h same;
   apart = λ i lt seen. elim (are.apart i lt) [

@@ -1,6 +1,6 @@
 -- The tallies of a game whose rules are those of two others.
 use Rattle.std.proofs.Common.{◌≡◌, ◌∙◌, ◌==◌, ◌&&◌, ◌⊎◌, ℕ, suc, ◌+◌, ◌-◌, ◌*◌, ◌^◌, ◌<◌, ◌≤◌, Bool, List, [], ◌∷◌, ◌++◌}
-use Rattle.std.proofs.Common.{length, get_or, filter, take, drop, sym, ap, refl, subst, arith, inl, inr, All}
+use Rattle.std.proofs.Common.{leb, length, get_or, filter, take, drop, sym, ap, refl, subst, arith, inl, inr, All}
 use Rattle.std.specs.List.{sum_by, range_with_len}
 use Rattle.std.proofs.lemmas.Bool.{cases_eq, ne_eqb, and_right}
 use Rattle.std.proofs.lemmas.List.{get_or_default, take_all, length-drop}
@@ -12,11 +12,12 @@ use Rattle.power_index.specs.Counting.{size_of, contains, count_of_size, count_o
 use Rattle.power_index.proofs.Members.{size-le}
 use Rattle.power_index.proofs.Minimal.{minimal-few}
 use Rattle.power_index.proofs.Sums.{sum-range, length-filter-le}
-use Rattle.mwc_sums.specs.Chambers.{HasNoWeight, AreChambersOf, AreApart, paired, minimal_of_size, minimal_of_member_size}
+use Rattle.std.proofs.lemmas.List.Folds.{list_all-append}
+use Rattle.mwc_sums.specs.Chambers.{weighs, met, HasNoWeight, AreChambersOf, AreApart, paired, minimal_of_size, minimal_of_member_size}
 use Rattle.mwc_sums.specs.Inner.Fair.{IsFair}
 use Rattle.mwc_sums.proofs.Paired.{filter-none}
 use Rattle.mwc_sums.proofs.Apart.{chamber-sizes, chamber-members}
-use Rattle.mwc_sums.proofs.Remaking.{fair-of}
+use Rattle.mwc_sums.proofs.Remaking.{fair-all}
 
 -- a number of a sum, with what is before it
 pub sum-more : (f : ℕ → ℕ) (j n : ℕ) → j < n → sum_by f (range_with_len 0 j) + f j ≤ sum_by f (range_with_len 0 n)
@@ -85,10 +86,10 @@ others-count rs = length-drop 1 (take (length rs) rs) ∙ ap (λ (l : List RuleV
 
 pub fair-part : (g : GameView) (from to : ℕ) → IsGame g → All (IsFair (length g.names)) (drop from (take to g.rules))
 fair-part g from to is =
-    All-drop (IsFair (length g.names)) from (take to g.rules) (All-take (IsFair (length g.names)) to g.rules (λ k d lt.
-    subst (IsFair (length g.names)) (get_or_default g.rules k (record { quota = 0; weights = [] }) d lt) (fair-of g k is lt)))
+    All-drop (IsFair (length g.names)) from (take to g.rules) (All-take (IsFair (length g.names)) to g.rules (fair-all g is))
 
-pub apart-others : (g h : GameView) → AreApart g → h.names ≡ g.names → h.rules ≡ drop 1 (take (length g.rules) g.rules) → AreApart h
+pub apart-others : (g h : GameView) → AreApart (length g.names) g.rules → h.names ≡ g.names → h.rules ≡ drop 1 (take (length g.rules) g.rules)
+    → AreApart (length h.names) h.rules
 apart-others g h apart names rules i r s li less ls = by_rules g.rules refl (rules ∙ ap (λ (l : List RuleView). drop 1 l) (take_all (length g.rules) g.rules (omega arith)))
   where
     by_rules : (rs : List RuleView) → g.rules ≡ rs → h.rules ≡ drop 1 rs
@@ -102,7 +103,7 @@ apart-others g h apart names rules i r s li less ls = by_rules g.rules refl (rul
         (subst (λ (l : List RuleView). (get_or (rule_at l (suc r)).weights i 0 ≡ 0) ⊎ (get_or (rule_at l (suc s)).weights i 0 ≡ 0)) is
         (apart i (suc r) (suc s) (omega (arith, li, below)) (omega (arith, less)) (omega (arith, ls, long, whole))))
 
-pub chambers-of : (g a b : GameView) → AreApart g → a.names ≡ g.names → b.names ≡ g.names → 0 < length g.rules
+pub chambers-of : (g a b : GameView) → AreApart (length g.names) g.rules → a.names ≡ g.names → b.names ≡ g.names → 0 < length g.rules
     → a.rules ≡ drop 0 (take 1 g.rules) → b.rules ≡ drop 1 (take (length g.rules) g.rules) → AreChambersOf g a b
 chambers-of g a b apart names_a names_b some first others =
     by_rules g.rules refl some first (others ∙ ap (λ (l : List RuleView). drop 1 l) (take_all (length g.rules) g.rules (omega arith)))
@@ -112,7 +113,8 @@ chambers-of g a b apart names_a names_b some first others =
     by_rules (r ∷ rs) is some own other = record {
       first = ap (λ (l : List (List ℕ)). length l) names_a;
       second = ap (λ (l : List (List ℕ)). length l) names_b;
-      rules = is ∙ sym (λ i. own i ++ other i);
+      both = λ f. ap (λ (l : List RuleView). met (length g.names) l f) (is ∙ sym (λ i. own i ++ other i))
+          ∙ list_all-append (λ x. leb x.quota (weighs (length g.names) x f)) a.rules b.rules;
       apart = λ i lt. each i lt (cases_eq (get_or r.weights i 0) 0);
     }
       where

@@ -23,3 +23,5 @@ pub mod Pairs
 pub mod Apart
 pub mod Remaking
 pub mod Joined
+pub mod Vetoing
+pub mod VetoRules

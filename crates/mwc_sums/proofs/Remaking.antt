@@ -1,10 +1,10 @@
 -- Games of the same members with other rules.
 use Rattle.std.proofs.Common.{◌≡◌, ◌∙◌, ltb, None, Result, Ok, Err, ℕ, ◌<◌, ◌≤◌, false, List, [], ◌∷◌}
-use Rattle.std.proofs.Common.{length, get_or, sym, ap, refl, arith, inl, inr, All}
+use Rattle.std.proofs.Common.{length, get_or, sym, ap, refl, subst, arith, inl, inr, All}
 use Rattle.std.specs.List.{range_with_len}
 use Rattle.std.specs.List.Sorted.{IsPermutation}
 use Rattle.std.proofs.lemmas.Bool.{cases_lt, le-ltb}
-use Rattle.std.proofs.lemmas.List.{get_or_past}
+use Rattle.std.proofs.lemmas.List.{get_or_past, get_or_default}
 use Rattle.std.proofs.lemmas.List.Folds.{list_any_none}
 use Rattle.std.proofs.lemmas.List.Elements.{All-from_recursion}
 use Rattle.std.proofs.lemmas.List.Sorted.{IsPermutation-append_comm}
@@ -41,6 +41,10 @@ fair-of g k is lt =
             omega (arith, zero)
       ];
     }
+
+pub fair-all : (g : GameView) → IsGame g → All (IsFair (length g.names)) g.rules
+fair-all g is k d lt =
+    subst (IsFair (length g.names)) (get_or_default g.rules k (record { quota = 0; weights = [] }) d lt) (fair-of g k is lt)
 
 -- a game is made of rules that it can have
 pub made-of : (g : GameView) (rs : List RuleView) → IsGame g → All (IsFair (length g.names)) rs

@@ -11,15 +11,8 @@ use Rattle.council_game.proofs.Making.{ranks-are}
 use Rattle.council_game.proofs.Meanings.{needs-each-member}
 use Rattle.power_index.specs.Counting.{contains}
 use Rattle.power_index.proofs.Sums.{sum-range}
+pub use Rattle.mwc_sums.specs.Chambers.{weighs, met}
 use Rattle.mwc_sums.proofs.Orders.{weight-by_member}
-
--- what the members that pass a test weigh together
-abbrev pub weighs : ℕ → RuleView → (ℕ → Bool) → ℕ
-weighs n r f = sum_by (λ i. cond (f i) 1 0 * get_or r.weights i 0) (range_with_len 0 n)
-
--- they meet each rule
-abbrev pub met : ℕ → List RuleView → (ℕ → Bool) → Bool
-met n rs f = list_all (λ r. leb r.quota (weighs n r f)) rs
 
 -- the others of them
 abbrev pub less : (ℕ → Bool) → ℕ → ℕ → Bool

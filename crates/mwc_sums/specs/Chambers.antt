@@ -1,26 +1,34 @@
 -- Games whose rules fall apart, as the chambers of a parliament do.
-use Rattle.std.specs.Prelude.{◌≡◌, ◌⊎◌, ℕ, ◌+◌, ◌-◌, ◌*◌, ◌<◌, List, ◌++◌, length, slice_index, sum_by}
-use Rattle.std.specs.List.{All, range_with_len}
+use Rattle.std.specs.Prelude.{◌≡◌, ◌⊎◌, ℕ, ◌+◌, ◌-◌, ◌*◌, ◌<◌, Bool, ◌&&◌, if◌then◌else◌, nat_le, List, length, slice_index, sum_by}
+use Rattle.std.specs.List.{All, list_all, range_with_len}
 use Rattle.council_game.specs.Votes.{RuleView, rule_at, minimal_coalitions}
 use Rattle.council_game.specs.Game.{GameView, votes_of}
 use Rattle.power_index.specs.Counting.{count_of_size, count_of_member_size}
+
+-- of n members, what those who pass a test weigh together under a rule
+abbrev pub weighs : ℕ → RuleView → (ℕ → Bool) → ℕ
+weighs n r f = sum_by (λ i. (if f i then 1 else 0) * slice_index r.weights i) (range_with_len 0 n)
+
+-- they meet each rule
+abbrev pub met : ℕ → List RuleView → (ℕ → Bool) → Bool
+met n rs f = list_all (λ r. nat_le r.quota (weighs n r f)) rs
 
 -- a member has no weight in any of the rules
 abbrev pub HasNoWeight : List RuleView → ℕ → Type 0
 HasNoWeight rules i = All (λ r. slice_index r.weights i ≡ 0) rules
 
--- the rules of g are those of a and then those of b, and no member has weight in both
+-- members meet the rules of g exactly where they meet those of a and those of b, and no member has weight in both
 pub record AreChambersOf (g a b : GameView) : Type 0 where
   pub first : length a.names ≡ length g.names
   pub second : length b.names ≡ length g.names
-  pub rules : g.rules ≡ a.rules ++ b.rules
+  pub both : (f : ℕ → Bool) → met (length g.names) g.rules f ≡ (met (length g.names) a.rules f && met (length g.names) b.rules f)
   pub apart : (i : ℕ) → i < length g.names → HasNoWeight a.rules i ⊎ HasNoWeight b.rules i
 
--- no member has weight in two rules
-abbrev pub AreApart : GameView → Type 0
-AreApart g =
-    (i r s : ℕ) → i < length g.names → r < s → s < length g.rules
-    → (slice_index (rule_at g.rules r).weights i ≡ 0) ⊎ (slice_index (rule_at g.rules s).weights i ≡ 0)
+-- no one of n members has weight in two rules
+abbrev pub AreApart : ℕ → List RuleView → Type 0
+AreApart n rs =
+    (i r s : ℕ) → i < n → r < s → s < length rs
+    → (slice_index (rule_at rs r).weights i ≡ 0) ⊎ (slice_index (rule_at rs s).weights i ≡ 0)
 
 -- of pairs, how many have size s together, where f and h are how many have each size
 abbrev pub paired : (ℕ → ℕ) → (ℕ → ℕ) → ℕ → ℕ

@@ -7,7 +7,7 @@ ghost use Rattle.mwc_sums.specs.Chambers.{minimal_of_member_size, minimal_of_siz
 ghost use Rattle.power_index.specs.Tables.{AreCounts, IsTallyOf};
 ghost use Rattle.std.specs.Prelude.{◌≡◌, ℕ, ◌+◌, ◌<◌, ◌≤◌, ◌^◌, ◌↔◌, ◌⊎◌, true, IfOk, length, slice_index};
 
-use crate::count::count_with_heads;
+use crate::count::boxed_with_heads;
 use crate::remade::{copied_rules, remade};
 use council_game::{Game, Memory, limits};
 use power_index::{Counts, Tally};
@@ -32,7 +32,7 @@ fn is_in_one(game: &Game, member: usize) -> bool
 
 /// No member has weight in two rules.
 pub(crate) fn are_apart(game: &Game) -> bool
-    ensures { result ≡ true ↔ AreApart game.now }
+    ensures { result ≡ true ↔ AreApart (length game.now.names) game.now.rules }
 {
     for member in 0..game.members() {
         if !is_in_one(game, member) {
@@ -46,15 +46,15 @@ pub(crate) fn are_apart(game: &Game) -> bool
 #[derive(Drop)]
 pub(crate) struct Counted {
     pub game: Game,
-    pub counts: Counts,
+    pub counts: Box<Counts>,
     ghost is: { IsGame game },
-    ghost are: { AreCounts game (minimal_coalitions (votes_of game)) counts },
+    ghost are: { AreCounts game (minimal_coalitions (votes_of game)) counts.value },
 }
 
 impl Counted {
     /// A game with its counts.
-    pub(crate) fn new(game: Game, counts: Counts) -> Counted
-        requires { AreCounts game (minimal_coalitions (votes_of game)) counts }
+    pub(crate) fn new(game: Game, counts: Box<Counts>) -> Counted
+        requires { AreCounts game (minimal_coalitions (votes_of game)) counts.value }
         ensures { result.game ≡ game }
     {
         let _members = game.members();
@@ -112,7 +112,7 @@ fn pairs(first: &[u64; limits::SIZES], second: &[u64; limits::SIZES]) -> [u64; l
     pairs
 }
 
-/// The tally of the coalitions of a game whose rules are those of two others: each is one of each together.
+/// The tally of the coalitions of a game of two chambers: each is one of each together.
 fn joined_all(game: &Game, first: &Counted, second: &Counted) -> Tally
     requires { AreChambersOf game.now first.now.game second.now.game }
     ensures { IsTallyOf (length game.now.names) (λ _. true) (minimal_coalitions (votes_of game.now)) result }
@@ -140,7 +140,7 @@ fn joined_each(game: &Game, first: &Counted, second: &Counted, place: usize) -> 
     Tally { sizes }
 }
 
-/// The counts of a game whose rules are those of two others.
+/// The counts of a game of two chambers.
 fn joined(game: &Game, first: &Counted, second: &Counted) -> Counts
     requires { AreChambersOf game.now first.now.game second.now.game }
     ensures { AreCounts game.now (minimal_coalitions (votes_of game.now)) result }
@@ -153,21 +153,36 @@ fn joined(game: &Game, first: &Counted, second: &Counted) -> Counts
     Counts::of_tallies(game, all, each)
 }
 
+/// The same on the heap. (By itself, so that what it takes of the stack is free again.)
+#[inline(never)]
+pub(crate) fn boxed_joined(
+    alloc: Global,
+    game: &Game,
+    first: &Counted,
+    second: &Counted,
+) -> Result<Box<Counts>, Memory>
+    requires { AreChambersOf game.now first.now.game second.now.game }
+    ensures { IfOk result (λ c. AreCounts game.now (minimal_coalitions (votes_of game.now)) c.value) }
+{
+    let counts = joined(game, first, second);
+    Ok(Box::new(alloc, counts)?)
+}
+
 /// The counts of a game of which no member has weight in two rules: those of its first rule and of the others,
 /// paired.
-pub(crate) fn count_apart(alloc: Global, game: &Game) -> Result<Counts, Memory>
-    requires { AreApart game.now }
-    ensures { IfOk result (λ c. AreCounts game.now (minimal_coalitions (votes_of game.now)) c) }
+pub(crate) fn count_apart(alloc: Global, game: &Game) -> Result<Box<Counts>, Memory>
+    requires { AreApart (length game.now.names) game.now.rules }
+    ensures { IfOk result (λ c. AreCounts game.now (minimal_coalitions (votes_of game.now)) c.value) }
 {
     let _members = game.members();
     let rules = game.rules();
     if rules == 1 {
-        return count_with_heads(alloc, game, 0);
+        return boxed_with_heads(alloc, game, 0);
     }
     let first = remade(alloc, game, copied_rules(alloc, game, 0, 1)?)?;
     let others = remade(alloc, game, copied_rules(alloc, game, 1, rules)?)?;
-    let counts = count_with_heads(alloc, &first, 0)?;
+    let counts = boxed_with_heads(alloc, &first, 0)?;
     let of_others = count_apart(alloc, &others)?;
     let (first, others) = (Counted::new(first, counts), Counted::new(others, of_others));
-    Ok(joined(game, &first, &others))
+    boxed_joined(alloc, game, &first, &others)
 }

@@ -2,8 +2,8 @@
 ghost use Rattle.coalitions.specs.declared.limits.TheConstants.{MEMBERS, TOTAL};
 ghost use Rattle.council_game.specs.Game.{votes_of};
 ghost use Rattle.council_game.specs.Votes.{minimal_coalitions, rule_at};
-ghost use Rattle.mwc_sums.specs.Chambers.{AreApart};
-ghost use Rattle.mwc_sums.specs.Heads.{AsksForHeads, IsOfWeightsAndHeads, WeighsAllAlike};
+ghost use Rattle.mwc_sums.specs.Heads.{AsksForHeads, WeighsAllAlike};
+ghost use Rattle.mwc_sums.specs.Vetoers.{IsCountedBySums};
 ghost use Rattle.mwc_sums.specs.Inner.Rows.{AreAllEndings, endings, left_out};
 ghost use Rattle.mwc_sums.specs.Inner.Asked.{IsAsked};
 ghost use Rattle.power_index.specs.Tables.{AreCounts};
@@ -15,6 +15,7 @@ use crate::halves::by_halves;
 use crate::laws::counts_do_not_depend_on_the_order_of_rules;
 use crate::remade::turned;
 use crate::tallies::{Tallies, by_sums};
+use crate::vetoers::count_beside_vetoers;
 use council_game::{Game, Memory};
 use power_index::Counts;
 use std::alloc::Global;
@@ -112,11 +113,26 @@ pub(crate) fn count_with_heads(alloc: Global, game: &Game, heads: usize) -> Resu
     Ok(Counts::of_tallies(game, tallies.all, tallies.each))
 }
 
+/// The same on the heap. (By itself, so that what it takes of the stack is free again.)
+#[inline(never)]
+pub(crate) fn boxed_with_heads(
+    alloc: Global,
+    game: &Game,
+    heads: usize,
+) -> Result<Box<Counts>, Memory>
+    requires few { heads ≤ MEMBERS }
+    requires asked { IsAsked (votes_of game.now) heads }
+    ensures { IfOk result (λ c. AreCounts game.now (minimal_coalitions (votes_of game.now)) c.value) }
+{
+    let counts = count_with_heads(alloc, game, heads)?;
+    Ok(Box::new(alloc, counts)?)
+}
+
 /// The counts of a game of two rules of which the first asks for heads, by the game with these in the other
 /// order: the counts of each member are the same. None for any other game.
-fn count_turned(alloc: Global, game: &Game) -> Result<Option<Counts>, Memory>
+fn count_turned(alloc: Global, game: &Game) -> Result<Option<Box<Counts>>, Memory>
     ensures counts { IfOk result (λ counts. IfSome counts
-        (λ c. AreCounts game.now (minimal_coalitions (votes_of game.now)) c)) }
+        (λ c. AreCounts game.now (minimal_coalitions (votes_of game.now)) c.value)) }
     ensures kind { IfOk result (λ counts. IsSome counts ↔ ((length game.now.rules ≡ 2)
         × WeighsAllAlike (length game.now.names) (rule_at game.now.rules 0))) }
 {
@@ -129,13 +145,33 @@ fn count_turned(alloc: Global, game: &Game) -> Result<Option<Counts>, Memory>
         return Ok(None);
     };
     counts_do_not_depend_on_the_order_of_rules();
-    let counts = count_with_heads(alloc, &turned, heads)?;
+    let counts = boxed_with_heads(alloc, &turned, heads)?;
     Ok(Some(counts))
 }
 
+/// As `count_by_sums`, on the heap.
+fn boxed_by_sums(alloc: Global, game: &Game) -> Result<Option<Box<Counts>>, Memory>
+    ensures counts { IfOk result (λ counts. IfSome counts
+        (λ c. AreCounts game.now (minimal_coalitions (votes_of game.now)) c.value)) }
+    ensures kind { IfOk result (λ counts. IsSome counts ↔ IsCountedBySums game.now) }
+{
+    if let Some(heads) = heads_of(game) {
+        let counts = boxed_with_heads(alloc, game, heads)?;
+        return Ok(Some(counts));
+    }
+    if are_apart(game) {
+        return Ok(Some(count_apart(alloc, game)?));
+    }
+    match count_turned(alloc, game)? {
+        None => count_beside_vetoers(alloc, game),
+        turned => Ok(turned),
+    }
+}
+
 /// The counts of all minimal winning coalitions of a game of one rule, of two of which one gives each member the
-/// same weight, or of rules of which no two give weight to one member, whatever the weights are: none of them is
-/// listed. None for any other game. Up to 64 MB.
+/// same weight, or of rules of which no two give weight to one member, and of a game of which such rules are left
+/// where all members agree who can veto, whatever the weights are: none of them is listed. None for any other game.
+/// Up to 64 MB.
 ///
 /// # Errors
 ///
@@ -143,14 +179,10 @@ fn count_turned(alloc: Global, game: &Game) -> Result<Option<Counts>, Memory>
 pub fn count_by_sums(alloc: Global, game: &Game) -> Result<Option<Counts>, Memory>
     ensures counts { IfOk result (λ counts. IfSome counts
         (λ c. AreCounts game.now (minimal_coalitions (votes_of game.now)) c)) }
-    ensures kind { IfOk result (λ counts. IsSome counts ↔ (IsOfWeightsAndHeads game.now ⊎ AreApart game.now)) }
+    ensures kind { IfOk result (λ counts. IsSome counts ↔ IsCountedBySums game.now) }
 {
-    if let Some(heads) = heads_of(game) {
-        let counts = count_with_heads(alloc, game, heads)?;
-        return Ok(Some(counts));
+    match boxed_by_sums(alloc, game)? {
+        Some(counts) => Ok(Some(Box::into_inner(counts))),
+        None => Ok(None),
     }
-    if are_apart(game) {
-        return Ok(Some(count_apart(alloc, game)?));
-    }
-    count_turned(alloc, game)
 }

@@ -23,5 +23,6 @@ mod row;
 mod rows;
 mod sets;
 mod tallies;
+mod vetoers;
 
 pub use count::count_by_sums;

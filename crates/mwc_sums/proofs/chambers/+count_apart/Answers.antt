@@ -40,8 +40,8 @@ remade-requires-2-clause-fair t c =
     subst (λ (l : List RuleView). All (IsFair (length c.args.game.now.names)) l) (sym c.in_ok-copied_rules-2.ensures)
     (fair-part c.args.game.now 1 c.rules-rules.result c.members-members.ensures.game)
 
-pub count_with_heads-requires-2-clause-asked : goal.count_with_heads-requires-2-clause-asked
-count_with_heads-requires-2-clause-asked t c =
+pub boxed_with_heads-requires-2-clause-asked : goal.boxed_with_heads-requires-2-clause-asked
+boxed_with_heads-requires-2-clause-asked t c =
     let some = c.members-members.ensures.game.has_rule in
     inl (
       length-map c.in_ok-first.first.rules (rule_by_rank c.in_ok-first.first.ranks)
@@ -55,15 +55,15 @@ count_apart-requires t c =
     let all = c.rules-rules.ensures.count in
     let others = c.in_ok-others.ensures.rules ∙ c.in_ok-copied_rules-2.ensures
     ∙ ap (λ (n : ℕ). drop 1 (take n c.args.game.now.rules)) all in
-    let apart : AreApart c.in_ok-others.others = apart-others c.args.game.now c.in_ok-others.others c.requires c.in_ok-others.ensures.names others in
+    let apart : AreApart (length c.in_ok-others.others.names) c.in_ok-others.others.rules = apart-others c.args.game.now c.in_ok-others.others c.requires c.in_ok-others.ensures.names others in
     let long = ap (λ (l : List RuleView). length l) others in
     let some = c.members-members.ensures.game.has_rule in
     let less = others-count c.args.game.now.rules in
     let smaller : length c.in_ok-others.others.rules < length c.args.game.now.rules = omega (arith, long, less, some, all) in
     (let d = c.decreases in omega (arith, d, smaller), apart)
 
-pub joined-requires : goal.joined-requires
-joined-requires t c =
+pub boxed_joined-requires : goal.boxed_joined-requires
+boxed_joined-requires t c =
     let all = c.rules-rules.ensures.count in
     let others = c.in_ok-others.ensures.rules ∙ c.in_ok-copied_rules-2.ensures
     ∙ ap (λ (n : ℕ). drop 1 (take n c.args.game.now.rules)) all in

@@ -5,6 +5,6 @@ use Rattle.mwc_sums.proofs.chambers.Counted.sizes.Given as goal
 abbrev pub invariant-loop-size : goal.invariant-loop-size
 invariant-loop-size l = record {
   long : length l.sizes ≡ 41;
-  done : (s : ℕ) → s < l.size → get_or l.sizes s 0 ≡ table_of_size l.self.counts s;
+  done : (s : ℕ) → s < l.size → get_or l.sizes s 0 ≡ table_of_size l.self.counts.value s;
   rest : (s : ℕ) → l.size ≤ s → get_or l.sizes s 0 ≡ 0;
 }

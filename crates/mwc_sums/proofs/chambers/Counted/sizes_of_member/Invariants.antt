@@ -5,6 +5,6 @@ use Rattle.mwc_sums.proofs.chambers.Counted.sizes_of_member.Given as goal
 abbrev pub invariant-loop-size : goal.invariant-loop-size
 invariant-loop-size l = record {
   long : length l.sizes ≡ 41;
-  done : (s : ℕ) → s < l.size → get_or l.sizes s 0 ≡ table_of_member_size l.self.counts l.member s;
+  done : (s : ℕ) → s < l.size → get_or l.sizes s 0 ≡ table_of_member_size l.self.counts.value l.member s;
   rest : (s : ℕ) → l.size ≤ s → get_or l.sizes s 0 ≡ 0;
 }

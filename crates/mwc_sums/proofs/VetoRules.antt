@@ -1,0 +1,106 @@
+-- The rules of the two games of a game with vetoers are rules that a game can have.
+use Rattle.std.proofs.Common.{◌≡◌, ◌∙◌, ◌||◌, ℕ, suc, ◌+◌, ◌-◌, ◌<◌, ◌≤◌, Bool, true, false, cond, ltb, List, [], ◌∷◌, ◌++◌, length, get_or, map, filter, take}
+use Rattle.std.proofs.Common.{sym, ap, subst, arith, inl, inr, All}
+use Rattle.std.specs.List.{sum, sum_by, range_with_len}
+use Rattle.std.proofs.lemmas.Bool.{cases_lt, lt-ltb, le-ltb, ltb-false}
+use Rattle.std.proofs.lemmas.List.{get_or_past, take_more, map-append}
+use Rattle.std.proofs.lemmas.List.FromFn.{length-map-range_with_len}
+use Rattle.std.proofs.lemmas.List.Elements.{All-cons, All-nil, All-head, All-tail, filter-append}
+use Rattle.council_game.specs.Votes.{RuleView}
+use Rattle.council_game.specs.Game.{has_bad_quota}
+use Rattle.power_index.proofs.Sums.{sum-plus, sum-range}
+use Rattle.mwc_sums.specs.Vetoers.{number_of, rule_for, rest_of, rests}
+use Rattle.mwc_sums.specs.Inner.Fair.{IsFair}
+use Rattle.mwc_sums.proofs.Vetoing.{row-sum, made-sum, made-at}
+
+good : (r : RuleView) → 0 < r.quota → r.quota ≤ sum r.weights → has_bad_quota r ≡ false
+good r some met =
+    (λ k. le-ltb r.quota 1 (omega (arith, some)) k || le-ltb (sum r.weights) r.quota met k)
+
+-- a good rule can be met
+good-met : (r : RuleView) → has_bad_quota r ≡ false → r.quota ≤ sum r.weights
+good-met r is = by_tests (ltb r.quota 1) (ltb (sum r.weights) r.quota) is (λ none. ltb-false (sum r.weights) r.quota none)
+  where
+    by_tests : (b d : Bool) → (b || d) ≡ false → (d ≡ false → r.quota ≤ sum r.weights) → r.quota ≤ sum r.weights
+    by_tests false false h met = met h
+    by_tests false true h met = absurd (cc)
+    by_tests true d h met = absurd (cc)
+
+light-made : (h : ℕ → ℕ) (n k : ℕ) → ((i : ℕ) → i < n → h i ≤ 1000000000000) → get_or (map h (range_with_len 0 n)) k 0 ≤ 1000000000000
+light-made h n k light = elim (cases_lt k n) [
+  | inl inside ↦ let e = made-at h n k inside in let le = light k inside in omega (arith, e, le)
+  | inr past ↦
+      let e = get_or_past (map h (range_with_len 0 n)) k 0 (let long = length-map-range_with_len h 0 n in omega (arith, long, past)) in
+      omega (arith, e)
+]
+
+pub fair-vetoers : (n : ℕ) (veto : ℕ → Bool) → 0 < number_of n veto → IsFair n (rule_for n veto)
+fair-vetoers n veto some = record {
+  full = length-map-range_with_len (λ i. cond (veto i) 1 0) 0 n;
+  quota = good (rule_for n veto) some (let e = made-sum (λ i. cond (veto i) 1 0) n in omega (arith, e));
+  light = λ k. light-made (λ i. cond (veto i) 1 0) n k (λ i lt. one (veto i));
+}
+  where
+    one : (b : Bool) → cond b 1 0 ≤ 1000000000000
+    one true = omega arith
+    one false = omega arith
+
+-- the weights of those who agree and of the others are all weights
+both-sums : (n : ℕ) (veto : ℕ → Bool) (w : ℕ → ℕ)
+    → sum_by (λ i. cond (veto i) (w i) 0) (range_with_len 0 n) + sum_by (λ i. cond (veto i) 0 (w i)) (range_with_len 0 n)
+    ≡ sum_by w (range_with_len 0 n)
+both-sums n veto w =
+    sym (sum-plus (λ i. cond (veto i) (w i) 0) (λ i. cond (veto i) 0 (w i)) (range_with_len 0 n))
+    ∙ sum-range (λ i. cond (veto i) (w i) 0 + cond (veto i) 0 (w i)) w 0 n (λ i _ lt. either (veto i) (w i))
+  where
+    either : (b : Bool) (x : ℕ) → cond b x 0 + cond b 0 x ≡ x
+    either true x = omega arith
+    either false x = omega arith
+
+fair-rest : (n : ℕ) (veto : ℕ → Bool) (r : RuleView) → IsFair n r → 0 < (rest_of n veto r).quota → IsFair n (rest_of n veto r)
+fair-rest n veto r fair some = record {
+  full = length-map-range_with_len (λ i. cond (veto i) 0 (get_or r.weights i 0)) 0 n;
+  quota = good (rest_of n veto r) some (
+      let met = good-met r fair.quota in
+      let all = row-sum r.weights n fair.full in
+      let parts = both-sums n veto (λ i. get_or r.weights i 0) in
+      let own = made-sum (λ i. cond (veto i) 0 (get_or r.weights i 0)) n in
+      omega (arith, met, all, parts, own)
+      );
+  light = λ k. light-made (λ i. cond (veto i) 0 (get_or r.weights i 0)) n k (λ i lt. less (veto i) (get_or r.weights i 0) (fair.light i));
+}
+  where
+    less : (b : Bool) (x : ℕ) → x ≤ 1000000000000 → cond b 0 x ≤ 1000000000000
+    less true x le = omega arith
+    less false x le = le
+
+fair-one : (n : ℕ) (veto : ℕ → Bool) (r : RuleView) (later : List RuleView) → IsFair n r → All (IsFair n) later
+    → All (IsFair n) (cond (ltb 0 (rest_of n veto r).quota) (rest_of n veto r ∷ later) later)
+fair-one n veto r later fair rest = elim (cases_lt 0 (rest_of n veto r).quota) [
+  | inl more ↦ subst (λ (b : Bool). All (IsFair n) (cond b (rest_of n veto r ∷ later) later)) (sym (lt-ltb 0 (rest_of n veto r).quota more))
+      (All-cons (IsFair n) (rest_of n veto r) later (fair-rest n veto r fair more) rest)
+  | inr none ↦ subst (λ (b : Bool). All (IsFair n) (cond b (rest_of n veto r ∷ later) later)) (sym (le-ltb 0 (rest_of n veto r).quota none)) rest
+]
+
+pub fair-rests : (n : ℕ) (veto : ℕ → Bool) (rs : List RuleView) → All (IsFair n) rs → All (IsFair n) (rests n veto rs)
+fair-rests n veto [] fair = All-nil (IsFair n)
+fair-rests n veto (r ∷ rs) fair =
+    fair-one n veto r (rests n veto rs) (All-head (IsFair n) r rs fair) (fair-rests n veto rs (All-tail (IsFair n) r rs fair))
+
+few-one : (b : Bool) (r : RuleView) (rs : List RuleView) (k : ℕ) → length rs ≤ k → length (cond b (r ∷ rs) rs) ≤ suc k
+few-one true r rs k le = omega (arith, le)
+few-one false r rs k le = omega (arith, le)
+
+pub few-rests : (n : ℕ) (veto : ℕ → Bool) (rs : List RuleView) → length (rests n veto rs) ≤ length rs
+few-rests n veto [] = omega arith
+few-rests n veto (r ∷ rs) = few-one (ltb 0 (rest_of n veto r).quota) (rest_of n veto r) (rests n veto rs) (length rs) (few-rests n veto rs)
+
+-- with one rule more
+pub rests-more : (n : ℕ) (veto : ℕ → Bool) (rs : List RuleView) (k : ℕ) (d : RuleView) → k < length rs
+    → rests n veto (take (k + 1) rs)
+    ≡ rests n veto (take k rs) ++ filter (λ r. ltb 0 r.quota) (rest_of n veto (get_or rs k d) ∷ [])
+rests-more n veto rs k d lt =
+    ap (λ (l : List RuleView). filter (λ r. ltb 0 r.quota) l)
+    (ap (λ (l : List RuleView). map (rest_of n veto) l) (take_more rs k d lt)
+    ∙ map-append (rest_of n veto) (take k rs) (get_or rs k d ∷ []))
+    ∙ filter-append (λ r. ltb 0 r.quota) (map (rest_of n veto) (take k rs)) (rest_of n veto (get_or rs k d) ∷ [])

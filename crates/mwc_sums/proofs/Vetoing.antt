@@ -1,0 +1,207 @@
+-- Where all members that can veto agree, the rules ask the others for what is left.
+use Rattle.std.proofs.Common.{◌≡◌, ◌∙◌, ◌&&◌, ◌||◌, ◌⊎◌, ℕ, zero, suc, ◌+◌, ◌-◌, ◌*◌, ◌<◌, ◌≤◌, Bool, true, false, cond, leb, ltb}
+use Rattle.std.proofs.Common.{List, [], ◌∷◌, length, get_or, map, filter, sym, ap, refl, subst, arith, inl, inr, All}
+use Rattle.std.specs.List.{sum, sum_by, list_any, list_all, range_with_len}
+use Rattle.std.proofs.lemmas.Bool.{cases_lt, cases_Bool, or_cases, and_right, le-leb, lt-leb, leb-true, lt-ltb, le-ltb, ltb-true, ltb-false}
+use Rattle.std.proofs.lemmas.List.{get_or_past}
+use Rattle.std.proofs.lemmas.List.FromFn.{fill_by_all, get_or-map-range_with_len, length-map-range_with_len}
+use Rattle.std.proofs.lemmas.List.Folds.{fold-map}
+use Rattle.std.proofs.lemmas.List.Elements.{All-cons, All-nil, All-head, All-tail, All-filter, All-map}
+use Rattle.coalitions.proofs.Ranges.{sum_by-range-more}
+use Rattle.council_game.specs.Votes.{RuleView}
+use Rattle.power_index.proofs.Sums.{sum-plus, sum-range}
+use Rattle.mwc_sums.specs.Chambers.{HasNoWeight, weighs, met}
+use Rattle.mwc_sums.specs.Vetoers.{can_veto, number_of, rule_for, rest_of, rests}
+
+-- a row of weights adds up over its places
+pub row-sum : (ws : List ℕ) (n : ℕ) → length ws ≡ n → sum ws ≡ sum_by (λ i. get_or ws i 0) (range_with_len 0 n)
+row-sum ws n long =
+    ap (sum_by (λ (y : ℕ). y)) (fill_by_all (λ i. get_or ws i 0) ws n 0 long (λ k lt. refl))
+    ∙ fold-map (λ (a : ℕ) (p : ℕ). a + p) (λ i. get_or ws i 0) 0 (range_with_len 0 n)
+
+pub made-sum : (h : ℕ → ℕ) (n : ℕ) → sum (map h (range_with_len 0 n)) ≡ sum_by h (range_with_len 0 n)
+made-sum h n = fold-map (λ (a : ℕ) (p : ℕ). a + p) h 0 (range_with_len 0 n)
+
+pub made-at : (h : ℕ → ℕ) (n i : ℕ) → i < n → get_or (map h (range_with_len 0 n)) i 0 ≡ h i
+made-at h n i lt = get_or-map-range_with_len h 0 n i i 0 lt (omega arith)
+
+-- ---- the members that pass a test, without one who does not
+one-more : (f : ℕ → ℕ) (n : ℕ) → sum_by f (range_with_len 0 (suc n)) ≡ sum_by f (range_with_len 0 n) + f n
+one-more f n = let e : suc n ≡ n + 1 = omega arith in ap (λ (k : ℕ). sum_by f (range_with_len 0 k)) e ∙ sum_by-range-more f n
+
+one-less : (b : Bool) (w : ℕ) → cond b 1 0 * w ≤ w
+one-less true w = omega arith
+one-less false w = omega arith
+
+others-le : (f : ℕ → Bool) (w : ℕ → ℕ) (n : ℕ) → sum_by (λ i. cond (f i) 1 0 * w i) (range_with_len 0 n) ≤ sum_by w (range_with_len 0 n)
+others-le f w zero = omega arith
+others-le f w (suc n) =
+    let own = one-more (λ i. cond (f i) 1 0 * w i) n in
+    let all = one-more w n in
+    let rest = others-le f w n in
+    let one = one-less (f n) (w n) in
+    omega (arith, own, all, rest, one)
+
+pub beside : (f : ℕ → Bool) (w : ℕ → ℕ) (n i : ℕ) → i < n → f i ≡ false
+    → sum_by (λ j. cond (f j) 1 0 * w j) (range_with_len 0 n) + w i ≤ sum_by w (range_with_len 0 n)
+beside f w zero i lt out = absurd (omega arith)
+beside f w (suc n) i lt out =
+    let own = one-more (λ j. cond (f j) 1 0 * w j) n in
+    let all = one-more w n in
+    elim (cases_lt i n) [
+      | inl less ↦
+          let rest = beside f w n i less out in
+          let one = one-less (f n) (w n) in
+          omega (arith, own, all, rest, one)
+      | inr last ↦
+          let here : i ≡ n = omega (arith, lt, last) in
+          let rest = others-le f w n in
+          let none : cond (f n) 1 0 * w n ≡ 0 = ap (λ (b : Bool). cond b 1 0 * w n) (ap f (sym here) ∙ out) ∙ nothing (w n) in
+          let same : w i ≡ w n = ap w here in
+          omega (arith, own, all, rest, none, same)
+    ]
+  where
+    nothing : (x : ℕ) → cond false 1 0 * x ≡ 0
+    nothing x = omega arith
+
+-- either one who passes the first test fails the second, or none does
+missing : (veto f : ℕ → Bool) (n : ℕ)
+    → ((i : ℕ) × (i < n) × (veto i ≡ true) × (f i ≡ false)) ⊎ ((i : ℕ) → i < n → veto i ≡ true → f i ≡ true)
+missing veto f zero = inr (λ i lt. absurd (omega (arith, lt)))
+missing veto f (suc n) = elim (missing veto f n) [
+  | inl found ↦ inl (found.0, (let lt = found.1 in omega (arith, lt)), found.2, found.3)
+  | inr all ↦ elim (cases_Bool (f n)) [
+    | inl there ↦ inr (λ i lt in'. elim (cases_lt i n) [
+      | inl less ↦ all i less in'
+      | inr last ↦ ap f (omega (arith, lt, last)) ∙ there
+    ])
+    | inr none ↦ elim (cases_Bool (veto n)) [
+      | inl vetoes ↦ inl (n, omega arith, vetoes, none)
+      | inr not ↦ inr (λ i lt in'. elim (cases_lt i n) [
+        | inl less ↦ all i less in'
+        | inr last ↦ absurd (let here : i ≡ n = omega (arith, lt, last) in differs (veto n) (ap veto (sym here) ∙ in') not)
+      ])
+    ]
+  ]
+]
+  where
+    differs : (b : Bool) → b ≡ true → b ≡ false → ⊥
+    differs b is not = cc
+
+module _ (n : ℕ) (veto f : ℕ → Bool) where
+  -- ---- the rule that asks for each
+  rule-at : (i : ℕ) → i < n → cond (f i) 1 0 * get_or (rule_for n veto).weights i 0 ≡ cond (f i) 1 0 * cond (veto i) 1 0
+  rule-at i lt = ap (λ (w : ℕ). cond (f i) 1 0 * w) (made-at (λ j. cond (veto j) 1 0) n i lt)
+
+  rule-weighs : weighs n (rule_for n veto) f ≡ sum_by (λ i. cond (f i) 1 0 * cond (veto i) 1 0) (range_with_len 0 n)
+  rule-weighs =
+      sum-range (λ i. cond (f i) 1 0 * get_or (rule_for n veto).weights i 0) (λ i. cond (f i) 1 0 * cond (veto i) 1 0) 0 n
+      (λ i _ lt. rule-at i (omega (arith, lt)))
+
+  rule-lost : (i : ℕ) → i < n → veto i ≡ true → f i ≡ false → met n (rule_for n veto ∷ []) f ≡ false
+  rule-lost i lt vetoes out =
+      let less = beside f (λ j. cond (veto j) 1 0) n i lt out in
+      let one = vote (veto i) vetoes in
+      let own = rule-weighs in
+      ap (λ (b : Bool). b && true) (lt-leb (number_of n veto) (weighs n (rule_for n veto) f) (omega (arith, less, one, own)))
+    where
+      vote : (b : Bool) → b ≡ true → cond b 1 0 ≡ 0 + 1
+      vote true is = omega arith
+      vote false is = absurd (cc)
+
+  rule-met : ((i : ℕ) → i < n → veto i ≡ true → f i ≡ true) → met n (rule_for n veto ∷ []) f ≡ true
+  rule-met all =
+      let same : weighs n (rule_for n veto) f ≡ number_of n veto =
+      rule-weighs ∙ sum-range (λ i. cond (f i) 1 0 * cond (veto i) 1 0) (λ i. cond (veto i) 1 0) 0 n
+      (λ i _ lt. both (f i) (veto i) (all i (omega (arith, lt)))) in
+      ap (λ (b : Bool). b && true) (le-leb (number_of n veto) (weighs n (rule_for n veto) f) (omega (arith, same)))
+    where
+      both : (b d : Bool) → (d ≡ true → b ≡ true) → cond b 1 0 * cond d 1 0 ≡ cond d 1 0
+      both true true h = omega arith
+      both true false h = omega arith
+      both false false h = omega arith
+      both false true h = absurd (let e = h refl in cc)
+
+  -- ---- what is left of a rule
+  agreed : RuleView → ℕ
+  agreed r = sum_by (λ i. cond (veto i) (get_or r.weights i 0) 0) (range_with_len 0 n)
+
+  rest-weighs : ((i : ℕ) → i < n → veto i ≡ true → f i ≡ true) → (r : RuleView) → weighs n r f ≡ agreed r + weighs n (rest_of n veto r) f
+  unfolding agreed
+  rest-weighs all r =
+      sum-range (λ i. cond (f i) 1 0 * get_or r.weights i 0)
+      (λ i. cond (veto i) (get_or r.weights i 0) 0 + cond (f i) 1 0 * get_or (rest_of n veto r).weights i 0) 0 n
+      (λ i _ lt. split (f i) (veto i) (get_or r.weights i 0) (get_or (rest_of n veto r).weights i 0) (all i (omega (arith, lt)))
+      (made-at (λ j. cond (veto j) 0 (get_or r.weights j 0)) n i (omega (arith, lt))))
+      ∙ sum-plus (λ i. cond (veto i) (get_or r.weights i 0) 0) (λ i. cond (f i) 1 0 * get_or (rest_of n veto r).weights i 0) (range_with_len 0 n)
+    where
+      split : (b d : Bool) (w v : ℕ) → (d ≡ true → b ≡ true) → v ≡ cond d 0 w → cond b 1 0 * w ≡ cond d w 0 + cond b 1 0 * v
+      split true true w v h is = omega (arith, is)
+      split true false w v h is = omega (arith, is)
+      split false false w v h is = omega (arith, is)
+      split false true w v h is = absurd (let e = h refl in cc)
+
+  rests-met : ((i : ℕ) → i < n → veto i ≡ true → f i ≡ true) → (rs : List RuleView) → met n rs f ≡ met n (rests n veto rs) f
+  unfolding agreed
+  rests-met all [] = refl
+  rests-met all (r ∷ rs) = elim (cases_lt 0 (r.quota - agreed r)) [
+    | inl more ↦
+        (λ k. same more k && rests-met all rs k)
+        ∙ sym (ap (λ (b : Bool). met n (cond b (rest_of n veto r ∷ rests n veto rs) (rests n veto rs)) f)
+        (lt-ltb 0 (r.quota - agreed r) more))
+    | inr none ↦
+        (λ k. le-leb r.quota (weighs n r f) (let e = rest-weighs all r in omega (arith, e, none)) k && rests-met all rs k)
+        ∙ sym (ap (λ (b : Bool). met n (cond b (rest_of n veto r ∷ rests n veto rs) (rests n veto rs)) f)
+        (le-ltb 0 (r.quota - agreed r) none))
+  ]
+    where
+      same : 0 < r.quota - agreed r → leb r.quota (weighs n r f) ≡ leb (r.quota - agreed r) (weighs n (rest_of n veto r) f)
+      same more =
+          let e = rest-weighs all r in
+          elim (cases_lt (weighs n r f) r.quota) [
+            | inl short ↦ lt-leb r.quota (weighs n r f) short
+                ∙ sym (lt-leb (r.quota - agreed r) (weighs n (rest_of n veto r) f) (omega (arith, e, short, more)))
+            | inr enough ↦ le-leb r.quota (weighs n r f) enough
+                ∙ sym (le-leb (r.quota - agreed r) (weighs n (rest_of n veto r) f) (omega (arith, e, enough)))
+          ]
+
+-- without a member that can veto the others lose
+vetoed-lost : (n : ℕ) (rs : List RuleView) (f : ℕ → Bool) (i : ℕ) → All (λ r. length r.weights ≡ n) rs → i < n → can_veto rs i ≡ true
+    → f i ≡ false → met n rs f ≡ false
+vetoed-lost n [] f i full lt vetoes out = absurd (cc)
+vetoed-lost n (r ∷ rs) f i full lt vetoes out =
+    elim (or_cases (ltb (sum r.weights - get_or r.weights i 0) r.quota) (can_veto rs i) vetoes) [
+      | inl here ↦
+          let short = ltb-true (sum r.weights - get_or r.weights i 0) r.quota here in
+          let less = beside f (λ j. get_or r.weights j 0) n i lt out in
+          let all = row-sum r.weights n (All-head (λ (x : RuleView). length x.weights ≡ n) r rs full) in
+          ap (λ (b : Bool). b && met n rs f) (lt-leb r.quota (weighs n r f) (omega (arith, short, less, all)))
+      | inr later ↦
+          and_right (leb r.quota (weighs n r f)) (met n rs f)
+          (vetoed-lost n rs f i (All-tail (λ (x : RuleView). length x.weights ≡ n) r rs full) lt later out)
+    ]
+
+-- members win where all vetoers are among them, and the others meet what is left of the rules
+pub vetoers-both : (n : ℕ) (rs : List RuleView) (f : ℕ → Bool) → All (λ r. length r.weights ≡ n) rs
+    → met n rs f ≡ (met n (rule_for n (can_veto rs) ∷ []) f && met n (rests n (can_veto rs) rs) f)
+vetoers-both n rs f full = elim (missing (can_veto rs) f n) [
+  | inl found ↦
+      vetoed-lost n rs f found.0 full found.1 found.2 found.3
+      ∙ sym (ap (λ (b : Bool). b && met n (rests n (can_veto rs) rs) f) (rule-lost n (can_veto rs) f found.0 found.1 found.2 found.3))
+  | inr all ↦
+      rests-met n (can_veto rs) f all rs
+      ∙ sym (ap (λ (b : Bool). b && met n (rests n (can_veto rs) rs) f) (rule-met n (can_veto rs) f all))
+]
+
+-- a member has weight in the one rule, or in those that are left
+pub vetoers-apart : (n : ℕ) (veto : ℕ → Bool) (rs : List RuleView) (i : ℕ) → i < n
+    → HasNoWeight (rule_for n veto ∷ []) i ⊎ HasNoWeight (rests n veto rs) i
+vetoers-apart n veto rs i lt = elim (cases_Bool (veto i)) [
+  | inl vetoes ↦ inr (All-filter (λ r. ltb 0 r.quota) (λ r. get_or r.weights i 0 ≡ 0) (map (rest_of n veto) rs)
+      (All-map (λ r. get_or r.weights i 0 ≡ 0) (rest_of n veto) rs (λ k d _.
+      made-at (λ j. cond (veto j) 0 (get_or (get_or rs k d).weights j 0)) n i lt
+      ∙ ap (λ (b : Bool). cond b 0 (get_or (get_or rs k d).weights i 0)) vetoes)))
+  | inr not ↦ inl (All-cons (λ (r : RuleView). get_or r.weights i 0 ≡ 0) (rule_for n veto) []
+      (made-at (λ j. cond (veto j) 1 0) n i lt ∙ ap (λ (b : Bool). cond b 1 0) not)
+      (All-nil (λ (r : RuleView). get_or r.weights i 0 ≡ 0)))
+]
