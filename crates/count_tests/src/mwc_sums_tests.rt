@@ -392,19 +392,49 @@ fn random_game_with_vetoers(
     game_of_three(rt, alloc, 10, quotas, first, second, third)
 }
 
-/// Where those that can veto win alone, they are the one coalition, and sums do not serve.
+/// Ten members by weight, of whom the last can veto, and a number of the others, whom a rule counts; a seed chooses the
+/// numbers, and which of these rules stands first.
+fn random_game_of_one_chamber(
+    rt: &impl Abort,
+    alloc: Global,
+    seed: u64,
+    most: u64,
+) -> Result<Game, Fail> {
+    let others = house(rt, alloc, seed, 10, 0, 9, most)?;
+    let all = house(rt, alloc, seed, 10, 0, 10, most)?;
+    let heads = house(rt, alloc, seed, 10, 0, 9, 1)?;
+    let last = house(rt, alloc, seed, 10, 9, 10, 1)?;
+    let beside = total(&all).saturating_sub(total(&others));
+    let quota = random_quota(seed, &others).saturating_add(beside);
+    let asked = seed % 9 + 1;
+    if seed % 2 == 0 {
+        game_of_three(rt, alloc, 10, [quota, asked, 1], all, heads, last)
+    } else {
+        game_of_three(rt, alloc, 10, [asked, quota, 1], heads, all, last)
+    }
+}
+
+/// The counts by sums are those of all subsets. Where those that can veto win alone, they are the one coalition, and sums
+/// do not serve.
+fn counts_as_all_subsets(rt: &impl Abort, alloc: Global, game: &Game) -> Result<(), Fail> {
+    let wanted = by_subsets(rt, alloc, game)?;
+    match count_by_sums(alloc, game) {
+        Ok(Some(found)) => same_counts(rt, &found, &wanted),
+        Ok(None) => same(rt, wanted.wide_total(), 1, "those that can veto"),
+        Err(_) => return Err(Fail::from("out of memory")),
+    }
+    Ok(())
+}
+
 #[test]
 fn random_games_with_vetoers_as_all_subsets(rt: HostRuntime) -> Result<(), Fail> {
     let alloc = rt.alloc();
     for seed in 400..440 {
         for most in [1, 3, 1_000_000_000_000] {
             let game = random_game_with_vetoers(&rt, alloc, seed, most)?;
-            let wanted = by_subsets(&rt, alloc, &game)?;
-            match count_by_sums(alloc, &game) {
-                Ok(Some(found)) => same_counts(&rt, &found, &wanted),
-                Ok(None) => same(&rt, wanted.wide_total(), 1, "those that can veto"),
-                Err(_) => return Err(Fail::from("out of memory")),
-            }
+            counts_as_all_subsets(&rt, alloc, &game)?;
+            let game = random_game_of_one_chamber(&rt, alloc, seed, most)?;
+            counts_as_all_subsets(&rt, alloc, &game)?;
         }
     }
     Ok(())

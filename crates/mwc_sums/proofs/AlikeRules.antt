@@ -32,7 +32,7 @@ alike-by_member g k e is lt same i below = each i below ∙ sym (each 0 (omega a
         ∙ ap (λ (r : RuleView). get_or r.weights (get_or g.ranks m 0) 0) (sym ranked)
         ∙ same (get_or g.ranks m 0) ((ranks-are g is).place_below m inside)
 
-alike-sum : (ws : List ℕ) (e : ℕ) → ((p : ℕ) → p < length ws → get_or ws p 0 ≡ e) → sum ws ≡ length ws * e
+pub alike-sum : (ws : List ℕ) (e : ℕ) → ((p : ℕ) → p < length ws → get_or ws p 0 ≡ e) → sum ws ≡ length ws * e
 alike-sum [] e same = omega arith
 alike-sum (w ∷ ws) e same =
     let total : sum (w ∷ ws) ≡ w + sum ws = sum_by-cons (λ (y : ℕ). y) w ws in

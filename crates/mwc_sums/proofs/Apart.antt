@@ -7,7 +7,7 @@ use Rattle.std.proofs.lemmas.List.Elements.{All-head, All-tail}
 use Rattle.council_game.specs.Votes.{RuleView}
 use Rattle.council_game.specs.Game.{GameView, IsGame}
 use Rattle.mwc_sums.specs.Chambers.{HasNoWeight, AreChambersOf, paired, minimal_of_size, minimal_of_member_size}
-use Rattle.mwc_sums.proofs.Winning.{weighs, met, weighs-same}
+use Rattle.mwc_sums.proofs.Winning.{met, weighs-same}
 use Rattle.mwc_sums.proofs.Joining.{IsJoint}
 use Rattle.mwc_sums.proofs.Pairs.{joint-sizes, joint-members}
 

@@ -75,7 +75,7 @@ falls-rest : (w : ℕ) (ws : List ℕ) → Falls (w ∷ ws) → Falls ws
 falls-rest w ws falls a b le lt = falls (suc a) (suc b) (omega arith) (omega arith)
 
 -- a coalition that is not empty has a place
-place-of : (n c : ℕ) → c < 2 ^ n → 0 < c → (p : ℕ) × (p < n) × (has n p c ≡ true)
+pub place-of : (n c : ℕ) → c < 2 ^ n → 0 < c → (p : ℕ) × (p < n) × (has n p c ≡ true)
 place-of zero c lt pos = absurd (omega arith)
 place-of (suc n) c lt pos = elim (cases_lt c (2 ^ n)) [
   | inl low ↦ let found = place-of n c low pos in (suc found.0, (let l = found.1 in omega arith), rest-out n found.0 c ∙ found.2)

@@ -6,6 +6,7 @@ pub mod Passing
 pub mod Members
 pub mod HeadLaw
 pub mod Ended
+pub mod Leading
 pub mod Whole
 pub mod Masks
 pub mod Orders
@@ -25,3 +26,4 @@ pub mod Remaking
 pub mod Joined
 pub mod Vetoing
 pub mod VetoRules
+pub mod OneChamber

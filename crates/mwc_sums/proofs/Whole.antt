@@ -1,20 +1,29 @@
--- The tallies of a game of one rule, or of a second one that asks for heads.
-use Rattle.std.proofs.Common.{◌≡◌, ◌∙◌, ◌↔◌, ◌⊎◌, ℕ, ◌+◌, ◌-◌, ◌*◌, ◌/◌, ◌^◌, ◌<◌, ◌≤◌, true, List, [], ◌∷◌, length, take, get_or, filter}
-use Rattle.std.proofs.Common.{refl, sym, ap, subst, arith, inl, inr}
-use Rattle.std.specs.List.{AllByRecursion}
+-- The tallies of a game of one rule, or of a second one that asks for heads, by the places that have weight.
+use Rattle.std.proofs.Common.{◌≡◌, ◌∙◌, ◌↔◌, ◌⊎◌, ℕ, ◌+◌, ◌-◌, ◌*◌, ◌/◌, ◌^◌, ◌<◌, ◌≤◌, ◌==◌, ◌&&◌, Bool, true, false, List, [], ◌∷◌, length, take, get_or, filter}
+use Rattle.std.proofs.Common.{count_ones, refl, sym, ap, subst, arith, inl, inr}
+use Rattle.std.specs.List.{All, AllByRecursion}
+use Rattle.std.specs.Int.Count.{ones-ones}
+use Rattle.std.proofs.lemmas.List.{get_or-map, get_or-take, length-map}
+use Rattle.std.proofs.lemmas.List.Elements.{All-filter}
+use Rattle.std.proofs.lemmas.Nat.{pow_pos, pow-add, ones_cat}
 use Rattle.std.proofs.lemmas.Bool.{cases_lt}
 use Rattle.std.proofs.Math.Nat.{mul-le-mul_right, div-mul-le_self, mod-lt, div-add-mod}
 use Rattle.council_game.specs.Votes.{RuleView, Votes, IsRule, IsRanked, IsVotes, has, size, weight, rule_at, down, minimal}
 use Rattle.council_game.specs.Votes.{minimal_coalitions}
 use Rattle.council_game.specs.Game.{GameView, votes_of}
+use Rattle.council_game.specs.Ranks.{rule_by_rank}
+use Rattle.coalitions.proofs.Sizes.{size-ones}
 use Rattle.council_game.proofs.GameTests.{rule-is}
 use Rattle.power_index.specs.declared.tally.Tally.{Tally}
 use Rattle.power_index.specs.Tables.{IsTallyOf, no_tally}
 use Rattle.mwc_sums.specs.Completing.{completing}
 use Rattle.mwc_sums.specs.Heads.{AsksForHeads, first_rule, IsMinimalByHeads}
-use Rattle.mwc_sums.specs.Inner.Rows.{endings, left_out, AreEndings, AreEndingsWith}
-use Rattle.mwc_sums.specs.Inner.Asked.{IsAsked}
-use Rattle.mwc_sums.proofs.Completing.{minimal-completing}
+use Rattle.mwc_sums.specs.Inner.Rows.{endings, left_out, AreEndings, AreEndingsWith, IsOfNone}
+use Rattle.mwc_sums.specs.Inner.Asked.{IsAsked, IsAskedOfAll}
+use Rattle.mwc_sums.proofs.Completing.{minimal-completing, filter-map}
+use Rattle.mwc_sums.proofs.Counting.{count, count-same, count-none}
+use Rattle.mwc_sums.proofs.Meeting.{down-below}
+use Rattle.mwc_sums.proofs.Leading.{IsLed, first_of, leading, led-each, leading-votes, leading-list, has-first, has-last}
 use Rattle.mwc_sums.proofs.HeadLaw.{heads-from, heads-back}
 use Rattle.mwc_sums.proofs.Ended.{AreEnded, ended-one, ended-two}
 
@@ -83,53 +92,54 @@ first-votes v votes two = by_rules v.rules refl two
           ranked = subst IsRanked (sym alone) (subst IsRanked is votes.ranked);
         }
 
--- weights and the quota of a game, and the heads that it asks for
-pub record AreAsked (g : GameView) (ws : List ℕ) (q heads : ℕ) : Type 0 where
-  pub votes : IsVotes (votes_of g)
-  pub weights : ws ≡ (rule_at (votes_of g).rules 0).weights
-  pub quota : q ≡ (rule_at (votes_of g).rules 0).quota
-  pub asked : IsAsked (votes_of g) heads
+-- one rule, or a second one that asks for heads
+abbrev IsOfKind : Votes → ℕ → Type 0
+IsOfKind v heads = ((length v.rules ≡ 1) × (heads ≡ 0)) ⊎ ((length v.rules ≡ 2) × AsksForHeads v.members heads (rule_at v.rules 1))
 
-pub members-are : (g : GameView) (ws : List ℕ) (q heads : ℕ) → AreAsked g ws q heads → length ws ≡ length g.names
-members-are g ws q heads h =
+-- weights and the quota of votes, and the heads that they ask for
+pub record AreAsked (v : Votes) (ws : List ℕ) (q heads : ℕ) : Type 0 where
+  pub votes : IsVotes v
+  pub weights : ws ≡ (rule_at v.rules 0).weights
+  pub quota : q ≡ (rule_at v.rules 0).quota
+  pub asked : IsOfKind v heads
+
+pub members-are : (v : Votes) (ws : List ℕ) (q heads : ℕ) → AreAsked v ws q heads → length ws ≡ v.members
+members-are v ws q heads h =
     let some = h.votes.has_rule in
-    ap (λ (l : List ℕ). length l) h.weights ∙ (rule-is (votes_of g) 0 h.votes (omega (arith, some))).full
+    ap (λ (l : List ℕ). length l) h.weights ∙ (rule-is v 0 h.votes (omega (arith, some))).full
 
-game-ended : (g : GameView) (ws : List ℕ) (q heads : ℕ) → AreAsked g ws q heads
-    → AreEnded (length ws) (minimal_coalitions (votes_of g)) ws heads q
+votes-ended : (v : Votes) (ws : List ℕ) (q heads : ℕ) → AreAsked v ws q heads
+    → AreEnded (length ws) (minimal_coalitions v) ws heads q
 unfolding minimal_coalitions
-game-ended g ws q heads h = by_case h.asked
+votes-ended v ws q heads h = by_case h.asked
   where
-    v : Votes
-    v = votes_of g
-
-    by_case : IsAsked (votes_of g) heads → AreEnded (length ws) (minimal_coalitions (votes_of g)) ws heads q
+    by_case : IsOfKind v heads → AreEnded (length ws) (minimal_coalitions v) ws heads q
     by_case (inl one) =
-        subst (λ (k : ℕ). AreEnded (length ws) (minimal_coalitions (votes_of g)) ws k q) (sym one.1)
+        subst (λ (k : ℕ). AreEnded (length ws) (minimal_coalitions v) ws k q) (sym one.1)
         (subst (λ (l : List ℕ). AreEnded (length ws) l ws 0 q)
-        ((λ i. completing (h.weights i) (h.quota i)) ∙ sym (minimal-completing (votes_of g) h.votes one.0)) (ended-one ws q))
+        ((λ i. completing (h.weights i) (h.quota i)) ∙ sym (minimal-completing v h.votes one.0)) (ended-one ws q))
     by_case (inr two) =
-        let long : length ws ≡ length g.names = members-are g ws q heads h in
-        let pos : 0 < q = (let p = (rule-is (votes_of g) 0 h.votes (let some = h.votes.has_rule in omega (arith, some))).some in let e =
+        let long : length ws ≡ v.members = members-are v ws q heads h in
+        let pos : 0 < q = (let p = (rule-is v 0 h.votes (let some = h.votes.has_rule in omega (arith, some))).some in let e =
         h.quota in omega (arith, p, e)) in
-        let Facts : ℕ → Type 0 = λ n. (c : ℕ) → c < 2 ^ n → (minimal (votes_of g) c ≡ true) ↔
-        (((size n c ≡ heads) × (q ≤ weight ws c)) ⊎ ((heads < size n c) × (minimal (first_rule (votes_of g)) c ≡ true))) in
-        let facts : Facts (length g.names) = λ c lt.
-        subst (λ (x : ℕ). (minimal (votes_of g) c ≡ true) ↔ (((size (length g.names) c ≡ heads) × (x ≤ weight ws c)) ⊎
-        ((heads < size (length g.names) c) × (minimal (first_rule (votes_of g)) c ≡ true)))) (sym h.quota)
-        (subst (λ (us : List ℕ). (minimal (votes_of g) c ≡ true) ↔
-        (((size (length g.names) c ≡ heads) × ((rule_at (votes_of g).rules 0).quota ≤ weight us c)) ⊎
-        ((heads < size (length g.names) c) × (minimal (first_rule (votes_of g)) c ≡ true)))) (sym h.weights)
-        (heads-law (votes_of g) heads c h.votes two.0 two.1 lt)) in
-        let first : minimal_coalitions (first_rule (votes_of g)) ≡ completing ws q = first-list two.0 in
-        subst (λ (n : ℕ). AreEnded (length ws) (filter (minimal (votes_of g)) (down (2 ^ n))) ws heads q) long
-        (ended-two ws q heads (minimal (votes_of g)) (minimal (first_rule (votes_of g))) pos (subst Facts (sym long) facts)
-        (ap (λ (n : ℕ). filter (minimal (first_rule (votes_of g))) (down (2 ^ n))) long ∙ first))
+        let Facts : ℕ → Type 0 = λ n. (c : ℕ) → c < 2 ^ n → (minimal v c ≡ true) ↔
+        (((size n c ≡ heads) × (q ≤ weight ws c)) ⊎ ((heads < size n c) × (minimal (first_rule v) c ≡ true))) in
+        let facts : Facts (v.members) = λ c lt.
+        subst (λ (x : ℕ). (minimal v c ≡ true) ↔ (((size (v.members) c ≡ heads) × (x ≤ weight ws c)) ⊎
+        ((heads < size (v.members) c) × (minimal (first_rule v) c ≡ true)))) (sym h.quota)
+        (subst (λ (us : List ℕ). (minimal v c ≡ true) ↔
+        (((size (v.members) c ≡ heads) × ((rule_at v.rules 0).quota ≤ weight us c)) ⊎
+        ((heads < size (v.members) c) × (minimal (first_rule v) c ≡ true)))) (sym h.weights)
+        (heads-law v heads c h.votes two.0 two.1 lt)) in
+        let first : minimal_coalitions (first_rule v) ≡ completing ws q = first-list two.0 in
+        subst (λ (n : ℕ). AreEnded (length ws) (filter (minimal v) (down (2 ^ n))) ws heads q) long
+        (ended-two ws q heads (minimal v) (minimal (first_rule v)) pos (subst Facts (sym long) facts)
+        (ap (λ (n : ℕ). filter (minimal (first_rule v)) (down (2 ^ n))) long ∙ first))
       where
-        first-list : length (votes_of g).rules ≡ 2 → minimal_coalitions (first_rule (votes_of g)) ≡ completing ws q
-        first-list two = minimal-completing (first_rule (votes_of g)) (first-votes (votes_of g) h.votes two)
-            (one-left (votes_of g).rules two)
-            ∙ (λ i. completing (rule-first (votes_of g).rules two i).weights (rule-first (votes_of g).rules two i).quota)
+        first-list : length v.rules ≡ 2 → minimal_coalitions (first_rule v) ≡ completing ws q
+        first-list two = minimal-completing (first_rule v) (first-votes v h.votes two)
+            (one-left v.rules two)
+            ∙ (λ i. completing (rule-first v.rules two i).weights (rule-first v.rules two i).quota)
             ∙ (λ i. completing (sym h.weights i) (sym h.quota i))
           where
             one-left : (rs : List RuleView) → length rs ≡ 2 → length (take 1 rs) ≡ 1
@@ -140,28 +150,129 @@ game-ended g ws q heads h = by_case h.asked
             rule-first [] e = absurd (omega (arith, e))
             rule-first (r ∷ rs) e = refl
 
-pub game-less : (g : GameView) (ws : List ℕ) (q heads : ℕ) → AreAsked g ws q heads → (p s : ℕ) → p < length ws → s ≤ 40
-    → endings (left_out p ws) heads s q 0 ≤ endings ws heads s q 0
-game-less g ws q heads h p s lt small = let e = (game-ended g ws q heads h).each p s lt in omega (arith, e)
+-- the size of a coalition with no place behind
+size-shifted : (n m x : ℕ) → m ≤ n → x < 2 ^ m → size n (x * 2 ^ (n - m)) ≡ size m x
+size-shifted n m x le lt =
+    let digits : n ≡ m + (n - m) = omega (arith, le) in
+    let power : 2 ^ n ≡ 2 ^ m * 2 ^ (n - m) = ap (λ (k : ℕ). 2 ^ k) digits ∙ pow-add 2 m (n - m) in
+    let below : x * 2 ^ (n - m) < 2 ^ n = subst (λ (k : ℕ). x * 2 ^ (n - m) < k) (sym power) (times x (2 ^ m) (2 ^ (n - m)) lt (pow_pos (n - m))) in
+    let e : x * 2 ^ (n - m) ≡ x * 2 ^ (n - m) + 0 = omega arith in
+    let none : count_ones 0 ≡ 0 = ones-ones 0 in
+    let cat = ones_cat (n - m) x 0 (pow_pos (n - m)) in
+    let ones = ap count_ones e in
+    omega (arith, size-ones n (x * 2 ^ (n - m)) below, size-ones m x lt, ones, cat, none)
+  where
+    times : (a b k : ℕ) → a < b → 0 < k → a * k < b * k
+    times a b k lt pos = let f = mul-le-mul_right k (let le : a + 1 ≤ b = omega arith in le) in let e : (a + 1) * k ≡ a * k + k = omega arith in
+        omega (arith, f, e, pos)
 
-pub game-all : (g : GameView) (ws : List ℕ) (q heads : ℕ) (t : Tally) → AreAsked g ws q heads → AreEndings ws heads q t
-    → IsTallyOf (length g.names) (λ c. true) (minimal_coalitions (votes_of g)) t
-game-all g ws q heads t h is =
-    subst (λ (n : ℕ). IsTallyOf n (λ c. true) (minimal_coalitions (votes_of g)) t) (members-are g ws q heads h)
-    (record { long = is.long; sizes = λ s small. is.sizes s small ∙ sym ((game-ended g ws q heads h).all s) })
+-- all places have all weight
+pub asked-all : (g : GameView) (m heads : ℕ) → m ≡ length g.names → IsAskedOfAll g heads → IsAsked (votes_of g) m heads
+asked-all g m heads is asked = record {
+  few = omega (arith, is);
+  all = λ r p lt from below. absurd (omega (arith, is, from, below));
+  kind = kind asked;
+}
+  where
+    long : length (votes_of g).rules ≡ length g.rules
+    long = length-map g.rules (rule_by_rank g.ranks)
 
-pub game-each : (g : GameView) (ws : List ℕ) (q heads : ℕ) (each : List Tally) → AreAsked g ws q heads
-    → ((p : ℕ) → p < length ws → AreEndingsWith ws heads q p (get_or each p no_tally))
-    → (p : ℕ) → p < length g.names → IsTallyOf (length g.names) (has (length g.names) p) (minimal_coalitions (votes_of g))
-    (get_or each p no_tally)
-game-each g ws q heads each h are p lt =
-    let long = members-are g ws q heads h in
-    let own = are p (omega (arith, long, lt)) in
-    subst (λ (n : ℕ). IsTallyOf n (has n p) (minimal_coalitions (votes_of g)) (get_or each p no_tally)) long
-    (record {
-      long = own.long;
-      sizes = λ s small. (
-          let a = own.sizes s small in
-          let b = (game-ended g ws q heads h).each p s (omega (arith, long, lt)) in
-          omega (arith, a, b));
-    })
+    kind : IsAskedOfAll g heads
+        → ((length (votes_of g).rules ≡ 1) × (heads ≡ 0)) ⊎ ((length (votes_of g).rules ≡ 2) × AsksForHeads m heads (rule_at (votes_of g).rules 1))
+    kind (inl one) = inl (long ∙ one.0, one.1)
+    kind (inr two) = inr (long ∙ two.0, subst (λ (n : ℕ). AsksForHeads n heads (rule_at (votes_of g).rules 1)) (sym is) two.1)
+
+-- the weights of the first m places of a game, its quota, and the heads that it asks for among them
+pub record AreLed (g : GameView) (ws : List ℕ) (q m heads : ℕ) : Type 0 where
+  pub votes : IsVotes (votes_of g)
+  pub weights : ws ≡ take m (rule_at (votes_of g).rules 0).weights
+  pub quota : q ≡ (rule_at (votes_of g).rules 0).quota
+  pub asked : IsAsked (votes_of g) m heads
+
+module _ (g : GameView) (ws : List ℕ) (q m heads : ℕ) (h : AreLed g ws q m heads) where
+  abbrev led : Votes
+  led = leading m (votes_of g)
+
+  rule-led : (k : ℕ) → k < length (votes_of g).rules → rule_at led.rules k ≡ first_of m (rule_at (votes_of g).rules k)
+  rule-led k lt = get_or-map (first_of m) (votes_of g).rules k _ _ lt
+
+  asked-led : AreAsked led ws q heads
+  asked-led =
+      let some = h.votes.has_rule in
+      let first = rule-led 0 (omega (arith, some)) in
+      record {
+        votes = leading-votes (votes_of g) m h.votes h.asked.few h.asked.all;
+        weights = h.weights ∙ sym (ap (λ (r : RuleView). r.weights) first);
+        quota = h.quota ∙ sym (ap (λ (r : RuleView). r.quota) first);
+        asked = kind h.asked.kind;
+      }
+    where
+      kind : ((length (votes_of g).rules ≡ 1) × (heads ≡ 0)) ⊎ ((length (votes_of g).rules ≡ 2) × AsksForHeads m heads (rule_at (votes_of g).rules 1))
+          → IsOfKind led heads
+      kind (inl one) = inl (length-map (votes_of g).rules (first_of m) ∙ one.0, one.1)
+      kind (inr two) = inr (
+        length-map (votes_of g).rules (first_of m) ∙ two.0,
+        subst (λ (r : RuleView). AsksForHeads m heads r) (sym (rule-led 1 (let t = two.0 in omega (arith, t)))) (record {
+          each = two.1.each;
+          some = two.1.some;
+          same = λ p lt. get_or-take m (rule_at (votes_of g).rules 1).weights p 0 lt ∙ two.1.same p lt;
+          enough = two.1.enough;
+        }),
+      )
+
+  places : length ws ≡ m
+  places = members-are led ws q heads asked-led
+
+  pub game-less : (p s : ℕ) → p < length ws → s ≤ 40 → endings (left_out p ws) heads s q 0 ≤ endings ws heads s q 0
+  game-less p s lt small = let e = (votes-ended led ws q heads asked-led).each p s lt in omega (arith, e)
+
+  below-all : All (λ c. c < 2 ^ m) (minimal_coalitions led)
+  unfolding minimal_coalitions
+  below-all = All-filter (minimal led) (λ c. c < 2 ^ m) (down (2 ^ m)) (down-below (2 ^ m) (2 ^ m) (omega arith))
+
+  idle : (i : ℕ) → i < length (votes_of g).rules → (d : RuleView) → IsLed (length g.names) m (get_or (votes_of g).rules i d)
+  idle = led-each (votes_of g) m h.votes h.asked.all
+
+  -- what is counted of the first places is counted of all
+  led-count : (test own : ℕ → Bool) (s : ℕ) → ((x : ℕ) → x < 2 ^ m → test (x * 2 ^ (length g.names - m)) ≡ own x)
+      → count (λ c. test c && (size (length g.names) c == s)) (minimal_coalitions (votes_of g))
+      ≡ count (λ x. own x && (size m x == s)) (minimal_coalitions led)
+  led-count test own s same =
+      ap (count (λ c. test c && (size (length g.names) c == s))) (leading-list (votes_of g) m h.asked.few idle)
+      ∙ ap (λ (l : List ℕ). length l) (filter-map (λ c. test c && (size (length g.names) c == s)) (λ x. x * 2 ^ (length g.names - m)) (minimal_coalitions led))
+      ∙ length-map (filter (λ x. test (x * 2 ^ (length g.names - m)) && (size (length g.names) (x * 2 ^ (length g.names - m)) == s)) (minimal_coalitions led))
+      (λ x. x * 2 ^ (length g.names - m))
+      ∙ count-same (λ x. test (x * 2 ^ (length g.names - m)) && (size (length g.names) (x * 2 ^ (length g.names - m)) == s)) (λ x. own x && (size m x == s))
+      (2 ^ m) (minimal_coalitions led) below-all (λ x lt. (λ i. same x lt i && (size-shifted (length g.names) m x h.asked.few lt i == s)))
+
+  pub game-all : (t : Tally) → AreEndings ws heads q t → IsTallyOf (length g.names) (λ c. true) (minimal_coalitions (votes_of g)) t
+  game-all t is = record {
+    long = is.long;
+    sizes = λ s small. is.sizes s small ∙ sym ((votes-ended led ws q heads asked-led).all s)
+        ∙ ap (λ (n : ℕ). count (λ c. true && (size n c == s)) (minimal_coalitions led)) places
+        ∙ sym (led-count (λ c. true) (λ c. true) s (λ x lt. refl));
+  }
+
+  pub game-each : (each : List Tally) → ((p : ℕ) → p < length ws → AreEndingsWith ws heads q p (get_or each p no_tally)) → (p : ℕ) → p < m
+      → IsTallyOf (length g.names) (has (length g.names) p) (minimal_coalitions (votes_of g)) (get_or each p no_tally)
+  game-each each are p lt =
+      let inside : p < length ws = omega (arith, places, lt) in
+      let own = are p inside in
+      record {
+        long = own.long;
+        sizes = λ s small. (
+            let a = own.sizes s small in
+            let b = (votes-ended led ws q heads asked-led).each p s inside in
+            let n = ap (λ (n : ℕ). count (λ c. has n p c && (size n c == s)) (minimal_coalitions led)) places in
+            let f = led-count (has (length g.names) p) (has m p) s (λ x below. has-first (votes_of g) m h.asked.few idle p x lt) in
+            omega (arith, a, b, n, f));
+      }
+
+  pub game-none : (t : Tally) → IsOfNone t → (p : ℕ) → m ≤ p → p < length g.names
+      → IsTallyOf (length g.names) (has (length g.names) p) (minimal_coalitions (votes_of g)) t
+  game-none t is p from lt = record {
+    long = is.long;
+    sizes = λ s small. is.none s ∙ sym (led-count (has (length g.names) p) (λ x. false) s
+        (λ x below. has-last (votes_of g) m h.asked.few idle p x from lt)
+        ∙ count-none (λ x. false && (size m x == s)) (2 ^ m) (minimal_coalitions led) below-all (λ x below. refl));
+  }

@@ -1,7 +1,7 @@
 -- What a game consists of, by the sets of members that win.
 use Rattle.std.proofs.Common.{◌≡◌, ◌∙◌, ◌&&◌, not, ℕ, ◌*◌, ◌<◌, Bool, true, false, cond, eqb, leb, List, [], ◌∷◌, length}
 use Rattle.std.proofs.Common.{get_or, map, sym, ap, refl, arith, inl, inr}
-use Rattle.std.specs.List.{list_all, sum_by, range_with_len}
+use Rattle.std.specs.List.{list_all}
 use Rattle.std.proofs.lemmas.Bool.{cases_eq, eq-eqb, ne_eqb, and_right}
 use Rattle.council_game.specs.Votes.{RuleView, has, without, wins, weight, minimal}
 use Rattle.council_game.specs.Ranks.{member_at, rule_by_rank}

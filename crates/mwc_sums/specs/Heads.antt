@@ -1,5 +1,5 @@
 -- Games of weights and heads: of one rule, or of two, of which one asks for so many members.
-use Rattle.std.specs.Prelude.{ℕ, ◌*◌, ◌<◌, ◌≤◌, ◌≡◌, ◌↔◌, ◌⊎◌, true, length, take, slice_index}
+use Rattle.std.specs.Prelude.{ℕ, ◌*◌, ◌<◌, ◌≤◌, ◌≡◌, ◌==◌, ◌↔◌, ◌⊎◌, true, if◌then◌else◌, List, length, take, slice_index}
 use Rattle.council_game.specs.Game.{GameView}
 use Rattle.council_game.specs.Votes.{RuleView, Votes, rule_at, size, weight, minimal}
 
@@ -31,3 +31,13 @@ IsOfWeightsAndHeads g =
     let n = length g.names in
     (length g.rules ≡ 1)
     ⊎ ((length g.rules ≡ 2) × (WeighsAllAlike n (rule_at g.rules 0) ⊎ WeighsAllAlike n (rule_at g.rules 1)))
+
+-- a rule gives the same weight above 0 to each of n members with weight in another rule, and none to others
+abbrev pub AsksOfThose : ℕ → RuleView → RuleView → Type 0
+AsksOfThose n h r =
+    (each : ℕ) × (0 < each) × ((i : ℕ) → i < n → slice_index h.weights i ≡ (if slice_index r.weights i == 0 then 0 else each))
+
+-- two rules over the members of one chamber: what they weigh, and how many they are
+abbrev pub AreOfOneChamber : ℕ → List RuleView → Type 0
+AreOfOneChamber n rs =
+    (length rs ≡ 2) × (AsksOfThose n (rule_at rs 1) (rule_at rs 0) ⊎ AsksOfThose n (rule_at rs 0) (rule_at rs 1))

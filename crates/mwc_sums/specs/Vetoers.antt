@@ -1,10 +1,10 @@
 -- Members that can veto, and what the rules ask of the others where all of these agree.
-use Rattle.std.specs.Prelude.{◌⊎◌, ℕ, ◌+◌, ◌-◌, ◌<◌, Bool, if◌then◌else◌, nat_lt, List, ◌∷◌, [], length, map, sum, slice_index, sum_by}
+use Rattle.std.specs.Prelude.{◌⊎◌, ℕ, ◌+◌, ◌-◌, ◌<◌, Bool, if◌then◌else◌, nat_lt, List, length, map, sum, slice_index, sum_by}
 use Rattle.std.specs.List.{filter, list_any, range_with_len}
 use Rattle.council_game.specs.Votes.{RuleView, Votes, rule_at}
 use Rattle.council_game.specs.Game.{GameView}
 use Rattle.mwc_sums.specs.Chambers.{AreApart}
-use Rattle.mwc_sums.specs.Heads.{IsOfWeightsAndHeads}
+use Rattle.mwc_sums.specs.Heads.{AreOfOneChamber, IsOfWeightsAndHeads}
 
 -- the others together miss the quota of some rule
 abbrev pub IsVetoer : Votes → ℕ → Type 0
@@ -37,12 +37,16 @@ rests n f rs = filter (λ r. nat_lt 0 r.quota) (map (rest_of n f) rs)
 abbrev pub rules_beside_vetoers : GameView → List RuleView
 rules_beside_vetoers g = rests (length g.names) (can_veto g.rules) g.rules
 
--- some members can veto; where they agree some rule still asks for more; and no member has weight in two such rules
-abbrev pub AreApartBesideVetoers : GameView → Type 0
-AreApartBesideVetoers g =
-    (0 < number_of (length g.names) (can_veto g.rules)) × (0 < length (rules_beside_vetoers g))
-    × AreApart (length g.names) (rules_beside_vetoers g)
+-- rules that are counted chamber by chamber: no member has weight in two of them, or they are those of one chamber
+abbrev pub AreOfChambers : ℕ → List RuleView → Type 0
+AreOfChambers n rs = AreApart n rs ⊎ AreOfOneChamber n rs
 
--- weights and heads; or rules of which no two give weight to one member, of all members or of those that can not veto
+-- some members can veto; where they agree some rule still asks for more; and such rules are of chambers
+abbrev pub AreOfChambersBesideVetoers : GameView → Type 0
+AreOfChambersBesideVetoers g =
+    (0 < number_of (length g.names) (can_veto g.rules)) × (0 < length (rules_beside_vetoers g))
+    × AreOfChambers (length g.names) (rules_beside_vetoers g)
+
+-- weights and heads; or rules of chambers, of all members or of those that can not veto
 abbrev pub IsCountedBySums : GameView → Type 0
-IsCountedBySums g = IsOfWeightsAndHeads g ⊎ AreApart (length g.names) g.rules ⊎ AreApartBesideVetoers g
+IsCountedBySums g = IsOfWeightsAndHeads g ⊎ AreOfChambers (length g.names) g.rules ⊎ AreOfChambersBesideVetoers g

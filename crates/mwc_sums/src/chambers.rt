@@ -7,7 +7,7 @@ ghost use Rattle.mwc_sums.specs.Chambers.{minimal_of_member_size, minimal_of_siz
 ghost use Rattle.power_index.specs.Tables.{AreCounts, IsTallyOf};
 ghost use Rattle.std.specs.Prelude.{◌≡◌, ℕ, ◌+◌, ◌<◌, ◌≤◌, ◌^◌, ◌↔◌, ◌⊎◌, true, IfOk, length, slice_index};
 
-use crate::count::boxed_with_heads;
+use crate::count::boxed_of_all;
 use crate::remade::{copied_rules, remade};
 use council_game::{Game, Memory, limits};
 use power_index::{Counts, Tally};
@@ -177,11 +177,11 @@ pub(crate) fn count_apart(alloc: Global, game: &Game) -> Result<Box<Counts>, Mem
     let _members = game.members();
     let rules = game.rules();
     if rules == 1 {
-        return boxed_with_heads(alloc, game, 0);
+        return boxed_of_all(alloc, game, 0);
     }
     let first = remade(alloc, game, copied_rules(alloc, game, 0, 1)?)?;
     let others = remade(alloc, game, copied_rules(alloc, game, 1, rules)?)?;
-    let counts = boxed_with_heads(alloc, &first, 0)?;
+    let counts = boxed_of_all(alloc, &first, 0)?;
     let of_others = count_apart(alloc, &others)?;
     let (first, others) = (Counted::new(first, counts), Counted::new(others, of_others));
     boxed_joined(alloc, game, &first, &others)

@@ -4,30 +4,31 @@ ghost use Rattle.council_game.specs.Game.{votes_of};
 ghost use Rattle.council_game.specs.Votes.{minimal_coalitions, rule_at};
 ghost use Rattle.mwc_sums.specs.Heads.{AsksForHeads, WeighsAllAlike};
 ghost use Rattle.mwc_sums.specs.Vetoers.{IsCountedBySums};
-ghost use Rattle.mwc_sums.specs.Inner.Rows.{AreAllEndings, endings, left_out};
-ghost use Rattle.mwc_sums.specs.Inner.Asked.{IsAsked};
-ghost use Rattle.power_index.specs.Tables.{AreCounts};
-ghost use Rattle.std.specs.Prelude.{◌≡◌, ℕ, ◌≤◌, ◌<◌, ◌↔◌, ◌⊎◌, IfOk, IfSome, IsSome, length, sum};
+ghost use Rattle.mwc_sums.specs.Inner.Rows.{AreAllEndings, IsOfNone, endings, left_out};
+ghost use Rattle.mwc_sums.specs.Inner.Asked.{IsAsked, IsAskedOfAll};
+ghost use Rattle.power_index.specs.Tables.{AreCounts, no_tally};
+ghost use Rattle.std.specs.Prelude.{◌≡◌, ℕ, ◌≤◌, ◌<◌, ◌↔◌, ◌⊎◌, IfOk, IfSome, IsSome, length, slice_index_or, sum, take};
 
-use crate::chambers::{are_apart, count_apart};
+use crate::chamber::{are_of_chambers, count_chambers};
 use crate::choices::Heads;
 use crate::halves::by_halves;
 use crate::laws::counts_do_not_depend_on_the_order_of_rules;
 use crate::remade::turned;
 use crate::tallies::{Tallies, by_sums};
 use crate::vetoers::count_beside_vetoers;
-use council_game::{Game, Memory};
-use power_index::Counts;
+use council_game::{Game, Memory, limits};
+use power_index::{Counts, Tally};
 use std::alloc::Global;
 
-/// The weights of the first rule, by rank.
-fn ranked_weights(alloc: Global, game: &Game) -> Result<Vec<u64>, Memory>
-    requires { 0 < length game.now.rules }
-    ensures { IfOk result (λ v. v.items ≡ (rule_at (votes_of game.now).rules 0).weights) }
+/// The weights of the first rule, by rank, up to a place.
+fn ranked_weights(alloc: Global, game: &Game, places: usize) -> Result<Vec<u64>, Memory>
+    requires some { 0 < length game.now.rules }
+    requires few { places ≤ length game.now.names }
+    ensures { IfOk result (λ v. v.items ≡ take places (rule_at (votes_of game.now).rules 0).weights) }
 {
-    let members = game.members();
-    let mut weights = Vec::with_capacity(alloc, members)?;
-    for place in 0..members {
+    let _members = game.members();
+    let mut weights = Vec::with_capacity(alloc, places)?;
+    for place in 0..places {
         weights.push(game.rule_weight(0, game.member_at(place)))?;
     }
     Ok(weights)
@@ -56,7 +57,7 @@ fn heads_of_rule(game: &Game, rule: usize) -> Option<usize>
 /// more than heads.
 fn heads_of(game: &Game) -> Option<usize>
     ensures few { IfSome result (λ heads. heads ≤ MEMBERS) }
-    ensures asked { IfSome result (λ heads. IsAsked (votes_of game.now) heads) }
+    ensures asked { IfSome result (IsAskedOfAll game.now) }
     ensures kind { IsSome result ↔ ((length game.now.rules ≡ 1) ⊎ ((length game.now.rules ≡ 2)
         × WeighsAllAlike (length game.now.names) (rule_at game.now.rules 1))) }
 {
@@ -100,17 +101,41 @@ fn tallies(alloc: Global, weights: &[u64], quota: u64, heads: usize) -> Result<T
     by_halves(alloc, weights, quota, heads)
 }
 
-/// The counts of a game that asks for so many heads besides its first rule.
-pub(crate) fn count_with_heads(alloc: Global, game: &Game, heads: usize) -> Result<Counts, Memory>
+/// The tallies up to a place, and behind it those of no coalition.
+fn up_to(each: &[Tally; limits::MEMBERS], places: usize, members: usize) -> [Tally; limits::MEMBERS]
+    requires places { places ≤ members }
+    requires members { members ≤ MEMBERS }
+    ensures long { length result ≡ MEMBERS }
+    ensures first { (p : ℕ) → p < places → slice_index_or result p no_tally ≡ slice_index_or each.now p no_tally }
+    ensures last { (p : ℕ) → places ≤ p → p < members → IsOfNone (slice_index_or result p no_tally) }
+{
+    let mut tallies = *each;
+    for place in places..members {
+        tallies[place] = Tally {
+            sizes: [0; limits::SIZES],
+        };
+    }
+    tallies
+}
+
+/// The counts of a game of which the first places have all weight, and which asks for so many of them besides its
+/// first rule.
+fn count_with_heads(
+    alloc: Global,
+    game: &Game,
+    places: usize,
+    heads: usize,
+) -> Result<Counts, Memory>
     requires few { heads ≤ MEMBERS }
-    requires asked { IsAsked (votes_of game.now) heads }
+    requires asked { IsAsked (votes_of game.now) places heads }
     ensures { IfOk result (λ c. AreCounts game.now (minimal_coalitions (votes_of game.now)) c) }
 {
-    let _members = game.members();
+    let members = game.members();
     let quota = game.rule_quota(0);
-    let weights = ranked_weights(alloc, game)?;
+    let weights = ranked_weights(alloc, game, places)?;
     let tallies = tallies(alloc, &weights, quota, heads)?;
-    Ok(Counts::of_tallies(game, tallies.all, tallies.each))
+    let each = up_to(&tallies.each, places, members);
+    Ok(Counts::of_tallies(game, tallies.all, each))
 }
 
 /// The same on the heap. (By itself, so that what it takes of the stack is free again.)
@@ -118,14 +143,24 @@ pub(crate) fn count_with_heads(alloc: Global, game: &Game, heads: usize) -> Resu
 pub(crate) fn boxed_with_heads(
     alloc: Global,
     game: &Game,
+    places: usize,
     heads: usize,
 ) -> Result<Box<Counts>, Memory>
     requires few { heads ≤ MEMBERS }
-    requires asked { IsAsked (votes_of game.now) heads }
+    requires asked { IsAsked (votes_of game.now) places heads }
     ensures { IfOk result (λ c. AreCounts game.now (minimal_coalitions (votes_of game.now)) c.value) }
 {
-    let counts = count_with_heads(alloc, game, heads)?;
+    let counts = count_with_heads(alloc, game, places, heads)?;
     Ok(Box::new(alloc, counts)?)
+}
+
+/// The counts of a game of one rule, or of a second one too that asks for so many members.
+pub(crate) fn boxed_of_all(alloc: Global, game: &Game, heads: usize) -> Result<Box<Counts>, Memory>
+    requires few { heads ≤ MEMBERS }
+    requires asked { IsAskedOfAll game.now heads }
+    ensures { IfOk result (λ c. AreCounts game.now (minimal_coalitions (votes_of game.now)) c.value) }
+{
+    boxed_with_heads(alloc, game, game.members(), heads)
 }
 
 /// The counts of a game of two rules of which the first asks for heads, by the game with these in the other
@@ -145,7 +180,7 @@ fn count_turned(alloc: Global, game: &Game) -> Result<Option<Box<Counts>>, Memor
         return Ok(None);
     };
     counts_do_not_depend_on_the_order_of_rules();
-    let counts = boxed_with_heads(alloc, &turned, heads)?;
+    let counts = boxed_of_all(alloc, &turned, heads)?;
     Ok(Some(counts))
 }
 
@@ -156,11 +191,10 @@ fn boxed_by_sums(alloc: Global, game: &Game) -> Result<Option<Box<Counts>>, Memo
     ensures kind { IfOk result (λ counts. IsSome counts ↔ IsCountedBySums game.now) }
 {
     if let Some(heads) = heads_of(game) {
-        let counts = boxed_with_heads(alloc, game, heads)?;
-        return Ok(Some(counts));
+        return Ok(Some(boxed_of_all(alloc, game, heads)?));
     }
-    if are_apart(game) {
-        return Ok(Some(count_apart(alloc, game)?));
+    if are_of_chambers(game) {
+        return Ok(Some(count_chambers(alloc, game)?));
     }
     match count_turned(alloc, game)? {
         None => count_beside_vetoers(alloc, game),
@@ -169,9 +203,9 @@ fn boxed_by_sums(alloc: Global, game: &Game) -> Result<Option<Box<Counts>>, Memo
 }
 
 /// The counts of all minimal winning coalitions of a game of one rule, of two of which one gives each member the
-/// same weight, or of rules of which no two give weight to one member, and of a game of which such rules are left
-/// where all members agree who can veto, whatever the weights are: none of them is listed. None for any other game.
-/// Up to 64 MB.
+/// same weight, or each member with weight in the other, or of rules of which no two give weight to one member; and of a
+/// game of which such rules are left where all members agree who can veto. Whatever the weights are, none of them is
+/// listed. None for any other game. Up to 64 MB.
 ///
 /// # Errors
 ///

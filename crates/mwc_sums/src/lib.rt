@@ -12,6 +12,7 @@
 //! members, whatever their weights.
 #![tactic(auto)]
 
+mod chamber;
 mod chambers;
 mod choices;
 mod count;

@@ -3,15 +3,16 @@ ghost use Rattle.coalitions.specs.declared.limits.TheConstants.{WEIGHT};
 ghost use Rattle.council_game.specs.Game.{IsGame, votes_of};
 ghost use Rattle.council_game.specs.Rules.{rule_view, rule_views};
 ghost use Rattle.council_game.specs.Votes.{minimal_coalitions, rule_at};
-ghost use Rattle.mwc_sums.specs.Chambers.{AreApart, AreChambersOf};
-ghost use Rattle.mwc_sums.specs.Vetoers.{AreApartBesideVetoers, can_veto};
+ghost use Rattle.mwc_sums.specs.Chambers.{AreChambersOf};
+ghost use Rattle.mwc_sums.specs.Vetoers.{AreOfChambers, AreOfChambersBesideVetoers, can_veto};
 ghost use Rattle.mwc_sums.specs.Vetoers.{rest_of, rule_for, rules_beside_vetoers};
 ghost use Rattle.power_index.specs.Tables.{AreCounts};
 ghost use Rattle.std.specs.Prelude.{◌≡◌, ℕ, ◌<◌, ◌≤◌, ◌↔◌, ◌∷◌, [], if◌then◌else◌, IfNone, IfOk, IfSome, IsSome};
 ghost use Rattle.std.specs.Prelude.{length, slice_index};
 
-use crate::chambers::{Counted, are_apart, boxed_joined, count_apart};
-use crate::count::boxed_with_heads;
+use crate::chamber::{are_of_chambers, count_chambers};
+use crate::chambers::{Counted, boxed_joined};
+use crate::count::boxed_of_all;
 use crate::remade::remade;
 use council_game::{Game, Memory, Rule};
 use power_index::Counts;
@@ -121,12 +122,12 @@ fn rules_beside_vetoers(alloc: Global, game: &Game) -> Result<Vec<Rule>, Memory>
 }
 
 /// The game of those that can veto, all of whom it asks for, and that of the others. None where nobody can veto, nothing
-/// is asked of the others, or one of them has weight in two of the rules that are left.
+/// is asked of the others, or the rules that are left are not of chambers.
 fn parted(alloc: Global, game: &Game) -> Result<Option<(Game, Game)>, Memory>
     ensures games { IfOk result (λ games. IfSome games (λ g. IsGame g.0 × IsGame g.1
         × AreChambersOf game.now g.0 g.1 × (length g.0.rules ≡ 1)
-        × AreApart (length g.1.names) g.1.rules)) }
-    ensures some { IfOk result (λ games. IsSome games ↔ AreApartBesideVetoers game.now) }
+        × AreOfChambers (length g.1.names) g.1.rules)) }
+    ensures some { IfOk result (λ games. IsSome games ↔ AreOfChambersBesideVetoers game.now) }
 {
     let _members = game.members();
     let vetoers = rule_for_vetoers(alloc, game)?;
@@ -135,7 +136,7 @@ fn parted(alloc: Global, game: &Game) -> Result<Option<(Game, Game)>, Memory>
         return Ok(None);
     }
     let others = remade(alloc, game, rests)?;
-    if !are_apart(&others) {
+    if !are_of_chambers(&others) {
         return Ok(None);
     }
     let mut rules = Vec::with_capacity(alloc, 1)?;
@@ -144,28 +145,28 @@ fn parted(alloc: Global, game: &Game) -> Result<Option<(Game, Game)>, Memory>
     Ok(Some((first, others)))
 }
 
-/// The counts of a game of two chambers, the first of one rule, the second of rules that share no member.
+/// The counts of a game of two chambers, the first of one rule, the second itself of rules of chambers.
 fn count_both(alloc: Global, game: &Game, first: Game, others: Game) -> Result<Box<Counts>, Memory>
     requires one { length first.rules ≡ 1 }
-    requires apart { AreApart (length others.names) others.rules }
-    requires chambers { AreChambersOf game.now first others }
+    requires of_chambers { AreOfChambers (length others.names) others.rules }
+    requires both { AreChambersOf game.now first others }
     ensures { IfOk result (λ c. AreCounts game.now (minimal_coalitions (votes_of game.now)) c.value) }
 {
-    let counts = boxed_with_heads(alloc, &first, 0)?;
-    let of_others = count_apart(alloc, &others)?;
+    let counts = boxed_of_all(alloc, &first, 0)?;
+    let of_others = count_chambers(alloc, &others)?;
     let (first, others) = (Counted::new(first, counts), Counted::new(others, of_others));
     boxed_joined(alloc, game, &first, &others)
 }
 
-/// The counts of a game of which some members can veto, and of which no member has weight in two of the rules that are
-/// left where these agree. None for any other game.
+/// The counts of a game of which some members can veto, and of which rules of chambers are left where these agree.
+/// None for any other game.
 pub(crate) fn count_beside_vetoers(
     alloc: Global,
     game: &Game,
 ) -> Result<Option<Box<Counts>>, Memory>
     ensures counts { IfOk result (λ counts. IfSome counts
         (λ c. AreCounts game.now (minimal_coalitions (votes_of game.now)) c.value)) }
-    ensures kind { IfOk result (λ counts. IsSome counts ↔ AreApartBesideVetoers game.now) }
+    ensures kind { IfOk result (λ counts. IsSome counts ↔ AreOfChambersBesideVetoers game.now) }
 {
     match parted(alloc, game)? {
         Some((first, others)) => Ok(Some(count_both(alloc, game, first, others)?)),

@@ -67,3 +67,8 @@ pub record AreEndingsWith (ws : List ℕ) (heads quota p : ℕ) (t : Tally) : Ty
 pub record AreAllEndings (ws : List ℕ) (heads quota : ℕ) (t : Tallies) : Type 0 where
   pub all : AreEndings ws heads quota t.all
   pub each : (p : ℕ) → p < length ws → AreEndingsWith ws heads quota p (slice_index_or t.each p no_tally)
+
+-- a tally of no coalition
+pub record IsOfNone (t : Tally) : Type 0 where
+  pub long : length t.sizes ≡ SIZES
+  pub none : (s : ℕ) → slice_index t.sizes s ≡ 0

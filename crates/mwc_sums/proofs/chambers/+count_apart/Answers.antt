@@ -1,7 +1,6 @@
 use Rattle.std.proofs.Common.{◌∙◌, ◌<◌, List, ℕ, length, take, drop, All, ap, sym, refl, subst, arith, inl}
 use Rattle.std.proofs.lemmas.List.{length-map, length-take-le}
 use Rattle.council_game.specs.Game.{GameView}
-use Rattle.council_game.specs.Ranks.{rule_by_rank}
 use Rattle.council_game.specs.Rules.{rule_view}
 use Rattle.council_game.specs.Votes.{RuleView}
 use Rattle.mwc_sums.specs.Chambers.{AreApart, AreChambersOf}
@@ -40,12 +39,11 @@ remade-requires-2-clause-fair t c =
     subst (λ (l : List RuleView). All (IsFair (length c.args.game.now.names)) l) (sym c.in_ok-copied_rules-2.ensures)
     (fair-part c.args.game.now 1 c.rules-rules.result c.members-members.ensures.game)
 
-pub boxed_with_heads-requires-2-clause-asked : goal.boxed_with_heads-requires-2-clause-asked
-boxed_with_heads-requires-2-clause-asked t c =
+pub boxed_of_all-requires-2-clause-asked : goal.boxed_of_all-requires-2-clause-asked
+boxed_of_all-requires-2-clause-asked t c =
     let some = c.members-members.ensures.game.has_rule in
     inl (
-      length-map c.in_ok-first.first.rules (rule_by_rank c.in_ok-first.first.ranks)
-          ∙ ap (λ (l : List RuleView). length l) (c.in_ok-first.ensures.rules ∙ c.in_ok-copied_rules.ensures)
+      ap (λ (l : List RuleView). length l) (c.in_ok-first.ensures.rules ∙ c.in_ok-copied_rules.ensures)
           ∙ length-take-le 1 c.args.game.now.rules (omega (arith, some)),
       refl,
     )

@@ -1,4 +1,4 @@
-use Rattle.std.proofs.Common.{◌≡◌, ◌∙◌, ℕ, ◌-◌, Bool, false, ltb, get_or, sum, [], sym, ap, arith}
+use Rattle.std.proofs.Common.{◌∙◌, ◌-◌, Bool, ltb, get_or, sum, [], sym, ap, arith}
 use Rattle.std.proofs.lemmas.List.{get_or_default}
 use Rattle.std.proofs.lemmas.List.Folds.{list_any_none}
 use Rattle.council_game.specs.Votes.{RuleView}

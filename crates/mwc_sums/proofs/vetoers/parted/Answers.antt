@@ -1,13 +1,13 @@
-use Rattle.std.proofs.Common.{◌≡◌, ◌∙◌, ◌&&◌, ℕ, ◌<◌, Bool, List, ◌∷◌, [], ◌++◌, length, rules, sym, ap, refl, subst, arith, inl, inr, All}
+use Rattle.std.proofs.Common.{◌≡◌, ◌∙◌, ◌&&◌, ℕ, Bool, List, ◌∷◌, [], ◌++◌, length, rules, sym, ap, refl, subst, arith, inl, inr, All}
 use Rattle.std.proofs.lemmas.Bool.{eqb-false}
 use Rattle.std.proofs.lemmas.List.{length-map}
 use Rattle.std.proofs.lemmas.List.Elements.{All-cons, All-nil}
 use Rattle.council_game.specs.declared.rule.Rule.{Rule}
 use Rattle.council_game.specs.Rules.{rule_view, rule_views}
 use Rattle.council_game.specs.Votes.{RuleView}
-use Rattle.mwc_sums.specs.Chambers.{HasNoWeight, met, AreApart}
+use Rattle.mwc_sums.specs.Chambers.{HasNoWeight, met}
 use Rattle.mwc_sums.specs.Inner.Fair.{IsFair}
-use Rattle.mwc_sums.specs.Vetoers.{can_veto, number_of, rule_for, rests}
+use Rattle.mwc_sums.specs.Vetoers.{AreOfChambers, can_veto, rule_for, rests}
 use Rattle.mwc_sums.proofs.Remaking.{fair-all}
 use Rattle.mwc_sums.proofs.Vetoing.{vetoers-both, vetoers-apart}
 use Rattle.mwc_sums.proofs.VetoRules.{fair-vetoers, fair-rests, few-rests}
@@ -64,7 +64,7 @@ returns-clause-games c =
         ];
       },
       ap (λ (l : List RuleView). length l) own,
-      c.are_apart.ensures.0 (search rules),
+      c.are_of_chambers.ensures.0 (search rules),
     )
 
 pub returns-clause-some : goal.returns-clause-some
@@ -76,11 +76,11 @@ returns-clause-some c = (
       let held : length c.in_ok-rests.rests.items ≡ c.in_ok-rests.rests.len = search rules in
       let long = length-map c.in_ok-rests.rests.items rule_view in
       let views = ap (λ (l : List RuleView). length l) c.in_ok-rests.ensures in
-      let apart : AreApart (length c.in_ok-others.others.names) c.in_ok-others.others.rules = c.are_apart.ensures.0 (search rules) in (
+      let rest : AreOfChambers (length c.in_ok-others.others.names) c.in_ok-others.others.rules = c.are_of_chambers.ensures.0 (search rules) in (
         omega (arith, asked, some),
         omega (arith, empty, held, long, views),
-        subst (λ (l : List RuleView). AreApart (length c.args.game.now.names) l) (c.in_ok-others.ensures.rules ∙ c.in_ok-rests.ensures)
-            (subst (λ (n : ℕ). AreApart n c.in_ok-others.others.rules) (ap (λ (l : List (List ℕ)). length l) c.in_ok-others.ensures.names) apart),
+        subst (λ (l : List RuleView). AreOfChambers (length c.args.game.now.names) l) (c.in_ok-others.ensures.rules ∙ c.in_ok-rests.ensures)
+            (subst (λ (n : ℕ). AreOfChambers n c.in_ok-others.others.rules) (ap (λ (l : List (List ℕ)). length l) c.in_ok-others.ensures.names) rest),
       )),
   λ _. refl,
 )
