@@ -39,8 +39,9 @@ enum council_status {
  * call again with so much room.
  *
  * No pointer may be NULL, not even where its length is 0, and text and *length may overlap nothing else of the call.
- * A call takes up to 64 MB from malloc for a tally, and 8 bytes for each coalition that is kept. It may not be made from a
- * signal handler, nor in the forked child of a process with threads.
+ * A call takes from malloc up to 64 MB for a tally, else 8 to 16 bytes for each coalition, and for a while up to three
+ * times what it puts into text; and 512 KB of stack. It may not be made from a signal handler, nor in the forked child of a
+ * process with threads.
  */
 uint32_t council_report(const char *game, size_t game_length, const struct council_options *options,
 			char *text, size_t room, uint64_t *length);

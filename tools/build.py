@@ -347,14 +347,17 @@ def library_once(lines):
     return do(words, f"{TOP}/crates/{LIBRARY}", LIBRARY)
 
 
-def with_memory():
-    """Puts the calls for memory that the kit has of C beside the archive of the crate; the status."""
+def with_memory(sources):
+    """Puts the calls for memory that the kit has of C beside the archive of the crate, and keeps of which sources it
+    is; the status."""
     out = f"{TOP}/crates/{LIBRARY}/out"
     parts = [f"{out}/lib{LIBRARY}.a", f"{kit()}/c/liblibc_c.a"]
     script = "".join(f"{line}\n" for line in ["CREATE libcouncil.a.new", *[f"ADDLIB {it}" for it in parts], "SAVE", "END"])
     made = subprocess.run([f"{kit()}/toolchain/bin/llvm-ar", "-M"], input=script, text=True, cwd=out, check=False)
     if made.returncode == 0:
         os.replace(f"{out}/libcouncil.a.new", f"{out}/libcouncil.a")
+        with open(f"{out}/built", "w", encoding="utf-8") as it:
+            it.write(f"{sources}\n")
     return made.returncode
 
 
@@ -475,7 +478,7 @@ def wait_for_others():
         return False
 
 
-def build(names, goal, lines, keeps, held):
+def build(names, goal, lines, keeps, held, sources):
     """Proves the libraries, and builds the program or the library for other languages; the status. These crates are held
     until then."""
     told = Told(names, goal, lines, costs([*names, goal]))
@@ -492,7 +495,7 @@ def build(names, goal, lines, keeps, held):
         words = ["run", "--", "--version"] if goal == PROGRAM else ["lib"]
         status = do(["rt", *words], f"{TOP}/crates/{goal}", goal)
     log_of(goal)
-    return status or (with_memory() if goal == LIBRARY else 0)
+    return status or (with_memory(sources) if goal == LIBRARY else 0)
 
 
 def main():
@@ -524,7 +527,7 @@ def main():
     sources = built("sources")
     keeps = "--keep" in words or not kit() or any(os.path.isdir(f"{TOP}/crates/{it}/out/incremental") for it in names)
     try:
-        status = build(names, goal, lines, keeps, held)
+        status = build(names, goal, lines, keeps, held, sources)
         if status == 0 and goal == PROGRAM:
             built("keep", sources)
         return status

@@ -9,7 +9,7 @@
 #include <stdlib.h>
 #include <string.h>
 
-enum { ROOM = 1 << 20, CALLS = 20, GAMES = 16, STACK = 256 * 1024 };
+enum { ROOM = 1 << 20, CALLS = 20, GAMES = 16, STACK = 512 * 1024 };
 
 struct job {
 	char game[70000], alone[ROOM];
