@@ -277,16 +277,23 @@ def text_of(file):
         return None
 
 
+def link(found, to):
+    """Puts what was built of a library in another place too: the same files, by another name."""
+    shutil.rmtree(to, ignore_errors=True)
+    shutil.copytree(found, to, copy_function=os.link)
+
+
 def give(name, stamp):
     """Gives `rt` what was proved here: it takes what stands in out/rlib beside the stamp of the sources, and so proves none of
-    the libraries again when it checks a crate above them. What is given is the same files by another name. (The gate asks for none of this:
-    `rt ci` sets all of out/ aside.)"""
+    the libraries again when it checks a crate above them. (The gate asks for none of this: `rt ci` sets all of out/ aside.)"""
     made, own = statements(name), f"{TOP}/crates/{name}/out/rlib"
-    if not stamp or (text_of(f"{own}/stamp") == stamp and os.path.samefile(f"{own}/{name}.rlib/format", f"{made}/format")):
+    has_it = os.path.isfile(f"{own}/{name}.rlib/format") and os.path.samefile(f"{own}/{name}.rlib/format", f"{made}/format")
+    if not stamp or (has_it and text_of(f"{own}/stamp") == stamp):
         return
-    shutil.rmtree(own, ignore_errors=True)
     try:
-        shutil.copytree(made, f"{own}/{name}.rlib", copy_function=os.link)
+        if not has_it:
+            shutil.rmtree(own, ignore_errors=True)
+            link(made, f"{own}/{name}.rlib")
         with open(f"{own}/stamp", "w", encoding="utf-8") as it:
             it.write(stamp)
     except OSError:
@@ -313,15 +320,15 @@ def prove_once(name, lines, nice, jobs):
 
 
 def take(names, lines):
-    """Takes what `rt ci` has just proved of these libraries, if it stands in out/rlib with no stamp, as `rt ci` leaves it."""
-    left = [f"{TOP}/crates/{it}/out/rlib" for it in names]
-    if any(not os.path.isdir(f"{own}/{it}.rlib") or os.path.exists(f"{own}/stamp") for own, it in zip(left, names)):
+    """Takes what `rt ci` has just proved of these libraries, if it stands in out/rlib with no stamp, as `rt ci` leaves it;
+    the status."""
+    left = {it: f"{TOP}/crates/{it}/out/rlib" for it in names}
+    if any(not os.path.isdir(f"{own}/{it}.rlib") or os.path.exists(f"{own}/stamp") for it, own in left.items()):
         return 1
-    for name, own in zip(names, left):
+    for name, own in left.items():
         made = os.path.dirname(statements(name))
         shutil.rmtree(made, ignore_errors=True)
-        os.makedirs(made)
-        os.rename(f"{own}/{name}.rlib", statements(name))
+        link(f"{own}/{name}.rlib", statements(name))
         with open(f"{made}/sum", "w", encoding="utf-8") as it:
             it.write(sum_of(name, lines))
         give(name, stamp_of(name))
