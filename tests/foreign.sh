@@ -11,6 +11,13 @@ if [ ! -f "$library" ]; then
 fi
 here=$top/tests/foreign
 
+# ---- it keeps nothing: no data that can be written, but a byte of the kit that nobody writes (the address of no memory)
+name="no global state"
+if needs nm "$name"; then
+    kept=$(nm "$library" | sed -n 's/.* [bBcCdDsS] //p' | grep -vx nothing | head -n 2 | tr '\n' ' ')
+    if [ -z "$kept" ]; then ok "$name"; else failed "$name" "$kept"; fi
+fi
+
 # ---- the callers
 callers=()
 if needs cc "from C" "from threads of C" "from C++"; then
