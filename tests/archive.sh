@@ -95,6 +95,15 @@ if command -v man >/dev/null; then
 else
     skipped "in the archive, the manual page" "the command man was not found"
 fi
+name="in the archive, the library for other languages"
+if [ ! -f "$here/lib/libcouncil.a" ]; then
+    skipped "$name" "there was none of these sources: tools/build.py --library makes it"
+elif needs cc "$name"; then
+    cc -I"$here/include" -o "$temp/report" "$top/tests/foreign/report.c" "$here/lib/libcouncil.a" >"$temp/err" 2>&1 &&
+        timeout "$seconds" "$temp/report" <"$here/examples/board.toml" >"$temp/out" 2>>"$temp/err"
+    status=$?
+    printed "$name" "$here/examples/board.tsv"
+fi
 name="in the archive, its own links lead to files"
 missing=$(grep -oE '\]\([^)#:]+\)' "$here/README.md" | tr -d '])(' | while IFS= read -r file; do [ -e "$here/$file" ] || echo "$file"; done)
 if [ -z "$missing" ]; then ok "$name"; else failed "$name" "$missing"; fi

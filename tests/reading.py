@@ -110,7 +110,7 @@ def load_source(path, crate, module):
     for i, line in enumerate(lines):
         m = re.match(r"impl(?:<.*?>)? (?:.* for )?([A-Z]\w*).*\{$", line)
         owner = m.group(1) if m else None if line == "}" else owner
-        m = re.match(r"(\s*)(pub(?:\(\w+\))? )?fn (\w+)", line)
+        m = re.match(r"(\s*)(pub(?:\(\w+\))? )?(?:extern \S+ )?fn (\w+)", line)
         if m:
             # up to the body, or to the `;` of a function without one
             j, open_braces, clauses = i, line.count("{") - line.count("}"), False

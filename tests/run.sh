@@ -50,7 +50,7 @@ if [ ! -x "$program" ]; then
     failed=1
 else
     # the longest first, as many at once as there are processors
-    scripts="look refusals hostile sizes tally limits output options using launcher archive examples faults explain mistakes words workers prefixes pages"
+    scripts="look refusals hostile foreign sizes tally limits output options using launcher archive examples faults explain mistakes words workers prefixes pages"
     programs="random_games reading memory_source gate_source"
     command -v python3 >/dev/null || programs=
     # what one run may take is measured once, before anything else runs

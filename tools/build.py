@@ -2,10 +2,16 @@
 """Proves what the program stands on, side by side, and builds the program.
 
     tools/build.py [--keep]
+    tools/build.py --library          the library for other languages in place of the program
+    tools/build.py --take             for .ci/run: takes what `rt ci` has just proved
 
 For whoever wants the program, each library is proved once, from nothing, as `rt ci` does it: what is built of it
 holds its statements, and not its proofs, so that the crates above do not load these. It stands in
-crates/NAME/out/statements, and is proved again where its text or that of a library below has changed.
+crates/NAME/out/statements, and is proved again where its text or that of a library below has changed. `rt check` of
+a crate above takes it from there: see `give`.
+
+The library for other languages is crates/council_c/out/libcouncil.a: the crate council_c, and what the kit has of C to
+take memory.
 
 For whoever works on the sources (--keep, or where an earlier run of `rt` has kept work) it is `rt lib` that proves
 each, and keeps its work: more at first, and after a change only what changed. `rt` itself proves one library after
@@ -23,7 +29,10 @@ A second start beside the first waits, and has nothing to do where that has buil
 what is kept by tools/built.sh.
 """
 import fcntl
+import functools
 import hashlib
+import importlib.machinery
+import importlib.util
 import os
 import re
 import shutil
@@ -35,6 +44,7 @@ from concurrent.futures import FIRST_COMPLETED, ThreadPoolExecutor, wait
 
 TOP = os.path.dirname(os.path.dirname(os.path.realpath(__file__)))
 PROGRAM = "council"
+LIBRARY = "council_c"
 OUT = f"{TOP}/crates/{PROGRAM}/out"
 ROOMS = f"{OUT}/rooms"
 LOG = f"{OUT}/build.log"
@@ -241,13 +251,63 @@ def words_of(name, lines, root):
     return [*words, "--logic-built", f"{kit()}/logic_built", "--links", f"{name}="]
 
 
+@functools.cache
+def toolchain():
+    """What `rt` itself is made of."""
+    loader = importlib.machinery.SourceFileLoader("rtlib", f"{kit()}/bin/rtlib.py")
+    made = importlib.util.module_from_spec(importlib.util.spec_from_loader("rtlib", loader))
+    sys.modules["rtlib"], sys.dont_write_bytecode = made, True
+    loader.exec_module(made)
+    return made
+
+
+def stamp_of(name):
+    """The stamp of a library's sources, as `rt` makes it; none where this `rt` has another way."""
+    try:
+        return toolchain().Crate(f"{TOP}/crates/{name}", TOP, {}).stamp()
+    except (Exception, SystemExit):
+        return None
+
+
+def text_of(file):
+    try:
+        with open(file, encoding="utf-8") as it:
+            return it.read()
+    except OSError:
+        return None
+
+
+def link(found, to):
+    """Puts what was built of a library in another place too: the same files, by another name."""
+    shutil.rmtree(to, ignore_errors=True)
+    shutil.copytree(found, to, copy_function=os.link)
+
+
+def give(name, stamp):
+    """Gives `rt` what was proved here: it takes what stands in out/rlib beside the stamp of the sources, and so proves none of
+    the libraries again when it checks a crate above them. (The gate asks for none of this: `rt ci` sets all of out/ aside.)"""
+    made, own = statements(name), f"{TOP}/crates/{name}/out/rlib"
+    has_it = os.path.isfile(f"{own}/{name}.rlib/format") and os.path.samefile(f"{own}/{name}.rlib/format", f"{made}/format")
+    if not stamp or (has_it and text_of(f"{own}/stamp") == stamp):
+        return
+    try:
+        if not has_it:
+            shutil.rmtree(own, ignore_errors=True)
+            link(made, f"{own}/{name}.rlib")
+        with open(f"{own}/stamp", "w", encoding="utf-8") as it:
+            it.write(stamp)
+    except OSError:
+        # some file systems have no links
+        shutil.rmtree(own, ignore_errors=True)
+
+
 def prove_once(name, lines, nice, jobs):
     """Proves a library from nothing, unless it is proved, by so many jobs; its status."""
-    made, sum = os.path.dirname(statements(name)), sum_of(name, lines)
-    if os.path.isfile(f"{made}/sum"):
-        with open(f"{made}/sum", encoding="utf-8") as it:
-            if it.read() == sum:
-                return 0
+    made, stamp, sum = os.path.dirname(statements(name)), stamp_of(name), sum_of(name, lines)
+    if text_of(f"{made}/sum") == sum:
+        give(name, stamp)
+        return 0
+    shutil.rmtree(f"{TOP}/crates/{name}/out/rlib", ignore_errors=True)
     shutil.rmtree(made, ignore_errors=True)
     os.makedirs(made)
     words = [f"{kit()}/bin/rattle", "build", *words_of(name, lines, "src/lib.rt"), "--jobs", str(jobs)]
@@ -255,7 +315,24 @@ def prove_once(name, lines, nice, jobs):
     if status == 0 and sum == sum_of(name, lines):
         with open(f"{made}/sum", "w", encoding="utf-8") as it:
             it.write(sum)
+        give(name, stamp)
     return status
+
+
+def take(names, lines):
+    """Takes what `rt ci` has just proved of these libraries, if it stands in out/rlib with no stamp, as `rt ci` leaves it;
+    the status."""
+    left = {it: f"{TOP}/crates/{it}/out/rlib" for it in names}
+    if any(not os.path.isdir(f"{own}/{it}.rlib") or os.path.exists(f"{own}/stamp") for it, own in left.items()):
+        return 1
+    for name, own in left.items():
+        made = os.path.dirname(statements(name))
+        shutil.rmtree(made, ignore_errors=True)
+        link(f"{own}/{name}.rlib", statements(name))
+        with open(f"{made}/sum", "w", encoding="utf-8") as it:
+            it.write(sum_of(name, lines))
+        give(name, stamp_of(name))
+    return 0
 
 
 def build_once(lines):
@@ -268,6 +345,27 @@ def build_once(lines):
         or do([*link, f"{kit()}/c/libos_c.a", f"{kit()}/c/liblibc_c.a"], folder, PROGRAM)
         or do([to, "--version"], folder, PROGRAM)
     )
+
+
+def library_once(lines):
+    """Proves the crate for other languages over what was built of its libraries, and makes its archive; the status."""
+    words = [f"{kit()}/bin/rattle", "build", *words_of(LIBRARY, lines, "src/lib.rt"), "--jobs", str(lanes()[0])]
+    words += ["--crate-type", "staticlib", "--toolchain", f"{kit()}/toolchain", "-o", f"out/lib{LIBRARY}.a"]
+    return do(words, f"{TOP}/crates/{LIBRARY}", LIBRARY)
+
+
+def with_memory(sources):
+    """Puts the calls for memory that the kit has of C beside the archive of the crate, and keeps of which sources it
+    is; the status."""
+    out = f"{TOP}/crates/{LIBRARY}/out"
+    parts = [f"{out}/lib{LIBRARY}.a", f"{kit()}/c/liblibc_c.a"]
+    script = "".join(f"{line}\n" for line in ["CREATE libcouncil.a.new", *[f"ADDLIB {it}" for it in parts], "SAVE", "END"])
+    made = subprocess.run([f"{kit()}/toolchain/bin/llvm-ar", "-M"], input=script, text=True, cwd=out, check=False)
+    if made.returncode == 0:
+        os.replace(f"{out}/libcouncil.a.new", f"{out}/libcouncil.a")
+        with open(f"{out}/built", "w", encoding="utf-8") as it:
+            it.write(f"{sources}\n")
+    return made.returncode
 
 
 def log_of(name):
@@ -290,9 +388,9 @@ def plan(names, lines, cost):
 class Told:
     """What is told of a build while it goes on."""
 
-    def __init__(self, names, lines, cost):
+    def __init__(self, names, goal, lines, cost):
         self.lines, self.cost, self.start = lines, cost, time.time()
-        self.begun, self.took, self.left = {}, {}, [*names, PROGRAM]
+        self.begun, self.took, self.left = {}, {}, [*names, goal]
         self.count = len(self.left)
         self.few = lanes()[0]
         say(f"{self.count} proofs, {self.few} at once: some {self.minutes()} minutes where nothing else runs")
@@ -387,22 +485,24 @@ def wait_for_others():
         return False
 
 
-def build(names, lines, keeps, held):
-    """Proves and builds all; the status. These crates are held until then."""
-    told = Told(names, lines, costs([*names, PROGRAM]))
+def build(names, goal, lines, keeps, held, sources):
+    """Proves the libraries, and builds the program or the library for other languages; the status. These crates are held
+    until then."""
+    told = Told(names, goal, lines, costs([*names, goal]))
     if not prove_all(names, lines, prove_and_keep if keeps else prove_once, told):
         return 1
-    told.begin(PROGRAM)
+    told.begin(goal)
     if not keeps:
-        status = build_once(lines)
-        told.took[PROGRAM] = time.time() - told.begun[PROGRAM]
+        status = build_once(lines) if goal == PROGRAM else library_once(lines)
+        told.took[goal] = time.time() - told.begun[goal]
         keep_measured(told.took)
     else:
         # `rt` takes these crates for itself
         release(held)
-        status = do(["rt", "run", "--", "--version"], f"{TOP}/crates/{PROGRAM}", PROGRAM)
-    log_of(PROGRAM)
-    return status
+        words = ["run", "--", "--version"] if goal == PROGRAM else ["lib"]
+        status = do(["rt", *words], f"{TOP}/crates/{goal}", goal)
+    log_of(goal)
+    return status or (with_memory(sources) if goal == LIBRARY else 0)
 
 
 def main():
@@ -410,25 +510,32 @@ def main():
         # (one that `nohup` has set aside stays so)
         if it != signal.SIGHUP or signal.getsignal(it) != signal.SIG_IGN:
             signal.signal(it, stop)
-    lines = lines_of_crates()
-    names = below(PROGRAM, lines) if PROGRAM in lines else []
+    lines, words = lines_of_crates(), sys.argv[1:]
+    goal = LIBRARY if "--library" in words else PROGRAM
+    names = below(goal, lines) if goal in lines else []
     os.makedirs(OUT, exist_ok=True)
-    if wait_for_others() and "--keep" not in sys.argv[1:] and not built("why"):
+    os.makedirs(f"{TOP}/crates/{goal}/out", exist_ok=True)
+    if wait_for_others() and not words and not built("why"):
         say("the other start has built the program")
         return 0
-    open(LOG, "w", encoding="utf-8").close()
     held = hold(names)
+    if goal == LIBRARY and not kit():
+        say("the folder of the toolchain was not found")
+        return 1
+    if "--take" in words:
+        return take(names, lines) if kit() else 1
+    open(LOG, "w", encoding="utf-8").close()
     if os.path.isdir(ROOMS):
         # a run that was killed left them
-        for name in names:
+        for name in lines:
             bring_back(name)
         shutil.rmtree(ROOMS, ignore_errors=True)
     os.makedirs(ROOMS)
     sources = built("sources")
-    keeps = "--keep" in sys.argv[1:] or not kit() or any(os.path.isdir(f"{TOP}/crates/{it}/out/incremental") for it in names)
+    keeps = "--keep" in words or not kit() or any(os.path.isdir(f"{TOP}/crates/{it}/out/incremental") for it in names)
     try:
-        status = build(names, lines, keeps, held)
-        if status == 0:
+        status = build(names, goal, lines, keeps, held, sources)
+        if status == 0 and goal == PROGRAM:
             built("keep", sources)
         return status
     finally:

@@ -17,7 +17,7 @@ import sys
 TOP = os.path.dirname(os.path.dirname(os.path.realpath(__file__)))
 USE = re.compile(r"^\s*(?:unfoldable )?(?:pub )?(?:ghost )?use Rattle\.([\w.]+?)(?:\.\{(.*)\}| as (\w+));?\s*$", re.M)
 DEFINES = re.compile(r"^\s*(?:(?:abbrev|unfoldable|pub|record|data) )+(\S+?)(?= |$)")
-HEAD = re.compile(r"^(\s*)(pub )(?:unsafe )?(fn|struct|enum|trait|const|type) (\w+)")
+HEAD = re.compile(r"^(\s*)(pub )(?:unsafe )?(?:extern \S+ )?(fn|struct|enum|trait|const|type) (\w+)")
 WORD = re.compile(r"[A-Za-z_◌][\w'◌×]*")
 
 STYLE = """body{font:16px/1.5 system-ui,sans-serif;max-width:60rem;margin:0 auto;padding:1rem;color:#1b1b1b;background:#fff}

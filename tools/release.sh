@@ -4,7 +4,7 @@
 #     tools/release.sh [--draft] [--to FOLDER] [PROGRAM]
 #
 # from the program that ./council or .ci/run has proved and built of the sources at hand. All must be committed, and .ci/run
-# must have passed on that commit; --draft makes an archive without, and the file PROVED in it says so. Two archives of one commit
+# must have passed on that commit, which also makes the library for other languages; --draft makes an archive without, and the file PROVED in it says so. Two archives of one commit
 # and one program are the same bytes: names are sorted, owners fixed, times those of the commit.
 set -eu
 top=$(CDPATH='' cd -P -- "$(dirname -- "$0")/.." >/dev/null && pwd -P)
@@ -52,6 +52,11 @@ if [ -z "$draft" ]; then
     esac
 fi
 
+# the library for other languages, if it is of these sources
+library=$top/crates/council_c/out/libcouncil.a
+[ -f "$library" ] && [ "$(cat "${library%/*}/built" 2>/dev/null)" = "$("$top/tools/built.sh" sources)" ] || library=
+[ -n "$draft$library" ] || stop "there is no library for other languages of these sources: tools/build.py --library makes it"
+
 name=council-$version-x86_64-linux
 temp=$(mktemp -d)
 trap 'rm -rf "$temp"' EXIT
@@ -67,6 +72,11 @@ for file in $(git -C "$top" ls-files LICENSE CITATION.cff CHANGELOG.md docs/USIN
     mkdir -p "$folder/$(dirname "$file")"
     cp "$top/$file" "$folder/$file"
 done
+if [ -n "$library" ]; then
+    mkdir -p "$folder/lib" "$folder/include"
+    cp "$library" "$folder/lib/libcouncil.a"
+    cp "$top/include/council.h" "$folder/include/council.h"
+fi
 python3 "$top/tools/reference.py" "$folder/reference"
 {
     echo "version: $version"
@@ -74,6 +84,7 @@ python3 "$top/tools/reference.py" "$folder/reference"
     echo "proved with: $kit"
     echo "the gate's last line: ${gate:-the gate was not run on this commit}"
     echo "sum of the program: $(sha256sum <"$program" | cut -d ' ' -f 1)"
+    [ -z "$library" ] || echo "sum of the library: $(sha256sum <"$library" | cut -d ' ' -f 1)"
 } >"$folder/PROVED"
 find "$folder" -type d -exec chmod 755 {} +
 find "$folder" -type f -exec chmod 644 {} +

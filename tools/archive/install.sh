@@ -5,8 +5,9 @@
 #     ./install.sh --uninstall [PREFIX]
 #
 # PREFIX is ~/.local where none is named. With DESTDIR all goes below that folder, for whoever makes a package. The program goes to
-# bin, the manual page and the completions to share, the documents and examples to share/doc/council, where a list of all
-# files stands, FILES; --uninstall takes these out, and the folders that are then empty.
+# bin, the library for other languages to lib and include, the manual page and the completions to share, the documents and
+# examples to share/doc/council, where a list of all files stands, FILES; --uninstall takes these out, and the folders that are
+# then empty.
 set -eu
 here=$(CDPATH='' cd -P -- "$(dirname -- "$0")" >/dev/null && pwd -P)
 uninstall=
@@ -75,6 +76,10 @@ put completions/council.bash share/bash-completion/completions/council 644
 put completions/_council share/zsh/site-functions/_council 644
 put completions/council.fish share/fish/vendor_completions.d/council.fish 644
 put install.sh $doc/install.sh 755
+if [ -f "$here/lib/libcouncil.a" ]; then
+    put lib/libcouncil.a lib/libcouncil.a 644
+    put include/council.h include/council.h 644
+fi
 for file in README.md LICENSE CITATION.cff CHANGELOG.md PROVED; do
     put "$file" "$doc/$file" 644
 done

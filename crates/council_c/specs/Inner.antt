@@ -1,0 +1,2 @@
+-- What only private functions need: no public contract mentions it.
+pub mod Found

@@ -1,0 +1,190 @@
+#!/usr/bin/env bash
+# The library for other languages: what C, Python and Rust get by its one call is what the program prints, byte by byte, with
+# the same status. The library is crates/council_c/out/libcouncil.a, which `tools/build.py --library` makes (.ci/run has it
+# made), or the file that COUNCIL_LIBRARY names. The callers are those of foreign/.
+. "$(dirname "$0")/common.sh"
+
+library=${COUNCIL_LIBRARY:-$top/crates/council_c/out/libcouncil.a}
+if [ ! -f "$library" ]; then
+    skipped "foreign.sh" "there is no $library: tools/build.py --library makes it"
+    exit 0
+fi
+here=$top/tests/foreign
+
+# ---- it keeps nothing: no data that can be written, but a byte of the kit that nobody writes (the address of no memory)
+name="no global state"
+if needs nm "$name"; then
+    kept=$(nm "$library" | sed -n 's/.* [bBcCdDsS] //p' | grep -vx nothing | head -n 2 | tr '\n' ' ')
+    if [ -z "$kept" ]; then ok "$name"; else failed "$name" "$kept"; fi
+fi
+
+# ---- the callers
+callers=()
+if needs cc "from C" "from threads of C" "from C++"; then
+    if cc -std=c99 -O2 -Wall -Wextra -Werror -pedantic -I"$top/include" -o "$temp/report_c" "$here/report.c" "$library" 2>"$temp/cc"; then
+        ok "a C program is linked"
+        callers+=(C)
+    else
+        failed "a C program is linked" "$(head -n 1 "$temp/cc")"
+    fi
+    name="the header is C++ too"
+    if ! command -v c++ >/dev/null; then
+        skipped "$name" "the command c++ was not found"
+    elif echo '#include "council.h"' | c++ -x c++ -Wall -Wextra -Werror -pedantic -I"$top/include" -fsyntax-only - 2>"$temp/cc"; then
+        ok "$name"
+    else
+        failed "$name" "$(head -n 1 "$temp/cc")"
+    fi
+    name="a shared object is linked"
+    if cc -shared -o "$temp/libcouncil.so" -Wl,-u,council_report -Wl,-z,defs "$library" 2>"$temp/cc"; then
+        ok "$name"
+        if needs python3 "from Python"; then callers+=(Python); fi
+    else
+        failed "$name" "$(head -n 1 "$temp/cc")"
+    fi
+fi
+if needs rustc "from Rust"; then
+    cp "$library" "$temp/libcouncil.a"
+    if rustc --edition 2021 -O -D warnings -o "$temp/report_rs" "$here/report.rs" -L "$temp" -l static=council 2>"$temp/rustc"; then
+        ok "a Rust program is linked"
+        callers+=(Rust)
+    else
+        failed "a Rust program is linked" "$(head -n 1 "$temp/rustc")"
+    fi
+fi
+
+# call CALLER WORD..: calls on the standard input of this call.
+call() {
+    local caller=$1
+    shift
+    case $caller in
+    C) set -- "$temp/report_c" "$@" ;;
+    Python) set -- python3 "$here/report.py" "$temp/libcouncil.so" "$@" ;;
+    Rust) set -- "$temp/report_rs" "$@" ;;
+    esac
+    timeout "$limit" "$@" >"$temp/its" 2>"$temp/its.err"
+    its=$?
+}
+
+# same NAME GAME WORD..: whether each caller gets what the program prints on these words.
+same() {
+    local name=$1 game=$2 caller
+    shift 2
+    run "$@" <"$game"
+    for caller in ${callers[@]+"${callers[@]}"}; do
+        call "$caller" "$@" <"$game"
+        if [ "$its" -ne "$status" ]; then
+            failed "from $caller: $name" "status $its in place of $status: $(head -n 1 "$temp/its.err")"
+        elif ! cmp -s "$temp/out" "$temp/its"; then
+            failed "from $caller: $name" "the report differs: $(diff "$temp/out" "$temp/its" | head -n 2 | tr '\n' ';')"
+        elif ! cmp -s "$temp/err" "$temp/its.err"; then
+            failed "from $caller: $name" "$(head -n 1 "$temp/its.err") in place of: $(head -n 1 "$temp/err")"
+        else
+            ok "from $caller: $name"
+        fi
+    done
+}
+
+# ---- reports
+for game in board.toml board.txt eec-1958.toml eu-1995.toml ca-amendment.toml un-security-council.toml; do
+    same "$game" "$top/examples/$game"
+    same "$game, all lines" "$top/examples/$game" --list --sizes --notation
+    same "$game, counted" "$top/examples/$game" --tally --sizes --notation
+done
+same "more coalitions than are kept, counted by a walk" "$top/examples/eu-27-lisbon.toml" --tally
+game_file 3 1 1 1 1 1 >"$temp/ten.toml"
+same "exactly the most" "$temp/ten.toml" --most 10
+same "one more than the most" "$temp/ten.toml" --most 9
+equal_members 24 12 >"$temp/many.txt"
+same "more than a million" "$temp/many.txt"
+same "more than a million, with the most above" "$temp/many.txt" --most 4000000
+
+# ---- faults
+: >"$temp/empty"
+same "no byte" "$temp/empty"
+printf '%65537s' '' >"$temp/long"
+same "too long" "$temp/long"
+printf '[51; 50, 49,, 1]' >"$temp/bracket.txt"
+same "a bad bracket text" "$temp/bracket.txt"
+game_file 51 50 49 1 | sed 's/"C"/"A"/' >"$temp/name.toml"
+same "a repeated name" "$temp/name.toml"
+game_file 101 50 49 1 >"$temp/range.toml"
+same "a quota out of range" "$temp/range.toml" --tally
+game_file 51 50 49.5 1 >"$temp/weight.toml"
+same "a bad weight" "$temp/weight.toml" --list
+
+# ---- options that no call takes: the program refuses the words, with the same status
+for words in "--most 4000001" "--tally --list" "--tally --most 5"; do
+    for caller in ${callers[@]+"${callers[@]}"}; do
+        # shellcheck disable=SC2086
+        call "$caller" $words <"$top/examples/board.toml"
+        # shellcheck disable=SC2086
+        run $words <"$top/examples/board.toml"
+        if [ "$its" -eq 2 ] && [ "$status" -eq 2 ] && [ "$(cat "$temp/its.err")" = "council: bad options" ]; then
+            ok "from $caller: $words"
+        else
+            failed "from $caller: $words" "status $its and $status: $(head -n 1 "$temp/its.err")"
+        fi
+    done
+done
+
+# ---- buffers that are too small: each caller begins with one, and calls again (report.c sees what it got, and what stands behind)
+run --list <"$top/examples/board.toml"
+whole=$(wc -c <"$temp/out")
+for room in 0 1 10 $((whole - 1)) "$whole" $((whole + 1)); do
+    for caller in ${callers[@]+"${callers[@]}"}; do
+        call "$caller" --list --room "$room" <"$top/examples/board.toml"
+        if [ "$its" -eq 0 ] && cmp -s "$temp/out" "$temp/its"; then
+            ok "from $caller: a buffer of $room bytes"
+        else
+            failed "from $caller: a buffer of $room bytes" "status $its: $(head -n 1 "$temp/its.err")"
+        fi
+        call "$caller" --room "$room" <"$temp/bracket.txt"
+        if [ "$its" -eq 3 ] && [ "$(cat "$temp/its.err")" = "council: bad bracket text" ]; then
+            ok "from $caller: a fault in a buffer of $room bytes"
+        else
+            failed "from $caller: a fault in a buffer of $room bytes" "status $its: $(head -n 1 "$temp/its.err")"
+        fi
+    done
+done
+
+# ---- several threads at once, each with little stack
+name="from threads of C"
+if command -v cc >/dev/null; then
+    if cc -std=c99 -D_POSIX_C_SOURCE=200809L -O2 -Wall -Wextra -Werror -pedantic -pthread -I"$top/include" -o "$temp/threads" "$here/threads.c" "$library" 2>"$temp/cc"; then
+        timeout "$limit" "$temp/threads" "$top"/examples/{board,eec-1958,ec-1973,ec-1981,ec-1986,holler-1982,un-security-council,ca-amendment}.toml "$temp/bracket.txt" "$temp/many.txt" >"$temp/its" 2>&1
+        its=$?
+        if [ "$its" -eq 0 ]; then ok "$name"; else failed "$name" "status $its: $(head -n 1 "$temp/its")"; fi
+    else
+        failed "$name" "$(head -n 1 "$temp/cc")"
+    fi
+fi
+
+# ---- want of memory: each allocation refused in turn, until none is met. It is told, or was not needed.
+name="from C: want of memory is a status"
+if [ -x "$temp/report_c" ]; then
+    compile_refuse
+    for words in "--list" "--tally --sizes"; do
+        # shellcheck disable=SC2086
+        run $words <"$top/examples/eec-1958.toml"
+        why=
+        for ((number = 1; number <= 2000; number++)); do
+            : >"$temp/said"
+            # shellcheck disable=SC2086
+            REFUSE_AT=$number REFUSE_TO=9 LD_PRELOAD=$temp/refuse.so timeout "$limit" "$temp/report_c" $words \
+                >"$temp/its" 2>"$temp/its.err" 9>"$temp/said" <"$top/examples/eec-1958.toml"
+            its=$?
+            [ -s "$temp/said" ] || break
+            # (99: the caller's own buffer was refused)
+            [ "$its" -ne 99 ] || continue
+            if ! { [ "$its" -eq 5 ] && [ "$(cat "$temp/its.err")" = "council: out of memory" ]; } && ! { [ "$its" -eq 0 ] && cmp -s "$temp/out" "$temp/its"; }; then
+                why="allocation $number: status $its: $(head -n 1 "$temp/its.err")"
+            fi
+        done
+        if [ -n "$why" ] || [ "$number" -lt 3 ] || [ "$number" -gt 2000 ]; then
+            failed "$name, $words" "${why:-$number allocations}"
+        else
+            ok "$name, $words"
+        fi
+    done
+fi
