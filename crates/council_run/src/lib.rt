@@ -16,5 +16,5 @@ pub use council_game::limits;
 pub use fault::{Cause, RunFault, status};
 pub use mwc_tally::{NoWatch, Watch};
 pub use options::Options;
-pub use runs::run;
+pub use runs::{run, run_with_lookout};
 pub use tallies::tally;
