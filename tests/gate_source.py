@@ -5,8 +5,8 @@
 
 goes through the src/ of all crates, but for their tests, and looks for each `::pass`, `::announce` and `::behind`, and
 each call of these names but those of one argument, which are no calls of a gate. There are to be four: a `Told`
-passes its gate; `Guarded::behind` tells it and gives the game, `Guarded::pass` calls that for callers, and so does the one
-function that sends a slice.
+passes its gate; `Guarded::behind` tells it and gives the game, and the one function that sends a slice calls that;
+`Guarded::pass` passes the gate for callers.
 No contract can count these calls, but whatever goes through that function passes once for each slice that it sends.
 
 Prints `ok gate_source` or `FAILED gate_source: why`.
@@ -17,9 +17,9 @@ import re
 import sys
 
 WANTED = {
-    ("mwc_gather/src/told.rt", "self.pass(worker, slice)"),
+    ("mwc_gather/src/told.rt", "self.gate.pass(worker, slice)"),
     ("mwc_gather/src/guarded.rt", "self.gate.announce(worker, slice);"),
-    ("mwc_gather/src/guarded.rt", "self.behind(worker, slice)"),
+    ("mwc_gather/src/guarded.rt", "self.gate.pass(worker, slice);"),
     ("mwc_gather/src/send.rt", "let walk = Walk::new(guarded.behind(worker, slice), bits, slice);"),
 }
 

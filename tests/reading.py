@@ -27,8 +27,10 @@ HEADLINE = [
     ("mwc_pipe", "laws", None, "nothing_enters_after_close"),
     ("mwc_pipe", "laws", None, "each_reply_is_counted"),
     ("mwc_gather", "gathering", None, "gather"),
+    ("mwc_gather", "gathering", None, "gather_with_lookout"),
     ("mwc_parts", "gathered", "Gathered", "in_order"),
     ("council_run", "runs", None, "run"),
+    ("council_run", "runs", None, "run_with_lookout"),
 ]
 # in reading order: the first pattern that fits a module
 PARTS = [
@@ -163,7 +165,7 @@ def roots_of(wanted):
     for key, (text, names, _) in functions.items():
         if any(all(w is None and n == 3 or w == key[n] for n, w in enumerate(want)) for want in wanted):
             found |= mentioned(text, *names)
-            if key[3] in ("gather", "in_order"):
+            if key[3] in ("gather", "gather_with_lookout", "in_order"):
                 for name in ("Gathered", "Part"):
                     found |= mentioned(types[("mwc_parts", name)][0], *types[("mwc_parts", name)][1])
     return found

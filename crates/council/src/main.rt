@@ -10,10 +10,12 @@ ghost use Rattle.council.specs.Inner.Wants.{IsTaken, lines_wanted};
 use council_explain::{explain, remark, shown};
 use council_game::GameFault;
 use council_progress::{Line, Progress};
-use council_run::{Cause, Options, RunFault, Watch, number_by_sums, run, status, tally};
+use council_run::{
+    Cause, Options, RunFault, Watch, number_by_sums, run_with_lookout, status, tally,
+};
 use council_streams::{Kept, Wiping};
 use council_words::{Wanted, command_line, wanted};
-use mwc_gather::{Gate, GatherFault};
+use mwc_gather::{Gate, GatherFault, Lookout};
 use std::io::IsTerminal;
 use std::process::ExitCode;
 use std::rt::Files;
@@ -102,7 +104,7 @@ fn options_of(wanted: &Wanted<'_>) -> Options
 fn answer<
     R: AllocGlobal + Threads + Wait + Sync,
     I: io::Read,
-    P: Gate + Watch + Sync,
+    P: Gate + Lookout + Watch + Sync,
     W: io::Write,
 >(
     rt: &R,
@@ -140,7 +142,7 @@ fn answer<
     if wanted.tally {
         tally(rt, alloc, reader, &options, progress, writer)
     } else {
-        run(rt, alloc, reader, &options, progress, writer)
+        run_with_lookout(rt, alloc, reader, &options, progress, progress, writer)
     }
 }
 

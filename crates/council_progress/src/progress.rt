@@ -1,6 +1,6 @@
 //! How far a run or a tally has come, told on standard error.
 use council_streams::Wipe;
-use mwc_gather::Gate;
+use mwc_gather::{Gate, Lookout};
 use mwc_tally::Watch;
 use std::sync::{Mutex, Wait};
 use std::time::{Clock, Duration};
@@ -120,7 +120,9 @@ impl<'a, R: Eprint + Clock + Wait> Gate for Progress<'a, R> {
         told.done = told.done.wrapping_add(1);
         self.tell_run(&mut told);
     }
+}
 
+impl<'a, R: Eprint + Clock + Wait> Lookout for Progress<'a, R> {
     fn looked(&self, prefixes: u64, met: u64) {
         let mut told = self.told.lock(self.rt);
         told.looked = told.looked.wrapping_add(prefixes);

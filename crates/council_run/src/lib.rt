@@ -18,5 +18,5 @@ pub use fault::{Cause, RunFault, status};
 pub use mwc_tally::{NoWatch, Watch};
 pub use number::number_by_sums;
 pub use options::Options;
-pub use runs::run;
+pub use runs::{run, run_with_lookout};
 pub use tallies::tally;

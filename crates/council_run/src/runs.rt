@@ -13,7 +13,7 @@ use crate::options::Options;
 use council_file::read_game;
 use council_game::{Coalition, Game, Memory};
 use council_report::write_report_of;
-use mwc_gather::{Gate, GatherFault, Guarded, gather};
+use mwc_gather::{Gate, GatherFault, Guarded, Lookout, NoLookout, gather_with_lookout};
 use mwc_parts::Gathered;
 use mwc_tally::tally_pieces;
 use std::alloc::Global;
@@ -22,12 +22,13 @@ use std::sync::Wait;
 use std::thread::Threads;
 
 /// The minimal winning coalitions of a game, as its workers listed them, where there are at most so many.
-fn gathered<T: Threads + Wait + Sync, G: Gate + Sync>(
+fn gathered<T: Threads + Wait + Sync, G: Gate + Sync, L: Lookout + Sync>(
     rt: &T,
     alloc: Global,
     game: &Game,
     options: &Options,
     gate: &G,
+    lookout: &L,
 ) -> Result<Gathered, GatherFault>
     ensures ok { IfOk result (IsGathered game.now options.now.most) }
     ensures parts { IfOk result (λ r. length r.parts.items ≡ options.now.workers) }
@@ -35,7 +36,8 @@ fn gathered<T: Threads + Wait + Sync, G: Gate + Sync>(
 {
     let bits = options.bits.min(game.members() as u8);
     let guarded = Guarded::new(game, gate);
-    gather(rt, alloc, &guarded, bits, options.workers, options.most)
+    let (workers, most) = (options.workers, options.most);
+    gather_with_lookout(rt, alloc, &guarded, lookout, bits, workers, most)
 }
 
 /// The pieces that lie in the parts of the workers, slice after slice: joined, they are all minimal winning
@@ -53,12 +55,13 @@ fn pieces<'a>(
 }
 
 /// Lists, counts and writes: all that a run does with a game.
-fn report<T: Threads + Wait + Sync, W: Write, G: Gate + Sync>(
+fn report<T: Threads + Wait + Sync, W: Write, G: Gate + Sync, L: Lookout + Sync>(
     rt: &T,
     alloc: Global,
     game: &Game,
     options: &Options,
     gate: &G,
+    lookout: &L,
     writer: &mut W,
 ) -> Result<u64, RunFault>
     ensures ok { IfOk result (λ len. (count_of game.now ≤ options.now.most)
@@ -69,7 +72,7 @@ fn report<T: Threads + Wait + Sync, W: Write, G: Gate + Sync>(
         Ends (report (shown_of options.now) game.now) (count_of game.now ≤ options.now.most) ⊥
         (W.contents writer.old) (W.contents writer.new) fault.cause fault.written) }
 {
-    let gathered = gathered(rt, alloc, game, options, gate)?;
+    let gathered = gathered(rt, alloc, game, options, gate, lookout)?;
     let pieces = pieces(alloc, game, &gathered, options.most)?;
     let counts = tally_pieces(rt, game, &pieces, options.workers)?;
     Ok(write_report_of(alloc, game, &pieces, &counts, options.shown(), writer)?)
@@ -113,6 +116,46 @@ pub fn run<T: Threads + Wait + Sync, R: Read, W: Write, G: Gate + Sync>(
           after = W.contents writer.new;
         }) fault.cause fault.written) }
 {
+    run_with_lookout(rt, alloc, reader, options, gate, &NoLookout, writer)
+}
+
+/// As `run`, and tells a lookout meanwhile how many prefixes were looked at.
+///
+/// # Errors
+///
+/// As for `run`.
+pub fn run_with_lookout<
+    T: Threads + Wait + Sync,
+    R: Read,
+    W: Write,
+    G: Gate + Sync,
+    L: Lookout + Sync,
+>(
+    rt: &T,
+    alloc: Global,
+    reader: &mut R,
+    options: &Options,
+    gate: &G,
+    lookout: &L,
+    writer: &mut W,
+) -> Result<u64, RunFault>
+    ensures ok { IfOk result (λ len.
+        Reports (report (shown_of options.now)) (λ g. count_of g ≤ options.now.most)
+        (record {
+          unread = R.remaining reader.old;
+          left = R.remaining reader.new;
+          before = W.contents writer.old;
+          after = W.contents writer.new;
+        }) len) }
+    ensures err { IfErr result (λ fault.
+        Stops (report (shown_of options.now)) (λ g. count_of g ≤ options.now.most) ⊥
+        (record {
+          unread = R.remaining reader.old;
+          left = R.remaining reader.new;
+          before = W.contents writer.old;
+          after = W.contents writer.new;
+        }) fault.cause fault.written) }
+{
     let game = read_game(alloc, reader)?;
-    report(rt, alloc, &game, options, gate, writer)
+    report(rt, alloc, &game, options, gate, lookout, writer)
 }

@@ -20,6 +20,7 @@ use crate::dealing::Deal;
 use crate::desk::Desk;
 use crate::guarded::{Gate, Guarded};
 use crate::job::Job;
+use crate::lookout::{Lookout, NoLookout};
 use crate::order::Order;
 use crate::told::Told;
 use crate::waiting::Bells;
@@ -57,7 +58,32 @@ pub fn gather<R: Threads + Wait + Sync, G: Gate + Sync>(
     ensures many { result ≡ Err GatherFault.TooMany
         → most < length (minimal_coalitions (votes_of guarded.now)) }
 {
-    let job = Job::new(guarded, bits, most);
+    gather_with_lookout(rt, alloc, guarded, &NoLookout, bits, workers, most)
+}
+
+/// As `gather`, and tells a lookout meanwhile how many prefixes were looked at.
+///
+/// # Errors
+///
+/// As for `gather`.
+pub fn gather_with_lookout<R: Threads + Wait + Sync, G: Gate + Sync, L: Lookout + Sync>(
+    rt: &R,
+    alloc: Global,
+    guarded: &Guarded<'_, G>,
+    lookout: &L,
+    bits: u8,
+    workers: u8,
+    most: u32,
+) -> Result<Gathered, GatherFault>
+    requires bits { (bits ≤ BITS) × (bits ≤ length guarded.now.names) }
+    requires workers { (1 ≤ workers) × (workers ≤ WORKERS) }
+    requires most { (1 ≤ most) × (most ≤ COALITIONS) }
+    ensures gathers { IfOk result (Gathers (votes_of guarded.now) bits workers most) }
+    ensures many { result ≡ Err GatherFault.TooMany
+        → most < length (minimal_coalitions (votes_of guarded.now)) }
+{
+    let told = guarded.gate_with(lookout);
+    let job = Job::new(&guarded.seen_by_workers(&told), bits, most);
     let bells = Bells::new();
     let shared = &bells;
     thread::scope(

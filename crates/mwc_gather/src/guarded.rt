@@ -3,21 +3,15 @@ ghost use Rattle.std.specs.Prelude.{◌≡◌};
 ghost use Rattle.council_game.specs.Votes.{IsVotes};
 ghost use Rattle.council_game.specs.Game.{votes_of};
 
-use crate::told::Told;
+use crate::told::{GateAndLookout, Told};
 use council_game::Game;
 use std::marker::Model;
 use std::snapshot::Snapshot;
 
-/// What a worker passes before it sends a slice, and who is told meanwhile how far it has come.
+/// What a worker passes before it sends a slice.
 pub trait Gate {
     /// Worker `worker` is about to send slice `slice`.
     fn pass(&self, worker: u8, slice: u16);
-
-    /// So many prefixes more were looked at on the way to the coalitions of a slice, and so many of these were met:
-    /// each 1,048,576 prefixes of a slice are told of, so that a worker that finds nothing says so too. Under one rule,
-    /// where the next coalition is near, they are not told of. The thread that looked at them calls this, so calls may
-    /// overlap.
-    fn looked(&self, _prefixes: u64, _met: u64) {}
 }
 
 /// The gate that returns at once.
@@ -55,7 +49,8 @@ impl<'a, G: Gate> Guarded<'a, G> {
     pub fn pass(&self, worker: u8, slice: u16) -> &Game
         ensures { result.now ≡ self.now }
     {
-        self.behind(worker, slice)
+        self.gate.pass(worker, slice);
+        self.game
     }
 }
 
@@ -69,13 +64,33 @@ impl<'a, G: Told> Guarded<'a, G> {
         self.game
     }
 
-    /// Tells the gate of prefixes that were looked at, and of coalitions that were met.
+    /// Tells of prefixes that were looked at, and of coalitions that were met.
     pub(crate) fn tell(&self, prefixes: u64, met: u64) {
         self.gate.hear(prefixes, met);
     }
 }
 
 impl<'a, G> Guarded<'a, G> {
+    /// The gate and a lookout, as the workers see them.
+    pub(crate) fn gate_with<'l, L>(&self, lookout: &'l L) -> GateAndLookout<'a, 'l, G, L> {
+        GateAndLookout {
+            gate: self.gate,
+            lookout,
+        }
+    }
+
+    /// The same game behind a gate as the workers see it.
+    pub(crate) fn seen_by_workers<'t, T>(&self, told: &'t T) -> Guarded<'t, T>
+    where
+        'a: 't,
+        ensures { result ≡ self.now }
+    {
+        Guarded {
+            game: self.game,
+            gate: told,
+        }
+    }
+
     /// The same game behind the same gate, for another thread.
     pub(crate) fn share(&self) -> Guarded<'a, G>
         ensures { result ≡ self.now }

@@ -13,6 +13,7 @@ mod desk;
 mod gathering;
 mod guarded;
 mod job;
+mod lookout;
 mod order;
 mod promise;
 mod putting;
@@ -24,8 +25,9 @@ mod told;
 mod waiting;
 mod worker;
 
-pub use gathering::gather;
+pub use gathering::{gather, gather_with_lookout};
 pub use guarded::{Gate, Guarded, NoGate};
+pub use lookout::{Lookout, NoLookout};
 pub use mwc_parts::{GatherFault, Gathered, Marks, Part};
 pub use send::send_slice;
 pub use sent::Sent;

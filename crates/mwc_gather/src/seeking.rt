@@ -1,4 +1,4 @@
-//! The next coalition of a slice, and a gate that is told of the way there.
+//! The next coalition of a slice, and a lookout that is told of the way there.
 ghost use Rattle.std.specs.Prelude.{◌≡◌, ◌<◌, ◌∷◌, [], MatchOption};
 
 use crate::guarded::Guarded;
@@ -6,10 +6,10 @@ use crate::told::Told;
 use council_game::Coalition;
 use mwc_walk::{Seek, Walk};
 
-/// A gate is told of each so many prefixes that were looked at in a slice.
+/// A lookout is told of each so many prefixes that were looked at in a slice.
 const EACH: u64 = 1 << 20;
 
-/// What a gate was told last of a walk.
+/// What a lookout was told last of a walk.
 #[derive(Drop)]
 pub(crate) struct LastTold {
     /// The visits so far.
@@ -27,7 +27,7 @@ impl LastTold {
         }
     }
 
-    /// How many visits there may still be before the gate is told of them, 1 or more.
+    /// How many visits there may still be before the lookout is told of them, 1 or more.
     fn visits_until_next(&self, walk: &Walk<'_>) -> u64
         ensures { 0 < result }
     {
@@ -35,7 +35,7 @@ impl LastTold {
         EACH.saturating_sub(visits).max(1)
     }
 
-    /// Tells the gate what came since.
+    /// Tells the lookout what came since.
     fn tell<G: Told>(&mut self, guarded: &Guarded<'_, G>, walk: &Walk<'_>, left: u32) {
         let prefixes = walk.visits().saturating_sub(self.visits);
         let met = self.left.saturating_sub(left);
@@ -45,7 +45,7 @@ impl LastTold {
     }
 }
 
-/// The next coalition of the slice, as the walk's own `next`; a gate is told of each so many prefixes on the way. So many
+/// The next coalition of the slice, as the walk's own `next`; a lookout is told of each so many prefixes on the way. So many
 /// coalitions are wanted still.
 pub(crate) fn next_told<G: Told>(
     guarded: &Guarded<'_, G>,

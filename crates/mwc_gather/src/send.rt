@@ -7,6 +7,7 @@ ghost use Rattle.mwc_gather.specs.Sending.{Sends, BreaksOnlyIfRefused};
 ghost use Rattle.mwc_gather.specs.Inner.Sending.{SendsFirst, SendsSome};
 
 use crate::guarded::{Gate, Guarded};
+use crate::lookout::NoLookout;
 use crate::putting::{PutsRows, WordByWord};
 use crate::row::Row;
 use crate::seeking::{LastTold, next_told};
@@ -106,7 +107,9 @@ pub fn send_slice<R: Wait, P: PipeIn<Word>, G: Gate>(
         own: &own,
         other: &other,
     };
-    send_behind::<WordByWord, _, _, _>(rt, guarded, bits, slice, worker, left, out, pair)
+    let told = guarded.gate_with(&NoLookout);
+    let guarded = guarded.seen_by_workers(&told);
+    send_behind::<WordByWord, _, _, _>(rt, &guarded, bits, slice, worker, left, out, pair)
 }
 
 /// As `send_slice`, by rows. Only here a gate is passed: whatever sends a slice comes by. It rings the
@@ -134,7 +137,7 @@ pub(crate) fn send_behind<W: PutsRows<P>, R: Wait, P: PipeIn<Word>, G: Told>(
     send_walk::<W, _, _, _>(rt, guarded, walk, slice, left, out, pair)
 }
 
-/// Sends the words of a slice whose walk has it all still to give, as `send_behind`, and tells the gate how far it has come.
+/// Sends the words of a slice whose walk has it all still to give, as `send_behind`, and tells how far it has come.
 fn send_walk<W: PutsRows<P>, R: Wait, P: PipeIn<Word>, G: Told>(
     rt: &R,
     guarded: &Guarded<'_, G>,

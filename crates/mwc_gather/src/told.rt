@@ -1,9 +1,10 @@
-//! A gate, as the one function sees it that passes it.
+//! A gate and a lookout, as the one function sees them that passes the gate.
 ghost use Rattle.std.specs.Prelude.{ℕ, ⊤};
 
 use crate::guarded::Gate;
+use crate::lookout::Lookout;
 
-/// A gate, as the workers see it. Each gate is one, and is told of any worker and slice.
+/// A gate and a lookout, as the workers see them.
 ///
 /// Of a `Told` nothing is known but this trait: whoever has leave to tell it of one worker and slice can tell it of no
 /// other.
@@ -19,14 +20,21 @@ pub trait Told {
     fn hear(&self, prefixes: u64, met: u64);
 }
 
-impl<G: Gate> Told for G {
+/// A gate of any kind, which is told of any worker and slice, and a lookout of any kind.
+#[derive(Drop)]
+pub(crate) struct GateAndLookout<'g, 'l, G, L> {
+    pub gate: &'g G,
+    pub lookout: &'l L,
+}
+
+impl<'g, 'l, G: Gate, L: Lookout> Told for GateAndLookout<'g, 'l, G, L> {
     ghost takes = { λ _ _. ⊤ };
 
     fn announce(&self, worker: u8, slice: u16) {
-        self.pass(worker, slice)
+        self.gate.pass(worker, slice)
     }
 
     fn hear(&self, prefixes: u64, met: u64) {
-        self.looked(prefixes, met)
+        self.lookout.looked(prefixes, met)
     }
 }

@@ -8,6 +8,7 @@ ghost use Rattle.mwc_pipe.specs.declared.word.Word.TheVariants.{End};
 
 use crate::guarded::{Gate, Guarded};
 use crate::job::Job;
+use crate::lookout::NoLookout;
 use crate::putting::RowByRow;
 use crate::send::{send, send_behind};
 use crate::sent::Sent;
@@ -81,7 +82,8 @@ pub fn work<R: Wait, G: Gate>(
         own: &own,
         other: &other,
     };
-    let job = Job::new(guarded, bits, most);
+    let told = guarded.gate_with(&NoLookout);
+    let job = Job::new(&guarded.seen_by_workers(&told), bits, most);
     work_beside(rt, &job, worker, out, tasks, pair)
 }
 

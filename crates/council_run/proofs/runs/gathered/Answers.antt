@@ -5,7 +5,7 @@ use Rattle.council_run.proofs.runs.gathered.Goals as goal
 
 pub returns-clause-ok : goal.returns-clause-ok
 returns-clause-ok g c =
-    ok-map c.gather.result
+    ok-map c.gather_with_lookout.result
     (λ r (all : Gathers (votes_of c.args.game.now) c.min-bits.result c.args.options.now.workers c.args.options.now.most r). record {
       game = c.members.ensures.game;
       bits = c.min-bits.result;
@@ -13,7 +13,7 @@ returns-clause-ok g c =
       whole = all.whole;
       few = all.few;
     })
-    (rw c.new-guarded.ensures at c.gather.ensures.gathers)
+    (rw c.new-guarded.ensures at c.gather_with_lookout.ensures.gathers)
 
 pub returns-clause-parts : goal.returns-clause-parts
-returns-clause-parts g c = ok-map c.gather.result (λ r all. all.a_part_each) c.gather.ensures.gathers
+returns-clause-parts g c = ok-map c.gather_with_lookout.result (λ r all. all.a_part_each) c.gather_with_lookout.ensures.gathers
