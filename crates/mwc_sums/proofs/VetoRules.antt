@@ -9,7 +9,8 @@ use Rattle.std.proofs.lemmas.List.Elements.{All-cons, All-nil, All-head, All-tai
 use Rattle.council_game.specs.Votes.{RuleView}
 use Rattle.council_game.specs.Game.{has_bad_quota}
 use Rattle.power_index.proofs.Sums.{sum-plus, sum-range}
-use Rattle.mwc_sums.specs.Vetoers.{number_of, rule_for, rest_of, rests}
+use Rattle.mwc_sums.specs.Inner.Asked.{rule_for}
+use Rattle.mwc_sums.specs.Vetoers.{number_of, rest_of, rests}
 use Rattle.mwc_sums.specs.Inner.Fair.{IsFair}
 use Rattle.mwc_sums.proofs.Vetoing.{row-sum, made-sum, made-at}
 

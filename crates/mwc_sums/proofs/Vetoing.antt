@@ -10,7 +10,8 @@ use Rattle.coalitions.proofs.Ranges.{sum_by-range-more}
 use Rattle.council_game.specs.Votes.{RuleView}
 use Rattle.power_index.proofs.Sums.{sum-plus, sum-range}
 use Rattle.mwc_sums.specs.Chambers.{HasNoWeight, weighs, met}
-use Rattle.mwc_sums.specs.Vetoers.{can_veto, number_of, rule_for, rest_of, rests}
+use Rattle.mwc_sums.specs.Inner.Asked.{rule_for}
+use Rattle.mwc_sums.specs.Vetoers.{can_veto, number_of, rest_of, rests}
 
 -- a row of weights adds up over its places
 pub row-sum : (ws : List ℕ) (n : ℕ) → length ws ≡ n → sum ws ≡ sum_by (λ i. get_or ws i 0) (range_with_len 0 n)

@@ -18,10 +18,6 @@ can_veto rs i = list_any (λ r. nat_lt (sum r.weights - slice_index r.weights i)
 abbrev pub number_of : ℕ → (ℕ → Bool) → ℕ
 number_of n f = sum_by (λ i. if f i then 1 else 0) (range_with_len 0 n)
 
--- the rule that asks for each of n members who passes a test
-abbrev pub rule_for : ℕ → (ℕ → Bool) → RuleView
-rule_for n f = record { quota = number_of n f; weights = map (λ i. if f i then 1 else 0) (range_with_len 0 n) }
-
 -- what a rule asks of the others, where all who pass a test agree
 abbrev pub rest_of : ℕ → (ℕ → Bool) → RuleView → RuleView
 rest_of n f r = record {

@@ -1,8 +1,10 @@
 -- Games that sums take.
-use Rattle.std.specs.Prelude.{ℕ, ◌≡◌, ◌⊎◌, ◌<◌, ◌≤◌, length, slice_index}
+use Rattle.std.specs.Prelude.{ℕ, ◌≡◌, ◌⊎◌, ◌<◌, ◌≤◌, Bool, if◌then◌else◌, length, map, slice_index}
+use Rattle.std.specs.List.{range_with_len}
 use Rattle.council_game.specs.Game.{GameView, votes_of}
-use Rattle.council_game.specs.Votes.{Votes, rule_at}
+use Rattle.council_game.specs.Votes.{RuleView, Votes, rule_at}
 use Rattle.mwc_sums.specs.Heads.{AsksForHeads}
+use Rattle.mwc_sums.specs.Vetoers.{number_of}
 
 -- no place from m on has weight
 abbrev pub HaveAllWeight : Votes → ℕ → Type 0
@@ -18,3 +20,7 @@ pub record IsAsked (v : Votes) (m heads : ℕ) : Type 0 where
 abbrev pub IsAskedOfAll : GameView → ℕ → Type 0
 IsAskedOfAll g heads =
     ((length g.rules ≡ 1) × (heads ≡ 0)) ⊎ ((length g.rules ≡ 2) × AsksForHeads (length g.names) heads (rule_at (votes_of g).rules 1))
+
+-- the rule that asks for each of n members who passes a test
+abbrev pub rule_for : ℕ → (ℕ → Bool) → RuleView
+rule_for n f = record { quota = number_of n f; weights = map (λ i. if f i then 1 else 0) (range_with_len 0 n) }

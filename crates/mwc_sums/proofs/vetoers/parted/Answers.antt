@@ -7,7 +7,8 @@ use Rattle.council_game.specs.Rules.{rule_view, rule_views}
 use Rattle.council_game.specs.Votes.{RuleView}
 use Rattle.mwc_sums.specs.Chambers.{HasNoWeight, met}
 use Rattle.mwc_sums.specs.Inner.Fair.{IsFair}
-use Rattle.mwc_sums.specs.Vetoers.{AreOfChambers, can_veto, rule_for, rests}
+use Rattle.mwc_sums.specs.Inner.Asked.{rule_for}
+use Rattle.mwc_sums.specs.Vetoers.{AreOfChambers, can_veto, rests}
 use Rattle.mwc_sums.proofs.Remaking.{fair-all}
 use Rattle.mwc_sums.proofs.Vetoing.{vetoers-both, vetoers-apart}
 use Rattle.mwc_sums.proofs.VetoRules.{fair-vetoers, fair-rests, few-rests}
