@@ -45,8 +45,8 @@ impl LastTold {
     }
 }
 
-/// The next coalition of the slice, as the walk's own `next`; a lookout is told of each so many prefixes on the way. So many
-/// coalitions are wanted still.
+/// The next coalition of the slice, as the walk's own `next`; a lookout is told of each so many prefixes on the way.
+/// So many coalitions are wanted still.
 pub(crate) fn next_told<G: Told>(
     guarded: &Guarded<'_, G>,
     walk: &mut Walk<'_>,
