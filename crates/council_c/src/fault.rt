@@ -14,7 +14,7 @@ use thiserror::Error;
 const WORDS: usize = 100;
 
 /// Why there is no report. The words are the program's.
-#[derive(Clone, Copy, Debug, Error, PartialEq, Eq)]
+#[derive(Clone, Copy, Debug, Error)]
 pub enum Fault {
     /// The options are such that no call takes them.
     #[error("bad options")]

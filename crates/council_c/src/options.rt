@@ -10,7 +10,7 @@ const USUAL: u32 = 1_000_000;
 
 /// What a call is asked for. With each field 0 it is a plain report.
 #[repr(C)]
-#[derive(Clone, Copy, Debug, PartialEq, Eq)]
+#[derive(Clone, Copy)]
 pub struct CouncilOptions {
     /// The greatest number of minimal winning coalitions that are kept, 1 to 4,000,000; 0 stands for 1,000,000.
     pub most: u32,
