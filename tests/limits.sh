@@ -60,33 +60,28 @@ else
 fi
 
 # ---- the stack that a run takes does not grow with its workers
+# on_small_stack NAME GAME WORD..: the program gives what it gives on the usual stack.
+on_small_stack() {
+    local name="a stack of 256 KB, $1" game=$top/$2.toml
+    shift 2
+    "$program" "$@" "$game" >"$temp/wanted" 2>/dev/null </dev/null
+    if (ulimit -s 256) 2>/dev/null; then
+        (
+            ulimit -s 256
+            exec timeout "$seconds" "$program" "$@" "$game"
+        ) >"$temp/out" 2>"$temp/err" </dev/null
+        status=$?
+        printed "$name" "$temp/wanted"
+    else
+        skipped "$name" "the stack can't be limited"
+    fi
+}
 for words in "--workers 1" "--workers 4" "--workers 16" "--workers 16 --list"; do
-    name="a stack of 256 KB, $words"
     read -ra options <<<"$words"
-    "$program" "${options[@]}" "$top/examples/eu-27-nice.toml" >"$temp/wanted" 2>/dev/null </dev/null
-    if (ulimit -s 256) 2>/dev/null; then
-        (
-            ulimit -s 256
-            exec timeout "$seconds" "$program" "${options[@]}" "$top/examples/eu-27-nice.toml"
-        ) >"$temp/out" 2>"$temp/err" </dev/null
-        status=$?
-        printed "$name" "$temp/wanted"
-    else
-        skipped "$name" "the stack can't be limited"
-    fi
+    on_small_stack "$words" examples/eu-27-nice "${options[@]}"
 done
-# by sums, by halves, chamber by chamber, beside vetoers, and by threads
-for game in examples/eu-1995 examples/share-register examples/us-federal docs/using/statutes/veto examples/eu-27-nice; do
-    name="a stack of 256 KB, a tally of $(basename "$game")"
-    "$program" --tally "$top/$game.toml" >"$temp/wanted" 2>/dev/null </dev/null
-    if (ulimit -s 256) 2>/dev/null; then
-        (
-            ulimit -s 256
-            exec timeout "$seconds" "$program" --tally --workers 16 "$top/$game.toml"
-        ) >"$temp/out" 2>"$temp/err" </dev/null
-        status=$?
-        printed "$name" "$temp/wanted"
-    else
-        skipped "$name" "the stack can't be limited"
-    fi
-done
+on_small_stack "a tally by sums" examples/eu-1995 --tally
+on_small_stack "a tally by halves" examples/share-register --tally
+on_small_stack "a tally of chambers" examples/us-federal --tally
+on_small_stack "a tally beside a vetoer" docs/using/statutes/veto --tally
+on_small_stack "a tally by threads" examples/eu-27-nice --tally --workers 16
