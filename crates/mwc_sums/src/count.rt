@@ -7,7 +7,7 @@ ghost use Rattle.mwc_sums.specs.Vetoers.{IsCountedBySums};
 ghost use Rattle.mwc_sums.specs.Inner.Rows.{AreAllEndings, IsOfNone, endings, left_out};
 ghost use Rattle.mwc_sums.specs.Inner.Asked.{IsAsked, IsAskedOfAll};
 ghost use Rattle.power_index.specs.Tables.{AreCounts, no_tally};
-ghost use Rattle.std.specs.Prelude.{◌≡◌, ℕ, ◌≤◌, ◌<◌, ◌↔◌, ◌⊎◌, IfOk, IfSome, IsSome, length, slice_index_or, sum, take};
+ghost use Rattle.std.specs.Prelude.{◌≡◌, ℕ, ◌≤◌, ◌<◌, ◌↔◌, ◌⊎◌, IfOk, IfSome, IsSome, length, option_map, slice_index_or, sum, take};
 
 use crate::chamber::{are_of_chambers, count_chambers};
 use crate::choices::Heads;
@@ -101,21 +101,18 @@ fn tallies(alloc: Global, weights: &[u64], quota: u64, heads: usize) -> Result<T
     by_halves(alloc, weights, quota, heads)
 }
 
-/// The tallies up to a place, and behind it those of no coalition.
-fn up_to(each: &[Tally; limits::MEMBERS], places: usize, members: usize) -> [Tally; limits::MEMBERS]
+/// Leaves the tallies up to a place as they are, and makes those behind it, up to another, tallies of no coalition.
+fn clear_behind(each: &mut [Tally; limits::MEMBERS], places: usize, members: usize)
     requires places { places ≤ members }
     requires members { members ≤ MEMBERS }
-    ensures long { length result ≡ MEMBERS }
-    ensures first { (p : ℕ) → p < places → slice_index_or result p no_tally ≡ slice_index_or each.now p no_tally }
-    ensures last { (p : ℕ) → places ≤ p → p < members → IsOfNone (slice_index_or result p no_tally) }
+    ensures first { (p : ℕ) → p < places → slice_index_or each.new p no_tally ≡ slice_index_or each.old p no_tally }
+    ensures last { (p : ℕ) → places ≤ p → p < members → IsOfNone (slice_index_or each.new p no_tally) }
 {
-    let mut tallies = *each;
     for place in places..members {
-        tallies[place] = Tally {
+        each[place] = Tally {
             sizes: [0; limits::SIZES],
         };
     }
-    tallies
 }
 
 /// The counts of a game of which the first places have all weight, and which asks for so many of them besides its
@@ -133,9 +130,9 @@ fn count_with_heads(
     let members = game.members();
     let quota = game.rule_quota(0);
     let weights = ranked_weights(alloc, game, places)?;
-    let tallies = tallies(alloc, &weights, quota, heads)?;
-    let each = up_to(&tallies.each, places, members);
-    Ok(Counts::of_tallies(game, tallies.all, each))
+    let mut tallies = tallies(alloc, &weights, quota, heads)?;
+    clear_behind(&mut tallies.each, places, members);
+    Ok(Counts::of_tallies(game, tallies.all, tallies.each))
 }
 
 /// The same on the heap. (By itself, so that what it takes of the stack is free again.)
@@ -202,6 +199,17 @@ fn boxed_by_sums(alloc: Global, game: &Game) -> Result<Option<Box<Counts>>, Memo
     }
 }
 
+/// What is on the heap. (By itself, so that what it takes of the stack is not held while the counts are made.)
+#[inline(never)]
+fn unboxed(counts: Option<Box<Counts>>) -> Option<Counts>
+    ensures { result ≡ option_map (λ c. c.value) counts }
+{
+    match counts {
+        Some(counts) => Some(Box::into_inner(counts)),
+        None => None,
+    }
+}
+
 /// The counts of all minimal winning coalitions of a game of one rule, of two of which one gives each member the
 /// same weight, or each member with weight in the other, or of rules of which no two give weight to one member; and of a
 /// game of which such rules are left where all members agree who can veto. Whatever the weights are, none of them is
@@ -215,8 +223,6 @@ pub fn count_by_sums(alloc: Global, game: &Game) -> Result<Option<Counts>, Memor
         (λ c. AreCounts game.now (minimal_coalitions (votes_of game.now)) c)) }
     ensures kind { IfOk result (λ counts. IsSome counts ↔ IsCountedBySums game.now) }
 {
-    match boxed_by_sums(alloc, game)? {
-        Some(counts) => Ok(Some(Box::into_inner(counts))),
-        None => Ok(None),
-    }
+    let counts = boxed_by_sums(alloc, game)?;
+    Ok(unboxed(counts))
 }

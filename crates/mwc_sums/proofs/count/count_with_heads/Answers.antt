@@ -35,7 +35,7 @@ of_tallies-requires c = (
       λ p lt. elim (cases_lt p c.args.places) [
         | inl first ↦
             subst (λ (t : Tally). IsTallyOf (length c.args.game.now.names) (has (length c.args.game.now.names) p)
-            (minimal_coalitions (votes_of c.args.game.now)) t) (sym (c.up_to-each.ensures.first p first))
+            (minimal_coalitions (votes_of c.args.game.now)) t) (sym (c.clear_behind.ensures.first p first))
             (game-each c.args.game.now c.deref.result.now c.rule_quota-quota.result c.args.places c.args.heads
             (record {
               votes = c.members-members.ensures.votes;
@@ -52,7 +52,7 @@ of_tallies-requires c = (
               quota = c.rule_quota-quota.ensures.votes;
               asked = c.requires.asked;
             })
-            _ (c.up_to-each.ensures.last p last (let own = c.members-members.ensures.count in omega (arith, lt, own))) p last lt
+            _ (c.clear_behind.ensures.last p last (let own = c.members-members.ensures.count in omega (arith, lt, own))) p last lt
       ],
     ),
   ),
