@@ -85,7 +85,7 @@ fn gathered<R: Threads + Wait + Abort + Sync, G: Gate + Sync>(
     gather(rt, alloc, &Guarded::new(game, gate), bits, workers, most)
 }
 
-/// The coalitions of these masks are gathered behind the gate, in that order.
+/// The coalitions of these masks, five or fewer, are gathered behind the gate at most five, in that order.
 fn lists<R: Threads + Wait + Abort + Sync, G: Gate + Sync>(
     rt: &R,
     alloc: Global,
@@ -95,7 +95,7 @@ fn lists<R: Threads + Wait + Abort + Sync, G: Gate + Sync>(
     workers: u8,
     masks: &[u64],
 ) {
-    let gathered = gathered(rt, alloc, game, gate, bits, workers, 1_000_000).expect(rt, "parts");
+    let gathered = gathered(rt, alloc, game, gate, bits, workers, 5).expect(rt, "parts");
     let list = gathered.in_order(alloc).expect(rt, "a list");
     are_masks(rt, &list, masks, "the list");
 }
