@@ -3,34 +3,34 @@
 mod gates;
 mod refusals;
 
+ghost use Rattle.std.specs.Prelude.{◌≡◌, length};
+
 use crate::helpers::same;
-use council_game::{Coalition, Game, GameFault};
+use council_game::{Coalition, Game};
 use mwc_gather::{
     Gate, GatherFault, Gathered, Guarded, Marks, NoGate, Sent, gather, send_slice, work,
 };
 use mwc_pipe::{Batch, PipeIn, Taken, Word, ring};
-use std::alloc::{AllocError, Global};
+use std::alloc::Global;
 use std::process::Abort;
 use std::sync::Wait;
 use std::sync::atomic::{AtomicU64, Ordering};
-use std::test::Fail;
 use std::thread::Threads;
 use std::{hint, thread};
 
 /// How often a worker looks for another before it gives up.
 const TURNS: u32 = 100_000_000;
 
-fn game(alloc: Global, quota: u64, of: &[u64]) -> Result<Game, GameFault> {
+/// A game of members named M0, M1, ..
+fn game(rt: &impl Abort, alloc: Global, quota: u64, weights: &[u64]) -> Game {
     let mut names = Vec::new(alloc);
-    let mut weights = Vec::new(alloc);
-    for (member, weight) in of.iter().enumerate() {
-        names.push(format!(in alloc; "M{member}")?)?;
-        weights.push(*weight)?;
+    for member in 0..weights.len() {
+        let name = format!(in alloc; "M{member}").expect(rt, "a name");
+        names.push(name).expect(rt, "room");
     }
-    if weights.len() != names.len() {
-        return Err(GameFault::Members);
-    }
-    Game::new(alloc, None, names, weights, quota)
+    let weights = weights.to_vec(alloc).expect(rt, "weights");
+    assert!(rt; weights.len() == names.len());
+    Game::new(alloc, None, names, weights, quota).expect(rt, "a game")
 }
 
 /// The minimal winning coalitions of the game [51; 35, 20, 15, 15, 15].
@@ -48,23 +48,24 @@ fn words_of_slice() -> [Word; 5] {
 }
 
 /// The game [51; 35, 20, 15, 15, 15].
-fn five(alloc: Global) -> Result<Game, GameFault> {
-    game(alloc, 51, &[35, 20, 15, 15, 15])
+fn five(rt: &impl Abort, alloc: Global) -> Game
+    ensures { length result.names ≡ 5 }
+{
+    let game = game(rt, alloc, 51, &[35, 20, 15, 15, 15]);
+    assert!(rt; game.members() == 5);
+    game
 }
 
-fn masks(alloc: Global, list: &[Coalition]) -> Result<Vec<u64>, AllocError> {
-    let mut masks = Vec::new(alloc);
-    for coalition in list {
-        masks.push(coalition.mask())?;
-    }
-    Ok(masks)
+/// A game of forty members of one vote each.
+fn forty(rt: &impl Abort, alloc: Global, quota: u64) -> Game {
+    game(rt, alloc, quota, &[1; 40])
 }
 
 /// Fails with the label where the coalitions are not those of these masks, in that order.
 fn are_masks(rt: &impl Abort, list: &[Coalition], masks: &[u64], label: &str) {
-    assert!(rt; list.len() == masks.len(), "{label}");
+    same(rt, list.len(), masks.len(), label);
     for (coalition, mask) in list.iter().zip(masks) {
-        assert!(rt; coalition.mask() == *mask, "{label}");
+        same(rt, coalition.mask(), *mask, label);
     }
 }
 
@@ -84,30 +85,43 @@ fn gathered<R: Threads + Wait + Abort + Sync, G: Gate + Sync>(
     gather(rt, alloc, &Guarded::new(game, gate), bits, workers, most)
 }
 
-/// The coalitions that are gathered, in order.
-fn listed<R: Threads + Wait + Abort + Sync, G: Gate + Sync>(
+/// The coalitions of these masks, five or fewer, are gathered behind the gate at most five, in that order.
+fn lists<R: Threads + Wait + Abort + Sync, G: Gate + Sync>(
     rt: &R,
     alloc: Global,
     game: &Game,
     gate: &G,
     bits: u8,
     workers: u8,
+    masks: &[u64],
+) {
+    let gathered = gathered(rt, alloc, game, gate, bits, workers, 5).expect(rt, "parts");
+    let list = gathered.in_order(alloc).expect(rt, "a list");
+    are_masks(rt, &list, masks, "the list");
+}
+
+/// How many coalitions are gathered where there are at most so many, and 0 where there are more.
+fn count<R: Threads + Wait + Abort + Sync>(
+    rt: &R,
+    alloc: Global,
+    game: &Game,
+    bits: u8,
+    workers: u8,
     most: u32,
-) -> Result<Vec<u64>, GatherFault> {
-    let gathered = gathered(rt, alloc, game, gate, bits, workers, most)?;
-    let Ok(list) = gathered.in_order(alloc) else {
-        return Err(GatherFault::Memory);
-    };
-    match masks(alloc, &list) {
-        Ok(masks) => Ok(masks),
-        Err(_) => Err(GatherFault::Memory),
+) -> usize {
+    match gathered(rt, alloc, game, &NoGate, bits, workers, most) {
+        Ok(gathered) => gathered.in_order(alloc).expect(rt, "a list").len(),
+        Err(fault) => {
+            same(rt, fault, GatherFault::TooMany, "a fault");
+            0
+        }
     }
 }
 
 #[test]
-fn parts_of_one_worker(rt: HostRuntime) -> Result<(), Fail> {
-    let game = five(rt.alloc())?;
-    let gathered = gathered(&rt, rt.alloc(), &game, &NoGate, 2, 1, 5)?;
+fn parts_of_one_worker(rt: HostRuntime) {
+    let game = five(&rt, rt.alloc());
+    let gathered = gathered(&rt, rt.alloc(), &game, &NoGate, 2, 1, 5).expect(&rt, "parts");
     assert!(rt; gathered.parts.len() == 1);
     let part = &gathered.parts[0];
     assert!(rt; part.slices.as_slice() == [0, 1, 2, 3].as_slice());
@@ -115,90 +129,63 @@ fn parts_of_one_worker(rt: HostRuntime) -> Result<(), Fail> {
     are_masks(&rt, &part.got, &FIVE, "the part");
     let list = gathered.in_order(rt.alloc()).expect(&rt, "a list");
     are_masks(&rt, &list, &FIVE, "the list");
-    Ok(())
 }
 
 #[test]
-fn pieces_of_one_worker(rt: HostRuntime) -> Result<(), Fail> {
-    let game = five(rt.alloc())?;
-    let gathered = gathered(&rt, rt.alloc(), &game, &NoGate, 2, 1, 5)?;
-    let pieces = gathered.pieces(rt.alloc())?;
+fn pieces_of_one_worker(rt: HostRuntime) {
+    let game = five(&rt, rt.alloc());
+    let gathered = gathered(&rt, rt.alloc(), &game, &NoGate, 2, 1, 5).expect(&rt, "parts");
+    let pieces = gathered.pieces(rt.alloc()).expect(&rt, "pieces");
     assert!(rt; pieces.len() == 4);
     are_masks(&rt, pieces[0], &FIVE[..1], "piece 0");
     are_masks(&rt, pieces[1], &FIVE[1..4], "piece 1");
     are_masks(&rt, pieces[2], &FIVE[4..], "piece 2");
     are_masks(&rt, pieces[3], &[], "piece 3");
-    Ok(())
 }
 
 #[test]
-fn gathers_the_same_list(rt: HostRuntime) -> Result<(), Fail> {
-    let game = five(rt.alloc())?;
+fn gathers_the_same_list(rt: HostRuntime) {
+    let game = five(&rt, rt.alloc());
     for workers in 1..17 {
         for bits in 0..6 {
-            let list = listed(&rt, rt.alloc(), &game, &NoGate, bits, workers, 5)?;
-            same(
-                &rt,
-                list.as_slice(),
-                [24, 22, 21, 19, 15].as_slice(),
-                (workers, bits),
-            );
+            lists(&rt, rt.alloc(), &game, &NoGate, bits, workers, &FIVE);
         }
     }
-    Ok(())
 }
 
 #[test]
-fn more_workers_than_slices(rt: HostRuntime) -> Result<(), Fail> {
-    let game = game(rt.alloc(), 51, &[50, 49, 1])?;
-    let list = listed(&rt, rt.alloc(), &game, &NoGate, 3, 16, 1_000_000)?;
-    same(&rt, list.as_slice(), [6, 5].as_slice(), "list");
-    Ok(())
+fn more_workers_than_slices(rt: HostRuntime) {
+    let game = game(&rt, rt.alloc(), 51, &[50, 49, 1]);
+    lists(&rt, rt.alloc(), &game, &NoGate, 3, 16, &[6, 5]);
 }
 
 #[test]
-fn cuts_above_the_most(rt: HostRuntime) -> Result<(), Fail> {
-    let game = five(rt.alloc())?;
+fn cuts_above_the_most(rt: HostRuntime) {
+    let game = five(&rt, rt.alloc());
     for most in 1..6 {
         for workers in 1..7 {
             for bits in 0..6 {
-                let count = match listed(&rt, rt.alloc(), &game, &NoGate, bits, workers, most) {
-                    Ok(list) => list.len(),
-                    Err(GatherFault::TooMany) => 0,
-                    Err(_) => 1,
-                };
                 let wanted = if most == 5 { 5 } else { 0 };
-                same(&rt, count, wanted, (most, workers, bits));
+                let found = count(&rt, rt.alloc(), &game, bits, workers, most);
+                same(&rt, found, wanted, (most, workers, bits));
             }
         }
     }
-    Ok(())
 }
 
+/// Pairs of forty members, and a game of so many coalitions that nobody could list them.
 #[test]
-fn counts_pairs(rt: HostRuntime) -> Result<(), Fail> {
-    let game = game(rt.alloc(), 2, &[1; 40])?;
-    for (bits, workers, most, wanted) in [
-        (0, 1, 4_000_000, 780),
-        (6, 4, 780, 780),
-        (6, 4, 779, 0),
+fn counts_pairs(rt: HostRuntime) {
+    for (quota, bits, workers, most, wanted) in [
+        (2, 0, 1, 4_000_000, 780),
+        (2, 6, 4, 780, 780),
+        (2, 6, 4, 779, 0),
+        (20, 6, 4, 1, 0),
     ] {
-        let count = match listed(&rt, rt.alloc(), &game, &NoGate, bits, workers, most) {
-            Ok(list) => list.len(),
-            Err(GatherFault::TooMany) => 0,
-            Err(_) => 1,
-        };
-        same(&rt, count, wanted, (bits, workers, most));
+        let game = forty(&rt, rt.alloc(), quota);
+        let found = count(&rt, rt.alloc(), &game, bits, workers, most);
+        same(&rt, found, wanted, (quota, bits, workers, most));
     }
-    Ok(())
-}
-
-#[test]
-fn returns_from_a_huge_game(rt: HostRuntime) -> Result<(), Fail> {
-    let game = game(rt.alloc(), 20, &[1; 40])?;
-    let refused = listed(&rt, rt.alloc(), &game, &NoGate, 6, 4, 1);
-    assert!(rt; matches!(refused, Err(GatherFault::TooMany)));
-    Ok(())
 }
 
 /// A gate that counts how often each of four slices passes.
@@ -242,20 +229,13 @@ impl Gate for Passes {
 }
 
 #[test]
-fn each_slice_passes_once(rt: HostRuntime) -> Result<(), Fail> {
-    let game = five(rt.alloc())?;
+fn each_slice_passes_once(rt: HostRuntime) {
+    let game = five(&rt, rt.alloc());
     for workers in 1..17 {
         let passes = Passes::none();
-        let list = listed(&rt, rt.alloc(), &game, &passes, 2, workers, 5)?;
-        same(
-            &rt,
-            list.as_slice(),
-            [24, 22, 21, 19, 15].as_slice(),
-            workers,
-        );
+        lists(&rt, rt.alloc(), &game, &passes, 2, workers, &FIVE);
         same(&rt, passes.counts(), [1, 1, 1, 1], workers);
     }
-    Ok(())
 }
 
 /// A gate that is slow, and counts who comes and who goes.
@@ -276,25 +256,24 @@ impl Gate for Slow {
 }
 
 #[test]
-fn workers_have_ended_after_a_refusal(rt: HostRuntime) -> Result<(), Fail> {
-    let game = five(rt.alloc())?;
+fn workers_have_ended_after_a_refusal(rt: HostRuntime) {
+    let game = five(&rt, rt.alloc());
     for workers in 1..17 {
         let slow = Slow {
             came: AtomicU64::new(0),
             went: AtomicU64::new(0),
         };
-        let refused = listed(&rt, rt.alloc(), &game, &slow, 2, workers, 1);
+        let refused = gathered(&rt, rt.alloc(), &game, &slow, 2, workers, 1).err();
         let went = slow.went.load(Ordering::SeqCst);
         let came = slow.came.load(Ordering::SeqCst);
-        assert!(rt; matches!(refused, Err(GatherFault::TooMany)), "{workers}");
-        assert!(rt; 0 < came, "{workers}");
+        same(&rt, refused, Some(GatherFault::TooMany), workers);
+        same(&rt, 0 < came, true, workers);
         same(&rt, went, came, workers);
         for _ in 0..1000 {
             thread::yield_now();
         }
         same(&rt, slow.came.load(Ordering::SeqCst), came, workers);
     }
-    Ok(())
 }
 
 /// Looks until the flag is set, and says whether it was.
@@ -330,26 +309,19 @@ impl Gate for Meeting {
 }
 
 #[test]
-fn two_workers_meet(rt: HostRuntime) -> Result<(), Fail> {
-    let game = five(rt.alloc())?;
+fn two_workers_meet(rt: HostRuntime) {
+    let game = five(&rt, rt.alloc());
     let meeting = Meeting {
         here: [AtomicU64::new(0), AtomicU64::new(0)],
         missed: AtomicU64::new(0),
     };
-    let list = listed(&rt, rt.alloc(), &game, &meeting, 1, 2, 5)?;
-    same(
-        &rt,
-        list.as_slice(),
-        [24, 22, 21, 19, 15].as_slice(),
-        "list",
-    );
+    lists(&rt, rt.alloc(), &game, &meeting, 1, 2, &FIVE);
     let found = (
         meeting.here[0].load(Ordering::SeqCst),
         meeting.here[1].load(Ordering::SeqCst),
         meeting.missed.load(Ordering::SeqCst),
     );
     same(&rt, found, (1, 1, 0), "who came, and who was missed");
-    Ok(())
 }
 
 /// A gate that holds one worker at its first slice until slice 2 has passed.
@@ -375,47 +347,42 @@ fn held_parts<R: Threads + Wait + Abort + Sync>(
     alloc: Global,
     game: &Game,
     held: u8,
-) -> Result<Gathered, GatherFault> {
+) -> Gathered {
     let gate = Holding {
         held,
         passes: Passes::none(),
         missed: AtomicU64::new(0),
     };
-    let gathered = gathered(rt, alloc, game, &gate, 2, 2, 5);
-    assert!(rt; gate.missed.load(Ordering::SeqCst) == 0, "held {held}");
-    assert!(rt; gate.passes.counts() == [1, 1, 1, 1], "held {held}");
+    let gathered = gathered(rt, alloc, game, &gate, 2, 2, 5).expect(rt, "parts");
+    same(rt, gate.missed.load(Ordering::SeqCst), 0, held);
+    same(rt, gate.passes.counts(), [1, 1, 1, 1], held);
     gathered
 }
 
 /// Fails where the parts of two workers do not begin with these slices.
 fn begin_with(rt: &impl Abort, gathered: &Gathered, first: &[u16], second: &[u16], held: u8) {
     assert!(rt; gathered.parts.len() == 2);
-    assert!(rt;
-        gathered.parts[0].slices.as_slice().starts_with(first),
-        "held {held}"
+    let found = (
+        gathered.parts[0].slices.starts_with(first),
+        gathered.parts[1].slices.starts_with(second),
     );
-    assert!(rt;
-        gathered.parts[1].slices.as_slice().starts_with(second),
-        "held {held}"
-    );
+    same(rt, found, (true, true), held);
 }
 
 #[test]
-fn held_worker_gets_no_more(rt: HostRuntime) -> Result<(), Fail> {
-    let game = five(rt.alloc())?;
+fn held_worker_gets_no_more(rt: HostRuntime) {
+    let game = five(&rt, rt.alloc());
     for (held, first, second) in [(0, &[0][..], &[1, 2][..]), (1, &[0, 2][..], &[1][..])] {
-        let gathered = held_parts(&rt, rt.alloc(), &game, held).expect(&rt, "parts");
+        let gathered = held_parts(&rt, rt.alloc(), &game, held);
         begin_with(&rt, &gathered, first, second, held);
         let list = gathered.in_order(rt.alloc()).expect(&rt, "a list");
         are_masks(&rt, &list, &FIVE, "in order");
     }
-    Ok(())
 }
 
 #[test]
-fn sends_a_slice(rt: HostRuntime) -> Result<(), Fail> {
-    let game = five(rt.alloc())?;
-    assert!(rt; game.members() == 5);
+fn sends_a_slice(rt: HostRuntime) {
+    let game = five(&rt, rt.alloc());
     let guarded = Guarded::new(&game, &NoGate);
     let words = words_of_slice();
     let rows = [
@@ -434,13 +401,11 @@ fn sends_a_slice(rt: HostRuntime) -> Result<(), Fail> {
         }
         same(&rt, pipe.take(), Taken::Ended, ("left", left));
     }
-    Ok(())
 }
 
 #[test]
-fn works_on_its_tasks(rt: HostRuntime) -> Result<(), Fail> {
-    let game = five(rt.alloc())?;
-    assert!(rt; game.members() == 5);
+fn works_on_its_tasks(rt: HostRuntime) {
+    let game = five(&rt, rt.alloc());
     let guarded = Guarded::new(&game, &NoGate);
     let wanted = words_of_slice();
     for with_slice in [true, false] {
@@ -451,12 +416,11 @@ fn works_on_its_tasks(rt: HostRuntime) -> Result<(), Fail> {
         }
         assert!(rt; tasks.put(Word::End { cut: false }).is_ok());
         let (closed, _list) = work(&rt, &guarded, 2, 1, 5, out, list);
-        let mut rest = words.end(closed?);
+        let mut rest = words.end(closed.expect(&rt, "a closed end"));
         for word in wanted.iter().take(if with_slice { 5 } else { 0 }) {
             same(&rt, rest.next(), Some(*word), with_slice);
         }
         let end = (rest.next(), rest.next());
         same(&rt, end, (Some(Word::End { cut: false }), None), with_slice);
     }
-    Ok(())
 }

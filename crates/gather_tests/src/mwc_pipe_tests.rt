@@ -9,8 +9,9 @@ use mwc_pipe::{
     Batch, Closed, Pipe, PipeIn, Refused, Reply, RingIn, RingOut, Step, Taken, Unfinished, Word,
     replay, ring,
 };
+use std::alloc::Global;
+use std::process::Abort;
 use std::snapshot::Snapshot;
-use std::test::Fail;
 use std::thread;
 use std::thread::Promise;
 
@@ -45,8 +46,8 @@ const REPLIES: [Reply<char>; 12] = [
 ];
 
 #[test]
-fn replays_a_history(rt: HostRuntime) -> Result<(), Fail> {
-    let trace = replay(rt.alloc(), 2, &STEPS)?;
+fn replays_a_history(rt: HostRuntime) {
+    let trace = replay(rt.alloc(), 2, &STEPS).expect(&rt, "a trace");
     same(
         &rt,
         trace.replies.as_slice(),
@@ -67,7 +68,6 @@ fn replays_a_history(rt: HostRuntime) -> Result<(), Fail> {
     );
     same(&rt, trace.inside.len(), 0, "trace.inside.len");
     assert!(rt; trace.closed);
-    Ok(())
 }
 
 #[test]
@@ -122,10 +122,10 @@ fn fill<P: PipeIn<Word>>(pipe: &mut P, word: Word, most: u32) -> u32 {
 }
 
 #[test]
-fn fills_both_kinds_of_pipe(rt: HostRuntime) -> Result<(), Fail> {
+fn fills_both_kinds_of_pipe(rt: HostRuntime) {
     let mut batch = Batch::new(rt.alloc(), 3);
     same(&rt, fill(&mut batch, Word::Done(7), 5), 3, "fill");
-    let (mut to, mut from) = ring(rt.alloc(), 3)?;
+    let (mut to, mut from) = ring(rt.alloc(), 3).expect(&rt, "a ring");
     same(&rt, fill(&mut to, Word::Done(7), 5), 3, "fill 2");
     same(
         &rt,
@@ -135,14 +135,13 @@ fn fills_both_kinds_of_pipe(rt: HostRuntime) -> Result<(), Fail> {
     );
     same(&rt, from.take(), Some(Word::Done(7)), "from.take");
     same(&rt, fill(&mut to, Word::Done(7), 5), 1, "fill 3");
-    Ok(())
 }
 
 const ROW: [Word; 4] = [Word::Open(0), Word::Done(0), Word::Open(1), Word::Done(1)];
 
 #[test]
-fn moves_rows_through_a_ring(rt: HostRuntime) -> Result<(), Fail> {
-    let (mut to, mut from) = ring(rt.alloc(), 3)?;
+fn moves_rows_through_a_ring(rt: HostRuntime) {
+    let (mut to, mut from) = ring(rt.alloc(), 3).expect(&rt, "a ring");
     let row = ROW.as_slice();
     let mut taken = [END; 4];
     same(&rt, from.take_some(&mut taken), 0, "from.take_some");
@@ -167,12 +166,11 @@ fn moves_rows_through_a_ring(rt: HostRuntime) -> Result<(), Fail> {
         [Word::Done(0), Word::Open(0), Word::Open(1), END].as_slice(),
         "taken 3",
     );
-    Ok(())
 }
 
 #[test]
-fn fills_the_largest_ring_by_rows(rt: HostRuntime) -> Result<(), Fail> {
-    let (mut to, mut from) = ring(rt.alloc(), 65536)?;
+fn fills_the_largest_ring_by_rows(rt: HostRuntime) {
+    let (mut to, mut from) = ring(rt.alloc(), 65536).expect(&rt, "a ring");
     let row = [Word::Open(7); 1000];
     for _ in 0..65 {
         same(&rt, to.put_some(&row), 1000, "to.put_some");
@@ -185,38 +183,35 @@ fn fills_the_largest_ring_by_rows(rt: HostRuntime) -> Result<(), Fail> {
         same(&rt, taken.as_slice(), row.as_slice(), "taken");
     }
     same(&rt, from.take_some(&mut taken), 536, "from.take_some 2");
-    Ok(())
 }
 
 #[test]
-fn ends_a_ring(rt: HostRuntime) -> Result<(), Fail> {
-    let (mut to, mut from) = ring(rt.alloc(), 2)?;
+fn ends_a_ring(rt: HostRuntime) {
+    let (mut to, mut from) = ring(rt.alloc(), 2).expect(&rt, "a ring");
     same(&rt, from.take(), None, "from.take");
     same(&rt, to.put(Word::Open(0)), Ok(()), "to.put");
     same(&rt, to.put(Word::Done(0)), Ok(()), "to.put 2");
     same(&rt, to.put(END), Err(END), "to.put 3");
     same(&rt, from.take(), Some(Word::Open(0)), "from.take 2");
-    let closed = to.close()?;
+    let closed = to.close().expect(&rt, "a closed end");
     let mut rest = from.end(closed);
     same(&rt, rest.next(), Some(Word::Done(0)), "rest.next");
     same(&rt, rest.next(), None, "rest.next 2");
     same(&rt, rest.next(), None, "rest.next 3");
-    Ok(())
 }
 
 #[test]
-fn fills_the_largest_ring(rt: HostRuntime) -> Result<(), Fail> {
-    let (mut to, _from) = ring(rt.alloc(), 65536)?;
+fn fills_the_largest_ring(rt: HostRuntime) {
+    let (mut to, _from) = ring(rt.alloc(), 65536).expect(&rt, "a ring");
     same(&rt, fill(&mut to, Word::Open(0), 70_000), 65_536, "fill");
-    Ok(())
 }
 
 /// Each ring takes as many words as it has room for, gives them, and takes as many again.
 #[test]
-fn fills_rings_of_many_capacities(rt: HostRuntime) -> Result<(), Fail> {
+fn fills_rings_of_many_capacities(rt: HostRuntime) {
     for room in [1usize, 2, 3, 63, 64, 65, 1000, 4096, 4097, 65_535] {
         assert!(rt; 1 <= room && room <= 65_535);
-        let (mut to, mut from) = ring(rt.alloc(), room)?;
+        let (mut to, mut from) = ring(rt.alloc(), room).expect(&rt, "a ring");
         for _ in 0..2 {
             same(&rt, fill(&mut to, END, 70_000) as usize, room, "fill");
             for _ in 0..room {
@@ -225,14 +220,13 @@ fn fills_rings_of_many_capacities(rt: HostRuntime) -> Result<(), Fail> {
             same(&rt, from.take(), None, ("room", room));
         }
     }
-    Ok(())
 }
 
 /// How many items the pure pipes below are given.
 const ITEMS: u32 = 20_000;
 
 #[test]
-fn holds_thousands_of_items(rt: HostRuntime) -> Result<(), Fail> {
+fn holds_thousands_of_items(rt: HostRuntime) {
     for capacity in [1u32, 1000, 4097, 19_999, 20_000, 8_388_608] {
         assert!(rt; 1 <= capacity && capacity <= 8_388_608);
         let mut pipe = Pipe::new(rt.alloc(), capacity);
@@ -252,51 +246,45 @@ fn holds_thousands_of_items(rt: HostRuntime) -> Result<(), Fail> {
         }
         same(&rt, pipe.take(), Taken::Ended, ("capacity", capacity));
     }
-    Ok(())
+}
+
+/// All items are put, half of them taken, and that half put again.
+fn steps(rt: &impl Abort, alloc: Global) -> Vec<Step<u32>> {
+    let mut steps = Vec::new(alloc);
+    for item in 0..ITEMS {
+        steps.push(Step::Put(item)).expect(rt, "room");
+    }
+    for _ in 0..ITEMS / 2 {
+        steps.push(Step::Take).expect(rt, "room");
+    }
+    for item in ITEMS / 2..ITEMS {
+        steps.push(Step::Put(item)).expect(rt, "room");
+    }
+    steps.push(Step::Close).expect(rt, "room");
+    steps
+}
+
+/// The items are so many numbers, from this one on.
+fn are_numbers(rt: &impl Abort, items: &[u32], first: u32, count: usize) {
+    same(rt, items.len(), count, "how many items");
+    let mut wanted = first;
+    for item in items {
+        same(rt, *item, wanted, "an item");
+        wanted = wanted.wrapping_add(1);
+    }
 }
 
 /// All items are put, taken and put again through a pipe that has room for half of them.
 #[test]
-fn replays_thousands_of_steps(rt: HostRuntime) -> Result<(), Fail> {
-    let alloc = rt.alloc();
+fn replays_thousands_of_steps(rt: HostRuntime) {
     let half = ITEMS / 2;
-    let mut steps = Vec::new(alloc);
-    for item in 0..ITEMS {
-        steps.push(Step::Put(item))?;
-    }
-    for _ in 0..half {
-        steps.push(Step::Take)?;
-    }
-    for item in half..ITEMS {
-        steps.push(Step::Put(item))?;
-    }
-    steps.push(Step::Close)?;
-    let trace = replay(alloc, half, &steps)?;
-    let found = (trace.came.len(), trace.gone.len(), trace.inside.len());
-    let wanted = (ITEMS as usize, half as usize, half as usize);
-    same(
-        &rt,
-        found,
-        wanted,
-        "how many came, are gone, and are inside",
-    );
-    same(&rt, trace.replies.len(), steps.len(), "trace.replies.len");
-    assert!(rt; trace.closed);
-    for (number, item) in trace.came.iter().enumerate() {
-        same(&rt, *item as usize, number, "*item as usize");
-    }
-    for (number, item) in trace.gone.iter().enumerate() {
-        same(&rt, *item as usize, number, "*item as usize 2");
-    }
-    for (number, item) in trace.inside.iter().enumerate() {
-        same(
-            &rt,
-            *item as usize,
-            number.wrapping_add(half as usize),
-            "*item as usize 3",
-        );
-    }
-    Ok(())
+    let steps = steps(&rt, rt.alloc());
+    let trace = replay(rt.alloc(), half, &steps).expect(&rt, "a trace");
+    are_numbers(&rt, &trace.came, 0, ITEMS as usize);
+    are_numbers(&rt, &trace.gone, 0, half as usize);
+    are_numbers(&rt, &trace.inside, half, half as usize);
+    same(&rt, trace.replies.len(), steps.len(), "replies");
+    same(&rt, trace.closed, true, "closed");
 }
 
 /// How many words go from one thread to the other.
@@ -372,23 +360,20 @@ fn take_first(from: &mut RingOut, count: u32) -> u32
 }
 
 #[test]
-fn moves_words_between_threads(rt: HostRuntime) -> Result<(), Fail> {
+fn moves_words_between_threads(rt: HostRuntime) {
     for room in [1, 2, 64, 65, 1000] {
         assert!(rt; 1 <= room && room <= 1000);
-        let (to, mut from) = ring(rt.alloc(), room)?;
+        let (to, mut from) = ring(rt.alloc(), room).expect(&rt, "a ring");
         let fills = Fills(Snapshot::of(&to));
-        let Ok(filler) = thread::spawn_with(&rt, fills, move || put_all(to)) else {
-            return Err(Fail::from("no thread"));
-        };
+        let filler = thread::spawn_with(&rt, fills, move || put_all(to)).expect(&rt, "a thread");
         let before = WORDS - room as u32;
         same(&rt, take_first(&mut from, before), before, ("room", room));
-        let mut rest = from.end(filler.join(&rt)?);
+        let mut rest = from.end(filler.join(&rt).expect(&rt, "a closed end"));
         for number in before..WORDS {
             same(&rt, rest.next(), Some(numbered(number)), ("room", room));
         }
         same(&rt, rest.next(), None, ("room", room));
     }
-    Ok(())
 }
 
 /// Puts all words in, in order, by rows of at most so many, and closes the ring; it gives up where it
@@ -444,7 +429,7 @@ fn take_first_rows(from: &mut RingOut, count: u32, most: u32) -> u32
 }
 
 #[test]
-fn moves_rows_between_threads(rt: HostRuntime) -> Result<(), Fail> {
+fn moves_rows_between_threads(rt: HostRuntime) {
     for (room, put, take) in [
         (1, 1, 64),
         (2, 64, 1),
@@ -456,15 +441,13 @@ fn moves_rows_between_threads(rt: HostRuntime) -> Result<(), Fail> {
         (1000, 64, 7),
     ] {
         assert!(rt; 1 <= room && room <= 1000 && put <= 64 && take <= 64);
-        let (to, mut from) = ring(rt.alloc(), room)?;
+        let (to, mut from) = ring(rt.alloc(), room).expect(&rt, "a ring");
         let fills = Fills(Snapshot::of(&to));
         let filling = move || -> Result<Closed, Unfinished>
             requires { put ≤ 64 }
             ensures { IfOk result (λ c. c.ring ≡ to.ring) }
         { put_all_rows(to, put) };
-        let Ok(filler) = thread::spawn_with(&rt, fills, filling) else {
-            return Err(Fail::from("no thread"));
-        };
+        let filler = thread::spawn_with(&rt, fills, filling).expect(&rt, "a thread");
         let before = WORDS - room as u32;
         same(
             &rt,
@@ -472,11 +455,10 @@ fn moves_rows_between_threads(rt: HostRuntime) -> Result<(), Fail> {
             before,
             ("room", room),
         );
-        let mut rest = from.end(filler.join(&rt)?);
+        let mut rest = from.end(filler.join(&rt).expect(&rt, "a closed end"));
         for number in before..WORDS {
             same(&rt, rest.next(), Some(numbered(number)), ("room", room));
         }
         same(&rt, rest.next(), None, ("room", room));
     }
-    Ok(())
 }

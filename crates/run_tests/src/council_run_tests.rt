@@ -14,9 +14,9 @@ use council_run::{Cause, NoWatch, Options, RunFault, run, status, tally};
 use mwc_gather::{Gate, GatherFault, NoGate};
 use std::alloc::Global;
 use std::io::{Error, ErrorKind, Read, Write};
+use std::process::Abort;
 use std::sync::Wait;
 use std::sync::atomic::{AtomicU64, Ordering};
-use std::test::Fail;
 use std::thread::Threads;
 use std::{hint, io, thread};
 
@@ -128,20 +128,6 @@ fn worked() -> [(&'static [u8], Options, &'static [u8]); 8] {
     ]
 }
 
-#[test]
-fn writes_the_worked_reports(rt: HostRuntime) -> Result<(), Fail> {
-    same(&rt, BOARD_REPORT.len(), 158, "BOARD_REPORT.len");
-    let alloc = rt.alloc();
-    for (file, options, report) in worked() {
-        let mut reader = file;
-        let mut written = Vec::new(alloc);
-        let answer = run(&rt, alloc, &mut reader, &options, &NoGate, &mut written);
-        same(&rt, written.as_slice(), report, "written");
-        assert!(rt; answer == Ok(report.len() as u64));
-    }
-    Ok(())
-}
-
 /// A writer that looks whether the bytes that it takes are those that it awaits, and takes no memory:
 /// all of each write or, with a number to begin with, a part whose length is drawn anew each time.
 #[derive(Drop)]
@@ -182,23 +168,47 @@ impl Write for Awaiting<'_> {
     }
 }
 
+/// A run on the file writes the report, at once or in parts that begin with this number.
+fn writes<R: Abort + Threads + Wait + Sync>(
+    rt: &R,
+    alloc: Global,
+    file: &[u8],
+    options: &Options,
+    report: &[u8],
+    part: Option<u32>,
+) {
+    let mut reader = file;
+    let mut writer = Awaiting {
+        awaited: report,
+        differs: false,
+        calls: 0,
+        part,
+    };
+    let answer = run(rt, alloc, &mut reader, options, &NoGate, &mut writer);
+    same(rt, answer, Ok(report.len() as u64), part);
+    same(rt, (writer.awaited.len(), writer.differs), (0, false), part);
+}
+
 #[test]
-fn writes_through_parts_of_any_length(rt: HostRuntime) -> Result<(), Fail> {
+fn writes_the_worked_reports(rt: HostRuntime) {
+    same(
+        &rt,
+        BOARD_REPORT.len(),
+        158,
+        "the length of the board's report",
+    );
+    for (file, options, report) in worked() {
+        writes(&rt, rt.alloc(), file, &options, report, None);
+    }
+}
+
+#[test]
+fn writes_through_parts_of_any_length(rt: HostRuntime) {
     for seed in 0..100 {
         for (file, options, report) in worked() {
-            let mut reader = file;
-            let mut writer = Awaiting {
-                awaited: report,
-                differs: false,
-                calls: 0,
-                part: Some(seed),
-            };
-            let answer = run(&rt, rt.alloc(), &mut reader, &options, &NoGate, &mut writer);
-            assert!(rt; answer == Ok(report.len() as u64), "{seed}");
-            assert!(rt; writer.awaited.is_empty() && !writer.differs, "{seed}");
+            writes(&rt, rt.alloc(), file, &options, report, Some(seed));
         }
     }
-    Ok(())
 }
 
 /// A writer that takes so many bytes, at most so many a call, and then fails.
@@ -234,60 +244,60 @@ impl Write for Narrow {
     }
 }
 
+/// A run on the board answers so, and the writer took all that it had room for.
+fn takes<R: Abort + Threads + Wait + Sync>(
+    rt: &R,
+    alloc: Global,
+    writer: Narrow,
+    wanted: Result<u64, RunFault>,
+) {
+    let room = writer.room;
+    let mut writer = writer;
+    let mut reader = BOARD;
+    let answer = run(rt, alloc, &mut reader, &plain(), &NoGate, &mut writer);
+    same(rt, answer, wanted, room);
+    same(rt, writer.taken.len(), room, "bytes taken");
+    same(rt, BOARD_REPORT.starts_with(&writer.taken), true, room);
+}
+
+/// A write that failed after so many bytes.
+fn failed(written: u64) -> Result<u64, RunFault> {
+    Err(RunFault {
+        cause: Cause::Write,
+        written,
+    })
+}
+
 #[test]
-fn tells_what_a_failing_writer_took(rt: HostRuntime) -> Result<(), Fail> {
-    let alloc = rt.alloc();
+fn tells_what_a_failing_writer_took(rt: HostRuntime) {
     for kind in [None, Some(ErrorKind::Interrupted), Some(ErrorKind::Other)] {
-        for room in 0..158usize {
-            let mut writer = Narrow {
-                taken: Vec::new(alloc),
+        for room in 0..158 {
+            let writer = Narrow {
+                taken: Vec::new(rt.alloc()),
                 room,
                 step: 7,
                 kind,
                 flushes: true,
             };
-            let mut reader = BOARD;
-            let answer = run(&rt, alloc, &mut reader, &plain(), &NoGate, &mut writer);
-            let wanted = RunFault {
-                cause: Cause::Write,
-                written: room as u64,
-            };
-            assert!(rt; answer == Err(wanted), "{room}");
-            same(
-                &rt,
-                writer.taken.as_slice(),
-                &BOARD_REPORT[..room],
-                "writer.taken",
-            );
+            takes(&rt, rt.alloc(), writer, failed(room as u64));
         }
     }
-    Ok(())
 }
 
 #[test]
-fn writes_through_parts_and_one_flush(rt: HostRuntime) -> Result<(), Fail> {
-    let alloc = rt.alloc();
-    for flushes in [true, false] {
+fn writes_through_parts_and_one_flush(rt: HostRuntime) {
+    for (flushes, wanted) in [(true, Ok(158)), (false, failed(158))] {
         for step in [1, 10, 157, 158] {
-            let mut writer = Narrow {
-                taken: Vec::new(alloc),
+            let writer = Narrow {
+                taken: Vec::new(rt.alloc()),
                 room: 158,
                 step,
                 kind: None,
                 flushes,
             };
-            let mut reader = BOARD;
-            let answer = run(&rt, alloc, &mut reader, &plain(), &NoGate, &mut writer);
-            let fault = RunFault {
-                cause: Cause::Write,
-                written: 158,
-            };
-            let wanted = if flushes { Ok(158) } else { Err(fault) };
-            assert!(rt; answer == wanted, "{step}");
-            same(&rt, writer.taken.as_slice(), BOARD_REPORT, "writer.taken");
+            takes(&rt, rt.alloc(), writer, wanted);
         }
     }
-    Ok(())
 }
 
 /// A reader that gives the board's file byte by byte, and fails after so many.
@@ -312,71 +322,75 @@ impl Read for Cut {
     }
 }
 
+/// A run on the board, of which so many bytes can be read, answers so, and writes this.
+fn reads<R: Abort + Threads + Wait + Sync>(
+    rt: &R,
+    alloc: Global,
+    reader: Cut,
+    wanted: Result<u64, RunFault>,
+    report: &[u8],
+) {
+    let end = reader.end;
+    let mut reader = reader;
+    let mut written = Vec::new(alloc);
+    let answer = run(rt, alloc, &mut reader, &plain(), &NoGate, &mut written);
+    same(rt, answer, wanted, end);
+    same(rt, written.as_slice(), report, end);
+}
+
 #[test]
-fn a_failing_reader_is_the_fault_of_the_game(rt: HostRuntime) -> Result<(), Fail> {
-    let alloc = rt.alloc();
+fn a_failing_reader_is_the_fault_of_the_game(rt: HostRuntime) {
     let length = BOARD.len();
+    let fault = RunFault {
+        cause: Cause::Game(GameFault::Read),
+        written: 0,
+    };
     for kind in [ErrorKind::Interrupted, ErrorKind::Other] {
-        for end in 0..length + 2 {
-            let mut reader = Cut {
+        for end in 0..=length {
+            let reader = Cut {
                 given: 0,
                 end,
                 kind,
             };
-            let mut written = Vec::new(alloc);
-            let answer = run(&rt, alloc, &mut reader, &plain(), &NoGate, &mut written);
-            let fault = RunFault {
-                cause: Cause::Game(GameFault::Read),
-                written: 0,
-            };
-            if end <= length {
-                assert!(rt; answer == Err(fault), "{end}");
-                assert!(rt; written.is_empty(), "{end}");
-            } else {
-                assert!(rt; answer == Ok(158));
-                same(&rt, written.as_slice(), BOARD_REPORT, "written");
-            }
+            reads(&rt, rt.alloc(), reader, Err(fault), b"");
         }
+        let reader = Cut {
+            given: 0,
+            end: length + 1,
+            kind,
+        };
+        reads(&rt, rt.alloc(), reader, Ok(158), BOARD_REPORT);
     }
-    Ok(())
 }
 
-/// A tally writes the same report, whatever the greatest number is.
-#[test]
-fn a_tally_writes_the_same_report(rt: HostRuntime) -> Result<(), Fail> {
-    let mut input: &[u8] = BOARD;
-    let mut report = Vec::new(rt.alloc());
-    let count = tally(&rt, rt.alloc(), &mut input, &most(1), &NoWatch, &mut report);
-    same(&rt, report.as_slice(), BOARD_REPORT, "report");
-    same(&rt, count, Ok(BOARD_REPORT.len() as u64), "count");
-    Ok(())
-}
+/// Forty members of one vote each, of whom twenty win.
+const FORTY: &[u8] = b"[20; 1, 1, 1, 1, 1, 1, 1, 1, 1, 1, 1, 1, 1, 1, 1, 1, 1, 1, 1, 1, \
+1, 1, 1, 1, 1, 1, 1, 1, 1, 1, 1, 1, 1, 1, 1, 1, 1, 1, 1, 1]";
 
 #[test]
-fn refuses_more_than_the_most(rt: HostRuntime) -> Result<(), Fail> {
-    let alloc = rt.alloc();
-    let mut forty = Vec::new(alloc);
-    forty.extend_from_slice(b"[20; 1")?;
-    for _ in 1..40 {
-        forty.extend_from_slice(b", 1")?;
-    }
-    forty.push(b']')?;
+fn refuses_more_than_the_most(rt: HostRuntime) {
     for (file, options, many) in [
         (FIVE, most(4), true),
         (FIVE, most(5), false),
-        (forty.as_slice(), most(1), true),
+        (FORTY, most(1), true),
     ] {
         let mut reader = file;
-        let mut written = Vec::new(alloc);
-        let answer = run(&rt, alloc, &mut reader, &options, &NoGate, &mut written);
+        let mut written = Vec::new(rt.alloc());
+        let answer = run(
+            &rt,
+            rt.alloc(),
+            &mut reader,
+            &options,
+            &NoGate,
+            &mut written,
+        );
         let wanted = RunFault {
             cause: Cause::Gather(GatherFault::TooMany),
             written: 0,
         };
-        same(&rt, answer == Err(wanted), many, "answer == Err");
-        same(&rt, written.is_empty(), many, "written.is_empty");
+        same(&rt, answer == Err(wanted), many, "too many");
+        same(&rt, written.is_empty(), many, "nothing is written");
     }
-    Ok(())
 }
 
 /// A gate that counts how often each of four slices passes.
@@ -393,14 +407,14 @@ impl Gate for Passes {
     }
 }
 
-/// The report of the five-coalition game behind a gate.
-fn gated<T: Threads + Wait + Sync, G: Gate + Sync>(
-    rt: &T,
+/// Runs on the game of five coalitions behind a gate: its report is written.
+fn gated<R: Abort + Threads + Wait + Sync, G: Gate + Sync>(
+    rt: &R,
     alloc: Global,
     workers: u8,
     bits: u8,
     gate: &G,
-) -> Result<Vec<u8>, RunFault>
+)
     requires workers { (1 ≤ workers) × (workers ≤ WORKERS) }
     requires bits { bits ≤ BITS }
 {
@@ -414,23 +428,22 @@ fn gated<T: Threads + Wait + Sync, G: Gate + Sync>(
     };
     let mut reader = FIVE;
     let mut written = Vec::new(alloc);
-    let _count = run(rt, alloc, &mut reader, &options, gate, &mut written)?;
-    Ok(written)
+    let answer = run(rt, alloc, &mut reader, &options, gate, &mut written);
+    same(rt, answer, Ok(FIVE_REPORT.len() as u64), (workers, bits));
+    same(rt, written.as_slice(), FIVE_REPORT, (workers, bits));
 }
 
 #[test]
-fn the_same_bytes_for_any_workers_and_bits(rt: HostRuntime) -> Result<(), Fail> {
+fn the_same_bytes_for_any_workers_and_bits(rt: HostRuntime) {
     for workers in 1..17 {
         for bits in 0..11 {
-            let written = gated(&rt, rt.alloc(), workers, bits, &NoGate).expect(&rt, "a report");
-            same(&rt, written.as_slice(), FIVE_REPORT, (workers, bits));
+            gated(&rt, rt.alloc(), workers, bits, &NoGate);
         }
     }
-    Ok(())
 }
 
 #[test]
-fn each_slice_passes_once(rt: HostRuntime) -> Result<(), Fail> {
+fn each_slice_passes_once(rt: HostRuntime) {
     for workers in 1..17 {
         let passes = Passes {
             of: [
@@ -440,13 +453,11 @@ fn each_slice_passes_once(rt: HostRuntime) -> Result<(), Fail> {
                 AtomicU64::new(0),
             ],
         };
-        let written = gated(&rt, rt.alloc(), workers, 2, &passes).expect(&rt, "a report");
-        same(&rt, written.as_slice(), FIVE_REPORT, workers);
+        gated(&rt, rt.alloc(), workers, 2, &passes);
         for slice in 0..4usize {
             same(&rt, passes.of[slice].load(Ordering::SeqCst), 1, workers);
         }
     }
-    Ok(())
 }
 
 /// A gate that holds each of two workers until the other has come, for so many turns at most.
@@ -485,32 +496,18 @@ impl Gate for Meeting {
 }
 
 #[test]
-fn two_workers_meet(rt: HostRuntime) -> Result<(), Fail> {
+fn two_workers_meet(rt: HostRuntime) {
     let meeting = Meeting {
         here: [AtomicU64::new(0), AtomicU64::new(0)],
         missed: AtomicU64::new(0),
     };
-    let written = gated(&rt, rt.alloc(), 2, 1, &meeting).expect(&rt, "a report");
-    same(&rt, written.as_slice(), FIVE_REPORT, "written");
-    same(
-        &rt,
+    gated(&rt, rt.alloc(), 2, 1, &meeting);
+    let found = (
         meeting.here[0].load(Ordering::SeqCst),
-        1,
-        "meeting.here[0].load",
-    );
-    same(
-        &rt,
         meeting.here[1].load(Ordering::SeqCst),
-        1,
-        "meeting.here[1].load",
-    );
-    same(
-        &rt,
         meeting.missed.load(Ordering::SeqCst),
-        0,
-        "meeting.missed.load",
     );
-    Ok(())
+    same(&rt, found, (1, 1, 0), "who came, and who was missed");
 }
 
 #[test]

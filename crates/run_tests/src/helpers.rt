@@ -1,5 +1,6 @@
 //! What the tests of this crate share.
 use std::fmt::Debug;
+use std::io::Print;
 use std::process::Abort;
 
 /// Fails with the label where what was found is not what was wanted.
@@ -10,4 +11,9 @@ pub(crate) fn same<T: PartialEq + Debug + Drop, L: Debug + Drop>(
     label: L,
 ) {
     assert_eq!(rt; found, wanted, "{label:?}");
+}
+
+/// Prints a line, for `tests/refusals.sh`.
+pub(crate) fn say<R: Abort + Print>(rt: &R, line: &str) {
+    rt.println(line).expect(rt, "the line is printed");
 }

@@ -55,8 +55,8 @@ impl Gate for Seen {
 
 /// What each gate saw are the slices of the parts, and each worker began with that of its own number.
 #[test]
-fn gates_see_the_slices_of_the_parts(rt: HostRuntime) -> Result<(), Fail> {
-    let game = game(rt.alloc(), 7, &[1; 12])?;
+fn gates_see_the_slices_of_the_parts(rt: HostRuntime) {
+    let game = game(&rt, rt.alloc(), 7, &[1; 12]);
     for workers in 1..17u8 {
         let seen = Seen::new(workers);
         let gathered = gathered(&rt, rt.alloc(), &game, &seen, 6, workers, 792).expect(
@@ -66,10 +66,7 @@ fn gates_see_the_slices_of_the_parts(rt: HostRuntime) -> Result<(), Fail> {
         let mut count = 0u64;
         for (worker, part) in gathered.parts.iter().enumerate() {
             for slice in &part.slices {
-                assert!(rt;
-                    seen.passed_by(*slice, worker),
-                    "slice {slice}, {workers} workers"
-                );
+                same(&rt, seen.passed_by(*slice, worker), true, (*slice, workers));
                 count = count.wrapping_add(1);
             }
             same(
@@ -87,13 +84,12 @@ fn gates_see_the_slices_of_the_parts(rt: HostRuntime) -> Result<(), Fail> {
             ("workers", workers),
         );
     }
-    Ok(())
 }
 
 /// A slice whose sending is cut has passed once, and those after it, which nobody was given, never.
 #[test]
-fn a_cut_slice_passes_once(rt: HostRuntime) -> Result<(), Fail> {
-    let game = five(rt.alloc())?;
+fn a_cut_slice_passes_once(rt: HostRuntime) {
+    let game = five(&rt, rt.alloc());
     for (workers, most, wanted) in [
         (1, 1, [1, 1, 0, 0]),
         (1, 3, [1, 1, 0, 0]),
@@ -102,11 +98,8 @@ fn a_cut_slice_passes_once(rt: HostRuntime) -> Result<(), Fail> {
         (4, 4, [1, 1, 1, 1]),
     ] {
         let seen = Seen::new(workers);
-        let refused = gathered(&rt, rt.alloc(), &game, &seen, 2, workers, most);
-        assert!(rt;
-            matches!(refused, Err(GatherFault::TooMany)),
-            "{workers} {most}"
-        );
+        let refused = gathered(&rt, rt.alloc(), &game, &seen, 2, workers, most).err();
+        same(&rt, refused, Some(GatherFault::TooMany), (workers, most));
         for slice in 0..4u16 {
             same(
                 &rt,
@@ -117,7 +110,6 @@ fn a_cut_slice_passes_once(rt: HostRuntime) -> Result<(), Fail> {
         }
         same(&rt, seen.other.load(Ordering::SeqCst), 0, (workers, most));
     }
-    Ok(())
 }
 
 /// A batch that notes whether a word came before slice 1 had passed the gate.
@@ -152,9 +144,8 @@ impl<'a> PipeIn<Word> for Behind<'a> {
 }
 
 #[test]
-fn a_slice_passes_before_its_first_word(rt: HostRuntime) -> Result<(), Fail> {
-    let game = five(rt.alloc())?;
-    assert!(rt; game.members() == 5);
+fn a_slice_passes_before_its_first_word(rt: HostRuntime) {
+    let game = five(&rt, rt.alloc());
     for (left, wanted) in [(6, Sent::Whole { left: 3 }), (3, Sent::Cut), (1, Sent::Cut)] {
         assert!(rt; 0 < left && left < 7);
         let seen = Seen::new(2);
@@ -170,9 +161,11 @@ fn a_slice_passes_before_its_first_word(rt: HostRuntime) -> Result<(), Fail> {
             wanted,
             "send_slice",
         );
-        assert!(rt; !pipe.early, "left {left}");
-        assert!(rt; seen.passed_by(1, 1), "left {left}");
-        same(&rt, seen.other.load(Ordering::SeqCst), 0, "seen.other.load");
+        let found = (
+            pipe.early,
+            seen.passed_by(1, 1),
+            seen.other.load(Ordering::SeqCst),
+        );
+        same(&rt, found, (false, true, 0), left);
     }
-    Ok(())
 }

@@ -2,10 +2,11 @@
 //! between the line `call` and the line of the answer.
 use super::*;
 use crate::helpers::{say, say_memory};
+use std::alloc::AllocError;
 
 #[test]
-fn gathers(rt: HostRuntime) -> Result<(), Fail> {
-    let game = five(rt.alloc())?;
+fn gathers(rt: HostRuntime) {
+    let game = five(&rt, rt.alloc());
     let passes = Passes::none();
     say(&rt, "call");
     let answer = gathered(&rt, rt.alloc(), &game, &passes, 2, 3, 5);
@@ -18,7 +19,7 @@ fn gathers(rt: HostRuntime) -> Result<(), Fail> {
         Err(GatherFault::Memory) => say(&rt, "out of memory"),
         Err(fault) => {
             say(&rt, "not started");
-            assert!(rt; matches!(fault, GatherFault::Start));
+            same(&rt, fault, GatherFault::Start, "fault");
         }
     }
     let counts = passes.counts();
@@ -26,20 +27,13 @@ fn gathers(rt: HostRuntime) -> Result<(), Fail> {
         thread::yield_now();
     }
     same(&rt, passes.counts(), counts, "passes.counts 2");
-    let list = listed(&rt, rt.alloc(), &game, &NoGate, 2, 3, 5).expect(&rt, "a list");
-    same(
-        &rt,
-        list.as_slice(),
-        [24, 22, 21, 19, 15].as_slice(),
-        "list",
-    );
-    Ok(())
+    lists(&rt, rt.alloc(), &game, &NoGate, 2, 3, &FIVE);
 }
 
 /// Where the list is too long and something is refused, the refusal is told.
 #[test]
-fn gathers_too_many(rt: HostRuntime) -> Result<(), Fail> {
-    let game = five(rt.alloc())?;
+fn gathers_too_many(rt: HostRuntime) {
+    let game = five(&rt, rt.alloc());
     say(&rt, "call");
     match gathered(&rt, rt.alloc(), &game, &NoGate, 2, 3, 4) {
         Err(GatherFault::TooMany) => say(&rt, "worked"),
@@ -47,13 +41,12 @@ fn gathers_too_many(rt: HostRuntime) -> Result<(), Fail> {
         Err(GatherFault::Start) => say(&rt, "not started"),
         _ => say(&rt, "another answer"),
     }
-    Ok(())
 }
 
 #[test]
-fn puts_parts_in_order(rt: HostRuntime) -> Result<(), Fail> {
-    let game = five(rt.alloc())?;
-    let gathered = gathered(&rt, rt.alloc(), &game, &NoGate, 2, 3, 5)?;
+fn puts_parts_in_order(rt: HostRuntime) {
+    let game = five(&rt, rt.alloc());
+    let gathered = gathered(&rt, rt.alloc(), &game, &NoGate, 2, 3, 5).expect(&rt, "parts");
     say(&rt, "call");
     let answer = gathered.in_order(rt.alloc());
     say_memory(&rt, answer.is_ok());
@@ -62,7 +55,6 @@ fn puts_parts_in_order(rt: HostRuntime) -> Result<(), Fail> {
         Err(_) => gathered.in_order(rt.alloc()).expect(&rt, "a list"),
     };
     are_masks(&rt, &list, &FIVE, "the list");
-    Ok(())
 }
 
 /// How many coalitions each piece has.
@@ -78,9 +70,9 @@ fn lens_of(alloc: Global, gathered: &Gathered) -> Result<Vec<usize>, AllocError>
 }
 
 #[test]
-fn finds_the_pieces(rt: HostRuntime) -> Result<(), Fail> {
-    let game = five(rt.alloc())?;
-    let gathered = gathered(&rt, rt.alloc(), &game, &NoGate, 2, 3, 5)?;
+fn finds_the_pieces(rt: HostRuntime) {
+    let game = five(&rt, rt.alloc());
+    let gathered = gathered(&rt, rt.alloc(), &game, &NoGate, 2, 3, 5).expect(&rt, "parts");
     say(&rt, "call");
     let answer = lens_of(rt.alloc(), &gathered);
     say_memory(&rt, answer.is_ok());
@@ -89,13 +81,11 @@ fn finds_the_pieces(rt: HostRuntime) -> Result<(), Fail> {
         Err(_) => lens_of(rt.alloc(), &gathered).expect(&rt, "lengths"),
     };
     same(&rt, lens.as_slice(), [1, 3, 1, 0].as_slice(), "lens");
-    Ok(())
 }
 
 #[test]
-fn sends_into_a_batch(rt: HostRuntime) -> Result<(), Fail> {
-    let game = five(rt.alloc())?;
-    assert!(rt; game.members() == 5);
+fn sends_into_a_batch(rt: HostRuntime) {
+    let game = five(&rt, rt.alloc());
     let guarded = Guarded::new(&game, &NoGate);
     let mut batch = Batch::new(rt.alloc(), 16);
     say(&rt, "call");
@@ -120,11 +110,10 @@ fn sends_into_a_batch(rt: HostRuntime) -> Result<(), Fail> {
         same(&rt, pipe.take(), Taken::Item(*word), "pipe.take");
     }
     same(&rt, pipe.take(), Taken::Ended, "pipe.take 2");
-    Ok(())
 }
 
 #[test]
-fn marks_without_memory(rt: HostRuntime) -> Result<(), Fail> {
+fn marks_without_memory(rt: HostRuntime) {
     say(&rt, "call");
     let mut marks = Marks::new(2);
     assert!(rt; marks.give(0, 3));
@@ -135,5 +124,4 @@ fn marks_without_memory(rt: HostRuntime) -> Result<(), Fail> {
     assert!(rt; marks.give(1, 3));
     assert!(rt; marks.all_given());
     say(&rt, "worked");
-    Ok(())
 }

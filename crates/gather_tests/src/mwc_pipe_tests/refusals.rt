@@ -14,7 +14,7 @@ fn put_letters(pipe: &mut Pipe<char>, letters: &[char]) -> Result<(), Refused<ch
 }
 
 #[test]
-fn puts_into_a_pipe(rt: HostRuntime) -> Result<(), Fail> {
+fn puts_into_a_pipe(rt: HostRuntime) {
     let mut pipe = Pipe::new(rt.alloc(), 100);
     say(&rt, "call");
     let answer = put_letters(&mut pipe, &LETTERS);
@@ -35,13 +35,12 @@ fn puts_into_a_pipe(rt: HostRuntime) -> Result<(), Fail> {
         }
     }
     assert!(rt; !pipe.is_closed());
-    put_letters(&mut pipe, right)?;
+    put_letters(&mut pipe, right).expect(&rt, "room");
     assert!(rt; pipe.close());
     for letter in LETTERS {
         same(&rt, pipe.take(), Taken::Item(letter), "pipe.take");
     }
     same(&rt, pipe.take(), Taken::Ended, "pipe.take 2");
-    Ok(())
 }
 
 const TASKS: [Word; 6] = [
@@ -62,7 +61,7 @@ fn put_words<P: PipeIn<Word>>(pipe: &mut P, words: &[Word]) -> Result<(), Refuse
 }
 
 #[test]
-fn puts_into_a_batch(rt: HostRuntime) -> Result<(), Fail> {
+fn puts_into_a_batch(rt: HostRuntime) {
     let mut batch = Batch::new(rt.alloc(), 100);
     say(&rt, "call");
     let answer = put_words(&mut batch, &TASKS);
@@ -82,11 +81,10 @@ fn puts_into_a_batch(rt: HostRuntime) -> Result<(), Fail> {
         same(&rt, pipe.take(), Taken::Item(*word), "pipe.take");
     }
     same(&rt, pipe.take(), Taken::Ended, "pipe.take 2");
-    Ok(())
 }
 
 #[test]
-fn replays(rt: HostRuntime) -> Result<(), Fail> {
+fn replays(rt: HostRuntime) {
     say(&rt, "call");
     match replay(rt.alloc(), 2, &STEPS) {
         Ok(trace) => {
@@ -100,11 +98,10 @@ fn replays(rt: HostRuntime) -> Result<(), Fail> {
         }
         Err(_) => say(&rt, "out of memory"),
     }
-    Ok(())
 }
 
 #[test]
-fn makes_a_ring(rt: HostRuntime) -> Result<(), Fail> {
+fn makes_a_ring(rt: HostRuntime) {
     say(&rt, "call");
     match ring(rt.alloc(), 3) {
         Ok((mut to, mut from)) => {
@@ -114,12 +111,11 @@ fn makes_a_ring(rt: HostRuntime) -> Result<(), Fail> {
         }
         Err(_) => say(&rt, "out of memory"),
     }
-    Ok(())
 }
 
 #[test]
-fn moves_words_without_memory(rt: HostRuntime) -> Result<(), Fail> {
-    let (mut to, mut from) = ring(rt.alloc(), 2)?;
+fn moves_words_without_memory(rt: HostRuntime) {
+    let (mut to, mut from) = ring(rt.alloc(), 2).expect(&rt, "a ring");
     say(&rt, "call");
     same(&rt, to.put(Word::Open(0)), Ok(()), "to.put");
     same(&rt, to.put(Word::Done(0)), Ok(()), "to.put 2");
@@ -129,9 +125,8 @@ fn moves_words_without_memory(rt: HostRuntime) -> Result<(), Fail> {
     let mut row = [END; 1];
     same(&rt, from.take_some(&mut row), 1, "from.take_some");
     same(&rt, row, [Word::Done(0)], "row");
-    let mut rest = from.end(to.close()?);
+    let mut rest = from.end(to.close().expect(&rt, "a closed end"));
     same(&rt, rest.next(), Some(Word::Open(0)), "rest.next");
     same(&rt, rest.next(), None, "rest.next 2");
     say(&rt, "worked");
-    Ok(())
 }

@@ -146,31 +146,62 @@ const TWENTY: &[u8] = b"[4; 1, 1, 1, 1, 1, 1, 1, 1, 1, 1, 1, 1, 1, 1, 1, 1, 1, 1
 
 /// A whole report is flushed once. It goes out in blocks of 60 KiB and more, and a last one that is not empty.
 #[test]
-fn a_long_report_goes_out_in_blocks(rt: HostRuntime) -> Result<(), Fail> {
+fn a_long_report_goes_out_in_blocks(rt: HostRuntime) {
     let alloc = rt.alloc();
     let mut reader = Reader::new(TWENTY, None);
     let mut writer = Writer::new(alloc, Fails::Nothing);
     let answer = answer(&rt, alloc, false, &mut reader, &with_list(), &mut writer);
     let length = writer.taken.len() as u64;
-    assert!(rt; answer == Ok(length));
-    assert!(rt; 100_000 < length);
-    same(&rt, (writer.flushes, writer.empty), (1, 0), "");
-    assert!(rt; writer.writes <= length / 61_440 + 1);
-    Ok(())
+    same(&rt, answer, Ok(length), "the answer");
+    same(&rt, 100_000 < length, true, "a long report");
+    same(
+        &rt,
+        (writer.flushes, writer.empty),
+        (1, 0),
+        "flushes and empty writes",
+    );
+    same(
+        &rt,
+        writer.writes <= length / 61_440 + 1,
+        true,
+        "few writes",
+    );
 }
 
-/// After a write or a flush that failed the writer is not called again.
+/// After a write or a flush that failed, when so many bytes of the whole were taken, the writer is not called again.
+fn fails_once<R: Abort + Threads + Wait + Sync>(
+    rt: &R,
+    alloc: Global,
+    whole: &[u8],
+    fails: Fails,
+    taken: usize,
+    flushes: u64,
+) {
+    let mut reader = Reader::new(TWENTY, None);
+    let mut writer = Writer::new(alloc, fails);
+    let answer = answer(rt, alloc, false, &mut reader, &with_list(), &mut writer);
+    same(rt, answer, failed(taken as u64), taken);
+    same(rt, writer.taken.len(), taken, "bytes taken");
+    same(rt, whole.starts_with(&writer.taken), true, taken);
+    let calls = (writer.flushes, writer.after, writer.empty);
+    same(
+        rt,
+        calls,
+        (flushes, 0, 0),
+        "flushes, calls after the failure, empty writes",
+    );
+}
+
 #[test]
-fn a_failed_writer_is_not_asked_again(rt: HostRuntime) -> Result<(), Fail> {
+fn a_failed_writer_is_not_asked_again(rt: HostRuntime) {
     let alloc = rt.alloc();
     let mut reader = Reader::new(TWENTY, None);
-    let mut whole = Writer::new(alloc, Fails::Nothing);
-    let _count = answer(&rt, alloc, false, &mut reader, &with_list(), &mut whole).expect(
-        &rt, "a report",
-    );
-    let length = whole.taken.len();
-    assert!(rt; 100_000 < length);
-    for (fails, wanted, flushes) in [
+    let mut writer = Writer::new(alloc, Fails::Nothing);
+    let answer = answer(&rt, alloc, false, &mut reader, &with_list(), &mut writer);
+    same(&rt, answer.is_ok(), true, "a report");
+    let whole = writer.taken.as_slice();
+    same(&rt, 100_000 < whole.len(), true, "a long report");
+    for (fails, taken, flushes) in [
         (Fails::Write(0, None), 0, 0),
         (Fails::Write(1, Some(ErrorKind::Interrupted)), 1, 0),
         (Fails::Write(61_440, None), 61_440, 0),
@@ -180,58 +211,39 @@ fn a_failed_writer_is_not_asked_again(rt: HostRuntime) -> Result<(), Fail> {
             0,
         ),
         (Fails::Write(100_000, Some(ErrorKind::Other)), 100_000, 0),
-        (Fails::Flush, length, 1),
+        (Fails::Flush, whole.len(), 1),
     ] {
-        assert!(rt; wanted <= length);
-        let mut reader = Reader::new(TWENTY, None);
-        let mut writer = Writer::new(alloc, fails);
-        let answer = answer(&rt, alloc, false, &mut reader, &with_list(), &mut writer);
-        let fault = RunFault {
-            cause: Cause::Write,
-            written: wanted as u64,
-        };
-        assert!(rt; answer == Err(fault), "{wanted}");
-        assert!(rt;
-            writer.taken.as_slice() == &whole.taken[..wanted],
-            "{wanted}"
-        );
-        same(&rt, (writer.flushes, writer.after), (flushes, 0), wanted);
-        same(&rt, writer.empty, 0, wanted);
+        fails_once(&rt, alloc, whole, fails, taken, flushes);
     }
-    Ok(())
 }
 
-/// A tally writes its short report at once, and is no more patient.
+/// A tally writes the same report, whatever the greatest number is, at once, and is no more patient.
 #[test]
-fn a_tally_asks_its_writer_once(rt: HostRuntime) -> Result<(), Fail> {
+fn a_tally_asks_its_writer_once(rt: HostRuntime) {
     let alloc = rt.alloc();
-    for (fails, wanted, flushes) in [
-        (Fails::Nothing, 158, 1),
-        (Fails::Write(0, Some(ErrorKind::Interrupted)), 0, 0),
-        (Fails::Flush, 158, 1),
+    for (fails, wanted, flushes, taken) in [
+        (Fails::Nothing, Ok(158), 1, BOARD_REPORT),
+        (
+            Fails::Write(0, Some(ErrorKind::Interrupted)),
+            failed(0),
+            0,
+            b"".as_slice(),
+        ),
+        (Fails::Flush, failed(158), 1, BOARD_REPORT),
     ] {
         let mut reader = Reader::new(BOARD, None);
         let mut writer = Writer::new(alloc, fails);
-        let answer = answer(&rt, alloc, true, &mut reader, &plain(), &mut writer);
-        let fault = RunFault {
-            cause: Cause::Write,
-            written: wanted,
-        };
-        let wanted = if fails == Fails::Nothing {
-            Ok(wanted)
-        } else {
-            Err(fault)
-        };
-        assert!(rt; answer == wanted, "{flushes}");
+        let answer = answer(&rt, alloc, true, &mut reader, &most(1), &mut writer);
+        same(&rt, answer, wanted, flushes);
+        same(&rt, writer.taken.as_slice(), taken, flushes);
         same(&rt, (writer.writes, writer.empty), (1, 0), flushes);
         same(&rt, (writer.flushes, writer.after), (flushes, 0), flushes);
     }
-    Ok(())
 }
 
 /// A reader that fails once, and would then give the rest, is not asked again, and nobody calls the writer.
 #[test]
-fn a_failed_reader_is_not_asked_again(rt: HostRuntime) -> Result<(), Fail> {
+fn a_failed_reader_is_not_asked_again(rt: HostRuntime) {
     let alloc = rt.alloc();
     for tallies in [false, true] {
         for number in 0..3 {
@@ -242,19 +254,18 @@ fn a_failed_reader_is_not_asked_again(rt: HostRuntime) -> Result<(), Fail> {
                 cause: Cause::Game(GameFault::Read),
                 written: 0,
             };
-            assert!(rt; answer == Err(fault), "{number}");
+            same(&rt, answer, Err(fault), number);
             same(&rt, reader.after, 0, number);
             same(&rt, (writer.writes, writer.flushes), (0, 0), number);
         }
     }
-    Ok(())
 }
 
 const BROKEN: &[u8] = b"[51; 50";
 
 /// After a refusal nobody calls the writer, neither to write nor to flush.
 #[test]
-fn a_refusal_calls_no_writer(rt: HostRuntime) -> Result<(), Fail> {
+fn a_refusal_calls_no_writer(rt: HostRuntime) {
     let alloc = rt.alloc();
     for (file, tallies, cause) in [
         (FIVE, false, Cause::Gather(GatherFault::TooMany)),
@@ -264,8 +275,12 @@ fn a_refusal_calls_no_writer(rt: HostRuntime) -> Result<(), Fail> {
         let mut reader = Reader::new(file, None);
         let mut writer = Writer::new(alloc, Fails::Nothing);
         let answer = answer(&rt, alloc, tallies, &mut reader, &most(4), &mut writer);
-        assert!(rt; answer == Err(RunFault { cause, written: 0 }));
-        same(&rt, (writer.writes, writer.flushes), (0, 0), "");
+        same(&rt, answer, Err(RunFault { cause, written: 0 }), tallies);
+        same(
+            &rt,
+            (writer.writes, writer.flushes),
+            (0, 0),
+            "writes and flushes",
+        );
     }
-    Ok(())
 }

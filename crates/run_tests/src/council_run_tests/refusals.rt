@@ -1,8 +1,8 @@
 //! Whole runs. `tests/refusals.sh` refuses the allocations between the line `call` and the line of the
 //! answer, one after the other.
 use super::*;
+use crate::helpers::say;
 use std::io::Print;
-use std::process::Abort;
 
 const TWO_RULES: &[u8] =
     b"title = \"Two\"\nquotas = [5, 3]\nmember = [{name = \"A\", weights = [3, 1]}, {name = \"B\", weights = [2, 1]}, {name = \"C\", weights = [2, 1]}, {name = \"D\", weights = [1, 1]}]";
@@ -10,14 +10,45 @@ const TWO_RULES: &[u8] =
 const TWO_RULES_REPORT: &[u8] =
     b"title\tTwo\nmembers\t4\nquota\t5/3\ntotal\t8/4\nminimal\t4\ncoalition\t3\t7/3\tA\tB\tC\ncoalition\t3\t6/3\tA\tB\tD\ncoalition\t3\t6/3\tA\tC\tD\ncoalition\t3\t5/3\tB\tC\tD\nsize\t3\t4\t3\t3\t3\t3\nmember\tA\t3/1\t3\t1/4\t0.250000\t1/4\t0.250000\nmember\tB\t2/1\t3\t1/4\t0.250000\t1/4\t0.250000\nmember\tC\t2/1\t3\t1/4\t0.250000\t1/4\t0.250000\nmember\tD\t1/1\t3\t1/4\t0.250000\t1/4\t0.250000\n";
 
-/// Runs on the file, or tallies it, and tells its answer: the report, or a refusal before the first byte.
+/// Where a run that was refused something found no room.
+fn place_of(cause: Cause) -> &'static str {
+    match cause {
+        Cause::Game(GameFault::Memory) => "no memory for the game",
+        Cause::Gather(GatherFault::Memory) => "no memory to gather",
+        Cause::Gather(GatherFault::Start) => "not started",
+        Cause::Memory => "out of memory",
+        _ => "another answer",
+    }
+}
+
+/// Tells an answer: the report, or a refusal before the first byte.
+fn tells<R: Abort + Print>(
+    rt: &R,
+    answer: Result<u64, RunFault>,
+    length: usize,
+    writer: &Awaiting<'_>,
+) {
+    match answer {
+        Ok(count) => {
+            say(rt, "worked");
+            same(rt, count, length as u64, "count");
+            assert!(rt; writer.awaited.is_empty() && !writer.differs);
+        }
+        Err(fault) => {
+            say(rt, place_of(fault.cause));
+            same(rt, (fault.written, writer.calls), (0, 0), "bytes and calls");
+        }
+    }
+}
+
+/// Runs on the file, or tallies it, and tells its answer.
 fn runs<R: Abort + Print + Threads + Wait + Sync>(
     rt: &R,
     alloc: Global,
     file: &[u8],
     report: &[u8],
     is_tally: bool,
-) -> Result<(), Fail> {
+) {
     let mut reader = file;
     let options = listing();
     let mut writer = Awaiting {
@@ -26,50 +57,23 @@ fn runs<R: Abort + Print + Threads + Wait + Sync>(
         calls: 0,
         part: None,
     };
-    rt.println("call")?;
+    say(rt, "call");
     let answer = if is_tally {
         tally(rt, alloc, &mut reader, &options, &NoWatch, &mut writer)
     } else {
         run(rt, alloc, &mut reader, &options, &NoGate, &mut writer)
     };
-    match answer {
-        Ok(count) => {
-            rt.println("worked")?;
-            same(&rt, count, report.len() as u64, "count");
-            assert!(rt; writer.awaited.is_empty() && !writer.differs);
-        }
-        Err(
-            RunFault {
-                cause: Cause::Gather(GatherFault::Start),
-                written,
-            },
-        ) => {
-            rt.println("not started")?;
-            same(&rt, written, 0, "written");
-            same(&rt, writer.calls, 0, "writer.calls");
-        }
-        Err(RunFault { cause, written }) => {
-            rt.println(match cause {
-                Cause::Game(GameFault::Memory) => "no memory for the game",
-                Cause::Gather(GatherFault::Memory) => "no memory to gather",
-                Cause::Memory => "out of memory",
-                _ => "another answer",
-            })?;
-            same(&rt, written, 0, "written 2");
-            same(&rt, writer.calls, 0, "writer.calls 2");
-        }
-    }
-    Ok(())
+    tells(rt, answer, report.len(), &writer);
 }
 
 #[test]
-fn runs_on_brackets(rt: HostRuntime) -> Result<(), Fail> {
-    runs(&rt, rt.alloc(), FIVE, FIVE_REPORT, false)
+fn runs_on_brackets(rt: HostRuntime) {
+    runs(&rt, rt.alloc(), FIVE, FIVE_REPORT, false);
 }
 
 #[test]
-fn runs_on_toml(rt: HostRuntime) -> Result<(), Fail> {
-    runs(&rt, rt.alloc(), TWO_RULES, TWO_RULES_REPORT, false)
+fn runs_on_toml(rt: HostRuntime) {
+    runs(&rt, rt.alloc(), TWO_RULES, TWO_RULES_REPORT, false);
 }
 
 /// The report of a tally of two rules of heads and weights.
@@ -77,8 +81,8 @@ const TWO_RULES_TALLY: &[u8] =
     b"title\tTwo\nmembers\t4\nquota\t5/3\ntotal\t8/4\nminimal\t4\nsize\t3\t4\t3\t3\t3\t3\nmember\tA\t3/1\t3\t1/4\t0.250000\t1/4\t0.250000\nmember\tB\t2/1\t3\t1/4\t0.250000\t1/4\t0.250000\nmember\tC\t2/1\t3\t1/4\t0.250000\t1/4\t0.250000\nmember\tD\t1/1\t3\t1/4\t0.250000\t1/4\t0.250000\n";
 
 #[test]
-fn tallies_by_sums(rt: HostRuntime) -> Result<(), Fail> {
-    runs(&rt, rt.alloc(), TWO_RULES, TWO_RULES_TALLY, true)
+fn tallies_by_sums(rt: HostRuntime) {
+    runs(&rt, rt.alloc(), TWO_RULES, TWO_RULES_TALLY, true);
 }
 
 /// Three rules, which sums do not take: threads count.
@@ -89,6 +93,6 @@ const THREE_RULES_TALLY: &[u8] =
     b"members\t2\nquota\t2/1/1\ntotal\t2/1/1\nminimal\t1\nsize\t2\t1\t1\t1\nmember\tA\t1/1/0\t1\t1/2\t0.500000\t1/2\t0.500000\nmember\tB\t1/0/1\t1\t1/2\t0.500000\t1/2\t0.500000\n";
 
 #[test]
-fn tallies_by_threads(rt: HostRuntime) -> Result<(), Fail> {
-    runs(&rt, rt.alloc(), THREE_RULES, THREE_RULES_TALLY, true)
+fn tallies_by_threads(rt: HostRuntime) {
+    runs(&rt, rt.alloc(), THREE_RULES, THREE_RULES_TALLY, true);
 }

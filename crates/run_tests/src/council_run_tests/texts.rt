@@ -5,11 +5,10 @@ use council_report::ReportFault;
 use mwc_pipe::{Refused, Unfinished};
 use mwc_tally::TallyFault;
 use std::fmt::Display;
-use std::process::Abort;
 
 /// What the program prints behind its name, as docs/FORMATS.md has it.
 #[test]
-fn texts(rt: HostRuntime) -> Result<(), Fail> {
+fn texts(rt: HostRuntime) {
     let rows = [
         (Cause::Game(GameFault::Read), "the game file cannot be read"),
         (
@@ -55,50 +54,40 @@ fn texts(rt: HostRuntime) -> Result<(), Fail> {
         (Cause::Stopped, "stopped"),
     ];
     for (cause, wanted) in rows {
-        let text = format!(in rt.alloc(); "{cause}")?;
-        same(&rt, text.as_str(), wanted, "text.as_str");
+        says(&rt, rt.alloc(), cause, wanted);
     }
-    Ok(())
 }
 
 /// The fault says so.
-fn says<T: Display + Drop>(
-    rt: &impl Abort,
-    alloc: Global,
-    fault: T,
-    wanted: &str,
-) -> Result<(), Fail> {
-    let text = format!(in alloc; "{fault}")?;
+fn says<T: Display + Drop>(rt: &impl Abort, alloc: Global, fault: T, wanted: &str) {
+    let text = format!(in alloc; "{fault}").expect(rt, "a text");
     same(rt, text.as_str(), wanted, "what a fault says");
-    Ok(())
 }
 
 /// What the faults of the crates below say to other callers.
 #[test]
-fn texts_below(rt: HostRuntime) -> Result<(), Fail> {
+fn texts_below(rt: HostRuntime) {
     let alloc = rt.alloc();
-    says(&rt, alloc, Memory, "out of memory")?;
+    says(&rt, alloc, Memory, "out of memory");
     for (fault, wanted) in [
         (Refused::Closed(1u8), "the pipe is closed"),
         (Refused::Full(1), "the pipe is full"),
         (Refused::Memory(1), "out of memory"),
     ] {
-        says(&rt, alloc, fault, wanted)?;
+        says(&rt, alloc, fault, wanted);
     }
-    says(&rt, alloc, TallyFault::Memory, "out of memory")?;
-    says(&rt, alloc, TallyFault::Stopped, "stopped")?;
-    says(
-        &rt,
-        alloc,
-        TallyFault::Start,
-        "a worker could not be started",
-    )?;
-    says(&rt, alloc, ReportFault::Memory, "out of memory")?;
-    says(
-        &rt,
-        alloc,
-        ReportFault::Write { written: 7 },
-        "output failed",
-    )?;
-    says(&rt, alloc, Unfinished, "a ring could not be finished")
+    for (fault, wanted) in [
+        (TallyFault::Memory, "out of memory"),
+        (TallyFault::Stopped, "stopped"),
+        (TallyFault::Start, "a worker could not be started"),
+    ] {
+        says(&rt, alloc, fault, wanted);
+    }
+    for (fault, wanted) in [
+        (ReportFault::Memory, "out of memory"),
+        (ReportFault::Write { written: 7 }, "output failed"),
+    ] {
+        says(&rt, alloc, fault, wanted);
+    }
+    says(&rt, alloc, Unfinished, "a ring could not be finished");
 }

@@ -53,7 +53,7 @@ impl Watch for Meeting {
 /// A tally has as many threads as the options say, here 16, and 256 slices though the options say 1: each slice
 /// is counted once.
 #[test]
-fn a_tally_has_its_threads_and_slices(rt: HostRuntime) -> Result<(), Fail> {
+fn a_tally_has_its_threads_and_slices(rt: HostRuntime) {
     let mut reader = THREE;
     let mut written = Vec::new(rt.alloc());
     let options = Options {
@@ -84,7 +84,6 @@ fn a_tally_has_its_threads_and_slices(rt: HostRuntime) -> Result<(), Fail> {
         meeting.missed.load(Ordering::SeqCst),
     );
     same(&rt, found, (256, 256, 0), "slices, those of 256, missed");
-    Ok(())
 }
 
 /// Stops a tally at once.
@@ -103,7 +102,7 @@ impl Watch for Never {
 /// A tally that threads count is stopped by its watch, and nothing is written; sums, also those of one worker, ask no
 /// watch.
 #[test]
-fn a_watch_stops_a_tally(rt: HostRuntime) -> Result<(), Fail> {
+fn a_watch_stops_a_tally(rt: HostRuntime) {
     let options = Options {
         workers: 1,
         bits: 6,
@@ -127,5 +126,4 @@ fn a_watch_stops_a_tally(rt: HostRuntime) -> Result<(), Fail> {
         same(&rt, answer, wanted, stopped);
         same(&rt, written.is_empty(), stopped, "nothing is written");
     }
-    Ok(())
 }
