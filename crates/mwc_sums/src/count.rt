@@ -1,13 +1,14 @@
 //! The counts of a game by sums.
 ghost use Rattle.coalitions.specs.declared.limits.TheConstants.{MEMBERS, TOTAL};
 ghost use Rattle.council_game.specs.Game.{votes_of};
-ghost use Rattle.council_game.specs.Votes.{minimal_coalitions, rule_at};
+ghost use Rattle.council_game.specs.Votes.{has, minimal_coalitions, rule_at};
 ghost use Rattle.mwc_sums.specs.Heads.{AsksForHeads, WeighsAllAlike};
 ghost use Rattle.mwc_sums.specs.Vetoers.{IsCountedBySums};
 ghost use Rattle.mwc_sums.specs.Inner.Rows.{AreAllEndings, IsOfNone, endings, left_out};
 ghost use Rattle.mwc_sums.specs.Inner.Asked.{IsAsked, IsAskedOfAll};
-ghost use Rattle.power_index.specs.Tables.{AreCounts, no_tally};
-ghost use Rattle.std.specs.Prelude.{◌≡◌, ℕ, ◌≤◌, ◌<◌, ◌↔◌, ◌⊎◌, IfOk, IfSome, IsSome, length, option_map, slice_index_or, sum, take};
+ghost use Rattle.power_index.specs.Tables.{AreCounts, IsTallyOf, no_tally};
+ghost use Rattle.power_index.specs.declared.tally.Tally.{Tally};
+ghost use Rattle.std.specs.Prelude.{◌≡◌, ℕ, ◌≤◌, ◌<◌, ◌↔◌, ◌⊎◌, true, IfOk, IfSome, IsSome, length, option_map, slice_index_or, sum, take};
 
 use crate::chamber::{are_of_chambers, count_chambers};
 use crate::choices::Heads;
@@ -83,22 +84,25 @@ fn total_of(weights: &[u64]) -> u64
     total
 }
 
-/// The tallies of the coalitions that members lead to: by sums where their rows have room, and else by halves.
-fn tallies(alloc: Global, weights: &[u64], quota: u64, heads: usize) -> Result<Tallies, Memory>
+/// The tallies of the coalitions that members lead to, on the heap: by sums where their rows have room, and else by halves.
+/// (By itself, so that what it takes of the stack is free again.)
+#[inline(never)]
+fn tallies(alloc: Global, weights: &[u64], quota: u64, heads: usize) -> Result<Box<Tallies>, Memory>
     requires few { length weights.now ≤ MEMBERS }
     requires light { sum weights.now ≤ TOTAL }
     requires some { 0 < quota }
     requires heads { heads ≤ MEMBERS }
     requires less { (p s : ℕ) → p < length weights.now → s ≤ MEMBERS →
         endings (left_out p weights.now) heads s quota 0 ≤ endings weights.now heads s quota 0 }
-    ensures { IfOk result (AreAllEndings weights.now heads quota) }
+    ensures { IfOk result (λ t. AreAllEndings weights.now heads quota t.value) }
 {
     let total = total_of(weights);
     let asked = Heads::new(alloc, heads)?;
     if let Some(tallies) = by_sums(alloc, weights, quota, total, &asked)? {
-        return Ok(tallies);
+        return Ok(Box::new(alloc, tallies)?);
     }
-    by_halves(alloc, weights, quota, heads)
+    let tallies = by_halves(alloc, weights, quota, heads)?;
+    Ok(Box::new(alloc, tallies)?)
 }
 
 /// Leaves the tallies up to a place as they are, and makes those behind it, up to another, tallies of no coalition.
@@ -115,28 +119,32 @@ fn clear_behind(each: &mut [Tally; limits::MEMBERS], places: usize, members: usi
     }
 }
 
-/// The counts of a game of which the first places have all weight, and which asks for so many of them besides its
-/// first rule.
-fn count_with_heads(
+/// The counts of a game, on the heap, from the tallies of all its minimal coalitions and of those with each of the first
+/// places; in no such coalition is a place behind these. (By itself, so that what it takes of the stack is free again.)
+#[inline(never)]
+fn boxed_counts(
     alloc: Global,
     game: &Game,
     places: usize,
-    heads: usize,
-) -> Result<Counts, Memory>
-    requires few { heads ≤ MEMBERS }
-    requires asked { IsAsked (votes_of game.now) places heads }
-    ensures { IfOk result (λ c. AreCounts game.now (minimal_coalitions (votes_of game.now)) c) }
+    tallies: Box<Tallies>,
+) -> Result<Box<Counts>, Memory>
+    requires places { places ≤ length game.now.names }
+    requires all { IsTallyOf (length game.now.names) (λ _. true) (minimal_coalitions (votes_of game.now)) tallies.value.all }
+    requires first { (p : ℕ) → p < places → IsTallyOf (length game.now.names) (has (length game.now.names) p)
+        (minimal_coalitions (votes_of game.now)) (slice_index_or tallies.value.each p no_tally) }
+    requires last { (t : Tally) (p : ℕ) → IsOfNone t → places ≤ p → p < length game.now.names →
+        IsTallyOf (length game.now.names) (has (length game.now.names) p) (minimal_coalitions (votes_of game.now)) t }
+    ensures { IfOk result (λ c. AreCounts game.now (minimal_coalitions (votes_of game.now)) c.value) }
 {
     let members = game.members();
-    let quota = game.rule_quota(0);
-    let weights = ranked_weights(alloc, game, places)?;
-    let mut tallies = tallies(alloc, &weights, quota, heads)?;
+    let mut tallies = Box::into_inner(tallies);
     clear_behind(&mut tallies.each, places, members);
-    Ok(Counts::of_tallies(game, tallies.all, tallies.each))
+    let counts = Counts::of_tallies(game, tallies.all, tallies.each);
+    Ok(Box::new(alloc, counts)?)
 }
 
-/// The same on the heap. (By itself, so that what it takes of the stack is free again.)
-#[inline(never)]
+/// The counts, on the heap, of a game of which the first places have all weight, and which asks for so many of them
+/// besides its first rule.
 pub(crate) fn boxed_with_heads(
     alloc: Global,
     game: &Game,
@@ -147,8 +155,11 @@ pub(crate) fn boxed_with_heads(
     requires asked { IsAsked (votes_of game.now) places heads }
     ensures { IfOk result (λ c. AreCounts game.now (minimal_coalitions (votes_of game.now)) c.value) }
 {
-    let counts = count_with_heads(alloc, game, places, heads)?;
-    Ok(Box::new(alloc, counts)?)
+    let _members = game.members();
+    let quota = game.rule_quota(0);
+    let weights = ranked_weights(alloc, game, places)?;
+    let tallies = tallies(alloc, &weights, quota, heads)?;
+    boxed_counts(alloc, game, places, tallies)
 }
 
 /// The counts of a game of one rule, or of a second one too that asks for so many members.
