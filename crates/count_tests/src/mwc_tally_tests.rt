@@ -3,28 +3,45 @@ mod pieces;
 mod refusals;
 mod stops;
 
+ghost use Rattle.std.specs.Prelude.{◌≡◌, length};
+
 use crate::helpers::same;
-use council_game::{Game, GameFault};
+use council_game::Game;
 use mwc_tally::{NoWatch, Watch, tally, tally_slice};
 use power_index::Counts;
 use std::alloc::Global;
 use std::process::Abort;
 use std::sync::atomic::{AtomicU64, Ordering};
-use std::test::Fail;
 use std::{hint, thread};
 
 /// A game of members named 0, 1, ..
-fn game(alloc: Global, quota: u64, weights: &[u64]) -> Result<Game, GameFault> {
+fn game(rt: &impl Abort, alloc: Global, quota: u64, weights: &[u64]) -> Game {
     let mut names = Vec::new(alloc);
-    let mut own = Vec::new(alloc);
-    for (i, weight) in weights.iter().enumerate() {
-        names.push(format!(in alloc; "{i}")?)?;
-        own.push(*weight)?;
+    for member in 0..weights.len() {
+        let name = format!(in alloc; "{member}").expect(rt, "a name");
+        names.push(name).expect(rt, "room");
     }
-    if own.len() != names.len() {
-        return Err(GameFault::Members);
-    }
-    Game::new(alloc, None, names, own, quota)
+    let weights = weights.to_vec(alloc).expect(rt, "weights");
+    assert!(rt; weights.len() == names.len());
+    Game::new(alloc, None, names, weights, quota).expect(rt, "a game")
+}
+
+/// The game [51; 35, 20, 15, 15, 15].
+fn five(rt: &impl Abort, alloc: Global) -> Game
+    ensures { length result.names ≡ 5 }
+{
+    let game = game(rt, alloc, 51, &[35, 20, 15, 15, 15]);
+    assert!(rt; game.members() == 5);
+    game
+}
+
+/// A game of forty members of one vote each.
+fn forty(rt: &impl Abort, alloc: Global, quota: u64) -> Game
+    ensures { length result.names ≡ 40 }
+{
+    let game = game(rt, alloc, quota, &[1; 40]);
+    assert!(rt; game.members() == 40);
+    game
 }
 
 /// How many slices were counted.
@@ -57,13 +74,14 @@ fn assert_of_five(rt: &impl Abort, counts: &Counts) {
 }
 
 #[test]
-fn five_members_by_any_threads_and_bits(rt: HostRuntime) -> Result<(), Fail> {
-    let game = game(rt.alloc(), 51, &[35, 20, 15, 15, 15])?;
-    assert!(rt; game.members() == 5);
+fn five_members_by_any_threads_and_bits(rt: HostRuntime) {
+    let game = five(&rt, rt.alloc());
     for bits in 0..6u8 {
         for workers in [1, 2, 4, 16] {
             let counted = Counted(AtomicU64::new(0));
-            let counts = tally(&rt, rt.alloc(), &game, bits, workers, &counted)?;
+            let counts = tally(&rt, rt.alloc(), &game, bits, workers, &counted).expect(
+                &rt, "counts",
+            );
             assert_of_five(&rt, &counts);
             same(
                 &rt,
@@ -73,26 +91,22 @@ fn five_members_by_any_threads_and_bits(rt: HostRuntime) -> Result<(), Fail> {
             );
         }
     }
-    Ok(())
 }
 
 #[test]
-fn one_slice(rt: HostRuntime) -> Result<(), Fail> {
-    let game = game(rt.alloc(), 51, &[35, 20, 15, 15, 15])?;
-    assert!(rt; game.members() == 5);
+fn one_slice(rt: HostRuntime) {
+    let game = five(&rt, rt.alloc());
     let counts = tally_slice(&game, 2, 1);
     assert!(rt; counts.members() == 5);
     same(&rt, counts.wide_total(), 3, "counts.total");
     same(&rt, counts.wide_of_member(0), 3, "counts.of_member");
     same(&rt, counts.wide_of_member(1), 0, "counts.of_member 2");
-    Ok(())
 }
 
 #[test]
-fn five_of_forty_win(rt: HostRuntime) -> Result<(), Fail> {
-    let game = game(rt.alloc(), 5, &[1; 40])?;
-    assert!(rt; game.members() == 40);
-    let counts = tally(&rt, rt.alloc(), &game, 6, 4, &NoWatch)?;
+fn five_of_forty_win(rt: HostRuntime) {
+    let game = forty(&rt, rt.alloc(), 5);
+    let counts = tally(&rt, rt.alloc(), &game, 6, 4, &NoWatch).expect(&rt, "counts");
     assert!(rt; counts.members() == 40);
     same(&rt, counts.wide_total(), 658_008, "counts.total");
     for member in 0..40 {
@@ -103,7 +117,6 @@ fn five_of_forty_win(rt: HostRuntime) -> Result<(), Fail> {
             "counts.of_member",
         );
     }
-    Ok(())
 }
 
 /// Which of 32 slices were counted, a binary digit for each, how often one was counted again, and how many came in
@@ -132,9 +145,8 @@ impl Watch for Once {
 /// The threads count each slice, and none twice: nothing is left to be counted anew at the end. One thread takes the
 /// last slice first.
 #[test]
-fn each_slice_is_counted_once(rt: HostRuntime) -> Result<(), Fail> {
-    let game = game(rt.alloc(), 51, &[35, 20, 15, 15, 15])?;
-    assert!(rt; game.members() == 5);
+fn each_slice_is_counted_once(rt: HostRuntime) {
+    let game = five(&rt, rt.alloc());
     for workers in 1..17u8 {
         let once = Once {
             seen: AtomicU64::new(0),
@@ -142,7 +154,7 @@ fn each_slice_is_counted_once(rt: HostRuntime) -> Result<(), Fail> {
             came: AtomicU64::new(0),
             descending: AtomicU64::new(0),
         };
-        let counts = tally(&rt, rt.alloc(), &game, 5, workers, &once)?;
+        let counts = tally(&rt, rt.alloc(), &game, 5, workers, &once).expect(&rt, "counts");
         assert_of_five(&rt, &counts);
         let all: u64 = (1 << 32) - 1;
         same(
@@ -160,7 +172,6 @@ fn each_slice_is_counted_once(rt: HostRuntime) -> Result<(), Fail> {
         let descending = once.descending.load(Ordering::SeqCst);
         same(&rt, workers > 1 || descending == 32, true, workers);
     }
-    Ok(())
 }
 
 /// Holds the threads that counted the first slices until so many are counted, for so many turns at most.
@@ -211,12 +222,11 @@ impl Watch for Holding {
 /// A slice that nobody took yet goes to whichever thread is free: a fixed deal of slices fails. And as many
 /// threads count as were asked for: each of 16 holds its first slice until all are there.
 #[test]
-fn a_held_thread_holds_no_slice(rt: HostRuntime) -> Result<(), Fail> {
-    let game = game(rt.alloc(), 51, &[35, 20, 15, 15, 15])?;
-    assert!(rt; game.members() == 5);
+fn a_held_thread_holds_no_slice(rt: HostRuntime) {
+    let game = five(&rt, rt.alloc());
     for (workers, held, until) in [(2, 1, 32), (16, 16, 16)] {
         let holding = Holding::new(held, until);
-        let counts = tally(&rt, rt.alloc(), &game, 5, workers, &holding)?;
+        let counts = tally(&rt, rt.alloc(), &game, 5, workers, &holding).expect(&rt, "counts");
         assert_of_five(&rt, &counts);
         let found = (
             holding.done.load(Ordering::SeqCst),
@@ -224,7 +234,6 @@ fn a_held_thread_holds_no_slice(rt: HostRuntime) -> Result<(), Fail> {
         );
         same(&rt, found, (32, 0), workers);
     }
-    Ok(())
 }
 
 /// How many coalitions were told of, and how often of two slices.
@@ -247,19 +256,17 @@ impl Watch for Met {
 /// While a slice of 3,262,623 coalitions is counted, three times 1,048,576 of them are told of, and then the
 /// 116,895 that are left; and at the end of the other slice its 575,757.
 #[test]
-fn is_told_of_coalitions_meanwhile(rt: HostRuntime) -> Result<(), Fail> {
-    let game = game(rt.alloc(), 6, &[1; 40])?;
-    assert!(rt; game.members() == 40);
+fn is_told_of_coalitions_meanwhile(rt: HostRuntime) {
+    let game = forty(&rt, rt.alloc(), 6);
     let met = Met {
         coalitions: AtomicU64::new(0),
         times: AtomicU64::new(0),
     };
-    let counts = tally(&rt, rt.alloc(), &game, 1, 1, &met)?;
+    let counts = tally(&rt, rt.alloc(), &game, 1, 1, &met).expect(&rt, "counts");
     let found = (
         counts.wide_total(),
         met.coalitions.load(Ordering::SeqCst),
         met.times.load(Ordering::SeqCst),
     );
     same(&rt, found, (3_838_380, 3_838_380, 5), "coalitions");
-    Ok(())
 }

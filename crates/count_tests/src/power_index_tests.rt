@@ -3,7 +3,7 @@ mod index;
 mod refusals;
 mod wide;
 
-ghost use Rattle.std.specs.Prelude.{◌<◌, ◌≤◌, ◌^◌, IfOk, length};
+ghost use Rattle.std.specs.Prelude.{◌<◌, ◌≤◌, ◌^◌, length};
 ghost use Rattle.council_game.specs.Game.{AreNonemptyCoalitions};
 ghost use Rattle.power_index.specs.Fractions.{IsIndex, pair_of};
 
@@ -13,28 +13,27 @@ use power_index::laws::minimal_coalitions_can_be_counted;
 use power_index::{Counts, Fraction, deegan_packel, lowest, public_good};
 use std::alloc::Global;
 use std::process::Abort;
-use std::test::Fail;
 
 /// Names A, B, C, .. for so many members, at most 52.
-fn letters(alloc: Global, count: usize) -> Result<Vec<String>, Fail> {
+fn letters(rt: &impl Abort, alloc: Global, count: usize) -> Vec<String> {
     let mut names = Vec::new(alloc);
     for letter in "ABCDEFGHIJKLMNOPQRSTUVWXYZabcdefghijklmnopqrstuvwxyz"
         .chars()
         .take(count)
     {
         let mut name = String::new(alloc);
-        name.push(letter)?;
-        names.push(name)?;
+        name.push(letter).expect(rt, "room");
+        names.push(name).expect(rt, "room");
     }
-    Ok(names)
+    names
 }
 
 /// The game of these weights.
-fn game(rt: &impl Abort, alloc: Global, quota: u64, weights: &[u64]) -> Result<Game, Fail> {
-    let names = letters(alloc, weights.len())?;
-    let weights = weights.to_vec(alloc)?;
+fn game(rt: &impl Abort, alloc: Global, quota: u64, weights: &[u64]) -> Game {
+    let names = letters(rt, alloc, weights.len());
+    let weights = weights.to_vec(alloc).expect(rt, "weights");
     assert!(rt; names.len() == weights.len());
-    Ok(Game::new(alloc, None, names, weights, quota)?)
+    Game::new(alloc, None, names, weights, quota).expect(rt, "a game")
 }
 
 /// The coalition of a game that this mask gives.
@@ -47,44 +46,34 @@ fn coalition(rt: &impl Abort, game: &Game, mask: u64) -> Coalition
 }
 
 /// The coalitions of a game that these masks give.
-fn coalitions(
-    rt: &impl Abort,
-    alloc: Global,
-    game: &Game,
-    masks: &[u64],
-) -> Result<Vec<Coalition>, Fail>
-    ensures coalitions { IfOk result (λ v. AreNonemptyCoalitions game.now v.items) }
-    ensures length { IfOk result (λ v. length v.items ≤ 1000) }
+fn coalitions(rt: &impl Abort, alloc: Global, game: &Game, masks: &[u64]) -> Vec<Coalition>
+    ensures coalitions { AreNonemptyCoalitions game.now result.items }
+    ensures length { length result.items ≤ 1000 }
 {
     let mut list = Vec::new(alloc);
     for mask in masks {
-        list.push(coalition(rt, game, *mask))?;
+        list.push(coalition(rt, game, *mask)).expect(rt, "room");
     }
     assert!(rt; list.len() <= 1000);
-    Ok(list)
+    list
 }
 
 /// The counts of all minimal winning coalitions of a small game.
-fn counts(rt: &impl Abort, alloc: Global, quota: u64, weights: &[u64]) -> Result<Counts, Fail> {
-    let game = game(rt, alloc, quota, weights)?;
+fn counts(rt: &impl Abort, alloc: Global, quota: u64, weights: &[u64]) -> Counts {
+    let game = game(rt, alloc, quota, weights);
     assert!(rt; game.members() <= 20);
-    let list = plain_list(alloc, &game)?;
+    let list = plain_list(alloc, &game).expect(rt, "a list");
     minimal_coalitions_can_be_counted();
     assert!(rt; list.len() <= 4_000_000);
-    Ok(Counts::of(&game, &list))
+    Counts::of(&game, &list)
 }
 
 /// The counts of these coalitions of a game of 40 members of weight 1.
-fn counts_of_forty(
-    rt: &impl Abort,
-    alloc: Global,
-    quota: u64,
-    masks: &[u64],
-) -> Result<Counts, Fail> {
-    let game = game(rt, alloc, quota, &[1; 40])?;
-    let list = coalitions(rt, alloc, &game, masks)?;
+fn counts_of_forty(rt: &impl Abort, alloc: Global, quota: u64, masks: &[u64]) -> Counts {
+    let game = game(rt, alloc, quota, &[1; 40]);
+    let list = coalitions(rt, alloc, &game, masks);
     assert!(rt; 1 <= list.len());
-    Ok(Counts::of(&game, &list))
+    Counts::of(&game, &list)
 }
 
 /// An index as it is printed: top, bottom and decimals.
@@ -174,8 +163,8 @@ fn check_sizes(rt: &impl Abort, counts: &Counts, rows: &[(usize, u32, [u32; 5])]
 }
 
 #[test]
-fn counts_of_five_members(rt: HostRuntime) -> Result<(), Fail> {
-    let counts = counts(&rt, rt.alloc(), 51, &FIVE)?;
+fn counts_of_five_members(rt: HostRuntime) {
+    let counts = counts(&rt, rt.alloc(), 51, &FIVE);
     let rows = [
         (0, 0, [0, 0, 0, 0, 0]),
         (1, 0, [0, 0, 0, 0, 0]),
@@ -186,57 +175,76 @@ fn counts_of_five_members(rt: HostRuntime) -> Result<(), Fail> {
     ];
     check_sizes(&rt, &counts, &rows);
     check(&rt, &counts, 5, &[], &MEMBERS);
-    Ok(())
 }
 
-#[test]
-fn indices_of_three_members(rt: HostRuntime) -> Result<(), Fail> {
-    let counts = counts(&rt, rt.alloc(), 51, &[50, 49, 1])?;
-    check(
-        &rt,
-        &counts,
+/// A quota and weights, the number of coalitions, those of some sizes, and the members.
+type Worked = (
+    u64,
+    &'static [u64],
+    u32,
+    &'static [(usize, u32)],
+    &'static [Members],
+);
+
+/// The board in two orders of the file, and where all three are needed; the six of 1958, of whom one is a dummy; one member; and
+/// a member of weight 0.
+const WORKED: [Worked; 6] = [
+    (
+        51,
+        &[50, 49, 1],
         2,
         &[],
         &[(0, 1, 2, HALF, HALF), (1, 3, 1, QUARTER, QUARTER)],
-    );
-    Ok(())
+    ),
+    (
+        51,
+        &[1, 50, 49],
+        2,
+        &[],
+        &[
+            (0, 1, 1, QUARTER, QUARTER),
+            (1, 2, 2, HALF, HALF),
+            (2, 3, 1, QUARTER, QUARTER),
+        ],
+    ),
+    (100, &[50, 49, 1], 1, &[], &[(0, 3, 1, THIRD, THIRD)]),
+    (
+        12,
+        &[4, 4, 4, 2, 2, 1],
+        4,
+        &[],
+        &[
+            (0, 3, 3, (5, 24, *b"0.208333"), FIFTH),
+            (3, 5, 3, (3, 16, *b"0.187500"), FIFTH),
+            (5, 6, 0, NONE, NONE),
+        ],
+    ),
+    (1, &[1], 1, &[(1, 1)], &[(0, 1, 1, ALL, ALL)]),
+    (
+        1,
+        &[1, 0, 1],
+        2,
+        &[(1, 2)],
+        &[
+            (0, 1, 1, HALF, HALF),
+            (1, 2, 0, NONE, NONE),
+            (2, 3, 1, HALF, HALF),
+        ],
+    ),
+];
+
+#[test]
+fn indices_of_worked_games(rt: HostRuntime) {
+    for (quota, weights, total, sizes, members) in &WORKED {
+        let counts = counts(&rt, rt.alloc(), *quota, weights);
+        check(&rt, &counts, *total, sizes, members);
+    }
 }
 
 #[test]
-fn members_are_counted_by_their_place_in_the_file(rt: HostRuntime) -> Result<(), Fail> {
-    let counts = counts(&rt, rt.alloc(), 51, &[1, 50, 49])?;
-    let rows = [
-        (0, 1, 1, QUARTER, QUARTER),
-        (1, 2, 2, HALF, HALF),
-        (2, 3, 1, QUARTER, QUARTER),
-    ];
-    check(&rt, &counts, 2, &[], &rows);
-    Ok(())
-}
-
-#[test]
-fn all_three_members_are_needed(rt: HostRuntime) -> Result<(), Fail> {
-    let counts = counts(&rt, rt.alloc(), 100, &[50, 49, 1])?;
-    check(&rt, &counts, 1, &[], &[(0, 3, 1, THIRD, THIRD)]);
-    Ok(())
-}
-
-#[test]
-fn the_six_of_1958_have_a_dummy(rt: HostRuntime) -> Result<(), Fail> {
-    let counts = counts(&rt, rt.alloc(), 12, &[4, 4, 4, 2, 2, 1])?;
-    let rows = [
-        (0, 3, 3, (5, 24, *b"0.208333"), FIFTH),
-        (3, 5, 3, (3, 16, *b"0.187500"), FIFTH),
-        (5, 6, 0, NONE, NONE),
-    ];
-    check(&rt, &counts, 4, &[], &rows);
-    Ok(())
-}
-
-#[test]
-fn indices_of_the_security_council(rt: HostRuntime) -> Result<(), Fail> {
+fn indices_of_the_security_council(rt: HostRuntime) {
     let weights = [7, 7, 7, 7, 7, 1, 1, 1, 1, 1, 1, 1, 1, 1, 1];
-    let counts = counts(&rt, rt.alloc(), 39, &weights)?;
+    let counts = counts(&rt, rt.alloc(), 39, &weights);
     let (permanent, elected) = ((1, 9, *b"0.111111"), (2, 45, *b"0.044444"));
     let rows = [
         (0, 5, 210, permanent, permanent),
@@ -248,31 +256,11 @@ fn indices_of_the_security_council(rt: HostRuntime) -> Result<(), Fail> {
         let found = counts.of_member_size(member, 9);
         same(&rt, (member, found), (member, wanted), "coalitions of nine");
     }
-    Ok(())
 }
 
 #[test]
-fn one_member_has_all(rt: HostRuntime) -> Result<(), Fail> {
-    let counts = counts(&rt, rt.alloc(), 1, &[1])?;
-    check(&rt, &counts, 1, &[(1, 1)], &[(0, 1, 1, ALL, ALL)]);
-    Ok(())
-}
-
-#[test]
-fn a_weight_of_0_is_a_dummy(rt: HostRuntime) -> Result<(), Fail> {
-    let counts = counts(&rt, rt.alloc(), 1, &[1, 0, 1])?;
-    let rows = [
-        (0, 1, 1, HALF, HALF),
-        (1, 2, 0, NONE, NONE),
-        (2, 3, 1, HALF, HALF),
-    ];
-    check(&rt, &counts, 2, &[(1, 2)], &rows);
-    Ok(())
-}
-
-#[test]
-fn all_forty_members_are_needed(rt: HostRuntime) -> Result<(), Fail> {
-    let counts = counts_of_forty(&rt, rt.alloc(), 40, &[1_099_511_627_775])?;
+fn all_forty_members_are_needed(rt: HostRuntime) {
+    let counts = counts_of_forty(&rt, rt.alloc(), 40, &[1_099_511_627_775]);
     check(
         &rt,
         &counts,
@@ -280,18 +268,19 @@ fn all_forty_members_are_needed(rt: HostRuntime) -> Result<(), Fail> {
         &[(40, 1)],
         &[(0, 40, 1, FORTIETH, FORTIETH)],
     );
-    Ok(())
 }
 
 #[test]
-fn any_two_of_forty_win(rt: HostRuntime) -> Result<(), Fail> {
+fn any_two_of_forty_win(rt: HostRuntime) {
     let mut masks = Vec::new(rt.alloc());
     for high in 0..40u32 {
         for low in 0..high {
-            masks.push((1u64 << high) | (1u64 << low))?;
+            masks
+                .push((1u64 << high) | (1u64 << low))
+                .expect(&rt, "room");
         }
     }
-    let counts = counts_of_forty(&rt, rt.alloc(), 2, &masks)?;
+    let counts = counts_of_forty(&rt, rt.alloc(), 2, &masks);
     check(
         &rt,
         &counts,
@@ -299,7 +288,6 @@ fn any_two_of_forty_win(rt: HostRuntime) -> Result<(), Fail> {
         &[(2, 780)],
         &[(0, 40, 39, FORTIETH, FORTIETH)],
     );
-    Ok(())
 }
 
 #[test]

@@ -5,11 +5,10 @@ mod text;
 
 use crate::helpers::same;
 use council_file::{parse_game, read_game, write_notation};
-use council_game::{Game, GameFault, Memory};
-use std::alloc::{AllocError, Global};
+use council_game::{Game, GameFault};
+use std::alloc::Global;
 use std::io::{self, ErrorKind};
 use std::process::Abort;
-use std::test::Fail;
 
 const BOARD: &str = "quota = 51
 [[member]]
@@ -24,50 +23,48 @@ weight = 1
 ";
 
 /// The names of a game's members, each with a blank behind it.
-fn put_names(game: &Game, text: &mut Vec<u8>) -> Result<(), AllocError> {
+fn put_names(rt: &impl Abort, game: &Game, text: &mut Vec<u8>) {
     for i in 0..game.members() {
-        text.extend_from_slice(game.name(i).as_bytes())?;
-        text.push(b' ')?;
+        text.extend_from_slice(game.name(i).as_bytes())
+            .expect(rt, "room");
+        text.push(b' ').expect(rt, "room");
     }
-    Ok(())
 }
 
 /// The notation of each rule, with a blank between each two.
-fn put_rules(game: &Game, text: &mut Vec<u8>) -> Result<(), Memory> {
+fn put_rules(rt: &impl Abort, game: &Game, text: &mut Vec<u8>) {
     for r in 0..game.rules() {
         if 0 < r {
-            text.push(b' ')?;
+            text.push(b' ').expect(rt, "room");
         }
-        write_notation(game, r, text)?;
+        write_notation(game, r, text).expect(rt, "room");
     }
-    Ok(())
 }
 
 /// A game by its title, its names and the notation of each rule.
-fn shown_game(alloc: Global, game: &Game) -> Result<Vec<u8>, Memory> {
+fn shown_game(rt: &impl Abort, alloc: Global, game: &Game) -> Vec<u8> {
     let mut text = Vec::new(alloc);
     if let Some(title) = game.title() {
-        text.extend_from_slice(title.as_bytes())?;
-        text.extend_from_slice(b": ")?;
+        text.extend_from_slice(title.as_bytes()).expect(rt, "room");
+        text.extend_from_slice(b": ").expect(rt, "room");
     }
-    put_names(game, &mut text)?;
-    put_rules(game, &mut text)?;
-    Ok(text)
+    put_names(rt, game, &mut text);
+    put_rules(rt, game, &mut text);
+    text
 }
 
 /// A game as above, or the text of its fault.
-fn shown(alloc: Global, answer: Result<Game, GameFault>) -> Result<String, Fail> {
+fn shown(rt: &impl Abort, alloc: Global, answer: Result<Game, GameFault>) -> String {
     match answer {
-        Ok(game) => Ok(String::from_utf8(shown_game(alloc, &game)?)?),
-        Err(fault) => Ok(format!(in alloc; "{fault}")?),
+        Ok(game) => String::from_utf8(shown_game(rt, alloc, &game)).expect(rt, "a text"),
+        Err(fault) => format!(in alloc; "{fault}").expect(rt, "a text"),
     }
 }
 
 /// The text answers so.
-fn check(rt: &impl Abort, alloc: Global, text: &str, wanted: &str) -> Result<(), Fail> {
-    let found = shown(alloc, parse_game(alloc, text.as_bytes()))?;
+fn check(rt: &impl Abort, alloc: Global, text: &str, wanted: &str) {
+    let found = shown(rt, alloc, parse_game(alloc, text.as_bytes()));
     same(rt, found.as_str(), wanted, text);
-    Ok(())
 }
 
 /// The bytes have this fault, or none.
@@ -76,16 +73,13 @@ fn check_fault(rt: &impl Abort, alloc: Global, bytes: &[u8], wanted: Option<Game
 }
 
 /// The file of the board with one text in place of another.
-fn changed(alloc: Global, old: &str, new: &str) -> Result<String, Fail> {
-    let (front, back) = BOARD.split_once(old).ok_or("no such text")?;
-    let mut text = String::from_str(alloc, front)?;
-    text.push_str(new)?;
-    text.push_str(back)?;
-    Ok(text)
+fn changed(rt: &impl Abort, alloc: Global, old: &str, new: &str) -> String {
+    let (front, back) = BOARD.split_once(old).expect(rt, "such a text");
+    format!(in alloc; "{front}{new}{back}").expect(rt, "a text")
 }
 
 #[test]
-fn changes_of_one_file(rt: HostRuntime) -> Result<(), Fail> {
+fn changes_of_one_file(rt: HostRuntime) {
     let alloc = rt.alloc();
     let rows = [
         ("A", "A", "A B C [51; 50, 49, 1]"),
@@ -115,14 +109,13 @@ fn changes_of_one_file(rt: HostRuntime) -> Result<(), Fail> {
         ("\"C\"", "\"C", "the game file is not TOML"),
     ];
     for (old, new, wanted) in rows {
-        let text = changed(alloc, old, new)?;
-        check(&rt, alloc, text.as_str(), wanted)?;
+        let text = changed(&rt, alloc, old, new);
+        check(&rt, alloc, text.as_str(), wanted);
     }
-    Ok(())
 }
 
 #[test]
-fn whole_files(rt: HostRuntime) -> Result<(), Fail> {
+fn whole_files(rt: HostRuntime) {
     let rows = [
         (
             "quota = 51\nmember = [{name = \"A\", weight = 50}, {name = \"B\", weight = 49}, {name = \"C\", weight = 1}]",
@@ -151,13 +144,12 @@ fn whole_files(rt: HostRuntime) -> Result<(), Fail> {
         ),
     ];
     for (text, wanted) in rows {
-        check(&rt, rt.alloc(), text, wanted)?;
+        check(&rt, rt.alloc(), text, wanted);
     }
-    Ok(())
 }
 
 #[test]
-fn several_rules(rt: HostRuntime) -> Result<(), Fail> {
+fn several_rules(rt: HostRuntime) {
     let alloc = rt.alloc();
     let one =
         "[{name = \"A\", weights = [50]}, {name = \"B\", weights = [49]}, {name = \"C\", weights = [1]}]";
@@ -195,50 +187,60 @@ fn several_rules(rt: HostRuntime) -> Result<(), Fail> {
         ("title = 1\nquota = 1\nquotas = [1]", plain, "bad title"),
     ];
     for (head, members, wanted) in rows {
-        let text = format!(in alloc; "{head}\nmember = {members}\n")?;
-        check(&rt, alloc, text.as_str(), wanted)?;
+        let text = format!(in alloc; "{head}\nmember = {members}\n").expect(&rt, "a text");
+        check(&rt, alloc, text.as_str(), wanted);
     }
-    Ok(())
 }
 
 /// A file with this title, so many members of weight 1, and a last one of this name.
-fn crowd(alloc: Global, title: &str, members: usize, last: &str) -> Result<String, Fail> {
-    let mut text = format!(in alloc; "title = \"{title}\"\nquota = 1\n")?;
+fn crowd(rt: &impl Abort, alloc: Global, title: &str, members: usize, last: &str) -> String {
+    let mut text = format!(in alloc; "title = \"{title}\"\nquota = 1\n").expect(rt, "a text");
     for k in 0..members {
-        let member = format!(in alloc; "[[member]]\nname = \"m{k}\"\nweight = 1\n")?;
-        text.push_str(member.as_str())?;
+        let member = format!(in alloc; "[[member]]\nname = \"m{k}\"\nweight = 1\n");
+        text.push_str(member.expect(rt, "a member").as_str())
+            .expect(rt, "room");
     }
-    let member = format!(in alloc; "[[member]]\nname = \"{last}\"\nweight = 1\n")?;
-    text.push_str(member.as_str())?;
-    Ok(text)
+    let member = format!(in alloc; "[[member]]\nname = \"{last}\"\nweight = 1\n");
+    text.push_str(member.expect(rt, "a member").as_str())
+        .expect(rt, "room");
+    text
+}
+
+/// A file whose title and last name have so many letters has this fault, or none.
+fn check_crowd(
+    rt: &impl Abort,
+    alloc: Global,
+    title: usize,
+    members: usize,
+    name: usize,
+    wanted: Option<GameFault>,
+) {
+    let title = "t".repeat(alloc, title).expect(rt, "a title");
+    let name = "n".repeat(alloc, name).expect(rt, "a name");
+    let text = crowd(rt, alloc, title.as_str(), members, name.as_str());
+    check_fault(rt, alloc, text.as_bytes(), wanted);
 }
 
 #[test]
-fn limits(rt: HostRuntime) -> Result<(), Fail> {
+fn limits(rt: HostRuntime) {
     let alloc = rt.alloc();
-    let refusals = [
+    for (title, members, name, wanted) in [
         (200, 39, 64, None),
         (201, 39, 64, Some(GameFault::Title)),
         (200, 40, 64, Some(GameFault::Members)),
         (200, 39, 65, Some(GameFault::Name { member: 40 })),
-    ];
-    for (title, members, name, wanted) in refusals {
-        let title = "t".repeat(alloc, title)?;
-        let name = "n".repeat(alloc, name)?;
-        let text = crowd(alloc, title.as_str(), members, name.as_str())?;
-        let found = (members, parse_game(alloc, text.as_bytes()).err());
-        same(&rt, found, (members, wanted), title.as_str());
+    ] {
+        check_crowd(&rt, alloc, title, members, name, wanted);
     }
-    let long = "t".repeat(alloc, 201)?;
-    let text = format!(in alloc; "title = \"{long}\"\nextra = 1\n")?;
-    check(&rt, alloc, text.as_str(), "unknown key")?;
+    let long = "t".repeat(alloc, 201).expect(&rt, "a title");
+    let text = format!(in alloc; "title = \"{long}\"\nextra = 1\n").expect(&rt, "a text");
+    check(&rt, alloc, text.as_str(), "unknown key");
     let bad = [b'q', 0xff];
     check_fault(&rt, alloc, &bad, Some(GameFault::Text));
-    Ok(())
 }
 
 #[test]
-fn beginnings_of_one_file(rt: HostRuntime) -> Result<(), Fail> {
+fn beginnings_of_one_file(rt: HostRuntime) {
     let alloc = rt.alloc();
     let rows = [
         ("", "bad quota"),
@@ -261,11 +263,10 @@ fn beginnings_of_one_file(rt: HostRuntime) -> Result<(), Fail> {
     ];
     let mut text = String::new(alloc);
     for (more, wanted) in rows {
-        text.push_str(more)?;
-        check(&rt, alloc, text.as_str(), wanted)?;
+        text.push_str(more).expect(&rt, "room");
+        check(&rt, alloc, text.as_str(), wanted);
     }
     same(&rt, text.as_str(), BOARD, "the whole file");
-    Ok(())
 }
 
 /// Gives bytes, at most so many at once, and then the end or an error.
@@ -291,19 +292,22 @@ impl io::Read for Piecemeal<'_> {
     }
 }
 
-/// What a reader of these bytes answers.
-fn read(
+/// A reader of these bytes answers so.
+fn check_read(
+    rt: &impl Abort,
     alloc: Global,
     left: &[u8],
     at_once: usize,
     error: Option<ErrorKind>,
-) -> Result<String, Fail> {
+    wanted: &str,
+) {
     let mut reader = Piecemeal {
         left,
         at_once,
         error,
     };
-    shown(alloc, read_game(alloc, &mut reader))
+    let said = shown(rt, alloc, read_game(alloc, &mut reader));
+    same(rt, said.as_str(), wanted, (left.len(), at_once));
 }
 
 /// Gives a blank at each read, without end, and counts the reads.
@@ -324,37 +328,31 @@ impl io::Read for Blanks {
 }
 
 #[test]
-fn reads_65_537_times_at_most(rt: HostRuntime) -> Result<(), Fail> {
+fn reads_65_537_times_at_most(rt: HostRuntime) {
     let alloc = rt.alloc();
     let mut reader = Blanks { reads: 0 };
-    let said = shown(alloc, read_game(alloc, &mut reader))?;
+    let said = shown(&rt, alloc, read_game(alloc, &mut reader));
     let wanted = ("the game file is longer than 65536 bytes", 65_537);
     same(&rt, (said.as_str(), reader.reads), wanted, "blanks");
-    Ok(())
 }
 
 #[test]
-fn readers(rt: HostRuntime) -> Result<(), Fail> {
+fn readers(rt: HostRuntime) {
     let alloc = rt.alloc();
     let bytes = BOARD.as_bytes();
     for at_once in [1, 7, 4096] {
-        let said = read(alloc, bytes, at_once, None)?;
-        same(
-            &rt,
-            (at_once, said.as_str()),
-            (at_once, "A B C [51; 50, 49, 1]"),
-            "pieces",
-        );
+        check_read(&rt, alloc, bytes, at_once, None, "A B C [51; 50, 49, 1]");
     }
     for kind in [ErrorKind::TimedOut, ErrorKind::Interrupted] {
         for k in 0..=bytes.len() {
-            let given = bytes.get(..k).ok_or("no such front")?;
-            let said = read(alloc, given, 1, Some(kind))?;
-            same(
+            let given = bytes.get(..k).expect(&rt, "a front");
+            check_read(
                 &rt,
-                (k, said.as_str()),
-                (k, "the game file cannot be read"),
-                "front",
+                alloc,
+                given,
+                1,
+                Some(kind),
+                "the game file cannot be read",
             );
         }
     }
@@ -365,15 +363,13 @@ fn readers(rt: HostRuntime) -> Result<(), Fail> {
         (65_537, None, "the game file is longer than 65536 bytes"),
         (65_537, late, "the game file is longer than 65536 bytes"),
     ] {
-        let text = " ".repeat(alloc, length)?;
-        let said = read(alloc, text.as_bytes(), 4096, error)?;
-        same(&rt, (length, said.as_str()), (length, wanted), "blanks");
+        let text = " ".repeat(alloc, length).expect(&rt, "blanks");
+        check_read(&rt, alloc, text.as_bytes(), 4096, error, wanted);
     }
-    Ok(())
 }
 
 #[test]
-fn bracket_texts(rt: HostRuntime) -> Result<(), Fail> {
+fn bracket_texts(rt: HostRuntime) {
     let rows = [
         ("[51; 50, 49, 1]", "1 2 3 [51; 50, 49, 1]"),
         ("[051;50,49,1]", "1 2 3 [51; 50, 49, 1]"),
@@ -398,15 +394,28 @@ fn bracket_texts(rt: HostRuntime) -> Result<(), Fail> {
         ("[-1; 1]", "the game file is not TOML"),
     ];
     for (text, wanted) in rows {
-        check(&rt, rt.alloc(), text, wanted)?;
+        check(&rt, rt.alloc(), text, wanted);
     }
-    Ok(())
+}
+
+/// A bracket text of so many members of weight 1 and this end has this fault, or none.
+fn check_long(rt: &impl Abort, alloc: Global, more: usize, end: &str, wanted: Option<GameFault>) {
+    let weights = ", 1".repeat(alloc, more).expect(rt, "weights");
+    let text = format!(in alloc; "[1; 1{weights}{end}").expect(rt, "a text");
+    check_fault(rt, alloc, text.as_bytes(), wanted);
+}
+
+/// A bracket text with so many blanks behind it answers so.
+fn check_blanks(rt: &impl Abort, alloc: Global, count: usize, wanted: &str) {
+    let blanks = " ".repeat(alloc, count).expect(rt, "blanks");
+    let text = format!(in alloc; "[1; 1]{blanks}").expect(rt, "a text");
+    check(rt, alloc, text.as_str(), wanted);
 }
 
 #[test]
-fn long_bracket_texts(rt: HostRuntime) -> Result<(), Fail> {
+fn long_bracket_texts(rt: HostRuntime) {
     let alloc = rt.alloc();
-    let rows = [
+    for (more, end, wanted) in [
         (38, ", 1]", None),
         (38, ", 1", Some(GameFault::Bracket)),
         (40, "]", Some(GameFault::Members)),
@@ -417,43 +426,30 @@ fn long_bracket_texts(rt: HostRuntime) -> Result<(), Fail> {
             Some(GameFault::Weight { member: 40 }),
         ),
         (39, ", 1000000000001]", Some(GameFault::Members)),
-    ];
-    for (count, end, wanted) in rows {
-        let weights = ", 1".repeat(alloc, count)?;
-        let text = format!(in alloc; "[1; 1{weights}{end}")?;
-        let found = parse_game(alloc, text.as_bytes()).err();
-        same(&rt, found, wanted, text.as_str());
+    ] {
+        check_long(&rt, alloc, more, end, wanted);
     }
     for count in 0..131usize {
-        let blanks = " ".repeat(alloc, 500 * count)?;
-        let text = format!(in alloc; "[1; 1]{blanks}")?;
-        check(&rt, alloc, text.as_str(), "1 [1; 1]")?;
+        check_blanks(&rt, alloc, 500 * count, "1 [1; 1]");
     }
-    let blanks = " ".repeat(alloc, 65_530)?;
-    let full = format!(in alloc; "[1; 1]{blanks}")?;
-    check(&rt, alloc, full.as_str(), "1 [1; 1]")?;
-    let over = format!(in alloc; "{full} ")?;
-    check(
+    check_blanks(&rt, alloc, 65_530, "1 [1; 1]");
+    check_blanks(
         &rt,
         alloc,
-        over.as_str(),
+        65_531,
         "the game file is longer than 65536 bytes",
-    )?;
+    );
     let broken = [b'[', b'1', b';', b' ', b'1', 0xff];
     check_fault(&rt, alloc, &broken, Some(GameFault::Bracket));
-    Ok(())
 }
 
 #[test]
-fn notation_stands_behind_what_is_there(rt: HostRuntime) -> Result<(), Fail> {
+fn notation_stands_behind_what_is_there(rt: HostRuntime) {
     let alloc = rt.alloc();
-    let Ok(game) = parse_game(alloc, BOARD.as_bytes()) else {
-        return Err(Fail::from("the game was refused"));
-    };
+    let game = parse_game(alloc, BOARD.as_bytes()).expect(&rt, "a game");
     let mut out = Vec::new(alloc);
-    out.push(b'x')?;
+    out.push(b'x').expect(&rt, "room");
     assert!(rt; 0 < game.rules());
-    write_notation(&game, 0, &mut out)?;
+    write_notation(&game, 0, &mut out).expect(&rt, "room");
     same(&rt, out.as_slice(), b"x[51; 50, 49, 1]", "notation");
-    Ok(())
 }

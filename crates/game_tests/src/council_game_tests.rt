@@ -1,46 +1,40 @@
 //! Worked games.
 mod refusals;
 
-use crate::helpers::same;
+use crate::helpers::{same, say};
 use council_game::{Coalition, Game, GameFault, Rule, plain_list};
 use std::alloc::Global;
 use std::io::Print;
 use std::process::Abort;
-use std::test::Fail;
 
 /// Names A, B, C, .. for so many members, at most 26.
-fn letters(alloc: Global, count: usize) -> Result<Vec<String>, Fail> {
+fn letters(rt: &impl Abort, alloc: Global, count: usize) -> Vec<String> {
     let mut names = Vec::new(alloc);
     for letter in "ABCDEFGHIJKLMNOPQRSTUVWXYZ".chars().take(count) {
         let mut name = String::new(alloc);
-        name.push(letter)?;
-        names.push(name)?;
+        name.push(letter).expect(rt, "room");
+        names.push(name).expect(rt, "room");
     }
-    Ok(names)
+    names
 }
 
 /// What a game of these weights answers, its members named in alphabetical order.
-fn answer(
-    rt: &impl Abort,
-    alloc: Global,
-    quota: u64,
-    weights: &[u64],
-) -> Result<Result<Game, GameFault>, Fail> {
-    let names = letters(alloc, weights.len())?;
-    let weights = weights.to_vec(alloc)?;
+fn answer(rt: &impl Abort, alloc: Global, quota: u64, weights: &[u64]) -> Result<Game, GameFault> {
+    let names = letters(rt, alloc, weights.len());
+    let weights = weights.to_vec(alloc).expect(rt, "weights");
     assert!(rt; names.len() == weights.len());
-    Ok(Game::new(alloc, None, names, weights, quota))
+    Game::new(alloc, None, names, weights, quota)
 }
 
 /// The game of these weights.
-fn game(rt: &impl Abort, alloc: Global, quota: u64, weights: &[u64]) -> Result<Game, Fail> {
-    Ok(answer(rt, alloc, quota, weights)??)
+fn game(rt: &impl Abort, alloc: Global, quota: u64, weights: &[u64]) -> Game {
+    answer(rt, alloc, quota, weights).expect(rt, "a game")
 }
 
 /// A rule of these weights.
-fn rule(alloc: Global, quota: u64, weights: &[u64]) -> Result<Rule, Fail> {
-    let weights = weights.to_vec(alloc)?;
-    Ok(Rule { quota, weights })
+fn rule(rt: &impl Abort, alloc: Global, quota: u64, weights: &[u64]) -> Rule {
+    let weights = weights.to_vec(alloc).expect(rt, "weights");
+    Rule { quota, weights }
 }
 
 /// What a game of two rules over these votes of members answers, after a line `call`.
@@ -49,42 +43,35 @@ fn answer_of_two<R: Abort + Print>(
     alloc: Global,
     quotas: [u64; 2],
     votes: [&[u64]; 2],
-) -> Result<Result<Game, GameFault>, Fail> {
-    let names = letters(alloc, votes[0].len())?;
-    let one = rule(alloc, quotas[0], votes[0])?;
-    let two = rule(alloc, quotas[1], votes[1])?;
+) -> Result<Game, GameFault> {
+    let names = letters(rt, alloc, votes[0].len());
+    let one = rule(rt, alloc, quotas[0], votes[0]);
+    let two = rule(rt, alloc, quotas[1], votes[1]);
     assert!(rt; one.weights.len() == names.len() && two.weights.len() == names.len());
     let mut rules = Vec::new(alloc);
-    rules.push(one)?;
-    rules.push(two)?;
-    rt.println("call")?;
-    Ok(Game::with_rules(alloc, None, names, rules))
+    rules.push(one).expect(rt, "room");
+    rules.push(two).expect(rt, "room");
+    say(rt, "call");
+    Game::with_rules(alloc, None, names, rules)
 }
 
-/// The rank masks of coalitions.
-fn masks(alloc: Global, list: &[Coalition]) -> Result<Vec<u64>, Fail> {
-    let mut masks = Vec::new(alloc);
-    for coalition in list {
-        masks.push(coalition.mask())?;
+/// The coalitions have these rank masks.
+fn are_masks(rt: &impl Abort, list: &[Coalition], masks: &[u64]) {
+    same(rt, list.len(), masks.len(), "coalitions");
+    for (coalition, mask) in list.iter().zip(masks) {
+        same(rt, coalition.mask(), *mask, "a coalition");
     }
-    Ok(masks)
 }
 
 /// The game has the minimal winning coalitions of these rank masks.
-fn check(rt: &impl Abort, alloc: Global, game: &Game, wanted: &[u64]) -> Result<(), Fail> {
+fn check(rt: &impl Abort, alloc: Global, game: &Game, wanted: &[u64]) {
     assert!(rt; game.members() <= 20);
-    let list = plain_list(alloc, game)?;
-    same(
-        rt,
-        masks(alloc, &list)?.as_slice(),
-        wanted,
-        "minimal winning coalitions",
-    );
-    Ok(())
+    let list = plain_list(alloc, game).expect(rt, "a list");
+    are_masks(rt, &list, wanted);
 }
 
 #[test]
-fn lists_minimal_winning_coalitions(rt: HostRuntime) -> Result<(), Fail> {
+fn lists_minimal_winning_coalitions(rt: HostRuntime) {
     for (quota, weights, wanted) in [
         (
             51,
@@ -96,24 +83,22 @@ fn lists_minimal_winning_coalitions(rt: HostRuntime) -> Result<(), Fail> {
         (1, &[1, 0, 1], &[4, 2]),
         (100, &[50, 49, 1], &[7]),
     ] {
-        let game = game(&rt, rt.alloc(), quota, weights)?;
-        check(&rt, rt.alloc(), &game, wanted)?;
+        let game = game(&rt, rt.alloc(), quota, weights);
+        check(&rt, rt.alloc(), &game, wanted);
     }
-    Ok(())
 }
 
 #[test]
-fn lists_those_of_several_rules(rt: HostRuntime) -> Result<(), Fail> {
+fn lists_those_of_several_rules(rt: HostRuntime) {
     let four = [3, 2, 2, 1].as_slice();
     for (quotas, votes, wanted) in [
         ([5, 3], [four, &[1, 1, 1, 1]], [14, 13, 11, 7].as_slice()),
         ([3, 1], [&[2, 2, 1], &[0, 0, 1]], &[5, 3]),
         ([1, 1], [&[1, 0], &[0, 1]], &[3]),
     ] {
-        let game = answer_of_two(&rt, rt.alloc(), quotas, votes)??;
-        check(&rt, rt.alloc(), &game, wanted)?;
+        let game = answer_of_two(&rt, rt.alloc(), quotas, votes).expect(&rt, "a game");
+        check(&rt, rt.alloc(), &game, wanted);
     }
-    Ok(())
 }
 
 /// The readers of the game of two rules.
@@ -145,10 +130,12 @@ fn check_readers(rt: &impl Abort, game: &Game) {
 }
 
 #[test]
-fn reads_back_two_rules(rt: HostRuntime) -> Result<(), Fail> {
+fn reads_back_two_rules(rt: HostRuntime) {
     let votes = [[3, 2, 2, 1].as_slice(), &[1, 1, 1, 1]];
-    check_readers(&rt, &answer_of_two(&rt, rt.alloc(), [5, 3], votes)??);
-    Ok(())
+    check_readers(
+        &rt,
+        &answer_of_two(&rt, rt.alloc(), [5, 3], votes).expect(&rt, "a game"),
+    );
 }
 
 /// A member of the game has this rank place, and the place is that member's.
@@ -160,8 +147,8 @@ fn check_place(rt: &impl Abort, game: &Game, member: usize, place: usize) {
 }
 
 #[test]
-fn ranks_members_whatever_their_order(rt: HostRuntime) -> Result<(), Fail> {
-    let game = game(&rt, rt.alloc(), 51, &[1, 50, 49])?;
+fn ranks_members_whatever_their_order(rt: HostRuntime) {
+    let game = game(&rt, rt.alloc(), 51, &[1, 50, 49]);
     for (member, place) in [(0, 2), (1, 0), (2, 1)] {
         check_place(&rt, &game, member, place);
     }
@@ -172,7 +159,6 @@ fn ranks_members_whatever_their_order(rt: HostRuntime) -> Result<(), Fail> {
         (None, "B"),
         "title and name",
     );
-    Ok(())
 }
 
 #[test]
@@ -198,7 +184,7 @@ fn coalitions_have_their_members(rt: HostRuntime) {
 }
 
 #[test]
-fn refuses_in_order(rt: HostRuntime) -> Result<(), Fail> {
+fn refuses_in_order(rt: HostRuntime) {
     for (quota, weights, wanted) in [
         (0, [50, 49, 1].as_slice(), Some(GameFault::QuotaRange)),
         (101, &[50, 49, 1], Some(GameFault::QuotaRange)),
@@ -217,7 +203,7 @@ fn refuses_in_order(rt: HostRuntime) -> Result<(), Fail> {
             Some(GameFault::QuotaRange),
         ),
     ] {
-        let found = answer(&rt, rt.alloc(), quota, weights)?.err();
+        let found = answer(&rt, rt.alloc(), quota, weights).err();
         same(
             &rt,
             (quota, weights, found),
@@ -225,12 +211,11 @@ fn refuses_in_order(rt: HostRuntime) -> Result<(), Fail> {
             "fault",
         );
     }
-    Ok(())
 }
 
 #[test]
-fn coalitions_by_members(rt: HostRuntime) -> Result<(), Fail> {
-    let game = game(&rt, rt.alloc(), 5, &[1, 4, 2])?;
+fn coalitions_by_members(rt: HostRuntime) {
+    let game = game(&rt, rt.alloc(), 5, &[1, 4, 2]);
     assert!(rt; game.members() == 3);
     same(&rt, game.member_named("C"), Some(2), "C");
     same(&rt, game.member_named("D"), None, "D");
@@ -243,7 +228,6 @@ fn coalitions_by_members(rt: HostRuntime) -> Result<(), Fail> {
     ] {
         same(&rt, found.mask(), wanted, "mask");
     }
-    Ok(())
 }
 
 #[test]

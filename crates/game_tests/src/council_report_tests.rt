@@ -2,7 +2,7 @@
 mod asked;
 mod refusals;
 
-ghost use Rattle.std.specs.Prelude.{◌≡◌, length, IfOk};
+ghost use Rattle.std.specs.Prelude.{◌≡◌, length};
 ghost use Rattle.council_game.specs.Game.{AreNonemptyCoalitions};
 
 use crate::helpers::same;
@@ -11,10 +11,9 @@ use council_game::{Coalition, Game, plain_list};
 use council_report::{ReportFault, Shown, write_report, write_report_of, write_tally};
 use power_index::Counts;
 use power_index::laws::{minimal_coalitions_can_be_counted, tallies_are_counts};
-use std::alloc::{AllocError, Global};
+use std::alloc::Global;
 use std::io::{self, Error, ErrorKind, Write};
 use std::process::Abort;
-use std::test::Fail;
 
 /// A game of three rules. Its members stand in the opposite order of their rank.
 const GAME: &str = "quotas = [140, 7, 1]
@@ -103,63 +102,72 @@ const WEIGHTS: [[u64; 14]; 3] = [
 
 /// The minimal winning coalitions of a game of 14 members: in listing order at step 16383, in its
 /// opposite at step 1, and at other odd steps in other orders.
-fn coalitions(alloc: Global, game: &Game, step: u64) -> Result<Vec<Coalition>, AllocError>
+fn coalitions(rt: &impl Abort, alloc: Global, game: &Game, step: u64) -> Vec<Coalition>
     requires { length game.now.names ≡ 14 }
-    ensures { IfOk result (λ v. AreNonemptyCoalitions game.now v.items) }
+    ensures { AreNonemptyCoalitions game.now result.items }
 {
     let mut list = Vec::new(alloc);
     for k in 1..16_384_u64 {
         let mask = k.wrapping_mul(step) % 16_384;
         if mask != 0 && game.is_minimal(Coalition::of_mask(mask)) {
-            list.push(Coalition::of_mask(mask))?;
+            list.push(Coalition::of_mask(mask)).expect(rt, "room");
         }
     }
-    Ok(list)
+    list
 }
 
 /// The game, which has 14 members.
-fn game(rt: &impl Abort, alloc: Global) -> Result<Game, Fail>
-    ensures { IfOk result (λ g. length g.names ≡ 14) }
+fn game(rt: &impl Abort, alloc: Global) -> Game
+    ensures { length result.names ≡ 14 }
 {
-    let game = parse_game(alloc, GAME.as_bytes())?;
+    let game = parse_game(alloc, GAME.as_bytes()).expect(rt, "a game");
     assert!(rt; game.members() == 14);
-    Ok(game)
+    game
 }
 
 /// All 2,650 of its minimal winning coalitions, by such a step.
-fn listing(rt: &impl Abort, alloc: Global, game: &Game, step: u64) -> Result<Vec<Coalition>, Fail>
+fn listing(rt: &impl Abort, alloc: Global, game: &Game, step: u64) -> Vec<Coalition>
     requires { length game.now.names ≡ 14 }
-    ensures coalitions { IfOk result (λ v. AreNonemptyCoalitions game.now v.items) }
-    ensures length { IfOk result (λ v. length v.items ≡ 2650) }
+    ensures coalitions { AreNonemptyCoalitions game.now result.items }
+    ensures length { length result.items ≡ 2650 }
 {
-    let list = coalitions(alloc, game, step)?;
+    let list = coalitions(rt, alloc, game, step);
     assert!(rt; list.len() == 2_650);
-    Ok(list)
+    list
 }
 
-/// The lines of these coalitions, each made for itself.
-fn lines(alloc: Global, list: &[Coalition]) -> Result<Vec<u8>, AllocError> {
-    let mut lines = Vec::new(alloc);
-    for coalition in list {
-        let mut size = 0_u64;
-        let mut sums = [0_u64; 3];
-        let mut names = Vec::new(alloc);
-        for place in 0..14 {
-            if (coalition.mask() >> (13 - place)) % 2 == 1 {
-                size = size.wrapping_add(1);
-                for rule in 0..3 {
-                    sums[rule] = sums[rule].wrapping_add(WEIGHTS[rule][place]);
-                }
-                names.push(b'\t')?;
-                names.extend_from_slice(NAMES[place].as_bytes())?;
+/// Puts the line of a coalition, made for itself.
+fn put_line(rt: &impl Abort, alloc: Global, coalition: Coalition, lines: &mut Vec<u8>) {
+    let mut size = 0_u64;
+    let mut sums = [0_u64; 3];
+    let mut names = Vec::new(alloc);
+    for place in 0..14 {
+        if (coalition.mask() >> (13 - place)) % 2 == 1 {
+            size = size.wrapping_add(1);
+            for rule in 0..3 {
+                sums[rule] = sums[rule].wrapping_add(WEIGHTS[rule][place]);
             }
+            names.push(b'\t').expect(rt, "room");
+            names
+                .extend_from_slice(NAMES[place].as_bytes())
+                .expect(rt, "room");
         }
-        let head = format!(in alloc; "coalition\t{size}\t{}/{}/{}", sums[0], sums[1], sums[2])?;
-        lines.extend_from_slice(head.as_bytes())?;
-        lines.extend_from_slice(&names)?;
-        lines.push(b'\n')?;
     }
-    Ok(lines)
+    let head = format!(in alloc; "coalition\t{size}\t{}/{}/{}", sums[0], sums[1], sums[2]);
+    lines
+        .extend_from_slice(head.expect(rt, "a text").as_bytes())
+        .expect(rt, "room");
+    lines.extend_from_slice(&names).expect(rt, "room");
+    lines.push(b'\n').expect(rt, "room");
+}
+
+/// The heading, and the lines of these coalitions.
+fn lines(rt: &impl Abort, alloc: Global, heading: &[u8], list: &[Coalition]) -> Vec<u8> {
+    let mut lines = Vec::from_slice(alloc, heading).expect(rt, "a heading");
+    for coalition in list {
+        put_line(rt, alloc, *coalition, &mut lines);
+    }
+    lines
 }
 
 const HEADING: &[u8] = b"members\t14\nquota\t140/7/1\ntotal\t287/14/1532221043\nminimal\t2650\n";
@@ -172,15 +180,14 @@ const LIST: Shown = Shown {
 };
 
 #[test]
-fn lists_in_any_order(rt: HostRuntime) -> Result<(), Fail> {
+fn lists_in_any_order(rt: HostRuntime) {
     let alloc = rt.alloc();
-    let game = game(&rt, alloc)?;
+    let game = game(&rt, alloc);
     for step in [16_383, 1, 4_097, 5, 11_111] {
-        let list = listing(&rt, alloc, &game, step)?;
+        let list = listing(&rt, alloc, &game, step);
         let mut written = Vec::new(alloc);
         let answer = write_report(alloc, &game, &list, LIST, &mut written);
-        let mut wanted = Vec::from_slice(alloc, HEADING)?;
-        wanted.extend_from_slice(&lines(alloc, &list)?)?;
+        let wanted = lines(&rt, alloc, HEADING, &list);
         let found = (
             step,
             answer,
@@ -194,18 +201,17 @@ fn lists_in_any_order(rt: HostRuntime) -> Result<(), Fail> {
             "step",
         );
     }
-    Ok(())
 }
 
 const HEADING_TWICE: &[u8] =
     b"members\t14\nquota\t140/7/1\ntotal\t287/14/1532221043\nminimal\t5300\n";
 
 #[test]
-fn lists_in_pieces(rt: HostRuntime) -> Result<(), Fail> {
+fn lists_in_pieces(rt: HostRuntime) {
     let alloc = rt.alloc();
-    let game = game(&rt, alloc)?;
-    let first = listing(&rt, alloc, &game, 16_383)?;
-    let second = listing(&rt, alloc, &game, 5)?;
+    let game = game(&rt, alloc);
+    let first = listing(&rt, alloc, &game, 16_383);
+    let second = listing(&rt, alloc, &game, 5);
     let mut counts = Counts::none(&game);
     counts.count_row(&first);
     counts.count_row(&second);
@@ -219,19 +225,17 @@ fn lists_in_pieces(rt: HostRuntime) -> Result<(), Fail> {
         LIST,
         &mut written,
     );
-    let mut wanted = Vec::from_slice(alloc, HEADING_TWICE)?;
-    wanted.extend_from_slice(&lines(alloc, &first)?)?;
-    wanted.extend_from_slice(&lines(alloc, &second)?)?;
+    let wanted = lines(&rt, alloc, HEADING_TWICE, &first);
+    let wanted = lines(&rt, alloc, &wanted, &second);
     let found = (answer, written.starts_with(&wanted));
     same(&rt, found, (Ok(written.len() as u64), true), "two pieces");
-    Ok(())
 }
 
 #[test]
-fn tallies_as_it_reports(rt: HostRuntime) -> Result<(), Fail> {
+fn tallies_as_it_reports(rt: HostRuntime) {
     let alloc = rt.alloc();
-    let game = game(&rt, alloc)?;
-    let list = plain_list(alloc, &game)?;
+    let game = game(&rt, alloc);
+    let list = plain_list(alloc, &game).expect(&rt, "a list");
     assert!(rt; list.len() == 2_650);
     minimal_coalitions_can_be_counted();
     let shown = Shown {
@@ -247,7 +251,6 @@ fn tallies_as_it_reports(rt: HostRuntime) -> Result<(), Fail> {
     let length = Ok(reported.len() as u64);
     same(&rt, (first, second), (length, length), "lengths");
     same(&rt, tallied.as_slice(), reported.as_slice(), "reports");
-    Ok(())
 }
 
 /// A writer that takes so many bytes, at most so many a call, fails once, and would then take all. It
@@ -300,12 +303,11 @@ impl Write for Narrow {
 /// A block is 64 KiB: these writers fail in the first, the second and a later one. What was refused is
 /// not tried again, and nothing is flushed then; a whole report is flushed once.
 #[test]
-fn tells_what_a_writer_took_of_many_blocks(rt: HostRuntime) -> Result<(), Fail> {
+fn tells_what_a_writer_took_of_many_blocks(rt: HostRuntime) {
     let alloc = rt.alloc();
-    let game = game(&rt, alloc)?;
-    let list = listing(&rt, alloc, &game, 16_383)?;
-    let mut wanted = Vec::from_slice(alloc, HEADING)?;
-    wanted.extend_from_slice(&lines(alloc, &list)?)?;
+    let game = game(&rt, alloc);
+    let list = listing(&rt, alloc, &game, 16_383);
+    let wanted = lines(&rt, alloc, HEADING, &list);
     assert!(rt; 150_000 < wanted.len());
     for step in [1000, 65_536, 1_000_000] {
         for room in [
@@ -338,5 +340,4 @@ fn tells_what_a_writer_took_of_many_blocks(rt: HostRuntime) -> Result<(), Fail> 
             "a writer that takes all",
         );
     }
-    Ok(())
 }

@@ -2,7 +2,6 @@
 use council_words::{Wanted, WordsFault, read_words};
 use std::alloc::Global;
 use std::process::Abort;
-use std::test::Fail;
 
 /// Fails with the label where the numbers and the flags are not these: list, sizes, notation, tally, explain.
 fn asks_for(rt: &impl Abort, found: &Wanted<'_>, numbers: [u32; 3], flags: [bool; 5], label: &str) {
@@ -19,17 +18,21 @@ fn asks_for(rt: &impl Abort, found: &Wanted<'_>, numbers: [u32; 3], flags: [bool
 }
 
 /// The words of a command line, the first the program's name.
-fn words(alloc: Global, line: &str) -> Result<Vec<String>, Fail> {
+fn words(rt: &impl Abort, alloc: Global, line: &str) -> Vec<String> {
     let mut words = Vec::new(alloc);
-    words.push(String::from_str(alloc, "council")?)?;
+    words
+        .push(String::from_str(alloc, "council").expect(rt, "a word"))
+        .expect(rt, "room");
     for word in line.split_whitespace() {
-        words.push(String::from_str(alloc, word)?)?;
+        words
+            .push(String::from_str(alloc, word).expect(rt, "a word"))
+            .expect(rt, "room");
     }
-    Ok(words)
+    words
 }
 
 #[test]
-fn reads_command_lines(rt: HostRuntime) -> Result<(), Fail> {
+fn reads_command_lines(rt: HostRuntime) {
     let least = [1, 0, 1];
     let greatest = [16, 10, 4_000_000];
     let none = [false; 5];
@@ -56,16 +59,15 @@ fn reads_command_lines(rt: HostRuntime) -> Result<(), Fail> {
             [false, true, false, true, true],
         ),
     ] {
-        let words = words(rt.alloc(), line)?;
+        let words = words(&rt, rt.alloc(), line);
         let wanted = read_words(rt.alloc(), words.as_slice()).expect(&rt, "a command line");
         assert!(rt; wanted.file == file, "{line}");
         asks_for(&rt, &wanted, numbers, flags, line);
     }
-    Ok(())
 }
 
 #[test]
-fn refuses_command_lines(rt: HostRuntime) -> Result<(), Fail> {
+fn refuses_command_lines(rt: HostRuntime) {
     let alloc = rt.alloc();
     for line in [
         "--tally --list",
@@ -80,16 +82,15 @@ fn refuses_command_lines(rt: HostRuntime) -> Result<(), Fail> {
         "a.toml b.toml",
         "--order",
     ] {
-        let words = words(alloc, line)?;
+        let words = words(&rt, alloc, line);
         match read_words(alloc, words.as_slice()) {
             Err(WordsFault::Parse(error)) => assert!(rt; error.use_stderr(), "{line}"),
             _ => assert!(rt; false, "{line}"),
         }
     }
-    let help = words(alloc, "--help")?;
+    let help = words(&rt, alloc, "--help");
     match read_words(alloc, help.as_slice()) {
         Err(WordsFault::Parse(error)) => assert!(rt; !error.use_stderr()),
         _ => assert!(rt; false, "help"),
     }
-    Ok(())
 }

@@ -1,7 +1,7 @@
 //! A list in three pieces, by any number of threads.
 ghost use Rattle.coalitions.specs.declared.limits.TheConstants.{WORKERS};
 ghost use Rattle.council_game.specs.Game.{AreNonemptyCoalitions};
-ghost use Rattle.std.specs.Prelude.{◌≤◌, IfOk, length};
+ghost use Rattle.std.specs.Prelude.{◌≤◌, length};
 
 use super::*;
 use council_game::Coalition;
@@ -15,9 +15,9 @@ pub(super) fn coalitions(
     alloc: Global,
     game: &Game,
     masks: &[u64],
-) -> Result<Vec<Coalition>, Fail>
-    ensures coalitions { IfOk result (λ v. AreNonemptyCoalitions game.now v.items) }
-    ensures length { IfOk result (λ v. length v.items ≤ 1000) }
+) -> Vec<Coalition>
+    ensures coalitions { AreNonemptyCoalitions game.now result.items }
+    ensures length { length result.items ≤ 1000 }
 {
     let members = game.members();
     let mut list = Vec::new(alloc);
@@ -25,10 +25,10 @@ pub(super) fn coalitions(
         assert!(rt; 0 < *mask);
         assert!(rt; *mask < 1_099_511_627_776);
         assert!(rt; *mask < 1 << members);
-        list.push(Coalition::of_mask(*mask))?;
+        list.push(Coalition::of_mask(*mask)).expect(rt, "room");
     }
     assert!(rt; list.len() <= 1000);
-    Ok(list)
+    list
 }
 
 /// The counts of a list in three pieces.
@@ -50,14 +50,15 @@ pub(super) fn counts_of_three<R: Threads + Wait + Sync>(
 }
 
 #[test]
-fn pieces_are_counted_by_any_threads(rt: HostRuntime) -> Result<(), Fail> {
-    let game = game(rt.alloc(), 51, &[35, 20, 15, 15, 15])?;
-    let first = coalitions(&rt, rt.alloc(), &game, &[24])?;
-    let second = coalitions(&rt, rt.alloc(), &game, &[])?;
-    let third = coalitions(&rt, rt.alloc(), &game, &[22, 21, 19, 15])?;
+fn pieces_are_counted_by_any_threads(rt: HostRuntime) {
+    let game = five(&rt, rt.alloc());
+    let first = coalitions(&rt, rt.alloc(), &game, &[24]);
+    let second = coalitions(&rt, rt.alloc(), &game, &[]);
+    let third = coalitions(&rt, rt.alloc(), &game, &[22, 21, 19, 15]);
     for threads in 1..17u8 {
-        let counts = counts_of_three(&rt, &game, &first, &second, &third, threads)?;
+        let counts = counts_of_three(&rt, &game, &first, &second, &third, threads).expect(
+            &rt, "counts",
+        );
         assert_of_five(&rt, &counts);
     }
-    Ok(())
 }

@@ -2,52 +2,47 @@
 //! allocations between the line `call` and the line of the answer.
 use super::pieces::{coalitions, counts_of_three};
 use super::*;
+use crate::helpers::say;
 use mwc_tally::TallyFault;
-use std::io::Print;
 
 #[test]
-fn tallies(rt: HostRuntime) -> Result<(), Fail> {
-    let game = game(rt.alloc(), 51, &[35, 20, 15, 15, 15])?;
-    assert!(rt; game.members() == 5);
-    rt.println("call")?;
+fn tallies(rt: HostRuntime) {
+    let game = five(&rt, rt.alloc());
+    say(&rt, "call");
     match tally(&rt, rt.alloc(), &game, 2, 3, &NoWatch) {
         Ok(counts) => {
-            rt.println("worked")?;
+            say(&rt, "worked");
             assert_of_five(&rt, &counts);
         }
-        Err(TallyFault::Memory) => rt.println("out of memory")?,
-        Err(TallyFault::Start) => rt.println("not started")?,
-        Err(TallyFault::Stopped) => rt.println("stopped")?,
+        Err(TallyFault::Memory) => say(&rt, "out of memory"),
+        Err(TallyFault::Start) => say(&rt, "not started"),
+        Err(TallyFault::Stopped) => say(&rt, "stopped"),
     }
-    Ok(())
 }
 
 #[test]
-fn tallies_a_slice_without_memory(rt: HostRuntime) -> Result<(), Fail> {
-    let game = game(rt.alloc(), 51, &[35, 20, 15, 15, 15])?;
-    assert!(rt; game.members() == 5);
-    rt.println("call")?;
+fn tallies_a_slice_without_memory(rt: HostRuntime) {
+    let game = five(&rt, rt.alloc());
+    say(&rt, "call");
     let counts = tally_slice(&game, 0, 0);
     assert_of_five(&rt, &counts);
-    rt.println("worked")?;
-    Ok(())
+    say(&rt, "worked");
 }
 
 #[test]
-fn tallies_pieces(rt: HostRuntime) -> Result<(), Fail> {
-    let game = game(rt.alloc(), 51, &[35, 20, 15, 15, 15])?;
-    let first = coalitions(&rt, rt.alloc(), &game, &[24])?;
-    let second = coalitions(&rt, rt.alloc(), &game, &[22, 21])?;
-    let third = coalitions(&rt, rt.alloc(), &game, &[19, 15])?;
-    rt.println("call")?;
+fn tallies_pieces(rt: HostRuntime) {
+    let game = five(&rt, rt.alloc());
+    let first = coalitions(&rt, rt.alloc(), &game, &[24]);
+    let second = coalitions(&rt, rt.alloc(), &game, &[22, 21]);
+    let third = coalitions(&rt, rt.alloc(), &game, &[19, 15]);
+    say(&rt, "call");
     match counts_of_three(&rt, &game, &first, &second, &third, 3) {
         Ok(counts) => {
-            rt.println("worked")?;
+            say(&rt, "worked");
             assert_of_five(&rt, &counts);
         }
-        Err(TallyFault::Memory) => rt.println("out of memory")?,
-        Err(TallyFault::Start) => rt.println("not started")?,
-        Err(TallyFault::Stopped) => rt.println("stopped")?,
+        Err(TallyFault::Memory) => say(&rt, "out of memory"),
+        Err(TallyFault::Start) => say(&rt, "not started"),
+        Err(TallyFault::Stopped) => say(&rt, "stopped"),
     }
-    Ok(())
 }

@@ -44,9 +44,8 @@ impl Watch for Stopping {
 /// Between slices: where so many of 32 are counted, each thread ends at most the one that it is in. All 32 are a
 /// whole tally.
 #[test]
-fn a_watch_stops_between_slices(rt: HostRuntime) -> Result<(), Fail> {
-    let game = game(rt.alloc(), 51, &[35, 20, 15, 15, 15])?;
-    assert!(rt; game.members() == 5);
+fn a_watch_stops_between_slices(rt: HostRuntime) {
+    let game = five(&rt, rt.alloc());
     for (slices, workers) in [(0, 1), (1, 1), (31, 1), (32, 1), (0, 16), (5, 4), (32, 4)] {
         assert!(rt; 1 <= workers && workers <= 16);
         let watch = Stopping::after(slices, u64::MAX);
@@ -61,15 +60,13 @@ fn a_watch_stops_between_slices(rt: HostRuntime) -> Result<(), Fail> {
         let few = slices <= counted && counted < slices.saturating_add(u64::from(workers));
         same(&rt, few, true, ("counted", slices, workers, counted));
     }
-    Ok(())
 }
 
 /// Within a slice: of the last one, which comes first and has 3,262,623 coalitions, no more than the first 1,048,576
 /// are counted.
 #[test]
-fn a_watch_stops_within_a_slice(rt: HostRuntime) -> Result<(), Fail> {
-    let game = game(rt.alloc(), 6, &[1; 40])?;
-    assert!(rt; game.members() == 40);
+fn a_watch_stops_within_a_slice(rt: HostRuntime) {
+    let game = forty(&rt, rt.alloc(), 6);
     let watch = Stopping::after(u64::MAX, 1);
     let fault = tally(&rt, rt.alloc(), &game, 1, 1, &watch).err();
     same(&rt, fault, Some(TallyFault::Stopped), "fault");
@@ -78,7 +75,6 @@ fn a_watch_stops_within_a_slice(rt: HostRuntime) -> Result<(), Fail> {
         watch.counted.load(Ordering::SeqCst),
     );
     same(&rt, found, (1_048_576, 0), "coalitions and slices");
-    Ok(())
 }
 
 /// Stops a tally when it is asked first, and takes that back.
@@ -102,15 +98,13 @@ impl Watch for Relenting {
 
 /// A thread that stopped leaves slices to be counted at the end, and the watch is told of each of them.
 #[test]
-fn a_stop_that_is_taken_back(rt: HostRuntime) -> Result<(), Fail> {
-    let game = game(rt.alloc(), 51, &[35, 20, 15, 15, 15])?;
-    assert!(rt; game.members() == 5);
+fn a_stop_that_is_taken_back(rt: HostRuntime) {
+    let game = five(&rt, rt.alloc());
     let watch = Relenting {
         asked: AtomicU64::new(0),
         counted: AtomicU64::new(0),
     };
-    let counts = tally(&rt, rt.alloc(), &game, 5, 1, &watch)?;
+    let counts = tally(&rt, rt.alloc(), &game, 5, 1, &watch).expect(&rt, "counts");
     assert_of_five(&rt, &counts);
     same(&rt, watch.counted.load(Ordering::SeqCst), 32, "slices");
-    Ok(())
 }

@@ -6,77 +6,58 @@ use council_game::Memory;
 use std::io::Print;
 
 /// Tells the answer of a call that lists the worked game.
-fn tells<R: Abort + Print>(
-    rt: &R,
-    alloc: Global,
-    answer: Result<Vec<Coalition>, Memory>,
-) -> Result<(), Fail> {
+fn tells<R: Abort + Print>(rt: &R, answer: Result<Vec<Coalition>, Memory>) {
     match answer {
         Ok(list) => {
             say(rt, "worked");
-            let wanted = [24, 22, 21, 19, 15].as_slice();
-            same(rt, masks(alloc, &list)?.as_slice(), wanted, "coalitions");
+            are_masks(rt, &list, &FIVE, "coalitions");
         }
         Err(_) => say(rt, "out of memory"),
     }
-    Ok(())
 }
 
 #[test]
-fn lists_a_slice(rt: HostRuntime) -> Result<(), Fail> {
-    let alloc = rt.alloc();
-    let game = worked(&rt, alloc)?;
+fn lists_a_slice(rt: HostRuntime) {
+    let game = worked(&rt, rt.alloc());
     assert!(rt; game.members() == 5);
     say(&rt, "call");
-    let answer = list_slice(alloc, &game, 0, 0, u32::MAX);
-    tells(&rt, alloc, answer)
+    tells(&rt, list_slice(rt.alloc(), &game, 0, 0, u32::MAX));
 }
 
 #[test]
-fn lists_all(rt: HostRuntime) -> Result<(), Fail> {
-    let alloc = rt.alloc();
-    let game = worked(&rt, alloc)?;
+fn lists_all(rt: HostRuntime) {
+    let game = worked(&rt, rt.alloc());
     say(&rt, "call");
-    let answer = list_all(alloc, &game, 9);
-    tells(
-        &rt,
-        alloc,
-        answer.map(|all| all.expect(&rt, "at most nine")),
-    )
+    let answer = list_all(rt.alloc(), &game, 9);
+    tells(&rt, answer.map(|all| all.expect(&rt, "at most nine")));
 }
 
 /// The walk gives so many coalitions by so many visits, and takes no memory.
-fn walks<R: Abort + Print>(
-    rt: &R,
-    walk: &mut Walk<'_>,
-    coalitions: u64,
-    visits: u64,
-) -> Result<(), Fail> {
+fn walks<R: Abort + Print>(rt: &R, walk: &mut Walk<'_>, coalitions: u64, visits: u64) {
     same(rt, count(walk), coalitions, "coalitions");
     same(rt, walk.next(), None, "after the end");
     same(rt, walk.visits(), visits, "visits");
     say(rt, "worked");
-    Ok(())
 }
 
 #[test]
-fn walks_without_memory(rt: HostRuntime) -> Result<(), Fail> {
-    let game = worked(&rt, rt.alloc())?;
+fn walks_without_memory(rt: HostRuntime) {
+    let game = worked(&rt, rt.alloc());
     assert!(rt; game.members() == 5);
     say(&rt, "call");
-    walks(&rt, &mut Walk::new(&game, 2, 1), 3, 7)
+    walks(&rt, &mut Walk::new(&game, 2, 1), 3, 7);
 }
 
 #[test]
-fn walks_under_two_rules_without_memory(rt: HostRuntime) -> Result<(), Fail> {
-    let game = two_rules(&rt, rt.alloc())?;
+fn walks_under_two_rules_without_memory(rt: HostRuntime) {
+    let game = game_by_groups(&rt, rt.alloc(), &[0, 1], &TWO_RULES);
     say(&rt, "call");
-    walks(&rt, &mut Walk::new(&game, 0, 0), 2, 5)
+    walks(&rt, &mut Walk::new(&game, 0, 0), 2, 5);
 }
 
 #[test]
-fn walks_under_four_rules_without_memory(rt: HostRuntime) -> Result<(), Fail> {
-    let game = four_groups(&rt, rt.alloc())?;
+fn walks_under_four_rules_without_memory(rt: HostRuntime) {
+    let game = game_by_groups(&rt, rt.alloc(), &[0, 1, 2, 3], &FOUR_GROUPS);
     say(&rt, "call");
-    walks(&rt, &mut Walk::new(&game, 0, 0), 81, 159)
+    walks(&rt, &mut Walk::new(&game, 0, 0), 81, 159);
 }

@@ -3,7 +3,6 @@ use super::{FIVE, Printed, counts, same};
 use power_index::{Fraction, Index, deegan_packel, lowest, public_good};
 use std::cmp::Ordering;
 use std::process::Abort;
-use std::test::Fail;
 
 /// The index that a fraction from 0 to 1 is.
 fn index(rt: &impl Abort, fraction: (u128, u128)) -> Index {
@@ -53,8 +52,8 @@ fn check(rt: &impl Abort, index: Index, fraction: Fraction, wanted: Printed) {
 }
 
 #[test]
-fn an_index_is_stored_and_compared(rt: HostRuntime) -> Result<(), Fail> {
-    let counts = counts(&rt, rt.alloc(), 51, &FIVE)?;
+fn an_index_is_stored_and_compared(rt: HostRuntime) {
+    let counts = counts(&rt, rt.alloc(), 51, &FIVE);
     assert!(rt; counts.members() == 5);
     let first = Index::of(deegan_packel(&counts, 0));
     check(&rt, first, deegan_packel(&counts, 0), (3, 10, *b"0.300000"));
@@ -71,5 +70,4 @@ fn an_index_is_stored_and_compared(rt: HostRuntime) -> Result<(), Fail> {
         [Ordering::Greater, Ordering::Less, Ordering::Equal],
         "order",
     );
-    Ok(())
 }

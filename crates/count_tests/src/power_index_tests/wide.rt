@@ -73,29 +73,27 @@ fn check_rows(rt: &impl Abort, game: &Game, first: &[Coalition], second: &[Coali
 }
 
 #[test]
-fn five_members_are_counted_in_parts(rt: HostRuntime) -> Result<(), Fail> {
+fn five_members_are_counted_in_parts(rt: HostRuntime) {
     let alloc = rt.alloc();
-    let game = game(&rt, alloc, 51, &FIVE)?;
-    let first = coalitions(&rt, alloc, &game, &[24, 22])?;
-    let second = coalitions(&rt, alloc, &game, &[21, 19, 15])?;
+    let game = game(&rt, alloc, 51, &FIVE);
+    let first = coalitions(&rt, alloc, &game, &[24, 22]);
+    let second = coalitions(&rt, alloc, &game, &[21, 19, 15]);
     check_none(&rt, &game);
     check_added(&rt, &game, &first, &second);
     check_rows(&rt, &game, &first, &second);
-    Ok(())
 }
 
 #[test]
-fn a_list_is_counted(rt: HostRuntime) -> Result<(), Fail> {
+fn a_list_is_counted(rt: HostRuntime) {
     let alloc = rt.alloc();
-    let game = game(&rt, alloc, 51, &FIVE)?;
-    let list = coalitions(&rt, alloc, &game, &MASKS)?;
+    let game = game(&rt, alloc, 51, &FIVE);
+    let list = coalitions(&rt, alloc, &game, &MASKS);
     check_five(&rt, &Counts::of(&game, &list), "one list");
-    Ok(())
 }
 
 #[test]
-fn coalitions_are_counted_one_by_one(rt: HostRuntime) -> Result<(), Fail> {
-    let game = game(&rt, rt.alloc(), 51, &FIVE)?;
+fn coalitions_are_counted_one_by_one(rt: HostRuntime) {
+    let game = game(&rt, rt.alloc(), 51, &FIVE);
     let mut counts = Counts::none(&game);
     for mask in MASKS {
         assert!(rt; counts.members() == 5 && counts.wide_total() < 5);
@@ -103,7 +101,6 @@ fn coalitions_are_counted_one_by_one(rt: HostRuntime) -> Result<(), Fail> {
         counts.count(Coalition::of_mask(mask));
     }
     check_five(&rt, &counts, "one by one");
-    Ok(())
 }
 
 /// The counts grow as the Fibonacci numbers do, each of the two by the other in turn.
@@ -123,9 +120,9 @@ pub(super) fn grown(rt: &impl Abort, game: &Game, list: &[Coalition]) -> Counts
 }
 
 #[test]
-fn more_than_32_bits_hold(rt: HostRuntime) -> Result<(), Fail> {
-    let game = game(&rt, rt.alloc(), 51, &FIVE)?;
-    let list = coalitions(&rt, rt.alloc(), &game, &MASKS)?;
+fn more_than_32_bits_hold(rt: HostRuntime) {
+    let game = game(&rt, rt.alloc(), 51, &FIVE);
+    let list = coalitions(&rt, rt.alloc(), &game, &MASKS);
     let counts = grown(&rt, &game, &list);
     assert!(rt; counts.members() == 5);
     assert!(rt; counts.wide_total() > 1 << 32);
@@ -138,5 +135,4 @@ fn more_than_32_bits_hold(rt: HostRuntime) -> Result<(), Fail> {
     same(&rt, found, [u32::MAX; 4], "the greatest of 32 bits");
     let wanted = [(3, 10, *b"0.300000"), (4, 15, *b"0.266666")];
     check_indices(&rt, &counts, 0, wanted);
-    Ok(())
 }

@@ -106,13 +106,13 @@ const KINDS: [ErrorKind; 42] = [
 ];
 
 #[test]
-fn a_failed_read_is_not_tried_again(rt: HostRuntime) -> Result<(), Fail> {
+fn a_failed_read_is_not_tried_again(rt: HostRuntime) {
     let alloc = rt.alloc();
     let bytes = BOARD.as_bytes();
     for kind in KINDS {
         for k in 0..=bytes.len() {
             let mut reader = Asked::new(bytes, 1, Some((k as u64, kind)));
-            let said = shown(alloc, read_game(alloc, &mut reader))?;
+            let said = shown(&rt, alloc, read_game(alloc, &mut reader));
             let wanted = (k, "the game file cannot be read", 0);
             same(
                 &rt,
@@ -122,13 +122,12 @@ fn a_failed_read_is_not_tried_again(rt: HostRuntime) -> Result<(), Fail> {
             );
         }
     }
-    Ok(())
 }
 
 /// At most one read for each 4,096 bytes or part of them, and one that finds the end; of single bytes
 /// one for each byte and one that finds the end. None after the end.
 #[test]
-fn reads_as_seldom_as_it_can(rt: HostRuntime) -> Result<(), Fail> {
+fn reads_as_seldom_as_it_can(rt: HostRuntime) {
     let alloc = rt.alloc();
     for (length, at_once, most) in [
         (10_000, 1_000_000, 4),
@@ -136,10 +135,10 @@ fn reads_as_seldom_as_it_can(rt: HostRuntime) -> Result<(), Fail> {
         (65_536, 1, 65_537),
     ] {
         assert!(rt; 6 <= length);
-        let blanks = " ".repeat(alloc, length - 6)?;
-        let text = format!(in alloc; "[1; 1]{blanks}")?;
+        let blanks = " ".repeat(alloc, length - 6).expect(&rt, "blanks");
+        let text = format!(in alloc; "[1; 1]{blanks}").expect(&rt, "a text");
         let mut reader = Asked::new(text.as_bytes(), at_once, None);
-        let said = shown(alloc, read_game(alloc, &mut reader))?;
+        let said = shown(&rt, alloc, read_game(alloc, &mut reader));
         let seldom = reader.reads <= most;
         let found = (length, at_once, said.as_str(), seldom, reader.after);
         same(
@@ -149,5 +148,4 @@ fn reads_as_seldom_as_it_can(rt: HostRuntime) -> Result<(), Fail> {
             "reads",
         );
     }
-    Ok(())
 }

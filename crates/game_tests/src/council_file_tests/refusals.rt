@@ -11,35 +11,34 @@ fn tells_game<R: Abort + Print>(
     alloc: Global,
     answer: Result<Game, GameFault>,
     wanted: &str,
-) -> Result<(), Fail> {
+) {
     if let Err(fault) = &answer {
         say(rt, "out of memory");
         same(rt, *fault, GameFault::Memory, "fault");
-        return Ok(());
+        return;
     }
     say(rt, "worked");
-    same(rt, shown(alloc, answer)?.as_str(), wanted, "game");
-    Ok(())
+    same(rt, shown(rt, alloc, answer).as_str(), wanted, "game");
 }
 
 #[test]
-fn parses_toml(rt: HostRuntime) -> Result<(), Fail> {
+fn parses_toml(rt: HostRuntime) {
     let file =
         "title = \"Board\"\nquotas = [51, 2]\nmember = [{name = \"A\", weights = [50, 1]}, {name = \"B\", weights = [49, 1]}]";
     say(&rt, "call");
     let answer = parse_game(rt.alloc(), file.as_bytes());
-    tells_game(&rt, rt.alloc(), answer, "Board: A B [51; 50, 49] [2; 1, 1]")
+    tells_game(&rt, rt.alloc(), answer, "Board: A B [51; 50, 49] [2; 1, 1]");
 }
 
 #[test]
-fn parses_brackets(rt: HostRuntime) -> Result<(), Fail> {
+fn parses_brackets(rt: HostRuntime) {
     say(&rt, "call");
     let answer = parse_game(rt.alloc(), b"[51; 50, 49, 1]");
-    tells_game(&rt, rt.alloc(), answer, "1 2 3 [51; 50, 49, 1]")
+    tells_game(&rt, rt.alloc(), answer, "1 2 3 [51; 50, 49, 1]");
 }
 
 #[test]
-fn reads_pieces(rt: HostRuntime) -> Result<(), Fail> {
+fn reads_pieces(rt: HostRuntime) {
     let mut reader = Piecemeal {
         left: BOARD.as_bytes(),
         at_once: 7,
@@ -47,17 +46,15 @@ fn reads_pieces(rt: HostRuntime) -> Result<(), Fail> {
     };
     say(&rt, "call");
     let answer = read_game(rt.alloc(), &mut reader);
-    tells_game(&rt, rt.alloc(), answer, "A B C [51; 50, 49, 1]")
+    tells_game(&rt, rt.alloc(), answer, "A B C [51; 50, 49, 1]");
 }
 
 #[test]
-fn writes_notation(rt: HostRuntime) -> Result<(), Fail> {
+fn writes_notation(rt: HostRuntime) {
     let alloc = rt.alloc();
-    let Ok(game) = parse_game(alloc, BOARD.as_bytes()) else {
-        return Err(Fail::from("the game was refused"));
-    };
+    let game = parse_game(alloc, BOARD.as_bytes()).expect(&rt, "a game");
     let mut out = Vec::new(alloc);
-    out.push(b'x')?;
+    out.push(b'x').expect(&rt, "room");
     assert!(rt; 0 < game.rules());
     say(&rt, "call");
     match write_notation(&game, 0, &mut out) {
@@ -65,19 +62,14 @@ fn writes_notation(rt: HostRuntime) -> Result<(), Fail> {
         Err(_) => {
             say(&rt, "out of memory");
             same(&rt, out.as_slice(), b"x", "what is there");
-            write_notation(&game, 0, &mut out)?;
+            write_notation(&game, 0, &mut out).expect(&rt, "room");
         }
     }
     same(&rt, out.as_slice(), b"x[51; 50, 49, 1]", "notation");
-    Ok(())
 }
 
 /// Tells the answer of a call on a file that has this fault: the fault, or want of memory.
-fn tells_fault<R: Abort + Print>(
-    rt: &R,
-    answer: Result<Game, GameFault>,
-    wanted: GameFault,
-) -> Result<(), Fail> {
+fn tells_fault<R: Abort + Print>(rt: &R, answer: Result<Game, GameFault>, wanted: GameFault) {
     match answer.err() {
         Some(GameFault::Memory) => say(rt, "out of memory"),
         said => {
@@ -85,59 +77,58 @@ fn tells_fault<R: Abort + Print>(
             same(rt, said, Some(wanted), "fault");
         }
     }
-    Ok(())
 }
 
 #[test]
-fn finds_a_repeated_name(rt: HostRuntime) -> Result<(), Fail> {
+fn finds_a_repeated_name(rt: HostRuntime) {
     let file =
         "title = \"Board\"\nquotas = [51, 2]\nmember = [{name = \"A\", weights = [50, 1]}, {name = \"A\", weights = [49, 1]}]";
     say(&rt, "call");
     let answer = parse_game(rt.alloc(), file.as_bytes());
-    tells_fault(&rt, answer, GameFault::SameName { member: 2 })
+    tells_fault(&rt, answer, GameFault::SameName { member: 2 });
 }
 
 #[test]
-fn finds_an_unknown_key(rt: HostRuntime) -> Result<(), Fail> {
+fn finds_an_unknown_key(rt: HostRuntime) {
     let file =
         "quota = 51\nmember = [{name = \"A\", weight = 50}, {name = \"B\", weight = 49, vote = 1}]";
     say(&rt, "call");
     let answer = parse_game(rt.alloc(), file.as_bytes());
-    tells_fault(&rt, answer, GameFault::UnknownKey)
+    tells_fault(&rt, answer, GameFault::UnknownKey);
 }
 
 #[test]
-fn finds_a_bad_weight(rt: HostRuntime) -> Result<(), Fail> {
+fn finds_a_bad_weight(rt: HostRuntime) {
     let file = "quota = 51\nmember = [{name = \"A\", weight = 50}, {name = \"B\", weight = 49.0}]";
     say(&rt, "call");
     let answer = parse_game(rt.alloc(), file.as_bytes());
-    tells_fault(&rt, answer, GameFault::Weight { member: 2 })
+    tells_fault(&rt, answer, GameFault::Weight { member: 2 });
 }
 
 #[test]
-fn finds_no_toml(rt: HostRuntime) -> Result<(), Fail> {
+fn finds_no_toml(rt: HostRuntime) {
     let file = "quota = 51\nmember = [{name = \"A\", weight = 50}, {name = \"B\"";
     say(&rt, "call");
     let answer = parse_game(rt.alloc(), file.as_bytes());
-    tells_fault(&rt, answer, GameFault::Text)
+    tells_fault(&rt, answer, GameFault::Text);
 }
 
 #[test]
-fn finds_a_bad_bracket_text(rt: HostRuntime) -> Result<(), Fail> {
+fn finds_a_bad_bracket_text(rt: HostRuntime) {
     say(&rt, "call");
     let answer = parse_game(rt.alloc(), b"[51; 50, 49, 1, 1, 1, 1, 1, 1, 1,, 1]");
-    tells_fault(&rt, answer, GameFault::Bracket)
+    tells_fault(&rt, answer, GameFault::Bracket);
 }
 
 #[test]
-fn finds_a_quota_out_of_range(rt: HostRuntime) -> Result<(), Fail> {
+fn finds_a_quota_out_of_range(rt: HostRuntime) {
     say(&rt, "call");
     let answer = parse_game(rt.alloc(), b"[101; 50, 49, 1]");
-    tells_fault(&rt, answer, GameFault::QuotaRange)
+    tells_fault(&rt, answer, GameFault::QuotaRange);
 }
 
 #[test]
-fn reads_a_fault(rt: HostRuntime) -> Result<(), Fail> {
+fn reads_a_fault(rt: HostRuntime) {
     let mut reader = Piecemeal {
         left: b"[51; 50, 49, 1",
         at_once: 7,
@@ -145,11 +136,11 @@ fn reads_a_fault(rt: HostRuntime) -> Result<(), Fail> {
     };
     say(&rt, "call");
     let answer = read_game(rt.alloc(), &mut reader);
-    tells_fault(&rt, answer, GameFault::Bracket)
+    tells_fault(&rt, answer, GameFault::Bracket);
 }
 
 #[test]
-fn reads_up_to_an_error(rt: HostRuntime) -> Result<(), Fail> {
+fn reads_up_to_an_error(rt: HostRuntime) {
     let mut reader = Piecemeal {
         left: BOARD.as_bytes(),
         at_once: 7,
@@ -157,22 +148,22 @@ fn reads_up_to_an_error(rt: HostRuntime) -> Result<(), Fail> {
     };
     say(&rt, "call");
     let answer = read_game(rt.alloc(), &mut reader);
-    tells_fault(&rt, answer, GameFault::Read)
+    tells_fault(&rt, answer, GameFault::Read);
 }
 
 #[test]
-fn reads_too_much(rt: HostRuntime) -> Result<(), Fail> {
+fn reads_too_much(rt: HostRuntime) {
     let mut reader = Blanks { reads: 0 };
     say(&rt, "call");
     let answer = read_game(rt.alloc(), &mut reader);
-    tells_fault(&rt, answer, GameFault::TooLong)
+    tells_fault(&rt, answer, GameFault::TooLong);
 }
 
 /// Puts numbers behind a text: where a growth is refused, the text still stands in front.
 #[test]
-fn puts_numbers(rt: HostRuntime) -> Result<(), Fail> {
+fn puts_numbers(rt: HostRuntime) {
     let mut text = Vec::new(rt.alloc());
-    text.extend_from_slice(b"x")?;
+    text.extend_from_slice(b"x").expect(&rt, "room");
     say(&rt, "call");
     let joined = push_joined(&mut text, b", ", 300, |i| 1_000_000 + i as u64);
     let length = text.len();
@@ -190,5 +181,4 @@ fn puts_numbers(rt: HostRuntime) -> Result<(), Fail> {
             "what was there",
         );
     }
-    Ok(())
 }

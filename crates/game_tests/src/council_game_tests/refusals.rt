@@ -1,7 +1,6 @@
 //! The calls that take memory. `tests/refusals.sh` refuses the allocations between the line `call` and
 //! the line of the answer, one after the other.
 use super::*;
-use crate::helpers::say;
 
 /// Tells the answer of a call that makes a game: the game with these minimal winning coalitions, or
 /// want of memory.
@@ -10,7 +9,7 @@ fn tells_game<R: Abort + Print>(
     alloc: Global,
     answer: Result<Game, GameFault>,
     wanted: &[u64],
-) -> Result<(), Fail> {
+) {
     match answer {
         Ok(game) => {
             say(rt, "worked");
@@ -19,70 +18,56 @@ fn tells_game<R: Abort + Print>(
         Err(fault) => {
             say(rt, "out of memory");
             same(rt, fault, GameFault::Memory, "fault");
-            Ok(())
         }
     }
 }
 
 #[test]
-fn makes_a_game(rt: HostRuntime) -> Result<(), Fail> {
+fn makes_a_game(rt: HostRuntime) {
     let alloc = rt.alloc();
-    let names = letters(alloc, 3)?;
-    let weights = [50, 49, 1].to_vec(alloc)?;
+    let names = letters(&rt, alloc, 3);
+    let weights = [50, 49, 1].to_vec(alloc).expect(&rt, "weights");
     assert!(rt; weights.len() == names.len());
     say(&rt, "call");
     let answer = Game::new(alloc, None, names, weights, 51);
-    tells_game(&rt, alloc, answer, &[6, 5])
+    tells_game(&rt, alloc, answer, &[6, 5]);
 }
 
 #[test]
-fn makes_a_game_of_two_rules(rt: HostRuntime) -> Result<(), Fail> {
+fn makes_a_game_of_two_rules(rt: HostRuntime) {
     let votes = [[3, 2, 2, 1].as_slice(), &[1, 1, 1, 1]];
-    let answer = answer_of_two(&rt, rt.alloc(), [5, 3], votes)?;
-    tells_game(&rt, rt.alloc(), answer, &[14, 13, 11, 7])
+    let answer = answer_of_two(&rt, rt.alloc(), [5, 3], votes);
+    tells_game(&rt, rt.alloc(), answer, &[14, 13, 11, 7]);
 }
 
 /// The list of a game, or want of memory.
-fn tells_list<R: Abort + Print>(rt: &R, alloc: Global, game: &Game) -> Result<(), Fail> {
+fn tells_list<R: Abort + Print>(rt: &R, alloc: Global, game: &Game) {
     assert!(rt; game.members() <= 20);
     say(rt, "call");
     match plain_list(alloc, game) {
         Ok(list) => {
             say(rt, "worked");
-            same(
-                rt,
-                masks(alloc, &list)?.as_slice(),
-                &[24, 22, 21, 19, 15],
-                "list",
-            );
-            Ok(())
+            are_masks(rt, &list, &[24, 22, 21, 19, 15]);
         }
-        Err(_) => {
-            say(rt, "out of memory");
-            Ok(())
-        }
+        Err(_) => say(rt, "out of memory"),
     }
 }
 
 #[test]
-fn lists_plainly(rt: HostRuntime) -> Result<(), Fail> {
-    let five = game(&rt, rt.alloc(), 51, &[35, 20, 15, 15, 15])?;
-    tells_list(&rt, rt.alloc(), &five)
+fn lists_plainly(rt: HostRuntime) {
+    let five = game(&rt, rt.alloc(), 51, &[35, 20, 15, 15, 15]);
+    tells_list(&rt, rt.alloc(), &five);
 }
 
 #[test]
-fn lists_members(rt: HostRuntime) -> Result<(), Fail> {
-    let all = game(&rt, rt.alloc(), 5, &[1; 26])?;
+fn lists_members(rt: HostRuntime) {
+    let all = game(&rt, rt.alloc(), 5, &[1; 26]);
     say(&rt, "call");
     match all.members_of(rt.alloc(), Coalition::of_mask((1 << 25) + 1)) {
         Ok(members) => {
             say(&rt, "worked");
             same(&rt, members.as_slice(), &[0, 25], "members");
-            Ok(())
         }
-        Err(_) => {
-            say(&rt, "out of memory");
-            Ok(())
-        }
+        Err(_) => say(&rt, "out of memory"),
     }
 }

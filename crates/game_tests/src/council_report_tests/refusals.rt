@@ -2,46 +2,42 @@
 //! the line of the answer, one after the other.
 use super::asked::Asked;
 use super::*;
+use crate::helpers::say;
 use std::io::Print;
 
 /// Tells the answer of a report: what the writer took, or want of memory, and then it took nothing.
-fn tells<R: Abort + Print>(
-    rt: &R,
-    answer: Result<u64, ReportFault>,
-    writer: &Asked,
-) -> Result<(), Fail> {
+fn tells<R: Abort + Print>(rt: &R, answer: Result<u64, ReportFault>, writer: &Asked) {
     let taken = writer.bytes;
     if answer == Err(ReportFault::Memory) {
-        rt.println("out of memory")?;
+        say(rt, "out of memory");
         same(
             rt,
             (taken, writer.writes, writer.flushes),
             (0, 0, 0),
             "bytes, writes, flushes",
         );
-        return Ok(());
+        return;
     }
-    rt.println("worked")?;
+    say(rt, "worked");
     same(rt, answer, Ok(taken), "the bytes of the report");
-    Ok(())
 }
 
 #[test]
-fn writes_a_report(rt: HostRuntime) -> Result<(), Fail> {
+fn writes_a_report(rt: HostRuntime) {
     let alloc = rt.alloc();
-    let game = game(&rt, alloc)?;
-    let list = listing(&rt, alloc, &game, 16_383)?;
+    let game = game(&rt, alloc);
+    let list = listing(&rt, alloc, &game, 16_383);
     let mut writer = Asked::new(1_000_000, None, None);
-    rt.println("call")?;
+    say(&rt, "call");
     let answer = write_report(alloc, &game, &list, LIST, &mut writer);
-    tells(&rt, answer, &writer)
+    tells(&rt, answer, &writer);
 }
 
 #[test]
-fn writes_a_tally(rt: HostRuntime) -> Result<(), Fail> {
+fn writes_a_tally(rt: HostRuntime) {
     let alloc = rt.alloc();
-    let game = game(&rt, alloc)?;
-    let list = plain_list(alloc, &game)?;
+    let game = game(&rt, alloc);
+    let list = plain_list(alloc, &game).expect(&rt, "a list");
     assert!(rt; list.len() == 2_650);
     minimal_coalitions_can_be_counted();
     let counts = Counts::of(&game, &list);
@@ -51,7 +47,7 @@ fn writes_a_tally(rt: HostRuntime) -> Result<(), Fail> {
         notation: true,
     };
     let mut writer = Asked::new(1_000_000, None, None);
-    rt.println("call")?;
+    say(&rt, "call");
     let answer = write_tally(alloc, &game, &counts, shown, &mut writer);
-    tells(&rt, answer, &writer)
+    tells(&rt, answer, &writer);
 }
