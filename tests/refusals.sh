@@ -191,6 +191,7 @@ takes_none mwc_tally tallies_a_slice_without_memory
 takes_memory mwc_sums counts_by_sums
 takes_memory mwc_sums counts_by_halves
 takes_memory mwc_sums counts_by_chambers
+takes_memory mwc_sums counts_in_part
 # room for three desks; for each of three workers its room, and the start of its thread; and what comes then
 shape='o+(o{4,})(s+)\1\2\1\2o+'
 takes_memory mwc_gather gathers "not started"

@@ -4,6 +4,7 @@ ghost use Rattle.std.specs.Io.KnownBytes.{Appends};
 ghost use Rattle.council_game.specs.Game.{votes_of};
 ghost use Rattle.council_game.specs.Votes.{minimal_coalitions};
 ghost use Rattle.council_report.specs.Report.{report};
+ghost use Rattle.mwc_sums.specs.Chambers.{AreChambersOf};
 ghost use Rattle.mwc_parts.specs.declared.fault.GatherFault.{GatherFault};
 ghost use Rattle.mwc_parts.specs.declared.fault.GatherFault.TheVariants as gather;
 ghost use Rattle.power_index.specs.Tables.{AreCounts};
@@ -17,7 +18,7 @@ use crate::options::Options;
 use council_file::read_game;
 use council_game::Game;
 use council_report::{Shown, write_tally};
-use mwc_sums::count_by_sums;
+use mwc_sums::{Parts, count_by_sums, part_by_sums};
 use mwc_tally::{TallyFault, Watch};
 use power_index::Counts;
 use std::alloc::Global;
@@ -58,8 +59,27 @@ fn count_by_threads<T: Threads + Wait + Sync, V: Watch + Sync>(
     mwc_tally::tally(rt, alloc, game, bits, options.workers, watch)
 }
 
+/// The counts of all minimal winning coalitions of a game of which sums counted a part: worker threads walk over those of
+/// the part that is left.
+fn count_left<T: Threads + Wait + Sync, V: Watch + Sync>(
+    rt: &T,
+    alloc: Global,
+    game: &Game,
+    parts: Parts,
+    options: &Options,
+    watch: &V,
+) -> Result<Counts, TallyFault>
+    requires { AreChambersOf game.now parts.counted.game parts.left }
+    ensures counts { IfOk result
+        (λ c. AreCounts game.now (minimal_coalitions (votes_of game.now)) c) }
+    ensures stopped { result ≡ Err TallyFault.Stopped → V.may_stop }
+{
+    let left = count_by_threads(rt, alloc, &parts.left, options, watch)?;
+    Ok(parts.joined(alloc, game, left)?)
+}
+
 /// The counts of all minimal winning coalitions of a game: by sums where these serve, else by worker threads
-/// that walk over them.
+/// that walk over them, or over those of the part that sums leave.
 fn count<T: Threads + Wait + Sync, V: Watch + Sync>(
     rt: &T,
     alloc: Global,
@@ -74,7 +94,10 @@ fn count<T: Threads + Wait + Sync, V: Watch + Sync>(
     if let Some(counts) = count_by_sums(alloc, game)? {
         return Ok(counts);
     }
-    count_by_threads(rt, alloc, game, options, watch)
+    match part_by_sums(alloc, game)? {
+        Some(parts) => count_left(rt, alloc, game, parts, options, watch),
+        None => count_by_threads(rt, alloc, game, options, watch),
+    }
 }
 
 /// Counts and writes: all that a tally does with a game.
@@ -99,7 +122,7 @@ fn report<T: Threads + Wait + Sync, W: Write, V: Watch + Sync>(
 }
 
 /// Reads a game, counts its minimal winning coalitions, however many these are, by sums where these serve
-/// and else by worker threads, and writes its report, with no line for a coalition, and nothing else.
+/// and else by worker threads, which leave out what sums count beside them, and writes its report, with no line for a coalition, and nothing else.
 /// (`mwc_tally::tally` counts those of a game alone.) No coalition is kept, so the memory does not grow with
 /// their number, and `most` and `list` of the options are not looked at. Where threads count, at least 8
 /// of the heaviest members are fixed in each slice, if there are so many. It returns the number of bytes

@@ -1,9 +1,14 @@
 //! Counts by sums and by halves: against binomial numbers, against every subset and against the threads.
+ghost use Rattle.council_game.specs.Game.{votes_of};
+ghost use Rattle.council_game.specs.Votes.{minimal_coalitions};
+ghost use Rattle.power_index.specs.Tables.{AreCounts};
+ghost use Rattle.std.specs.Prelude.{IfOk};
+
 mod refusals;
 
 use crate::helpers::same;
 use council_game::{Game, GameFault, Rule, plain_list};
-use mwc_sums::count_by_sums;
+use mwc_sums::{count_by_sums, part_by_sums};
 use mwc_tally::{NoWatch, tally};
 use power_index::Counts;
 use power_index::laws::minimal_coalitions_can_be_counted;
@@ -67,7 +72,9 @@ fn by_sums(alloc: Global, game: &Game) -> Result<Counts, Fail> {
 }
 
 /// The counts of the minimal ones of all subsets, of a game of at most 20 members.
-fn by_subsets(rt: &impl Abort, alloc: Global, game: &Game) -> Result<Counts, Fail> {
+fn by_subsets(rt: &impl Abort, alloc: Global, game: &Game) -> Result<Counts, Fail>
+    ensures { IfOk result (λ c. AreCounts game.now (minimal_coalitions (votes_of game.now)) c) }
+{
     assert!(rt; game.members() <= 20);
     let list = plain_list(alloc, game)?;
     minimal_coalitions_can_be_counted();
@@ -437,6 +444,87 @@ fn random_games_with_vetoers_as_all_subsets(rt: HostRuntime) -> Result<(), Fail>
             counts_as_all_subsets(&rt, alloc, &game)?;
         }
     }
+    Ok(())
+}
+
+/// A house of five by weights and by how many they are, and one of four by weights alone; a seed chooses the numbers and the
+/// order of the three rules. A tenth member has no weight.
+fn random_game_of_a_house_with_heads(
+    rt: &impl Abort,
+    alloc: Global,
+    seed: u64,
+    most: u64,
+) -> Result<Game, Fail> {
+    let own = house(rt, alloc, seed, 10, 0, 5, most)?;
+    let heads = house(rt, alloc, seed, 10, 0, 5, 1)?;
+    let other = house(rt, alloc, seed.wrapping_add(1), 10, 5, 9, most)?;
+    let quota = random_quota(seed, &own);
+    let asked = seed % 5 + 1;
+    let beside = random_quota(seed.wrapping_add(1), &other);
+    match seed % 3 {
+        0 => game_of_three(rt, alloc, 10, [quota, asked, beside], own, heads, other),
+        1 => game_of_three(rt, alloc, 10, [asked, beside, quota], heads, other, own),
+        _ => game_of_three(rt, alloc, 10, [beside, quota, asked], other, own, heads),
+    }
+}
+
+#[test]
+fn random_games_of_a_house_with_heads_as_all_subsets(rt: HostRuntime) -> Result<(), Fail> {
+    let alloc = rt.alloc();
+    for seed in 500..530 {
+        for most in [1, 3, 1_000_000_000_000] {
+            let game = random_game_of_a_house_with_heads(&rt, alloc, seed, most)?;
+            let found = by_sums(alloc, &game)?;
+            same_counts(&rt, &found, &by_subsets(&rt, alloc, &game)?);
+        }
+    }
+    Ok(())
+}
+
+/// A house of six by two rules of weights, and one of three by a third rule, all of whom can veto where a seed is odd. A
+/// tenth member has no weight.
+fn random_game_in_part(rt: &impl Abort, alloc: Global, seed: u64, most: u64) -> Result<Game, Fail> {
+    let first = house(rt, alloc, seed, 10, 0, 6, most)?;
+    let second = house(rt, alloc, seed.wrapping_add(1), 10, 0, 6, most)?;
+    let third = house(rt, alloc, seed.wrapping_add(2), 10, 6, 9, most)?;
+    let beside = if seed % 2 == 0 {
+        random_quota(seed.wrapping_add(2), &third)
+    } else {
+        total(&third)
+    };
+    let quotas = [
+        random_quota(seed, &first),
+        random_quota(seed.wrapping_add(1), &second),
+        beside,
+    ];
+    game_of_three(rt, alloc, 10, quotas, first, second, third)
+}
+
+/// Sums count a part of a game, and all subsets of the other part give the rest: then the counts are those of all subsets.
+/// False where sums count no part.
+fn is_counted_in_part(rt: &impl Abort, alloc: Global, game: &Game) -> Result<bool, Fail> {
+    let Some(parts) = part_by_sums(alloc, game)? else {
+        return Ok(false);
+    };
+    let left = by_subsets(rt, alloc, &parts.left)?;
+    let found = parts.joined(alloc, game, left)?;
+    same_counts(rt, &found, &by_subsets(rt, alloc, game)?);
+    Ok(true)
+}
+
+#[test]
+fn random_games_in_part_as_all_subsets(rt: HostRuntime) -> Result<(), Fail> {
+    let alloc = rt.alloc();
+    let mut counted: u64 = 0;
+    for seed in 600..640 {
+        for most in [3, 20, 1_000_000_000_000] {
+            let game = random_game_in_part(&rt, alloc, seed, most)?;
+            if is_counted_in_part(&rt, alloc, &game)? {
+                counted = counted.saturating_add(1);
+            }
+        }
+    }
+    assert!(rt; counted > 60);
     Ok(())
 }
 

@@ -1,6 +1,6 @@
 -- Sums over all coalitions of so many members.
 use Rattle.std.proofs.Common.{◌≡◌, ◌∙◌, ◌==◌, ◌&&◌, ◌||◌, ℕ, zero, suc, ◌+◌, ◌*◌, ◌<◌, ◌≤◌, Bool, true, false, cond, List, length}
-use Rattle.std.proofs.Common.{filter, sym, ap, refl, arith, inl, inr}
+use Rattle.std.proofs.Common.{filter, ap, refl, arith, inl, inr}
 use Rattle.std.specs.List.{sum_by}
 use Rattle.std.proofs.lemmas.Bool.{cases_eq, eq-eqb, ne_eqb}
 use Rattle.std.proofs.lemmas.List.Sums.{sum_by-cons, length-filter}
@@ -44,11 +44,6 @@ one-and false d = omega arith
 pub count-both : (m t : ℕ → Bool) (xs : List ℕ) → length (filter t (filter m xs)) ≡ sum_by (λ c. one_if (m c && t c)) xs
 count-both m t xs =
     length-filter t (filter m xs) ∙ sum-filter (λ c. one_if (t c)) m xs ∙ (λ k. sum_by (λ c. one-and (m c) (t c) k) xs)
-
-pub same-bool : (b d : Bool) → (b ≡ true → d ≡ true) → (d ≡ true → b ≡ true) → b ≡ d
-same-bool true d p q = sym (p refl)
-same-bool false true p q = q refl
-same-bool false false p q = refl
 
 pub one-form : (e m t : Bool) → cond e (one_if (m && t)) 0 ≡ one_if ((e && m) && t)
 one-form true m t = refl

@@ -27,3 +27,6 @@ pub mod Joined
 pub mod Vetoing
 pub mod VetoRules
 pub mod OneChamber
+pub mod Sharing
+pub mod Dividing
+pub mod Parting

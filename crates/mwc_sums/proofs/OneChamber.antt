@@ -17,7 +17,7 @@ use Rattle.mwc_sums.proofs.Orders.{ranked-weight}
 use Rattle.mwc_sums.proofs.Whole.{enough-heads}
 
 -- a member with some weight
-kept : (x e : ℕ) → 0 < x → cond (x == 0) 0 e ≡ e
+pub kept : (x e : ℕ) → 0 < x → cond (x == 0) 0 e ≡ e
 kept x e pos = cond-false (x == 0) 0 e (ne_eqb x 0 (λ z. omega (arith, z, pos)))
 
 -- weights of the first rule fall

@@ -11,7 +11,8 @@ use Rattle.power_index.specs.Counting.{contains, size_of}
 use Rattle.power_index.proofs.Members.{members-of}
 use Rattle.power_index.proofs.Sums.{sum-plus, sum-range, exchange}
 use Rattle.mwc_sums.specs.Chambers.{paired, minimal_of_size, minimal_of_member_size}
-use Rattle.mwc_sums.proofs.AllSums.{one_if, sum-down, one-of, count-both, same-bool, one-form, two-form, under, one-sum, two-ways}
+use Rattle.mwc_sums.proofs.Completing.{same_test}
+use Rattle.mwc_sums.proofs.AllSums.{one_if, sum-down, one-of, count-both, one-form, two-form, under, one-sum, two-ways}
 use Rattle.mwc_sums.proofs.Masks.{mask_of, mask-below, mask-has, same-places}
 use Rattle.mwc_sums.proofs.Winning.{met, IsLeast, minimal-least, least-minimal}
 use Rattle.mwc_sums.proofs.Joining.{IsJoint, flipped-joint, least-half, least-sides, least-apart, least-own, least-union}
@@ -168,7 +169,7 @@ module _ (g a b : GameView) (is_g : IsGame g) (is_a : IsGame a) (is_b : IsGame b
       ∙ sum-down (λ y. cond (y == other_part c) (cond (x == own_part c) k 0) 0) (of_pair x) (2 ^ length b.names) (λ y ly.
       two-form (y == other_part c) (x == own_part c) (minimal (votes_of g) c) (t c)
       ∙ ap (λ (d : Bool). one_if (d && t c))
-      (same-bool ((y == other_part c) && ((x == own_part c) && minimal (votes_of g) c)) ((c == union x y) && min_pair x y)
+      (same_test ((y == other_part c) && ((x == own_part c) && minimal (votes_of g) c)) ((c == union x y) && min_pair x y)
       (back c x y lc) (forth c x y lx ly))
       ∙ sym (one-form (c == union x y) (min_pair x y) (t c))))
 

@@ -19,7 +19,7 @@ good r some met =
     (λ k. le-ltb r.quota 1 (omega (arith, some)) k || le-ltb (sum r.weights) r.quota met k)
 
 -- a good rule can be met
-good-met : (r : RuleView) → has_bad_quota r ≡ false → r.quota ≤ sum r.weights
+pub good-met : (r : RuleView) → has_bad_quota r ≡ false → r.quota ≤ sum r.weights
 good-met r is = by_tests (ltb r.quota 1) (ltb (sum r.weights) r.quota) is (λ none. ltb-false (sum r.weights) r.quota none)
   where
     by_tests : (b d : Bool) → (b || d) ≡ false → (d ≡ false → r.quota ≤ sum r.weights) → r.quota ≤ sum r.weights

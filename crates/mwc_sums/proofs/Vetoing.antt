@@ -65,7 +65,7 @@ beside f w (suc n) i lt out =
     nothing x = omega arith
 
 -- either one who passes the first test fails the second, or none does
-missing : (veto f : ℕ → Bool) (n : ℕ)
+pub missing : (veto f : ℕ → Bool) (n : ℕ)
     → ((i : ℕ) × (i < n) × (veto i ≡ true) × (f i ≡ false)) ⊎ ((i : ℕ) → i < n → veto i ≡ true → f i ≡ true)
 missing veto f zero = inr (λ i lt. absurd (omega (arith, lt)))
 missing veto f (suc n) = elim (missing veto f n) [

@@ -1,7 +1,7 @@
 -- Games whose rules fall apart, as the chambers of a parliament do.
-use Rattle.std.specs.Prelude.{◌≡◌, ◌⊎◌, ℕ, ◌+◌, ◌-◌, ◌*◌, ◌<◌, Bool, ◌&&◌, if◌then◌else◌, nat_le, List, length, slice_index, sum_by}
-use Rattle.std.specs.List.{All, list_all, range_with_len}
-use Rattle.council_game.specs.Votes.{RuleView, rule_at, minimal_coalitions}
+use Rattle.std.specs.Prelude.{◌≡◌, ◌⊎◌, ℕ, ◌+◌, ◌-◌, ◌*◌, ◌<◌, Bool, ◌&&◌, not, if◌then◌else◌, nat_le, nat_lt, List, length, slice_index, sum_by}
+use Rattle.std.specs.List.{All, filter, list_all, list_any, range_with_len}
+use Rattle.council_game.specs.Votes.{RuleView, minimal_coalitions}
 use Rattle.council_game.specs.Game.{GameView, votes_of}
 use Rattle.power_index.specs.Counting.{count_of_size, count_of_member_size}
 
@@ -24,11 +24,16 @@ pub record AreChambersOf (g a b : GameView) : Type 0 where
   pub both : (f : ℕ → Bool) → met (length g.names) g.rules f ≡ (met (length g.names) a.rules f && met (length g.names) b.rules f)
   pub apart : (i : ℕ) → i < length g.names → HasNoWeight a.rules i ⊎ HasNoWeight b.rules i
 
--- no one of n members has weight in two rules
-abbrev pub AreApart : ℕ → List RuleView → Type 0
-AreApart n rs =
-    (i r s : ℕ) → i < n → r < s → s < length rs
-    → (slice_index (rule_at rs r).weights i ≡ 0) ⊎ (slice_index (rule_at rs s).weights i ≡ 0)
+-- one of n members has weight in both rules
+abbrev pub share : ℕ → RuleView → RuleView → Bool
+share n a b = list_any (λ i. nat_lt 0 (slice_index a.weights i) && nat_lt 0 (slice_index b.weights i)) (range_with_len 0 n)
+
+-- the rules that share a member with one of them, and the others
+abbrev pub chamber_of : ℕ → List RuleView → RuleView → List RuleView
+chamber_of n rs r = filter (share n r) rs
+
+abbrev pub others_of : ℕ → List RuleView → RuleView → List RuleView
+others_of n rs r = filter (λ x. not (share n r x)) rs
 
 -- of pairs, how many have size s together, where f and h are how many have each size
 abbrev pub paired : (ℕ → ℕ) → (ℕ → ℕ) → ℕ → ℕ

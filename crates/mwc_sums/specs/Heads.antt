@@ -37,7 +37,8 @@ abbrev pub AsksOfThose : ℕ → RuleView → RuleView → Type 0
 AsksOfThose n h r =
     (each : ℕ) × (0 < each) × ((i : ℕ) → i < n → slice_index h.weights i ≡ (if slice_index r.weights i == 0 then 0 else each))
 
--- two rules over the members of one chamber: what they weigh, and how many they are
+-- one rule, or two over the members of one chamber: what they weigh, and how many they are
 abbrev pub AreOfOneChamber : ℕ → List RuleView → Type 0
 AreOfOneChamber n rs =
-    (length rs ≡ 2) × (AsksOfThose n (rule_at rs 1) (rule_at rs 0) ⊎ AsksOfThose n (rule_at rs 0) (rule_at rs 1))
+    (length rs ≡ 1)
+    ⊎ ((length rs ≡ 2) × (AsksOfThose n (rule_at rs 1) (rule_at rs 0) ⊎ AsksOfThose n (rule_at rs 0) (rule_at rs 1)))

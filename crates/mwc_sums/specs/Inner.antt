@@ -6,3 +6,4 @@ pub mod Sets
 pub mod Fitting
 pub mod Halves
 pub mod Fair
+pub mod Divided

@@ -1,9 +1,9 @@
 -- Members that can veto, and what the rules ask of the others where all of these agree.
 use Rattle.std.specs.Prelude.{◌⊎◌, ℕ, ◌+◌, ◌-◌, ◌<◌, Bool, if◌then◌else◌, nat_lt, List, length, map, sum, slice_index, sum_by}
-use Rattle.std.specs.List.{filter, list_any, range_with_len}
+use Rattle.std.specs.List.{All, filter, list_any, range_with_len}
 use Rattle.council_game.specs.Votes.{RuleView, Votes, rule_at}
 use Rattle.council_game.specs.Game.{GameView}
-use Rattle.mwc_sums.specs.Chambers.{AreApart}
+use Rattle.mwc_sums.specs.Chambers.{chamber_of}
 use Rattle.mwc_sums.specs.Heads.{AreOfOneChamber, IsOfWeightsAndHeads}
 
 -- the others together miss the quota of some rule
@@ -33,9 +33,9 @@ rests n f rs = filter (λ r. nat_lt 0 r.quota) (map (rest_of n f) rs)
 abbrev pub rules_beside_vetoers : GameView → List RuleView
 rules_beside_vetoers g = rests (length g.names) (can_veto g.rules) g.rules
 
--- rules that are counted chamber by chamber: no member has weight in two of them, or they are those of one chamber
+-- rules that are counted chamber by chamber: those that share a member with any one of them are of one chamber
 abbrev pub AreOfChambers : ℕ → List RuleView → Type 0
-AreOfChambers n rs = AreApart n rs ⊎ AreOfOneChamber n rs
+AreOfChambers n rs = All (λ r. AreOfOneChamber n (chamber_of n rs r)) rs
 
 -- some members can veto; where they agree some rule still asks for more; and such rules are of chambers
 abbrev pub AreOfChambersBesideVetoers : GameView → Type 0

@@ -4,12 +4,10 @@ ghost use Rattle.council_game.specs.Game.{votes_of};
 ghost use Rattle.council_game.specs.Votes.{minimal_coalitions, rule_at};
 ghost use Rattle.mwc_sums.specs.Heads.{AreOfOneChamber, AsksOfThose};
 ghost use Rattle.mwc_sums.specs.Inner.Asked.{IsAsked};
-ghost use Rattle.mwc_sums.specs.Vetoers.{AreOfChambers};
 ghost use Rattle.power_index.specs.Tables.{AreCounts};
 ghost use Rattle.std.specs.Prelude.{◌≡◌, ℕ, ◌+◌, ◌<◌, ◌≤◌, ◌↔◌, true, IfOk, length, slice_index};
 
-use crate::chambers::{are_apart, count_apart};
-use crate::count::boxed_with_heads;
+use crate::count::{boxed_of_all, boxed_with_heads};
 use crate::laws::counts_do_not_depend_on_the_order_of_rules;
 use crate::remade::turned;
 use council_game::{Game, Memory};
@@ -84,43 +82,28 @@ fn count_in_order(alloc: Global, game: &Game) -> Result<Box<Counts>, Memory>
     boxed_with_heads(alloc, game, places, heads)
 }
 
-/// The rules of a game are those of one chamber.
-fn are_of_one_chamber(game: &Game) -> bool
+/// Whether the rules of a game are those of one chamber.
+pub(crate) fn are_of_one_chamber(game: &Game) -> bool
     ensures { result ≡ true ↔ AreOfOneChamber (length game.now.names) game.now.rules }
 {
-    game.rules() == 2 && (asks_of_those(game, 1, 0) || asks_of_those(game, 0, 1))
+    let rules = game.rules();
+    rules == 1 || (rules == 2 && (asks_of_those(game, 1, 0) || asks_of_those(game, 0, 1)))
 }
 
-/// No member has weight in two rules of a game, or they are those of one chamber.
-pub(crate) fn are_of_chambers(game: &Game) -> bool
-    ensures { result ≡ true ↔ AreOfChambers (length game.now.names) game.now.rules }
-{
-    are_apart(game) || are_of_one_chamber(game)
-}
-
-/// The counts of a game of one chamber, by the game with its rules in the other order where the first rule asks for
+/// The counts of a game of one chamber, by the game with its rules in the other order where the first of two asks for
 /// heads: the counts of each member are the same.
-fn count_chamber(alloc: Global, game: &Game) -> Result<Box<Counts>, Memory>
+pub(crate) fn count_chamber(alloc: Global, game: &Game) -> Result<Box<Counts>, Memory>
     requires { AreOfOneChamber (length game.now.names) game.now.rules }
     ensures { IfOk result (λ c. AreCounts game.now (minimal_coalitions (votes_of game.now)) c.value) }
 {
+    let _members = game.members();
+    if game.rules() == 1 {
+        return boxed_of_all(alloc, game, 0);
+    }
     if asks_of_those(game, 1, 0) {
         return count_in_order(alloc, game);
     }
-    let _members = game.members();
     let turned = turned(alloc, game)?;
     counts_do_not_depend_on_the_order_of_rules();
     count_in_order(alloc, &turned)
-}
-
-/// The counts of a game of chambers.
-pub(crate) fn count_chambers(alloc: Global, game: &Game) -> Result<Box<Counts>, Memory>
-    requires { AreOfChambers (length game.now.names) game.now.rules }
-    ensures { IfOk result (λ c. AreCounts game.now (minimal_coalitions (votes_of game.now)) c.value) }
-{
-    if are_apart(game) {
-        count_apart(alloc, game)
-    } else {
-        count_chamber(alloc, game)
-    }
 }

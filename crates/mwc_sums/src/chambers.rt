@@ -1,188 +1,99 @@
-//! Games whose rules fall apart, as the chambers of a parliament do: each is counted by itself.
-ghost use Rattle.coalitions.specs.declared.limits.TheConstants.{MEMBERS, SIZES};
+//! Games of chambers, as a parliament has them: each is counted by itself.
 ghost use Rattle.council_game.specs.Game.{IsGame, votes_of};
-ghost use Rattle.council_game.specs.Votes.{has, minimal_coalitions, rule_at};
-ghost use Rattle.mwc_sums.specs.Chambers.{AreApart, AreChambersOf};
-ghost use Rattle.mwc_sums.specs.Chambers.{minimal_of_member_size, minimal_of_size, paired};
-ghost use Rattle.power_index.specs.Tables.{AreCounts, IsTallyOf};
-ghost use Rattle.std.specs.Prelude.{◌≡◌, ℕ, ◌+◌, ◌<◌, ◌≤◌, ◌^◌, ◌↔◌, ◌⊎◌, true, IfOk, length, slice_index};
+ghost use Rattle.council_game.specs.Rules.{rule_views};
+ghost use Rattle.council_game.specs.Votes.{minimal_coalitions, rule_at};
+ghost use Rattle.mwc_sums.specs.Chambers.{chamber_of, others_of, share};
+ghost use Rattle.mwc_sums.specs.Heads.{AreOfOneChamber};
+ghost use Rattle.mwc_sums.specs.Vetoers.{AreOfChambers};
+ghost use Rattle.power_index.specs.Tables.{AreCounts};
+ghost use Rattle.std.specs.Prelude.{◌≡◌, ◌<◌, ◌↔◌, true, if◌then◌else◌, IfOk, length};
 
-use crate::count::boxed_of_all;
-use crate::remade::{copied_rules, remade};
-use council_game::{Game, Memory, limits};
-use power_index::{Counts, Tally};
+use crate::chamber::{are_of_one_chamber, count_chamber};
+use crate::counted::{Counted, boxed_joined};
+use crate::remade::{copied_rule, remade};
+use council_game::{Game, Memory, Rule};
+use power_index::Counts;
 use std::alloc::Global;
 
-/// A member has weight in one rule at most.
-fn is_in_one(game: &Game, member: usize) -> bool
-    requires { member < length game.now.names }
-    ensures { result ≡ true ↔ ((r s : ℕ) → r < s → s < length game.now.rules
-        → (slice_index (rule_at game.now.rules r).weights member ≡ 0)
-        ⊎ (slice_index (rule_at game.now.rules s).weights member ≡ 0)) }
-{
-    for second in 0..game.rules() {
-        for first in 0..second {
-            if game.rule_weight(first, member) > 0 && game.rule_weight(second, member) > 0 {
-                return false;
-            }
-        }
-    }
-    true
-}
-
-/// No member has weight in two rules.
-pub(crate) fn are_apart(game: &Game) -> bool
-    ensures { result ≡ true ↔ AreApart (length game.now.names) game.now.rules }
+/// Whether a member has weight in both of two rules.
+fn share(game: &Game, first: usize, second: usize) -> bool
+    requires first { first < length game.now.rules }
+    requires second { second < length game.now.rules }
+    ensures { result ≡ share (length game.now.names) (rule_at game.now.rules first) (rule_at game.now.rules second) }
 {
     for member in 0..game.members() {
-        if !is_in_one(game, member) {
-            return false;
+        if game.rule_weight(first, member) > 0 && game.rule_weight(second, member) > 0 {
+            return true;
         }
     }
-    true
+    false
 }
 
-/// A game, and the counts of its minimal winning coalitions.
-#[derive(Drop)]
-pub(crate) struct Counted {
-    pub game: Game,
-    pub counts: Box<Counts>,
-    ghost is: { IsGame game },
-    ghost are: { AreCounts game (minimal_coalitions (votes_of game)) counts.value },
-}
-
-impl Counted {
-    /// A game with its counts.
-    pub(crate) fn new(game: Game, counts: Box<Counts>) -> Counted
-        requires { AreCounts game (minimal_coalitions (votes_of game)) counts.value }
-        ensures { result.game ≡ game }
-    {
-        let _members = game.members();
-        Counted { game, counts }
-    }
-
-    /// How many coalitions have each size.
-    fn sizes(&self) -> [u64; limits::SIZES]
-        ensures { (s : ℕ) → s ≤ MEMBERS → slice_index result s ≡ minimal_of_size self.now.game s }
-    {
-        let mut sizes = [0; limits::SIZES];
-        for size in 0..self.counts.members() + 1 {
-            sizes[size] = self.counts.wide_of_size(size);
-        }
-        sizes
-    }
-
-    /// How many coalitions that contain a member have each size.
-    fn sizes_of_member(&self, member: usize) -> [u64; limits::SIZES]
-        requires { member < length self.now.game.names }
-        ensures { (s : ℕ) → s ≤ MEMBERS → slice_index result s ≡ minimal_of_member_size self.now.game member s }
-    {
-        let mut sizes = [0; limits::SIZES];
-        for size in 0..self.counts.members() + 1 {
-            sizes[size] = self.counts.wide_of_member_size(member, size);
-        }
-        sizes
-    }
-}
-
-/// How many pairs have a size together.
-fn pairs_of_size(first: &[u64; limits::SIZES], second: &[u64; limits::SIZES], size: usize) -> u64
-    requires size { size ≤ MEMBERS }
-    requires room { paired (slice_index first.now) (slice_index second.now) size ≤ 2 ^ MEMBERS }
-    ensures { result ≡ paired (slice_index first.now) (slice_index second.now) size }
+/// The rules of a game that share a member with one of them, or the others.
+fn copied_rules(alloc: Global, game: &Game, rule: usize, sharing: bool) -> Result<Vec<Rule>, Memory>
+    requires { rule < length game.now.rules }
+    ensures { IfOk result (λ rules. rule_views rules.items ≡ (if sharing
+        then chamber_of (length game.now.names) game.now.rules (rule_at game.now.rules rule)
+        else others_of (length game.now.names) game.now.rules (rule_at game.now.rules rule))) }
 {
-    let mut pairs = 0;
-    for own in 0..size + 1 {
-        pairs += first[own] * second[size - own];
+    let mut copied = Vec::with_capacity(alloc, game.rules())?;
+    for other in 0..game.rules() {
+        if share(game, rule, other) == sharing {
+            copied.push(copied_rule(alloc, game, other)?)?;
+        }
     }
-    pairs
+    Ok(copied)
 }
 
-/// How many pairs have each size together.
-fn pairs(first: &[u64; limits::SIZES], second: &[u64; limits::SIZES]) -> [u64; limits::SIZES]
-    requires { (s : ℕ) → s ≤ MEMBERS → paired (slice_index first.now) (slice_index second.now) s ≤ 2 ^ MEMBERS }
-    ensures long { length result ≡ SIZES }
-    ensures sizes { (s : ℕ) → s ≤ MEMBERS →
-        slice_index result s ≡ paired (slice_index first.now) (slice_index second.now) s }
-{
-    let mut pairs = [0; limits::SIZES];
-    for size in 0..limits::SIZES {
-        pairs[size] = pairs_of_size(first, second, size);
-    }
-    pairs
-}
-
-/// The tally of the coalitions of a game of two chambers: each is one of each together.
-fn joined_all(game: &Game, first: &Counted, second: &Counted) -> Tally
-    requires { AreChambersOf game.now first.now.game second.now.game }
-    ensures { IsTallyOf (length game.now.names) (λ _. true) (minimal_coalitions (votes_of game.now)) result }
+/// The game of the rules that share a member with one.
+fn chamber_of(alloc: Global, game: &Game, rule: usize) -> Result<Game, Memory>
+    requires { rule < length game.now.rules }
+    ensures game { IfOk result (λ made. IsGame made) }
+    ensures names { IfOk result (λ made. made.names ≡ game.now.names) }
+    ensures rules { IfOk result (λ made. made.rules
+        ≡ chamber_of (length game.now.names) game.now.rules (rule_at game.now.rules rule)) }
 {
     let _members = game.members();
-    Tally {
-        sizes: pairs(&first.sizes(), &second.sizes()),
-    }
+    let rules = copied_rules(alloc, game, rule, true)?;
+    remade(alloc, game, rules)
 }
 
-/// The tally of those that contain a place: its member is in the one or in the other.
-fn joined_each(game: &Game, first: &Counted, second: &Counted, place: usize) -> Tally
-    requires place { place < length game.now.names }
-    requires chambers { AreChambersOf game.now first.now.game second.now.game }
-    ensures { IsTallyOf (length game.now.names) (has (length game.now.names) place)
-        (minimal_coalitions (votes_of game.now)) result }
+/// Whether the rules that share a member with one are of one chamber.
+pub(crate) fn is_of_one_chamber(alloc: Global, game: &Game, rule: usize) -> Result<bool, Memory>
+    requires { rule < length game.now.rules }
+    ensures { IfOk result (λ is. is ≡ true ↔ AreOfOneChamber (length game.now.names)
+        (chamber_of (length game.now.names) game.now.rules (rule_at game.now.rules rule))) }
 {
-    let _members = game.members();
-    let member = game.member_at(place);
-    let mut sizes = pairs(&first.sizes_of_member(member), &second.sizes());
-    let others = pairs(&first.sizes(), &second.sizes_of_member(member));
-    for size in 0..limits::SIZES {
-        sizes[size] += others[size];
-    }
-    Tally { sizes }
+    let chamber = chamber_of(alloc, game, rule)?;
+    Ok(are_of_one_chamber(&chamber))
 }
 
-/// The counts of a game of two chambers.
-fn joined(game: &Game, first: &Counted, second: &Counted) -> Counts
-    requires { AreChambersOf game.now first.now.game second.now.game }
-    ensures { AreCounts game.now (minimal_coalitions (votes_of game.now)) result }
+/// Whether the rules of a game are those of chambers.
+pub(crate) fn are_of_chambers(alloc: Global, game: &Game) -> Result<bool, Memory>
+    ensures { IfOk result (λ are. are ≡ true ↔ AreOfChambers (length game.now.names) game.now.rules) }
 {
-    let all = joined_all(game, first, second);
-    let mut each = [all; limits::MEMBERS];
-    for place in 0..game.members() {
-        each[place] = joined_each(game, first, second, place);
+    for rule in 0..game.rules() {
+        if !is_of_one_chamber(alloc, game, rule)? {
+            return Ok(false);
+        }
     }
-    Counts::of_tallies(game, all, each)
+    Ok(true)
 }
 
-/// The same on the heap. (By itself, so that what it takes of the stack is free again.)
-#[inline(never)]
-pub(crate) fn boxed_joined(
-    alloc: Global,
-    game: &Game,
-    first: &Counted,
-    second: &Counted,
-) -> Result<Box<Counts>, Memory>
-    requires { AreChambersOf game.now first.now.game second.now.game }
-    ensures { IfOk result (λ c. AreCounts game.now (minimal_coalitions (votes_of game.now)) c.value) }
-{
-    let counts = joined(game, first, second);
-    Ok(Box::new(alloc, counts)?)
-}
-
-/// The counts of a game of which no member has weight in two rules: those of its first rule and of the others,
-/// paired.
-pub(crate) fn count_apart(alloc: Global, game: &Game) -> Result<Box<Counts>, Memory>
-    requires { AreApart (length game.now.names) game.now.rules }
+/// The counts of a game of chambers: those of the first rule's chamber and of the others, paired.
+pub(crate) fn count_chambers(alloc: Global, game: &Game) -> Result<Box<Counts>, Memory>
+    requires { AreOfChambers (length game.now.names) game.now.rules }
     ensures { IfOk result (λ c. AreCounts game.now (minimal_coalitions (votes_of game.now)) c.value) }
 {
     let _members = game.members();
-    let rules = game.rules();
-    if rules == 1 {
-        return boxed_of_all(alloc, game, 0);
+    let others = copied_rules(alloc, game, 0, false)?;
+    if others.is_empty() {
+        return count_chamber(alloc, game);
     }
-    let first = remade(alloc, game, copied_rules(alloc, game, 0, 1)?)?;
-    let others = remade(alloc, game, copied_rules(alloc, game, 1, rules)?)?;
-    let counts = boxed_of_all(alloc, &first, 0)?;
-    let of_others = count_apart(alloc, &others)?;
+    let first = chamber_of(alloc, game, 0)?;
+    let others = remade(alloc, game, others)?;
+    let counts = count_chamber(alloc, &first)?;
+    let of_others = count_chambers(alloc, &others)?;
     let (first, others) = (Counted::new(first, counts), Counted::new(others, of_others));
     boxed_joined(alloc, game, &first, &others)
 }

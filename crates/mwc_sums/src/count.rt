@@ -10,7 +10,7 @@ ghost use Rattle.power_index.specs.Tables.{AreCounts, IsTallyOf, no_tally};
 ghost use Rattle.power_index.specs.declared.tally.Tally.{Tally};
 ghost use Rattle.std.specs.Prelude.{◌≡◌, ℕ, ◌≤◌, ◌<◌, ◌↔◌, ◌⊎◌, true, IfOk, IfSome, IsSome, length, option_map, slice_index_or, sum, take};
 
-use crate::chamber::{are_of_chambers, count_chambers};
+use crate::chambers::{are_of_chambers, count_chambers};
 use crate::choices::Heads;
 use crate::halves::by_halves;
 use crate::laws::counts_do_not_depend_on_the_order_of_rules;
@@ -201,7 +201,7 @@ fn boxed_by_sums(alloc: Global, game: &Game) -> Result<Option<Box<Counts>>, Memo
     if let Some(heads) = heads_of(game) {
         return Ok(Some(boxed_of_all(alloc, game, heads)?));
     }
-    if are_of_chambers(game) {
+    if are_of_chambers(alloc, game)? {
         return Ok(Some(count_chambers(alloc, game)?));
     }
     match count_turned(alloc, game)? {

@@ -16,9 +16,11 @@ mod chamber;
 mod chambers;
 mod choices;
 mod count;
+mod counted;
 mod fitting;
 mod halves;
 pub mod laws;
+mod parts;
 mod remade;
 mod row;
 mod rows;
@@ -27,3 +29,5 @@ mod tallies;
 mod vetoers;
 
 pub use count::count_by_sums;
+pub use counted::Counted;
+pub use parts::{Parts, part_by_sums};

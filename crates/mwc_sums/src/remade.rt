@@ -5,7 +5,7 @@ ghost use Rattle.council_game.specs.Rules.{rule_view, rule_views};
 ghost use Rattle.council_game.specs.Votes.{rule_at};
 ghost use Rattle.mwc_sums.specs.Inner.Fair.{IsFair};
 ghost use Rattle.mwc_sums.specs.Orders.{HaveTheSameRules};
-ghost use Rattle.std.specs.Prelude.{◌≡◌, ◌-◌, ◌<◌, ◌≤◌, ◌∷◌, [], All, IfOk, drop, length, map, string_bytes, take};
+ghost use Rattle.std.specs.Prelude.{◌≡◌, ◌<◌, ◌≤◌, ◌∷◌, [], All, IfOk, length, map, string_bytes};
 
 use council_game::{Game, GameFault, Memory, Rule};
 use std::alloc::Global;
@@ -23,7 +23,7 @@ fn copied_names(alloc: Global, game: &Game) -> Result<Vec<String>, Memory>
 }
 
 /// A rule of a game.
-fn copied_rule(alloc: Global, game: &Game, rule: usize) -> Result<Rule, Memory>
+pub(crate) fn copied_rule(alloc: Global, game: &Game, rule: usize) -> Result<Rule, Memory>
     requires { rule < length game.now.rules }
     ensures { IfOk result (λ r. rule_view r ≡ rule_at game.now.rules rule) }
 {
@@ -36,24 +36,6 @@ fn copied_rule(alloc: Global, game: &Game, rule: usize) -> Result<Rule, Memory>
         quota: game.rule_quota(rule),
         weights,
     })
-}
-
-/// The rules of a game from one to before another.
-pub(crate) fn copied_rules(
-    alloc: Global,
-    game: &Game,
-    from: usize,
-    to: usize,
-) -> Result<Vec<Rule>, Memory>
-    requires order { from ≤ to }
-    requires within { to ≤ length game.now.rules }
-    ensures { IfOk result (λ rules. rule_views rules.items ≡ drop from (take to game.now.rules)) }
-{
-    let mut rules = Vec::with_capacity(alloc, to - from)?;
-    for rule in from..to {
-        rules.push(copied_rule(alloc, game, rule)?)?;
-    }
-    Ok(rules)
 }
 
 /// The two rules of a game in the other order.

@@ -11,9 +11,9 @@ ghost use Rattle.power_index.specs.Tables.{AreCounts};
 ghost use Rattle.std.specs.Prelude.{◌≡◌, ℕ, ◌<◌, ◌≤◌, ◌↔◌, ◌∷◌, [], if◌then◌else◌, IfNone, IfOk, IfSome, IsSome};
 ghost use Rattle.std.specs.Prelude.{length, slice_index};
 
-use crate::chamber::{are_of_chambers, count_chambers};
-use crate::chambers::{Counted, boxed_joined};
+use crate::chambers::{are_of_chambers, count_chambers};
 use crate::count::boxed_of_all;
+use crate::counted::{Counted, boxed_joined};
 use crate::remade::remade;
 use council_game::{Game, Memory, Rule};
 use power_index::Counts;
@@ -74,7 +74,7 @@ fn other_weight(game: &Game, rule: usize, member: usize) -> u64
 }
 
 /// The rule that asks for each member that can veto.
-fn rule_for_vetoers(alloc: Global, game: &Game) -> Result<Rule, Memory>
+pub(crate) fn rule_for_vetoers(alloc: Global, game: &Game) -> Result<Rule, Memory>
     ensures { IfOk result (λ r. rule_view r ≡ rule_for (length game.now.names) (can_veto game.now.rules)) }
 {
     let members = game.members();
@@ -108,7 +108,7 @@ fn rest_of_rule(alloc: Global, game: &Game, rule: usize) -> Result<Rule, Memory>
 }
 
 /// What the rules ask of the others where all that can veto agree; those that ask for nothing are left out.
-fn rules_beside_vetoers(alloc: Global, game: &Game) -> Result<Vec<Rule>, Memory>
+pub(crate) fn rules_beside_vetoers(alloc: Global, game: &Game) -> Result<Vec<Rule>, Memory>
     ensures { IfOk result (λ rules. rule_views rules.items ≡ rules_beside_vetoers game.now) }
 {
     let rules = game.rules();
@@ -137,7 +137,7 @@ fn parted(alloc: Global, game: &Game) -> Result<Option<(Game, Game)>, Memory>
         return Ok(None);
     }
     let others = remade(alloc, game, rests)?;
-    if !are_of_chambers(&others) {
+    if !are_of_chambers(alloc, &others)? {
         return Ok(None);
     }
     let mut rules = Vec::with_capacity(alloc, 1)?;

@@ -20,7 +20,7 @@ returns-in-None-clause-kind c =
         | inl (inl one) ↦ absurd (no-heads (c.heads_of.ensures.kind.1 (inl one)))
         | inl (inr (two, inl first)) ↦ absurd (no-turned (c.in_ok-turned.ensures.kind.1 (two, first)))
         | inl (inr (two, inr second)) ↦ absurd (no-heads (c.heads_of.ensures.kind.1 (inr (two, second))))
-        | inr (inl chambers) ↦ absurd (both_ways _ c.if-are_of_chambers.false (c.are_of_chambers.ensures.1 chambers))
+        | inr (inl chambers) ↦ absurd (both_ways _ c.if-branch.false (c.in_ok-are_of_chambers.ensures.1 chambers))
         | inr (inr vetoers) ↦ h.1 vetoers
       ],
     ))

@@ -1,4 +1,4 @@
-use Rattle.std.proofs.Common.{ℕ, true, length, get_or, subst, sym, arith, inl, inr}
+use Rattle.std.proofs.Common.{true, length, get_or, subst, sym, arith, inl, inr}
 use Rattle.std.proofs.lemmas.Bool.{cases_lt}
 use Rattle.council_game.specs.Game.{votes_of}
 use Rattle.council_game.specs.Votes.{has, minimal_coalitions}

@@ -1,6 +1,5 @@
 use Rattle.std.proofs.Common.{◌≡◌, ◌∙◌, ◌&&◌, ℕ, Bool, List, ◌∷◌, [], ◌++◌, length, rules, sym, ap, refl, subst, arith, inl, inr, All}
-use Rattle.std.proofs.lemmas.Bool.{eqb-false}
-use Rattle.std.proofs.lemmas.List.{length-map}
+use Rattle.std.proofs.lemmas.Bool.{eqb-false, both_ways, false≢true}
 use Rattle.std.proofs.lemmas.List.Elements.{All-cons, All-nil}
 use Rattle.council_game.specs.declared.rule.Rule.{Rule}
 use Rattle.council_game.specs.Rules.{rule_view, rule_views}
@@ -9,7 +8,7 @@ use Rattle.mwc_sums.specs.Chambers.{HasNoWeight, met}
 use Rattle.mwc_sums.specs.Inner.Fair.{IsFair}
 use Rattle.mwc_sums.specs.Inner.Asked.{rule_for}
 use Rattle.mwc_sums.specs.Vetoers.{AreOfChambers, can_veto, rests}
-use Rattle.mwc_sums.proofs.Remaking.{fair-all}
+use Rattle.mwc_sums.proofs.Remaking.{as-many, fair-all}
 use Rattle.mwc_sums.proofs.Vetoing.{vetoers-both, vetoers-apart}
 use Rattle.mwc_sums.proofs.VetoRules.{fair-vetoers, fair-rests, few-rests}
 use Rattle.mwc_sums.proofs.vetoers.parted.Goals as goal
@@ -31,11 +30,10 @@ remade-requires-2-clause-fair c =
 
 pub remade-requires-clause-few : goal.remade-requires-clause-few
 remade-requires-clause-few c =
-    let long = length-map c.in_ok-rests.rests.items rule_view in
-    let views = ap (λ (l : List RuleView). length l) c.in_ok-rests.ensures in
+    let many = as-many c.in_ok-rests.rests.items _ c.in_ok-rests.ensures in
     let less = few-rests (length c.args.game.now.names) (can_veto c.args.game.now.rules) c.args.game.now.rules in
     let few = c.members-members.ensures.game.few_rules in
-    omega (arith, long, views, less, few)
+    omega (arith, many, less, few)
 
 pub remade-requires-clause-fair : goal.remade-requires-clause-fair
 remade-requires-clause-fair c =
@@ -65,8 +63,17 @@ returns-clause-games c =
         ];
       },
       ap (λ (l : List RuleView). length l) own,
-      c.are_of_chambers.ensures.0 (search rules),
+      c.in_ok-are_of_chambers.ensures.0 c.if-not-branch.false,
     )
+
+pub returns-then-not-branch-clause-some : goal.returns-then-not-branch-clause-some
+returns-then-not-branch-clause-some c = (
+  λ is. absurd (false≢true is),
+  λ (some, more, all). absurd (both_ways _ c.if-not-branch.true (c.in_ok-are_of_chambers.ensures.1
+      (subst (λ (n : ℕ). AreOfChambers n c.in_ok-others.others.rules) (sym (ap (λ (l : List (List ℕ)). length l) c.in_ok-others.ensures.names))
+      (subst (λ (l : List RuleView). AreOfChambers (length c.args.game.now.names) l)
+      (sym (c.in_ok-others.ensures.rules ∙ c.in_ok-rests.ensures)) all)))),
+)
 
 pub returns-clause-some : goal.returns-clause-some
 returns-clause-some c = (
@@ -75,11 +82,10 @@ returns-clause-some c = (
       let some = c.if-vetoers-eq0.false in
       let empty = eqb-false c.in_ok-rests.rests.len 0 (sym c.is_empty.ensures ∙ c.if-is_empty.false) in
       let held : length c.in_ok-rests.rests.items ≡ c.in_ok-rests.rests.len = search rules in
-      let long = length-map c.in_ok-rests.rests.items rule_view in
-      let views = ap (λ (l : List RuleView). length l) c.in_ok-rests.ensures in
-      let rest : AreOfChambers (length c.in_ok-others.others.names) c.in_ok-others.others.rules = c.are_of_chambers.ensures.0 (search rules) in (
+      let many = as-many c.in_ok-rests.rests.items _ c.in_ok-rests.ensures in
+      let rest : AreOfChambers (length c.in_ok-others.others.names) c.in_ok-others.others.rules = c.in_ok-are_of_chambers.ensures.0 c.if-not-branch.false in (
         omega (arith, asked, some),
-        omega (arith, empty, held, long, views),
+        omega (arith, empty, held, many),
         subst (λ (l : List RuleView). AreOfChambers (length c.args.game.now.names) l) (c.in_ok-others.ensures.rules ∙ c.in_ok-rests.ensures)
             (subst (λ (n : ℕ). AreOfChambers n c.in_ok-others.others.rules) (ap (λ (l : List (List ℕ)). length l) c.in_ok-others.ensures.names) rest),
       )),

@@ -1,6 +1,0 @@
-use Rattle.std.proofs.Common.{◌≡◌, ◌-◌, ◌*◌, get_or}
-use Rattle.std.specs.List.{sum_by, range_with_len}
-use Rattle.mwc_sums.proofs.chambers.pairs_of_size.Given as goal
-
-abbrev pub invariant-loop-own : goal.invariant-loop-own
-invariant-loop-own l = l.pairs ≡ sum_by (λ j. get_or l.first j 0 * get_or l.second (l.size - j) 0) (range_with_len 0 l.own)

@@ -1,0 +1,10 @@
+use Rattle.std.proofs.Common.{◌≡◌, ℕ, ◌<◌, ◌≤◌, length, get_or}
+use Rattle.power_index.specs.Tables.{table_of_size}
+use Rattle.mwc_sums.proofs.counted.Counted.sizes.Given as goal
+
+abbrev pub invariant-loop-size : goal.invariant-loop-size
+invariant-loop-size l = record {
+  long : length l.sizes ≡ 41;
+  done : (s : ℕ) → s < l.size → get_or l.sizes s 0 ≡ table_of_size l.self.counts.value s;
+  rest : (s : ℕ) → l.size ≤ s → get_or l.sizes s 0 ≡ 0;
+}

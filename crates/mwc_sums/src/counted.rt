@@ -1,0 +1,137 @@
+//! Games that are counted, and those of two of them together.
+ghost use Rattle.coalitions.specs.declared.limits.TheConstants.{MEMBERS, SIZES};
+ghost use Rattle.council_game.specs.Game.{IsGame, votes_of};
+ghost use Rattle.council_game.specs.Votes.{has, minimal_coalitions};
+ghost use Rattle.mwc_sums.specs.Chambers.{AreChambersOf, minimal_of_member_size, minimal_of_size, paired};
+ghost use Rattle.power_index.specs.Tables.{AreCounts, IsTallyOf};
+ghost use Rattle.std.specs.Prelude.{◌≡◌, ℕ, ◌+◌, ◌<◌, ◌≤◌, ◌^◌, true, IfOk, length, slice_index};
+
+use council_game::{Game, Memory, limits};
+use power_index::{Counts, Tally};
+use std::alloc::Global;
+
+/// A game, and the counts of its minimal winning coalitions.
+#[derive(Drop)]
+pub struct Counted {
+    pub game: Game,
+    pub counts: Box<Counts>,
+    ghost is: { IsGame game },
+    ghost are: { AreCounts game (minimal_coalitions (votes_of game)) counts.value },
+}
+
+impl Counted {
+    /// A game with its counts.
+    pub(crate) fn new(game: Game, counts: Box<Counts>) -> Counted
+        requires { AreCounts game (minimal_coalitions (votes_of game)) counts.value }
+        ensures { result.game ≡ game }
+    {
+        let _members = game.members();
+        Counted { game, counts }
+    }
+
+    /// How many coalitions have each size.
+    fn sizes(&self) -> [u64; limits::SIZES]
+        ensures { (s : ℕ) → s ≤ MEMBERS → slice_index result s ≡ minimal_of_size self.now.game s }
+    {
+        let mut sizes = [0; limits::SIZES];
+        for size in 0..self.counts.members() + 1 {
+            sizes[size] = self.counts.wide_of_size(size);
+        }
+        sizes
+    }
+
+    /// How many coalitions that contain a member have each size.
+    fn sizes_of_member(&self, member: usize) -> [u64; limits::SIZES]
+        requires { member < length self.now.game.names }
+        ensures { (s : ℕ) → s ≤ MEMBERS → slice_index result s ≡ minimal_of_member_size self.now.game member s }
+    {
+        let mut sizes = [0; limits::SIZES];
+        for size in 0..self.counts.members() + 1 {
+            sizes[size] = self.counts.wide_of_member_size(member, size);
+        }
+        sizes
+    }
+}
+
+/// How many pairs have a size together.
+fn pairs_of_size(first: &[u64; limits::SIZES], second: &[u64; limits::SIZES], size: usize) -> u64
+    requires size { size ≤ MEMBERS }
+    requires room { paired (slice_index first.now) (slice_index second.now) size ≤ 2 ^ MEMBERS }
+    ensures { result ≡ paired (slice_index first.now) (slice_index second.now) size }
+{
+    let mut pairs = 0;
+    for own in 0..size + 1 {
+        pairs += first[own] * second[size - own];
+    }
+    pairs
+}
+
+/// How many pairs have each size together.
+fn pairs(first: &[u64; limits::SIZES], second: &[u64; limits::SIZES]) -> [u64; limits::SIZES]
+    requires { (s : ℕ) → s ≤ MEMBERS → paired (slice_index first.now) (slice_index second.now) s ≤ 2 ^ MEMBERS }
+    ensures long { length result ≡ SIZES }
+    ensures sizes { (s : ℕ) → s ≤ MEMBERS →
+        slice_index result s ≡ paired (slice_index first.now) (slice_index second.now) s }
+{
+    let mut pairs = [0; limits::SIZES];
+    for size in 0..limits::SIZES {
+        pairs[size] = pairs_of_size(first, second, size);
+    }
+    pairs
+}
+
+/// The tally of the coalitions of a game of two chambers: each is one of each together.
+fn joined_all(game: &Game, first: &Counted, second: &Counted) -> Tally
+    requires { AreChambersOf game.now first.now.game second.now.game }
+    ensures { IsTallyOf (length game.now.names) (λ _. true) (minimal_coalitions (votes_of game.now)) result }
+{
+    let _members = game.members();
+    Tally {
+        sizes: pairs(&first.sizes(), &second.sizes()),
+    }
+}
+
+/// The tally of those that contain a place: its member is in the one or in the other.
+fn joined_each(game: &Game, first: &Counted, second: &Counted, place: usize) -> Tally
+    requires place { place < length game.now.names }
+    requires chambers { AreChambersOf game.now first.now.game second.now.game }
+    ensures { IsTallyOf (length game.now.names) (has (length game.now.names) place)
+        (minimal_coalitions (votes_of game.now)) result }
+{
+    let _members = game.members();
+    let member = game.member_at(place);
+    let mut sizes = pairs(&first.sizes_of_member(member), &second.sizes());
+    let others = pairs(&first.sizes(), &second.sizes_of_member(member));
+    for size in 0..limits::SIZES {
+        sizes[size] += others[size];
+    }
+    Tally { sizes }
+}
+
+/// The counts of a game of two chambers.
+fn joined(game: &Game, first: &Counted, second: &Counted) -> Counts
+    requires { AreChambersOf game.now first.now.game second.now.game }
+    ensures { AreCounts game.now (minimal_coalitions (votes_of game.now)) result }
+{
+    let all = joined_all(game, first, second);
+    let mut each = [all; limits::MEMBERS];
+    for place in 0..game.members() {
+        each[place] = joined_each(game, first, second, place);
+    }
+    Counts::of_tallies(game, all, each)
+}
+
+/// The same on the heap. (By itself, so that what it takes of the stack is free again.)
+#[inline(never)]
+pub(crate) fn boxed_joined(
+    alloc: Global,
+    game: &Game,
+    first: &Counted,
+    second: &Counted,
+) -> Result<Box<Counts>, Memory>
+    requires { AreChambersOf game.now first.now.game second.now.game }
+    ensures { IfOk result (λ c. AreCounts game.now (minimal_coalitions (votes_of game.now)) c.value) }
+{
+    let counts = joined(game, first, second);
+    Ok(Box::new(alloc, counts)?)
+}
