@@ -62,8 +62,9 @@ fi
 # ---- the stack that a run takes does not grow with its workers
 # on_small_stack NAME GAME WORD..: the program gives what it gives on the usual stack.
 on_small_stack() {
-    local name="a stack of 256 KB, $1" game=$top/$2.toml
+    local name="a stack of 256 KB, $1" game=$2.toml
     shift 2
+    case $game in /*) ;; *) game=$top/$game ;; esac
     "$program" "$@" "$game" >"$temp/wanted" 2>/dev/null </dev/null
     if (ulimit -s 256) 2>/dev/null; then
         (
@@ -85,3 +86,13 @@ on_small_stack "a tally by halves" examples/share-register --tally
 on_small_stack "a tally of chambers" examples/us-federal --tally
 on_small_stack "a tally beside a vetoer" docs/using/statutes/veto --tally
 on_small_stack "a tally by threads" examples/eu-27-nice --tally --workers 16
+# the same Council beside six seats that it shares nothing with: threads count the Council alone
+member=0
+{
+    sed 's/^quotas = \[\(.*\)\]/quotas = [\1, 10]/; s/^weights = \[\(.*\)\]/weights = [\1, 0]/' "$top/examples/eu-27-nice.toml"
+    for seat in 5 4 3 3 2 1; do
+        member=$((member + 1))
+        printf '[[member]]\nname = "Seat %s"\nweights = [0, 0, 0, %s]\n' "$member" "$seat"
+    done
+} >"$temp/beside.toml"
+on_small_stack "a tally in part by threads" "$temp/beside" --tally --workers 16

@@ -107,6 +107,48 @@ for rules in 2 3 4; do
     same_as_run "26 random members and $rules rules" "$needed" "${votes[@]}"
 done
 
+# a house by weights and by how many they are, beside a senate; and one by two rules of weights, beside a senate and a president
+mapfile -t votes < <(for it in 9 7 6 6 5 4 3 2 1; do echo "$it, 1, 0"; done && for it in 5 4 3 3 2 1; do echo "0, 0, $it"; done)
+same_as_run "a house with heads and a senate" '22, 5, 10' "${votes[@]}"
+mapfile -t votes < <(for it in '9, 1' '7, 2' '6, 4' '6, 6' '5, 7' '4, 3' '2, 8' '1, 9'; do echo "$it, 0, 0"; done &&
+    for it in 5 4 3 3 2 1; do echo "0, 0, $it, 0"; done && echo '0, 0, 0, 1')
+same_as_run "a house by two rules, a senate and a president" '21, 20, 10, 1' "${votes[@]}"
+
+# minimal_of NAME QUOTAS WEIGHTS..: how many coalitions the tally of a game of these rules has
+minimal_of() {
+    local name=$1 quotas=$2 member=0 weights
+    shift 2
+    {
+        echo "quotas = [$quotas]"
+        for weights in "$@"; do
+            member=$((member + 1))
+            printf '[[member]]\nname = "%s"\nweights = [%s]\n' "$member" "$weights"
+        done
+    } >"$temp/rules.toml"
+    run --tally "$temp/rules.toml"
+    succeeded "--tally of $name" && minimal=$(sed -n 's/^minimal\t//p' "$temp/out")
+}
+# a house of 20 by two rules, beside a senate of 19: threads count the house alone, whose coalitions go with each of the senate's
+x=7
+house=() senate=() both=()
+for ((member = 0; member < 20; member++)); do
+    x=$(((75 * x + 74) % 65537)) && first=$((x % 50 + 1))
+    x=$(((75 * x + 74) % 65537)) && house+=("$first, $((x % 50 + 1))") && both+=("${house[member]}, 0")
+done
+for ((member = 0; member < 19; member++)); do
+    x=$(((75 * x + 74) % 65537)) && senate+=("$((x % 50 + 1))") && both+=("0, 0, ${senate[member]}")
+done
+if minimal_of "a house by two rules" '260, 250' "${house[@]}"; then
+    of_house=$minimal
+    if minimal_of "a senate" 250 "${senate[@]}"; then
+        of_senate=$minimal
+        if minimal_of "the house and the senate" '260, 250, 250' "${both[@]}"; then
+            name="a house by two rules beside a senate: $of_house times $of_senate coalitions"
+            if [ "$minimal" = $((of_house * of_senate)) ]; then ok "$name"; else failed "$name" "there are $minimal"; fi
+        fi
+    fi
+fi
+
 # ---- refusals
 for words in "--tally --list" "--list --tally" "--tally --most 5" "--most=1000000 --tally"; do
     read -ra flags <<<"$words"
