@@ -44,18 +44,20 @@ fn numbers_of(alloc: Global, bytes: &[u8]) -> Result<Vec<u64>, Memory> {
 }
 
 /// Says where a text breaks the grammar.
-fn say_grammar(said: &mut Said, bytes: &[u8]) -> Result<(), Memory> {
+fn say_grammar(said: &mut Said, bytes: &[u8]) {
     let (place, read) = first_misfit(bytes);
-    let text = String::from_utf8_lossy(said.alloc(), bytes)?;
-    say_place(said, text.as_str(), place)?;
-    said.line(&[read.wanted()])?;
-    say_remedy_at(said, bytes, place)
+    match String::from_utf8_lossy(said.alloc(), bytes) {
+        Ok(text) => say_place(said, text.as_str(), place),
+        Err(_) => said.fail(),
+    }
+    said.line(&[read.wanted()]);
+    say_remedy_at(said, bytes, place);
 }
 
 /// Says which weight is too great.
-fn say_weight(said: &mut Said, weights: &[u64], member: u8) -> Result<(), Memory> {
+fn say_weight(said: &mut Said, weights: &[u64], member: u8) {
     let Some(weight) = weights.get(index_of(member)) else {
-        return Ok(());
+        return;
     };
     said.write(&[
         Text("weight "),
@@ -63,20 +65,15 @@ fn say_weight(said: &mut Said, weights: &[u64], member: u8) -> Result<(), Memory
         Text(" is "),
         Number(*weight),
         Text(": the greatest is 1000000000000"),
-    ])
+    ]);
 }
 
 /// Says what a fault says of the numbers of a bracket text.
-fn say_numbers(
-    said: &mut Said,
-    quota: u64,
-    weights: &[u64],
-    fault: GameFault,
-) -> Result<(), Memory> {
+fn say_numbers(said: &mut Said, quota: u64, weights: &[u64], fault: GameFault) {
     match fault {
         GameFault::Members => {
             let wanted = "at most 40 are allowed";
-            said.count("the text has ", weights.len(), " weights: ", wanted)
+            said.count("the text has ", weights.len(), " weights: ", wanted);
         }
         GameFault::Weight { member } => say_weight(said, weights, member),
         GameFault::QuotaRange => {
@@ -84,21 +81,36 @@ fn say_numbers(
             for weight in weights {
                 total = total.saturating_add(*weight);
             }
-            say_range(said, "the quota", Number(quota), total)
+            say_range(said, "the quota", Number(quota), total);
         }
-        _ => Ok(()),
+        // no faults of a bracket text that follows the grammar
+        GameFault::Read
+        | GameFault::TooLong
+        | GameFault::Text
+        | GameFault::UnknownKey
+        | GameFault::Title
+        | GameFault::Quota
+        | GameFault::Name { .. }
+        | GameFault::SameName { .. }
+        | GameFault::Bracket
+        | GameFault::Rules
+        | GameFault::Memory => {}
     }
 }
 
 /// Says what a fault says of a bracket text.
-pub(crate) fn say_bracket(said: &mut Said, bytes: &[u8], fault: GameFault) -> Result<(), Memory> {
+pub(crate) fn say_bracket(said: &mut Said, bytes: &[u8], fault: GameFault) {
     if fault == GameFault::Bracket {
-        return say_grammar(said, bytes);
+        say_grammar(said, bytes);
+        return;
     }
-    let numbers = numbers_of(said.alloc(), bytes)?;
-    match numbers.as_slice() {
-        [quota, weights @ ..] => say_numbers(said, *quota, weights, fault),
-        [] => Ok(()),
+    match numbers_of(said.alloc(), bytes) {
+        Ok(numbers) => {
+            if let [quota, weights @ ..] = numbers.as_slice() {
+                say_numbers(said, *quota, weights, fault);
+            }
+        }
+        Err(_) => said.fail(),
     }
 }
 

@@ -61,74 +61,68 @@ impl<'a> File<'a> {
     }
 
     /// Says where a key of the top stands.
-    pub(crate) fn say_key(&self, said: &mut Said, key: &str) -> Result<(), Memory> {
-        self.source.say(said, self.source.key(key))
+    pub(crate) fn say_key(&self, said: &mut Said, key: &str) {
+        self.source.say(said, self.source.key(key));
     }
 
     /// Says where a key of the member with this index stands, or else the member.
-    pub(crate) fn say_place(&self, said: &mut Said, index: usize, key: &str) -> Result<(), Memory> {
-        self.source.say(said, self.source.member_key(index, key))
+    pub(crate) fn say_place(&self, said: &mut Said, index: usize, key: &str) {
+        self.source.say(said, self.source.member_key(index, key));
     }
 
     /// Says what a value is that is no whole number, what is wanted in its place, and what helps.
-    pub(crate) fn say_number(
-        &self,
-        said: &mut Said,
-        value: &Value,
-        wanted: &str,
-    ) -> Result<(), Memory> {
-        say_value(said, value, wanted)?;
+    pub(crate) fn say_number(&self, said: &mut Said, value: &Value, wanted: &str) {
+        say_value(said, value, wanted);
         match value {
             Value::Float(_) => say_factor(said, self.source.plain()),
             Value::String(text) if is_share(text.as_str()) => say_statutes(said),
-            _ => Ok(()),
+            _ => {}
         }
     }
 
     /// Says that the member with this index has a key that is not one of its own.
-    fn say_key_of_member(&self, said: &mut Said, index: usize, key: &str) -> Result<(), Memory> {
-        self.say_place(said, index, key)?;
+    fn say_key_of_member(&self, said: &mut Said, index: usize, key: &str) {
+        self.say_place(said, index, key);
         said.write(&[
             Text("a member has no key "),
             Shown(key),
             Text(": its keys are name, weight and weights"),
-        ])?;
+        ]);
         if is_among(key, TOP) {
-            said.line(&["what belongs to the game stands before the first [[member]]"])?;
+            said.line(&["what belongs to the game stands before the first [[member]]"]);
         }
-        Ok(())
     }
 
-    fn say_unknown_key(&self, said: &mut Said) -> Result<(), Memory> {
+    fn say_unknown_key(&self, said: &mut Said) {
         if let Some(key) = other_key(self.table, TOP) {
-            self.say_key(said, key)?;
-            return said.write(&[
+            self.say_key(said, key);
+            said.write(&[
                 Text("at the top there is no key "),
                 Shown(key),
                 Text(": the keys are title, quota, quotas and member"),
             ]);
+            return;
         }
         for (index, member) in self.members().iter().enumerate() {
             if let Value::Table(table) = member {
                 if let Some(key) = other_key(table, OF_MEMBER) {
-                    return self.say_key_of_member(said, index, key);
+                    self.say_key_of_member(said, index, key);
+                    return;
                 }
             }
         }
-        Ok(())
     }
 
-    fn say_title(&self, said: &mut Said) -> Result<(), Memory> {
+    fn say_title(&self, said: &mut Said) {
         let wanted = "a title is a text in quotes, of at most 200 bytes, on one line";
-        self.say_key(said, "title")?;
-        match self.table.get("title") {
-            Some(value) => say_text(said, value, wanted),
-            None => Ok(()),
+        self.say_key(said, "title");
+        if let Some(value) = self.table.get("title") {
+            say_text(said, value, wanted);
         }
     }
 
-    fn say_quota(&self, said: &mut Said) -> Result<(), Memory> {
-        self.say_key(said, "quota")?;
+    fn say_quota(&self, said: &mut Said) {
+        self.say_key(said, "quota");
         match self.table.get("quota") {
             Some(value) => self.say_number(
                 said,
@@ -145,7 +139,7 @@ impl<'a> File<'a> {
     }
 
     /// Says what a fault says of the file. The members of a fault are numbered from 1.
-    pub(crate) fn say(&self, said: &mut Said, fault: GameFault) -> Result<(), Memory> {
+    pub(crate) fn say(&self, said: &mut Said, fault: GameFault) {
         match fault {
             GameFault::UnknownKey => self.say_unknown_key(said),
             GameFault::Title => self.say_title(said),
@@ -156,7 +150,12 @@ impl<'a> File<'a> {
             GameFault::SameName { member } => self.say_same_name(said, index_of(member)),
             GameFault::Weight { member } => self.say_weight(said, index_of(member)),
             GameFault::QuotaRange => self.say_quota_range(said),
-            _ => Ok(()),
+            // no faults of a file in TOML
+            GameFault::Read
+            | GameFault::TooLong
+            | GameFault::Text
+            | GameFault::Bracket
+            | GameFault::Memory => {}
         }
     }
 }

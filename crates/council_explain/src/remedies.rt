@@ -1,7 +1,6 @@
 //! What turns a number that is not whole into one that is.
 use crate::said::Part::{Number, Text};
 use crate::said::Said;
-use council_game::Memory;
 
 /// The most decimals of a number in a text.
 fn most_decimals(text: &[u8]) -> u64 {
@@ -22,10 +21,10 @@ fn most_decimals(text: &[u8]) -> u64 {
 
 /// Says by which power of ten the decimals of a text become whole numbers; nothing where it has none, or more than
 /// the greatest weight has zeros.
-pub(crate) fn say_factor(said: &mut Said, text: &[u8]) -> Result<(), Memory> {
+pub(crate) fn say_factor(said: &mut Said, text: &[u8]) {
     let decimals = most_decimals(text);
     if decimals == 0 || 12 < decimals {
-        return Ok(());
+        return;
     }
     let mut factor = 1u64;
     for _ in 0..decimals {
@@ -34,7 +33,7 @@ pub(crate) fn say_factor(said: &mut Said, text: &[u8]) -> Result<(), Memory> {
     said.write(&[
         Text("multiply all weights and the quota by "),
         Number(factor),
-    ])
+    ]);
 }
 
 /// Whether a text is a percentage or a fraction.
@@ -43,15 +42,15 @@ pub(crate) fn is_share(text: &str) -> bool {
 }
 
 /// Says where it stands how a percentage or a fraction becomes a whole number.
-pub(crate) fn say_statutes(said: &mut Said) -> Result<(), Memory> {
-    said.line(&["docs/STATUTES.md says how percentages and fractions become whole numbers"])
+pub(crate) fn say_statutes(said: &mut Said) {
+    said.line(&["docs/STATUTES.md says how percentages and fractions become whole numbers"]);
 }
 
 /// Says what helps where a text can't be read on from one of these bytes.
-pub(crate) fn say_remedy_at(said: &mut Said, text: &[u8], place: usize) -> Result<(), Memory> {
+pub(crate) fn say_remedy_at(said: &mut Said, text: &[u8], place: usize) {
     match text.get(place) {
         Some(b'%' | b'/') => say_statutes(said),
         Some(b'.') => say_factor(said, text),
-        _ => Ok(()),
+        _ => {}
     }
 }

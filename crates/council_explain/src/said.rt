@@ -1,6 +1,7 @@
 //! The lines of an explanation.
 use council_game::Memory;
 use std::alloc::Global;
+use toml::Value;
 
 /// No part of a line is longer, in characters.
 pub(crate) const LONGEST: usize = 100;
@@ -12,18 +13,23 @@ pub(crate) enum Part<'t> {
     /// A text of the file, as it can stand in a line.
     Shown(&'t str),
     Number(u64),
+    /// A value as TOML writes it, as it can stand in a line.
+    Value(&'t Value),
 }
 
-/// The lines of an explanation, each begun with two blanks and ended with LF.
+/// The lines of an explanation, each begun with two blanks and ended with LF; and whether a growth was refused, so that some
+/// of it is not there.
 #[derive(Drop)]
 pub(crate) struct Said {
     text: String,
+    failed: bool,
 }
 
 impl Said {
     pub(crate) fn new(alloc: Global) -> Said {
         Said {
             text: String::new(alloc),
+            failed: false,
         }
     }
 
@@ -32,34 +38,55 @@ impl Said {
         *self.text.allocator()
     }
 
-    /// Adds a line of these parts.
-    pub(crate) fn line(&mut self, parts: &[&str]) -> Result<(), Memory> {
-        self.text.push_str("  ")?;
-        for part in parts {
-            self.text.push_str(*part)?;
-        }
-        self.text.push_str("\n")?;
-        Ok(())
+    /// A growth was refused.
+    pub(crate) fn fail(&mut self) {
+        self.failed = true;
     }
 
-    fn push(&mut self, part: Part<'_>) -> Result<(), Memory> {
+    fn add(&mut self, text: &str) {
+        if self.text.push_str(text).is_err() {
+            self.failed = true;
+        }
+    }
+
+    fn add_shown(&mut self, text: &str) {
+        if push_shown(&mut self.text, text, LONGEST).is_err() {
+            self.failed = true;
+        }
+    }
+
+    /// Adds a line of these texts.
+    pub(crate) fn line(&mut self, texts: &[&str]) {
+        self.add("  ");
+        for text in texts {
+            self.add(*text);
+        }
+        self.add("\n");
+    }
+
+    fn push(&mut self, part: Part<'_>) {
         let alloc = self.alloc();
-        let text = match part {
-            Part::Text(text) => return Ok(self.text.push_str(text)?),
-            Part::Shown(text) => shown(alloc, text, LONGEST)?,
-            Part::Number(number) => number.to_string(alloc)?,
-        };
-        Ok(self.text.push_str(text.as_str())?)
+        match part {
+            Part::Text(text) => self.add(text),
+            Part::Shown(text) => self.add_shown(text),
+            Part::Number(number) => match number.to_string(alloc) {
+                Ok(text) => self.add(text.as_str()),
+                Err(_) => self.failed = true,
+            },
+            Part::Value(value) => match format!(in alloc; "{value}") {
+                Ok(text) => self.add_shown(text.as_str()),
+                Err(_) => self.failed = true,
+            },
+        }
     }
 
     /// Adds a line of these parts, some of which are no plain text.
-    pub(crate) fn write(&mut self, parts: &[Part<'_>]) -> Result<(), Memory> {
-        self.text.push_str("  ")?;
+    pub(crate) fn write(&mut self, parts: &[Part<'_>]) {
+        self.add("  ");
         for part in parts {
-            self.push(*part)?;
+            self.push(*part);
         }
-        self.text.push_str("\n")?;
-        Ok(())
+        self.add("\n");
     }
 
     /// Adds a line with a number in it.
@@ -69,17 +96,22 @@ impl Said {
         number: usize,
         behind: &'t str,
         wanted: &'t str,
-    ) -> Result<(), Memory> {
+    ) {
         self.write(&[
             Part::Text(before),
             Part::Number(number as u64),
             Part::Text(behind),
             Part::Text(wanted),
-        ])
+        ]);
     }
 
-    pub(crate) fn into_text(self) -> String {
-        self.text
+    /// The lines; Memory where a growth was refused.
+    pub(crate) fn into_text(self) -> Result<String, Memory> {
+        if self.failed {
+            Err(Memory)
+        } else {
+            Ok(self.text)
+        }
     }
 }
 
@@ -93,6 +125,19 @@ fn is_harmful(letter: char) -> bool {
         )
 }
 
+/// Adds a text that is not the program's own, as `shown` gives it.
+fn push_shown(line: &mut String, text: &str, most: usize) -> Result<(), Memory> {
+    let mut left = most;
+    for letter in text.chars() {
+        if left == 0 {
+            return Ok(line.push_str("...")?);
+        }
+        left -= 1;
+        line.push(if is_harmful(letter) { ' ' } else { letter })?;
+    }
+    Ok(())
+}
+
 /// A text that is not the program's own as it can stand in a line: at most `most` characters of it, and a blank in place of
 /// each that moves a terminal, ends a line, turns the direction of writing, or shows nothing.
 ///
@@ -101,14 +146,6 @@ fn is_harmful(letter: char) -> bool {
 /// Memory where a growth was refused.
 pub fn shown(alloc: Global, text: &str, most: usize) -> Result<String, Memory> {
     let mut shown = String::new(alloc);
-    let mut left = most;
-    for letter in text.chars() {
-        if left == 0 {
-            shown.push_str("...")?;
-            break;
-        }
-        left -= 1;
-        shown.push(if is_harmful(letter) { ' ' } else { letter })?;
-    }
+    push_shown(&mut shown, text, most)?;
     Ok(shown)
 }

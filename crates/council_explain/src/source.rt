@@ -83,7 +83,7 @@ fn text_of_line(text: &str, line: usize) -> &str {
 }
 
 /// Says the line and the column of a place, and what stands in the line.
-pub(crate) fn say_place(said: &mut Said, text: &str, place: usize) -> Result<(), Memory> {
+pub(crate) fn say_place(said: &mut Said, text: &str, place: usize) {
     let (line, column) = line_and_column(text.as_bytes(), place);
     said.write(&[
         Text("line "),
@@ -92,7 +92,7 @@ pub(crate) fn say_place(said: &mut Said, text: &str, place: usize) -> Result<(),
         Number(column as u64),
         Text(": "),
         Shown(text_of_line(text, line)),
-    ])
+    ]);
 }
 
 /// The text of a game file, and a copy of it with blanks in place of comments and of what stands in quotes.
@@ -171,9 +171,9 @@ impl<'a> Source<'a> {
     }
 
     /// Says the line of a place, and what stands in it; nothing where there is no place.
-    pub(crate) fn say(&self, said: &mut Said, place: Option<usize>) -> Result<(), Memory> {
+    pub(crate) fn say(&self, said: &mut Said, place: Option<usize>) {
         let Some(place) = place else {
-            return Ok(());
+            return;
         };
         let (line, _) = line_and_column(self.text.as_bytes(), place);
         said.write(&[
@@ -181,6 +181,6 @@ impl<'a> Source<'a> {
             Number(line as u64),
             Text(": "),
             Shown(text_of_line(self.text, line).trim()),
-        ])
+        ]);
     }
 }

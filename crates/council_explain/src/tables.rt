@@ -1,7 +1,6 @@
 //! Whether a text is a table, as a spreadsheet writes it.
 use crate::said::Part::{Number, Shown, Text};
 use crate::said::Said;
-use council_game::Memory;
 
 /// What stands between the columns of a line; none where it has one column.
 fn separator(line: &str) -> Option<&'static str> {
@@ -22,7 +21,7 @@ fn is_of_a_game(line: &str) -> bool {
 }
 
 /// Says that the text looks like a table; whether it does. Before its first line of several columns there are lines of one alone.
-pub(crate) fn say_table(said: &mut Said, text: &str) -> Result<bool, Memory> {
+pub(crate) fn say_table(said: &mut Said, text: &str) -> bool {
     for (index, line) in text.lines().enumerate() {
         if is_of_a_game(line) {
             break;
@@ -33,14 +32,14 @@ pub(crate) fn say_table(said: &mut Said, text: &str) -> Result<bool, Memory> {
                 Number((index as u64).saturating_add(1)),
                 Text(": "),
                 Shown(line),
-            ])?;
+            ]);
             said.line(&[
                 "that looks like a table, with ",
                 separator,
                 " between its columns: docs/using/from_table.py makes a game file of it",
-            ])?;
-            return Ok(true);
+            ]);
+            return true;
         }
     }
-    Ok(false)
+    false
 }

@@ -1,7 +1,6 @@
 //! Values of a file, as an explanation shows them.
-use crate::said::{LONGEST, Said, shown};
-use council_game::Memory;
-use std::alloc::Global;
+use crate::said::Part::Text;
+use crate::said::{Part, Said};
 use toml::Value;
 
 /// What kind of value it is.
@@ -17,18 +16,15 @@ pub(crate) fn kind(value: &Value) -> &'static str {
     }
 }
 
-/// A value as TOML writes it, cut where it is long.
-pub(crate) fn value_text(alloc: Global, value: &Value) -> Result<String, Memory> {
-    let text = format!(in alloc; "{value}")?;
-    shown(alloc, text.as_str(), LONGEST)
-}
-
 /// Says what a value is, and what is wanted in its place.
-pub(crate) fn say_value(said: &mut Said, value: &Value, wanted: &str) -> Result<(), Memory> {
-    let mut text = value_text(said.alloc(), value)?;
-    text.push_str(" is ")?;
-    text.push_str(kind(value))?;
-    said.line(&[text.as_str(), ": ", wanted])
+pub(crate) fn say_value<'t>(said: &mut Said, value: &'t Value, wanted: &'t str) {
+    said.write(&[
+        Part::Value(value),
+        Text(" is "),
+        Text(kind(value)),
+        Text(": "),
+        Text(wanted),
+    ]);
 }
 
 /// Whether a text has a TAB, the end of a line or another control character.
@@ -42,15 +38,16 @@ fn has_control(text: &str) -> bool {
 }
 
 /// Says what is wrong with what is to be a text on one line: what it is, what it has, or else how long it is.
-pub(crate) fn say_text(said: &mut Said, value: &Value, wanted: &str) -> Result<(), Memory> {
+pub(crate) fn say_text(said: &mut Said, value: &Value, wanted: &str) {
     let Value::String(text) = value else {
         return say_value(said, value, wanted);
     };
     if has_control(text.as_str()) {
         let odd = "the text has a TAB, the end of a line or another control character: ";
-        return said.line(&[odd, wanted]);
+        said.line(&[odd, wanted]);
+    } else {
+        said.count("the text has ", text.len(), " bytes: ", wanted);
     }
-    said.count("the text has ", text.len(), " bytes: ", wanted)
 }
 
 /// The elements of an array, and none of another value.
