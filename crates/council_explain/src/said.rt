@@ -44,12 +44,14 @@ impl Said {
     }
 
     fn add(&mut self, text: &str) {
+        // memory: told at the end
         if self.text.push_str(text).is_err() {
             self.failed = true;
         }
     }
 
     fn add_shown(&mut self, text: &str) {
+        // memory: told at the end
         if push_shown(&mut self.text, text, LONGEST).is_err() {
             self.failed = true;
         }
@@ -108,10 +110,10 @@ impl Said {
     /// The lines; Memory where a growth was refused.
     pub(crate) fn into_text(self) -> Result<String, Memory> {
         if self.failed {
-            Err(Memory)
-        } else {
-            Ok(self.text)
+            // memory: a growth was refused
+            return Err(Memory);
         }
+        Ok(self.text)
     }
 }
 

@@ -11,7 +11,8 @@ use Rattle.council_game.specs.Votes.{has, size}
 use Rattle.coalitions.proofs.Digits.{has-none}
 use Rattle.coalitions.proofs.Sizes.{size-ones}
 use Rattle.mwc_sums.specs.Completing.{completing}
-use Rattle.mwc_sums.specs.Inner.Rows.{one_of_size, taken, left_out}
+use Rattle.weight_sums.specs.Endings.{one_of_size, left_out}
+use Rattle.weight_sums.proofs.EndingLaws.{closings}
 use Rattle.mwc_sums.proofs.Completing.{double-pow, first-in, first-out, rest-in, rest-out, filter-map}
 
 -- ---- sizes
@@ -98,11 +99,6 @@ count-parts q w ws r =
 choose : (b : Bool) (x y u v : ℕ) → (b ≡ true → x ≡ u) → (b ≡ false → y ≡ v) → cond b x y ≡ cond b u v
 choose true x y u v f g = f refl
 choose false x y u v f g = g refl
-
--- in how many ways members with these weights complete a need, to coalitions of size s
-unfoldable pub closings : List ℕ → ℕ → ℕ → ℕ → ℕ
-closings [] s r a = 0
-closings (w ∷ ws) s r a = taken w (one_of_size s) (closings ws s) r a + closings ws s r a
 
 pub closings-all : (ws : List ℕ) (s r a : ℕ) → count (λ c. a + size (length ws) c == s) (completing ws r) ≡ closings ws s r a
 unfolding closings completing

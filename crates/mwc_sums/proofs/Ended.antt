@@ -1,13 +1,14 @@
 -- The coalitions of a list, by size, are those that its members lead to.
-use Rattle.std.proofs.Common.{◌≡◌, ◌∙◌, ◌↔◌, ◌⊎◌, ℕ, ◌-◌, ◌+◌, ◌^◌, ◌<◌, ◌≤◌, ◌==◌, ◌&&◌, Bool, true, false, cond, leb, ltb, List, [], ◌∷◌}
+use Rattle.std.proofs.Common.{◌≡◌, ◌∙◌, ◌↔◌, ◌⊎◌, ℕ, ◌+◌, ◌^◌, ◌<◌, ◌≤◌, ◌==◌, ◌&&◌, Bool, true, false, cond, leb, List, [], ◌∷◌}
 use Rattle.std.proofs.Common.{length, filter, sym, ap, refl, arith, inl, inr}
-use Rattle.std.proofs.lemmas.Bool.{cases_lt, cases_eq, lt-ltb, le-leb, leb-true, cond-true, eqb-true}
+use Rattle.std.proofs.lemmas.Bool.{cases_lt, cases_eq, le-leb, leb-true, eqb-true}
 use Rattle.council_game.specs.Votes.{has, size, weight, down}
 use Rattle.mwc_sums.specs.Completing.{completing}
-use Rattle.mwc_sums.specs.Inner.Rows.{one_of_size, fill, endings, left_out}
+use Rattle.weight_sums.specs.Endings.{endings, left_out}
 use Rattle.mwc_sums.proofs.Completing.{not-true, same_test}
-use Rattle.mwc_sums.proofs.Counting.{count, count-same, count-none, closings, closings-all, closings-parted}
-use Rattle.mwc_sums.proofs.Meeting.{down-below, meetings-all, meetings-parted, endings-few, endings-more, endings-heads}
+use Rattle.weight_sums.proofs.EndingLaws.{endings-few, endings-more, endings-heads, endings-plain}
+use Rattle.mwc_sums.proofs.Counting.{count, count-same, count-none, closings-all, closings-parted}
+use Rattle.mwc_sums.proofs.Meeting.{down-below, meetings-all, meetings-parted}
 
 -- a list has the endings, and with each member those that there are not without it
 pub record AreEnded (n : ℕ) (list ws : List ℕ) (heads q : ℕ) : Type 0 where
@@ -17,19 +18,6 @@ pub record AreEnded (n : ℕ) (list ws : List ℕ) (heads q : ℕ) : Type 0 wher
 
 plain : (n c : ℕ) → size n c ≡ 0 + size n c
 plain n c = omega arith
-
--- no heads are asked for
-pub endings-plain : (ws : List ℕ) (s r a : ℕ) → endings ws 0 s r a ≡ closings ws s r a
-unfolding endings closings
-endings-plain [] s r a = refl
-endings-plain (w ∷ ws) s r a =
-    let f : fill 0 s (length ws) (a + 1) ≡ one_of_size s (a + 1) = cond-true (ltb 0 (a + 1)) _ _ (lt-ltb 0 (a + 1) (omega arith)) in
-    let first = both (leb r w) _ _ _ _ f (endings-plain ws s (r - w) (a + 1)) in
-    omega (arith, first, endings-plain ws s r a)
-  where
-    both : (b : Bool) (x y u v : ℕ) → x ≡ u → y ≡ v → cond b x y ≡ cond b u v
-    both true x y u v p q = p
-    both false x y u v p q = q
 
 pub ended-one : (ws : List ℕ) (q : ℕ) → AreEnded (length ws) (completing ws q) ws 0 q
 ended-one ws q = record {

@@ -10,7 +10,8 @@ use Rattle.std.proofs.lemmas.List.Folds.{list_any_at, list_any_none}
 use Rattle.std.proofs.lemmas.List.Elements.{All-head, All-tail, All-filter, All-weaker, filter_passes}
 use Rattle.council_game.specs.Votes.{RuleView, rule_at}
 use Rattle.council_game.specs.Game.{GameView}
-use Rattle.mwc_sums.specs.Chambers.{weighs, met, share, chamber_of, others_of, HasNoWeight, AreChambersOf}
+use Rattle.mwc_sums.specs.Chambers.{weighs, met, share, chamber_of, HasNoWeight, AreChambersOf}
+use Rattle.mwc_sums.specs.Inner.Divided.{others_of}
 use Rattle.mwc_sums.specs.Heads.{AsksOfThose, AreOfOneChamber}
 use Rattle.mwc_sums.specs.Vetoers.{AreOfChambers}
 use Rattle.mwc_sums.specs.Inner.Fair.{IsFair}

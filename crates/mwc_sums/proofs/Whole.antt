@@ -15,10 +15,12 @@ use Rattle.council_game.specs.Ranks.{rule_by_rank}
 use Rattle.coalitions.proofs.Sizes.{size-ones}
 use Rattle.council_game.proofs.GameTests.{rule-is}
 use Rattle.power_index.specs.declared.tally.Tally.{Tally}
-use Rattle.power_index.specs.Tables.{IsTallyOf, no_tally}
+use Rattle.power_index.specs.Tables.{IsTallyOf}
+use Rattle.weight_sums.specs.declared.by_size.BySize.{BySize}
 use Rattle.mwc_sums.specs.Completing.{completing}
 use Rattle.mwc_sums.specs.Heads.{AsksForHeads, first_rule, IsMinimalByHeads}
-use Rattle.mwc_sums.specs.Inner.Rows.{endings, left_out, AreEndings, AreEndingsWith, IsOfNone}
+use Rattle.weight_sums.specs.Endings.{no_sizes, AreEndings, AreEndingsWith}
+use Rattle.mwc_sums.specs.Inner.NoTally.{IsOfNone}
 use Rattle.mwc_sums.specs.Inner.Asked.{IsAsked, IsAskedOfAll}
 use Rattle.mwc_sums.proofs.Completing.{minimal-completing, filter-map}
 use Rattle.mwc_sums.proofs.Counting.{count, count-same, count-none}
@@ -223,9 +225,6 @@ module _ (g : GameView) (ws : List ℕ) (q m heads : ℕ) (h : AreLed g ws q m h
   places : length ws ≡ m
   places = members-are led ws q heads asked-led
 
-  pub game-less : (p s : ℕ) → p < length ws → s ≤ 40 → endings (left_out p ws) heads s q 0 ≤ endings ws heads s q 0
-  game-less p s lt small = let e = (votes-ended led ws q heads asked-led).each p s lt in omega (arith, e)
-
   below-all : All (λ c. c < 2 ^ m) (minimal_coalitions led)
   unfolding minimal_coalitions
   below-all = All-filter (minimal led) (λ c. c < 2 ^ m) (down (2 ^ m)) (down-below (2 ^ m) (2 ^ m) (omega arith))
@@ -245,7 +244,8 @@ module _ (g : GameView) (ws : List ℕ) (q m heads : ℕ) (h : AreLed g ws q m h
       ∙ count-same (λ x. test (x * 2 ^ (length g.names - m)) && (size (length g.names) (x * 2 ^ (length g.names - m)) == s)) (λ x. own x && (size m x == s))
       (2 ^ m) (minimal_coalitions led) below-all (λ x lt. (λ i. same x lt i && (size-shifted (length g.names) m x h.asked.few lt i == s)))
 
-  pub game-all : (t : Tally) → AreEndings ws heads q t → IsTallyOf (length g.names) (λ c. true) (minimal_coalitions (votes_of g)) t
+  pub game-all : (t : BySize) → AreEndings ws heads q t
+      → IsTallyOf (length g.names) (λ c. true) (minimal_coalitions (votes_of g)) (record { sizes = t.sizes })
   game-all t is = record {
     long = is.long;
     sizes = λ s small. is.sizes s small ∙ sym ((votes-ended led ws q heads asked-led).all s)
@@ -253,8 +253,8 @@ module _ (g : GameView) (ws : List ℕ) (q m heads : ℕ) (h : AreLed g ws q m h
         ∙ sym (led-count (λ c. true) (λ c. true) s (λ x lt. refl));
   }
 
-  pub game-each : (each : List Tally) → ((p : ℕ) → p < length ws → AreEndingsWith ws heads q p (get_or each p no_tally)) → (p : ℕ) → p < m
-      → IsTallyOf (length g.names) (has (length g.names) p) (minimal_coalitions (votes_of g)) (get_or each p no_tally)
+  pub game-each : (each : List BySize) → ((p : ℕ) → p < length ws → AreEndingsWith ws heads q p (get_or each p no_sizes)) → (p : ℕ) → p < m
+      → IsTallyOf (length g.names) (has (length g.names) p) (minimal_coalitions (votes_of g)) (record { sizes = (get_or each p no_sizes).sizes })
   game-each each are p lt =
       let inside : p < length ws = omega (arith, places, lt) in
       let own = are p inside in

@@ -1,5 +1,5 @@
 -- Games whose rules fall apart, as the chambers of a parliament do.
-use Rattle.std.specs.Prelude.{◌≡◌, ◌⊎◌, ℕ, ◌+◌, ◌-◌, ◌*◌, ◌<◌, Bool, ◌&&◌, not, if◌then◌else◌, nat_le, nat_lt, List, length, slice_index, sum_by}
+use Rattle.std.specs.Prelude.{◌≡◌, ◌⊎◌, ℕ, ◌+◌, ◌-◌, ◌*◌, ◌<◌, Bool, ◌&&◌, if◌then◌else◌, nat_le, nat_lt, List, length, slice_index, sum_by}
 use Rattle.std.specs.List.{All, filter, list_all, list_any, range_with_len}
 use Rattle.council_game.specs.Votes.{RuleView, minimal_coalitions}
 use Rattle.council_game.specs.Game.{GameView, votes_of}
@@ -28,12 +28,9 @@ pub record AreChambersOf (g a b : GameView) : Type 0 where
 abbrev pub share : ℕ → RuleView → RuleView → Bool
 share n a b = list_any (λ i. nat_lt 0 (slice_index a.weights i) && nat_lt 0 (slice_index b.weights i)) (range_with_len 0 n)
 
--- the rules that share a member with one of them, and the others
+-- the rules that share a member with one of them
 abbrev pub chamber_of : ℕ → List RuleView → RuleView → List RuleView
 chamber_of n rs r = filter (share n r) rs
-
-abbrev pub others_of : ℕ → List RuleView → RuleView → List RuleView
-others_of n rs r = filter (λ x. not (share n r x)) rs
 
 -- of pairs, how many have size s together, where f and h are how many have each size
 abbrev pub paired : (ℕ → ℕ) → (ℕ → ℕ) → ℕ → ℕ

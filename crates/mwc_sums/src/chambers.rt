@@ -2,7 +2,8 @@
 ghost use Rattle.council_game.specs.Game.{IsGame, votes_of};
 ghost use Rattle.council_game.specs.Rules.{rule_views};
 ghost use Rattle.council_game.specs.Votes.{minimal_coalitions, rule_at};
-ghost use Rattle.mwc_sums.specs.Chambers.{chamber_of, others_of, share};
+ghost use Rattle.mwc_sums.specs.Chambers.{chamber_of, share};
+ghost use Rattle.mwc_sums.specs.Inner.Divided.{others_of};
 ghost use Rattle.mwc_sums.specs.Heads.{AreOfOneChamber};
 ghost use Rattle.mwc_sums.specs.Vetoers.{AreOfChambers};
 ghost use Rattle.power_index.specs.Tables.{AreCounts};

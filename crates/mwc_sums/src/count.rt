@@ -1,25 +1,24 @@
 //! The counts of a game by sums.
-ghost use Rattle.coalitions.specs.declared.limits.TheConstants.{MEMBERS, TOTAL};
+ghost use Rattle.coalitions.specs.declared.limits.TheConstants.{MEMBERS};
 ghost use Rattle.council_game.specs.Game.{votes_of};
 ghost use Rattle.council_game.specs.Votes.{has, minimal_coalitions, rule_at};
 ghost use Rattle.mwc_sums.specs.Heads.{AsksForHeads, WeighsAllAlike};
 ghost use Rattle.mwc_sums.specs.Vetoers.{IsCountedBySums};
-ghost use Rattle.mwc_sums.specs.Inner.Rows.{AreAllEndings, IsOfNone, endings, left_out};
+ghost use Rattle.weight_sums.specs.Endings.{no_sizes};
+ghost use Rattle.mwc_sums.specs.Inner.NoTally.{IsOfNone};
 ghost use Rattle.mwc_sums.specs.Inner.Asked.{IsAsked, IsAskedOfAll};
 ghost use Rattle.power_index.specs.Tables.{AreCounts, IsTallyOf, no_tally};
 ghost use Rattle.power_index.specs.declared.tally.Tally.{Tally};
-ghost use Rattle.std.specs.Prelude.{◌≡◌, ℕ, ◌≤◌, ◌<◌, ◌↔◌, ◌⊎◌, true, IfOk, IfSome, IsSome, length, option_map, slice_index_or, sum, take};
+ghost use Rattle.std.specs.Prelude.{◌≡◌, ℕ, ◌≤◌, ◌<◌, ◌↔◌, ◌⊎◌, true, IfOk, IfSome, IsSome, length, option_map, slice_index_or, take};
 
 use crate::chambers::{are_of_chambers, count_chambers};
-use crate::choices::Heads;
-use crate::halves::by_halves;
 use crate::laws::counts_do_not_depend_on_the_order_of_rules;
 use crate::remade::turned;
-use crate::tallies::{Tallies, by_sums};
 use crate::vetoers::count_beside_vetoers;
 use council_game::{Game, Memory, limits};
 use power_index::{Counts, Tally};
 use std::alloc::Global;
+use weight_sums::{BySize, Tallies, count_endings};
 
 /// The weights of the first rule, by rank, up to a place.
 fn ranked_weights(alloc: Global, game: &Game, places: usize) -> Result<Vec<u64>, Memory>
@@ -72,51 +71,23 @@ fn heads_of(game: &Game) -> Option<usize>
     None
 }
 
-/// What weights come to together.
-fn total_of(weights: &[u64]) -> u64
-    requires { sum weights.now ≤ TOTAL }
-    ensures { result ≡ sum weights.now }
+/// The tallies of the coalitions with each place, from those of the first places; with the other places there is none.
+fn tallies_of(each: &[BySize; limits::MEMBERS], places: usize) -> [Tally; limits::MEMBERS]
+    requires { places ≤ MEMBERS }
+    ensures first { (p : ℕ) → p < places →
+        (slice_index_or result p no_tally).sizes ≡ (slice_index_or each.now p no_sizes).sizes }
+    ensures last { (p : ℕ) → places ≤ p → p < MEMBERS → IsOfNone (slice_index_or result p no_tally) }
 {
-    let mut total = 0;
-    for weight in weights {
-        total += *weight;
-    }
-    total
-}
-
-/// The tallies of the coalitions that members lead to, on the heap: by sums where their rows have room, and else by halves.
-/// (By itself, so that what it takes of the stack is free again.)
-#[inline(never)]
-fn tallies(alloc: Global, weights: &[u64], quota: u64, heads: usize) -> Result<Box<Tallies>, Memory>
-    requires few { length weights.now ≤ MEMBERS }
-    requires light { sum weights.now ≤ TOTAL }
-    requires some { 0 < quota }
-    requires heads { heads ≤ MEMBERS }
-    requires less { (p s : ℕ) → p < length weights.now → s ≤ MEMBERS →
-        endings (left_out p weights.now) heads s quota 0 ≤ endings weights.now heads s quota 0 }
-    ensures { IfOk result (λ t. AreAllEndings weights.now heads quota t.value) }
-{
-    let total = total_of(weights);
-    let asked = Heads::new(alloc, heads)?;
-    if let Some(tallies) = by_sums(alloc, weights, quota, total, &asked)? {
-        return Ok(Box::new(alloc, tallies)?);
-    }
-    let tallies = by_halves(alloc, weights, quota, heads)?;
-    Ok(Box::new(alloc, tallies)?)
-}
-
-/// Leaves the tallies up to a place as they are, and makes those behind it, up to another, tallies of no coalition.
-fn clear_behind(each: &mut [Tally; limits::MEMBERS], places: usize, members: usize)
-    requires places { places ≤ members }
-    requires members { members ≤ MEMBERS }
-    ensures first { (p : ℕ) → p < places → slice_index_or each.new p no_tally ≡ slice_index_or each.old p no_tally }
-    ensures last { (p : ℕ) → places ≤ p → p < members → IsOfNone (slice_index_or each.new p no_tally) }
-{
-    for place in places..members {
-        each[place] = Tally {
-            sizes: [0; limits::SIZES],
+    let none = Tally {
+        sizes: [0; limits::SIZES],
+    };
+    let mut tallies = [none; limits::MEMBERS];
+    for place in 0..places {
+        tallies[place] = Tally {
+            sizes: each[place].sizes,
         };
     }
+    tallies
 }
 
 /// The counts of a game, on the heap, from the tallies of all its minimal coalitions and of those with each of the first
@@ -126,20 +97,22 @@ fn boxed_counts(
     alloc: Global,
     game: &Game,
     places: usize,
-    tallies: Box<Tallies>,
+    tallies: &Tallies,
 ) -> Result<Box<Counts>, Memory>
     requires places { places ≤ length game.now.names }
-    requires all { IsTallyOf (length game.now.names) (λ _. true) (minimal_coalitions (votes_of game.now)) tallies.value.all }
+    requires all { IsTallyOf (length game.now.names) (λ _. true) (minimal_coalitions (votes_of game.now))
+        (record { sizes = tallies.now.all.sizes }) }
     requires first { (p : ℕ) → p < places → IsTallyOf (length game.now.names) (has (length game.now.names) p)
-        (minimal_coalitions (votes_of game.now)) (slice_index_or tallies.value.each p no_tally) }
+        (minimal_coalitions (votes_of game.now)) (record { sizes = (slice_index_or tallies.now.each p no_sizes).sizes }) }
     requires last { (t : Tally) (p : ℕ) → IsOfNone t → places ≤ p → p < length game.now.names →
         IsTallyOf (length game.now.names) (has (length game.now.names) p) (minimal_coalitions (votes_of game.now)) t }
     ensures { IfOk result (λ c. AreCounts game.now (minimal_coalitions (votes_of game.now)) c.value) }
 {
-    let members = game.members();
-    let mut tallies = Box::into_inner(tallies);
-    clear_behind(&mut tallies.each, places, members);
-    let counts = Counts::of_tallies(game, tallies.all, tallies.each);
+    let _members = game.members();
+    let all = Tally {
+        sizes: tallies.all.sizes,
+    };
+    let counts = Counts::of_tallies(game, all, tallies_of(&tallies.each, places));
     Ok(Box::new(alloc, counts)?)
 }
 
@@ -158,8 +131,8 @@ pub(crate) fn boxed_with_heads(
     let _members = game.members();
     let quota = game.rule_quota(0);
     let weights = ranked_weights(alloc, game, places)?;
-    let tallies = tallies(alloc, &weights, quota, heads)?;
-    boxed_counts(alloc, game, places, tallies)
+    let tallies = count_endings(alloc, &weights, quota, heads)?;
+    boxed_counts(alloc, game, places, &tallies)
 }
 
 /// The counts of a game of one rule, or of a second one too that asks for so many members.

@@ -7,25 +7,17 @@
 //! }
 //! ```
 //!
-//! `row`, `rows` and `tallies` go from member to member and put together what misses as much: they serve where few
-//! needs are open. `sets`, `fitting` and `halves` count from the sets of the heavier and of the lighter half of the
-//! members, whatever their weights.
+//! `weight_sums` counts what members with some weights lead to; here it is said which games that counts: of one chamber, of
+//! several, beside vetoers, and in part.
 #![tactic(auto)]
 
 mod chamber;
 mod chambers;
-mod choices;
 mod count;
 mod counted;
-mod fitting;
-mod halves;
 pub mod laws;
 mod parts;
 mod remade;
-mod row;
-mod rows;
-mod sets;
-mod tallies;
 mod vetoers;
 
 pub use count::count_by_sums;

@@ -1,11 +1,16 @@
 -- The rules of chambers that sums count, and the others.
 use Rattle.std.specs.Prelude.{ℕ, ◌<◌, ◌≡◌, ◌↔◌, Bool, true, false, not, if◌then◌else◌, List, [], ◌∷◌, length, map, slice_index_or}
+use Rattle.std.specs.List.{filter}
 use Rattle.council_game.specs.Votes.{RuleView, rule_at}
 use Rattle.council_game.specs.Game.{GameView, IsGame}
-use Rattle.mwc_sums.specs.Chambers.{AreChambersOf, chamber_of}
+use Rattle.mwc_sums.specs.Chambers.{AreChambersOf, chamber_of, share}
 use Rattle.mwc_sums.specs.Heads.{AreOfOneChamber}
 use Rattle.mwc_sums.specs.Parts.{AreOfOthers}
 use Rattle.mwc_sums.specs.Vetoers.{AreOfChambers}
+
+-- the rules that share no member with one
+abbrev pub others_of : ℕ → List RuleView → RuleView → List RuleView
+others_of n rs r = filter (λ x. not (share n r x)) rs
 
 -- the rules at whose place a flag is true
 abbrev pub picked : List Bool → List RuleView → List RuleView

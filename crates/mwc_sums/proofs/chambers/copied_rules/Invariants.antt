@@ -1,7 +1,8 @@
 use Rattle.std.proofs.Common.{◌≡◌, cond, length, take}
 use Rattle.council_game.specs.Rules.{rule_views}
 use Rattle.council_game.specs.Votes.{rule_at}
-use Rattle.mwc_sums.specs.Chambers.{chamber_of, others_of}
+use Rattle.mwc_sums.specs.Chambers.{chamber_of}
+use Rattle.mwc_sums.specs.Inner.Divided.{others_of}
 use Rattle.mwc_sums.proofs.chambers.copied_rules.Given as goal
 
 abbrev pub invariant-loop-other : goal.invariant-loop-other

@@ -1,16 +1,8 @@
-use Rattle.std.proofs.Common.{◌∙◌}
-use Rattle.mwc_sums.proofs.Whole.{game-all, game-each, game-less, game-none}
+use Rattle.std.proofs.Common.{◌∙◌, subst, sym}
+use Rattle.weight_sums.specs.Endings.{AreAllEndings, AreEndings}
+use Rattle.weight_sums.specs.declared.tallies.Tallies.{Tallies}
+use Rattle.mwc_sums.proofs.Whole.{game-all, game-each, game-none}
 use Rattle.mwc_sums.proofs.count.boxed_with_heads.Goals as goal
-
-pub tallies-requires-clause-less : goal.tallies-requires-clause-less
-tallies-requires-clause-less c =
-    game-less c.args.game.now c.deref.result.now c.rule_quota-quota.result c.args.places c.args.heads
-    (record {
-      votes = c.members-members.ensures.votes;
-      weights = c.deref.ensures.value ∙ c.in_ok-weights.ensures;
-      quota = c.rule_quota-quota.ensures.votes;
-      asked = c.requires.asked;
-    })
 
 pub boxed_counts-requires-clause-all : goal.boxed_counts-requires-clause-all
 boxed_counts-requires-clause-all c =
@@ -21,7 +13,9 @@ boxed_counts-requires-clause-all c =
       quota = c.rule_quota-quota.ensures.votes;
       asked = c.requires.asked;
     })
-    c.in_ok-tallies.tallies.value.all c.in_ok-tallies.ensures.all
+    c.deref-2.result.now.all
+    (subst (λ (t : Tallies). AreEndings c.deref.result.now c.args.heads c.rule_quota-quota.result t.all) (sym c.deref-2.ensures)
+    c.in_ok-tallies.ensures.all)
 
 pub boxed_counts-requires-clause-first : goal.boxed_counts-requires-clause-first
 boxed_counts-requires-clause-first c =
@@ -32,7 +26,9 @@ boxed_counts-requires-clause-first c =
       quota = c.rule_quota-quota.ensures.votes;
       asked = c.requires.asked;
     })
-    c.in_ok-tallies.tallies.value.each c.in_ok-tallies.ensures.each
+    c.deref-2.result.now.each
+    (subst (λ (t : Tallies). AreAllEndings c.deref.result.now c.args.heads c.rule_quota-quota.result t) (sym c.deref-2.ensures)
+    c.in_ok-tallies.ensures).each
 
 pub boxed_counts-requires-clause-last : goal.boxed_counts-requires-clause-last
 boxed_counts-requires-clause-last c t p none =

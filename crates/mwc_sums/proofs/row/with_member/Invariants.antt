@@ -1,5 +1,0 @@
-use Rattle.mwc_sums.proofs.Taking.{Taking}
-use Rattle.mwc_sums.proofs.row.with_member.Given as goal
-
-abbrev pub invariant-loop-prefix : goal.invariant-loop-prefix
-invariant-loop-prefix l = Taking l.weight l.heads.asked l.left l.row l.initial.done l.prefix-index l.done l.others.items

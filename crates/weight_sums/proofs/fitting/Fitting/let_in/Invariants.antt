@@ -1,0 +1,11 @@
+use Rattle.weight_sums.specs.Inner.Fitting.{AreEntered, Meet}
+use Rattle.weight_sums.proofs.fitting.Fitting.let_in.Given as goal
+
+abbrev pub invariant-loop-self : goal.invariant-loop-self
+invariant-loop-self l = record {
+  entered : AreEntered l.sets l.self;
+  meet : Meet l.need l.self.outside l.sets;
+}
+
+abbrev pub decreases-loop-self : goal.decreases-loop-self
+decreases-loop-self l = l.self.outside

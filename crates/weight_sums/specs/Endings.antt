@@ -1,0 +1,58 @@
+-- How many coalitions members with some weights lead to, by size.
+use Rattle.std.specs.Prelude.{ℕ, zero, suc, ◌+◌, ◌-◌, ◌*◌, ◌==◌, ◌<◌, ◌≤◌, ◌≡◌, if◌then◌else◌, nat_le, nat_lt, List, [], ◌∷◌, length, slice_index, slice_index_or}
+use Rattle.coalitions.specs.declared.limits.TheConstants.{MEMBERS, SIZES}
+use Rattle.weight_sums.specs.declared.by_size.BySize.{BySize}
+use Rattle.weight_sums.specs.declared.tallies.Tallies.{Tallies}
+
+-- in how many ways k of m members can be chosen
+unfoldable pub choose : ℕ → ℕ → ℕ
+choose zero zero = 1
+choose zero (suc k) = 0
+choose (suc m) zero = 1
+choose (suc m) (suc k) = choose m k + choose m (suc k)
+
+-- 1 where the size is s
+abbrev pub one_of_size : ℕ → ℕ → ℕ
+one_of_size s size = if size == s then 1 else 0
+
+-- a prefix with one member more, of weight w: complete, or counted by g
+abbrev pub taken : ℕ → (ℕ → ℕ) → (ℕ → ℕ → ℕ) → ℕ → ℕ → ℕ
+taken w complete g need size = if nat_le need w then complete (size + 1) else g (need - w) (size + 1)
+
+-- how many coalitions of size s a prefix of this size leads to that meets the first quota, and that by its last member,
+-- where so many members are left, and so many heads are asked for: itself where it has more, and else any others that fill it up
+abbrev pub fill : ℕ → ℕ → ℕ → ℕ → ℕ
+fill heads s left size =
+    if nat_lt heads size then one_of_size s size else one_of_size s heads * choose left (heads - size)
+
+-- how many coalitions of size s members with these weights lead to, from a need and a size
+unfoldable pub endings : List ℕ → ℕ → ℕ → ℕ → ℕ → ℕ
+endings [] heads s need size = 0
+endings (w ∷ ws) heads s need size =
+    taken w (fill heads s (length ws)) (endings ws heads s) need size + endings ws heads s need size
+
+-- weights without that of place p
+unfoldable pub left_out : ℕ → List ℕ → List ℕ
+left_out p [] = []
+left_out zero (w ∷ ws) = ws
+left_out (suc p) (w ∷ ws) = w ∷ left_out p ws
+
+-- of no coalition
+abbrev pub no_sizes : BySize
+no_sizes = record { sizes = [] }
+
+-- a tally has so many coalitions of each size as the members lead to from a quota
+pub record AreEndings (ws : List ℕ) (heads quota : ℕ) (t : BySize) : Type 0 where
+  pub long : length t.sizes ≡ SIZES
+  pub sizes : (s : ℕ) → s ≤ MEMBERS → slice_index t.sizes s ≡ endings ws heads s quota 0
+
+-- a tally has those that the members do not lead to without the member of place p
+pub record AreEndingsWith (ws : List ℕ) (heads quota p : ℕ) (t : BySize) : Type 0 where
+  pub long : length t.sizes ≡ SIZES
+  pub sizes : (s : ℕ) → s ≤ MEMBERS →
+      slice_index t.sizes s + endings (left_out p ws) heads s quota 0 ≡ endings ws heads s quota 0
+
+-- the tallies of all and of those with each place
+pub record AreAllEndings (ws : List ℕ) (heads quota : ℕ) (t : Tallies) : Type 0 where
+  pub all : AreEndings ws heads quota t.all
+  pub each : (p : ℕ) → p < length ws → AreEndingsWith ws heads quota p (slice_index_or t.each p no_sizes)

@@ -1,0 +1,5 @@
+-- What only proofs, private functions and invariants need: no public contract mentions it.
+pub mod Rows
+pub mod Sets
+pub mod Fitting
+pub mod Halves

@@ -1,0 +1,55 @@
+//! The coalitions that members lead to, by sums or by halves.
+ghost use Rattle.coalitions.specs.declared.limits.TheConstants.{MEMBERS, TOTAL};
+ghost use Rattle.std.specs.Prelude.{◌≡◌, ◌≤◌, ◌<◌, IfOk, length, sum};
+ghost use Rattle.weight_sums.specs.Endings.{AreAllEndings};
+
+use crate::choices::Heads;
+use crate::halves::by_halves;
+use crate::tallies::{Tallies, by_sums};
+use coalitions::Memory;
+use std::alloc::Global;
+
+/// What weights come to together.
+fn total_of(weights: &[u64]) -> u64
+    requires { sum weights.now ≤ TOTAL }
+    ensures { result ≡ sum weights.now }
+{
+    let mut total = 0;
+    for weight in weights {
+        total += *weight;
+    }
+    total
+}
+
+/// How many coalitions members with these weights lead to from a quota, by size: of all, and by place of those that contain
+/// it; on the heap. Each meets the quota and loses it without its last member, and has more members than the heads
+/// that are asked for, or just so many and meets the quota. By sums where their rows have room, and else by halves, in 64 MB.
+///
+/// There are at most 40 weights, of at most 40 * 10^12 together; the quota is above 0, and at most 40 heads are asked for. With
+/// the heaviest first, and all members in them, these are the minimal winning coalitions of `[quota; weights]`, where
+/// there are no heads.
+///
+/// # Errors
+///
+/// `Memory` where a growth was refused.
+#[inline(never)]
+pub fn count_endings(
+    alloc: Global,
+    weights: &[u64],
+    quota: u64,
+    heads: usize,
+) -> Result<Box<Tallies>, Memory>
+    requires few { length weights.now ≤ MEMBERS }
+    requires light { sum weights.now ≤ TOTAL }
+    requires some { 0 < quota }
+    requires heads { heads ≤ MEMBERS }
+    ensures { IfOk result (λ t. AreAllEndings weights.now heads quota t.value) }
+{
+    let total = total_of(weights);
+    let asked = Heads::new(alloc, heads)?;
+    if let Some(tallies) = by_sums(alloc, weights, quota, total, &asked)? {
+        return Ok(Box::new(alloc, tallies)?);
+    }
+    let tallies = by_halves(alloc, weights, quota, heads)?;
+    Ok(Box::new(alloc, tallies)?)
+}

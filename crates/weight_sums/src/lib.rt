@@ -1,0 +1,25 @@
+//! How many coalitions members with some weights lead to, by size and by member: those that meet a quota, and lose it without
+//! their last member, and those that fill up a number of heads. No coalition is listed.
+//!
+//! ```text
+//! let tallies = count_endings(alloc, &[50, 49, 1], 51, 0)?;
+//! ```
+//!
+//! `row`, `rows` and `tallies` go from member to member and put together what misses as much: they serve where few
+//! needs are open. `sets`, `fitting` and `halves` count from the sets of the heavier and of the lighter half of the
+//! members, whatever their weights. `mwc_sums` says which games these are the counts of.
+#![tactic(auto)]
+
+mod by_size;
+mod choices;
+mod endings;
+mod fitting;
+mod halves;
+mod row;
+mod rows;
+mod sets;
+mod tallies;
+
+pub use by_size::BySize;
+pub use endings::count_endings;
+pub use tallies::Tallies;

@@ -1,0 +1,127 @@
+//! Prefixes of members that are not complete, in rows.
+ghost use Rattle.std.specs.Prelude.{◌≡◌, ℕ, ◌+◌, ◌*◌, ◌<◌, ◌≤◌, ◌^◌, IfOk, length, slice_index, take, drop};
+ghost use Rattle.std.specs.List.{All};
+ghost use Rattle.coalitions.specs.declared.limits.TheConstants.{MEMBERS};
+ghost use Rattle.weight_sums.specs.Endings.{fill, taken};
+ghost use Rattle.weight_sums.specs.Inner.Rows.{prefixes, weigh};
+
+use crate::choices::Heads;
+use coalitions::{Memory, limits};
+
+/// Prefixes that miss as much to the quota and have as many members: how many of them there are.
+#[derive(Clone, Copy)]
+pub(crate) struct Open {
+    pub need: u64,
+    pub size: usize,
+    pub ways: u64,
+}
+
+/// How many prefixes at the front of a row stay open where all that comes weighs so much: a row ascends
+/// by need, and those behind them can no more be completed.
+pub(crate) fn still_open(row: &[Open], rest: u64) -> usize
+    ensures within { result ≤ length row.now }
+    ensures same { (g : ℕ → ℕ → ℕ) → ((need size : ℕ) → rest < need → g need size ≡ 0)
+        → weigh g (take result row.now) ≡ weigh g row.now }
+{
+    let mut end = row.len();
+    while end > 0 && rest < row[end - 1].need {
+        end -= 1;
+    }
+    end
+}
+
+/// Takes a member of this weight into each prefix of a row. What meets the quota by it is counted by size: alone
+/// where it has more members than are asked for, and else with any of the others that fill it up. What does not
+/// is put down.
+pub(crate) fn with_member(
+    row: &[Open],
+    weight: u64,
+    left: usize,
+    heads: &Heads,
+    done: &mut [u64; limits::SIZES],
+    others: &mut Vec<Open>,
+) -> Result<(), Memory>
+    requires left { left ≤ MEMBERS }
+    requires sizes { All (λ o. o.size < MEMBERS) row.now }
+    requires room { (s : ℕ) → s ≤ MEMBERS → slice_index done.old s + prefixes row.now * 2 ^ left < 2 ^ 64 }
+    ensures counted { IfOk result (λ _. (g : ℕ → ℕ → ℕ) (s : ℕ) → s ≤ MEMBERS
+        → slice_index done.new s + weigh g others.new.items
+        ≡ slice_index done.old s + weigh (taken weight (fill heads.now.asked s left) g) row.now) }
+    ensures sizes { IfOk result (λ _. (p : ℕ) → All (λ o. o.size ≤ p) row.now
+        → All (λ o. o.size ≤ p + 1) others.new.items) }
+{
+    others.clear();
+    others.reserve(row.len())?;
+    for prefix in row {
+        let size = prefix.size + 1;
+        if prefix.need <= weight {
+            let times = heads.filled(size, left);
+            done[size.max(heads.asked)] += prefix.ways * times;
+        } else {
+            others.push(Open {
+                need: prefix.need - weight,
+                size,
+                ways: prefix.ways,
+            })?;
+        }
+    }
+    Ok(())
+}
+
+/// Whether a prefix stands before another in a row, or at the same place.
+fn is_first(a: &Open, b: &Open) -> bool {
+    a.need < b.need || (a.need == b.need && a.size <= b.size)
+}
+
+/// The next prefix of two ascending rows from these places on, which move past it: prefixes with the same need
+/// and size go together.
+fn next_open(a: &[Open], b: &[Open], i: &mut usize, j: &mut usize) -> Open
+    requires left { i.old < length a.now }
+    requires right { j.old < length b.now }
+    requires fits { prefixes a.now + prefixes b.now < 2 ^ 64 }
+    ensures left { i.new ≤ length a.now }
+    ensures right { j.new ≤ length b.now }
+    ensures further { i.old + j.old < i.new + j.new }
+    ensures all { (g : ℕ → ℕ → ℕ) → result.ways * g result.need result.size
+        + weigh g (drop i.new a.now) + weigh g (drop j.new b.now)
+        ≡ weigh g (drop i.old a.now) + weigh g (drop j.old b.now) }
+    ensures sizes { (p : ℕ) → All (λ o. o.size ≤ p) a.now → All (λ o. o.size ≤ p) b.now
+        → result.size ≤ p }
+{
+    let (left, right) = (a[*i], b[*j]);
+    if left.need == right.need && left.size == right.size {
+        *i += 1;
+        *j += 1;
+        Open {
+            need: left.need,
+            size: left.size,
+            ways: left.ways + right.ways,
+        }
+    } else if is_first(&left, &right) {
+        *i += 1;
+        left
+    } else {
+        *j += 1;
+        right
+    }
+}
+
+/// Merges two ascending rows into one: prefixes with the same need and size go together.
+pub(crate) fn merge(a: &[Open], b: &[Open], row: &mut Vec<Open>) -> Result<(), Memory>
+    requires { prefixes a.now + prefixes b.now < 2 ^ 64 }
+    ensures all { IfOk result (λ _. (g : ℕ → ℕ → ℕ) →
+        weigh g row.new.items ≡ weigh g a.now + weigh g b.now) }
+    ensures sizes { IfOk result (λ _. (p : ℕ) → All (λ o. o.size ≤ p) a.now
+        → All (λ o. o.size ≤ p) b.now → All (λ o. o.size ≤ p) row.new.items) }
+{
+    row.clear();
+    row.reserve(a.len())?;
+    row.reserve(b.len())?;
+    let (mut i, mut j) = (0, 0);
+    while i < a.len() && j < b.len() {
+        row.push(next_open(a, b, &mut i, &mut j))?;
+    }
+    row.extend_from_slice(&a[i..])?;
+    row.extend_from_slice(&b[j..])?;
+    Ok(())
+}

@@ -1,0 +1,125 @@
+//! Rows of prefixes, one member after another.
+ghost use Rattle.std.specs.Prelude.{◌≡◌, ℕ, ◌+◌, ◌-◌, ◌*◌, ◌<◌, ◌≤◌, ◌^◌, IfOk, List, [], ◌∷◌, true, length, sum, slice_index, drop};
+ghost use Rattle.std.specs.List.{All};
+ghost use Rattle.coalitions.specs.declared.limits.TheConstants.{MEMBERS};
+ghost use Rattle.weight_sums.specs.Endings.{endings};
+ghost use Rattle.weight_sums.specs.Inner.Rows.{AreOfPrefixes, prefixes, weigh};
+
+use crate::choices::Heads;
+use crate::row::{Open, merge, still_open, with_member};
+use coalitions::{Memory, limits};
+use std::alloc::Global;
+use std::mem;
+
+/// All rows of one pass over the members together never have more entries.
+const ROOM: usize = 1 << 20;
+
+/// So many entries all rows of one pass over the members may have together: twice as many as a half of the
+/// members has sets. With more of them the sets of the halves are counted sooner.
+fn room_for(members: usize) -> usize
+    requires { members ≤ MEMBERS }
+{
+    let half = 1usize << ((members + 1) / 2);
+    (2 * half).min(ROOM)
+}
+
+/// The row of the prefixes of the members that are decided, and room for the next.
+#[derive(Drop)]
+pub(crate) struct Rows {
+    pub row: Vec<Open>,
+    taken: Vec<Open>,
+    next: Vec<Open>,
+}
+
+impl Rows {
+    /// The empty prefix, which misses the quota.
+    pub(crate) fn new(alloc: Global, quota: u64) -> Result<Rows, Memory>
+        ensures { IfOk result (λ rows. rows.row.items ≡
+            record { need = quota; size = 0; ways = 1 } ∷ []) }
+    {
+        let mut row = Vec::new(alloc);
+        row.push(Open {
+            need: quota,
+            size: 0,
+            ways: 1,
+        })?;
+        Ok(Rows {
+            row,
+            taken: Vec::new(alloc),
+            next: Vec::new(alloc),
+        })
+    }
+
+    /// Takes over the prefixes of another row.
+    pub(crate) fn copy(&mut self, row: &[Open]) -> Result<(), Memory>
+        ensures { IfOk result (λ _. self.new.row.items ≡ row.now) }
+    {
+        self.row.clear();
+        self.row.extend_from_slice(row)?;
+        Ok(())
+    }
+
+    /// Decides one member more, of this weight, where all after it weigh so much: coalitions that are
+    /// complete by it are counted by size.
+    pub(crate) fn go_on(
+        &mut self,
+        weight: u64,
+        rest: u64,
+        left: usize,
+        heads: &Heads,
+        done: &mut [u64; limits::SIZES],
+    ) -> Result<(), Memory>
+        requires left { left < MEMBERS }
+        requires sizes { All (λ o. o.size < MEMBERS) self.old.row.items }
+        requires room { (s : ℕ) → s ≤ MEMBERS
+            → slice_index done.old s + prefixes self.old.row.items * 2 ^ (left + 1) < 2 ^ 64 }
+        ensures counted { IfOk result (λ _. (ws : List ℕ) (s : ℕ) → sum ws ≤ rest
+            → length ws ≡ left → s ≤ MEMBERS
+            → slice_index done.new s + weigh (endings ws heads.now.asked s) self.new.row.items
+            ≡ slice_index done.old s
+            + weigh (endings (weight ∷ ws) heads.now.asked s) self.old.row.items) }
+        ensures few { IfOk result (λ _. (s : ℕ) → s ≤ MEMBERS
+            → slice_index done.new s + prefixes self.new.row.items * 2 ^ left
+            ≤ slice_index done.old s + prefixes self.old.row.items * 2 ^ (left + 1)) }
+        ensures sizes { IfOk result (λ _. (p : ℕ) → All (λ o. o.size ≤ p) self.old.row.items
+            → All (λ o. o.size ≤ p + 1) self.new.row.items) }
+    {
+        with_member(&self.row, weight, left, heads, done, &mut self.taken)?;
+        let end = still_open(&self.row, rest);
+        merge(&self.row[..end], &self.taken, &mut self.next)?;
+        mem::swap(&mut self.row, &mut self.next);
+        Ok(())
+    }
+
+    /// Decides the members from a place on, which weigh so much together; false where there is no room.
+    pub(crate) fn finish(
+        &mut self,
+        weights: &[u64],
+        place: usize,
+        rest: u64,
+        heads: &Heads,
+        done: &mut [u64; limits::SIZES],
+    ) -> Result<bool, Memory>
+        requires few { length weights.now ≤ MEMBERS }
+        requires place { place ≤ length weights.now }
+        requires rest { rest ≡ sum (drop place weights.now) }
+        requires row { AreOfPrefixes place (length weights.now - place) done.old
+            self.old.row.items }
+        ensures { IfOk result (λ full. full ≡ true → (s : ℕ) → s ≤ MEMBERS → slice_index done.new s ≡
+            slice_index done.old s
+            + weigh (endings (drop place weights.now) heads.now.asked s) self.old.row.items) }
+    {
+        let mut rest = rest;
+        let mut room = room_for(weights.len());
+        for p in place..weights.len() {
+            rest -= weights[p];
+            let left = weights.len() - p - 1;
+            self.go_on(weights[p], rest, left, heads, done)?;
+            if room < self.row.len() {
+                return Ok(false);
+            }
+            room -= self.row.len();
+        }
+        Ok(true)
+    }
+}
