@@ -415,9 +415,8 @@ class Told:
 
 def prove_all(names, lines, prove, told):
     """Proves the libraries, each after those below it; whether all were. The one with the longest chain above it
-    begins at once, has a second job where there are more than two processors, and the others give way to it. The processors that are
-    free are shared among those that can begin: a further job is work of its own, since it reads the statements below once more, so that
-    no other has one."""
+    begins at once, and the others give way to it. The processors that are free are shared among those that can begin: a further
+    job is work of its own, since it reads the statements below once more, so that no other has one."""
     left, nice = plan(names, lines, told.cost)
     few, all_lanes = lanes()
     running, jobs, done, first = {}, {}, [], None
@@ -436,7 +435,7 @@ def prove_all(names, lines, prove, told):
                     first = name
                 if name == first or has_lane:
                     waiting = sum(it in left and nice[it] == NICE for it in ready if it != name)
-                    jobs[name] = max(2 if name == first and few > 2 else 1, (few - busy) // (waiting + 1))
+                    jobs[name] = max(1, (few - busy) // (waiting + 1))
                     left.remove(name)
                     told.begin(name)
                     running[pool.submit(prove, name, lines, 0 if name == first else nice[name], jobs[name])] = name
