@@ -194,10 +194,10 @@ fn unboxed(counts: Option<Box<Counts>>) -> Option<Counts>
     }
 }
 
-/// The counts of all minimal winning coalitions of a game of one rule, of two of which one gives each member the
-/// same weight, or each member with weight in the other, or of rules of which no two give weight to one member; and of a
-/// game of which such rules are left where all members agree who can veto. Whatever the weights are, none of them is
-/// listed. None for any other game. Up to 64 MB.
+/// The counts of all minimal winning coalitions of a game of one rule, or of two of which one gives each member the same weight;
+/// of chambers that share no member, each of one rule, or of two of which one gives the same weight to just those with weight
+/// in the other; and of a game of which such chambers are left where all members agree who can veto. Whatever the weights are,
+/// none of them is listed. None for any other game: `part_by_sums` counts what it can of it. Up to 64 MB.
 ///
 /// # Errors
 ///

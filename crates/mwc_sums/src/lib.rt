@@ -1,14 +1,17 @@
-//! Counts the minimal winning coalitions of a game of one rule, or of weights and heads, without listing any.
+//! Counts the minimal winning coalitions of games of one rule, of weights and heads, of chambers, and beside vetoers, without
+//! listing any; and of other games the part that is of this kind.
 //!
 //! ```text
 //! match count_by_sums(alloc, &game)? {
 //!     Some(counts) => ..,
-//!     None => ..,
+//!     None => match part_by_sums(alloc, &game)? {
+//!         Some(parts) => .. count parts.left, then parts.joined(alloc, &game, left)? ..,
+//!         None => ..,
+//!     },
 //! }
 //! ```
 //!
-//! `weight_sums` counts what members with some weights lead to; here it is said which games that counts: of one chamber, of
-//! several, beside vetoers, and in part.
+//! `weight_sums` counts what members with some weights lead to; here it is said which games that counts.
 #![tactic(auto)]
 
 mod chamber;

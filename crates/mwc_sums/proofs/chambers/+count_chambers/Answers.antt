@@ -5,6 +5,7 @@ use Rattle.council_game.specs.Game.{GameView}
 use Rattle.council_game.specs.Votes.{RuleView, rule_at}
 use Rattle.mwc_sums.specs.Chambers.{share, AreChambersOf}
 use Rattle.mwc_sums.specs.Heads.{AreOfOneChamber}
+use Rattle.mwc_sums.specs.Inner.Divided.{others_of}
 use Rattle.mwc_sums.specs.Inner.Fair.{IsFair}
 use Rattle.mwc_sums.proofs.Remaking.{as-many, fair-all}
 use Rattle.mwc_sums.proofs.Sharing.{all-kept, chamber-few, chamber-some, chambers-of, first-chamber, others-chambers}
@@ -16,13 +17,15 @@ count_chamber-requires t c =
     let rs : List RuleView = c.args.game.now.rules in
     let empty = eqb-true c.in_ok-others.others.len 0 (sym c.is_empty.ensures ∙ c.if-is_empty.true) in
     let held : length c.in_ok-others.others.items ≡ c.in_ok-others.others.len = search rules in
-    let many = as-many c.in_ok-others.others.items _ c.in_ok-others.ensures in
+    let many = as-many c.in_ok-others.others.items
+    (others_of (length c.args.game.now.names) c.args.game.now.rules (rule_at c.args.game.now.rules 0)) c.in_ok-others.ensures in
     subst (AreOfOneChamber n) (all-kept (share n (rule_at rs 0)) rs (omega (arith, empty, held, many)))
     (first-chamber n rs c.requires c.members-members.ensures.game.has_rule)
 
 pub remade-requires-clause-few : goal.remade-requires-clause-few
 remade-requires-clause-few t c =
-    let many = as-many c.in_ok-others.others.items _ c.in_ok-others.ensures in
+    let many = as-many c.in_ok-others.others.items
+    (others_of (length c.args.game.now.names) c.args.game.now.rules (rule_at c.args.game.now.rules 0)) c.in_ok-others.ensures in
     let both = chamber-few (length c.args.game.now.names) (rule_at c.args.game.now.rules 0) c.args.game.now.rules in
     let few = c.members-members.ensures.game.few_rules in
     omega (arith, many, both, few)
