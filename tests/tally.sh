@@ -47,17 +47,21 @@ equal 39 40 39
 limit=$seconds
 
 # ---- games of several rules: the same bytes as a run
-# same_as_run NAME QUOTAS WEIGHTS..: of a game of these rules, the numbers of each with commas between them
-same_as_run() {
-    local name=$1 quotas=$2 member=0 weights
-    shift 2
+# write_rules QUOTAS WEIGHTS..: a game of these rules, the numbers of each with commas between them
+write_rules() {
+    local member=0 weights
     {
-        echo "quotas = [$quotas]"
-        for weights in "$@"; do
+        echo "quotas = [$1]"
+        for weights in "${@:2}"; do
             member=$((member + 1))
             printf '[[member]]\nname = "%s"\nweights = [%s]\n' "$member" "$weights"
         done
     } >"$temp/rules.toml"
+}
+# same_as_run NAME QUOTAS WEIGHTS..: of a game of these rules
+same_as_run() {
+    local name=$1
+    write_rules "${@:2}"
     run "$temp/rules.toml" --sizes --most 4000000
     if succeeded "a run of $name"; then
         cp "$temp/out" "$temp/wanted"
@@ -116,17 +120,9 @@ same_as_run "a house by two rules, a senate and a president" '21, 20, 10, 1' "${
 
 # minimal_of NAME QUOTAS WEIGHTS..: how many coalitions the tally of a game of these rules has
 minimal_of() {
-    local name=$1 quotas=$2 member=0 weights
-    shift 2
-    {
-        echo "quotas = [$quotas]"
-        for weights in "$@"; do
-            member=$((member + 1))
-            printf '[[member]]\nname = "%s"\nweights = [%s]\n' "$member" "$weights"
-        done
-    } >"$temp/rules.toml"
+    write_rules "${@:2}"
     run --tally "$temp/rules.toml"
-    succeeded "--tally of $name" && minimal=$(sed -n 's/^minimal\t//p' "$temp/out")
+    succeeded "--tally of $1" && minimal=$(sed -n 's/^minimal\t//p' "$temp/out")
 }
 # a house of 20 by two rules, beside a senate of 19: threads count the house alone, whose coalitions go with each of the senate's
 x=7
