@@ -9,7 +9,7 @@ It follows the `use` lines of crates/NAME/specs and the `ghost use` lines of cra
 those of definitions: no blank lines, comments or `use` lines.
 
 Prints `ok reading: what` or `FAILED reading: why` for each of these: the list is that of docs/READING.md;
-it has at most LIMIT lines; no module of a folder `Inner` stands in it; those folders have all definitions
+it has at most LIMIT lines; no module of a folder `Inner` or `Shared` stands in it; those folders have all definitions
 that no public contract reaches, and no others; and each definition that docs/DEFINITIONS.md names, as
 `Module.name`, exists.
 """
@@ -218,11 +218,12 @@ def check():
     odd = [line for line in lines + shown if (line in lines) != (line in shown)]
     results = [told(shown == lines, "docs/READING.md has the list", f", but for: {odd[0] if odd else 'the order'}")]
     results.append(told(total <= LIMIT, f"{total} lines of definitions, at most {LIMIT}"))
-    inside = [line for line in lines if "/Inner" in line]
-    results.append(told(not inside, "no definition of a folder Inner", f": {inside}"))
+    inside = [line for line in lines if "/Inner" in line or "/Shared" in line]
+    results.append(told(not inside, "no definition of a folder Inner or Shared", f": {inside}"))
     unshown = set(inner())
-    astray = [f"{module[7:]} {name}" for module, name in sorted(defs) if (".Inner." in module) != ((module, name) in unshown)]
-    results.append(told(not astray, "the folders Inner have what no public contract reaches, and nothing else", f": {astray}"))
+    astray = [f"{module[7:]} {name}" for module, name in sorted(defs)
+              if (".Inner." in module or ".Shared." in module) != ((module, name) in unshown)]
+    results.append(told(not astray, "the folders Inner and Shared have what no public contract reaches, and nothing else", f": {astray}"))
     known = {(module.split(".")[-1], name) for module, name in defs}
     text = open(os.path.join(TOP, "docs", "DEFINITIONS.md"), encoding="utf-8").read()
     named = re.findall(r"`([A-Z]\w*)\.([\w']+)`", text)

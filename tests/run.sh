@@ -51,7 +51,7 @@ if [ ! -x "$program" ]; then
 else
     # the longest first, as many at once as there are processors
     scripts="look refusals hostile foreign sizes tally limits output options using launcher archive examples faults explain mistakes words workers prefixes pages"
-    programs="random_games reading memory_source gate_source"
+    programs="random_games reading rooms memory_source gate_source"
     command -v python3 >/dev/null || programs=
     # what one run may take is measured once, before anything else runs
     SECONDS_EACH=$(bash -c '. tests/common.sh; echo "$seconds"' common.sh "$program")
@@ -71,7 +71,7 @@ else
             ;;
         bodies_fit) keep bodies_fit bash tests/bodies.sh --fit & ;;
         random_games) keep $name python3 tests/random_games.py "$program" 150 1 & ;;
-        reading | memory_source | gate_source) keep $name python3 tests/$name.py & ;;
+        reading | rooms | memory_source | gate_source) keep $name python3 tests/$name.py & ;;
         *) keep "$name" bash "tests/$name.sh" "$program" & ;;
         esac
     done
@@ -82,7 +82,7 @@ else
         count "$name"
     done
     if [ -z "$programs" ]; then
-        for test in memory_source gate_source reading noise random_games; do
+        for test in memory_source gate_source reading rooms noise random_games; do
             echo "skipped $test: the command python3 was not found"
             skipped=$((skipped + 1))
         done

@@ -1,3 +1,1 @@
-pub mod Digits
-pub mod Ranges
-pub mod Sizes
+pub mod Shared

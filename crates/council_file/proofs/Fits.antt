@@ -11,7 +11,7 @@ use Rattle.council_game.specs.Votes.{RuleView}
 use Rattle.council_game.specs.Rules.{rule_view, rule_views}
 use Rattle.std.proofs.lemmas.List.{length-map}
 use Rattle.std.proofs.lemmas.List.Elements.{All-nil, All-cons, All-map}
-use Rattle.council_game.proofs.RuleLists.{held_full}
+use Rattle.council_game.proofs.Shared.RuleLists.{held_full}
 use Rattle.council_file.specs.File.{has_key, some_member_has, elements_at, are_quotas, breaks_rules, lacks_quota, member_list, only_rule, rule_from, rules_of, name_from}
 
 quotas_pass : (q qs aq w v : Bool) → q ≡ false → not qs ≡ false → ((q && qs) || (qs && not aq) || (q && w) || (qs && v)) ≡ false → aq ≡ true

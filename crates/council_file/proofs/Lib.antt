@@ -1,10 +1,10 @@
 pub mod Views
-pub mod Text
-pub mod Fits
+mod Text
+mod Fits
 pub mod Stops
-pub mod Digits
-pub mod Weights
-pub mod Named
+mod Digits
+mod Weights
+mod Named
 pub mod ReadsBack
-pub mod NeverRead
+mod NeverRead
 pub mod Given

@@ -11,7 +11,7 @@ use Rattle.std.proofs.lemmas.Fmt.{decimal_is_IsNumeral, length-decimal-le, decim
 use Rattle.std.proofs.lemmas.List.Folds.{list_any_none}
 use Rattle.std.proofs.lemmas.List.FromFn.{length-map-range_with_len, get_or-map-range_with_len, take-map-range_with_len}
 use Rattle.council_game.specs.Game.{is_plain, is_name, is_repeat}
-use Rattle.council_game.proofs.Games.{nowhere_below, position_nowhere}
+use Rattle.council_game.proofs.Shared.Games.{nowhere_below, position_nowhere}
 use Rattle.council_file.specs.Bracket.{counted_names}
 
 plain_digit : (b : ℕ) → digit_value b < 10 → (nat_le 32 b && not (b == 127)) ≡ true

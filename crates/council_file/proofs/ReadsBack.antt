@@ -11,15 +11,15 @@ use Rattle.council_game.specs.Fault.{◌>>=◌}
 use Rattle.council_game.specs.Votes.{RuleView, rule_at}
 use Rattle.council_game.specs.Ranks.{places, rank_places}
 use Rattle.council_game.specs.Game.{GameView, IsGame, made_game, is_name, is_repeat, is_heavy, has_bad_quota}
-use Rattle.council_game.proofs.Games.{passed, none-any, light-weights, light-sum}
+use Rattle.council_game.proofs.Shared.Games.{passed, none-any, light-weights, light-sum}
 use Rattle.council_file.specs.Bracket.{Symbol, number, opening, closing, comma, semicolon, symbols, value_of, weights_of, rule_of, is_bracket, begins_bracket, begins_with_digit, game_of_bracket, counted_names, nameless_game}
 use Rattle.council_file.specs.File.{game_of}
 use Rattle.council_text.specs.Joined.{joined_numbers}
 use Rattle.council_text.specs.Notation.{notation}
 use Rattle.council_file.specs.Laws.{lone_game, NotationReadsBack}
 use Rattle.council_file.proofs.Digits.{symbols-number}
-use Rattle.council_text.proofs.Joins.{one-number, next-numbers}
-use Rattle.council_game.proofs.Games.{nowhere_below}
+use Rattle.council_text.proofs.Shared.Joins.{one-number, next-numbers}
+use Rattle.council_game.proofs.Shared.Games.{nowhere_below}
 use Rattle.council_file.proofs.Named.{names_pass, repeats_pass}
 
 -- ---- numbers

@@ -11,7 +11,7 @@ use Rattle.council_game.specs.declared.rule.Rule.{Rule}
 use Rattle.council_game.specs.Votes.{RuleView}
 use Rattle.council_game.specs.Rules.{rule_view, rule_views}
 use Rattle.std.specs.Cmp.Lexicographic.{pointwise}
-use Rattle.council_game.proofs.Lists.{list_any_map, map_one_more}
+use Rattle.council_game.proofs.Shared.Lists.{list_any_map, map_one_more}
 
 pub elements_view : (vs : List Value) → elements (items_view vs) ≡ map view vs
 elements_view [] = refl

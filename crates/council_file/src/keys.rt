@@ -69,7 +69,7 @@ fn any_odd_member(members: &[Value]) -> bool
 }
 
 /// Whether the file, or one of its members, has a key that it may not have.
-#[tactic(auto, using(council_game::proofs::Lists::list_any_map))]
+#[tactic(auto, using(council_game::proofs::Shared::Lists::list_any_map))]
 pub(crate) fn has_unknown_key(table: &Table) -> bool
     ensures { result ≡ has_unknown_key (table_view table.now) }
 {

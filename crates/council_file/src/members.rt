@@ -29,7 +29,7 @@ fn all_tables(values: &[Value]) -> bool
     values.iter().all(|value| is_table(value))
 }
 
-#[tactic(auto, using(council_game::proofs::Lists::maps))]
+#[tactic(auto, using(council_game::proofs::Shared::Lists::maps))]
 pub(crate) fn are_members(values: &[Value]) -> bool
     ensures { result ≡ are_members (map view values.now) }
 {
@@ -47,7 +47,7 @@ fn name_from(member: &Value) -> &str
     }
 }
 
-#[tactic(auto, using(council_game::proofs::Lists::maps))]
+#[tactic(auto, using(council_game::proofs::Shared::Lists::maps))]
 pub(crate) fn names_of(alloc: Global, members: &[Value]) -> Result<Vec<String>, AllocError>
     ensures { IfOk result (λ v. map string_bytes v.items ≡ map name_from (map view members.now)) }
 {

@@ -21,7 +21,7 @@ fn all_integers(values: &[Value]) -> bool
     values.iter().all(|value| is_integer(value))
 }
 
-#[tactic(auto, using(council_game::proofs::Lists::maps))]
+#[tactic(auto, using(council_game::proofs::Shared::Lists::maps))]
 fn are_quotas(values: &[Value]) -> bool
     ensures { result ≡ are_quotas (map view values.now) }
 {

@@ -14,7 +14,7 @@ use council_game::Rule;
 use std::alloc::{AllocError, Global};
 use toml::Table;
 
-#[tactic(auto, using(council_game::proofs::Lists::list_any_map))]
+#[tactic(auto, using(council_game::proofs::Shared::Lists::list_any_map))]
 fn some_member_has(table: &Table, key: &str) -> bool
     ensures { result ≡ list_any (λ d. is_some (get key.now d))
         (member_list (table_view table.now)) }
@@ -31,7 +31,7 @@ pub(crate) fn breaks_rules(table: &Table) -> bool
         || (has_key(table, "quotas") && some_member_has(table, "weight"))
 }
 
-#[tactic(auto, using(council_game::proofs::Lists::maps), unfolding(crate::specs::File::only_rule))]
+#[tactic(auto, using(council_game::proofs::Shared::Lists::maps), unfolding(crate::specs::File::only_rule))]
 fn only_rule(alloc: Global, table: &Table) -> Result<Rule, AllocError>
     ensures { IfOk result (λ r. rule_view r ≡ only_rule (table_view table.now)) }
 {
@@ -40,7 +40,7 @@ fn only_rule(alloc: Global, table: &Table) -> Result<Rule, AllocError>
     Ok(Rule { quota, weights })
 }
 
-#[tactic(auto, using(council_game::proofs::Lists::maps), unfolding(crate::specs::File::rule_from))]
+#[tactic(auto, using(council_game::proofs::Shared::Lists::maps), unfolding(crate::specs::File::rule_from))]
 fn rule_from(alloc: Global, table: &Table, n: usize, r: usize) -> Result<Rule, AllocError>
     ensures { IfOk result (λ rule. rule_view rule ≡ rule_from (table_view table.now) n r) }
 {
@@ -68,7 +68,7 @@ fn lone_rule(alloc: Global, table: &Table) -> Result<Vec<Rule>, AllocError>
     Ok(rules)
 }
 
-#[tactic(auto, using(council_game::proofs::Lists::maps))]
+#[tactic(auto, using(council_game::proofs::Shared::Lists::maps))]
 pub(crate) fn rules_of(alloc: Global, table: &Table) -> Result<Vec<Rule>, AllocError>
     ensures { IfOk result (λ v. rule_views v.items ≡ rules_of (table_view table.now)) }
 {

@@ -1,6 +1,6 @@
 -- The laws, for the functions that state them.
-use Rattle.council_game.proofs.Listing.{listing-is}
-use Rattle.council_game.proofs.Meanings.{weighs-its-members, needs-each-member}
-use Rattle.council_game.proofs.Subsets.{subsets-lose}
+use Rattle.council_game.proofs.Shared.Listing.{listing-is}
+use Rattle.council_game.proofs.Shared.Meanings.{weighs-its-members, needs-each-member}
+use Rattle.council_game.proofs.Shared.Subsets.{subsets-lose}
 
 pub ruleset laws = (listing-is, weighs-its-members, needs-each-member, subsets-lose)

@@ -1,21 +1,9 @@
-pub mod Lists
-pub mod Names
-pub mod RuleLists
-pub mod Rankings
-pub mod Order
-pub mod Sorting
-pub mod Games
-pub mod Making
-pub mod Named
-pub mod WeightByDigits
-pub mod Places
-pub mod Meanings
-pub mod Monotone
-pub mod Weights
-pub mod GameTests
-pub mod Subsets
-pub mod Listing
-pub mod RankPlaces
-pub mod Bounds
-pub mod Seen
+pub mod Shared
+mod Names
+mod Order
+mod Sorting
+mod Named
+mod Monotone
+mod Bounds
+mod Seen
 pub mod AllLaws

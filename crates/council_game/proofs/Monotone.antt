@@ -4,9 +4,9 @@ use Rattle.std.specs.List.{list_all}
 use Rattle.std.proofs.lemmas.Nat.{mul-le}
 use Rattle.std.proofs.lemmas.Bool.{and_from, both_ways, cases_Bool, cases_lt, not-false}
 use Rattle.council_game.specs.Votes.{Votes, has, without, weight, wins, places_of, minimal}
-use Rattle.coalitions.proofs.Digits.{has-none, without-less}
-use Rattle.council_game.proofs.Places.{spare-place}
-use Rattle.council_game.proofs.WeightByDigits.{weight-nil, weight-cons}
+use Rattle.coalitions.proofs.Shared.Digits.{has-none, without-less}
+use Rattle.council_game.proofs.Shared.Places.{spare-place}
+use Rattle.council_game.proofs.Shared.WeightByDigits.{weight-nil, weight-cons}
 
 -- fewer members weigh no more
 pub weight-mono : (ws : List ℕ) (a c : ℕ) → ((i : ℕ) → i < length ws → a / 2 ^ i % 2 ≤ c / 2 ^ i % 2) → weight ws a ≤ weight ws c

@@ -7,8 +7,8 @@ use Rattle.std.proofs.lemmas.List.Folds.{list_any_more}
 use Rattle.council_game.specs.Votes.{has}
 use Rattle.council_game.specs.Ranks.{member_at}
 use Rattle.council_game.specs.Game.{GameView, IsGame}
-use Rattle.council_game.proofs.Lists.{filter_one_more}
-use Rattle.council_game.proofs.Making.{ranks-are}
+use Rattle.council_game.proofs.Shared.Lists.{filter_one_more}
+use Rattle.council_game.proofs.Shared.Making.{ranks-are}
 
 or-none : (b : Bool) → (b || false) ≡ b
 or-none true = refl

@@ -4,7 +4,7 @@ use Rattle.std.specs.List.{list_any}
 use Rattle.std.specs.Cmp.Lexicographic.{pointwise}
 use Rattle.council_game.specs.Game.{is_repeat}
 use Rattle.std.proofs.lemmas.List.{get_or-map, take-map}
-use Rattle.council_game.proofs.Lists.{list_any_map}
+use Rattle.council_game.proofs.Shared.Lists.{list_any_map}
 
 pub repeat_is : (names : List (String Global)) (k : ℕ) (name : String Global) (r : Bool) → k < length names → name ≡ get_or names k name
     → r ≡ list_any (λ other. pointwise nat_eq (string_bytes name) (string_bytes other)) (take k names)

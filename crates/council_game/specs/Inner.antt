@@ -4,5 +4,4 @@ pub mod Along
 pub mod Parts
 pub mod View
 pub mod Weighing
-pub mod Below
 pub mod Checks

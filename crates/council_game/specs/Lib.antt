@@ -8,3 +8,4 @@ pub mod Members
 pub mod Rules
 pub mod Laws
 pub mod Inner
+pub mod Shared

@@ -36,7 +36,7 @@ fn first_bad_name(names: &[String]) -> Option<usize>
 }
 
 /// The first member, from 1, whose name is refused.
-#[tactic(auto, using(crate::proofs::Lists::position_map))]
+#[tactic(auto, using(crate::proofs::Shared::Lists::position_map))]
 pub(crate) fn check_names(names: &[String]) -> Result<(), GameFault>
     requires { length names.now ≤ MEMBERS }
     ensures { result ≡ check_names (map string_bytes names.now) }
@@ -67,7 +67,7 @@ fn first_named(names: &[String], name: &str) -> Option<usize>
 }
 
 /// The same, over the names as bytes.
-#[tactic(auto, using(crate::proofs::Lists::position_map))]
+#[tactic(auto, using(crate::proofs::Shared::Lists::position_map))]
 pub(crate) fn place_of_name(names: &[String], name: &str) -> Option<usize>
     ensures place { result ≡ position (pointwise nat_eq name.now) (map string_bytes names.now) }
     ensures bound { IfSome result (λ k. k < length names.now) }
@@ -93,7 +93,7 @@ fn first_repeat(names: &[String]) -> Option<usize>
 }
 
 /// The first member, from 1, that repeats a name.
-#[tactic(auto, using(crate::proofs::Lists::maps))]
+#[tactic(auto, using(crate::proofs::Shared::Lists::maps))]
 pub(crate) fn check_repeats(names: &[String]) -> Result<(), GameFault>
     requires { length names.now ≤ MEMBERS }
     ensures { result ≡ check_repeats (map string_bytes names.now) }
@@ -124,7 +124,7 @@ fn any_over(rules: &[Rule], k: usize) -> bool
 }
 
 /// Some rule gives this member a weight above the limit.
-#[tactic(auto, using(crate::proofs::Lists::list_any_map))]
+#[tactic(auto, using(crate::proofs::Shared::Lists::list_any_map))]
 fn is_heavy(rules: &[Rule], k: usize) -> bool
     ensures { result ≡ is_heavy (rule_views rules.now) k }
 {
@@ -174,7 +174,7 @@ fn any_bad_quota(rules: &[Rule]) -> bool
     rules.iter().any(|rule| has_bad_quota(rule))
 }
 
-#[tactic(auto, using(crate::proofs::Lists::list_any_map))]
+#[tactic(auto, using(crate::proofs::Shared::Lists::list_any_map))]
 pub(crate) fn has_quota_fault(rules: &[Rule]) -> bool
     ensures { result ≡ list_any has_bad_quota (rule_views rules.now) }
 {

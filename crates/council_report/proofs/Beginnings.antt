@@ -9,10 +9,10 @@ use Rattle.std.proofs.lemmas.List.FromFn.{filter_of_map_range_with_len_more, tak
 use Rattle.std.proofs.lemmas.List.Sums.{sum_by-append, sum_by-cons}
 use Rattle.council_game.specs.Votes.{RuleView, IsRule, has, weight, rule_at}
 use Rattle.council_game.specs.Game.{GameView, IsGame, votes_of}
-use Rattle.council_game.proofs.Games.{votes-are}
-use Rattle.council_game.proofs.Meanings.{weighs-its-members}
-use Rattle.council_game.proofs.Weights.{weight-le}
-use Rattle.power_index.proofs.Sums.{length-filter-le}
+use Rattle.council_game.proofs.Shared.Games.{votes-are}
+use Rattle.council_game.proofs.Shared.Meanings.{weighs-its-members}
+use Rattle.council_game.proofs.Shared.Weights.{weight-le}
+use Rattle.power_index.proofs.Shared.Sums.{length-filter-le}
 use Rattle.council_report.specs.Lines.{with_tab, names_of}
 use Rattle.council_report.specs.Inner.Shared.{places_before, name_at, fields_of, weights_under, weight_of_places, HasNoneFrom, SameBefore}
 use Rattle.council_report.proofs.Bounds.{with_tab-fits, each-field, name-fits}

@@ -11,14 +11,14 @@ use Rattle.std.proofs.lemmas.List.Elements.{All-from_recursion}
 use Rattle.council_game.specs.Votes.{RuleView, IsRule, places_of, size, weight}
 use Rattle.council_game.specs.Ranks.{member_at}
 use Rattle.council_game.specs.Game.{GameView, IsGame, votes_of}
-use Rattle.council_game.proofs.Games.{names-fit, votes-are, light-weights}
-use Rattle.council_game.proofs.Weights.{weight-le}
-use Rattle.council_text.proofs.Joins.{one-number, next-numbers}
+use Rattle.council_game.proofs.Shared.Games.{names-fit, votes-are, light-weights}
+use Rattle.council_game.proofs.Shared.Weights.{weight-le}
+use Rattle.council_text.proofs.Shared.Joins.{one-number, next-numbers}
 use Rattle.power_index.specs.Counting.{members}
 use Rattle.power_index.specs.Fractions.{lowest_terms}
 use Rattle.power_index.specs.Tables.{table_of_size, table_of_member, table_of_member_size, table_deegan_packel, table_public_good}
-use Rattle.power_index.proofs.Members.{few-members, size-le}
-use Rattle.power_index.proofs.Small.{AreBelow, deegan_packel-wide, public_good-wide}
+use Rattle.power_index.proofs.Shared.Members.{few-members, size-le}
+use Rattle.power_index.proofs.Shared.Small.{AreBelow, deegan_packel-wide, public_good-wide}
 use Rattle.council_report.specs.declared.counted.Counted.{Counted}
 use Rattle.council_report.specs.declared.shown.Shown.{Shown}
 use Rattle.council_report.specs.Report.{coalition_lines}

@@ -7,7 +7,7 @@ use Rattle.std.proofs.lemmas.Nat.Bits.{bit_at_xor, bit_at_above, bit_at-lt, bit_
 use Rattle.std.proofs.Math.Nat.{pow-suc}
 use Rattle.std.proofs.Math.Pow.{pow_mono}
 use Rattle.council_game.specs.Votes.{has}
-use Rattle.coalitions.proofs.Digits.{lowest-place}
+use Rattle.coalitions.proofs.Shared.Digits.{lowest-place}
 use Rattle.council_report.specs.Inner.Shared.{HasNoneFrom, SameBefore}
 
 -- equal digits

@@ -4,7 +4,7 @@ use Rattle.std.specs.List.{flat_map, range_with_len}
 use Rattle.std.proofs.lemmas.List.Folds.{flat_map-map}
 use Rattle.power_index.specs.Counting.{count_of_size, count_of_member_size}
 use Rattle.power_index.specs.Tables.{AreCounts, table_of_member_size}
-use Rattle.power_index.proofs.Printed.{deegan-packel-same, public-good-same}
+use Rattle.power_index.proofs.Shared.Printed.{deegan-packel-same, public-good-same}
 use Rattle.council_report.specs.declared.counted.Counted.{Counted}
 use Rattle.council_report.specs.declared.shown.Shown.{Shown}
 use Rattle.council_report.specs.Lines.{line, coalition_line, size_line}

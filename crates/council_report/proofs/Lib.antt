@@ -1,13 +1,13 @@
-pub mod Bounds
-pub mod Room
-pub mod Holding
-pub mod Telling
-pub mod Rows
-pub mod Turns
-pub mod Wholes
-pub mod Lasting
-pub mod Beginnings
+mod Bounds
+mod Room
+mod Holding
+mod Telling
+mod Rows
+mod Turns
+mod Wholes
+mod Lasting
+mod Beginnings
 pub mod SharedLines
-pub mod Differences
-pub mod Joins
-pub mod FromCounts
+mod Differences
+mod Joins
+mod FromCounts

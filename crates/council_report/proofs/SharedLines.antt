@@ -8,7 +8,7 @@ use Rattle.std.proofs.lemmas.Bool.{cases_lt}
 use Rattle.std.proofs.lemmas.List.{get_or-set_other, get_or-set_same, length-set}
 use Rattle.council_game.specs.Votes.{has, weight, rule_at}
 use Rattle.council_game.specs.Game.{GameView, IsGame, votes_of}
-use Rattle.power_index.proofs.Members.{few-members}
+use Rattle.power_index.proofs.Shared.Members.{few-members}
 use Rattle.council_report.specs.declared.seat.Seat.{Seat}
 use Rattle.council_report.specs.declared.subtotal.Subtotal.{Subtotal}
 use Rattle.council_report.specs.declared.shared.SharedLine.{SharedLine}

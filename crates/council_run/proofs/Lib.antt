@@ -1,2 +1,2 @@
-pub mod Whole
+mod Whole
 mod Endings

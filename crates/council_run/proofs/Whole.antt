@@ -2,7 +2,7 @@
 use Rattle.std.proofs.Common.{◌≡◌, ◌≤◌, ℕ, List, length, sym, ap, subst, arith, Result, Ok, Err, IfOk}
 use Rattle.council_game.specs.Votes.{minimal_coalitions}
 use Rattle.council_game.specs.Game.{GameView, IsGame, votes_of, AreNonemptyCoalitions}
-use Rattle.power_index.proofs.Minimal.{minimal-some, minimal-are-coalitions}
+use Rattle.power_index.proofs.Shared.Minimal.{minimal-some, minimal-are-coalitions}
 use Rattle.council_run.specs.Inner.Listed.{IsListed}
 
 pub is-listed : (g : GameView) (list : List ℕ) (m : ℕ) → IsGame g → list ≡ minimal_coalitions (votes_of g)

@@ -1,3 +1,2 @@
-pub mod Room
-pub mod Joins
-pub mod Fronts
+pub mod Shared
+mod Fronts

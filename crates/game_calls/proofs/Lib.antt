@@ -1,2 +1,2 @@
-pub mod Others
+mod Others
 pub mod Quotas

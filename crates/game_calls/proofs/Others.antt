@@ -8,8 +8,8 @@ use Rattle.council_game.specs.Votes.{has}
 use Rattle.council_game.specs.Ranks.{member_at}
 use Rattle.council_game.specs.Game.{GameView, IsGame}
 use Rattle.council_game.specs.Members.{contains}
-use Rattle.council_game.proofs.Lists.{filter_one_more}
-use Rattle.council_game.proofs.Making.{ranks-are}
+use Rattle.council_game.proofs.Shared.Lists.{filter_one_more}
+use Rattle.council_game.proofs.Shared.Making.{ranks-are}
 use Rattle.game_calls.specs.Named.{member_named, is_that, is_named}
 
 pub others_kept : (g : GameView) → IsGame g → (n m place a b : ℕ) → n ≡ length g.names → place ≡ get_or g.ranks m 0 → m < length g.names

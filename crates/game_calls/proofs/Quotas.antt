@@ -9,7 +9,7 @@ use Rattle.council_game.specs.Fault.{Answers}
 use Rattle.council_game.specs.Votes.{RuleView, rule_at}
 use Rattle.council_game.specs.Game.{GameView, IsGame, made_game, total, first_weights, is_heavy, has_bad_quota}
 use Rattle.council_game.specs.Ranks.{rank_places}
-use Rattle.council_game.proofs.Games.{passed, makes, first-full, nowhere_below, position-none}
+use Rattle.council_game.proofs.Shared.Games.{passed, makes, first-full, nowhere_below, position-none}
 use Rattle.game_calls.specs.Quotas.{at_quota}
 
 first-light : (rs : List RuleView) (q i : ℕ) → 0 < length rs → is_heavy rs i ≡ false

@@ -4,9 +4,9 @@ use Rattle.std.proofs.Common.{set, get_or, ap, subst, arith, sym, ◌∙◌}
 use Rattle.std.proofs.lemmas.List.{length-set, map-set, get_or-set_other, length-map, get_or_default}
 use Rattle.std.proofs.lemmas.List.Elements.{All-set, All-head, All-tail}
 use Rattle.mwc_parts.specs.Slicing.{Slicing}
-use Rattle.mwc_parts.specs.Inner.Dealing.{DeskView, DealsInTurn, TakesTurn, DealsOneEach, IsFresh}
-use Rattle.mwc_parts.proofs.Turns as turns
-use Rattle.mwc_parts.proofs.Firsts as firsts
+use Rattle.mwc_parts.specs.Shared.Dealing.{DeskView, DealsInTurn, TakesTurn, DealsOneEach, IsFresh}
+use Rattle.mwc_parts.proofs.Shared.Turns as turns
+use Rattle.mwc_parts.proofs.Shared.Firsts as firsts
 use Rattle.mwc_gather.specs.declared.promise.Task.{Task}
 use Rattle.mwc_gather.specs.declared.desk.Desk.{Desk}
 use Rattle.mwc_gather.specs.declared.dealing.Deal.{Deal}

@@ -10,17 +10,17 @@ use Rattle.std.specs.List.{sum_by}
 use Rattle.std.proofs.lemmas.List.Sums.{sum_by-cons}
 use Rattle.mwc_parts.specs.Wording.{coalition_count}
 use Rattle.std.specs.List.Sorted.{IsStrictlyIncreasing}
-use Rattle.mwc_parts.specs.Inner.Deals.{AreDealt}
-use Rattle.mwc_parts.specs.Inner.Dealing.{DeskView, IsWell, given_slices, IsFresh}
+use Rattle.mwc_parts.specs.Shared.Deals.{AreDealt}
+use Rattle.mwc_parts.specs.Shared.Dealing.{DeskView, IsWell, given_slices, IsFresh}
 use Rattle.mwc_parts.specs.Parts.{IsPart, shares}
 use Rattle.mwc_parts.specs.Fault.{fault_of, also}
 use Rattle.mwc_parts.specs.declared.part.Part.{Part}
 use Rattle.mwc_parts.specs.declared.met.Met.{Met}
 use Rattle.mwc_parts.specs.declared.fault.GatherFault.{GatherFault}
 use Rattle.mwc_parts.specs.declared.fault.GatherFault.TheVariants.{TooMany, Start, Memory, Ring}
-use Rattle.mwc_parts.proofs.Turns as turns
-use Rattle.mwc_parts.proofs.Firsts.{each_within, dealt_total, dealt_increase, share_begins}
-use Rattle.mwc_parts.proofs.Readings.{length-joined}
+use Rattle.mwc_parts.proofs.Shared.Turns as turns
+use Rattle.mwc_parts.proofs.Shared.Firsts.{each_within, dealt_total, dealt_increase, share_begins}
+use Rattle.mwc_parts.proofs.Shared.Readings.{length-joined}
 use Rattle.mwc_gather.specs.declared.desk.Desk.{Desk}
 use Rattle.mwc_gather.specs.declared.dealing.Deal.{Deal}
 use Rattle.mwc_gather.specs.Inner.Desks.{view_of, views_of, DealsTo, IsPartOfDesk}

@@ -6,9 +6,9 @@ use Rattle.mwc_pipe.specs.RingViews.{RingInView, RingOutView, ClosedView}
 use Rattle.mwc_pipe.specs.declared.word.Word.{Word}
 use Rattle.mwc_pipe.specs.declared.closed.Unfinished.{Unfinished}
 use Rattle.mwc_parts.specs.Wording.{IsWholeSending, IsCutSending, open_words}
-use Rattle.mwc_parts.specs.Inner.Wording.{end_words}
+use Rattle.mwc_parts.specs.Shared.Wording.{end_words}
 use Rattle.mwc_parts.specs.Settled.{AreSettled}
-use Rattle.mwc_parts.proofs.Settles.{settles}
+use Rattle.mwc_parts.proofs.Shared.Settles.{settles}
 use Rattle.mwc_gather.specs.Sending.{HasWorked}
 
 worked_ok : (g : Slicing) (most : ℕ) (out : RingInView) (tasks : RingOutView) (r : Result ClosedView Unfinished × RingOutView)

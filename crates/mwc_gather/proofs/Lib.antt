@@ -1,11 +1,11 @@
-pub mod Slices
-pub mod Rows
-pub mod UnderWay
-pub mod Wordings
-pub mod Words
-pub mod Joins
-pub mod Deals
-pub mod Ends
-pub mod Finishing
-pub mod Faults
-pub mod Wholes
+mod Slices
+mod Rows
+mod UnderWay
+mod Wordings
+mod Words
+mod Joins
+mod Deals
+mod Ends
+mod Finishing
+mod Faults
+mod Wholes

@@ -6,11 +6,11 @@ use Rattle.std.proofs.lemmas.List.Elements.{All-weaker}
 use Rattle.council_game.specs.Votes.{minimal_coalitions}
 use Rattle.council_game.specs.Game.{GameView, votes_of}
 use Rattle.mwc_walk.specs.Slices.{slice}
-use Rattle.mwc_walk.proofs.Joined.{slices-joined}
+use Rattle.mwc_walk.proofs.Shared.Joined.{slices-joined}
 use Rattle.mwc_parts.specs.Slicing.{Slicing}
 use Rattle.mwc_parts.specs.Parts.{IsPart, HasPieces}
 use Rattle.mwc_parts.specs.declared.part.Part.{Part}
-use Rattle.mwc_parts.proofs.Readings.{length-joined, piece_is}
+use Rattle.mwc_parts.proofs.Shared.Readings.{length-joined, piece_is}
 use Rattle.mwc_gather.specs.Slicings.{slicing}
 use Rattle.mwc_gather.specs.Inner.Gathering.{all_total}
 

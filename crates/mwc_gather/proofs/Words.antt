@@ -8,7 +8,7 @@ use Rattle.std.proofs.lemmas.List.{append-nil}
 use Rattle.mwc_pipe.specs.declared.word.Word.{Word}
 use Rattle.mwc_pipe.specs.declared.word.Word.TheVariants.{Open, One, Done, End}
 use Rattle.mwc_parts.specs.Wording.{open_words}
-use Rattle.mwc_parts.specs.Inner.Wording.{end_words, is_done}
+use Rattle.mwc_parts.specs.Shared.Wording.{end_words, is_done}
 use Rattle.mwc_gather.proofs.Wordings.{open_words-more}
 
 pub opens_given : (accepted : List Word) (given : List ℕ) (told : Bool) (j : ℕ) → told ≡ false

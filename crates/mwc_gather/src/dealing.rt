@@ -3,8 +3,8 @@ ghost use Rattle.std.specs.Prelude.{◌≡◌, ◌<◌, ◌≤◌, ◌^◌, ◌+
 ghost use Rattle.std.specs.List.{list_any};
 ghost use Rattle.coalitions.specs.declared.limits.TheConstants.{WORKERS};
 ghost use Rattle.mwc_pipe.specs.declared.word.Word.{Word};
-ghost use Rattle.mwc_parts.specs.Inner.Wording.{is_done};
-ghost use Rattle.mwc_parts.specs.Inner.Dealing.{TakesTurn, IsFresh};
+ghost use Rattle.mwc_parts.specs.Shared.Wording.{is_done};
+ghost use Rattle.mwc_parts.specs.Shared.Dealing.{TakesTurn, IsFresh};
 ghost use Rattle.mwc_gather.specs.Inner.Orders.{slicing_of};
 ghost use Rattle.mwc_gather.specs.Inner.Desks.{view_of, views_of, AllOf, DealsTo, DealsFirst};
 

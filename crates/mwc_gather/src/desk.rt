@@ -1,7 +1,7 @@
 //! The gatherer's side of one worker.
 ghost use Rattle.std.specs.Prelude.{◌≡◌, ◌+◌, ◌<◌, ◌≤◌, ◌^◌, ◌++◌, All, count_by, length, true};
 ghost use Rattle.mwc_parts.specs.Wording.{open_words};
-ghost use Rattle.mwc_parts.specs.Inner.Wording.{end_words, is_done};
+ghost use Rattle.mwc_parts.specs.Shared.Wording.{end_words, is_done};
 ghost use Rattle.mwc_parts.specs.Settled.{IsDraftOf};
 
 use crate::promise::{Answer, Task};

@@ -9,8 +9,8 @@ use Rattle.std.proofs.lemmas.List.{append-nil, take_all, take_more, length-take-
 use Rattle.std.proofs.lemmas.List.FromFn.{get_or-map-range_with_len, length-map-range_with_len}
 use Rattle.std.specs.List.{sum_by}
 use Rattle.mwc_parts.specs.Inner.Sums.{times_in}
-use Rattle.mwc_parts.specs.Inner.Deals.{share_from, share_of, shares_by, AscendsFrom}
-use Rattle.coalitions.proofs.Ranges.{sum_by-range-more}
+use Rattle.mwc_parts.specs.Shared.Deals.{share_from, share_of, shares_by, AscendsFrom}
+use Rattle.coalitions.proofs.Shared.Ranges.{sum_by-range-more}
 use Rattle.std.proofs.lemmas.List.Sums.{sum_by-cons, sum_by_push, sum_by-set}
 
 cons_if : (b : Bool) (j : ℕ) (x a c : List ℕ) → x ≡ a ++ c → cond b (j ∷ x) x ≡ cond b (j ∷ a) a ++ c

@@ -9,8 +9,8 @@ use Rattle.mwc_parts.specs.Wording.{coalition_count}
 use Rattle.mwc_parts.specs.Pieces.{ones, done_counts}
 use Rattle.mwc_parts.specs.Settled.{is_cut, has_cut, IsSentWhole, IsDraftOf, HasAllWords}
 use Rattle.mwc_parts.specs.declared.draft.Draft.{Draft}
-use Rattle.mwc_parts.proofs.Readings.{ones-append, done_counts-append, Reads, reads}
-use Rattle.mwc_parts.proofs.Settles.{all_sent, cut_is_many}
+use Rattle.mwc_parts.proofs.Shared.Readings.{ones-append, done_counts-append, Reads, reads}
+use Rattle.mwc_parts.proofs.Shared.Settles.{all_sent, cut_is_many}
 
 -- the draft kept one more word, or lost it
 pub record Hears (old : Draft) (word : Word) (new : Draft) : Type 0 where

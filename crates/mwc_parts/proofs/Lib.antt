@@ -1,11 +1,7 @@
-pub mod Sums
-pub mod Ranges
-pub mod Deals
-pub mod Turns
-pub mod Firsts
-pub mod Once
-pub mod Tasks
-pub mod Settles
-pub mod Readings
-pub mod Drafts
+pub mod Shared
+mod Sums
+mod Ranges
+mod Deals
+mod Tasks
+mod Drafts
 mod Rooms

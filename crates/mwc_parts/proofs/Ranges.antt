@@ -5,7 +5,7 @@ use Rattle.std.proofs.Common.{ap, arith, sym, ◌∙◌}
 use Rattle.std.proofs.lemmas.List.{flat_map_more, map-append}
 use Rattle.std.proofs.lemmas.List.Folds.{flat_map-map}
 use Rattle.std.proofs.lemmas.List.FromFn.{map-range_with_len_more}
-use Rattle.coalitions.proofs.Ranges.{range-more}
+use Rattle.coalitions.proofs.Shared.Ranges.{range-more}
 
 -- one more slice
 pub in_order_more : (slice : ℕ → List ℕ) (n : ℕ) (all piece : List ℕ) → all ≡ flat_map slice (range_with_len 0 n) → piece ≡ slice n

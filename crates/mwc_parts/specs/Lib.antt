@@ -7,3 +7,4 @@ pub mod Fault
 pub mod Settled
 pub mod Room
 pub mod Inner
+pub mod Shared

@@ -6,8 +6,8 @@ use Rattle.std.proofs.lemmas.List.Sums.{sum_by-cons}
 use Rattle.council_game.specs.Votes.{RuleView, Votes, IsVotes, rule_at}
 use Rattle.council_game.specs.Ranks.{rule_by_rank}
 use Rattle.council_game.specs.Game.{GameView, IsGame, votes_of}
-use Rattle.council_game.proofs.GameTests.{rule-is}
-use Rattle.council_game.proofs.Making.{ranks-are}
+use Rattle.council_game.proofs.Shared.GameTests.{rule-is}
+use Rattle.council_game.proofs.Shared.Making.{ranks-are}
 use Rattle.mwc_sums.specs.Heads.{WeighsAllAlike}
 use Rattle.mwc_sums.proofs.Orders.{ranked-weight}
 

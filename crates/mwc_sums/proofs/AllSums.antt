@@ -5,7 +5,7 @@ use Rattle.std.specs.List.{sum_by}
 use Rattle.std.proofs.lemmas.Bool.{cases_eq, eq-eqb, ne_eqb}
 use Rattle.std.proofs.lemmas.List.Sums.{sum_by-cons, length-filter}
 use Rattle.council_game.specs.Votes.{down}
-use Rattle.power_index.proofs.Sums.{sum-zero, sum-filter}
+use Rattle.power_index.proofs.Shared.Sums.{sum-zero, sum-filter}
 
 abbrev pub one_if : Bool → ℕ
 one_if b = cond b 1 0

@@ -11,10 +11,10 @@ use Rattle.std.proofs.lemmas.Nat.{pow_pos}
 use Rattle.std.proofs.lemmas.Nat.Bits.{bit_at_cat_low, bit_at_cat_high, bit_at_above}
 use Rattle.council_game.specs.Votes.{RuleView, Votes, IsRule, IsRanked, IsVotes, rule_at, has, without, weight, wins, minimal, down}
 use Rattle.council_game.specs.Votes.{minimal_coalitions}
-use Rattle.coalitions.proofs.Digits.{has-none}
-use Rattle.council_game.proofs.Meanings.{needs-each-member}
-use Rattle.council_game.proofs.WeightByDigits.{weight-nil, weight-cons}
-use Rattle.council_game.proofs.Weights.{weight-skip, weight-zero, weight-without}
+use Rattle.coalitions.proofs.Shared.Digits.{has-none}
+use Rattle.council_game.proofs.Shared.Meanings.{needs-each-member}
+use Rattle.council_game.proofs.Shared.WeightByDigits.{weight-nil, weight-cons}
+use Rattle.council_game.proofs.Shared.Weights.{weight-skip, weight-zero, weight-without}
 use Rattle.mwc_sums.specs.Completing.{completing}
 
 -- ---- coalitions of one place more

@@ -8,11 +8,11 @@ use Rattle.std.proofs.lemmas.List.{length-map}
 use Rattle.std.proofs.lemmas.List.Elements.{filter-append, All-nil, All-cons, All-head, All-tail, All-append, All-map, All-weaker}
 use Rattle.std.proofs.lemmas.Nat.{pow_pos, ones_cat}
 use Rattle.council_game.specs.Votes.{has, size}
-use Rattle.coalitions.proofs.Digits.{has-none}
-use Rattle.coalitions.proofs.Sizes.{size-ones}
+use Rattle.coalitions.proofs.Shared.Digits.{has-none}
+use Rattle.coalitions.proofs.Shared.Sizes.{size-ones}
 use Rattle.mwc_sums.specs.Completing.{completing}
 use Rattle.weight_sums.specs.Endings.{one_of_size, left_out}
-use Rattle.weight_sums.proofs.EndingLaws.{closings}
+use Rattle.weight_sums.proofs.Shared.EndingLaws.{closings}
 use Rattle.mwc_sums.proofs.Completing.{double-pow, first-in, first-out, rest-in, rest-out, filter-map}
 
 -- ---- sizes

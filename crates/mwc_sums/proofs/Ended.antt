@@ -6,7 +6,7 @@ use Rattle.council_game.specs.Votes.{has, size, weight, down}
 use Rattle.mwc_sums.specs.Completing.{completing}
 use Rattle.weight_sums.specs.Endings.{endings, left_out}
 use Rattle.mwc_sums.proofs.Completing.{not-true, same_test}
-use Rattle.weight_sums.proofs.EndingLaws.{endings-few, endings-more, endings-heads, endings-plain}
+use Rattle.weight_sums.proofs.Shared.EndingLaws.{endings-few, endings-more, endings-heads, endings-plain}
 use Rattle.mwc_sums.proofs.Counting.{count, count-same, count-none, closings-all, closings-parted}
 use Rattle.mwc_sums.proofs.Meeting.{down-below, meetings-all, meetings-parted}
 

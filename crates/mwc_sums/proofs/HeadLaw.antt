@@ -4,9 +4,9 @@ use Rattle.std.proofs.Common.{leb, sym, ap, arith, inl, inr, subst}
 use Rattle.std.specs.List.{AllByRecursion}
 use Rattle.std.proofs.lemmas.Bool.{both_ways, cases_lt, le-leb, leb-true, eqb-true, and_parts, and_from}
 use Rattle.council_game.specs.Votes.{RuleView, Votes, IsRule, IsVotes, has, without, weight, size, wins, minimal}
-use Rattle.council_game.proofs.Meanings.{needs-each-member}
-use Rattle.council_game.proofs.Weights.{weight-without}
-use Rattle.council_game.proofs.WeightByDigits.{weight-nil}
+use Rattle.council_game.proofs.Shared.Meanings.{needs-each-member}
+use Rattle.council_game.proofs.Shared.Weights.{weight-without}
+use Rattle.council_game.proofs.Shared.WeightByDigits.{weight-nil}
 use Rattle.mwc_sums.specs.Heads.{AsksForHeads, first_rule}
 use Rattle.mwc_sums.proofs.Completing.{double-pow, weight-with, weight-left, wins-one, not-true}
 use Rattle.mwc_sums.proofs.Counting.{size-with, size-left}

@@ -3,13 +3,13 @@ use Rattle.std.proofs.Common.{◌≡◌, ◌∙◌, ◌==◌, ◌&&◌, ℕ, ◌
 use Rattle.std.proofs.Common.{length, get_or, filter, sym, ap, arith}
 use Rattle.std.specs.List.{sum_by, range_with_len}
 use Rattle.std.proofs.lemmas.Bool.{ne_eqb, and_right}
-use Rattle.coalitions.proofs.Ranges.{sum_by-range-more, sum_by-range-le}
+use Rattle.coalitions.proofs.Shared.Ranges.{sum_by-range-more, sum_by-range-le}
 use Rattle.council_game.specs.Votes.{minimal_coalitions}
 use Rattle.council_game.specs.Game.{GameView, IsGame, votes_of}
 use Rattle.power_index.specs.Counting.{size_of, contains, count_of_size, count_of_member_size}
-use Rattle.power_index.proofs.Members.{size-le}
-use Rattle.power_index.proofs.Minimal.{minimal-few}
-use Rattle.power_index.proofs.Sums.{sum-range, length-filter-le}
+use Rattle.power_index.proofs.Shared.Members.{size-le}
+use Rattle.power_index.proofs.Shared.Minimal.{minimal-few}
+use Rattle.power_index.proofs.Shared.Sums.{sum-range, length-filter-le}
 use Rattle.mwc_sums.specs.Chambers.{AreChambersOf, paired, minimal_of_size, minimal_of_member_size}
 use Rattle.mwc_sums.proofs.Paired.{filter-none}
 use Rattle.mwc_sums.proofs.Apart.{chamber-sizes, chamber-members}

@@ -1,25 +1,25 @@
 pub mod Completing
-pub mod Counting
-pub mod Meeting
-pub mod HeadLaw
-pub mod Ended
-pub mod Leading
-pub mod Whole
-pub mod Masks
+mod Counting
+mod Meeting
+mod HeadLaw
+mod Ended
+mod Leading
+mod Whole
+mod Masks
 pub mod Orders
-pub mod VetoLaw
-pub mod AlikeRules
-pub mod Winning
-pub mod Joining
-pub mod AllSums
-pub mod Paired
-pub mod Pairs
-pub mod Apart
-pub mod Remaking
-pub mod Joined
-pub mod Vetoing
-pub mod VetoRules
-pub mod OneChamber
-pub mod Sharing
-pub mod Dividing
-pub mod Parting
+mod VetoLaw
+mod AlikeRules
+mod Winning
+mod Joining
+mod AllSums
+mod Paired
+mod Pairs
+mod Apart
+mod Remaking
+mod Joined
+mod Vetoing
+mod VetoRules
+mod OneChamber
+mod Sharing
+mod Dividing
+mod Parting

@@ -7,8 +7,8 @@ use Rattle.std.proofs.lemmas.Nat.Bits.{bit_at-suc, same_from_bits_below}
 use Rattle.council_game.specs.Votes.{has, without}
 use Rattle.council_game.specs.Ranks.{member_at}
 use Rattle.council_game.specs.Game.{GameView}
-use Rattle.coalitions.proofs.Digits.{has-kept, has-gone}
-use Rattle.council_game.proofs.Making.{RanksAre}
+use Rattle.coalitions.proofs.Shared.Digits.{has-kept, has-gone}
+use Rattle.council_game.proofs.Shared.Making.{RanksAre}
 use Rattle.power_index.specs.Counting.{contains}
 
 -- the coalition of the places that pass a test

@@ -6,10 +6,10 @@ use Rattle.std.proofs.lemmas.Bool.{cases_lt, lt-leb, le-leb}
 use Rattle.std.proofs.lemmas.List.{length-map}
 use Rattle.std.proofs.lemmas.List.Elements.{filter-append, All-nil, All-cons}
 use Rattle.council_game.specs.Votes.{has, size, weight, down}
-use Rattle.council_game.proofs.WeightByDigits.{weight-nil}
+use Rattle.council_game.proofs.Shared.WeightByDigits.{weight-nil}
 use Rattle.weight_sums.specs.Endings.{left_out}
 use Rattle.mwc_sums.proofs.Completing.{double-pow, down-two, first-in, first-out, rest-in, rest-out, weight-with, weight-left, filter-map}
-use Rattle.weight_sums.proofs.EndingLaws.{meetings}
+use Rattle.weight_sums.proofs.Shared.EndingLaws.{meetings}
 use Rattle.mwc_sums.proofs.Counting.{count, count-same, count-none, size-with, size-left}
 
 pub down-below : (n m : ℕ) → n ≤ m → All (λ c. c < m) (down n)

@@ -7,8 +7,8 @@ use Rattle.std.proofs.lemmas.List.Sums.{sum_by-take-drop}
 use Rattle.council_game.specs.Game.{GameView, IsGame, votes_of}
 use Rattle.council_game.specs.Ranks.{member_at, rule_by_rank}
 use Rattle.council_game.specs.Votes.{RuleView, Votes, IsVotes, IsRanked, rule_at}
-use Rattle.council_game.proofs.GameTests.{rule-is}
-use Rattle.council_game.proofs.Making.{ranks-are}
+use Rattle.council_game.proofs.Shared.GameTests.{rule-is}
+use Rattle.council_game.proofs.Shared.Making.{ranks-are}
 use Rattle.mwc_sums.specs.Heads.{AsksOfThose}
 use Rattle.mwc_sums.specs.Inner.Asked.{IsAsked}
 use Rattle.mwc_sums.proofs.AlikeRules.{alike-sum, has-rule}

@@ -20,16 +20,16 @@ use Rattle.council_game.specs.Votes.{RuleView, Votes, has, without, weight, wins
 use Rattle.council_game.specs.Ranks.{places, member_at, members_by_rank, rule_by_rank}
 use Rattle.council_game.specs.Game.{GameView, IsGame, votes_of}
 use Rattle.council_game.specs.Laws.{IsListing}
-use Rattle.council_game.proofs.Games.{votes-are}
-use Rattle.council_game.proofs.Listing.{listing-is}
-use Rattle.council_game.proofs.Making.{ranks-are}
-use Rattle.council_game.proofs.Meanings.{needs-each-member}
-use Rattle.council_game.proofs.RankPlaces.{game-rank_places}
-use Rattle.council_game.proofs.Rankings.{places-at, length-weights_by_rank}
+use Rattle.council_game.proofs.Shared.Games.{votes-are}
+use Rattle.council_game.proofs.Shared.Listing.{listing-is}
+use Rattle.council_game.proofs.Shared.Making.{ranks-are}
+use Rattle.council_game.proofs.Shared.Meanings.{needs-each-member}
+use Rattle.council_game.proofs.Shared.RankPlaces.{game-rank_places}
+use Rattle.council_game.proofs.Shared.Rankings.{places-at, length-weights_by_rank}
 use Rattle.power_index.specs.Counting.{contains, size_of}
 use Rattle.power_index.specs.Tables.{Tables, AreCounts}
-use Rattle.power_index.proofs.Members.{members-of}
-use Rattle.power_index.proofs.Sums.{sum-filter, sum-range}
+use Rattle.power_index.proofs.Shared.Members.{members-of}
+use Rattle.power_index.proofs.Shared.Sums.{sum-filter, sum-range}
 use Rattle.mwc_sums.specs.Orders.{HaveTheSameRules}
 use Rattle.mwc_sums.proofs.Masks.{AreAlike, moved, moved-below, moved-alike, moved-apart, alike-without}
 

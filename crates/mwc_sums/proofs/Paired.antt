@@ -3,7 +3,7 @@ use Rattle.std.proofs.Common.{◌≡◌, ◌∙◌, ◌==◌, ◌&&◌, ℕ, ◌
 use Rattle.std.proofs.Common.{filter, sym, ap, refl, arith, inl, inr}
 use Rattle.std.specs.List.{sum_by}
 use Rattle.std.proofs.lemmas.Bool.{cases_lt, cases_eq, eq-eqb, ne_eqb, and_parts, and_right, le-leb, leb-true, lt-leb}
-use Rattle.power_index.proofs.Sums.{sum-times, sum-range, sum-filter, sum-by_size}
+use Rattle.power_index.proofs.Shared.Sums.{sum-times, sum-range, sum-filter, sum-by_size}
 use Rattle.mwc_sums.specs.Chambers.{paired}
 use Rattle.mwc_sums.proofs.AllSums.{one_if, count-both}
 

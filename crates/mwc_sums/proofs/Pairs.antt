@@ -6,10 +6,10 @@ use Rattle.std.proofs.lemmas.Bool.{eqb-true, eq-eqb, and_parts, and_from}
 use Rattle.council_game.specs.Votes.{has, minimal, down, minimal_coalitions}
 use Rattle.council_game.specs.Ranks.{member_at}
 use Rattle.council_game.specs.Game.{GameView, IsGame, votes_of}
-use Rattle.council_game.proofs.Making.{ranks-are}
+use Rattle.council_game.proofs.Shared.Making.{ranks-are}
 use Rattle.power_index.specs.Counting.{contains, size_of}
-use Rattle.power_index.proofs.Members.{members-of}
-use Rattle.power_index.proofs.Sums.{sum-plus, sum-range, exchange}
+use Rattle.power_index.proofs.Shared.Members.{members-of}
+use Rattle.power_index.proofs.Shared.Sums.{sum-plus, sum-range, exchange}
 use Rattle.mwc_sums.specs.Chambers.{paired, minimal_of_size, minimal_of_member_size}
 use Rattle.mwc_sums.proofs.Completing.{same_test}
 use Rattle.mwc_sums.proofs.AllSums.{one_if, sum-down, one-of, count-both, one-form, two-form, under, one-sum, two-ways}

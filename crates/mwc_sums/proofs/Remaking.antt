@@ -16,7 +16,7 @@ use Rattle.council_game.specs.declared.fault.GameFault.TheVariants.{Memory}
 use Rattle.council_game.specs.Fault.{Gives, Answers}
 use Rattle.council_game.specs.Ranks.{rank_places}
 use Rattle.council_game.specs.Game.{GameView, IsGame, made_game, first_weights, is_heavy, has_bad_quota}
-use Rattle.council_game.proofs.Games.{passed, none-any, light-weights, makes, position_nowhere}
+use Rattle.council_game.proofs.Shared.Games.{passed, none-any, light-weights, makes, position_nowhere}
 use Rattle.mwc_sums.specs.Inner.Fair.{IsFair}
 
 -- a list of rules has as many as their views

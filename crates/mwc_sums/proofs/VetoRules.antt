@@ -8,7 +8,7 @@ use Rattle.std.proofs.lemmas.List.FromFn.{length-map-range_with_len}
 use Rattle.std.proofs.lemmas.List.Elements.{All-cons, All-nil, All-head, All-tail, filter-append}
 use Rattle.council_game.specs.Votes.{RuleView}
 use Rattle.council_game.specs.Game.{has_bad_quota}
-use Rattle.power_index.proofs.Sums.{sum-plus, sum-range}
+use Rattle.power_index.proofs.Shared.Sums.{sum-plus, sum-range}
 use Rattle.mwc_sums.specs.Inner.Asked.{rule_for}
 use Rattle.mwc_sums.specs.Vetoers.{number_of, rest_of, rests}
 use Rattle.mwc_sums.specs.Inner.Fair.{IsFair}

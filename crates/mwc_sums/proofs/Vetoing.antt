@@ -6,9 +6,9 @@ use Rattle.std.proofs.lemmas.Bool.{cases_lt, cases_Bool, or_cases, and_right, le
 use Rattle.std.proofs.lemmas.List.FromFn.{fill_by_all, get_or-map-range_with_len}
 use Rattle.std.proofs.lemmas.List.Folds.{fold-map}
 use Rattle.std.proofs.lemmas.List.Elements.{All-cons, All-nil, All-head, All-tail, All-filter, All-map}
-use Rattle.coalitions.proofs.Ranges.{sum_by-range-more}
+use Rattle.coalitions.proofs.Shared.Ranges.{sum_by-range-more}
 use Rattle.council_game.specs.Votes.{RuleView}
-use Rattle.power_index.proofs.Sums.{sum-plus, sum-range}
+use Rattle.power_index.proofs.Shared.Sums.{sum-plus, sum-range}
 use Rattle.mwc_sums.specs.Chambers.{HasNoWeight, weighs, met}
 use Rattle.mwc_sums.specs.Inner.Asked.{rule_for}
 use Rattle.mwc_sums.specs.Vetoers.{can_veto, number_of, rest_of, rests}

@@ -12,8 +12,8 @@ use Rattle.council_game.specs.Votes.{RuleView, Votes, IsRule, IsRanked, IsVotes,
 use Rattle.council_game.specs.Votes.{minimal_coalitions}
 use Rattle.council_game.specs.Game.{GameView, votes_of}
 use Rattle.council_game.specs.Ranks.{rule_by_rank}
-use Rattle.coalitions.proofs.Sizes.{size-ones}
-use Rattle.council_game.proofs.GameTests.{rule-is}
+use Rattle.coalitions.proofs.Shared.Sizes.{size-ones}
+use Rattle.council_game.proofs.Shared.GameTests.{rule-is}
 use Rattle.power_index.specs.declared.tally.Tally.{Tally}
 use Rattle.power_index.specs.Tables.{IsTallyOf}
 use Rattle.weight_sums.specs.declared.by_size.BySize.{BySize}

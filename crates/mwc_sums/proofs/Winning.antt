@@ -6,11 +6,11 @@ use Rattle.std.proofs.lemmas.Bool.{cases_eq, eq-eqb, ne_eqb, and_right}
 use Rattle.council_game.specs.Votes.{RuleView, has, without, wins, weight, minimal}
 use Rattle.council_game.specs.Ranks.{member_at, rule_by_rank}
 use Rattle.council_game.specs.Game.{GameView, IsGame, votes_of}
-use Rattle.coalitions.proofs.Digits.{has-kept, has-gone}
-use Rattle.council_game.proofs.Making.{ranks-are}
-use Rattle.council_game.proofs.Meanings.{needs-each-member}
+use Rattle.coalitions.proofs.Shared.Digits.{has-kept, has-gone}
+use Rattle.council_game.proofs.Shared.Making.{ranks-are}
+use Rattle.council_game.proofs.Shared.Meanings.{needs-each-member}
 use Rattle.power_index.specs.Counting.{contains}
-use Rattle.power_index.proofs.Sums.{sum-range}
+use Rattle.power_index.proofs.Shared.Sums.{sum-range}
 pub use Rattle.mwc_sums.specs.Chambers.{weighs, met}
 use Rattle.mwc_sums.proofs.Orders.{weight-by_member}
 

@@ -10,14 +10,14 @@ use Rattle.std.proofs.lemmas.List.Sums.{sum_by-cons}
 use Rattle.std.proofs.lemmas.List.Sorted.{sum_by-IsPermutation}
 use Rattle.council_game.specs.Game.{GameView, IsGame, votes_of}
 use Rattle.council_game.specs.Votes.{minimal_coalitions}
-use Rattle.council_game.proofs.Games.{votes-are}
+use Rattle.council_game.proofs.Shared.Games.{votes-are}
 use Rattle.mwc_walk.specs.Slices.{slice}
-use Rattle.mwc_walk.proofs.Joined.{slices-joined}
-use Rattle.mwc_walk.proofs.One.{slice-short}
+use Rattle.mwc_walk.proofs.Shared.Joined.{slices-joined}
+use Rattle.mwc_walk.proofs.Shared.One.{slice-short}
 use Rattle.power_index.specs.Tables.{Tables, AreTallies, AreCounts, table_total}
-use Rattle.power_index.proofs.Minimal.{minimal-are-coalitions, minimal-few}
-use Rattle.power_index.proofs.Sound.{total-is, tallies-are_counts}
-use Rattle.coalitions.proofs.Ranges.{range-more, sum_by-range-more, sum_by-range-le}
+use Rattle.power_index.proofs.Shared.Minimal.{minimal-are-coalitions, minimal-few}
+use Rattle.power_index.proofs.Shared.Sound.{total-is, tallies-are_counts}
+use Rattle.coalitions.proofs.Shared.Ranges.{range-more, sum_by-range-more, sum_by-range-le}
 use Rattle.mwc_tally.specs.Inner.Shares.{CountedUpTo, CountSlices, CountWhole, slice_of}
 use Rattle.mwc_tally.specs.declared.slices.Slices.{Slices}
 

@@ -6,8 +6,8 @@ use Rattle.std.proofs.lemmas.List.Concat.{flat_map-append}
 use Rattle.std.proofs.lemmas.List.Folds.{length-flat_map-take}
 use Rattle.council_game.specs.Game.{GameView}
 use Rattle.power_index.specs.Tables.{Tables, AreTallies, AreCounts}
-use Rattle.power_index.proofs.Pieces.{pieces-all}
-use Rattle.power_index.proofs.Sound.{tallies-are_counts}
+use Rattle.power_index.proofs.Shared.Pieces.{pieces-all}
+use Rattle.power_index.proofs.Shared.Sound.{tallies-are_counts}
 use Rattle.mwc_tally.specs.Inner.Threads.{IsGivenPart}
 use Rattle.mwc_tally.specs.declared.pieces.GivenPart.{GivenPart}
 

@@ -4,8 +4,8 @@ use Rattle.std.proofs.lemmas.List.{drop_all, length-take-le, get_or-take}
 use Rattle.std.proofs.lemmas.Bool.{cases_eq}
 use Rattle.std.proofs.lemmas.Nat.Bits.{bit_at-lt}
 use Rattle.council_game.specs.Votes.{weight}
-use Rattle.council_game.proofs.Weights.{weight-le}
-use Rattle.council_game.proofs.WeightByDigits.{weight-nil, weight-cons}
+use Rattle.council_game.proofs.Shared.Weights.{weight-le}
+use Rattle.council_game.proofs.Shared.WeightByDigits.{weight-nil, weight-cons}
 use Rattle.mwc_walk.specs.declared.price.Price.{Price}
 use Rattle.mwc_walk.specs.declared.intervals.Intervals.{Intervals}
 use Rattle.mwc_walk.specs.Inner.Covers.{Covers}

@@ -8,7 +8,7 @@ use Rattle.std.proofs.lemmas.List.{length-append, length-drop, get_or-drop, take
 use Rattle.std.proofs.lemmas.List.Elements.{filter-append}
 use Rattle.std.proofs.lemmas.Nat.{mul-le, pow-add}
 use Rattle.council_game.specs.Votes.{Votes, minimal, down, minimal_coalitions}
-use Rattle.council_game.specs.Inner.Below.{minimal_below}
+use Rattle.council_game.specs.Shared.Below.{minimal_below}
 use Rattle.mwc_walk.specs.Slices.{slice}
 use Rattle.mwc_walk.specs.Inner.Places.{in_slice, slice_below}
 use Rattle.mwc_walk.specs.declared.cursor.Cursor.{Cursor}

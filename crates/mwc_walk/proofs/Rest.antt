@@ -5,8 +5,8 @@ use Rattle.std.proofs.lemmas.Nat.Bits.{bit_at_cat_low}
 use Rattle.std.proofs.lemmas.Nat.{pow_pos, pow-add, mul-le}
 use Rattle.std.proofs.lemmas.Bool.{and_left, eq-eqb, cond-true, false_from_ne_true, both_ways}
 use Rattle.council_game.specs.Votes.{Votes, IsVotes, has, without, wins, minimal, down, minimal_coalitions}
-use Rattle.council_game.specs.Inner.Below.{minimal_below}
-use Rattle.council_game.proofs.Meanings.{needs-each-member}
+use Rattle.council_game.specs.Shared.Below.{minimal_below}
+use Rattle.council_game.proofs.Shared.Meanings.{needs-each-member}
 use Rattle.mwc_walk.specs.Slices.{slice}
 use Rattle.mwc_walk.specs.Inner.Places.{in_slice, slice_below, reaches, wins_at, NothingBelow}
 use Rattle.mwc_walk.proofs.Blocks.{some_digit}

@@ -5,7 +5,7 @@ use Rattle.std.proofs.lemmas.Bool.{le-leb, leb-true}
 use Rattle.std.proofs.lemmas.List.{drop_all}
 use Rattle.std.proofs.lemmas.List.Sums.{sum_by-drop_more}
 use Rattle.council_game.specs.Votes.{RuleView, IsRule, weight, wins}
-use Rattle.council_game.proofs.Weights.{weight-at, weight-le, weight-more, weight-prefix}
+use Rattle.council_game.proofs.Shared.Weights.{weight-at, weight-le, weight-more, weight-prefix}
 use Rattle.mwc_walk.specs.Inner.Places.{reaches, wins_at}
 use Rattle.mwc_walk.proofs.Each.{list_all-more, list_all-same}
 

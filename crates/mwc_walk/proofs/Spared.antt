@@ -9,15 +9,15 @@ use Rattle.std.proofs.lemmas.Nat.{shr-shr, div-add-mod'}
 use Rattle.std.proofs.lemmas.Nat.Bits.{bit_at-trailing_zeros}
 use Rattle.std.proofs.Math.Pow.{pow_mono}
 use Rattle.council_game.specs.Votes.{RuleView, Votes, IsRule, IsVotes, IsRanked, rule_at, has, without, weight, wins, minimal}
-use Rattle.coalitions.proofs.Digits.{has-kept, has-gone, has-none, lowest-place, lowest-cleared, without-less}
-use Rattle.council_game.proofs.GameTests.{sum-without}
-use Rattle.council_game.proofs.Meanings.{needs-each-member}
-use Rattle.council_game.proofs.Weights.{weight-skip}
+use Rattle.coalitions.proofs.Shared.Digits.{has-kept, has-gone, has-none, lowest-place, lowest-cleared, without-less}
+use Rattle.council_game.proofs.Shared.GameTests.{sum-without}
+use Rattle.council_game.proofs.Shared.Meanings.{needs-each-member}
+use Rattle.council_game.proofs.Shared.Weights.{weight-skip}
 use Rattle.mwc_walk.specs.declared.cursor.Cursor.{Cursor}
 use Rattle.mwc_walk.specs.Inner.Places.{NothingBelow, NoneWins, AreExcesses, CanSpare, wins_at}
 use Rattle.mwc_walk.specs.Inner.Spared.{IsEnough, NoneSpared, Tried}
 use Rattle.mwc_walk.specs.Inner.Cursor.{CursorIs}
-use Rattle.mwc_walk.proofs.One.{place-before, in-slice}
+use Rattle.mwc_walk.proofs.Shared.One.{place-before, in-slice}
 use Rattle.mwc_walk.proofs.Rules.{weight-block, weight-split, wins-prefix}
 
 -- a place that is in the prefix is in each coalition below it

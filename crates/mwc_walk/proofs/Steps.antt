@@ -16,7 +16,7 @@ use Rattle.mwc_walk.specs.Slices.{slice}
 use Rattle.mwc_walk.specs.Inner.Places.{slice_below, reaches, wins_at, LanesAre, NothingBelow}
 use Rattle.mwc_walk.specs.Inner.Cursor.{rest_of_slice, new_visit, open_visits, IsPlace, CountsVisits, CursorIs, Follows, Steps}
 use Rattle.mwc_walk.proofs.Rest.{dead-nothing, left-nothing, left-won, left-take, left-none}
-use Rattle.mwc_walk.proofs.One.{one-minimal, won-odd, empty-loses, slice-short, in-slice}
+use Rattle.mwc_walk.proofs.Shared.One.{one-minimal, won-odd, empty-loses, slice-short, in-slice}
 use Rattle.mwc_walk.proofs.Tables.{lanes-in, lanes-out, lanes-up, fits-in, fits-out, lanes-reach, lanes-win}
 use Rattle.mwc_walk.proofs.Rules.{wins-more, reaches-in, full-reach}
 

@@ -7,7 +7,7 @@ use Rattle.std.proofs.lemmas.List.Sums.{sum_by-take-drop, sum_by-drop_more}
 use Rattle.mwc_walk.specs.declared.lane.Lane.{Lane}
 use Rattle.mwc_walk.specs.Inner.Lanes.{lane_reaches, lane_wins, lane_with, lane_without}
 use Rattle.council_game.specs.Votes.{RuleView, IsRule, weight, rule_at}
-use Rattle.council_game.proofs.Weights.{weight-le, weight-zero}
+use Rattle.council_game.proofs.Shared.Weights.{weight-le, weight-zero}
 use Rattle.mwc_walk.specs.Inner.Places.{reaches, wins_at, LaneIs, LanesAre}
 use Rattle.mwc_walk.proofs.Each.{list_all-beside, AllZip-moved, All-beside}
 use Rattle.mwc_walk.proofs.Rules.{weight-step, weight-over, rest-step}

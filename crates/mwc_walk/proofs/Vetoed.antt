@@ -4,9 +4,9 @@ use Rattle.std.specs.List.{list_any}
 use Rattle.std.proofs.lemmas.Bool.{both_ways, and_parts, or_cases, leb-true, ltb-true, cases_Bool, cases_eq}
 use Rattle.std.proofs.lemmas.List.{drop_all, take_all, length-take-le}
 use Rattle.std.proofs.lemmas.Nat.Bits.{bit_at-lt}
-use Rattle.coalitions.proofs.Digits.{digit-added}
+use Rattle.coalitions.proofs.Shared.Digits.{digit-added}
 use Rattle.council_game.specs.Votes.{RuleView, Votes, IsRule, rule_at, weight, wins}
-use Rattle.council_game.proofs.Weights.{weight-le, weight-without}
+use Rattle.council_game.proofs.Shared.Weights.{weight-le, weight-without}
 use Rattle.mwc_walk.specs.declared.lane.Lane.{Lane}
 use Rattle.mwc_walk.specs.Inner.Lanes.{lane_needs}
 use Rattle.mwc_walk.specs.Inner.Vetoes.{IsSplit}

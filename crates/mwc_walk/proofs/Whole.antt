@@ -2,10 +2,10 @@
 use Rattle.std.proofs.Common.{◌≡◌, ◌^◌, ◌<◌, ◌≤◌, ◌++◌, ◌∷◌, [], ℕ, List, All, length, sym, ap, subst, ◌∙◌, append-nil, length-append, arith}
 use Rattle.council_game.specs.Votes.{IsVotes, Votes, minimal_coalitions}
 use Rattle.council_game.specs.Game.{GameView, votes_of}
-use Rattle.council_game.proofs.Listing.{listing-is}
+use Rattle.council_game.proofs.Shared.Listing.{listing-is}
 use Rattle.mwc_walk.specs.Slices.{slice}
 use Rattle.mwc_walk.specs.Listed.{ListsAll}
-use Rattle.mwc_walk.proofs.Joined.{slices-joined}
+use Rattle.mwc_walk.proofs.Shared.Joined.{slices-joined}
 
 -- at no bits there is one slice, which is the whole
 pub one-slice : (v : Votes) → IsVotes v → slice v 0 0 ≡ minimal_coalitions v

@@ -1,16 +1,6 @@
-pub mod AddUp
-pub mod LowestTerms
-pub mod Members
-pub mod Minimal
-pub mod Ordered
-pub mod Pieces
-pub mod Printed
-pub mod Quotients
-pub mod Small
-pub mod Sound
-pub mod Sums
-pub mod Tallies
-pub mod Units
+pub mod Shared
+mod Ordered
+mod Quotients
 pub mod Unique
-pub mod Walks
-pub mod Weights
+mod Walks
+mod Weights

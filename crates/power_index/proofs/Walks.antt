@@ -5,7 +5,7 @@ use Rattle.council_game.specs.Votes.{has, without}
 use Rattle.power_index.specs.declared.tally.Tally.{Tally}
 use Rattle.power_index.specs.Tables.{no_tally}
 use Rattle.power_index.specs.Inner.Tables.{with_one}
-use Rattle.coalitions.proofs.Digits.{has-kept, has-gone, has-none}
+use Rattle.coalitions.proofs.Shared.Digits.{has-kept, has-gone, has-none}
 
 -- of the places of c, those in rest are still to be counted
 pub record Walked (n c size : ℕ) (old now : List Tally) (rest : ℕ) : Type 0 where

@@ -7,9 +7,9 @@ use Rattle.council_game.specs.Game.{GameView}
 use Rattle.power_index.specs.Counting.{members, contains, count_of_member, size_of, count_of_member_size}
 use Rattle.power_index.specs.Tables.{Tables, AreCounts, denominator, weighted_sum, table_total, table_of_member, table_of_member_size, table_memberships}
 use Rattle.power_index.specs.Indices.{sizes_of_member}
-use Rattle.power_index.proofs.Sums.{sum-range, sum-by_size, length-filter-le}
-use Rattle.power_index.proofs.Members.{sizes-within, size-pos-in, size-le}
-use Rattle.power_index.proofs.Units.{sum_few}
+use Rattle.power_index.proofs.Shared.Sums.{sum-range, sum-by_size, length-filter-le}
+use Rattle.power_index.proofs.Shared.Members.{sizes-within, size-pos-in, size-le}
+use Rattle.power_index.proofs.Shared.Units.{sum_few}
 
 pub within : (g : GameView) (list : List ℕ) (t : Tables) (i : ℕ) → i < t.members → AreCounts g list t
     → AllByRecursion (λ s. (0 < s) × (s ≤ length g.names)) (sizes_of_member g list i)

@@ -11,7 +11,7 @@ ghost use Rattle.std.specs.Prelude.{◌≡◌, ℕ, ◌<◌, ◌≤◌, ◌^◌,
 
 /// The Deegan-Packel indices of a game's members add up to 1, over each list of coalitions that are not
 /// empty, if there is one in it.
-#[tactic(auto, using(crate::proofs::AddUp::deegan_packel_adds_up))]
+#[tactic(auto, using(crate::proofs::Shared::AddUp::deegan_packel_adds_up))]
 pub fn deegan_packel_adds_up()
     ensures { (g : GameView) (list : List ℕ) → IsGame g → 0 < length list
         → AreNonemptyCoalitions g list → AddUpToOne (map (deegan_packel g list) (members g)) }
@@ -19,7 +19,7 @@ pub fn deegan_packel_adds_up()
 
 /// The public good indices of a game's members add up to 1, over each list of coalitions that are not
 /// empty, if there is one in it.
-#[tactic(auto, using(crate::proofs::AddUp::public_good_adds_up))]
+#[tactic(auto, using(crate::proofs::Shared::AddUp::public_good_adds_up))]
 pub fn public_good_adds_up()
     ensures { (g : GameView) (list : List ℕ) → IsGame g
         → 0 < length list → AreNonemptyCoalitions g list
@@ -36,7 +36,7 @@ pub fn minimal_coalitions_can_be_counted()
 {}
 
 /// A pair with a bottom above 0 has one form in lowest terms, and it is the one that is computed.
-#[tactic(auto, using(crate::proofs::LowestTerms::has_lowest_terms))]
+#[tactic(auto, using(crate::proofs::Shared::LowestTerms::has_lowest_terms))]
 pub fn lowest_terms_are_unique()
     ensures { (p : ℕ × ℕ) → 0 < p.1 → HasLowestTerms p }
 {}

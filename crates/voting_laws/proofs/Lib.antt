@@ -1,6 +1,6 @@
 pub mod Masks
 pub mod Ranges
 pub mod Minimal
-pub mod Names
+mod Names
 pub mod Ordered
-pub mod Sums
+mod Sums

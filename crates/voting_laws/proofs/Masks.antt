@@ -3,7 +3,7 @@ use Rattle.std.proofs.Common.{◌≡◌, ◌∙◌, ℕ, ◌-◌, ◌/◌, ◌%�
 use Rattle.std.proofs.lemmas.Bool.{cases_eq, eq-eqb, eqb-true}
 use Rattle.std.proofs.lemmas.Nat.Bits.{bit_at-lt, same_from_bits_below}
 use Rattle.coalitions.specs.Coalitions.{has}
-use Rattle.coalitions.proofs.Digits.{has-none}
+use Rattle.coalitions.proofs.Shared.Digits.{has-none}
 
 same-digits : (n a c : ℕ) → ((p : ℕ) → p < n → has n p a ≡ has n p c) → (i : ℕ) → i < n → a / 2 ^ i % 2 ≡ c / 2 ^ i % 2
 unfolding has

@@ -4,9 +4,9 @@ use Rattle.std.specs.List.{filter, list_all}
 use Rattle.std.proofs.lemmas.Bool.{and_from, both_ways, cases_Bool, cases_eq, cases_lt, cond_both, not-false}
 use Rattle.std.proofs.lemmas.List.Elements.{All-contains, Contains-append_right}
 use Rattle.council_game.specs.Votes.{Votes, IsVotes, has, without, wins, places_of, minimal, down, minimal_coalitions}
-use Rattle.coalitions.proofs.Digits.{has-none, has-kept, without-less}
-use Rattle.council_game.proofs.Places.{spare-place}
-use Rattle.council_game.proofs.Subsets.{wins-mono, digits-less}
+use Rattle.coalitions.proofs.Shared.Digits.{has-none, has-kept, without-less}
+use Rattle.council_game.proofs.Shared.Places.{spare-place}
+use Rattle.council_game.proofs.Shared.Subsets.{wins-mono, digits-less}
 use Rattle.voting_laws.specs.Winning.{IsSubset, HasMinimalSubsets, HasVetoersInAll}
 
 pub larger_wins : (v : Votes) → IsVotes v → (a c : ℕ) → IsSubset v.members a c → wins v.rules a ≡ true → wins v.rules c ≡ true

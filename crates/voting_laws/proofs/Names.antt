@@ -7,8 +7,8 @@ use Rattle.std.proofs.lemmas.List.Folds.{list_any_at}
 use Rattle.std.proofs.lemmas.Slice.Eq.{bytes_eq-Decides}
 use Rattle.council_game.specs.Game.{GameView, IsGame, is_repeat}
 use Rattle.council_game.specs.Ranks.{member_at}
-use Rattle.council_game.proofs.Games.{passed, position-none}
-use Rattle.council_game.proofs.Making.{ranks-are}
+use Rattle.council_game.proofs.Shared.Games.{passed, position-none}
+use Rattle.council_game.proofs.Shared.Making.{ranks-are}
 
 pub distinct_places : (g : GameView) → IsGame g → (i j : ℕ) → i < length g.names → j < length g.names → get_or g.ranks i 0 ≡ get_or g.ranks j 0
     → i ≡ j

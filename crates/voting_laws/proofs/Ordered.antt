@@ -6,7 +6,7 @@ use Rattle.std.specs.Cmp.{nat_cmp_is}
 use Rattle.std.proofs.lemmas.Bool.{cases_lt, cases_eq}
 use Rattle.std.proofs.Math.Nat.{mul-pos, mul-le-mul_right, eq_of_mul-eq-mul_right, lt_of_mul-lt-mul_right}
 use Rattle.power_index.specs.Fractions.{SameFraction, fraction_cmp, lowest_terms}
-use Rattle.power_index.proofs.LowestTerms.{lowest_terms-lowest, lowest_terms-only}
+use Rattle.power_index.proofs.Shared.LowestTerms.{lowest_terms-lowest, lowest_terms-only}
 
 less-times : (k x y : ℕ) → 0 < k → x < y → x * k < y * k
 less-times k x y pos lt =

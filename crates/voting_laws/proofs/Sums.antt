@@ -2,14 +2,14 @@
 use Rattle.std.proofs.Common.{◌≡◌, ◌∙◌, ℕ, ◌+◌, ◌*◌, ◌<◌, List, [], ◌∷◌, length, map, ap, refl, arith}
 use Rattle.std.proofs.Math.Nat.{mul-pos, eq_of_mul-eq-mul_right}
 use Rattle.council_game.specs.Game.{GameView, IsGame, AreNonemptyCoalitions}
-use Rattle.council_game.proofs.Games.{votes-are}
+use Rattle.council_game.proofs.Shared.Games.{votes-are}
 use Rattle.power_index.specs.Counting.{members}
 use Rattle.power_index.specs.Fractions.{pair_sum, AddUpToOne, SameFraction, lowest_terms}
 use Rattle.power_index.specs.Indices.{deegan_packel, public_good, sizes_of_member}
-use Rattle.power_index.proofs.AddUp.{deegan_packel_adds_up, public_good_adds_up}
-use Rattle.power_index.proofs.LowestTerms.{lowest_terms-lowest}
-use Rattle.power_index.proofs.Members.{few-members, memberships, sizes-some, sizes-within}
-use Rattle.power_index.proofs.Units.{bottom_pos}
+use Rattle.power_index.proofs.Shared.AddUp.{deegan_packel_adds_up, public_good_adds_up}
+use Rattle.power_index.proofs.Shared.LowestTerms.{lowest_terms-lowest}
+use Rattle.power_index.proofs.Shared.Members.{few-members, memberships, sizes-some, sizes-within}
+use Rattle.power_index.proofs.Shared.Units.{bottom_pos}
 
 -- sums of the same fractions are the same
 same-sum : (q r : ℕ → ℕ × ℕ) → ((i : ℕ) → SameFraction (r i) (q i)) → (is : List ℕ)

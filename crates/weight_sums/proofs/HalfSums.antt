@@ -14,7 +14,7 @@ use Rattle.weight_sums.specs.Inner.Sets.{joined, sets_of, fits, ended, completed
 use Rattle.weight_sums.specs.Inner.Fitting.{AreEntered, AreOfNeed, Meet}
 use Rattle.weight_sums.specs.declared.halves.Halves.{Halves}
 use Rattle.weight_sums.specs.Inner.Halves.{AreFrom, AreHalves}
-use Rattle.weight_sums.proofs.EndingLaws.{meetings, endings-few, endings-more, endings-heads, endings-plain}
+use Rattle.weight_sums.proofs.Shared.EndingLaws.{meetings, endings-few, endings-more, endings-heads, endings-plain}
 use Rattle.weight_sums.proofs.Members.{left_out-parts}
 use Rattle.weight_sums.proofs.SetLists.{half-is}
 use Rattle.weight_sums.proofs.SetLaws.{sum-same, sum-zero, sets-more, sets-none, halves-are}

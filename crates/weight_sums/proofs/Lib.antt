@@ -1,8 +1,8 @@
-pub mod Taking
-pub mod Passing
-pub mod Members
-pub mod EndingLaws
-pub mod SetLaws
-pub mod SetLists
-pub mod FittingSets
-pub mod HalfSums
+pub mod Shared
+mod Taking
+mod Passing
+mod Members
+mod SetLaws
+mod SetLists
+mod FittingSets
+mod HalfSums

@@ -5,12 +5,12 @@ use Rattle.mwc_parts.specs.Slicing.{Slicing}
 use Rattle.mwc_parts.specs.Parts.{IsPart}
 use Rattle.mwc_parts.specs.Wording.{coalition_count}
 use Rattle.mwc_parts.specs.Fault.{nothing, also}
-use Rattle.mwc_parts.specs.Inner.Fault.{IsEarly}
+use Rattle.mwc_parts.specs.Shared.Fault.{IsEarly}
 use Rattle.mwc_parts.specs.declared.part.Part.{Part}
 use Rattle.mwc_parts.specs.declared.met.Met.{Met}
 use Rattle.mwc_parts.specs.declared.fault.GatherFault.{GatherFault}
 use Rattle.mwc_parts.specs.declared.fault.GatherFault.TheVariants.{TooMany, Start, Memory}
-use Rattle.mwc_parts.specs.Inner.Dealing.{DeskView, IsWell, IsFresh, DealsInTurn, DealsOneEach}
+use Rattle.mwc_parts.specs.Shared.Dealing.{DeskView, IsWell, IsFresh, DealsInTurn, DealsOneEach}
 use Rattle.mwc_gather.specs.Inner.Orders.{slicing_of}
 use Rattle.mwc_gather.specs.declared.desk.Desk.{Desk}
 use Rattle.mwc_gather.specs.declared.dealing.Deal.{Deal}

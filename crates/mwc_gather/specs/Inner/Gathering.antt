@@ -3,7 +3,7 @@ use Rattle.std.specs.Prelude.{◌≡◌, ℕ, ◌<◌, List, [], Some, length, A
 use Rattle.std.specs.List.{range_with_len}
 use Rattle.mwc_parts.specs.Slicing.{Slicing}
 use Rattle.mwc_parts.specs.Wording.{coalition_count}
-use Rattle.mwc_parts.specs.Inner.Deals.{AreDealt}
+use Rattle.mwc_parts.specs.Shared.Deals.{AreDealt}
 use Rattle.mwc_parts.specs.Parts.{IsPart, shares}
 use Rattle.mwc_parts.specs.declared.part.Part.{Part}
 

@@ -3,7 +3,7 @@ use Rattle.std.specs.Prelude.{ℕ, ◌+◌, ◌-◌, ◌/◌, ◌^◌, ◌==◌,
 use Rattle.std.specs.List.{filter, sum, list_all, AllZip}
 use Rattle.mwc_walk.specs.declared.lane.Lane.{Lane}
 use Rattle.council_game.specs.Votes.{Votes, RuleView, IsRule, rule_at, has, weight, wins, minimal}
-use Rattle.council_game.specs.Inner.Below.{minimal_below}
+use Rattle.council_game.specs.Shared.Below.{minimal_below}
 
 -- of a list of coalitions, those of slice j at k bits
 unfoldable pub in_slice : Votes → ℕ → ℕ → List ℕ → List ℕ

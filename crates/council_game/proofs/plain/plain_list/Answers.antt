@@ -2,7 +2,7 @@ use Rattle.std.proofs.Common.{◌^◌, ◌<◌, ◌≤◌, ◌∙◌, ap, length
 use Rattle.std.proofs.Math.Nat.{pow-le-pow_right}
 use Rattle.council_game.specs.Votes.{minimal_coalitions}
 use Rattle.council_game.specs.Game.{votes_of}
-use Rattle.council_game.proofs.Listing.{listing-is, listed-start, listed-more, listed-less, listed-all}
+use Rattle.council_game.proofs.Shared.Listing.{listing-is, listed-start, listed-more, listed-less, listed-all}
 use Rattle.council_game.proofs.plain.plain_list.Goals as goal
 
 pub loop-mask-init : goal.loop-mask-init

@@ -1,6 +1,6 @@
 use Rattle.std.proofs.Common.{◌≡◌, ◌≤◌, ◌++◌, ◌^◌}
 use Rattle.council_game.specs.Votes.{minimal_coalitions}
-use Rattle.council_game.specs.Inner.Below.{minimal_below}
+use Rattle.council_game.specs.Shared.Below.{minimal_below}
 use Rattle.council_game.specs.Game.{votes_of}
 use Rattle.council_game.proofs.plain.plain_list.Given as goal
 

@@ -3,7 +3,7 @@ use Rattle.std.specs.List.{flat_map, range_with_len}
 use Rattle.std.proofs.lemmas.List.FromFn.{map-range_with_len_more}
 use Rattle.power_index.specs.Tables.{table_of_member_size}
 use Rattle.council_report.specs.Lines.{with_tab}
-use Rattle.council_text.proofs.Room.{takes-not}
+use Rattle.council_text.proofs.Shared.Room.{takes-not}
 use Rattle.council_report.proofs.Rows.{put-row, field-within}
 use Rattle.council_report.proofs.indices.push_counts.Goals as goal
 

@@ -1,5 +1,5 @@
 use Rattle.std.proofs.Common.{◌<◌, ◌^◌, ℕ, List, length, sym, subst}
-use Rattle.power_index.proofs.Pieces.{pieces-all}
+use Rattle.power_index.proofs.Shared.Pieces.{pieces-all}
 use Rattle.council_report.specs.Inner.Ready.{CanCount}
 use Rattle.council_report.specs.Inner.Puts.{Puts}
 use Rattle.council_report.proofs.Joins.{listed-text}

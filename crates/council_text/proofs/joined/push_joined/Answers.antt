@@ -3,8 +3,8 @@ use Rattle.std.proofs.lemmas.List.{take_all}
 use Rattle.council_text.specs.Joined.{joined_numbers}
 use Rattle.council_text.specs.Room.{MakesRoomFor}
 use Rattle.council_text.proofs.Fronts.{further, still, on-err}
-use Rattle.council_text.proofs.Room.{takes-not, room-is}
-use Rattle.council_text.proofs.Joins.{put-first, put-more, more-within, next-within}
+use Rattle.council_text.proofs.Shared.Room.{takes-not, room-is}
+use Rattle.council_text.proofs.Shared.Joins.{put-first, put-more, more-within, next-within}
 use Rattle.council_text.proofs.joined.push_joined.Goals as goal
 use Rattle.council_text.proofs.joined.push_joined.Goals.{then-r-gt0+in_ok-extend_from_slice, else-r-gt0}
 

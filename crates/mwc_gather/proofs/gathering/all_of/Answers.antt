@@ -2,7 +2,7 @@ use Rattle.std.proofs.Common.{List, length, ap, arith}
 use Rattle.mwc_parts.specs.Slicing.{Slicing}
 use Rattle.std.specs.List.{sum_by}
 use Rattle.mwc_parts.specs.declared.part.Part.{Part}
-use Rattle.mwc_parts.proofs.Once.{dealt_each_once}
+use Rattle.mwc_parts.proofs.Shared.Once.{dealt_each_once}
 use Rattle.mwc_gather.specs.Inner.Orders.{slicing_of}
 use Rattle.mwc_gather.proofs.Wholes.{whole, all_total_is, all_pieces}
 use Rattle.mwc_gather.proofs.Ends.{complete_sum, end_increases}

@@ -3,7 +3,7 @@ use Rattle.std.specs.Prelude.{All}
 use Rattle.std.proofs.lemmas.List.Elements.{All-push}
 use Rattle.mwc_parts.specs.declared.met.Met.{Met}
 use Rattle.mwc_parts.specs.Fault.{also}
-use Rattle.mwc_parts.specs.Inner.Dealing.{IsFresh}
+use Rattle.mwc_parts.specs.Shared.Dealing.{IsFresh}
 use Rattle.mwc_parts.specs.Slicing.{Slicing}
 use Rattle.mwc_gather.specs.Slicings.{slicing}
 use Rattle.mwc_gather.specs.declared.desk.Desk.{Desk}

@@ -1,6 +1,6 @@
 use Rattle.std.proofs.Common.{◌≡◌, ◌≤◌, vec_len, vec_capacity}
 use Rattle.std.specs.Prelude.{All}
-use Rattle.mwc_parts.specs.Inner.Dealing.{IsFresh}
+use Rattle.mwc_parts.specs.Shared.Dealing.{IsFresh}
 use Rattle.mwc_parts.specs.Fault.{nothing}
 use Rattle.mwc_gather.specs.Slicings.{slicing}
 use Rattle.mwc_gather.specs.Inner.Desks.{AllOf, views_of}

@@ -1,4 +1,4 @@
-use Rattle.mwc_parts.proofs.Readings.{one_end_each, ends_rise, last_end}
+use Rattle.mwc_parts.proofs.Shared.Readings.{one_end_each, ends_rise, last_end}
 use Rattle.mwc_parts.proofs.Drafts.{whole_sent, whole_reads, whole_many}
 use Rattle.mwc_parts.proofs.settling.settle.Goals as goal
 

@@ -3,7 +3,7 @@ use Rattle.std.proofs.lemmas.Bool.{cases_lt}
 use Rattle.council_game.specs.Game.{votes_of}
 use Rattle.council_game.specs.Votes.{has, minimal_coalitions}
 use Rattle.power_index.specs.Tables.{IsTallyOf}
-use Rattle.power_index.proofs.Minimal.{minimal-few, minimal-are-coalitions}
+use Rattle.power_index.proofs.Shared.Minimal.{minimal-few, minimal-are-coalitions}
 use Rattle.mwc_sums.proofs.count.boxed_counts.Goals as goal
 
 pub of_tallies-counts-requires : goal.of_tallies-counts-requires

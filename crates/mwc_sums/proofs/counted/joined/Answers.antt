@@ -1,5 +1,5 @@
 use Rattle.std.proofs.Common.{arith}
-use Rattle.power_index.proofs.Minimal.{minimal-few, minimal-are-coalitions}
+use Rattle.power_index.proofs.Shared.Minimal.{minimal-few, minimal-are-coalitions}
 use Rattle.mwc_sums.proofs.counted.joined.Goals as goal
 
 pub of_tallies-requires : goal.of_tallies-requires

@@ -1,5 +1,5 @@
 use Rattle.std.proofs.Common.{ℕ, ◌+◌, ◌-◌, ◌*◌, get_or, arith}
-use Rattle.coalitions.proofs.Ranges.{sum_by-range-more}
+use Rattle.coalitions.proofs.Shared.Ranges.{sum_by-range-more}
 use Rattle.mwc_sums.proofs.Joined.{sum-more}
 use Rattle.mwc_sums.proofs.counted.pairs_of_size.Goals as goal
 

@@ -1,6 +1,6 @@
 use Rattle.std.proofs.Common.{◌∙◌, ℕ, ◌∷◌, [], ◌++◌, cond, get_or, sym, arith}
 use Rattle.std.proofs.lemmas.List.FromFn.{map-range_with_len_more}
-use Rattle.coalitions.proofs.Ranges.{sum_by-range-more}
+use Rattle.coalitions.proofs.Shared.Ranges.{sum_by-range-more}
 use Rattle.council_game.specs.Votes.{rule_at}
 use Rattle.mwc_sums.specs.Vetoers.{can_veto}
 use Rattle.mwc_sums.proofs.vetoers.rest_of_rule.Goals as goal

@@ -1,6 +1,6 @@
 use Rattle.std.proofs.Common.{◌∙◌, ℕ, ◌∷◌, [], ◌++◌, cond, sym, arith}
 use Rattle.std.proofs.lemmas.List.FromFn.{map-range_with_len_more}
-use Rattle.coalitions.proofs.Ranges.{sum_by-range-more}
+use Rattle.coalitions.proofs.Shared.Ranges.{sum_by-range-more}
 use Rattle.mwc_sums.specs.Vetoers.{can_veto}
 use Rattle.mwc_sums.proofs.vetoers.rule_for_vetoers.Goals as goal
 

@@ -1,7 +1,7 @@
 use Rattle.std.proofs.Common.{◌≡◌, ◌^◌, ℕ, List, subst, arith}
 use Rattle.std.specs.List.{range_with_len}
 use Rattle.power_index.specs.Tables.{AreTallies, AreCounts}
-use Rattle.power_index.proofs.Sound.{total-is, tallies-are_counts}
+use Rattle.power_index.proofs.Shared.Sound.{total-is, tallies-are_counts}
 use Rattle.mwc_tally.specs.Inner.Shares.{CountSlices}
 use Rattle.mwc_tally.proofs.Counting.{all-slices, slices-room, slices-more}
 use Rattle.mwc_tally.proofs.all.one_by_one.Goals as goal

@@ -3,7 +3,7 @@ use Rattle.std.specs.List.{flat_map}
 use Rattle.std.proofs.lemmas.List.{length-take}
 use Rattle.std.proofs.Math.Seq.{take-add}
 use Rattle.power_index.specs.Tables.{AreTallies}
-use Rattle.power_index.proofs.Sound.{total-is}
+use Rattle.power_index.proofs.Shared.Sound.{total-is}
 use Rattle.mwc_tally.proofs.Parts.{is-part}
 use Rattle.mwc_tally.proofs.pieces.add_part.Goals as goal
 

@@ -2,7 +2,7 @@ use Rattle.std.proofs.Common.{◌∙◌, ◌-◌, ◌++◌, ◌<◌, ◌^◌, le
 use Rattle.std.specs.List.{All, flat_map}
 use Rattle.std.proofs.lemmas.List.Elements.{All-drop, All-take}
 use Rattle.power_index.specs.Tables.{AreTallies}
-use Rattle.power_index.proofs.Sound.{total-is}
+use Rattle.power_index.proofs.Shared.Sound.{total-is}
 use Rattle.mwc_tally.proofs.Parts.{row-is, rest-length, part-more, part-left, part-length, pieces-more, pieces-length, piece-all}
 use Rattle.mwc_tally.proofs.pieces.of_part.Goals as goal
 

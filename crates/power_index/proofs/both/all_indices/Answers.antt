@@ -1,7 +1,7 @@
 use Rattle.std.proofs.Common.{◌≡◌, ◌∙◌, ℕ, ◌+◌, List, [], ◌∷◌, ◌++◌, length, map, sym, ap, arith}
 use Rattle.std.specs.List.{range_with_len}
 use Rattle.std.proofs.lemmas.List.{length-append}
-use Rattle.council_game.proofs.Lists.{map_one_more}
+use Rattle.council_game.proofs.Shared.Lists.{map_one_more}
 use Rattle.power_index.specs.Both.{indices_of_member}
 use Rattle.power_index.specs.declared.both.MemberIndices.{MemberIndices}
 use Rattle.power_index.proofs.both.all_indices.Goals as goal

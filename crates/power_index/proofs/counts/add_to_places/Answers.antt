@@ -1,7 +1,7 @@
 use Rattle.std.proofs.Common.{◌≡◌, ℕ, ◌-◌, ◌≤◌, ◌^◌, arith, subst, sym, get_or}
 use Rattle.std.specs.Int.{w64, trailing_zeros}
 use Rattle.power_index.specs.declared.tally.Tally.{Tally}
-use Rattle.coalitions.proofs.Digits.{lowest-place, lowest-cleared}
+use Rattle.coalitions.proofs.Shared.Digits.{lowest-place, lowest-cleared}
 use Rattle.power_index.proofs.Walks.{Walked, walked-step, walked-all}
 use Rattle.power_index.proofs.counts.add_to_places.Goals as goal
 

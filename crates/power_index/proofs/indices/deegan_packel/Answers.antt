@@ -1,9 +1,9 @@
 use Rattle.std.proofs.Common.{◌≡◌, ◌∙◌, ◌-◌, ◌*◌, ◌+◌, ◌/◌, ◌^◌, ◌≤◌, sym, ap, arith, ℕ}
 use Rattle.power_index.specs.Tables.{denominator, weighted_sum, table_of_member_size, table_total, table_deegan_packel}
-use Rattle.power_index.proofs.Printed.{deegan-packel-is, deegan-packel-same}
+use Rattle.power_index.proofs.Shared.Printed.{deegan-packel-is, deegan-packel-same}
 use Rattle.std.proofs.Math.Nat.{div-le_self, mul-le-mul}
-use Rattle.power_index.proofs.Units.{weighted_sum-more}
-use Rattle.power_index.proofs.LowestTerms.{lowest_terms-only}
+use Rattle.power_index.proofs.Shared.Units.{weighted_sum-more}
+use Rattle.power_index.proofs.Shared.LowestTerms.{lowest_terms-only}
 use Rattle.power_index.proofs.indices.deegan_packel.Goals as goal
 
 pub loop-size-preserved : goal.loop-size-preserved

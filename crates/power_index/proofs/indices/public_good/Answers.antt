@@ -1,7 +1,7 @@
 use Rattle.std.proofs.Common.{◌∙◌, ◌≤◌, arith}
 use Rattle.power_index.specs.Tables.{table_memberships, table_public_good}
-use Rattle.power_index.proofs.Printed.{public-good-is, public-good-same}
-use Rattle.power_index.proofs.LowestTerms.{lowest_terms-only}
+use Rattle.power_index.proofs.Shared.Printed.{public-good-is, public-good-same}
+use Rattle.power_index.proofs.Shared.LowestTerms.{lowest_terms-only}
 use Rattle.power_index.proofs.indices.public_good.Goals as goal
 
 pub returns-clause-lowest : goal.returns-clause-lowest

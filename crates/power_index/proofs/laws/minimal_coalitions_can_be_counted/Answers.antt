@@ -1,4 +1,4 @@
-use Rattle.power_index.proofs.Minimal.{minimal-some, minimal-few, minimal-are-coalitions}
+use Rattle.power_index.proofs.Shared.Minimal.{minimal-some, minimal-few, minimal-are-coalitions}
 use Rattle.power_index.proofs.laws.minimal_coalitions_can_be_counted.Goals as goal
 
 pub returns-clause-some : goal.returns-clause-some

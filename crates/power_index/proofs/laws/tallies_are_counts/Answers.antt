@@ -1,4 +1,4 @@
-use Rattle.power_index.proofs.Sound.{tallies-are_counts}
+use Rattle.power_index.proofs.Shared.Sound.{tallies-are_counts}
 use Rattle.power_index.proofs.laws.tallies_are_counts.Goals as goal
 
 pub returns : goal.returns

@@ -4,7 +4,7 @@ use Rattle.council_game.specs.Game.{GameView, IsGame, votes_of}
 use Rattle.council_game.specs.Members.{contains}
 use Rattle.council_game.specs.Ranks.{member_at}
 use Rattle.council_game.specs.Votes.{has, wins}
-use Rattle.council_game.proofs.Making.{ranks-are}
+use Rattle.council_game.proofs.Shared.Making.{ranks-are}
 use Rattle.voting_laws.specs.Winning.{IsSubset}
 use Rattle.uses.proofs.blocking.is_blocking.Goals as goal
 

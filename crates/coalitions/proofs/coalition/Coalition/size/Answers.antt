@@ -1,6 +1,6 @@
 use Rattle.std.proofs.Common.{sym, ◌∙◌, ap, count_ones}
 use Rattle.std.proofs.lemmas.Nat.{ones-le}
-use Rattle.coalitions.proofs.Sizes.{size-ones}
+use Rattle.coalitions.proofs.Shared.Sizes.{size-ones}
 use Rattle.coalitions.proofs.coalition.Coalition.size.Goals as goal
 
 pub returns-clause-size : goal.returns-clause-size

@@ -1,8 +1,8 @@
 use Rattle.std.proofs.Common.{sym, ◌∙◌}
 use Rattle.std.proofs.lemmas.Bool.{cond-false}
 use Rattle.coalitions.specs.Coalitions.{with_member}
-use Rattle.coalitions.proofs.Sizes.{digit-shifted}
-use Rattle.coalitions.proofs.Digits.{has-added, has-beside, added-below, added-room}
+use Rattle.coalitions.proofs.Shared.Sizes.{digit-shifted}
+use Rattle.coalitions.proofs.Shared.Digits.{has-added, has-beside, added-below, added-room}
 use Rattle.coalitions.proofs.coalition.Coalition.with.Goals as goal
 
 pub invariant_of-result : goal.invariant_of-result

@@ -1,8 +1,8 @@
 use Rattle.std.proofs.Common.{sym, ◌∙◌}
 use Rattle.std.proofs.lemmas.Bool.{cond-true}
 use Rattle.coalitions.specs.Coalitions.{without}
-use Rattle.coalitions.proofs.Sizes.{digit-shifted, has-least}
-use Rattle.coalitions.proofs.Digits.{has-gone, has-kept}
+use Rattle.coalitions.proofs.Shared.Sizes.{digit-shifted, has-least}
+use Rattle.coalitions.proofs.Shared.Digits.{has-gone, has-kept}
 use Rattle.coalitions.proofs.coalition.Coalition.without.Goals as goal
 
 pub overflow_sub-self-inside : goal.overflow_sub-self-inside

@@ -1,7 +1,7 @@
 use Rattle.std.proofs.Common.{length, get_or, refl, ap, ◌∙◌, arith}
 use Rattle.std.proofs.lemmas.Nat.{pow_pos}
 use Rattle.council_game.specs.Votes.{has}
-use Rattle.coalitions.proofs.Digits.{has-none}
+use Rattle.coalitions.proofs.Shared.Digits.{has-none}
 use Rattle.council_game.proofs.Named.{taken-in}
 use Rattle.council_game.proofs.game.Game.coalition_of.Goals as goal
 

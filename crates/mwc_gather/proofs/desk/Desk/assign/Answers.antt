@@ -3,7 +3,7 @@ use Rattle.std.specs.Prelude.{All}
 use Rattle.std.proofs.lemmas.List.Elements.{All-push}
 use Rattle.mwc_gather.proofs.Words.{opens_given}
 use Rattle.mwc_parts.specs.Wording.{open_words}
-use Rattle.mwc_parts.specs.Inner.Wording.{end_words}
+use Rattle.mwc_parts.specs.Shared.Wording.{end_words}
 use Rattle.mwc_gather.proofs.desk.Desk.assign.Goals as goal
 
 pub invariant_of-self-clause-tasks_are : goal.invariant_of-self-clause-tasks_are

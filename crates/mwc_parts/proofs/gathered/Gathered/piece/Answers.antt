@@ -4,7 +4,7 @@ use Rattle.std.proofs.lemmas.List.{take_all}
 use Rattle.std.specs.List.{sum_by}
 use Rattle.mwc_parts.specs.Inner.Sums.{times_in}
 use Rattle.mwc_parts.specs.Parts.{shares}
-use Rattle.mwc_parts.proofs.Once.{each_once}
+use Rattle.mwc_parts.proofs.Shared.Once.{each_once}
 use Rattle.mwc_parts.proofs.Sums.{shares_more}
 use Rattle.mwc_parts.proofs.gathered.Gathered.piece.Goals as goal
 

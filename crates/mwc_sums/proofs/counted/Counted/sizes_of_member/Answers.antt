@@ -3,7 +3,7 @@ use Rattle.std.proofs.lemmas.Bool.{cases_lt}
 use Rattle.council_game.specs.Game.{votes_of}
 use Rattle.council_game.specs.Votes.{minimal_coalitions}
 use Rattle.power_index.specs.Tables.{Tables}
-use Rattle.power_index.proofs.Tallies.{get_or-zeros}
+use Rattle.power_index.proofs.Shared.Tallies.{get_or-zeros}
 use Rattle.mwc_sums.proofs.Joined.{none-of_member_size}
 use Rattle.mwc_sums.proofs.counted.Counted.sizes_of_member.Goals as goal
 

@@ -1,7 +1,7 @@
 use Rattle.std.proofs.Common.{arith, ◌++◌, ℕ, List}
 use Rattle.council_game.specs.Game.{GameView}
 use Rattle.power_index.specs.Tables.{AreTallies}
-use Rattle.power_index.proofs.Sound.{some-of_all, some-of_place, join-hold, join-some, join-total}
+use Rattle.power_index.proofs.Shared.Sound.{some-of_all, some-of_place, join-hold, join-some, join-total}
 use Rattle.power_index.proofs.counts.Counts.add.Goals as goal
 
 pub join-requires : goal.join-requires

@@ -2,7 +2,7 @@ use Rattle.std.proofs.Common.{arith, ◌+◌, ◌≡◌, ◌∙◌, ◌++◌, []
 use Rattle.std.proofs.lemmas.List.{take_all, get_or_default}
 use Rattle.std.proofs.lemmas.List.{take_more}
 use Rattle.power_index.specs.Tables.{AreTallies}
-use Rattle.power_index.proofs.Sound.{same-game}
+use Rattle.power_index.proofs.Shared.Sound.{same-game}
 use Rattle.power_index.proofs.counts.Counts.count_row.Goals as goal
 
 pub loop-coalition-preserved : goal.loop-coalition-preserved

@@ -1,4 +1,4 @@
-use Rattle.power_index.proofs.Sound.{some-sound}
+use Rattle.power_index.proofs.Shared.Sound.{some-sound}
 use Rattle.power_index.proofs.counts.Counts.members.Goals as goal
 
 pub returns-clause-some : goal.returns-clause-some

@@ -1,8 +1,8 @@
 use Rattle.std.proofs.Common.{arith, ◌≡◌, ◌∙◌, ◌≤◌, ◌^◌, ℕ, ap, sum_by}
 use Rattle.std.specs.List.{range_with_len}
 use Rattle.power_index.specs.Tables.{Tables, table_of_member, table_total, table_memberships}
-use Rattle.power_index.proofs.Sound.{some-sound}
-use Rattle.coalitions.proofs.Ranges.{sum_by-range-more}
+use Rattle.power_index.proofs.Shared.Sound.{some-sound}
+use Rattle.coalitions.proofs.Shared.Ranges.{sum_by-range-more}
 use Rattle.power_index.proofs.counts.Counts.memberships.Goals as goal
 
 pub loop-i-preserved : goal.loop-i-preserved

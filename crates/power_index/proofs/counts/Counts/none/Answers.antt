@@ -1,7 +1,7 @@
 use Rattle.std.proofs.Common.{arith, [], replicate}
 use Rattle.power_index.specs.Tables.{AreTallies}
-use Rattle.power_index.proofs.Tallies.{tallies-none}
-use Rattle.power_index.proofs.Sound.{none-hold, none-some, tallies-are_counts}
+use Rattle.power_index.proofs.Shared.Tallies.{tallies-none}
+use Rattle.power_index.proofs.Shared.Sound.{none-hold, none-some, tallies-are_counts}
 use Rattle.power_index.proofs.counts.Counts.none.Goals as goal
 
 hold : (c : goal.After-new-none)

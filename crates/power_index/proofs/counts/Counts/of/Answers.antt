@@ -1,4 +1,4 @@
-use Rattle.power_index.proofs.Sound.{tallies-are_counts}
+use Rattle.power_index.proofs.Shared.Sound.{tallies-are_counts}
 use Rattle.power_index.proofs.counts.Counts.of.Goals as goal
 
 pub returns-clause-counts : goal.returns-clause-counts

@@ -1,5 +1,5 @@
 use Rattle.std.proofs.Common.{rules}
-use Rattle.power_index.proofs.Sound.{tallies-are_counts}
+use Rattle.power_index.proofs.Shared.Sound.{tallies-are_counts}
 use Rattle.power_index.proofs.counts.Counts.of_tallies.Goals as goal
 
 pub returns-clause-counts : goal.returns-clause-counts

@@ -1,5 +1,5 @@
 use Rattle.std.proofs.Common.{arith}
-use Rattle.power_index.proofs.Sound.{some-room, some-sound}
+use Rattle.power_index.proofs.Shared.Sound.{some-room, some-sound}
 use Rattle.power_index.proofs.counts.Counts.wide_of_member_size.Goals as goal
 
 pub offset_bounds-self-inside-member : goal.offset_bounds-self-inside-member

@@ -1,5 +1,5 @@
 use Rattle.std.proofs.Common.{arith}
-use Rattle.power_index.proofs.Sound.{some-sound}
+use Rattle.power_index.proofs.Shared.Sound.{some-sound}
 use Rattle.power_index.proofs.counts.Counts.wide_of_size.Goals as goal
 
 pub offset_bounds-all-size : goal.offset_bounds-all-size

@@ -1,5 +1,5 @@
 use Rattle.std.proofs.Common.{arith}
-use Rattle.power_index.proofs.Sound.{some-sound}
+use Rattle.power_index.proofs.Shared.Sound.{some-sound}
 use Rattle.power_index.proofs.counts.Counts.wide_total.Goals as goal
 
 pub total-requires-clause-members : goal.total-requires-clause-members

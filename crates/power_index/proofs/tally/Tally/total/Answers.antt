@@ -1,5 +1,5 @@
 use Rattle.std.proofs.Common.{◌+◌, arith, get_or}
-use Rattle.coalitions.proofs.Ranges.{sum_by-range-more, sum_by-range-le}
+use Rattle.coalitions.proofs.Shared.Ranges.{sum_by-range-more, sum_by-range-le}
 use Rattle.power_index.proofs.tally.Tally.total.Goals as goal
 
 pub overflow_add-total : goal.overflow_add-total

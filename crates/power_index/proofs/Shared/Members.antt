@@ -11,13 +11,13 @@ use Rattle.std.proofs.lemmas.List.FromFn.{fill_by_all, length-range_with_len, ge
 use Rattle.std.proofs.lemmas.Bool.{cases_lt}
 use Rattle.council_game.specs.Votes.{has, size}
 use Rattle.council_game.specs.Game.{GameView, IsGame, AreNonemptyCoalitions}
-use Rattle.council_game.proofs.Games.{votes-are}
-use Rattle.council_game.proofs.Making.{ranks-are}
-use Rattle.council_game.proofs.RankPlaces.{game-rank_places}
+use Rattle.council_game.proofs.Shared.Games.{votes-are}
+use Rattle.council_game.proofs.Shared.Making.{ranks-are}
+use Rattle.council_game.proofs.Shared.RankPlaces.{game-rank_places}
 use Rattle.power_index.specs.Counting.{members, contains, size_of, count_of_member}
 use Rattle.power_index.specs.Indices.{sizes_of_member}
-use Rattle.coalitions.proofs.Digits.{lowest-place}
-use Rattle.power_index.proofs.Sums.{exchange, length-filter-le}
+use Rattle.coalitions.proofs.Shared.Digits.{lowest-place}
+use Rattle.power_index.proofs.Shared.Sums.{exchange, length-filter-le}
 
 pub few-members : (g : GameView) → IsGame g → length g.names ≤ 40
 few-members g is = (votes-are g is).few

@@ -5,13 +5,13 @@ use Rattle.std.proofs.lemmas.List.Sums.{sum_by-cons}
 use Rattle.std.proofs.lemmas.List.Folds.{fold-map}
 use Rattle.std.proofs.Math.Nat.{mul-pos, eq_of_mul-eq-mul_right}
 use Rattle.council_game.specs.Game.{GameView, IsGame, AreNonemptyCoalitions}
-use Rattle.council_game.proofs.Games.{votes-are}
+use Rattle.council_game.proofs.Shared.Games.{votes-are}
 use Rattle.power_index.specs.Counting.{members, contains, size_of, count_of_member}
 use Rattle.power_index.specs.Fractions.{unit_sum, pair_sum, AddUpToOne}
 use Rattle.power_index.specs.Indices.{deegan_packel, public_good, sizes_of_member}
-use Rattle.power_index.proofs.Sums.{exchange, sum-filter, sum-times}
-use Rattle.power_index.proofs.Members.{few-members, members-of, memberships, sizes-some, sizes-within, size-pos, size-le}
-use Rattle.power_index.proofs.Units.{over_common, each_divides, divides, bottom_pos}
+use Rattle.power_index.proofs.Shared.Sums.{exchange, sum-filter, sum-times}
+use Rattle.power_index.proofs.Shared.Members.{few-members, members-of, memberships, sizes-some, sizes-within, size-pos, size-le}
+use Rattle.power_index.proofs.Shared.Units.{over_common, each_divides, divides, bottom_pos}
 use Rattle.power_index.specs.Tables.{denominator}
 
 -- pairs that are w i over one bottom k add up to the sum of w over k

@@ -10,9 +10,9 @@ use Rattle.std.proofs.lemmas.Bool.{and_left, lt-leb, leb-false, eqb-true, cases_
 use Rattle.council_game.specs.Votes.{RuleView, Votes, IsRule, IsRanked, IsVotes, has, without, weight, wins, minimal, minimal_coalitions}
 use Rattle.mwc_walk.specs.Slices.{slice}
 use Rattle.mwc_walk.specs.Inner.Places.{wins_at}
-use Rattle.council_game.proofs.Meanings.{needs-each-member}
-use Rattle.council_game.proofs.Listing.{listing-is}
-use Rattle.council_game.proofs.Weights.{weight-without, weight-zero}
+use Rattle.council_game.proofs.Shared.Meanings.{needs-each-member}
+use Rattle.council_game.proofs.Shared.Listing.{listing-is}
+use Rattle.council_game.proofs.Shared.Weights.{weight-without, weight-zero}
 use Rattle.mwc_walk.proofs.Rules.{weight-block, weight-step, wins-prefix, wins-over}
 
 -- places past the prefix are not in it

@@ -7,16 +7,16 @@ use Rattle.std.proofs.Math.Bool.{or-false}
 use Rattle.std.proofs.lemmas.Bool.{false≢true, eq-eqb, ne_eqb}
 use Rattle.std.proofs.lemmas.List.{length-append, get_or_push}
 use Rattle.std.proofs.lemmas.List.Elements.{All-head, All-tail, All-map, All-weaker}
-use Rattle.coalitions.proofs.Ranges.{sum_by-range-le}
+use Rattle.coalitions.proofs.Shared.Ranges.{sum_by-range-le}
 use Rattle.mwc_parts.specs.Slicing.{Slicing}
 use Rattle.std.specs.List.{sum_by}
 use Rattle.mwc_parts.specs.Inner.Sums.{times_in}
 use Rattle.mwc_parts.specs.Wording.{coalition_count}
-use Rattle.mwc_parts.specs.Inner.Deals.{share_from, share_of, AreDealt}
-use Rattle.mwc_parts.specs.Inner.Dealing.{DeskView, IsWell, given_slices, DealsInTurn, TakesTurn, DealsOneEach, IsFresh}
+use Rattle.mwc_parts.specs.Shared.Deals.{share_from, share_of, AreDealt}
+use Rattle.mwc_parts.specs.Shared.Dealing.{DeskView, IsWell, given_slices, DealsInTurn, TakesTurn, DealsOneEach, IsFresh}
 use Rattle.mwc_parts.proofs.Deals.{shares_sum, each_held_once, held_increases}
 use Rattle.std.proofs.lemmas.List.Sums.{get_or-le-sum_by}
-use Rattle.mwc_parts.proofs.Turns.{turn_nothing, turn_one, none_free, none_ill, still_held, went_on, share_at}
+use Rattle.mwc_parts.proofs.Shared.Turns.{turn_nothing, turn_one, none_free, none_ill, still_held, went_on, share_at}
 
 no_shares : (desks : List DeskView) (from : ℕ) → All IsFresh desks
     → given_slices desks ≡ map (share_of []) (range_with_len from (length desks))

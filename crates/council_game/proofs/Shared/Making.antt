@@ -15,11 +15,11 @@ use Rattle.council_game.specs.Inner.Along.{place_in, rule_along}
 use Rattle.council_game.specs.Rules.{rule_view, rule_views}
 use Rattle.council_game.specs.Game.{GameView, IsGame, made_game, first_weights, total, votes_of}
 use Rattle.council_game.specs.Inner.Parts.{game_of_parts}
-use Rattle.council_game.proofs.RuleLists.{held_full}
-use Rattle.council_game.proofs.Rankings.{IsRanking, ranking-member_at, ranking-below, ranking-is, ranking-length, rank-of, rank_places-at, length-rank_places, place-found, places-at, places-below}
+use Rattle.council_game.proofs.Shared.RuleLists.{held_full}
+use Rattle.council_game.proofs.Shared.Rankings.{IsRanking, ranking-member_at, ranking-below, ranking-is, ranking-length, rank-of, rank_places-at, length-rank_places, place-found, places-at, places-below}
 use Rattle.council_game.proofs.Order.{ranking}
-use Rattle.council_game.proofs.GameTests.{held-rule}
-use Rattle.council_game.proofs.Games.{passed, votes-are, first-full, light-weights, light-sum}
+use Rattle.council_game.proofs.Shared.GameTests.{held-rule}
+use Rattle.council_game.proofs.Shared.Games.{passed, votes-are, first-full, light-weights, light-sum}
 
 -- the place of each member in a ranking is its rank place
 ranking-places : (ws qs : List ℕ) → IsRanking ws qs → map (place_in qs) (places qs) ≡ rank_places ws

@@ -9,8 +9,8 @@ use Rattle.council_game.specs.Votes.{size}
 use Rattle.power_index.specs.declared.tally.Tally.{Tally}
 use Rattle.power_index.specs.Tables.{tally_total, IsTallyOf}
 use Rattle.power_index.specs.Inner.Tables.{with_one}
-use Rattle.power_index.proofs.Members.{size-le}
-use Rattle.power_index.proofs.Sums.{sum-range, sum-by_size, length-filter-le}
+use Rattle.power_index.proofs.Shared.Members.{size-le}
+use Rattle.power_index.proofs.Shared.Sums.{sum-range, sum-by_size, length-filter-le}
 
 pub get_or-zeros : (n s : ℕ) → get_or {A = ℕ} (replicate {A = ℕ} n 0) s 0 ≡ 0
 get_or-zeros zero s = refl

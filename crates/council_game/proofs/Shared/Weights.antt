@@ -5,8 +5,8 @@ use Rattle.std.proofs.lemmas.Nat.{div-add-mod', mod_below, pow_pos, mul-le, div-
 use Rattle.std.proofs.lemmas.List.{length-append, take-append-drop, length-drop, take_more}
 use Rattle.std.proofs.lemmas.List.Sums.{sum_by-cons}
 use Rattle.council_game.specs.Votes.{weight}
-use Rattle.coalitions.proofs.Digits.{digit-kept, digit-gone}
-use Rattle.council_game.proofs.WeightByDigits.{weight-nil, weight-cons}
+use Rattle.coalitions.proofs.Shared.Digits.{digit-kept, digit-gone}
+use Rattle.council_game.proofs.Shared.WeightByDigits.{weight-nil, weight-cons}
 use Rattle.council_game.proofs.Monotone.{weight-mono}
 
 -- coalitions with the same digits at the places of ws weigh the same

@@ -5,9 +5,9 @@ use Rattle.std.proofs.lemmas.Nat.Bits.{bit_at-lt, same_from_bits_below}
 use Rattle.std.proofs.lemmas.Bool.{and_parts, and_from, le-leb, leb-true, eqb-true, eq-eqb, cases_eq, false_from_ne_true, both_ways}
 use Rattle.council_game.specs.Votes.{RuleView, Votes, IsRule, IsVotes, has, without, weight, wins}
 use Rattle.council_game.specs.Laws.{ProperSubsetsLose}
-use Rattle.coalitions.proofs.Digits.{digit-kept}
+use Rattle.coalitions.proofs.Shared.Digits.{digit-kept}
 use Rattle.council_game.proofs.Monotone.{weight-mono}
-use Rattle.council_game.proofs.Meanings.{needs-each-member}
+use Rattle.council_game.proofs.Shared.Meanings.{needs-each-member}
 
 -- where a set wins, each set wins that has all its places
 pub wins-mono : (n a c : ℕ) (rs : List RuleView) → AllByRecursion (IsRule n) rs → ((i : ℕ) → i < n → a / 2 ^ i % 2 ≤ c / 2 ^ i % 2)

@@ -8,7 +8,7 @@ use Rattle.mwc_parts.specs.Slicing.{Slicing}
 use Rattle.mwc_pipe.specs.declared.word.Word.{Word}
 use Rattle.mwc_pipe.specs.declared.word.Word.TheVariants.{One, Done, End}
 use Rattle.mwc_parts.specs.Wording.{open_words, wording, coalition_count, IsWholeSending, IsCutSending, slice_words}
-use Rattle.mwc_parts.specs.Inner.Wording.{end_words}
+use Rattle.mwc_parts.specs.Shared.Wording.{end_words}
 use Rattle.mwc_parts.specs.Settled.{is_cut, has_cut, IsSentWhole, IsCutShort, AreSettled}
 use Rattle.mwc_parts.proofs.Tasks.{all_taken, cut_taken}
 

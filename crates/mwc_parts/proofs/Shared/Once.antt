@@ -6,10 +6,10 @@ use Rattle.std.proofs.lemmas.Bool.{lt-ltb}
 use Rattle.std.proofs.lemmas.List.Sums.{sum_by-append, sum_by-cons}
 use Rattle.std.specs.List.{sum_by}
 use Rattle.mwc_parts.specs.Inner.Sums.{times_in}
-use Rattle.mwc_parts.specs.Inner.Deals.{AreDealt}
+use Rattle.mwc_parts.specs.Shared.Deals.{AreDealt}
 use Rattle.mwc_parts.specs.Parts.{shares, HasEachSliceOnce}
 use Rattle.mwc_parts.specs.declared.part.Part.{Part}
-use Rattle.mwc_parts.proofs.Firsts.{dealt_once}
+use Rattle.mwc_parts.proofs.Shared.Firsts.{dealt_once}
 
 -- how often a slice stands in all parts
 count_is : (j : ℕ) (parts : List Part)

@@ -9,8 +9,8 @@ use Rattle.std.proofs.Math.Bool.{or_assoc, or-false, or-true}
 use Rattle.std.proofs.lemmas.Bool.{false≢true}
 use Rattle.std.proofs.lemmas.List.Elements.{All-head, All-tail, All-weaker, All-set, All-push}
 use Rattle.mwc_parts.specs.Table.{IsFirstFree}
-use Rattle.mwc_parts.specs.Inner.Deals.{share_of, shares_by, AreDealt}
-use Rattle.mwc_parts.specs.Inner.Dealing.{DeskView, IsWell, is_ill, given_slices, DealsInOrder, DealsInTurn, GivesNothing, GivesOne, TakesTurn}
+use Rattle.mwc_parts.specs.Shared.Deals.{share_of, shares_by, AreDealt}
+use Rattle.mwc_parts.specs.Shared.Dealing.{DeskView, IsWell, is_ill, given_slices, DealsInOrder, DealsInTurn, GivesNothing, GivesOne, TakesTurn}
 use Rattle.mwc_parts.proofs.Deals.{deal_from}
 
 -- the first free slice is the one after those that have a holder

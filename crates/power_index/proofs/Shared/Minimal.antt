@@ -3,9 +3,9 @@ use Rattle.std.proofs.Common.{◌^◌, ◌<◌, ◌≤◌, length, arith}
 use Rattle.std.proofs.Math.Pow.{pow_mono}
 use Rattle.council_game.specs.Votes.{minimal_coalitions}
 use Rattle.council_game.specs.Game.{GameView, IsGame, votes_of, AreNonemptyCoalitions}
-use Rattle.council_game.proofs.Games.{votes-are}
-use Rattle.council_game.proofs.Listing.{listing-is}
-use Rattle.power_index.proofs.Members.{few-members}
+use Rattle.council_game.proofs.Shared.Games.{votes-are}
+use Rattle.council_game.proofs.Shared.Listing.{listing-is}
+use Rattle.power_index.proofs.Shared.Members.{few-members}
 
 pub minimal-some : (g : GameView) → IsGame g → 0 < length (minimal_coalitions (votes_of g))
 minimal-some g game = (listing-is (votes_of g) (votes-are g game)).some

@@ -4,7 +4,7 @@ use Rattle.std.specs.List.{list_all, range_with_len}
 use Rattle.std.proofs.lemmas.Bool.{both_ways, cases_Bool, and_cases, not_from_true, not-false, or_cases, or_left, or_right, or_parts}
 use Rattle.std.proofs.lemmas.List.FromFn.{length-range_with_len}
 use Rattle.std.proofs.lemmas.List.Sums.{AllPass-from_list_all, list_all-from_AllPass}
-use Rattle.council_game.proofs.Rankings.{places-at}
+use Rattle.council_game.proofs.Shared.Rankings.{places-at}
 
 -- a place is out, or it passes
 abbrev OutOrPasses : (ℕ → Bool) → (ℕ → Bool) → ℕ → Bool

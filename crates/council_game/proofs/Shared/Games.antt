@@ -14,7 +14,7 @@ use Rattle.council_game.specs.Votes.{RuleView, IsRule, IsRanked, IsVotes}
 use Rattle.council_game.specs.Ranks.{places, rank_places, rule_by_rank, members_by_rank}
 use Rattle.council_game.specs.Inner.Along.{weights_at}
 use Rattle.council_game.specs.Game.{GameView, IsGame, made_game, first_weights, votes_of, is_title, is_name, is_repeat, is_heavy, has_bad_quota}
-use Rattle.council_game.proofs.Rankings.{ranking-sum, ranking-falls, length-weights_by_rank, length-rank_places, places-at}
+use Rattle.council_game.proofs.Shared.Rankings.{ranking-sum, ranking-falls, length-weights_by_rank, length-rank_places, places-at}
 use Rattle.council_game.proofs.Order.{ranking}
 
 -- ---- what a game that was made has passed

@@ -5,15 +5,15 @@ use Rattle.std.proofs.lemmas.List.{get_or-replicate}
 use Rattle.std.proofs.lemmas.List.Elements.{All-append, All-push}
 use Rattle.council_game.specs.Votes.{has, size}
 use Rattle.council_game.specs.Game.{GameView, IsGame, AreNonemptyCoalitions}
-use Rattle.council_game.proofs.Games.{votes-are}
-use Rattle.council_game.proofs.Making.{ranks-are}
+use Rattle.council_game.proofs.Shared.Games.{votes-are}
+use Rattle.council_game.proofs.Shared.Making.{ranks-are}
 use Rattle.power_index.specs.declared.tally.Tally.{Tally}
 use Rattle.power_index.specs.Counting.{contains, size_of}
 use Rattle.power_index.specs.Tables.{Tables, IsTallyOf, AreTalliesOf, AreTallies, AreOfOneGame, AreCounts, AreSound, no_tally, tally_total, table_total}
 use Rattle.power_index.specs.Inner.Tables.{AreOfSomeList, IsJoined, with_one}
-use Rattle.power_index.proofs.Sums.{length-filter-le}
-use Rattle.power_index.proofs.Members.{few-members, memberships, sizes-some, size-le}
-use Rattle.power_index.proofs.Tallies.{tallies-total, tallies-few, tallies-more, tallies-join}
+use Rattle.power_index.proofs.Shared.Sums.{length-filter-le}
+use Rattle.power_index.proofs.Shared.Members.{few-members, memberships, sizes-some, size-le}
+use Rattle.power_index.proofs.Shared.Tallies.{tallies-total, tallies-few, tallies-more, tallies-join}
 use Rattle.power_index.proofs.Weights.{weight-light, memberships-are}
 
 filter-all : (list : List ℕ) → length (filter (λ (c : ℕ). true) list) ≡ length list

@@ -11,10 +11,10 @@ use Rattle.std.proofs.lemmas.List.Sums.{sum_by-cons}
 use Rattle.std.proofs.lemmas.List.Filters.{length-filter_both}
 use Rattle.std.proofs.lemmas.Bool.{and_parts, and_from, le-leb, leb-true, both_ways, cond-true, cond-false, cond_both}
 use Rattle.council_game.specs.Votes.{RuleView, Votes, IsRule, IsVotes, weight, wins, minimal, down, minimal_coalitions}
-use Rattle.council_game.specs.Inner.Below.{minimal_below}
+use Rattle.council_game.specs.Shared.Below.{minimal_below}
 use Rattle.council_game.specs.Laws.{IsListing}
-use Rattle.council_game.proofs.WeightByDigits.{weight-nil, weight-cons}
-use Rattle.council_game.proofs.Weights.{weight-zero}
+use Rattle.council_game.proofs.Shared.WeightByDigits.{weight-nil, weight-cons}
+use Rattle.council_game.proofs.Shared.Weights.{weight-zero}
 use Rattle.council_game.proofs.Monotone.{minimal-below_winning}
 
 -- a coalition that has all members weighs all

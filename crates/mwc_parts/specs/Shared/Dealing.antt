@@ -2,7 +2,7 @@
 use Rattle.std.specs.Prelude.{◌≡◌, ◌⊎◌, ℕ, ◌+◌, ◌<◌, ◌≤◌, Bool, true, false, ◌||◌, List, [], ◌∷◌, ◌++◌, Option, Some, None, IsSome, length, map, replicate, All, slice_index, slice_set}
 use Rattle.std.specs.List.{list_any}
 use Rattle.mwc_parts.specs.Table.{IsFirstFree}
-use Rattle.mwc_parts.specs.Inner.Deals.{shares_by}
+use Rattle.mwc_parts.specs.Shared.Deals.{shares_by}
 
 -- what proofs see of a desk: the slices that its worker was given, whether it has finished them all, whether it was told that there are
 -- no more, whether something was lost, and whether it was cut

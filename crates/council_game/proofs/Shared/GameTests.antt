@@ -10,8 +10,8 @@ use Rattle.std.proofs.lemmas.List.Folds.{list_all_at, list_all_more}
 use Rattle.council_game.specs.declared.rule.Rule.{Rule}
 use Rattle.council_game.specs.Rules.{rule_view, rule_views}
 use Rattle.council_game.specs.Inner.Weighing.{votes}
-use Rattle.council_game.proofs.Meanings.{needs-each-member}
-use Rattle.council_game.proofs.Weights.{weight-more, weight-le, weight-without}
+use Rattle.council_game.proofs.Shared.Meanings.{needs-each-member}
+use Rattle.council_game.proofs.Shared.Weights.{weight-more, weight-le, weight-without}
 
 -- the digits above a place, and above the next
 pub fixed-half : (x k p : ℕ) → p < k → x / 2 ^ (k - p) ≡ x / 2 ^ (k - (p + 1)) / 2

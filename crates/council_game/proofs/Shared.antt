@@ -1,0 +1,14 @@
+-- What other crates may cite.
+pub mod Lists
+pub mod RuleLists
+pub mod Rankings
+pub mod Games
+pub mod Making
+pub mod WeightByDigits
+pub mod Places
+pub mod Meanings
+pub mod Weights
+pub mod GameTests
+pub mod Subsets
+pub mod Listing
+pub mod RankPlaces

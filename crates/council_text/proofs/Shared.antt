@@ -1,0 +1,3 @@
+-- What other crates may cite.
+pub mod Room
+pub mod Joins

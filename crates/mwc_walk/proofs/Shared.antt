@@ -1,0 +1,3 @@
+-- What other crates may cite.
+pub mod One
+pub mod Joined
