@@ -22,4 +22,5 @@ pub use coalitions::{Coalition, Memory, limits};
 pub use fault::GameFault;
 pub use game::Game;
 pub use plain::plain_list;
+pub use ranks::members_by_rank;
 pub use rule::Rule;

@@ -135,7 +135,7 @@ light-sum n ws len few light =
     omega arith
 
 -- ---- the rules by rank
-rule-votes : (n : ℕ) (first : List ℕ) (r : RuleView) → n ≤ 40 → length first ≡ n → length r.weights ≡ n
+pub rule-votes : (n : ℕ) (first : List ℕ) (r : RuleView) → n ≤ 40 → length first ≡ n → length r.weights ≡ n
     → ((i : ℕ) → i < n → get_or r.weights i 0 ≤ 1000000000000) → has_bad_quota r ≡ false → IsRule n (rule_by_rank (rank_places first) r)
 rule-votes n first r few len len2 light quota =
     let found = ranking first in

@@ -11,12 +11,12 @@ use Rattle.council_game.specs.declared.rule.Rule.{Rule}
 use Rattle.council_game.specs.Votes.{RuleView, IsVotes}
 use Rattle.council_game.specs.Inner.Weighing.{votes}
 use Rattle.council_game.specs.Ranks.{places, member_at, rank_place, rank_places, members_by_rank, rule_by_rank}
-use Rattle.council_game.specs.Inner.Along.{place_in, rule_along}
+use Rattle.council_game.specs.Inner.Along.{place_in, rule_along, weights_at}
 use Rattle.council_game.specs.Rules.{rule_view, rule_views}
 use Rattle.council_game.specs.Game.{GameView, IsGame, made_game, first_weights, total, votes_of}
 use Rattle.council_game.specs.Inner.Parts.{game_of_parts}
 use Rattle.council_game.proofs.Shared.RuleLists.{held_full}
-use Rattle.council_game.proofs.Shared.Rankings.{IsRanking, ranking-member_at, ranking-below, ranking-is, ranking-length, rank-of, rank_places-at, length-rank_places, place-found, places-at, places-below}
+use Rattle.council_game.proofs.Shared.Rankings.{IsRanking, ranking-member_at, ranking-below, ranking-is, ranking-length, rank-of, rank_places-at, ranking-falls, ranking-weights_at, length-rank_places, place-found, places-at, places-below}
 use Rattle.council_game.proofs.Order.{ranking}
 use Rattle.council_game.proofs.Shared.GameTests.{held-rule}
 use Rattle.council_game.proofs.Shared.Games.{passed, votes-are, first-full, light-weights, light-sum}
@@ -135,7 +135,8 @@ pub record RanksAre (n : ℕ) (ranks : List ℕ) : Type 0 where
   pub member_below : (p : ℕ) → p < n → member_at ranks p < n
   pub place_back : (p : ℕ) → p < n → get_or ranks (member_at ranks p) 0 ≡ p
 
-ranks-of : (ws : List ℕ) → RanksAre (length ws) (rank_places ws)
+-- so are the rank places of any weights
+pub ranks-of : (ws : List ℕ) → RanksAre (length ws) (rank_places ws)
 ranks-of ws =
     let found = ranking ws in
     let qs : List ℕ = found.0 in
@@ -162,6 +163,22 @@ ranks-of ws =
           ap (λ (i : ℕ). get_or (rank_places ws) i 0) (ranking-member_at ws found.0 p found.1 in')
           ∙ rank_places-at ws (get_or found.0 p 0) below ∙ rank-of ws found.0 p found.1 in';
     }
+
+-- the heaviest has the first place
+pub ranked-falls : (ws : List ℕ) (a b : ℕ) → a ≤ b → b < length ws
+    → get_or ws (member_at (rank_places ws) b) 0 ≤ get_or ws (member_at (rank_places ws) a) 0
+ranked-falls ws a b le lt =
+    let found = ranking ws in
+    let len = ranking-length ws found.0 found.1 in
+    let falls = ranking-falls ws found.0 a b found.1 le lt in
+    omega (arith, falls, at found.0 found.1 a (omega (arith, le, lt)), at found.0 found.1 b lt)
+  where
+    at : (qs : List ℕ) → IsRanking ws qs → (p : ℕ) → p < length ws
+        → get_or (weights_at ws (members_by_rank (rank_places ws))) p 0 ≡ get_or ws (member_at (rank_places ws) p) 0
+    at qs r p below =
+        let len = ranking-length ws qs r in
+        ranking-weights_at ws qs ws p r below
+        ∙ ap (λ (i : ℕ). get_or ws i 0) (sym (ranking-member_at ws qs p r (omega (arith, len, below))))
 
 -- in each game the ranks are a permutation, and `member_at` goes back
 pub ranks-are : (g : GameView) → IsGame g → RanksAre (length g.names) g.ranks
