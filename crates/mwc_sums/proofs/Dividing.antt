@@ -6,8 +6,8 @@ use Rattle.std.proofs.lemmas.List.{length-append, length-map, map-append, get_or
 use Rattle.std.proofs.Math.Seq.{get_or-append_seam}
 use Rattle.std.proofs.lemmas.List.Elements.{All-cons, All-nil}
 use Rattle.council_game.specs.Votes.{RuleView, rule_at}
-use Rattle.mwc_sums.specs.Chambers.{weighs, met, chamber_of}
-use Rattle.mwc_sums.specs.Heads.{AreOfOneChamber}
+use Rattle.mwc_sums.specs.Chambers.{weighs, met}
+use Rattle.mwc_sums.specs.Vetoers.{IsOfOneChamber}
 use Rattle.mwc_sums.specs.Inner.Divided.{picked, AreDivided}
 use Rattle.mwc_sums.proofs.Sharing.{swapped, joined}
 
@@ -105,7 +105,7 @@ divided-none n rs counted others one other = record {
 }
 
 pub divided-more : (n k : ℕ) (rs counted others more rest : List RuleView) (b : Bool) → k < length rs → AreDivided n k rs counted others
-    → (b ≡ true) ↔ AreOfOneChamber n (chamber_of n rs (rule_at rs k))
+    → (b ≡ true) ↔ IsOfOneChamber n rs (rule_at rs k)
     → more ≡ counted ++ cond b (rule_at rs k ∷ []) [] → rest ≡ others ++ cond (not b) (rule_at rs k ∷ []) []
     → AreDivided n (k + 1) rs more rest
 divided-more n k rs counted others more rest b lt are is one other =
@@ -116,10 +116,10 @@ divided-more n k rs counted others more rest b lt are is one other =
       flags = are.flags ++ b ∷ [];
       long = (let e = length-append are.flags (b ∷ []) in omega (arith, e, long));
       each = λ j below. elim (cases_eq j k) [
-        | inl here ↦ subst (λ (d : Bool). (d ≡ true) ↔ AreOfOneChamber n (chamber_of n rs (rule_at rs j)))
+        | inl here ↦ subst (λ (d : Bool). (d ≡ true) ↔ IsOfOneChamber n rs (rule_at rs j))
             (sym (ap (λ (m : ℕ). get_or (are.flags ++ b ∷ []) m false) (here ∙ sym long) ∙ get_or-append_seam are.flags b [] false))
-            (subst (λ (m : ℕ). (b ≡ true) ↔ AreOfOneChamber n (chamber_of n rs (rule_at rs m))) (sym here) is)
-        | inr other ↦ subst (λ (d : Bool). (d ≡ true) ↔ AreOfOneChamber n (chamber_of n rs (rule_at rs j)))
+            (subst (λ (m : ℕ). (b ≡ true) ↔ IsOfOneChamber n rs (rule_at rs m)) (sym here) is)
+        | inr other ↦ subst (λ (d : Bool). (d ≡ true) ↔ IsOfOneChamber n rs (rule_at rs j))
             (sym (get_or_append_left are.flags (b ∷ []) false j (omega (arith, below, other, long)))) (are.each j (omega (arith, below, other)))
       ];
       counted_are = one ∙ (λ i. are.counted_are i ++ cond b (rule_at rs (sym long i) ∷ []) [])

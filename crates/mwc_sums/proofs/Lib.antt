@@ -20,6 +20,8 @@ mod Joined
 mod Vetoing
 mod VetoRules
 mod OneChamber
+mod Seated
+mod SeatCounts
 mod Sharing
 mod Dividing
 mod Parting

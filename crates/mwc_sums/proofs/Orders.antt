@@ -16,59 +16,77 @@ use Rattle.std.proofs.lemmas.List.Kept.{AllPairs-filter}
 use Rattle.std.proofs.lemmas.List.Sorted.{sum_by-IsPermutation, Contains-permutation, IsPermutation-sym}
 use Rattle.std.proofs.lemmas.Map.Keys.{IsDistinct-from_apart}
 use Rattle.std.proofs.lemmas.Map.Made.{length-le_from_is_member, is_member-filter}
-use Rattle.council_game.specs.Votes.{RuleView, Votes, has, without, weight, wins, minimal, down, minimal_coalitions}
-use Rattle.council_game.specs.Ranks.{places, member_at, members_by_rank, rule_by_rank}
+use Rattle.council_game.specs.Votes.{RuleView, Votes, IsVotes, has, without, weight, wins, minimal, down, minimal_coalitions}
+use Rattle.council_game.specs.Ranks.{AreRankPlaces, places, member_at, members_by_rank, rule_by_rank}
 use Rattle.council_game.specs.Game.{GameView, IsGame, votes_of}
 use Rattle.council_game.specs.Laws.{IsListing}
 use Rattle.council_game.proofs.Shared.Games.{votes-are}
 use Rattle.council_game.proofs.Shared.Listing.{listing-is}
-use Rattle.council_game.proofs.Shared.Making.{ranks-are}
+use Rattle.council_game.proofs.Shared.Making.{RanksAre, ranks-are}
 use Rattle.council_game.proofs.Shared.Meanings.{needs-each-member}
 use Rattle.council_game.proofs.Shared.RankPlaces.{game-rank_places}
 use Rattle.council_game.proofs.Shared.Rankings.{places-at, length-weights_by_rank}
 use Rattle.power_index.specs.Counting.{contains, size_of}
 use Rattle.power_index.specs.Tables.{Tables, AreCounts}
-use Rattle.power_index.proofs.Shared.Members.{members-of}
 use Rattle.power_index.proofs.Shared.Sums.{sum-filter, sum-range}
+use Rattle.std.proofs.lemmas.List.Sums.{length-filter}
 use Rattle.mwc_sums.specs.Orders.{HaveTheSameRules}
 use Rattle.mwc_sums.proofs.Masks.{AreAlike, moved, moved-below, moved-alike, moved-apart, alike-without}
 
+-- a game, its places ranked by any weights
+pub record IsPlaced (g : GameView) : Type 0 where
+  pub votes : IsVotes (votes_of g)
+  pub ranks : RanksAre (length g.names) g.ranks
+  pub each : AreRankPlaces g.ranks
+
+pub game-placed : (g : GameView) → IsGame g → IsPlaced g
+game-placed g is = record { votes = votes-are g is; ranks = ranks-are g is; each = game-rank_places g is }
+
 -- ---- weights and sizes by member
 -- a sum over the rank places of a game is one over its members
-by-member : (g : GameView) → IsGame g → (f : ℕ → ℕ) → sum_by f (places g.names) ≡ sum_by (λ i. f (get_or g.ranks i 0)) (places g.names)
+by-member : (g : GameView) → IsPlaced g → (f : ℕ → ℕ) → sum_by f (places g.names) ≡ sum_by (λ i. f (get_or g.ranks i 0)) (places g.names)
 by-member g is f =
     let rank : ℕ → ℕ = λ i. get_or g.ranks i 0 in
-    let same : g.ranks ≡ map rank (places g.names) = fill_by_all rank g.ranks (length g.names) 0 (ranks-are g is).count (λ k lt. refl) in
-    let permuted = subst (λ (n : ℕ). IsPermutation (range_with_len 0 n) g.ranks) (ranks-are g is).count (game-rank_places g is) in
+    let same : g.ranks ≡ map rank (places g.names) = fill_by_all rank g.ranks (length g.names) 0 is.ranks.count (λ k lt. refl) in
+    let permuted = subst (λ (n : ℕ). IsPermutation (range_with_len 0 n) g.ranks) is.ranks.count is.each in
     sym (sum_by-IsPermutation f (places g.names) g.ranks permuted) ∙ ap (sum_by f) same
     ∙ fold-map (λ (a : ℕ) (p : ℕ). a + f p) rank 0 (places g.names)
 
-pub ranked-weight : (g : GameView) → IsGame g → (r : RuleView) (i : ℕ) → i < length g.names
+-- what a place weighs
+pub ranked-at : (ranks : List ℕ) (r : RuleView) (p : ℕ) → p < length ranks
+    → get_or (rule_by_rank ranks r).weights p 0 ≡ get_or r.weights (member_at ranks p) 0
+ranked-at ranks r p lt =
+    let long = length-range_with_len 0 (length ranks) in
+    let ordered = length-map (places ranks) (member_at ranks) in
+    get_or-map (λ m. get_or r.weights m 0) (members_by_rank ranks) p 0 0 (omega (arith, ordered, long, lt))
+    ∙ ap (λ (m : ℕ). get_or r.weights m 0)
+    (get_or-map (member_at ranks) (places ranks) p 0 0 (omega (arith, long, lt))
+    ∙ ap (member_at ranks) (places-at (length ranks) p 0 lt))
+
+pub ranked-weight : (g : GameView) → IsPlaced g → (r : RuleView) (i : ℕ) → i < length g.names
     → get_or (rule_by_rank g.ranks r).weights (get_or g.ranks i 0) 0 ≡ get_or r.weights i 0
 ranked-weight g is r i lt =
-    let are = ranks-are g is in
-    let long = length-range_with_len 0 (length g.ranks) in
-    let ordered = length-map (places g.ranks) (member_at g.ranks) in
-    let below = are.place_below i lt in
-    get_or-map (λ m. get_or r.weights m 0) (members_by_rank g.ranks) (get_or g.ranks i 0) 0 0
-    (omega (arith, ordered, long, are.count, below))
-    ∙ ap (λ (m : ℕ). get_or r.weights m 0)
-    (get_or-map (member_at g.ranks) (places g.ranks) (get_or g.ranks i 0) 0 0 (omega (arith, long, are.count, below))
-    ∙ ap (member_at g.ranks) (places-at (length g.ranks) (get_or g.ranks i 0) 0 (omega (arith, are.count, below)))
-    ∙ are.member_back i lt)
+    let below = is.ranks.place_below i lt in
+    ranked-at g.ranks r (get_or g.ranks i 0) (omega (arith, below, is.ranks.count))
+    ∙ ap (λ (m : ℕ). get_or r.weights m 0) (is.ranks.member_back i lt)
 
-pub weight-by_member : (g : GameView) → IsGame g → (r : RuleView) (c : ℕ)
+pub weight-by_member : (g : GameView) → IsPlaced g → (r : RuleView) (c : ℕ)
     → weight (rule_by_rank g.ranks r).weights c ≡ sum_by (λ i. cond (contains g i c) 1 0 * get_or r.weights i 0) (places g.names)
 unfolding weight
 weight-by_member g is r c =
     let ws : List ℕ = (rule_by_rank g.ranks r).weights in
-    let n : length ws ≡ length g.names = length-weights_by_rank g.ranks r.weights ∙ (ranks-are g is).count in
+    let n : length ws ≡ length g.names = length-weights_by_rank g.ranks r.weights ∙ is.ranks.count in
     ap (λ (k : ℕ). sum_by (λ p. get_or ws p 0) (filter (λ p. has k p c) (range_with_len 0 k))) n
     ∙ sum-filter (λ p. get_or ws p 0) (λ p. has (length g.names) p c) (places g.names)
     ∙ by-member g is (λ p. cond (has (length g.names) p c) 1 0 * get_or ws p 0)
     ∙ sum-range (λ i. cond (contains g i c) 1 0 * get_or ws (get_or g.ranks i 0) 0) (λ i. cond (contains g i c) 1 0 * get_or r.weights i 0)
     0 (length g.names)
     (λ i _ lt. ap (λ (w : ℕ). cond (contains g i c) 1 0 * w) (ranked-weight g is r i (omega (arith, lt))))
+
+size-by_member : (g : GameView) → IsPlaced g → (c : ℕ) → sum_by (λ i. cond (contains g i c) 1 0) (places g.names) ≡ size_of g c
+size-by_member g is c =
+    sym (by-member g is (λ p. cond (has (length g.names) p c) 1 0))
+    ∙ sym (length-filter (λ p. has (length g.names) p c) (places g.names))
 
 -- ---- what wins
 wins-each : (ranks : List ℕ) (rs : List RuleView) (c : ℕ) → wins (map (rule_by_rank ranks) rs) c ≡ true
@@ -122,7 +140,7 @@ member-listed v test c lt min passes =
     ∙ and_from (is_member eqb (down (2 ^ v.members)) c) (minimal v c) (is-member-down (2 ^ v.members) c lt) min) passes
 
 -- ---- two games of the same members and rules
-module _ (g h : GameView) (is_g : IsGame g) (is_h : IsGame h) (same : HaveTheSameRules g h) where
+module _ (g h : GameView) (is_g : IsPlaced g) (is_h : IsPlaced h) (same : HaveTheSameRules g h) where
   alike-weights : (r : RuleView) (c d : ℕ) → AreAlike g h c d
       → weight (rule_by_rank g.ranks r).weights c ≡ weight (rule_by_rank h.ranks r).weights d
   alike-weights r c d alike =
@@ -133,13 +151,13 @@ module _ (g h : GameView) (is_g : IsGame g) (is_h : IsGame h) (same : HaveTheSam
       ∙ ap (λ (n : ℕ). sum_by (λ i. cond (contains h i d) 1 0 * get_or r.weights i 0) (range_with_len 0 n)) same.members
       ∙ sym (weight-by_member h is_h r d)
 
-  alike-sizes : (c d : ℕ) → AreAlike g h c d → size_of g c ≡ size_of h d
+  pub alike-sizes : (c d : ℕ) → AreAlike g h c d → size_of g c ≡ size_of h d
   alike-sizes c d alike =
-      sym (members-of g is_g c)
+      sym (size-by_member g is_g c)
       ∙ sum-range (λ i. cond (contains g i c) 1 0) (λ i. cond (contains h i d) 1 0) 0 (length g.names)
       (λ i _ lt. ap (λ (b : Bool). cond {A = ℕ} b 1 0) (alike i (omega (arith, lt))))
       ∙ ap (λ (n : ℕ). sum_by (λ i. cond (contains h i d) 1 0) (range_with_len 0 n)) same.members
-      ∙ members-of h is_h d
+      ∙ size-by_member h is_h d
 
   alike-wins : (c d : ℕ) → AreAlike g h c d → wins (votes_of g).rules c ≡ true → wins (votes_of h).rules d ≡ true
   alike-wins c d alike won = each-wins h.ranks h.rules d (λ k o lt.
@@ -158,13 +176,13 @@ flipped g h same = record { members = sym same.members; rules = IsPermutation-sy
 alike-flipped : (g h : GameView) (c d : ℕ) → length g.names ≡ length h.names → AreAlike g h c d → AreAlike h g d c
 alike-flipped g h c d long alike i lt = sym (alike i (omega (arith, lt, long)))
 
-alike-minimal : (g h : GameView) → IsGame g → IsGame h → HaveTheSameRules g h → (c d : ℕ) → AreAlike g h c d
+alike-minimal : (g h : GameView) → IsPlaced g → IsPlaced h → HaveTheSameRules g h → (c d : ℕ) → AreAlike g h c d
     → minimal (votes_of g) c ≡ true → minimal (votes_of h) d ≡ true
 alike-minimal g h is_g is_h same c d alike min =
     let parts = (needs-each-member (votes_of g) c).0 min in
     let long = same.members in
-    let ranks_g = ranks-are g is_g in
-    let ranks_h = ranks-are h is_h in
+    let ranks_g = is_g.ranks in
+    let ranks_h = is_h.ranks in
     (needs-each-member (votes_of h) d).1 (
       alike-wins g h is_g is_h same c d alike parts.0,
       λ p lt inside. false_from_ne_true _ (λ still.
@@ -184,7 +202,7 @@ alike-minimal g h is_g is_h same c d alike min =
     )
 
 -- ---- as many pass a test in one game as in the other
-count-le : (g h : GameView) → IsGame g → IsGame h → HaveTheSameRules g h → (s t : ℕ → Bool) → ((c d : ℕ) → AreAlike g h c d → s c ≡ t d)
+count-le : (g h : GameView) → IsPlaced g → IsPlaced h → HaveTheSameRules g h → (s t : ℕ → Bool) → ((c d : ℕ) → AreAlike g h c d → s c ≡ t d)
     → length (filter s (minimal_coalitions (votes_of g))) ≤ length (filter t (minimal_coalitions (votes_of h)))
 count-le g h is_g is_h same s t tests =
     let moves = length-map own (moved g h) in
@@ -195,7 +213,7 @@ count-le g h is_g is_h same s t tests =
     own = filter s (minimal_coalitions (votes_of g))
 
     listing : IsListing (votes_of g)
-    listing = listing-is (votes_of g) (votes-are g is_g)
+    listing = listing-is (votes_of g) is_g.votes
 
     below : All (λ c. c < 2 ^ length g.names) (filter s (minimal_coalitions (votes_of g)))
     below = All-filter s (λ c. c < 2 ^ length g.names) (minimal_coalitions (votes_of g)) listing.below
@@ -212,7 +230,7 @@ count-le g h is_g is_h same s t tests =
         let at_j : get_or (map (moved g h) own) j d ≡ moved g h (get_or own j 0) = get_or-map (moved g h) own j 0 d lj in
         let lower = falls i j 0 less lj in
         ne_eqb _ _ (λ e.
-        (let one = moved-apart g h same.members (ranks-are g is_g) (ranks-are h is_h) (get_or own i 0) (get_or own j 0) (below i 0 li)
+        (let one = moved-apart g h same.members is_g.ranks is_h.ranks (get_or own i 0) (get_or own j 0) (below i 0 li)
         (below j 0 lj) (sym at_i ∙ e ∙ at_j) in
         omega (arith, one, lower)))))
 
@@ -221,15 +239,15 @@ count-le g h is_g is_h same s t tests =
     there q in' =
         let found = is-member-map (moved g h) own q in' in
         let c : ℕ = get_or own found.0 0 in
-        let alike = moved-alike g h same.members (ranks-are g is_g) (ranks-are h is_h) c in
+        let alike = moved-alike g h same.members is_g.ranks is_h.ranks c in
         let passes : s c ≡ true = filter_passes s (minimal_coalitions (votes_of g)) found.0 0 found.1 in
         let min : minimal (votes_of g) c ≡ true = All-filter s (λ c. minimal (votes_of g) c ≡ true) (minimal_coalitions (votes_of g))
         (listed-passes (votes_of g)) found.0 0 found.1 in
         ap (is_member eqb (filter t (minimal_coalitions (votes_of h)))) found.2
-        ∙ member-listed (votes_of h) t (moved g h c) (moved-below g h same.members (ranks-are g is_g) (ranks-are h is_h) c)
+        ∙ member-listed (votes_of h) t (moved g h c) (moved-below g h same.members is_g.ranks is_h.ranks c)
         (alike-minimal g h is_g is_h same c (moved g h c) alike min) (sym (tests c (moved g h c) alike) ∙ passes)
 
-count-same : (g h : GameView) → IsGame g → IsGame h → HaveTheSameRules g h → (s t : ℕ → Bool) → ((c d : ℕ) → AreAlike g h c d → s c ≡ t d)
+pub count-same : (g h : GameView) → IsPlaced g → IsPlaced h → HaveTheSameRules g h → (s t : ℕ → Bool) → ((c d : ℕ) → AreAlike g h c d → s c ≡ t d)
     → length (filter s (minimal_coalitions (votes_of g))) ≡ length (filter t (minimal_coalitions (votes_of h)))
 count-same g h is_g is_h same s t tests =
     let one = count-le g h is_g is_h same s t tests in
@@ -239,8 +257,10 @@ count-same g h is_g is_h same s t tests =
 
 pub same_counts : (g h : GameView) (t : Tables) → IsGame g → IsGame h → HaveTheSameRules g h
     → AreCounts h (minimal_coalitions (votes_of h)) t → AreCounts g (minimal_coalitions (votes_of g)) t
-same_counts g h t is_g is_h same counts =
+same_counts g h t game_g game_h same counts =
     let long = same.members in
+    let is_g = game-placed g game_g in
+    let is_h = game-placed h game_h in
     let sizes : (s c d : ℕ) → AreAlike g h c d → (size_of g c == s) ≡ (size_of h d == s) =
     λ s c d alike. ap (λ (k : ℕ). k == s) (alike-sizes g h is_g is_h same c d alike) in
     record {

@@ -17,7 +17,7 @@ use Rattle.mwc_sums.specs.Inner.Divided.{picked, AreDivided}
 use Rattle.mwc_sums.specs.Inner.Fair.{IsFair}
 use Rattle.mwc_sums.proofs.Dividing.{picked-all, picked-within, picked-count, picked-met, picked-any, picked-some, turned-flag}
 use Rattle.mwc_sums.proofs.Remaking.{fair-all}
-use Rattle.mwc_sums.proofs.Sharing.{share-none, share-at, share-self, same-chamber, not-true}
+use Rattle.mwc_sums.proofs.Sharing.{share-none, share-at, share-self, same-chamber, own-chamber, not-true, weightless}
 use Rattle.mwc_sums.proofs.Vetoing.{missing, vetoers-both, vetoers-apart}
 use Rattle.mwc_sums.proofs.VetoRules.{fair-vetoers, fair-rests, few-rests}
 
@@ -63,8 +63,7 @@ module _ (g : GameView) (is : IsGame g) (counted others : List RuleView)
       → get_or are.flags m false ≡ true
   closed j m lj lm flag they =
       let of = (are.each j lj).0 flag in
-      (are.each m lm).1 (subst (AreOfOneChamber n)
-      (sym (same-chamber n rests fair (rule_at rests j) j lj refl of (rule_at rests m) m lm refl they)) of)
+      (are.each m lm).1 (subst (All (λ x. AreOfOneChamber n (chamber_of n rests x))) (sym (same-chamber n rests fair j lj of m lm they)) of)
 
   -- ---- the two games are chambers of the one
   vetoers-met : (f : ℕ → Bool) → met n (asked_of_vetoers g) f ≡ met n (vetoers ∷ []) f
@@ -94,10 +93,6 @@ module _ (g : GameView) (is : IsGame g) (counted others : List RuleView)
       by_test : (b : Bool) → HasNoWeight (cond b (vetoers ∷ []) []) i
       by_test true = none
       by_test false = All-nil (idle i)
-
-  weightless : (w : ℕ) → (0 < w → ⊥) → w ≡ 0
-  weightless zero none = refl
-  weightless (suc w) none = absurd (none (omega arith))
 
   parts-apart : (i : ℕ) → i < n → HasNoWeight (counted ++ asked_of_vetoers g) i ⊎ HasNoWeight others i
   parts-apart i lt = elim (vetoers-apart n (can_veto g.rules) g.rules i lt) [
@@ -180,7 +175,7 @@ module _ (g : GameView) (is : IsGame g) (counted others : List RuleView)
       All-append (λ r. AreOfOneChamber n (chamber_of n (counted ++ asked_of_vetoers g) r)) counted (asked_of_vetoers g)
       (subst (All (λ r. AreOfOneChamber n (chamber_of n (counted ++ asked_of_vetoers g) r))) (sym are.counted_are)
       (picked-all (λ r. AreOfOneChamber n (chamber_of n (counted ++ asked_of_vetoers g) r)) are.flags rests (λ m lm flag.
-      subst (AreOfOneChamber n) (sym (chamber-counted m lm flag)) ((are.each m lm).0 flag))))
+      subst (AreOfOneChamber n) (sym (chamber-counted m lm flag)) (own-chamber n rests fair m lm ((are.each m lm).0 flag)))))
       (beside (number_of n (can_veto g.rules)) refl)
     where
       beside : (v : ℕ) → number_of n (can_veto g.rules) ≡ v

@@ -2,22 +2,21 @@
 use Rattle.std.proofs.Common.{◌≡◌, ◌∙◌, ◌&&◌, ◌||◌, not, ◌⊎◌, ℕ, zero, suc, ◌*◌, ◌+◌, ◌<◌, ◌≤◌, Bool, true, false, cond, leb, ltb, List, [], ◌∷◌}
 use Rattle.std.proofs.Common.{length, get_or, filter, sum, sym, ap, refl, subst, arith, inl, inr, All}
 use Rattle.std.specs.List.{range_with_len}
-use Rattle.std.proofs.lemmas.Bool.{cases_eq, cond-true, eq-eqb, and_parts, and_from, lt-ltb, ltb-true, ltb-false, both_ways, false_from_ne_true, false≢true}
+use Rattle.std.proofs.lemmas.Bool.{cases_Bool, cases_eq, cases_lt, cond-true, and_parts, and_from, lt-ltb, ltb-true, ltb-false, both_ways, false_from_ne_true, false≢true}
 use Rattle.std.proofs.lemmas.List.{get_or_default}
 use Rattle.std.proofs.lemmas.List.FromFn.{length-range_with_len, get_or-range_with_len}
 use Rattle.std.proofs.lemmas.List.Filters.{length-filter_both}
 use Rattle.std.proofs.lemmas.List.Folds.{list_any_at, list_any_none}
-use Rattle.std.proofs.lemmas.List.Elements.{All-head, All-tail, All-filter, All-weaker, filter_passes}
+use Rattle.std.proofs.lemmas.List.Elements.{All-cons, All-head, All-nil, All-tail, All-filter}
 use Rattle.council_game.specs.Votes.{RuleView, rule_at}
 use Rattle.council_game.specs.Game.{GameView}
 use Rattle.mwc_sums.specs.Chambers.{weighs, met, share, chamber_of, HasNoWeight, AreChambersOf}
 use Rattle.mwc_sums.specs.Inner.Divided.{others_of}
-use Rattle.mwc_sums.specs.Heads.{AsksOfThose, AreOfOneChamber}
-use Rattle.mwc_sums.specs.Vetoers.{AreOfChambers}
+use Rattle.mwc_sums.specs.Heads.{AreOfOneChamber}
+use Rattle.mwc_sums.specs.Vetoers.{AreOfChambers, IsOfOneChamber}
 use Rattle.mwc_sums.specs.Inner.Fair.{IsFair}
 use Rattle.mwc_sums.proofs.AlikeRules.{alike-sum}
 use Rattle.mwc_sums.proofs.Completing.{same_test}
-use Rattle.mwc_sums.proofs.OneChamber.{kept}
 use Rattle.mwc_sums.proofs.VetoRules.{good-met}
 use Rattle.mwc_sums.proofs.Vetoing.{missing}
 
@@ -51,13 +50,13 @@ share-member n a b they = elim (missing (in_both a b) (λ i. false) n) [
   | inr none ↦ absurd (both_ways (share n a b) (share-none n a b (λ i lt. false_from_ne_true (in_both a b i) (λ is. false≢true (none i lt is)))) they)
 ]
 
+pub weightless : (w : ℕ) → (0 < w → ⊥) → w ≡ 0
+weightless zero none = refl
+weightless (suc w) none = absurd (none (omega arith))
+
 -- of two rules that share nobody, one has no weight where the other has
 alone : (n i : ℕ) (a b : RuleView) → share n a b ≡ false → i < n → 0 < get_or a.weights i 0 → get_or b.weights i 0 ≡ 0
-alone n i a b apart lt some = by_weight (get_or b.weights i 0) refl
-  where
-    by_weight : (w : ℕ) → get_or b.weights i 0 ≡ w → get_or b.weights i 0 ≡ 0
-    by_weight zero is = is
-    by_weight (suc w) is = absurd (both_ways (share n a b) apart (share-at n i a b lt some (omega (arith, is))))
+alone n i a b apart lt some = weightless (get_or b.weights i 0) (λ more. both_ways (share n a b) apart (share-at n i a b lt some more))
 
 pub share-self : (n : ℕ) (r : RuleView) → IsFair n r → share n r r ≡ true
 share-self n r fair = elim (missing (λ i. ltb 0 (get_or r.weights i 0)) (λ i. false) n) [
@@ -147,131 +146,160 @@ met-parted n p (r ∷ rs) f =
     by_test true = joined (leb r.quota (weighs n r f)) (met n (filter p rs) f) (met n (filter (λ x. not (p x)) rs) f)
     by_test false = swapped (leb r.quota (weighs n r f)) (met n (filter p rs) f) (met n (filter (λ x. not (p x)) rs) f)
 
--- ---- the members of a chamber
--- another rule weighs the same members
-abbrev Follows : ℕ → RuleView → RuleView → Type 0
-Follows n r x = (i : ℕ) → i < n → (get_or r.weights i 0 ≡ 0 → get_or x.weights i 0 ≡ 0) × (get_or x.weights i 0 ≡ 0 → get_or r.weights i 0 ≡ 0)
-
-heads-follow : (n : ℕ) (h r : RuleView) → AsksOfThose n h r → Follows n r h
-heads-follow n h r asks i lt = (
-  λ none. asks.2 i lt ∙ ap (λ (b : Bool). cond b 0 asks.0) (eq-eqb (get_or r.weights i 0) 0 none),
-  λ none. by_weight (get_or r.weights i 0) refl none,
-)
+-- at two places a test passes
+two-pass : {X : Type 0} (p : X → Bool) (xs : List X) (j k : ℕ) (d : X) → j < k → k < length xs → p (get_or xs j d) ≡ true
+    → p (get_or xs k d) ≡ true → 2 ≤ length (filter p xs)
+two-pass p [] j k d less lt pj pk = absurd (omega (arith, lt))
+two-pass p (x ∷ xs) j zero d less lt pj pk = absurd (omega (arith, less))
+two-pass p (x ∷ xs) zero (suc k) d less lt pj pk =
+    let found = in-filter p xs k d (omega (arith, lt)) pk in
+    let inside = found.1 in
+    let e = ap (λ (b : Bool). length (cond b (x ∷ filter p xs) (filter p xs))) pj in
+    omega (arith, inside, e)
+two-pass p (x ∷ xs) (suc j) (suc k) d less lt pj pk =
+    more (p x) (two-pass p xs j k d (omega (arith, less)) (omega (arith, lt)) pj pk)
   where
-    by_weight : (w : ℕ) → get_or r.weights i 0 ≡ w → get_or h.weights i 0 ≡ 0 → get_or r.weights i 0 ≡ 0
-    by_weight zero is none = is
-    by_weight (suc w) is none =
-        let e = asks.2 i lt ∙ kept (get_or r.weights i 0) asks.0 (omega (arith, is)) in
-        let pos = asks.1 in
-        absurd (omega (arith, e, pos, none))
+    more : (b : Bool) → 2 ≤ length (filter p xs) → 2 ≤ length (cond b (x ∷ filter p xs) (filter p xs))
+    more true two = omega (arith, two)
+    more false two = two
 
--- of two rules of a chamber, each weighs the members of the other
-any-two : (n : ℕ) (ch : List RuleView) → AreOfOneChamber n ch → (j k : ℕ) → j < length ch → k < length ch → Follows n (rule_at ch j) (rule_at ch k)
-any-two n ch of j k lj lk = elim of [
-  | inl one ↦ same j k (omega (arith, one, lj, lk))
-  | inr two ↦ elim (cases_eq j k) [
-    | inl e ↦ same j k e
-    | inr other ↦ elim two.1 [
-      | inl second ↦ apart j k other (let t = two.0 in omega (arith, t, lj)) (let t = two.0 in omega (arith, t, lk)) (heads-follow n (rule_at ch 1) (rule_at ch 0) second)
-      | inr first ↦ apart j k other (let t = two.0 in omega (arith, t, lj)) (let t = two.0 in omega (arith, t, lk))
-          (turned n (rule_at ch 1) (rule_at ch 0) (heads-follow n (rule_at ch 0) (rule_at ch 1) first))
+filter-both : {X : Type 0} (p q : X → Bool) (xs : List X) → filter q (filter p xs) ≡ filter (λ x. p x && q x) xs
+filter-both p q [] = refl
+filter-both p q (x ∷ xs) = by_test (p x) (filter-both p q xs)
+  where
+    by_test : (b : Bool) → filter q (filter p xs) ≡ filter (λ y. p y && q y) xs
+        → filter q (cond b (x ∷ filter p xs) (filter p xs)) ≡ cond (b && q x) (x ∷ filter (λ y. p y && q y) xs) (filter (λ y. p y && q y) xs)
+    by_test true rest = λ i. cond (q x) (x ∷ rest i) (rest i)
+    by_test false rest = rest
+
+filter-same : (p q : RuleView → Bool) (rs : List RuleView) → ((m : ℕ) → m < length rs → p (rule_at rs m) ≡ q (rule_at rs m))
+    → filter p rs ≡ filter q rs
+filter-same p q [] same = refl
+filter-same p q (r ∷ rs) same =
+    λ i. cond (same 0 (omega arith) i) (r ∷ filter-same p q rs (λ m lt. same (suc m) (omega (arith, lt))) i)
+    (filter-same p q rs (λ m lt. same (suc m) (omega (arith, lt))) i)
+
+-- what holds of each that passes
+pub all-passing : (P : RuleView → Type 0) (p : RuleView → Bool) (rs : List RuleView)
+    → ((m : ℕ) → m < length rs → p (rule_at rs m) ≡ true → P (rule_at rs m)) → All P (filter p rs)
+all-passing P p [] each = All-nil P
+all-passing P p (r ∷ rs) each = by_test (p r) (each 0 (omega arith)) (all-passing P p rs (λ m lt is. each (suc m) (omega (arith, lt)) is))
+  where
+    by_test : (b : Bool) → (b ≡ true → P r) → All P (filter p rs) → All P (cond b (r ∷ filter p rs) (filter p rs))
+    by_test true own rest = All-cons P r (filter p rs) (own refl) rest
+    by_test false own rest = rest
+
+-- ---- the rules of a chamber
+share-turned : (n : ℕ) (a b : RuleView) → share n a b ≡ true → share n b a ≡ true
+share-turned n a b they = let found = share-member n a b they in share-at n found.0 b a found.1 found.3 found.2
+
+pub one-at : (n : ℕ) (rs : List RuleView) (r : RuleView) → IsOfOneChamber n rs r → (k : ℕ) → k < length rs
+    → share n r (rule_at rs k) ≡ true → AreOfOneChamber n (chamber_of n rs (rule_at rs k))
+one-at n rs r of k lk they =
+    let found = in-filter (share n r) rs k (record { quota = 0; weights = [] }) lk they in
+    subst (λ (x : RuleView). AreOfOneChamber n (chamber_of n rs x)) found.2 (of found.0 (record { quota = 0; weights = [] }) found.1)
+
+module _ (n : ℕ) (rs : List RuleView) (fair : All (IsFair n) rs) where
+  abbrev rule : ℕ → RuleView
+  rule k = rule_at rs k
+
+  self : (k : ℕ) → k < length rs → share n (rule k) (rule k) ≡ true
+  self k lt = share-self n (rule k) (fair k (record { quota = 0; weights = [] }) lt)
+
+  -- a chamber has no third rule: what shares a member with one of two shares one with the other
+  no-third : (j k m : ℕ) → j < length rs → k < length rs → m < length rs → share n (rule j) (rule k) ≡ true
+      → AreOfOneChamber n (chamber_of n rs (rule k)) → share n (rule k) (rule m) ≡ true → share n (rule j) (rule m) ≡ true
+  no-third j k m lj lk lm they of third = elim (cases_eq j k) [
+    | inl e ↦ ap (λ (i : ℕ). share n (rule i) (rule m)) e ∙ third
+    | inr other ↦ elim (cases_Bool (share n (rule j) (rule m))) [
+      | inl is ↦ is
+      | inr not-so ↦ absurd (too-many other not-so)
     ]
   ]
-]
-  where
-    turned : (n : ℕ) (r x : RuleView) → Follows n r x → Follows n x r
-    turned n r x follow i lt = ((follow i lt).1, (follow i lt).0)
-
-    same : (j k : ℕ) → j ≡ k → Follows n (rule_at ch j) (rule_at ch k)
-    same j k e = subst (λ (m : ℕ). Follows n (rule_at ch j) (rule_at ch m)) e (λ i lt. (λ h. h, λ h. h))
-
-    apart : (j k : ℕ) → (j ≡ k → ⊥) → j < 2 → k < 2 → Follows n (rule_at ch 0) (rule_at ch 1) → Follows n (rule_at ch j) (rule_at ch k)
-    apart zero zero other lj lk follows = absurd (other refl)
-    apart zero (suc zero) other lj lk follows = follows
-    apart (suc zero) zero other lj lk follows = turned n (rule_at ch 0) (rule_at ch 1) follows
-    apart (suc zero) (suc zero) other lj lk follows = absurd (other refl)
-    apart (suc (suc j)) k other lj lk follows = absurd (omega (arith, lj))
-    apart j (suc (suc k)) other lj lk follows = absurd (omega (arith, lk))
-
--- a rule, and those that share a member with it, are of one chamber
-module _ (n : ℕ) (rs : List RuleView) (fair : All (IsFair n) rs) (r : RuleView) (j : ℕ) (lj : j < length rs) (is : rule_at rs j ≡ r)
-    (of : AreOfOneChamber n (chamber_of n rs r)) where
-  in-chamber : (y : RuleView) (k : ℕ) → k < length rs → rule_at rs k ≡ y → share n r y ≡ true
-      → (m : ℕ) × (m < length (chamber_of n rs r)) × (rule_at (chamber_of n rs r) m ≡ y)
-  in-chamber y k lt at they =
-      let found = in-filter (share n r) rs k (record { quota = 0; weights = [] }) lt (ap (share n r) at ∙ they) in
-      (found.0, found.1, found.2 ∙ at)
-
-  own : (m : ℕ) × (m < length (chamber_of n rs r)) × (rule_at (chamber_of n rs r) m ≡ r)
-  own = in-chamber r j lj is (share-self n r (subst (IsFair n) is (fair j (record { quota = 0; weights = [] }) lj)))
-
-  pub follow : (y : RuleView) (k : ℕ) → k < length rs → rule_at rs k ≡ y → share n r y ≡ true → Follows n r y
-  follow y k lt at they =
-      let found = in-chamber y k lt at they in
-      subst (λ (x : RuleView). Follows n x y) own.2
-      (subst (λ (x : RuleView). Follows n (rule_at (chamber_of n rs r) own.0) x) found.2
-      (any-two n (chamber_of n rs r) of own.0 found.0 own.1 found.1))
-
-  -- a member has weight in this chamber, or in the others
-  pub chamber-apart : (i : ℕ) → i < n → HasNoWeight (chamber_of n rs r) i ⊎ HasNoWeight (others_of n rs r) i
-  chamber-apart i lt = by_weight (get_or r.weights i 0) refl
     where
-      by_weight : (w : ℕ) → get_or r.weights i 0 ≡ w → HasNoWeight (chamber_of n rs r) i ⊎ HasNoWeight (others_of n rs r) i
-      by_weight zero is = inl (λ k d below.
-          subst (λ (x : RuleView). get_or x.weights i 0 ≡ 0) (get_or_default (chamber_of n rs r) k (record { quota = 0; weights = [] }) d below)
-          ((any-two n (chamber_of n rs r) of own.0 k own.1 below i lt).0 (ap (λ (x : RuleView). get_or x.weights i 0) own.2 ∙ is)))
-      by_weight (suc w) is = inr (All-weaker (λ x. not (share n r x) ≡ true) (λ x. get_or x.weights i 0 ≡ 0)
-          (λ x other. alone n i r x (not-true (share n r x) other) lt (omega (arith, is)))
-          (others_of n rs r) (filter_passes (λ x. not (share n r x)) rs))
+      few : length (filter (share n (rule k)) rs) ≤ 2
+      few = elim of [
+        | inl one ↦ omega (arith, one)
+        | inr two ↦ (let t = two.0 in omega (arith, t))
+      ]
 
-  -- who has weight in a rule that shares a member with it has weight in it
-  some-own : (i k : ℕ) (y : RuleView) → k < length rs → rule_at rs k ≡ y → share n r y ≡ true → i < n → 0 < get_or y.weights i 0
-      → 0 < get_or r.weights i 0
-  some-own i k y lt at they inside some = by_weight (get_or r.weights i 0) refl
-    where
-      by_weight : (w : ℕ) → get_or r.weights i 0 ≡ w → 0 < get_or r.weights i 0
-      by_weight zero is = absurd (let e = (follow y k lt at they i inside).0 is in omega (arith, e, some))
-      by_weight (suc w) is = omega (arith, is)
+      both-j : (share n (rule k) (rule j) && share n (rule j) (rule j)) ≡ true
+      both-j = and_from (share n (rule k) (rule j)) (share n (rule j) (rule j)) (share-turned n (rule j) (rule k) they) (self j lj)
 
-  -- no other rule shares a member with a rule of this chamber
-  pub share-apart : (x y : RuleView) (k : ℕ) → k < length rs → rule_at rs k ≡ y → share n r x ≡ false → share n x y ≡ true → share n r y ≡ false
-  share-apart x y k lt at other they = false_from_ne_true (share n r y) (λ joined.
-      (let found = share-member n x y they in
-      both_ways (share n r x) other (share-at n found.0 r x found.1 (some-own found.0 k y lt at joined found.1 found.3) found.2)))
+      both-k : (share n (rule k) (rule k) && share n (rule j) (rule k)) ≡ true
+      both-k = and_from (share n (rule k) (rule k)) (share n (rule j) (rule k)) (self k lk) they
 
-  -- the chamber of one of the others is the same among them
-  others-chamber : (x : RuleView) → share n r x ≡ false → chamber_of n (others_of n rs r) x ≡ chamber_of n rs x
-  others-chamber x other = filter-within (λ y. not (share n r y)) (share n x) rs (λ k d lt they.
-      ap (λ (b : Bool). not b)
-      (share-apart x (get_or rs k d) k lt (get_or_default rs k (record { quota = 0; weights = [] }) d lt) other they))
+      two : (j ≡ k → ⊥) → 2 ≤ length (filter (λ x. share n (rule k) x && share n (rule j) x) rs)
+      two other = elim (cases_lt j k) [
+        | inl less ↦ two-pass (λ x. share n (rule k) x && share n (rule j) x) rs j k (record { quota = 0; weights = [] }) less lk both-j both-k
+        | inr more ↦ two-pass (λ x. share n (rule k) x && share n (rule j) x) rs k j (record { quota = 0; weights = [] }) (omega (arith, more, other)) lj both-k both-j
+      ]
 
-  pub others-of-chambers : AreOfChambers n rs → AreOfChambers n (others_of n rs r)
-  others-of-chambers all k d lt =
-      let x : RuleView = get_or (others_of n rs r) k d in
-      subst (AreOfOneChamber n) (sym (others-chamber x (not-true (share n r x) (filter_passes (λ y. not (share n r y)) rs k d lt))))
-      (All-filter (λ y. not (share n r y)) (λ y. AreOfOneChamber n (chamber_of n rs y)) rs all k d lt)
+      too-many : (j ≡ k → ⊥) → share n (rule j) (rule m) ≡ false → ⊥
+      too-many other not-so =
+          let out = in-filter (λ x. share n (rule k) x && not (share n (rule j) x)) rs m (record { quota = 0; weights = [] }) lm
+          (and_from (share n (rule k) (rule m)) (not (share n (rule j) (rule m))) third (ap (λ (b : Bool). not b) not-so)) in
+          let lost = out.1 in
+          let parts = length-filter_both (share n (rule j)) (λ x. not (share n (rule j) x)) (λ x. refl) (filter (share n (rule k)) rs) in
+          let kept = ap (λ (l : List RuleView). length l) (filter-both (share n (rule k)) (share n (rule j)) rs) in
+          let gone = ap (λ (l : List RuleView). length l) (filter-both (share n (rule k)) (λ x. not (share n (rule j) x)) rs) in
+          let some = two other in
+          let most = few in
+          omega (arith, parts, kept, gone, some, most, lost)
 
-  -- a rule that shares a member with it has the same chamber
-  pub same-chamber : (y : RuleView) (k : ℕ) → k < length rs → rule_at rs k ≡ y → share n r y ≡ true → chamber_of n rs y ≡ chamber_of n rs r
-  same-chamber y k lt at they = λ i. filter (λ x. alike x i) rs
-    where
-      alike : (x : RuleView) → share n y x ≡ share n r x
-      alike x = same_test (share n y x) (share n r x)
-          (λ h. (let found = share-member n y x h in
-          share-at n found.0 r x found.1 (some-own found.0 k y lt at they found.1 found.2) found.3))
-          (λ h. (let found = share-member n r x h in
-          share-at n found.0 y x found.1 (some-other found.0 found.1 found.2) found.3))
-        where
-          some-other : (i : ℕ) → i < n → 0 < get_or r.weights i 0 → 0 < get_or y.weights i 0
-          some-other i inside some = by_weight (get_or y.weights i 0) refl
-            where
-              by_weight : (w : ℕ) → get_or y.weights i 0 ≡ w → 0 < get_or y.weights i 0
-              by_weight zero is = absurd (let e = (follow y k lt at they i inside).1 is in omega (arith, e, some))
-              by_weight (suc w) is = omega (arith, is)
+  -- rule j, and those that share a member with it, are of one chamber
+  module _ (j : ℕ) (lj : j < length rs) (of : IsOfOneChamber n rs (rule_at rs j)) where
+    pub own-chamber : AreOfOneChamber n (chamber_of n rs (rule j))
+    own-chamber = one-at n rs (rule j) of j lj (self j lj)
+
+    alike : (k m : ℕ) → k < length rs → m < length rs → share n (rule j) (rule k) ≡ true → share n (rule k) (rule m) ≡ share n (rule j) (rule m)
+    alike k m lk lm they = same_test (share n (rule k) (rule m)) (share n (rule j) (rule m))
+        (λ h. no-third j k m lj lk lm they (one-at n rs (rule j) of k lk they) h)
+        (λ h. no-third k j m lk lj lm (share-turned n (rule j) (rule k) they) own-chamber h)
+
+    -- a rule that shares a member with it has the same chamber
+    pub same-chamber : (k : ℕ) → k < length rs → share n (rule j) (rule k) ≡ true → chamber_of n rs (rule k) ≡ chamber_of n rs (rule j)
+    same-chamber k lk they = filter-same (share n (rule k)) (share n (rule j)) rs (λ m lm. alike k m lk lm they)
+
+    -- none of the others shares a member with a rule of this chamber
+    share-apart : (m k : ℕ) → m < length rs → k < length rs → share n (rule j) (rule m) ≡ false → share n (rule m) (rule k) ≡ true
+        → share n (rule j) (rule k) ≡ false
+    share-apart m k lm lk other they = false_from_ne_true (share n (rule j) (rule k)) (λ joined.
+        both_ways (share n (rule j) (rule m)) other (sym (alike k m lk lm joined) ∙ share-turned n (rule m) (rule k) they))
+
+    -- a member has weight in this chamber, or in the others
+    pub chamber-apart : (i : ℕ) → i < n → HasNoWeight (chamber_of n rs (rule j)) i ⊎ HasNoWeight (others_of n rs (rule j)) i
+    chamber-apart i lt = elim (missing (λ k. share n (rule j) (rule k) && ltb 0 (get_or (rule k).weights i 0)) (λ k. false) (length rs)) [
+      | inl found ↦
+          let parts = and_parts (share n (rule j) (rule found.0)) (ltb 0 (get_or (rule found.0).weights i 0)) found.2 in
+          inr (all-passing (λ x. get_or x.weights i 0 ≡ 0) (λ x. not (share n (rule j) x)) rs (λ m lm other.
+          alone n i (rule found.0) (rule m)
+          (alike found.0 m found.1 lm parts.0 ∙ not-true (share n (rule j) (rule m)) other) lt (ltb-true 0 _ parts.1)))
+      | inr none ↦ inl (all-passing (λ x. get_or x.weights i 0 ≡ 0) (share n (rule j)) rs (λ m lm they.
+          weightless (get_or (rule m).weights i 0) (λ some. false≢true (none m lm
+          (and_from (share n (rule j) (rule m)) (ltb 0 (get_or (rule m).weights i 0)) they (lt-ltb 0 _ some))))))
+    ]
+
+    -- the chamber of one of the others is the same among them
+    others-chamber : (m : ℕ) → m < length rs → share n (rule j) (rule m) ≡ false
+        → chamber_of n (others_of n rs (rule j)) (rule m) ≡ chamber_of n rs (rule m)
+    others-chamber m lm other = filter-within (λ y. not (share n (rule j) y)) (share n (rule m)) rs (λ k d lk they.
+        (let same = get_or_default rs k d (record { quota = 0; weights = [] }) lk in
+        ap (λ (y : RuleView). not (share n (rule j) y)) same
+        ∙ ap (λ (b : Bool). not b) (share-apart m k lm lk other (ap (share n (rule m)) (sym same) ∙ they))))
+
+    pub others-of-chambers : AreOfChambers n rs → AreOfChambers n (others_of n rs (rule j))
+    others-of-chambers all = all-passing (λ x. AreOfOneChamber n (chamber_of n (others_of n rs (rule j)) x)) (λ x. not (share n (rule j) x)) rs
+        (λ m lm other. subst (AreOfOneChamber n) (sym (others-chamber m lm (not-true (share n (rule j) (rule m)) other)))
+        (all m (record { quota = 0; weights = [] }) lm))
 
 -- ---- of a game
 pub first-chamber : (n : ℕ) (rs : List RuleView) → AreOfChambers n rs → 0 < length rs → AreOfOneChamber n (chamber_of n rs (rule_at rs 0))
 first-chamber n rs all some = all 0 (record { quota = 0; weights = [] }) some
+
+-- each chamber is one
+one-of : (n : ℕ) (rs : List RuleView) (r : RuleView) → AreOfChambers n rs → IsOfOneChamber n rs r
+one-of n rs r all = All-filter (share n r) (λ x. AreOfOneChamber n (chamber_of n rs x)) rs all
 
 pub chamber-some : (n k : ℕ) (rs : List RuleView) → All (IsFair n) rs → k < length rs → 0 < length (chamber_of n rs (rule_at rs k))
 chamber-some n k rs fair lt =
@@ -291,7 +319,7 @@ module _ (g a b : GameView) (fair : All (IsFair (length g.names)) g.rules) (all 
   others-chambers =
       subst (λ (n : ℕ). AreOfChambers n b.rules) (sym (ap (λ (l : List (List ℕ)). length l) names_b))
       (subst (AreOfChambers (length g.names)) (sym others)
-      (others-of-chambers (length g.names) g.rules fair (rule_at g.rules 0) 0 some refl (first-chamber (length g.names) g.rules all some) all))
+      (others-of-chambers (length g.names) g.rules fair 0 some (one-of (length g.names) g.rules (rule_at g.rules 0) all) all))
 
   pub chambers-of : a.names ≡ g.names → a.rules ≡ chamber_of (length g.names) g.rules (rule_at g.rules 0) → AreChambersOf g a b
   chambers-of names_a first = record {
@@ -299,8 +327,8 @@ module _ (g a b : GameView) (fair : All (IsFair (length g.names)) g.rules) (all 
     second = ap (λ (l : List (List ℕ)). length l) names_b;
     both = λ f. met-parted (length g.names) (share (length g.names) (rule_at g.rules 0)) g.rules f
         ∙ (λ k. met (length g.names) (sym first k) f && met (length g.names) (sym others k) f);
-    apart = λ i lt. elim (chamber-apart (length g.names) g.rules fair (rule_at g.rules 0) 0 some refl
-        (first-chamber (length g.names) g.rules all some) i lt) [
+    apart = λ i lt. elim (chamber-apart (length g.names) g.rules fair 0 some
+        (one-of (length g.names) g.rules (rule_at g.rules 0) all) i lt) [
           | inl none ↦ inl (subst (λ (l : List RuleView). HasNoWeight l i) (sym first) none)
           | inr none ↦ inr (subst (λ (l : List RuleView). HasNoWeight l i) (sym others) none)
         ];

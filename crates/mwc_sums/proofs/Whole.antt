@@ -11,7 +11,6 @@ use Rattle.std.proofs.Math.Nat.{mul-le-mul_right, div-mul-le_self, mod-lt, div-a
 use Rattle.council_game.specs.Votes.{RuleView, Votes, IsRule, IsRanked, IsVotes, has, size, weight, rule_at, down, minimal}
 use Rattle.council_game.specs.Votes.{minimal_coalitions}
 use Rattle.council_game.specs.Game.{GameView, votes_of}
-use Rattle.council_game.specs.Ranks.{rule_by_rank}
 use Rattle.coalitions.proofs.Shared.Sizes.{size-ones}
 use Rattle.council_game.proofs.Shared.GameTests.{rule-is}
 use Rattle.power_index.specs.declared.tally.Tally.{Tally}
@@ -21,7 +20,7 @@ use Rattle.mwc_sums.specs.Completing.{completing}
 use Rattle.mwc_sums.specs.Heads.{AsksForHeads, first_rule, IsMinimalByHeads}
 use Rattle.weight_sums.specs.Endings.{no_sizes, AreEndings, AreEndingsWith}
 use Rattle.mwc_sums.specs.Inner.NoTally.{IsOfNone}
-use Rattle.mwc_sums.specs.Inner.Asked.{IsAsked, IsAskedOfAll}
+use Rattle.mwc_sums.specs.Inner.Asked.{IsAsked}
 use Rattle.mwc_sums.proofs.Completing.{minimal-completing, filter-map}
 use Rattle.mwc_sums.proofs.Counting.{count, count-same, count-none}
 use Rattle.mwc_sums.proofs.Meeting.{down-below}
@@ -167,22 +166,6 @@ size-shifted n m x le lt =
     times : (a b k : ℕ) → a < b → 0 < k → a * k < b * k
     times a b k lt pos = let f = mul-le-mul_right k (let le : a + 1 ≤ b = omega arith in le) in let e : (a + 1) * k ≡ a * k + k = omega arith in
         omega (arith, f, e, pos)
-
--- all places have all weight
-pub asked-all : (g : GameView) (m heads : ℕ) → m ≡ length g.names → IsAskedOfAll g heads → IsAsked (votes_of g) m heads
-asked-all g m heads is asked = record {
-  few = omega (arith, is);
-  all = λ r p lt from below. absurd (omega (arith, is, from, below));
-  kind = kind asked;
-}
-  where
-    long : length (votes_of g).rules ≡ length g.rules
-    long = length-map g.rules (rule_by_rank g.ranks)
-
-    kind : IsAskedOfAll g heads
-        → ((length (votes_of g).rules ≡ 1) × (heads ≡ 0)) ⊎ ((length (votes_of g).rules ≡ 2) × AsksForHeads m heads (rule_at (votes_of g).rules 1))
-    kind (inl one) = inl (long ∙ one.0, one.1)
-    kind (inr two) = inr (long ∙ two.0, subst (λ (n : ℕ). AsksForHeads n heads (rule_at (votes_of g).rules 1)) (sym is) two.1)
 
 -- the weights of the first m places of a game, its quota, and the heads that it asks for among them
 pub record AreLed (g : GameView) (ws : List ℕ) (q m heads : ℕ) : Type 0 where

@@ -12,7 +12,7 @@ use Rattle.council_game.proofs.Shared.Meanings.{needs-each-member}
 use Rattle.power_index.specs.Counting.{contains}
 use Rattle.power_index.proofs.Shared.Sums.{sum-range}
 pub use Rattle.mwc_sums.specs.Chambers.{weighs, met}
-use Rattle.mwc_sums.proofs.Orders.{weight-by_member}
+use Rattle.mwc_sums.proofs.Orders.{game-placed, weight-by_member}
 
 -- the others of them
 abbrev pub less : (ℕ → Bool) → ℕ → ℕ → Bool
@@ -53,7 +53,7 @@ module _ (g : GameView) (is : IsGame g) where
   wins-each : (rs : List RuleView) (c : ℕ)
       → list_all (λ r. leb r.quota (weight r.weights c)) (map (rule_by_rank g.ranks) rs) ≡ met (length g.names) rs (λ i. contains g i c)
   wins-each [] c = refl
-  wins-each (r ∷ rs) c = (λ k. leb r.quota (weight-by_member g is r c k) && wins-each rs c k)
+  wins-each (r ∷ rs) c = (λ k. leb r.quota (weight-by_member g (game-placed g is) r c k) && wins-each rs c k)
 
   pub wins-met : (c : ℕ) → wins (votes_of g).rules c ≡ met (length g.names) g.rules (λ i. contains g i c)
   unfolding wins

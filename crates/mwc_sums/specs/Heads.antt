@@ -1,6 +1,5 @@
 -- Games of weights and heads: of one rule, or of two, of which one asks for so many members.
-use Rattle.std.specs.Prelude.{ℕ, ◌*◌, ◌<◌, ◌≤◌, ◌≡◌, ◌==◌, ◌↔◌, ◌⊎◌, true, if◌then◌else◌, List, length, take, slice_index}
-use Rattle.council_game.specs.Game.{GameView}
+use Rattle.std.specs.Prelude.{ℕ, ◌*◌, ◌<◌, ◌≤◌, ◌≡◌, ◌↔◌, ◌⊎◌, true, List, length, take, slice_index}
 use Rattle.council_game.specs.Votes.{RuleView, Votes, rule_at, size, weight, minimal}
 
 -- a rule that gives each of n members the same weight above 0, so that it asks for so many heads
@@ -21,21 +20,11 @@ IsMinimalByHeads v heads c =
     ((size v.members c ≡ heads) × (rule.quota ≤ weight rule.weights c))
     ⊎ ((heads < size v.members c) × (minimal (first_rule v) c ≡ true))
 
--- a rule gives each of n members the same weight
-abbrev pub WeighsAllAlike : ℕ → RuleView → Type 0
-WeighsAllAlike n r = (i : ℕ) → i < n → slice_index r.weights i ≡ slice_index r.weights 0
-
--- one rule, or two, of which one gives each member the same weight
-abbrev pub IsOfWeightsAndHeads : GameView → Type 0
-IsOfWeightsAndHeads g =
-    let n = length g.names in
-    (length g.rules ≡ 1)
-    ⊎ ((length g.rules ≡ 2) × (WeighsAllAlike n (rule_at g.rules 0) ⊎ WeighsAllAlike n (rule_at g.rules 1)))
-
--- a rule gives the same weight above 0 to each of n members with weight in another rule, and none to others
+-- a rule gives the same weight above 0 to some of n members, among them each with weight in another rule, and none to others
 abbrev pub AsksOfThose : ℕ → RuleView → RuleView → Type 0
 AsksOfThose n h r =
-    (each : ℕ) × (0 < each) × ((i : ℕ) → i < n → slice_index h.weights i ≡ (if slice_index r.weights i == 0 then 0 else each))
+    (each : ℕ) × (0 < each) × ((i : ℕ) → i < n →
+    (slice_index h.weights i ≡ each) ⊎ ((slice_index h.weights i ≡ 0) × (slice_index r.weights i ≡ 0)))
 
 -- one rule, or two over the members of one chamber: what they weigh, and how many they are
 abbrev pub AreOfOneChamber : ℕ → List RuleView → Type 0

@@ -3,3 +3,4 @@ pub mod Asked
 pub mod Fair
 pub mod Divided
 pub mod NoTally
+pub mod Seats

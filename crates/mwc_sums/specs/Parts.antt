@@ -3,13 +3,11 @@ use Rattle.std.specs.Prelude.{◌⊎◌, ◌<◌, List, length}
 use Rattle.std.specs.List.{All, Any}
 use Rattle.council_game.specs.Votes.{RuleView}
 use Rattle.council_game.specs.Game.{GameView}
-use Rattle.mwc_sums.specs.Chambers.{chamber_of}
-use Rattle.mwc_sums.specs.Heads.{AreOfOneChamber}
-use Rattle.mwc_sums.specs.Vetoers.{can_veto, number_of, rules_beside_vetoers}
+use Rattle.mwc_sums.specs.Vetoers.{IsOfOneChamber, can_veto, number_of, rules_beside_vetoers}
 
 -- a rule asks something of the members that can not veto, in a chamber that sums count
 abbrev pub IsOfCountedChamber : GameView → RuleView → Type 0
-IsOfCountedChamber g r = AreOfOneChamber (length g.names) (chamber_of (length g.names) (rules_beside_vetoers g) r)
+IsOfCountedChamber g r = IsOfOneChamber (length g.names) (rules_beside_vetoers g) r
 
 -- no rule is of such a chamber
 abbrev pub AreOfOthers : GameView → List RuleView → Type 0

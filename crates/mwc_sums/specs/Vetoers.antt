@@ -4,7 +4,7 @@ use Rattle.std.specs.List.{All, filter, list_any, range_with_len}
 use Rattle.council_game.specs.Votes.{RuleView, Votes, rule_at}
 use Rattle.council_game.specs.Game.{GameView}
 use Rattle.mwc_sums.specs.Chambers.{chamber_of}
-use Rattle.mwc_sums.specs.Heads.{AreOfOneChamber, IsOfWeightsAndHeads}
+use Rattle.mwc_sums.specs.Heads.{AreOfOneChamber}
 
 -- the others together miss the quota of some rule
 abbrev pub IsVetoer : Votes → ℕ → Type 0
@@ -37,12 +37,16 @@ rules_beside_vetoers g = rests (length g.names) (can_veto g.rules) g.rules
 abbrev pub AreOfChambers : ℕ → List RuleView → Type 0
 AreOfChambers n rs = All (λ r. AreOfOneChamber n (chamber_of n rs r)) rs
 
+-- the same of the rules of one chamber alone: those that share a member with one of them
+abbrev pub IsOfOneChamber : ℕ → List RuleView → RuleView → Type 0
+IsOfOneChamber n rs r = All (λ x. AreOfOneChamber n (chamber_of n rs x)) (chamber_of n rs r)
+
 -- some members can veto; where they agree some rule still asks for more; and such rules are of chambers
 abbrev pub AreOfChambersBesideVetoers : GameView → Type 0
 AreOfChambersBesideVetoers g =
     (0 < number_of (length g.names) (can_veto g.rules)) × (0 < length (rules_beside_vetoers g))
     × AreOfChambers (length g.names) (rules_beside_vetoers g)
 
--- weights and heads; or rules of chambers, of all members or of those that can not veto
+-- rules of chambers, of all members or of those that can not veto
 abbrev pub IsCountedBySums : GameView → Type 0
-IsCountedBySums g = IsOfWeightsAndHeads g ⊎ AreOfChambers (length g.names) g.rules ⊎ AreOfChambersBesideVetoers g
+IsCountedBySums g = AreOfChambers (length g.names) g.rules ⊎ AreOfChambersBesideVetoers g

@@ -5,7 +5,7 @@ ghost use Rattle.council_game.specs.Votes.{minimal_coalitions, rule_at};
 ghost use Rattle.mwc_sums.specs.Chambers.{chamber_of, share};
 ghost use Rattle.mwc_sums.specs.Inner.Divided.{others_of};
 ghost use Rattle.mwc_sums.specs.Heads.{AreOfOneChamber};
-ghost use Rattle.mwc_sums.specs.Vetoers.{AreOfChambers};
+ghost use Rattle.mwc_sums.specs.Vetoers.{AreOfChambers, IsOfOneChamber};
 ghost use Rattle.power_index.specs.Tables.{AreCounts};
 ghost use Rattle.std.specs.Prelude.{◌≡◌, ◌<◌, ◌↔◌, true, if◌then◌else◌, IfOk, length};
 
@@ -60,7 +60,7 @@ fn chamber_of(alloc: Global, game: &Game, rule: usize) -> Result<Game, Memory>
 }
 
 /// Whether the rules that share a member with one are of one chamber.
-pub(crate) fn is_of_one_chamber(alloc: Global, game: &Game, rule: usize) -> Result<bool, Memory>
+fn has_one_chamber(alloc: Global, game: &Game, rule: usize) -> Result<bool, Memory>
     requires { rule < length game.now.rules }
     ensures { IfOk result (λ is. is ≡ true ↔ AreOfOneChamber (length game.now.names)
         (chamber_of (length game.now.names) game.now.rules (rule_at game.now.rules rule))) }
@@ -69,12 +69,26 @@ pub(crate) fn is_of_one_chamber(alloc: Global, game: &Game, rule: usize) -> Resu
     Ok(are_of_one_chamber(&chamber))
 }
 
+/// Whether the same is so of each of these rules.
+pub(crate) fn is_of_one_chamber(alloc: Global, game: &Game, rule: usize) -> Result<bool, Memory>
+    requires { rule < length game.now.rules }
+    ensures { IfOk result (λ is. is ≡ true
+        ↔ IsOfOneChamber (length game.now.names) game.now.rules (rule_at game.now.rules rule)) }
+{
+    for other in 0..game.rules() {
+        if share(game, rule, other) && !has_one_chamber(alloc, game, other)? {
+            return Ok(false);
+        }
+    }
+    Ok(true)
+}
+
 /// Whether the rules of a game are those of chambers.
 pub(crate) fn are_of_chambers(alloc: Global, game: &Game) -> Result<bool, Memory>
     ensures { IfOk result (λ are. are ≡ true ↔ AreOfChambers (length game.now.names) game.now.rules) }
 {
     for rule in 0..game.rules() {
-        if !is_of_one_chamber(alloc, game, rule)? {
+        if !has_one_chamber(alloc, game, rule)? {
             return Ok(false);
         }
     }

@@ -1,5 +1,5 @@
-//! Counts the minimal winning coalitions of games of one rule, of weights and heads, of chambers, and beside vetoers, without
-//! listing any; and of other games the part that is of this kind.
+//! Counts the minimal winning coalitions of games of one rule, of weights and heads, of such chambers, and beside vetoers,
+//! without listing any; and of other games the part that is of this kind.
 //!
 //! ```text
 //! match count_by_sums(alloc, &game)? {
@@ -21,6 +21,7 @@ mod counted;
 pub mod laws;
 mod parts;
 mod remade;
+mod seats;
 mod vetoers;
 
 pub use count::count_by_sums;

@@ -4,8 +4,7 @@ ghost use Rattle.council_game.specs.Game.{IsGame};
 ghost use Rattle.council_game.specs.Rules.{rule_view, rule_views};
 ghost use Rattle.council_game.specs.Votes.{rule_at};
 ghost use Rattle.mwc_sums.specs.Inner.Fair.{IsFair};
-ghost use Rattle.mwc_sums.specs.Orders.{HaveTheSameRules};
-ghost use Rattle.std.specs.Prelude.{◌≡◌, ◌<◌, ◌≤◌, ◌∷◌, [], All, IfOk, length, map, string_bytes};
+ghost use Rattle.std.specs.Prelude.{◌≡◌, ◌<◌, ◌≤◌, All, IfOk, length, map, string_bytes};
 
 use council_game::{Game, GameFault, Memory, Rule};
 use std::alloc::Global;
@@ -38,18 +37,6 @@ pub(crate) fn copied_rule(alloc: Global, game: &Game, rule: usize) -> Result<Rul
     })
 }
 
-/// The two rules of a game in the other order.
-fn turned_rules(alloc: Global, game: &Game) -> Result<Vec<Rule>, Memory>
-    requires { length game.now.rules ≡ 2 }
-    ensures { IfOk result (λ rules. rule_views rules.items
-        ≡ rule_at game.now.rules 1 ∷ rule_at game.now.rules 0 ∷ []) }
-{
-    let mut rules = Vec::with_capacity(alloc, 2)?;
-    rules.push(copied_rule(alloc, game, 1)?)?;
-    rules.push(copied_rule(alloc, game, 0)?)?;
-    Ok(rules)
-}
-
 /// The game of the same members with other rules, and with no title. Its places are ranked by the first of them.
 pub(crate) fn remade(alloc: Global, game: &Game, rules: Vec<Rule>) -> Result<Game, Memory>
     requires some { 0 < length rules.items }
@@ -71,18 +58,4 @@ pub(crate) fn remade(alloc: Global, game: &Game, rules: Vec<Rule>) -> Result<Gam
             Err(Memory)
         }
     }
-}
-
-/// The game of two rules with these in the other order.
-pub(crate) fn turned(alloc: Global, game: &Game) -> Result<Game, Memory>
-    requires { length game.now.rules ≡ 2 }
-    ensures game { IfOk result (λ turned. IsGame turned) }
-    ensures same { IfOk result (λ turned. HaveTheSameRules game.now turned) }
-    ensures rules { IfOk result (λ turned. turned.rules
-        ≡ rule_at game.now.rules 1 ∷ rule_at game.now.rules 0 ∷ []) }
-{
-    let _members = game.members();
-    let rules = turned_rules(alloc, game)?;
-    let turned = remade(alloc, game, rules)?;
-    Ok(turned)
 }

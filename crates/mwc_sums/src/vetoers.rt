@@ -11,8 +11,8 @@ ghost use Rattle.power_index.specs.Tables.{AreCounts};
 ghost use Rattle.std.specs.Prelude.{◌≡◌, ℕ, ◌<◌, ◌≤◌, ◌↔◌, ◌∷◌, [], if◌then◌else◌, IfNone, IfOk, IfSome, IsSome};
 ghost use Rattle.std.specs.Prelude.{length, slice_index};
 
+use crate::chamber::count_chamber;
 use crate::chambers::{are_of_chambers, count_chambers};
-use crate::count::boxed_of_all;
 use crate::counted::{Counted, boxed_joined};
 use crate::remade::remade;
 use council_game::{Game, Memory, Rule};
@@ -153,7 +153,7 @@ fn count_both(alloc: Global, game: &Game, first: Game, others: Game) -> Result<B
     requires both { AreChambersOf game.now first others }
     ensures { IfOk result (λ c. AreCounts game.now (minimal_coalitions (votes_of game.now)) c.value) }
 {
-    let counts = boxed_of_all(alloc, &first, 0)?;
+    let counts = count_chamber(alloc, &first)?;
     let of_others = count_chambers(alloc, &others)?;
     let (first, others) = (Counted::new(first, counts), Counted::new(others, of_others));
     boxed_joined(alloc, game, &first, &others)

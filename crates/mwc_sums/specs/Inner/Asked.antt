@@ -1,7 +1,6 @@
 -- Games that sums take.
 use Rattle.std.specs.Prelude.{ℕ, ◌≡◌, ◌⊎◌, ◌<◌, ◌≤◌, Bool, if◌then◌else◌, length, map, slice_index}
 use Rattle.std.specs.List.{range_with_len}
-use Rattle.council_game.specs.Game.{GameView, votes_of}
 use Rattle.council_game.specs.Votes.{RuleView, Votes, rule_at}
 use Rattle.mwc_sums.specs.Heads.{AsksForHeads}
 use Rattle.mwc_sums.specs.Vetoers.{number_of}
@@ -15,11 +14,6 @@ pub record IsAsked (v : Votes) (m heads : ℕ) : Type 0 where
   pub few : m ≤ v.members
   pub all : HaveAllWeight v m
   pub kind : ((length v.rules ≡ 1) × (heads ≡ 0)) ⊎ ((length v.rules ≡ 2) × AsksForHeads m heads (rule_at v.rules 1))
-
--- the same of all places
-abbrev pub IsAskedOfAll : GameView → ℕ → Type 0
-IsAskedOfAll g heads =
-    ((length g.rules ≡ 1) × (heads ≡ 0)) ⊎ ((length g.rules ≡ 2) × AsksForHeads (length g.names) heads (rule_at (votes_of g).rules 1))
 
 -- the rule that asks for each of n members who passes a test
 abbrev pub rule_for : ℕ → (ℕ → Bool) → RuleView

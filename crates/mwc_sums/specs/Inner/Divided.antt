@@ -3,10 +3,9 @@ use Rattle.std.specs.Prelude.{ℕ, ◌<◌, ◌≡◌, ◌↔◌, Bool, true, fa
 use Rattle.std.specs.List.{filter}
 use Rattle.council_game.specs.Votes.{RuleView, rule_at}
 use Rattle.council_game.specs.Game.{GameView, IsGame}
-use Rattle.mwc_sums.specs.Chambers.{AreChambersOf, chamber_of, share}
-use Rattle.mwc_sums.specs.Heads.{AreOfOneChamber}
+use Rattle.mwc_sums.specs.Chambers.{AreChambersOf, share}
 use Rattle.mwc_sums.specs.Parts.{AreOfOthers}
-use Rattle.mwc_sums.specs.Vetoers.{AreOfChambers}
+use Rattle.mwc_sums.specs.Vetoers.{AreOfChambers, IsOfOneChamber}
 
 -- the rules that share no member with one
 abbrev pub others_of : ℕ → List RuleView → RuleView → List RuleView
@@ -22,7 +21,7 @@ picked (b ∷ bs) (r ∷ rs) = if b then r ∷ picked bs rs else picked bs rs
 pub record AreDivided (n k : ℕ) (rs counted others : List RuleView) : Type 0 where
   pub flags : List Bool
   pub long : length flags ≡ k
-  pub each : (j : ℕ) → j < k → (slice_index_or flags j false ≡ true) ↔ AreOfOneChamber n (chamber_of n rs (rule_at rs j))
+  pub each : (j : ℕ) → j < k → (slice_index_or flags j false ≡ true) ↔ IsOfOneChamber n rs (rule_at rs j)
   pub counted_are : counted ≡ picked flags rs
   pub others_are : others ≡ picked (map not flags) rs
 

@@ -10,7 +10,7 @@ pub loop-rule-preserved : goal.loop-rule-preserved
 loop-rule-preserved c k lt = elim (cases_eq k c.loop-rule.rule) [
   | inl here ↦ subst (λ (j : ℕ). AreOfOneChamber (length c.args.game.now.names)
       (chamber_of (length c.args.game.now.names) c.args.game.now.rules (rule_at c.args.game.now.rules j)))
-      (sym here) (c.in_ok-is_of_one_chamber.ensures.0 c.if-not-branch.false)
+      (sym here) (c.in_ok-has_one_chamber.ensures.0 c.if-not-branch.false)
   | inr other ↦ c.loop-rule.invariant k (omega (arith, lt, other))
 ]
 

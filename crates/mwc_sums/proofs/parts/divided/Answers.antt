@@ -3,9 +3,8 @@ use Rattle.std.proofs.lemmas.List.{map-append}
 use Rattle.council_game.specs.declared.rule.Rule.{Rule}
 use Rattle.council_game.specs.Rules.{rule_view, rule_views}
 use Rattle.council_game.specs.Votes.{RuleView, rule_at}
-use Rattle.mwc_sums.specs.Chambers.{chamber_of}
-use Rattle.mwc_sums.specs.Heads.{AreOfOneChamber}
-use Rattle.mwc_sums.proofs.Dividing.{divided-more}
+use Rattle.mwc_sums.specs.Vetoers.{IsOfOneChamber}
+use Rattle.mwc_sums.proofs.Dividing.{divided-more, divided-none}
 use Rattle.mwc_sums.proofs.parts.divided.Goals as goal
 use Rattle.mwc_sums.proofs.parts.divided.Goals.{then-branch+in_ok-push, else-branch+in_ok-push-2}
 
@@ -17,6 +16,11 @@ pushed items more x r is own = ap rule_views is ∙ map-append rule_view items (
 kept : (items : List Rule) → rule_views items ≡ rule_views items ++ []
 kept items = search rules
 
+pub loop-rule-init : goal.loop-rule-init
+loop-rule-init c =
+    divided-none (length c.args.game.now.names) c.args.game.now.rules (rule_views c.in_ok-counted.counted.items) (rule_views c.in_ok-others.others.items)
+    (ap rule_views c.in_ok-counted.ensures.items) (ap rule_views c.in_ok-others.ensures.items)
+
 pub loop-rule-preserved : goal.loop-rule-preserved
 loop-rule-preserved c =
     let n : ℕ = length c.args.game.now.names in
@@ -25,12 +29,12 @@ loop-rule-preserved c =
     elim c.if-branch.branch [
       | then-branch+in_ok-push w ↦
           divided-more _ c.loop-rule.rule c.args.game.now.rules _ _ _ _ true inside c.loop-rule.invariant
-          (subst (λ (b : Bool). (b ≡ true) ↔ AreOfOneChamber n (chamber_of n rs (rule_at rs c.loop-rule.rule))) w.if-branch.true c.in_ok-is_of_one_chamber.ensures)
+          (subst (λ (b : Bool). (b ≡ true) ↔ IsOfOneChamber n rs (rule_at rs c.loop-rule.rule)) w.if-branch.true c.in_ok-is_of_one_chamber.ensures)
           (ap (λ v. rule_views v.items) w.counted-is ∙ pushed c.loop-rule.counted.items _ c.in_ok-copied.copied _ w.in_ok-push.ensures.items c.in_ok-copied.ensures)
           (ap (λ v. rule_views v.items) w.others-is ∙ kept c.loop-rule.others.items)
       | else-branch+in_ok-push-2 w ↦
           divided-more _ c.loop-rule.rule c.args.game.now.rules _ _ _ _ false inside c.loop-rule.invariant
-          (subst (λ (b : Bool). (b ≡ true) ↔ AreOfOneChamber n (chamber_of n rs (rule_at rs c.loop-rule.rule))) w.if-branch.false c.in_ok-is_of_one_chamber.ensures)
+          (subst (λ (b : Bool). (b ≡ true) ↔ IsOfOneChamber n rs (rule_at rs c.loop-rule.rule)) w.if-branch.false c.in_ok-is_of_one_chamber.ensures)
           (ap (λ v. rule_views v.items) w.counted-is ∙ kept c.loop-rule.counted.items)
           (ap (λ v. rule_views v.items) w.others-is ∙ pushed c.loop-rule.others.items _ c.in_ok-copied.copied _ w.in_ok-push-2.ensures.items c.in_ok-copied.ensures)
     ]

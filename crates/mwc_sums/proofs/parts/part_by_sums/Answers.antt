@@ -1,4 +1,4 @@
-use Rattle.std.proofs.Common.{◌≡◌, Option, Some, IfSome, sym, subst}
+use Rattle.std.proofs.Common.{◌≡◌, Option, Some, IfSome, IsSome, refl, sym, subst}
 use Rattle.council_game.specs.Game.{GameView}
 use Rattle.mwc_sums.specs.Parts.{AreOfOthers}
 use Rattle.mwc_sums.specs.Inner.Divided.{AreBoth}
@@ -11,3 +11,9 @@ pub returns-in_ok-with_counts-in-Some-clause-left : goal.returns-in_ok-with_coun
 returns-in_ok-with_counts-in-Some-clause-left c =
     let both = both-of c.args.game.now _ _ _ c.in-Some.is c.in_ok-counted.ensures.games in
     subst (λ (g : GameView). AreOfOthers c.args.game.now g.rules) (sym c.in_ok-with_counts-in-Some.ensures.1) both.others
+
+pub returns-in_ok-with_counts-in-Some-clause-kind : goal.returns-in_ok-with_counts-in-Some-clause-kind
+returns-in_ok-with_counts-in-Some-clause-kind c = (
+  λ _. c.in_ok-counted.ensures.kind.0 (subst IsSome (sym c.in-Some.is) refl),
+  λ _. refl,
+)
