@@ -447,15 +447,16 @@ fn random_games_with_vetoers_as_all_subsets(rt: HostRuntime) -> Result<(), Fail>
     Ok(())
 }
 
-/// A house of five by weights and by how many they are, and one of four by weights alone; a seed chooses the numbers and the
-/// order of the three rules. A tenth member has no weight.
+/// A house of five by weights and by how many they are, two of whom have no weight where a seed is odd, and one of four by
+/// weights alone; the seed chooses the numbers and the order of the three rules. A tenth member has no weight.
 fn random_game_of_a_house_with_heads(
     rt: &impl Abort,
     alloc: Global,
     seed: u64,
     most: u64,
 ) -> Result<Game, Fail> {
-    let own = house(rt, alloc, seed, 10, 0, 5, most)?;
+    let from = if seed % 2 == 0 { 0 } else { 2 };
+    let own = house(rt, alloc, seed, 10, from, 5, most)?;
     let heads = house(rt, alloc, seed, 10, 0, 5, 1)?;
     let other = house(rt, alloc, seed.wrapping_add(1), 10, 5, 9, most)?;
     let quota = random_quota(seed, &own);
