@@ -63,15 +63,15 @@ pub weight-left : (w : ℕ) (ws : List ℕ) (c : ℕ) → c < 2 ^ length ws → 
 weight-left w ws c lt = weight-cons w ws c ∙ rw (bit_at_above c (length ws) (length ws) lt (omega arith)) (omega arith)
 
 -- ---- a coalition that meets a need, and loses it without any one of its members
-record IsLeast (ws : List ℕ) (r c : ℕ) : Type 0 where
-  met : r ≤ weight ws c
-  needed : (p : ℕ) → p < length ws → has (length ws) p c ≡ true → weight ws c < r + get_or ws p 0
+pub record IsLeast (ws : List ℕ) (r c : ℕ) : Type 0 where
+  pub met : r ≤ weight ws c
+  pub needed : (p : ℕ) → p < length ws → has (length ws) p c ≡ true → weight ws c < r + get_or ws p 0
 
 -- weights fall
-abbrev Falls : List ℕ → Type 0
+abbrev pub Falls : List ℕ → Type 0
 Falls ws = (a b : ℕ) → a ≤ b → b < length ws → get_or ws b 0 ≤ get_or ws a 0
 
-falls-rest : (w : ℕ) (ws : List ℕ) → Falls (w ∷ ws) → Falls ws
+pub falls-rest : (w : ℕ) (ws : List ℕ) → Falls (w ∷ ws) → Falls ws
 falls-rest w ws falls a b le lt = falls (suc a) (suc b) (omega arith) (omega arith)
 
 -- a coalition that is not empty has a place
@@ -93,7 +93,7 @@ unfolding has
 place-le ws p c lt inside = let e = weight-without ws p c lt (eqb-true _ _ inside) in omega (arith, e)
 
 module _ (w : ℕ) (ws : List ℕ) (r c : ℕ) (lt : c < 2 ^ length ws) where
-  least-out : IsLeast (w ∷ ws) r c ↔ IsLeast ws r c
+  pub least-out : IsLeast (w ∷ ws) r c ↔ IsLeast ws r c
   least-out = (
     λ h. (record {
       met = (let e = weight-left w ws c lt in let m = h.met in omega (arith, e, m));
@@ -116,7 +116,7 @@ module _ (w : ℕ) (ws : List ℕ) (r c : ℕ) (lt : c < 2 ^ length ws) where
           let e = weight-left w ws c lt in
           omega (arith, n, e)
 
-  least-in : Falls (w ∷ ws) → w < r → IsLeast (w ∷ ws) r (2 ^ length ws + c) ↔ IsLeast ws (r - w) c
+  pub least-in : Falls (w ∷ ws) → w < r → IsLeast (w ∷ ws) r (2 ^ length ws + c) ↔ IsLeast ws (r - w) c
   least-in falls more = (
     λ h. (record {
       met = (let e = weight-with w ws c lt in let m = h.met in omega (arith, e, m));
@@ -155,7 +155,7 @@ module _ (w : ℕ) (ws : List ℕ) (r c : ℕ) (lt : c < 2 ^ length ws) where
           omega (arith, n, e)
 
   -- with a first member that meets the need alone, no other is needed
-  least-alone : 0 < c → r ≤ w → IsLeast (w ∷ ws) r (2 ^ length ws + c) → ⊥
+  pub least-alone : 0 < c → r ≤ w → IsLeast (w ∷ ws) r (2 ^ length ws + c) → ⊥
   least-alone pos enough h =
       let found = place-of (length ws) c lt pos in
       let n = h.needed (suc found.0) (let l = found.1 in omega arith) (rest-in (length ws) found.0 c found.1 ∙ found.2) in
@@ -163,7 +163,7 @@ module _ (w : ℕ) (ws : List ℕ) (r c : ℕ) (lt : c < 2 ^ length ws) where
       let own = place-le ws found.0 c found.1 found.2 in
       omega (arith, n, e, own)
 
-least-first : (w : ℕ) (ws : List ℕ) (r : ℕ) → 0 < r → r ≤ w → IsLeast (w ∷ ws) r (2 ^ length ws + 0)
+pub least-first : (w : ℕ) (ws : List ℕ) (r : ℕ) → 0 < r → r ≤ w → IsLeast (w ∷ ws) r (2 ^ length ws + 0)
 least-first w ws r pos enough = record {
   met = (let e = whole in omega (arith, e));
   needed = needed-first;
@@ -269,7 +269,7 @@ loses-one r c = (
   λ short. and_left _ _ (lt-leb _ _ short),
 )
 
-least-minimal : (v : Votes) (r : RuleView) (c : ℕ) → v.rules ≡ r ∷ [] → IsRule v.members r
+pub least-minimal : (v : Votes) (r : RuleView) (c : ℕ) → v.rules ≡ r ∷ [] → IsRule v.members r
     → (minimal v c ≡ true) ↔ IsLeast r.weights r.quota c
 unfolding without has
 least-minimal v r c one rule = (

@@ -1,8 +1,7 @@
 pub mod Completing
 mod Counting
-mod Meeting
 mod HeadLaw
-mod Ended
+mod Leads
 mod Leading
 mod Whole
 mod Masks

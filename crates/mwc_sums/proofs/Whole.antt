@@ -13,20 +13,19 @@ use Rattle.council_game.specs.Votes.{minimal_coalitions}
 use Rattle.council_game.specs.Game.{GameView, votes_of}
 use Rattle.coalitions.proofs.Shared.Sizes.{size-ones}
 use Rattle.council_game.proofs.Shared.GameTests.{rule-is}
+use Rattle.council_game.proofs.Shared.Weights.{weight-zero}
 use Rattle.power_index.specs.declared.tally.Tally.{Tally}
 use Rattle.power_index.specs.Tables.{IsTallyOf}
 use Rattle.weight_sums.specs.declared.by_size.BySize.{BySize}
-use Rattle.mwc_sums.specs.Completing.{completing}
 use Rattle.mwc_sums.specs.Heads.{AsksForHeads, first_rule, IsMinimalByHeads}
-use Rattle.weight_sums.specs.Endings.{no_sizes, AreEndings, AreEndingsWith}
+use Rattle.weight_sums.specs.Endings.{no_sizes, endings, left_out, AreEndings, AreEndingsWith}
 use Rattle.mwc_sums.specs.Inner.NoTally.{IsOfNone}
 use Rattle.mwc_sums.specs.Inner.Asked.{IsAsked}
-use Rattle.mwc_sums.proofs.Completing.{minimal-completing, filter-map}
-use Rattle.mwc_sums.proofs.Counting.{count, count-same, count-none}
-use Rattle.mwc_sums.proofs.Meeting.{down-below}
+use Rattle.mwc_sums.proofs.Completing.{Falls, IsLeast, filter-map, least-minimal, same_test}
+use Rattle.mwc_sums.proofs.Counting.{count, count-filter, count-none, count-same, down-below}
 use Rattle.mwc_sums.proofs.Leading.{IsLed, first_of, leading, led-each, leading-votes, leading-list, has-first, has-last}
 use Rattle.mwc_sums.proofs.HeadLaw.{heads-from, heads-back}
-use Rattle.mwc_sums.proofs.Ended.{AreEnded, ended-one, ended-two}
+use Rattle.mwc_sums.proofs.Leads.{AreMet, leads, leads-all, leads-are, leads-parted, no-places}
 
 -- so many heads meet a quota
 pub enough-heads : (q e h k : ℕ) → 0 < e → h ≡ (q + (e - 1)) / e → (q ≤ k * e) ↔ (h ≤ k)
@@ -104,52 +103,121 @@ pub record AreAsked (v : Votes) (ws : List ℕ) (q heads : ℕ) : Type 0 where
   pub quota : q ≡ (rule_at v.rules 0).quota
   pub asked : IsOfKind v heads
 
+-- a list has the endings, and with each member those that there are not without it
+record AreEnded (n : ℕ) (list ws : List ℕ) (heads q : ℕ) : Type 0 where
+  all : (s : ℕ) → count (λ c. true && (size n c == s)) list ≡ endings ws heads s q 0
+  each : (p s : ℕ) → p < n → endings (left_out p ws) heads s q 0 + count (λ c. has n p c && (size n c == s)) list ≡ endings ws heads s q 0
+
 pub members-are : (v : Votes) (ws : List ℕ) (q heads : ℕ) → AreAsked v ws q heads → length ws ≡ v.members
 members-are v ws q heads h =
     let some = h.votes.has_rule in
     ap (λ (l : List ℕ). length l) h.weights ∙ (rule-is v 0 h.votes (omega (arith, some))).full
 
-votes-ended : (v : Votes) (ws : List ℕ) (q heads : ℕ) → AreAsked v ws q heads
-    → AreEnded (length ws) (minimal_coalitions v) ws heads q
-unfolding minimal_coalitions
-votes-ended v ws q heads h = by_case h.asked
+-- a coalition is minimal exactly where the members lead to it
+least-one : (v : Votes) (c : ℕ) → IsVotes v → length v.rules ≡ 1
+    → (minimal v c ≡ true) ↔ IsLeast (rule_at v.rules 0).weights (rule_at v.rules 0).quota c
+least-one v c votes one = by_rules v.rules refl one
   where
-    by_case : IsOfKind v heads → AreEnded (length ws) (minimal_coalitions v) ws heads q
-    by_case (inl one) =
-        subst (λ (k : ℕ). AreEnded (length ws) (minimal_coalitions v) ws k q) (sym one.1)
-        (subst (λ (l : List ℕ). AreEnded (length ws) l ws 0 q)
-        ((λ i. completing (h.weights i) (h.quota i)) ∙ sym (minimal-completing v h.votes one.0)) (ended-one ws q))
-    by_case (inr two) =
-        let long : length ws ≡ v.members = members-are v ws q heads h in
-        let pos : 0 < q = (let p = (rule-is v 0 h.votes (let some = h.votes.has_rule in omega (arith, some))).some in let e =
-        h.quota in omega (arith, p, e)) in
-        let Facts : ℕ → Type 0 = λ n. (c : ℕ) → c < 2 ^ n → (minimal v c ≡ true) ↔
-        (((size n c ≡ heads) × (q ≤ weight ws c)) ⊎ ((heads < size n c) × (minimal (first_rule v) c ≡ true))) in
-        let facts : Facts (v.members) = λ c lt.
-        subst (λ (x : ℕ). (minimal v c ≡ true) ↔ (((size (v.members) c ≡ heads) × (x ≤ weight ws c)) ⊎
-        ((heads < size (v.members) c) × (minimal (first_rule v) c ≡ true)))) (sym h.quota)
-        (subst (λ (us : List ℕ). (minimal v c ≡ true) ↔
-        (((size (v.members) c ≡ heads) × ((rule_at v.rules 0).quota ≤ weight us c)) ⊎
-        ((heads < size (v.members) c) × (minimal (first_rule v) c ≡ true)))) (sym h.weights)
-        (heads-law v heads c h.votes two.0 two.1 lt)) in
-        let first : minimal_coalitions (first_rule v) ≡ completing ws q = first-list two.0 in
-        subst (λ (n : ℕ). AreEnded (length ws) (filter (minimal v) (down (2 ^ n))) ws heads q) long
-        (ended-two ws q heads (minimal v) (minimal (first_rule v)) pos (subst Facts (sym long) facts)
-        (ap (λ (n : ℕ). filter (minimal (first_rule v)) (down (2 ^ n))) long ∙ first))
-      where
-        first-list : length v.rules ≡ 2 → minimal_coalitions (first_rule v) ≡ completing ws q
-        first-list two = minimal-completing (first_rule v) (first-votes v h.votes two)
-            (one-left v.rules two)
-            ∙ (λ i. completing (rule-first v.rules two i).weights (rule-first v.rules two i).quota)
-            ∙ (λ i. completing (sym h.weights i) (sym h.quota i))
-          where
-            one-left : (rs : List RuleView) → length rs ≡ 2 → length (take 1 rs) ≡ 1
-            one-left [] e = absurd (omega (arith, e))
-            one-left (r ∷ rs) e = refl
+    by_rules : (rs : List RuleView) → v.rules ≡ rs → length rs ≡ 1 → (minimal v c ≡ true) ↔ IsLeast (rule_at rs 0).weights (rule_at rs 0).quota c
+    by_rules [] is one = absurd (omega (arith, one))
+    by_rules (r ∷ s ∷ rs) is one = absurd (omega (arith, one))
+    by_rules (r ∷ []) is one = least-minimal v r c is (subst (λ (l : List RuleView). AllByRecursion (IsRule v.members) l) is votes.rules).0
 
-            rule-first : (rs : List RuleView) → length rs ≡ 2 → rule_at (take 1 rs) 0 ≡ rule_at rs 0
-            rule-first [] e = absurd (omega (arith, e))
-            rule-first (r ∷ rs) e = refl
+module _ (v : Votes) (ws : List ℕ) (q heads : ℕ) (h : AreAsked v ws q heads) where
+  pos : 0 < q
+  pos = let p = (rule-is v 0 h.votes (let some = h.votes.has_rule in omega (arith, some))).some in let e = h.quota in omega (arith, p, e)
+
+  falls : Falls ws
+  falls = subst Falls (sym h.weights) (by_rules v.rules h.votes.has_rule h.votes.ranked)
+    where
+      by_rules : (rs : List RuleView) → 1 ≤ length rs → IsRanked rs → Falls (rule_at rs 0).weights
+      by_rules [] some ranked = absurd (omega (arith, some))
+      by_rules (r ∷ rs) some ranked = ranked
+
+  minimal-met : (c : ℕ) → c < 2 ^ length ws → (minimal v c ≡ true) ↔ AreMet ws heads q 0 c
+  minimal-met c lt = by_case h.asked
+    where
+      least-of : (u : Votes) → IsVotes u → length u.rules ≡ 1 → rule_at u.rules 0 ≡ rule_at v.rules 0 → (minimal u c ≡ true) ↔ IsLeast ws q c
+      least-of u votes one same =
+          subst (λ (l : List ℕ). (minimal u c ≡ true) ↔ IsLeast l q c) (ap (λ (r : RuleView). r.weights) same ∙ sym h.weights)
+          (subst (λ (x : ℕ). (minimal u c ≡ true) ↔ IsLeast (rule_at u.rules 0).weights x c) (ap (λ (r : RuleView). r.quota) same ∙ sym h.quota)
+          (least-one u c votes one))
+
+      by_case : IsOfKind v heads → (minimal v c ≡ true) ↔ AreMet ws heads q 0 c
+      by_case (inl one) =
+          let least = least-of v h.votes one.0 refl in
+          let none = one.1 in (
+            λ min. inr (some (least.0 min), least.0 min),
+            λ met. least.1 (elim met [
+              | inl empty ↦ absurd (let e = empty.0 in let m = empty.1 in nobody (omega (arith, e, none)) m)
+              | inr more ↦ more.1
+            ]),
+          )
+        where
+          nobody : size (length ws) c ≡ 0 → q ≤ weight ws c → ⊥
+          nobody e met =
+              let z = ap (weight ws) (no-places (length ws) c lt e) ∙ weight-zero ws in
+              omega (arith, met, z, pos)
+
+          some : IsLeast ws q c → heads < 0 + size (length ws) c
+          some least = elim (cases_lt 0 (size (length ws) c)) [
+            | inl more ↦ (let none = one.1 in omega (arith, more, none))
+            | inr most ↦ absurd (nobody (omega (arith, most)) least.met)
+          ]
+      by_case (inr two) =
+          let long = members-are v ws q heads h in
+          let below : c < 2 ^ v.members = subst (λ (n : ℕ). c < 2 ^ n) long lt in
+          let law = heads-law v heads c h.votes two.0 two.1 below in
+          let least = least-of (first_rule v) (first-votes v h.votes two.0) (one-left v.rules two.0) (rule-first v.rules two.0) in
+          let sizes = ap (λ (n : ℕ). size n c) long in
+          let weighs = ap (λ (l : List ℕ). weight l c) h.weights in
+          let quota = h.quota in (
+            λ min. elim (law.0 min) [
+              | inl met ↦ inl ((let s = met.0 in omega (arith, s, sizes)), (let m = met.1 in omega (arith, m, weighs, quota)))
+              | inr more ↦ inr ((let m = more.0 in omega (arith, m, sizes)), least.0 more.1)
+            ],
+            λ met. law.1 (elim met [
+              | inl same ↦ inl ((let s = same.0 in omega (arith, s, sizes)), (let m = same.1 in omega (arith, m, weighs, quota)))
+              | inr more ↦ inr ((let m = more.0 in omega (arith, m, sizes)), least.1 more.1)
+            ]),
+          )
+        where
+          one-left : (rs : List RuleView) → length rs ≡ 2 → length (take 1 rs) ≡ 1
+          one-left [] e = absurd (omega (arith, e))
+          one-left (r ∷ rs) e = refl
+
+          rule-first : (rs : List RuleView) → length rs ≡ 2 → rule_at (take 1 rs) 0 ≡ rule_at rs 0
+          rule-first [] e = absurd (omega (arith, e))
+          rule-first (r ∷ rs) e = refl
+
+  minimal-leads : (c : ℕ) → c < 2 ^ length ws → minimal v c ≡ leads ws heads q 0 c
+  minimal-leads c lt =
+      let met = minimal-met c lt in
+      let lead = leads-are ws heads q 0 c falls pos lt in
+      same_test (minimal v c) (leads ws heads q 0 c) (λ h. lead.1 (met.0 h)) (λ h. met.1 (lead.0 h))
+
+  -- of those that pass a test, how many have a size
+  counted : (t : ℕ → Bool) (s : ℕ) → count (λ c. t c && (size (length ws) c == s)) (filter (minimal v) (down (2 ^ length ws)))
+      ≡ count (λ c. leads ws heads q 0 c && (t c && (0 + size (length ws) c == s))) (down (2 ^ length ws))
+  counted t s =
+      count-filter (λ c. t c && (size (length ws) c == s)) (minimal v) (down (2 ^ length ws))
+      ∙ count-same (λ c. minimal v c && (t c && (size (length ws) c == s))) (λ c. leads ws heads q 0 c && (t c && (0 + size (length ws) c == s)))
+      (2 ^ length ws) (down (2 ^ length ws)) (down-below (2 ^ length ws) (2 ^ length ws) (omega arith))
+      (λ c lt. (λ i. minimal-leads c lt i && (t c && (plain (size (length ws) c) i == s))))
+    where
+      plain : (k : ℕ) → k ≡ 0 + k
+      plain k = omega arith
+
+  votes-ended : AreEnded (length ws) (minimal_coalitions v) ws heads q
+  unfolding minimal_coalitions
+  votes-ended = subst (λ (n : ℕ). AreEnded (length ws) (filter (minimal v) (down (2 ^ n))) ws heads q) (members-are v ws q heads h)
+      (record {
+        all = λ s. counted (λ c. true) s ∙ leads-all ws heads s q 0;
+        each = λ p s lt.
+            (let own = counted (has (length ws) p) s in
+            let parts = leads-parted ws p heads s q 0 lt in
+            omega (arith, own, parts));
+      })
 
 -- the size of a coalition with no place behind
 size-shifted : (n m x : ℕ) → m ≤ n → x < 2 ^ m → size n (x * 2 ^ (n - m)) ≡ size m x

@@ -200,7 +200,7 @@ fill-less h s left size = by_test (ltb h size)
     by_test true = omega arith
     by_test false = times 0 (choose left (h - size)) (choose (suc left) (h - size)) (choose-more left (h - size)) (h == s)
 
-length-left_out : (p : ℕ) (ws : List ℕ) → p < length ws → suc (length (left_out p ws)) ≡ length ws
+pub length-left_out : (p : ℕ) (ws : List ℕ) → p < length ws → suc (length (left_out p ws)) ≡ length ws
 unfolding left_out
 length-left_out p [] lt = absurd (omega arith)
 length-left_out zero (w ∷ ws) lt = refl
