@@ -59,11 +59,11 @@ MORE_LANES = 1
 # how long each proof took when it was last made from nothing
 MEASURED = f"{OUT}/seconds"
 # where that is not known: a second for so many lines of code (not of proofs and definitions), as most crates take
-LINES_A_SECOND = 8
+LINES_A_SECOND = 10
 # how long the program is compiled and linked, in seconds
 COMPILED = 60
 # how many processors a proof keeps busy, on the whole
-BUSY = 1.5
+BUSY = 1.3
 # how many seconds must have been measured until they count as much as what was guessed
 GUESSED = 120
 # what ends a build
