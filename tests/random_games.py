@@ -3,12 +3,14 @@
 
     random_games.py PROGRAM COUNT SEED
 
-makes COUNT games of up to 12 members and COUNT of up to 20, with 1 to 4 rules, from SEED. Of the first it
+makes COUNT games of up to 12 members and COUNT of up to 20, with 1 to 4 rules, from SEED, and as many statutes: of chambers,
+heads and members that can veto, as sums count them, wholly or in part. Of the first it
 tries every subset, and compares the walk of tests/oracle.py with that; of all it compares what
-PROGRAM prints, with any options, workers and bits, with the report of tests/oracle.py, and what it
-prints with --tally with what it prints without. Some lists are longer than the block of 64 KiB that a
+PROGRAM prints, with any options, workers and bits, with the report of tests/oracle.py, and likewise what it
+prints with --tally. Some lists are longer than the block of 64 KiB that a
 report goes out by. Prints a line `ok NAME` or `FAILED NAME: why` for each kind.
 """
+import functools
 import json
 import os
 import random
@@ -19,29 +21,80 @@ import tempfile
 sys.path.insert(0, os.path.dirname(os.path.abspath(__file__)))
 import oracle  # noqa: E402
 
+# the coalitions of a game are worked out once
+oracle.minimal_coalitions = functools.lru_cache(maxsize=1)(oracle.minimal_coalitions)
+
 NAMES = ["A", "B'", 'the "C"', "Åland", "日本", "d/e", "a name of several words", "x=1", "#", "[q]"]
+
+
+def weights_of(rng, members):
+    """So many weights, not all of them 0."""
+    most = rng.choice([0, 4, 100, 10 ** 12])
+    weights = [rng.randrange(most) if most else 1 for _ in range(members)]
+    if most == 10 ** 12:
+        weights = [rng.choice([0, 1, most, it, it]) for it in weights]
+    if not sum(weights):
+        weights[0] = 1
+    return weights
+
+
+def quota_of(rng, weights):
+    """A quota that can be met: the least, the greatest, half of all, or any."""
+    return rng.choice([1, sum(weights), sum(weights) // 2 + 1, rng.randint(1, sum(weights))])
+
+
+def named(rng, rules):
+    """The game of these rules, with any names, and with a title or none."""
+    names = [f"{rng.choice(NAMES)} {i}" for i in range(len(rules[0][1]))]
+    return oracle.Game(rng.choice([None, "", "A title", "日本"]), names, rules)
 
 
 def random_game(rng, most_members):
     members = rng.randint(1, most_members)
     rules = []
     for _ in range(rng.choice([1, 1, 1, 2, 2, 3, 4])):
-        kind = rng.randrange(4)
-        if kind == 0:
-            weights = [1] * members
-        elif kind == 1:
-            weights = [rng.randrange(0, 4) for _ in range(members)]
-        elif kind == 2:
-            weights = [rng.randrange(0, 100) for _ in range(members)]
-        else:
-            weights = [rng.choice([0, 1, 10 ** 12, rng.randrange(10 ** 12)]) for _ in range(members)]
-        if not sum(weights):
-            weights[0] = 1
-        quota = rng.choice([1, sum(weights), sum(weights) // 2 + 1, rng.randint(1, sum(weights))])
-        rules.append((quota, weights))
-    names = [f"{rng.choice(NAMES)} {i}" for i in range(members)]
-    title = rng.choice([None, "", "A title", "日本"])
-    return oracle.Game(title, names, rules)
+        weights = weights_of(rng, members)
+        rules.append((quota_of(rng, weights), weights))
+    return named(rng, rules)
+
+
+def chamber(rng, members, seats):
+    """The rules of a chamber of some members: one by weights, and at times one for heads, or a second by weights."""
+    weights = dict(zip(seats, weights_of(rng, len(seats))))
+    rules = [[weights.get(i, 0) for i in range(members)]]
+    kind = rng.randrange(4)
+    if kind == 1:
+        # at times some members with a head have no weight, and none has a weight and no head
+        each = rng.choice([1, 1, 3, 10 ** 12])
+        rules.append([each if i in seats else 0 for i in range(members)])
+    elif kind == 2 and len(seats) > 1:
+        weights = dict(zip(seats, weights_of(rng, len(seats))))
+        rules.append([weights.get(i, 0) for i in range(members)])
+    # mostly some third to two thirds, so that there are many coalitions
+    return [(rng.choice([quota_of(rng, of)] + 3 * [sum(of) * rng.randint(3, 7) // 10 + 1]), of) for of in rules]
+
+
+def random_statute(rng, most_members):
+    """A game of chambers that share no member, in which some can veto, by a rule or by their weight; up to 4 rules, in any order."""
+    members = rng.randint(most_members // 2, most_members)
+    order = rng.sample(range(members), members)
+    cuts = sorted(rng.sample(range(1, members), min(rng.choice([0, 1, 1, 2]), members - 1)))
+    rules = []
+    for low, high in zip([0, *cuts], [*cuts, members]):
+        rules += chamber(rng, members, order[low:high])
+    rules = rules[:4]
+    if len(rules) < 4 and rng.randrange(4) == 0:
+        own = [rng.choice([0, 0, 0, 0, 0, 1, 5]) for _ in range(members)]
+        if sum(own):
+            rules.append((sum(own), own))
+    if rng.randrange(4) == 0:
+        # under one rule some member is needed
+        at = rng.randrange(len(rules))
+        weights = rules[at][1]
+        heaviest = max(weights)
+        rules[at] = (rng.randint(sum(weights) - heaviest + 1, sum(weights)), weights)
+    rng.shuffle(rules)
+    return named(rng, rules)
 
 
 def file_of(game):
@@ -81,6 +134,11 @@ def printed(program, file, words):
     return made.stdout
 
 
+def report(game, flags):
+    """What oracle.py prints of a game under these options."""
+    return "".join(f"{line}\n" for line in oracle.report(game, *(flag in flags for flag in ("--list", "--sizes", "--notation")))).encode()
+
+
 def threads(rng):
     return ["--workers", str(rng.randrange(1, 17)), "--bits", str(rng.randrange(11))]
 
@@ -89,8 +147,7 @@ def main(words):
     if len(words) != 3:
         sys.exit("usage: random_games.py PROGRAM COUNT SEED")
     program, count, rng = os.path.abspath(words[0]), int(words[1]), random.Random(int(words[2]))
-    tallies = b"--tally" in subprocess.run([program, "--help"], capture_output=True).stdout
-    faults = {"the walk of oracle.py, by every subset": [], "reports": [], "reports of more than 64 KiB": [], "--tally": []}
+    faults = {"the walk of oracle.py, by every subset": [], "reports": [], "reports of more than 64 KiB": [], "--tally": [], "--tally of statutes": []}
     done = dict.fromkeys(faults, 0)
 
     def compare(kind, name, got, wanted):
@@ -99,36 +156,37 @@ def main(words):
             faults[kind].append(name)
 
     with tempfile.TemporaryDirectory() as room:
-        for number in range(2 * count):
-            game = random_game(rng, 12 if number < count else 20)
+        for number in range(4 * count):
+            is_statute = number % 2 == 1
+            game = (random_statute if is_statute else random_game)(rng, 12 if number < 2 * count else 18 if is_statute else 20)
             name = f"game {number} of seed {words[2]}"
             file = f"{room}/{number}"
             with open(file, "wb") as it:
                 it.write(file_of(game))
-            if number < count:
-                compare("the walk of oracle.py, by every subset", name, oracle.minimal_coalitions(game), by_every_subset(game))
+            found = oracle.minimal_coalitions(game)
+            if number < 2 * count:
+                compare("the walk of oracle.py, by every subset", name, found, by_every_subset(game))
             flags = [flag for flag in ("--list", "--sizes", "--notation") if rng.randrange(2)]
-            wanted = "".join(f"{line}\n" for line in oracle.report(game, *(flag in flags for flag in ("--list", "--sizes", "--notation")))).encode()
-            compare("reports", name, printed(program, file, flags + threads(rng)), wanted)
-            if len(wanted) > 65536:
-                done["reports of more than 64 KiB"] += 1
-            if tallies:
-                flags = [flag for flag in flags if flag != "--list"]
-                compare("--tally", name, printed(program, file, ["--tally", *flags, *threads(rng)]), printed(program, file, flags + threads(rng)))
+            wanted = report(game, flags)
+            if not is_statute:
+                compare("reports", name, printed(program, file, flags + threads(rng)), wanted)
+                if len(wanted) > 65536:
+                    done["reports of more than 64 KiB"] += 1
+            flags = [flag for flag in flags if flag != "--list"]
+            kind = "--tally of statutes" if is_statute else "--tally"
+            compare(kind, name, printed(program, file, ["--tally", *flags, *threads(rng)]), report(game, flags))
         for rules in 1, 2, 4:
             weights = [[rng.randrange(1, 30) for _ in range(16)] for _ in range(rules)]
             game = oracle.Game(None, [f"a long name, number {i}" for i in range(16)], [(sum(of) // 2 + 1, of) for of in weights])
             file = f"{room}/long-{rules}"
             with open(file, "wb") as it:
                 it.write(file_of(game))
-            wanted = "".join(f"{line}\n" for line in oracle.report(game, True)).encode()
+            wanted = report(game, ["--list"])
             assert len(wanted) > 3 * 65536
             compare("reports of more than 64 KiB", f"{rules} rules", printed(program, file, ["--list", *threads(rng)]), wanted)
     for kind, names in faults.items():
         if names:
             print(f"FAILED random games, {kind}: {len(names)} of {done[kind]} differ, the first is {names[0]}")
-        elif kind == "--tally" and not tallies:
-            print(f"skipped random games, {kind}: the program has no --tally")
         else:
             print(f"ok random games, {kind}: {done[kind]}")
     return 1 if any(faults.values()) else 0

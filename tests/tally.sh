@@ -277,6 +277,9 @@ bracket() {
     echo "[$1; ${rest#, }]" >"$temp/half.txt"
 }
 limit=$((seconds / 6))
+random 40 10000
+bracket $((total / 2 + 1))
+counted "40 random weights up to 10,000" "$temp/half.txt" 15039403489 7555130199 7579772719
 random 40 100000
 bracket $((total / 2 + 1))
 counted "40 random weights up to 100,000" "$temp/half.txt" 6084939789 3064740073 3084293898
@@ -286,6 +289,9 @@ counted "40 random weights up to 10^12" "$temp/half.txt" 4373613453 2195520996 1
 shares 36
 bracket $((total / 2 + 1))
 counted "36 holders of shares" "$temp/half.txt" 983479665 512653271 477218840
+shares 40
+bracket $((total / 2 + 1))
+counted "40 holders of shares" "$temp/half.txt" 14116527153 7324830562 6871940874
 random 36 100000000
 {
     echo "quotas = [$((total * 65 / 100)), 20]"
@@ -294,6 +300,25 @@ random 36 100000000
     done
 } >"$temp/persons.toml"
 counted "36 states by persons, and 20 heads" "$temp/persons.toml" 394303398 182415240 237664887
+# a president, a house of 20 and one of 19: 32,502 coalitions of the one house, and 17,967 of the other, of which 5,902 have its last member
+random 39 1000000
+rows=('1, 0, 0')
+of_house=0
+for ((member = 0; member < 39; member++)); do
+    if [ "$member" -lt 20 ]; then
+        rows+=("0, ${weights[member]}, 0") && of_house=$((of_house + weights[member]))
+    else
+        rows+=("0, 0, ${weights[member]}")
+    fi
+done
+write_rules "1, $((of_house / 2 + 1)), $(((total - of_house) / 2 + 1))" "${rows[@]}"
+counted "a president and two houses" "$temp/rules.toml" $((32502 * 17967)) $((32502 * 17967)) $((32502 * 5902))
+# the first of 40 members can veto by a second rule
+random 40 1000000000
+rows=("${weights[0]}, 1")
+for weight in "${weights[@]:1}"; do rows+=("$weight, 0"); done
+write_rules "$((total / 2 + 1)), 1" "${rows[@]}"
+counted "39 random weights of nine digits, and a vetoer" "$temp/rules.toml" 4183436737 4183436737 309465122
 limit=$seconds
 
 # ---- what memory a tally of one rule takes: a little for weights up to 1,000, and never much

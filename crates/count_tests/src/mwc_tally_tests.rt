@@ -5,7 +5,7 @@ mod stops;
 
 ghost use Rattle.std.specs.Prelude.{◌≡◌, length};
 
-use crate::helpers::same;
+use crate::helpers::{game, same};
 use council_game::Game;
 use mwc_tally::{NoWatch, Watch, tally, tally_slice};
 use power_index::Counts;
@@ -13,18 +13,6 @@ use std::alloc::Global;
 use std::process::Abort;
 use std::sync::atomic::{AtomicU64, Ordering};
 use std::{hint, thread};
-
-/// A game of members named 0, 1, ..
-fn game(rt: &impl Abort, alloc: Global, quota: u64, weights: &[u64]) -> Game {
-    let mut names = Vec::new(alloc);
-    for member in 0..weights.len() {
-        let name = format!(in alloc; "{member}").expect(rt, "a name");
-        names.push(name).expect(rt, "room");
-    }
-    let weights = weights.to_vec(alloc).expect(rt, "weights");
-    assert!(rt; weights.len() == names.len());
-    Game::new(alloc, None, names, weights, quota).expect(rt, "a game")
-}
 
 /// The game [51; 35, 20, 15, 15, 15].
 fn five(rt: &impl Abort, alloc: Global) -> Game

@@ -3,31 +3,11 @@ mod refusals;
 mod statutes;
 mod visits;
 
-use crate::helpers::same;
+use crate::helpers::{game, game_of, same};
 use council_game::{Coalition, Game, Rule, plain_list};
 use mwc_walk::{Seek, Walk, list_all, list_slice, slice_count};
 use std::alloc::Global;
 use std::process::Abort;
-
-/// The game of these rules.
-fn game_of(rt: &impl Abort, alloc: Global, rules: Vec<Rule>) -> Game {
-    assert!(rt; 1 <= rules.len() && rules.len() <= 4);
-    let mut names = Vec::new(alloc);
-    for member in 0..rules[0].weights.len() {
-        let name = format!(in alloc; "M{member}").expect(rt, "a name");
-        names.push(name).expect(rt, "room");
-    }
-    assert!(rt; rules.iter().all(|rule| rule.weights.len() == names.len()));
-    Game::with_rules(alloc, None, names, rules).expect(rt, "a game")
-}
-
-/// The game of one rule.
-fn game(rt: &impl Abort, alloc: Global, quota: u64, weights: &[u64]) -> Game {
-    let weights = weights.to_vec(alloc).expect(rt, "weights");
-    let mut rules = Vec::new(alloc);
-    rules.push(Rule { quota, weights }).expect(rt, "room");
-    game_of(rt, alloc, rules)
-}
 
 /// Members who weigh alike: how many they are, and what each weighs under each rule.
 type Group = (usize, &'static [u64]);

@@ -7,34 +7,12 @@ ghost use Rattle.std.specs.Prelude.{◌<◌, ◌≤◌, ◌^◌, length};
 ghost use Rattle.council_game.specs.Game.{AreNonemptyCoalitions};
 ghost use Rattle.power_index.specs.Fractions.{IsIndex, pair_of};
 
-use crate::helpers::same;
+use crate::helpers::{game, same};
 use council_game::{Coalition, Game, plain_list};
 use power_index::laws::minimal_coalitions_can_be_counted;
 use power_index::{Counts, Fraction, deegan_packel, lowest, public_good};
 use std::alloc::Global;
 use std::process::Abort;
-
-/// Names A, B, C, .. for so many members, at most 52.
-fn letters(rt: &impl Abort, alloc: Global, count: usize) -> Vec<String> {
-    let mut names = Vec::new(alloc);
-    for letter in "ABCDEFGHIJKLMNOPQRSTUVWXYZabcdefghijklmnopqrstuvwxyz"
-        .chars()
-        .take(count)
-    {
-        let mut name = String::new(alloc);
-        name.push(letter).expect(rt, "room");
-        names.push(name).expect(rt, "room");
-    }
-    names
-}
-
-/// The game of these weights.
-fn game(rt: &impl Abort, alloc: Global, quota: u64, weights: &[u64]) -> Game {
-    let names = letters(rt, alloc, weights.len());
-    let weights = weights.to_vec(alloc).expect(rt, "weights");
-    assert!(rt; names.len() == weights.len());
-    Game::new(alloc, None, names, weights, quota).expect(rt, "a game")
-}
 
 /// The coalition of a game that this mask gives.
 fn coalition(rt: &impl Abort, game: &Game, mask: u64) -> Coalition

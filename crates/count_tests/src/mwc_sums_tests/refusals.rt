@@ -1,43 +1,98 @@
-//! The calls that take memory, by sums, by halves and by chambers. `tests/refusals.sh` refuses the allocations between the line `call` and
-//! the line of the answer.
-use super::*;
-use council_game::Memory;
+//! The calls that take memory, by sums, by halves, by chambers and in part, and their counts, which are those of all subsets.
+//! `tests/refusals.sh` refuses the allocations between the line `call` and the line of the answer.
+ghost use Rattle.council_game.specs.Game.{votes_of};
+ghost use Rattle.council_game.specs.Votes.{minimal_coalitions};
+ghost use Rattle.power_index.specs.Tables.{AreCounts};
+
+use crate::helpers::{game_of_rules, same, say};
+use council_game::{Game, Memory, plain_list};
+use mwc_sums::{count_by_sums, part_by_sums};
+use power_index::Counts;
+use power_index::laws::minimal_coalitions_can_be_counted;
+use std::alloc::Global;
 use std::io::Print;
+use std::process::Abort;
 
-/// Calls it for a game of at most 20 members that it takes.
-fn counts<R: Abort + Print>(rt: &R, alloc: Global, game: &Game) -> Result<(), Fail> {
-    let wanted = by_subsets(rt, alloc, game)?;
-    rt.println("call")?;
-    match count_by_sums(alloc, game) {
-        Ok(Some(counts)) => {
-            rt.println("worked")?;
-            same_counts(rt, &counts, &wanted);
+/// All numbers of two counts are the same.
+fn same_counts(rt: &impl Abort, found: &Counts, wanted: &Counts) {
+    let members = found.members();
+    assert!(rt; members == wanted.members());
+    same(rt, found.wide_total(), wanted.wide_total(), "in all");
+    for size in 0..members + 1 {
+        let (own, other) = (found.wide_of_size(size), wanted.wide_of_size(size));
+        same(rt, own, other, "of a size");
+        for member in 0..members {
+            let own = found.wide_of_member_size(member, size);
+            let other = wanted.wide_of_member_size(member, size);
+            same(rt, own, other, "of a member and a size");
         }
-        Ok(None) => rt.println("not taken")?,
-        Err(_) => rt.println("out of memory")?,
     }
-    Ok(())
 }
 
-#[test]
-fn counts_by_sums(rt: HostRuntime) -> Result<(), Fail> {
-    let alloc = rt.alloc();
-    let game = random_game_of_heads(&rt, alloc, 200, 100, true)?;
-    counts(&rt, alloc, &game)
+/// The counts of the minimal ones of all subsets, of a game of at most 20 members.
+fn by_subsets(rt: &impl Abort, alloc: Global, game: &Game) -> Counts
+    ensures { AreCounts game.now (minimal_coalitions (votes_of game.now)) result }
+{
+    assert!(rt; game.members() <= 20);
+    let list = plain_list(alloc, game).expect(rt, "the list");
+    minimal_coalitions_can_be_counted();
+    Counts::of(game, &list)
 }
 
-#[test]
-fn counts_by_halves(rt: HostRuntime) -> Result<(), Fail> {
-    let alloc = rt.alloc();
-    let game = uneven_game(alloc, 12, 4, false)?;
-    counts(&rt, alloc, &game)
+/// Says what came of a call.
+fn answer<R: Abort + Print>(rt: &R, found: Result<Option<Counts>, Memory>, wanted: &Counts) {
+    match found {
+        Ok(Some(counts)) => {
+            say(rt, "worked");
+            same_counts(rt, &counts, wanted);
+        }
+        Ok(None) => say(rt, "not taken"),
+        Err(_) => say(rt, "out of memory"),
+    }
 }
 
+/// Calls it for the game of rules that have these quotas and weights, at most 20 members.
+fn counts<R: Abort + Print>(rt: &R, alloc: Global, rules: &[(u64, &[u64])]) {
+    let game = game_of_rules(rt, alloc, rules);
+    let wanted = by_subsets(rt, alloc, &game);
+    say(rt, "call");
+    answer(rt, count_by_sums(alloc, &game), &wanted);
+}
+
+/// Ten members, of whom some weigh alike, and five heads, three for each.
 #[test]
-fn counts_by_chambers(rt: HostRuntime) -> Result<(), Fail> {
-    let alloc = rt.alloc();
-    let game = random_game_of_houses(&rt, alloc, 300, 3)?;
-    counts(&rt, alloc, &game)
+fn counts_by_sums(rt: HostRuntime) {
+    let weights = [50, 7, 7, 31, 0, 24, 18, 18, 18, 3];
+    counts(&rt, rt.alloc(), &[(13, &[3; 10]), (90, &weights)]);
+}
+
+/// Twelve members whose weights have nothing in common: sums have no room for these rows.
+#[test]
+fn counts_by_halves(rt: HostRuntime) {
+    let weights = [
+        999_301_778_215,
+        998_744_530_167,
+        995_021_663_902,
+        993_517_845_881,
+        992_030_124_559,
+        991_660_413_017,
+        990_218_327_446,
+        988_906_271_133,
+        987_450_038_764,
+        986_113_902_278,
+        984_927_516_305,
+        983_206_644_890,
+    ];
+    counts(&rt, rt.alloc(), &[(5_446_000_000_000, &weights)]);
+}
+
+/// Houses of four, of three and of two members, and a member without weight.
+#[test]
+fn counts_by_chambers(rt: HostRuntime) {
+    let first = [3, 1, 2, 2, 0, 0, 0, 0, 0, 0];
+    let second = [0, 0, 0, 0, 1, 3, 2, 0, 0, 0];
+    let third = [0, 0, 0, 0, 0, 0, 0, 2, 1, 0];
+    counts(&rt, rt.alloc(), &[(5, &first), (3, &second), (2, &third)]);
 }
 
 /// The counts of a game of which sums count a part, by all subsets of the part that is left.
@@ -52,19 +107,16 @@ fn in_part(rt: &impl Abort, alloc: Global, game: &Game) -> Result<Option<Counts>
     Ok(Some(parts.joined(alloc, game, left)?))
 }
 
+/// A house of five by two rules of weights, one of three, and a member without weight.
 #[test]
-fn counts_in_part(rt: HostRuntime) -> Result<(), Fail> {
+fn counts_in_part(rt: HostRuntime) {
     let alloc = rt.alloc();
-    let game = random_game_in_part(&rt, alloc, 600, 3)?;
-    let wanted = by_subsets(&rt, alloc, &game)?;
-    rt.println("call")?;
-    match in_part(&rt, alloc, &game) {
-        Ok(Some(counts)) => {
-            rt.println("worked")?;
-            same_counts(&rt, &counts, &wanted);
-        }
-        Ok(None) => rt.println("not taken")?,
-        Err(_) => rt.println("out of memory")?,
-    }
-    Ok(())
+    let first = [3, 1, 2, 5, 4, 0, 0, 0, 0];
+    let second = [1, 2, 2, 1, 3, 0, 0, 0, 0];
+    let third = [0, 0, 0, 0, 0, 3, 1, 2, 0];
+    let game = game_of_rules(&rt, alloc, &[(8, &first), (5, &second), (4, &third)]);
+    let wanted = by_subsets(&rt, alloc, &game);
+    say(&rt, "call");
+    let found = in_part(&rt, alloc, &game);
+    answer(&rt, found, &wanted);
 }
