@@ -4,10 +4,9 @@ use Rattle.std.proofs.Common.{ap, arith, inl, inr}
 use native.Mathlib.Numerals.{unary_clauses}
 use Rattle.std.proofs.lemmas.Bool.{cases_lt, cases_eq, eqb-true, eqb-false, eq-eqb, ne_eqb}
 use Rattle.std.proofs.lemmas.Nat.Bits.{bit_at-suc, same_from_bits_below}
-use Rattle.council_game.specs.Votes.{has, without}
+use Rattle.council_game.specs.Votes.{has}
 use Rattle.council_game.specs.Ranks.{member_at}
 use Rattle.council_game.specs.Game.{GameView}
-use Rattle.coalitions.proofs.Shared.Digits.{has-kept, has-gone}
 use Rattle.council_game.proofs.Shared.Making.{RanksAre}
 use Rattle.power_index.specs.Counting.{contains}
 
@@ -95,25 +94,3 @@ module _ (g h : GameView) (long : length g.names ≡ length h.names) (ranks_g : 
       let e = moved-alike c i below ∙ ap (contains h i) same ∙ sym (moved-alike d i below) in
       let back = ranks_g.place_back p lt in
       ap (λ (q : ℕ). has (length g.names) q c) (sym back) ∙ e ∙ ap (λ (q : ℕ). has (length g.names) q d) back))
-
-  -- without a member they are still alike
-  pub alike-without : (c d i : ℕ) → i < length g.names → AreAlike g h c d → contains g i c ≡ true
-      → AreAlike g h (without (length g.names) (get_or g.ranks i 0) c) (without (length h.names) (get_or h.ranks i 0) d)
-  alike-without c d i lt alike inside j below =
-      let below_i : i < length h.names = omega (arith, lt, long) in
-      let below_j : j < length h.names = omega (arith, below, long) in
-      elim (cases_eq j i) [
-        | inl same ↦
-            ap (λ (k : ℕ). contains g k (without (length g.names) (get_or g.ranks i 0) c)) same
-            ∙ has-gone (length g.names) (get_or g.ranks i 0) c inside
-            ∙ sym (has-gone (length h.names) (get_or h.ranks i 0) d (sym (alike i lt) ∙ inside))
-            ∙ sym (ap (λ (k : ℕ). contains h k (without (length h.names) (get_or h.ranks i 0) d)) same)
-        | inr other ↦
-            has-kept (length g.names) (get_or g.ranks j 0) (get_or g.ranks i 0) c (ranks_g.place_below j below) (ranks_g.place_below i lt)
-            (λ e. other (sym (ranks_g.member_back j below) ∙ ap (member_at g.ranks) e ∙ ranks_g.member_back i lt)) inside
-            ∙ alike j below
-            ∙ sym (has-kept (length h.names) (get_or h.ranks j 0) (get_or h.ranks i 0) d (ranks_h.place_below j below_j)
-            (ranks_h.place_below i below_i)
-            (λ e. other (sym (ranks_h.member_back j below_j) ∙ ap (member_at h.ranks) e ∙ ranks_h.member_back i below_i))
-            (sym (alike i lt) ∙ inside))
-      ]

@@ -14,7 +14,7 @@ use Rattle.mwc_sums.specs.Chambers.{paired, minimal_of_size, minimal_of_member_s
 use Rattle.mwc_sums.proofs.Completing.{same_test}
 use Rattle.mwc_sums.proofs.AllSums.{one_if, sum-down, one-of, count-both, one-form, two-form, under, one-sum, two-ways}
 use Rattle.mwc_sums.proofs.Masks.{mask_of, mask-below, mask-has, same-places}
-use Rattle.mwc_sums.proofs.Winning.{met, IsLeast, minimal-least, least-minimal}
+use Rattle.mwc_sums.proofs.Winning.{game-placed, met, IsLeast, minimal-least, least-minimal}
 use Rattle.mwc_sums.proofs.Joining.{IsJoint, flipped-joint, least-half, least-sides, least-apart, least-own, least-union}
 use Rattle.mwc_sums.proofs.Paired.{pairs-of_size}
 
@@ -64,16 +64,16 @@ module _ (g a b : GameView) (is_g : IsGame g) (is_a : IsGame a) (is_b : IsGame b
   other_part c = as_mask b (λ i. contains g i c && other i)
 
   least_a : (x : ℕ) → minimal (votes_of a) x ≡ true → IsLeast (length g.names) (met (length g.names) a.rules) (λ i. contains a i x)
-  least_a x min = subst (λ (n : ℕ). IsLeast n (met n a.rules) (λ i. contains a i x)) la (minimal-least a is_a x min)
+  least_a x min = subst (λ (n : ℕ). IsLeast n (met n a.rules) (λ i. contains a i x)) la (minimal-least a (game-placed a is_a) x min)
 
   least_b : (y : ℕ) → minimal (votes_of b) y ≡ true → IsLeast (length g.names) (met (length g.names) b.rules) (λ i. contains b i y)
-  least_b y min = subst (λ (n : ℕ). IsLeast n (met n b.rules) (λ i. contains b i y)) lb (minimal-least b is_b y min)
+  least_b y min = subst (λ (n : ℕ). IsLeast n (met n b.rules) (λ i. contains b i y)) lb (minimal-least b (game-placed b is_b) y min)
 
   back_a : (x : ℕ) → IsLeast (length g.names) (met (length g.names) a.rules) (λ i. contains a i x) → minimal (votes_of a) x ≡ true
-  back_a x least = least-minimal a is_a x (subst (λ (n : ℕ). IsLeast n (met n a.rules) (λ i. contains a i x)) (sym la) least)
+  back_a x least = least-minimal a (game-placed a is_a) x (subst (λ (n : ℕ). IsLeast n (met n a.rules) (λ i. contains a i x)) (sym la) least)
 
   back_b : (y : ℕ) → IsLeast (length g.names) (met (length g.names) b.rules) (λ i. contains b i y) → minimal (votes_of b) y ≡ true
-  back_b y least = least-minimal b is_b y (subst (λ (n : ℕ). IsLeast n (met n b.rules) (λ i. contains b i y)) (sym lb) least)
+  back_b y least = least-minimal b (game-placed b is_b) y (subst (λ (n : ℕ). IsLeast n (met n b.rules) (λ i. contains b i y)) (sym lb) least)
 
   joined : (x y i : ℕ) → i < length g.names → contains g i (union x y) ≡ (contains a i x || contains b i y)
   unfolding union
@@ -90,7 +90,7 @@ module _ (g a b : GameView) (is_g : IsGame g) (is_a : IsGame a) (is_b : IsGame b
       let e = eqb-true c (union x y) p.0 in
       let members : (i : ℕ) → i < length g.names → contains g i c ≡ (contains a i x || contains b i y) =
       λ i lt. ap (contains g i) e ∙ joined x y i lt in
-      let min = least-minimal g is_g c (least-union (length g.names) own other (met (length g.names) g.rules) (met (length g.names) a.rules)
+      let min = least-minimal g (game-placed g is_g) c (least-union (length g.names) own other (met (length g.names) g.rules) (met (length g.names) a.rules)
       (met (length g.names) b.rules) joint (λ i. contains g i c) (λ i. contains a i x) (λ i. contains b i y) (least_a x q.0) (least_b y q.1) members) in
       let x-is : x ≡ as_mask a (λ i. contains g i c && own i) = mask-is a is_a (λ i. contains g i c && own i) x lx (λ i lt.
       (let li : i < length g.names = omega (arith, lt, la) in
@@ -115,7 +115,7 @@ module _ (g a b : GameView) (is_g : IsGame g) (is_a : IsGame a) (is_b : IsGame b
       let p = and_parts (y == as_mask b (λ i. contains g i c && other i))
       ((x == as_mask a (λ i. contains g i c && own i)) && minimal (votes_of g) c) h in
       let q = and_parts (x == as_mask a (λ i. contains g i c && own i)) (minimal (votes_of g) c) p.1 in
-      let least = minimal-least g is_g c q.1 in
+      let least = minimal-least g (game-placed g is_g) c q.1 in
       let in_x : (i : ℕ) → i < length g.names → contains a i x ≡ (contains g i c && own i) =
       λ i lt. ap (contains a i) (eqb-true _ _ q.0) ∙ mask-contains a is_a (λ i. contains g i c && own i) i (omega (arith, lt, la)) in
       let in_y : (i : ℕ) → i < length g.names → contains b i y ≡ (contains g i c && other i) =
