@@ -23,3 +23,4 @@ mod Seated
 mod SeatCounts
 mod Sharing
 mod Statutes
+mod Tests

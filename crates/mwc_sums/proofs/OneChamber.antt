@@ -12,7 +12,7 @@ use Rattle.council_game.proofs.Shared.GameTests.{rule-is}
 use Rattle.mwc_sums.specs.Heads.{asks_of_those, gives_each}
 use Rattle.mwc_sums.specs.Inner.Seats.{AsksOfThose}
 use Rattle.mwc_sums.proofs.AlikeRules.{alike-sum}
-use Rattle.mwc_sums.proofs.Sharing.{all-at}
+use Rattle.mwc_sums.proofs.Tests.{all-at}
 use Rattle.mwc_sums.proofs.Winning.{game-placed, ranked-weight}
 
 -- a member with some weight
@@ -70,10 +70,6 @@ module _ (g : GameView) (is : IsGame g) (votes : IsVotes (votes_of g)) where
       by_number zero is_h none idle = ap (λ (k : ℕ). get_or (rule_at g.rules k).weights i 0) (sym is_h) ∙ none
       by_number (suc k) is_h none idle =
           ap (λ (k : ℕ). get_or (rule_at g.rules k).weights i 0) (let e : 0 ≡ w = omega (arith, both, is_h) in e) ∙ idle
-
-  pub top-some : (h w i : ℕ) → length g.rules ≡ 2 → h + w ≡ 1 → i < length g.names → get_or g.ranks i 0 ≡ 0
-      → AsksOfThose (length g.names) (rule_at g.rules h) (rule_at g.rules w) → 0 < get_or (rule_at g.rules h).weights i 0
-  top-some h w i two both inside first asks = let e = top h w i two both inside first asks in let pos = asks.1 in omega (arith, e, pos)
 
 -- a rule that asks for heads: how much it gives to each
 pub those_are : (n : ℕ) (h r : RuleView) → asks_of_those n h r ≡ true → AsksOfThose n h r

@@ -26,7 +26,7 @@ use Rattle.mwc_sums.specs.Chambers.{met, weighs}
 use Rattle.mwc_sums.specs.Inner.Rules.{AreRulesOf}
 use Rattle.mwc_sums.specs.Orders.{HaveTheSameRules}
 use Rattle.mwc_sums.proofs.Completing.{same_test}
-use Rattle.mwc_sums.proofs.Masks.{AreAlike, moved, moved-below, moved-alike, moved-apart}
+use Rattle.mwc_sums.proofs.Masks.{AreAlike, as_mask, mask-contains, mask-less, same-members}
 use Rattle.mwc_sums.proofs.Winning.{IsPlaced, game-placed, less, less-alike, met-same, minimal-least, least-minimal, size-by_member}
 
 -- ---- lists of coalitions
@@ -99,6 +99,10 @@ alike-flipped : (g h : GameView) (c d : ℕ) → length h.names ≡ length g.nam
 alike-flipped g h c d long alike i lt = sym (alike i (omega (arith, lt, long)))
 
 -- ---- as many pass a test in one game as in the other
+-- the coalition of another game with the same members
+abbrev moved : GameView → GameView → ℕ → ℕ
+moved g h c = as_mask h (λ i. contains g i c)
+
 count-le : (g h : GameView) → IsPlaced g → IsPlaced h → AreRulesOf g (length h.names) h.rules → (s t : ℕ → Bool) → ((c d : ℕ) → AreAlike g h c d → s c ≡ t d)
     → length (filter s (minimal_coalitions (votes_of g))) ≤ length (filter t (minimal_coalitions (votes_of h)))
 count-le g h is_g is_h same s t tests =
@@ -108,6 +112,9 @@ count-le g h is_g is_h same s t tests =
   where
     own : List ℕ
     own = filter s (minimal_coalitions (votes_of g))
+
+    alike : (c : ℕ) → AreAlike g h c (moved g h c)
+    alike c i lt = sym (mask-contains h is_h.ranks (λ i. contains g i c) i (let long = same.members in omega (arith, lt, long)))
 
     listing : IsListing (votes_of g)
     listing = listing-is (votes_of g) is_g.votes
@@ -127,8 +134,8 @@ count-le g h is_g is_h same s t tests =
         let at_j : get_or (map (moved g h) own) j d ≡ moved g h (get_or own j 0) = get_or-map (moved g h) own j 0 d lj in
         let lower = falls i j 0 less lj in
         ne_eqb _ _ (λ e.
-        (let one = moved-apart g h (sym same.members) is_g.ranks is_h.ranks (get_or own i 0) (get_or own j 0) (below i 0 li)
-        (below j 0 lj) (sym at_i ∙ e ∙ at_j) in
+        (let one = same-members g is_g.ranks (get_or own i 0) (get_or own j 0) (below i 0 li) (below j 0 lj) (λ m lm.
+        alike (get_or own i 0) m lm ∙ ap (contains h m) (sym at_i ∙ e ∙ at_j) ∙ sym (alike (get_or own j 0) m lm)) in
         omega (arith, one, lower)))))
 
     there : (q : ℕ) → is_member eqb (map (moved g h) (filter s (minimal_coalitions (votes_of g)))) q ≡ true
@@ -136,13 +143,12 @@ count-le g h is_g is_h same s t tests =
     there q in' =
         let found = is-member-map (moved g h) own q in' in
         let c : ℕ = get_or own found.0 0 in
-        let alike = moved-alike g h (sym same.members) is_g.ranks is_h.ranks c in
         let passes : s c ≡ true = filter_passes s (minimal_coalitions (votes_of g)) found.0 0 found.1 in
         let min : minimal (votes_of g) c ≡ true = All-filter s (λ c. minimal (votes_of g) c ≡ true) (minimal_coalitions (votes_of g))
         (listed-passes (votes_of g)) found.0 0 found.1 in
         ap (is_member eqb (filter t (minimal_coalitions (votes_of h)))) found.2
-        ∙ member-listed (votes_of h) t (moved g h c) (moved-below g h (sym same.members) is_g.ranks is_h.ranks c)
-        (alike-minimal g h is_g is_h same c (moved g h c) alike min) (sym (tests c (moved g h c) alike) ∙ passes)
+        ∙ member-listed (votes_of h) t (moved g h c) (mask-less h (λ i. contains g i c))
+        (alike-minimal g h is_g is_h same c (moved g h c) (alike c) min) (sym (tests c (moved g h c) (alike c)) ∙ passes)
 
 pub count-same : (g h : GameView) → IsPlaced g → IsPlaced h → AreRulesOf g (length h.names) h.rules → (s t : ℕ → Bool) → ((c d : ℕ) → AreAlike g h c d → s c ≡ t d)
     → length (filter s (minimal_coalitions (votes_of g))) ≡ length (filter t (minimal_coalitions (votes_of h)))

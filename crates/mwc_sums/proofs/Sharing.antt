@@ -1,18 +1,14 @@
 -- The rules that share a member with one, and the others.
 use Rattle.std.proofs.Common.{◌≡◌, ◌∙◌, ◌&&◌, ◌||◌, not, ◌⊎◌, ℕ, zero, suc, ◌*◌, ◌+◌, ◌<◌, ◌≤◌, ◌==◌, Bool, true, false, cond, leb, ltb, List, [], ◌∷◌}
 use Rattle.std.proofs.Common.{length, get_or, filter, take, sym, ap, refl, arith, inl, inr, All}
-use Rattle.std.specs.List.{list_all, list_any, range_with_len}
 use Rattle.std.proofs.lemmas.Bool.{cases_Bool, cases_eq, cases_lt, and_parts, and_from, lt-ltb, ltb-true, both_ways, eqb-true, false_from_ne_true, false≢true}
 use Rattle.std.proofs.lemmas.Bool.{not-true, not_from_false, or_cases, or_left, or_right, true_from_ne_false}
 use Rattle.std.proofs.Math.Bool.{and-true, and_assoc, and_comm}
-use Rattle.std.proofs.lemmas.List.FromFn.{length-range_with_len}
 use Rattle.std.proofs.lemmas.List.Filters.{length-filter_both}
-use Rattle.std.proofs.lemmas.List.Folds.{list_all_at, list_any_at, list_any_none}
 use Rattle.std.proofs.lemmas.List.Sums.{AllPass-from_list_all, list_all-from_AllPass}
 use Rattle.std.proofs.lemmas.List.Elements.{All-filter, All-from_get_or, All-head, All-tail, All-take, filter_passes}
 use Rattle.council_game.specs.Votes.{RuleView, rule_at}
 use Rattle.council_game.specs.Game.{GameView}
-use Rattle.council_game.proofs.Shared.Rankings.{places-at}
 use Rattle.mwc_sums.specs.Chambers.{weighs, met, share, chamber_of, HasNoWeight, AreChambersOf}
 use Rattle.mwc_sums.specs.Heads.{are_of_one_chamber}
 use Rattle.mwc_sums.specs.Statute.{is_counted}
@@ -20,31 +16,7 @@ use Rattle.mwc_sums.specs.Inner.Fair.{IsFair}
 use Rattle.mwc_sums.specs.Inner.Rules.{AreOfChambers, AreRulesOf}
 use Rattle.mwc_sums.proofs.AlikeRules.{alike-sum}
 use Rattle.mwc_sums.proofs.VetoRules.{good-met, good-some}
-use Rattle.mwc_sums.proofs.Vetoing.{missing}
-
--- ---- tests of the members of a game
-pub any-at : (t : ℕ → Bool) (n i : ℕ) → i < n → t i ≡ true → list_any t (range_with_len 0 n) ≡ true
-any-at t n i lt passes =
-    let long = length-range_with_len 0 n in
-    list_any_at t (range_with_len 0 n) i 0 (omega (arith, long, lt)) (ap t (places-at n i 0 lt) ∙ passes)
-
-pub any-none : (t : ℕ → Bool) (n : ℕ) → ((i : ℕ) → i < n → t i ≡ false) → list_any t (range_with_len 0 n) ≡ false
-any-none t n none = list_any_none t (range_with_len 0 n) (λ k d below.
-    (let lt : k < n = (let long = length-range_with_len 0 n in omega (arith, long, below)) in ap t (places-at n k d lt) ∙ none k lt))
-
-pub all-lost : (t : ℕ → Bool) (n i : ℕ) → i < n → t i ≡ false → list_all t (range_with_len 0 n) ≡ false
-all-lost t n i lt fails =
-    let long = length-range_with_len 0 n in
-    list_all_at t (range_with_len 0 n) i 0 (omega (arith, long, lt)) (ap t (places-at n i 0 lt) ∙ fails)
-
-pub all-each : (t : ℕ → Bool) (n : ℕ) → ((i : ℕ) → i < n → t i ≡ true) → list_all t (range_with_len 0 n) ≡ true
-all-each t n each = list_all-from_AllPass t (range_with_len 0 n) (λ k d below.
-    (let lt : k < n = (let long = length-range_with_len 0 n in omega (arith, long, below)) in ap t (places-at n k d lt) ∙ each k lt))
-
-pub all-at : (t : ℕ → Bool) (n i : ℕ) → i < n → list_all t (range_with_len 0 n) ≡ true → t i ≡ true
-all-at t n i lt all =
-    let long = length-range_with_len 0 n in
-    sym (ap t (places-at n i 0 lt)) ∙ AllPass-from_list_all t (range_with_len 0 n) all i 0 (omega (arith, long, lt))
+use Rattle.mwc_sums.proofs.Tests.{any-at, any-none, missing}
 
 -- ---- who has weight in two rules
 pub share-at : (n i : ℕ) (a b : RuleView) → i < n → 0 < get_or a.weights i 0 → 0 < get_or b.weights i 0 → share n a b ≡ true

@@ -1,8 +1,8 @@
 -- Where all members that can veto agree, the rules ask the others for what is left.
-use Rattle.std.proofs.Common.{◌≡◌, ◌∙◌, ◌&&◌, ◌⊎◌, ℕ, zero, suc, ◌+◌, ◌-◌, ◌*◌, ◌<◌, ◌≤◌, Bool, true, false, cond, leb, ltb}
+use Rattle.std.proofs.Common.{◌≡◌, ◌∙◌, ◌&&◌, ℕ, zero, suc, ◌+◌, ◌-◌, ◌*◌, ◌<◌, ◌≤◌, Bool, true, false, cond, leb, ltb}
 use Rattle.std.proofs.Common.{List, [], ◌∷◌, length, get_or, map, filter, sym, ap, refl, arith, inl, inr, All}
 use Rattle.std.specs.List.{sum, sum_by, range_with_len}
-use Rattle.std.proofs.lemmas.Bool.{cases_lt, cases_Bool, or_cases, and_right, le-leb, leb-true, lt-leb, lt-ltb, le-ltb, ltb-true}
+use Rattle.std.proofs.lemmas.Bool.{cases_lt, or_cases, and_right, le-leb, leb-true, lt-leb, lt-ltb, le-ltb, ltb-true}
 use Rattle.std.proofs.lemmas.List.FromFn.{fill_by_all, get_or-map-range_with_len}
 use Rattle.std.proofs.lemmas.List.Folds.{fold-map}
 use Rattle.std.proofs.lemmas.List.Elements.{All-head, All-tail}
@@ -13,6 +13,7 @@ use Rattle.mwc_sums.specs.Chambers.{weighs, met}
 use Rattle.mwc_sums.specs.Statute.{rules_beside}
 use Rattle.mwc_sums.specs.Vetoers.{can_veto, number_of, rest_of, rule_for}
 use Rattle.mwc_sums.proofs.Completing.{same_test}
+use Rattle.mwc_sums.proofs.Tests.{missing}
 
 -- a row of weights adds up over its places
 pub row-sum : (ws : List ℕ) (n : ℕ) → length ws ≡ n → sum ws ≡ sum_by (λ i. get_or ws i 0) (range_with_len 0 n)
@@ -64,30 +65,6 @@ beside f w (suc n) i lt out =
   where
     nothing : (x : ℕ) → cond false 1 0 * x ≡ 0
     nothing x = omega arith
-
--- either one who passes the first test fails the second, or none does
-pub missing : (veto f : ℕ → Bool) (n : ℕ)
-    → ((i : ℕ) × (i < n) × (veto i ≡ true) × (f i ≡ false)) ⊎ ((i : ℕ) → i < n → veto i ≡ true → f i ≡ true)
-missing veto f zero = inr (λ i lt. absurd (omega (arith, lt)))
-missing veto f (suc n) = elim (missing veto f n) [
-  | inl found ↦ inl (found.0, (let lt = found.1 in omega (arith, lt)), found.2, found.3)
-  | inr all ↦ elim (cases_Bool (f n)) [
-    | inl there ↦ inr (λ i lt in'. elim (cases_lt i n) [
-      | inl less ↦ all i less in'
-      | inr last ↦ ap f (omega (arith, lt, last)) ∙ there
-    ])
-    | inr none ↦ elim (cases_Bool (veto n)) [
-      | inl vetoes ↦ inl (n, omega arith, vetoes, none)
-      | inr not ↦ inr (λ i lt in'. elim (cases_lt i n) [
-        | inl less ↦ all i less in'
-        | inr last ↦ absurd (let here : i ≡ n = omega (arith, lt, last) in differs (veto n) (ap veto (sym here) ∙ in') not)
-      ])
-    ]
-  ]
-]
-  where
-    differs : (b : Bool) → b ≡ true → b ≡ false → ⊥
-    differs b is not = cc
 
 module _ (n : ℕ) (veto f : ℕ → Bool) where
   -- ---- the rule that asks for each

@@ -1,7 +1,7 @@
 use Rattle.std.proofs.Common.{ℕ, get_or, sym, ap, ◌∙◌, arith}
 use Rattle.council_game.specs.Votes.{rule_at}
 use Rattle.mwc_sums.specs.Heads.{gives_each}
-use Rattle.mwc_sums.proofs.Sharing.{any-at, any-none}
+use Rattle.mwc_sums.proofs.Tests.{any-at, any-none}
 use Rattle.mwc_sums.proofs.statute.Statute.asks_of_those.Goals as goal
 
 pub returns : goal.returns

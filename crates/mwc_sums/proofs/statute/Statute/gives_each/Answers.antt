@@ -2,7 +2,7 @@ use Rattle.std.proofs.Common.{◌≡◌, ◌∙◌, ◌==◌, ◌&&◌, ◌||◌
 use Rattle.std.specs.List.{list_all, range_with_len}
 use Rattle.std.proofs.lemmas.Bool.{and_from, and_left, and_right, lt-ltb, ne_eqb}
 use Rattle.council_game.specs.Votes.{rule_at}
-use Rattle.mwc_sums.proofs.Sharing.{all-each, all-lost}
+use Rattle.mwc_sums.proofs.Tests.{all-each, all-lost}
 use Rattle.mwc_sums.proofs.statute.Statute.gives_each.Goals as goal
 use Rattle.mwc_sums.proofs.statute.Statute.gives_each.Goals.{then-own-eq0, else-own-eq0}
 

@@ -1,6 +1,7 @@
 use Rattle.std.proofs.Common.{◌&&◌, ltb, get_or, sym, arith}
 use Rattle.council_game.specs.Votes.{rule_at}
-use Rattle.mwc_sums.proofs.Sharing.{any-none, share-at}
+use Rattle.mwc_sums.proofs.Sharing.{share-at}
+use Rattle.mwc_sums.proofs.Tests.{any-none}
 use Rattle.mwc_sums.proofs.statute.Statute.share.Goals as goal
 
 pub returns-then-weight-gt0-2 : goal.returns-then-weight-gt0-2
