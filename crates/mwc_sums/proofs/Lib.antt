@@ -24,3 +24,4 @@ mod SeatCounts
 mod Sharing
 mod Statutes
 mod Tests
+mod Filters

@@ -6,7 +6,7 @@ use Rattle.std.proofs.lemmas.Bool.{not-true, not_from_false, or_cases, or_left, 
 use Rattle.std.proofs.Math.Bool.{and-true, and_assoc, and_comm}
 use Rattle.std.proofs.lemmas.List.Filters.{length-filter_both}
 use Rattle.std.proofs.lemmas.List.Sums.{AllPass-from_list_all, list_all-from_AllPass}
-use Rattle.std.proofs.lemmas.List.Elements.{All-filter, All-from_get_or, All-head, All-tail, All-take, filter_passes}
+use Rattle.std.proofs.lemmas.List.Elements.{All-filter, All-from_get_or, All-take, filter_passes}
 use Rattle.council_game.specs.Votes.{RuleView, rule_at}
 use Rattle.council_game.specs.Game.{GameView}
 use Rattle.mwc_sums.specs.Chambers.{weighs, met, share, chamber_of, HasNoWeight, AreChambersOf}
@@ -16,6 +16,7 @@ use Rattle.mwc_sums.specs.Inner.Fair.{IsFair}
 use Rattle.mwc_sums.specs.Inner.Rules.{AreOfChambers, AreRulesOf}
 use Rattle.mwc_sums.proofs.AlikeRules.{alike-sum}
 use Rattle.mwc_sums.proofs.VetoRules.{good-met, good-some}
+use Rattle.mwc_sums.proofs.Filters.{filter-both, filter-within}
 use Rattle.mwc_sums.proofs.Tests.{any-at, any-none, missing}
 
 -- ---- who has weight in two rules
@@ -54,19 +55,6 @@ share-self n r fair = elim (missing (λ i. ltb 0 (get_or r.weights i 0)) (λ i. 
 ]
 
 -- ---- lists
--- of the rules that pass one test, those that pass another, where these pass the first
-filter-within : {X : Type 0} (p q : X → Bool) (xs : List X) → All (λ y. q y ≡ true → p y ≡ true) xs → filter q (filter p xs) ≡ filter q xs
-filter-within p q [] all = refl
-filter-within p q (x ∷ xs) all =
-    let rest = filter-within p q xs (All-tail (λ y. q y ≡ true → p y ≡ true) x xs all) in
-    elim (cases_Bool (q x)) [
-      | inl is_q ↦ rw (All-head (λ y. q y ≡ true → p y ≡ true) x xs all is_q, is_q, rest) refl
-      | inr not_q ↦ elim (cases_Bool (p x)) [
-        | inl is_p ↦ rw (is_p, not_q, rest) refl
-        | inr not_p ↦ rw (not_p, not_q, rest) refl
-      ]
-    ]
-
 -- what passes a test stands among what passes it
 in-filter : {X : Type 0} (p : X → Bool) (xs : List X) (j : ℕ) (d : X) → j < length xs → p (get_or xs j d) ≡ true
     → 0 < length (filter p xs)
@@ -103,13 +91,6 @@ two-pass p (x ∷ xs) (suc j) (suc k) d less lt pj pk =
     more : (b : Bool) → 2 ≤ length (filter p xs) → 2 ≤ length (cond b (x ∷ filter p xs) (filter p xs))
     more true two = omega (arith, two)
     more false two = two
-
-filter-both : {X : Type 0} (p q : X → Bool) (xs : List X) → filter q (filter p xs) ≡ filter (λ x. p x && q x) xs
-filter-both p q [] = refl
-filter-both p q (x ∷ xs) = elim (cases_Bool (p x)) [
-  | inl is ↦ rw (is, filter-both p q xs) refl
-  | inr out ↦ rw (out, filter-both p q xs) refl
-]
 
 -- what holds of each that passes
 all-passing : (P : RuleView → Type 0) (p : RuleView → Bool) (rs : List RuleView)

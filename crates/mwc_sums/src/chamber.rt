@@ -11,7 +11,8 @@ impl Statute {
     fn gives_each(&self, each: u64, heads: usize, weights: usize) -> bool
         requires heads { heads < length self.now.rules }
         requires weights { weights < length self.now.rules }
-        ensures { result ≡ gives_each self.now.members each (rule_at self.now.rules heads) (rule_at self.now.rules weights) }
+        ensures { result ≡ gives_each self.now.members each
+            (rule_at self.now.rules heads) (rule_at self.now.rules weights) }
     {
         if each == 0 {
             return false;
@@ -29,7 +30,8 @@ impl Statute {
     fn asks_of_those(&self, heads: usize, weights: usize) -> bool
         requires heads { heads < length self.now.rules }
         requires weights { weights < length self.now.rules }
-        ensures { result ≡ asks_of_those self.now.members (rule_at self.now.rules heads) (rule_at self.now.rules weights) }
+        ensures { result ≡ asks_of_those self.now.members
+            (rule_at self.now.rules heads) (rule_at self.now.rules weights) }
     {
         for member in 0..self.members() {
             if self.gives_each(self.weight(heads, member), heads, weights) {

@@ -18,7 +18,8 @@ impl Statute {
     /// Whether the rules that share a member with one are each of one chamber.
     pub(crate) fn is_counted(&self, alloc: Global, rule: usize) -> Result<bool, Memory>
         requires { rule < length self.now.rules }
-        ensures { IfOk result (λ is. is ≡ is_counted self.now.members self.now.rules (rule_at self.now.rules rule)) }
+        ensures { IfOk result (λ is. is
+            ≡ is_counted self.now.members self.now.rules (rule_at self.now.rules rule)) }
     {
         for other in 0..self.rules() {
             if self.share(rule, other) && self.beside(alloc, other, true)?.seats().is_none() {

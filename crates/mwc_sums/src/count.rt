@@ -34,10 +34,10 @@ fn unboxed(counts: Option<Box<Counts>>) -> Option<Counts>
     }
 }
 
-/// The counts of all minimal winning coalitions of a game of one chamber, or of several that share no member, and of a game of
-/// which such chambers are left where all members agree who can veto. A chamber is one rule, or two of which one gives the same
-/// weight to some members, among them each with weight in the other, and none to others. Whatever the weights are, no coalition
-/// is listed. None for any other game: `part_by_sums` counts what it can of it. Up to 64 MB.
+/// The counts of all minimal winning coalitions of a game that consists of chambers that share no member, as what its rules ask
+/// of the members that can not veto, where all others agree. A chamber is one rule, or two of which one gives the same weight to
+/// some members, among them each with weight in the other, and none to others. Whatever the weights are, no coalition is listed.
+/// None for any other game: `part_by_sums` counts what it can of it. Up to 64 MB.
 ///
 /// # Errors
 ///

@@ -90,7 +90,8 @@ impl Statute {
     pub(crate) fn share(&self, first: usize, second: usize) -> bool
         requires first { first < length self.now.rules }
         requires second { second < length self.now.rules }
-        ensures { result ≡ share self.now.members (rule_at self.now.rules first) (rule_at self.now.rules second) }
+        ensures { result ≡ share self.now.members
+            (rule_at self.now.rules first) (rule_at self.now.rules second) }
     {
         for member in 0..self.members() {
             if self.weight(first, member) > 0 && self.weight(second, member) > 0 {
