@@ -1,11 +1,12 @@
 -- Sums over all coalitions of so many members.
-use Rattle.std.proofs.Common.{◌≡◌, ◌∙◌, ◌==◌, ◌&&◌, ◌||◌, ℕ, zero, suc, ◌+◌, ◌*◌, ◌<◌, ◌≤◌, Bool, true, false, cond, List, length}
+use Rattle.std.proofs.Common.{◌≡◌, ◌∙◌, ◌==◌, ◌&&◌, ◌||◌, ℕ, zero, suc, ◌+◌, ◌<◌, ◌≤◌, Bool, true, false, cond, List, length}
 use Rattle.std.proofs.Common.{filter, ap, refl, arith, inl, inr}
 use Rattle.std.specs.List.{sum_by}
 use Rattle.std.proofs.lemmas.Bool.{cases_eq, eq-eqb, ne_eqb}
 use Rattle.std.proofs.lemmas.List.Sums.{sum_by-cons, length-filter}
 use Rattle.council_game.specs.Votes.{down}
-use Rattle.power_index.proofs.Shared.Sums.{sum-zero, sum-filter}
+use Rattle.power_index.proofs.Shared.Sums.{sum-zero}
+use Rattle.mwc_sums.proofs.Filters.{filter-both}
 
 abbrev pub one_if : Bool → ℕ
 one_if b = cond b 1 0
@@ -36,14 +37,8 @@ one-of f u (suc n) lt = elim (cases_eq n u) [
       omega (arith, sum_by-cons (λ x. cond (x == u) (f x) 0) n (down n), head, rest)
 ]
 
-pub one-and : (b d : Bool) → one_if b * one_if d ≡ one_if (b && d)
-one-and true true = refl
-one-and true false = refl
-one-and false d = omega arith
-
 pub count-both : (m t : ℕ → Bool) (xs : List ℕ) → length (filter t (filter m xs)) ≡ sum_by (λ c. one_if (m c && t c)) xs
-count-both m t xs =
-    length-filter t (filter m xs) ∙ sum-filter (λ c. one_if (t c)) m xs ∙ (λ k. sum_by (λ c. one-and (m c) (t c) k) xs)
+count-both m t xs = ap (λ (l : List ℕ). length l) (filter-both m t xs) ∙ length-filter (λ c. m c && t c) xs
 
 pub one-form : (e m t : Bool) → cond e (one_if (m && t)) 0 ≡ one_if ((e && m) && t)
 one-form true m t = refl

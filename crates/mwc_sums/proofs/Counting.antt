@@ -1,15 +1,15 @@
 -- How many coalitions pass a test.
-use Rattle.std.proofs.Common.{◌≡◌, ◌∙◌, ℕ, zero, suc, ◌+◌, ◌*◌, ◌^◌, ◌<◌, ◌≤◌, ◌&&◌, Bool, true, false, cond, List, [], ◌∷◌}
-use Rattle.std.proofs.Common.{length, map, filter, sym, ap, refl, arith, count_ones, length-append}
+use Rattle.std.proofs.Common.{◌≡◌, ◌∙◌, ℕ, zero, suc, ◌+◌, ◌*◌, ◌^◌, ◌<◌, ◌≤◌, ◌&&◌, Bool, true, false, cond, List}
+use Rattle.std.proofs.Common.{length, get_or, map, filter, sym, ap, arith, count_ones, length-append}
 use Rattle.std.specs.List.{All}
 use Rattle.std.specs.Int.Count.{ones-ones}
-use Rattle.std.proofs.lemmas.Bool.{cond-false}
 use Rattle.std.proofs.lemmas.List.{length-map}
-use Rattle.std.proofs.lemmas.List.Elements.{filter-append, All-nil, All-cons, All-head, All-tail}
+use Rattle.std.proofs.lemmas.List.Elements.{filter-append, All-nil, All-cons}
 use Rattle.std.proofs.lemmas.Nat.{ones_cat}
-use Rattle.std.proofs.Math.Bool.{and-true}
+use Rattle.std.proofs.Math.Bool.{and-true, and-false}
 use Rattle.council_game.specs.Votes.{size, down}
 use Rattle.coalitions.proofs.Shared.Sizes.{size-ones}
+use Rattle.mwc_sums.proofs.Filters.{filter-both, filter-none, filter-same}
 use Rattle.mwc_sums.proofs.Completing.{double-pow, down-two, filter-map}
 
 -- ---- sizes
@@ -35,23 +35,10 @@ abbrev pub count : (ℕ → Bool) → List ℕ → ℕ
 count q xs = length (filter q xs)
 
 pub count-same : (p q : ℕ → Bool) (b : ℕ) (xs : List ℕ) → All (λ c. c < b) xs → ((c : ℕ) → c < b → p c ≡ q c) → count p xs ≡ count q xs
-count-same p q b [] all same = refl
-count-same p q b (x ∷ xs) all same =
-    let rest = count-same p q b xs (All-tail (λ c. c < b) x xs all) same in
-    kept (p x) (q x) (same x (All-head (λ c. c < b) x xs all)) rest
-  where
-    kept : (s t : Bool) → s ≡ t → count p xs ≡ count q xs → length (cond s (x ∷ filter p xs) (filter p xs)) ≡ length
-        (cond t (x ∷ filter q xs) (filter q xs))
-    kept true true e h = ap (λ (k : ℕ). suc k) h
-    kept false false e h = h
-    kept true false e h = cc
-    kept false true e h = cc
+count-same p q b xs all same = ap (λ (l : List ℕ). length l) (filter-same p q xs (λ k d lt. same (get_or xs k d) (all k d lt)))
 
 pub count-none : (p : ℕ → Bool) (b : ℕ) (xs : List ℕ) → All (λ c. c < b) xs → ((c : ℕ) → c < b → p c ≡ false) → count p xs ≡ 0
-count-none p b [] all fails = refl
-count-none p b (x ∷ xs) all fails =
-    ap (λ (l : List ℕ). length l) (cond-false (p x) (x ∷ filter p xs) (filter p xs) (fails x (All-head (λ c. c < b) x xs all)))
-    ∙ count-none p b xs (All-tail (λ c. c < b) x xs all) fails
+count-none p b xs all fails = count-same p (λ c. false) b xs all fails ∙ ap (λ (l : List ℕ). length l) (filter-none xs)
 
 -- a count over all coalitions, by their first member
 pub count-two : (q : ℕ → Bool) (n : ℕ) → count q (down (2 ^ suc n)) ≡ count (λ c. q (2 ^ n + c)) (down (2 ^ n)) + count q (down (2 ^ n))
@@ -64,32 +51,10 @@ count-two q n =
     let same = length-map (filter (λ c. q (h + c)) (down h)) (λ c. h + c) in
     omega (arith, split, both, long, mapped, same)
 
-count-cons : (q : ℕ → Bool) (x : ℕ) (xs : List ℕ) → count q (x ∷ xs) ≡ cond (q x) 1 0 + count q xs
-count-cons q x xs = kept (q x)
-  where
-    kept : (b : Bool) → length (cond b (x ∷ filter q xs) (filter q xs)) ≡ cond b 1 0 + count q xs
-    kept true = omega arith
-    kept false = omega arith
-
 pub count-filter : (q p : ℕ → Bool) (xs : List ℕ) → count q (filter p xs) ≡ count (λ c. p c && q c) xs
-count-filter q p [] = refl
-count-filter q p (x ∷ xs) = kept (p x) (count-filter q p xs) ∙ sym (count-cons (λ c. p c && q c) x xs)
-  where
-    kept : (b : Bool) → count q (filter p xs) ≡ count (λ c. p c && q c) xs
-        → count q (cond b (x ∷ filter p xs) (filter p xs)) ≡ cond (b && q x) 1 0 + count (λ c. p c && q c) xs
-    kept true h = count-cons q x (filter p xs) ∙ ap (λ (k : ℕ). cond (q x) 1 0 + k) h
-    kept false h = h ∙ omega arith
+count-filter q p xs = ap (λ (l : List ℕ). length l) (filter-both p q xs)
 
 -- a condition that no coalition changes
 pub count-and : (q : ℕ → Bool) (b : Bool) (xs : List ℕ) → count (λ c. q c && b) xs ≡ cond b 1 0 * count q xs
 count-and q true xs = (λ i. count (λ c. and-true (q c) i) xs) ∙ omega arith
-count-and q false xs = none xs ∙ omega arith
-  where
-    none : (xs : List ℕ) → count (λ c. q c && false) xs ≡ 0
-    none [] = refl
-    none (x ∷ xs) = by_test (q x) ∙ none xs
-      where
-        by_test : (b : Bool) → length (cond (b && false) (x ∷ filter (λ c. q c && false) xs) (filter (λ c. q c && false) xs))
-            ≡ count (λ c. q c && false) xs
-        by_test true = refl
-        by_test false = refl
+count-and q false xs = (λ i. count (λ c. and-false (q c) i) xs) ∙ ap (λ (l : List ℕ). length l) (filter-none xs) ∙ omega arith

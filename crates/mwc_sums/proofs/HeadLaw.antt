@@ -63,13 +63,6 @@ module _ (v : Votes) (r s : RuleView) (heads c : ℕ) (two : v.rules ≡ r ∷ s
       heads-weigh s.weights asks.each c (λ p lt. asks.same p (omega (arith, lt, e))) below' ∙ ap (λ (n : ℕ). size n c * asks.each) e
 
   -- without a place
-  first-less : (p : ℕ) → p < v.members → has v.members p c ≡ true
-      → weight r.weights (without v.members p c) + get_or r.weights p 0 ≡ weight r.weights c
-  unfolding has without
-  first-less p lt inside =
-      let e = rule-one.full in
-      rw e at (weight-without r.weights p c (omega (arith, lt, e)) (rw e (eqb-true _ _ inside)))
-
   second-less : (p : ℕ) → p < v.members → has v.members p c ≡ true
       → weight s.weights (without v.members p c) + asks.each ≡ size v.members c * asks.each
   unfolding has without

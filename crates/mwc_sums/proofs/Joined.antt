@@ -11,7 +11,7 @@ use Rattle.power_index.proofs.Shared.Members.{size-le}
 use Rattle.power_index.proofs.Shared.Minimal.{minimal-few}
 use Rattle.power_index.proofs.Shared.Sums.{sum-range, length-filter-le}
 use Rattle.mwc_sums.specs.Chambers.{AreChambersOf, paired, minimal_of_size, minimal_of_member_size}
-use Rattle.mwc_sums.proofs.Paired.{filter-none}
+use Rattle.mwc_sums.proofs.Filters.{filter-none}
 use Rattle.mwc_sums.proofs.Apart.{chamber-sizes, chamber-members}
 
 -- a number of a sum, with what is before it

@@ -1,6 +1,7 @@
 -- Sets that win where they win under two conditions, each of which sees members of its own.
 use Rattle.std.proofs.Common.{◌≡◌, ◌∙◌, ◌&&◌, ◌||◌, ℕ, ◌<◌, Bool, true, false, sym, ap, refl, inl, inr}
 use Rattle.std.proofs.lemmas.Bool.{cases_Bool, and_parts, and_from, and_left, and_right, or_cases, or_left, or_right, both_ways, true_from_ne_false}
+use Rattle.std.proofs.Math.Bool.{and_comm}
 use Rattle.mwc_sums.proofs.Winning.{less, IsLeast, less-same, less-alike}
 
 -- a test of sets sees these members alone
@@ -14,12 +15,6 @@ pub record IsJoint (n : ℕ) (own other : ℕ → Bool) (won_g won_a won_b : (�
   pub sees_other : Sees n other won_b
   pub apart : (i : ℕ) → i < n → own i ≡ true → other i ≡ false
 
-and-swapped : (x y : Bool) → (x && y) ≡ (y && x)
-and-swapped true true = refl
-and-swapped true false = refl
-and-swapped false true = refl
-and-swapped false false = refl
-
 other-half : (x y : Bool) → (x && y) ≡ false → y ≡ true → x ≡ false
 other-half true true h won = h
 other-half false true h won = refl
@@ -28,7 +23,7 @@ other-half x false h won = absurd (cc)
 pub flipped-joint : (n : ℕ) (own other : ℕ → Bool) (won_g won_a won_b : (ℕ → Bool) → Bool) → IsJoint n own other won_g won_a won_b
     → IsJoint n other own won_g won_b won_a
 flipped-joint n own other won_g won_a won_b joint = record {
-  both = λ f. joint.both f ∙ and-swapped (won_a f) (won_b f);
+  both = λ f. joint.both f ∙ and_comm (won_a f) (won_b f);
   sees_own = joint.sees_other;
   sees_other = joint.sees_own;
   apart = λ i lt seen. elim (cases_Bool (own i)) [

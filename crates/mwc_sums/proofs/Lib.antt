@@ -18,9 +18,10 @@ mod Remaking
 mod Joined
 mod Vetoing
 mod VetoRules
-mod OneChamber
+pub mod OneChamber
 mod Seated
 mod SeatCounts
 mod Sharing
-mod Dividing
-mod Parting
+mod Statutes
+mod Tests
+mod Filters

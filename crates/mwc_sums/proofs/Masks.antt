@@ -4,15 +4,14 @@ use Rattle.std.proofs.Common.{ap, arith, inl, inr}
 use native.Mathlib.Numerals.{unary_clauses}
 use Rattle.std.proofs.lemmas.Bool.{cases_lt, cases_eq, eqb-true, eqb-false, eq-eqb, ne_eqb}
 use Rattle.std.proofs.lemmas.Nat.Bits.{bit_at-suc, same_from_bits_below}
-use Rattle.council_game.specs.Votes.{has, without}
+use Rattle.council_game.specs.Votes.{has}
 use Rattle.council_game.specs.Ranks.{member_at}
 use Rattle.council_game.specs.Game.{GameView}
-use Rattle.coalitions.proofs.Shared.Digits.{has-kept, has-gone}
 use Rattle.council_game.proofs.Shared.Making.{RanksAre}
 use Rattle.power_index.specs.Counting.{contains}
 
 -- the coalition of the places that pass a test
-pub mask_of : (ℕ → Bool) → ℕ → ℕ
+mask_of : (ℕ → Bool) → ℕ → ℕ
 mask_of test zero = 0
 mask_of test (suc n) = 2 * mask_of test n + cond (test n) 1 0
 
@@ -20,7 +19,7 @@ bit : (b : Bool) → cond b 1 0 < 2
 bit true = omega arith
 bit false = omega arith
 
-pub mask-below : (test : ℕ → Bool) (n : ℕ) → mask_of test n < 2 ^ n
+mask-below : (test : ℕ → Bool) (n : ℕ) → mask_of test n < 2 ^ n
 unfolding mask_of
 mask-below test zero = omega arith
 mask-below test (suc n) =
@@ -33,7 +32,7 @@ last-digit : (m : ℕ) (b : Bool) → (2 * m + cond b 1 0) / 2 ^ 0 % 2 == 1 ≡ 
 last-digit m true = eq-eqb ((2 * m + 1) / 2 ^ 0 % 2) 1 (omega arith)
 last-digit m false = ne_eqb ((2 * m + 0) / 2 ^ 0 % 2) 1 (omega arith)
 
-pub mask-has : (test : ℕ → Bool) (n p : ℕ) → p < n → has n p (mask_of test n) ≡ test p
+mask-has : (test : ℕ → Bool) (n p : ℕ) → p < n → has n p (mask_of test n) ≡ test p
 unfolding mask_of has
 mask-has test zero p lt = absurd (omega arith)
 mask-has test (suc n) p lt = elim (cases_lt p n) [
@@ -53,7 +52,7 @@ mask-has test (suc n) p lt = elim (cases_lt p n) [
 ]
 
 -- coalitions with the same places are the same
-pub same-places : (n c d : ℕ) → c < 2 ^ n → d < 2 ^ n → ((p : ℕ) → p < n → has n p c ≡ has n p d) → c ≡ d
+same-places : (n c d : ℕ) → c < 2 ^ n → d < 2 ^ n → ((p : ℕ) → p < n → has n p c ≡ has n p d) → c ≡ d
 unfolding has
 same-places n c d lc ld same = same_from_bits_below n c d lc ld (λ i lt.
     (let place : n - 1 - (n - 1 - i) ≡ i = omega (arith, lt) in
@@ -67,53 +66,31 @@ same-places n c d lc ld same = same_from_bits_below n c d lc ld (λ i lt.
       | inr other ↦ let f = eqb-false b 1 (sym e ∙ ne_eqb a 1 other) in omega (arith, other, f, la, lb)
     ]
 
+-- the coalition of the members that pass a test
+pub as_mask : GameView → (ℕ → Bool) → ℕ
+as_mask g f = mask_of (λ p. f (member_at g.ranks p)) (length g.names)
+
+pub mask-less : (g : GameView) (f : ℕ → Bool) → as_mask g f < 2 ^ length g.names
+unfolding as_mask
+mask-less g f = mask-below (λ p. f (member_at g.ranks p)) (length g.names)
+
+module _ (g : GameView) (ranks : RanksAre (length g.names) g.ranks) where
+  pub mask-contains : (f : ℕ → Bool) (i : ℕ) → i < length g.names → contains g i (as_mask g f) ≡ f i
+  unfolding as_mask
+  mask-contains f i lt =
+      mask-has (λ p. f (member_at g.ranks p)) (length g.names) (get_or g.ranks i 0) (ranks.place_below i lt) ∙ ap f (ranks.member_back i lt)
+
+  -- coalitions with the same members are the same
+  pub same-members : (c d : ℕ) → c < 2 ^ length g.names → d < 2 ^ length g.names
+      → ((i : ℕ) → i < length g.names → contains g i c ≡ contains g i d) → c ≡ d
+  same-members c d lc ld same = same-places (length g.names) c d lc ld (λ p lt.
+      (let back = ranks.place_back p lt in
+      ap (λ (q : ℕ). has (length g.names) q c) (sym back) ∙ same (member_at g.ranks p) (ranks.member_below p lt)
+      ∙ ap (λ (q : ℕ). has (length g.names) q d) back))
+
+  pub mask-is : (f : ℕ → Bool) (c : ℕ) → c < 2 ^ length g.names → ((i : ℕ) → i < length g.names → contains g i c ≡ f i) → c ≡ as_mask g f
+  mask-is f c below same = same-members c (as_mask g f) below (mask-less g f) (λ i lt. same i lt ∙ sym (mask-contains f i lt))
+
 -- a coalition of one game and one of another have the same of the n first members
 abbrev pub AreAlike : GameView → GameView → ℕ → ℕ → Type 0
 AreAlike g h c d = (i : ℕ) → i < length g.names → contains g i c ≡ contains h i d
-
--- the coalition of another game with the same members
-pub moved : GameView → GameView → ℕ → ℕ
-moved g h c = mask_of (λ p. contains g (member_at h.ranks p) c) (length h.names)
-
-module _ (g h : GameView) (long : length g.names ≡ length h.names) (ranks_g : RanksAre (length g.names) g.ranks)
-    (ranks_h : RanksAre (length h.names) h.ranks) where
-  pub moved-below : (c : ℕ) → moved g h c < 2 ^ length h.names
-  unfolding moved
-  moved-below c = mask-below (λ p. contains g (member_at h.ranks p) c) (length h.names)
-
-  pub moved-alike : (c : ℕ) → AreAlike g h c (moved g h c)
-  unfolding moved
-  moved-alike c i lt =
-      let below : i < length h.names = omega (arith, lt, long) in
-      sym (mask-has (λ p. contains g (member_at h.ranks p) c) (length h.names) (get_or h.ranks i 0) (ranks_h.place_below i below)
-      ∙ ap (λ (m : ℕ). contains g m c) (ranks_h.member_back i below))
-
-  pub moved-apart : (c d : ℕ) → c < 2 ^ length g.names → d < 2 ^ length g.names → moved g h c ≡ moved g h d → c ≡ d
-  moved-apart c d lc ld same = same-places (length g.names) c d lc ld (λ p lt.
-      (let i : ℕ = member_at g.ranks p in
-      let below = ranks_g.member_below p lt in
-      let e = moved-alike c i below ∙ ap (contains h i) same ∙ sym (moved-alike d i below) in
-      let back = ranks_g.place_back p lt in
-      ap (λ (q : ℕ). has (length g.names) q c) (sym back) ∙ e ∙ ap (λ (q : ℕ). has (length g.names) q d) back))
-
-  -- without a member they are still alike
-  pub alike-without : (c d i : ℕ) → i < length g.names → AreAlike g h c d → contains g i c ≡ true
-      → AreAlike g h (without (length g.names) (get_or g.ranks i 0) c) (without (length h.names) (get_or h.ranks i 0) d)
-  alike-without c d i lt alike inside j below =
-      let below_i : i < length h.names = omega (arith, lt, long) in
-      let below_j : j < length h.names = omega (arith, below, long) in
-      elim (cases_eq j i) [
-        | inl same ↦
-            ap (λ (k : ℕ). contains g k (without (length g.names) (get_or g.ranks i 0) c)) same
-            ∙ has-gone (length g.names) (get_or g.ranks i 0) c inside
-            ∙ sym (has-gone (length h.names) (get_or h.ranks i 0) d (sym (alike i lt) ∙ inside))
-            ∙ sym (ap (λ (k : ℕ). contains h k (without (length h.names) (get_or h.ranks i 0) d)) same)
-        | inr other ↦
-            has-kept (length g.names) (get_or g.ranks j 0) (get_or g.ranks i 0) c (ranks_g.place_below j below) (ranks_g.place_below i lt)
-            (λ e. other (sym (ranks_g.member_back j below) ∙ ap (member_at g.ranks) e ∙ ranks_g.member_back i lt)) inside
-            ∙ alike j below
-            ∙ sym (has-kept (length h.names) (get_or h.ranks j 0) (get_or h.ranks i 0) d (ranks_h.place_below j below_j)
-            (ranks_h.place_below i below_i)
-            (λ e. other (sym (ranks_h.member_back j below_j) ∙ ap (member_at h.ranks) e ∙ ranks_h.member_back i below_i))
-            (sym (alike i lt) ∙ inside))
-      ]

@@ -1,15 +1,19 @@
 -- Games of one chamber: weights, and heads of the members who have them.
-use Rattle.std.proofs.Common.{◌≡◌, ◌∙◌, ℕ, zero, suc, ◌+◌, ◌*◌, ◌<◌, ◌≤◌, ◌==◌, cond, List, [], ◌∷◌, length, get_or}
+use Rattle.std.proofs.Common.{◌≡◌, ◌∙◌, ℕ, zero, suc, ◌+◌, ◌*◌, ◌<◌, ◌≤◌, ◌==◌, ◌&&◌, ◌||◌, true, cond, ltb, List, [], ◌∷◌, length, get_or}
 use Rattle.std.proofs.Common.{refl, sym, ap, arith, inl, inr}
-use Rattle.std.proofs.lemmas.Bool.{cond-false, ne_eqb}
+use Rattle.std.proofs.lemmas.Bool.{and_parts, cond-false, eqb-true, ltb-true, ne_eqb, or_cases}
+use Rattle.std.proofs.lemmas.List.Folds.{Any-from_list_any}
+use Rattle.std.specs.List.{range_with_len}
 use Rattle.std.proofs.lemmas.List.{get_or-map}
 use Rattle.council_game.specs.Game.{GameView, IsGame, votes_of}
 use Rattle.council_game.specs.Ranks.{rule_by_rank}
 use Rattle.council_game.specs.Votes.{RuleView, Votes, IsVotes, IsRanked, rule_at}
 use Rattle.council_game.proofs.Shared.GameTests.{rule-is}
-use Rattle.mwc_sums.specs.Heads.{AsksOfThose}
+use Rattle.mwc_sums.specs.Heads.{asks_of_those, gives_each}
+use Rattle.mwc_sums.specs.Inner.Seats.{AsksOfThose}
 use Rattle.mwc_sums.proofs.AlikeRules.{alike-sum}
-use Rattle.mwc_sums.proofs.Orders.{game-placed, ranked-weight}
+use Rattle.mwc_sums.proofs.Tests.{all-at}
+use Rattle.mwc_sums.proofs.Winning.{game-placed, ranked-weight}
 
 -- a member with some weight
 pub kept : (x e : ℕ) → 0 < x → cond (x == 0) 0 e ≡ e
@@ -67,6 +71,16 @@ module _ (g : GameView) (is : IsGame g) (votes : IsVotes (votes_of g)) where
       by_number (suc k) is_h none idle =
           ap (λ (k : ℕ). get_or (rule_at g.rules k).weights i 0) (let e : 0 ≡ w = omega (arith, both, is_h) in e) ∙ idle
 
-  pub top-some : (h w i : ℕ) → length g.rules ≡ 2 → h + w ≡ 1 → i < length g.names → get_or g.ranks i 0 ≡ 0
-      → AsksOfThose (length g.names) (rule_at g.rules h) (rule_at g.rules w) → 0 < get_or (rule_at g.rules h).weights i 0
-  top-some h w i two both inside first asks = let e = top h w i two both inside first asks in let pos = asks.1 in omega (arith, e, pos)
+-- a rule that asks for heads: how much it gives to each
+pub those_are : (n : ℕ) (h r : RuleView) → asks_of_those n h r ≡ true → AsksOfThose n h r
+those_are n h r asks =
+    let (k, x, lt, at, gives) = Any-from_list_any (λ k. gives_each n (get_or h.weights k 0) h r) (range_with_len 0 n) asks in
+    let parts = and_parts (ltb 0 (get_or h.weights x 0)) _ gives in (
+      get_or h.weights x 0,
+      ltb-true 0 _ parts.0,
+      λ i below. elim (or_cases (get_or h.weights i 0 == get_or h.weights x 0) ((get_or h.weights i 0 == 0) && (get_or r.weights i 0 == 0))
+          (all-at (λ i. (get_or h.weights i 0 == get_or h.weights x 0) || ((get_or h.weights i 0 == 0) && (get_or r.weights i 0 == 0))) n i below parts.1)) [
+            | inl same ↦ inl (eqb-true _ _ same)
+            | inr none ↦ inr (eqb-true _ _ (and_parts _ _ none).0, eqb-true _ _ (and_parts _ _ none).1)
+          ],
+    )

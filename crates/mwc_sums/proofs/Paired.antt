@@ -1,15 +1,12 @@
 -- Pairs of two lists that have a size together.
-use Rattle.std.proofs.Common.{◌≡◌, ◌∙◌, ◌==◌, ◌&&◌, ℕ, ◌+◌, ◌-◌, ◌*◌, ◌≤◌, Bool, true, false, cond, leb, List, [], ◌∷◌, length}
+use Rattle.std.proofs.Common.{◌≡◌, ◌∙◌, ◌==◌, ◌&&◌, ℕ, ◌+◌, ◌-◌, ◌*◌, ◌≤◌, Bool, true, false, cond, leb, List, length}
 use Rattle.std.proofs.Common.{filter, sym, ap, refl, arith, inl, inr}
 use Rattle.std.specs.List.{sum_by}
 use Rattle.std.proofs.lemmas.Bool.{cases_lt, cases_eq, eq-eqb, ne_eqb, and_parts, and_right, le-leb, leb-true, lt-leb}
 use Rattle.power_index.proofs.Shared.Sums.{sum-times, sum-range, sum-filter, sum-by_size}
 use Rattle.mwc_sums.specs.Chambers.{paired}
+use Rattle.mwc_sums.proofs.Filters.{filter-none}
 use Rattle.mwc_sums.proofs.AllSums.{one_if, count-both}
-
-pub filter-none : (xs : List ℕ) → filter (λ (c : ℕ). false) xs ≡ []
-filter-none [] = refl
-filter-none (x ∷ xs) = filter-none xs
 
 same-eqb : (a b c d : ℕ) → (a ≡ b → c ≡ d) → (c ≡ d → a ≡ b) → (a == b) ≡ (c == d)
 same-eqb a b c d to fro = elim (cases_eq a b) [

@@ -1,10 +1,10 @@
 -- How many coalitions of a game are one of each of two games together.
-use Rattle.std.proofs.Common.{◌≡◌, ◌∙◌, ◌==◌, ◌&&◌, ◌||◌, ℕ, ◌+◌, ◌^◌, ◌<◌, Bool, true, false, cond, List, length, get_or, filter}
+use Rattle.std.proofs.Common.{◌≡◌, ◌∙◌, ◌==◌, ◌&&◌, ◌||◌, ℕ, ◌+◌, ◌^◌, ◌<◌, Bool, true, false, cond, List, length, filter}
 use Rattle.std.proofs.Common.{sym, ap, refl, subst, arith}
 use Rattle.std.specs.List.{sum_by, range_with_len}
 use Rattle.std.proofs.lemmas.Bool.{eqb-true, eq-eqb, and_parts, and_from}
-use Rattle.council_game.specs.Votes.{has, minimal, down, minimal_coalitions}
-use Rattle.council_game.specs.Ranks.{member_at}
+use Rattle.std.proofs.Math.Bool.{or_comm}
+use Rattle.council_game.specs.Votes.{minimal, down, minimal_coalitions}
 use Rattle.council_game.specs.Game.{GameView, IsGame, votes_of}
 use Rattle.council_game.proofs.Shared.Making.{ranks-are}
 use Rattle.power_index.specs.Counting.{contains, size_of}
@@ -13,39 +13,10 @@ use Rattle.power_index.proofs.Shared.Sums.{sum-plus, sum-range, exchange}
 use Rattle.mwc_sums.specs.Chambers.{paired, minimal_of_size, minimal_of_member_size}
 use Rattle.mwc_sums.proofs.Completing.{same_test}
 use Rattle.mwc_sums.proofs.AllSums.{one_if, sum-down, one-of, count-both, one-form, two-form, under, one-sum, two-ways}
-use Rattle.mwc_sums.proofs.Masks.{mask_of, mask-below, mask-has, same-places}
-use Rattle.mwc_sums.proofs.Winning.{met, IsLeast, minimal-least, least-minimal}
+use Rattle.mwc_sums.proofs.Masks.{as_mask, mask-contains, mask-is, mask-less}
+use Rattle.mwc_sums.proofs.Winning.{game-placed, met, IsLeast, minimal-least, least-minimal}
 use Rattle.mwc_sums.proofs.Joining.{IsJoint, flipped-joint, least-half, least-sides, least-apart, least-own, least-union}
 use Rattle.mwc_sums.proofs.Paired.{pairs-of_size}
-
--- ---- the coalition of the members that pass a test
-pub as_mask : GameView → (ℕ → Bool) → ℕ
-as_mask g f = mask_of (λ p. f (member_at g.ranks p)) (length g.names)
-
-module _ (g : GameView) (is : IsGame g) where
-  mask-less : (f : ℕ → Bool) → as_mask g f < 2 ^ length g.names
-  unfolding as_mask
-  mask-less f = mask-below (λ p. f (member_at g.ranks p)) (length g.names)
-
-  mask-contains : (f : ℕ → Bool) (i : ℕ) → i < length g.names → contains g i (as_mask g f) ≡ f i
-  unfolding as_mask
-  mask-contains f i lt =
-      mask-has (λ p. f (member_at g.ranks p)) (length g.names) (get_or g.ranks i 0) ((ranks-are g is).place_below i lt)
-      ∙ ap f ((ranks-are g is).member_back i lt)
-
-  mask-is : (f : ℕ → Bool) (c : ℕ) → c < 2 ^ length g.names → ((i : ℕ) → i < length g.names → contains g i c ≡ f i) → c ≡ as_mask g f
-  mask-is f c below same = same-places (length g.names) c (as_mask g f) below (mask-less f) (λ p lt.
-      (let i : ℕ = member_at g.ranks p in
-      let li = (ranks-are g is).member_below p lt in
-      let back : get_or g.ranks i 0 ≡ p = (ranks-are g is).place_back p lt in
-      ap (λ (q : ℕ). has (length g.names) q c) (sym back) ∙ same i li ∙ sym (mask-contains f i li)
-      ∙ ap (λ (q : ℕ). has (length g.names) q (as_mask g f)) back))
-
-or-swapped : (x y : Bool) → (x || y) ≡ (y || x)
-or-swapped true true = refl
-or-swapped true false = refl
-or-swapped false true = refl
-or-swapped false false = refl
 
 on-sides : (b s t : Bool) → (b ≡ true → (s || t) ≡ true) → b ≡ ((b && s) || (b && t))
 on-sides true s t h = sym (h refl)
@@ -64,20 +35,20 @@ module _ (g a b : GameView) (is_g : IsGame g) (is_a : IsGame a) (is_b : IsGame b
   other_part c = as_mask b (λ i. contains g i c && other i)
 
   least_a : (x : ℕ) → minimal (votes_of a) x ≡ true → IsLeast (length g.names) (met (length g.names) a.rules) (λ i. contains a i x)
-  least_a x min = subst (λ (n : ℕ). IsLeast n (met n a.rules) (λ i. contains a i x)) la (minimal-least a is_a x min)
+  least_a x min = subst (λ (n : ℕ). IsLeast n (met n a.rules) (λ i. contains a i x)) la (minimal-least a (game-placed a is_a) x min)
 
   least_b : (y : ℕ) → minimal (votes_of b) y ≡ true → IsLeast (length g.names) (met (length g.names) b.rules) (λ i. contains b i y)
-  least_b y min = subst (λ (n : ℕ). IsLeast n (met n b.rules) (λ i. contains b i y)) lb (minimal-least b is_b y min)
+  least_b y min = subst (λ (n : ℕ). IsLeast n (met n b.rules) (λ i. contains b i y)) lb (minimal-least b (game-placed b is_b) y min)
 
   back_a : (x : ℕ) → IsLeast (length g.names) (met (length g.names) a.rules) (λ i. contains a i x) → minimal (votes_of a) x ≡ true
-  back_a x least = least-minimal a is_a x (subst (λ (n : ℕ). IsLeast n (met n a.rules) (λ i. contains a i x)) (sym la) least)
+  back_a x least = least-minimal a (game-placed a is_a) x (subst (λ (n : ℕ). IsLeast n (met n a.rules) (λ i. contains a i x)) (sym la) least)
 
   back_b : (y : ℕ) → IsLeast (length g.names) (met (length g.names) b.rules) (λ i. contains b i y) → minimal (votes_of b) y ≡ true
-  back_b y least = least-minimal b is_b y (subst (λ (n : ℕ). IsLeast n (met n b.rules) (λ i. contains b i y)) (sym lb) least)
+  back_b y least = least-minimal b (game-placed b is_b) y (subst (λ (n : ℕ). IsLeast n (met n b.rules) (λ i. contains b i y)) (sym lb) least)
 
   joined : (x y i : ℕ) → i < length g.names → contains g i (union x y) ≡ (contains a i x || contains b i y)
   unfolding union
-  joined x y i lt = mask-contains g is_g (λ i. contains a i x || contains b i y) i lt
+  joined x y i lt = mask-contains g (ranks-are g is_g) (λ i. contains a i x || contains b i y) i lt
 
   -- a coalition is one of each together exactly where it is minimal and these are its halves
   forth : (c x y : ℕ) → x < 2 ^ length a.names → y < 2 ^ length b.names
@@ -90,16 +61,16 @@ module _ (g a b : GameView) (is_g : IsGame g) (is_a : IsGame a) (is_b : IsGame b
       let e = eqb-true c (union x y) p.0 in
       let members : (i : ℕ) → i < length g.names → contains g i c ≡ (contains a i x || contains b i y) =
       λ i lt. ap (contains g i) e ∙ joined x y i lt in
-      let min = least-minimal g is_g c (least-union (length g.names) own other (met (length g.names) g.rules) (met (length g.names) a.rules)
+      let min = least-minimal g (game-placed g is_g) c (least-union (length g.names) own other (met (length g.names) g.rules) (met (length g.names) a.rules)
       (met (length g.names) b.rules) joint (λ i. contains g i c) (λ i. contains a i x) (λ i. contains b i y) (least_a x q.0) (least_b y q.1) members) in
-      let x-is : x ≡ as_mask a (λ i. contains g i c && own i) = mask-is a is_a (λ i. contains g i c && own i) x lx (λ i lt.
+      let x-is : x ≡ as_mask a (λ i. contains g i c && own i) = mask-is a (ranks-are a is_a) (λ i. contains g i c && own i) x lx (λ i lt.
       (let li : i < length g.names = omega (arith, lt, la) in
       sym (ap (λ (d : Bool). d && own i) (members i li)
       ∙ least-own (length g.names) own other (met (length g.names) g.rules) (met (length g.names) a.rules) (met (length g.names) b.rules) joint
       (λ i. contains a i x) (λ i. contains b i y) (least_a x q.0) (least_b y q.1) i li))) in
-      let y-is : y ≡ as_mask b (λ i. contains g i c && other i) = mask-is b is_b (λ i. contains g i c && other i) y ly (λ i lt.
+      let y-is : y ≡ as_mask b (λ i. contains g i c && other i) = mask-is b (ranks-are b is_b) (λ i. contains g i c && other i) y ly (λ i lt.
       (let li : i < length g.names = omega (arith, lt, lb) in
-      sym (ap (λ (d : Bool). d && other i) (members i li ∙ or-swapped (contains a i x) (contains b i y))
+      sym (ap (λ (d : Bool). d && other i) (members i li ∙ or_comm (contains a i x) (contains b i y))
       ∙ least-own (length g.names) other own (met (length g.names) g.rules) (met (length g.names) b.rules) (met (length g.names) a.rules)
       (flipped-joint (length g.names) own other (met (length g.names) g.rules) (met (length g.names) a.rules) (met (length g.names) b.rules) joint)
       (λ i. contains b i y) (λ i. contains a i x) (least_b y q.1) (least_a x q.0) i li))) in
@@ -115,18 +86,18 @@ module _ (g a b : GameView) (is_g : IsGame g) (is_a : IsGame a) (is_b : IsGame b
       let p = and_parts (y == as_mask b (λ i. contains g i c && other i))
       ((x == as_mask a (λ i. contains g i c && own i)) && minimal (votes_of g) c) h in
       let q = and_parts (x == as_mask a (λ i. contains g i c && own i)) (minimal (votes_of g) c) p.1 in
-      let least = minimal-least g is_g c q.1 in
+      let least = minimal-least g (game-placed g is_g) c q.1 in
       let in_x : (i : ℕ) → i < length g.names → contains a i x ≡ (contains g i c && own i) =
-      λ i lt. ap (contains a i) (eqb-true _ _ q.0) ∙ mask-contains a is_a (λ i. contains g i c && own i) i (omega (arith, lt, la)) in
+      λ i lt. ap (contains a i) (eqb-true _ _ q.0) ∙ mask-contains a (ranks-are a is_a) (λ i. contains g i c && own i) i (omega (arith, lt, la)) in
       let in_y : (i : ℕ) → i < length g.names → contains b i y ≡ (contains g i c && other i) =
-      λ i lt. ap (contains b i) (eqb-true _ _ p.0) ∙ mask-contains b is_b (λ i. contains g i c && other i) i (omega (arith, lt, lb)) in
+      λ i lt. ap (contains b i) (eqb-true _ _ p.0) ∙ mask-contains b (ranks-are b is_b) (λ i. contains g i c && other i) i (omega (arith, lt, lb)) in
       let min_x = back_a x (least-half (length g.names) own other (met (length g.names) g.rules) (met (length g.names) a.rules)
       (met (length g.names) b.rules) joint (λ i. contains g i c) (λ i. contains a i x) least in_x) in
       let min_y = back_b y (least-half (length g.names) other own (met (length g.names) g.rules) (met (length g.names) b.rules)
       (met (length g.names) a.rules)
       (flipped-joint (length g.names) own other (met (length g.names) g.rules) (met (length g.names) a.rules) (met (length g.names) b.rules) joint)
       (λ i. contains g i c) (λ i. contains b i y) least in_y) in
-      let is = mask-is g is_g (λ i. contains a i x || contains b i y) c lc (λ i lt.
+      let is = mask-is g (ranks-are g is_g) (λ i. contains a i x || contains b i y) c lc (λ i lt.
       on-sides (contains g i c) (own i) (other i) (least-sides (length g.names) own other (met (length g.names) g.rules)
       (met (length g.names) a.rules) (met (length g.names) b.rules) joint (λ i. contains g i c) least i lt)
       ∙ sym (λ k. in_x i lt k || in_y i lt k)) in
@@ -135,15 +106,15 @@ module _ (g a b : GameView) (is_g : IsGame g) (is_a : IsGame a) (is_b : IsGame b
 
   union-less : (x y : ℕ) → union x y < 2 ^ length g.names
   unfolding union
-  union-less x y = mask-less g is_g (λ i. contains a i x || contains b i y)
+  union-less x y = mask-less g (λ i. contains a i x || contains b i y)
 
   own-less : (c : ℕ) → own_part c < 2 ^ length a.names
   unfolding own_part
-  own-less c = mask-less a is_a (λ i. contains g i c && own i)
+  own-less c = mask-less a (λ i. contains g i c && own i)
 
   other-less : (c : ℕ) → other_part c < 2 ^ length b.names
   unfolding other_part
-  other-less c = mask-less b is_b (λ i. contains g i c && other i)
+  other-less c = mask-less b (λ i. contains g i c && other i)
 
   abbrev all_a : List ℕ
   all_a = down (2 ^ length a.names)

@@ -1,15 +1,11 @@
 -- Games of the same members with other rules.
-use Rattle.std.proofs.Common.{◌≡◌, ◌∙◌, ltb, None, Result, Ok, Err, ℕ, ◌<◌, ◌≤◌, false, List, [], ◌∷◌}
+use Rattle.std.proofs.Common.{◌≡◌, ◌∙◌, ltb, None, Result, Ok, Err, ℕ, ◌<◌, ◌≤◌, false, List, []}
 use Rattle.std.proofs.Common.{length, get_or, sym, ap, refl, subst, arith, inl, inr, All}
 use Rattle.std.specs.List.{range_with_len}
-use Rattle.std.specs.List.Sorted.{IsPermutation}
 use Rattle.std.proofs.lemmas.Bool.{cases_lt, le-ltb}
-use Rattle.std.proofs.lemmas.List.{get_or_past, get_or_default, length-map}
+use Rattle.std.proofs.lemmas.List.{get_or_past, get_or_default}
 use Rattle.std.proofs.lemmas.List.Folds.{list_any_none}
 use Rattle.std.proofs.lemmas.List.Elements.{All-from_recursion}
-use Rattle.std.proofs.lemmas.List.Sorted.{IsPermutation-append_comm}
-use Rattle.council_game.specs.declared.rule.Rule.{Rule}
-use Rattle.council_game.specs.Rules.{rule_view, rule_views}
 use Rattle.council_game.specs.Votes.{RuleView, rule_at}
 use Rattle.council_game.specs.declared.fault.GameFault.{GameFault}
 use Rattle.council_game.specs.declared.fault.GameFault.TheVariants.{Memory}
@@ -18,16 +14,6 @@ use Rattle.council_game.specs.Ranks.{rank_places}
 use Rattle.council_game.specs.Game.{GameView, IsGame, made_game, first_weights, is_heavy, has_bad_quota}
 use Rattle.council_game.proofs.Shared.Games.{passed, none-any, light-weights, makes, position_nowhere}
 use Rattle.mwc_sums.specs.Inner.Fair.{IsFair}
-
--- a list of rules has as many as their views
-pub as-many : (items : List Rule) (rs : List RuleView) → rule_views items ≡ rs → length items ≡ length rs
-as-many items rs is = sym (length-map items rule_view) ∙ ap (λ (l : List RuleView). length l) is
-
-pub two-turned : (rs : List RuleView) → length rs ≡ 2 → IsPermutation rs (rule_at rs 1 ∷ rule_at rs 0 ∷ [])
-two-turned [] two = absurd (omega (arith, two))
-two-turned (r ∷ []) two = absurd (omega (arith, two))
-two-turned (r ∷ s ∷ []) two = IsPermutation-append_comm (r ∷ []) (s ∷ [])
-two-turned (r ∷ s ∷ t ∷ rs) two = absurd (omega (arith, two))
 
 -- each rule of a game is one that a game can have
 pub fair-of : (g : GameView) (k : ℕ) → IsGame g → k < length g.rules → IsFair (length g.names) (rule_at g.rules k)

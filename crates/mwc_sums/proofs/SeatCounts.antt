@@ -4,11 +4,12 @@ use Rattle.council_game.specs.Game.{GameView, votes_of}
 use Rattle.council_game.specs.Votes.{has, size, minimal_coalitions}
 use Rattle.power_index.specs.declared.tally.Tally.{Tally}
 use Rattle.power_index.specs.Tables.{IsTallyOf}
-use Rattle.mwc_sums.specs.Orders.{HaveTheSameRules}
+use Rattle.mwc_sums.specs.Inner.Rules.{AreRulesOf}
 use Rattle.mwc_sums.proofs.Masks.{AreAlike}
-use Rattle.mwc_sums.proofs.Orders.{IsPlaced, alike-sizes, count-same}
+use Rattle.mwc_sums.proofs.Orders.{alike-sizes, count-same}
+use Rattle.mwc_sums.proofs.Winning.{IsPlaced}
 
-module _ (g h : GameView) (is_g : IsPlaced g) (is_h : IsPlaced h) (same : HaveTheSameRules g h) where
+module _ (g h : GameView) (is_g : IsPlaced g) (is_h : IsPlaced h) (same : AreRulesOf g (length h.names) h.rules) where
   sizes : (s c d : ℕ) → AreAlike g h c d → (size (length g.names) c == s) ≡ (size (length h.names) d == s)
   sizes s c d alike = ap (λ (k : ℕ). k == s) (alike-sizes g h is_g is_h same c d alike)
 

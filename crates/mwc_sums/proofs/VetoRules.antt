@@ -1,16 +1,17 @@
--- The rules of the two games of a game with vetoers are rules that a game can have.
-use Rattle.std.proofs.Common.{◌≡◌, ◌∙◌, ◌||◌, ℕ, suc, ◌+◌, ◌<◌, ◌≤◌, Bool, true, false, cond, ltb, List, [], ◌∷◌, ◌++◌, length, get_or, map, filter, take}
-use Rattle.std.proofs.Common.{sym, ap, subst, arith, inl, inr, All}
+-- The rules that a game consists of are rules that a game can have.
+use Rattle.std.proofs.Common.{◌≡◌, ◌∙◌, ◌||◌, ℕ, ◌+◌, ◌<◌, ◌≤◌, Bool, true, false, cond, ltb, not, List, [], ◌∷◌, ◌++◌, length, get_or, map, filter, take}
+use Rattle.std.proofs.Common.{refl, sym, ap, arith, inl, inr, All}
 use Rattle.std.specs.List.{sum, sum_by, range_with_len}
-use Rattle.std.proofs.lemmas.Bool.{cases_lt, lt-ltb, le-ltb, ltb-false}
-use Rattle.std.proofs.lemmas.List.{get_or_past, take_more, map-append}
+use Rattle.std.proofs.lemmas.Bool.{cases_lt, le-ltb, ltb-false, ltb-true}
+use Rattle.std.proofs.lemmas.List.{get_or_past, length-map, take_more, map-append}
 use Rattle.std.proofs.lemmas.List.FromFn.{length-map-range_with_len}
-use Rattle.std.proofs.lemmas.List.Elements.{All-cons, All-nil, All-head, All-tail, filter-append}
+use Rattle.std.proofs.lemmas.List.Elements.{All-cons, All-filter, All-map, filter-append, filter_passes}
+use Rattle.std.proofs.lemmas.List.Filters.{length-filter_both}
 use Rattle.council_game.specs.Votes.{RuleView}
 use Rattle.council_game.specs.Game.{has_bad_quota}
 use Rattle.power_index.proofs.Shared.Sums.{sum-plus, sum-range}
-use Rattle.mwc_sums.specs.Inner.Asked.{rule_for}
-use Rattle.mwc_sums.specs.Vetoers.{number_of, rest_of, rests}
+use Rattle.mwc_sums.specs.Statute.{rules_beside}
+use Rattle.mwc_sums.specs.Vetoers.{number_of, rest_of, rule_for}
 use Rattle.mwc_sums.specs.Inner.Fair.{IsFair}
 use Rattle.mwc_sums.proofs.Vetoing.{row-sum, made-sum, made-at}
 
@@ -27,6 +28,14 @@ good-met r is = by_tests (ltb r.quota 1) (ltb (sum r.weights) r.quota) is (λ no
     by_tests false true h met = absurd (cc)
     by_tests true d h met = absurd (cc)
 
+-- it asks for something
+pub good-some : (r : RuleView) → has_bad_quota r ≡ false → 1 ≤ r.quota
+good-some r is = by_tests (ltb r.quota 1) (ltb (sum r.weights) r.quota) is (λ none. ltb-false r.quota 1 none)
+  where
+    by_tests : (b d : Bool) → (b || d) ≡ false → (b ≡ false → 1 ≤ r.quota) → 1 ≤ r.quota
+    by_tests false d h some = some refl
+    by_tests true d h some = absurd (cc)
+
 light-made : (h : ℕ → ℕ) (n k : ℕ) → ((i : ℕ) → i < n → h i ≤ 1000000000000) → get_or (map h (range_with_len 0 n)) k 0 ≤ 1000000000000
 light-made h n k light = elim (cases_lt k n) [
   | inl inside ↦ let e = made-at h n k inside in let le = light k inside in omega (arith, e, le)
@@ -35,7 +44,7 @@ light-made h n k light = elim (cases_lt k n) [
       omega (arith, e)
 ]
 
-pub fair-vetoers : (n : ℕ) (veto : ℕ → Bool) → 0 < number_of n veto → IsFair n (rule_for n veto)
+fair-vetoers : (n : ℕ) (veto : ℕ → Bool) → 0 < number_of n veto → IsFair n (rule_for n veto)
 fair-vetoers n veto some = record {
   full = length-map-range_with_len (λ i. cond (veto i) 1 0) 0 n;
   quota = good (rule_for n veto) some (let e = made-sum (λ i. cond (veto i) 1 0) n in omega (arith, e));
@@ -75,33 +84,33 @@ fair-rest n veto r fair some = record {
     less true x le = omega arith
     less false x le = le
 
-fair-one : (n : ℕ) (veto : ℕ → Bool) (r : RuleView) (later : List RuleView) → IsFair n r → All (IsFair n) later
-    → All (IsFair n) (cond (ltb 0 (rest_of n veto r).quota) (rest_of n veto r ∷ later) later)
-fair-one n veto r later fair rest = elim (cases_lt 0 (rest_of n veto r).quota) [
-  | inl more ↦ subst (λ (b : Bool). All (IsFair n) (cond b (rest_of n veto r ∷ later) later)) (sym (lt-ltb 0 (rest_of n veto r).quota more))
-      (All-cons (IsFair n) (rest_of n veto r) later (fair-rest n veto r fair more) rest)
-  | inr none ↦ subst (λ (b : Bool). All (IsFair n) (cond b (rest_of n veto r ∷ later) later)) (sym (le-ltb 0 (rest_of n veto r).quota none)) rest
-]
+-- each rule that is left is fair, if it asks for something
+fair-asking : (n : ℕ) (veto : ℕ → Bool) (rs : List RuleView) → All (IsFair n) rs
+    → All (λ r. ltb 0 r.quota ≡ true → IsFair n r) (rule_for n veto ∷ map (rest_of n veto) rs)
+fair-asking n veto rs fair =
+    All-cons (λ r. ltb 0 r.quota ≡ true → IsFair n r) (rule_for n veto) (map (rest_of n veto) rs)
+    (λ asks. fair-vetoers n veto (ltb-true 0 (number_of n veto) asks))
+    (All-map (λ r. ltb 0 r.quota ≡ true → IsFair n r) (rest_of n veto) rs
+    (λ k d lt asks. fair-rest n veto (get_or rs k d) (fair k d lt) (ltb-true 0 _ asks)))
 
-pub fair-rests : (n : ℕ) (veto : ℕ → Bool) (rs : List RuleView) → All (IsFair n) rs → All (IsFair n) (rests n veto rs)
-fair-rests n veto [] fair = All-nil (IsFair n)
-fair-rests n veto (r ∷ rs) fair =
-    fair-one n veto r (rests n veto rs) (All-head (IsFair n) r rs fair) (fair-rests n veto rs (All-tail (IsFair n) r rs fair))
+pub fair-beside : (n : ℕ) (veto : ℕ → Bool) (rs : List RuleView) → All (IsFair n) rs → All (IsFair n) (rules_beside n veto rs)
+fair-beside n veto rs fair k d lt =
+    All-filter (λ r. ltb 0 r.quota) (λ r. ltb 0 r.quota ≡ true → IsFair n r) (rule_for n veto ∷ map (rest_of n veto) rs) (fair-asking n veto rs fair) k d lt
+    (filter_passes (λ r. ltb 0 r.quota) (rule_for n veto ∷ map (rest_of n veto) rs) k d lt)
 
-few-one : (b : Bool) (r : RuleView) (rs : List RuleView) (k : ℕ) → length rs ≤ k → length (cond b (r ∷ rs) rs) ≤ suc k
-few-one true r rs k le = omega (arith, le)
-few-one false r rs k le = omega (arith, le)
-
-pub few-rests : (n : ℕ) (veto : ℕ → Bool) (rs : List RuleView) → length (rests n veto rs) ≤ length rs
-few-rests n veto [] = omega arith
-few-rests n veto (r ∷ rs) = few-one (ltb 0 (rest_of n veto r).quota) (rest_of n veto r) (rests n veto rs) (length rs) (few-rests n veto rs)
+-- at most one rule more
+pub few-beside : (n : ℕ) (veto : ℕ → Bool) (rs : List RuleView) → length (rules_beside n veto rs) ≤ length rs + 1
+few-beside n veto rs =
+    let both = length-filter_both (λ (r : RuleView). ltb 0 r.quota) (λ r. not (ltb 0 r.quota)) (λ r. refl) (rule_for n veto ∷ map (rest_of n veto) rs) in
+    let all = length-map rs (rest_of n veto) in
+    omega (arith, both, all)
 
 -- with one rule more
-pub rests-more : (n : ℕ) (veto : ℕ → Bool) (rs : List RuleView) (k : ℕ) (d : RuleView) → k < length rs
-    → rests n veto (take (k + 1) rs)
-    ≡ rests n veto (take k rs) ++ filter (λ r. ltb 0 r.quota) (rest_of n veto (get_or rs k d) ∷ [])
-rests-more n veto rs k d lt =
-    ap (λ (l : List RuleView). filter (λ r. ltb 0 r.quota) l)
+pub beside-more : (n : ℕ) (veto : ℕ → Bool) (rs : List RuleView) (k : ℕ) (d : RuleView) → k < length rs
+    → rules_beside n veto (take (k + 1) rs)
+    ≡ rules_beside n veto (take k rs) ++ filter (λ r. ltb 0 r.quota) (rest_of n veto (get_or rs k d) ∷ [])
+beside-more n veto rs k d lt =
+    ap (λ (l : List RuleView). filter (λ r. ltb 0 r.quota) (rule_for n veto ∷ l))
     (ap (λ (l : List RuleView). map (rest_of n veto) l) (take_more rs k d lt)
     ∙ map-append (rest_of n veto) (take k rs) (get_or rs k d ∷ []))
-    ∙ filter-append (λ r. ltb 0 r.quota) (map (rest_of n veto) (take k rs)) (rest_of n veto (get_or rs k d) ∷ [])
+    ∙ filter-append (λ r. ltb 0 r.quota) (rule_for n veto ∷ map (rest_of n veto) (take k rs)) (rest_of n veto (get_or rs k d) ∷ [])

@@ -1,17 +1,19 @@
 -- Where all members that can veto agree, the rules ask the others for what is left.
-use Rattle.std.proofs.Common.{◌≡◌, ◌∙◌, ◌&&◌, ◌⊎◌, ℕ, zero, suc, ◌+◌, ◌-◌, ◌*◌, ◌<◌, ◌≤◌, Bool, true, false, cond, leb, ltb}
-use Rattle.std.proofs.Common.{List, [], ◌∷◌, length, get_or, map, sym, ap, refl, arith, inl, inr, All}
+use Rattle.std.proofs.Common.{◌≡◌, ◌∙◌, ◌&&◌, ℕ, zero, suc, ◌+◌, ◌-◌, ◌*◌, ◌<◌, ◌≤◌, Bool, true, false, cond, leb, ltb}
+use Rattle.std.proofs.Common.{List, [], ◌∷◌, length, get_or, map, filter, sym, ap, refl, arith, inl, inr, All}
 use Rattle.std.specs.List.{sum, sum_by, range_with_len}
-use Rattle.std.proofs.lemmas.Bool.{cases_lt, cases_Bool, or_cases, and_right, le-leb, lt-leb, lt-ltb, le-ltb, ltb-true}
+use Rattle.std.proofs.lemmas.Bool.{cases_lt, or_cases, and_right, le-leb, leb-true, lt-leb, lt-ltb, le-ltb, ltb-true}
 use Rattle.std.proofs.lemmas.List.FromFn.{fill_by_all, get_or-map-range_with_len}
 use Rattle.std.proofs.lemmas.List.Folds.{fold-map}
-use Rattle.std.proofs.lemmas.List.Elements.{All-cons, All-nil, All-head, All-tail, All-filter, All-map}
+use Rattle.std.proofs.lemmas.List.Elements.{All-head, All-tail}
 use Rattle.coalitions.proofs.Shared.Ranges.{sum_by-range-more}
 use Rattle.council_game.specs.Votes.{RuleView}
 use Rattle.power_index.proofs.Shared.Sums.{sum-plus, sum-range}
-use Rattle.mwc_sums.specs.Chambers.{HasNoWeight, weighs, met}
-use Rattle.mwc_sums.specs.Inner.Asked.{rule_for}
-use Rattle.mwc_sums.specs.Vetoers.{can_veto, number_of, rest_of, rests}
+use Rattle.mwc_sums.specs.Chambers.{weighs, met}
+use Rattle.mwc_sums.specs.Statute.{rules_beside}
+use Rattle.mwc_sums.specs.Vetoers.{can_veto, number_of, rest_of, rule_for}
+use Rattle.mwc_sums.proofs.Completing.{same_test}
+use Rattle.mwc_sums.proofs.Tests.{missing}
 
 -- a row of weights adds up over its places
 pub row-sum : (ws : List ℕ) (n : ℕ) → length ws ≡ n → sum ws ≡ sum_by (λ i. get_or ws i 0) (range_with_len 0 n)
@@ -26,7 +28,7 @@ pub made-at : (h : ℕ → ℕ) (n i : ℕ) → i < n → get_or (map h (range_w
 made-at h n i lt = get_or-map-range_with_len h 0 n i i 0 lt (omega arith)
 
 -- ---- the members that pass a test, without one who does not
-one-more : (f : ℕ → ℕ) (n : ℕ) → sum_by f (range_with_len 0 (suc n)) ≡ sum_by f (range_with_len 0 n) + f n
+pub one-more : (f : ℕ → ℕ) (n : ℕ) → sum_by f (range_with_len 0 (suc n)) ≡ sum_by f (range_with_len 0 n) + f n
 one-more f n = let e : suc n ≡ n + 1 = omega arith in ap (λ (k : ℕ). sum_by f (range_with_len 0 k)) e ∙ sum_by-range-more f n
 
 one-less : (b : Bool) (w : ℕ) → cond b 1 0 * w ≤ w
@@ -64,30 +66,6 @@ beside f w (suc n) i lt out =
     nothing : (x : ℕ) → cond false 1 0 * x ≡ 0
     nothing x = omega arith
 
--- either one who passes the first test fails the second, or none does
-pub missing : (veto f : ℕ → Bool) (n : ℕ)
-    → ((i : ℕ) × (i < n) × (veto i ≡ true) × (f i ≡ false)) ⊎ ((i : ℕ) → i < n → veto i ≡ true → f i ≡ true)
-missing veto f zero = inr (λ i lt. absurd (omega (arith, lt)))
-missing veto f (suc n) = elim (missing veto f n) [
-  | inl found ↦ inl (found.0, (let lt = found.1 in omega (arith, lt)), found.2, found.3)
-  | inr all ↦ elim (cases_Bool (f n)) [
-    | inl there ↦ inr (λ i lt in'. elim (cases_lt i n) [
-      | inl less ↦ all i less in'
-      | inr last ↦ ap f (omega (arith, lt, last)) ∙ there
-    ])
-    | inr none ↦ elim (cases_Bool (veto n)) [
-      | inl vetoes ↦ inl (n, omega arith, vetoes, none)
-      | inr not ↦ inr (λ i lt in'. elim (cases_lt i n) [
-        | inl less ↦ all i less in'
-        | inr last ↦ absurd (let here : i ≡ n = omega (arith, lt, last) in differs (veto n) (ap veto (sym here) ∙ in') not)
-      ])
-    ]
-  ]
-]
-  where
-    differs : (b : Bool) → b ≡ true → b ≡ false → ⊥
-    differs b is not = cc
-
 module _ (n : ℕ) (veto f : ℕ → Bool) where
   -- ---- the rule that asks for each
   rule-at : (i : ℕ) → i < n → cond (f i) 1 0 * get_or (rule_for n veto).weights i 0 ≡ cond (f i) 1 0 * cond (veto i) 1 0
@@ -98,23 +76,23 @@ module _ (n : ℕ) (veto f : ℕ → Bool) where
       sum-range (λ i. cond (f i) 1 0 * get_or (rule_for n veto).weights i 0) (λ i. cond (f i) 1 0 * cond (veto i) 1 0) 0 n
       (λ i _ lt. rule-at i (omega (arith, lt)))
 
-  rule-lost : (i : ℕ) → i < n → veto i ≡ true → f i ≡ false → met n (rule_for n veto ∷ []) f ≡ false
+  rule-lost : (i : ℕ) → i < n → veto i ≡ true → f i ≡ false → leb (number_of n veto) (weighs n (rule_for n veto) f) ≡ false
   rule-lost i lt vetoes out =
       let less = beside f (λ j. cond (veto j) 1 0) n i lt out in
       let one = vote (veto i) vetoes in
       let own = rule-weighs in
-      ap (λ (b : Bool). b && true) (lt-leb (number_of n veto) (weighs n (rule_for n veto) f) (omega (arith, less, one, own)))
+      lt-leb (number_of n veto) (weighs n (rule_for n veto) f) (omega (arith, less, one, own))
     where
       vote : (b : Bool) → b ≡ true → cond b 1 0 ≡ 0 + 1
       vote true is = omega arith
       vote false is = absurd (cc)
 
-  rule-met : ((i : ℕ) → i < n → veto i ≡ true → f i ≡ true) → met n (rule_for n veto ∷ []) f ≡ true
+  rule-met : ((i : ℕ) → i < n → veto i ≡ true → f i ≡ true) → leb (number_of n veto) (weighs n (rule_for n veto) f) ≡ true
   rule-met all =
       let same : weighs n (rule_for n veto) f ≡ number_of n veto =
       rule-weighs ∙ sum-range (λ i. cond (f i) 1 0 * cond (veto i) 1 0) (λ i. cond (veto i) 1 0) 0 n
       (λ i _ lt. both (f i) (veto i) (all i (omega (arith, lt)))) in
-      ap (λ (b : Bool). b && true) (le-leb (number_of n veto) (weighs n (rule_for n veto) f) (omega (arith, same)))
+      le-leb (number_of n veto) (weighs n (rule_for n veto) f) (omega (arith, same))
     where
       both : (b d : Bool) → (d ≡ true → b ≡ true) → cond b 1 0 * cond d 1 0 ≡ cond d 1 0
       both true true h = omega arith
@@ -141,29 +119,14 @@ module _ (n : ℕ) (veto f : ℕ → Bool) where
       split false false w v h is = omega (arith, is)
       split false true w v h is = absurd (let e = h refl in cc)
 
-  rests-met : ((i : ℕ) → i < n → veto i ≡ true → f i ≡ true) → (rs : List RuleView) → met n rs f ≡ met n (rests n veto rs) f
+  rests-met : ((i : ℕ) → i < n → veto i ≡ true → f i ≡ true) → (rs : List RuleView) → met n rs f ≡ met n (map (rest_of n veto) rs) f
   unfolding agreed
   rests-met all [] = refl
-  rests-met all (r ∷ rs) = elim (cases_lt 0 (r.quota - agreed r)) [
-    | inl more ↦
-        (λ k. same more k && rests-met all rs k)
-        ∙ sym (ap (λ (b : Bool). met n (cond b (rest_of n veto r ∷ rests n veto rs) (rests n veto rs)) f)
-        (lt-ltb 0 (r.quota - agreed r) more))
-    | inr none ↦
-        (λ k. le-leb r.quota (weighs n r f) (let e = rest-weighs all r in omega (arith, e, none)) k && rests-met all rs k)
-        ∙ sym (ap (λ (b : Bool). met n (cond b (rest_of n veto r ∷ rests n veto rs) (rests n veto rs)) f)
-        (le-ltb 0 (r.quota - agreed r) none))
-  ]
-    where
-      same : 0 < r.quota - agreed r → leb r.quota (weighs n r f) ≡ leb (r.quota - agreed r) (weighs n (rest_of n veto r) f)
-      same more =
-          let e = rest-weighs all r in
-          elim (cases_lt (weighs n r f) r.quota) [
-            | inl short ↦ lt-leb r.quota (weighs n r f) short
-                ∙ sym (lt-leb (r.quota - agreed r) (weighs n (rest_of n veto r) f) (omega (arith, e, short, more)))
-            | inr enough ↦ le-leb r.quota (weighs n r f) enough
-                ∙ sym (le-leb (r.quota - agreed r) (weighs n (rest_of n veto r) f) (omega (arith, e, enough)))
-          ]
+  rests-met all (r ∷ rs) =
+      λ k. same_test (leb r.quota (weighs n r f)) (leb (r.quota - agreed r) (weighs n (rest_of n veto r) f))
+      (λ h. (let m = leb-true _ _ h in let e = rest-weighs all r in le-leb _ _ (omega (arith, m, e))))
+      (λ h. (let m = leb-true _ _ h in let e = rest-weighs all r in le-leb _ _ (omega (arith, m, e)))) k
+      && rests-met all rs k
 
 -- without a member that can veto the others lose
 vetoed-lost : (n : ℕ) (rs : List RuleView) (f : ℕ → Bool) (i : ℕ) → All (λ r. length r.weights ≡ n) rs → i < n → can_veto rs i ≡ true
@@ -181,27 +144,28 @@ vetoed-lost n (r ∷ rs) f i full lt vetoes out =
           (vetoed-lost n rs f i (All-tail (λ (x : RuleView). length x.weights ≡ n) r rs full) lt later out)
     ]
 
--- members win where all vetoers are among them, and the others meet what is left of the rules
-pub vetoers-both : (n : ℕ) (rs : List RuleView) (f : ℕ → Bool) → All (λ r. length r.weights ≡ n) rs
-    → met n rs f ≡ (met n (rule_for n (can_veto rs) ∷ []) f && met n (rests n (can_veto rs) rs) f)
-vetoers-both n rs f full = elim (missing (can_veto rs) f n) [
-  | inl found ↦
-      vetoed-lost n rs f found.0 full found.1 found.2 found.3
-      ∙ sym (ap (λ (b : Bool). b && met n (rests n (can_veto rs) rs) f) (rule-lost n (can_veto rs) f found.0 found.1 found.2 found.3))
-  | inr all ↦
-      rests-met n (can_veto rs) f all rs
-      ∙ sym (ap (λ (b : Bool). b && met n (rests n (can_veto rs) rs) f) (rule-met n (can_veto rs) f all))
+-- rules that ask for nothing are met
+asking-met : (n : ℕ) (rs : List RuleView) (f : ℕ → Bool) → met n rs f ≡ met n (filter (λ r. ltb 0 r.quota) rs) f
+asking-met n [] f = refl
+asking-met n (r ∷ rs) f = elim (cases_lt 0 r.quota) [
+  | inl some ↦
+      ap (λ (b : Bool). leb r.quota (weighs n r f) && b) (asking-met n rs f)
+      ∙ sym (ap (λ (b : Bool). met n (cond b (r ∷ filter (λ r. ltb 0 r.quota) rs) (filter (λ r. ltb 0 r.quota) rs)) f) (lt-ltb 0 r.quota some))
+  | inr none ↦
+      (λ k. le-leb r.quota (weighs n r f) (omega (arith, none)) k && asking-met n rs f k)
+      ∙ sym (ap (λ (b : Bool). met n (cond b (r ∷ filter (λ r. ltb 0 r.quota) rs) (filter (λ r. ltb 0 r.quota) rs)) f) (le-ltb 0 r.quota none))
 ]
 
--- a member has weight in the one rule, or in those that are left
-pub vetoers-apart : (n : ℕ) (veto : ℕ → Bool) (rs : List RuleView) (i : ℕ) → i < n
-    → HasNoWeight (rule_for n veto ∷ []) i ⊎ HasNoWeight (rests n veto rs) i
-vetoers-apart n veto rs i lt = elim (cases_Bool (veto i)) [
-  | inl vetoes ↦ inr (All-filter (λ r. ltb 0 r.quota) (λ r. get_or r.weights i 0 ≡ 0) (map (rest_of n veto) rs)
-      (All-map (λ r. get_or r.weights i 0 ≡ 0) (rest_of n veto) rs (λ k d _.
-      made-at (λ j. cond (veto j) 0 (get_or (get_or rs k d).weights j 0)) n i lt
-      ∙ ap (λ (b : Bool). cond b 0 (get_or (get_or rs k d).weights i 0)) vetoes)))
-  | inr not ↦ inl (All-cons (λ (r : RuleView). get_or r.weights i 0 ≡ 0) (rule_for n veto) []
-      (made-at (λ j. cond (veto j) 1 0) n i lt ∙ ap (λ (b : Bool). cond b 1 0) not)
-      (All-nil (λ (r : RuleView). get_or r.weights i 0 ≡ 0)))
-]
+-- members win where all vetoers are among them, and the others meet what is left of the rules
+pub vetoers-both : (n : ℕ) (rs : List RuleView) (f : ℕ → Bool) → All (λ r. length r.weights ≡ n) rs
+    → met n rs f ≡ met n (rules_beside n (can_veto rs) rs) f
+vetoers-both n rs f full =
+    (elim (missing (can_veto rs) f n) [
+      | inl found ↦
+          vetoed-lost n rs f found.0 full found.1 found.2 found.3
+          ∙ sym (ap (λ (b : Bool). b && met n (map (rest_of n (can_veto rs)) rs) f) (rule-lost n (can_veto rs) f found.0 found.1 found.2 found.3))
+      | inr all ↦
+          rests-met n (can_veto rs) f all rs
+          ∙ sym (ap (λ (b : Bool). b && met n (map (rest_of n (can_veto rs)) rs) f) (rule-met n (can_veto rs) f all))
+    ])
+    ∙ asking-met n (rule_for n (can_veto rs) ∷ map (rest_of n (can_veto rs)) rs) f

@@ -1,5 +1,6 @@
 -- Games of weights and heads: of one rule, or of two, of which one asks for so many members.
-use Rattle.std.specs.Prelude.{ℕ, ◌*◌, ◌<◌, ◌≤◌, ◌≡◌, ◌↔◌, ◌⊎◌, true, List, length, take, slice_index}
+use Rattle.std.specs.Prelude.{ℕ, ◌*◌, ◌<◌, ◌≤◌, ◌==◌, ◌≡◌, ◌↔◌, ◌⊎◌, Bool, ◌&&◌, ◌||◌, true, nat_lt, List, length, take, slice_index}
+use Rattle.std.specs.List.{list_all, list_any, range_with_len}
 use Rattle.council_game.specs.Votes.{RuleView, Votes, rule_at, size, weight, minimal}
 
 -- a rule that gives each of n members the same weight above 0, so that it asks for so many heads
@@ -20,14 +21,17 @@ IsMinimalByHeads v heads c =
     ((size v.members c ≡ heads) × (rule.quota ≤ weight rule.weights c))
     ⊎ ((heads < size v.members c) × (minimal (first_rule v) c ≡ true))
 
+-- a rule gives each of n members so much above 0, but nothing to some who have no weight in another rule either
+abbrev pub gives_each : ℕ → ℕ → RuleView → RuleView → Bool
+gives_each n each h r = nat_lt 0 each
+    && list_all (λ i. (slice_index h.weights i == each) || ((slice_index h.weights i == 0) && (slice_index r.weights i == 0))) (range_with_len 0 n)
+
 -- a rule gives the same weight above 0 to some of n members, among them each with weight in another rule, and none to others
-abbrev pub AsksOfThose : ℕ → RuleView → RuleView → Type 0
-AsksOfThose n h r =
-    (each : ℕ) × (0 < each) × ((i : ℕ) → i < n →
-    (slice_index h.weights i ≡ each) ⊎ ((slice_index h.weights i ≡ 0) × (slice_index r.weights i ≡ 0)))
+abbrev pub asks_of_those : ℕ → RuleView → RuleView → Bool
+asks_of_those n h r = list_any (λ k. gives_each n (slice_index h.weights k) h r) (range_with_len 0 n)
 
 -- one rule, or two over the members of one chamber: what they weigh, and how many they are
-abbrev pub AreOfOneChamber : ℕ → List RuleView → Type 0
-AreOfOneChamber n rs =
-    (length rs ≡ 1)
-    ⊎ ((length rs ≡ 2) × (AsksOfThose n (rule_at rs 1) (rule_at rs 0) ⊎ AsksOfThose n (rule_at rs 0) (rule_at rs 1)))
+abbrev pub are_of_one_chamber : ℕ → List RuleView → Bool
+are_of_one_chamber n rs =
+    (length rs == 1)
+    || ((length rs == 2) && (asks_of_those n (rule_at rs 1) (rule_at rs 0) || asks_of_those n (rule_at rs 0) (rule_at rs 1)))

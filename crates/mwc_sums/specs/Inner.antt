@@ -1,6 +1,6 @@
 -- What only proofs, private functions and invariants need: no public contract mentions it.
 pub mod Asked
 pub mod Fair
-pub mod Divided
 pub mod NoTally
+pub mod Rules
 pub mod Seats

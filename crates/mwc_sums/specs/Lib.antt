@@ -6,5 +6,5 @@ pub mod Completing
 pub mod Heads
 pub mod Inner
 pub mod Orders
-pub mod Parts
+pub mod Statute
 pub mod Vetoers

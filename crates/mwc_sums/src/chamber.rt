@@ -1,54 +1,57 @@
-//! Games of one chamber: weights, and heads of the members who have them.
-ghost use Rattle.council_game.specs.Game.{votes_of};
-ghost use Rattle.council_game.specs.Votes.{minimal_coalitions, rule_at};
-ghost use Rattle.mwc_sums.specs.Heads.{AreOfOneChamber, AsksOfThose};
-ghost use Rattle.power_index.specs.Tables.{AreCounts};
-ghost use Rattle.std.specs.Prelude.{◌≡◌, ◌+◌, ◌↔◌, true, IfOk, length};
+//! Rules of one chamber: weights, and heads of the members who have them.
+ghost use Rattle.mwc_sums.specs.Heads.{are_of_one_chamber, asks_of_those, gives_each};
+ghost use Rattle.mwc_sums.specs.Inner.Seats.{AreSeated};
+ghost use Rattle.council_game.specs.Votes.{rule_at};
+ghost use Rattle.std.specs.Prelude.{◌≡◌, ◌<◌, ◌↔◌, true, IfSome, IsSome, length};
 
-use crate::seats::count_seated;
-use council_game::{Game, Memory};
-use power_index::Counts;
-use std::alloc::Global;
+use crate::statute::Statute;
 
-/// One of two rules gives the same weight to some members, among them each with weight in the other, and none to others.
-fn asks_of_those(game: &Game, heads: usize, weights: usize) -> bool
-    requires two { length game.now.rules ≡ 2 }
-    requires both { heads + weights ≡ 1 }
-    ensures { result ≡ true ↔ AsksOfThose (length game.now.names)
-        (rule_at game.now.rules heads) (rule_at game.now.rules weights) }
-{
-    let members = game.members();
-    let each = game.rule_weight(heads, game.member_at(0));
-    if each == 0 {
-        return false;
-    }
-    for member in 0..members {
-        let own = game.rule_weight(heads, member);
-        if own != each && !(own == 0 && game.rule_weight(weights, member) == 0) {
+impl Statute {
+    /// Whether a rule gives each member so much above 0, but nothing to some who have no weight in another rule either.
+    fn gives_each(&self, each: u64, heads: usize, weights: usize) -> bool
+        requires heads { heads < length self.now.rules }
+        requires weights { weights < length self.now.rules }
+        ensures { result ≡ gives_each self.now.members each
+            (rule_at self.now.rules heads) (rule_at self.now.rules weights) }
+    {
+        if each == 0 {
             return false;
         }
+        for member in 0..self.members() {
+            let own = self.weight(heads, member);
+            if own != each && !(own == 0 && self.weight(weights, member) == 0) {
+                return false;
+            }
+        }
+        true
     }
-    true
-}
 
-/// Whether the rules of a game are those of one chamber.
-pub(crate) fn are_of_one_chamber(game: &Game) -> bool
-    ensures { result ≡ true ↔ AreOfOneChamber (length game.now.names) game.now.rules }
-{
-    let rules = game.rules();
-    rules == 1 || (rules == 2 && (asks_of_those(game, 1, 0) || asks_of_those(game, 0, 1)))
-}
+    /// A rule gives the same weight to some members, among them each with weight in another, and none to others.
+    fn asks_of_those(&self, heads: usize, weights: usize) -> bool
+        requires heads { heads < length self.now.rules }
+        requires weights { weights < length self.now.rules }
+        ensures { result ≡ asks_of_those self.now.members
+            (rule_at self.now.rules heads) (rule_at self.now.rules weights) }
+    {
+        for member in 0..self.members() {
+            if self.gives_each(self.weight(heads, member), heads, weights) {
+                return true;
+            }
+        }
+        false
+    }
 
-/// The counts of a game of one chamber.
-pub(crate) fn count_chamber(alloc: Global, game: &Game) -> Result<Box<Counts>, Memory>
-    requires { AreOfOneChamber (length game.now.names) game.now.rules }
-    ensures { IfOk result (λ c. AreCounts game.now (minimal_coalitions (votes_of game.now)) c.value) }
-{
-    if game.rules() == 1 {
-        return count_seated(alloc, game, 0, 0);
+    /// Of rules of one chamber, the one with the weights of its members, and the one that says who they are. None of others.
+    #[tactic(auto, using(crate::proofs::OneChamber::those_are))]
+    pub(crate) fn seats(&self) -> Option<(usize, usize)>
+        ensures seats { IfSome result (λ r. AreSeated self.now.members self.now.rules r.0 r.1) }
+        ensures kind { IsSome result ↔ are_of_one_chamber self.now.members self.now.rules ≡ true }
+    {
+        match self.rules() {
+            1 => Some((0, 0)),
+            2 if self.asks_of_those(1, 0) => Some((0, 1)),
+            2 if self.asks_of_those(0, 1) => Some((1, 0)),
+            _ => None,
+        }
     }
-    if asks_of_those(game, 1, 0) {
-        return count_seated(alloc, game, 0, 1);
-    }
-    count_seated(alloc, game, 1, 0)
 }

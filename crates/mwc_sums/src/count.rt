@@ -1,12 +1,11 @@
 //! The counts of a game by sums.
 ghost use Rattle.council_game.specs.Game.{votes_of};
 ghost use Rattle.council_game.specs.Votes.{minimal_coalitions};
-ghost use Rattle.mwc_sums.specs.Vetoers.{IsCountedBySums};
+ghost use Rattle.mwc_sums.specs.Statute.{IsCountedBySums};
 ghost use Rattle.power_index.specs.Tables.{AreCounts};
 ghost use Rattle.std.specs.Prelude.{◌≡◌, ◌↔◌, IfOk, IfSome, IsSome, option_map};
 
-use crate::chambers::{are_of_chambers, count_chambers};
-use crate::vetoers::count_beside_vetoers;
+use crate::statute::Statute;
 use council_game::{Game, Memory};
 use power_index::Counts;
 use std::alloc::Global;
@@ -17,10 +16,11 @@ fn boxed_by_sums(alloc: Global, game: &Game) -> Result<Option<Box<Counts>>, Memo
         (λ c. AreCounts game.now (minimal_coalitions (votes_of game.now)) c.value)) }
     ensures kind { IfOk result (λ counts. IsSome counts ↔ IsCountedBySums game.now) }
 {
-    if are_of_chambers(alloc, game)? {
-        return Ok(Some(count_chambers(alloc, game)?));
+    let statute = Statute::of(alloc, game)?;
+    if statute.part(alloc, false)?.rules() > 0 {
+        return Ok(None);
     }
-    count_beside_vetoers(alloc, game)
+    Ok(Some(statute.count(alloc, game)?))
 }
 
 /// What is on the heap. (By itself, so that what it takes of the stack is not held while the counts are made.)
@@ -34,10 +34,10 @@ fn unboxed(counts: Option<Box<Counts>>) -> Option<Counts>
     }
 }
 
-/// The counts of all minimal winning coalitions of a game of one chamber, or of several that share no member, and of a game of
-/// which such chambers are left where all members agree who can veto. A chamber is one rule, or two of which one gives the same
-/// weight to some members, among them each with weight in the other, and none to others. Whatever the weights are, no coalition
-/// is listed. None for any other game: `part_by_sums` counts what it can of it. Up to 64 MB.
+/// The counts of all minimal winning coalitions of a game that consists of chambers that share no member, as what its rules ask
+/// of the members that can not veto, where all others agree. A chamber is one rule, or two of which one gives the same weight to
+/// some members, among them each with weight in the other, and none to others. Whatever the weights are, no coalition is listed.
+/// None for any other game: `part_by_sums` counts what it can of it. Up to 64 MB.
 ///
 /// # Errors
 ///

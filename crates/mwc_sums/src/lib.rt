@@ -22,6 +22,7 @@ pub mod laws;
 mod parts;
 mod remade;
 mod seats;
+mod statute;
 mod vetoers;
 
 pub use count::count_by_sums;

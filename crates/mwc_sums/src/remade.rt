@@ -1,8 +1,7 @@
 //! Games of the same members with other rules.
 ghost use Rattle.coalitions.specs.declared.limits.TheConstants.{RULES};
 ghost use Rattle.council_game.specs.Game.{IsGame};
-ghost use Rattle.council_game.specs.Rules.{rule_view, rule_views};
-ghost use Rattle.council_game.specs.Votes.{rule_at};
+ghost use Rattle.council_game.specs.Rules.{rule_views};
 ghost use Rattle.mwc_sums.specs.Inner.Fair.{IsFair};
 ghost use Rattle.std.specs.Prelude.{◌≡◌, ◌<◌, ◌≤◌, All, IfOk, length, map, string_bytes};
 
@@ -19,22 +18,6 @@ fn copied_names(alloc: Global, game: &Game) -> Result<Vec<String>, Memory>
         names.push(String::from_str(alloc, game.name(member))?)?;
     }
     Ok(names)
-}
-
-/// A rule of a game.
-pub(crate) fn copied_rule(alloc: Global, game: &Game, rule: usize) -> Result<Rule, Memory>
-    requires { rule < length game.now.rules }
-    ensures { IfOk result (λ r. rule_view r ≡ rule_at game.now.rules rule) }
-{
-    let members = game.members();
-    let mut weights = Vec::with_capacity(alloc, members)?;
-    for member in 0..members {
-        weights.push(game.rule_weight(rule, member))?;
-    }
-    Ok(Rule {
-        quota: game.rule_quota(rule),
-        weights,
-    })
 }
 
 /// The game of the same members with other rules, and with no title. Its places are ranked by the first of them.

@@ -1,22 +1,12 @@
 //! Games in which some members can veto: where these agree, the rules ask the others for what is left.
 ghost use Rattle.coalitions.specs.declared.limits.TheConstants.{WEIGHT};
-ghost use Rattle.council_game.specs.Game.{IsGame, votes_of};
 ghost use Rattle.council_game.specs.Rules.{rule_view, rule_views};
-ghost use Rattle.council_game.specs.Votes.{minimal_coalitions, rule_at};
-ghost use Rattle.mwc_sums.specs.Chambers.{AreChambersOf};
-ghost use Rattle.mwc_sums.specs.Vetoers.{AreOfChambers, AreOfChambersBesideVetoers, can_veto};
-ghost use Rattle.mwc_sums.specs.Inner.Asked.{rule_for};
-ghost use Rattle.mwc_sums.specs.Vetoers.{rest_of, rules_beside_vetoers};
-ghost use Rattle.power_index.specs.Tables.{AreCounts};
-ghost use Rattle.std.specs.Prelude.{◌≡◌, ℕ, ◌<◌, ◌≤◌, ◌↔◌, ◌∷◌, [], if◌then◌else◌, IfNone, IfOk, IfSome, IsSome};
-ghost use Rattle.std.specs.Prelude.{length, slice_index};
+ghost use Rattle.council_game.specs.Votes.{rule_at};
+ghost use Rattle.mwc_sums.specs.Statute.{statute};
+ghost use Rattle.mwc_sums.specs.Vetoers.{can_veto, rest_of, rule_for};
+ghost use Rattle.std.specs.Prelude.{◌≡◌, ◌<◌, ◌≤◌, ◌∷◌, ◌++◌, [], if◌then◌else◌, nat_lt, filter, IfOk, length, slice_index};
 
-use crate::chamber::count_chamber;
-use crate::chambers::{are_of_chambers, count_chambers};
-use crate::counted::{Counted, boxed_joined};
-use crate::remade::remade;
 use council_game::{Game, Memory, Rule};
-use power_index::Counts;
 use std::alloc::Global;
 
 /// Whether a member can veto: the others together miss the quota of some rule.
@@ -74,7 +64,7 @@ fn other_weight(game: &Game, rule: usize, member: usize) -> u64
 }
 
 /// The rule that asks for each member that can veto.
-pub(crate) fn rule_for_vetoers(alloc: Global, game: &Game) -> Result<Rule, Memory>
+fn rule_for_vetoers(alloc: Global, game: &Game) -> Result<Rule, Memory>
     ensures { IfOk result (λ r. rule_view r ≡ rule_for (length game.now.names) (can_veto game.now.rules)) }
 {
     let members = game.members();
@@ -107,70 +97,27 @@ fn rest_of_rule(alloc: Global, game: &Game, rule: usize) -> Result<Rule, Memory>
     })
 }
 
-/// What the rules ask of the others where all that can veto agree; those that ask for nothing are left out.
+/// Some rules, and one more where it asks for something.
+fn with_rule(rules: Vec<Rule>, rule: Rule) -> Result<Vec<Rule>, Memory>
+    ensures { IfOk result (λ all. rule_views all.items
+        ≡ rule_views rules.items ++ filter (λ r. nat_lt 0 r.quota) (rule_view rule ∷ [])) }
+{
+    let mut all = rules;
+    if rule.quota > 0 {
+        all.push(rule)?;
+    }
+    Ok(all)
+}
+
+/// The rule that asks for all that can veto, and what the rules ask of the others where these agree; those that ask for
+/// nothing are left out.
 pub(crate) fn rules_beside_vetoers(alloc: Global, game: &Game) -> Result<Vec<Rule>, Memory>
-    ensures { IfOk result (λ rules. rule_views rules.items ≡ rules_beside_vetoers game.now) }
+    ensures { IfOk result (λ rules. rule_views rules.items ≡ statute game.now) }
 {
-    let rules = game.rules();
-    let mut rests = Vec::with_capacity(alloc, rules)?;
-    for rule in 0..rules {
-        let rest = rest_of_rule(alloc, game, rule)?;
-        if rest.quota > 0 {
-            rests.push(rest)?;
-        }
-    }
-    Ok(rests)
-}
-
-/// The game of those that can veto, all of whom it asks for, and that of the others. None where nobody can veto, nothing
-/// is asked of the others, or the rules that are left are not of chambers.
-fn parted(alloc: Global, game: &Game) -> Result<Option<(Game, Game)>, Memory>
-    ensures games { IfOk result (λ games. IfSome games (λ g. IsGame g.0 × IsGame g.1
-        × AreChambersOf game.now g.0 g.1 × (length g.0.rules ≡ 1)
-        × AreOfChambers (length g.1.names) g.1.rules)) }
-    ensures some { IfOk result (λ games. IsSome games ↔ AreOfChambersBesideVetoers game.now) }
-{
-    let _members = game.members();
     let vetoers = rule_for_vetoers(alloc, game)?;
-    let rests = rules_beside_vetoers(alloc, game)?;
-    if vetoers.quota == 0 || rests.is_empty() {
-        return Ok(None);
+    let mut rules = with_rule(Vec::new(alloc), vetoers)?;
+    for rule in 0..game.rules() {
+        rules = with_rule(rules, rest_of_rule(alloc, game, rule)?)?;
     }
-    let others = remade(alloc, game, rests)?;
-    if !are_of_chambers(alloc, &others)? {
-        return Ok(None);
-    }
-    let mut rules = Vec::with_capacity(alloc, 1)?;
-    rules.push(vetoers)?;
-    let first = remade(alloc, game, rules)?;
-    Ok(Some((first, others)))
-}
-
-/// The counts of a game of two chambers, the first of one rule, the second itself of rules of chambers.
-fn count_both(alloc: Global, game: &Game, first: Game, others: Game) -> Result<Box<Counts>, Memory>
-    requires one { length first.rules ≡ 1 }
-    requires of_chambers { AreOfChambers (length others.names) others.rules }
-    requires both { AreChambersOf game.now first others }
-    ensures { IfOk result (λ c. AreCounts game.now (minimal_coalitions (votes_of game.now)) c.value) }
-{
-    let counts = count_chamber(alloc, &first)?;
-    let of_others = count_chambers(alloc, &others)?;
-    let (first, others) = (Counted::new(first, counts), Counted::new(others, of_others));
-    boxed_joined(alloc, game, &first, &others)
-}
-
-/// The counts of a game of which some members can veto, and of which rules of chambers are left where these agree.
-/// None for any other game.
-pub(crate) fn count_beside_vetoers(
-    alloc: Global,
-    game: &Game,
-) -> Result<Option<Box<Counts>>, Memory>
-    ensures counts { IfOk result (λ counts. IfSome counts
-        (λ c. AreCounts game.now (minimal_coalitions (votes_of game.now)) c.value)) }
-    ensures kind { IfOk result (λ counts. IsSome counts ↔ AreOfChambersBesideVetoers game.now) }
-{
-    match parted(alloc, game)? {
-        Some((first, others)) => Ok(Some(count_both(alloc, game, first, others)?)),
-        None => Ok(None),
-    }
+    Ok(rules)
 }

@@ -1,9 +1,7 @@
 -- Games that sums take.
-use Rattle.std.specs.Prelude.{ℕ, ◌≡◌, ◌⊎◌, ◌<◌, ◌≤◌, Bool, if◌then◌else◌, length, map, slice_index}
-use Rattle.std.specs.List.{range_with_len}
-use Rattle.council_game.specs.Votes.{RuleView, Votes, rule_at}
+use Rattle.std.specs.Prelude.{ℕ, ◌≡◌, ◌⊎◌, ◌<◌, ◌≤◌, length, slice_index}
+use Rattle.council_game.specs.Votes.{Votes, rule_at}
 use Rattle.mwc_sums.specs.Heads.{AsksForHeads}
-use Rattle.mwc_sums.specs.Vetoers.{number_of}
 
 -- no place from m on has weight
 abbrev pub HaveAllWeight : Votes → ℕ → Type 0
@@ -14,7 +12,3 @@ pub record IsAsked (v : Votes) (m heads : ℕ) : Type 0 where
   pub few : m ≤ v.members
   pub all : HaveAllWeight v m
   pub kind : ((length v.rules ≡ 1) × (heads ≡ 0)) ⊎ ((length v.rules ≡ 2) × AsksForHeads m heads (rule_at v.rules 1))
-
--- the rule that asks for each of n members who passes a test
-abbrev pub rule_for : ℕ → (ℕ → Bool) → RuleView
-rule_for n f = record { quota = number_of n f; weights = map (λ i. if f i then 1 else 0) (range_with_len 0 n) }

@@ -1,0 +1,31 @@
+-- What passes a test.
+use Rattle.std.proofs.Common.{◌≡◌, ◌∙◌, ◌&&◌, Bool, true, false, cond, List, [], ◌∷◌, get_or, filter, refl, All, inl, inr}
+use Rattle.std.proofs.lemmas.Bool.{cases_Bool}
+use Rattle.std.proofs.lemmas.List.Elements.{All-head, All-tail}
+
+pub filter-none : {X : Type 0} (xs : List X) → filter (λ x. false) xs ≡ []
+filter-none [] = refl
+filter-none (x ∷ xs) = filter-none xs
+
+pub filter-same : {X : Type 0} (p q : X → Bool) (xs : List X) → All (λ x. p x ≡ q x) xs → filter p xs ≡ filter q xs
+filter-same p q [] same = refl
+filter-same p q (x ∷ xs) same =
+    let rest = filter-same p q xs (All-tail (λ x. p x ≡ q x) x xs same) in
+    λ i. cond (All-head (λ x. p x ≡ q x) x xs same i) (x ∷ rest i) (rest i)
+
+pub filter-both : {X : Type 0} (p q : X → Bool) (xs : List X) → filter q (filter p xs) ≡ filter (λ x. p x && q x) xs
+filter-both p q [] = refl
+filter-both p q (x ∷ xs) = elim (cases_Bool (p x)) [
+  | inl is ↦ rw (is, filter-both p q xs) refl
+  | inr out ↦ rw (out, filter-both p q xs) refl
+]
+
+-- of what passes one test, what passes another, where this passes the first
+pub filter-within : {X : Type 0} (p q : X → Bool) (xs : List X) → All (λ y. q y ≡ true → p y ≡ true) xs → filter q (filter p xs) ≡ filter q xs
+filter-within p q xs all =
+    filter-both p q xs ∙ filter-same (λ x. p x && q x) q xs (λ k d lt. within (p (get_or xs k d)) (q (get_or xs k d)) (all k d lt))
+  where
+    within : (b d : Bool) → (d ≡ true → b ≡ true) → (b && d) ≡ d
+    within true d h = refl
+    within false false h = refl
+    within false true h = h refl

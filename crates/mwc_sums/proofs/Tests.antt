@@ -1,0 +1,46 @@
+-- Tests of the members of a game.
+use Rattle.std.proofs.Common.{◌≡◌, ◌∙◌, ◌&&◌, not, ◌⊎◌, ℕ, ◌<◌, Bool, true, false, ap, sym, arith, inl, inr}
+use Rattle.std.specs.List.{list_all, list_any, range_with_len}
+use Rattle.std.proofs.lemmas.Bool.{and_from, and_parts, both_ways, cases_Bool, not-true, not_from_false, true_from_ne_false}
+use Rattle.std.proofs.lemmas.List.FromFn.{length-range_with_len}
+use Rattle.std.proofs.lemmas.List.Folds.{Any-from_list_any, list_all_at, list_any_at, list_any_none}
+use Rattle.std.proofs.lemmas.List.Sums.{AllPass-from_list_all, list_all-from_AllPass}
+use Rattle.council_game.proofs.Shared.Rankings.{places-at}
+
+pub any-at : (t : ℕ → Bool) (n i : ℕ) → i < n → t i ≡ true → list_any t (range_with_len 0 n) ≡ true
+any-at t n i lt passes =
+    let long = length-range_with_len 0 n in
+    list_any_at t (range_with_len 0 n) i 0 (omega (arith, long, lt)) (ap t (places-at n i 0 lt) ∙ passes)
+
+pub any-none : (t : ℕ → Bool) (n : ℕ) → ((i : ℕ) → i < n → t i ≡ false) → list_any t (range_with_len 0 n) ≡ false
+any-none t n none = list_any_none t (range_with_len 0 n) (λ k d below.
+    (let lt : k < n = (let long = length-range_with_len 0 n in omega (arith, long, below)) in ap t (places-at n k d lt) ∙ none k lt))
+
+pub all-lost : (t : ℕ → Bool) (n i : ℕ) → i < n → t i ≡ false → list_all t (range_with_len 0 n) ≡ false
+all-lost t n i lt fails =
+    let long = length-range_with_len 0 n in
+    list_all_at t (range_with_len 0 n) i 0 (omega (arith, long, lt)) (ap t (places-at n i 0 lt) ∙ fails)
+
+pub all-each : (t : ℕ → Bool) (n : ℕ) → ((i : ℕ) → i < n → t i ≡ true) → list_all t (range_with_len 0 n) ≡ true
+all-each t n each = list_all-from_AllPass t (range_with_len 0 n) (λ k d below.
+    (let lt : k < n = (let long = length-range_with_len 0 n in omega (arith, long, below)) in ap t (places-at n k d lt) ∙ each k lt))
+
+pub all-at : (t : ℕ → Bool) (n i : ℕ) → i < n → list_all t (range_with_len 0 n) ≡ true → t i ≡ true
+all-at t n i lt all =
+    let long = length-range_with_len 0 n in
+    sym (ap t (places-at n i 0 lt)) ∙ AllPass-from_list_all t (range_with_len 0 n) all i 0 (omega (arith, long, lt))
+
+-- either one who passes the first test fails the second, or none does
+pub missing : (veto f : ℕ → Bool) (n : ℕ)
+    → ((i : ℕ) × (i < n) × (veto i ≡ true) × (f i ≡ false)) ⊎ ((i : ℕ) → i < n → veto i ≡ true → f i ≡ true)
+missing veto f n =
+    elim (cases_Bool (list_any (λ i. veto i && not (f i)) (range_with_len 0 n))) [
+      | inl some ↦
+          let (k, x, lt, at, passes) = Any-from_list_any (λ i. veto i && not (f i)) (range_with_len 0 n) some in
+          let long = length-range_with_len 0 n in
+          let here : x ≡ k = sym at ∙ places-at n k x (omega (arith, lt, long)) in
+          let parts = and_parts (veto x) (not (f x)) passes in
+          inl (x, omega (arith, here, lt, long), parts.0, not-true (f x) parts.1)
+      | inr none ↦ inr (λ i lt vetoes. true_from_ne_false (f i) (λ out.
+          both_ways _ none (any-at (λ i. veto i && not (f i)) n i lt (and_from (veto i) (not (f i)) vetoes (not_from_false _ out)))))
+    ]

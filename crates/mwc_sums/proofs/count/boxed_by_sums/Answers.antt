@@ -1,0 +1,33 @@
+use Rattle.std.proofs.Common.{List, length, ap, refl, arith}
+use Rattle.council_game.specs.Votes.{RuleView}
+use Rattle.mwc_sums.proofs.Sharing.{all-counted}
+use Rattle.mwc_sums.proofs.Statutes.{left-is}
+use Rattle.mwc_sums.proofs.count.boxed_by_sums.Goals as goal
+
+pub returns-then-rules-gt0-clause-kind : goal.returns-then-rules-gt0-clause-kind
+returns-then-rules-gt0-clause-kind c = (
+  λ no. absurd (cc),
+  λ none. absurd (
+      let some = c.if-rules-gt0.true in
+      let own = c.rules-2.ensures in
+      let left = ap (λ (l : List RuleView). length l) (left-is c.args.game.now _ _ _ c.in_ok-statute.ensures.members c.in_ok-statute.ensures.rules c.in_ok-part.ensures.rules) in
+      omega (arith, some, own, left, none)),
+)
+
+pub count-requires-clause-chambers : goal.count-requires-clause-chambers
+count-requires-clause-chambers c =
+    all-counted c.in_ok-statute.statute.members c.in_ok-statute.statute.rules c.in_ok-statute.ensures.fair
+    (let none = c.if-rules-gt0.false in
+    let own = c.rules-2.ensures in
+    let left = ap (λ (l : List RuleView). length l) c.in_ok-part.ensures.rules in
+    omega (arith, none, own, left))
+
+pub returns-clause-kind : goal.returns-clause-kind
+returns-clause-kind c = (
+  λ _.
+      (let none = c.if-rules-gt0.false in
+      let own = c.rules-2.ensures in
+      let left = ap (λ (l : List RuleView). length l) (left-is c.args.game.now _ _ _ c.in_ok-statute.ensures.members c.in_ok-statute.ensures.rules c.in_ok-part.ensures.rules) in
+      omega (arith, none, own, left)),
+  λ _. refl,
+)

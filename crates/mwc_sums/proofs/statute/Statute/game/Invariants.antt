@@ -1,0 +1,6 @@
+use Rattle.std.proofs.Common.{◌≡◌, take}
+use Rattle.council_game.specs.Rules.{rule_views}
+use Rattle.mwc_sums.proofs.statute.Statute.game.Given as goal
+
+abbrev pub invariant-loop-rule : goal.invariant-loop-rule
+invariant-loop-rule l = rule_views l.rules.items ≡ take l.rule l.self.rules

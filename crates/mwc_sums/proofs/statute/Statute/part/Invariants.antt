@@ -1,0 +1,9 @@
+use Rattle.std.proofs.Common.{◌≡◌, cond, filter, not, take}
+use Rattle.council_game.specs.Rules.{rule_views}
+use Rattle.mwc_sums.specs.Statute.{is_counted}
+use Rattle.mwc_sums.proofs.statute.Statute.part.Given as goal
+
+abbrev pub invariant-loop-rule : goal.invariant-loop-rule
+invariant-loop-rule l = rule_views l.rules.items ≡ cond l.counted
+    (filter (is_counted l.self.members l.self.rules) (take l.rule l.self.rules))
+    (filter (λ r. not (is_counted l.self.members l.self.rules r)) (take l.rule l.self.rules))

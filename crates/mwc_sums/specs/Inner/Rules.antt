@@ -1,0 +1,25 @@
+-- Rules over members that are numbered: those that a game consists of, or some of them.
+use Rattle.std.specs.Prelude.{◌≡◌, ℕ, Bool, not, true, List, length}
+use Rattle.std.specs.List.{All, filter}
+use Rattle.council_game.specs.Votes.{RuleView}
+use Rattle.council_game.specs.Game.{GameView}
+use Rattle.mwc_sums.specs.Chambers.{chamber_of, met, share}
+use Rattle.mwc_sums.specs.Heads.{are_of_one_chamber}
+
+-- how many members there are, and the rules
+pub record StatuteView : Type 0 where
+  pub members : ℕ
+  pub rules : List RuleView
+
+-- the rules that share no member with one
+abbrev pub others_of : ℕ → List RuleView → RuleView → List RuleView
+others_of n rs r = filter (λ x. not (share n r x)) rs
+
+-- those that share a member with any one of them are of one chamber
+abbrev pub AreOfChambers : ℕ → List RuleView → Type 0
+AreOfChambers n rs = All (λ r. are_of_one_chamber n (chamber_of n rs r) ≡ true) rs
+
+-- members meet them exactly where they meet those of a game
+pub record AreRulesOf (g : GameView) (n : ℕ) (rs : List RuleView) : Type 0 where
+  pub members : n ≡ length g.names
+  pub alike : (f : ℕ → Bool) → met (length g.names) g.rules f ≡ met (length g.names) rs f

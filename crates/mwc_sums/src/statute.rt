@@ -1,0 +1,160 @@
+//! What a game consists of, and parts of that: rules over its members.
+ghost use Rattle.coalitions.specs.declared.limits.TheConstants.{RULES};
+ghost use Rattle.council_game.specs.Game.{IsGame};
+ghost use Rattle.council_game.specs.Rules.{rule_view};
+ghost use Rattle.council_game.specs.Votes.{rule_at};
+ghost use Rattle.mwc_sums.specs.Chambers.{chamber_of, share};
+ghost use Rattle.mwc_sums.specs.Inner.Fair.{IsFair};
+ghost use Rattle.mwc_sums.specs.Inner.Rules.{AreRulesOf, others_of};
+ghost use Rattle.mwc_sums.specs.Statute.{is_counted, statute};
+ghost use Rattle.std.specs.Prelude.{◌≡◌, ◌+◌, ◌<◌, ◌≤◌, All, filter, not, if◌then◌else◌, IfOk, length, slice_index};
+
+use crate::remade::remade;
+use crate::vetoers::rules_beside_vetoers;
+use council_game::{Game, Memory, Rule};
+use std::alloc::Global;
+use std::marker::Model;
+
+/// Rules over members that are numbered as those of a game: the rules that it consists of, or some of them.
+#[derive(Drop)]
+pub(crate) struct Statute {
+    members: usize,
+    rules: Vec<Rule>,
+}
+
+impl Model for Statute {
+    ghost use Rattle.council_game.specs.Rules.{rule_views};
+    ghost use Rattle.mwc_sums.specs.Inner.Fair.{IsFair};
+    ghost use Rattle.mwc_sums.specs.Inner.Rules.{StatuteView};
+    ghost use Rattle.std.specs.Prelude.{All};
+
+    ghost Value = { StatuteView };
+
+    ghost view = { λ s. record { members = s.members; rules = rule_views s.rules.items } };
+
+    ghost invariant = { λ s. All (IsFair s.members) (rule_views s.rules.items) };
+}
+
+impl Statute {
+    /// What a game consists of.
+    pub(crate) fn of(alloc: Global, game: &Game) -> Result<Statute, Memory>
+        ensures members { IfOk result (λ s. s.members ≡ length game.now.names) }
+        ensures rules { IfOk result (λ s. s.rules ≡ statute game.now) }
+        ensures some { IfOk result (λ s. 0 < length s.rules) }
+        ensures few { IfOk result (λ s. length s.rules ≤ RULES + 1) }
+        ensures fair { IfOk result (λ s. All (IsFair s.members) s.rules) }
+        ensures game { IfOk result (λ s. AreRulesOf game.now s.members s.rules) }
+    {
+        let members = game.members();
+        let rules = rules_beside_vetoers(alloc, game)?;
+        Ok(Statute { members, rules })
+    }
+
+    /// How many members there are; each rule is one that a game can have.
+    pub(crate) fn members(&self) -> usize
+        ensures count { result ≡ self.now.members }
+        ensures fair { All (IsFair self.now.members) self.now.rules }
+    {
+        self.members
+    }
+
+    /// How many rules there are.
+    pub(crate) fn rules(&self) -> usize
+        ensures { result ≡ length self.now.rules }
+    {
+        self.rules.len()
+    }
+
+    /// The weight of a member under a rule.
+    pub(crate) fn weight(&self, rule: usize, member: usize) -> u64
+        requires rule { rule < length self.now.rules }
+        requires member { member < self.now.members }
+        ensures { result ≡ slice_index (rule_at self.now.rules rule).weights member }
+    {
+        self.rules[rule].weights[member]
+    }
+
+    /// One of the rules.
+    fn copied(&self, alloc: Global, rule: usize) -> Result<Rule, Memory>
+        requires { rule < length self.now.rules }
+        ensures { IfOk result (λ r. rule_view r ≡ rule_at self.now.rules rule) }
+    {
+        let own = &self.rules[rule];
+        Ok(Rule {
+            quota: own.quota,
+            weights: own.weights.clone()?,
+        })
+    }
+
+    /// Whether a member has weight in both of two rules.
+    pub(crate) fn share(&self, first: usize, second: usize) -> bool
+        requires first { first < length self.now.rules }
+        requires second { second < length self.now.rules }
+        ensures { result ≡ share self.now.members
+            (rule_at self.now.rules first) (rule_at self.now.rules second) }
+    {
+        for member in 0..self.members() {
+            if self.weight(first, member) > 0 && self.weight(second, member) > 0 {
+                return true;
+            }
+        }
+        false
+    }
+
+    /// The rules that share a member with one of them, or the others.
+    pub(crate) fn beside(
+        &self,
+        alloc: Global,
+        rule: usize,
+        sharing: bool,
+    ) -> Result<Statute, Memory>
+        requires { rule < length self.now.rules }
+        ensures members { IfOk result (λ s. s.members ≡ self.now.members) }
+        ensures rules { IfOk result (λ s. s.rules ≡ (if sharing
+            then chamber_of self.now.members self.now.rules (rule_at self.now.rules rule)
+            else others_of self.now.members self.now.rules (rule_at self.now.rules rule))) }
+    {
+        let members = self.members();
+        let mut rules = Vec::with_capacity(alloc, self.rules())?;
+        for other in 0..self.rules() {
+            if self.share(rule, other) == sharing {
+                rules.push(self.copied(alloc, other)?)?;
+            }
+        }
+        Ok(Statute { members, rules })
+    }
+
+    /// Those that sums count, or those that they leave.
+    pub(crate) fn part(&self, alloc: Global, counted: bool) -> Result<Statute, Memory>
+        ensures members { IfOk result (λ s. s.members ≡ self.now.members) }
+        ensures rules { IfOk result (λ s. s.rules ≡ (if counted
+            then filter (is_counted self.now.members self.now.rules) self.now.rules
+            else filter (λ r. not (is_counted self.now.members self.now.rules r)) self.now.rules)) }
+    {
+        let members = self.members();
+        let mut rules = Vec::with_capacity(alloc, self.rules())?;
+        for rule in 0..self.rules() {
+            if self.is_counted(alloc, rule)? == counted {
+                rules.push(self.copied(alloc, rule)?)?;
+            }
+        }
+        Ok(Statute { members, rules })
+    }
+
+    /// The game of these rules, with the members of another.
+    pub(crate) fn game(&self, alloc: Global, game: &Game) -> Result<Game, Memory>
+        requires members { self.now.members ≡ length game.now.names }
+        requires some { 0 < length self.now.rules }
+        requires few { length self.now.rules ≤ RULES }
+        ensures game { IfOk result (λ made. IsGame made) }
+        ensures names { IfOk result (λ made. made.names ≡ game.now.names) }
+        ensures rules { IfOk result (λ made. made.rules ≡ self.now.rules) }
+    {
+        let _members = self.members();
+        let mut rules = Vec::with_capacity(alloc, self.rules())?;
+        for rule in 0..self.rules() {
+            rules.push(self.copied(alloc, rule)?)?;
+        }
+        remade(alloc, game, rules)
+    }
+}
