@@ -7,8 +7,8 @@ makes COUNT games of up to 12 members and COUNT of up to 20, with 1 to 4 rules, 
 heads and members that can veto, as sums count them, wholly or in part. Of the first it
 tries every subset, and compares the walk of tests/oracle.py with that; of all it compares what
 PROGRAM prints, with any options, workers and bits, with the report of tests/oracle.py, and likewise what it
-prints with --tally. Some lists are longer than the block of 64 KiB that a
-report goes out by. Prints a line `ok NAME` or `FAILED NAME: why` for each kind.
+prints with --tally. Of COUNT games more, of up to 24 members, it compares what is printed with --tally and without. Some lists are
+longer than the block of 64 KiB that a report goes out by. Prints a line `ok NAME` or `FAILED NAME: why` for each kind.
 """
 import functools
 import json
@@ -97,6 +97,28 @@ def random_statute(rng, most_members):
     return named(rng, rules)
 
 
+def random_rows(rng):
+    """A game of one rule, at times with heads, of up to 24 members, whose weights have little in common: most are
+    counted from the sets of two halves."""
+    members = rng.choice([1, 2, 3, rng.randint(4, 20), rng.randint(17, 24)])
+    weights = [10 ** 12 - rng.choice([0, rng.randrange(10 ** 12), rng.randrange(10 ** 10)]) for _ in range(members)]
+    kind = rng.randrange(4)
+    if kind == 0:
+        # ties
+        weights = [weights[i - i % 2] for i in range(members)]
+    elif kind == 1:
+        weights = [rng.choice([0, it]) for it in weights[1:]] + weights[:1]
+    quota = quota_of(rng, weights)
+    if kind == 2 and members > 1:
+        # no set of the heavy half can be completed by the light one
+        weights = [10 ** 12] * (members // 2) + [rng.randrange(10 ** 10) for _ in range(members - members // 2)]
+        quota = 10 ** 12
+    rules = [(quota, weights)]
+    if rng.randrange(4) == 0:
+        rules.insert(rng.randrange(2), (rng.randint(1, 3 * members), [3] * members))
+    return named(rng, rules)
+
+
 def file_of(game):
     lines = [] if game.title is None else [f"title = {json.dumps(game.title, ensure_ascii=False)}"]
     one = len(game.rules) == 1
@@ -147,7 +169,7 @@ def main(words):
     if len(words) != 3:
         sys.exit("usage: random_games.py PROGRAM COUNT SEED")
     program, count, rng = os.path.abspath(words[0]), int(words[1]), random.Random(int(words[2]))
-    faults = {"the walk of oracle.py, by every subset": [], "reports": [], "reports of more than 64 KiB": [], "--tally": [], "--tally of statutes": []}
+    faults = {"the walk of oracle.py, by every subset": [], "reports": [], "reports of more than 64 KiB": [], "--tally": [], "--tally of statutes": [], "--tally of weights with little in common, and a run": []}
     done = dict.fromkeys(faults, 0)
 
     def compare(kind, name, got, wanted):
@@ -175,6 +197,12 @@ def main(words):
             flags = [flag for flag in flags if flag != "--list"]
             kind = "--tally of statutes" if is_statute else "--tally"
             compare(kind, name, printed(program, file, ["--tally", *flags, *threads(rng)]), report(game, flags))
+        for number in range(count):
+            file = f"{room}/rows"
+            with open(file, "wb") as it:
+                it.write(file_of(random_rows(rng)))
+            found, wanted = (printed(program, file, [*words, "--sizes", *threads(rng)]) for words in (["--tally"], ["--most", "4000000"]))
+            compare("--tally of weights with little in common, and a run", f"game {number}", found, wanted)
         for rules in 1, 2, 4:
             weights = [[rng.randrange(1, 30) for _ in range(16)] for _ in range(rules)]
             game = oracle.Game(None, [f"a long name, number {i}" for i in range(16)], [(sum(of) // 2 + 1, of) for of in weights])
