@@ -3,7 +3,7 @@ use Rattle.std.proofs.Common.{◌≡◌, ◌∙◌, ◌⊎◌, ℕ, suc, ◌+◌
 use Rattle.std.proofs.Common.{length, get_or, set, take, drop, sym, ap, refl, subst, arith, inl, inr, length-drop, length-set, get_or-set_same, get_or-set_other}
 use Rattle.std.specs.List.{sum_by}
 use Rattle.std.proofs.lemmas.Bool.{cases_eq, cases_lt, ne_eqb, eq-eqb, le-leb, lt-leb, lt-ltb, le-ltb, cond-true, cond-false}
-use Rattle.std.proofs.lemmas.List.{drop_all, get_or_default, get_or_past, get_or-take, get_or-drop, length-take, take_all}
+use Rattle.std.proofs.lemmas.List.{get_or_default, get_or_past, get_or-take, get_or-drop, length-take, take_all}
 use Rattle.std.proofs.lemmas.List.Sums.{sum_by-cons, sum_by-drop_more, sum_by-take-drop, sum_by_more, sum_by-le}
 use Rattle.weight_sums.specs.declared.sets.Set.{Set}
 use Rattle.weight_sums.specs.declared.fitting.Fitting.{Fitting}
@@ -18,9 +18,6 @@ sum-alike : (f g : Set → ℕ) (xs : List Set) (d : Set) → ((k : ℕ) → k <
 sum-alike f g [] d h = refl
 sum-alike f g (x ∷ xs) d h =
     sum_by-cons f x xs ∙ (λ i. h 0 (omega arith) i + sum-alike f g xs d (λ k lt. h (suc k) (omega arith)) i) ∙ sym (sum_by-cons g x xs)
-
-shorter_by_one : ℕ → Set → ℕ
-shorter_by_one s x = cond (eqb (x.size + 1) s) x.behind 0
 
 one-most : (s k : ℕ) → one_of_size s k ≤ 1
 one-most s k = by_test (eqb k s)
@@ -52,14 +49,6 @@ longer-few sets t s h half =
     let same = ap (λ (x : Set). x.behind) (get_or-drop t.outside sets k d) in
     cond-most (eqb ((get_or (drop t.outside sets) k d).size + 1) s) (get_or (drop t.outside sets) k d).behind 20 (omega (arith, b, same)))) in
     omega (arith, e, most, l, long)
-
-pub entered-none : (sets : List Set) (t : Fitting) → t.outside ≡ length sets → ((s : ℕ) → get_or t.here s 0 ≡ 0)
-    → ((s : ℕ) → get_or t.longer s 0 ≡ 0) → AreEntered sets t
-entered-none sets t out here longer = record {
-  within = omega arith;
-  here = λ s. here s ∙ sym (ap (sum_by (λ (x : Set). one_of_size s x.size)) (drop_all t.outside sets (omega arith)));
-  longer = λ s. longer s ∙ sym (ap (sum_by (λ (x : Set). cond (eqb (x.size + 1) s) x.behind 0)) (drop_all t.outside sets (omega arith)));
-}
 
 pub entered-more : (sets : List Set) (t u : Fitting) (d : Set) → AreEntered sets t → 0 < t.outside → u.outside ≡ t.outside - 1
     → ((s : ℕ) → get_or u.here s 0 ≡ get_or t.here s 0 + one_of_size s (get_or sets (t.outside - 1) d).size)
@@ -177,11 +166,6 @@ added need sets t k s h = elim (cases_lt s k) [
 
     further : (n : ℕ) → k + (n + 1) ≡ k + n + 1
     further n = omega arith
-
--- what is added is no more than a half has, and nothing is taken that is not there
-pub fewer-longer : (need : ℕ) (sets : List Set) (t : Fitting) → AreOfNeed need sets t → IsHalf sets → 0 < need → (s : ℕ)
-    → get_or t.longer s 0 ≤ get_or t.here s 0
-fewer-longer need sets t h half some s = let a = h.here s in let b = h.longer s in let f = half.fewer need s some in omega (arith, a, b, f)
 
 pub fits-few : (need k s : ℕ) (sets : List Set) → IsHalf sets → sum_by (fits need k s) sets ≤ 2 ^ 20
 fits-few need k s sets half =

@@ -3,7 +3,7 @@ use Rattle.std.proofs.Common.{◌≡◌, ◌∙◌, ◌⊎◌, ℕ, zero, suc, �
 use Rattle.std.proofs.Common.{length, take, drop, get_or, sym, ap, refl, subst, arith, inl, inr, set, get_or-set_same, get_or-set_other, length-set, length-append, length-drop}
 use Rattle.std.specs.List.{sum_by}
 use Rattle.std.proofs.lemmas.Bool.{cases_lt, cases_eq, ne_eqb, le-leb, lt-leb, cond-true, cond-false}
-use Rattle.std.proofs.lemmas.List.{take-append-drop, take_all, get_or_default, length-take}
+use Rattle.std.proofs.lemmas.List.{take-append-drop, get_or_default, length-take}
 use Rattle.std.proofs.lemmas.List.Sums.{sum_by_more}
 use Rattle.weight_sums.specs.declared.sets.Set.{Set}
 use Rattle.weight_sums.specs.declared.fitting.Fitting.{Fitting}
@@ -111,15 +111,6 @@ pub record Meetings (q h : ℕ) (xs ys : List Set) (n found : ℕ) (t : Fitting)
   pub meet : (k m : ℕ) (d : Set) → t.outside ≤ k → k < length ys → n ≤ m → m < length xs
       → q ≤ (get_or ys k d).weight + (get_or xs m d).weight
 
-pub meetings-none : (q h : ℕ) (xs ys : List Set) (t : Fitting) → AreEntered ys t → t.outside ≡ length ys → Meetings q h xs ys 0 0 t
-meetings-none q h xs ys t entered out = record {
-  counted = refl;
-  room = omega arith;
-  entered = entered;
-  meet = λ k m d from lt later below. absurd (omega (arith, from, lt, out));
-}
-
--- what fills up a set, of those that meet a need
 filled : (need : ℕ) (ys : List Set) (u : Fitting) (size h : ℕ) → AreOfNeed need ys u
     → cond (leb size h) (get_or u.here (h - size) 0) 0 ≡ sum_by (fits need size h) ys
 filled need ys u size h are = elim (cases_lt h size) [
@@ -152,12 +143,6 @@ module _ (q h : ℕ) (xs ys : List Set) (n found after : ℕ) (t u : Fitting) (d
     | inr same ↦ (let f = ap (λ (i : ℕ). (get_or xs i e).weight) (let g : n ≡ m = omega (arith, from, same) in g) in omega (arith, f, enough))
   ]
 
-  pub meetings-need : (need : ℕ) → need ≡ q - (get_or xs n d).weight → Meet need t.outside ys
-  meetings-need need is k e from within =
-      let f = old.meet k n e from within (omega arith) lt in
-      let g = ap (λ (y : Set). y.weight) (get_or_default xs n d e lt) in
-      omega (arith, f, g, is)
-
   pub meetings-more : (need : ℕ) → need ≡ q - (get_or xs n d).weight → IsHalf ys
       → after ≡ found + cond (leb (get_or xs n d).size h) (get_or u.here (h - (get_or xs n d).size) 0) 0
       → AreOfNeed need ys u → AreEntered ys u → Meet need u.outside ys → Meetings q h xs ys (n + 1) after u
@@ -175,11 +160,6 @@ module _ (q h : ℕ) (xs ys : List Set) (n found after : ℕ) (t u : Fitting) (d
             omega (arith, c, b, need_is));
       }
 
-pub meetings-all : (q h : ℕ) (xs ys : List Set) (n found : ℕ) (t : Fitting) → Meetings q h xs ys n found t → length xs ≤ n
-    → found ≡ sum_by (meeting q h ys) xs
-meetings-all q h xs ys n found t are all = are.counted ∙ ap (sum_by (meeting q h ys)) (take_all n xs all)
-
--- ---- without one member
 pub left_out-front : (p : ℕ) (xs ys : List ℕ) → p < length xs → left_out p (xs ++ ys) ≡ left_out p xs ++ ys
 unfolding left_out
 left_out-front p [] ys lt = absurd (omega arith)

@@ -24,16 +24,6 @@ pub record Doubling (w : ℕ) (xs : List Set) (i j : ℕ) (next : List Set) : Ty
   pub lefts : (k : ℕ) (d : Set) → k < length next → i < length xs → (get_or next k d).weight ≤ (get_or xs i d).weight
   pub joins : (k : ℕ) (d : Set) → k < length next → j < length xs → (get_or next k d).weight ≤ (get_or xs j d).weight + w
 
-pub doubling-none : (w : ℕ) (xs next : List Set) → next ≡ [] → Doubling w xs 0 0 next
-doubling-none w xs next none = record {
-  within = omega arith;
-  later = omega arith;
-  same = λ g. (let e = ap (sum_by g) none in omega (arith, e));
-  ascend = λ a b d less lt. (let e = ap (λ (l : List Set). length l) none in absurd (omega (arith, e, lt)));
-  lefts = λ k d lt some. (let e = ap (λ (l : List Set). length l) none in absurd (omega (arith, e, lt)));
-  joins = λ k d lt some. (let e = ap (λ (l : List Set). length l) none in absurd (omega (arith, e, lt)));
-}
-
 -- a list with one set more at its end, of those at least as heavy
 pushed-ascend : (next after : List Set) (y : Set) → after ≡ next ++ y ∷ [] → Ascend next
     → ((k : ℕ) (d : Set) → k < length next → (get_or next k d).weight ≤ y.weight) → Ascend after
