@@ -1,7 +1,10 @@
 #!/usr/bin/env bash
 # Runs the tests of this folder on the built program, several at once, and refusals.sh on the built tests of the crates:
 #
-#     tests/run.sh PROGRAM
+#     tests/run.sh PROGRAM [--library]
+#
+# With --library it also makes the library for other languages, over what `rt ci` has just proved, beside the tests that
+# do not want it.
 #
 # Each prints `ok NAME` or `FAILED NAME: why`, or `skipped NAME: why` for a test that can't be run on
 # this machine. The last line is `N passed, M failed`, with `, K skipped` behind it where some were, and
@@ -15,6 +18,7 @@
 set -u
 cd "$(dirname "$0")/.." || exit 1
 program=${1:-crates/council/out/council}
+with_library=${2:-}
 passed=0
 failed=0
 skipped=0
@@ -28,6 +32,15 @@ keep() {
     shift
     "$@" >"$logs/$name" 2>&1 </dev/null
     echo "$?" >"$logs/$name.status"
+}
+
+# Makes the library for other languages.
+make_library() {
+    if tools/build.py --library; then
+        echo "ok the library for other languages is built"
+    else
+        echo "FAILED the library for other languages is built: crates/council/out/build.log tells why"
+    fi
 }
 
 # Shows what a command printed, and counts its lines.
@@ -50,14 +63,21 @@ if [ ! -x "$program" ]; then
     failed=1
 else
     # the longest first, as many at once as there are processors
-    scripts="look refusals hostile foreign sizes tally limits output options using launcher archive examples faults explain mistakes words workers prefixes pages"
+    scripts="look refusals hostile sizes tally limits output options using launcher examples faults explain mistakes words workers prefixes pages"
+    # these want the library
+    callers="foreign archive"
     programs="random_games reading rooms memory_source gate_source"
     command -v python3 >/dev/null || programs=
     # what one run may take is measured once, before anything else runs
     SECONDS_EACH=$(bash -c '. tests/common.sh; echo "$seconds"' common.sh "$program")
     export SECONDS_EACH
     lanes=$(nproc 2>/dev/null || echo 1)
-    for name in bodies $scripts bodies_fit $programs; do
+    library=
+    if [ "$with_library" = --library ]; then
+        keep library make_library &
+        library=$!
+    fi
+    for name in bodies $scripts bodies_fit $programs $callers; do
         while [ "$(jobs -rp | wc -l)" -ge "$lanes" ]; do
             wait -n
         done
@@ -78,7 +98,7 @@ else
     wait
     # each of its runs is to end within a second, so nothing runs beside it
     [ -z "$programs" ] || keep noise python3 tests/noise.py "$program" 300 1
-    for name in $scripts bodies bodies_fit $programs ${programs:+noise}; do
+    for name in $scripts bodies bodies_fit $programs ${library:+library} $callers ${programs:+noise}; do
         count "$name"
     done
     if [ -z "$programs" ]; then
