@@ -1,166 +1,145 @@
-//! What a fault says of a file in TOML: its keys, title and quota.
+//! A game file: its keys, title and quota.
+use crate::no_toml::{say_encoding, say_no_toml};
 use crate::remedies::{is_share, say_factor, say_statutes};
-use crate::said::Part::{Shown, Text};
-use crate::said::Said;
-use crate::source::Source;
+use crate::said::{Said, short};
+use crate::source::{bare, line_of_key, line_of_member, text_of_line};
 use crate::values::{elements, say_text, say_value};
-use council_game::{GameFault, Memory};
+use council_file::{bracket_rule, is_member_key, is_top_key};
+use council_game::{Memory, Rule};
 use std::alloc::Global;
 use toml::{Table, Value};
 
-/// The keys of the top.
-const TOP: &[&str] = &["title", "quota", "quotas", "member"];
-
-/// The keys of a member.
-const OF_MEMBER: &[&str] = &["name", "weight", "weights"];
-
-/// A file in TOML: its text, and its tree.
+/// A game file, as far as it can be read.
 #[derive(Drop)]
-pub(crate) struct File<'a> {
-    pub(crate) source: Source<'a>,
-    pub(crate) table: &'a Table,
+pub(crate) struct File {
+    /// The text, with a sign in place of what is not UTF-8.
+    pub(crate) text: String,
+    /// The text without blanks, comments and what stands in quotes.
+    bare: String,
+    /// The tree of a text in TOML, and why it has none; empty where it has none.
+    pub(crate) table: Table,
+    error: Option<toml::de::Error>,
+    /// The rule of a bracket text.
+    pub(crate) rule: Option<Rule>,
 }
 
-/// Whether a word is one of these.
-pub(crate) fn is_among(word: &str, words: &[&str]) -> bool {
-    for it in words {
-        if word == *it {
-            return true;
-        }
-    }
-    false
-}
-
-/// The first key of a table that is not one of these.
-fn other_key<'a>(table: &'a Table, keys: &[&str]) -> Option<&'a str> {
-    for key in table.keys() {
-        if !is_among(key.as_str(), keys) {
-            return Some(key.as_str());
-        }
-    }
-    None
-}
-
-impl<'a> File<'a> {
-    pub(crate) fn new(alloc: Global, text: &'a str, table: &'a Table) -> Result<File<'a>, Memory> {
-        let source = Source::new(alloc, text)?;
-        Ok(File { source, table })
+impl File {
+    pub(crate) fn new(alloc: Global, bytes: &[u8]) -> Result<File, Memory> {
+        let text = String::from_utf8_lossy(alloc, bytes)?;
+        let bare = bare(alloc, text.as_str())?;
+        let rule = bracket_rule(alloc, bytes)?;
+        let (table, error) = match toml::table_from_str(alloc, text.as_str()) {
+            Ok(table) => (table, None),
+            Err(error) if error.is_memory() => return Err(Memory),
+            Err(error) => (Table::new(alloc), Some(error)),
+        };
+        Ok(File {
+            text,
+            bare,
+            table,
+            error,
+            rule,
+        })
     }
 
     /// The members, and none where they are no array.
-    pub(crate) fn members(&self) -> &'a [Value] {
+    pub(crate) fn members(&self) -> &[Value] {
         elements(self.table.get("member"))
     }
 
     /// The value at a key of the member with this index.
-    pub(crate) fn value_of(&self, index: usize, key: &str) -> Option<&'a Value> {
+    pub(crate) fn value_of(&self, index: usize, key: &str) -> Option<&Value> {
         match self.members().get(index) {
             Some(Value::Table(table)) => table.get(key),
             _ => None,
         }
     }
 
+    /// Says a line, and what stands in it; nothing where there is none.
+    fn say_line(&self, said: &mut Said, line: Option<usize>) {
+        if let Some(line) = line {
+            let row = short(text_of_line(self.text.as_str(), line).trim());
+            said.line(format_args!("line {line}: {row}"));
+        }
+    }
+
     /// Says where a key of the top stands.
     pub(crate) fn say_key(&self, said: &mut Said, key: &str) {
-        self.source.say(said, self.source.key(key));
+        self.say_line(said, line_of_key(self.bare.as_str(), 1, key));
     }
 
     /// Says where a key of the member with this index stands, or else the member.
     pub(crate) fn say_place(&self, said: &mut Said, index: usize, key: &str) {
-        self.source.say(said, self.source.member_key(index, key));
+        self.say_line(said, line_of_member(self.bare.as_str(), index, key));
     }
 
     /// Says what a value is that is no whole number, what is wanted in its place, and what helps.
     pub(crate) fn say_number(&self, said: &mut Said, value: &Value, wanted: &str) {
         say_value(said, value, wanted);
         match value {
-            Value::Float(_) => say_factor(said, self.source.plain()),
+            Value::Float(_) => say_factor(said, self.bare.as_str()),
             Value::String(text) if is_share(text.as_str()) => say_statutes(said),
             _ => {}
+        }
+    }
+
+    /// Says why a file is not TOML; the bytes are those of the file.
+    pub(crate) fn say_no_toml(&self, said: &mut Said, bytes: &[u8]) {
+        let text = self.text.as_str();
+        if let Err(error) = str::from_utf8(bytes) {
+            say_encoding(said, bytes, text, error.valid_up_to());
+        } else if let Some(error) = &self.error {
+            say_no_toml(said, text, error);
+        }
+    }
+
+    pub(crate) fn say_unknown_key(&self, said: &mut Said) {
+        if let Some(key) = self.table.keys().find(|key| !is_top_key(key.as_str())) {
+            self.say_key(said, key.as_str());
+            let key = short(key.as_str());
+            said.line(format_args!(
+                "at the top there is no key {key}: the keys are title, quota, quotas and member"
+            ));
+            return;
+        }
+        for (index, member) in self.members().iter().enumerate() {
+            if let Value::Table(table) = member
+                && let Some(key) = table.keys().find(|key| !is_member_key(key.as_str()))
+            {
+                self.say_key_of_member(said, index, key.as_str());
+                return;
+            }
         }
     }
 
     /// Says that the member with this index has a key that is not one of its own.
     fn say_key_of_member(&self, said: &mut Said, index: usize, key: &str) {
         self.say_place(said, index, key);
-        said.write(&[
-            Text("a member has no key "),
-            Shown(key),
-            Text(": its keys are name, weight and weights"),
-        ]);
-        if is_among(key, TOP) {
-            said.line(&["what belongs to the game stands before the first [[member]]"]);
+        let word = short(key);
+        said.line(format_args!(
+            "a member has no key {word}: its keys are name, weight and weights"
+        ));
+        if is_top_key(key) {
+            said.line("what belongs to the game stands before the first [[member]]");
         }
     }
 
-    fn say_unknown_key(&self, said: &mut Said) {
-        if let Some(key) = other_key(self.table, TOP) {
-            self.say_key(said, key);
-            said.write(&[
-                Text("at the top there is no key "),
-                Shown(key),
-                Text(": the keys are title, quota, quotas and member"),
-            ]);
-            return;
-        }
-        for (index, member) in self.members().iter().enumerate() {
-            if let Value::Table(table) = member {
-                if let Some(key) = other_key(table, OF_MEMBER) {
-                    self.say_key_of_member(said, index, key);
-                    return;
-                }
-            }
-        }
-    }
-
-    fn say_title(&self, said: &mut Said) {
-        let wanted = "a title is a text in quotes, of at most 200 bytes, on one line";
+    pub(crate) fn say_title(&self, said: &mut Said) {
         self.say_key(said, "title");
         if let Some(value) = self.table.get("title") {
+            let wanted = "a title is a text in quotes, of at most 200 bytes, on one line";
             say_text(said, value, wanted);
         }
     }
 
-    fn say_quota(&self, said: &mut Said) {
+    pub(crate) fn say_quota(&self, said: &mut Said) {
         self.say_key(said, "quota");
-        match self.table.get("quota") {
-            Some(value) => self.say_number(
-                said,
-                value,
-                "a quota is a whole number, without quotes",
-            ),
-            None if self.table.is_empty() => said.line(&[
-                "the file holds no game: it has neither a quota nor a member",
-            ]),
-            None => said.line(&[
-                "the file has no quota: write a line such as quota = 51 before the members",
-            ]),
+        if let Some(value) = self.table.get("quota") {
+            self.say_number(said, value, "a quota is a whole number, without quotes");
+        } else if self.table.is_empty() {
+            said.line("the file holds no game: it has neither a quota nor a member");
+        } else {
+            said.line("the file has no quota: write a line such as quota = 51 before the members");
         }
     }
-
-    /// Says what a fault says of the file. The members of a fault are numbered from 1.
-    pub(crate) fn say(&self, said: &mut Said, fault: GameFault) {
-        match fault {
-            GameFault::UnknownKey => self.say_unknown_key(said),
-            GameFault::Title => self.say_title(said),
-            GameFault::Rules => self.say_rules(said),
-            GameFault::Quota => self.say_quota(said),
-            GameFault::Members => self.say_members(said),
-            GameFault::Name { member } => self.say_name(said, index_of(member)),
-            GameFault::SameName { member } => self.say_same_name(said, index_of(member)),
-            GameFault::Weight { member } => self.say_weight(said, index_of(member)),
-            GameFault::QuotaRange => self.say_quota_range(said),
-            // no faults of a file in TOML
-            GameFault::Read
-            | GameFault::TooLong
-            | GameFault::Text
-            | GameFault::Bracket
-            | GameFault::Memory => {}
-        }
-    }
-}
-
-/// The index of the member of a number from 1.
-pub(crate) fn index_of(member: u8) -> usize {
-    usize::from(member).saturating_sub(1)
 }
