@@ -67,10 +67,18 @@ pub(crate) fn say_misfit(said: &mut Said, alloc: Global, text: &str) -> Result<(
 /// What is to be said of a game that was read, where another may be meant: of a bracket text with a weight `000`, as a comma
 /// between thousands makes one. The bytes are those of the file.
 pub fn remark(bytes: &[u8]) -> Option<&'static str> {
-    let mut numbers = bytes.split(|byte| !byte.is_ascii_digit());
-    if is_bracket(bytes) && numbers.any(|number| number == b"000".as_slice()) {
-        Some("a weight 000 was read as 0: a comma ends a weight, also between thousands")
-    } else {
-        None
+    if !is_bracket(bytes) {
+        return None;
     }
+    for row in bytes.windows(5) {
+        if let [before, b'0', b'0', b'0', behind] = row
+            && !before.is_ascii_digit()
+            && !behind.is_ascii_digit()
+        {
+            return Some(
+                "a weight 000 was read as 0: a comma ends a weight, also between thousands",
+            );
+        }
+    }
+    None
 }

@@ -23,6 +23,21 @@ pub(crate) struct File {
     pub(crate) rule: Option<Rule>,
 }
 
+/// The first key of a table that it may not have: of the whole file, or else of a member.
+fn other_key(table: &Table, is_whole: bool) -> Option<&str> {
+    for key in table.keys() {
+        let word = key.as_str();
+        if !if is_whole {
+            is_top_key(word)
+        } else {
+            is_member_key(word)
+        } {
+            return Some(word);
+        }
+    }
+    None
+}
+
 impl File {
     pub(crate) fn new(alloc: Global, bytes: &[u8]) -> Result<File, Memory> {
         let text = String::from_utf8_lossy(alloc, bytes)?;
@@ -94,9 +109,9 @@ impl File {
     }
 
     pub(crate) fn say_unknown_key(&self, said: &mut Said) {
-        if let Some(key) = self.table.keys().find(|key| !is_top_key(key.as_str())) {
-            self.say_key(said, key.as_str());
-            let key = short(key.as_str());
+        if let Some(key) = other_key(&self.table, true) {
+            self.say_key(said, key);
+            let key = short(key);
             said.line(format_args!(
                 "at the top there is no key {key}: the keys are title, quota, quotas and member"
             ));
@@ -104,9 +119,9 @@ impl File {
         }
         for (index, member) in self.members().iter().enumerate() {
             if let Value::Table(table) = member
-                && let Some(key) = table.keys().find(|key| !is_member_key(key.as_str()))
+                && let Some(key) = other_key(table, false)
             {
-                self.say_key_of_member(said, index, key.as_str());
+                self.say_key_of_member(said, index, key);
                 return;
             }
         }

@@ -30,11 +30,12 @@ impl File {
         if members.is_empty() || limits::MEMBERS < members.len() {
             let count = members.len();
             said.line(format_args!("the file has {count} members: 1 to 40 are allowed"));
-        } else if let Some(member) = members
-            .iter()
-            .find(|member| !matches!(member, Value::Table(_)))
-        {
-            say_value(said, member, "a member is a table with a name and a weight");
+            return;
+        }
+        for member in members {
+            if !matches!(member, Value::Table(_)) {
+                return say_value(said, member, "a member is a table with a name and a weight");
+            }
         }
     }
 

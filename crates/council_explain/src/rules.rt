@@ -18,7 +18,7 @@ fn total(rule: &Rule) -> u64 {
 }
 
 /// Says that a quota is not within its total.
-fn say_range(said: &mut Said, which: &str, quota: impl Display + Drop, rule: &Rule) {
+fn say_range(said: &mut Said, which: impl Display + Drop, quota: impl Display + Drop, rule: &Rule) {
     let total = total(rule);
     said.line(format_args!(
         "{which} is {quota}, and the weights add up to {total}: a quota is from 1 to that total"
@@ -54,12 +54,12 @@ impl File {
         } else if quotas.is_empty() || limits::RULES < quotas.len() {
             let count = quotas.len();
             said.line(format_args!("there are {count} of them: {wanted}"));
-        } else if let Some(quota) = quotas
-            .iter()
-            .find(|quota| !matches!(quota, Value::Integer(_)))
-        {
-            self.say_number(said, quota, wanted);
         } else {
+            for quota in quotas {
+                if !matches!(quota, Value::Integer(_)) {
+                    return self.say_number(said, quota, wanted);
+                }
+            }
             self.say_mixed(said, "weight");
         }
     }
@@ -76,11 +76,13 @@ impl File {
             return Ok(());
         }
         self.say_key(said, "quotas");
-        let names = ["quota 1", "quota 2", "quota 3", "quota 4"];
         let quotas = elements(self.table.get("quotas"));
-        for ((quota, rule), name) in quotas.iter().zip(&rules).zip(names) {
-            if rule.quota == 0 || total(rule) < rule.quota {
-                say_range(said, name, short(quota), rule);
+        for (index, rule) in rules.iter().enumerate() {
+            if let Some(quota) = quotas.get(index)
+                && (rule.quota == 0 || total(rule) < rule.quota)
+            {
+                let number = index.saturating_add(1);
+                say_range(said, format_args!("quota {number}"), short(quota), rule);
                 break;
             }
         }
