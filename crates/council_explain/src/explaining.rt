@@ -1,12 +1,26 @@
-//! What a fault says of a file.
+//! What a fault says of bytes.
 use crate::bracket::say_misfit;
 use crate::file::File;
+use crate::no_toml::say_no_toml;
 use crate::said::Said;
+use crate::source::{Source, bare};
+use council_file::bracket_rule;
 use council_game::{GameFault, Memory};
 use std::alloc::Global;
+use toml::Table;
 
 /// Three bytes that some editors write before a text.
 const MARK: &[u8] = b"\xEF\xBB\xBF";
+
+/// The tree of a text; empty where it is no TOML.
+fn tree_of(alloc: Global, text: &str) -> Result<Table, Memory> {
+    match toml::table_from_str(alloc, text) {
+        Ok(table) => Ok(table),
+        // memory: a growth was refused
+        Err(error) if error.is_memory() => Err(Memory),
+        Err(_) => Ok(Table::new(alloc)),
+    }
+}
 
 /// The index of the member of a number from 1.
 fn index_of(member: u8) -> usize {
@@ -22,7 +36,19 @@ fn index_of(member: u8) -> usize {
 /// Memory where a growth was refused.
 pub fn explain(alloc: Global, bytes: &[u8], fault: GameFault) -> Result<String, Memory> {
     let bytes = bytes.strip_prefix(MARK).unwrap_or(bytes);
-    let file = File::new(alloc, bytes)?;
+    let text = String::from_utf8_lossy(alloc, bytes)?;
+    let bare = bare(alloc, text.as_str())?;
+    let table = tree_of(alloc, text.as_str())?;
+    let rule = bracket_rule(alloc, bytes)?;
+    let source = Source {
+        text: text.as_str(),
+        bare: bare.as_str(),
+    };
+    let file = File {
+        source,
+        table: &table,
+        rule: rule.as_ref(),
+    };
     let mut said = Said::new(alloc);
     match fault {
         GameFault::Read => {
@@ -31,17 +57,17 @@ pub fn explain(alloc: Global, bytes: &[u8], fault: GameFault) -> Result<String, 
         GameFault::TooLong => {
             said.line("the file of a game of 40 members is much shorter: is it the right file?")
         }
-        GameFault::Text => file.say_no_toml(&mut said, bytes),
+        GameFault::Text => say_no_toml(&mut said, alloc, bytes, source.text)?,
         GameFault::UnknownKey => file.say_unknown_key(&mut said),
         GameFault::Title => file.say_title(&mut said),
+        GameFault::Rules => file.say_rules(&mut said),
         GameFault::Quota => file.say_quota(&mut said),
         GameFault::Members => file.say_members(&mut said),
         GameFault::Name { member } => file.say_name(&mut said, index_of(member)),
         GameFault::SameName { member } => file.say_same_name(&mut said, index_of(member)),
         GameFault::Weight { member } => file.say_weight(&mut said, index_of(member)),
         GameFault::QuotaRange => file.say_quota_range(&mut said, alloc)?,
-        GameFault::Bracket => say_misfit(&mut said, alloc, file.text.as_str())?,
-        GameFault::Rules => file.say_rules(&mut said),
+        GameFault::Bracket => say_misfit(&mut said, alloc, source.text)?,
         GameFault::Memory => {}
     }
     said.into_text()

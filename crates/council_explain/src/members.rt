@@ -5,10 +5,10 @@ use crate::values::{elements, kind, say_text, say_value};
 use council_game::limits;
 use toml::Value;
 
-impl File {
-    pub(crate) fn say_members(&self, said: &mut Said) {
+impl File<'_> {
+    pub(crate) fn say_members(self, said: &mut Said) {
         let wanted = "each member begins with a line [[member]], with two brackets on each side";
-        if let Some(rule) = &self.rule {
+        if let Some(rule) = self.rule {
             let count = rule.weights.len();
             said.line(format_args!("the text has {count} weights: at most 40 are allowed"));
             return;
@@ -17,7 +17,7 @@ impl File {
             None => said.line(format_args!("the file has no member: {wanted}")),
             Some(Value::Array(_)) => self.say_elements(said),
             Some(value) => {
-                self.say_key(said, "member");
+                self.source.say_key(said, "member");
                 let kind = kind(value);
                 said.line(format_args!("member is {kind}: {wanted}"));
             }
@@ -25,7 +25,7 @@ impl File {
     }
 
     /// Says how many elements the array has, or else which is no table.
-    fn say_elements(&self, said: &mut Said) {
+    fn say_elements(self, said: &mut Said) {
         let members = self.members();
         if members.is_empty() || limits::MEMBERS < members.len() {
             let count = members.len();
@@ -39,17 +39,17 @@ impl File {
         }
     }
 
-    pub(crate) fn say_name(&self, said: &mut Said, index: usize) {
+    pub(crate) fn say_name(self, said: &mut Said, index: usize) {
         let wanted = "a name is a text in quotes, of 1 to 64 bytes, on one line";
-        self.say_place(said, index, "name");
+        self.source.say_place(said, index, "name");
         match self.value_of(index, "name") {
             None => said.line(format_args!("the member has no name: {wanted}")),
             Some(value) => say_text(said, value, wanted),
         }
     }
 
-    pub(crate) fn say_same_name(&self, said: &mut Said, index: usize) {
-        self.say_place(said, index, "name");
+    pub(crate) fn say_same_name(self, said: &mut Said, index: usize) {
+        self.source.say_place(said, index, "name");
         for earlier in 0..index {
             if let Some(Value::String(name)) = self.value_of(earlier, "name")
                 && let Some(Value::String(again)) = self.value_of(index, "name")
@@ -60,14 +60,14 @@ impl File {
                 said.line(format_args!(
                     "member {number} is named {name} too: each name stands once"
                 ));
-                self.say_place(said, earlier, "name");
+                self.source.say_place(said, earlier, "name");
                 break;
             }
         }
     }
 
-    pub(crate) fn say_weight(&self, said: &mut Said, index: usize) {
-        if let Some(rule) = &self.rule {
+    pub(crate) fn say_weight(self, said: &mut Said, index: usize) {
+        if let Some(rule) = self.rule {
             if let Some(weight) = rule.weights.get(index) {
                 let number = index.saturating_add(1);
                 said.line(format_args!(
@@ -78,7 +78,7 @@ impl File {
         }
         let several = self.table.contains_key("quotas");
         let key = if several { "weights" } else { "weight" };
-        self.say_place(said, index, key);
+        self.source.say_place(said, index, key);
         match self.value_of(index, key) {
             None => said.line(format_args!("the member has no {key}: each member has its own")),
             Some(value) if !several => self.say_one_weight(said, value),
@@ -91,7 +91,7 @@ impl File {
         }
     }
 
-    fn say_weights(&self, said: &mut Said, weights: &[Value]) {
+    fn say_weights(self, said: &mut Said, weights: &[Value]) {
         let count = weights.len();
         let rules = elements(self.table.get("quotas")).len();
         if count != rules {
@@ -112,7 +112,7 @@ impl File {
     }
 
     /// Says what is wrong with a weight.
-    fn say_one_weight(&self, said: &mut Said, value: &Value) {
+    fn say_one_weight(self, said: &mut Said, value: &Value) {
         if matches!(value, Value::Integer(_)) {
             let value = short(value);
             said.line(format_args!("{value} is out of range: a weight is from 0 to 1000000000000"));

@@ -3,6 +3,8 @@ use crate::remedies::say_remedy_at;
 use crate::said::{Said, short};
 use crate::source::say_place;
 use council_file::is_bracket;
+use council_game::Memory;
+use std::alloc::Global;
 
 /// What stands between the columns of a table, as a spreadsheet writes it.
 const SEPARATORS: &[(char, &str)] = &[('\t', "TABs"), (';', "semicolons"), (',', "commas")];
@@ -38,7 +40,7 @@ fn say_table(said: &mut Said, text: &str) -> bool {
 }
 
 /// Says why a text is not TOML.
-pub(crate) fn say_no_toml(said: &mut Said, text: &str, error: &toml::de::Error) {
+fn say_error(said: &mut Said, text: &str, error: &toml::de::Error) {
     if say_table(said, text) {
         return;
     }
@@ -54,12 +56,24 @@ pub(crate) fn say_no_toml(said: &mut Said, text: &str, error: &toml::de::Error) 
     }
 }
 
-/// Says which bytes are not UTF-8, from the place of the first of them.
-pub(crate) fn say_encoding(said: &mut Said, bytes: &[u8], text: &str, place: usize) {
+/// Says which bytes are no text, or else why the text is not TOML.
+pub(crate) fn say_no_toml(
+    said: &mut Said,
+    alloc: Global,
+    bytes: &[u8],
+    text: &str,
+) -> Result<(), Memory> {
     if bytes.starts_with(b"\xFF\xFE") || bytes.starts_with(b"\xFE\xFF") {
         said.line("the file is saved as UTF-16: save it as UTF-8");
-    } else {
-        say_place(said, text, place);
+    } else if let Err(error) = str::from_utf8(bytes) {
+        say_place(said, text, error.valid_up_to());
         said.line("a byte there is not UTF-8: save the file as UTF-8");
+    } else if let Err(error) = toml::table_from_str(alloc, text) {
+        if error.is_memory() {
+            // memory: a growth was refused
+            return Err(Memory);
+        }
+        say_error(said, text, &error);
     }
+    Ok(())
 }

@@ -25,29 +25,29 @@ fn say_range(said: &mut Said, which: impl Display + Drop, quota: impl Display + 
     ));
 }
 
-impl File {
+impl File<'_> {
     /// Says which member has a key that does not go with that of the quota.
-    fn say_mixed(&self, said: &mut Said, key: &str) {
+    fn say_mixed(self, said: &mut Said, key: &str) {
         for index in 0..self.members().len() {
             if self.value_of(index, key).is_some() {
-                self.say_place(said, index, key);
+                self.source.say_place(said, index, key);
                 break;
             }
         }
         said.line("weight goes with quota, and weights go with quotas");
     }
 
-    pub(crate) fn say_rules(&self, said: &mut Said) {
+    pub(crate) fn say_rules(self, said: &mut Said) {
         let Some(value) = self.table.get("quotas") else {
-            self.say_key(said, "quota");
+            self.source.say_key(said, "quota");
             self.say_mixed(said, "weights");
             return;
         };
-        self.say_key(said, "quotas");
+        self.source.say_key(said, "quotas");
         let quotas = elements(Some(value));
         let wanted = "quotas are 1 to 4 whole numbers";
         if self.table.contains_key("quota") {
-            self.say_key(said, "quota");
+            self.source.say_key(said, "quota");
             said.line("quota and quotas are both there: a game has one of them");
         } else if !matches!(value, Value::Array(_)) {
             say_value(said, value, "quotas are an array of 1 to 4 whole numbers");
@@ -64,18 +64,18 @@ impl File {
         }
     }
 
-    pub(crate) fn say_quota_range(&self, said: &mut Said, alloc: Global) -> Result<(), Memory> {
-        if let Some(rule) = &self.rule {
+    pub(crate) fn say_quota_range(self, said: &mut Said, alloc: Global) -> Result<(), Memory> {
+        if let Some(rule) = self.rule {
             say_range(said, "the quota", rule.quota, rule);
             return Ok(());
         }
-        let rules = rules_of(alloc, &self.table)?;
+        let rules = rules_of(alloc, self.table)?;
         if let (Some(quota), Some(rule)) = (self.table.get("quota"), rules.first()) {
-            self.say_key(said, "quota");
+            self.source.say_key(said, "quota");
             say_range(said, "the quota", short(quota), rule);
             return Ok(());
         }
-        self.say_key(said, "quotas");
+        self.source.say_key(said, "quotas");
         let quotas = elements(self.table.get("quotas"));
         for (index, rule) in rules.iter().enumerate() {
             if let Some(quota) = quotas.get(index)

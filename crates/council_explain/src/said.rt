@@ -50,27 +50,25 @@ fn is_harmful(letter: char) -> bool {
         )
 }
 
-/// A writer that passes on so many letters, and dots in place of those behind.
+/// A writer that passes on so many letters, dots in place of the next one, and none behind it.
 #[derive(Drop)]
 struct Cut<'a, W> {
     writer: &'a mut W,
-    left: usize,
-    is_cut: bool,
+    left: Option<usize>,
 }
 
 impl<W: Write> Write for Cut<'_, W> {
     fn write_str(&mut self, text: &str) -> fmt::Result {
         for letter in text.chars() {
-            if self.is_cut {
+            let Some(left) = self.left else {
                 break;
-            }
-            if self.left == 0 {
-                self.is_cut = true;
+            };
+            self.left = left.checked_sub(1);
+            if left == 0 {
                 self.writer.write_str("...")?;
             } else {
-                self.left -= 1;
-                self.writer
-                    .write_char(if is_harmful(letter) { ' ' } else { letter })?;
+                let shown = if is_harmful(letter) { ' ' } else { letter };
+                self.writer.write_char(shown)?;
             }
         }
         Ok(())
@@ -99,8 +97,7 @@ impl<T: Display> Display for Harmless<T> {
     fn fmt<W: Write>(&self, f: &mut Formatter<W>) -> fmt::Result {
         let mut cut = Cut {
             writer: f,
-            left: self.most,
-            is_cut: false,
+            left: Some(self.most),
         };
         write!(cut, "{}", self.what)
     }

@@ -19,7 +19,7 @@ fn line_and_column(text: &[u8], place: usize) -> (usize, usize) {
 }
 
 /// The text of a line, from 1.
-pub(crate) fn text_of_line(text: &str, line: usize) -> &str {
+fn text_of_line(text: &str, line: usize) -> &str {
     text.lines().nth(line.saturating_sub(1)).unwrap_or("")
 }
 
@@ -73,7 +73,7 @@ fn has_key(line: &[u8], key: &[u8]) -> bool {
 }
 
 /// The line of a bare text in which a key stands first, where the first one has this number.
-pub(crate) fn line_of_key(bare: &str, first: usize, key: &str) -> Option<usize> {
+fn line_of_key(bare: &str, first: usize, key: &str) -> Option<usize> {
     let mut number = first;
     for line in bare.lines() {
         if has_key(line.as_bytes(), key.as_bytes()) {
@@ -86,7 +86,7 @@ pub(crate) fn line_of_key(bare: &str, first: usize, key: &str) -> Option<usize> 
 
 /// The line of a bare text, from 1, in which a key of the member with this index stands, or else that in which the
 /// member begins: behind the header, or else the brace, that has this index among its like.
-pub(crate) fn line_of_member(bare: &str, index: usize, key: &str) -> Option<usize> {
+fn line_of_member(bare: &str, index: usize, key: &str) -> Option<usize> {
     let header = "[[member]]";
     let mark = if bare.contains(header) { header } else { "{" };
     let before = index.checked_add(1)?;
@@ -94,4 +94,31 @@ pub(crate) fn line_of_member(bare: &str, index: usize, key: &str) -> Option<usiz
     let (line, _) = line_and_column(bare.as_bytes(), bare.len().saturating_sub(rest.len()));
     let member = rest.split(mark).next()?;
     line_of_key(member, line, key).or(Some(line))
+}
+
+/// The text of a game file, and what is bare of it.
+#[derive(Clone, Copy)]
+pub(crate) struct Source<'a> {
+    pub(crate) text: &'a str,
+    pub(crate) bare: &'a str,
+}
+
+impl Source<'_> {
+    /// Says a line, and what stands in it; nothing where there is none.
+    fn say_line(self, said: &mut Said, line: Option<usize>) {
+        if let Some(line) = line {
+            let row = short(text_of_line(self.text, line).trim());
+            said.line(format_args!("line {line}: {row}"));
+        }
+    }
+
+    /// Says where a key of the top stands.
+    pub(crate) fn say_key(self, said: &mut Said, key: &str) {
+        self.say_line(said, line_of_key(self.bare, 1, key));
+    }
+
+    /// Says where a key of the member with this index stands, or else the member.
+    pub(crate) fn say_place(self, said: &mut Said, index: usize, key: &str) {
+        self.say_line(said, line_of_member(self.bare, index, key));
+    }
 }

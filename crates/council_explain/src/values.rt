@@ -22,22 +22,12 @@ pub(crate) fn say_value(said: &mut Said, value: &Value, wanted: &str) {
     said.line(format_args!("{value} is {kind}: {wanted}"));
 }
 
-/// Whether a text has a TAB, the end of a line or another control character.
-fn has_control(text: &[u8]) -> bool {
-    for byte in text {
-        if byte.is_ascii_control() {
-            return true;
-        }
-    }
-    false
-}
-
 /// Says what is wrong with what is to be a text on one line: what it is, what it has, or else how long it is.
 pub(crate) fn say_text(said: &mut Said, value: &Value, wanted: &str) {
     let Value::String(text) = value else {
         return say_value(said, value, wanted);
     };
-    if has_control(text.as_bytes()) {
+    if text.as_bytes().iter().any(u8::is_ascii_control) {
         said.line(format_args!(
             "the text has a TAB, the end of a line or another control character: {wanted}"
         ));
