@@ -27,6 +27,37 @@ fn index_of(member: u8) -> usize {
     usize::from(member).saturating_sub(1)
 }
 
+/// Says what a fault says of a file. The members of a fault are numbered from 1.
+fn say_fault(
+    said: &mut Said,
+    alloc: Global,
+    bytes: &[u8],
+    file: File<'_>,
+    fault: GameFault,
+) -> Result<(), Memory> {
+    match fault {
+        GameFault::Read => {
+            said.line("a folder was named, or what can not be read: name a file that you may read")
+        }
+        GameFault::TooLong => {
+            said.line("the file of a game of 40 members is much shorter: is it the right file?")
+        }
+        GameFault::Text => return say_no_toml(said, alloc, bytes, file.source.text),
+        GameFault::UnknownKey => file.say_unknown_key(said),
+        GameFault::Title => file.say_title(said),
+        GameFault::Rules => file.say_rules(said),
+        GameFault::Quota => file.say_quota(said),
+        GameFault::Members => file.say_members(said),
+        GameFault::Name { member } => file.say_name(said, index_of(member)),
+        GameFault::SameName { member } => file.say_same_name(said, index_of(member)),
+        GameFault::Weight { member } => file.say_weight(said, index_of(member)),
+        GameFault::QuotaRange => return file.say_quota_range(said, alloc),
+        GameFault::Bracket => return say_misfit(said, alloc, file.source.text),
+        GameFault::Memory => {}
+    }
+    Ok(())
+}
+
 /// Why a game file was refused, and where: lines of text, each begun with two blanks and ended with LF; none
 /// where there is nothing to say. The bytes are those of the file, and the fault is the one that
 /// `council_file::parse_game` answers for them.
@@ -50,25 +81,6 @@ pub fn explain(alloc: Global, bytes: &[u8], fault: GameFault) -> Result<String, 
         rule: rule.as_ref(),
     };
     let mut said = Said::new(alloc);
-    match fault {
-        GameFault::Read => {
-            said.line("a folder was named, or what can not be read: name a file that you may read")
-        }
-        GameFault::TooLong => {
-            said.line("the file of a game of 40 members is much shorter: is it the right file?")
-        }
-        GameFault::Text => say_no_toml(&mut said, alloc, bytes, source.text)?,
-        GameFault::UnknownKey => file.say_unknown_key(&mut said),
-        GameFault::Title => file.say_title(&mut said),
-        GameFault::Rules => file.say_rules(&mut said),
-        GameFault::Quota => file.say_quota(&mut said),
-        GameFault::Members => file.say_members(&mut said),
-        GameFault::Name { member } => file.say_name(&mut said, index_of(member)),
-        GameFault::SameName { member } => file.say_same_name(&mut said, index_of(member)),
-        GameFault::Weight { member } => file.say_weight(&mut said, index_of(member)),
-        GameFault::QuotaRange => file.say_quota_range(&mut said, alloc)?,
-        GameFault::Bracket => say_misfit(&mut said, alloc, source.text)?,
-        GameFault::Memory => {}
-    }
+    say_fault(&mut said, alloc, bytes, file, fault)?;
     said.into_text()
 }

@@ -42,9 +42,14 @@ fn say_key_of_member(said: &mut Said, source: Source<'_>, index: usize, key: &st
 }
 
 impl<'a> File<'a> {
+    /// The value at a key of the top.
+    pub(crate) fn value_at(self, key: &str) -> Option<&'a Value> {
+        self.table.get(key)
+    }
+
     /// The members, and none where they are no array.
     pub(crate) fn members(self) -> &'a [Value] {
-        elements(self.table.get("member"))
+        elements(self.value_at("member"))
     }
 
     /// The value at a key of the member with this index.
@@ -85,7 +90,7 @@ impl<'a> File<'a> {
 
     pub(crate) fn say_title(self, said: &mut Said) {
         self.source.say_key(said, "title");
-        if let Some(value) = self.table.get("title") {
+        if let Some(value) = self.value_at("title") {
             let wanted = "a title is a text in quotes, of at most 200 bytes, on one line";
             say_text(said, value, wanted);
         }
@@ -93,7 +98,7 @@ impl<'a> File<'a> {
 
     pub(crate) fn say_quota(self, said: &mut Said) {
         self.source.say_key(said, "quota");
-        if let Some(value) = self.table.get("quota") {
+        if let Some(value) = self.value_at("quota") {
             self.say_number(said, value, "a quota is a whole number, without quotes");
         } else if self.table.is_empty() {
             said.line("the file holds no game: it has neither a quota nor a member");

@@ -13,7 +13,7 @@ impl File<'_> {
             said.line(format_args!("the text has {count} weights: at most 40 are allowed"));
             return;
         }
-        match self.table.get("member") {
+        match self.value_at("member") {
             None => said.line(format_args!("the file has no member: {wanted}")),
             Some(Value::Array(_)) => self.say_elements(said),
             Some(value) => {
@@ -76,7 +76,7 @@ impl File<'_> {
             }
             return;
         }
-        let several = self.table.contains_key("quotas");
+        let several = self.value_at("quotas").is_some();
         let key = if several { "weights" } else { "weight" };
         self.source.say_place(said, index, key);
         match self.value_of(index, key) {
@@ -93,7 +93,7 @@ impl File<'_> {
 
     fn say_weights(self, said: &mut Said, weights: &[Value]) {
         let count = weights.len();
-        let rules = elements(self.table.get("quotas")).len();
+        let rules = elements(self.value_at("quotas")).len();
         if count != rules {
             said.line(format_args!(
                 "the number of weights is {count}, and that of quotas {rules}: a member has a weight for each rule"

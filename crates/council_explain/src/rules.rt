@@ -38,7 +38,7 @@ impl File<'_> {
     }
 
     pub(crate) fn say_rules(self, said: &mut Said) {
-        let Some(value) = self.table.get("quotas") else {
+        let Some(value) = self.value_at("quotas") else {
             self.source.say_key(said, "quota");
             self.say_mixed(said, "weights");
             return;
@@ -46,7 +46,7 @@ impl File<'_> {
         self.source.say_key(said, "quotas");
         let quotas = elements(Some(value));
         let wanted = "quotas are 1 to 4 whole numbers";
-        if self.table.contains_key("quota") {
+        if self.value_at("quota").is_some() {
             self.source.say_key(said, "quota");
             said.line("quota and quotas are both there: a game has one of them");
         } else if !matches!(value, Value::Array(_)) {
@@ -64,27 +64,30 @@ impl File<'_> {
         }
     }
 
-    pub(crate) fn say_quota_range(self, said: &mut Said, alloc: Global) -> Result<(), Memory> {
-        if let Some(rule) = self.rule {
-            say_range(said, "the quota", rule.quota, rule);
-            return Ok(());
-        }
-        let rules = rules_of(alloc, self.table)?;
-        if let (Some(quota), Some(rule)) = (self.table.get("quota"), rules.first()) {
+    /// Says which quota is not within its total, by the rules of the tree.
+    fn say_ranges(self, said: &mut Said, rules: &[Rule]) {
+        if let (Some(quota), Some(rule)) = (self.value_at("quota"), rules.first()) {
             self.source.say_key(said, "quota");
-            say_range(said, "the quota", short(quota), rule);
-            return Ok(());
+            return say_range(said, "the quota", short(quota), rule);
         }
         self.source.say_key(said, "quotas");
-        let quotas = elements(self.table.get("quotas"));
+        let quotas = elements(self.value_at("quotas"));
         for (index, rule) in rules.iter().enumerate() {
             if let Some(quota) = quotas.get(index)
                 && (rule.quota == 0 || total(rule) < rule.quota)
             {
                 let number = index.saturating_add(1);
-                say_range(said, format_args!("quota {number}"), short(quota), rule);
-                break;
+                return say_range(said, format_args!("quota {number}"), short(quota), rule);
             }
+        }
+    }
+
+    pub(crate) fn say_quota_range(self, said: &mut Said, alloc: Global) -> Result<(), Memory> {
+        if let Some(rule) = self.rule {
+            say_range(said, "the quota", rule.quota, rule);
+        } else {
+            let rules = rules_of(alloc, self.table)?;
+            self.say_ranges(said, rules.as_slice());
         }
         Ok(())
     }

@@ -30,16 +30,16 @@ pub(crate) fn say_place(said: &mut Said, text: &str, place: usize) {
     said.line(format_args!("line {line}, column {column}: {row}"));
 }
 
-/// What ends the comment or the quotes that are open behind a letter, by what ended those before it: a line, or quotes. In
-/// quotes a `\` stands for itself, where the letter behind it ends nothing.
+/// What ends the comment or the quotes that are open behind a letter, by what ended those before it: a line, or quotes; or
+/// `\` in quotes, where the letter behind it ends nothing.
 fn end_behind(end: Option<char>, letter: char) -> Option<char> {
-    match (end, letter) {
-        (None, '#') => Some('\n'),
-        (None, '"' | '\'') => Some(letter),
-        (Some('"'), '\\') => Some('\\'),
-        (Some('\\'), _) => Some('"'),
-        (Some(last), _) if letter == last => None,
-        (end, _) => end,
+    match end {
+        None if letter == '#' => Some('\n'),
+        None if letter == '"' || letter == '\'' => Some(letter),
+        Some('\\') => Some('"'),
+        Some('"') if letter == '\\' => Some('\\'),
+        Some(last) if letter == last => None,
+        end => end,
     }
 }
 
