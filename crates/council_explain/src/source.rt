@@ -30,8 +30,8 @@ pub(crate) fn say_place(said: &mut Said, text: &str, place: usize) {
     said.line(format_args!("line {line}, column {column}: {row}"));
 }
 
-/// What ends the comment or the quotes that are open behind a letter, by what ended those before it: a line, or quotes; or
-/// `\` in quotes, where the letter behind it ends nothing.
+/// What ends the comment or the quotes that are open behind a letter, by what ended those before it: the end of a line, or
+/// quotes; `\` where the next letter ends nothing.
 fn end_behind(end: Option<char>, letter: char) -> Option<char> {
     match end {
         None if letter == '#' => Some('\n'),
