@@ -146,6 +146,12 @@ explained "a key with a slip in an inline table" <<'END'
 line 3: {name = "weigth =", weigth = 50}]
 a member has no key weigth: its keys are name, weight and weights
 END
+game 'quota = 1\n[[member]]\nname = "A"\nmember = 5\n'
+explained "a member in a member" <<'END'
+line 4: member = 5
+a member has no key member: its keys are name, weight and weights
+what belongs to the game stands before the first [[member]]
+END
 game "qouta = 51\n$a"
 explained "a key with a slip at the top" <<'END'
 line 1: qouta = 51
@@ -380,6 +386,11 @@ game '[1; 0000000000000000001]\n'
 explained "19 digits" <<'END'
 line 1, column 23: [1; 0000000000000000001]
 a number has at most 18 digits
+END
+game '[123456789012345678, 5]\n'
+explained "a comma behind a quota of 18 digits" <<'END'
+line 1, column 20: [123456789012345678, 5]
+a semicolon is expected here, behind the quota
 END
 game '\357\273\277[1; 1]\n'
 explained "a byte order mark before a bracket text" <<'END'

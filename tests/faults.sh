@@ -54,6 +54,7 @@ fault "a string without an end" "$text" <<<'quota = "51'
 fault "a key without a value" "$text" <<<'quota ='
 fault "a repeated key" "$text" <<<$'quota = 51\nquota = 51\n'"$three"
 fault "a letter in brackets" "$text" <<<'[a; 1]'
+fault "a number below 0 in brackets" "$text" <<<'[-1; 1]'
 fault "an integer of more than 64 bits" "$text" <<<$'quota = 9223372036854775808\n'"$three"
 fault "a header without its end" "$text" <<<'[[member]'
 
@@ -66,6 +67,7 @@ fault "an unknown key before a bad title" "unknown key" <<<$'title = "'"$(letter
 
 fault "a title that is no string" "bad title" <<<$'title = 5\nquota = 51\n'"$three"
 fault "a title of 201 bytes" "bad title" <<<$'title = "'"$(letters 201)"$'"\nquota = 51\n'"$three"
+accepted "a title of no byte" <<<$'title = ""\nquota = 51\n'"$three"
 accepted "a title of 200 bytes" <<<$'title = "'"$(letters 200)"$'"\nquota = 51\n'"$three"
 fault "a title with a TAB" "bad title" <<<$'title = "a\\tb"\nquota = 51\n'"$three"
 fault "a title with the byte 7F" "bad title" <<<$'title = "a\\u007Fb"\nquota = 51\n'"$three"
@@ -129,13 +131,19 @@ fault "the second quota above its total" "$range" <<<$'quotas = [5, 5]\n'"$two"
 fault "the second quota 0" "$range" <<<$'quotas = [5, 0]\n'"$two"
 
 bracket="bad bracket text"
-for text in '[51; 50,, 1]' '[51;]' '[51; 50, 49, 1] x' '[51; 50, 49, 1' '[1]' '[5 1; 1]' '[1; 0000000000000000001]' '[1; -1]' '[1, 1]' '[1; 1,]' '[1; 1]]' '[51'; do
+for text in '[51; 50,, 1]' '[51;]' '[51; 50, 49, 1] x' '[51; 50, 49, 1' '[1]' '[5 1; 1]' '[1; 0000000000000000001]' '[1; -1]' '[1, 1]' '[1; 1,]' '[1; 1]]' '[51' '[1; 1 1]' '[0000000000000000001; 1]'; do
     fault "$text" "$bracket" <<<"$text"
 done
 fault "a bracket text that is not UTF-8" "$bracket" < <(printf '[1; 1]\377')
 fault "a bracket text of weights above the limit" "bad weight of member 1" <<<'[1; 1000000000001]'
 fault "a bracket text with quota 0" "$range" <<<'[0; 1]'
 fault "a bracket text with a quota above the total" "$range" <<<'[999999999999999999; 1]'
+fault "a bracket text of quota 0 and a weight above the limit" "bad weight of member 2" <<<'[0; 1, 1000000000001]'
+for signs in '[051;50,49,1]' $'\r\n\t [ \n 51 \n ; 50 \n , 49,1 \n ] \n ' '[000000000000000051; 50, 49, 000000000000000001]'; do
+    run <<<"$signs"
+    printed "the board as ${signs//[[:space:]]/ }" "$top/examples/board.txt.tsv"
+done
+accepted "a bracket text with a weight at the limit" <<<'[1; 1000000000000]'
 equal_members 41 1 | fault "a bracket text of 41 members" "$list"
 {
     echo '[1; 1000000000001'

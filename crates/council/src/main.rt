@@ -66,16 +66,10 @@ fn hint(rt: &impl Eprint, cause: Cause) {
 const LONGEST_PATH: usize = 4096;
 
 /// Says why the file could not be opened.
-fn not_opened(
-    rt: &(impl Eprint + AllocGlobal),
-    wanted: &Wanted<'_>,
-    path: &str,
-    error: &io::Error,
-) -> ExitCode {
+fn not_opened(rt: &impl Eprint, wanted: &Wanted<'_>, path: &str, error: &io::Error) -> ExitCode {
     let _ = eprintln!(rt; "council: the game file cannot be opened");
-    if wanted.explain
-        && let Ok(path) = shown(rt.alloc(), path, LONGEST_PATH)
-    {
+    if wanted.explain {
+        let path = shown(path, LONGEST_PATH);
         let _ = eprintln!(rt; "  {path}: {error}");
     }
     ExitCode::from(1)

@@ -1,145 +1,84 @@
-//! What a fault says of a bracket text.
-use crate::file::index_of;
-use crate::grammar::{Read, first_misfit};
+//! Where a bracket text breaks its grammar, as the reader of such texts knows it.
 use crate::remedies::say_remedy_at;
-use crate::rules::say_range;
-use crate::said::Part::{Number, Text};
 use crate::said::Said;
 use crate::source::say_place;
-use council_game::{GameFault, Memory};
+use council_file::{bracket_rule, is_bracket};
+use council_game::{Memory, limits};
 use std::alloc::Global;
 
-/// Whether a text begins with `[` and a digit, but for blanks.
-pub(crate) fn is_bracket(bytes: &[u8]) -> bool {
-    let mut read = Read::Nothing;
-    for byte in bytes {
-        match read.with(*byte) {
-            Some(Read::Quota(_)) => return true,
-            Some(more) => read = more,
-            None => return false,
+/// How the front of a bracket text can end, and what is then wanted behind it. The first end that fits says it.
+const ENDS: &[(&str, &str)] = &[
+    ("", "nothing may stand behind the bracket"),
+    (
+        "]",
+        "a comma or a bracket is expected here, behind the weight",
+    ),
+    ("1]", "a weight is expected here, a whole number"),
+    (";1]", "a semicolon is expected here, behind the quota"),
+    ("1;1]", "the quota is expected here, a whole number"),
+    ("[1;1]", "a bracket is expected here"),
+];
+
+/// What is wanted behind the front of a bracket text; none where a text with this front breaks the grammar.
+fn wanted_behind(alloc: Global, front: &str) -> Result<Option<&'static str>, Memory> {
+    for (end, wanted) in ENDS {
+        let text = format!(in alloc; "{front}{end}")?;
+        if bracket_rule(alloc, text.as_bytes())?.is_some() {
+            return Ok(Some(*wanted));
         }
     }
-    false
+    Ok(None)
 }
 
-/// The numbers of a bracket text, the quota first.
-fn numbers_of(alloc: Global, bytes: &[u8]) -> Result<Vec<u64>, Memory> {
-    let mut numbers = Vec::new(alloc);
-    let mut number = None;
-    for byte in bytes {
-        if byte.is_ascii_digit() {
-            let digit = u64::from(*byte & 0x0F);
-            number = Some(
-                number
-                    .unwrap_or(0u64)
-                    .saturating_mul(10)
-                    .saturating_add(digit),
-            );
-        } else if let Some(whole) = number {
-            numbers.push(whole)?;
-            number = None;
+/// How many bytes of a text a bracket text can begin with, found by steps of 2^16 halved down to 1: where so many fit, fewer do.
+fn longest_front(alloc: Global, text: &str) -> Result<usize, Memory> {
+    let mut len = 0usize;
+    for halvings in 0..17u32 {
+        let longer = len.saturating_add(limits::FILE_BYTES >> halvings);
+        if let Some(front) = text.get(..longer)
+            && wanted_behind(alloc, front)?.is_some()
+        {
+            len = longer;
         }
     }
-    Ok(numbers)
+    Ok(len)
 }
 
 /// Says where a text breaks the grammar.
-fn say_grammar(said: &mut Said, bytes: &[u8]) {
-    let (place, read) = first_misfit(bytes);
-    match String::from_utf8_lossy(said.alloc(), bytes) {
-        Ok(text) => say_place(said, text.as_str(), place),
-        Err(_) => said.fail(),
-    }
-    said.line(&[read.wanted()]);
-    say_remedy_at(said, bytes, place);
-}
-
-/// Says which weight is too great.
-fn say_weight(said: &mut Said, weights: &[u64], member: u8) {
-    let Some(weight) = weights.get(index_of(member)) else {
-        return;
+pub(crate) fn say_misfit(said: &mut Said, alloc: Global, text: &str) -> Result<(), Memory> {
+    let len = longest_front(alloc, text)?;
+    let (front, rest) = text.split_at_checked(len).unwrap_or((text, ""));
+    let place = if rest.is_empty() {
+        front.trim_end().len()
+    } else {
+        len
     };
-    said.write(&[
-        Text("weight "),
-        Number(u64::from(member)),
-        Text(" is "),
-        Number(*weight),
-        Text(": the greatest is 1000000000000"),
-    ]);
-}
-
-/// Says what a fault says of the numbers of a bracket text.
-fn say_numbers(said: &mut Said, quota: u64, weights: &[u64], fault: GameFault) {
-    match fault {
-        GameFault::Members => {
-            let wanted = "at most 40 are allowed";
-            said.count("the text has ", weights.len(), " weights: ", wanted);
+    say_place(said, text, place);
+    match (front.as_bytes().last(), rest.as_bytes().first()) {
+        (Some(last), Some(next)) if last.is_ascii_digit() && next.is_ascii_digit() => {
+            said.line("a number has at most 18 digits")
         }
-        GameFault::Weight { member } => say_weight(said, weights, member),
-        GameFault::QuotaRange => {
-            let mut total = 0u64;
-            for weight in weights {
-                total = total.saturating_add(*weight);
-            }
-            say_range(said, "the quota", Number(quota), total);
-        }
-        // no faults of a bracket text that follows the grammar
-        GameFault::Read
-        | GameFault::TooLong
-        | GameFault::Text
-        | GameFault::UnknownKey
-        | GameFault::Title
-        | GameFault::Quota
-        | GameFault::Name { .. }
-        | GameFault::SameName { .. }
-        | GameFault::Bracket
-        | GameFault::Rules
-        | GameFault::Memory => {}
+        _ => said.line(wanted_behind(alloc, front)?.unwrap_or("")),
     }
-}
-
-/// Says what a fault says of a bracket text.
-pub(crate) fn say_bracket(said: &mut Said, bytes: &[u8], fault: GameFault) {
-    if fault == GameFault::Bracket {
-        say_grammar(said, bytes);
-        return;
-    }
-    match numbers_of(said.alloc(), bytes) {
-        Ok(numbers) => {
-            if let [quota, weights @ ..] = numbers.as_slice() {
-                say_numbers(said, *quota, weights, fault);
-            }
-        }
-        Err(_) => said.fail(),
-    }
-}
-
-/// Whether some number of a text is written as three zeros.
-fn has_three_zeros(bytes: &[u8]) -> bool {
-    let mut zeros = 0u8;
-    let mut others = false;
-    for byte in bytes {
-        if *byte == b'0' {
-            zeros = zeros.saturating_add(1);
-        } else if byte.is_ascii_digit() {
-            others = true;
-        } else {
-            if zeros == 3 && !others {
-                return true;
-            }
-            zeros = 0;
-            others = false;
-        }
-    }
-    false
+    say_remedy_at(said, text, place);
+    Ok(())
 }
 
 /// What is to be said of a game that was read, where another may be meant: of a bracket text with a weight `000`, as a comma
 /// between thousands makes one. The bytes are those of the file.
 pub fn remark(bytes: &[u8]) -> Option<&'static str> {
-    if is_bracket(bytes) && has_three_zeros(bytes) {
-        Some("a weight 000 was read as 0: a comma ends a weight, also between thousands")
-    } else {
-        None
+    if !is_bracket(bytes) {
+        return None;
     }
+    for row in bytes.windows(5) {
+        if let [before, b'0', b'0', b'0', behind] = row
+            && !before.is_ascii_digit()
+            && !behind.is_ascii_digit()
+        {
+            return Some(
+                "a weight 000 was read as 0: a comma ends a weight, also between thousands",
+            );
+        }
+    }
+    None
 }

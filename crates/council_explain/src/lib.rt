@@ -9,15 +9,14 @@
 mod bracket;
 mod explaining;
 mod file;
-mod grammar;
 mod members;
+mod no_toml;
 mod remedies;
 mod rules;
 mod said;
 mod source;
-mod tables;
 mod values;
 
 pub use bracket::remark;
 pub use explaining::explain;
-pub use said::shown;
+pub use said::{Harmless, shown};

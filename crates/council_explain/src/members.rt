@@ -1,102 +1,103 @@
 //! What a fault says of the members of a file.
-use crate::file::{File, is_among};
-use crate::said::Part::{Number, Shown, Text};
-use crate::said::{Part, Said};
+use crate::file::File;
+use crate::said::{Said, short};
 use crate::values::{elements, kind, say_text, say_value};
 use council_game::limits;
 use toml::Value;
 
-impl<'a> File<'a> {
-    pub(crate) fn say_members(&self, said: &mut Said) {
+impl File<'_> {
+    pub(crate) fn say_members(self, said: &mut Said) {
         let wanted = "each member begins with a line [[member]], with two brackets on each side";
-        match self.table.get("member") {
-            None => said.line(&["the file has no member: ", wanted]),
+        if let Some(rule) = self.rule {
+            let count = rule.weights.len();
+            said.line(format_args!("the text has {count} weights: at most 40 are allowed"));
+            return;
+        }
+        match self.value_at("member") {
+            None => said.line(format_args!("the file has no member: {wanted}")),
             Some(Value::Array(_)) => self.say_elements(said),
             Some(value) => {
-                self.say_key(said, "member");
-                said.line(&["member is ", kind(value), ": ", wanted]);
+                self.source.say_key(said, "member");
+                let kind = kind(value);
+                said.line(format_args!("member is {kind}: {wanted}"));
             }
         }
     }
 
     /// Says how many elements the array has, or else which is no table.
-    fn say_elements(&self, said: &mut Said) {
+    fn say_elements(self, said: &mut Said) {
         let members = self.members();
         if members.is_empty() || limits::MEMBERS < members.len() {
-            let wanted = "1 to 40 are allowed";
-            said.count("the file has ", members.len(), " members: ", wanted);
+            let count = members.len();
+            said.line(format_args!("the file has {count} members: 1 to 40 are allowed"));
             return;
         }
         for member in members {
-            if !member.is_table() {
-                say_value(said, member, "a member is a table with a name and a weight");
-                return;
+            if !matches!(member, Value::Table(_)) {
+                return say_value(said, member, "a member is a table with a name and a weight");
             }
         }
     }
 
-    pub(crate) fn say_name(&self, said: &mut Said, index: usize) {
+    pub(crate) fn say_name(self, said: &mut Said, index: usize) {
         let wanted = "a name is a text in quotes, of 1 to 64 bytes, on one line";
-        self.say_place(said, index, "name");
+        self.source.say_place(said, index, "name");
         match self.value_of(index, "name") {
-            None => said.line(&["the member has no name: ", wanted]),
+            None => said.line(format_args!("the member has no name: {wanted}")),
             Some(value) => say_text(said, value, wanted),
         }
     }
 
-    /// The first member before this one with the name.
-    fn namesake(&self, name: &str, index: usize) -> Option<usize> {
+    pub(crate) fn say_same_name(self, said: &mut Said, index: usize) {
+        self.source.say_place(said, index, "name");
         for earlier in 0..index {
-            if let Some(Value::String(other)) = self.value_of(earlier, "name") {
-                if is_among(other.as_str(), &[name]) {
-                    return Some(earlier);
-                }
+            if let Some(Value::String(name)) = self.value_of(earlier, "name")
+                && let Some(Value::String(again)) = self.value_of(index, "name")
+                && name.as_str() == again.as_str()
+            {
+                let number = earlier.saturating_add(1);
+                let name = short(name.as_str());
+                said.line(format_args!(
+                    "member {number} is named {name} too: each name stands once"
+                ));
+                self.source.say_place(said, earlier, "name");
+                break;
             }
         }
-        None
     }
 
-    pub(crate) fn say_same_name(&self, said: &mut Said, index: usize) {
-        self.say_place(said, index, "name");
-        let Some(Value::String(name)) = self.value_of(index, "name") else {
+    pub(crate) fn say_weight(self, said: &mut Said, index: usize) {
+        if let Some(rule) = self.rule {
+            if let Some(weight) = rule.weights.get(index) {
+                let number = index.saturating_add(1);
+                said.line(format_args!(
+                    "weight {number} is {weight}: the greatest is 1000000000000"
+                ));
+            }
             return;
-        };
-        let Some(earlier) = self.namesake(name.as_str(), index) else {
-            return;
-        };
-        said.write(&[
-            Text("member "),
-            Number(earlier.saturating_add(1) as u64),
-            Text(" is named "),
-            Shown(name.as_str()),
-            Text(" too: each name stands once"),
-        ]);
-        self.say_place(said, earlier, "name");
-    }
-
-    pub(crate) fn say_weight(&self, said: &mut Said, index: usize) {
-        let several = self.table.contains_key("quotas");
+        }
+        let several = self.value_at("quotas").is_some();
         let key = if several { "weights" } else { "weight" };
-        self.say_place(said, index, key);
-        let wanted = "weights are an array, with a number for each rule";
+        self.source.say_place(said, index, key);
         match self.value_of(index, key) {
-            None => said.line(&["the member has no ", key, ": each member has its own"]),
-            Some(Value::Array(weights)) if several => self.say_weights(said, weights.as_slice()),
-            Some(value) if several => say_value(said, value, wanted),
-            Some(value) => self.say_one_weight(said, value),
+            None => said.line(format_args!("the member has no {key}: each member has its own")),
+            Some(value) if !several => self.say_one_weight(said, value),
+            Some(Value::Array(weights)) => self.say_weights(said, weights.as_slice()),
+            Some(value) => say_value(
+                said,
+                value,
+                "weights are an array, with a number for each rule",
+            ),
         }
     }
 
-    fn say_weights(&self, said: &mut Said, weights: &[Value]) {
-        let rules = elements(self.table.get("quotas")).len();
-        if weights.len() != rules {
-            said.write(&[
-                Text("the number of weights is "),
-                Number(weights.len() as u64),
-                Text(", and that of quotas "),
-                Number(rules as u64),
-                Text(": a member has a weight for each rule"),
-            ]);
+    fn say_weights(self, said: &mut Said, weights: &[Value]) {
+        let count = weights.len();
+        let rules = elements(self.value_at("quotas")).len();
+        if count != rules {
+            said.line(format_args!(
+                "the number of weights is {count}, and that of quotas {rules}: a member has a weight for each rule"
+            ));
             return;
         }
         for weight in weights {
@@ -111,15 +112,13 @@ impl<'a> File<'a> {
     }
 
     /// Says what is wrong with a weight.
-    fn say_one_weight(&self, said: &mut Said, value: &Value) {
-        if !value.is_integer() {
+    fn say_one_weight(self, said: &mut Said, value: &Value) {
+        if matches!(value, Value::Integer(_)) {
+            let value = short(value);
+            said.line(format_args!("{value} is out of range: a weight is from 0 to 1000000000000"));
+        } else {
             let wanted = "a weight is a whole number from 0 to 1000000000000, without quotes";
             self.say_number(said, value, wanted);
-            return;
         }
-        said.write(&[
-            Part::Value(value),
-            Text(" is out of range: a weight is from 0 to 1000000000000"),
-        ]);
     }
 }

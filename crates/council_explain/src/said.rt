@@ -1,21 +1,10 @@
 //! The lines of an explanation.
 use council_game::Memory;
 use std::alloc::Global;
-use toml::Value;
+use std::fmt::{self, Display, Formatter, Write};
 
-/// No part of a line is longer, in characters.
-pub(crate) const LONGEST: usize = 100;
-
-/// A part of a line.
-#[derive(Clone, Copy)]
-pub(crate) enum Part<'t> {
-    Text(&'t str),
-    /// A text of the file, as it can stand in a line.
-    Shown(&'t str),
-    Number(u64),
-    /// A value as TOML writes it, as it can stand in a line.
-    Value(&'t Value),
-}
+/// No text or value of the file is shown longer, in characters.
+const LONGEST: usize = 100;
 
 /// The lines of an explanation, each begun with two blanks and ended with LF; and whether a growth was refused, so that some
 /// of it is not there.
@@ -33,78 +22,12 @@ impl Said {
         }
     }
 
-    /// The allocator of the lines.
-    pub(crate) fn alloc(&self) -> Global {
-        *self.text.allocator()
-    }
-
-    /// A growth was refused.
-    pub(crate) fn fail(&mut self) {
-        self.failed = true;
-    }
-
-    fn add(&mut self, text: &str) {
+    /// Adds a line.
+    pub(crate) fn line(&mut self, line: impl Display + Drop) {
         // memory: told at the end
-        if self.text.push_str(text).is_err() {
+        if writeln!(self.text, "  {line}").is_err() {
             self.failed = true;
         }
-    }
-
-    fn add_shown(&mut self, text: &str) {
-        // memory: told at the end
-        if push_shown(&mut self.text, text, LONGEST).is_err() {
-            self.failed = true;
-        }
-    }
-
-    /// Adds a line of these texts.
-    pub(crate) fn line(&mut self, texts: &[&str]) {
-        self.add("  ");
-        for text in texts {
-            self.add(*text);
-        }
-        self.add("\n");
-    }
-
-    fn push(&mut self, part: Part<'_>) {
-        let alloc = self.alloc();
-        match part {
-            Part::Text(text) => self.add(text),
-            Part::Shown(text) => self.add_shown(text),
-            Part::Number(number) => match number.to_string(alloc) {
-                Ok(text) => self.add(text.as_str()),
-                Err(_) => self.failed = true,
-            },
-            Part::Value(value) => match format!(in alloc; "{value}") {
-                Ok(text) => self.add_shown(text.as_str()),
-                Err(_) => self.failed = true,
-            },
-        }
-    }
-
-    /// Adds a line of these parts, some of which are no plain text.
-    pub(crate) fn write(&mut self, parts: &[Part<'_>]) {
-        self.add("  ");
-        for part in parts {
-            self.push(*part);
-        }
-        self.add("\n");
-    }
-
-    /// Adds a line with a number in it.
-    pub(crate) fn count<'t>(
-        &mut self,
-        before: &'t str,
-        number: usize,
-        behind: &'t str,
-        wanted: &'t str,
-    ) {
-        self.write(&[
-            Part::Text(before),
-            Part::Number(number as u64),
-            Part::Text(behind),
-            Part::Text(wanted),
-        ]);
     }
 
     /// The lines; Memory where a growth was refused.
@@ -127,27 +50,55 @@ fn is_harmful(letter: char) -> bool {
         )
 }
 
-/// Adds a text that is not the program's own, as `shown` gives it.
-fn push_shown(line: &mut String, text: &str, most: usize) -> Result<(), Memory> {
-    let mut left = most;
-    for letter in text.chars() {
-        if left == 0 {
-            return Ok(line.push_str("...")?);
-        }
-        left -= 1;
-        line.push(if is_harmful(letter) { ' ' } else { letter })?;
-    }
-    Ok(())
+/// A writer that passes on so many letters, dots in place of the next one, and none behind it.
+#[derive(Drop)]
+struct Cut<'a, W> {
+    writer: &'a mut W,
+    left: Option<usize>,
 }
 
-/// A text that is not the program's own as it can stand in a line: at most `most` characters of it, and a blank in place of
+impl<W: Write> Write for Cut<'_, W> {
+    fn write_str(&mut self, text: &str) -> fmt::Result {
+        for letter in text.chars() {
+            let Some(left) = self.left else {
+                break;
+            };
+            self.left = left.checked_sub(1);
+            if left == 0 {
+                self.writer.write_str("...")?;
+            } else {
+                let shown = if is_harmful(letter) { ' ' } else { letter };
+                self.writer.write_char(shown)?;
+            }
+        }
+        Ok(())
+    }
+}
+
+/// What is not the program's own, as it can stand in a line.
+#[derive(Drop)]
+pub struct Harmless<T> {
+    what: T,
+    most: usize,
+}
+
+/// What is not the program's own, as it can stand in a line: at most `most` characters of it, and a blank in place of
 /// each that moves a terminal, ends a line, turns the direction of writing, or shows nothing.
-///
-/// # Errors
-///
-/// Memory where a growth was refused.
-pub fn shown(alloc: Global, text: &str, most: usize) -> Result<String, Memory> {
-    let mut shown = String::new(alloc);
-    push_shown(&mut shown, text, most)?;
-    Ok(shown)
+pub fn shown<T: Display>(what: T, most: usize) -> Harmless<T> {
+    Harmless { what, most }
+}
+
+/// The same, of at most as many characters as a line of an explanation shows.
+pub(crate) fn short<T: Display>(what: T) -> Harmless<T> {
+    shown(what, LONGEST)
+}
+
+impl<T: Display> Display for Harmless<T> {
+    fn fmt<W: Write>(&self, f: &mut Formatter<W>) -> fmt::Result {
+        let mut cut = Cut {
+            writer: f,
+            left: Some(self.most),
+        };
+        write!(cut, "{}", self.what)
+    }
 }

@@ -1,59 +1,7 @@
-//! The text of a game file, and where its keys stand.
-use crate::said::Part::{Number, Shown, Text};
-use crate::said::Said;
+//! Places in the text of a game file.
+use crate::said::{Said, short};
 use council_game::Memory;
 use std::alloc::Global;
-
-/// What a byte of a text stands in.
-#[derive(Clone, Copy)]
-enum Within {
-    Nothing,
-    Comment,
-    Quotes,
-    Escape,
-    SingleQuotes,
-}
-
-impl Within {
-    /// What the byte stands in, if what stands before it does in this.
-    fn at(self, byte: u8) -> Within {
-        match (self, byte) {
-            (Within::Nothing, b'#') => Within::Comment,
-            (Within::Nothing, b'"') => Within::Quotes,
-            (Within::Nothing, b'\'') => Within::SingleQuotes,
-            (Within::Comment, b'\n') => Within::Nothing,
-            (Within::Quotes, b'"') => Within::Nothing,
-            (Within::SingleQuotes, b'\'') => Within::Nothing,
-            (Within::Quotes, b'\\') => Within::Escape,
-            (Within::Escape, _) => Within::Quotes,
-            (within, _) => within,
-        }
-    }
-}
-
-/// What comes behind a word and blanks, where the text begins with the word.
-fn behind<'t>(text: &'t [u8], word: &[u8]) -> Option<&'t [u8]> {
-    Some(text.strip_prefix(word)?.trim_ascii_start())
-}
-
-/// Whether `[[member]]` begins here.
-fn is_header(text: &[u8]) -> bool {
-    let Some(name) = behind(text, b"[[") else {
-        return false;
-    };
-    match behind(name, b"member") {
-        Some(rest) => behind(rest, b"]]").is_some(),
-        None => false,
-    }
-}
-
-/// Whether the text begins with the key, and what comes then fits a key.
-fn begins_with_key(text: &[u8], key: &[u8]) -> bool {
-    match behind(text, key) {
-        Some(rest) => matches!(rest.first(), Some(b'=' | b'.' | b']')),
-        None => false,
-    }
-}
 
 /// The line and the column of a place, from 1; the column in characters.
 fn line_and_column(text: &[u8], place: usize) -> (usize, usize) {
@@ -72,115 +20,105 @@ fn line_and_column(text: &[u8], place: usize) -> (usize, usize) {
 
 /// The text of a line, from 1.
 fn text_of_line(text: &str, line: usize) -> &str {
-    let mut left = line;
-    for row in text.lines() {
-        if left <= 1 {
-            return row;
-        }
-        left -= 1;
-    }
-    ""
+    text.lines().nth(line.saturating_sub(1)).unwrap_or("")
 }
 
 /// Says the line and the column of a place, and what stands in the line.
 pub(crate) fn say_place(said: &mut Said, text: &str, place: usize) {
     let (line, column) = line_and_column(text.as_bytes(), place);
-    said.write(&[
-        Text("line "),
-        Number(line as u64),
-        Text(", column "),
-        Number(column as u64),
-        Text(": "),
-        Shown(text_of_line(text, line)),
-    ]);
+    let row = short(text_of_line(text, line));
+    said.line(format_args!("line {line}, column {column}: {row}"));
 }
 
-/// The text of a game file, and a copy of it with blanks in place of comments and of what stands in quotes.
-#[derive(Drop)]
+/// What ends the comment or the quotes that are open behind a letter, by what ended those before it: the end of a line, or
+/// quotes; `\` where the next letter ends nothing.
+fn end_behind(end: Option<char>, letter: char) -> Option<char> {
+    match end {
+        None if letter == '#' => Some('\n'),
+        None if letter == '"' || letter == '\'' => Some(letter),
+        Some('\\') => Some('"'),
+        Some('"') if letter == '\\' => Some('\\'),
+        Some(last) if letter == last => None,
+        end => end,
+    }
+}
+
+/// A text without blanks, comments and what stands in quotes. The ends of lines are left.
+pub(crate) fn bare(alloc: Global, text: &str) -> Result<String, Memory> {
+    let mut bare = String::new(alloc);
+    let mut end = None;
+    for letter in text.chars() {
+        end = end_behind(end, letter);
+        if letter == '\n' || (end.is_none() && letter != ' ' && letter != '\t') {
+            bare.push(letter)?;
+        }
+    }
+    Ok(bare)
+}
+
+/// Whether a key stands in a line of a bare text: a whole word, before what fits a key.
+fn has_key(line: &[u8], key: &[u8]) -> bool {
+    let mut inside = false;
+    for (place, byte) in line.iter().enumerate() {
+        if !inside
+            && let Some(rest) = line.get(place..)
+            && let Some(behind) = rest.strip_prefix(key)
+            && matches!(behind.first(), Some(b'=' | b'.' | b']'))
+        {
+            return true;
+        }
+        inside = byte.is_ascii_alphanumeric() || *byte == b'-' || *byte == b'_';
+    }
+    false
+}
+
+/// The line of a bare text in which a key stands first, where the first one has this number.
+fn line_of_key(bare: &str, first: usize, key: &str) -> Option<usize> {
+    let mut number = first;
+    for line in bare.lines() {
+        if has_key(line.as_bytes(), key.as_bytes()) {
+            return Some(number);
+        }
+        number = number.saturating_add(1);
+    }
+    None
+}
+
+/// The line of a bare text, from 1, in which a key of the member with this index stands, or else that in which the
+/// member begins: behind the header, or else the brace, that has this index among its like.
+fn line_of_member(bare: &str, index: usize, key: &str) -> Option<usize> {
+    let header = "[[member]]";
+    let mark = if bare.contains(header) { header } else { "{" };
+    let before = index.checked_add(1)?;
+    let rest = bare.splitn(before.checked_add(1)?, mark).nth(before)?;
+    let (line, _) = line_and_column(bare.as_bytes(), bare.len().saturating_sub(rest.len()));
+    let member = rest.split(mark).next()?;
+    line_of_key(member, line, key).or(Some(line))
+}
+
+/// The text of a game file, and what is bare of it.
+#[derive(Clone, Copy)]
 pub(crate) struct Source<'a> {
-    text: &'a str,
-    plain: Vec<u8>,
+    pub(crate) text: &'a str,
+    pub(crate) bare: &'a str,
 }
 
-impl<'a> Source<'a> {
-    pub(crate) fn new(alloc: Global, text: &'a str) -> Result<Source<'a>, Memory> {
-        let mut plain = Vec::new(alloc);
-        let mut within = Within::Nothing;
-        for byte in text.as_bytes() {
-            within = within.at(*byte);
-            let is_plain = matches!(within, Within::Nothing) || *byte == b'\n';
-            plain.push(if is_plain { *byte } else { b' ' })?;
+impl Source<'_> {
+    /// Says a line, and what stands in it; nothing where there is none.
+    fn say_line(self, said: &mut Said, line: Option<usize>) {
+        if let Some(line) = line {
+            let row = short(text_of_line(self.text, line).trim());
+            said.line(format_args!("line {line}: {row}"));
         }
-        Ok(Source { text, plain })
     }
 
-    /// The text with blanks in place of comments and of what stands in quotes.
-    pub(crate) fn plain(&self) -> &[u8] {
-        self.plain.as_slice()
+    /// Says where a key of the top stands.
+    pub(crate) fn say_key(self, said: &mut Said, key: &str) {
+        self.say_line(said, line_of_key(self.bare, 1, key));
     }
 
-    /// Where a key stands first, from one place up to another.
-    fn key_between(&self, key: &str, from: usize, to: usize) -> Option<usize> {
-        let mut inside = false;
-        for (place, byte) in self.plain.iter().enumerate().take(to).skip(from) {
-            if !inside && begins_with_key(self.plain.get(place..)?, key.as_bytes()) {
-                return Some(place);
-            }
-            inside = byte.is_ascii_alphanumeric() || *byte == b'-' || *byte == b'_';
-        }
-        None
-    }
-
-    /// Where a key stands first.
-    pub(crate) fn key(&self, key: &str) -> Option<usize> {
-        self.key_between(key, 0, self.plain.len())
-    }
-
-    /// The place of the member with this index: behind the header, or else the brace, that has this index among its like.
-    fn member_by(&self, by_header: bool, index: usize) -> Option<usize> {
-        let mut left = index;
-        for place in 0..self.plain.len() {
-            let rest = self.plain.get(place..)?;
-            let begins = if by_header {
-                is_header(rest)
-            } else {
-                rest.first() == Some(&b'{')
-            };
-            if begins {
-                if left == 0 {
-                    return Some(place);
-                }
-                left -= 1;
-            }
-        }
-        None
-    }
-
-    /// The place of the member with this index.
-    fn member(&self, index: usize) -> Option<usize> {
-        self.member_by(self.member_by(true, 0).is_some(), index)
-    }
-
-    /// Where a key of the member with this index stands, or else the member.
-    pub(crate) fn member_key(&self, index: usize, key: &str) -> Option<usize> {
-        let from = self.member(index)?;
-        let to = self
-            .member(index.saturating_add(1))
-            .unwrap_or(self.plain.len());
-        self.key_between(key, from, to).or(Some(from))
-    }
-
-    /// Says the line of a place, and what stands in it; nothing where there is no place.
-    pub(crate) fn say(&self, said: &mut Said, place: Option<usize>) {
-        let Some(place) = place else {
-            return;
-        };
-        let (line, _) = line_and_column(self.text.as_bytes(), place);
-        said.write(&[
-            Text("line "),
-            Number(line as u64),
-            Text(": "),
-            Shown(text_of_line(self.text, line).trim()),
-        ]);
+    /// Says where a key of the member with this index stands, or else the member.
+    pub(crate) fn say_place(self, said: &mut Said, index: usize, key: &str) {
+        self.say_line(said, line_of_member(self.bare, index, key));
     }
 }

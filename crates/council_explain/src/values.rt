@@ -1,6 +1,5 @@
 //! Values of a file, as an explanation shows them.
-use crate::said::Part::Text;
-use crate::said::{Part, Said};
+use crate::said::{Said, short};
 use toml::Value;
 
 /// What kind of value it is.
@@ -17,24 +16,10 @@ pub(crate) fn kind(value: &Value) -> &'static str {
 }
 
 /// Says what a value is, and what is wanted in its place.
-pub(crate) fn say_value<'t>(said: &mut Said, value: &'t Value, wanted: &'t str) {
-    said.write(&[
-        Part::Value(value),
-        Text(" is "),
-        Text(kind(value)),
-        Text(": "),
-        Text(wanted),
-    ]);
-}
-
-/// Whether a text has a TAB, the end of a line or another control character.
-fn has_control(text: &str) -> bool {
-    for byte in text.as_bytes() {
-        if *byte < 0x20 || *byte == 0x7F {
-            return true;
-        }
-    }
-    false
+pub(crate) fn say_value(said: &mut Said, value: &Value, wanted: &str) {
+    let kind = kind(value);
+    let value = short(value);
+    said.line(format_args!("{value} is {kind}: {wanted}"));
 }
 
 /// Says what is wrong with what is to be a text on one line: what it is, what it has, or else how long it is.
@@ -42,11 +27,13 @@ pub(crate) fn say_text(said: &mut Said, value: &Value, wanted: &str) {
     let Value::String(text) = value else {
         return say_value(said, value, wanted);
     };
-    if has_control(text.as_str()) {
-        let odd = "the text has a TAB, the end of a line or another control character: ";
-        said.line(&[odd, wanted]);
+    if text.as_bytes().iter().any(u8::is_ascii_control) {
+        said.line(format_args!(
+            "the text has a TAB, the end of a line or another control character: {wanted}"
+        ));
     } else {
-        said.count("the text has ", text.len(), " bytes: ", wanted);
+        let bytes = text.len();
+        said.line(format_args!("the text has {bytes} bytes: {wanted}"));
     }
 }
 
@@ -55,13 +42,5 @@ pub(crate) fn elements(value: Option<&Value>) -> &[Value] {
     match value {
         Some(Value::Array(items)) => items.as_slice(),
         _ => &[],
-    }
-}
-
-/// The number that a value is, and 0 of any other value.
-pub(crate) fn number(value: Option<&Value>) -> u64 {
-    match value {
-        Some(Value::Integer(n)) if 0 <= *n => *n as u64,
-        _ => 0,
     }
 }

@@ -6,11 +6,11 @@ ghost use Rattle.council_file.specs.Bracket.{symbols, weights_of, rule_of, is_br
 
 use crate::scanner::Scanner;
 use crate::token::Token;
-use council_game::{Game, GameFault, Rule};
+use council_game::{Game, GameFault, Memory, Rule};
 use std::alloc::{AllocError, Global};
 
 /// Whether a text is in brackets: it begins with `[` and a digit, but for blanks.
-pub(crate) fn is_bracket(bytes: &[u8]) -> bool
+pub fn is_bracket(bytes: &[u8]) -> bool
     ensures { result ≡ is_bracket bytes.now }
 {
     let mut scanner = Scanner::new(bytes);
@@ -42,7 +42,11 @@ fn weights_of(alloc: Global, scanner: &mut Scanner<'_>) -> Result<Option<Vec<u64
 }
 
 /// The rule of a bracket text, and nothing where the text breaks the grammar.
-fn rule_of(alloc: Global, bytes: &[u8]) -> Result<Option<Rule>, AllocError>
+///
+/// # Errors
+///
+/// Memory where a growth was refused.
+pub fn bracket_rule(alloc: Global, bytes: &[u8]) -> Result<Option<Rule>, Memory>
     ensures { IfOk result (λ o. option_map rule_view o ≡ rule_of (symbols bytes.now)) }
 {
     let mut scanner = Scanner::new(bytes);
@@ -77,7 +81,7 @@ fn counted_names(alloc: Global, count: usize) -> Result<Vec<String>, AllocError>
 pub(crate) fn game_of_bracket(alloc: Global, bytes: &[u8]) -> Result<Game, GameFault>
     ensures { Answers result (game_of_bracket bytes.now) }
 {
-    let Some(rule) = rule_of(alloc, bytes)? else {
+    let Some(rule) = bracket_rule(alloc, bytes)? else {
         return Err(GameFault::Bracket);
     };
     let names = counted_names(alloc, rule.weights.len())?;

@@ -11,13 +11,15 @@ ghost use Rattle.council_file.specs.File.{top_keys, member_keys, has_other_key, 
 use crate::members::member_list;
 use toml::{Table, Value};
 
-fn is_top_key(key: &str) -> bool
+/// Whether a file may have the key at its top.
+pub fn is_top_key(key: &str) -> bool
     ensures { result ≡ list_any (pointwise nat_eq key.now) top_keys }
 {
     key == "title" || (key == "quota" || (key == "quotas" || key == "member"))
 }
 
-fn is_member_key(key: &str) -> bool
+/// Whether a member may have the key.
+pub fn is_member_key(key: &str) -> bool
     ensures { result ≡ list_any (pointwise nat_eq key.now) member_keys }
 {
     key == "name" || (key == "weight" || key == "weights")

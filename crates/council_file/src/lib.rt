@@ -19,6 +19,9 @@ mod title;
 mod token;
 mod tree;
 
+pub use bracket::{bracket_rule, is_bracket};
 pub use council_text::write_notation;
+pub use keys::{is_member_key, is_top_key};
 pub use parse::parse_game;
 pub use reading::read_game;
+pub use rules::rules_of;

@@ -10,7 +10,7 @@ use crate::member_weights::{only_weights, weights_under};
 use crate::members::member_list;
 use crate::quotas::{has_bad_quotas, quota_at, quota_from};
 use crate::tree::{elements_at, has_key, some_has_key, value_at};
-use council_game::Rule;
+use council_game::{Memory, Rule};
 use std::alloc::{AllocError, Global};
 use toml::Table;
 
@@ -68,13 +68,18 @@ fn lone_rule(alloc: Global, table: &Table) -> Result<Vec<Rule>, AllocError>
     Ok(rules)
 }
 
+/// The rules in the tree of a file: a number that is missing or out of range is one that no game has.
+///
+/// # Errors
+///
+/// Memory where a growth was refused.
 #[tactic(auto, using(council_game::proofs::Shared::Lists::maps))]
-pub(crate) fn rules_of(alloc: Global, table: &Table) -> Result<Vec<Rule>, AllocError>
+pub fn rules_of(alloc: Global, table: &Table) -> Result<Vec<Rule>, Memory>
     ensures { IfOk result (λ v. rule_views v.items ≡ rules_of (table_view table.now)) }
 {
     if has_key(table, "quota") {
-        lone_rule(alloc, table)
+        Ok(lone_rule(alloc, table)?)
     } else {
-        rules_at(alloc, table, elements_at(table, "quotas").len())
+        Ok(rules_at(alloc, table, elements_at(table, "quotas").len())?)
     }
 }

@@ -1,6 +1,6 @@
 use Rattle.std.proofs.Common.{sym, Some, None}
 use Rattle.council_file.proofs.Weights.{rule_without_opening, rule_without_quota, rule_without_semicolon, rule_is}
-use Rattle.council_file.proofs.bracket.rule_of.Goals as goal
+use Rattle.council_file.proofs.bracket.bracket_rule.Goals as goal
 
 pub returns-then-not-take_opening : goal.returns-then-not-take_opening
 returns-then-not-take_opening c = rw (← c.new-scanner.ensures) (rule_without_opening c.new-scanner.result c.if-not-take_opening.ensures)
