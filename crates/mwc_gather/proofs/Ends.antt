@@ -15,7 +15,7 @@ use Rattle.mwc_parts.specs.Shared.Dealing.{DeskView, IsWell, given_slices, IsFre
 use Rattle.mwc_parts.specs.Parts.{IsPart, shares}
 use Rattle.mwc_parts.specs.Fault.{fault_of, also}
 use Rattle.mwc_parts.specs.declared.part.Part.{Part}
-use Rattle.mwc_parts.specs.declared.met.Met.{Met}
+use Rattle.mwc_parts.specs.declared.fault.Met.{Met}
 use Rattle.mwc_parts.specs.declared.fault.GatherFault.{GatherFault}
 use Rattle.mwc_parts.specs.declared.fault.GatherFault.TheVariants.{TooMany, Start, Memory, Ring}
 use Rattle.mwc_parts.proofs.Shared.Turns as turns

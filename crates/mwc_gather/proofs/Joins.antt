@@ -1,15 +1,26 @@
--- From the join of a worker.
-use Rattle.std.specs.Prelude.{◌≡◌, ◌⊎◌, ℕ, ◌<◌, Bool, List, ◌++◌, All, Result, Ok, Err}
-use Rattle.std.proofs.Common.{subst, sym}
-use Rattle.mwc_parts.specs.Slicing.{Slicing}
+-- From the join of a worker to its part.
+use Rattle.std.specs.Prelude.{◌≡◌, ◌⊎◌, ℕ, ◌<◌, false, List, ◌++◌, length, Some, None, Result, Ok, Err, IfOk, IfErr}
+use Rattle.std.specs.List.{flat_map}
+use Rattle.std.proofs.Common.{ap, subst, sym, ◌∙◌, inl, inr}
+use Rattle.std.proofs.lemmas.Bool.{false≢true}
 use Rattle.mwc_pipe.specs.RingViews.{RingInView, RingOutView, ClosedView}
 use Rattle.mwc_pipe.specs.declared.word.Word.{Word}
 use Rattle.mwc_pipe.specs.declared.closed.Unfinished.{Unfinished}
-use Rattle.mwc_parts.specs.Wording.{IsWholeSending, IsCutSending, open_words}
-use Rattle.mwc_parts.specs.Shared.Wording.{end_words}
-use Rattle.mwc_parts.specs.Settled.{AreSettled}
-use Rattle.mwc_parts.proofs.Shared.Settles.{settles}
+use Rattle.mwc_parts.specs.Slicing.{Slicing}
+use Rattle.mwc_parts.specs.Wording.{IsWholeSending, IsCutSending, coalition_count}
+use Rattle.mwc_parts.specs.Parts.{IsPart}
+use Rattle.mwc_parts.specs.Pieces.{HasEnds, ends_from}
+use Rattle.mwc_parts.specs.Drafts.{IsDraftOf, fault_in_draft}
+use Rattle.mwc_parts.specs.Shared.Settled.{AreSettled, HasAllWords}
+use Rattle.mwc_parts.specs.Shared.Fault.{fault_in}
+use Rattle.mwc_parts.specs.declared.draft.Draft.{Draft}
+use Rattle.mwc_parts.specs.declared.part.Part.{Part}
+use Rattle.mwc_parts.specs.declared.fault.GatherFault.{GatherFault}
+use Rattle.mwc_parts.proofs.Shared.Readings.{has_ends}
+use Rattle.mwc_parts.proofs.Shared.Settles.{settles, kept_by, lost_or_cut, whole_sent, whole_reads, whole_many}
 use Rattle.mwc_gather.specs.Sending.{HasWorked}
+use Rattle.mwc_gather.specs.declared.desk.Desk.{Desk}
+use Rattle.mwc_gather.specs.Inner.Desks.{desk_slicing, IsOf, IsPartOfDesk, CanEndWith}
 
 worked_ok : (g : Slicing) (most : ℕ) (out : RingInView) (tasks : RingOutView) (r : Result ClosedView Unfinished × RingOutView)
     (closed : ClosedView) → HasWorked g most out tasks r → r.0 ≡ Ok closed → IsWholeSending g most r.1.taken closed.accepted
@@ -19,10 +30,73 @@ worked_ok g most out tasks (Ok c, t) closed w e =
     subst (λ (x : ClosedView). IsWholeSending g most t.taken x.accepted ⊎ IsCutSending g most t.taken x.accepted) q w.2
 worked_ok g most out tasks (Err x, t) closed w e = cc
 
-pub join_settles : (g : Slicing) (most : ℕ) (out : RingInView) (tasks : RingOutView) (r : Result ClosedView Unfinished × RingOutView)
-    (closed : ClosedView) (left : List Word) (given : List ℕ) (told : Bool) (words : List Word)
-    → HasWorked g most out tasks r → r.0 ≡ Ok closed → All (λ j. j < g.slices) given
-    → r.1.taken ++ left ≡ open_words given ++ end_words told → words ≡ closed.accepted → AreSettled g most given told words
-join_settles g most out tasks r closed left given told words w e a t q =
-    subst (λ (x : List Word). AreSettled g most given told x) (sym q)
-    (settles g most r.1.taken left given told closed.accepted a t (worked_ok g most out tasks r closed w e))
+-- what the closed end of a desk's worker tells is what became of the slices that it was given
+settled : (d : Desk) (r : Result ClosedView Unfinished × RingOutView) (closed : ClosedView) (left : List Word)
+    → HasWorked (desk_slicing d) d.worker.promise.most d.worker.promise.out.value d.worker.promise.tasks.value r → r.0 ≡ Ok closed
+    → r.1.taken ++ left ≡ d.tasks.accepted → AreSettled (desk_slicing d) d.worker.promise.most d.given.items d.told closed.accepted
+settled d r closed left w e t =
+    let given = d.worker.promise in
+    settles (desk_slicing d) given.most r.1.taken left d.given.items d.told closed.accepted d.below (t ∙ d.tasks_are)
+    (worked_ok (desk_slicing d) given.most given.out.value given.tasks.value r closed w e)
+
+-- a draft of all words of a desk's worker
+pub record HasEnded (d : Desk) (draft : Draft) : Type 0 where
+  pub whole : HasAllWords (desk_slicing d) d.worker.promise.most d.given.items d.told draft
+  pub lost : draft.lost ≡ false → d.draft.lost ≡ false
+  pub cut : draft.cut ≡ false → d.draft.cut ≡ false
+
+pub has_ended : {draft : Draft} (d : Desk) (r : Result ClosedView Unfinished × RingOutView) (closed : ClosedView) (left rest : List Word)
+    → HasWorked (desk_slicing d) d.worker.promise.most d.worker.promise.out.value d.worker.promise.tasks.value r → r.0 ≡ Ok closed
+    → r.1.taken ++ left ≡ d.tasks.accepted → d.words.taken ++ rest ≡ closed.accepted → IsDraftOf (d.words.taken ++ rest) draft
+    → (draft.lost ≡ false → d.draft.lost ≡ false) → (draft.cut ≡ false → d.draft.cut ≡ false) → HasEnded d draft
+has_ended {draft} d r closed left rest w e t q keeps lost cut = record {
+  whole = record {
+    words = closed.accepted;
+    settled = settled d r closed left w e t;
+    keeps = subst (λ (x : List Word). IsDraftOf x draft) q keeps;
+  };
+  lost = lost;
+  cut = cut;
+}
+
+module _ {d : Desk} {draft : Draft} (h : HasEnded d draft) where
+  pub whole_ends : fault_in_draft draft ≡ None → HasEnds d.given.items draft.ends.items (length draft.got.items)
+  whole_ends e = has_ends (whole_reads h.whole e)
+
+  part_of : {g : Slicing} {most : ℕ} (p : Part) → fault_in_draft draft ≡ None → p.slices.items ≡ d.given.items
+      → p.ends.items ≡ draft.ends.items → p.got.items ≡ draft.got.items → IsOf g most d → IsPartOfDesk g d p
+  part_of p none slices ends got own =
+      let reads = whole_reads h.whole none in
+      let kept = kept_by draft.lost draft.cut none in record {
+        slices = slices;
+        part = subst (λ (x : Slicing). IsPart x p) own.0 (
+          got ∙ reads.joins ∙ ap (flat_map (desk_slicing d).slice) (sym slices),
+          ends ∙ reads.ends_are ∙ ap (ends_from (desk_slicing d) 0) (sym slices),
+        );
+        well = (h.lost kept.0, h.cut kept.1);
+        told = (whole_sent h.whole none).was_told;
+      }
+
+  fault_of_desk : {g : Slicing} {most : ℕ} (why : GatherFault) → fault_in_draft draft ≡ Some why → IsOf g most d
+      → CanEndWith g most d (Some why)
+  fault_of_desk {g} {most} why e own = elim (lost_or_cut draft.lost draft.cut why e) [
+    | inl lost ↦ let memory = lost.1 in (λ z. cc, λ z. memory, λ z. absurd cc)
+    | inr cut ↦ let many = cut.2 in (
+      λ z. cc,
+      λ z. absurd (false≢true (sym (h.lost cut.0) ∙ z)),
+      λ z. subst (λ (x : Slicing). most < coalition_count x d.given.items) own.0
+          (subst (λ (n : ℕ). n < coalition_count (desk_slicing d) d.given.items) own.1 (whole_many h.whole cut.1)),
+    )
+  ]
+
+  -- the answer of its draft: a part, or why there is none
+  pub part_answered : (r : Result Part GatherFault) → IfOk r (λ p. (fault_in_draft draft ≡ None) × (p.slices.items ≡ d.given.items)
+      × (p.ends.items ≡ draft.ends.items) × (p.got.items ≡ draft.got.items)) → IfOk r (λ p. (g : Slicing) (most : ℕ) → IsOf g most d
+      → IsPartOfDesk g d p)
+  part_answered (Ok p) is = λ g most own. part_of p is.0 is.1 is.2 is.3 own
+  part_answered (Err why) is = tt
+
+  pub end_answered : (r : Result Part GatherFault) → IfOk r (λ p. (g : Slicing) (most : ℕ) → IsOf g most d → IsPartOfDesk g d p)
+      → IfErr r (λ why. fault_in_draft draft ≡ Some why) → (g : Slicing) (most : ℕ) → IsOf g most d → CanEndWith g most d (fault_in r)
+  end_answered (Ok p) part none g most own = let of = part g most own in (of.well, of.told)
+  end_answered (Err why) none is g most own = fault_of_desk why is own
