@@ -10,7 +10,7 @@ use Rattle.mwc_parts.specs.Slicing.{Slicing}
 use Rattle.mwc_parts.specs.Wording.{IsWholeSending, IsCutSending, coalition_count}
 use Rattle.mwc_parts.specs.Parts.{IsPart}
 use Rattle.mwc_parts.specs.Pieces.{HasEnds, ends_from}
-use Rattle.mwc_parts.specs.Drafts.{IsDraftOf, fault_in_draft}
+use Rattle.mwc_parts.specs.Drafts.{IsDraftOf, IsPartOfDraft, fault_in_draft}
 use Rattle.mwc_parts.specs.Shared.Settled.{AreSettled, HasAllWords}
 use Rattle.mwc_parts.specs.Shared.Fault.{fault_in}
 use Rattle.mwc_parts.specs.declared.draft.Draft.{Draft}
@@ -30,15 +30,6 @@ worked_ok g most out tasks (Ok c, t) closed w e =
     subst (λ (x : ClosedView). IsWholeSending g most t.taken x.accepted ⊎ IsCutSending g most t.taken x.accepted) q w.2
 worked_ok g most out tasks (Err x, t) closed w e = cc
 
--- what the closed end of a desk's worker tells is what became of the slices that it was given
-settled : (d : Desk) (r : Result ClosedView Unfinished × RingOutView) (closed : ClosedView) (left : List Word)
-    → HasWorked (desk_slicing d) d.worker.promise.most d.worker.promise.out.value d.worker.promise.tasks.value r → r.0 ≡ Ok closed
-    → r.1.taken ++ left ≡ d.tasks.accepted → AreSettled (desk_slicing d) d.worker.promise.most d.given.items d.told closed.accepted
-settled d r closed left w e t =
-    let given = d.worker.promise in
-    settles (desk_slicing d) given.most r.1.taken left d.given.items d.told closed.accepted d.below (t ∙ d.tasks_are)
-    (worked_ok (desk_slicing d) given.most given.out.value given.tasks.value r closed w e)
-
 -- a draft of all words of a desk's worker
 pub record HasEnded (d : Desk) (draft : Draft) : Type 0 where
   pub whole : HasAllWords (desk_slicing d) d.worker.promise.most d.given.items d.told draft
@@ -49,37 +40,42 @@ pub has_ended : {draft : Draft} (d : Desk) (r : Result ClosedView Unfinished × 
     → HasWorked (desk_slicing d) d.worker.promise.most d.worker.promise.out.value d.worker.promise.tasks.value r → r.0 ≡ Ok closed
     → r.1.taken ++ left ≡ d.tasks.accepted → d.words.taken ++ rest ≡ closed.accepted → IsDraftOf (d.words.taken ++ rest) draft
     → (draft.lost ≡ false → d.draft.lost ≡ false) → (draft.cut ≡ false → d.draft.cut ≡ false) → HasEnded d draft
-has_ended {draft} d r closed left rest w e t q keeps lost cut = record {
-  whole = record {
-    words = closed.accepted;
-    settled = settled d r closed left w e t;
-    keeps = subst (λ (x : List Word). IsDraftOf x draft) q keeps;
-  };
-  lost = lost;
-  cut = cut;
-}
+has_ended {draft} d r closed left rest w e t q keeps lost cut =
+    let given = d.worker.promise in
+    let worked = worked_ok (desk_slicing d) given.most given.out.value given.tasks.value r closed w e in record {
+      whole = record {
+        words = closed.accepted;
+        settled = settles (desk_slicing d) given.most r.1.taken left d.given.items d.told closed.accepted d.below (t ∙ d.tasks_are) worked;
+        keeps = subst (λ (x : List Word). IsDraftOf x draft) q keeps;
+      };
+      lost = lost;
+      cut = cut;
+    }
 
 module _ {d : Desk} {draft : Draft} (h : HasEnded d draft) where
   pub whole_ends : fault_in_draft draft ≡ None → HasEnds d.given.items draft.ends.items (length draft.got.items)
   whole_ends e = has_ends (whole_reads h.whole e)
 
-  part_of : {g : Slicing} {most : ℕ} (p : Part) → fault_in_draft draft ≡ None → p.slices.items ≡ d.given.items
-      → p.ends.items ≡ draft.ends.items → p.got.items ≡ draft.got.items → IsOf g most d → IsPartOfDesk g d p
-  part_of p none slices ends got own =
-      let reads = whole_reads h.whole none in
-      let kept = kept_by draft.lost draft.cut none in record {
-        slices = slices;
+  -- the answer of its draft: a part, or why there is none
+  pub part_answered : (r : Result Part GatherFault) → IfOk r (IsPartOfDraft draft d.given.items)
+      → IfOk r (λ p. (g : Slicing) (most : ℕ) → IsOf g most d → IsPartOfDesk g d p)
+  part_answered (Ok p) is = λ g most own.
+      let reads = whole_reads h.whole is.whole in
+      let kept = kept_by draft.lost draft.cut is.whole in record {
+        slices = is.slices;
         part = subst (λ (x : Slicing). IsPart x p) own.0 (
-          got ∙ reads.joins ∙ ap (flat_map (desk_slicing d).slice) (sym slices),
-          ends ∙ reads.ends_are ∙ ap (ends_from (desk_slicing d) 0) (sym slices),
+          is.got ∙ reads.joins ∙ ap (flat_map (desk_slicing d).slice) (sym is.slices),
+          is.ends ∙ reads.ends_are ∙ ap (ends_from (desk_slicing d) 0) (sym is.slices),
         );
         well = (h.lost kept.0, h.cut kept.1);
-        told = (whole_sent h.whole none).was_told;
+        told = (whole_sent h.whole is.whole).was_told;
       }
+  part_answered (Err why) is = tt
 
-  fault_of_desk : {g : Slicing} {most : ℕ} (why : GatherFault) → fault_in_draft draft ≡ Some why → IsOf g most d
-      → CanEndWith g most d (Some why)
-  fault_of_desk {g} {most} why e own = elim (lost_or_cut draft.lost draft.cut why e) [
+  pub end_answered : (r : Result Part GatherFault) → IfOk r (λ p. (g : Slicing) (most : ℕ) → IsOf g most d → IsPartOfDesk g d p)
+      → IfErr r (λ why. fault_in_draft draft ≡ Some why) → (g : Slicing) (most : ℕ) → IsOf g most d → CanEndWith g most d (fault_in r)
+  end_answered (Ok p) part none g most own = let of = part g most own in (of.well, of.told)
+  end_answered (Err why) none is g most own = elim (lost_or_cut draft.lost draft.cut why is) [
     | inl lost ↦ let memory = lost.1 in (λ z. cc, λ z. memory, λ z. absurd cc)
     | inr cut ↦ let many = cut.2 in (
       λ z. cc,
@@ -88,15 +84,3 @@ module _ {d : Desk} {draft : Draft} (h : HasEnded d draft) where
           (subst (λ (n : ℕ). n < coalition_count (desk_slicing d) d.given.items) own.1 (whole_many h.whole cut.1)),
     )
   ]
-
-  -- the answer of its draft: a part, or why there is none
-  pub part_answered : (r : Result Part GatherFault) → IfOk r (λ p. (fault_in_draft draft ≡ None) × (p.slices.items ≡ d.given.items)
-      × (p.ends.items ≡ draft.ends.items) × (p.got.items ≡ draft.got.items)) → IfOk r (λ p. (g : Slicing) (most : ℕ) → IsOf g most d
-      → IsPartOfDesk g d p)
-  part_answered (Ok p) is = λ g most own. part_of p is.0 is.1 is.2 is.3 own
-  part_answered (Err why) is = tt
-
-  pub end_answered : (r : Result Part GatherFault) → IfOk r (λ p. (g : Slicing) (most : ℕ) → IsOf g most d → IsPartOfDesk g d p)
-      → IfErr r (λ why. fault_in_draft draft ≡ Some why) → (g : Slicing) (most : ℕ) → IsOf g most d → CanEndWith g most d (fault_in r)
-  end_answered (Ok p) part none g most own = let of = part g most own in (of.well, of.told)
-  end_answered (Err why) none is g most own = fault_of_desk why is own

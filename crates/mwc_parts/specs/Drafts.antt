@@ -6,6 +6,7 @@ use Rattle.mwc_pipe.specs.declared.word.Word.{Word}
 use Rattle.mwc_pipe.specs.declared.word.Word.TheVariants.{End}
 use Rattle.mwc_parts.specs.Pieces.{ones, done_counts}
 use Rattle.mwc_parts.specs.declared.draft.Draft.{Draft}
+use Rattle.mwc_parts.specs.declared.part.Part.{Part}
 use Rattle.mwc_parts.specs.declared.fault.GatherFault.{GatherFault}
 use Rattle.mwc_parts.specs.declared.fault.GatherFault.TheVariants.{TooMany, Memory}
 
@@ -27,6 +28,13 @@ pub record IsDraftOf (words : List Word) (draft : Draft) : Type 0 where
 -- why a draft can be no part: something was lost, or else there was a cut
 abbrev pub fault_in_draft : Draft → Option GatherFault
 fault_in_draft draft = if draft.lost then Some Memory else (if draft.cut then Some TooMany else None)
+
+-- the part that a draft without a fault is, of a worker that was given these slices
+pub record IsPartOfDraft (draft : Draft) (given : List ℕ) (p : Part) : Type 0 where
+  pub whole : fault_in_draft draft ≡ None
+  pub slices : p.slices.items ≡ given
+  pub ends : p.ends.items ≡ draft.ends.items
+  pub got : p.got.items ≡ draft.got.items
 
 -- one of the vectors has no room for so many more, or the coalitions are then too many to be counted by 32 bits
 abbrev pub LacksRoom : Draft → ℕ → Type 0

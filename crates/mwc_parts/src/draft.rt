@@ -2,7 +2,7 @@
 ghost use Rattle.std.specs.Prelude.{◌≡◌, [], ◌∷◌, ◌++◌, List, false, length, None, Some, IfOk, IfErr, OnErr, OnOk, true};
 ghost use Rattle.mwc_pipe.specs.declared.word.Word.{Word};
 ghost use Rattle.mwc_parts.specs.Pieces.{ones, done_counts, HasEnds};
-ghost use Rattle.mwc_parts.specs.Drafts.{is_cut, IsDraftOf, fault_in_draft};
+ghost use Rattle.mwc_parts.specs.Drafts.{is_cut, IsDraftOf, IsPartOfDraft, fault_in_draft};
 ghost use Rattle.mwc_parts.specs.Drafts.{Grows, LacksRoom, LosesForWantOfRoom};
 
 use crate::fault::GatherFault;
@@ -101,9 +101,7 @@ impl Draft {
     pub fn into_part(self, given: Vec<u16>) -> Result<Part, GatherFault>
         requires { fault_in_draft self ≡ None
             → HasEnds given.items self.ends.items (length self.got.items) }
-        ensures part { IfOk result (λ p. (fault_in_draft self ≡ None)
-            × (p.slices.items ≡ given.items) × (p.ends.items ≡ self.ends.items)
-            × (p.got.items ≡ self.got.items)) }
+        ensures part { IfOk result (IsPartOfDraft self given.items) }
         ensures fault { IfErr result (λ why. fault_in_draft self ≡ Some why) }
     {
         if self.lost {
