@@ -11,7 +11,7 @@ use Rattle.mwc_parts.specs.Wording.{IsWholeSending, IsCutSending, coalition_coun
 use Rattle.mwc_parts.specs.Parts.{IsPart}
 use Rattle.mwc_parts.specs.Pieces.{HasEnds, ends_from}
 use Rattle.mwc_parts.specs.Drafts.{IsDraftOf, IsPartOfDraft, fault_in_draft}
-use Rattle.mwc_parts.specs.Shared.Settled.{AreSettled, HasAllWords}
+use Rattle.mwc_parts.specs.Shared.Settled.{HasAllWords}
 use Rattle.mwc_parts.specs.Shared.Fault.{fault_in}
 use Rattle.mwc_parts.specs.declared.draft.Draft.{Draft}
 use Rattle.mwc_parts.specs.declared.part.Part.{Part}

@@ -1,4 +1,4 @@
-use Rattle.std.proofs.Common.{rules, ℕ, ◌<◌, List, length, drop, subst, ap, sym, ◌∙◌, arith}
+use Rattle.std.proofs.Common.{Err, ℕ, ◌<◌, List, length, drop, subst, ap, sym, ◌∙◌, arith}
 use Rattle.std.specs.Prelude.{Bool}
 use Rattle.std.specs.Option.{is_some}
 use Rattle.std.proofs.lemmas.List.{take_at}
@@ -40,11 +40,11 @@ pub returns-in_err-parts-clause-many : goal.returns-in_err-parts-clause-many
 returns-in_err-parts-clause-many g c = λ e.
     let job = c.args.job.now in
     let count = all_total_is job.guarded job.bits job.bits_fit.0 job.bits_fit.1 in
-    let over : job.most < all_total (slicing job.guarded job.bits) = search rules in
-    omega arith
+    let over : job.most < all_total (slicing job.guarded job.bits) = c.in_err-parts.ensures.many (ap Err (sym (rw e at c.from_residual.ensures.1))) in
+    omega (arith, count, over)
 
 pub all_of-requires : goal.all_of-requires
 all_of-requires g c =
     let same = c.open_all-desks.ensures.all c.in_ok-parts.ensures.none in
     let some = c.requires.workers.0 in
-    subst (λ (n : ℕ). IsComplete (slicing c.args.job.now.guarded c.args.job.now.bits) n c.in_ok-parts.parts.items) same (c.in_ok-parts.ensures.parts (omega arith))
+    subst (λ (n : ℕ). IsComplete (slicing c.args.job.now.guarded c.args.job.now.bits) n c.in_ok-parts.parts.items) same (c.in_ok-parts.ensures.parts (omega (arith, same, some)))
