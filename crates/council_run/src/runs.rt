@@ -1,5 +1,5 @@
 //! A run: from the bytes of a game to its report.
-ghost use Rattle.std.specs.Prelude.{◌≡◌, ◌≢◌, ◌<◌, IfOk, IfErr, length};
+ghost use Rattle.std.specs.Prelude.{◌≡◌, ◌<◌, IfOk, IfErr, length};
 ghost use Rattle.std.specs.List.{flat_map};
 ghost use Rattle.council_report.specs.Report.{report};
 ghost use Rattle.council_run.specs.Run.{HasAtMost, Reports, Stops, count_of};
@@ -82,7 +82,7 @@ pub fn run<T: Threads + Wait + Sync, R: Read, W: Write, G: Gate + Sync>(
         Stops (report (shown_of options.now)) (HasAtMost options.now.most)
         (R.remaining reader.old) (R.remaining reader.new)
         (W.contents writer.old) (W.contents writer.new) fault.cause fault.written) }
-    ensures unstopped { IfErr result (λ fault. fault.cause ≢ cause.Stopped) }
+    ensures unstopped { IfErr result (λ fault. fault.cause ≡ cause.Stopped → ⊥) }
 {
     run_with_lookout(rt, alloc, reader, options, gate, &NoLookout, writer)
 }
@@ -115,7 +115,7 @@ pub fn run_with_lookout<
         Stops (report (shown_of options.now)) (HasAtMost options.now.most)
         (R.remaining reader.old) (R.remaining reader.new)
         (W.contents writer.old) (W.contents writer.new) fault.cause fault.written) }
-    ensures unstopped { IfErr result (λ fault. fault.cause ≢ cause.Stopped) }
+    ensures unstopped { IfErr result (λ fault. fault.cause ≡ cause.Stopped → ⊥) }
 {
     let game = read_game(alloc, reader)?;
     let gathered = gathered(rt, alloc, &game, options, gate, lookout)?;

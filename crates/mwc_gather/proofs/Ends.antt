@@ -12,7 +12,8 @@ use Rattle.mwc_parts.specs.Wording.{coalition_count}
 use Rattle.std.specs.List.Sorted.{IsStrictlyIncreasing}
 use Rattle.mwc_parts.specs.Shared.Deals.{AreDealt}
 use Rattle.mwc_parts.specs.Shared.Dealing.{DeskView, IsWell, given_slices, IsFresh}
-use Rattle.mwc_parts.specs.Parts.{IsPart, shares}
+use Rattle.mwc_parts.specs.Parts.{shares}
+use Rattle.mwc_parts.specs.Shared.Settled.{IsPart}
 use Rattle.mwc_parts.specs.Fault.{fault_of, also}
 use Rattle.mwc_parts.specs.declared.part.Part.{Part}
 use Rattle.mwc_parts.specs.declared.fault.Met.{Met}

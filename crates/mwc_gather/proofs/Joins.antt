@@ -8,10 +8,9 @@ use Rattle.mwc_pipe.specs.declared.word.Word.{Word}
 use Rattle.mwc_pipe.specs.declared.closed.Unfinished.{Unfinished}
 use Rattle.mwc_parts.specs.Slicing.{Slicing}
 use Rattle.mwc_parts.specs.Wording.{IsWholeSending, IsCutSending, coalition_count}
-use Rattle.mwc_parts.specs.Parts.{IsPart}
-use Rattle.mwc_parts.specs.Pieces.{HasEnds, ends_from}
+use Rattle.mwc_parts.specs.Pieces.{HasEnds}
 use Rattle.mwc_parts.specs.Drafts.{IsDraftOf, IsPartOfDraft, fault_in_draft}
-use Rattle.mwc_parts.specs.Shared.Settled.{HasAllWords}
+use Rattle.mwc_parts.specs.Shared.Settled.{HasAllWords, IsPart, ends_from}
 use Rattle.mwc_parts.specs.Shared.Fault.{fault_in}
 use Rattle.mwc_parts.specs.declared.draft.Draft.{Draft}
 use Rattle.mwc_parts.specs.declared.part.Part.{Part}

@@ -10,8 +10,8 @@ use Rattle.mwc_pipe.specs.declared.word.Word.{Word}
 use Rattle.mwc_pipe.specs.declared.word.Word.TheVariants.{Open, One, Done, End}
 use Rattle.mwc_parts.specs.Wording.{wording, coalition_count}
 use Rattle.mwc_parts.proofs.Sums.{coalitions-cons}
-use Rattle.mwc_parts.specs.Shared.Settled.{IsSentWhole}
-use Rattle.mwc_parts.specs.Pieces.{one_in, ones, done_counts, ends_from, HasEnds}
+use Rattle.mwc_parts.specs.Shared.Settled.{IsSentWhole, ends_from}
+use Rattle.mwc_parts.specs.Pieces.{one_in, ones, done_counts, HasEnds}
 
 ones-slice : (j : ℕ) (l : List ℕ) (rest : List Word) → ones (((Open j ∷ map One l) ++ Done j ∷ []) ++ rest) ≡ l ++ ones rest
 ones-slice j [] rest = refl

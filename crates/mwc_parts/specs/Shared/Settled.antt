@@ -1,11 +1,13 @@
--- What is known of a worker's words once it has ended.
-use Rattle.std.specs.Prelude.{◌≡◌, ◌⊎◌, ℕ, ◌≤◌, ◌<◌, Bool, true, false, List, [], ◌∷◌, ◌++◌}
+-- What is known of a worker's words, and of its part, once it has ended.
+use Rattle.std.specs.Prelude.{◌≡◌, ◌⊎◌, ℕ, ◌≤◌, ◌<◌, Bool, true, false, List, [], ◌∷◌, ◌++◌, ◌+◌, length}
+use Rattle.std.specs.List.{flat_map}
 use Rattle.mwc_pipe.specs.declared.word.Word.{Word}
 use Rattle.mwc_pipe.specs.declared.word.Word.TheVariants.{End}
 use Rattle.mwc_parts.specs.Slicing.{Slicing}
 use Rattle.mwc_parts.specs.Wording.{wording, coalition_count}
 use Rattle.mwc_parts.specs.Drafts.{IsDraftOf}
 use Rattle.mwc_parts.specs.declared.draft.Draft.{Draft}
+use Rattle.mwc_parts.specs.declared.part.Part.{Part}
 
 -- all that was given was sent whole, and the worker was told that there are no more
 pub record IsSentWhole (g : Slicing) (most : ℕ) (given : List ℕ) (told : Bool) (words : List Word)
@@ -30,3 +32,12 @@ pub record HasAllWords (g : Slicing) (most : ℕ) (given : List ℕ) (told : Boo
   pub words : List Word
   pub settled : AreSettled g most given told words
   pub keeps : IsDraftOf words draft
+
+-- where each slice ends, in the slices joined
+abbrev pub ends_from : Slicing → ℕ → List ℕ → List ℕ
+ends_from g n [] = []
+ends_from g n (j ∷ js) = (n + length (g.slice j)) ∷ ends_from g (n + length (g.slice j)) js
+
+-- what a part says of its slices: their coalitions joined, and where each ends
+abbrev pub IsPart : Slicing → Part → Type 0
+IsPart g p = (p.got.items ≡ flat_map g.slice p.slices.items) × (p.ends.items ≡ ends_from g 0 p.slices.items)
