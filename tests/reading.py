@@ -19,7 +19,7 @@ import re
 import sys
 
 # lower it with each definition that goes; never raise it without a reason
-LIMIT = 417
+LIMIT = 416
 # crate, source module, type or None, function or None for all
 HEADLINE = [
     ("mwc_pipe", "trace", None, "replay"),

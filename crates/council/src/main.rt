@@ -2,9 +2,10 @@
 //! indices that rest on them.
 #![tactic(auto)]
 
-ghost use Rattle.std.specs.Prelude.{◌≡◌, IfOk, IfErr, false, true};
+ghost use Rattle.std.specs.Prelude.{◌≡◌, IfOk, IfErr, true};
 ghost use Rattle.council_report.specs.Report.{report};
 ghost use Rattle.council_run.specs.Run.{Reports, Stops};
+ghost use Rattle.council_run.specs.declared.fault.Cause.TheVariants as cause;
 ghost use Rattle.council.specs.Inner.Wants.{IsTaken, lines_wanted};
 
 use council_explain::{explain, remark, shown};
@@ -108,28 +109,13 @@ fn answer<
     writer: &mut W,
 ) -> Result<u64, RunFault>
     ensures ok { IfOk result (λ len. Reports (report (lines_wanted wanted.now)) (IsTaken wanted.now)
-        (record {
-          unread = I.remaining reader.old;
-          left = I.remaining reader.new;
-          before = W.contents writer.old;
-          after = W.contents writer.new;
-        }) len) }
-    ensures run { wanted.now.tally ≡ false → IfErr result (λ fault.
-        Stops (report (lines_wanted wanted.now)) (IsTaken wanted.now) ⊥
-        (record {
-          unread = I.remaining reader.old;
-          left = I.remaining reader.new;
-          before = W.contents writer.old;
-          after = W.contents writer.new;
-        }) fault.cause fault.written) }
-    ensures tally { wanted.now.tally ≡ true → IfErr result (λ fault.
-        Stops (report (lines_wanted wanted.now)) (IsTaken wanted.now) P.may_stop
-        (record {
-          unread = I.remaining reader.old;
-          left = I.remaining reader.new;
-          before = W.contents writer.old;
-          after = W.contents writer.new;
-        }) fault.cause fault.written) }
+        (I.remaining reader.old) (I.remaining reader.new)
+        (W.contents writer.old) (W.contents writer.new) len) }
+    ensures err { IfErr result (λ fault. Stops (report (lines_wanted wanted.now)) (IsTaken wanted.now)
+        (I.remaining reader.old) (I.remaining reader.new)
+        (W.contents writer.old) (W.contents writer.new) fault.cause fault.written) }
+    ensures stopped { IfErr result (λ fault. fault.cause ≡ cause.Stopped
+        → (wanted.now.tally ≡ true) × P.may_stop) }
 {
     let alloc = rt.alloc();
     let options = options_of(wanted);

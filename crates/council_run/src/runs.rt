@@ -1,11 +1,10 @@
 //! A run: from the bytes of a game to its report.
-ghost use Rattle.std.specs.Prelude.{◌≡◌, ◌<◌, ◌≤◌, IfOk, IfErr, length};
+ghost use Rattle.std.specs.Prelude.{◌≡◌, ◌<◌, IfOk, IfErr, length};
 ghost use Rattle.std.specs.List.{flat_map};
-ghost use Rattle.std.specs.Io.KnownBytes.{Appends};
 ghost use Rattle.council_report.specs.Report.{report};
-ghost use Rattle.council_run.specs.Run.{Reports, Stops, count_of};
+ghost use Rattle.council_run.specs.Run.{HasAtMost, Reports, Stops, count_of};
 ghost use Rattle.council_run.specs.Shows.{shown_of};
-ghost use Rattle.council_run.specs.Inner.Ends.{Ends};
+ghost use Rattle.council_run.specs.declared.fault.Cause.TheVariants as cause;
 ghost use Rattle.council_run.specs.Inner.Listed.{IsGathered, IsListed};
 
 use crate::fault::RunFault;
@@ -54,30 +53,6 @@ fn pieces<'a>(
     gathered.pieces(alloc)
 }
 
-/// Lists, counts and writes: all that a run does with a game.
-fn report<T: Threads + Wait + Sync, W: Write, G: Gate + Sync, L: Lookout + Sync>(
-    rt: &T,
-    alloc: Global,
-    game: &Game,
-    options: &Options,
-    gate: &G,
-    lookout: &L,
-    writer: &mut W,
-) -> Result<u64, RunFault>
-    ensures ok { IfOk result (λ len. (count_of game.now ≤ options.now.most)
-        × (len ≡ length (report (shown_of options.now) game.now))
-        × Appends (W.contents writer.old) (W.contents writer.new)
-        (report (shown_of options.now) game.now)) }
-    ensures err { IfErr result (λ fault.
-        Ends (report (shown_of options.now) game.now) (count_of game.now ≤ options.now.most) ⊥
-        (W.contents writer.old) (W.contents writer.new) fault.cause fault.written) }
-{
-    let gathered = gathered(rt, alloc, game, options, gate, lookout)?;
-    let pieces = pieces(alloc, game, &gathered, options.most)?;
-    let counts = tally_pieces(rt, game, &pieces, options.workers)?;
-    Ok(write_report_of(alloc, game, &pieces, &counts, options.shown(), writer)?)
-}
-
 /// Reads a game, lists its minimal winning coalitions by worker threads, and writes its report and
 /// nothing else. It returns the number of bytes written. It may wait for its workers.
 ///
@@ -100,21 +75,14 @@ pub fn run<T: Threads + Wait + Sync, R: Read, W: Write, G: Gate + Sync>(
     writer: &mut W,
 ) -> Result<u64, RunFault>
     ensures ok { IfOk result (λ len.
-        Reports (report (shown_of options.now)) (λ g. count_of g ≤ options.now.most)
-        (record {
-          unread = R.remaining reader.old;
-          left = R.remaining reader.new;
-          before = W.contents writer.old;
-          after = W.contents writer.new;
-        }) len) }
+        Reports (report (shown_of options.now)) (HasAtMost options.now.most)
+        (R.remaining reader.old) (R.remaining reader.new)
+        (W.contents writer.old) (W.contents writer.new) len) }
     ensures err { IfErr result (λ fault.
-        Stops (report (shown_of options.now)) (λ g. count_of g ≤ options.now.most) ⊥
-        (record {
-          unread = R.remaining reader.old;
-          left = R.remaining reader.new;
-          before = W.contents writer.old;
-          after = W.contents writer.new;
-        }) fault.cause fault.written) }
+        Stops (report (shown_of options.now)) (HasAtMost options.now.most)
+        (R.remaining reader.old) (R.remaining reader.new)
+        (W.contents writer.old) (W.contents writer.new) fault.cause fault.written) }
+    ensures unstopped { IfErr result (λ fault. fault.cause ≡ cause.Stopped → ⊥) }
 {
     run_with_lookout(rt, alloc, reader, options, gate, &NoLookout, writer)
 }
@@ -140,22 +108,18 @@ pub fn run_with_lookout<
     writer: &mut W,
 ) -> Result<u64, RunFault>
     ensures ok { IfOk result (λ len.
-        Reports (report (shown_of options.now)) (λ g. count_of g ≤ options.now.most)
-        (record {
-          unread = R.remaining reader.old;
-          left = R.remaining reader.new;
-          before = W.contents writer.old;
-          after = W.contents writer.new;
-        }) len) }
+        Reports (report (shown_of options.now)) (HasAtMost options.now.most)
+        (R.remaining reader.old) (R.remaining reader.new)
+        (W.contents writer.old) (W.contents writer.new) len) }
     ensures err { IfErr result (λ fault.
-        Stops (report (shown_of options.now)) (λ g. count_of g ≤ options.now.most) ⊥
-        (record {
-          unread = R.remaining reader.old;
-          left = R.remaining reader.new;
-          before = W.contents writer.old;
-          after = W.contents writer.new;
-        }) fault.cause fault.written) }
+        Stops (report (shown_of options.now)) (HasAtMost options.now.most)
+        (R.remaining reader.old) (R.remaining reader.new)
+        (W.contents writer.old) (W.contents writer.new) fault.cause fault.written) }
+    ensures unstopped { IfErr result (λ fault. fault.cause ≡ cause.Stopped → ⊥) }
 {
     let game = read_game(alloc, reader)?;
-    report(rt, alloc, &game, options, gate, lookout, writer)
+    let gathered = gathered(rt, alloc, &game, options, gate, lookout)?;
+    let pieces = pieces(alloc, &game, &gathered, options.most)?;
+    let counts = tally_pieces(rt, &game, &pieces, options.workers)?;
+    Ok(write_report_of(alloc, &game, &pieces, &counts, options.shown(), writer)?)
 }

@@ -1,6 +1,5 @@
 //! A tally: a run that keeps no coalition.
-ghost use Rattle.std.specs.Prelude.{◌≡◌, Err, IfOk, IfErr, length};
-ghost use Rattle.std.specs.Io.KnownBytes.{Appends};
+ghost use Rattle.std.specs.Prelude.{◌≡◌, Err, IfOk, IfErr};
 ghost use Rattle.council_game.specs.Game.{votes_of};
 ghost use Rattle.council_game.specs.Votes.{minimal_coalitions};
 ghost use Rattle.council_report.specs.Report.{report};
@@ -10,8 +9,7 @@ ghost use Rattle.mwc_parts.specs.declared.fault.GatherFault.TheVariants as gathe
 ghost use Rattle.power_index.specs.Tables.{AreCounts};
 ghost use Rattle.council_run.specs.declared.fault.Cause.TheVariants as cause;
 ghost use Rattle.council_run.specs.Run.{Reports, Stops};
-ghost use Rattle.council_run.specs.Tallied.{without_list};
-ghost use Rattle.council_run.specs.Inner.Ends.{Ends};
+ghost use Rattle.council_run.specs.Tallied.{IsAnyGame, without_list};
 
 use crate::fault::RunFault;
 use crate::options::Options;
@@ -111,27 +109,6 @@ fn count<T: Threads + Wait + Sync, V: Watch + Sync>(
     }
 }
 
-/// Counts and writes: all that a tally does with a game.
-fn report<T: Threads + Wait + Sync, W: Write, V: Watch + Sync>(
-    rt: &T,
-    alloc: Global,
-    game: &Game,
-    options: &Options,
-    watch: &V,
-    writer: &mut W,
-) -> Result<u64, RunFault>
-    ensures ok { IfOk result (λ len. (len ≡ length (report (without_list options.now) game.now))
-        × Appends (W.contents writer.old) (W.contents writer.new)
-        (report (without_list options.now) game.now)) }
-    ensures err { IfErr result (λ fault. Ends (report (without_list options.now) game.now) (Unit {0})
-        V.may_stop (W.contents writer.old) (W.contents writer.new) fault.cause fault.written) }
-    ensures threads { IfErr result (λ fault. (why : GatherFault) →
-        fault.cause ≡ cause.Gather why → why ≡ gather.Start) }
-{
-    let counts = count(rt, alloc, game, options, watch)?;
-    Ok(write_tally(alloc, game, &counts, without_list(options), writer)?)
-}
-
 /// Reads a game, counts its minimal winning coalitions, however many these are, by sums where these serve
 /// and else by worker threads, which leave out what sums count beside them, and writes its report, with no line for a coalition, and nothing else.
 /// (`mwc_tally::tally` counts those of a game alone.) No coalition is kept, so the memory does not grow with
@@ -151,23 +128,19 @@ pub fn tally<T: Threads + Wait + Sync, R: Read, W: Write, V: Watch + Sync>(
     watch: &V,
     writer: &mut W,
 ) -> Result<u64, RunFault>
-    ensures ok { IfOk result (λ len. Reports (report (without_list options.now)) (λ g. Unit {0})
-        (record {
-          unread = R.remaining reader.old;
-          left = R.remaining reader.new;
-          before = W.contents writer.old;
-          after = W.contents writer.new;
-        }) len) }
-    ensures err { IfErr result (λ fault. Stops (report (without_list options.now)) (λ g. Unit {0})
-        V.may_stop (record {
-          unread = R.remaining reader.old;
-          left = R.remaining reader.new;
-          before = W.contents writer.old;
-          after = W.contents writer.new;
-        }) fault.cause fault.written) }
+    ensures ok { IfOk result (λ len.
+        Reports (report (without_list options.now)) IsAnyGame
+        (R.remaining reader.old) (R.remaining reader.new)
+        (W.contents writer.old) (W.contents writer.new) len) }
+    ensures err { IfErr result (λ fault.
+        Stops (report (without_list options.now)) IsAnyGame
+        (R.remaining reader.old) (R.remaining reader.new)
+        (W.contents writer.old) (W.contents writer.new) fault.cause fault.written) }
+    ensures stopped { IfErr result (λ fault. fault.cause ≡ cause.Stopped → V.may_stop) }
     ensures threads { IfErr result (λ fault. (why : GatherFault) →
         fault.cause ≡ cause.Gather why → why ≡ gather.Start) }
 {
     let game = read_game(alloc, reader)?;
-    report(rt, alloc, &game, options, watch, writer)
+    let counts = count(rt, alloc, &game, options, watch)?;
+    Ok(write_tally(alloc, &game, &counts, without_list(options), writer)?)
 }

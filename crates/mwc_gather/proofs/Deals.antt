@@ -7,10 +7,10 @@ use Rattle.mwc_parts.specs.Slicing.{Slicing}
 use Rattle.mwc_parts.specs.Shared.Dealing.{DeskView, DealsInTurn, TakesTurn, DealsOneEach, IsFresh}
 use Rattle.mwc_parts.proofs.Shared.Turns as turns
 use Rattle.mwc_parts.proofs.Shared.Firsts as firsts
-use Rattle.mwc_gather.specs.declared.promise.Task.{Task}
+use Rattle.mwc_gather.specs.declared.promise.GivenJob.{GivenJob}
 use Rattle.mwc_gather.specs.declared.desk.Desk.{Desk}
 use Rattle.mwc_gather.specs.declared.dealing.Deal.{Deal}
-use Rattle.mwc_gather.specs.Inner.Orders.{slicing_of}
+use Rattle.mwc_gather.specs.Slicings.{slicing}
 use Rattle.mwc_gather.specs.Inner.Desks.{IsOf, AllOf, view_of, views_of, DealsTo, DealsFirst}
 
 view_at : (desks : List Desk) (i : ℕ) (d : Desk) → i < length desks → d ≡ get_or desks i d
@@ -22,7 +22,7 @@ all_of_set : (g : Slicing) (most : ℕ) (desks : List Desk) (i : ℕ) (d t : Des
 all_of_set g most desks i d t l e p a =
     let P : Desk → Type 0 = IsOf g most in
     let o : P d = subst P (sym e) (a i d l) in
-    All-set P desks i t (ap (λ (x : Task). slicing_of x.order) p ∙ o.0, ap (λ (x : Task). x.order.most) p ∙ o.1) a
+    All-set P desks i t (ap (λ (x : GivenJob). slicing x.game.value x.bits) p ∙ o.0, ap (λ (x : GivenJob). x.most) p ∙ o.1) a
 
 fresh_at : (desks : List Desk) → All IsFresh (views_of desks) → (k : ℕ) (d : Desk) → k < length desks → IsFresh (view_of (get_or desks k d))
 fresh_at [] f k d l = absurd (omega arith)

@@ -3,7 +3,7 @@ use Rattle.std.specs.Prelude.{◌≡◌, ℕ, ◌<◌, ◌≤◌, Bool, true, fa
 use Rattle.std.specs.List.{AllZip}
 use Rattle.std.proofs.Common.{get_or, append_assoc, ap, subst, arith, sym, ◌∙◌}
 use Rattle.std.proofs.lemmas.List.{length-map, get_or-map, map_push}
-use Rattle.std.proofs.lemmas.List.Elements.{All-nil, All-head, All-tail, All-cons, All-map, All-push}
+use Rattle.std.proofs.lemmas.List.Elements.{All-nil, All-head, All-tail, All-cons, All-push}
 use Rattle.std.proofs.lemmas.Slice.Zip.{AllZip-long}
 use Rattle.mwc_parts.specs.Slicing.{Slicing}
 use Rattle.std.specs.List.{sum_by}
@@ -12,10 +12,11 @@ use Rattle.mwc_parts.specs.Wording.{coalition_count}
 use Rattle.std.specs.List.Sorted.{IsStrictlyIncreasing}
 use Rattle.mwc_parts.specs.Shared.Deals.{AreDealt}
 use Rattle.mwc_parts.specs.Shared.Dealing.{DeskView, IsWell, given_slices, IsFresh}
-use Rattle.mwc_parts.specs.Parts.{IsPart, shares}
+use Rattle.mwc_parts.specs.Parts.{shares}
+use Rattle.mwc_parts.specs.Shared.Settled.{IsPart}
 use Rattle.mwc_parts.specs.Fault.{fault_of, also}
 use Rattle.mwc_parts.specs.declared.part.Part.{Part}
-use Rattle.mwc_parts.specs.declared.met.Met.{Met}
+use Rattle.mwc_parts.specs.declared.fault.Met.{Met}
 use Rattle.mwc_parts.specs.declared.fault.GatherFault.{GatherFault}
 use Rattle.mwc_parts.specs.declared.fault.GatherFault.TheVariants.{TooMany, Start, Memory, Ring}
 use Rattle.mwc_parts.proofs.Shared.Turns as turns
@@ -37,38 +38,29 @@ desks_within {g} desks h =
     (all_of_map (λ (s : List ℕ). coalition_count g s ≤ all_total g) (λ (s : DeskView). s.given) (views_of desks)
     (each_within g (views_of desks) h.dealing))
 
-zip_shares : (g : Slicing) (desks : List Desk) (parts : List Part) → AllZip (IsPartOfDesk g) desks parts
-    → shares parts ≡ given_slices (views_of desks)
-zip_shares g [] [] z = refl
-zip_shares g [] (p ∷ parts) z = absurd z
-zip_shares g (d ∷ desks) [] z = absurd z
-zip_shares g (d ∷ desks) (p ∷ parts) z = let f = z.0 in ap (λ (x : List ℕ). x ∷ shares parts) f.slices
-    ∙ ap (λ (xs : List (List ℕ)). d.given.items ∷ xs) (zip_shares g desks parts z.1)
+-- what is true of desks and of their parts
+record HaveParts (g : Slicing) (desks : List Desk) (parts : List Part) : Type 0 where
+  shares_are : shares parts ≡ given_slices (views_of desks)
+  well : All IsWell (views_of desks)
+  told : All (λ (s : DeskView). s.told ≡ true) (views_of desks)
+  are_parts : All (IsPart g) parts
 
--- what is true of each of two lists, where it is of each pair
-zip_each : {X Y : Type 0} (R : X → Y → Type 0) (P : X → Type 0) (Q : Y → Type 0) → ((x : X) (y : Y) → R x y → P x × Q y)
-    → (xs : List X) (ys : List Y) → AllZip R xs ys → All P xs × All Q ys
-zip_each R P Q h [] [] z = (All-nil P, All-nil Q)
-zip_each R P Q h [] (y ∷ ys) z = absurd z
-zip_each R P Q h (x ∷ xs) [] z = absurd z
-zip_each R P Q h (x ∷ xs) (y ∷ ys) z =
-    let now = h x y z.0 in let rest = zip_each R P Q h xs ys z.1 in
-    (All-cons P x xs now.0 rest.0, All-cons Q y ys now.1 rest.1)
-
-zip_well : (g : Slicing) (desks : List Desk) (parts : List Part) → AllZip (IsPartOfDesk g) desks parts → All IsWell (views_of desks)
-zip_well g desks parts z =
-    let both = zip_each (IsPartOfDesk g) (λ (d : Desk). IsWell (view_of d)) (IsPart g) (λ d p f. (f.well, f.part)) desks parts z in
-    All-map IsWell view_of desks both.0
-
-zip_told : (g : Slicing) (desks : List Desk) (parts : List Part) → AllZip (IsPartOfDesk g) desks parts
-    → All (λ (s : DeskView). s.told ≡ true) (views_of desks)
-zip_told g desks parts z =
-    let both = zip_each (IsPartOfDesk g) (λ (d : Desk). d.told ≡ true) (IsPart g) (λ d p f. (f.told, f.part)) desks parts z in
-    All-map (λ (s : DeskView). s.told ≡ true) view_of desks both.0
-
-zip_parts : (g : Slicing) (desks : List Desk) (parts : List Part) → AllZip (IsPartOfDesk g) desks parts → All (IsPart g) parts
-zip_parts g desks parts z =
-    let both = zip_each (IsPartOfDesk g) (λ (d : Desk). d.told ≡ true) (IsPart g) (λ d p f. (f.told, f.part)) desks parts z in both.1
+have_parts : (g : Slicing) (desks : List Desk) (parts : List Part) → AllZip (IsPartOfDesk g) desks parts → HaveParts g desks parts
+have_parts g [] [] z = record {
+  shares_are = refl;
+  well = All-nil IsWell;
+  told = All-nil (λ (s : DeskView). s.told ≡ true);
+  are_parts = All-nil (IsPart g);
+}
+have_parts g [] (p ∷ parts) z = absurd z
+have_parts g (d ∷ desks) [] z = absurd z
+have_parts g (d ∷ desks) (p ∷ parts) z =
+    let one = z.0 in let rest = have_parts g desks parts z.1 in record {
+      shares_are = rw (one.slices, rest.shares_are) refl;
+      well = All-cons IsWell (view_of d) (views_of desks) one.well rest.well;
+      told = All-cons (λ (s : DeskView). s.told ≡ true) (view_of d) (views_of desks) one.told rest.told;
+      are_parts = All-cons (IsPart g) p parts one.part rest.are_parts;
+    }
 
 parts_sum : (g : Slicing) (parts : List Part) → All (IsPart g) parts
     → sum_by (λ (p : Part). length p.got.items) parts ≡ sum_by (coalition_count g) (shares parts)
@@ -78,15 +70,6 @@ parts_sum g (p ∷ parts) a =
     let x = ap length part.0 in let b = length-joined g p.slices.items in
     let c = parts_sum g parts (All-tail (IsPart g) p parts a) in
     omega (arith, sum_by-cons (λ (p : Part). length p.got.items) p parts, sum_by-cons (coalition_count g) p.slices.items (shares parts))
-
--- where all workers have finished, all slices are dealt
-pub end_dealt : {g : Slicing} {most : ℕ} {early : Bool} {deal : Deal} (desks : List Desk) (parts : List Part)
-    → DealsTo g most early deal desks → early ≡ false → 0 < length desks → AllZip (IsPartOfDesk g) desks parts
-    → AreDealt g.slices (shares parts)
-end_dealt {g} desks parts h e l z =
-    let n = length-map desks view_of in
-    let d = turns.all_dealt (views_of desks) e (omega arith) h.dealing (zip_well g desks parts z) (zip_told g desks parts z) in
-    subst (λ (s : List (List ℕ)). AreDealt g.slices s) (sym (zip_shares g desks parts z)) d
 
 -- all parts have as many coalitions as the slices
 pub complete_sum : {g : Slicing} {workers : ℕ} {parts : List Part} → IsComplete g workers parts
@@ -135,24 +118,22 @@ head_of {X} P x xs ys e a = All-head P x xs (subst (λ (l : List X). All P l) e 
 pub one_done : (done rest old all : List Desk) (d : Desk) → old ≡ d ∷ rest → done ++ old ≡ all → (done ++ d ∷ []) ++ rest ≡ all
 one_done done rest old all d e f = append_assoc done (d ∷ []) rest ∙ ap (λ (w : List Desk). done ++ w) (sym e) ∙ f
 
-pub end_begins : {g : Slicing} {most : ℕ} {early : Bool} {deal : Deal} (desks : List Desk) (parts : List Part)
-    → DealsTo g most early deal desks → early ≡ false → AllZip (IsPartOfDesk g) desks parts → (w : ℕ) → w < length desks
-    → w < g.slices → slice_get (get_or (shares parts) w []) 0 ≡ Some w
-end_begins {g} desks parts h e z w a b =
-    let n = length-map desks view_of in
-    let r = share_begins (views_of desks) h.dealing (turns.well_goes_on (views_of desks) e h.dealing (zip_well g desks parts z))
-    (omega arith) w a b in
-    ap (λ (s : List ℕ). slice_get s 0) (ap (λ (s : List (List ℕ)). get_or s w []) (zip_shares g desks parts z) ∙ r.1)
-
 -- where no fault was met, the parts are complete
 pub completes : {g : Slicing} {most workers : ℕ} {early : Bool} {deal : Deal} (desks : List Desk) (parts : List Part)
     → DealsTo g most early deal desks → early ≡ false → length desks ≡ workers → 0 < workers
     → AllZip (IsPartOfDesk g) desks parts → IsComplete g workers parts
 completes {g} desks parts h e k l z =
+    let have = have_parts g desks parts z in
     let same = AllZip-long (IsPartOfDesk g) desks parts z in
+    let n = length-map desks view_of in
+    let shared = sym have.shares_are in
     record {
       a_part_each = omega arith;
-      dealt = end_dealt desks parts h e (omega arith) z;
-      are_parts = zip_parts g desks parts z;
-      begins = λ w below slice. end_begins desks parts h e z w (omega arith) slice;
+      dealt = subst (λ (s : List (List ℕ)). AreDealt g.slices s) shared
+          (turns.all_dealt (views_of desks) e (omega arith) h.dealing have.well have.told);
+      are_parts = have.are_parts;
+      begins = λ w below slice.
+          let first = share_begins (views_of desks) h.dealing (turns.well_goes_on (views_of desks) e h.dealing have.well)
+          (omega arith) w (omega arith) slice in
+          ap (λ (s : List ℕ). slice_get s 0) (ap (λ (s : List (List ℕ)). get_or s w []) have.shares_are ∙ first.1);
     }

@@ -1,15 +1,14 @@
 -- The faults that were met.
 use Rattle.std.specs.Prelude.{◌≡◌, ℕ, false, List, [], ◌∷◌, ◌++◌, Option, Some, None, refl}
-use Rattle.std.proofs.Common.{ap, subst, sym, ◌∙◌, inl, inr}
+use Rattle.std.proofs.Common.{ap, sym, ◌∙◌, inl, inr}
 use Rattle.mwc_parts.specs.Slicing.{Slicing}
 use Rattle.mwc_parts.specs.Fault.{nothing, also}
 use Rattle.mwc_parts.specs.Shared.Fault.{also_all, IsEarly}
-use Rattle.mwc_parts.specs.declared.met.Met.{Met}
+use Rattle.mwc_parts.specs.declared.fault.Met.{Met}
 use Rattle.mwc_parts.specs.declared.fault.GatherFault.{GatherFault}
 use Rattle.mwc_parts.specs.declared.fault.GatherFault.TheVariants.{Memory}
 use Rattle.mwc_gather.specs.declared.desk.Desk.{Desk}
-use Rattle.mwc_gather.specs.Inner.Orders.{slicing_of}
-use Rattle.mwc_gather.specs.Inner.Desks.{IsOf, CanEndWith, HasStarted}
+use Rattle.mwc_gather.specs.Inner.Desks.{CanEndWith, HasStarted}
 
 -- one more fault
 pub noted_more : (m : Met) (whys : List (Option GatherFault)) (why : GatherFault)
@@ -31,12 +30,6 @@ noted_after start met after whys why e f = f ∙ ap (λ (m : Met). also m why) e
 -- where there is no room for a part
 pub memory_ends : (g : Slicing) (most : ℕ) (d : Desk) → CanEndWith g most d (Some Memory)
 memory_ends g most d = (λ e. cc, λ e. refl, λ e. absurd cc)
-
--- the end of a desk that was given this game and this limit
-pub ends_of : {g : Slicing} {most : ℕ} (d : Desk) (a : Option GatherFault) → IsOf g most d
-    → CanEndWith (slicing_of d.worker.promise.order) d.worker.promise.order.most d a → CanEndWith g most d a
-ends_of {g} {most} d a own e =
-    subst (λ (x : Slicing). CanEndWith x most d a) own.0 (subst (λ (n : ℕ). CanEndWith (slicing_of d.worker.promise.order) n d a) own.1 e)
 
 early_few : (met : Met) (why : GatherFault) → IsEarly why → met ≡ also nothing why → met.many ≡ false
 early_few met why (inl e) f = ap (λ (m : Met). m.many) (f ∙ ap (also nothing) e)

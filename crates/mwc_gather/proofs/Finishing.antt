@@ -12,15 +12,14 @@ use Rattle.mwc_parts.specs.Wording.{coalition_count}
 use Rattle.mwc_parts.specs.Fault.{fault_of, also}
 use Rattle.mwc_parts.specs.Shared.Fault.{also_all}
 use Rattle.mwc_parts.specs.declared.part.Part.{Part}
-use Rattle.mwc_parts.specs.declared.met.Met.{Met}
+use Rattle.mwc_parts.specs.declared.fault.Met.{Met}
 use Rattle.mwc_parts.specs.declared.fault.GatherFault.{GatherFault}
 use Rattle.mwc_gather.specs.declared.desk.Desk.{Desk}
 use Rattle.mwc_gather.specs.declared.dealing.Deal.{Deal}
-use Rattle.mwc_gather.specs.Inner.Orders.{slicing_of}
 use Rattle.mwc_gather.specs.Inner.Desks.{IsOf, AllOf, CanEndWith, IsPartOfDesk, DealsTo}
 use Rattle.mwc_gather.specs.Inner.Gathering.{all_total, IsComplete}
 use Rattle.mwc_gather.proofs.Ends.{many_is_new_or_old, one_is_met, head_of, one_done, desks_within, completes}
-use Rattle.mwc_gather.proofs.Faults.{noted_after, noted_none, ends_of}
+use Rattle.mwc_gather.proofs.Faults.{noted_after, noted_none}
 
 -- some of the workers have ended, and the rest are still to be joined: what was met follows from their answers, and where nothing was met
 -- all of them are parts
@@ -56,11 +55,11 @@ module _ {g : Slicing} {most : ℕ} {start met : Met} {desks old rest : List Des
   -- one more has ended with a fault
   pub fault_met : {after : Met} {left : List Part} (d : Desk) (why : GatherFault) → Finishing g most start desks old met parts
       → old ≡ d ∷ rest → after ≡ also met why
-      → CanEndWith (slicing_of d.worker.promise.order) d.worker.promise.order.most d (Some why)
+      → (IsOf g most d → CanEndWith g most d (Some why))
       → Finishing g most start desks rest after left
   fault_met {after} {left} d why f step e own =
       let within : Desk → Type 0 = λ d. coalition_count g d.given.items ≤ all_total g in
-      let ends = ends_of d (Some why) (head_of (IsOf g most) d rest old step f.all_of) own in
+      let ends = own (head_of (IsOf g most) d rest old step f.all_of) in
       let few : within d = head_of within d rest old step f.within in record {
         all_of = All-rest (IsOf g most) d rest old step f.all_of;
         within = All-rest within d rest old step f.within;
@@ -77,22 +76,20 @@ module _ {g : Slicing} {most : ℕ} {start met : Met} {desks old rest : List Des
   -- one more has ended with a part
   pub part_kept : {longer : List Part} (d : Desk) (p : Part) → Finishing g most start desks old met parts → old ≡ d ∷ rest
       → longer ≡ parts ++ p ∷ []
-      → IsPartOfDesk (slicing_of d.worker.promise.order) d p
-      → CanEndWith (slicing_of d.worker.promise.order) d.worker.promise.order.most d None
+      → (IsOf g most d → IsPartOfDesk g d p) → (IsOf g most d → CanEndWith g most d None)
       → Finishing g most start desks rest met longer
   part_kept {longer} d p f step e part ends =
-      let own = head_of (IsOf g most) d rest old step f.all_of in
-      let here : IsPartOfDesk g d p = subst (λ (x : Slicing). IsPartOfDesk x d p) own.0 part in record {
+      let own = head_of (IsOf g most) d rest old step f.all_of in record {
         all_of = All-rest (IsOf g most) d rest old step f.all_of;
         within = All-rest (λ (d : Desk). coalition_count g d.given.items ≤ all_total g) d rest old step f.within;
         many = f.many;
         done = f.done ++ d ∷ [];
         split = one_done f.done rest old desks d step f.split;
         whys = f.whys ++ None ∷ [];
-        ends = all_zipped_more (CanEndWith g most) f.done f.whys d None f.ends (ends_of d None own ends);
+        ends = all_zipped_more (CanEndWith g most) f.done f.whys d None f.ends (ends own);
         met_is = f.met_is ∙ sym (noted_none start f.whys);
         none = λ n. let kept = f.none n in
-            (kept.0, rw e (all_zipped_more (IsPartOfDesk g) f.done parts d p kept.1 here));
+            (kept.0, rw e (all_zipped_more (IsPartOfDesk g) f.done parts d p kept.1 (part own)));
       }
 
 -- all have ended: where nothing was met, the parts are complete

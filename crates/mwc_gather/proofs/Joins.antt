@@ -1,15 +1,25 @@
--- From the join of a worker.
-use Rattle.std.specs.Prelude.{◌≡◌, ◌⊎◌, ℕ, ◌<◌, Bool, List, ◌++◌, All, Result, Ok, Err}
-use Rattle.std.proofs.Common.{subst, sym}
-use Rattle.mwc_parts.specs.Slicing.{Slicing}
+-- From the join of a worker to its part.
+use Rattle.std.specs.Prelude.{◌≡◌, ◌⊎◌, ℕ, ◌<◌, false, List, ◌++◌, length, Some, None, Result, Ok, Err, IfOk, IfErr}
+use Rattle.std.specs.List.{flat_map}
+use Rattle.std.proofs.Common.{ap, subst, sym, ◌∙◌, inl, inr}
+use Rattle.std.proofs.lemmas.Bool.{false≢true}
 use Rattle.mwc_pipe.specs.RingViews.{RingInView, RingOutView, ClosedView}
 use Rattle.mwc_pipe.specs.declared.word.Word.{Word}
 use Rattle.mwc_pipe.specs.declared.closed.Unfinished.{Unfinished}
-use Rattle.mwc_parts.specs.Wording.{IsWholeSending, IsCutSending, open_words}
-use Rattle.mwc_parts.specs.Shared.Wording.{end_words}
-use Rattle.mwc_parts.specs.Settled.{AreSettled}
-use Rattle.mwc_parts.proofs.Shared.Settles.{settles}
+use Rattle.mwc_parts.specs.Slicing.{Slicing}
+use Rattle.mwc_parts.specs.Wording.{IsWholeSending, IsCutSending, coalition_count}
+use Rattle.mwc_parts.specs.Pieces.{HasEnds}
+use Rattle.mwc_parts.specs.Drafts.{IsDraftOf, IsPartOfDraft, fault_in_draft}
+use Rattle.mwc_parts.specs.Shared.Settled.{HasAllWords, IsPart, ends_from}
+use Rattle.mwc_parts.specs.Shared.Fault.{fault_in}
+use Rattle.mwc_parts.specs.declared.draft.Draft.{Draft}
+use Rattle.mwc_parts.specs.declared.part.Part.{Part}
+use Rattle.mwc_parts.specs.declared.fault.GatherFault.{GatherFault}
+use Rattle.mwc_parts.proofs.Shared.Readings.{has_ends}
+use Rattle.mwc_parts.proofs.Shared.Settles.{settles, kept_by, lost_or_cut, whole_sent, whole_reads, whole_many}
 use Rattle.mwc_gather.specs.Sending.{HasWorked}
+use Rattle.mwc_gather.specs.declared.desk.Desk.{Desk}
+use Rattle.mwc_gather.specs.Inner.Desks.{desk_slicing, IsOf, IsPartOfDesk, CanEndWith}
 
 worked_ok : (g : Slicing) (most : ℕ) (out : RingInView) (tasks : RingOutView) (r : Result ClosedView Unfinished × RingOutView)
     (closed : ClosedView) → HasWorked g most out tasks r → r.0 ≡ Ok closed → IsWholeSending g most r.1.taken closed.accepted
@@ -19,10 +29,57 @@ worked_ok g most out tasks (Ok c, t) closed w e =
     subst (λ (x : ClosedView). IsWholeSending g most t.taken x.accepted ⊎ IsCutSending g most t.taken x.accepted) q w.2
 worked_ok g most out tasks (Err x, t) closed w e = cc
 
-pub join_settles : (g : Slicing) (most : ℕ) (out : RingInView) (tasks : RingOutView) (r : Result ClosedView Unfinished × RingOutView)
-    (closed : ClosedView) (left : List Word) (given : List ℕ) (told : Bool) (words : List Word)
-    → HasWorked g most out tasks r → r.0 ≡ Ok closed → All (λ j. j < g.slices) given
-    → r.1.taken ++ left ≡ open_words given ++ end_words told → words ≡ closed.accepted → AreSettled g most given told words
-join_settles g most out tasks r closed left given told words w e a t q =
-    subst (λ (x : List Word). AreSettled g most given told x) (sym q)
-    (settles g most r.1.taken left given told closed.accepted a t (worked_ok g most out tasks r closed w e))
+-- a draft of all words of a desk's worker
+pub record HasEnded (d : Desk) (draft : Draft) : Type 0 where
+  pub whole : HasAllWords (desk_slicing d) d.worker.promise.most d.given.items d.told draft
+  pub lost : draft.lost ≡ false → d.draft.lost ≡ false
+  pub cut : draft.cut ≡ false → d.draft.cut ≡ false
+
+pub has_ended : {draft : Draft} (d : Desk) (r : Result ClosedView Unfinished × RingOutView) (closed : ClosedView) (left rest : List Word)
+    → HasWorked (desk_slicing d) d.worker.promise.most d.worker.promise.out.value d.worker.promise.tasks.value r → r.0 ≡ Ok closed
+    → r.1.taken ++ left ≡ d.tasks.accepted → d.words.taken ++ rest ≡ closed.accepted → IsDraftOf (d.words.taken ++ rest) draft
+    → (draft.lost ≡ false → d.draft.lost ≡ false) → (draft.cut ≡ false → d.draft.cut ≡ false) → HasEnded d draft
+has_ended {draft} d r closed left rest w e t q keeps lost cut =
+    let given = d.worker.promise in
+    let worked = worked_ok (desk_slicing d) given.most given.out.value given.tasks.value r closed w e in record {
+      whole = record {
+        words = closed.accepted;
+        settled = settles (desk_slicing d) given.most r.1.taken left d.given.items d.told closed.accepted d.below (t ∙ d.tasks_are) worked;
+        keeps = subst (λ (x : List Word). IsDraftOf x draft) q keeps;
+      };
+      lost = lost;
+      cut = cut;
+    }
+
+module _ {d : Desk} {draft : Draft} (h : HasEnded d draft) where
+  pub whole_ends : fault_in_draft draft ≡ None → HasEnds d.given.items draft.ends.items (length draft.got.items)
+  whole_ends e = has_ends (whole_reads h.whole e)
+
+  -- the answer of its draft: a part, or why there is none
+  pub part_answered : (r : Result Part GatherFault) → IfOk r (IsPartOfDraft draft d.given.items)
+      → IfOk r (λ p. (g : Slicing) (most : ℕ) → IsOf g most d → IsPartOfDesk g d p)
+  part_answered (Ok p) is = λ g most own.
+      let reads = whole_reads h.whole is.whole in
+      let kept = kept_by draft.lost draft.cut is.whole in record {
+        slices = is.slices;
+        part = subst (λ (x : Slicing). IsPart x p) own.0 (
+          is.got ∙ reads.joins ∙ ap (flat_map (desk_slicing d).slice) (sym is.slices),
+          is.ends ∙ reads.ends_are ∙ ap (ends_from (desk_slicing d) 0) (sym is.slices),
+        );
+        well = (h.lost kept.0, h.cut kept.1);
+        told = (whole_sent h.whole is.whole).was_told;
+      }
+  part_answered (Err why) is = tt
+
+  pub end_answered : (r : Result Part GatherFault) → IfOk r (λ p. (g : Slicing) (most : ℕ) → IsOf g most d → IsPartOfDesk g d p)
+      → IfErr r (λ why. fault_in_draft draft ≡ Some why) → (g : Slicing) (most : ℕ) → IsOf g most d → CanEndWith g most d (fault_in r)
+  end_answered (Ok p) part none g most own = let of = part g most own in (of.well, of.told)
+  end_answered (Err why) none is g most own = elim (lost_or_cut draft.lost draft.cut why is) [
+    | inl lost ↦ let memory = lost.1 in (λ z. cc, λ z. memory, λ z. absurd cc)
+    | inr cut ↦ let many = cut.2 in (
+      λ z. cc,
+      λ z. absurd (false≢true (sym (h.lost cut.0) ∙ z)),
+      λ z. subst (λ (x : Slicing). most < coalition_count x d.given.items) own.0
+          (subst (λ (n : ℕ). n < coalition_count (desk_slicing d) d.given.items) own.1 (whole_many h.whole cut.1)),
+    )
+  ]

@@ -1,14 +1,10 @@
 -- Rows of words that go into a pipe.
-use Rattle.std.specs.Prelude.{◌≡◌, ℕ, List, [], ◌++◌, take, drop, refl}
+use Rattle.std.specs.Prelude.{◌≡◌, ℕ, List, ◌++◌, take, drop}
 use mathlib.Core.List.{IsPrefix}
 use Rattle.std.proofs.Common.{ap, append_assoc, sym, ◌∙◌}
-use Rattle.std.proofs.lemmas.List.{append-nil, take-append-drop}
+use Rattle.std.proofs.lemmas.List.{take-append-drop}
 use Rattle.mwc_pipe.specs.declared.word.Word.{Word}
 use Rattle.mwc_gather.specs.Inner.Sending.{SendsFirst, SendsSome}
-
--- nothing was sent yet
-pub first_none : (before row : List Word) → SendsFirst before row before row
-first_none before row = ([], sym (append-nil before), refl)
 
 -- more of the rest was sent
 pub first_more : (before row mid rest after : List Word) (k : ℕ) → SendsFirst before row mid rest → after ≡ mid ++ take k rest

@@ -8,7 +8,8 @@ use Rattle.council_game.specs.Game.{GameView, votes_of}
 use Rattle.mwc_walk.specs.Slices.{slice}
 use Rattle.mwc_walk.proofs.Shared.Joined.{slices-joined}
 use Rattle.mwc_parts.specs.Slicing.{Slicing}
-use Rattle.mwc_parts.specs.Parts.{IsPart, HasPieces}
+use Rattle.mwc_parts.specs.Parts.{HasPieces}
+use Rattle.mwc_parts.specs.Shared.Settled.{IsPart}
 use Rattle.mwc_parts.specs.declared.part.Part.{Part}
 use Rattle.mwc_parts.proofs.Shared.Readings.{length-joined, piece_is}
 use Rattle.mwc_gather.specs.Slicings.{slicing}

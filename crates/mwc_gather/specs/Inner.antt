@@ -1,5 +1,4 @@
 -- What only proofs, private functions and invariants need: no public contract mentions it.
 pub mod Sending
-pub mod Orders
 pub mod Desks
 pub mod Gathering

@@ -5,11 +5,11 @@ ghost use Rattle.coalitions.specs.declared.limits.TheConstants.{WORKERS};
 ghost use Rattle.mwc_pipe.specs.declared.word.Word.{Word};
 ghost use Rattle.mwc_parts.specs.Shared.Wording.{is_done};
 ghost use Rattle.mwc_parts.specs.Shared.Dealing.{TakesTurn, IsFresh};
-ghost use Rattle.mwc_gather.specs.Inner.Orders.{slicing_of};
-ghost use Rattle.mwc_gather.specs.Inner.Desks.{view_of, views_of, AllOf, DealsTo, DealsFirst};
+ghost use Rattle.mwc_gather.specs.Slicings.{slicing};
+ghost use Rattle.mwc_gather.specs.Inner.Desks.{IsSameDesk, view_of, views_of, AllOf, DealsTo, DealsFirst};
 
 use crate::desk::Desk;
-use crate::order::Order;
+use crate::job::Job;
 use crate::row::WORDS;
 use crate::waiting::{BellPair, Bells, Patience};
 use mwc_parts::Marks;
@@ -29,10 +29,9 @@ impl Deal {
     /// Gives the worker, where it has finished its slices, the lowest slice without a holder, or tells
     /// it that there are no more. A loss or a cut stops the deal, and then nothing is given.
     fn deal_to<R: Wait>(&mut self, rt: &R, desk: &mut Desk, worker: u8, pair: BellPair<'_>)
-        requires slices { length self.old.marks ≡ 2 ^ desk.old.worker.promise.order.bits }
+        requires slices { length self.old.marks ≡ 2 ^ desk.old.worker.promise.bits }
         requires worker { worker < WORKERS }
-        ensures worker { desk.new.worker.promise ≡ desk.old.worker.promise }
-        ensures words { desk.new.words.taken ≡ desk.old.words.taken }
+        ensures same { IsSameDesk desk.old desk.new }
         ensures turns { TakesTurn false self.old.marks self.old.stopped (view_of desk.old) worker
             self.new.marks self.new.stopped (view_of desk.new) }
     {
@@ -66,7 +65,7 @@ impl Deal {
         row: &mut [Word],
         pair: BellPair<'_>,
     ) -> bool
-        requires slices { length self.old.marks ≡ 2 ^ desk.old.worker.promise.order.bits }
+        requires slices { length self.old.marks ≡ 2 ^ desk.old.worker.promise.bits }
         requires worker { worker < WORKERS }
         ensures worker { desk.new.worker.promise ≡ desk.old.worker.promise }
         ensures turns { (words : List Word)
@@ -83,12 +82,18 @@ impl Deal {
     }
 
     /// Deals one slice to each worker.
-    fn deal_first<R: Wait>(&mut self, rt: &R, order: &Order, desks: &mut [Desk], bells: &Bells)
+    fn deal_first<R: Wait, G>(
+        &mut self,
+        rt: &R,
+        job: &Job<'_, G>,
+        desks: &mut [Desk],
+        bells: &Bells,
+    )
         requires few { length desks.old ≤ WORKERS }
-        requires all_of { AllOf (slicing_of order.now) order.now.most desks.old }
+        requires all_of { AllOf (slicing job.now.guarded job.now.bits) job.now.most desks.old }
         requires fresh { All IsFresh (views_of desks.old) }
-        requires marks { self.old.marks ≡ replicate (2 ^ order.now.bits) None }
-        ensures { DealsFirst (slicing_of order.now) order.now.most self.old.stopped
+        requires marks { self.old.marks ≡ replicate (2 ^ job.now.bits) None }
+        ensures { DealsFirst (slicing job.now.guarded job.now.bits) job.now.most self.old.stopped
             self.new (length desks.old) desks.new }
     {
         for i in 0..desks.len() {
@@ -98,17 +103,23 @@ impl Deal {
 
     /// Deals the slices and reads the rings in turn, until each worker has sent its End. Where no word
     /// is there it waits.
-    pub fn read_all<R: Wait>(&mut self, rt: &R, order: &Order, desks: &mut [Desk], bells: &Bells)
+    pub fn read_all<R: Wait, G>(
+        &mut self,
+        rt: &R,
+        job: &Job<'_, G>,
+        desks: &mut [Desk],
+        bells: &Bells,
+    )
         requires few { length desks.old ≤ WORKERS }
-        requires all_of { AllOf (slicing_of order.now) order.now.most desks.old }
+        requires all_of { AllOf (slicing job.now.guarded job.now.bits) job.now.most desks.old }
         requires fresh { All IsFresh (views_of desks.old) }
-        requires marks { self.old.marks ≡ replicate (2 ^ order.now.bits) None }
-        ensures { DealsTo (slicing_of order.now) order.now.most self.old.stopped
+        requires marks { self.old.marks ≡ replicate (2 ^ job.now.bits) None }
+        ensures { DealsTo (slicing job.now.guarded job.now.bits) job.now.most self.old.stopped
             self.new desks.new }
     {
         let mut row = [Word::Open(0); WORDS];
         let mut patience = Patience::new();
-        self.deal_first(rt, order, desks, bells);
+        self.deal_first(rt, job, desks, bells);
         for _ in rt.forever() {
             let mut running = false;
             let mut moved = false;

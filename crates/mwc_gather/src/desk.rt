@@ -1,18 +1,43 @@
 //! The gatherer's side of one worker.
-ghost use Rattle.std.specs.Prelude.{◌≡◌, ◌+◌, ◌<◌, ◌≤◌, ◌^◌, ◌++◌, All, count_by, length, true};
+ghost use Rattle.std.specs.Prelude.{◌≡◌, ℕ, ◌||◌, ◌+◌, ◌<◌, ◌≤◌, ◌^◌, ◌++◌, ◌∷◌, [], List, All, IfOk, IfErr, if◌then◌else◌, IsTrue, IsFalse, true, false, count_by, length, take, vec_len, vec_capacity};
+ghost use Rattle.std.specs.List.{list_any};
+ghost use Rattle.coalitions.specs.declared.limits.TheConstants.{WORKERS};
+ghost use Rattle.mwc_pipe.specs.declared.word.Word.{Word};
+ghost use Rattle.mwc_parts.specs.Slicing.{Slicing};
 ghost use Rattle.mwc_parts.specs.Wording.{open_words};
+ghost use Rattle.mwc_parts.specs.Drafts.{IsDraftOf, LosesForWantOfRoom};
 ghost use Rattle.mwc_parts.specs.Shared.Wording.{end_words, is_done};
-ghost use Rattle.mwc_parts.specs.Settled.{IsDraftOf};
+ghost use Rattle.mwc_parts.specs.Shared.Dealing.{IsFresh};
+ghost use Rattle.mwc_parts.specs.Shared.Fault.{IsEarly, fault_in};
+ghost use Rattle.mwc_gather.specs.Slicings.{slicing};
+ghost use Rattle.mwc_gather.specs.Sending.{HasWorked};
+ghost use Rattle.mwc_gather.specs.declared.desk.TheConstants.{TASKS};
 
-use crate::promise::{Answer, Task};
-use mwc_parts::Draft;
-use mwc_pipe::{RingIn, RingOut};
-use std::thread::PromisedHandle;
+use crate::job::Job;
+use crate::promise::{Answer, GivenJob};
+use crate::row::WORDS;
+use crate::told::Told;
+use crate::waiting::{BellPair, Bells, Patience};
+use crate::worker::work_beside;
+use mwc_parts::{Draft, GatherFault, Part};
+use mwc_pipe::{Rest, RingIn, RingOut, Word, ring};
+use mwc_walk::slice_count;
+use std::alloc::Global;
+use std::sync::Wait;
+use std::thread::{PromisedHandle, Scope, Threads};
+
+/// How many tasks a worker may be behind the gatherer.
+const TASKS: usize = 2;
+
+/// What the constant is, as a number.
+fn is_this_number()
+    ensures { TASKS ≡ 2 }
+{}
 
 /// The gatherer's side of one worker.
 #[derive(Drop)]
 pub(crate) struct Desk {
-    pub worker: PromisedHandle<Answer, Task>,
+    pub worker: PromisedHandle<Answer, GivenJob>,
     /// The end that its words come from.
     pub words: RingOut,
     /// The end that its tasks are put into.
@@ -33,5 +58,212 @@ pub(crate) struct Desk {
     ghost tasks_are: { tasks.accepted ≡ open_words given.items ++ end_words told },
     ghost one_ahead: { length given.items ≤ count_by is_done words.taken + 1 },
     ghost idle_is_done: { idle ≡ true → length given.items ≤ count_by is_done words.taken },
-    ghost below: { All (λ j. j < 2 ^ worker.promise.order.bits) given.items },
+    ghost below: { All (λ j. j < 2 ^ worker.promise.bits) given.items },
+}
+
+impl Desk {
+    ghost use Rattle.mwc_gather.specs.Inner.Desks.{IsOf, IsSameDesk, view_of, IsPartOfDesk, CanEndWith};
+
+    /// Makes room for what is kept of a worker, and starts it.
+    pub fn open<'s, E, R: Threads + Wait + Sync, G: Told + Sync>(
+        scope: &Scope<'s, E>,
+        rt: &'s R,
+        alloc: Global,
+        job: &Job<'s, G>,
+        worker: u8,
+        bells: &'s Bells,
+    ) -> Result<Desk, GatherFault>
+        requires worker { worker < WORKERS }
+        requires gate { (j : ℕ) → j < 2 ^ job.now.bits → G.takes worker j }
+        ensures order { IfOk result (IsOf (slicing job.now.guarded job.now.bits) job.now.most) }
+        ensures fresh { IfOk result (λ d. IsFresh (view_of d)) }
+        ensures fault { IfErr result IsEarly }
+    {
+        let slices = slice_count(job.bits);
+        let mut given = Vec::new(alloc);
+        given.reserve(usize::from(slices))?;
+        let draft = Draft::new(alloc, slices)?;
+        let (out, words) = ring(alloc, WORDS)?;
+        let (tasks, list) = ring(alloc, TASKS)?;
+        let given_job = job.given(&out, &list);
+        let own = job.share();
+        let pair = BellPair {
+            own: &bells.workers[usize::from(worker)],
+            other: &bells.gatherer,
+        };
+        let body = move || -> Answer
+            requires worker { worker < WORKERS }
+            requires fresh { (out.accepted ≡ []) × (list.taken ≡ []) }
+            requires gate { (j : ℕ) → j < 2 ^ own.bits → G.takes worker j }
+            ensures { HasWorked (slicing own.entry.guarded own.entry.bits) own.entry.most
+                out list result }
+        { work_beside(rt, &own, worker, out, list, pair) };
+        let Ok(worker) = scope.spawn_with(given_job, body) else {
+            return Err(GatherFault::Start);
+        };
+        Ok(Desk {
+            worker,
+            words,
+            tasks,
+            given,
+            idle: true,
+            told: false,
+            ended: false,
+            draft,
+        })
+    }
+
+    /// Whether there is room for one more slice; where there is none, that is a loss.
+    pub fn ready(&mut self) -> bool
+        ensures same { IsSameDesk self.old self.new }
+        ensures room { IsTrue result → vec_len self.new.given < vec_capacity self.new.given }
+        ensures ready { IsTrue result → view_of self.new ≡ view_of self.old }
+        ensures lost { IsFalse result
+            → view_of self.new ≡ record (view_of self.old) { lost = true } }
+        ensures full { IsFalse result → vec_capacity self.old.given ≤ vec_len self.old.given }
+    {
+        if self.given.reserve(1).is_err() {
+            self.draft.lose();
+            return false;
+        }
+        true
+    }
+
+    /// Gives the worker a slice, once it has finished all that it was given.
+    pub fn assign<R: Wait>(&mut self, rt: &R, slice: u16, pair: BellPair<'_>)
+        requires slice { slice < 2 ^ self.old.worker.promise.bits }
+        requires room { vec_len self.old.given < vec_capacity self.old.given }
+        requires idle { (self.old.told ≡ false) × (self.old.idle ≡ true) }
+        ensures same { IsSameDesk self.old self.new }
+        ensures given { view_of self.new ≡
+            record (view_of self.old) { given = self.old.given.items ++ slice ∷ []; idle = false } }
+    {
+        self.given.push_reserved(slice);
+        put(rt, &mut self.tasks, Word::Open(slice), pair);
+        self.idle = false;
+    }
+
+    /// Tells the worker that there are no more.
+    pub fn tell<R: Wait>(&mut self, rt: &R, pair: BellPair<'_>)
+        requires { self.old.told ≡ false }
+        ensures same { IsSameDesk self.old self.new }
+        ensures told { view_of self.new ≡ record (view_of self.old) { told = true } }
+    {
+        put(rt, &mut self.tasks, Word::End { cut: false }, pair);
+        self.told = true;
+    }
+
+    /// Takes all words that are there into the front of the row, keeps what they tell, and says how
+    /// many they are.
+    pub fn read(&mut self, row: &mut [Word]) -> usize
+        ensures worker { self.new.worker.promise ≡ self.old.worker.promise }
+        ensures same { (self.new.given.items ≡ self.old.given.items)
+            × (self.new.told ≡ self.old.told) }
+        ensures idle { self.new.idle ≡ (self.old.idle || list_any is_done (take result row.new)) }
+        ensures taken { (result ≤ length row.new)
+            × (self.new.words.taken ≡ self.old.words.taken ++ take result row.new) }
+        ensures lost { self.new.draft.lost ≡ false → self.old.draft.lost ≡ false }
+        ensures full { LosesForWantOfRoom self.old.draft result self.new.draft }
+        ensures cut { self.new.draft.cut ≡ false → self.old.draft.cut ≡ false }
+    {
+        let count = self.words.take_some(row);
+        let words = &row[..count];
+        self.draft.hear_row(words);
+        let (done, ended) = told_by(words);
+        self.idle |= done;
+        self.ended |= ended;
+        count
+    }
+
+    /// Joins the worker, keeps what is left of its words, and gives its part.
+    pub fn finish<R: Threads>(self, rt: &R) -> Result<Part, GatherFault>
+        ensures part { IfOk result (λ p. (g : Slicing) (most : ℕ) → IsOf g most self
+            → IsPartOfDesk g self p) }
+        ensures ends { (g : Slicing) (most : ℕ) → IsOf g most self
+            → CanEndWith g most self (fault_in result) }
+    {
+        let Desk {
+            worker,
+            words,
+            tasks,
+            given,
+            idle: _,
+            told: _,
+            ended: _,
+            draft,
+        } = self;
+        let mut draft = draft;
+        let (closed, list) = worker.join(rt);
+        let Ok(told) = tasks.close() else {
+            return Err(ring_fault(&draft));
+        };
+        let _left = list.end(told);
+        let Ok(closed) = closed else {
+            return Err(ring_fault(&draft));
+        };
+        drain(words.end(closed), &mut draft);
+        draft.into_part(given)
+    }
+}
+
+/// The fault where a ring could not be finished, unless something was lost before.
+fn ring_fault(draft: &Draft) -> GatherFault
+    ensures { result ≡ (if draft.now.lost then GatherFault.Memory else GatherFault.Ring) }
+{
+    if draft.lost {
+        // memory: a draft is lost where a growth was refused
+        GatherFault::Memory
+    } else {
+        GatherFault::Ring
+    }
+}
+
+/// Puts a task into the ring, and sleeps at its own bell while it is full; then rings the other.
+fn put<R: Wait>(rt: &R, tasks: &mut RingIn, task: Word, pair: BellPair<'_>)
+    ensures ring { tasks.new.ring ≡ tasks.old.ring }
+    ensures accepted { tasks.new.accepted ≡ tasks.old.accepted ++ task ∷ [] }
+{
+    let mut task = task;
+    let mut patience = Patience::new();
+    for _ in rt.forever() {
+        match tasks.put(task) {
+            Ok(()) => {
+                patience.renew(pair.own);
+                pair.other.ring();
+                return;
+            }
+            Err(back) => task = back,
+        }
+        patience.wait(rt, pair.own);
+    }
+    unreachable!()
+}
+
+/// Whether one of the words tells that a slice is whole, and whether one of them is an End.
+fn told_by(words: &[Word]) -> (bool, bool)
+    ensures done { result.0 ≡ list_any is_done words.now }
+{
+    let mut done = false;
+    let mut ended = false;
+    for word in words {
+        match word {
+            Word::Done(_) => done = true,
+            Word::End { cut: _ } => ended = true,
+            _ => {}
+        }
+    }
+    (done, ended)
+}
+
+/// Keeps all words that are left.
+fn drain(rest: Rest, draft: &mut Draft)
+    ensures keeps { (words : List Word)
+        → IsDraftOf words draft.old → IsDraftOf (words ++ rest) draft.new }
+    ensures lost { draft.new.lost ≡ false → draft.old.lost ≡ false }
+    ensures cut { draft.new.cut ≡ false → draft.old.cut ≡ false }
+{
+    let mut rest = rest;
+    while let Some(word) = rest.next() {
+        draft.hear(word);
+    }
 }

@@ -9,19 +9,16 @@ ghost use Rattle.mwc_parts.specs.Shared.Dealing.{IsFresh};
 ghost use Rattle.mwc_parts.specs.Fault.{fault_of};
 ghost use Rattle.mwc_parts.specs.Shared.Fault.{fault_in, also_all};
 ghost use Rattle.mwc_gather.specs.Slicings.{slicing};
-ghost use Rattle.mwc_gather.specs.Inner.Orders.{slicing_of};
 ghost use Rattle.mwc_gather.specs.Inner.Desks.{AllOf, DealsTo, CanEndWith, HasStarted, views_of};
 ghost use Rattle.mwc_gather.specs.declared.dealing.Deal.{Deal};
 ghost use Rattle.mwc_gather.specs.Gathering.{Gathers};
 ghost use Rattle.mwc_gather.specs.Inner.Gathering.{all_total, IsComplete};
 
-use crate::calls::finish_part;
 use crate::dealing::Deal;
 use crate::desk::Desk;
 use crate::guarded::{Gate, Guarded};
 use crate::job::Job;
 use crate::lookout::{Lookout, NoLookout};
-use crate::order::Order;
 use crate::told::Told;
 use crate::waiting::Bells;
 use mwc_parts::{GatherFault, Gathered, Marks, Met, Part, fits};
@@ -115,31 +112,30 @@ fn run<'s, E, R: Threads + Wait + Sync, G: Told + Sync>(
     ensures many { result ≡ Err GatherFault.TooMany
         → job.now.most < length (minimal_coalitions (votes_of job.now.guarded)) }
 {
-    let order = job.order();
     let (mut desks, met) = open_all(scope, rt, alloc, job, workers, bells);
     let mut deal = Deal {
         marks: Marks::new(slice_count(job.bits)),
         stopped: met.fault().is_some(),
     };
-    deal.read_all(rt, &order, desks.as_mut_slice(), bells);
-    let parts = finish_all(rt, alloc, &order, desks, met)?;
-    all_of(&order, workers, parts)
+    deal.read_all(rt, job, desks.as_mut_slice(), bells);
+    let parts = finish_all(rt, alloc, job, desks, met)?;
+    all_of(job, workers, parts)
 }
 
 /// All that was gathered, unless there is more than was asked for.
-fn all_of(order: &Order, workers: u8, parts: Vec<Part>) -> Result<Gathered, GatherFault>
-    requires { IsComplete (slicing_of order.now) workers parts.items }
+fn all_of<G>(job: &Job<'_, G>, workers: u8, parts: Vec<Part>) -> Result<Gathered, GatherFault>
+    requires { IsComplete (slicing job.now.guarded job.now.bits) workers parts.items }
     ensures gathers { IfOk result
-        (Gathers (votes_of order.now.game.value) order.now.bits workers order.now.most) }
+        (Gathers (votes_of job.now.guarded) job.now.bits workers job.now.most) }
     ensures many { result ≡ Err GatherFault.TooMany
-        → order.now.most < length (minimal_coalitions (votes_of order.now.game.value)) }
+        → job.now.most < length (minimal_coalitions (votes_of job.now.guarded)) }
 {
-    if !fits(parts.as_slice(), order.most) {
+    if !fits(parts.as_slice(), job.most) {
         return Err(GatherFault::TooMany);
     }
     Ok(Gathered {
         parts,
-        slices: slice_count(order.bits),
+        slices: slice_count(job.bits),
     })
 }
 
@@ -180,29 +176,29 @@ fn open_all<'s, E, R: Threads + Wait + Sync, G: Told + Sync>(
 }
 
 /// Joins all workers, and gives the part of each, or the fault that goes before the others.
-fn finish_all<R: Threads>(
+fn finish_all<R: Threads, G>(
     rt: &R,
     alloc: Global,
-    order: &Order,
+    job: &Job<'_, G>,
     desks: Vec<Desk>,
     start: Met,
 ) -> Result<Vec<Part>, GatherFault>
     requires start { start.many ≡ false }
-    requires dealt { (deal : Deal) × DealsTo (slicing_of order.now) order.now.most
+    requires dealt { (deal : Deal) × DealsTo (slicing job.now.guarded job.now.bits) job.now.most
         (is_some (fault_of start)) deal desks.items }
     ensures first { (whys : List (Option GatherFault))
-        × AllZip (CanEndWith (slicing_of order.now) order.now.most) desks.items whys
+        × AllZip (CanEndWith (slicing job.now.guarded job.now.bits) job.now.most) desks.items whys
         × (fault_in result ≡ fault_of (also_all start whys)) }
     ensures none { IfOk result (λ v. fault_of start ≡ None) }
     ensures parts { IfOk result (λ v. 0 < vec_len desks
-        → IsComplete (slicing_of order.now) (vec_len desks) v.items) }
+        → IsComplete (slicing job.now.guarded job.now.bits) (vec_len desks) v.items) }
     ensures many { result ≡ Err GatherFault.TooMany
-        → order.now.most < all_total (slicing_of order.now) }
+        → job.now.most < all_total (slicing job.now.guarded job.now.bits) }
 {
     let mut met = start;
     let mut parts = Vec::new(alloc);
     for desk in desks {
-        match finish_part(desk, rt) {
+        match desk.finish(rt) {
             Ok(part) => {
                 if parts.push(part).is_err() {
                     met.note(GatherFault::Memory);

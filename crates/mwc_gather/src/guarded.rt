@@ -1,7 +1,5 @@
 //! A game behind a gate.
 ghost use Rattle.std.specs.Prelude.{◌≡◌};
-ghost use Rattle.council_game.specs.Votes.{IsVotes};
-ghost use Rattle.council_game.specs.Game.{votes_of};
 
 use crate::told::{GateAndLookout, Told};
 use council_game::Game;
@@ -103,10 +101,8 @@ impl<'a, G> Guarded<'a, G> {
 
     /// The game as proofs see it, which has no bytes.
     pub(crate) fn seen(&self) -> Snapshot<Game>
-        ensures game { result.value ≡ self.now }
-        ensures votes { IsVotes (votes_of self.now) }
+        ensures { result.value ≡ self.now }
     {
-        let _members = self.game.members();
         Snapshot::of(self.game)
     }
 }

@@ -1,14 +1,14 @@
 //! What the workers are to do.
 ghost use Rattle.std.specs.Prelude.{◌≡◌, ◌≤◌, length};
 ghost use Rattle.coalitions.specs.declared.limits.TheConstants.{BITS, COALITIONS};
-ghost use Rattle.council_game.specs.Votes.{IsVotes};
-ghost use Rattle.council_game.specs.Game.{votes_of};
 
 use crate::guarded::Guarded;
-use crate::order::Order;
+use crate::promise::GivenJob;
+use mwc_pipe::{RingIn, RingOut};
+use std::snapshot::Snapshot;
 
 /// What the workers are to do: to list the slices of the game behind a gate at so many bits, up to a
-/// number of coalitions. An `Order` says the same to proofs.
+/// number of coalitions.
 #[derive(Drop)]
 pub(crate) struct Job<'a, G> {
     pub guarded: Guarded<'a, G>,
@@ -42,16 +42,18 @@ impl<'a, G> Job<'a, G> {
         Job::new(&self.guarded, self.bits, self.most)
     }
 
-    /// The same as proofs see it.
-    pub fn order(&self) -> Order
+    /// The same as proofs see it, with the ends of the rings of a worker that it is given to.
+    pub fn given(&self, out: &RingIn, tasks: &RingOut) -> GivenJob
         ensures game { result.game.value ≡ self.now.guarded }
         ensures asked { (result.bits ≡ self.now.bits) × (result.most ≡ self.now.most) }
-        ensures votes { IsVotes (votes_of self.now.guarded) }
+        ensures rings { (result.out.value ≡ out.now) × (result.tasks.value ≡ tasks.now) }
     {
-        Order {
+        GivenJob {
             game: self.guarded.seen(),
             bits: self.bits,
             most: self.most,
+            out: Snapshot::of(out),
+            tasks: Snapshot::of(tasks),
         }
     }
 }

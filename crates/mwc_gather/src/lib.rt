@@ -7,14 +7,12 @@
 //! ```
 #![tactic(auto)]
 
-mod calls;
 mod dealing;
 mod desk;
 mod gathering;
 mod guarded;
 mod job;
 mod lookout;
-mod order;
 mod promise;
 mod putting;
 mod row;

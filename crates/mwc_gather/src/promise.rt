@@ -1,8 +1,8 @@
 //! What a worker promises of its answer.
-ghost use Rattle.mwc_gather.specs.Inner.Orders.{slicing_of};
+ghost use Rattle.mwc_gather.specs.Slicings.{slicing};
 ghost use Rattle.mwc_gather.specs.Sending.{HasWorked};
 
-use crate::order::Order;
+use council_game::Game;
 use mwc_pipe::{Closed, RingIn, RingOut, Unfinished};
 use std::snapshot::Snapshot;
 use std::thread::Promise;
@@ -10,18 +10,22 @@ use std::thread::Promise;
 /// What a worker hands back: its closed end, and the end that its tasks came from.
 pub(crate) type Answer = (Result<Closed, Unfinished>, RingOut);
 
-/// What a worker was given, for proofs alone.
+/// What a worker was given, for proofs alone: a job as proofs see it, and its ends of two rings.
 #[derive(Drop)]
-pub(crate) struct Task {
-    /// What was asked of it.
-    pub order: Order,
+pub(crate) struct GivenJob {
+    /// The game whose slices it lists.
+    pub game: Snapshot<Game>,
+    /// How many of the heaviest members are fixed in each slice.
+    pub bits: u8,
+    /// How many coalitions are wanted at most.
+    pub most: u32,
     /// The end that its words go into, as it was at the start.
     pub out: Snapshot<RingIn>,
     /// The end that its tasks come from, as it was at the start.
     pub tasks: Snapshot<RingOut>,
 }
 
-impl Promise<Answer> for Task {
+impl Promise<Answer> for GivenJob {
     ghost kept_by = { λ t r.
-        HasWorked (slicing_of t.order) t.order.most t.out.value t.tasks.value r };
+        HasWorked (slicing t.game.value t.bits) t.most t.out.value t.tasks.value r };
 }

@@ -1,16 +1,13 @@
--- Drafts, one word at a time, and the part that a whole draft is.
-use Rattle.std.specs.Prelude.{◌≡◌, ℕ, ◌<◌, Bool, true, false, ◌||◌, List, [], ◌∷◌, ◌++◌, length}
+-- Drafts, one word at a time.
+use Rattle.std.specs.Prelude.{◌≡◌, ℕ, Bool, false, ◌||◌, List, [], ◌∷◌, ◌++◌, length}
 use Rattle.std.proofs.Common.{ap, sym, ◌∙◌, zero-add}
 use Rattle.std.proofs.Math.Bool.{or-false}
 use Rattle.std.proofs.lemmas.List.Folds.{list_any-append}
 use Rattle.mwc_pipe.specs.declared.word.Word.{Word}
-use Rattle.mwc_parts.specs.Slicing.{Slicing}
-use Rattle.mwc_parts.specs.Wording.{coalition_count}
 use Rattle.mwc_parts.specs.Pieces.{ones, done_counts}
-use Rattle.mwc_parts.specs.Settled.{is_cut, has_cut, IsSentWhole, IsDraftOf, HasAllWords}
+use Rattle.mwc_parts.specs.Drafts.{is_cut, has_cut, IsDraftOf}
 use Rattle.mwc_parts.specs.declared.draft.Draft.{Draft}
-use Rattle.mwc_parts.proofs.Shared.Readings.{ones-append, done_counts-append, Reads, reads}
-use Rattle.mwc_parts.proofs.Shared.Settles.{all_sent, cut_is_many}
+use Rattle.mwc_parts.proofs.Shared.Readings.{ones-append, done_counts-append}
 
 -- the draft kept one more word, or lost it
 pub record Hears (old : Draft) (word : Word) (new : Draft) : Type 0 where
@@ -30,16 +27,3 @@ keeps_more words old word new h k = record {
       ∙ ap (λ (n : ℕ). done_counts 0 words ++ done_counts n (word ∷ [])) (sym (zero-add (length (ones words))))
       ∙ sym (done_counts-append 0 words (word ∷ []));
 }
-
--- what a whole draft is, where it has no cut and nothing was lost
-pub whole_sent : {g : Slicing} {most : ℕ} {given : List ℕ} {told : Bool} {draft : Draft} (h : HasAllWords g most given told draft)
-    → draft.cut ≡ false → IsSentWhole g most given told h.words
-whole_sent h e = all_sent h.settled (sym h.keeps.cut_is ∙ e)
-
-pub whole_reads : {g : Slicing} {most : ℕ} {given : List ℕ} {told : Bool} {draft : Draft} → HasAllWords g most given told draft
-    → draft.lost ≡ false → draft.cut ≡ false → Reads g given draft.got.items draft.ends.items
-whole_reads {draft = draft} h l e = reads draft.got.items draft.ends.items (whole_sent h e) (h.keeps.got_are l) (h.keeps.ends_are l)
-
-pub whole_many : {g : Slicing} {most : ℕ} {given : List ℕ} {told : Bool} {draft : Draft} → HasAllWords g most given told draft
-    → draft.cut ≡ true → most < coalition_count g given
-whole_many h e = cut_is_many h.settled (sym h.keeps.cut_is ∙ e)

@@ -1,7 +1,7 @@
 -- Drafts that lose nothing while there is room.
 use Rattle.std.specs.Prelude.{◌≡◌, ℕ, ◌+◌, ◌<◌, Bool, true, false, refl}
 use Rattle.std.proofs.Common.{arith, inl, inr}
-use Rattle.mwc_parts.specs.Room.{Grows, LacksRoom, LosesForWantOfRoom}
+use Rattle.mwc_parts.specs.Drafts.{Grows, LacksRoom, LosesForWantOfRoom}
 use Rattle.mwc_parts.specs.declared.draft.Draft.{Draft}
 
 -- a draft grows, and then by one more

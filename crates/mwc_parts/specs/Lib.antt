@@ -4,7 +4,6 @@ pub mod Wording
 pub mod Pieces
 pub mod Parts
 pub mod Fault
-pub mod Settled
-pub mod Room
+pub mod Drafts
 pub mod Inner
 pub mod Shared

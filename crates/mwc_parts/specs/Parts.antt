@@ -1,13 +1,7 @@
 -- Parts and what stands in them.
 use Rattle.std.specs.Prelude.{◌≡◌, ℕ, ◌<◌, ◌==◌, nat_lt, List, ◌∷◌, length, map, count_by, slice_index, slice_range, if◌then◌else◌}
 use Rattle.std.specs.List.{flat_map}
-use Rattle.mwc_parts.specs.Slicing.{Slicing}
-use Rattle.mwc_parts.specs.Pieces.{ends_from}
 use Rattle.mwc_parts.specs.declared.part.Part.{Part}
-
--- what a part says of its slices: their coalitions joined, and where each ends
-abbrev pub IsPart : Slicing → Part → Type 0
-IsPart g p = (p.got.items ≡ flat_map g.slice p.slices.items) × (p.ends.items ≡ ends_from g 0 p.slices.items)
 
 -- piece m of a part
 abbrev pub piece : Part → ℕ → List ℕ

@@ -1,7 +1,6 @@
 -- What a part says of its slices.
-use Rattle.std.specs.Prelude.{ℕ, ◌+◌, ◌<◌, ◌≤◌, List, [], ◌∷◌, length, slice_index, Option, Some, None}
+use Rattle.std.specs.Prelude.{◌≡◌, ℕ, ◌+◌, ◌<◌, ◌≤◌, List, [], ◌∷◌, length, slice_index, Option, Some, None}
 use Rattle.std.specs.List.{filter_map}
-use Rattle.mwc_parts.specs.Slicing.{Slicing}
 use Rattle.mwc_pipe.specs.declared.word.Word.{Word}
 use Rattle.mwc_pipe.specs.declared.word.Word.TheVariants.{Open, One, Done, End}
 
@@ -22,11 +21,12 @@ done_counts n (One c ∷ ws) = done_counts (n + 1) ws
 done_counts n (Done j ∷ ws) = n ∷ done_counts n ws
 done_counts n (End cut ∷ ws) = done_counts n ws
 
--- where each slice ends, in the slices joined
-abbrev pub ends_from : Slicing → ℕ → List ℕ → List ℕ
-ends_from g n [] = []
-ends_from g n (j ∷ js) = (n + length (g.slice j)) ∷ ends_from g (n + length (g.slice j)) js
-
 -- the ends never fall, and none is beyond n
 abbrev pub Rises : List ℕ → ℕ → Type 0
 Rises ends n = (m : ℕ) → m < length ends → (slice_index (0 ∷ ends) m ≤ slice_index ends m) × (slice_index ends m ≤ n)
+
+-- where the slices of a row of so many coalitions end: one end for each, and the last is the end of the row
+pub record HasEnds (slices ends : List ℕ) (count : ℕ) : Type 0 where
+  pub one_end_each : length ends ≡ length slices
+  pub ends_rise : Rises ends count
+  pub last_end : slice_index (0 ∷ ends) (length ends) ≡ count

@@ -3,3 +3,4 @@ pub mod Wording
 pub mod Deals
 pub mod Dealing
 pub mod Fault
+pub mod Settled

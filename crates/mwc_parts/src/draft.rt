@@ -1,10 +1,12 @@
 //! A part as its words come.
-ghost use Rattle.std.specs.Prelude.{◌≡◌, [], ◌∷◌, ◌++◌, List, false, length, IfOk, OnErr, OnOk, true};
+ghost use Rattle.std.specs.Prelude.{◌≡◌, [], ◌∷◌, ◌++◌, List, false, length, None, Some, IfOk, IfErr, OnErr, OnOk, true};
 ghost use Rattle.mwc_pipe.specs.declared.word.Word.{Word};
-ghost use Rattle.mwc_parts.specs.Pieces.{ones, done_counts};
-ghost use Rattle.mwc_parts.specs.Settled.{is_cut, IsDraftOf};
-ghost use Rattle.mwc_parts.specs.Room.{Grows, LacksRoom, LosesForWantOfRoom};
+ghost use Rattle.mwc_parts.specs.Pieces.{ones, done_counts, HasEnds};
+ghost use Rattle.mwc_parts.specs.Drafts.{is_cut, IsDraftOf, IsPartOfDraft, fault_in_draft};
+ghost use Rattle.mwc_parts.specs.Drafts.{Grows, LacksRoom, LosesForWantOfRoom};
 
+use crate::fault::GatherFault;
+use crate::part::Part;
 use council_game::{Coalition, Memory};
 use mwc_pipe::Word;
 use std::alloc::Global;
@@ -89,6 +91,31 @@ impl Draft {
     {
         // memory: the call that tells a loss
         self.lost = true;
+    }
+
+    /// The part of a worker that was given these slices and has ended. Of a cut sending nothing is kept.
+    ///
+    /// # Errors
+    ///
+    /// Memory where words were lost, else TooMany where the sending was cut.
+    pub fn into_part(self, given: Vec<u16>) -> Result<Part, GatherFault>
+        requires { fault_in_draft self ≡ None
+            → HasEnds given.items self.ends.items (length self.got.items) }
+        ensures part { IfOk result (IsPartOfDraft self given.items) }
+        ensures fault { IfErr result (λ why. fault_in_draft self ≡ Some why) }
+    {
+        if self.lost {
+            // memory: a draft is lost where a growth was refused
+            return Err(GatherFault::Memory);
+        }
+        if self.cut {
+            return Err(GatherFault::TooMany);
+        }
+        Ok(Part {
+            slices: given,
+            ends: self.ends,
+            got: self.got,
+        })
     }
 
     /// Keeps what the word tells of coalitions. A count that does not fit is told as want of

@@ -1,5 +1,6 @@
-//! Why nothing was gathered.
+//! Why nothing was gathered: what was met, and which fault is answered.
 ghost use Rattle.std.specs.Prelude.{◌≡◌};
+ghost use Rattle.mwc_parts.specs.Fault.{fault_of, also, nothing};
 ghost use Rattle.mwc_parts.specs.declared.fault.GatherFault.TheVariants.{Memory};
 
 use std::alloc::AllocError;
@@ -36,5 +37,65 @@ impl From<council_game::Memory> for GatherFault {
 
     fn from(_e: council_game::Memory) -> GatherFault {
         GatherFault::Memory
+    }
+}
+
+/// Which faults were met. Of use to a gatherer alone, which answers the first of them.
+#[derive(Clone, Copy, Debug)]
+pub struct Met {
+    /// A worker could not be started.
+    pub start: bool,
+    /// A growth was refused.
+    pub memory: bool,
+    /// A ring could not be finished.
+    pub ring: bool,
+    /// There are more coalitions than were asked for.
+    pub many: bool,
+}
+
+impl Met {
+    /// Nothing was met.
+    pub fn nothing() -> Met
+        ensures { result ≡ nothing }
+    {
+        Met {
+            start: false,
+            memory: false,
+            ring: false,
+            many: false,
+        }
+    }
+
+    /// This fault was met too.
+    pub fn note(&mut self, fault: GatherFault)
+        ensures { self.new ≡ also self.old fault }
+    {
+        match fault {
+            GatherFault::TooMany => self.many = true,
+            GatherFault::Start => self.start = true,
+            GatherFault::Memory => self.memory = true,
+            GatherFault::Ring => self.ring = true,
+        }
+    }
+
+    /// The fault that is answered: Start before Memory, Memory before Ring, Ring before TooMany.
+    pub fn fault(&self) -> Option<GatherFault>
+        ensures { result ≡ fault_of self.now }
+    {
+        if self.start {
+            // memory: it was answered elsewhere, and noted
+            return Some(GatherFault::Start);
+        }
+        if self.memory {
+            // memory: it was answered elsewhere, and noted
+            return Some(GatherFault::Memory);
+        }
+        if self.ring {
+            return Some(GatherFault::Ring);
+        }
+        if self.many {
+            return Some(GatherFault::TooMany);
+        }
+        None
     }
 }

@@ -7,21 +7,14 @@
 //! ```
 #![tactic(auto)]
 
-mod counting;
 mod draft;
 mod fault;
 mod gathered;
 mod marks;
-mod met;
 mod part;
-mod places;
-mod settling;
 
-pub use counting::fits;
 pub use draft::Draft;
-pub use fault::GatherFault;
+pub use fault::{GatherFault, Met};
 pub use gathered::Gathered;
 pub use marks::Marks;
-pub use met::Met;
-pub use part::Part;
-pub use settling::settle;
+pub use part::{Part, fits};

@@ -8,6 +8,7 @@ use Rattle.council_game.specs.Game.{GameView}
 use Rattle.power_index.specs.Tables.{Tables, AreTallies, AreCounts}
 use Rattle.power_index.proofs.Shared.Pieces.{pieces-all}
 use Rattle.power_index.proofs.Shared.Sound.{tallies-are_counts}
+use Rattle.mwc_tally.specs.Pieces.{joined}
 use Rattle.mwc_tally.specs.Inner.Threads.{IsGivenPart}
 use Rattle.mwc_tally.specs.declared.pieces.GivenPart.{GivenPart}
 
@@ -80,7 +81,7 @@ rest-length piece s a a-is = let one = length-take (length piece - a) (drop a pi
 
 -- what a thread counted is what it was given to count
 pub is-part : (given : GivenPart) (g : GameView) (list : List ℕ) (skip most : ℕ) → IsGivenPart g list skip most given
-    → (t : Tables) → AreTallies given.game.value (take given.most (drop given.skip (flat_map (λ p. p.now) given.pieces.value.now))) t
+    → (t : Tables) → AreTallies given.game.value (take given.most (drop given.skip (joined given.pieces.value.now))) t
     → AreTallies g (take most (drop skip list)) t
 is-part given g list skip most is t tallies =
     let same =

@@ -8,17 +8,17 @@
 //! ```
 #![tactic(auto)]
 
-mod all;
 mod fault;
 mod pieces;
 mod share;
 mod slice;
 mod slices;
+mod threads;
 mod watch;
 mod work;
 
-pub use all::tally;
 pub use fault::TallyFault;
 pub use pieces::tally_pieces;
 pub use slice::tally_slice;
+pub use threads::tally;
 pub use watch::{NoWatch, Watch};

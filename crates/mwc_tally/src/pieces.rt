@@ -2,9 +2,9 @@
 ghost use Rattle.coalitions.specs.declared.limits.TheConstants.{MEMBERS, WORKERS};
 ghost use Rattle.council_game.specs.Game.{AreNonemptyCoalitions};
 ghost use Rattle.power_index.specs.Tables.{AreCounts, AreTallies};
-ghost use Rattle.std.specs.List.{flat_map};
 ghost use Rattle.std.specs.Prelude.{◌≡◌, ◌+◌, ◌*◌, ◌<◌, ◌≤◌, ◌^◌, ⊤, IfOk, IfErr, MatchOption, length, drop, take};
-ghost use Rattle.mwc_tally.specs.Inner.Threads.{IsGivenPart};
+ghost use Rattle.mwc_tally.specs.Pieces.{joined};
+ghost use Rattle.mwc_tally.specs.Inner.Threads.{CanBeCounted, IsGivenPart};
 
 use crate::fault::TallyFault;
 use council_game::{Coalition, Game};
@@ -25,11 +25,11 @@ pub(crate) struct GivenPart<'s> {
 
 impl<'s> Promise<Counts> for GivenPart<'s> {
     ghost use Rattle.std.specs.Prelude.{take, drop};
-    ghost use Rattle.std.specs.List.{flat_map};
+    ghost use Rattle.mwc_tally.specs.Pieces.{joined};
     ghost use Rattle.power_index.specs.Tables.{AreTallies};
 
     ghost kept_by = { λ t counts. AreTallies t.game.value
-        (take t.most (drop t.skip (flat_map (λ p. p.now) t.pieces.value.now))) counts };
+        (take t.most (drop t.skip (joined t.pieces.value.now))) counts };
 }
 
 /// A thread that counts a part.
@@ -37,8 +37,8 @@ type Counting<'s> = PromisedHandle<Counts, GivenPart<'s>>;
 
 /// How many coalitions pieces have together.
 fn length_of(pieces: &[&[Coalition]]) -> usize
-    requires { length (flat_map (λ p. p.now) pieces.now) ≤ 2 ^ MEMBERS }
-    ensures { result ≡ length (flat_map (λ p. p.now) pieces.now) }
+    requires { length (joined pieces.now) ≤ 2 ^ MEMBERS }
+    ensures { result ≡ length (joined pieces.now) }
 {
     let mut length = 0;
     for piece in pieces {
@@ -49,10 +49,9 @@ fn length_of(pieces: &[&[Coalition]]) -> usize
 
 /// The counts of at most `most` coalitions of a list in pieces, past its first `skip`.
 fn of_part(game: &Game, pieces: &[&[Coalition]], skip: usize, most: usize) -> Counts
-    requires few { length (flat_map (λ p. p.now) pieces.now) ≤ 2 ^ MEMBERS }
-    requires coalitions { AreNonemptyCoalitions game.now (flat_map (λ p. p.now) pieces.now) }
+    requires list { CanBeCounted game.now (joined pieces.now) }
     ensures { AreTallies game.now
-        (take most (drop skip (flat_map (λ p. p.now) pieces.now))) result }
+        (take most (drop skip (joined pieces.now))) result }
 {
     let mut counts = Counts::none(game);
     let mut skip = skip;
@@ -81,9 +80,9 @@ pub fn tally_pieces<R: Threads + Wait + Sync>(
     threads: u8,
 ) -> Result<Counts, TallyFault>
     requires threads { (1 ≤ threads) × (threads ≤ WORKERS) }
-    requires few { length (flat_map (λ p. p.now) pieces.now) ≤ 2 ^ MEMBERS }
-    requires coalitions { AreNonemptyCoalitions game.now (flat_map (λ p. p.now) pieces.now) }
-    ensures ok { IfOk result (AreCounts game.now (flat_map (λ p. p.now) pieces.now)) }
+    requires few { length (joined pieces.now) ≤ 2 ^ MEMBERS }
+    requires coalitions { AreNonemptyCoalitions game.now (joined pieces.now) }
+    ensures ok { IfOk result (AreCounts game.now (joined pieces.now)) }
     ensures err { IfErr result (λ fault. fault ≡ TallyFault.Start) }
 {
     let part = length_of(pieces) / usize::from(threads) + 1;
@@ -91,14 +90,12 @@ pub fn tally_pieces<R: Threads + Wait + Sync>(
         thread::scope_env(),
         rt,
         move |scope| -> Result<Counts, TallyFault>
-            requires few { length (flat_map (λ p. p.now) pieces.now) ≤ 2 ^ MEMBERS }
-            requires coalitions { AreNonemptyCoalitions game.now
-                (flat_map (λ p. p.now) pieces.now) }
+            requires list { CanBeCounted game.now (joined pieces.now) }
             requires part { part ≤ 2 ^ 41 }
-            requires enough { length (flat_map (λ p. p.now) pieces.now) ≤ threads * part }
+            requires enough { length (joined pieces.now) ≤ threads * part }
             requires threads { (1 ≤ threads) × (threads ≤ WORKERS) }
             ensures ok { IfOk result
-                (AreTallies game.entry.now (flat_map (λ p. p.now) pieces.entry.now)) }
+                (AreTallies game.entry.now (joined pieces.entry.now)) }
             ensures err { IfErr result (λ fault. fault ≡ TallyFault.Start) }
         {
             let mut counts = Counts::none(game);
@@ -116,9 +113,8 @@ fn start<'s, E>(
     skip: usize,
     most: usize,
 ) -> Option<Counting<'s>>
-    requires few { length (flat_map (λ p. p.now) pieces.now) ≤ 2 ^ MEMBERS }
-    requires coalitions { AreNonemptyCoalitions game.now (flat_map (λ p. p.now) pieces.now) }
-    ensures { MatchOption result ⊤ (λ t. IsGivenPart game.now (flat_map (λ p. p.now) pieces.now)
+    requires list { CanBeCounted game.now (joined pieces.now) }
+    ensures { MatchOption result ⊤ (λ t. IsGivenPart game.now (joined pieces.now)
         skip most t.promise) }
 {
     let given = GivenPart {
@@ -128,10 +124,9 @@ fn start<'s, E>(
         most,
     };
     let body = move || -> Counts
-        requires few { length (flat_map (λ p. p.now) pieces.now) ≤ 2 ^ MEMBERS }
-        requires coalitions { AreNonemptyCoalitions game.now (flat_map (λ p. p.now) pieces.now) }
+        requires list { CanBeCounted game.now (joined pieces.now) }
         ensures { AreTallies game.entry.now
-            (take most (drop skip (flat_map (λ p. p.now) pieces.entry.now))) result }
+            (take most (drop skip (joined pieces.entry.now))) result }
     { of_part(game, pieces, skip, most) };
     scope.spawn_with(given, body).ok()
 }
@@ -139,9 +134,8 @@ fn start<'s, E>(
 /// Counts the first part of a list, in place of what was counted before.
 #[inline(never)]
 fn count_first(game: &Game, pieces: &[&[Coalition]], part: usize, counts: &mut Counts)
-    requires few { length (flat_map (λ p. p.now) pieces.now) ≤ 2 ^ MEMBERS }
-    requires coalitions { AreNonemptyCoalitions game.now (flat_map (λ p. p.now) pieces.now) }
-    ensures { AreTallies game.now (take part (flat_map (λ p. p.now) pieces.now)) counts.new }
+    requires list { CanBeCounted game.now (joined pieces.now) }
+    ensures { AreTallies game.now (take part (joined pieces.now)) counts.new }
 {
     *counts = of_part(game, pieces, 0, part);
 }
@@ -157,10 +151,10 @@ fn add_part<'s, R: Threads>(
     thread: Counting<'s>,
     counts: &mut Counts,
 )
-    requires few { length (flat_map (λ p. p.now) pieces.now) ≤ 2 ^ MEMBERS }
-    requires given { IsGivenPart game.now (flat_map (λ p. p.now) pieces.now) skip part thread.promise }
-    requires before { AreTallies game.now (take skip (flat_map (λ p. p.now) pieces.now)) counts.old }
-    ensures { AreTallies game.now (take (skip + part) (flat_map (λ p. p.now) pieces.now)) counts.new }
+    requires few { length (joined pieces.now) ≤ 2 ^ MEMBERS }
+    requires given { IsGivenPart game.now (joined pieces.now) skip part thread.promise }
+    requires before { AreTallies game.now (take skip (joined pieces.now)) counts.old }
+    ensures { AreTallies game.now (take (skip + part) (joined pieces.now)) counts.new }
 {
     let own = thread.join(rt);
     counts.add(&own);
@@ -177,11 +171,10 @@ fn count_up_to<'s, E, R: Threads>(
     others: u8,
     counts: &mut Counts,
 ) -> Result<(), TallyFault>
-    requires few { length (flat_map (λ p. p.now) pieces.now) ≤ 2 ^ MEMBERS }
-    requires coalitions { AreNonemptyCoalitions game.now (flat_map (λ p. p.now) pieces.now) }
+    requires list { CanBeCounted game.now (joined pieces.now) }
     requires room { part ≤ 2 ^ 41 }
     ensures ok { IfOk result (λ _. AreTallies game.now
-        (take (others * part + part) (flat_map (λ p. p.now) pieces.now)) counts.new) }
+        (take (others * part + part) (joined pieces.now)) counts.new) }
     ensures err { IfErr result (λ fault. fault ≡ TallyFault.Start) }
 {
     if others == 0 {

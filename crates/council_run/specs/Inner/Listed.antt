@@ -3,7 +3,6 @@ use Rattle.std.specs.Prelude.{◌≡◌, ◌≤◌, ℕ, List, length}
 use Rattle.std.specs.List.{All, flat_map, range_with_len}
 use Rattle.council_game.specs.Votes.{minimal_coalitions}
 use Rattle.council_game.specs.Game.{GameView, IsGame, votes_of, AreNonemptyCoalitions}
-use Rattle.mwc_tally.specs.Slices.{slice}
 use Rattle.mwc_parts.specs.Parts.{HasPieces}
 use Rattle.mwc_parts.specs.declared.gathered.Gathered.{Gathered}
 use Rattle.council_run.specs.Run.{count_of}
@@ -18,7 +17,7 @@ pub record IsListed (g : GameView) (most : ℕ) (list : List ℕ) : Type 0 where
 -- what the workers listed is all of them, slice by slice, and there are at most so many
 pub record IsGathered (g : GameView) (most : ℕ) (r : Gathered) : Type 0 where
   pub game : IsGame g
-  pub bits : ℕ
-  pub pieces : All (HasPieces (slice (votes_of g) bits)) r.parts.items
-  pub whole : flat_map (slice (votes_of g) bits) (range_with_len 0 r.slices) ≡ minimal_coalitions (votes_of g)
+  pub slice : ℕ → List ℕ
+  pub pieces : All (HasPieces slice) r.parts.items
+  pub whole : flat_map slice (range_with_len 0 r.slices) ≡ minimal_coalitions (votes_of g)
   pub few : count_of g ≤ most

@@ -2,22 +2,30 @@
 use Rattle.std.specs.Prelude.{◌≡◌, ◌≢◌, ◌⊎◌, ℕ, ◌<◌, Bool, true, List, Option, Some, None, All, length, map}
 use Rattle.std.specs.List.{AllWithin}
 use Rattle.mwc_parts.specs.Slicing.{Slicing}
-use Rattle.mwc_parts.specs.Parts.{IsPart}
+use Rattle.mwc_parts.specs.Shared.Settled.{IsPart}
 use Rattle.mwc_parts.specs.Wording.{coalition_count}
 use Rattle.mwc_parts.specs.Fault.{nothing, also}
 use Rattle.mwc_parts.specs.Shared.Fault.{IsEarly}
 use Rattle.mwc_parts.specs.declared.part.Part.{Part}
-use Rattle.mwc_parts.specs.declared.met.Met.{Met}
+use Rattle.mwc_parts.specs.declared.fault.Met.{Met}
 use Rattle.mwc_parts.specs.declared.fault.GatherFault.{GatherFault}
 use Rattle.mwc_parts.specs.declared.fault.GatherFault.TheVariants.{TooMany, Start, Memory}
 use Rattle.mwc_parts.specs.Shared.Dealing.{DeskView, IsWell, IsFresh, DealsInTurn, DealsOneEach}
-use Rattle.mwc_gather.specs.Inner.Orders.{slicing_of}
+use Rattle.mwc_gather.specs.Slicings.{slicing}
 use Rattle.mwc_gather.specs.declared.desk.Desk.{Desk}
 use Rattle.mwc_gather.specs.declared.dealing.Deal.{Deal}
 
+-- the slices of the game that the worker was given
+abbrev pub desk_slicing : Desk → Slicing
+desk_slicing d = slicing d.worker.promise.game.value d.worker.promise.bits
+
 -- the worker was given this game and this limit
 abbrev pub IsOf : Slicing → ℕ → Desk → Type 0
-IsOf g most d = (slicing_of d.worker.promise.order ≡ g) × (d.worker.promise.order.most ≡ most)
+IsOf g most d = (desk_slicing d ≡ g) × (d.worker.promise.most ≡ most)
+
+-- the same worker, of which the same words were taken
+abbrev pub IsSameDesk : Desk → Desk → Type 0
+IsSameDesk old new = (new.worker.promise ≡ old.worker.promise) × (new.words.taken ≡ old.words.taken)
 
 abbrev pub AllOf : Slicing → ℕ → List Desk → Type 0
 AllOf g most desks = All (IsOf g most) desks

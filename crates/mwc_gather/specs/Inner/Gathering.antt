@@ -4,7 +4,8 @@ use Rattle.std.specs.List.{range_with_len}
 use Rattle.mwc_parts.specs.Slicing.{Slicing}
 use Rattle.mwc_parts.specs.Wording.{coalition_count}
 use Rattle.mwc_parts.specs.Shared.Deals.{AreDealt}
-use Rattle.mwc_parts.specs.Parts.{IsPart, shares}
+use Rattle.mwc_parts.specs.Parts.{shares}
+use Rattle.mwc_parts.specs.Shared.Settled.{IsPart}
 use Rattle.mwc_parts.specs.declared.part.Part.{Part}
 
 -- how many coalitions all slices have

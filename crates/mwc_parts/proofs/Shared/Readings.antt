@@ -1,7 +1,7 @@
 -- What the words of whole slices tell.
 use Rattle.std.specs.Prelude.{◌≡◌, ℕ, zero, suc, ◌+◌, ◌-◌, ◌<◌, ◌≤◌, Bool, false, List, [], ◌∷◌, ◌++◌, length, map, take, drop, refl}
 use Rattle.std.specs.List.{flat_map}
-use Rattle.std.proofs.Common.{get_or, subst, ap, arith, sym, ◌∙◌, append_assoc}
+use Rattle.std.proofs.Common.{get_or, ap, arith, sym, ◌∙◌, append_assoc}
 use Rattle.std.proofs.lemmas.List.{append-nil, length-append, drop_at, take_at}
 use Rattle.std.proofs.lemmas.List.Elements.{filter_map-append}
 use Rattle.std.proofs.lemmas.List.Concat.{length-flat_map}
@@ -10,8 +10,8 @@ use Rattle.mwc_pipe.specs.declared.word.Word.{Word}
 use Rattle.mwc_pipe.specs.declared.word.Word.TheVariants.{Open, One, Done, End}
 use Rattle.mwc_parts.specs.Wording.{wording, coalition_count}
 use Rattle.mwc_parts.proofs.Sums.{coalitions-cons}
-use Rattle.mwc_parts.specs.Settled.{IsSentWhole}
-use Rattle.mwc_parts.specs.Pieces.{one_in, ones, done_counts, ends_from, Rises}
+use Rattle.mwc_parts.specs.Shared.Settled.{IsSentWhole, ends_from}
+use Rattle.mwc_parts.specs.Pieces.{one_in, ones, done_counts, HasEnds}
 
 ones-slice : (j : ℕ) (l : List ℕ) (rest : List Word) → ones (((Open j ∷ map One l) ++ Done j ∷ []) ++ rest) ≡ l ++ ones rest
 ones-slice j [] rest = refl
@@ -105,18 +105,15 @@ reads {g} {most} {s} {told} {words} got ends sent a b = record {
       ∙ append-nil (done_counts 0 (wording g s)) ∙ done_counts-wording g 0 s;
 }
 
-pub one_end_each : {g : Slicing} {s got ends : List ℕ} → Reads g s got ends → length ends ≡ length s
-one_end_each {g} {s} {got} {ends} r = ap length r.ends_are ∙ length-ends g 0 s
+ends_of : (g : Slicing) (s : List ℕ) → HasEnds s (ends_from g 0 s) (length (flat_map g.slice s))
+ends_of g s =
+    let k = length-joined g s in
+    record {
+      one_end_each = length-ends g 0 s;
+      ends_rise = λ m l. let h = rises_from g 0 s m l in let a = h.1 in (h.0, omega arith);
+      last_end = omega (arith, last_from g 0 s);
+    }
 
-pub ends_rise : {g : Slicing} {s got ends : List ℕ} → Reads g s got ends → Rises ends (length got)
-ends_rise {g} {s} {got} {ends} r =
-    subst (λ (w : List ℕ). Rises w (length got)) (sym r.ends_are)
-    (subst (λ (w : List ℕ). Rises (ends_from g 0 s) (length w)) (sym r.joins)
-    (λ m l. let h = rises_from g 0 s m l in let k = length-joined g s in let a = h.1 in (h.0, omega arith)))
-
-pub last_end : {g : Slicing} {s got ends : List ℕ} → Reads g s got ends → get_or (0 ∷ ends) (length ends) 0 ≡ length got
-last_end {g} {s} {got} {ends} r =
-    let e = ap (λ (w : List ℕ). get_or (0 ∷ w) (length w) 0) r.ends_are in
-    let f = ap length r.joins in
-    let h = last_from g 0 s in let k = length-joined g s in
-    omega arith
+-- and where its slices end
+pub has_ends : {g : Slicing} {s got ends : List ℕ} → Reads g s got ends → HasEnds s ends (length got)
+has_ends {g} {s} r = rw (r.joins, r.ends_are) (ends_of g s)

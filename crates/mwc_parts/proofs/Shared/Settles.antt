@@ -1,5 +1,5 @@
 -- From the join of a worker to what is known of its words.
-use Rattle.std.specs.Prelude.{◌≡◌, ◌⊎◌, ℕ, ◌<◌, Bool, true, false, List, [], ◌∷◌, ◌++◌, map, All, refl}
+use Rattle.std.specs.Prelude.{◌≡◌, ◌⊎◌, ℕ, ◌<◌, Bool, true, false, List, [], ◌∷◌, ◌++◌, None, Some, if◌then◌else◌, map, All, refl}
 use Rattle.std.proofs.Common.{ap, arith, sym, ◌∙◌, inl, inr}
 use Rattle.std.proofs.lemmas.Bool.{false≢true}
 use Rattle.std.proofs.Math.Bool.{or-true}
@@ -9,10 +9,15 @@ use Rattle.mwc_pipe.specs.declared.word.Word.{Word}
 use Rattle.mwc_pipe.specs.declared.word.Word.TheVariants.{One, Done, End}
 use Rattle.mwc_parts.specs.Wording.{open_words, wording, coalition_count, IsWholeSending, IsCutSending, slice_words}
 use Rattle.mwc_parts.specs.Shared.Wording.{end_words}
-use Rattle.mwc_parts.specs.Settled.{is_cut, has_cut, IsSentWhole, IsCutShort, AreSettled}
+use Rattle.mwc_parts.specs.Drafts.{is_cut, has_cut, fault_in_draft}
+use Rattle.mwc_parts.specs.Shared.Settled.{IsSentWhole, IsCutShort, AreSettled, HasAllWords}
+use Rattle.mwc_parts.specs.declared.draft.Draft.{Draft}
+use Rattle.mwc_parts.specs.declared.fault.GatherFault.{GatherFault}
+use Rattle.mwc_parts.specs.declared.fault.GatherFault.TheVariants.{TooMany, Memory}
+use Rattle.mwc_parts.proofs.Shared.Readings.{Reads, reads}
 use Rattle.mwc_parts.proofs.Tasks.{all_taken, cut_taken}
 
-pub whole_settles : (g : Slicing) (most : ℕ) (taken left : List Word) (given : List ℕ) (told : Bool) (words : List Word)
+whole_settles : (g : Slicing) (most : ℕ) (taken left : List Word) (given : List ℕ) (told : Bool) (words : List Word)
     → All (λ j. j < g.slices) given → taken ++ left ≡ open_words given ++ end_words told → IsWholeSending g most taken words
     → IsSentWhole g most given told words
 whole_settles g most taken left given told words a e w =
@@ -20,7 +25,7 @@ whole_settles g most taken left given told words a e w =
     let same = ap (coalition_count g) t.0 in
     record { words_are = w.words_are ∙ ap (λ (s : List ℕ). wording g s ++ End false ∷ []) t.0; was_told = t.1; few = omega arith }
 
-pub cut_settles : (g : Slicing) (most : ℕ) (taken left : List Word) (given : List ℕ) (told : Bool) (words : List Word)
+cut_settles : (g : Slicing) (most : ℕ) (taken left : List Word) (given : List ℕ) (told : Bool) (words : List Word)
     → taken ++ left ≡ open_words given ++ end_words told → IsCutSending g most taken words → IsCutShort g most given words
 cut_settles g most taken left given told words e w =
     let t = cut_taken g w.slices given w.slice left told (ap (λ (x : List Word). x ++ left) (sym w.tasks_are) ∙ e) in
@@ -50,12 +55,40 @@ was_cut : {g : Slicing} {most : ℕ} {given : List ℕ} {words : List Word} → 
 was_cut c = ap has_cut c.words_are ∙ list_any-append is_cut c.before (End true ∷ []) ∙ or-true (has_cut c.before)
 
 -- by whether a word told of a cut
-pub all_sent : {g : Slicing} {most : ℕ} {given : List ℕ} {told : Bool} {words : List Word} → AreSettled g most given told words
+all_sent : {g : Slicing} {most : ℕ} {given : List ℕ} {told : Bool} {words : List Word} → AreSettled g most given told words
     → has_cut words ≡ false → IsSentWhole g most given told words
 all_sent (inl a) e = a
 all_sent (inr c) e = absurd (false≢true (sym e ∙ was_cut c))
 
-pub cut_is_many : {g : Slicing} {most : ℕ} {given : List ℕ} {told : Bool} {words : List Word} → AreSettled g most given told words
+cut_is_many : {g : Slicing} {most : ℕ} {given : List ℕ} {told : Bool} {words : List Word} → AreSettled g most given told words
     → has_cut words ≡ true → most < coalition_count g given
 cut_is_many (inl a) e = absurd (false≢true (sym (sent_uncut a) ∙ e))
 cut_is_many (inr c) e = c.many
+
+-- by what keeps a draft from being a part
+pub kept_by : (lost cut : Bool) → (if lost then Some Memory else (if cut then Some TooMany else None)) ≡ None → (lost ≡ false) × (cut ≡ false)
+kept_by true cut e = cc
+kept_by false true e = cc
+kept_by false false e = (refl, refl)
+
+pub lost_or_cut : (lost cut : Bool) (why : GatherFault) → (if lost then Some Memory else (if cut then Some TooMany else None)) ≡ Some why
+    → ((lost ≡ true) × (why ≡ Memory)) ⊎ ((lost ≡ false) × (cut ≡ true) × (why ≡ TooMany))
+lost_or_cut true cut why e = inl (refl, cc)
+lost_or_cut false true why e = inr (refl, refl, cc)
+lost_or_cut false false why e = cc
+
+-- what a draft of all words is, where nothing keeps it from being a part
+pub whole_sent : {g : Slicing} {most : ℕ} {given : List ℕ} {told : Bool} {draft : Draft} (h : HasAllWords g most given told draft)
+    → fault_in_draft draft ≡ None → IsSentWhole g most given told h.words
+whole_sent {draft = draft} h e = all_sent h.settled (sym h.keeps.cut_is ∙ (kept_by draft.lost draft.cut e).1)
+
+pub whole_reads : {g : Slicing} {most : ℕ} {given : List ℕ} {told : Bool} {draft : Draft} → HasAllWords g most given told draft
+    → fault_in_draft draft ≡ None → Reads g given draft.got.items draft.ends.items
+whole_reads {draft = draft} h e =
+    let lost = (kept_by draft.lost draft.cut e).0 in
+    reads draft.got.items draft.ends.items (whole_sent h e) (h.keeps.got_are lost) (h.keeps.ends_are lost)
+
+-- and what it tells where there was a cut
+pub whole_many : {g : Slicing} {most : ℕ} {given : List ℕ} {told : Bool} {draft : Draft} → HasAllWords g most given told draft
+    → draft.cut ≡ true → most < coalition_count g given
+whole_many h e = cut_is_many h.settled (sym h.keeps.cut_is ∙ e)

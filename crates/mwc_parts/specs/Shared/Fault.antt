@@ -2,7 +2,7 @@
 use Rattle.std.specs.Prelude.{◌≡◌, ◌⊎◌, List, [], ◌∷◌, Option, Some, None, Result, Ok, Err}
 use Rattle.mwc_parts.specs.declared.fault.GatherFault.{GatherFault}
 use Rattle.mwc_parts.specs.declared.fault.GatherFault.TheVariants.{Start, Memory}
-use Rattle.mwc_parts.specs.declared.met.Met.{Met}
+use Rattle.mwc_parts.specs.declared.fault.Met.{Met}
 use Rattle.mwc_parts.specs.Fault.{also}
 
 -- what was met, and after it what each of these was answered, of which some are no fault

@@ -8,7 +8,7 @@ returns-clause-ok g c =
     ok-map c.gather_with_lookout.result
     (λ r (all : Gathers (votes_of c.args.game.now) c.min-bits.result c.args.options.now.workers c.args.options.now.most r). record {
       game = c.members.ensures.game;
-      bits = c.min-bits.result;
+      slice = _;
       pieces = all.pieces;
       whole = all.whole;
       few = all.few;

@@ -3,32 +3,32 @@ use Rattle.mwc_parts.specs.Slicing.{Slicing}
 use Rattle.std.specs.List.{sum_by}
 use Rattle.mwc_parts.specs.declared.part.Part.{Part}
 use Rattle.mwc_parts.proofs.Shared.Once.{dealt_each_once}
-use Rattle.mwc_gather.specs.Inner.Orders.{slicing_of}
+use Rattle.mwc_gather.specs.Slicings.{slicing}
 use Rattle.mwc_gather.proofs.Wholes.{whole, all_total_is, all_pieces}
 use Rattle.mwc_gather.proofs.Ends.{complete_sum, end_increases}
 use Rattle.mwc_gather.proofs.gathering.all_of.Goals as goal
 
 pub returns-then-not-fits-clause-many : goal.returns-then-not-fits-clause-many
-returns-then-not-fits-clause-many c =
-    let order = c.args.order.now in
+returns-then-not-fits-clause-many g c =
+    let job = c.args.job.now in
     let sum = complete_sum c.requires in
-    let all = all_total_is order.game.value order.bits order.bits_fit.0 order.bits_fit.1 in
+    let all = all_total_is job.guarded job.bits job.bits_fit.0 job.bits_fit.1 in
     let over = c.fits.ensures.many c.if-not-fits.true in
     let items = ap (sum_by (λ (p : Part). length p.got.items)) c.as_slice.ensures.value in
     omega arith
 
 pub invariant_of-result : goal.invariant_of-result
-invariant_of-result c =
+invariant_of-result g c =
     record { each_slice_once = rw c.slice_count.ensures (dealt_each_once c.args.parts.items c.requires.dealt) }
 
 pub returns-clause-gathers : goal.returns-clause-gathers
-returns-clause-gathers c =
-    let order = c.args.order.now in
+returns-clause-gathers g c =
+    let job = c.args.job.now in
     let complete = c.requires in
-    let game : Slicing = slicing_of order in
+    let game : Slicing = slicing job.guarded job.bits in
     let parts : List Part = c.args.parts.items in
     let sum = complete_sum complete in
-    let all = all_total_is order.game.value order.bits order.bits_fit.0 order.bits_fit.1 in
+    let all = all_total_is job.guarded job.bits job.bits_fit.0 job.bits_fit.1 in
     let under = c.fits.ensures.few c.if-not-fits.false in
     let items = ap (sum_by (λ (p : Part). length p.got.items)) c.as_slice.ensures.value in
     record {
@@ -38,5 +38,5 @@ returns-clause-gathers c =
       pieces = all_pieces game parts complete.are_parts;
       begins = complete.begins;
       few = omega arith;
-      whole = rw c.slice_count.ensures (whole order.game.value order.bits order.bits_fit.0 order.bits_fit.1);
+      whole = rw c.slice_count.ensures (whole job.guarded job.bits job.bits_fit.0 job.bits_fit.1);
     }

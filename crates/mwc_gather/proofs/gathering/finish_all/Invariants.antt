@@ -1,8 +1,8 @@
 use Rattle.std.specs.Vec.Iter.{into_iter_items}
-use Rattle.mwc_gather.specs.Inner.Orders.{slicing_of}
+use Rattle.mwc_gather.specs.Slicings.{slicing}
 use Rattle.mwc_gather.proofs.Finishing.{Finishing}
 use Rattle.mwc_gather.proofs.gathering.finish_all.Given as goal
 
 abbrev pub invariant-loop-desk : goal.invariant-loop-desk
 invariant-loop-desk g l =
-    Finishing (slicing_of l.order) l.order.most l.fn.start l.fn.desks.items (into_iter_items l.desk-iterator) l.met l.parts.items
+    Finishing (slicing l.job.guarded l.job.bits) l.job.most l.fn.start l.fn.desks.items (into_iter_items l.desk-iterator) l.met l.parts.items

@@ -1,7 +1,7 @@
 use Rattle.std.proofs.Common.{◌<◌, List, subst, sym, ap, ◌∙◌, rules, inr, arith}
 use Rattle.std.specs.Prelude.{All}
 use Rattle.std.proofs.lemmas.List.Elements.{All-push}
-use Rattle.mwc_parts.specs.declared.met.Met.{Met}
+use Rattle.mwc_parts.specs.declared.fault.Met.{Met}
 use Rattle.mwc_parts.specs.Fault.{also}
 use Rattle.mwc_parts.specs.Shared.Dealing.{IsFresh}
 use Rattle.mwc_parts.specs.Slicing.{Slicing}

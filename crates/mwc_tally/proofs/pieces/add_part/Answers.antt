@@ -1,5 +1,5 @@
 use Rattle.std.proofs.Common.{ℕ, ◌+◌, List, length, length-append, take, drop, sym, ap, arith, subst}
-use Rattle.std.specs.List.{flat_map}
+use Rattle.mwc_tally.specs.Pieces.{joined}
 use Rattle.std.proofs.lemmas.List.{length-take}
 use Rattle.std.proofs.Math.Seq.{take-add}
 use Rattle.power_index.specs.Tables.{AreTallies}
@@ -9,7 +9,7 @@ use Rattle.mwc_tally.proofs.pieces.add_part.Goals as goal
 
 pub add-requires-clause-room : goal.add-requires-clause-room
 add-requires-clause-room g c =
-    let list : List ℕ = flat_map (λ p. p.now) c.args.pieces.now in
+    let list : List ℕ = joined c.args.pieces.now in
     let part = is-part c.args.thread.promise c.args.game.now list c.args.skip c.args.part c.requires.given _ c.join-own.ensures in
     let own = total-is c.args.game.now (take c.args.part (drop c.args.skip list)) c.join-own.result part in
     let before = total-is c.args.game.now (take c.args.skip list) c.args.counts.now c.requires.before in
@@ -20,7 +20,7 @@ add-requires-clause-room g c =
 
 pub returns : goal.returns
 returns g c =
-    let list : List ℕ = flat_map (λ p. p.now) c.args.pieces.now in
+    let list : List ℕ = joined c.args.pieces.now in
     let part = is-part c.args.thread.promise c.args.game.now list c.args.skip c.args.part c.requires.given _ c.join-own.ensures in
     subst (λ (l : List ℕ). AreTallies c.args.game.now l c.add.new.self) (sym (take-add c.args.skip c.args.part list))
     (c.add.ensures.tallies c.args.game.now (take c.args.skip list) (take c.args.part (drop c.args.skip list)) c.requires.before part)

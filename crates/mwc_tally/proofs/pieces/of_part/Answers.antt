@@ -1,5 +1,6 @@
 use Rattle.std.proofs.Common.{◌∙◌, ◌-◌, ◌++◌, ◌<◌, ◌^◌, length, length-append, take, drop, sym, ap, arith, ℕ, List, subst}
-use Rattle.std.specs.List.{All, flat_map}
+use Rattle.std.specs.List.{All}
+use Rattle.mwc_tally.specs.Pieces.{joined}
 use Rattle.std.proofs.lemmas.List.Elements.{All-drop, All-take}
 use Rattle.power_index.specs.Tables.{AreTallies}
 use Rattle.power_index.proofs.Shared.Sound.{total-is}
@@ -12,7 +13,7 @@ count_row-requires-clause-coalitions c =
     c.min-in-loop-piece.ensures in
     let piece = piece-all (λ m. (0 < m) × (m < 2 ^ length c.args.game.now.names))
     (λ p. p.now) c.args.pieces.now c.loop-piece.piece-index c.piece-item.result c.loop-piece-test.true c.piece-item.is
-    c.requires.coalitions in
+    c.requires.list.coalitions in
     let own : ℕ → Type 0 = λ m. (0 < m) × (m < 2 ^ length c.args.game.now.names) in
     let read : List ℕ = take c.min-in-loop-piece.result
     (take (length c.piece-item.result.now - c.min.result) (drop c.min.result c.piece-item.result.now)) in
@@ -26,7 +27,7 @@ pub count_row-requires-clause-room : goal.count_row-requires-clause-room
 count_row-requires-clause-room c =
     let row = row-is c.piece-item.result.now c.loop-piece.skip c.loop-piece.left c.min.result c.min-in-loop-piece.result c.min.ensures
     c.min-in-loop-piece.ensures in
-    let before : List ℕ = flat_map (λ p. p.now) (take c.loop-piece.piece-index c.args.pieces.now) in
+    let before : List ℕ = joined (take c.loop-piece.piece-index c.args.pieces.now) in
     let total = total-is c.args.game.now _ c.loop-piece.counts c.loop-piece.invariant.counted in
     let more = ap (λ (l : List ℕ). length l)
     (part-more c.args.skip c.args.most c.loop-piece.skip c.loop-piece.left before c.piece-item.result.now c.loop-piece.invariant.skip
@@ -38,13 +39,13 @@ count_row-requires-clause-room c =
     let all = pieces-length
     (λ p. p.now) c.args.pieces.now c.loop-piece.piece-index c.piece-item.result c.loop-piece-test.true c.piece-item.is in
     let same = ap (λ (l : List ℕ). length l) row in
-    omega (arith, total, more, long, part, both, all, same, c.requires.few)
+    omega (arith, total, more, long, part, both, all, same, c.requires.list.few)
 
 pub loop-piece-preserved : goal.loop-piece-preserved
 loop-piece-preserved c =
     let row = row-is c.piece-item.result.now c.loop-piece.skip c.loop-piece.left c.min.result c.min-in-loop-piece.result c.min.ensures
     c.min-in-loop-piece.ensures in
-    let before : List ℕ = flat_map (λ p. p.now) (take c.loop-piece.piece-index c.args.pieces.now) in
+    let before : List ℕ = joined (take c.loop-piece.piece-index c.args.pieces.now) in
     let invariant = c.loop-piece.invariant in
     let grown = pieces-more
     (λ p. p.now) c.args.pieces.now c.loop-piece.piece-index c.piece-item.result c.loop-piece-test.true c.piece-item.is in

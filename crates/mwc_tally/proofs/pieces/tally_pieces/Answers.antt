@@ -1,6 +1,6 @@
-use Rattle.std.specs.List.{flat_map}
+use Rattle.mwc_tally.specs.Pieces.{joined}
 use Rattle.mwc_tally.proofs.Parts.{ok-counts}
 use Rattle.mwc_tally.proofs.pieces.tally_pieces.Goals as goal
 
 pub returns-clause-ok : goal.returns-clause-ok
-returns-clause-ok g c = ok-counts c.args.game.now (flat_map (λ p. p.now) c.args.pieces.now) c.scoped.result c.scoped.ensures.1.0
+returns-clause-ok g c = ok-counts c.args.game.now (joined c.args.pieces.now) c.scoped.result c.scoped.ensures.1.0

@@ -1,5 +1,5 @@
 use Rattle.std.proofs.Common.{◌≡◌, ◌<◌, ℕ, length, subst, arith}
-use Rattle.mwc_gather.specs.Inner.Orders.{slicing_of}
+use Rattle.mwc_gather.specs.Slicings.{slicing}
 use Rattle.mwc_gather.specs.Inner.Desks.{DealsFirst}
 use Rattle.mwc_gather.proofs.Deals.{first_of_place, deal_starts}
 use Rattle.mwc_gather.proofs.dealing.Deal.deal_first.Goals as goal
@@ -12,10 +12,10 @@ loop-i-preserved g c =
     let q = c.loop-i.auto.desks in
     let l : c.loop-i.i < length c.loop-i.desks = omega arith in
     first_of_place c.loop-i.desks c.loop-i.i c.index-desks-i.result c.deal_to.new.desk l c.loop-i.invariant
-    c.deal_to.ensures.worker c.deal_to.ensures.turns
+    c.deal_to.ensures.same.0 c.deal_to.ensures.turns
 
 pub returns : goal.returns
 returns g c =
     let q : c.loop-i.i ≡ length c.args.desks.now = omega arith in
-    let order = c.args.order.now in
-    subst (λ (k : ℕ). DealsFirst (slicing_of order) order.most c.args.self.now.stopped c.loop-i.self k c.loop-i.desks) q c.loop-i.invariant
+    let job = c.args.job.now in
+    subst (λ (k : ℕ). DealsFirst (slicing job.guarded job.bits) job.most c.args.self.now.stopped c.loop-i.self k c.loop-i.desks) q c.loop-i.invariant

@@ -1,20 +1,19 @@
-use Rattle.std.proofs.Common.{List, subst, ◌∙◌, refl}
-use Rattle.mwc_pipe.specs.declared.word.Word.{Word}
-use Rattle.mwc_parts.specs.Settled.{IsDraftOf}
-use Rattle.mwc_gather.specs.Inner.Orders.{slicing_of}
-use Rattle.mwc_gather.proofs.Joins.{join_settles}
+use Rattle.std.proofs.Common.{◌∙◌}
+use Rattle.mwc_gather.proofs.Joins.{has_ended, whole_ends, part_answered, end_answered}
 use Rattle.mwc_gather.proofs.desk.Desk.finish.Goals as goal
 
-pub returns-clause-whole : goal.returns-clause-whole
-returns-clause-whole g c =
+pub into_part-requires : goal.into_part-requires
+into_part-requires g c =
     let d = c.args.self in
-    let order = d.worker.promise.order in
-    let closed = c.in-Ok-closed.closed in
-    record {
-      words = closed.accepted;
-      settled =
-          join_settles (slicing_of order) order.most d.worker.promise.out.value d.worker.promise.tasks.value c.join-closed.result closed
-          c.end-left.result d.given.items d.told closed.accepted
-          c.join-closed.ensures c.in-Ok-closed.is d.below (c.end-left.ensures ∙ c.in-Ok.ensures.1 ∙ d.tasks_are) refl;
-      keeps = subst (λ (w : List Word). IsDraftOf w c.drain.new.draft) c.end.ensures (c.drain.ensures.keeps d.words.taken d.keeps);
-    }
+    whole_ends (has_ended d c.join-closed.result c.in-Ok-closed.closed c.end-left.result c.end.result c.join-closed.ensures
+    c.in-Ok-closed.is (c.end-left.ensures ∙ c.in-Ok.ensures.1) c.end.ensures (c.drain.ensures.keeps d.words.taken d.keeps)
+    c.drain.ensures.lost c.drain.ensures.cut)
+
+pub returns : goal.returns
+returns g c =
+    let d = c.args.self in
+    let ended = has_ended d c.join-closed.result c.in-Ok-closed.closed c.end-left.result c.end.result c.join-closed.ensures
+    c.in-Ok-closed.is (c.end-left.ensures ∙ c.in-Ok.ensures.1) c.end.ensures (c.drain.ensures.keeps d.words.taken d.keeps)
+    c.drain.ensures.lost c.drain.ensures.cut in
+    let part = part_answered ended c.into_part.result c.into_part.ensures.part in
+    record { part = part; ends = end_answered ended c.into_part.result part c.into_part.ensures.fault }

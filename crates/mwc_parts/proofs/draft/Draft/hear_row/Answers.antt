@@ -1,7 +1,7 @@
 use Rattle.std.proofs.Common.{◌≡◌, ◌+◌, ◌++◌, ◌∷◌, [], List, length, take, ap, subst, sym, ◌∙◌, append_assoc}
 use Rattle.std.proofs.lemmas.List.{take_more}
 use Rattle.mwc_pipe.specs.declared.word.Word.{Word}
-use Rattle.mwc_parts.specs.Settled.{IsDraftOf}
+use Rattle.mwc_parts.specs.Drafts.{IsDraftOf}
 use Rattle.mwc_parts.proofs.Rooms.{grows_more, loses_more}
 use Rattle.mwc_parts.proofs.draft.Draft.hear_row.Goals as goal
 

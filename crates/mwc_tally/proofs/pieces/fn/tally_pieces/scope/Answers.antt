@@ -1,12 +1,12 @@
 use Rattle.std.proofs.Common.{◌≡◌, ◌∙◌, ℕ, ◌+◌, ◌-◌, ◌*◌, List, ap, arith, subst}
-use Rattle.std.specs.List.{flat_map}
+use Rattle.mwc_tally.specs.Pieces.{joined}
 use Rattle.std.proofs.lemmas.List.{take_all}
 use Rattle.power_index.specs.Tables.{AreTallies}
 use Rattle.mwc_tally.proofs.pieces.fn.tally_pieces.scope.Goals as goal
 
 pub returns : goal.returns
 returns g c =
-    let list : List ℕ = flat_map (λ p. p.now) c.captures.pieces.now in
+    let list : List ℕ = joined c.captures.pieces.now in
     let all = one-more (c.captures.threads - 1) c.captures.threads c.captures.part (omega (arith, c.requires.threads)) in
     record {
       ok = subst (λ (l : List ℕ). AreTallies c.captures.game.now l c.count_up_to.new.counts)

@@ -1,7 +1,7 @@
 use Rattle.std.proofs.Common.{◌≡◌}
 use Rattle.std.specs.Vec.Iter.{into_iter_items}
 use Rattle.std.proofs.lemmas.List.Elements.{All-rest}
-use Rattle.mwc_tally.proofs.all.join_all.Goals as goal
+use Rattle.mwc_tally.proofs.threads.join_all.Goals as goal
 
 pub loop-thread-preserved-in-Ok : goal.loop-thread-preserved-in-Ok
 loop-thread-preserved-in-Ok g c = record {

@@ -1,7 +1,7 @@
 use Rattle.std.proofs.Common.{◌≡◌, ◌++◌, List, false, length}
 use Rattle.mwc_pipe.specs.declared.word.Word.{Word}
-use Rattle.mwc_parts.specs.Settled.{IsDraftOf}
-use Rattle.mwc_gather.proofs.calls.drain.Given as goal
+use Rattle.mwc_parts.specs.Drafts.{IsDraftOf}
+use Rattle.mwc_gather.proofs.desk.drain.Given as goal
 
 abbrev pub invariant-loop-word : goal.invariant-loop-word
 invariant-loop-word l =

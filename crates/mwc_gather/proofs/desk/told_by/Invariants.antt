@@ -1,7 +1,7 @@
 use Rattle.std.proofs.Common.{◌≡◌, take}
 use Rattle.std.specs.List.{list_any}
 use Rattle.mwc_parts.specs.Shared.Wording.{is_done}
-use Rattle.mwc_gather.proofs.calls.told_by.Given as goal
+use Rattle.mwc_gather.proofs.desk.told_by.Given as goal
 
 abbrev pub invariant-loop-word : goal.invariant-loop-word
 invariant-loop-word l = l.done ≡ list_any is_done (take l.word-index l.words)

@@ -1,7 +1,7 @@
 use Rattle.std.proofs.Common.{List, [], ◌∷◌, ◌++◌, append_assoc, ap, subst, sym, ◌∙◌}
 use Rattle.mwc_pipe.specs.declared.word.Word.{Word}
-use Rattle.mwc_parts.specs.Settled.{IsDraftOf}
-use Rattle.mwc_gather.proofs.calls.drain.Goals as goal
+use Rattle.mwc_parts.specs.Drafts.{IsDraftOf}
+use Rattle.mwc_gather.proofs.desk.drain.Goals as goal
 
 pub loop-word-preserved : goal.loop-word-preserved
 loop-word-preserved c =

@@ -4,7 +4,7 @@ use Rattle.power_index.specs.Tables.{AreTallies, AreCounts}
 use Rattle.power_index.proofs.Shared.Sound.{total-is, tallies-are_counts}
 use Rattle.mwc_tally.specs.Inner.Shares.{CountSlices}
 use Rattle.mwc_tally.proofs.Counting.{all-slices, slices-room, slices-more}
-use Rattle.mwc_tally.proofs.all.one_by_one.Goals as goal
+use Rattle.mwc_tally.proofs.threads.one_by_one.Goals as goal
 
 pub add-requires-clause-room : goal.add-requires-clause-room
 add-requires-clause-room g c =

@@ -1,6 +1,6 @@
 use Rattle.std.specs.List.{range_with_len}
 use Rattle.mwc_tally.specs.Inner.Shares.{CountSlices}
-use Rattle.mwc_tally.proofs.all.one_by_one.Given as goal
+use Rattle.mwc_tally.proofs.threads.one_by_one.Given as goal
 
 abbrev pub invariant-loop-slice : goal.invariant-loop-slice
 invariant-loop-slice g l = CountSlices l.slices (range_with_len 0 l.slice) l.counts

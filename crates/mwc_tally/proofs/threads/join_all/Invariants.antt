@@ -2,7 +2,7 @@ use Rattle.std.proofs.Common.{◌≡◌}
 use Rattle.std.specs.Prelude.{All}
 use Rattle.std.specs.Vec.Iter.{into_iter_items}
 use Rattle.mwc_tally.specs.Inner.Shares.{IsShare}
-use Rattle.mwc_tally.proofs.all.join_all.Given as goal
+use Rattle.mwc_tally.proofs.threads.join_all.Given as goal
 
 abbrev pub invariant-loop-thread : goal.invariant-loop-thread
 invariant-loop-thread g l = record {
