@@ -15,6 +15,7 @@ use Rattle.coalitions.proofs.Shared.Digits.{has-none}
 use Rattle.council_game.proofs.Shared.Meanings.{needs-each-member}
 use Rattle.council_game.proofs.Shared.WeightByDigits.{weight-nil, weight-cons}
 use Rattle.council_game.proofs.Shared.Weights.{weight-skip, weight-zero, weight-without}
+use Rattle.mwc_sums.proofs.Filters.{filter-map}
 use Rattle.mwc_sums.specs.Completing.{completing}
 
 -- ---- coalitions of one place more
@@ -191,16 +192,6 @@ down-two (suc m) n =
     let e : suc m + n ≡ suc (m + n) = omega arith in
     let first : m + n ≡ n + m = omega arith in
     ap down e ∙ ap (λ (l : List ℕ). (m + n) ∷ l) (down-two m n) ∙ ap (λ (k : ℕ). k ∷ (map (λ c. n + c) (down m) ++ down n)) first
-
-pub filter-map : (p : ℕ → Bool) (f : ℕ → ℕ) (xs : List ℕ) → filter p (map f xs) ≡ map f (filter (λ x. p (f x)) xs)
-filter-map p f [] = refl
-filter-map p f (x ∷ xs) = kept (p (f x)) (filter-map p f xs)
-  where
-    kept : (b : Bool) → filter p (map f xs) ≡ map f (filter (λ x. p (f x)) xs)
-        → cond b (f x ∷ filter p (map f xs)) (filter p (map f xs)) ≡ map f
-        (cond b (x ∷ filter (λ x. p (f x)) xs) (filter (λ x. p (f x)) xs))
-    kept true h = ap (λ (l : List ℕ). f x ∷ l) h
-    kept false h = h
 
 -- a test that 0 alone passes
 only-none : (n : ℕ) (test : ℕ → Bool) → 0 < n → test 0 ≡ true → ((c : ℕ) → 0 < c → c < n → test c ≡ false) → filter test (down n) ≡ 0 ∷ []

@@ -9,8 +9,8 @@ use Rattle.std.proofs.lemmas.Nat.{ones_cat}
 use Rattle.std.proofs.Math.Bool.{and-true, and-false}
 use Rattle.council_game.specs.Votes.{size, down}
 use Rattle.coalitions.proofs.Shared.Sizes.{size-ones}
-use Rattle.mwc_sums.proofs.Filters.{filter-both, filter-none, filter-same}
-use Rattle.mwc_sums.proofs.Completing.{double-pow, down-two, filter-map}
+use Rattle.mwc_sums.proofs.Filters.{filter-map, filter-both, filter-none, filter-same}
+use Rattle.mwc_sums.proofs.Completing.{double-pow, down-two}
 
 -- ---- sizes
 pub size-with : (n c : ℕ) → c < 2 ^ n → size (suc n) (2 ^ n + c) ≡ size n c + 1

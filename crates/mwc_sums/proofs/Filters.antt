@@ -1,5 +1,5 @@
 -- What passes a test.
-use Rattle.std.proofs.Common.{◌≡◌, ◌∙◌, ◌&&◌, Bool, true, false, cond, List, [], ◌∷◌, get_or, filter, refl, All, inl, inr}
+use Rattle.std.proofs.Common.{◌≡◌, ◌∙◌, ◌&&◌, Bool, true, false, cond, List, [], ◌∷◌, get_or, filter, map, refl, All, inl, inr}
 use Rattle.std.proofs.lemmas.Bool.{cases_Bool}
 use Rattle.std.proofs.lemmas.List.Elements.{All-head, All-tail}
 
@@ -18,6 +18,13 @@ filter-both p q [] = refl
 filter-both p q (x ∷ xs) = elim (cases_Bool (p x)) [
   | inl is ↦ rw (is, filter-both p q xs) refl
   | inr out ↦ rw (out, filter-both p q xs) refl
+]
+
+pub filter-map : {X Y : Type 0} (p : Y → Bool) (f : X → Y) (xs : List X) → filter p (map f xs) ≡ map f (filter (λ x. p (f x)) xs)
+filter-map p f [] = refl
+filter-map p f (x ∷ xs) = elim (cases_Bool (p (f x))) [
+  | inl is ↦ rw (is, filter-map p f xs) refl
+  | inr out ↦ rw (out, filter-map p f xs) refl
 ]
 
 -- of what passes one test, what passes another, where this passes the first

@@ -49,9 +49,6 @@ wins-two r s c = (
 -- with two rules, of which the second asks for heads
 module _ (v : Votes) (r s : RuleView) (heads c : ℕ) (two : v.rules ≡ r ∷ s ∷ []) (votes : IsVotes v)
     (asks : AsksForHeads v.members heads s) (below : c < 2 ^ v.members) where
-  rule-one : IsRule v.members r
-  rule-one = (subst (λ (l : List RuleView). AllByRecursion (IsRule v.members) l) two votes.rules).0
-
   rule-two : IsRule v.members s
   rule-two = (subst (λ (l : List RuleView). AllByRecursion (IsRule v.members) l) two votes.rules).1.0
 

@@ -80,16 +80,12 @@ module _ (g : GameView) (ranks : RanksAre (length g.names) g.ranks) where
   mask-contains f i lt =
       mask-has (λ p. f (member_at g.ranks p)) (length g.names) (get_or g.ranks i 0) (ranks.place_below i lt) ∙ ap f (ranks.member_back i lt)
 
-  -- coalitions with the same members are the same
-  pub same-members : (c d : ℕ) → c < 2 ^ length g.names → d < 2 ^ length g.names
-      → ((i : ℕ) → i < length g.names → contains g i c ≡ contains g i d) → c ≡ d
-  same-members c d lc ld same = same-places (length g.names) c d lc ld (λ p lt.
-      (let back = ranks.place_back p lt in
-      ap (λ (q : ℕ). has (length g.names) q c) (sym back) ∙ same (member_at g.ranks p) (ranks.member_below p lt)
-      ∙ ap (λ (q : ℕ). has (length g.names) q d) back))
-
   pub mask-is : (f : ℕ → Bool) (c : ℕ) → c < 2 ^ length g.names → ((i : ℕ) → i < length g.names → contains g i c ≡ f i) → c ≡ as_mask g f
-  mask-is f c below same = same-members c (as_mask g f) below (mask-less g f) (λ i lt. same i lt ∙ sym (mask-contains f i lt))
+  mask-is f c below same = same-places (length g.names) c (as_mask g f) below (mask-less g f) (λ p lt.
+      (let back = ranks.place_back p lt in
+      let li = ranks.member_below p lt in
+      ap (λ (q : ℕ). has (length g.names) q c) (sym back) ∙ same (member_at g.ranks p) li ∙ sym (mask-contains f (member_at g.ranks p) li)
+      ∙ ap (λ (q : ℕ). has (length g.names) q (as_mask g f)) back))
 
 -- a coalition of one game and one of another have the same of the n first members
 abbrev pub AreAlike : GameView → GameView → ℕ → ℕ → Type 0

@@ -60,11 +60,10 @@ in-filter : {X : Type 0} (p : X → Bool) (xs : List X) (j : ℕ) (d : X) → j 
     → 0 < length (filter p xs)
 in-filter p [] j d lt passes = absurd (omega (arith, lt))
 in-filter p (x ∷ xs) zero d lt passes = rw passes (omega arith)
-in-filter p (x ∷ xs) (suc j) d lt passes = more (p x) (in-filter p xs j d (omega (arith, lt)) passes)
-  where
-    more : (b : Bool) → 0 < length (filter p xs) → 0 < length (cond b (x ∷ filter p xs) (filter p xs))
-    more true some = omega arith
-    more false some = some
+in-filter p (x ∷ xs) (suc j) d lt passes = elim (cases_Bool (p x)) [
+  | inl is ↦ rw is (omega arith)
+  | inr out ↦ rw out (in-filter p xs j d (omega (arith, lt)) passes)
+]
 
 met-parted : (n : ℕ) (p : RuleView → Bool) (rs : List RuleView) (f : ℕ → Bool)
     → met n rs f ≡ (met n (filter p rs) f && met n (filter (λ r. not (p r)) rs) f)
@@ -86,11 +85,11 @@ two-pass p [] j k d less lt pj pk = absurd (omega (arith, lt))
 two-pass p (x ∷ xs) j zero d less lt pj pk = absurd (omega (arith, less))
 two-pass p (x ∷ xs) zero (suc k) d less lt pj pk = rw pj (let some = in-filter p xs k d (omega (arith, lt)) pk in omega (arith, some))
 two-pass p (x ∷ xs) (suc j) (suc k) d less lt pj pk =
-    more (p x) (two-pass p xs j k d (omega (arith, less)) (omega (arith, lt)) pj pk)
-  where
-    more : (b : Bool) → 2 ≤ length (filter p xs) → 2 ≤ length (cond b (x ∷ filter p xs) (filter p xs))
-    more true two = omega (arith, two)
-    more false two = two
+    let two = two-pass p xs j k d (omega (arith, less)) (omega (arith, lt)) pj pk in
+    elim (cases_Bool (p x)) [
+      | inl is ↦ rw is (omega (arith, two))
+      | inr out ↦ rw out two
+    ]
 
 -- what holds of each that passes
 all-passing : (P : RuleView → Type 0) (p : RuleView → Bool) (rs : List RuleView)

@@ -21,7 +21,8 @@ use Rattle.mwc_sums.specs.Heads.{AsksForHeads, first_rule, IsMinimalByHeads}
 use Rattle.weight_sums.specs.Endings.{no_sizes, endings, left_out, AreEndings, AreEndingsWith}
 use Rattle.mwc_sums.specs.Inner.NoTally.{IsOfNone}
 use Rattle.mwc_sums.specs.Inner.Asked.{IsAsked}
-use Rattle.mwc_sums.proofs.Completing.{Falls, IsLeast, filter-map, least-minimal, same_test}
+use Rattle.mwc_sums.proofs.Filters.{filter-map}
+use Rattle.mwc_sums.proofs.Completing.{Falls, IsLeast, least-minimal, same_test}
 use Rattle.mwc_sums.proofs.Counting.{count, count-filter, count-none, count-same, down-below}
 use Rattle.mwc_sums.proofs.Leading.{IsLed, first_of, leading, led-each, leading-votes, leading-list, has-first, has-last}
 use Rattle.mwc_sums.proofs.HeadLaw.{heads-from, heads-back}

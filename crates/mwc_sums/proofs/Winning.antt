@@ -9,11 +9,10 @@ use Rattle.std.proofs.lemmas.List.FromFn.{fill_by_all, length-range_with_len}
 use Rattle.std.proofs.lemmas.List.Folds.{fold-map}
 use Rattle.std.proofs.lemmas.List.Sorted.{sum_by-IsPermutation}
 use Rattle.std.proofs.lemmas.List.Sums.{length-filter}
-use Rattle.council_game.specs.Votes.{RuleView, IsVotes, has, without, wins, weight, minimal}
+use Rattle.council_game.specs.Votes.{RuleView, has, without, wins, weight, minimal}
 use Rattle.council_game.specs.Ranks.{AreRankPlaces, places, member_at, members_by_rank, rule_by_rank}
 use Rattle.council_game.specs.Game.{GameView, IsGame, votes_of}
 use Rattle.coalitions.proofs.Shared.Digits.{has-kept, has-gone}
-use Rattle.council_game.proofs.Shared.Games.{votes-are}
 use Rattle.council_game.proofs.Shared.Making.{RanksAre, ranks-are}
 use Rattle.council_game.proofs.Shared.Meanings.{needs-each-member}
 use Rattle.council_game.proofs.Shared.RankPlaces.{game-rank_places}
@@ -24,12 +23,11 @@ pub use Rattle.mwc_sums.specs.Chambers.{weighs, met}
 
 -- a game, its places ranked by any weights
 pub record IsPlaced (g : GameView) : Type 0 where
-  pub votes : IsVotes (votes_of g)
   pub ranks : RanksAre (length g.names) g.ranks
   pub each : AreRankPlaces g.ranks
 
 pub game-placed : (g : GameView) → IsGame g → IsPlaced g
-game-placed g is = record { votes = votes-are g is; ranks = ranks-are g is; each = game-rank_places g is }
+game-placed g is = record { ranks = ranks-are g is; each = game-rank_places g is }
 
 -- ---- weights and sizes by member
 -- a sum over the rank places of a game is one over its members
