@@ -8,7 +8,7 @@ pub mod WeightByDigits
 pub mod Places
 pub mod Meanings
 pub mod Weights
-pub mod GameTests
+pub mod WinningByPlaces
 pub mod Subsets
 pub mod Listing
 pub mod RankPlaces

@@ -9,7 +9,7 @@ use Rattle.std.proofs.lemmas.Nat.{pow_pos, pow-add, div-mul-add}
 use Rattle.std.proofs.lemmas.Nat.Bits.{bit_at_cat_low, bit_at_cat_high, bit_at-zero}
 use Rattle.std.proofs.Math.Nat.{mul-sub, div-mul-le_self, min-le_left, min-le_right}
 use Rattle.council_game.specs.Votes.{RuleView, Votes, IsRule, IsRanked, IsVotes, has, without, weight, wins, minimal, down, minimal_coalitions}
-use Rattle.council_game.proofs.Shared.GameTests.{rule-is}
+use Rattle.council_game.proofs.Shared.WinningByPlaces.{rule-is}
 use Rattle.council_game.proofs.Shared.Meanings.{needs-each-member}
 use Rattle.council_game.proofs.Shared.Weights.{weight-at, weight-le}
 use Rattle.mwc_sums.specs.Inner.Asked.{HaveAllWeight}

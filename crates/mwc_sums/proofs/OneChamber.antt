@@ -8,7 +8,7 @@ use Rattle.std.proofs.lemmas.List.{get_or-map}
 use Rattle.council_game.specs.Game.{GameView, IsGame, votes_of}
 use Rattle.council_game.specs.Ranks.{rule_by_rank}
 use Rattle.council_game.specs.Votes.{RuleView, Votes, IsVotes, IsRanked, rule_at}
-use Rattle.council_game.proofs.Shared.GameTests.{rule-is}
+use Rattle.council_game.proofs.Shared.WinningByPlaces.{rule-is}
 use Rattle.mwc_sums.specs.Heads.{asks_of_those, gives_each}
 use Rattle.mwc_sums.specs.Inner.Seats.{AsksOfThose}
 use Rattle.mwc_sums.proofs.AlikeRules.{alike-sum}

@@ -6,7 +6,7 @@ use Rattle.std.proofs.lemmas.Bool.{cases_lt, lt-leb, both_ways}
 use Rattle.std.proofs.lemmas.List.Sums.{sum_by-cons}
 use Rattle.std.proofs.lemmas.List.Folds.{list_all_at}
 use Rattle.council_game.specs.Votes.{RuleView, Votes, IsVotes, rule_at, has, weight, wins}
-use Rattle.council_game.proofs.Shared.GameTests.{rule-is}
+use Rattle.council_game.proofs.Shared.WinningByPlaces.{rule-is}
 use Rattle.council_game.proofs.Shared.Weights.{weight-le}
 use Rattle.mwc_sums.specs.Vetoers.{IsVetoer}
 use Rattle.mwc_sums.proofs.Completing.{double-pow, first-in, rest-in, rest-out, weight-with, weight-left}

@@ -12,7 +12,7 @@ use Rattle.council_game.specs.Votes.{RuleView, Votes, IsRule, IsRanked, IsVotes,
 use Rattle.council_game.specs.Votes.{minimal_coalitions}
 use Rattle.council_game.specs.Game.{GameView, votes_of}
 use Rattle.coalitions.proofs.Shared.Sizes.{size-ones}
-use Rattle.council_game.proofs.Shared.GameTests.{rule-is}
+use Rattle.council_game.proofs.Shared.WinningByPlaces.{rule-is}
 use Rattle.council_game.proofs.Shared.Weights.{weight-zero}
 use Rattle.power_index.specs.declared.tally.Tally.{Tally}
 use Rattle.power_index.specs.Tables.{IsTallyOf}

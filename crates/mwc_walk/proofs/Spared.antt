@@ -10,7 +10,7 @@ use Rattle.std.proofs.lemmas.Nat.Bits.{bit_at-trailing_zeros}
 use Rattle.std.proofs.Math.Pow.{pow_mono}
 use Rattle.council_game.specs.Votes.{RuleView, Votes, IsRule, IsVotes, IsRanked, rule_at, has, without, weight, wins, minimal}
 use Rattle.coalitions.proofs.Shared.Digits.{has-kept, has-gone, has-none, lowest-place, lowest-cleared, without-less}
-use Rattle.council_game.proofs.Shared.GameTests.{sum-without}
+use Rattle.council_game.proofs.Shared.WinningByPlaces.{sum-without}
 use Rattle.council_game.proofs.Shared.Meanings.{needs-each-member}
 use Rattle.council_game.proofs.Shared.Weights.{weight-skip}
 use Rattle.mwc_walk.specs.declared.cursor.Cursor.{Cursor}

@@ -6,7 +6,7 @@ use Rattle.mwc_walk.specs.declared.lane.Lane.{Lane}
 use Rattle.mwc_walk.specs.Inner.Lanes.{lane_with}
 use Rattle.council_game.specs.Votes.{RuleView, Votes, IsVotes, has}
 use Rattle.mwc_walk.specs.Slices.{slice}
-use Rattle.council_game.proofs.Shared.GameTests.{fixed-half}
+use Rattle.council_game.proofs.Shared.WinningByPlaces.{fixed-half}
 use Rattle.mwc_walk.specs.Inner.Places.{slice_below, LanesAre}
 use Rattle.mwc_walk.specs.declared.asked.Asked.{Asked}
 use Rattle.mwc_walk.specs.Inner.Asked.{AreAsked}

@@ -18,7 +18,7 @@ use Rattle.council_game.specs.Inner.Parts.{game_of_parts}
 use Rattle.council_game.proofs.Shared.RuleLists.{held_full}
 use Rattle.council_game.proofs.Shared.Rankings.{IsRanking, ranking-member_at, ranking-below, ranking-is, ranking-length, rank-of, rank_places-at, ranking-falls, ranking-weights_at, length-rank_places, place-found, places-at, places-below}
 use Rattle.council_game.proofs.Order.{ranking}
-use Rattle.council_game.proofs.Shared.GameTests.{held-rule}
+use Rattle.council_game.proofs.Shared.WinningByPlaces.{held-rule}
 use Rattle.council_game.proofs.Shared.Games.{passed, votes-are, first-full, light-weights, light-sum}
 
 -- the place of each member in a ranking is its rank place

@@ -3,7 +3,7 @@ use Rattle.std.proofs.lemmas.Bool.{both_ways}
 use Rattle.council_game.specs.Votes.{has, wins, without}
 use Rattle.council_game.specs.Inner.Weighing.{votes}
 use Rattle.council_game.specs.Rules.{rule_views}
-use Rattle.council_game.proofs.Shared.GameTests.{not-minimal, is-minimal, lost-not_minimal}
+use Rattle.council_game.proofs.Shared.WinningByPlaces.{not-minimal, is-minimal, lost-not_minimal}
 use Rattle.council_game.proofs.winning.is_minimal.Goals as goal
 use Rattle.council_game.proofs.winning.is_minimal.Goals.{else-has-via-then-has+else-wins_without, else-has-via-else-has}
 

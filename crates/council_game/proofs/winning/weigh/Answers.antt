@@ -1,6 +1,6 @@
 use Rattle.std.proofs.Common.{◌≢◌, ◌<◌, ℕ, length, arith, sym, ap, ◌∙◌, get_or-set_other, get_or-set_same, below_more, length-set, List}
 use Rattle.council_game.specs.Votes.{RuleView, weight}
-use Rattle.council_game.proofs.Shared.GameTests.{rule-at, held-rule, count-rules}
+use Rattle.council_game.proofs.Shared.WinningByPlaces.{rule-at, held-rule, count-rules}
 use Rattle.council_game.proofs.winning.weigh.Goals as goal
 
 pub weight_of-requires-clause-few : goal.weight_of-requires-clause-few

@@ -1,6 +1,6 @@
 use Rattle.std.proofs.Common.{refl, sym, ◌∙◌, arith, length, ◌/◌, ◌^◌, ◌-◌}
 use Rattle.council_game.proofs.Shared.WeightByDigits.{weight-nil}
-use Rattle.council_game.proofs.Shared.GameTests.{weight-in, weight-out, partial-fits, weight-all}
+use Rattle.council_game.proofs.Shared.WinningByPlaces.{weight-in, weight-out, partial-fits, weight-all}
 use Rattle.council_game.proofs.winning.weight_of.Goals as goal
 use Rattle.council_game.proofs.winning.weight_of.Goals.{then-has, else-has}
 

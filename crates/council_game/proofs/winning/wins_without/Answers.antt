@@ -1,7 +1,7 @@
 use Rattle.std.proofs.Common.{refl, sym, arith}
 use Rattle.council_game.specs.Votes.{wins}
 use Rattle.council_game.specs.Rules.{rule_views}
-use Rattle.council_game.proofs.Shared.GameTests.{less-at, lost-at, won-at, wins-all, count-rules}
+use Rattle.council_game.proofs.Shared.WinningByPlaces.{less-at, lost-at, won-at, wins-all, count-rules}
 use Rattle.council_game.proofs.winning.wins_without.Goals as goal
 
 pub loop-r-init : goal.loop-r-init
