@@ -14,8 +14,10 @@ crates=$top/crates
 # tests_of CRATE: the crate that has its tests, as a module CRATE_tests.
 tests_of() {
     local module
-    module=$(find "$crates" -path "*_tests/src/$1_tests.rt")
-    basename "${module%/src/*}"
+    for module in "$crates"/*_tests/src/"$1_tests.rt"; do
+        module=${module%/src/*}
+        echo "${module##*/}"
+    done
 }
 
 # are_built CRATE: whether the built tests of the crate are there, and no source of them or of the libraries

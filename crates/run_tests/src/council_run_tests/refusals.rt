@@ -85,14 +85,14 @@ fn tallies_by_sums(rt: HostRuntime) {
     runs(&rt, rt.alloc(), TWO_RULES, TWO_RULES_TALLY, true);
 }
 
-/// Three rules, which sums do not take: threads count.
-const THREE_RULES: &[u8] =
-    b"quotas = [2, 1, 1]\nmember = [{name = \"A\", weights = [1, 1, 0]}, {name = \"B\", weights = [1, 0, 1]}]";
+/// Two rules that give all members weight, which sums do not take: threads count.
+const SHARED_RULES: &[u8] =
+    b"quotas = [2, 2]\nmember = [{name = \"A\", weights = [2, 1]}, {name = \"B\", weights = [1, 2]}, {name = \"C\", weights = [1, 1]}]";
 
-const THREE_RULES_TALLY: &[u8] =
-    b"members\t2\nquota\t2/1/1\ntotal\t2/1/1\nminimal\t1\nsize\t2\t1\t1\t1\nmember\tA\t1/1/0\t1\t1/2\t0.500000\t1/2\t0.500000\nmember\tB\t1/0/1\t1\t1/2\t0.500000\t1/2\t0.500000\n";
+const SHARED_RULES_TALLY: &[u8] =
+    b"members\t3\nquota\t2/2\ntotal\t4/4\nminimal\t3\nsize\t2\t3\t2\t2\t2\nmember\tA\t2/1\t2\t1/3\t0.333333\t1/3\t0.333333\nmember\tB\t1/2\t2\t1/3\t0.333333\t1/3\t0.333333\nmember\tC\t1/1\t2\t1/3\t0.333333\t1/3\t0.333333\n";
 
 #[test]
 fn tallies_by_threads(rt: HostRuntime) {
-    runs(&rt, rt.alloc(), THREE_RULES, THREE_RULES_TALLY, true);
+    runs(&rt, rt.alloc(), SHARED_RULES, SHARED_RULES_TALLY, true);
 }
