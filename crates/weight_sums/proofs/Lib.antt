@@ -5,4 +5,6 @@ mod Members
 mod SetLaws
 mod SetLists
 mod FittingSets
+mod TableSums
+mod GroupSums
 mod HalfSums

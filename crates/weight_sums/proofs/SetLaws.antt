@@ -1,12 +1,14 @@
--- All sets of some members: what they lead to, alone and with the sets of others.
-use Rattle.std.proofs.Common.{◌≡◌, ◌∙◌, ◌⊎◌, ℕ, ◌+◌, ◌-◌, ◌<◌, ◌≤◌, Bool, true, false, cond, eqb, leb, ltb, List, [], ◌∷◌, ◌++◌}
+-- Sets of some members: with one member more, without one, and of members in two halves.
+use Rattle.std.proofs.Common.{◌≡◌, ◌∙◌, ◌⊎◌, ℕ, zero, suc, ◌+◌, ◌-◌, ◌*◌, ◌/◌, ◌%◌, ◌==◌, ◌&&◌, ◌<◌, ◌≤◌, ◌^◌, Bool, true, false, cond, eqb, leb, ltb, List, [], ◌∷◌, ◌++◌}
 use Rattle.std.proofs.Common.{length, map, sym, ap, refl, arith, inl, inr}
-use Rattle.std.proofs.lemmas.Bool.{cases_lt, cases_Bool, ne_eqb, le-leb, lt-leb, lt-ltb, le-ltb, cond-true, cond-false, eqb-true}
+use Rattle.std.proofs.lemmas.Bool.{cases_lt, le-leb, lt-leb, lt-ltb, cond-true, cond-false}
 use Rattle.std.proofs.lemmas.List.Sums.{sum_by-cons, sum_by-append}
+use Rattle.std.proofs.lemmas.Nat.Bits.{bit_at-suc, bit_at-zero, bit_at_lowest}
 use Rattle.std.specs.List.{sum_by}
 use Rattle.weight_sums.specs.declared.sets.Set.{Set}
-use Rattle.weight_sums.specs.Endings.{one_of_size, fill, endings}
-use Rattle.weight_sums.specs.Inner.Sets.{left, joined, sets_of, fits, longer, ended, completed, AreSets}
+use Rattle.weight_sums.specs.Endings.{one_of_size, fill, endings, left_out}
+use Rattle.weight_sums.specs.Inner.Sets.{nobody, alone, left, joined, chosen, sets_of, lost_of, has, fits, met}
+use Rattle.weight_sums.proofs.Shared.EndingLaws.{meetings, endings-few, endings-more, endings-heads, endings-plain}
 
 -- ---- sums over sets
 pub sum-same : (f g : Set → ℕ) (xs : List Set) → ((x : Set) → f x ≡ g x) → sum_by f xs ≡ sum_by g xs
@@ -20,248 +22,274 @@ pub sum-plus : (f g : Set → ℕ) (xs : List Set) → sum_by (λ x. f x + g x) 
 sum-plus f g [] = refl
 sum-plus f g (x ∷ xs) = simp sum_by-cons (omega (arith, sum-plus f g xs))
 
-pub sum-map : (g : Set → ℕ) (h : Set → Set) (xs : List Set) → sum_by g (map h xs) ≡ sum_by (λ x. g (h x)) xs
+sum-map : (g : Set → ℕ) (h : Set → Set) (xs : List Set) → sum_by g (map h xs) ≡ sum_by (λ x. g (h x)) xs
 sum-map g h [] = refl
 sum-map g h (x ∷ xs) = simp sum_by-cons (omega (arith, sum-map g h xs))
 
-pub sets-more : (g : Set → ℕ) (w : ℕ) (ws : List ℕ) → sum_by g (sets_of (w ∷ ws))
-    ≡ sum_by (λ x. g (left x)) (sets_of ws) + sum_by (λ x. g (joined w x)) (sets_of ws)
-unfolding sets_of
-sets-more g w ws =
-    sum_by-append g (map left (sets_of ws)) (map (joined w) (sets_of ws))
-    ∙ (λ i. sum-map g left (sets_of ws) i + sum-map g (joined w) (sets_of ws) i)
+pub sum-one : (g : Set → ℕ) (x : Set) → sum_by g (x ∷ []) ≡ g x
+sum-one g x = simp sum_by-cons (omega arith)
 
-pub sets-none : (g : Set → ℕ) → sum_by g (sets_of []) ≡ g (record { weight = 0; size = 0; behind = 0 })
-unfolding sets_of
-sets-none g = omega arith
+-- a sum over the pairs of two lists, in either order
+pub sum-swap : (f : Set → Set → ℕ) (xs ys : List Set) → sum_by (λ x. sum_by (f x) ys) xs ≡ sum_by (λ y. sum_by (λ x. f x y) xs) ys
+sum-swap f [] ys = sym (sum-zero ys)
+sum-swap f (x ∷ xs) ys =
+    sum_by-cons (λ z. sum_by (f z) ys) x xs ∙ ap (λ (n : ℕ). sum_by (f x) ys + n) (sum-swap f xs ys)
+    ∙ sym (sum-plus (f x) (λ y. sum_by (λ z. f z y) xs) ys)
+    ∙ sum-same (λ y. f x y + sum_by (λ z. f z y) xs) (λ y. sum_by (λ z. f z y) (x ∷ xs)) ys (λ y. sym (sum_by-cons (λ z. f z y) x xs))
 
--- one of all sets is empty, and weighs nothing
-the-empty : (g : ℕ → ℕ) (ws : List ℕ) → sum_by (λ x. cond (eqb x.size 0) (g x.weight) 0) (sets_of ws) ≡ g 0
-the-empty g [] = sets-none (λ x. cond (eqb x.size 0) (g x.weight) 0)
-the-empty g (w ∷ ws) =
-    let parts = sets-more (λ x. cond (eqb x.size 0) (g x.weight) 0) w ws in
-    let none : sum_by (λ x. cond (eqb (x.size + 1) 0) (g (x.weight + w)) 0) (sets_of ws) ≡ 0 =
-    sum-same (λ x. cond (eqb (x.size + 1) 0) (g (x.weight + w)) 0) (λ x. 0) (sets_of ws)
-    (λ x. ap {B = ℕ} (λ b. cond b (g (x.weight + w)) 0) (ne_eqb (x.size + 1) 0 (λ e. absurd (omega (arith, e))))) ∙ sum-zero (sets_of ws) in
-    omega (arith, parts, none, the-empty g ws)
+-- ---- with one member more in front
+pub chosen-more : (g : Set → ℕ) (none first : List Set) (w : ℕ) (ws : List ℕ) → sum_by g (chosen none first (w ∷ ws))
+    ≡ sum_by g first + (sum_by (λ x. g (left x)) (chosen none first ws) + sum_by (λ x. g (joined w x)) (chosen none first ws))
+unfolding chosen
+chosen-more g none first w ws =
+    let c : List Set = chosen none first ws in
+    sum_by-append g first (map left c ++ map (joined w) c)
+    ∙ (λ i. sum_by g first + sum_by-append g (map left c) (map (joined w) c) i)
+    ∙ (λ i. sum_by g first + (sum-map g left c i + sum-map g (joined w) c i))
 
--- each set but the empty one is another with a member from behind its last
-at : ℕ → ℕ → Set → ℕ
-at k s x = one_of_size s (k + x.size)
+pub chosen-none : (g : Set → ℕ) (none first : List Set) → sum_by g (chosen none first []) ≡ sum_by g none
+unfolding chosen
+chosen-none g none first = refl
 
-after : ℕ → ℕ → Set → ℕ
-after k s x = cond (eqb (k + x.size + 1) s) x.behind 0
-
-after-left : (k s : ℕ) (x : Set) → after k s (left x) ≡ after k s x + cond (eqb x.size 0) (one_of_size s (k + 1)) 0
-unfolding after
-after-left k s x = elim (cases_Bool (eqb x.size 0)) [
-  | inl none ↦
-      let z : x.size ≡ 0 = eqb-true x.size 0 none in
-      let e : k + x.size + 1 ≡ k + 1 = omega (arith, z) in
-      let a = ap {B = ℕ} (λ b. cond (eqb (k + x.size + 1) s) (cond b (x.behind + 1) x.behind) 0) none in
-      let c = ap {B = ℕ} (λ b. cond b (one_of_size s (k + 1)) 0) none in
-      let o = ap {B = ℕ} (λ (m : ℕ). one_of_size s m) e in
-      let p = parts (eqb (k + x.size + 1) s) x.behind in
-      omega (arith, a, c, o, p)
-  | inr some ↦
-      let a = ap {B = ℕ} (λ b. cond (eqb (k + x.size + 1) s) (cond b (x.behind + 1) x.behind) 0) some in
-      let c = ap {B = ℕ} (λ b. cond b (one_of_size s (k + 1)) 0) some in
-      omega (arith, a, c)
+-- a set with a member more meets a need if it meets what the member leaves of it
+less : (d w n : ℕ) → leb d (n + w) ≡ leb (d - w) n
+less d w n = elim (cases_lt n (d - w)) [
+  | inl few ↦ lt-leb d (n + w) (omega arith) ∙ sym (lt-leb (d - w) n few)
+  | inr enough ↦ le-leb d (n + w) (omega arith) ∙ sym (le-leb (d - w) n enough)
 ]
-  where
-    parts : (b : Bool) (n : ℕ) → cond b (n + 1) 0 ≡ cond b n 0 + cond b 1 0
-    parts true n = refl
-    parts false n = refl
 
-all-after : (s : ℕ) (ws : List ℕ) (k : ℕ) → sum_by (at k s) (sets_of ws) ≡ one_of_size s k + sum_by (after k s) (sets_of ws)
-unfolding at after
-all-after s [] k =
-    let a = sets-none (at k s) in
-    let b = sets-none (after k s) in
-    let e : k + 0 ≡ k = omega arith in
-    let o = ap (one_of_size s) e in
-    let z = nothing (eqb (k + 0 + 1) s) 0 in
-    omega (arith, a, b, o, z)
+fits-joined : (d k s w : ℕ) (x : Set) → fits d k s (joined w x) ≡ fits (d - w) (k + 1) s x
+fits-joined d k s w x = λ i. cond (less d w x.weight i) (one_of_size s (shorter i)) 0
   where
-    nothing : (b : Bool) (n : ℕ) → cond b n n ≡ n
-    nothing true n = refl
-    nothing false n = refl
-all-after s (w ∷ ws) k =
-    let a = sets-more (at k s) w ws in
-    let b = sets-more (after k s) w ws in
-    let with_at : sum_by (λ x. at k s (joined w x)) (sets_of ws) ≡ sum_by (at (k + 1) s) (sets_of ws) =
-    sum-same (λ x. at k s (joined w x)) (at (k + 1) s) (sets_of ws)
-    (λ x. (let e : k + (x.size + 1) ≡ k + 1 + x.size = omega arith in ap (one_of_size s) e)) in
-    let with_after : sum_by (λ x. after k s (joined w x)) (sets_of ws) ≡ sum_by (after (k + 1) s) (sets_of ws) =
-    sum-same (λ x. after k s (joined w x)) (after (k + 1) s) (sets_of ws)
-    (λ x. (let e : k + (x.size + 1) + 1 ≡ k + 1 + x.size + 1 = omega arith in ap (λ (m : ℕ). cond (eqb m s) x.behind 0) e)) in
-    let left_after : sum_by (λ x. after k s (left x)) (sets_of ws) ≡ sum_by (after k s) (sets_of ws) + one_of_size s (k + 1) =
-    sum-same (λ x. after k s (left x)) (λ x. after k s x + cond (eqb x.size 0) (one_of_size s (k + 1)) 0) (sets_of ws) (after-left k s)
-    ∙ sum-plus (after k s) (λ x. cond (eqb x.size 0) (one_of_size s (k + 1)) 0) (sets_of ws)
-    ∙ ap (λ (m : ℕ). sum_by (after k s) (sets_of ws) + m) (the-empty (λ y. one_of_size s (k + 1)) ws) in
-    omega (arith, a, b, with_at, with_after, left_after, all-after s ws k, all-after s ws (k + 1))
+    shorter : k + (x.size + 1) ≡ k + 1 + x.size
+    shorter = omega arith
+
+fits-more : (d k s : ℕ) (none first : List Set) (w : ℕ) (ws : List ℕ) → sum_by (fits d k s) (chosen none first (w ∷ ws))
+    ≡ sum_by (fits d k s) first + (sum_by (fits d k s) (chosen none first ws) + sum_by (fits (d - w) (k + 1) s) (chosen none first ws))
+fits-more d k s none first w ws =
+    chosen-more (fits d k s) none first w ws
+    ∙ ap (λ (n : ℕ). sum_by (fits d k s) first + (sum_by (fits d k s) (chosen none first ws) + n))
+    (sum-same (λ x. fits d k s (joined w x)) (fits (d - w) (k + 1) s) (chosen none first ws) (fits-joined d k s w))
 
 -- ---- what members lead to, by their sets
-no-heads : (s left size : ℕ) → fill 0 s left (size + 1) ≡ one_of_size s (size + 1)
-no-heads s left size = cond-true (ltb 0 (size + 1)) _ _ (lt-ltb 0 (size + 1) (omega arith))
+fits-alone : (d k s : ℕ) → sum_by (fits d k s) (alone ∷ []) ≡ cond (leb d 0) (one_of_size s (k + 1)) 0
+fits-alone d k s = sum-one (fits d k s) alone
 
-longer-left : (d k s : ℕ) (x : Set) → longer d k s (left x) ≡ longer d k s x
-    + cond (eqb x.size 0) (cond (leb d x.weight) (one_of_size s (k + 1)) 0) 0
-unfolding after
-longer-left d k s x = by_test (leb d x.weight) (after-left k s x)
-  where
-    by_test : (b : Bool) → after k s (left x) ≡ after k s x + cond (eqb x.size 0) (one_of_size s (k + 1)) 0
-        → cond b (after k s (left x)) 0 ≡ cond b (after k s x) 0 + cond (eqb x.size 0) (cond b (one_of_size s (k + 1)) 0) 0
-    by_test true h = h
-    by_test false h = let z = nothing (eqb x.size 0) 0 in omega (arith, z)
-      where
-        nothing : (b : Bool) (n : ℕ) → cond b n n ≡ n
-        nothing true n = refl
-        nothing false n = refl
+-- each set but the empty one is another with its last member
+all-but-one : (s : ℕ) (ws : List ℕ) (k : ℕ) → one_of_size s k + sum_by (fits 0 k s) (lost_of ws) ≡ sum_by (fits 0 k s) (sets_of ws)
+all-but-one s [] k =
+    let a = chosen-none (fits 0 k s) [] (alone ∷ []) in
+    let b = chosen-none (fits 0 k s) (nobody ∷ []) [] ∙ sum-one (fits 0 k s) nobody in
+    let e : k + 0 ≡ k = omega arith in
+    let o = ap (one_of_size s) e in
+    omega (arith, a, b, o)
+all-but-one s (w ∷ ws) k =
+    let z : 0 - w ≡ 0 = omega arith in
+    let a = fits-more 0 k s [] (alone ∷ []) w ws in
+    let b = fits-more 0 k s (nobody ∷ []) [] w ws in
+    let c = ap (λ (d : ℕ). sum_by (fits d (k + 1) s) (lost_of ws)) z in
+    let e = ap (λ (d : ℕ). sum_by (fits d (k + 1) s) (sets_of ws)) z in
+    let f = fits-alone 0 k s in
+    omega (arith, a, b, c, e, f, all-but-one s ws k, all-but-one s ws (k + 1))
 
-pub ended-law : (s : ℕ) (ws : List ℕ) (d k : ℕ) → 0 < d
-    → endings ws 0 s d k + sum_by (longer d k s) (sets_of ws) ≡ sum_by (fits d k s) (sets_of ws)
-unfolding endings at after
-ended-law s [] d k some =
-    let a = sets-none (longer d k s) in
-    let b = sets-none (fits d k s) in
-    let no = lt-leb d 0 some in
-    let c = ap {B = ℕ} (λ t. cond t (cond (eqb (k + 0 + 1) s) 0 0) 0) no in
-    let e = ap {B = ℕ} (λ t. cond t (one_of_size s (k + 0)) 0) no in
-    omega (arith, a, b, c, e)
-ended-law s (w ∷ ws) d k some =
-    let a = sets-more (longer d k s) w ws in
-    let b = sets-more (fits d k s) w ws in
-    let zero_is : cond (leb d 0) (one_of_size s (k + 1)) 0 ≡ 0 = ap {B = ℕ} (λ t. cond t (one_of_size s (k + 1)) 0) (lt-leb d 0 some) in
-    let left_longer : sum_by (λ x. longer d k s (left x)) (sets_of ws) ≡ sum_by (longer d k s) (sets_of ws) =
-    sum-same (λ x. longer d k s (left x))
-    (λ x. longer d k s x + cond (eqb x.size 0) (cond (leb d x.weight) (one_of_size s (k + 1)) 0) 0) (sets_of ws) (longer-left d k s)
-    ∙ sum-plus (longer d k s) (λ x. cond (eqb x.size 0) (cond (leb d x.weight) (one_of_size s (k + 1)) 0) 0) (sets_of ws)
-    ∙ (let e = the-empty (λ y. cond (leb d y) (one_of_size s (k + 1)) 0) ws in omega (arith, e, zero_is)) in
-    let old = ended-law s ws d k some in
-    let joins = by_cases (cases_lt w d) (λ pos. ended-law s ws (d - w) (k + 1) pos) in
-    omega (arith, a, b, left_longer, old, joins)
+no-heads : (s n size : ℕ) → fill 0 s n (size + 1) ≡ one_of_size s (size + 1)
+no-heads s n size = cond-true (ltb 0 (size + 1)) _ _ (lt-ltb 0 (size + 1) (omega arith))
+
+-- what meets a need is what the members lead to, and what meets it without its last member
+endings-law : (s : ℕ) (ws : List ℕ) (d k : ℕ) → 0 < d
+    → endings ws 0 s d k + sum_by (fits d k s) (lost_of ws) ≡ sum_by (fits d k s) (sets_of ws)
+unfolding endings
+endings-law s [] d k some =
+    let a = chosen-none (fits d k s) [] (alone ∷ []) in
+    let b = chosen-none (fits d k s) (nobody ∷ []) [] ∙ sum-one (fits d k s) nobody in
+    let no = cond-false (leb d 0) (one_of_size s (k + 0)) 0 (lt-leb d 0 some) in
+    omega (arith, a, b, no)
+endings-law s (w ∷ ws) d k some =
+    let a = fits-more d k s [] (alone ∷ []) w ws in
+    let b = fits-more d k s (nobody ∷ []) [] w ws in
+    let no = fits-alone d k s ∙ cond-false (leb d 0) (one_of_size s (k + 1)) 0 (lt-leb d 0 some) in
+    let joins = by_cases (cases_lt w d) (λ pos. endings-law s ws (d - w) (k + 1) pos) in
+    omega (arith, a, b, no, joins, endings-law s ws d k some)
   where
+    by_cases : (w < d) ⊎ (d ≤ w) → (0 < d - w → endings ws 0 s (d - w) (k + 1) + sum_by (fits (d - w) (k + 1) s) (lost_of ws)
+        ≡ sum_by (fits (d - w) (k + 1) s) (sets_of ws))
+        → cond (leb d w) (fill 0 s (length ws) (k + 1)) (endings ws 0 s (d - w) (k + 1)) + sum_by (fits (d - w) (k + 1) s) (lost_of ws)
+        ≡ sum_by (fits (d - w) (k + 1) s) (sets_of ws)
+    by_cases (inr most) before =
+        let yes = cond-true (leb d w) (fill 0 s (length ws) (k + 1)) (endings ws 0 s (d - w) (k + 1)) (le-leb d w most) in
+        let z : d - w ≡ 0 = omega (arith, most) in
+        let c = ap (λ (n : ℕ). sum_by (fits n (k + 1) s) (lost_of ws)) z in
+        let e = ap (λ (n : ℕ). sum_by (fits n (k + 1) s) (sets_of ws)) z in
+        omega (arith, yes, c, e, all-but-one s ws (k + 1), no-heads s (length ws) k)
+    by_cases (inl more) before =
+        let no = cond-false (leb d w) (fill 0 s (length ws) (k + 1)) (endings ws 0 s (d - w) (k + 1)) (lt-leb d w more) in
+        let old = before (omega arith) in
+        omega (arith, no, old)
+
+-- coalitions that meet a need are the sets that do
+meetings-sets : (s : ℕ) (vs : List ℕ) (r a : ℕ) → meetings vs s r a ≡ sum_by (fits r a s) (sets_of vs)
+unfolding meetings
+meetings-sets s [] r a =
+    one (leb r 0) (a == s) ∙ (λ i. cond (leb r 0) (one_of_size s (plain i)) 0)
+    ∙ sym (chosen-none (fits r a s) (nobody ∷ []) [] ∙ sum-one (fits r a s) nobody)
+  where
+    plain : a ≡ a + 0
+    plain = omega arith
+
+    one : (b c : Bool) → cond {A = ℕ} (b && c) 1 0 ≡ cond b (cond c 1 0) 0
+    one true c = refl
+    one false c = refl
+meetings-sets s (v ∷ vs) r a =
+    let parts = fits-more r a s (nobody ∷ []) [] v vs in
+    omega (arith, parts, meetings-sets s vs (r - v) (a + 1), meetings-sets s vs r a)
+
+-- of fewer members than heads none, of as many all that meet the quota, of more those that do not meet it without their last
+pub record AreCounted (ws : List ℕ) (heads s q n : ℕ) : Type 0 where
+  pub fewer : s < heads → n ≡ 0
+  pub just : s ≡ heads → n ≡ sum_by (fits q 0 s) (sets_of ws)
+  pub more : heads < s → n + sum_by (fits q 0 s) (lost_of ws) ≡ sum_by (fits q 0 s) (sets_of ws)
+
+pub endings-counted : (ws : List ℕ) (heads s q : ℕ) → 0 < q → AreCounted ws heads s q (endings ws heads s q 0)
+endings-counted ws heads s q some = record {
+  fewer = endings-few ws heads s q 0;
+  just = λ same. ap (λ (h : ℕ). endings ws h s q 0) (sym same) ∙ endings-heads ws s q 0 some ∙ meetings-sets s ws q 0;
+  more = λ above. ap (λ (n : ℕ). n + sum_by (fits q 0 s) (lost_of ws)) (endings-more ws heads s q 0 above ∙ sym (endings-plain ws s q 0))
+      ∙ endings-law s ws q 0 some;
+}
+
+-- ---- of members in two halves
+pub chosen-halves : (s : ℕ) (none first : List Set) (vs ws : List ℕ) (q k : ℕ) → sum_by (fits q k s) (chosen none first (ws ++ vs))
+    ≡ sum_by (λ x. sum_by (fits (q - x.weight) (k + x.size) s) (chosen none first vs)) (sets_of ws)
+    + sum_by (fits q k s) (chosen [] first ws)
+chosen-halves s none first vs [] q k =
+    let e : q ≡ q - 0 = omega arith in
+    let f : k ≡ k + 0 = omega arith in
+    let a = chosen-none (λ x. sum_by (fits (q - x.weight) (k + x.size) s) (chosen none first vs)) (nobody ∷ []) []
+    ∙ sum-one (λ x. sum_by (fits (q - x.weight) (k + x.size) s) (chosen none first vs)) nobody in
+    let b = chosen-none (fits q k s) [] first in
+    let same : sum_by (fits q k s) (chosen none first vs) ≡ sum_by (fits (q - 0) (k + 0) s) (chosen none first vs) =
+    (λ i. sum_by (fits (e i) (f i) s) (chosen none first vs)) in
+    omega (arith, a, b, same)
+chosen-halves s none first vs (w ∷ ws) q k =
+    let g : Set → ℕ = λ x. sum_by (fits (q - x.weight) (k + x.size) s) (chosen none first vs) in
+    let whole = fits-more q k s none first w (ws ++ vs) in
+    let a = chosen-more g (nobody ∷ []) [] w ws in
+    let b = fits-more q k s [] first w ws in
+    let with_it : sum_by (λ x. g (joined w x)) (sets_of ws)
+    ≡ sum_by (λ x. sum_by (fits (q - w - x.weight) (k + 1 + x.size) s) (chosen none first vs)) (sets_of ws) =
+    sum-same (λ x. g (joined w x)) (λ x. sum_by (fits (q - w - x.weight) (k + 1 + x.size) s) (chosen none first vs)) (sets_of ws)
+    (λ x i. sum_by (fits (needs x i) (shorter x i) s) (chosen none first vs)) in
+    omega (arith, whole, a, b, with_it, chosen-halves s none first vs ws q k, chosen-halves s none first vs ws (q - w) (k + 1))
+  where
+    needs : (x : Set) → q - (x.weight + w) ≡ q - w - x.weight
+    needs x = omega arith
+
     shorter : (x : Set) → k + (x.size + 1) ≡ k + 1 + x.size
     shorter x = omega arith
 
-    by_cases : (w < d) ⊎ (d ≤ w)
-        → (0 < d - w → endings ws 0 s (d - w) (k + 1) + sum_by (longer (d - w) (k + 1) s) (sets_of ws)
-        ≡ sum_by (fits (d - w) (k + 1) s) (sets_of ws)) → cond (leb d w) (fill 0 s (length ws) (k + 1)) (endings ws 0 s (d - w) (k + 1))
-        + sum_by (λ x. longer d k s (joined w x)) (sets_of ws) ≡ sum_by (λ x. fits d k s (joined w x)) (sets_of ws)
-    by_cases (inr met) before =
-        let yes = cond-true (leb d w) (fill 0 s (length ws) (k + 1)) (endings ws 0 s (d - w) (k + 1)) (le-leb d w met) in
-        let all_longer : sum_by (λ x. longer d k s (joined w x)) (sets_of ws) ≡ sum_by (after (k + 1) s) (sets_of ws) =
-        sum-same (λ x. longer d k s (joined w x)) (after (k + 1) s) (sets_of ws)
-        (λ x. cond-true (leb d (x.weight + w)) (cond (eqb (k + (x.size + 1) + 1) s) x.behind 0) 0 (le-leb d (x.weight + w) (omega arith))
-        ∙ ap (λ (m : ℕ). cond (eqb (m + 1) s) x.behind 0) (shorter x)) in
-        let all_fit : sum_by (λ x. fits d k s (joined w x)) (sets_of ws) ≡ sum_by (at (k + 1) s) (sets_of ws) =
-        sum-same (λ x. fits d k s (joined w x)) (at (k + 1) s) (sets_of ws)
-        (λ x. cond-true (leb d (x.weight + w)) (one_of_size s (k + (x.size + 1))) 0 (le-leb d (x.weight + w) (omega arith))
-        ∙ ap (one_of_size s) (shorter x)) in
-        omega (arith, yes, all_longer, all_fit, all-after s ws (k + 1), no-heads s (length ws) k)
-    by_cases (inl more) before =
-        let no = cond-false (leb d w) (fill 0 s (length ws) (k + 1)) (endings ws 0 s (d - w) (k + 1)) (lt-leb d w more) in
-        let some_longer : sum_by (λ x. longer d k s (joined w x)) (sets_of ws) ≡ sum_by (longer (d - w) (k + 1) s) (sets_of ws) =
-        sum-same (λ x. longer d k s (joined w x)) (longer (d - w) (k + 1) s) (sets_of ws)
-        (λ x i. cond (less x i) (cond (eqb (shorter x i + 1) s) x.behind 0) 0) in
-        let some_fit : sum_by (λ x. fits d k s (joined w x)) (sets_of ws) ≡ sum_by (fits (d - w) (k + 1) s) (sets_of ws) =
-        sum-same (λ x. fits d k s (joined w x)) (fits (d - w) (k + 1) s) (sets_of ws)
-        (λ x i. cond (less x i) (one_of_size s (shorter x i)) 0) in
-        let old = before (omega arith) in
-        omega (arith, no, some_longer, some_fit, old)
-      where
-        less : (x : Set) → leb d (x.weight + w) ≡ leb (d - w) x.weight
-        less x = elim (cases_lt x.weight (d - w)) [
-          | inl few ↦ lt-leb d (x.weight + w) (omega arith) ∙ sym (lt-leb (d - w) x.weight few)
-          | inr enough ↦ le-leb d (x.weight + w) (omega arith) ∙ sym (le-leb (d - w) x.weight enough)
-        ]
-
--- a list of all sets gives what their members lead to
-pub ended-is : (ws : List ℕ) (xs : List Set) (s d k : ℕ) → AreSets ws xs → 0 < d → ended d k s xs ≡ endings ws 0 s d k
-ended-is ws xs s d k are some =
-    let law = ended-law s ws d k some in
-    let a = are.same (longer d k s) in
-    let b = are.same (fits d k s) in
-    omega (arith, law, a, b)
-
--- ---- members in two halves
-pub endings-halves : (vs : List ℕ) (s : ℕ) (ws : List ℕ) (d k : ℕ) → 0 < d
-    → endings (ws ++ vs) 0 s d k ≡ endings ws 0 s d k
-    + sum_by (λ x. cond (ltb x.weight d) (endings vs 0 s (d - x.weight) (k + x.size)) 0) (sets_of ws)
-unfolding endings
-endings-halves vs s [] d k some =
-    let a = sets-none (λ x. cond (ltb x.weight d) (endings vs 0 s (d - x.weight) (k + x.size)) 0) in
-    let yes = cond-true (ltb 0 d) (endings vs 0 s (d - 0) (k + 0)) 0 (lt-ltb 0 d some) in
-    let e : d - 0 ≡ d = omega arith in
-    let f : k + 0 ≡ k = omega arith in
-    let same : endings vs 0 s (d - 0) (k + 0) ≡ endings vs 0 s d k = (λ i. endings vs 0 s (e i) (f i)) in
-    omega (arith, a, yes, same)
-endings-halves vs s (w ∷ ws) d k some =
-    let a = sets-more (λ x. cond (ltb x.weight d) (endings vs 0 s (d - x.weight) (k + x.size)) 0) w ws in
-    let old = endings-halves vs s ws d k some in
-    let joins = by_cases (cases_lt w d) (λ pos. endings-halves vs s ws (d - w) (k + 1) pos) in
-    omega (arith, a, old, joins)
+pub chosen-pairs : (s : ℕ) (none first : List Set) (vs ws : List ℕ) (q : ℕ) → sum_by (fits q 0 s) (chosen none first (ws ++ vs))
+    ≡ sum_by (met q (chosen none first vs) s) (sets_of ws) + sum_by (fits q 0 s) (chosen [] first ws)
+chosen-pairs s none first vs ws q =
+    chosen-halves s none first vs ws q 0
+    ∙ ap (λ (n : ℕ). n + sum_by (fits q 0 s) (chosen [] first ws))
+    (sum-same (λ x. sum_by (fits (q - x.weight) (0 + x.size) s) (chosen none first vs)) (met q (chosen none first vs) s) (sets_of ws)
+    (λ x i. sum_by (fits (q - x.weight) (plain x i) s) (chosen none first vs)))
   where
-    by_cases : (w < d) ⊎ (d ≤ w)
-        → (0 < d - w → endings (ws ++ vs) 0 s (d - w) (k + 1) ≡ endings ws 0 s (d - w) (k + 1)
-        + sum_by (λ x. cond (ltb x.weight (d - w)) (endings vs 0 s (d - w - x.weight) (k + 1 + x.size)) 0) (sets_of ws))
-        → cond (leb d w) (fill 0 s (length (ws ++ vs)) (k + 1)) (endings (ws ++ vs) 0 s (d - w) (k + 1))
-        ≡ cond (leb d w) (fill 0 s (length ws) (k + 1)) (endings ws 0 s (d - w) (k + 1))
-        + sum_by (λ x. cond (ltb (x.weight + w) d) (endings vs 0 s (d - (x.weight + w)) (k + (x.size + 1))) 0) (sets_of ws)
-    by_cases (inr met) before =
-        let yes = cond-true (leb d w) (fill 0 s (length ws) (k + 1)) (endings ws 0 s (d - w) (k + 1)) (le-leb d w met) in
-        let both = cond-true (leb d w) (fill 0 s (length (ws ++ vs)) (k + 1)) (endings (ws ++ vs) 0 s (d - w) (k + 1)) (le-leb d w met) in
-        let none : sum_by (λ x. cond (ltb (x.weight + w) d) (endings vs 0 s (d - (x.weight + w)) (k + (x.size + 1))) 0) (sets_of ws) ≡ 0 =
-        sum-same (λ x. cond (ltb (x.weight + w) d) (endings vs 0 s (d - (x.weight + w)) (k + (x.size + 1))) 0) (λ x. 0) (sets_of ws)
-        (λ x. cond-false (ltb (x.weight + w) d) (endings vs 0 s (d - (x.weight + w)) (k + (x.size + 1))) 0
-        (le-ltb (x.weight + w) d (omega arith))) ∙ sum-zero (sets_of ws) in
-        omega (arith, yes, both, none, no-heads s (length ws) k, no-heads s (length (ws ++ vs)) k)
-    by_cases (inl more) before =
-        let no = cond-false (leb d w) (fill 0 s (length ws) (k + 1)) (endings ws 0 s (d - w) (k + 1)) (lt-leb d w more) in
-        let both = cond-false (leb d w) (fill 0 s (length (ws ++ vs)) (k + 1)) (endings (ws ++ vs) 0 s (d - w) (k + 1)) (lt-leb d w more) in
-        let go_on : sum_by (λ x. cond (ltb (x.weight + w) d) (endings vs 0 s (d - (x.weight + w)) (k + (x.size + 1))) 0) (sets_of ws)
-        ≡ sum_by (λ x. cond (ltb x.weight (d - w)) (endings vs 0 s (d - w - x.weight) (k + 1 + x.size)) 0) (sets_of ws) =
-        sum-same (λ x. cond (ltb (x.weight + w) d) (endings vs 0 s (d - (x.weight + w)) (k + (x.size + 1))) 0)
-        (λ x. cond (ltb x.weight (d - w)) (endings vs 0 s (d - w - x.weight) (k + 1 + x.size)) 0) (sets_of ws)
-        (λ x i. cond (less x i) (endings vs 0 s (needs x i) (shorter x i)) 0) in
-        let old = before (omega arith) in
-        omega (arith, no, both, go_on, old)
-      where
-        less : (x : Set) → ltb (x.weight + w) d ≡ ltb x.weight (d - w)
-        less x = elim (cases_lt x.weight (d - w)) [
-          | inl few ↦ lt-ltb (x.weight + w) d (omega arith) ∙ sym (lt-ltb x.weight (d - w) few)
-          | inr enough ↦ le-ltb (x.weight + w) d (omega arith) ∙ sym (le-ltb x.weight (d - w) enough)
-        ]
+    plain : (x : Set) → 0 + x.size ≡ x.size
+    plain x = omega arith
 
-        needs : (x : Set) → d - (x.weight + w) ≡ d - w - x.weight
-        needs x = omega arith
+pub no-choice : (g : Set → ℕ) (ws : List ℕ) → sum_by g (chosen [] [] ws) ≡ 0
+no-choice g [] = chosen-none g [] []
+no-choice g (w ∷ ws) =
+    let a = chosen-more g [] [] w ws in
+    omega (arith, a, no-choice (λ x. g (left x)) ws, no-choice (λ x. g (joined w x)) ws)
 
-        shorter : (x : Set) → k + (x.size + 1) ≡ k + 1 + x.size
-        shorter x = omega arith
-
--- what two lists of sets give is what all their members lead to
-pub halves-are : (ws vs : List ℕ) (xs ys : List Set) (s q : ℕ) → AreSets ws xs → AreSets vs ys → 0 < q
-    → ended q 0 s xs + sum_by (completed q s ys) xs ≡ endings (ws ++ vs) 0 s q 0
-halves-are ws vs xs ys s q first second some =
-    let law = endings-halves vs s ws q 0 some in
-    let own = ended-is ws xs s q 0 first some in
-    let pairs : sum_by (completed q s ys) xs ≡ sum_by (λ x. cond (ltb x.weight q) (endings vs 0 s (q - x.weight) (0 + x.size)) 0) xs =
-    sum-same (completed q s ys) (λ x. cond (ltb x.weight q) (endings vs 0 s (q - x.weight) (0 + x.size)) 0) xs one in
-    let all = first.same (λ x. cond (ltb x.weight q) (endings vs 0 s (q - x.weight) (0 + x.size)) 0) in
-    omega (arith, law, own, pairs, all)
+-- pairs from either side
+pub met-swap : (q s : ℕ) (xs ys : List Set) → sum_by (met q xs s) ys ≡ sum_by (met q ys s) xs
+met-swap q s xs ys =
+    sum-swap (λ y. fits (q - y.weight) y.size s) ys xs
+    ∙ sum-same (λ x. sum_by (λ y. fits (q - y.weight) y.size s x) ys) (met q ys s) xs
+    (λ x. sum-same (λ y. fits (q - y.weight) y.size s x) (fits (q - x.weight) x.size s) ys
+    (λ y i. cond (either x y i) (one_of_size s (together x y i)) 0))
   where
-    one : (x : Set) → completed q s ys x ≡ cond (ltb x.weight q) (endings vs 0 s (q - x.weight) (0 + x.size)) 0
-    one x = elim (cases_lt x.weight q) [
-      | inl less ↦
-          let yes = cond-true (ltb x.weight q) (ended (q - x.weight) x.size s ys) 0 (lt-ltb x.weight q less) in
-          let also = cond-true (ltb x.weight q) (endings vs 0 s (q - x.weight) (0 + x.size)) 0 (lt-ltb x.weight q less) in
-          let e = ended-is vs ys s (q - x.weight) x.size second (omega arith) in
-          let z : 0 + x.size ≡ x.size = omega arith in
-          let f = ap (λ (m : ℕ). endings vs 0 s (q - x.weight) m) z in
-          omega (arith, yes, also, e, f)
-      | inr done ↦
-          let no = cond-false (ltb x.weight q) (ended (q - x.weight) x.size s ys) 0 (le-ltb x.weight q done) in
-          let also = cond-false (ltb x.weight q) (endings vs 0 s (q - x.weight) (0 + x.size)) 0 (le-ltb x.weight q done) in
-          omega (arith, no, also)
-    ]
+    together : (x y : Set) → y.size + x.size ≡ x.size + y.size
+    together x y = omega arith
+
+    added : (x y : Set) → x.weight + y.weight ≡ y.weight + x.weight
+    added x y = omega arith
+
+    either : (x y : Set) → leb (q - y.weight) x.weight ≡ leb (q - x.weight) y.weight
+    either x y = sym (less q y.weight x.weight) ∙ ap (leb q) (added x y) ∙ less q x.weight y.weight
+
+-- ---- without a member
+has-none : (p : ℕ) → has p 0 ≡ false
+has-none p = ap (λ (n : ℕ). n == 1) (bit_at-zero p)
+
+has-later : (p m b : ℕ) → b < 2 → has (suc p) (2 * m + b) ≡ has p m
+has-later p m b small = let half : (2 * m + b) / 2 ≡ m = omega (arith, small) in
+    ap (λ (n : ℕ). n == 1) (bit_at-suc (2 * m + b) p ∙ ap (λ (n : ℕ). n / 2 ^ p % 2) half)
+
+has-front : (m b : ℕ) → b < 2 → has 0 (2 * m + b) ≡ eqb b 1
+has-front m b small = let odd : (2 * m + b) % 2 ≡ b = omega (arith, small) in
+    ap (λ (n : ℕ). n == 1) (bit_at_lowest (2 * m + b) ∙ odd)
+
+-- what a list begins with, and what stands in front of it: at most one set each
+pub record AreFirst (none first : List Set) : Type 0 where
+  pub none_is : (f g : Set → ℕ) → f nobody ≡ g nobody → sum_by f none ≡ sum_by g none
+  pub first_is : (f g : Set → ℕ) → f alone ≡ g alone → sum_by f first ≡ sum_by g first
+
+pub sets-first : AreFirst (nobody ∷ []) []
+sets-first = record {
+  none_is = λ f g same. sum-one f nobody ∙ same ∙ sym (sum-one g nobody);
+  first_is = λ f g same. refl;
+}
+
+pub lost-first : AreFirst [] (alone ∷ [])
+lost-first = record {
+  none_is = λ f g same. refl;
+  first_is = λ f g same. sum-one f alone ∙ same ∙ sym (sum-one g alone);
+}
+
+-- the sets of the other members are those without a member
+pub left_out-sets : (p : ℕ) (ws : List ℕ) (g : ℕ → ℕ → ℕ) (none first : List Set) → AreFirst none first
+    → sum_by (λ x. g x.weight x.size) (chosen none first (left_out p ws))
+    ≡ sum_by (λ x. cond (has p x.members) 0 (g x.weight x.size)) (chosen none first ws)
+unfolding left_out
+left_out-sets p [] g none first are =
+    chosen-none (λ x. g x.weight x.size) none first
+    ∙ are.none_is (λ x. g x.weight x.size) (λ x. cond (has p x.members) 0 (g x.weight x.size))
+    (sym (ap {B = ℕ} (λ b. cond b 0 (g 0 0)) (has-none p)))
+    ∙ sym (chosen-none (λ x. cond (has p x.members) 0 (g x.weight x.size)) none first)
+left_out-sets zero (w ∷ ws) g none first are =
+    let c : List Set = chosen none first ws in
+    let h : Set → ℕ = λ x. cond (has 0 x.members) 0 (g x.weight x.size) in
+    let parts = chosen-more h none first w ws in
+    let front = are.first_is h (λ x. 0) (ap {B = ℕ} (λ b. cond b 0 (g 0 1)) (has-front 0 1 (omega arith))) ∙ sum-zero first in
+    let out = sum-same (λ x. h (left x)) (λ x. g x.weight x.size) c
+    (λ x. ap {B = ℕ} (λ b. cond b 0 (g x.weight x.size))
+    (ap (has 0) (let e : 2 * x.members ≡ 2 * x.members + 0 = omega arith in e) ∙ has-front x.members 0 (omega arith))) in
+    let with_it = sum-same (λ x. h (joined w x)) (λ x. 0) c
+    (λ x. ap {B = ℕ} (λ b. cond b 0 (g (x.weight + w) (x.size + 1))) (has-front x.members 1 (omega arith))) ∙ sum-zero c in
+    omega (arith, parts, front, out, with_it)
+left_out-sets (suc p) (w ∷ ws) g none first are =
+    let c : List Set = chosen none first ws in
+    let h : Set → ℕ = λ x. cond (has (suc p) x.members) 0 (g x.weight x.size) in
+    let parts = chosen-more h none first w ws in
+    let others = chosen-more (λ x. g x.weight x.size) none first w (left_out p ws) in
+    let front = are.first_is h (λ x. g x.weight x.size)
+    (ap {B = ℕ} (λ b. cond b 0 (g 0 1)) (has-later p 0 1 (omega arith) ∙ has-none p)) in
+    let out = sum-same (λ x. h (left x)) (λ x. cond (has p x.members) 0 (g x.weight x.size)) c
+    (λ x. ap {B = ℕ} (λ b. cond b 0 (g x.weight x.size))
+    (ap (has (suc p)) (let e : 2 * x.members ≡ 2 * x.members + 0 = omega arith in e) ∙ has-later p x.members 0 (omega arith))) in
+    let with_it = sum-same (λ x. h (joined w x)) (λ x. cond (has p x.members) 0 (g (x.weight + w) (x.size + 1))) c
+    (λ x. ap {B = ℕ} (λ b. cond b 0 (g (x.weight + w) (x.size + 1))) (has-later p x.members 1 (omega arith))) in
+    omega (
+      arith,
+      parts,
+      others,
+      front,
+      out,
+      with_it,
+      left_out-sets p ws g none first are,
+      left_out-sets p ws (λ m k. g (m + w) (k + 1)) none first are,
+    )

@@ -2,4 +2,6 @@
 pub mod Rows
 pub mod Sets
 pub mod Fitting
+pub mod Tables
+pub mod Groups
 pub mod Halves

@@ -1,173 +1,140 @@
 //! Tallies of the coalitions that members lead to, from the sets of their two halves (Horowitz and Sahni 1974).
 ghost use Rattle.coalitions.specs.declared.limits.TheConstants.{MEMBERS, SIZES, TOTAL};
-ghost use Rattle.weight_sums.specs.Inner.Halves.{AreFrom, AreHalves};
+ghost use Rattle.weight_sums.specs.declared.sets.Set.{Set};
 ghost use Rattle.weight_sums.specs.Endings.{AreAllEndings, endings, left_out};
-ghost use Rattle.weight_sums.specs.Inner.Sets.{AreSets, IsHalf, completed, ended, meeting};
-ghost use Rattle.std.specs.Prelude.{◌≡◌, ℕ, ◌+◌, ◌-◌, ◌<◌, ◌≤◌, ◌++◌, List, IfOk, IsTrue, length, slice_index, slice_index_or, sum, sum_by};
+ghost use Rattle.weight_sums.specs.Inner.Halves.{AreHalves, AreLeft, ArePairs};
+ghost use Rattle.weight_sums.specs.Inner.Sets.{AreSets, IsHalf, has, met};
+ghost use Rattle.weight_sums.specs.Inner.Groups.{HaveRows};
+ghost use Rattle.std.specs.List.{All};
+ghost use Rattle.std.specs.Prelude.{◌≡◌, ℕ, ◌+◌, ◌-◌, ◌<◌, ◌≤◌, ◌^◌, if◌then◌else◌, IfOk, List, length, slice_index, sum, sum_by};
 
 use crate::by_size::BySize;
-use crate::fitting::Fitting;
-use crate::sets::{Set, fill};
+use crate::groups::Groups;
+use crate::sets::{NOBODY, Set, fill_lost, fill_sets};
 use crate::tallies::{Tallies, difference};
 use coalitions::{Memory, limits};
 use std::alloc::Global;
 
-/// How many coalitions of each size complete a quota: sets of the first half that do, and sets of the first half
-/// that miss it with those of the second that complete what they miss. Both lists are by weight: while the need
-/// falls, more and more sets of the second half meet it, and each comes in once.
-fn completions(first: &[Set], second: &[Set], quota: u64) -> [u64; limits::SIZES]
-    requires first { IsHalf first.now }
-    requires second { IsHalf second.now }
-    requires some { 0 < quota }
-    ensures { (s : ℕ) → s ≤ MEMBERS → slice_index result s
-        ≡ ended quota 0 s first.now + sum_by (completed quota s second.now) first.now }
-{
-    let mut done = [0; limits::SIZES];
-    let mut own = Fitting::none(first);
-    own.let_in(first, quota);
-    own.add(0, &mut done);
-    let mut fitting = Fitting::none(second);
-    for set in first {
-        if set.weight < quota {
-            fitting.let_in(second, quota - set.weight);
-            fitting.add(set.size as usize, &mut done);
+/// How many pairs of a set of the first half of the members and one of the second meet a quota.
+#[derive(Drop)]
+struct Pairs {
+    first: Groups,
+    second: Groups,
+}
+
+impl Pairs {
+    fn new(alloc: Global, first: &[Set], second: &[Set], quota: u64) -> Result<Pairs, Memory>
+        requires first { IsHalf first.now }
+        requires second { IsHalf second.now }
+        ensures { IfOk result (λ pairs. (xs ys : List Set) → AreSets xs first.now → AreSets ys second.now
+            → ArePairs quota xs ys pairs) }
+    {
+        Ok(Pairs {
+            first: Groups::new(alloc, first, second, quota)?,
+            second: Groups::new(alloc, second, first, quota)?,
+        })
+    }
+
+    /// How many there are without the member of a place, where the first half has so many members.
+    fn without(&self, front: usize, place: usize) -> [u64; limits::SIZES]
+        requires first { HaveRows self.now.first }
+        requires second { HaveRows self.now.second }
+        ensures first { (quota s : ℕ) (xs ys : List Set) → ArePairs quota xs ys self.now → All (λ x. x.members < 2 ^ 20) xs
+            → place < front → s ≤ MEMBERS
+            → slice_index result s ≡ sum_by (λ x. if has place x.members then 0 else met quota ys s x) xs }
+        ensures second { (quota s : ℕ) (xs ys : List Set) → ArePairs quota xs ys self.now → All (λ x. x.members < 2 ^ 20) ys
+            → front ≤ place → s ≤ MEMBERS
+            → slice_index result s ≡ sum_by (λ x. if has (place - front) x.members then 0 else met quota xs s x) ys }
+    {
+        if place < front {
+            self.first.without(place)
+        } else {
+            self.second.without(place - front)
         }
     }
-    done
 }
 
-/// How many coalitions of just so many members meet a quota: sets of the first half with those of the second that
-/// meet what they miss, none where they miss nothing, and that fill them up.
-fn meetings(first: &[Set], second: &[Set], quota: u64, heads: usize) -> u64
-    requires first { IsHalf first.now }
-    requires second { IsHalf second.now }
+/// How many sets of each size there are that meet a quota, but for those that do so without their last member:
+/// of just so many heads all, of more the others, of fewer none.
+fn left_of(
+    won: &[u64; limits::SIZES],
+    lost: &[u64; limits::SIZES],
+    own: &[u64; limits::SIZES],
+    heads: usize,
+) -> [u64; limits::SIZES]
     requires heads { heads ≤ MEMBERS }
-    ensures { result ≡ sum_by (meeting quota heads second.now) first.now }
+    requires fewer { (s : ℕ) → heads < s → s ≤ MEMBERS → slice_index lost.now s + slice_index own.now s ≤ slice_index won.now s }
+    ensures { AreLeft heads won.now lost.now own.now result }
 {
-    let mut found = 0;
-    let mut fitting = Fitting::none(second);
-    for set in first {
-        fitting.let_in(second, quota.saturating_sub(set.weight));
-        found += fitting.filling(set.size as usize, heads);
+    let mut sizes = [0; limits::SIZES];
+    sizes[heads] = won[heads];
+    for size in heads + 1..limits::SIZES {
+        sizes[size] = won[size] - lost[size] - own[size];
     }
-    found
-}
-
-/// Leaves nothing below a size, and this number at it.
-fn leave_from(sizes: &mut [u64; limits::SIZES], from: usize, just: u64)
-    requires { from ≤ MEMBERS }
-    ensures { AreFrom from just sizes.old sizes.new }
-{
-    for size in 0..from {
-        sizes[size] = 0;
-    }
-    sizes[from] = just;
-}
-
-/// How many coalitions of each size the members of two halves lead to.
-fn endings_of(first: &[Set], second: &[Set], quota: u64, heads: usize) -> [u64; limits::SIZES]
-    requires first { IsHalf first.now }
-    requires second { IsHalf second.now }
-    requires some { 0 < quota }
-    requires heads { heads ≤ MEMBERS }
-    ensures long { length result ≡ SIZES }
-    ensures sizes { (ws vs : List ℕ) (s : ℕ) → AreSets ws first.now → AreSets vs second.now → s ≤ MEMBERS
-        → slice_index result s ≡ endings (ws ++ vs) heads s quota 0 }
-{
-    let mut sizes = completions(first, second, quota);
-    if heads == 0 {
-        return sizes;
-    }
-    let just = meetings(first, second, quota, heads);
-    leave_from(&mut sizes, heads, just);
     sizes
 }
 
-/// All sets of some members but one, and room to make them.
-#[derive(Drop)]
-struct Others {
-    sets: Vec<Set>,
-    spare: Vec<Set>,
-}
-
-impl Others {
-    /// Makes them those of members with these weights, without that of a place.
-    fn leave_out(&mut self, alloc: Global, weights: &[u64], place: usize) -> Result<(), Memory>
-        requires few { length weights.now ≤ 20 }
-        requires light { sum weights.now ≤ TOTAL }
-        requires place { place < length weights.now }
-        ensures are { IfOk result (λ _. AreSets (left_out place weights.now) self.new.sets.items) }
-        ensures half { IfOk result (λ _. IsHalf self.new.sets.items) }
-    {
-        let mut left = weights.to_vec(alloc)?;
-        left.remove(place);
-        fill(&left, &mut self.sets, &mut self.spare)?;
-        Ok(())
-    }
-}
-
-/// All sets of the first half of the members and all of the second.
+/// What the sets of two halves of the members come to.
 #[derive(Drop)]
 struct Halves {
-    first: Vec<Set>,
-    second: Vec<Set>,
+    quota: u64,
+    /// Those that meet the quota.
+    won: Pairs,
+    /// Those that do so without their last member, of the second half.
+    lost: Pairs,
+    /// Those of the first half that do so without their last member.
+    own: Groups,
 }
 
 impl Halves {
-    /// The sets of members with these weights; a list is room to make them.
-    fn new(alloc: Global, weights: &[u64], spare: &mut Vec<Set>) -> Result<Halves, Memory>
+    /// The sets of the second half are in one list after another, and so are those of the first.
+    fn new(alloc: Global, weights: &[u64], quota: u64) -> Result<Halves, Memory>
         requires few { length weights.now ≤ MEMBERS }
         requires light { sum weights.now ≤ TOTAL }
-        ensures { IfOk result (AreHalves weights.now) }
+        ensures quota { IfOk result (λ halves. halves.quota ≡ quota) }
+        ensures are { IfOk result (AreHalves weights.now) }
     {
         let (front, back) = weights.split_at(weights.len() / 2);
-        let mut first = Vec::new(alloc);
-        fill(front, &mut first, spare)?;
-        let mut second = Vec::new(alloc);
-        fill(back, &mut second, spare)?;
-        Ok(Halves { first, second })
+        let (mut first, mut second, mut spare) = (
+            Vec::new(alloc),
+            Vec::new(alloc),
+            Vec::new(alloc),
+        );
+        fill_sets(front, &mut first, &mut spare)?;
+        fill_lost(back, &mut second, &mut spare)?;
+        let lost = Pairs::new(alloc, &first, &second, quota)?;
+        fill_sets(back, &mut second, &mut spare)?;
+        let won = Pairs::new(alloc, &first, &second, quota)?;
+        fill_lost(front, &mut first, &mut spare)?;
+        let own = Groups::new(alloc, &first, &[NOBODY], quota)?;
+        Ok(Halves {
+            quota,
+            won,
+            lost,
+            own,
+        })
     }
 
-    /// How many coalitions of each size the members lead to without that of a place: the sets of the half that
-    /// does not have it are as they were.
-    fn endings_without(
-        &self,
-        alloc: Global,
-        weights: &[u64],
-        place: usize,
-        quota: u64,
-        heads: usize,
-        others: &mut Others,
-    ) -> Result<[u64; limits::SIZES], Memory>
+    /// How many coalitions of each size the members lead to without that of a place, which is that of none behind the last.
+    fn endings_without(&self, weights: &[u64], heads: usize, place: usize) -> [u64; limits::SIZES]
         requires few { length weights.now ≤ MEMBERS }
-        requires light { sum weights.now ≤ TOTAL }
-        requires place { place < length weights.now }
         requires halves { AreHalves weights.now self.now }
-        requires some { 0 < quota }
+        requires some { 0 < self.now.quota }
         requires heads { heads ≤ MEMBERS }
-        ensures { IfOk result (λ sizes. (s : ℕ) → s ≤ MEMBERS
-            → slice_index sizes s ≡ endings (left_out place weights.now) heads s quota 0) }
+        ensures long { length result ≡ SIZES }
+        ensures sizes { (s : ℕ) → s ≤ MEMBERS
+            → slice_index result s ≡ endings (left_out place weights.now) heads s self.now.quota 0 }
     {
-        let (front, back) = weights.split_at(weights.len() / 2);
-        if place < front.len() {
-            others.leave_out(alloc, front, place)?;
-            return Ok(endings_of(&others.sets, &self.second, quota, heads));
-        }
-        others.leave_out(alloc, back, place - front.len())?;
-        Ok(endings_of(&self.first, &others.sets, quota, heads))
+        let front = weights.len() / 2;
+        let won = self.won.without(front, place);
+        let lost = self.lost.without(front, place);
+        let own = self.own.without(place);
+        left_of(&won, &lost, &own, heads)
     }
-}
-
-/// Whether the member of a place weighs as much as that before it.
-fn is_alike(weights: &[u64], place: usize) -> bool
-    requires { place < length weights.now }
-    ensures { IsTrue result → (0 < place) × (slice_index weights.now (place - 1) ≡ slice_index weights.now place) }
-{
-    place > 0 && weights[place - 1] == weights[place]
 }
 
 /// The tallies of the coalitions that members lead to: of all, and by place of those that contain it, which are
-/// those that the others do not lead to. Members that weigh the same have the same tally.
+/// those that the others do not lead to.
 pub(crate) fn by_halves(
     alloc: Global,
     weights: &[u64],
@@ -182,22 +149,14 @@ pub(crate) fn by_halves(
         endings (left_out p weights.now) heads s quota 0 ≤ endings weights.now heads s quota 0 }
     ensures { IfOk result (AreAllEndings weights.now heads quota) }
 {
-    let mut others = Others {
-        sets: Vec::new(alloc),
-        spare: Vec::new(alloc),
-    };
-    let halves = Halves::new(alloc, weights, &mut others.spare)?;
+    let halves = Halves::new(alloc, weights, quota)?;
     let all = BySize {
-        sizes: endings_of(&halves.first, &halves.second, quota, heads),
+        sizes: halves.endings_without(weights, heads, weights.len()),
     };
     let mut each = [all; limits::MEMBERS];
     for place in 0..weights.len() {
-        if is_alike(weights, place) {
-            each[place] = each[place - 1];
-        } else {
-            let without = halves.endings_without(alloc, weights, place, quota, heads, &mut others)?;
-            each[place] = difference(&all, &without);
-        }
+        let without = halves.endings_without(weights, heads, place);
+        each[place] = difference(&all, &without);
     }
     Ok(Tallies { all, each })
 }

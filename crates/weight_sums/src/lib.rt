@@ -14,10 +14,12 @@ mod by_size;
 mod choices;
 mod endings;
 mod fitting;
+mod groups;
 mod halves;
 mod row;
 mod rows;
 mod sets;
+mod table;
 mod tallies;
 
 pub use by_size::BySize;

@@ -1,8 +1,8 @@
-//! The sets of some members, by weight.
-ghost use Rattle.std.specs.Prelude.{◌≡◌, ℕ, ◌+◌, ◌-◌, ◌<◌, ◌≤◌, ◌^◌, IfOk, length, sum, sum_by};
+//! Lists of sets of some members, by weight.
+ghost use Rattle.std.specs.Prelude.{◌≡◌, ℕ, ◌+◌, ◌*◌, ◌-◌, ◌<◌, ◌≤◌, ◌^◌, IfOk, length, sum, sum_by};
 ghost use Rattle.std.specs.List.{All};
 ghost use Rattle.coalitions.specs.declared.limits.TheConstants.{TOTAL};
-ghost use Rattle.weight_sums.specs.Inner.Sets.{AreSets, Ascend, joined, left};
+ghost use Rattle.weight_sums.specs.Inner.Sets.{AreSets, Ascend, alone, chosen, joined, left, lost_of, nobody, sets_of};
 
 use coalitions::Memory;
 use std::mem;
@@ -10,57 +10,68 @@ use std::mem;
 /// A set of members.
 #[derive(Clone, Copy)]
 pub(crate) struct Set {
-    /// What its members weigh together.
+    /// What its members weigh together, or what they weigh without the last.
     pub weight: u64,
-    /// How many members it has.
+    /// Which they are: digit p is 1 where the member of place p is one of them.
+    pub members: u32,
+    /// How many they are.
     pub size: u32,
-    /// How many of the members that it is chosen from stand behind its last; all of them where it is empty.
-    pub behind: u32,
 }
+
+/// The set without a member.
+pub(crate) const NOBODY: Set = Set {
+    weight: 0,
+    members: 0,
+    size: 0,
+};
+
+/// The set of the first member alone, by what is left of it without that member.
+const ALONE: Set = Set {
+    weight: 0,
+    members: 1,
+    size: 1,
+};
 
 impl Set {
     /// The same set, where one member more stands in front who is not in it.
     fn left(&self) -> Set
-        requires { self.now.behind < 2 ^ 32 - 1 }
+        requires { self.now.members < 2 ^ 31 }
         ensures { result ≡ left self.now }
     {
-        let behind = if self.size == 0 {
-            self.behind + 1
-        } else {
-            self.behind
-        };
         Set {
             weight: self.weight,
+            members: 2 * self.members,
             size: self.size,
-            behind,
         }
     }
 
     /// The set with a member of this weight in front.
     fn joined(&self, weight: u64) -> Set
         requires light { self.now.weight + weight < 2 ^ 64 }
+        requires members { self.now.members < 2 ^ 31 }
         requires few { self.now.size < 2 ^ 32 - 1 }
         ensures { result ≡ joined weight self.now }
     {
         Set {
             weight: self.weight + weight,
+            members: 2 * self.members + 1,
             size: self.size + 1,
-            behind: self.behind,
         }
     }
 }
 
-/// The sets with one member more in front, of this weight: each without and with this member, by weight.
+/// Puts down the sets with one member more in front, of this weight: each without and with this member, by weight.
+/// What stands there before weighs nothing.
 fn with_first(sets: &[Set], weight: u64, next: &mut Vec<Set>) -> Result<(), Memory>
     requires ascend { Ascend sets.now }
     requires light { All (λ x. x.weight + weight < 2 ^ 64) sets.now }
+    requires members { All (λ x. x.members < 2 ^ 31) sets.now }
     requires sizes { All (λ x. x.size < 2 ^ 32 - 1) sets.now }
-    requires behinds { All (λ x. x.behind < 2 ^ 32 - 1) sets.now }
-    ensures same { IfOk result (λ _. (g : Set → ℕ) → sum_by g next.new.items
-        ≡ sum_by (λ x. g (left x)) sets.now + sum_by (λ x. g (joined weight x)) sets.now) }
+    requires before { All (λ x. x.weight ≤ 0) next.old.items }
+    ensures same { IfOk result (λ _. (g : Set → ℕ) → sum_by g next.new.items ≡ sum_by g next.old.items
+        + sum_by (λ x. g (left x)) sets.now + sum_by (λ x. g (joined weight x)) sets.now) }
     ensures ascend { IfOk result (λ _. Ascend next.new.items) }
 {
-    next.clear();
     next.reserve(sets.len() * 2)?;
     let (mut i, mut j) = (0, 0);
     while i < sets.len() {
@@ -80,23 +91,57 @@ fn with_first(sets: &[Set], weight: u64, next: &mut Vec<Set>) -> Result<(), Memo
     Ok(())
 }
 
-/// Makes a list all sets of members with these weights, by weight. A second list is room to make it.
-pub(crate) fn fill(weights: &[u64], sets: &mut Vec<Set>, spare: &mut Vec<Set>) -> Result<(), Memory>
-    requires few { length weights.now ≤ 40 }
+/// Makes a list, by weight, of the sets that begin with these of no member: with each member more in front, those without
+/// and with it, and these of it alone. A second list is room to make it.
+fn fill(
+    weights: &[u64],
+    none: &[Set],
+    first: &[Set],
+    sets: &mut Vec<Set>,
+    spare: &mut Vec<Set>,
+) -> Result<(), Memory>
+    requires few { length weights.now ≤ 20 }
     requires light { sum weights.now ≤ TOTAL }
-    ensures { IfOk result (λ _. AreSets weights.now sets.new.items) }
+    requires none { All (λ x. x ≡ nobody) none.now }
+    requires first { All (λ x. x ≡ alone) first.now }
+    requires one { length none.now + length first.now ≤ 1 }
+    ensures { IfOk result (λ _. AreSets (chosen none.now first.now weights.now) sets.new.items) }
 {
     sets.clear();
-    sets.push(Set {
-        weight: 0,
-        size: 0,
-        behind: 0,
-    })?;
+    sets.extend_from_slice(none)?;
     let mut place = weights.len();
     while place > 0 {
         place -= 1;
+        spare.clear();
+        spare.extend_from_slice(first)?;
         with_first(sets, weights[place], spare)?;
         mem::swap(sets, spare);
     }
     Ok(())
+}
+
+/// Makes a list all sets of members with these weights.
+pub(crate) fn fill_sets(
+    weights: &[u64],
+    sets: &mut Vec<Set>,
+    spare: &mut Vec<Set>,
+) -> Result<(), Memory>
+    requires few { length weights.now ≤ 20 }
+    requires light { sum weights.now ≤ TOTAL }
+    ensures { IfOk result (λ _. AreSets (sets_of weights.now) sets.new.items) }
+{
+    fill(weights, &[NOBODY], &[], sets, spare)
+}
+
+/// Makes a list all sets of members with these weights but the empty one, each by what it weighs without its last member.
+pub(crate) fn fill_lost(
+    weights: &[u64],
+    sets: &mut Vec<Set>,
+    spare: &mut Vec<Set>,
+) -> Result<(), Memory>
+    requires few { length weights.now ≤ 20 }
+    requires light { sum weights.now ≤ TOTAL }
+    ensures { IfOk result (λ _. AreSets (lost_of weights.now) sets.new.items) }
+{
+    fill(weights, &[], &[ALONE], sets, spare)
 }

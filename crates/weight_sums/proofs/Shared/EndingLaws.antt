@@ -206,7 +206,7 @@ length-left_out p [] lt = absurd (omega arith)
 length-left_out zero (w ∷ ws) lt = refl
 length-left_out (suc p) (w ∷ ws) lt = ap (λ (k : ℕ). suc k) (length-left_out p ws (omega arith))
 
-past-end : (p : ℕ) (ws : List ℕ) → length ws ≤ p → left_out p ws ≡ ws
+pub past-end : (p : ℕ) (ws : List ℕ) → length ws ≤ p → left_out p ws ≡ ws
 unfolding left_out
 past-end p [] le = refl
 past-end zero (w ∷ ws) le = absurd (omega (arith, le))

@@ -11,10 +11,10 @@ overflow_add-done-in-loop-j c =
 
 pub loop-j-preserved : goal.loop-j-preserved
 loop-j-preserved c =
-    added-more c.args.done.now c.loop-j.done c.args.self.now.here c.args.self.now.longer c.args.size c.loop-j.j c.loop-j.invariant
+    added-more c.args.done.now c.loop-j.done c.args.self.now.here c.args.size c.loop-j.j c.loop-j.invariant
     (omega (arith, c.requires.size))
 
 pub returns : goal.returns
 returns c s small =
     let long : length c.args.self.now.here ≤ c.loop-j.j = omega arith in
-    added-all c.args.done.now c.loop-j.done c.args.self.now.here c.args.self.now.longer c.args.size c.loop-j.j s c.loop-j.invariant long
+    added-all c.args.done.now c.loop-j.done c.args.self.now.here c.args.size c.loop-j.j s c.loop-j.invariant long

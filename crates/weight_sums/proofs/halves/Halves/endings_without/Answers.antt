@@ -1,34 +1,36 @@
-use Rattle.std.proofs.Common.{◌∙◌, ◌/◌, ℕ, List, length, take, drop, sym, ap, subst}
-use Rattle.weight_sums.specs.Endings.{endings}
-use Rattle.weight_sums.specs.Inner.Sets.{AreSets, IsHalf}
-use Rattle.weight_sums.proofs.HalfSums.{first-half, second-half, without-front, without-back}
+use Rattle.std.proofs.Common.{◌/◌, ◌≤◌, ℕ, List, [], ◌∷◌, get_or, length, take, drop, refl, arith, length-take, length-drop}
+use Rattle.weight_sums.specs.Endings.{left_out}
+use Rattle.weight_sums.specs.Inner.Sets.{nobody, alone, sets_of, lost_of}
+use Rattle.weight_sums.proofs.SetLists.{members-few, sets-start, lost-start}
+use Rattle.weight_sums.proofs.HalfSums.{AreMet, halves-met, enough-won, left-is}
 use Rattle.weight_sums.proofs.halves.Halves.endings_without.Goals as goal
+use Rattle.weight_sums.proofs.halves.Halves.endings_without.Goals.{After-without-own}
 
-pub endings_of-requires-clause-second : goal.endings_of-requires-clause-second
-endings_of-requires-clause-second c =
-    subst IsHalf (sym c.deref-then-place-front.ensures.value)
-    (second-half c.args.weights.now c.args.self.now c.requires.halves c.requires.few)
-
-pub returns-then-place-front : goal.returns-then-place-front
-returns-then-place-front c s small =
+met-at : (c : After-without-own) (s : ℕ) → s ≤ 40
+    → AreMet (left_out c.args.place c.args.weights.now) c.args.self.now.quota s (get_or c.without-won.result s 0) (get_or c.without-lost.result s 0)
+    (get_or c.without-own.result s 0)
+met-at c s small =
     let ws : List ℕ = c.args.weights.now in
-    c.endings_of.ensures.sizes _ (drop (length ws / 2) ws) s
-    (subst (AreSets _) (sym c.deref.ensures.value) c.in_ok-leave_out.ensures.are)
-    (subst (AreSets (drop (length ws / 2) ws)) (sym c.deref-then-place-front.ensures.value) c.requires.halves.second) small
-    ∙ ap (λ (l : List ℕ). endings l c.args.heads s c.args.quota 0)
-    (sym (without-front (length ws / 2) c.args.place ws c.split_at.result.0.now c.split_at.ensures.front c.if-place-front.true))
+    let q : ℕ = c.args.self.now.quota in
+    let fr : List ℕ = take (length ws / 2) ws in
+    let bk : List ℕ = drop (length ws / 2) ws in
+    let few : length fr ≤ 20 = (let l = length-take (length ws / 2) ws in omega (arith, l, c.requires.few)) in
+    let also : length bk ≤ 20 = (let l = length-drop (length ws / 2) ws in omega (arith, l, c.requires.few)) in
+    let of_first = members-few (nobody ∷ []) [] fr sets-start few in
+    let of_second = members-few (nobody ∷ []) [] bk sets-start also in
+    let of_lost = members-few [] (alone ∷ []) bk lost-start also in
+    let of_own = members-few [] (alone ∷ []) fr lost-start few in
+    halves-met ws c.args.place (length ws / 2) q s _ _ _ refl
+    (λ less. c.without-won.ensures.first q s (sets_of fr) (sets_of bk) c.requires.halves.won of_first less small)
+    (λ past. c.without-won.ensures.second q s (sets_of fr) (sets_of bk) c.requires.halves.won of_second past small)
+    (λ less. c.without-lost.ensures.first q s (sets_of fr) (lost_of bk) c.requires.halves.lost of_first less small)
+    (λ past. c.without-lost.ensures.second q s (sets_of fr) (lost_of bk) c.requires.halves.lost of_lost past small)
+    (c.without-own.ensures q (lost_of fr) (nobody ∷ []) s c.requires.halves.own of_own small)
 
-pub endings_of-requires-2-clause-first : goal.endings_of-requires-2-clause-first
-endings_of-requires-2-clause-first c =
-    subst IsHalf (sym c.deref-2.ensures.value)
-    (first-half c.args.weights.now c.args.self.now c.requires.halves c.requires.few)
+pub left_of-requires-clause-fewer : goal.left_of-requires-clause-fewer
+left_of-requires-clause-fewer c s above small = enough-won _ c.args.heads _ s _ _ _ (met-at (goal.at.left_of-requires-clause-fewer c).After-without-own s small) c.requires.some above
 
-pub returns : goal.returns
-returns c s small =
-    let ws : List ℕ = c.args.weights.now in
-    c.endings_of-2.ensures.sizes (take (length ws / 2) ws) _ s
-    (subst (AreSets (take (length ws / 2) ws)) (sym c.deref-2.ensures.value) c.requires.halves.first)
-    (subst (AreSets _) (sym c.deref-3.ensures.value) c.in_ok-leave_out-2.ensures.are) small
-    ∙ ap (λ (l : List ℕ). endings l c.args.heads s c.args.quota 0)
-    (sym (without-back (length ws / 2) c.args.place ws c.split_at.result.0.now c.split_at.result.1.now c.split_at.ensures.front
-    c.split_at.ensures.back c.if-place-front.false))
+pub returns-clause-sizes : goal.returns-clause-sizes
+returns-clause-sizes c s small =
+    left-is _ c.args.heads _ s c.without-won.result c.without-lost.result c.without-own.result c.left_of.result (met-at (goal.at.returns-clause-sizes c).After-without-own s small)
+    c.left_of.ensures c.requires.some small

@@ -1,0 +1,12 @@
+use Rattle.std.proofs.Common.{◌≡◌, ℕ, ◌*◌, ◌≤◌, ◌^◌, List, get_or}
+use Rattle.weight_sums.specs.declared.sets.Set.{Set}
+use Rattle.weight_sums.specs.Inner.Tables.{AreOfKeys}
+use Rattle.weight_sums.proofs.TableSums.{added_to}
+use Rattle.weight_sums.proofs.table.Table.without.Given as goal
+
+abbrev pub invariant-loop-key : goal.invariant-loop-key
+invariant-loop-key l = record {
+  added : (key : Set → ℕ) (f : ℕ → Set → ℕ) (xs : List Set) (s : ℕ) → AreOfKeys key f xs l.self.rows.items → s ≤ 40
+      → get_or l.sum s 0 ≡ added_to l.key l.place key (f s) xs;
+  room : (s : ℕ) → s ≤ 40 → get_or l.sum s 0 ≤ 2 ^ 40 * l.key;
+}

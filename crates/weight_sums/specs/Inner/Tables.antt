@@ -1,0 +1,13 @@
+-- Numbers by size for each choice of ten members.
+use Rattle.std.specs.Prelude.{ℕ, ◌==◌, ◌≤◌, ◌^◌, ◌≡◌, if◌then◌else◌, List, [], length, slice_index, slice_index_or, sum_by}
+use Rattle.coalitions.specs.declared.limits.TheConstants.{MEMBERS}
+use Rattle.weight_sums.specs.declared.sets.Set.{Set}
+
+-- a row for each choice, with room for more
+pub record HasRows (rows : List (List ℕ)) : Type 0 where
+  pub long : length rows ≡ 1024
+  pub few : (k s : ℕ) → s ≤ MEMBERS → slice_index (slice_index_or rows k []) s ≤ 2 ^ 40
+
+-- the row of each key has the numbers of the sets with it, added
+pub record AreOfKeys (key : Set → ℕ) (f : ℕ → Set → ℕ) (xs : List Set) (rows : List (List ℕ)) : Type 0 where
+  pub each : (k s : ℕ) → s ≤ MEMBERS → slice_index (slice_index_or rows k []) s ≡ sum_by (λ x. if key x == k then f s x else 0) xs
