@@ -1,36 +1,41 @@
 -- Pairs of sets of two lists that meet a quota, by the members of the one.
-use Rattle.std.proofs.Common.{◌≡◌, ◌∙◌, ◌⊎◌, ℕ, ◌+◌, ◌-◌, ◌*◌, ◌/◌, ◌%◌, ◌==◌, ◌<◌, ◌≤◌, ◌^◌, cond, eqb, leb, List, []}
-use Rattle.std.proofs.Common.{length, get_or, take, sym, ap, refl, arith, inl, inr}
+use Rattle.std.proofs.Common.{◌≡◌, ◌∙◌, ◌⊎◌, ℕ, ◌+◌, ◌-◌, ◌/◌, ◌%◌, ◌==◌, ◌<◌, ◌≤◌, ◌^◌, cond, eqb, leb, List, []}
+use Rattle.std.proofs.Common.{length, get_or, take, min, sym, ap, arith, inl, inr}
 use Rattle.std.specs.List.{All, sum_by}
 use Rattle.std.proofs.lemmas.Bool.{cases_lt}
 use Rattle.std.proofs.lemmas.List.{get_or_default, take_all, length-take}
 use Rattle.std.proofs.lemmas.Nat.Bits.{bit_at_above, bit_at_cat_low, bit_at_cat_high}
+use Rattle.std.proofs.lemmas.Nat.{pow_pos, shr_split, shr_below}
+use Rattle.std.proofs.Math.Nat.{mod-lt}
+use Rattle.std.proofs.Math.Pow.{pow_mono}
+use Rattle.std.proofs.lemmas.List.Elements.{All-weaker}
+use Rattle.weight_sums.proofs.SetLists.{all-most}
 use Rattle.weight_sums.specs.declared.sets.Set.{Set}
 use Rattle.weight_sums.specs.declared.fitting.Fitting.{Fitting}
 use Rattle.weight_sums.specs.declared.groups.Groups.{Groups}
 use Rattle.weight_sums.specs.Inner.Sets.{nobody, fits, met, has, AreSets, IsHalf}
 use Rattle.weight_sums.specs.Inner.Fitting.{AreEntered, AreOfNeed, Meet}
 use Rattle.weight_sums.specs.Inner.Tables.{AreOfKeys}
-use Rattle.weight_sums.specs.Inner.Groups.{low, high, AreGroups}
+use Rattle.weight_sums.specs.Inner.Groups.{low_of, high_of, AreGroups}
 use Rattle.weight_sums.proofs.SetLaws.{sum-same}
 use Rattle.weight_sums.proofs.FittingSets.{added, fits-few, sum-alike}
 use Rattle.weight_sums.proofs.TableSums.{of-more, of-few, of-same}
 
 -- ---- the sets of a list, one after another
 -- of the first n sets: the others that meet the quota with them, and that what meets their needs will meet those of the next
-pub record Paired (q : ℕ) (xs ys : List Set) (n : ℕ) (lows highs : List (List ℕ)) (t : Fitting) : Type 0 where
-  pub low_long : length lows ≡ 1024
-  pub high_long : length highs ≡ 1024
-  pub low_is : AreOfKeys low (met q ys) (take n xs) lows
-  pub high_is : AreOfKeys high (met q ys) (take n xs) highs
+pub record Paired (q digits : ℕ) (xs ys : List Set) (n : ℕ) (lows highs : List (List ℕ)) (t : Fitting) : Type 0 where
+  pub low_long : length lows ≡ 2 ^ digits
+  pub high_long : length highs ≡ 2 ^ digits
+  pub low_is : AreOfKeys (low_of digits) (met q ys) (take n xs) lows
+  pub high_is : AreOfKeys (high_of digits) (met q ys) (take n xs) highs
   pub entered : AreEntered ys t
   pub meet : (k m : ℕ) (d : Set) → t.outside ≤ k → k < length ys → n ≤ m → m < length xs
       → q ≤ (get_or ys k d).weight + (get_or xs m d).weight
 
-pub paired-none : (q : ℕ) (xs ys : List Set) (lows highs : List (List ℕ)) (t : Fitting) → length lows ≡ 1024 → length highs ≡ 1024
-    → AreOfKeys low (met q ys) [] lows → AreOfKeys high (met q ys) [] highs → AreEntered ys t → t.outside ≡ length ys
-    → Paired q xs ys 0 lows highs t
-paired-none q xs ys lows highs t long also low_is high_is entered out = record {
+pub paired-none : (q digits : ℕ) (xs ys : List Set) (lows highs : List (List ℕ)) (t : Fitting) → length lows ≡ 2 ^ digits
+    → length highs ≡ 2 ^ digits → AreOfKeys (low_of digits) (met q ys) [] lows → AreOfKeys (high_of digits) (met q ys) [] highs
+    → AreEntered ys t → t.outside ≡ length ys → Paired q digits xs ys 0 lows highs t
+paired-none q digits xs ys lows highs t long also low_is high_is entered out = record {
   low_long = long;
   high_long = also;
   low_is = low_is;
@@ -48,7 +53,7 @@ paired-room q xs ys n key rows are first second k s small =
     let long = first.long in
     omega (arith, few, l, long)
 
-module _ (q : ℕ) (xs ys : List Set) (n : ℕ) (lows highs : List (List ℕ)) (t : Fitting) (h : Paired q xs ys n lows highs t) (first : IsHalf xs)
+module _ (q digits : ℕ) (xs ys : List Set) (n : ℕ) (lows highs : List (List ℕ)) (t : Fitting) (h : Paired q digits xs ys n lows highs t) (first : IsHalf xs)
     (lt : n < length xs) where
   pub next-meets : (need : ℕ) (d : Set) → need ≡ q - (get_or xs n d).weight → Meet need t.outside ys
   next-meets need d is k e from within =
@@ -63,23 +68,24 @@ module _ (q : ℕ) (xs ys : List Set) (n : ℕ) (lows highs : List (List ℕ)) (
     | inr same ↦ (let f = ap (λ (i : ℕ). (get_or xs i e).weight) (let g : n ≡ m = omega (arith, from, same) in g) in omega (arith, f, enough))
   ]
 
-  pub paired-more : (need : ℕ) (d : Set) (u : Fitting) (more_lows more_highs : List (List ℕ)) → need ≡ q - (get_or xs n d).weight
-      → AreOfNeed need ys u → AreEntered ys u → Meet need u.outside ys → length more_lows ≡ 1024 → length more_highs ≡ 1024
+  pub paired-more : (need low high : ℕ) (d : Set) (u : Fitting) (more_lows more_highs : List (List ℕ)) → need ≡ q - (get_or xs n d).weight
+      → low ≡ low_of digits (get_or xs n d) → high ≡ high_of digits (get_or xs n d)
+      → AreOfNeed need ys u → AreEntered ys u → Meet need u.outside ys → length more_lows ≡ length lows → length more_highs ≡ length highs
       → ((k s : ℕ) → s ≤ 40 → get_or (get_or more_lows k []) s 0 ≡ get_or (get_or lows k []) s 0
-      + cond (eqb k (low (get_or xs n d))) (cond (leb (get_or xs n d).size s) (get_or u.here (s - (get_or xs n d).size) 0) 0) 0)
+      + cond (eqb k low) (cond (leb (get_or xs n d).size s) (get_or u.here (s - (get_or xs n d).size) 0) 0) 0)
       → ((k s : ℕ) → s ≤ 40 → get_or (get_or more_highs k []) s 0 ≡ get_or (get_or highs k []) s 0
-      + cond (eqb k (high (get_or xs n d))) (cond (leb (get_or xs n d).size s) (get_or u.here (s - (get_or xs n d).size) 0) 0) 0)
-      → Paired q xs ys (n + 1) more_lows more_highs u
-  paired-more need d u more_lows more_highs is are entered meet low_long high_long low_row high_row =
+      + cond (eqb k high) (cond (leb (get_or xs n d).size s) (get_or u.here (s - (get_or xs n d).size) 0) 0) 0)
+      → Paired q digits xs ys (n + 1) more_lows more_highs u
+  paired-more need low high d u more_lows more_highs is low_key high_key are entered meet low_long high_long low_row high_row =
       let x : Set = get_or xs n d in
       let row : ℕ → ℕ = λ s. cond (leb x.size s) (get_or u.here (s - x.size) 0) 0 in
       let gives : (s : ℕ) → s ≤ 40 → row s ≡ met q ys s x = λ s small. added need ys u x.size s are
       ∙ ap (λ (m : ℕ). sum_by (fits m x.size s) ys) is in
       record {
-        low_long = low_long;
-        high_long = high_long;
-        low_is = of-more low (met q ys) xs n (low x) d lows more_lows row lt h.low_is refl low_row gives;
-        high_is = of-more high (met q ys) xs n (high x) d highs more_highs row lt h.high_is refl high_row gives;
+        low_long = low_long ∙ h.low_long;
+        high_long = high_long ∙ h.high_long;
+        low_is = of-more (low_of digits) (met q ys) xs n low d lows more_lows row lt h.low_is low_key low_row gives;
+        high_is = of-more (high_of digits) (met q ys) xs n high d highs more_highs row lt h.high_is high_key high_row gives;
         entered = entered;
         meet = λ k m e from within next below. later k m e (omega (arith, next)) below
             (let c = meet k e from within in
@@ -87,19 +93,35 @@ module _ (q : ℕ) (xs ys : List Set) (n : ℕ) (lows highs : List (List ℕ)) (
             omega (arith, c, b, is));
       }
 
-pub paired-all : (q : ℕ) (xs ys all others : List Set) (n : ℕ) (t : Fitting) (g : Groups) → Paired q xs ys n g.low.rows.items g.high.rows.items t
-    → length xs ≤ n → IsHalf xs → IsHalf ys → AreSets all xs → AreSets others ys → AreGroups q all others g
-paired-all q xs ys all others n t g h end first second are also = record {
+pub paired-all : (q : ℕ) (xs ys all others : List Set) (n : ℕ) (t : Fitting) (g : Groups)
+    → Paired q g.digits xs ys n g.low.rows.items g.high.rows.items t → length xs ≤ n → g.digits ≤ 10
+    → All (λ x. x.members < 2 ^ (g.digits + g.digits)) xs → IsHalf xs → IsHalf ys → AreSets all xs → AreSets others ys
+    → AreGroups q all others g
+paired-all q xs ys all others n t g h end few within first second are also = record {
   rows = record {
-    low_rows = record { long = h.low_long; few = paired-room q xs ys n low g.low.rows.items h.low_is first second };
-    high_rows = record { long = h.high_long; few = paired-room q xs ys n high g.high.rows.items h.high_is first second };
+    digits = few;
+    low_long = h.low_long;
+    high_long = h.high_long;
+    low_rows = record { long = short g.low.rows.items h.low_long; few = paired-room q xs ys n (low_of g.digits) g.low.rows.items h.low_is first second };
+    high_rows = record {
+      long = short g.high.rows.items h.high_long;
+      few = paired-room q xs ys n (high_of g.digits) g.high.rows.items h.high_is first second;
+    };
   };
-  low_is = of-same low (met q ys) (met q others) all xs g.low.rows.items are same
-      (whole low g.low.rows.items h.low_is);
-  high_is = of-same high (met q ys) (met q others) all xs g.high.rows.items are same
-      (whole high g.high.rows.items h.high_is);
+  within = All-weaker (λ x. x.members ≤ m - 1) (λ x. x.members < m) (λ x le. (let pos = pow_pos (g.digits + g.digits) in omega (arith, le, pos))) all
+      (all-most (λ x. x.members) (m - 1) all xs (λ f. sym (are.same f))
+      (All-weaker (λ x. x.members < m) (λ x. x.members ≤ m - 1) (λ x lt. omega (arith, lt)) xs within));
+  low_is = of-same (low_of g.digits) (met q ys) (met q others) all xs g.low.rows.items are same (whole (low_of g.digits) g.low.rows.items h.low_is);
+  high_is =
+      of-same (high_of g.digits) (met q ys) (met q others) all xs g.high.rows.items are same (whole (high_of g.digits) g.high.rows.items h.high_is);
 }
   where
+    m : ℕ
+    m = 2 ^ (g.digits + g.digits)
+
+    short : (rows : List (List ℕ)) → length rows ≡ 2 ^ g.digits → length rows ≤ 2 ^ 10
+    short rows is = let up : 2 ^ g.digits ≤ 2 ^ 10 = pow_mono few in omega (arith, is, up)
+
     same : (s : ℕ) (x : Set) → met q ys s x ≡ met q others s x
     same s x = also.same (fits (q - x.weight) x.size s)
 
@@ -108,38 +130,52 @@ paired-all q xs ys all others n t g h end first second are also = record {
       each = λ k s small. of.each k s small ∙ ap (sum_by (λ x. cond (eqb (key x) k) (met q ys s x) 0)) (take_all n xs end);
     }
 
--- ---- the members of a set, of the first ten and of the others
-parts : (m : ℕ) → m / 1024 * 2 ^ 10 + m % 1024 ≡ m
-parts m = omega arith
+-- ---- the members of a set, the first and the others
+has-low : (d p m : ℕ) → p < d → has p (m % 2 ^ d) ≡ has p m
+has-low d p m lt = ap (λ (n : ℕ). n == 1)
+    (sym (bit_at_cat_low (m / 2 ^ d) d (m % 2 ^ d) p lt) ∙ ap (λ (n : ℕ). n / 2 ^ p % 2) (shr_split m d))
 
-has-low : (p m : ℕ) → p < 10 → has p (m % 1024) ≡ has p m
-has-low p m lt = ap (λ (n : ℕ). n == 1) (sym (bit_at_cat_low (m / 1024) 10 (m % 1024) p lt) ∙ ap (λ (n : ℕ). n / 2 ^ p % 2) (parts m))
+has-high : (d p m : ℕ) → d ≤ p → has (p - d) (m / 2 ^ d) ≡ has p m
+has-high d p m le = ap (λ (n : ℕ). n == 1)
+    (sym (bit_at_cat_high (m / 2 ^ d) d (m % 2 ^ d) p (mod-lt m (pow_pos d)) le) ∙ ap (λ (n : ℕ). n / 2 ^ p % 2) (shr_split m d))
 
-has-high : (p m : ℕ) → 10 ≤ p → has (p - 10) (m / 1024) ≡ has p m
-has-high p m le =
-    ap (λ (n : ℕ). n == 1) (sym (bit_at_cat_high (m / 1024) 10 (m % 1024) p (omega arith) le) ∙ ap (λ (n : ℕ). n / 2 ^ p % 2) (parts m))
+-- behind the last digit stands no member
+has-last : (n p r m : ℕ) → m < 2 ^ n → (r ≡ p) ⊎ (r ≡ n) × (n ≤ p) → has r m ≡ has p m
+has-last n p r m small (inl same) = ap (λ (i : ℕ). has i m) same
+has-last n p r m small (inr past) =
+    ap (λ (k : ℕ). k == 1) (bit_at_above m n r small (let e = past.0 in omega (arith, e)) ∙ sym (bit_at_above m n p small past.1))
 
--- behind the last of 20 stands no member
-has-last : (p r m : ℕ) → m < 2 ^ 20 → (r ≡ p) ⊎ (r ≡ 20) × (20 ≤ p) → has r m ≡ has p m
-has-last p r m small (inl same) = ap (λ (i : ℕ). has i m) same
-has-last p r m small (inr past) =
-    ap (λ (n : ℕ). n == 1) (bit_at_above m 20 r small (let e = past.0 in omega (arith, e)) ∙ sym (bit_at_above m 20 p small past.1))
-
-pub without-low : (q s p n : ℕ) (all others : List Set) (g : Groups) → AreGroups q all others g → p < 10 → s ≤ 40
-    → (AreOfKeys low (met q others) all g.low.rows.items → All (λ x. low x < 1024) all → n ≡ sum_by (λ x. cond (has p (low x)) 0 (met q others s x)) all)
+pub without-low : (q s p n : ℕ) (all others : List Set) (g : Groups) → AreGroups q all others g → p < g.digits → s ≤ 40
+    → (AreOfKeys (low_of g.digits) (met q others) all g.low.rows.items → All (λ x. low_of g.digits x < length g.low.rows.items) all
+    → n ≡ sum_by (λ x. cond (has p (low_of g.digits x)) 0 (met q others s x)) all)
     → n ≡ sum_by (λ x. cond (has p x.members) 0 (met q others s x)) all
 without-low q s p n all others g are lt small gives =
-    gives are.low_is (λ k d below. omega arith)
-    ∙ sum-same (λ x. cond (has p (low x)) 0 (met q others s x)) (λ x. cond (has p x.members) 0 (met q others s x)) all
-    (λ x. ap {B = ℕ} (λ b. cond b 0 (met q others s x)) (has-low p x.members lt))
+    gives are.low_is (λ k e below. (
+    let l = are.rows.low_long in
+    let f = mod-lt (get_or all k e).members (pow_pos g.digits) in
+    omega (arith, l, f)))
+    ∙ sum-same (λ x. cond (has p (low_of g.digits x)) 0 (met q others s x)) (λ x. cond (has p x.members) 0 (met q others s x)) all
+    (λ x. ap {B = ℕ} (λ b. cond b 0 (met q others s x)) (has-low g.digits p x.members lt))
 
-pub without-high : (q s p r n : ℕ) (all others : List Set) (g : Groups) → AreGroups q all others g → 10 ≤ r → (r ≡ p) ⊎ (r ≡ 20) × (20 ≤ p)
-    → All (λ x. x.members < 2 ^ 20) all → s ≤ 40
-    → (AreOfKeys high (met q others) all g.high.rows.items → All (λ x. high x < 1024) all
-    → n ≡ sum_by (λ x. cond (has (r - 10) (high x)) 0 (met q others s x)) all)
+pub without-high : (q s p r n : ℕ) (all others : List Set) (g : Groups) → AreGroups q all others g → g.digits ≤ p → r ≡ min (p - g.digits) g.digits
+    → s ≤ 40 → (AreOfKeys (high_of g.digits) (met q others) all g.high.rows.items → All (λ x. high_of g.digits x < length g.high.rows.items) all
+    → n ≡ sum_by (λ x. cond (has r (high_of g.digits x)) 0 (met q others s x)) all)
     → n ≡ sum_by (λ x. cond (has p x.members) 0 (met q others s x)) all
-without-high q s p r n all others g are le last few small gives =
-    gives are.high_is (λ k d below. (let f = few k d below in omega (arith, f)))
-    ∙ sum-alike (λ x. cond (has (r - 10) (high x)) 0 (met q others s x)) (λ x. cond (has p x.members) 0 (met q others s x)) all nobody
-    (λ k below. (let x : Set = get_or all k nobody in ap {B = ℕ} (λ b. cond b 0 (met q others s x))
-    (has-high r x.members le ∙ has-last p r x.members (few k nobody below) last)))
+without-high q s p r n all others g are le is small gives =
+    gives are.high_is (λ k e below. (
+    let l = are.rows.high_long in
+    let f = shr_below (get_or all k e).members g.digits g.digits (are.within k e below) in
+    omega (arith, l, f)))
+    ∙ sum-alike (λ x. cond (has r (high_of g.digits x)) 0 (met q others s x)) (λ x. cond (has p x.members) 0 (met q others s x)) all nobody
+    (λ k below. (let x : Set = get_or all k nobody in ap {B = ℕ} (λ b. cond b 0 (met q others s x)) (one x (are.within k nobody below))))
+  where
+    one : (x : Set) → x.members < 2 ^ (g.digits + g.digits) → has r (high_of g.digits x) ≡ has p x.members
+    one x small =
+        let back : r ≡ r + g.digits - g.digits = omega arith in
+        ap (λ (i : ℕ). has i (high_of g.digits x)) back ∙ has-high g.digits (r + g.digits) x.members (omega arith)
+        ∙ has-last (g.digits + g.digits) p (r + g.digits) x.members small (by_order (cases_lt (p - g.digits) g.digits))
+      where
+        by_order : (p - g.digits < g.digits) ⊎ (g.digits ≤ p - g.digits)
+            → (r + g.digits ≡ p) ⊎ (r + g.digits ≡ g.digits + g.digits) × (g.digits + g.digits ≤ p)
+        by_order (inl less) = inl (omega (arith, is, less, le))
+        by_order (inr past) = inr (omega (arith, is, past), omega (arith, past, le))

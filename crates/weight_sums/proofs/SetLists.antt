@@ -4,6 +4,7 @@ use Rattle.std.proofs.Common.{length, map, get_or, take, drop, sym, ap, refl, su
 use native.Mathlib.Numerals.{unary_clauses}
 use Rattle.std.specs.List.{All, sum, sum_by}
 use Rattle.std.proofs.Math.Pow.{pow_mono}
+use Rattle.std.proofs.lemmas.Nat.{pow_pos}
 use Rattle.std.proofs.lemmas.Bool.{cases_eq, cases_lt}
 use Rattle.std.proofs.lemmas.List.{drop_all, drop_more, get_or_default, get_or_append_left, get_or_push}
 use Rattle.std.proofs.lemmas.List.Quantifiers.{all_pairs_push}
@@ -184,7 +185,7 @@ chosen-within none first (w ∷ ws) zeros ones =
     (chosen none first ws) old))))
 
 -- a list of the same sums has no greater numbers
-all-most : (f : Set → ℕ) (m : ℕ) (xs ys : List Set) → ((g : Set → ℕ) → sum_by g xs ≡ sum_by g ys) → All (λ x. f x ≤ m) ys
+pub all-most : (f : Set → ℕ) (m : ℕ) (xs ys : List Set) → ((g : Set → ℕ) → sum_by g xs ≡ sum_by g ys) → All (λ x. f x ≤ m) ys
     → All (λ x. f x ≤ m) xs
 all-most f m xs ys same most i d lt =
     let above = sum_by-le (λ x. f x - m) 0 ys (All-weaker (λ x. f x ≤ m) (λ x. f x - m ≤ 0) (λ x le. omega (arith, le)) ys most) in
@@ -227,16 +228,18 @@ module _ (none first : List Set) (ws : List ℕ) (start : AreStart none first) (
   sizes-most = all-most (λ x. x.size) (length ws) xs (chosen none first ws) are.same
       (All-weaker (IsWithin (length ws) (sum ws)) (λ x. x.size ≤ length ws) (λ x h. h.size_in) (chosen none first ws) all-within)
 
-  pub members-most : All (λ x. x.members ≤ 2 ^ length ws - 1) xs
-  members-most = all-most (λ x. x.members) (2 ^ length ws - 1) xs (chosen none first ws) are.same
-      (All-weaker (IsWithin (length ws) (sum ws)) (λ x. x.members ≤ 2 ^ length ws - 1)
-      (λ x h. (let m = h.members_in in omega (arith, m))) (chosen none first ws) all-within)
+  pub members-most : (n : ℕ) → length ws ≤ n → All (λ x. x.members < 2 ^ n) xs
+  members-most n few =
+      let up : 2 ^ length ws ≤ 2 ^ n = pow_mono few in
+      All-weaker (λ x. x.members ≤ 2 ^ n - 1) (λ x. x.members < 2 ^ n) (λ x le. (let pos = pow_pos n in omega (arith, le, pos))) xs
+      (all-most (λ x. x.members) (2 ^ n - 1) xs (chosen none first ws) are.same
+      (All-weaker (IsWithin (length ws) (sum ws)) (λ x. x.members ≤ 2 ^ n - 1)
+      (λ x h. (let m = h.members_in in omega (arith, m, up))) (chosen none first ws) all-within))
 
   -- the sets of at most 20 members are those of a half
   pub half-is : length ws ≤ 20 → IsHalf xs
   half-is few =
       let up : 2 ^ length ws ≤ 2 ^ 20 = pow_mono few in
-      let some : 2 ^ 0 ≤ 2 ^ length ws = pow_mono {i = 0} {j = length ws} (omega arith) in
       record {
         ascend = are.ascend;
         long = (
@@ -244,8 +247,6 @@ module _ (none first : List Set) (ws : List ℕ) (start : AreStart none first) (
             let l = chosen-long none first ws start.one in
             omega (arith, o, l, up));
         sizes = All-weaker (λ (x : Set). x.size ≤ length ws) (λ (x : Set). x.size ≤ 20) (λ x le. omega (arith, le, few)) xs sizes-most;
-        members = All-weaker (λ (x : Set). x.members ≤ 2 ^ length ws - 1) (λ (x : Set). x.members < 2 ^ 20)
-            (λ x le. omega (arith, le, up, some)) xs members-most;
       }
 
 pub sets-start : AreStart (nobody ∷ []) []
@@ -299,8 +300,7 @@ module _ (none first : List Set) (ws : List ℕ) (start : AreStart none first) (
       whole = sum_by-take-drop (λ (y : ℕ). y) ws (p - 1)
 
   pub few-members : length ws ≤ 20 → All (λ x. x.members < 2 ^ 31) xs
-  few-members few = All-weaker (λ (x : Set). x.members < 2 ^ 20) (λ (x : Set). x.members < 2 ^ 31) (λ x le. omega (arith, le)) xs
-      (half-is none first (drop p ws) start xs own (omega (arith, fewer, few))).members
+  few-members few = members-most none first (drop p ws) start xs own 31 (omega (arith, fewer, few))
 
   pub small-enough : length ws ≤ 20 → All (λ x. x.size < 2 ^ 32 - 1) xs
   small-enough few = All-weaker (λ (x : Set). x.size ≤ 20) (λ (x : Set). x.size < 2 ^ 32 - 1) (λ x le. omega (arith, le)) xs
@@ -323,10 +323,3 @@ module _ (none first : List Set) (ws : List ℕ) (start : AreStart none first) (
 
 pub one-alone : AreSets (nobody ∷ []) (nobody ∷ [])
 one-alone = record { same = λ g. refl; ascend = λ a b d less lt. absurd (omega (arith, less, lt)) }
-
-pub members-few : (none first : List Set) (ws : List ℕ) → AreStart none first → length ws ≤ 20
-    → All (λ x. x.members < 2 ^ 20) (chosen none first ws)
-members-few none first ws start few =
-    let up : 2 ^ length ws ≤ 2 ^ 20 = pow_mono few in
-    All-weaker (IsWithin (length ws) (sum ws)) (λ x. x.members < 2 ^ 20) (λ x h. (let m = h.members_in in omega (arith, m, up)))
-    (chosen none first ws) (chosen-within none first ws start.none_is start.first_is)

@@ -107,10 +107,10 @@ added-further n p key g xs =
         order other (inl less) = lt-ltb k (n + 1) (omega (arith, less)) ∙ sym (lt-ltb k n less)
         order other (inr most) = le-ltb k (n + 1) (omega (arith, most, other)) ∙ sym (le-ltb k n most)
 
-pub added-all : (n p : ℕ) (key g : Set → ℕ) (xs : List Set) → All (λ x. key x < 1024) xs → 1024 ≤ n
+pub added-all : (m n p : ℕ) (key g : Set → ℕ) (xs : List Set) → All (λ x. key x < m) xs → m ≤ n
     → added_to n p key g xs ≡ sum_by (λ x. cond (has p (key x)) 0 (g x)) xs
 unfolding added_to
-added-all n p key g xs keys all =
+added-all m n p key g xs keys all =
     sum-alike (λ x. cond (ltb (key x) n) (cond (has p (key x)) 0 (g x)) 0) (λ x. cond (has p (key x)) 0 (g x)) xs
     (record { weight = 0; members = 0; size = 0 })
     (λ k lt. (let x : Set = get_or xs k (record { weight = 0; members = 0; size = 0 }) in

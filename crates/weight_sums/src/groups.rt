@@ -1,21 +1,39 @@
 //! How many pairs of sets of two lists meet a quota, by size and by the members of the one.
-ghost use Rattle.std.specs.Prelude.{◌≡◌, ℕ, ◌+◌, ◌<◌, ◌≤◌, ◌^◌, if◌then◌else◌, IfOk, List, length, slice_index, sum_by};
+ghost use Rattle.std.specs.Prelude.{◌≡◌, ℕ, ◌+◌, ◌/◌, ◌%◌, ◌<◌, ◌≤◌, ◌^◌, if◌then◌else◌, IfOk, List, slice_index, sum_by};
 ghost use Rattle.std.specs.List.{All};
 ghost use Rattle.coalitions.specs.declared.limits.TheConstants.{MEMBERS};
 ghost use Rattle.weight_sums.specs.declared.sets.Set.{Set};
 ghost use Rattle.weight_sums.specs.Inner.Sets.{AreSets, IsHalf, has, met};
 ghost use Rattle.weight_sums.specs.Inner.Groups.{AreGroups, HaveRows};
 
-use crate::fitting::{Fitting, HALF};
+use crate::fitting::Fitting;
 use crate::sets::Set;
-use crate::table::{CHOICES, Table};
+use crate::table::Table;
 use coalitions::{Memory, limits};
 use std::alloc::Global;
 
-/// How many sets meet a quota together with a set of a list, by their size together, for each choice of the first ten
-/// members that the sets of the list are chosen from, and for each choice of the others.
+/// Which of the first members are in, of as many as there are digits.
+fn low(members: u32, digits: u32) -> usize
+    requires { digits ≤ 10 }
+    ensures { result ≡ members % 2 ^ digits }
+{
+    (members & ((1 << digits) - 1)) as usize
+}
+
+/// Which of the members behind them are in.
+fn high(members: u32, digits: u32) -> usize
+    requires { digits ≤ 10 }
+    ensures { result ≡ members / 2 ^ digits }
+{
+    (members >> digits) as usize
+}
+
+/// How many sets meet a quota together with a set of a list, by their size together, for each choice of the first members that
+/// the sets of the list are chosen from, and for each choice of the others.
 #[derive(Drop)]
 pub(crate) struct Groups {
+    /// So many are the first, and at most so many the others.
+    digits: u32,
     low: Table,
     high: Table,
 }
@@ -27,34 +45,41 @@ impl Groups {
         list: &[Set],
         others: &[Set],
         quota: u64,
+        digits: u32,
     ) -> Result<Groups, Memory>
         requires list { IsHalf list.now }
         requires others { IsHalf others.now }
+        requires digits { digits ≤ 10 }
+        requires within { All (λ x. x.members < 2 ^ (digits + digits)) list.now }
         ensures { IfOk result (λ groups. (all all_others : List Set) → AreSets all list.now → AreSets all_others others.now
             → AreGroups quota all all_others groups) }
     {
-        let mut low = Table::new(alloc)?;
-        let mut high = Table::new(alloc)?;
+        let mut lows = Table::new(alloc, 1 << digits)?;
+        let mut highs = Table::new(alloc, 1 << digits)?;
         let mut fitting = Fitting::none(others);
         for set in list {
             fitting.let_in(others, quota.saturating_sub(set.weight));
-            low.add(set.members as usize % CHOICES, set.size as usize, &fitting);
-            high.add(set.members as usize / CHOICES, set.size as usize, &fitting);
+            lows.add(low(set.members, digits), set.size as usize, &fitting);
+            highs.add(high(set.members, digits), set.size as usize, &fitting);
         }
-        Ok(Groups { low, high })
+        Ok(Groups {
+            digits,
+            low: lows,
+            high: highs,
+        })
     }
 
-    /// How many there are without the member of a place, which is that of no member from 20 on.
+    /// How many there are without the member of a place, which may be behind the last.
     pub(crate) fn without(&self, place: usize) -> [u64; limits::SIZES]
         requires { HaveRows self.now }
-        ensures { (quota : ℕ) (all others : List Set) (s : ℕ) → AreGroups quota all others self.now
-            → All (λ x. x.members < 2 ^ 20) all → s ≤ MEMBERS
+        ensures { (quota : ℕ) (all others : List Set) (s : ℕ) → AreGroups quota all others self.now → s ≤ MEMBERS
             → slice_index result s ≡ sum_by (λ x. if has place x.members then 0 else met quota others s x) all }
     {
-        if place < HALF / 2 {
+        let digits = self.digits as usize;
+        if place < digits {
             self.low.without(place)
         } else {
-            self.high.without(place.min(HALF) - HALF / 2)
+            self.high.without((place - digits).min(digits))
         }
     }
 }

@@ -23,15 +23,24 @@ struct Pairs {
 }
 
 impl Pairs {
-    fn new(alloc: Global, first: &[Set], second: &[Set], quota: u64) -> Result<Pairs, Memory>
+    fn new(
+        alloc: Global,
+        first: &[Set],
+        second: &[Set],
+        quota: u64,
+        digits: u32,
+    ) -> Result<Pairs, Memory>
         requires first { IsHalf first.now }
         requires second { IsHalf second.now }
+        requires digits { digits ≤ 10 }
+        requires first_within { All (λ x. x.members < 2 ^ (digits + digits)) first.now }
+        requires second_within { All (λ x. x.members < 2 ^ (digits + digits)) second.now }
         ensures { IfOk result (λ pairs. (xs ys : List Set) → AreSets xs first.now → AreSets ys second.now
             → ArePairs quota xs ys pairs) }
     {
         Ok(Pairs {
-            first: Groups::new(alloc, first, second, quota)?,
-            second: Groups::new(alloc, second, first, quota)?,
+            first: Groups::new(alloc, first, second, quota, digits)?,
+            second: Groups::new(alloc, second, first, quota, digits)?,
         })
     }
 
@@ -39,12 +48,10 @@ impl Pairs {
     fn without(&self, front: usize, place: usize) -> [u64; limits::SIZES]
         requires first { HaveRows self.now.first }
         requires second { HaveRows self.now.second }
-        ensures first { (quota s : ℕ) (xs ys : List Set) → ArePairs quota xs ys self.now → All (λ x. x.members < 2 ^ 20) xs
-            → place < front → s ≤ MEMBERS
-            → slice_index result s ≡ sum_by (λ x. if has place x.members then 0 else met quota ys s x) xs }
-        ensures second { (quota s : ℕ) (xs ys : List Set) → ArePairs quota xs ys self.now → All (λ x. x.members < 2 ^ 20) ys
-            → front ≤ place → s ≤ MEMBERS
-            → slice_index result s ≡ sum_by (λ x. if has (place - front) x.members then 0 else met quota xs s x) ys }
+        ensures first { (quota s : ℕ) (xs ys : List Set) → ArePairs quota xs ys self.now → place < front
+            → s ≤ MEMBERS → slice_index result s ≡ sum_by (λ x. if has place x.members then 0 else met quota ys s x) xs }
+        ensures second { (quota s : ℕ) (xs ys : List Set) → ArePairs quota xs ys self.now → front ≤ place
+            → s ≤ MEMBERS → slice_index result s ≡ sum_by (λ x. if has (place - front) x.members then 0 else met quota xs s x) ys }
     {
         if place < front {
             self.first.without(place)
@@ -95,6 +102,7 @@ impl Halves {
         ensures are { IfOk result (AreHalves weights.now) }
     {
         let (front, back) = weights.split_at(weights.len() / 2);
+        let digits = ((back.len() + 1) / 2) as u32;
         let (mut first, mut second, mut spare) = (
             Vec::new(alloc),
             Vec::new(alloc),
@@ -102,11 +110,11 @@ impl Halves {
         );
         fill_sets(front, &mut first, &mut spare)?;
         fill_lost(back, &mut second, &mut spare)?;
-        let lost = Pairs::new(alloc, &first, &second, quota)?;
+        let lost = Pairs::new(alloc, &first, &second, quota, digits)?;
         fill_sets(back, &mut second, &mut spare)?;
-        let won = Pairs::new(alloc, &first, &second, quota)?;
+        let won = Pairs::new(alloc, &first, &second, quota, digits)?;
         fill_lost(front, &mut first, &mut spare)?;
-        let own = Groups::new(alloc, &first, &[NOBODY], quota)?;
+        let own = Groups::new(alloc, &first, &[NOBODY], quota, digits)?;
         Ok(Halves {
             quota,
             won,

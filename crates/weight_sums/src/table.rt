@@ -10,9 +10,6 @@ use crate::fitting::Fitting;
 use coalitions::{Memory, limits};
 use std::alloc::Global;
 
-/// So many choices ten members have.
-pub(crate) const CHOICES: usize = 1 << 10;
-
 /// Adds numbers by size to others.
 fn add_row(sum: &mut [u64; limits::SIZES], row: &[u64; limits::SIZES])
     requires { (s : ℕ) → s ≤ MEMBERS → slice_index sum.old s + slice_index row.now s < 2 ^ 64 }
@@ -23,20 +20,20 @@ fn add_row(sum: &mut [u64; limits::SIZES], row: &[u64; limits::SIZES])
     }
 }
 
-/// A row of numbers by size for each choice of ten members, whose key has the digit p 1 where the member of place p is in.
+/// A row of numbers by size for each choice of some members, whose key has the digit p 1 where the member of place p is in.
 #[derive(Drop)]
 pub(crate) struct Table {
     rows: Vec<[u64; limits::SIZES]>,
 }
 
 impl Table {
-    /// Nothing is counted.
-    pub(crate) fn new(alloc: Global) -> Result<Table, Memory>
-        ensures long { IfOk result (λ table. length table.rows.items ≡ 1024) }
+    /// So many rows in which nothing is counted.
+    pub(crate) fn new(alloc: Global, choices: usize) -> Result<Table, Memory>
+        ensures long { IfOk result (λ table. length table.rows.items ≡ choices) }
         ensures none { IfOk result (λ table. (key : Set → ℕ) (f : ℕ → Set → ℕ) → AreOfKeys key f [] table.rows.items) }
     {
-        let mut rows = Vec::with_capacity(alloc, CHOICES)?;
-        while rows.len() < CHOICES {
+        let mut rows = Vec::with_capacity(alloc, choices)?;
+        while rows.len() < choices {
             rows.push([0; limits::SIZES])?;
         }
         Ok(Table { rows })
@@ -44,12 +41,11 @@ impl Table {
 
     /// Counts in the row of a key those that fit, by size, where so many members are in front of them.
     pub(crate) fn add(&mut self, key: usize, size: usize, fitting: &Fitting)
-        requires long { length self.old.rows.items ≡ 1024 }
+        requires key { key < length self.old.rows.items }
         requires room { (k s : ℕ) → s ≤ MEMBERS → slice_index (slice_index_or self.old.rows.items k []) s < 2 ^ 63 }
-        requires key { key < 1024 }
         requires size { size ≤ 20 }
         requires few { (j : ℕ) → slice_index fitting.now.here j ≤ 2 ^ 20 }
-        ensures long { length self.new.rows.items ≡ 1024 }
+        ensures long { length self.new.rows.items ≡ length self.old.rows.items }
         ensures row { (k s : ℕ) → s ≤ MEMBERS → slice_index (slice_index_or self.new.rows.items k []) s
             ≡ slice_index (slice_index_or self.old.rows.items k []) s
             + (if k == key then (if nat_le size s then slice_index fitting.now.here (s - size) else 0) else 0) }
@@ -62,11 +58,11 @@ impl Table {
         requires rows { HasRows self.now.rows.items }
         requires place { place ≤ 20 }
         ensures { (key : Set → ℕ) (f : ℕ → Set → ℕ) (xs : List Set) (s : ℕ) → AreOfKeys key f xs self.now.rows.items
-            → All (λ x. key x < 1024) xs → s ≤ MEMBERS
+            → All (λ x. key x < length self.now.rows.items) xs → s ≤ MEMBERS
             → slice_index result s ≡ sum_by (λ x. if has place (key x) then 0 else f s x) xs }
     {
         let mut sum = [0; limits::SIZES];
-        for key in 0..CHOICES {
+        for key in 0..self.rows.len() {
             if (key >> place) % 2 != 1 {
                 add_row(&mut sum, &self.rows[key]);
             }

@@ -1,24 +1,29 @@
 -- How many pairs of sets meet a quota, by the members of the one.
-use Rattle.std.specs.Prelude.{ℕ, ◌/◌, ◌%◌, List}
+use Rattle.std.specs.Prelude.{ℕ, ◌+◌, ◌/◌, ◌%◌, ◌^◌, ◌<◌, ◌≤◌, ◌≡◌, List, length}
+use Rattle.std.specs.List.{All}
 use Rattle.weight_sums.specs.declared.sets.Set.{Set}
 use Rattle.weight_sums.specs.declared.groups.Groups.{Groups}
 use Rattle.weight_sums.specs.Inner.Sets.{met}
 use Rattle.weight_sums.specs.Inner.Tables.{AreOfKeys, HasRows}
 
--- which of the first ten members are in a set, and which of the others
-abbrev pub low : Set → ℕ
-low x = x.members % 1024
+-- which of the first members are in a set, of as many as there are digits, and which of the others
+abbrev pub low_of : ℕ → Set → ℕ
+low_of digits x = x.members % 2 ^ digits
 
-abbrev pub high : Set → ℕ
-high x = x.members / 1024
+abbrev pub high_of : ℕ → Set → ℕ
+high_of digits x = x.members / 2 ^ digits
 
--- rows for the choices of the first ten members, and of the others
+-- rows for the choices of the first members, and for those of the others, who are as many
 pub record HaveRows (g : Groups) : Type 0 where
+  pub digits : g.digits ≤ 10
+  pub low_long : length g.low.rows.items ≡ 2 ^ g.digits
+  pub high_long : length g.high.rows.items ≡ 2 ^ g.digits
   pub low_rows : HasRows g.low.rows.items
   pub high_rows : HasRows g.high.rows.items
 
 -- for each choice: how many of these sets meet a quota together with a set that has it
 pub record AreGroups (quota : ℕ) (xs others : List Set) (g : Groups) : Type 0 where
   pub rows : HaveRows g
-  pub low_is : AreOfKeys low (met quota others) xs g.low.rows.items
-  pub high_is : AreOfKeys high (met quota others) xs g.high.rows.items
+  pub within : All (λ x. x.members < 2 ^ (g.digits + g.digits)) xs
+  pub low_is : AreOfKeys (low_of g.digits) (met quota others) xs g.low.rows.items
+  pub high_is : AreOfKeys (high_of g.digits) (met quota others) xs g.high.rows.items

@@ -1,5 +1,5 @@
 -- Sets of some members, and how many of them meet a need.
-use Rattle.std.specs.Prelude.{ℕ, ◌+◌, ◌-◌, ◌*◌, ◌/◌, ◌%◌, ◌==◌, ◌≤◌, ◌<◌, ◌^◌, ◌≡◌, Bool, if◌then◌else◌, nat_le, List, [], ◌∷◌, ◌++◌, length, map, sum_by}
+use Rattle.std.specs.Prelude.{ℕ, ◌+◌, ◌-◌, ◌*◌, ◌/◌, ◌%◌, ◌==◌, ◌≤◌, ◌^◌, ◌≡◌, Bool, if◌then◌else◌, nat_le, List, [], ◌∷◌, ◌++◌, length, map, sum_by}
 use Rattle.std.specs.List.{All, AllPairs}
 use Rattle.weight_sums.specs.declared.sets.Set.{Set}
 use Rattle.weight_sums.specs.Endings.{one_of_size}
@@ -59,4 +59,3 @@ pub record IsHalf (xs : List Set) : Type 0 where
   pub ascend : Ascend xs
   pub long : length xs ≤ 2 ^ 20
   pub sizes : All (λ x. x.size ≤ 20) xs
-  pub members : All (λ x. x.members < 2 ^ 20) xs

@@ -1,11 +1,11 @@
--- Numbers by size for each choice of ten members.
+-- Numbers by size for each choice of some members.
 use Rattle.std.specs.Prelude.{ℕ, ◌==◌, ◌≤◌, ◌^◌, ◌≡◌, if◌then◌else◌, List, [], length, slice_index, slice_index_or, sum_by}
 use Rattle.coalitions.specs.declared.limits.TheConstants.{MEMBERS}
 use Rattle.weight_sums.specs.declared.sets.Set.{Set}
 
--- a row for each choice, with room for more
+-- a row for each choice of at most ten members, with room for more
 pub record HasRows (rows : List (List ℕ)) : Type 0 where
-  pub long : length rows ≡ 1024
+  pub long : length rows ≤ 2 ^ 10
   pub few : (k s : ℕ) → s ≤ MEMBERS → slice_index (slice_index_or rows k []) s ≤ 2 ^ 40
 
 -- the row of each key has the numbers of the sets with it, added

@@ -1,7 +1,6 @@
-use Rattle.std.proofs.Common.{◌/◌, ◌≤◌, ℕ, List, [], ◌∷◌, get_or, length, take, drop, refl, arith, length-take, length-drop}
+use Rattle.std.proofs.Common.{◌/◌, ◌≤◌, ℕ, List, [], ◌∷◌, get_or, length, take, drop, refl}
 use Rattle.weight_sums.specs.Endings.{left_out}
-use Rattle.weight_sums.specs.Inner.Sets.{nobody, alone, sets_of, lost_of}
-use Rattle.weight_sums.proofs.SetLists.{members-few, sets-start, lost-start}
+use Rattle.weight_sums.specs.Inner.Sets.{nobody, sets_of, lost_of}
 use Rattle.weight_sums.proofs.HalfSums.{AreMet, halves-met, enough-won, left-is}
 use Rattle.weight_sums.proofs.halves.Halves.endings_without.Goals as goal
 use Rattle.weight_sums.proofs.halves.Halves.endings_without.Goals.{After-without-own}
@@ -14,18 +13,12 @@ met-at c s small =
     let q : ℕ = c.args.self.now.quota in
     let fr : List ℕ = take (length ws / 2) ws in
     let bk : List ℕ = drop (length ws / 2) ws in
-    let few : length fr ≤ 20 = (let l = length-take (length ws / 2) ws in omega (arith, l, c.requires.few)) in
-    let also : length bk ≤ 20 = (let l = length-drop (length ws / 2) ws in omega (arith, l, c.requires.few)) in
-    let of_first = members-few (nobody ∷ []) [] fr sets-start few in
-    let of_second = members-few (nobody ∷ []) [] bk sets-start also in
-    let of_lost = members-few [] (alone ∷ []) bk lost-start also in
-    let of_own = members-few [] (alone ∷ []) fr lost-start few in
     halves-met ws c.args.place (length ws / 2) q s _ _ _ refl
-    (λ less. c.without-won.ensures.first q s (sets_of fr) (sets_of bk) c.requires.halves.won of_first less small)
-    (λ past. c.without-won.ensures.second q s (sets_of fr) (sets_of bk) c.requires.halves.won of_second past small)
-    (λ less. c.without-lost.ensures.first q s (sets_of fr) (lost_of bk) c.requires.halves.lost of_first less small)
-    (λ past. c.without-lost.ensures.second q s (sets_of fr) (lost_of bk) c.requires.halves.lost of_lost past small)
-    (c.without-own.ensures q (lost_of fr) (nobody ∷ []) s c.requires.halves.own of_own small)
+    (λ less. c.without-won.ensures.first q s (sets_of fr) (sets_of bk) c.requires.halves.won less small)
+    (λ past. c.without-won.ensures.second q s (sets_of fr) (sets_of bk) c.requires.halves.won past small)
+    (λ less. c.without-lost.ensures.first q s (sets_of fr) (lost_of bk) c.requires.halves.lost less small)
+    (λ past. c.without-lost.ensures.second q s (sets_of fr) (lost_of bk) c.requires.halves.lost past small)
+    (c.without-own.ensures q (lost_of fr) (nobody ∷ []) s c.requires.halves.own small)
 
 pub left_of-requires-clause-fewer : goal.left_of-requires-clause-fewer
 left_of-requires-clause-fewer c s above small = enough-won _ c.args.heads _ s _ _ _ (met-at (goal.at.left_of-requires-clause-fewer c).After-without-own s small) c.requires.some above

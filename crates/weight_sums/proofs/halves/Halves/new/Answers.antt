@@ -1,7 +1,7 @@
 use Rattle.std.proofs.Common.{◌≡◌, ◌/◌, ℕ, List, [], ◌∷◌, length, take, drop, sym, subst, arith}
 use Rattle.weight_sums.specs.declared.sets.Set.{Set}
 use Rattle.weight_sums.specs.Inner.Sets.{AreSets, nobody, alone, sets_of, lost_of}
-use Rattle.weight_sums.proofs.SetLists.{half-is, sets-start, lost-start, one-alone}
+use Rattle.weight_sums.proofs.SetLists.{half-is, members-most, sets-start, lost-start, one-alone}
 use Rattle.weight_sums.proofs.halves.Halves.new.Goals as goal
 
 -- a list and what it is a copy of
@@ -32,6 +32,30 @@ pub new-requires-3-clause-list : goal.new-requires-3-clause-list
 new-requires-3-clause-list c =
     half-is [] (alone ∷ []) _ lost-start _ (copied _ _ _ c.deref-5.ensures.value c.in_ok-fill_lost-2.ensures)
     (let l = c.split_at.ensures.front_len in omega (arith, l, c.requires.few))
+
+-- the sets of a half have at most as many members as there are two digits for
+pub new-requires-clause-first_within : goal.new-requires-clause-first_within
+new-requires-clause-first_within c =
+    members-most (nobody ∷ []) [] _ sets-start _ (copied _ _ _ c.deref.ensures.value c.in_ok-fill_sets.ensures) _
+    (let l = c.split_at.ensures.front_len in let m = c.split_at.ensures.back_len in omega (arith, l, m))
+
+pub new-requires-clause-second_within : goal.new-requires-clause-second_within
+new-requires-clause-second_within c =
+    members-most [] (alone ∷ []) _ lost-start _ (copied _ _ _ c.deref-2.ensures.value c.in_ok-fill_lost.ensures) _ (omega arith)
+
+pub new-requires-2-clause-first_within : goal.new-requires-2-clause-first_within
+new-requires-2-clause-first_within c =
+    members-most (nobody ∷ []) [] _ sets-start _ (copied _ _ _ c.deref-3.ensures.value c.in_ok-fill_sets.ensures) _
+    (let l = c.split_at.ensures.front_len in let m = c.split_at.ensures.back_len in omega (arith, l, m))
+
+pub new-requires-2-clause-second_within : goal.new-requires-2-clause-second_within
+new-requires-2-clause-second_within c =
+    members-most (nobody ∷ []) [] _ sets-start _ (copied _ _ _ c.deref-4.ensures.value c.in_ok-fill_sets-2.ensures) _ (omega arith)
+
+pub new-requires-3-clause-within : goal.new-requires-3-clause-within
+new-requires-3-clause-within c =
+    members-most [] (alone ∷ []) _ lost-start _ (copied _ _ _ c.deref-5.ensures.value c.in_ok-fill_lost-2.ensures) _
+    (let l = c.split_at.ensures.front_len in let m = c.split_at.ensures.back_len in omega (arith, l, m))
 
 pub returns-clause-are : goal.returns-clause-are
 returns-clause-are c =

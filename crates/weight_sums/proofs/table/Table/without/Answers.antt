@@ -23,13 +23,12 @@ add_row-requires c s small =
     let few = c.requires.rows.few c.loop-key.key s small in
     let long = c.requires.rows.long in
     let row = row-of c.args.self.now.rows.items c.loop-key.key s c.index.result.now c.index.result.now
-    (omega (arith, long, c.loop-key-test.true)) c.index.ensures in
-    omega (arith, room, few, row, c.loop-key-test.true)
+    (omega (arith, c.len-key-end.ensures, c.loop-key-test.true)) c.index.ensures in
+    omega (arith, room, few, row, c.len-key-end.ensures, long, c.loop-key-test.true)
 
 pub loop-key-preserved : goal.loop-key-preserved
 loop-key-preserved c =
-    let long = c.requires.rows.long in
-    let lt : c.loop-key.key < length c.args.self.now.rows.items = omega (arith, long, c.loop-key-test.true) in
+    let lt : c.loop-key.key < length c.args.self.now.rows.items = omega (arith, c.len-key-end.ensures, c.loop-key-test.true) in
     let few = c.requires.rows.few c.loop-key.key in
     elim c.if-key-place-ne1.branch [
       | then-key-place-ne1 w ↦ record {
@@ -60,4 +59,5 @@ loop-key-preserved c =
 pub returns : goal.returns
 returns c key f xs s are keys small =
     c.loop-key.invariant.added key f xs s are small
-    ∙ added-all c.loop-key.key c.args.place key (f s) xs keys c.loop-key-test.false
+    ∙ added-all (length c.args.self.now.rows.items) c.loop-key.key c.args.place key (f s) xs keys
+    (let l = c.len-key-end.ensures in omega (arith, l, c.loop-key-test.false))
