@@ -109,10 +109,10 @@ impl Halves {
             Vec::new(alloc),
         );
         fill_sets(front, &mut first, &mut spare)?;
-        fill_lost(back, &mut second, &mut spare)?;
-        let lost = Pairs::new(alloc, &first, &second, quota, digits)?;
         fill_sets(back, &mut second, &mut spare)?;
         let won = Pairs::new(alloc, &first, &second, quota, digits)?;
+        fill_lost(back, &mut second, &mut spare)?;
+        let lost = Pairs::new(alloc, &first, &second, quota, digits)?;
         fill_lost(front, &mut first, &mut spare)?;
         let own = Groups::new(alloc, &first, &[NOBODY], quota, digits)?;
         Ok(Halves {

@@ -15,7 +15,7 @@ new-requires-clause-first c =
 
 pub new-requires-clause-second : goal.new-requires-clause-second
 new-requires-clause-second c =
-    half-is [] (alone ∷ []) _ lost-start _ (copied _ _ _ c.deref-2.ensures.value c.in_ok-fill_lost.ensures)
+    half-is (nobody ∷ []) [] _ sets-start _ (copied _ _ _ c.deref-2.ensures.value c.in_ok-fill_sets-2.ensures)
     (let l = c.split_at.ensures.back_len in omega (arith, l, c.requires.few))
 
 pub new-requires-2-clause-first : goal.new-requires-2-clause-first
@@ -25,7 +25,7 @@ new-requires-2-clause-first c =
 
 pub new-requires-2-clause-second : goal.new-requires-2-clause-second
 new-requires-2-clause-second c =
-    half-is (nobody ∷ []) [] _ sets-start _ (copied _ _ _ c.deref-4.ensures.value c.in_ok-fill_sets-2.ensures)
+    half-is [] (alone ∷ []) _ lost-start _ (copied _ _ _ c.deref-4.ensures.value c.in_ok-fill_lost.ensures)
     (let l = c.split_at.ensures.back_len in omega (arith, l, c.requires.few))
 
 pub new-requires-3-clause-list : goal.new-requires-3-clause-list
@@ -41,7 +41,7 @@ new-requires-clause-first_within c =
 
 pub new-requires-clause-second_within : goal.new-requires-clause-second_within
 new-requires-clause-second_within c =
-    members-most [] (alone ∷ []) _ lost-start _ (copied _ _ _ c.deref-2.ensures.value c.in_ok-fill_lost.ensures) _ (omega arith)
+    members-most (nobody ∷ []) [] _ sets-start _ (copied _ _ _ c.deref-2.ensures.value c.in_ok-fill_sets-2.ensures) _ (omega arith)
 
 pub new-requires-2-clause-first_within : goal.new-requires-2-clause-first_within
 new-requires-2-clause-first_within c =
@@ -50,7 +50,7 @@ new-requires-2-clause-first_within c =
 
 pub new-requires-2-clause-second_within : goal.new-requires-2-clause-second_within
 new-requires-2-clause-second_within c =
-    members-most (nobody ∷ []) [] _ sets-start _ (copied _ _ _ c.deref-4.ensures.value c.in_ok-fill_sets-2.ensures) _ (omega arith)
+    members-most [] (alone ∷ []) _ lost-start _ (copied _ _ _ c.deref-4.ensures.value c.in_ok-fill_lost.ensures) _ (omega arith)
 
 pub new-requires-3-clause-within : goal.new-requires-3-clause-within
 new-requires-3-clause-within c =
@@ -65,16 +65,16 @@ returns-clause-are c =
     record {
       won =
           c.in_ok-won.ensures (sets_of (take (length ws / 2) ws)) (sets_of (drop (length ws / 2) ws))
-          (subst (λ (l : List ℕ). AreSets (sets_of l) c.deref-3.result.now) front
-          (copied _ _ _ c.deref-3.ensures.value c.in_ok-fill_sets.ensures))
-          (subst (λ (l : List ℕ). AreSets (sets_of l) c.deref-4.result.now) back
-          (copied _ _ _ c.deref-4.ensures.value c.in_ok-fill_sets-2.ensures));
-      lost =
-          c.in_ok-lost.ensures (sets_of (take (length ws / 2) ws)) (lost_of (drop (length ws / 2) ws))
           (subst (λ (l : List ℕ). AreSets (sets_of l) c.deref.result.now) front
           (copied _ _ _ c.deref.ensures.value c.in_ok-fill_sets.ensures))
-          (subst (λ (l : List ℕ). AreSets (lost_of l) c.deref-2.result.now) back
-          (copied _ _ _ c.deref-2.ensures.value c.in_ok-fill_lost.ensures));
+          (subst (λ (l : List ℕ). AreSets (sets_of l) c.deref-2.result.now) back
+          (copied _ _ _ c.deref-2.ensures.value c.in_ok-fill_sets-2.ensures));
+      lost =
+          c.in_ok-lost.ensures (sets_of (take (length ws / 2) ws)) (lost_of (drop (length ws / 2) ws))
+          (subst (λ (l : List ℕ). AreSets (sets_of l) c.deref-3.result.now) front
+          (copied _ _ _ c.deref-3.ensures.value c.in_ok-fill_sets.ensures))
+          (subst (λ (l : List ℕ). AreSets (lost_of l) c.deref-4.result.now) back
+          (copied _ _ _ c.deref-4.ensures.value c.in_ok-fill_lost.ensures));
       own =
           c.in_ok-own.ensures (lost_of (take (length ws / 2) ws)) (nobody ∷ [])
           (subst (λ (l : List ℕ). AreSets (lost_of l) c.deref-5.result.now) front
