@@ -51,8 +51,8 @@ impl Groups {
         requires others { IsHalf others.now }
         requires digits { digits ≤ 10 }
         requires within { All (λ x. x.members < 2 ^ (digits + digits)) list.now }
-        ensures { IfOk result (λ groups. (all all_others : List Set) → AreSets all list.now → AreSets all_others others.now
-            → AreGroups quota all all_others groups) }
+        ensures { IfOk result (λ groups. (all all_others : List Set) → AreSets all list.now
+            → AreSets all_others others.now → AreGroups quota all all_others groups) }
     {
         let mut lows = Table::new(alloc, 1 << digits)?;
         let mut highs = Table::new(alloc, 1 << digits)?;
@@ -72,8 +72,8 @@ impl Groups {
     /// How many there are without the member of a place, which may be behind the last.
     pub(crate) fn without(&self, place: usize) -> [u64; limits::SIZES]
         requires { HaveRows self.now }
-        ensures { (quota : ℕ) (all others : List Set) (s : ℕ) → AreGroups quota all others self.now → s ≤ MEMBERS
-            → slice_index result s ≡ sum_by (λ x. if has place x.members then 0 else met quota others s x) all }
+        ensures { (quota : ℕ) (all others : List Set) (s : ℕ) → AreGroups quota all others self.now
+            → s ≤ MEMBERS → slice_index result s ≡ sum_by (λ x. if has place x.members then 0 else met quota others s x) all }
     {
         let digits = self.digits as usize;
         if place < digits {

@@ -70,7 +70,8 @@ fn left_of(
     heads: usize,
 ) -> [u64; limits::SIZES]
     requires heads { heads ≤ MEMBERS }
-    requires fewer { (s : ℕ) → heads < s → s ≤ MEMBERS → slice_index lost.now s + slice_index own.now s ≤ slice_index won.now s }
+    requires fewer { (s : ℕ) → heads < s → s ≤ MEMBERS
+        → slice_index lost.now s + slice_index own.now s ≤ slice_index won.now s }
     ensures { AreLeft heads won.now lost.now own.now result }
 {
     let mut sizes = [0; limits::SIZES];

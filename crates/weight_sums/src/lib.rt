@@ -6,8 +6,8 @@
 //! ```
 //!
 //! `row`, `rows` and `tallies` go from member to member and put together what misses as much: they serve where few
-//! needs are open. `sets`, `fitting` and `halves` count from the sets of the heavier and of the lighter half of the
-//! members, whatever their weights. `mwc_sums` says which games these are the counts of.
+//! needs are open. `sets`, `fitting`, `table`, `groups` and `halves` count pairs of sets of the heavier and of the lighter
+//! half of the members, whatever their weights. `mwc_sums` says which games these are the counts of.
 #![tactic(auto)]
 
 mod by_size;

@@ -30,7 +30,8 @@ impl Table {
     /// So many rows in which nothing is counted.
     pub(crate) fn new(alloc: Global, choices: usize) -> Result<Table, Memory>
         ensures long { IfOk result (λ table. length table.rows.items ≡ choices) }
-        ensures none { IfOk result (λ table. (key : Set → ℕ) (f : ℕ → Set → ℕ) → AreOfKeys key f [] table.rows.items) }
+        ensures none { IfOk result (λ table. (key : Set → ℕ) (f : ℕ → Set → ℕ)
+            → AreOfKeys key f [] table.rows.items) }
     {
         let mut rows = Vec::with_capacity(alloc, choices)?;
         while rows.len() < choices {
@@ -42,7 +43,8 @@ impl Table {
     /// Counts in the row of a key those that fit, by size, where so many members are in front of them.
     pub(crate) fn add(&mut self, key: usize, size: usize, fitting: &Fitting)
         requires key { key < length self.old.rows.items }
-        requires room { (k s : ℕ) → s ≤ MEMBERS → slice_index (slice_index_or self.old.rows.items k []) s < 2 ^ 63 }
+        requires room { (k s : ℕ) → s ≤ MEMBERS
+            → slice_index (slice_index_or self.old.rows.items k []) s < 2 ^ 63 }
         requires size { size ≤ 20 }
         requires few { (j : ℕ) → slice_index fitting.now.here j ≤ 2 ^ 20 }
         ensures long { length self.new.rows.items ≡ length self.old.rows.items }
@@ -57,8 +59,8 @@ impl Table {
     pub(crate) fn without(&self, place: usize) -> [u64; limits::SIZES]
         requires rows { HasRows self.now.rows.items }
         requires place { place ≤ 20 }
-        ensures { (key : Set → ℕ) (f : ℕ → Set → ℕ) (xs : List Set) (s : ℕ) → AreOfKeys key f xs self.now.rows.items
-            → All (λ x. key x < length self.now.rows.items) xs → s ≤ MEMBERS
+        ensures { (key : Set → ℕ) (f : ℕ → Set → ℕ) (xs : List Set) (s : ℕ)
+            → AreOfKeys key f xs self.now.rows.items → All (λ x. key x < length self.now.rows.items) xs → s ≤ MEMBERS
             → slice_index result s ≡ sum_by (λ x. if has place (key x) then 0 else f s x) xs }
     {
         let mut sum = [0; limits::SIZES];
