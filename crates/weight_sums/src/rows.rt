@@ -1,9 +1,8 @@
 //! Rows of prefixes, one member after another.
-ghost use Rattle.std.specs.Prelude.{◌≡◌, ℕ, ◌+◌, ◌-◌, ◌*◌, ◌<◌, ◌≤◌, ◌^◌, IfOk, List, [], ◌∷◌, true, length, sum, slice_index, drop};
+ghost use Rattle.std.specs.Prelude.{◌≡◌, ℕ, ◌+◌, ◌-◌, ◌<◌, ◌≤◌, ◌^◌, IfOk, List, [], ◌∷◌, true, length, slice_index, sum, drop};
 ghost use Rattle.std.specs.List.{All};
 ghost use Rattle.coalitions.specs.declared.limits.TheConstants.{MEMBERS};
-ghost use Rattle.weight_sums.specs.Endings.{endings};
-ghost use Rattle.weight_sums.specs.Inner.Rows.{AreOfPrefixes, prefixes, weigh};
+ghost use Rattle.weight_sums.specs.Inner.Rows.{AreOfPrefixes, at_most, come_to};
 
 use crate::choices::Heads;
 use crate::row::{Open, merge, still_open, with_member};
@@ -71,16 +70,12 @@ impl Rows {
     ) -> Result<(), Memory>
         requires left { left < MEMBERS }
         requires sizes { All (λ o. o.size < MEMBERS) self.old.row.items }
-        requires room { (s : ℕ) → s ≤ MEMBERS
-            → slice_index done.old s + prefixes self.old.row.items * 2 ^ (left + 1) < 2 ^ 64 }
-        ensures counted { IfOk result (λ _. (ws : List ℕ) (s : ℕ) → sum ws ≤ rest
-            → length ws ≡ left → s ≤ MEMBERS
-            → slice_index done.new s + weigh (endings ws heads.now.asked s) self.new.row.items
-            ≡ slice_index done.old s
-            + weigh (endings (weight ∷ ws) heads.now.asked s) self.old.row.items) }
+        requires room { (s : ℕ) → s ≤ MEMBERS → at_most s (left + 1) done.old self.old.row.items < 2 ^ 64 }
+        ensures counted { IfOk result (λ _. (ws : List ℕ) (s : ℕ) → sum ws ≤ rest → length ws ≡ left → s ≤ MEMBERS
+            → come_to heads.now.asked s ws done.new self.new.row.items
+            ≡ come_to heads.now.asked s (weight ∷ ws) done.old self.old.row.items) }
         ensures few { IfOk result (λ _. (s : ℕ) → s ≤ MEMBERS
-            → slice_index done.new s + prefixes self.new.row.items * 2 ^ left
-            ≤ slice_index done.old s + prefixes self.old.row.items * 2 ^ (left + 1)) }
+            → at_most s left done.new self.new.row.items ≤ at_most s (left + 1) done.old self.old.row.items) }
         ensures sizes { IfOk result (λ _. (p : ℕ) → All (λ o. o.size ≤ p) self.old.row.items
             → All (λ o. o.size ≤ p + 1) self.new.row.items) }
     {
@@ -106,8 +101,7 @@ impl Rows {
         requires row { AreOfPrefixes place (length weights.now - place) done.old
             self.old.row.items }
         ensures { IfOk result (λ full. full ≡ true → (s : ℕ) → s ≤ MEMBERS → slice_index done.new s ≡
-            slice_index done.old s
-            + weigh (endings (drop place weights.now) heads.now.asked s) self.old.row.items) }
+            come_to heads.now.asked s (drop place weights.now) done.old self.old.row.items) }
     {
         let mut rest = rest;
         let mut room = room_for(weights.len());
