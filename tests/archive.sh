@@ -148,6 +148,37 @@ if [ "$status" -eq 0 ] && [ "$(find "$temp/home/.local" -type f)" = "$temp/home/
 else
     failed "$name" "status $status: $(head -n 1 "$temp/err") $(find "$temp/home/.local" -type f | head -n 2 | tr '\n' ' ')"
 fi
+name="what an earlier version has put there goes"
+as_user sh -c '"$1/install.sh" && cd "$HOME/.local" && echo old >share/doc/council/OLD && echo share/doc/council/OLD >list && cat share/doc/council/FILES >>list &&
+    mv list share/doc/council/FILES && "$1/install.sh" && [ ! -e share/doc/council/OLD ] && "$1/install.sh" --uninstall' sh "$here" >"$temp/out" 2>"$temp/err"
+status=$?
+if [ "$status" -eq 0 ] && [ "$(find "$temp/home/.local" -type f)" = "$temp/home/.local/bin/other" ]; then
+    ok "$name"
+else
+    failed "$name" "status $status: $(head -n 1 "$temp/err") $(find "$temp/home/.local" -type f | head -n 2 | tr '\n' ' ')"
+fi
+name="an install that fails half-way is taken out"
+as_user sh -c 'mkdir -p "$HOME/half/share/man" && echo other >"$HOME/half/share/man/man1" && ! "$1/install.sh" "$HOME/half" && [ -e "$HOME/half/bin/council" ] &&
+    "$1/install.sh" --uninstall "$HOME/half"' sh "$here" >"$temp/out" 2>"$temp/err"
+status=$?
+if [ "$status" -eq 0 ] && [ "$(find "$temp/home/half" -type f)" = "$temp/home/half/share/man/man1" ]; then
+    ok "$name"
+else
+    failed "$name" "status $status: $(head -n 1 "$temp/err") $(find "$temp/home/half" -type f | head -n 2 | tr '\n' ' ')"
+fi
+name="what is installed is for all users"
+as_user sh -c 'umask 077 && "$1/install.sh" "$HOME/all"' sh "$here" >"$temp/out" 2>"$temp/err"
+closed=$(find "$temp/home/all" ! -perm -044 -o -type d ! -perm -055)
+if [ -z "$closed" ] && [ -x "$temp/home/all/bin/council" ]; then ok "$name"; else failed "$name" "$(echo "$closed" | head -n 2 | tr '\n' ' ')"; fi
+name="words that install.sh does not know"
+wrong=
+for words in "/usr --uninstall" "--help" "--uninstall -x" "one two" "--uninstall one two"; do
+    # shellcheck disable=SC2086
+    (cd "$temp/home" && DESTDIR=$temp/home/none as_user "$here/install.sh" $words) >"$temp/out" 2>"$temp/err"
+    status=$?
+    [ "$status" -eq 2 ] && grep -q '^usage: ' "$temp/err" || wrong="$wrong; $words: status $status"
+done
+if [ -z "$wrong" ] && [ ! -e "$temp/home/none" ] && [ ! -e "$temp/home/one" ]; then ok "$name"; else failed "$name" "${wrong#; }"; fi
 name="what is not installed is not taken out"
 as_user "$here/install.sh" --uninstall "$temp/home/nowhere" >"$temp/out" 2>"$temp/err"
 status=$?

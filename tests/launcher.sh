@@ -114,6 +114,20 @@ said "an empty program is told" 'the program is not whole'
 printf '#!/bin/sh\necho bui' >"$copy/crates/council/out/council"
 use
 asked_for "a truncated program is built again" "lib:low lib:high run version "
+rm "$copy/crates/council/out/council"
+mkdir "$copy/crates/council/out/council"
+use
+asked_for "a folder in place of the program gives way to it" "lib:low lib:high run version "
+name="which is told first"
+if head -n 1 "$temp/err" | grep -q 'council: the program is not whole'; then ok "$name"; else failed "$name" "$(head -n 1 "$temp/err")"; fi
+name="what the environment calls top, out and why is not taken"
+: >"$temp/asked"
+top=/a out=/b program=/c built=/d asked=/e why=first self=/f folder=/g PATH=$kit:$PATH timeout "$seconds" "$copy/council" >"$temp/out" 2>"$temp/err" </dev/null
+status=$?
+asked_for "$name" ""
+name="nor by built.sh"
+found=$(top=/a out=/b PATH=$kit:$PATH sh "$copy/tools/built.sh" why)
+if [ -z "$found" ]; then ok "$name"; else failed "$name" "built.sh says: $found"; fi
 # one of which nothing was kept, as `rt ci` leaves it
 left=$temp/left
 mkdir -p "$left/crates/council/src" "$left/crates/council/out"

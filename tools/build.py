@@ -531,6 +531,9 @@ def main():
             bring_back(name)
         shutil.rmtree(ROOMS, ignore_errors=True)
     os.makedirs(ROOMS)
+    if goal == PROGRAM and os.path.isdir(f"{OUT}/{PROGRAM}"):
+        # what is no file stands in the way of the program
+        shutil.rmtree(f"{OUT}/{PROGRAM}")
     sources = built("sources")
     keeps = "--keep" in words or not kit() or any(os.path.isdir(f"{TOP}/crates/{it}/out/incremental") for it in names)
     try:

@@ -8,7 +8,9 @@
 #
 # What is kept stands in crates/council/out/built: the sum of the sources, the length and the sum of the program,
 # and the toolchain. Where it cannot be written it is not kept.
-[ -n "${top-}" ] || top=$(CDPATH='' cd -P -- "$(dirname -- "$0")/.." >/dev/null && pwd -P) || exit 1
+case ${0##*/} in
+built.sh) top=$(CDPATH='' cd -P -- "$(dirname -- "$0")/.." >/dev/null && pwd -P && echo .) && top=${top%??} || exit 1 ;;
+esac
 out=$top/crates/council/out
 program=$out/council
 built=$out/built
@@ -79,7 +81,7 @@ has_same_toolchain() {
 why() {
     if ! [ -e "$program" ]; then
         echo first
-    elif ! [ -x "$program" ] || ! [ -s "$program" ]; then
+    elif ! [ -f "$program" ] || ! [ -x "$program" ] || ! [ -s "$program" ]; then
         echo whole
     elif ! [ -e "$built" ]; then
         is_taken || echo whole

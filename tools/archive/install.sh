@@ -7,16 +7,18 @@
 # PREFIX is ~/.local where none is named. With DESTDIR all goes below that folder, for whoever makes a package. The program goes to
 # bin, the library for other languages to lib and include, the manual page and the completions to share, the documents and
 # examples to share/doc/council, where a list of all files stands, FILES; --uninstall takes these out, and the folders that are
-# then empty.
+# then empty. What an earlier install has put there is taken out first, and where one is stopped half-way, FILES has what was put by then.
 set -eu
+# what is installed is for all users
+umask 022
 here=$(CDPATH='' cd -P -- "$(dirname -- "$0")" >/dev/null && pwd -P)
 uninstall=
 if [ "${1-}" = --uninstall ]; then
     uninstall=1
     shift
 fi
-case ${1-} in
--* | ?*" "-*)
+case $#${1-} in
+[01]-* | [!01]*)
     echo "usage: ./install.sh [--uninstall] [PREFIX]" >&2
     exit 2
     ;;
@@ -33,13 +35,9 @@ esac
 root=${DESTDIR-}$prefix
 doc=share/doc/council
 
-if [ -n "$uninstall" ]; then
-    if ! [ -f "$root/$doc/FILES" ]; then
-        echo "install.sh: nothing is installed in $root" >&2
-        exit 1
-    fi
-    cp "$root/$doc/FILES" "${TMPDIR:-/tmp}/council-files.$$"
-    trap 'rm -f "${TMPDIR:-/tmp}/council-files.$$"' EXIT
+# Takes out what FILES names, itself the last.
+take_out() {
+    old=$(cat "$root/$doc/FILES")
     while IFS= read -r file; do
         rm -f "$root/$file"
         folder=${file%/*}
@@ -50,7 +48,17 @@ if [ -n "$uninstall" ]; then
             *) break ;;
             esac
         done
-    done <"${TMPDIR:-/tmp}/council-files.$$"
+    done <<END
+$old
+END
+}
+
+if [ -n "$uninstall" ]; then
+    if ! [ -f "$root/$doc/FILES" ]; then
+        echo "install.sh: nothing is installed in $root" >&2
+        exit 1
+    fi
+    take_out
     echo "council was taken out of $root"
     exit
 fi
@@ -59,16 +67,23 @@ if ! [ -x "$here/council" ]; then
     echo "install.sh: there is no program beside it" >&2
     exit 1
 fi
+if [ -f "$root/$doc/FILES" ]; then take_out; fi
+mkdir -p "$root/$doc"
 files=
+# (also where it is stopped half-way)
+trap 'printf "%s%s\n" "$files" "$doc/FILES" >"$root/$doc/FILES"' EXIT
+trap 'exit 130' INT
+trap 'exit 143' TERM
+trap 'exit 129' HUP
 # put FILE PLACE MODE: puts a file of the archive in its place
 put() {
+    files="$files$2
+"
     mkdir -p "$root/${2%/*}"
     # (a program that runs can't be written to)
     rm -f "$root/$2"
     cp "$here/$1" "$root/$2"
     chmod "$3" "$root/$2"
-    files="$files$2
-"
 }
 put council bin/council 755
 put docs/council.1 share/man/man1/council.1 644
@@ -88,7 +103,6 @@ cd "$here"
 for file in $(find docs examples reference -type f ! -name council.1 | LC_ALL=C sort); do
     put "$file" "$doc/$file" 644
 done
-printf '%s%s\n' "$files" "$doc/FILES" >"$root/$doc/FILES"
 echo "council is installed: $root/bin/council"
 case :$PATH: in
 *:"$prefix/bin":*) ;;

@@ -1,9 +1,7 @@
 //! Where a bracket text breaks its grammar, as the reader of such texts knows it.
-use crate::remedies::say_remedy_at;
-use crate::said::Said;
-use crate::source::say_place;
 use council_file::{bracket_rule, is_bracket};
 use council_game::{Memory, limits};
+use explain_toml::{Said, say_place, say_remedy_at};
 use std::alloc::Global;
 
 /// How the front of a bracket text can end, and what is then wanted behind it. The first end that fits says it.

@@ -1,11 +1,10 @@
 //! What a fault says of bytes.
 use crate::bracket::say_misfit;
-use crate::file::File;
-use crate::no_toml::say_no_toml;
-use crate::said::Said;
-use crate::source::{Source, bare};
-use council_file::bracket_rule;
-use council_game::{GameFault, Memory};
+use crate::keys::say_unknown_key;
+use crate::totals::{say_count, say_quota_range, say_weight};
+use council_file::{bracket_rule, is_bracket};
+use council_game::{GameFault, Memory, Rule};
+use explain_toml::{File, Said, Source, bare, say_no_toml};
 use std::alloc::Global;
 use toml::Table;
 
@@ -27,12 +26,13 @@ fn index_of(member: u8) -> usize {
     usize::from(member).saturating_sub(1)
 }
 
-/// Says what a fault says of a file. The members of a fault are numbered from 1.
+/// Says what a fault says of a file, which has a rule if it is a bracket text. The members of a fault are numbered from 1.
 fn say_fault(
     said: &mut Said,
     alloc: Global,
     bytes: &[u8],
     file: File<'_>,
+    rule: Option<&Rule>,
     fault: GameFault,
 ) -> Result<(), Memory> {
     match fault {
@@ -42,16 +42,25 @@ fn say_fault(
         GameFault::TooLong => {
             said.line("the file of a game of 40 members is much shorter: is it the right file?")
         }
-        GameFault::Text => return say_no_toml(said, alloc, bytes, file.source.text),
-        GameFault::UnknownKey => file.say_unknown_key(said),
+        GameFault::Text => {
+            let text = file.source.text;
+            return say_no_toml(said, alloc, bytes, text, is_bracket(text.as_bytes()));
+        }
+        GameFault::UnknownKey => say_unknown_key(said, file),
         GameFault::Title => file.say_title(said),
         GameFault::Rules => file.say_rules(said),
         GameFault::Quota => file.say_quota(said),
-        GameFault::Members => file.say_members(said),
+        GameFault::Members => match rule {
+            Some(rule) => say_count(said, rule),
+            None => file.say_members(said),
+        },
         GameFault::Name { member } => file.say_name(said, index_of(member)),
         GameFault::SameName { member } => file.say_same_name(said, index_of(member)),
-        GameFault::Weight { member } => file.say_weight(said, index_of(member)),
-        GameFault::QuotaRange => return file.say_quota_range(said, alloc),
+        GameFault::Weight { member } => match rule {
+            Some(rule) => say_weight(said, rule, index_of(member)),
+            None => file.say_weight(said, index_of(member)),
+        },
+        GameFault::QuotaRange => return say_quota_range(said, alloc, file, rule),
         GameFault::Bracket => return say_misfit(said, alloc, file.source.text),
         GameFault::Memory => {}
     }
@@ -78,9 +87,8 @@ pub fn explain(alloc: Global, bytes: &[u8], fault: GameFault) -> Result<String, 
     let file = File {
         source,
         table: &table,
-        rule: rule.as_ref(),
     };
     let mut said = Said::new(alloc);
-    say_fault(&mut said, alloc, bytes, file, fault)?;
+    say_fault(&mut said, alloc, bytes, file, rule.as_ref(), fault)?;
     said.into_text()
 }

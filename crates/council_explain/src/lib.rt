@@ -8,15 +8,9 @@
 
 mod bracket;
 mod explaining;
-mod file;
-mod members;
-mod no_toml;
-mod remedies;
-mod rules;
-mod said;
-mod source;
-mod values;
+mod keys;
+mod totals;
 
 pub use bracket::remark;
+pub use explain_toml::{Harmless, shown};
 pub use explaining::explain;
-pub use said::{Harmless, shown};

@@ -48,7 +48,7 @@ are cut off: the Deegan-Packel index (Deegan and Packel 1978) and the public
 good index (Holler 1982; Holler and Packel 1983).";
 
 /// The version, and with which kit it was proved.
-const VERSION: &str = "1.2.0\nproved with rattle-kit-13b logic dac8208d650f15bf";
+const VERSION: &str = "1.2.0\nproved with rattle-kit-13f logic dac8208d650f15bf";
 
 const FORMS: &str = "A game file has one of two forms:
 
@@ -100,61 +100,97 @@ opened or read, 2 where the command line is wrong, 3 where the file has no game,
 4 where the game has more than --most coalitions, 5 where memory, a thread or
 the output failed.";
 
-fn number_option<'a>(
-    alloc: Global,
-    name: &'a str,
-    value: &'a str,
-    default: &'a str,
-    help: &'a str,
-) -> Arg<'a> {
-    Arg::new(alloc, name)
-        .long(name)
-        .value_name(value)
-        .help(help)
+/// An option that takes a number: how `--help` writes the number, what it is where none is given, and its range.
+#[derive(Clone, Copy)]
+struct Number {
+    name: &'static str,
+    value: &'static str,
+    default: &'static str,
+    help: &'static str,
+    least: i64,
+    greatest: i64,
+}
+
+/// The options that take a number.
+fn numbers() -> [Number; 3] {
+    [
+        Number {
+            name: "workers",
+            value: "N",
+            default: "4",
+            help: "Worker threads, 1 to 16",
+            least: 1,
+            greatest: i64::from(limits::WORKERS),
+        },
+        Number {
+            name: "bits",
+            value: "K",
+            default: "6",
+            help: "Tuning only: how the work is cut, 0 to 10",
+            least: 0,
+            greatest: i64::from(limits::BITS),
+        },
+        Number {
+            name: "most",
+            value: "N",
+            default: "1000000",
+            help: "A game with more coalitions is refused, 1 to 4000000;
+--tally takes any number",
+            least: 1,
+            greatest: i64::from(limits::COALITIONS),
+        },
+    ]
+}
+
+/// The flags, and what is said of them.
+const FLAGS: &[(&str, &str)] = &[
+    ("list", "A line for each minimal winning coalition"),
+    ("sizes", "A line for each size of a coalition"),
+    ("notation", "A line [q; w1, .., wn] for each rule"),
+    (
+        "tally",
+        "Counts the coalitions, any number of them, and keeps none",
+    ),
+    (
+        "explain",
+        "Where a game is refused, lines that say where and why",
+    ),
+];
+
+fn number_option<'a>(alloc: Global, number: &Number) -> Arg<'a> {
+    Arg::new(alloc, number.name)
+        .long(number.name)
+        .value_name(number.value)
+        .help(number.help)
         .action(ArgAction::Set)
-        .default_value(default)
+        .default_value(number.default)
+        .value_parser(value_parser!(u32).range(number.least..=number.greatest))
 }
 
-fn flag<'a>(alloc: Global, name: &'a str, help: &'a str) -> Arg<'a> {
-    Arg::new(alloc, name)
+fn flag<'a>(alloc: Global, name: &'a str, help: &'a str) -> Result<Arg<'a>, AllocError> {
+    let flag = Arg::new(alloc, name)
         .long(name)
         .help(help)
-        .action(ArgAction::SetTrue)
-}
-
-fn tally<'a>(alloc: Global) -> Result<Arg<'a>, AllocError> {
-    let help = "Counts the coalitions, any number of them, and keeps none";
-    flag(alloc, "tally", help)
-        .conflicts_with("list")?
-        .conflicts_with("most")
+        .action(ArgAction::SetTrue);
+    if name == "tally" {
+        flag.conflicts_with("list")?.conflicts_with("most")
+    } else {
+        Ok(flag)
+    }
 }
 
 /// What the command takes, in the order of `--help`.
-fn arguments<'a>(alloc: Global) -> Result<Vec<Arg<'a>>, Error> {
+fn arguments<'a>(alloc: Global) -> Result<Vec<Arg<'a>>, AllocError> {
     let file = "The game file; none, or -, is standard input";
-    let workers = "Worker threads, 1 to 16";
-    let bits = "Tuning only: how the work is cut, 0 to 10";
-    let most = "A game with more coalitions is refused, 1 to 4000000;
---tally takes any number";
-    let explain = "Where a game is refused, lines that say where and why";
-    let tally = tally(alloc)?;
-    Ok(vec![in alloc;
-        Arg::new(alloc, "FILE").help(file),
-        number_option(alloc, "workers", "N", "4", workers).value_parser(value_parser!(u8).range(
-            1..=i64::from(limits::WORKERS)
-        )),
-        number_option(alloc, "bits", "K", "6", bits).value_parser(value_parser!(u8).range(
-            0..=i64::from(limits::BITS)
-        )),
-        number_option(alloc, "most", "N", "1000000", most).value_parser(value_parser!(u32).range(
-            1..=i64::from(limits::COALITIONS)
-        )),
-        flag(alloc, "list", "A line for each minimal winning coalition"),
-        flag(alloc, "sizes", "A line for each size of a coalition"),
-        flag(alloc, "notation", "A line [q; w1, .., wn] for each rule"),
-        tally,
-        flag(alloc, "explain", explain),
-    ]?)
+    let mut arguments = Vec::new(alloc);
+    arguments.push(Arg::new(alloc, "FILE").help(file))?;
+    for number in &numbers() {
+        arguments.push(number_option(alloc, number))?;
+    }
+    for (name, help) in FLAGS {
+        arguments.push(flag(alloc, name, help)?)?;
+    }
+    Ok(arguments)
 }
 
 fn command<'a>(alloc: Global, arguments: Vec<Arg<'a>>) -> Result<Command<'a>, AllocError> {
@@ -173,8 +209,8 @@ fn file_of<'a>(matches: &ArgMatches<'a>) -> Option<&'a str> {
 
 /// What the parser found; none where a number is missing or out of its range.
 fn wanted_of<'a>(matches: &ArgMatches<'a>) -> Option<Wanted<'a>> {
-    let workers = matches.get_one::<u8>("workers")?;
-    let bits = matches.get_one::<u8>("bits")?;
+    let workers = u8::try_from(matches.get_one::<u32>("workers")?).ok()?;
+    let bits = u8::try_from(matches.get_one::<u32>("bits")?).ok()?;
     let most = matches.get_one::<u32>("most")?;
     let few_workers = 1 <= workers && workers <= limits::WORKERS;
     let few_coalitions = 1 <= most && most <= limits::COALITIONS;

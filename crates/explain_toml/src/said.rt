@@ -1,5 +1,5 @@
 //! The lines of an explanation.
-use council_game::Memory;
+use coalitions::Memory;
 use std::alloc::Global;
 use std::fmt::{self, Display, Formatter, Write};
 
@@ -9,13 +9,14 @@ const LONGEST: usize = 100;
 /// The lines of an explanation, each begun with two blanks and ended with LF; and whether a growth was refused, so that some
 /// of it is not there.
 #[derive(Drop)]
-pub(crate) struct Said {
+pub struct Said {
     text: String,
     failed: bool,
 }
 
 impl Said {
-    pub(crate) fn new(alloc: Global) -> Said {
+    /// No lines yet.
+    pub fn new(alloc: Global) -> Said {
         Said {
             text: String::new(alloc),
             failed: false,
@@ -23,15 +24,19 @@ impl Said {
     }
 
     /// Adds a line.
-    pub(crate) fn line(&mut self, line: impl Display + Drop) {
+    pub fn line(&mut self, line: impl Display + Drop) {
         // memory: told at the end
         if writeln!(self.text, "  {line}").is_err() {
             self.failed = true;
         }
     }
 
-    /// The lines; Memory where a growth was refused.
-    pub(crate) fn into_text(self) -> Result<String, Memory> {
+    /// The lines.
+    ///
+    /// # Errors
+    ///
+    /// Memory where a growth was refused.
+    pub fn into_text(self) -> Result<String, Memory> {
         if self.failed {
             // memory: a growth was refused
             return Err(Memory);
@@ -89,7 +94,7 @@ pub fn shown<T: Display>(what: T, most: usize) -> Harmless<T> {
 }
 
 /// The same, of at most as many characters as a line of an explanation shows.
-pub(crate) fn short<T: Display>(what: T) -> Harmless<T> {
+pub fn short<T: Display>(what: T) -> Harmless<T> {
     shown(what, LONGEST)
 }
 

@@ -38,7 +38,7 @@ pub(crate) fn say_text(said: &mut Said, value: &Value, wanted: &str) {
 }
 
 /// The elements of an array, and none of another value.
-pub(crate) fn elements(value: Option<&Value>) -> &[Value] {
+pub fn elements(value: Option<&Value>) -> &[Value] {
     match value {
         Some(Value::Array(items)) => items.as_slice(),
         _ => &[],

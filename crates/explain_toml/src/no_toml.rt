@@ -2,8 +2,7 @@
 use crate::remedies::say_remedy_at;
 use crate::said::{Said, short};
 use crate::source::say_place;
-use council_file::is_bracket;
-use council_game::Memory;
+use coalitions::Memory;
 use std::alloc::Global;
 
 /// What stands between the columns of a table, as a spreadsheet writes it.
@@ -40,7 +39,7 @@ fn say_table(said: &mut Said, text: &str) -> bool {
 }
 
 /// Says why a text is not TOML.
-fn say_error(said: &mut Said, text: &str, error: &toml::de::Error) {
+fn say_error(said: &mut Said, text: &str, is_bracket: bool, error: &toml::de::Error) {
     if say_table(said, text) {
         return;
     }
@@ -51,17 +50,23 @@ fn say_error(said: &mut Said, text: &str, error: &toml::de::Error) {
     say_place(said, text, place);
     said.line(error.message());
     say_remedy_at(said, text, place);
-    if is_bracket(text.as_bytes()) {
+    if is_bracket {
         said.line("a byte order mark stands before the bracket: save the file without one");
     }
 }
 
-/// Says which bytes are no text, or else why the text is not TOML.
-pub(crate) fn say_no_toml(
+/// Says which bytes are no text, or else why the text of them is not TOML, though it begins as a bracket text does where
+/// `is_bracket` says so.
+///
+/// # Errors
+///
+/// Memory where a growth was refused.
+pub fn say_no_toml(
     said: &mut Said,
     alloc: Global,
     bytes: &[u8],
     text: &str,
+    is_bracket: bool,
 ) -> Result<(), Memory> {
     if bytes.starts_with(b"\xFF\xFE") || bytes.starts_with(b"\xFE\xFF") {
         said.line("the file is saved as UTF-16: save it as UTF-8");
@@ -73,7 +78,7 @@ pub(crate) fn say_no_toml(
             // memory: a growth was refused
             return Err(Memory);
         }
-        say_error(said, text, &error);
+        say_error(said, text, is_bracket, &error);
     }
     Ok(())
 }

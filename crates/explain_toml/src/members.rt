@@ -1,18 +1,14 @@
-//! What a fault says of the members of a file.
+//! What is wrong with the members of a file.
 use crate::file::File;
 use crate::said::{Said, short};
 use crate::values::{elements, kind, say_text, say_value};
-use council_game::limits;
+use coalitions::limits;
 use toml::Value;
 
 impl File<'_> {
-    pub(crate) fn say_members(self, said: &mut Said) {
+    /// Says that there is no member, or too many, or what is in their place.
+    pub fn say_members(self, said: &mut Said) {
         let wanted = "each member begins with a line [[member]], with two brackets on each side";
-        if let Some(rule) = self.rule {
-            let count = rule.weights.len();
-            said.line(format_args!("the text has {count} weights: at most 40 are allowed"));
-            return;
-        }
         match self.value_at("member") {
             None => said.line(format_args!("the file has no member: {wanted}")),
             Some(Value::Array(_)) => self.say_elements(said),
@@ -39,7 +35,8 @@ impl File<'_> {
         }
     }
 
-    pub(crate) fn say_name(self, said: &mut Said, index: usize) {
+    /// Says what is wrong with the name of the member with this index.
+    pub fn say_name(self, said: &mut Said, index: usize) {
         let wanted = "a name is a text in quotes, of 1 to 64 bytes, on one line";
         self.source.say_place(said, index, "name");
         match self.value_of(index, "name") {
@@ -48,7 +45,8 @@ impl File<'_> {
         }
     }
 
-    pub(crate) fn say_same_name(self, said: &mut Said, index: usize) {
+    /// Says which member before the one with this index has its name.
+    pub fn say_same_name(self, said: &mut Said, index: usize) {
         self.source.say_place(said, index, "name");
         for earlier in 0..index {
             if let Some(Value::String(name)) = self.value_of(earlier, "name")
@@ -66,16 +64,8 @@ impl File<'_> {
         }
     }
 
-    pub(crate) fn say_weight(self, said: &mut Said, index: usize) {
-        if let Some(rule) = self.rule {
-            if let Some(weight) = rule.weights.get(index) {
-                let number = index.saturating_add(1);
-                said.line(format_args!(
-                    "weight {number} is {weight}: the greatest is 1000000000000"
-                ));
-            }
-            return;
-        }
+    /// Says what is wrong with the weight or the weights of the member with this index.
+    pub fn say_weight(self, said: &mut Said, index: usize) {
         let several = self.value_at("quotas").is_some();
         let key = if several { "weights" } else { "weight" };
         self.source.say_place(said, index, key);

@@ -1,6 +1,6 @@
 //! Places in the text of a game file.
 use crate::said::{Said, short};
-use council_game::Memory;
+use coalitions::Memory;
 use std::alloc::Global;
 
 /// The line and the column of a place, from 1; the column in characters.
@@ -24,7 +24,7 @@ fn text_of_line(text: &str, line: usize) -> &str {
 }
 
 /// Says the line and the column of a place, and what stands in the line.
-pub(crate) fn say_place(said: &mut Said, text: &str, place: usize) {
+pub fn say_place(said: &mut Said, text: &str, place: usize) {
     let (line, column) = line_and_column(text.as_bytes(), place);
     let row = short(text_of_line(text, line));
     said.line(format_args!("line {line}, column {column}: {row}"));
@@ -44,7 +44,11 @@ fn end_behind(end: Option<char>, letter: char) -> Option<char> {
 }
 
 /// A text without blanks, comments and what stands in quotes. The ends of lines are left.
-pub(crate) fn bare(alloc: Global, text: &str) -> Result<String, Memory> {
+///
+/// # Errors
+///
+/// Memory where a growth was refused.
+pub fn bare(alloc: Global, text: &str) -> Result<String, Memory> {
     let mut bare = String::new(alloc);
     let mut end = None;
     for letter in text.chars() {
@@ -98,9 +102,9 @@ fn line_of_member(bare: &str, index: usize, key: &str) -> Option<usize> {
 
 /// The text of a game file, and what is bare of it.
 #[derive(Clone, Copy)]
-pub(crate) struct Source<'a> {
-    pub(crate) text: &'a str,
-    pub(crate) bare: &'a str,
+pub struct Source<'a> {
+    pub text: &'a str,
+    pub bare: &'a str,
 }
 
 impl Source<'_> {
@@ -113,12 +117,12 @@ impl Source<'_> {
     }
 
     /// Says where a key of the top stands.
-    pub(crate) fn say_key(self, said: &mut Said, key: &str) {
+    pub fn say_key(self, said: &mut Said, key: &str) {
         self.say_line(said, line_of_key(self.bare, 1, key));
     }
 
     /// Says where a key of the member with this index stands, or else the member.
-    pub(crate) fn say_place(self, said: &mut Said, index: usize, key: &str) {
+    pub fn say_place(self, said: &mut Said, index: usize, key: &str) {
         self.say_line(said, line_of_member(self.bare, index, key));
     }
 }

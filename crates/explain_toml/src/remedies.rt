@@ -40,7 +40,7 @@ pub(crate) fn say_statutes(said: &mut Said) {
 }
 
 /// Says what helps where a text can't be read on from one of these bytes.
-pub(crate) fn say_remedy_at(said: &mut Said, text: &str, place: usize) {
+pub fn say_remedy_at(said: &mut Said, text: &str, place: usize) {
     match text.as_bytes().get(place) {
         Some(b'%' | b'/') => say_statutes(said),
         Some(b'.') => say_factor(said, text),
