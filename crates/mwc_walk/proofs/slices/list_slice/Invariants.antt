@@ -1,7 +1,7 @@
 use Rattle.std.proofs.Common.{◌≡◌, ◌++◌, length}
 use Rattle.council_game.specs.Game.{votes_of}
 use Rattle.mwc_walk.specs.Slices.{slice}
-use Rattle.mwc_walk.proofs.list.list_slice.Given as goal
+use Rattle.mwc_walk.proofs.slices.list_slice.Given as goal
 
 abbrev pub invariant-loop : goal.invariant-loop
 invariant-loop l = record {

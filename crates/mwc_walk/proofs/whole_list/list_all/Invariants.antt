@@ -1,7 +1,7 @@
 use Rattle.std.proofs.Common.{◌≡◌, ◌++◌, length}
 use Rattle.council_game.specs.Game.{votes_of}
 use Rattle.mwc_walk.specs.Slices.{slice}
-use Rattle.mwc_walk.proofs.all.list_all.Given as goal
+use Rattle.mwc_walk.proofs.whole_list.list_all.Given as goal
 
 abbrev pub invariant-loop : goal.invariant-loop
 invariant-loop l = record {

@@ -2,7 +2,7 @@ use Rattle.std.proofs.Common.{◌≡◌, ◌≤◌, ◌<◌, ℕ, [], take, drop
 use Rattle.std.specs.Prelude.{slice_index_or}
 use Rattle.council_game.specs.Votes.{weight}
 use Rattle.mwc_walk.specs.Inner.Covers.{Covers}
-use Rattle.mwc_walk.proofs.sums.Sums.new.Given as goal
+use Rattle.mwc_walk.proofs.sums_ahead.SumsAhead.new.Given as goal
 
 abbrev pub invariant-loop-place : goal.invariant-loop-place
 invariant-loop-place l = record {

@@ -11,13 +11,13 @@ use council_game::limits;
 
 /// For each place what the members from there on can weigh together.
 #[derive(Clone, Copy)]
-pub(crate) struct Sums {
+pub(crate) struct SumsAhead {
     pub(crate) from: [Intervals; limits::SIZES],
 }
 
-impl Sums {
+impl SumsAhead {
     /// The sums of members by their weights.
-    pub(crate) fn new(weights: &[u64; limits::MEMBERS], members: usize) -> Sums
+    pub(crate) fn new(weights: &[u64; limits::MEMBERS], members: usize) -> SumsAhead
         requires members { members ≤ MEMBERS }
         requires fits { sum (take members weights.now) < 2 ^ 64 }
         ensures few { (p : ℕ) → p ≤ members → (sums_at result p).count ≤ 8 }
@@ -28,6 +28,6 @@ impl Sums {
         for place in (0..members).rev() {
             from[place] = from[place + 1].with(weights[place]);
         }
-        Sums { from }
+        SumsAhead { from }
     }
 }

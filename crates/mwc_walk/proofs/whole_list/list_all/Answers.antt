@@ -1,7 +1,7 @@
 use Rattle.std.proofs.Common.{◌++◌, ℕ, List, ap, sym, ◌∙◌, arith}
 use Rattle.council_game.specs.Game.{votes_of}
 use Rattle.mwc_walk.proofs.Whole.{lists-all, more-than}
-use Rattle.mwc_walk.proofs.all.list_all.Goals as goal
+use Rattle.mwc_walk.proofs.whole_list.list_all.Goals as goal
 
 pub returns-in-None-clause-all : goal.returns-in-None-clause-all
 returns-in-None-clause-all c =

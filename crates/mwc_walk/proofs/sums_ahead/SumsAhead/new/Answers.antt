@@ -3,7 +3,7 @@ use Rattle.std.proofs.lemmas.Bool.{cases_eq}
 use Rattle.mwc_walk.specs.declared.intervals.Intervals.{Intervals}
 use Rattle.mwc_walk.proofs.Tables.{same-below}
 use Rattle.mwc_walk.proofs.Coming.{weight-past, sums-step}
-use Rattle.mwc_walk.proofs.sums.Sums.new.Goals as goal
+use Rattle.mwc_walk.proofs.sums_ahead.SumsAhead.new.Goals as goal
 
 abbrev none : Intervals
 none = record { count = 0; items = [] }
