@@ -1,4 +1,4 @@
--- Parts of a list that lies in pieces.
+-- Stretches of a list that lies in pieces.
 use Rattle.std.proofs.Common.{◌≡◌, ◌∙◌, ℕ, ◌+◌, ◌-◌, ◌<◌, ◌≤◌, zero, suc, min, List, [], ◌∷◌, ◌++◌, length, get_or, take, drop, sym, ap, arith, subst, length-append, length-drop, IfOk, Result, Ok, Err}
 use Rattle.std.specs.List.{All, flat_map}
 use Rattle.std.proofs.lemmas.List.{take_all, take_more, take_min, drop_min, length-take, append-nil}
@@ -9,8 +9,8 @@ use Rattle.power_index.specs.Tables.{Tables, AreTallies, AreCounts}
 use Rattle.power_index.proofs.Shared.Pieces.{pieces-all}
 use Rattle.power_index.proofs.Shared.Sound.{tallies-are_counts}
 use Rattle.mwc_tally.specs.Pieces.{joined}
-use Rattle.mwc_tally.specs.Inner.Threads.{IsGivenPart}
-use Rattle.mwc_tally.specs.declared.pieces.GivenPart.{GivenPart}
+use Rattle.mwc_tally.specs.Inner.Threads.{IsGivenStretch}
+use Rattle.mwc_tally.specs.declared.pieces.GivenStretch.{GivenStretch}
 
 pub drop-append : (n : ℕ) (xs ys : List ℕ) → drop n (xs ++ ys) ≡ drop n xs ++ drop (n - length xs) ys
 drop-append zero xs ys = let e : 0 ≡ 0 - length xs = omega arith in ap (λ (k : ℕ). xs ++ drop k ys) e
@@ -26,26 +26,26 @@ take-append (suc n) (x ∷ xs) ys =
     let e : n - length xs ≡ suc n - suc (length xs) = omega arith in
     ap (λ (l : List ℕ). x ∷ l) (take-append n xs ys) ∙ ap (λ (k : ℕ). x ∷ (take n xs ++ take k ys)) e
 
--- one piece more of a part
-pub part-more : (skip most s l : ℕ) (xs piece : List ℕ) → s ≡ skip - length xs → l ≡ most - length (drop skip xs)
+-- one piece more of a stretch
+pub stretch-more : (skip most s l : ℕ) (xs piece : List ℕ) → s ≡ skip - length xs → l ≡ most - length (drop skip xs)
     → take most (drop skip (xs ++ piece)) ≡ take most (drop skip xs) ++ take l (drop s piece)
-part-more skip most s l xs piece s-is l-is =
+stretch-more skip most s l xs piece s-is l-is =
     ap (take most) (drop-append skip xs piece)
     ∙ take-append most (drop skip xs) (drop (skip - length xs) piece)
     ∙ ap (λ (k : ℕ). take most (drop skip xs) ++ take k (drop (skip - length xs) piece)) (sym l-is)
     ∙ ap (λ (k : ℕ). take most (drop skip xs) ++ take l (drop k piece)) (sym s-is)
 
 -- what is left to skip and to take after it
-pub part-left : (skip most s l : ℕ) (xs piece : List ℕ) → s ≡ skip - length xs → l ≡ most - length (drop skip xs)
+pub stretch-left : (skip most s l : ℕ) (xs piece : List ℕ) → s ≡ skip - length xs → l ≡ most - length (drop skip xs)
     → (s - length piece ≡ skip - length (xs ++ piece)) × (l - (length piece - s) ≡ most - length (drop skip (xs ++ piece)))
-part-left skip most s l xs piece s-is l-is =
+stretch-left skip most s l xs piece s-is l-is =
     let long = length-append xs piece in
     let before = length-drop skip xs in
     let after = length-drop skip (xs ++ piece) in
     (omega (arith, long, s-is), omega (arith, long, before, after, s-is, l-is))
 
-pub part-length : (skip most : ℕ) (xs : List ℕ) → length (take most (drop skip xs)) ≤ length xs
-part-length skip most xs = let a = length-take most (drop skip xs) in let b = length-drop skip xs in omega (arith, a, b)
+pub stretch-length : (skip most : ℕ) (xs : List ℕ) → length (take most (drop skip xs)) ≤ length xs
+stretch-length skip most xs = let a = length-take most (drop skip xs) in let b = length-drop skip xs in omega (arith, a, b)
 
 -- the pieces up to one more
 pub pieces-more : {X : Type 0} (f : X → List ℕ) (xs : List X) (k : ℕ) (x : X) → k < length xs → x ≡ get_or xs k x
@@ -80,10 +80,10 @@ rest-length piece s a a-is = let one = length-take (length piece - a) (drop a pi
     length-drop a piece in omega (arith, one, other, a-is)
 
 -- what a thread counted is what it was given to count
-pub is-part : (given : GivenPart) (g : GameView) (list : List ℕ) (skip most : ℕ) → IsGivenPart g list skip most given
+pub is-stretch : (given : GivenStretch) (g : GameView) (list : List ℕ) (skip most : ℕ) → IsGivenStretch g list skip most given
     → (t : Tables) → AreTallies given.game.value (take given.most (drop given.skip (joined given.pieces.value.now))) t
     → AreTallies g (take most (drop skip list)) t
-is-part given g list skip most is t tallies =
+is-stretch given g list skip most is t tallies =
     let same =
     ap (λ (l : List ℕ). take given.most (drop given.skip l)) is.of_list
     ∙ ap (λ (n : ℕ). take given.most (drop n list)) is.past

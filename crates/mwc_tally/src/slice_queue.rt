@@ -4,7 +4,7 @@ ghost use Rattle.mwc_tally.specs.Inner.Shares.{IsShare};
 
 use crate::share::Share;
 use crate::slice::tally_watched;
-use crate::slices::Slices;
+use crate::sliced_game::SlicedGame;
 use crate::watch::Watch;
 use council_game::Memory;
 use std::alloc::Global;
@@ -12,17 +12,17 @@ use std::sync::atomic::{AtomicU64, Ordering};
 
 /// The slices of a game, the next of them that nobody took yet, and who is told of each that was counted.
 #[derive(Drop)]
-pub(crate) struct Work<'a, W> {
-    pub slices: Slices<'a>,
+pub(crate) struct SliceQueue<'a, W> {
+    pub slices: SlicedGame<'a>,
     next: &'a AtomicU64,
     watch: &'a W,
 }
 
-impl<'a, W: Watch> Work<'a, W> {
-    pub(crate) fn new(slices: Slices<'a>, next: &'a AtomicU64, watch: &'a W) -> Work<'a, W>
+impl<'a, W: Watch> SliceQueue<'a, W> {
+    pub(crate) fn new(slices: SlicedGame<'a>, next: &'a AtomicU64, watch: &'a W) -> SliceQueue<'a, W>
         ensures { result.slices ≡ slices.entry }
     {
-        Work {
+        SliceQueue {
             slices,
             next,
             watch,
@@ -30,10 +30,10 @@ impl<'a, W: Watch> Work<'a, W> {
     }
 
     /// The same work, for another thread.
-    pub(crate) fn share(&self) -> Work<'a, W>
+    pub(crate) fn share(&self) -> SliceQueue<'a, W>
         ensures { result.slices ≡ self.now.slices }
     {
-        Work::new(self.slices, self.next, self.watch)
+        SliceQueue::new(self.slices, self.next, self.watch)
     }
 
     /// Leaves nothing to be taken.
@@ -42,8 +42,8 @@ impl<'a, W: Watch> Work<'a, W> {
             .store(u64::from(self.slices.count()), Ordering::SeqCst);
     }
 
-    /// Counts the next slice that nobody took yet, until none is left or the watch stops it. The last slice comes first: the
-    /// heaviest members are out there, and it mostly takes longest.
+    /// Counts the next slice that nobody took yet, until none is left or the watch stops it. The last slice comes first:
+    /// the heaviest members are out there, and it mostly takes longest.
     fn count_next(&self, alloc: Global) -> Result<Share, Memory>
         ensures { IfOk result (IsShare self.now.slices) }
     {

@@ -1,7 +1,7 @@
 use Rattle.std.proofs.Common.{◌≡◌, ◌-◌, length, take, drop}
 use Rattle.mwc_tally.specs.Pieces.{joined}
 use Rattle.power_index.specs.Tables.{AreTallies}
-use Rattle.mwc_tally.proofs.pieces.of_part.Given as goal
+use Rattle.mwc_tally.proofs.pieces.of_stretch.Given as goal
 
 abbrev pub invariant-loop-piece : goal.invariant-loop-piece
 invariant-loop-piece l = record {

@@ -4,8 +4,8 @@ use Rattle.mwc_tally.specs.Pieces.{joined}
 use Rattle.std.proofs.lemmas.List.Elements.{All-drop, All-take}
 use Rattle.power_index.specs.Tables.{AreTallies}
 use Rattle.power_index.proofs.Shared.Sound.{total-is}
-use Rattle.mwc_tally.proofs.Parts.{row-is, rest-length, part-more, part-left, part-length, pieces-more, pieces-length, piece-all}
-use Rattle.mwc_tally.proofs.pieces.of_part.Goals as goal
+use Rattle.mwc_tally.proofs.Stretches.{row-is, rest-length, stretch-more, stretch-left, stretch-length, pieces-more, pieces-length, piece-all}
+use Rattle.mwc_tally.proofs.pieces.of_stretch.Goals as goal
 
 pub count_row-requires-clause-coalitions : goal.count_row-requires-clause-coalitions
 count_row-requires-clause-coalitions c =
@@ -30,11 +30,11 @@ count_row-requires-clause-room c =
     let before : List ℕ = joined (take c.loop-piece.piece-index c.args.pieces.now) in
     let total = total-is c.args.game.now _ c.loop-piece.counts c.loop-piece.invariant.counted in
     let more = ap (λ (l : List ℕ). length l)
-    (part-more c.args.skip c.args.most c.loop-piece.skip c.loop-piece.left before c.piece-item.result.now c.loop-piece.invariant.skip
+    (stretch-more c.args.skip c.args.most c.loop-piece.skip c.loop-piece.left before c.piece-item.result.now c.loop-piece.invariant.skip
     c.loop-piece.invariant.left) in
     let long = length-append (take c.args.most (drop c.args.skip before))
     (take c.loop-piece.left (drop c.loop-piece.skip c.piece-item.result.now)) in
-    let part = part-length c.args.skip c.args.most (before ++ c.piece-item.result.now) in
+    let part = stretch-length c.args.skip c.args.most (before ++ c.piece-item.result.now) in
     let both = length-append before c.piece-item.result.now in
     let all = pieces-length
     (λ p. p.now) c.args.pieces.now c.loop-piece.piece-index c.piece-item.result c.loop-piece-test.true c.piece-item.is in
@@ -49,9 +49,9 @@ loop-piece-preserved c =
     let invariant = c.loop-piece.invariant in
     let grown = pieces-more
     (λ p. p.now) c.args.pieces.now c.loop-piece.piece-index c.piece-item.result c.loop-piece-test.true c.piece-item.is in
-    let more = part-more c.args.skip c.args.most c.loop-piece.skip c.loop-piece.left before c.piece-item.result.now invariant.skip
+    let more = stretch-more c.args.skip c.args.most c.loop-piece.skip c.loop-piece.left before c.piece-item.result.now invariant.skip
     invariant.left in
-    let after = part-left c.args.skip c.args.most c.loop-piece.skip c.loop-piece.left before c.piece-item.result.now invariant.skip
+    let after = stretch-left c.args.skip c.args.most c.loop-piece.skip c.loop-piece.left before c.piece-item.result.now invariant.skip
     invariant.left in
     let rest = rest-length c.piece-item.result.now c.loop-piece.skip c.min.result c.min.ensures in
     record {

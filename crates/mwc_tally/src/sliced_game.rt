@@ -7,16 +7,16 @@ use council_game::{Game, Memory};
 use mwc_walk::slice_count;
 use std::thread::Promise;
 
-/// A game cut into slices: so many of its heaviest members are fixed in each.
+/// A game cut into slices: `bits` of its heaviest members are fixed in each.
 #[derive(Clone, Copy)]
-pub(crate) struct Slices<'a> {
+pub(crate) struct SlicedGame<'a> {
     pub game: &'a Game,
-    /// 0 to 10, and no more than members.
+    /// How many of the heaviest members are fixed, 0 to 10, and no more than members.
     pub bits: u8,
     ghost bits_fit: { (bits ≤ BITS) × (bits ≤ length game.now.names) },
 }
 
-impl<'a> Slices<'a> {
+impl<'a> SlicedGame<'a> {
     /// How many slices there are.
     pub(crate) fn count(self) -> u16
         ensures { result ≡ 2 ^ self.entry.bits }
@@ -26,7 +26,7 @@ impl<'a> Slices<'a> {
 }
 
 /// A thread that was given these slices promises a share of them.
-impl<'a> Promise<Result<Share, Memory>> for Slices<'a> {
+impl<'a> Promise<Result<Share, Memory>> for SlicedGame<'a> {
     ghost use Rattle.std.specs.Prelude.{IfOk};
     ghost use Rattle.mwc_tally.specs.Inner.Shares.{IsShare};
 
