@@ -1,5 +1,5 @@
 mod Slices
-mod Rows
+mod FirstWords
 mod UnderWay
 mod Wordings
 mod Words

@@ -1,5 +1,5 @@
 pub mod Shared
-mod Sums
+mod OneMore
 mod Ranges
 mod Deals
 mod Tasks

@@ -9,7 +9,7 @@ use Rattle.mwc_parts.specs.Slicing.{Slicing}
 use Rattle.mwc_pipe.specs.declared.word.Word.{Word}
 use Rattle.mwc_pipe.specs.declared.word.Word.TheVariants.{Open, One, Done, End}
 use Rattle.mwc_parts.specs.Wording.{wording, coalition_count}
-use Rattle.mwc_parts.proofs.Sums.{coalitions-cons}
+use Rattle.mwc_parts.proofs.OneMore.{coalitions-cons}
 use Rattle.mwc_parts.specs.Shared.Settled.{IsSentWhole, ends_from}
 use Rattle.mwc_parts.specs.Pieces.{one_in, ones, done_counts, HasEnds}
 

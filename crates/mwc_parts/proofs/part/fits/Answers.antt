@@ -1,7 +1,7 @@
 use Rattle.std.proofs.Common.{◌+◌, length, arith}
 use Rattle.mwc_parts.specs.declared.part.Part.{Part}
 use Rattle.std.proofs.lemmas.List.Sums.{sum_by-take-le}
-use Rattle.mwc_parts.proofs.Sums.{lengths_more}
+use Rattle.mwc_parts.proofs.OneMore.{lengths_more}
 use Rattle.mwc_parts.proofs.part.fits.Goals as goal
 
 pub returns-then-len-left-clause-many : goal.returns-then-len-left-clause-many

@@ -2,10 +2,10 @@ use Rattle.std.proofs.Common.{List, length, get_or, ap, arith, ◌∙◌}
 use Rattle.mwc_parts.specs.declared.part.Part.{Part}
 use Rattle.std.proofs.lemmas.List.{take_all}
 use Rattle.std.specs.List.{sum_by}
-use Rattle.mwc_parts.specs.Inner.Sums.{times_in}
+use Rattle.mwc_parts.specs.Inner.Times.{times_in}
 use Rattle.mwc_parts.specs.Parts.{shares}
 use Rattle.mwc_parts.proofs.Shared.Once.{each_once}
-use Rattle.mwc_parts.proofs.Sums.{shares_more}
+use Rattle.mwc_parts.proofs.OneMore.{shares_more}
 use Rattle.mwc_parts.proofs.gathered.Gathered.piece.Goals as goal
 
 pub loop-part-preserved : goal.loop-part-preserved

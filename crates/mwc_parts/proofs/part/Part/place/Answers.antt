@@ -1,5 +1,5 @@
 use Rattle.std.proofs.Common.{◌≡◌, ℕ, List, length, get_or, ap, arith, ◌∙◌}
-use Rattle.mwc_parts.proofs.Sums.{times_more, times_all}
+use Rattle.mwc_parts.proofs.OneMore.{times_more, times_all}
 use Rattle.mwc_parts.proofs.part.Part.place.Goals as goal
 
 pub loop-m-preserved : goal.loop-m-preserved

@@ -1,4 +1,4 @@
--- Sums over lists: what only proofs and private functions need.
+-- How often a number stands in a list: what only proofs and private functions need.
 use Rattle.std.specs.Prelude.{ℕ, List, if◌then◌else◌, ◌==◌}
 use Rattle.std.specs.List.{sum_by}
 

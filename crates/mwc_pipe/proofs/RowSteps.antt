@@ -12,7 +12,7 @@ use Rattle.mwc_pipe.specs.declared.step.Step.TheVariants.{Put, Take}
 use Rattle.mwc_pipe.specs.declared.reply.Reply.{Reply}
 use Rattle.mwc_pipe.specs.declared.reply.Reply.TheVariants.{Accepted, Full, Item, Empty}
 use Rattle.mwc_pipe.specs.History.{Event, item_in, item_out, is_close, has_close, items_in, items_out, reply_to, history_after}
-use Rattle.mwc_pipe.specs.Rows.{puts_of, takes_of, AreAnswered, IsSeenByIn, IsSeenByOut}
+use Rattle.mwc_pipe.specs.RowSteps.{puts_of, takes_of, AreAnswered, IsSeenByIn, IsSeenByOut}
 use Rattle.mwc_pipe.proofs.Counting.{get_after}
 
 module _ {T : Type 0} where

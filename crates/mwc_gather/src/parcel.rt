@@ -1,11 +1,11 @@
 //! Words that wait to be sent together.
 ghost use Rattle.std.specs.Prelude.{◌≡◌, ◌<◌, ◌↔◌, ◌++◌, ◌∷◌, [], IsTrue, IsFalse, length};
-ghost use Rattle.mwc_gather.specs.declared.row.TheConstants.{WORDS};
+ghost use Rattle.mwc_gather.specs.declared.parcel.TheConstants.{WORDS};
 
 use mwc_pipe::Word;
 use std::marker::Model;
 
-/// How many words a row or a ring has room for: a worker may be so far ahead of the gatherer.
+/// How many words a parcel or a ring has room for: a worker may be that far ahead of the gatherer.
 pub(crate) const WORDS: usize = 64;
 
 /// What the constant is, as a number: clauses name it.
@@ -13,18 +13,18 @@ fn is_this_number()
     ensures { WORDS ≡ 64 }
 {}
 
-/// A row of up to 64 words that wait to be sent together. Contracts see the words. No call takes
+/// Up to 64 words that wait to be sent together. Contracts see the words. No call takes
 /// memory.
 #[derive(Drop)]
-pub(crate) struct Row {
+pub(crate) struct Parcel {
     words: [Word; WORDS],
     count: usize,
 }
 
-impl Model for Row {
+impl Model for Parcel {
     ghost use Rattle.std.specs.Prelude.{◌≡◌, ◌≤◌, List, length, take};
     ghost use Rattle.mwc_pipe.specs.declared.word.Word.{Word};
-    ghost use Rattle.mwc_gather.specs.declared.row.TheConstants.{WORDS};
+    ghost use Rattle.mwc_gather.specs.declared.parcel.TheConstants.{WORDS};
 
     ghost Value = { List Word };
 
@@ -33,12 +33,12 @@ impl Model for Row {
     ghost invariant = { λ r. (r.count ≤ WORDS) × (length r.words ≡ WORDS) };
 }
 
-impl Row {
-    /// A row of no words.
-    pub fn new() -> Row
+impl Parcel {
+    /// No words.
+    pub fn new() -> Parcel
         ensures { result ≡ [] }
     {
-        Row {
+        Parcel {
             words: [Word::Open(0); WORDS],
             count: 0,
         }

@@ -3,7 +3,7 @@ use Rattle.std.specs.Prelude.{List}
 use Rattle.std.proofs.lemmas.Bool.Decides.{nat_tests}
 use Rattle.std.proofs.lemmas.List.{length-take}
 use Rattle.mwc_pipe.specs.declared.word.Word.{Word}
-use Rattle.mwc_gather.proofs.row.Row.is_full.Goals as goal
+use Rattle.mwc_gather.proofs.parcel.Parcel.is_full.Goals as goal
 
 pub returns-clause-full : goal.returns-clause-full
 returns-clause-full c =

@@ -1,4 +1,4 @@
--- Rows of words that go into a pipe.
+-- Words that go into a pipe, the first of a row.
 use Rattle.std.specs.Prelude.{◌≡◌, ℕ, List, ◌++◌, take, drop}
 use mathlib.Core.List.{IsPrefix}
 use Rattle.std.proofs.Common.{ap, append_assoc, sym, ◌∙◌}

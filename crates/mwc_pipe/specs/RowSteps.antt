@@ -27,7 +27,7 @@ module _ {T : Type 0} where
   abbrev pub AreAnswered : ℕ → List (Event T) → List (Event T) → Type 0
   AreAnswered capacity past events = history_after capacity past (map (λ event. event.0) events) ≡ past ++ events
 
-  -- a past that the end of a ring that items are put into can have seen: these were accepted, and so many of them were taken
+  -- a past that the end of a ring that items are put into can have seen: these were accepted, and `gone` of them were taken
   pub record IsSeenByIn (accepted : List T) (gone : ℕ) (past : List (Event T)) : Type 0 where
     pub came : items_in past ≡ accepted
     pub went : length (items_out past) ≡ gone
