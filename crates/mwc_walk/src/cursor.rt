@@ -140,6 +140,7 @@ impl Cursor {
         ensures ahead { IfSome ahead.new (AheadIs (votes_of game.now)) }
     {
         let found = self.find(game, ahead);
+        // for the prover alone: that the count fits its type
         let _visits = self.visits;
         match found {
             Some(coalition) => Step::Give(coalition),

@@ -1,7 +1,7 @@
 use Rattle.std.proofs.Common.{◌<◌, ◌-◌, ◌+◌, ◌∙◌, [], length, refl, arith, inl, inr, get_or-set_other, get_or-set_same, length-set}
 use Rattle.std.proofs.lemmas.Bool.{cases_eq}
 use Rattle.mwc_walk.specs.declared.intervals.Intervals.{Intervals}
-use Rattle.mwc_walk.proofs.Tables.{same-below}
+use Rattle.std.proofs.lemmas.List.{get_or-replicate}
 use Rattle.mwc_walk.proofs.Coming.{weight-past, sums-step}
 use Rattle.mwc_walk.proofs.sums_ahead.SumsAhead.new.Goals as goal
 
@@ -11,9 +11,9 @@ none = record { count = 0; items = [] }
 pub loop-place-init : goal.loop-place-init
 loop-place-init c = record {
   long = refl;
-  few = λ p below. rw (same-below {A = Intervals} c.zero-from.result none 41 p below) c.zero-from.ensures.few;
+  few = λ p below. rw (get_or-replicate {A = Intervals} 41 p c.zero-from.result none below) c.zero-from.ensures.few;
   done = λ p d lo hi. rw (
-    same-below {A = Intervals} c.zero-from.result none 41 p (omega arith),
+    get_or-replicate {A = Intervals} 41 p c.zero-from.result none (omega arith),
     weight-past c.args.weights.now c.args.members p d lo (omega arith),
   ) c.zero-from.ensures.zero;
 }
