@@ -1,5 +1,4 @@
 pub mod Shared
-mod OneMore
 mod Ranges
 mod Deals
 mod Tasks
