@@ -1,12 +1,11 @@
 -- What calls that move many items stand for.
-use Rattle.std.specs.Prelude.{◌≡◌, ℕ, ◌+◌, ◌-◌, ◌<◌, ◌≤◌, ◌==◌, Bool, true, false, List, [], ◌∷◌, ◌++◌, take, map, length, slice_get, None, Some, refl, suc, zero}
+use Rattle.std.specs.Prelude.{◌≡◌, ℕ, ◌+◌, ◌-◌, ◌<◌, ◌≤◌, ◌==◌, Bool, true, false, List, [], ◌∷◌, ◌++◌, map, length, slice_get, None, Some, refl, suc, zero}
 use Rattle.std.proofs.Common.{ap, ◌∙◌, sym, arith, append_assoc, length-append}
 use Rattle.std.proofs.Math.Bool.{or-false}
 use Rattle.std.proofs.lemmas.Bool.Decides.{nat_tests}
 use Rattle.std.proofs.lemmas.List.{append-nil}
 use Rattle.std.proofs.lemmas.List.Elements.{filter_map-append}
 use Rattle.std.proofs.lemmas.List.Folds.{list_any-append}
-use Rattle.std.proofs.Math.Seq.{take-append_seam}
 use Rattle.mwc_pipe.specs.declared.step.Step.{Step}
 use Rattle.mwc_pipe.specs.declared.step.Step.TheVariants.{Put, Take}
 use Rattle.mwc_pipe.specs.declared.reply.Reply.{Reply}
@@ -123,7 +122,3 @@ module _ {T : Type 0} where
       let left : items_in past ≡ items_out past ++ (items ++ known) =
       seen.came ∙ append_assoc taken items known ∙ ap (λ (w : List T). w ++ (items ++ known)) (sym seen.went) in
       takes_on capacity past items known short seen.unclosed left none
-
-  -- the first part of a row that was cut in two
-  pub first_part : (row left right : List T) → left ++ right ≡ row → take (length left) row ≡ left
-  first_part row left right e = ap (λ (w : List T). take (length left) w) (sym e) ∙ take-append_seam left right

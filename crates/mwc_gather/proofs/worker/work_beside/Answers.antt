@@ -31,11 +31,3 @@ loop-preserved g c =
         All-push (λ (i : ℕ). i < game.slices) inv.0 j inv.4 low,
       ),
     )
-
-pub returns-in-Cut : goal.returns-in-Cut
-returns-in-Cut g c =
-    let sends = c.in-Cut.ensures.sends in search rules
-
-pub unreachable-requires : goal.unreachable-requires
-unreachable-requires g c =
-    let sends = c.in-Refused.ensures.sends in cc
