@@ -129,39 +129,27 @@ module _ {T : Type 0} where
   -- the steps one by one
 
   pub closed_step : (pipe : PipeView T) (x : T) → pipe.closed ≡ true → IsStep pipe (Put x) Closed pipe
-  closed_step pipe x ec =
-      is_step pipe pipe (Put x) Closed
-      (rw ec refl) (sym (ap
-      (λ b. if b then pipe else
-      (if length pipe.inside == pipe.capacity then pipe else (record pipe { inside = pipe.inside ++ x ∷ [] }))) ec))
+  closed_step pipe x ec = is_step pipe pipe (Put x) Closed (rw ec refl) (rw ec refl)
 
   pub full_step : (pipe : PipeView T) (x : T) → pipe.closed ≡ false → length pipe.inside ≡ pipe.capacity → IsStep pipe (Put x) Full pipe
   full_step pipe x ec ef =
       let full : (length pipe.inside == pipe.capacity) ≡ true = grind (arith, nat_tests) in
-      is_step pipe pipe (Put x) Full (rw (ec, full) refl)
-      (sym (ap (λ b. if b then pipe else
-      (if length pipe.inside == pipe.capacity then pipe else (record pipe { inside = pipe.inside ++ x ∷ [] }))) ec
-      ∙ ap (λ b. if b then pipe else (record pipe { inside = pipe.inside ++ x ∷ [] })) full))
+      is_step pipe pipe (Put x) Full (rw (ec, full) refl) (rw (ec, full) refl)
 
   pub accepted_step : (pipe new : PipeView T) (x : T) → pipe.closed ≡ false → length pipe.inside < pipe.capacity →
       new ≡ record pipe { inside = pipe.inside ++ x ∷ [] } → IsStep pipe (Put x) Accepted new
   accepted_step pipe new x ec less en =
       let full : (length pipe.inside == pipe.capacity) ≡ false = grind (arith, nat_tests) in
-      is_step pipe new (Put x) Accepted (rw (ec, full) refl)
-      (en ∙ sym (ap (λ b. if b then pipe else
-      (if length pipe.inside == pipe.capacity then pipe else (record pipe { inside = pipe.inside ++ x ∷ [] }))) ec
-      ∙ ap (λ b. if b then pipe else (record pipe { inside = pipe.inside ++ x ∷ [] })) full))
+      is_step pipe new (Put x) Accepted (rw (ec, full) refl) (en ∙ rw (ec, full) refl)
+
+  none_left : (pipe : PipeView T) → pipe.inside ≡ [] → pipe ≡ stepped pipe Take
+  none_left pipe e =
+      ap (λ xs. holding pipe.capacity xs pipe.closed) e ∙ sym (ap (λ xs. holding pipe.capacity (drop 1 xs) pipe.closed) e)
 
   pub take_step : (old new : PipeView T) (outcome : Taken T) → TakesOut old outcome new → IsStep old Take (reply_of_taken outcome) new
   take_step old new (taken.Item x) e = is_step old new Take (Item x) (rw e refl) (rw e refl)
-  take_step old new taken.Empty e =
-      is_step old new Take Empty
-      (rw (e.0, e.1) refl)
-      (e.2 ∙ ap (λ xs. holding old.capacity xs old.closed) e.0 ∙ sym (ap (λ xs. holding old.capacity (drop 1 xs) old.closed) e.0))
-  take_step old new taken.Ended e =
-      is_step old new Take Ended
-      (rw (e.0, e.1) refl)
-      (e.2 ∙ ap (λ xs. holding old.capacity xs old.closed) e.0 ∙ sym (ap (λ xs. holding old.capacity (drop 1 xs) old.closed) e.0))
+  take_step old new taken.Empty e = is_step old new Take Empty (rw (e.0, e.1) refl) (e.2 ∙ none_left old e.0)
+  take_step old new taken.Ended e = is_step old new Take Ended (rw (e.0, e.1) refl) (e.2 ∙ none_left old e.0)
 
   close_reply : (closed first : Bool) → first ≡ not closed → (reply_of_close {T = T} first) ≡ (if closed then Again else First)
   close_reply true first e = rw e refl
