@@ -83,7 +83,7 @@ def faults_of(path, name):
 
 def sees_planted_lines(top):
     """Whether a line that answers want of memory by hand is seen, whatever it looks like."""
-    name = "mwc_walk/src/list.rt"
+    name = "mwc_walk/src/slices.rt"
     with open(f"{top}/{name}", encoding="utf-8") as it:
         text = it.read()
     body = "    let mut walk = Walk::new(game, bits, j);\n"
@@ -95,9 +95,9 @@ def sees_planted_lines(top):
     ]
     for line in lines:
         with tempfile.TemporaryDirectory() as room:
-            with open(f"{room}/list.rt", "w", encoding="utf-8") as it:
+            with open(f"{room}/slices.rt", "w", encoding="utf-8") as it:
                 it.write(text.replace(body, f"{body}    {line}\n"))
-            if len(faults_of(f"{room}/list.rt", name)) != 1:
+            if len(faults_of(f"{room}/slices.rt", name)) != 1:
                 return False
     return True
 

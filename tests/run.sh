@@ -63,7 +63,7 @@ if [ ! -x "$program" ]; then
     failed=1
 else
     # the longest first, as many at once as there are processors
-    scripts="look refusals hostile sizes tally limits output options using launcher examples faults explain mistakes words workers prefixes pages"
+    scripts="look refusals hostile sizes tally too_many small_machine output worked_reports using launcher examples faults explain mistakes words workers prefixes pages"
     # these want the library
     callers="foreign archive"
     programs="random_games reading rooms memory_source gate_source"

@@ -1,5 +1,5 @@
 -- The end of gathering.
-use Rattle.std.specs.Prelude.{◌≡◌, ℕ, ◌<◌, ◌≤◌, Bool, true, false, List, [], ◌∷◌, ◌++◌, Some, None, cond, All, length, map, slice_get, refl}
+use Rattle.std.specs.Prelude.{◌≡◌, ℕ, ◌<◌, ◌≤◌, Bool, true, false, List, [], ◌∷◌, ◌++◌, Option, Some, None, cond, All, length, map, slice_get, refl}
 use Rattle.std.specs.List.{AllZip}
 use Rattle.std.proofs.Common.{get_or, append_assoc, ap, subst, arith, sym, ◌∙◌}
 use Rattle.std.proofs.lemmas.List.{length-map, get_or-map, map_push}
@@ -91,26 +91,15 @@ many_is_new_or_old m Start P f h e = h e
 many_is_new_or_old m Memory P f h e = h e
 many_is_new_or_old m Ring P f h e = h e
 
-memory_is_met : (a : Bool) → cond a (Some Start) (Some Memory) ≡ None → ⊥
-memory_is_met true e = cc
-memory_is_met false e = cc
-
-ring_is_met : (a b : Bool) → cond a (Some Start) (cond b (Some Memory) (Some Ring)) ≡ None → ⊥
-ring_is_met true b e = cc
-ring_is_met false true e = cc
-ring_is_met false false e = cc
-
-many_is_met : (a b c : Bool) → cond a (Some Start) (cond b (Some Memory) (cond c (Some Ring) (Some TooMany))) ≡ None → ⊥
-many_is_met true b c e = cc
-many_is_met false true c e = cc
-many_is_met false false true e = cc
-many_is_met false false false e = cc
+first_or_later : (b : Bool) (why : GatherFault) (later : Option GatherFault) → (later ≡ None → ⊥) → cond b (Some why) later ≡ None → ⊥
+first_or_later true why later some e = cc
+first_or_later false why later some e = some e
 
 pub one_is_met : (m : Met) (why : GatherFault) → fault_of (also m why) ≡ None → ⊥
-one_is_met m Start e = cc
-one_is_met m Memory e = memory_is_met m.start e
-one_is_met m Ring e = ring_is_met m.start m.memory e
-one_is_met m TooMany e = many_is_met m.start m.memory m.ring e
+one_is_met m Start = λ e. cc
+one_is_met m Memory = first_or_later m.start _ _ (λ e. cc)
+one_is_met m Ring = first_or_later m.start _ _ (first_or_later m.memory _ _ (λ e. cc))
+one_is_met m TooMany = first_or_later m.start _ _ (first_or_later m.memory _ _ (first_or_later m.ring _ _ (λ e. cc)))
 
 pub head_of : {X : Type 0} (P : X → Type 0) (x : X) (xs ys : List X) → ys ≡ x ∷ xs → All P ys → P x
 head_of {X} P x xs ys e a = All-head P x xs (subst (λ (l : List X). All P l) e a)

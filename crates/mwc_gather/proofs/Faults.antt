@@ -1,14 +1,14 @@
 -- The faults that were met.
-use Rattle.std.specs.Prelude.{◌≡◌, ℕ, false, List, [], ◌∷◌, ◌++◌, Option, Some, None, refl}
-use Rattle.std.proofs.Common.{ap, sym, ◌∙◌, inl, inr}
+use Rattle.std.specs.Prelude.{◌≡◌, ℕ, List, [], ◌∷◌, ◌++◌, Option, Some, None, refl}
+use Rattle.std.proofs.Common.{ap, sym, ◌∙◌}
 use Rattle.mwc_parts.specs.Slicing.{Slicing}
-use Rattle.mwc_parts.specs.Fault.{nothing, also}
-use Rattle.mwc_parts.specs.Shared.Fault.{also_all, IsEarly}
+use Rattle.mwc_parts.specs.Fault.{also}
+use Rattle.mwc_parts.specs.Shared.Fault.{also_all}
 use Rattle.mwc_parts.specs.declared.fault.Met.{Met}
 use Rattle.mwc_parts.specs.declared.fault.GatherFault.{GatherFault}
 use Rattle.mwc_parts.specs.declared.fault.GatherFault.TheVariants.{Memory}
 use Rattle.mwc_gather.specs.declared.desk.Desk.{Desk}
-use Rattle.mwc_gather.specs.Inner.Desks.{CanEndWith, HasStarted}
+use Rattle.mwc_gather.specs.Inner.Desks.{CanEndWith}
 
 -- one more fault
 pub noted_more : (m : Met) (whys : List (Option GatherFault)) (why : GatherFault)
@@ -30,12 +30,3 @@ noted_after start met after whys why e f = f ∙ ap (λ (m : Met). also m why) e
 -- where there is no room for a part
 pub memory_ends : (g : Slicing) (most : ℕ) (d : Desk) → CanEndWith g most d (Some Memory)
 memory_ends g most d = (λ e. cc, λ e. refl, λ e. absurd cc)
-
-early_few : (met : Met) (why : GatherFault) → IsEarly why → met ≡ also nothing why → met.many ≡ false
-early_few met why (inl e) f = ap (λ (m : Met). m.many) (f ∙ ap (also nothing) e)
-early_few met why (inr e) f = ap (λ (m : Met). m.many) (f ∙ ap (also nothing) e)
-
--- the start meets no TooMany
-pub opens_few : (workers started : ℕ) (met : Met) → HasStarted workers started met → met.many ≡ false
-opens_few workers started met (inl o) = ap (λ (m : Met). m.many) o.0
-opens_few workers started met (inr o) = early_few met o.0 o.1 o.2

@@ -1,7 +1,6 @@
 mod Slices
-mod Rows
+mod FirstWords
 mod UnderWay
-mod Wordings
 mod Words
 mod Joins
 mod Deals

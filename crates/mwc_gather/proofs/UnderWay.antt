@@ -11,10 +11,10 @@ use Rattle.mwc_parts.specs.Wording.{slice_words, cut_words}
 use Rattle.mwc_gather.specs.Sending.{sending}
 use Rattle.mwc_gather.specs.Inner.Sending.{SendsFirst, SendsSome}
 use Rattle.mwc_gather.proofs.Slices.{starts_sending, whole_starts}
-use Rattle.mwc_gather.proofs.Rows.{first_added, first_all, some_starts}
+use Rattle.mwc_gather.proofs.FirstWords.{first_added, first_all, some_starts}
 
--- of slice j, which has these coalitions and of which so many are wanted, some are given and so many may still be; their words went into
--- the pipe but for the row
+-- of slice j, which has these coalitions, of which `wanted` are wanted, some are given and `left` may still be; their words went into
+-- the pipe but for the parcel
 pub record UnderWay (all : List ℕ) (j wanted left : ℕ) (before : List Word) (to_come : List ℕ) (out row : List Word) : Type 0 where
   pub given : List ℕ
   pub split : all ≡ given ++ to_come

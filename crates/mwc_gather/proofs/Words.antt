@@ -4,19 +4,9 @@ use Rattle.std.specs.List.{list_any}
 use Rattle.std.proofs.Common.{ap, arith, sym, ◌∙◌}
 use Rattle.std.proofs.lemmas.List.Sums.{sum_by-append, sum_by-cons}
 use Rattle.std.proofs.lemmas.Bool.{false≢true}
-use Rattle.std.proofs.lemmas.List.{append-nil}
 use Rattle.mwc_pipe.specs.declared.word.Word.{Word}
 use Rattle.mwc_pipe.specs.declared.word.Word.TheVariants.{Open, One, Done, End}
-use Rattle.mwc_parts.specs.Wording.{open_words}
-use Rattle.mwc_parts.specs.Shared.Wording.{end_words, is_done}
-use Rattle.mwc_gather.proofs.Wordings.{open_words-more}
-
-pub opens_given : (accepted : List Word) (given : List ℕ) (told : Bool) (j : ℕ) → told ≡ false
-    → accepted ≡ open_words given ++ end_words told → accepted ++ Open j ∷ [] ≡ open_words (given ++ j ∷ []) ++ end_words told
-opens_given accepted given true j z e = absurd (false≢true (sym z))
-opens_given accepted given false j z e =
-    ap (λ (w : List Word). w ++ Open j ∷ []) (e ∙ append-nil (open_words given)) ∙ sym (open_words-more given j)
-    ∙ sym (append-nil (open_words (given ++ j ∷ [])))
+use Rattle.mwc_parts.specs.Shared.Wording.{is_done}
 
 -- the words that tell that a slice is whole
 done_more : (before row : List Word) → count_by is_done (before ++ row) ≡ count_by is_done before + count_by is_done row

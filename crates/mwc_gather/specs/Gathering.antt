@@ -10,7 +10,7 @@ use Rattle.mwc_parts.specs.declared.gathered.Gathered.{Gathered}
 
 -- what is answered: a part for each worker; in each part the slices ascend, and each piece is the slice of its number;
 -- worker w begins with slice w; and all slices in their order are the minimal winning coalitions, of which there are
--- at most so many. That each slice stands in the parts once is said of all that is gathered, by its type.
+-- at most `most`. That each slice stands in the parts once is said of all that is gathered, by its type.
 pub record Gathers (v : Votes) (bits workers most : ℕ) (r : Gathered) : Type 0 where
   pub a_part_each : length r.parts.items ≡ workers
   pub slices : r.slices ≡ 2 ^ bits

@@ -10,7 +10,7 @@ ghost use Rattle.mwc_gather.specs.Inner.Desks.{IsSameDesk, view_of, views_of, Al
 
 use crate::desk::Desk;
 use crate::job::Job;
-use crate::row::WORDS;
+use crate::parcel::WORDS;
 use crate::waiting::{BellPair, Bells, Patience};
 use mwc_parts::Marks;
 use mwc_pipe::Word;

@@ -15,7 +15,7 @@ ghost use Rattle.mwc_gather.specs.declared.desk.TheConstants.{TASKS};
 
 use crate::job::Job;
 use crate::promise::{Answer, GivenJob};
-use crate::row::WORDS;
+use crate::parcel::WORDS;
 use crate::told::Told;
 use crate::waiting::{BellPair, Bells, Patience};
 use crate::worker::work_beside;

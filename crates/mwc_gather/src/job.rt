@@ -7,8 +7,8 @@ use crate::promise::GivenJob;
 use mwc_pipe::{RingIn, RingOut};
 use std::snapshot::Snapshot;
 
-/// What the workers are to do: to list the slices of the game behind a gate at so many bits, up to a
-/// number of coalitions.
+/// What the workers are to do: to list the slices of the game behind a gate at `bits` bits, up to `most`
+/// coalitions.
 #[derive(Drop)]
 pub(crate) struct Job<'a, G> {
     pub guarded: Guarded<'a, G>,

@@ -2,7 +2,7 @@
 
 /// Who is told how many prefixes were looked at.
 pub trait Lookout {
-    /// So many prefixes more were looked at on the way to the coalitions of a slice, and so many of these were met:
+    /// `prefixes` prefixes more were looked at on the way to the coalitions of a slice, and `met` of these were met:
     /// each 1,048,576 prefixes of a slice are told of, so that a worker that finds nothing says so too. Under one rule,
     /// where the next coalition is near, they are not told of. The thread that looked at them calls this, so calls may
     /// overlap.

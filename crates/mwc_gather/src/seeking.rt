@@ -6,7 +6,7 @@ use crate::told::Told;
 use council_game::Coalition;
 use mwc_walk::{Seek, Walk};
 
-/// A lookout is told of each so many prefixes that were looked at in a slice.
+/// A lookout is told of each 1,048,576 prefixes that were looked at in a slice.
 const EACH: u64 = 1 << 20;
 
 /// What a lookout was told last of a walk.
@@ -45,8 +45,8 @@ impl LastTold {
     }
 }
 
-/// The next coalition of the slice, as the walk's own `next`; a lookout is told of each so many prefixes on the way.
-/// So many coalitions are wanted still.
+/// The next coalition of the slice, as the walk's own `next`; a lookout is told of each 1,048,576 prefixes on the way.
+/// Still wanted are `left` coalitions.
 pub(crate) fn next_told<G: Told>(
     guarded: &Guarded<'_, G>,
     walk: &mut Walk<'_>,

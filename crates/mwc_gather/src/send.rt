@@ -9,7 +9,7 @@ ghost use Rattle.mwc_gather.specs.Inner.Sending.{SendsFirst, SendsSome};
 use crate::guarded::{Gate, Guarded};
 use crate::lookout::NoLookout;
 use crate::putting::{PutsRows, WordByWord};
-use crate::row::Row;
+use crate::parcel::Parcel;
 use crate::seeking::{LastTold, next_told};
 use crate::sent::Sent;
 use crate::told::Told;
@@ -52,30 +52,30 @@ pub(crate) fn send<W: PutsRows<P>, R: Wait, P: PipeIn<Word>>(
     unreachable!()
 }
 
-/// Adds the word to the row, which is sent first where it is full; false where the pipe refuses a
+/// Adds the word to the parcel, which is sent first where it is full; false where the pipe refuses a
 /// word for good.
 fn add<W: PutsRows<P>, R: Wait, P: PipeIn<Word>>(
     rt: &R,
-    row: &mut Row,
+    parcel: &mut Parcel,
     word: Word,
     out: &mut P,
     pair: BellPair<'_>,
 ) -> bool
     ensures identity { P.identity out.new ≡ P.identity out.old }
-    ensures added { IsTrue result → SendsFirst (P.accepted out.old) (row.old ++ word ∷ [])
-        (P.accepted out.new) row.new × (P.broken out.new ≡ P.broken out.old) }
-    ensures refused { IsFalse result → SendsSome (P.accepted out.old) row.old (P.accepted out.new)
+    ensures added { IsTrue result → SendsFirst (P.accepted out.old) (parcel.old ++ word ∷ [])
+        (P.accepted out.new) parcel.new × (P.broken out.new ≡ P.broken out.old) }
+    ensures refused { IsFalse result → SendsSome (P.accepted out.old) parcel.old (P.accepted out.new)
         × (P.broken out.new ≡ true) }
 {
-    if !row.is_full() {
-        row.push(word);
+    if !parcel.is_full() {
+        parcel.push(word);
         return true;
     }
-    if !send::<W, _, _>(rt, row.words(), out, pair) {
+    if !send::<W, _, _>(rt, parcel.words(), out, pair) {
         return false;
     }
-    row.clear();
-    row.push(word);
+    parcel.clear();
+    parcel.push(word);
     true
 }
 
@@ -154,26 +154,26 @@ fn send_walk<W: PutsRows<P>, R: Wait, P: PipeIn<Word>, G: Told>(
     ensures unbroken { BreaksOnlyIfRefused (P.broken out.old) (P.broken out.new) result }
 {
     let mut walk = walk;
-    let mut row = Row::new();
-    row.push(Word::Open(slice));
+    let mut parcel = Parcel::new();
+    parcel.push(Word::Open(slice));
     let mut left = left;
     let mut last = LastTold::nothing(&walk, left);
     while let Some(coalition) = next_told(guarded, &mut walk, &mut last, left) {
-        if !add::<W, _, _>(rt, &mut row, Word::One(coalition), out, pair) {
+        if !add::<W, _, _>(rt, &mut parcel, Word::One(coalition), out, pair) {
             return Sent::Refused;
         }
         left -= 1;
         if left == 0 {
-            if !send::<W, _, _>(rt, row.words(), out, pair) {
+            if !send::<W, _, _>(rt, parcel.words(), out, pair) {
                 return Sent::Refused;
             }
             return Sent::Cut;
         }
     }
-    if !add::<W, _, _>(rt, &mut row, Word::Done(slice), out, pair) {
+    if !add::<W, _, _>(rt, &mut parcel, Word::Done(slice), out, pair) {
         return Sent::Refused;
     }
-    if !send::<W, _, _>(rt, row.words(), out, pair) {
+    if !send::<W, _, _>(rt, parcel.words(), out, pair) {
         return Sent::Refused;
     }
     Sent::Whole { left }

@@ -3,7 +3,7 @@
 /// What the sending of a slice answers.
 #[derive(Clone, Copy, Debug, Eq, PartialEq)]
 pub enum Sent {
-    /// The whole slice was sent, and so many coalitions may still be.
+    /// The whole slice was sent, and `left` coalitions may still be.
     Whole { left: u32 },
     /// As many coalitions were sent as might be, and the slice is not finished.
     Cut,

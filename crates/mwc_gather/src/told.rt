@@ -16,7 +16,7 @@ pub trait Told {
     fn announce(&self, worker: u8, slice: u16)
         requires { takes worker slice };
 
-    /// So many prefixes more were looked at, and so many coalitions met.
+    /// `prefixes` prefixes more were looked at, and `met` coalitions met.
     fn hear(&self, prefixes: u64, met: u64);
 }
 

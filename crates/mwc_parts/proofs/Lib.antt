@@ -1,5 +1,4 @@
 pub mod Shared
-mod Sums
 mod Ranges
 mod Deals
 mod Tasks

@@ -6,16 +6,13 @@ use Rattle.mwc_parts.specs.declared.draft.Draft.{Draft}
 
 -- a draft grows, and then by one more
 pub grows_more : (old mid new : Draft) (i : ℕ) → Grows old i mid → Grows mid 1 new → Grows old (i + 1) new
-grows_more old mid new i a b =
-    let a1 = a.got_room in let a2 = a.got_more in let a3 = a.ends_room in let a4 = a.ends_more in
-    let b1 = b.got_room in let b2 = b.got_more in let b3 = b.ends_room in let b4 = b.ends_more in
-    record { got_room = omega arith; got_more = omega arith; ends_room = omega arith; ends_more = omega arith }
+grows_more old mid new i a b = record { got_room = omega arith; got_more = omega arith; ends_room = omega arith; ends_more = omega arith }
 
 -- what has no room for one more after it grew had no room for all
 lacks_more : (old mid : Draft) (i n : ℕ) → i < n → Grows old i mid → LacksRoom mid 1 → LacksRoom old n
-lacks_more old mid i n l a (inl e) = let a1 = a.got_room in let a2 = a.got_more in inl (omega arith)
-lacks_more old mid i n l a (inr (inl e)) = let a3 = a.ends_room in let a4 = a.ends_more in inr (inl (omega arith))
-lacks_more old mid i n l a (inr (inr e)) = let a2 = a.got_more in inr (inr (omega arith))
+lacks_more old mid i n l a (inl e) = inl (omega arith)
+lacks_more old mid i n l a (inr (inl e)) = inr (inl (omega arith))
+lacks_more old mid i n l a (inr (inr e)) = inr (inr (omega arith))
 
 loses_by : (old mid new : Draft) (i n : ℕ) (b : Bool) → mid.lost ≡ b → i < n → Grows old i mid →
     LosesForWantOfRoom old n mid → LosesForWantOfRoom mid 1 new → LosesForWantOfRoom old n new

@@ -6,7 +6,7 @@ use Rattle.mwc_parts.specs.Slicing.{Slicing}
 use Rattle.mwc_pipe.specs.declared.word.Word.{Word}
 use Rattle.mwc_pipe.specs.declared.word.Word.TheVariants.{Open, One, Done, End}
 use Rattle.mwc_parts.specs.Wording.{open_words, IsLast, coalition_count}
-use Rattle.mwc_parts.proofs.Sums.{coalitions-cons}
+use Rattle.mwc_parts.proofs.Shared.Readings.{coalitions-cons}
 use Rattle.mwc_parts.specs.Shared.Wording.{end_words}
 
 -- no word that ends the work is a task that gives a slice

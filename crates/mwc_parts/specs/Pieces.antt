@@ -25,7 +25,7 @@ done_counts n (End cut ∷ ws) = done_counts n ws
 abbrev pub Rises : List ℕ → ℕ → Type 0
 Rises ends n = (m : ℕ) → m < length ends → (slice_index (0 ∷ ends) m ≤ slice_index ends m) × (slice_index ends m ≤ n)
 
--- where the slices of a row of so many coalitions end: one end for each, and the last is the end of the row
+-- where the slices of a row of `count` coalitions end: one end for each, and the last is the end of the row
 pub record HasEnds (slices ends : List ℕ) (count : ℕ) : Type 0 where
   pub one_end_each : length ends ≡ length slices
   pub ends_rise : Rises ends count

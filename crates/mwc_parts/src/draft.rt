@@ -26,7 +26,7 @@ pub struct Draft {
 }
 
 impl Draft {
-    /// The draft of no words, with room for the ends of so many slices.
+    /// The draft of no words, with room for the ends of `slices` slices.
     ///
     /// # Errors
     ///
@@ -119,7 +119,7 @@ impl Draft {
     }
 
     /// Keeps what the word tells of coalitions. A count that does not fit is told as want of
-    /// memory: so many coalitions would take more than 32 GB.
+    /// memory: 2^32 coalitions would take more than 32 GB.
     fn keep(&mut self, word: Word) -> Result<(), Memory>
         ensures got { OnOk result (self.new.got.items ≡ self.old.got.items ++ ones (word ∷ [])) }
         ensures ends { OnOk result (self.new.ends.items ≡ self.old.ends.items
@@ -132,7 +132,7 @@ impl Draft {
             Word::One(coalition) => self.got.push(coalition)?,
             Word::Done(_) => {
                 let Ok(end) = u32::try_from(self.got.len()) else {
-                    // memory: a count past 32 bits: so many coalitions take more than 32 GB
+                    // memory: a count past 32 bits: 2^32 coalitions take more than 32 GB
                     return Err(Memory);
                 };
                 self.ends.push(end)?;

@@ -1,7 +1,7 @@
 //! The part of one worker.
 ghost use Rattle.std.specs.Prelude.{◌≡◌, ◌<◌, ◌≤◌, ◌∷◌, length, MatchOption, slice_index, true, false};
 ghost use Rattle.std.specs.List.{sum_by};
-ghost use Rattle.mwc_parts.specs.Inner.Sums.{times_in};
+ghost use Rattle.mwc_parts.specs.Inner.Times.{times_in};
 ghost use Rattle.mwc_parts.specs.Pieces.{Rises};
 
 use council_game::Coalition;

@@ -1,5 +1,5 @@
 -- The counts of a history and the items inside.
-use Rattle.std.proofs.Common.{◌≡◌, ℕ, ◌-◌, ◌<◌, ◌==◌, Bool, true, false, List, [], ◌∷◌, ◌++◌, length, None, slice_get, if◌then◌else◌, refl, ap, sym, ◌∙◌, arith, drop, append_assoc, length-append, not}
+use Rattle.std.proofs.Common.{◌≡◌, ℕ, ◌-◌, ◌<◌, ◌==◌, Bool, true, false, ◌||◌, List, [], ◌∷◌, ◌++◌, length, slice_get, if◌then◌else◌, refl, ap, sym, ◌∙◌, arith, drop, append_assoc, length-append, not}
 use Rattle.std.proofs.lemmas.Bool.Decides.{nat_tests}
 use Rattle.std.proofs.Math.Bool.{or-false, or-true}
 use Rattle.std.proofs.lemmas.List.{append-nil}
@@ -59,63 +59,27 @@ module _ {T : Type 0} where
   reply_is past pipe Take leaves = rw (← leaves.closed, oldest past pipe leaves) refl
   reply_is past pipe Close leaves = rw (← leaves.closed) refl
 
-  -- a step that neither takes in nor gives out
-  leaves_still : (past : List (Event T)) (pipe : PipeView T) (event : Event T) → Leaves past pipe →
-      item_in event ≡ None → item_out event ≡ None → is_close event.0 ≡ false → Leaves (past ++ event ∷ []) pipe
-  leaves_still past pipe event leaves no_in no_out no_close = record {
+  -- a step that moves the items inside by what it takes in and gives out
+  leaves_by : (past : List (Event T)) (pipe new : PipeView T) (event : Event T) → Leaves past pipe →
+      items_out (event ∷ []) ++ new.inside ≡ pipe.inside ++ items_in (event ∷ []) → new.closed ≡ (pipe.closed || is_close event.0) →
+      Leaves (past ++ event ∷ []) new
+  leaves_by past pipe new event leaves moved shut = record {
     lawful = rw (
       filter_map-append item_in past (event ∷ []),
       filter_map-append item_out past (event ∷ []),
-      no_in,
-      no_out,
-      append-nil,
-      append-nil,
-    ) leaves.lawful;
-    closed = rw (list_any-append (λ event. is_close event.0) past (event ∷ []), no_close, or-false) leaves.closed;
-  }
-
-  -- a put that is accepted
-  leaves_more : (past : List (Event T)) (pipe : PipeView T) (x : T) → Leaves past pipe →
-      Leaves (past ++ (Put x, Accepted) ∷ []) (record pipe { inside = pipe.inside ++ x ∷ [] })
-  leaves_more past pipe x leaves = record {
-    lawful =
-        rw (
-          filter_map-append item_in past ((Put x, Accepted) ∷ []),
-          filter_map-append item_out past ((Put x, Accepted) ∷ []),
-          append-nil,
-          ← append_assoc,
-          leaves.lawful,
-        ) refl;
-    closed = rw (list_any-append (λ event. is_close event.0) past ((Put x, Accepted) ∷ []), or-false) leaves.closed;
-  }
-
-  -- a take that is answered by an item
-  leaves_less : (past : List (Event T)) (pipe : PipeView T) (x : T) (xs : List T) → Leaves past pipe → pipe.inside ≡ x ∷ xs →
-      Leaves (past ++ (Take, Item x) ∷ []) (record pipe { inside = xs })
-  leaves_less past pipe x xs leaves e = record {
-    lawful =
-        rw (
-          filter_map-append item_in past ((Take, Item x) ∷ []),
-          filter_map-append item_out past ((Take, Item x) ∷ []),
-          append-nil,
-          append_assoc,
-        ) (rw e at leaves.lawful);
-    closed = rw (list_any-append (λ event. is_close event.0) past ((Take, Item x) ∷ []), or-false) leaves.closed;
+      append_assoc,
+      moved,
+      ← append_assoc,
+      leaves.lawful,
+    ) refl;
+    closed = rw (list_any-append (λ event. is_close event.0) past (event ∷ []), or-false, ← leaves.closed) shut;
   }
 
   -- a close
   pub leaves_closed : (past : List (Event T)) (pipe : PipeView T) (reply : Reply T) → Leaves past pipe →
       Leaves (past ++ (Close, reply) ∷ []) (record pipe { closed = true })
-  leaves_closed past pipe reply leaves = record {
-    lawful =
-        rw (
-          filter_map-append item_in past ((Close, reply) ∷ []),
-          filter_map-append item_out past ((Close, reply) ∷ []),
-          append-nil,
-          append-nil,
-        ) leaves.lawful;
-    closed = rw (list_any-append (λ event. is_close event.0) past ((Close, reply) ∷ []), or-true) refl;
-  }
+  leaves_closed past pipe reply leaves =
+      leaves_by past pipe _ (Close, reply) leaves (sym (append-nil pipe.inside)) (sym (or-true pipe.closed))
 
   abbrev pub holding : ℕ → List T → Bool → PipeView T
   holding capacity inside closed = record { capacity = capacity; inside = inside; closed = closed }
@@ -124,15 +88,16 @@ module _ {T : Type 0} where
   leaves_put : (past : List (Event T)) (n : ℕ) (xs : List T) (x : T) (closed full : Bool) → Leaves past (holding n xs closed) →
       (length xs == n) ≡ full →
       Leaves (past ++ (Put x, reply_in (holding n xs closed) (Put x)) ∷ []) (stepped (holding n xs closed) (Put x))
-  leaves_put past n xs x true full leaves e = leaves_still past (holding n xs true) (Put x, Closed) leaves refl refl refl
-  leaves_put past n xs x false true leaves e = rw e (leaves_still past (holding n xs false) (Put x, Full) leaves refl refl refl)
-  leaves_put past n xs x false false leaves e = rw e (leaves_more past (holding n xs false) x leaves)
+  leaves_put past n xs x true full leaves e = leaves_by past (holding n xs true) _ (Put x, Closed) leaves (sym (append-nil xs)) refl
+  leaves_put past n xs x false true leaves e = rw e (leaves_by past (holding n xs false) (holding n xs false) (Put x, Full) leaves (sym (append-nil xs)) refl)
+  leaves_put past n xs x false false leaves e = rw e (leaves_by past (holding n xs false) (holding n (xs ++ x ∷ []) false) (Put x, Accepted) leaves refl refl)
 
   leaves_take : (past : List (Event T)) (n : ℕ) (xs : List T) (closed : Bool) → Leaves past (holding n xs closed) →
       Leaves (past ++ (Take, reply_in (holding n xs closed) Take) ∷ []) (stepped (holding n xs closed) Take)
-  leaves_take past n [] true leaves = leaves_still past (holding n [] true) (Take, Ended) leaves refl refl refl
-  leaves_take past n [] false leaves = leaves_still past (holding n [] false) (Take, Empty) leaves refl refl refl
-  leaves_take past n (x ∷ xs) closed leaves = leaves_less past (holding n (x ∷ xs) closed) x xs leaves refl
+  leaves_take past n [] true leaves = leaves_by past (holding n [] true) _ (Take, Ended) leaves refl refl
+  leaves_take past n [] false leaves = leaves_by past (holding n [] false) _ (Take, Empty) leaves refl refl
+  leaves_take past n (x ∷ xs) closed leaves =
+      leaves_by past (holding n (x ∷ xs) closed) _ (Take, Item x) leaves (sym (append-nil (x ∷ xs))) (sym (or-false closed))
 
   pub leaves_step : (past : List (Event T)) (pipe : PipeView T) (step : Step T) → Leaves past pipe →
       Leaves (past ++ (step, reply_in pipe step) ∷ []) (stepped pipe step)
@@ -164,39 +129,27 @@ module _ {T : Type 0} where
   -- the steps one by one
 
   pub closed_step : (pipe : PipeView T) (x : T) → pipe.closed ≡ true → IsStep pipe (Put x) Closed pipe
-  closed_step pipe x ec =
-      is_step pipe pipe (Put x) Closed
-      (rw ec refl) (sym (ap
-      (λ b. if b then pipe else
-      (if length pipe.inside == pipe.capacity then pipe else (record pipe { inside = pipe.inside ++ x ∷ [] }))) ec))
+  closed_step pipe x ec = is_step pipe pipe (Put x) Closed (rw ec refl) (rw ec refl)
 
   pub full_step : (pipe : PipeView T) (x : T) → pipe.closed ≡ false → length pipe.inside ≡ pipe.capacity → IsStep pipe (Put x) Full pipe
   full_step pipe x ec ef =
       let full : (length pipe.inside == pipe.capacity) ≡ true = grind (arith, nat_tests) in
-      is_step pipe pipe (Put x) Full (rw (ec, full) refl)
-      (sym (ap (λ b. if b then pipe else
-      (if length pipe.inside == pipe.capacity then pipe else (record pipe { inside = pipe.inside ++ x ∷ [] }))) ec
-      ∙ ap (λ b. if b then pipe else (record pipe { inside = pipe.inside ++ x ∷ [] })) full))
+      is_step pipe pipe (Put x) Full (rw (ec, full) refl) (rw (ec, full) refl)
 
   pub accepted_step : (pipe new : PipeView T) (x : T) → pipe.closed ≡ false → length pipe.inside < pipe.capacity →
       new ≡ record pipe { inside = pipe.inside ++ x ∷ [] } → IsStep pipe (Put x) Accepted new
   accepted_step pipe new x ec less en =
       let full : (length pipe.inside == pipe.capacity) ≡ false = grind (arith, nat_tests) in
-      is_step pipe new (Put x) Accepted (rw (ec, full) refl)
-      (en ∙ sym (ap (λ b. if b then pipe else
-      (if length pipe.inside == pipe.capacity then pipe else (record pipe { inside = pipe.inside ++ x ∷ [] }))) ec
-      ∙ ap (λ b. if b then pipe else (record pipe { inside = pipe.inside ++ x ∷ [] })) full))
+      is_step pipe new (Put x) Accepted (rw (ec, full) refl) (en ∙ rw (ec, full) refl)
+
+  none_left : (pipe : PipeView T) → pipe.inside ≡ [] → pipe ≡ stepped pipe Take
+  none_left pipe e =
+      ap (λ xs. holding pipe.capacity xs pipe.closed) e ∙ sym (ap (λ xs. holding pipe.capacity (drop 1 xs) pipe.closed) e)
 
   pub take_step : (old new : PipeView T) (outcome : Taken T) → TakesOut old outcome new → IsStep old Take (reply_of_taken outcome) new
   take_step old new (taken.Item x) e = is_step old new Take (Item x) (rw e refl) (rw e refl)
-  take_step old new taken.Empty e =
-      is_step old new Take Empty
-      (rw (e.0, e.1) refl)
-      (e.2 ∙ ap (λ xs. holding old.capacity xs old.closed) e.0 ∙ sym (ap (λ xs. holding old.capacity (drop 1 xs) old.closed) e.0))
-  take_step old new taken.Ended e =
-      is_step old new Take Ended
-      (rw (e.0, e.1) refl)
-      (e.2 ∙ ap (λ xs. holding old.capacity xs old.closed) e.0 ∙ sym (ap (λ xs. holding old.capacity (drop 1 xs) old.closed) e.0))
+  take_step old new taken.Empty e = is_step old new Take Empty (rw (e.0, e.1) refl) (e.2 ∙ none_left old e.0)
+  take_step old new taken.Ended e = is_step old new Take Ended (rw (e.0, e.1) refl) (e.2 ∙ none_left old e.0)
 
   close_reply : (closed first : Bool) → first ≡ not closed → (reply_of_close {T = T} first) ≡ (if closed then Again else First)
   close_reply true first e = rw e refl

@@ -4,7 +4,7 @@ pub mod PipeView
 pub mod Calls
 pub mod BatchView
 pub mod Refusal
-pub mod Rows
+pub mod RowSteps
 pub mod RingName
 pub mod RingViews
 pub mod Inner

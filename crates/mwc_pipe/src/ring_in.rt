@@ -2,7 +2,7 @@
 ghost use Rattle.std.specs.Prelude.{◌≡◌, ◌+◌, ◌<◌, ◌≤◌, List, [], ◌∷◌, ◌++◌, false, length, take, IfOk, OnOk, IfErr, IsOk};
 ghost use Rattle.mwc_pipe.specs.declared.word.Word.{Word};
 ghost use Rattle.mwc_pipe.specs.History.{Event};
-ghost use Rattle.mwc_pipe.specs.Rows.{AreAnswered, IsSeenByIn, puts_of};
+ghost use Rattle.mwc_pipe.specs.RowSteps.{AreAnswered, IsSeenByIn, puts_of};
 ghost use Rattle.mwc_pipe.specs.Refusal.{handed_back, broken_after};
 ghost use Rattle.mwc_pipe.specs.RingName.{RingName};
 

@@ -2,7 +2,7 @@
 ghost use Rattle.std.specs.Prelude.{◌≡◌, ◌≤◌, ◌<◌, ℕ, nat_lt, List, [], ◌∷◌, ◌++◌, length, take, drop, MatchOption};
 ghost use Rattle.mwc_pipe.specs.declared.word.Word.{Word};
 ghost use Rattle.mwc_pipe.specs.History.{Event, IsLawful};
-ghost use Rattle.mwc_pipe.specs.Rows.{AreAnswered, IsSeenByOut, takes_of};
+ghost use Rattle.mwc_pipe.specs.RowSteps.{AreAnswered, IsSeenByOut, takes_of};
 
 use crate::closed::Closed;
 use crate::rest::Rest;

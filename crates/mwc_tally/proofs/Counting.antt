@@ -19,7 +19,7 @@ use Rattle.power_index.proofs.Shared.Minimal.{minimal-are-coalitions, minimal-fe
 use Rattle.power_index.proofs.Shared.Sound.{total-is, tallies-are_counts}
 use Rattle.coalitions.proofs.Shared.Ranges.{range-more, sum_by-range-more, sum_by-range-le}
 use Rattle.mwc_tally.specs.Inner.Shares.{CountedUpTo, CountSlices, CountWhole, slice_of}
-use Rattle.mwc_tally.specs.declared.slices.Slices.{Slices}
+use Rattle.mwc_tally.specs.declared.sliced_game.SlicedGame.{SlicedGame}
 
 later : (P : ℕ → Type 0) (before rest : List ℕ) (c : ℕ) → All P (before ++ c ∷ rest) → P c
 later P [] rest c h = h 0 0 (omega arith)
@@ -52,7 +52,7 @@ module _ {g : GameView} {whole to_come rest : List ℕ} {c : ℕ} {t : Tables} (
   counted-next P all = later P h.before rest c (subst (All P) (sym next-joined) all)
 
 -- what a walk over a slice gives next is a coalition of the game, and there is room for it
-module _ (s : Slices) (j : ℕ) {to_come rest : List ℕ} {c : ℕ} {t : Tables} (next : to_come ≡ c ∷ rest)
+module _ (s : SlicedGame) (j : ℕ) {to_come rest : List ℕ} {c : ℕ} {t : Tables} (next : to_come ≡ c ∷ rest)
     (h : CountedUpTo s.game.now (slice_of s j) to_come t) where
   pub slice-next : (0 < c) × (c < 2 ^ length s.game.now.names)
   unfolding slice
@@ -64,11 +64,11 @@ module _ (s : Slices) (j : ℕ) {to_come rest : List ℕ} {c : ℕ} {t : Tables}
   slice-room = counted-room next h (slice-short (votes_of s.game.now) s.bits j (votes-are s.game.now h.tallies.of_game.is_game))
 
 -- all slices are the whole list
-pub all-slices : (s : Slices) → flat_map (slice_of s) (range_with_len 0 (2 ^ s.bits)) ≡ minimal_coalitions (votes_of s.game.now)
+pub all-slices : (s : SlicedGame) → flat_map (slice_of s) (range_with_len 0 (2 ^ s.bits)) ≡ minimal_coalitions (votes_of s.game.now)
 all-slices s = slices-joined (votes_of s.game.now) s.bits s.bits_fit.0 s.bits_fit.1
 
 -- the first j slices and slice j are not too many
-pub slices-room : (s : Slices) (j : ℕ) → IsGame s.game.now → j < 2 ^ s.bits
+pub slices-room : (s : SlicedGame) (j : ℕ) → IsGame s.game.now → j < 2 ^ s.bits
     → length (flat_map (slice_of s) (range_with_len 0 j)) + length (slice_of s j) ≤ 2 ^ 40
 slices-room s j game lt =
     let f : ℕ → ℕ = λ i. length (slice_of s i) in
@@ -80,7 +80,7 @@ slices-room s j game lt =
     let most = minimal-few s.game.now game in
     omega (arith, first, whole, same, more, less, most)
 
-pub slices-more : (s : Slices) (j : ℕ)
+pub slices-more : (s : SlicedGame) (j : ℕ)
     → flat_map (slice_of s) (range_with_len 0 j) ++ slice_of s j ≡ flat_map (slice_of s) (range_with_len 0 (j + 1))
 slices-more s j =
     let one : slice_of s j ≡ flat_map (slice_of s) ((0 + j) ∷ []) = sym (append-nil _)
@@ -117,7 +117,7 @@ permuted g f xs ys t same h = record {
 }
 
 -- the slices, each once, have the counts of the whole list
-pub whole-counts : (s : Slices) (taken : List ℕ) (t : Tables) → IsPermutation taken (range_with_len 0 (2 ^ s.bits))
+pub whole-counts : (s : SlicedGame) (taken : List ℕ) (t : Tables) → IsPermutation taken (range_with_len 0 (2 ^ s.bits))
     → CountSlices s taken t → CountWhole s t
 whole-counts s taken t same h =
     subst (λ (l : List ℕ). AreCounts s.game.now l t) (all-slices s)

@@ -12,10 +12,10 @@ mod fault;
 mod pieces;
 mod share;
 mod slice;
-mod slices;
+mod slice_queue;
+mod sliced_game;
 mod threads;
 mod watch;
-mod work;
 
 pub use fault::TallyFault;
 pub use pieces::tally_pieces;

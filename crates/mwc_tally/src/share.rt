@@ -3,7 +3,7 @@ ghost use Rattle.std.specs.Prelude.{◌≡◌, true, IfOk, MatchOption, ⊤};
 ghost use Rattle.std.specs.List.{range_with_len};
 ghost use Rattle.mwc_tally.specs.Inner.Shares.{IsShare, CountSlices, CountWhole};
 
-use crate::slices::Slices;
+use crate::sliced_game::SlicedGame;
 use council_game::{Memory, limits};
 use power_index::Counts;
 use std::alloc::Global;
@@ -23,7 +23,7 @@ pub(crate) struct Share {
 impl Share {
     /// No slice. (By itself, so that the room in which the counts are made is free again when a walk begins.)
     #[inline(never)]
-    pub(crate) fn none(alloc: Global, slices: Slices<'_>) -> Result<Share, Memory>
+    pub(crate) fn none(alloc: Global, slices: SlicedGame<'_>) -> Result<Share, Memory>
         ensures { IfOk result (IsShare slices.entry) }
     {
         Ok(Share {
@@ -37,7 +37,7 @@ impl Share {
     /// where a growth was refused.
     pub(crate) fn add(
         &mut self,
-        slices: Slices<'_>,
+        slices: SlicedGame<'_>,
         taken: &[u16],
         counts: &Counts,
     ) -> Result<(), Memory>
@@ -54,7 +54,7 @@ impl Share {
     }
 
     /// The counts, where the slices are all those of the game, each once.
-    pub(crate) fn whole(self, slices: Slices<'_>) -> Option<Counts>
+    pub(crate) fn whole(self, slices: SlicedGame<'_>) -> Option<Counts>
         requires { IsShare slices self }
         ensures { MatchOption result ⊤ (CountWhole slices.entry) }
     {

@@ -7,13 +7,13 @@ ghost use Rattle.mwc_walk.specs.Slices.{slice};
 ghost use Rattle.power_index.specs.Tables.{AreTallies};
 ghost use Rattle.mwc_tally.specs.Inner.Shares.{slice_of};
 
-use crate::slices::Slices;
+use crate::sliced_game::SlicedGame;
 use crate::watch::{EACH, NoWatch, Watch};
 use council_game::Game;
 use mwc_walk::{Seek, Walk};
 use power_index::Counts;
 
-/// The counts of slice `j` of a game at so many bits, by a walk over it. It takes no memory.
+/// The counts of slice `j` of a game at `bits` bits, by a walk over it. It takes no memory.
 ///
 /// There are at most 10 bits, and no more than members; `j` is below 2^bits.
 pub fn tally_slice(game: &Game, bits: u8, j: u16) -> Counts
@@ -22,13 +22,13 @@ pub fn tally_slice(game: &Game, bits: u8, j: u16) -> Counts
     requires slice { j < 2 ^ bits }
     ensures { AreTallies game.now (slice (votes_of game.now) bits j) result }
 {
-    match tally_watched(Slices { game, bits }, j, &NoWatch) {
+    match tally_watched(SlicedGame { game, bits }, j, &NoWatch) {
         Some(counts) => counts,
         None => unreachable!(),
     }
 }
 
-/// Tells a watch of so many coalitions more where they are enough. How many it is still to be told of.
+/// Tells a watch of `more` coalitions, where they are enough to tell of. How many it is still to be told of.
 fn tell_if_enough<W: Watch>(watch: &W, more: u64, slices: u16) -> u64
     requires { more ≤ EACH }
     ensures { result < EACH }
@@ -40,8 +40,8 @@ fn tell_if_enough<W: Watch>(watch: &W, more: u64, slices: u16) -> u64
     0
 }
 
-/// How many prefixes may still be looked at before the watch is told of them, 1 or more: so many were looked at when it was
-/// told last.
+/// How many prefixes may still be looked at before the watch is told of them, 1 or more: `told` were looked at when it
+/// was told last.
 fn until_told(walk: &Walk<'_>, told: u64) -> u64
     ensures { 0 < result }
 {
@@ -50,7 +50,7 @@ fn until_told(walk: &Walk<'_>, told: u64) -> u64
 }
 
 /// The same as `tally_slice`, and a watch is told of it; none where the watch stops it.
-pub(crate) fn tally_watched<W: Watch>(slices: Slices<'_>, j: u16, watch: &W) -> Option<Counts>
+pub(crate) fn tally_watched<W: Watch>(slices: SlicedGame<'_>, j: u16, watch: &W) -> Option<Counts>
     requires { j < 2 ^ slices.bits }
     ensures { MatchOption result W.may_stop
         (AreTallies slices.entry.game.now (slice_of slices.entry j)) }

@@ -9,9 +9,9 @@ ghost use Rattle.mwc_tally.specs.Inner.Shares.{IsShare, IsShareAt, CountWhole};
 use crate::fault::TallyFault;
 use crate::share::Share;
 use crate::slice::tally_watched;
-use crate::slices::Slices;
+use crate::sliced_game::SlicedGame;
 use crate::watch::Watch;
-use crate::work::Work;
+use crate::slice_queue::SliceQueue;
 use council_game::{Game, Memory};
 use power_index::Counts;
 use std::alloc::Global;
@@ -21,18 +21,18 @@ use std::thread;
 use std::thread::{PromisedHandle, Scope, Threads};
 
 /// A thread that was started.
-type Started<'s> = PromisedHandle<Result<Share, Memory>, Slices<'s>>;
+type Started<'s> = PromisedHandle<Result<Share, Memory>, SlicedGame<'s>>;
 
 /// The counts of all minimal winning coalitions of a game (`council_run::tally`, which reads a file and writes
-/// a report, rests on it), by so many threads, each of which takes
-/// the next slice that nobody took yet, until none is left. It waits for their end.
+/// a report, rests on it), by `workers` threads, each of which takes the next slice that nobody took yet, until none
+/// is left. It waits for their end.
 ///
 /// There are at most 10 bits, and no more than members; 1 to 16 threads.
 ///
 /// # Errors
 ///
-/// `Start` where a thread could not be started, else `Memory` where a growth was refused. Else `Stopped` where the watch stopped it before all slices were
-/// counted; what was counted is lost then.
+/// `Start` where a thread could not be started, else `Memory` where a growth was refused. Else `Stopped` where the
+/// watch stopped it before all slices were counted; what was counted is lost then.
 pub fn tally<R: Threads + Wait + Sync, W: Watch + Sync>(
     rt: &R,
     alloc: Global,
@@ -58,11 +58,11 @@ pub fn tally<R: Threads + Wait + Sync, W: Watch + Sync>(
             ensures share { IfOk result (IsShareAt game.entry.now bits) }
             ensures started { result ≡ Err TallyFault.Stopped → ⊥ }
         {
-            let work = Work::new(Slices { game, bits }, next, watch);
+            let work = SliceQueue::new(SlicedGame { game, bits }, next, watch);
             count_beside(scope, rt, alloc, &work, workers)
         },
     )?;
-    let slices = Slices { game, bits };
+    let slices = SlicedGame { game, bits };
     match share.whole(slices) {
         Some(counts) => Ok(counts),
         None => one_by_one(slices, watch).ok_or(TallyFault::Stopped),
@@ -73,7 +73,7 @@ pub fn tally<R: Threads + Wait + Sync, W: Watch + Sync>(
 fn start<'s, E, W: Watch + Sync>(
     scope: &Scope<'s, E>,
     alloc: Global,
-    work: &Work<'s, W>,
+    work: &SliceQueue<'s, W>,
 ) -> Option<Started<'s>>
     ensures { MatchOption result ⊤ (λ t. t.promise ≡ work.now.slices) }
 {
@@ -84,11 +84,11 @@ fn start<'s, E, W: Watch + Sync>(
     scope.spawn_with(work.slices, body).ok()
 }
 
-/// Starts so many threads, until one cannot be started: those that run, and whether they are all.
+/// Starts `workers` threads, until one cannot be started: those that run, and whether they are all.
 fn start_all<'s, E, W: Watch + Sync>(
     scope: &Scope<'s, E>,
     alloc: Global,
-    work: &Work<'s, W>,
+    work: &SliceQueue<'s, W>,
     workers: u8,
 ) -> Result<(Vec<Started<'s>>, bool), Memory>
     ensures given { IfOk result (λ r. All (λ t. t.promise ≡ work.now.slices) r.0.items) }
@@ -113,7 +113,7 @@ fn count_beside<'s, E, R: Threads, W: Watch + Sync>(
     scope: &Scope<'s, E>,
     rt: &R,
     alloc: Global,
-    work: &Work<'s, W>,
+    work: &SliceQueue<'s, W>,
     workers: u8,
 ) -> Result<Share, TallyFault>
     ensures share { IfOk result (IsShare work.now.slices) }
@@ -144,7 +144,7 @@ fn all_of(share: Share, started: bool, lost: bool) -> Result<Share, TallyFault>
 /// Joins the threads: what they counted together with a share, and whether any of it was lost for want of memory.
 fn join_all<'s, R: Threads>(
     rt: &R,
-    slices: Slices<'s>,
+    slices: SlicedGame<'s>,
     threads: Vec<Started<'s>>,
     share: Share,
 ) -> (Share, bool)
@@ -166,7 +166,7 @@ fn join_all<'s, R: Threads>(
 }
 
 /// The counts of all slices, one after the other; none where the watch stops it. The watch is told of each again.
-fn one_by_one<W: Watch>(slices: Slices<'_>, watch: &W) -> Option<Counts>
+fn one_by_one<W: Watch>(slices: SlicedGame<'_>, watch: &W) -> Option<Counts>
     ensures { MatchOption result W.may_stop (CountWhole slices.entry) }
 {
     let mut counts = Counts::none(slices.game);

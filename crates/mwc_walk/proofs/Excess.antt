@@ -38,7 +38,7 @@ there-and-comes v a is i c below prefix won =
     omega (arith, all, here.sum_is) in
     (omega (arith, met.1, whole), whole)
 
--- by so much the quota is passed with what comes at the least
+-- the excess over the quota with what comes at the least
 pub least-excess : (v : Votes) (a : Cursor) (i t b : ℕ) → CursorIs v a → i < a.rules → t ≤ (lane_at a.lanes i).sum + b
     → ((c : ℕ) → c / 2 ^ (v.members - a.place) ≡ a.prefix → wins v.rules c ≡ true → b ≤ weight (drop a.place (rule_at v.rules i).weights) c)
     → IsExcess v a.place a.prefix i (t - (lane_at a.lanes i).quota)

@@ -7,7 +7,7 @@ use Rattle.std.proofs.lemmas.List.Sums.{sum_by-take-drop, sum_by-drop_more}
 use Rattle.mwc_walk.specs.declared.lane.Lane.{Lane}
 use Rattle.mwc_walk.specs.Inner.Lanes.{lane_reaches, lane_wins, lane_with, lane_without}
 use Rattle.council_game.specs.Votes.{RuleView, IsRule, weight, rule_at}
-use Rattle.council_game.proofs.Shared.Weights.{weight-le, weight-zero}
+use Rattle.council_game.proofs.Shared.Weights.{weight-le}
 use Rattle.mwc_walk.specs.Inner.Places.{reaches, wins_at, LaneIs, LanesAre}
 use Rattle.mwc_walk.proofs.Each.{list_all-beside, AllZip-moved, All-beside}
 use Rattle.mwc_walk.proofs.Rules.{weight-step, weight-over, rest-step}
@@ -92,11 +92,6 @@ same-at x zero q = refl
 same-at x (suc n) zero = refl
 same-at x (suc n) (suc q) = same-at x n q
 
-pub same-below : {A : Type 0} (x d : A) (n q : ℕ) → q < n → get_or (replicate n x) q d ≡ x
-same-below x d zero q below = absurd (omega arith)
-same-below x d (suc n) zero below = refl
-same-below x d (suc n) (suc q) below = same-below x d n q (omega (arith, below))
-
 pub same-weights : (n : ℕ) (ws vs : List ℕ) → n ≤ length ws → length vs ≡ n → ((q : ℕ) → q < n → get_or ws q 0 ≡ get_or vs q 0)
     → take n ws ≡ vs
 same-weights n ws vs le long same =
@@ -120,9 +115,6 @@ fills-down ws m p rest le below here = omega (arith, sum-from ws m p le below, h
 pub drop-most : (xs : List ℕ) (p : ℕ) → sum (drop p xs) ≤ sum xs
 drop-most xs p = omega (arith, sum_by-take-drop (λ (y : ℕ). y) xs p)
 
-pub weight-none : (ws : List ℕ) → 0 ≡ weight (take 0 ws) 0
-weight-none ws = sym (weight-zero (take 0 ws))
-
 pub lanes-from : (n p x : ℕ) (rs : List RuleView) (ls : List Lane) → length rs ≤ length ls
     → ((i : ℕ) → i < length rs → (d : Lane) → LaneIs n p x (rule_at rs i) (get_or ls i d)) → LanesAre n p x rs (take (length rs) ls)
 lanes-from n p x [] ls le is = tt
@@ -137,9 +129,3 @@ lane-of n p x [] (l ∷ ls) are i below d = elim are [ ]
 lane-of n p x (r ∷ rs) [] are i below d = elim are [ ]
 lane-of n p x (r ∷ rs) (l ∷ ls) are zero below d = are.0
 lane-of n p x (r ∷ rs) (l ∷ ls) are (suc i) below d = lane-of n p x rs ls are.1 i (omega (arith, below)) d
-
-pub lanes-count : (n p x : ℕ) (rs : List RuleView) (ls : List Lane) → LanesAre n p x rs ls → length ls ≡ length rs
-lanes-count n p x [] [] are = refl
-lanes-count n p x [] (l ∷ ls) are = elim are [ ]
-lanes-count n p x (r ∷ rs) [] are = elim are [ ]
-lanes-count n p x (r ∷ rs) (l ∷ ls) are = omega (arith, lanes-count n p x rs ls are.1)

@@ -1,8 +1,9 @@
 -- Vetoers are in every winning coalition.
-use Rattle.std.proofs.Common.{◌≡◌, ◌⊎◌, ℕ, zero, suc, ◌+◌, ◌-◌, ◌/◌, ◌%◌, ◌^◌, ◌<◌, ◌≤◌, true, false, List, [], ◌∷◌, length, take, drop, get_or, sum, refl, arith, inl, inr}
+use Rattle.std.proofs.Common.{◌≡◌, ◌⊎◌, ℕ, zero, suc, ◌+◌, ◌-◌, ◌/◌, ◌%◌, ◌^◌, ◌<◌, ◌≤◌, true, false, List, [], ◌∷◌, length, take, drop, get_or, sum, refl, add-one, arith, inl, inr}
 use Rattle.std.specs.List.{list_any}
 use Rattle.std.proofs.lemmas.Bool.{both_ways, and_parts, or_cases, leb-true, ltb-true, cases_Bool, cases_eq}
 use Rattle.std.proofs.lemmas.List.{drop_all, take_all, length-take-le}
+use Rattle.std.proofs.lemmas.List.Sums.{sum_by_more}
 use Rattle.std.proofs.lemmas.Nat.Bits.{bit_at-lt}
 use Rattle.coalitions.proofs.Shared.Digits.{digit-added}
 use Rattle.council_game.specs.Votes.{RuleView, Votes, IsRule, rule_at, weight, wins}
@@ -68,23 +69,11 @@ module _ (n : ℕ) (ws vs fs : List ℕ) (lw : n ≤ length ws) (lv : n ≤ leng
         | inr one ↦ omega (arith, rest, first, rw one at others, rw one at all, whole)
       ]
 
-  pub parts-fit : (k p : ℕ) → p + k ≡ n
-      → sum (drop p (take n vs)) + sum (drop p (take n fs)) ≡ sum (drop p (take n ws))
-  parts-fit zero p at =
-      let v : drop p (take n vs) ≡ [] = drop_all p (take n vs) (omega (arith, length-take-le n vs lv)) in
-      let f : drop p (take n fs) ≡ [] = drop_all p (take n fs) (omega (arith, length-take-le n fs lf)) in
-      let w : drop p (take n ws) ≡ [] = drop_all p (take n ws) (omega (arith, length-take-le n ws lw)) in
-      rw (v, f, w) refl
-  parts-fit (suc k) p at =
-      let below : p < n = omega arith in
-      omega (
-        arith,
-        parts-fit k (p + 1) (omega arith),
-        sum-from vs n p lv below,
-        sum-from fs n p lf below,
-        sum-from ws n p lw below,
-        parted p below,
-      )
+  pub parts-fit : (m : ℕ) → m ≤ n → sum (take m vs) + sum (take m fs) ≡ sum (take m ws)
+  parts-fit zero le = refl
+  parts-fit (suc m) le =
+      let more = λ (xs : List ℕ) (long : n ≤ length xs). sum_by_more (λ (y : ℕ). y) xs m 0 (omega (arith, le, long)) in
+      rw (← add-one) (omega (arith, parts-fit m (omega (arith, le)), more vs lv, more fs lf, more ws lw, parted m (omega (arith, le))))
 
 -- the weights of rule i: those of the vetoers, and those of the others
 pub record Parts (v : Votes) (ls : List Lane) (i : ℕ) (vs fs : List ℕ) : Type 0 where
@@ -100,7 +89,7 @@ parts-sum v ls i vs fs parts =
     let full : length (rule_at v.rules i).weights ≡ v.members = parts.rule.full in
     let whole : take v.members (rule_at v.rules i).weights ≡ (rule_at v.rules i).weights = take_all v.members _ (omega (arith, full)) in
     let all = parts-fit v.members (rule_at v.rules i).weights vs fs (omega (arith, full)) parts.long_vetoed parts.long_free parts.parted
-    v.members 0 (omega arith) in
+    v.members (omega arith) in
     omega (arith, rw whole at all, parts.rule.light)
 
 pub split-is : (v : Votes) (ls : List Lane) (i : ℕ) (vs fs brings : List ℕ) → Parts v ls i vs fs

@@ -7,7 +7,7 @@ ghost use Rattle.mwc_walk.specs.Inner.Ahead.{AheadIs, OutlookIs};
 
 use crate::lane::lanes_of;
 use crate::price::{Price, Prices};
-use crate::sums::Sums;
+use crate::sums_ahead::SumsAhead;
 use crate::vetoes::Vetoes;
 use council_game::{Game, limits};
 
@@ -15,7 +15,7 @@ use council_game::{Game, limits};
 #[derive(Clone, Copy)]
 pub(crate) struct Outlook {
     /// What they can weigh together.
-    pub(crate) sums: Sums,
+    pub(crate) sums: SumsAhead,
     /// The least that they weigh for what they weigh by each other rule.
     pub(crate) prices: [Prices; limits::RULES],
 }
@@ -36,7 +36,7 @@ impl Outlook {
             prices[other] = Prices::new(free, &vetoes[other].free, members);
         }
         Outlook {
-            sums: Sums::new(free, members),
+            sums: SumsAhead::new(free, members),
             prices,
         }
     }
@@ -54,6 +54,7 @@ impl Ahead {
     pub(crate) fn of(game: &Game) -> Ahead
         ensures { AheadIs (votes_of game.now) result }
     {
+        // for the prover alone: its clauses tell what every game keeps
         let _members = game.members();
         let rules = game.rules();
         let vetoes = Vetoes::of_each(game, &lanes_of(game)[..rules]);

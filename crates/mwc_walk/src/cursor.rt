@@ -106,7 +106,7 @@ impl Cursor {
         }
     }
 
-    /// As `find`, but no further than so many visits more. Under one rule it always comes to a coalition or to the end.
+    /// As `find`, but at most `visits` visits further. Under one rule it always comes to a coalition or to the end.
     pub(crate) fn seek(&mut self, game: &Game, ahead: &mut Option<Ahead>, visits: u64) -> Step
         requires is { CursorIs (votes_of game.now) self.old }
         requires ahead { IfSome ahead.old (AheadIs (votes_of game.now)) }
@@ -140,6 +140,7 @@ impl Cursor {
         ensures ahead { IfSome ahead.new (AheadIs (votes_of game.now)) }
     {
         let found = self.find(game, ahead);
+        // for the prover alone: that the count fits its type
         let _visits = self.visits;
         match found {
             Some(coalition) => Step::Give(coalition),
@@ -147,7 +148,7 @@ impl Cursor {
         }
     }
 
-    /// How many visits there are to be after so many more; none where nothing is to stop a walk: under one rule, and
+    /// How many visits there are to be after `more` of them; none where nothing is to stop a walk: under one rule, and
     /// where the count can not hold them.
     fn most_visits(&self, more: u64) -> Option<u64>
         ensures { MatchOption result (self.now.rules ≢ 1 → 2 ^ 64 ≤ self.now.visits + more)
@@ -159,7 +160,7 @@ impl Cursor {
         self.visits.checked_add(more)
     }
 
-    /// Some steps: up to the next coalition of the slice, to its end, or no further than this many.
+    /// At most `steps` steps: up to the next coalition of the slice, or to its end.
     fn some_steps(&mut self, game: &Game, steps: u64) -> Step
         requires { CursorIs (votes_of game.now) self.old }
         ensures steps { SomeSteps (votes_of game.now) self.old result self.new }
@@ -174,7 +175,7 @@ impl Cursor {
         Step::On
     }
 
-    /// Steps up to the next coalition of the slice, to its end, or until there were so many visits.
+    /// Steps up to the next coalition of the slice, to its end, or until there were `visits` visits.
     fn up_to(&mut self, game: &Game, ahead: Option<&Ahead>, visits: u64) -> Step
         requires is { CursorIs (votes_of game.now) self.old }
         requires ahead { IfSome ahead (λ a. AheadIs (votes_of game.now) a.now) }
@@ -312,7 +313,7 @@ impl Cursor {
     }
 
     /// Whether no coalition below is minimal by what can still come: some quota can not be met by any sum that
-    /// can, or each is passed by so much that a member can be spared.
+    /// can, or each is passed by enough to spare a member.
     #[inline(never)]
     fn leads_nowhere(&self, game: &Game, ahead: &Ahead) -> bool
         requires is { CursorIs (votes_of game.now) self.now }
@@ -412,7 +413,7 @@ impl Cursor {
             .saturating_add(ahead.vetoes[rule].brings[self.place])
     }
 
-    /// Whether the prefix has a member whom each rule can spare, where the quotas are passed by so much. Tried from the
+    /// Whether the prefix has a member whom each rule can spare that passes its quota by its `excess`. Tried from the
     /// last by rank, up to one whom the first rule can not spare: by that rule no member before it is lighter.
     #[inline(always)]
     fn has_spared(&self, game: &Game, excess: &[u64; limits::RULES]) -> bool

@@ -39,7 +39,7 @@ impl Price {
         }
     }
 
-    /// The least that members weigh by the one rule who weigh so much by the other.
+    /// The least that members weigh by the one rule who weigh `need` by the other.
     pub(crate) fn of(&self, need: u64) -> u64
         ensures { (f g : ℕ) → IsPrice self.now f g → need ≤ f → result ≤ g }
     {
@@ -69,7 +69,9 @@ impl Prices {
     ) -> Prices
         requires { members ≤ MEMBERS }
         ensures { (p c : ℕ) → p ≤ members →
-            IsPrice (price_at result p) (weight (drop p (take members other.now)) c) (weight (drop p (take members own.now)) c) }
+            IsPrice (price_at result p)
+            (weight (drop p (take members other.now)) c)
+            (weight (drop p (take members own.now)) c) }
     {
         let mut from = [Price { own: 0, other: 0 }; limits::SIZES];
         for place in (0..members).rev() {

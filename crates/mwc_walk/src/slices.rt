@@ -1,11 +1,48 @@
-//! How many slices there are.
-ghost use Rattle.std.specs.Prelude.{◌≡◌, ◌≤◌, ◌^◌};
+//! The slices of a game: how many there are, and one as a list.
+ghost use Rattle.std.specs.Prelude.{◌≡◌, ◌≤◌, ◌<◌, ◌^◌, length, take, IfOk};
 ghost use Rattle.coalitions.specs.declared.limits.TheConstants.{BITS};
+ghost use Rattle.council_game.specs.Game.{votes_of};
+ghost use Rattle.mwc_walk.specs.Slices.{slice};
 
-/// The number of slices at so many bits, at most 10: 2^bits.
+use crate::Walk;
+use council_game::{Coalition, Game, Memory};
+use std::alloc::Global;
+
+/// The number of slices at `bits` bits, at most 10: 2^bits.
 pub fn slice_count(bits: u8) -> u16
     requires { bits ≤ BITS }
     ensures { result ≡ 2 ^ bits }
 {
     1 << bits
+}
+
+/// The first `most` coalitions of slice `j` at `bits` bits, in listing order, or all of them where
+/// there are no more.
+///
+/// There are at most 10 bits, and no more than members; `j` is below 2^bits.
+///
+/// # Errors
+///
+/// `Memory` where a growth was refused.
+pub fn list_slice(
+    alloc: Global,
+    game: &Game,
+    bits: u8,
+    j: u16,
+    most: u32,
+) -> Result<Vec<Coalition>, Memory>
+    requires few { bits ≤ BITS }
+    requires bits { bits ≤ length game.now.names }
+    requires slice { j < 2 ^ bits }
+    ensures { IfOk result (λ v. v.items ≡ take most (slice (votes_of game.now) bits j)) }
+{
+    let mut walk = Walk::new(game, bits, j);
+    let mut list = Vec::new(alloc);
+    for _ in 0..most {
+        match walk.next() {
+            Some(coalition) => list.push(coalition)?,
+            None => break,
+        }
+    }
+    Ok(list)
 }

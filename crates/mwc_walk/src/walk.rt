@@ -40,7 +40,7 @@ impl<'a> Model for Walk<'a> {
 }
 
 impl<'a> Walk<'a> {
-    /// The walk over slice `j` of a game at so many bits, with the whole slice to come: the minimal
+    /// The walk over slice `j` of a game at `bits` bits, with the whole slice to come: the minimal
     /// winning coalitions whose first `bits` places are those of the number 2^bits - 1 - j.
     ///
     /// There are at most 10 bits, and no more than members; `j` is below 2^bits. The check of each
@@ -85,9 +85,9 @@ impl<'a> Walk<'a> {
         self.cursor.find(self.game, &mut self.ahead)
     }
 
-    /// Seeks the next coalition of the slice as `next` does, but makes so many visits at the most, 1 or more: after these it
-    /// answers NotYet, and goes on when it is called again. Nothing else is changed then. Under one rule, where the next
-    /// coalition is near, it never answers NotYet, nor where the count of visits could not hold so many more.
+    /// Seeks the next coalition of the slice as `next` does, but makes at most `visits` visits, 1 or more: after these
+    /// it answers NotYet, and goes on when it is called again. Nothing else is changed then. Under one rule, where the
+    /// next coalition is near, it never answers NotYet, nor where the count of visits could not hold that many more.
     pub fn seek(&mut self, visits: u64) -> Seek
         requires { 0 < visits }
         ensures seeks { Seeks visits self.old result self.new }

@@ -50,8 +50,8 @@ CanEndWith g most d None = IsWell (view_of d) × (d.told ≡ true)
 CanEndWith g most d (Some why) = (why ≢ Start) × (d.draft.lost ≡ true → why ≡ Memory)
     × (why ≡ TooMany → most < coalition_count g d.given.items)
 
--- what was met where so many workers were to be started and so many were: nothing where these are all, or else one fault, which is
--- Start or want of memory
+-- what was met where `workers` workers were to be started and `started` were: nothing where these are all, or else one fault, which
+-- is Start or want of memory
 abbrev pub HasStarted : ℕ → ℕ → Met → Type 0
 HasStarted workers started met =
     ((met ≡ nothing) × (started ≡ workers)) ⊎ ((why : GatherFault) × IsEarly why × (met ≡ also nothing why) × (started < workers))

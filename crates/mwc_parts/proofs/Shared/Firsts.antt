@@ -10,7 +10,7 @@ use Rattle.std.proofs.lemmas.List.Elements.{All-head, All-tail, All-map, All-wea
 use Rattle.coalitions.proofs.Shared.Ranges.{sum_by-range-le}
 use Rattle.mwc_parts.specs.Slicing.{Slicing}
 use Rattle.std.specs.List.{sum_by}
-use Rattle.mwc_parts.specs.Inner.Sums.{times_in}
+use Rattle.mwc_parts.specs.Inner.Times.{times_in}
 use Rattle.mwc_parts.specs.Wording.{coalition_count}
 use Rattle.mwc_parts.specs.Shared.Deals.{share_from, share_of, AreDealt}
 use Rattle.mwc_parts.specs.Shared.Dealing.{DeskView, IsWell, given_slices, DealsInTurn, TakesTurn, DealsOneEach, IsFresh}
@@ -157,7 +157,7 @@ pub first_held : (hs : List ℕ) (w : ℕ) → w < length hs → ((v : ℕ) → 
 first_held hs w l h =
     begins_with w 0 hs w (omega arith) l (λ v b. let o = h v b in omega arith)
 
--- the first slice of worker w is slice w, where there are so many slices and workers
+-- the first slice of worker w is slice w, where there are more than w slices and workers
 pub share_begins : {n k : ℕ} {early stopped : Bool} {marks : List (Option ℕ)} (desks : List DeskView)
     → DealsInTurn n k early marks stopped desks → stopped ≡ false → k ≡ length desks → (w : ℕ) → w < k → w < n → (rest : List ℕ)
     × (get_or (given_slices desks) w [] ≡ w ∷ rest)

@@ -5,7 +5,7 @@ use Rattle.std.proofs.Common.{eqb, ap, arith, sym, ◌∙◌}
 use Rattle.std.proofs.lemmas.Bool.{lt-ltb}
 use Rattle.std.proofs.lemmas.List.Sums.{sum_by-append, sum_by-cons}
 use Rattle.std.specs.List.{sum_by}
-use Rattle.mwc_parts.specs.Inner.Sums.{times_in}
+use Rattle.mwc_parts.specs.Inner.Times.{times_in}
 use Rattle.mwc_parts.specs.Shared.Deals.{AreDealt}
 use Rattle.mwc_parts.specs.Parts.{shares, HasEachSliceOnce}
 use Rattle.mwc_parts.specs.declared.part.Part.{Part}

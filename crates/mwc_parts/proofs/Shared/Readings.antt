@@ -9,9 +9,12 @@ use Rattle.mwc_parts.specs.Slicing.{Slicing}
 use Rattle.mwc_pipe.specs.declared.word.Word.{Word}
 use Rattle.mwc_pipe.specs.declared.word.Word.TheVariants.{Open, One, Done, End}
 use Rattle.mwc_parts.specs.Wording.{wording, coalition_count}
-use Rattle.mwc_parts.proofs.Sums.{coalitions-cons}
+use Rattle.std.proofs.lemmas.List.Sums.{sum_by-cons}
 use Rattle.mwc_parts.specs.Shared.Settled.{IsSentWhole, ends_from}
 use Rattle.mwc_parts.specs.Pieces.{one_in, ones, done_counts, HasEnds}
+
+pub coalitions-cons : (g : Slicing) (j : ℕ) (s : List ℕ) → coalition_count g (j ∷ s) ≡ length (g.slice j) + coalition_count g s
+coalitions-cons g j s = sum_by-cons (λ i. length (g.slice i)) j s
 
 ones-slice : (j : ℕ) (l : List ℕ) (rest : List Word) → ones (((Open j ∷ map One l) ++ Done j ∷ []) ++ rest) ≡ l ++ ones rest
 ones-slice j [] rest = refl

@@ -6,26 +6,26 @@ use Rattle.council_game.specs.Votes.{minimal_coalitions}
 use Rattle.mwc_walk.specs.Slices.{slice}
 use Rattle.power_index.specs.Tables.{Tables, AreTallies, AreCounts}
 use Rattle.mwc_tally.specs.declared.share.Share.{Share}
-use Rattle.mwc_tally.specs.declared.slices.Slices.{Slices}
+use Rattle.mwc_tally.specs.declared.sliced_game.SlicedGame.{SlicedGame}
 
 -- the coalitions of each slice
-abbrev pub slice_of : Slices → ℕ → List ℕ
+abbrev pub slice_of : SlicedGame → ℕ → List ℕ
 slice_of s = slice (votes_of s.game.now) s.bits
 
 -- the tables count these slices, joined
-abbrev pub CountSlices : Slices → List ℕ → Tables → Type 0
+abbrev pub CountSlices : SlicedGame → List ℕ → Tables → Type 0
 CountSlices s taken t = AreTallies s.game.now (flat_map (slice_of s) taken) t
 
 -- the counts are those of the slices that were taken
-abbrev pub IsShare : Slices → Share → Type 0
+abbrev pub IsShare : SlicedGame → Share → Type 0
 IsShare s share = CountSlices s share.taken.items share.counts.value
 
--- the same of a game at so many bits
+-- the same of a game with `bits` members fixed in each slice
 abbrev pub IsShareAt : GameView → ℕ → Share → Type 0
 IsShareAt g bits s = AreTallies g (flat_map (slice (votes_of g) bits) s.taken.items) s.counts.value
 
 -- the tables count the whole game
-abbrev pub CountWhole : Slices → Tables → Type 0
+abbrev pub CountWhole : SlicedGame → Tables → Type 0
 CountWhole s t = AreCounts s.game.now (minimal_coalitions (votes_of s.game.now)) t
 
 -- of a list of coalitions those before what is to come are counted

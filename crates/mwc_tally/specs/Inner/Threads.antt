@@ -1,12 +1,14 @@
--- What a thread was given.
-use Rattle.std.specs.Prelude.{ℕ, ◌≡◌, ◌≤◌, ◌^◌, List, length}
+-- What a thread was given, and what was counted.
+use denote.Ref.{Bor}
+use Rattle.std.specs.Prelude.{ℕ, ◌≡◌, ◌≤◌, ◌^◌, List, length, take, drop}
 use Rattle.coalitions.specs.declared.limits.TheConstants.{MEMBERS}
 use Rattle.council_game.specs.Game.{GameView, AreNonemptyCoalitions}
+use Rattle.power_index.specs.Tables.{Tables, AreTallies}
 use Rattle.mwc_tally.specs.Pieces.{joined}
-use Rattle.mwc_tally.specs.declared.pieces.GivenPart.{GivenPart}
+use Rattle.mwc_tally.specs.declared.pieces.GivenStretch.{GivenStretch}
 
--- the thread counts at most so many coalitions of this list, past so many
-pub record IsGivenPart (g : GameView) (list : List ℕ) (skip most : ℕ) (given : GivenPart)
+-- the thread counts at most `most` coalitions of this list, past its first `skip`
+pub record IsGivenStretch (g : GameView) (list : List ℕ) (skip most : ℕ) (given : GivenStretch)
     : Type 0 where
   pub of_game : given.game.value ≡ g
   pub of_list : joined given.pieces.value.now ≡ list
@@ -17,3 +19,11 @@ pub record IsGivenPart (g : GameView) (list : List ℕ) (skip most : ℕ) (given
 pub record CanBeCounted (g : GameView) (list : List ℕ) : Type 0 where
   pub few : length list ≤ 2 ^ MEMBERS
   pub coalitions : AreNonemptyCoalitions g list
+
+-- the tables count at most `most` coalitions of the pieces, past the first `skip`
+abbrev pub CountStretch : GameView → List (Bor (List ℕ)) → ℕ → ℕ → Tables → Type 0
+CountStretch g pieces skip most t = AreTallies g (take most (drop skip (joined pieces))) t
+
+-- the tables count the first n coalitions of the pieces
+abbrev pub CountFirst : GameView → List (Bor (List ℕ)) → ℕ → Tables → Type 0
+CountFirst g pieces n t = AreTallies g (take n (joined pieces)) t

@@ -3,7 +3,7 @@ use Rattle.std.specs.Prelude.{ℕ, [], ◌<◌, ◌≤◌, List, length, slice_i
 use Rattle.council_game.specs.Votes.{Votes}
 use Rattle.mwc_walk.specs.declared.intervals.Intervals.{Intervals}
 use Rattle.mwc_walk.specs.declared.price.Prices.{Prices}
-use Rattle.mwc_walk.specs.declared.sums.Sums.{Sums}
+use Rattle.mwc_walk.specs.declared.sums_ahead.SumsAhead.{SumsAhead}
 use Rattle.mwc_walk.specs.declared.vetoes.Vetoes.{Vetoes}
 use Rattle.mwc_walk.specs.declared.ahead.Outlook.{Outlook}
 use Rattle.mwc_walk.specs.declared.ahead.Ahead.{Ahead}
@@ -11,7 +11,7 @@ use Rattle.mwc_walk.specs.Inner.Covers.{Covers}
 use Rattle.mwc_walk.specs.Inner.Prices.{IsPrice, price_at}
 use Rattle.mwc_walk.specs.Inner.Vetoes.{vetoes_at, free_from, SplitsAre}
 
-abbrev pub sums_at : Sums → ℕ → Intervals
+abbrev pub sums_at : SumsAhead → ℕ → Intervals
 sums_at s p = slice_index_or s.from p (record { count = 0; items = [] })
 
 abbrev pub prices_at : List Prices → ℕ → Prices

@@ -14,7 +14,7 @@ abbrev pub IsEnough : Votes → ℕ → ℕ → List ℕ → Type 0
 IsEnough v p x es = (i : ℕ) → i < length v.rules →
     weight (take p (rule_at v.rules i).weights) x - (rule_at v.rules i).quota ≤ slice_index es i
 
--- others than vetoers bring at least so much to each winning coalition that begins with the prefix
+-- others than vetoers bring at least `need` to each winning coalition that begins with the prefix
 abbrev pub IsNeed : Votes → ℕ → ℕ → Vetoes → ℕ → Type 0
 IsNeed v p x s need = (c : ℕ) → c / 2 ^ (v.members - p) ≡ x → wins v.rules c ≡ true → need ≤ free_from v s p c
 

@@ -21,7 +21,7 @@ pub record IsSplit (v : Votes) (i : ℕ) (s : Vetoes) : Type 0 where
 abbrev pub SplitsAre : Votes → List Vetoes → Type 0
 SplitsAre v vs = (i : ℕ) → i < length v.rules → IsSplit v i (vetoes_at vs i)
 
--- at the least, the vetoers bring so much
+-- the vetoers bring at least what the table says
 abbrev pub BringsAre : Votes → List Vetoes → Type 0
 BringsAre v vs = (i p c : ℕ) → i < length v.rules → p ≤ v.members → wins v.rules c ≡ true →
     slice_index (vetoes_at vs i).brings p ≤ weight (drop p (rule_at v.rules i).weights) c

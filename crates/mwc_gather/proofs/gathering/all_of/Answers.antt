@@ -3,8 +3,10 @@ use Rattle.mwc_parts.specs.Slicing.{Slicing}
 use Rattle.std.specs.List.{sum_by}
 use Rattle.mwc_parts.specs.declared.part.Part.{Part}
 use Rattle.mwc_parts.proofs.Shared.Once.{dealt_each_once}
+use Rattle.council_game.specs.Game.{votes_of}
+use Rattle.mwc_walk.proofs.Shared.Joined.{slices-joined}
 use Rattle.mwc_gather.specs.Slicings.{slicing}
-use Rattle.mwc_gather.proofs.Wholes.{whole, all_total_is, all_pieces}
+use Rattle.mwc_gather.proofs.Wholes.{all_total_is, all_pieces}
 use Rattle.mwc_gather.proofs.Ends.{complete_sum, end_increases}
 use Rattle.mwc_gather.proofs.gathering.all_of.Goals as goal
 
@@ -38,5 +40,5 @@ returns-clause-gathers g c =
       pieces = all_pieces game parts complete.are_parts;
       begins = complete.begins;
       few = omega arith;
-      whole = rw c.slice_count.ensures (whole job.guarded job.bits job.bits_fit.0 job.bits_fit.1);
+      whole = rw c.slice_count.ensures (slices-joined (votes_of job.guarded) job.bits job.bits_fit.0 job.bits_fit.1);
     }

@@ -1,8 +1,6 @@
-use Rattle.std.proofs.Common.{◌<◌, List, subst, sym, ap, ◌∙◌, rules, inr, arith}
+use Rattle.std.proofs.Common.{List, subst, sym, rules}
 use Rattle.std.specs.Prelude.{All}
 use Rattle.std.proofs.lemmas.List.Elements.{All-push}
-use Rattle.mwc_parts.specs.declared.fault.Met.{Met}
-use Rattle.mwc_parts.specs.Fault.{also}
 use Rattle.mwc_parts.specs.Shared.Dealing.{IsFresh}
 use Rattle.mwc_parts.specs.Slicing.{Slicing}
 use Rattle.mwc_gather.specs.Slicings.{slicing}
@@ -10,13 +8,6 @@ use Rattle.mwc_gather.specs.declared.desk.Desk.{Desk}
 use Rattle.mwc_gather.specs.Inner.Desks.{views_of, IsOf, AllOf}
 use Rattle.mwc_gather.proofs.Ends.{fresh_push}
 use Rattle.mwc_gather.proofs.gathering.open_all.Goals as goal
-
-pub returns-in-Err-clause-met : goal.returns-in-Err-clause-met
-returns-in-Err-clause-met g c =
-    let why = c.in-Err.why in
-    let count = c.loop-worker.invariant.0 in
-    let below : c.loop-worker.worker < c.args.workers = c.loop-worker-test.true in
-    inr (why, c.in-Err.ensures.fault, c.note-in-Err.ensures ∙ ap (λ (m : Met). also m why) c.loop-worker.invariant.4, omega arith)
 
 pub loop-worker-preserved : goal.loop-worker-preserved
 loop-worker-preserved g c =

@@ -7,19 +7,14 @@ use Rattle.mwc_parts.specs.Fault.{fault_of}
 use Rattle.mwc_gather.specs.declared.desk.Desk.{Desk}
 use Rattle.mwc_gather.specs.Slicings.{slicing}
 use Rattle.mwc_gather.specs.Inner.Desks.{DealsTo}
-use Rattle.mwc_gather.specs.Inner.Gathering.{all_total, IsComplete}
+use Rattle.mwc_gather.specs.Inner.Gathering.{all_total}
 use Rattle.mwc_gather.proofs.Wholes.{all_total_is}
-use Rattle.mwc_gather.proofs.Faults.{opens_few}
 use Rattle.mwc_gather.proofs.gathering.run.Goals as goal
 
 pub new-requires : goal.new-requires
 new-requires g c =
     rw c.slice_count.ensures
     (pow_mono {i = 0} {j = c.args.job.now.bits} (omega arith), pow_mono {i = c.args.job.now.bits} {j = 10} c.args.job.now.bits_fit.0)
-
-pub finish_all-requires-clause-start : goal.finish_all-requires-clause-start
-finish_all-requires-clause-start g c =
-    opens_few c.args.workers c.open_all-desks.result.0.len c.open_all-desks.result.1 c.open_all-desks.ensures.met
 
 pub finish_all-requires-clause-dealt : goal.finish_all-requires-clause-dealt
 finish_all-requires-clause-dealt g c =
@@ -42,9 +37,3 @@ returns-in_err-parts-clause-many g c = λ e.
     let count = all_total_is job.guarded job.bits job.bits_fit.0 job.bits_fit.1 in
     let over : job.most < all_total (slicing job.guarded job.bits) = c.in_err-parts.ensures.many (ap Err (sym (rw e at c.from_residual.ensures.1))) in
     omega (arith, count, over)
-
-pub all_of-requires : goal.all_of-requires
-all_of-requires g c =
-    let same = c.open_all-desks.ensures.all c.in_ok-parts.ensures.none in
-    let some = c.requires.workers.0 in
-    subst (λ (n : ℕ). IsComplete (slicing c.args.job.now.guarded c.args.job.now.bits) n c.in_ok-parts.parts.items) same (c.in_ok-parts.ensures.parts (omega (arith, same, some)))

@@ -1,5 +1,5 @@
 use Rattle.std.proofs.Common.{drop}
-use Rattle.mwc_gather.proofs.Rows.{first_more}
+use Rattle.mwc_gather.proofs.FirstWords.{first_more}
 use Rattle.mwc_gather.proofs.send.send.Goals as goal
 
 pub returns-then-came-clause-refused : goal.returns-then-came-clause-refused

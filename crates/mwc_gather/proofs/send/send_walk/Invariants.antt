@@ -9,7 +9,7 @@ invariant-loop-coalition g l =
       broken : g.P.PipeIn.broken l.out ≡ g.P.PipeIn.broken l.fn.out;
       some_left : 0 < l.left;
       sent : UnderWay l.initial.walk.to_come l.slice l.initial.left l.left (g.P.PipeIn.accepted l.fn.out)
-          l.walk.to_come (g.P.PipeIn.accepted l.out) l.row;
+          l.walk.to_come (g.P.PipeIn.accepted l.out) l.parcel;
     }
 
 abbrev pub decreases-loop-coalition : goal.decreases-loop-coalition

@@ -6,7 +6,8 @@ use Rattle.mwc_pipe.specs.declared.word.Word.TheVariants.{Open}
 use Rattle.mwc_parts.specs.Slicing.{Slicing}
 use Rattle.mwc_parts.specs.Wording.{slice_words, coalition_count}
 use Rattle.mwc_gather.specs.Slicings.{slicing}
-use Rattle.mwc_gather.proofs.Wordings.{open_words-more, wording-more, total-more}
+use Rattle.std.proofs.lemmas.List.{flat_map_more, map_push}
+use Rattle.std.proofs.lemmas.List.Sums.{sum_by_push}
 use Rattle.mwc_gather.proofs.worker.work_beside.Goals as goal
 
 pub loop-preserved : goal.loop-preserved
@@ -18,23 +19,15 @@ loop-preserved g c =
     let count = c.slice_count-slices.ensures in let first = task.0 in
     let low : j < game.slices = omega arith in
     let sum = inv.3 in let few = sends.1 in let rest = sends.2 in
-    let more : coalition_count game (inv.0 ++ j ∷ []) ≡ coalition_count game inv.0 + length (game.slice j) = total-more game inv.0 j in (
+    let more : coalition_count game (inv.0 ++ j ∷ []) ≡ coalition_count game inv.0 + length (game.slice j) = sum_by_push (λ i. length (game.slice i)) inv.0 j in (
       search rules,
       search rules,
       omega arith,
       (
         inv.0 ++ j ∷ [],
-        task.1 ∙ ap (λ (w : List Word). w ++ Open j ∷ []) inv.1 ∙ sym (open_words-more inv.0 j),
-        sends.0 ∙ ap (λ (w : List Word). w ++ slice_words game j) inv.2 ∙ sym (wording-more game inv.0 j),
+        task.1 ∙ ap (λ (w : List Word). w ++ Open j ∷ []) inv.1 ∙ sym (map_push Open inv.0 j),
+        sends.0 ∙ ap (λ (w : List Word). w ++ slice_words game j) inv.2 ∙ flat_map_more (slice_words game) [] inv.0 j,
         omega arith,
         All-push (λ (i : ℕ). i < game.slices) inv.0 j inv.4 low,
       ),
     )
-
-pub returns-in-Cut : goal.returns-in-Cut
-returns-in-Cut g c =
-    let sends = c.in-Cut.ensures.sends in search rules
-
-pub unreachable-requires : goal.unreachable-requires
-unreachable-requires g c =
-    let sends = c.in-Refused.ensures.sends in cc

@@ -1,5 +1,5 @@
 use Rattle.std.proofs.Common.{arith}
-use Rattle.mwc_tally.proofs.Parts.{pieces-length}
+use Rattle.mwc_tally.proofs.Stretches.{pieces-length}
 use Rattle.mwc_tally.proofs.pieces.length_of.Goals as goal
 
 pub overflow_add-length : goal.overflow_add-length

@@ -1,5 +1,5 @@
 use Rattle.mwc_tally.specs.Pieces.{joined}
-use Rattle.mwc_tally.proofs.Parts.{ok-counts}
+use Rattle.mwc_tally.proofs.Stretches.{ok-counts}
 use Rattle.mwc_tally.proofs.pieces.tally_pieces.Goals as goal
 
 pub returns-clause-ok : goal.returns-clause-ok

@@ -1,6 +1,6 @@
 use Rattle.std.proofs.Common.{◌≡◌, take}
 use Rattle.std.specs.List.{sum_by}
-use Rattle.mwc_parts.specs.Inner.Sums.{times_in}
+use Rattle.mwc_parts.specs.Inner.Times.{times_in}
 use Rattle.mwc_parts.specs.Parts.{shares}
 use Rattle.mwc_parts.proofs.gathered.Gathered.piece.Given as goal
 

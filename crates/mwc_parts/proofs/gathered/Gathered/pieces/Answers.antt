@@ -10,11 +10,6 @@ loop-number-preserved c = λ slice h.
     ∙ pieces_more (λ (p : Bor (List ℕ)). p.now) slice c.loop-number.number c.loop-number.row.items c.piece.result
     (c.loop-number.invariant slice h) (c.piece.ensures slice h)
 
-pub returns-clause-each : goal.returns-clause-each
-returns-clause-each c = λ slice h.
-    let n : c.loop-number.number ≡ c.args.self.now.slices = omega arith in
-    c.loop-number.invariant slice h ∙ ap (λ (k : ℕ). map slice (range_with_len 0 k)) n
-
 pub returns-clause-joined : goal.returns-clause-joined
 returns-clause-joined c = λ slice h.
     let n : c.loop-number.number ≡ c.args.self.now.slices = omega arith in

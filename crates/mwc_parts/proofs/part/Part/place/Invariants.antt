@@ -1,5 +1,5 @@
 use Rattle.std.proofs.Common.{◌≡◌, take}
-use Rattle.mwc_parts.specs.Inner.Sums.{times_in}
+use Rattle.mwc_parts.specs.Inner.Times.{times_in}
 use Rattle.mwc_parts.proofs.part.Part.place.Given as goal
 
 abbrev pub invariant-loop-m : goal.invariant-loop-m

@@ -2,7 +2,7 @@ use Rattle.std.proofs.Common.{ℕ, ◌≡◌, ◌+◌, ◌-◌, ◌<◌, List, l
 use Rattle.rtrb.specs.Ring.{sent, known_free, producer_capacity}
 use Rattle.mwc_pipe.specs.declared.word.Word.{Word}
 use Rattle.mwc_pipe.specs.RingViews.{RingInView}
-use Rattle.mwc_pipe.proofs.Rows.{puts_answered}
+use Rattle.mwc_pipe.proofs.RowSteps.{puts_answered}
 use Rattle.mwc_pipe.proofs.ring_in.RingIn.put_some.Goals as goal
 
 pub returns-clause-replies : goal.returns-clause-replies

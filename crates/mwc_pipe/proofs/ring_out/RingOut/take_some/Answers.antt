@@ -4,8 +4,8 @@ use Rattle.std.proofs.lemmas.List.{nil_from_length}
 use Rattle.rtrb.specs.Ring.{received, known_items}
 use Rattle.mwc_pipe.specs.declared.word.Word.{Word}
 use Rattle.mwc_pipe.specs.RingViews.{RingOutView}
-use Rattle.mwc_pipe.specs.Rows.{IsSeenByOut}
-use Rattle.mwc_pipe.proofs.Rows.{takes_answered}
+use Rattle.mwc_pipe.specs.RowSteps.{IsSeenByOut}
+use Rattle.mwc_pipe.proofs.RowSteps.{takes_answered}
 use Rattle.mwc_pipe.proofs.ring_out.RingOut.take_some.Goals as goal
 
 pub returns-clause-replies : goal.returns-clause-replies

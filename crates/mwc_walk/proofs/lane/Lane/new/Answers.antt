@@ -4,7 +4,8 @@ use Rattle.std.proofs.lemmas.List.{length-map}
 use Rattle.council_game.specs.Ranks.{rule_by_rank}
 use Rattle.council_game.specs.Votes.{IsRule, rule_at, has}
 use Rattle.std.proofs.lemmas.List.Elements.{All-from_recursion}
-use Rattle.mwc_walk.proofs.Tables.{same-weights, weight-none}
+use Rattle.council_game.proofs.Shared.Weights.{weight-zero}
+use Rattle.mwc_walk.proofs.Tables.{same-weights}
 use Rattle.mwc_walk.proofs.lane.Lane.new.Goals as goal
 
 pub rest_of-requires-clause-fits : goal.rest_of-requires-clause-fits
@@ -42,5 +43,5 @@ returns c =
       weightless = λ q below. ap (λ (n : ℕ). has n q c.weightless_of.result) (sym c.members-members.ensures.count)
           ∙ c.weightless_of.ensures q (omega (arith, c.members-members.ensures.count))
           ∙ ap (λ (w : ℕ). w == 0) (c.weights_of-weights.ensures.same q below);
-      sum_is = weight-none (rule_at (votes_of c.args.game.now).rules c.args.rule).weights;
+      sum_is = sym (weight-zero (take 0 (rule_at (votes_of c.args.game.now).rules c.args.rule).weights));
     }

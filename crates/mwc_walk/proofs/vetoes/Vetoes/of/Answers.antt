@@ -1,36 +1,17 @@
-use Rattle.std.proofs.Common.{◌≡◌, ◌≢◌, ◌<◌, ◌≤◌, ◌+◌, ℕ, List, [], length, get_or, false, ◌∙◌, arith, below_more, get_or-set_other, get_or-set_same, length-set}
+use Rattle.std.proofs.Common.{◌≡◌, ◌<◌, ◌≤◌, ◌+◌, ℕ, List, [], length, get_or, false, ◌∙◌, arith}
 use Rattle.std.specs.List.{list_any}
-use Rattle.std.proofs.lemmas.List.{get_or_default}
 use Rattle.council_game.specs.Game.{votes_of}
 use Rattle.council_game.specs.Votes.{Votes, IsVotes}
 use Rattle.mwc_walk.specs.declared.lane.Lane.{Lane}
 use Rattle.mwc_walk.specs.Inner.Lanes.{lane_needs}
-use Rattle.mwc_walk.proofs.Tables.{lane-of, lanes-count}
+use Rattle.std.proofs.lemmas.Slice.Zip.{AllZip-long}
+use Rattle.mwc_walk.proofs.Tables.{lane-of}
 use Rattle.mwc_walk.specs.Inner.Places.{LanesAre}
 use Rattle.mwc_walk.proofs.Vetoed.{Parts, parts-sum, split-is}
 use Rattle.mwc_walk.proofs.vetoes.Vetoes.of.Goals as goal
 
 abbrev none : Lane
 none = record { quota = 0; sum = 0; weightless = 0; weights = []; rest = [] }
-
-pub loop-place-preserved : goal.loop-place-preserved
-loop-place-preserved c =
-    let before = c.loop-place.invariant in
-    let room_v : c.loop-place.place < length c.loop-place.vetoed = omega (arith, before.long_vetoed, c.members-members.ensures.votes.few) in
-    let room_f : c.loop-place.place < length c.loop-place.free = omega (arith, before.long_free, c.members-members.ensures.votes.few) in
-    record {
-      long_vetoed = length-set _ _ _ ∙ before.long_vetoed;
-      long_free = length-set _ _ _ ∙ before.long_free;
-      parted = below_more _ _
-          (λ q lt d. let other : q ≢ c.loop-place.place = omega arith in rw (get_or-set_other, get_or-set_other) (before.parted q lt d))
-          (λ d. let same : get_or c.args.lanes.now c.args.rule none ≡ get_or c.args.lanes.now c.args.rule d =
-          get_or_default c.args.lanes.now c.args.rule none d c.requires.rule in
-          let most = c.vetoed_weight-part.ensures.most none in
-          rw (get_or-set_same, get_or-set_same, ← same) (omega (arith, most)));
-      needed = below_more _ _
-          (λ q lt spare. let other : q ≢ c.loop-place.place = omega arith in rw (get_or-set_other) (before.needed q lt spare))
-          (λ spare. rw get_or-set_same (c.vetoed_weight-part.ensures.none spare));
-    }
 
 -- when the loop is done, these are the parts
 all-parts : (v : Votes) (n i place : ℕ) (ls : List Lane) (vs fs : List ℕ) → IsVotes v → n ≡ v.members → n ≤ place → i < length ls
@@ -39,7 +20,7 @@ all-parts : (v : Votes) (n i place : ℕ) (ls : List Lane) (vs fs : List ℕ) �
     → ((q : ℕ) → q < place → (d : Lane) → get_or vs q 0 + get_or fs q 0 ≡ get_or (get_or ls i d).weights q 0)
     → ((q : ℕ) → q < place → list_any (lane_needs q) ls ≡ false → get_or vs q 0 ≡ 0) → Parts v ls i vs fs
 all-parts v n i place ls vs fs game members end below are long_v long_f parted needed =
-    let count = lanes-count v.members 0 0 v.rules ls are in
+    let count = AllZip-long _ v.rules ls are in
     let is = lane-of v.members 0 0 v.rules ls are i (omega (arith, count, below)) none in
     record {
       rule = is.rule;

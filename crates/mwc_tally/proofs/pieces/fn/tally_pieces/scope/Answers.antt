@@ -7,11 +7,11 @@ use Rattle.mwc_tally.proofs.pieces.fn.tally_pieces.scope.Goals as goal
 pub returns : goal.returns
 returns g c =
     let list : List ℕ = joined c.captures.pieces.now in
-    let all = one-more (c.captures.threads - 1) c.captures.threads c.captures.part (omega (arith, c.requires.threads)) in
+    let all = one-more (c.captures.threads - 1) c.captures.threads c.captures.stretch (omega (arith, c.requires.threads)) in
     record {
-      ok = subst (λ (l : List ℕ). AreTallies c.captures.game.now l c.count_up_to.new.counts)
-          (take_all ((c.captures.threads - 1) * c.captures.part + c.captures.part) list (omega (arith, all, c.requires.enough)))
-          c.in_ok-count_up_to.ensures.ok;
+      ok = subst (λ (l : List ℕ). AreTallies c.captures.game.now l c.count_stretches.new.counts)
+          (take_all ((c.captures.threads - 1) * c.captures.stretch + c.captures.stretch) list (omega (arith, all, c.requires.enough)))
+          c.in_ok-count_stretches.ensures.ok;
       err = tt;
     }
   where

@@ -1,0 +1,124 @@
+-- What calls that move many items stand for.
+use Rattle.std.specs.Prelude.{◌≡◌, ℕ, ◌+◌, ◌-◌, ◌<◌, ◌≤◌, ◌==◌, Bool, true, false, List, [], ◌∷◌, ◌++◌, map, length, slice_get, None, Some, refl, suc, zero}
+use Rattle.std.proofs.Common.{ap, ◌∙◌, sym, arith, append_assoc, length-append}
+use Rattle.std.proofs.Math.Bool.{or-false}
+use Rattle.std.proofs.lemmas.Bool.Decides.{nat_tests}
+use Rattle.std.proofs.lemmas.List.{append-nil}
+use Rattle.std.proofs.lemmas.List.Elements.{filter_map-append}
+use Rattle.std.proofs.lemmas.List.Folds.{list_any-append}
+use Rattle.mwc_pipe.specs.declared.step.Step.{Step}
+use Rattle.mwc_pipe.specs.declared.step.Step.TheVariants.{Put, Take}
+use Rattle.mwc_pipe.specs.declared.reply.Reply.{Reply}
+use Rattle.mwc_pipe.specs.declared.reply.Reply.TheVariants.{Accepted, Full, Item, Empty}
+use Rattle.mwc_pipe.specs.History.{Event, item_in, item_out, is_close, has_close, items_in, items_out, reply_to, history_after}
+use Rattle.mwc_pipe.specs.RowSteps.{puts_of, takes_of, AreAnswered, IsSeenByIn, IsSeenByOut}
+use Rattle.mwc_pipe.proofs.Counting.{get_after}
+
+module _ {T : Type 0} where
+  answered_none : (capacity : ℕ) (past : List (Event T)) → AreAnswered capacity past []
+  answered_none capacity past = sym (append-nil past)
+
+  answered_more : (capacity : ℕ) (past : List (Event T)) (step : Step T) (reply : Reply T) (events : List (Event T)) →
+      reply_to capacity past step ≡ reply → AreAnswered capacity (past ++ (step, reply) ∷ []) events →
+      AreAnswered capacity past ((step, reply) ∷ events)
+  answered_more capacity past step reply events e more =
+      ap (λ (r : Reply T). history_after capacity (past ++ (step, r) ∷ []) (map (λ event. event.0) events)) e
+      ∙ more ∙ append_assoc past ((step, reply) ∷ []) events
+
+  -- the reply to a put while there is room, and where there is none
+  put_accepted : (capacity : ℕ) (past : List (Event T)) (x : T) → has_close past ≡ false →
+      length (items_out past) ≤ length (items_in past) → length (items_in past) < length (items_out past) + capacity →
+      reply_to capacity past (Put x) ≡ Accepted
+  put_accepted capacity past x unclosed few room =
+      let full : (length (items_in past) - length (items_out past) == capacity) ≡ false = grind (arith, nat_tests) in
+      rw (unclosed, full) refl
+
+  put_full : (capacity : ℕ) (past : List (Event T)) (x : T) → has_close past ≡ false →
+      length (items_in past) ≡ length (items_out past) + capacity → reply_to capacity past (Put x) ≡ Full
+  put_full capacity past x unclosed e =
+      let full : (length (items_in past) - length (items_out past) == capacity) ≡ true = grind (arith, nat_tests) in
+      rw (unclosed, full) refl
+
+  -- a put that is accepted, as the past has it
+  in_more : (past : List (Event T)) (x : T) → length (items_in (past ++ (Put x, Accepted) ∷ [])) ≡ length (items_in past) + 1
+  in_more past x = ap length (filter_map-append item_in past ((Put x, Accepted) ∷ [])) ∙ length-append (items_in past) (x ∷ [])
+
+  out_same : (past : List (Event T)) (x : T) → items_out (past ++ (Put x, Accepted) ∷ []) ≡ items_out past
+  out_same past x = filter_map-append item_out past ((Put x, Accepted) ∷ []) ∙ append-nil (items_out past)
+
+  open_put : (past : List (Event T)) (x : T) → has_close past ≡ false → has_close (past ++ (Put x, Accepted) ∷ []) ≡ false
+  open_put past x unclosed = rw (list_any-append (λ event. is_close event.0) past ((Put x, Accepted) ∷ []), or-false) unclosed
+
+  puts_on : (capacity : ℕ) (past : List (Event T)) (row : List T) (n : ℕ) → has_close past ≡ false → n ≤ length row →
+      length (items_out past) ≤ length (items_in past) → length (items_in past) + n ≤ length (items_out past) + capacity →
+      (n < length row → length (items_in past) + n ≡ length (items_out past) + capacity) → AreAnswered capacity past (puts_of row n)
+  puts_on capacity past [] zero unclosed l few room full = answered_none capacity past
+  puts_on capacity past [] (suc n) unclosed l few room full = absurd (omega arith)
+  puts_on capacity past (x ∷ row) zero unclosed l few room full =
+      let last = put_full capacity past x unclosed (omega (arith, full (omega arith))) in
+      answered_more capacity past (Put x) Full [] last (answered_none capacity (past ++ (Put x, Full) ∷ []))
+  puts_on capacity past (x ∷ row) (suc n) unclosed l few room full =
+      let after : List (Event T) = past ++ (Put x, Accepted) ∷ [] in
+      let more : length (items_in after) ≡ length (items_in past) + 1 = in_more past x in
+      let same : length (items_out after) ≡ length (items_out past) = ap length (out_same past x) in
+      let shut = open_put past x unclosed in
+      let reply = put_accepted capacity past x unclosed few (omega arith) in
+      answered_more capacity past (Put x) Accepted (puts_of row n) reply
+      (puts_on capacity after row n shut (omega arith) (omega arith) (omega arith) (λ z. omega (arith, full (omega arith))))
+
+  -- a row that is put in is answered as a pipe answers it
+  pub puts_answered : (capacity gone : ℕ) (accepted : List T) (past : List (Event T)) (row : List T) (n : ℕ) →
+      IsSeenByIn accepted gone past → n ≤ length row →
+      length accepted + n ≤ gone + capacity → (n < length row → length accepted + n ≡ gone + capacity) →
+      AreAnswered capacity past (puts_of row n)
+  puts_answered capacity gone accepted past row n seen l room full =
+      let came : length (items_in past) ≡ length accepted = ap length seen.came in
+      let went = seen.went in let few = seen.few in
+      puts_on capacity past row n seen.unclosed l (omega arith) (omega arith) (λ z. omega (arith, full z))
+
+  -- the reply to a take
+  take_oldest : (capacity : ℕ) (past : List (Event T)) (x : T) (rest : List T) → items_in past ≡ items_out past ++ x ∷ rest →
+      reply_to capacity past Take ≡ Item x
+  take_oldest capacity past x rest e =
+      let found : slice_get (items_in past) (length (items_out past)) ≡ Some x = rw e (get_after (items_out past) (x ∷ rest)) in
+      rw found refl
+
+  take_none : (capacity : ℕ) (past : List (Event T)) → has_close past ≡ false → items_in past ≡ items_out past ++ [] →
+      reply_to capacity past Take ≡ Empty
+  take_none capacity past unclosed e =
+      let found : slice_get (items_in past) (length (items_out past)) ≡ None = rw e (get_after (items_out past) []) in
+      rw (found, unclosed) refl
+
+  in_same : (past : List (Event T)) (x : T) → items_in (past ++ (Take, Item x) ∷ []) ≡ items_in past
+  in_same past x = filter_map-append item_in past ((Take, Item x) ∷ []) ∙ append-nil (items_in past)
+
+  out_more : (past : List (Event T)) (x : T) → items_out (past ++ (Take, Item x) ∷ []) ≡ items_out past ++ x ∷ []
+  out_more past x = filter_map-append item_out past ((Take, Item x) ∷ [])
+
+  open_take : (past : List (Event T)) (x : T) → has_close past ≡ false → has_close (past ++ (Take, Item x) ∷ []) ≡ false
+  open_take past x unclosed = rw (list_any-append (λ event. is_close event.0) past ((Take, Item x) ∷ []), or-false) unclosed
+
+  takes_on : (capacity : ℕ) (past : List (Event T)) (items known : List T) (short : Bool) → has_close past ≡ false →
+      items_in past ≡ items_out past ++ (items ++ known) → (short ≡ true → known ≡ []) → AreAnswered capacity past (takes_of items short)
+  takes_on capacity past [] known false unclosed e none = answered_none capacity past
+  takes_on capacity past [] known true unclosed e none =
+      let start : items_in past ≡ items_out past ++ known = e in
+      let last : items_in past ≡ items_out past ++ [] = start ∙ ap (λ (w : List T). items_out past ++ w) (none refl) in
+      let reply = take_none capacity past unclosed last in
+      answered_more capacity past Take Empty [] reply (answered_none capacity (past ++ (Take, Empty) ∷ []))
+  takes_on capacity past (x ∷ items) known short unclosed e none =
+      let after : List (Event T) = past ++ (Take, Item x) ∷ [] in
+      let left : items_in after ≡ items_out after ++ (items ++ known) =
+      in_same past x ∙ e ∙ sym (append_assoc (items_out past) (x ∷ []) (items ++ known))
+      ∙ ap (λ (w : List T). w ++ (items ++ known)) (sym (out_more past x)) in
+      answered_more capacity past Take (Item x) (takes_of items short) (take_oldest capacity past x (items ++ known) e)
+      (takes_on capacity after items known short (open_take past x unclosed) left none)
+
+  -- a row that is taken is answered as a pipe answers it
+  pub takes_answered : (capacity : ℕ) (taken items known : List T) (past : List (Event T)) (short : Bool) →
+      IsSeenByOut ((taken ++ items) ++ known) taken past →
+      (short ≡ true → known ≡ []) → AreAnswered capacity past (takes_of items short)
+  takes_answered capacity taken items known past short seen none =
+      let left : items_in past ≡ items_out past ++ (items ++ known) =
+      seen.came ∙ append_assoc taken items known ∙ ap (λ (w : List T). w ++ (items ++ known)) (sym seen.went) in
+      takes_on capacity past items known short seen.unclosed left none

@@ -1,0 +1,34 @@
+//! A game cut into slices.
+ghost use Rattle.std.specs.Prelude.{◌≡◌, ◌≤◌, ◌^◌, length};
+ghost use Rattle.coalitions.specs.declared.limits.TheConstants.{BITS};
+
+use crate::share::Share;
+use council_game::{Game, Memory};
+use mwc_walk::slice_count;
+use std::thread::Promise;
+
+/// A game cut into slices: `bits` of its heaviest members are fixed in each.
+#[derive(Clone, Copy)]
+pub(crate) struct SlicedGame<'a> {
+    pub game: &'a Game,
+    /// How many of the heaviest members are fixed, 0 to 10, and no more than members.
+    pub bits: u8,
+    ghost bits_fit: { (bits ≤ BITS) × (bits ≤ length game.now.names) },
+}
+
+impl<'a> SlicedGame<'a> {
+    /// How many slices there are.
+    pub(crate) fn count(self) -> u16
+        ensures { result ≡ 2 ^ self.entry.bits }
+    {
+        slice_count(self.bits)
+    }
+}
+
+/// A thread that was given these slices promises a share of them.
+impl<'a> Promise<Result<Share, Memory>> for SlicedGame<'a> {
+    ghost use Rattle.std.specs.Prelude.{IfOk};
+    ghost use Rattle.mwc_tally.specs.Inner.Shares.{IsShare};
+
+    ghost kept_by = { λ s r. IfOk r (IsShare s) };
+}

@@ -1,0 +1,37 @@
+//! All minimal winning coalitions as a list.
+ghost use Rattle.std.specs.Prelude.{◌<◌, length, IfOk, IfSome, IfNone};
+ghost use Rattle.council_game.specs.Votes.{minimal_coalitions};
+ghost use Rattle.council_game.specs.Game.{votes_of};
+ghost use Rattle.mwc_walk.specs.Listed.{ListsAll};
+
+use crate::Walk;
+use council_game::{Coalition, Game, Memory};
+use std::alloc::Global;
+
+/// All minimal winning coalitions of a game in listing order, listed in this thread; none where there
+/// are more than `most` of them. For a game of few members it is the list that
+/// `council_game::plain_list` gives by trying each coalition.
+///
+/// # Errors
+///
+/// `Memory` where a growth was refused.
+pub fn list_all(alloc: Global, game: &Game, most: u32) -> Result<Option<Vec<Coalition>>, Memory>
+    ensures all { IfOk result (λ o. IfSome o (λ v. ListsAll game.now most v.items)) }
+    ensures more { IfOk result
+        (λ o. IfNone o (most < length (minimal_coalitions (votes_of game.now)))) }
+{
+    // for the prover alone: its clauses tell what every game keeps
+    let _members = game.members();
+    let mut walk = Walk::new(game, 0, 0);
+    let mut list = Vec::new(alloc);
+    for _ in 0..most {
+        match walk.next() {
+            Some(coalition) => list.push(coalition)?,
+            None => return Ok(Some(list)),
+        }
+    }
+    match walk.next() {
+        Some(_) => Ok(None),
+        None => Ok(Some(list)),
+    }
+}
