@@ -6,8 +6,8 @@ use Rattle.std.proofs.lemmas.Bool.{cases_eq, eq-eqb, ne_eqb, or_left, or_right, 
 use Rattle.std.proofs.lemmas.List.Elements.{All-head, All-tail}
 use Rattle.council_game.specs.Votes.{RuleView}
 use Rattle.council_game.specs.Game.{GameView, IsGame}
-use Rattle.mwc_sums.specs.Chambers.{HasNoWeight, AreChambersOf, paired, minimal_of_size, minimal_of_member_size}
-use Rattle.mwc_sums.proofs.Winning.{met, weighs-same}
+use Rattle.mwc_sums.specs.Chambers.{HasNoWeight, AreChambersOf, met, paired, minimal_of_size, minimal_of_member_size}
+use Rattle.mwc_sums.proofs.Placed.{weighs-same}
 use Rattle.mwc_sums.proofs.Joining.{IsJoint}
 use Rattle.mwc_sums.proofs.Pairs.{joint-sizes, joint-members}
 
@@ -15,14 +15,14 @@ use Rattle.mwc_sums.proofs.Pairs.{joint-sizes, joint-members}
 abbrev pub has_weight : List RuleView → ℕ → Bool
 has_weight rs i = list_any (λ r. not (get_or r.weights i 0 == 0)) rs
 
-no-weight : (rs : List RuleView) (i : ℕ) → HasNoWeight rs i → has_weight rs i ≡ false
+pub no-weight : (rs : List RuleView) (i : ℕ) → HasNoWeight rs i → has_weight rs i ≡ false
 no-weight [] i none = refl
 no-weight (r ∷ rs) i none =
     (λ k. not (eq-eqb (get_or r.weights i 0) 0 (All-head (λ (x : RuleView). get_or x.weights i 0 ≡ 0) r rs none) k)
     || no-weight rs i (All-tail (λ (x : RuleView). get_or x.weights i 0 ≡ 0) r rs none) k)
 
 -- rules see those members who have weight
-met-seen : (n : ℕ) (rs : List RuleView) (f h : ℕ → Bool) → ((i : ℕ) → i < n → has_weight rs i ≡ true → f i ≡ h i) → met n rs f ≡ met n rs h
+pub met-seen : (n : ℕ) (rs : List RuleView) (f h : ℕ → Bool) → ((i : ℕ) → i < n → has_weight rs i ≡ true → f i ≡ h i) → met n rs f ≡ met n rs h
 met-seen n [] f h same = refl
 met-seen n (r ∷ rs) f h same =
     (λ k. leb r.quota (weighs-same n r f h (λ i lt. each i lt (cases_eq (get_or r.weights i 0) 0)) k)

@@ -1,14 +1,16 @@
 -- How many coalitions pass a test.
-use Rattle.std.proofs.Common.{◌≡◌, ◌∙◌, ℕ, zero, suc, ◌+◌, ◌*◌, ◌^◌, ◌<◌, ◌≤◌, ◌&&◌, Bool, true, false, cond, List}
+use Rattle.std.proofs.Common.{◌≡◌, ◌∙◌, ℕ, zero, suc, ◌+◌, ◌*◌, ◌^◌, ◌<◌, ◌≤◌, ◌&&◌, not, Bool, true, false, cond, List}
 use Rattle.std.proofs.Common.{length, get_or, map, filter, sym, ap, arith, count_ones, length-append}
-use Rattle.std.specs.List.{All}
+use Rattle.std.specs.List.{All, sum_by}
 use Rattle.std.specs.Int.Count.{ones-ones}
 use Rattle.std.proofs.lemmas.List.{length-map}
 use Rattle.std.proofs.lemmas.List.Elements.{filter-append, All-nil, All-cons}
+use Rattle.std.proofs.lemmas.List.Sums.{length-filter}
 use Rattle.std.proofs.lemmas.Nat.{ones_cat}
 use Rattle.std.proofs.Math.Bool.{and-true, and-false}
 use Rattle.council_game.specs.Votes.{size, down}
 use Rattle.coalitions.proofs.Shared.Sizes.{size-ones}
+use Rattle.power_index.proofs.Shared.Sums.{sum-plus}
 use Rattle.mwc_sums.proofs.Filters.{filter-map, filter-both, filter-none, filter-same}
 use Rattle.mwc_sums.proofs.Completing.{double-pow, down-two}
 
@@ -50,6 +52,40 @@ count-two q n =
     let mapped = ap (λ (l : List ℕ). length l) (filter-map q (λ c. h + c) (down h)) in
     let same = length-map (filter (λ c. q (h + c)) (down h)) (λ c. h + c) in
     omega (arith, split, both, long, mapped, same)
+
+pub count-never : (xs : List ℕ) → count (λ c. false) xs ≡ 0
+count-never xs = ap (λ (l : List ℕ). length l) (filter-none xs)
+
+pub count-first : (q one rest : ℕ → Bool) (n : ℕ) → ((c : ℕ) → c < 2 ^ n → q (2 ^ n + c) ≡ one c) → ((c : ℕ) → c < 2 ^ n → q c ≡ rest c)
+    → count q (down (2 ^ suc n)) ≡ count one (down (2 ^ n)) + count rest (down (2 ^ n))
+count-first q one rest n within without =
+    let below = down-below (2 ^ n) (2 ^ n) (omega arith) in
+    omega (
+      arith,
+      count-two q n,
+      count-same (λ c. q (2 ^ n + c)) one (2 ^ n) (down (2 ^ n)) below within,
+      count-same q rest (2 ^ n) (down (2 ^ n)) below without,
+    )
+
+-- those with a condition and those without it
+pub count-parted : (t q u : ℕ → Bool) (xs : List ℕ)
+    → count (λ c. t c && (q c && u c)) xs + count (λ c. t c && (not (q c) && u c)) xs ≡ count (λ c. t c && u c) xs
+count-parted t q u xs =
+    let each : sum_by (λ c. cond (t c && (q c && u c)) 1 0 + cond (t c && (not (q c) && u c)) 1 0) xs ≡ sum_by (λ c. cond (t c && u c) 1 0) xs =
+    λ i. sum_by (λ c. parted (t c) (q c) (u c) i) xs in
+    omega (
+      arith,
+      each,
+      length-filter (λ c. t c && (q c && u c)) xs,
+      length-filter (λ c. t c && (not (q c) && u c)) xs,
+      length-filter (λ c. t c && u c) xs,
+      sum-plus (λ c. cond (t c && (q c && u c)) 1 0) (λ c. cond (t c && (not (q c) && u c)) 1 0) xs,
+    )
+  where
+    parted : (a b d : Bool) → cond (a && (b && d)) 1 0 + cond (a && (not b && d)) 1 0 ≡ cond (a && d) 1 0
+    parted false b d = omega arith
+    parted true true d = omega arith
+    parted true false d = omega arith
 
 pub count-filter : (q p : ℕ → Bool) (xs : List ℕ) → count q (filter p xs) ≡ count (λ c. p c && q c) xs
 count-filter q p xs = ap (λ (l : List ℕ). length l) (filter-both p q xs)

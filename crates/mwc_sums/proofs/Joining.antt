@@ -2,7 +2,7 @@
 use Rattle.std.proofs.Common.{◌≡◌, ◌∙◌, ◌&&◌, ◌||◌, ℕ, ◌<◌, Bool, true, false, sym, ap, refl, inl, inr}
 use Rattle.std.proofs.lemmas.Bool.{cases_Bool, and_parts, and_from, and_left, and_right, or_cases, or_left, or_right, both_ways, true_from_ne_false}
 use Rattle.std.proofs.Math.Bool.{and_comm}
-use Rattle.mwc_sums.proofs.Winning.{less, IsLeast, less-same, less-alike}
+use Rattle.mwc_sums.proofs.Seating.{less, IsLeast, less-same, less-alike}
 
 -- a test of sets sees these members alone
 abbrev pub Sees : ℕ → (ℕ → Bool) → ((ℕ → Bool) → Bool) → Type 0

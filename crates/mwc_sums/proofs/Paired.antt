@@ -6,7 +6,8 @@ use Rattle.std.proofs.lemmas.Bool.{cases_lt, cases_eq, eq-eqb, ne_eqb, and_parts
 use Rattle.power_index.proofs.Shared.Sums.{sum-times, sum-range, sum-filter, sum-by_size}
 use Rattle.mwc_sums.specs.Chambers.{paired}
 use Rattle.mwc_sums.proofs.Filters.{filter-none}
-use Rattle.mwc_sums.proofs.AllSums.{one_if, count-both}
+use Rattle.mwc_sums.proofs.Matching.{count-both}
+use Rattle.mwc_sums.proofs.Seating.{one_if}
 
 same-eqb : (a b c d : ℕ) → (a ≡ b → c ≡ d) → (c ≡ d → a ≡ b) → (a == b) ≡ (c == d)
 same-eqb a b c d to fro = elim (cases_eq a b) [
