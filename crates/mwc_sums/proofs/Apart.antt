@@ -6,6 +6,7 @@ use Rattle.std.proofs.lemmas.Bool.{cases_eq, eq-eqb, ne_eqb, or_left, or_right, 
 use Rattle.std.proofs.lemmas.List.Elements.{All-head, All-tail}
 use Rattle.council_game.specs.Votes.{RuleView}
 use Rattle.council_game.specs.Game.{GameView, IsGame}
+use Rattle.std.proofs.lemmas.Bool.Decides.{nat_tests}
 use Rattle.mwc_sums.specs.Chambers.{HasNoWeight, AreChambersOf, met, paired, minimal_of_size, minimal_of_member_size}
 use Rattle.mwc_sums.proofs.Placed.{weighs-same}
 use Rattle.mwc_sums.proofs.Joining.{IsJoint}
@@ -29,10 +30,7 @@ met-seen n (r ∷ rs) f h same =
     && met-seen n rs f h (λ i lt seen. same i lt (or_right (not (get_or r.weights i 0 == 0)) (has_weight rs i) seen)) k)
   where
     nothing : (b d : Bool) (w : ℕ) → w ≡ 0 → cond b 1 0 * w ≡ cond d 1 0 * w
-    nothing b d w none = ap (λ (x : ℕ). cond b 1 0 * x) none ∙ zero-times (cond b 1 0) (cond d 1 0) ∙ sym (ap (λ (x : ℕ). cond d 1 0 * x) none)
-      where
-        zero-times : (x y : ℕ) → x * 0 ≡ y * 0
-        zero-times x y = omega arith
+    nothing b d w none = grind (arith, nat_tests)
 
     each : (i : ℕ) → i < n → (get_or r.weights i 0 ≡ 0) ⊎ (get_or r.weights i 0 ≡ 0 → ⊥)
         → cond (f i) 1 0 * get_or r.weights i 0 ≡ cond (h i) 1 0 * get_or r.weights i 0

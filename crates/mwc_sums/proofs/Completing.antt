@@ -4,7 +4,7 @@ use Rattle.std.proofs.Common.{List, [], ◌∷◌, ◌++◌, length, get_or, map
 use native.Mathlib.Numerals.{unary_clauses}
 use Rattle.std.specs.List.{AllByRecursion}
 use Rattle.std.proofs.lemmas.Bool.{cases_lt, lt-leb, le-leb, leb-true, leb-false, eqb-true, both_ways, cond-true, cond-false, and_left}
-use Rattle.std.proofs.lemmas.Bool.{and_parts, and_from}
+use Rattle.std.proofs.lemmas.Bool.{and_parts, and_from, false_from_ne_true}
 use Rattle.std.proofs.Math.Bool.{and-true}
 use Rattle.std.proofs.lemmas.List.Elements.{filter-append}
 use Rattle.std.proofs.lemmas.Nat.{pow_pos}
@@ -15,34 +15,22 @@ use Rattle.coalitions.proofs.Shared.Digits.{has-none}
 use Rattle.council_game.proofs.Shared.Meanings.{needs-each-member}
 use Rattle.council_game.proofs.Shared.WeightByDigits.{weight-nil, weight-cons}
 use Rattle.council_game.proofs.Shared.Weights.{weight-skip, weight-zero, weight-without}
+use Rattle.std.proofs.lemmas.Bool.Decides.{nat_tests}
 use Rattle.mwc_sums.proofs.Filters.{filter-map}
 use Rattle.mwc_sums.specs.Completing.{completing}
 
 -- ---- coalitions of one place more
 pub first-in : (n c : ℕ) → c < 2 ^ n → has (suc n) 0 (2 ^ n + c) ≡ true
 unfolding has
-first-in n c lt =
-    let e : 1 * 2 ^ n + c ≡ 2 ^ n + c = omega arith in
-    let top : suc n - 1 - 0 ≡ n = omega arith in
-    let place : n - n ≡ 0 = omega arith in
-    let d = bit_at_cat_high 1 n c n lt (omega arith) in
-    ap (λ (k : ℕ). (2 ^ n + c) / 2 ^ k % 2 == 1) top ∙ ap (λ (x : ℕ). x / 2 ^ n % 2 == 1) (sym e) ∙ ap (λ (x : ℕ). x == 1) d
-    ∙ ap (λ (k : ℕ). 1 / 2 ^ k % 2 == 1) place
+first-in n c lt = grind (arith, nat_tests, bit_at_cat_high 1 n c n lt (omega arith))
 
 pub first-out : (n c : ℕ) → c < 2 ^ n → has (suc n) 0 c ≡ false
 unfolding has
-first-out n c lt =
-    let top : suc n - 1 - 0 ≡ n = omega arith in
-    let d = bit_at_above c n n lt (omega arith) in
-    ap (λ (k : ℕ). c / 2 ^ k % 2 == 1) top ∙ ap (λ (x : ℕ). x == 1) d
+first-out n c lt = grind (arith, nat_tests, bit_at_above c n n lt (omega arith))
 
 pub rest-in : (n p c : ℕ) → p < n → has (suc n) (suc p) (2 ^ n + c) ≡ has n p c
 unfolding has
-rest-in n p c lt =
-    let e : 1 * 2 ^ n + c ≡ 2 ^ n + c = omega arith in
-    let place : suc n - 1 - suc p ≡ n - 1 - p = omega arith in
-    ap (λ (k : ℕ). (2 ^ n + c) / 2 ^ k % 2 == 1) place
-    ∙ ap (λ (x : ℕ). x / 2 ^ (n - 1 - p) % 2 == 1) (sym e) ∙ ap (λ (x : ℕ). x == 1) (bit_at_cat_low 1 n c (n - 1 - p) (omega arith))
+rest-in n p c lt = grind (arith, nat_tests, bit_at_cat_low 1 n c (n - 1 - p) (omega arith))
 
 pub rest-out : (n p c : ℕ) → has (suc n) (suc p) c ≡ has n p c
 unfolding has
@@ -53,15 +41,10 @@ double-pow n = simp unary_clauses (omega arith)
 
 pub weight-with : (w : ℕ) (ws : List ℕ) (c : ℕ) → c < 2 ^ length ws → weight (w ∷ ws) (2 ^ length ws + c) ≡ w + weight ws c
 weight-with w ws c lt =
-    let e : 1 * 2 ^ length ws + c ≡ 2 ^ length ws + c = omega arith in
-    let place : length ws - length ws ≡ 0 = omega arith in
-    let d : (2 ^ length ws + c) / 2 ^ length ws % 2 ≡ 1 = ap (λ (x : ℕ). x / 2 ^ length ws % 2) (sym e)
-    ∙ bit_at_cat_high 1 (length ws) c (length ws) lt (omega arith) ∙ ap (λ (k : ℕ). 1 / 2 ^ k % 2) place in
-    let rest : weight ws (2 ^ length ws + c) ≡ weight ws c = ap (weight ws) (sym e) ∙ weight-skip ws 1 c in
-    weight-cons w ws (2 ^ length ws + c) ∙ rw (d, rest) (omega arith)
+    grind (arith, weight-cons w ws (2 ^ length ws + c), bit_at_cat_high 1 (length ws) c (length ws) lt (omega arith), weight-skip ws 1 c)
 
 pub weight-left : (w : ℕ) (ws : List ℕ) (c : ℕ) → c < 2 ^ length ws → weight (w ∷ ws) c ≡ weight ws c
-weight-left w ws c lt = weight-cons w ws c ∙ rw (bit_at_above c (length ws) (length ws) lt (omega arith)) (omega arith)
+weight-left w ws c lt = grind (arith, weight-cons w ws c, bit_at_above c (length ws) (length ws) lt (omega arith))
 
 -- ---- a coalition that meets a need, and loses it without any one of its members
 pub record IsLeast (ws : List ℕ) (r c : ℕ) : Type 0 where
@@ -97,14 +80,11 @@ module _ (w : ℕ) (ws : List ℕ) (r c : ℕ) (lt : c < 2 ^ length ws) where
   pub least-out : IsLeast (w ∷ ws) r c ↔ IsLeast ws r c
   least-out = (
     λ h. (record {
-      met = (let e = weight-left w ws c lt in let m = h.met in omega (arith, e, m));
-      needed = λ p below inside. (
-          let n = h.needed (suc p) (omega arith) (rest-out (length ws) p c ∙ inside) in
-          let e = weight-left w ws c lt in
-          omega (arith, n, e));
+      met = let m = h.met in grind (arith, weight-left w ws c lt);
+      needed = λ p below inside. let n = h.needed (suc p) in grind (arith, weight-left w ws c lt, rest-out (length ws) p c);
     }),
     λ h. (record {
-      met = (let e = weight-left w ws c lt in let m = h.met in omega (arith, e, m));
+      met = let m = h.met in grind (arith, weight-left w ws c lt);
       needed = needed-out h;
     }),
   )
@@ -112,35 +92,22 @@ module _ (w : ℕ) (ws : List ℕ) (r c : ℕ) (lt : c < 2 ^ length ws) where
       needed-out : IsLeast ws r c → (p : ℕ) → p < length (w ∷ ws) → has (length (w ∷ ws)) p c ≡ true
           → weight (w ∷ ws) c < r + get_or (w ∷ ws) p 0
       needed-out h zero below inside = absurd (both_ways _ (first-out (length ws) c lt) inside)
-      needed-out h (suc p) below inside =
-          let n = h.needed p (omega arith) (sym (rest-out (length ws) p c) ∙ inside) in
-          let e = weight-left w ws c lt in
-          omega (arith, n, e)
+      needed-out h (suc p) below inside = let n = h.needed p in grind (arith, weight-left w ws c lt, rest-out (length ws) p c)
 
   pub least-in : Falls (w ∷ ws) → w < r → IsLeast (w ∷ ws) r (2 ^ length ws + c) ↔ IsLeast ws (r - w) c
   least-in falls more = (
     λ h. (record {
-      met = (let e = weight-with w ws c lt in let m = h.met in omega (arith, e, m));
-      needed = λ p below inside. (
-          let n = h.needed (suc p) (omega arith) (rest-in (length ws) p c below ∙ inside) in
-          let e = weight-with w ws c lt in
-          omega (arith, n, e));
+      met = let m = h.met in grind (arith, weight-with w ws c lt);
+      needed = λ p below inside. let n = h.needed (suc p) in grind (arith, weight-with w ws c lt, rest-in (length ws) p c below);
     }),
     λ h. (record {
-      met = (let e = weight-with w ws c lt in let m = h.met in omega (arith, e, m));
+      met = let m = h.met in grind (arith, weight-with w ws c lt);
       needed = needed-in h;
     }),
   )
     where
       some : IsLeast ws (r - w) c → 0 < c
-      some h = elim (cases_lt 0 c) [
-        | inl pos ↦ pos
-        | inr none ↦
-            let z : c ≡ 0 = omega arith in
-            let e = ap (weight ws) z ∙ weight-zero ws in
-            let m = h.met in
-            absurd (omega (arith, e, m))
-      ]
+      some h = let m = h.met in grind (arith, weight-zero ws)
 
       needed-in : IsLeast ws (r - w) c → (p : ℕ) → p < length (w ∷ ws) → has (length (w ∷ ws)) p (2 ^ length ws + c) ≡ true
           → weight (w ∷ ws) (2 ^ length ws + c) < r + get_or (w ∷ ws) p 0
@@ -148,12 +115,8 @@ module _ (w : ℕ) (ws : List ℕ) (r c : ℕ) (lt : c < 2 ^ length ws) where
           let found = place-of (length ws) c lt (some h) in
           let n = h.needed found.0 found.1 found.2 in
           let heavier = falls 0 (suc found.0) (omega arith) (let l = found.1 in omega arith) in
-          let e = weight-with w ws c lt in
-          omega (arith, n, heavier, e)
-      needed-in h (suc p) below inside =
-          let n = h.needed p (omega arith) (sym (rest-in (length ws) p c (omega arith)) ∙ inside) in
-          let e = weight-with w ws c lt in
-          omega (arith, n, e)
+          omega (arith, n, heavier, weight-with w ws c lt)
+      needed-in h (suc p) below inside = let n = h.needed p in grind (arith, weight-with w ws c lt, rest-in (length ws) p c (omega arith))
 
   -- with a first member that meets the need alone, no other is needed
   pub least-alone : 0 < c → r ≤ w → IsLeast (w ∷ ws) r (2 ^ length ws + c) → ⊥
@@ -181,9 +144,7 @@ least-first w ws r pos enough = record {
 
 -- ---- the list of them
 pub same_test : (a b : Bool) → (a ≡ true → b ≡ true) → (b ≡ true → a ≡ true) → a ≡ b
-same_test true b f g = sym (f refl)
-same_test false true f g = g refl
-same_test false false f g = refl
+same_test a b f g = grind (arith, nat_tests)
 
 pub down-two : (m n : ℕ) → down (m + n) ≡ map (λ c. n + c) (down m) ++ down n
 unfolding down
@@ -202,15 +163,11 @@ only-none (suc (suc n)) test pos passes fails =
     cond-false (test (suc n)) (suc n ∷ filter test (down (suc n))) (filter test (down (suc n))) (fails (suc n) (omega arith) (omega arith))
     ∙ only-none (suc n) test (omega arith) passes (λ c some lt. fails c some (omega arith))
 
-pub not-true : (b : Bool) → (b ≡ true → ⊥) → b ≡ false
-not-true true h = absurd (h refl)
-not-true false h = refl
-
 filter-completing : (ws : List ℕ) (r : ℕ) (test : ℕ → Bool) → 0 < r → Falls ws
     → ((c : ℕ) → c < 2 ^ length ws → (test c ≡ true) ↔ IsLeast ws r c) → filter test (down (2 ^ length ws)) ≡ completing ws r
 unfolding completing down
 filter-completing [] r test pos falls same =
-    cond-false (test 0) (0 ∷ []) [] (not-true (test 0) (λ passes.
+    cond-false (test 0) (0 ∷ []) [] (false_from_ne_true (test 0) (λ passes.
     (let m = ((same 0 (omega arith)).0 passes).met in omega (arith, m, weight-nil 0))))
 filter-completing (w ∷ ws) r test pos falls same =
     let h : ℕ = 2 ^ length ws in
@@ -241,24 +198,18 @@ filter-completing (w ∷ ws) r test pos falls same =
         only-none (2 ^ length ws) (λ c. test (2 ^ length ws + c)) (pow_pos (length ws))
         ((same (2 ^ length ws + 0) (let d = double-pow (length ws) in let s = pow_pos (length ws) in omega (arith, d, s))).1
         (least-first w ws r pos enough))
-        (λ c some lt. not-true _ (λ passes. least-alone w ws r c lt some enough
+        (λ c some lt. false_from_ne_true _ (λ passes. least-alone w ws r c lt some enough
         ((same (2 ^ length ws + c) (let d = double-pow (length ws) in omega (arith, d))).0 passes)))
         ∙ sym (cond-true (leb r w) (0 ∷ []) (completing ws (r - w)) (le-leb r w enough))
 
 -- ---- in a game of one rule
 pub wins-one : (r : RuleView) (c : ℕ) → (wins (r ∷ []) c ≡ true) ↔ (r.quota ≤ weight r.weights c)
 unfolding wins
-wins-one r c = (
-  λ won. leb-true _ _ (and_parts (leb r.quota (weight r.weights c)) true won).0,
-  λ met. and_from (leb r.quota (weight r.weights c)) true (le-leb _ _ met) refl,
-)
+wins-one r c = (λ won. grind (arith, nat_tests), λ met. grind (arith, nat_tests))
 
 pub loses-one : (r : RuleView) (c : ℕ) → (wins (r ∷ []) c ≡ false) ↔ (weight r.weights c < r.quota)
 unfolding wins
-loses-one r c = (
-  λ lost. leb-false _ _ (sym (and-true _) ∙ lost),
-  λ short. and_left _ _ (lt-leb _ _ short),
-)
+loses-one r c = (λ lost. grind (arith, nat_tests), λ short. grind (arith, nat_tests))
 
 pub least-minimal : (v : Votes) (r : RuleView) (c : ℕ) → v.rules ≡ r ∷ [] → IsRule v.members r
     → (minimal v c ≡ true) ↔ IsLeast r.weights r.quota c

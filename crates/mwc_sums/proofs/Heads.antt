@@ -2,7 +2,7 @@
 use Rattle.std.proofs.Common.{◌≡◌, ◌∙◌, ◌↔◌, ◌⊎◌, ◌&&◌, ℕ, ◌+◌, ◌-◌, ◌*◌, ◌^◌, ◌<◌, ◌≤◌, Bool, true, cond, leb, List, [], ◌∷◌, length, get_or, take, replicate}
 use Rattle.std.proofs.Common.{sym, ap, subst, arith, inl, inr}
 use Rattle.std.specs.List.{range_with_len}
-use Rattle.std.proofs.lemmas.Bool.{both_ways, cases_lt, le-leb, leb-false, leb-true, lt-leb, eqb-true, and_parts, and_from, and_left, and_right}
+use Rattle.std.proofs.lemmas.Bool.{both_ways, false_from_ne_true, cases_lt, le-leb, leb-false, leb-true, lt-leb, eqb-true, and_parts, and_from, and_left, and_right}
 use Rattle.std.proofs.lemmas.List.{get_or-replicate, length-replicate}
 use Rattle.std.proofs.lemmas.List.Sums.{length-filter}
 use Rattle.std.proofs.Math.Bool.{and-true}
@@ -10,8 +10,9 @@ use Rattle.council_game.specs.Votes.{RuleView, Votes, IsVotes, has, without, wei
 use Rattle.council_game.proofs.Shared.Weights.{weight-without}
 use Rattle.council_game.proofs.Shared.WinningByPlaces.{rule-is}
 use Rattle.power_index.proofs.Shared.Sums.{sum-range, sum-times}
+use Rattle.std.proofs.lemmas.Bool.Decides.{nat_tests}
 use Rattle.mwc_sums.specs.Heads.{AsksForHeads, first_rule, IsMinimalByHeads}
-use Rattle.mwc_sums.proofs.Completing.{IsLeast, not-true, same_test, wins-one}
+use Rattle.mwc_sums.proofs.Completing.{IsLeast, same_test, wins-one}
 use Rattle.mwc_sums.proofs.Leads.{AreMet}
 use Rattle.mwc_sums.proofs.Placed.{minimal-min, weight-sum}
 use Rattle.mwc_sums.proofs.Seating.{IsMin}
@@ -40,28 +41,21 @@ size-without n p c lt inside =
 pub by-heads : (n : ℕ) (won : ℕ → Bool) (heads c : ℕ) → IsMin n (λ x. won x && leb heads (size n x)) c
     ↔ (((size n c ≡ heads) × (won c ≡ true)) ⊎ ((heads < size n c) × IsMin n won c))
 by-heads n won heads c = (
-  λ min.
-      (let parts = and_parts (won c) (leb heads (size n c)) min.wins in
-      let enough = leb-true _ _ parts.1 in
-      elim (cases_lt heads (size n c)) [
-        | inl less ↦ inr (
-          less,
-          record {
-            wins = parts.0;
-            needs = λ p lt inside. not-true _ (λ still. both_ways _ (min.needs p lt inside)
-                (and_from _ _ still (le-leb heads _ (let one = size-without n p c lt inside in omega (arith, one, less)))));
-          },
-        )
-        | inr most ↦ inl (omega (arith, most, enough), parts.0)
-      ]),
+  λ min. elim (cases_lt heads (size n c)) [
+    | inl less ↦ inr (less, record {
+      wins = let w = min.wins in grind (arith, nat_tests);
+      needs = λ p lt inside. let m = min.needs p lt inside in let one = size-without n p c lt inside in grind (arith, nat_tests);
+    })
+    | inr most ↦ let w = min.wins in inl (grind (arith, nat_tests), grind (arith, nat_tests))
+  ],
   λ h. elim h [
     | inl (same, met) ↦ record {
-      wins = and_from _ _ met (le-leb heads _ (omega (arith, same)));
-      needs = λ p lt inside. and_right _ _ (lt-leb heads _ (let one = size-without n p c lt inside in omega (arith, one, same)));
+      wins = grind (arith, nat_tests);
+      needs = λ p lt inside. let one = size-without n p c lt inside in grind (arith, nat_tests);
     }
     | inr (less, min) ↦ record {
-      wins = and_from _ _ min.wins (le-leb heads _ (omega (arith, less)));
-      needs = λ p lt inside. and_left _ _ (min.needs p lt inside);
+      wins = let w = min.wins in grind (arith, nat_tests);
+      needs = λ p lt inside. let m = min.needs p lt inside in grind (arith, nat_tests);
     }
   ],
 )
@@ -71,19 +65,13 @@ pub least-weights : (ws : List ℕ) (r c : ℕ) → IsMin (length ws) (λ x. leb
 unfolding has without
 least-weights ws r c = (
   λ min. record {
-    met = leb-true _ _ min.wins;
-    needed = λ p lt inside.
-        (let less = weight-without ws p c lt (eqb-true _ _ inside) in
-        let lost = leb-false _ _ (min.needs p lt inside) in
-        omega (arith, less, lost));
-  },
+      met = let w = min.wins in grind (arith, nat_tests);
+      needed = λ p lt inside. let m = min.needs p lt inside in let less = weight-without ws p c lt in grind (arith, nat_tests);
+    },
   λ least. record {
-    wins = le-leb _ _ least.met;
-    needs = λ p lt inside. lt-leb _ _
-        (let less = weight-without ws p c lt (eqb-true _ _ inside) in
-        let need = least.needed p lt inside in
-        omega (arith, less, need));
-  },
+      wins = let w = least.met in grind (arith, nat_tests);
+      needs = λ p lt inside. let need = least.needed p lt inside in let less = weight-without ws p c lt in grind (arith, nat_tests);
+    },
 )
 
 pub met-min : (ws : List ℕ) (heads q c : ℕ) → IsMin (length ws) (λ x. leb q (weight ws x) && leb heads (size (length ws) x)) c ↔ AreMet ws heads q 0 c
@@ -116,11 +104,9 @@ two-wins v heads x votes two asks =
         let weighs : weight s.weights x ≡ size v.members x * asks.each =
         alike-weight s.weights asks.each x (λ p lt. asks.same p (omega (arith, lt, full))) ∙ ap (λ (n : ℕ). size n x * asks.each) full in
         let enough = asks.enough (size v.members x) in
-        let own : leb s.quota (weight s.weights x) ≡ leb heads (size v.members x) = same_test _ _
-        (λ h. le-leb _ _ (enough.0 (let m = leb-true _ _ h in omega (arith, m, weighs))))
-        (λ h. le-leb _ _ (let m = enough.1 (leb-true _ _ h) in omega (arith, m, weighs))) in
-        (λ k. leb r.quota (weight r.weights x) && and-true (leb s.quota (weight s.weights x)) k)
-        ∙ (λ k. sym (and-true (leb r.quota (weight r.weights x))) k && own k)
+        let a = enough.0 in
+        let b = enough.1 in
+        grind (arith, nat_tests)
 
 pub heads-law : (v : Votes) (heads c : ℕ) → IsVotes v → length v.rules ≡ 2 → AsksForHeads v.members heads (rule_at v.rules 1)
     → c < 2 ^ v.members → (minimal v c ≡ true) ↔ IsMinimalByHeads v heads c

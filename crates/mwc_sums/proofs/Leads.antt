@@ -7,6 +7,7 @@ use Rattle.council_game.specs.Votes.{has, size, weight, down}
 use Rattle.council_game.proofs.Shared.WeightByDigits.{weight-nil}
 use Rattle.power_index.proofs.Shared.Members.{size-pos-at}
 use Rattle.weight_sums.specs.Endings.{choose, one_of_size, fill, endings, left_out}
+use Rattle.std.proofs.lemmas.Bool.Decides.{nat_tests}
 use Rattle.mwc_sums.proofs.Completing.{IsLeast, Falls, double-pow, falls-rest, first-in, first-out, rest-in, rest-out}
 use Rattle.mwc_sums.proofs.Completing.{least-alone, least-first, least-in, least-out, place-of, same_test, weight-left, weight-with}
 use Rattle.mwc_sums.proofs.Counting.{count, count-and, count-first, count-never, count-parted, size-left, size-with}
@@ -48,21 +49,17 @@ besides zero p = 0
 besides (suc n) zero = n
 besides (suc n) (suc p) = suc (besides n p)
 
-lacks-in : (n p c : ℕ) → c < 2 ^ n → lacks (suc n) (suc p) (2 ^ n + c) ≡ lacks n p c
-lacks-in n p c lt = elim (cases_lt p n) [
-  | inl low ↦
-      (λ i. not (lt-ltb (suc p) (suc n) (omega (arith, low)) i && rest-in n p c low i)) ∙ sym (λ i. not (lt-ltb p n low i && has n p c))
-  | inr high ↦
-      (λ i. not (le-ltb (suc p) (suc n) (omega (arith, high)) i && has (suc n) (suc p) (2 ^ n + c))) ∙ sym (λ i. not (le-ltb p n high i && has n p c))
+lacks-more : (n p c d : ℕ) → (p < n → has (suc n) (suc p) d ≡ has n p c) → lacks (suc n) (suc p) d ≡ lacks n p c
+lacks-more n p c d same = elim (cases_lt p n) [
+  | inl low ↦ (λ i. not (lt-ltb (suc p) (suc n) (omega (arith, low)) i && same low i)) ∙ sym (λ i. not (lt-ltb p n low i && has n p c))
+  | inr high ↦ (λ i. not (le-ltb (suc p) (suc n) (omega (arith, high)) i && has (suc n) (suc p) d)) ∙ sym (λ i. not (le-ltb p n high i && has n p c))
 ]
 
+lacks-in : (n p c : ℕ) → c < 2 ^ n → lacks (suc n) (suc p) (2 ^ n + c) ≡ lacks n p c
+lacks-in n p c lt = lacks-more n p c (2 ^ n + c) (λ low. rest-in n p c low)
+
 lacks-out : (n p c : ℕ) → lacks (suc n) (suc p) c ≡ lacks n p c
-lacks-out n p c = elim (cases_lt p n) [
-  | inl low ↦
-      (λ i. not (lt-ltb (suc p) (suc n) (omega (arith, low)) i && rest-out n p c i)) ∙ sym (λ i. not (lt-ltb p n low i && has n p c))
-  | inr high ↦
-      (λ i. not (le-ltb (suc p) (suc n) (omega (arith, high)) i && has (suc n) (suc p) c)) ∙ sym (λ i. not (le-ltb p n high i && has n p c))
-]
+lacks-out n p c = lacks-more n p c c (λ low. rest-out n p c)
 
 lacks-first_in : (n c : ℕ) → c < 2 ^ n → lacks (suc n) 0 (2 ^ n + c) ≡ false
 lacks-first_in n c lt = λ i. not (lt-ltb 0 (suc n) (omega arith) i && first-in n c lt i)
@@ -95,10 +92,8 @@ unfolding choose
 choose-none zero = refl
 choose-none (suc n) = refl
 
-shifted : (a x s : ℕ) → a ≤ s → (a + x == s) ≡ (x == s - a)
-shifted a x s le = same_test (a + x == s) (x == s - a)
-    (λ h. eq-eqb x (s - a) (let e = eqb-true (a + x) s h in omega (arith, e)))
-    (λ h. eq-eqb (a + x) s (let e = eqb-true x (s - a) h in omega (arith, e, le)))
+pub shifted : (a x s : ℕ) → a ≤ s → (a + x == s) ≡ (x == s - a)
+shifted a x s le = grind (arith, nat_tests)
 
 -- of sets that pass a test, one member more
 abbrev shift : (ℕ → ℕ) → ℕ → ℕ
@@ -112,9 +107,7 @@ count-more q n zero =
 count-more q n (suc k) = λ i. count (λ c. q c && one-more (size n c) i) (down (2 ^ n))
   where
     one-more : (x : ℕ) → (x + 1 == suc k) ≡ (x == k)
-    one-more x = same_test (x + 1 == suc k) (x == k)
-        (λ h. eq-eqb x k (let e = eqb-true (x + 1) (suc k) h in omega (arith, e)))
-        (λ h. eq-eqb (x + 1) (suc k) (let e = eqb-true x k h in omega (arith, e)))
+    one-more x = grind (arith, nat_tests)
 
 chosen : (n p k : ℕ) → count (λ c. lacks n p c && (size n c == k)) (down (2 ^ n)) ≡ choose (besides n p) k
 unfolding choose down besides
@@ -142,14 +135,10 @@ chosen (suc n) (suc p) k =
 -- ---- how many fill up
 -- what two tests say matters only where a third holds
 where-it-holds : (x y z : Bool) → (x ≡ true → y ≡ z) → (x && y) ≡ (x && z)
-where-it-holds true y z same = same refl
-where-it-holds false y z same = refl
+where-it-holds x y z same = grind (arith, nat_tests)
 
 together : (x y z : Bool) → (x && (y && z)) ≡ ((y && x) && z)
-together true true z = refl
-together true false z = refl
-together false true z = refl
-together false false z = refl
+together x y z = grind (arith, nat_tests)
 
 filled-lacking : (heads s n p a : ℕ) → count (λ c. filled heads n a c && (lacks n p c && (a + size n c == s))) (down (2 ^ n)) ≡ fill heads s (besides n p) a
 filled-lacking heads s n p a = by_order (cases_lt heads a)
@@ -264,25 +253,23 @@ filled-are w ws heads r a c lt pos enough = by_order (cases_lt heads (a + 1))
       | inr most ↦ ap (size (length ws)) (let z : c ≡ 0 = omega (arith, most) in z) ∙ no-size (length ws)
     ]
 
-    by_order : (heads < a + 1) ⊎ (a + 1 ≤ heads)
-        → (cond (ltb heads (a + 1)) (size (length ws) c == 0) (a + 1 + size (length ws) c == heads) ≡ true)
-        ↔ AreMet (w ∷ ws) heads r a (2 ^ length ws + c)
-    by_order (inl less) =
-        let test = cond-true (ltb heads (a + 1)) (size (length ws) c == 0) (a + 1 + size (length ws) c == heads) (lt-ltb heads (a + 1) less) in (
-          λ h. (let none = eqb-true (size (length ws) c) 0 (sym test ∙ h) in inr ((let e = size-is in omega (arith, e, less)), alone none)),
-          λ h. test ∙ eq-eqb (size (length ws) c) 0 (elim h [
-            | inl same ↦ absurd (let s = same.0 in let e = size-is in omega (arith, s, e, less))
-            | inr least ↦ only least.1
-          ]),
-        )
-    by_order (inr most) =
-        let test = cond-false (ltb heads (a + 1)) (size (length ws) c == 0) (a + 1 + size (length ws) c == heads) (le-ltb heads (a + 1) most) in (
-          λ h. inl ((let f = eqb-true (a + 1 + size (length ws) c) heads (sym test ∙ h) in let e = size-is in omega (arith, e, f)), met),
-          λ h. test ∙ eq-eqb (a + 1 + size (length ws) c) heads (elim h [
-            | inl same ↦ (let s = same.0 in let e = size-is in omega (arith, s, e))
-            | inr least ↦ absurd (let none = only least.1 in let m = least.0 in let e = size-is in omega (arith, none, m, e, most))
-          ]),
-        )
+    by_order : (heads < a + 1) ⊎ (a + 1 ≤ heads) → (filled heads (length ws) (a + 1) c ≡ true) ↔ AreMet (w ∷ ws) heads r a (2 ^ length ws + c)
+    by_order order = (
+      λ h. (let s = size-is in elim order [
+        | inl less ↦ inr (omega (arith, s, less), alone (grind (arith, nat_tests)))
+        | inr most ↦ inl (grind (arith, nat_tests), met)
+      ]),
+      λ h. (let s = size-is in elim h [
+        | inl (same, _) ↦ grind (arith, nat_tests)
+        | inr (more, least) ↦ let z = only least in grind (arith, nat_tests)
+      ]),
+    )
+
+-- one that is met by some weights is met by others, where these say the same
+met-from : (ws vs : List ℕ) (heads r q a b c d : ℕ) → a + size (length ws) c ≡ b + size (length vs) d → (r ≤ weight ws c → q ≤ weight vs d)
+    → (IsLeast ws r c → IsLeast vs q d) → AreMet ws heads r a c → AreMet vs heads q b d
+met-from ws vs heads r q a b c d sizes met least (inl (same, more)) = inl (omega (arith, sizes, same), met more)
+met-from ws vs heads r q a b c d sizes met least (inr (more, alone)) = inr (omega (arith, sizes, more), least alone)
 
 pub leads-are : (ws : List ℕ) (heads r a c : ℕ) → Falls ws → 0 < r → c < 2 ^ length ws → (leads ws heads r a c ≡ true) ↔ AreMet ws heads r a c
 unfolding leads
@@ -306,18 +293,12 @@ leads-are (w ∷ ws) heads r a c falls pos lt = elim (cases_lt c (2 ^ length ws)
     out : c < 2 ^ length ws → (leads ws heads r a c ≡ true) ↔ AreMet ws heads r a c
         → (leads (w ∷ ws) heads r a c ≡ true) ↔ AreMet (w ∷ ws) heads r a c
     out low again =
-        let size-is = size-left (length ws) c low in
+        let sizes : a + size (length ws) c ≡ a + size (suc (length ws)) c = ap (λ (k : ℕ). a + k) (sym (size-left (length ws) c low)) in
         let weighs = weight-left w ws c low in
         let least = least-out w ws r c low in
         let same = leads-out w ws heads r a c low in (
-          λ h. elim (again.0 (sym same ∙ h)) [
-            | inl met ↦ inl ((let s = met.0 in omega (arith, s, size-is)), (let m = met.1 in omega (arith, m, weighs)))
-            | inr more ↦ inr ((let m = more.0 in omega (arith, m, size-is)), least.1 more.1)
-          ],
-          λ h. same ∙ again.1 (elim h [
-            | inl met ↦ inl ((let s = met.0 in omega (arith, s, size-is)), (let m = met.1 in omega (arith, m, weighs)))
-            | inr more ↦ inr ((let m = more.0 in omega (arith, m, size-is)), least.0 more.1)
-          ]),
+          λ h. met-from ws (w ∷ ws) heads r r a a c c sizes (λ m. omega (arith, m, weighs)) least.1 (again.0 (sym same ∙ h)),
+          λ h. same ∙ again.1 (met-from (w ∷ ws) ws heads r r a a c c (sym sizes) (λ m. omega (arith, m, weighs)) least.0 h),
         )
 
     within : (x : ℕ) → x < 2 ^ length ws
@@ -326,18 +307,12 @@ leads-are (w ∷ ws) heads r a c falls pos lt = elim (cases_lt c (2 ^ length ws)
     within x low later = elim (cases_lt w r) [
       | inl less ↦
           let again = later (omega (arith, less)) low in
-          let size-is = one-size (length ws) a x low in
+          let sizes = one-size (length ws) a x low in
           let weighs = weight-with w ws x low in
           let least = least-in w ws r x low falls less in
           let same = leads-in w ws heads r a x ∙ cond-false (leb r w) _ _ (lt-leb r w less) in (
-            λ h. elim (again.0 (sym same ∙ h)) [
-              | inl met ↦ inl ((let s = met.0 in omega (arith, s, size-is)), (let m = met.1 in omega (arith, m, weighs)))
-              | inr more ↦ inr ((let m = more.0 in omega (arith, m, size-is)), least.1 more.1)
-            ],
-            λ h. same ∙ again.1 (elim h [
-              | inl met ↦ inl ((let s = met.0 in omega (arith, s, size-is)), (let m = met.1 in omega (arith, m, weighs)))
-              | inr more ↦ inr ((let m = more.0 in omega (arith, m, size-is)), least.0 more.1)
-            ]),
+            λ h. met-from ws (w ∷ ws) heads (r - w) r (a + 1) a x (2 ^ length ws + x) (sym sizes) (λ m. omega (arith, m, weighs)) least.1 (again.0 (sym same ∙ h)),
+            λ h. same ∙ again.1 (met-from (w ∷ ws) ws heads r (r - w) a (a + 1) (2 ^ length ws + x) x sizes (λ m. omega (arith, m, weighs)) least.0 h),
           )
       | inr enough ↦
           let filled = filled-are w ws heads r a x low pos enough in

@@ -6,6 +6,7 @@ use Rattle.std.proofs.lemmas.Bool.{cases_eq, eq-eqb, ne_eqb, eqb-true, and_parts
 use Rattle.std.proofs.lemmas.List.Sums.{sum_by-cons, length-filter}
 use Rattle.council_game.specs.Votes.{down}
 use Rattle.power_index.proofs.Shared.Sums.{exchange, sum-zero}
+use Rattle.std.proofs.lemmas.Bool.Decides.{nat_tests}
 use Rattle.mwc_sums.proofs.Completing.{same_test}
 use Rattle.mwc_sums.proofs.Filters.{filter-both}
 use Rattle.mwc_sums.proofs.Seating.{one_if, IsLeast, IsSeating, LooksAt, as_mask, least-same, mask-is, mask-less, mask-seen, seen}
@@ -74,12 +75,10 @@ module _ (p : ℕ → Bool) (q : ℕ → ℕ → Bool) (one two : ℕ → ℕ) (
       ∙ (λ k. sum_by (λ x. sum_by (λ y. one-of (λ c. one_if (q x y && t c)) (both x y) n (are.below x y) k) (down b)) (down a))
     where
       one-form : (e m t : Bool) → cond e (one_if (m && t)) 0 ≡ one_if ((e && m) && t)
-      one-form true m t = refl
-      one-form false m t = refl
+      one-form e m t = grind (arith, nat_tests)
 
       two-form : (e d m t : Bool) → cond e (cond d (one_if (m && t)) 0) 0 ≡ one_if ((e && (d && m)) && t)
-      two-form true d m t = one-form d m t
-      two-form false d m t = refl
+      two-form e d m t = grind (arith, nat_tests)
 
 -- ---- coalitions that hold the least sets of a test, by their places in a ranking
 pub record Holds (n : ℕ) (won : (ℕ → Bool) → Bool) (m : ℕ) (ranks : List ℕ) (min : ℕ → Bool) : Type 0 where

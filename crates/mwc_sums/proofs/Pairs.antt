@@ -8,6 +8,7 @@ use Rattle.council_game.specs.Votes.{minimal, down, minimal_coalitions}
 use Rattle.council_game.specs.Game.{GameView, IsGame, votes_of}
 use Rattle.power_index.specs.Counting.{contains, size_of}
 use Rattle.power_index.proofs.Shared.Sums.{sum-plus, sum-range}
+use Rattle.std.proofs.lemmas.Bool.Decides.{nat_tests}
 use Rattle.mwc_sums.specs.Chambers.{met, paired, minimal_of_size, minimal_of_member_size}
 use Rattle.mwc_sums.proofs.Joining.{IsJoint, flipped-joint, least-half, least-sides, least-apart, least-own, least-union}
 use Rattle.mwc_sums.proofs.Matching.{ArePairs, paired-off}
@@ -16,25 +17,17 @@ use Rattle.mwc_sums.proofs.Placed.{game-least, game-seats, seen-contains}
 use Rattle.mwc_sums.proofs.Seating.{IsLeast, IsSeating, as_mask, mask-is, mask-less, mask-seen, one_if, seen, seen-size}
 
 on-sides : (b s t : Bool) → (b ≡ true → (s || t) ≡ true) → b ≡ ((b && s) || (b && t))
-on-sides true s t h = sym (h refl)
-on-sides false s t h = refl
+on-sides b s t h = grind (arith, nat_tests)
 
 under : (b t u : Bool) → (b ≡ true → t ≡ u) → one_if (b && t) ≡ one_if (b && u)
-under true t u same = ap (λ (x : Bool). one_if x) (same refl)
-under false t u same = refl
+under b t u same = grind (arith, nat_tests)
 
 one-sum : (b d : Bool) → (b ≡ true → d ≡ false) → one_if (b || d) ≡ one_if b + one_if d
-one-sum true false h = refl
-one-sum true true h = absurd (let e = h refl in cc)
-one-sum false d h = omega arith
+one-sum b d h = grind (arith, nat_tests)
 
 two-ways : (m b d e t : Bool) → (m ≡ true → t ≡ ((b || d) && e)) → (m ≡ true → b ≡ true → d ≡ false)
     → one_if (m && t) ≡ one_if (m && ((b && true) && e)) + one_if (m && (d && e))
-two-ways false b d e t is apart = refl
-two-ways true true true e t is apart = absurd (let h = apart refl refl in cc)
-two-ways true true false e t is apart = ap (λ (x : Bool). one_if x) (is refl) ∙ omega arith
-two-ways true false true e t is apart = ap (λ (x : Bool). one_if x) (is refl) ∙ omega arith
-two-ways true false false e t is apart = ap (λ (x : Bool). one_if x) (is refl)
+two-ways m b d e t is apart = grind (arith, nat_tests)
 
 -- a game of so many members as another
 module _ (n : ℕ) (a : GameView) (is : IsGame a) (long : length a.names ≡ n) where

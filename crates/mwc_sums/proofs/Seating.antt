@@ -12,6 +12,7 @@ use Rattle.std.proofs.lemmas.List.Sums.{length-filter}
 use Rattle.std.proofs.lemmas.Nat.Bits.{bit_at-suc, same_from_bits_below}
 use Rattle.coalitions.proofs.Shared.Digits.{has-kept, has-gone}
 use Rattle.coalitions.proofs.Shared.Ranges.{sum_by-range-more}
+use Rattle.std.proofs.lemmas.Bool.Decides.{nat_tests}
 use Rattle.council_game.specs.Votes.{has, size, without}
 use Rattle.council_game.specs.Ranks.{AreRankPlaces, member_at}
 use Rattle.council_game.proofs.Shared.Making.{RanksAre}
@@ -34,8 +35,7 @@ mask-below test (suc n) =
     omega (arith, mask-below test n, two, bit (test n))
   where
     bit : (b : Bool) → one_if b < 2
-    bit true = omega arith
-    bit false = omega arith
+    bit b = grind (arith, nat_tests)
 
 mask-has : (test : ℕ → Bool) (n p : ℕ) → p < n → has n p (mask_of test n) ≡ test p
 unfolding mask_of has
@@ -55,12 +55,10 @@ mask-has test (suc n) p lt = elim (cases_lt p n) [
 ]
   where
     half : (m : ℕ) (b : Bool) → (2 * m + one_if b) / 2 ≡ m
-    half m true = omega arith
-    half m false = omega arith
+    half m b = grind (arith, nat_tests)
 
     last-digit : (m : ℕ) (b : Bool) → ((2 * m + one_if b) / 2 ^ 0 % 2 == 1) ≡ b
-    last-digit m true = eq-eqb ((2 * m + 1) / 2 ^ 0 % 2) 1 (omega arith)
-    last-digit m false = ne_eqb ((2 * m + 0) / 2 ^ 0 % 2) 1 (omega arith)
+    last-digit m b = grind (arith, nat_tests)
 
 -- coalitions with the same places are the same
 same-places : (n c d : ℕ) → c < 2 ^ n → d < 2 ^ n → ((p : ℕ) → p < n → has n p c ≡ has n p d) → c ≡ d
@@ -70,10 +68,7 @@ same-places n c d lc ld same = same_from_bits_below n c d lc ld (λ i lt.
     digits (c / 2 ^ i % 2) (d / 2 ^ i % 2) (omega arith) (omega arith) (rw place at (same (n - 1 - i) (omega (arith, lt))))))
   where
     digits : (a b : ℕ) → a < 2 → b < 2 → (a == 1) ≡ (b == 1) → a ≡ b
-    digits a b la lb e = elim (cases_eq a 1) [
-      | inl one ↦ let f = eqb-true b 1 (sym e ∙ eq-eqb a 1 one) in omega (arith, one, f)
-      | inr other ↦ let f = eqb-false b 1 (sym e ∙ ne_eqb a 1 other) in omega (arith, other, f, la, lb)
-    ]
+    digits a b la lb e = grind (arith, nat_tests)
 
 -- ---- sets of members
 -- a set without one of its members
@@ -81,12 +76,7 @@ abbrev pub less : (ℕ → Bool) → ℕ → ℕ → Bool
 less f i j = f j && not (eqb j i)
 
 pub less-same : (f : ℕ → Bool) (i j : ℕ) → (j ≡ i → ⊥) → less f i j ≡ f j
-less-same f i j other = kept (f j) (eqb j i) (ne_eqb j i other)
-  where
-    kept : (b e : Bool) → e ≡ false → (b && not e) ≡ b
-    kept true false none = refl
-    kept false false none = refl
-    kept b true none = absurd (cc)
+less-same f i j other = grind (arith, nat_tests)
 
 pub less-alike : (f h : ℕ → Bool) (i j : ℕ) → f j ≡ h j → less f i j ≡ less h i j
 less-alike f h i j same = ap (λ (b : Bool). b && not (eqb j i)) same
@@ -100,9 +90,6 @@ pub record IsLeast (n : ℕ) (won : (ℕ → Bool) → Bool) (f : ℕ → Bool) 
 pub record IsMin (n : ℕ) (won : ℕ → Bool) (c : ℕ) : Type 0 where
   pub wins : won c ≡ true
   pub needs : (p : ℕ) → p < n → has n p c ≡ true → won (without n p c) ≡ false
-
-pub min-same : (n : ℕ) (u v : ℕ → Bool) (c : ℕ) → ((x : ℕ) → u x ≡ v x) → IsMin n u c → IsMin n v c
-min-same n u v c same min = record { wins = sym (same c) ∙ min.wins; needs = λ p lt inside. sym (same (without n p c)) ∙ min.needs p lt inside }
 
 -- a test of sets looks at n members
 abbrev pub LooksAt : ℕ → ((ℕ → Bool) → Bool) → Type 0
@@ -144,21 +131,16 @@ sum-cut f m (suc n) le none = elim (cases_eq m (suc n)) [
 
 module _ (n m : ℕ) (ranks : List ℕ) (is : IsSeating n m ranks) where
   pub seen-at : (c p : ℕ) → p < m → seen m ranks c (member_at ranks p) ≡ has m p c
-  seen-at c p lt =
-      let back = is.are.place_back p (let few = is.few in omega (arith, lt, few)) in
-      (λ k. ltb (back k) m && has m (back k) c) ∙ ap (λ (b : Bool). b && has m p c) (lt-ltb p m lt)
+  seen-at c p lt = let back = is.are.place_back p (let few = is.few in omega (arith, lt, few)) in grind (arith, nat_tests)
 
   pub mask-seen : (f : ℕ → Bool) → ((i : ℕ) → i < n → f i ≡ true → get_or ranks i 0 < m) → (i : ℕ) → i < n
       → seen m ranks (as_mask m ranks f) i ≡ f i
   unfolding as_mask
-  mask-seen f within i li = elim (cases_lt (get_or ranks i 0) m) [
-    | inl lt ↦
-        (λ k. lt-ltb (get_or ranks i 0) m lt k && mask-has (λ p. f (member_at ranks p)) m (get_or ranks i 0) lt k)
-        ∙ ap f (is.are.member_back i li)
-    | inr le ↦
-        ap (λ (b : Bool). b && has m (get_or ranks i 0) (mask_of (λ p. f (member_at ranks p)) m)) (le-ltb (get_or ranks i 0) m le)
-        ∙ sym (false_from_ne_true (f i) (λ in'. (let lt = within i li in' in omega (arith, lt, le))))
-  ]
+  mask-seen f within i li =
+      let h = within i li in
+      let own : get_or ranks i 0 < m → has m (get_or ranks i 0) (mask_of (λ p. f (member_at ranks p)) m) ≡ f i = λ lt.
+      mask-has (λ p. f (member_at ranks p)) m (get_or ranks i 0) lt ∙ ap f (is.are.member_back i li) in
+      grind (arith, nat_tests)
 
   pub mask-is : (f : ℕ → Bool) (c : ℕ) → c < 2 ^ m → ((i : ℕ) → i < n → seen m ranks c i ≡ f i) → c ≡ as_mask m ranks f
   unfolding as_mask
@@ -170,19 +152,11 @@ module _ (n m : ℕ) (ranks : List ℕ) (is : IsSeating n m ranks) where
       → seen m ranks (without m (get_or ranks i 0) c) j ≡ less (seen m ranks c) i j
   seen-less c i j li lj inside =
       let parts = and_parts (ltb (get_or ranks i 0) m) (has m (get_or ranks i 0) c) inside in
+      let apart : get_or ranks j 0 ≡ get_or ranks i 0 → j ≡ i = λ e.
+      sym (is.are.member_back j lj) ∙ ap (member_at ranks) e ∙ is.are.member_back i li in
       elim (cases_eq j i) [
-        | inl same ↦
-            ap (seen m ranks (without m (get_or ranks i 0) c)) same
-            ∙ and_right (ltb (get_or ranks i 0) m) (has m (get_or ranks i 0) (without m (get_or ranks i 0) c))
-            (has-gone m (get_or ranks i 0) c parts.1)
-            ∙ sym (and_right (seen m ranks c j) (not (eqb j i)) (ap not (eq-eqb j i same)))
-        | inr other ↦ (elim (cases_lt (get_or ranks j 0) m) [
-          | inl low ↦ ap (λ (b : Bool). ltb (get_or ranks j 0) m && b)
-              (has-kept m (get_or ranks j 0) (get_or ranks i 0) c low (ltb-true _ _ parts.0)
-              (λ e. other (sym (is.are.member_back j lj) ∙ ap (member_at ranks) e ∙ is.are.member_back i li)) parts.1)
-          | inr high ↦ let out = le-ltb (get_or ranks j 0) m high in
-              (λ k. out k && has m (get_or ranks j 0) (without m (get_or ranks i 0) c)) ∙ sym (λ k. out k && has m (get_or ranks j 0) c)
-        ]) ∙ sym (less-same (seen m ranks c) i j other)
+        | inl same ↦ let e = ap (λ (k : ℕ). get_or ranks k 0) same in grind (arith, nat_tests, has-gone m (get_or ranks i 0) c parts.1)
+        | inr other ↦ grind (arith, nat_tests, has-kept m (get_or ranks j 0) (get_or ranks i 0) c)
       ]
 
   -- a sum over the members, by place

@@ -9,6 +9,7 @@ use Rattle.std.proofs.lemmas.List.Sums.{AllPass-from_list_all, list_all-from_All
 use Rattle.std.proofs.lemmas.List.Elements.{All-filter, All-from_get_or, All-take, filter_passes}
 use Rattle.council_game.specs.Votes.{RuleView, rule_at}
 use Rattle.council_game.specs.Game.{GameView}
+use Rattle.std.proofs.lemmas.Bool.Decides.{nat_tests}
 use Rattle.mwc_sums.specs.Chambers.{weighs, met, share, chamber_of, HasNoWeight, AreChambersOf}
 use Rattle.mwc_sums.specs.Heads.{are_of_one_chamber}
 use Rattle.mwc_sums.specs.Statute.{is_counted}
@@ -22,36 +23,28 @@ use Rattle.mwc_sums.proofs.Tests.{any-at, any-none, missing}
 -- ---- who has weight in two rules
 pub share-at : (n i : ℕ) (a b : RuleView) → i < n → 0 < get_or a.weights i 0 → 0 < get_or b.weights i 0 → share n a b ≡ true
 share-at n i a b lt one other =
-    any-at (λ i. ltb 0 (get_or a.weights i 0) && ltb 0 (get_or b.weights i 0)) n i lt (and_from _ _ (lt-ltb 0 _ one) (lt-ltb 0 _ other))
+    any-at (λ i. ltb 0 (get_or a.weights i 0) && ltb 0 (get_or b.weights i 0)) n i lt (grind (arith, nat_tests))
 
 share-member : (n : ℕ) (a b : RuleView) → share n a b ≡ true
     → (i : ℕ) × (i < n) × (0 < get_or a.weights i 0) × (0 < get_or b.weights i 0)
 share-member n a b they = elim (missing (λ i. ltb 0 (get_or a.weights i 0) && ltb 0 (get_or b.weights i 0)) (λ i. false) n) [
-  | inl found ↦
-      let parts = and_parts (ltb 0 (get_or a.weights found.0 0)) (ltb 0 (get_or b.weights found.0 0)) found.2 in
-      (found.0, found.1, ltb-true 0 _ parts.0, ltb-true 0 _ parts.1)
-  | inr none ↦ absurd (both_ways (share n a b) (any-none (λ i. ltb 0 (get_or a.weights i 0) && ltb 0 (get_or b.weights i 0)) n
-      (λ i lt. false_from_ne_true _ (λ is. false≢true (none i lt is)))) they)
+  | inl found ↦ let passes = found.2 in (found.0, found.1, grind (arith, nat_tests), grind (arith, nat_tests))
+  | inr none ↦ absurd (let out = any-none (λ i. ltb 0 (get_or a.weights i 0) && ltb 0 (get_or b.weights i 0)) n
+      (λ i lt. let h = none i lt in grind (arith, nat_tests)) in grind (arith, nat_tests))
 ]
 
 share-turned : (n : ℕ) (a b : RuleView) → share n a b ≡ true → share n b a ≡ true
 share-turned n a b they = let found = share-member n a b they in share-at n found.0 b a found.1 found.3 found.2
 
 weightless : (w : ℕ) → (0 < w → ⊥) → w ≡ 0
-weightless zero none = refl
-weightless (suc w) none = absurd (none (omega arith))
+weightless w none = grind arith
 
 share-self : (n : ℕ) (r : RuleView) → IsFair n r → share n r r ≡ true
 share-self n r fair = elim (missing (λ i. ltb 0 (get_or r.weights i 0)) (λ i. false) n) [
   | inl found ↦ let some = ltb-true 0 _ found.2 in share-at n found.0 r r found.1 some some
-  | inr none ↦
-      let full = fair.full in
-      let met = good-met r fair.quota in
-      let some = good-some r fair.quota in
-      let total = alike-sum r.weights 0 (λ p lt. weightless (get_or r.weights p 0)
-      (λ more. false≢true (none p (omega (arith, lt, full)) (lt-ltb 0 _ more)))) in
-      let z : length r.weights * 0 ≡ 0 = omega arith in
-      absurd (omega (arith, met, some, total, z))
+  | inr none ↦ absurd (
+      let total = alike-sum r.weights 0 (λ p lt. let full = fair.full in let h = none p in grind (arith, nat_tests)) in
+      grind (arith, good-met r fair.quota, good-some r fair.quota, total))
 ]
 
 -- ---- lists
@@ -59,37 +52,21 @@ share-self n r fair = elim (missing (λ i. ltb 0 (get_or r.weights i 0)) (λ i. 
 in-filter : {X : Type 0} (p : X → Bool) (xs : List X) (j : ℕ) (d : X) → j < length xs → p (get_or xs j d) ≡ true
     → 0 < length (filter p xs)
 in-filter p [] j d lt passes = absurd (omega (arith, lt))
-in-filter p (x ∷ xs) zero d lt passes = rw passes (omega arith)
-in-filter p (x ∷ xs) (suc j) d lt passes = elim (cases_Bool (p x)) [
-  | inl is ↦ rw is (omega arith)
-  | inr out ↦ rw out (in-filter p xs j d (omega (arith, lt)) passes)
-]
+in-filter p (x ∷ xs) zero d lt passes = grind (arith, nat_tests)
+in-filter p (x ∷ xs) (suc j) d lt passes = grind (arith, nat_tests, in-filter p xs j d (omega (arith, lt)) passes)
 
 met-parted : (n : ℕ) (p : RuleView → Bool) (rs : List RuleView) (f : ℕ → Bool)
     → met n rs f ≡ (met n (filter p rs) f && met n (filter (λ r. not (p r)) rs) f)
 met-parted n p [] f = refl
-met-parted n p (r ∷ rs) f =
-    let own : Bool = leb r.quota (weighs n r f) in
-    let one : Bool = met n (filter p rs) f in
-    let other : Bool = met n (filter (λ x. not (p x)) rs) f in
-    ap (λ (b : Bool). own && b) (met-parted n p rs f)
-    ∙ (elim (cases_Bool (p r)) [
-      | inl is ↦ rw is (sym (and_assoc own one other))
-      | inr out ↦ rw out (ap (λ (b : Bool). own && b) (and_comm one other) ∙ sym (and_assoc own other one) ∙ and_comm (own && other) one)
-    ])
+met-parted n p (r ∷ rs) f = grind (arith, nat_tests, met-parted n p rs f)
 
 -- at two places a test passes
 two-pass : {X : Type 0} (p : X → Bool) (xs : List X) (j k : ℕ) (d : X) → j < k → k < length xs → p (get_or xs j d) ≡ true
     → p (get_or xs k d) ≡ true → 2 ≤ length (filter p xs)
 two-pass p [] j k d less lt pj pk = absurd (omega (arith, lt))
 two-pass p (x ∷ xs) j zero d less lt pj pk = absurd (omega (arith, less))
-two-pass p (x ∷ xs) zero (suc k) d less lt pj pk = rw pj (let some = in-filter p xs k d (omega (arith, lt)) pk in omega (arith, some))
-two-pass p (x ∷ xs) (suc j) (suc k) d less lt pj pk =
-    let two = two-pass p xs j k d (omega (arith, less)) (omega (arith, lt)) pj pk in
-    elim (cases_Bool (p x)) [
-      | inl is ↦ rw is (omega (arith, two))
-      | inr out ↦ rw out two
-    ]
+two-pass p (x ∷ xs) zero (suc k) d less lt pj pk = grind (arith, nat_tests, in-filter p xs k d (omega (arith, lt)) pk)
+two-pass p (x ∷ xs) (suc j) (suc k) d less lt pj pk = grind (arith, nat_tests, two-pass p xs j k d (omega (arith, less)) (omega (arith, lt)) pj pk)
 
 -- what holds of each that passes
 all-passing : (P : RuleView → Type 0) (p : RuleView → Bool) (rs : List RuleView)
@@ -100,10 +77,7 @@ all-passing P p rs each k d lt =
 
 -- ---- the rules of a chamber
 pub one-few : (n : ℕ) (rs : List RuleView) → are_of_one_chamber n rs ≡ true → length rs ≤ 2
-one-few n rs of = elim (or_cases (length rs == 1) _ of) [
-  | inl one ↦ let e = eqb-true (length rs) 1 one in omega (arith, e)
-  | inr two ↦ let e = eqb-true (length rs) 2 (and_parts (length rs == 2) _ two).0 in omega (arith, e)
-]
+one-few n rs of = grind (arith, nat_tests)
 
 -- a test of rules that passes each that shares a member with one that passes
 abbrev pub IsClosed : ℕ → List RuleView → (RuleView → Bool) → Type 0
@@ -161,11 +135,8 @@ module _ (n : ℕ) (rs : List RuleView) (fair : All (IsFair n) rs) where
   counted-at : (r : RuleView) → is_counted n rs r ≡ true → (k : ℕ) → k < length rs → share n r (rule k) ≡ true
       → are_of_one_chamber n (chamber_of n rs (rule k)) ≡ true
   counted-at r is k lt they =
-      elim (or_cases (not (share n r (rule k))) (are_of_one_chamber n (chamber_of n rs (rule k)))
-      (AllPass-from_list_all (λ x. not (share n r x) || are_of_one_chamber n (chamber_of n rs x)) rs is k none lt)) [
-        | inl out ↦ absurd (both_ways (share n r (rule k)) (not-true _ out) they)
-        | inr of ↦ of
-      ]
+      let h = AllPass-from_list_all (λ x. not (share n r x) || are_of_one_chamber n (chamber_of n rs x)) rs is k none lt in
+      grind (arith, nat_tests)
 
   counted-from : (r : RuleView) → ((k : ℕ) → k < length rs → share n r (rule k) ≡ true → are_of_one_chamber n (chamber_of n rs (rule k)) ≡ true)
       → is_counted n rs r ≡ true
@@ -192,10 +163,10 @@ module _ (n : ℕ) (rs : List RuleView) (fair : All (IsFair n) rs) where
   chamber-closed all i li j m lj lm is they = no-third i j m li lj lm is (all j none lj) they
 
   pub others-closed : (q : RuleView → Bool) → IsClosed n rs q → IsClosed n rs (λ x. not (q x))
-  others-closed q closed j m lj lm out they = elim (cases_Bool (q (rule m))) [
-    | inl is ↦ absurd (both_ways (q (rule j)) (not-true _ out) (closed m j lm lj is (share-turned n (rule j) (rule m) they)))
-    | inr lost ↦ not_from_false _ lost
-  ]
+  others-closed q closed j m lj lm out they =
+      let back = closed m j lm lj in
+      let turned = share-turned n (rule j) (rule m) they in
+      grind (arith, nat_tests)
 
   module _ (q : RuleView → Bool) (closed : IsClosed n rs q) where
     -- the rules that pass have the same chambers among themselves
