@@ -9,6 +9,7 @@ use Rattle.std.proofs.lemmas.List.Sums.{length-filter}
 use Rattle.std.proofs.lemmas.Nat.{ones_cat}
 use Rattle.std.proofs.Math.Bool.{and-true, and-false}
 use Rattle.council_game.specs.Votes.{size, down}
+use Rattle.council_game.proofs.Shared.Listing.{down-below}
 use Rattle.coalitions.proofs.Shared.Sizes.{size-ones}
 use Rattle.power_index.proofs.Shared.Sums.{sum-plus}
 use Rattle.std.proofs.lemmas.Bool.Decides.{nat_tests}
@@ -27,11 +28,6 @@ size-with n c lt =
 
 pub size-left : (n c : ℕ) → c < 2 ^ n → size (suc n) c ≡ size n c
 size-left n c lt = let d = double-pow n in size-ones (suc n) c (omega (arith, d)) ∙ sym (size-ones n c lt)
-
-pub down-below : (n m : ℕ) → n ≤ m → All (λ c. c < m) (down n)
-unfolding down
-down-below zero m le = All-nil (λ c. c < m)
-down-below (suc n) m le = All-cons (λ c. c < m) n (down n) (omega arith) (down-below n m (omega arith))
 
 -- how many pass a test
 abbrev pub count : (ℕ → Bool) → List ℕ → ℕ

@@ -16,6 +16,7 @@ use Rattle.std.proofs.lemmas.Bool.Decides.{nat_tests}
 use Rattle.council_game.specs.Votes.{has, size, without}
 use Rattle.council_game.specs.Ranks.{AreRankPlaces, member_at}
 use Rattle.council_game.proofs.Shared.Making.{RanksAre}
+use Rattle.council_game.proofs.Shared.RankPlaces.{by-member}
 use Rattle.power_index.proofs.Shared.Sums.{sum-range}
 pub use Rattle.mwc_sums.specs.Inner.Seats.{seen}
 
@@ -160,21 +161,13 @@ module _ (n m : ℕ) (ranks : List ℕ) (is : IsSeating n m ranks) where
       ]
 
   -- a sum over the members, by place
-  pub by-member : (f : ℕ → ℕ) → sum_by f (range_with_len 0 n) ≡ sum_by (λ i. f (get_or ranks i 0)) (range_with_len 0 n)
-  by-member f =
-      let same : ranks ≡ map (λ i. get_or ranks i 0) (range_with_len 0 n) =
-      fill_by_all (λ i. get_or ranks i 0) ranks n 0 is.are.count (λ k lt. refl) in
-      let permuted = subst (λ (k : ℕ). IsPermutation (range_with_len 0 k) ranks) is.are.count is.each in
-      sym (sum_by-IsPermutation f (range_with_len 0 n) ranks permuted) ∙ ap (sum_by f) same
-      ∙ fold-map (λ (a : ℕ) (p : ℕ). a + f p) (λ i. get_or ranks i 0) 0 (range_with_len 0 n)
-
   pub seen-sum : (t : ℕ → Bool → ℕ) → ((i : ℕ) → t i false ≡ 0) → (c : ℕ)
       → sum_by (λ i. t i (seen m ranks c i)) (range_with_len 0 n) ≡ sum_by (λ p. t (member_at ranks p) (has m p c)) (range_with_len 0 m)
   seen-sum t none c =
       let own : ℕ → ℕ = λ p. t (member_at ranks p) (seen m ranks c (member_at ranks p)) in
       sum-range (λ i. t i (seen m ranks c i)) (λ i. own (get_or ranks i 0)) 0 n
       (λ i _ lt. ap (λ (j : ℕ). t j (seen m ranks c j)) (sym (is.are.member_back i (omega (arith, lt)))))
-      ∙ sym (by-member own)
+      ∙ sym (by-member n ranks is.are.count is.each own)
       ∙ sum-cut own m n is.few (λ p from lt.
       ap (λ (b : Bool). t (member_at ranks p) b) (unseen p from lt) ∙ none (member_at ranks p))
       ∙ sum-range own (λ p. t (member_at ranks p) (has m p c)) 0 m

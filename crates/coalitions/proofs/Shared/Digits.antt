@@ -143,13 +143,6 @@ lowest-place n c few pos below =
       | inr le ↦ let none = bit_at_above c n (trailing_zeros w64 c) below le in absurd (omega (arith, none, z.1))
     ]
 
--- the same of a number that is equal to it
-pub next-place : (n rest mask : ℕ) → n ≤ 40 → mask ≡ rest → 0 < rest → rest < 2 ^ n → (trailing_zeros w64 mask < n)
-    × (has n (n - 1 - trailing_zeros w64 mask) rest ≡ true)
-next-place n rest mask few same pos below =
-    subst (λ (m : ℕ). (trailing_zeros w64 m < n) × (has n (n - 1 - trailing_zeros w64 m) rest ≡ true)) (sym same)
-    (lowest-place n rest few pos below)
-
 pub without-less : (n q c : ℕ) → 0 < c → without n q c < c
 unfolding without
 without-less n q c pos = let digit = pow_pos (n - 1 - q) in omega (arith, digit)

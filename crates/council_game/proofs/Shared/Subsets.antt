@@ -1,9 +1,10 @@
 -- No proper subset of a minimal coalition wins.
-use Rattle.std.proofs.Common.{◌≡◌, ℕ, ◌-◌, ◌/◌, ◌%◌, ◌^◌, ◌<◌, ◌≤◌, true, leb, List, [], ◌∷◌, refl, ap, ◌∙◌, arith, inl, inr}
+use Rattle.std.proofs.Common.{◌≡◌, ℕ, ◌-◌, ◌/◌, ◌%◌, ◌^◌, ◌<◌, ◌≤◌, true, List, [], ◌∷◌, refl, ap, ◌∙◌, arith, inl, inr}
 use Rattle.std.specs.List.{AllByRecursion}
 use Rattle.std.proofs.lemmas.Nat.Bits.{bit_at-lt, same_from_bits_below}
-use Rattle.std.proofs.lemmas.Bool.{and_parts, and_from, le-leb, leb-true, eqb-true, eq-eqb, cases_eq, false_from_ne_true, both_ways}
-use Rattle.council_game.specs.Votes.{RuleView, Votes, IsRule, IsVotes, has, without, weight, wins}
+use Rattle.std.proofs.lemmas.Bool.{eq-eqb, cases_eq, false_from_ne_true, both_ways}
+use Rattle.std.proofs.lemmas.Bool.Decides.{nat_tests}
+use Rattle.council_game.specs.Votes.{RuleView, Votes, IsRule, IsVotes, has, without, wins}
 use Rattle.council_game.specs.Laws.{ProperSubsetsLose}
 use Rattle.coalitions.proofs.Shared.Digits.{digit-kept}
 use Rattle.council_game.proofs.Monotone.{weight-mono}
@@ -15,10 +16,9 @@ pub wins-mono : (n a c : ℕ) (rs : List RuleView) → AllByRecursion (IsRule n)
 unfolding wins
 wins-mono n a c [] all sub h = refl
 wins-mono n a c (r ∷ rs) all sub h =
-    let parts = and_parts (leb r.quota (weight r.weights a)) (wins rs a) h in
-    let quota : r.quota ≤ weight r.weights a = leb-true _ _ parts.0 in
     let more = weight-mono r.weights a c (λ i lt. sub i (omega (arith, all.0.full))) in
-    and_from (leb r.quota (weight r.weights c)) (wins rs c) (le-leb _ _ (omega (arith, quota, more))) (wins-mono n a c rs all.1 sub parts.1)
+    let rest = wins-mono n a c rs all.1 sub in
+    grind (arith, nat_tests)
 
 -- the digits of a subset are at most those of its set
 pub digits-less : (n a c : ℕ) → ((p : ℕ) → p < n → has n p a ≡ true → has n p c ≡ true) → (i : ℕ) → i < n → a / 2 ^ i % 2 ≤ c / 2 ^ i % 2
@@ -26,10 +26,7 @@ unfolding has
 digits-less n a c sub i below =
     let place : n - 1 - (n - 1 - i) ≡ i = omega arith in
     let inside = rw place at (sub (n - 1 - i) (omega arith)) in
-    elim (cases_eq (a / 2 ^ i % 2) 1) [
-      | inl one ↦ let one-c = eqb-true _ _ (inside (eq-eqb _ _ one)) in omega (arith, one, one-c)
-      | inr none ↦ omega (arith, bit_at-lt a i)
-    ]
+    grind (arith, nat_tests, bit_at-lt a i, bit_at-lt c i)
 
 -- a minimal coalition without a place loses, so that a subset that wins has each place of it
 pub subsets-lose : (v : Votes) → IsVotes v → ProperSubsetsLose v

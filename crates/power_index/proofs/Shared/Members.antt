@@ -13,7 +13,7 @@ use Rattle.council_game.specs.Votes.{has, size}
 use Rattle.council_game.specs.Game.{GameView, IsGame, AreNonemptyCoalitions}
 use Rattle.council_game.proofs.Shared.Games.{votes-are}
 use Rattle.council_game.proofs.Shared.Making.{ranks-are}
-use Rattle.council_game.proofs.Shared.RankPlaces.{game-rank_places}
+use Rattle.council_game.proofs.Shared.RankPlaces.{by-member, game-rank_places}
 use Rattle.power_index.specs.Counting.{members, contains, size_of, count_of_member}
 use Rattle.power_index.specs.Indices.{sizes_of_member}
 use Rattle.coalitions.proofs.Shared.Digits.{lowest-place}
@@ -25,12 +25,8 @@ few-members g is = (votes-are g is).few
 -- the members that a coalition contains are as many as its places
 pub members-of : (g : GameView) → IsGame g → (c : ℕ) → count_by (λ i. contains g i c) (members g) ≡ size_of g c
 members-of g is c =
-    let one : ℕ → ℕ = λ p. cond (has (length g.names) p c) 1 0 in
-    let rank : ℕ → ℕ = λ i. get_or g.ranks i 0 in
-    let same : g.ranks ≡ map rank (members g) = fill_by_all rank g.ranks (length g.names) 0 (ranks-are g is).count (λ k lt. refl) in
-    let permuted = subst (λ (n : ℕ). IsPermutation (range_with_len 0 n) g.ranks) (ranks-are g is).count (game-rank_places g is) in
-    sym (fold-map (λ (a : ℕ) (p : ℕ). a + one p) rank 0 (members g)) ∙ ap (sum_by one) (sym same)
-    ∙ sum_by-IsPermutation one (members g) g.ranks permuted ∙ sym (length-filter (λ p. has (length g.names) p c) (members g))
+    sym (by-member (length g.names) g.ranks (ranks-are g is).count (game-rank_places g is) (λ p. cond (has (length g.names) p c) 1 0))
+    ∙ sym (length-filter (λ p. has (length g.names) p c) (members g))
 
 pub size-le : (n c : ℕ) → size n c ≤ n
 size-le n c = omega (arith, length-filter-le (λ p. has n p c) (range_with_len 0 n), length-range_with_len 0 n)
