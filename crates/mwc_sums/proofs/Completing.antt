@@ -1,4 +1,4 @@
--- In a game of one rule the minimal winning coalitions are those that complete the quota.
+-- Coalitions that meet a need, and lose it without any one of their members, by their first member.
 use Rattle.std.proofs.Common.{◌≡◌, ◌∙◌, ◌↔◌, ℕ, zero, suc, ◌+◌, ◌-◌, ◌*◌, ◌/◌, ◌%◌, ◌^◌, ◌<◌, ◌≤◌, ◌==◌, ◌⊎◌, Bool, true, false, cond, leb}
 use Rattle.std.proofs.Common.{List, [], ◌∷◌, ◌++◌, length, get_or, map, filter, sym, ap, refl, arith, inl, inr, subst}
 use native.Mathlib.Numerals.{unary_clauses}
@@ -123,18 +123,13 @@ module _ (w : ℕ) (ws : List ℕ) (r c : ℕ) (lt : c < 2 ^ length ws) where
   least-alone pos enough h =
       let found = place-of (length ws) c lt pos in
       let n = h.needed (suc found.0) (let l = found.1 in omega arith) (rest-in (length ws) found.0 c found.1 ∙ found.2) in
-      let e = weight-with w ws c lt in
-      let own = place-le ws found.0 c found.1 found.2 in
-      omega (arith, n, e, own)
+      omega (arith, n, weight-with w ws c lt, place-le ws found.0 c found.1 found.2)
 
 pub least-first : (w : ℕ) (ws : List ℕ) (r : ℕ) → 0 < r → r ≤ w → IsLeast (w ∷ ws) r (2 ^ length ws + 0)
-least-first w ws r pos enough = record {
-  met = (let e = whole in omega (arith, e));
-  needed = needed-first;
-}
+least-first w ws r pos enough = record { met = (let e = whole in omega (arith, e)); needed = needed-first }
   where
     whole : weight (w ∷ ws) (2 ^ length ws + 0) ≡ w + 0
-    whole = weight-with w ws 0 (pow_pos (length ws)) ∙ ap (λ (x : ℕ). w + x) (weight-zero ws)
+    whole = grind (arith, weight-with w ws 0 (pow_pos (length ws)), weight-zero ws)
 
     needed-first : (p : ℕ) → p < length (w ∷ ws) → has (length (w ∷ ws)) p (2 ^ length ws + 0) ≡ true
         → weight (w ∷ ws) (2 ^ length ws + 0) < r + get_or (w ∷ ws) p 0
@@ -154,104 +149,7 @@ down-two (suc m) n =
     let first : m + n ≡ n + m = omega arith in
     ap down e ∙ ap (λ (l : List ℕ). (m + n) ∷ l) (down-two m n) ∙ ap (λ (k : ℕ). k ∷ (map (λ c. n + c) (down m) ++ down n)) first
 
--- a test that 0 alone passes
-only-none : (n : ℕ) (test : ℕ → Bool) → 0 < n → test 0 ≡ true → ((c : ℕ) → 0 < c → c < n → test c ≡ false) → filter test (down n) ≡ 0 ∷ []
-unfolding down
-only-none zero test pos passes fails = absurd (omega arith)
-only-none (suc zero) test pos passes fails = cond-true (test 0) (0 ∷ []) [] passes
-only-none (suc (suc n)) test pos passes fails =
-    cond-false (test (suc n)) (suc n ∷ filter test (down (suc n))) (filter test (down (suc n))) (fails (suc n) (omega arith) (omega arith))
-    ∙ only-none (suc n) test (omega arith) passes (λ c some lt. fails c some (omega arith))
-
-filter-completing : (ws : List ℕ) (r : ℕ) (test : ℕ → Bool) → 0 < r → Falls ws
-    → ((c : ℕ) → c < 2 ^ length ws → (test c ≡ true) ↔ IsLeast ws r c) → filter test (down (2 ^ length ws)) ≡ completing ws r
-unfolding completing down
-filter-completing [] r test pos falls same =
-    cond-false (test 0) (0 ∷ []) [] (false_from_ne_true (test 0) (λ passes.
-    (let m = ((same 0 (omega arith)).0 passes).met in omega (arith, m, weight-nil 0))))
-filter-completing (w ∷ ws) r test pos falls same =
-    let h : ℕ = 2 ^ length ws in
-    let some : 0 < h = pow_pos (length ws) in
-    let within : (c : ℕ) → c < h → h + c < 2 ^ suc (length ws) = λ c lt. (let d = double-pow (length ws) in omega (arith, d)) in
-    let below : (c : ℕ) → c < h → c < 2 ^ suc (length ws) = λ c lt. (let d = double-pow (length ws) in omega (arith, d)) in
-    let split = ap down (double-pow (length ws)) ∙ down-two h h in
-    let both = ap (filter test) split ∙ filter-append test (map (λ c. h + c) (down h)) (down h) in
-    let out = filter-completing ws r test pos (falls-rest w ws falls) (λ c lt. (
-      λ passes. (least-out w ws r c lt).0 ((same c (below c lt)).0 passes),
-      λ least. (same c (below c lt)).1 ((least-out w ws r c lt).1 least),
-    )) in
-    let again : w < r → filter (λ c. test (h + c)) (down h) ≡ completing ws (r - w) = λ more.
-    (filter-completing ws (r - w) (λ c. test (2 ^ length ws + c)) (omega arith) (falls-rest w ws falls) (λ c lt. (
-      λ passes. (least-in w ws r c lt falls more).0 ((same (2 ^ length ws + c) (let d = double-pow (length ws) in omega (arith, d))).0
-          passes),
-      λ least. (same (2 ^ length ws + c) (let d = double-pow (length ws) in omega (arith, d))).1
-          ((least-in w ws r c lt falls more).1 least),
-    ))) in
-    both ∙ ap (λ (l : List ℕ). l ++ filter test (down h)) (filter-map test (λ c. h + c) (down h))
-    ∙ ap (λ (l : List ℕ). map (λ c. h + c) (filter (λ c. test (h + c)) (down h)) ++ l) out
-    ∙ ap (λ (l : List ℕ). map (λ c. h + c) l ++ completing ws r) (with-first again (cases_lt w r))
-  where
-    with-first : (w < r → filter (λ c. test (2 ^ length ws + c)) (down (2 ^ length ws)) ≡ completing ws (r - w)) → (w < r) ⊎ (r ≤ w)
-        → filter (λ c. test (2 ^ length ws + c)) (down (2 ^ length ws)) ≡ cond (leb r w) (0 ∷ []) (completing ws (r - w))
-    with-first again (inl more) = again more ∙ sym (cond-false (leb r w) (0 ∷ []) (completing ws (r - w)) (lt-leb r w more))
-    with-first again (inr enough) =
-        only-none (2 ^ length ws) (λ c. test (2 ^ length ws + c)) (pow_pos (length ws))
-        ((same (2 ^ length ws + 0) (let d = double-pow (length ws) in let s = pow_pos (length ws) in omega (arith, d, s))).1
-        (least-first w ws r pos enough))
-        (λ c some lt. false_from_ne_true _ (λ passes. least-alone w ws r c lt some enough
-        ((same (2 ^ length ws + c) (let d = double-pow (length ws) in omega (arith, d))).0 passes)))
-        ∙ sym (cond-true (leb r w) (0 ∷ []) (completing ws (r - w)) (le-leb r w enough))
-
--- ---- in a game of one rule
 pub wins-one : (r : RuleView) (c : ℕ) → (wins (r ∷ []) c ≡ true) ↔ (r.quota ≤ weight r.weights c)
 unfolding wins
 wins-one r c = (λ won. grind (arith, nat_tests), λ met. grind (arith, nat_tests))
 
-pub loses-one : (r : RuleView) (c : ℕ) → (wins (r ∷ []) c ≡ false) ↔ (weight r.weights c < r.quota)
-unfolding wins
-loses-one r c = (λ lost. grind (arith, nat_tests), λ short. grind (arith, nat_tests))
-
-pub least-minimal : (v : Votes) (r : RuleView) (c : ℕ) → v.rules ≡ r ∷ [] → IsRule v.members r
-    → (minimal v c ≡ true) ↔ IsLeast r.weights r.quota c
-unfolding without has
-least-minimal v r c one rule = (
-  λ min. (
-      let parts = (needs-each-member v c).0 min in
-      record {
-        met = (wins-one r c).0 (ap (λ (rs : List RuleView). wins rs c) (sym one) ∙ parts.0);
-        needed = λ p lt inside. (
-            let e : length r.weights ≡ v.members = rule.full in
-            let in' : has v.members p c ≡ true = subst (λ (n : ℕ). has n p c ≡ true) e inside in
-            let lost = (loses-one r (without v.members p c)).0
-            (ap (λ (rs : List RuleView). wins rs (without v.members p c)) (sym one) ∙ parts.1 p (omega (arith, e)) in') in
-            let less = rw e at (weight-without r.weights p c lt (eqb-true _ _ inside)) in
-            omega (arith, lost, less));
-      }),
-  λ least. (needs-each-member v c).1 (
-    ap (λ (rs : List RuleView). wins rs c) one ∙ (wins-one r c).1 least.met,
-    λ p lt inside. (
-        let e : v.members ≡ length r.weights = sym rule.full in
-        let in' : has (length r.weights) p c ≡ true = subst (λ (n : ℕ). has n p c ≡ true) e inside in
-        let n = least.needed p (omega (arith, e)) in' in
-        let less = rw rule.full at (weight-without r.weights p c (omega (arith, e)) (eqb-true _ _ in')) in
-        ap (λ (rs : List RuleView). wins rs (without v.members p c)) one
-        ∙ (loses-one r (without v.members p c)).1 (omega (arith, n, less))),
-  ),
-)
-
-minimal-one : (v : Votes) (rs : List RuleView) → v.rules ≡ rs → IsVotes v → length rs ≡ 1
-    → minimal_coalitions v ≡ completing (rule_at rs 0).weights (rule_at rs 0).quota
-unfolding minimal_coalitions
-minimal-one v [] is votes one = absurd (omega (arith, one))
-minimal-one v (r ∷ s ∷ rs) is votes one = absurd (omega (arith, one))
-minimal-one v (r ∷ []) is votes one =
-    let rule : IsRule v.members r = (subst (λ (l : List RuleView). AllByRecursion (IsRule v.members) l) is votes.rules).0 in
-    let falls : Falls r.weights = subst IsRanked is votes.ranked in
-    ap (λ (n : ℕ). filter (minimal v) (down (2 ^ n))) (sym rule.full)
-    ∙ filter-completing r.weights r.quota (minimal v) (let s = rule.some in omega arith) falls (λ c lt. least-minimal v r c is rule)
-
-pub minimal-completing : (v : Votes) → IsVotes v → length v.rules ≡ 1
-    → minimal_coalitions v ≡ completing (rule_at v.rules 0).weights (rule_at v.rules 0).quota
-minimal-completing v votes one = minimal-one v v.rules refl votes one
-
-pub ruleset laws = (minimal-completing)

@@ -1,19 +1,22 @@
 -- Where some weight and so many heads are asked for.
-use Rattle.std.proofs.Common.{◌≡◌, ◌∙◌, ◌↔◌, ◌⊎◌, ◌&&◌, ℕ, ◌+◌, ◌-◌, ◌*◌, ◌^◌, ◌<◌, ◌≤◌, Bool, true, cond, leb, List, [], ◌∷◌, length, get_or, take, replicate}
-use Rattle.std.proofs.Common.{sym, ap, subst, arith, inl, inr}
-use Rattle.std.specs.List.{range_with_len}
+use Rattle.std.proofs.Common.{◌≡◌, ◌∙◌, ◌↔◌, ◌⊎◌, ◌&&◌, ℕ, ◌+◌, ◌-◌, ◌*◌, ◌^◌, ◌<◌, ◌≤◌, Bool, true, cond, leb, List, [], ◌∷◌, length, filter, get_or, take, replicate}
+use Rattle.std.proofs.Common.{refl, sym, ap, subst, arith, inl, inr}
+use Rattle.std.specs.List.{AllByRecursion, range_with_len}
 use Rattle.std.proofs.lemmas.Bool.{both_ways, false_from_ne_true, cases_lt, le-leb, leb-false, leb-true, lt-leb, eqb-true, and_parts, and_from, and_left, and_right}
 use Rattle.std.proofs.lemmas.List.{get_or-replicate, length-replicate}
 use Rattle.std.proofs.lemmas.List.Sums.{length-filter}
 use Rattle.std.proofs.Math.Bool.{and-true}
-use Rattle.council_game.specs.Votes.{RuleView, Votes, IsVotes, has, without, weight, size, wins, minimal, rule_at}
+use Rattle.council_game.specs.Votes.{RuleView, Votes, IsRule, IsRanked, IsVotes, down, minimal_coalitions, has, without, weight, size, wins, minimal, rule_at}
 use Rattle.council_game.proofs.Shared.Weights.{weight-without}
 use Rattle.council_game.proofs.Shared.WinningByPlaces.{rule-is}
 use Rattle.power_index.proofs.Shared.Sums.{sum-range, sum-times}
 use Rattle.std.proofs.lemmas.Bool.Decides.{nat_tests}
 use Rattle.mwc_sums.specs.Heads.{AsksForHeads, first_rule, IsMinimalByHeads}
 use Rattle.mwc_sums.proofs.Completing.{IsLeast, same_test, wins-one}
-use Rattle.mwc_sums.proofs.Leads.{AreMet}
+use Rattle.council_game.proofs.Shared.Listing.{down-below}
+use Rattle.mwc_sums.specs.Completing.{completing}
+use Rattle.mwc_sums.proofs.Filters.{filter-same}
+use Rattle.mwc_sums.proofs.Leads.{AreMet, leads, leads-are, leads-list}
 use Rattle.mwc_sums.proofs.Placed.{minimal-min, weight-sum}
 use Rattle.mwc_sums.proofs.Seating.{IsMin}
 
@@ -130,3 +133,34 @@ heads-law v heads c votes two asks below = (
         by_rules : (rs : List RuleView) → 1 ≤ length rs → (wins (take 1 rs) x ≡ true) ↔ ((rule_at rs 0).quota ≤ weight (rule_at rs 0).weights x)
         by_rules [] some = absurd (omega (arith, some))
         by_rules (r ∷ rs) some = wins-one r x
+
+-- ---- in a game of one rule
+pub minimal-completing : (v : Votes) → IsVotes v → length v.rules ≡ 1
+    → minimal_coalitions v ≡ completing (rule_at v.rules 0).weights (rule_at v.rules 0).quota
+unfolding minimal_coalitions wins
+minimal-completing v votes one = by_rules v.rules refl one
+  where
+    by_rules : (rs : List RuleView) → v.rules ≡ rs → length rs ≡ 1 → filter (minimal v) (down (2 ^ v.members)) ≡ completing (rule_at rs 0).weights (rule_at rs 0).quota
+    by_rules [] is one = absurd (omega (arith, one))
+    by_rules (r ∷ s ∷ rs) is one = absurd (omega (arith, one))
+    by_rules (r ∷ []) is one =
+        let rule : IsRule v.members r = (subst (λ (l : List RuleView). AllByRecursion (IsRule v.members) l) is votes.rules).0 in
+        let ws : List ℕ = r.weights in
+        let same : wins v.rules ≡ (λ x. leb r.quota (weight r.weights x) && leb 0 (size (length r.weights) x)) =
+        λ k x. (ap (λ (rs : List RuleView). wins rs x) is ∙ alone (leb r.quota (weight r.weights x)) (size (length r.weights) x)) k in
+        let led : (c : ℕ) → c < 2 ^ length r.weights → minimal v c ≡ leads r.weights 0 r.quota 0 c = λ c lt.
+        (let lead = leads-are r.weights 0 r.quota 0 c (subst IsRanked is votes.ranked) (let some = rule.some in omega (arith, some)) lt in
+        let met = met-min r.weights 0 r.quota c in
+        let least : (minimal v c ≡ true) ↔ IsMin (length r.weights) (λ x. leb r.quota (weight r.weights x) && leb 0 (size (length r.weights) x)) c =
+        subst (λ (n : ℕ). (minimal v c ≡ true) ↔ IsMin n (λ x. leb r.quota (weight r.weights x) && leb 0 (size (length r.weights) x)) c) (sym rule.full)
+        (subst (λ (w : ℕ → Bool). (minimal v c ≡ true) ↔ IsMin v.members w c) same (minimal-min v c)) in
+        same_test (minimal v c) (leads r.weights 0 r.quota 0 c) (λ h. lead.1 (met.0 (least.0 h))) (λ h. least.1 (met.1 (lead.0 h)))) in
+        ap (λ (n : ℕ). filter (minimal v) (down (2 ^ n))) (sym rule.full)
+        ∙ filter-same (minimal v) (leads r.weights 0 r.quota 0) (down (2 ^ length r.weights))
+        (λ k d lt. led _ (down-below (2 ^ length r.weights) (2 ^ length r.weights) (omega arith) k d lt))
+        ∙ leads-list r.weights r.quota 0
+      where
+        alone : (b : Bool) (n : ℕ) → (b && true) ≡ (b && leb 0 n)
+        alone b n = grind (arith, nat_tests)
+
+pub ruleset laws = (minimal-completing)

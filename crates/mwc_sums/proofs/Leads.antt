@@ -1,14 +1,18 @@
 -- The coalitions that members lead to, the heaviest first, and how many they are.
 use Rattle.std.proofs.Common.{◌≡◌, ◌∙◌, ◌↔◌, ◌⊎◌, ℕ, zero, suc, ◌+◌, ◌-◌, ◌*◌, ◌^◌, ◌<◌, ◌≤◌, ◌==◌, ◌&&◌, not, Bool, true, false, cond, leb, ltb}
-use Rattle.std.proofs.Common.{List, [], ◌∷◌, length, sym, ap, refl, subst, arith, inl, inr, eq-eqb}
+use Rattle.std.proofs.Common.{List, [], ◌∷◌, ◌++◌, map, filter, length, sym, ap, refl, subst, arith, inl, inr, eq-eqb}
 use Rattle.std.proofs.lemmas.Bool.{and_right, cases_lt, cond-false, cond-true, eqb-true, false≢true, le-leb, le-ltb, lt-leb, lt-ltb, ne_eqb}
 use Rattle.std.proofs.lemmas.Nat.{pow_pos}
+use Rattle.std.proofs.lemmas.List.Elements.{filter-append}
+use Rattle.council_game.proofs.Shared.Listing.{down-below}
+use Rattle.mwc_sums.specs.Completing.{completing}
+use Rattle.mwc_sums.proofs.Filters.{filter-map, filter-same}
 use Rattle.council_game.specs.Votes.{has, size, weight, down}
 use Rattle.council_game.proofs.Shared.WeightByDigits.{weight-nil}
 use Rattle.power_index.proofs.Shared.Members.{size-pos-at}
 use Rattle.weight_sums.specs.Endings.{choose, one_of_size, fill, endings, left_out}
 use Rattle.std.proofs.lemmas.Bool.Decides.{nat_tests}
-use Rattle.mwc_sums.proofs.Completing.{IsLeast, Falls, double-pow, falls-rest, first-in, first-out, rest-in, rest-out}
+use Rattle.mwc_sums.proofs.Completing.{IsLeast, Falls, double-pow, down-two, falls-rest, first-in, first-out, rest-in, rest-out}
 use Rattle.mwc_sums.proofs.Completing.{least-alone, least-first, least-in, least-out, place-of, same_test, weight-left, weight-with}
 use Rattle.mwc_sums.proofs.Counting.{count, count-and, count-first, count-never, count-parted, size-left, size-with}
 
@@ -319,3 +323,34 @@ leads-are (w ∷ ws) heads r a c falls pos lt = elim (cases_lt c (2 ^ length ws)
           let same = leads-in w ws heads r a x ∙ cond-true (leb r w) _ _ (le-leb r w enough) in
           (λ h. filled.0 (sym same ∙ h), λ h. same ∙ filled.1 h)
     ]
+
+-- ---- the list of them, where no heads are asked for
+-- a test that 0 alone passes
+only-none : (n : ℕ) (test : ℕ → Bool) → 0 < n → test 0 ≡ true → ((c : ℕ) → 0 < c → c < n → test c ≡ false) → filter test (down n) ≡ 0 ∷ []
+unfolding down
+only-none zero test pos passes fails = absurd (omega arith)
+only-none (suc zero) test pos passes fails = cond-true (test 0) (0 ∷ []) [] passes
+only-none (suc (suc n)) test pos passes fails =
+    cond-false (test (suc n)) (suc n ∷ filter test (down (suc n))) (filter test (down (suc n))) (fails (suc n) (omega arith) (omega arith))
+    ∙ only-none (suc n) test (omega arith) passes (λ c some lt. fails c some (omega arith))
+
+pub leads-list : (ws : List ℕ) (r a : ℕ) → filter (leads ws 0 r a) (down (2 ^ length ws)) ≡ completing ws r
+unfolding leads completing down
+leads-list [] r a = refl
+leads-list (w ∷ ws) r a =
+    let h : ℕ = 2 ^ length ws in
+    let test : ℕ → Bool = leads (w ∷ ws) 0 r a in
+    ap (filter test) (ap down (double-pow (length ws)) ∙ down-two h h) ∙ filter-append test (map (λ c. h + c) (down h)) (down h)
+    ∙ ap (λ (l : List ℕ). l ++ filter test (down h)) (filter-map test (λ c. h + c) (down h)
+    ∙ (λ i. map (λ c. 2 ^ length ws + c) (filter (λ c. leads-in w ws 0 r a c i) (down (2 ^ length ws))))
+    ∙ ap (map (λ c. 2 ^ length ws + c)) (first (leb r w) (leads-list ws (r - w) (a + 1))))
+    ∙ ap (λ (l : List ℕ). map (λ c. 2 ^ length ws + c) (cond (leb r w) (0 ∷ []) (completing ws (r - w))) ++ l)
+    (filter-same test (leads ws 0 r a) (down h) (λ k d lt. leads-out w ws 0 r a _ (down-below h h (omega arith) k d lt)) ∙ leads-list ws r a)
+  where
+    first : (b : Bool) → filter (leads ws 0 (r - w) (a + 1)) (down (2 ^ length ws)) ≡ completing ws (r - w)
+        → filter (λ c. cond b (filled 0 (length ws) (a + 1) c) (leads ws 0 (r - w) (a + 1) c)) (down (2 ^ length ws))
+        ≡ cond b (0 ∷ []) (completing ws (r - w))
+    first true again =
+        only-none (2 ^ length ws) (filled 0 (length ws) (a + 1)) (pow_pos (length ws)) (let z = no-size (length ws) in grind (arith, nat_tests))
+        (λ c some lt. let none = no-places (length ws) c lt in grind (arith, nat_tests))
+    first false again = again

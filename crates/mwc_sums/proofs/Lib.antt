@@ -1,4 +1,4 @@
-pub mod Completing
+mod Completing
 mod Counting
 mod Leads
 pub mod Orders
@@ -20,5 +20,5 @@ mod Filters
 mod Seating
 mod Matching
 mod Placed
-mod Heads
+pub mod Heads
 mod Seated

@@ -36,9 +36,6 @@ share-member n a b they = elim (missing (λ i. ltb 0 (get_or a.weights i 0) && l
 share-turned : (n : ℕ) (a b : RuleView) → share n a b ≡ true → share n b a ≡ true
 share-turned n a b they = let found = share-member n a b they in share-at n found.0 b a found.1 found.3 found.2
 
-weightless : (w : ℕ) → (0 < w → ⊥) → w ≡ 0
-weightless w none = grind arith
-
 share-self : (n : ℕ) (r : RuleView) → IsFair n r → share n r r ≡ true
 share-self n r fair = elim (missing (λ i. ltb 0 (get_or r.weights i 0)) (λ i. false) n) [
   | inl found ↦ let some = ltb-true 0 _ found.2 in share-at n found.0 r r found.1 some some
@@ -100,36 +97,21 @@ module _ (n : ℕ) (rs : List RuleView) (fair : All (IsFair n) rs) where
   -- a chamber has no third rule: what shares a member with one of two shares one with the other
   no-third : (j k m : ℕ) → j < length rs → k < length rs → m < length rs → share n (rule j) (rule k) ≡ true
       → are_of_one_chamber n (chamber_of n rs (rule k)) ≡ true → share n (rule k) (rule m) ≡ true → share n (rule j) (rule m) ≡ true
-  no-third j k m lj lk lm they of third = elim (cases_eq j k) [
-    | inl e ↦ ap (λ (i : ℕ). share n (rule i) (rule m)) e ∙ third
-    | inr other ↦ elim (cases_Bool (share n (rule j) (rule m))) [
-      | inl is ↦ is
-      | inr not-so ↦ absurd (too-many other not-so)
-    ]
-  ]
-    where
-      both-j : (share n (rule k) (rule j) && share n (rule j) (rule j)) ≡ true
-      both-j = and_from (share n (rule k) (rule j)) (share n (rule j) (rule j)) (share-turned n (rule j) (rule k) they) (self j lj)
-
-      both-k : (share n (rule k) (rule k) && share n (rule j) (rule k)) ≡ true
-      both-k = and_from (share n (rule k) (rule k)) (share n (rule j) (rule k)) (self k lk) they
-
-      two : (j ≡ k → ⊥) → 2 ≤ length (filter (λ x. share n (rule k) x && share n (rule j) x) rs)
-      two other = elim (cases_lt j k) [
-        | inl less ↦ two-pass (λ x. share n (rule k) x && share n (rule j) x) rs j k none less lk both-j both-k
-        | inr more ↦ two-pass (λ x. share n (rule k) x && share n (rule j) x) rs k j none (omega (arith, more, other)) lj both-k both-j
-      ]
-
-      too-many : (j ≡ k → ⊥) → share n (rule j) (rule m) ≡ false → ⊥
-      too-many other not-so =
-          let lost = in-filter (λ x. share n (rule k) x && not (share n (rule j) x)) rs m none lm
-          (and_from (share n (rule k) (rule m)) (not (share n (rule j) (rule m))) third (not_from_false _ not-so)) in
-          let parts = length-filter_both (share n (rule j)) (λ x. not (share n (rule j) x)) (λ x. refl) (filter (share n (rule k)) rs) in
-          let kept = ap (λ (l : List RuleView). length l) (filter-both (share n (rule k)) (share n (rule j)) rs) in
-          let gone = ap (λ (l : List RuleView). length l) (filter-both (share n (rule k)) (λ x. not (share n (rule j) x)) rs) in
-          let some = two other in
-          let most = one-few n (chamber_of n rs (rule k)) of in
-          omega (arith, parts, kept, gone, some, most, lost)
+  no-third j k m lj lk lm they of third = true_from_ne_false (share n (rule j) (rule m)) (λ not-so.
+      (let both : RuleView → Bool = λ x. share n (rule k) x && share n (rule j) x in
+      let turned = share-turned n (rule j) (rule k) they in
+      let own-j = self j lj in
+      let own-k = self k lk in
+      let apart : j ≡ k → ⊥ = λ e. both_ways _ not-so (ap (λ (i : ℕ). share n (rule i) (rule m)) e ∙ third) in
+      let two : 2 ≤ length (filter both rs) = elim (cases_lt j k) [
+        | inl less ↦ two-pass both rs j k none less lk (grind (arith, nat_tests)) (grind (arith, nat_tests))
+        | inr more ↦ two-pass both rs k j none (omega (arith, more, apart)) lj (grind (arith, nat_tests)) (grind (arith, nat_tests))
+      ] in
+      let lost = in-filter (λ x. share n (rule k) x && not (share n (rule j) x)) rs m none lm (grind (arith, nat_tests)) in
+      let parts = length-filter_both (share n (rule j)) (λ x. not (share n (rule j) x)) (λ x. refl) (filter (share n (rule k)) rs) in
+      let kept = ap (λ (l : List RuleView). length l) (filter-both (share n (rule k)) (share n (rule j)) rs) in
+      let gone = ap (λ (l : List RuleView). length l) (filter-both (share n (rule k)) (λ x. not (share n (rule j) x)) rs) in
+      omega (arith, parts, kept, gone, two, one-few n (chamber_of n rs (rule k)) of, lost)))
 
   -- ---- what sums count
   counted-at : (r : RuleView) → is_counted n rs r ≡ true → (k : ℕ) → k < length rs → share n r (rule k) ≡ true
@@ -142,18 +124,14 @@ module _ (n : ℕ) (rs : List RuleView) (fair : All (IsFair n) rs) where
       → is_counted n rs r ≡ true
   counted-from r each =
       let test : RuleView → Bool = λ x. not (share n r x) || are_of_one_chamber n (chamber_of n rs x) in
-      list_all-from_AllPass test rs (All-from_get_or (λ x. test x ≡ true) rs none (λ k lt. elim (cases_Bool (share n r (rule k))) [
-        | inl they ↦ or_right (not (share n r (rule k))) (are_of_one_chamber n (chamber_of n rs (rule k))) (each k lt they)
-        | inr out ↦ or_left (not (share n r (rule k))) (are_of_one_chamber n (chamber_of n rs (rule k))) (not_from_false _ out)
-      ]))
+      list_all-from_AllPass test rs (All-from_get_or (λ x. test x ≡ true) rs none (λ k lt. let own = each k lt in grind (arith, nat_tests)))
 
   pub own-chamber : (j : ℕ) → j < length rs → is_counted n rs (rule_at rs j) ≡ true → are_of_one_chamber n (chamber_of n rs (rule_at rs j)) ≡ true
   own-chamber j lt is = counted-at (rule j) is j lt (self j lt)
 
   pub all-counted : length (filter (λ x. not (is_counted n rs x)) rs) ≡ 0 → AreOfChambers n rs
   all-counted left = All-from_get_or (λ r. are_of_one_chamber n (chamber_of n rs r) ≡ true) rs none (λ j lt.
-      own-chamber j lt (true_from_ne_false (is_counted n rs (rule j)) (λ out.
-      (let some = in-filter (λ x. not (is_counted n rs x)) rs j none lt (not_from_false _ out) in omega (arith, left, some)))))
+      own-chamber j lt (let some = in-filter (λ x. not (is_counted n rs x)) rs j none lt in grind (arith, nat_tests, left)))
 
   pub counted-closed : IsClosed n rs (is_counted n rs)
   counted-closed j m lj lm is they = counted-from (rule m) (λ k lk more. counted-at (rule j) is k lk
@@ -180,14 +158,12 @@ module _ (n : ℕ) (rs : List RuleView) (fair : All (IsFair n) rs) where
     -- a member has weight in them, or in the others
     parts-apart : (i : ℕ) → i < n → HasNoWeight (filter q rs) i ⊎ HasNoWeight (filter (λ x. not (q x)) rs) i
     parts-apart i lt = elim (missing (λ k. q (rule k) && ltb 0 (get_or (rule k).weights i 0)) (λ k. false) (length rs)) [
-      | inl found ↦
-          let parts = and_parts (q (rule found.0)) (ltb 0 (get_or (rule found.0).weights i 0)) found.2 in
-          inr (all-passing (λ x. get_or x.weights i 0 ≡ 0) (λ x. not (q x)) rs (λ m lm other.
-          weightless (get_or (rule m).weights i 0) (λ some. both_ways (q (rule m)) (not-true _ other)
-          (closed found.0 m found.1 lm parts.0 (share-at n i (rule found.0) (rule m) lt (ltb-true 0 _ parts.1) some)))))
-      | inr idle ↦ inl (all-passing (λ x. get_or x.weights i 0 ≡ 0) q rs (λ m lm is.
-          weightless (get_or (rule m).weights i 0) (λ some. false≢true (idle m lm
-          (and_from (q (rule m)) (ltb 0 (get_or (rule m).weights i 0)) is (lt-ltb 0 _ some))))))
+      | inl found ↦ inr (all-passing (λ x. get_or x.weights i 0 ≡ 0) (λ x. not (q x)) rs (λ m lm other.
+          let own = found.2 in
+          let seen = closed found.0 m found.1 lm in
+          let they = share-at n i (rule found.0) (rule m) lt in
+          grind (arith, nat_tests)))
+      | inr idle ↦ inl (all-passing (λ x. get_or x.weights i 0 ≡ 0) q rs (λ m lm is. let own = idle m lm in grind (arith, nat_tests)))
     ]
 
     pub parts-are : (g a b : GameView) → AreRulesOf g n rs → a.names ≡ g.names → b.names ≡ g.names → a.rules ≡ filter q rs

@@ -59,12 +59,8 @@ module _ (n : ℕ) (veto f : ℕ → Bool) where
   rule-lost : (i : ℕ) → i < n → veto i ≡ true → f i ≡ false → leb (number_of n veto) (weighs n (rule_for n veto) f) ≡ false
   rule-lost i lt vetoes out =
       let less = beside f (λ j. cond (veto j) 1 0) n i lt out in
-      let one = vote (veto i) vetoes in
       let own = rule-weighs in
-      lt-leb (number_of n veto) (weighs n (rule_for n veto) f) (omega (arith, less, one, own))
-    where
-      vote : (b : Bool) → b ≡ true → cond b 1 0 ≡ 0 + 1
-      vote b is = grind (arith, nat_tests)
+      grind (arith, nat_tests)
 
   rule-met : ((i : ℕ) → i < n → veto i ≡ true → f i ≡ true) → leb (number_of n veto) (weighs n (rule_for n veto) f) ≡ true
   rule-met all =
@@ -95,27 +91,18 @@ module _ (n : ℕ) (veto f : ℕ → Bool) where
   rests-met : ((i : ℕ) → i < n → veto i ≡ true → f i ≡ true) → (rs : List RuleView) → met n rs f ≡ met n (map (rest_of n veto) rs) f
   unfolding agreed
   rests-met all [] = refl
-  rests-met all (r ∷ rs) =
-      λ k. same_test (leb r.quota (weighs n r f)) (leb (r.quota - agreed r) (weighs n (rest_of n veto r) f))
-      (λ h. (let m = leb-true _ _ h in let e = rest-weighs all r in le-leb _ _ (omega (arith, m, e))))
-      (λ h. (let m = leb-true _ _ h in let e = rest-weighs all r in le-leb _ _ (omega (arith, m, e)))) k
-      && rests-met all rs k
+  rests-met all (r ∷ rs) = grind (arith, nat_tests, rest-weighs all r, rests-met all rs)
 
 -- without a member that can veto the others lose
 vetoed-lost : (n : ℕ) (rs : List RuleView) (f : ℕ → Bool) (i : ℕ) → All (λ r. length r.weights ≡ n) rs → i < n → can_veto rs i ≡ true
     → f i ≡ false → met n rs f ≡ false
 vetoed-lost n [] f i full lt vetoes out = absurd (cc)
 vetoed-lost n (r ∷ rs) f i full lt vetoes out =
-    elim (or_cases (ltb (sum r.weights - get_or r.weights i 0) r.quota) (can_veto rs i) vetoes) [
-      | inl here ↦
-          let short = ltb-true (sum r.weights - get_or r.weights i 0) r.quota here in
-          let less = beside f (λ j. get_or r.weights j 0) n i lt out in
-          let all = row-sum r.weights n (All-head (λ (x : RuleView). length x.weights ≡ n) r rs full) in
-          ap (λ (b : Bool). b && met n rs f) (lt-leb r.quota (weighs n r f) (omega (arith, short, less, all)))
-      | inr later ↦
-          and_right (leb r.quota (weighs n r f)) (met n rs f)
-          (vetoed-lost n rs f i (All-tail (λ (x : RuleView). length x.weights ≡ n) r rs full) lt later out)
-    ]
+    let less = beside f (λ j. get_or r.weights j 0) n i lt out in
+    let all = row-sum r.weights n (All-head (λ (x : RuleView). length x.weights ≡ n) r rs full) in
+    let rest : can_veto rs i ≡ true → met n rs f ≡ false = λ later.
+    vetoed-lost n rs f i (All-tail (λ (x : RuleView). length x.weights ≡ n) r rs full) lt later out in
+    grind (arith, nat_tests)
 
 -- rules that ask for nothing are met
 asking-met : (n : ℕ) (rs : List RuleView) (f : ℕ → Bool) → met n rs f ≡ met n (filter (λ r. ltb 0 r.quota) rs) f
