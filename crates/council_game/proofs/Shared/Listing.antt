@@ -16,7 +16,7 @@ use Rattle.council_game.specs.Shared.Below.{minimal_below}
 use Rattle.council_game.specs.Laws.{IsListing}
 use Rattle.council_game.proofs.Shared.WeightByDigits.{weight-nil, weight-cons}
 use Rattle.council_game.proofs.Shared.Weights.{weight-zero}
-use Rattle.council_game.proofs.Monotone.{minimal-below_winning}
+use Rattle.council_game.proofs.Shared.Subsets.{minimal-inside}
 
 -- a coalition that has all members weighs all
 weight-full : (ws : List ℕ) (c : ℕ) → ((i : ℕ) → i < length ws → c / 2 ^ i % 2 ≡ 1) → weight ws c ≡ sum ws
@@ -65,7 +65,7 @@ pub listing-is : (v : Votes) → IsVotes v → IsListing v
 unfolding minimal_coalitions minimal
 listing-is v game =
     let pos : 0 < 2 ^ v.members = pow_pos v.members in
-    let found = minimal-below_winning v (2 ^ v.members) (2 ^ v.members - 1) (omega arith) (wins-full v.members v.rules game.rules) in
+    let found = minimal-inside v (2 ^ v.members) (2 ^ v.members - 1) (omega arith) (wins-full v.members v.rules game.rules) in
     record {
       some = some-left (minimal v) (2 ^ v.members) found.0 (omega (arith, found.1)) found.2;
       few = (let parts = length-filter_both (minimal v) (λ c. not (minimal v c)) (λ c. refl) (down (2 ^ v.members)) in let all =

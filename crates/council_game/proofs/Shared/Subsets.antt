@@ -1,13 +1,14 @@
 -- No proper subset of a minimal coalition wins.
-use Rattle.std.proofs.Common.{◌≡◌, ℕ, ◌-◌, ◌/◌, ◌%◌, ◌^◌, ◌<◌, ◌≤◌, true, List, [], ◌∷◌, refl, ap, ◌∙◌, arith, inl, inr}
-use Rattle.std.specs.List.{AllByRecursion}
+use Rattle.std.proofs.Common.{not, zero, suc, sym, ◌≡◌, ℕ, ◌-◌, ◌/◌, ◌%◌, ◌^◌, ◌<◌, ◌≤◌, true, List, [], ◌∷◌, refl, ap, ◌∙◌, arith, inl, inr}
+use Rattle.std.specs.List.{AllByRecursion, list_all}
 use Rattle.std.proofs.lemmas.Nat.Bits.{bit_at-lt, same_from_bits_below}
-use Rattle.std.proofs.lemmas.Bool.{eq-eqb, cases_eq, false_from_ne_true, both_ways}
+use Rattle.std.proofs.lemmas.Bool.{and_from, cases_Bool, not-false, eq-eqb, cases_eq, false_from_ne_true, both_ways}
 use Rattle.std.proofs.lemmas.Bool.Decides.{nat_tests}
-use Rattle.council_game.specs.Votes.{RuleView, Votes, IsRule, IsVotes, has, without, wins}
+use Rattle.council_game.specs.Votes.{RuleView, Votes, IsRule, IsVotes, has, without, wins, minimal, places_of}
 use Rattle.council_game.specs.Laws.{ProperSubsetsLose}
-use Rattle.coalitions.proofs.Shared.Digits.{digit-kept}
+use Rattle.coalitions.proofs.Shared.Digits.{digit-kept, has-kept, has-none, without-less}
 use Rattle.council_game.proofs.Monotone.{weight-mono}
+use Rattle.council_game.proofs.Shared.Places.{spare-place}
 use Rattle.council_game.proofs.Shared.Meanings.{needs-each-member}
 
 -- where a set wins, each set wins that has all its places
@@ -50,3 +51,29 @@ subsets-lose v game a c la lc min sub =
             | inr apart ↦ let kept = digit-kept c i j inside apart in let l = less j lt in omega (arith, kept, l)
           ]) won))
     ])))
+
+-- a winning coalition has a minimal subset
+pub minimal-inside : (v : Votes) (fuel c : ℕ) → c < fuel → wins v.rules c ≡ true
+    → (m : ℕ) × (m ≤ c) × (minimal v m ≡ true) × ((p : ℕ) → p < v.members → has v.members p m ≡ true → has v.members p c ≡ true)
+unfolding minimal
+minimal-inside v zero c below won = absurd (omega arith)
+minimal-inside v (suc fuel) c below won =
+    elim (cases_Bool (list_all (λ p. not (wins v.rules (without v.members p c))) (places_of v.members c))) [
+      | inl needed ↦ (c, omega arith, and_from _ _ won needed, λ p lt inside. inside)
+      | inr not_needed ↦
+          let spare = spare-place (λ p. has v.members p c) (λ p. not (wins v.rules (without v.members p c))) v.members not_needed in
+          let inside = spare.2 in
+          let some : 0 < c = grind (arith, nat_tests, has-none v.members spare.0) in
+          let less : without v.members spare.0 c < c = without-less v.members spare.0 c some in
+          let deeper = minimal-inside v fuel (without v.members spare.0 c) (omega arith) (not-false _ spare.3) in (
+            deeper.0,
+            omega (arith, deeper.1),
+            deeper.2,
+            λ p lt in'. (let kept = has-kept v.members p spare.0 c lt spare.1 in
+                let here = deeper.3 p lt in' in
+                elim (cases_eq p spare.0) [
+                  | inl same ↦ ap (λ (k : ℕ). has v.members k c) same ∙ inside
+                  | inr other ↦ sym (kept other inside) ∙ here
+                ]),
+          )
+    ]
