@@ -1,7 +1,8 @@
 -- Coalitions made of members, and the members of a coalition.
-use Rattle.std.proofs.Common.{◌≡◌, ◌≢◌, ℕ, ◌+◌, ◌<◌, ◌==◌, ◌||◌, Bool, true, false, List, [], ◌∷◌, ◌++◌, length, get_or, take, map, filter, refl, sym, ap, ◌∙◌, inl, inr}
+use Rattle.std.proofs.Common.{◌≡◌, ◌≢◌, ℕ, ◌+◌, ◌<◌, ◌==◌, ◌||◌, Bool, true, false, List, [], ◌∷◌, ◌++◌, length, get_or, take, map, filter, sym, ap, ◌∙◌, inl, inr}
 use Rattle.std.specs.List.{list_any, range_with_len}
 use Rattle.std.proofs.lemmas.Bool.{cases_eq, eq-eqb, ne_eqb, cond-true, cond-false, or_right}
+use Rattle.std.proofs.Math.Bool.{or-false}
 use Rattle.std.proofs.lemmas.List.{map-append, append-nil}
 use Rattle.std.proofs.lemmas.List.Folds.{list_any_more}
 use Rattle.council_game.specs.Votes.{has}
@@ -9,10 +10,6 @@ use Rattle.council_game.specs.Ranks.{member_at}
 use Rattle.council_game.specs.Game.{GameView, IsGame}
 use Rattle.council_game.proofs.Shared.Lists.{filter_one_more}
 use Rattle.council_game.proofs.Shared.Making.{ranks-are}
-
-or-none : (b : Bool) → (b || false) ≡ b
-or-none true = refl
-or-none false = refl
 
 -- one more member is taken in
 pub taken-in : (g : GameView) (ms : List ℕ) (k place a b : ℕ) → IsGame g → k < length ms → get_or ms k 0 < length g.names
@@ -31,7 +28,7 @@ taken-in g ms k place a b game lt member at inside kept before i below =
           let other : get_or g.ranks i 0 ≢ place = λ e.
           apart (sym (are.member_back _ member) ∙ ap (member_at g.ranks) (sym at ∙ sym e) ∙ are.member_back i below) in
           kept (get_or g.ranks i 0) (are.place_below i below) other ∙ before i below
-          ∙ sym (more ∙ ap (λ (t : Bool). list_any (λ j. j == i) (take k ms) || t) (ne_eqb _ _ apart) ∙ or-none _)
+          ∙ sym (more ∙ ap (λ (t : Bool). list_any (λ j. j == i) (take k ms) || t) (ne_eqb _ _ apart) ∙ or-false _)
     ]
 
 -- a place that is in, and one that is not

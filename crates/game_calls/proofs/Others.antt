@@ -2,6 +2,7 @@
 use Rattle.std.proofs.Common.{◌≡◌, ◌≢◌, ◌∙◌, ℕ, ◌+◌, ◌<◌, Bool, true, false, ◌||◌, List, [], ◌∷◌, ◌++◌, length, get_or, take, filter, refl, sym, ap, arith, Option, Some, None, inl, inr}
 use Rattle.std.specs.List.{list_any, range_with_len}
 use Rattle.std.proofs.lemmas.Bool.{cases_eq, cond-true, cond-false, eq-eqb, ne_eqb, or_right}
+use Rattle.std.proofs.Math.Bool.{or-false}
 use Rattle.std.proofs.lemmas.List.{append-nil}
 use Rattle.std.proofs.lemmas.List.Folds.{list_any_more}
 use Rattle.council_game.specs.Votes.{has}
@@ -36,10 +37,6 @@ fails p n xs unmet before =
     ∙ append-nil (filter p (range_with_len 0 n)))
 
 -- ---- one name more
-or-none : (b : Bool) → (b || false) ≡ b
-or-none true = refl
-or-none false = refl
-
 pub named : {X : Type 0} (text : X → List ℕ) (g : GameView) (names : List X) (k m a b : ℕ) (d : X) → k < length names
     → member_named g (text (get_or names k d)) ≡ Some m → contains g m b ≡ true
     → ((i : ℕ) → i < length g.names → i ≢ m → contains g i b ≡ contains g i a)
@@ -53,7 +50,7 @@ named {X} text g names k m a b d lt found inside others before i li =
       | inl same ↦ ap (λ (j : ℕ). contains g j b) same ∙ inside ∙ sym (more ∙ or_right _ _ (eq-eqb _ _ same))
       | inr other ↦
           others i li other ∙ before i li
-          ∙ sym (more ∙ ap (λ (t : Bool). list_any p (take k names) || t) (ne_eqb _ _ other) ∙ or-none _)
+          ∙ sym (more ∙ ap (λ (t : Bool). list_any p (take k names) || t) (ne_eqb _ _ other) ∙ or-false _)
     ]
 
 pub unnamed : {X : Type 0} (text : X → List ℕ) (g : GameView) (names : List X) (k a : ℕ) (d : X) → k < length names
@@ -63,4 +60,4 @@ pub unnamed : {X : Type 0} (text : X → List ℕ) (g : GameView) (names : List 
 unnamed {X} text g names k a d lt found before i li =
     let p : X → Bool = λ name. is_named g i (text name) in
     before i li ∙ sym (list_any_more p names k d lt
-    ∙ ap (λ (o : Option ℕ). list_any p (take k names) || is_that i o) found ∙ or-none _)
+    ∙ ap (λ (o : Option ℕ). list_any p (take k names) || is_that i o) found ∙ or-false _)

@@ -6,8 +6,9 @@ use Rattle.std.proofs.lemmas.Bool.{cases_eq, eq-eqb, ne_eqb, or_left, or_right, 
 use Rattle.std.proofs.lemmas.List.Elements.{All-head, All-tail}
 use Rattle.council_game.specs.Votes.{RuleView}
 use Rattle.council_game.specs.Game.{GameView, IsGame}
-use Rattle.mwc_sums.specs.Chambers.{HasNoWeight, AreChambersOf, paired, minimal_of_size, minimal_of_member_size}
-use Rattle.mwc_sums.proofs.Winning.{met, weighs-same}
+use Rattle.std.proofs.lemmas.Bool.Decides.{nat_tests}
+use Rattle.mwc_sums.specs.Chambers.{HasNoWeight, AreChambersOf, met, paired, minimal_of_size, minimal_of_member_size}
+use Rattle.mwc_sums.proofs.Placed.{weighs-same}
 use Rattle.mwc_sums.proofs.Joining.{IsJoint}
 use Rattle.mwc_sums.proofs.Pairs.{joint-sizes, joint-members}
 
@@ -15,24 +16,21 @@ use Rattle.mwc_sums.proofs.Pairs.{joint-sizes, joint-members}
 abbrev pub has_weight : List RuleView → ℕ → Bool
 has_weight rs i = list_any (λ r. not (get_or r.weights i 0 == 0)) rs
 
-no-weight : (rs : List RuleView) (i : ℕ) → HasNoWeight rs i → has_weight rs i ≡ false
+pub no-weight : (rs : List RuleView) (i : ℕ) → HasNoWeight rs i → has_weight rs i ≡ false
 no-weight [] i none = refl
 no-weight (r ∷ rs) i none =
     (λ k. not (eq-eqb (get_or r.weights i 0) 0 (All-head (λ (x : RuleView). get_or x.weights i 0 ≡ 0) r rs none) k)
     || no-weight rs i (All-tail (λ (x : RuleView). get_or x.weights i 0 ≡ 0) r rs none) k)
 
 -- rules see those members who have weight
-met-seen : (n : ℕ) (rs : List RuleView) (f h : ℕ → Bool) → ((i : ℕ) → i < n → has_weight rs i ≡ true → f i ≡ h i) → met n rs f ≡ met n rs h
+pub met-seen : (n : ℕ) (rs : List RuleView) (f h : ℕ → Bool) → ((i : ℕ) → i < n → has_weight rs i ≡ true → f i ≡ h i) → met n rs f ≡ met n rs h
 met-seen n [] f h same = refl
 met-seen n (r ∷ rs) f h same =
     (λ k. leb r.quota (weighs-same n r f h (λ i lt. each i lt (cases_eq (get_or r.weights i 0) 0)) k)
     && met-seen n rs f h (λ i lt seen. same i lt (or_right (not (get_or r.weights i 0 == 0)) (has_weight rs i) seen)) k)
   where
     nothing : (b d : Bool) (w : ℕ) → w ≡ 0 → cond b 1 0 * w ≡ cond d 1 0 * w
-    nothing b d w none = ap (λ (x : ℕ). cond b 1 0 * x) none ∙ zero-times (cond b 1 0) (cond d 1 0) ∙ sym (ap (λ (x : ℕ). cond d 1 0 * x) none)
-      where
-        zero-times : (x y : ℕ) → x * 0 ≡ y * 0
-        zero-times x y = omega arith
+    nothing b d w none = grind (arith, nat_tests)
 
     each : (i : ℕ) → i < n → (get_or r.weights i 0 ≡ 0) ⊎ (get_or r.weights i 0 ≡ 0 → ⊥)
         → cond (f i) 1 0 * get_or r.weights i 0 ≡ cond (h i) 1 0 * get_or r.weights i 0

@@ -1,6 +1,8 @@
 -- What passes a test.
 use Rattle.std.proofs.Common.{◌≡◌, ◌∙◌, ◌&&◌, Bool, true, false, cond, List, [], ◌∷◌, get_or, filter, map, refl, All, inl, inr}
 use Rattle.std.proofs.lemmas.Bool.{cases_Bool}
+use Rattle.std.proofs.Common.{arith}
+use Rattle.std.proofs.lemmas.Bool.Decides.{nat_tests}
 use Rattle.std.proofs.lemmas.List.Elements.{All-head, All-tail}
 
 pub filter-none : {X : Type 0} (xs : List X) → filter (λ x. false) xs ≡ []
@@ -15,17 +17,11 @@ filter-same p q (x ∷ xs) same =
 
 pub filter-both : {X : Type 0} (p q : X → Bool) (xs : List X) → filter q (filter p xs) ≡ filter (λ x. p x && q x) xs
 filter-both p q [] = refl
-filter-both p q (x ∷ xs) = elim (cases_Bool (p x)) [
-  | inl is ↦ rw (is, filter-both p q xs) refl
-  | inr out ↦ rw (out, filter-both p q xs) refl
-]
+filter-both p q (x ∷ xs) = grind (arith, nat_tests, filter-both p q xs)
 
 pub filter-map : {X Y : Type 0} (p : Y → Bool) (f : X → Y) (xs : List X) → filter p (map f xs) ≡ map f (filter (λ x. p (f x)) xs)
 filter-map p f [] = refl
-filter-map p f (x ∷ xs) = elim (cases_Bool (p (f x))) [
-  | inl is ↦ rw (is, filter-map p f xs) refl
-  | inr out ↦ rw (out, filter-map p f xs) refl
-]
+filter-map p f (x ∷ xs) = grind (arith, nat_tests, filter-map p f xs)
 
 -- of what passes one test, what passes another, where this passes the first
 pub filter-within : {X : Type 0} (p q : X → Bool) (xs : List X) → All (λ y. q y ≡ true → p y ≡ true) xs → filter q (filter p xs) ≡ filter q xs
@@ -33,6 +29,4 @@ filter-within p q xs all =
     filter-both p q xs ∙ filter-same (λ x. p x && q x) q xs (λ k d lt. within (p (get_or xs k d)) (q (get_or xs k d)) (all k d lt))
   where
     within : (b d : Bool) → (d ≡ true → b ≡ true) → (b && d) ≡ d
-    within true d h = refl
-    within false false h = refl
-    within false true h = h refl
+    within b d h = grind (arith, nat_tests)

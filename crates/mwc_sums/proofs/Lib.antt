@@ -1,16 +1,10 @@
-pub mod Completing
+mod Completing
 mod Counting
-mod HeadLaw
 mod Leads
-mod Leading
-mod Whole
-mod Masks
 pub mod Orders
 mod VetoLaw
 mod AlikeRules
-mod Winning
 mod Joining
-mod AllSums
 mod Paired
 mod Pairs
 mod Apart
@@ -19,9 +13,12 @@ mod Joined
 mod Vetoing
 mod VetoRules
 pub mod OneChamber
-mod Seated
-mod SeatCounts
 mod Sharing
 mod Statutes
 mod Tests
 mod Filters
+mod Seating
+mod Matching
+mod Placed
+pub mod Heads
+mod Seated

@@ -4,15 +4,12 @@ use Rattle.std.proofs.Common.{filter, sym, ap, refl, arith, inl, inr}
 use Rattle.std.specs.List.{sum_by}
 use Rattle.std.proofs.lemmas.Bool.{cases_lt, cases_eq, eq-eqb, ne_eqb, and_parts, and_right, le-leb, leb-true, lt-leb}
 use Rattle.power_index.proofs.Shared.Sums.{sum-times, sum-range, sum-filter, sum-by_size}
+use Rattle.std.proofs.lemmas.Bool.Decides.{nat_tests}
 use Rattle.mwc_sums.specs.Chambers.{paired}
 use Rattle.mwc_sums.proofs.Filters.{filter-none}
-use Rattle.mwc_sums.proofs.AllSums.{one_if, count-both}
-
-same-eqb : (a b c d : ℕ) → (a ≡ b → c ≡ d) → (c ≡ d → a ≡ b) → (a == b) ≡ (c == d)
-same-eqb a b c d to fro = elim (cases_eq a b) [
-  | inl e ↦ eq-eqb a b e ∙ sym (eq-eqb c d (to e))
-  | inr other ↦ ne_eqb a b other ∙ sym (ne_eqb c d (λ e. other (fro e)))
-]
+use Rattle.mwc_sums.proofs.Leads.{shifted}
+use Rattle.mwc_sums.proofs.Matching.{count-both}
+use Rattle.mwc_sums.proofs.Seating.{one_if}
 
 -- those of a list that fill so many up to s
 filling : (q : ℕ → Bool) (k : ℕ → ℕ) (ys : List ℕ) (j s : ℕ) → length (filter (λ y. q y && (j + k y == s)) ys)
@@ -23,15 +20,12 @@ filling q k ys j s = elim (cases_lt s j) [
       ∙ ap (λ (l : List ℕ). length l) (filter-none ys)
       ∙ sym (ap (λ (b : Bool). cond b (length (filter (λ y. q y && (k y == s - j)) ys)) 0) (lt-leb j s above))
   | inr within ↦
-      (λ i. length (filter (λ y. q y && same-eqb (j + k y) s (k y) (s - j) (λ e. omega (arith, e)) (λ e. omega (arith, e, within)) i) ys))
+      (λ i. length (filter (λ y. q y && shifted j (k y) s within i) ys))
       ∙ sym (ap (λ (b : Bool). cond b (length (filter (λ y. q y && (k y == s - j)) ys)) 0) (le-leb j s within))
 ]
 
 apart-test : (m n p q e : Bool) → one_if ((m && n) && ((p && q) && e)) ≡ one_if (n && (q && e)) * one_if (m && p)
-apart-test true n true q e = omega arith
-apart-test false n p q e = omega arith
-apart-test true true false q e = omega arith
-apart-test true false false q e = omega arith
+apart-test m n p q e = grind (arith, nat_tests)
 
 pub pairs-of_size : (m n p q : ℕ → Bool) (k l : ℕ → ℕ) (xs ys : List ℕ) (s : ℕ)
     → sum_by (λ x. sum_by (λ y. one_if ((m x && n y) && ((p x && q y) && (k x + l y == s)))) ys) xs
@@ -50,17 +44,10 @@ pairs-of_size m n p q k l xs ys s =
     others j = length (filter (λ y. q y && (l y == j)) (filter n ys))
 
     within : (b : Bool) (a j : ℕ) → j ≤ s → ((b && leb a s) && (a == j)) ≡ (b && (a == j))
-    within false a j le = refl
-    within true a j le = elim (cases_eq a j) [
-      | inl e ↦ (λ i. le-leb a s (omega (arith, e, le)) i && (a == j))
-      | inr other ↦ and_right (leb a s) (a == j) (ne_eqb a j other) ∙ sym (ne_eqb a j other)
-    ]
+    within b a j le = grind (arith, nat_tests)
 
     both : (b d e : Bool) (t : ℕ) → cond e t 0 * one_if (b && d) ≡ one_if b * (one_if (d && e) * t)
-    both true true true t = omega arith
-    both true true false t = omega arith
-    both true false e t = omega arith
-    both false d e t = omega arith
+    both b d e t = grind (arith, nat_tests)
 
     one_row : (x : ℕ) → sum_by (λ y. one_if ((m x && n y) && ((p x && q y) && (k x + l y == s)))) ys
         ≡ one_if (m x) * (one_if (p x && leb (k x) s) * others (s - k x))

@@ -9,6 +9,7 @@ use Rattle.std.proofs.lemmas.List.Sums.{AllPass-from_list_all, list_all-from_All
 use Rattle.std.proofs.lemmas.List.Elements.{All-filter, All-from_get_or, All-take, filter_passes}
 use Rattle.council_game.specs.Votes.{RuleView, rule_at}
 use Rattle.council_game.specs.Game.{GameView}
+use Rattle.std.proofs.lemmas.Bool.Decides.{nat_tests}
 use Rattle.mwc_sums.specs.Chambers.{weighs, met, share, chamber_of, HasNoWeight, AreChambersOf}
 use Rattle.mwc_sums.specs.Heads.{are_of_one_chamber}
 use Rattle.mwc_sums.specs.Statute.{is_counted}
@@ -22,36 +23,25 @@ use Rattle.mwc_sums.proofs.Tests.{any-at, any-none, missing}
 -- ---- who has weight in two rules
 pub share-at : (n i : ℕ) (a b : RuleView) → i < n → 0 < get_or a.weights i 0 → 0 < get_or b.weights i 0 → share n a b ≡ true
 share-at n i a b lt one other =
-    any-at (λ i. ltb 0 (get_or a.weights i 0) && ltb 0 (get_or b.weights i 0)) n i lt (and_from _ _ (lt-ltb 0 _ one) (lt-ltb 0 _ other))
+    any-at (λ i. ltb 0 (get_or a.weights i 0) && ltb 0 (get_or b.weights i 0)) n i lt (grind (arith, nat_tests))
 
 share-member : (n : ℕ) (a b : RuleView) → share n a b ≡ true
     → (i : ℕ) × (i < n) × (0 < get_or a.weights i 0) × (0 < get_or b.weights i 0)
 share-member n a b they = elim (missing (λ i. ltb 0 (get_or a.weights i 0) && ltb 0 (get_or b.weights i 0)) (λ i. false) n) [
-  | inl found ↦
-      let parts = and_parts (ltb 0 (get_or a.weights found.0 0)) (ltb 0 (get_or b.weights found.0 0)) found.2 in
-      (found.0, found.1, ltb-true 0 _ parts.0, ltb-true 0 _ parts.1)
-  | inr none ↦ absurd (both_ways (share n a b) (any-none (λ i. ltb 0 (get_or a.weights i 0) && ltb 0 (get_or b.weights i 0)) n
-      (λ i lt. false_from_ne_true _ (λ is. false≢true (none i lt is)))) they)
+  | inl found ↦ let passes = found.2 in (found.0, found.1, grind (arith, nat_tests), grind (arith, nat_tests))
+  | inr none ↦ absurd (let out = any-none (λ i. ltb 0 (get_or a.weights i 0) && ltb 0 (get_or b.weights i 0)) n
+      (λ i lt. let h = none i lt in grind (arith, nat_tests)) in grind (arith, nat_tests))
 ]
 
 share-turned : (n : ℕ) (a b : RuleView) → share n a b ≡ true → share n b a ≡ true
 share-turned n a b they = let found = share-member n a b they in share-at n found.0 b a found.1 found.3 found.2
 
-weightless : (w : ℕ) → (0 < w → ⊥) → w ≡ 0
-weightless zero none = refl
-weightless (suc w) none = absurd (none (omega arith))
-
 share-self : (n : ℕ) (r : RuleView) → IsFair n r → share n r r ≡ true
 share-self n r fair = elim (missing (λ i. ltb 0 (get_or r.weights i 0)) (λ i. false) n) [
   | inl found ↦ let some = ltb-true 0 _ found.2 in share-at n found.0 r r found.1 some some
-  | inr none ↦
-      let full = fair.full in
-      let met = good-met r fair.quota in
-      let some = good-some r fair.quota in
-      let total = alike-sum r.weights 0 (λ p lt. weightless (get_or r.weights p 0)
-      (λ more. false≢true (none p (omega (arith, lt, full)) (lt-ltb 0 _ more)))) in
-      let z : length r.weights * 0 ≡ 0 = omega arith in
-      absurd (omega (arith, met, some, total, z))
+  | inr none ↦ absurd (
+      let total = alike-sum r.weights 0 (λ p lt. let full = fair.full in let h = none p in grind (arith, nat_tests)) in
+      grind (arith, good-met r fair.quota, good-some r fair.quota, total))
 ]
 
 -- ---- lists
@@ -59,37 +49,21 @@ share-self n r fair = elim (missing (λ i. ltb 0 (get_or r.weights i 0)) (λ i. 
 in-filter : {X : Type 0} (p : X → Bool) (xs : List X) (j : ℕ) (d : X) → j < length xs → p (get_or xs j d) ≡ true
     → 0 < length (filter p xs)
 in-filter p [] j d lt passes = absurd (omega (arith, lt))
-in-filter p (x ∷ xs) zero d lt passes = rw passes (omega arith)
-in-filter p (x ∷ xs) (suc j) d lt passes = elim (cases_Bool (p x)) [
-  | inl is ↦ rw is (omega arith)
-  | inr out ↦ rw out (in-filter p xs j d (omega (arith, lt)) passes)
-]
+in-filter p (x ∷ xs) zero d lt passes = grind (arith, nat_tests)
+in-filter p (x ∷ xs) (suc j) d lt passes = grind (arith, nat_tests, in-filter p xs j d (omega (arith, lt)) passes)
 
 met-parted : (n : ℕ) (p : RuleView → Bool) (rs : List RuleView) (f : ℕ → Bool)
     → met n rs f ≡ (met n (filter p rs) f && met n (filter (λ r. not (p r)) rs) f)
 met-parted n p [] f = refl
-met-parted n p (r ∷ rs) f =
-    let own : Bool = leb r.quota (weighs n r f) in
-    let one : Bool = met n (filter p rs) f in
-    let other : Bool = met n (filter (λ x. not (p x)) rs) f in
-    ap (λ (b : Bool). own && b) (met-parted n p rs f)
-    ∙ (elim (cases_Bool (p r)) [
-      | inl is ↦ rw is (sym (and_assoc own one other))
-      | inr out ↦ rw out (ap (λ (b : Bool). own && b) (and_comm one other) ∙ sym (and_assoc own other one) ∙ and_comm (own && other) one)
-    ])
+met-parted n p (r ∷ rs) f = grind (arith, nat_tests, met-parted n p rs f)
 
 -- at two places a test passes
 two-pass : {X : Type 0} (p : X → Bool) (xs : List X) (j k : ℕ) (d : X) → j < k → k < length xs → p (get_or xs j d) ≡ true
     → p (get_or xs k d) ≡ true → 2 ≤ length (filter p xs)
 two-pass p [] j k d less lt pj pk = absurd (omega (arith, lt))
 two-pass p (x ∷ xs) j zero d less lt pj pk = absurd (omega (arith, less))
-two-pass p (x ∷ xs) zero (suc k) d less lt pj pk = rw pj (let some = in-filter p xs k d (omega (arith, lt)) pk in omega (arith, some))
-two-pass p (x ∷ xs) (suc j) (suc k) d less lt pj pk =
-    let two = two-pass p xs j k d (omega (arith, less)) (omega (arith, lt)) pj pk in
-    elim (cases_Bool (p x)) [
-      | inl is ↦ rw is (omega (arith, two))
-      | inr out ↦ rw out two
-    ]
+two-pass p (x ∷ xs) zero (suc k) d less lt pj pk = grind (arith, nat_tests, in-filter p xs k d (omega (arith, lt)) pk)
+two-pass p (x ∷ xs) (suc j) (suc k) d less lt pj pk = grind (arith, nat_tests, two-pass p xs j k d (omega (arith, less)) (omega (arith, lt)) pj pk)
 
 -- what holds of each that passes
 all-passing : (P : RuleView → Type 0) (p : RuleView → Bool) (rs : List RuleView)
@@ -100,10 +74,7 @@ all-passing P p rs each k d lt =
 
 -- ---- the rules of a chamber
 pub one-few : (n : ℕ) (rs : List RuleView) → are_of_one_chamber n rs ≡ true → length rs ≤ 2
-one-few n rs of = elim (or_cases (length rs == 1) _ of) [
-  | inl one ↦ let e = eqb-true (length rs) 1 one in omega (arith, e)
-  | inr two ↦ let e = eqb-true (length rs) 2 (and_parts (length rs == 2) _ two).0 in omega (arith, e)
-]
+one-few n rs of = grind (arith, nat_tests)
 
 -- a test of rules that passes each that shares a member with one that passes
 abbrev pub IsClosed : ℕ → List RuleView → (RuleView → Bool) → Type 0
@@ -126,63 +97,41 @@ module _ (n : ℕ) (rs : List RuleView) (fair : All (IsFair n) rs) where
   -- a chamber has no third rule: what shares a member with one of two shares one with the other
   no-third : (j k m : ℕ) → j < length rs → k < length rs → m < length rs → share n (rule j) (rule k) ≡ true
       → are_of_one_chamber n (chamber_of n rs (rule k)) ≡ true → share n (rule k) (rule m) ≡ true → share n (rule j) (rule m) ≡ true
-  no-third j k m lj lk lm they of third = elim (cases_eq j k) [
-    | inl e ↦ ap (λ (i : ℕ). share n (rule i) (rule m)) e ∙ third
-    | inr other ↦ elim (cases_Bool (share n (rule j) (rule m))) [
-      | inl is ↦ is
-      | inr not-so ↦ absurd (too-many other not-so)
-    ]
-  ]
-    where
-      both-j : (share n (rule k) (rule j) && share n (rule j) (rule j)) ≡ true
-      both-j = and_from (share n (rule k) (rule j)) (share n (rule j) (rule j)) (share-turned n (rule j) (rule k) they) (self j lj)
-
-      both-k : (share n (rule k) (rule k) && share n (rule j) (rule k)) ≡ true
-      both-k = and_from (share n (rule k) (rule k)) (share n (rule j) (rule k)) (self k lk) they
-
-      two : (j ≡ k → ⊥) → 2 ≤ length (filter (λ x. share n (rule k) x && share n (rule j) x) rs)
-      two other = elim (cases_lt j k) [
-        | inl less ↦ two-pass (λ x. share n (rule k) x && share n (rule j) x) rs j k none less lk both-j both-k
-        | inr more ↦ two-pass (λ x. share n (rule k) x && share n (rule j) x) rs k j none (omega (arith, more, other)) lj both-k both-j
-      ]
-
-      too-many : (j ≡ k → ⊥) → share n (rule j) (rule m) ≡ false → ⊥
-      too-many other not-so =
-          let lost = in-filter (λ x. share n (rule k) x && not (share n (rule j) x)) rs m none lm
-          (and_from (share n (rule k) (rule m)) (not (share n (rule j) (rule m))) third (not_from_false _ not-so)) in
-          let parts = length-filter_both (share n (rule j)) (λ x. not (share n (rule j) x)) (λ x. refl) (filter (share n (rule k)) rs) in
-          let kept = ap (λ (l : List RuleView). length l) (filter-both (share n (rule k)) (share n (rule j)) rs) in
-          let gone = ap (λ (l : List RuleView). length l) (filter-both (share n (rule k)) (λ x. not (share n (rule j) x)) rs) in
-          let some = two other in
-          let most = one-few n (chamber_of n rs (rule k)) of in
-          omega (arith, parts, kept, gone, some, most, lost)
+  no-third j k m lj lk lm they of third = true_from_ne_false (share n (rule j) (rule m)) (λ not-so.
+      (let both : RuleView → Bool = λ x. share n (rule k) x && share n (rule j) x in
+      let turned = share-turned n (rule j) (rule k) they in
+      let own-j = self j lj in
+      let own-k = self k lk in
+      let apart : j ≡ k → ⊥ = λ e. both_ways _ not-so (ap (λ (i : ℕ). share n (rule i) (rule m)) e ∙ third) in
+      let two : 2 ≤ length (filter both rs) = elim (cases_lt j k) [
+        | inl less ↦ two-pass both rs j k none less lk (grind (arith, nat_tests)) (grind (arith, nat_tests))
+        | inr more ↦ two-pass both rs k j none (omega (arith, more, apart)) lj (grind (arith, nat_tests)) (grind (arith, nat_tests))
+      ] in
+      let lost = in-filter (λ x. share n (rule k) x && not (share n (rule j) x)) rs m none lm (grind (arith, nat_tests)) in
+      let parts = length-filter_both (share n (rule j)) (λ x. not (share n (rule j) x)) (λ x. refl) (filter (share n (rule k)) rs) in
+      let kept = ap (λ (l : List RuleView). length l) (filter-both (share n (rule k)) (share n (rule j)) rs) in
+      let gone = ap (λ (l : List RuleView). length l) (filter-both (share n (rule k)) (λ x. not (share n (rule j) x)) rs) in
+      omega (arith, parts, kept, gone, two, one-few n (chamber_of n rs (rule k)) of, lost)))
 
   -- ---- what sums count
   counted-at : (r : RuleView) → is_counted n rs r ≡ true → (k : ℕ) → k < length rs → share n r (rule k) ≡ true
       → are_of_one_chamber n (chamber_of n rs (rule k)) ≡ true
   counted-at r is k lt they =
-      elim (or_cases (not (share n r (rule k))) (are_of_one_chamber n (chamber_of n rs (rule k)))
-      (AllPass-from_list_all (λ x. not (share n r x) || are_of_one_chamber n (chamber_of n rs x)) rs is k none lt)) [
-        | inl out ↦ absurd (both_ways (share n r (rule k)) (not-true _ out) they)
-        | inr of ↦ of
-      ]
+      let h = AllPass-from_list_all (λ x. not (share n r x) || are_of_one_chamber n (chamber_of n rs x)) rs is k none lt in
+      grind (arith, nat_tests)
 
   counted-from : (r : RuleView) → ((k : ℕ) → k < length rs → share n r (rule k) ≡ true → are_of_one_chamber n (chamber_of n rs (rule k)) ≡ true)
       → is_counted n rs r ≡ true
   counted-from r each =
       let test : RuleView → Bool = λ x. not (share n r x) || are_of_one_chamber n (chamber_of n rs x) in
-      list_all-from_AllPass test rs (All-from_get_or (λ x. test x ≡ true) rs none (λ k lt. elim (cases_Bool (share n r (rule k))) [
-        | inl they ↦ or_right (not (share n r (rule k))) (are_of_one_chamber n (chamber_of n rs (rule k))) (each k lt they)
-        | inr out ↦ or_left (not (share n r (rule k))) (are_of_one_chamber n (chamber_of n rs (rule k))) (not_from_false _ out)
-      ]))
+      list_all-from_AllPass test rs (All-from_get_or (λ x. test x ≡ true) rs none (λ k lt. let own = each k lt in grind (arith, nat_tests)))
 
   pub own-chamber : (j : ℕ) → j < length rs → is_counted n rs (rule_at rs j) ≡ true → are_of_one_chamber n (chamber_of n rs (rule_at rs j)) ≡ true
   own-chamber j lt is = counted-at (rule j) is j lt (self j lt)
 
   pub all-counted : length (filter (λ x. not (is_counted n rs x)) rs) ≡ 0 → AreOfChambers n rs
   all-counted left = All-from_get_or (λ r. are_of_one_chamber n (chamber_of n rs r) ≡ true) rs none (λ j lt.
-      own-chamber j lt (true_from_ne_false (is_counted n rs (rule j)) (λ out.
-      (let some = in-filter (λ x. not (is_counted n rs x)) rs j none lt (not_from_false _ out) in omega (arith, left, some)))))
+      own-chamber j lt (let some = in-filter (λ x. not (is_counted n rs x)) rs j none lt in grind (arith, nat_tests, left)))
 
   pub counted-closed : IsClosed n rs (is_counted n rs)
   counted-closed j m lj lm is they = counted-from (rule m) (λ k lk more. counted-at (rule j) is k lk
@@ -192,10 +141,10 @@ module _ (n : ℕ) (rs : List RuleView) (fair : All (IsFair n) rs) where
   chamber-closed all i li j m lj lm is they = no-third i j m li lj lm is (all j none lj) they
 
   pub others-closed : (q : RuleView → Bool) → IsClosed n rs q → IsClosed n rs (λ x. not (q x))
-  others-closed q closed j m lj lm out they = elim (cases_Bool (q (rule m))) [
-    | inl is ↦ absurd (both_ways (q (rule j)) (not-true _ out) (closed m j lm lj is (share-turned n (rule j) (rule m) they)))
-    | inr lost ↦ not_from_false _ lost
-  ]
+  others-closed q closed j m lj lm out they =
+      let back = closed m j lm lj in
+      let turned = share-turned n (rule j) (rule m) they in
+      grind (arith, nat_tests)
 
   module _ (q : RuleView → Bool) (closed : IsClosed n rs q) where
     -- the rules that pass have the same chambers among themselves
@@ -209,14 +158,12 @@ module _ (n : ℕ) (rs : List RuleView) (fair : All (IsFair n) rs) where
     -- a member has weight in them, or in the others
     parts-apart : (i : ℕ) → i < n → HasNoWeight (filter q rs) i ⊎ HasNoWeight (filter (λ x. not (q x)) rs) i
     parts-apart i lt = elim (missing (λ k. q (rule k) && ltb 0 (get_or (rule k).weights i 0)) (λ k. false) (length rs)) [
-      | inl found ↦
-          let parts = and_parts (q (rule found.0)) (ltb 0 (get_or (rule found.0).weights i 0)) found.2 in
-          inr (all-passing (λ x. get_or x.weights i 0 ≡ 0) (λ x. not (q x)) rs (λ m lm other.
-          weightless (get_or (rule m).weights i 0) (λ some. both_ways (q (rule m)) (not-true _ other)
-          (closed found.0 m found.1 lm parts.0 (share-at n i (rule found.0) (rule m) lt (ltb-true 0 _ parts.1) some)))))
-      | inr idle ↦ inl (all-passing (λ x. get_or x.weights i 0 ≡ 0) q rs (λ m lm is.
-          weightless (get_or (rule m).weights i 0) (λ some. false≢true (idle m lm
-          (and_from (q (rule m)) (ltb 0 (get_or (rule m).weights i 0)) is (lt-ltb 0 _ some))))))
+      | inl found ↦ inr (all-passing (λ x. get_or x.weights i 0 ≡ 0) (λ x. not (q x)) rs (λ m lm other.
+          let own = found.2 in
+          let seen = closed found.0 m found.1 lm in
+          let they = share-at n i (rule found.0) (rule m) lt in
+          grind (arith, nat_tests)))
+      | inr idle ↦ inl (all-passing (λ x. get_or x.weights i 0 ≡ 0) q rs (λ m lm is. let own = idle m lm in grind (arith, nat_tests)))
     ]
 
     pub parts-are : (g a b : GameView) → AreRulesOf g n rs → a.names ≡ g.names → b.names ≡ g.names → a.rules ≡ filter q rs

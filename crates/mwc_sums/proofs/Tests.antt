@@ -2,6 +2,7 @@
 use Rattle.std.proofs.Common.{◌≡◌, ◌∙◌, ◌&&◌, not, ◌⊎◌, ℕ, ◌<◌, Bool, true, false, ap, sym, arith, inl, inr}
 use Rattle.std.specs.List.{list_all, list_any, range_with_len}
 use Rattle.std.proofs.lemmas.Bool.{and_from, and_parts, both_ways, cases_Bool, not-true, not_from_false, true_from_ne_false}
+use Rattle.std.proofs.lemmas.Bool.Decides.{nat_tests}
 use Rattle.std.proofs.lemmas.List.FromFn.{length-range_with_len}
 use Rattle.std.proofs.lemmas.List.Folds.{Any-from_list_any, list_all_at, list_any_at, list_any_none}
 use Rattle.std.proofs.lemmas.List.Sums.{AllPass-from_list_all, list_all-from_AllPass}
@@ -39,8 +40,6 @@ missing veto f n =
           let (k, x, lt, at, passes) = Any-from_list_any (λ i. veto i && not (f i)) (range_with_len 0 n) some in
           let long = length-range_with_len 0 n in
           let here : x ≡ k = sym at ∙ places-at n k x (omega (arith, lt, long)) in
-          let parts = and_parts (veto x) (not (f x)) passes in
-          inl (x, omega (arith, here, lt, long), parts.0, not-true (f x) parts.1)
-      | inr none ↦ inr (λ i lt vetoes. true_from_ne_false (f i) (λ out.
-          both_ways _ none (any-at (λ i. veto i && not (f i)) n i lt (and_from (veto i) (not (f i)) vetoes (not_from_false _ out)))))
+          inl (x, omega (arith, here, lt, long), grind (arith, nat_tests), grind (arith, nat_tests))
+      | inr none ↦ inr (λ i lt vetoes. let some = any-at (λ i. veto i && not (f i)) n i lt in grind (arith, nat_tests))
     ]

@@ -10,31 +10,22 @@ use Rattle.std.proofs.lemmas.List.Filters.{length-filter_both}
 use Rattle.council_game.specs.Votes.{RuleView}
 use Rattle.council_game.specs.Game.{has_bad_quota}
 use Rattle.power_index.proofs.Shared.Sums.{sum-plus, sum-range}
+use Rattle.std.proofs.lemmas.Bool.Decides.{nat_tests}
 use Rattle.mwc_sums.specs.Statute.{rules_beside}
 use Rattle.mwc_sums.specs.Vetoers.{number_of, rest_of, rule_for}
 use Rattle.mwc_sums.specs.Inner.Fair.{IsFair}
 use Rattle.mwc_sums.proofs.Vetoing.{row-sum, made-sum, made-at}
 
 good : (r : RuleView) → 0 < r.quota → r.quota ≤ sum r.weights → has_bad_quota r ≡ false
-good r some met =
-    (λ k. le-ltb r.quota 1 (omega (arith, some)) k || le-ltb (sum r.weights) r.quota met k)
+good r some met = grind (arith, nat_tests)
 
 -- a good rule can be met
 pub good-met : (r : RuleView) → has_bad_quota r ≡ false → r.quota ≤ sum r.weights
-good-met r is = by_tests (ltb r.quota 1) (ltb (sum r.weights) r.quota) is (λ none. ltb-false (sum r.weights) r.quota none)
-  where
-    by_tests : (b d : Bool) → (b || d) ≡ false → (d ≡ false → r.quota ≤ sum r.weights) → r.quota ≤ sum r.weights
-    by_tests false false h met = met h
-    by_tests false true h met = absurd (cc)
-    by_tests true d h met = absurd (cc)
+good-met r is = grind (arith, nat_tests)
 
 -- it asks for something
 pub good-some : (r : RuleView) → has_bad_quota r ≡ false → 1 ≤ r.quota
-good-some r is = by_tests (ltb r.quota 1) (ltb (sum r.weights) r.quota) is (λ none. ltb-false r.quota 1 none)
-  where
-    by_tests : (b d : Bool) → (b || d) ≡ false → (b ≡ false → 1 ≤ r.quota) → 1 ≤ r.quota
-    by_tests false d h some = some refl
-    by_tests true d h some = absurd (cc)
+good-some r is = grind (arith, nat_tests)
 
 light-made : (h : ℕ → ℕ) (n k : ℕ) → ((i : ℕ) → i < n → h i ≤ 1000000000000) → get_or (map h (range_with_len 0 n)) k 0 ≤ 1000000000000
 light-made h n k light = elim (cases_lt k n) [
@@ -52,8 +43,7 @@ fair-vetoers n veto some = record {
 }
   where
     one : (b : Bool) → cond b 1 0 ≤ 1000000000000
-    one true = omega arith
-    one false = omega arith
+    one b = grind (arith, nat_tests)
 
 -- the weights of those who agree and of the others are all weights
 both-sums : (n : ℕ) (veto : ℕ → Bool) (w : ℕ → ℕ)
@@ -64,8 +54,7 @@ both-sums n veto w =
     ∙ sum-range (λ i. cond (veto i) (w i) 0 + cond (veto i) 0 (w i)) w 0 n (λ i _ lt. either (veto i) (w i))
   where
     either : (b : Bool) (x : ℕ) → cond b x 0 + cond b 0 x ≡ x
-    either true x = omega arith
-    either false x = omega arith
+    either b x = grind (arith, nat_tests)
 
 fair-rest : (n : ℕ) (veto : ℕ → Bool) (r : RuleView) → IsFair n r → 0 < (rest_of n veto r).quota → IsFair n (rest_of n veto r)
 fair-rest n veto r fair some = record {
@@ -81,8 +70,7 @@ fair-rest n veto r fair some = record {
 }
   where
     less : (b : Bool) (x : ℕ) → x ≤ 1000000000000 → cond b 0 x ≤ 1000000000000
-    less true x le = omega arith
-    less false x le = le
+    less b x le = grind (arith, nat_tests)
 
 -- each rule that is left is fair, if it asks for something
 fair-asking : (n : ℕ) (veto : ℕ → Bool) (rs : List RuleView) → All (IsFair n) rs

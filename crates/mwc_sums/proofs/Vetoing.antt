@@ -9,6 +9,7 @@ use Rattle.std.proofs.lemmas.List.Elements.{All-head, All-tail}
 use Rattle.coalitions.proofs.Shared.Ranges.{sum_by-range-more}
 use Rattle.council_game.specs.Votes.{RuleView}
 use Rattle.power_index.proofs.Shared.Sums.{sum-plus, sum-range}
+use Rattle.std.proofs.lemmas.Bool.Decides.{nat_tests}
 use Rattle.mwc_sums.specs.Chambers.{weighs, met}
 use Rattle.mwc_sums.specs.Statute.{rules_beside}
 use Rattle.mwc_sums.specs.Vetoers.{can_veto, number_of, rest_of, rule_for}
@@ -31,40 +32,19 @@ made-at h n i lt = get_or-map-range_with_len h 0 n i i 0 lt (omega arith)
 pub one-more : (f : ℕ → ℕ) (n : ℕ) → sum_by f (range_with_len 0 (suc n)) ≡ sum_by f (range_with_len 0 n) + f n
 one-more f n = let e : suc n ≡ n + 1 = omega arith in ap (λ (k : ℕ). sum_by f (range_with_len 0 k)) e ∙ sum_by-range-more f n
 
-one-less : (b : Bool) (w : ℕ) → cond b 1 0 * w ≤ w
-one-less true w = omega arith
-one-less false w = omega arith
-
 others-le : (f : ℕ → Bool) (w : ℕ → ℕ) (n : ℕ) → sum_by (λ i. cond (f i) 1 0 * w i) (range_with_len 0 n) ≤ sum_by w (range_with_len 0 n)
 others-le f w zero = omega arith
-others-le f w (suc n) =
-    let own = one-more (λ i. cond (f i) 1 0 * w i) n in
-    let all = one-more w n in
-    let rest = others-le f w n in
-    let one = one-less (f n) (w n) in
-    omega (arith, own, all, rest, one)
+others-le f w (suc n) = grind (arith, nat_tests, one-more (λ i. cond (f i) 1 0 * w i) n, one-more w n, others-le f w n)
 
 pub beside : (f : ℕ → Bool) (w : ℕ → ℕ) (n i : ℕ) → i < n → f i ≡ false
     → sum_by (λ j. cond (f j) 1 0 * w j) (range_with_len 0 n) + w i ≤ sum_by w (range_with_len 0 n)
 beside f w zero i lt out = absurd (omega arith)
-beside f w (suc n) i lt out =
-    let own = one-more (λ j. cond (f j) 1 0 * w j) n in
-    let all = one-more w n in
-    elim (cases_lt i n) [
-      | inl less ↦
-          let rest = beside f w n i less out in
-          let one = one-less (f n) (w n) in
-          omega (arith, own, all, rest, one)
-      | inr last ↦
-          let here : i ≡ n = omega (arith, lt, last) in
-          let rest = others-le f w n in
-          let none : cond (f n) 1 0 * w n ≡ 0 = ap (λ (b : Bool). cond b 1 0 * w n) (ap f (sym here) ∙ out) ∙ nothing (w n) in
-          let same : w i ≡ w n = ap w here in
-          omega (arith, own, all, rest, none, same)
-    ]
-  where
-    nothing : (x : ℕ) → cond false 1 0 * x ≡ 0
-    nothing x = omega arith
+beside f w (suc n) i lt out = elim (cases_lt i n) [
+  | inl less ↦ grind (arith, nat_tests, one-more (λ j. cond (f j) 1 0 * w j) n, one-more w n, beside f w n i less out)
+  | inr last ↦
+      let here : i ≡ n = omega (arith, lt, last) in
+      grind (arith, nat_tests, one-more (λ j. cond (f j) 1 0 * w j) n, one-more w n, others-le f w n, ap f here, ap w here)
+]
 
 module _ (n : ℕ) (veto f : ℕ → Bool) where
   -- ---- the rule that asks for each
@@ -79,13 +59,8 @@ module _ (n : ℕ) (veto f : ℕ → Bool) where
   rule-lost : (i : ℕ) → i < n → veto i ≡ true → f i ≡ false → leb (number_of n veto) (weighs n (rule_for n veto) f) ≡ false
   rule-lost i lt vetoes out =
       let less = beside f (λ j. cond (veto j) 1 0) n i lt out in
-      let one = vote (veto i) vetoes in
       let own = rule-weighs in
-      lt-leb (number_of n veto) (weighs n (rule_for n veto) f) (omega (arith, less, one, own))
-    where
-      vote : (b : Bool) → b ≡ true → cond b 1 0 ≡ 0 + 1
-      vote true is = omega arith
-      vote false is = absurd (cc)
+      grind (arith, nat_tests)
 
   rule-met : ((i : ℕ) → i < n → veto i ≡ true → f i ≡ true) → leb (number_of n veto) (weighs n (rule_for n veto) f) ≡ true
   rule-met all =
@@ -95,10 +70,7 @@ module _ (n : ℕ) (veto f : ℕ → Bool) where
       le-leb (number_of n veto) (weighs n (rule_for n veto) f) (omega (arith, same))
     where
       both : (b d : Bool) → (d ≡ true → b ≡ true) → cond b 1 0 * cond d 1 0 ≡ cond d 1 0
-      both true true h = omega arith
-      both true false h = omega arith
-      both false false h = omega arith
-      both false true h = absurd (let e = h refl in cc)
+      both b d h = grind (arith, nat_tests)
 
   -- ---- what is left of a rule
   agreed : RuleView → ℕ
@@ -114,47 +86,28 @@ module _ (n : ℕ) (veto f : ℕ → Bool) where
       ∙ sum-plus (λ i. cond (veto i) (get_or r.weights i 0) 0) (λ i. cond (f i) 1 0 * get_or (rest_of n veto r).weights i 0) (range_with_len 0 n)
     where
       split : (b d : Bool) (w v : ℕ) → (d ≡ true → b ≡ true) → v ≡ cond d 0 w → cond b 1 0 * w ≡ cond d w 0 + cond b 1 0 * v
-      split true true w v h is = omega (arith, is)
-      split true false w v h is = omega (arith, is)
-      split false false w v h is = omega (arith, is)
-      split false true w v h is = absurd (let e = h refl in cc)
+      split b d w v h is = grind (arith, nat_tests)
 
   rests-met : ((i : ℕ) → i < n → veto i ≡ true → f i ≡ true) → (rs : List RuleView) → met n rs f ≡ met n (map (rest_of n veto) rs) f
   unfolding agreed
   rests-met all [] = refl
-  rests-met all (r ∷ rs) =
-      λ k. same_test (leb r.quota (weighs n r f)) (leb (r.quota - agreed r) (weighs n (rest_of n veto r) f))
-      (λ h. (let m = leb-true _ _ h in let e = rest-weighs all r in le-leb _ _ (omega (arith, m, e))))
-      (λ h. (let m = leb-true _ _ h in let e = rest-weighs all r in le-leb _ _ (omega (arith, m, e)))) k
-      && rests-met all rs k
+  rests-met all (r ∷ rs) = grind (arith, nat_tests, rest-weighs all r, rests-met all rs)
 
 -- without a member that can veto the others lose
 vetoed-lost : (n : ℕ) (rs : List RuleView) (f : ℕ → Bool) (i : ℕ) → All (λ r. length r.weights ≡ n) rs → i < n → can_veto rs i ≡ true
     → f i ≡ false → met n rs f ≡ false
 vetoed-lost n [] f i full lt vetoes out = absurd (cc)
 vetoed-lost n (r ∷ rs) f i full lt vetoes out =
-    elim (or_cases (ltb (sum r.weights - get_or r.weights i 0) r.quota) (can_veto rs i) vetoes) [
-      | inl here ↦
-          let short = ltb-true (sum r.weights - get_or r.weights i 0) r.quota here in
-          let less = beside f (λ j. get_or r.weights j 0) n i lt out in
-          let all = row-sum r.weights n (All-head (λ (x : RuleView). length x.weights ≡ n) r rs full) in
-          ap (λ (b : Bool). b && met n rs f) (lt-leb r.quota (weighs n r f) (omega (arith, short, less, all)))
-      | inr later ↦
-          and_right (leb r.quota (weighs n r f)) (met n rs f)
-          (vetoed-lost n rs f i (All-tail (λ (x : RuleView). length x.weights ≡ n) r rs full) lt later out)
-    ]
+    let less = beside f (λ j. get_or r.weights j 0) n i lt out in
+    let all = row-sum r.weights n (All-head (λ (x : RuleView). length x.weights ≡ n) r rs full) in
+    let rest : can_veto rs i ≡ true → met n rs f ≡ false = λ later.
+    vetoed-lost n rs f i (All-tail (λ (x : RuleView). length x.weights ≡ n) r rs full) lt later out in
+    grind (arith, nat_tests)
 
 -- rules that ask for nothing are met
 asking-met : (n : ℕ) (rs : List RuleView) (f : ℕ → Bool) → met n rs f ≡ met n (filter (λ r. ltb 0 r.quota) rs) f
 asking-met n [] f = refl
-asking-met n (r ∷ rs) f = elim (cases_lt 0 r.quota) [
-  | inl some ↦
-      ap (λ (b : Bool). leb r.quota (weighs n r f) && b) (asking-met n rs f)
-      ∙ sym (ap (λ (b : Bool). met n (cond b (r ∷ filter (λ r. ltb 0 r.quota) rs) (filter (λ r. ltb 0 r.quota) rs)) f) (lt-ltb 0 r.quota some))
-  | inr none ↦
-      (λ k. le-leb r.quota (weighs n r f) (omega (arith, none)) k && asking-met n rs f k)
-      ∙ sym (ap (λ (b : Bool). met n (cond b (r ∷ filter (λ r. ltb 0 r.quota) rs) (filter (λ r. ltb 0 r.quota) rs)) f) (le-ltb 0 r.quota none))
-]
+asking-met n (r ∷ rs) f = grind (arith, nat_tests, asking-met n rs f)
 
 -- members win where all vetoers are among them, and the others meet what is left of the rules
 pub vetoers-both : (n : ℕ) (rs : List RuleView) (f : ℕ → Bool) → All (λ r. length r.weights ≡ n) rs

@@ -10,7 +10,7 @@ ghost use Rattle.power_index.specs.Tables.{AreCounts, Tables};
 ghost use Rattle.std.specs.Prelude.{◌≡◌, ℕ, ◌+◌, ◌<◌, ◌^◌, ◌↔◌, true, length};
 
 /// In a game of one rule, the minimal winning coalitions are those that complete the quota.
-#[tactic(auto, using(crate::proofs::Completing::laws))]
+#[tactic(auto, using(crate::proofs::Heads::laws))]
 pub fn minimal_coalitions_complete_the_quota()
     ensures { (v : Votes) → IsVotes v → length v.rules ≡ 1 → minimal_coalitions v
         ≡ completing (rule_at v.rules 0).weights (rule_at v.rules 0).quota }

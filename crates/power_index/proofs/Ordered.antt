@@ -1,29 +1,13 @@
 -- Two fractions are ordered by their quotients, and where these are equal by what is left, turned upside down.
-use Rattle.std.proofs.Common.{◌≡◌, ◌∙◌, ◌≢◌, ℕ, zero, suc, ◌+◌, ◌*◌, ◌/◌, ◌%◌, ◌<◌, ◌≤◌, ap, sym, arith, inl, inr}
-use Rattle.std.specs.declared.cmp.Ordering.TheVariants.{Less, Equal, Greater}
+use Rattle.std.proofs.Common.{◌≡◌, ◌∙◌, ◌≢◌, ℕ, suc, ◌+◌, ◌*◌, ◌/◌, ◌%◌, ◌<◌, ◌≤◌, ap, sym, arith, inl, inr}
 use Rattle.std.specs.Ordering.{nat_cmp, ordering_then}
-use Rattle.std.specs.Cmp.{nat_cmp_is}
 use Rattle.std.proofs.lemmas.Bool.{cases_lt, cases_eq}
 use Rattle.std.proofs.Math.Nat.{div-add-mod, mod-lt, mul-le-mul}
-
-less : (x y : ℕ) → x < y → nat_cmp x y ≡ Less
-less x y h = sym (nat_cmp_is x y Less h)
-
-equal : (x y : ℕ) → x ≡ y → nat_cmp x y ≡ Equal
-equal x y h = sym (nat_cmp_is x y Equal h)
-
-greater : (x y : ℕ) → y < x → nat_cmp x y ≡ Greater
-greater x y h = sym (nat_cmp_is x y Greater h)
+use Rattle.std.proofs.lemmas.Bool.Decides.{nat_tests}
 
 -- what is added to both does not count
 shifted : (k x y : ℕ) → nat_cmp (k + x) (k + y) ≡ nat_cmp x y
-shifted k x y = elim (cases_lt x y) [
-  | inl lt ↦ less (k + x) (k + y) (omega arith) ∙ sym (less x y lt)
-  | inr ge ↦ elim (cases_eq x y) [
-    | inl same ↦ equal (k + x) (k + y) (omega (arith, same)) ∙ sym (equal x y same)
-    | inr other ↦ greater (k + x) (k + y) (omega (arith, ge, other)) ∙ sym (greater x y (omega (arith, ge, other)))
-  ]
-]
+shifted k x y = grind (arith, nat_tests)
 
 -- a times d is the shared part and what is left of a, times d
 parts : (a b d q : ℕ) → a / b ≡ q → a * d ≡ b * d * q + d * (a % b)
@@ -61,24 +45,18 @@ below a b c d pos pos' h =
 pub decided : (a b c d : ℕ) → 0 < b → 0 < d → (a / b ≡ c / d → a % b ≢ 0 → c % d ≡ 0)
     → ordering_then (nat_cmp (a / b) (c / d)) (nat_cmp (a % b) (c % d)) ≡ nat_cmp (a * d) (c * b)
 decided a b c d pos pos' stop = elim (cases_lt (a / b) (c / d)) [
-  | inl lt ↦ ap (λ o. ordering_then o (nat_cmp (a % b) (c % d))) (less (a / b) (c / d) lt)
-      ∙ sym (less (a * d) (c * b) (below a b c d pos pos' lt))
+  | inl lt ↦ let less = below a b c d pos pos' lt in grind (arith, nat_tests)
   | inr ge ↦ elim (cases_eq (a / b) (c / d)) [
-    | inl same ↦ ap (λ o. ordering_then o (nat_cmp (a % b) (c % d))) (equal (a / b) (c / d) same) ∙ last (a % b) (c % d) (stop same)
-        ∙ turned a b c d same
-    | inr other ↦
-        let gt : c / d < a / b = omega (arith, ge, other) in
-        ap (λ o. ordering_then o (nat_cmp (a % b) (c % d))) (greater (a / b) (c / d) gt)
-        ∙ sym (greater (a * d) (c * b) (below c d a b pos' pos gt))
+    | inl same ↦ let e = last (a % b) (c % d) (stop same) ∙ turned a b c d same in grind (arith, nat_tests)
+    | inr other ↦ let more = below c d a b pos' pos (omega (arith, ge, other)) in grind (arith, nat_tests)
   ]
 ]
   where
     last : (r s : ℕ) → (r ≢ 0 → s ≡ 0) → nat_cmp r s ≡ nat_cmp (d * r) (b * s)
-    last zero zero h = equal 0 0 (omega arith) ∙ sym (equal (d * 0) (b * 0) (omega arith))
-    last zero (suc s) h =
-        less 0 (suc s) (omega arith)
-        ∙ sym (less (d * 0) (b * suc s) (let p : b * 1 ≤ b * suc s = mul-le-mul (omega arith) (omega arith) in omega (arith, p, pos)))
-    last (suc r) zero h =
-        greater (suc r) 0 (omega arith)
-        ∙ sym (greater (d * suc r) (b * 0) (let p : d * 1 ≤ d * suc r = mul-le-mul (omega arith) (omega arith) in omega (arith, p, pos')))
-    last (suc r) (suc s) h = absurd (let e : suc s ≡ 0 = h (λ e. omega (arith, e)) in omega (arith, e))
+    last r s h =
+        let p : 1 * s ≤ b * s = mul-le-mul pos (omega arith) in
+        let q : 1 * r ≤ d * r = mul-le-mul pos' (omega arith) in
+        elim (cases_eq r 0) [
+          | inl none ↦ rw none (grind (arith, nat_tests))
+          | inr some ↦ rw (h some) (grind (arith, nat_tests))
+        ]

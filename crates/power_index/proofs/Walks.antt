@@ -26,14 +26,8 @@ step : (n c size : ℕ) (old now : List Tally) (rest q : ℕ) (v : Tally) → q 
 step n c size old now rest q v below long in' is h = record {
   below = less;
   long = length-set now q v ∙ h.long;
-  inside = λ p lt still. elim (cases_eq p q) [
-    | inl same ↦ absurd (both_ways _ (gone p same) still)
-    | inr other ↦ h.inside p lt (sym (has-kept n p q rest lt below other in') ∙ still)
-  ];
-  waiting = λ p lt still. elim (cases_eq p q) [
-    | inl same ↦ absurd (both_ways _ (gone p same) still)
-    | inr other ↦ get_or-set_other now q p v no_tally other ∙ h.waiting p lt (sym (has-kept n p q rest lt below other in') ∙ still)
-  ];
+  inside = λ p lt still. h.inside p lt (sym (kept p lt still) ∙ still);
+  waiting = λ p lt still. get_or-set_other now q p v no_tally (apart p still) ∙ h.waiting p lt (sym (kept p lt still) ∙ still);
   done = λ p lt out. elim (cases_eq p q) [
     | inl same ↦ subst (λ (i : ℕ). get_or (set now q v) i no_tally ≡ cond (has n i c) (with_one (get_or old i no_tally) size)
         (get_or old i no_tally)) (sym same) here
@@ -44,8 +38,11 @@ step n c size old now rest q v below long in' is h = record {
     less : without n q rest < 2 ^ n
     less = let le = without-le n q rest in omega (arith, le, h.below)
 
-    gone : (p : ℕ) → p ≡ q → has n p (without n q rest) ≡ false
-    gone p same = ap (λ (i : ℕ). has n i (without n q rest)) same ∙ has-gone n q rest in'
+    apart : (p : ℕ) → has n p (without n q rest) ≡ true → p ≡ q → ⊥
+    apart p still same = both_ways _ (ap (λ (i : ℕ). has n i (without n q rest)) same ∙ has-gone n q rest in') still
+
+    kept : (p : ℕ) → p < n → has n p (without n q rest) ≡ true → has n p (without n q rest) ≡ has n p rest
+    kept p lt still = has-kept n p q rest lt below (apart p still) in'
 
     here : get_or (set now q v) q no_tally ≡ cond (has n q c) (with_one (get_or old q no_tally) size) (get_or old q no_tally)
     here =

@@ -6,43 +6,11 @@ use Rattle.std.proofs.lemmas.List.Elements.{All-contains, Contains-append_right}
 use Rattle.council_game.specs.Votes.{Votes, IsVotes, has, without, wins, places_of, minimal, down, minimal_coalitions}
 use Rattle.coalitions.proofs.Shared.Digits.{has-none, has-kept, without-less}
 use Rattle.council_game.proofs.Shared.Places.{spare-place}
-use Rattle.council_game.proofs.Shared.Subsets.{wins-mono, digits-less}
+use Rattle.council_game.proofs.Shared.Subsets.{wins-mono, digits-less, minimal-inside}
 use Rattle.voting_laws.specs.Winning.{IsSubset, HasMinimalSubsets, HasVetoersInAll}
 
 pub larger_wins : (v : Votes) → IsVotes v → (a c : ℕ) → IsSubset v.members a c → wins v.rules a ≡ true → wins v.rules c ≡ true
 larger_wins v game a c inside won = wins-mono v.members a c v.rules game.rules (digits-less v.members a c inside) won
-
--- a coalition without a place is a subset
-without-inside : (n q c : ℕ) → q < n → has n q c ≡ true → IsSubset n (without n q c) c
-without-inside n q c lq in' p lp inside = elim (cases_eq p q) [
-  | inl same ↦ ap (λ (k : ℕ). has n k c) same ∙ in'
-  | inr other ↦ sym (has-kept n p q c lp lq other in') ∙ inside
-]
-
-not-empty : (n q c : ℕ) → has n q c ≡ true → 0 < c
-not-empty n q c inside = elim (cases_lt 0 c) [
-  | inl more ↦ more
-  | inr none ↦ let c0 : c ≡ 0 = omega arith in absurd (both_ways _ (has-none n q) (ap (has n q) (sym c0) ∙ inside))
-]
-
-minimal-inside : (v : Votes) (fuel c : ℕ) → c < fuel → wins v.rules c ≡ true
-    → (m : ℕ) × (m ≤ c) × (minimal v m ≡ true) × IsSubset v.members m c
-unfolding minimal
-minimal-inside v zero c below won = absurd (omega arith)
-minimal-inside v (suc fuel) c below won =
-    elim (cases_Bool (list_all (λ p. not (wins v.rules (without v.members p c))) (places_of v.members c))) [
-      | inl needed ↦ (c, omega arith, and_from _ _ won needed, λ p lt inside. inside)
-      | inr not_needed ↦
-          let spare = spare-place (λ p. has v.members p c) (λ p. not (wins v.rules (without v.members p c))) v.members not_needed in
-          let less : without v.members spare.0 c < c = without-less v.members spare.0 c (not-empty v.members spare.0 c spare.2) in
-          let deeper = minimal-inside v fuel (without v.members spare.0 c) (omega arith) (not-false _ spare.3) in (
-            deeper.0,
-            omega (arith, deeper.1),
-            deeper.2,
-            λ p lt inside. without-inside v.members spare.0 c spare.1 spare.2 p lt
-                (deeper.3 p lt inside),
-          )
-    ]
 
 -- what passes a test is among those of a count down that pass it
 down-contains : (p : ℕ → Bool) (n m : ℕ) → m < n → p m ≡ true → Contains (filter p (down n)) m

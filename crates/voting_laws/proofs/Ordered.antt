@@ -5,6 +5,7 @@ use Rattle.std.specs.Ordering.{nat_cmp}
 use Rattle.std.specs.Cmp.{nat_cmp_is}
 use Rattle.std.proofs.lemmas.Bool.{cases_lt, cases_eq}
 use Rattle.std.proofs.Math.Nat.{mul-pos, mul-le-mul_right, eq_of_mul-eq-mul_right, lt_of_mul-lt-mul_right}
+use Rattle.std.proofs.lemmas.Bool.Decides.{nat_tests}
 use Rattle.power_index.specs.Fractions.{SameFraction, fraction_cmp, lowest_terms}
 use Rattle.power_index.proofs.Shared.LowestTerms.{lowest_terms-lowest, lowest_terms-only}
 
@@ -17,12 +18,10 @@ less-times k x y pos lt =
 -- a common factor above 0 does not count
 scaled : (k x y : ℕ) → 0 < k → nat_cmp (x * k) (y * k) ≡ nat_cmp x y
 scaled k x y pos = elim (cases_lt x y) [
-  | inl lt ↦ sym (nat_cmp_is (x * k) (y * k) Less (less-times k x y pos lt)) ∙ nat_cmp_is x y Less lt
+  | inl lt ↦ let less = less-times k x y pos lt in grind (arith, nat_tests)
   | inr ge ↦ elim (cases_eq x y) [
-    | inl same ↦ sym (nat_cmp_is (x * k) (y * k) Equal (ap (λ (n : ℕ). n * k) same)) ∙ nat_cmp_is x y Equal same
-    | inr other ↦
-        let gt : y < x = omega (arith, ge, other) in
-        sym (nat_cmp_is (x * k) (y * k) Greater (less-times k y x pos gt)) ∙ nat_cmp_is x y Greater gt
+    | inl same ↦ let e = ap (λ (n : ℕ). n * k) same in grind (arith, nat_tests)
+    | inr other ↦ let more = less-times k y x pos (omega (arith, ge, other)) in grind (arith, nat_tests)
   ]
 ]
 

@@ -6,7 +6,7 @@ use Rattle.council_game.proofs.Shared.Games.{votes-are}
 use Rattle.power_index.specs.Counting.{members}
 use Rattle.power_index.specs.Fractions.{pair_sum, AddUpToOne, SameFraction, lowest_terms}
 use Rattle.power_index.specs.Indices.{deegan_packel, public_good, sizes_of_member}
-use Rattle.power_index.proofs.Shared.AddUp.{deegan_packel_adds_up, public_good_adds_up}
+use Rattle.power_index.proofs.Shared.AddUp.{all_pos, deegan_packel_adds_up, public_good_adds_up}
 use Rattle.power_index.proofs.Shared.LowestTerms.{lowest_terms-lowest}
 use Rattle.power_index.proofs.Shared.Members.{few-members, memberships, sizes-some, sizes-within}
 use Rattle.power_index.proofs.Shared.Units.{bottom_pos}
@@ -22,14 +22,10 @@ same-sum q r each (i ∷ is) =
     step : (a b a' b' c d c' d' : ℕ) → a * b' ≡ a' * b → c * d' ≡ c' * d → (a * d + c * b) * (b' * d') ≡ (a' * d' + c' * b') * (b * d)
     step a b a' b' c d c' d' e f = omega (arith, ap (λ (n : ℕ). n * (d * d')) e, ap (λ (n : ℕ). n * (b * b')) f)
 
-all-pos : (q : ℕ → ℕ × ℕ) → ((i : ℕ) → 0 < (q i).1) → (is : List ℕ) → 0 < (pair_sum (map q is)).1
-all-pos q each [] = omega arith
-all-pos q each (i ∷ is) = mul-pos (each i) (all-pos q each is)
-
 lowest-adds_up : (q : ℕ → ℕ × ℕ) (is : List ℕ) → ((i : ℕ) → 0 < (q i).1) → AddUpToOne (map q is)
     → AddUpToOne (map (λ i. lowest_terms (q i)) is)
 lowest-adds_up q is pos whole = record {
-  positive = all-pos (λ i. lowest_terms (q i)) (λ i. (lowest_terms-lowest (q i) (pos i)).positive) is;
+  positive = all_pos (λ i. lowest_terms (q i)) (λ i. (lowest_terms-lowest (q i) (pos i)).positive) is;
   one = one (pair_sum (map (λ i. lowest_terms (q i)) is)).0 (pair_sum (map (λ i. lowest_terms (q i)) is)).1 (pair_sum (map q is)).0
       (pair_sum (map q is)).1
       whole.positive (same-sum q (λ i. lowest_terms (q i)) (λ i. (lowest_terms-lowest (q i) (pos i)).same) is) whole.one;

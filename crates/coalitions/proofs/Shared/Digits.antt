@@ -2,11 +2,12 @@
 use Rattle.std.proofs.Common.{◌≡◌, ◌≢◌, ◌∙◌, ℕ, ◌+◌, ◌-◌, ◌*◌, ◌/◌, ◌%◌, ◌^◌, ◌<◌, ◌≤◌, ◌==◌, true, false, zero, suc, sym, ap, subst, arith, eq-eqb, inl, inr}
 use Rattle.std.specs.Int.{w64, trailing_zeros}
 use Rattle.std.specs.Int.Bits.{bit_and}
-use Rattle.std.proofs.lemmas.Nat.Bits.{bit_at-trailing_zeros, bit_at_above, bit_at_cat_low, bit_at_cat_high, bit_at-suc, bit_at-zero, bit_at_and, same_from_bits, same_from_bits_below}
+use Rattle.std.proofs.lemmas.Nat.Bits.{bit_at-lt, bit_at-trailing_zeros, bit_at_above, bit_at_cat_low, bit_at_cat_high, bit_at-suc, bit_at-zero, bit_at_and, same_from_bits, same_from_bits_below}
 use Rattle.std.proofs.lemmas.Nat.{pow_pos, pow-add, mul-le, div-mul-add, and_block, and_le_l, and_le_r}
 use Rattle.std.proofs.lemmas.Bool.{cases_lt, eqb-true, eqb-false}
 use Rattle.std.proofs.Math.Nat.{mod-lt, div-add-mod}
 use Rattle.std.proofs.Math.Pow.{pow_mono}
+use Rattle.std.proofs.lemmas.Bool.Decides.{nat_tests}
 use Rattle.coalitions.specs.Coalitions.{has, without}
 
 -- a number whose digit k is 1, with that digit and without
@@ -125,6 +126,14 @@ pub has-gone : (n q c : ℕ) → has n q c ≡ true → has n q (without n q c) 
 unfolding has without
 has-gone n q c in' = ap (λ (x : ℕ). x == 1) (digit-gone c (n - 1 - q) (eqb-true _ _ in'))
 
+-- coalitions with the same places are the same
+pub same-places : (n a c : ℕ) → a < 2 ^ n → c < 2 ^ n → ((p : ℕ) → p < n → has n p a ≡ has n p c) → a ≡ c
+unfolding has
+same-places n a c la lc same = same_from_bits_below n a c la lc (λ i lt.
+    (let place : n - 1 - (n - 1 - i) ≡ i = omega (arith, lt) in
+    let here = rw place at (same (n - 1 - i) (omega (arith, lt))) in
+    grind (arith, nat_tests, bit_at-lt a i, bit_at-lt c i)))
+
 pub has-none : (n p : ℕ) → has n p 0 ≡ false
 unfolding has
 has-none n p = ap (λ (x : ℕ). x == 1) (bit_at-zero (n - 1 - p))
@@ -142,13 +151,6 @@ lowest-place n c few pos below =
           (lt, eq-eqb (c / 2 ^ (n - 1 - (n - 1 - trailing_zeros w64 c)) % 2) 1 (ap (λ k. c / 2 ^ k % 2) place ∙ z.1))
       | inr le ↦ let none = bit_at_above c n (trailing_zeros w64 c) below le in absurd (omega (arith, none, z.1))
     ]
-
--- the same of a number that is equal to it
-pub next-place : (n rest mask : ℕ) → n ≤ 40 → mask ≡ rest → 0 < rest → rest < 2 ^ n → (trailing_zeros w64 mask < n)
-    × (has n (n - 1 - trailing_zeros w64 mask) rest ≡ true)
-next-place n rest mask few same pos below =
-    subst (λ (m : ℕ). (trailing_zeros w64 m < n) × (has n (n - 1 - trailing_zeros w64 m) rest ≡ true)) (sym same)
-    (lowest-place n rest few pos below)
 
 pub without-less : (n q c : ℕ) → 0 < c → without n q c < c
 unfolding without

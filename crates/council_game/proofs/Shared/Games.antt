@@ -7,7 +7,7 @@ use Rattle.std.proofs.lemmas.List.{length-map, get_or_default, get_or_past}
 use Rattle.std.proofs.lemmas.List.Elements.{recursion_from_All}
 use Rattle.std.proofs.lemmas.List.Sums.{sum_by-le, fails_before_first}
 use Rattle.std.proofs.lemmas.Bool.Decides.{nat_tests}
-use Rattle.std.proofs.lemmas.Bool.{cases_lt, or_parts, ltb-false, lt-ltb, le-ltb, cond-true}
+use Rattle.std.proofs.lemmas.Bool.{cases_lt, or_parts, lt-ltb, le-ltb, cond-true}
 use Rattle.council_game.specs.declared.fault.GameFault.TheVariants.{Title, Members, Name, SameName, Weight, QuotaRange}
 use Rattle.council_game.specs.Fault.{◌>>=◌, refuse, refuse_at}
 use Rattle.council_game.specs.Votes.{RuleView, IsRule, IsRanked, IsVotes}
@@ -118,10 +118,8 @@ none-any f (x ∷ xs) h = let parts = or_parts (f x) (list_any f xs) h in (parts
 light-rules : (n : ℕ) (rs : List RuleView) → ((i : ℕ) → i < n → is_heavy rs i ≡ false)
     → AllByRecursion (λ r. (i : ℕ) → i < n → get_or r.weights i 0 ≤ 1000000000000) rs
 light-rules n [] h = tt
-light-rules n (r ∷ rs) h = (
-  λ i lt. ltb-false _ _ (or_parts (ltb 1000000000000 (get_or r.weights i 0)) (is_heavy rs i) (h i lt)).0,
-  light-rules n rs (λ i lt. (or_parts (ltb 1000000000000 (get_or r.weights i 0)) (is_heavy rs i) (h i lt)).1),
-)
+light-rules n (r ∷ rs) h =
+    (λ i lt. (let own = h i lt in grind (arith, nat_tests)), light-rules n rs (λ i lt. (let own = h i lt in grind (arith, nat_tests))))
 
 pub light-weights : (g : GameView)
     → IsGame g → AllByRecursion (λ r. (i : ℕ) → i < length g.names → get_or r.weights i 0 ≤ 1000000000000) g.rules
@@ -141,14 +139,11 @@ rule-votes n first r few len len2 light quota =
     let found = ranking first in
     let same : sum (weights_at r.weights (members_by_rank (rank_places first))) ≡ sum r.weights =
     ranking-sum first found.0 r.weights found.1 (omega arith) in
-    let least = or_parts (ltb r.quota 1) (ltb (sum r.weights) r.quota) quota in
-    let one : 1 ≤ r.quota = ltb-false _ _ least.0 in
-    let most : r.quota ≤ sum r.weights = ltb-false _ _ least.1 in
     let bound = light-sum n r.weights len2 few light in
     record {
       full = length-weights_by_rank (rank_places first) r.weights ∙ length-rank_places first ∙ len;
-      some = one;
-      met = omega (arith, same);
+      some = grind (arith, nat_tests);
+      met = grind (arith, nat_tests);
       light = omega (arith, same);
     }
 
@@ -176,9 +171,8 @@ pub votes-are : (g : GameView) → IsGame g → IsVotes (votes_of g)
 votes-are g game =
     let p = passed g game.made in
     let n : ℕ = length g.names in
-    let sizes = or_parts (ltb (length g.names) 1) (ltb 40 (length g.names)) p.members in
-    let one : 1 ≤ length g.names = ltb-false _ _ sizes.0 in
-    let few : length g.names ≤ 40 = ltb-false _ _ sizes.1 in
+    let sizes = p.members in
+    let few : length g.names ≤ 40 = grind (arith, nat_tests) in
     let full = recursion_from_All (λ (r : RuleView). length r.weights ≡ length g.names) g.rules game.full in
     let light = light-weights g game in
     let quotas = none-any has_bad_quota g.rules p.quotas in
@@ -190,7 +184,7 @@ votes-are g game =
     let up : IsRanked (map (rule_by_rank g.ranks) g.rules) =
     subst (λ (ranks : List ℕ). IsRanked (map (rule_by_rank ranks) g.rules)) (sym p.ranks) (rules-ranked g.rules) in
     record {
-      some = one;
+      some = grind (arith, nat_tests);
       few = few;
       has_rule = omega (arith, count, game.has_rule);
       few_rules = omega (arith, count, game.few_rules);

@@ -1,5 +1,5 @@
 -- The list of minimal coalitions.
-use Rattle.std.proofs.Common.{◌≡◌, ◌≢◌, ℕ, zero, suc, ◌-◌, ◌*◌, ◌/◌, ◌%◌, ◌^◌, ◌<◌, ◌≤◌, Bool, true, false, not, leb, List, [], ◌∷◌, ◌++◌, length, sum, refl, sym, ap, ◌∙◌, arith}
+use Rattle.std.proofs.Common.{◌≡◌, ◌≢◌, ℕ, zero, suc, ◌-◌, ◌*◌, ◌/◌, ◌%◌, ◌^◌, ◌<◌, ◌≤◌, Bool, true, false, not, List, [], ◌∷◌, ◌++◌, length, sum, refl, sym, ap, ◌∙◌, arith}
 use Rattle.std.specs.List.{AllByRecursion, All, AllPairs, filter}
 use Rattle.std.proofs.lemmas.Nat.{pow_pos, one_shl}
 use Rattle.std.proofs.lemmas.Nat.Bits.{bit_at_ones}
@@ -9,40 +9,36 @@ use Rattle.std.proofs.lemmas.List.Elements.{All-cons, All-nil, All-weaker, All-f
 use Rattle.std.proofs.lemmas.List.Kept.{AllPairs-cons, AllPairs-filter}
 use Rattle.std.proofs.lemmas.List.Sums.{sum_by-cons}
 use Rattle.std.proofs.lemmas.List.Filters.{length-filter_both}
-use Rattle.std.proofs.lemmas.Bool.{and_parts, and_from, le-leb, leb-true, both_ways, cond-true, cond-false, cond_both}
+use Rattle.std.proofs.lemmas.Bool.{and_parts, both_ways, cond-true, cond-false}
+use Rattle.std.proofs.lemmas.Bool.Decides.{nat_tests}
 use Rattle.council_game.specs.Votes.{RuleView, Votes, IsRule, IsVotes, weight, wins, minimal, down, minimal_coalitions}
 use Rattle.council_game.specs.Shared.Below.{minimal_below}
 use Rattle.council_game.specs.Laws.{IsListing}
 use Rattle.council_game.proofs.Shared.WeightByDigits.{weight-nil, weight-cons}
 use Rattle.council_game.proofs.Shared.Weights.{weight-zero}
-use Rattle.council_game.proofs.Monotone.{minimal-below_winning}
+use Rattle.council_game.proofs.Shared.Subsets.{minimal-inside}
 
 -- a coalition that has all members weighs all
 weight-full : (ws : List ℕ) (c : ℕ) → ((i : ℕ) → i < length ws → c / 2 ^ i % 2 ≡ 1) → weight ws c ≡ sum ws
 weight-full [] c all = weight-nil c
 weight-full (w ∷ ws) c all =
-    let rest = weight-full ws c (λ i lt. all i (omega arith)) in
-    rw (weight-cons w ws c, all (length ws) (omega arith)) (omega (arith, rest, sum_by-cons (λ (y : ℕ). y) w ws))
+    grind (arith, weight-full ws c (λ i lt. all i (omega arith)), weight-cons w ws c, all (length ws) (omega arith), sum_by-cons (λ (y : ℕ). y) w ws)
 
 wins-full : (n : ℕ) (rs : List RuleView) → AllByRecursion (IsRule n) rs → wins rs (2 ^ n - 1) ≡ true
 unfolding wins
 wins-full n [] all = refl
 wins-full n (r ∷ rs) all =
     let full = weight-full r.weights (2 ^ n - 1) (λ i lt. bit_at_ones n i (omega (arith, all.0.full))) in
-    and_from (leb r.quota (weight r.weights (2 ^ n - 1))) (wins rs (2 ^ n - 1))
-    (le-leb r.quota (weight r.weights (2 ^ n - 1)) (omega (arith, full, all.0.met))) (wins-full n rs all.1)
+    let met = all.0.met in
+    grind (arith, nat_tests, wins-full n rs all.1)
 
 -- the empty coalition loses
 none-wins : (n : ℕ) (rs : List RuleView) → AllByRecursion (IsRule n) rs → 1 ≤ length rs → wins rs 0 ≡ true → ⊥
 unfolding wins
 none-wins n [] all some h = omega arith
-none-wins n (r ∷ rs) all some h =
-    let parts = and_parts (leb r.quota (weight r.weights 0)) (wins rs 0) h in
-    let quota : r.quota ≤ weight r.weights 0 = leb-true _ _ parts.0 in
-    let zero_is = weight-zero r.weights in
-    omega (arith, quota, zero_is, all.0.some)
+none-wins n (r ∷ rs) all some h = let pos = all.0.some in grind (arith, nat_tests, weight-zero r.weights)
 
-down-below : (n m : ℕ) → n ≤ m → All (λ c. c < m) (down n)
+pub down-below : (n m : ℕ) → n ≤ m → All (λ c. c < m) (down n)
 unfolding down
 down-below zero m le = All-nil (λ c. c < m)
 down-below (suc n) m le = All-cons (λ c. c < m) n (down n) (omega arith) (down-below n m (omega arith))
@@ -56,8 +52,9 @@ some-left : (p : ℕ → Bool) (n m : ℕ) → m < n → p m ≡ true → 0 < le
 unfolding down
 some-left p zero m lt h = absurd (omega arith)
 some-left p (suc n) m lt h =
-    cond_both (p n) (n ∷ filter p (down n)) (filter p (down n)) (λ l. 0 < length l) (λ is. omega arith)
-    (λ isnt. some-left p n m (let other : m ≢ n = λ same. both_ways _ isnt (ap p (sym same) ∙ h) in omega (arith, lt, other)) h)
+    let other : p n ≡ false → m ≡ n → ⊥ = λ out same. both_ways _ out (ap p (sym same) ∙ h) in
+    let rest = some-left p n m in
+    grind (arith, nat_tests)
 
 length-down : (n : ℕ) → length (down n) ≡ n
 unfolding down
@@ -68,7 +65,7 @@ pub listing-is : (v : Votes) → IsVotes v → IsListing v
 unfolding minimal_coalitions minimal
 listing-is v game =
     let pos : 0 < 2 ^ v.members = pow_pos v.members in
-    let found = minimal-below_winning v (2 ^ v.members) (2 ^ v.members - 1) (omega arith) (wins-full v.members v.rules game.rules) in
+    let found = minimal-inside v (2 ^ v.members) (2 ^ v.members - 1) (omega arith) (wins-full v.members v.rules game.rules) in
     record {
       some = some-left (minimal v) (2 ^ v.members) found.0 (omega (arith, found.1)) found.2;
       few = (let parts = length-filter_both (minimal v) (λ c. not (minimal v c)) (λ c. refl) (down (2 ^ v.members)) in let all =

@@ -87,10 +87,8 @@ capped : (rules : List Rule) → AllByRecursion (λ r. total r ≤ 4000000000000
     → map (λ r. min (sum r.weights.items) (2 ^ 64 - 1)) rules ≡ map total (rule_views rules)
 capped [] fit = refl
 capped (r ∷ rs) fit =
-    let here : min (sum r.weights.items) (2 ^ 64 - 1) ≡ sum r.weights.items =
-    (let f : sum r.weights.items ≤ 40000000000000 = fit.0 in omega arith) in
-    ap (λ (x : ℕ). x ∷ map (λ (q : Rule). min (sum q.weights.items) (2 ^ 64 - 1)) rs) here
-    ∙ ap (λ (l : List ℕ). sum r.weights.items ∷ l) (capped rs fit.1)
+    let f : sum r.weights.items ≤ 40000000000000 = fit.0 in
+    grind (arith, capped rs fit.1)
 
 pub totals-are : (g : GameView) (rules : List Rule) (ts : List ℕ) → IsGame g → g.rules ≡ rule_views rules
     → ts ≡ map (λ r. min (sum r.weights.items) (2 ^ 64 - 1)) rules → ts ≡ map total (rule_views rules)

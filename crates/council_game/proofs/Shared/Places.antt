@@ -1,9 +1,10 @@
 -- Tests of the places of a range that pass another test.
-use Rattle.std.proofs.Common.{◌≡◌, ℕ, suc, ◌<◌, Bool, true, false, not, ◌||◌, List, [], ◌∷◌, length, get_or, filter, refl, sym, ap, ◌∙◌, arith, inl, inr}
+use Rattle.std.proofs.Common.{◌≡◌, ℕ, suc, ◌<◌, Bool, true, false, not, ◌||◌, List, [], ◌∷◌, length, get_or, filter, refl, sym, ◌∙◌, arith, inl, inr}
 use Rattle.std.specs.List.{list_all, range_with_len}
-use Rattle.std.proofs.lemmas.Bool.{both_ways, cases_Bool, and_cases, not_from_true, not-false, or_cases, or_left, or_right, or_parts}
+use Rattle.std.proofs.lemmas.Bool.{and_cases, not-false, or_parts}
 use Rattle.std.proofs.lemmas.List.FromFn.{length-range_with_len}
 use Rattle.std.proofs.lemmas.List.Sums.{AllPass-from_list_all, list_all-from_AllPass}
+use Rattle.std.proofs.lemmas.Bool.Decides.{nat_tests}
 use Rattle.council_game.proofs.Shared.Rankings.{places-at}
 
 -- a place is out, or it passes
@@ -12,10 +13,7 @@ OutOrPasses in_it passes p = not (in_it p) || passes p
 
 list_all-filter : (in_it passes : ℕ → Bool) (ps : List ℕ) → list_all passes (filter in_it ps) ≡ list_all (OutOrPasses in_it passes) ps
 list_all-filter in_it passes [] = refl
-list_all-filter in_it passes (p ∷ ps) = elim (cases_Bool (in_it p)) [
-  | inl first ↦ rw (first, list_all-filter in_it passes ps) refl
-  | inr none ↦ rw (none, list_all-filter in_it passes ps) refl
-]
+list_all-filter in_it passes (p ∷ ps) = grind (arith, nat_tests, list_all-filter in_it passes ps)
 
 -- where each of those places passes, so does one of them
 pub each-place : (in_it passes : ℕ → Bool) (n p : ℕ) → list_all passes (filter in_it (range_with_len 0 n)) ≡ true → p < n → in_it p ≡ true
@@ -24,10 +22,7 @@ each-place in_it passes n p all below inside =
     let each = AllPass-from_list_all (OutOrPasses in_it passes) (range_with_len 0 n)
     (sym (list_all-filter in_it passes (range_with_len 0 n)) ∙ all) in
     let here = rw (places-at n p 0 below) at (each p 0 (let long = length-range_with_len 0 n in omega (arith, long, below))) in
-    elim (or_cases (not (in_it p)) (passes p) here) [
-      | inl out ↦ absurd (both_ways _ (not_from_true _ inside) out)
-      | inr passed ↦ passed
-    ]
+    grind (arith, nat_tests)
 
 -- the same the other way round
 pub all-places : (in_it passes : ℕ → Bool) (n : ℕ) → ((p : ℕ) → p < n → in_it p ≡ true → passes p ≡ true)
@@ -36,10 +31,8 @@ all-places in_it passes n each =
     list_all-filter in_it passes (range_with_len 0 n)
     ∙ list_all-from_AllPass (OutOrPasses in_it passes) (range_with_len 0 n) (λ p d lt.
     let below : p < n = (let long = length-range_with_len 0 n in omega (arith, long, lt)) in
-    rw (places-at n p d below) (elim (cases_Bool (in_it p)) [
-      | inl first ↦ or_right _ _ (each p below first)
-      | inr none ↦ or_left _ _ (ap not none)
-    ]))
+    let own = each p below in
+    rw (places-at n p d below) (grind (arith, nat_tests)))
 
 some-fails : (test : ℕ → Bool) (ps : List ℕ) → list_all test ps ≡ false → (k : ℕ) × (k < length ps) × (test (get_or ps k 0) ≡ false)
 some-fails test [] h = absurd (cc)

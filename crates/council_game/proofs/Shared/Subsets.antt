@@ -1,12 +1,14 @@
 -- No proper subset of a minimal coalition wins.
-use Rattle.std.proofs.Common.{◌≡◌, ℕ, ◌-◌, ◌/◌, ◌%◌, ◌^◌, ◌<◌, ◌≤◌, true, leb, List, [], ◌∷◌, refl, ap, ◌∙◌, arith, inl, inr}
-use Rattle.std.specs.List.{AllByRecursion}
+use Rattle.std.proofs.Common.{not, zero, suc, sym, ◌≡◌, ℕ, ◌-◌, ◌/◌, ◌%◌, ◌^◌, ◌<◌, ◌≤◌, true, List, [], ◌∷◌, refl, ap, ◌∙◌, arith, inl, inr}
+use Rattle.std.specs.List.{AllByRecursion, list_all}
 use Rattle.std.proofs.lemmas.Nat.Bits.{bit_at-lt, same_from_bits_below}
-use Rattle.std.proofs.lemmas.Bool.{and_parts, and_from, le-leb, leb-true, eqb-true, eq-eqb, cases_eq, false_from_ne_true, both_ways}
-use Rattle.council_game.specs.Votes.{RuleView, Votes, IsRule, IsVotes, has, without, weight, wins}
+use Rattle.std.proofs.lemmas.Bool.{and_from, cases_Bool, not-false, eq-eqb, cases_eq, false_from_ne_true, both_ways}
+use Rattle.std.proofs.lemmas.Bool.Decides.{nat_tests}
+use Rattle.council_game.specs.Votes.{RuleView, Votes, IsRule, IsVotes, has, without, wins, minimal, places_of}
 use Rattle.council_game.specs.Laws.{ProperSubsetsLose}
-use Rattle.coalitions.proofs.Shared.Digits.{digit-kept}
+use Rattle.coalitions.proofs.Shared.Digits.{digit-kept, has-kept, has-none, without-less}
 use Rattle.council_game.proofs.Monotone.{weight-mono}
+use Rattle.council_game.proofs.Shared.Places.{spare-place}
 use Rattle.council_game.proofs.Shared.Meanings.{needs-each-member}
 
 -- where a set wins, each set wins that has all its places
@@ -15,10 +17,9 @@ pub wins-mono : (n a c : ℕ) (rs : List RuleView) → AllByRecursion (IsRule n)
 unfolding wins
 wins-mono n a c [] all sub h = refl
 wins-mono n a c (r ∷ rs) all sub h =
-    let parts = and_parts (leb r.quota (weight r.weights a)) (wins rs a) h in
-    let quota : r.quota ≤ weight r.weights a = leb-true _ _ parts.0 in
     let more = weight-mono r.weights a c (λ i lt. sub i (omega (arith, all.0.full))) in
-    and_from (leb r.quota (weight r.weights c)) (wins rs c) (le-leb _ _ (omega (arith, quota, more))) (wins-mono n a c rs all.1 sub parts.1)
+    let rest = wins-mono n a c rs all.1 sub in
+    grind (arith, nat_tests)
 
 -- the digits of a subset are at most those of its set
 pub digits-less : (n a c : ℕ) → ((p : ℕ) → p < n → has n p a ≡ true → has n p c ≡ true) → (i : ℕ) → i < n → a / 2 ^ i % 2 ≤ c / 2 ^ i % 2
@@ -26,10 +27,7 @@ unfolding has
 digits-less n a c sub i below =
     let place : n - 1 - (n - 1 - i) ≡ i = omega arith in
     let inside = rw place at (sub (n - 1 - i) (omega arith)) in
-    elim (cases_eq (a / 2 ^ i % 2) 1) [
-      | inl one ↦ let one-c = eqb-true _ _ (inside (eq-eqb _ _ one)) in omega (arith, one, one-c)
-      | inr none ↦ omega (arith, bit_at-lt a i)
-    ]
+    grind (arith, nat_tests, bit_at-lt a i, bit_at-lt c i)
 
 -- a minimal coalition without a place loses, so that a subset that wins has each place of it
 pub subsets-lose : (v : Votes) → IsVotes v → ProperSubsetsLose v
@@ -53,3 +51,29 @@ subsets-lose v game a c la lc min sub =
             | inr apart ↦ let kept = digit-kept c i j inside apart in let l = less j lt in omega (arith, kept, l)
           ]) won))
     ])))
+
+-- a winning coalition has a minimal subset
+pub minimal-inside : (v : Votes) (fuel c : ℕ) → c < fuel → wins v.rules c ≡ true
+    → (m : ℕ) × (m ≤ c) × (minimal v m ≡ true) × ((p : ℕ) → p < v.members → has v.members p m ≡ true → has v.members p c ≡ true)
+unfolding minimal
+minimal-inside v zero c below won = absurd (omega arith)
+minimal-inside v (suc fuel) c below won =
+    elim (cases_Bool (list_all (λ p. not (wins v.rules (without v.members p c))) (places_of v.members c))) [
+      | inl needed ↦ (c, omega arith, and_from _ _ won needed, λ p lt inside. inside)
+      | inr not_needed ↦
+          let spare = spare-place (λ p. has v.members p c) (λ p. not (wins v.rules (without v.members p c))) v.members not_needed in
+          let inside = spare.2 in
+          let some : 0 < c = grind (arith, nat_tests, has-none v.members spare.0) in
+          let less : without v.members spare.0 c < c = without-less v.members spare.0 c some in
+          let deeper = minimal-inside v fuel (without v.members spare.0 c) (omega arith) (not-false _ spare.3) in (
+            deeper.0,
+            omega (arith, deeper.1),
+            deeper.2,
+            λ p lt in'. (let kept = has-kept v.members p spare.0 c lt spare.1 in
+                let here = deeper.3 p lt in' in
+                elim (cases_eq p spare.0) [
+                  | inl same ↦ ap (λ (k : ℕ). has v.members k c) same ∙ inside
+                  | inr other ↦ sym (kept other inside) ∙ here
+                ]),
+          )
+    ]

@@ -35,11 +35,8 @@ weight-cat (w ∷ ws) vs x r h =
 pub weight-le : (ws : List ℕ) (c : ℕ) → weight ws c ≤ sum ws
 weight-le [] c = omega (arith, weight-nil c)
 weight-le (w ∷ ws) c =
-    let d : c / 2 ^ length ws % 2 < 2 = bit_at-lt c (length ws) in
-    let t = weight-le ws c in
-    let m : c / 2 ^ length ws % 2 * w ≤ 1 * w = mul-le (c / 2 ^ length ws % 2) w 1 w (omega arith) (omega arith) in
-    let s : sum (w ∷ ws) ≡ w + sum ws = sum_by-cons (λ (y : ℕ). y) w ws in
-    omega (arith, m, t, s, weight-cons w ws c)
+    let d = mul-le (c / 2 ^ length ws % 2) w 1 w (let low = bit_at-lt c (length ws) in omega (arith, low)) (omega arith) in
+    omega (arith, d, weight-le ws c, sum_by-cons (λ (y : ℕ). y) w ws, weight-cons w ws c)
 
 pub weight-zero : (ws : List ℕ) → weight ws 0 ≡ 0
 weight-zero [] = weight-nil 0
@@ -83,12 +80,9 @@ weight-one_more : (ws : List ℕ) (a c k q : ℕ) → k + 1 + q ≡ length ws �
     → weight ws a + get_or ws q 0 ≡ weight ws c
 weight-one_more [] a c k q place out inside same = absurd (omega arith)
 weight-one_more (w ∷ vs) a c k zero place out inside same =
-    let top : length vs ≡ k = omega arith in
-    let rest = weight-same vs a c (λ i lt. same i (omega arith)) in
-    rw (weight-cons w vs a, weight-cons w vs c, top, out, inside) (omega (arith, rest))
+    grind (arith, weight-cons w vs a, weight-cons w vs c, weight-same vs a c (λ i lt. same i (omega arith)))
 weight-one_more (w ∷ vs) a c k (suc q) place out inside same =
-    let rest = weight-one_more vs a c k q (omega arith) out inside same in
-    rw (weight-cons w vs a, weight-cons w vs c, same (length vs) (omega arith)) (omega (arith, rest))
+    grind (arith, weight-cons w vs a, weight-cons w vs c, same (length vs) (omega arith), weight-one_more vs a c k q (omega arith) out inside same)
 
 -- a set without one of its places weighs less by that place's weight
 pub weight-without : (ws : List ℕ) (q c : ℕ) → q < length ws → c / 2 ^ (length ws - 1 - q) % 2 ≡ 1

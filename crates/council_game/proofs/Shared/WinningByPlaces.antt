@@ -1,12 +1,13 @@
 -- Whether a coalition wins, and is minimal, place by place and rule by rule.
-use Rattle.std.proofs.Common.{◌≡◌, ℕ, ◌+◌, ◌-◌, ◌*◌, ◌/◌, ◌%◌, ◌^◌, ◌<◌, ◌≤◌, true, false, leb, List, length, take, drop, get_or, sum, refl, sym, ap, subst, ◌∙◌, arith}
+use Rattle.std.proofs.Common.{◌≡◌, ℕ, ◌+◌, ◌-◌, ◌*◌, ◌/◌, ◌%◌, ◌^◌, ◌<◌, ◌≤◌, true, false, leb, List, [], length, take, drop, get_or, sum, refl, sym, ap, subst, ◌∙◌, arith}
 use Rattle.std.proofs.lemmas.List.Elements.{All-from_recursion}
 use Rattle.std.proofs.lemmas.List.Sums.{sum_by-take-drop, sum_by-drop_more}
 use Rattle.std.proofs.lemmas.Nat.{shr-shr}
-use Rattle.std.proofs.lemmas.Bool.{both_ways, and_from, and_left, le-leb, lt-leb, eq-eqb, eqb-true, false_from_ne_true}
+use Rattle.std.proofs.lemmas.Bool.{both_ways, and_left, false_from_ne_true}
 use Rattle.council_game.specs.Votes.{RuleView, Votes, IsRule, IsVotes, rule_at, has, without, weight, wins, minimal}
 use Rattle.std.proofs.lemmas.List.{length-map, get_or-map, get_or_read, take_all}
 use Rattle.std.proofs.lemmas.List.Folds.{list_all_at, list_all_more}
+use Rattle.std.proofs.lemmas.Bool.Decides.{nat_tests}
 use Rattle.council_game.specs.declared.rule.Rule.{Rule}
 use Rattle.council_game.specs.Rules.{rule_view, rule_views}
 use Rattle.council_game.specs.Inner.Weighing.{votes}
@@ -31,23 +32,12 @@ weight-next ws n m c p e long below =
 pub weight-in : (ws : List ℕ) (n m c p s t : ℕ) → m ≡ n → length ws ≡ n → p < n → s ≡ weight (take p ws) (c / 2 ^ (m - p))
     → has m p c ≡ true → t ≡ s + get_or ws p 0 → t ≡ weight (take (p + 1) ws) (c / 2 ^ (m - (p + 1)))
 unfolding has
-weight-in ws n m c p s t e long below is inside sums =
-    let odd = eqb-true _ _ inside in
-    let next = weight-next ws n m c p e long below in
-    let next' : weight (take (p + 1) ws) (c / 2 ^ (m - (p + 1))) ≡ weight (take p ws) (c / 2 ^ (m - p)) + 1 * get_or ws p 0 =
-    rw odd at next in
-    omega (arith, next', is, sums)
+weight-in ws n m c p s t e long below is inside sums = grind (arith, nat_tests, weight-next ws n m c p e long below)
 
 pub weight-out : (ws : List ℕ) (n m c p s t : ℕ) → m ≡ n → length ws ≡ n → p < n → s ≡ weight (take p ws) (c / 2 ^ (m - p))
     → has m p c ≡ false → t ≡ s → t ≡ weight (take (p + 1) ws) (c / 2 ^ (m - (p + 1)))
 unfolding has
-weight-out ws n m c p s t e long below is outside sums =
-    let next = weight-next ws n m c p e long below in
-    let not_one : c / 2 ^ (m - 1 - p) % 2 ≡ 1 → ⊥ = λ odd. both_ways _ outside (eq-eqb _ _ odd) in
-    let z : c / 2 ^ (m - 1 - p) % 2 ≡ 0 = omega (arith, not_one) in
-    let next' : weight (take (p + 1) ws) (c / 2 ^ (m - (p + 1))) ≡ weight (take p ws) (c / 2 ^ (m - p)) + 0 * get_or ws p 0 =
-    rw z at next in
-    omega (arith, next', is, sums)
+weight-out ws n m c p s t e long below is outside sums = grind (arith, nat_tests, weight-next ws n m c p e long below)
 
 pub rule-is : (v : Votes) (i : ℕ) → IsVotes v → i < length v.rules → IsRule v.members (rule_at v.rules i)
 rule-is v i game below = All-from_recursion (IsRule v.members) v.rules game.rules i _ below
@@ -62,8 +52,7 @@ partial-fits ws p x below =
 pub weight-all : (ws : List ℕ) (p c s : ℕ) → length ws ≤ p → s ≡ weight (take p ws) (c / 2 ^ (length ws - p)) → s ≡ weight ws c
 weight-all ws p c s le is =
     let none : length ws - p ≡ 0 = omega arith in
-    let whole : c / 2 ^ (length ws - p) ≡ c = ap (λ (i : ℕ). c / 2 ^ i) none ∙ (let z : c / 2 ^ 0 ≡ c = omega arith in z) in
-    is ∙ ap (λ (l : List ℕ). weight l (c / 2 ^ (length ws - p))) (take_all p ws le) ∙ ap (weight ws) whole
+    grind (arith, take_all p ws le)
 
 pub not-minimal : (v : Votes) (c p : ℕ) → p < v.members → has v.members p c ≡ true → wins v.rules (without v.members p c) ≡ true
     → minimal v c ≡ false
@@ -95,13 +84,9 @@ pub sum-without : (n : ℕ) (r : RuleView) (c p s : ℕ) → IsRule n r → p < 
     → s - get_or r.weights p 0 ≡ weight r.weights (without n p c)
 unfolding has without
 sum-without n r c p s is below inside sums =
-    let len : length r.weights ≡ n = is.full in
-    let digit : c / 2 ^ (length r.weights - 1 - p) % 2 ≡ 1 = ap (λ (m : ℕ). c / 2 ^ (m - 1 - p) % 2) len ∙ eqb-true _ _ inside in
-    let w : weight r.weights (c - 2 ^ (length r.weights - 1 - p)) + get_or r.weights p 0 ≡ weight r.weights c =
-    weight-without r.weights p c (omega arith) digit in
-    let moved : weight r.weights (c - 2 ^ (length r.weights - 1 - p)) ≡ weight r.weights (c - 2 ^ (n - 1 - p)) =
-    ap (λ (m : ℕ). weight r.weights (c - 2 ^ (m - 1 - p))) len in
-    omega (arith, w, moved, sums)
+    let len = is.full in
+    let less = weight-without r.weights p c in
+    grind (arith, nat_tests)
 
 -- the same of a rule as the code holds it
 pub less-at : (n : ℕ) (rules : List Rule) (r c p s x y : ℕ) (rule : Rule) → IsVotes (votes n rules) → r < length rules
@@ -121,19 +106,18 @@ pub lost-at : (rules : List Rule) (r c s : ℕ) (rule : Rule) → r < length rul
     → wins (rule_views rules) c ≡ false
 unfolding wins
 lost-at rules r c s rule below at is less =
-    let quota = ap (λ (v : RuleView). v.quota) (rule-at rules r rule below at) in
-    list_all_at (λ v. leb v.quota (weight v.weights c)) (rule_views rules) r _ (omega (arith, count-rules rules))
-    (lt-leb (rule_at (rule_views rules) r).quota (weight (rule_at (rule_views rules) r).weights c) (omega (arith, is, less, quota)))
+    let own = ap (λ (v : RuleView). v.quota) (rule-at rules r rule below at) in
+    list_all_at (λ v. leb v.quota (weight v.weights c)) (rule_views rules) r (record { quota = 0; weights = [] }) (omega (arith, count-rules rules))
+    (grind (arith, nat_tests))
 
 pub won-at : (rules : List Rule) (r c s : ℕ) (rule : Rule) → r < length rules → rule ≡ get_or rules r rule
     → s ≡ weight (rule_at (rule_views rules) r).weights c
     → wins (take r (rule_views rules)) c ≡ true → rule.quota ≤ s → wins (take (r + 1) (rule_views rules)) c ≡ true
 unfolding wins
 won-at rules r c s rule below at is won more =
-    let quota = ap (λ (v : RuleView). v.quota) (rule-at rules r rule below at) in
-    list_all_more (λ v. leb v.quota (weight v.weights c)) (rule_views rules) r _ (omega (arith, count-rules rules))
-    ∙ and_from _ _ won (le-leb (rule_at (rule_views rules) r).quota (weight (rule_at (rule_views rules) r).weights c)
-    (omega (arith, is, more, quota)))
+    let own = ap (λ (v : RuleView). v.quota) (rule-at rules r rule below at) in
+    list_all_more (λ v. leb v.quota (weight v.weights c)) (rule_views rules) r (record { quota = 0; weights = [] }) (omega (arith, count-rules rules))
+    ∙ grind (arith, nat_tests)
 
 pub wins-all : (rs : List RuleView) (i c : ℕ) → length rs ≤ i → wins (take i rs) c ≡ true → wins rs c ≡ true
 wins-all rs i c le won = ap (λ (l : List RuleView). wins l c) (sym (take_all i rs le)) ∙ won

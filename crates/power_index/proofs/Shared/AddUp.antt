@@ -25,7 +25,7 @@ over_one k q w each (i ∷ is) =
     step : (a b w t u s : ℕ) → a * k ≡ w * b → t * k ≡ s * u → (a * u + t * b) * k ≡ (w + s) * (b * u)
     step a b w t u s e ih = omega (arith, ap (λ v. v * u) e, ap (λ v. v * b) ih)
 
-all_pos : (q : ℕ → ℕ × ℕ) → ((i : ℕ) → 0 < (q i).1) → (is : List ℕ) → 0 < (pair_sum (map q is)).1
+pub all_pos : (q : ℕ → ℕ × ℕ) → ((i : ℕ) → 0 < (q i).1) → (is : List ℕ) → 0 < (pair_sum (map q is)).1
 all_pos q each [] = omega arith
 all_pos q each (i ∷ is) = mul-pos (each i) (all_pos q each is)
 

@@ -1,20 +1,19 @@
 -- The greatest common divisor by search is the one that Euclid's algorithm finds, and what it gives is in lowest terms.
-use Rattle.std.proofs.Common.{◌≡◌, ◌≢◌, ℕ, zero, suc, ◌/◌, ◌%◌, ◌<◌, ◌≤◌, ◌==◌, true, false, sym, ap, subst, arith}
+use Rattle.std.proofs.Common.{◌≡◌, ◌≢◌, ℕ, zero, suc, ◌/◌, ◌%◌, ◌<◌, ◌≤◌, true, false, sym, ap, subst, arith}
 use Rattle.std.specs.Int.{IsGcd, ◌∣◌}
 use Rattle.std.proofs.lemmas.Nat.Gcd.{IsGcd-from_zero, IsGcd-from_mod, le_from_IsGcd, le_of_dvd, dvd_of_mod-eq-zero, mod-eq-zero_of_dvd}
-use Rattle.std.proofs.lemmas.Bool.{cond_both, and_parts, and_from, eqb-true, eq-eqb, both_ways}
+use Rattle.std.proofs.lemmas.Bool.{cond_both, both_ways}
 use Rattle.std.proofs.Math.Nat.{mod-lt, one-dvd}
+use Rattle.std.proofs.lemmas.Bool.Decides.{nat_tests}
 use Rattle.power_index.specs.Fractions.{divides_both, common_divisor_up_to, greatest_common_divisor, lowest_terms, IsLowestOf, HasLowestTerms}
 use Rattle.power_index.proofs.Quotients.{gcd-pos, quotient-pos, same_fraction, coprime}
 use Rattle.power_index.proofs.Unique.{lowest-unique}
 
 from-test : (a b d : ℕ) → divides_both a b d ≡ true → (d ∣ a) × (d ∣ b)
-from-test a b d h =
-    let parts = and_parts (a % d == 0) (b % d == 0) h in
-    (dvd_of_mod-eq-zero d (eqb-true _ _ parts.0), dvd_of_mod-eq-zero d (eqb-true _ _ parts.1))
+from-test a b d h = (dvd_of_mod-eq-zero d (grind (arith, nat_tests)), dvd_of_mod-eq-zero d (grind (arith, nat_tests)))
 
 to-test : (a b d : ℕ) → d ∣ a → d ∣ b → divides_both a b d ≡ true
-to-test a b d da db = and_from (a % d == 0) (b % d == 0) (eq-eqb _ _ (mod-eq-zero_of_dvd d da)) (eq-eqb _ _ (mod-eq-zero_of_dvd d db))
+to-test a b d da db = let a0 = mod-eq-zero_of_dvd d da in let b0 = mod-eq-zero_of_dvd d db in grind (arith, nat_tests)
 
 -- what the search finds divides both
 found-divides : (a b n : ℕ) → (common_divisor_up_to a b n ∣ a) × (common_divisor_up_to a b n ∣ b)

@@ -1,19 +1,16 @@
 -- What a game's rank places give: the members of a coalition are as many as its places.
-use Rattle.std.proofs.Common.{◌≡◌, ◌∙◌, ◌==◌, ℕ, ◌+◌, ◌-◌, ◌/◌, ◌%◌, ◌^◌, ◌<◌, ◌≤◌, List, [], ◌∷◌, suc, length, get_or, map, cond, true, sym, ap, refl, arith, subst, inl, inr}
+use Rattle.std.proofs.Common.{◌≡◌, ◌∙◌, ◌==◌, ℕ, ◌-◌, ◌/◌, ◌%◌, ◌^◌, ◌<◌, ◌≤◌, List, [], ◌∷◌, suc, length, get_or, map, cond, true, sym, ap, arith, inl, inr}
 use Rattle.std.specs.List.{filter, sum_by, count_by, range_with_len, AllByRecursion}
-use Rattle.std.specs.List.Sorted.{IsPermutation}
 use Rattle.std.specs.Int.{w64, trailing_zeros}
 use Rattle.std.proofs.lemmas.List.Sums.{sum_by-cons, get_or-le-sum_by, length-filter}
-use Rattle.std.proofs.lemmas.List.Sorted.{sum_by-IsPermutation}
 use Rattle.std.proofs.lemmas.List.Elements.{All-map, All-weaker, filter_passes, recursion_from_All}
-use Rattle.std.proofs.lemmas.List.Folds.{fold-map}
-use Rattle.std.proofs.lemmas.List.FromFn.{fill_by_all, length-range_with_len, get_or-range_with_len}
+use Rattle.std.proofs.lemmas.List.FromFn.{length-range_with_len, get_or-range_with_len}
 use Rattle.std.proofs.lemmas.Bool.{cases_lt}
 use Rattle.council_game.specs.Votes.{has, size}
 use Rattle.council_game.specs.Game.{GameView, IsGame, AreNonemptyCoalitions}
 use Rattle.council_game.proofs.Shared.Games.{votes-are}
 use Rattle.council_game.proofs.Shared.Making.{ranks-are}
-use Rattle.council_game.proofs.Shared.RankPlaces.{game-rank_places}
+use Rattle.council_game.proofs.Shared.RankPlaces.{by-member, game-rank_places}
 use Rattle.power_index.specs.Counting.{members, contains, size_of, count_of_member}
 use Rattle.power_index.specs.Indices.{sizes_of_member}
 use Rattle.coalitions.proofs.Shared.Digits.{lowest-place}
@@ -25,12 +22,8 @@ few-members g is = (votes-are g is).few
 -- the members that a coalition contains are as many as its places
 pub members-of : (g : GameView) → IsGame g → (c : ℕ) → count_by (λ i. contains g i c) (members g) ≡ size_of g c
 members-of g is c =
-    let one : ℕ → ℕ = λ p. cond (has (length g.names) p c) 1 0 in
-    let rank : ℕ → ℕ = λ i. get_or g.ranks i 0 in
-    let same : g.ranks ≡ map rank (members g) = fill_by_all rank g.ranks (length g.names) 0 (ranks-are g is).count (λ k lt. refl) in
-    let permuted = subst (λ (n : ℕ). IsPermutation (range_with_len 0 n) g.ranks) (ranks-are g is).count (game-rank_places g is) in
-    sym (fold-map (λ (a : ℕ) (p : ℕ). a + one p) rank 0 (members g)) ∙ ap (sum_by one) (sym same)
-    ∙ sum_by-IsPermutation one (members g) g.ranks permuted ∙ sym (length-filter (λ p. has (length g.names) p c) (members g))
+    sym (by-member (length g.names) g.ranks (ranks-are g is).count (game-rank_places g is) (λ p. cond (has (length g.names) p c) 1 0))
+    ∙ sym (length-filter (λ p. has (length g.names) p c) (members g))
 
 pub size-le : (n c : ℕ) → size n c ≤ n
 size-le n c = omega (arith, length-filter-le (λ p. has n p c) (range_with_len 0 n), length-range_with_len 0 n)

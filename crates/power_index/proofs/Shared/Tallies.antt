@@ -1,10 +1,11 @@
 -- A tally of a list, one coalition more, two lists together, and what its sizes add up to.
-use Rattle.std.proofs.Common.{◌≡◌, ◌∙◌, ◌==◌, ◌&&◌, ℕ, ◌+◌, ◌*◌, ◌<◌, ◌≤◌, List, [], ◌∷◌, ◌++◌, length, get_or, set, cond, Bool, true, false, sym, ap, refl, arith, zero, suc, eq-eqb, get_or-set_same, get_or-set_other, length-set, length-append, replicate, inl, inr, subst}
+use Rattle.std.proofs.Common.{◌≡◌, ◌∙◌, ◌==◌, ◌&&◌, ℕ, ◌+◌, ◌*◌, ◌<◌, ◌≤◌, List, [], ◌∷◌, ◌++◌, length, get_or, set, cond, Bool, true, false, sym, ap, refl, arith, zero, suc, get_or-set_same, get_or-set_other, length-set, length-append, replicate, inl, inr, subst}
 use Rattle.std.specs.List.{filter}
 use Rattle.std.proofs.lemmas.List.Elements.{filter-append}
 use Rattle.std.proofs.lemmas.List.Recursion.{is_sum_by}
 use Rattle.std.proofs.lemmas.List.Sums.{sum_by_push, length-filter}
-use Rattle.std.proofs.lemmas.Bool.{cases_eq, ne_eqb}
+use Rattle.std.proofs.lemmas.Bool.{cases_eq}
+use Rattle.std.proofs.lemmas.Bool.Decides.{nat_tests}
 use Rattle.council_game.specs.Votes.{size}
 use Rattle.power_index.specs.declared.tally.Tally.{Tally}
 use Rattle.power_index.specs.Tables.{tally_total, IsTallyOf}
@@ -27,19 +28,8 @@ tallies-none n p t long sizes = record { long = long; sizes = λ s _. sizes s }
 -- one more at place k
 bumped : (xs : List ℕ) (k s : ℕ) → k < length xs → get_or (set xs k (get_or xs k 0 + 1)) s 0 ≡ get_or xs s 0 + cond (k == s) 1 0
 bumped xs k s lt = elim (cases_eq k s) [
-  | inl e ↦
-      let yes = ap {B = ℕ} (λ b. cond b 1 0) (eq-eqb k s e) in
-      omega (
-        arith,
-        yes,
-        ap (λ i. get_or (set xs k (get_or xs k 0 + 1)) i 0) e,
-        get_or-set_same xs k (get_or xs k 0 + 1) 0 lt,
-        ap
-            (λ i. get_or xs i 0) e,
-      )
-  | inr ne ↦
-      let no = ap {B = ℕ} (λ b. cond b 1 0) (ne_eqb k s ne) in
-      omega (arith, no, get_or-set_other xs k s (get_or xs k 0 + 1) 0 (λ (q : s ≡ k). ne (sym q)))
+  | inl e ↦ grind (arith, nat_tests, get_or-set_same xs k (get_or xs k 0 + 1) 0 lt)
+  | inr ne ↦ grind (arith, nat_tests, get_or-set_other xs k s (get_or xs k 0 + 1) 0 (λ (q : s ≡ k). ne (sym q)))
 ]
 
 -- one coalition more, which passes or not

@@ -1,5 +1,5 @@
-use Rattle.voting_laws.proofs.Masks.{same-members}
+use Rattle.coalitions.proofs.Shared.Digits.{same-places}
 use Rattle.voting_laws.proofs.membership.same_members_are_one_coalition.Goals as goal
 
 pub returns : goal.returns
-returns c = same-members
+returns c = same-places

@@ -22,11 +22,11 @@ pub returns-then-rules-eq0 : goal.returns-then-rules-eq0
 returns-then-rules-eq0 t c =
     let n : ℕ = c.args.self.now.members in
     let rs : List RuleView = c.args.self.now.rules in
-    counts-alike c.args.game.now c.in_ok-first.first c.in_ok-counts.counts.value c.members-members.ensures.game c.in_ok-first.ensures.game
+    counts-alike c.args.game.now c.in_ok-first.first c.members-members.ensures.game c.in_ok-first.ensures.game
     (all-of n rs (share n (rule_at rs 0)) c.args.game.now c.in_ok-first.first c.requires.game c.in_ok-first.ensures.names
     (c.in_ok-first.ensures.rules ∙ c.in_ok-chamber.ensures.rules)
     (ap (λ (l : List RuleView). length l) (sym c.in_ok-others.ensures.rules) ∙ sym c.rules.ensures ∙ c.if-rules-eq0.true))
-    c.in_ok-counts.ensures
+    c.in_ok-counts.counts.value c.in_ok-counts.ensures
 
 pub game-requires-2-clause-few : goal.game-requires-2-clause-few
 game-requires-2-clause-few t c =

@@ -1,0 +1,93 @@
+-- The minimal winning coalitions of a game hold the least sets of members that win.
+use Rattle.std.proofs.Common.{◌≡◌, ◌∙◌, ◌↔◌, ◌&&◌, ℕ, ◌*◌, ◌<◌, Bool, true, cond, leb, List, [], ◌∷◌, length}
+use Rattle.std.proofs.Common.{get_or, map, sym, ap, refl, subst, arith}
+use Rattle.std.specs.List.{sum_by, range_with_len}
+use Rattle.std.proofs.lemmas.Bool.{lt-ltb}
+use Rattle.std.proofs.lemmas.List.{length-map, get_or-map}
+use Rattle.std.proofs.lemmas.List.FromFn.{length-range_with_len}
+use Rattle.council_game.specs.Votes.{RuleView, Votes, has, wins, weight, minimal}
+use Rattle.council_game.specs.Ranks.{places, member_at, members_by_rank, rule_by_rank}
+use Rattle.council_game.specs.Game.{GameView, IsGame, votes_of}
+use Rattle.council_game.proofs.Shared.Making.{ranks-are}
+use Rattle.council_game.proofs.Shared.Meanings.{needs-each-member}
+use Rattle.council_game.proofs.Shared.RankPlaces.{game-rank_places}
+use Rattle.council_game.proofs.Shared.Rankings.{places-at, length-weights_by_rank}
+use Rattle.power_index.specs.Counting.{contains}
+use Rattle.power_index.proofs.Shared.Sums.{sum-filter, sum-range}
+use Rattle.mwc_sums.specs.Chambers.{weighs, met}
+use Rattle.mwc_sums.proofs.Matching.{Holds}
+use Rattle.mwc_sums.proofs.Seating.{IsLeast, IsMin, IsSeating, LooksAt, least-min, seen, seen-sum}
+
+-- ---- what a coalition weighs
+pub weight-sum : (ws : List ℕ) (c : ℕ) → weight ws c ≡ sum_by (λ p. cond (has (length ws) p c) 1 0 * get_or ws p 0) (range_with_len 0 (length ws))
+unfolding weight
+weight-sum ws c = sum-filter (λ p. get_or ws p 0) (λ p. has (length ws) p c) (range_with_len 0 (length ws))
+
+-- weights by place, and by member
+pub weight-seen : (n m : ℕ) (ranks : List ℕ) → IsSeating n m ranks → (r : RuleView) (ws : List ℕ) (c : ℕ) → length ws ≡ m
+    → ((p : ℕ) → p < m → get_or ws p 0 ≡ get_or r.weights (member_at ranks p) 0) → weight ws c ≡ weighs n r (seen m ranks c)
+weight-seen n m ranks is r ws c long at =
+    weight-sum ws c
+    ∙ (λ k. sum_by (λ p. cond (has (long k) p c) 1 0 * get_or ws p 0) (range_with_len 0 (long k)))
+    ∙ sum-range (λ p. cond (has m p c) 1 0 * get_or ws p 0) (λ p. cond (has m p c) 1 0 * get_or r.weights (member_at ranks p) 0) 0 m
+    (λ p _ lt. ap (λ (x : ℕ). cond (has m p c) 1 0 * x) (at p (omega (arith, lt))))
+    ∙ sym (seen-sum n m ranks is (λ i b. cond b 1 0 * get_or r.weights i 0) (λ i. omega arith) c)
+
+pub ranked-at : (ranks : List ℕ) (r : RuleView) (p : ℕ) → p < length ranks
+    → get_or (rule_by_rank ranks r).weights p 0 ≡ get_or r.weights (member_at ranks p) 0
+ranked-at ranks r p lt =
+    let long = length-range_with_len 0 (length ranks) in
+    let ordered = length-map (places ranks) (member_at ranks) in
+    get_or-map (λ m. get_or r.weights m 0) (members_by_rank ranks) p 0 0 (omega (arith, ordered, long, lt))
+    ∙ ap (λ (m : ℕ). get_or r.weights m 0)
+    (get_or-map (member_at ranks) (places ranks) p 0 0 (omega (arith, long, lt)) ∙ ap (member_at ranks) (places-at (length ranks) p 0 lt))
+
+-- ---- who meets rules
+pub weighs-same : (n : ℕ) (r : RuleView) (f h : ℕ → Bool)
+    → ((i : ℕ) → i < n → cond (f i) 1 0 * get_or r.weights i 0 ≡ cond (h i) 1 0 * get_or r.weights i 0) → weighs n r f ≡ weighs n r h
+weighs-same n r f h same =
+    sum-range (λ i. cond (f i) 1 0 * get_or r.weights i 0) (λ i. cond (h i) 1 0 * get_or r.weights i 0) 0 n
+    (λ i _ lt. same i (omega (arith, lt)))
+
+pub met-looks : (n : ℕ) (rs : List RuleView) → LooksAt n (met n rs)
+met-looks n [] f h same = refl
+met-looks n (r ∷ rs) f h same =
+    (λ k. leb r.quota (weighs-same n r f h
+    (λ i lt. ap (λ (b : Bool). cond b 1 0 * get_or r.weights i 0) (same i lt)) k) && met-looks n rs f h same k)
+
+pub minimal-min : (v : Votes) (c : ℕ) → (minimal v c ≡ true) ↔ IsMin v.members (wins v.rules) c
+minimal-min v c = (
+  λ min. (let parts = (needs-each-member v c).0 min in record { wins = parts.0; needs = parts.1 }),
+  λ min. (needs-each-member v c).1 (min.wins, min.needs),
+)
+
+-- ---- games
+module _ (g : GameView) (is : IsGame g) where
+  pub game-seats : IsSeating (length g.names) (length g.names) g.ranks
+  game-seats = record { few = omega arith; are = ranks-are g is; each = game-rank_places g is }
+
+  pub seen-contains : (c i : ℕ) → i < length g.names → seen (length g.names) g.ranks c i ≡ contains g i c
+  seen-contains c i lt = ap (λ (b : Bool). b && contains g i c) (lt-ltb (get_or g.ranks i 0) (length g.names) ((ranks-are g is).place_below i lt))
+
+  wins-each : (rs : List RuleView) (c : ℕ) → wins (map (rule_by_rank g.ranks) rs) c ≡ met (length g.names) rs (seen (length g.names) g.ranks c)
+  unfolding wins
+  wins-each [] c = refl
+  wins-each (r ∷ rs) c = (λ k. leb r.quota (weight-seen (length g.names) (length g.names) g.ranks game-seats r (rule_by_rank g.ranks r).weights c
+      (length-weights_by_rank g.ranks r.weights ∙ game-seats.are.count)
+      (λ p lt. ranked-at g.ranks r p (let e = game-seats.are.count in omega (arith, lt, e))) k) && wins-each rs c k)
+
+  -- a coalition is minimal exactly where its members are
+  pub game-least : (c : ℕ) → (minimal (votes_of g) c ≡ true) ↔ IsLeast (length g.names) (met (length g.names) g.rules) (seen (length g.names) g.ranks c)
+  game-least c =
+      let same : wins (votes_of g).rules ≡ (λ x. met (length g.names) g.rules (seen (length g.names) g.ranks x)) = λ k x. wins-each g.rules x k in
+      let set = least-min (length g.names) (length g.names) g.ranks game-seats (met (length g.names) g.rules) (met-looks (length g.names) g.rules) c in (
+        λ min. set.1 (subst (λ (w : ℕ → Bool). IsMin (length g.names) w c) same ((minimal-min (votes_of g) c).0 min)),
+        λ least. (minimal-min (votes_of g) c).1 (subst (λ (w : ℕ → Bool). IsMin (length g.names) w c) (sym same) (set.0 least)),
+      )
+
+  pub game-holds : (n : ℕ) → length g.names ≡ n → Holds n (met n g.rules) (length g.names) g.ranks (minimal (votes_of g))
+  game-holds n e = subst (λ (n : ℕ). Holds n (met n g.rules) (length g.names) g.ranks (minimal (votes_of g))) e (record {
+    seats = game-seats;
+    least = λ c _. game-least c;
+    inside = λ f least i lt in'. game-seats.are.place_below i lt;
+  })

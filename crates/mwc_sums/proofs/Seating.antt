@@ -1,0 +1,212 @@
+-- Coalitions of the first places of a ranking, and the sets of members that they hold.
+use Rattle.std.proofs.Common.{◌≡◌, ◌∙◌, ◌↔◌, ◌==◌, ◌&&◌, not, ℕ, zero, suc, ◌+◌, ◌-◌, ◌*◌, ◌/◌, ◌%◌, ◌^◌, ◌<◌, ◌≤◌, Bool, true, false, cond, eqb, ltb}
+use Rattle.std.proofs.Common.{List, get_or, map, sym, ap, subst, refl, arith, inl, inr}
+use native.Mathlib.Numerals.{unary_clauses}
+use Rattle.std.specs.List.{sum_by, range_with_len}
+use Rattle.std.specs.List.Sorted.{IsPermutation}
+use Rattle.std.proofs.lemmas.Bool.{cases_lt, cases_eq, and_parts, and_right, eqb-true, eqb-false, eq-eqb, false_from_ne_true, le-ltb, lt-ltb, ltb-true, ne_eqb}
+use Rattle.std.proofs.lemmas.List.FromFn.{fill_by_all}
+use Rattle.std.proofs.lemmas.List.Folds.{fold-map}
+use Rattle.std.proofs.lemmas.List.Sorted.{sum_by-IsPermutation}
+use Rattle.std.proofs.lemmas.List.Sums.{length-filter}
+use Rattle.std.proofs.lemmas.Nat.Bits.{bit_at-suc, same_from_bits_below}
+use Rattle.coalitions.proofs.Shared.Digits.{has-kept, has-gone}
+use Rattle.coalitions.proofs.Shared.Ranges.{sum_by-range-more}
+use Rattle.std.proofs.lemmas.Bool.Decides.{nat_tests}
+use Rattle.council_game.specs.Votes.{has, size, without}
+use Rattle.council_game.specs.Ranks.{AreRankPlaces, member_at}
+use Rattle.council_game.proofs.Shared.Making.{RanksAre}
+use Rattle.council_game.proofs.Shared.RankPlaces.{by-member}
+use Rattle.power_index.proofs.Shared.Sums.{sum-range}
+pub use Rattle.mwc_sums.specs.Inner.Seats.{seen}
+
+abbrev pub one_if : Bool → ℕ
+one_if b = cond b 1 0
+
+-- ---- the coalition of the places that pass a test
+mask_of : (ℕ → Bool) → ℕ → ℕ
+mask_of test zero = 0
+mask_of test (suc n) = 2 * mask_of test n + one_if (test n)
+
+mask-below : (test : ℕ → Bool) (n : ℕ) → mask_of test n < 2 ^ n
+unfolding mask_of
+mask-below test zero = omega arith
+mask-below test (suc n) =
+    let two : 2 ^ suc n ≡ 2 ^ n + 2 ^ n = simp unary_clauses (omega arith) in
+    omega (arith, mask-below test n, two, bit (test n))
+  where
+    bit : (b : Bool) → one_if b < 2
+    bit b = grind (arith, nat_tests)
+
+mask-has : (test : ℕ → Bool) (n p : ℕ) → p < n → has n p (mask_of test n) ≡ test p
+unfolding mask_of has
+mask-has test zero p lt = absurd (omega arith)
+mask-has test (suc n) p lt = elim (cases_lt p n) [
+  | inl less ↦
+      let place : suc n - 1 - p ≡ suc (n - 1 - p) = omega (arith, less) in
+      ap (λ (k : ℕ). (2 * mask_of test n + one_if (test n)) / 2 ^ k % 2 == 1) place
+      ∙ ap (λ (x : ℕ). x == 1) (bit_at-suc (2 * mask_of test n + one_if (test n)) (n - 1 - p))
+      ∙ ap (λ (x : ℕ). x / 2 ^ (n - 1 - p) % 2 == 1) (half (mask_of test n) (test n))
+      ∙ mask-has test n p less
+  | inr last ↦
+      let same : p ≡ n = omega (arith, lt, last) in
+      let place : suc n - 1 - p ≡ 0 = omega (arith, same) in
+      ap (λ (k : ℕ). (2 * mask_of test n + one_if (test n)) / 2 ^ k % 2 == 1) place
+      ∙ last-digit (mask_of test n) (test n) ∙ ap test (sym same)
+]
+  where
+    half : (m : ℕ) (b : Bool) → (2 * m + one_if b) / 2 ≡ m
+    half m b = grind (arith, nat_tests)
+
+    last-digit : (m : ℕ) (b : Bool) → ((2 * m + one_if b) / 2 ^ 0 % 2 == 1) ≡ b
+    last-digit m b = grind (arith, nat_tests)
+
+-- coalitions with the same places are the same
+same-places : (n c d : ℕ) → c < 2 ^ n → d < 2 ^ n → ((p : ℕ) → p < n → has n p c ≡ has n p d) → c ≡ d
+unfolding has
+same-places n c d lc ld same = same_from_bits_below n c d lc ld (λ i lt.
+    (let place : n - 1 - (n - 1 - i) ≡ i = omega (arith, lt) in
+    digits (c / 2 ^ i % 2) (d / 2 ^ i % 2) (omega arith) (omega arith) (rw place at (same (n - 1 - i) (omega (arith, lt))))))
+  where
+    digits : (a b : ℕ) → a < 2 → b < 2 → (a == 1) ≡ (b == 1) → a ≡ b
+    digits a b la lb e = grind (arith, nat_tests)
+
+-- ---- sets of members
+-- a set without one of its members
+abbrev pub less : (ℕ → Bool) → ℕ → ℕ → Bool
+less f i j = f j && not (eqb j i)
+
+pub less-same : (f : ℕ → Bool) (i j : ℕ) → (j ≡ i → ⊥) → less f i j ≡ f j
+less-same f i j other = grind (arith, nat_tests)
+
+pub less-alike : (f h : ℕ → Bool) (i j : ℕ) → f j ≡ h j → less f i j ≡ less h i j
+less-alike f h i j same = ap (λ (b : Bool). b && not (eqb j i)) same
+
+-- a test of sets takes one, and not without any one of its members
+pub record IsLeast (n : ℕ) (won : (ℕ → Bool) → Bool) (f : ℕ → Bool) : Type 0 where
+  pub wins : won f ≡ true
+  pub needs : (i : ℕ) → i < n → f i ≡ true → won (less f i) ≡ false
+
+-- a test of coalitions of n places takes one, and not without any one of its places
+pub record IsMin (n : ℕ) (won : ℕ → Bool) (c : ℕ) : Type 0 where
+  pub wins : won c ≡ true
+  pub needs : (p : ℕ) → p < n → has n p c ≡ true → won (without n p c) ≡ false
+
+-- a test of sets looks at n members
+abbrev pub LooksAt : ℕ → ((ℕ → Bool) → Bool) → Type 0
+LooksAt n won = (f h : ℕ → Bool) → ((i : ℕ) → i < n → f i ≡ h i) → won f ≡ won h
+
+pub least-same : (n : ℕ) (won : (ℕ → Bool) → Bool) (f h : ℕ → Bool) → LooksAt n won → ((i : ℕ) → i < n → f i ≡ h i) → IsLeast n won f
+    → IsLeast n won h
+least-same n won f h looks same least = record {
+  wins = sym (looks f h same) ∙ least.wins;
+  needs = λ i lt inside. sym (looks (less f i) (less h i) (λ j lj. less-alike f h i j (same j lj))) ∙ least.needs i lt (same i lt ∙ inside);
+}
+
+-- ---- n members, of whom the first m by rank have a place
+pub record IsSeating (n m : ℕ) (ranks : List ℕ) : Type 0 where
+  pub few : m ≤ n
+  pub are : RanksAre n ranks
+  pub each : AreRankPlaces ranks
+
+-- the coalition of a set
+pub as_mask : ℕ → List ℕ → (ℕ → Bool) → ℕ
+as_mask m ranks f = mask_of (λ p. f (member_at ranks p)) m
+
+pub mask-less : (m : ℕ) (ranks : List ℕ) (f : ℕ → Bool) → as_mask m ranks f < 2 ^ m
+unfolding as_mask
+mask-less m ranks f = mask-below (λ p. f (member_at ranks p)) m
+
+-- a sum whose last numbers are 0
+sum-cut : (f : ℕ → ℕ) (m n : ℕ) → m ≤ n → ((p : ℕ) → m ≤ p → p < n → f p ≡ 0) → sum_by f (range_with_len 0 n) ≡ sum_by f (range_with_len 0 m)
+sum-cut f m zero le none = ap (λ (k : ℕ). sum_by f (range_with_len 0 k)) (let e : 0 ≡ m = omega (arith, le) in e)
+sum-cut f m (suc n) le none = elim (cases_eq m (suc n)) [
+  | inl e ↦ ap (λ (k : ℕ). sum_by f (range_with_len 0 k)) (sym e)
+  | inr other ↦
+      let rest = sum-cut f m n (omega (arith, le, other)) (λ p from lt. none p from (omega (arith, lt))) in
+      let last = none n (omega (arith, le, other)) (omega arith) in
+      let more = sum_by-range-more f n in
+      let e = ap (λ (k : ℕ). sum_by f (range_with_len 0 k)) (let s : suc n ≡ n + 1 = omega arith in s) in
+      omega (arith, rest, last, more, e)
+]
+
+module _ (n m : ℕ) (ranks : List ℕ) (is : IsSeating n m ranks) where
+  pub seen-at : (c p : ℕ) → p < m → seen m ranks c (member_at ranks p) ≡ has m p c
+  seen-at c p lt = let back = is.are.place_back p (let few = is.few in omega (arith, lt, few)) in grind (arith, nat_tests)
+
+  pub mask-seen : (f : ℕ → Bool) → ((i : ℕ) → i < n → f i ≡ true → get_or ranks i 0 < m) → (i : ℕ) → i < n
+      → seen m ranks (as_mask m ranks f) i ≡ f i
+  unfolding as_mask
+  mask-seen f within i li =
+      let h = within i li in
+      let own : get_or ranks i 0 < m → has m (get_or ranks i 0) (mask_of (λ p. f (member_at ranks p)) m) ≡ f i = λ lt.
+      mask-has (λ p. f (member_at ranks p)) m (get_or ranks i 0) lt ∙ ap f (is.are.member_back i li) in
+      grind (arith, nat_tests)
+
+  pub mask-is : (f : ℕ → Bool) (c : ℕ) → c < 2 ^ m → ((i : ℕ) → i < n → seen m ranks c i ≡ f i) → c ≡ as_mask m ranks f
+  unfolding as_mask
+  mask-is f c below same = same-places m c (mask_of (λ p. f (member_at ranks p)) m) below (mask-below (λ p. f (member_at ranks p)) m) (λ p lt.
+      sym (seen-at c p lt) ∙ same (member_at ranks p) (is.are.member_below p (let few = is.few in omega (arith, lt, few)))
+      ∙ sym (mask-has (λ p. f (member_at ranks p)) m p lt))
+
+  seen-less : (c i j : ℕ) → i < n → j < n → seen m ranks c i ≡ true
+      → seen m ranks (without m (get_or ranks i 0) c) j ≡ less (seen m ranks c) i j
+  seen-less c i j li lj inside =
+      let parts = and_parts (ltb (get_or ranks i 0) m) (has m (get_or ranks i 0) c) inside in
+      let apart : get_or ranks j 0 ≡ get_or ranks i 0 → j ≡ i = λ e.
+      sym (is.are.member_back j lj) ∙ ap (member_at ranks) e ∙ is.are.member_back i li in
+      elim (cases_eq j i) [
+        | inl same ↦ let e = ap (λ (k : ℕ). get_or ranks k 0) same in grind (arith, nat_tests, has-gone m (get_or ranks i 0) c parts.1)
+        | inr other ↦ grind (arith, nat_tests, has-kept m (get_or ranks j 0) (get_or ranks i 0) c)
+      ]
+
+  -- a sum over the members, by place
+  pub seen-sum : (t : ℕ → Bool → ℕ) → ((i : ℕ) → t i false ≡ 0) → (c : ℕ)
+      → sum_by (λ i. t i (seen m ranks c i)) (range_with_len 0 n) ≡ sum_by (λ p. t (member_at ranks p) (has m p c)) (range_with_len 0 m)
+  seen-sum t none c =
+      let own : ℕ → ℕ = λ p. t (member_at ranks p) (seen m ranks c (member_at ranks p)) in
+      sum-range (λ i. t i (seen m ranks c i)) (λ i. own (get_or ranks i 0)) 0 n
+      (λ i _ lt. ap (λ (j : ℕ). t j (seen m ranks c j)) (sym (is.are.member_back i (omega (arith, lt)))))
+      ∙ sym (by-member n ranks is.are.count is.each own)
+      ∙ sum-cut own m n is.few (λ p from lt.
+      ap (λ (b : Bool). t (member_at ranks p) b) (unseen p from lt) ∙ none (member_at ranks p))
+      ∙ sum-range own (λ p. t (member_at ranks p) (has m p c)) 0 m
+      (λ p _ lt. ap (λ (b : Bool). t (member_at ranks p) b) (seen-at c p (omega (arith, lt))))
+    where
+      unseen : (p : ℕ) → m ≤ p → p < n → seen m ranks c (member_at ranks p) ≡ false
+      unseen p from lt =
+          let back = is.are.place_back p lt in
+          ap (λ (b : Bool). b && has m (get_or ranks (member_at ranks p) 0) c) (le-ltb _ m (omega (arith, from, back)))
+
+  pub seen-size : (c : ℕ) → sum_by (λ i. one_if (seen m ranks c i)) (range_with_len 0 n) ≡ size m c
+  seen-size c = seen-sum (λ i b. one_if b) (λ i. refl) c ∙ sym (length-filter (λ p. has m p c) (range_with_len 0 m))
+
+  -- a coalition is minimal where its set is
+  pub least-min : (won : (ℕ → Bool) → Bool) → LooksAt n won → (c : ℕ) → IsLeast n won (seen m ranks c) ↔ IsMin m (λ x. won (seen m ranks x)) c
+  least-min won looks c = (
+    λ least. record {
+      wins = least.wins;
+      needs = λ p lt inside.
+          (let below : p < n = (let few = is.few in omega (arith, lt, few)) in
+          let in' = seen-at c p lt ∙ inside in
+          let li = is.are.member_below p below in
+          ap (λ (q : ℕ). won (seen m ranks (without m q c))) (sym (is.are.place_back p below))
+          ∙ looks _ _ (λ j lj. seen-less c (member_at ranks p) j li lj in')
+          ∙ least.needs (member_at ranks p) li in');
+    },
+    λ min. record {
+      wins = min.wins;
+      needs = λ i lt inside.
+          (let parts = and_parts (ltb (get_or ranks i 0) m) (has m (get_or ranks i 0) c) inside in
+          sym (looks _ _ (λ j lj. seen-less c i j lt lj inside)) ∙ min.needs (get_or ranks i 0) (ltb-true _ _ parts.0) parts.1);
+    },
+  )
+
+-- the same set of two rankings has one size
+pub alike-size : (n a b : ℕ) (ra rb : List ℕ) → IsSeating n a ra → IsSeating n b rb → (c x : ℕ)
+    → ((i : ℕ) → i < n → seen a ra c i ≡ seen b rb x i) → size a c ≡ size b x
+alike-size n a b ra rb is_a is_b c x alike =
+    sym (seen-size n a ra is_a c)
+    ∙ sum-range (λ i. one_if (seen a ra c i)) (λ i. one_if (seen b rb x i)) 0 n
+    (λ i _ lt. ap (λ (d : Bool). one_if d) (alike i (omega (arith, lt))))
+    ∙ seen-size n b rb is_b x
