@@ -1,6 +1,6 @@
 -- Pairs of sets of two lists that meet a quota, by the members of the one.
-use Rattle.std.proofs.Common.{◌≡◌, ◌∙◌, ◌⊎◌, ℕ, ◌+◌, ◌-◌, ◌/◌, ◌%◌, ◌==◌, ◌<◌, ◌≤◌, ◌^◌, cond, eqb, leb, List, []}
-use Rattle.std.proofs.Common.{length, get_or, take, min, sym, ap, arith, inl, inr}
+use Rattle.std.proofs.Common.{◌≡◌, ◌∙◌, ◌⊎◌, ℕ, ◌+◌, ◌-◌, ◌/◌, ◌%◌, ◌==◌, ◌<◌, ◌≤◌, ◌^◌, Bool, cond, eqb, leb, List, []}
+use Rattle.std.proofs.Common.{length, get_or, take, min, sym, ap, refl, arith, inl, inr}
 use Rattle.std.specs.List.{All, sum_by}
 use Rattle.std.proofs.lemmas.Bool.{cases_lt}
 use Rattle.std.proofs.lemmas.List.{get_or_default, take_all, length-take}
@@ -18,7 +18,7 @@ use Rattle.weight_sums.specs.Inner.Fitting.{AreEntered, AreOfNeed, Meet}
 use Rattle.weight_sums.specs.Inner.Tables.{AreOfKeys}
 use Rattle.weight_sums.specs.Inner.Groups.{low_of, high_of, AreGroups}
 use Rattle.weight_sums.proofs.SetLaws.{sum-same}
-use Rattle.weight_sums.proofs.FittingSets.{added, fits-few, sum-alike}
+use Rattle.weight_sums.proofs.FittingSets.{added, fits-few, sum-alike, cond-most}
 use Rattle.weight_sums.proofs.TableSums.{of-more, of-few, of-same}
 
 -- ---- the sets of a list, one after another
@@ -92,6 +92,20 @@ module _ (q digits : ℕ) (xs ys : List Set) (n : ℕ) (lows highs : List (List 
             let b = ap (λ (y : Set). y.weight) (get_or_default xs n d e lt) in
             omega (arith, c, b, is));
       }
+
+  -- a set with which none of the others meets the quota
+  pub paired-further : (need : ℕ) (d : Set) (u : Fitting) → need ≡ q - (get_or xs n d).weight → AreOfNeed need ys u → AreEntered ys u
+      → Meet need u.outside ys → ((s : ℕ) → get_or u.here s 0 ≡ 0) → Paired q digits xs ys (n + 1) lows highs u
+  paired-further need d u is are entered meet none =
+      paired-more need (low_of digits (get_or xs n d)) (high_of digits (get_or xs n d)) d u lows highs is refl refl are entered meet refl refl
+      (λ k s small. same (eqb k (low_of digits (get_or xs n d))) s (get_or (get_or lows k []) s 0))
+      (λ k s small. same (eqb k (high_of digits (get_or xs n d))) s (get_or (get_or highs k []) s 0))
+    where
+      same : (b : Bool) (s m : ℕ) → m ≡ m + cond b (cond (leb (get_or xs n d).size s) (get_or u.here (s - (get_or xs n d).size) 0) 0) 0
+      same b s m =
+          let z = cond-most b _ 0 (cond-most (leb (get_or xs n d).size s) (get_or u.here (s - (get_or xs n d).size) 0) 0
+          (let e = none (s - (get_or xs n d).size) in omega (arith, e))) in
+          omega (arith, z)
 
 pub paired-all : (q : ℕ) (xs ys all others : List Set) (n : ℕ) (t : Fitting) (g : Groups)
     → Paired q g.digits xs ys n g.low.rows.items g.high.rows.items t → length xs ≤ n → g.digits ≤ 10

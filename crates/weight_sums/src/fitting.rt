@@ -1,5 +1,5 @@
 //! The sets of a list that meet a need, by size.
-ghost use Rattle.std.specs.Prelude.{◌≡◌, ℕ, ◌+◌, ◌-◌, ◌<◌, ◌≤◌, ◌^◌, if◌then◌else◌, nat_le, length, slice_index};
+ghost use Rattle.std.specs.Prelude.{◌≡◌, ℕ, ◌+◌, ◌-◌, ◌<◌, ◌≤◌, ◌^◌, if◌then◌else◌, nat_le, IsFalse, length, slice_index};
 ghost use Rattle.coalitions.specs.declared.limits.TheConstants.{MEMBERS};
 ghost use Rattle.weight_sums.specs.Endings.{one_of_size};
 ghost use Rattle.weight_sums.specs.Inner.Sets.{IsHalf};
@@ -56,6 +56,14 @@ impl Fitting {
             self.outside -= 1;
             self.enter(&sets[self.outside]);
         }
+    }
+
+    /// Whether there are any.
+    pub(crate) fn is_any(&self, sets: &[Set]) -> bool
+        requires { AreEntered sets.now self.now }
+        ensures { IsFalse result → (s : ℕ) → slice_index self.now.here s ≡ 0 }
+    {
+        self.outside < sets.len()
     }
 
     /// Counts them, by size, where so many members are in front of them.
