@@ -1,4 +1,4 @@
-pub mod Shared
+mod EndingLaws
 mod Taking
 mod Passing
 mod Members

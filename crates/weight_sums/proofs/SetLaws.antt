@@ -1,14 +1,14 @@
 -- Sets of some members: with one member more, without one, and of members in two halves.
-use Rattle.std.proofs.Common.{◌≡◌, ◌∙◌, ◌⊎◌, ℕ, zero, suc, ◌+◌, ◌-◌, ◌*◌, ◌/◌, ◌%◌, ◌==◌, ◌&&◌, ◌<◌, ◌≤◌, ◌^◌, Bool, true, false, cond, eqb, leb, ltb, List, [], ◌∷◌, ◌++◌}
+use Rattle.std.proofs.Common.{◌≡◌, ◌∙◌, ◌⊎◌, ℕ, zero, suc, ◌+◌, ◌-◌, ◌*◌, ◌/◌, ◌%◌, ◌==◌, ◌&&◌, ◌<◌, ◌≤◌, ◌^◌, Bool, true, false, cond, eqb, leb, List, [], ◌∷◌, ◌++◌}
 use Rattle.std.proofs.Common.{length, map, sym, ap, refl, arith, inl, inr}
-use Rattle.std.proofs.lemmas.Bool.{cases_lt, le-leb, lt-leb, lt-ltb, cond-true, cond-false}
+use Rattle.std.proofs.lemmas.Bool.{cases_lt, le-leb, lt-leb, cond-true, cond-false}
 use Rattle.std.proofs.lemmas.List.Sums.{sum_by-cons, sum_by-append}
 use Rattle.std.proofs.lemmas.Nat.Bits.{bit_at-suc, bit_at-zero, bit_at_lowest}
 use Rattle.std.specs.List.{sum_by}
 use Rattle.weight_sums.specs.declared.sets.Set.{Set}
 use Rattle.weight_sums.specs.Endings.{one_of_size, fill, endings, left_out}
 use Rattle.weight_sums.specs.Inner.Sets.{nobody, alone, left, joined, chosen, sets_of, lost_of, has, fits, met}
-use Rattle.weight_sums.proofs.Shared.EndingLaws.{meetings, endings-few, endings-more, endings-heads, endings-plain}
+use Rattle.weight_sums.proofs.EndingLaws.{meetings, endings-few, endings-more, endings-heads, no-heads}
 
 -- ---- sums over sets
 pub sum-same : (f g : Set → ℕ) (xs : List Set) → ((x : Set) → f x ≡ g x) → sum_by f xs ≡ sum_by g xs
@@ -92,9 +92,6 @@ all-but-one s (w ∷ ws) k =
     let f = fits-alone 0 k s in
     omega (arith, a, b, c, e, f, all-but-one s ws k, all-but-one s ws (k + 1))
 
-no-heads : (s n size : ℕ) → fill 0 s n (size + 1) ≡ one_of_size s (size + 1)
-no-heads s n size = cond-true (ltb 0 (size + 1)) _ _ (lt-ltb 0 (size + 1) (omega arith))
-
 -- what meets a need is what the members lead to, and what meets it without its last member
 endings-law : (s : ℕ) (ws : List ℕ) (d k : ℕ) → 0 < d
     → endings ws 0 s d k + sum_by (fits d k s) (lost_of ws) ≡ sum_by (fits d k s) (sets_of ws)
@@ -153,7 +150,7 @@ pub endings-counted : (ws : List ℕ) (heads s q : ℕ) → 0 < q → AreCounted
 endings-counted ws heads s q some = record {
   fewer = endings-few ws heads s q 0;
   just = λ same. ap (λ (h : ℕ). endings ws h s q 0) (sym same) ∙ endings-heads ws s q 0 some ∙ meetings-sets s ws q 0;
-  more = λ above. ap (λ (n : ℕ). n + sum_by (fits q 0 s) (lost_of ws)) (endings-more ws heads s q 0 above ∙ sym (endings-plain ws s q 0))
+  more = λ above. ap (λ (n : ℕ). n + sum_by (fits q 0 s) (lost_of ws)) (endings-more ws heads s q 0 above)
       ∙ endings-law s ws q 0 some;
 }
 

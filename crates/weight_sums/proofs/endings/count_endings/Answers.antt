@@ -1,4 +1,4 @@
-use Rattle.weight_sums.proofs.Shared.EndingLaws.{endings-less}
+use Rattle.weight_sums.proofs.EndingLaws.{endings-less}
 use Rattle.weight_sums.proofs.endings.count_endings.Goals as goal
 
 pub by_sums-requires-clause-less : goal.by_sums-requires-clause-less

@@ -1,6 +1,6 @@
 use Rattle.std.proofs.Common.{◌≡◌, ◌∙◌, ◌-◌, ◌≤◌, ℕ, List, get_or, length, ap, refl, arith}
 use Rattle.weight_sums.specs.Endings.{endings, left_out}
-use Rattle.weight_sums.proofs.Shared.EndingLaws.{past-end}
+use Rattle.weight_sums.proofs.EndingLaws.{past-end}
 use Rattle.weight_sums.proofs.Members.{member-tallied}
 use Rattle.weight_sums.proofs.HalfSums.{tallied-more}
 use Rattle.weight_sums.proofs.halves.by_halves.Goals as goal

@@ -2,17 +2,12 @@
 use Rattle.std.proofs.Common.{◌≡◌, ◌∙◌, ℕ, zero, suc, ◌+◌, ◌-◌, ◌*◌, ◌<◌, ◌≤◌, ◌==◌, ◌&&◌, ◌⊎◌, Bool, true, false, cond, leb, ltb}
 use Rattle.std.proofs.Common.{List, [], ◌∷◌, length, sym, ap, refl, arith, inl, inr, eq-eqb}
 use Rattle.std.proofs.lemmas.Bool.{cases_lt, cases_eq, ne_eqb, lt-leb, le-leb, lt-ltb, le-ltb, cond-true, cond-false}
-use Rattle.weight_sums.specs.Endings.{choose, one_of_size, taken, fill, endings, left_out}
+use Rattle.weight_sums.specs.Endings.{choose, one_of_size, fill, endings, left_out}
 
 -- how many coalitions of size s meet a need, from a size
 unfoldable pub meetings : List ℕ → ℕ → ℕ → ℕ → ℕ
 meetings [] s r a = cond (leb r 0 && (a == s)) 1 0
 meetings (w ∷ ws) s r a = meetings ws s (r - w) (a + 1) + meetings ws s r a
-
--- in how many ways members with these weights complete a need, to coalitions of size s
-unfoldable pub closings : List ℕ → ℕ → ℕ → ℕ → ℕ
-closings [] s r a = 0
-closings (w ∷ ws) s r a = taken w (one_of_size s) (closings ws s) r a + closings ws s r a
 
 -- ---- what meets the quota is filled up in any way
 unfoldable pub chosen_from : ℕ → ℕ → ℕ → ℕ
@@ -125,6 +120,10 @@ fill-more h s left size more = fill-other h s left size (λ e. omega (arith, mor
     by_order (inr most) = cond-false (ltb h size) (one_of_size s size) 0 (le-ltb h size most)
         ∙ sym (ap {B = ℕ} (λ b. cond b 1 0) (ne_eqb size s (λ e. omega (arith, more, most, e))))
 
+-- no heads are asked for
+pub no-heads : (s left size : ℕ) → fill 0 s left (size + 1) ≡ one_of_size s (size + 1)
+no-heads s left size = cond-true (ltb 0 (size + 1)) _ _ (lt-ltb 0 (size + 1) (omega arith))
+
 pub endings-few : (ws : List ℕ) (h s r a : ℕ) → s < h → endings ws h s r a ≡ 0
 unfolding endings
 endings-few [] h s r a less = refl
@@ -137,12 +136,14 @@ endings-few (w ∷ ws) h s r a less =
     both true x y p q = p
     both false x y p q = q
 
-pub endings-more : (ws : List ℕ) (h s r a : ℕ) → h < s → endings ws h s r a ≡ closings ws s r a
-unfolding endings closings
+-- of more than are asked for as many as of any, where none are asked for
+pub endings-more : (ws : List ℕ) (h s r a : ℕ) → h < s → endings ws h s r a ≡ endings ws 0 s r a
+unfolding endings
 endings-more [] h s r a more = refl
 endings-more (w ∷ ws) h s r a more =
-    let first = both (leb r w) (fill h s (length ws) (a + 1)) (endings ws h s (r - w) (a + 1)) (one_of_size s (a + 1))
-    (closings ws s (r - w) (a + 1)) (fill-more h s (length ws) (a + 1) more) (endings-more ws h s (r - w) (a + 1) more) in
+    let f = fill-more h s (length ws) (a + 1) more ∙ sym (no-heads s (length ws) a) in
+    let first = both (leb r w) (fill h s (length ws) (a + 1)) (endings ws h s (r - w) (a + 1)) (fill 0 s (length ws) (a + 1))
+    (endings ws 0 s (r - w) (a + 1)) f (endings-more ws h s (r - w) (a + 1) more) in
     omega (arith, first, endings-more ws h s r a more)
   where
     both : (b : Bool) (x y u v : ℕ) → x ≡ u → y ≡ v → cond b x y ≡ cond b u v
@@ -166,19 +167,6 @@ endings-heads (w ∷ ws) h r a pos = omega (
         let z : r - w ≡ 0 = omega (arith, most) in
         cond-true (leb r w) (fill h h (length ws) (a + 1)) (endings ws h h (r - w) (a + 1)) (le-leb r w most)
         ∙ fill-heads h (length ws) (a + 1) ∙ sym (meetings-free ws h (a + 1)) ∙ ap (λ (k : ℕ). meetings ws h k (a + 1)) (sym z)
-
--- no heads are asked for
-pub endings-plain : (ws : List ℕ) (s r a : ℕ) → endings ws 0 s r a ≡ closings ws s r a
-unfolding endings closings
-endings-plain [] s r a = refl
-endings-plain (w ∷ ws) s r a =
-    let f : fill 0 s (length ws) (a + 1) ≡ one_of_size s (a + 1) = cond-true (ltb 0 (a + 1)) _ _ (lt-ltb 0 (a + 1) (omega arith)) in
-    let first = both (leb r w) _ _ _ _ f (endings-plain ws s (r - w) (a + 1)) in
-    omega (arith, first, endings-plain ws s r a)
-  where
-    both : (b : Bool) (x y u v : ℕ) → x ≡ u → y ≡ v → cond b x y ≡ cond b u v
-    both true x y u v p q = p
-    both false x y u v p q = q
 
 -- ---- without a member there are no more
 choose-more : (m k : ℕ) → choose m k ≤ choose (suc m) k
