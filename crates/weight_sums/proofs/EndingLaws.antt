@@ -1,13 +1,11 @@
--- What members lead to, by size: fewer than are asked for, as many, more; and without a member.
-use Rattle.std.proofs.Common.{◌≡◌, ◌∙◌, ℕ, zero, suc, ◌+◌, ◌-◌, ◌*◌, ◌<◌, ◌≤◌, ◌==◌, ◌&&◌, ◌⊎◌, Bool, true, false, cond, leb, ltb}
+-- What members lead to, by size: fewer than are asked for, as many, more; by their sets; and without a member.
+use Rattle.std.proofs.Common.{◌≡◌, ◌∙◌, ℕ, zero, suc, ◌+◌, ◌-◌, ◌*◌, ◌<◌, ◌≤◌, ◌==◌, ◌⊎◌, Bool, true, false, cond, leb, ltb}
 use Rattle.std.proofs.Common.{List, [], ◌∷◌, length, sym, ap, refl, arith, inl, inr, eq-eqb}
+use Rattle.std.specs.List.{sum_by}
 use Rattle.std.proofs.lemmas.Bool.{cases_lt, cases_eq, ne_eqb, lt-leb, le-leb, lt-ltb, le-ltb, cond-true, cond-false}
 use Rattle.weight_sums.specs.Endings.{choose, one_of_size, fill, endings, left_out}
-
--- how many coalitions of size s meet a need, from a size
-unfoldable pub meetings : List ℕ → ℕ → ℕ → ℕ → ℕ
-meetings [] s r a = cond (leb r 0 && (a == s)) 1 0
-meetings (w ∷ ws) s r a = meetings ws s (r - w) (a + 1) + meetings ws s r a
+use Rattle.weight_sums.specs.Inner.Sets.{nobody, alone, sets_of, lost_of, fits}
+use Rattle.weight_sums.proofs.SetLaws.{sum-one, chosen-none, fits-more}
 
 -- ---- what meets the quota is filled up in any way
 unfoldable pub chosen_from : ℕ → ℕ → ℕ → ℕ
@@ -51,36 +49,34 @@ chosen-more m a s = by_order (cases_lt a s)
     ]
 
 -- with no need left, any of the others fill it up
-meetings-free : (ws : List ℕ) (s a : ℕ) → meetings ws s 0 a ≡ chosen_from (length ws) a s
-unfolding meetings chosen_from choose
-meetings-free [] s a = base (cases_eq a s)
+sets-free : (ws : List ℕ) (s a : ℕ) → sum_by (fits 0 a s) (sets_of ws) ≡ chosen_from (length ws) a s
+unfolding chosen_from choose
+sets-free [] s a =
+    chosen-none (fits 0 a s) (nobody ∷ []) [] ∙ sum-one (fits 0 a s) nobody ∙ ap (one_of_size s) (let z : a + 0 ≡ a = omega arith in z)
+    ∙ base (cases_eq a s)
   where
-    alone : (k : ℕ) → choose 0 (suc k) ≡ 0
-    alone k = refl
+    alone-in : (k : ℕ) → choose 0 (suc k) ≡ 0
+    alone-in k = refl
 
-    whole : choose 0 0 ≡ 1
-    whole = refl
-
-    base : (a ≡ s) ⊎ (a ≡ s → ⊥) → cond (leb 0 0 && (a == s)) 1 0 ≡ cond (leb a s) (choose 0 (s - a)) 0
+    base : (a ≡ s) ⊎ (a ≡ s → ⊥) → one_of_size s a ≡ cond (leb a s) (choose 0 (s - a)) 0
     base (inl same) =
         let k : s - a ≡ 0 = omega (arith, same) in
-        let x = ap {B = ℕ} (λ b. cond (leb 0 0 && b) 1 0) (eq-eqb a s same) in
+        let x = ap {B = ℕ} (λ b. cond b 1 0) (eq-eqb a s same) in
         let y = cond-true (leb a s) (choose 0 (s - a)) 0 (le-leb a s (omega (arith, same))) in
         let e = ap (choose 0) k in
-        omega (arith, x, y, e, whole)
-    base (inr other) =
-        let x = ap {B = ℕ} (λ b. cond (leb 0 0 && b) 1 0) (ne_eqb a s other) in
-        x ∙ sym (apart (cases_lt a s))
+        omega (arith, x, y, e)
+    base (inr other) = ap {B = ℕ} (λ b. cond b 1 0) (ne_eqb a s other) ∙ sym (apart (cases_lt a s))
       where
         apart : (a < s) ⊎ (s ≤ a) → cond (leb a s) (choose 0 (s - a)) 0 ≡ 0
         apart (inl less) =
             let k : s - a ≡ suc (s - a - 1) = omega arith in
-            cond-true (leb a s) (choose 0 (s - a)) 0 (le-leb a s (omega arith)) ∙ ap (choose 0) k ∙ alone (s - a - 1)
+            cond-true (leb a s) (choose 0 (s - a)) 0 (le-leb a s (omega arith)) ∙ ap (choose 0) k ∙ alone-in (s - a - 1)
         apart (inr most) = cond-false (leb a s) (choose 0 (s - a)) 0 (lt-leb a s (omega (arith, most, other)))
-meetings-free (w ∷ ws) s a =
+sets-free (w ∷ ws) s a =
     let z : 0 - w ≡ 0 = omega arith in
-    let e = ap (λ (r : ℕ). meetings ws s r (a + 1)) z in
-    omega (arith, e, meetings-free ws s (a + 1), meetings-free ws s a, chosen-more (length ws) a s)
+    let parts = fits-more 0 a s (nobody ∷ []) [] w ws in
+    let e = ap (λ (r : ℕ). sum_by (fits r (a + 1) s) (sets_of ws)) z in
+    omega (arith, parts, e, sets-free ws s (a + 1), sets-free ws s a, chosen-more (length ws) a s)
 
 -- ---- endings by size: fewer than are asked for, as many, more
 fill-heads : (h left size : ℕ) → fill h h left size ≡ chosen_from left size h
@@ -121,10 +117,10 @@ fill-more h s left size more = fill-other h s left size (λ e. omega (arith, mor
         ∙ sym (ap {B = ℕ} (λ b. cond b 1 0) (ne_eqb size s (λ e. omega (arith, more, most, e))))
 
 -- no heads are asked for
-pub no-heads : (s left size : ℕ) → fill 0 s left (size + 1) ≡ one_of_size s (size + 1)
+no-heads : (s left size : ℕ) → fill 0 s left (size + 1) ≡ one_of_size s (size + 1)
 no-heads s left size = cond-true (ltb 0 (size + 1)) _ _ (lt-ltb 0 (size + 1) (omega arith))
 
-pub endings-few : (ws : List ℕ) (h s r a : ℕ) → s < h → endings ws h s r a ≡ 0
+endings-few : (ws : List ℕ) (h s r a : ℕ) → s < h → endings ws h s r a ≡ 0
 unfolding endings
 endings-few [] h s r a less = refl
 endings-few (w ∷ ws) h s r a less =
@@ -137,7 +133,7 @@ endings-few (w ∷ ws) h s r a less =
     both false x y p q = q
 
 -- of more than are asked for as many as of any, where none are asked for
-pub endings-more : (ws : List ℕ) (h s r a : ℕ) → h < s → endings ws h s r a ≡ endings ws 0 s r a
+endings-more : (ws : List ℕ) (h s r a : ℕ) → h < s → endings ws h s r a ≡ endings ws 0 s r a
 unfolding endings
 endings-more [] h s r a more = refl
 endings-more (w ∷ ws) h s r a more =
@@ -150,23 +146,95 @@ endings-more (w ∷ ws) h s r a more =
     both true x y u v p q = p
     both false x y u v p q = q
 
-pub endings-heads : (ws : List ℕ) (h r a : ℕ) → 0 < r → endings ws h h r a ≡ meetings ws h r a
-unfolding endings meetings
-endings-heads [] h r a pos = sym (ap {B = ℕ} (λ b. cond (b && (a == h)) 1 0) (lt-leb r 0 pos))
-endings-heads (w ∷ ws) h r a pos = omega (
-  arith,
-  first (cases_lt w r) (λ less. endings-heads ws h (r - w) (a + 1) (omega (arith, less))),
-  endings-heads ws h r a pos,
-)
+-- of as many as heads all that meet the need
+endings-heads : (ws : List ℕ) (h r a : ℕ) → 0 < r → endings ws h h r a ≡ sum_by (fits r a h) (sets_of ws)
+unfolding endings
+endings-heads [] h r a pos =
+    sym (chosen-none (fits r a h) (nobody ∷ []) [] ∙ sum-one (fits r a h) nobody
+    ∙ cond-false (leb r 0) (one_of_size h (a + 0)) 0 (lt-leb r 0 pos))
+endings-heads (w ∷ ws) h r a pos =
+    let parts = fits-more r a h (nobody ∷ []) [] w ws in
+    omega (
+      arith,
+      parts,
+      first (cases_lt w r) (λ less. endings-heads ws h (r - w) (a + 1) (omega (arith, less))),
+      endings-heads ws h r a pos,
+    )
   where
-    first : (w < r) ⊎ (r ≤ w) → (w < r → endings ws h h (r - w) (a + 1) ≡ meetings ws h (r - w) (a + 1))
-        → cond (leb r w) (fill h h (length ws) (a + 1)) (endings ws h h (r - w) (a + 1)) ≡ meetings ws h (r - w) (a + 1)
+    first : (w < r) ⊎ (r ≤ w) → (w < r → endings ws h h (r - w) (a + 1) ≡ sum_by (fits (r - w) (a + 1) h) (sets_of ws))
+        → cond (leb r w) (fill h h (length ws) (a + 1)) (endings ws h h (r - w) (a + 1)) ≡ sum_by (fits (r - w) (a + 1) h) (sets_of ws)
     first (inl less) again = cond-false (leb r w) (fill h h (length ws) (a + 1)) (endings ws h h (r - w) (a + 1)) (lt-leb r w less)
         ∙ again less
     first (inr most) again =
         let z : r - w ≡ 0 = omega (arith, most) in
         cond-true (leb r w) (fill h h (length ws) (a + 1)) (endings ws h h (r - w) (a + 1)) (le-leb r w most)
-        ∙ fill-heads h (length ws) (a + 1) ∙ sym (meetings-free ws h (a + 1)) ∙ ap (λ (k : ℕ). meetings ws h k (a + 1)) (sym z)
+        ∙ fill-heads h (length ws) (a + 1) ∙ sym (sets-free ws h (a + 1)) ∙ ap (λ (k : ℕ). sum_by (fits k (a + 1) h) (sets_of ws)) (sym z)
+
+-- ---- what members lead to, by their sets
+fits-alone : (d k s : ℕ) → sum_by (fits d k s) (alone ∷ []) ≡ cond (leb d 0) (one_of_size s (k + 1)) 0
+fits-alone d k s = sum-one (fits d k s) alone
+
+-- each set but the empty one is another with its last member
+all-but-one : (s : ℕ) (ws : List ℕ) (k : ℕ) → one_of_size s k + sum_by (fits 0 k s) (lost_of ws) ≡ sum_by (fits 0 k s) (sets_of ws)
+all-but-one s [] k =
+    let a = chosen-none (fits 0 k s) [] (alone ∷ []) in
+    let b = chosen-none (fits 0 k s) (nobody ∷ []) [] ∙ sum-one (fits 0 k s) nobody in
+    let e : k + 0 ≡ k = omega arith in
+    let o = ap (one_of_size s) e in
+    omega (arith, a, b, o)
+all-but-one s (w ∷ ws) k =
+    let z : 0 - w ≡ 0 = omega arith in
+    let a = fits-more 0 k s [] (alone ∷ []) w ws in
+    let b = fits-more 0 k s (nobody ∷ []) [] w ws in
+    let c = ap (λ (d : ℕ). sum_by (fits d (k + 1) s) (lost_of ws)) z in
+    let e = ap (λ (d : ℕ). sum_by (fits d (k + 1) s) (sets_of ws)) z in
+    let f = fits-alone 0 k s in
+    omega (arith, a, b, c, e, f, all-but-one s ws k, all-but-one s ws (k + 1))
+
+-- what meets a need is what the members lead to, and what meets it without its last member
+endings-law : (s : ℕ) (ws : List ℕ) (d k : ℕ) → 0 < d
+    → endings ws 0 s d k + sum_by (fits d k s) (lost_of ws) ≡ sum_by (fits d k s) (sets_of ws)
+unfolding endings
+endings-law s [] d k some =
+    let a = chosen-none (fits d k s) [] (alone ∷ []) in
+    let b = chosen-none (fits d k s) (nobody ∷ []) [] ∙ sum-one (fits d k s) nobody in
+    let no = cond-false (leb d 0) (one_of_size s (k + 0)) 0 (lt-leb d 0 some) in
+    omega (arith, a, b, no)
+endings-law s (w ∷ ws) d k some =
+    let a = fits-more d k s [] (alone ∷ []) w ws in
+    let b = fits-more d k s (nobody ∷ []) [] w ws in
+    let no = fits-alone d k s ∙ cond-false (leb d 0) (one_of_size s (k + 1)) 0 (lt-leb d 0 some) in
+    let joins = by_cases (cases_lt w d) (λ pos. endings-law s ws (d - w) (k + 1) pos) in
+    omega (arith, a, b, no, joins, endings-law s ws d k some)
+  where
+    by_cases : (w < d) ⊎ (d ≤ w) → (0 < d - w → endings ws 0 s (d - w) (k + 1) + sum_by (fits (d - w) (k + 1) s) (lost_of ws)
+        ≡ sum_by (fits (d - w) (k + 1) s) (sets_of ws))
+        → cond (leb d w) (fill 0 s (length ws) (k + 1)) (endings ws 0 s (d - w) (k + 1)) + sum_by (fits (d - w) (k + 1) s) (lost_of ws)
+        ≡ sum_by (fits (d - w) (k + 1) s) (sets_of ws)
+    by_cases (inr most) before =
+        let yes = cond-true (leb d w) (fill 0 s (length ws) (k + 1)) (endings ws 0 s (d - w) (k + 1)) (le-leb d w most) in
+        let z : d - w ≡ 0 = omega (arith, most) in
+        let c = ap (λ (n : ℕ). sum_by (fits n (k + 1) s) (lost_of ws)) z in
+        let e = ap (λ (n : ℕ). sum_by (fits n (k + 1) s) (sets_of ws)) z in
+        omega (arith, yes, c, e, all-but-one s ws (k + 1), no-heads s (length ws) k)
+    by_cases (inl more) before =
+        let no = cond-false (leb d w) (fill 0 s (length ws) (k + 1)) (endings ws 0 s (d - w) (k + 1)) (lt-leb d w more) in
+        let old = before (omega arith) in
+        omega (arith, no, old)
+
+-- of fewer members than heads none, of as many all that meet the quota, of more those that do not meet it without their last
+pub record AreCounted (ws : List ℕ) (heads s q n : ℕ) : Type 0 where
+  pub fewer : s < heads → n ≡ 0
+  pub just : s ≡ heads → n ≡ sum_by (fits q 0 s) (sets_of ws)
+  pub more : heads < s → n + sum_by (fits q 0 s) (lost_of ws) ≡ sum_by (fits q 0 s) (sets_of ws)
+
+pub endings-counted : (ws : List ℕ) (heads s q : ℕ) → 0 < q → AreCounted ws heads s q (endings ws heads s q 0)
+endings-counted ws heads s q some = record {
+  fewer = endings-few ws heads s q 0;
+  just = λ same. ap (λ (h : ℕ). endings ws h s q 0) (sym same) ∙ endings-heads ws s q 0 some;
+  more = λ above. ap (λ (n : ℕ). n + sum_by (fits q 0 s) (lost_of ws)) (endings-more ws heads s q 0 above)
+      ∙ endings-law s ws q 0 some;
+}
 
 -- ---- without a member there are no more
 choose-more : (m k : ℕ) → choose m k ≤ choose (suc m) k

@@ -9,8 +9,8 @@ use Rattle.weight_sums.specs.declared.by_size.BySize.{BySize}
 use Rattle.weight_sums.specs.Endings.{no_sizes, one_of_size, endings, left_out, AreEndingsWith}
 use Rattle.weight_sums.specs.Inner.Sets.{nobody, alone, chosen, sets_of, lost_of, has, fits, met}
 use Rattle.weight_sums.specs.Inner.Halves.{AreLeft}
-use Rattle.weight_sums.proofs.EndingLaws.{past-end}
-use Rattle.weight_sums.proofs.SetLaws.{AreFirst, sets-first, lost-first, sum-same, sum-one, left_out-sets, chosen-pairs, no-choice, met-swap, endings-counted}
+use Rattle.weight_sums.proofs.EndingLaws.{past-end, endings-counted}
+use Rattle.weight_sums.proofs.SetLaws.{AreFirst, sets-first, lost-first, sum-same, sum-one, left_out-sets, chosen-pairs, no-choice, met-swap}
 
 left_out-front : (p : ℕ) (xs ys : List ℕ) → p < length xs → left_out p (xs ++ ys) ≡ left_out p xs ++ ys
 unfolding left_out

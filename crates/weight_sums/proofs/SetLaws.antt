@@ -1,14 +1,13 @@
 -- Sets of some members: with one member more, without one, and of members in two halves.
-use Rattle.std.proofs.Common.{◌≡◌, ◌∙◌, ◌⊎◌, ℕ, zero, suc, ◌+◌, ◌-◌, ◌*◌, ◌/◌, ◌%◌, ◌==◌, ◌&&◌, ◌<◌, ◌≤◌, ◌^◌, Bool, true, false, cond, eqb, leb, List, [], ◌∷◌, ◌++◌}
-use Rattle.std.proofs.Common.{length, map, sym, ap, refl, arith, inl, inr}
-use Rattle.std.proofs.lemmas.Bool.{cases_lt, le-leb, lt-leb, cond-true, cond-false}
+use Rattle.std.proofs.Common.{◌≡◌, ◌∙◌, ℕ, zero, suc, ◌+◌, ◌-◌, ◌*◌, ◌/◌, ◌%◌, ◌==◌, ◌<◌, ◌^◌, false, cond, eqb, leb, List, [], ◌∷◌, ◌++◌}
+use Rattle.std.proofs.Common.{map, sym, ap, refl, arith, inl, inr}
+use Rattle.std.proofs.lemmas.Bool.{cases_lt, le-leb, lt-leb}
 use Rattle.std.proofs.lemmas.List.Sums.{sum_by-cons, sum_by-append}
 use Rattle.std.proofs.lemmas.Nat.Bits.{bit_at-suc, bit_at-zero, bit_at_lowest}
 use Rattle.std.specs.List.{sum_by}
 use Rattle.weight_sums.specs.declared.sets.Set.{Set}
-use Rattle.weight_sums.specs.Endings.{one_of_size, fill, endings, left_out}
-use Rattle.weight_sums.specs.Inner.Sets.{nobody, alone, left, joined, chosen, sets_of, lost_of, has, fits, met}
-use Rattle.weight_sums.proofs.EndingLaws.{meetings, endings-few, endings-more, endings-heads, no-heads}
+use Rattle.weight_sums.specs.Endings.{one_of_size, left_out}
+use Rattle.weight_sums.specs.Inner.Sets.{nobody, alone, left, joined, chosen, sets_of, has, fits, met}
 
 -- ---- sums over sets
 pub sum-same : (f g : Set → ℕ) (xs : List Set) → ((x : Set) → f x ≡ g x) → sum_by f xs ≡ sum_by g xs
@@ -64,95 +63,12 @@ fits-joined d k s w x = λ i. cond (less d w x.weight i) (one_of_size s (shorter
     shorter : k + (x.size + 1) ≡ k + 1 + x.size
     shorter = omega arith
 
-fits-more : (d k s : ℕ) (none first : List Set) (w : ℕ) (ws : List ℕ) → sum_by (fits d k s) (chosen none first (w ∷ ws))
+pub fits-more : (d k s : ℕ) (none first : List Set) (w : ℕ) (ws : List ℕ) → sum_by (fits d k s) (chosen none first (w ∷ ws))
     ≡ sum_by (fits d k s) first + (sum_by (fits d k s) (chosen none first ws) + sum_by (fits (d - w) (k + 1) s) (chosen none first ws))
 fits-more d k s none first w ws =
     chosen-more (fits d k s) none first w ws
     ∙ ap (λ (n : ℕ). sum_by (fits d k s) first + (sum_by (fits d k s) (chosen none first ws) + n))
     (sum-same (λ x. fits d k s (joined w x)) (fits (d - w) (k + 1) s) (chosen none first ws) (fits-joined d k s w))
-
--- ---- what members lead to, by their sets
-fits-alone : (d k s : ℕ) → sum_by (fits d k s) (alone ∷ []) ≡ cond (leb d 0) (one_of_size s (k + 1)) 0
-fits-alone d k s = sum-one (fits d k s) alone
-
--- each set but the empty one is another with its last member
-all-but-one : (s : ℕ) (ws : List ℕ) (k : ℕ) → one_of_size s k + sum_by (fits 0 k s) (lost_of ws) ≡ sum_by (fits 0 k s) (sets_of ws)
-all-but-one s [] k =
-    let a = chosen-none (fits 0 k s) [] (alone ∷ []) in
-    let b = chosen-none (fits 0 k s) (nobody ∷ []) [] ∙ sum-one (fits 0 k s) nobody in
-    let e : k + 0 ≡ k = omega arith in
-    let o = ap (one_of_size s) e in
-    omega (arith, a, b, o)
-all-but-one s (w ∷ ws) k =
-    let z : 0 - w ≡ 0 = omega arith in
-    let a = fits-more 0 k s [] (alone ∷ []) w ws in
-    let b = fits-more 0 k s (nobody ∷ []) [] w ws in
-    let c = ap (λ (d : ℕ). sum_by (fits d (k + 1) s) (lost_of ws)) z in
-    let e = ap (λ (d : ℕ). sum_by (fits d (k + 1) s) (sets_of ws)) z in
-    let f = fits-alone 0 k s in
-    omega (arith, a, b, c, e, f, all-but-one s ws k, all-but-one s ws (k + 1))
-
--- what meets a need is what the members lead to, and what meets it without its last member
-endings-law : (s : ℕ) (ws : List ℕ) (d k : ℕ) → 0 < d
-    → endings ws 0 s d k + sum_by (fits d k s) (lost_of ws) ≡ sum_by (fits d k s) (sets_of ws)
-unfolding endings
-endings-law s [] d k some =
-    let a = chosen-none (fits d k s) [] (alone ∷ []) in
-    let b = chosen-none (fits d k s) (nobody ∷ []) [] ∙ sum-one (fits d k s) nobody in
-    let no = cond-false (leb d 0) (one_of_size s (k + 0)) 0 (lt-leb d 0 some) in
-    omega (arith, a, b, no)
-endings-law s (w ∷ ws) d k some =
-    let a = fits-more d k s [] (alone ∷ []) w ws in
-    let b = fits-more d k s (nobody ∷ []) [] w ws in
-    let no = fits-alone d k s ∙ cond-false (leb d 0) (one_of_size s (k + 1)) 0 (lt-leb d 0 some) in
-    let joins = by_cases (cases_lt w d) (λ pos. endings-law s ws (d - w) (k + 1) pos) in
-    omega (arith, a, b, no, joins, endings-law s ws d k some)
-  where
-    by_cases : (w < d) ⊎ (d ≤ w) → (0 < d - w → endings ws 0 s (d - w) (k + 1) + sum_by (fits (d - w) (k + 1) s) (lost_of ws)
-        ≡ sum_by (fits (d - w) (k + 1) s) (sets_of ws))
-        → cond (leb d w) (fill 0 s (length ws) (k + 1)) (endings ws 0 s (d - w) (k + 1)) + sum_by (fits (d - w) (k + 1) s) (lost_of ws)
-        ≡ sum_by (fits (d - w) (k + 1) s) (sets_of ws)
-    by_cases (inr most) before =
-        let yes = cond-true (leb d w) (fill 0 s (length ws) (k + 1)) (endings ws 0 s (d - w) (k + 1)) (le-leb d w most) in
-        let z : d - w ≡ 0 = omega (arith, most) in
-        let c = ap (λ (n : ℕ). sum_by (fits n (k + 1) s) (lost_of ws)) z in
-        let e = ap (λ (n : ℕ). sum_by (fits n (k + 1) s) (sets_of ws)) z in
-        omega (arith, yes, c, e, all-but-one s ws (k + 1), no-heads s (length ws) k)
-    by_cases (inl more) before =
-        let no = cond-false (leb d w) (fill 0 s (length ws) (k + 1)) (endings ws 0 s (d - w) (k + 1)) (lt-leb d w more) in
-        let old = before (omega arith) in
-        omega (arith, no, old)
-
--- coalitions that meet a need are the sets that do
-meetings-sets : (s : ℕ) (vs : List ℕ) (r a : ℕ) → meetings vs s r a ≡ sum_by (fits r a s) (sets_of vs)
-unfolding meetings
-meetings-sets s [] r a =
-    one (leb r 0) (a == s) ∙ (λ i. cond (leb r 0) (one_of_size s (plain i)) 0)
-    ∙ sym (chosen-none (fits r a s) (nobody ∷ []) [] ∙ sum-one (fits r a s) nobody)
-  where
-    plain : a ≡ a + 0
-    plain = omega arith
-
-    one : (b c : Bool) → cond {A = ℕ} (b && c) 1 0 ≡ cond b (cond c 1 0) 0
-    one true c = refl
-    one false c = refl
-meetings-sets s (v ∷ vs) r a =
-    let parts = fits-more r a s (nobody ∷ []) [] v vs in
-    omega (arith, parts, meetings-sets s vs (r - v) (a + 1), meetings-sets s vs r a)
-
--- of fewer members than heads none, of as many all that meet the quota, of more those that do not meet it without their last
-pub record AreCounted (ws : List ℕ) (heads s q n : ℕ) : Type 0 where
-  pub fewer : s < heads → n ≡ 0
-  pub just : s ≡ heads → n ≡ sum_by (fits q 0 s) (sets_of ws)
-  pub more : heads < s → n + sum_by (fits q 0 s) (lost_of ws) ≡ sum_by (fits q 0 s) (sets_of ws)
-
-pub endings-counted : (ws : List ℕ) (heads s q : ℕ) → 0 < q → AreCounted ws heads s q (endings ws heads s q 0)
-endings-counted ws heads s q some = record {
-  fewer = endings-few ws heads s q 0;
-  just = λ same. ap (λ (h : ℕ). endings ws h s q 0) (sym same) ∙ endings-heads ws s q 0 some ∙ meetings-sets s ws q 0;
-  more = λ above. ap (λ (n : ℕ). n + sum_by (fits q 0 s) (lost_of ws)) (endings-more ws heads s q 0 above)
-      ∙ endings-law s ws q 0 some;
-}
 
 -- ---- of members in two halves
 pub chosen-halves : (s : ℕ) (none first : List Set) (vs ws : List ℕ) (q k : ℕ) → sum_by (fits q k s) (chosen none first (ws ++ vs))
