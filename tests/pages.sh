@@ -69,14 +69,19 @@ run --version </dev/null
 version=$(sed -n '1s/^council //p' "$temp/out")
 kit=$(sed -n '2s/^proved with //p' "$temp/out")
 date=$(sed -n "s/^## $version, //p" "$top/CHANGELOG.md")
-has_version() {
-    if grep -qF "$2" "$top/$1"; then ok "the version in $1"; else failed "the version in $1" "it is not $version"; fi
+# each_is FILE PLACE WANTED: whether the file has this text at each place, where sed finds it by its marks, and has one.
+each_is() {
+    local found
+    found=$(sed -nE "s/$2/\\1/p" "$top/$1" | sort -u)
+    if [ "$found" = "$3" ]; then ok "$3 in $1"; else failed "$3 in $1" "it is $(echo "$found" | tr '\n' ' ')"; fi
 }
-has_version README.md "version $version"
-has_version CITATION.cff "version: $version"
-has_version docs/council.1 "council $version"
-has_version CITATION.cff "date-released: $date"
-has_version docs/council.1 ".TH COUNCIL 1 $date "
+each_is README.md '.*This is version ([0-9.]+)\..*' "$version"
+each_is README.md '.* council-([0-9.]+)-x86_64-linux\.tar\.gz.*' "$version"
+each_is README.md '.* council-([0-9.]+)-x86_64-linux$' "$version"
+each_is CITATION.cff '^ *version: (.*)' "$version"
+each_is CITATION.cff '^ *date-released: (.*)' "$date"
+each_is docs/council.1 '^\.TH .*"council (.*)" .*' "$version"
+each_is docs/council.1 '^\.TH COUNCIL 1 ([^ ]*) .*' "$date"
 if [ "$(sed -n 's/^## //p' "$top/CHANGELOG.md" | head -n 1)" = "$version, $date" ] && [ -n "$date" ]; then
     ok "the version in CHANGELOG.md"
 else

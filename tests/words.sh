@@ -107,6 +107,22 @@ else
     failed "a word that is not UTF-8" "status $status: $(head -n 1 "$temp/err")"
 fi
 
+# ---- words that move a terminal, end a line, turn the direction of writing or show nothing: a blank stands for each letter
+# harmless NAME LINE WORD..: whether the words are refused, with this first line.
+harmless() {
+    local name=$1 line=$2
+    run "${@:3}" <g.toml
+    if [ "$status" -eq 2 ] && [ ! -s "$temp/out" ] && [ "$(head -n 1 "$temp/err")" = "$line" ] && ! tr -d '\n' <"$temp/err" | grep -q '[[:cntrl:]]'; then
+        ok "$name"
+    else
+        failed "$name" "status $status: $(head -n 1 "$temp/err")"
+    fi
+}
+harmless "an option with an escape" "error: unexpected argument '--f [31mo  o' found" $'--f\033[31mo\n\xe2\x80\xaeo'
+harmless "a second FILE with an escape" "error: unexpected argument 'b ]0;x y' found" a $'b\033]0;x\ay'
+harmless "a number with letters that show nothing" "error: invalid value ' 3 ' for '--workers <N>': invalid digit found in string" \
+    --workers $'\xef\xbb\xbf3\xe2\x81\xa9'
+
 # ---- --help and --version, byte by byte
 for word in --help -h; do
     run "$word" </dev/null

@@ -132,7 +132,8 @@ def chains(names, lines, cost):
 def minutes(left, lines, cost, took, few):
     """How many minutes what is left takes: as so many processors share it, or as its longest chain does; as much longer or
     shorter as what was proved took."""
-    names = [it for it in lines if it in left]
+    # (the lowest first: what a crate stands on stands on fewer)
+    names = sorted(left, key=lambda it: len(below(it, lines)))
     pace = (GUESSED + sum(took.values())) / (GUESSED + sum(cost[it] for it in took))
     shared = BUSY * sum(left.values()) / few
     return max(1, round(pace * max(shared, *chains(names, lines, left).values()) / 60))

@@ -16,7 +16,7 @@ while [ $# -gt 0 ]; do
     case $1 in
     --draft) draft=1 ;;
     --to)
-        to=$2
+        to=${2:?"--to wants a folder"}
         shift
         ;;
     -*)

@@ -8,13 +8,13 @@ ghost use Rattle.council_run.specs.Run.{Reports, Stops};
 ghost use Rattle.council_run.specs.declared.fault.Cause.TheVariants as cause;
 ghost use Rattle.council.specs.Inner.Wants.{IsTaken, lines_wanted};
 
-use council_explain::{explain, remark, shown};
+use council_explain::{explain, remark};
 use council_game::GameFault;
 use council_progress::{Line, Progress};
 use council_run::{
     Cause, Options, RunFault, Watch, number_by_sums, run_with_lookout, status, tally,
 };
-use council_streams::{Kept, Wiping};
+use council_streams::{Kept, Wiping, shown};
 use council_words::{Wanted, command_line, wanted};
 use mwc_gather::{Gate, GatherFault, Lookout};
 use std::io::IsTerminal;

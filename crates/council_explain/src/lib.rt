@@ -12,5 +12,4 @@ mod keys;
 mod totals;
 
 pub use bracket::remark;
-pub use explain_toml::{Harmless, shown};
 pub use explaining::explain;

@@ -2,6 +2,8 @@
 use crate::words::{Wanted, WordsFault, read_words};
 use clap::Error;
 use clap::error::ErrorKind;
+use council_streams::shown;
+use std::alloc::{AllocError, Global};
 use std::env::Env;
 use std::io;
 use std::process::ExitCode;
@@ -53,6 +55,29 @@ fn refuse(rt: &(impl Print + Eprint), error: &Error) -> ExitCode {
     ExitCode::from(5)
 }
 
+/// Words as they can stand in a line.
+fn harmless(alloc: Global, words: &[String]) -> Result<Vec<String>, AllocError> {
+    let mut harmless = Vec::new(alloc);
+    for word in words {
+        harmless.push(format!(in alloc; "{}", shown(word.as_str(), usize::MAX))?)?;
+    }
+    Ok(harmless)
+}
+
+/// Prints what the parser says of words that it refuses, or answers by a text: of the words as they can stand in a line.
+fn refuse_words(rt: &(impl AllocGlobal + Print + Eprint), words: &[String]) -> ExitCode {
+    let Ok(words) = harmless(rt.alloc(), words) else {
+        return out_of_memory(rt);
+    };
+    match read_words(rt.alloc(), words.as_slice()) {
+        Err(WordsFault::Parse(error)) => refuse(rt, &error),
+        _ => {
+            let _ = eprintln!(rt; "council: a word of the command line is not plain");
+            ExitCode::from(2)
+        }
+    }
+}
+
 /// What these words ask for, the first of them the name of the program.
 ///
 /// # Errors
@@ -65,7 +90,10 @@ pub fn wanted<'a>(
 ) -> Result<Wanted<'a>, ExitCode> {
     match read_words(rt.alloc(), words) {
         Ok(wanted) => Ok(wanted),
-        Err(WordsFault::Parse(error)) => Err(refuse(rt, &error)),
+        Err(WordsFault::Parse(error)) if error.kind() == ErrorKind::OutOfMemory => {
+            Err(out_of_memory(rt))
+        }
+        Err(WordsFault::Parse(_)) => Err(refuse_words(rt, words)),
         Err(WordsFault::Range) => {
             let _ = eprintln!(rt; "council: a number of the command line is out of range");
             Err(ExitCode::from(2))

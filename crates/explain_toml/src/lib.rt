@@ -20,6 +20,6 @@ mod values;
 pub use file::File;
 pub use no_toml::say_no_toml;
 pub use remedies::say_remedy_at;
-pub use said::{Harmless, Said, short, shown};
+pub use said::{Said, short};
 pub use source::{Source, bare, say_place};
 pub use values::elements;

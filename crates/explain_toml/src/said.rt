@@ -1,7 +1,8 @@
 //! The lines of an explanation.
 use coalitions::Memory;
+use council_streams::{Harmless, shown};
 use std::alloc::Global;
-use std::fmt::{self, Display, Formatter, Write};
+use std::fmt::{Display, Write};
 
 /// No text or value of the file is shown longer, in characters.
 const LONGEST: usize = 100;
@@ -45,65 +46,7 @@ impl Said {
     }
 }
 
-/// Whether a letter can't stand in a line as it is: it moves a terminal, ends a line, turns the direction in which
-/// a line is written, or shows nothing.
-fn is_harmful(letter: char) -> bool {
-    letter.is_control()
-        || matches!(
-            u32::from(letter),
-            0xAD | 0x61C | 0x180E | 0x200B..=0x200F | 0x2028..=0x202E | 0x2060..=0x206F | 0xFEFF | 0xFFF9..=0xFFFB | 0xE0000..=0xE007F
-        )
-}
-
-/// A writer that passes on so many letters, dots in place of the next one, and none behind it.
-#[derive(Drop)]
-struct Cut<'a, W> {
-    writer: &'a mut W,
-    left: Option<usize>,
-}
-
-impl<W: Write> Write for Cut<'_, W> {
-    fn write_str(&mut self, text: &str) -> fmt::Result {
-        for letter in text.chars() {
-            let Some(left) = self.left else {
-                break;
-            };
-            self.left = left.checked_sub(1);
-            if left == 0 {
-                self.writer.write_str("...")?;
-            } else {
-                let shown = if is_harmful(letter) { ' ' } else { letter };
-                self.writer.write_char(shown)?;
-            }
-        }
-        Ok(())
-    }
-}
-
-/// What is not the program's own, as it can stand in a line.
-#[derive(Drop)]
-pub struct Harmless<T> {
-    what: T,
-    most: usize,
-}
-
-/// What is not the program's own, as it can stand in a line: at most `most` characters of it, and a blank in place of
-/// each that moves a terminal, ends a line, turns the direction of writing, or shows nothing.
-pub fn shown<T: Display>(what: T, most: usize) -> Harmless<T> {
-    Harmless { what, most }
-}
-
-/// The same, of at most as many characters as a line of an explanation shows.
+/// What is not the program's own, of at most as many characters as a line of an explanation shows.
 pub fn short<T: Display>(what: T) -> Harmless<T> {
     shown(what, LONGEST)
-}
-
-impl<T: Display> Display for Harmless<T> {
-    fn fmt<W: Write>(&self, f: &mut Formatter<W>) -> fmt::Result {
-        let mut cut = Cut {
-            writer: f,
-            left: Some(self.most),
-        };
-        write!(cut, "{}", self.what)
-    }
 }
