@@ -1,12 +1,13 @@
 -- The numbers below a bound, descending, filtered.
 use Rattle.std.proofs.Common.{◌≡◌, ℕ, zero, suc, ◌+◌, ◌-◌, ◌*◌, ◌/◌, ◌^◌, ◌<◌, ◌≤◌, Bool, true, false, ◌&&◌, eqb, List, [], ◌∷◌, ◌++◌, refl, sym, ap, ◌∙◌, subst, arith, zero-add, inl, inr}
+use Rattle.std.proofs.lemmas.Grind.{common_steps}
 use Rattle.std.specs.List.{filter}
 use Rattle.std.proofs.Math.Bool.{and-true}
-use Rattle.std.proofs.Math.Nat.{lt-div-mul-add, div-mul-le_self}
+use Rattle.std.proofs.Math.Nat.{lt-div-mul-add}
 use Rattle.std.proofs.lemmas.Bool.{cases_Bool, and_right, ne_eqb}
 use Rattle.std.proofs.lemmas.List.{append-nil}
 use Rattle.std.proofs.lemmas.List.Elements.{filter-append}
-use Rattle.std.proofs.lemmas.Nat.{div-mul-add, pow_pos}
+use Rattle.std.proofs.lemmas.Nat.{pow_pos}
 use Rattle.council_game.specs.Votes.{down}
 
 -- the numbers from low on, as many as there are more
@@ -88,15 +89,10 @@ filter-block q p low more passes fails =
 
 -- ---- the numbers of a block, which have one quotient
 pub block-prefix : (x h c : ℕ) → x * 2 ^ h ≤ c → c < x * 2 ^ h + 2 ^ h → c / 2 ^ h ≡ x
-block-prefix x h c low high =
-    let e : c ≡ x * 2 ^ h + (c - x * 2 ^ h) = omega arith in
-    ap (λ (i : ℕ). i / 2 ^ h) e ∙ div-mul-add x (2 ^ h) (c - x * 2 ^ h) (omega arith)
+block-prefix x h c low high = grind (arith, common_steps)
 
 pub before-block : (x h c : ℕ) → c < x * 2 ^ h → eqb (c / 2 ^ h) x ≡ false
-before-block x h c high =
-    ne_eqb _ _ (λ same.
-    let low : x * 2 ^ h ≤ c = subst (λ (i : ℕ). i * 2 ^ h ≤ c) same (div-mul-le_self c (2 ^ h)) in
-    omega arith)
+before-block x h c high = grind (arith, common_steps)
 
 pub past-block : (x h c : ℕ) → (x + 1) * 2 ^ h ≤ c → eqb (c / 2 ^ h) x ≡ false
 past-block x h c low =

@@ -1,8 +1,8 @@
 -- What is still to come is the end of the slice.
 use Rattle.std.proofs.Common.{◌≡◌, ℕ, suc, ◌+◌, ◌-◌, ◌*◌, ◌/◌, ◌^◌, ◌<◌, ◌≤◌, Bool, true, cond, eqb, List, [], ◌∷◌, ◌++◌, length, get_or, take, drop, Option, Some, None, MatchOption, refl, sym, ap, ◌∙◌, arith}
+use Rattle.std.proofs.lemmas.Grind.{common_steps}
 use Rattle.std.specs.List.{filter}
 use Rattle.std.proofs.Math.Nat.{mul-add}
-use Rattle.std.proofs.Math.Seq.{drop-append_seam}
 use Rattle.std.proofs.lemmas.Bool.{cond_both}
 use Rattle.std.proofs.lemmas.List.{length-append, length-drop, get_or-drop, take_more, take-append-drop}
 use Rattle.std.proofs.lemmas.List.Elements.{filter-append}
@@ -51,10 +51,7 @@ bound-below v a is =
     rw whole (mul-le _ (2 ^ (v.members - a.place)) (2 ^ a.place) (2 ^ (v.members - a.place)) few (omega arith))
 
 drop-front : (whole end : List ℕ) → EndsWith whole end → end ≡ drop (length whole - length end) whole
-drop-front whole end is =
-    let size : length whole ≡ length is.front + length end = ap length is.joined ∙ length-append is.front end in
-    let cut : length whole - length end ≡ length is.front = omega (arith, size) in
-    sym (ap (λ (i : ℕ). drop i whole) cut ∙ ap (drop (length is.front)) is.joined ∙ drop-append_seam is.front end)
+drop-front whole end is = grind (arith, common_steps)
 
 -- what is still to come is the slice, less as many of its first as were given
 pub rest-is : (v : Votes) (a : Cursor)
@@ -95,9 +92,7 @@ given-next v a None b is h =
 
 -- steps that came to no coalition have given the same
 pub given-same : (v : Votes) (a b : Cursor) → Follows v a b → rest_of_slice v b ≡ rest_of_slice v a → given-by v b ≡ given-by v a
-given-same v a b h same =
-    ap (λ (s : List ℕ). take (length s - length (rest_of_slice v b)) s) (same-slice v a b h)
-    ∙ ap (λ (r : List ℕ). take (length (slice v a.bits a.number) - length r) (slice v a.bits a.number)) same
+given-same v a b h same = grind (arith, common_steps)
 
 -- what was given and what is to come
 pub given-whole : (v : Votes) (a : Cursor) → CursorIs v a → given-by v a ++ rest_of_slice v a ≡ slice v a.bits a.number

@@ -1,10 +1,10 @@
 -- The moves of a cursor.
 use Rattle.std.proofs.Common.{◌≡◌, ℕ, suc, ◌+◌, ◌-◌, ◌*◌, ◌/◌, ◌%◌, ◌^◌, ◌<◌, ◌≤◌, Bool, true, false, cond, ltb, List, [], ◌++◌, map, length, take, get_or, refl, sym, ap, ◌∙◌, subst, arith, inl, inr}
+use Rattle.std.proofs.lemmas.Grind.{common_steps}
 use Rattle.std.proofs.lemmas.Nat.{shr-shr, pow_pos, shl_below, shl_whole}
 use Rattle.std.proofs.Math.Nat.{pow-suc}
 use Rattle.std.proofs.lemmas.Bool.{lt-ltb, le-ltb, cases_lt, both_ways, false_from_ne_true, cond-true, cond-false, cond_both}
 use Rattle.std.specs.List.{AllByRecursion, All, list_all}
-use Rattle.std.proofs.lemmas.List.{take_at, length-map, length-take-le, length-append}
 use Rattle.std.proofs.Common.{min}
 use Rattle.mwc_walk.specs.declared.lane.Lane.{Lane}
 use Rattle.mwc_walk.specs.declared.cursor.Cursor.{Cursor}
@@ -87,21 +87,7 @@ follows-at : (v : Votes) (a : Cursor) (ls : List Lane) (p x : ℕ) (f : Bool) (t
     → CountsVisits v a.bits a.number t (new_visit (moved a ls p x f t)) (open_visits v (moved a ls p x f t))
     (rest_of_slice v (moved a ls p x f t))
     → Follows v a (moved a ls p x f t)
-follows-at v a ls p x f t is counted room lanes place visits = record {
-  is = record {
-    game = is.game;
-    members = is.members;
-    rules = is.rules;
-    room = room;
-    lanes = lanes;
-    asked = is.asked;
-    place = place;
-    visits = visits;
-  };
-  bits = refl;
-  number = refl;
-  counted = counted;
-}
+follows-at v a ls p x f t is counted room lanes place visits = grind (arith, common_steps)
 
 -- a move of a cursor of which it is known whether it is fresh
 known : (v : Votes) (a : Cursor) (s : Step) (b : Bool → Cursor) (f : Bool) → a.fresh ≡ f
@@ -180,12 +166,7 @@ pub record IsPart (f : Lane → Lane) (old new : List Lane) (k : ℕ) : Type 0 w
   pub taken : take k new ≡ map f (take k old)
 
 pub is-part : (f : Lane → Lane) (new q old : List Lane) (k : ℕ) → new ≡ map f (take k old) → k ≤ length old → IsPart f old (new ++ q) k
-is-part f new q old k e le =
-    let long : length new ≡ k = ap length e ∙ length-map (take k old) f ∙ length-take-le k old le in
-    record {
-      room = omega (arith, long, length-append new q);
-      taken = take_at new q k long ∙ e;
-    }
+is-part f new q old k e le = grind (arith, common_steps)
 
 pub out-fits : (v : Votes) (a : Cursor) → CursorIs v a → (a.place ≡ a.bits → ⊥) → a.prefix % 2 ≡ 1
     → All (λ l. get_or l.weights (a.place - 1) 0 ≤ l.sum) (take a.rules a.lanes)
@@ -376,7 +357,4 @@ even-loses v a is lt even won =
 -- between two calls no descent is under way
 pub rest-most : (v : Votes) (a : Cursor) → CursorIs v a → (a.fresh ≡ true → a.place ≡ a.bits) → length v.rules ≡ 1
     → a.visits + (v.members - a.bits) * length (rest_of_slice v a) ≤ a.bits + (v.members - a.bits) * length (slice v a.bits a.number)
-rest-most v a is rests one =
-    let none : open_visits v a ≡ 0 = cond_both a.fresh (cond (reaches v.rules a.place a.prefix) (a.place - a.bits) 0) 0 (λ i. i ≡ 0)
-    (λ fresh. (let at_rest = rests fresh in let extra = open-most v a.place a.prefix (a.place - a.bits) in omega arith)) (λ _. refl) in
-    omega (arith, none, is.visits.most one)
+rest-most v a is rests one = grind (arith, common_steps)
