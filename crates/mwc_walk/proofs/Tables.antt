@@ -19,9 +19,7 @@ sub-leb a b c = grind (arith, nat_tests)
 pub lanes-reach : (n p x : ℕ) (rs : List RuleView) (ls : List Lane) → p ≤ n → LanesAre n p x rs ls
     → list_all (lane_reaches p) ls ≡ reaches rs p x
 unfolding reaches
-lanes-reach n p x rs ls le are =
-    list_all-beside (LaneIs n p x) _ _ (λ r l is.
-    rw (is.quota, is.sum_is, is.rest p le) (sub-leb r.quota (weight (take p r.weights) x) (sum (drop p r.weights)))) rs ls are
+lanes-reach n p x rs ls le are = grind (arith, common_steps, list_all-beside, sub-leb)
 
 pub lanes-win : (n p x : ℕ) (rs : List RuleView) (ls : List Lane) → LanesAre n p x rs ls → list_all lane_wins ls ≡ wins_at rs p x
 unfolding wins_at
