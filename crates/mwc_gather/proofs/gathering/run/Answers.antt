@@ -1,4 +1,5 @@
-use Rattle.std.proofs.Common.{Err, ℕ, ◌<◌, List, length, drop, subst, ap, sym, ◌∙◌, arith}
+use Rattle.std.proofs.Common.{ℕ, List, length, drop, subst, ap, sym, ◌∙◌, arith}
+use Rattle.std.proofs.lemmas.Grind.{common_steps}
 use Rattle.std.specs.Prelude.{Bool}
 use Rattle.std.specs.Option.{is_some}
 use Rattle.std.proofs.lemmas.List.{take_at}
@@ -32,8 +33,4 @@ finish_all-requires-clause-dealt g c =
     )
 
 pub returns-in_err-parts-clause-many : goal.returns-in_err-parts-clause-many
-returns-in_err-parts-clause-many g c = λ e.
-    let job = c.args.job.now in
-    let count = all_total_is job.guarded job.bits job.bits_fit.0 job.bits_fit.1 in
-    let over : job.most < all_total (slicing job.guarded job.bits) = c.in_err-parts.ensures.many (ap Err (sym (rw e at c.from_residual.ensures.1))) in
-    omega (arith, count, over)
+returns-in_err-parts-clause-many g c = grind (arith, common_steps, all_total, all_total_is)
