@@ -28,10 +28,10 @@ share_of-more w j (x ∷ hs) h =
     (share_of-more w (j + 1) hs h ∙ ap (λ (k : ℕ). share_from w (j + 1) hs ++ cond (eqb w h) (k ∷ []) []) e)
 
 pub share_of-other : (hs : List ℕ) (w h : ℕ) → (w ≡ h → ⊥) → share_of (hs ++ h ∷ []) w ≡ share_of hs w
-share_of-other hs w h ne = grind (arith, common_steps, append-nil, ne_eqb, share_from, share_of, share_of-more)
+share_of-other hs w h ne = grind (arith, common_steps, append-nil, ne_eqb, share_of-more)
 
 pub share_of-same : (hs : List ℕ) (w h : ℕ) → w ≡ h → share_of (hs ++ h ∷ []) w ≡ share_of hs h ++ length hs ∷ []
-share_of-same hs w h e = grind (arith, common_steps, eq-eqb, share_from, share_of-more)
+share_of-same hs w h e = grind (arith, common_steps, eq-eqb, share_of-more)
 
 others : (hs : List ℕ) (i from k : ℕ)
     → i < from → map (share_of (hs ++ i ∷ [])) (range_with_len from k) ≡ map (share_of hs) (range_with_len from k)

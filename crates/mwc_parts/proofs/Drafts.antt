@@ -7,7 +7,7 @@ use Rattle.std.proofs.Math.Bool.{or-false}
 use Rattle.std.proofs.lemmas.List.Folds.{list_any-append}
 use Rattle.mwc_pipe.specs.declared.word.Word.{Word}
 use Rattle.mwc_parts.specs.Pieces.{ones, done_counts}
-use Rattle.mwc_parts.specs.Drafts.{is_cut, has_cut, IsDraftOf}
+use Rattle.mwc_parts.specs.Drafts.{is_cut, IsDraftOf}
 use Rattle.mwc_parts.specs.declared.draft.Draft.{Draft}
 use Rattle.mwc_parts.proofs.Shared.Readings.{ones-append, done_counts-append}
 
@@ -20,5 +20,4 @@ pub record Hears (old : Draft) (word : Word) (new : Draft) : Type 0 where
 
 pub keeps_more : (words : List Word) (old : Draft) (word : Word) (new : Draft) → Hears old word new → IsDraftOf words old
     → IsDraftOf (words ++ word ∷ []) new
-keeps_more words old word new h k =
-    grind (arith, common_steps, done_counts, done_counts-append, has_cut, is_cut, list_any-append, ones-append, or-false, zero-add)
+keeps_more words old word new h k = grind (arith, common_steps, done_counts-append, list_any-append, ones-append, or-false, zero-add)

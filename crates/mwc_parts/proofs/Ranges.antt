@@ -11,7 +11,7 @@ use Rattle.coalitions.proofs.Shared.Ranges.{range-more}
 -- one more slice
 pub in_order_more : (slice : ℕ → List ℕ) (n : ℕ) (all piece : List ℕ) → all ≡ flat_map slice (range_with_len 0 n) → piece ≡ slice n
     → all ++ piece ≡ flat_map slice (range_with_len 0 (n + 1))
-in_order_more slice n all piece e f = grind (arith, common_steps, flat_map_more, range-more, range_with_len)
+in_order_more slice n all piece e f = grind (arith, common_steps, flat_map_more, range-more)
 
 -- one more piece of a row
 pub pieces_more : {X : Type 0} (f : X → List ℕ) (slice : ℕ → List ℕ) (n : ℕ) (row : List X) (x : X)

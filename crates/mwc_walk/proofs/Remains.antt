@@ -81,7 +81,7 @@ given-same v a b h same = grind (arith, common_steps)
 
 -- what was given and what is to come
 pub given-whole : (v : Votes) (a : Cursor) → CursorIs v a → given-by v a ++ rest_of_slice v a ≡ slice v a.bits a.number
-given-whole v a is = grind (arith, common_steps, rest-is, rest_of_slice, take-append-drop)
+given-whole v a is = grind (arith, common_steps, rest-is, take-append-drop)
 
 pub whole-after : (v : Votes) (a : Cursor) (o : Option ℕ) (b : Cursor) → Runs v a o b
     → given-by v b ++ rest_of_slice v b ≡ slice v b.bits b.number

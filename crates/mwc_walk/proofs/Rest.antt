@@ -49,7 +49,7 @@ dead-nothing v p x game le dead =
 pub left-nothing : (v : Votes) (k j p x : ℕ) → NothingBelow v p x
     → slice_below v k j ((x + 1) * 2 ^ (v.members - p)) ≡ slice_below v k j (x * 2 ^ (v.members - p))
 unfolding slice_below minimal_below
-left-nothing v k j p x nothing = grind (arith, common_steps, block-prefix, filter-down_skip, in_slice, next-block)
+left-nothing v k j p x nothing = grind (arith, common_steps, block-prefix, filter-down_skip, next-block)
 
 -- below a winning prefix only the prefix with zeros is left
 pub left-won : (v : Votes) (k j p x : ℕ) → IsVotes v → p ≤ v.members → wins_at v.rules p x ≡ true

@@ -7,7 +7,7 @@ use Rattle.mwc_walk.specs.declared.lane.Lane.{Lane}
 use Rattle.mwc_walk.specs.Inner.Lanes.{lane_with}
 use Rattle.council_game.specs.Votes.{RuleView, Votes, IsVotes, has}
 use Rattle.council_game.proofs.Shared.WinningByPlaces.{fixed-half}
-use Rattle.mwc_walk.specs.Inner.Places.{slice_below, LanesAre}
+use Rattle.mwc_walk.specs.Inner.Places.{LanesAre}
 use Rattle.mwc_walk.specs.declared.asked.Asked.{Asked}
 use Rattle.mwc_walk.specs.Inner.Asked.{AreAsked}
 use Rattle.mwc_walk.specs.Inner.Cursor.{Starts}
@@ -21,7 +21,7 @@ first-number k j le = ap (λ (i : ℕ). i - 1 - j) (one_shl k 64 (omega arith))
 pub fixed-in : (n k p x : ℕ) (rs : List RuleView) (ls : List Lane) → p < k → k ≤ n → has k p x ≡ true → LanesAre n p (x / 2 ^ (k - p)) rs ls
     → LanesAre n (p + 1) (x / 2 ^ (k - (p + 1))) rs (map (lane_with p) ls)
 unfolding has
-fixed-in n k p x rs ls below le inside are = grind (arith, common_steps, eqb-true, fixed-half, lane_with, lanes-in)
+fixed-in n k p x rs ls below le inside are = grind (arith, common_steps, eqb-true, fixed-half, lanes-in)
 
 pub fixed-pass : (n k p x : ℕ) (rs : List RuleView) (ls : List Lane) → p < k → k ≤ n → has k p x ≡ false
     → LanesAre n p (x / 2 ^ (k - p)) rs ls → LanesAre n (p + 1) (x / 2 ^ (k - (p + 1))) rs ls
@@ -33,7 +33,7 @@ pub starts : (v : Votes) (k j x m n : ℕ) (ls : List Lane) (qs : List Asked) �
     → LanesAre v.members k (x / 2 ^ (k - k)) v.rules (take m ls) → x ≡ 2 ^ k - 1 - j
     → Starts v k j (record { lanes = ls; asked = qs; rules = m; members = n; bits = k; number = j; prefix = x; place = k; fresh = true; visits = k })
 starts v k j x m n ls qs game le below members rules room asked are prefix =
-    grind (arith, common_steps, cond-false, le-ltb, left-all, pow_pos, slice_below)
+    grind (arith, common_steps, cond-false, le-ltb, left-all, pow_pos)
 
 pub first-lanes : (v : Votes) (k j m : ℕ) (ls : List Lane) → m ≡ length v.rules → k ≤ 10 → LanesAre v.members 0 0 v.rules (take (length v.rules) ls)
     → LanesAre v.members 0 ((1 * 2 ^ k % 2 ^ 64 - 1 - j) / 2 ^ (k - 0)) v.rules (take m ls)

@@ -46,7 +46,7 @@ lost-before n p x rs all pos le h = grind (arith, common_steps, both_ways, false
 -- ---- the places of a slice
 -- the place before
 place-up : (v : Votes) (k j p y b : ℕ) → IsVotes v → b < 2 → k ≤ p → IsPlace v k j (p + 1) (2 * y + b) → IsPlace v k j p y
-place-up v k j p y b game digit le is = grind (arith, common_steps, half-shift, lost-before, short-step, wins_at)
+place-up v k j p y b game digit le is = grind (arith, common_steps, half-shift, lost-before, short-step)
 
 -- the place after
 place-down : (v : Votes) (k j p y b : ℕ) → b < 2 → p < v.members → wins_at v.rules p y ≡ false → IsPlace v k j p y

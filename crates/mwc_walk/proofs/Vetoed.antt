@@ -28,7 +28,7 @@ weight-out ws q c below out =
 -- a rule that needs the member of a place is not met without it
 needs-it : (n q c : ℕ) (r : RuleView) (l : Lane) → q < n → LaneIs n 0 0 r l → lane_needs q l ≡ true → r.quota ≤ weight r.weights c
     → c / 2 ^ (n - 1 - q) % 2 ≡ 0 → ⊥
-needs-it n q c r l below is needs met out = grind (arith, common_steps, get_or, ltb-true, weight-out)
+needs-it n q c r l below is needs met out = grind (arith, common_steps, ltb-true, weight-out)
 
 pub vetoer-in : (n q c : ℕ) (rs : List RuleView) (ls : List Lane) → q < n → LanesAre n 0 0 rs ls → list_any (lane_needs q) ls ≡ true
     → wins rs c ≡ true → c / 2 ^ (n - 1 - q) % 2 ≡ 0 → ⊥

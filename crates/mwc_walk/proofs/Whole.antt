@@ -15,9 +15,9 @@ one-slice v game = sym (append-nil (slice v 0 0)) ∙ slices-joined v 0 (omega a
 -- a walk at its end gave all
 pub lists-all : (g : GameView) (most : ℕ) (list : List ℕ) → IsVotes (votes_of g) → list ++ [] ≡ slice (votes_of g) 0 0 → length list ≤ most
     → ListsAll g most list
-lists-all g most list game joined few = grind (arith, common_steps, append-nil, listing-is, minimal_coalitions, one-slice, votes_of)
+lists-all g most list game joined few = grind (arith, common_steps, append-nil, listing-is, one-slice)
 
 -- a walk with more to come has more
 pub more-than : (v : Votes) (most c : ℕ) (list rest to_come : List ℕ) → IsVotes v → list ++ to_come ≡ slice v 0 0 → to_come ≡ c ∷ rest
     → most ≤ length list → most < length (minimal_coalitions v)
-more-than v most c list rest to_come game joined next many = grind (arith, common_steps, length-append, minimal_coalitions, one-slice)
+more-than v most c list rest to_come game joined next many = grind (arith, common_steps, length-append, one-slice)

@@ -106,11 +106,11 @@ first_turn {n} {early} {stopped} {stops} desks k s t l e fresh f r =
 
 -- who told what at the end
 pub dealt_once : {n : ℕ} {shares : List (List ℕ)} (j : ℕ) → AreDealt n shares → sum_by (times_in j) shares ≡ cond (ltb j n) 1 0
-dealt_once {n} {shares} j d = grind (arith, common_steps, each_held_once, sum_by, times_in)
+dealt_once {n} {shares} j d = grind (arith, common_steps, each_held_once)
 
 pub dealt_total : {n : ℕ} {shares : List (List ℕ)} (g : Slicing) → AreDealt n shares
     → sum_by (coalition_count g) shares ≡ coalition_count g (range_with_len 0 n)
-dealt_total {n} {shares} g d = grind (arith, common_steps, coalition_count, range_with_len, shares_sum, sum_by)
+dealt_total {n} {shares} g d = grind (arith, common_steps, shares_sum)
 
 pub dealt_increase : {n : ℕ} {shares : List (List ℕ)} → AreDealt n shares → All IsStrictlyIncreasing shares
 dealt_increase {n} {shares} d =

@@ -82,7 +82,7 @@ pub stops_then : (early : Bool) (desks : List DeskView) (stopped stops : Bool) (
     (s t : DeskView) {done : Bool} {marks after : List (Option ℕ)} → i < length desks → s ≡ get_or desks i s
     → TakesTurn done marks stopped s i after stops t → stopped ≡ (early || list_any is_ill desks)
     → stops ≡ (early || list_any is_ill (set desks i t))
-stops_then early desks stopped stops i s t l e r h = grind (arith, common_steps, ill_set, ill_stays, is_ill, list_any, or_assoc)
+stops_then early desks stopped stops i s t l e r h = grind (arith, common_steps, ill_set, ill_stays, or_assoc)
 
 pub stays_by : (a b x : Bool) → b ≡ (a || x) → a ≡ true → b ≡ true
 stays_by a b x e h = e ∙ ap (λ (z : Bool). z || x) h

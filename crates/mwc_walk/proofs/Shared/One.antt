@@ -8,7 +8,7 @@ use Rattle.std.proofs.lemmas.Nat.{shr-shr, shl-shr, mul-le}
 use Rattle.std.proofs.Math.Pow.{pow_mono}
 use Rattle.std.proofs.Math.Bool.{and-true}
 use Rattle.std.proofs.lemmas.Bool.{and_left, lt-leb, leb-false, eqb-true, cases_lt, both_ways}
-use Rattle.council_game.specs.Votes.{RuleView, Votes, IsRule, IsRanked, IsVotes, has, without, weight, wins, minimal, minimal_coalitions}
+use Rattle.council_game.specs.Votes.{RuleView, Votes, IsRule, IsRanked, IsVotes, has, without, weight, wins, minimal}
 use Rattle.mwc_walk.specs.Slices.{slice}
 use Rattle.mwc_walk.specs.Inner.Places.{wins_at}
 use Rattle.council_game.proofs.Shared.Meanings.{needs-each-member}
@@ -81,7 +81,7 @@ empty-loses n (r ∷ rs) some all =
 -- a slice is shorter than a count of visits can grow
 pub slice-short : (v : Votes) (k j : ℕ) → IsVotes v → length (slice v k j) ≤ 2 ^ 40
 unfolding slice
-slice-short v k j game = grind (arith, common_steps, count_by-le-length, length-filter, listing-is, minimal_coalitions, pow_mono)
+slice-short v k j game = grind (arith, common_steps, count_by-le-length, length-filter, listing-is, pow_mono)
 
 -- a winning prefix as a number of the slice
 pub in-slice : (n k p x : ℕ) → k ≤ p → p ≤ n → x * 2 ^ (n - p) / 2 ^ (n - k) ≡ x / 2 ^ (p - k)

@@ -8,7 +8,6 @@ use Rattle.mwc_parts.specs.Fault.{fault_of}
 use Rattle.mwc_gather.specs.declared.desk.Desk.{Desk}
 use Rattle.mwc_gather.specs.Slicings.{slicing}
 use Rattle.mwc_gather.specs.Inner.Desks.{DealsTo}
-use Rattle.mwc_gather.specs.Inner.Gathering.{all_total}
 use Rattle.mwc_gather.proofs.Wholes.{all_total_is}
 use Rattle.mwc_gather.proofs.gathering.run.Goals as goal
 
@@ -33,4 +32,4 @@ finish_all-requires-clause-dealt g c =
     )
 
 pub returns-in_err-parts-clause-many : goal.returns-in_err-parts-clause-many
-returns-in_err-parts-clause-many g c = grind (arith, common_steps, all_total, all_total_is)
+returns-in_err-parts-clause-many g c = grind (arith, common_steps, all_total_is)

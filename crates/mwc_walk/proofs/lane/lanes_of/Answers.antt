@@ -1,8 +1,7 @@
 use Rattle.std.proofs.Common.{arith}
 use Rattle.std.proofs.lemmas.Grind.{common_steps}
-use Rattle.council_game.specs.Game.{votes_of}
 use Rattle.mwc_walk.proofs.Tables.{lanes-from}
 use Rattle.mwc_walk.proofs.lane.lanes_of.Goals as goal
 
 pub returns-clause-lanes : goal.returns-clause-lanes
-returns-clause-lanes c = grind (arith, common_steps, lanes-from, votes_of)
+returns-clause-lanes c = grind (arith, common_steps, lanes-from)

@@ -1,6 +1,5 @@
 use Rattle.std.proofs.Common.{arith}
 use Rattle.std.proofs.lemmas.Grind.{common_steps}
-use Rattle.std.specs.List.{range_with_len}
 use Rattle.mwc_parts.proofs.Ranges.{pieces_more, same_joined}
 use Rattle.mwc_parts.proofs.gathered.Gathered.pieces.Goals as goal
 
@@ -8,4 +7,4 @@ pub loop-number-preserved : goal.loop-number-preserved
 loop-number-preserved c = grind (arith, common_steps, pieces_more)
 
 pub returns-clause-joined : goal.returns-clause-joined
-returns-clause-joined c = grind (arith, common_steps, range_with_len, same_joined)
+returns-clause-joined c = grind (arith, common_steps, same_joined)

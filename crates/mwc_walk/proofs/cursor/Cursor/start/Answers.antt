@@ -5,7 +5,6 @@ use Rattle.mwc_walk.proofs.Tables.{fits-in}
 use Rattle.mwc_walk.proofs.Steps.{is-part}
 use Rattle.mwc_walk.proofs.Start.{first-lanes, first-number, fixed-in, fixed-pass, starts}
 use Rattle.mwc_walk.proofs.cursor.Cursor.start.Goals as goal
-use Rattle.mwc_walk.proofs.cursor.Cursor.start.Goals.{then-has, else-has}
 
 pub loop-place-init : goal.loop-place-init
 loop-place-init c = record {
@@ -15,10 +14,10 @@ loop-place-init c = record {
 }
 
 pub take_in-requires-clause-fits : goal.take_in-requires-clause-fits
-take_in-requires-clause-fits c = grind (arith, common_steps, fits-in, votes_of)
+take_in-requires-clause-fits c = grind (arith, common_steps, fits-in)
 
 pub loop-place-preserved : goal.loop-place-preserved
-loop-place-preserved c = grind (arith, common_steps, else-has, fixed-in, fixed-pass, is-part, then-has, votes_of)
+loop-place-preserved c = grind (arith, common_steps, fixed-in, fixed-pass, is-part)
 
 pub returns : goal.returns
 returns c =

@@ -8,4 +8,4 @@ pub returns-clause-rest : goal.returns-clause-rest
 returns-clause-rest c = rw (← c.self.view_is) (rest-is (votes_of c.self.inside.game.now) c.self.inside.cursor c.self.invariant.cursor)
 
 pub returns-clause-most : goal.returns-clause-most
-returns-clause-most c = grind (arith, common_steps, visits-most, votes_of)
+returns-clause-most c = grind (arith, common_steps, visits-most)
