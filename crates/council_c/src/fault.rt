@@ -10,7 +10,7 @@ use council_report::ReportFault;
 use std::fmt::Write;
 use thiserror::Error;
 
-/// No fault has more words than fit so many bytes.
+/// No fault has more words than fit these bytes.
 const WORDS: usize = 100;
 
 /// Why there is no report. The words are the program's.

@@ -24,7 +24,7 @@ count_of g = length (minimal_coalitions (votes_of g))
 abbrev pub IsNumberOf : GameView → Option ℕ → Type 0
 IsNumberOf g number = IfSome number (λ n. n ≡ count_of g) × (IsSome number ↔ IsCountedBySums g)
 
--- a game with at most so many
+-- a game with at most `most`
 abbrev pub HasAtMost : ℕ → GameView → Type 0
 HasAtMost most g = count_of g ≤ most
 

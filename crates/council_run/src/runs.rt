@@ -20,7 +20,7 @@ use std::io::{Read, Write};
 use std::sync::Wait;
 use std::thread::Threads;
 
-/// The minimal winning coalitions of a game, as its workers listed them, where there are at most so many.
+/// The minimal winning coalitions of a game, as its workers listed them, where there are at most `most` of the options.
 fn gathered<T: Threads + Wait + Sync, G: Gate + Sync, L: Lookout + Sync>(
     rt: &T,
     alloc: Global,

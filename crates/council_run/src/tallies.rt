@@ -24,7 +24,7 @@ use std::io::{Read, Write};
 use std::sync::Wait;
 use std::thread::Threads;
 
-/// A tally has at least 2^8 slices where there are so many members: the last of them are the longest,
+/// A tally has at least 2^8 slices where there are 8 members: the last of them are the longest,
 /// and with fewer one thread would still count when the others have ended.
 const LEAST_BITS: u8 = 8;
 
@@ -110,11 +110,11 @@ fn count<T: Threads + Wait + Sync, V: Watch + Sync>(
 }
 
 /// Reads a game, counts its minimal winning coalitions, however many these are, by sums where these serve
-/// and else by worker threads, which leave out what sums count beside them, and writes its report, with no line for a coalition, and nothing else.
-/// (`mwc_tally::tally` counts those of a game alone.) No coalition is kept, so the memory does not grow with
-/// their number, and `most` and `list` of the options are not looked at. Where threads count, at least 8
-/// of the heaviest members are fixed in each slice, if there are so many. It returns the number of bytes
-/// written. It may wait for its workers.
+/// and else by worker threads, which leave out what sums count beside them, and writes its report, with no line for a
+/// coalition, and nothing else. (`mwc_tally::tally` counts those of a game alone.) No coalition is kept, so the memory
+/// does not grow with their number, and `most` and `list` of the options are not looked at. Where threads count, at
+/// least 8 of the heaviest members are fixed in each slice, if there are 8. It returns the number of bytes written. It
+/// may wait for its workers.
 ///
 /// # Errors
 ///

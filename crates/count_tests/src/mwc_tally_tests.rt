@@ -162,7 +162,8 @@ fn each_slice_is_counted_once(rt: HostRuntime) {
     }
 }
 
-/// Holds the threads that counted the first slices until so many are counted, for so many turns at most.
+/// Holds the threads that counted the first `held` slices until `until` are counted, for a hundred million turns at
+/// most.
 #[derive(Drop)]
 struct Holding {
     held: u64,

@@ -62,7 +62,7 @@ fn random_rule(rt: &impl Abort, alloc: Global, x: &mut u64, members: usize) -> R
     }
 }
 
-/// A game of so many such rules.
+/// A game of `count` such rules.
 fn random_game(rt: &impl Abort, alloc: Global, seed: u64, members: usize, count: usize) -> Game {
     let mut x = seed;
     let mut rules = Vec::new(alloc);
@@ -98,7 +98,7 @@ const FOUR_GROUPS: Statute = (
 /// Sixteen members of whom the last alone is the one minimal winning coalition.
 const LATE: Statute = (&[1, 1, 8], &[(15, &[2, 0, 1]), (1, &[1, 1, 8])]);
 
-/// The slices at so many bits, one behind the other.
+/// The slices at `bits` bits, one behind the other.
 fn slices(rt: &impl Abort, alloc: Global, game: &Game, bits: u8) -> Vec<Coalition> {
     assert!(rt; bits <= 10 && bits as usize <= game.members());
     let mut all = Vec::new(alloc);
@@ -222,7 +222,8 @@ fn the_slices_joined_and_the_whole_list_are_the_plain_list(rt: HostRuntime) {
     }
 }
 
-/// The slices at two bits have so many coalitions, and the whole list has all of them, which is refused one short.
+/// The slices at two bits have these numbers of coalitions, and the whole list has all of them, which is refused one
+/// short.
 fn counts_of_slices(rt: &impl Abort, alloc: Global, game: &Game, counts: &[usize; 4], whole: u32) {
     assert!(rt; 2 <= game.members() && 0 < whole);
     for (j, wanted) in (0..).zip(counts) {

@@ -83,7 +83,7 @@ fn check_indices(rt: &impl Abort, counts: &Counts, member: usize, wanted: [Print
     );
 }
 
-/// The counts are of so many coalitions, of so many of each size, and of these members, which are all.
+/// The counts are of `total` coalitions, of these numbers of each size, and of these members, which are all.
 fn check(rt: &impl Abort, counts: &Counts, total: u32, sizes: &[(usize, u32)], rows: &[Members]) {
     same(rt, counts.total(), total, "total");
     for (size, wanted) in sizes {

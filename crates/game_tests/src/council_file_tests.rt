@@ -102,7 +102,7 @@ fn beginnings_of_one_file(rt: HostRuntime) {
     same(&rt, text.as_str(), BOARD, "the whole file");
 }
 
-/// Gives bytes, at most so many at once, and then the end or an error.
+/// Gives bytes, at most `at_once` at once, and then the end or an error.
 #[derive(Drop)]
 struct Piecemeal<'a> {
     left: &'a [u8],
@@ -201,14 +201,14 @@ fn readers(rt: HostRuntime) {
     }
 }
 
-/// A bracket text of so many members of weight 1 and this end has this fault, or none.
+/// A bracket text of `more` members and one of weight 1 each and this end has this fault, or none.
 fn check_long(rt: &impl Abort, alloc: Global, more: usize, end: &str, wanted: Option<GameFault>) {
     let weights = ", 1".repeat(alloc, more).expect(rt, "weights");
     let text = format!(in alloc; "[1; 1{weights}{end}").expect(rt, "a text");
     check_fault(rt, alloc, text.as_bytes(), wanted);
 }
 
-/// A bracket text with so many blanks behind it answers so.
+/// A bracket text with `count` blanks behind it answers so.
 fn check_blanks(rt: &impl Abort, alloc: Global, count: usize, wanted: &str) {
     let blanks = " ".repeat(alloc, count).expect(rt, "blanks");
     let text = format!(in alloc; "[1; 1]{blanks}").expect(rt, "a text");

@@ -7,7 +7,7 @@ use std::alloc::Global;
 use std::io::Print;
 use std::process::Abort;
 
-/// Names A, B, C, .. for so many members, at most 26.
+/// Names A, B, C, .. for `count` members, at most 26.
 fn letters(rt: &impl Abort, alloc: Global, count: usize) -> Vec<String> {
     let mut names = Vec::new(alloc);
     for letter in "ABCDEFGHIJKLMNOPQRSTUVWXYZ".chars().take(count) {

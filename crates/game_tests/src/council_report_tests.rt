@@ -253,7 +253,7 @@ fn tallies_as_it_reports(rt: HostRuntime) {
     same(&rt, tallied.as_slice(), reported.as_slice(), "reports");
 }
 
-/// A writer that takes so many bytes, at most so many a call, fails once, and would then take all. It
+/// A writer that takes `room` bytes, at most `step` a call, fails once, and would then take all. It
 /// counts its flushes, and the calls after the failure.
 #[derive(Drop)]
 struct Narrow {

@@ -100,7 +100,7 @@ fn lists<R: Threads + Wait + Abort + Sync, G: Gate + Sync>(
     are_masks(rt, &list, masks, "the list");
 }
 
-/// How many coalitions are gathered where there are at most so many, and 0 where there are more.
+/// How many coalitions are gathered where there are at most `most`, and 0 where there are more.
 fn count<R: Threads + Wait + Abort + Sync>(
     rt: &R,
     alloc: Global,

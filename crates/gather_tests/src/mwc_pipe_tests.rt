@@ -264,7 +264,7 @@ fn steps(rt: &impl Abort, alloc: Global) -> Vec<Step<u32>> {
     steps
 }
 
-/// The items are so many numbers, from this one on.
+/// The items are `count` numbers, from `first` on.
 fn are_numbers(rt: &impl Abort, items: &[u32], first: u32, count: usize) {
     same(rt, items.len(), count, "how many items");
     let mut wanted = first;
@@ -290,7 +290,7 @@ fn replays_thousands_of_steps(rt: HostRuntime) {
 /// How many words go from one thread to the other.
 const WORDS: u32 = 100_000;
 
-/// Word number so many.
+/// The word of this number.
 fn numbered(number: u32) -> Word {
     Word::One(Coalition::of_mask(u64::from(number)))
 }
@@ -376,7 +376,7 @@ fn moves_words_between_threads(rt: HostRuntime) {
     }
 }
 
-/// Puts all words in, in order, by rows of at most so many, and closes the ring; it gives up where it
+/// Puts all words in, in order, by rows of at most `most`, and closes the ring; it gives up where it
 /// found no room too often.
 fn put_all_rows(to: RingIn, most: u32) -> Result<Closed, Unfinished>
     requires { most ≤ 64 }
@@ -402,7 +402,7 @@ fn put_all_rows(to: RingIn, most: u32) -> Result<Closed, Unfinished>
     to.close()
 }
 
-/// Takes the first words by rows of at most so many, and says how many came in their order.
+/// Takes the first words by rows of at most `most`, and says how many came in their order.
 fn take_first_rows(from: &mut RingOut, count: u32, most: u32) -> u32
     requires { most ≤ 64 }
     ensures { from.new.ring ≡ from.old.ring }

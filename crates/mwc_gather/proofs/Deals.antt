@@ -1,17 +1,16 @@
 -- Turns of desks.
 use Rattle.std.specs.Prelude.{◌≡◌, ℕ, ◌+◌, ◌<◌, Bool, false, zero, suc, [], ◌∷◌, List, Option, None, All, length, replicate}
-use Rattle.std.proofs.Common.{set, get_or, ap, subst, arith, sym, ◌∙◌}
+use Rattle.std.proofs.lemmas.Grind.{common_steps}
+use Rattle.std.proofs.Common.{set, get_or, subst, arith, sym}
 use Rattle.std.proofs.lemmas.List.{length-set, map-set, get_or-set_other, length-map, get_or_default}
-use Rattle.std.proofs.lemmas.List.Elements.{All-set, All-head, All-tail}
+use Rattle.std.proofs.lemmas.List.Elements.{All-head, All-tail}
 use Rattle.mwc_parts.specs.Slicing.{Slicing}
 use Rattle.mwc_parts.specs.Shared.Dealing.{DeskView, DealsInTurn, TakesTurn, DealsOneEach, IsFresh}
 use Rattle.mwc_parts.proofs.Shared.Turns as turns
 use Rattle.mwc_parts.proofs.Shared.Firsts as firsts
-use Rattle.mwc_gather.specs.declared.promise.GivenJob.{GivenJob}
 use Rattle.mwc_gather.specs.declared.desk.Desk.{Desk}
 use Rattle.mwc_gather.specs.declared.dealing.Deal.{Deal}
-use Rattle.mwc_gather.specs.Slicings.{slicing}
-use Rattle.mwc_gather.specs.Inner.Desks.{IsOf, AllOf, view_of, views_of, DealsTo, DealsFirst}
+use Rattle.mwc_gather.specs.Inner.Desks.{AllOf, view_of, views_of, DealsTo, DealsFirst}
 
 view_at : (desks : List Desk) (i : ℕ) (d : Desk) → i < length desks → d ≡ get_or desks i d
     → view_of d ≡ get_or (views_of desks) i (view_of d)
@@ -19,10 +18,7 @@ view_at desks i d l e = turns.map_at view_of desks i d (view_of d) l e
 
 all_of_set : (g : Slicing) (most : ℕ) (desks : List Desk) (i : ℕ) (d t : Desk) → i < length desks → d ≡ get_or desks i d
     → t.worker.promise ≡ d.worker.promise → AllOf g most desks → AllOf g most (set desks i t)
-all_of_set g most desks i d t l e p a =
-    let P : Desk → Type 0 = IsOf g most in
-    let o : P d = subst P (sym e) (a i d l) in
-    All-set P desks i t (ap (λ (x : GivenJob). slicing x.game.value x.bits) p ∙ o.0, ap (λ (x : GivenJob). x.most) p ∙ o.1) a
+all_of_set g most desks i d t l e p a = grind (arith, common_steps)
 
 fresh_at : (desks : List Desk) → All IsFresh (views_of desks) → (k : ℕ) (d : Desk) → k < length desks → IsFresh (view_of (get_or desks k d))
 fresh_at [] f k d l = absurd (omega arith)

@@ -1,7 +1,9 @@
 -- The slices of a game and its minimal winning coalitions.
-use Rattle.std.specs.Prelude.{◌≡◌, ℕ, ◌≤◌, ◌^◌, List, ◌∷◌, length, slice_range, All}
-use Rattle.std.specs.List.{range_with_len, flat_map}
-use Rattle.std.proofs.Common.{get_or, ap, sym, ◌∙◌}
+use Rattle.std.proofs.Common.{arith}
+use Rattle.std.specs.Prelude.{◌≡◌, ℕ, ◌≤◌, ◌^◌, List, length, All}
+use Rattle.std.proofs.lemmas.Grind.{common_steps}
+use Rattle.std.specs.List.{range_with_len}
+use Rattle.std.proofs.Common.{ap, sym, ◌∙◌}
 use Rattle.std.proofs.lemmas.List.Elements.{All-weaker}
 use Rattle.council_game.specs.Votes.{minimal_coalitions}
 use Rattle.council_game.specs.Game.{GameView, votes_of}
@@ -23,10 +25,7 @@ all_total_is game bits few within =
 
 -- each piece of a part is the slice of its number
 has_pieces : (g : Slicing) (p : Part) → IsPart g p → HasPieces g.slice p
-has_pieces g p part m l =
-    ap (λ (w : List ℕ). slice_range w (get_or (0 ∷ p.ends.items) m 0) (get_or p.ends.items m 0)) part.0
-    ∙ ap (λ (w : List ℕ). slice_range (flat_map g.slice p.slices.items) (get_or (0 ∷ w) m 0) (get_or w m 0)) part.1
-    ∙ piece_is g p.slices.items m l
+has_pieces g p part m l = grind (arith, common_steps, piece_is)
 
 pub all_pieces : (g : Slicing) (parts : List Part) → All (IsPart g) parts → All (HasPieces g.slice) parts
 all_pieces g parts a = All-weaker (IsPart g) (HasPieces g.slice) (has_pieces g) parts a

@@ -1,5 +1,6 @@
 -- Words that are put and read.
 use Rattle.std.specs.Prelude.{◌≡◌, ℕ, ◌+◌, ◌≤◌, Bool, true, false, ◌||◌, cond, List, [], ◌∷◌, ◌++◌, count_by, refl}
+use Rattle.std.proofs.lemmas.Grind.{common_steps}
 use Rattle.std.specs.List.{list_any}
 use Rattle.std.proofs.Common.{ap, arith, sym, ◌∙◌}
 use Rattle.std.proofs.lemmas.List.Sums.{sum_by-append, sum_by-cons}
@@ -25,9 +26,7 @@ done_counts (End j ∷ row) e = let s = sum_by-cons (λ (w : Word). cond (is_don
 -- a worker that had one slice at most still to finish has no more of them after it sent more words
 pub ahead_more : (n : ℕ) (before row after : List Word) → after ≡ before ++ row → n ≤ count_by is_done before + 1
     → n ≤ count_by is_done after + 1
-ahead_more n before row after e l =
-    let a : count_by is_done after ≡ count_by is_done (before ++ row) = ap (λ (w : List Word). count_by is_done w) e in
-    let m = done_more before row in omega arith
+ahead_more n before row after e l = grind (arith, common_steps)
 
 -- and none where it was idle, or has said that it is done
 pub idle_more : (n : ℕ) (idle now : Bool) (before row after : List Word) → after ≡ before ++ row → now ≡ (idle || list_any is_done row)

@@ -14,8 +14,8 @@ ghost use Rattle.mwc_gather.specs.Sending.{HasWorked};
 ghost use Rattle.mwc_gather.specs.declared.desk.TheConstants.{TASKS};
 
 use crate::job::Job;
-use crate::promise::{Answer, GivenJob};
 use crate::parcel::WORDS;
+use crate::promise::{Answer, GivenJob};
 use crate::told::Told;
 use crate::waiting::{BellPair, Bells, Patience};
 use crate::worker::work_beside;

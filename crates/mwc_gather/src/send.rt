@@ -8,8 +8,8 @@ ghost use Rattle.mwc_gather.specs.Inner.Sending.{SendsFirst, SendsSome};
 
 use crate::guarded::{Gate, Guarded};
 use crate::lookout::NoLookout;
-use crate::putting::{PutsRows, WordByWord};
 use crate::parcel::Parcel;
+use crate::putting::{PutsRows, WordByWord};
 use crate::seeking::{LastTold, next_told};
 use crate::sent::Sent;
 use crate::told::Told;

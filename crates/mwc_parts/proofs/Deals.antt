@@ -1,5 +1,6 @@
 -- Deals, one slice at a time.
 use Rattle.std.specs.Prelude.{◌≡◌, ℕ, zero, suc, ◌+◌, ◌<◌, ◌≤◌, Bool, true, false, cond, List, [], ◌∷◌, ◌++◌, length, map, All, refl}
+use Rattle.std.proofs.lemmas.Grind.{common_steps}
 use Rattle.std.specs.List.{range_with_len}
 use Rattle.std.specs.List.Sorted.{IsStrictlyIncreasing}
 use Rattle.std.proofs.Common.{eqb, ltb, set, get_or, take, add-one, ap, arith, ◌∙◌}
@@ -27,15 +28,10 @@ share_of-more w j (x ∷ hs) h =
     (share_of-more w (j + 1) hs h ∙ ap (λ (k : ℕ). share_from w (j + 1) hs ++ cond (eqb w h) (k ∷ []) []) e)
 
 pub share_of-other : (hs : List ℕ) (w h : ℕ) → (w ≡ h → ⊥) → share_of (hs ++ h ∷ []) w ≡ share_of hs w
-share_of-other hs w h ne =
-    share_of-more w 0 hs h ∙ ap (λ (b : Bool). share_from w 0 hs ++ cond b ((0 + length hs) ∷ []) []) (ne_eqb w h ne)
-    ∙ append-nil (share_of hs w)
+share_of-other hs w h ne = grind (arith, common_steps, append-nil, ne_eqb, share_of-more)
 
 pub share_of-same : (hs : List ℕ) (w h : ℕ) → w ≡ h → share_of (hs ++ h ∷ []) w ≡ share_of hs h ++ length hs ∷ []
-share_of-same hs w h e =
-    let z : 0 + length hs ≡ length hs = omega arith in
-    share_of-more w 0 hs h ∙ ap (λ (b : Bool). share_from w 0 hs ++ cond b ((0 + length hs) ∷ []) []) (eq-eqb w h e)
-    ∙ ap (λ (k : ℕ). share_from w 0 hs ++ k ∷ []) z ∙ ap (λ (v : ℕ). share_from v 0 hs ++ length hs ∷ []) e
+share_of-same hs w h e = grind (arith, common_steps, eq-eqb, share_of-more)
 
 others : (hs : List ℕ) (i from k : ℕ)
     → i < from → map (share_of (hs ++ i ∷ [])) (range_with_len from k) ≡ map (share_of hs) (range_with_len from k)

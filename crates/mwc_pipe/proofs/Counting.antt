@@ -1,5 +1,6 @@
 -- The counts of a history and the items inside.
 use Rattle.std.proofs.Common.{◌≡◌, ℕ, ◌-◌, ◌<◌, ◌==◌, Bool, true, false, ◌||◌, List, [], ◌∷◌, ◌++◌, length, slice_get, if◌then◌else◌, refl, ap, sym, ◌∙◌, arith, drop, append_assoc, length-append, not}
+use Rattle.std.proofs.lemmas.Grind.{common_steps}
 use Rattle.std.proofs.lemmas.Bool.Decides.{nat_tests}
 use Rattle.std.proofs.Math.Bool.{or-false, or-true}
 use Rattle.std.proofs.lemmas.List.{append-nil}
@@ -9,7 +10,7 @@ use Rattle.mwc_pipe.specs.declared.step.Step.{Step}
 use Rattle.mwc_pipe.specs.declared.step.Step.TheVariants.{Put, Take, Close}
 use Rattle.mwc_pipe.specs.declared.reply.Reply.{Reply}
 use Rattle.mwc_pipe.specs.declared.reply.Reply.TheVariants.{Accepted, Full, Closed, Item, Empty, Ended, First, Again}
-use Rattle.mwc_pipe.specs.History.{Event, item_in, item_out, is_close, items_in, items_out, reply_of_take, reply_to, history_after}
+use Rattle.mwc_pipe.specs.History.{Event, is_close, items_in, items_out, reply_of_take, reply_to, history_after}
 use Rattle.mwc_pipe.specs.PipeView.{PipeView, Leaves, IsStep}
 use Rattle.mwc_pipe.specs.Calls.{reply_of_taken, reply_of_close, TakesOut}
 use Rattle.mwc_pipe.specs.declared.taken.Taken.{Taken}
@@ -63,17 +64,7 @@ module _ {T : Type 0} where
   leaves_by : (past : List (Event T)) (pipe new : PipeView T) (event : Event T) → Leaves past pipe →
       items_out (event ∷ []) ++ new.inside ≡ pipe.inside ++ items_in (event ∷ []) → new.closed ≡ (pipe.closed || is_close event.0) →
       Leaves (past ++ event ∷ []) new
-  leaves_by past pipe new event leaves moved shut = record {
-    lawful = rw (
-      filter_map-append item_in past (event ∷ []),
-      filter_map-append item_out past (event ∷ []),
-      append_assoc,
-      moved,
-      ← append_assoc,
-      leaves.lawful,
-    ) refl;
-    closed = rw (list_any-append (λ event. is_close event.0) past (event ∷ []), or-false, ← leaves.closed) shut;
-  }
+  leaves_by past pipe new event leaves moved shut = grind (arith, common_steps, append_assoc, filter_map-append, list_any-append, or-false)
 
   -- a close
   pub leaves_closed : (past : List (Event T)) (pipe : PipeView T) (reply : Reply T) → Leaves past pipe →
@@ -120,11 +111,7 @@ module _ {T : Type 0} where
   -- an answer and a new state that the items inside give are a step
   pub is_step : (old new : PipeView T) (step : Step T) (reply : Reply T) →
       reply ≡ reply_in old step → new ≡ stepped old step → IsStep old step reply new
-  is_step old new step reply er en = record {
-    answers = λ past leaves. er ∙ sym (reply_is past old step leaves);
-    leads = λ past leaves. rw (er, en) (leaves_step past old step leaves);
-    same = rw en (capacity_stays old step);
-  }
+  is_step old new step reply er en = grind (arith, common_steps, capacity_stays, leaves_step, reply_is)
 
   -- the steps one by one
 

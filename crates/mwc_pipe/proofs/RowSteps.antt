@@ -1,8 +1,8 @@
 -- What calls that move many items stand for.
-use Rattle.std.specs.Prelude.{◌≡◌, ℕ, ◌+◌, ◌-◌, ◌<◌, ◌≤◌, ◌==◌, Bool, true, false, List, [], ◌∷◌, ◌++◌, map, length, slice_get, None, Some, refl, suc, zero}
+use Rattle.std.specs.Prelude.{◌≡◌, ℕ, ◌+◌, ◌-◌, ◌<◌, ◌≤◌, Bool, true, false, List, [], ◌∷◌, ◌++◌, length, refl, suc, zero}
+use Rattle.std.proofs.lemmas.Grind.{common_steps}
 use Rattle.std.proofs.Common.{ap, ◌∙◌, sym, arith, append_assoc, length-append}
 use Rattle.std.proofs.Math.Bool.{or-false}
-use Rattle.std.proofs.lemmas.Bool.Decides.{nat_tests}
 use Rattle.std.proofs.lemmas.List.{append-nil}
 use Rattle.std.proofs.lemmas.List.Elements.{filter_map-append}
 use Rattle.std.proofs.lemmas.List.Folds.{list_any-append}
@@ -10,7 +10,7 @@ use Rattle.mwc_pipe.specs.declared.step.Step.{Step}
 use Rattle.mwc_pipe.specs.declared.step.Step.TheVariants.{Put, Take}
 use Rattle.mwc_pipe.specs.declared.reply.Reply.{Reply}
 use Rattle.mwc_pipe.specs.declared.reply.Reply.TheVariants.{Accepted, Full, Item, Empty}
-use Rattle.mwc_pipe.specs.History.{Event, item_in, item_out, is_close, has_close, items_in, items_out, reply_to, history_after}
+use Rattle.mwc_pipe.specs.History.{Event, item_in, item_out, is_close, has_close, items_in, items_out, reply_to}
 use Rattle.mwc_pipe.specs.RowSteps.{puts_of, takes_of, AreAnswered, IsSeenByIn, IsSeenByOut}
 use Rattle.mwc_pipe.proofs.Counting.{get_after}
 
@@ -21,23 +21,17 @@ module _ {T : Type 0} where
   answered_more : (capacity : ℕ) (past : List (Event T)) (step : Step T) (reply : Reply T) (events : List (Event T)) →
       reply_to capacity past step ≡ reply → AreAnswered capacity (past ++ (step, reply) ∷ []) events →
       AreAnswered capacity past ((step, reply) ∷ events)
-  answered_more capacity past step reply events e more =
-      ap (λ (r : Reply T). history_after capacity (past ++ (step, r) ∷ []) (map (λ event. event.0) events)) e
-      ∙ more ∙ append_assoc past ((step, reply) ∷ []) events
+  answered_more capacity past step reply events e more = grind (arith, common_steps)
 
   -- the reply to a put while there is room, and where there is none
   put_accepted : (capacity : ℕ) (past : List (Event T)) (x : T) → has_close past ≡ false →
       length (items_out past) ≤ length (items_in past) → length (items_in past) < length (items_out past) + capacity →
       reply_to capacity past (Put x) ≡ Accepted
-  put_accepted capacity past x unclosed few room =
-      let full : (length (items_in past) - length (items_out past) == capacity) ≡ false = grind (arith, nat_tests) in
-      rw (unclosed, full) refl
+  put_accepted capacity past x unclosed few room = grind (arith, common_steps)
 
   put_full : (capacity : ℕ) (past : List (Event T)) (x : T) → has_close past ≡ false →
       length (items_in past) ≡ length (items_out past) + capacity → reply_to capacity past (Put x) ≡ Full
-  put_full capacity past x unclosed e =
-      let full : (length (items_in past) - length (items_out past) == capacity) ≡ true = grind (arith, nat_tests) in
-      rw (unclosed, full) refl
+  put_full capacity past x unclosed e = grind (arith, common_steps)
 
   -- a put that is accepted, as the past has it
   in_more : (past : List (Event T)) (x : T) → length (items_in (past ++ (Put x, Accepted) ∷ [])) ≡ length (items_in past) + 1
@@ -71,23 +65,16 @@ module _ {T : Type 0} where
       IsSeenByIn accepted gone past → n ≤ length row →
       length accepted + n ≤ gone + capacity → (n < length row → length accepted + n ≡ gone + capacity) →
       AreAnswered capacity past (puts_of row n)
-  puts_answered capacity gone accepted past row n seen l room full =
-      let came : length (items_in past) ≡ length accepted = ap length seen.came in
-      let went = seen.went in let few = seen.few in
-      puts_on capacity past row n seen.unclosed l (omega arith) (omega arith) (λ z. omega (arith, full z))
+  puts_answered capacity gone accepted past row n seen l room full = grind (arith, common_steps, puts_on)
 
   -- the reply to a take
   take_oldest : (capacity : ℕ) (past : List (Event T)) (x : T) (rest : List T) → items_in past ≡ items_out past ++ x ∷ rest →
       reply_to capacity past Take ≡ Item x
-  take_oldest capacity past x rest e =
-      let found : slice_get (items_in past) (length (items_out past)) ≡ Some x = rw e (get_after (items_out past) (x ∷ rest)) in
-      rw found refl
+  take_oldest capacity past x rest e = grind (arith, common_steps, get_after)
 
   take_none : (capacity : ℕ) (past : List (Event T)) → has_close past ≡ false → items_in past ≡ items_out past ++ [] →
       reply_to capacity past Take ≡ Empty
-  take_none capacity past unclosed e =
-      let found : slice_get (items_in past) (length (items_out past)) ≡ None = rw e (get_after (items_out past) []) in
-      rw (found, unclosed) refl
+  take_none capacity past unclosed e = grind (arith, common_steps, get_after)
 
   in_same : (past : List (Event T)) (x : T) → items_in (past ++ (Take, Item x) ∷ []) ≡ items_in past
   in_same past x = filter_map-append item_in past ((Take, Item x) ∷ []) ∙ append-nil (items_in past)
@@ -118,7 +105,4 @@ module _ {T : Type 0} where
   pub takes_answered : (capacity : ℕ) (taken items known : List T) (past : List (Event T)) (short : Bool) →
       IsSeenByOut ((taken ++ items) ++ known) taken past →
       (short ≡ true → known ≡ []) → AreAnswered capacity past (takes_of items short)
-  takes_answered capacity taken items known past short seen none =
-      let left : items_in past ≡ items_out past ++ (items ++ known) =
-      seen.came ∙ append_assoc taken items known ∙ ap (λ (w : List T). w ++ (items ++ known)) (sym seen.went) in
-      takes_on capacity past items known short seen.unclosed left none
+  takes_answered capacity taken items known past short seen none = grind (arith, common_steps, append_assoc, takes_on)

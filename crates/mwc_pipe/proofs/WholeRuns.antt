@@ -1,5 +1,6 @@
 -- What holds after every list of steps.
 use Rattle.std.proofs.Common.{◌≡◌, ◌≢◌, ℕ, ◌+◌, ◌<◌, ◌≤◌, ◌==◌, Bool, true, false, ◌||◌, List, [], ◌∷◌, ◌++◌, length, Option, Some, None, slice_get, take, refl, ap, sym, ◌∙◌, arith, suc, zero, length-append, length-drop, get_or, zero-add, add-zero}
+use Rattle.std.proofs.lemmas.Grind.{common_steps}
 use Rattle.std.proofs.Math.Bool.{or-false, or-true, or_assoc}
 use Rattle.std.proofs.lemmas.Bool.{eqb-false}
 use Rattle.std.specs.List.{list_any, filter_map}
@@ -136,17 +137,7 @@ module _ {T : Type 0} where
       Replayed capacity (steps ++ step ∷ []) (given ++ reply ∷ []) (ins ++ option_to_list (item_in (step, reply)))
       (outs ++ option_to_list (item_out (step, reply))) new
   replayed_more capacity steps given ins outs old new step reply so_far next =
-      let past : List (Event T) = history capacity steps in
-      let answer : reply ≡ reply_to capacity past step = next.answers past so_far.leaves ∙ ap (λ n. reply_to n past step) so_far.same in
-      let longer : history capacity (steps ++ step ∷ []) ≡ past ++ (step, reply) ∷ [] =
-      history_after_more capacity [] steps step ∙ ap (λ r. past ++ (step, r) ∷ []) (sym answer) in
-      record {
-        given_is = rw (longer, map-append, so_far.given_is) refl;
-        ins_is = rw (longer, filter_map-append, so_far.ins_is) (ap (λ xs. items_in past ++ xs) (one_out item_in (step, reply) _ refl));
-        outs_is = rw (longer, filter_map-append, so_far.outs_is) (ap (λ xs. items_out past ++ xs) (one_out item_out (step, reply) _ refl));
-        leaves = rw longer (next.leads past so_far.leaves);
-        same = next.same ∙ so_far.same;
-      }
+      grind (arith, common_steps, filter_map-append, history_after_more, map-append, one_out)
 
   -- the pipe is closed where a close stands among the steps
   pub replayed_closed : (capacity : ℕ) (steps : List (Step T)) (pipe : PipeView T) →
@@ -184,9 +175,7 @@ module _ {T : Type 0} where
       rw (longer, eg, eins, eouts) (replayed_more capacity (take i steps) given ins outs old new step reply so_far next)
 
   pub each_reply_is_counted_lem : (capacity : ℕ) (steps : List (Step T)) → EachReplyIsCounted capacity steps
-  each_reply_is_counted_lem capacity steps k step at =
-      let event = event_at capacity [] steps k step at in
-      rw (slice_get-map, ← zero-add k, event, zero-add) refl
+  each_reply_is_counted_lem capacity steps k step at = grind (arith, common_steps, event_at, slice_get-map, zero-add)
 
   -- the history of a pipe that is only filled
   abbrev filled : List T → List (Event T)
@@ -206,10 +195,7 @@ module _ {T : Type 0} where
   shut_filled (x ∷ xs) = shut_filled xs
 
   leaves_filled : (capacity : ℕ) (xs : List T) → Leaves (filled xs) (holding capacity xs false)
-  leaves_filled capacity xs = record {
-    lawful = ap (λ ys. ys ++ xs) (gone_filled xs) ∙ sym (came_filled xs);
-    closed = sym (shut_filled xs);
-  }
+  leaves_filled capacity xs = grind (arith, common_steps, came_filled, gone_filled, shut_filled)
 
   past_of : (capacity : ℕ) (xs : List T) (closed : Bool) → HasPast (holding capacity xs closed)
   past_of capacity xs false = (filled xs, leaves_filled capacity xs)

@@ -19,7 +19,11 @@ pub(crate) struct SliceQueue<'a, W> {
 }
 
 impl<'a, W: Watch> SliceQueue<'a, W> {
-    pub(crate) fn new(slices: SlicedGame<'a>, next: &'a AtomicU64, watch: &'a W) -> SliceQueue<'a, W>
+    pub(crate) fn new(
+        slices: SlicedGame<'a>,
+        next: &'a AtomicU64,
+        watch: &'a W,
+    ) -> SliceQueue<'a, W>
         ensures { result.slices ≡ slices.entry }
     {
         SliceQueue {

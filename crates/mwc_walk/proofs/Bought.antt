@@ -1,7 +1,7 @@
 -- Prices: the least that members weigh by one rule for what they weigh by another.
-use Rattle.std.proofs.Common.{◌≡◌, ℕ, ◌+◌, ◌*◌, ◌/◌, ◌%◌, ◌<◌, ◌≤◌, min, arith, inl, inr}
+use Rattle.std.proofs.Common.{◌≡◌, ℕ, ◌+◌, ◌*◌, ◌<◌, ◌≤◌, arith, inl, inr}
 use Rattle.std.specs.Int.{div_ceil}
-use Rattle.std.proofs.lemmas.Grind.{div_ceil_times}
+use Rattle.std.proofs.lemmas.Grind.{common_steps}
 use Rattle.std.proofs.lemmas.Bool.{cases_lt}
 use Rattle.std.proofs.lemmas.Nat.{mul-le}
 use Rattle.mwc_walk.specs.declared.price.Price.{Price}
@@ -48,11 +48,4 @@ price-stays p i t f g d dearer none is =
 
 -- the least that is weighed: rounded up
 pub rounded-up : (x b g : ℕ) → 0 < b → x ≤ b * g → div_ceil x b ≤ g
-rounded-up x b g some le =
-    let near = div_ceil_times x b some in
-    elim (cases_lt g (x / b + min 1 (x % b))) [
-      | inl more ↦
-          let over : (g + 1) * b ≤ (x / b + min 1 (x % b)) * b = mul-le (g + 1) b (x / b + min 1 (x % b)) b (omega arith) (omega arith) in
-          absurd (omega (arith, over, near.1, le))
-      | inr fine ↦ fine
-    ]
+rounded-up x b g some le = grind (arith, common_steps)

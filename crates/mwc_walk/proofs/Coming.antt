@@ -1,5 +1,6 @@
 -- What the members from a place on weigh in a coalition.
 use Rattle.std.proofs.Common.{◌≡◌, ℕ, suc, ◌+◌, ◌-◌, ◌*◌, ◌/◌, ◌%◌, ◌^◌, ◌<◌, ◌≤◌, List, ◌∷◌, length, take, drop, get_or, sum, ap, subst, ◌∙◌, arith, inl, inr, drop-cons, length-drop}
+use Rattle.std.proofs.lemmas.Grind.{common_steps}
 use Rattle.std.proofs.lemmas.List.{drop_all, length-take-le, get_or-take}
 use Rattle.std.proofs.lemmas.Bool.{cases_eq}
 use Rattle.std.proofs.lemmas.Nat.Bits.{bit_at-lt}
@@ -25,9 +26,7 @@ weight-from ws n p c below le =
 
 -- past the last place there is none
 pub weight-past : (ws : List ℕ) (n p c : ℕ) → n ≤ p → n ≤ length ws → weight (drop p (take n ws)) c ≡ 0
-weight-past ws n p c past le =
-    let size : length (take n ws) ≡ n = length-take-le n ws le in
-    ap (λ (l : List ℕ). weight l c) (drop_all p (take n ws) (omega (arith, size))) ∙ weight-nil c
+weight-past ws n p c past le = grind (arith, common_steps, drop_all, length-take-le, weight-nil)
 
 pub price-step : (n p : ℕ) (own other : List ℕ) (before after : Price) → p < n → n ≤ length own → n ≤ length other
     → ((f g d : ℕ) → IsPrice before f g → IsPrice after (d * get_or other p 0 + f) (d * get_or own p 0 + g))

@@ -1,12 +1,13 @@
 -- The numbers below a bound, descending, filtered.
-use Rattle.std.proofs.Common.{◌≡◌, ℕ, zero, suc, ◌+◌, ◌-◌, ◌*◌, ◌/◌, ◌^◌, ◌<◌, ◌≤◌, Bool, true, false, ◌&&◌, eqb, List, [], ◌∷◌, ◌++◌, refl, sym, ap, ◌∙◌, subst, arith, zero-add, inl, inr}
+use Rattle.std.proofs.Common.{◌≡◌, ℕ, zero, suc, ◌+◌, ◌-◌, ◌*◌, ◌/◌, ◌^◌, ◌<◌, ◌≤◌, Bool, true, false, ◌&&◌, eqb, List, [], ◌∷◌, ◌++◌, refl, ap, ◌∙◌, arith, zero-add, inl, inr}
+use Rattle.std.proofs.lemmas.Grind.{common_steps}
 use Rattle.std.specs.List.{filter}
 use Rattle.std.proofs.Math.Bool.{and-true}
-use Rattle.std.proofs.Math.Nat.{lt-div-mul-add, div-mul-le_self}
+use Rattle.std.proofs.Math.Nat.{lt-div-mul-add}
 use Rattle.std.proofs.lemmas.Bool.{cases_Bool, and_right, ne_eqb}
 use Rattle.std.proofs.lemmas.List.{append-nil}
 use Rattle.std.proofs.lemmas.List.Elements.{filter-append}
-use Rattle.std.proofs.lemmas.Nat.{div-mul-add, pow_pos}
+use Rattle.std.proofs.lemmas.Nat.{pow_pos}
 use Rattle.council_game.specs.Votes.{down}
 
 -- the numbers from low on, as many as there are more
@@ -55,10 +56,7 @@ filter-down_skip p low more fails =
 
 pub filter-filter_skip : (q p : ℕ → Bool) (low more : ℕ) → ((c : ℕ) → low ≤ c → c < low + more → q c ≡ false)
     → filter q (filter p (down (low + more))) ≡ filter q (filter p (down low))
-filter-filter_skip q p low more fails =
-    filter-filter q p (down (low + more))
-    ∙ filter-down_skip (λ c. p c && q c) low more (λ c from to. and_right (p c) (q c) (fails c from to))
-    ∙ sym (filter-filter q p (down low))
+filter-filter_skip q p low more fails = grind (arith, common_steps, and_right, filter-down_skip, filter-filter)
 
 pub filter-filter_none : (q p : ℕ → Bool) (n : ℕ) → ((c : ℕ) → c < n → q c ≡ false) → filter q (filter p (down n)) ≡ []
 unfolding down
@@ -66,9 +64,7 @@ filter-filter_none q p n fails = rw zero-add at (filter-filter_skip q p 0 n (λ 
 
 -- a number that passes is the first
 pub filter-down_take : (p : ℕ → Bool) (c : ℕ) → p c ≡ true → filter p (down (c + 1)) ≡ c ∷ filter p (down c)
-filter-down_take p c passes =
-    let e : c + 0 ≡ c = omega arith in
-    rw (down-split c 1, e, passes) refl
+filter-down_take p c passes = grind (arith, common_steps, down-split)
 
 -- the top, which passes q, then the rest, which does not
 pub filter-block : (q p : ℕ → Bool) (low more : ℕ) → ((c : ℕ) → low ≤ c → c < low + more → q c ≡ true) → ((c : ℕ) → c < low → q c ≡ false)
@@ -88,18 +84,10 @@ filter-block q p low more passes fails =
 
 -- ---- the numbers of a block, which have one quotient
 pub block-prefix : (x h c : ℕ) → x * 2 ^ h ≤ c → c < x * 2 ^ h + 2 ^ h → c / 2 ^ h ≡ x
-block-prefix x h c low high =
-    let e : c ≡ x * 2 ^ h + (c - x * 2 ^ h) = omega arith in
-    ap (λ (i : ℕ). i / 2 ^ h) e ∙ div-mul-add x (2 ^ h) (c - x * 2 ^ h) (omega arith)
+block-prefix x h c low high = grind (arith, common_steps)
 
 pub before-block : (x h c : ℕ) → c < x * 2 ^ h → eqb (c / 2 ^ h) x ≡ false
-before-block x h c high =
-    ne_eqb _ _ (λ same.
-    let low : x * 2 ^ h ≤ c = subst (λ (i : ℕ). i * 2 ^ h ≤ c) same (div-mul-le_self c (2 ^ h)) in
-    omega arith)
+before-block x h c high = grind (arith, common_steps)
 
 pub past-block : (x h c : ℕ) → (x + 1) * 2 ^ h ≤ c → eqb (c / 2 ^ h) x ≡ false
-past-block x h c low =
-    ne_eqb _ _ (λ same.
-    let high : c < x * 2 ^ h + 2 ^ h = subst (λ (i : ℕ). c < i * 2 ^ h + 2 ^ h) same (lt-div-mul-add (pow_pos h)) in
-    omega arith)
+past-block x h c low = grind (arith, common_steps, lt-div-mul-add, ne_eqb, pow_pos)

@@ -1,9 +1,10 @@
 -- By how much quotas are passed below a prefix, told from the lanes.
-use Rattle.std.proofs.Common.{◌≡◌, ℕ, ◌+◌, ◌-◌, ◌*◌, ◌/◌, ◌^◌, ◌<◌, ◌≤◌, min, true, List, [], length, take, drop, get_or, sym, ap, ◌∙◌, subst, arith, inl, inr}
+use Rattle.std.proofs.Common.{◌≡◌, ℕ, ◌+◌, ◌-◌, ◌*◌, ◌/◌, ◌^◌, ◌<◌, ◌≤◌, min, true, List, [], length, take, drop, get_or, subst, arith}
+use Rattle.std.proofs.lemmas.Grind.{common_steps}
 use Rattle.std.specs.Int.Bits.{bit_and}
 use Rattle.std.proofs.lemmas.Bool.{cases_Bool, both_ways, and_parts, and_from, eq-eqb}
 use Rattle.std.proofs.lemmas.List.{get_or-take}
-use Rattle.council_game.specs.Votes.{Votes, rule_at, has, weight, wins}
+use Rattle.council_game.specs.Votes.{Votes, rule_at, weight, wins}
 use Rattle.mwc_walk.specs.declared.lane.Lane.{Lane}
 use Rattle.mwc_walk.specs.declared.vetoes.Vetoes.{Vetoes}
 use Rattle.mwc_walk.specs.declared.cursor.Cursor.{Cursor}
@@ -62,23 +63,10 @@ short-need v a i t s is below split capped =
 -- ---- the members to be tried
 pub tried-first : (v : Votes) (a : Cursor) (es : List ℕ) (m : ℕ) → CursorIs v a → m ≡ a.prefix * 2 ^ (v.members - a.place)
     → Tried v a.place a.prefix es m
-tried-first v a es m is same = record {
-  below = omega (arith, same, enter-short v a is);
-  inside = λ q below in'. ap (has v.members q) (sym same) ∙ in';
-  kept = λ q below in' out. absurd (both_ways _ out (ap (has v.members q) same ∙ in'));
-}
+tried-first v a es m is same = grind (arith, common_steps, both_ways, enter-short)
 
 -- a rule that passes its quota by nothing spares only who weighs nothing
 pub tried-weightless : (v : Votes) (p x i few : ℕ) (es : List ℕ) (l : Lane) → i < length v.rules → LaneIs v.members p x (rule_at v.rules i) l
     → get_or es i 0 ≡ 0 → Tried v p x es few → Tried v p x es (bit_and few l.weightless)
-tried-weightless v p x i few es l below is nothing tried = record {
-  below = let less = and-less few l.weightless few (omega arith) in omega (arith, less, tried.below);
-  inside = λ q lt in'. tried.inside q lt (and_parts _ _ (sym (has-and v.members q few l.weightless) ∙ in')).0;
-  kept = λ q lt in' out. elim (cases_Bool (has v.members q few)) [
-    | inl still ↦ λ spare.
-        let free = spare i below in
-        let weightless : has v.members q l.weightless ≡ true = is.weightless q lt ∙ eq-eqb _ _ (omega (arith, free, nothing)) in
-        both_ways _ out (has-and v.members q few l.weightless ∙ and_from _ _ still weightless)
-    | inr gone ↦ tried.kept q lt in' gone
-  ];
-}
+tried-weightless v p x i few es l below is nothing tried =
+    grind (arith, common_steps, and-less, and_from, and_parts, both_ways, cases_Bool, eq-eqb, has-and)

@@ -1,5 +1,6 @@
 -- Masks of places, rule by rule and digit by digit.
 use Rattle.std.proofs.Common.{◌≡◌, ℕ, suc, ◌+◌, ◌-◌, ◌*◌, ◌/◌, ◌%◌, ◌^◌, ◌<◌, ◌≤◌, ◌==◌, ◌&&◌, min, refl, sym, ap, ◌∙◌, arith}
+use Rattle.std.proofs.lemmas.Grind.{common_steps}
 use Rattle.std.specs.Int.Bits.{bit_and}
 use Rattle.std.proofs.Math.Nat.{pow-suc}
 use Rattle.std.proofs.lemmas.Bool.Decides.{nat_tests}
@@ -12,9 +13,7 @@ and-digit a b la lb = grind (arith, nat_tests)
 
 pub has-and : (n q a b : ℕ) → has n q (bit_and a b) ≡ (has n q a && has n q b)
 unfolding has
-has-and n q a b =
-    ap (λ (i : ℕ). i == 1) (bit_at_and a b (n - 1 - q))
-    ∙ and-digit (a / 2 ^ (n - 1 - q) % 2) (b / 2 ^ (n - 1 - q) % 2) (omega arith) (omega arith)
+has-and n q a b = grind (arith, common_steps, and-digit, bit_at_and)
 
 pub and-less : (a b m : ℕ) → a ≤ m → bit_and a b ≤ m
 and-less a b m le = let less = and_le_l a b in omega (arith, less)

@@ -1,8 +1,8 @@
 -- What is still to come is the end of the slice.
-use Rattle.std.proofs.Common.{◌≡◌, ℕ, suc, ◌+◌, ◌-◌, ◌*◌, ◌/◌, ◌^◌, ◌<◌, ◌≤◌, Bool, true, cond, eqb, List, [], ◌∷◌, ◌++◌, length, get_or, take, drop, Option, Some, None, MatchOption, refl, sym, ap, ◌∙◌, arith}
+use Rattle.std.proofs.Common.{◌≡◌, ℕ, suc, ◌+◌, ◌-◌, ◌*◌, ◌/◌, ◌^◌, ◌<◌, ◌≤◌, Bool, true, eqb, List, [], ◌∷◌, ◌++◌, length, get_or, take, drop, Option, Some, None, MatchOption, sym, ap, ◌∙◌, arith}
+use Rattle.std.proofs.lemmas.Grind.{common_steps}
 use Rattle.std.specs.List.{filter}
 use Rattle.std.proofs.Math.Nat.{mul-add}
-use Rattle.std.proofs.Math.Seq.{drop-append_seam}
 use Rattle.std.proofs.lemmas.Bool.{cond_both}
 use Rattle.std.proofs.lemmas.List.{length-append, length-drop, get_or-drop, take_more, take-append-drop}
 use Rattle.std.proofs.lemmas.List.Elements.{filter-append}
@@ -13,7 +13,7 @@ use Rattle.mwc_walk.specs.Slices.{slice}
 use Rattle.mwc_walk.specs.Inner.Places.{in_slice, slice_below}
 use Rattle.mwc_walk.specs.declared.cursor.Cursor.{Cursor}
 use Rattle.mwc_walk.specs.Inner.Cursor.{bound, rest_of_slice, CursorIs, Follows, Runs}
-use Rattle.mwc_walk.proofs.Descending.{above, down-split}
+use Rattle.mwc_walk.proofs.Descending.{down-split}
 use Rattle.mwc_walk.proofs.Steps.{rest-most}
 
 -- a list that ends with another
@@ -23,15 +23,7 @@ record EndsWith (whole end : List ℕ) : Type 0 where
 
 -- of two descending counts, filtered, the longer ends with the shorter
 filter-ends : (q p : ℕ → Bool) (low more : ℕ) → EndsWith (filter q (filter p (down (low + more)))) (filter q (filter p (down low)))
-filter-ends q p low more = record {
-  front = filter q (filter p (above low more));
-  joined = rw (
-    down-split low more,
-    filter-append p (above low more) (down low),
-    filter-append q (filter p (above low more))
-        (filter p (down low)),
-  ) refl;
-}
+filter-ends q p low more = grind (arith, common_steps, down-split, filter-append)
 
 left-ends : (v : Votes) (k j b : ℕ) → b ≤ 2 ^ v.members → EndsWith (slice v k j) (slice_below v k j b)
 unfolding slice_below minimal_below in_slice slice minimal_coalitions
@@ -41,20 +33,10 @@ left-ends v k j b le =
     rw e at ends
 
 bound-below : (v : Votes) (a : Cursor) → CursorIs v a → bound v a ≤ 2 ^ v.members
-bound-below v a is =
-    let whole : 2 ^ v.members ≡ 2 ^ a.place * 2 ^ (v.members - a.place) =
-    ap (λ (i : ℕ). 2 ^ i) (let e : v.members ≡ a.place + (v.members - a.place) = omega arith in e)
-    ∙ pow-add 2 a.place (v.members - a.place) in
-    let few : cond a.fresh (a.prefix + 1) a.prefix ≤ 2 ^ a.place =
-    cond_both a.fresh (a.prefix + 1) a.prefix (λ i. i ≤ 2 ^ a.place) (λ _. omega (arith, is.place.short))
-    (λ _. omega (arith, is.place.short)) in
-    rw whole (mul-le _ (2 ^ (v.members - a.place)) (2 ^ a.place) (2 ^ (v.members - a.place)) few (omega arith))
+bound-below v a is = grind (arith, common_steps, cond_both, mul-le, pow-add)
 
 drop-front : (whole end : List ℕ) → EndsWith whole end → end ≡ drop (length whole - length end) whole
-drop-front whole end is =
-    let size : length whole ≡ length is.front + length end = ap length is.joined ∙ length-append is.front end in
-    let cut : length whole - length end ≡ length is.front = omega (arith, size) in
-    sym (ap (λ (i : ℕ). drop i whole) cut ∙ ap (drop (length is.front)) is.joined ∙ drop-append_seam is.front end)
+drop-front whole end is = grind (arith, common_steps)
 
 -- what is still to come is the slice, less as many of its first as were given
 pub rest-is : (v : Votes) (a : Cursor)
@@ -95,15 +77,11 @@ given-next v a None b is h =
 
 -- steps that came to no coalition have given the same
 pub given-same : (v : Votes) (a b : Cursor) → Follows v a b → rest_of_slice v b ≡ rest_of_slice v a → given-by v b ≡ given-by v a
-given-same v a b h same =
-    ap (λ (s : List ℕ). take (length s - length (rest_of_slice v b)) s) (same-slice v a b h)
-    ∙ ap (λ (r : List ℕ). take (length (slice v a.bits a.number) - length r) (slice v a.bits a.number)) same
+given-same v a b h same = grind (arith, common_steps)
 
 -- what was given and what is to come
 pub given-whole : (v : Votes) (a : Cursor) → CursorIs v a → given-by v a ++ rest_of_slice v a ≡ slice v a.bits a.number
-given-whole v a is =
-    ap (λ (r : List ℕ). given-by v a ++ r) (rest-is v a is)
-    ∙ take-append-drop (length (slice v a.bits a.number) - length (rest_of_slice v a)) (slice v a.bits a.number)
+given-whole v a is = grind (arith, common_steps, rest-is, take-append-drop)
 
 pub whole-after : (v : Votes) (a : Cursor) (o : Option ℕ) (b : Cursor) → Runs v a o b
     → given-by v b ++ rest_of_slice v b ≡ slice v b.bits b.number

@@ -1,5 +1,6 @@
 -- What is left of a slice, at a place of the walk.
-use Rattle.std.proofs.Common.{◌≡◌, ℕ, ◌+◌, ◌-◌, ◌*◌, ◌/◌, ◌%◌, ◌^◌, ◌<◌, ◌≤◌, true, false, eqb, List, [], ◌∷◌, sym, ap, ◌∙◌, arith}
+use Rattle.std.proofs.Common.{◌≡◌, ℕ, ◌+◌, ◌-◌, ◌*◌, ◌/◌, ◌%◌, ◌^◌, ◌<◌, ◌≤◌, true, false, eqb, [], ◌∷◌, sym, ap, ◌∙◌, arith}
+use Rattle.std.proofs.lemmas.Grind.{common_steps}
 use Rattle.std.specs.List.{filter}
 use Rattle.std.proofs.lemmas.Nat.Bits.{bit_at_cat_low}
 use Rattle.std.proofs.lemmas.Nat.{pow_pos, pow-add, mul-le}
@@ -48,11 +49,7 @@ dead-nothing v p x game le dead =
 pub left-nothing : (v : Votes) (k j p x : ℕ) → NothingBelow v p x
     → slice_below v k j ((x + 1) * 2 ^ (v.members - p)) ≡ slice_below v k j (x * 2 ^ (v.members - p))
 unfolding slice_below minimal_below
-left-nothing v k j p x nothing =
-    ap (in_slice v k j) (
-    ap (λ (i : ℕ). filter (minimal v) (down i)) (next-block x (v.members - p))
-    ∙ filter-down_skip (minimal v) (x * 2 ^ (v.members - p)) (2 ^ (v.members - p))
-    (λ c low high. nothing c (block-prefix x (v.members - p) c low high)))
+left-nothing v k j p x nothing = grind (arith, common_steps, block-prefix, filter-down_skip, next-block)
 
 -- below a winning prefix only the prefix with zeros is left
 pub left-won : (v : Votes) (k j p x : ℕ) → IsVotes v → p ≤ v.members → wins_at v.rules p x ≡ true
@@ -71,9 +68,7 @@ left-won v k j p x game le win =
 pub left-take : (v : Votes) (k j c : ℕ) → minimal v c ≡ true → c / 2 ^ (v.members - k) ≡ 2 ^ k - 1 - j
     → slice_below v k j (c + 1) ≡ c ∷ slice_below v k j c
 unfolding slice_below minimal_below in_slice
-left-take v k j c h inside =
-    ap (λ (l : List ℕ). filter (λ d. eqb (d / 2 ^ (v.members - k)) (2 ^ k - 1 - j)) l) (filter-down_take (minimal v) c h)
-    ∙ cond-true (eqb (c / 2 ^ (v.members - k)) (2 ^ k - 1 - j)) _ _ (eq-eqb _ _ inside)
+left-take v k j c h inside = grind (arith, common_steps, cond-true, eq-eqb, filter-down_take)
 
 -- where the walk starts, the whole slice is left
 pub left-all : (v : Votes) (k j : ℕ) → k ≤ v.members → j < 2 ^ k
@@ -93,6 +88,4 @@ left-all v k j le below =
 -- where it ends, nothing is
 pub left-none : (v : Votes) (k j : ℕ) → slice_below v k j ((2 ^ k - 1 - j) * 2 ^ (v.members - k)) ≡ []
 unfolding slice_below minimal_below in_slice
-left-none v k j =
-    filter-filter_none (λ c. eqb (c / 2 ^ (v.members - k)) (2 ^ k - 1 - j)) (minimal v) ((2 ^ k - 1 - j) * 2 ^ (v.members - k))
-    (before-block (2 ^ k - 1 - j) (v.members - k))
+left-none v k j = grind (arith, common_steps, before-block, filter-filter_none)

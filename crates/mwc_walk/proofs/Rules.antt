@@ -1,5 +1,6 @@
 -- What a rule's places weigh, at a prefix x of p places.
-use Rattle.std.proofs.Common.{◌≡◌, ℕ, ◌+◌, ◌-◌, ◌*◌, ◌/◌, ◌%◌, ◌^◌, ◌<◌, ◌≤◌, true, List, [], take, drop, get_or, sum, refl, arith}
+use Rattle.std.proofs.Common.{◌≡◌, ℕ, ◌+◌, ◌-◌, ◌*◌, ◌/◌, ◌%◌, ◌^◌, ◌<◌, ◌≤◌, true, List, take, drop, get_or, sum, refl, arith}
+use Rattle.std.proofs.lemmas.Grind.{common_steps}
 use Rattle.std.specs.List.{AllByRecursion}
 use Rattle.std.proofs.lemmas.Bool.{le-leb, leb-true}
 use Rattle.std.proofs.lemmas.List.{drop_all}
@@ -40,18 +41,12 @@ module _ (n : ℕ) (rs : List RuleView) (all : AllByRecursion (IsRule n) rs) whe
   -- a set with a winning prefix wins
   pub wins-below : (p c : ℕ) → p ≤ n → wins_at rs p (c / 2 ^ (n - p)) ≡ true → wins rs c ≡ true
   unfolding wins wins_at
-  wins-below p c le =
-      list_all-more (IsRule n) _ _ (λ r is h.
-      let met : r.quota ≤ weight (take p r.weights) (c / 2 ^ (n - p)) = leb-true _ _ h in
-      le-leb _ _ (omega (arith, met, weight-split is p c le))) rs all
+  wins-below p c le = grind (arith, common_steps, le-leb, leb-true, list_all-more, weight-split)
 
   -- a set whose prefix cannot reach some quota loses
   pub loses-below : (p c : ℕ) → p ≤ n → wins rs c ≡ true → reaches rs p (c / 2 ^ (n - p)) ≡ true
   unfolding wins reaches
-  loses-below p c le =
-      list_all-more (IsRule n) _ _ (λ r is h.
-      let met : r.quota ≤ weight r.weights c = leb-true _ _ h in
-      le-leb _ _ (omega (arith, met, weight-split is p c le, weight-le (drop p r.weights) (c % 2 ^ (n - p))))) rs all
+  loses-below p c le = grind (arith, common_steps, le-leb, leb-true, list_all-more, weight-le, weight-split)
 
   pub wins-more : (p x b : ℕ) → p < n → b < 2 → wins_at rs p x ≡ true → wins_at rs (p + 1) (2 * x + b) ≡ true
   unfolding wins_at
@@ -75,8 +70,4 @@ module _ (n : ℕ) (rs : List RuleView) (all : AllByRecursion (IsRule n) rs) whe
   -- past the last place, what reaches the quotas wins
   pub full-reach : (p x : ℕ) → n ≤ p → reaches rs p x ≡ wins_at rs p x
   unfolding reaches wins_at
-  full-reach p x past =
-      list_all-same (IsRule n) _ _ (λ r is.
-      let nothing : drop p r.weights ≡ [] = drop_all p r.weights (omega (arith, is.full)) in
-      let here : weight (take p r.weights) x + sum (drop p r.weights) ≡ weight (take p r.weights) x = rw nothing (omega arith) in
-      rw here refl) rs all
+  full-reach p x past = grind (arith, common_steps, drop_all, list_all-same)

@@ -1,5 +1,6 @@
 -- The members that each rule can spare, and the prefixes below which nothing is minimal.
-use Rattle.std.proofs.Common.{◌≡◌, ℕ, zero, suc, ◌+◌, ◌-◌, ◌*◌, ◌/◌, ◌%◌, ◌^◌, ◌<◌, ◌≤◌, ◌==◌, true, false, List, [], ◌∷◌, length, take, drop, get_or, refl, sym, ap, ◌∙◌, subst, arith, inl, inr}
+use Rattle.std.proofs.Common.{◌≡◌, ℕ, zero, suc, ◌+◌, ◌-◌, ◌*◌, ◌/◌, ◌%◌, ◌^◌, ◌<◌, ◌≤◌, ◌==◌, true, List, [], ◌∷◌, length, take, drop, get_or, refl, sym, ap, ◌∙◌, subst, arith, inl, inr}
+use Rattle.std.proofs.lemmas.Grind.{common_steps}
 use Rattle.std.specs.List.{AllByRecursion}
 use Rattle.std.specs.Int.{w64, trailing_zeros}
 use Rattle.std.specs.Int.Bits.{bit_and}
@@ -55,11 +56,7 @@ still-wins n c q (r ∷ rs) all below in' free =
 pub spared-nothing : (v : Votes) (p x q : ℕ) (es : List ℕ) → IsVotes v → p ≤ v.members → q < v.members
     → has v.members q (x * 2 ^ (v.members - p)) ≡ true → CanSpare v es q → AreExcesses v p x es → NothingBelow v p x
 spared-nothing v p x q es game le below in' spare excess =
-    λ c prefix. false_from_ne_true _ (λ min.
-    let inside = has-below v.members p x c q le below prefix in' in
-    let both = (needs-each-member v c).0 min in
-    both_ways _ (both.1 q below inside) (still-wins v.members c q v.rules game.rules below inside
-    (λ i lt. let more = excess i lt c prefix both.0 in let free = spare i lt in omega (arith, more, free))))
+    grind (arith, common_steps, both_ways, false_from_ne_true, has-below, needs-each-member, still-wins)
 
 pub none-nothing : (v : Votes) (p x : ℕ) → NoneWins v p x → NothingBelow v p x
 none-nothing v p x none = λ c prefix. false_from_ne_true _ (λ min. none c prefix (((needs-each-member v c).0 min).0))
@@ -116,20 +113,7 @@ last-place v a rest is pos short =
 -- one place more is tried
 pub tried-more : (v : Votes) (p x rest q : ℕ) (es : List ℕ) → 0 < rest → q < v.members → has v.members q rest ≡ true
     → (CanSpare v es q → ⊥) → Tried v p x es rest → Tried v p x es (without v.members q rest)
-tried-more v p x rest q es pos below in' kept tried = record {
-  below = let less = without-less v.members q rest pos in omega (arith, less, tried.below);
-  inside = λ m lt still. elim (cases_eq m q) [
-    | inl same ↦ absurd (both_ways _ (gone m same) still)
-    | inr other ↦ tried.inside m lt (sym (has-kept v.members m q rest lt below other in') ∙ still)
-  ];
-  kept = λ m lt inside out. elim (cases_eq m q) [
-    | inl same ↦ λ spare. kept (subst (CanSpare v es) same spare)
-    | inr other ↦ tried.kept m lt inside (sym (has-kept v.members m q rest lt below other in') ∙ out)
-  ];
-}
-  where
-    gone : (m : ℕ) → m ≡ q → has v.members m (without v.members q rest) ≡ false
-    gone m same = ap (λ (i : ℕ). has v.members i (without v.members q rest)) same ∙ has-gone v.members q rest in'
+tried-more v p x rest q es pos below in' kept tried = grind (arith, common_steps, both_ways, cases_eq, has-gone, has-kept, without-less)
 
 pub tried-all : (v : Votes) (p x rest : ℕ) (es : List ℕ) → rest ≡ 0 → Tried v p x es rest → NoneSpared v p x es
 tried-all v p x rest es none tried =

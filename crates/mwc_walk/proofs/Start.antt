@@ -1,13 +1,13 @@
 -- The cursor at the fixed places of a slice.
-use Rattle.std.proofs.Common.{◌≡◌, ℕ, ◌+◌, ◌-◌, ◌*◌, ◌/◌, ◌%◌, ◌^◌, ◌<◌, ◌≤◌, true, false, cond, ltb, List, map, length, take, refl, sym, ap, ◌∙◌, subst, arith}
+use Rattle.std.proofs.Common.{◌≡◌, ℕ, ◌+◌, ◌-◌, ◌*◌, ◌/◌, ◌%◌, ◌^◌, ◌<◌, ◌≤◌, true, false, List, map, length, take, ap, ◌∙◌, arith}
+use Rattle.std.proofs.lemmas.Grind.{common_steps}
 use Rattle.std.proofs.lemmas.Nat.{pow_pos, one_shl, div_below}
 use Rattle.std.proofs.lemmas.Bool.{le-ltb, cond-false, eq-eqb, eqb-true, both_ways}
 use Rattle.mwc_walk.specs.declared.lane.Lane.{Lane}
 use Rattle.mwc_walk.specs.Inner.Lanes.{lane_with}
 use Rattle.council_game.specs.Votes.{RuleView, Votes, IsVotes, has}
-use Rattle.mwc_walk.specs.Slices.{slice}
 use Rattle.council_game.proofs.Shared.WinningByPlaces.{fixed-half}
-use Rattle.mwc_walk.specs.Inner.Places.{slice_below, LanesAre}
+use Rattle.mwc_walk.specs.Inner.Places.{LanesAre}
 use Rattle.mwc_walk.specs.declared.asked.Asked.{Asked}
 use Rattle.mwc_walk.specs.Inner.Asked.{AreAsked}
 use Rattle.mwc_walk.specs.Inner.Cursor.{Starts}
@@ -21,60 +21,19 @@ first-number k j le = ap (λ (i : ℕ). i - 1 - j) (one_shl k 64 (omega arith))
 pub fixed-in : (n k p x : ℕ) (rs : List RuleView) (ls : List Lane) → p < k → k ≤ n → has k p x ≡ true → LanesAre n p (x / 2 ^ (k - p)) rs ls
     → LanesAre n (p + 1) (x / 2 ^ (k - (p + 1))) rs (map (lane_with p) ls)
 unfolding has
-fixed-in n k p x rs ls below le inside are =
-    let e : k - 1 - p ≡ k - (p + 1) = omega arith in
-    let odd' : x / 2 ^ (k - (p + 1)) % 2 ≡ 1 = ap (λ (i : ℕ). x / 2 ^ i % 2) (sym e) ∙ eqb-true _ _ inside in
-    let h = fixed-half x k p below in
-    let whole : 2 * (x / 2 ^ (k - p)) + 1 ≡ x / 2 ^ (k - (p + 1)) = omega (arith, h, odd') in
-    subst (λ (i : ℕ). LanesAre n (p + 1) i rs (map (lane_with p) ls)) whole (lanes-in n p (x / 2 ^ (k - p)) rs ls (omega arith) are)
+fixed-in n k p x rs ls below le inside are = grind (arith, common_steps, eqb-true, fixed-half, lanes-in)
 
 pub fixed-pass : (n k p x : ℕ) (rs : List RuleView) (ls : List Lane) → p < k → k ≤ n → has k p x ≡ false
     → LanesAre n p (x / 2 ^ (k - p)) rs ls → LanesAre n (p + 1) (x / 2 ^ (k - (p + 1))) rs ls
 unfolding has
-fixed-pass n k p x rs ls below le outside are =
-    let e : k - 1 - p ≡ k - (p + 1) = omega arith in
-    let even' : x / 2 ^ (k - (p + 1)) % 2 ≡ 1 → ⊥ = λ o. both_ways _ outside (eq-eqb _ _ (ap (λ (i : ℕ). x / 2 ^ i % 2) e ∙ o)) in
-    let h = fixed-half x k p below in
-    let whole : 2 * (x / 2 ^ (k - p)) ≡ x / 2 ^ (k - (p + 1)) = omega (arith, h, even') in
-    subst (λ (i : ℕ). LanesAre n (p + 1) i rs ls) whole (lanes-pass n p (x / 2 ^ (k - p)) rs ls (omega arith) are)
+fixed-pass n k p x rs ls below le outside are = grind (arith, common_steps, both_ways, eq-eqb, fixed-half, lanes-pass)
 
 pub starts : (v : Votes) (k j x m n : ℕ) (ls : List Lane) (qs : List Asked) → IsVotes v → k ≤ v.members → j < 2 ^ k → n ≡ v.members → m ≡ length v.rules
     → m ≤ length ls → AreAsked v qs
     → LanesAre v.members k (x / 2 ^ (k - k)) v.rules (take m ls) → x ≡ 2 ^ k - 1 - j
     → Starts v k j (record { lanes = ls; asked = qs; rules = m; members = n; bits = k; number = j; prefix = x; place = k; fresh = true; visits = k })
 starts v k j x m n ls qs game le below members rules room asked are prefix =
-    let pos : 0 < 2 ^ k = pow_pos k in
-    let none : k - k ≡ 0 = omega arith in
-    let whole : x / 2 ^ 0 ≡ x = omega arith in
-    let all : slice_below v k j ((x + 1) * 2 ^ (v.members - k)) ≡ slice v k j = rw prefix (left-all v k j le below) in
-    let fixed : cond (ltb k k) (x % 2) k ≡ k = cond-false (ltb k k) _ _ (le-ltb k k (omega arith)) in
-    record {
-      is = record {
-        game = game;
-        members = members;
-        rules = rules;
-        room = room;
-        lanes = rw (none, whole) at are;
-        asked = asked;
-        place = record {
-          from = omega arith;
-          to = le;
-          number_in = below;
-          inside = rw (none, whole) prefix;
-          short = omega (arith, prefix, pos);
-          passed = λ further. absurd (omega arith);
-        };
-        visits = record {
-          least = omega (arith, fixed, ap length all);
-          most = λ one. rw all (omega arith);
-        };
-      };
-      bits = refl;
-      number = refl;
-      place = refl;
-      visits = refl;
-      all = all;
-    }
+    grind (arith, common_steps, cond-false, le-ltb, left-all, pow_pos)
 
 pub first-lanes : (v : Votes) (k j m : ℕ) (ls : List Lane) → m ≡ length v.rules → k ≤ 10 → LanesAre v.members 0 0 v.rules (take (length v.rules) ls)
     → LanesAre v.members 0 ((1 * 2 ^ k % 2 ^ 64 - 1 - j) / 2 ^ (k - 0)) v.rules (take m ls)

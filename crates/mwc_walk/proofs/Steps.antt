@@ -1,10 +1,10 @@
 -- The moves of a cursor.
 use Rattle.std.proofs.Common.{◌≡◌, ℕ, suc, ◌+◌, ◌-◌, ◌*◌, ◌/◌, ◌%◌, ◌^◌, ◌<◌, ◌≤◌, Bool, true, false, cond, ltb, List, [], ◌++◌, map, length, take, get_or, refl, sym, ap, ◌∙◌, subst, arith, inl, inr}
+use Rattle.std.proofs.lemmas.Grind.{common_steps}
 use Rattle.std.proofs.lemmas.Nat.{shr-shr, pow_pos, shl_below, shl_whole}
 use Rattle.std.proofs.Math.Nat.{pow-suc}
 use Rattle.std.proofs.lemmas.Bool.{lt-ltb, le-ltb, cases_lt, both_ways, false_from_ne_true, cond-true, cond-false, cond_both}
 use Rattle.std.specs.List.{AllByRecursion, All, list_all}
-use Rattle.std.proofs.lemmas.List.{take_at, length-map, length-take-le, length-append}
 use Rattle.std.proofs.Common.{min}
 use Rattle.mwc_walk.specs.declared.lane.Lane.{Lane}
 use Rattle.mwc_walk.specs.declared.cursor.Cursor.{Cursor}
@@ -41,41 +41,17 @@ short-step p = ap (λ (i : ℕ). 2 ^ i) (let d : p + 1 ≡ suc p = omega arith i
 -- the place before does not win either
 lost-before : (n p x : ℕ) (rs : List RuleView) → AllByRecursion (IsRule n) rs → 0 < p → p ≤ n → wins_at rs p x ≡ false
     → wins_at rs (p - 1) (x / 2) ≡ false
-lost-before n p x rs all pos le h =
-    let pe : p - 1 + 1 ≡ p = omega arith in
-    let xe : 2 * (x / 2) + x % 2 ≡ x = omega arith in
-    false_from_ne_true _ (λ w. both_ways _ h (rw (pe, xe) at (wins-more n rs all (p - 1) (x / 2) (x % 2) (omega arith) (omega arith) w)))
+lost-before n p x rs all pos le h = grind (arith, common_steps, both_ways, false_from_ne_true, wins-more)
 
 -- ---- the places of a slice
 -- the place before
 place-up : (v : Votes) (k j p y b : ℕ) → IsVotes v → b < 2 → k ≤ p → IsPlace v k j (p + 1) (2 * y + b) → IsPlace v k j p y
-place-up v k j p y b game digit le is =
-    let half : (2 * y + b) / 2 ≡ y = omega arith in
-    let back : p + 1 - 1 ≡ p = omega arith in
-    let lost : wins_at v.rules p y ≡ false = rw (back, half) at (is.passed (omega arith)) in
-    record {
-      from = le;
-      to = omega (arith, is.to);
-      number_in = is.number_in;
-      inside = half-shift y b k p digit le ∙ is.inside;
-      short = omega (arith, short-step p, is.short);
-      passed = λ further. lost-before v.members p y v.rules game.rules (omega arith) (omega (arith, is.to)) lost;
-    }
+place-up v k j p y b game digit le is = grind (arith, common_steps, half-shift, lost-before, short-step)
 
 -- the place after
 place-down : (v : Votes) (k j p y b : ℕ) → b < 2 → p < v.members → wins_at v.rules p y ≡ false → IsPlace v k j p y
     → IsPlace v k j (p + 1) (2 * y + b)
-place-down v k j p y b digit below lost is =
-    let half : (2 * y + b) / 2 ≡ y = omega arith in
-    let back : p + 1 - 1 ≡ p = omega arith in
-    record {
-      from = omega (arith, is.from);
-      to = omega arith;
-      number_in = is.number_in;
-      inside = sym (half-shift y b k p digit is.from) ∙ is.inside;
-      short = omega (arith, short-step p, is.short);
-      passed = λ further. rw (back, half) lost;
-    }
+place-down v k j p y b digit below lost is = grind (arith, common_steps, half-shift, short-step)
 
 -- ---- moves
 -- a cursor moved to another place
@@ -87,21 +63,7 @@ follows-at : (v : Votes) (a : Cursor) (ls : List Lane) (p x : ℕ) (f : Bool) (t
     → CountsVisits v a.bits a.number t (new_visit (moved a ls p x f t)) (open_visits v (moved a ls p x f t))
     (rest_of_slice v (moved a ls p x f t))
     → Follows v a (moved a ls p x f t)
-follows-at v a ls p x f t is counted room lanes place visits = record {
-  is = record {
-    game = is.game;
-    members = is.members;
-    rules = is.rules;
-    room = room;
-    lanes = lanes;
-    asked = is.asked;
-    place = place;
-    visits = visits;
-  };
-  bits = refl;
-  number = refl;
-  counted = counted;
-}
+follows-at v a ls p x f t is counted room lanes place visits = grind (arith, common_steps)
 
 -- a move of a cursor of which it is known whether it is fresh
 known : (v : Votes) (a : Cursor) (s : Step) (b : Bool → Cursor) (f : Bool) → a.fresh ≡ f
@@ -180,19 +142,11 @@ pub record IsPart (f : Lane → Lane) (old new : List Lane) (k : ℕ) : Type 0 w
   pub taken : take k new ≡ map f (take k old)
 
 pub is-part : (f : Lane → Lane) (new q old : List Lane) (k : ℕ) → new ≡ map f (take k old) → k ≤ length old → IsPart f old (new ++ q) k
-is-part f new q old k e le =
-    let long : length new ≡ k = ap length e ∙ length-map (take k old) f ∙ length-take-le k old le in
-    record {
-      room = omega (arith, long, length-append new q);
-      taken = take_at new q k long ∙ e;
-    }
+is-part f new q old k e le = grind (arith, common_steps)
 
 pub out-fits : (v : Votes) (a : Cursor) → CursorIs v a → (a.place ≡ a.bits → ⊥) → a.prefix % 2 ≡ 1
     → All (λ l. get_or l.weights (a.place - 1) 0 ≤ l.sum) (take a.rules a.lanes)
-out-fits v a is more odd =
-    let pe : a.place - 1 + 1 ≡ a.place = omega (arith, is.place.from) in
-    let xe : 2 * (a.prefix / 2) + 1 ≡ a.prefix = omega arith in
-    fits-out v.members (a.place - 1) (a.prefix / 2) v.rules (take a.rules a.lanes) (omega (arith, is.place.to)) (rw (pe, xe) is.lanes)
+out-fits v a is more odd = grind (arith, common_steps, fits-out)
 
 -- ---- a fresh place
 -- a descent takes at most a visit for each place after the fixed ones
@@ -210,33 +164,17 @@ pass-by : (v : Votes) (a : Cursor) → CursorIs v a → a.fresh ≡ true
     → slice_below v a.bits a.number (a.prefix * 2 ^ (v.members - a.place)) ≡ slice_below v a.bits a.number
     ((a.prefix + 1) * 2 ^ (v.members - a.place))
     → (length v.rules ≡ 1 → cond (reaches v.rules a.place a.prefix) (a.place - a.bits) 0 ≡ 0) → Steps v a On (record a { fresh = false })
-pass-by v a is fresh same none =
-    known v a On (λ _. record a { fresh = false }) true fresh (λ is.
-    let pos : 0 < 2 ^ (v.members - a.place) = pow_pos (v.members - a.place) in
-    let next : (a.prefix + 1) * 2 ^ (v.members - a.place) ≡ a.prefix * 2 ^ (v.members - a.place) + 2 ^ (v.members - a.place) =
-    omega arith in
-    record {
-      follows = left-behind v (record a { fresh = true }) is (record {
-        least = omega (arith, ap length same, is.visits.least);
-        most = λ one. (let before = is.visits.most one in let z = none one in rw same (omega (arith, z, before)));
-      });
-      same = same;
-      falls = omega (arith, next, pos, is.place.to, is.game.few);
-    }) is
+pass-by v a is fresh same none = grind (arith, common_steps, known, left-behind, pow_pos)
 
 -- a prefix that cannot reach some quota is passed by
 pub enter-dead : (v : Votes) (a : Cursor) → CursorIs v a → a.fresh ≡ true → reaches v.rules a.place a.prefix ≡ false
     → Steps v a On (record a { fresh = false })
-enter-dead v a is fresh dead =
-    pass-by v a is fresh (sym (left-nothing v a.bits a.number a.place a.prefix
-    (dead-nothing v a.place a.prefix is.game is.place.to dead))) (λ _. cond-false (reaches v.rules a.place a.prefix) _ _ dead)
+enter-dead v a is fresh dead = grind (arith, common_steps, cond-false, dead-nothing, left-nothing, pass-by)
 
 -- so is one with nothing below it: with one rule, at the fixed places
 pub enter-spare : (v : Votes) (a : Cursor) → CursorIs v a → a.fresh ≡ true → NothingBelow v a.place a.prefix
     → (a.rules ≡ 1 → a.place ≡ a.bits) → Steps v a On (record a { fresh = false })
-enter-spare v a is fresh nothing fixed =
-    pass-by v a is fresh (sym (left-nothing v a.bits a.number a.place a.prefix nothing))
-    (λ one. let at = fixed (is.rules ∙ one) in let extra = open-most v a.place a.prefix (a.place - a.bits) in omega (arith, at, extra))
+enter-spare v a is fresh nothing fixed = grind (arith, common_steps, left-nothing, open-most, pass-by)
 
 -- what the tests on the lanes say of the rules
 pub reach-is : (v : Votes) (a : Cursor) → CursorIs v a → (t : Bool) → list_all (lane_reaches a.place) (take a.rules a.lanes) ≡ t
@@ -329,23 +267,7 @@ won-visited v a is won =
 pub enter-give : (v : Votes) (a : Cursor) → CursorIs v a → a.fresh ≡ true → wins_at v.rules a.place a.prefix ≡ true
     → minimal v (a.prefix * 2 ^ (v.members - a.place)) ≡ true
     → Steps v a (Give (a.prefix * 2 ^ (v.members - a.place))) (record a { fresh = false })
-enter-give v a is fresh won min =
-    known v a (Give (a.prefix * 2 ^ (v.members - a.place))) (λ _. record a { fresh = false }) true fresh (λ is.
-    let now : Cursor = record a { fresh = true } in
-    let given = won-left v now is won
-    ∙ left-take v a.bits a.number
-    (a.prefix * 2 ^ (v.members - a.place)) min (in-slice v.members a.bits a.place a.prefix is.place.from is.place.to
-    ∙ is.place.inside) in
-    let visited = won-visited v now is won in
-    let extra = open-most v a.place a.prefix (a.place - a.bits) in
-    record {
-      follows = left-behind v now is (record {
-        least = omega (arith, ap length given, visited, is.visits.least);
-        most = λ one. (let before = is.visits.most one in omega (arith, extra, is.place.from, is.place.to, rw given at before));
-      });
-      first = given;
-      stale = refl;
-    }) is
+enter-give v a is fresh won min = grind (arith, common_steps, in-slice, known, left-behind, left-take, open-most, won-left, won-visited)
 
 -- the number of a prefix with zeros after it
 pub enter-short : (v : Votes) (a : Cursor) → CursorIs v a → a.prefix * 2 ^ (v.members - a.place) < 2 ^ v.members
@@ -376,7 +298,4 @@ even-loses v a is lt even won =
 -- between two calls no descent is under way
 pub rest-most : (v : Votes) (a : Cursor) → CursorIs v a → (a.fresh ≡ true → a.place ≡ a.bits) → length v.rules ≡ 1
     → a.visits + (v.members - a.bits) * length (rest_of_slice v a) ≤ a.bits + (v.members - a.bits) * length (slice v a.bits a.number)
-rest-most v a is rests one =
-    let none : open_visits v a ≡ 0 = cond_both a.fresh (cond (reaches v.rules a.place a.prefix) (a.place - a.bits) 0) 0 (λ i. i ≡ 0)
-    (λ fresh. (let at_rest = rests fresh in let extra = open-most v a.place a.prefix (a.place - a.bits) in omega arith)) (λ _. refl) in
-    omega (arith, none, is.visits.most one)
+rest-most v a is rests one = grind (arith, common_steps)

@@ -1,9 +1,10 @@
 -- The lanes of the walk stand for the rules of the game, at a prefix.
 use Rattle.std.proofs.Common.{◌≡◌, ℕ, zero, suc, ◌+◌, ◌-◌, ◌*◌, ◌^◌, ◌<◌, ◌≤◌, leb, List, [], ◌∷◌, map, length, take, drop, get_or, replicate, sum, refl, sym, ◌∙◌, arith}
+use Rattle.std.proofs.lemmas.Grind.{common_steps}
 use Rattle.std.proofs.lemmas.Bool.Decides.{nat_tests}
 use Rattle.std.specs.List.{list_all, All}
 use Rattle.std.proofs.lemmas.List.{map-id, length-take-le, ext_get_or, get_or-take}
-use Rattle.std.proofs.lemmas.List.Sums.{sum_by-take-drop, sum_by-drop_more}
+use Rattle.std.proofs.lemmas.List.Sums.{sum_by-take-drop}
 use Rattle.mwc_walk.specs.declared.lane.Lane.{Lane}
 use Rattle.mwc_walk.specs.Inner.Lanes.{lane_reaches, lane_wins, lane_with, lane_without}
 use Rattle.council_game.specs.Votes.{RuleView, IsRule, weight, rule_at}
@@ -18,9 +19,7 @@ sub-leb a b c = grind (arith, nat_tests)
 pub lanes-reach : (n p x : ℕ) (rs : List RuleView) (ls : List Lane) → p ≤ n → LanesAre n p x rs ls
     → list_all (lane_reaches p) ls ≡ reaches rs p x
 unfolding reaches
-lanes-reach n p x rs ls le are =
-    list_all-beside (LaneIs n p x) _ _ (λ r l is.
-    rw (is.quota, is.sum_is, is.rest p le) (sub-leb r.quota (weight (take p r.weights) x) (sum (drop p r.weights)))) rs ls are
+lanes-reach n p x rs ls le are = grind (arith, common_steps, list_all-beside, sub-leb)
 
 pub lanes-win : (n p x : ℕ) (rs : List RuleView) (ls : List Lane) → LanesAre n p x rs ls → list_all lane_wins ls ≡ wins_at rs p x
 unfolding wins_at
@@ -29,14 +28,7 @@ lanes-win n p x rs ls are = list_all-beside (LaneIs n p x) _ _ (λ r l is. rw (i
 -- the lane at another prefix
 lane-at : {n p q x y : ℕ} {r : RuleView} {l : Lane} (s : ℕ) → LaneIs n p x r l → s ≡ weight (take q r.weights) y
     → LaneIs n q y r (record l { sum = s })
-lane-at s is e = record {
-  rule = is.rule;
-  quota = is.quota;
-  weights = is.weights;
-  rest = is.rest;
-  weightless = is.weightless;
-  sum_is = e;
-}
+lane-at s is e = grind (arith, common_steps)
 
 -- place p is taken in
 pub lanes-in : (n p x : ℕ) (rs : List RuleView) (ls : List Lane) → p < n → LanesAre n p x rs ls
@@ -101,12 +93,7 @@ same-weights n ws vs le long same =
     get_or-take n ws i 0 lt ∙ same i lt)
 
 pub sum-from : (ws : List ℕ) (m p : ℕ) → m ≤ length ws → p < m → sum (drop p (take m ws)) ≡ get_or ws p 0 + sum (drop (p + 1) (take m ws))
-sum-from ws m p le below =
-    let size : length (take m ws) ≡ m = length-take-le m ws le in
-    let more : sum (drop p (take m ws)) ≡ get_or (take m ws) p 0 + sum (drop (p + 1) (take m ws)) =
-    sum_by-drop_more (λ (y : ℕ). y) (take m ws) p 0 (omega arith) in
-    let same : get_or (take m ws) p 0 ≡ get_or ws p 0 = get_or-take m ws p 0 below in
-    omega (arith, more, same)
+sum-from ws m p le below = grind (arith, common_steps)
 
 pub fills-down : (ws : List ℕ) (m p : ℕ) (rest : List ℕ) → m ≤ length ws → p < m → get_or rest (p + 1) 0 ≡ sum (drop (p + 1) (take m ws))
     → get_or ws p 0 + get_or rest (p + 1) 0 ≡ sum (drop p (take m ws))

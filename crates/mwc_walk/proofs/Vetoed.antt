@@ -1,5 +1,6 @@
 -- Vetoers are in every winning coalition.
 use Rattle.std.proofs.Common.{◌≡◌, ◌⊎◌, ℕ, zero, suc, ◌+◌, ◌-◌, ◌/◌, ◌%◌, ◌^◌, ◌<◌, ◌≤◌, true, false, List, [], ◌∷◌, length, take, drop, get_or, sum, refl, add-one, arith, inl, inr}
+use Rattle.std.proofs.lemmas.Grind.{common_steps}
 use Rattle.std.specs.List.{list_any}
 use Rattle.std.proofs.lemmas.Bool.{both_ways, and_parts, or_cases, leb-true, ltb-true, cases_Bool, cases_eq}
 use Rattle.std.proofs.lemmas.List.{drop_all, take_all, length-take-le}
@@ -27,11 +28,7 @@ weight-out ws q c below out =
 -- a rule that needs the member of a place is not met without it
 needs-it : (n q c : ℕ) (r : RuleView) (l : Lane) → q < n → LaneIs n 0 0 r l → lane_needs q l ≡ true → r.quota ≤ weight r.weights c
     → c / 2 ^ (n - 1 - q) % 2 ≡ 0 → ⊥
-needs-it n q c r l below is needs met out =
-    let full : length r.weights ≡ n = is.rule.full in
-    let short : get_or l.rest 0 0 - get_or l.weights q 0 < l.quota = ltb-true _ _ needs in
-    let most = weight-out r.weights q c (omega (arith, full)) (rw full out) in
-    omega (arith, short, most, met, is.rest 0 (omega arith), is.weights q below, is.quota)
+needs-it n q c r l below is needs met out = grind (arith, common_steps, ltb-true, weight-out)
 
 pub vetoer-in : (n q c : ℕ) (rs : List RuleView) (ls : List Lane) → q < n → LanesAre n 0 0 rs ls → list_any (lane_needs q) ls ≡ true
     → wins rs c ≡ true → c / 2 ^ (n - 1 - q) % 2 ≡ 0 → ⊥

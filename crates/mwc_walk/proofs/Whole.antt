@@ -1,5 +1,6 @@
 -- The one slice at no bits, and the list of all coalitions that it is.
-use Rattle.std.proofs.Common.{◌≡◌, ◌^◌, ◌<◌, ◌≤◌, ◌++◌, ◌∷◌, [], ℕ, List, All, length, sym, ap, subst, ◌∙◌, append-nil, length-append, arith}
+use Rattle.std.proofs.Common.{◌≡◌, ◌<◌, ◌≤◌, ◌++◌, ◌∷◌, [], ℕ, List, length, sym, ◌∙◌, append-nil, length-append, arith}
+use Rattle.std.proofs.lemmas.Grind.{common_steps}
 use Rattle.council_game.specs.Votes.{IsVotes, Votes, minimal_coalitions}
 use Rattle.council_game.specs.Game.{GameView, votes_of}
 use Rattle.council_game.proofs.Shared.Listing.{listing-is}
@@ -14,24 +15,9 @@ one-slice v game = sym (append-nil (slice v 0 0)) ∙ slices-joined v 0 (omega a
 -- a walk at its end gave all
 pub lists-all : (g : GameView) (most : ℕ) (list : List ℕ) → IsVotes (votes_of g) → list ++ [] ≡ slice (votes_of g) 0 0 → length list ≤ most
     → ListsAll g most list
-lists-all g most list game joined few =
-    let whole : list ≡ minimal_coalitions (votes_of g) = sym (append-nil list) ∙ joined ∙ one-slice (votes_of g) game in
-    let listing = listing-is (votes_of g) game in
-    record {
-      all = whole;
-      some = omega (arith, listing.some, ap length whole);
-      few = few;
-      coalitions = subst (All (λ (c : ℕ). (0 < c) × (c < 2 ^ length g.names))) (sym whole) (λ k d lt.
-          let not-empty = listing.none_empty k d lt in
-          (omega (arith, not-empty), listing.below k d lt));
-    }
+lists-all g most list game joined few = grind (arith, common_steps, append-nil, listing-is, one-slice)
 
 -- a walk with more to come has more
 pub more-than : (v : Votes) (most c : ℕ) (list rest to_come : List ℕ) → IsVotes v → list ++ to_come ≡ slice v 0 0 → to_come ≡ c ∷ rest
     → most ≤ length list → most < length (minimal_coalitions v)
-more-than v most c list rest to_come game joined next many =
-    let whole : list ++ to_come ≡ minimal_coalitions v = joined ∙ one-slice v game in
-    let all = ap length whole in
-    let parts = length-append list to_come in
-    let some = ap length next in
-    omega (arith, all, parts, some, many)
+more-than v most c list rest to_come game joined next many = grind (arith, common_steps, length-append, one-slice)

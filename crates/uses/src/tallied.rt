@@ -15,7 +15,7 @@ use std::sync::Wait;
 use std::thread::Threads;
 
 /// The Deegan-Packel index of a member, however many minimal winning coalitions the game has: they are
-/// counted by so many threads, and none is kept.
+/// counted by `workers` threads, and none is kept.
 ///
 /// # Errors
 ///

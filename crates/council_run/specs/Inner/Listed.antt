@@ -1,4 +1,4 @@
--- The minimal winning coalitions of a game, where there are at most so many.
+-- The minimal winning coalitions of a game, where there are no more than a run keeps.
 use Rattle.std.specs.Prelude.{◌≡◌, ◌≤◌, ℕ, List, length}
 use Rattle.std.specs.List.{All, flat_map, range_with_len}
 use Rattle.council_game.specs.Votes.{minimal_coalitions}
@@ -7,14 +7,14 @@ use Rattle.mwc_parts.specs.Parts.{HasPieces}
 use Rattle.mwc_parts.specs.declared.gathered.Gathered.{Gathered}
 use Rattle.council_run.specs.Run.{count_of}
 
--- the list is all of them: there is one, there are at most so many, and they are coalitions of the game, none of them empty
+-- the list is all of them: there is one, there are at most `most`, and they are coalitions of the game, none of them empty
 pub record IsListed (g : GameView) (most : ℕ) (list : List ℕ) : Type 0 where
   pub all : list ≡ minimal_coalitions (votes_of g)
   pub some : 1 ≤ length list
   pub few : length list ≤ most
   pub coalitions : AreNonemptyCoalitions g list
 
--- what the workers listed is all of them, slice by slice, and there are at most so many
+-- what the workers listed is all of them, slice by slice, and there are at most `most`
 pub record IsGathered (g : GameView) (most : ℕ) (r : Gathered) : Type 0 where
   pub game : IsGame g
   pub slice : ℕ → List ℕ

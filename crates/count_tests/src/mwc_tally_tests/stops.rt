@@ -4,7 +4,7 @@ ghost use Rattle.std.specs.Prelude.{⊤};
 use super::*;
 use mwc_tally::TallyFault;
 
-/// Stops a tally when so many slices are counted, or so many coalitions were told of.
+/// Stops a tally when `slices` slices are counted, or `coalitions` coalitions were told of.
 #[derive(Drop)]
 struct Stopping {
     slices: u64,
@@ -41,7 +41,7 @@ impl Watch for Stopping {
     }
 }
 
-/// Between slices: where so many of 32 are counted, each thread ends at most the one that it is in. All 32 are a
+/// Between slices: where k of 32 are counted, each thread ends at most the one that it is in. All 32 are a
 /// whole tally.
 #[test]
 fn a_watch_stops_between_slices(rt: HostRuntime) {

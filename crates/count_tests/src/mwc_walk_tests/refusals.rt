@@ -32,7 +32,7 @@ fn lists_all(rt: HostRuntime) {
     tells(&rt, answer.map(|all| all.expect(&rt, "at most nine")));
 }
 
-/// The walk gives so many coalitions by so many visits, and takes no memory.
+/// The walk gives `coalitions` coalitions by `visits` visits, and takes no memory.
 fn walks<R: Abort + Print>(rt: &R, walk: &mut Walk<'_>, coalitions: u64, visits: u64) {
     same(rt, count(walk), coalitions, "coalitions");
     same(rt, walk.next(), None, "after the end");

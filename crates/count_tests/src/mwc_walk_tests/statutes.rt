@@ -1,4 +1,4 @@
-//! Random statutes against every subset, and coalitions that are sought within so many visits.
+//! Random statutes against every subset, and coalitions that are sought within a number of visits.
 use super::*;
 
 /// A rule over members of whom the last three are large: heads, a group, some of the large, or shares of which the
@@ -28,7 +28,7 @@ fn statute_rule(rt: &impl Abort, alloc: Global, x: &mut u64, members: usize) -> 
     }
 }
 
-/// A statute of so many such rules.
+/// A statute of `count` such rules.
 fn statute(rt: &impl Abort, alloc: Global, seed: u64, members: usize, count: usize) -> Game {
     let mut x = seed;
     let mut rules = Vec::new(alloc);

@@ -4,7 +4,7 @@
 //! without a coalition, by what can still come.
 use super::*;
 
-/// The walk gives these coalitions, each by so many visits in all, then none twice, with no visit more
+/// The walk gives these coalitions, each by its number of visits in all, then none twice, with no visit more
 /// than these.
 fn gives(rt: &impl Abort, walk: &mut Walk<'_>, coalitions: &[(u64, u64)], visits: u64) {
     for (mask, visits) in coalitions {
@@ -47,7 +47,7 @@ fn a_walk_makes_few_visits(rt: HostRuntime) {
     gives(&rt, &mut Walk::new(&two, 0, 0), &[(5, 3), (3, 5)], 5);
 }
 
-/// The walk gives so many coalitions by so many visits.
+/// The walk gives `coalitions` coalitions by `visits` visits.
 fn counts(rt: &impl Abort, game: &Game, coalitions: u64, visits: u64) {
     let mut walk = Walk::new(game, 0, 0);
     let found = (count(&mut walk), walk.visits());
@@ -127,7 +127,7 @@ fn visits_under_several_rules(rt: HostRuntime) {
     check(&rt, rt.alloc(), &rows);
 }
 
-/// A walk makes so many visits to each slice at two bits.
+/// A walk makes these numbers of visits to the slices at two bits.
 fn visits_of_slices(rt: &impl Abort, game: &Game, visits: [u64; 4]) {
     assert!(rt; 2 <= game.members());
     for j in 0..4u16 {

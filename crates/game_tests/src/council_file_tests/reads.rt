@@ -1,7 +1,8 @@
 //! How often a reader is asked.
 use super::*;
+use crate::helpers::KINDS;
 
-/// Gives bytes, at most so many at once. One read may fail: it is the only one, and those after it
+/// Gives bytes, at most `at_once` at once. One read may fail: it is the only one, and those after it
 /// would go on. The reader counts the reads, and those after the failure or the end.
 #[derive(Drop)]
 struct Asked<'a> {
@@ -58,52 +59,6 @@ impl io::Read for Asked<'_> {
         Ok(count)
     }
 }
-
-/// Each kind of a failure that a reader may tell.
-const KINDS: [ErrorKind; 42] = [
-    ErrorKind::NotFound,
-    ErrorKind::PermissionDenied,
-    ErrorKind::ConnectionRefused,
-    ErrorKind::ConnectionReset,
-    ErrorKind::HostUnreachable,
-    ErrorKind::NetworkUnreachable,
-    ErrorKind::ConnectionAborted,
-    ErrorKind::NotConnected,
-    ErrorKind::AddrInUse,
-    ErrorKind::AddrNotAvailable,
-    ErrorKind::NetworkDown,
-    ErrorKind::BrokenPipe,
-    ErrorKind::AlreadyExists,
-    ErrorKind::WouldBlock,
-    ErrorKind::NotADirectory,
-    ErrorKind::IsADirectory,
-    ErrorKind::DirectoryNotEmpty,
-    ErrorKind::ReadOnlyFilesystem,
-    ErrorKind::FilesystemLoop,
-    ErrorKind::StaleNetworkFileHandle,
-    ErrorKind::InvalidInput,
-    ErrorKind::InvalidData,
-    ErrorKind::TimedOut,
-    ErrorKind::WriteZero,
-    ErrorKind::StorageFull,
-    ErrorKind::NotSeekable,
-    ErrorKind::QuotaExceeded,
-    ErrorKind::FileTooLarge,
-    ErrorKind::ResourceBusy,
-    ErrorKind::ExecutableFileBusy,
-    ErrorKind::Deadlock,
-    ErrorKind::CrossesDevices,
-    ErrorKind::TooManyLinks,
-    ErrorKind::InvalidFilename,
-    ErrorKind::ArgumentListTooLong,
-    ErrorKind::Interrupted,
-    ErrorKind::Unsupported,
-    ErrorKind::UnexpectedEof,
-    ErrorKind::OutOfMemory,
-    ErrorKind::InProgress,
-    ErrorKind::Other,
-    ErrorKind::Uncategorized,
-];
 
 #[test]
 fn a_failed_read_is_not_tried_again(rt: HostRuntime) {

@@ -1,5 +1,6 @@
 -- The first deals, and what the end of the deal tells.
 use Rattle.std.specs.Prelude.{◌≡◌, ◌⊎◌, ℕ, zero, suc, ◌+◌, ◌<◌, ◌≤◌, Bool, true, false, ◌||◌, cond, List, [], ◌∷◌, ◌++◌, Option, None, IsSome, length, map, replicate, All, refl}
+use Rattle.std.proofs.lemmas.Grind.{common_steps}
 use Rattle.std.specs.List.{range_with_len}
 use Rattle.std.specs.List.Sorted.{IsStrictlyIncreasing}
 use Rattle.std.proofs.Common.{ltb, set, get_or, ap, subst, arith, sym, ◌∙◌, inl, inr}
@@ -105,15 +106,11 @@ first_turn {n} {early} {stopped} {stops} desks k s t l e fresh f r =
 
 -- who told what at the end
 pub dealt_once : {n : ℕ} {shares : List (List ℕ)} (j : ℕ) → AreDealt n shares → sum_by (times_in j) shares ≡ cond (ltb j n) 1 0
-dealt_once {n} {shares} j d =
-    ap (sum_by (times_in j)) d.shares_are ∙ each_held_once j (length shares) d.holders d.by_workers
-    ∙ ap (λ (m : ℕ). cond (ltb j m) 1 0) d.each_held
+dealt_once {n} {shares} j d = grind (arith, common_steps, each_held_once)
 
 pub dealt_total : {n : ℕ} {shares : List (List ℕ)} (g : Slicing) → AreDealt n shares
     → sum_by (coalition_count g) shares ≡ coalition_count g (range_with_len 0 n)
-dealt_total {n} {shares} g d =
-    ap (sum_by (coalition_count g)) d.shares_are ∙ shares_sum (λ j. length (g.slice j)) (length shares) d.holders d.by_workers
-    ∙ ap (λ (m : ℕ). coalition_count g (range_with_len 0 m)) d.each_held
+dealt_total {n} {shares} g d = grind (arith, common_steps, shares_sum)
 
 pub dealt_increase : {n : ℕ} {shares : List (List ℕ)} → AreDealt n shares → All IsStrictlyIncreasing shares
 dealt_increase {n} {shares} d =

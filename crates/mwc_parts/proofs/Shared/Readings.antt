@@ -1,8 +1,9 @@
 -- What the words of whole slices tell.
-use Rattle.std.specs.Prelude.{◌≡◌, ℕ, zero, suc, ◌+◌, ◌-◌, ◌<◌, ◌≤◌, Bool, false, List, [], ◌∷◌, ◌++◌, length, map, take, drop, refl}
+use Rattle.std.specs.Prelude.{◌≡◌, ℕ, zero, suc, ◌+◌, ◌-◌, ◌<◌, ◌≤◌, Bool, List, [], ◌∷◌, ◌++◌, length, map, take, drop, refl}
+use Rattle.std.proofs.lemmas.Grind.{common_steps}
 use Rattle.std.specs.List.{flat_map}
 use Rattle.std.proofs.Common.{get_or, ap, arith, sym, ◌∙◌, append_assoc}
-use Rattle.std.proofs.lemmas.List.{append-nil, length-append, drop_at, take_at}
+use Rattle.std.proofs.lemmas.List.{append-nil, length-append}
 use Rattle.std.proofs.lemmas.List.Elements.{filter_map-append}
 use Rattle.std.proofs.lemmas.List.Concat.{length-flat_map}
 use Rattle.mwc_parts.specs.Slicing.{Slicing}
@@ -47,9 +48,7 @@ length-ends g n [] = refl
 length-ends g n (j ∷ s) = ap (λ (k : ℕ). suc k) (length-ends g (n + length (g.slice j)) s)
 
 middle : (pre l rest : List ℕ) (n m : ℕ) → length pre ≡ n → n + length l ≡ m → take (m - n) (drop n (pre ++ (l ++ rest))) ≡ l
-middle pre l rest n m e f =
-    let a : m - n ≡ length l = omega arith in
-    ap (λ (w : List ℕ). take (m - n) w) (drop_at pre (l ++ rest) n e) ∙ take_at l rest (m - n) (sym a)
+middle pre l rest n m e f = grind (arith, common_steps)
 
 -- what stands between two ends is the slice
 piece_from : (g : Slicing) (pre : List ℕ) (n : ℕ) (s : List ℕ) (m : ℕ) → length pre ≡ n → m < length s
@@ -102,11 +101,8 @@ pub record Reads (g : Slicing) (s got ends : List ℕ) : Type 0 where
 
 pub reads : {g : Slicing} {most : ℕ} {s : List ℕ} {told : Bool} {words : List Word} (got ends : List ℕ) → IsSentWhole g most s told words
     → got ≡ ones words → ends ≡ done_counts 0 words → Reads g s got ends
-reads {g} {most} {s} {told} {words} got ends sent a b = record {
-  joins = a ∙ ap ones sent.words_are ∙ ones-append (wording g s) (End false ∷ []) ∙ append-nil (ones (wording g s)) ∙ ones-wording g s;
-  ends_are = b ∙ ap (done_counts 0) sent.words_are ∙ done_counts-append 0 (wording g s) (End false ∷ [])
-      ∙ append-nil (done_counts 0 (wording g s)) ∙ done_counts-wording g 0 s;
-}
+reads {g} {most} {s} {told} {words} got ends sent a b =
+    grind (arith, common_steps, append-nil, done_counts-append, done_counts-wording, ones-append, ones-wording)
 
 ends_of : (g : Slicing) (s : List ℕ) → HasEnds s (ends_from g 0 s) (length (flat_map g.slice s))
 ends_of g s =

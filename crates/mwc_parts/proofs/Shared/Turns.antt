@@ -1,9 +1,10 @@
 -- One turn of the deal.
 use Rattle.std.specs.Prelude.{◌≡◌, ◌⊎◌, ℕ, zero, suc, ◌+◌, ◌<◌, Bool, true, false, ◌||◌, List, [], ◌∷◌, ◌++◌, Option, Some, None, IsSome, length, map, replicate, All, refl}
+use Rattle.std.proofs.lemmas.Grind.{common_steps}
 use Rattle.std.specs.List.{range_with_len, list_any}
 use Rattle.std.proofs.Common.{set, get_or, ap, subst, arith, sym, ◌∙◌, inl, inr}
 use Rattle.std.proofs.Math.ListN as list
-use Rattle.std.proofs.lemmas.List.{length-set, length-map, length-append, get_or_append_left, get_or-map, set-get_or, map-set}
+use Rattle.std.proofs.lemmas.List.{length-set, length-map, length-append, get_or-map, set-get_or, map-set}
 use Rattle.std.proofs.lemmas.List.FromFn.{get_or-map-range_with_len}
 use Rattle.std.proofs.Math.Bool.{or_assoc, or-false, or-true}
 use Rattle.std.proofs.lemmas.Bool.{false≢true}
@@ -81,9 +82,7 @@ pub stops_then : (early : Bool) (desks : List DeskView) (stopped stops : Bool) (
     (s t : DeskView) {done : Bool} {marks after : List (Option ℕ)} → i < length desks → s ≡ get_or desks i s
     → TakesTurn done marks stopped s i after stops t → stopped ≡ (early || list_any is_ill desks)
     → stops ≡ (early || list_any is_ill (set desks i t))
-stops_then early desks stopped stops i s t l e r h =
-    r.stops_are ∙ ap (λ (b : Bool). b || is_ill t) h ∙ or_assoc early (list_any is_ill desks) (is_ill t)
-    ∙ ap (λ (b : Bool). early || b) (sym (ill_set desks i s t l e (ill_stays s t r.lost_stays r.cut_stays)))
+stops_then early desks stopped stops i s t l e r h = grind (arith, common_steps, ill_set, ill_stays, or_assoc)
 
 pub stays_by : (a b x : Bool) → b ≡ (a || x) → a ≡ true → b ≡ true
 stays_by a b x e h = e ∙ ap (λ (z : Bool). z || x) h
@@ -187,9 +186,7 @@ turn_one {n} {done} {early} {stopped} {stops} {marks} {after} desks i s t l e d 
 -- a worker that holds the slice of its number still holds it when one more is given
 pub still_held : (hs : List ℕ) (i w : ℕ) → (w < length hs) × (get_or hs w 0 ≡ w) → (w < length (hs ++ i ∷ []))
     × (get_or (hs ++ i ∷ []) w 0 ≡ w)
-still_held hs i w h =
-    let m = h.0 in let longer = length-append hs (i ∷ []) in
-    (omega arith, get_or_append_left hs (i ∷ []) 0 w m ∙ h.1)
+still_held hs i w h = grind (arith, common_steps)
 
 -- a deal that goes on after a turn went on before it
 pub went_on : {done stopped stops : Bool} {marks after : List (Option ℕ)} (s t : DeskView) (w : ℕ)

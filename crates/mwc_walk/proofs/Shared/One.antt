@@ -1,5 +1,6 @@
 -- In a game of one rule, what wins first on the way down is minimal.
-use Rattle.std.proofs.Common.{◌≡◌, ℕ, ◌+◌, ◌-◌, ◌*◌, ◌/◌, ◌%◌, ◌^◌, ◌<◌, ◌≤◌, Bool, true, false, eqb, List, [], ◌∷◌, length, take, get_or, sym, ap, ◌∙◌, arith, inl, inr}
+use Rattle.std.proofs.Common.{◌≡◌, ℕ, ◌+◌, ◌-◌, ◌*◌, ◌/◌, ◌%◌, ◌^◌, ◌<◌, ◌≤◌, true, false, List, [], ◌∷◌, length, take, get_or, sym, ap, ◌∙◌, arith, inl, inr}
+use Rattle.std.proofs.lemmas.Grind.{common_steps}
 use Rattle.std.specs.List.{AllByRecursion}
 use Rattle.std.proofs.lemmas.List.Sums.{length-filter, count_by-le-length}
 use Rattle.std.proofs.lemmas.Nat.Bits.{bit_at_cat_low, bit_at-zero}
@@ -7,7 +8,7 @@ use Rattle.std.proofs.lemmas.Nat.{shr-shr, shl-shr, mul-le}
 use Rattle.std.proofs.Math.Pow.{pow_mono}
 use Rattle.std.proofs.Math.Bool.{and-true}
 use Rattle.std.proofs.lemmas.Bool.{and_left, lt-leb, leb-false, eqb-true, cases_lt, both_ways}
-use Rattle.council_game.specs.Votes.{RuleView, Votes, IsRule, IsRanked, IsVotes, has, without, weight, wins, minimal, minimal_coalitions}
+use Rattle.council_game.specs.Votes.{RuleView, Votes, IsRule, IsRanked, IsVotes, has, without, weight, wins, minimal}
 use Rattle.mwc_walk.specs.Slices.{slice}
 use Rattle.mwc_walk.specs.Inner.Places.{wins_at}
 use Rattle.council_game.proofs.Shared.Meanings.{needs-each-member}
@@ -54,11 +55,7 @@ one-loses n p x q (r ∷ []) one all ranked pos le lost below in' =
 
 pub one-minimal : (v : Votes) (p x : ℕ) → IsVotes v → length v.rules ≡ 1 → 0 < p → p ≤ v.members → wins_at v.rules p x ≡ true
     → wins_at v.rules (p - 1) (x / 2) ≡ false → minimal v (x * 2 ^ (v.members - p)) ≡ true
-one-minimal v p x game one pos le won lost =
-    (needs-each-member v (x * 2 ^ (v.members - p))).1 (
-      wins-prefix v.members v.rules game.rules p x le ∙ won,
-      λ q below in'. one-loses v.members p x q v.rules one game.rules game.ranked pos le lost below in',
-    )
+one-minimal v p x game one pos le won lost = grind (arith, common_steps, needs-each-member, one-loses, wins-prefix)
 
 -- a prefix that wins first by its last place has that place in it
 pub won-odd : (n p x : ℕ) (rs : List RuleView) → 0 < p → p ≤ n → AllByRecursion (IsRule n) rs → wins_at rs p x ≡ true
@@ -84,11 +81,7 @@ empty-loses n (r ∷ rs) some all =
 -- a slice is shorter than a count of visits can grow
 pub slice-short : (v : Votes) (k j : ℕ) → IsVotes v → length (slice v k j) ≤ 2 ^ 40
 unfolding slice
-slice-short v k j game =
-    let in_it : ℕ → Bool = λ c. eqb (c / 2 ^ (v.members - k)) (2 ^ k - 1 - j) in
-    let few = (listing-is v game).few in
-    let up : 2 ^ v.members ≤ 2 ^ 40 = pow_mono game.few in
-    omega (arith, length-filter in_it (minimal_coalitions v), count_by-le-length in_it (minimal_coalitions v), few, up)
+slice-short v k j game = grind (arith, common_steps, count_by-le-length, length-filter, listing-is, pow_mono)
 
 -- a winning prefix as a number of the slice
 pub in-slice : (n k p x : ℕ) → k ≤ p → p ≤ n → x * 2 ^ (n - p) / 2 ^ (n - k) ≡ x / 2 ^ (p - k)

@@ -1,4 +1,5 @@
-use Rattle.std.proofs.Common.{Err, ℕ, ◌<◌, List, length, drop, subst, ap, sym, ◌∙◌, arith}
+use Rattle.std.proofs.Common.{ℕ, List, length, drop, subst, ap, sym, ◌∙◌, arith}
+use Rattle.std.proofs.lemmas.Grind.{common_steps}
 use Rattle.std.specs.Prelude.{Bool}
 use Rattle.std.specs.Option.{is_some}
 use Rattle.std.proofs.lemmas.List.{take_at}
@@ -7,7 +8,6 @@ use Rattle.mwc_parts.specs.Fault.{fault_of}
 use Rattle.mwc_gather.specs.declared.desk.Desk.{Desk}
 use Rattle.mwc_gather.specs.Slicings.{slicing}
 use Rattle.mwc_gather.specs.Inner.Desks.{DealsTo}
-use Rattle.mwc_gather.specs.Inner.Gathering.{all_total}
 use Rattle.mwc_gather.proofs.Wholes.{all_total_is}
 use Rattle.mwc_gather.proofs.gathering.run.Goals as goal
 
@@ -32,8 +32,4 @@ finish_all-requires-clause-dealt g c =
     )
 
 pub returns-in_err-parts-clause-many : goal.returns-in_err-parts-clause-many
-returns-in_err-parts-clause-many g c = λ e.
-    let job = c.args.job.now in
-    let count = all_total_is job.guarded job.bits job.bits_fit.0 job.bits_fit.1 in
-    let over : job.most < all_total (slicing job.guarded job.bits) = c.in_err-parts.ensures.many (ap Err (sym (rw e at c.from_residual.ensures.1))) in
-    omega (arith, count, over)
+returns-in_err-parts-clause-many g c = grind (arith, common_steps, all_total_is)

@@ -1,14 +1,11 @@
 use Rattle.council_game.specs.Game.{votes_of}
-use Rattle.std.proofs.Common.{◌≡◌, ◌≤◌}
-use Rattle.mwc_walk.specs.Inner.Cursor.{CursorIs, rest_of_slice, steps_left}
+use Rattle.std.proofs.Common.{◌≡◌}
+use Rattle.mwc_walk.specs.Inner.Cursor.{Follows, rest_of_slice, steps_left}
 use Rattle.mwc_walk.proofs.cursor.Cursor.next.Given as goal
 
 abbrev pub invariant-loop-coalition : goal.invariant-loop-coalition
 invariant-loop-coalition l = record {
-  is : CursorIs (votes_of l.game) l.self;
-  bits : l.self.bits ≡ l.initial.self.bits;
-  number : l.self.number ≡ l.initial.self.number;
-  counted : l.initial.self.visits ≤ l.self.visits;
+  follows : Follows (votes_of l.game) l.initial.self l.self;
   same : rest_of_slice (votes_of l.game) l.self ≡ rest_of_slice (votes_of l.game) l.initial.self;
 }
 

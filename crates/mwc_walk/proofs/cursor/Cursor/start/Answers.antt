@@ -1,11 +1,10 @@
 use Rattle.council_game.specs.Game.{votes_of}
-use Rattle.council_game.specs.Votes.{has}
-use Rattle.std.proofs.Common.{◌≡◌, ◌∙◌, take, sym, ap, arith}
+use Rattle.std.proofs.Common.{◌≡◌, arith}
+use Rattle.std.proofs.lemmas.Grind.{common_steps}
 use Rattle.mwc_walk.proofs.Tables.{fits-in}
 use Rattle.mwc_walk.proofs.Steps.{is-part}
 use Rattle.mwc_walk.proofs.Start.{first-lanes, first-number, fixed-in, fixed-pass, starts}
 use Rattle.mwc_walk.proofs.cursor.Cursor.start.Goals as goal
-use Rattle.mwc_walk.proofs.cursor.Cursor.start.Goals.{then-has, else-has}
 
 pub loop-place-init : goal.loop-place-init
 loop-place-init c = record {
@@ -15,31 +14,10 @@ loop-place-init c = record {
 }
 
 pub take_in-requires-clause-fits : goal.take_in-requires-clause-fits
-take_in-requires-clause-fits c =
-    fits-in (votes_of c.args.game.now).members c.loop-place.place _ (votes_of c.args.game.now).rules
-    (take c.rules-rules.result c.loop-place.lanes) (omega arith) c.loop-place.invariant.are
+take_in-requires-clause-fits c = grind (arith, common_steps, fits-in)
 
 pub loop-place-preserved : goal.loop-place-preserved
-loop-place-preserved c =
-    elim c.if-has.branch [
-      | then-has w ↦
-          let part = is-part _ _ _ _ _ w.take_in.ensures c.loop-place.invariant.room in
-          record {
-            room = rw w.lanes-is part.room;
-            are = rw (w.lanes-is, part.taken)
-                (fixed-in (votes_of c.args.game.now).members c.args.bits c.loop-place.place _
-                (votes_of c.args.game.now).rules _ c.loop-place-test.true c.requires.bits
-                (sym (ap (has c.args.bits c.loop-place.place) c.of_mask-fixed.ensures) ∙ sym c.has.ensures
-                ∙ w.if-has.true) c.loop-place.invariant.are);
-          }
-      | else-has w ↦ record {
-        room = rw w.lanes-is c.loop-place.invariant.room;
-        are = rw w.lanes-is (fixed-pass (votes_of c.args.game.now).members c.args.bits c.loop-place.place _
-            (votes_of c.args.game.now).rules _ c.loop-place-test.true c.requires.bits
-            (sym (ap (has c.args.bits c.loop-place.place) c.of_mask-fixed.ensures) ∙ sym c.has.ensures
-            ∙ w.if-has.false) c.loop-place.invariant.are);
-      }
-    ]
+loop-place-preserved c = grind (arith, common_steps, fixed-in, fixed-pass, is-part)
 
 pub returns : goal.returns
 returns c =

@@ -1,14 +1,10 @@
-use Rattle.std.proofs.Common.{◌≡◌, ◌∙◌, arith, length-set}
+use Rattle.std.proofs.Common.{◌≡◌, arith, length-set}
+use Rattle.std.proofs.lemmas.Grind.{common_steps}
 use Rattle.mwc_walk.proofs.Covered.{hole-on, hole-filled}
 use Rattle.mwc_walk.proofs.intervals.Intervals.close_up.Goals as goal
 
 pub loop-at-preserved : goal.loop-at-preserved
-loop-at-preserved c = record {
-  full = c.loop-at.invariant.full;
-  long = length-set _ _ _ ∙ c.loop-at.invariant.long;
-  kept = λ y covered. hole-on c.loop-at.self c.loop-at.at y (omega (arith, c.loop-at.invariant.long)) (c.loop-at.invariant.kept y covered)
-      c.loop-at.invariant.full (omega arith);
-}
+loop-at-preserved c = grind (arith, common_steps, hole-on, length-set)
 
 pub returns-clause-kept : goal.returns-clause-kept
 returns-clause-kept c = λ y covered.

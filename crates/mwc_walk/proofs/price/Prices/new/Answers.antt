@@ -1,4 +1,5 @@
-use Rattle.std.proofs.Common.{◌≡◌, ◌<◌, ◌-◌, ◌+◌, ◌∙◌, length, refl, arith, inl, inr, get_or-set_other, get_or-set_same, length-set}
+use Rattle.std.proofs.Common.{◌≡◌, ◌<◌, ◌-◌, ◌+◌, ◌∙◌, length, arith, inl, inr, get_or-set_other, get_or-set_same, length-set}
+use Rattle.std.proofs.lemmas.Grind.{common_steps}
 use Rattle.std.proofs.lemmas.Bool.{cases_eq}
 use Rattle.mwc_walk.specs.declared.price.Price.{Price}
 use Rattle.mwc_walk.proofs.Tables.{same-at}
@@ -9,14 +10,7 @@ abbrev none : Price
 none = record { own = 0; other = 0 }
 
 pub loop-place-init : goal.loop-place-init
-loop-place-init c = record {
-  long = refl;
-  done = λ p d lo hi. rw (
-    same-at {A = Price} none 41 p,
-    weight-past c.args.other.now c.args.members p d lo (omega arith),
-    weight-past c.args.own.now c.args.members p d lo (omega arith),
-  ) (record { kept = omega arith; none = λ _. refl });
-}
+loop-place-init c = grind (arith, common_steps, same-at, weight-past)
 
 pub loop-place-preserved : goal.loop-place-preserved
 loop-place-preserved c =
