@@ -45,10 +45,3 @@ module _ (g : GameView) (is : IsGame g) where
       by_rules [] same = absurd (both_ways _ lost same)
       by_rules (r ∷ rs) same = omega arith
 
--- the parts of them
-pub counted-is : (g : GameView) (n : ℕ) (rs part : List RuleView) → n ≡ length g.names → rs ≡ statute g → part ≡ filter (is_counted n rs) rs → part ≡ counted g
-counted-is g n rs part members rules is = is ∙ (λ k. filter (is_counted (members k) (rules k)) (rules k))
-
-pub left-is : (g : GameView) (n : ℕ) (rs part : List RuleView) → n ≡ length g.names → rs ≡ statute g
-    → part ≡ filter (λ r. not (is_counted n rs r)) rs → part ≡ left g
-left-is g n rs part members rules is = is ∙ (λ k. filter (λ r. not (is_counted (members k) (rules k) r)) (rules k))
