@@ -1,6 +1,6 @@
 -- The coalitions that members lead to, the heaviest first, and how many they are.
 use Rattle.std.proofs.Common.{◌≡◌, ◌∙◌, ◌↔◌, ◌⊎◌, ℕ, zero, suc, ◌+◌, ◌-◌, ◌*◌, ◌^◌, ◌<◌, ◌≤◌, ◌==◌, ◌&&◌, not, Bool, true, false, cond, leb, ltb}
-use Rattle.std.proofs.Common.{List, [], ◌∷◌, ◌++◌, map, filter, length, sym, ap, refl, subst, arith, inl, inr, eq-eqb}
+use Rattle.std.proofs.Common.{List, [], ◌∷◌, ◌++◌, map, filter, length, sym, ap, refl, subst, arith, inl, inr}
 use Rattle.std.proofs.lemmas.Bool.{and_right, cases_lt, cond-false, cond-true, eqb-true, false≢true, le-leb, le-ltb, lt-leb, lt-ltb, ne_eqb}
 use Rattle.std.proofs.lemmas.Nat.{pow_pos}
 use Rattle.std.proofs.lemmas.List.Elements.{filter-append}
@@ -14,7 +14,7 @@ use Rattle.weight_sums.proofs.Shared.EndingLaws.{length-left_out}
 use Rattle.weight_sums.specs.Endings.{choose, one_of_size, fill, endings, left_out}
 use Rattle.std.proofs.lemmas.Bool.Decides.{nat_tests}
 use Rattle.mwc_sums.proofs.Completing.{IsLeast, Falls, double-pow, down-two, falls-rest, first-in, first-out, rest-in, rest-out}
-use Rattle.mwc_sums.proofs.Completing.{least-alone, least-first, least-in, least-out, place-of, same_test, weight-left, weight-with}
+use Rattle.mwc_sums.proofs.Completing.{least-alone, least-first, least-in, least-out, place-of, weight-left, weight-with}
 use Rattle.mwc_sums.proofs.Counting.{count, count-and, count-first, count-never, count-parted, size-left, size-with}
 
 -- places behind a coalition of so many members, which meets the quota by its last: none where it has more members than heads, and

@@ -1,7 +1,7 @@
-use Rattle.std.proofs.Common.{◌≡◌, ◌∙◌, ◌==◌, ◌&&◌, ◌||◌, ℕ, Bool, false, ltb, get_or, sym, ap, arith}
+use Rattle.std.proofs.Common.{◌≡◌, ◌==◌, ◌&&◌, ◌||◌, ℕ, Bool, false, ltb, get_or, sym, arith}
 use Rattle.std.specs.List.{list_all, range_with_len}
 use Rattle.std.proofs.lemmas.Bool.Decides.{nat_tests}
-use Rattle.std.proofs.lemmas.Bool.{and_from, and_left, and_right, lt-ltb, ne_eqb}
+use Rattle.std.proofs.lemmas.Bool.{and_from, and_right, lt-ltb}
 use Rattle.council_game.specs.Votes.{rule_at}
 use Rattle.mwc_sums.proofs.Tests.{all-each, all-lost}
 use Rattle.mwc_sums.proofs.statute.Statute.gives_each.Goals as goal
