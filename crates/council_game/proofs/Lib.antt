@@ -4,6 +4,7 @@ mod Order
 mod Sorting
 mod Named
 mod Monotone
+mod Places
 mod Bounds
 mod Seen
 pub mod AllLaws

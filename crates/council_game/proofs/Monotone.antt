@@ -1,12 +1,7 @@
 -- Laws of games: monotone weights, minimal coalitions.
-use Rattle.std.proofs.Common.{◌≡◌, ℕ, zero, suc, ◌/◌, ◌%◌, ◌^◌, ◌<◌, ◌≤◌, true, not, List, [], ◌∷◌, length, arith, inl, inr}
-use Rattle.std.specs.List.{list_all}
+use Rattle.std.proofs.Common.{ℕ, ◌/◌, ◌%◌, ◌^◌, ◌<◌, ◌≤◌, List, [], ◌∷◌, length, arith}
 use Rattle.std.proofs.lemmas.Nat.{mul-le}
-use Rattle.std.proofs.lemmas.Bool.{and_from, cases_Bool, not-false}
-use Rattle.std.proofs.lemmas.Bool.Decides.{nat_tests}
-use Rattle.council_game.specs.Votes.{Votes, has, without, weight, wins, places_of, minimal}
-use Rattle.coalitions.proofs.Shared.Digits.{has-none, without-less}
-use Rattle.council_game.proofs.Shared.Places.{spare-place}
+use Rattle.council_game.specs.Votes.{weight}
 use Rattle.council_game.proofs.Shared.WeightByDigits.{weight-nil, weight-cons}
 
 -- fewer members weigh no more

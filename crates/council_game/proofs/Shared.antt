@@ -5,7 +5,6 @@ pub mod Rankings
 pub mod Games
 pub mod Making
 pub mod WeightByDigits
-pub mod Places
 pub mod Meanings
 pub mod Weights
 pub mod WinningByPlaces

@@ -1,23 +1,15 @@
 -- Coalitions that meet a need, and lose it without any one of their members, by their first member.
-use Rattle.std.proofs.Common.{◌≡◌, ◌∙◌, ◌↔◌, ℕ, zero, suc, ◌+◌, ◌-◌, ◌*◌, ◌/◌, ◌%◌, ◌^◌, ◌<◌, ◌≤◌, ◌==◌, ◌⊎◌, Bool, true, false, cond, leb}
-use Rattle.std.proofs.Common.{List, [], ◌∷◌, ◌++◌, length, get_or, map, filter, sym, ap, refl, arith, inl, inr, subst}
+use Rattle.std.proofs.Common.{◌≡◌, ◌∙◌, ◌↔◌, ℕ, zero, suc, ◌+◌, ◌-◌, ◌/◌, ◌%◌, ◌^◌, ◌<◌, ◌≤◌, ◌==◌, Bool, true, false}
+use Rattle.std.proofs.Common.{List, [], ◌∷◌, ◌++◌, length, get_or, map, sym, ap, arith, inl, inr}
 use native.Mathlib.Numerals.{unary_clauses}
-use Rattle.std.specs.List.{AllByRecursion}
-use Rattle.std.proofs.lemmas.Bool.{cases_lt, lt-leb, le-leb, leb-true, leb-false, eqb-true, both_ways, cond-true, cond-false, and_left}
-use Rattle.std.proofs.lemmas.Bool.{and_parts, and_from, false_from_ne_true}
-use Rattle.std.proofs.Math.Bool.{and-true}
-use Rattle.std.proofs.lemmas.List.Elements.{filter-append}
+use Rattle.std.proofs.lemmas.Bool.{cases_lt, eqb-true, both_ways}
 use Rattle.std.proofs.lemmas.Nat.{pow_pos}
 use Rattle.std.proofs.lemmas.Nat.Bits.{bit_at_cat_low, bit_at_cat_high, bit_at_above}
-use Rattle.council_game.specs.Votes.{RuleView, Votes, IsRule, IsRanked, IsVotes, rule_at, has, without, weight, wins, minimal, down}
-use Rattle.council_game.specs.Votes.{minimal_coalitions}
+use Rattle.council_game.specs.Votes.{RuleView, has, weight, wins, down}
 use Rattle.coalitions.proofs.Shared.Digits.{has-none}
-use Rattle.council_game.proofs.Shared.Meanings.{needs-each-member}
-use Rattle.council_game.proofs.Shared.WeightByDigits.{weight-nil, weight-cons}
+use Rattle.council_game.proofs.Shared.WeightByDigits.{weight-cons}
 use Rattle.council_game.proofs.Shared.Weights.{weight-skip, weight-zero, weight-without}
 use Rattle.std.proofs.lemmas.Bool.Decides.{nat_tests}
-use Rattle.mwc_sums.proofs.Filters.{filter-map}
-use Rattle.mwc_sums.specs.Completing.{completing}
 
 -- ---- coalitions of one place more
 pub first-in : (n c : ℕ) → c < 2 ^ n → has (suc n) 0 (2 ^ n + c) ≡ true
@@ -152,4 +144,3 @@ down-two (suc m) n =
 pub wins-one : (r : RuleView) (c : ℕ) → (wins (r ∷ []) c ≡ true) ↔ (r.quota ≤ weight r.weights c)
 unfolding wins
 wins-one r c = (λ won. grind (arith, nat_tests), λ met. grind (arith, nat_tests))
-

@@ -2,10 +2,9 @@
 use Rattle.std.proofs.Common.{◌≡◌, ◌∙◌, ◌↔◌, ◌⊎◌, ◌&&◌, ℕ, ◌+◌, ◌-◌, ◌*◌, ◌^◌, ◌<◌, ◌≤◌, Bool, true, cond, leb, List, [], ◌∷◌, length, filter, get_or, take, replicate}
 use Rattle.std.proofs.Common.{refl, sym, ap, subst, arith, inl, inr}
 use Rattle.std.specs.List.{AllByRecursion, range_with_len}
-use Rattle.std.proofs.lemmas.Bool.{both_ways, false_from_ne_true, cases_lt, le-leb, leb-false, leb-true, lt-leb, eqb-true, and_parts, and_from, and_left, and_right}
+use Rattle.std.proofs.lemmas.Bool.{cases_lt, le-leb, leb-true, eqb-true}
 use Rattle.std.proofs.lemmas.List.{get_or-replicate, length-replicate}
 use Rattle.std.proofs.lemmas.List.Sums.{length-filter}
-use Rattle.std.proofs.Math.Bool.{and-true}
 use Rattle.council_game.specs.Votes.{RuleView, Votes, IsRule, IsRanked, IsVotes, down, minimal_coalitions, has, without, weight, size, wins, minimal, rule_at}
 use Rattle.council_game.proofs.Shared.Weights.{weight-without}
 use Rattle.council_game.proofs.Shared.WinningByPlaces.{rule-is}
@@ -45,10 +44,13 @@ pub by-heads : (n : ℕ) (won : ℕ → Bool) (heads c : ℕ) → IsMin n (λ x.
     ↔ (((size n c ≡ heads) × (won c ≡ true)) ⊎ ((heads < size n c) × IsMin n won c))
 by-heads n won heads c = (
   λ min. elim (cases_lt heads (size n c)) [
-    | inl less ↦ inr (less, record {
-      wins = let w = min.wins in grind (arith, nat_tests);
-      needs = λ p lt inside. let m = min.needs p lt inside in let one = size-without n p c lt inside in grind (arith, nat_tests);
-    })
+    | inl less ↦ inr (
+      less,
+      record {
+        wins = let w = min.wins in grind (arith, nat_tests);
+        needs = λ p lt inside. let m = min.needs p lt inside in let one = size-without n p c lt inside in grind (arith, nat_tests);
+      },
+    )
     | inr most ↦ let w = min.wins in inl (grind (arith, nat_tests), grind (arith, nat_tests))
   ],
   λ h. elim h [
@@ -68,13 +70,13 @@ pub least-weights : (ws : List ℕ) (r c : ℕ) → IsMin (length ws) (λ x. leb
 unfolding has without
 least-weights ws r c = (
   λ min. record {
-      met = let w = min.wins in grind (arith, nat_tests);
-      needed = λ p lt inside. let m = min.needs p lt inside in let less = weight-without ws p c lt in grind (arith, nat_tests);
-    },
+    met = let w = min.wins in grind (arith, nat_tests);
+    needed = λ p lt inside. let m = min.needs p lt inside in let less = weight-without ws p c lt in grind (arith, nat_tests);
+  },
   λ least. record {
-      wins = let w = least.met in grind (arith, nat_tests);
-      needs = λ p lt inside. let need = least.needed p lt inside in let less = weight-without ws p c lt in grind (arith, nat_tests);
-    },
+    wins = let w = least.met in grind (arith, nat_tests);
+    needs = λ p lt inside. let need = least.needed p lt inside in let less = weight-without ws p c lt in grind (arith, nat_tests);
+  },
 )
 
 pub met-min : (ws : List ℕ) (heads q c : ℕ) → IsMin (length ws) (λ x. leb q (weight ws x) && leb heads (size (length ws) x)) c ↔ AreMet ws heads q 0 c

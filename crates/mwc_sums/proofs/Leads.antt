@@ -1,6 +1,6 @@
 -- The coalitions that members lead to, the heaviest first, and how many they are.
 use Rattle.std.proofs.Common.{◌≡◌, ◌∙◌, ◌↔◌, ◌⊎◌, ℕ, zero, suc, ◌+◌, ◌-◌, ◌*◌, ◌^◌, ◌<◌, ◌≤◌, ◌==◌, ◌&&◌, not, Bool, true, false, cond, leb, ltb}
-use Rattle.std.proofs.Common.{List, [], ◌∷◌, ◌++◌, map, filter, length, sym, ap, refl, subst, arith, inl, inr, eq-eqb}
+use Rattle.std.proofs.Common.{List, [], ◌∷◌, ◌++◌, map, filter, length, sym, ap, refl, subst, arith, inl, inr}
 use Rattle.std.proofs.lemmas.Bool.{and_right, cases_lt, cond-false, cond-true, eqb-true, false≢true, le-leb, le-ltb, lt-leb, lt-ltb, ne_eqb}
 use Rattle.std.proofs.lemmas.Nat.{pow_pos}
 use Rattle.std.proofs.lemmas.List.Elements.{filter-append}
@@ -10,10 +10,11 @@ use Rattle.mwc_sums.proofs.Filters.{filter-map, filter-same}
 use Rattle.council_game.specs.Votes.{has, size, weight, down}
 use Rattle.council_game.proofs.Shared.WeightByDigits.{weight-nil}
 use Rattle.power_index.proofs.Shared.Members.{size-pos-at}
+use Rattle.weight_sums.proofs.Shared.EndingLaws.{length-left_out}
 use Rattle.weight_sums.specs.Endings.{choose, one_of_size, fill, endings, left_out}
 use Rattle.std.proofs.lemmas.Bool.Decides.{nat_tests}
 use Rattle.mwc_sums.proofs.Completing.{IsLeast, Falls, double-pow, down-two, falls-rest, first-in, first-out, rest-in, rest-out}
-use Rattle.mwc_sums.proofs.Completing.{least-alone, least-first, least-in, least-out, place-of, same_test, weight-left, weight-with}
+use Rattle.mwc_sums.proofs.Completing.{least-alone, least-first, least-in, least-out, place-of, weight-left, weight-with}
 use Rattle.mwc_sums.proofs.Counting.{count, count-and, count-first, count-never, count-parted, size-left, size-with}
 
 -- places behind a coalition of so many members, which meets the quota by its last: none where it has more members than heads, and
@@ -74,21 +75,29 @@ lacks-first_out n c lt = λ i. not (lt-ltb 0 (suc n) (omega arith) i && first-ou
 lacks-none : (n c : ℕ) → lacks n n c ≡ true
 lacks-none n c = λ i. not (le-ltb n n (omega arith) i && has n n c)
 
-besides-none : (n : ℕ) → besides n n ≡ n
+besides-some : (n p : ℕ) → p < n → suc (besides n p) ≡ n
 unfolding besides
-besides-none zero = refl
-besides-none (suc n) = ap suc (besides-none n)
+besides-some zero p lt = absurd (omega (arith, lt))
+besides-some (suc n) zero lt = refl
+besides-some (suc n) (suc p) lt = ap suc (besides-some n p (omega (arith, lt)))
+
+besides-past : (n p : ℕ) → n ≤ p → besides n p ≡ n
+unfolding besides
+besides-past zero p le = refl
+besides-past (suc n) zero le = absurd (omega (arith, le))
+besides-past (suc n) (suc p) le = ap suc (besides-past n p (omega (arith, le)))
+
+left_out-past : (p : ℕ) (ws : List ℕ) → length ws ≤ p → left_out p ws ≡ ws
+unfolding left_out
+left_out-past p [] le = refl
+left_out-past zero (w ∷ ws) le = absurd (omega (arith, le))
+left_out-past (suc p) (w ∷ ws) le = ap (λ (l : List ℕ). w ∷ l) (left_out-past p ws (omega (arith, le)))
 
 length-left : (p : ℕ) (ws : List ℕ) → length (left_out p ws) ≡ besides (length ws) p
-unfolding besides left_out
-length-left p [] = refl
-length-left zero (w ∷ ws) = refl
-length-left (suc p) (w ∷ ws) = ap suc (length-left p ws)
-
-left_out-none : (ws : List ℕ) → left_out (length ws) ws ≡ ws
-unfolding left_out
-left_out-none [] = refl
-left_out-none (w ∷ ws) = ap (λ (l : List ℕ). w ∷ l) (left_out-none ws)
+length-left p ws = elim (cases_lt p (length ws)) [
+  | inl low ↦ omega (arith, length-left_out p ws low, besides-some (length ws) p low)
+  | inr high ↦ ap (λ (l : List ℕ). length l) (left_out-past p ws high) ∙ sym (besides-past (length ws) p high)
+]
 
 -- ---- how many of them have a size
 choose-none : (n : ℕ) → choose n 0 ≡ 1
@@ -121,7 +130,7 @@ chosen (suc n) zero k =
     let parts = count-first (λ c. lacks (suc n) 0 c && (size (suc n) c == k)) (λ c. false) (λ c. lacks n n c && (size n c == k)) n
     (λ c lt. (λ i. lacks-first_in n c lt i && (size (suc n) (2 ^ n + c) == k)))
     (λ c lt. (λ i. (lacks-first_out n c lt ∙ sym (lacks-none n c)) i && (size-left n c lt i == k))) in
-    omega (arith, parts, count-never (down (2 ^ n)), chosen n n k, ap (λ (m : ℕ). choose m k) (besides-none n))
+    omega (arith, parts, count-never (down (2 ^ n)), chosen n n k, ap (λ (m : ℕ). choose m k) (besides-past n n (omega arith)))
 chosen (suc n) (suc p) k =
     let parts = count-first (λ c. lacks (suc n) (suc p) c && (size (suc n) c == k)) (λ c. lacks n p c && (size n c + 1 == k))
     (λ c. lacks n p c && (size n c == k)) n
@@ -188,7 +197,7 @@ leads-lacking (w ∷ ws) zero heads s r a =
     (λ c. leads ws heads r a c && (lacks n n c && (a + size n c == s))) n
     (λ c lt. and_right (leads (w ∷ ws) heads r a (2 ^ n + c)) _ (λ i. lacks-first_in n c lt i && (a + size (suc n) (2 ^ n + c) == s)))
     (λ c lt. (λ i. leads-out w ws heads r a c lt i && ((lacks-first_out n c lt ∙ sym (lacks-none n c)) i && (a + size-left n c lt i == s)))) in
-    omega (arith, parts, count-never (down (2 ^ n)), leads-lacking ws n heads s r a, ap (λ (l : List ℕ). endings l heads s r a) (left_out-none ws))
+    omega (arith, parts, count-never (down (2 ^ n)), leads-lacking ws n heads s r a, ap (λ (l : List ℕ). endings l heads s r a) (left_out-past (length ws) ws (omega arith)))
 leads-lacking (w ∷ ws) (suc p) heads s r a =
     let n : ℕ = length ws in
     let parts = count-first (λ c. leads (w ∷ ws) heads r a c && (lacks (suc n) (suc p) c && (a + size (suc n) c == s)))
@@ -208,7 +217,7 @@ leads-lacking (w ∷ ws) (suc p) heads s r a =
 pub leads-all : (ws : List ℕ) (heads s r a : ℕ) → count (λ c. leads ws heads r a c && (a + size (length ws) c == s)) (down (2 ^ length ws)) ≡ endings ws heads s r a
 leads-all ws heads s r a =
     (λ i. count (λ c. leads ws heads r a c && (sym (lacks-none (length ws) c) i && (a + size (length ws) c == s))) (down (2 ^ length ws)))
-    ∙ leads-lacking ws (length ws) heads s r a ∙ ap (λ (l : List ℕ). endings l heads s r a) (left_out-none ws)
+    ∙ leads-lacking ws (length ws) heads s r a ∙ ap (λ (l : List ℕ). endings l heads s r a) (left_out-past (length ws) ws (omega arith))
 
 -- those with a place are those that the members do not lead to without it
 pub leads-parted : (ws : List ℕ) (p heads s r a : ℕ) → p < length ws → endings (left_out p ws) heads s r a

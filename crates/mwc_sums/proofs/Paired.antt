@@ -1,8 +1,8 @@
 -- Pairs of two lists that have a size together.
-use Rattle.std.proofs.Common.{◌≡◌, ◌∙◌, ◌==◌, ◌&&◌, ℕ, ◌+◌, ◌-◌, ◌*◌, ◌≤◌, Bool, true, false, cond, leb, List, length}
-use Rattle.std.proofs.Common.{filter, sym, ap, refl, arith, inl, inr}
+use Rattle.std.proofs.Common.{◌≡◌, ◌∙◌, ◌==◌, ◌&&◌, ℕ, ◌+◌, ◌-◌, ◌*◌, ◌≤◌, Bool, cond, leb, List, length}
+use Rattle.std.proofs.Common.{filter, sym, ap, arith, inl, inr}
 use Rattle.std.specs.List.{sum_by}
-use Rattle.std.proofs.lemmas.Bool.{cases_lt, cases_eq, eq-eqb, ne_eqb, and_parts, and_right, le-leb, leb-true, lt-leb}
+use Rattle.std.proofs.lemmas.Bool.{cases_lt, ne_eqb, and_parts, and_right, le-leb, leb-true, lt-leb}
 use Rattle.power_index.proofs.Shared.Sums.{sum-times, sum-range, sum-filter, sum-by_size}
 use Rattle.std.proofs.lemmas.Bool.Decides.{nat_tests}
 use Rattle.mwc_sums.specs.Chambers.{paired}

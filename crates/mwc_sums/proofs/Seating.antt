@@ -1,13 +1,9 @@
 -- Coalitions of the first places of a ranking, and the sets of members that they hold.
 use Rattle.std.proofs.Common.{◌≡◌, ◌∙◌, ◌↔◌, ◌==◌, ◌&&◌, not, ℕ, zero, suc, ◌+◌, ◌-◌, ◌*◌, ◌/◌, ◌%◌, ◌^◌, ◌<◌, ◌≤◌, Bool, true, false, cond, eqb, ltb}
-use Rattle.std.proofs.Common.{List, get_or, map, sym, ap, subst, refl, arith, inl, inr}
+use Rattle.std.proofs.Common.{List, get_or, sym, ap, refl, arith, inl, inr}
 use native.Mathlib.Numerals.{unary_clauses}
 use Rattle.std.specs.List.{sum_by, range_with_len}
-use Rattle.std.specs.List.Sorted.{IsPermutation}
-use Rattle.std.proofs.lemmas.Bool.{cases_lt, cases_eq, and_parts, and_right, eqb-true, eqb-false, eq-eqb, false_from_ne_true, le-ltb, lt-ltb, ltb-true, ne_eqb}
-use Rattle.std.proofs.lemmas.List.FromFn.{fill_by_all}
-use Rattle.std.proofs.lemmas.List.Folds.{fold-map}
-use Rattle.std.proofs.lemmas.List.Sorted.{sum_by-IsPermutation}
+use Rattle.std.proofs.lemmas.Bool.{cases_lt, cases_eq, and_parts, le-ltb, ltb-true}
 use Rattle.std.proofs.lemmas.List.Sums.{length-filter}
 use Rattle.std.proofs.lemmas.Nat.Bits.{bit_at-suc, same_from_bits_below}
 use Rattle.coalitions.proofs.Shared.Digits.{has-kept, has-gone}

@@ -1,5 +1,5 @@
 -- The rules that a game consists of.
-use Rattle.std.proofs.Common.{◌≡◌, ◌∙◌, ℕ, zero, suc, ◌*◌, ◌<◌, ◌≤◌, false, not, cond, leb, filter, List, [], ◌∷◌, length, get_or, refl, arith, All}
+use Rattle.std.proofs.Common.{◌≡◌, ℕ, zero, suc, ◌*◌, ◌<◌, ◌≤◌, false, cond, leb, List, [], ◌∷◌, length, get_or, refl, arith, All}
 use Rattle.std.specs.List.{sum_by, range_with_len}
 use Rattle.std.proofs.lemmas.Bool.{both_ways, lt-leb}
 use Rattle.std.proofs.lemmas.List.Folds.{list_all_at}
@@ -8,7 +8,7 @@ use Rattle.council_game.specs.Game.{GameView, IsGame}
 use Rattle.mwc_sums.specs.Chambers.{met, weighs}
 use Rattle.mwc_sums.specs.Inner.Fair.{IsFair}
 use Rattle.mwc_sums.specs.Inner.Rules.{AreRulesOf}
-use Rattle.mwc_sums.specs.Statute.{counted, is_counted, left, statute}
+use Rattle.mwc_sums.specs.Statute.{statute}
 use Rattle.mwc_sums.specs.Vetoers.{can_veto}
 use Rattle.mwc_sums.proofs.Remaking.{fair-all, fair-of}
 use Rattle.mwc_sums.proofs.VetoRules.{fair-beside, few-beside, good-some}
@@ -44,11 +44,3 @@ module _ (g : GameView) (is : IsGame g) where
       by_rules : (rs : List RuleView) → met (length g.names) g.rules (λ i. false) ≡ met (length g.names) rs (λ i. false) → 0 < length rs
       by_rules [] same = absurd (both_ways _ lost same)
       by_rules (r ∷ rs) same = omega arith
-
--- the parts of them
-pub counted-is : (g : GameView) (n : ℕ) (rs part : List RuleView) → n ≡ length g.names → rs ≡ statute g → part ≡ filter (is_counted n rs) rs → part ≡ counted g
-counted-is g n rs part members rules is = is ∙ (λ k. filter (is_counted (members k) (rules k)) (rules k))
-
-pub left-is : (g : GameView) (n : ℕ) (rs part : List RuleView) → n ≡ length g.names → rs ≡ statute g
-    → part ≡ filter (λ r. not (is_counted n rs r)) rs → part ≡ left g
-left-is g n rs part members rules is = is ∙ (λ k. filter (λ r. not (is_counted (members k) (rules k) r)) (rules k))

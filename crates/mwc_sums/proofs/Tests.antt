@@ -1,7 +1,7 @@
 -- Tests of the members of a game.
 use Rattle.std.proofs.Common.{◌≡◌, ◌∙◌, ◌&&◌, not, ◌⊎◌, ℕ, ◌<◌, Bool, true, false, ap, sym, arith, inl, inr}
 use Rattle.std.specs.List.{list_all, list_any, range_with_len}
-use Rattle.std.proofs.lemmas.Bool.{and_from, and_parts, both_ways, cases_Bool, not-true, not_from_false, true_from_ne_false}
+use Rattle.std.proofs.lemmas.Bool.{cases_Bool}
 use Rattle.std.proofs.lemmas.Bool.Decides.{nat_tests}
 use Rattle.std.proofs.lemmas.List.FromFn.{length-range_with_len}
 use Rattle.std.proofs.lemmas.List.Folds.{Any-from_list_any, list_all_at, list_any_at, list_any_none}

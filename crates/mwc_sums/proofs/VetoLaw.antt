@@ -1,7 +1,6 @@
 -- A member without whom some rule can not be met is in each winning coalition.
-use Rattle.std.proofs.Common.{◌≡◌, ◌∙◌, ℕ, ◌+◌, ◌^◌, ◌<◌, ◌≤◌, Bool, true, false, leb, List, [], length, get_or}
+use Rattle.std.proofs.Common.{◌≡◌, ◌∙◌, ℕ, ◌^◌, ◌<◌, true, leb, List, [], length, get_or}
 use Rattle.std.proofs.Common.{ap, refl, arith}
-use Rattle.std.specs.List.{sum}
 use Rattle.std.proofs.lemmas.Bool.{lt-leb, true_from_ne_false, both_ways}
 use Rattle.std.proofs.lemmas.List.Folds.{list_all_at}
 use Rattle.council_game.specs.Votes.{RuleView, Votes, IsVotes, rule_at, has, weight, wins}

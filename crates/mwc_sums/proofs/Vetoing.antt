@@ -1,8 +1,8 @@
 -- Where all members that can veto agree, the rules ask the others for what is left.
-use Rattle.std.proofs.Common.{◌≡◌, ◌∙◌, ◌&&◌, ℕ, zero, suc, ◌+◌, ◌-◌, ◌*◌, ◌<◌, ◌≤◌, Bool, true, false, cond, leb, ltb}
+use Rattle.std.proofs.Common.{◌≡◌, ◌∙◌, ◌&&◌, ℕ, zero, suc, ◌+◌, ◌*◌, ◌<◌, ◌≤◌, Bool, true, false, cond, leb, ltb}
 use Rattle.std.proofs.Common.{List, [], ◌∷◌, length, get_or, map, filter, sym, ap, refl, arith, inl, inr, All}
 use Rattle.std.specs.List.{sum, sum_by, range_with_len}
-use Rattle.std.proofs.lemmas.Bool.{cases_lt, or_cases, and_right, le-leb, leb-true, lt-leb, lt-ltb, le-ltb, ltb-true}
+use Rattle.std.proofs.lemmas.Bool.{cases_lt, le-leb}
 use Rattle.std.proofs.lemmas.List.FromFn.{fill_by_all, get_or-map-range_with_len}
 use Rattle.std.proofs.lemmas.List.Folds.{fold-map}
 use Rattle.std.proofs.lemmas.List.Elements.{All-head, All-tail}
@@ -13,7 +13,6 @@ use Rattle.std.proofs.lemmas.Bool.Decides.{nat_tests}
 use Rattle.mwc_sums.specs.Chambers.{weighs, met}
 use Rattle.mwc_sums.specs.Statute.{rules_beside}
 use Rattle.mwc_sums.specs.Vetoers.{can_veto, number_of, rest_of, rule_for}
-use Rattle.mwc_sums.proofs.Completing.{same_test}
 use Rattle.mwc_sums.proofs.Tests.{missing}
 
 -- a row of weights adds up over its places

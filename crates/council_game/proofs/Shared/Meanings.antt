@@ -5,7 +5,7 @@ use Rattle.std.proofs.lemmas.Bool.{and_parts, and_from, not-true, not_from_false
 use Rattle.std.proofs.lemmas.List.Sums.{sum-map}
 use Rattle.council_game.specs.Votes.{Votes, has, without, wins, weight, places_of, minimal}
 use Rattle.council_game.specs.Laws.{WeighsItsMembers, NeedsEachMember}
-use Rattle.council_game.proofs.Shared.Places.{each-place, all-places}
+use Rattle.council_game.proofs.Places.{each-place, all-places}
 
 pub weighs-its-members : WeighsItsMembers
 unfolding weight

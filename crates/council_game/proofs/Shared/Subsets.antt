@@ -8,7 +8,7 @@ use Rattle.council_game.specs.Votes.{RuleView, Votes, IsRule, IsVotes, has, with
 use Rattle.council_game.specs.Laws.{ProperSubsetsLose}
 use Rattle.coalitions.proofs.Shared.Digits.{digit-kept, has-kept, has-none, without-less}
 use Rattle.council_game.proofs.Monotone.{weight-mono}
-use Rattle.council_game.proofs.Shared.Places.{spare-place}
+use Rattle.council_game.proofs.Places.{spare-place}
 use Rattle.council_game.proofs.Shared.Meanings.{needs-each-member}
 
 -- where a set wins, each set wins that has all its places

@@ -1,7 +1,6 @@
 use Rattle.std.proofs.Common.{List, length, ap, refl, arith}
 use Rattle.council_game.specs.Votes.{RuleView}
 use Rattle.mwc_sums.proofs.Sharing.{all-counted}
-use Rattle.mwc_sums.proofs.Statutes.{left-is}
 use Rattle.mwc_sums.proofs.count.boxed_by_sums.Goals as goal
 
 pub returns-then-rules-gt0-clause-kind : goal.returns-then-rules-gt0-clause-kind
@@ -10,7 +9,7 @@ returns-then-rules-gt0-clause-kind c = (
   λ none. absurd (
       let some = c.if-rules-gt0.true in
       let own = c.rules-2.ensures in
-      let left = ap (λ (l : List RuleView). length l) (left-is c.args.game.now _ _ _ c.in_ok-statute.ensures.members c.in_ok-statute.ensures.rules c.in_ok-part.ensures.rules) in
+      let left = ap (λ (l : List RuleView). length l) (rw (c.in_ok-statute.ensures.members, c.in_ok-statute.ensures.rules) at c.in_ok-part.ensures.rules) in
       omega (arith, some, own, left, none)),
 )
 
@@ -27,7 +26,7 @@ returns-clause-kind c = (
   λ _.
       (let none = c.if-rules-gt0.false in
       let own = c.rules-2.ensures in
-      let left = ap (λ (l : List RuleView). length l) (left-is c.args.game.now _ _ _ c.in_ok-statute.ensures.members c.in_ok-statute.ensures.rules c.in_ok-part.ensures.rules) in
+      let left = ap (λ (l : List RuleView). length l) (rw (c.in_ok-statute.ensures.members, c.in_ok-statute.ensures.rules) at c.in_ok-part.ensures.rules) in
       omega (arith, none, own, left)),
   λ _. refl,
 )

@@ -4,7 +4,6 @@ use Rattle.council_game.specs.Votes.{RuleView}
 use Rattle.mwc_sums.specs.Chambers.{AreChambersOf}
 use Rattle.mwc_sums.specs.Statute.{is_counted}
 use Rattle.mwc_sums.proofs.Sharing.{both-few, chambers-within, counted-closed, own-chamber, parts-are}
-use Rattle.mwc_sums.proofs.Statutes.{counted-is, left-is}
 use Rattle.mwc_sums.proofs.parts.part_by_sums.Goals as goal
 use Rattle.mwc_sums.proofs.parts.part_by_sums.Goals.{then-rules-eq0-via-then-rules-eq0, then-rules-eq0-via-else-rules-eq0+then-rules-eq0-2}
 
@@ -15,15 +14,13 @@ returns-then-rules-eq0-clause-kind c = (
     | then-rules-eq0-via-then-rules-eq0 w ↦
         let none = w.if-rules-eq0.true in
         let own = c.rules.ensures in
-        let counted = ap (λ (l : List RuleView). length l) (counted-is c.args.game.now _ _ _ c.in_ok-statute.ensures.members c.in_ok-statute.ensures.rules
-        c.in_ok-counted.ensures.rules) in
+        let counted = ap (λ (l : List RuleView). length l) (rw (c.in_ok-statute.ensures.members, c.in_ok-statute.ensures.rules) at c.in_ok-counted.ensures.rules) in
         let some = kind.0 in
         omega (arith, none, own, counted, some)
     | then-rules-eq0-via-else-rules-eq0+then-rules-eq0-2 w ↦
         let none = w.if-rules-eq0-2.true in
         let own = w.rules-else-rules-eq0.ensures in
-        let left = ap (λ (l : List RuleView). length l) (left-is c.args.game.now _ _ _ c.in_ok-statute.ensures.members c.in_ok-statute.ensures.rules
-        c.in_ok-others.ensures.rules) in
+        let left = ap (λ (l : List RuleView). length l) (rw (c.in_ok-statute.ensures.members, c.in_ok-statute.ensures.rules) at c.in_ok-others.ensures.rules) in
         let some = kind.1 in
         omega (arith, none, own, left, some)
   ]),
@@ -69,15 +66,13 @@ returns-clause-parts c =
 
 pub returns-clause-left : goal.returns-clause-left
 returns-clause-left c =
-    left-is c.args.game.now _ _ _ c.in_ok-statute.ensures.members c.in_ok-statute.ensures.rules (c.in_ok-game.ensures.rules ∙ c.in_ok-others.ensures.rules)
+    rw (c.in_ok-statute.ensures.members, c.in_ok-statute.ensures.rules) at (c.in_ok-game.ensures.rules ∙ c.in_ok-others.ensures.rules)
 
 pub returns-clause-kind : goal.returns-clause-kind
 returns-clause-kind c = (
   λ _.
-      (let counted = ap (λ (l : List RuleView). length l) (counted-is c.args.game.now _ _ _ c.in_ok-statute.ensures.members c.in_ok-statute.ensures.rules
-      c.in_ok-counted.ensures.rules) in
-      let left = ap (λ (l : List RuleView). length l) (left-is c.args.game.now _ _ _ c.in_ok-statute.ensures.members c.in_ok-statute.ensures.rules
-      c.in_ok-others.ensures.rules) in
+      (let counted = ap (λ (l : List RuleView). length l) (rw (c.in_ok-statute.ensures.members, c.in_ok-statute.ensures.rules) at c.in_ok-counted.ensures.rules) in
+      let left = ap (λ (l : List RuleView). length l) (rw (c.in_ok-statute.ensures.members, c.in_ok-statute.ensures.rules) at c.in_ok-others.ensures.rules) in
       let one = c.if-rules-eq0.false in
       let own = c.rules.ensures in
       let other = c.if-rules-eq0-2.false in

@@ -1,6 +1,7 @@
-use Rattle.std.proofs.Common.{◌≡◌, ◌∙◌, ◌==◌, ◌&&◌, ◌||◌, ℕ, Bool, false, ltb, get_or, sym, ap, arith}
+use Rattle.std.proofs.Common.{◌≡◌, ◌==◌, ◌&&◌, ◌||◌, ℕ, Bool, false, ltb, get_or, sym, arith}
 use Rattle.std.specs.List.{list_all, range_with_len}
-use Rattle.std.proofs.lemmas.Bool.{and_from, and_left, and_right, lt-ltb, ne_eqb}
+use Rattle.std.proofs.lemmas.Bool.Decides.{nat_tests}
+use Rattle.std.proofs.lemmas.Bool.{and_from, and_right, lt-ltb}
 use Rattle.council_game.specs.Votes.{rule_at}
 use Rattle.mwc_sums.proofs.Tests.{all-each, all-lost}
 use Rattle.mwc_sums.proofs.statute.Statute.gives_each.Goals as goal
@@ -14,14 +15,13 @@ returns-then-not-weight c =
     let other = c.if-own-each.true in
     let inside = c.loop-member-test.true in
     let count = c.members-member-end.ensures.count in
-    let rest : ((head c.loop-member.member == 0) && (weight c.loop-member.member == 0)) ≡ false =
-    elim c.if-own-eq0.branch [
-      | then-own-eq0 w ↦ and_right (head c.loop-member.member == 0) (weight c.loop-member.member == 0) (ap (λ (x : ℕ). x == 0) (sym w.weight.ensures) ∙ sym w.value-is ∙ c.if-not-weight.true)
-      | else-own-eq0 w ↦ and_left (head c.loop-member.member == 0) (weight c.loop-member.member == 0) (ne_eqb (head c.loop-member.member) 0 (λ e. (let some = w.if-own-eq0.false in omega (arith, own, e, some))))
-    ] in
     let test : ℕ → Bool = λ i. (head i == c.args.each) || ((head i == 0) && (weight i == 0)) in
-    sym (and_right (ltb 0 c.args.each) (list_all test (range_with_len 0 c.args.self.now.members)) (all-lost test c.args.self.now.members c.loop-member.member (omega (arith, inside, count))
-    (λ k. ne_eqb (head c.loop-member.member) c.args.each (λ e. omega (arith, own, e, other)) k || rest k)))
+    let lost : test c.loop-member.member ≡ false = elim c.if-own-eq0.branch [
+      | then-own-eq0 w ↦ let e = w.weight.ensures in let v = w.value-is in let no-weight = c.if-not-weight.true in grind (arith, nat_tests)
+      | else-own-eq0 w ↦ let some = w.if-own-eq0.false in grind (arith, nat_tests)
+    ] in
+    sym (and_right (ltb 0 c.args.each) (list_all test (range_with_len 0 c.args.self.now.members)) (all-lost test c.args.self.now.members c.loop-member.member
+    (omega (arith, inside, count)) lost))
 
 pub returns : goal.returns
 returns c =
