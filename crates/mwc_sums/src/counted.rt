@@ -43,7 +43,8 @@ impl Counted {
     /// How many coalitions that contain a member have each size.
     fn sizes_of_member(&self, member: usize) -> [u64; limits::SIZES]
         requires { member < length self.now.game.names }
-        ensures { (s : ℕ) → s ≤ MEMBERS → slice_index result s ≡ minimal_of_member_size self.now.game member s }
+        ensures { (s : ℕ) → s ≤ MEMBERS
+            → slice_index result s ≡ minimal_of_member_size self.now.game member s }
     {
         let mut sizes = [0; limits::SIZES];
         for size in 0..self.counts.members() + 1 {
@@ -68,7 +69,8 @@ fn pairs_of_size(first: &[u64; limits::SIZES], second: &[u64; limits::SIZES], si
 
 /// How many pairs have each size together.
 fn pairs(first: &[u64; limits::SIZES], second: &[u64; limits::SIZES]) -> [u64; limits::SIZES]
-    requires { (s : ℕ) → s ≤ MEMBERS → paired (slice_index first.now) (slice_index second.now) s ≤ 2 ^ MEMBERS }
+    requires { (s : ℕ) → s ≤ MEMBERS
+        → paired (slice_index first.now) (slice_index second.now) s ≤ 2 ^ MEMBERS }
     ensures long { length result ≡ SIZES }
     ensures sizes { (s : ℕ) → s ≤ MEMBERS →
         slice_index result s ≡ paired (slice_index first.now) (slice_index second.now) s }

@@ -4,7 +4,7 @@ use Rattle.std.proofs.Common.{List, [], ◌∷◌, length, sym, ap, refl, arith,
 use Rattle.std.specs.List.{sum_by}
 use Rattle.std.proofs.lemmas.Bool.{cases_lt, cases_eq, ne_eqb, lt-leb, le-leb, lt-ltb, le-ltb, cond-true, cond-false}
 use Rattle.weight_sums.specs.Endings.{choose, one_of_size, fill, endings, left_out}
-use Rattle.weight_sums.specs.Inner.Sets.{nobody, alone, sets_of, lost_of, fits}
+use Rattle.weight_sums.specs.Inner.Sets.{nobody, alone, sets_of, shortened_of, fits}
 use Rattle.weight_sums.proofs.SetLaws.{sum-one, chosen-none, fits-more}
 
 -- ---- what meets the quota is filled up in any way
@@ -175,7 +175,7 @@ fits-alone : (d k s : ℕ) → sum_by (fits d k s) (alone ∷ []) ≡ cond (leb 
 fits-alone d k s = sum-one (fits d k s) alone
 
 -- each set but the empty one is another with its last member
-all-but-one : (s : ℕ) (ws : List ℕ) (k : ℕ) → one_of_size s k + sum_by (fits 0 k s) (lost_of ws) ≡ sum_by (fits 0 k s) (sets_of ws)
+all-but-one : (s : ℕ) (ws : List ℕ) (k : ℕ) → one_of_size s k + sum_by (fits 0 k s) (shortened_of ws) ≡ sum_by (fits 0 k s) (sets_of ws)
 all-but-one s [] k =
     let a = chosen-none (fits 0 k s) [] (alone ∷ []) in
     let b = chosen-none (fits 0 k s) (nobody ∷ []) [] ∙ sum-one (fits 0 k s) nobody in
@@ -186,14 +186,14 @@ all-but-one s (w ∷ ws) k =
     let z : 0 - w ≡ 0 = omega arith in
     let a = fits-more 0 k s [] (alone ∷ []) w ws in
     let b = fits-more 0 k s (nobody ∷ []) [] w ws in
-    let c = ap (λ (d : ℕ). sum_by (fits d (k + 1) s) (lost_of ws)) z in
+    let c = ap (λ (d : ℕ). sum_by (fits d (k + 1) s) (shortened_of ws)) z in
     let e = ap (λ (d : ℕ). sum_by (fits d (k + 1) s) (sets_of ws)) z in
     let f = fits-alone 0 k s in
     omega (arith, a, b, c, e, f, all-but-one s ws k, all-but-one s ws (k + 1))
 
 -- what meets a need is what the members lead to, and what meets it without its last member
 endings-law : (s : ℕ) (ws : List ℕ) (d k : ℕ) → 0 < d
-    → endings ws 0 s d k + sum_by (fits d k s) (lost_of ws) ≡ sum_by (fits d k s) (sets_of ws)
+    → endings ws 0 s d k + sum_by (fits d k s) (shortened_of ws) ≡ sum_by (fits d k s) (sets_of ws)
 unfolding endings
 endings-law s [] d k some =
     let a = chosen-none (fits d k s) [] (alone ∷ []) in
@@ -207,14 +207,14 @@ endings-law s (w ∷ ws) d k some =
     let joins = by_cases (cases_lt w d) (λ pos. endings-law s ws (d - w) (k + 1) pos) in
     omega (arith, a, b, no, joins, endings-law s ws d k some)
   where
-    by_cases : (w < d) ⊎ (d ≤ w) → (0 < d - w → endings ws 0 s (d - w) (k + 1) + sum_by (fits (d - w) (k + 1) s) (lost_of ws)
+    by_cases : (w < d) ⊎ (d ≤ w) → (0 < d - w → endings ws 0 s (d - w) (k + 1) + sum_by (fits (d - w) (k + 1) s) (shortened_of ws)
         ≡ sum_by (fits (d - w) (k + 1) s) (sets_of ws))
-        → cond (leb d w) (fill 0 s (length ws) (k + 1)) (endings ws 0 s (d - w) (k + 1)) + sum_by (fits (d - w) (k + 1) s) (lost_of ws)
+        → cond (leb d w) (fill 0 s (length ws) (k + 1)) (endings ws 0 s (d - w) (k + 1)) + sum_by (fits (d - w) (k + 1) s) (shortened_of ws)
         ≡ sum_by (fits (d - w) (k + 1) s) (sets_of ws)
     by_cases (inr most) before =
         let yes = cond-true (leb d w) (fill 0 s (length ws) (k + 1)) (endings ws 0 s (d - w) (k + 1)) (le-leb d w most) in
         let z : d - w ≡ 0 = omega (arith, most) in
-        let c = ap (λ (n : ℕ). sum_by (fits n (k + 1) s) (lost_of ws)) z in
+        let c = ap (λ (n : ℕ). sum_by (fits n (k + 1) s) (shortened_of ws)) z in
         let e = ap (λ (n : ℕ). sum_by (fits n (k + 1) s) (sets_of ws)) z in
         omega (arith, yes, c, e, all-but-one s ws (k + 1), no-heads s (length ws) k)
     by_cases (inl more) before =
@@ -226,13 +226,13 @@ endings-law s (w ∷ ws) d k some =
 pub record AreCounted (ws : List ℕ) (heads s q n : ℕ) : Type 0 where
   pub fewer : s < heads → n ≡ 0
   pub just : s ≡ heads → n ≡ sum_by (fits q 0 s) (sets_of ws)
-  pub more : heads < s → n + sum_by (fits q 0 s) (lost_of ws) ≡ sum_by (fits q 0 s) (sets_of ws)
+  pub more : heads < s → n + sum_by (fits q 0 s) (shortened_of ws) ≡ sum_by (fits q 0 s) (sets_of ws)
 
 pub endings-counted : (ws : List ℕ) (heads s q : ℕ) → 0 < q → AreCounted ws heads s q (endings ws heads s q 0)
 endings-counted ws heads s q some = record {
   fewer = endings-few ws heads s q 0;
   just = λ same. ap (λ (h : ℕ). endings ws h s q 0) (sym same) ∙ endings-heads ws s q 0 some;
-  more = λ above. ap (λ (n : ℕ). n + sum_by (fits q 0 s) (lost_of ws)) (endings-more ws heads s q 0 above)
+  more = λ above. ap (λ (n : ℕ). n + sum_by (fits q 0 s) (shortened_of ws)) (endings-more ws heads s q 0 above)
       ∙ endings-law s ws q 0 some;
 }
 

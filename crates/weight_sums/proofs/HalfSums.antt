@@ -7,10 +7,10 @@ use Rattle.std.proofs.lemmas.List.{take-append-drop}
 use Rattle.weight_sums.specs.declared.sets.Set.{Set}
 use Rattle.weight_sums.specs.declared.by_size.BySize.{BySize}
 use Rattle.weight_sums.specs.Endings.{no_sizes, one_of_size, endings, left_out, AreEndingsWith}
-use Rattle.weight_sums.specs.Inner.Sets.{nobody, alone, chosen, sets_of, lost_of, has, fits, met}
+use Rattle.weight_sums.specs.Inner.Sets.{nobody, alone, chosen, sets_of, shortened_of, has, fits, met}
 use Rattle.weight_sums.specs.Inner.Halves.{AreLeft}
 use Rattle.weight_sums.proofs.EndingLaws.{past-end, endings-counted}
-use Rattle.weight_sums.proofs.SetLaws.{AreFirst, sets-first, lost-first, sum-same, sum-one, left_out-sets, chosen-pairs, no-choice, met-swap}
+use Rattle.weight_sums.proofs.SetLaws.{AreFirst, sets-first, shortened-first, sum-same, sum-one, left_out-sets, chosen-pairs, no-choice, met-swap}
 
 left_out-front : (p : ℕ) (xs ys : List ℕ) → p < length xs → left_out p (xs ++ ys) ≡ left_out p xs ++ ys
 unfolding left_out
@@ -25,9 +25,9 @@ left_out-back zero p (x ∷ xs) ys is = absurd (omega arith)
 left_out-back (suc q) p (x ∷ xs) ys is = ap (λ (l : List ℕ). x ∷ l) (left_out-back q p xs ys (omega arith))
 
 -- how many sets of these members meet a quota, and how many do so without their last member, of one half or the other
-pub record AreMet (ws : List ℕ) (q s won lost own : ℕ) : Type 0 where
+pub record AreMet (ws : List ℕ) (q s won shortened own : ℕ) : Type 0 where
   pub won_is : won ≡ sum_by (fits q 0 s) (sets_of ws)
-  pub lost_is : lost + own ≡ sum_by (fits q 0 s) (lost_of ws)
+  pub shortened_is : shortened + own ≡ sum_by (fits q 0 s) (shortened_of ws)
 
 -- pairs, without a member of the first list or of the second
 pairs-front : (q s p : ℕ) (none first : List Set) (ws vs : List ℕ) → sum_by (fits q 0 s) (chosen none first (left_out p ws ++ vs))
@@ -61,58 +61,58 @@ met-nobody q s x = sum-one (fits (q - x.weight) x.size s) nobody ∙ (λ i. cond
       | inr most ↦ le-leb (q - x.weight) 0 (omega arith) ∙ sym (le-leb q x.weight most)
     ]
 
-own-is : (q s p : ℕ) (ws : List ℕ) → sum_by (λ x. cond (has p x.members) 0 (met q (nobody ∷ []) s x)) (lost_of ws)
-    ≡ sum_by (fits q 0 s) (lost_of (left_out p ws))
+own-is : (q s p : ℕ) (ws : List ℕ) → sum_by (λ x. cond (has p x.members) 0 (met q (nobody ∷ []) s x)) (shortened_of ws)
+    ≡ sum_by (fits q 0 s) (shortened_of (left_out p ws))
 own-is q s p ws =
-    sum-same (λ x. cond (has p x.members) 0 (met q (nobody ∷ []) s x)) (λ x. cond (has p x.members) 0 (fits q 0 s x)) (lost_of ws)
+    sum-same (λ x. cond (has p x.members) 0 (met q (nobody ∷ []) s x)) (λ x. cond (has p x.members) 0 (fits q 0 s x)) (shortened_of ws)
     (λ x. ap (λ (n : ℕ). cond (has p x.members) 0 n) (met-nobody q s x))
-    ∙ sym (left_out-sets p ws (λ m k. cond (leb q m) (one_of_size s (0 + k)) 0) [] (alone ∷ []) lost-first)
+    ∙ sym (left_out-sets p ws (λ m k. cond (leb q m) (one_of_size s (0 + k)) 0) [] (alone ∷ []) shortened-first)
 
-pub met-front : (q s p won lost own : ℕ) (ws vs : List ℕ)
+pub met-front : (q s p won shortened own : ℕ) (ws vs : List ℕ)
     → won ≡ sum_by (λ x. cond (has p x.members) 0 (met q (sets_of vs) s x)) (sets_of ws)
-    → lost ≡ sum_by (λ x. cond (has p x.members) 0 (met q (lost_of vs) s x)) (sets_of ws)
-    → own ≡ sum_by (λ x. cond (has p x.members) 0 (met q (nobody ∷ []) s x)) (lost_of ws)
-    → AreMet (left_out p ws ++ vs) q s won lost own
-met-front q s p won lost own ws vs w l o = record {
+    → shortened ≡ sum_by (λ x. cond (has p x.members) 0 (met q (shortened_of vs) s x)) (sets_of ws)
+    → own ≡ sum_by (λ x. cond (has p x.members) 0 (met q (nobody ∷ []) s x)) (shortened_of ws)
+    → AreMet (left_out p ws ++ vs) q s won shortened own
+met-front q s p won shortened own ws vs w l o = record {
   won_is = (
       let parts = pairs-front q s p (nobody ∷ []) [] ws vs in
       let none = no-choice (fits q 0 s) (left_out p ws) in
       omega (arith, w, parts, none));
-  lost_is = (
+  shortened_is = (
       let parts = pairs-front q s p [] (alone ∷ []) ws vs in
       let first = own-is q s p ws in
       omega (arith, l, o, parts, first));
 }
 
-pub met-back : (q s p place won lost own : ℕ) (ws vs : List ℕ)
+pub met-back : (q s p place won shortened own : ℕ) (ws vs : List ℕ)
     → won ≡ sum_by (λ x. cond (has p x.members) 0 (met q (sets_of ws) s x)) (sets_of vs)
-    → lost ≡ sum_by (λ x. cond (has p x.members) 0 (met q (sets_of ws) s x)) (lost_of vs)
-    → own ≡ sum_by (λ x. cond (has place x.members) 0 (met q (nobody ∷ []) s x)) (lost_of ws) → length ws ≤ place
-    → AreMet (ws ++ left_out p vs) q s won lost own
-met-back q s p place won lost own ws vs w l o past = record {
+    → shortened ≡ sum_by (λ x. cond (has p x.members) 0 (met q (sets_of ws) s x)) (shortened_of vs)
+    → own ≡ sum_by (λ x. cond (has place x.members) 0 (met q (nobody ∷ []) s x)) (shortened_of ws) → length ws ≤ place
+    → AreMet (ws ++ left_out p vs) q s won shortened own
+met-back q s p place won shortened own ws vs w l o past = record {
   won_is = (
       let parts = pairs-back q s p (nobody ∷ []) [] ws vs sets-first in
       let none = no-choice (fits q 0 s) ws in
       omega (arith, w, parts, none));
-  lost_is = (
-      let parts = pairs-back q s p [] (alone ∷ []) ws vs lost-first in
-      let first = own-is q s place ws ∙ ap (λ (us : List ℕ). sum_by (fits q 0 s) (lost_of us)) (past-end place ws past) in
+  shortened_is = (
+      let parts = pairs-back q s p [] (alone ∷ []) ws vs shortened-first in
+      let first = own-is q s place ws ∙ ap (λ (us : List ℕ). sum_by (fits q 0 s) (shortened_of us)) (past-end place ws past) in
       omega (arith, l, o, parts, first));
 }
 
 -- of members in two halves, in whichever the place is
-pub halves-met : (ws : List ℕ) (place front q s won lost own : ℕ) → front ≡ length ws / 2
+pub halves-met : (ws : List ℕ) (place front q s won shortened own : ℕ) → front ≡ length ws / 2
     → (place < front → won ≡ sum_by (λ x. cond (has place x.members) 0 (met q (sets_of (drop (length ws / 2) ws)) s x))
     (sets_of (take (length ws / 2) ws)))
     → (front ≤ place → won ≡ sum_by (λ x. cond (has (place - front) x.members) 0 (met q (sets_of (take (length ws / 2) ws)) s x))
     (sets_of (drop (length ws / 2) ws)))
-    → (place < front → lost ≡ sum_by (λ x. cond (has place x.members) 0 (met q (lost_of (drop (length ws / 2) ws)) s x))
+    → (place < front → shortened ≡ sum_by (λ x. cond (has place x.members) 0 (met q (shortened_of (drop (length ws / 2) ws)) s x))
     (sets_of (take (length ws / 2) ws)))
-    → (front ≤ place → lost ≡ sum_by (λ x. cond (has (place - front) x.members) 0 (met q (sets_of (take (length ws / 2) ws)) s x))
-    (lost_of (drop (length ws / 2) ws)))
-    → own ≡ sum_by (λ x. cond (has place x.members) 0 (met q (nobody ∷ []) s x)) (lost_of (take (length ws / 2) ws))
-    → AreMet (left_out place ws) q s won lost own
-halves-met ws place front q s won lost own is won-front won-back lost-front lost-back o = by_place (cases_lt place front)
+    → (front ≤ place → shortened ≡ sum_by (λ x. cond (has (place - front) x.members) 0 (met q (sets_of (take (length ws / 2) ws)) s x))
+    (shortened_of (drop (length ws / 2) ws)))
+    → own ≡ sum_by (λ x. cond (has place x.members) 0 (met q (nobody ∷ []) s x)) (shortened_of (take (length ws / 2) ws))
+    → AreMet (left_out place ws) q s won shortened own
+halves-met ws place front q s won shortened own is won-front won-back shortened-front shortened-back o = by_place (cases_lt place front)
   where
     fr : List ℕ
     fr = take (length ws / 2) ws
@@ -126,28 +126,28 @@ halves-met ws place front q s won lost own is won-front won-back lost-front lost
     long : length fr ≡ front
     long = let l = length-take (length ws / 2) ws in omega (arith, l, is)
 
-    by_place : (place < front) ⊎ (front ≤ place) → AreMet (left_out place ws) q s won lost own
+    by_place : (place < front) ⊎ (front ≤ place) → AreMet (left_out place ws) q s won shortened own
     by_place (inl less) =
-        subst (λ (us : List ℕ). AreMet us q s won lost own)
+        subst (λ (us : List ℕ). AreMet us q s won shortened own)
         (sym (left_out-front place fr bk (omega (arith, long, less))) ∙ ap (left_out place) whole)
-        (met-front q s place won lost own fr bk (won-front less) (lost-front less) o)
+        (met-front q s place won shortened own fr bk (won-front less) (shortened-front less) o)
     by_place (inr past) =
-        subst (λ (us : List ℕ). AreMet us q s won lost own)
+        subst (λ (us : List ℕ). AreMet us q s won shortened own)
         (sym (left_out-back place (place - front) fr bk (omega (arith, long, past))) ∙ ap (left_out place) whole)
-        (met-back q s (place - front) place won lost own fr bk (won-back past) (lost-back past) o (omega (arith, long, past)))
+        (met-back q s (place - front) place won shortened own fr bk (won-back past) (shortened-back past) o (omega (arith, long, past)))
 
 -- what is left of the sets that meet the quota is what the members lead to
-pub enough-won : (ws : List ℕ) (heads q s won lost own : ℕ) → AreMet ws q s won lost own → 0 < q → heads < s → lost + own ≤ won
-enough-won ws heads q s won lost own are some above =
+pub enough-won : (ws : List ℕ) (heads q s won shortened own : ℕ) → AreMet ws q s won shortened own → 0 < q → heads < s → shortened + own ≤ won
+enough-won ws heads q s won shortened own are some above =
     let w = are.won_is in
-    let l = are.lost_is in
+    let l = are.shortened_is in
     let law = (endings-counted ws heads s q some).more above in
     omega (arith, w, l, law)
 
-pub left-is : (ws : List ℕ) (heads q s : ℕ) (won lost own sizes : List ℕ)
-    → AreMet ws q s (get_or won s 0) (get_or lost s 0) (get_or own s 0) → AreLeft heads won lost own sizes → 0 < q → s ≤ 40
+pub left-is : (ws : List ℕ) (heads q s : ℕ) (won shortened own sizes : List ℕ)
+    → AreMet ws q s (get_or won s 0) (get_or shortened s 0) (get_or own s 0) → AreLeft heads won shortened own sizes → 0 < q → s ≤ 40
     → get_or sizes s 0 ≡ endings ws heads s q 0
-left-is ws heads q s won lost own sizes are left some small = by_order (cases_lt s heads) (cases_lt heads s)
+left-is ws heads q s won shortened own sizes are left some small = by_order (cases_lt s heads) (cases_lt heads s)
   where
     by_order : (s < heads) ⊎ (heads ≤ s) → (heads < s) ⊎ (s ≤ heads) → get_or sizes s 0 ≡ endings ws heads s q 0
     by_order (inl few) any = left.fewer s few ∙ sym ((endings-counted ws heads s q some).fewer few)
@@ -155,7 +155,7 @@ left-is ws heads q s won lost own sizes are left some small = by_order (cases_lt
         let l = left.more s more small in
         let law = (endings-counted ws heads s q some).more more in
         let a = are.won_is in
-        let b = are.lost_is in
+        let b = are.shortened_is in
         omega (arith, l, law, a, b)
     by_order (inr most) (inr least) =
         let e : s ≡ heads = omega (arith, most, least) in

@@ -157,8 +157,8 @@ sets-first = record {
   first_is = λ f g same. refl;
 }
 
-pub lost-first : AreFirst [] (alone ∷ [])
-lost-first = record {
+pub shortened-first : AreFirst [] (alone ∷ [])
+shortened-first = record {
   none_is = λ f g same. refl;
   first_is = λ f g same. sum-one f alone ∙ same ∙ sym (sum-one g alone);
 }

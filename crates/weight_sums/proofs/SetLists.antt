@@ -256,8 +256,8 @@ sets-start = record {
   one = omega arith;
 }
 
-pub lost-start : AreStart [] (alone ∷ [])
-lost-start = record {
+pub shortened-start : AreStart [] (alone ∷ [])
+shortened-start = record {
   none_is = All-nil (λ x. x ≡ nobody);
   first_is = All-cons (λ x. x ≡ alone) alone [] refl (All-nil (λ x. x ≡ alone));
   one = omega arith;

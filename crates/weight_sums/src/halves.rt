@@ -10,7 +10,7 @@ ghost use Rattle.std.specs.Prelude.{◌≡◌, ℕ, ◌+◌, ◌-◌, ◌<◌, �
 
 use crate::by_size::BySize;
 use crate::groups::Groups;
-use crate::sets::{NOBODY, Set, fill_lost, fill_sets};
+use crate::sets::{NOBODY, Set, fill_sets, fill_shortened};
 use crate::tallies::{Tallies, difference};
 use coalitions::{Memory, limits};
 use std::alloc::Global;
@@ -65,19 +65,19 @@ impl Pairs {
 /// of just so many heads all, of more the others, of fewer none.
 fn left_of(
     won: &[u64; limits::SIZES],
-    lost: &[u64; limits::SIZES],
+    shortened: &[u64; limits::SIZES],
     own: &[u64; limits::SIZES],
     heads: usize,
 ) -> [u64; limits::SIZES]
     requires heads { heads ≤ MEMBERS }
     requires fewer { (s : ℕ) → heads < s → s ≤ MEMBERS
-        → slice_index lost.now s + slice_index own.now s ≤ slice_index won.now s }
-    ensures { AreLeft heads won.now lost.now own.now result }
+        → slice_index shortened.now s + slice_index own.now s ≤ slice_index won.now s }
+    ensures { AreLeft heads won.now shortened.now own.now result }
 {
     let mut sizes = [0; limits::SIZES];
     sizes[heads] = won[heads];
     for size in heads + 1..limits::SIZES {
-        sizes[size] = won[size] - lost[size] - own[size];
+        sizes[size] = won[size] - shortened[size] - own[size];
     }
     sizes
 }
@@ -89,7 +89,7 @@ struct Halves {
     /// Those that meet the quota.
     won: Pairs,
     /// Those that do so without their last member, of the second half.
-    lost: Pairs,
+    shortened: Pairs,
     /// Those of the first half that do so without their last member.
     own: Groups,
 }
@@ -112,14 +112,14 @@ impl Halves {
         fill_sets(front, &mut first, &mut spare)?;
         fill_sets(back, &mut second, &mut spare)?;
         let won = Pairs::new(alloc, &first, &second, quota, digits)?;
-        fill_lost(back, &mut second, &mut spare)?;
-        let lost = Pairs::new(alloc, &first, &second, quota, digits)?;
-        fill_lost(front, &mut first, &mut spare)?;
+        fill_shortened(back, &mut second, &mut spare)?;
+        let shortened = Pairs::new(alloc, &first, &second, quota, digits)?;
+        fill_shortened(front, &mut first, &mut spare)?;
         let own = Groups::new(alloc, &first, &[NOBODY], quota, digits)?;
         Ok(Halves {
             quota,
             won,
-            lost,
+            shortened,
             own,
         })
     }
@@ -136,9 +136,9 @@ impl Halves {
     {
         let front = weights.len() / 2;
         let won = self.won.without(front, place);
-        let lost = self.lost.without(front, place);
+        let shortened = self.shortened.without(front, place);
         let own = self.own.without(place);
-        left_of(&won, &lost, &own, heads)
+        left_of(&won, &shortened, &own, heads)
     }
 }
 

@@ -71,8 +71,8 @@ impl Rows {
         requires left { left < MEMBERS }
         requires sizes { All (λ o. o.size < MEMBERS) self.old.row.items }
         requires room { (s : ℕ) → s ≤ MEMBERS → at_most s (left + 1) done.old self.old.row.items < 2 ^ 64 }
-        ensures counted { IfOk result (λ _. (ws : List ℕ) (s : ℕ) → sum ws ≤ rest → length ws ≡ left → s ≤ MEMBERS
-            → come_to heads.now.asked s ws done.new self.new.row.items
+        ensures counted { IfOk result (λ _. (ws : List ℕ) (s : ℕ) → sum ws ≤ rest
+            → length ws ≡ left → s ≤ MEMBERS → come_to heads.now.asked s ws done.new self.new.row.items
             ≡ come_to heads.now.asked s (weight ∷ ws) done.old self.old.row.items) }
         ensures few { IfOk result (λ _. (s : ℕ) → s ≤ MEMBERS
             → at_most s left done.new self.new.row.items ≤ at_most s (left + 1) done.old self.old.row.items) }

@@ -2,7 +2,7 @@
 ghost use Rattle.std.specs.Prelude.{◌≡◌, ℕ, ◌+◌, ◌*◌, ◌-◌, ◌<◌, ◌≤◌, ◌^◌, IfOk, length, sum, sum_by};
 ghost use Rattle.std.specs.List.{All};
 ghost use Rattle.coalitions.specs.declared.limits.TheConstants.{TOTAL};
-ghost use Rattle.weight_sums.specs.Inner.Sets.{AreSets, Ascend, alone, chosen, joined, left, lost_of, nobody, sets_of};
+ghost use Rattle.weight_sums.specs.Inner.Sets.{AreSets, Ascend, alone, chosen, joined, left, shortened_of, nobody, sets_of};
 
 use coalitions::Memory;
 use std::mem;
@@ -134,14 +134,14 @@ pub(crate) fn fill_sets(
 }
 
 /// Makes a list all sets of members with these weights but the empty one, each by what it weighs without its last member.
-pub(crate) fn fill_lost(
+pub(crate) fn fill_shortened(
     weights: &[u64],
     sets: &mut Vec<Set>,
     spare: &mut Vec<Set>,
 ) -> Result<(), Memory>
     requires few { length weights.now ≤ 20 }
     requires light { sum weights.now ≤ TOTAL }
-    ensures { IfOk result (λ _. AreSets (lost_of weights.now) sets.new.items) }
+    ensures { IfOk result (λ _. AreSets (shortened_of weights.now) sets.new.items) }
 {
     fill(weights, &[], &[ALONE], sets, spare)
 }

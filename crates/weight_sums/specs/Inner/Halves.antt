@@ -4,7 +4,7 @@ use Rattle.coalitions.specs.declared.limits.TheConstants.{MEMBERS}
 use Rattle.weight_sums.specs.declared.sets.Set.{Set}
 use Rattle.weight_sums.specs.declared.halves.Pairs.{Pairs}
 use Rattle.weight_sums.specs.declared.halves.Halves.{Halves}
-use Rattle.weight_sums.specs.Inner.Sets.{nobody, sets_of, lost_of}
+use Rattle.weight_sums.specs.Inner.Sets.{nobody, sets_of, shortened_of}
 use Rattle.weight_sums.specs.Inner.Groups.{AreGroups}
 
 -- how many pairs of sets meet a quota, by the members of the one and by those of the other
@@ -15,11 +15,11 @@ pub record ArePairs (quota : ℕ) (xs ys : List Set) (p : Pairs) : Type 0 where
 -- which sets of the members meet the quota, and which do so without their last member: one of the second half, or of the first
 pub record AreHalves (ws : List ℕ) (h : Halves) : Type 0 where
   pub won : ArePairs h.quota (sets_of (take (length ws / 2) ws)) (sets_of (drop (length ws / 2) ws)) h.won
-  pub lost : ArePairs h.quota (sets_of (take (length ws / 2) ws)) (lost_of (drop (length ws / 2) ws)) h.lost
-  pub own : AreGroups h.quota (lost_of (take (length ws / 2) ws)) (nobody ∷ []) h.own
+  pub shortened : ArePairs h.quota (sets_of (take (length ws / 2) ws)) (shortened_of (drop (length ws / 2) ws)) h.shortened
+  pub own : AreGroups h.quota (shortened_of (take (length ws / 2) ws)) (nobody ∷ []) h.own
 
 -- numbers by size of coalitions that meet a quota, but those that do so without their last member: of just so many heads, or more
-pub record AreLeft (heads : ℕ) (won lost own sizes : List ℕ) : Type 0 where
+pub record AreLeft (heads : ℕ) (won shortened own sizes : List ℕ) : Type 0 where
   pub fewer : (s : ℕ) → s < heads → slice_index sizes s ≡ 0
   pub just : slice_index sizes heads ≡ slice_index won heads
-  pub more : (s : ℕ) → heads < s → s ≤ MEMBERS → slice_index sizes s + (slice_index lost s + slice_index own s) ≡ slice_index won s
+  pub more : (s : ℕ) → heads < s → s ≤ MEMBERS → slice_index sizes s + (slice_index shortened s + slice_index own s) ≡ slice_index won s

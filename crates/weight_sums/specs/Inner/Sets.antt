@@ -30,8 +30,8 @@ abbrev pub sets_of : List ℕ → List Set
 sets_of = chosen (nobody ∷ []) []
 
 -- all of them but the empty one, each by what it weighs without its last member
-abbrev pub lost_of : List ℕ → List Set
-lost_of = chosen [] (alone ∷ [])
+abbrev pub shortened_of : List ℕ → List Set
+shortened_of = chosen [] (alone ∷ [])
 
 -- sets by weight
 abbrev pub Ascend : List Set → Type 0

@@ -17,11 +17,11 @@ loop-size-init c =
 pub loop-size-preserved : goal.loop-size-preserved
 loop-size-preserved c =
     let won : List ℕ = c.args.won.now in
-    let lost : List ℕ = c.args.lost.now in
+    let shortened : List ℕ = c.args.shortened.now in
     let own : List ℕ = c.args.own.now in
     let sizes : List ℕ = c.loop-size.sizes in
     let size : ℕ = c.loop-size.size in
-    let v : ℕ = get_or won size 0 - get_or lost size 0 - get_or own size 0 in
+    let v : ℕ = get_or won size 0 - get_or shortened size 0 - get_or own size 0 in
     let above = c.loop-size.auto.size in
     record {
       long = length-set sizes size v ∙ c.loop-size.invariant.long;
@@ -33,7 +33,7 @@ loop-size-preserved c =
             let long = c.loop-size.invariant.long in
             let is = get_or-set_same sizes size v 0 (omega (arith, long, c.loop-size-test.true)) in
             let fits = c.requires.fewer size (omega (arith, above)) (omega (arith, c.loop-size-test.true)) in
-            let a = ap (λ (i : ℕ). get_or lost i 0) same in
+            let a = ap (λ (i : ℕ). get_or shortened i 0) same in
             let b = ap (λ (i : ℕ). get_or own i 0) same in
             let w = ap (λ (i : ℕ). get_or won i 0) same in
             omega (arith, e, is, fits, a, b, w)

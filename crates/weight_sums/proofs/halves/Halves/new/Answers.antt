@@ -1,7 +1,7 @@
 use Rattle.std.proofs.Common.{◌≡◌, ◌/◌, ℕ, List, [], ◌∷◌, length, take, drop, sym, subst, arith}
 use Rattle.weight_sums.specs.declared.sets.Set.{Set}
-use Rattle.weight_sums.specs.Inner.Sets.{AreSets, nobody, alone, sets_of, lost_of}
-use Rattle.weight_sums.proofs.SetLists.{half-is, members-most, sets-start, lost-start, one-alone}
+use Rattle.weight_sums.specs.Inner.Sets.{AreSets, nobody, alone, sets_of, shortened_of}
+use Rattle.weight_sums.proofs.SetLists.{half-is, members-most, sets-start, shortened-start, one-alone}
 use Rattle.weight_sums.proofs.halves.Halves.new.Goals as goal
 
 -- a list and what it is a copy of
@@ -25,12 +25,12 @@ new-requires-2-clause-first c =
 
 pub new-requires-2-clause-second : goal.new-requires-2-clause-second
 new-requires-2-clause-second c =
-    half-is [] (alone ∷ []) _ lost-start _ (copied _ _ _ c.deref-4.ensures.value c.in_ok-fill_lost.ensures)
+    half-is [] (alone ∷ []) _ shortened-start _ (copied _ _ _ c.deref-4.ensures.value c.in_ok-fill_shortened.ensures)
     (let l = c.split_at.ensures.back_len in omega (arith, l, c.requires.few))
 
 pub new-requires-3-clause-list : goal.new-requires-3-clause-list
 new-requires-3-clause-list c =
-    half-is [] (alone ∷ []) _ lost-start _ (copied _ _ _ c.deref-5.ensures.value c.in_ok-fill_lost-2.ensures)
+    half-is [] (alone ∷ []) _ shortened-start _ (copied _ _ _ c.deref-5.ensures.value c.in_ok-fill_shortened-2.ensures)
     (let l = c.split_at.ensures.front_len in omega (arith, l, c.requires.few))
 
 -- the sets of a half have at most as many members as there are two digits for
@@ -50,11 +50,11 @@ new-requires-2-clause-first_within c =
 
 pub new-requires-2-clause-second_within : goal.new-requires-2-clause-second_within
 new-requires-2-clause-second_within c =
-    members-most [] (alone ∷ []) _ lost-start _ (copied _ _ _ c.deref-4.ensures.value c.in_ok-fill_lost.ensures) _ (omega arith)
+    members-most [] (alone ∷ []) _ shortened-start _ (copied _ _ _ c.deref-4.ensures.value c.in_ok-fill_shortened.ensures) _ (omega arith)
 
 pub new-requires-3-clause-within : goal.new-requires-3-clause-within
 new-requires-3-clause-within c =
-    members-most [] (alone ∷ []) _ lost-start _ (copied _ _ _ c.deref-5.ensures.value c.in_ok-fill_lost-2.ensures) _
+    members-most [] (alone ∷ []) _ shortened-start _ (copied _ _ _ c.deref-5.ensures.value c.in_ok-fill_shortened-2.ensures) _
     (let l = c.split_at.ensures.front_len in let m = c.split_at.ensures.back_len in omega (arith, l, m))
 
 pub returns-clause-are : goal.returns-clause-are
@@ -69,15 +69,15 @@ returns-clause-are c =
           (copied _ _ _ c.deref.ensures.value c.in_ok-fill_sets.ensures))
           (subst (λ (l : List ℕ). AreSets (sets_of l) c.deref-2.result.now) back
           (copied _ _ _ c.deref-2.ensures.value c.in_ok-fill_sets-2.ensures));
-      lost =
-          c.in_ok-lost.ensures (sets_of (take (length ws / 2) ws)) (lost_of (drop (length ws / 2) ws))
+      shortened =
+          c.in_ok-shortened.ensures (sets_of (take (length ws / 2) ws)) (shortened_of (drop (length ws / 2) ws))
           (subst (λ (l : List ℕ). AreSets (sets_of l) c.deref-3.result.now) front
           (copied _ _ _ c.deref-3.ensures.value c.in_ok-fill_sets.ensures))
-          (subst (λ (l : List ℕ). AreSets (lost_of l) c.deref-4.result.now) back
-          (copied _ _ _ c.deref-4.ensures.value c.in_ok-fill_lost.ensures));
+          (subst (λ (l : List ℕ). AreSets (shortened_of l) c.deref-4.result.now) back
+          (copied _ _ _ c.deref-4.ensures.value c.in_ok-fill_shortened.ensures));
       own =
-          c.in_ok-own.ensures (lost_of (take (length ws / 2) ws)) (nobody ∷ [])
-          (subst (λ (l : List ℕ). AreSets (lost_of l) c.deref-5.result.now) front
-          (copied _ _ _ c.deref-5.ensures.value c.in_ok-fill_lost-2.ensures))
+          c.in_ok-own.ensures (shortened_of (take (length ws / 2) ws)) (nobody ∷ [])
+          (subst (λ (l : List ℕ). AreSets (shortened_of l) c.deref-5.result.now) front
+          (copied _ _ _ c.deref-5.ensures.value c.in_ok-fill_shortened-2.ensures))
           one-alone;
     }
