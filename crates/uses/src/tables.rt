@@ -24,7 +24,8 @@ pub fn most_powerful(indices: &[Index]) -> Option<usize>
     ensures member { IfSome result (λ i. i < length indices.now) }
     ensures above { IfSome result (λ i. (j : ℕ) → j < length indices.now → j ≢ i →
         fraction_cmp (slice_index_or indices.now j (0, 1)) (slice_index_or indices.now i (0, 1)) ≡ Less) }
-    ensures shared { IfNone result ((i : ℕ) → i < length indices.now → ((j : ℕ) → j < length indices.now → j ≢ i →
+    ensures shared { IfNone result ((i : ℕ) → i < length indices.now →
+        ((j : ℕ) → j < length indices.now → j ≢ i →
         fraction_cmp (slice_index_or indices.now j (0, 1)) (slice_index_or indices.now i (0, 1)) ≡ Less) → ⊥) }
 {
     for i in 0..indices.len() {

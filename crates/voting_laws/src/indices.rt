@@ -8,10 +8,10 @@ ghost use Rattle.std.specs.Prelude.{ℕ, ◌<◌, List, length, map};
 /// The indices of a game's members in lowest terms, as the calls give them, add up to 1, of each kind: over
 /// each list of coalitions that are not empty, if there is one in it.
 pub fn lowest_terms_add_up()
-    ensures deegan_packel { (g : GameView) (list : List ℕ) → IsGame g → 0 < length list → AreNonemptyCoalitions g list
-        → AddUpToOne (map (λ i. lowest_terms (deegan_packel g list i)) (members g)) }
-    ensures public_good { (g : GameView) (list : List ℕ) → IsGame g → 0 < length list → AreNonemptyCoalitions g list
-        → AddUpToOne (map (λ i. lowest_terms (public_good g list i)) (members g)) }
+    ensures deegan_packel { (g : GameView) (list : List ℕ) → IsGame g → 0 < length list
+        → AreNonemptyCoalitions g list → AddUpToOne (map (λ i. lowest_terms (deegan_packel g list i)) (members g)) }
+    ensures public_good { (g : GameView) (list : List ℕ) → IsGame g → 0 < length list
+        → AreNonemptyCoalitions g list → AddUpToOne (map (λ i. lowest_terms (public_good g list i)) (members g)) }
 {}
 
 /// The bottom of each index, before it is in lowest terms, is above 0.

@@ -10,5 +10,6 @@ pub fn nobody_is_in_the_empty_coalition()
 
 /// Two coalitions of a game of n members that have the same members are the same.
 pub fn same_members_are_one_coalition()
-    ensures { (n a c : ℕ) → a < 2 ^ n → c < 2 ^ n → ((p : ℕ) → p < n → has n p a ≡ has n p c) → a ≡ c }
+    ensures { (n a c : ℕ) → a < 2 ^ n → c < 2 ^ n → ((p : ℕ) → p < n → has n p a ≡ has n p c)
+        → a ≡ c }
 {}
