@@ -10,7 +10,6 @@ use Rattle.mwc_sums.proofs.Filters.{filter-map, filter-same}
 use Rattle.council_game.specs.Votes.{has, size, weight, down}
 use Rattle.council_game.proofs.Shared.WeightByDigits.{weight-nil}
 use Rattle.power_index.proofs.Shared.Members.{size-pos-at}
-use Rattle.weight_sums.proofs.Shared.EndingLaws.{length-left_out}
 use Rattle.weight_sums.specs.Endings.{choose, one_of_size, fill, endings, left_out}
 use Rattle.std.proofs.lemmas.Bool.Decides.{nat_tests}
 use Rattle.mwc_sums.proofs.Completing.{IsLeast, Falls, double-pow, down-two, falls-rest, first-in, first-out, rest-in, rest-out}
@@ -75,12 +74,6 @@ lacks-first_out n c lt = λ i. not (lt-ltb 0 (suc n) (omega arith) i && first-ou
 lacks-none : (n c : ℕ) → lacks n n c ≡ true
 lacks-none n c = λ i. not (le-ltb n n (omega arith) i && has n n c)
 
-besides-some : (n p : ℕ) → p < n → suc (besides n p) ≡ n
-unfolding besides
-besides-some zero p lt = absurd (omega (arith, lt))
-besides-some (suc n) zero lt = refl
-besides-some (suc n) (suc p) lt = ap suc (besides-some n p (omega (arith, lt)))
-
 besides-past : (n p : ℕ) → n ≤ p → besides n p ≡ n
 unfolding besides
 besides-past zero p le = refl
@@ -94,10 +87,10 @@ left_out-past zero (w ∷ ws) le = absurd (omega (arith, le))
 left_out-past (suc p) (w ∷ ws) le = ap (λ (l : List ℕ). w ∷ l) (left_out-past p ws (omega (arith, le)))
 
 length-left : (p : ℕ) (ws : List ℕ) → length (left_out p ws) ≡ besides (length ws) p
-length-left p ws = elim (cases_lt p (length ws)) [
-  | inl low ↦ omega (arith, length-left_out p ws low, besides-some (length ws) p low)
-  | inr high ↦ ap (λ (l : List ℕ). length l) (left_out-past p ws high) ∙ sym (besides-past (length ws) p high)
-]
+unfolding left_out besides
+length-left p [] = refl
+length-left zero (w ∷ ws) = refl
+length-left (suc p) (w ∷ ws) = ap suc (length-left p ws)
 
 -- ---- how many of them have a size
 choose-none : (n : ℕ) → choose n 0 ≡ 1
