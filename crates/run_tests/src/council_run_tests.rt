@@ -10,6 +10,7 @@ ghost use Rattle.coalitions.specs.declared.limits.TheConstants.{BITS, COALITIONS
 
 use crate::helpers::same;
 use council_game::GameFault;
+use council_report::Shown;
 use council_run::{Cause, NoWatch, Options, RunFault, run, status, tally};
 use mwc_gather::{Gate, GatherFault, NoGate};
 use std::alloc::Global;
@@ -21,73 +22,104 @@ use std::thread::Threads;
 use std::{hint, io, thread};
 
 /// The game [51; 50, 49, 1] of members A, B, C.
-const BOARD: &[u8] =
-    b"quota = 51\n[[member]]\nname = \"A\"\nweight = 50\n[[member]]\nname = \"B\"\nweight = 49\n[[member]]\nname = \"C\"\nweight = 1\n";
+const BOARD: &[u8] = b"quota = 51\n\
+    [[member]]\n\
+    name = \"A\"\n\
+    weight = 50\n\
+    [[member]]\n\
+    name = \"B\"\n\
+    weight = 49\n\
+    [[member]]\n\
+    name = \"C\"\n\
+    weight = 1\n";
 
-const BOARD_REPORT: &[u8] =
-    b"members\t3\nquota\t51\ntotal\t100\nminimal\t2\nmember\tA\t50\t2\t1/2\t0.500000\t1/2\t0.500000\nmember\tB\t49\t1\t1/4\t0.250000\t1/4\t0.250000\nmember\tC\t1\t1\t1/4\t0.250000\t1/4\t0.250000\n";
+const BOARD_REPORT: &[u8] = b"members\t3\n\
+    quota\t51\n\
+    total\t100\n\
+    minimal\t2\n\
+    member\tA\t50\t2\t1/2\t0.500000\t1/2\t0.500000\n\
+    member\tB\t49\t1\t1/4\t0.250000\t1/4\t0.250000\n\
+    member\tC\t1\t1\t1/4\t0.250000\t1/4\t0.250000\n";
 
 const FIVE: &[u8] = b"[51; 35, 20, 15, 15, 15]";
 
-const FIVE_REPORT: &[u8] =
-    b"members\t5\nquota\t51\ntotal\t100\nminimal\t5\ncoalition\t2\t55\t1\t2\ncoalition\t3\t65\t1\t3\t4\ncoalition\t3\t65\t1\t3\t5\ncoalition\t3\t65\t1\t4\t5\ncoalition\t4\t65\t2\t3\t4\t5\nsize\t2\t1\t1\t1\t0\t0\t0\nsize\t3\t3\t3\t0\t2\t2\t2\nsize\t4\t1\t0\t1\t1\t1\t1\nmember\t1\t35\t4\t3/10\t0.300000\t4/15\t0.266666\nmember\t2\t20\t2\t3/20\t0.150000\t2/15\t0.133333\nmember\t3\t15\t3\t11/60\t0.183333\t1/5\t0.200000\nmember\t4\t15\t3\t11/60\t0.183333\t1/5\t0.200000\nmember\t5\t15\t3\t11/60\t0.183333\t1/5\t0.200000\n";
+const FIVE_REPORT: &[u8] = b"members\t5\n\
+    quota\t51\n\
+    total\t100\n\
+    minimal\t5\n\
+    coalition\t2\t55\t1\t2\n\
+    coalition\t3\t65\t1\t3\t4\n\
+    coalition\t3\t65\t1\t3\t5\n\
+    coalition\t3\t65\t1\t4\t5\n\
+    coalition\t4\t65\t2\t3\t4\t5\n\
+    size\t2\t1\t1\t1\t0\t0\t0\n\
+    size\t3\t3\t3\t0\t2\t2\t2\n\
+    size\t4\t1\t0\t1\t1\t1\t1\n\
+    member\t1\t35\t4\t3/10\t0.300000\t4/15\t0.266666\n\
+    member\t2\t20\t2\t3/20\t0.150000\t2/15\t0.133333\n\
+    member\t3\t15\t3\t11/60\t0.183333\t1/5\t0.200000\n\
+    member\t4\t15\t3\t11/60\t0.183333\t1/5\t0.200000\n\
+    member\t5\t15\t3\t11/60\t0.183333\t1/5\t0.200000\n";
+
+/// No line beside those that each report has.
+const NO_LINES: Shown = Shown {
+    list: false,
+    sizes: false,
+    notation: false,
+};
+
+/// A line for each coalition and for each size.
+const LISTED: Shown = Shown {
+    list: true,
+    sizes: true,
+    notation: false,
+};
+
+/// Options of these numbers, under which a report shows these lines.
+fn options(workers: u8, bits: u8, most: u32, shown: Shown) -> Options
+    requires workers { (1 ≤ workers) × (workers ≤ WORKERS) }
+    requires bits { bits ≤ BITS }
+    requires most { (1 ≤ most) × (most ≤ COALITIONS) }
+{
+    Options {
+        workers,
+        bits,
+        most,
+        list: shown.list,
+        sizes: shown.sizes,
+        notation: shown.notation,
+    }
+}
 
 /// The options that the program uses where none is given.
 fn plain() -> Options {
-    Options {
-        workers: 4,
-        bits: 6,
-        most: 1_000_000,
-        list: false,
-        sizes: false,
-        notation: false,
-    }
+    options(4, 6, 1_000_000, NO_LINES)
 }
 
 fn listing() -> Options {
-    Options {
-        workers: 3,
-        bits: 2,
-        most: 5,
-        list: true,
-        sizes: true,
-        notation: false,
-    }
+    options(3, 2, 5, LISTED)
 }
 
 fn with_notation() -> Options {
-    Options {
-        workers: 4,
-        bits: 6,
-        most: 1_000_000,
-        list: false,
-        sizes: false,
+    let shown = Shown {
         notation: true,
-    }
+        ..NO_LINES
+    };
+    options(4, 6, 1_000_000, shown)
 }
 
 fn with_list() -> Options {
-    Options {
-        workers: 16,
-        bits: 10,
-        most: 1_000_000,
+    let shown = Shown {
         list: true,
-        sizes: false,
-        notation: false,
-    }
+        ..NO_LINES
+    };
+    options(16, 10, 1_000_000, shown)
 }
 
 fn most(most: u32) -> Options
     requires { (1 ≤ most) × (most ≤ COALITIONS) }
 {
-    Options {
-        workers: 4,
-        bits: 6,
-        most,
-        list: false,
-        sizes: false,
-        notation: false,
-    }
+    options(4, 6, most, NO_LINES)
 }
 
 /// Worked games, each with its options and its report.
@@ -97,33 +129,85 @@ fn worked() -> [(&'static [u8], Options, &'static [u8]); 8] {
         (
             BOARD,
             with_list(),
-            b"members\t3\nquota\t51\ntotal\t100\nminimal\t2\ncoalition\t2\t99\tA\tB\ncoalition\t2\t51\tA\tC\nmember\tA\t50\t2\t1/2\t0.500000\t1/2\t0.500000\nmember\tB\t49\t1\t1/4\t0.250000\t1/4\t0.250000\nmember\tC\t1\t1\t1/4\t0.250000\t1/4\t0.250000\n",
+            b"members\t3\n\
+            quota\t51\n\
+            total\t100\n\
+            minimal\t2\n\
+            coalition\t2\t99\tA\tB\n\
+            coalition\t2\t51\tA\tC\n\
+            member\tA\t50\t2\t1/2\t0.500000\t1/2\t0.500000\n\
+            member\tB\t49\t1\t1/4\t0.250000\t1/4\t0.250000\n\
+            member\tC\t1\t1\t1/4\t0.250000\t1/4\t0.250000\n",
         ),
         (
             b"[51; 50, 49, 1]",
             with_notation(),
-            b"members\t3\nquota\t51\ntotal\t100\nnotation\t[51; 50, 49, 1]\nminimal\t2\nmember\t1\t50\t2\t1/2\t0.500000\t1/2\t0.500000\nmember\t2\t49\t1\t1/4\t0.250000\t1/4\t0.250000\nmember\t3\t1\t1\t1/4\t0.250000\t1/4\t0.250000\n",
+            b"members\t3\n\
+            quota\t51\n\
+            total\t100\n\
+            notation\t[51; 50, 49, 1]\n\
+            minimal\t2\n\
+            member\t1\t50\t2\t1/2\t0.500000\t1/2\t0.500000\n\
+            member\t2\t49\t1\t1/4\t0.250000\t1/4\t0.250000\n\
+            member\t3\t1\t1\t1/4\t0.250000\t1/4\t0.250000\n",
         ),
         (
             b"title = \"Board\"\nquota = 1\nmember = [{name = \"A\", weight = 1}]",
             plain(),
-            b"title\tBoard\nmembers\t1\nquota\t1\ntotal\t1\nminimal\t1\nmember\tA\t1\t1\t1/1\t1.000000\t1/1\t1.000000\n",
+            b"title\tBoard\n\
+            members\t1\n\
+            quota\t1\n\
+            total\t1\n\
+            minimal\t1\n\
+            member\tA\t1\t1\t1/1\t1.000000\t1/1\t1.000000\n",
         ),
         (FIVE, listing(), FIVE_REPORT),
         (
             b"[1; 1, 0, 1]",
             with_list(),
-            b"members\t3\nquota\t1\ntotal\t2\nminimal\t2\ncoalition\t1\t1\t1\ncoalition\t1\t1\t3\nmember\t1\t1\t1\t1/2\t0.500000\t1/2\t0.500000\nmember\t2\t0\t0\t0/1\t0.000000\t0/1\t0.000000\nmember\t3\t1\t1\t1/2\t0.500000\t1/2\t0.500000\n",
+            b"members\t3\n\
+            quota\t1\n\
+            total\t2\n\
+            minimal\t2\n\
+            coalition\t1\t1\t1\n\
+            coalition\t1\t1\t3\n\
+            member\t1\t1\t1\t1/2\t0.500000\t1/2\t0.500000\n\
+            member\t2\t0\t0\t0/1\t0.000000\t0/1\t0.000000\n\
+            member\t3\t1\t1\t1/2\t0.500000\t1/2\t0.500000\n",
         ),
         (
-            b"quotas = [5, 3]\nmember = [{name = \"A\", weights = [3, 1]}, {name = \"B\", weights = [2, 1]}, {name = \"C\", weights = [2, 1]}, {name = \"D\", weights = [1, 1]}]",
+            b"quotas = [5, 3]\n\
+            member = [{name = \"A\", weights = [3, 1]},\
+            {name = \"B\", weights = [2, 1]},\
+            {name = \"C\", weights = [2, 1]},\
+            {name = \"D\", weights = [1, 1]}]",
             with_list(),
-            b"members\t4\nquota\t5/3\ntotal\t8/4\nminimal\t4\ncoalition\t3\t7/3\tA\tB\tC\ncoalition\t3\t6/3\tA\tB\tD\ncoalition\t3\t6/3\tA\tC\tD\ncoalition\t3\t5/3\tB\tC\tD\nmember\tA\t3/1\t3\t1/4\t0.250000\t1/4\t0.250000\nmember\tB\t2/1\t3\t1/4\t0.250000\t1/4\t0.250000\nmember\tC\t2/1\t3\t1/4\t0.250000\t1/4\t0.250000\nmember\tD\t1/1\t3\t1/4\t0.250000\t1/4\t0.250000\n",
+            b"members\t4\n\
+            quota\t5/3\n\
+            total\t8/4\n\
+            minimal\t4\n\
+            coalition\t3\t7/3\tA\tB\tC\n\
+            coalition\t3\t6/3\tA\tB\tD\n\
+            coalition\t3\t6/3\tA\tC\tD\n\
+            coalition\t3\t5/3\tB\tC\tD\n\
+            member\tA\t3/1\t3\t1/4\t0.250000\t1/4\t0.250000\n\
+            member\tB\t2/1\t3\t1/4\t0.250000\t1/4\t0.250000\n\
+            member\tC\t2/1\t3\t1/4\t0.250000\t1/4\t0.250000\n\
+            member\tD\t1/1\t3\t1/4\t0.250000\t1/4\t0.250000\n",
         ),
         (
             b"[12; 4, 4, 4, 2, 2, 1]",
             plain(),
-            b"members\t6\nquota\t12\ntotal\t17\nminimal\t4\nmember\t1\t4\t3\t5/24\t0.208333\t1/5\t0.200000\nmember\t2\t4\t3\t5/24\t0.208333\t1/5\t0.200000\nmember\t3\t4\t3\t5/24\t0.208333\t1/5\t0.200000\nmember\t4\t2\t3\t3/16\t0.187500\t1/5\t0.200000\nmember\t5\t2\t3\t3/16\t0.187500\t1/5\t0.200000\nmember\t6\t1\t0\t0/1\t0.000000\t0/1\t0.000000\n",
+            b"members\t6\n\
+            quota\t12\n\
+            total\t17\n\
+            minimal\t4\n\
+            member\t1\t4\t3\t5/24\t0.208333\t1/5\t0.200000\n\
+            member\t2\t4\t3\t5/24\t0.208333\t1/5\t0.200000\n\
+            member\t3\t4\t3\t5/24\t0.208333\t1/5\t0.200000\n\
+            member\t4\t2\t3\t3/16\t0.187500\t1/5\t0.200000\n\
+            member\t5\t2\t3\t3/16\t0.187500\t1/5\t0.200000\n\
+            member\t6\t1\t0\t0/1\t0.000000\t0/1\t0.000000\n",
         ),
     ]
 }
@@ -139,7 +223,7 @@ struct Awaiting<'a> {
 }
 
 impl Awaiting<'_> {
-    /// How many of so many bytes are taken.
+    /// How many of `length` bytes are taken.
     fn count(&mut self, length: usize) -> usize {
         match self.part {
             Some(drawn) if length > 0 => {
@@ -211,7 +295,7 @@ fn writes_through_parts_of_any_length(rt: HostRuntime) {
     }
 }
 
-/// A writer that takes so many bytes, at most so many a call, and then fails.
+/// A writer that takes `room` bytes, at most `step` a call, and then fails.
 #[derive(Drop)]
 struct Narrow {
     taken: Vec<u8>,
@@ -260,7 +344,7 @@ fn takes<R: Abort + Threads + Wait + Sync>(
     same(rt, BOARD_REPORT.starts_with(&writer.taken), true, room);
 }
 
-/// A write that failed after so many bytes.
+/// A write that failed after `written` bytes.
 fn failed(written: u64) -> Result<u64, RunFault> {
     Err(RunFault {
         cause: Cause::Write,
@@ -300,7 +384,7 @@ fn writes_through_parts_and_one_flush(rt: HostRuntime) {
     }
 }
 
-/// A reader that gives the board's file byte by byte, and fails after so many.
+/// A reader that gives the board's file byte by byte, and fails after `end` bytes.
 #[derive(Drop)]
 struct Cut {
     given: usize,
@@ -322,7 +406,7 @@ impl Read for Cut {
     }
 }
 
-/// A run on the board, of which so many bytes can be read, answers so, and writes this.
+/// A run on the board, of which the reader gives a part, answers so, and writes this.
 fn reads<R: Abort + Threads + Wait + Sync>(
     rt: &R,
     alloc: Global,
@@ -418,14 +502,7 @@ fn gated<R: Abort + Threads + Wait + Sync, G: Gate + Sync>(
     requires workers { (1 ≤ workers) × (workers ≤ WORKERS) }
     requires bits { bits ≤ BITS }
 {
-    let options = Options {
-        workers,
-        bits,
-        most: 5,
-        list: true,
-        sizes: true,
-        notation: false,
-    };
+    let options = options(workers, bits, 5, LISTED);
     let mut reader = FIVE;
     let mut written = Vec::new(alloc);
     let answer = run(rt, alloc, &mut reader, &options, gate, &mut written);
@@ -460,7 +537,7 @@ fn each_slice_passes_once(rt: HostRuntime) {
     }
 }
 
-/// A gate that holds each of two workers until the other has come, for so many turns at most.
+/// A gate that holds each of two workers until the other has come, for a hundred million turns at most.
 #[derive(Drop)]
 struct Meeting {
     here: [AtomicU64; 2],

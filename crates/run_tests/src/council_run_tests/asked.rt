@@ -47,7 +47,7 @@ impl Read for Reader<'_> {
 #[derive(Clone, Copy, PartialEq, Eq)]
 enum Fails {
     Nothing,
-    /// The write after so many bytes, by this error, or it takes nothing.
+    /// The write after this number of bytes, by this error, or it takes nothing.
     Write(usize, Option<ErrorKind>),
     Flush,
 }
@@ -168,7 +168,7 @@ fn a_long_report_goes_out_in_blocks(rt: HostRuntime) {
     );
 }
 
-/// After a write or a flush that failed, when so many bytes of the whole were taken, the writer is not called again.
+/// After a write or a flush that failed, when `taken` bytes of the whole were taken, the writer is not called again.
 fn fails_once<R: Abort + Threads + Wait + Sync>(
     rt: &R,
     alloc: Global,

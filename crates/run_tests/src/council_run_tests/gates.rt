@@ -2,8 +2,8 @@
 ghost use Rattle.std.specs.Prelude.{◌≤◌};
 ghost use Rattle.coalitions.specs.declared.limits.TheConstants.{BITS, WORKERS};
 
-use super::same;
-use council_run::{Options, run};
+use super::{NO_LINES, options, same};
+use council_run::run;
 use mwc_gather::Gate;
 use std::alloc::Global;
 use std::array;
@@ -45,7 +45,7 @@ impl Gate for Seen {
     }
 }
 
-/// Runs on the file, and looks whether each of so many slices passed once, no other did, and each
+/// Runs on the file, and looks whether each of `slices` slices passed once, no other did, and each
 /// worker began with the slice of its own number, as far as there are slices.
 fn sees_all<R: Abort + Threads + Wait + Sync>(
     rt: &R,
@@ -58,14 +58,7 @@ fn sees_all<R: Abort + Threads + Wait + Sync>(
     requires workers { (1 ≤ workers) × (workers ≤ WORKERS) }
     requires bits { bits ≤ BITS }
 {
-    let options = Options {
-        workers,
-        bits,
-        most: 1_000_000,
-        list: false,
-        sizes: false,
-        notation: false,
-    };
+    let options = options(workers, bits, 1_000_000, NO_LINES);
     let seen = Seen::new();
     let mut reader = file;
     let mut written = Vec::new(alloc);

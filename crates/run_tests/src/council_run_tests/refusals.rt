@@ -4,11 +4,27 @@ use super::*;
 use crate::helpers::say;
 use std::io::Print;
 
-const TWO_RULES: &[u8] =
-    b"title = \"Two\"\nquotas = [5, 3]\nmember = [{name = \"A\", weights = [3, 1]}, {name = \"B\", weights = [2, 1]}, {name = \"C\", weights = [2, 1]}, {name = \"D\", weights = [1, 1]}]";
+const TWO_RULES: &[u8] = b"title = \"Two\"\n\
+    quotas = [5, 3]\n\
+    member = [{name = \"A\", weights = [3, 1]},\
+    {name = \"B\", weights = [2, 1]},\
+    {name = \"C\", weights = [2, 1]},\
+    {name = \"D\", weights = [1, 1]}]";
 
-const TWO_RULES_REPORT: &[u8] =
-    b"title\tTwo\nmembers\t4\nquota\t5/3\ntotal\t8/4\nminimal\t4\ncoalition\t3\t7/3\tA\tB\tC\ncoalition\t3\t6/3\tA\tB\tD\ncoalition\t3\t6/3\tA\tC\tD\ncoalition\t3\t5/3\tB\tC\tD\nsize\t3\t4\t3\t3\t3\t3\nmember\tA\t3/1\t3\t1/4\t0.250000\t1/4\t0.250000\nmember\tB\t2/1\t3\t1/4\t0.250000\t1/4\t0.250000\nmember\tC\t2/1\t3\t1/4\t0.250000\t1/4\t0.250000\nmember\tD\t1/1\t3\t1/4\t0.250000\t1/4\t0.250000\n";
+const TWO_RULES_REPORT: &[u8] = b"title\tTwo\n\
+    members\t4\n\
+    quota\t5/3\n\
+    total\t8/4\n\
+    minimal\t4\n\
+    coalition\t3\t7/3\tA\tB\tC\n\
+    coalition\t3\t6/3\tA\tB\tD\n\
+    coalition\t3\t6/3\tA\tC\tD\n\
+    coalition\t3\t5/3\tB\tC\tD\n\
+    size\t3\t4\t3\t3\t3\t3\n\
+    member\tA\t3/1\t3\t1/4\t0.250000\t1/4\t0.250000\n\
+    member\tB\t2/1\t3\t1/4\t0.250000\t1/4\t0.250000\n\
+    member\tC\t2/1\t3\t1/4\t0.250000\t1/4\t0.250000\n\
+    member\tD\t1/1\t3\t1/4\t0.250000\t1/4\t0.250000\n";
 
 /// Where a run that was refused something found no room.
 fn place_of(cause: Cause) -> &'static str {
@@ -77,8 +93,16 @@ fn runs_on_toml(rt: HostRuntime) {
 }
 
 /// The report of a tally of two rules of heads and weights.
-const TWO_RULES_TALLY: &[u8] =
-    b"title\tTwo\nmembers\t4\nquota\t5/3\ntotal\t8/4\nminimal\t4\nsize\t3\t4\t3\t3\t3\t3\nmember\tA\t3/1\t3\t1/4\t0.250000\t1/4\t0.250000\nmember\tB\t2/1\t3\t1/4\t0.250000\t1/4\t0.250000\nmember\tC\t2/1\t3\t1/4\t0.250000\t1/4\t0.250000\nmember\tD\t1/1\t3\t1/4\t0.250000\t1/4\t0.250000\n";
+const TWO_RULES_TALLY: &[u8] = b"title\tTwo\n\
+    members\t4\n\
+    quota\t5/3\n\
+    total\t8/4\n\
+    minimal\t4\n\
+    size\t3\t4\t3\t3\t3\t3\n\
+    member\tA\t3/1\t3\t1/4\t0.250000\t1/4\t0.250000\n\
+    member\tB\t2/1\t3\t1/4\t0.250000\t1/4\t0.250000\n\
+    member\tC\t2/1\t3\t1/4\t0.250000\t1/4\t0.250000\n\
+    member\tD\t1/1\t3\t1/4\t0.250000\t1/4\t0.250000\n";
 
 #[test]
 fn tallies_by_sums(rt: HostRuntime) {
@@ -86,11 +110,19 @@ fn tallies_by_sums(rt: HostRuntime) {
 }
 
 /// Two rules that give all members weight, which sums do not take: threads count.
-const SHARED_RULES: &[u8] =
-    b"quotas = [2, 2]\nmember = [{name = \"A\", weights = [2, 1]}, {name = \"B\", weights = [1, 2]}, {name = \"C\", weights = [1, 1]}]";
+const SHARED_RULES: &[u8] = b"quotas = [2, 2]\n\
+    member = [{name = \"A\", weights = [2, 1]},\
+    {name = \"B\", weights = [1, 2]},\
+    {name = \"C\", weights = [1, 1]}]";
 
-const SHARED_RULES_TALLY: &[u8] =
-    b"members\t3\nquota\t2/2\ntotal\t4/4\nminimal\t3\nsize\t2\t3\t2\t2\t2\nmember\tA\t2/1\t2\t1/3\t0.333333\t1/3\t0.333333\nmember\tB\t1/2\t2\t1/3\t0.333333\t1/3\t0.333333\nmember\tC\t1/1\t2\t1/3\t0.333333\t1/3\t0.333333\n";
+const SHARED_RULES_TALLY: &[u8] = b"members\t3\n\
+    quota\t2/2\n\
+    total\t4/4\n\
+    minimal\t3\n\
+    size\t2\t3\t2\t2\t2\n\
+    member\tA\t2/1\t2\t1/3\t0.333333\t1/3\t0.333333\n\
+    member\tB\t1/2\t2\t1/3\t0.333333\t1/3\t0.333333\n\
+    member\tC\t1/1\t2\t1/3\t0.333333\t1/3\t0.333333\n";
 
 #[test]
 fn tallies_by_threads(rt: HostRuntime) {

@@ -4,7 +4,7 @@ ghost use Rattle.std.specs.Prelude.{⊤};
 use super::*;
 use council_run::Watch;
 
-/// A game of three rules over so many members as a slice fixes at least: each member has one vote in each.
+/// A game of three rules over one member more than a slice fixes at least: each member has one vote in each.
 const THREE: &[u8] = b"quotas = [4, 4, 4]\n\
 [[member]]\nname = \"A\"\nweights = [1, 1, 1]\n[[member]]\nname = \"B\"\nweights = [1, 1, 1]\n\
 [[member]]\nname = \"C\"\nweights = [1, 1, 1]\n[[member]]\nname = \"D\"\nweights = [1, 1, 1]\n\
@@ -12,7 +12,7 @@ const THREE: &[u8] = b"quotas = [4, 4, 4]\n\
 [[member]]\nname = \"G\"\nweights = [1, 1, 1]\n[[member]]\nname = \"H\"\nweights = [1, 1, 1]\n\
 [[member]]\nname = \"I\"\nweights = [1, 1, 1]\n";
 
-/// Holds each of the first 16 slices that were counted until all are there, for so many turns at most, and
+/// Holds each of the first 16 slices that were counted until all are there, for a hundred million turns at most, and
 /// counts those that are of 256.
 #[derive(Drop)]
 struct Meeting {
@@ -56,14 +56,7 @@ impl Watch for Meeting {
 fn a_tally_has_its_threads_and_slices(rt: HostRuntime) {
     let mut reader = THREE;
     let mut written = Vec::new(rt.alloc());
-    let options = Options {
-        workers: 16,
-        bits: 0,
-        most: 1,
-        list: false,
-        sizes: false,
-        notation: false,
-    };
+    let options = options(16, 0, 1, NO_LINES);
     let meeting = Meeting {
         came: AtomicU64::new(0),
         of_all: AtomicU64::new(0),
@@ -103,14 +96,7 @@ impl Watch for Never {
 /// watch.
 #[test]
 fn a_watch_stops_a_tally(rt: HostRuntime) {
-    let options = Options {
-        workers: 1,
-        bits: 6,
-        most: 1,
-        list: false,
-        sizes: false,
-        notation: false,
-    };
+    let options = options(1, 6, 1, NO_LINES);
     for (file, stopped) in [(THREE, true), (BOARD, false)] {
         let mut reader = file;
         let mut written = Vec::new(rt.alloc());
