@@ -235,8 +235,8 @@ END
     if succeeded "a long tally without a terminal"; then ok "a long tally without a terminal"; fi
 fi
 
-# ---- one rule, or a rule and heads, of weights that have nothing in common: the figures of another program, which counts each
-# member beside the others, in place of leaving it out
+# ---- one rule, or a rule and heads, of weights that have nothing in common: the figures of another program, which keeps a table
+# of what fits for each member
 # random MEMBERS MOST: as many weights up to that, in `weights`, and their total
 random() {
     local x=7 member draw weight
