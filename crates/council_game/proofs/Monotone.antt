@@ -1,4 +1,5 @@
 -- Laws of games: monotone weights, minimal coalitions.
+use Rattle.std.proofs.lemmas.Bool.Decides.{nat_tests}
 use Rattle.std.proofs.Common.{ℕ, ◌/◌, ◌%◌, ◌^◌, ◌<◌, ◌≤◌, List, [], ◌∷◌, length, arith}
 use Rattle.std.proofs.lemmas.Nat.{mul-le}
 use Rattle.council_game.specs.Votes.{weight}
@@ -7,6 +8,4 @@ use Rattle.council_game.proofs.Shared.WeightByDigits.{weight-nil, weight-cons}
 -- fewer members weigh no more
 pub weight-mono : (ws : List ℕ) (a c : ℕ) → ((i : ℕ) → i < length ws → a / 2 ^ i % 2 ≤ c / 2 ^ i % 2) → weight ws a ≤ weight ws c
 weight-mono [] a c sub = omega (arith, weight-nil a, weight-nil c)
-weight-mono (w ∷ ws) a c sub =
-    let prod = mul-le (a / 2 ^ length ws % 2) w (c / 2 ^ length ws % 2) w (sub (length ws) (omega arith)) (omega arith) in
-    omega (arith, prod, weight-mono ws a c (λ i below. sub i (omega arith)), weight-cons w ws a, weight-cons w ws c)
+weight-mono (w ∷ ws) a c sub = grind (arith, nat_tests, weight-mono ws a c (λ i below. sub i (omega arith)), mul-le, weight-cons)

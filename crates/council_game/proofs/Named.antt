@@ -1,4 +1,6 @@
 -- Coalitions made of members, and the members of a coalition.
+use Rattle.std.proofs.Common.{arith}
+use Rattle.std.proofs.lemmas.Bool.Decides.{nat_tests}
 use Rattle.std.proofs.Common.{◌≡◌, ◌≢◌, ℕ, ◌+◌, ◌<◌, ◌==◌, ◌||◌, Bool, true, false, List, [], ◌∷◌, ◌++◌, length, get_or, take, map, filter, sym, ap, ◌∙◌, inl, inr}
 use Rattle.std.specs.List.{list_any, range_with_len}
 use Rattle.std.proofs.lemmas.Bool.{cases_eq, eq-eqb, ne_eqb, cond-true, cond-false, or_right}
@@ -35,17 +37,9 @@ taken-in g ms k place a b game lt member at inside kept before i below =
 pub place-in : (ranks xs ys : List ℕ) (n c p m : ℕ) → has n p c ≡ true → m ≡ member_at ranks p → ys ≡ xs ++ m ∷ []
     → xs ≡ map (member_at ranks) (filter (λ q. has n q c) (range_with_len 0 p))
     → ys ≡ map (member_at ranks) (filter (λ q. has n q c) (range_with_len 0 (p + 1)))
-place-in ranks xs ys n c p m in' is pushed before =
-    pushed ∙ ap (λ (l : List ℕ). l ++ m ∷ []) before
-    ∙ ap (λ (x : ℕ). map (member_at ranks) (filter (λ q. has n q c) (range_with_len 0 p)) ++ x ∷ []) is
-    ∙ sym (ap (map (member_at ranks)) (filter_one_more (λ q. has n q c) p
-    ∙ ap (λ (l : List ℕ). filter (λ q. has n q c) (range_with_len 0 p) ++ l) (cond-true (has n p c) (p ∷ []) [] in'))
-    ∙ map-append (member_at ranks) (filter (λ q. has n q c) (range_with_len 0 p)) (p ∷ []))
+place-in ranks xs ys n c p m in' is pushed before = grind (arith, nat_tests, filter_one_more, cond-true, map-append)
 
 pub place-out : (ranks xs : List ℕ) (n c p : ℕ) → has n p c ≡ false
     → xs ≡ map (member_at ranks) (filter (λ q. has n q c) (range_with_len 0 p))
     → xs ≡ map (member_at ranks) (filter (λ q. has n q c) (range_with_len 0 (p + 1)))
-place-out ranks xs n c p out before =
-    before ∙ sym (ap (map (member_at ranks)) (filter_one_more (λ q. has n q c) p
-    ∙ ap (λ (l : List ℕ). filter (λ q. has n q c) (range_with_len 0 p) ++ l) (cond-false (has n p c) (p ∷ []) [] out)
-    ∙ append-nil (filter (λ q. has n q c) (range_with_len 0 p))))
+place-out ranks xs n c p out before = grind (arith, nat_tests, filter_one_more, cond-false, append-nil)

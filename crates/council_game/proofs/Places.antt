@@ -27,12 +27,7 @@ each-place in_it passes n p all below inside =
 -- the same the other way round
 pub all-places : (in_it passes : ℕ → Bool) (n : ℕ) → ((p : ℕ) → p < n → in_it p ≡ true → passes p ≡ true)
     → list_all passes (filter in_it (range_with_len 0 n)) ≡ true
-all-places in_it passes n each =
-    list_all-filter in_it passes (range_with_len 0 n)
-    ∙ list_all-from_AllPass (OutOrPasses in_it passes) (range_with_len 0 n) (λ p d lt.
-    let below : p < n = (let long = length-range_with_len 0 n in omega (arith, long, lt)) in
-    let own = each p below in
-    rw (places-at n p d below) (grind (arith, nat_tests)))
+all-places in_it passes n each = grind (arith, nat_tests, list_all-filter, list_all-from_AllPass, length-range_with_len, places-at)
 
 some-fails : (test : ℕ → Bool) (ps : List ℕ) → list_all test ps ≡ false → (k : ℕ) × (k < length ps) × (test (get_or ps k 0) ≡ false)
 some-fails test [] h = absurd (cc)
@@ -45,8 +40,4 @@ some-fails test (p ∷ ps) h = elim (and_cases (test p) (list_all test ps) h) [
 pub spare-place : (in_it passes : ℕ → Bool) (n : ℕ) → list_all passes (filter in_it (range_with_len 0 n)) ≡ false → (p : ℕ) × (p < n)
     × (in_it p ≡ true) × (passes p ≡ false)
 spare-place in_it passes n some =
-    let found = some-fails (OutOrPasses in_it passes) (range_with_len 0 n)
-    (sym (list_all-filter in_it passes (range_with_len 0 n)) ∙ some) in
-    let below : found.0 < n = (let long = length-range_with_len 0 n in omega (arith, long, found.1)) in
-    let parts = or_parts _ _ (rw (places-at n found.0 0 below) at found.2) in
-    (found.0, below, not-false _ parts.0, parts.1)
+    grind (arith, nat_tests, some-fails, list_all-filter, length-range_with_len, or_parts, places-at, not-false)

@@ -14,7 +14,7 @@ use Rattle.council_game.proofs.Shared.Meanings.{weighs-its-members}
 use Rattle.council_game.proofs.Shared.Weights.{weight-le}
 use Rattle.power_index.proofs.Shared.Sums.{length-filter-le}
 use Rattle.council_report.specs.Lines.{with_tab, names_of}
-use Rattle.council_report.specs.Inner.Shared.{places_before, name_at, fields_of, weights_under, weight_of_places, HasNoneFrom, SameBefore}
+use Rattle.council_report.specs.Inner.SharedLine.{places_before, name_at, fields_of, weights_under, weight_of_places, HasNoneFrom, SameBefore}
 use Rattle.council_report.proofs.Bounds.{with_tab-fits, each-field, name-fits}
 
 -- ---- the places before one

@@ -8,7 +8,7 @@ use Rattle.std.proofs.Math.Nat.{pow-suc}
 use Rattle.std.proofs.Math.Pow.{pow_mono}
 use Rattle.council_game.specs.Votes.{has}
 use Rattle.coalitions.proofs.Shared.Digits.{lowest-place}
-use Rattle.council_report.specs.Inner.Shared.{HasNoneFrom, SameBefore}
+use Rattle.council_report.specs.Inner.SharedLine.{HasNoneFrom, SameBefore}
 
 -- equal digits
 same-digit : (a b i : ℕ) → bit_xor a b / 2 ^ i % 2 ≡ 0 → a / 2 ^ i % 2 ≡ b / 2 ^ i % 2

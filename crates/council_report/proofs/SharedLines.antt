@@ -11,9 +11,9 @@ use Rattle.council_game.specs.Game.{GameView, IsGame, votes_of}
 use Rattle.power_index.proofs.Shared.Members.{few-members}
 use Rattle.council_report.specs.declared.seat.Seat.{Seat}
 use Rattle.council_report.specs.declared.subtotal.Subtotal.{Subtotal}
-use Rattle.council_report.specs.declared.shared.SharedLine.{SharedLine}
+use Rattle.council_report.specs.declared.shared_line.SharedLine.{SharedLine}
 use Rattle.council_report.specs.Lines.{with_tab, names_of}
-use Rattle.council_report.specs.Inner.Shared.{places_before, name_at, fields_of, weight_of_places, IsSeat, AreSeats, IsSubtotal, IsLine, IsWholeLine, SameBefore}
+use Rattle.council_report.specs.Inner.SharedLine.{places_before, name_at, fields_of, weight_of_places, IsSeat, AreSeats, IsSubtotal, IsLine, IsWholeLine, SameBefore}
 use Rattle.council_report.proofs.Beginnings.{before-none, before-in, before-out, before-same, before-front, before-all, fields-none, fields-append, fields-more, fields-all, fields-fit, weights-none, weights-more, weights-all, weights-light}
 
 -- what is read past the subtotals

@@ -3,4 +3,4 @@ pub mod Lines
 pub mod Told
 pub mod Ready
 pub mod Puts
-pub mod Shared
+pub mod SharedLine

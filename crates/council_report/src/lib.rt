@@ -14,7 +14,7 @@ mod output;
 mod places;
 mod report;
 mod seat;
-mod shared;
+mod shared_line;
 mod shown;
 mod stream;
 mod subtotal;

@@ -2,7 +2,7 @@
 ghost use Rattle.std.specs.Prelude.{◌≡◌, ◌<◌, ℕ, length, slice_index, IfOk};
 ghost use Rattle.coalitions.specs.declared.limits.TheConstants.{RULES};
 ghost use Rattle.council_game.specs.Game.{IsGame};
-ghost use Rattle.council_report.specs.Inner.Shared.{IsSeat, AreSeats, weights_under};
+ghost use Rattle.council_report.specs.Inner.SharedLine.{IsSeat, AreSeats, weights_under};
 
 use crate::text::push_field;
 use council_game::{Game, limits};

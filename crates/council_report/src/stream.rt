@@ -4,14 +4,14 @@ ghost use Rattle.std.specs.List.{flat_map, range_with_len};
 ghost use Rattle.council_game.specs.Game.{AreNonemptyCoalitions};
 ghost use Rattle.council_report.specs.Lines.{coalition_line};
 ghost use Rattle.council_report.specs.Inner.Lines.{line_of_size, line_of_member, lines_of_members};
-ghost use Rattle.council_report.specs.Inner.Shared.{IsReadyLine};
+ghost use Rattle.council_report.specs.Inner.SharedLine.{IsReadyLine};
 ghost use Rattle.council_report.specs.Inner.Ready.{IsReady, CanCount};
 ghost use Rattle.council_report.specs.Inner.Puts.{Puts};
 
 use crate::counted::Counted;
 use crate::indices::{push_member, push_size};
 use crate::output::{Block, WriteFault};
-use crate::shared::SharedLine;
+use crate::shared_line::SharedLine;
 use council_game::{Coalition, Game};
 use std::io::Write;
 

@@ -7,8 +7,8 @@
 //! ```
 #![tactic(auto)]
 
-mod refusals;
+mod command_line;
 mod words;
 
-pub use refusals::{command_line, out_of_memory, wanted};
+pub use command_line::{command_line, out_of_memory, wanted};
 pub use words::{Wanted, WordsFault, read_words};

@@ -36,21 +36,7 @@ pub record Passed (g : GameView) : Type 0 where
 
 pub passed : (g : GameView) → made_game g.title g.names g.rules ≡ Ok g → Passed g
 unfolding made_game
-passed g h =
-    let p = checks-passed (option_map_or (λ t. not (is_title t)) g.title false) (ltb (length g.names) 1 || ltb 40 (length g.names))
-    (position (λ name. not (is_name name)) g.names)
-    (position (is_repeat g.names) (places g.names)) (position (is_heavy g.rules) (range_with_len 0 (length g.names)))
-    (list_any has_bad_quota g.rules)
-    (record { title = g.title; names = g.names; rules = g.rules; ranks = rank_places (first_weights g.rules) }) g h in
-    record {
-      title = p.0;
-      members = p.1;
-      names = p.2;
-      repeats = p.3;
-      weights = p.4;
-      quotas = p.5;
-      ranks = sym (ap (λ (v : GameView). v.ranks) p.6);
-    }
+passed g h = grind (arith, nat_tests, checks-passed)
 
 -- what passes the checks is made
 pub makes : (title : Option (List ℕ)) (names : List (List ℕ)) (rules : List RuleView) → option_map_or (λ t. not (is_title t)) title false ≡ false
@@ -59,10 +45,7 @@ pub makes : (title : Option (List ℕ)) (names : List (List ℕ)) (rules : List 
     → list_any has_bad_quota rules ≡ false
     → made_game title names rules ≡ Ok (record { title = title; names = names; rules = rules; ranks = rank_places (first_weights rules) })
 unfolding made_game
-makes title names rules a b c d e f =
-    (λ i. refuse (a i) Title >>= (λ _. refuse (b i) Members >>= (λ _. refuse_at Name (c i) >>=
-    (λ _. refuse_at SameName (d i) >>= (λ _. refuse_at Weight (e i) >>= (λ _. refuse (f i) QuotaRange >>= (λ _. Ok
-    (record { title = title; names = names; rules = rules; ranks = rank_places (first_weights rules) }))))))))
+makes title names rules a b c d e f = grind (arith, nat_tests)
 
 -- ---- no weight is above the limit
 some-none : (i : ℕ) → ◌≡◌ {A = Option ℕ} (Some i) None → ⊥
@@ -70,10 +53,7 @@ some-none i h = cc
 
 -- a test that finds no entry was tried on all
 pub none-found : {X : Type 0} (f : X → Bool) (xs : List X) → position f xs ≡ None → length xs ≤ position_or_len f xs
-none-found f xs none = elim (cases_lt (position_or_len f xs) (length xs)) [
-  | inl found ↦ absurd (some-none _ (sym (cond-true _ (Some (position_or_len f xs)) None (lt-ltb _ _ found)) ∙ none))
-  | inr all ↦ all
-]
+none-found f xs none = grind (arith, nat_tests, cases_lt, some-none, cond-true, lt-ltb)
 
 pub position-none : (f : ℕ → Bool) (n : ℕ) → position f (range_with_len 0 n) ≡ None → (i : ℕ) → i < n → f i ≡ false
 position-none f n none i lt =
@@ -92,9 +72,7 @@ pub position_nowhere : {X : Type 0} (p : X → Bool) (xs : List X) → ((i : ℕ
 position_nowhere p xs h = rw (stops_nowhere p xs h, le-ltb (length xs) (length xs) (omega arith)) refl
 
 pub nowhere_below : (p : ℕ → Bool) (m : ℕ) → ((i : ℕ) → i < m → p i ≡ false) → position p (range_with_len 0 m) ≡ None
-nowhere_below p m h = position_nowhere p (range_with_len 0 m) (λ i d lt.
-    let below : i < m = omega (arith, length-range_with_len 0 m) in
-    rw (places-at m i d below) (h i below))
+nowhere_below p m h = grind (arith, nat_tests, position_nowhere, length-range_with_len, places-at)
 
 -- no name is longer than 64 bytes
 name-fits : (name : List ℕ) → not (is_name name) ≡ false → length name ≤ 64

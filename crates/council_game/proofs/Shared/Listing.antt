@@ -27,10 +27,7 @@ weight-full (w ∷ ws) c all =
 wins-full : (n : ℕ) (rs : List RuleView) → AllByRecursion (IsRule n) rs → wins rs (2 ^ n - 1) ≡ true
 unfolding wins
 wins-full n [] all = refl
-wins-full n (r ∷ rs) all =
-    let full = weight-full r.weights (2 ^ n - 1) (λ i lt. bit_at_ones n i (omega (arith, all.0.full))) in
-    let met = all.0.met in
-    grind (arith, nat_tests, wins-full n rs all.1)
+wins-full n (r ∷ rs) all = grind (arith, nat_tests, wins-full n rs all.1, weight-full, bit_at_ones)
 
 -- the empty coalition loses
 none-wins : (n : ℕ) (rs : List RuleView) → AllByRecursion (IsRule n) rs → 1 ≤ length rs → wins rs 0 ≡ true → ⊥
@@ -51,10 +48,7 @@ down-descends (suc n) = AllPairs-cons (λ a b. b < a) n (down n) (down-below n n
 some-left : (p : ℕ → Bool) (n m : ℕ) → m < n → p m ≡ true → 0 < length (filter p (down n))
 unfolding down
 some-left p zero m lt h = absurd (omega arith)
-some-left p (suc n) m lt h =
-    let other : p n ≡ false → m ≡ n → ⊥ = λ out same. both_ways _ out (ap p (sym same) ∙ h) in
-    let rest = some-left p n m in
-    grind (arith, nat_tests)
+some-left p (suc n) m lt h = grind (arith, nat_tests, some-left p n m, both_ways)
 
 length-down : (n : ℕ) → length (down n) ≡ n
 unfolding down
@@ -82,34 +76,18 @@ listing-is v game =
 pub listed-start : (v : Votes) (xs : List ℕ) (n : ℕ) → xs ≡ [] → n ≡ v.members → n ≤ 20
     → (xs ++ minimal_below v (1 * 2 ^ n % 2 ^ 64) ≡ minimal_coalitions v) × (1 * 2 ^ n % 2 ^ 64 ≤ 2 ^ 20)
 unfolding minimal_coalitions minimal_below
-listed-start v xs n none e few =
-    let shl : 1 * 2 ^ n % 2 ^ 64 ≡ 2 ^ n = one_shl n 64 (omega arith) in
-    let most : 2 ^ n ≤ 2 ^ 20 = (let two : 0 < 2 = omega arith in pow-le-pow_right two few) in (
-      ap (λ (l : List ℕ). l ++ minimal_below v (1 * 2 ^ n % 2 ^ 64)) none ∙ ap (minimal_below v) shl
-          ∙ ap (λ (m : ℕ). minimal_below v (2 ^ m)) e,
-      omega (arith, shl, most),
-    )
+listed-start v xs n none e few = grind (arith, nat_tests, one_shl, pow-le-pow_right)
 
 pub listed-more : (v : Votes) (xs ys all : List ℕ) (m c : ℕ) → 0 < m → c ≡ m - 1 → minimal v c ≡ true → ys ≡ xs ++ c ∷ []
     → xs ++ minimal_below v m ≡ all → ys ++ minimal_below v (m - 1) ≡ all
 unfolding minimal_below down
-listed-more v xs ys all m c pos is min pushed h =
-    let e : m ≡ suc (m - 1) = omega arith in
-    let first : minimal v (m - 1) ≡ true = ap (minimal v) (sym is) ∙ min in
-    let more : minimal_below v m ≡ (m - 1) ∷ minimal_below v (m - 1) = ap (minimal_below v) e ∙ cond-true (minimal v (m - 1)) _ _ first in
-    rw (pushed, is, append_assoc) (rw more at h)
+listed-more v xs ys all m c pos is min pushed h = grind (arith, nat_tests, cond-true, append_assoc)
 
 pub listed-less : (v : Votes) (xs all : List ℕ) (m c : ℕ) → 0 < m → c ≡ m - 1 → minimal v c ≡ false → xs ++ minimal_below v m ≡ all
     → xs ++ minimal_below v (m - 1) ≡ all
 unfolding minimal_below down
-listed-less v xs all m c pos is fails h =
-    let e : m ≡ suc (m - 1) = omega arith in
-    let out : minimal v (m - 1) ≡ false = ap (minimal v) (sym is) ∙ fails in
-    let same : minimal_below v m ≡ minimal_below v (m - 1) = ap (minimal_below v) e ∙ cond-false (minimal v (m - 1)) _ _ out in
-    ap (λ (l : List ℕ). xs ++ l) (sym same) ∙ h
+listed-less v xs all m c pos is fails h = grind (arith, nat_tests, cond-false)
 
 pub listed-all : (v : Votes) (xs all : List ℕ) (m : ℕ) → m ≤ 0 → xs ++ minimal_below v m ≡ all → xs ≡ all
 unfolding minimal_below down
-listed-all v xs all m le h =
-    let e : m ≡ 0 = omega arith in
-    sym (append-nil xs) ∙ ap (λ (i : ℕ). xs ++ minimal_below v i) (sym e) ∙ h
+listed-all v xs all m le h = grind (arith, nat_tests, append-nil)

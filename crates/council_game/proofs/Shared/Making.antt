@@ -1,4 +1,5 @@
 -- The tables of a game that is made.
+use Rattle.std.proofs.lemmas.Bool.Decides.{nat_tests}
 use Rattle.std.proofs.Common.{◌≡◌, ℕ, ◌-◌, ◌^◌, ◌<◌, ◌≤◌, min, eqb, List, [], ◌∷◌, length, get_or, map, sum, refl, sym, ap, ◌∙◌, subst, arith, All, Option, Ok, String, Global, string_bytes, option_map}
 use Rattle.std.specs.List.{AllByRecursion}
 use Rattle.std.proofs.lemmas.List.{length-map, get_or-map, same_lists, get_or_default}
@@ -86,9 +87,7 @@ sums-fit g game =
 capped : (rules : List Rule) → AllByRecursion (λ r. total r ≤ 40000000000000) (rule_views rules)
     → map (λ r. min (sum r.weights.items) (2 ^ 64 - 1)) rules ≡ map total (rule_views rules)
 capped [] fit = refl
-capped (r ∷ rs) fit =
-    let f : sum r.weights.items ≤ 40000000000000 = fit.0 in
-    grind (arith, capped rs fit.1)
+capped (r ∷ rs) fit = grind (arith, nat_tests, capped rs fit.1)
 
 pub totals-are : (g : GameView) (rules : List Rule) (ts : List ℕ) → IsGame g → g.rules ≡ rule_views rules
     → ts ≡ map (λ r. min (sum r.weights.items) (2 ^ 64 - 1)) rules → ts ≡ map total (rule_views rules)

@@ -16,10 +16,7 @@ pub wins-mono : (n a c : ℕ) (rs : List RuleView) → AllByRecursion (IsRule n)
     → wins rs a ≡ true → wins rs c ≡ true
 unfolding wins
 wins-mono n a c [] all sub h = refl
-wins-mono n a c (r ∷ rs) all sub h =
-    let more = weight-mono r.weights a c (λ i lt. sub i (omega (arith, all.0.full))) in
-    let rest = wins-mono n a c rs all.1 sub in
-    grind (arith, nat_tests)
+wins-mono n a c (r ∷ rs) all sub h = grind (arith, nat_tests, wins-mono n a c rs all.1 sub, weight-mono)
 
 -- the digits of a subset are at most those of its set
 pub digits-less : (n a c : ℕ) → ((p : ℕ) → p < n → has n p a ≡ true → has n p c ≡ true) → (i : ℕ) → i < n → a / 2 ^ i % 2 ≤ c / 2 ^ i % 2

@@ -1,4 +1,5 @@
 -- The weight of a coalition, one binary digit after another.
+use Rattle.std.proofs.lemmas.Bool.Decides.{nat_tests}
 use Rattle.std.proofs.Common.{◌≡◌, ℕ, suc, ◌+◌, ◌-◌, ◌*◌, ◌/◌, ◌%◌, ◌^◌, ◌<◌, List, [], ◌∷◌, length, filter, slice_index, refl, sym, ap, ◌∙◌, arith}
 use Rattle.std.specs.List.{range_with_len, sum_by}
 use Rattle.std.proofs.lemmas.Bool.{cond_both, eqb-true, eqb-false}
@@ -34,8 +35,7 @@ from ws (v ∷ vs) m a c e same =
 
 weight-by_digits : (ws : List ℕ) (c : ℕ) → weight ws c ≡ by_digits ws c
 unfolding weight
-weight-by_digits ws c =
-    sym (from ws ws (length ws) 0 c (omega arith) (λ i below. ap (slice_index ws) (let z : 0 + i ≡ i = omega arith in z)))
+weight-by_digits ws c = grind (arith, nat_tests, from)
 
 pub weight-nil : (c : ℕ) → weight [] c ≡ 0
 unfolding by_digits

@@ -1,4 +1,5 @@
 -- The weight of a coalition, split at a prefix of its places.
+use Rattle.std.proofs.lemmas.Bool.Decides.{nat_tests}
 use Rattle.std.proofs.Common.{◌≡◌, ◌≢◌, ℕ, zero, suc, ◌+◌, ◌-◌, ◌*◌, ◌/◌, ◌%◌, ◌^◌, ◌<◌, ◌≤◌, List, [], ◌∷◌, ◌++◌, length, take, drop, get_or, sum, sym, ap, ◌∙◌, arith}
 use Rattle.std.proofs.lemmas.Nat.Bits.{bit_at_cat_low, bit_at_cat_high, bit_at-lt, bit_at-zero}
 use Rattle.std.proofs.lemmas.Nat.{div-add-mod', mod_below, pow_pos, mul-le, div-mul-add, mod-mul-add}
@@ -11,10 +12,7 @@ use Rattle.council_game.proofs.Monotone.{weight-mono}
 
 -- coalitions with the same digits at the places of ws weigh the same
 weight-same : (ws : List ℕ) (a c : ℕ) → ((i : ℕ) → i < length ws → a / 2 ^ i % 2 ≡ c / 2 ^ i % 2) → weight ws a ≡ weight ws c
-weight-same ws a c same =
-    let up = weight-mono ws a c (λ i lt. let e = same i lt in omega (arith, e)) in
-    let down = weight-mono ws c a (λ i lt. let e = same i lt in omega (arith, e)) in
-    omega (arith, up, down)
+weight-same ws a c same = grind (arith, nat_tests, weight-mono)
 
 -- digits above the places of vs weigh nothing
 pub weight-skip : (vs : List ℕ) (x r : ℕ) → weight vs (x * 2 ^ length vs + r) ≡ weight vs r
@@ -23,14 +21,7 @@ weight-skip vs x r = weight-same vs (x * 2 ^ length vs + r) r (λ i lt. bit_at_c
 -- the digits of two lists of places side by side
 pub weight-cat : (ws vs : List ℕ) (x r : ℕ) → r < 2 ^ length vs → weight (ws ++ vs) (x * 2 ^ length vs + r) ≡ weight ws x + weight vs r
 weight-cat [] vs x r h = weight-skip vs x r ∙ rw (weight-nil x) (omega arith)
-weight-cat (w ∷ ws) vs x r h =
-    let e : length (ws ++ vs) ≡ length ws + length vs = length-append ws vs in
-    let k : length (ws ++ vs) - length vs ≡ length ws = omega arith in
-    let top : (x * 2 ^ length vs + r) / 2 ^ length (ws ++ vs) % 2 ≡ x / 2 ^ (length (ws ++ vs) - length vs) % 2 =
-    bit_at_cat_high x (length vs) r (length (ws ++ vs)) h (omega arith) in
-    let top' : (x * 2 ^ length vs + r) / 2 ^ length (ws ++ vs) % 2 ≡ x / 2 ^ length ws % 2 = top ∙ ap (λ (i : ℕ). x / 2 ^ i % 2) k in
-    let tail = weight-cat ws vs x r h in
-    rw (weight-cons w (ws ++ vs) (x * 2 ^ length vs + r), weight-cons w ws x, top', tail) (omega arith)
+weight-cat (w ∷ ws) vs x r h = grind (arith, nat_tests, weight-cat ws vs x r h, length-append, bit_at_cat_high, weight-cons)
 
 pub weight-le : (ws : List ℕ) (c : ℕ) → weight ws c ≤ sum ws
 weight-le [] c = omega (arith, weight-nil c)
@@ -79,14 +70,11 @@ weight-one_more : (ws : List ℕ) (a c k q : ℕ) → k + 1 + q ≡ length ws �
     → ((i : ℕ) → i ≢ k → a / 2 ^ i % 2 ≡ c / 2 ^ i % 2)
     → weight ws a + get_or ws q 0 ≡ weight ws c
 weight-one_more [] a c k q place out inside same = absurd (omega arith)
-weight-one_more (w ∷ vs) a c k zero place out inside same =
-    grind (arith, weight-cons w vs a, weight-cons w vs c, weight-same vs a c (λ i lt. same i (omega arith)))
+weight-one_more (w ∷ vs) a c k zero place out inside same = grind (arith, nat_tests, weight-cons, weight-same)
 weight-one_more (w ∷ vs) a c k (suc q) place out inside same =
     grind (arith, weight-cons w vs a, weight-cons w vs c, same (length vs) (omega arith), weight-one_more vs a c k q (omega arith) out inside same)
 
 -- a set without one of its places weighs less by that place's weight
 pub weight-without : (ws : List ℕ) (q c : ℕ) → q < length ws → c / 2 ^ (length ws - 1 - q) % 2 ≡ 1
     → weight ws (c - 2 ^ (length ws - 1 - q)) + get_or ws q 0 ≡ weight ws c
-weight-without ws q c below inside =
-    weight-one_more ws (c - 2 ^ (length ws - 1 - q)) c (length ws - 1 - q) q (omega arith) (digit-gone c (length ws - 1 - q) inside) inside
-    (λ i other. digit-kept c (length ws - 1 - q) i inside other)
+weight-without ws q c below inside = grind (arith, nat_tests, weight-one_more, digit-gone, digit-kept)

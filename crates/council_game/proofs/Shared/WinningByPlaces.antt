@@ -1,5 +1,6 @@
 -- Whether a coalition wins, and is minimal, place by place and rule by rule.
-use Rattle.std.proofs.Common.{◌≡◌, ℕ, ◌+◌, ◌-◌, ◌*◌, ◌/◌, ◌%◌, ◌^◌, ◌<◌, ◌≤◌, true, false, leb, List, [], length, take, drop, get_or, sum, refl, sym, ap, subst, ◌∙◌, arith}
+use Rattle.std.proofs.lemmas.Grind.{common_steps}
+use Rattle.std.proofs.Common.{◌≡◌, ℕ, ◌+◌, ◌-◌, ◌*◌, ◌/◌, ◌%◌, ◌^◌, ◌<◌, ◌≤◌, true, false, List, length, take, get_or, sum, sym, ap, ◌∙◌, arith}
 use Rattle.std.proofs.lemmas.List.Elements.{All-from_recursion}
 use Rattle.std.proofs.lemmas.List.Sums.{sum_by-take-drop, sum_by-drop_more}
 use Rattle.std.proofs.lemmas.Nat.{shr-shr}
@@ -22,12 +23,7 @@ fixed-half x k p below =
 
 weight-next : (ws : List ℕ) (n m c p : ℕ) → m ≡ n → length ws ≡ n → p < n
     → weight (take (p + 1) ws) (c / 2 ^ (m - (p + 1))) ≡ weight (take p ws) (c / 2 ^ (m - p)) + c / 2 ^ (m - 1 - p) % 2 * get_or ws p 0
-weight-next ws n m c p e long below =
-    let y : c / 2 ^ (m - p) ≡ c / 2 ^ (m - (p + 1)) / 2 = fixed-half c m p (omega arith) in
-    let i : m - 1 - p ≡ m - (p + 1) = omega arith in
-    let whole : 2 * (c / 2 ^ (m - (p + 1)) / 2) + c / 2 ^ (m - (p + 1)) % 2 ≡ c / 2 ^ (m - (p + 1)) = omega arith in
-    let more = weight-more ws p (c / 2 ^ (m - (p + 1)) / 2) (c / 2 ^ (m - (p + 1)) % 2) (omega arith) (omega arith) in
-    ap (weight (take (p + 1) ws)) (sym whole) ∙ more ∙ rw (y, i) refl
+weight-next ws n m c p e long below = grind (arith, nat_tests, fixed-half, weight-more)
 
 pub weight-in : (ws : List ℕ) (n m c p s t : ℕ) → m ≡ n → length ws ≡ n → p < n → s ≡ weight (take p ws) (c / 2 ^ (m - p))
     → has m p c ≡ true → t ≡ s + get_or ws p 0 → t ≡ weight (take (p + 1) ws) (c / 2 ^ (m - (p + 1)))
@@ -43,21 +39,14 @@ pub rule-is : (v : Votes) (i : ℕ) → IsVotes v → i < length v.rules → IsR
 rule-is v i game below = All-from_recursion (IsRule v.members) v.rules game.rules i _ below
 
 pub partial-fits : (ws : List ℕ) (p x : ℕ) → p < length ws → weight (take p ws) x + get_or ws p 0 ≤ sum ws
-partial-fits ws p x below =
-    let cut : sum (take p ws) + sum (drop p ws) ≡ sum ws = sum_by-take-drop (λ (y : ℕ). y) ws p in
-    let here : sum (drop p ws) ≡ get_or ws p 0 + sum (drop (p + 1) ws) = sum_by-drop_more (λ (y : ℕ). y) ws p 0 below in
-    let most : weight (take p ws) x ≤ sum (take p ws) = weight-le (take p ws) x in
-    omega (arith, cut, here, most)
+partial-fits ws p x below = grind (arith, nat_tests, sum_by-take-drop, sum_by-drop_more, weight-le)
 
 pub weight-all : (ws : List ℕ) (p c s : ℕ) → length ws ≤ p → s ≡ weight (take p ws) (c / 2 ^ (length ws - p)) → s ≡ weight ws c
-weight-all ws p c s le is =
-    let none : length ws - p ≡ 0 = omega arith in
-    grind (arith, take_all p ws le)
+weight-all ws p c s le is = grind (arith, nat_tests, take_all)
 
 pub not-minimal : (v : Votes) (c p : ℕ) → p < v.members → has v.members p c ≡ true → wins v.rules (without v.members p c) ≡ true
     → minimal v c ≡ false
-not-minimal v c p below inside won =
-    false_from_ne_true _ (λ min. both_ways _ (((needs-each-member v c).0 min).1 p below inside) won)
+not-minimal v c p below inside won = grind (arith, nat_tests, false_from_ne_true, both_ways, needs-each-member)
 
 pub is-minimal : (v : Votes) (c p : ℕ) → v.members ≤ p → wins v.rules c ≡ true
     → ((q : ℕ) → q < p → has v.members q c ≡ true → wins v.rules (without v.members q c) ≡ false) → true ≡ minimal v c
@@ -76,17 +65,13 @@ count-rules rules = length-map rules rule_view
 
 pub held-rule : (n : ℕ) (rules : List Rule) (i : ℕ) (x : Rule) → IsVotes (votes n rules) → i < length rules → x ≡ get_or rules i x
     → IsRule n (rule_view x)
-held-rule n rules i x game below at =
-    subst (IsRule n) (rule-at rules i x below at) (rule-is (votes n rules) i game (omega (arith, count-rules rules)))
+held-rule n rules i x game below at = grind (arith, nat_tests, common_steps, rule-at, rule-is, count-rules)
 
 -- a rule's weight of a coalition without one of its places
 pub sum-without : (n : ℕ) (r : RuleView) (c p s : ℕ) → IsRule n r → p < n → has n p c ≡ true → s ≡ weight r.weights c
     → s - get_or r.weights p 0 ≡ weight r.weights (without n p c)
 unfolding has without
-sum-without n r c p s is below inside sums =
-    let len = is.full in
-    let less = weight-without r.weights p c in
-    grind (arith, nat_tests)
+sum-without n r c p s is below inside sums = grind (arith, nat_tests, weight-without)
 
 -- the same of a rule as the code holds it
 pub less-at : (n : ℕ) (rules : List Rule) (r c p s x y : ℕ) (rule : Rule) → IsVotes (votes n rules) → r < length rules
@@ -105,19 +90,13 @@ pub lost-at : (rules : List Rule) (r c s : ℕ) (rule : Rule) → r < length rul
     → s ≡ weight (rule_at (rule_views rules) r).weights c → s < rule.quota
     → wins (rule_views rules) c ≡ false
 unfolding wins
-lost-at rules r c s rule below at is less =
-    let own = ap (λ (v : RuleView). v.quota) (rule-at rules r rule below at) in
-    list_all_at (λ v. leb v.quota (weight v.weights c)) (rule_views rules) r (record { quota = 0; weights = [] }) (omega (arith, count-rules rules))
-    (grind (arith, nat_tests))
+lost-at rules r c s rule below at is less = grind (arith, nat_tests, rule-at, list_all_at, count-rules)
 
 pub won-at : (rules : List Rule) (r c s : ℕ) (rule : Rule) → r < length rules → rule ≡ get_or rules r rule
     → s ≡ weight (rule_at (rule_views rules) r).weights c
     → wins (take r (rule_views rules)) c ≡ true → rule.quota ≤ s → wins (take (r + 1) (rule_views rules)) c ≡ true
 unfolding wins
-won-at rules r c s rule below at is won more =
-    let own = ap (λ (v : RuleView). v.quota) (rule-at rules r rule below at) in
-    list_all_more (λ v. leb v.quota (weight v.weights c)) (rule_views rules) r (record { quota = 0; weights = [] }) (omega (arith, count-rules rules))
-    ∙ grind (arith, nat_tests)
+won-at rules r c s rule below at is won more = grind (arith, nat_tests, common_steps, rule-at, list_all_more, count-rules)
 
 pub wins-all : (rs : List RuleView) (i c : ℕ) → length rs ≤ i → wins (take i rs) c ≡ true → wins rs c ≡ true
 wins-all rs i c le won = ap (λ (l : List RuleView). wins l c) (sym (take_all i rs le)) ∙ won

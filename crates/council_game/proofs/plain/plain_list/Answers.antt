@@ -1,3 +1,4 @@
+use Rattle.std.proofs.lemmas.Grind.{common_steps}
 use Rattle.std.proofs.Common.{◌^◌, ◌<◌, ◌≤◌, ◌∙◌, ap, length, sym, arith}
 use Rattle.std.proofs.Math.Nat.{pow-le-pow_right}
 use Rattle.council_game.specs.Votes.{minimal_coalitions}
@@ -21,12 +22,7 @@ loop-mask-preserved-in-Continue-1 c = record {
 }
 
 pub loop-mask-preserved : goal.loop-mask-preserved
-loop-mask-preserved c = record {
-  range = omega (arith, c.loop-mask.invariant.range);
-  done = listed-less (votes_of c.args.game.now) c.loop-mask.list.items
-      (minimal_coalitions (votes_of c.args.game.now)) c.loop-mask.mask c.of_mask-coalition.result c.loop-mask-test.true
-      c.of_mask-coalition.ensures (sym c.is_minimal.ensures ∙ c.if-is_minimal.false) c.loop-mask.invariant.done;
-}
+loop-mask-preserved c = grind (arith, common_steps, listed-less)
 
 pub returns-clause-all : goal.returns-clause-all
 returns-clause-all c = listed-all (votes_of c.args.game.now) c.loop-mask.list.items (minimal_coalitions (votes_of c.args.game.now))

@@ -1,6 +1,7 @@
-use Rattle.std.proofs.Common.{◌≡◌, sym, arith, ◌∙◌, ap, ℕ, true, false, below_more}
+use Rattle.std.proofs.lemmas.Grind.{common_steps}
+use Rattle.std.proofs.Common.{sym, arith, ◌∙◌, ap, ℕ}
 use Rattle.std.proofs.lemmas.Bool.{both_ways}
-use Rattle.council_game.specs.Votes.{has, wins, without}
+use Rattle.council_game.specs.Votes.{wins, without}
 use Rattle.council_game.specs.Inner.Weighing.{votes}
 use Rattle.council_game.specs.Rules.{rule_views}
 use Rattle.council_game.proofs.Shared.WinningByPlaces.{not-minimal, is-minimal, lost-not_minimal}
@@ -8,10 +9,7 @@ use Rattle.council_game.proofs.winning.is_minimal.Goals as goal
 use Rattle.council_game.proofs.winning.is_minimal.Goals.{else-has-via-then-has+else-wins_without, else-has-via-else-has}
 
 pub returns-then-not-wins_weighed : goal.returns-then-not-wins_weighed
-returns-then-not-wins_weighed c =
-    let lost = ap (wins (rule_views c.args.rules.now)) (sym c.weigh-weighed.ensures.same) ∙ sym c.wins_weighed.ensures
-    ∙ c.if-not-wins_weighed.true in
-    lost-not_minimal (votes c.args.members c.args.rules.now) c.args.coalition lost
+returns-then-not-wins_weighed c = grind (arith, common_steps, lost-not_minimal)
 
 pub loop-place-init : goal.loop-place-init
 loop-place-init c = λ p below. absurd (omega arith)
@@ -24,22 +22,7 @@ returns-then-wins_without c =
     (sym c.has.ensures ∙ c.if-has.true) won)
 
 pub loop-place-preserved : goal.loop-place-preserved
-loop-place-preserved c =
-    elim c.else-has.branch [
-      | else-has-via-then-has+else-wins_without w ↦
-          let lost = ap (λ (m : ℕ). wins (rule_views c.args.rules.now) (without c.args.members c.loop-place.place m))
-          (sym c.weigh-weighed.ensures.same) ∙ sym w.wins_without.ensures ∙ w.if-wins_without.false in
-          below_more (λ p. has c.args.members p c.args.coalition ≡ true
-          → wins (rule_views c.args.rules.now) (without c.args.members p c.args.coalition) ≡ false) _
-          c.loop-place.invariant (λ inside. lost)
-      | else-has-via-else-has w ↦
-          below_more (λ p. has c.args.members p c.args.coalition ≡ true
-          → wins (rule_views c.args.rules.now) (without c.args.members p c.args.coalition) ≡ false) _ c.loop-place.invariant
-          (λ inside. absurd (both_ways _ (sym c.has.ensures ∙ w.if-has.false) inside))
-    ]
+loop-place-preserved c = grind (arith, common_steps, both_ways)
 
 pub returns : goal.returns
-returns c =
-    let won = ap (wins (rule_views c.args.rules.now)) (sym c.weigh-weighed.ensures.same) ∙ sym c.wins_weighed.ensures
-    ∙ c.if-not-wins_weighed.false in
-    is-minimal (votes c.args.members c.args.rules.now) c.args.coalition c.loop-place.place (omega arith) won c.loop-place.invariant
+returns c = grind (arith, common_steps, is-minimal)

@@ -1,6 +1,6 @@
 use Rattle.std.proofs.Common.{◌≡◌, ◌-◌, ◌≤◌, ℕ, subst, sym, ap, ◌∙◌, arith, bit_xor}
 use Rattle.std.specs.Int.{w64, leading_zeros}
-use Rattle.council_report.specs.Inner.Shared.{SameBefore}
+use Rattle.council_report.specs.Inner.SharedLine.{SameBefore}
 use Rattle.council_report.proofs.Differences.{Differs, differs}
 use Rattle.council_report.proofs.places.first_difference.Goals as goal
 

@@ -1,6 +1,6 @@
 use Rattle.std.proofs.Common.{◌-◌, ◌≤◌, ℕ, subst, sym}
 use Rattle.std.specs.Int.{w64, trailing_zeros}
-use Rattle.council_report.specs.Inner.Shared.{HasNoneFrom}
+use Rattle.council_report.specs.Inner.SharedLine.{HasNoneFrom}
 use Rattle.council_report.proofs.Differences.{none-behind}
 use Rattle.council_report.proofs.places.past_last.Goals as goal
 

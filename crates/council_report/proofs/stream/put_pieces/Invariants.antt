@@ -1,7 +1,7 @@
 use Rattle.std.proofs.Common.{take}
 use Rattle.std.specs.List.{flat_map}
 use Rattle.council_report.specs.Lines.{coalition_line}
-use Rattle.council_report.specs.Inner.Shared.{IsReadyLine}
+use Rattle.council_report.specs.Inner.SharedLine.{IsReadyLine}
 use Rattle.council_report.specs.Inner.Told.{progress_of}
 use Rattle.council_report.specs.Inner.Puts.{Lasts}
 use Rattle.council_report.proofs.stream.put_pieces.Given as goal

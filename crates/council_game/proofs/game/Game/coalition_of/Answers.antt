@@ -1,16 +1,12 @@
-use Rattle.std.proofs.Common.{length, get_or, refl, ap, ◌∙◌, arith}
+use Rattle.std.proofs.lemmas.Grind.{common_steps}
+use Rattle.std.proofs.Common.{get_or, refl, arith}
 use Rattle.std.proofs.lemmas.Nat.{pow_pos}
-use Rattle.council_game.specs.Votes.{has}
 use Rattle.coalitions.proofs.Shared.Digits.{has-none}
 use Rattle.council_game.proofs.Named.{taken-in}
 use Rattle.council_game.proofs.game.Game.coalition_of.Goals as goal
 
 pub loop-member-init : goal.loop-member-init
-loop-member-init c = record {
-  members = λ i lt. ap (has (length c.args.self.now.names) (get_or c.args.self.now.ranks i 0)) c.of_mask-coalition.ensures
-      ∙ has-none (length c.args.self.now.names) (get_or c.args.self.now.ranks i 0);
-  below = (let pos = pow_pos (length c.args.self.now.names) in omega (arith, pos, c.of_mask-coalition.ensures));
-}
+loop-member-init c = grind (arith, common_steps, has-none, pow_pos)
 
 pub loop-member-preserved : goal.loop-member-preserved
 loop-member-preserved c =

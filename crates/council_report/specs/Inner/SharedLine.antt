@@ -10,7 +10,7 @@ use Rattle.council_report.specs.Lines.{with_tab, name_of}
 use Rattle.council_report.specs.declared.output.TheConstants.{LINE}
 use Rattle.council_report.specs.declared.seat.Seat.{Seat}
 use Rattle.council_report.specs.declared.subtotal.Subtotal.{Subtotal}
-use Rattle.council_report.specs.declared.shared.SharedLine.{SharedLine}
+use Rattle.council_report.specs.declared.shared_line.SharedLine.{SharedLine}
 
 -- the places below k that are in c, in a game of n members
 unfoldable pub places_before : ℕ → ℕ → ℕ → List ℕ

@@ -1,5 +1,5 @@
 use Rattle.council_report.proofs.SharedLines.{line-kept, no_subtotal}
-use Rattle.council_report.proofs.shared.SharedLine.keep.Goals as goal
+use Rattle.council_report.proofs.shared_line.SharedLine.keep.Goals as goal
 
 pub returns-clause-line : goal.returns-clause-line
 returns-clause-line c =

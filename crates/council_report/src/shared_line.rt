@@ -5,7 +5,7 @@ ghost use Rattle.council_game.specs.Game.{votes_of};
 ghost use Rattle.council_game.specs.Votes.{has, rule_at, weight};
 ghost use Rattle.council_text.specs.Room.{MakesRoomFor};
 ghost use Rattle.council_report.specs.Lines.{coalition_line, with_tab, with_slashes, weights_of_coalition, names_of};
-ghost use Rattle.council_report.specs.Inner.Shared.{IsLine, IsReadyLine, IsWholeLine, SameBefore};
+ghost use Rattle.council_report.specs.Inner.SharedLine.{IsLine, IsReadyLine, IsWholeLine, SameBefore};
 
 use crate::lines::end_line;
 use crate::output::LINE;

@@ -6,7 +6,7 @@ use Rattle.std.proofs.lemmas.Grind.{common_steps}
 use Rattle.council_text.specs.Room.{MakesRoomFor}
 use Rattle.council_report.specs.Lines.{with_tab, names_of}
 use Rattle.council_report.proofs.SharedLines.{whole-names}
-use Rattle.council_report.proofs.shared.SharedLine.push_names.Goals as goal
+use Rattle.council_report.proofs.shared_line.SharedLine.push_names.Goals as goal
 
 pub returns-clause-items : goal.returns-clause-items
 returns-clause-items c =

@@ -1,7 +1,7 @@
 use Rattle.std.proofs.Common.{◌++◌, ℕ, List, length, sym, ap, ◌∙◌, subst, arith}
-use Rattle.council_report.specs.Inner.Shared.{IsSeat}
+use Rattle.council_report.specs.Inner.SharedLine.{IsSeat}
 use Rattle.council_report.proofs.SharedLines.{line-added, subtotal-more, no_subtotal, added-light, added-short}
-use Rattle.council_report.proofs.shared.SharedLine.add.Goals as goal
+use Rattle.council_report.proofs.shared_line.SharedLine.add.Goals as goal
 
 pub with-subtotal-requires-clause-weights : goal.with-subtotal-requires-clause-weights
 with-subtotal-requires-clause-weights c =

@@ -1,6 +1,6 @@
 use Rattle.std.proofs.Common.{◌≡◌, ◌-◌}
-use Rattle.council_report.specs.Inner.Shared.{IsLine}
-use Rattle.council_report.proofs.shared.SharedLine.move_to.Given as goal
+use Rattle.council_report.specs.Inner.SharedLine.{IsLine}
+use Rattle.council_report.proofs.shared_line.SharedLine.move_to.Given as goal
 
 -- it is a line of the coalition, as far as it has come
 abbrev pub invariant-loop-self : goal.invariant-loop-self

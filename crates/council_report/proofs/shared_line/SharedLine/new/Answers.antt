@@ -1,7 +1,7 @@
 use Rattle.std.proofs.Common.{◌^◌, ◌<◌, length, refl, arith}
 use Rattle.std.proofs.lemmas.Nat.{pow_pos}
 use Rattle.council_report.proofs.SharedLines.{line-first, none-subtotal}
-use Rattle.council_report.proofs.shared.SharedLine.new.Goals as goal
+use Rattle.council_report.proofs.shared_line.SharedLine.new.Goals as goal
 
 pub returns : goal.returns
 returns c =
