@@ -18,7 +18,7 @@ pub(crate) struct Seat {
 }
 
 /// The weights of the member of a rank place, one for each rule, and 0 past the last.
-#[tactic(auto, unfolding(crate::specs::Inner::Shared::weights_under))]
+#[tactic(auto, unfolding(crate::specs::Inner::SharedLine::weights_under))]
 fn weights_at(game: &Game, place: usize) -> [u64; limits::RULES]
     requires game { IsGame game.now }
     requires place { place < length game.now.names }
