@@ -1,5 +1,5 @@
 -- The places of a coalition, one by one, and what their members add to a line.
-use Rattle.std.proofs.Common.{◌≡◌, ℕ, zero, suc, ◌+◌, ◌-◌, ◌<◌, ◌≤◌, ◌++◌, Bool, true, false, cond, List, [], ◌∷◌, length, map, sum, filter, take, drop, slice_index, refl, sym, ap, ◌∙◌, arith, inl, inr}
+use Rattle.std.proofs.Common.{◌≡◌, ℕ, zero, suc, ◌+◌, ◌-◌, ◌<◌, ◌≤◌, ◌++◌, Bool, true, false, cond, List, [], ◌∷◌, length, filter, take, drop, slice_index, refl, sym, ap, ◌∙◌, arith, inl, inr}
 use Rattle.std.specs.List.{flat_map, range_with_len, AllByRecursion}
 use Rattle.std.proofs.lemmas.Bool.{cases_lt, cond-true, cond-false}
 use Rattle.std.proofs.lemmas.Grind.{flat_map-append}
@@ -7,7 +7,8 @@ use Rattle.std.proofs.lemmas.List.{map-append, map-id, append-nil, length-map, g
 use Rattle.std.proofs.lemmas.List.Elements.{All-from_recursion, filter-append}
 use Rattle.std.proofs.lemmas.List.FromFn.{filter_of_map_range_with_len_more, take-map-range_with_len, length-range_with_len}
 use Rattle.std.proofs.lemmas.List.Sums.{sum_by-append, sum_by-cons}
-use Rattle.council_game.specs.Votes.{RuleView, IsRule, has, weight, rule_at}
+use Rattle.std.proofs.lemmas.Bool.Decides.{nat_tests}
+use Rattle.council_game.specs.Votes.{IsRule, has, weight, rule_at}
 use Rattle.council_game.specs.Game.{GameView, IsGame, votes_of}
 use Rattle.council_game.proofs.Shared.Games.{votes-are}
 use Rattle.council_game.proofs.Shared.Meanings.{weighs-its-members}
@@ -30,9 +31,7 @@ pub before-in : (n c k : ℕ) → has n k c ≡ true → places_before n c (k + 
 before-in n c k in' = before-more n c k ∙ ap (λ (ps : List ℕ). places_before n c k ++ ps) (cond-true (has n k c) (k ∷ []) [] in')
 
 pub before-out : (n c k : ℕ) → has n k c ≡ false → places_before n c (k + 1) ≡ places_before n c k
-before-out n c k out =
-    before-more n c k ∙ ap (λ (ps : List ℕ). places_before n c k ++ ps) (cond-false (has n k c) (k ∷ []) [] out)
-    ∙ append-nil (places_before n c k)
+before-out n c k out = grind (arith, nat_tests, before-more, cond-false, append-nil)
 
 -- two coalitions with the same of them
 pub before-same : (n a b k : ℕ) → SameBefore n k a b → places_before n a k ≡ places_before n b k
@@ -80,9 +79,7 @@ before-few n c k = omega (arith, length-filter-le (λ p. has n p c) (range_with_
 -- ---- the names
 pub fields-append : (g : GameView) (ps qs : List ℕ) → fields_of g (ps ++ qs) ≡ fields_of g ps ++ fields_of g qs
 unfolding fields_of
-fields-append g ps qs =
-    ap (flat_map with_tab) (map-append (λ p. name_at g p) ps qs)
-    ∙ flat_map-append with_tab (map (λ p. name_at g p) ps) (map (λ p. name_at g p) qs)
+fields-append g ps qs = grind (arith, nat_tests, map-append, flat_map-append)
 
 pub fields-more : (g : GameView) (ps : List ℕ) (p : ℕ) → fields_of g (ps ++ p ∷ []) ≡ fields_of g ps ++ with_tab (name_at g p)
 unfolding fields_of
@@ -98,19 +95,13 @@ fields-all g c = refl
 
 pub fields-fit : (g : GameView) → IsGame g → (c k : ℕ) → k ≤ 40 → length (fields_of g (places_before (length g.names) c k)) ≤ 3400
 unfolding fields_of
-fields-fit g game c k few =
-    let ps : List ℕ = places_before (length g.names) c k in
-    let name : ℕ → List ℕ = λ p. name_at g p in
-    let fit = with_tab-fits (map name ps) (each-field name (λ p. name-fits g game _) ps) in
-    omega (arith, fit, length-map ps name, before-few (length g.names) c k, few)
+fields-fit g game c k few = grind (arith, nat_tests, with_tab-fits, each-field, name-fits, length-map, before-few)
 
 -- ---- the weights
 weights-append : (g : GameView) (r : ℕ) (ps qs : List ℕ)
     → weight_of_places g r (ps ++ qs) ≡ weight_of_places g r ps + weight_of_places g r qs
 unfolding weight_of_places
-weights-append g r ps qs =
-    let w : ℕ → ℕ = λ p. slice_index (weights_under g r) p in
-    ap (λ (t : List ℕ). sum t) (map-append w ps qs) ∙ sum_by-append (λ (y : ℕ). y) (map w ps) (map w qs)
+weights-append g r ps qs = grind (arith, nat_tests, map-append, sum_by-append)
 
 pub weights-none : (g : GameView) (r : ℕ) → weight_of_places g r [] ≡ 0
 unfolding weight_of_places
@@ -119,10 +110,7 @@ weights-none g r = refl
 pub weights-more : (g : GameView) (r : ℕ) (ps : List ℕ) (p : ℕ)
     → weight_of_places g r (ps ++ p ∷ []) ≡ weight_of_places g r ps + slice_index (weights_under g r) p
 unfolding weight_of_places
-weights-more g r ps p =
-    let w : ℕ → ℕ = λ q. slice_index (weights_under g r) q in
-    let last : weight_of_places g r (p ∷ []) ≡ w p + sum (map w []) = sum_by-cons (λ (y : ℕ). y) (w p) (map w []) in
-    omega (arith, weights-append g r ps (p ∷ []), last, weights-none g r)
+weights-more g r ps p = grind (arith, nat_tests, sum_by-cons, weights-append, weights-none)
 
 -- a rule of the game
 pub rule-is : (g : GameView) → IsGame g → (r : ℕ) → r < length g.rules → IsRule (length g.names) (rule_at (votes_of g).rules r)
@@ -135,20 +123,12 @@ rule-is g game r lt =
 pub weights-all : (g : GameView) → IsGame g → (r c : ℕ) → r < length g.rules
     → weight_of_places g r (places_before (length g.names) c (length g.names)) ≡ weight (rule_at (votes_of g).rules r).weights c
 unfolding weight_of_places weights_under places_before
-weights-all g game r c lt =
-    let rule = rule-is g game r lt in
-    let ws : List ℕ = (rule_at (votes_of g).rules r).weights in
-    ap (λ (n : ℕ). sum (map (λ p. slice_index ws p) (filter (λ p. has n p c) (range_with_len 0 n)))) (sym rule.full)
-    ∙ sym (weighs-its-members ws c)
+weights-all g game r c lt = grind (arith, nat_tests, rule-is, weighs-its-members)
 
 -- where there is no rule, nothing weighs anything
 pub under-none : (g : GameView) (r p : ℕ) → length g.rules ≤ r → slice_index (weights_under g r) p ≡ 0
 unfolding weights_under
-under-none g r p past =
-    let long : length (votes_of g).rules ≡ length g.rules = length-map g.rules _ in
-    let none : rule_at (votes_of g).rules r ≡ record { quota = 0; weights = [] } =
-    get_or_past (votes_of g).rules r _ (omega (arith, long, past)) in
-    ap (λ (v : RuleView). slice_index v.weights p) none
+under-none g r p past = grind (arith, nat_tests, length-map, get_or_past)
 
 weights-past : (g : GameView) (r : ℕ) → length g.rules ≤ r → (ps : List ℕ) → weight_of_places g r ps ≡ 0
 weights-past g r past [] = weights-none g r

@@ -1,5 +1,5 @@
 -- No line of coalitions, sizes or members is longer than the room that a block keeps for it.
-use Rattle.std.proofs.Common.{◌≡◌, ℕ, ◌+◌, ◌*◌, ◌^◌, ◌<◌, ◌≤◌, ◌++◌, List, [], ◌∷◌, length, get_or, map, codes, decimal, Bool, cond, true, zero, suc, ◌==◌, arith, length-append, subst, sym, ap}
+use Rattle.std.proofs.Common.{◌≡◌, ℕ, ◌+◌, ◌*◌, ◌^◌, ◌<◌, ◌≤◌, ◌++◌, List, [], ◌∷◌, length, get_or, map, codes, decimal, Bool, cond, true, zero, suc, ◌==◌, arith, length-append, ap}
 use Rattle.std.specs.List.{All, AllByRecursion, flat_map, range_with_len}
 use Rattle.std.proofs.lemmas.Fmt.{length-decimal-le, length-decimal-le_wide}
 use Rattle.std.proofs.lemmas.Bool.{cond_both}
@@ -8,6 +8,7 @@ use Rattle.std.proofs.lemmas.List.Concat.{length-flat_map}
 use Rattle.std.proofs.lemmas.List.Sums.{sum_by-le}
 use Rattle.std.proofs.lemmas.List.FromFn.{length-range_with_len, length-map-range_with_len, get_or-range_with_len}
 use Rattle.std.proofs.lemmas.List.Elements.{All-from_recursion}
+use Rattle.std.proofs.lemmas.Bool.Decides.{nat_tests}
 use Rattle.council_game.specs.Votes.{RuleView, IsRule, places_of, size, weight}
 use Rattle.council_game.specs.Ranks.{member_at}
 use Rattle.council_game.specs.Game.{GameView, IsGame, votes_of}
@@ -21,8 +22,7 @@ use Rattle.power_index.proofs.Shared.Members.{few-members, size-le}
 use Rattle.power_index.proofs.Shared.Small.{AreBelow, deegan_packel-wide, public_good-wide}
 use Rattle.council_report.specs.declared.counted.Counted.{Counted}
 use Rattle.council_report.specs.declared.shown.Shown.{Shown}
-use Rattle.council_report.specs.Report.{coalition_lines}
-use Rattle.council_report.specs.Inner.Lines.{line_of_size, line_of_member, lines_of_sizes, lines_of_members, lines_of}
+use Rattle.council_report.specs.Inner.Lines.{line_of_size, line_of_member, lines_of}
 use Rattle.council_report.specs.Lines.{with_tab, line, with_slashes, name_of, names_of, weights_of_coalition, weights_of_member, index_fields, coalition_line, size_line, member_line}
 
 -- a field of a line
@@ -38,11 +38,7 @@ with_tab-fits fields h =
 -- a line of at most 42 fields
 line-fits : (word : List ℕ) (fields : List (List ℕ)) → length word ≤ 9 → length fields ≤ 42 → AllByRecursion IsField fields
     → length (line word fields) ≤ 4096
-line-fits word fields short few h =
-    let fit = with_tab-fits fields h in
-    let whole : length (line word fields) ≡ length (word ++ flat_map with_tab fields) + 1 =
-    length-append (word ++ flat_map with_tab fields) (10 ∷ []) in
-    omega (arith, fit, short, few, whole, length-append word (flat_map with_tab fields))
+line-fits word fields short few h = grind (arith, nat_tests, with_tab-fits, length-append)
 
 -- ---- fields of numbers
 number-fits : (n : ℕ) → n < 2 ^ 64 → length (decimal n) ≤ 20
@@ -169,12 +165,7 @@ rows-fit f xs all = rw (length-flat_map f xs) (sum_by-le (λ x. length (f x)) 40
 -- those of n numbers from a on
 numbers-fit : (f : ℕ → List ℕ) (a n : ℕ) → ((k : ℕ) → k < n → length (f (a + k)) ≤ 4096)
     → length (flat_map f (range_with_len a n)) ≤ n * 4096
-numbers-fit f a n h =
-    let long = length-range_with_len a n in
-    let all = rows-fit f (range_with_len a n) (λ i d lt.
-    let below : i < n = omega (arith, long, lt) in
-    subst (λ k. length (f k) ≤ 4096) (sym (get_or-range_with_len a n i d below)) (h i below)) in
-    omega (arith, all, long)
+numbers-fit f a n h = grind (arith, nat_tests, length-range_with_len, rows-fit, get_or-range_with_len)
 
 chosen-fits : (b : Bool) (text : List ℕ) (n : ℕ) → (b ≡ true → length text ≤ n) → length (cond b text []) ≤ n
 chosen-fits b text n h = cond_both b text [] (λ t. length t ≤ n) h (λ _. omega arith)
@@ -184,14 +175,4 @@ pub lines-count : (shown : Shown) (k : Counted) (list : List ℕ) (told : ℕ) �
     → told + length (lines_of shown k list) < 2 ^ 64
 unfolding lines_of
 lines-count shown k list told few small =
-    let g : GameView = k.game.now in
-    let n : ℕ = k.members in
-    let forty : n ≤ 40 = omega (arith, k.sound.few_members, k.counted_members) in
-    let coalitions : length (coalition_lines shown g list) ≤ 2 ^ 52 = chosen-fits shown.list _ (2 ^ 52) (λ on.
-    let fit = rows-fit (coalition_line g) list (λ i d lt. coalition-fits g k.is_game (get_or list i d)) in omega (arith, fit, few on)) in
-    let sizes : length (lines_of_sizes shown k) ≤ 163840 = chosen-fits shown.sizes _ 163840 (λ _.
-    let fit = numbers-fit (line_of_size k) 1 n (λ s lt. size-fits k (1 + s) (omega (arith, lt))) in omega (arith, fit, forty)) in
-    let members = numbers-fit (line_of_member k) 0 n (λ i lt. member-fits k (0 + i) (omega (arith, lt))) in
-    let first = length-append (coalition_lines shown g list ++ lines_of_sizes shown k) (lines_of_members k) in
-    let second = length-append (coalition_lines shown g list) (lines_of_sizes shown k) in
-    omega (arith, coalitions, sizes, members, forty, first, second, small)
+    grind (arith, nat_tests, chosen-fits, rows-fit, coalition-fits, numbers-fit, size-fits, member-fits, length-append)

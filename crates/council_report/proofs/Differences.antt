@@ -1,25 +1,19 @@
 -- Where two coalitions differ first, and where the last member of one is.
-use Rattle.std.proofs.Common.{◌≡◌, ℕ, suc, ◌+◌, ◌-◌, ◌/◌, ◌%◌, ◌^◌, ◌<◌, ◌≤◌, ◌==◌, bit_xor, sym, ap, ◌∙◌, arith, inl, inr}
+use Rattle.std.proofs.Common.{◌≡◌, ℕ, suc, ◌+◌, ◌-◌, ◌/◌, ◌%◌, ◌^◌, ◌<◌, ◌≤◌, ◌==◌, bit_xor, ap, arith, inl, inr}
 use Rattle.std.specs.Int.{w64, leading_zeros, trailing_zeros}
 use Rattle.std.proofs.lemmas.Bool.{cases_lt}
 use Rattle.std.proofs.lemmas.Nat.{leading_length, xor_lt}
 use Rattle.std.proofs.lemmas.Nat.Bits.{bit_at_xor, bit_at_above, bit_at-lt, bit_at-trailing_zeros}
 use Rattle.std.proofs.Math.Nat.{pow-suc}
 use Rattle.std.proofs.Math.Pow.{pow_mono}
+use Rattle.std.proofs.lemmas.Bool.Decides.{nat_tests}
 use Rattle.council_game.specs.Votes.{has}
 use Rattle.coalitions.proofs.Shared.Digits.{lowest-place}
 use Rattle.council_report.specs.Inner.SharedLine.{HasNoneFrom, SameBefore}
 
 -- equal digits
 same-digit : (a b i : ℕ) → bit_xor a b / 2 ^ i % 2 ≡ 0 → a / 2 ^ i % 2 ≡ b / 2 ^ i % 2
-same-digit a b i none =
-    let both = bit_at_xor a b i in
-    let first = bit_at-lt a i in
-    let second = bit_at-lt b i in
-    digits (a / 2 ^ i % 2) (b / 2 ^ i % 2) first second (sym both ∙ none)
-  where
-    digits : (x y : ℕ) → x < 2 → y < 2 → (x + y) % 2 ≡ 0 → x ≡ y
-    digits x y lx ly e = omega arith
+same-digit a b i none = grind (arith, nat_tests, bit_at_xor, bit_at-lt)
 
 -- how many binary digits their difference x has
 pub record Differs (n a b x : ℕ) : Type 0 where

@@ -1,8 +1,9 @@
 -- Lists in pieces.
-use Rattle.std.proofs.Common.{◌≡◌, ◌++◌, ℕ, List, [], ◌∷◌, true, refl, sym, ap, ◌∙◌}
+use Rattle.std.proofs.Common.{◌≡◌, ℕ, List, [], ◌∷◌, true, refl, sym, ◌∙◌, arith}
 use Rattle.std.specs.List.{flat_map}
 use Rattle.std.proofs.lemmas.Bool.{cond-true}
 use Rattle.std.proofs.lemmas.Grind.{flat_map-append}
+use Rattle.std.proofs.lemmas.Bool.Decides.{nat_tests}
 use Rattle.council_game.specs.Game.{GameView}
 use Rattle.council_report.specs.declared.shown.Shown.{Shown}
 use Rattle.council_report.specs.Lines.{coalition_line}
@@ -12,8 +13,7 @@ use Rattle.council_report.specs.Report.{coalition_lines}
 pub texts-joined : {X Y Z : Type 0} (f : Y → List Z) (h : X → List Y) (xs : List X)
     → flat_map (λ x. flat_map f (h x)) xs ≡ flat_map f (flat_map h xs)
 texts-joined f h [] = refl
-texts-joined {Z} f h (x ∷ xs) =
-    ap (λ (t : List Z). flat_map f (h x) ++ t) (texts-joined f h xs) ∙ sym (flat_map-append f (h x) (flat_map h xs))
+texts-joined {Z} f h (x ∷ xs) = grind (arith, nat_tests, texts-joined f h xs, flat_map-append)
 
 -- where they are shown, they are the lines of the list
 pub listed-text : {X : Type 0} (shown : Shown) (g : GameView) (h : X → List ℕ) (pieces : List X) → shown.list ≡ true

@@ -1,11 +1,12 @@
 -- A line at its end, one place more, and cut at a place.
-use Rattle.std.proofs.Common.{◌≡◌, ◌≢◌, ℕ, ◌+◌, ◌^◌, ◌<◌, ◌≤◌, ◌++◌, true, false, List, [], ◌∷◌, length, take, get_or, Vec, set, sym, ap, ◌∙◌, subst, arith, inl, inr, length-append}
+use Rattle.std.proofs.Common.{◌≡◌, ℕ, ◌+◌, ◌^◌, ◌<◌, ◌≤◌, ◌++◌, true, false, List, [], ◌∷◌, length, take, get_or, Vec, set, sym, ap, ◌∙◌, subst, arith, length-append}
 use Rattle.std.specs.Global.{Global}
 use Rattle.std.specs.Vec.{vec_capacity}
 use Rattle.std.specs.List.{flat_map}
 use Rattle.std.proofs.Math.Seq.{take-append_seam}
 use Rattle.std.proofs.lemmas.Bool.{cases_lt}
 use Rattle.std.proofs.lemmas.List.{get_or-set_other, get_or-set_same, length-set}
+use Rattle.std.proofs.lemmas.Bool.Decides.{nat_tests}
 use Rattle.council_game.specs.Votes.{has, weight, rule_at}
 use Rattle.council_game.specs.Game.{GameView, IsGame, votes_of}
 use Rattle.power_index.proofs.Shared.Members.{few-members}
@@ -53,18 +54,7 @@ subtotals-more : (g : GameView) (c : ℕ) (sums : List Subtotal) (k : ℕ) (next
     ((j : ℕ) (d : Subtotal) → j ≤ k → IsSubtotal g (places_before (length g.names) c j) (get_or sums j d)) →
     IsSubtotal g (places_before (length g.names) c (k + 1)) next →
     (j : ℕ) (d : Subtotal) → j ≤ k + 1 → IsSubtotal g (places_before (length g.names) c j) (get_or (set sums (k + 1) next) j d)
-subtotals-more g c sums k next long few each last j d le =
-    elim (cases_lt j (k + 1)) [
-      | inl lt ↦
-          let other : j ≢ k + 1 = omega arith in
-          subst (λ (m : Subtotal). IsSubtotal g (places_before (length g.names) c j) m) (sym (get_or-set_other sums (k + 1) j next d other))
-          (each j d (omega (arith, lt)))
-      | inr ge ↦
-          let at : k + 1 ≡ j = omega (arith, ge, le) in
-          subst (λ (i : ℕ). IsSubtotal g (places_before (length g.names) c i) (get_or (set sums (k + 1) next) i d)) at
-          (subst (λ (m : Subtotal). IsSubtotal g (places_before (length g.names) c (k + 1)) m)
-          (sym (get_or-set_same sums (k + 1) next d (omega (arith, long, few)))) last)
-    ]
+subtotals-more g c sums k next long few each last j d le = grind (arith, nat_tests, cases_lt, get_or-set_other, get_or-set_same)
 
 -- the next place, which is not in
 pub line-passed : (g : GameView) (line : SharedLine) (d : Subtotal) → IsLine g line → line.end < length g.names
@@ -91,14 +81,7 @@ pub subtotal-more : (g : GameView) (ps : List ℕ) (p : ℕ) (now next : Subtota
     next.length ≡ now.length + length seat.field.items → length next.weights ≡ 4 →
     ((r : ℕ) → r < 4 → get_or next.weights r 0 ≡ get_or now.weights r 0 + get_or seat.weights r 0) →
     IsSubtotal g (ps ++ p ∷ []) next
-subtotal-more g ps p now next seat is seat-is long four sums = record {
-  names =
-      let field = ap (λ (t : List ℕ). length t) seat-is.field in
-      let whole = ap (λ (t : List ℕ). length t) (fields-more g ps p) in
-      omega (arith, long, is.names, field, whole, length-append (fields_of g ps) (with_tab (name_at g p)));
-  long = four;
-  weights = λ r lt. omega (arith, sums r lt, is.weights r lt, seat-is.weights r lt, weights-more g r ps p);
-}
+subtotal-more g ps p now next seat is seat-is long four sums = grind (arith, nat_tests, fields-more, length-append, weights-more)
 
 -- the next place, which is in
 pub line-added : (g : GameView) (line : SharedLine) (names : Vec ℕ Global) (subtotal : Subtotal) (seat : Seat) → IsLine g line
@@ -107,23 +90,7 @@ pub line-added : (g : GameView) (line : SharedLine) (names : Vec ℕ Global) (su
     names.items ≡ line.names.items ++ seat.field.items → vec_capacity line.names ≤ vec_capacity names →
     IsLine g (record line { names = names; end = line.end + 1; subtotals = set line.subtotals (line.end + 1) subtotal })
 line-added g line names subtotal seat is more in' seat-is subtotal-is put room =
-    let n : ℕ = length g.names in
-    let next = before-in n line.coalition line.end in' in
-    record {
-      game = is.game;
-      few = is.few;
-      seats = is.seats;
-      room = omega (arith, room, is.room);
-      within = omega (arith, more);
-      names =
-          put ∙ ap (λ (t : List ℕ). t ++ seat.field.items) is.names
-          ∙ ap (λ (t : List ℕ). fields_of g (places_before n line.coalition line.end) ++ t) seat-is.field
-          ∙ sym (fields-more g (places_before n line.coalition line.end) line.end)
-          ∙ ap (fields_of g) (sym next);
-      long = length-set line.subtotals (line.end + 1) subtotal ∙ is.long;
-      subtotals = subtotals-more g line.coalition line.subtotals line.end subtotal is.long (omega (arith, more, is.few)) is.subtotals
-          (subst (λ (ps : List ℕ). IsSubtotal g ps subtotal) (sym next) subtotal-is);
-    }
+    grind (arith, nat_tests, before-in, fields-more, length-set, subtotals-more)
 
 -- with the next place, which is in, no sum wraps
 pub added-light : (g : GameView) (line : SharedLine) (d : Subtotal) (seat : Seat) → IsLine g line → line.end < length g.names
@@ -152,47 +119,18 @@ added-short g line seat is more in' seat-is =
 
 -- ---- the whole line
 pub whole-names : (g : GameView) (c : ℕ) (line : SharedLine) → IsWholeLine g c line → line.names.items ≡ flat_map with_tab (names_of g c)
-whole-names g c line w =
-    let n : ℕ = length g.names in
-    w.is.names ∙ ap (λ (x : ℕ). fields_of g (places_before n x line.end)) w.coalition
-    ∙ ap (fields_of g) (sym (before-all n c line.end w.is.within w.whole)) ∙ fields-all g c
+whole-names g c line w = grind (arith, nat_tests, before-all, fields-all)
 
 pub whole_weight : (g : GameView) (c : ℕ) (line : SharedLine) (d : Subtotal) → IsWholeLine g c line → (r : ℕ) → r < length g.rules
     → get_or (get_or line.subtotals line.end d).weights r 0 ≡ weight (rule_at (votes_of g).rules r).weights c
-whole_weight g c line d w r lt =
-    let n : ℕ = length g.names in
-    let four = w.is.game.few_rules in
-    (w.is.subtotals line.end d (omega arith)).weights r (omega (arith, lt, four))
-    ∙ ap (λ (x : ℕ). weight_of_places g r (places_before n x line.end)) w.coalition
-    ∙ ap (weight_of_places g r) (sym (before-all n c line.end w.is.within w.whole))
-    ∙ weights-all g w.is.game r c lt
+whole_weight g c line d w r lt = grind (arith, nat_tests, before-all, weights-all)
 
 -- ---- the line of no member
 pub none-subtotal : (g : GameView) (sum : Subtotal) → sum.length ≡ 0 → length sum.weights ≡ 4 → ((r : ℕ) → get_or sum.weights r 0 ≡ 0)
     → IsSubtotal g [] sum
-none-subtotal g sum none four light = record {
-  names = none ∙ sym (ap (λ (t : List ℕ). length t) (fields-none g));
-  long = four;
-  weights = λ r lt. light r ∙ sym (weights-none g r);
-}
+none-subtotal g sum none four light = grind (arith, nat_tests, fields-none, weights-none)
 
 pub line-first : (g : GameView) (line : SharedLine) → IsGame g → AreSeats g (length g.names) line.seats.items → line.end ≡ 0
     → line.names.items ≡ [] → 4096 ≤ vec_capacity line.names → length line.subtotals ≡ 41 →
     ((d : Subtotal) → IsSubtotal g [] (get_or line.subtotals 0 d)) → IsLine g line
-line-first g line game seats start none room long subtotal =
-    let n : ℕ = length g.names in
-    let first : (k : ℕ) → k ≤ line.end → places_before n line.coalition k ≡ [] = λ k le.
-    ap (places_before n line.coalition) (let e : k ≡ 0 = omega (arith, le, start) in e) ∙ before-none n line.coalition in
-    record {
-      game = game;
-      few = few-members g game;
-      seats = seats;
-      room = room;
-      within = omega (arith, start);
-      names = none ∙ sym (fields-none g) ∙ ap (fields_of g) (sym (first line.end (omega arith)));
-      long = long;
-      subtotals = λ k d le.
-          let at : 0 ≡ k = omega (arith, le, start) in
-          subst (λ (ps : List ℕ). IsSubtotal g ps (get_or line.subtotals k d)) (sym (first k le))
-          (subst (λ (i : ℕ). IsSubtotal g [] (get_or line.subtotals i d)) at (subtotal d));
-    }
+line-first g line game seats start none room long subtotal = grind (arith, nat_tests, before-none, few-members, fields-none)

@@ -3,6 +3,7 @@ use Rattle.std.proofs.Common.{◌≡◌, ◌++◌, ℕ, List, [], length, Option
 use Rattle.std.specs.Io.KnownBytes.{Appends}
 use Rattle.std.proofs.KnownBytes.{Appends-trans}
 use Rattle.std.proofs.lemmas.List.{append-nil}
+use Rattle.std.proofs.lemmas.Bool.Decides.{nat_tests}
 use Rattle.council_report.specs.Inner.Told.{Progress, progress_of, Tells, HasStopped, StopsIn}
 use Rattle.council_report.specs.declared.output.Block.{Block}
 
@@ -31,14 +32,7 @@ tells-block contents a b text same more = record {
 }
 
 pub stopped-first : (a : Progress) (x y : List ℕ) (held : Option (List ℕ)) (n : ℕ) → StopsIn a x held n → StopsIn a (x ++ y) held n
-stopped-first a x y held n s = record {
-  front = s.front;
-  rest = s.rest ++ y;
-  at = s.at;
-  whole = sym (append_assoc s.front s.rest y) ∙ ap (λ (t : List ℕ). t ++ y) s.whole;
-  tells = s.tells;
-  stopped = s.stopped;
-}
+stopped-first a x y held n s = grind (arith, nat_tests, append_assoc)
 
 pub stopped-next : (a b : Progress) (x y : List ℕ) (held : Option (List ℕ)) (n : ℕ) → Tells a b x → StopsIn b y held n
     → StopsIn a (x ++ y) held n

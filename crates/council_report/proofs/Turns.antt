@@ -5,6 +5,7 @@ use Rattle.std.proofs.lemmas.Grind.{flat_map-append}
 use Rattle.std.proofs.lemmas.List.{take_all, take_more, take-append-drop}
 use Rattle.std.proofs.lemmas.List.Folds.{length-flat_map-take}
 use Rattle.std.proofs.lemmas.List.FromFn.{get_or-range_with_len, length-range_with_len}
+use Rattle.std.proofs.lemmas.Bool.Decides.{nat_tests}
 use Rattle.council_report.specs.Inner.Told.{Progress, Tells, StopsIn}
 use Rattle.council_report.proofs.Rows.{rows-more}
 use Rattle.council_report.proofs.Telling.{tells-then, stopped-first, stopped-next}
@@ -43,11 +44,9 @@ turn-stopped {a = a} {b = b} f {xs} {i} {x} {held} {n} next before stopped =
 -- the number of bytes told so far and of the next text is no greater than with all the texts
 pub turn-counts : {X : Type 0} {a b : Progress} (f : X → List ℕ) {xs : List X} {i : ℕ} {x : X}
     → IsNext xs i x → Tells a b (flat_map f (take i xs)) → a.count + length (flat_map f xs) < 2 ^ 64 → b.count + length (f x) < 2 ^ 64
-turn-counts f {xs} {i} {x} next before few =
-    omega (arith, before.count, few, ap (λ y. length (f y)) next.is, length-flat_map-take f xs i x next.below)
+turn-counts f {xs} {i} {x} next before few = grind (arith, nat_tests, length-flat_map-take)
 
 -- all of the numbers from a on
 pub numbers-told : {a b : Progress} (f : ℕ → List ℕ) (from n i : ℕ) → n ≤ i
     → Tells a b (flat_map f (take i (range_with_len from n))) → Tells a b (flat_map f (range_with_len from n))
-numbers-told {a} {b} f from n i le tells =
-    subst (Tells a b) (ap (flat_map f) (take_all i (range_with_len from n) (rw length-range_with_len le))) tells
+numbers-told {a} {b} f from n i le tells = grind (arith, nat_tests, take_all, length-range_with_len)

@@ -4,6 +4,7 @@ use Rattle.std.specs.Io.KnownBytes.{Appends}
 use Rattle.std.proofs.KnownBytes.{Appends-trans}
 use Rattle.std.proofs.Math.Seq.{take-append-add}
 use Rattle.std.proofs.lemmas.List.{take-append-le}
+use Rattle.std.proofs.lemmas.Bool.Decides.{nat_tests}
 use Rattle.council_report.specs.Inner.Told.{progress_of, HoldsBut, StopsIn}
 use Rattle.council_report.specs.declared.output.Block.{Block}
 
@@ -12,8 +13,7 @@ after-none {b = b} more none = more ∙ ap (λ (t : List ℕ). t ++ b) none
 
 pub counts-whole : (count : ℕ) (block : Block) (heading lines : List ℕ) → block.written ≡ 0 → block.bytes.items ≡ heading
     → count ≡ block.written + length block.bytes.items + length lines → count ≡ length (heading ++ lines)
-counts-whole count block heading lines none is told =
-    omega (arith, told, none, ap (λ (t : List ℕ). length t) is, length-append heading lines)
+counts-whole count block heading lines none is told = grind (arith, nat_tests, length-append)
 
 -- the block held the heading, and the writer what it held before
 appends-heading : (contents : Option (List ℕ)) (heading : List ℕ) → Appends contents (option_map (λ held. held ++ heading) contents) heading

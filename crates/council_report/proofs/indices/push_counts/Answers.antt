@@ -1,6 +1,7 @@
-use Rattle.std.proofs.Common.{◌≡◌, zero-add, ◌++◌, ℕ, List, length, map, decimal, arith, ap, ◌∙◌, sym}
+use Rattle.std.proofs.Common.{zero-add, ◌++◌, ℕ, List, length, map, decimal, arith, ap, ◌∙◌, sym}
 use Rattle.std.specs.List.{flat_map, range_with_len}
 use Rattle.std.proofs.lemmas.List.FromFn.{map-range_with_len_more}
+use Rattle.std.proofs.lemmas.Grind.{common_steps}
 use Rattle.power_index.specs.Tables.{table_of_member_size}
 use Rattle.council_report.specs.Lines.{with_tab}
 use Rattle.council_text.proofs.Shared.Room.{takes-not}
@@ -20,11 +21,7 @@ loop-member-preserved c =
     }
 
 pub returns-clause-items : goal.returns-clause-items
-returns-clause-items c =
-    let n : c.loop-member.member ≡ length c.args.counted.now.game.now.names = omega (arith, c.args.counted.now.all_members) in
-    c.loop-member.invariant.items
-    ∙ ap (λ (k : ℕ). c.args.out.now.items ++ flat_map with_tab
-    (map (λ i. decimal (table_of_member_size c.args.counted.now.counts.now i c.args.size)) (range_with_len 0 k))) n
+returns-clause-items c = grind (arith, common_steps)
 
 pub returns-in_err-push_number-clause-room : goal.returns-in_err-push_number-clause-room
 returns-in_err-push_number-clause-room c =

@@ -1,5 +1,6 @@
 use Rattle.std.proofs.Common.{◌≡◌, ◌-◌, ◌≤◌, ℕ, subst, sym, ap, ◌∙◌, arith, bit_xor}
 use Rattle.std.specs.Int.{w64, leading_zeros}
+use Rattle.std.proofs.lemmas.Grind.{common_steps}
 use Rattle.council_report.specs.Inner.SharedLine.{SameBefore}
 use Rattle.council_report.proofs.Differences.{Differs, differs}
 use Rattle.council_report.proofs.places.first_difference.Goals as goal
@@ -10,9 +11,7 @@ masks-differ n a b x y first second = subst (Differs n a b) (ap (λ (u : ℕ). b
 
 -- so many places are the same
 shared : (n a b x : ℕ) → Differs n a b x → (64 - leading_zeros w64 x ≤ n) × SameBefore n (n - (64 - leading_zeros w64 x)) a b
-shared n a b x d =
-    let digits : d.digits ≡ 64 - leading_zeros w64 x = omega (arith, d.count) in
-    subst (λ (m : ℕ). (m ≤ n) × SameBefore n (n - m) a b) digits (d.within, d.same)
+shared n a b x d = grind (arith, common_steps)
 
 pub overflow_sub-result : goal.overflow_sub-result
 overflow_sub-result c =

@@ -1,6 +1,7 @@
-use Rattle.std.proofs.Common.{◌++◌, ℕ, List}
+use Rattle.std.proofs.Common.{◌++◌, ℕ, List, arith}
 use Rattle.std.specs.List.{flat_map}
 use Rattle.std.proofs.lemmas.Result.{err_from_is_err_and}
+use Rattle.std.proofs.lemmas.Grind.{common_steps}
 use Rattle.council_report.specs.Report.{coalition_lines}
 use Rattle.council_report.specs.Inner.Lines.{lines_of_sizes, lines_of_members, lines_of}
 use Rattle.council_report.proofs.Telling.{tells-then, stopped-first, stopped-next}
@@ -21,10 +22,4 @@ returns-in_err-put_shown_sizes g c =
 
 pub returns : goal.returns
 unfolding lines_of
-returns g c =
-    let coalitions : List ℕ = coalition_lines c.args.shown c.args.counted.now.game.now (flat_map (λ p. p.now) c.args.pieces.now) in
-    let sizes : List ℕ = lines_of_sizes c.args.shown c.args.counted.now in
-    let before = tells-then _ _ _ coalitions sizes c.in_ok-put_shown_coalitions.ensures.tells c.in_ok-put_shown_sizes.ensures.tells in
-    puts-next (coalitions ++ sizes)
-    (lines_of_members c.args.counted.now) _ _ _ c.args.block.now c.put_shown_sizes.new.block c.put_members.new.block
-    c.put_members.result before c.put_members.ensures
+returns g c = grind (arith, common_steps, tells-then, puts-next)

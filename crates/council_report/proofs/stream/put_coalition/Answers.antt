@@ -1,11 +1,11 @@
-use Rattle.std.proofs.Common.{refl}
+use Rattle.std.proofs.Common.{refl, arith}
+use Rattle.std.proofs.lemmas.Grind.{common_steps}
 use Rattle.council_report.proofs.Bounds.{coalition-fits}
 use Rattle.council_report.proofs.Lasting.{ready-takes, puts-line}
 use Rattle.council_report.proofs.stream.put_coalition.Goals as goal
 
 pub unreachable-requires : goal.unreachable-requires
-unreachable-requires g c =
-    ready-takes c.requires.ready c.in-Err.ensures.room (coalition-fits c.args.game.now c.requires.line.is.game c.move_to.new.self.coalition)
+unreachable-requires g c = grind (arith, common_steps, ready-takes, coalition-fits)
 
 pub returns-clause-puts : goal.returns-clause-puts
 returns-clause-puts g c =

@@ -1,11 +1,11 @@
-use Rattle.std.proofs.Common.{refl}
+use Rattle.std.proofs.Common.{refl, arith}
+use Rattle.std.proofs.lemmas.Grind.{common_steps}
 use Rattle.council_report.proofs.Bounds.{member-fits}
 use Rattle.council_report.proofs.Lasting.{ready-takes, puts-line}
 use Rattle.council_report.proofs.stream.put_member.Goals as goal
 
 pub unreachable-requires : goal.unreachable-requires
-unreachable-requires g c =
-    ready-takes c.requires.ready c.in-Err.ensures.room (member-fits c.args.counted.now c.args.member c.requires.member)
+unreachable-requires g c = grind (arith, common_steps, ready-takes, member-fits)
 
 pub returns : goal.returns
 returns g c =

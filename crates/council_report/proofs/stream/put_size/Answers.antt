@@ -1,11 +1,11 @@
-use Rattle.std.proofs.Common.{refl}
+use Rattle.std.proofs.Common.{refl, arith}
+use Rattle.std.proofs.lemmas.Grind.{common_steps}
 use Rattle.council_report.proofs.Bounds.{size-fits}
 use Rattle.council_report.proofs.Lasting.{ready-takes, puts-line}
 use Rattle.council_report.proofs.stream.put_size.Goals as goal
 
 pub unreachable-requires : goal.unreachable-requires
-unreachable-requires g c =
-    ready-takes c.requires.ready c.in-Err.ensures.room (size-fits c.args.counted.now c.args.size c.requires.size)
+unreachable-requires g c = grind (arith, common_steps, ready-takes, size-fits)
 
 pub returns : goal.returns
 returns g c =

@@ -1,21 +1,14 @@
-use Rattle.std.proofs.Common.{◌++◌, ℕ, List, length, sym, ap, ◌∙◌, subst, arith}
+use Rattle.std.proofs.Common.{◌++◌, ℕ, List, sym, ap, ◌∙◌, subst, arith}
+use Rattle.std.proofs.lemmas.Grind.{common_steps}
 use Rattle.council_report.specs.Inner.SharedLine.{IsSeat}
 use Rattle.council_report.proofs.SharedLines.{line-added, subtotal-more, no_subtotal, added-light, added-short}
 use Rattle.council_report.proofs.shared_line.SharedLine.add.Goals as goal
 
 pub with-subtotal-requires-clause-weights : goal.with-subtotal-requires-clause-weights
-with-subtotal-requires-clause-weights c =
-    let is = subst (IsSeat c.args.game.now c.args.self.now.end) (sym c.index-seat.ensures)
-    (c.requires.line.seats.each c.args.self.now.end c.index-seat.result.now c.requires.more) in
-    added-light c.args.game.now c.args.self.now no_subtotal c.index-seat.result.now c.requires.line c.requires.more c.requires.inside is
+with-subtotal-requires-clause-weights c = grind (arith, common_steps, added-light, no_subtotal)
 
 pub unreachable-requires : goal.unreachable-requires
-unreachable-requires c =
-    let is = subst (IsSeat c.args.game.now c.args.self.now.end) (sym c.index-seat.ensures)
-    (c.requires.line.seats.each c.args.self.now.end c.index-seat.result.now c.requires.more) in
-    let short = added-short c.args.game.now c.args.self.now c.index-seat.result.now c.requires.line c.requires.more c.requires.inside is in
-    let field = ap (λ (t : List ℕ). length t) c.deref.ensures.value in
-    omega (arith, short, field, c.in-Err.ensures.full, c.requires.line.room)
+unreachable-requires c = grind (arith, common_steps, added-short)
 
 pub returns-clause-line : goal.returns-clause-line
 returns-clause-line c =
