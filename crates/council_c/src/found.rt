@@ -53,8 +53,7 @@ impl Found<'_> {
 fn count_by_walk(game: &Game) -> Counts
     ensures { AreCounts game.now (minimal_coalitions (votes_of game.now)) result }
 {
-    // for the prover alone: its clauses tell what every game keeps
-    let _members = game.members();
+    game.was_checked();
     one_slice_is_the_whole();
     tallies_are_counts();
     tally_slice(game, 0, 0)

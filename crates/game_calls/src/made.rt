@@ -80,7 +80,7 @@ pub fn at_quota(alloc: Global, game: &Game, quota: u64) -> Result<Game, Memory>
     requires met { quota ≤ total (rule_at game.now.rules 0) }
     ensures { IfOk result (λ made. made ≡ at_quota game.now quota) }
 {
-    let _members = game.members();
+    game.was_checked();
     quotas_can_be_changed();
     let title = title_of(alloc, game)?;
     let names = names_of(alloc, game)?;

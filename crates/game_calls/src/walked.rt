@@ -12,7 +12,7 @@ use power_index::laws::minimal_coalitions_can_be_counted;
 pub fn count_by_walk(game: &Game) -> u64
     ensures { result ≡ length (minimal_coalitions (votes_of game.now)) }
 {
-    let _members = game.members();
+    game.was_checked();
     one_slice_is_the_whole();
     minimal_coalitions_can_be_counted();
     let mut walk = Walk::new(game, 0, 0);

@@ -5,7 +5,7 @@ use Rattle.game_calls.proofs.made.at_quota.Goals.{in-Memory, in_default}
 
 pub prove-unreachable-requires : goal.prove-unreachable-requires
 prove-unreachable-requires c =
-    let memory = only-memory c.args.game.now c.args.quota c.in-Err.fault c.members-members.ensures.game c.requires.some c.requires.met
+    let memory = only-memory c.args.game.now c.args.quota c.in-Err.fault c.was_checked.ensures.game c.requires.some c.requires.met
     (rw (c.in_ok-title.ensures, c.in_ok-names.ensures, c.in_ok-weights.ensures) at c.in-Err.ensures) in
     elim c.match-matches.branch [
       | in-Memory w ↦ both_ways _ c.if-prove.true w.matches-is
