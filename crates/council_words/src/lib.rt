@@ -7,8 +7,8 @@
 //! ```
 #![tactic(auto)]
 
-mod command_line;
+mod nothing_to_do;
 mod words;
 
-pub use command_line::{command_line, out_of_memory, wanted};
+pub use nothing_to_do::{command_line, out_of_memory, wanted};
 pub use words::{Wanted, WordsFault, read_words};
