@@ -18,24 +18,31 @@ fn separator(line: &str) -> Option<&'static str> {
     None
 }
 
-/// Says that the text looks like a table; whether it does. Before its first line of several columns there are lines of one alone.
-fn say_table(said: &mut Said, text: &str) -> bool {
+/// The first line of several columns, where no line of a game file stands before it: its number, from 1, the line, and what
+/// stands between its columns.
+fn first_row(text: &str) -> Option<(usize, &str, &'static str)> {
     for (index, line) in text.lines().enumerate() {
         if line.starts_with('#') || line.starts_with('[') || line.contains('=') {
-            // a line of a game file
             break;
         }
         if let Some(name) = separator(line) {
-            let number = index.saturating_add(1);
-            let line = short(line);
-            said.line(format_args!("line {number}: {line}"));
-            said.line(format_args!(
-                "that looks like a table, with {name} between its columns: docs/using/from_table.py makes a game file of it"
-            ));
-            return true;
+            return Some((index.saturating_add(1), line, name));
         }
     }
-    false
+    None
+}
+
+/// Says that the text looks like a table; whether it does.
+fn say_table(said: &mut Said, text: &str) -> bool {
+    let Some((number, line, name)) = first_row(text) else {
+        return false;
+    };
+    let line = short(line);
+    said.line(format_args!("line {number}: {line}"));
+    said.line(format_args!(
+        "that looks like a table, with {name} between its columns: docs/using/from_table.py makes a game file of it"
+    ));
+    true
 }
 
 /// Says why a text is not TOML.
