@@ -117,13 +117,7 @@ rule-votes n first r few len len2 light quota =
     let found = ranking first in
     let same : sum (weights_at r.weights (members_by_rank (rank_places first))) ≡ sum r.weights =
     ranking-sum first found.0 r.weights found.1 (omega arith) in
-    let bound = light-sum n r.weights len2 few light in
-    record {
-      full = length-weights_by_rank (rank_places first) r.weights ∙ length-rank_places first ∙ len;
-      some = grind (arith, nat_tests);
-      met = grind (arith, nat_tests);
-      light = omega (arith, same);
-    }
+    let bound = light-sum n r.weights len2 few light in grind (arith, length-weights_by_rank, length-rank_places, nat_tests)
 
 rules-votes : (n : ℕ) (first : List ℕ) (rs : List RuleView) → n ≤ 40 → length first ≡ n → AllByRecursion (λ r. length r.weights ≡ n) rs
     → AllByRecursion (λ r. (i : ℕ) → i < n → get_or r.weights i 0 ≤ 1000000000000) rs → AllByRecursion (λ r. has_bad_quota r ≡ false) rs
@@ -161,11 +155,4 @@ votes-are g game =
     (rules-votes (length g.names) (first_weights g.rules) g.rules few len full light quotas) in
     let up : IsRanked (map (rule_by_rank g.ranks) g.rules) =
     subst (λ (ranks : List ℕ). IsRanked (map (rule_by_rank ranks) g.rules)) (sym p.ranks) (rules-ranked g.rules) in
-    record {
-      some = grind (arith, nat_tests);
-      few = few;
-      has_rule = omega (arith, count, game.has_rule);
-      few_rules = omega (arith, count, game.few_rules);
-      rules = all;
-      ranked = up;
-    }
+    grind (arith, nat_tests)

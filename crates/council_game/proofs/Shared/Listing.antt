@@ -67,9 +67,7 @@ listing-is v game =
       below = All-filter (minimal v) (λ c. c < 2 ^ v.members) (down (2 ^ v.members))
           (down-below (2 ^ v.members) (2 ^ v.members) (omega arith));
       descending = AllPairs-filter (λ a b. b < a) (minimal v) (down (2 ^ v.members)) (down-descends (2 ^ v.members));
-      none_empty = All-weaker (λ c. minimal v c ≡ true) (λ c. c ≢ 0)
-          (λ c min e. none-wins v.members v.rules game.rules game.has_rule (ap (wins v.rules) (sym e) ∙ (and_parts _ _ min).0))
-          (filter (minimal v) (down (2 ^ v.members))) (filter_passes (minimal v) (down (2 ^ v.members)));
+      none_empty = grind (arith, none-wins, and_parts, filter_passes);
     }
 
 -- ---- the list, filled from above

@@ -209,8 +209,7 @@ pub held-weights : (g : GameView) (ranked : List Rule) (i : ℕ) (x : Rule) → 
     → i < length g.rules → x ≡ get_or ranked i x → (length x.weights.items ≤ 40) × (sum x.weights.items ≤ 40000000000000)
 held-weights g ranked i x game same lt at =
     let v = held-votes g (length g.names) ranked game refl same in
-    let count : length ranked ≡ length g.rules = sym (length-map ranked rule_view) ∙ ap length same
-    ∙ length-map g.rules (rule_by_rank g.ranks) in
+    let count : length ranked ≡ length g.rules = grind (arith, length-map) in
     let is = held-rule (length g.names) ranked i x v (omega (arith, count)) at in
     (omega (arith, is.full, v.few), is.light)
 

@@ -25,13 +25,7 @@ from ws (v ∷ vs) m a c e same =
     let bit : c / 2 ^ length vs % 2 < 2 = omega arith in
     let others : List ℕ = filter (λ p. has m p c) (range_with_len (a + 1) (length vs)) in
     let first : slice_index ws a ≡ v = ap (slice_index ws) (let z : a ≡ a + 0 = omega arith in z) ∙ same 0 (omega arith) in
-    let more = sum_by-cons (slice_index ws) a others in
-    cond_both (has m a c) (a ∷ others) others (λ ps. c / 2 ^ length vs % 2 * v + by_digits vs c ≡ sum_by (slice_index ws) ps)
-    (λ inside. let digit = rw place at (eqb-true _ _ inside) in rw digit (omega (arith, rest, more, first)))
-    (λ outside.
-    let other = rw place at (eqb-false _ _ outside) in
-    let digit : c / 2 ^ length vs % 2 ≡ 0 = omega (arith, bit, other) in
-    rw digit (omega (arith, rest)))
+    let more = sum_by-cons (slice_index ws) a others in grind (arith, cond_both, by_digits, eqb-true, eqb-false)
 
 weight-by_digits : (ws : List ℕ) (c : ℕ) → weight ws c ≡ by_digits ws c
 unfolding weight

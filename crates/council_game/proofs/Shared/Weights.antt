@@ -47,10 +47,8 @@ pub weight-prefix : (ws : List ℕ) (p x : ℕ) → p ≤ length ws → weight w
 weight-prefix ws p x h =
     let pos : 0 < 2 ^ (length ws - p) = pow_pos (length ws - p) in
     let e : x * 2 ^ (length ws - p) + 0 ≡ x * 2 ^ (length ws - p) = omega arith in
-    let d : x * 2 ^ (length ws - p) / 2 ^ (length ws - p) ≡ x = ap (λ (i : ℕ). i / 2 ^ (length ws - p)) (sym e)
-    ∙ div-mul-add x (2 ^ (length ws - p)) 0 pos in
-    let m : x * 2 ^ (length ws - p) % 2 ^ (length ws - p) ≡ 0 = ap (λ (i : ℕ). i % 2 ^ (length ws - p)) (sym e)
-    ∙ mod-mul-add x (2 ^ (length ws - p)) 0 pos in
+    let d : x * 2 ^ (length ws - p) / 2 ^ (length ws - p) ≡ x = grind (arith, div-mul-add) in
+    let m : x * 2 ^ (length ws - p) % 2 ^ (length ws - p) ≡ 0 = grind (arith, mod-mul-add) in
     rw (d, m, weight-zero (drop p ws)) at (weight-at ws p (x * 2 ^ (length ws - p)) h) ∙ omega arith
 
 -- one place more
@@ -62,8 +60,7 @@ weight-more ws p x b h below =
     ap (λ (l : List ℕ). weight l (2 * x + b)) (take_more ws p 0 h)
     ∙ ap (weight (take p ws ++ get_or ws p 0 ∷ [])) (sym e)
     ∙ weight-cat (take p ws) (get_or ws p 0 ∷ []) x b (omega arith)
-    ∙ (let z : weight (get_or ws p 0 ∷ []) b ≡ b * get_or ws p 0 =
-    rw (weight-cons (get_or ws p 0) [] b, weight-nil b, one) (omega arith) in omega (arith, z))
+    ∙ (let z : weight (get_or ws p 0 ∷ []) b ≡ b * get_or ws p 0 = grind (arith, weight-cons, weight-nil) in omega (arith, z))
 
 -- Where c has place q besides the places of a, it weighs more by that place.
 weight-one_more : (ws : List ℕ) (a c k q : ℕ) → k + 1 + q ≡ length ws → a / 2 ^ k % 2 ≡ 0 → c / 2 ^ k % 2 ≡ 1
