@@ -97,7 +97,7 @@ light-rules : (n : ℕ) (rs : List RuleView) → ((i : ℕ) → i < n → is_hea
     → AllByRecursion (λ r. (i : ℕ) → i < n → get_or r.weights i 0 ≤ 1000000000000) rs
 light-rules n [] h = tt
 light-rules n (r ∷ rs) h =
-    (λ i lt. (let own = h i lt in grind (arith, nat_tests)), light-rules n rs (λ i lt. (let own = h i lt in grind (arith, nat_tests))))
+    (λ i lt. (let own = h i lt in grind (arith, nat_tests)), light-rules n rs (λ i lt. (grind (arith, nat_tests))))
 
 pub light-weights : (g : GameView)
     → IsGame g → AllByRecursion (λ r. (i : ℕ) → i < length g.names → get_or r.weights i 0 ≤ 1000000000000) g.rules
@@ -142,8 +142,6 @@ first-full n (r ∷ rs) some full = full.0
 pub votes-are : (g : GameView) → IsGame g → IsVotes (votes_of g)
 votes-are g game =
     let p = passed g game.made in
-    let n : ℕ = length g.names in
-    let sizes = p.members in
     let few : length g.names ≤ 40 = grind (arith, nat_tests) in
     let full = recursion_from_All (λ (r : RuleView). length r.weights ≡ length g.names) g.rules game.full in
     let light = light-weights g game in

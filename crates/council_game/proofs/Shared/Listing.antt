@@ -33,7 +33,7 @@ wins-full n (r ∷ rs) all = grind (arith, nat_tests, wins-full n rs all.1, weig
 none-wins : (n : ℕ) (rs : List RuleView) → AllByRecursion (IsRule n) rs → 1 ≤ length rs → wins rs 0 ≡ true → ⊥
 unfolding wins
 none-wins n [] all some h = omega arith
-none-wins n (r ∷ rs) all some h = let pos = all.0.some in grind (arith, nat_tests, weight-zero r.weights)
+none-wins n (r ∷ rs) all some h = grind (arith, nat_tests, weight-zero r.weights)
 
 pub down-below : (n m : ℕ) → n ≤ m → All (λ c. c < m) (down n)
 unfolding down

@@ -136,8 +136,6 @@ pub record RanksAre (n : ℕ) (ranks : List ℕ) : Type 0 where
 pub ranks-of : (ws : List ℕ) → RanksAre (length ws) (rank_places ws)
 ranks-of ws =
     let found = ranking ws in
-    let qs : List ℕ = found.0 in
-    let r = found.1 in
     let len = ranking-length ws found.0 found.1 in
     record {
       count = length-rank_places ws;

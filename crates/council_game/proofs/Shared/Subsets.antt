@@ -23,7 +23,6 @@ pub digits-less : (n a c : ℕ) → ((p : ℕ) → p < n → has n p a ≡ true 
 unfolding has
 digits-less n a c sub i below =
     let place : n - 1 - (n - 1 - i) ≡ i = omega arith in
-    let inside = rw place at (sub (n - 1 - i) (omega arith)) in
     grind (arith, nat_tests, bit_at-lt a i, bit_at-lt c i)
 
 -- a minimal coalition without a place loses, so that a subset that wins has each place of it

@@ -17,12 +17,9 @@ from : (ws vs : List ℕ) (m a c : ℕ) → m ≡ a + length vs → ((i : ℕ) �
 unfolding has by_digits
 from ws [] m a c e same = refl
 from ws (v ∷ vs) m a c e same =
-    let long : length (v ∷ vs) ≡ suc (length vs) = refl in
     let rest = from ws vs m (a + 1) c (omega arith) (λ i below.
     let at : a + 1 + i ≡ a + suc i = omega arith in
     ap (slice_index ws) at ∙ same (suc i) (omega arith)) in
-    let place : m - 1 - a ≡ length vs = omega arith in
-    let bit : c / 2 ^ length vs % 2 < 2 = omega arith in
     let others : List ℕ = filter (λ p. has m p c) (range_with_len (a + 1) (length vs)) in
     let first : slice_index ws a ≡ v = ap (slice_index ws) (let z : a ≡ a + 0 = omega arith in z) ∙ same 0 (omega arith) in
     let more = sum_by-cons (slice_index ws) a others in grind (arith, cond_both, by_digits, eqb-true, eqb-false)

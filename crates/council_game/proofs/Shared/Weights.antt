@@ -46,7 +46,6 @@ weight-at ws p c h =
 pub weight-prefix : (ws : List ℕ) (p x : ℕ) → p ≤ length ws → weight ws (x * 2 ^ (length ws - p)) ≡ weight (take p ws) x
 weight-prefix ws p x h =
     let pos : 0 < 2 ^ (length ws - p) = pow_pos (length ws - p) in
-    let e : x * 2 ^ (length ws - p) + 0 ≡ x * 2 ^ (length ws - p) = omega arith in
     let d : x * 2 ^ (length ws - p) / 2 ^ (length ws - p) ≡ x = grind (arith, div-mul-add) in
     let m : x * 2 ^ (length ws - p) % 2 ^ (length ws - p) ≡ 0 = grind (arith, mod-mul-add) in
     rw (d, m, weight-zero (drop p ws)) at (weight-at ws p (x * 2 ^ (length ws - p)) h) ∙ omega arith
@@ -56,7 +55,6 @@ pub weight-more : (ws : List ℕ) (p x b : ℕ) → p < length ws → b < 2
     → weight (take (p + 1) ws) (2 * x + b) ≡ weight (take p ws) x + b * get_or ws p 0
 weight-more ws p x b h below =
     let e : x * 2 ^ length (get_or ws p 0 ∷ []) + b ≡ 2 * x + b = omega arith in
-    let one : b / 2 ^ 0 % 2 ≡ b = omega arith in
     ap (λ (l : List ℕ). weight l (2 * x + b)) (take_more ws p 0 h)
     ∙ ap (weight (take p ws ++ get_or ws p 0 ∷ [])) (sym e)
     ∙ weight-cat (take p ws) (get_or ws p 0 ∷ []) x b (omega arith)
