@@ -96,8 +96,7 @@ none-any f (x ∷ xs) h = let parts = or_parts (f x) (list_any f xs) h in (parts
 light-rules : (n : ℕ) (rs : List RuleView) → ((i : ℕ) → i < n → is_heavy rs i ≡ false)
     → AllByRecursion (λ r. (i : ℕ) → i < n → get_or r.weights i 0 ≤ 1000000000000) rs
 light-rules n [] h = tt
-light-rules n (r ∷ rs) h =
-    (λ i lt. (let own = h i lt in grind (arith, nat_tests)), light-rules n rs (λ i lt. (grind (arith, nat_tests))))
+light-rules n (r ∷ rs) h = grind (arith, light-rules n rs (λ i lt. (grind (arith, nat_tests))), nat_tests)
 
 pub light-weights : (g : GameView)
     → IsGame g → AllByRecursion (λ r. (i : ℕ) → i < length g.names → get_or r.weights i 0 ≤ 1000000000000) g.rules
