@@ -34,10 +34,7 @@ symbols-digit d bs h = rw h refl
 pub symbols-number : (d : ℕ) (ds rest : List ℕ) → AllDigits 10 (d ∷ ds) → begins_with_digit rest ≡ false
     → symbols ((d ∷ ds) ++ rest) ≡ number (d ∷ ds) ∷ symbols rest
 symbols-number d [] rest whole stop = symbols-digit d rest (digit_test d whole.0) ∙ ap (λ (j : Bool). with_digit d j (symbols rest)) stop
-symbols-number d (e ∷ ds) rest whole stop =
-    symbols-digit d (e ∷ (ds ++ rest)) (digit_test d whole.0)
-    ∙ ap (λ (j : Bool). with_digit d j (symbols (e ∷ (ds ++ rest)))) (digit_test e whole.1.0)
-    ∙ ap (with_digit d true) (symbols-number e ds rest whole.1 stop)
+symbols-number d (e ∷ ds) rest whole stop = grind (arith, symbols-number e ds rest whole.1 stop, symbols-digit, digit_test)
 
 number_in_front : (b : ℕ) (bs : List ℕ) (n : ℕ) → is_ascii_digit b ≡ true → AllDigits 10 (take n (b ∷ bs))
     → begins_with_digit (drop n (b ∷ bs)) ≡ false → symbols (b ∷ bs) ≡ number (take n (b ∷ bs)) ∷ symbols (drop n (b ∷ bs))
@@ -50,8 +47,7 @@ digit_value-minus c range = let low = range.0 in let high = range.1 in grind (ar
 
 pub digits_more : (ds : List ℕ) (i : ℕ) → AllDigits 10 ds → i < length ds
     → digits_value 10 (take (i + 1) ds) ≡ digits_value 10 (take i ds) * 10 + (get_or ds i 0 - 48)
-digits_more ds i whole below =
-    digits_value_more 10 ds i below ∙ ap (λ (d : ℕ). digits_value 10 (take i ds) * 10 + d) (digit_value-minus _ (digit_at ds i whole below))
+digits_more ds i whole below = grind (arith, digits_value_more, digit_value-minus, digit_at)
 
 pub digits_fit : (ds : List ℕ) (i : ℕ) → AllDigits 10 ds → length ds ≤ 18 → i < length ds
     → digits_value 10 (take i ds) * 10 + (get_or ds i 0 - 48) < 10 ^ 18
@@ -91,5 +87,4 @@ symbols_behind_number [] n some digit whole stop = absurd (omega arith)
 symbols_behind_number (b ∷ bs) n some digit whole stop = number_in_front b bs n digit whole stop
 
 pub names_count : (names : List (String Global)) (n : ℕ) → map string_bytes names ≡ map decimal (range_with_len 1 n) → n ≡ length names
-names_count names n same = sym (length-map-range_with_len decimal 1 n) ∙ ap (λ (xs : List (List ℕ)). length xs) (sym same)
-    ∙ length-map names string_bytes
+names_count names n same = grind (arith, length-map-range_with_len, length-map)

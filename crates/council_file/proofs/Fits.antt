@@ -5,14 +5,14 @@ use Rattle.std.specs.Option.{option_map_or}
 use Rattle.std.proofs.lemmas.Bool.Decides.{nat_tests}
 use Rattle.std.proofs.lemmas.Bool.{cases_Bool, false≢true}
 use Rattle.std.proofs.lemmas.List.FromFn.{length-map-range_with_len}
-use Rattle.toml.specs.Data.{Data, Members, get_member}
+use Rattle.toml.specs.Data.{Data, Members}
 use Rattle.council_game.specs.declared.rule.Rule.{Rule}
 use Rattle.council_game.specs.Votes.{RuleView}
-use Rattle.council_game.specs.Rules.{rule_view, rule_views}
+use Rattle.council_game.specs.Rules.{rule_views}
 use Rattle.std.proofs.lemmas.List.{length-map}
 use Rattle.std.proofs.lemmas.List.Elements.{All-nil, All-cons, All-map}
 use Rattle.council_game.proofs.Shared.RuleLists.{held_full}
-use Rattle.council_file.specs.File.{has_key, some_member_has, elements_at, are_quotas, breaks_rules, lacks_quota, member_list, only_rule, rule_from, rules_of, name_from}
+use Rattle.council_file.specs.File.{has_key, elements_at, are_quotas, breaks_rules, lacks_quota, member_list, only_rule, rule_from, rules_of, name_from}
 
 quotas_pass : (q qs aq w v : Bool) → q ≡ false → not qs ≡ false → ((q && qs) || (qs && not aq) || (q && w) || (qs && v)) ≡ false → aq ≡ true
 quotas_pass q qs aq w v a b h = grind (arith, nat_tests)
@@ -25,16 +25,7 @@ one_to_four : (ds : List Data) → are_quotas ds ≡ true → (0 < length ds) ×
 one_to_four ds h = (grind (arith, nat_tests), grind (arith, nat_tests))
 
 pub rules_count : (t : Members) → breaks_rules t ≡ false → lacks_quota t ≡ false → (0 < length (rules_of t)) × (length (rules_of t) ≤ 4)
-rules_count t ok quota =
-    elim (cases_Bool (has_key (codes "quota") t)) [
-      | inl lone ↦ rw lone (omega arith, omega arith)
-      | inr many ↦
-          let listed = sym (none_gives _ (get_member (codes "quota") t) _ many) ∙ quota in
-          let pass = quotas_pass (has_key (codes "quota") t) (has_key (codes "quotas") t) (are_quotas (elements_at (codes "quotas") t))
-          (some_member_has (codes "weights") t) (some_member_has (codes "weight") t) many listed ok in
-          let n = length (elements_at (codes "quotas") t) in
-          rw (many, length-map-range_with_len (rule_from t n) 0 n) (one_to_four (elements_at (codes "quotas") t) pass)
-    ]
+rules_count t ok quota = grind (arith, cases_Bool, none_gives, quotas_pass, length-map-range_with_len, one_to_four)
 
 only_full : (t : Members) → length (only_rule t).weights ≡ length (member_list t)
 unfolding only_rule
@@ -58,10 +49,7 @@ rules_full t =
 -- what the code holds
 pub held_count : (rules : List Rule) (t : Members) → rule_views rules ≡ rules_of t → breaks_rules t ≡ false → lacks_quota t ≡ false
     → (0 < length rules) × (length rules ≤ 4)
-held_count rules t same ok quota =
-    let count = rules_count t ok quota in
-    let len : length rules ≡ length (rules_of t) = sym (length-map rules rule_view) ∙ ap (λ (rs : List RuleView). length rs) same in
-    (omega (arith, len, count.0), omega (arith, len, count.1))
+held_count rules t same ok quota = grind (arith, rules_count, length-map)
 
 pub all_held : (rules : List Rule) (t : Members) (names : List (String Global)) (ds : List Data) → rule_views rules ≡ rules_of t
     → ds ≡ member_list t → map string_bytes names ≡ map name_from ds

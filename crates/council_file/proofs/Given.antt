@@ -1,5 +1,5 @@
 -- Bytes that a reader gave, where all of them are known.
-use Rattle.std.proofs.Common.{◌≡◌, ℕ, ◌+◌, ◌<◌, List, ◌++◌, length, Option, Some, None, Err, refl, sym, ap, ◌∙◌, arith, inl, inr}
+use Rattle.std.proofs.Common.{◌≡◌, ℕ, ◌<◌, List, length, Option, Some, None, Err, refl, arith}
 use Rattle.std.proofs.lemmas.List.{append-nil, length-append}
 use Rattle.std.proofs.lemmas.Bool.{lt-ltb}
 use Rattle.council_game.specs.declared.fault.GameFault.TheVariants.{TooLong}
@@ -13,9 +13,4 @@ too-long bytes more = rw (lt-ltb 65536 (length bytes) more) refl
 
 pub known_bytes : (all bytes : List ℕ) (after : Option (List ℕ)) → Gave (Some all) after bytes → game_of bytes ≡ game_of all
 known_bytes all bytes None h = absurd h.given
-known_bytes all bytes (Some rest) h = elim h.enough [
-  | inl end ↦ sym (ap game_of (h.given ∙ ap (λ (l : List ℕ). bytes ++ l) end ∙ append-nil bytes))
-  | inr more ↦
-      let long : length all ≡ length bytes + length rest = ap length h.given ∙ length-append bytes rest in
-      too-long bytes more ∙ sym (too-long all (omega (arith, long, more)))
-]
+known_bytes all bytes (Some rest) h = grind (arith, append-nil, length-append, too-long)

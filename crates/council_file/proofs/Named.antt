@@ -1,5 +1,5 @@
 -- The game of a rule without names passes the checks of a game.
-use Rattle.std.proofs.Common.{◌≡◌, ◌≢◌, ℕ, ◌+◌, ◌<◌, ◌≤◌, List, [], ◌∷◌, length, get_or, decimal, true, false, not, ◌&&◌, ◌==◌, nat_le, nat_eq, None, inl, inr, refl, sym, ap, ◌∙◌, arith}
+use Rattle.std.proofs.Common.{◌≡◌, ◌≢◌, ℕ, ◌+◌, ◌<◌, ◌≤◌, List, [], ◌∷◌, length, get_or, decimal, true, false, not, ◌&&◌, ◌==◌, nat_le, nat_eq, None, inl, inr, refl, sym, arith}
 use Rattle.std.specs.List.{position, range_with_len}
 use Rattle.std.specs.Char.{digit_value}
 use Rattle.std.specs.Str.Parse.{AllDigits}
@@ -33,10 +33,7 @@ name_at : (n i : ℕ) (d : List ℕ) → i < n → get_or (counted_names n) i d 
 name_at n i d below = get_or-map-range_with_len decimal 1 n i (1 + i) d below refl
 
 pub names_pass : (n : ℕ) → n ≤ 40 → position (λ name. not (is_name name)) (counted_names n) ≡ None
-names_pass n few = position_nowhere (λ name. not (is_name name)) (counted_names n)
-    (λ i d lt.
-    let below : i < n = omega (arith, length-map-range_with_len decimal 1 n) in
-    ap (λ (t : List ℕ). not (is_name t)) (name_at n i d below) ∙ ap not (decimal_name (1 + i) (omega arith)))
+names_pass n few = grind (arith, position_nowhere, length-map-range_with_len, name_at, decimal_name)
 
 other_name : (j k : ℕ) → j ≤ 40 → k ≤ 40 → (j ≢ k) → pointwise nat_eq (decimal j) (decimal k) ≡ false
 other_name j k small few other =
@@ -46,12 +43,7 @@ other_name j k small few other =
     ]
 
 no_repeat : (n k : ℕ) → n ≤ 40 → k < n → is_repeat (counted_names n) k ≡ false
-no_repeat n k few below =
-    rw (name_at n k [] below, take-map-range_with_len decimal 1 n k (omega arith))
-    (list_any_none (pointwise nat_eq (decimal (1 + k))) (counted_names k)
-    (λ i d lt.
-    let here : i < k = omega (arith, length-map-range_with_len decimal 1 k) in
-    ap (pointwise nat_eq (decimal (1 + k))) (name_at k i d here) ∙ other_name (1 + k) (1 + i) (omega arith) (omega arith) (omega arith)))
+no_repeat n k few below = grind (arith, name_at, take-map-range_with_len, list_any_none, length-map-range_with_len, other_name)
 
 pub repeats_pass : (n m : ℕ) → n ≤ 40 → m ≡ n → position (is_repeat (counted_names n)) (range_with_len 0 m) ≡ None
 repeats_pass n m few same = nowhere_below (is_repeat (counted_names n)) m (λ i lt. no_repeat n i few (omega arith))

@@ -1,19 +1,18 @@
 -- No bytes have the fault Read: it is that of a reader.
-use Rattle.std.proofs.Common.{◌+◌, ◌≢◌, ◌||◌, ◌∷◌, [], ℕ, Bool, true, false, List, Option, Some, None, Result, Ok, Err, subst, map, length, nat_lt, not, IfErr}
-use Rattle.std.specs.Prelude.{codes, ok_or, position, if◌then◌else◌}
-use Rattle.std.specs.List.{list_any, range_with_len}
+use Rattle.std.proofs.Common.{◌+◌, ◌≢◌, ◌∷◌, [], ℕ, Bool, true, false, List, Option, Some, None, Result, Ok, Err, subst, length, not, IfErr}
+use Rattle.std.specs.Prelude.{ok_or, if◌then◌else◌}
 use Rattle.std.specs.Option.{option_map_or}
 use Rattle.std.specs.Str.{is_utf8}
-use Rattle.toml.specs.Data.{Data, Members, get_member, as_str}
+use Rattle.std.proofs.Common.{arith}
+use Rattle.toml.specs.Data.{Data, Members, as_str}
 use Rattle.toml.specs.Parse.{parse_document}
 use Rattle.council_game.specs.declared.fault.GameFault.{GameFault}
-use Rattle.council_game.specs.declared.fault.GameFault.TheVariants.{Read, Text, UnknownKey, Title, Quota, Name, SameName, Weight, QuotaRange, Bracket, Rules, Members as NoMembers}
+use Rattle.council_game.specs.declared.fault.GameFault.TheVariants.{Read, Text, Title, Bracket}
 use Rattle.council_game.specs.Fault.{◌>>=◌, refuse, refuse_at, Gives}
 use Rattle.council_game.specs.Votes.{RuleView}
-use Rattle.council_game.specs.Ranks.{places}
-use Rattle.council_game.specs.Game.{has_bad_quota, is_heavy, is_name, is_repeat, is_title, made_game}
+use Rattle.council_game.specs.Game.{is_title, made_game}
 use Rattle.council_file.specs.Bracket.{counted_names, game_of_bracket, symbols, rule_of}
-use Rattle.council_file.specs.File.{are_members, breaks_rules, game_of_tree, has_unknown_key, lacks_quota, member_list, name_from, rules_of, title_from, tree_of}
+use Rattle.council_file.specs.File.{game_of_tree, title_from, tree_of}
 
 -- a fault of the bytes
 abbrev pub IsOwn : GameFault → Type 0
@@ -50,13 +49,7 @@ no_read-if false x y first second = second
 
 made : (title : Option (List ℕ)) (names : List (List ℕ)) (rules : List RuleView) → NoRead (made_game title names rules)
 unfolding made_game
-made title names rules =
-    step _ _ (no_read-refuse (option_map_or (λ t. not (is_title t)) title false) Title tt) (λ _.
-    step _ _ (no_read-refuse (nat_lt (length names) 1 || nat_lt 40 (length names)) NoMembers tt) (λ _.
-    step _ _ (refused_at Name (position (λ name. not (is_name name)) names) (λ _. tt)) (λ _.
-    step _ _ (refused_at SameName (position (is_repeat names) (places names)) (λ _. tt)) (λ _.
-    step _ _ (refused_at Weight (position (is_heavy rules) (range_with_len 0 (length names))) (λ _. tt)) (λ _.
-    step _ (λ _. Ok _) (no_read-refuse (list_any has_bad_quota rules) QuotaRange tt) (λ _. record { own = tt }))))))
+made title names rules = grind (arith, step, no_read-refuse, refused_at)
 
 text : (o : Option (List ℕ)) → NoRead (option_map_or (λ s. if is_title s then Ok (Some s) else Err Title) o (Err Title))
 text None = record { own = tt }
@@ -68,13 +61,7 @@ titled (Some d) = text (as_str d)
 
 pub of-tree : (t : Members) → NoRead (game_of_tree t)
 unfolding game_of_tree
-of-tree t =
-    step _ _ (no_read-refuse (has_unknown_key t) UnknownKey tt) (λ _.
-    step _ _ (titled (get_member (codes "title") t)) (λ title.
-    step _ _ (no_read-refuse (breaks_rules t) Rules tt) (λ _.
-    step _ _ (no_read-refuse (lacks_quota t) Quota tt) (λ _.
-    step _ _ (no_read-refuse (not (are_members (member_list t))) NoMembers tt) (λ _.
-    made title (map name_from (member_list t)) (rules_of t))))))
+of-tree t = grind (arith, step, no_read-refuse, titled, made)
 
 pub to-tree : (bytes : List ℕ) → NoRead (tree_of bytes)
 unfolding tree_of

@@ -1,18 +1,20 @@
 -- The notation of a rule is read as the game of this rule.
-use Rattle.std.proofs.Common.{◌≡◌, ℕ, ◌+◌, ◌*◌, ◌^◌, ◌<◌, ◌≤◌, suc, List, [], ◌∷◌, ◌++◌, length, get_or, codes, decimal, sum, Bool, true, false, not, ◌||◌, nat_lt, Option, Some, None, option_map, ok_or, Ok, refl, ap, ◌∙◌, arith, append_assoc, length-append}
+use Rattle.std.proofs.Common.{◌≡◌, ℕ, ◌+◌, ◌*◌, ◌^◌, ◌<◌, ◌≤◌, suc, List, [], ◌∷◌, ◌++◌, length, get_or, codes, decimal, true, false, not, ◌||◌, nat_lt, Option, Some, None, option_map, ok_or, Ok, refl, ap, ◌∙◌, arith, append_assoc, length-append}
 use Rattle.std.specs.List.{AllByRecursion, list_any, position, range_with_len}
 use Rattle.std.specs.Str.Parse.{AllDigits}
 use Rattle.std.proofs.lemmas.Bool.{or_parts, le-leb, le-ltb, ltb-false}
 use Rattle.std.proofs.lemmas.Fmt.{decimal_is_IsNumeral, length-decimal-le}
 use Rattle.std.proofs.lemmas.List.Elements.{All-from_recursion}
 use Rattle.std.proofs.lemmas.List.FromFn.{length-map-range_with_len}
+use Rattle.std.proofs.lemmas.Bool.Decides.{nat_tests}
+use Rattle.std.proofs.lemmas.Grind.{common_steps}
 use Rattle.council_game.specs.declared.fault.GameFault.TheVariants.{Bracket}
 use Rattle.council_game.specs.Fault.{◌>>=◌}
 use Rattle.council_game.specs.Votes.{RuleView, rule_at}
 use Rattle.council_game.specs.Ranks.{places, rank_places}
 use Rattle.council_game.specs.Game.{GameView, IsGame, made_game, is_name, is_repeat, is_heavy, has_bad_quota}
 use Rattle.council_game.proofs.Shared.Games.{passed, none-any, light-weights, light-sum}
-use Rattle.council_file.specs.Bracket.{Symbol, number, opening, closing, comma, semicolon, symbols, value_of, weights_of, rule_of, is_bracket, begins_bracket, begins_with_digit, game_of_bracket, counted_names, nameless_game}
+use Rattle.council_file.specs.Bracket.{Symbol, number, opening, closing, comma, semicolon, symbols, value_of, weights_of, rule_of, is_bracket, begins_bracket, begins_with_digit, game_of_bracket, nameless_game}
 use Rattle.council_file.specs.File.{game_of}
 use Rattle.council_text.specs.Joined.{joined_numbers}
 use Rattle.council_text.specs.Notation.{notation}
@@ -31,9 +33,7 @@ symbols-digits (d ∷ ds) rest some whole stop = symbols-number d ds rest whole 
 
 symbols-decimal : (n : ℕ) (rest : List ℕ) → n < 10 ^ 18 → begins_with_digit rest ≡ false
     → symbols (decimal n ++ rest) ≡ number (decimal n) ∷ symbols rest
-symbols-decimal n rest small stop =
-    let numeral = decimal_is_IsNumeral n (omega arith) in
-    symbols-digits (decimal n) rest numeral.0.0 numeral.0.1 stop
+symbols-decimal n rest small stop = grind (arith, decimal_is_IsNumeral, symbols-digits)
 
 short : (n : ℕ) → n < 10 ^ 18 → length (decimal n) ≤ 18
 short n small = length-decimal-le 18 n (omega arith) small (omega arith)
@@ -71,15 +71,8 @@ weights_read w (v ∷ ws) small =
 
 joined_short : (ws : List ℕ) → AllByRecursion (λ v. v < 10 ^ 18) ws → length (joined_numbers (codes ", ") ws) ≤ 20 * length ws
 joined_short [] small = omega arith
-joined_short (w ∷ []) small =
-    let one = ap (λ (t : List ℕ). length t) (one-number (codes ", ") w) in
-    omega (arith, short w small.0, one)
-joined_short (w ∷ v ∷ ws) small =
-    let rest = joined_short (v ∷ ws) small.1 in
-    let all = length-append (decimal w) (codes ", " ++ joined_numbers (codes ", ") (v ∷ ws)) in
-    let two = length-append (codes ", ") (joined_numbers (codes ", ") (v ∷ ws)) in
-    let more = ap (λ (t : List ℕ). length t) (next-numbers (codes ", ") w v ws) in
-    omega (arith, short w small.0, rest, all, two, more)
+joined_short (w ∷ []) small = grind (arith, nat_tests, common_steps, one-number, short)
+joined_short (w ∷ v ∷ ws) small = grind (arith, nat_tests, common_steps, joined_short (v ∷ ws) small.1, length-append, next-numbers, short)
 
 -- ---- the text
 
@@ -92,10 +85,7 @@ record Fits (n : ℕ) (r : RuleView) : Type 0 where
   quota : has_bad_quota r ≡ false
 
 quota_small : (n : ℕ) (r : RuleView) → Fits n r → r.quota < 10 ^ 18
-quota_small n r fits =
-    let most = light-sum n r.weights fits.full fits.few fits.light in
-    let least = ltb-false _ _ (or_parts (nat_lt r.quota 1) (nat_lt (sum r.weights) r.quota) fits.quota).1 in
-    omega (arith, most, least)
+quota_small n r fits = grind (arith, light-sum, ltb-false, or_parts)
 
 all_small : (ws : List ℕ) → ((i : ℕ) → i < length ws → get_or ws i 0 ≤ 1000000000000) → AllByRecursion (λ v. v < 10 ^ 18) ws
 all_small [] h = tt
@@ -113,10 +103,7 @@ regrouped_text a b c d e = simp append_assoc
 text_symbols : (r : RuleView) → r.quota < 10 ^ 18
     → symbols (notation r) ≡ opening ∷ number (decimal r.quota) ∷ semicolon ∷ symbols (tail_of r)
 unfolding notation tail_of symbols
-text_symbols r small =
-    ap symbols (regrouped_text (codes "[") (decimal r.quota) (codes "; ") (joined_numbers (codes ", ") r.weights) (codes "]"))
-    ∙ ap (λ (ps : List Symbol). opening ∷ ps)
-    (symbols-decimal r.quota (codes "; " ++ (joined_numbers (codes ", ") r.weights ++ codes "]")) small refl)
+text_symbols r small = grind (arith, nat_tests, common_steps, regrouped_text, symbols-decimal)
 
 tail_weights : (ws : List ℕ) → 0 < length ws → AllByRecursion (λ v. v < 10 ^ 18) ws
     → weights_of (symbols (joined_numbers (codes ", ") ws ++ codes "]")) ≡ Some ws
@@ -141,11 +128,7 @@ lengths_of_five a b c d e = simp length-append (omega arith)
 
 text_short : (n : ℕ) (r : RuleView) → Fits n r → length (notation r) ≤ 65536
 unfolding notation
-text_short n r fits =
-    let all = lengths_of_five (codes "[") (decimal r.quota) (codes "; ") (joined_numbers (codes ", ") r.weights) (codes "]") in
-    let quota = short r.quota (quota_small n r fits) in
-    let weights = joined_short r.weights (weights_small n r fits) in
-    omega (arith, all, quota, weights, fits.full, fits.few)
+text_short n r fits = grind (arith, nat_tests, common_steps, lengths_of_five, short, quota_small, joined_short, weights_small)
 
 -- ---- the game
 
@@ -160,19 +143,10 @@ count_passes : (n m : ℕ) → m ≡ n → 0 < n → n ≤ 40 → (nat_lt m 1 ||
 count_passes n m same some few = rw (le-ltb m 1 (omega arith), le-ltb 40 m (omega arith)) refl
 
 weights_pass : (n m : ℕ) (r : RuleView) → m ≡ n → Fits n r → position (is_heavy (r ∷ [])) (range_with_len 0 m) ≡ None
-weights_pass n m r same fits = nowhere_below (is_heavy (r ∷ [])) m
-    (λ i lt. ap (λ (b : Bool). b || false) (le-ltb 1000000000000 (get_or r.weights i 0) (fits.light i (omega arith))))
+weights_pass n m r same fits = grind (arith, nowhere_below, le-ltb)
 
 made : (n : ℕ) (r : RuleView) → Fits n r → nameless_game r ≡ Ok (lone_game r)
-made n r fits =
-    let few : length r.weights ≤ 40 = omega (arith, fits.full, fits.few) in
-    let count = length-map-range_with_len decimal 1 (length r.weights) in
-    made_by (counted_names (length r.weights)) r
-    (count_passes n _ (count ∙ fits.full) fits.some fits.few)
-    (names_pass (length r.weights) few)
-    (repeats_pass (length r.weights) _ few count)
-    (weights_pass n _ r (count ∙ fits.full) fits)
-    (ap (λ (b : Bool). b || false) fits.quota)
+made n r fits = grind (arith, length-map-range_with_len, made_by, count_passes, names_pass, repeats_pass, weights_pass)
 
 bracket_game : (text : List ℕ) (r : RuleView) → rule_of (symbols text) ≡ Some r → game_of_bracket text ≡ nameless_game r
 unfolding game_of_bracket

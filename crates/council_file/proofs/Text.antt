@@ -1,5 +1,5 @@
 -- The tree of a text.
-use Rattle.std.proofs.Common.{◌≡◌, List, ℕ, Some, Ok, Err, refl, inl, inr}
+use Rattle.std.proofs.Common.{◌≡◌, List, ℕ, Some, Ok, Err, refl, inl, inr, arith}
 use Rattle.std.specs.Str.{IsUtf8, is_utf8}
 use Rattle.std.proofs.lemmas.Bool.{cases_Bool}
 use Rattle.std.proofs.lemmas.Str.{IsUtf8-from_is_utf8, is_utf8-from_IsUtf8}
@@ -18,6 +18,4 @@ not_text bytes bad =
 
 pub is_text : (bytes text : List ℕ) (t : Members) → text ≡ bytes → IsUtf8 bytes → parse_document text ≡ Some t → tree_of bytes ≡ Ok t
 unfolding tree_of
-is_text bytes text t same good read =
-    let found : parse_document bytes ≡ Some t = rw (← same) read in
-    rw (is_utf8-from_IsUtf8 bytes good, found) refl
+is_text bytes text t same good read = grind (arith, is_utf8-from_IsUtf8)

@@ -1,5 +1,6 @@
 -- The weights of a bracket text, from its front.
 use Rattle.std.proofs.Common.{◌≡◌, ℕ, List, [], ◌∷◌, ◌++◌, Option, Some, None, option_map, option_and_then, ◌≢◌, refl, sym, ap, ◌∙◌, append_assoc}
+use Rattle.std.proofs.Common.{arith}
 use Rattle.council_game.specs.Votes.{RuleView}
 use Rattle.council_file.specs.declared.token.Token.{Token}
 use Rattle.council_file.specs.declared.token.Token.TheVariants.{Closing, Comma}
@@ -47,8 +48,7 @@ Reads text front left = weights_of text ≡ option_map (λ ws. front ++ ws) (wei
 
 one_more : (text left ps : List Symbol) (front : List ℕ) (n : ℕ) → Reads text front left → first_number left ≡ Some (n, comma ∷ ps)
     → Reads text (front ++ n ∷ []) ps
-one_more text left ps front n before now = before ∙ ap (option_map (λ ws. front ++ ws)) (by_number left ∙ ap from_number now)
-    ∙ joined_front front n (weights_of ps)
+one_more text left ps front n before now = grind (arith, by_number, joined_front)
 
 all_read : (text left : List Symbol) (front : List ℕ) (n : ℕ) → Reads text front left → first_number left ≡ Some (n, closing ∷ [])
     → Some (front ++ n ∷ []) ≡ weights_of text
@@ -59,8 +59,7 @@ no_number text left front before now = sym (before ∙ ap (option_map (λ ws. fr
 
 no_more : (text left ps : List Symbol) (front : List ℕ) (n : ℕ) → Reads text front left → first_number left ≡ Some (n, ps)
     → behind n ps ≡ None → None ≡ weights_of text
-no_more text left ps front n before now none =
-    sym (before ∙ ap (option_map (λ ws. front ++ ws)) (by_number left ∙ ap from_number now ∙ none))
+no_more text left ps front n before now none = grind (arith, by_number)
 
 -- any token but a comma and a closing bracket ends the reading
 stray : (t : Token) (n : ℕ) (ps : List Symbol) → (t ≢ Comma) → (t ≢ Closing) → behind n (symbol t ∷ ps) ≡ None
@@ -71,16 +70,11 @@ stray t n ps no_comma no_closing = refl
 -- what the token behind a weight makes of the text
 pub after_comma : (text left rest ps : List Symbol) (front : List ℕ) (n : ℕ) (t : Token) → Reads text front left
     → Some (n, rest) ≡ first_number left → rest ≡ symbol t ∷ ps → t ≡ Comma → Reads text (front ++ n ∷ []) ps
-after_comma text left rest ps front n t before now is comma_is =
-    one_more text left ps front n before
-    (sym now ∙ ap (λ (qs : List Symbol). Some (n, qs)) (is ∙ ap (λ (u : Token). symbol u ∷ ps) comma_is))
+after_comma text left rest ps front n t before now is comma_is = grind (arith, one_more)
 
 pub after_closing : (text left rest ps : List Symbol) (front : List ℕ) (n : ℕ) (t : Token) → Reads text front left
     → Some (n, rest) ≡ first_number left → rest ≡ symbol t ∷ ps → t ≡ Closing → ps ≡ [] → Some (front ++ n ∷ []) ≡ weights_of text
-after_closing text left rest ps front n t before now is closing_is end =
-    all_read text left front n before
-    (sym now ∙ ap (λ (qs : List Symbol). Some (n, qs))
-    (is ∙ ap (λ (u : Token). symbol u ∷ ps) closing_is ∙ ap (λ (qs : List Symbol). closing ∷ qs) end))
+after_closing text left rest ps front n t before now is closing_is end = grind (arith, all_read)
 
 pub after_closing_more : (text left rest ps us : List Symbol) (front : List ℕ) (n : ℕ) (t u : Token) → Reads text front left
     → Some (n, rest) ≡ first_number left → rest ≡ symbol t ∷ ps → t ≡ Closing → ps ≡ symbol u ∷ us → None ≡ weights_of text
@@ -135,13 +129,8 @@ rule_without_quota ps qs h k = sym (rule_by_steps ps ∙ ap (option_and_then beh
 
 pub rule_without_semicolon : (ps qs rs : List Symbol) (q : ℕ) → after_opening ps ≡ Some qs → first_number qs ≡ Some (q, rs)
     → after_semicolon rs ≡ None → None ≡ rule_of ps
-rule_without_semicolon ps qs rs q h k l =
-    sym (rule_by_steps ps ∙ ap (option_and_then behind_opening) h ∙ ap (option_and_then behind_quota) k
-    ∙ ap (option_and_then (λ ts. with_weights q (weights_of ts))) l)
+rule_without_semicolon ps qs rs q h k l = grind (arith, rule_by_steps)
 
 pub rule_is : (ps qs rs ts : List Symbol) (q : ℕ) (weights : Option (List ℕ)) → after_opening ps ≡ Some qs → first_number qs ≡ Some (q, rs)
     → after_semicolon rs ≡ Some ts → weights ≡ weights_of ts → option_map (λ ws. record { quota = q; weights = ws }) weights ≡ rule_of ps
-rule_is ps qs rs ts q weights h k l m =
-    ap (with_weights q) m
-    ∙ sym (rule_by_steps ps ∙ ap (option_and_then behind_opening) h ∙ ap (option_and_then behind_quota) k
-    ∙ ap (option_and_then (λ us. with_weights q (weights_of us))) l)
+rule_is ps qs rs ts q weights h k l m = grind (arith, rule_by_steps)

@@ -96,8 +96,7 @@ none-any f (x ∷ xs) h = let parts = or_parts (f x) (list_any f xs) h in (parts
 light-rules : (n : ℕ) (rs : List RuleView) → ((i : ℕ) → i < n → is_heavy rs i ≡ false)
     → AllByRecursion (λ r. (i : ℕ) → i < n → get_or r.weights i 0 ≤ 1000000000000) rs
 light-rules n [] h = tt
-light-rules n (r ∷ rs) h =
-    (λ i lt. (let own = h i lt in grind (arith, nat_tests)), light-rules n rs (λ i lt. (let own = h i lt in grind (arith, nat_tests))))
+light-rules n (r ∷ rs) h = grind (arith, light-rules n rs (λ i lt. (grind (arith, nat_tests))), nat_tests)
 
 pub light-weights : (g : GameView)
     → IsGame g → AllByRecursion (λ r. (i : ℕ) → i < length g.names → get_or r.weights i 0 ≤ 1000000000000) g.rules
@@ -117,13 +116,7 @@ rule-votes n first r few len len2 light quota =
     let found = ranking first in
     let same : sum (weights_at r.weights (members_by_rank (rank_places first))) ≡ sum r.weights =
     ranking-sum first found.0 r.weights found.1 (omega arith) in
-    let bound = light-sum n r.weights len2 few light in
-    record {
-      full = length-weights_by_rank (rank_places first) r.weights ∙ length-rank_places first ∙ len;
-      some = grind (arith, nat_tests);
-      met = grind (arith, nat_tests);
-      light = omega (arith, same);
-    }
+    let bound = light-sum n r.weights len2 few light in grind (arith, length-weights_by_rank, length-rank_places, nat_tests)
 
 rules-votes : (n : ℕ) (first : List ℕ) (rs : List RuleView) → n ≤ 40 → length first ≡ n → AllByRecursion (λ r. length r.weights ≡ n) rs
     → AllByRecursion (λ r. (i : ℕ) → i < n → get_or r.weights i 0 ≤ 1000000000000) rs → AllByRecursion (λ r. has_bad_quota r ≡ false) rs
@@ -148,8 +141,6 @@ first-full n (r ∷ rs) some full = full.0
 pub votes-are : (g : GameView) → IsGame g → IsVotes (votes_of g)
 votes-are g game =
     let p = passed g game.made in
-    let n : ℕ = length g.names in
-    let sizes = p.members in
     let few : length g.names ≤ 40 = grind (arith, nat_tests) in
     let full = recursion_from_All (λ (r : RuleView). length r.weights ≡ length g.names) g.rules game.full in
     let light = light-weights g game in
@@ -161,11 +152,4 @@ votes-are g game =
     (rules-votes (length g.names) (first_weights g.rules) g.rules few len full light quotas) in
     let up : IsRanked (map (rule_by_rank g.ranks) g.rules) =
     subst (λ (ranks : List ℕ). IsRanked (map (rule_by_rank ranks) g.rules)) (sym p.ranks) (rules-ranked g.rules) in
-    record {
-      some = grind (arith, nat_tests);
-      few = few;
-      has_rule = omega (arith, count, game.has_rule);
-      few_rules = omega (arith, count, game.few_rules);
-      rules = all;
-      ranked = up;
-    }
+    grind (arith, nat_tests)

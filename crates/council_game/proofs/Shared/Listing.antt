@@ -1,11 +1,11 @@
 -- The list of minimal coalitions.
-use Rattle.std.proofs.Common.{◌≡◌, ◌≢◌, ℕ, zero, suc, ◌-◌, ◌*◌, ◌/◌, ◌%◌, ◌^◌, ◌<◌, ◌≤◌, Bool, true, false, not, List, [], ◌∷◌, ◌++◌, length, sum, refl, sym, ap, ◌∙◌, arith}
+use Rattle.std.proofs.Common.{◌≡◌, ℕ, zero, suc, ◌-◌, ◌*◌, ◌/◌, ◌%◌, ◌^◌, ◌<◌, ◌≤◌, Bool, true, false, not, List, [], ◌∷◌, ◌++◌, length, sum, refl, ap, arith}
 use Rattle.std.specs.List.{AllByRecursion, All, AllPairs, filter}
 use Rattle.std.proofs.lemmas.Nat.{pow_pos, one_shl}
 use Rattle.std.proofs.lemmas.Nat.Bits.{bit_at_ones}
 use Rattle.std.proofs.lemmas.List.{append_assoc, append-nil}
 use Rattle.std.proofs.Math.Nat.{pow-le-pow_right}
-use Rattle.std.proofs.lemmas.List.Elements.{All-cons, All-nil, All-weaker, All-filter, filter_passes}
+use Rattle.std.proofs.lemmas.List.Elements.{All-cons, All-nil, All-filter, filter_passes}
 use Rattle.std.proofs.lemmas.List.Kept.{AllPairs-cons, AllPairs-filter}
 use Rattle.std.proofs.lemmas.List.Sums.{sum_by-cons}
 use Rattle.std.proofs.lemmas.List.Filters.{length-filter_both}
@@ -33,7 +33,7 @@ wins-full n (r ∷ rs) all = grind (arith, nat_tests, wins-full n rs all.1, weig
 none-wins : (n : ℕ) (rs : List RuleView) → AllByRecursion (IsRule n) rs → 1 ≤ length rs → wins rs 0 ≡ true → ⊥
 unfolding wins
 none-wins n [] all some h = omega arith
-none-wins n (r ∷ rs) all some h = let pos = all.0.some in grind (arith, nat_tests, weight-zero r.weights)
+none-wins n (r ∷ rs) all some h = grind (arith, nat_tests, weight-zero r.weights)
 
 pub down-below : (n m : ℕ) → n ≤ m → All (λ c. c < m) (down n)
 unfolding down
@@ -67,9 +67,7 @@ listing-is v game =
       below = All-filter (minimal v) (λ c. c < 2 ^ v.members) (down (2 ^ v.members))
           (down-below (2 ^ v.members) (2 ^ v.members) (omega arith));
       descending = AllPairs-filter (λ a b. b < a) (minimal v) (down (2 ^ v.members)) (down-descends (2 ^ v.members));
-      none_empty = All-weaker (λ c. minimal v c ≡ true) (λ c. c ≢ 0)
-          (λ c min e. none-wins v.members v.rules game.rules game.has_rule (ap (wins v.rules) (sym e) ∙ (and_parts _ _ min).0))
-          (filter (minimal v) (down (2 ^ v.members))) (filter_passes (minimal v) (down (2 ^ v.members)));
+      none_empty = grind (arith, none-wins, and_parts, filter_passes);
     }
 
 -- ---- the list, filled from above

@@ -8,6 +8,7 @@ use Rattle.std.proofs.lemmas.List.Elements.{All-map, recursion_from_All}
 use Rattle.std.proofs.lemmas.List.Sums.{position_or_len_is}
 use Rattle.std.proofs.lemmas.List.Sorted.{All-permutation}
 use Rattle.std.proofs.lemmas.Bool.{ne_eqb, eq-eqb, ltb-false, or_parts}
+use Rattle.std.proofs.lemmas.Grind.{common_steps}
 use Rattle.council_game.specs.declared.rule.Rule.{Rule}
 use Rattle.council_game.specs.Votes.{RuleView, IsVotes}
 use Rattle.council_game.specs.Inner.Weighing.{votes}
@@ -20,7 +21,7 @@ use Rattle.council_game.proofs.Shared.RuleLists.{held_full}
 use Rattle.council_game.proofs.Shared.Rankings.{IsRanking, ranking-member_at, ranking-below, ranking-is, ranking-length, rank-of, rank_places-at, ranking-falls, ranking-weights_at, length-rank_places, place-found, places-at, places-below}
 use Rattle.council_game.proofs.Order.{ranking}
 use Rattle.council_game.proofs.Shared.WinningByPlaces.{held-rule}
-use Rattle.council_game.proofs.Shared.Games.{passed, votes-are, first-full, light-weights, light-sum}
+use Rattle.council_game.proofs.Shared.Games.{passed, votes-are, light-weights, light-sum}
 
 -- the place of each member in a ranking is its rank place
 ranking-places : (ws qs : List ℕ) → IsRanking ws qs → map (place_in qs) (places qs) ≡ rank_places ws
@@ -136,8 +137,6 @@ pub record RanksAre (n : ℕ) (ranks : List ℕ) : Type 0 where
 pub ranks-of : (ws : List ℕ) → RanksAre (length ws) (rank_places ws)
 ranks-of ws =
     let found = ranking ws in
-    let qs : List ℕ = found.0 in
-    let r = found.1 in
     let len = ranking-length ws found.0 found.1 in
     record {
       count = length-rank_places ws;
@@ -182,9 +181,7 @@ pub ranks-are : (g : GameView) → IsGame g → RanksAre (length g.names) g.rank
 ranks-are g game =
     let p = passed g game.made in
     let full = recursion_from_All (λ (r : RuleView). length r.weights ≡ length g.names) g.rules game.full in
-    let len = first-full (length g.names) g.rules game.has_rule full in
-    subst (λ (n : ℕ). RanksAre n g.ranks) len
-    (subst (RanksAre (length (first_weights g.rules))) (sym p.ranks) (ranks-of (first_weights g.rules)))
+    grind (arith, nat_tests, common_steps, ranks-of)
 
 pub held-votes : (g : GameView) (n : ℕ) (ranked : List Rule) → IsGame g → n ≡ length g.names → rule_views ranked ≡ (votes_of g).rules
     → IsVotes (votes n ranked)
@@ -209,8 +206,7 @@ pub held-weights : (g : GameView) (ranked : List Rule) (i : ℕ) (x : Rule) → 
     → i < length g.rules → x ≡ get_or ranked i x → (length x.weights.items ≤ 40) × (sum x.weights.items ≤ 40000000000000)
 held-weights g ranked i x game same lt at =
     let v = held-votes g (length g.names) ranked game refl same in
-    let count : length ranked ≡ length g.rules = sym (length-map ranked rule_view) ∙ ap length same
-    ∙ length-map g.rules (rule_by_rank g.ranks) in
+    let count : length ranked ≡ length g.rules = grind (arith, length-map) in
     let is = held-rule (length g.names) ranked i x v (omega (arith, count)) at in
     (omega (arith, is.full, v.few), is.light)
 

@@ -23,7 +23,6 @@ pub digits-less : (n a c : ℕ) → ((p : ℕ) → p < n → has n p a ≡ true 
 unfolding has
 digits-less n a c sub i below =
     let place : n - 1 - (n - 1 - i) ≡ i = omega arith in
-    let inside = rw place at (sub (n - 1 - i) (omega arith)) in
     grind (arith, nat_tests, bit_at-lt a i, bit_at-lt c i)
 
 -- a minimal coalition without a place loses, so that a subset that wins has each place of it
@@ -43,8 +42,7 @@ subsets-lose v game a c la lc min sub =
           let lost = rw place at (((needs-each-member v c).0 min).1 (v.members - 1 - i) (omega arith)) in
           absurd (both_ways _ (lost (eq-eqb _ _ inside)) (wins-mono v.members a (c - 2 ^ i) v.rules game.rules
           (λ j lt. elim (cases_eq j i) [
-            | inl same ↦ let out : a / 2 ^ j % 2 ≡ 0 = ap (λ (k : ℕ). a / 2 ^ k % 2) same
-                ∙ omega (arith, here, inside, other) in omega (arith, out)
+            | inl same ↦ let out : a / 2 ^ j % 2 ≡ 0 = grind (arith) in omega (arith, out)
             | inr apart ↦ let kept = digit-kept c i j inside apart in let l = less j lt in omega (arith, kept, l)
           ]) won))
     ])))

@@ -1,6 +1,6 @@
 -- The weight of a coalition, one binary digit after another.
 use Rattle.std.proofs.lemmas.Bool.Decides.{nat_tests}
-use Rattle.std.proofs.Common.{◌≡◌, ℕ, suc, ◌+◌, ◌-◌, ◌*◌, ◌/◌, ◌%◌, ◌^◌, ◌<◌, List, [], ◌∷◌, length, filter, slice_index, refl, sym, ap, ◌∙◌, arith}
+use Rattle.std.proofs.Common.{◌≡◌, ℕ, suc, ◌+◌, ◌*◌, ◌/◌, ◌%◌, ◌^◌, ◌<◌, List, [], ◌∷◌, length, filter, slice_index, refl, sym, ap, ◌∙◌, arith}
 use Rattle.std.specs.List.{range_with_len, sum_by}
 use Rattle.std.proofs.lemmas.Bool.{cond_both, eqb-true, eqb-false}
 use Rattle.std.proofs.lemmas.List.Sums.{sum_by-cons}
@@ -17,21 +17,12 @@ from : (ws vs : List ℕ) (m a c : ℕ) → m ≡ a + length vs → ((i : ℕ) �
 unfolding has by_digits
 from ws [] m a c e same = refl
 from ws (v ∷ vs) m a c e same =
-    let long : length (v ∷ vs) ≡ suc (length vs) = refl in
     let rest = from ws vs m (a + 1) c (omega arith) (λ i below.
     let at : a + 1 + i ≡ a + suc i = omega arith in
     ap (slice_index ws) at ∙ same (suc i) (omega arith)) in
-    let place : m - 1 - a ≡ length vs = omega arith in
-    let bit : c / 2 ^ length vs % 2 < 2 = omega arith in
     let others : List ℕ = filter (λ p. has m p c) (range_with_len (a + 1) (length vs)) in
     let first : slice_index ws a ≡ v = ap (slice_index ws) (let z : a ≡ a + 0 = omega arith in z) ∙ same 0 (omega arith) in
-    let more = sum_by-cons (slice_index ws) a others in
-    cond_both (has m a c) (a ∷ others) others (λ ps. c / 2 ^ length vs % 2 * v + by_digits vs c ≡ sum_by (slice_index ws) ps)
-    (λ inside. let digit = rw place at (eqb-true _ _ inside) in rw digit (omega (arith, rest, more, first)))
-    (λ outside.
-    let other = rw place at (eqb-false _ _ outside) in
-    let digit : c / 2 ^ length vs % 2 ≡ 0 = omega (arith, bit, other) in
-    rw digit (omega (arith, rest)))
+    let more = sum_by-cons (slice_index ws) a others in grind (arith, cond_both, by_digits, eqb-true, eqb-false)
 
 weight-by_digits : (ws : List ℕ) (c : ℕ) → weight ws c ≡ by_digits ws c
 unfolding weight

@@ -1,10 +1,11 @@
 -- The weight of a coalition, split at a prefix of its places.
 use Rattle.std.proofs.lemmas.Bool.Decides.{nat_tests}
-use Rattle.std.proofs.Common.{◌≡◌, ◌≢◌, ℕ, zero, suc, ◌+◌, ◌-◌, ◌*◌, ◌/◌, ◌%◌, ◌^◌, ◌<◌, ◌≤◌, List, [], ◌∷◌, ◌++◌, length, take, drop, get_or, sum, sym, ap, ◌∙◌, arith}
+use Rattle.std.proofs.Common.{◌≡◌, ◌≢◌, ℕ, zero, suc, ◌+◌, ◌-◌, ◌*◌, ◌/◌, ◌%◌, ◌^◌, ◌<◌, ◌≤◌, List, [], ◌∷◌, ◌++◌, length, take, drop, get_or, sum, ◌∙◌, arith}
 use Rattle.std.proofs.lemmas.Nat.Bits.{bit_at_cat_low, bit_at_cat_high, bit_at-lt, bit_at-zero}
 use Rattle.std.proofs.lemmas.Nat.{div-add-mod', mod_below, pow_pos, mul-le, div-mul-add, mod-mul-add}
 use Rattle.std.proofs.lemmas.List.{length-append, take-append-drop, length-drop, take_more}
 use Rattle.std.proofs.lemmas.List.Sums.{sum_by-cons}
+use Rattle.std.proofs.lemmas.Grind.{common_steps}
 use Rattle.council_game.specs.Votes.{weight}
 use Rattle.coalitions.proofs.Shared.Digits.{digit-kept, digit-gone}
 use Rattle.council_game.proofs.Shared.WeightByDigits.{weight-nil, weight-cons}
@@ -46,11 +47,8 @@ weight-at ws p c h =
 pub weight-prefix : (ws : List ℕ) (p x : ℕ) → p ≤ length ws → weight ws (x * 2 ^ (length ws - p)) ≡ weight (take p ws) x
 weight-prefix ws p x h =
     let pos : 0 < 2 ^ (length ws - p) = pow_pos (length ws - p) in
-    let e : x * 2 ^ (length ws - p) + 0 ≡ x * 2 ^ (length ws - p) = omega arith in
-    let d : x * 2 ^ (length ws - p) / 2 ^ (length ws - p) ≡ x = ap (λ (i : ℕ). i / 2 ^ (length ws - p)) (sym e)
-    ∙ div-mul-add x (2 ^ (length ws - p)) 0 pos in
-    let m : x * 2 ^ (length ws - p) % 2 ^ (length ws - p) ≡ 0 = ap (λ (i : ℕ). i % 2 ^ (length ws - p)) (sym e)
-    ∙ mod-mul-add x (2 ^ (length ws - p)) 0 pos in
+    let d : x * 2 ^ (length ws - p) / 2 ^ (length ws - p) ≡ x = grind (arith, div-mul-add) in
+    let m : x * 2 ^ (length ws - p) % 2 ^ (length ws - p) ≡ 0 = grind (arith, mod-mul-add) in
     rw (d, m, weight-zero (drop p ws)) at (weight-at ws p (x * 2 ^ (length ws - p)) h) ∙ omega arith
 
 -- one place more
@@ -58,12 +56,7 @@ pub weight-more : (ws : List ℕ) (p x b : ℕ) → p < length ws → b < 2
     → weight (take (p + 1) ws) (2 * x + b) ≡ weight (take p ws) x + b * get_or ws p 0
 weight-more ws p x b h below =
     let e : x * 2 ^ length (get_or ws p 0 ∷ []) + b ≡ 2 * x + b = omega arith in
-    let one : b / 2 ^ 0 % 2 ≡ b = omega arith in
-    ap (λ (l : List ℕ). weight l (2 * x + b)) (take_more ws p 0 h)
-    ∙ ap (weight (take p ws ++ get_or ws p 0 ∷ [])) (sym e)
-    ∙ weight-cat (take p ws) (get_or ws p 0 ∷ []) x b (omega arith)
-    ∙ (let z : weight (get_or ws p 0 ∷ []) b ≡ b * get_or ws p 0 =
-    rw (weight-cons (get_or ws p 0) [] b, weight-nil b, one) (omega arith) in omega (arith, z))
+    grind (arith, nat_tests, common_steps, take_more, weight-cat, weight-cons, weight-nil)
 
 -- Where c has place q besides the places of a, it weighs more by that place.
 weight-one_more : (ws : List ℕ) (a c k q : ℕ) → k + 1 + q ≡ length ws → a / 2 ^ k % 2 ≡ 0 → c / 2 ^ k % 2 ≡ 1

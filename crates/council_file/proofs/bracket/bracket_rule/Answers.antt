@@ -1,4 +1,5 @@
-use Rattle.std.proofs.Common.{sym, Some, None}
+use Rattle.std.proofs.Common.{sym, Some, None, arith}
+use Rattle.std.proofs.lemmas.Grind.{common_steps}
 use Rattle.council_file.proofs.Weights.{rule_without_opening, rule_without_quota, rule_without_semicolon, rule_is}
 use Rattle.council_file.proofs.bracket.bracket_rule.Goals as goal
 
@@ -6,14 +7,10 @@ pub returns-then-not-take_opening : goal.returns-then-not-take_opening
 returns-then-not-take_opening c = rw (← c.new-scanner.ensures) (rule_without_opening c.new-scanner.result c.if-not-take_opening.ensures)
 
 pub returns-in_default : goal.returns-in_default
-returns-in_default c =
-    rw (← c.new-scanner.ensures) (rule_without_quota c.new-scanner.result _ c.if-not-take_opening.ensures (sym c.in_default.ensures))
+returns-in_default c = grind (arith, common_steps, rule_without_quota)
 
 pub returns-then-not-take_semicolon : goal.returns-then-not-take_semicolon
-returns-then-not-take_semicolon c =
-    rw (← c.new-scanner.ensures)
-    (rule_without_semicolon c.new-scanner.result _ _ _ c.if-not-take_opening.ensures
-    (sym c.in-Some.ensures) c.if-not-take_semicolon.ensures)
+returns-then-not-take_semicolon c = grind (arith, common_steps, rule_without_semicolon)
 
 pub returns-in-Some-2 : goal.returns-in-Some-2
 returns-in-Some-2 c = rw (← c.new-scanner.ensures)
