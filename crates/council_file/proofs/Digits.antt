@@ -7,13 +7,13 @@ use Rattle.std.specs.Char.{is_ascii_digit, digit_value}
 use Rattle.std.specs.Str.Parse.{AllDigits, digits_value}
 use Rattle.std.proofs.lemmas.Bool.{false≢true}
 use Rattle.std.proofs.lemmas.Bool.Decides.{nat_tests}
-use Rattle.std.proofs.lemmas.Str.Parse.{digit_at, digit_from_value, digits_value_short, digits_value-take-le, numerals_by_value, tells_digits}
+use Rattle.std.proofs.lemmas.Str.Parse.{digit_at, digits_value_short, digits_value-take-le, numerals_by_value, tells_digits}
 use Rattle.std.proofs.lemmas.Int.Digits.{digits_value_more}
 use Rattle.council_file.specs.Bracket.{number, mark, symbols, is_blank, begins_with_digit, with_digit}
 use Rattle.council_file.specs.Inner.Scan.{begins_with_blank}
 
 digit_test : (c : ℕ) → digit_value c < 10 → is_ascii_digit c ≡ true
-digit_test c h = let r = digit_from_value c h in grind (arith, nat_tests)
+digit_test c h = grind (arith, nat_tests)
 
 blank_no_digit : (b : ℕ) → is_blank b ≡ true → is_ascii_digit b ≡ false
 blank_no_digit b h = grind (arith, nat_tests)
@@ -43,7 +43,7 @@ number_in_front b bs (suc n) digit whole stop = ap (λ (t : List ℕ). symbols (
     ∙ symbols-number b (take n bs) (drop n bs) whole stop
 
 digit_value-minus : (c : ℕ) → (48 ≤ c) × (c ≤ 57) → digit_value c ≡ c - 48
-digit_value-minus c range = let low = range.0 in let high = range.1 in grind (arith, nat_tests)
+digit_value-minus c range = grind (arith, nat_tests)
 
 pub digits_more : (ds : List ℕ) (i : ℕ) → AllDigits 10 ds → i < length ds
     → digits_value 10 (take (i + 1) ds) ≡ digits_value 10 (take i ds) * 10 + (get_or ds i 0 - 48)

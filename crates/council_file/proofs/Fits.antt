@@ -1,5 +1,5 @@
 -- The rules of a tree that passed the checks fit a game.
-use Rattle.std.proofs.Common.{◌≡◌, ℕ, ◌<◌, ◌≤◌, Bool, true, false, not, ◌&&◌, ◌||◌, List, [], length, map, Option, Some, None, is_some, codes, refl, sym, ap, ◌∙◌, arith, All, inl, inr, String, Global, string_bytes}
+use Rattle.std.proofs.Common.{◌≡◌, ℕ, ◌<◌, ◌≤◌, Bool, true, false, not, ◌&&◌, ◌||◌, List, [], length, map, Option, Some, None, is_some, codes, refl, sym, arith, All, inl, inr, String, Global, string_bytes}
 use Rattle.std.specs.List.{range_with_len}
 use Rattle.std.specs.Option.{option_map_or}
 use Rattle.std.proofs.lemmas.Bool.Decides.{nat_tests}
@@ -55,7 +55,5 @@ pub all_held : (rules : List Rule) (t : Members) (names : List (String Global)) 
     → ds ≡ member_list t → map string_bytes names ≡ map name_from ds
     → All (λ r. length r.weights.items ≡ length names) rules
 all_held rules t names ds same members named =
-    let len : length (member_list t) ≡ length names =
-    ap (λ (xs : List Data). length xs) (sym members) ∙ sym (length-map ds name_from) ∙ ap (λ (xs : List (List ℕ)). length xs) (sym named)
-    ∙ length-map names string_bytes in
+    let len : length (member_list t) ≡ length names = grind (arith, length-map) in
     held_full rules (length names) (rw (same, ← len) (rules_full t))

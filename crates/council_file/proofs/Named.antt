@@ -6,7 +6,6 @@ use Rattle.std.specs.Str.Parse.{AllDigits}
 use Rattle.std.specs.Cmp.Lexicographic.{pointwise, same_text}
 use Rattle.std.proofs.lemmas.Bool.{cases_Bool}
 use Rattle.std.proofs.lemmas.Bool.Decides.{nat_tests}
-use Rattle.std.proofs.lemmas.Str.Parse.{digit_from_value}
 use Rattle.std.proofs.lemmas.Fmt.{decimal_is_IsNumeral, length-decimal-le, decimal_injective}
 use Rattle.std.proofs.lemmas.List.Folds.{list_any_none}
 use Rattle.std.proofs.lemmas.List.FromFn.{length-map-range_with_len, get_or-map-range_with_len, take-map-range_with_len}
@@ -15,7 +14,7 @@ use Rattle.council_game.proofs.Shared.Games.{nowhere_below, position_nowhere}
 use Rattle.council_file.specs.Bracket.{counted_names}
 
 plain_digit : (b : ℕ) → digit_value b < 10 → (nat_le 32 b && not (b == 127)) ≡ true
-plain_digit b h = let r = digit_from_value b h in grind (arith, nat_tests)
+plain_digit b h = grind (arith, nat_tests)
 
 plain_digits : (ds : List ℕ) → AllDigits 10 ds → is_plain ds ≡ true
 plain_digits [] h = refl

@@ -4,7 +4,6 @@ use Rattle.std.specs.List.{AllByRecursion, list_any, position, range_with_len}
 use Rattle.std.specs.Str.Parse.{AllDigits}
 use Rattle.std.proofs.lemmas.Bool.{or_parts, le-leb, le-ltb, ltb-false}
 use Rattle.std.proofs.lemmas.Fmt.{decimal_is_IsNumeral, length-decimal-le}
-use Rattle.std.proofs.lemmas.List.Elements.{All-from_recursion}
 use Rattle.std.proofs.lemmas.List.FromFn.{length-map-range_with_len}
 use Rattle.std.proofs.lemmas.Bool.Decides.{nat_tests}
 use Rattle.std.proofs.lemmas.Grind.{common_steps}
@@ -167,16 +166,7 @@ rule_game n r fits =
 fits_at : (g : GameView) (k : ℕ) → IsGame g → k < length g.rules → Fits (length g.names) (rule_at g.rules k)
 fits_at g k game below =
     let p = passed g game.made in
-    let count = or_parts (nat_lt (length g.names) 1) (nat_lt 40 (length g.names)) p.members in
-    let none : RuleView = record { quota = 0; weights = [] } in
-    record {
-      some = ltb-false _ _ count.0;
-      few = ltb-false _ _ count.1;
-      full = game.full k none below;
-      light = All-from_recursion (λ (r : RuleView). (i : ℕ) → i < length g.names → get_or r.weights i 0 ≤ 1000000000000) g.rules
-          (light-weights g game) k none below;
-      quota = All-from_recursion (λ (r : RuleView). has_bad_quota r ≡ false) g.rules (none-any has_bad_quota g.rules p.quotas) k none below;
-    }
+    grind (arith, nat_tests, common_steps, ltb-false, light-weights, none-any)
 
 pub reads_back : (g : GameView) → IsGame g → NotationReadsBack g
 reads_back g game k below = rule_game (length g.names) (rule_at g.rules k) (fits_at g k game below)

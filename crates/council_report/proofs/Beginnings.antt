@@ -38,20 +38,13 @@ pub before-same : (n a b k : ℕ) → SameBefore n k a b → places_before n a k
 before-same n a b zero same = before-none n a ∙ sym (before-none n b)
 before-same n a b (suc k) same =
     let first = before-same n a b k (λ p below. same p (omega (arith, below))) in
-    let last = same k (omega arith) in
-    let next : suc k ≡ k + 1 = omega arith in
-    ap (places_before n a) next ∙ before-more n a k
-    ∙ ap (λ (ps : List ℕ). ps ++ cond (has n k a) (k ∷ []) []) first
-    ∙ ap (λ (b' : Bool). places_before n b k ++ cond b' (k ∷ []) []) last
-    ∙ sym (before-more n b k) ∙ ap (places_before n b) (sym next)
+    let next : suc k ≡ k + 1 = omega arith in grind (arith, before-more)
 
 -- m places more, none of them in
 before-further : (n c k m : ℕ) → HasNoneFrom n k c → k + m ≤ n → places_before n c (k + m) ≡ places_before n c k
 before-further n c k zero none le = ap (places_before n c) (let e : k + zero ≡ k = omega arith in e)
 before-further n c k (suc m) none le =
-    let next : k + suc m ≡ k + m + 1 = omega arith in
-    ap (places_before n c) next ∙ before-out n c (k + m) (none (k + m) (omega arith) (omega (arith, le)))
-    ∙ before-further n c k m none (omega (arith, le))
+    let next : k + suc m ≡ k + m + 1 = omega arith in grind (arith, before-further n c k m none (omega (arith, le)), before-out)
 
 -- those before k are all
 pub before-all : (n c k : ℕ) → k ≤ n → HasNoneFrom n k c → places_before n c n ≡ places_before n c k

@@ -1,5 +1,5 @@
 -- No line of coalitions, sizes or members is longer than the room that a block keeps for it.
-use Rattle.std.proofs.Common.{◌≡◌, ℕ, ◌+◌, ◌*◌, ◌^◌, ◌<◌, ◌≤◌, ◌++◌, List, [], ◌∷◌, length, get_or, map, codes, decimal, Bool, cond, true, zero, suc, ◌==◌, arith, length-append, ap}
+use Rattle.std.proofs.Common.{◌≡◌, ℕ, ◌+◌, ◌*◌, ◌^◌, ◌<◌, ◌≤◌, ◌++◌, List, [], ◌∷◌, length, get_or, map, codes, decimal, Bool, cond, true, zero, suc, ◌==◌, arith, length-append}
 use Rattle.std.specs.List.{All, AllByRecursion, flat_map, range_with_len}
 use Rattle.std.proofs.lemmas.Fmt.{length-decimal-le, length-decimal-le_wide}
 use Rattle.std.proofs.lemmas.Bool.{cond_both}
@@ -7,8 +7,8 @@ use Rattle.std.proofs.lemmas.List.{length-map}
 use Rattle.std.proofs.lemmas.List.Concat.{length-flat_map}
 use Rattle.std.proofs.lemmas.List.Sums.{sum_by-le}
 use Rattle.std.proofs.lemmas.List.FromFn.{length-range_with_len, length-map-range_with_len, get_or-range_with_len}
-use Rattle.std.proofs.lemmas.List.Elements.{All-from_recursion}
 use Rattle.std.proofs.lemmas.Bool.Decides.{nat_tests}
+use Rattle.std.proofs.lemmas.Grind.{common_steps}
 use Rattle.council_game.specs.Votes.{RuleView, IsRule, places_of, size, weight}
 use Rattle.council_game.specs.Ranks.{member_at}
 use Rattle.council_game.specs.Game.{GameView, IsGame, votes_of}
@@ -23,17 +23,14 @@ use Rattle.power_index.proofs.Shared.Small.{AreBelow, deegan_packel-wide, public
 use Rattle.council_report.specs.declared.counted.Counted.{Counted}
 use Rattle.council_report.specs.declared.shown.Shown.{Shown}
 use Rattle.council_report.specs.Inner.Lines.{line_of_size, line_of_member, lines_of}
-use Rattle.council_report.specs.Lines.{with_tab, line, with_slashes, name_of, names_of, weights_of_coalition, weights_of_member, index_fields, coalition_line, size_line, member_line}
+use Rattle.council_report.specs.Lines.{with_tab, line, with_slashes, name_of, names_of, weights_of_coalition, weights_of_member, coalition_line, size_line, member_line}
 
 -- a field of a line
 abbrev pub IsField : List ℕ → Type 0
 IsField field = length field ≤ 84
 
 pub with_tab-fits : (fields : List (List ℕ)) → AllByRecursion IsField fields → length (flat_map with_tab fields) ≤ length fields * 85
-with_tab-fits fields h =
-    rw (length-flat_map with_tab fields)
-    (sum_by-le (λ f. length (with_tab f)) 85 fields
-    (λ k d lt. let fit = All-from_recursion IsField fields h k d lt in omega (arith, fit)))
+with_tab-fits fields h = grind (arith, nat_tests, common_steps, length-flat_map, sum_by-le)
 
 -- a line of at most 42 fields
 line-fits : (word : List ℕ) (fields : List (List ℕ)) → length word ≤ 9 → length fields ≤ 42 → AllByRecursion IsField fields
@@ -49,23 +46,9 @@ number-field n h = let fit = number-fits n h in omega (arith, fit)
 
 length-with_slashes : (values : List ℕ) → AllByRecursion (λ v. v < 2 ^ 64) values → length (with_slashes values) ≤ length values * 21
 length-with_slashes [] h = omega arith
-length-with_slashes (v ∷ []) h =
-    let first = number-fits v h.0 in
-    let one = ap (λ (t : List ℕ). length t) (one-number (codes "/") v) in
-    omega (arith, first, one)
+length-with_slashes (v ∷ []) h = grind (arith, nat_tests, common_steps, number-fits, one-number)
 length-with_slashes (v ∷ w ∷ vs) h =
-    let first = number-fits v h.0 in
-    let rest = length-with_slashes (w ∷ vs) h.1 in
-    let more = ap (λ (t : List ℕ). length t) (next-numbers (codes "/") v w vs) in
-    omega (
-      arith,
-      first,
-      rest,
-      more,
-      length-append (decimal v) (codes "/" ++ with_slashes (w ∷ vs)),
-      length-append (codes "/")
-          (with_slashes (w ∷ vs)),
-    )
+    grind (arith, nat_tests, common_steps, length-with_slashes (w ∷ vs) h.1, number-fits, next-numbers, length-append)
 
 -- a value for each of 4 rules at most
 with_slashes-fits : (values : List ℕ) → length values ≤ 4 → AllByRecursion (λ v. v < 2 ^ 64) values → IsField (with_slashes values)
@@ -153,10 +136,7 @@ member-fits k i lt =
     let first = fraction-fits (lowest_terms (table_deegan_packel k.counts.now i)) deegan in
     let second = fraction-fits (lowest_terms (table_public_good k.counts.now i)) public in
     let count = number-field (table_of_member k.counts.now i) (omega (arith, k.sound.few_of_member i inside, k.sound.few)) in
-    line-fits (codes "member") (name_of g i ∷ with_slashes (weights_of_member g i) ∷ decimal (table_of_member k.counts.now i)
-    ∷ index_fields (lowest_terms (table_deegan_packel k.counts.now i))
-    ++ index_fields (lowest_terms (table_public_good k.counts.now i))) (omega arith) (omega arith)
-    (name-fits g k.is_game i, (weights, (count, (first, (omega arith, (second, (omega arith, tt)))))))
+    grind (arith, nat_tests, common_steps, line-fits, name-fits)
 
 -- ---- the lines together
 rows-fit : {X : Type 0} (f : X → List ℕ) (xs : List X) → All (λ x. length (f x) ≤ 4096) xs → length (flat_map f xs) ≤ length xs * 4096

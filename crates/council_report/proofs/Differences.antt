@@ -1,5 +1,5 @@
 -- Where two coalitions differ first, and where the last member of one is.
-use Rattle.std.proofs.Common.{◌≡◌, ℕ, suc, ◌+◌, ◌-◌, ◌/◌, ◌%◌, ◌^◌, ◌<◌, ◌≤◌, ◌==◌, bit_xor, ap, arith, inl, inr}
+use Rattle.std.proofs.Common.{◌≡◌, ℕ, suc, ◌+◌, ◌-◌, ◌/◌, ◌%◌, ◌^◌, ◌<◌, ◌≤◌, bit_xor, arith, inl, inr}
 use Rattle.std.specs.Int.{w64, leading_zeros, trailing_zeros}
 use Rattle.std.proofs.lemmas.Bool.{cases_lt}
 use Rattle.std.proofs.lemmas.Nat.{leading_length, xor_lt}
@@ -39,13 +39,7 @@ differs n a b few below_a below_b =
           let twice = pow-suc 2 n in
           absurd (omega (arith, most, twice, long.3, below))
       | inr ge ↦ ge
-    ] in
-    record {
-      digits = m;
-      count = long.1;
-      within = short;
-      same = λ p lt. ap (λ (d : ℕ). d == 1) (same-digit a b (n - 1 - p) (bit_at_above x m (n - 1 - p) long.2 (omega (arith, lt, short))));
-    }
+    ] in grind (arith, same-digit, bit_at_above)
 
 -- behind its last member none is in
 pub none-behind : (n c : ℕ) → n ≤ 40 → 0 < c → c < 2 ^ n → (trailing_zeros w64 c ≤ n) × HasNoneFrom n (n - trailing_zeros w64 c) c
@@ -54,7 +48,4 @@ none-behind n c few pos below =
     let up : 2 ^ n ≤ 2 ^ 40 = pow_mono few in
     let wide : c < 2 ^ 64 = omega (arith, below, up) in
     let low = lowest-place n c few pos below in
-    let digits = bit_at-trailing_zeros w64 c pos wide in (
-      omega (arith, low.0),
-      λ p from lt. ap (λ (d : ℕ). d == 1) (digits.2 (n - 1 - p) (omega (arith, from, lt, low.0))),
-    )
+    let digits = bit_at-trailing_zeros w64 c pos wide in grind (arith)

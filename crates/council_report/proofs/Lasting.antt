@@ -2,6 +2,8 @@
 use Rattle.std.proofs.Common.{◌≡◌, ◌≤◌, ◌++◌, ℕ, List, [], length, Option, Result, Ok, Err, OnOk, IfErr, Vec, arith}
 use Rattle.std.specs.Global.{Global}
 use Rattle.std.specs.Vec.{vec_capacity}
+use Rattle.std.proofs.lemmas.Bool.Decides.{nat_tests}
+use Rattle.std.proofs.lemmas.Grind.{common_steps}
 use Rattle.council_text.specs.Room.{MakesRoomFor}
 use Rattle.council_report.specs.Inner.Told.{progress_of, Tells, HasStopped}
 use Rattle.council_report.specs.Inner.Ready.{HasRoom, IsReady}
@@ -28,11 +30,7 @@ pub puts-line : (text : List ℕ) (held now : Option (List ℕ)) (old pushed new
     → pushed.written ≡ old.written → pushed.bytes.items ≡ old.bytes.items ++ text → vec_capacity old.bytes ≤ vec_capacity pushed.bytes
     → OnOk r (Tells (progress_of held pushed) (progress_of now new) []) → OnOk r (HasRoom pushed → IsReady new)
     → IfErr r (λ fault. HasStopped (progress_of held pushed) now fault.written) → Puts text held old now new r
-puts-line text held now old pushed new (Ok u) ready same more grown told settled failed = record {
-  tells = tells-same (progress_of held old) (progress_of held pushed) (progress_of now new) text
-      (tells-block held old pushed text same more) told;
-  ready = settled (omega (arith, ready.room, grown));
-}
+puts-line text held now old pushed new (Ok u) ready same more grown told settled failed =
+    grind (arith, nat_tests, common_steps, tells-same, tells-block)
 puts-line text held now old pushed new (Err fault) ready same more grown told settled failed =
-    stopped-after (progress_of held old) (progress_of held pushed) text now fault.written
-    (tells-block held old pushed text same more) failed
+    grind (arith, nat_tests, common_steps, stopped-after, tells-block)

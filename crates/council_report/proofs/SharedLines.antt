@@ -1,5 +1,5 @@
 -- A line at its end, one place more, and cut at a place.
-use Rattle.std.proofs.Common.{◌≡◌, ℕ, ◌+◌, ◌^◌, ◌<◌, ◌≤◌, ◌++◌, true, false, List, [], ◌∷◌, length, take, get_or, Vec, set, sym, ap, ◌∙◌, subst, arith, length-append}
+use Rattle.std.proofs.Common.{◌≡◌, ℕ, ◌+◌, ◌^◌, ◌<◌, ◌≤◌, ◌++◌, true, false, List, [], ◌∷◌, length, take, get_or, Vec, set, ap, ◌∙◌, arith, length-append}
 use Rattle.std.specs.Global.{Global}
 use Rattle.std.specs.Vec.{vec_capacity}
 use Rattle.std.specs.List.{flat_map}
@@ -7,6 +7,7 @@ use Rattle.std.proofs.Math.Seq.{take-append_seam}
 use Rattle.std.proofs.lemmas.Bool.{cases_lt}
 use Rattle.std.proofs.lemmas.List.{get_or-set_other, get_or-set_same, length-set}
 use Rattle.std.proofs.lemmas.Bool.Decides.{nat_tests}
+use Rattle.std.proofs.lemmas.Grind.{common_steps}
 use Rattle.council_game.specs.Votes.{has, weight, rule_at}
 use Rattle.council_game.specs.Game.{GameView, IsGame, votes_of}
 use Rattle.power_index.proofs.Shared.Members.{few-members}
@@ -31,23 +32,7 @@ line-kept g line names k c d is le same cut room =
     let front = before-front n line.coalition k line.end le in
     let all : line.names.items ≡ fields_of g (places_before n line.coalition k) ++ fields_of g front.0 =
     is.names ∙ ap (fields_of g) front.1 ∙ fields-append g (places_before n line.coalition k) front.0 in
-    let here = (is.subtotals k d le).names in
-    record {
-      game = is.game;
-      few = is.few;
-      seats = is.seats;
-      room = omega (arith, room, is.room);
-      within = omega (arith, is.within, le);
-      names =
-          cut ∙ ap (λ (m : ℕ). take m line.names.items) here
-          ∙ ap (take (length (fields_of g (places_before n line.coalition k)))) all
-          ∙ take-append_seam (fields_of g (places_before n line.coalition k)) (fields_of g front.0)
-          ∙ ap (fields_of g) (before-same n line.coalition c k same);
-      long = is.long;
-      subtotals = λ j e below.
-          let same' = before-same n line.coalition c j (λ p lt. same p (omega (arith, lt, below))) in
-          subst (λ (ps : List ℕ). IsSubtotal g ps (get_or line.subtotals j e)) same' (is.subtotals j e (omega (arith, below, le)));
-    }
+    grind (arith, take-append_seam, before-same)
 
 -- the subtotals with one more
 subtotals-more : (g : GameView) (c : ℕ) (sums : List Subtotal) (k : ℕ) (next : Subtotal) → length sums ≡ 41 → k < 40 →
@@ -60,21 +45,7 @@ subtotals-more g c sums k next long few each last j d le = grind (arith, nat_tes
 pub line-passed : (g : GameView) (line : SharedLine) (d : Subtotal) → IsLine g line → line.end < length g.names
     → has (length g.names) line.end line.coalition ≡ false →
     IsLine g (record line { end = line.end + 1; subtotals = set line.subtotals (line.end + 1) (get_or line.subtotals line.end d) })
-line-passed g line d is more out =
-    let n : ℕ = length g.names in
-    let same = before-out n line.coalition line.end out in
-    record {
-      game = is.game;
-      few = is.few;
-      seats = is.seats;
-      room = is.room;
-      within = omega (arith, more);
-      names = is.names ∙ ap (fields_of g) (sym same);
-      long = length-set line.subtotals (line.end + 1) (get_or line.subtotals line.end d) ∙ is.long;
-      subtotals = subtotals-more g line.coalition line.subtotals line.end (get_or line.subtotals line.end d) is.long
-          (omega (arith, more, is.few)) is.subtotals
-          (subst (λ (ps : List ℕ). IsSubtotal g ps (get_or line.subtotals line.end d)) (sym same) (is.subtotals line.end d (omega arith)));
-    }
+line-passed g line d is more out = grind (arith, nat_tests, common_steps, before-out, length-set, subtotals-more)
 
 -- a subtotal with the seat of place p more
 pub subtotal-more : (g : GameView) (ps : List ℕ) (p : ℕ) (now next : Subtotal) (seat : Seat) → IsSubtotal g ps now → IsSeat g p seat →

@@ -1,17 +1,14 @@
 -- Texts told one after another, and where one stops.
-use Rattle.std.proofs.Common.{◌≡◌, ◌++◌, ℕ, List, [], length, Option, Some, None, Result, Ok, Err, IfErr, option_map, sym, ap, ◌∙◌, arith, append_assoc, length-append, subst}
+use Rattle.std.proofs.Common.{◌≡◌, ◌++◌, ℕ, List, [], Option, Some, None, Result, Ok, Err, IfErr, option_map, sym, ap, ◌∙◌, arith, append_assoc, length-append, subst}
 use Rattle.std.specs.Io.KnownBytes.{Appends}
-use Rattle.std.proofs.KnownBytes.{Appends-trans}
 use Rattle.std.proofs.lemmas.List.{append-nil}
 use Rattle.std.proofs.lemmas.Bool.Decides.{nat_tests}
+use Rattle.std.proofs.lemmas.Grind.{common_steps}
 use Rattle.council_report.specs.Inner.Told.{Progress, progress_of, Tells, HasStopped, StopsIn}
 use Rattle.council_report.specs.declared.output.Block.{Block}
 
 pub tells-then : (a b c : Progress) (x y : List ℕ) → Tells a b x → Tells b c y → Tells a c (x ++ y)
-tells-then a b c x y first next = record {
-  bytes = Appends-trans a.bytes b.bytes c.bytes x y first.bytes next.bytes;
-  count = omega (arith, first.count, next.count, length-append x y);
-}
+tells-then a b c x y first next = grind (arith, nat_tests, common_steps, length-append)
 
 pub tells-same : (a b c : Progress) (x : List ℕ) → Tells a b x → Tells b c [] → Tells a c x
 tells-same a b c x first next = subst (Tells a c) (append-nil x) (tells-then a b c x [] first next)
@@ -24,12 +21,7 @@ appends-block (Some held) old new text more = ap (λ (t : List ℕ). held ++ t) 
 -- a text at the end of the block
 pub tells-block : (contents : Option (List ℕ)) (a b : Block) (text : List ℕ) → b.written ≡ a.written → b.bytes.items ≡ a.bytes.items ++ text
     → Tells (progress_of contents a) (progress_of contents b) text
-tells-block contents a b text same more = record {
-  bytes = appends-block contents a.bytes.items b.bytes.items text more;
-  count =
-      let long = ap (λ (t : List ℕ). length t) more in
-      omega (arith, same, long, length-append a.bytes.items text);
-}
+tells-block contents a b text same more = grind (arith, nat_tests, common_steps, appends-block, length-append)
 
 pub stopped-first : (a : Progress) (x y : List ℕ) (held : Option (List ℕ)) (n : ℕ) → StopsIn a x held n → StopsIn a (x ++ y) held n
 stopped-first a x y held n s = grind (arith, nat_tests, append_assoc)

@@ -1,7 +1,7 @@
 -- A row of texts told one after another: one more, and where it stops.
 use Rattle.std.proofs.Common.{◌≡◌, ◌<◌, ◌≤◌, ◌+◌, ◌^◌, ◌++◌, ℕ, List, length, get_or, take, drop, Option, sym, ap, ◌∙◌, subst, arith}
 use Rattle.std.specs.List.{flat_map, range_with_len}
-use Rattle.std.proofs.lemmas.Grind.{flat_map-append}
+use Rattle.std.proofs.lemmas.Grind.{flat_map-append, common_steps}
 use Rattle.std.proofs.lemmas.List.{take_all, take_more, take-append-drop}
 use Rattle.std.proofs.lemmas.List.Folds.{length-flat_map-take}
 use Rattle.std.proofs.lemmas.List.FromFn.{get_or-range_with_len, length-range_with_len}
@@ -22,14 +22,11 @@ next-number a n k j is below = record { below = rw length-range_with_len below; 
 -- the texts of the first i, and that of the next
 with-next : {X : Type 0} (f : X → List ℕ) {xs : List X} {i : ℕ} {x : X} → IsNext xs i x
     → flat_map f (take (i + 1) xs) ≡ flat_map f (take i xs) ++ f x
-with-next f {xs} {i} {x} next =
-    ap (flat_map f) (take_more xs i x next.below) ∙ rows-more f (take i xs) (get_or xs i x)
-    ∙ ap (λ y. flat_map f (take i xs) ++ f y) (sym next.is)
+with-next f {xs} {i} {x} next = grind (arith, nat_tests, common_steps, take_more, rows-more)
 
 pub turn-told : {X : Type 0} {a b c : Progress} (f : X → List ℕ) {xs : List X} {i : ℕ} {x : X}
     → IsNext xs i x → Tells a b (flat_map f (take i xs)) → Tells b c (f x) → Tells a c (flat_map f (take (i + 1) xs))
-turn-told {a = a} {b = b} {c = c} f {xs} {i} {x} next before more =
-    subst (Tells a c) (sym (with-next f next)) (tells-then a b c (flat_map f (take i xs)) (f x) before more)
+turn-told {a = a} {b = b} {c = c} f {xs} {i} {x} next before more = grind (arith, nat_tests, common_steps, with-next, tells-then)
 
 pub turn-stopped : {X : Type 0} {a b : Progress} (f : X → List ℕ) {xs : List X} {i : ℕ} {x : X} {held : Option (List ℕ)} {n : ℕ}
     → IsNext xs i x → Tells a b (flat_map f (take i xs)) → StopsIn b (f x) held n → StopsIn a (flat_map f xs) held n

@@ -1,10 +1,10 @@
 -- A report as a heading and the lines after it.
-use Rattle.std.proofs.Common.{◌≡◌, ◌≤◌, ◌+◌, ◌-◌, ◌++◌, ℕ, List, [], length, take, Option, Some, None, option_map, refl, sym, ap, ◌∙◌, arith, append_assoc, length-append, subst}
+use Rattle.std.proofs.Common.{◌≡◌, ◌≤◌, ◌+◌, ◌-◌, ◌++◌, ℕ, List, [], length, take, Option, Some, None, option_map, refl, ap, ◌∙◌, arith, append_assoc, length-append}
 use Rattle.std.specs.Io.KnownBytes.{Appends}
-use Rattle.std.proofs.KnownBytes.{Appends-trans}
 use Rattle.std.proofs.Math.Seq.{take-append-add}
 use Rattle.std.proofs.lemmas.List.{take-append-le}
 use Rattle.std.proofs.lemmas.Bool.Decides.{nat_tests}
+use Rattle.std.proofs.lemmas.Grind.{common_steps}
 use Rattle.council_report.specs.Inner.Told.{progress_of, HoldsBut, StopsIn}
 use Rattle.council_report.specs.declared.output.Block.{Block}
 
@@ -22,10 +22,7 @@ appends-heading (Some held) heading = refl
 
 pub appends-whole : (before after : Option (List ℕ)) (block : Block) (heading lines : List ℕ) → block.bytes.items ≡ heading
     → Appends (progress_of before block).bytes after lines → Appends before after (heading ++ lines)
-appends-whole before after block heading lines is rest =
-    let first : Appends before (progress_of before block).bytes heading =
-    subst (λ (t : List ℕ). Appends before (option_map (λ held. held ++ t) before) heading) (sym is) (appends-heading before heading) in
-    Appends-trans before (progress_of before block).bytes after heading lines first rest
+appends-whole before after block heading lines is rest = grind (arith, nat_tests, common_steps, appends-heading)
 
 -- the writer holds the first n bytes of the heading and the front
 held-part : (w heading front t h : List ℕ) (n k : ℕ) → t ≡ (w ++ heading) ++ front → n ≤ length heading + length front
@@ -50,16 +47,7 @@ pub stopped-whole : (before held : Option (List ℕ)) (block : Block) (heading l
 stopped-whole before held block heading lines n none is s =
     let long = ap (λ (t : List ℕ). length t) is in
     let count : s.at.count ≡ length heading + length s.front = omega (arith, s.tells.count, none, long) in
-    let all = ap (λ (t : List ℕ). length t) s.whole in
-    let within : n ≤ length heading + length s.front = omega (arith, s.stopped.within, count) in
-    let text : heading ++ lines ≡ (heading ++ s.front) ++ s.rest = ap (λ (t : List ℕ). heading ++ t) (sym s.whole)
-    ∙ sym (append_assoc heading s.front s.rest) in
-    let first : take n (heading ++ lines) ≡ take n (heading ++ s.front) =
-    ap (take n) text ∙ take-append-le n (heading ++ s.front) s.rest (omega (arith, within, length-append heading s.front)) in
-    let tells : Appends (option_map (λ h. h ++ heading) before) s.at.bytes s.front =
-    subst (λ (t : List ℕ). Appends (option_map (λ h. h ++ t) before) s.at.bytes s.front) is s.tells.bytes in (
-      omega (arith, within, all, length-append heading lines, length-append s.front s.rest),
-      subst (Appends before held)
-          (sym first) (appends-part before s.at.bytes held heading s.front n
-          (s.at.count - n) tells within (omega (arith, count)) s.stopped.holds),
-    )
+    let text : heading ++ lines ≡ (heading ++ s.front) ++ s.rest = grind (arith, append_assoc) in
+    let first : take n (heading ++ lines) ≡ take n (heading ++ s.front) = grind (arith, take-append-le, length-append) in
+    let tells : Appends (option_map (λ h. h ++ heading) before) s.at.bytes s.front = grind (arith) in
+    grind (arith, length-append, appends-part)

@@ -1,10 +1,9 @@
 -- What stays in front, with a further text put behind.
-use Rattle.std.proofs.Common.{◌≡◌, ℕ, List, ◌++◌, ap, ◌∙◌, append_assoc, Result, Ok, Err, OnErr}
+use Rattle.std.proofs.Common.{◌≡◌, ℕ, List, ◌++◌, ◌∙◌, append_assoc, Result, Ok, Err, OnErr, arith}
 use Rattle.council_text.specs.Front.{StaysInFront}
 
 pub further : (start : List ℕ) {now new : List ℕ} (text : List ℕ) → StaysInFront start now → new ≡ now ++ text → StaysInFront start new
-further start {now} {new} text front put =
-    (front.0 ++ text, put ∙ ap (λ (t : List ℕ). t ++ text) front.1 ∙ append_assoc start front.0 text)
+further start {now} {new} text front put = grind (arith, append_assoc)
 
 pub still : (start : List ℕ) {now new : List ℕ} → StaysInFront start now → new ≡ now → StaysInFront start new
 still start front same = (front.0, same ∙ front.1)

@@ -1,9 +1,9 @@
 -- Taking a place away from a coalition leaves its other places.
-use Rattle.std.proofs.Common.{◌≡◌, ◌≢◌, ◌∙◌, ℕ, ◌+◌, ◌-◌, ◌*◌, ◌/◌, ◌%◌, ◌^◌, ◌<◌, ◌≤◌, ◌==◌, true, false, zero, suc, sym, ap, subst, arith, eq-eqb, inl, inr}
+use Rattle.std.proofs.Common.{◌≡◌, ◌≢◌, ◌∙◌, ℕ, ◌+◌, ◌-◌, ◌*◌, ◌/◌, ◌%◌, ◌^◌, ◌<◌, ◌≤◌, ◌==◌, true, false, zero, suc, sym, ap, arith, eq-eqb}
 use Rattle.std.specs.Int.{w64, trailing_zeros}
 use Rattle.std.specs.Int.Bits.{bit_and}
 use Rattle.std.proofs.lemmas.Nat.Bits.{bit_at-lt, bit_at-trailing_zeros, bit_at_above, bit_at_cat_low, bit_at_cat_high, bit_at-suc, bit_at-zero, bit_at_and, same_from_bits, same_from_bits_below}
-use Rattle.std.proofs.lemmas.Nat.{pow_pos, pow-add, mul-le, div-mul-add, and_block, and_le_l, and_le_r}
+use Rattle.std.proofs.lemmas.Nat.{pow_pos, pow-add, mul-le, div-mul-add, and_block, and_le_r}
 use Rattle.std.proofs.lemmas.Bool.{cases_lt, eqb-true, eqb-false}
 use Rattle.std.proofs.Math.Nat.{mod-lt, div-add-mod}
 use Rattle.std.proofs.Math.Pow.{pow_mono}
@@ -37,65 +37,35 @@ split c k one =
 -- the digits above the lowest are those of the half
 above-lowest : (h i : ℕ) → 0 < i → (2 * h + 1) / 2 ^ i % 2 ≡ 2 * h / 2 ^ i % 2
 above-lowest h zero pos = absurd (omega arith)
-above-lowest h (suc i) pos =
-    let odd : (2 * h + 1) / 2 ≡ h = omega arith in
-    let even : 2 * h / 2 ≡ h = omega arith in
-    bit_at-suc (2 * h + 1) i ∙ ap (λ (x : ℕ). x / 2 ^ i % 2) (odd ∙ sym even) ∙ sym (bit_at-suc (2 * h) i)
+above-lowest h (suc i) pos = grind (arith, bit_at-suc)
 
 pub digit-kept : (c k i : ℕ) → c / 2 ^ k % 2 ≡ 1 → i ≢ k → (c - 2 ^ k) / 2 ^ i % 2 ≡ c / 2 ^ i % 2
 digit-kept c k i one other =
     let s = split c k one in
-    let left : (c - 2 ^ k) / 2 ^ i % 2 ≡ (2 * s.high * 2 ^ k + s.low) / 2 ^ i % 2 = ap (λ (x : ℕ). x / 2 ^ i % 2) s.without_digit in
-    let right : c / 2 ^ i % 2 ≡ ((2 * s.high + 1) * 2 ^ k + s.low) / 2 ^ i % 2 = ap (λ (x : ℕ). x / 2 ^ i % 2) s.with_digit in
-    elim (cases_lt i k) [
-      | inl lower ↦ left ∙ bit_at_cat_low (2 * s.high) k s.low i lower ∙ sym (right ∙ bit_at_cat_low (2 * s.high + 1) k s.low i lower)
-      | inr not_lower ↦
-          let e = above-lowest s.high (i - k) (omega (arith, other, not_lower)) in
-          left ∙ bit_at_cat_high (2 * s.high) k s.low i s.small not_lower ∙ sym e
-          ∙ sym (right ∙ bit_at_cat_high (2 * s.high + 1) k s.low i s.small not_lower)
-    ]
+    grind (arith, cases_lt, bit_at_cat_low, above-lowest, bit_at_cat_high)
 
 pub digit-gone : (c k : ℕ) → c / 2 ^ k % 2 ≡ 1 → (c - 2 ^ k) / 2 ^ k % 2 ≡ 0
 digit-gone c k one =
     let s = split c k one in
-    let zero-up : k - k ≡ 0 = omega arith in
-    ap (λ (x : ℕ). x / 2 ^ k % 2) s.without_digit ∙ bit_at_cat_high (2 * s.high) k s.low k s.small (omega arith)
-    ∙ ap (λ (i : ℕ). 2 * s.high / 2 ^ i % 2) zero-up ∙ omega arith
+    let zero-up : k - k ≡ 0 = omega arith in grind (arith, bit_at_cat_high)
 
 -- with a digit that was 0, that digit is 1
 pub digit-added : (c k : ℕ) → c / 2 ^ k % 2 ≡ 0 → (c + 2 ^ k) / 2 ^ k % 2 ≡ 1
-digit-added c k out =
-    let low : c % 2 ^ k < 2 ^ k = mod-lt c (pow_pos k) in
-    let whole : c + 2 ^ k ≡ (c / 2 ^ k + 1) * 2 ^ k + c % 2 ^ k = (let e = div-add-mod c (2 ^ k) in omega (arith, e)) in
-    let quotient : (c + 2 ^ k) / 2 ^ k ≡ c / 2 ^ k + 1 = ap (λ (x : ℕ). x / 2 ^ k) whole
-    ∙ div-mul-add (c / 2 ^ k + 1) (2 ^ k) (c % 2 ^ k) low in
-    omega (arith, quotient, out)
+digit-added c k out = grind (arith, mod-lt, pow_pos, div-add-mod, div-mul-add)
 
 -- and a number of n digits still has n
 pub digit-added_below : (n c k : ℕ) → k < n → c < 2 ^ n → c / 2 ^ k % 2 ≡ 0 → c + 2 ^ k < 2 ^ n
 digit-added_below n c k lt below out =
     let low : c % 2 ^ k < 2 ^ k = mod-lt c (pow_pos k) in
     let parts : c ≡ c / 2 ^ k * 2 ^ k + c % 2 ^ k = (let e = div-add-mod c (2 ^ k) in omega (arith, e)) in
-    let digits : n ≡ 1 + (n - 1 - k) + k = omega arith in
-    let whole : 2 ^ n ≡ 2 * 2 ^ (n - 1 - k) * 2 ^ k =
-    ap (λ (i : ℕ). 2 ^ i) digits ∙ pow-add 2 (1 + (n - 1 - k)) k ∙ ap (λ (m : ℕ). m * 2 ^ k) (pow-add 2 1 (n - 1 - k)) in
-    let high : c / 2 ^ k < 2 * 2 ^ (n - 1 - k) = elim (cases_lt (c / 2 ^ k) (2 * 2 ^ (n - 1 - k))) [
-      | inl less ↦ less
-      | inr more ↦
-          let most = mul-le (2 * 2 ^ (n - 1 - k)) (2 ^ k) (c / 2 ^ k) (2 ^ k) more (omega arith) in
-          absurd (omega (arith, most, whole, parts))
-    ] in
-    let next : c / 2 ^ k + 2 ≤ 2 * 2 ^ (n - 1 - k) = omega (arith, high, out) in
-    let fits : (c / 2 ^ k + 2) * 2 ^ k ≤ 2 * 2 ^ (n - 1 - k) * 2 ^ k = mul-le (c / 2 ^ k + 2) (2 ^ k) (2 * 2 ^ (n - 1 - k))
-    (2 ^ k) next (omega arith) in
+    let whole : 2 ^ n ≡ 2 * 2 ^ (n - 1 - k) * 2 ^ k = grind (arith, pow-add) in
+    let high : c / 2 ^ k < 2 * 2 ^ (n - 1 - k) = grind (arith, cases_lt, mul-le) in
+    let fits : (c / 2 ^ k + 2) * 2 ^ k ≤ 2 * 2 ^ (n - 1 - k) * 2 ^ k = grind (arith, mul-le) in
     omega (arith, fits, whole, parts, low)
 
 out-digit : (n q c : ℕ) → has n q c ≡ false → c / 2 ^ (n - 1 - q) % 2 ≡ 0
 unfolding has
-out-digit n q c out =
-    let bit : c / 2 ^ (n - 1 - q) % 2 < 2 = mod-lt (c / 2 ^ (n - 1 - q)) (omega arith) in
-    let other = eqb-false _ _ out in
-    omega (arith, bit, other)
+out-digit n q c out = grind (arith, mod-lt, eqb-false)
 
 -- a place that is out, taken in
 pub has-added : (n q c : ℕ) → has n q c ≡ false → has n q (c + 2 ^ (n - 1 - q)) ≡ true
@@ -119,8 +89,7 @@ added-room n q c few lt below out = digit-added_below 40 c (n - 1 - q) (omega ar
 
 pub has-kept : (n p q c : ℕ) → p < n → q < n → p ≢ q → has n q c ≡ true → has n p (without n q c) ≡ has n p c
 unfolding has without
-has-kept n p q c lp lq other in' =
-    ap (λ (x : ℕ). x == 1) (digit-kept c (n - 1 - q) (n - 1 - p) (eqb-true _ _ in') (λ e. other (omega arith)))
+has-kept n p q c lp lq other in' = grind (arith, digit-kept, eqb-true)
 
 pub has-gone : (n q c : ℕ) → has n q c ≡ true → has n q (without n q c) ≡ false
 unfolding has without
@@ -131,7 +100,6 @@ pub same-places : (n a c : ℕ) → a < 2 ^ n → c < 2 ^ n → ((p : ℕ) → p
 unfolding has
 same-places n a c la lc same = same_from_bits_below n a c la lc (λ i lt.
     (let place : n - 1 - (n - 1 - i) ≡ i = omega (arith, lt) in
-    let here = rw place at (same (n - 1 - i) (omega (arith, lt))) in
     grind (arith, nat_tests, bit_at-lt a i, bit_at-lt c i)))
 
 pub has-none : (n p : ℕ) → has n p 0 ≡ false
@@ -144,13 +112,7 @@ unfolding has
 lowest-place n c few pos below =
     let up : 2 ^ n ≤ 2 ^ 40 = pow_mono few in
     let wide : c < 2 ^ 64 = omega arith in
-    let z = bit_at-trailing_zeros w64 c pos wide in
-    elim (cases_lt (trailing_zeros w64 c) n) [
-      | inl lt ↦
-          let place : n - 1 - (n - 1 - trailing_zeros w64 c) ≡ trailing_zeros w64 c = omega arith in
-          (lt, eq-eqb (c / 2 ^ (n - 1 - (n - 1 - trailing_zeros w64 c)) % 2) 1 (ap (λ k. c / 2 ^ k % 2) place ∙ z.1))
-      | inr le ↦ let none = bit_at_above c n (trailing_zeros w64 c) below le in absurd (omega (arith, none, z.1))
-    ]
+    let z = bit_at-trailing_zeros w64 c pos wide in grind (arith, cases_lt, eq-eqb, bit_at_above)
 
 pub without-less : (n q c : ℕ) → 0 < c → without n q c < c
 unfolding without
@@ -175,10 +137,7 @@ cleared c k one zeros =
     ∙ sym (bit_at-zero i)) in
     let whole : c ≡ (2 * s.high + 1) * 2 ^ k + 0 = omega (arith, s.with_digit, none) in
     let less : c - 1 ≡ 2 * s.high * 2 ^ k + (2 ^ k - 1) = omega (arith, whole, pos) in
-    let rest = and_le_l 0 (2 ^ k - 1) in
-    ap (λ (x : ℕ). bit_and x (c - 1)) whole ∙ ap (bit_and ((2 * s.high + 1) * 2 ^ k + 0)) less
-    ∙ and_block k (2 * s.high + 1) (2 * s.high) 0 (2 ^ k - 1) pos (omega (arith, pos))
-    ∙ ap (λ (x : ℕ). x * 2 ^ k + bit_and 0 (2 ^ k - 1)) (and_odd s.high) ∙ omega (arith, rest, s.without_digit, none)
+    grind (arith, and_block, and_odd)
 
 -- with the lowest 1 cleared, the last place of a coalition is gone
 pub lowest-cleared : (n c : ℕ) → n ≤ 40 → 0 < c → c < 2 ^ n → bit_and c (c - 1) ≡ without n (n - 1 - trailing_zeros w64 c) c

@@ -1,11 +1,13 @@
 -- The size of a coalition by its binary digits.
-use Rattle.std.proofs.Common.{◌≡◌, ℕ, zero, suc, ◌+◌, ◌-◌, ◌*◌, ◌/◌, ◌%◌, ◌^◌, ◌<◌, ◌≤◌, List, ◌∷◌, length, sym, ap, ◌∙◌, arith, count_ones, filter, true, pow_mono}
+use Rattle.std.proofs.Common.{◌≡◌, ℕ, zero, suc, ◌+◌, ◌-◌, ◌*◌, ◌/◌, ◌%◌, ◌^◌, ◌<◌, ◌≤◌, length, sym, ap, ◌∙◌, arith, count_ones, filter, true}
 use Rattle.std.specs.List.{range_with_len}
 use Rattle.std.proofs.lemmas.Nat.{ones_cat, ones-le, mod-pow-add}
 use Rattle.std.specs.Int.Count.{ones-ones}
 use Rattle.std.proofs.Math.Nat.{mod-eq_of_lt, mod-lt, div-mul-le_self, mul-le-mul_right}
 use Rattle.std.proofs.lemmas.Nat.{pow_pos}
 use Rattle.std.proofs.lemmas.Bool.{cond_both, eqb-true, eqb-false}
+use Rattle.std.proofs.lemmas.Bool.Decides.{nat_tests}
+use Rattle.std.proofs.lemmas.Grind.{common_steps}
 use Rattle.coalitions.specs.Coalitions.{has, size}
 
 bit-ones : (b : ℕ) → b < 2 → count_ones b ≡ b
@@ -19,34 +21,20 @@ unfolding has
 size-from m a zero c e = let z : c % 2 ^ 0 ≡ 0 = omega arith in sym (ap count_ones z ∙ bit-ones 0 (omega arith))
 size-from m a (suc n) c e =
     let rest = size-from m (a + 1) n c (omega arith) in
-    let place : m - 1 - a ≡ n = omega arith in
     let one_more : suc n ≡ 1 + n = omega arith in
-    let bit : c / 2 ^ n % 2 < 2 = omega arith in
     let parts : c % 2 ^ suc n ≡ c / 2 ^ n % 2 * 2 ^ n + c % 2 ^ n = ap (λ (k : ℕ). c % 2 ^ k) one_more ∙ mod-pow-add c 1 n in
     let both : count_ones (c % 2 ^ suc n) ≡ c / 2 ^ n % 2 + count_ones (c % 2 ^ n) =
-    ap count_ones parts ∙ ones_cat n (c / 2 ^ n % 2) (c % 2 ^ n) (mod-lt c (pow_pos n))
-    ∙ ap (λ (k : ℕ). k + count_ones (c % 2 ^ n)) (bit-ones (c / 2 ^ n % 2) bit) in
-    let others : List ℕ = filter (λ p. has m p c) (range_with_len (a + 1) n) in
-    cond_both (has m a c) (a ∷ others) others (λ ps. length ps ≡ count_ones (c % 2 ^ suc n))
-    (λ inside. let digit = rw place at (eqb-true _ _ inside) in omega (arith, rest, both, digit))
-    (λ outside. let other = rw place at (eqb-false _ _ outside) in omega (arith, rest, both, bit, other))
+    grind (arith, ones_cat, mod-lt, pow_pos, bit-ones) in
+    grind (arith, cond_both, eqb-true, eqb-false)
 
 pub size-ones : (n c : ℕ) → c < 2 ^ n → size n c ≡ count_ones c
 size-ones n c below = size-from n 0 n c (omega arith) ∙ ap count_ones (mod-eq_of_lt below)
 
 -- a place's digit, as the code makes it
 pub digit-shifted : (n p : ℕ) → n ≤ 40 → p < n → 1 * 2 ^ (n - 1 - p) % 18446744073709551616 ≡ 2 ^ (n - 1 - p)
-digit-shifted n p few below =
-    let low : 2 ^ (n - 1 - p) ≤ 2 ^ 39 = pow_mono (let le : n - 1 - p ≤ 39 = omega arith in le) in
-    let e : 1 * 2 ^ (n - 1 - p) ≡ 2 ^ (n - 1 - p) = omega arith in
-    ap (λ (k : ℕ). k % 18446744073709551616) e ∙ mod-eq_of_lt (omega (arith, low))
+digit-shifted n p few below = grind (arith, nat_tests, common_steps, mod-eq_of_lt)
 
 -- a number is at least the digit of a place that is in it
 pub has-least : (n p c : ℕ) → has n p c ≡ true → 2 ^ (n - 1 - p) ≤ c
 unfolding has
-has-least n p c in' =
-    let digit : c / 2 ^ (n - 1 - p) % 2 ≡ 1 = eqb-true _ _ in' in
-    let some : 1 ≤ c / 2 ^ (n - 1 - p) = omega arith in
-    let whole : c / 2 ^ (n - 1 - p) * 2 ^ (n - 1 - p) ≤ c = div-mul-le_self c (2 ^ (n - 1 - p)) in
-    let times : 1 * 2 ^ (n - 1 - p) ≤ c / 2 ^ (n - 1 - p) * 2 ^ (n - 1 - p) = mul-le-mul_right (2 ^ (n - 1 - p)) some in
-    omega (arith, whole, times)
+has-least n p c in' = grind (arith, eqb-true, div-mul-le_self, mul-le-mul_right)

@@ -39,10 +39,7 @@ put-first s a vs (suc r) none some = absurd (omega arith)
 
 pub put-more : (s a vs : List ℕ) (r : ℕ) → r < length vs → 0 < r
     → ((a ++ joined_numbers s (take r vs)) ++ s) ++ decimal (get_or vs r 0) ≡ a ++ joined_numbers s (take (r + 1) vs)
-put-more s a vs r below some =
-    append_assoc (a ++ joined_numbers s (take r vs)) s (decimal (get_or vs r 0))
-    ∙ append_assoc a (joined_numbers s (take r vs)) (s ++ decimal (get_or vs r 0))
-    ∙ ap (λ (t : List ℕ). a ++ t) (sym (numbers-more s vs r below some))
+put-more s a vs r below some = grind (arith, append_assoc, numbers-more)
 
 -- the first numbers and a further one are no longer than all of them, with the separator and without
 pub more-within : (s vs : List ℕ) (r : ℕ) → r < length vs → 0 < r

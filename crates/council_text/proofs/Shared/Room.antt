@@ -13,7 +13,4 @@ pub takes-not : {E F : Type 0} {old now new : Vec ℕ Global} {r : Result (Unit 
     → MakesRoomFor now new (Err e) y → vec_capacity old ≤ vec_capacity now → now.items ≡ old.items ++ x → length x + length y ≤ length z
     → MakesRoomFor old new r z
 takes-not {r = Ok u} x refused kept items within = record { capacity = omega (arith, kept, refused.capacity); full = tt }
-takes-not {old} {r = Err d} x refused kept items within = record {
-  capacity = omega (arith, kept, refused.capacity);
-  full = let long = ap (λ (t : List ℕ). length t) items in omega (arith, kept, refused.full, long, within, length-append old.items x);
-}
+takes-not {old} {r = Err d} x refused kept items within = grind (arith, length-append)

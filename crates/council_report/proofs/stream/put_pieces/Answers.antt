@@ -1,19 +1,19 @@
 use Rattle.std.specs.List.{flat_map}
 use Rattle.std.proofs.lemmas.Result.{err_from_is_err_and}
+use Rattle.std.proofs.lemmas.Grind.{common_steps}
+use Rattle.std.proofs.Common.{arith}
 use Rattle.council_report.specs.Lines.{coalition_line}
 use Rattle.council_report.proofs.Turns.{IsNext, turn-counts, turn-stopped}
 use Rattle.council_report.proofs.stream.put_pieces.Goals as goal
 
 pub put_coalitions-requires-clause-counted : goal.put_coalitions-requires-clause-counted
 put_coalitions-requires-clause-counted g c =
-    let next : IsNext c.args.pieces.now c.loop-piece.piece-index c.piece-item.result =
-    record { below = c.loop-piece-test.true; is = c.piece-item.is } in
+    let next : IsNext c.args.pieces.now c.loop-piece.piece-index c.piece-item.result = grind (arith, common_steps) in
     turn-counts (λ p. flat_map (coalition_line c.args.game.now) p.now) next c.loop-piece.invariant.lasts.tells c.requires.counted
 
 pub returns-in_err-put_coalitions : goal.returns-in_err-put_coalitions
 returns-in_err-put_coalitions g c =
-    let next : IsNext c.args.pieces.now c.loop-piece.piece-index c.piece-item.result =
-    record { below = c.loop-piece-test.true; is = c.piece-item.is } in
+    let next : IsNext c.args.pieces.now c.loop-piece.piece-index c.piece-item.result = grind (arith, common_steps) in
     let failed = err_from_is_err_and c.from_residual.result c.from_residual.ensures.1 in
     rw (failed.1, failed.2)
     (turn-stopped (λ p. flat_map

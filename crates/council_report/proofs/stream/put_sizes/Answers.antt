@@ -1,5 +1,6 @@
 use Rattle.std.proofs.Common.{◌≡◌, ◌+◌, ◌-◌, arith}
 use Rattle.std.proofs.lemmas.Result.{err_from_is_err_and}
+use Rattle.std.proofs.lemmas.Grind.{common_steps}
 use Rattle.council_report.specs.Inner.Lines.{line_of_size}
 use Rattle.council_report.proofs.Turns.{next-number, numbers-told, turn-told, turn-counts, turn-stopped}
 use Rattle.council_report.proofs.stream.put_sizes.Goals as goal
@@ -22,12 +23,7 @@ overflow_add-size-end g c = omega (arith, c.args.counted.now.sound.few_members, 
 pub loop-size-preserved : goal.loop-size-preserved
 loop-size-preserved g c =
     let next = next-number 1 c.args.counted.now.members (c.loop-size.size - 1) c.loop-size.size (omega arith) (omega arith) in
-    let same : c.loop-size.size - 1 + 1 ≡ c.loop-size.size + 1 - 1 = omega arith in
-    record {
-      tells = rw (← same)
-          (turn-told (line_of_size c.args.counted.now) next c.loop-size.invariant.tells c.in_ok-put_size.ensures.tells);
-      ready = c.in_ok-put_size.ensures.ready;
-    }
+    let same : c.loop-size.size - 1 + 1 ≡ c.loop-size.size + 1 - 1 = omega arith in grind (arith, common_steps, turn-told)
 
 pub returns : goal.returns
 returns g c = record {
