@@ -1,14 +1,14 @@
 -- The faults that were met.
-use Rattle.std.specs.Prelude.{◌≡◌, ℕ, Bool, true, false, List, [], ◌∷◌, ◌++◌, Option, Some, None, refl}
-use Rattle.std.proofs.Common.{ap, sym, ◌∙◌, inl, inr}
+use Rattle.std.specs.Prelude.{◌≡◌, ℕ, List, [], ◌∷◌, ◌++◌, Option, Some, None, refl}
+use Rattle.std.proofs.Common.{ap, sym, ◌∙◌}
 use Rattle.mwc_parts.specs.Slicing.{Slicing}
-use Rattle.mwc_parts.specs.Fault.{fault_of, nothing, also}
+use Rattle.mwc_parts.specs.Fault.{also}
 use Rattle.mwc_parts.specs.Shared.Fault.{also_all}
 use Rattle.mwc_parts.specs.declared.fault.Met.{Met}
 use Rattle.mwc_parts.specs.declared.fault.GatherFault.{GatherFault}
-use Rattle.mwc_parts.specs.declared.fault.GatherFault.TheVariants.{TooMany, Memory}
+use Rattle.mwc_parts.specs.declared.fault.GatherFault.TheVariants.{Memory}
 use Rattle.mwc_gather.specs.declared.desk.Desk.{Desk}
-use Rattle.mwc_gather.specs.Inner.Desks.{CanEndWith, HasStarted}
+use Rattle.mwc_gather.specs.Inner.Desks.{CanEndWith}
 
 -- one more fault
 pub noted_more : (m : Met) (whys : List (Option GatherFault)) (why : GatherFault)
@@ -30,20 +30,3 @@ noted_after start met after whys why e f = f ∙ ap (λ (m : Met). also m why) e
 -- where there is no room for a part
 pub memory_ends : (g : Slicing) (most : ℕ) (d : Desk) → CanEndWith g most d (Some Memory)
 memory_ends g most d = (λ e. cc, λ e. refl, λ e. absurd cc)
-
--- what was met where TooMany is answered
-pub too_many_is_met : (start memory ring many : Bool) → fault_of (record { start = start; memory = memory; ring = ring; many = many }) ≡ Some TooMany
-    → many ≡ true
-too_many_is_met true memory ring many e = cc
-too_many_is_met false true ring many e = cc
-too_many_is_met false false true many e = cc
-too_many_is_met false false false true e = refl
-too_many_is_met false false false false e = cc
-
--- where workers were started, or one could not be, too many coalitions were not met
-pub none_too_many : (workers started : ℕ) (met : Met) → HasStarted workers started met → met.many ≡ false
-none_too_many workers started met (inl h) = ap (λ (m : Met). m.many) h.0
-none_too_many workers started met (inr h) = elim h.1 [
-  | inl e ↦ ap (λ (m : Met). m.many) (h.2 ∙ ap (λ (x : GatherFault). also nothing x) e)
-  | inr e ↦ ap (λ (m : Met). m.many) (h.2 ∙ ap (λ (x : GatherFault). also nothing x) e)
-]

@@ -14,13 +14,12 @@ use Rattle.mwc_parts.specs.Shared.Fault.{also_all}
 use Rattle.mwc_parts.specs.declared.part.Part.{Part}
 use Rattle.mwc_parts.specs.declared.fault.Met.{Met}
 use Rattle.mwc_parts.specs.declared.fault.GatherFault.{GatherFault}
-use Rattle.mwc_parts.specs.declared.fault.GatherFault.TheVariants.{TooMany}
 use Rattle.mwc_gather.specs.declared.desk.Desk.{Desk}
 use Rattle.mwc_gather.specs.declared.dealing.Deal.{Deal}
 use Rattle.mwc_gather.specs.Inner.Desks.{IsOf, AllOf, CanEndWith, IsPartOfDesk, DealsTo}
 use Rattle.mwc_gather.specs.Inner.Gathering.{all_total, IsComplete}
 use Rattle.mwc_gather.proofs.Ends.{many_is_new_or_old, one_is_met, head_of, one_done, desks_within, completes}
-use Rattle.mwc_gather.proofs.Faults.{noted_after, noted_none, too_many_is_met}
+use Rattle.mwc_gather.proofs.Faults.{noted_after, noted_none}
 
 -- some of the workers have ended, and the rest are still to be joined: what was met follows from their answers, and where nothing was met
 -- all of them are parts
@@ -93,23 +92,11 @@ module _ {g : Slicing} {most : ℕ} {start met : Met} {desks old rest : List Des
             (kept.0, rw e (all_zipped_more (IsPartOfDesk g) f.done parts d p kept.1 (part own)));
       }
 
-module _ {g : Slicing} {most : ℕ} {start met : Met} {desks rest : List Desk} {parts : List Part} where
-  all_done : (f : Finishing g most start desks rest met parts) → rest ≡ [] → f.done ≡ desks
-  all_done f e = sym (append-nil f.done) ∙ ap (λ (w : List Desk). f.done ++ w) (sym e) ∙ f.split
-
-  -- all have ended: what was met follows from their answers
-  pub ends_met : Finishing g most start desks rest met parts → rest ≡ []
-      → (whys : List (Option GatherFault)) × AllZip (CanEndWith g most) desks whys × (fault_of met ≡ fault_of (also_all start whys))
-  ends_met f e = (f.whys, subst (λ (x : List Desk). AllZip (CanEndWith g most) x f.whys) (all_done f e) f.ends, ap fault_of f.met_is)
-
-  -- and where there were too many coalitions, the slices have more than were asked for
-  pub too_many_met : Finishing g most start desks rest met parts → fault_of met ≡ Some TooMany → most < all_total g
-  too_many_met f e = f.many (too_many_is_met met.start met.memory met.ring met.many e)
-
 -- all have ended: where nothing was met, the parts are complete
 pub all_complete : {g : Slicing} {most workers : ℕ} {start met : Met} {deal : Deal} (desks rest : List Desk)
     (parts : List Part) → Finishing g most start desks rest met parts → rest ≡ [] → fault_of met ≡ None
     → DealsTo g most (is_some (fault_of start)) deal desks → length desks ≡ workers → 0 < workers → IsComplete g workers parts
 all_complete {g} desks rest parts f e n h same some =
     let kept = f.none n in
-    completes desks parts h (ap is_some kept.0) same some (subst (λ (x : List Desk). AllZip (IsPartOfDesk g) x parts) (all_done f e) kept.1)
+    let all = sym (append-nil f.done) ∙ ap (λ (w : List Desk). f.done ++ w) (sym e) ∙ f.split in
+    completes desks parts h (ap is_some kept.0) same some (subst (λ (x : List Desk). AllZip (IsPartOfDesk g) x parts) all kept.1)

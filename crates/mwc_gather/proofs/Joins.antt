@@ -1,11 +1,10 @@
 -- From the join of a worker to its part.
-use Rattle.std.specs.Prelude.{◌≡◌, ◌⊎◌, ℕ, ◌<◌, Bool, false, List, [], ◌∷◌, ◌++◌, length, Some, None, Result, Ok, Err, IfOk, IfErr}
+use Rattle.std.specs.Prelude.{◌≡◌, ◌⊎◌, ℕ, ◌<◌, false, List, ◌++◌, length, Some, None, Result, Ok, Err, IfOk, IfErr}
 use Rattle.std.specs.List.{flat_map}
 use Rattle.std.proofs.Common.{ap, subst, sym, ◌∙◌, inl, inr}
 use Rattle.std.proofs.lemmas.Bool.{false≢true}
 use Rattle.mwc_pipe.specs.RingViews.{RingInView, RingOutView, ClosedView}
 use Rattle.mwc_pipe.specs.declared.word.Word.{Word}
-use Rattle.mwc_pipe.specs.declared.word.Word.TheVariants.{End}
 use Rattle.mwc_pipe.specs.declared.closed.Unfinished.{Unfinished}
 use Rattle.mwc_parts.specs.Slicing.{Slicing}
 use Rattle.mwc_parts.specs.Wording.{IsWholeSending, IsCutSending, coalition_count}
@@ -29,14 +28,6 @@ worked_ok g most out tasks (Ok c, t) closed w e =
     let q : c ≡ closed = cc in
     subst (λ (x : ClosedView). IsWholeSending g most t.taken x.accepted ⊎ IsCutSending g most t.taken x.accepted) q w.2
 worked_ok g most out tasks (Err x, t) closed w e = cc
-
--- what the answer of a worker is that sent these words and an End, and took these tasks
-pub worked : {g : Slicing} {most : ℕ} (out now : RingInView) (tasks t : RingOutView) (cut : Bool) (r : Result ClosedView Unfinished)
-    → t.ring ≡ tasks.ring → now.ring ≡ out.ring → IfOk r (λ c. (c.ring ≡ now.ring) × (c.accepted ≡ now.accepted ++ End cut ∷ []))
-    → ((words : List Word) → words ≡ now.accepted ++ End cut ∷ [] → IsWholeSending g most t.taken words ⊎ IsCutSending g most t.taken words)
-    → HasWorked g most out tasks (r, t)
-worked out now tasks t cut (Ok c) same ring f sent = (same, f.0 ∙ ring, sent c.accepted f.1)
-worked out now tasks t cut (Err e) same ring f sent = same
 
 -- a draft of all words of a desk's worker
 pub record HasEnded (d : Desk) (draft : Draft) : Type 0 where

@@ -1,5 +1,5 @@
 -- A slice on its way into a pipe.
-use Rattle.std.specs.Prelude.{◌≡◌, ℕ, ◌+◌, ◌<◌, ◌≤◌, List, [], ◌∷◌, ◌++◌, length, map, take, refl}
+use Rattle.std.specs.Prelude.{◌≡◌, ℕ, ◌+◌, ◌<◌, ◌≤◌, List, [], ◌∷◌, ◌++◌, length, map, take}
 use mathlib.Core.List.{IsPrefix}
 use Rattle.std.proofs.Common.{ap, subst, arith, append_assoc, sym, ◌∙◌}
 use Rattle.std.proofs.lemmas.List.{append-nil, map-append, length-append}
@@ -11,7 +11,7 @@ use Rattle.mwc_parts.specs.Wording.{slice_words, cut_words}
 use Rattle.mwc_gather.specs.Sending.{sending}
 use Rattle.mwc_gather.specs.Inner.Sending.{SendsFirst, SendsSome}
 use Rattle.mwc_gather.proofs.Slices.{starts_sending, whole_starts}
-use Rattle.mwc_gather.proofs.FirstWords.{first_none, first_added, first_all, some_starts}
+use Rattle.mwc_gather.proofs.FirstWords.{first_added, first_all, some_starts}
 
 -- of slice j, which has these coalitions, of which `wanted` are wanted, some are given and `left` may still be; their words went into
 -- the pipe but for the parcel
@@ -20,10 +20,6 @@ pub record UnderWay (all : List ℕ) (j wanted left : ℕ) (before : List Word) 
   pub split : all ≡ given ++ to_come
   pub count : left + length given ≡ wanted
   pub first : SendsFirst before (Open j ∷ map One given) out row
-
--- no coalition is given yet
-pub way_begins : (all : List ℕ) (j wanted : ℕ) (before row : List Word) → row ≡ Open j ∷ [] → UnderWay all j wanted wanted before all before row
-way_begins all j wanted before row e = record { given = []; split = refl; count = omega arith; first = rw e (first_none before (Open j ∷ [])) }
 
 module _ {all : List ℕ} {j wanted left : ℕ} {before : List Word} where
   -- one more coalition is given

@@ -1,10 +1,10 @@
-use Rattle.std.proofs.Common.{◌≡◌, [], rules, arith, sym, ◌∙◌}
+use Rattle.std.proofs.Common.{rules, arith}
 use Rattle.std.proofs.lemmas.Grind.{common_steps}
 use Rattle.std.specs.Vec.Iter.{into_iter_items}
 use Rattle.mwc_parts.specs.declared.fault.GatherFault.TheVariants.{Memory}
 use Rattle.mwc_gather.specs.Slicings.{slicing}
 use Rattle.mwc_gather.proofs.Faults.{memory_ends}
-use Rattle.mwc_gather.proofs.Finishing.{none_joined, fault_met, part_kept, ends_met, too_many_met, all_complete}
+use Rattle.mwc_gather.proofs.Finishing.{none_joined, fault_met, part_kept, all_complete}
 use Rattle.mwc_gather.proofs.gathering.finish_all.Goals as goal
 
 pub loop-desk-init : goal.loop-desk-init
@@ -27,26 +27,14 @@ loop-desk-preserved-else-is_err g c =
     part_kept c.in-Some.desk c.in-Ok.part c.loop-desk.invariant c.in-Some.ensures.steps.0
     (search rules) (c.in-Ok.ensures.part (slicing job.guarded job.bits) job.most) (c.in-Ok.ensures.ends (slicing job.guarded job.bits) job.most)
 
-pub returns-in-Some-fault : goal.returns-in-Some-fault
-returns-in-Some-fault g c =
-    let i = c.loop-desk.invariant in
-    let ended = ends_met i (grind (arith, common_steps)) in record {
-      first = (ended.0, ended.1, c.in-Some-fault.ensures ∙ ended.2);
-      none = tt;
-      parts = tt;
-      many = λ z. too_many_met i (sym c.in-Some-fault.ensures ∙ cc);
-    }
-
-pub returns-in-None-fault : goal.returns-in-None-fault
-returns-in-None-fault g c =
+pub returns-in-None-fault-clause-parts : goal.returns-in-None-fault-clause-parts
+returns-in-None-fault-clause-parts g c = λ some.
     let ok = c.args.desks.ok in
-    let i = c.loop-desk.invariant in
-    let none : into_iter_items c.loop-desk.desk-iterator ≡ [] = grind (arith, common_steps) in
-    let ended = ends_met i none in
-    let met = sym c.in-None-fault.ensures in record {
-      first = (ended.0, ended.1, c.in-None-fault.ensures ∙ ended.2);
-      none = (i.none met).0;
-      parts = λ some. all_complete c.args.desks.items (into_iter_items c.loop-desk.desk-iterator) c.loop-desk.parts.items i
-          none met c.requires.dealt.1 (omega arith) some;
-      many = λ z. cc;
-    }
+    all_complete c.args.desks.items (into_iter_items c.loop-desk.desk-iterator) c.loop-desk.parts.items c.loop-desk.invariant
+    (grind (arith, common_steps)) (search rules) c.requires.dealt.1 (omega arith) some
+
+pub returns-in-Some-fault : goal.returns-in-Some-fault
+returns-in-Some-fault g c = grind (arith, common_steps)
+
+pub returns-in-None-fault-clause-first : goal.returns-in-None-fault-clause-first
+returns-in-None-fault-clause-first g c = grind (arith, common_steps)

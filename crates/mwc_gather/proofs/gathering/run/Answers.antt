@@ -1,4 +1,4 @@
-use Rattle.std.proofs.Common.{ℕ, List, length, drop, replicate, None, vec_len, subst, ap, sym, ◌∙◌, arith}
+use Rattle.std.proofs.Common.{ℕ, List, length, drop, subst, ap, sym, ◌∙◌, arith}
 use Rattle.std.proofs.lemmas.Grind.{common_steps}
 use Rattle.std.specs.Prelude.{Bool}
 use Rattle.std.specs.Option.{is_some}
@@ -8,9 +8,6 @@ use Rattle.mwc_parts.specs.Fault.{fault_of}
 use Rattle.mwc_gather.specs.declared.desk.Desk.{Desk}
 use Rattle.mwc_gather.specs.Slicings.{slicing}
 use Rattle.mwc_gather.specs.Inner.Desks.{DealsTo}
-use Rattle.mwc_gather.specs.Inner.Gathering.{IsComplete}
-use Rattle.mwc_parts.specs.Slicing.{Slicing}
-use Rattle.mwc_gather.proofs.Faults.{none_too_many}
 use Rattle.mwc_gather.proofs.Wholes.{all_total_is}
 use Rattle.mwc_gather.proofs.gathering.run.Goals as goal
 
@@ -38,29 +35,13 @@ pub returns-in_err-parts-clause-many : goal.returns-in_err-parts-clause-many
 returns-in_err-parts-clause-many g c = grind (arith, common_steps, all_total_is)
 
 pub read_all-requires : goal.read_all-requires
-read_all-requires g c =
-    let opened = c.open_all-desks.ensures in
-    let value = c.as_mut_slice.ensures.value in
-    let ok = c.open_all-desks.result.0.ok in
-    let long = ap length value in
-    let few = opened.few in let most = c.requires.workers in record {
-      few = omega arith;
-      all_of = rw value opened.order;
-      fresh = rw value opened.fresh;
-      marks = c.new.ensures ∙ ap (λ (n : ℕ). replicate n None) c.slice_count.ensures;
-    }
+read_all-requires g c = grind (arith, common_steps)
 
 pub finish_all-requires-clause-start : goal.finish_all-requires-clause-start
-finish_all-requires-clause-start g c =
-    none_too_many c.args.workers (vec_len c.open_all-desks.result.0) c.open_all-desks.result.1 c.open_all-desks.ensures.met
+finish_all-requires-clause-start g c = grind (arith, common_steps)
 
 pub all_of-requires : goal.all_of-requires
-all_of-requires g c =
-    let game : Slicing = slicing c.args.job.now.guarded c.args.job.now.bits in
-    let parts = c.in_ok-parts.ensures in
-    let all = c.open_all-desks.ensures.all parts.none in
-    let some = c.requires.workers in
-    subst (λ (n : ℕ). IsComplete game n c.in_ok-parts.parts.items) all (parts.parts (omega arith))
+all_of-requires g c = grind (arith, common_steps)
 
 pub returns : goal.returns
 returns g c = c.all_of.ensures

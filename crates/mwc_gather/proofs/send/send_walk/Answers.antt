@@ -1,18 +1,12 @@
-use Rattle.std.specs.Prelude.{◌≡◌, [], ◌∷◌, ◌++◌, List, length}
+use Rattle.std.proofs.lemmas.Grind.{common_steps}
+use Rattle.std.specs.Prelude.{◌≡◌, [], ◌++◌, List, length}
 use Rattle.std.proofs.Common.{rules, arith, refl, ◌∙◌, ap}
 use Rattle.mwc_pipe.specs.declared.word.Word.{Word}
-use Rattle.mwc_pipe.specs.declared.word.Word.TheVariants.{Open}
-use Rattle.mwc_gather.proofs.UnderWay.{way_begins, one_more, takes_some, sent_cut, takes_some_at_end, sent_whole}
+use Rattle.mwc_gather.proofs.UnderWay.{one_more, takes_some, sent_cut, takes_some_at_end, sent_whole}
 use Rattle.mwc_gather.proofs.send.send_walk.Goals as goal
 
 pub loop-coalition-init : goal.loop-coalition-init
-loop-coalition-init g c = record {
-  same = refl;
-  broken = refl;
-  some_left = c.requires.left.0;
-  sent = way_begins _ c.args.slice c.args.left (g.P.PipeIn.accepted c.args.out.now) c.push.new.self
-      (c.push.ensures ∙ ap (λ (w : List Word). w ++ Open c.args.slice ∷ []) c.new-parcel.ensures);
-}
+loop-coalition-init g c = grind (arith, common_steps)
 
 pub push-requires : goal.push-requires
 push-requires g c = let none = ap length c.new-parcel.ensures in omega arith

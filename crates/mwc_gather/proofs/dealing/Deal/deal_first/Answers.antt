@@ -1,7 +1,8 @@
+use Rattle.std.proofs.lemmas.Grind.{common_steps}
 use Rattle.std.proofs.Common.{◌≡◌, ◌<◌, ℕ, length, subst, arith}
 use Rattle.mwc_gather.specs.Slicings.{slicing}
 use Rattle.mwc_gather.specs.Inner.Desks.{DealsFirst}
-use Rattle.mwc_gather.proofs.Deals.{first_of_place, deal_starts, slices_at}
+use Rattle.mwc_gather.proofs.Deals.{first_of_place, deal_starts}
 use Rattle.mwc_gather.proofs.dealing.Deal.deal_first.Goals as goal
 
 pub loop-i-init : goal.loop-i-init
@@ -21,11 +22,4 @@ returns g c =
     subst (λ (k : ℕ). DealsFirst (slicing job.guarded job.bits) job.most c.args.self.now.stopped c.loop-i.self k c.loop-i.desks) q c.loop-i.invariant
 
 pub deal_to-requires : goal.deal_to-requires
-deal_to-requires g c =
-    let q = c.loop-i.auto.desks in
-    let few = c.requires.few in
-    let l : c.loop-i.i < length c.loop-i.desks = omega arith in
-    record {
-      slices = slices_at c.loop-i.desks c.loop-i.i c.index-desks-i.result l c.loop-i.invariant.all_of c.loop-i.invariant.firsts.deal.in_order;
-      worker = omega arith;
-    }
+deal_to-requires g c = grind (arith, common_steps)

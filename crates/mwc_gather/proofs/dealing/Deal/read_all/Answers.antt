@@ -1,27 +1,19 @@
+use Rattle.std.proofs.lemmas.Grind.{common_steps}
 use Rattle.std.proofs.Common.{◌<◌, length, arith}
-use Rattle.mwc_gather.proofs.Deals.{turn_of, slices_at, deal_goes_on}
+use Rattle.mwc_gather.proofs.Deals.{turn_of}
 use Rattle.mwc_gather.proofs.dealing.Deal.read_all.Goals as goal
 
 pub deal_first-requires : goal.deal_first-requires
 deal_first-requires g c = c.requires
 
 pub loop-init : goal.loop-init
-loop-init g c = let q = c.deal_first.auto.desks in deal_goes_on c.deal_first.new.desks (omega arith) c.deal_first.ensures
+loop-init g c = grind (arith, common_steps)
 
 pub loop-i-init : goal.loop-i-init
 loop-i-init g c = c.loop.invariant
 
 pub turn-moved-requires : goal.turn-moved-requires
-turn-moved-requires g c =
-    let q = c.loop-i.auto.desks in
-    let few = c.requires.few in
-    let first = c.deal_first.auto.desks in
-    let long = c.loop.auto.desks in
-    let l : c.loop-i.i < length c.loop-i.desks = omega arith in
-    record {
-      slices = slices_at c.loop-i.desks c.loop-i.i c.index-desks-i.result l c.loop-i.invariant.all_of c.loop-i.invariant.dealing.in_order;
-      worker = omega arith;
-    }
+turn-moved-requires g c = grind (arith, common_steps)
 
 pub loop-i-preserved : goal.loop-i-preserved
 loop-i-preserved g c =
