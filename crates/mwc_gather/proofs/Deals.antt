@@ -29,7 +29,8 @@ fresh_at (x ∷ desks) f (suc k) d l = fresh_at desks (All-tail IsFresh (view_of
 -- a turn whose words were read first
 pub turn_after : {done : Bool} {marks after : List (Option ℕ)} {stopped stops : Bool} (s read t : DeskView) (w : ℕ)
     → read.given ≡ s.given → read.told ≡ s.told → read.idle ≡ (s.idle || done) → (read.lost ≡ false → s.lost ≡ false)
-    → (read.cut ≡ false → s.cut ≡ false) → TakesTurn false marks stopped read w after stops t → TakesTurn done marks stopped s w after stops t
+    → (read.cut ≡ false → s.cut ≡ false) → TakesTurn false marks stopped read w after stops t
+    → TakesTurn done marks stopped s w after stops t
 turn_after {done} {marks} {after} {stopped} {stops} s read t w given told idle lost cut r = grind (arith, common_steps, or-false)
 
 -- a turn of desk i

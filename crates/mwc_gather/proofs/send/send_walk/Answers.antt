@@ -1,12 +1,27 @@
-use Rattle.std.proofs.lemmas.Grind.{common_steps}
-use Rattle.std.specs.Prelude.{◌≡◌, [], ◌++◌, List, length}
-use Rattle.std.proofs.Common.{rules, arith, refl, ◌∙◌, ap}
+use Rattle.std.specs.Prelude.{◌≡◌, [], ◌∷◌, ◌++◌, List, length}
+use Rattle.std.proofs.Common.{rules, arith, refl, sym, add-zero, ◌∙◌, ap}
+use Rattle.std.proofs.lemmas.List.{append-nil}
 use Rattle.mwc_pipe.specs.declared.word.Word.{Word}
+use Rattle.mwc_pipe.specs.declared.word.Word.TheVariants.{Open}
 use Rattle.mwc_gather.proofs.UnderWay.{one_more, takes_some, sent_cut, takes_some_at_end, sent_whole}
 use Rattle.mwc_gather.proofs.send.send_walk.Goals as goal
 
 pub loop-coalition-init : goal.loop-coalition-init
-loop-coalition-init g c = grind (arith, common_steps)
+loop-coalition-init g c = record {
+  same = refl;
+  broken = refl;
+  some_left = c.requires.left.0;
+  sent = record {
+    given = [];
+    split = refl;
+    count = add-zero _;
+    first = (
+      [],
+      sym (append-nil (g.P.PipeIn.accepted c.args.out.now)),
+      c.push.ensures ∙ ap (λ (w : List Word). w ++ Open c.args.slice ∷ []) c.new-parcel.ensures,
+    );
+  };
+}
 
 pub push-requires : goal.push-requires
 push-requires g c = let none = ap length c.new-parcel.ensures in omega arith
@@ -43,7 +58,8 @@ returns-then-left-eq0 g c =
     let sent = c.if-not-send.ensures.sent refl in
     record {
       identity = c.if-not-send.ensures.identity ∙ c.if-not-add.ensures.identity ∙ i.same;
-      sends = λ h e. sent_cut h e more (omega arith) (sent.0 ∙ ap (λ (w : List Word). g.P.PipeIn.accepted c.add.new.out ++ w) c.words.ensures);
+      sends = λ h e. sent_cut h e more (omega arith)
+          (sent.0 ∙ ap (λ (w : List Word). g.P.PipeIn.accepted c.add.new.out ++ w) c.words.ensures);
       unbroken = sent.1 ∙ added.1 ∙ i.broken;
     }
 

@@ -15,7 +15,7 @@ returns g c =
       turns = (
         take c.read-count.result c.read-count.new.row,
         dealt.same.1 ∙ read.taken.1,
-        turn_after (view_of c.args.desk.now) (view_of c.read-count.new.self) (view_of c.deal_to.new.desk) c.args.worker read.same.0 read.same.1
-            read.idle read.lost read.cut dealt.turns,
+        turn_after (view_of c.args.desk.now) (view_of c.read-count.new.self) (view_of c.deal_to.new.desk) c.args.worker read.same.0
+            read.same.1 read.idle read.lost read.cut dealt.turns,
       );
     }
