@@ -1,7 +1,8 @@
 -- Turns of desks.
-use Rattle.std.specs.Prelude.{◌≡◌, ℕ, ◌+◌, ◌<◌, Bool, false, zero, suc, [], ◌∷◌, List, Option, None, All, length, replicate}
+use Rattle.std.specs.Prelude.{◌≡◌, ℕ, ◌+◌, ◌<◌, Bool, false, ◌||◌, zero, suc, [], ◌∷◌, List, Option, None, All, length, replicate}
 use Rattle.std.proofs.lemmas.Grind.{common_steps}
 use Rattle.std.proofs.Common.{set, get_or, subst, arith, sym}
+use Rattle.std.proofs.Math.Bool.{or-false}
 use Rattle.std.proofs.lemmas.List.{length-set, map-set, get_or-set_other, length-map, get_or_default}
 use Rattle.std.proofs.lemmas.List.Elements.{All-head, All-tail}
 use Rattle.mwc_parts.specs.Slicing.{Slicing}
@@ -24,6 +25,13 @@ fresh_at : (desks : List Desk) → All IsFresh (views_of desks) → (k : ℕ) (d
 fresh_at [] f k d l = absurd (omega arith)
 fresh_at (x ∷ desks) f zero d l = All-head IsFresh (view_of x) (views_of desks) f
 fresh_at (x ∷ desks) f (suc k) d l = fresh_at desks (All-tail IsFresh (view_of x) (views_of desks) f) k d (omega arith)
+
+-- a turn whose words were read first
+pub turn_after : {done : Bool} {marks after : List (Option ℕ)} {stopped stops : Bool} (s read t : DeskView) (w : ℕ)
+    → read.given ≡ s.given → read.told ≡ s.told → read.idle ≡ (s.idle || done) → (read.lost ≡ false → s.lost ≡ false)
+    → (read.cut ≡ false → s.cut ≡ false) → TakesTurn false marks stopped read w after stops t
+    → TakesTurn done marks stopped s w after stops t
+turn_after {done} {marks} {after} {stopped} {stops} s read t w given told idle lost cut r = grind (arith, common_steps, or-false)
 
 -- a turn of desk i
 pub turn_of : {g : Slicing} {most : ℕ} {done early : Bool} {deal after : Deal} (desks : List Desk) (i : ℕ) (x t : Desk) → i < length desks

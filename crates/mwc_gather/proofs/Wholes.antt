@@ -7,7 +7,6 @@ use Rattle.std.proofs.Common.{ap, sym, ◌∙◌}
 use Rattle.std.proofs.lemmas.List.Elements.{All-weaker}
 use Rattle.council_game.specs.Votes.{minimal_coalitions}
 use Rattle.council_game.specs.Game.{GameView, votes_of}
-use Rattle.mwc_walk.specs.Slices.{slice}
 use Rattle.mwc_walk.proofs.Shared.Joined.{slices-joined}
 use Rattle.mwc_parts.specs.Slicing.{Slicing}
 use Rattle.mwc_parts.specs.Parts.{HasPieces}

@@ -124,8 +124,9 @@ impl Deal {
             let mut running = false;
             let mut moved = false;
             for i in 0..desks.len() {
-                moved |= self.turn(rt, &mut desks[i], i as u8, &mut row, bells.pair(i));
-                running |= !desks[i].ended;
+                let desk = &mut desks[i];
+                moved |= self.turn(rt, desk, i as u8, &mut row, bells.pair(i));
+                running |= !desk.ended;
             }
             if !running {
                 return;

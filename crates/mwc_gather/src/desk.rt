@@ -11,28 +11,19 @@ ghost use Rattle.mwc_parts.specs.Shared.Dealing.{IsFresh};
 ghost use Rattle.mwc_parts.specs.Shared.Fault.{IsEarly, fault_in};
 ghost use Rattle.mwc_gather.specs.Slicings.{slicing};
 ghost use Rattle.mwc_gather.specs.Sending.{HasWorked};
-ghost use Rattle.mwc_gather.specs.declared.desk.TheConstants.{TASKS};
 
+use crate::equipment::Equipment;
 use crate::job::Job;
-use crate::parcel::WORDS;
 use crate::promise::{Answer, GivenJob};
 use crate::told::Told;
 use crate::waiting::{BellPair, Bells, Patience};
 use crate::worker::work_beside;
 use mwc_parts::{Draft, GatherFault, Part};
-use mwc_pipe::{Rest, RingIn, RingOut, Word, ring};
+use mwc_pipe::{Rest, RingIn, RingOut, Word};
 use mwc_walk::slice_count;
 use std::alloc::Global;
 use std::sync::Wait;
 use std::thread::{PromisedHandle, Scope, Threads};
-
-/// How many tasks a worker may be behind the gatherer.
-const TASKS: usize = 2;
-
-/// What the constant is, as a number.
-fn is_this_number()
-    ensures { TASKS ≡ 2 }
-{}
 
 /// The gatherer's side of one worker.
 #[derive(Drop)]
@@ -79,12 +70,14 @@ impl Desk {
         ensures fresh { IfOk result (λ d. IsFresh (view_of d)) }
         ensures fault { IfErr result IsEarly }
     {
-        let slices = slice_count(job.bits);
-        let mut given = Vec::new(alloc);
-        given.reserve(usize::from(slices))?;
-        let draft = Draft::new(alloc, slices)?;
-        let (out, words) = ring(alloc, WORDS)?;
-        let (tasks, list) = ring(alloc, TASKS)?;
+        let Equipment {
+            out,
+            words,
+            tasks,
+            list,
+            given,
+            draft,
+        } = Equipment::new(alloc, slice_count(job.bits))?;
         let given_job = job.given(&out, &list);
         let own = job.share();
         let pair = BellPair {

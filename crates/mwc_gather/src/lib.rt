@@ -9,6 +9,7 @@
 
 mod dealing;
 mod desk;
+mod equipment;
 mod gathering;
 mod guarded;
 mod job;

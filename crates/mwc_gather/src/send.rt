@@ -39,7 +39,7 @@ pub(crate) fn send<W: PutsRows<P>, R: Wait, P: PipeIn<Word>>(
         if came.refused {
             return false;
         }
-        rest = &rest[came.accepted..];
+        rest = rest.split_at(came.accepted).1;
         if came.accepted > 0 {
             patience.renew(pair.own);
             pair.other.ring();
@@ -101,11 +101,11 @@ pub fn send_slice<R: Wait, P: PipeIn<Word>, G: Gate>(
         (P.accepted out.new) (P.broken out.new) result }
     ensures unbroken { BreaksOnlyIfRefused (P.broken out.old) (P.broken out.new) result }
 {
-    let own = Bell::new();
-    let other = Bell::new();
+    // nobody waits beside it, so one bell stands for both
+    let bell = Bell::new();
     let pair = BellPair {
-        own: &own,
-        other: &other,
+        own: &bell,
+        other: &bell,
     };
     let told = guarded.gate_with(&NoLookout);
     let guarded = guarded.seen_by_workers(&told);

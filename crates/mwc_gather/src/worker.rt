@@ -76,11 +76,11 @@ pub fn work<R: Wait, G: Gate>(
     requires fresh { (out.accepted ≡ []) × (tasks.taken ≡ []) }
     ensures { HasWorked (slicing guarded.now bits) most out tasks result }
 {
-    let own = Bell::new();
-    let other = Bell::new();
+    // nobody waits beside it, so one bell stands for both
+    let bell = Bell::new();
     let pair = BellPair {
-        own: &own,
-        other: &other,
+        own: &bell,
+        other: &bell,
     };
     let told = guarded.gate_with(&NoLookout);
     let job = Job::new(&guarded.seen_by_workers(&told), bits, most);

@@ -32,3 +32,9 @@ returns-in-None-fault-clause-parts g c = λ some.
     let ok = c.args.desks.ok in
     all_complete c.args.desks.items (into_iter_items c.loop-desk.desk-iterator) c.loop-desk.parts.items c.loop-desk.invariant
     (grind (arith, common_steps)) (search rules) c.requires.dealt.1 (omega arith) some
+
+pub returns-in-Some-fault : goal.returns-in-Some-fault
+returns-in-Some-fault g c = grind (arith, common_steps)
+
+pub returns-in-None-fault-clause-first : goal.returns-in-None-fault-clause-first
+returns-in-None-fault-clause-first g c = grind (arith, common_steps)

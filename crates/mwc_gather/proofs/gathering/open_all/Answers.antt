@@ -1,4 +1,5 @@
-use Rattle.std.proofs.Common.{List, subst, sym, rules}
+use Rattle.std.proofs.lemmas.Grind.{common_steps}
+use Rattle.std.proofs.Common.{List, subst, sym, arith, rules}
 use Rattle.std.specs.Prelude.{All}
 use Rattle.std.proofs.lemmas.List.Elements.{All-push}
 use Rattle.mwc_parts.specs.Shared.Dealing.{IsFresh}
@@ -21,3 +22,12 @@ loop-worker-preserved g c =
           (fresh_push c.loop-worker.desks.items c.in-Ok.desk i.3 c.in-Ok.ensures.fresh),
       i.4,
     )
+
+pub returns-then-is_err : goal.returns-then-is_err
+returns-then-is_err g c = grind (arith, common_steps)
+
+pub returns-in-Err : goal.returns-in-Err
+returns-in-Err g c = grind (arith, common_steps)
+
+pub returns : goal.returns
+returns g c = grind (arith, common_steps)

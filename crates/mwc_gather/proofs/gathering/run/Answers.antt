@@ -33,3 +33,15 @@ finish_all-requires-clause-dealt g c =
 
 pub returns-in_err-parts-clause-many : goal.returns-in_err-parts-clause-many
 returns-in_err-parts-clause-many g c = grind (arith, common_steps, all_total_is)
+
+pub read_all-requires : goal.read_all-requires
+read_all-requires g c = grind (arith, common_steps)
+
+pub finish_all-requires-clause-start : goal.finish_all-requires-clause-start
+finish_all-requires-clause-start g c = grind (arith, common_steps)
+
+pub all_of-requires : goal.all_of-requires
+all_of-requires g c = grind (arith, common_steps)
+
+pub returns : goal.returns
+returns g c = c.all_of.ensures

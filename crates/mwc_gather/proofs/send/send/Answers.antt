@@ -1,6 +1,10 @@
-use Rattle.std.proofs.Common.{drop}
+use Rattle.std.proofs.lemmas.Grind.{common_steps}
+use Rattle.std.proofs.Common.{drop, arith}
 use Rattle.mwc_gather.proofs.FirstWords.{first_more}
 use Rattle.mwc_gather.proofs.send.send.Goals as goal
+
+pub loop-init : goal.loop-init
+loop-init g c = grind (arith, common_steps)
 
 pub returns-then-came-clause-refused : goal.returns-then-came-clause-refused
 returns-then-came-clause-refused g c = λ z.
@@ -13,3 +17,9 @@ returns-then-came-clause-refused g c = λ z.
       ),
       came.ensures.refused c.if-came.true,
     )
+
+pub returns-then-is_empty : goal.returns-then-is_empty
+returns-then-is_empty g c = grind (arith, common_steps)
+
+pub loop-preserved : goal.loop-preserved
+loop-preserved g c = grind (arith, common_steps)

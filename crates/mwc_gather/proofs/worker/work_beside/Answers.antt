@@ -1,3 +1,4 @@
+use Rattle.std.proofs.lemmas.Grind.{common_steps}
 use Rattle.std.specs.Prelude.{◌≡◌, ℕ, ◌+◌, ◌<◌, List, [], ◌∷◌, ◌++◌, length}
 use Rattle.std.proofs.Common.{rules, arith, sym, ◌∙◌, ap}
 use Rattle.std.proofs.lemmas.List.Elements.{All-push}
@@ -9,6 +10,12 @@ use Rattle.mwc_gather.specs.Slicings.{slicing}
 use Rattle.std.proofs.lemmas.List.{flat_map_more, map_push}
 use Rattle.std.proofs.lemmas.List.Sums.{sum_by_push}
 use Rattle.mwc_gather.proofs.worker.work_beside.Goals as goal
+
+pub loop-init : goal.loop-init
+loop-init g c = grind (arith, common_steps)
+
+pub send_behind-sent-requires : goal.send_behind-sent-requires
+send_behind-sent-requires g c = grind (arith, common_steps)
 
 pub loop-preserved : goal.loop-preserved
 loop-preserved g c =
@@ -31,3 +38,9 @@ loop-preserved g c =
         All-push (λ (i : ℕ). i < game.slices) inv.0 j inv.4 low,
       ),
     )
+
+pub returns-in_default : goal.returns-in_default
+returns-in_default g c = grind (arith, common_steps)
+
+pub returns-in-Cut : goal.returns-in-Cut
+returns-in-Cut g c = grind (arith, common_steps)

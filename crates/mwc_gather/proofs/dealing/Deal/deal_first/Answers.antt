@@ -1,3 +1,4 @@
+use Rattle.std.proofs.lemmas.Grind.{common_steps}
 use Rattle.std.proofs.Common.{◌≡◌, ◌<◌, ℕ, length, subst, arith}
 use Rattle.mwc_gather.specs.Slicings.{slicing}
 use Rattle.mwc_gather.specs.Inner.Desks.{DealsFirst}
@@ -19,3 +20,6 @@ returns g c =
     let q : c.loop-i.i ≡ length c.args.desks.now = omega arith in
     let job = c.args.job.now in
     subst (λ (k : ℕ). DealsFirst (slicing job.guarded job.bits) job.most c.args.self.now.stopped c.loop-i.self k c.loop-i.desks) q c.loop-i.invariant
+
+pub deal_to-requires : goal.deal_to-requires
+deal_to-requires g c = grind (arith, common_steps)

@@ -1,6 +1,19 @@
+use Rattle.std.proofs.lemmas.Grind.{common_steps}
 use Rattle.std.proofs.Common.{◌<◌, length, arith}
 use Rattle.mwc_gather.proofs.Deals.{turn_of}
 use Rattle.mwc_gather.proofs.dealing.Deal.read_all.Goals as goal
+
+pub deal_first-requires : goal.deal_first-requires
+deal_first-requires g c = c.requires
+
+pub loop-init : goal.loop-init
+loop-init g c = grind (arith, common_steps)
+
+pub loop-i-init : goal.loop-i-init
+loop-i-init g c = c.loop.invariant
+
+pub turn-moved-requires : goal.turn-moved-requires
+turn-moved-requires g c = grind (arith, common_steps)
 
 pub loop-i-preserved : goal.loop-i-preserved
 loop-i-preserved g c =
@@ -8,3 +21,24 @@ loop-i-preserved g c =
     let l : c.loop-i.i < length c.loop-i.desks = omega arith in
     turn_of c.loop-i.desks c.loop-i.i c.index-desks-i.result c.turn-moved.new.desk l c.loop-i.invariant c.turn-moved.ensures.worker
     c.turn-moved.ensures.turns.2
+
+pub returns-then-not-running : goal.returns-then-not-running
+returns-then-not-running g c = c.loop-i.invariant
+
+pub loop-preserved-then-moved : goal.loop-preserved-then-moved
+loop-preserved-then-moved g c = c.loop-i.invariant
+
+pub loop-preserved : goal.loop-preserved
+loop-preserved g c = c.loop-i.invariant
+
+pub offset_bounds-desks-i : goal.offset_bounds-desks-i
+offset_bounds-desks-i g c = omega arith
+
+pub bounds-desks-i : goal.bounds-desks-i
+bounds-desks-i g c = omega arith
+
+pub overflow_cast-i : goal.overflow_cast-i
+overflow_cast-i g c = omega arith
+
+pub pair-requires : goal.pair-requires
+pair-requires g c = omega arith

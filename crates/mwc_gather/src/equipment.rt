@@ -1,0 +1,61 @@
+//! What a desk is made of before its worker is started.
+ghost use Rattle.std.specs.Prelude.{◌≡◌, [], false, IfErr};
+ghost use Rattle.mwc_parts.specs.Drafts.{IsDraftOf};
+ghost use Rattle.mwc_parts.specs.Shared.Fault.{IsEarly};
+ghost use Rattle.mwc_gather.specs.declared.equipment.TheConstants.{TASKS};
+
+use crate::parcel::WORDS;
+use mwc_parts::{Draft, GatherFault};
+use mwc_pipe::{RingIn, RingOut, ring};
+use std::alloc::Global;
+
+/// How many tasks a worker may be behind the gatherer.
+const TASKS: usize = 2;
+
+/// What the constant is, as a number.
+fn is_this_number()
+    ensures { TASKS ≡ 2 }
+{}
+
+/// The ends of two new rings, and room for what is kept of a worker.
+#[derive(Drop)]
+pub(crate) struct Equipment {
+    /// The end that the worker's words go into.
+    pub out: RingIn,
+    /// The end that they come from.
+    pub words: RingOut,
+    /// The end that its tasks are put into.
+    pub tasks: RingIn,
+    /// The end that they come from.
+    pub list: RingOut,
+    /// Room for the slices that it is given.
+    pub given: Vec<u16>,
+    /// Room for their ends.
+    pub draft: Draft,
+    ghost rings: { (words.ring ≡ out.ring) × (list.ring ≡ tasks.ring) },
+    ghost no_words: { (out.accepted ≡ []) × (words.taken ≡ []) },
+    ghost no_tasks: { (tasks.accepted ≡ []) × (list.taken ≡ []) },
+    ghost none_given: { given.items ≡ [] },
+    ghost none_kept: { IsDraftOf [] draft × (draft.lost ≡ false) × (draft.cut ≡ false) },
+}
+
+impl Equipment {
+    /// That of a worker that may be given so many slices.
+    pub fn new(alloc: Global, slices: u16) -> Result<Equipment, GatherFault>
+        ensures { IfErr result IsEarly }
+    {
+        let mut given = Vec::new(alloc);
+        given.reserve(usize::from(slices))?;
+        let draft = Draft::new(alloc, slices)?;
+        let (out, words) = ring(alloc, WORDS)?;
+        let (tasks, list) = ring(alloc, TASKS)?;
+        Ok(Equipment {
+            out,
+            words,
+            tasks,
+            list,
+            given,
+            draft,
+        })
+    }
+}
