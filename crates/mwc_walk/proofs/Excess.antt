@@ -1,5 +1,5 @@
 -- By how much quotas are passed below a prefix, told from the lanes.
-use Rattle.std.proofs.Common.{◌≡◌, ℕ, ◌+◌, ◌-◌, ◌*◌, ◌/◌, ◌^◌, ◌<◌, ◌≤◌, min, true, List, [], length, take, drop, get_or, subst, arith}
+use Rattle.std.proofs.Common.{◌≡◌, ℕ, ◌+◌, ◌-◌, ◌*◌, ◌/◌, ◌^◌, ◌<◌, ◌≤◌, min, true, List, length, take, drop, get_or, subst, arith}
 use Rattle.std.proofs.lemmas.Grind.{common_steps}
 use Rattle.std.specs.Int.Bits.{bit_and}
 use Rattle.std.proofs.lemmas.Bool.{cases_Bool, both_ways, and_parts, and_from, eq-eqb}
@@ -8,6 +8,7 @@ use Rattle.council_game.specs.Votes.{Votes, rule_at, weight, wins}
 use Rattle.mwc_walk.specs.declared.lane.Lane.{Lane}
 use Rattle.mwc_walk.specs.declared.vetoes.Vetoes.{Vetoes}
 use Rattle.mwc_walk.specs.declared.cursor.Cursor.{Cursor}
+use Rattle.mwc_walk.specs.Inner.Lanes.{no_lane}
 use Rattle.mwc_walk.specs.Inner.Places.{LaneIs, IsExcess}
 use Rattle.mwc_walk.specs.Inner.Spared.{lane_at, IsNeed, Tried}
 use Rattle.mwc_walk.specs.Inner.Vetoes.{IsSplit}
@@ -17,14 +18,11 @@ use Rattle.mwc_walk.proofs.Spared.{met-at, weight-parts}
 use Rattle.mwc_walk.proofs.Steps.{enter-short}
 use Rattle.mwc_walk.proofs.Tables.{lane-of}
 
-abbrev pub none : Lane
-none = record { quota = 0; sum = 0; weightless = 0; weights = []; rest = [] }
-
 pub lane-here : (v : Votes) (a : Cursor) → CursorIs v a → (i : ℕ) → i < a.rules
     → LaneIs v.members a.place a.prefix (rule_at v.rules i) (lane_at a.lanes i)
 lane-here v a is i below =
-    subst (λ (l : Lane). LaneIs v.members a.place a.prefix (rule_at v.rules i) l) (get_or-take a.rules a.lanes i none below)
-    (lane-of v.members a.place a.prefix v.rules (take a.rules a.lanes) is.lanes i (omega (arith, below, is.rules)) none)
+    subst (λ (l : Lane). LaneIs v.members a.place a.prefix (rule_at v.rules i) l) (get_or-take a.rules a.lanes i no_lane below)
+    (lane-of v.members a.place a.prefix v.rules (take a.rules a.lanes) is.lanes i (omega (arith, below, is.rules)) no_lane)
 
 -- what a winning coalition that begins with the prefix weighs: what is there, and what comes
 pub there-and-comes : (v : Votes) (a : Cursor) → CursorIs v a → (i c : ℕ) → i < a.rules → c / 2 ^ (v.members - a.place) ≡ a.prefix

@@ -10,6 +10,7 @@ use Rattle.mwc_walk.specs.Inner.Lanes.{lane_reaches, lane_wins, lane_with, lane_
 use Rattle.council_game.specs.Votes.{RuleView, IsRule, weight, rule_at}
 use Rattle.council_game.proofs.Shared.Weights.{weight-le}
 use Rattle.mwc_walk.specs.Inner.Places.{reaches, wins_at, LaneIs, LanesAre}
+use Rattle.mwc_walk.proofs.Filled.{FilledFrom}
 use Rattle.mwc_walk.proofs.Each.{list_all-beside, AllZip-moved, All-beside}
 use Rattle.mwc_walk.proofs.Rules.{weight-step, weight-over, rest-step}
 
@@ -95,19 +96,21 @@ same-weights n ws vs le long same =
 pub sum-from : (ws : List ℕ) (m p : ℕ) → m ≤ length ws → p < m → sum (drop p (take m ws)) ≡ get_or ws p 0 + sum (drop (p + 1) (take m ws))
 sum-from ws m p le below = grind (arith, common_steps)
 
-pub fills-down : (ws : List ℕ) (m p : ℕ) (rest : List ℕ) → m ≤ length ws → p < m → get_or rest (p + 1) 0 ≡ sum (drop (p + 1) (take m ws))
-    → get_or ws p 0 + get_or rest (p + 1) 0 ≡ sum (drop p (take m ws))
-fills-down ws m p rest le below here = omega (arith, sum-from ws m p le below, here)
+-- the sum before those that are filled in
+pub sum-before : (ws rest : List ℕ) (m k : ℕ) → m ≤ length ws → 0 < k → k ≤ m → FilledFrom (λ q r. r ≡ sum (drop q (take m ws))) 0 41 m k rest
+    → get_or ws (k - 1) 0 + get_or rest (k - 1 + 1) 0 ≡ sum (drop (k - 1) (take m ws))
+sum-before ws rest m k le some most filled =
+    omega (arith, sum-from ws m (k - 1) le (omega arith), filled.done (k - 1 + 1) (omega arith) (omega arith))
 
 pub drop-most : (xs : List ℕ) (p : ℕ) → sum (drop p xs) ≤ sum xs
 drop-most xs p = omega (arith, sum_by-take-drop (λ (y : ℕ). y) xs p)
 
-pub lanes-from : (n p x : ℕ) (rs : List RuleView) (ls : List Lane) → length rs ≤ length ls
-    → ((i : ℕ) → i < length rs → (d : Lane) → LaneIs n p x (rule_at rs i) (get_or ls i d)) → LanesAre n p x rs (take (length rs) ls)
-lanes-from n p x [] ls le is = tt
-lanes-from n p x (r ∷ rs) [] le is = absurd (omega arith)
-lanes-from n p x (r ∷ rs) (l ∷ ls) le is =
-    (is 0 (omega arith) l, lanes-from n p x rs ls (omega arith) (λ i below d. is (suc i) (omega arith) d))
+pub lanes-from : (n p x : ℕ) (rs : List RuleView) (ls : List Lane) (d : Lane) → length rs ≤ length ls
+    → ((i : ℕ) → i < length rs → LaneIs n p x (rule_at rs i) (get_or ls i d)) → LanesAre n p x rs (take (length rs) ls)
+lanes-from n p x [] ls d le is = tt
+lanes-from n p x (r ∷ rs) [] d le is = absurd (omega arith)
+lanes-from n p x (r ∷ rs) (l ∷ ls) d le is =
+    (is 0 (omega arith), lanes-from n p x rs ls d (omega arith) (λ i below. is (suc i) (omega arith)))
 
 pub lane-of : (n p x : ℕ) (rs : List RuleView) (ls : List Lane) → LanesAre n p x rs ls → (i : ℕ) → i < length rs → (d : Lane)
     → LaneIs n p x (rule_at rs i) (get_or ls i d)

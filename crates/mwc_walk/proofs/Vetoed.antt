@@ -1,20 +1,22 @@
 -- Vetoers are in every winning coalition.
-use Rattle.std.proofs.Common.{◌≡◌, ◌⊎◌, ℕ, zero, suc, ◌+◌, ◌-◌, ◌/◌, ◌%◌, ◌^◌, ◌<◌, ◌≤◌, true, false, List, [], ◌∷◌, length, take, drop, get_or, sum, refl, add-one, arith, inl, inr}
+use Rattle.std.proofs.Common.{◌≡◌, ◌∙◌, ◌⊎◌, ℕ, zero, suc, ◌+◌, ◌-◌, ◌/◌, ◌%◌, ◌^◌, ◌<◌, ◌≤◌, true, false, List, [], ◌∷◌, length, take, drop, get_or, sum, refl, add-one, arith, inl, inr}
 use Rattle.std.proofs.lemmas.Grind.{common_steps}
 use Rattle.std.specs.List.{list_any}
-use Rattle.std.proofs.lemmas.Bool.{both_ways, and_parts, or_cases, leb-true, ltb-true, cases_Bool, cases_eq}
+use Rattle.std.proofs.lemmas.Bool.{both_ways, and_parts, or_cases, leb-true, ltb-true, cases_Bool, cases_eq, cond_both, cond-false}
 use Rattle.std.proofs.lemmas.List.{drop_all, take_all, length-take-le}
 use Rattle.std.proofs.lemmas.List.Sums.{sum_by_more}
 use Rattle.std.proofs.lemmas.Nat.Bits.{bit_at-lt}
+use Rattle.std.proofs.lemmas.Slice.Zip.{AllZip-long}
 use Rattle.coalitions.proofs.Shared.Digits.{digit-added}
-use Rattle.council_game.specs.Votes.{RuleView, Votes, IsRule, rule_at, weight, wins}
+use Rattle.council_game.specs.Votes.{RuleView, Votes, IsVotes, rule_at, weight, wins}
 use Rattle.council_game.proofs.Shared.Weights.{weight-le, weight-without}
 use Rattle.mwc_walk.specs.declared.lane.Lane.{Lane}
-use Rattle.mwc_walk.specs.Inner.Lanes.{lane_needs}
-use Rattle.mwc_walk.specs.Inner.Vetoes.{IsSplit}
+use Rattle.mwc_walk.specs.Inner.Lanes.{lane_needs, no_lane}
+use Rattle.mwc_walk.specs.Inner.Vetoes.{IsSplit, vetoed_part}
 use Rattle.mwc_walk.specs.Inner.Places.{LaneIs, LanesAre}
 use Rattle.mwc_walk.proofs.Coming.{weight-from, weight-past}
-use Rattle.mwc_walk.proofs.Tables.{sum-from}
+use Rattle.mwc_walk.proofs.Filled.{FilledTo}
+use Rattle.mwc_walk.proofs.Tables.{sum-from, lane-of}
 
 -- who is out weighs nothing
 weight-out : (ws : List ℕ) (q c : ℕ) → q < length ws → c / 2 ^ (length ws - 1 - q) % 2 ≡ 0 → weight ws c + get_or ws q 0 ≤ sum ws
@@ -72,47 +74,56 @@ module _ (n : ℕ) (ws vs fs : List ℕ) (lw : n ≤ length ws) (lv : n ≤ leng
       let more = λ (xs : List ℕ) (long : n ≤ length xs). sum_by_more (λ (y : ℕ). y) xs m 0 (omega (arith, le, long)) in
       rw (← add-one) (omega (arith, parts-fit m (omega (arith, le)), more vs lv, more fs lf, more ws lw, parted m (omega (arith, le))))
 
--- the weights of rule i: those of the vetoers, and those of the others
-pub record Parts (v : Votes) (ls : List Lane) (i : ℕ) (vs fs : List ℕ) : Type 0 where
-  pub rule : IsRule v.members (rule_at v.rules i)
-  pub long_vetoed : v.members ≤ length vs
-  pub long_free : v.members ≤ length fs
-  pub parted : (q : ℕ) → q < v.members → get_or vs q 0 + get_or fs q 0 ≡ get_or (rule_at v.rules i).weights q 0
-  pub needed : (q : ℕ) → q < v.members → list_any (lane_needs q) ls ≡ false → get_or vs q 0 ≡ 0
+-- how far the weights of a lane are parted
+pub record AreParted (ls : List Lane) (i place : ℕ) (vs fs : List ℕ) : Type 0 where
+  pub vetoed : FilledTo (λ q part. part ≡ vetoed_part ls i q) 0 40 place vs
+  pub free : FilledTo (λ q part. part ≡ get_or (get_or ls i no_lane).weights q 0 - vetoed_part ls i q) 0 40 place fs
 
-pub parts-sum : (v : Votes) (ls : List Lane) (i : ℕ) (vs fs : List ℕ) → Parts v ls i vs fs
-    → sum (take v.members vs) + sum (take v.members fs) < 2 ^ 64
-parts-sum v ls i vs fs parts =
-    let full : length (rule_at v.rules i).weights ≡ v.members = parts.rule.full in
-    let whole : take v.members (rule_at v.rules i).weights ≡ (rule_at v.rules i).weights = take_all v.members _ (omega (arith, full)) in
-    let all = parts-fit v.members (rule_at v.rules i).weights vs fs (omega (arith, full)) parts.long_vetoed parts.long_free parts.parted
-    v.members (omega arith) in
-    omega (arith, rw whole at all, parts.rule.light)
+-- all of them are
+module _ {v : Votes} {ls : List Lane} {i n place : ℕ} {vs fs : List ℕ} (game : IsVotes v) (members : n ≡ v.members) (end : n ≤ place)
+    (below : i < length ls) (are : LanesAre v.members 0 0 v.rules ls) (parts : AreParted ls i place vs fs) where
+  lane : LaneIs v.members 0 0 (rule_at v.rules i) (get_or ls i no_lane)
+  lane = lane-of v.members 0 0 v.rules ls are i (omega (arith, AllZip-long _ v.rules ls are, below)) no_lane
 
-pub split-is : (v : Votes) (ls : List Lane) (i : ℕ) (vs fs brings : List ℕ) → Parts v ls i vs fs
-    → LanesAre v.members 0 0 v.rules ls → ((p : ℕ) → p ≤ v.members → get_or brings p 0 ≡ sum (drop p (take v.members vs)))
-    → IsSplit v i (record { brings = brings; free = fs })
-split-is v ls i vs fs brings parts are sums =
-    let full : length (rule_at v.rules i).weights ≡ v.members = parts.rule.full in
-    let whole : take v.members (rule_at v.rules i).weights ≡ (rule_at v.rules i).weights = take_all v.members _ (omega (arith, full)) in
-    record {
-      room = parts.long_free;
-      fits = omega (arith, parts-sum v ls i vs fs parts);
-      parts = λ p c le won.
-          let all = split-from v.members (rule_at v.rules i).weights vs fs (omega (arith, full)) parts.long_vetoed parts.long_free parts.parted
-          c (v.members - p) p (λ q below. inside c won q below) (omega arith) in
-          rw (sums p le) (rw whole at all);
-    }
-  where
-    inside : (c : ℕ) → wins v.rules c ≡ true → (q : ℕ) → q < v.members → (get_or vs q 0 ≡ 0) ⊎ (c / 2 ^ (v.members - (q + 1)) % 2 ≡ 1)
-    inside c won q below = elim (cases_Bool (list_any (lane_needs q) ls)) [
-      | inr spare ↦ inl (parts.needed q below spare)
-      | inl needs ↦
-          let e : v.members - 1 - q ≡ v.members - (q + 1) = omega arith in
-          let kept = rw e at (vetoer-in v.members q c v.rules ls below are needs won) in
-          let digit : c / 2 ^ (v.members - (q + 1)) % 2 < 2 = bit_at-lt c (v.members - (q + 1)) in
-          inr (elim (cases_eq (c / 2 ^ (v.members - (q + 1)) % 2) 0) [
-            | inl out ↦ absurd (kept out)
-            | inr other ↦ omega (arith, digit, other)
-          ])
-    ]
+  whole : take v.members (rule_at v.rules i).weights ≡ (rule_at v.rules i).weights
+  whole = take_all v.members _ (omega (arith, lane.rule.full))
+
+  parted : (q : ℕ) → q < v.members → get_or vs q 0 + get_or fs q 0 ≡ get_or (rule_at v.rules i).weights q 0
+  parted q lt =
+      let all : ℕ = get_or (get_or ls i no_lane).weights q 0 in
+      let part = cond_both (list_any (lane_needs q) ls) all 0 (λ w. w ≤ all) (λ _. omega arith) (λ _. omega arith) in
+      let room : q < place = omega (arith, lt, members, end) in
+      omega (arith, part, parts.vetoed.done q room, parts.free.done q room, lane.weights q lt)
+
+  both-fit : sum (take v.members vs) + sum (take v.members fs) < 2 ^ 64
+  both-fit =
+      let all = parts-fit v.members (rule_at v.rules i).weights vs fs (omega (arith, lane.rule.full)) (omega (arith, parts.vetoed.long, game.few))
+      (omega (arith, parts.free.long, game.few)) parted v.members (omega arith) in
+      omega (arith, rw whole at all, lane.rule.light)
+
+  pub vetoed-fit : sum (take n vs) < 2 ^ 64
+  vetoed-fit = rw members (omega (arith, both-fit))
+
+  inside : (c : ℕ) → wins v.rules c ≡ true → (q : ℕ) → q < v.members → (get_or vs q 0 ≡ 0) ⊎ (c / 2 ^ (v.members - (q + 1)) % 2 ≡ 1)
+  inside c won q lt = elim (cases_Bool (list_any (lane_needs q) ls)) [
+    | inr spare ↦ inl (parts.vetoed.done q (omega (arith, lt, members, end)) ∙ cond-false (list_any (lane_needs q) ls) _ 0 spare)
+    | inl needs ↦
+        let e : v.members - 1 - q ≡ v.members - (q + 1) = omega arith in
+        let kept = rw e at (vetoer-in v.members q c v.rules ls lt are needs won) in
+        let digit : c / 2 ^ (v.members - (q + 1)) % 2 < 2 = bit_at-lt c (v.members - (q + 1)) in
+        inr (elim (cases_eq (c / 2 ^ (v.members - (q + 1)) % 2) 0) [
+          | inl out ↦ absurd (kept out)
+          | inr other ↦ omega (arith, digit, other)
+        ])
+  ]
+
+  pub split-is : (brings : List ℕ) → ((p : ℕ) → p ≤ n → get_or brings p 0 ≡ sum (drop p (take n vs)))
+      → IsSplit v i (record { brings = brings; free = fs })
+  split-is brings sums = record {
+    room = omega (arith, parts.free.long, game.few);
+    fits = omega (arith, both-fit);
+    parts = λ p c le won.
+        let all = split-from v.members (rule_at v.rules i).weights vs fs (omega (arith, lane.rule.full)) (omega (arith, parts.vetoed.long, game.few))
+        (omega (arith, parts.free.long, game.few)) parted c (v.members - p) p (inside c won) (omega arith) in
+        rw (rw members at (sums p (omega (arith, le, members)))) (rw whole at all);
+  }
