@@ -1,7 +1,7 @@
 use mir.Val.{bool_byte}
 use Rattle.std.proofs.Common.{◌≡◌, ◌==◌, ◌+◌, ◌*◌, ◌<◌, ℕ, Bool, true, false, get_or, refl, ◌∙◌, arith, below_more}
 use Rattle.council_game.specs.Votes.{has}
-use Rattle.mwc_walk.proofs.Masks.{next-digit}
+use Rattle.mwc_walk.proofs.Spared.{next-digit}
 use Rattle.mwc_walk.proofs.lane.weightless_of.Goals as goal
 
 digit-is : (t : Bool) (b : ℕ) → b ≡ bool_byte t → (b < 2) × ((b == 1) ≡ t)
