@@ -1,5 +1,6 @@
 -- Stretches of a list that lies in pieces.
 use Rattle.std.proofs.Common.{◌≡◌, ◌∙◌, ℕ, ◌+◌, ◌-◌, ◌<◌, ◌≤◌, zero, suc, min, List, [], ◌∷◌, ◌++◌, length, get_or, take, drop, sym, ap, arith, subst, length-append, length-drop, IfOk, Result, Ok, Err}
+use Rattle.std.proofs.lemmas.Grind.{common_steps}
 use Rattle.std.specs.List.{All, flat_map}
 use Rattle.std.proofs.lemmas.List.{take_all, take_more, take_min, drop_min, length-take, append-nil}
 use Rattle.std.proofs.lemmas.List.Concat.{flat_map-append}
@@ -29,20 +30,12 @@ take-append (suc n) (x ∷ xs) ys =
 -- one piece more of a stretch
 pub stretch-more : (skip most s l : ℕ) (xs piece : List ℕ) → s ≡ skip - length xs → l ≡ most - length (drop skip xs)
     → take most (drop skip (xs ++ piece)) ≡ take most (drop skip xs) ++ take l (drop s piece)
-stretch-more skip most s l xs piece s-is l-is =
-    ap (take most) (drop-append skip xs piece)
-    ∙ take-append most (drop skip xs) (drop (skip - length xs) piece)
-    ∙ ap (λ (k : ℕ). take most (drop skip xs) ++ take k (drop (skip - length xs) piece)) (sym l-is)
-    ∙ ap (λ (k : ℕ). take most (drop skip xs) ++ take l (drop k piece)) (sym s-is)
+stretch-more skip most s l xs piece s-is l-is = grind (arith, common_steps, drop-append, take-append)
 
 -- what is left to skip and to take after it
 pub stretch-left : (skip most s l : ℕ) (xs piece : List ℕ) → s ≡ skip - length xs → l ≡ most - length (drop skip xs)
     → (s - length piece ≡ skip - length (xs ++ piece)) × (l - (length piece - s) ≡ most - length (drop skip (xs ++ piece)))
-stretch-left skip most s l xs piece s-is l-is =
-    let long = length-append xs piece in
-    let before = length-drop skip xs in
-    let after = length-drop skip (xs ++ piece) in
-    (omega (arith, long, s-is), omega (arith, long, before, after, s-is, l-is))
+stretch-left skip most s l xs piece s-is l-is = grind (arith, common_steps, length-append, length-drop)
 
 pub stretch-length : (skip most : ℕ) (xs : List ℕ) → length (take most (drop skip xs)) ≤ length xs
 stretch-length skip most xs = let a = length-take most (drop skip xs) in let b = length-drop skip xs in omega (arith, a, b)
@@ -50,10 +43,7 @@ stretch-length skip most xs = let a = length-take most (drop skip xs) in let b =
 -- the pieces up to one more
 pub pieces-more : {X : Type 0} (f : X → List ℕ) (xs : List X) (k : ℕ) (x : X) → k < length xs → x ≡ get_or xs k x
     → flat_map f (take (k + 1) xs) ≡ flat_map f (take k xs) ++ f x
-pieces-more f xs k x lt is =
-    ap (flat_map f) (take_more xs k x lt)
-    ∙ flat_map-append f (take k xs) (get_or xs k x ∷ [])
-    ∙ ap (λ (l : List ℕ). flat_map f (take k xs) ++ l) (append-nil (f (get_or xs k x)) ∙ ap f (sym is))
+pieces-more f xs k x lt is = grind (arith, common_steps, append-nil, flat_map-append, take_more)
 
 -- what holds of all holds of a piece
 pub piece-all : {X : Type 0} (P : ℕ → Type 0) (f : X → List ℕ) (xs : List X) (k : ℕ) (x : X) → k < length xs → x ≡ get_or xs k x
@@ -68,28 +58,16 @@ pieces-length f xs k x lt is = let e = length-flat_map-take f xs k x lt in let s
 -- the row that is read of a piece
 pub row-is : (piece : List ℕ) (s l a m : ℕ) → a ≡ min s (length piece) → m ≡ min l (length (take (length piece - a) (drop a piece)))
     → take m (take (length piece - a) (drop a piece)) ≡ take l (drop s piece)
-row-is piece s l a m a-is m-is =
-    let long = length-drop a piece in
-    let rest : take (length piece - a) (drop a piece) ≡ drop s piece = take_all (length piece - a) (drop a piece) (omega (arith, long))
-    ∙ (ap (λ (k : ℕ). drop k piece) a-is ∙ drop_min s piece) in
-    ap (λ (k : ℕ). take k (take (length piece - a) (drop a piece))) m-is ∙ take_min l (take (length piece - a) (drop a piece))
-    ∙ ap (take l) rest
+row-is piece s l a m a-is m-is = grind (arith, common_steps, drop_min, length-drop, take_all, take_min)
 
 pub rest-length : (piece : List ℕ) (s a : ℕ) → a ≡ min s (length piece) → length (take (length piece - a) (drop a piece)) ≡ length piece - s
-rest-length piece s a a-is = let one = length-take (length piece - a) (drop a piece) in let other =
-    length-drop a piece in omega (arith, one, other, a-is)
+rest-length piece s a a-is = grind (arith, common_steps, length-drop, length-take)
 
 -- what a thread counted is what it was given to count
 pub is-stretch : (given : GivenStretch) (g : GameView) (list : List ℕ) (skip most : ℕ) → IsGivenStretch g list skip most given
     → (t : Tables) → AreTallies given.game.value (take given.most (drop given.skip (joined given.pieces.value.now))) t
     → AreTallies g (take most (drop skip list)) t
-is-stretch given g list skip most is t tallies =
-    let same =
-    ap (λ (l : List ℕ). take given.most (drop given.skip l)) is.of_list
-    ∙ ap (λ (n : ℕ). take given.most (drop n list)) is.past
-    ∙ ap (λ (n : ℕ). take n (drop skip list)) is.at_most in
-    subst (λ (x : GameView). AreTallies x (take most (drop skip list)) t) is.of_game
-    (subst (λ (l : List ℕ). AreTallies given.game.value l t) same tallies)
+is-stretch given g list skip most is t tallies = grind (arith, common_steps)
 
 pub ok-counts : {E : Type 0} (g : GameView) (list : List ℕ) (r : Result Tables E) → IfOk r (AreTallies g list) → IfOk r (AreCounts g list)
 ok-counts g list (Ok t) h = tallies-are_counts g list t h

@@ -1,4 +1,4 @@
-use Rattle.voting_laws.proofs.Sums.{deegan_packel_bottom, public_good_bottom}
+use Rattle.power_index.proofs.Shared.AddUp.{deegan_packel_bottom, public_good_bottom}
 use Rattle.voting_laws.proofs.indices.bottoms_are_positive.Goals as goal
 
 pub returns-clause-deegan_packel : goal.returns-clause-deegan_packel
