@@ -55,6 +55,8 @@ lowest_from_same p q pp pq e =
       lowest = lp.lowest;
     })
 
+pub ruleset apart = (same_from_lowest, lowest_from_same)
+
 pub at_most_then_below : (p q r : ℕ × ℕ) → 0 < p.1 → p.0 * q.1 ≤ q.0 * p.1 → q.0 * r.1 < r.0 * q.1 → p.0 * r.1 < r.0 * p.1
 at_most_then_below p q r pos le lt = step p.0 p.1 q.0 q.1 r.0 r.1 pos le lt
   where

@@ -44,3 +44,7 @@ pub lowest_public_good : (g : GameView) (list : List ℕ) → IsGame g → 0 < l
     → AddUpToOne (map (λ i. lowest_terms (public_good g list i)) (members g))
 lowest_public_good g list game some h =
     lowest-adds_up (public_good g list) (members g) (λ i. public_good_bottom g list i game some h) (public_good_adds_up g list game some h)
+
+pub ruleset sums = (lowest_deegan_packel, lowest_public_good)
+
+pub ruleset bottoms = (deegan_packel_bottom, public_good_bottom)

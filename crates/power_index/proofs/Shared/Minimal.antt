@@ -16,3 +16,5 @@ minimal-are-coalitions g game k d lt = grind (arith, common_steps, listing-is, v
 
 pub minimal-few : (g : GameView) → IsGame g → length (minimal_coalitions (votes_of g)) ≤ 2 ^ 40
 minimal-few g game = grind (arith, common_steps, few-members, listing-is, pow_mono, votes-are)
+
+pub ruleset can_be_counted = (minimal-some, minimal-are-coalitions, minimal-few)
