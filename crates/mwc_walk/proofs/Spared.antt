@@ -25,9 +25,8 @@ use Rattle.mwc_walk.specs.Inner.Spared.{lane_at, IsEnough, IsNeed, NoneSpared, T
 use Rattle.mwc_walk.specs.Inner.Vetoes.{IsSplit}
 use Rattle.mwc_walk.specs.Inner.Cursor.{CursorIs}
 use Rattle.mwc_walk.proofs.Shared.One.{place-before, in-slice}
-use Rattle.mwc_walk.proofs.Rules.{weight-block, weight-split, wins-prefix}
+use Rattle.mwc_walk.proofs.Rules.{weight-block, weight-split, wins-prefix, lane-of}
 use Rattle.mwc_walk.proofs.Steps.{enter-short}
-use Rattle.mwc_walk.proofs.Tables.{lane-of}
 
 and-digit : (a b : ℕ) → a < 2 → b < 2 → (min a b == 1) ≡ (a == 1 && b == 1)
 and-digit a b la lb = grind (arith, nat_tests)

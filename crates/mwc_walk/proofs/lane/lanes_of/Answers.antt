@@ -1,7 +1,7 @@
 use Rattle.std.proofs.Common.{arith}
 use Rattle.mwc_walk.specs.Inner.Lanes.{no_lane}
 use Rattle.mwc_walk.proofs.Filled.{fill-next}
-use Rattle.mwc_walk.proofs.Tables.{lanes-from}
+use Rattle.mwc_walk.proofs.Rules.{lanes-from}
 use Rattle.mwc_walk.proofs.lane.lanes_of.Goals as goal
 
 pub loop-rule-preserved : goal.loop-rule-preserved

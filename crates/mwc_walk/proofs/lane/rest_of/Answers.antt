@@ -1,7 +1,7 @@
 use Rattle.std.proofs.Common.{◌≡◌, ◌-◌, [], length, take, drop, arith, refl}
 use Rattle.std.proofs.lemmas.List.{drop_all, length-take-le}
 use Rattle.mwc_walk.proofs.Filled.{fill-before}
-use Rattle.mwc_walk.proofs.Tables.{same-at, sum-before, drop-most}
+use Rattle.mwc_walk.proofs.Rules.{same-at, sum-before, drop-most}
 use Rattle.mwc_walk.proofs.lane.rest_of.Goals as goal
 
 pub loop-place-init : goal.loop-place-init

@@ -3,7 +3,7 @@ use Rattle.std.proofs.lemmas.Slice.Zip.{AllZip-long}
 use Rattle.council_game.specs.Game.{votes_of}
 use Rattle.mwc_walk.specs.Inner.Lanes.{no_lane}
 use Rattle.mwc_walk.proofs.Filled.{fill-next}
-use Rattle.mwc_walk.proofs.Tables.{lane-of}
+use Rattle.mwc_walk.proofs.Rules.{lane-of}
 use Rattle.mwc_walk.proofs.asked.Asked.of_each.Goals as goal
 
 pub loop-rule-preserved : goal.loop-rule-preserved

@@ -1,7 +1,7 @@
 use Rattle.std.proofs.Common.{◌-◌, ◌+◌, arith}
 use Rattle.std.proofs.lemmas.Grind.{common_steps}
 use Rattle.mwc_walk.proofs.Filled.{fill-before}
-use Rattle.mwc_walk.proofs.Tables.{same-at}
+use Rattle.mwc_walk.proofs.Rules.{same-at}
 use Rattle.mwc_walk.proofs.Coming.{weight-past, price-step}
 use Rattle.mwc_walk.proofs.price.Prices.new.Goals as goal
 

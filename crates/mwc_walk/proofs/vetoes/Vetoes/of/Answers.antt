@@ -1,7 +1,7 @@
 use Rattle.std.proofs.Common.{◌<◌, ◌-◌, ap, arith, get_or, ℕ}
 use Rattle.mwc_walk.specs.Inner.Lanes.{no_lane}
 use Rattle.mwc_walk.proofs.Filled.{fill-next}
-use Rattle.mwc_walk.proofs.Vetoed.{vetoed-fit, split-is}
+use Rattle.mwc_walk.proofs.Coming.{vetoed-fit, split-is}
 use Rattle.mwc_walk.proofs.vetoes.Vetoes.of.Goals as goal
 
 pub loop-place-preserved : goal.loop-place-preserved

@@ -1,4 +1,4 @@
-use Rattle.mwc_walk.proofs.Vetoed.{AreParted}
+use Rattle.mwc_walk.proofs.Coming.{AreParted}
 use Rattle.mwc_walk.proofs.vetoes.Vetoes.of.Given as goal
 
 abbrev pub invariant-loop-place : goal.invariant-loop-place
