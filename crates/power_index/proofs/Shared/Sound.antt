@@ -11,7 +11,7 @@ use Rattle.council_game.proofs.Shared.Making.{ranks-are}
 use Rattle.power_index.specs.declared.tally.Tally.{Tally}
 use Rattle.power_index.specs.Counting.{contains, size_of}
 use Rattle.power_index.specs.Tables.{Tables, IsTallyOf, AreTallies, AreOfOneGame, AreCounts, AreSound, no_tally, tally_total, table_total}
-use Rattle.power_index.specs.Inner.Tables.{AreOfSomeList, IsJoined, with_one}
+use Rattle.power_index.specs.Inner.Tables.{AreOfSomeList, AreKept, IsJoined, with_one}
 use Rattle.power_index.proofs.Shared.Sums.{length-filter-le}
 use Rattle.power_index.proofs.Shared.Members.{few-members, memberships, sizes-some, size-le}
 use Rattle.power_index.proofs.Shared.Tallies.{tallies-total, tallies-few, tallies-more, tallies-join}
@@ -74,28 +74,17 @@ some-sound t h =
       light = λ i lt. weight-light h.game h.list t i lt counts;
     }
 
--- a member's place is one of the places
-some-place : (t : Tables) (i : ℕ) → i < t.members → AreOfSomeList t → get_or t.ranks i 0 < t.members
-some-place t i lt h = grind (arith, common_steps, ranks-are)
-
--- there is room for a member and its place
-pub some-room : (t u : Tables) (i : ℕ) → t ≡ u → i < u.members → AreOfSomeList t → (i < 40) × (get_or t.ranks i 0 < 40)
-some-room t u i same lt h =
-    let own : i < t.members = rw same lt in
-    let few = (some-sound t h).few_members in
-    (omega (arith, own, few), omega (arith, some-place t i own h, few))
-
--- no number of a place is greater than the list is long
-pub some-of_place : (t : Tables) (p s : ℕ) → p < t.members → s ≤ 40 → AreOfSomeList t → get_or (get_or t.each p no_tally).sizes s 0 ≤ 2 ^ 40
-some-of_place t p s lt le h =
-    let few = tallies-few (length h.game.names) (has (length h.game.names) p) h.list (get_or t.each p no_tally) s le
-    (h.tallies.tallies.each p (omega (arith, h.tallies.of_game.members))) in
-    omega (arith, few, h.few)
-
-pub some-of_all : (t : Tables) (s : ℕ) → s ≤ 40 → AreOfSomeList t → get_or t.all.sizes s 0 ≤ 2 ^ 40
-some-of_all t s le h =
-    let few = tallies-few (length h.game.names) (λ c. true) h.list t.all s le h.tallies.tallies.all in
-    omega (arith, few, h.few)
+pub kept : {t : Tables} → AreOfSomeList t → AreKept t
+kept {t} h = record {
+  of_some = h;
+  sound = some-sound t h;
+  places = λ i lt. (let below = (ranks-are h.game h.tallies.of_game.is_game).place_below i (omega (arith, h.tallies.of_game.members)) in
+      omega (arith, below, h.tallies.of_game.ranks i lt, h.tallies.of_game.members));
+  all_few = λ s le. omega (arith, tallies-few (length h.game.names) (λ c. true) h.list t.all s le h.tallies.tallies.all, h.few);
+  each_few = λ p s lt le. (let few = tallies-few (length h.game.names) (has (length h.game.names) p) h.list (get_or t.each p no_tally) s le
+      (h.tallies.tallies.each p (omega (arith, h.tallies.of_game.members))) in
+      omega (arith, few, h.few));
+}
 
 -- no coalition is counted
 pub none-hold : (g : GameView) (m : ℕ) (ranks : List ℕ) (all one : Tally) → IsGame g → m ≡ length g.names
