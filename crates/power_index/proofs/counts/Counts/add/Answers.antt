@@ -1,16 +1,8 @@
-use Rattle.std.proofs.Common.{arith, ◌++◌, ℕ, List}
+use Rattle.std.proofs.Common.{◌++◌, ℕ, List}
 use Rattle.council_game.specs.Game.{GameView}
 use Rattle.power_index.specs.Tables.{AreTallies}
 use Rattle.power_index.proofs.Shared.Sound.{kept, join-hold, join-some, join-total}
 use Rattle.power_index.proofs.counts.Counts.add.Goals as goal
-
-pub join-requires : goal.join-requires
-join-requires c s le = omega (arith, c.self.invariant.all_few s le, c.other.invariant.all_few s le)
-
-pub join_places-requires-clause-room : goal.join_places-requires-clause-room
-join_places-requires-clause-room c p s lt le =
-    let one = rw (← c.self.view_is, ← c.other.view_is) at c.requires.game in
-    omega (arith, c.self.invariant.each_few p s lt le, c.other.invariant.each_few p s (omega (arith, lt, one.members)) le)
 
 hold : (c : goal.After-join_places) (g : GameView) (first second : List ℕ)
     → AreTallies g first
