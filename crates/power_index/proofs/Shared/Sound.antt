@@ -14,7 +14,7 @@ use Rattle.power_index.specs.Tables.{Tables, IsTallyOf, AreTallies, AreOfOneGame
 use Rattle.power_index.specs.Inner.Tables.{AreOfSomeList, AreKept, IsJoined, with_one}
 use Rattle.power_index.proofs.Shared.Sums.{length-filter-le}
 use Rattle.power_index.proofs.Shared.Members.{few-members, memberships, sizes-some, size-le}
-use Rattle.power_index.proofs.Shared.Tallies.{tallies-total, tallies-few, tallies-more, tallies-join}
+use Rattle.power_index.proofs.Shared.Tallies.{tally-total, tally-few, tally-more, tally-join}
 use Rattle.power_index.proofs.Weights.{weight-light, memberships-are}
 
 filter-all : (list : List ℕ) → length (filter (λ (c : ℕ). true) list) ≡ length list
@@ -22,9 +22,9 @@ filter-all [] = refl
 filter-all (c ∷ cs) = ap (λ n. suc n) (filter-all cs)
 
 -- the tally of a member's coalitions
-member-tallies : (g : GameView) (list : List ℕ) (t : Tables) (i : ℕ) → i < t.members → AreTallies g list t
+member-tally : (g : GameView) (list : List ℕ) (t : Tables) (i : ℕ) → i < t.members → AreTallies g list t
     → IsTallyOf (length g.names) (contains g i) list (get_or t.each (get_or t.ranks i 0) no_tally)
-member-tallies g list t i lt h =
+member-tally g list t i lt h =
     subst (λ (p : ℕ). IsTallyOf (length g.names) (contains g i) list (get_or t.each p no_tally)) (sym (h.of_game.ranks i lt))
     (h.tallies.each (get_or g.ranks i 0) ((ranks-are g h.of_game.is_game).place_below i (omega (arith, h.of_game.members))))
 
@@ -33,7 +33,7 @@ pub total-is : (g : GameView) (list : List ℕ) (t : Tables) → AreTallies g li
 total-is g list t h =
     let few = few-members g h.of_game.is_game in
     ap (λ (n : ℕ). tally_total n t.all) h.of_game.members
-    ∙ (tallies-total (length g.names) (λ c. true) list t.all few h.tallies.all ∙ filter-all list)
+    ∙ (tally-total (length g.names) (λ c. true) list t.all few h.tallies.all ∙ filter-all list)
 
 pub tallies-are_counts : (g : GameView) (list : List ℕ) (t : Tables) → AreTallies g list t → AreCounts g list t
 tallies-are_counts g list t h =
@@ -43,8 +43,8 @@ tallies-are_counts g list t h =
       total = total-is g list t h;
       of_size = λ s le. h.tallies.all.sizes s (omega (arith, h.of_game.members));
       of_member = λ i lt. ap (λ (n : ℕ). tally_total n (get_or t.each (get_or t.ranks i 0) no_tally)) h.of_game.members
-          ∙ tallies-total (length g.names) (contains g i) list _ few (member-tallies g list t i lt h);
-      of_member_size = λ i s lt le. (member-tallies g list t i lt h).sizes s (omega (arith, h.of_game.members));
+          ∙ tally-total (length g.names) (contains g i) list _ few (member-tally g list t i lt h);
+      of_member_size = λ i s lt le. (member-tally g list t i lt h).sizes s (omega (arith, h.of_game.members));
     }
 
 -- what holds of the tables of some list
@@ -80,8 +80,8 @@ kept {t} h = record {
   sound = some-sound t h;
   places = λ i lt. (let below = (ranks-are h.game h.tallies.of_game.is_game).place_below i (omega (arith, h.tallies.of_game.members)) in
       omega (arith, below, h.tallies.of_game.ranks i lt, h.tallies.of_game.members));
-  all_few = λ s le. omega (arith, tallies-few (length h.game.names) (λ c. true) h.list t.all s le h.tallies.tallies.all, h.few);
-  each_few = λ p s lt le. (let few = tallies-few (length h.game.names) (has (length h.game.names) p) h.list (get_or t.each p no_tally) s le
+  all_few = λ s le. omega (arith, tally-few (length h.game.names) (λ c. true) h.list t.all s le h.tallies.tallies.all, h.few);
+  each_few = λ p s lt le. (let few = tally-few (length h.game.names) (has (length h.game.names) p) h.list (get_or t.each p no_tally) s le
       (h.tallies.tallies.each p (omega (arith, h.tallies.of_game.members))) in
       omega (arith, few, h.few));
 }
@@ -111,7 +111,7 @@ pub more-hold : (g : GameView) (list : List ℕ) (t : Tables) (c s : ℕ) (all :
     → get_or each p no_tally ≡ cond (has t.members p c) (with_one (get_or t.each p no_tally) s) (get_or t.each p no_tally))
     → AreTallies g list t → AreTallies g (list ++ c ∷ []) (record { members = t.members; ranks = t.ranks; all = all; each = each })
 more-hold g list t c s all each s-is all-is each-is h =
-    grind (arith, common_steps, few-members, size-le, tallies-more)
+    grind (arith, common_steps, few-members, size-le, tally-more)
 
 pub more-some : (t u : Tables) (c : ℕ) (h : AreOfSomeList t) → 0 < c → c < 2 ^ t.members → table_total t < 2 ^ 40
     → AreTallies h.game (h.list ++ c ∷ []) u → AreOfSomeList u
@@ -123,7 +123,7 @@ pub join-hold : (g : GameView) (first second : List ℕ) (s t : Tables) (all : T
     → ((p : ℕ) → p < s.members → IsJoined (get_or s.each p no_tally) (get_or t.each p no_tally) (get_or each p no_tally))
     → AreTallies g first s
     → AreTallies g second t → AreTallies g (first ++ second) (record { members = s.members; ranks = s.ranks; all = all; each = each })
-join-hold g first second s t all each long sum each-is a b = grind (arith, common_steps, tallies-join)
+join-hold g first second s t all each long sum each-is a b = grind (arith, common_steps, tally-join)
 
 -- the tables of a list of a game are those of the list in another game with the same rank places
 pub of-first : (s t : Tables) (g g' : GameView) (first second : List ℕ) → AreOfOneGame s t → AreTallies g first s → AreTallies g' second t
