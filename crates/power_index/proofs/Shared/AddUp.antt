@@ -11,7 +11,7 @@ use Rattle.power_index.specs.Fractions.{unit_sum, pair_sum, AddUpToOne}
 use Rattle.power_index.specs.Indices.{deegan_packel, public_good, sizes_of_member}
 use Rattle.power_index.proofs.Shared.Sums.{exchange, sum-filter, sum-times}
 use Rattle.power_index.proofs.Shared.Members.{few-members, members-of, memberships, sizes-some, sizes-within, size-pos, size-le}
-use Rattle.power_index.proofs.Shared.Units.{over_common, each_divides, divides, bottom_pos}
+use Rattle.power_index.proofs.Units.{over_common, each_divides, divides, bottom_pos}
 use Rattle.power_index.specs.Tables.{denominator}
 
 -- pairs that are w i over one bottom k add up to the sum of w over k

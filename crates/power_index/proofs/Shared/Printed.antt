@@ -6,7 +6,7 @@ use Rattle.council_game.specs.Game.{GameView}
 use Rattle.power_index.specs.Tables.{Tables, denominator, AreCounts, table_total, table_memberships, table_deegan_packel, table_public_good}
 use Rattle.power_index.specs.Fractions.{IsLowestOf, lowest_terms}
 use Rattle.power_index.specs.Indices.{deegan_packel, public_good, sizes_of_member}
-use Rattle.power_index.proofs.Shared.Units.{mean, bottom_pos}
+use Rattle.power_index.proofs.Units.{mean, bottom_pos}
 use Rattle.power_index.proofs.Weights.{within, weight, memberships-are}
 use Rattle.power_index.proofs.Shared.LowestTerms.{lowest_terms-lowest, lowest_terms-only}
 
