@@ -74,7 +74,8 @@ weight-from ws n p c below le =
     let size : length (take n ws) ≡ n = length-take-le n ws le in
     let after : length (drop (p + 1) (take n ws)) ≡ n - (p + 1) = length-drop (p + 1) (take n ws) ∙ ap (λ (i : ℕ). i - (p + 1)) size in
     let cut : drop p (take n ws) ≡ get_or ws p 0 ∷ drop (p + 1) (take n ws) =
-    (let e : suc p ≡ p + 1 = omega arith in rw e at (drop-cons (take n ws) p 0 (omega (arith, size)))) ∙ ap (λ (w : ℕ). w ∷ drop (p + 1) (take n ws)) (get_or-take n ws p 0 below) in
+    (let e : suc p ≡ p + 1 = omega arith in rw e at (drop-cons (take n ws) p 0 (omega (arith, size)))) ∙ ap
+    (λ (w : ℕ). w ∷ drop (p + 1) (take n ws)) (get_or-take n ws p 0 below) in
     ap (λ (l : List ℕ). weight l c) cut ∙ weight-cons (get_or ws p 0) (drop (p + 1) (take n ws)) c
     ∙ ap (λ (i : ℕ). c / 2 ^ i % 2 * get_or ws p 0 + weight (drop (p + 1) (take n ws)) c) after
 
@@ -103,7 +104,8 @@ sums-step n p ws before after below le fits without with_it c covered =
       | inr other ↦
           let one : c / 2 ^ (n - (p + 1)) % 2 ≡ 1 = omega (arith, other, bit_at-lt c (n - (p + 1))) in
           let more : get_or ws p 0 + weight (drop (p + 1) (take n ws)) c ≡ weight (drop p (take n ws)) c = omega (arith, rw one at all) in
-          let room : get_or ws p 0 + weight (drop (p + 1) (take n ws)) c < 2 ^ 64 = omega (arith, weight-le (drop (p + 1) (take n ws)) c, sum-from ws n p le below, drop-most (take n ws) p, fits) in
+          let room : get_or ws p 0 + weight (drop (p + 1) (take n ws)) c < 2 ^ 64 = omega
+          (arith, weight-le (drop (p + 1) (take n ws)) c, sum-from ws n p le below, drop-most (take n ws) p, fits) in
           subst (Covers after) more (with_it _ room covered)
     ]
 
@@ -186,7 +188,8 @@ module _ {v : Votes} {ls : List Lane} {i n place : ℕ} {vs fs : List ℕ} (game
 
   both-fit : sum (take v.members vs) + sum (take v.members fs) < 2 ^ 64
   both-fit =
-      let all = parts-fit v.members (rule_at v.rules i).weights vs fs (omega (arith, lane.rule.full)) (omega (arith, parts.vetoed.long, game.few))
+      let all = parts-fit v.members (rule_at v.rules i).weights vs fs (omega (arith, lane.rule.full))
+      (omega (arith, parts.vetoed.long, game.few))
       (omega (arith, parts.free.long, game.few)) parted v.members (omega arith) in
       omega (arith, rw whole at all, lane.rule.light)
 
@@ -212,7 +215,8 @@ module _ {v : Votes} {ls : List Lane} {i n place : ℕ} {vs fs : List ℕ} (game
     room = omega (arith, parts.free.long, game.few);
     fits = omega (arith, both-fit);
     parts = λ p c le won.
-        let all = split-from v.members (rule_at v.rules i).weights vs fs (omega (arith, lane.rule.full)) (omega (arith, parts.vetoed.long, game.few))
+        let all = split-from v.members (rule_at v.rules i).weights vs fs (omega (arith, lane.rule.full))
+        (omega (arith, parts.vetoed.long, game.few))
         (omega (arith, parts.free.long, game.few)) parted c (v.members - p) p (inside c won) (omega arith) in
         rw (rw members at (sums p (omega (arith, le, members)))) (rw whole at all);
   }

@@ -21,7 +21,8 @@ pub record FilledFrom {A : Type 0} (Fits : ℕ → A → Type 0) (d : A) (n m k 
   pub long : length xs ≡ n
   pub done : (i : ℕ) → k ≤ i → i ≤ m → Fits i (get_or xs i d)
 
-pub fill-before : {A : Type 0} {Fits : ℕ → A → Type 0} {d : A} {n m k : ℕ} {xs : List A} (j : ℕ) {x : A} → FilledFrom Fits d n m k xs → j + 1 ≡ k
+pub fill-before : {A : Type 0} {Fits : ℕ → A → Type 0} {d : A} {n m k : ℕ} {xs : List A} (j : ℕ) {x : A} → FilledFrom Fits d n m k xs
+    → j + 1 ≡ k
     → j < n → Fits j x → FilledFrom Fits d n m j (set xs j x)
 fill-before {A} {Fits} {d} {n} {m} {k} {xs} j {x} filled next room fits = record {
   long = length-set xs j x ∙ filled.long;

@@ -192,7 +192,8 @@ pub sum-from : (ws : List ℕ) (m p : ℕ) → m ≤ length ws → p < m → sum
 sum-from ws m p le below = grind (arith, common_steps)
 
 -- the sum before those that are filled in
-pub sum-before : (ws rest : List ℕ) (m k : ℕ) → m ≤ length ws → 0 < k → k ≤ m → FilledFrom (λ q r. r ≡ sum (drop q (take m ws))) 0 41 m k rest
+pub sum-before : (ws rest : List ℕ) (m k : ℕ) → m ≤ length ws → 0 < k → k ≤ m
+    → FilledFrom (λ q r. r ≡ sum (drop q (take m ws))) 0 41 m k rest
     → get_or ws (k - 1) 0 + get_or rest (k - 1 + 1) 0 ≡ sum (drop (k - 1) (take m ws))
 sum-before ws rest m k le some most filled =
     omega (arith, sum-from ws m (k - 1) le (omega arith), filled.done (k - 1 + 1) (omega arith) (omega arith))

@@ -151,7 +151,8 @@ module _ {v : Votes} {a : Cursor} (is : CursorIs v a) where
 
   -- what a winning coalition that begins with the prefix weighs by rule i
   module _ (i c : ℕ) (below : i < a.rules) (prefix : c / 2 ^ (v.members - a.place) ≡ a.prefix) (won : wins v.rules c ≡ true) where
-    pub there-and-comes : weight (rule_at v.rules i).weights c ≡ (lane_at a.lanes i).sum + weight (drop a.place (rule_at v.rules i).weights) c
+    pub there-and-comes : weight (rule_at v.rules i).weights c ≡ (lane_at a.lanes i).sum + weight
+        (drop a.place (rule_at v.rules i).weights) c
     there-and-comes =
         let here = lane-here i below in
         omega (arith, rw prefix at (weight-parts v.members a.place c (rule_at v.rules i) here.rule is.place.to), here.sum_is)
@@ -161,7 +162,8 @@ module _ {v : Votes} {a : Cursor} (is : CursorIs v a) where
 
   -- the excess over the quota with what comes at the least
   pub least-excess : (i t b : ℕ) → i < a.rules → t ≤ (lane_at a.lanes i).sum + b
-      → ((c : ℕ) → c / 2 ^ (v.members - a.place) ≡ a.prefix → wins v.rules c ≡ true → b ≤ weight (drop a.place (rule_at v.rules i).weights) c)
+      → ((c : ℕ) → c / 2 ^ (v.members - a.place) ≡ a.prefix → wins v.rules c ≡ true
+      → b ≤ weight (drop a.place (rule_at v.rules i).weights) c)
       → IsExcess v a.place a.prefix i (t - (lane_at a.lanes i).quota)
   least-excess i t b below most comes = λ c prefix won.
       let here = lane-here i below in
@@ -169,7 +171,8 @@ module _ {v : Votes} {a : Cursor} (is : CursorIs v a) where
 
   -- what the quota asks for beside what is there and what vetoers bring
   pub short-need : (i t : ℕ) (s : Vetoes) → i < a.rules → IsSplit v i s
-      → t ≡ min (2 ^ 64 - 1) ((lane_at a.lanes i).sum + get_or s.brings a.place 0) → IsNeed v a.place a.prefix s ((lane_at a.lanes i).quota - t)
+      → t ≡ min (2 ^ 64 - 1) ((lane_at a.lanes i).sum + get_or s.brings a.place 0)
+      → IsNeed v a.place a.prefix s ((lane_at a.lanes i).quota - t)
   short-need i t s below split capped = λ c prefix won.
       let here = lane-here i below in
       omega (
@@ -191,7 +194,8 @@ module _ {v : Votes} {a : Cursor} (is : CursorIs v a) where
       grind (arith, common_steps, both_ways, false_from_ne_true, has-below, needs-each-member, still-wins)
 
   -- a winning prefix of which no member can be spared is minimal
-  pub kept-minimal : (es : List ℕ) → IsEnough v a.place a.prefix es → NoneSpared v a.place a.prefix es → wins_at v.rules a.place a.prefix ≡ true
+  pub kept-minimal : (es : List ℕ) → IsEnough v a.place a.prefix es → NoneSpared v a.place a.prefix es
+      → wins_at v.rules a.place a.prefix ≡ true
       → minimal v (a.prefix * 2 ^ (v.members - a.place)) ≡ true
   kept-minimal es enough kept won =
       let x : ℕ = a.prefix * 2 ^ (v.members - a.place) in
@@ -199,7 +203,8 @@ module _ {v : Votes} {a : Cursor} (is : CursorIs v a) where
         wins-prefix v.members v.rules is.game.rules a.place a.prefix is.place.to ∙ won,
         λ q below in'. false_from_ne_true _ (λ still. kept q below in' (λ i lt.
             let met = met-at v.members (without v.members q x) v.rules is.game.rules still i lt in
-            let less = sum-without v.members (rule_at v.rules i) x q (weight (take a.place (rule_at v.rules i).weights) a.prefix) met.0 below in'
+            let less = sum-without v.members (rule_at v.rules i) x q (weight (take a.place (rule_at v.rules i).weights) a.prefix) met.0
+            below in'
             (sym (weight-block met.0 a.place a.prefix is.place.to)) in
             let most = enough i lt in
             omega (arith, met.1, met.0.some, less, most))),
@@ -234,7 +239,8 @@ module _ {v : Votes} {a : Cursor} (is : CursorIs v a) where
         λ m below in'. elim (cases_Bool (has v.members m rest)) [
           | inl still ↦ λ spare.
               let before = up-to-last v.members rest m is.game.few pos tried.below below still in
-              let less = first-keeps v.rules (get_or es 0 0) (a.members - 1 - trailing_zeros w64 rest) m is.game.ranked is.game.has_rule keeps
+              let less = first-keeps v.rules (get_or es 0 0) (a.members - 1 - trailing_zeros w64 rest) m is.game.ranked is.game.has_rule
+              keeps
               (omega (arith, before, is.members)) (omega (arith, last.below, first.rule.full)) in
               let most = spare 0 is.game.has_rule in
               absurd (omega (arith, less, most))

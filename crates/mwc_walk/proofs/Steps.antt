@@ -60,13 +60,16 @@ abbrev pub moved : Cursor → List Lane → ℕ → ℕ → Bool → ℕ → Cur
 moved a ls p x f t = record a { lanes = ls; place = p; prefix = x; fresh = f; visits = t }
 
 module _ {v : Votes} {a : Cursor} (is : CursorIs v a) where
-  follows-at : (ls : List Lane) (p x : ℕ) (f : Bool) (t : ℕ) → a.visits ≤ t → a.rules ≤ length ls → LanesAre v.members p x v.rules (take a.rules ls)
-      → IsPlace v a.bits a.number p x → CountsVisits v a.bits a.number t (new_visit (moved a ls p x f t)) (open_visits v (moved a ls p x f t))
+  follows-at : (ls : List Lane) (p x : ℕ) (f : Bool) (t : ℕ) → a.visits ≤ t → a.rules ≤ length ls
+      → LanesAre v.members p x v.rules (take a.rules ls)
+      → IsPlace v a.bits a.number p x
+      → CountsVisits v a.bits a.number t (new_visit (moved a ls p x f t)) (open_visits v (moved a ls p x f t))
       (rest_of_slice v (moved a ls p x f t)) → Follows v a (moved a ls p x f t)
   follows-at ls p x f t counted room lanes place visits = grind (arith, common_steps)
 
   -- all below a fresh prefix is looked at: the rest of the cursor stays
-  left-behind : CountsVisits v a.bits a.number a.visits 0 0 (rest_of_slice v (record a { fresh = false })) → Follows v a (record a { fresh = false })
+  left-behind : CountsVisits v a.bits a.number a.visits 0 0 (rest_of_slice v (record a { fresh = false }))
+      → Follows v a (record a { fresh = false })
   left-behind = follows-at a.lanes a.place a.prefix false a.visits (omega arith) is.room is.lanes is.place
 
 -- a move of a cursor of which it is known whether it is fresh
@@ -102,7 +105,8 @@ module _ {v : Votes} {a : Cursor} (is : CursorIs v a) where
         record {
           follows = follows-at is a.lanes (a.place - 1) (a.prefix / 2) false a.visits (omega arith) is.room
               (lanes-up v.members (a.place - 1) (a.prefix / 2) v.rules (take a.rules a.lanes) below (rw (pe, xe) is.lanes))
-              (place-up v a.bits a.number (a.place - 1) (a.prefix / 2) 0 is.game (omega arith) (omega (arith, is.place.from)) (rw (pe, ze) is.place))
+              (place-up v a.bits a.number (a.place - 1) (a.prefix / 2) 0 is.game (omega arith) (omega (arith, is.place.from))
+              (rw (pe, ze) is.place))
               (subst (CountsVisits v a.bits a.number a.visits 0 0) (sym same) is.visits);
           same = same;
           falls = omega (arith, bounds);
@@ -147,7 +151,12 @@ module _ {v : Votes} {a : Cursor} (is : CursorIs v a) where
       let first : a.prefix ≡ 2 ^ a.bits - 1 - a.number =
       (let one : a.prefix / 2 ^ 0 ≡ a.prefix = omega arith in sym one ∙ (rw none at is.place.inside)) in
       let end : rest_of_slice v (record a { fresh = false }) ≡ [] = rw (first, done) (left-none v a.bits a.number) in
-      record { follows = record { is = is; bits = refl; number = refl; counted = omega arith }; none = end; none_after = end; stale = refl }) is
+      record {
+        follows = record { is = is; bits = refl; number = refl; counted = omega arith };
+        none = end;
+        none_after = end;
+        stale = refl;
+      }) is
 
   -- ---- a fresh place
   -- what the tests on the lanes say of the rules
@@ -161,7 +170,8 @@ module _ {v : Votes} {a : Cursor} (is : CursorIs v a) where
     -- a prefix is passed by, where nothing is left below it and no visit is owed
     pass-by : slice_below v a.bits a.number (a.prefix * 2 ^ (v.members - a.place)) ≡ slice_below v a.bits a.number
         ((a.prefix + 1) * 2 ^ (v.members - a.place))
-        → (length v.rules ≡ 1 → cond (reaches v.rules a.place a.prefix) (a.place - a.bits) 0 ≡ 0) → Steps v a On (record a { fresh = false })
+        → (length v.rules ≡ 1 → cond (reaches v.rules a.place a.prefix) (a.place - a.bits) 0 ≡ 0)
+        → Steps v a On (record a { fresh = false })
     pass-by same none = grind (arith, common_steps, known, left-behind, pow_pos)
 
     -- a prefix that cannot reach some quota is passed by
@@ -173,12 +183,14 @@ module _ {v : Votes} {a : Cursor} (is : CursorIs v a) where
     enter-spare nothing fixed = grind (arith, common_steps, left-nothing, open-most, pass-by)
 
   -- a prefix that reaches and does not win has a place after it
-  module _ (reach : list_all (lane_reaches a.place) (take a.rules a.lanes) ≡ true) (lose : list_all lane_wins (take a.rules a.lanes) ≡ false) where
+  module _ (reach : list_all (lane_reaches a.place) (take a.rules a.lanes) ≡ true)
+      (lose : list_all lane_wins (take a.rules a.lanes) ≡ false) where
     pub in-room : a.place < v.members
     in-room = elim (cases_lt a.place v.members) [
       | inl less ↦ less
       | inr past ↦
-          absurd (both_ways _ (win-is false lose) (sym (full-reach v.members v.rules is.game.rules a.place a.prefix past) ∙ reach-is true reach))
+          absurd (both_ways _ (win-is false lose)
+          (sym (full-reach v.members v.rules is.game.rules a.place a.prefix past) ∙ reach-is true reach))
     ]
 
     pub in-fits : All (λ l. l.sum + get_or l.weights a.place 0 < 2 ^ 64) (take a.rules a.lanes)
@@ -282,14 +294,16 @@ pub fixed-pass : (n k p x : ℕ) (rs : List RuleView) (ls : List Lane) → p < k
 unfolding has
 fixed-pass n k p x rs ls below le outside are = grind (arith, common_steps, both_ways, eq-eqb, fixed-half, lanes-pass)
 
-pub starts : (v : Votes) (k j x m n : ℕ) (ls : List Lane) (qs : List Asked) → IsVotes v → k ≤ v.members → j < 2 ^ k → n ≡ v.members → m ≡ length v.rules
+pub starts : (v : Votes) (k j x m n : ℕ) (ls : List Lane) (qs : List Asked) → IsVotes v → k ≤ v.members → j < 2 ^ k → n ≡ v.members
+    → m ≡ length v.rules
     → m ≤ length ls → AreAsked v qs
     → LanesAre v.members k (x / 2 ^ (k - k)) v.rules (take m ls) → x ≡ 2 ^ k - 1 - j
     → Starts v k j (record { lanes = ls; asked = qs; rules = m; members = n; bits = k; number = j; prefix = x; place = k; fresh = true; visits = k })
 starts v k j x m n ls qs game le below members rules room asked are prefix =
     grind (arith, common_steps, cond-false, le-ltb, left-all, pow_pos)
 
-pub first-lanes : (v : Votes) (k j m : ℕ) (ls : List Lane) → m ≡ length v.rules → k ≤ 10 → LanesAre v.members 0 0 v.rules (take (length v.rules) ls)
+pub first-lanes : (v : Votes) (k j m : ℕ) (ls : List Lane) → m ≡ length v.rules → k ≤ 10
+    → LanesAre v.members 0 0 v.rules (take (length v.rules) ls)
     → LanesAre v.members 0 ((1 * 2 ^ k % 2 ^ 64 - 1 - j) / 2 ^ (k - 0)) v.rules (take m ls)
 first-lanes v k j m ls e le are =
     let pos : 0 < 2 ^ k = pow_pos k in

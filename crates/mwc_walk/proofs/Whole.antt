@@ -18,7 +18,8 @@ pub record HasFirst (whole list to_come : List ℕ) (n : ℕ) : Type 0 where
   pub joined : list ++ to_come ≡ whole
   pub count : length list ≡ n
 
-pub one-more : {whole list to_come rest more : List ℕ} {n c : ℕ} → HasFirst whole list to_come n → to_come ≡ c ∷ rest → more ≡ list ++ c ∷ []
+pub one-more : {whole list to_come rest more : List ℕ} {n c : ℕ} → HasFirst whole list to_come n → to_come ≡ c ∷ rest
+    → more ≡ list ++ c ∷ []
     → HasFirst whole more rest (n + 1)
 one-more {list} {rest} {c} has next pushed = record {
   joined = rw pushed (append_assoc list (c ∷ []) rest ∙ ap (λ (l : List ℕ). list ++ l) (sym next) ∙ has.joined);
@@ -32,17 +33,20 @@ first-ones {list} {to_come} has most full = sym (ap (take most) (sym has.joined)
 pub at-end : {whole list to_come : List ℕ} {n : ℕ} → HasFirst whole list to_come n → to_come ≡ [] → list ≡ whole
 at-end {list} has none = sym (append-nil list) ∙ ap (λ (l : List ℕ). list ++ l) (sym none) ∙ has.joined
 
-pub first-all : {whole list to_come : List ℕ} {n : ℕ} → HasFirst whole list to_come n → to_come ≡ [] → (most : ℕ) → n ≤ most → list ≡ take most whole
+pub first-all : {whole list to_come : List ℕ} {n : ℕ} → HasFirst whole list to_come n → to_come ≡ [] → (most : ℕ) → n ≤ most
+    → list ≡ take most whole
 first-all {whole} has none most few =
     let all = at-end has none in all ∙ sym (take_all most whole (omega (arith, ap length all, has.count, few)))
 
-pub lists-all : (g : GameView) (most : ℕ) {list to_come : List ℕ} {n : ℕ} → IsVotes (votes_of g) → HasFirst (slice (votes_of g) 0 0) list to_come n
+pub lists-all : (g : GameView) (most : ℕ) {list to_come : List ℕ} {n : ℕ} → IsVotes (votes_of g)
+    → HasFirst (slice (votes_of g) 0 0) list to_come n
     → to_come ≡ [] → n ≤ most → ListsAll g most list
 lists-all g most game has none few =
     let all = at-end has none ∙ one-slice (votes_of g) game in grind (arith, common_steps, listing-is)
 
 -- a walk with more to come has more
-pub more-than : (v : Votes) (most : ℕ) {list to_come rest : List ℕ} {n c : ℕ} → IsVotes v → HasFirst (slice v 0 0) list to_come n → to_come ≡ c ∷ rest
+pub more-than : (v : Votes) (most : ℕ) {list to_come rest : List ℕ} {n c : ℕ} → IsVotes v → HasFirst (slice v 0 0) list to_come n
+    → to_come ≡ c ∷ rest
     → most ≤ n → most < length (minimal_coalitions v)
 more-than v most {list} {to_come} game has next many =
     omega (arith, ap length has.joined, length-append list to_come, ap length next, ap length (one-slice v game), has.count)

@@ -11,7 +11,8 @@ use Rattle.council_game.specs.Ranks.{member_at}
 use Rattle.council_game.proofs.Shared.Games.{passed, position-none}
 use Rattle.council_game.proofs.Shared.Making.{ranks-are}
 
-pub distinct_places : (g : GameView) → IsGame g → (i j : ℕ) → i < length g.names → j < length g.names → get_or g.ranks i 0 ≡ get_or g.ranks j 0
+pub distinct_places : (g : GameView) → IsGame g → (i j : ℕ) → i < length g.names → j < length g.names
+    → get_or g.ranks i 0 ≡ get_or g.ranks j 0
     → i ≡ j
 distinct_places g game i j li lj same =
     let are = ranks-are g game in

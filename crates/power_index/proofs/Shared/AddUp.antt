@@ -73,7 +73,8 @@ weights g list game h =
 module _ (g : GameView) (list : List ℕ) (i : ℕ) (game : IsGame g) (some : 0 < length list) (h : AreNonemptyCoalitions g list) where
   pub deegan_packel_bottom : 0 < (deegan_packel g list i).1
   unfolding deegan_packel
-  deegan_packel_bottom = mul-pos (bottom_pos (length g.names) (sizes_of_member g list i) (sizes-within g list i (votes-are g game).some)) some
+  deegan_packel_bottom = mul-pos (bottom_pos (length g.names) (sizes_of_member g list i) (sizes-within g list i (votes-are g game).some))
+      some
 
   pub public_good_bottom : 0 < (public_good g list i).1
   unfolding public_good

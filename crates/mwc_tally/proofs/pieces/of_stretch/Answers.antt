@@ -12,7 +12,8 @@ count_row-requires-clause-coalitions c =
 
 pub count_row-requires-clause-room : goal.count_row-requires-clause-room
 count_row-requires-clause-room c =
-    let room = row-room (λ p. p.now) c.args.pieces.now c.loop-piece.piece-index c.args.skip c.args.most c.loop-piece-test.true c.piece-item.is
+    let room = row-room (λ p. p.now) c.args.pieces.now c.loop-piece.piece-index c.args.skip c.args.most c.loop-piece-test.true
+    c.piece-item.is
     c.loop-piece.invariant.skip c.loop-piece.invariant.left c.min.ensures c.min-in-loop-piece.ensures in
     omega (arith, total-is c.args.game.now _ c.loop-piece.counts c.loop-piece.invariant.counted, room, c.requires.list.few)
 
@@ -22,11 +23,14 @@ loop-piece-preserved c =
     let lt = c.loop-piece-test.true in
     let is = c.piece-item.is in
     let at = c.loop-piece.piece-index in
-    let next = row-next (λ p. p.now) c.args.pieces.now at c.args.skip c.args.most lt is before.skip before.left c.min.ensures c.min-in-loop-piece.ensures in
+    let next = row-next (λ p. p.now) c.args.pieces.now at c.args.skip c.args.most lt is before.skip before.left c.min.ensures
+    c.min-in-loop-piece.ensures in
     record {
       counted = rw next (c.count_row.ensures.tallies c.args.game.now _ before.counted);
-      skip = c.saturating_sub-skip.ensures ∙ left-to_skip (λ p. p.now) c.args.pieces.now at c.args.skip c.args.most lt is before.skip before.left
+      skip = c.saturating_sub-skip.ensures ∙ left-to_skip (λ p. p.now) c.args.pieces.now at c.args.skip c.args.most lt is before.skip
+          before.left
           c.min.ensures c.min-in-loop-piece.ensures;
-      left = c.saturating_sub-left.ensures ∙ left-to_take (λ p. p.now) c.args.pieces.now at c.args.skip c.args.most lt is before.skip before.left
+      left = c.saturating_sub-left.ensures ∙ left-to_take (λ p. p.now) c.args.pieces.now at c.args.skip c.args.most lt is before.skip
+          before.left
           c.min.ensures c.min-in-loop-piece.ensures;
     }

@@ -5,7 +5,8 @@ use Rattle.mwc_walk.proofs.Rules.{lanes-from}
 use Rattle.mwc_walk.proofs.lane.lanes_of.Goals as goal
 
 pub loop-rule-preserved : goal.loop-rule-preserved
-loop-rule-preserved c = fill-next c.loop-rule.invariant (omega (arith, c.members-members.ensures.votes.few_rules, c.rules-rule-end.ensures.votes)) c.new.ensures
+loop-rule-preserved c = fill-next c.loop-rule.invariant
+    (omega (arith, c.members-members.ensures.votes.few_rules, c.rules-rule-end.ensures.votes)) c.new.ensures
 
 pub returns-clause-lanes : goal.returns-clause-lanes
 returns-clause-lanes c =

@@ -23,4 +23,5 @@ overflow_add-rest-in-loop-place c =
 pub loop-place-preserved : goal.loop-place-preserved
 loop-place-preserved c =
     fill-before (c.loop-place.place - 1) c.loop-place.invariant (omega arith) (omega arith)
-    (sum-before c.args.weights.now c.loop-place.rest c.args.members c.loop-place.place (omega arith) (omega arith) (omega arith) c.loop-place.invariant)
+    (sum-before c.args.weights.now c.loop-place.rest c.args.members c.loop-place.place (omega arith) (omega arith) (omega arith)
+    c.loop-place.invariant)

@@ -12,7 +12,8 @@ returns-in-None-clause-all c =
 
 pub returns-in-Some-next-clause-more : goal.returns-in-Some-next-clause-more
 returns-in-Some-next-clause-more c =
-    more-than (votes_of c.args.game.now) c.args.most c.members-members.ensures.votes c.loop.invariant c.in-Some-next.ensures.next (omega arith)
+    more-than (votes_of c.args.game.now) c.args.most c.members-members.ensures.votes c.loop.invariant c.in-Some-next.ensures.next
+    (omega arith)
 
 pub returns-in-None-next-clause-all : goal.returns-in-None-next-clause-all
 returns-in-None-next-clause-all c =

@@ -6,5 +6,6 @@ use Rattle.mwc_walk.proofs.asked.Asked.of_each.Given as goal
 
 abbrev pub invariant-loop-rule : goal.invariant-loop-rule
 invariant-loop-rule l =
-    FilledTo (λ i asked. (p : ℕ) → p ≤ (votes_of l.game).members → IsAsked (votes_of l.game) i p (slice_index asked.before p)) (record { before = [] }) 4
+    FilledTo (λ i asked. (p : ℕ) → p ≤ (votes_of l.game).members
+    → IsAsked (votes_of l.game) i p (slice_index asked.before p)) (record { before = [] }) 4
     l.rule l.asked

@@ -25,7 +25,8 @@ take_in-requires-clause-fits c =
 
 pub returns-then-not-all_win-clause-steps : goal.returns-then-not-all_win-clause-steps
 returns-then-not-all_win-clause-steps c =
-    enter-in c.requires.is (sym c.all_reach.ensures ∙ c.if-not-all_reach.false) (sym c.all_win.ensures ∙ c.if-not-all_win.true) c.requires.fresh
+    enter-in c.requires.is (sym c.all_reach.ensures ∙ c.if-not-all_reach.false) (sym c.all_win.ensures ∙ c.if-not-all_win.true)
+    c.requires.fresh
     _ _ c.saturating_add-self.ensures (omega arith) (is-part _ _ _ _ _ c.take_in.ensures c.requires.is.room)
 
 pub of_mask-found-requires : goal.of_mask-found-requires
@@ -37,4 +38,5 @@ pub returns-clause-steps : goal.returns-clause-steps
 returns-clause-steps c =
     let won = win-is c.requires.is true (sym c.all_win.ensures ∙ c.if-not-all_win.false) in
     subst (λ (i : ℕ). GivesNext (votes_of c.args.game.now) c.args.self.now i (record c.args.self.now { fresh = false }))
-    (sym (c.of_mask-found.ensures ∙ enter-mask c.requires.is)) (enter-give c.requires.is won c.requires.fresh (c.if-passes_by.ensures.none refl won))
+    (sym (c.of_mask-found.ensures ∙ enter-mask c.requires.is))
+    (enter-give c.requires.is won c.requires.fresh (c.if-passes_by.ensures.none refl won))

@@ -6,11 +6,13 @@ use Rattle.mwc_walk.proofs.vetoes.Vetoes.of.Goals as goal
 
 pub loop-place-preserved : goal.loop-place-preserved
 loop-place-preserved c =
-    let room : c.loop-place.place < 40 = omega (arith, c.loop-place-test.true, c.members-members.ensures.count, c.members-members.ensures.votes.few) in
+    let room : c.loop-place.place < 40 = omega
+    (arith, c.loop-place-test.true, c.members-members.ensures.count, c.members-members.ensures.votes.few) in
     record {
       vetoed = fill-next c.loop-place.invariant.vetoed room c.vetoed_weight-part.ensures;
       free = fill-next c.loop-place.invariant.free room
-          (ap (λ (part : ℕ). get_or (get_or c.args.lanes.now c.args.rule no_lane).weights c.loop-place.place 0 - part) c.vetoed_weight-part.ensures);
+          (ap (λ (part : ℕ). get_or (get_or c.args.lanes.now c.args.rule no_lane).weights c.loop-place.place 0 - part)
+          c.vetoed_weight-part.ensures);
     }
 
 pub rest_of-requires-clause-fits : goal.rest_of-requires-clause-fits
