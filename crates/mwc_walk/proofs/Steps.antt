@@ -298,7 +298,18 @@ pub starts : (v : Votes) (k j x m n : ℕ) (ls : List Lane) (qs : List Asked) �
     → m ≡ length v.rules
     → m ≤ length ls → AreAsked v qs
     → LanesAre v.members k (x / 2 ^ (k - k)) v.rules (take m ls) → x ≡ 2 ^ k - 1 - j
-    → Starts v k j (record { lanes = ls; asked = qs; rules = m; members = n; bits = k; number = j; prefix = x; place = k; fresh = true; visits = k })
+    → Starts v k j (record {
+      lanes = ls;
+      asked = qs;
+      rules = m;
+      members = n;
+      bits = k;
+      number = j;
+      prefix = x;
+      place = k;
+      fresh = true;
+      visits = k;
+    })
 starts v k j x m n ls qs game le below members rules room asked are prefix =
     grind (arith, common_steps, cond-false, le-ltb, left-all, pow_pos)
 

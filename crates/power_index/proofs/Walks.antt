@@ -1,5 +1,5 @@
 -- One walk over the places of a coalition, that counts it at each.
-use Rattle.std.proofs.Common.{◌≡◌, ℕ, ◌^◌, ◌<◌, ◌≤◌, List, length, get_or, set, cond, true, false, arith, get_or-set_same, get_or-set_other, length-set}
+use Rattle.std.proofs.Common.{◌≡◌, ℕ, ◌^◌, ◌<◌, ◌≤◌, List, length, get_or, set, cond, true, false, arith, get_or-set_same}
 use Rattle.std.proofs.lemmas.Grind.{common_steps}
 use Rattle.std.proofs.lemmas.Bool.{cases_eq, cond-true, both_ways}
 use Rattle.council_game.specs.Votes.{has, without}
@@ -26,7 +26,7 @@ pub walked-step : (n c size : ℕ) (old now : List Tally) (rest left q : ℕ) (v
     → left ≡ without n q rest → v ≡ with_one (get_or now q no_tally) size
     → Walked n c size old now rest → Walked n c size old (set now q v) left
 walked-step n c size old now rest left q v few below in' left-is is h =
-    grind (arith, common_steps, both_ways, cases_eq, cond-true, get_or-set_other, get_or-set_same, has-gone, has-kept, length-set, without-le)
+    grind (arith, common_steps, both_ways, cases_eq, cond-true, get_or-set_same, has-gone, has-kept, without-le)
 
 pub walked-all : (n c size : ℕ) (old now : List Tally) (p : ℕ) → p < n → Walked n c size old now 0
     → get_or now p no_tally ≡ cond (has n p c) (with_one (get_or old p no_tally) size) (get_or old p no_tally)
