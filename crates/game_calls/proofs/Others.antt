@@ -1,5 +1,6 @@
 -- One member more or less leaves the others as they were.
-use Rattle.std.proofs.Common.{◌≡◌, ◌≢◌, ◌∙◌, ℕ, ◌+◌, ◌<◌, Bool, true, false, ◌||◌, List, [], ◌∷◌, ◌++◌, length, get_or, take, filter, refl, sym, ap, arith, Option, Some, None, inl, inr}
+use Rattle.std.proofs.Common.{◌≡◌, ◌≢◌, ◌∙◌, ℕ, ◌+◌, ◌<◌, Bool, true, false, ◌||◌, List, [], ◌∷◌, ◌++◌, length, get_or, take, filter, sym, ap, arith, Option, Some, None, inl, inr}
+use Rattle.std.proofs.lemmas.Grind.{common_steps}
 use Rattle.std.specs.List.{list_any, range_with_len}
 use Rattle.std.proofs.lemmas.Bool.{cases_eq, cond-true, cond-false, eq-eqb, ne_eqb, or_right}
 use Rattle.std.proofs.Math.Bool.{or-false}
@@ -26,15 +27,11 @@ others_kept g game n m place a b count at lm kept i li other =
 -- what passes a test among one number more
 pub passes : (p : ℕ → Bool) (n : ℕ) (xs ys : List ℕ) → p n ≡ true → ys ≡ xs ++ n ∷ [] → xs ≡ filter p (range_with_len 0 n)
     → ys ≡ filter p (range_with_len 0 (n + 1))
-passes p n xs ys met pushed before =
-    pushed ∙ ap (λ (l : List ℕ). l ++ n ∷ []) before
-    ∙ sym (filter_one_more p n ∙ ap (λ (l : List ℕ). filter p (range_with_len 0 n) ++ l) (cond-true (p n) (n ∷ []) [] met))
+passes p n xs ys met pushed before = grind (arith, common_steps, cond-true, filter_one_more)
 
 pub fails : (p : ℕ → Bool) (n : ℕ) (xs : List ℕ) → p n ≡ false → xs ≡ filter p (range_with_len 0 n)
     → xs ≡ filter p (range_with_len 0 (n + 1))
-fails p n xs unmet before =
-    before ∙ sym (filter_one_more p n ∙ ap (λ (l : List ℕ). filter p (range_with_len 0 n) ++ l) (cond-false (p n) (n ∷ []) [] unmet)
-    ∙ append-nil (filter p (range_with_len 0 n)))
+fails p n xs unmet before = grind (arith, common_steps, append-nil, cond-false, filter_one_more)
 
 -- ---- one name more
 pub named : {X : Type 0} (text : X → List ℕ) (g : GameView) (names : List X) (k m a b : ℕ) (d : X) → k < length names

@@ -1,5 +1,6 @@
 -- The first rule of a game at another quota.
 use Rattle.std.proofs.Common.{◌≡◌, ◌∙◌, ℕ, ◌<◌, ◌≤◌, false, ◌||◌, ltb, List, [], ◌∷◌, length, get_or, sum, refl, ap, sym, arith, Option, Result, Ok, Err}
+use Rattle.std.proofs.lemmas.Grind.{common_steps}
 use Rattle.std.specs.List.{list_any}
 use Rattle.std.proofs.lemmas.Bool.{or_parts, le-ltb}
 use Rattle.std.proofs.lemmas.List.Elements.{All-cons, All-nil, recursion_from_All}
@@ -50,8 +51,4 @@ another_quota g game q some met =
 -- so that no fault but want of memory is answered
 pub only-memory : (g : GameView) (q : ℕ) (fault : GameFault) → IsGame g → 1 ≤ q → q ≤ total (rule_at g.rules 0)
     → Answers (Err fault) (made_game g.title g.names (record { quota = q; weights = (rule_at g.rules 0).weights } ∷ [])) → fault ≡ Memory
-only-memory g q fault game some met gives = by-fault fault (another_quota g game q some met).made gives
-  where
-    by-fault : (f : GameFault) {answer : Result GameView GameFault} {made : GameView} → answer ≡ Ok made → Answers (Err f) answer → f ≡ Memory
-    by-fault Memory all gives = refl
-    by-fault f all gives = absurd (cc)
+only-memory g q fault game some met gives = grind (arith, common_steps, another_quota)

@@ -1,5 +1,6 @@
 -- Slices counted one after the other, and in any order.
 use Rattle.std.proofs.Common.{◌≡◌, ◌∙◌, ℕ, ◌+◌, ◌^◌, ◌<◌, ◌≤◌, suc, Bool, List, [], ◌∷◌, ◌++◌, length, get_or, sym, ap, refl, arith, subst, length-append}
+use Rattle.std.proofs.lemmas.Grind.{common_steps}
 use Rattle.std.specs.List.{All, filter, flat_map, range_with_len, sum_by}
 use Rattle.std.specs.List.Sorted.{IsPermutation}
 use Rattle.std.proofs.lemmas.List.{append_assoc, append-nil}
@@ -39,14 +40,7 @@ module _ {g : GameView} {whole to_come rest : List ℕ} {c : ℕ} {t : Tables} (
   }
 
   pub counted-room : length whole ≤ 2 ^ 40 → table_total t < 2 ^ 40
-  counted-room few = omega (
-    arith,
-    total-is g h.before t h.tallies,
-    length-append h.before (c ∷ rest),
-    ap
-        (λ (l : List ℕ). length l) next-joined,
-    few,
-  )
+  counted-room few = grind (arith, common_steps, length-append, next-joined, total-is)
 
   pub counted-next : (P : ℕ → Type 0) → All P whole → P c
   counted-next P all = later P h.before rest c (subst (All P) (sym next-joined) all)
@@ -82,12 +76,7 @@ slices-room s j game lt =
 
 pub slices-more : (s : SlicedGame) (j : ℕ)
     → flat_map (slice_of s) (range_with_len 0 j) ++ slice_of s j ≡ flat_map (slice_of s) (range_with_len 0 (j + 1))
-slices-more s j =
-    let one : slice_of s j ≡ flat_map (slice_of s) ((0 + j) ∷ []) = sym (append-nil _)
-    ∙ ap (λ (i : ℕ). slice_of s i ++ []) (omega arith) in
-    ap (λ (l : List ℕ). flat_map (slice_of s) (range_with_len 0 j) ++ l) one
-    ∙ sym (flat_map-append (slice_of s) (range_with_len 0 j) ((0 + j) ∷ []))
-    ∙ ap (flat_map (slice_of s)) (sym (range-more 0 j))
+slices-more s j = grind (arith, common_steps, append-nil, flat_map-append, range-more)
 
 -- how many of a joined list pass a test
 pass-flat_map : (q : ℕ → Bool) (f : ℕ → List ℕ) (xs : List ℕ) → length (filter q (flat_map f xs)) ≡ sum_by (λ x. length (filter q (f x))) xs
@@ -101,20 +90,12 @@ pass-flat_map q f (x ∷ xs) =
 
 pass-permutation : (q : ℕ → Bool) (f : ℕ → List ℕ) (xs ys : List ℕ) → IsPermutation xs ys
     → length (filter q (flat_map f xs)) ≡ length (filter q (flat_map f ys))
-pass-permutation q f xs ys h = pass-flat_map q f xs ∙ sym (sum_by-IsPermutation (λ x. length (filter q (f x))) xs ys h)
-    ∙ sym (pass-flat_map q f ys)
+pass-permutation q f xs ys h = grind (arith, common_steps, pass-flat_map, sum_by-IsPermutation)
 
 -- slices in another order have the same counts
 pub permuted : (g : GameView) (f : ℕ → List ℕ) (xs ys : List ℕ) (t : Tables) → IsPermutation xs ys → AreTallies g (flat_map f xs) t
     → AreTallies g (flat_map f ys) t
-permuted g f xs ys t same h = record {
-  of_game = h.of_game;
-  tallies = record {
-    all = record { long = h.tallies.all.long; sizes = λ s le. h.tallies.all.sizes s le ∙ pass-permutation _ f xs ys same };
-    each = λ p lt. (let own =
-        h.tallies.each p lt in record { long = own.long; sizes = λ s le. own.sizes s le ∙ pass-permutation _ f xs ys same });
-  };
-}
+permuted g f xs ys t same h = grind (arith, common_steps, pass-permutation)
 
 -- the slices, each once, have the counts of the whole list
 pub whole-counts : (s : SlicedGame) (taken : List ℕ) (t : Tables) → IsPermutation taken (range_with_len 0 (2 ^ s.bits))

@@ -1,8 +1,10 @@
 -- Stretches of a list that lies in pieces.
 use Rattle.std.proofs.Common.{◌≡◌, ◌∙◌, ℕ, ◌+◌, ◌-◌, ◌<◌, ◌≤◌, zero, suc, min, List, [], ◌∷◌, ◌++◌, length, get_or, take, drop, sym, ap, arith, subst, length-append, length-drop, IfOk, Result, Ok, Err}
+use Rattle.std.proofs.lemmas.Grind.{common_steps}
 use Rattle.std.specs.List.{All, flat_map}
 use Rattle.std.proofs.lemmas.List.{take_all, take_more, take_min, drop_min, length-take, append-nil}
 use Rattle.std.proofs.lemmas.List.Concat.{flat_map-append}
+use Rattle.std.proofs.lemmas.List.Elements.{All-drop, All-take}
 use Rattle.std.proofs.lemmas.List.Folds.{length-flat_map-take}
 use Rattle.council_game.specs.Game.{GameView}
 use Rattle.power_index.specs.Tables.{Tables, AreTallies, AreCounts}
@@ -26,70 +28,57 @@ take-append (suc n) (x ∷ xs) ys =
     let e : n - length xs ≡ suc n - suc (length xs) = omega arith in
     ap (λ (l : List ℕ). x ∷ l) (take-append n xs ys) ∙ ap (λ (k : ℕ). x ∷ (take n xs ++ take k ys)) e
 
--- one piece more of a stretch
-pub stretch-more : (skip most s l : ℕ) (xs piece : List ℕ) → s ≡ skip - length xs → l ≡ most - length (drop skip xs)
-    → take most (drop skip (xs ++ piece)) ≡ take most (drop skip xs) ++ take l (drop s piece)
-stretch-more skip most s l xs piece s-is l-is =
-    ap (take most) (drop-append skip xs piece)
-    ∙ take-append most (drop skip xs) (drop (skip - length xs) piece)
-    ∙ ap (λ (k : ℕ). take most (drop skip xs) ++ take k (drop (skip - length xs) piece)) (sym l-is)
-    ∙ ap (λ (k : ℕ). take most (drop skip xs) ++ take l (drop k piece)) (sym s-is)
-
--- what is left to skip and to take after it
-pub stretch-left : (skip most s l : ℕ) (xs piece : List ℕ) → s ≡ skip - length xs → l ≡ most - length (drop skip xs)
-    → (s - length piece ≡ skip - length (xs ++ piece)) × (l - (length piece - s) ≡ most - length (drop skip (xs ++ piece)))
-stretch-left skip most s l xs piece s-is l-is =
-    let long = length-append xs piece in
-    let before = length-drop skip xs in
-    let after = length-drop skip (xs ++ piece) in
-    (omega (arith, long, s-is), omega (arith, long, before, after, s-is, l-is))
-
-pub stretch-length : (skip most : ℕ) (xs : List ℕ) → length (take most (drop skip xs)) ≤ length xs
-stretch-length skip most xs = let a = length-take most (drop skip xs) in let b = length-drop skip xs in omega (arith, a, b)
-
--- the pieces up to one more
-pub pieces-more : {X : Type 0} (f : X → List ℕ) (xs : List X) (k : ℕ) (x : X) → k < length xs → x ≡ get_or xs k x
-    → flat_map f (take (k + 1) xs) ≡ flat_map f (take k xs) ++ f x
-pieces-more f xs k x lt is =
-    ap (flat_map f) (take_more xs k x lt)
-    ∙ flat_map-append f (take k xs) (get_or xs k x ∷ [])
-    ∙ ap (λ (l : List ℕ). flat_map f (take k xs) ++ l) (append-nil (f (get_or xs k x)) ∙ ap f (sym is))
-
--- what holds of all holds of a piece
-pub piece-all : {X : Type 0} (P : ℕ → Type 0) (f : X → List ℕ) (xs : List X) (k : ℕ) (x : X) → k < length xs → x ≡ get_or xs k x
-    → All P (flat_map f xs) → All P (f x)
-piece-all P f xs k x lt is h = subst (λ y. All P (f y)) (sym is) (pieces-all P f xs h k x lt)
-
 -- a piece and those before it are no longer than all
 pub pieces-length : {X : Type 0} (f : X → List ℕ) (xs : List X) (k : ℕ) (x : X) → k < length xs → x ≡ get_or xs k x
     → length (flat_map f (take k xs)) + length (f x) ≤ length (flat_map f xs)
 pieces-length f xs k x lt is = let e = length-flat_map-take f xs k x lt in let same = ap (λ y. length (f y)) is in omega (arith, e, same)
 
--- the row that is read of a piece
-pub row-is : (piece : List ℕ) (s l a m : ℕ) → a ≡ min s (length piece) → m ≡ min l (length (take (length piece - a) (drop a piece)))
-    → take m (take (length piece - a) (drop a piece)) ≡ take l (drop s piece)
-row-is piece s l a m a-is m-is =
-    let long = length-drop a piece in
-    let rest : take (length piece - a) (drop a piece) ≡ drop s piece = take_all (length piece - a) (drop a piece) (omega (arith, long))
-    ∙ (ap (λ (k : ℕ). drop k piece) a-is ∙ drop_min s piece) in
-    ap (λ (k : ℕ). take k (take (length piece - a) (drop a piece))) m-is ∙ take_min l (take (length piece - a) (drop a piece))
-    ∙ ap (take l) rest
+-- a stretch has come as far as piece x, at place k, with s still to be skipped and l still to be taken
+module _ {X : Type 0} (f : X → List ℕ) (xs : List X) (k skip most : ℕ) {s l a m : ℕ} {x : X} (lt : k < length xs) (is : x ≡ get_or xs k x)
+    (s-is : s ≡ skip - length (flat_map f (take k xs))) (l-is : l ≡ most - length (drop skip (flat_map f (take k xs))))
+    (a-is : a ≡ min s (length (f x))) (m-is : m ≡ min l (length (take (length (f x) - a) (drop a (f x))))) where
+  next : flat_map f (take (k + 1) xs) ≡ flat_map f (take k xs) ++ f x
+  next = grind (arith, common_steps, append-nil, flat_map-append, take_more)
 
-pub rest-length : (piece : List ℕ) (s a : ℕ) → a ≡ min s (length piece) → length (take (length piece - a) (drop a piece)) ≡ length piece - s
-rest-length piece s a a-is = let one = length-take (length piece - a) (drop a piece) in let other =
-    length-drop a piece in omega (arith, one, other, a-is)
+  row : take m (take (length (f x) - a) (drop a (f x))) ≡ take l (drop s (f x))
+  row = grind (arith, common_steps, drop_min, length-drop, take_all, take_min)
+
+  pub row-next : take most (drop skip (flat_map f (take (k + 1) xs)))
+      ≡ take most (drop skip (flat_map f (take k xs))) ++ take m (take (length (f x) - a) (drop a (f x)))
+  row-next = rw (next, row) (grind (arith, common_steps, drop-append, take-append))
+
+  -- what holds of all holds of what is read
+  pub row-all : (P : ℕ → Type 0) → All P (flat_map f xs) → All P (take m (take (length (f x) - a) (drop a (f x))))
+  row-all P all = rw row (All-take P l _ (All-drop P s (f x) (subst (λ y. All P (f y)) (sym is) (pieces-all P f xs all k x lt))))
+
+  pub row-room : length (take most (drop skip (flat_map f (take k xs)))) + length (take m (take (length (f x) - a) (drop a (f x))))
+      ≤ length (flat_map f xs)
+  row-room =
+      let both = ap (λ (r : List ℕ). length r) row-next in
+      let sum = length-append (take most (drop skip (flat_map f (take k xs)))) (take m (take (length (f x) - a) (drop a (f x)))) in
+      omega (
+        arith,
+        both,
+        sum,
+        length-take most (drop skip (flat_map f (take (k + 1) xs))),
+        length-drop skip (flat_map f (take (k + 1) xs)),
+        ap (λ (r : List ℕ). length r) next,
+        length-append (flat_map f (take k xs)) (f x),
+        pieces-length f xs k x lt is,
+      )
+
+  -- what is left to skip and to take after it
+  pub left-to_skip : s - length (f x) ≡ skip - length (flat_map f (take (k + 1) xs))
+  left-to_skip = rw next (grind (arith, common_steps))
+
+  pub left-to_take : l - length (take (length (f x) - a) (drop a (f x))) ≡ most - length (drop skip (flat_map f (take (k + 1) xs)))
+  left-to_take = rw next (grind (arith, common_steps))
 
 -- what a thread counted is what it was given to count
 pub is-stretch : (given : GivenStretch) (g : GameView) (list : List ℕ) (skip most : ℕ) → IsGivenStretch g list skip most given
     → (t : Tables) → AreTallies given.game.value (take given.most (drop given.skip (joined given.pieces.value.now))) t
     → AreTallies g (take most (drop skip list)) t
-is-stretch given g list skip most is t tallies =
-    let same =
-    ap (λ (l : List ℕ). take given.most (drop given.skip l)) is.of_list
-    ∙ ap (λ (n : ℕ). take given.most (drop n list)) is.past
-    ∙ ap (λ (n : ℕ). take n (drop skip list)) is.at_most in
-    subst (λ (x : GameView). AreTallies x (take most (drop skip list)) t) is.of_game
-    (subst (λ (l : List ℕ). AreTallies given.game.value l t) same tallies)
+is-stretch given g list skip most is t tallies = grind (arith, common_steps)
 
 pub ok-counts : {E : Type 0} (g : GameView) (list : List ℕ) (r : Result Tables E) → IfOk r (AreTallies g list) → IfOk r (AreCounts g list)
 ok-counts g list (Ok t) h = tallies-are_counts g list t h

@@ -12,7 +12,8 @@ written is at i = record { count = is.count; items = slice_set is.items at i }
 in-others : (is : Intervals) (at : ℕ) (i : Interval) (k y : ℕ) → k ≢ at → InInterval is k y → InInterval (written is at i) k y
 in-others is at i k y other inside = rw (get_or-set_other) inside
 
-pub in-new : (is : Intervals) (at : ℕ) (i : Interval) (y : ℕ) → at < length is.items → i.least ≤ y → y ≤ i.most → InInterval (written is at i) at y
+pub in-new : (is : Intervals) (at : ℕ) (i : Interval) (y : ℕ) → at < length is.items → i.least ≤ y → y ≤ i.most
+    → InInterval (written is at i) at y
 in-new is at i y below low high = rw (get_or-set_same) (low, high)
 
 -- the hole goes on by one

@@ -1,5 +1,5 @@
 -- What is still to come is the end of the slice.
-use Rattle.std.proofs.Common.{◌≡◌, ℕ, suc, ◌+◌, ◌-◌, ◌*◌, ◌/◌, ◌^◌, ◌<◌, ◌≤◌, Bool, true, eqb, List, [], ◌∷◌, ◌++◌, length, get_or, take, drop, Option, Some, None, MatchOption, sym, ap, ◌∙◌, arith}
+use Rattle.std.proofs.Common.{◌≡◌, ◌≢◌, ℕ, suc, ◌+◌, ◌-◌, ◌*◌, ◌/◌, ◌^◌, ◌<◌, ◌≤◌, Bool, true, eqb, List, [], ◌∷◌, ◌++◌, length, get_or, take, drop, refl, sym, ap, ◌∙◌, arith}
 use Rattle.std.proofs.lemmas.Grind.{common_steps}
 use Rattle.std.specs.List.{filter}
 use Rattle.std.proofs.Math.Nat.{mul-add}
@@ -10,9 +10,14 @@ use Rattle.std.proofs.lemmas.Nat.{mul-le, pow-add}
 use Rattle.council_game.specs.Votes.{Votes, minimal, down, minimal_coalitions}
 use Rattle.council_game.specs.Shared.Below.{minimal_below}
 use Rattle.mwc_walk.specs.Slices.{slice}
+use Rattle.mwc_walk.specs.WalkView.{WalkView}
+use Rattle.mwc_walk.specs.Seeks.{Seeks, seeks_left}
+use Rattle.mwc_walk.specs.declared.step.Step.{Step}
+use Rattle.mwc_walk.specs.declared.step.Step.TheVariants.{On, Give, End}
+use Rattle.mwc_walk.specs.declared.seek.Seek.TheVariants as seek
 use Rattle.mwc_walk.specs.Inner.Places.{in_slice, slice_below}
 use Rattle.mwc_walk.specs.declared.cursor.Cursor.{Cursor}
-use Rattle.mwc_walk.specs.Inner.Cursor.{bound, rest_of_slice, CursorIs, Follows, Runs}
+use Rattle.mwc_walk.specs.Inner.Cursor.{bound, rest_of_slice, CursorIs, Follows, GivesNext, FindsEnd, SomeSteps, sought}
 use Rattle.mwc_walk.proofs.Descending.{down-split}
 use Rattle.mwc_walk.proofs.Steps.{rest-most}
 
@@ -32,16 +37,22 @@ left-ends v k j b le =
     let ends = filter-ends (λ c. eqb (c / 2 ^ (v.members - k)) (2 ^ k - 1 - j)) (minimal v) b (2 ^ v.members - b) in
     rw e at ends
 
-bound-below : (v : Votes) (a : Cursor) → CursorIs v a → bound v a ≤ 2 ^ v.members
-bound-below v a is = grind (arith, common_steps, cond_both, mul-le, pow-add)
+ends-with-rest : {v : Votes} {a : Cursor} → CursorIs v a → EndsWith (slice v a.bits a.number) (rest_of_slice v a)
+ends-with-rest {v} {a} is =
+    let below : bound v a ≤ 2 ^ v.members = grind (arith, common_steps, cond_both, mul-le, pow-add) in
+    left-ends v a.bits a.number (bound v a) below
+
+rest-short : {v : Votes} {a : Cursor} → CursorIs v a → length (rest_of_slice v a) ≤ length (slice v a.bits a.number)
+rest-short {v} {a} is =
+    let ends = ends-with-rest is in omega (arith, ap length ends.joined, length-append ends.front (rest_of_slice v a))
 
 drop-front : (whole end : List ℕ) → EndsWith whole end → end ≡ drop (length whole - length end) whole
 drop-front whole end is = grind (arith, common_steps)
 
 -- what is still to come is the slice, less as many of its first as were given
-pub rest-is : (v : Votes) (a : Cursor)
-    → CursorIs v a → rest_of_slice v a ≡ drop (length (slice v a.bits a.number) - length (rest_of_slice v a)) (slice v a.bits a.number)
-rest-is v a is = drop-front _ _ (left-ends v a.bits a.number (bound v a) (bound-below v a is))
+pub rest-is : {v : Votes} {a : Cursor} → CursorIs v a
+    → rest_of_slice v a ≡ drop (length (slice v a.bits a.number) - length (rest_of_slice v a)) (slice v a.bits a.number)
+rest-is is = drop-front _ _ (ends-with-rest is)
 
 -- one more was given
 given-more : (s before after : List ℕ) (c : ℕ) → before ≡ drop (length s - length before) s → before ≡ c ∷ after
@@ -62,46 +73,63 @@ given-more s before after c ends first =
 abbrev given-by : Votes → Cursor → List ℕ
 given-by v a = take (length (slice v a.bits a.number) - length (rest_of_slice v a)) (slice v a.bits a.number)
 
-same-slice : (v : Votes) (a b : Cursor) → Follows v a b → slice v b.bits b.number ≡ slice v a.bits a.number
-same-slice v a b h = ap (λ (k : ℕ). slice v k b.number) h.bits ∙ ap (slice v a.bits) h.number
-
--- what steps up to the next coalition, or to the end, have given
-pub given-next : (v : Votes) (a : Cursor) (o : Option ℕ) (b : Cursor) → CursorIs v a → Runs v a o b
-    → MatchOption o (given-by v b ≡ given-by v a) (λ c. given-by v b ≡ given-by v a ++ c ∷ [])
-given-next v a (Some c) b is h =
-    ap (λ (s : List ℕ). take (length s - length (rest_of_slice v b)) s) (same-slice v a b h.follows)
-    ∙ given-more (slice v a.bits a.number) (rest_of_slice v a) (rest_of_slice v b) c (rest-is v a is) h.first
-given-next v a None b is h =
-    ap (λ (s : List ℕ). take (length s - length (rest_of_slice v b)) s) (same-slice v a b h.follows)
-    ∙ ap (λ (r : List ℕ). take (length (slice v a.bits a.number) - length r) (slice v a.bits a.number)) (h.none_after ∙ sym h.none)
-
--- steps that came to no coalition have given the same
-pub given-same : (v : Votes) (a b : Cursor) → Follows v a b → rest_of_slice v b ≡ rest_of_slice v a → given-by v b ≡ given-by v a
-given-same v a b h same = grind (arith, common_steps)
-
 -- what was given and what is to come
-pub given-whole : (v : Votes) (a : Cursor) → CursorIs v a → given-by v a ++ rest_of_slice v a ≡ slice v a.bits a.number
-given-whole v a is = grind (arith, common_steps, rest-is, take-append-drop)
+pub given-whole : {v : Votes} {a : Cursor} → CursorIs v a → given-by v a ++ rest_of_slice v a ≡ slice v a.bits a.number
+given-whole is = grind (arith, common_steps, rest-is, take-append-drop)
 
-pub whole-after : (v : Votes) (a : Cursor) (o : Option ℕ) (b : Cursor) → Runs v a o b
-    → given-by v b ++ rest_of_slice v b ≡ slice v b.bits b.number
-whole-after v a (Some c) b h = given-whole v b h.follows.is
-whole-after v a None b h = given-whole v b h.follows.is
+-- ---- after some steps
+pub follows-of : {v : Votes} {a b : Cursor} (s : Step) → SomeSteps v a s b → Follows v a b
+follows-of On h = h.0
+follows-of (Give c) h = h.follows
+follows-of End h = h.follows
+
+module _ {v : Votes} {a b : Cursor} where
+  same-slice : Follows v a b → slice v b.bits b.number ≡ slice v a.bits a.number
+  same-slice h = ap (λ (k : ℕ). slice v k b.number) h.bits ∙ ap (slice v a.bits) h.number
+
+  -- steps that came to no coalition have given the same
+  given-same : Follows v a b → rest_of_slice v b ≡ rest_of_slice v a → given-by v b ≡ given-by v a
+  given-same h same = grind (arith, common_steps)
+
+  pub given-next : {c : ℕ} → CursorIs v a → GivesNext v a c b → given-by v b ≡ given-by v a ++ c ∷ []
+  given-next {c} is h =
+      ap (λ (s : List ℕ). take (length s - length (rest_of_slice v b)) s) (same-slice h.follows)
+      ∙ given-more (slice v a.bits a.number) (rest_of_slice v a) (rest_of_slice v b) c (rest-is is) h.first
+
+  pub given-end : FindsEnd v a b → given-by v b ≡ given-by v a
+  given-end h = given-same h.follows (h.none_after ∙ sym h.none)
+
+-- what contracts see of a cursor
+abbrev view-at : Votes → Cursor → WalkView
+view-at v c = record { votes = v; bits = c.bits; number = c.number; to_come = rest_of_slice v c; visits = c.visits }
+
+module _ (v : Votes) (n : ℕ) (a b : Cursor) where
+  pub seeks-are : (s : Step) → CursorIs v a → SomeSteps v a s b → (s ≡ On → (b.visits ≡ a.visits + n) × (b.visits < 2 ^ 64))
+      → Seeks n (view-at v a) (sought s) (view-at v b)
+  seeks-are On is h counts = ((counts refl).0, h.1, given-same h.0 h.1)
+  seeks-are (Give c) is h counts = (h.first, given-next is h)
+  seeks-are End is h counts = (h.none, h.none_after, given-end h)
+
+  pub seek-falls : (s : Step) → 0 < n → SomeSteps v a s b → (s ≡ On → (b.visits ≡ a.visits + n) × (b.visits < 2 ^ 64)) → sought s ≢ seek.End
+      → seeks_left (view-at v b) < seeks_left (view-at v a)
+  unfolding seeks_left
+  seek-falls On pos h counts more =
+      let visits = (counts refl).0 in
+      let fits = (counts refl).1 in
+      rw h.1 (omega (arith, pos, visits, fits))
+  seek-falls (Give c) pos h counts more =
+      let size : length (rest_of_slice v a) ≡ length (rest_of_slice v b) + 1 = ap length h.first ∙ (omega arith) in
+      rw size (omega arith)
+  seek-falls End pos h counts more = absurd (more refl)
 
 -- with one rule, the visits are bounded by what was given
-pub visits-most : (v : Votes) (a : Cursor) → CursorIs v a → (a.rules ≡ 1 → a.fresh ≡ true → a.place ≡ a.bits) → length v.rules ≡ 1
+pub visits-most : {v : Votes} {a : Cursor} → CursorIs v a → (a.rules ≡ 1 → a.fresh ≡ true → a.place ≡ a.bits) → length v.rules ≡ 1
     → a.visits ≤ a.bits + (v.members - a.bits) * (length (slice v a.bits a.number) - length (rest_of_slice v a))
-visits-most v a is rests one =
-    let most = rest-most v a is (rests (is.rules ∙ one)) one in
-    let ends = left-ends v a.bits a.number (bound v a) (bound-below v a is) in
-    let size : length (slice v a.bits a.number) ≡ length ends.front + length (rest_of_slice v a) = ap length ends.joined
-    ∙ length-append ends.front (rest_of_slice v a) in
-    let whole : length (slice v a.bits a.number) ≡ length (slice v a.bits a.number) - length (rest_of_slice v a) + length
-    (rest_of_slice v a) = omega (arith, size) in
-    let parts : (v.members - a.bits) * length
-    (slice v a.bits a.number)
-    ≡ (v.members - a.bits) * (length (slice v a.bits a.number) - length (rest_of_slice v a)) + (v.members - a.bits) * length
-    (rest_of_slice v a) =
-    ap (λ (i : ℕ). (v.members - a.bits) * i) whole
-    ∙ mul-add (v.members - a.bits) (length (slice v a.bits a.number) - length (rest_of_slice v a)) (length (rest_of_slice v a)) in
+visits-most {v} {a} is rests one =
+    let most = rest-most is (rests (is.rules ∙ one)) one in
+    let whole : ℕ = length (slice v a.bits a.number) in
+    let rest : ℕ = length (rest_of_slice v a) in
+    let long : rest ≤ whole = rest-short is in
+    let e : whole ≡ whole - rest + rest = omega arith in
+    let parts = ap (λ (i : ℕ). (v.members - a.bits) * i) e ∙ mul-add (v.members - a.bits) (whole - rest) rest in
     omega (arith, most, parts)

@@ -1,18 +1,33 @@
 -- What is left of a slice, at a place of the walk.
-use Rattle.std.proofs.Common.{◌≡◌, ℕ, ◌+◌, ◌-◌, ◌*◌, ◌/◌, ◌%◌, ◌^◌, ◌<◌, ◌≤◌, true, false, eqb, [], ◌∷◌, sym, ap, ◌∙◌, arith}
+use Rattle.std.proofs.Common.{◌≡◌, ℕ, zero, suc, ◌+◌, ◌-◌, ◌*◌, ◌/◌, ◌%◌, ◌^◌, ◌<◌, ◌≤◌, ap, ◌∙◌, arith, inl, inr, true, false, eqb, [], ◌∷◌, sym}
+use Rattle.std.proofs.lemmas.Nat.{div-mul-add, pow_pos, pow-add, mul-le}
+use Rattle.std.proofs.Math.Nat.{pow-suc}
+use Rattle.std.proofs.lemmas.Bool.{cases_lt, and_left, eq-eqb, cond-true, false_from_ne_true, both_ways}
 use Rattle.std.proofs.lemmas.Grind.{common_steps}
 use Rattle.std.specs.List.{filter}
 use Rattle.std.proofs.lemmas.Nat.Bits.{bit_at_cat_low}
-use Rattle.std.proofs.lemmas.Nat.{pow_pos, pow-add, mul-le}
-use Rattle.std.proofs.lemmas.Bool.{and_left, eq-eqb, cond-true, false_from_ne_true, both_ways}
 use Rattle.council_game.specs.Votes.{Votes, IsVotes, has, without, wins, minimal, down, minimal_coalitions}
 use Rattle.council_game.specs.Shared.Below.{minimal_below}
 use Rattle.council_game.proofs.Shared.Meanings.{needs-each-member}
 use Rattle.mwc_walk.specs.Slices.{slice}
 use Rattle.mwc_walk.specs.Inner.Places.{in_slice, slice_below, reaches, wins_at, NothingBelow}
-use Rattle.mwc_walk.proofs.Blocks.{some_digit}
 use Rattle.mwc_walk.proofs.Descending.{filter-down_skip, filter-filter_skip, filter-filter_none, filter-down_take, block-prefix, before-block, past-block}
 use Rattle.mwc_walk.proofs.Rules.{wins-below, loses-below}
+
+-- a digit that is set
+pub some_digit : (h r : ℕ) → 0 < r → r < 2 ^ h → (b : ℕ) × (b < h) × (2 ^ b ≤ r) × (r / 2 ^ b % 2 ≡ 1)
+some_digit zero r pos below = absurd (omega arith)
+some_digit (suc h) r pos below =
+    elim (cases_lt r (2 ^ h)) [
+      | inl less ↦
+          let found = some_digit h r pos less in
+          (found.0, omega (arith, found.1), found.2, found.3)
+      | inr more ↦
+          let double : 2 ^ suc h ≡ 2 ^ h * 2 = pow-suc 2 h in
+          let e : r ≡ 1 * 2 ^ h + (r - 2 ^ h) = omega arith in
+          let one : r / 2 ^ h ≡ 1 = ap (λ (i : ℕ). i / 2 ^ h) e ∙ div-mul-add 1 (2 ^ h) (r - 2 ^ h) (omega arith) in
+          (h, omega arith, more, ap (λ (i : ℕ). i % 2) one)
+    ]
 
 pub next-block : (x h : ℕ) → (x + 1) * 2 ^ h ≡ x * 2 ^ h + 2 ^ h
 next-block x h = omega arith

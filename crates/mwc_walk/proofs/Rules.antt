@@ -1,14 +1,51 @@
--- What a rule's places weigh, at a prefix x of p places.
-use Rattle.std.proofs.Common.{◌≡◌, ℕ, ◌+◌, ◌-◌, ◌*◌, ◌/◌, ◌%◌, ◌^◌, ◌<◌, ◌≤◌, true, List, take, drop, get_or, sum, refl, arith}
+-- What a rule's places weigh at a prefix x of p places, and the lanes of the walk, which stand for the rules there.
+use Rattle.std.proofs.Common.{◌≡◌, Bool, true, List, [], ◌∷◌, map, refl, ℕ, ◌+◌, ◌-◌, ◌*◌, ◌/◌, ◌%◌, ◌^◌, ◌<◌, ◌≤◌, take, drop, get_or, sum, arith, zero, suc, leb, length, replicate, sym, ◌∙◌}
+use Rattle.std.specs.List.{All, AllByRecursion, AllZip, list_all}
+use Rattle.std.proofs.lemmas.Bool.{and_from, and_parts, le-leb, leb-true}
+use Rattle.std.proofs.lemmas.List.Elements.{All-nil, All-cons}
 use Rattle.std.proofs.lemmas.Grind.{common_steps}
-use Rattle.std.specs.List.{AllByRecursion}
-use Rattle.std.proofs.lemmas.Bool.{le-leb, leb-true}
-use Rattle.std.proofs.lemmas.List.{drop_all}
-use Rattle.std.proofs.lemmas.List.Sums.{sum_by-drop_more}
-use Rattle.council_game.specs.Votes.{RuleView, IsRule, weight, wins}
+use Rattle.std.proofs.lemmas.List.{drop_all, map-id, length-take-le, ext_get_or, get_or-take}
+use Rattle.std.proofs.lemmas.List.Sums.{sum_by-drop_more, sum_by-take-drop}
+use Rattle.std.proofs.lemmas.Bool.Decides.{nat_tests}
+use Rattle.council_game.specs.Votes.{RuleView, IsRule, weight, wins, rule_at}
 use Rattle.council_game.proofs.Shared.Weights.{weight-at, weight-le, weight-more, weight-prefix}
-use Rattle.mwc_walk.specs.Inner.Places.{reaches, wins_at}
-use Rattle.mwc_walk.proofs.Each.{list_all-more, list_all-same}
+use Rattle.mwc_walk.specs.Inner.Places.{reaches, wins_at, LaneIs, LanesAre}
+use Rattle.mwc_walk.specs.declared.lane.Lane.{Lane}
+use Rattle.mwc_walk.specs.Inner.Lanes.{lane_reaches, lane_wins, lane_with, lane_without}
+use Rattle.mwc_walk.proofs.Filled.{FilledFrom}
+
+module _ {X : Type 0} (P : X → Type 0) (p q : X → Bool) where
+  pub list_all-more : ((x : X) → P x → p x ≡ true → q x ≡ true) → (xs : List X) → AllByRecursion P xs → list_all p xs ≡ true
+      → list_all q xs ≡ true
+  list_all-more more [] all h = refl
+  list_all-more more (x ∷ xs) all h =
+      let parts = and_parts (p x) (list_all p xs) h in
+      and_from _ _ (more x all.0 parts.0) (list_all-more more xs all.1 parts.1)
+
+  pub list_all-same : ((x : X) → P x → p x ≡ q x) → (xs : List X) → AllByRecursion P xs → list_all p xs ≡ list_all q xs
+  list_all-same same [] all = refl
+  list_all-same same (x ∷ xs) all = rw (same x all.0, list_all-same same xs all.1) refl
+
+module _ {X Y : Type 0} (R : X → Y → Type 0) where
+  pub list_all-beside : (p : X → Bool) (q : Y → Bool) → ((x : X) (y : Y) → R x y → q y ≡ p x) → (xs : List X) (ys : List Y) → AllZip R xs ys
+      → list_all q ys ≡ list_all p xs
+  list_all-beside p q same [] [] are = refl
+  list_all-beside p q same [] (y ∷ ys) are = elim are [ ]
+  list_all-beside p q same (x ∷ xs) [] are = elim are [ ]
+  list_all-beside p q same (x ∷ xs) (y ∷ ys) are = rw (same x y are.0, list_all-beside p q same xs ys are.1) refl
+
+  pub AllZip-moved : (S : X → Y → Type 0) (f : Y → Y) → ((x : X) (y : Y) → R x y → S x (f y)) → (xs : List X) (ys : List Y) → AllZip R xs ys
+      → AllZip S xs (map f ys)
+  AllZip-moved S f move [] [] are = tt
+  AllZip-moved S f move [] (y ∷ ys) are = elim are [ ]
+  AllZip-moved S f move (x ∷ xs) [] are = elim are [ ]
+  AllZip-moved S f move (x ∷ xs) (y ∷ ys) are = (move x y are.0, AllZip-moved S f move xs ys are.1)
+
+  pub All-beside : (Q : Y → Type 0) → ((x : X) (y : Y) → R x y → Q y) → (xs : List X) (ys : List Y) → AllZip R xs ys → All Q ys
+  All-beside Q fits [] [] are = All-nil Q
+  All-beside Q fits [] (y ∷ ys) are = elim are [ ]
+  All-beside Q fits (x ∷ xs) [] are = elim are [ ]
+  All-beside Q fits (x ∷ xs) (y ∷ ys) are = All-cons Q y ys (fits x y are.0) (All-beside Q fits xs ys are.1)
 
 module _ {n : ℕ} {r : RuleView} (is : IsRule n r) where
   pub weight-block : (p x : ℕ) → p ≤ n → weight r.weights (x * 2 ^ (n - p)) ≡ weight (take p r.weights) x
@@ -71,3 +108,110 @@ module _ (n : ℕ) (rs : List RuleView) (all : AllByRecursion (IsRule n) rs) whe
   pub full-reach : (p x : ℕ) → n ≤ p → reaches rs p x ≡ wins_at rs p x
   unfolding reaches wins_at
   full-reach p x past = grind (arith, common_steps, drop_all, list_all-same)
+
+sub-leb : (a b c : ℕ) → leb (a - b) c ≡ leb a (b + c)
+sub-leb a b c = grind (arith, nat_tests)
+
+pub lanes-reach : (n p x : ℕ) (rs : List RuleView) (ls : List Lane) → p ≤ n → LanesAre n p x rs ls
+    → list_all (lane_reaches p) ls ≡ reaches rs p x
+unfolding reaches
+lanes-reach n p x rs ls le are = grind (arith, common_steps, list_all-beside, sub-leb)
+
+pub lanes-win : (n p x : ℕ) (rs : List RuleView) (ls : List Lane) → LanesAre n p x rs ls → list_all lane_wins ls ≡ wins_at rs p x
+unfolding wins_at
+lanes-win n p x rs ls are = list_all-beside (LaneIs n p x) _ _ (λ r l is. rw (is.quota, is.sum_is) refl) rs ls are
+
+-- the lane at another prefix
+lane-at : {n p q x y : ℕ} {r : RuleView} {l : Lane} (s : ℕ) → LaneIs n p x r l → s ≡ weight (take q r.weights) y
+    → LaneIs n q y r (record l { sum = s })
+lane-at s is e = grind (arith, common_steps)
+
+-- place p is taken in
+pub lanes-in : (n p x : ℕ) (rs : List RuleView) (ls : List Lane) → p < n → LanesAre n p x rs ls
+    → LanesAre n (p + 1) (2 * x + 1) rs (map (lane_with p) ls)
+lanes-in n p x rs ls below are =
+    AllZip-moved (LaneIs n p x) (LaneIs n (p + 1) (2 * x + 1)) (lane_with p) (λ r l is.
+    lane-at _ is (omega (arith, weight-step is.rule p x 1 below (omega arith), is.sum_is, is.weights p below))) rs ls are
+
+-- it comes out again
+pub lanes-out : (n p y : ℕ) (rs : List RuleView) (ls : List Lane) → p < n → LanesAre n (p + 1) (2 * y + 1) rs ls
+    → LanesAre n (p + 1) (2 * y) rs (map (lane_without p) ls)
+lanes-out n p y rs ls below are =
+    AllZip-moved (LaneIs n (p + 1) (2 * y + 1)) (LaneIs n (p + 1) (2 * y)) (lane_without p) (λ r l is.
+    lane-at _ is (omega (
+      arith,
+      weight-step is.rule p y 1 below (omega arith),
+      weight-over is.rule p y below,
+      is.sum_is,
+      is.weights p below,
+    ))) rs ls are
+
+-- the same lanes at another prefix
+lanes-stay : (n p q x y : ℕ) (rs : List RuleView) (ls : List Lane)
+    → ((r : RuleView) → IsRule n r → weight (take p r.weights) x ≡ weight (take q r.weights) y) → LanesAre n p x rs ls
+    → LanesAre n q y rs ls
+lanes-stay n p q x y rs ls same are =
+    rw map-id at (AllZip-moved (LaneIs n p x) (LaneIs n q y) (λ l. l) (λ r l is. lane-at l.sum is (is.sum_is ∙ same r is.rule)) rs ls are)
+
+-- back to the place before, which is not in
+pub lanes-up : (n p y : ℕ) (rs : List RuleView) (ls : List Lane) → p < n → LanesAre n (p + 1) (2 * y) rs ls → LanesAre n p y rs ls
+lanes-up n p y rs ls below = lanes-stay n (p + 1) p (2 * y) y rs ls (λ r is. weight-over is p y below)
+
+-- place p is passed by
+pub lanes-pass : (n p y : ℕ) (rs : List RuleView) (ls : List Lane) → p < n → LanesAre n p y rs ls → LanesAre n (p + 1) (2 * y) rs ls
+lanes-pass n p y rs ls below = lanes-stay n p (p + 1) y (2 * y) rs ls (λ r is. sym (weight-over is p y below))
+
+pub fits-in : (n p x : ℕ) (rs : List RuleView) (ls : List Lane) → p < n → LanesAre n p x rs ls
+    → All (λ l. l.sum + get_or l.weights p 0 < 2 ^ 64) ls
+fits-in n p x rs ls below are =
+    All-beside (LaneIs n p x) (λ l. l.sum + get_or l.weights p 0 < 2 ^ 64) (λ r l is.
+    let cut : sum (take p r.weights) + sum (drop p r.weights) ≡ sum r.weights = sum_by-take-drop (λ (y : ℕ). y) r.weights p in
+    let most : weight (take p r.weights) x ≤ sum (take p r.weights) = weight-le (take p r.weights) x in
+    omega (arith, cut, rest-step is.rule p below, most, is.rule.light, is.sum_is, is.weights p below)) rs ls are
+
+pub fits-out : (n p y : ℕ) (rs : List RuleView) (ls : List Lane) → p < n → LanesAre n (p + 1) (2 * y + 1) rs ls
+    → All (λ l. get_or l.weights p 0 ≤ l.sum) ls
+fits-out n p y rs ls below are =
+    All-beside (LaneIs n (p + 1) (2 * y + 1)) (λ l. get_or l.weights p 0 ≤ l.sum) (λ r l is.
+    omega (arith, weight-step is.rule p y 1 below (omega arith), is.sum_is, is.weights p below)) rs ls are
+
+pub same-at : {A : Type 0} (x : A) (n q : ℕ) → get_or (replicate n x) q x ≡ x
+same-at x zero q = refl
+same-at x (suc n) zero = refl
+same-at x (suc n) (suc q) = same-at x n q
+
+pub same-weights : (n : ℕ) (ws vs : List ℕ) → n ≤ length ws → length vs ≡ n → ((q : ℕ) → q < n → get_or ws q 0 ≡ get_or vs q 0)
+    → take n ws ≡ vs
+same-weights n ws vs le long same =
+    let size : length (take n ws) ≡ n = length-take-le n ws le in
+    ext_get_or 0 (take n ws) vs (size ∙ sym long) (λ i below.
+    let lt : i < n = omega (arith, size) in
+    get_or-take n ws i 0 lt ∙ same i lt)
+
+pub sum-from : (ws : List ℕ) (m p : ℕ) → m ≤ length ws → p < m → sum (drop p (take m ws)) ≡ get_or ws p 0 + sum (drop (p + 1) (take m ws))
+sum-from ws m p le below = grind (arith, common_steps)
+
+-- the sum before those that are filled in
+pub sum-before : (ws rest : List ℕ) (m k : ℕ) → m ≤ length ws → 0 < k → k ≤ m
+    → FilledFrom (λ q r. r ≡ sum (drop q (take m ws))) 0 41 m k rest
+    → get_or ws (k - 1) 0 + get_or rest (k - 1 + 1) 0 ≡ sum (drop (k - 1) (take m ws))
+sum-before ws rest m k le some most filled =
+    omega (arith, sum-from ws m (k - 1) le (omega arith), filled.done (k - 1 + 1) (omega arith) (omega arith))
+
+pub drop-most : (xs : List ℕ) (p : ℕ) → sum (drop p xs) ≤ sum xs
+drop-most xs p = omega (arith, sum_by-take-drop (λ (y : ℕ). y) xs p)
+
+pub lanes-from : (n p x : ℕ) (rs : List RuleView) (ls : List Lane) (d : Lane) → length rs ≤ length ls
+    → ((i : ℕ) → i < length rs → LaneIs n p x (rule_at rs i) (get_or ls i d)) → LanesAre n p x rs (take (length rs) ls)
+lanes-from n p x [] ls d le is = tt
+lanes-from n p x (r ∷ rs) [] d le is = absurd (omega arith)
+lanes-from n p x (r ∷ rs) (l ∷ ls) d le is =
+    (is 0 (omega arith), lanes-from n p x rs ls d (omega arith) (λ i below. is (suc i) (omega arith)))
+
+pub lane-of : (n p x : ℕ) (rs : List RuleView) (ls : List Lane) → LanesAre n p x rs ls → (i : ℕ) → i < length rs → (d : Lane)
+    → LaneIs n p x (rule_at rs i) (get_or ls i d)
+lane-of n p x [] [] are i below d = absurd (omega (arith, below))
+lane-of n p x [] (l ∷ ls) are i below d = elim are [ ]
+lane-of n p x (r ∷ rs) [] are i below d = elim are [ ]
+lane-of n p x (r ∷ rs) (l ∷ ls) are zero below d = are.0
+lane-of n p x (r ∷ rs) (l ∷ ls) are (suc i) below d = lane-of n p x rs ls are.1 i (omega (arith, below)) d

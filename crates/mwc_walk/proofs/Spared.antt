@@ -1,25 +1,63 @@
 -- The members that each rule can spare, and the prefixes below which nothing is minimal.
-use Rattle.std.proofs.Common.{◌≡◌, ℕ, zero, suc, ◌+◌, ◌-◌, ◌*◌, ◌/◌, ◌%◌, ◌^◌, ◌<◌, ◌≤◌, ◌==◌, true, List, [], ◌∷◌, length, take, drop, get_or, refl, sym, ap, ◌∙◌, subst, arith, inl, inr}
+use Rattle.std.proofs.Common.{◌≡◌, ℕ, zero, suc, ◌+◌, ◌-◌, ◌*◌, ◌/◌, ◌%◌, ◌^◌, ◌<◌, ◌≤◌, ◌==◌, ◌&&◌, min, true, List, [], ◌∷◌, length, take, drop, get_or, refl, sym, ap, ◌∙◌, subst, arith, inl, inr}
 use Rattle.std.proofs.lemmas.Grind.{common_steps}
 use Rattle.std.specs.List.{AllByRecursion}
 use Rattle.std.specs.Int.{w64, trailing_zeros}
 use Rattle.std.specs.Int.Bits.{bit_and}
-use Rattle.std.proofs.lemmas.Bool.{cases_eq, cases_lt, cases_Bool, both_ways, and_parts, and_from, le-leb, leb-true, eqb-true, false_from_ne_true}
-use Rattle.std.proofs.lemmas.List.{length-drop}
-use Rattle.std.proofs.lemmas.Nat.{shr-shr, div-add-mod'}
-use Rattle.std.proofs.lemmas.Nat.Bits.{bit_at-trailing_zeros}
+use Rattle.std.proofs.Math.Nat.{pow-suc}
 use Rattle.std.proofs.Math.Pow.{pow_mono}
-use Rattle.council_game.specs.Votes.{RuleView, Votes, IsRule, IsVotes, IsRanked, rule_at, has, without, weight, wins, minimal}
+use Rattle.std.proofs.lemmas.Bool.{cases_eq, cases_lt, cases_Bool, both_ways, and_parts, and_from, le-leb, leb-true, eq-eqb, eqb-true, false_from_ne_true}
+use Rattle.std.proofs.lemmas.Bool.Decides.{nat_tests}
+use Rattle.std.proofs.lemmas.List.{length-drop, get_or-take}
+use Rattle.std.proofs.lemmas.Nat.{shr-shr, div-add-mod', and_le_l}
+use Rattle.std.proofs.lemmas.Nat.Bits.{bit_at-trailing_zeros, bit_at_and}
+use Rattle.council_game.specs.Votes.{RuleView, Votes, IsRule, IsRanked, rule_at, has, without, weight, wins, minimal}
 use Rattle.coalitions.proofs.Shared.Digits.{has-kept, has-gone, has-none, lowest-place, lowest-cleared, without-less}
 use Rattle.council_game.proofs.Shared.WinningByPlaces.{sum-without}
 use Rattle.council_game.proofs.Shared.Meanings.{needs-each-member}
 use Rattle.council_game.proofs.Shared.Weights.{weight-skip}
+use Rattle.mwc_walk.specs.declared.lane.Lane.{Lane}
+use Rattle.mwc_walk.specs.declared.vetoes.Vetoes.{Vetoes}
 use Rattle.mwc_walk.specs.declared.cursor.Cursor.{Cursor}
-use Rattle.mwc_walk.specs.Inner.Places.{NothingBelow, NoneWins, AreExcesses, CanSpare, wins_at}
-use Rattle.mwc_walk.specs.Inner.Spared.{IsEnough, NoneSpared, Tried}
+use Rattle.mwc_walk.specs.Inner.Lanes.{no_lane}
+use Rattle.mwc_walk.specs.Inner.Places.{LaneIs, NothingBelow, NoneWins, IsExcess, AreExcesses, CanSpare, wins_at}
+use Rattle.mwc_walk.specs.Inner.Spared.{lane_at, IsEnough, IsNeed, NoneSpared, Tried}
+use Rattle.mwc_walk.specs.Inner.Vetoes.{IsSplit}
 use Rattle.mwc_walk.specs.Inner.Cursor.{CursorIs}
 use Rattle.mwc_walk.proofs.Shared.One.{place-before, in-slice}
-use Rattle.mwc_walk.proofs.Rules.{weight-block, weight-split, wins-prefix}
+use Rattle.mwc_walk.proofs.Rules.{weight-block, weight-split, wins-prefix, lane-of}
+use Rattle.mwc_walk.proofs.Steps.{enter-short}
+
+and-digit : (a b : ℕ) → a < 2 → b < 2 → (min a b == 1) ≡ (a == 1 && b == 1)
+and-digit a b la lb = grind (arith, nat_tests)
+
+pub has-and : (n q a b : ℕ) → has n q (bit_and a b) ≡ (has n q a && has n q b)
+unfolding has
+has-and n q a b = grind (arith, common_steps, and-digit, bit_at_and)
+
+pub and-less : (a b m : ℕ) → a ≤ m → bit_and a b ≤ m
+and-less a b m le = let less = and_le_l a b in omega (arith, less)
+
+-- a mask of p places, with one digit more
+pub record NextDigit (p m b : ℕ) : Type 0 where
+  pub below : 2 * m + b < 2 ^ (p + 1)
+  pub before : (q : ℕ) → q < p → has (p + 1) q (2 * m + b) ≡ has p q m
+  pub here : has (p + 1) p (2 * m + b) ≡ (b == 1)
+
+pub next-digit : (p m b : ℕ) → b < 2 → m < 2 ^ p → NextDigit p m b
+unfolding has
+next-digit p m b digit short =
+    let half : (2 * m + b) / 2 ≡ m = omega arith in
+    let twice : 2 ^ (p + 1) ≡ 2 ^ p * 2 = ap (λ (i : ℕ). 2 ^ i) (let e : p + 1 ≡ suc p = omega arith in e) ∙ pow-suc 2 p in
+    let none : p + 1 - 1 - p ≡ 0 = omega arith in
+    let last : (2 * m + b) / 2 ^ 0 % 2 ≡ b = omega arith in
+    record {
+      below = omega (arith, twice);
+      before = λ q lt.
+          let e : 1 + (p - 1 - q) ≡ p + 1 - 1 - q = omega arith in
+          sym (ap (λ (i : ℕ). i % 2 == 1) (rw (half, e) at (shr-shr (2 * m + b) 1 (p - 1 - q))));
+      here = rw (none, last) refl;
+    }
 
 -- a place that is in the prefix is in each coalition below it
 has-below : (n p x c q : ℕ) → p ≤ n → q < n → c / 2 ^ (n - p) ≡ x → has n q (x * 2 ^ (n - p)) ≡ true → has n q c ≡ true
@@ -52,29 +90,6 @@ still-wins n c q (r ∷ rs) all below in' free =
     let less = sum-without n r c q (weight r.weights c) all.0 below in' refl in
     and_from _ _ (le-leb _ _ (omega (arith, first, less))) (still-wins n c q rs all.1 below in' (λ i lt. free (suc i) (omega (arith, lt))))
 
--- a member whom each rule can spare, by what each coalition below has beyond the quotas, is needed in none of them
-pub spared-nothing : (v : Votes) (p x q : ℕ) (es : List ℕ) → IsVotes v → p ≤ v.members → q < v.members
-    → has v.members q (x * 2 ^ (v.members - p)) ≡ true → CanSpare v es q → AreExcesses v p x es → NothingBelow v p x
-spared-nothing v p x q es game le below in' spare excess =
-    grind (arith, common_steps, both_ways, false_from_ne_true, has-below, needs-each-member, still-wins)
-
-pub none-nothing : (v : Votes) (p x : ℕ) → NoneWins v p x → NothingBelow v p x
-none-nothing v p x none = λ c prefix. false_from_ne_true _ (λ min. none c prefix (((needs-each-member v c).0 min).0))
-
--- a winning prefix of which no member can be spared is minimal
-pub kept-minimal : (v : Votes) (p x : ℕ) (es : List ℕ) → IsVotes v → p ≤ v.members → IsEnough v p x es → NoneSpared v p x es
-    → wins_at v.rules p x ≡ true → minimal v (x * 2 ^ (v.members - p)) ≡ true
-kept-minimal v p x es game le enough kept won =
-    (needs-each-member v (x * 2 ^ (v.members - p))).1 (
-      wins-prefix v.members v.rules game.rules p x le ∙ won,
-      λ q below in'. false_from_ne_true _ (λ still. kept q below in' (λ i lt.
-          let met = met-at v.members (without v.members q (x * 2 ^ (v.members - p))) v.rules game.rules still i lt in
-          let less = sum-without v.members (rule_at v.rules i) (x * 2 ^ (v.members - p)) q (weight (take p (rule_at v.rules i).weights) x)
-          met.0 below in' (sym (weight-block met.0 p x le)) in
-          let most = enough i lt in
-          omega (arith, met.1, met.0.some, less, most))),
-    )
-
 -- ---- what is there and what comes
 -- digits above the places of a list weigh nothing
 weight-low : (ws : List ℕ) (c : ℕ) → weight ws (c % 2 ^ length ws) ≡ weight ws c
@@ -95,30 +110,6 @@ pub record LastPlace (v : Votes) (a : Cursor) (rest : ℕ) : Type 0 where
   pub left : bit_and rest (rest - 1) ≡ without v.members (a.members - 1 - trailing_zeros w64 rest) rest
   pub less : bit_and rest (rest - 1) < rest
 
-pub last-place : (v : Votes) (a : Cursor) (rest : ℕ) → CursorIs v a → 0 < rest → rest < 2 ^ v.members → LastPlace v a rest
-last-place v a rest is pos short =
-    let last = lowest-place v.members rest is.game.few pos short in
-    let inside = subst (λ (n : ℕ). has v.members (n - 1 - trailing_zeros w64 rest) rest ≡ true) (sym is.members) last.1 in
-    let left = subst (λ (n : ℕ). bit_and rest (rest - 1) ≡ without v.members (n - 1 - trailing_zeros w64 rest) rest) (sym is.members)
-    (lowest-cleared v.members rest is.game.few pos short) in
-    let less = without-less v.members (a.members - 1 - trailing_zeros w64 rest) rest pos in
-    record {
-      small = omega (arith, last.0, is.members);
-      below = omega (arith, last.0, is.members);
-      inside = inside;
-      left = left;
-      less = omega (arith, left, less);
-    }
-
--- one place more is tried
-pub tried-more : (v : Votes) (p x rest q : ℕ) (es : List ℕ) → 0 < rest → q < v.members → has v.members q rest ≡ true
-    → (CanSpare v es q → ⊥) → Tried v p x es rest → Tried v p x es (without v.members q rest)
-tried-more v p x rest q es pos below in' kept tried = grind (arith, common_steps, both_ways, cases_eq, has-gone, has-kept, without-less)
-
-pub tried-all : (v : Votes) (p x rest : ℕ) (es : List ℕ) → rest ≡ 0 → Tried v p x es rest → NoneSpared v p x es
-tried-all v p x rest es none tried =
-    λ q below in'. tried.kept q below in' (ap (has v.members q) none ∙ has-none v.members q)
-
 -- no place of rest comes after its last
 up-to-last : (n rest q : ℕ) → n ≤ 40 → 0 < rest → rest < 2 ^ n → q < n → has n q rest ≡ true → q ≤ n - 1 - trailing_zeros w64 rest
 unfolding has
@@ -137,18 +128,121 @@ first-keeps : (rs : List RuleView) (e q m : ℕ) → IsRanked rs → 1 ≤ lengt
 first-keeps [] e q m ranked some keeps before below = absurd (omega (arith, some))
 first-keeps (r ∷ rs) e q m ranked some keeps before below = let heavier = ranked m q before below in omega (arith, keeps, heavier)
 
--- where the first rule can not spare the last place of those left, no place can be spared
-pub first-keeps-all : (v : Votes) (a : Cursor) (rest q : ℕ) (es : List ℕ) → CursorIs v a → 0 < rest
-    → q ≡ a.members - 1 - trailing_zeros w64 rest → length (rule_at v.rules 0).weights ≡ v.members
-    → get_or es 0 0 < get_or (rule_at v.rules 0).weights q 0 → Tried v a.place a.prefix es rest → NoneSpared v a.place a.prefix es
-first-keeps-all v a rest q es is pos at full keeps tried =
-    let last = last-place v a rest is pos tried.below in
-    λ m below in'. elim (cases_Bool (has v.members m rest)) [
-      | inl still ↦ λ spare.
-          let before = up-to-last v.members rest m is.game.few pos tried.below below still in
-          let less = first-keeps v.rules (get_or es 0 0) q m is.game.ranked is.game.has_rule keeps (omega (arith, before, is.members, at))
-          (omega (arith, last.below, at, full)) in
-          let most = spare 0 is.game.has_rule in
-          absurd (omega (arith, less, most))
-      | inr out ↦ tried.kept m below in' out
-    ]
+module _ {v : Votes} {p x rest : ℕ} {es : List ℕ} (tried : Tried v p x es rest) where
+  pub tried-more : (q : ℕ) → 0 < rest → q < v.members → has v.members q rest ≡ true → (CanSpare v es q → ⊥)
+      → Tried v p x es (without v.members q rest)
+  tried-more q pos below in' kept = grind (arith, common_steps, both_ways, cases_eq, has-gone, has-kept, without-less)
+
+  pub tried-all : rest ≡ 0 → NoneSpared v p x es
+  tried-all none = λ q below in'. tried.kept q below in' (ap (has v.members q) none ∙ has-none v.members q)
+
+  -- a rule that passes its quota by nothing spares only who weighs nothing
+  pub tried-weightless : (i : ℕ) (l : Lane) → i < length v.rules → LaneIs v.members p x (rule_at v.rules i) l → get_or es i 0 ≡ 0
+      → Tried v p x es (bit_and rest l.weightless)
+  tried-weightless i l below is nothing =
+      grind (arith, common_steps, and-less, and_from, and_parts, both_ways, cases_Bool, eq-eqb, has-and)
+
+module _ {v : Votes} {a : Cursor} (is : CursorIs v a) where
+  -- ---- what is there and what comes
+  pub lane-here : (i : ℕ) → i < a.rules → LaneIs v.members a.place a.prefix (rule_at v.rules i) (lane_at a.lanes i)
+  lane-here i below =
+      subst (λ (l : Lane). LaneIs v.members a.place a.prefix (rule_at v.rules i) l) (get_or-take a.rules a.lanes i no_lane below)
+      (lane-of v.members a.place a.prefix v.rules (take a.rules a.lanes) is.lanes i (omega (arith, below, is.rules)) no_lane)
+
+  -- what a winning coalition that begins with the prefix weighs by rule i
+  module _ (i c : ℕ) (below : i < a.rules) (prefix : c / 2 ^ (v.members - a.place) ≡ a.prefix) (won : wins v.rules c ≡ true) where
+    pub there-and-comes : weight (rule_at v.rules i).weights c ≡ (lane_at a.lanes i).sum + weight
+        (drop a.place (rule_at v.rules i).weights) c
+    there-and-comes =
+        let here = lane-here i below in
+        omega (arith, rw prefix at (weight-parts v.members a.place c (rule_at v.rules i) here.rule is.place.to), here.sum_is)
+
+    pub meets : (rule_at v.rules i).quota ≤ weight (rule_at v.rules i).weights c
+    meets = (met-at v.members c v.rules is.game.rules won i (omega (arith, below, is.rules))).1
+
+  -- the excess over the quota with what comes at the least
+  pub least-excess : (i t b : ℕ) → i < a.rules → t ≤ (lane_at a.lanes i).sum + b
+      → ((c : ℕ) → c / 2 ^ (v.members - a.place) ≡ a.prefix → wins v.rules c ≡ true
+      → b ≤ weight (drop a.place (rule_at v.rules i).weights) c)
+      → IsExcess v a.place a.prefix i (t - (lane_at a.lanes i).quota)
+  least-excess i t b below most comes = λ c prefix won.
+      let here = lane-here i below in
+      omega (arith, meets i c below prefix won, there-and-comes i c below prefix won, comes c prefix won, most, here.quota)
+
+  -- what the quota asks for beside what is there and what vetoers bring
+  pub short-need : (i t : ℕ) (s : Vetoes) → i < a.rules → IsSplit v i s
+      → t ≡ min (2 ^ 64 - 1) ((lane_at a.lanes i).sum + get_or s.brings a.place 0)
+      → IsNeed v a.place a.prefix s ((lane_at a.lanes i).quota - t)
+  short-need i t s below split capped = λ c prefix won.
+      let here = lane-here i below in
+      omega (
+        arith,
+        meets i c below prefix won,
+        there-and-comes i c below prefix won,
+        split.parts a.place c is.place.to won,
+        here.quota,
+        here.rule.met,
+        here.rule.light,
+        capped,
+      )
+
+  -- ---- who can be spared
+  -- a member whom each rule can spare, by what each coalition below has beyond the quotas, is needed in none of them
+  pub spared-nothing : (q : ℕ) (es : List ℕ) → q < v.members → has v.members q (a.prefix * 2 ^ (v.members - a.place)) ≡ true
+      → CanSpare v es q → AreExcesses v a.place a.prefix es → NothingBelow v a.place a.prefix
+  spared-nothing q es below in' spare excess =
+      grind (arith, common_steps, both_ways, false_from_ne_true, has-below, needs-each-member, still-wins)
+
+  -- a winning prefix of which no member can be spared is minimal
+  pub kept-minimal : (es : List ℕ) → IsEnough v a.place a.prefix es → NoneSpared v a.place a.prefix es
+      → wins_at v.rules a.place a.prefix ≡ true
+      → minimal v (a.prefix * 2 ^ (v.members - a.place)) ≡ true
+  kept-minimal es enough kept won =
+      let x : ℕ = a.prefix * 2 ^ (v.members - a.place) in
+      (needs-each-member v x).1 (
+        wins-prefix v.members v.rules is.game.rules a.place a.prefix is.place.to ∙ won,
+        λ q below in'. false_from_ne_true _ (λ still. kept q below in' (λ i lt.
+            let met = met-at v.members (without v.members q x) v.rules is.game.rules still i lt in
+            let less = sum-without v.members (rule_at v.rules i) x q (weight (take a.place (rule_at v.rules i).weights) a.prefix) met.0
+            below in'
+            (sym (weight-block met.0 a.place a.prefix is.place.to)) in
+            let most = enough i lt in
+            omega (arith, met.1, met.0.some, less, most))),
+      )
+
+  pub none-nothing : NoneWins v a.place a.prefix → NothingBelow v a.place a.prefix
+  none-nothing none = λ c prefix. false_from_ne_true _ (λ min. none c prefix (((needs-each-member v c).0 min).0))
+
+  -- all members of the prefix are still to be tried
+  pub tried-first : (es : List ℕ) (m : ℕ) → m ≡ a.prefix * 2 ^ (v.members - a.place) → Tried v a.place a.prefix es m
+  tried-first es m same = grind (arith, common_steps, both_ways, enter-short)
+
+  module _ {rest : ℕ} (pos : 0 < rest) where
+    pub last-place : rest < 2 ^ v.members → LastPlace v a rest
+    last-place short =
+        let last = lowest-place v.members rest is.game.few pos short in
+        let left = lowest-cleared v.members rest is.game.few pos short in
+        record {
+          small = omega (arith, last.0, is.members);
+          below = omega (arith, last.0, is.members);
+          inside = rw is.members last.1;
+          left = rw is.members left;
+          less = rw left (omega (arith, without-less v.members (v.members - 1 - trailing_zeros w64 rest) rest pos));
+        }
+
+    -- where the first rule can not spare the last place of those left, no place can be spared
+    pub first-keeps-all : {es : List ℕ} → Tried v a.place a.prefix es rest
+        → get_or es 0 0 < get_or (rule_at v.rules 0).weights (a.members - 1 - trailing_zeros w64 rest) 0 → NoneSpared v a.place a.prefix es
+    first-keeps-all {es} tried keeps =
+        let last = last-place tried.below in
+        let first = lane-here 0 (omega (arith, is.rules, is.game.has_rule)) in
+        λ m below in'. elim (cases_Bool (has v.members m rest)) [
+          | inl still ↦ λ spare.
+              let before = up-to-last v.members rest m is.game.few pos tried.below below still in
+              let less = first-keeps v.rules (get_or es 0 0) (a.members - 1 - trailing_zeros w64 rest) m is.game.ranked is.game.has_rule
+              keeps
+              (omega (arith, before, is.members)) (omega (arith, last.below, first.rule.full)) in
+              let most = spare 0 is.game.has_rule in
+              absurd (omega (arith, less, most))
+          | inr out ↦ tried.kept m below in' out
+        ]

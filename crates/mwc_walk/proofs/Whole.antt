@@ -1,6 +1,7 @@
--- The one slice at no bits, and the list of all coalitions that it is.
-use Rattle.std.proofs.Common.{◌≡◌, ◌<◌, ◌≤◌, ◌++◌, ◌∷◌, [], ℕ, List, length, sym, ◌∙◌, append-nil, length-append, arith}
+-- Lists that a walk fills, and the one slice at no bits, which is the list of all coalitions.
+use Rattle.std.proofs.Common.{◌≡◌, ◌+◌, ◌<◌, ◌≤◌, ◌++◌, ◌∷◌, [], ℕ, List, length, take, sym, ap, ◌∙◌, append-nil, append_assoc, length-append, arith}
 use Rattle.std.proofs.lemmas.Grind.{common_steps}
+use Rattle.std.proofs.lemmas.List.{take_at, take_all}
 use Rattle.council_game.specs.Votes.{IsVotes, Votes, minimal_coalitions}
 use Rattle.council_game.specs.Game.{GameView, votes_of}
 use Rattle.council_game.proofs.Shared.Listing.{listing-is}
@@ -12,12 +13,40 @@ use Rattle.mwc_walk.proofs.Shared.Joined.{slices-joined}
 pub one-slice : (v : Votes) → IsVotes v → slice v 0 0 ≡ minimal_coalitions v
 one-slice v game = sym (append-nil (slice v 0 0)) ∙ slices-joined v 0 (omega arith) (omega arith)
 
+-- the list has the first n of the whole, and the others are to come
+pub record HasFirst (whole list to_come : List ℕ) (n : ℕ) : Type 0 where
+  pub joined : list ++ to_come ≡ whole
+  pub count : length list ≡ n
+
+pub one-more : {whole list to_come rest more : List ℕ} {n c : ℕ} → HasFirst whole list to_come n → to_come ≡ c ∷ rest
+    → more ≡ list ++ c ∷ []
+    → HasFirst whole more rest (n + 1)
+one-more {list} {rest} {c} has next pushed = record {
+  joined = rw pushed (append_assoc list (c ∷ []) rest ∙ ap (λ (l : List ℕ). list ++ l) (sym next) ∙ has.joined);
+  count = rw pushed (omega (arith, length-append list (c ∷ []), has.count));
+}
+
+pub first-ones : {whole list to_come : List ℕ} {n : ℕ} → HasFirst whole list to_come n → (most : ℕ) → n ≡ most → list ≡ take most whole
+first-ones {list} {to_come} has most full = sym (ap (take most) (sym has.joined) ∙ take_at list to_come most (has.count ∙ full))
+
 -- a walk at its end gave all
-pub lists-all : (g : GameView) (most : ℕ) (list : List ℕ) → IsVotes (votes_of g) → list ++ [] ≡ slice (votes_of g) 0 0 → length list ≤ most
-    → ListsAll g most list
-lists-all g most list game joined few = grind (arith, common_steps, append-nil, listing-is, one-slice)
+pub at-end : {whole list to_come : List ℕ} {n : ℕ} → HasFirst whole list to_come n → to_come ≡ [] → list ≡ whole
+at-end {list} has none = sym (append-nil list) ∙ ap (λ (l : List ℕ). list ++ l) (sym none) ∙ has.joined
+
+pub first-all : {whole list to_come : List ℕ} {n : ℕ} → HasFirst whole list to_come n → to_come ≡ [] → (most : ℕ) → n ≤ most
+    → list ≡ take most whole
+first-all {whole} has none most few =
+    let all = at-end has none in all ∙ sym (take_all most whole (omega (arith, ap length all, has.count, few)))
+
+pub lists-all : (g : GameView) (most : ℕ) {list to_come : List ℕ} {n : ℕ} → IsVotes (votes_of g)
+    → HasFirst (slice (votes_of g) 0 0) list to_come n
+    → to_come ≡ [] → n ≤ most → ListsAll g most list
+lists-all g most game has none few =
+    let all = at-end has none ∙ one-slice (votes_of g) game in grind (arith, common_steps, listing-is)
 
 -- a walk with more to come has more
-pub more-than : (v : Votes) (most c : ℕ) (list rest to_come : List ℕ) → IsVotes v → list ++ to_come ≡ slice v 0 0 → to_come ≡ c ∷ rest
-    → most ≤ length list → most < length (minimal_coalitions v)
-more-than v most c list rest to_come game joined next many = grind (arith, common_steps, length-append, one-slice)
+pub more-than : (v : Votes) (most : ℕ) {list to_come rest : List ℕ} {n c : ℕ} → IsVotes v → HasFirst (slice v 0 0) list to_come n
+    → to_come ≡ c ∷ rest
+    → most ≤ n → most < length (minimal_coalitions v)
+more-than v most {list} {to_come} game has next many =
+    omega (arith, ap length has.joined, length-append list to_come, ap length next, ap length (one-slice v game), has.count)

@@ -7,7 +7,7 @@ ghost use Rattle.mwc_walk.specs.Inner.Places.{wins_at, NothingBelow, NoneWins, I
 ghost use Rattle.mwc_walk.specs.Inner.Spared.{lane_at, IsEnough, IsNeed, AreNeeds, NoneSpared, Tried};
 ghost use Rattle.mwc_walk.specs.Inner.Vetoes.{vetoes_at};
 ghost use Rattle.mwc_walk.specs.Inner.Ahead.{AheadIs};
-ghost use Rattle.mwc_walk.specs.Inner.Cursor.{CursorIs, Steps, SomeSteps, Runs, Starts};
+ghost use Rattle.mwc_walk.specs.Inner.Cursor.{CursorIs, Steps, SomeSteps, Starts};
 
 use crate::ahead::Ahead;
 use crate::asked::Asked;
@@ -85,25 +85,24 @@ impl Cursor {
 
     /// Steps up to the next coalition of the slice, or to its end. Under several rules what can still come is looked
     /// at where the first steps came to none; `ahead` keeps what the game has ahead, once it was asked for.
-    pub(crate) fn find(&mut self, game: &Game, ahead: &mut Option<Ahead>) -> Option<Coalition>
+    pub(crate) fn find(&mut self, game: &Game, ahead: &mut Option<Ahead>) -> Step
         requires is { CursorIs (votes_of game.now) self.old }
         requires ahead { IfSome ahead.old (AheadIs (votes_of game.now)) }
-        ensures runs { Runs (votes_of game.now) self.old result self.new }
+        ensures steps { SomeSteps (votes_of game.now) self.old result self.new }
+        ensures comes { result ≢ Step.On }
         ensures ahead { IfSome ahead.new (AheadIs (votes_of game.now)) }
     {
         if self.rules == 1 {
             return self.next(game, None);
         }
         match self.some_steps(game, NEAR) {
-            Step::Give(coalition) => Some(coalition),
-            Step::End => None,
-            Step::On => {
-                if ahead.is_none() {
-                    look_ahead(game, ahead);
-                }
-                self.next(game, ahead.as_ref())
-            }
+            Step::On => {}
+            step => return step,
         }
+        if ahead.is_none() {
+            look_ahead(game, ahead);
+        }
+        self.next(game, ahead.as_ref())
     }
 
     /// As `find`, but at most `visits` visits further. Under one rule it always comes to a coalition or to the end.
@@ -118,7 +117,10 @@ impl Cursor {
         ensures ahead { IfSome ahead.new (AheadIs (votes_of game.now)) }
     {
         let Some(most) = self.most_visits(visits) else {
-            return self.find_at_last(game, ahead);
+            let step = self.find(game, ahead);
+            // for the prover alone: that the count fits its type
+            let _visits = self.visits;
+            return step;
         };
         match self.some_steps(game, NEAR.min(visits)) {
             Step::On => {}
@@ -128,24 +130,6 @@ impl Cursor {
             look_ahead(game, ahead);
         }
         self.up_to(game, ahead.as_ref(), most)
-    }
-
-    /// As `find`, and tells it as a step.
-    fn find_at_last(&mut self, game: &Game, ahead: &mut Option<Ahead>) -> Step
-        requires is { CursorIs (votes_of game.now) self.old }
-        requires ahead { IfSome ahead.old (AheadIs (votes_of game.now)) }
-        ensures steps { SomeSteps (votes_of game.now) self.old result self.new }
-        ensures comes { result ≢ Step.On }
-        ensures few { self.new.visits < 2 ^ 64 }
-        ensures ahead { IfSome ahead.new (AheadIs (votes_of game.now)) }
-    {
-        let found = self.find(game, ahead);
-        // for the prover alone: that the count fits its type
-        let _visits = self.visits;
-        match found {
-            Some(coalition) => Step::Give(coalition),
-            None => Step::End,
-        }
     }
 
     /// How many visits there are to be after `more` of them; none where nothing is to stop a walk: under one rule, and
@@ -195,16 +179,16 @@ impl Cursor {
 
     /// Steps up to the next coalition of the slice, or to its end, and looks at what can still come where that
     /// is told.
-    fn next(&mut self, game: &Game, ahead: Option<&Ahead>) -> Option<Coalition>
+    fn next(&mut self, game: &Game, ahead: Option<&Ahead>) -> Step
         requires is { CursorIs (votes_of game.now) self.old }
         requires ahead { IfSome ahead (λ a. AheadIs (votes_of game.now) a.now) }
-        ensures { Runs (votes_of game.now) self.old result self.new }
+        ensures steps { SomeSteps (votes_of game.now) self.old result self.new }
+        ensures comes { result ≢ Step.On }
     {
         loop {
             match self.step(game, ahead) {
                 Step::On => {}
-                Step::Give(coalition) => return Some(coalition),
-                Step::End => return None,
+                step => return step,
             }
         }
     }
@@ -383,21 +367,10 @@ impl Cursor {
     {
         let mut short = [0; limits::RULES];
         for rule in 0..self.rules {
-            short[rule] = self.short(game, ahead, rule);
+            let there = self.there(ahead, rule);
+            short[rule] = self.lanes[rule].quota.saturating_sub(there);
         }
         short
-    }
-
-    /// The same of one rule.
-    fn short(&self, game: &Game, ahead: &Ahead, rule: usize) -> u64
-        requires is { CursorIs (votes_of game.now) self.now }
-        requires ahead { AheadIs (votes_of game.now) ahead.now }
-        requires rule { rule < self.now.rules }
-        ensures { IsNeed (votes_of game.now) self.now.place self.now.prefix (vetoes_at ahead.now.vetoes rule) result }
-    {
-        self.lanes[rule]
-            .quota
-            .saturating_sub(self.there(ahead, rule))
     }
 
     /// What is there under a rule, with what vetoers bring.

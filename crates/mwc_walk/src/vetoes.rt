@@ -1,12 +1,11 @@
 //! The vetoers of a game, and what they bring.
-ghost use Rattle.std.specs.Prelude.{◌≡◌, ◌<◌, ◌≤◌, ℕ, false, length, slice_index, slice_index_or};
+ghost use Rattle.std.specs.Prelude.{◌≡◌, ◌<◌, ◌≤◌, ℕ, length, slice_index};
 ghost use Rattle.std.specs.List.{list_any};
 ghost use Rattle.coalitions.specs.declared.limits.TheConstants.{MEMBERS, RULES};
 ghost use Rattle.council_game.specs.Game.{votes_of};
-ghost use Rattle.mwc_walk.specs.declared.lane.Lane.{Lane};
 ghost use Rattle.mwc_walk.specs.Inner.Lanes.{lane_needs};
 ghost use Rattle.mwc_walk.specs.Inner.Places.{LanesAre};
-ghost use Rattle.mwc_walk.specs.Inner.Vetoes.{IsSplit, SplitsAre, BringsAre};
+ghost use Rattle.mwc_walk.specs.Inner.Vetoes.{IsSplit, SplitsAre, BringsAre, vetoed_part};
 
 use crate::lane::{Lane, rest_of};
 use council_game::{Game, limits};
@@ -82,8 +81,7 @@ pub(crate) fn brought(game: &Game, lanes: &[Lane]) -> [Vetoes; limits::RULES]
 fn vetoed_weight(lanes: &[Lane], rule: usize, place: usize) -> u64
     requires rule { rule < length lanes.now }
     requires place { place < MEMBERS }
-    ensures most { (d : Lane) → result ≤ slice_index (slice_index_or lanes.now rule d).weights place }
-    ensures none { list_any (lane_needs place) lanes.now ≡ false → result ≡ 0 }
+    ensures { result ≡ vetoed_part lanes.now rule place }
 {
     if is_vetoer(lanes, place) {
         lanes[rule].weights[place]

@@ -9,6 +9,7 @@ ghost use Rattle.mwc_walk.specs.Seeks.{Seeks, seeks_left};
 use crate::ahead::Ahead;
 use crate::cursor::Cursor;
 use crate::seek::Seek;
+use crate::step::Step;
 use council_game::{Coalition, Game};
 use std::marker::Model;
 
@@ -82,7 +83,10 @@ impl<'a> Walk<'a> {
         ensures number { self.new.number ≡ self.old.number }
         ensures counted { self.old.visits ≤ self.new.visits }
     {
-        self.cursor.find(self.game, &mut self.ahead)
+        match self.cursor.find(self.game, &mut self.ahead) {
+            Step::Give(coalition) => Some(coalition),
+            Step::End | Step::On => None,
+        }
     }
 
     /// Seeks the next coalition of the slice as `next` does, but makes at most `visits` visits, 1 or more: after these

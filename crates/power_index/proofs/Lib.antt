@@ -2,5 +2,6 @@ pub mod Shared
 mod Ordered
 mod Quotients
 pub mod Unique
+mod Units
 mod Walks
 mod Weights

@@ -1,5 +1,6 @@
 -- Two fractions are ordered by their quotients, and where these are equal by what is left, turned upside down.
 use Rattle.std.proofs.Common.{◌≡◌, ◌∙◌, ◌≢◌, ℕ, suc, ◌+◌, ◌*◌, ◌/◌, ◌%◌, ◌<◌, ◌≤◌, ap, sym, arith, inl, inr}
+use Rattle.std.proofs.lemmas.Grind.{common_steps}
 use Rattle.std.specs.Ordering.{nat_cmp, ordering_then}
 use Rattle.std.proofs.lemmas.Bool.{cases_lt, cases_eq}
 use Rattle.std.proofs.Math.Nat.{div-add-mod, mod-lt, mul-le-mul}
@@ -11,12 +12,7 @@ shifted k x y = grind (arith, nat_tests)
 
 -- a times d is the shared part and what is left of a, times d
 parts : (a b d q : ℕ) → a / b ≡ q → a * d ≡ b * d * q + d * (a % b)
-parts a b d q h =
-    let whole : b * (a / b) + a % b ≡ a = div-add-mod a b in
-    go (a / b) (a % b) h whole
-  where
-    go : (p r : ℕ) → p ≡ q → b * p + r ≡ a → a * d ≡ b * d * q + d * r
-    go p r e whole = rw (← whole, e) (omega arith)
+parts a b d q h = grind (arith, common_steps, div-add-mod)
 
 -- with one quotient, a / b is to c / d as d / (c % d) is to b / (a % b)
 pub turned : (a b c d : ℕ) → a / b ≡ c / d → nat_cmp (d * (a % b)) (b * (c % d)) ≡ nat_cmp (a * d) (c * b)

@@ -9,4 +9,3 @@ pub mod Small
 pub mod Sound
 pub mod Sums
 pub mod Tallies
-pub mod Units

@@ -1,5 +1,6 @@
 -- A fraction has one form in lowest terms.
-use Rattle.std.proofs.Common.{◌≡◌, ◌∙◌, ℕ, ◌+◌, ◌*◌, ◌-◌, ◌≤◌, ◌<◌, ap, subst, sym, arith, zero, suc, inl, inr}
+use Rattle.std.proofs.Common.{◌≡◌, ◌∙◌, ℕ, ◌+◌, ◌*◌, ◌-◌, ◌≤◌, ◌<◌, ap, subst, arith, zero, suc, inl, inr}
+use Rattle.std.proofs.lemmas.Grind.{common_steps}
 use Rattle.std.specs.Int.{IsGcd, ◌∣◌}
 use Rattle.std.proofs.lemmas.Nat.Gcd.{IsGcd-from_zero, IsGcd-swap, IsGcd-from_sub, dvd_antisymm, dvd_refl, dvd-zero}
 use Rattle.std.proofs.lemmas.Bool.{cases_lt}
@@ -66,7 +67,4 @@ lowest-unique p q r pos h k =
 
 -- two indices that are the same number
 pub index_unique : (p q : ℕ × ℕ) → IsIndex p → IsIndex q → SameFraction p q → p ≡ q
-index_unique p q h k same =
-    lowest-unique p p q h.some
-    (record { positive = h.some; same = λ i. p.0 * p.1; lowest = h.lowest })
-    (record { positive = k.some; same = sym same; lowest = k.lowest })
+index_unique p q h k same = grind (arith, common_steps, lowest-unique)

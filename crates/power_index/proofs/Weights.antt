@@ -9,7 +9,7 @@ use Rattle.power_index.specs.Tables.{Tables, AreCounts, denominator, weighted_su
 use Rattle.power_index.specs.Indices.{sizes_of_member}
 use Rattle.power_index.proofs.Shared.Sums.{sum-range, sum-by_size, length-filter-le}
 use Rattle.power_index.proofs.Shared.Members.{sizes-within, size-pos-in, size-le}
-use Rattle.power_index.proofs.Shared.Units.{sum_few}
+use Rattle.power_index.proofs.Units.{sum_few}
 
 pub within : (g : GameView) (list : List ℕ) (t : Tables) (i : ℕ) → i < t.members → AreCounts g list t
     → AllByRecursion (λ s. (0 < s) × (s ≤ length g.names)) (sizes_of_member g list i)

@@ -33,7 +33,7 @@ pub struct Counts {
 
 impl Model for Counts {
     ghost use Rattle.power_index.specs.Tables.{Tables};
-    ghost use Rattle.power_index.specs.Inner.Tables.{AreOfSomeList};
+    ghost use Rattle.power_index.specs.Inner.Tables.{AreKept};
 
     ghost Value = { Tables };
 
@@ -44,7 +44,7 @@ impl Model for Counts {
       each = c.each;
     } };
 
-    ghost invariant = { λ c. AreOfSomeList (record {
+    ghost invariant = { λ c. AreKept (record {
       members = c.members;
       ranks = c.ranks;
       all = c.all;

@@ -28,6 +28,7 @@ pub fn public_good_adds_up()
 
 /// The minimal winning coalitions of a game are such a list: there is one, none is empty, and there
 /// are at most 2^40.
+#[tactic(auto, using(crate::proofs::Shared::Minimal::can_be_counted))]
 pub fn minimal_coalitions_can_be_counted()
     ensures few { (g : GameView) → IsGame g → length (minimal_coalitions (votes_of g)) ≤ 2 ^ MEMBERS }
     ensures some { (g : GameView) → IsGame g → 0 < length (minimal_coalitions (votes_of g)) }

@@ -1,6 +1,5 @@
 pub mod Masks
-pub mod Ranges
 pub mod Minimal
-mod Names
+pub mod Names
 pub mod Ordered
-mod Sums
+pub mod Sums

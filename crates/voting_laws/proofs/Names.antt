@@ -1,5 +1,6 @@
 -- Names and rank places are distinct.
-use Rattle.std.proofs.Common.{◌≡◌, ◌∙◌, ℕ, ◌<◌, true, List, [], length, get_or, take, sym, ap, arith, inl, inr, nat_eq}
+use Rattle.std.proofs.Common.{◌≡◌, ◌∙◌, ℕ, ◌<◌, true, List, [], length, get_or, take, sym, ap, arith, nat_eq}
+use Rattle.std.proofs.lemmas.Grind.{common_steps}
 use Rattle.std.specs.Cmp.Lexicographic.{pointwise}
 use Rattle.std.proofs.lemmas.Bool.{cases_eq, cases_lt, both_ways}
 use Rattle.std.proofs.lemmas.List.{get_or-take, length-take}
@@ -10,7 +11,8 @@ use Rattle.council_game.specs.Ranks.{member_at}
 use Rattle.council_game.proofs.Shared.Games.{passed, position-none}
 use Rattle.council_game.proofs.Shared.Making.{ranks-are}
 
-pub distinct_places : (g : GameView) → IsGame g → (i j : ℕ) → i < length g.names → j < length g.names → get_or g.ranks i 0 ≡ get_or g.ranks j 0
+pub distinct_places : (g : GameView) → IsGame g → (i j : ℕ) → i < length g.names → j < length g.names
+    → get_or g.ranks i 0 ≡ get_or g.ranks j 0
     → i ≡ j
 distinct_places g game i j li lj same =
     let are = ranks-are g game in
@@ -29,11 +31,4 @@ none-before g game i j before below same =
 
 pub distinct_names : (g : GameView) → IsGame g → (i j : ℕ) → i < length g.names → j < length g.names
     → get_or g.names i [] ≡ get_or g.names j [] → i ≡ j
-distinct_names g game i j li lj same =
-    elim (cases_eq i j) [
-      | inl is ↦ is
-      | inr other ↦ elim (cases_lt i j) [
-        | inl lt ↦ absurd (none-before g game i j lt lj same)
-        | inr ge ↦ absurd (none-before g game j i (omega (arith, other, ge)) li (sym same))
-      ]
-    ]
+distinct_names g game i j li lj same = grind (arith, common_steps, cases_eq, cases_lt, none-before)

@@ -1,5 +1,6 @@
 -- Lowest terms keep the order of fractions, and tell them apart.
-use Rattle.std.proofs.Common.{◌≡◌, ◌∙◌, ℕ, ◌+◌, ◌*◌, ◌<◌, ◌≤◌, ap, sym, subst, arith, inl, inr}
+use Rattle.std.proofs.Common.{◌≡◌, ◌∙◌, ℕ, ◌*◌, ◌<◌, ◌≤◌, ap, sym, subst, arith}
+use Rattle.std.proofs.lemmas.Grind.{common_steps}
 use Rattle.std.specs.Ordering.{nat_cmp}
 use Rattle.std.proofs.lemmas.Bool.{cases_lt, cases_eq}
 use Rattle.std.proofs.Math.Nat.{mul-pos, mul-le-mul_right, eq_of_mul-eq-mul_right, lt_of_mul-lt-mul_right}
@@ -8,20 +9,11 @@ use Rattle.power_index.specs.Fractions.{SameFraction, fraction_cmp, lowest_terms
 use Rattle.power_index.proofs.Shared.LowestTerms.{lowest_terms-lowest, lowest_terms-only}
 
 less-times : (k x y : ℕ) → 0 < k → x < y → x * k < y * k
-less-times k x y pos lt =
-    let le : x + 1 ≤ y = omega arith in
-    let times : (x + 1) * k ≤ y * k = mul-le-mul_right k le in
-    omega (arith, times, pos)
+less-times k x y pos lt = grind (arith, common_steps, mul-le-mul_right)
 
 -- a common factor above 0 does not count
 scaled : (k x y : ℕ) → 0 < k → nat_cmp (x * k) (y * k) ≡ nat_cmp x y
-scaled k x y pos = elim (cases_lt x y) [
-  | inl lt ↦ let less = less-times k x y pos lt in grind (arith, nat_tests)
-  | inr ge ↦ elim (cases_eq x y) [
-    | inl same ↦ let e = ap (λ (n : ℕ). n * k) same in grind (arith, nat_tests)
-    | inr other ↦ let more = less-times k y x pos (omega (arith, ge, other)) in grind (arith, nat_tests)
-  ]
-]
+scaled k x y pos = grind (arith, common_steps, cases_eq, cases_lt, less-times, nat_tests)
 
 -- fractions that are the same numbers have the same order
 same-order : (a b c d A B C D : ℕ) → 0 < b → 0 < d → 0 < B → 0 < D → a * B ≡ A * b → c * D ≡ C * d
@@ -35,11 +27,7 @@ same-order a b c d A B C D pb pd pB pD e f =
     ∙ scaled (b * d) (A * D) (C * B) (mul-pos pb pd)
 
 pub lowest_terms_ordered : (p q : ℕ × ℕ) → 0 < p.1 → 0 < q.1 → fraction_cmp (lowest_terms p) (lowest_terms q) ≡ fraction_cmp p q
-lowest_terms_ordered p q pp pq =
-    let lp = lowest_terms-lowest p pp in
-    let lq = lowest_terms-lowest q pq in
-    same-order (lowest_terms p).0 (lowest_terms p).1 (lowest_terms q).0
-    (lowest_terms q).1 p.0 p.1 q.0 q.1 lp.positive lq.positive pp pq lp.same lq.same
+lowest_terms_ordered p q pp pq = grind (arith, common_steps, lowest_terms-lowest, same-order)
 
 -- a fraction that is the same as each of two shows that these are the same
 through : (a b c d l m : ℕ) → 0 < m → l * b ≡ a * m → l * d ≡ c * m → a * d ≡ c * b
@@ -66,6 +54,8 @@ lowest_from_same p q pp pq e =
       same = carried p.0 p.1 q.0 q.1 (lowest_terms p).0 (lowest_terms p).1 pp lp.same e;
       lowest = lp.lowest;
     })
+
+pub ruleset apart = (same_from_lowest, lowest_from_same)
 
 pub at_most_then_below : (p q r : ℕ × ℕ) → 0 < p.1 → p.0 * q.1 ≤ q.0 * p.1 → q.0 * r.1 < r.0 * q.1 → p.0 * r.1 < r.0 * p.1
 at_most_then_below p q r pos le lt = step p.0 p.1 q.0 q.1 r.0 r.1 pos le lt

@@ -1,15 +1,12 @@
 -- Indices in lowest terms add up to what the indices add up to.
 use Rattle.std.proofs.Common.{◌≡◌, ◌∙◌, ℕ, ◌+◌, ◌*◌, ◌<◌, List, [], ◌∷◌, length, map, ap, refl, arith}
-use Rattle.std.proofs.Math.Nat.{mul-pos, eq_of_mul-eq-mul_right}
+use Rattle.std.proofs.Math.Nat.{eq_of_mul-eq-mul_right}
 use Rattle.council_game.specs.Game.{GameView, IsGame, AreNonemptyCoalitions}
-use Rattle.council_game.proofs.Shared.Games.{votes-are}
 use Rattle.power_index.specs.Counting.{members}
 use Rattle.power_index.specs.Fractions.{pair_sum, AddUpToOne, SameFraction, lowest_terms}
-use Rattle.power_index.specs.Indices.{deegan_packel, public_good, sizes_of_member}
-use Rattle.power_index.proofs.Shared.AddUp.{all_pos, deegan_packel_adds_up, public_good_adds_up}
+use Rattle.power_index.specs.Indices.{deegan_packel, public_good}
+use Rattle.power_index.proofs.Shared.AddUp.{all_pos, deegan_packel_bottom, public_good_bottom, deegan_packel_adds_up, public_good_adds_up}
 use Rattle.power_index.proofs.Shared.LowestTerms.{lowest_terms-lowest}
-use Rattle.power_index.proofs.Shared.Members.{few-members, memberships, sizes-some, sizes-within}
-use Rattle.power_index.proofs.Shared.Units.{bottom_pos}
 
 -- sums of the same fractions are the same
 same-sum : (q r : ℕ → ℕ × ℕ) → ((i : ℕ) → SameFraction (r i) (q i)) → (is : List ℕ)
@@ -37,17 +34,6 @@ lowest-adds_up q is pos whole = record {
         let cross : s * u ≡ v * u = same ∙ ap (λ (n : ℕ). n * v) e ∙ omega arith in
         omega (arith, eq_of_mul-eq-mul_right u some s v cross)
 
-pub deegan_packel_bottom : (g : GameView) (list : List ℕ) (i : ℕ) → IsGame g → 0 < length list → AreNonemptyCoalitions g list
-    → 0 < (deegan_packel g list i).1
-unfolding deegan_packel
-deegan_packel_bottom g list i game some h =
-    mul-pos (bottom_pos (length g.names) (sizes_of_member g list i) (sizes-within g list i (votes-are g game).some)) some
-
-pub public_good_bottom : (g : GameView) (list : List ℕ) (i : ℕ) → IsGame g → 0 < length list → AreNonemptyCoalitions g list
-    → 0 < (public_good g list i).1
-unfolding public_good
-public_good_bottom g list i game some h = omega (arith, some, memberships g list game, sizes-some g list (few-members g game) h)
-
 pub lowest_deegan_packel : (g : GameView) (list : List ℕ) → IsGame g → 0 < length list → AreNonemptyCoalitions g list
     → AddUpToOne (map (λ i. lowest_terms (deegan_packel g list i)) (members g))
 lowest_deegan_packel g list game some h =
@@ -58,3 +44,7 @@ pub lowest_public_good : (g : GameView) (list : List ℕ) → IsGame g → 0 < l
     → AddUpToOne (map (λ i. lowest_terms (public_good g list i)) (members g))
 lowest_public_good g list game some h =
     lowest-adds_up (public_good g list) (members g) (λ i. public_good_bottom g list i game some h) (public_good_adds_up g list game some h)
+
+pub ruleset sums = (lowest_deegan_packel, lowest_public_good)
+
+pub ruleset bottoms = (deegan_packel_bottom, public_good_bottom)

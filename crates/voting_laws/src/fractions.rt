@@ -11,6 +11,7 @@ pub fn lowest_terms_keep_order()
 {}
 
 /// Fractions with bottoms above 0 have the same lowest terms exactly where they are the same number.
+#[tactic(auto, using(crate::proofs::Ordered::apart))]
 pub fn lowest_terms_tell_fractions_apart()
     ensures { (p q : ℕ × ℕ) → 0 < p.1 → 0 < q.1 →
         (lowest_terms p ≡ lowest_terms q) ↔ SameFraction p q }

@@ -20,12 +20,16 @@ prices_at ps i = slice_index_or ps i (record { from = [] })
 abbrev pub outlook_at : List Outlook → ℕ → Outlook
 outlook_at os i = slice_index_or os i (record { sums = record { from = [] }; prices = [] })
 
+-- members who are no vetoers keep to these prices: what they weigh by rule i for what they weigh by rule t
+abbrev pub PricesAre : Votes → List Vetoes → ℕ → ℕ → Prices → Type 0
+PricesAre v vs i t ps = (p c : ℕ) → p ≤ v.members →
+    IsPrice (price_at ps p) (free_from v (vetoes_at vs t) p c) (free_from v (vetoes_at vs i) p c)
+
 -- by rule i: what others than the vetoers bring from a place on is a sum of the table, and keeps to each price
 pub record OutlookIs (v : Votes) (vs : List Vetoes) (i : ℕ) (o : Outlook) : Type 0 where
   pub few : (p : ℕ) → p ≤ v.members → (sums_at o.sums p).count ≤ 8
   pub sums : (p c : ℕ) → p ≤ v.members → Covers (sums_at o.sums p) (free_from v (vetoes_at vs i) p c)
-  pub prices : (t p c : ℕ) → t < length v.rules → p ≤ v.members →
-      IsPrice (price_at (prices_at o.prices t) p) (free_from v (vetoes_at vs t) p c) (free_from v (vetoes_at vs i) p c)
+  pub prices : (t : ℕ) → t < length v.rules → PricesAre v vs i t (prices_at o.prices t)
 
 pub record AheadIs (v : Votes) (a : Ahead) : Type 0 where
   pub splits : SplitsAre v a.vetoes

@@ -1,6 +1,5 @@
 -- How far a walk has come, and what is left to it.
 use Rattle.std.specs.Prelude.{ℕ, ◌+◌, ◌-◌, ◌*◌, ◌/◌, ◌%◌, ◌^◌, ◌≡◌, ◌≤◌, ◌<◌, false, if◌then◌else◌, ltb, List, [], ◌∷◌, length, take}
-use Rattle.std.specs.Prelude.{Option, Some, None}
 use Rattle.council_game.specs.Votes.{Votes, IsVotes}
 use Rattle.mwc_walk.specs.declared.cursor.Cursor.{Cursor}
 use Rattle.mwc_walk.specs.declared.step.Step.{Step}
@@ -103,11 +102,6 @@ abbrev pub sought : Step → Seek
 sought On = seek.NotYet
 sought (Give m) = seek.Found m
 sought End = seek.End
-
--- steps up to the next coalition, or to the end
-abbrev pub Runs : Votes → Cursor → Option ℕ → Cursor → Type 0
-Runs v a (Some m) b = GivesNext v a m b
-Runs v a None b = FindsEnd v a b
 
 -- where a walk starts: the whole slice is left, and only the fixed places are visited
 pub record Starts (v : Votes) (k j : ℕ) (c : Cursor) : Type 0 where

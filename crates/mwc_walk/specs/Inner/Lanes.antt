@@ -1,6 +1,9 @@
 -- The tables of the walk, one lane for each rule.
-use Rattle.std.specs.Prelude.{ℕ, ◌+◌, ◌-◌, Bool, nat_le, nat_lt, slice_index}
+use Rattle.std.specs.Prelude.{ℕ, ◌+◌, ◌-◌, [], Bool, nat_le, nat_lt, slice_index}
 use Rattle.mwc_walk.specs.declared.lane.Lane.{Lane}
+
+abbrev pub no_lane : Lane
+no_lane = record { quota = 0; sum = 0; weightless = 0; weights = []; rest = [] }
 
 -- with what may still come from place p on, the quota can be met
 abbrev pub lane_reaches : ℕ → Lane → Bool

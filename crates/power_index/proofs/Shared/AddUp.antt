@@ -11,7 +11,7 @@ use Rattle.power_index.specs.Fractions.{unit_sum, pair_sum, AddUpToOne}
 use Rattle.power_index.specs.Indices.{deegan_packel, public_good, sizes_of_member}
 use Rattle.power_index.proofs.Shared.Sums.{exchange, sum-filter, sum-times}
 use Rattle.power_index.proofs.Shared.Members.{few-members, members-of, memberships, sizes-some, sizes-within, size-pos, size-le}
-use Rattle.power_index.proofs.Shared.Units.{over_common, each_divides, divides, bottom_pos}
+use Rattle.power_index.proofs.Units.{over_common, each_divides, divides, bottom_pos}
 use Rattle.power_index.specs.Tables.{denominator}
 
 -- pairs that are w i over one bottom k add up to the sum of w over k
@@ -69,6 +69,17 @@ weights g list game h =
     each : (c : ℕ) → sum_by (λ i. cond (contains g i c) 1 0 * unit c) (members g) ≡ size_of g c * unit c
     each c = sum-times (λ i. cond (contains g i c) 1 0) (unit c) (members g) ∙ ap (λ n. n * unit c) (members-of g game c)
 
+-- the bottoms of the indices are above 0
+module _ (g : GameView) (list : List ℕ) (i : ℕ) (game : IsGame g) (some : 0 < length list) (h : AreNonemptyCoalitions g list) where
+  pub deegan_packel_bottom : 0 < (deegan_packel g list i).1
+  unfolding deegan_packel
+  deegan_packel_bottom = mul-pos (bottom_pos (length g.names) (sizes_of_member g list i) (sizes-within g list i (votes-are g game).some))
+      some
+
+  pub public_good_bottom : 0 < (public_good g list i).1
+  unfolding public_good
+  public_good_bottom = omega (arith, some, memberships g list game, sizes-some g list (few-members g game) h)
+
 pub deegan_packel_adds_up : (g : GameView) (list : List ℕ) → IsGame g → 0 < length list → AreNonemptyCoalitions g list
     → AddUpToOne (map (deegan_packel g list) (members g))
 unfolding deegan_packel
@@ -80,7 +91,7 @@ deegan_packel_adds_up g list game some h =
     (over_common denominator
     (sizes_of_member g list i)
     (each_divides (length g.names) (sizes_of_member g list i) (few-members g game) (sizes-within g list i (votes-are g game).some))))
-    (λ i. mul-pos (bottom_pos (length g.names) (sizes_of_member g list i) (sizes-within g list i (votes-are g game).some)) some)
+    (λ i. deegan_packel_bottom g list i game some h)
     (weights g list game h ∙ omega arith)
   where
     scale : (w b a : ℕ) → w * b ≡ a * denominator → a * (denominator * length list) ≡ w * (b * length list)
@@ -90,8 +101,5 @@ pub public_good_adds_up : (g : GameView) (list : List ℕ) → IsGame g → 0 < 
     → AddUpToOne (map (public_good g list) (members g))
 unfolding public_good
 public_good_adds_up g list game some h =
-    adds_up (sum_by (λ j. count_of_member g j list) (members g)) (public_good g list) (λ i. count_of_member g i list) (members g) all-some
-    (λ i. refl) (λ i. all-some) refl
-  where
-    all-some : 0 < sum_by (λ j. count_of_member g j list) (members g)
-    all-some = omega (arith, memberships g list game, sizes-some g list (few-members g game) h)
+    adds_up (sum_by (λ j. count_of_member g j list) (members g)) (public_good g list) (λ i. count_of_member g i list) (members g)
+    (public_good_bottom g list 0 game some h) (λ i. refl) (λ i. public_good_bottom g list i game some h) refl

@@ -1,5 +1,6 @@
 -- The greatest common divisor by search is the one that Euclid's algorithm finds, and what it gives is in lowest terms.
 use Rattle.std.proofs.Common.{◌≡◌, ◌≢◌, ℕ, zero, suc, ◌/◌, ◌%◌, ◌<◌, ◌≤◌, true, false, sym, ap, subst, arith}
+use Rattle.std.proofs.lemmas.Grind.{common_steps}
 use Rattle.std.specs.Int.{IsGcd, ◌∣◌}
 use Rattle.std.proofs.lemmas.Nat.Gcd.{IsGcd-from_zero, IsGcd-from_mod, le_from_IsGcd, le_of_dvd, dvd_of_mod-eq-zero, mod-eq-zero_of_dvd}
 use Rattle.std.proofs.lemmas.Bool.{cond_both, both_ways}
@@ -52,11 +53,7 @@ some-gcd (suc n) a (suc b) le =
 
 -- dividing by the greatest common divisor gives lowest terms
 pub divided-is_lowest : (a b g : ℕ) → 0 < b → IsGcd a b g → IsLowestOf (a, b) (a / g, b / g)
-divided-is_lowest a b g pos h = record {
-  positive = quotient-pos b g pos h.1;
-  same = same_fraction a b g h.0 h.1;
-  lowest = coprime a b g (gcd-pos a b g pos h) h;
-}
+divided-is_lowest a b g pos h = grind (arith, common_steps, coprime, gcd-pos, quotient-pos, same_fraction)
 
 pub divided-is_terms : (a b g : ℕ) → 0 < b → IsGcd a b g → ◌≡◌ {A = ℕ × ℕ} (a / g, b / g) (lowest_terms (a, b))
 unfolding lowest_terms

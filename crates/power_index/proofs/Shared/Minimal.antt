@@ -1,5 +1,6 @@
 -- The minimal winning coalitions of a game can be counted.
 use Rattle.std.proofs.Common.{◌^◌, ◌<◌, ◌≤◌, length, arith}
+use Rattle.std.proofs.lemmas.Grind.{common_steps}
 use Rattle.std.proofs.Math.Pow.{pow_mono}
 use Rattle.council_game.specs.Votes.{minimal_coalitions}
 use Rattle.council_game.specs.Game.{GameView, IsGame, votes_of, AreNonemptyCoalitions}
@@ -11,13 +12,9 @@ pub minimal-some : (g : GameView) → IsGame g → 0 < length (minimal_coalition
 minimal-some g game = (listing-is (votes_of g) (votes-are g game)).some
 
 pub minimal-are-coalitions : (g : GameView) → IsGame g → AreNonemptyCoalitions g (minimal_coalitions (votes_of g))
-minimal-are-coalitions g game k d lt =
-    let listing = listing-is (votes_of g) (votes-are g game) in
-    let not-empty = listing.none_empty k d lt in
-    (omega (arith, not-empty), listing.below k d lt)
+minimal-are-coalitions g game k d lt = grind (arith, common_steps, listing-is, votes-are)
 
 pub minimal-few : (g : GameView) → IsGame g → length (minimal_coalitions (votes_of g)) ≤ 2 ^ 40
-minimal-few g game =
-    let listing = listing-is (votes_of g) (votes-are g game) in
-    let up : 2 ^ length g.names ≤ 2 ^ 40 = pow_mono (few-members g game) in
-    omega (arith, listing.few, up)
+minimal-few g game = grind (arith, common_steps, few-members, listing-is, pow_mono, votes-are)
+
+pub ruleset can_be_counted = (minimal-some, minimal-are-coalitions, minimal-few)

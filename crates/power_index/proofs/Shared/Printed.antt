@@ -1,11 +1,12 @@
 -- The fractions that the code makes, as the indices.
 use Rattle.std.proofs.Common.{◌≡◌, ◌∙◌, ℕ, ◌*◌, ◌<◌, ◌≤◌, List, length, sym, ap, arith}
+use Rattle.std.proofs.lemmas.Grind.{common_steps}
 use Rattle.std.proofs.Math.Nat.{mul-pos}
 use Rattle.council_game.specs.Game.{GameView}
 use Rattle.power_index.specs.Tables.{Tables, denominator, AreCounts, table_total, table_memberships, table_deegan_packel, table_public_good}
 use Rattle.power_index.specs.Fractions.{IsLowestOf, lowest_terms}
 use Rattle.power_index.specs.Indices.{deegan_packel, public_good, sizes_of_member}
-use Rattle.power_index.proofs.Shared.Units.{mean, bottom_pos}
+use Rattle.power_index.proofs.Units.{mean, bottom_pos}
 use Rattle.power_index.proofs.Weights.{within, weight, memberships-are}
 use Rattle.power_index.proofs.Shared.LowestTerms.{lowest_terms-lowest, lowest_terms-only}
 
@@ -33,11 +34,7 @@ public-good-bottom g list t i some h = let e = memberships-are g list t h in ome
 pub public-good-is : (g : GameView) (list : List ℕ) (t : Tables) (i top bottom : ℕ) → i < t.members → AreCounts g list t
     → IsLowestOf (table_public_good t i) (top, bottom) → IsLowestOf (public_good g list i) (top, bottom)
 unfolding public_good
-public-good-is g list t i top bottom lt h is = record {
-  positive = is.positive;
-  same = ap (λ n. top * n) (sym (memberships-are g list t h)) ∙ (is.same ∙ ap (λ n. n * bottom) (h.of_member i lt));
-  lowest = is.lowest;
-}
+public-good-is g list t i top bottom lt h is = grind (arith, common_steps, memberships-are)
 
 -- in lowest terms the indices over tables are those over each list with these counts
 pub deegan-packel-same : (g : GameView) (list : List ℕ) (t : Tables) (i : ℕ) → i < t.members → t.members ≤ 40 → 1 ≤ table_total t

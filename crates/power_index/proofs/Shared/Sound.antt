@@ -1,19 +1,20 @@
 -- Tables that hold the tallies of a list hold its counts, and what holds of counts.
 use Rattle.std.proofs.Common.{◌≡◌, ◌∙◌, ◌==◌, ◌&&◌, ℕ, ◌+◌, ◌^◌, ◌<◌, ◌≤◌, List, [], ◌∷◌, ◌++◌, length, get_or, replicate, cond, true, sym, ap, refl, arith, subst, suc, length-append}
+use Rattle.std.proofs.lemmas.Grind.{common_steps}
 use Rattle.std.specs.List.{All, filter}
 use Rattle.std.proofs.lemmas.List.{get_or-replicate}
-use Rattle.std.proofs.lemmas.List.Elements.{All-append, All-push}
+use Rattle.std.proofs.lemmas.List.Elements.{All-append}
 use Rattle.council_game.specs.Votes.{has, size}
 use Rattle.council_game.specs.Game.{GameView, IsGame, AreNonemptyCoalitions}
 use Rattle.council_game.proofs.Shared.Games.{votes-are}
 use Rattle.council_game.proofs.Shared.Making.{ranks-are}
 use Rattle.power_index.specs.declared.tally.Tally.{Tally}
 use Rattle.power_index.specs.Counting.{contains, size_of}
-use Rattle.power_index.specs.Tables.{Tables, IsTallyOf, AreTalliesOf, AreTallies, AreOfOneGame, AreCounts, AreSound, no_tally, tally_total, table_total}
-use Rattle.power_index.specs.Inner.Tables.{AreOfSomeList, IsJoined, with_one}
+use Rattle.power_index.specs.Tables.{Tables, IsTallyOf, AreTallies, AreOfOneGame, AreCounts, AreSound, no_tally, tally_total, table_total}
+use Rattle.power_index.specs.Inner.Tables.{AreOfSomeList, AreKept, IsJoined, with_one}
 use Rattle.power_index.proofs.Shared.Sums.{length-filter-le}
 use Rattle.power_index.proofs.Shared.Members.{few-members, memberships, sizes-some, size-le}
-use Rattle.power_index.proofs.Shared.Tallies.{tallies-total, tallies-few, tallies-more, tallies-join}
+use Rattle.power_index.proofs.Shared.Tallies.{tally-total, tally-few, tally-more, tally-join}
 use Rattle.power_index.proofs.Weights.{weight-light, memberships-are}
 
 filter-all : (list : List ℕ) → length (filter (λ (c : ℕ). true) list) ≡ length list
@@ -21,9 +22,9 @@ filter-all [] = refl
 filter-all (c ∷ cs) = ap (λ n. suc n) (filter-all cs)
 
 -- the tally of a member's coalitions
-member-tallies : (g : GameView) (list : List ℕ) (t : Tables) (i : ℕ) → i < t.members → AreTallies g list t
+member-tally : (g : GameView) (list : List ℕ) (t : Tables) (i : ℕ) → i < t.members → AreTallies g list t
     → IsTallyOf (length g.names) (contains g i) list (get_or t.each (get_or t.ranks i 0) no_tally)
-member-tallies g list t i lt h =
+member-tally g list t i lt h =
     subst (λ (p : ℕ). IsTallyOf (length g.names) (contains g i) list (get_or t.each p no_tally)) (sym (h.of_game.ranks i lt))
     (h.tallies.each (get_or g.ranks i 0) ((ranks-are g h.of_game.is_game).place_below i (omega (arith, h.of_game.members))))
 
@@ -32,7 +33,7 @@ pub total-is : (g : GameView) (list : List ℕ) (t : Tables) → AreTallies g li
 total-is g list t h =
     let few = few-members g h.of_game.is_game in
     ap (λ (n : ℕ). tally_total n t.all) h.of_game.members
-    ∙ (tallies-total (length g.names) (λ c. true) list t.all few h.tallies.all ∙ filter-all list)
+    ∙ (tally-total (length g.names) (λ c. true) list t.all few h.tallies.all ∙ filter-all list)
 
 pub tallies-are_counts : (g : GameView) (list : List ℕ) (t : Tables) → AreTallies g list t → AreCounts g list t
 tallies-are_counts g list t h =
@@ -42,8 +43,8 @@ tallies-are_counts g list t h =
       total = total-is g list t h;
       of_size = λ s le. h.tallies.all.sizes s (omega (arith, h.of_game.members));
       of_member = λ i lt. ap (λ (n : ℕ). tally_total n (get_or t.each (get_or t.ranks i 0) no_tally)) h.of_game.members
-          ∙ tallies-total (length g.names) (contains g i) list _ few (member-tallies g list t i lt h);
-      of_member_size = λ i s lt le. (member-tallies g list t i lt h).sizes s (omega (arith, h.of_game.members));
+          ∙ tally-total (length g.names) (contains g i) list _ few (member-tally g list t i lt h);
+      of_member_size = λ i s lt le. (member-tally g list t i lt h).sizes s (omega (arith, h.of_game.members));
     }
 
 -- what holds of the tables of some list
@@ -73,30 +74,17 @@ some-sound t h =
       light = λ i lt. weight-light h.game h.list t i lt counts;
     }
 
--- a member's place is one of the places
-some-place : (t : Tables) (i : ℕ) → i < t.members → AreOfSomeList t → get_or t.ranks i 0 < t.members
-some-place t i lt h =
-    let below = (ranks-are h.game h.tallies.of_game.is_game).place_below i (omega (arith, h.tallies.of_game.members)) in
-    omega (arith, below, h.tallies.of_game.ranks i lt, h.tallies.of_game.members)
-
--- there is room for a member and its place
-pub some-room : (t u : Tables) (i : ℕ) → t ≡ u → i < u.members → AreOfSomeList t → (i < 40) × (get_or t.ranks i 0 < 40)
-some-room t u i same lt h =
-    let own : i < t.members = rw same lt in
-    let few = (some-sound t h).few_members in
-    (omega (arith, own, few), omega (arith, some-place t i own h, few))
-
--- no number of a place is greater than the list is long
-pub some-of_place : (t : Tables) (p s : ℕ) → p < t.members → s ≤ 40 → AreOfSomeList t → get_or (get_or t.each p no_tally).sizes s 0 ≤ 2 ^ 40
-some-of_place t p s lt le h =
-    let few = tallies-few (length h.game.names) (has (length h.game.names) p) h.list (get_or t.each p no_tally) s le
-    (h.tallies.tallies.each p (omega (arith, h.tallies.of_game.members))) in
-    omega (arith, few, h.few)
-
-pub some-of_all : (t : Tables) (s : ℕ) → s ≤ 40 → AreOfSomeList t → get_or t.all.sizes s 0 ≤ 2 ^ 40
-some-of_all t s le h =
-    let few = tallies-few (length h.game.names) (λ c. true) h.list t.all s le h.tallies.tallies.all in
-    omega (arith, few, h.few)
+pub kept : {t : Tables} → AreOfSomeList t → AreKept t
+kept {t} h = record {
+  of_some = h;
+  sound = some-sound t h;
+  places = λ i lt. (let below = (ranks-are h.game h.tallies.of_game.is_game).place_below i (omega (arith, h.tallies.of_game.members)) in
+      omega (arith, below, h.tallies.of_game.ranks i lt, h.tallies.of_game.members));
+  all_few = λ s le. omega (arith, tally-few (length h.game.names) (λ c. true) h.list t.all s le h.tallies.tallies.all, h.few);
+  each_few = λ p s lt le. (let few = tally-few (length h.game.names) (has (length h.game.names) p) h.list (get_or t.each p no_tally) s le
+      (h.tallies.tallies.each p (omega (arith, h.tallies.of_game.members))) in
+      omega (arith, few, h.few));
+}
 
 -- no coalition is counted
 pub none-hold : (g : GameView) (m : ℕ) (ranks : List ℕ) (all one : Tally) → IsGame g → m ≡ length g.names
@@ -123,32 +111,11 @@ pub more-hold : (g : GameView) (list : List ℕ) (t : Tables) (c s : ℕ) (all :
     → get_or each p no_tally ≡ cond (has t.members p c) (with_one (get_or t.each p no_tally) s) (get_or t.each p no_tally))
     → AreTallies g list t → AreTallies g (list ++ c ∷ []) (record { members = t.members; ranks = t.ranks; all = all; each = each })
 more-hold g list t c s all each s-is all-is each-is h =
-    let few = few-members g h.of_game.is_game in
-    let same : s ≡ size (length g.names) c = s-is ∙ ap (λ (n : ℕ). size n c) h.of_game.members in
-    let le = size-le (length g.names) c in
-    let small : s ≤ 40 = omega (arith, same, le, few) in
-    record {
-      of_game = record { is_game = h.of_game.is_game; members = h.of_game.members; ranks = h.of_game.ranks };
-      tallies = record {
-        all = tallies-more (length g.names) (λ c. true) list c s t.all all same small all-is h.tallies.all;
-        each = λ p lt. tallies-more (length g.names) (has (length g.names) p) list c s (get_or t.each p no_tally)
-            (get_or each p no_tally) same small
-            (each-is p (omega (arith, h.of_game.members, lt))
-            ∙ ap (λ (n : ℕ). cond (has n p c) (with_one (get_or t.each p no_tally) s) (get_or t.each p no_tally)) h.of_game.members)
-            (h.tallies.each p lt);
-      };
-    }
+    grind (arith, common_steps, few-members, size-le, tally-more)
 
 pub more-some : (t u : Tables) (c : ℕ) (h : AreOfSomeList t) → 0 < c → c < 2 ^ t.members → table_total t < 2 ^ 40
     → AreTallies h.game (h.list ++ c ∷ []) u → AreOfSomeList u
-more-some t u c h some below room more = record {
-  game = h.game;
-  list = h.list ++ c ∷ [];
-  coalitions = All-push (λ c. (0 < c) × (c < 2 ^ length h.game.names)) h.list c h.coalitions
-      (some, subst (λ (n : ℕ). c < 2 ^ n) h.tallies.of_game.members below);
-  few = (let total = total-is h.game h.list t h.tallies in let long = length-append h.list (c ∷ []) in omega (arith, total, long, room));
-  tallies = more;
-}
+more-some t u c h some below room more = grind (arith, common_steps, length-append, total-is)
 
 -- two lists, one after the other
 pub join-hold : (g : GameView) (first second : List ℕ) (s t : Tables) (all : Tally) (each : List Tally) → length all.sizes ≡ 41
@@ -156,29 +123,12 @@ pub join-hold : (g : GameView) (first second : List ℕ) (s t : Tables) (all : T
     → ((p : ℕ) → p < s.members → IsJoined (get_or s.each p no_tally) (get_or t.each p no_tally) (get_or each p no_tally))
     → AreTallies g first s
     → AreTallies g second t → AreTallies g (first ++ second) (record { members = s.members; ranks = s.ranks; all = all; each = each })
-join-hold g first second s t all each long sum each-is a b = record {
-  of_game = record { is_game = a.of_game.is_game; members = a.of_game.members; ranks = a.of_game.ranks };
-  tallies = record {
-    all = tallies-join (length g.names) (λ c. true) first second s.all t.all all long sum a.tallies.all b.tallies.all;
-    each = λ p lt. (let one =
-        each-is p (omega (arith, lt, a.of_game.members)) in tallies-join (length g.names)
-        (has (length g.names) p) first second _ _ _ one.long one.sizes (a.tallies.each p lt) (b.tallies.each p lt));
-  };
-}
+join-hold g first second s t all each long sum each-is a b = grind (arith, common_steps, tally-join)
 
 -- the tables of a list of a game are those of the list in another game with the same rank places
 pub of-first : (s t : Tables) (g g' : GameView) (first second : List ℕ) → AreOfOneGame s t → AreTallies g first s → AreTallies g' second t
     → AreTallies g second t
-of-first s t g g' first second one a b =
-    let names : length g'.names ≡ length g.names = omega (arith, a.of_game.members, b.of_game.members, one.members) in
-    record {
-      of_game = record {
-        is_game = a.of_game.is_game;
-        members = b.of_game.members ∙ names;
-        ranks = λ i lt. (let below : i < s.members = omega (arith, lt, one.members) in one.ranks i below ∙ a.of_game.ranks i below);
-      };
-      tallies = subst (λ (n : ℕ). AreTalliesOf n second t) names b.tallies;
-    }
+of-first s t g g' first second one a b = grind (arith, common_steps)
 
 pub join-some : (s t u : Tables) (a : AreOfSomeList s) (b : AreOfSomeList t) → AreOfOneGame s t → table_total s + table_total t ≤ 2 ^ 40
     → (AreTallies a.game b.list t → AreTallies a.game (a.list ++ b.list) u) → AreOfSomeList u
@@ -197,9 +147,7 @@ join-some s t u a b one room made =
 
 -- what was counted in all
 pub more-total : (t u : Tables) (c : ℕ) (h : AreOfSomeList t) → AreTallies h.game (h.list ++ c ∷ []) u → table_total u ≡ table_total t + 1
-more-total t u c h more =
-    let new = total-is h.game (h.list ++ c ∷ []) u more in
-    omega (arith, total-is h.game h.list t h.tallies, new, length-append h.list (c ∷ []))
+more-total t u c h more = grind (arith, common_steps, length-append, total-is)
 
 pub join-total : (s t u : Tables) (a : AreOfSomeList s) (b : AreOfSomeList t) → AreOfOneGame s t
     → (AreTallies a.game b.list t → AreTallies a.game (a.list ++ b.list) u) → table_total u ≡ table_total s + table_total t
@@ -209,7 +157,4 @@ join-total s t u a b one made =
     omega (arith, total-is a.game a.list s a.tallies, total-is b.game b.list t b.tallies, both, length-append a.list b.list)
 
 pub same-game : (s t u : Tables) → AreOfOneGame s t → AreOfOneGame t u → AreOfOneGame s u
-same-game s t u a b = record {
-  members = b.members ∙ a.members;
-  ranks = λ i lt. b.ranks i (omega (arith, lt, a.members)) ∙ a.ranks i lt;
-}
+same-game s t u a b = grind (arith, common_steps)

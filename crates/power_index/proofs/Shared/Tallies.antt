@@ -1,5 +1,6 @@
 -- A tally of a list, one coalition more, two lists together, and what its sizes add up to.
-use Rattle.std.proofs.Common.{◌≡◌, ◌∙◌, ◌==◌, ◌&&◌, ℕ, ◌+◌, ◌*◌, ◌<◌, ◌≤◌, List, [], ◌∷◌, ◌++◌, length, get_or, set, cond, Bool, true, false, sym, ap, refl, arith, zero, suc, get_or-set_same, get_or-set_other, length-set, length-append, replicate, inl, inr, subst}
+use Rattle.std.proofs.Common.{◌≡◌, ◌∙◌, ◌==◌, ◌&&◌, ℕ, ◌+◌, ◌*◌, ◌<◌, ◌≤◌, List, [], ◌∷◌, ◌++◌, length, get_or, set, cond, Bool, sym, refl, arith, zero, suc, get_or-set_same, get_or-set_other, length-set, length-append, replicate}
+use Rattle.std.proofs.lemmas.Grind.{common_steps}
 use Rattle.std.specs.List.{filter}
 use Rattle.std.proofs.lemmas.List.Elements.{filter-append}
 use Rattle.std.proofs.lemmas.List.Recursion.{is_sum_by}
@@ -22,60 +23,33 @@ get_or-zeros (suc n) (suc s) = get_or-zeros n s
 length-filter-push : (q : ℕ → Bool) (list : List ℕ) (c : ℕ) → length (filter q (list ++ c ∷ [])) ≡ length (filter q list) + cond (q c) 1 0
 length-filter-push q list c = simp length-filter (sum_by_push (λ x. cond (q x) 1 0) list c)
 
-pub tallies-none : (n : ℕ) (p : ℕ → Bool) (t : Tally) → length t.sizes ≡ 41 → ((s : ℕ) → get_or t.sizes s 0 ≡ 0) → IsTallyOf n p [] t
-tallies-none n p t long sizes = record { long = long; sizes = λ s _. sizes s }
+pub tally-none : (n : ℕ) (p : ℕ → Bool) (t : Tally) → length t.sizes ≡ 41 → ((s : ℕ) → get_or t.sizes s 0 ≡ 0) → IsTallyOf n p [] t
+tally-none n p t long sizes = record { long = long; sizes = λ s _. sizes s }
 
 -- one more at place k
 bumped : (xs : List ℕ) (k s : ℕ) → k < length xs → get_or (set xs k (get_or xs k 0 + 1)) s 0 ≡ get_or xs s 0 + cond (k == s) 1 0
-bumped xs k s lt = elim (cases_eq k s) [
-  | inl e ↦ grind (arith, nat_tests, get_or-set_same xs k (get_or xs k 0 + 1) 0 lt)
-  | inr ne ↦ grind (arith, nat_tests, get_or-set_other xs k s (get_or xs k 0 + 1) 0 (λ (q : s ≡ k). ne (sym q)))
-]
+bumped xs k s lt = grind (arith, common_steps, cases_eq, get_or-set_other, get_or-set_same, nat_tests)
 
 -- one coalition more, which passes or not
-pub tallies-more : (n : ℕ) (p : ℕ → Bool) (list : List ℕ) (c s : ℕ) (t v : Tally) → s ≡ size n c → s ≤ 40 → v ≡ cond (p c) (with_one t s) t
+pub tally-more : (n : ℕ) (p : ℕ → Bool) (list : List ℕ) (c s : ℕ) (t v : Tally) → s ≡ size n c → s ≤ 40 → v ≡ cond (p c) (with_one t s) t
     → IsTallyOf n p list t → IsTallyOf n p (list ++ c ∷ []) v
-tallies-more n p list c s t v is small v-is h = subst (IsTallyOf n p (list ++ c ∷ [])) (sym v-is) (cases (p c) refl)
-  where
-    more : (b : Bool) → p c ≡ b → (k : ℕ)
-        → length (filter (λ x. p x && (size n x == k)) (list ++ c ∷ [])) ≡ length (filter (λ x. p x && (size n x == k)) list) + cond
-        (b && (s == k)) 1 0
-    more b e k =
-        length-filter-push (λ x. p x && (size n x == k)) list c
-        ∙ (λ i. length (filter (λ x. p x && (size n x == k)) list) + cond (e i && (sym is i == k)) 1 0)
-
-    cases : (b : Bool) → p c ≡ b → IsTallyOf n p (list ++ c ∷ []) (cond b (with_one t s) t)
-    cases true e = record {
-      long = length-set t.sizes s (get_or t.sizes s 0 + 1) ∙ h.long;
-      sizes = λ k le. omega (arith, bumped t.sizes s k (omega (arith, h.long)), h.sizes k le, more true e k);
-    }
-    cases false e = record { long = h.long; sizes = λ k le. omega (arith, h.sizes k le, more false e k) }
+tally-more n p list c s t v is small v-is h = grind (arith, common_steps, bumped, length-filter-push, length-set)
 
 -- two lists, one after the other
-pub tallies-join : (n : ℕ) (p : ℕ → Bool) (first second : List ℕ) (s t u : Tally) → length u.sizes ≡ 41
+pub tally-join : (n : ℕ) (p : ℕ → Bool) (first second : List ℕ) (s t u : Tally) → length u.sizes ≡ 41
     → ((k : ℕ) → k ≤ 40 → get_or u.sizes k 0 ≡ get_or s.sizes k 0 + get_or t.sizes k 0)
     → IsTallyOf n p first s → IsTallyOf n p second t → IsTallyOf n p (first ++ second) u
-tallies-join n p first second s t u long sum a b = record {
-  long = long;
-  sizes = λ k le.
-      (let of_size : ℕ → Bool = λ x. p x && (size n x == k) in
-      let both = ap (λ (l : List ℕ). length l) (filter-append of_size first second)
-      ∙ length-append (filter of_size first) (filter of_size second) in
-      let one = a.sizes k le in
-      let other = b.sizes k le in
-      let here = sum k le in
-      omega (arith, both, one, other, here));
-}
+tally-join n p first second s t u long sum a b = grind (arith, common_steps, filter-append, length-append)
 
 -- no number of a tally is greater than the list is long
-pub tallies-few : (n : ℕ) (p : ℕ → Bool) (list : List ℕ) (t : Tally) (s : ℕ) → s ≤ 40 → IsTallyOf n p list t
+pub tally-few : (n : ℕ) (p : ℕ → Bool) (list : List ℕ) (t : Tally) (s : ℕ) → s ≤ 40 → IsTallyOf n p list t
     → get_or t.sizes s 0 ≤ length list
-tallies-few n p list t s le h = let a = h.sizes s le in let b = length-filter-le (λ c. p c && (size n c == s)) list in omega (arith, a, b)
+tally-few n p list t s le h = let a = h.sizes s le in let b = length-filter-le (λ c. p c && (size n c == s)) list in omega (arith, a, b)
 
 -- the sizes of a tally add up to how many pass
-pub tallies-total : (n : ℕ) (p : ℕ → Bool) (list : List ℕ) (t : Tally) → n ≤ 40 → IsTallyOf n p list t
+pub tally-total : (n : ℕ) (p : ℕ → Bool) (list : List ℕ) (t : Tally) → n ≤ 40 → IsTallyOf n p list t
     → tally_total n t ≡ length (filter p list)
-tallies-total n p list t few h =
+tally-total n p list t few h =
     sum-range (λ s. get_or t.sizes s 0) (λ s. length (filter (λ c. p c && (size n c == s)) list) * 1) 0 (n + 1)
     (λ s _ lt. omega (arith, h.sizes s (omega arith)))
     ∙ sum-by_size (λ s. 1) (size n) p 0 (n + 1) list (λ c _. (omega arith, omega (arith, size-le n c)))

@@ -1,9 +1,9 @@
 -- Tables of counts, and when they hold the counts of a list of coalitions: what only proofs and private functions need.
-use Rattle.std.specs.Prelude.{ℕ, ◌+◌, ◌^◌, ◌≡◌, ◌≤◌, List, length, slice_index, slice_set}
+use Rattle.std.specs.Prelude.{ℕ, ◌+◌, ◌^◌, ◌≡◌, ◌≤◌, ◌<◌, List, length, slice_index, slice_index_or, slice_set}
 use Rattle.coalitions.specs.declared.limits.TheConstants.{MEMBERS, SIZES}
 use Rattle.council_game.specs.Game.{GameView, AreNonemptyCoalitions}
 use Rattle.power_index.specs.declared.tally.Tally.{Tally}
-use Rattle.power_index.specs.Tables.{Tables, AreTallies}
+use Rattle.power_index.specs.Tables.{Tables, AreTallies, AreSound, no_tally}
 
 -- a tally with one coalition more, of size s
 abbrev pub with_one : Tally → ℕ → Tally
@@ -22,3 +22,12 @@ pub record AreOfSomeList (t : Tables) : Type 0 where
   pub coalitions : AreNonemptyCoalitions game list
   pub few : length list ≤ 2 ^ MEMBERS
   pub tallies : AreTallies game list t
+
+-- what all counts keep
+pub record AreKept (t : Tables) : Type 0 where
+  pub of_some : AreOfSomeList t
+  pub sound : AreSound t
+  pub places : (i : ℕ) → i < t.members → slice_index t.ranks i < t.members
+  pub all_few : (s : ℕ) → s ≤ MEMBERS → slice_index t.all.sizes s ≤ 2 ^ MEMBERS
+  pub each_few : (p s : ℕ) → p < t.members → s ≤ MEMBERS →
+      slice_index (slice_index_or t.each p no_tally).sizes s ≤ 2 ^ MEMBERS

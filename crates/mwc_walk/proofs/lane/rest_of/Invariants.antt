@@ -1,8 +1,6 @@
-use Rattle.std.proofs.Common.{◌≡◌, ℕ, ◌≤◌, slice_index, drop, take, sum, length}
+use Rattle.std.proofs.Common.{◌≡◌, drop, take, sum}
+use Rattle.mwc_walk.proofs.Filled.{FilledFrom}
 use Rattle.mwc_walk.proofs.lane.rest_of.Given as goal
 
 abbrev pub invariant-loop-place : goal.invariant-loop-place
-invariant-loop-place l = record {
-  long : length l.rest ≡ 41;
-  done : (q : ℕ) → l.place ≤ q → q ≤ l.members → slice_index l.rest q ≡ sum (drop q (take l.members l.weights));
-}
+invariant-loop-place l = FilledFrom (λ q r. r ≡ sum (drop q (take l.members l.weights))) 0 41 l.members l.place l.rest

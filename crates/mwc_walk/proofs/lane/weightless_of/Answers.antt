@@ -1,7 +1,7 @@
 use mir.Val.{bool_byte}
 use Rattle.std.proofs.Common.{◌≡◌, ◌==◌, ◌+◌, ◌*◌, ◌<◌, ℕ, Bool, true, false, get_or, refl, ◌∙◌, arith, below_more}
 use Rattle.council_game.specs.Votes.{has}
-use Rattle.mwc_walk.proofs.Masks.{next-digit}
+use Rattle.mwc_walk.proofs.Spared.{next-digit}
 use Rattle.mwc_walk.proofs.lane.weightless_of.Goals as goal
 
 digit-is : (t : Bool) (b : ℕ) → b ≡ bool_byte t → (b < 2) × ((b == 1) ≡ t)
@@ -14,6 +14,7 @@ loop-place-preserved c =
     let next = next-digit c.loop-place.place c.loop-place.mask c.from.result digit.0 c.loop-place.invariant.below in
     record {
       below = next.below;
-      done = below_more (λ q. has (c.loop-place.place + 1) q (2 * c.loop-place.mask + c.from.result) ≡ (get_or c.args.weights.now q 0 == 0)) _
+      done = below_more (λ q. has (c.loop-place.place + 1) q (2 * c.loop-place.mask + c.from.result) ≡
+          (get_or c.args.weights.now q 0 == 0)) _
           (λ q lt. next.before q lt ∙ c.loop-place.invariant.done q lt) (next.here ∙ digit.1);
     }

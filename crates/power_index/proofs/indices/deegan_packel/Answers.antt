@@ -2,7 +2,7 @@ use Rattle.std.proofs.Common.{◌≡◌, ◌∙◌, ◌-◌, ◌*◌, ◌+◌, �
 use Rattle.power_index.specs.Tables.{denominator, weighted_sum, table_of_member_size, table_total, table_deegan_packel}
 use Rattle.power_index.proofs.Shared.Printed.{deegan-packel-is, deegan-packel-same}
 use Rattle.std.proofs.Math.Nat.{div-le_self, mul-le-mul}
-use Rattle.power_index.proofs.Shared.Units.{weighted_sum-more}
+use Rattle.power_index.proofs.Units.{weighted_sum-more}
 use Rattle.power_index.proofs.Shared.LowestTerms.{lowest_terms-only}
 use Rattle.power_index.proofs.indices.deegan_packel.Goals as goal
 

@@ -1,10 +1,20 @@
-use Rattle.std.proofs.Common.{arith}
+use Rattle.std.proofs.Common.{refl, arith}
+use Rattle.mwc_walk.proofs.Filled.{fill-next}
 use Rattle.mwc_walk.proofs.ahead.Outlook.of.Goals as goal
+
+pub loop-other-init : goal.loop-other-init
+loop-other-init c = record { long = refl; done = λ t none. absurd (omega arith) }
+
+pub loop-other-preserved : goal.loop-other-preserved
+loop-other-preserved c =
+    fill-next c.loop-other.invariant (omega (arith, c.members-members.ensures.votes.few_rules, c.rules-other-end.ensures.votes))
+    (λ p d le. rw c.members-members.ensures.count at (c.new.ensures p d (omega (arith, le, c.members-members.ensures.count))))
 
 pub returns : goal.returns
 returns c =
+    let count = c.members-members.ensures.count in
     record {
-      few = λ p le. c.new-2.ensures.few p (omega (arith, le, c.members-members.ensures.count));
-      sums = λ p d le. rw c.members-members.ensures.count at (c.new-2.ensures.sums p d (omega (arith, le, c.members-members.ensures.count)));
-      prices = λ t p d below le. c.loop-other.invariant.done t (omega (arith, below, c.rules-other-end.ensures.votes, c.loop-other-test.false)) p d le;
+      few = λ p le. c.new-2.ensures.few p (omega (arith, le, count));
+      sums = λ p d le. rw count at (c.new-2.ensures.sums p d (omega (arith, le, count)));
+      prices = λ t below. c.loop-other.invariant.done t (omega (arith, below, c.rules-other-end.ensures.votes, c.loop-other-test.false));
     }

@@ -7,43 +7,36 @@ use Rattle.mwc_walk.proofs.cursor.Cursor.enter.Goals as goal
 use Rattle.mwc_walk.proofs.cursor.Cursor.enter.Goals.{then-not-all_reach-via-then-not-all_reach, then-not-all_reach-via-else-not-all_reach+then-passes_by}
 
 pub returns-then-not-all_reach-clause-steps : goal.returns-then-not-all_reach-clause-steps
-returns-then-not-all_reach-clause-steps c =
-    elim c.then-not-all_reach.branch [
-      | then-not-all_reach-via-then-not-all_reach w ↦
-          enter-dead (votes_of c.args.game.now) c.args.self.now c.requires.is c.requires.fresh
-          (reach-is _ _ c.requires.is false (sym c.all_reach.ensures ∙ w.if-not-all_reach.true))
-      | then-not-all_reach-via-else-not-all_reach+then-passes_by w ↦
-          enter-spare (votes_of c.args.game.now) c.args.self.now c.requires.is c.requires.fresh (w.if-passes_by.ensures.some refl)
-          (w.if-passes_by.ensures.one refl)
-    ]
+returns-then-not-all_reach-clause-steps c = elim c.then-not-all_reach.branch [
+  | then-not-all_reach-via-then-not-all_reach w ↦
+      enter-dead c.requires.is c.requires.fresh (reach-is c.requires.is false (sym c.all_reach.ensures ∙ w.if-not-all_reach.true))
+  | then-not-all_reach-via-else-not-all_reach+then-passes_by w ↦
+      enter-spare c.requires.is c.requires.fresh (w.if-passes_by.ensures.some refl) (w.if-passes_by.ensures.one refl)
+]
 
 pub take_in-requires-clause-place : goal.take_in-requires-clause-place
 take_in-requires-clause-place c =
-    let room = in-room (votes_of c.args.game.now) c.args.self.now c.requires.is (sym c.all_reach.ensures ∙ c.if-not-all_reach.false)
-    (sym c.all_win.ensures ∙ c.if-not-all_win.true) in
+    let room = in-room c.requires.is (sym c.all_reach.ensures ∙ c.if-not-all_reach.false) (sym c.all_win.ensures ∙ c.if-not-all_win.true) in
     omega (arith, room, c.requires.is.game.few)
 
 pub take_in-requires-clause-fits : goal.take_in-requires-clause-fits
 take_in-requires-clause-fits c =
-    in-fits (votes_of c.args.game.now) c.args.self.now c.requires.is (sym c.all_reach.ensures ∙ c.if-not-all_reach.false)
-    (sym c.all_win.ensures ∙ c.if-not-all_win.true)
+    in-fits c.requires.is (sym c.all_reach.ensures ∙ c.if-not-all_reach.false) (sym c.all_win.ensures ∙ c.if-not-all_win.true)
 
 pub returns-then-not-all_win-clause-steps : goal.returns-then-not-all_win-clause-steps
 returns-then-not-all_win-clause-steps c =
-    let part = is-part _ _ _ _ _ c.take_in.ensures c.requires.is.room in
-    enter-in (votes_of c.args.game.now) c.args.self.now _ _ c.saturating_add-self.ensures (omega arith) c.requires.is c.requires.fresh
-    (sym c.all_reach.ensures ∙ c.if-not-all_reach.false) (sym c.all_win.ensures ∙ c.if-not-all_win.true) part.room part.taken
+    enter-in c.requires.is (sym c.all_reach.ensures ∙ c.if-not-all_reach.false) (sym c.all_win.ensures ∙ c.if-not-all_win.true)
+    c.requires.fresh
+    _ _ c.saturating_add-self.ensures (omega arith) (is-part _ _ _ _ _ c.take_in.ensures c.requires.is.room)
 
 pub of_mask-found-requires : goal.of_mask-found-requires
 of_mask-found-requires c =
-    let short = enter-short (votes_of c.args.game.now) c.args.self.now c.requires.is in
     let most : 2 ^ (votes_of c.args.game.now).members ≤ 2 ^ 40 = pow_mono c.requires.is.game.few in
-    let mask = enter-mask (votes_of c.args.game.now) c.args.self.now c.requires.is in
-    omega (arith, short, most, mask)
+    omega (arith, enter-short c.requires.is, most, enter-mask c.requires.is)
 
 pub returns-clause-steps : goal.returns-clause-steps
 returns-clause-steps c =
-    let m = c.of_mask-found.ensures ∙ enter-mask (votes_of c.args.game.now) c.args.self.now c.requires.is in
-    let won = win-is _ _ c.requires.is true (sym c.all_win.ensures ∙ c.if-not-all_win.false) in
-    subst (λ (i : ℕ). GivesNext (votes_of c.args.game.now) c.args.self.now i (record c.args.self.now { fresh = false })) (sym m)
-    (enter-give (votes_of c.args.game.now) c.args.self.now c.requires.is c.requires.fresh won (c.if-passes_by.ensures.none refl won))
+    let won = win-is c.requires.is true (sym c.all_win.ensures ∙ c.if-not-all_win.false) in
+    subst (λ (i : ℕ). GivesNext (votes_of c.args.game.now) c.args.self.now i (record c.args.self.now { fresh = false }))
+    (sym (c.of_mask-found.ensures ∙ enter-mask c.requires.is))
+    (enter-give c.requires.is won c.requires.fresh (c.if-passes_by.ensures.none refl won))

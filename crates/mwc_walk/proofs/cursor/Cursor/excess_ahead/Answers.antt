@@ -1,17 +1,16 @@
 use Rattle.std.proofs.Common.{◌<◌, ◌+◌, length, get_or, arith}
 use Rattle.council_game.specs.Game.{votes_of}
 use Rattle.mwc_walk.specs.Inner.Vetoes.{vetoes_at}
-use Rattle.mwc_walk.proofs.Excess.{least-excess}
+use Rattle.mwc_walk.proofs.Spared.{least-excess}
 use Rattle.mwc_walk.proofs.cursor.Cursor.excess_ahead.Goals as goal
 
 pub returns-in-Some : goal.returns-in-Some
 returns-in-Some c =
-    let v = votes_of c.args.game.now in
     let place = c.requires.is.place in
-    let below : c.args.rule < length v.rules = omega (arith, c.requires.rule, c.requires.is.rules) in
+    let below : c.args.rule < length (votes_of c.args.game.now).rules = omega (arith, c.requires.rule, c.requires.is.rules) in
     let outlook = c.requires.ahead.outlooks c.args.rule below in
-    rw c.saturating_sub.ensures (least-excess v c.args.self.now c.args.rule c.saturating_add-all.result
-    (get_or (vetoes_at c.args.ahead.now.vetoes c.args.rule).brings c.args.self.now.place 0 + c.in-Some.comes) c.requires.is c.requires.rule
+    rw c.saturating_sub.ensures (least-excess c.requires.is c.args.rule c.saturating_add-all.result
+    (get_or (vetoes_at c.args.ahead.now.vetoes c.args.rule).brings c.args.self.now.place 0 + c.in-Some.comes) c.requires.rule
     (omega (arith, c.saturating_add-all.ensures, c.there.ensures))
     (λ d prefix won.
     let parts = (c.requires.ahead.splits c.args.rule below).parts c.args.self.now.place d place.to won in
@@ -20,9 +19,7 @@ returns-in-Some c =
 
 pub returns-in-None : goal.returns-in-None
 returns-in-None c = λ d prefix won.
-    let v = votes_of c.args.game.now in
-    let below : c.args.rule < length v.rules = omega (arith, c.requires.rule, c.requires.is.rules) in
-    let outlook = c.requires.ahead.outlooks c.args.rule below in
+    let outlook = c.requires.ahead.outlooks c.args.rule (omega (arith, c.requires.rule, c.requires.is.rules)) in
     let short = c.in-None.ensures _ (outlook.sums c.args.self.now.place d c.requires.is.place.to) in
     let need = c.need-need.ensures d prefix won in
     omega (arith, short, need)

@@ -13,7 +13,7 @@ loop-other-preserved c =
       | then-other-rule w ↦ rw w.need-is (λ d prefix won.
           let before = c.loop-other.invariant d prefix won in
           let short = c.requires.short c.loop-other.other other d prefix won in
-          let bought = w.of.ensures _ _ (outlook.prices c.loop-other.other c.args.self.now.place d other place.to) short in
+          let bought = w.of.ensures _ _ (outlook.prices c.loop-other.other other c.args.self.now.place d place.to) short in
           omega (arith, before, bought, w.max-need.ensures))
       | else-other-rule w ↦ rw w.need-is c.loop-other.invariant
     ]

@@ -1,17 +1,15 @@
 use Rattle.std.proofs.Common.{arith, below_more}
-use Rattle.council_game.specs.Game.{votes_of}
-use Rattle.mwc_walk.proofs.Excess.{lane-here}
+use Rattle.mwc_walk.proofs.Spared.{lane-here}
 use Rattle.mwc_walk.proofs.cursor.Cursor.spares.Goals as goal
 
 pub returns-then-self-rule-clause-none : goal.returns-then-self-rule-clause-none
-returns-then-self-rule-clause-none c =
-    λ _ spare.
-    let here = lane-here (votes_of c.args.game.now) c.args.self.now c.requires.is c.loop-rule.rule c.loop-rule-test.true in
+returns-then-self-rule-clause-none c = λ _ spare.
+    let here = lane-here c.requires.is c.loop-rule.rule c.loop-rule-test.true in
     let free = spare c.loop-rule.rule (omega (arith, c.loop-rule-test.true, c.requires.is.rules)) in
     absurd (omega (arith, free, c.if-self-rule.true, here.weights c.args.place (omega (arith, c.requires.place, c.requires.is.members))))
 
 pub loop-rule-preserved : goal.loop-rule-preserved
 loop-rule-preserved c =
-    let here = lane-here (votes_of c.args.game.now) c.args.self.now c.requires.is c.loop-rule.rule c.loop-rule-test.true in
+    let here = lane-here c.requires.is c.loop-rule.rule c.loop-rule-test.true in
     below_more _ _ c.loop-rule.invariant
     (omega (arith, c.if-self-rule.false, here.weights c.args.place (omega (arith, c.requires.place, c.requires.is.members))))

@@ -1,6 +1,5 @@
 use Rattle.std.proofs.Common.{sym, ◌∙◌}
 use Rattle.std.proofs.lemmas.Bool.{eqb-true}
-use Rattle.council_game.specs.Game.{votes_of}
 use Rattle.mwc_walk.proofs.Steps.{one-is, even-loses}
 use Rattle.mwc_walk.proofs.Spared.{kept-minimal}
 use Rattle.mwc_walk.proofs.cursor.Cursor.spares_one.Goals as goal
@@ -9,12 +8,10 @@ use Rattle.mwc_walk.proofs.cursor.Cursor.spares_one.Goals.{then-self-eq1, else-s
 pub returns-then-self-eq0-clause-none : goal.returns-then-self-eq0-clause-none
 returns-then-self-eq0-clause-none c =
     λ _ won. elim c.if-self-eq1.branch [
-      | then-self-eq1 w ↦ one-is (votes_of c.args.game.now) c.args.self.now c.requires c.if-self.true w.if-self-eq1.true won
-      | else-self-eq1 w ↦ absurd (even-loses (votes_of c.args.game.now) c.args.self.now c.requires c.if-self.true
-          (eqb-true _ _ (sym w.value-is ∙ c.if-self-eq0.true)) won)
+      | then-self-eq1 w ↦ one-is c.requires won c.if-self.true w.if-self-eq1.true
+      | else-self-eq1 w ↦ absurd (even-loses c.requires won c.if-self.true (eqb-true _ _ (sym w.value-is ∙ c.if-self-eq0.true)))
     ]
 
 pub returns-clause-none : goal.returns-clause-none
 returns-clause-none c =
-    λ lost won. kept-minimal (votes_of c.args.game.now) c.args.self.now.place c.args.self.now.prefix c.excess.result c.requires.game
-    c.requires.place.to c.excess.ensures.enough (c.has_spared.ensures.none lost) won
+    λ lost won. kept-minimal c.requires c.excess.result c.excess.ensures.enough (c.has_spared.ensures.none lost) won

@@ -1,9 +1,8 @@
 use Rattle.council_game.specs.Game.{votes_of}
 use Rattle.std.proofs.Common.{◌≡◌, arith}
 use Rattle.std.proofs.lemmas.Grind.{common_steps}
-use Rattle.mwc_walk.proofs.Tables.{fits-in}
-use Rattle.mwc_walk.proofs.Steps.{is-part}
-use Rattle.mwc_walk.proofs.Start.{first-lanes, first-number, fixed-in, fixed-pass, starts}
+use Rattle.mwc_walk.proofs.Rules.{fits-in}
+use Rattle.mwc_walk.proofs.Steps.{is-part, first-lanes, first-number, fixed-in, fixed-pass, starts}
 use Rattle.mwc_walk.proofs.cursor.Cursor.start.Goals as goal
 
 pub loop-place-init : goal.loop-place-init

@@ -7,7 +7,8 @@ use Rattle.mwc_walk.proofs.intervals.Intervals.least_from.Goals.{then-number-ite
 -- none of the first intervals reaches the number, or m is the least that they have from there on
 abbrev LeastOf : Intervals → ℕ → ℕ → Option ℕ → Type 0
 LeastOf is x n o =
-    MatchOption o ((k : ℕ) → k < n → (y : ℕ) → InInterval is k y → y < x) (λ m. (k : ℕ) → k < n → (y : ℕ) → InInterval is k y → x ≤ y → m ≤ y)
+    MatchOption o ((k : ℕ) → k < n → (y : ℕ) → InInterval is k y → y < x) (λ m. (k : ℕ) → k < n → (y : ℕ) → InInterval is k y → x ≤ y
+    → m ≤ y)
 
 passed : (is : Intervals) (x n : ℕ) (o : Option ℕ) → (interval_at is n).most < x → LeastOf is x n o → LeastOf is x (n + 1) o
 passed is x n None short before = below_more _ _ before (λ y inside. omega (arith, short, inside.1))

@@ -5,7 +5,7 @@ use Rattle.council_game.specs.Ranks.{rule_by_rank}
 use Rattle.council_game.specs.Votes.{IsRule, rule_at, has}
 use Rattle.std.proofs.lemmas.List.Elements.{All-from_recursion}
 use Rattle.council_game.proofs.Shared.Weights.{weight-zero}
-use Rattle.mwc_walk.proofs.Tables.{same-weights}
+use Rattle.mwc_walk.proofs.Rules.{same-weights}
 use Rattle.mwc_walk.proofs.lane.Lane.new.Goals as goal
 
 pub rest_of-requires-clause-fits : goal.rest_of-requires-clause-fits

@@ -1,7 +1,7 @@
 use Rattle.std.proofs.Common.{arith}
 use Rattle.std.proofs.lemmas.Grind.{common_steps}
 use Rattle.std.proofs.lemmas.Nat.{mul-le}
-use Rattle.mwc_walk.proofs.Bought.{rounded-up}
+use Rattle.mwc_walk.proofs.Coming.{rounded-up}
 use Rattle.mwc_walk.proofs.price.Price.of.Goals as goal
 
 pub returns-in-Some : goal.returns-in-Some

@@ -1,5 +1,5 @@
 use Rattle.std.proofs.Common.{arith}
-use Rattle.mwc_walk.proofs.Bought.{price-falls, price-stays}
+use Rattle.mwc_walk.proofs.Coming.{price-falls, price-stays}
 use Rattle.std.proofs.lemmas.Grind.{common_steps}
 use Rattle.mwc_walk.proofs.price.Price.or.Goals as goal
 

@@ -1,7 +1,7 @@
-use Rattle.std.proofs.Common.{◌<◌, ◌-◌, ◌+◌, ◌∙◌, [], length, refl, arith, inl, inr, get_or-set_other, get_or-set_same, length-set}
-use Rattle.std.proofs.lemmas.Bool.{cases_eq}
-use Rattle.mwc_walk.specs.declared.intervals.Intervals.{Intervals}
+use Rattle.std.proofs.Common.{◌-◌, ◌+◌, [], refl, arith}
 use Rattle.std.proofs.lemmas.List.{get_or-replicate}
+use Rattle.mwc_walk.specs.declared.intervals.Intervals.{Intervals}
+use Rattle.mwc_walk.proofs.Filled.{fill-before}
 use Rattle.mwc_walk.proofs.Coming.{weight-past, sums-step}
 use Rattle.mwc_walk.proofs.sums_ahead.SumsAhead.new.Goals as goal
 
@@ -11,28 +11,18 @@ none = record { count = 0; items = [] }
 pub loop-place-init : goal.loop-place-init
 loop-place-init c = record {
   long = refl;
-  few = λ p below. rw (get_or-replicate {A = Intervals} 41 p c.zero-from.result none below) c.zero-from.ensures.few;
-  done = λ p d lo hi. rw (
-    get_or-replicate {A = Intervals} 41 p c.zero-from.result none (omega arith),
-    weight-past c.args.weights.now c.args.members p d lo (omega arith),
-  ) c.zero-from.ensures.zero;
+  done = λ p lo hi. rw (get_or-replicate {A = Intervals} 41 p c.zero-from.result none (omega arith))
+      (c.zero-from.ensures.few, λ d. rw (weight-past c.args.weights.now c.args.members p d lo (omega arith)) c.zero-from.ensures.zero);
 }
 
 pub loop-place-preserved : goal.loop-place-preserved
 loop-place-preserved c =
-    let here = c.loop-place.place - 1 in
-    let before = c.loop-place.invariant in
-    let lt : here < length c.loop-place.from = omega (arith, before.long) in
-    record {
-      long = length-set _ _ _ ∙ before.long;
-      few = λ p below. elim (cases_eq p here) [
-        | inl e ↦ rw (e, get_or-set_same) c.with.ensures.few
-        | inr ne ↦ rw get_or-set_other (before.few p below)
-      ];
-      done = λ p d lo hi. elim (cases_eq p here) [
-        | inl e ↦
-            rw (e, get_or-set_same) (sums-step c.args.members here c.args.weights.now _ _ (omega arith) (omega arith) c.requires.fits
-            c.with.ensures.without c.with.ensures.with d (before.done (here + 1) d (omega arith) (omega arith)))
-        | inr ne ↦ rw get_or-set_other (before.done p d (omega arith) hi)
-      ];
-    }
+    let before = c.loop-place.invariant.done (c.loop-place.place - 1 + 1) (omega arith) (omega arith) in
+    fill-before (c.loop-place.place - 1) c.loop-place.invariant (omega arith) (omega arith) (
+      c.with.ensures.few,
+      λ d. sums-step c.args.members (c.loop-place.place - 1) c.args.weights.now _ _ (omega arith) (omega arith) c.requires.fits
+          c.with.ensures.without c.with.ensures.with d (before.1 d),
+    )
+
+pub returns-clause-sums : goal.returns-clause-sums
+returns-clause-sums c = λ p d le. (c.loop-place.invariant.done p (omega arith) le).1 d

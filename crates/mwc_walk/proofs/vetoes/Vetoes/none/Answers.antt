@@ -1,4 +1,4 @@
-use Rattle.mwc_walk.proofs.Tables.{same-at}
+use Rattle.mwc_walk.proofs.Rules.{same-at}
 use Rattle.mwc_walk.proofs.vetoes.Vetoes.none.Goals as goal
 
 pub returns : goal.returns

@@ -1,11 +1,10 @@
 use Rattle.std.proofs.Common.{arith}
-use Rattle.council_game.specs.Game.{votes_of}
 use Rattle.std.proofs.lemmas.Grind.{common_steps}
 use Rattle.mwc_walk.proofs.Remains.{rest-is, visits-most}
 use Rattle.mwc_walk.proofs.walk.Walk.visits.Goals as goal
 
 pub returns-clause-rest : goal.returns-clause-rest
-returns-clause-rest c = rw (← c.self.view_is) (rest-is (votes_of c.self.inside.game.now) c.self.inside.cursor c.self.invariant.cursor)
+returns-clause-rest c = rw (← c.self.view_is) (rest-is c.self.invariant.cursor)
 
 pub returns-clause-most : goal.returns-clause-most
 returns-clause-most c = grind (arith, common_steps, visits-most)

@@ -1,18 +1,8 @@
-use Rattle.std.proofs.Common.{arith, ◌++◌, ℕ, List}
+use Rattle.std.proofs.Common.{◌++◌, ℕ, List}
 use Rattle.council_game.specs.Game.{GameView}
 use Rattle.power_index.specs.Tables.{AreTallies}
-use Rattle.power_index.proofs.Shared.Sound.{some-of_all, some-of_place, join-hold, join-some, join-total}
+use Rattle.power_index.proofs.Shared.Sound.{kept, join-hold, join-some, join-total}
 use Rattle.power_index.proofs.counts.Counts.add.Goals as goal
-
-pub join-requires : goal.join-requires
-join-requires c s le = let a = some-of_all _ s le c.self.invariant in let b = some-of_all _ s le c.other.invariant in omega (arith, a, b)
-
-pub join_places-requires-clause-room : goal.join_places-requires-clause-room
-join_places-requires-clause-room c p s lt le =
-    let one = rw (← c.self.view_is, ← c.other.view_is) at c.requires.game in
-    let a = some-of_place _ p s lt le c.self.invariant in
-    let b = some-of_place _ p s (omega (arith, lt, one.members)) le c.other.invariant in
-    omega (arith, a, b)
 
 hold : (c : goal.After-join_places) (g : GameView) (first second : List ℕ)
     → AreTallies g first
@@ -29,15 +19,15 @@ pub invariant_of-self : goal.invariant_of-self
 invariant_of-self c =
     let one = rw (← c.self.view_is, ← c.other.view_is) at c.requires.game in
     let room = rw (← c.self.view_is, ← c.other.view_is) at c.requires.room in
-    let own = c.self.invariant in
-    let others = c.other.invariant in
-    join-some _ _ _ own others one room (hold c own.game own.list others.list own.tallies)
+    let own = c.self.invariant.of_some in
+    let others = c.other.invariant.of_some in
+    kept (join-some _ _ _ own others one room (hold c own.game own.list others.list own.tallies))
 
 pub returns-clause-total : goal.returns-clause-total
 returns-clause-total c =
     let one = rw (← c.self.view_is, ← c.other.view_is) at c.requires.game in
-    let own = c.self.invariant in
-    let others = c.other.invariant in
+    let own = c.self.invariant.of_some in
+    let others = c.other.invariant.of_some in
     rw (← c.self.view_is, ← c.other.view_is) (join-total _ _ _ own others one (hold c own.game own.list others.list own.tallies))
 
 pub returns-clause-tallies : goal.returns-clause-tallies

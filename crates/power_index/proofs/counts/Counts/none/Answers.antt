@@ -1,7 +1,7 @@
 use Rattle.std.proofs.Common.{arith, [], replicate}
 use Rattle.power_index.specs.Tables.{AreTallies}
-use Rattle.power_index.proofs.Shared.Tallies.{tallies-none}
-use Rattle.power_index.proofs.Shared.Sound.{none-hold, none-some, tallies-are_counts}
+use Rattle.power_index.proofs.Shared.Tallies.{tally-none}
+use Rattle.power_index.proofs.Shared.Sound.{kept, none-hold, none-some, tallies-are_counts}
 use Rattle.power_index.proofs.counts.Counts.none.Goals as goal
 
 hold : (c : goal.After-new-none)
@@ -11,11 +11,11 @@ hold c =
     none-hold c.args.game.now c.members-members.result c.loop-i.ranks c.new-none.result c.new-none.result c.members-members.ensures.game
     c.members-members.ensures.count
     (λ i lt. c.loop-i.invariant.done i (omega arith))
-    (tallies-none _ _ c.new-none.result c.new-none.ensures.long c.new-none.ensures.sizes)
-    (λ p. tallies-none _ _ c.new-none.result c.new-none.ensures.long c.new-none.ensures.sizes)
+    (tally-none _ _ c.new-none.result c.new-none.ensures.long c.new-none.ensures.sizes)
+    (λ p. tally-none _ _ c.new-none.result c.new-none.ensures.long c.new-none.ensures.sizes)
 
 pub invariant_of-result : goal.invariant_of-result
-invariant_of-result c = none-some c.args.game.now _ (hold c)
+invariant_of-result c = kept (none-some c.args.game.now _ (hold c))
 
 pub returns-clause-tallies : goal.returns-clause-tallies
 returns-clause-tallies c = hold c
