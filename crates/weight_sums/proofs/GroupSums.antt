@@ -8,18 +8,16 @@ use Rattle.std.proofs.lemmas.Nat.Bits.{bit_at_above, bit_at_cat_low, bit_at_cat_
 use Rattle.std.proofs.lemmas.Nat.{pow_pos, shr_split, shr_below}
 use Rattle.std.proofs.Math.Nat.{mod-lt}
 use Rattle.std.proofs.Math.Pow.{pow_mono}
-use Rattle.std.proofs.lemmas.List.Elements.{All-weaker}
-use Rattle.weight_sums.proofs.SetLists.{all-most}
 use Rattle.weight_sums.specs.declared.sets.Set.{Set}
 use Rattle.weight_sums.specs.declared.fitting.Fitting.{Fitting}
 use Rattle.weight_sums.specs.declared.groups.Groups.{Groups}
-use Rattle.weight_sums.specs.Inner.Sets.{nobody, fits, met, has, AreSets, IsHalf}
+use Rattle.weight_sums.specs.Inner.Sets.{nobody, fits, met, has, IsHalf}
 use Rattle.weight_sums.specs.Inner.Fitting.{AreEntered, AreOfNeed, Meet}
 use Rattle.weight_sums.specs.Inner.Tables.{AreOfKeys}
 use Rattle.weight_sums.specs.Inner.Groups.{low_of, high_of, AreGroups}
 use Rattle.weight_sums.proofs.SetLaws.{sum-same}
 use Rattle.weight_sums.proofs.FittingSets.{added, fits-few, sum-alike, cond-most}
-use Rattle.weight_sums.proofs.TableSums.{of-more, of-few, of-same}
+use Rattle.weight_sums.proofs.TableSums.{of-more, of-few}
 
 -- ---- the sets of a list, one after another
 -- of the first n sets: the others that meet the quota with them, and that what meets their needs will meet those of the next
@@ -87,10 +85,10 @@ module _ (q digits : ℕ) (xs ys : List Set) (n : ℕ) (lows highs : List (List 
         low_is = of-more (low_of digits) (met q ys) xs n low d lows more_lows row lt h.low_is low_key low_row gives;
         high_is = of-more (high_of digits) (met q ys) xs n high d highs more_highs row lt h.high_is high_key high_row gives;
         entered = entered;
-        meet = λ k m e from within next below. later k m e (omega (arith, next)) below
-            (let c = meet k e from within in
+        meet = λ k m e from within next below. (
+            let c = meet k e from within in
             let b = ap (λ (y : Set). y.weight) (get_or_default xs n d e lt) in
-            omega (arith, c, b, is));
+            later k m e (omega (arith, next)) below (omega (arith, c, b, is)));
       }
 
   -- a set with which none of the others meets the quota
@@ -107,41 +105,24 @@ module _ (q digits : ℕ) (xs ys : List Set) (n : ℕ) (lows highs : List (List 
           (let e = none (s - (get_or xs n d).size) in omega (arith, e))) in
           omega (arith, z)
 
-pub paired-all : (q : ℕ) (xs ys all others : List Set) (n : ℕ) (t : Fitting) (g : Groups)
+pub paired-all : (q : ℕ) (xs ys : List Set) (n : ℕ) (t : Fitting) (g : Groups)
     → Paired q g.digits xs ys n g.low.rows.items g.high.rows.items t → length xs ≤ n → g.digits ≤ 10
-    → All (λ x. x.members < 2 ^ (g.digits + g.digits)) xs → IsHalf xs → IsHalf ys → AreSets all xs → AreSets others ys
-    → AreGroups q all others g
-paired-all q xs ys all others n t g h end few within first second are also = record {
-  rows = record {
-    digits = few;
-    low_long = h.low_long;
-    high_long = h.high_long;
-    low_rows = record { long = short g.low.rows.items h.low_long; few = paired-room q xs ys n (low_of g.digits) g.low.rows.items h.low_is first second };
-    high_rows = record {
-      long = short g.high.rows.items h.high_long;
-      few = paired-room q xs ys n (high_of g.digits) g.high.rows.items h.high_is first second;
-    };
-  };
-  within = All-weaker (λ x. x.members ≤ m - 1) (λ x. x.members < m) (λ x le. (let pos = pow_pos (g.digits + g.digits) in omega (arith, le, pos))) all
-      (all-most (λ x. x.members) (m - 1) all xs (λ f. sym (are.same f))
-      (All-weaker (λ x. x.members < m) (λ x. x.members ≤ m - 1) (λ x lt. omega (arith, lt)) xs within));
-  low_is = of-same (low_of g.digits) (met q ys) (met q others) all xs g.low.rows.items are same (whole (low_of g.digits) g.low.rows.items h.low_is);
-  high_is =
-      of-same (high_of g.digits) (met q ys) (met q others) all xs g.high.rows.items are same (whole (high_of g.digits) g.high.rows.items h.high_is);
-}
-  where
-    m : ℕ
-    m = 2 ^ (g.digits + g.digits)
-
-    short : (rows : List (List ℕ)) → length rows ≡ 2 ^ g.digits → length rows ≤ 2 ^ 10
-    short rows is = let up : 2 ^ g.digits ≤ 2 ^ 10 = pow_mono few in omega (arith, is, up)
-
-    same : (s : ℕ) (x : Set) → met q ys s x ≡ met q others s x
-    same s x = also.same (fits (q - x.weight) x.size s)
-
-    whole : (key : Set → ℕ) (rows : List (List ℕ)) → AreOfKeys key (met q ys) (take n xs) rows → AreOfKeys key (met q ys) xs rows
-    whole key rows of = record {
-      each = λ k s small. of.each k s small ∙ ap (sum_by (λ x. cond (eqb (key x) k) (met q ys s x) 0)) (take_all n xs end);
+    → All (λ x. x.members < 2 ^ (g.digits + g.digits)) xs → IsHalf xs → IsHalf ys → AreGroups q xs ys g
+paired-all q xs ys n t g h end few within first second =
+    let up : 2 ^ g.digits ≤ 2 ^ 10 = pow_mono few in
+    let low = h.low_long in
+    let high = h.high_long in
+    record {
+      rows = record {
+        digits = few;
+        low_long = low;
+        high_long = high;
+        low_rows = record { long = omega (arith, low, up); few = paired-room q xs ys n (low_of g.digits) g.low.rows.items h.low_is first second };
+        high_rows = record { long = omega (arith, high, up); few = paired-room q xs ys n (high_of g.digits) g.high.rows.items h.high_is first second };
+      };
+      within = within;
+      low_is = rw (take_all n xs end) at h.low_is;
+      high_is = rw (take_all n xs end) at h.high_is;
     }
 
 -- ---- the members of a set, the first and the others

@@ -3,7 +3,7 @@ ghost use Rattle.coalitions.specs.declared.limits.TheConstants.{MEMBERS, SIZES, 
 ghost use Rattle.weight_sums.specs.declared.sets.Set.{Set};
 ghost use Rattle.weight_sums.specs.Endings.{AreAllEndings, endings, left_out};
 ghost use Rattle.weight_sums.specs.Inner.Halves.{AreHalves, AreLeft, ArePairs};
-ghost use Rattle.weight_sums.specs.Inner.Sets.{AreSets, IsHalf, has, met};
+ghost use Rattle.weight_sums.specs.Inner.Sets.{IsHalf, has, met};
 ghost use Rattle.weight_sums.specs.Inner.Groups.{HaveRows};
 ghost use Rattle.std.specs.List.{All};
 ghost use Rattle.std.specs.Prelude.{◌≡◌, ℕ, ◌+◌, ◌-◌, ◌<◌, ◌≤◌, ◌^◌, if◌then◌else◌, IfOk, List, length, slice_index, sum, sum_by};
@@ -35,8 +35,7 @@ impl Pairs {
         requires digits { digits ≤ 10 }
         requires first_within { All (λ x. x.members < 2 ^ (digits + digits)) first.now }
         requires second_within { All (λ x. x.members < 2 ^ (digits + digits)) second.now }
-        ensures { IfOk result (λ pairs. (xs ys : List Set) → AreSets xs first.now → AreSets ys second.now
-            → ArePairs quota xs ys pairs) }
+        ensures { IfOk result (ArePairs quota first.now second.now) }
     {
         Ok(Pairs {
             first: Groups::new(alloc, first, second, quota, digits)?,

@@ -57,7 +57,7 @@ loop-set-preserved c =
     ]
 
 pub returns : goal.returns
-returns c all others are also =
-    paired-all c.args.quota c.args.list.now c.args.others.now all others c.loop-set.set-index c.loop-set.fitting
+returns c =
+    paired-all c.args.quota c.args.list.now c.args.others.now c.loop-set.set-index c.loop-set.fitting
     (record { digits = c.args.digits; low = c.loop-set.lows; high = c.loop-set.highs }) c.loop-set.invariant c.loop-set-test.false
-    c.requires.digits c.requires.within c.requires.list c.requires.others are also
+    c.requires.digits c.requires.within c.requires.list c.requires.others
