@@ -3,6 +3,7 @@ use Rattle.std.proofs.Common.{◌≡◌, ◌∙◌, ◌⊎◌, ℕ, ◌+◌, ◌
 use Rattle.std.proofs.Common.{length, get_or, take, min, sym, ap, refl, arith, inl, inr}
 use Rattle.std.specs.List.{All, sum_by}
 use Rattle.std.proofs.lemmas.Bool.{cases_lt}
+use Rattle.std.proofs.lemmas.Bool.Decides.{nat_tests}
 use Rattle.std.proofs.lemmas.List.{get_or_default, take_all, length-take}
 use Rattle.std.proofs.lemmas.Nat.Bits.{bit_at_above, bit_at_cat_low, bit_at_cat_high}
 use Rattle.std.proofs.lemmas.Nat.{pow_pos, shr_split, shr_below}
@@ -13,10 +14,10 @@ use Rattle.weight_sums.specs.declared.fitting.Fitting.{Fitting}
 use Rattle.weight_sums.specs.declared.groups.Groups.{Groups}
 use Rattle.weight_sums.specs.Inner.Sets.{nobody, fits, met, has, IsHalf}
 use Rattle.weight_sums.specs.Inner.Fitting.{AreEntered, AreOfNeed, Meet}
-use Rattle.weight_sums.specs.Inner.Tables.{AreOfKeys}
+use Rattle.weight_sums.specs.Inner.Tables.{AreOfKeys, HasRows}
 use Rattle.weight_sums.specs.Inner.Groups.{low_of, high_of, AreGroups}
 use Rattle.weight_sums.proofs.SetLaws.{sum-same}
-use Rattle.weight_sums.proofs.FittingSets.{added, fits-few, sum-alike, cond-most}
+use Rattle.weight_sums.proofs.FittingSets.{added, fits-few, sum-alike}
 use Rattle.weight_sums.proofs.TableSums.{of-more, of-few}
 
 -- ---- the sets of a list, one after another
@@ -42,39 +43,37 @@ paired-none q digits xs ys lows highs t long also low_is high_is entered out = r
   meet = λ k m d from lt later below. absurd (omega (arith, from, lt, out));
 }
 
--- what the rows have is far from too much
-pub paired-room : (q : ℕ) (xs ys : List Set) (n : ℕ) (key : Set → ℕ) (rows : List (List ℕ)) → AreOfKeys key (met q ys) (take n xs) rows
-    → IsHalf xs → IsHalf ys → (k s : ℕ) → s ≤ 40 → get_or (get_or rows k []) s 0 ≤ 2 ^ 40
-paired-room q xs ys n key rows are first second k s small =
-    let few = of-few key (met q ys) (take n xs) rows are (λ i x. fits-few (q - x.weight) x.size i ys second) k s small in
-    let l = length-take n xs in
-    let long = first.long in
-    omega (arith, few, l, long)
+module _ {q digits : ℕ} {xs ys : List Set} {n : ℕ} {lows highs : List (List ℕ)} {t : Fitting} (h : Paired q digits xs ys n lows highs t)
+    (first : IsHalf xs) where
+  -- what the rows have is far from too much
+  pub paired-rows : digits ≤ 10 → IsHalf ys → HasRows lows × HasRows highs
+  paired-rows few second = (rows lows (low_of digits) h.low_long h.low_is, rows highs (high_of digits) h.high_long h.high_is)
+    where
+      rows : (l : List (List ℕ)) (key : Set → ℕ) → length l ≡ 2 ^ digits → AreOfKeys key (met q ys) (take n xs) l → HasRows l
+      rows l key long are = record {
+        long = (let up : 2 ^ digits ≤ 2 ^ 10 = pow_mono few in omega (arith, long, up));
+        few = λ k s small. (
+            let half = first.long in
+            let most = of-few key (met q ys) (take n xs) l are (λ i x. fits-few (q - x.weight) x.size i ys second) k s small in
+            omega (arith, most, length-take n xs, half));
+      }
 
-module _ (q digits : ℕ) (xs ys : List Set) (n : ℕ) (lows highs : List (List ℕ)) (t : Fitting) (h : Paired q digits xs ys n lows highs t) (first : IsHalf xs)
-    (lt : n < length xs) where
-  pub next-meets : (need : ℕ) (d : Set) → need ≡ q - (get_or xs n d).weight → Meet need t.outside ys
-  next-meets need d is k e from within =
-      let m = h.meet k n e from within (omega arith) lt in
+  pub next-meets : n < length xs → (need : ℕ) (d : Set) → need ≡ q - (get_or xs n d).weight → Meet need t.outside ys
+  next-meets lt need d is k e from within =
       let b = ap (λ (y : Set). y.weight) (get_or_default xs n d e lt) in
-      omega (arith, m, b, is)
+      omega (arith, h.meet k n e from within (omega arith) lt, b, is)
 
-  later : (k m : ℕ) (e : Set) → n ≤ m → m < length xs → q ≤ (get_or ys k e).weight + (get_or xs n e).weight
-      → q ≤ (get_or ys k e).weight + (get_or xs m e).weight
-  later k m e from below enough = elim (cases_lt n m) [
-    | inl more ↦ (let up = first.ascend n m e more below in omega (arith, up, enough))
-    | inr same ↦ (let f = ap (λ (i : ℕ). (get_or xs i e).weight) (let g : n ≡ m = omega (arith, from, same) in g) in omega (arith, f, enough))
-  ]
-
-  pub paired-more : (need low high : ℕ) (d : Set) (u : Fitting) (more_lows more_highs : List (List ℕ)) → need ≡ q - (get_or xs n d).weight
-      → low ≡ low_of digits (get_or xs n d) → high ≡ high_of digits (get_or xs n d)
+  -- one set more
+  pub paired-more : n < length xs → {need low high : ℕ} (d : Set) {u : Fitting} {more_lows more_highs : List (List ℕ)}
+      → need ≡ q - (get_or xs n d).weight → low ≡ low_of digits (get_or xs n d) → high ≡ high_of digits (get_or xs n d)
       → AreOfNeed need ys u → AreEntered ys u → Meet need u.outside ys → length more_lows ≡ length lows → length more_highs ≡ length highs
       → ((k s : ℕ) → s ≤ 40 → get_or (get_or more_lows k []) s 0 ≡ get_or (get_or lows k []) s 0
       + cond (eqb k low) (cond (leb (get_or xs n d).size s) (get_or u.here (s - (get_or xs n d).size) 0) 0) 0)
       → ((k s : ℕ) → s ≤ 40 → get_or (get_or more_highs k []) s 0 ≡ get_or (get_or highs k []) s 0
       + cond (eqb k high) (cond (leb (get_or xs n d).size s) (get_or u.here (s - (get_or xs n d).size) 0) 0) 0)
       → Paired q digits xs ys (n + 1) more_lows more_highs u
-  paired-more need low high d u more_lows more_highs is low_key high_key are entered meet low_long high_long low_row high_row =
+  paired-more lt {need = need} {low = low} {high = high} d {u = u} {more_lows = more_lows} {more_highs = more_highs} is low_key high_key are entered meet
+      low_long high_long low_row high_row =
       let x : Set = get_or xs n d in
       let row : ℕ → ℕ = λ s. cond (leb x.size s) (get_or u.here (s - x.size) 0) 0 in
       let gives : (s : ℕ) → s ≤ 40 → row s ≡ met q ys s x = λ s small. added need ys u x.size s are
@@ -86,40 +85,29 @@ module _ (q digits : ℕ) (xs ys : List Set) (n : ℕ) (lows highs : List (List 
         high_is = of-more (high_of digits) (met q ys) xs n high d highs more_highs row lt h.high_is high_key high_row gives;
         entered = entered;
         meet = λ k m e from within next below. (
-            let c = meet k e from within in
+            let up = first.ascend n m e (omega (arith, next)) below in
             let b = ap (λ (y : Set). y.weight) (get_or_default xs n d e lt) in
-            later k m e (omega (arith, next)) below (omega (arith, c, b, is)));
+            omega (arith, meet k e from within, b, is, up));
       }
 
   -- a set with which none of the others meets the quota
-  pub paired-further : (need : ℕ) (d : Set) (u : Fitting) → need ≡ q - (get_or xs n d).weight → AreOfNeed need ys u → AreEntered ys u
+  pub paired-further : n < length xs → {need : ℕ} (d : Set) {u : Fitting} → need ≡ q - (get_or xs n d).weight → AreOfNeed need ys u → AreEntered ys u
       → Meet need u.outside ys → ((s : ℕ) → get_or u.here s 0 ≡ 0) → Paired q digits xs ys (n + 1) lows highs u
-  paired-further need d u is are entered meet none =
-      paired-more need (low_of digits (get_or xs n d)) (high_of digits (get_or xs n d)) d u lows highs is refl refl are entered meet refl refl
+  paired-further lt d {u = u} is are entered meet none =
+      paired-more lt d is refl refl are entered meet refl refl
       (λ k s small. same (eqb k (low_of digits (get_or xs n d))) s (get_or (get_or lows k []) s 0))
       (λ k s small. same (eqb k (high_of digits (get_or xs n d))) s (get_or (get_or highs k []) s 0))
     where
       same : (b : Bool) (s m : ℕ) → m ≡ m + cond b (cond (leb (get_or xs n d).size s) (get_or u.here (s - (get_or xs n d).size) 0) 0) 0
-      same b s m =
-          let z = cond-most b _ 0 (cond-most (leb (get_or xs n d).size s) (get_or u.here (s - (get_or xs n d).size) 0) 0
-          (let e = none (s - (get_or xs n d).size) in omega (arith, e))) in
-          omega (arith, z)
+      same b s m = grind (arith, nat_tests, none (s - (get_or xs n d).size))
 
-pub paired-all : (q : ℕ) (xs ys : List Set) (n : ℕ) (t : Fitting) (g : Groups)
+pub paired-all : {q : ℕ} {xs ys : List Set} {n : ℕ} {t : Fitting} (g : Groups)
     → Paired q g.digits xs ys n g.low.rows.items g.high.rows.items t → length xs ≤ n → g.digits ≤ 10
     → All (λ x. x.members < 2 ^ (g.digits + g.digits)) xs → IsHalf xs → IsHalf ys → AreGroups q xs ys g
-paired-all q xs ys n t g h end few within first second =
-    let up : 2 ^ g.digits ≤ 2 ^ 10 = pow_mono few in
-    let low = h.low_long in
-    let high = h.high_long in
+paired-all {xs = xs} {n = n} g h end few within first second =
+    let rows = paired-rows h first few second in
     record {
-      rows = record {
-        digits = few;
-        low_long = low;
-        high_long = high;
-        low_rows = record { long = omega (arith, low, up); few = paired-room q xs ys n (low_of g.digits) g.low.rows.items h.low_is first second };
-        high_rows = record { long = omega (arith, high, up); few = paired-room q xs ys n (high_of g.digits) g.high.rows.items h.high_is first second };
-      };
+      rows = record { digits = few; low_long = h.low_long; high_long = h.high_long; low_rows = rows.0; high_rows = rows.1 };
       within = within;
       low_is = rw (take_all n xs end) at h.low_is;
       high_is = rw (take_all n xs end) at h.high_is;

@@ -1,14 +1,13 @@
 -- Tallies of the coalitions that members lead to, from the sets of their two halves.
-use Rattle.std.proofs.Common.{◌≡◌, ◌∙◌, ◌⊎◌, ℕ, zero, suc, ◌+◌, ◌-◌, ◌/◌, ◌<◌, ◌≤◌, Bool, true, false, cond, leb, List, [], ◌∷◌, ◌++◌}
-use Rattle.std.proofs.Common.{length, get_or, take, drop, set, sym, ap, refl, subst, arith, inl, inr, length-take, length-set, get_or-set_same, get_or-set_other}
+use Rattle.std.proofs.Common.{◌≡◌, ◌∙◌, ℕ, zero, suc, ◌+◌, ◌-◌, ◌/◌, ◌<◌, ◌≤◌, Bool, true, false, cond, leb, List, [], ◌∷◌, ◌++◌}
+use Rattle.std.proofs.Common.{length, get_or, take, drop, sym, ap, refl, arith, inl, inr, length-take}
 use Rattle.std.specs.List.{sum_by}
-use Rattle.std.proofs.lemmas.Bool.{cases_eq, cases_lt, cases_order}
+use Rattle.std.proofs.lemmas.Bool.{cases_lt, cases_order}
 use Rattle.std.proofs.lemmas.Bool.Decides.{nat_tests}
 use Rattle.std.proofs.lemmas.List.{take-append-drop}
 use Rattle.weight_sums.specs.declared.sets.Set.{Set}
-use Rattle.weight_sums.specs.declared.by_size.BySize.{BySize}
 use Rattle.weight_sums.specs.declared.halves.Halves.{Halves}
-use Rattle.weight_sums.specs.Endings.{no_sizes, one_of_size, endings, left_out, AreEndingsWith}
+use Rattle.weight_sums.specs.Endings.{one_of_size, endings, left_out}
 use Rattle.weight_sums.specs.Inner.Sets.{nobody, over, has, fits, met, AreSets}
 use Rattle.weight_sums.specs.Inner.Halves.{AreHalves, AreLeft}
 use Rattle.weight_sums.proofs.EndingLaws.{past-end, endings-counted}
@@ -115,24 +114,3 @@ left-is ws heads q s won shortened own sizes are left some small =
       | inr (inl few) ↦ left.fewer s few ∙ sym (law.fewer few)
       | inr (inr more) ↦ (let m = left.more s more small in let n = law.more more in omega (arith, w, l, m, n))
     ]
-
--- ---- one tally more
-pub record Tallied (ws : List ℕ) (heads q p : ℕ) (each : List BySize) : Type 0 where
-  pub long : length each ≡ 40
-  pub tallies : (k : ℕ) → k < p → AreEndingsWith ws heads q k (get_or each k no_sizes)
-
-pub tallied-more : (ws : List ℕ) (heads q p : ℕ) (each after : List BySize) (t : BySize) → Tallied ws heads q p each
-    → after ≡ set each p t → p < 40 → AreEndingsWith ws heads q p t → Tallied ws heads q (p + 1) after
-tallied-more ws heads q p each after t old is few own = record {
-  long = ap (λ (l : List BySize). length l) is ∙ length-set each p t ∙ old.long;
-  tallies = λ k below. subst (λ (l : List BySize). AreEndingsWith ws heads q k (get_or l k no_sizes)) (sym is) (by_place k below (cases_eq k p));
-}
-  where
-    by_place : (k : ℕ) → k < p + 1 → (k ≡ p) ⊎ (k ≡ p → ⊥) → AreEndingsWith ws heads q k (get_or (set each p t) k no_sizes)
-    by_place k below (inl e) =
-        subst (λ (x : BySize). AreEndingsWith ws heads q k x) (sym
-        (ap (λ (i : ℕ). get_or (set each p t) i no_sizes) e ∙ get_or-set_same each p t no_sizes (let l = old.long in omega (arith, l, few))))
-        (subst (λ (i : ℕ). AreEndingsWith ws heads q i t) (sym e) own)
-    by_place k below (inr ne) =
-        subst (λ (x : BySize). AreEndingsWith ws heads q k x) (sym (get_or-set_other each p k t no_sizes ne))
-        (old.tallies k (omega (arith, below, ne)))

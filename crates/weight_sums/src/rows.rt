@@ -2,7 +2,7 @@
 ghost use Rattle.std.specs.Prelude.{◌≡◌, ℕ, ◌+◌, ◌-◌, ◌<◌, ◌≤◌, ◌^◌, IfOk, List, [], ◌∷◌, true, length, slice_index, sum, drop};
 ghost use Rattle.std.specs.List.{All};
 ghost use Rattle.coalitions.specs.declared.limits.TheConstants.{MEMBERS};
-ghost use Rattle.weight_sums.specs.Inner.Rows.{AreOfPrefixes, at_most, come_to};
+ghost use Rattle.weight_sums.specs.Inner.Rows.{AreOfPrefixes, GoesOn, at_most, come_to};
 
 use crate::choices::Heads;
 use crate::row::{Open, merge, still_open, with_member};
@@ -71,13 +71,8 @@ impl Rows {
         requires left { left < MEMBERS }
         requires sizes { All (λ o. o.size < MEMBERS) self.old.row.items }
         requires room { (s : ℕ) → s ≤ MEMBERS → at_most s (left + 1) done.old self.old.row.items < 2 ^ 64 }
-        ensures counted { IfOk result (λ _. (ws : List ℕ) (s : ℕ) → sum ws ≤ rest
-            → length ws ≡ left → s ≤ MEMBERS → come_to heads.now.asked s ws done.new self.new.row.items
-            ≡ come_to heads.now.asked s (weight ∷ ws) done.old self.old.row.items) }
-        ensures few { IfOk result (λ _. (s : ℕ) → s ≤ MEMBERS
-            → at_most s left done.new self.new.row.items ≤ at_most s (left + 1) done.old self.old.row.items) }
-        ensures sizes { IfOk result (λ _. (p : ℕ) → All (λ o. o.size ≤ p) self.old.row.items
-            → All (λ o. o.size ≤ p + 1) self.new.row.items) }
+        ensures { IfOk result (λ _. GoesOn weight rest left heads.now.asked done.old done.new
+            self.old.row.items self.new.row.items) }
     {
         with_member(&self.row, weight, left, heads, done, &mut self.taken)?;
         let end = still_open(&self.row, rest);

@@ -1,6 +1,6 @@
 use Rattle.std.proofs.Common.{◌∙◌, ℕ, ◌-◌, List, replicate, get_or, set, ap, arith, inl, inr, length-set, get_or-set_same, get_or-set_other}
 use Rattle.std.proofs.lemmas.Bool.{cases_eq}
-use Rattle.weight_sums.proofs.Members.{get_or-zeros}
+use Rattle.weight_sums.proofs.Taking.{get_or-zeros}
 use Rattle.weight_sums.proofs.halves.left_of.Goals as goal
 
 pub loop-size-init : goal.loop-size-init

@@ -1,5 +1,5 @@
 use Rattle.std.proofs.Common.{◌∙◌, [], List, ℕ, get_or, ap, arith}
-use Rattle.weight_sums.proofs.Members.{get_or-zeros}
+use Rattle.weight_sums.proofs.Taking.{get_or-zeros}
 use Rattle.weight_sums.proofs.TableSums.{zeros-more}
 use Rattle.weight_sums.proofs.table.Table.new.Goals as goal
 

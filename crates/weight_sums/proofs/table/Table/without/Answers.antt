@@ -1,7 +1,7 @@
 use Rattle.std.proofs.Common.{◌≡◌, ◌∙◌, ◌<◌, ℕ, [], List, get_or, length, ap, sym, arith, inl, inr}
 use Rattle.std.proofs.lemmas.Bool.{eq-eqb, ne_eqb}
 use Rattle.std.proofs.lemmas.List.{get_or_default}
-use Rattle.weight_sums.proofs.Members.{get_or-zeros}
+use Rattle.weight_sums.proofs.Taking.{get_or-zeros}
 use Rattle.weight_sums.proofs.TableSums.{added-none, sum-further, added-all}
 use Rattle.weight_sums.proofs.table.Table.without.Goals as goal
 use Rattle.weight_sums.proofs.table.Table.without.Goals.{then-key-place-ne1, else-key-place-ne1}
