@@ -38,7 +38,7 @@ doubling-none w before xs none = record {
   joins = λ some k d below. (let n = none k d below in omega (arith, n));
 }
 
-module _ (w : ℕ) (before xs : List Set) (i j : ℕ) (next after : List Set) (y : Set) (h : Doubling w before xs i j next)
+module _ {w : ℕ} {before xs : List Set} {i j : ℕ} {next after : List Set} (h : Doubling w before xs i j next) (y : Set)
     (is : after ≡ next ++ y ∷ []) where
   -- one set more at the end, at least as heavy
   pushed-ascend : All (λ x. x.weight ≤ y.weight) next → Ascend after
@@ -81,9 +81,9 @@ module _ (w : ℕ) (before xs : List Set) (i j : ℕ) (next after : List Set) (y
             (omega (arith, own, up)));
       }
 
-pub doubling-all : (w : ℕ) (before xs : List Set) (i j : ℕ) (next : List Set) → Doubling w before xs i j next → length xs ≤ i → length xs ≤ j
+pub doubling-all : {w : ℕ} {before xs : List Set} {i j : ℕ} {next : List Set} → Doubling w before xs i j next → length xs ≤ i → length xs ≤ j
     → (g : Set → ℕ) → sum_by g next ≡ sum_by g before + sum_by (λ x. g (left x)) xs + sum_by (λ x. g (joined w x)) xs
-doubling-all w before xs i j next h all also g =
+doubling-all {w = w} {xs = xs} {i = i} {j = j} h all also g =
     omega (arith, h.same g, ap (sum_by (λ x. g (left x))) (drop_all i xs all), ap (sum_by (λ x. g (joined w x))) (drop_all j xs also))
 
 -- ---- how large they are
