@@ -67,9 +67,3 @@ unfolding added_to
 added-all m n p key g xs keys all =
     sum-alike (λ x. cond (ltb (key x) n) (cond (has p (key x)) 0 (g x)) 0) (λ x. cond (has p (key x)) 0 (g x)) xs nobody
     (λ k lt. let below = keys k nobody lt in grind (arith, nat_tests))
-
--- the row of a key more, where the key is without the member, and nothing else
-pub sum-further : (n p : ℕ) (key g : Set → ℕ) (xs : List Set) (before after row : ℕ) → before ≡ added_to n p key g xs
-    → row ≡ sum_by (λ x. cond (eqb (key x) n) (g x) 0) xs → (has p n ≡ false) × (after ≡ before + row) ⊎ (has p n ≡ true) × (after ≡ before)
-    → after ≡ added_to (n + 1) p key g xs
-sum-further n p key g xs before after row old own either = grind (arith, nat_tests, added-further n p key g xs)
