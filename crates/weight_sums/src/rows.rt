@@ -31,22 +31,27 @@ pub(crate) struct Rows {
 }
 
 impl Rows {
-    /// The empty prefix, which misses the quota.
-    pub(crate) fn new(alloc: Global, quota: u64) -> Result<Rows, Memory>
-        ensures { IfOk result (λ rows. rows.row.items ≡
+    /// No prefix.
+    pub(crate) fn new(alloc: Global) -> Rows {
+        Rows {
+            row: Vec::new(alloc),
+            taken: Vec::new(alloc),
+            next: Vec::new(alloc),
+        }
+    }
+
+    /// Begins with the empty prefix, which misses the quota.
+    pub(crate) fn begin(&mut self, quota: u64) -> Result<(), Memory>
+        ensures { IfOk result (λ _. self.new.row.items ≡
             record { need = quota; size = 0; ways = 1 } ∷ []) }
     {
-        let mut row = Vec::new(alloc);
-        row.push(Open {
+        self.row.clear();
+        self.row.push(Open {
             need: quota,
             size: 0,
             ways: 1,
         })?;
-        Ok(Rows {
-            row,
-            taken: Vec::new(alloc),
-            next: Vec::new(alloc),
-        })
+        Ok(())
     }
 
     /// Takes over the prefixes of another row.

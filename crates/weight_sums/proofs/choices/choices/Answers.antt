@@ -1,5 +1,4 @@
-use Rattle.std.proofs.Common.{◌≡◌, ◌∙◌, ℕ, List, [], ◌∷◌, ◌++◌, get_or, length, ap, sym, arith, replicate}
-use Rattle.weight_sums.specs.Endings.{choose}
+use Rattle.std.proofs.Common.{◌≡◌, arith}
 use Rattle.weight_sums.proofs.Taking.{choose-zero}
 use Rattle.weight_sums.proofs.choices.choices.Goals as goal
 

@@ -1,4 +1,4 @@
-use Rattle.std.proofs.Common.{ℕ, ◌+◌, ◌-◌, ◌≤◌, ◌^◌, get_or, set, length-set, get_or-set_same, get_or-set_other, arith}
+use Rattle.std.proofs.Common.{ℕ, ◌+◌, ◌-◌, ◌≤◌, ◌^◌, get_or, length-set, get_or-set_same, get_or-set_other, arith}
 use Rattle.std.proofs.Math.Pow.{pow_mono}
 use Rattle.weight_sums.proofs.Taking.{choose-most, choose-none, choose-more}
 use Rattle.weight_sums.proofs.choices.next_row.Goals as goal

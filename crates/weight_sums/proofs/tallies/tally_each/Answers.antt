@@ -8,8 +8,8 @@ use Rattle.weight_sums.proofs.tallies.tally_each.Goals.{Else-not-branch}
 
 pub loop-place-init : goal.loop-place-init
 loop-place-init c =
-    passed-none c.args.weights.now (replicate 41 0) c.args.heads.now.asked c.args.quota c.args.total c.in_ok-rows.rows.row.items
-    (replicate 40 c.args.all.now) c.requires.few (get_or-zeros 41) c.in_ok-rows.ensures c.requires.total refl
+    passed-none c.args.weights.now (replicate 41 0) c.args.heads.now.asked c.args.quota c.args.total c.begin.new.self.row.items
+    (replicate 40 c.args.all.now) c.requires.few (get_or-zeros 41) c.in_ok-begin.ensures c.requires.total refl
 
 pub finish-requires-clause-row : goal.finish-requires-clause-row
 finish-requires-clause-row c = prefixes-later (c.in_ok-copy.ensures ∙ c.deref.ensures.value) (c.loop-place.invariant.are (omega arith))

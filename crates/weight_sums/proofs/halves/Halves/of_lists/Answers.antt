@@ -1,6 +1,6 @@
 use Rattle.std.proofs.Common.{◌∙◌, sym, arith}
 use Rattle.weight_sums.proofs.SetLists.{copied, half-is, members-most}
-use Rattle.weight_sums.proofs.halves.Halves.new.Goals as goal
+use Rattle.weight_sums.proofs.halves.Halves.of_lists.Goals as goal
 
 pub new-requires-clause-first : goal.new-requires-clause-first
 new-requires-clause-first c = half-is (copied c.deref.ensures.value c.in_ok-fill_sets.ensures) (omega (arith, c.split_at.ensures.front_len, c.requires.few))
