@@ -48,7 +48,7 @@ few-of_member_size g i s is = few-of g (λ c. contains g i c && (size_of g c == 
 abbrev pub Holds : List ℕ → (ℕ → ℕ) → Type 0
 Holds xs f = (s : ℕ) → s ≤ 40 → get_or xs s 0 ≡ f s
 
-module _ (g a b : GameView) (is_g : IsGame g) (is_a : IsGame a) (is_b : IsGame b) (are : AreChambersOf g a b) where
+module _ {g a b : GameView} (is_g : IsGame g) (is_a : IsGame a) (is_b : IsGame b) (are : AreChambersOf g a b) where
   pub all-pairs : (xs ys : List ℕ) → Holds xs (minimal_of_size a) → Holds ys (minimal_of_size b) → (s : ℕ) → s ≤ 40
       → paired (λ j. get_or xs j 0) (λ j. get_or ys j 0) s ≡ minimal_of_size g s
   all-pairs xs ys own other s small =
