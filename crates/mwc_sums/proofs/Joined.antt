@@ -71,6 +71,4 @@ module _ {g a b : GameView} (is_g : IsGame g) (is_a : IsGame a) (is_b : IsGame b
   first-few i xs ys lt own other s small =
       let same = paired-same (λ j. get_or xs j 0) (minimal_of_member_size a i) (λ j. get_or ys j 0) (minimal_of_size b) s
       (λ j le. own j (omega (arith, le, small))) (λ j le. other j (omega (arith, le, small))) in
-      let all = chamber-members g a b i s is_g is_a is_b are lt in
-      let few = few-of_member_size g i s is_g in
-      omega (arith, same, all, few)
+      omega (arith, same, chamber-members g a b i s is_g is_a is_b are lt, few-of_member_size g i s is_g)
