@@ -143,7 +143,6 @@ endings-less (suc p) h s (w ∷ ws) r a = elim (cases_lt p (length ws)) [
   | inl inside ↦
       let n = length-left_out p ws inside in
       let f = fill-less h s (length (left_out p ws)) (a + 1) in
-      let e = ap (λ (k : ℕ). fill h s k (a + 1)) n in
-      grind (arith, nat_tests, f, e, endings-less p h s ws (r - w) (a + 1), endings-less p h s ws r a)
+      grind (arith, nat_tests, f, ap (λ (k : ℕ). fill h s k (a + 1)) n, endings-less p h s ws (r - w) (a + 1), endings-less p h s ws r a)
   | inr past ↦ omega (arith, ap (λ (l : List ℕ). endings (w ∷ l) h s r a) (past-end p ws past))
 ]

@@ -34,15 +34,13 @@ cond-most b n m le = grind (arith, nat_tests)
 -- how many are counted at most
 pub here-few : (sets : List Set) (t : Fitting) (s : ℕ) → AreEntered sets t → IsHalf sets → get_or t.here s 0 ≤ 2 ^ 20
 here-few sets t s h half =
-    let long = half.long in
     let most = sum_by-le (λ (x : Set). one_of_size s x.size) 1 (drop t.outside sets) (λ k d lt. cond-most _ 1 1 (omega arith)) in
-    omega (arith, h.here s, most, length-drop t.outside sets, long)
+    omega (arith, h.here s, most, length-drop t.outside sets, half.long)
 
 pub fits-few : (need k s : ℕ) (sets : List Set) → IsHalf sets → sum_by (fits need k s) sets ≤ 2 ^ 20
 fits-few need k s sets half =
-    let long = half.long in
     let most = sum_by-le (fits need k s) 1 sets (λ i d lt. cond-most _ _ 1 (cond-most _ 1 1 (omega arith))) in
-    omega (arith, most, long)
+    omega (arith, most, half.long)
 
 pub entered-more : (sets : List Set) (t u : Fitting) (d : Set) → AreEntered sets t → 0 < t.outside → u.outside ≡ t.outside - 1
     → ((s : ℕ) → get_or u.here s 0 ≡ get_or t.here s 0 + one_of_size s (get_or sets (t.outside - 1) d).size)
@@ -114,9 +112,8 @@ added-more before done here size j h lt =
       long = length-set done (size + j) v ∙ h.long;
       added = λ s from below. elim (cases_eq s (size + j)) [
         | inl same ↦
-            (let l = h.long in
-            let e = ap (λ (i : ℕ). get_or (set done (size + j) v) i 0) same in
-            let w = get_or-set_same done (size + j) v 0 (omega (arith, l, lt)) in
+            (let e = ap (λ (i : ℕ). get_or (set done (size + j) v) i 0) same in
+            let w = get_or-set_same done (size + j) v 0 (omega (arith, h.long, lt)) in
             let z : s - size ≡ j = omega (arith, same) in
             omega (arith, e, w, h.rest (size + j) (inr (omega arith)), ap (λ (i : ℕ). get_or before i 0) same, ap (λ (i : ℕ). get_or here i 0) z))
         | inr ne ↦ other s ne ∙ h.added s from (omega (arith, ne, below))

@@ -12,7 +12,7 @@ use Rattle.std.proofs.Math.Pow.{pow_mono}
 use Rattle.weight_sums.specs.declared.sets.Set.{Set}
 use Rattle.weight_sums.specs.declared.fitting.Fitting.{Fitting}
 use Rattle.weight_sums.specs.declared.groups.Groups.{Groups}
-use Rattle.weight_sums.specs.Inner.Sets.{nobody, fits, met, has, IsHalf}
+use Rattle.weight_sums.specs.Inner.Sets.{nobody, fits, met, has, IsHalf, IsHalfOf}
 use Rattle.weight_sums.specs.Inner.Fitting.{AreEntered, AreOfNeed, Meet}
 use Rattle.weight_sums.specs.Inner.Tables.{AreOfKeys, HasRows}
 use Rattle.weight_sums.specs.Inner.Groups.{low_of, high_of, AreGroups}
@@ -53,15 +53,13 @@ module _ {q digits : ℕ} {xs ys : List Set} {n : ℕ} {lows highs : List (List 
       rows l key long are = record {
         long = (let up : 2 ^ digits ≤ 2 ^ 10 = pow_mono few in omega (arith, long, up));
         few = λ k s small. (
-            let half = first.long in
             let most = of-few key (met q ys) (take n xs) l are (λ i x. fits-few (q - x.weight) x.size i ys second) k s small in
-            omega (arith, most, length-take n xs, half));
+            omega (arith, most, length-take n xs, first.long));
       }
 
   pub next-meets : n < length xs → (need : ℕ) (d : Set) → need ≡ q - (get_or xs n d).weight → Meet need t.outside ys
   next-meets lt need d is k e from within =
-      let b = ap (λ (y : Set). y.weight) (get_or_default xs n d e lt) in
-      omega (arith, h.meet k n e from within (omega arith) lt, b, is)
+      omega (arith, h.meet k n e from within (omega arith) lt, ap (λ (y : Set). y.weight) (get_or_default xs n d e lt), is)
 
   -- one set more
   pub paired-more : n < length xs → {need low high : ℕ} (d : Set) {u : Fitting} {more_lows more_highs : List (List ℕ)}
@@ -102,13 +100,13 @@ module _ {q digits : ℕ} {xs ys : List Set} {n : ℕ} {lows highs : List (List 
       same b s m = grind (arith, nat_tests, none (s - (get_or xs n d).size))
 
 pub paired-all : {q : ℕ} {xs ys : List Set} {n : ℕ} {t : Fitting} (g : Groups)
-    → Paired q g.digits xs ys n g.low.rows.items g.high.rows.items t → length xs ≤ n → g.digits ≤ 10
-    → All (λ x. x.members < 2 ^ (g.digits + g.digits)) xs → IsHalf xs → IsHalf ys → AreGroups q xs ys g
-paired-all {xs = xs} {n = n} g h end few within first second =
-    let rows = paired-rows h first few second in
+    → Paired q g.digits xs ys n g.low.rows.items g.high.rows.items t → length xs ≤ n → g.digits ≤ 10 → IsHalfOf g.digits xs → IsHalf ys
+    → AreGroups q xs ys g
+paired-all {xs = xs} {n = n} g h end few first second =
+    let rows = paired-rows h first.half few second in
     record {
       rows = record { digits = few; low_long = h.low_long; high_long = h.high_long; low_rows = rows.0; high_rows = rows.1 };
-      within = within;
+      within = first.within;
       low_is = rw (take_all n xs end) at h.low_is;
       high_is = rw (take_all n xs end) at h.high_is;
     }
@@ -134,9 +132,8 @@ pub without-low : (q s p n : ℕ) (all others : List Set) (g : Groups) → AreGr
     → n ≡ sum_by (λ x. cond (has p x.members) 0 (met q others s x)) all
 without-low q s p n all others g are lt small gives =
     gives are.low_is (λ k e below. (
-    let l = are.rows.low_long in
     let f = mod-lt (get_or all k e).members (pow_pos g.digits) in
-    omega (arith, l, f)))
+    omega (arith, are.rows.low_long, f)))
     ∙ sum-same (λ x. cond (has p (low_of g.digits x)) 0 (met q others s x)) (λ x. cond (has p x.members) 0 (met q others s x)) all
     (λ x. ap {B = ℕ} (λ b. cond b 0 (met q others s x)) (has-low g.digits p x.members lt))
 
@@ -146,9 +143,8 @@ pub without-high : (q s p r n : ℕ) (all others : List Set) (g : Groups) → Ar
     → n ≡ sum_by (λ x. cond (has p x.members) 0 (met q others s x)) all
 without-high q s p r n all others g are le is small gives =
     gives are.high_is (λ k e below. (
-    let l = are.rows.high_long in
     let f = shr_below (get_or all k e).members g.digits g.digits (are.within k e below) in
-    omega (arith, l, f)))
+    omega (arith, are.rows.high_long, f)))
     ∙ sum-alike (λ x. cond (has r (high_of g.digits x)) 0 (met q others s x)) (λ x. cond (has p x.members) 0 (met q others s x)) all nobody
     (λ k below. (let x : Set = get_or all k nobody in ap {B = ℕ} (λ b. cond b 0 (met q others s x)) (one x (are.within k nobody below))))
   where

@@ -94,10 +94,7 @@ all-met ws h are place s won shortened own won-front won-back shortened-front sh
 -- what is left of the sets that meet the quota is what the members lead to
 pub enough-won : (ws : List ℕ) (heads q s won shortened own : ℕ) → AreMet ws q s won shortened own → 0 < q → heads < s → shortened + own ≤ won
 enough-won ws heads q s won shortened own are some above =
-    let w = are.won_is in
-    let l = are.shortened_is in
-    let law = (endings-counted ws heads s q some).more above in
-    omega (arith, w, l, law)
+    omega (arith, are.won_is, are.shortened_is, (endings-counted ws heads s q some).more above)
 
 pub left-is : (ws : List ℕ) (heads q s : ℕ) (won shortened own sizes : List ℕ)
     → AreMet ws q s (get_or won s 0) (get_or shortened s 0) (get_or own s 0) → AreLeft heads won shortened own sizes → 0 < q → s ≤ 40
@@ -105,12 +102,11 @@ pub left-is : (ws : List ℕ) (heads q s : ℕ) (won shortened own sizes : List 
 left-is ws heads q s won shortened own sizes are left some small =
     let law = endings-counted ws heads s q some in
     let w = are.won_is in
-    let l = are.shortened_is in
     elim (cases_order s heads) [
       | inl same ↦ (
           let j = law.just same in
           let k = left.just in
           omega (arith, w, j, k, ap (λ (k : ℕ). get_or sizes k 0) same, ap (λ (k : ℕ). get_or won k 0) same))
       | inr (inl few) ↦ left.fewer s few ∙ sym (law.fewer few)
-      | inr (inr more) ↦ (let m = left.more s more small in let n = law.more more in omega (arith, w, l, m, n))
+      | inr (inr more) ↦ (let m = left.more s more small in let n = law.more more in omega (arith, w, are.shortened_is, m, n))
     ]

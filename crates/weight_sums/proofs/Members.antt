@@ -8,9 +8,8 @@ use Rattle.std.proofs.lemmas.List.{append_assoc, take_more}
 use Rattle.std.proofs.lemmas.List.Sums.{sum_by-cons, sum_by-drop_more}
 use Rattle.std.proofs.lemmas.List.Elements.{All-cons, All-nil}
 use Rattle.weight_sums.specs.declared.by_size.BySize.{BySize}
-use Rattle.weight_sums.specs.Endings.{no_sizes}
+use Rattle.weight_sums.specs.Endings.{no_sizes, endings, left_out, AreEndings, AreEndingsWith}
 use Rattle.weight_sums.specs.declared.row.Open.{Open}
-use Rattle.weight_sums.specs.Endings.{endings, left_out, AreEndings, AreEndingsWith}
 use Rattle.weight_sums.specs.Inner.Rows.{weigh, AreOfPrefixes, GoesOn}
 use Rattle.weight_sums.proofs.Passing.{prefixes-more}
 

@@ -12,7 +12,7 @@ use Rattle.std.proofs.lemmas.List.Quantifiers.{all_pairs_push}
 use Rattle.std.proofs.lemmas.List.Elements.{All-nil, All-cons, All-push}
 use Rattle.std.proofs.lemmas.List.Sums.{sum_by-cons, sum_by_push, sum_by-drop_more, sum_by-take-drop, get_or-le-sum_by}
 use Rattle.weight_sums.specs.declared.sets.Set.{Set}
-use Rattle.weight_sums.specs.Inner.Sets.{nobody, alone, left, joined, over, AreFirst, Ascend, AreSets, IsHalf}
+use Rattle.weight_sums.specs.Inner.Sets.{nobody, alone, left, joined, over, AreFirst, Ascend, AreSets, IsHalf, IsHalfOf}
 
 double-pow : (n : ℕ) → 2 ^ suc n ≡ 2 ^ n + 2 ^ n
 double-pow n = simp unary_clauses (omega arith)
@@ -157,6 +157,9 @@ module _ {short : Bool} {ws : List ℕ} {xs : List Set} (are : AreSets short ws 
         long = omega (arith, sum-ones xs, are.same (λ x. 1), over-ones short ws, up);
         sizes = most (λ x. x.size) 20 (λ x h. let a = h.size_in in omega (arith, a, few));
       }
+
+  pub half-of : (digits : ℕ) → length ws ≤ 20 → length ws ≤ digits + digits → IsHalfOf digits xs
+  half-of digits few enough = record { half = half-is few; within = members-most (digits + digits) enough }
 
 -- ---- all sets of the members from a place on
 pub begun : (ws : List ℕ) (n : ℕ) {short : Bool} {none first xs : List Set} → AreFirst short none first → length ws ≤ n → xs ≡ none

@@ -10,8 +10,7 @@ use Rattle.std.proofs.lemmas.List.{take_all}
 use Rattle.std.proofs.lemmas.List.Sums.{sum_by_push, sum_by_more, sum_by-drop_more}
 use Rattle.std.proofs.lemmas.List.Elements.{All-nil, All-push}
 use Rattle.weight_sums.specs.declared.row.Open.{Open}
-use Rattle.weight_sums.specs.Endings.{choose}
-use Rattle.weight_sums.specs.Endings.{fill, one_of_size, taken}
+use Rattle.weight_sums.specs.Endings.{choose, fill, one_of_size, taken}
 use Rattle.weight_sums.specs.Inner.Rows.{weigh, prefixes, AreTaken}
 
 pub choose-most : (m k : ℕ) → choose m k ≤ 2 ^ m

@@ -1,9 +1,8 @@
 //! How many pairs of sets of two lists meet a quota, by size and by the members of the one.
 ghost use Rattle.std.specs.Prelude.{◌≡◌, ℕ, ◌+◌, ◌/◌, ◌%◌, ◌<◌, ◌≤◌, ◌^◌, if◌then◌else◌, IfOk, List, slice_index, sum_by};
-ghost use Rattle.std.specs.List.{All};
 ghost use Rattle.coalitions.specs.declared.limits.TheConstants.{MEMBERS};
 ghost use Rattle.weight_sums.specs.declared.sets.Set.{Set};
-ghost use Rattle.weight_sums.specs.Inner.Sets.{IsHalf, has, met};
+ghost use Rattle.weight_sums.specs.Inner.Sets.{IsHalf, IsHalfOf, has, met};
 ghost use Rattle.weight_sums.specs.Inner.Groups.{AreGroups, HaveRows};
 
 use crate::fitting::Fitting;
@@ -47,10 +46,9 @@ impl Groups {
         quota: u64,
         digits: u32,
     ) -> Result<Groups, Memory>
-        requires list { IsHalf list.now }
+        requires list { IsHalfOf digits list.now }
         requires others { IsHalf others.now }
         requires digits { digits ≤ 10 }
-        requires within { All (λ x. x.members < 2 ^ (digits + digits)) list.now }
         ensures { IfOk result (AreGroups quota list.now others.now) }
     {
         let mut lows = Table::new(alloc, 1 << digits)?;

@@ -3,9 +3,8 @@ ghost use Rattle.coalitions.specs.declared.limits.TheConstants.{MEMBERS, SIZES, 
 ghost use Rattle.weight_sums.specs.declared.sets.Set.{Set};
 ghost use Rattle.weight_sums.specs.Endings.{AreAllEndings, endings, left_out};
 ghost use Rattle.weight_sums.specs.Inner.Halves.{AreHalves, AreLeft, ArePairs};
-ghost use Rattle.weight_sums.specs.Inner.Sets.{IsHalf, has, met};
+ghost use Rattle.weight_sums.specs.Inner.Sets.{IsHalfOf, has, met};
 ghost use Rattle.weight_sums.specs.Inner.Groups.{HaveRows};
-ghost use Rattle.std.specs.List.{All};
 ghost use Rattle.std.specs.Prelude.{◌≡◌, ℕ, ◌+◌, ◌-◌, ◌<◌, ◌≤◌, ◌^◌, if◌then◌else◌, IfOk, List, length, slice_index, sum, sum_by};
 
 use crate::by_size::BySize;
@@ -30,11 +29,9 @@ impl Pairs {
         quota: u64,
         digits: u32,
     ) -> Result<Pairs, Memory>
-        requires first { IsHalf first.now }
-        requires second { IsHalf second.now }
+        requires first { IsHalfOf digits first.now }
+        requires second { IsHalfOf digits second.now }
         requires digits { digits ≤ 10 }
-        requires first_within { All (λ x. x.members < 2 ^ (digits + digits)) first.now }
-        requires second_within { All (λ x. x.members < 2 ^ (digits + digits)) second.now }
         ensures { IfOk result (ArePairs quota first.now second.now) }
     {
         Ok(Pairs {

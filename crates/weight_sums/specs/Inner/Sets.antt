@@ -1,5 +1,5 @@
 -- Sets of some members, and how many of them meet a need.
-use Rattle.std.specs.Prelude.{ℕ, ◌+◌, ◌-◌, ◌*◌, ◌/◌, ◌%◌, ◌==◌, ◌≤◌, ◌^◌, ◌≡◌, Bool, if◌then◌else◌, nat_le, List, [], ◌∷◌, length, sum_by}
+use Rattle.std.specs.Prelude.{ℕ, ◌+◌, ◌-◌, ◌*◌, ◌/◌, ◌%◌, ◌==◌, ◌<◌, ◌≤◌, ◌^◌, ◌≡◌, Bool, if◌then◌else◌, nat_le, List, [], ◌∷◌, length, sum_by}
 use Rattle.std.specs.List.{All, AllPairs}
 use Rattle.weight_sums.specs.declared.sets.Set.{Set}
 use Rattle.weight_sums.specs.Endings.{one_of_size}
@@ -57,3 +57,8 @@ pub record IsHalf (xs : List Set) : Type 0 where
   pub ascend : Ascend xs
   pub long : length xs ≤ 2 ^ 20
   pub sizes : All (λ x. x.size ≤ 20) xs
+
+-- the same, with places for at most twice as many members as there are digits
+pub record IsHalfOf (digits : ℕ) (xs : List Set) : Type 0 where
+  pub half : IsHalf xs
+  pub within : All (λ x. x.members < 2 ^ (digits + digits)) xs

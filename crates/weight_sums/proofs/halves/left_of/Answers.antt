@@ -17,7 +17,6 @@ loop-size-preserved c =
     let sizes : List ℕ = c.loop-size.sizes in
     let size : ℕ = c.loop-size.size in
     let v : ℕ = get_or c.args.won.now size 0 - get_or c.args.shortened.now size 0 - get_or c.args.own.now size 0 in
-    let above = c.loop-size.auto.size in
     let old = c.loop-size.invariant in
     let other = λ (s : ℕ). get_or-set_other sizes size s v 0 in
     record {
@@ -29,6 +28,6 @@ loop-size-preserved c =
         other s,
         old.more s more,
         get_or-set_same sizes size v 0 (omega (arith, old.long)),
-        c.requires.fewer size (omega (arith, above)) (omega (arith, c.loop-size-test.true)),
+        c.requires.fewer size (omega (arith, c.loop-size.auto.size)) (omega (arith, c.loop-size-test.true)),
       );
     }

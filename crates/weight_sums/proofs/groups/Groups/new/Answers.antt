@@ -8,7 +8,7 @@ use Rattle.weight_sums.proofs.groups.Groups.new.Goals.{then-is_any, else-is_any}
 
 pub add-requires-clause-room : goal.add-requires-clause-room
 add-requires-clause-room c k s small =
-    let rows = paired-rows c.loop-set.invariant c.requires.list c.requires.digits c.requires.others in
+    let rows = paired-rows c.loop-set.invariant c.requires.list.half c.requires.digits c.requires.others in
     omega (arith, rows.0.few k s small)
 
 pub add-requires-clause-few : goal.add-requires-clause-few
@@ -16,13 +16,12 @@ add-requires-clause-few c j = here-few c.args.others.now c.let_in.new.self j c.l
 
 pub add-requires-then-is_any-clause-key : goal.add-requires-then-is_any-clause-key
 add-requires-then-is_any-clause-key c =
-    let long = c.loop-set.invariant.high_long in
-    let below = shr_below _ c.args.digits c.args.digits (c.requires.within c.loop-set.set-index nobody c.loop-set-test.true) in
-    omega (arith, long, below, c.high.ensures)
+    let below = shr_below _ c.args.digits c.args.digits (c.requires.list.within c.loop-set.set-index nobody c.loop-set-test.true) in
+    omega (arith, c.loop-set.invariant.high_long, below, c.high.ensures)
 
 pub add-requires-then-is_any-clause-room : goal.add-requires-then-is_any-clause-room
 add-requires-then-is_any-clause-room c k s small =
-    let rows = paired-rows c.loop-set.invariant c.requires.list c.requires.digits c.requires.others in
+    let rows = paired-rows c.loop-set.invariant c.requires.list.half c.requires.digits c.requires.others in
     omega (arith, rows.1.few k s small)
 
 pub add-requires-then-is_any-clause-few : goal.add-requires-then-is_any-clause-few
@@ -31,14 +30,14 @@ add-requires-then-is_any-clause-few c j = here-few c.args.others.now c.let_in.ne
 pub loop-set-preserved : goal.loop-set-preserved
 loop-set-preserved c =
     elim c.if-is_any.branch [
-      | then-is_any w ↦ rw (w.lows-is, w.highs-is) (paired-more c.loop-set.invariant c.requires.list c.loop-set-test.true nobody
+      | then-is_any w ↦ rw (w.lows-is, w.highs-is) (paired-more c.loop-set.invariant c.requires.list.half c.loop-set-test.true nobody
           c.saturating_sub.ensures w.low.ensures w.high.ensures c.let_in.ensures.all c.let_in.ensures.entered c.let_in.ensures.meet
           w.add.ensures.long w.add-then-is_any.ensures.long w.add.ensures.row w.add-then-is_any.ensures.row)
-      | else-is_any w ↦ rw (w.lows-is, w.highs-is) (paired-further c.loop-set.invariant c.requires.list c.loop-set-test.true nobody
+      | else-is_any w ↦ rw (w.lows-is, w.highs-is) (paired-further c.loop-set.invariant c.requires.list.half c.loop-set-test.true nobody
           c.saturating_sub.ensures c.let_in.ensures.all c.let_in.ensures.entered c.let_in.ensures.meet (c.is_any.ensures w.if-is_any.false))
     ]
 
 pub returns : goal.returns
 returns c =
     paired-all (record { digits = c.args.digits; low = c.loop-set.lows; high = c.loop-set.highs }) c.loop-set.invariant c.loop-set-test.false
-    c.requires.digits c.requires.within c.requires.list c.requires.others
+    c.requires.digits c.requires.list c.requires.others
