@@ -24,7 +24,8 @@ free-more : (short : Bool) (k s w : ℕ) (ws : List ℕ) → over short (w ∷ w
     ≡ cond short (one_of_size s (k + 1)) 0 + (over short ws (fits 0 k s) + over short ws (fits 0 (k + 1) s))
 free-more short k s w ws =
     let z : 0 - w ≡ 0 = omega arith in
-    fits-more short 0 k s w ws ∙ (λ i. cond short (one_of_size s (k + 1)) 0 + (over short ws (fits 0 k s) + over short ws (fits (z i) (k + 1) s)))
+    fits-more short 0 k s w ws ∙ (λ i. cond short (one_of_size s (k + 1)) 0
+    + (over short ws (fits 0 k s) + over short ws (fits (z i) (k + 1) s)))
 
 nobody-chosen : (k : ℕ) → choose 0 k ≡ one_of_size 0 k
 unfolding choose

@@ -107,7 +107,8 @@ pub added-more : (before done here : List ℕ) (size j : ℕ) → Added before d
     → Added before (set done (size + j) (get_or done (size + j) 0 + get_or here j 0)) here size (j + 1)
 added-more before done here size j h lt =
     let v : ℕ = get_or done (size + j) 0 + get_or here j 0 in
-    let other : (s : ℕ) → (s ≡ size + j → ⊥) → get_or (set done (size + j) v) s 0 ≡ get_or done s 0 = λ s ne. get_or-set_other done (size + j) s v 0 ne in
+    let other : (s : ℕ) → (s ≡ size + j → ⊥) → get_or (set done (size + j) v) s 0 ≡ get_or done s 0 =
+    λ s ne. get_or-set_other done (size + j) s v 0 ne in
     record {
       long = length-set done (size + j) v ∙ h.long;
       added = λ s from below. elim (cases_eq s (size + j)) [
@@ -115,7 +116,14 @@ added-more before done here size j h lt =
             (let e = ap (λ (i : ℕ). get_or (set done (size + j) v) i 0) same in
             let w = get_or-set_same done (size + j) v 0 (omega (arith, h.long, lt)) in
             let z : s - size ≡ j = omega (arith, same) in
-            omega (arith, e, w, h.rest (size + j) (inr (omega arith)), ap (λ (i : ℕ). get_or before i 0) same, ap (λ (i : ℕ). get_or here i 0) z))
+            omega (
+              arith,
+              e,
+              w,
+              h.rest (size + j) (inr (omega arith)),
+              ap (λ (i : ℕ). get_or before i 0) same,
+              ap (λ (i : ℕ). get_or here i 0) z,
+            ))
         | inr ne ↦ other s ne ∙ h.added s from (omega (arith, ne, below))
       ];
       rest = λ s out. elim out [

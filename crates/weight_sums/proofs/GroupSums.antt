@@ -70,8 +70,8 @@ module _ {q digits : ℕ} {xs ys : List Set} {n : ℕ} {lows highs : List (List 
       → ((k s : ℕ) → s ≤ 40 → get_or (get_or more_highs k []) s 0 ≡ get_or (get_or highs k []) s 0
       + cond (eqb k high) (cond (leb (get_or xs n d).size s) (get_or u.here (s - (get_or xs n d).size) 0) 0) 0)
       → Paired q digits xs ys (n + 1) more_lows more_highs u
-  paired-more lt {need = need} {low = low} {high = high} d {u = u} {more_lows = more_lows} {more_highs = more_highs} is low_key high_key are entered meet
-      low_long high_long low_row high_row =
+  paired-more lt {need = need} {low = low} {high = high} d {u = u} {more_lows = more_lows} {more_highs = more_highs} is low_key high_key are
+      entered meet low_long high_long low_row high_row =
       let x : Set = get_or xs n d in
       let row : ℕ → ℕ = λ s. cond (leb x.size s) (get_or u.here (s - x.size) 0) 0 in
       let gives : (s : ℕ) → s ≤ 40 → row s ≡ met q ys s x = λ s small. added need ys u x.size s are
@@ -89,7 +89,8 @@ module _ {q digits : ℕ} {xs ys : List Set} {n : ℕ} {lows highs : List (List 
       }
 
   -- a set with which none of the others meets the quota
-  pub paired-further : n < length xs → {need : ℕ} (d : Set) {u : Fitting} → need ≡ q - (get_or xs n d).weight → AreOfNeed need ys u → AreEntered ys u
+  pub paired-further : n < length xs → {need : ℕ} (d : Set) {u : Fitting} → need ≡ q - (get_or xs n d).weight → AreOfNeed need ys u
+      → AreEntered ys u
       → Meet need u.outside ys → ((s : ℕ) → get_or u.here s 0 ≡ 0) → Paired q digits xs ys (n + 1) lows highs u
   paired-further lt d {u = u} is are entered meet none =
       paired-more lt d is refl refl are entered meet refl refl
@@ -137,8 +138,10 @@ without-low q s p n all others g are lt small gives =
     ∙ sum-same (λ x. cond (has p (low_of g.digits x)) 0 (met q others s x)) (λ x. cond (has p x.members) 0 (met q others s x)) all
     (λ x. ap {B = ℕ} (λ b. cond b 0 (met q others s x)) (has-low g.digits p x.members lt))
 
-pub without-high : (q s p r n : ℕ) (all others : List Set) (g : Groups) → AreGroups q all others g → g.digits ≤ p → r ≡ min (p - g.digits) g.digits
-    → s ≤ 40 → (AreOfKeys (high_of g.digits) (met q others) all g.high.rows.items → All (λ x. high_of g.digits x < length g.high.rows.items) all
+pub without-high : (q s p r n : ℕ) (all others : List Set) (g : Groups) → AreGroups q all others g → g.digits ≤ p
+    → r ≡ min (p - g.digits) g.digits
+    → s ≤ 40 → (AreOfKeys (high_of g.digits) (met q others) all g.high.rows.items
+    → All (λ x. high_of g.digits x < length g.high.rows.items) all
     → n ≡ sum_by (λ x. cond (has r (high_of g.digits x)) 0 (met q others s x)) all)
     → n ≡ sum_by (λ x. cond (has p x.members) 0 (met q others s x)) all
 without-high q s p r n all others g are le is small gives =

@@ -33,7 +33,8 @@ halves-met : (short : Bool) (ws fr bk : List ℕ) (xs ys : List Set) (half : ℕ
 halves-met short ws fr bk xs ys half whole long first second q s place n front back = elim (cases_lt place half) [
   | inl less ↦
       let us : List ℕ = left_out place fr in
-      let is = ap (λ (l : List ℕ). over short l (fits q 0 s)) (ap (left_out place) (sym whole) ∙ left_out-front place fr bk (omega (arith, long, less))) ∙ fits-halves short bk us q s in
+      let is = ap (λ (l : List ℕ). over short l (fits q 0 s))
+      (ap (left_out place) (sym whole) ∙ left_out-front place fr bk (omega (arith, long, less))) ∙ fits-halves short bk us q s in
       let out = left_out-over false place fr (λ m k. over short bk (fits (q - m) k s))
       ∙ sym (first.same (λ x. cond (has place x.members) 0 (over short bk (fits (q - x.weight) x.size s))))
       ∙ sym (λ i. sum_by (λ x. cond (has place x.members) 0 (second.same (fits (q - x.weight) x.size s) i)) xs) in
@@ -41,9 +42,11 @@ halves-met short ws fr bk xs ys half whole long first second q s place n front b
   | inr past ↦
       let p : ℕ = place - half in
       let is = ap (λ (l : List ℕ). over short l (fits q 0 s))
-      (ap (left_out place) (sym whole) ∙ left_out-back place p fr bk (omega (arith, long, past))) ∙ fits-halves short (left_out p bk) fr q s in
+      (ap (left_out place) (sym whole) ∙ left_out-back place p fr bk (omega (arith, long, past)))
+      ∙ fits-halves short (left_out p bk) fr q s in
       let one : Set → Set → ℕ = λ x y. cond (has p y.members) 0 (fits (q - x.weight) x.size s y) in
-      let out : over false fr (λ x. over short (left_out p bk) (fits (q - x.weight) x.size s)) ≡ sum_by (λ y. cond (has p y.members) 0 (met q xs s y)) ys =
+      let out : over false fr (λ x. over short (left_out p bk) (fits (q - x.weight) x.size s))
+      ≡ sum_by (λ y. cond (has p y.members) 0 (met q xs s y)) ys =
       (λ i. over false fr (λ x. left_out-over short p bk (λ m k. cond (leb (q - x.weight) m) (one_of_size s (x.size + k)) 0) i))
       ∙ sym (first.same (λ x. over short bk (one x))) ∙ sym (λ i. sum_by (λ x. second.same (one x) i) xs) ∙ sum-swap one xs ys
       ∙ (λ i. sum_by (λ y. sum-if (has p y.members) (λ x. fits (q - x.weight) x.size s y) xs i) ys)
@@ -83,7 +86,8 @@ all-met ws h are place s won shortened own won-front won-back shortened-front sh
     let bk : List ℕ = drop half ws in
     let whole = take-append-drop half ws in
     let long : length fr ≡ half = let l = length-take half ws in omega (arith, l) in
-    let one = halves-met false ws fr bk are.first are.second half whole long are.first_are are.second_are h.quota s place won won-front won-back in
+    let one = halves-met false ws fr bk are.first are.second half whole long are.first_are are.second_are h.quota s place
+    won won-front won-back in
     let two = halves-met true ws fr bk are.first are.second_shortened half whole long are.first_are are.second_shortened_are h.quota s place
     shortened shortened-front shortened-back in
     record {
@@ -92,7 +96,8 @@ all-met ws h are place s won shortened own won-front won-back shortened-front sh
     }
 
 -- what is left of the sets that meet the quota is what the members lead to
-pub enough-won : (ws : List ℕ) (heads q s won shortened own : ℕ) → AreMet ws q s won shortened own → 0 < q → heads < s → shortened + own ≤ won
+pub enough-won : (ws : List ℕ) (heads q s won shortened own : ℕ) → AreMet ws q s won shortened own → 0 < q → heads < s
+    → shortened + own ≤ won
 enough-won ws heads q s won shortened own are some above =
     omega (arith, are.won_is, are.shortened_is, (endings-counted ws heads s q some).more above)
 

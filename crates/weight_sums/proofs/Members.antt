@@ -18,7 +18,8 @@ pub prefixes-start : (n q : ℕ) (done : List ℕ) (row : List Open) → n ≤ 4
     → row ≡ record { need = q; size = 0; ways = 1 } ∷ [] → AreOfPrefixes 0 n done row
 prefixes-start n q done row few none is = rw is (record {
   few = λ s small. (let up : 2 ^ n ≤ 2 ^ 40 = pow_mono few in omega (arith, none s, up));
-  sizes = All-cons (λ (o : Open). o.size ≤ 0) (record { need = q; size = 0; ways = 1 }) [] (omega arith) (All-nil (λ (o : Open). o.size ≤ 0));
+  sizes =
+      All-cons (λ (o : Open). o.size ≤ 0) (record { need = q; size = 0; ways = 1 }) [] (omega arith) (All-nil (λ (o : Open). o.size ≤ 0));
 })
 
 pub weigh-start : (ws : List ℕ) (heads q s : ℕ) (row : List Open) → row ≡ record { need = q; size = 0; ways = 1 } ∷ []
@@ -80,7 +81,8 @@ pub prefixes-later : {p left : ℕ} {done : List ℕ} {row others : List Open} �
     → AreOfPrefixes (p + 1) left done others
 prefixes-later same are = rw same (record { few = are.few; sizes = λ i d lt. (let le = are.sizes i d lt in omega (arith, le)) })
 
-module _ {ws : List ℕ} {heads q p rest : ℕ} {done : List ℕ} {row : List Open} {each : List BySize} (h : Passed ws heads q p rest done row each)
+module _ {ws : List ℕ} {heads q p rest : ℕ} {done : List ℕ} {row : List Open} {each : List BySize}
+    (h : Passed ws heads q p rest done row each)
     (lt : p < length ws) where
   abbrev w : ℕ
   w = get_or ws p 0

@@ -39,7 +39,9 @@ endings-none (w ∷ ws) heads s r a short =
     grind (arith, nat_tests, total, again, endings-none ws heads s r a (omega (arith, total, short)))
 
 double-times : (m left : ℕ) → m * 2 ^ (left + 1) ≡ m * 2 ^ left + m * 2 ^ left
-double-times m left = let two : 2 ^ (left + 1) ≡ 2 ^ left + 2 ^ left = simp unary_clauses (omega arith) in omega (arith, ap (λ (n : ℕ). m * n) two)
+double-times m left =
+    let two : 2 ^ (left + 1) ≡ 2 ^ left + 2 ^ left = simp unary_clauses (omega arith) in
+    omega (arith, ap (λ (n : ℕ). m * n) two)
 
 -- a row, what its prefixes are with a member more, and those that go on without it
 module _ {w heads left : ℕ} {before done : List ℕ} {row others : List Open} (taken-are : AreTaken w heads left before done row others) where

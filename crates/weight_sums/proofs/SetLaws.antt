@@ -56,7 +56,8 @@ fits-more short d k s w ws = λ i. cond short (fits d k s alone) 0 + (over short
 
 -- ---- of members in two halves
 over-halves : (short : Bool) (vs ws : List ℕ) (g : ℕ → ℕ → ℕ) → over short (ws ++ vs) (λ x. g x.weight x.size)
-    ≡ over false ws (λ x. over short vs (λ y. g (y.weight + x.weight) (y.size + x.size))) + cond short (over true ws (λ x. g x.weight x.size)) 0
+    ≡ over false ws (λ x. over short vs (λ y. g (y.weight + x.weight) (y.size + x.size)))
+    + cond short (over true ws (λ x. g x.weight x.size)) 0
 unfolding over
 over-halves short vs [] g =
     let plain : (n : ℕ) → n ≡ n + 0 = λ n. omega arith in
@@ -77,7 +78,9 @@ fits-halves short vs ws q s =
     ∙ (λ i. over false ws (λ x. over short vs (λ y. both x y i)) + cond short (over true ws (fits q 0 s)) 0)
   where
     both : (x y : Set) → cond (leb q (y.weight + x.weight)) (one_of_size s (0 + (y.size + x.size))) 0 ≡ fits (q - x.weight) x.size s y
-    both x y = let e : 0 + (y.size + x.size) ≡ x.size + y.size = omega arith in λ i. cond (meets-less q x.weight y.weight i) (one_of_size s (e i)) 0
+    both x y =
+        let e : 0 + (y.size + x.size) ≡ x.size + y.size = omega arith in
+        λ i. cond (meets-less q x.weight y.weight i) (one_of_size s (e i)) 0
 
 -- two sets meet a quota together, whichever is named first
 pub fits-turned : (q s : ℕ) (x y : Set) → fits (q - x.weight) x.size s y ≡ fits (q - y.weight) y.size s x
@@ -106,7 +109,8 @@ left_out-over short zero (w ∷ ws) g =
     grind (arith, nat_tests, out, with_it, over-zero short ws)
 left_out-over short (suc p) (w ∷ ws) g =
     let front : cond (has (suc p) 1) 0 (g 0 1) ≡ g 0 1 = λ i. cond ((has-later p 1 0 (omega arith) ∙ has-none p) i) 0 (g 0 1) in
-    let out : over short ws (λ x. cond (has (suc p) (2 * x.members)) 0 (g x.weight x.size)) ≡ over short ws (λ x. cond (has p x.members) 0 (g x.weight x.size)) =
+    let out : over short ws (λ x. cond (has (suc p) (2 * x.members)) 0 (g x.weight x.size))
+    ≡ over short ws (λ x. cond (has p x.members) 0 (g x.weight x.size)) =
     λ i. over short ws (λ x. cond (has-later p (2 * x.members) x.members (omega arith) i) 0 (g x.weight x.size)) in
     let with_it : over short ws (λ x. cond (has (suc p) (2 * x.members + 1)) 0 (g (x.weight + w) (x.size + 1)))
     ≡ over short ws (λ x. cond (has p x.members) 0 (g (x.weight + w) (x.size + 1))) =

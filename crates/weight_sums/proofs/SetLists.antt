@@ -47,18 +47,26 @@ module _ {w : ℕ} {before xs : List Set} {i j : ℕ} {next after : List Set} (h
   pushed-most : (m : ℕ) → All (λ x. x.weight ≤ m) next → y.weight ≤ m → All (λ x. x.weight ≤ m) after
   pushed-most m old own = rw is (All-push (λ x. x.weight ≤ m) next y old own)
 
-  pub doubling-left : Ascend xs → i < length xs → y ≡ left (get_or xs i nobody) → (get_or xs i nobody).weight ≤ (get_or xs j nobody).weight + w
+  pub doubling-left : Ascend xs → i < length xs → y ≡ left (get_or xs i nobody)
+      → (get_or xs i nobody).weight ≤ (get_or xs j nobody).weight + w
       → Doubling w before xs (i + 1) j after
   doubling-left asc lt set less =
       let own : y.weight ≡ (get_or xs i nobody).weight = ap (λ (x : Set). x.weight) set in
       record {
         within = omega arith;
         later = (let l = h.later in omega (arith, l));
-        same = λ g. omega (arith, h.same g, ap (sum_by g) is, sum_by_push g next y, sum_by-drop_more (λ x. g (left x)) xs i nobody lt, ap g set);
-        ascend = pushed-ascend (λ k e below. (let l = h.lefts lt k e below in omega (arith, l, own)));
+        same = λ g. omega (
+          arith,
+          h.same g,
+          ap (sum_by g) is,
+          sum_by_push g next y,
+          sum_by-drop_more (λ x. g (left x)) xs i nobody lt,
+          ap g set,
+        );
+        ascend = pushed-ascend (λ k e below. omega (arith, h.lefts lt k e below, own));
         lefts = λ some. (
             let up = asc i (i + 1) nobody (omega arith) some in
-            pushed-most (get_or xs (i + 1) nobody).weight (λ k e old. (let l = h.lefts lt k e old in omega (arith, l, up))) (omega (arith, own, up)));
+            pushed-most (get_or xs (i + 1) nobody).weight (λ k e old. omega (arith, h.lefts lt k e old, up)) (omega (arith, own, up)));
         joins = λ some. pushed-most ((get_or xs j nobody).weight + w) (h.joins some) (omega (arith, own, less));
       }
 
@@ -69,19 +77,27 @@ module _ {w : ℕ} {before xs : List Set} {i j : ℕ} {next after : List Set} (h
       record {
         within = h.within;
         later = elim (cases_eq j i) [
-          | inl e ↦ absurd (let l = less (omega (arith, e, lt)) in let f = ap (λ (m : ℕ). (get_or xs m nobody).weight) e in omega (arith, f, l))
+          | inl e ↦ absurd (omega (arith, less (omega (arith, e, lt)), ap (λ (m : ℕ). (get_or xs m nobody).weight) e))
           | inr ne ↦ (let l = h.later in omega (arith, l, ne))
         ];
-        same = λ g. omega (arith, h.same g, ap (sum_by g) is, sum_by_push g next y, sum_by-drop_more (λ x. g (joined w x)) xs j nobody lt, ap g set);
-        ascend = pushed-ascend (λ k e below. (let l = h.joins lt k e below in omega (arith, l, own)));
+        same = λ g. omega (
+          arith,
+          h.same g,
+          ap (sum_by g) is,
+          sum_by_push g next y,
+          sum_by-drop_more (λ x. g (joined w x)) xs j nobody lt,
+          ap g set,
+        );
+        ascend = pushed-ascend (λ k e below. omega (arith, h.joins lt k e below, own));
         lefts = λ some. (let l = less some in pushed-most (get_or xs i nobody).weight (h.lefts some) (omega (arith, own, l)));
         joins = λ some. (
             let up = asc j (j + 1) nobody (omega arith) some in
-            pushed-most ((get_or xs (j + 1) nobody).weight + w) (λ k e old. (let l = h.joins lt k e old in omega (arith, l, up)))
+            pushed-most ((get_or xs (j + 1) nobody).weight + w) (λ k e old. omega (arith, h.joins lt k e old, up))
             (omega (arith, own, up)));
       }
 
-pub doubling-all : {w : ℕ} {before xs : List Set} {i j : ℕ} {next : List Set} → Doubling w before xs i j next → length xs ≤ i → length xs ≤ j
+pub doubling-all : {w : ℕ} {before xs : List Set} {i j : ℕ} {next : List Set} → Doubling w before xs i j next → length xs ≤ i
+    → length xs ≤ j
     → (g : Set → ℕ) → sum_by g next ≡ sum_by g before + sum_by (λ x. g (left x)) xs + sum_by (λ x. g (joined w x)) xs
 doubling-all {w = w} {xs = xs} {i = i} {j = j} h all also g =
     omega (arith, h.same g, ap (sum_by (λ x. g (left x))) (drop_all i xs all), ap (sum_by (λ x. g (joined w x))) (drop_all j xs also))
@@ -176,9 +192,12 @@ pub weightless : (short : Bool) {none first : List Set} → AreFirst short none 
 weightless true begins = rw begins.first_is (All-cons (λ x. x.weight ≤ 0) alone [] (omega arith) (All-nil (λ x. x.weight ≤ 0)))
 weightless false begins = rw begins.first_is (All-nil (λ x. x.weight ≤ 0))
 
-module _ (ws : List ℕ) (p : ℕ) {short : Bool} {xs : List Set} (are : AreSets short (drop p ws) xs) (some : 0 < p) (within : p ≤ length ws) where
+module _ (ws : List ℕ) (p : ℕ) {short : Bool} {xs : List Set} (are : AreSets short (drop p ws) xs) (some : 0 < p)
+    (within : p ≤ length ws) where
   here : drop (p - 1) ws ≡ get_or ws (p - 1) 0 ∷ drop p ws
-  here = let back : p - 1 + 1 ≡ p = omega arith in drop_more ws (p - 1) 0 (omega arith) ∙ ap (λ (k : ℕ). get_or ws (p - 1) 0 ∷ drop k ws) back
+  here =
+      let back : p - 1 + 1 ≡ p = omega arith in
+      drop_more ws (p - 1) 0 (omega arith) ∙ ap (λ (k : ℕ). get_or ws (p - 1) 0 ∷ drop k ws) back
 
   fewer : length (drop p ws) ≤ length ws
   fewer = let l = length-drop p ws in omega (arith, l)
@@ -198,7 +217,8 @@ module _ (ws : List ℕ) (p : ℕ) {short : Bool} {xs : List Set} (are : AreSets
       omega (arith, le)
 
   pub sets-further : {none first next : List Set} → AreFirst short none first → ((g : Set → ℕ) → sum_by g next ≡ sum_by g first
-      + sum_by (λ x. g (left x)) xs + sum_by (λ x. g (joined (get_or ws (p - 1) 0) x)) xs) → Ascend next → AreSets short (drop (p - 1) ws) next
+      + sum_by (λ x. g (left x)) xs + sum_by (λ x. g (joined (get_or ws (p - 1) 0) x)) xs) → Ascend next
+      → AreSets short (drop (p - 1) ws) next
   unfolding over
   sets-further begins both asc = rw here (record {
     same = λ g. omega (

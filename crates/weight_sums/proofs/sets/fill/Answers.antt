@@ -17,13 +17,19 @@ own : (c : After-deref) → AreSets (length c.args.none.now == 0) (drop c.loop-p
 own c = rw c.deref.ensures.value c.loop-place.invariant.are
 
 pub with_first-requires-clause-light : goal.with_first-requires-clause-light
-with_first-requires-clause-light c = light-enough _ _ (own (goal.at.with_first-requires-clause-light c).After-deref) c.loop-place-test.true c.loop-place.invariant.within (omega (arith, c.requires.light))
+with_first-requires-clause-light c =
+    light-enough _ _ (own (goal.at.with_first-requires-clause-light c).After-deref) c.loop-place-test.true c.loop-place.invariant.within
+    (omega (arith, c.requires.light))
 
 pub with_first-requires-clause-members : goal.with_first-requires-clause-members
-with_first-requires-clause-members c = few-members _ _ (own (goal.at.with_first-requires-clause-members c).After-deref) c.loop-place-test.true c.loop-place.invariant.within c.requires.few
+with_first-requires-clause-members c =
+    few-members _ _ (own (goal.at.with_first-requires-clause-members c).After-deref) c.loop-place-test.true c.loop-place.invariant.within
+    c.requires.few
 
 pub with_first-requires-clause-sizes : goal.with_first-requires-clause-sizes
-with_first-requires-clause-sizes c = small-enough _ _ (own (goal.at.with_first-requires-clause-sizes c).After-deref) c.loop-place-test.true c.loop-place.invariant.within c.requires.few
+with_first-requires-clause-sizes c =
+    small-enough _ _ (own (goal.at.with_first-requires-clause-sizes c).After-deref) c.loop-place-test.true c.loop-place.invariant.within
+    c.requires.few
 
 pub with_first-requires-clause-before : goal.with_first-requires-clause-before
 with_first-requires-clause-before c =
@@ -31,10 +37,13 @@ with_first-requires-clause-before c =
 
 pub loop-place-preserved : goal.loop-place-preserved
 loop-place-preserved c =
-    let front = c.in_ok-extend_from_slice-2.ensures.items ∙ ap (λ (l : List Set). l ++ c.args.first.now) c.clear-in-loop-place.ensures.items in
+    let front = c.in_ok-extend_from_slice-2.ensures.items
+    ∙ ap (λ (l : List Set). l ++ c.args.first.now) c.clear-in-loop-place.ensures.items in
     let same = rw front at c.in_ok-with_first.ensures.same in
     record {
       within = (let w = c.loop-place.invariant.within in omega (arith, w));
-      are = sets-further _ _ (own (goal.at.loop-place-preserved c).After-deref) c.loop-place-test.true c.loop-place.invariant.within c.requires.begins
+      are =
+          sets-further _ _ (own (goal.at.loop-place-preserved c).After-deref) c.loop-place-test.true c.loop-place.invariant.within
+          c.requires.begins
           (rw c.swap.ensures.x_after same) (rw c.swap.ensures.x_after c.in_ok-with_first.ensures.ascend);
     }

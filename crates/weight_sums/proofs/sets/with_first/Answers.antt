@@ -8,8 +8,11 @@ loop-i-init c = rw c.in_ok-reserve.ensures.items (doubling-none _ _ _ c.requires
 
 pub loop-i-preserved : goal.loop-i-preserved
 loop-i-preserved c =
-    doubling-joined c.loop-i.invariant _ c.in_ok-push-2.ensures.items c.requires.ascend (let l = c.loop-i.invariant.later in omega (arith, l, c.loop-i-test.true))
-    c.joined-with.ensures (λ some. omega (arith, c.if-out-with.false, ap (λ (x : Set). x.weight) c.left-out.ensures, ap (λ (x : Set). x.weight) c.joined-with.ensures))
+    let out = ap (λ (x : Set). x.weight) c.left-out.ensures in
+    let joined = ap (λ (x : Set). x.weight) c.joined-with.ensures in
+    let later = c.loop-i.invariant.later in
+    doubling-joined c.loop-i.invariant _ c.in_ok-push-2.ensures.items c.requires.ascend (omega (arith, later, c.loop-i-test.true))
+    c.joined-with.ensures (λ some. omega (arith, c.if-out-with.false, out, joined))
 
 pub loop-i-preserved-then-out-with : goal.loop-i-preserved-then-out-with
 loop-i-preserved-then-out-with c =

@@ -17,7 +17,9 @@ finish-requires-clause-row c = prefixes-later (c.in_ok-copy.ensures ∙ c.deref.
 -- what is counted without the member
 without : (c : Else-not-branch) (s : ℕ) → s ≤ 40
     → get_or c.finish.new.done s 0 ≡ endings (left_out c.loop-place.place c.args.weights.now) c.args.heads.now.asked s c.args.quota 0
-without c = without-is c.loop-place.invariant (omega arith) _ (c.in_ok-copy.ensures ∙ c.deref.ensures.value) (c.in_ok-finish.ensures c.if-not-branch.false)
+without c =
+    without-is c.loop-place.invariant (omega arith) _ (c.in_ok-copy.ensures
+    ∙ c.deref.ensures.value) (c.in_ok-finish.ensures c.if-not-branch.false)
 
 pub difference-requires : goal.difference-requires
 difference-requires c s small =

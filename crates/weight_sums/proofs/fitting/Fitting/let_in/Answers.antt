@@ -6,8 +6,8 @@ use Rattle.weight_sums.proofs.fitting.Fitting.let_in.Goals as goal
 pub enter-requires-clause-here : goal.enter-requires-clause-here
 enter-requires-clause-here c =
     let most =
-    here-few c.args.sets.now c.loop-self.self (get_or c.args.sets.now (c.loop-self.self.outside - 1) nobody).size c.loop-self.invariant.entered
-    c.requires.half in
+    here-few c.args.sets.now c.loop-self.self (get_or c.args.sets.now (c.loop-self.self.outside - 1) nobody).size
+    c.loop-self.invariant.entered c.requires.half in
     omega (arith, most)
 
 pub returns-else-need-sets-clause-all : goal.returns-else-need-sets-clause-all

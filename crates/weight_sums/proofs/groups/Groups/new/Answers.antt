@@ -39,5 +39,5 @@ loop-set-preserved c =
 
 pub returns : goal.returns
 returns c =
-    paired-all (record { digits = c.args.digits; low = c.loop-set.lows; high = c.loop-set.highs }) c.loop-set.invariant c.loop-set-test.false
-    c.requires.digits c.requires.list c.requires.others
+    paired-all (record { digits = c.args.digits; low = c.loop-set.lows; high = c.loop-set.highs }) c.loop-set.invariant
+    c.loop-set-test.false c.requires.digits c.requires.list c.requires.others

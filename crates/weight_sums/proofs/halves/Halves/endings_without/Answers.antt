@@ -6,7 +6,8 @@ use Rattle.weight_sums.proofs.halves.Halves.endings_without.Goals as goal
 use Rattle.weight_sums.proofs.halves.Halves.endings_without.Goals.{After-without-own}
 
 met-at : (c : After-without-own) (s : ℕ) → s ≤ 40
-    → AreMet (left_out c.args.place c.args.weights.now) c.args.self.now.quota s (get_or c.without-won.result s 0) (get_or c.without-shortened.result s 0)
+    → AreMet (left_out c.args.place c.args.weights.now) c.args.self.now.quota s (get_or c.without-won.result s 0)
+    (get_or c.without-shortened.result s 0)
     (get_or c.without-own.result s 0)
 met-at c s small =
     let are = c.requires.halves in
@@ -19,9 +20,11 @@ met-at c s small =
     (c.without-own.ensures q are.first_shortened (nobody ∷ []) s are.own small)
 
 pub left_of-requires-clause-fewer : goal.left_of-requires-clause-fewer
-left_of-requires-clause-fewer c s above small = enough-won _ c.args.heads _ s _ _ _ (met-at (goal.at.left_of-requires-clause-fewer c).After-without-own s small) c.requires.some above
+left_of-requires-clause-fewer c s above small =
+    enough-won _ c.args.heads _ s _ _ _ (met-at (goal.at.left_of-requires-clause-fewer c).After-without-own s small) c.requires.some above
 
 pub returns-clause-sizes : goal.returns-clause-sizes
 returns-clause-sizes c s small =
-    left-is _ c.args.heads _ s c.without-won.result c.without-shortened.result c.without-own.result c.left_of.result (met-at (goal.at.returns-clause-sizes c).After-without-own s small)
+    left-is _ c.args.heads _ s c.without-won.result c.without-shortened.result c.without-own.result c.left_of.result
+    (met-at (goal.at.returns-clause-sizes c).After-without-own s small)
     c.left_of.ensures c.requires.some small

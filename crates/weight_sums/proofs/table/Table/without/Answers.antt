@@ -36,16 +36,27 @@ loop-key-preserved c =
     let old = c.loop-key.invariant in
     elim c.if-key-place-ne1.branch [
       | then-key-place-ne1 w ↦
-          let is : (s : ℕ) → s ≤ 40 → get_or c.if-key-place-ne1.sum s 0 ≡ get_or c.loop-key.sum s 0 + get_or (get_or rows n []) s 0 = λ s small.
-          (let row = row-of rows n s w.index.result.now w.index.result.now (omega (arith, c.len-key-end.ensures, c.loop-key-test.true)) w.index.ensures in
+          let is : (s : ℕ) → s ≤ 40 → get_or c.if-key-place-ne1.sum s 0 ≡ get_or c.loop-key.sum s 0
+          + get_or (get_or rows n []) s 0 = λ s small.
+          (let row =
+          row-of rows n s w.index.result.now w.index.result.now
+          (omega (arith, c.len-key-end.ensures, c.loop-key-test.true)) w.index.ensures in
           omega (arith, ap (λ (l : List ℕ). get_or l s 0) w.sum-is, w.add_row.ensures s small, row)) in
           record {
             added = λ key f xs s are small.
-                grind (arith, nat_tests, added-further n c.args.place key (f s) xs, old.added key f xs s are small, are.each n s small, is s small);
+                grind (
+                  arith,
+                  nat_tests,
+                  added-further n c.args.place key (f s) xs,
+                  old.added key f xs s are small,
+                  are.each n s small,
+                  is s small,
+                );
             room = λ s small. omega (arith, old.room s small, c.requires.rows.few n s small, is s small);
           }
       | else-key-place-ne1 w ↦
-          let is : (s : ℕ) → get_or c.if-key-place-ne1.sum s 0 ≡ get_or c.loop-key.sum s 0 = λ s. ap (λ (l : List ℕ). get_or l s 0) w.sum-is in
+          let is : (s : ℕ) → get_or c.if-key-place-ne1.sum s 0 ≡ get_or c.loop-key.sum s 0 =
+          λ s. ap (λ (l : List ℕ). get_or l s 0) w.sum-is in
           record {
             added = λ key f xs s are small.
                 grind (arith, nat_tests, added-further n c.args.place key (f s) xs, old.added key f xs s are small, is s);
