@@ -1,6 +1,6 @@
 -- What members lead to, by size: fewer than are asked for, as many, more; by their sets; and without a member.
-use Rattle.std.proofs.Common.{◌≡◌, ◌∙◌, ℕ, zero, suc, ◌+◌, ◌-◌, ◌<◌, ◌≤◌, Bool, true, false, cond, leb}
-use Rattle.std.proofs.Common.{List, [], ◌∷◌, length, sym, ap, refl, arith, inl, inr}
+use Rattle.std.proofs.Common.{◌≡◌, ℕ, zero, suc, ◌+◌, ◌-◌, ◌<◌, ◌≤◌, Bool, true, false, cond, leb}
+use Rattle.std.proofs.Common.{List, [], ◌∷◌, length, ap, refl, arith}
 use Rattle.std.proofs.lemmas.Bool.{cases_lt}
 use Rattle.std.proofs.lemmas.Bool.Decides.{nat_tests}
 use Rattle.weight_sums.specs.Endings.{choose, one_of_size, fill, endings, left_out}
@@ -22,10 +22,7 @@ chosen-more m a s =
 -- with no need left
 free-more : (short : Bool) (k s w : ℕ) (ws : List ℕ) → over short (w ∷ ws) (fits 0 k s)
     ≡ cond short (one_of_size s (k + 1)) 0 + (over short ws (fits 0 k s) + over short ws (fits 0 (k + 1) s))
-free-more short k s w ws =
-    let z : 0 - w ≡ 0 = omega arith in
-    fits-more short 0 k s w ws ∙ (λ i. cond short (one_of_size s (k + 1)) 0
-    + (over short ws (fits 0 k s) + over short ws (fits (z i) (k + 1) s)))
+free-more short k s w ws = grind (arith, fits-more)
 
 nobody-chosen : (k : ℕ) → choose 0 k ≡ one_of_size 0 k
 unfolding choose
@@ -36,8 +33,7 @@ nobody-chosen (suc k) = grind (arith, nat_tests)
 sets-free : (ws : List ℕ) (s a : ℕ) → over false ws (fits 0 a s) ≡ chosen_from (length ws) a s
 unfolding over chosen_from
 sets-free [] s a = grind (arith, nat_tests, nobody-chosen (s - a))
-sets-free (w ∷ ws) s a =
-    omega (arith, free-more false a s w ws, sets-free ws s (a + 1), sets-free ws s a, chosen-more (length ws) a s)
+sets-free (w ∷ ws) s a = grind (arith, sets-free ws s (a + 1), sets-free ws s a, free-more, chosen-more)
 
 -- ---- endings by size: fewer than are asked for, as many, more
 fill-heads : (h left size : ℕ) → fill h h left size ≡ chosen_from left size h
@@ -53,8 +49,7 @@ fill-more h s left size more = grind (arith, nat_tests)
 endings-few : (ws : List ℕ) (h s r a : ℕ) → s < h → endings ws h s r a ≡ 0
 unfolding endings
 endings-few [] h s r a less = refl
-endings-few (w ∷ ws) h s r a less =
-    grind (arith, nat_tests, fill-few h s (length ws) (a + 1) less, endings-few ws h s (r - w) (a + 1) less, endings-few ws h s r a less)
+endings-few (w ∷ ws) h s r a less = grind (arith, endings-few ws h s (r - w) (a + 1) less, endings-few ws h s r a less, nat_tests, fill-few)
 
 -- of more than are asked for as many as of any, where none are asked for
 endings-more : (ws : List ℕ) (h s r a : ℕ) → h < s → endings ws h s r a ≡ endings ws 0 s r a
@@ -68,37 +63,21 @@ endings-heads : (ws : List ℕ) (h r a : ℕ) → 0 < r → endings ws h h r a �
 unfolding endings over
 endings-heads [] h r a pos = grind (arith, nat_tests)
 endings-heads (w ∷ ws) h r a pos =
-    let filled = fill-heads h (length ws) (a + 1) ∙ sym (sets-free ws h (a + 1)) in
-    let none : r ≤ w → over false ws (fits (r - w) (a + 1) h) ≡ over false ws (fits 0 (a + 1) h) = λ le.
-    (let z : r - w ≡ 0 = omega (arith, le) in ap (λ (d : ℕ). over false ws (fits d (a + 1) h)) z) in
-    grind (arith, nat_tests, fits-more false r a h w ws, filled, none, endings-heads ws h (r - w) (a + 1), endings-heads ws h r a pos)
+    grind (arith, endings-heads ws h (r - w) (a + 1), endings-heads ws h r a pos, fill-heads, sets-free, nat_tests, fits-more)
 
 -- ---- what members lead to, by their sets
 -- each set but the empty one is another with its last member
 all-but-one : (s : ℕ) (ws : List ℕ) (k : ℕ) → one_of_size s k + over true ws (fits 0 k s) ≡ over false ws (fits 0 k s)
 unfolding over
 all-but-one s [] k = grind (arith, nat_tests)
-all-but-one s (w ∷ ws) k =
-    omega (arith, free-more true k s w ws, free-more false k s w ws, all-but-one s ws k, all-but-one s ws (k + 1))
+all-but-one s (w ∷ ws) k = grind (arith, all-but-one s ws k, all-but-one s ws (k + 1), free-more)
 
 -- what meets a need is what the members lead to, and what meets it without its last member
 endings-law : (s : ℕ) (ws : List ℕ) (d k : ℕ) → 0 < d → endings ws 0 s d k + over true ws (fits d k s) ≡ over false ws (fits d k s)
 unfolding endings over
 endings-law s [] d k some = grind (arith, nat_tests)
 endings-law s (w ∷ ws) d k some =
-    let none : (short : Bool) → d ≤ w → over short ws (fits (d - w) (k + 1) s) ≡ over short ws (fits 0 (k + 1) s) = λ short le.
-    (let z : d - w ≡ 0 = omega (arith, le) in ap (λ (n : ℕ). over short ws (fits n (k + 1) s)) z) in
-    grind (
-      arith,
-      nat_tests,
-      fits-more true d k s w ws,
-      fits-more false d k s w ws,
-      none true,
-      none false,
-      all-but-one s ws (k + 1),
-      endings-law s ws (d - w) (k + 1),
-      endings-law s ws d k some,
-    )
+    grind (arith, endings-law s ws (d - w) (k + 1), endings-law s ws d k some, nat_tests, fits-more, all-but-one)
 
 -- of fewer members than heads none, of as many all that meet the quota, of more those that do not meet it without their last
 pub record AreCounted (ws : List ℕ) (heads s q n : ℕ) : Type 0 where
@@ -107,11 +86,7 @@ pub record AreCounted (ws : List ℕ) (heads s q n : ℕ) : Type 0 where
   pub more : heads < s → n + over true ws (fits q 0 s) ≡ over false ws (fits q 0 s)
 
 pub endings-counted : (ws : List ℕ) (heads s q : ℕ) → 0 < q → AreCounted ws heads s q (endings ws heads s q 0)
-endings-counted ws heads s q some = record {
-  fewer = endings-few ws heads s q 0;
-  just = λ same. ap (λ (h : ℕ). endings ws h s q 0) (sym same) ∙ endings-heads ws s q 0 some;
-  more = λ above. omega (arith, endings-more ws heads s q 0 above, endings-law s ws q 0 some);
-}
+endings-counted ws heads s q some = grind (arith, endings-few, endings-heads, endings-more, endings-law)
 
 -- ---- without a member there are no more
 choose-less : (m k : ℕ) → choose m k ≤ choose (suc m) k
@@ -140,10 +115,5 @@ pub endings-less : (p h s : ℕ) (ws : List ℕ) (r a : ℕ) → endings (left_o
 unfolding endings left_out
 endings-less p h s [] r a = omega arith
 endings-less zero h s (w ∷ ws) r a = omega arith
-endings-less (suc p) h s (w ∷ ws) r a = elim (cases_lt p (length ws)) [
-  | inl inside ↦
-      let n = length-left_out p ws inside in
-      let f = fill-less h s (length (left_out p ws)) (a + 1) in
-      grind (arith, nat_tests, f, ap (λ (k : ℕ). fill h s k (a + 1)) n, endings-less p h s ws (r - w) (a + 1), endings-less p h s ws r a)
-  | inr past ↦ omega (arith, ap (λ (l : List ℕ). endings (w ∷ l) h s r a) (past-end p ws past))
-]
+endings-less (suc p) h s (w ∷ ws) r a =
+    grind (arith, endings-less p h s ws (r - w) (a + 1), endings-less p h s ws r a, cases_lt, length-left_out, fill-less, nat_tests, past-end)

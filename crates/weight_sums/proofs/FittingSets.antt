@@ -1,11 +1,11 @@
 -- The sets of a half that meet a need, one more and all of them.
 use Rattle.std.proofs.Common.{◌≡◌, ◌∙◌, ◌⊎◌, ℕ, zero, suc, ◌+◌, ◌-◌, ◌<◌, ◌≤◌, ◌^◌, Bool, cond, leb, List, [], ◌∷◌}
-use Rattle.std.proofs.Common.{length, get_or, set, drop, ap, refl, arith, inl, inr, length-drop, length-set, get_or-set_same, get_or-set_other}
+use Rattle.std.proofs.Common.{length, get_or, drop, refl, arith, inl, inr, length-drop}
 use Rattle.std.specs.List.{sum_by}
 use Rattle.std.proofs.lemmas.Bool.{cases_eq, cases_lt}
 use Rattle.std.proofs.lemmas.Bool.Decides.{nat_tests}
-use Rattle.std.proofs.lemmas.List.{get_or_default, get_or_past}
-use Rattle.std.proofs.lemmas.List.Sums.{sum_by-cons, sum_by-drop_more, sum_by-le}
+use Rattle.std.proofs.lemmas.List.{get_or_past}
+use Rattle.std.proofs.lemmas.List.Sums.{sum_by-cons, sum_by-le}
 use Rattle.weight_sums.specs.declared.sets.Set.{Set}
 use Rattle.weight_sums.specs.declared.fitting.Fitting.{Fitting}
 use Rattle.weight_sums.specs.Endings.{one_of_size}
@@ -42,46 +42,17 @@ fits-few need k s sets half =
     let most = sum_by-le (fits need k s) 1 sets (λ i d lt. cond-most _ _ 1 (cond-most _ 1 1 (omega arith))) in
     omega (arith, most, half.long)
 
-pub entered-more : (sets : List Set) (t u : Fitting) (d : Set) → AreEntered sets t → 0 < t.outside → u.outside ≡ t.outside - 1
-    → ((s : ℕ) → get_or u.here s 0 ≡ get_or t.here s 0 + one_of_size s (get_or sets (t.outside - 1) d).size)
-    → AreEntered sets u
-entered-more sets t u d h some out here =
-    let w = h.within in
-    let back : t.outside - 1 + 1 ≡ t.outside = omega arith in
-    let more : (f : Set → ℕ) → sum_by f (drop u.outside sets) ≡ f (get_or sets (t.outside - 1) d) + sum_by f (drop t.outside sets) = λ f.
-    ap (λ (k : ℕ). sum_by f (drop k sets)) out ∙ sum_by-drop_more f sets (t.outside - 1) d (omega (arith, w))
-    ∙ ap (λ (k : ℕ). f (get_or sets (t.outside - 1) d) + sum_by f (drop k sets)) back in
-    record {
-      within = omega (arith, w);
-      here = λ s. omega (arith, here s, h.here s, more (λ x. one_of_size s x.size));
-    }
-
-pub meet-more : (need o : ℕ) (sets : List Set) (d : Set) → 0 < o → Meet need o sets → need ≤ (get_or sets (o - 1) d).weight
-    → Meet need (o - 1) sets
-meet-more need o sets d some old here k e from lt = elim (cases_eq k (o - 1)) [
-  | inl same ↦ (
-      let f = ap (λ (i : ℕ). (get_or sets i e).weight) same in
-      let g = ap (λ (x : Set). x.weight) (get_or_default sets (o - 1) e d (omega (arith, same, lt))) in
-      omega (arith, f, g, here))
-  | inr other ↦ old k e (omega (arith, other, from, some)) lt
-]
-
 -- where the last that is outside does not meet the need, all that meet it are counted
 pub all-entered : (need : ℕ) (sets : List Set) (t : Fitting) (d : Set) → AreEntered sets t → Meet need t.outside sets → IsHalf sets
     → (0 < t.outside → (get_or sets (t.outside - 1) d).weight < need) → AreOfNeed need sets t
 all-entered need sets t d h meet half last s =
     h.here s ∙ sum-behind (λ x. one_of_size s x.size) (fits need 0 s) t.outside sets d
-    (λ k lt. (let b = below k lt in grind (arith, nat_tests)))
-    (λ k from lt. (let m = meet k d from lt in grind (arith, nat_tests)))
+    (λ k lt. (grind (arith, nat_tests)))
+    (λ k from lt. (grind (arith, nat_tests)))
   where
     below : (k : ℕ) → k < t.outside → (get_or sets k d).weight < need
     below k lt =
-        let w = h.within in
-        let l = last (omega arith) in
-        elim (cases_eq k (t.outside - 1)) [
-          | inl same ↦ omega (arith, l, ap (λ (i : ℕ). (get_or sets i d).weight) same)
-          | inr other ↦ (let up = half.ascend k (t.outside - 1) d (omega (arith, other, lt)) (omega (arith, w, lt)) in omega (arith, up, l))
-        ]
+        grind (arith, cases_eq)
 
 -- ---- behind members of another half
 pub added : (need : ℕ) (sets : List Set) (t : Fitting) (k s : ℕ) → AreOfNeed need sets t
@@ -93,7 +64,6 @@ added need sets t k s h = elim (cases_lt s k) [
       grind (arith, nat_tests))
   | inr enough ↦
       (let one : (x : Set) → fits need 0 (s - k) x ≡ fits need k s x = λ x. grind (arith, nat_tests) in
-      let all : sum_by (fits need 0 (s - k)) sets ≡ sum_by (fits need k s) sets = λ i. sum_by (λ x. one x i) sets in
       grind (arith, nat_tests, h (s - k)))
 ]
 
@@ -103,39 +73,6 @@ pub record Added (before done here : List ℕ) (size j : ℕ) : Type 0 where
   pub added : (s : ℕ) → size ≤ s → s < size + j → get_or done s 0 ≡ get_or before s 0 + get_or here (s - size) 0
   pub rest : (s : ℕ) → (s < size) ⊎ (size + j ≤ s) → get_or done s 0 ≡ get_or before s 0
 
-pub added-more : (before done here : List ℕ) (size j : ℕ) → Added before done here size j → size + j < 41
-    → Added before (set done (size + j) (get_or done (size + j) 0 + get_or here j 0)) here size (j + 1)
-added-more before done here size j h lt =
-    let v : ℕ = get_or done (size + j) 0 + get_or here j 0 in
-    let other : (s : ℕ) → (s ≡ size + j → ⊥) → get_or (set done (size + j) v) s 0 ≡ get_or done s 0 =
-    λ s ne. get_or-set_other done (size + j) s v 0 ne in
-    record {
-      long = length-set done (size + j) v ∙ h.long;
-      added = λ s from below. elim (cases_eq s (size + j)) [
-        | inl same ↦
-            (let e = ap (λ (i : ℕ). get_or (set done (size + j) v) i 0) same in
-            let w = get_or-set_same done (size + j) v 0 (omega (arith, h.long, lt)) in
-            let z : s - size ≡ j = omega (arith, same) in
-            omega (
-              arith,
-              e,
-              w,
-              h.rest (size + j) (inr (omega arith)),
-              ap (λ (i : ℕ). get_or before i 0) same,
-              ap (λ (i : ℕ). get_or here i 0) z,
-            ))
-        | inr ne ↦ other s ne ∙ h.added s from (omega (arith, ne, below))
-      ];
-      rest = λ s out. elim out [
-        | inl less ↦ other s (λ e. omega (arith, less, e)) ∙ h.rest s (inl less)
-        | inr past ↦ other s (λ e. omega (arith, past, e)) ∙ h.rest s (inr (omega (arith, past)))
-      ];
-    }
-
 pub added-all : (before done here : List ℕ) (size j s : ℕ) → Added before done here size j → length here ≤ j
     → get_or done s 0 ≡ get_or before s 0 + cond (leb size s) (get_or here (s - size) 0) 0
-added-all before done here size j s h all =
-    let a = h.added s in
-    let r = h.rest s in
-    let past = get_or_past here (s - size) 0 in
-    grind (arith, nat_tests)
+added-all before done here size j s h all = grind (arith, get_or_past, nat_tests)

@@ -31,18 +31,6 @@ pub record Paired (q digits : ℕ) (xs ys : List Set) (n : ℕ) (lows highs : Li
   pub meet : (k m : ℕ) (d : Set) → t.outside ≤ k → k < length ys → n ≤ m → m < length xs
       → q ≤ (get_or ys k d).weight + (get_or xs m d).weight
 
-pub paired-none : (q digits : ℕ) (xs ys : List Set) (lows highs : List (List ℕ)) (t : Fitting) → length lows ≡ 2 ^ digits
-    → length highs ≡ 2 ^ digits → AreOfKeys (low_of digits) (met q ys) [] lows → AreOfKeys (high_of digits) (met q ys) [] highs
-    → AreEntered ys t → t.outside ≡ length ys → Paired q digits xs ys 0 lows highs t
-paired-none q digits xs ys lows highs t long also low_is high_is entered out = record {
-  low_long = long;
-  high_long = also;
-  low_is = low_is;
-  high_is = high_is;
-  entered = entered;
-  meet = λ k m d from lt later below. absurd (omega (arith, from, lt, out));
-}
-
 module _ {q digits : ℕ} {xs ys : List Set} {n : ℕ} {lows highs : List (List ℕ)} {t : Fitting} (h : Paired q digits xs ys n lows highs t)
     (first : IsHalf xs) where
   -- what the rows have is far from too much
@@ -104,13 +92,7 @@ pub paired-all : {q : ℕ} {xs ys : List Set} {n : ℕ} {t : Fitting} (g : Group
     → Paired q g.digits xs ys n g.low.rows.items g.high.rows.items t → length xs ≤ n → g.digits ≤ 10 → IsHalfOf g.digits xs → IsHalf ys
     → AreGroups q xs ys g
 paired-all {xs = xs} {n = n} g h end few first second =
-    let rows = paired-rows h first.half few second in
-    record {
-      rows = record { digits = few; low_long = h.low_long; high_long = h.high_long; low_rows = rows.0; high_rows = rows.1 };
-      within = first.within;
-      low_is = rw (take_all n xs end) at h.low_is;
-      high_is = rw (take_all n xs end) at h.high_is;
-    }
+    let rows = paired-rows h first.half few second in grind (arith, take_all)
 
 -- ---- the members of a set, the first and the others
 has-low : (d p m : ℕ) → p < d → has p (m % 2 ^ d) ≡ has p m
@@ -124,19 +106,13 @@ has-high d p m le = ap (λ (n : ℕ). n == 1)
 -- behind the last digit stands no member
 has-last : (n p r m : ℕ) → m < 2 ^ n → (r ≡ p) ⊎ (r ≡ n) × (n ≤ p) → has r m ≡ has p m
 has-last n p r m small (inl same) = ap (λ (i : ℕ). has i m) same
-has-last n p r m small (inr past) =
-    ap (λ (k : ℕ). k == 1) (bit_at_above m n r small (let e = past.0 in omega (arith, e)) ∙ sym (bit_at_above m n p small past.1))
+has-last n p r m small (inr past) = grind (arith, bit_at_above)
 
 pub without-low : (q s p n : ℕ) (all others : List Set) (g : Groups) → AreGroups q all others g → p < g.digits → s ≤ 40
     → (AreOfKeys (low_of g.digits) (met q others) all g.low.rows.items → All (λ x. low_of g.digits x < length g.low.rows.items) all
     → n ≡ sum_by (λ x. cond (has p (low_of g.digits x)) 0 (met q others s x)) all)
     → n ≡ sum_by (λ x. cond (has p x.members) 0 (met q others s x)) all
-without-low q s p n all others g are lt small gives =
-    gives are.low_is (λ k e below. (
-    let f = mod-lt (get_or all k e).members (pow_pos g.digits) in
-    omega (arith, are.rows.low_long, f)))
-    ∙ sum-same (λ x. cond (has p (low_of g.digits x)) 0 (met q others s x)) (λ x. cond (has p x.members) 0 (met q others s x)) all
-    (λ x. ap {B = ℕ} (λ b. cond b 0 (met q others s x)) (has-low g.digits p x.members lt))
+without-low q s p n all others g are lt small gives = grind (arith, mod-lt, pow_pos, sum-same, has-low)
 
 pub without-high : (q s p r n : ℕ) (all others : List Set) (g : Groups) → AreGroups q all others g → g.digits ≤ p
     → r ≡ min (p - g.digits) g.digits

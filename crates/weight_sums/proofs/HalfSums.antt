@@ -106,12 +106,4 @@ pub left-is : (ws : List ℕ) (heads q s : ℕ) (won shortened own sizes : List 
     → get_or sizes s 0 ≡ endings ws heads s q 0
 left-is ws heads q s won shortened own sizes are left some small =
     let law = endings-counted ws heads s q some in
-    let w = are.won_is in
-    elim (cases_order s heads) [
-      | inl same ↦ (
-          let j = law.just same in
-          let k = left.just in
-          omega (arith, w, j, k, ap (λ (k : ℕ). get_or sizes k 0) same, ap (λ (k : ℕ). get_or won k 0) same))
-      | inr (inl few) ↦ left.fewer s few ∙ sym (law.fewer few)
-      | inr (inr more) ↦ (let m = left.more s more small in let n = law.more more in omega (arith, w, are.shortened_is, m, n))
-    ]
+    grind (arith, cases_order)

@@ -1,12 +1,11 @@
 -- The tallies of a member's coalitions, as the passes give them.
-use Rattle.std.proofs.Common.{◌≡◌, ◌∙◌, ℕ, zero, suc, ◌+◌, ◌-◌, ◌<◌, ◌≤◌, ◌^◌, List, [], ◌∷◌, ◌++◌, length, take, drop, get_or}
-use Rattle.std.proofs.Common.{set, get_or-set_same, get_or-set_other, length-set, length-drop, sym, ap, refl, arith, inl, inr}
+use Rattle.std.proofs.Common.{◌≡◌, ◌∙◌, ℕ, zero, suc, ◌+◌, ◌-◌, ◌<◌, ◌≤◌, List, [], ◌∷◌, ◌++◌, length, take, drop, get_or}
+use Rattle.std.proofs.Common.{set, get_or-set_same, get_or-set_other, length-set, length-drop, sym, ap, refl, arith}
 use Rattle.std.specs.List.{sum}
 use Rattle.std.proofs.Math.Pow.{pow_mono}
 use Rattle.std.proofs.lemmas.Bool.{cases_eq}
 use Rattle.std.proofs.lemmas.List.{append_assoc, take_more}
 use Rattle.std.proofs.lemmas.List.Sums.{sum_by-cons, sum_by-drop_more}
-use Rattle.std.proofs.lemmas.List.Elements.{All-cons, All-nil}
 use Rattle.weight_sums.specs.declared.by_size.BySize.{BySize}
 use Rattle.weight_sums.specs.Endings.{no_sizes, endings, left_out, AreEndings, AreEndingsWith}
 use Rattle.weight_sums.specs.declared.row.Open.{Open}
@@ -16,11 +15,7 @@ use Rattle.weight_sums.proofs.Passing.{prefixes-more}
 -- the row of the empty prefix
 pub prefixes-start : (n q : ℕ) (done : List ℕ) (row : List Open) → n ≤ 40 → ((s : ℕ) → get_or done s 0 ≡ 0)
     → row ≡ record { need = q; size = 0; ways = 1 } ∷ [] → AreOfPrefixes 0 n done row
-prefixes-start n q done row few none is = rw is (record {
-  few = λ s small. (let up : 2 ^ n ≤ 2 ^ 40 = pow_mono few in omega (arith, none s, up));
-  sizes =
-      All-cons (λ (o : Open). o.size ≤ 0) (record { need = q; size = 0; ways = 1 }) [] (omega arith) (All-nil (λ (o : Open). o.size ≤ 0));
-})
+prefixes-start n q done row few none is = grind (arith, pow_mono)
 
 pub weigh-start : (ws : List ℕ) (heads q s : ℕ) (row : List Open) → row ≡ record { need = q; size = 0; ways = 1 } ∷ []
     → weigh (endings ws heads s) row ≡ endings ws heads s q 0
@@ -31,8 +26,7 @@ left_out-parts : (p : ℕ) (ws : List ℕ) → p < length ws → left_out p ws �
 unfolding left_out
 left_out-parts p [] lt = absurd (omega arith)
 left_out-parts zero (w ∷ ws) lt = refl
-left_out-parts (suc p) (w ∷ ws) lt = let e : suc (p + 1) ≡ suc p + 1 = omega arith in
-    ap (λ (l : List ℕ). w ∷ l) (left_out-parts p ws (omega arith)) ∙ ap (λ (k : ℕ). (w ∷ take p ws) ++ drop k (w ∷ ws)) e
+left_out-parts (suc p) (w ∷ ws) lt = grind (arith, left_out-parts p ws (omega arith))
 
 -- ---- the tallies of the first p members
 pub record Tallied (ws : List ℕ) (heads q p : ℕ) (each : List BySize) : Type 0 where
@@ -41,21 +35,12 @@ pub record Tallied (ws : List ℕ) (heads q p : ℕ) (each : List BySize) : Type
 
 pub tallied-more : {ws : List ℕ} {heads q p : ℕ} {each : List BySize} {t : BySize} → Tallied ws heads q p each → p < 40
     → AreEndingsWith ws heads q p t → Tallied ws heads q (p + 1) (set each p t)
-tallied-more {p = p} {each = each} {t = t} old few own = record {
-  long = length-set each p t ∙ old.long;
-  tallies = λ k below. elim (cases_eq k p) [
-    | inl e ↦ rw (e, get_or-set_same each p t no_sizes (let l = old.long in omega (arith, l, few))) own
-    | inr ne ↦ rw (get_or-set_other each p k t no_sizes ne) (old.tallies k (omega (arith, below, ne)))
-  ];
-}
+tallied-more {p = p} {each = each} {t = t} old few own = grind (arith, length-set, cases_eq, get_or-set_same, get_or-set_other)
 
 pub member-tallied : {ws : List ℕ} {heads q p : ℕ} {all : BySize} (without : List ℕ) (t : BySize) → AreEndings ws heads q all
     → length t.sizes ≡ 41 → ((s : ℕ) → s ≤ 40 → get_or without s 0 ≡ endings (left_out p ws) heads s q 0)
     → ((s : ℕ) → s ≤ 40 → get_or t.sizes s 0 + get_or without s 0 ≡ get_or all.sizes s 0) → AreEndingsWith ws heads q p t
-member-tallied without t is long left sum_is = record {
-  long = long;
-  sizes = λ s small. omega (arith, is.sizes s small, left s small, sum_is s small);
-}
+member-tallied without t is long left sum_is = grind (arith)
 
 -- the row after the first p members, where a list of one less than all that are left comes after them, and the tallies of
 -- these members

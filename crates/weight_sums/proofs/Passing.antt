@@ -1,6 +1,5 @@
 -- A row of prefixes, one member further.
 use Rattle.std.proofs.Common.{◌≡◌, ℕ, ◌+◌, ◌-◌, ◌*◌, ◌<◌, ◌≤◌, ◌^◌, List, [], ◌∷◌, length, take, drop, get_or, ap, refl, arith, length-drop}
-use native.Mathlib.Numerals.{unary_clauses}
 use Rattle.std.specs.List.{sum}
 use Rattle.std.proofs.lemmas.Bool.Decides.{nat_tests}
 use Rattle.std.proofs.lemmas.List.Sums.{sum_by-cons, sum_by-take-le, sum_by-drop_more}
@@ -9,6 +8,7 @@ use Rattle.std.proofs.lemmas.List.Elements.{All-take}
 use Rattle.std.proofs.Math.Nat.{mul-le-mul_left, mul-le-mul_right}
 use Rattle.std.proofs.Math.Pow.{pow_mono}
 use Rattle.std.proofs.lemmas.Nat.{pow_pos}
+use Rattle.std.proofs.lemmas.Grind.{common_steps}
 use Rattle.weight_sums.specs.declared.row.Open.{Open}
 use Rattle.weight_sums.specs.Endings.{fill, taken, endings}
 use Rattle.weight_sums.specs.Inner.Rows.{weigh, prefixes, AreMerged, AreOfPrefixes, AreTaken, GoesOn}
@@ -39,9 +39,7 @@ endings-none (w ∷ ws) heads s r a short =
     grind (arith, nat_tests, total, again, endings-none ws heads s r a (omega (arith, total, short)))
 
 double-times : (m left : ℕ) → m * 2 ^ (left + 1) ≡ m * 2 ^ left + m * 2 ^ left
-double-times m left =
-    let two : 2 ^ (left + 1) ≡ 2 ^ left + 2 ^ left = simp unary_clauses (omega arith) in
-    omega (arith, ap (λ (n : ℕ). m * n) two)
+double-times m left = grind (arith, nat_tests, common_steps)
 
 -- a row, what its prefixes are with a member more, and those that go on without it
 module _ {w heads left : ℕ} {before done : List ℕ} {row others : List Open} (taken-are : AreTaken w heads left before done row others) where
@@ -117,12 +115,7 @@ going-more {ws = ws} {heads = heads} {p = p} {row = row} h lt is on =
     let rest = h.rest_is in
     let parts = sum_by-drop_more (λ (y : ℕ). y) ws p 0 lt in
     record {
-      counted = λ s small. omega (
-        arith,
-        on.counted (drop (p + 1) ws) s (omega (arith, rest, parts)) (omega (arith, length-drop (p + 1) ws, is)) small,
-        ap (λ (vs : List ℕ). weigh (endings vs heads s) row) (drop_more ws p 0 lt),
-        h.counted s small,
-      );
+      counted = grind (arith, length-drop, drop_more);
       row_are = prefixes-more h.row_are on (omega (arith, is, lt)) (omega (arith, is));
       rest_is = omega (arith, rest, parts);
     }

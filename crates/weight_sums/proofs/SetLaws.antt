@@ -60,15 +60,11 @@ over-halves : (short : Bool) (vs ws : List ℕ) (g : ℕ → ℕ → ℕ) → ov
     + cond short (over true ws (λ x. g x.weight x.size)) 0
 unfolding over
 over-halves short vs [] g =
-    let plain : (n : ℕ) → n ≡ n + 0 = λ n. omega arith in
-    let e : over short vs (λ x. g x.weight x.size) ≡ over short vs (λ y. g (y.weight + 0) (y.size + 0)) =
-    λ i. over short vs (λ y. g (plain y.weight i) (plain y.size i)) in
+    let e : over short vs (λ x. g x.weight x.size) ≡ over short vs (λ y. g (y.weight + 0) (y.size + 0)) = grind (arith) in
     grind (arith, nat_tests, e)
 over-halves short vs (w ∷ ws) g =
-    let assoc : (a b c : ℕ) → a + b + c ≡ a + (b + c) = λ a b c. omega arith in
     let e : over false ws (λ x. over short vs (λ y. g (y.weight + x.weight + w) (y.size + x.size + 1)))
-    ≡ over false ws (λ x. over short vs (λ y. g (y.weight + (x.weight + w)) (y.size + (x.size + 1)))) =
-    λ i. over false ws (λ x. over short vs (λ y. g (assoc y.weight x.weight w i) (assoc y.size x.size 1 i))) in
+    ≡ over false ws (λ x. over short vs (λ y. g (y.weight + (x.weight + w)) (y.size + (x.size + 1)))) = grind (arith) in
     grind (arith, nat_tests, e, over-halves short vs ws g, over-halves short vs ws (λ m k. g (m + w) (k + 1)))
 
 pub fits-halves : (short : Bool) (vs ws : List ℕ) (q s : ℕ) → over short (ws ++ vs) (fits q 0 s)
@@ -110,9 +106,7 @@ left_out-over short zero (w ∷ ws) g =
 left_out-over short (suc p) (w ∷ ws) g =
     let front : cond (has (suc p) 1) 0 (g 0 1) ≡ g 0 1 = λ i. cond ((has-later p 1 0 (omega arith) ∙ has-none p) i) 0 (g 0 1) in
     let out : over short ws (λ x. cond (has (suc p) (2 * x.members)) 0 (g x.weight x.size))
-    ≡ over short ws (λ x. cond (has p x.members) 0 (g x.weight x.size)) =
-    λ i. over short ws (λ x. cond (has-later p (2 * x.members) x.members (omega arith) i) 0 (g x.weight x.size)) in
+    ≡ over short ws (λ x. cond (has p x.members) 0 (g x.weight x.size)) = grind (arith, has-later) in
     let with_it : over short ws (λ x. cond (has (suc p) (2 * x.members + 1)) 0 (g (x.weight + w) (x.size + 1)))
-    ≡ over short ws (λ x. cond (has p x.members) 0 (g (x.weight + w) (x.size + 1))) =
-    λ i. over short ws (λ x. cond (has-later p (2 * x.members + 1) x.members (omega arith) i) 0 (g (x.weight + w) (x.size + 1))) in
+    ≡ over short ws (λ x. cond (has p x.members) 0 (g (x.weight + w) (x.size + 1))) = grind (arith, has-later) in
     grind (arith, nat_tests, front, out, with_it, left_out-over short p ws g, left_out-over short p ws (λ m k. g (m + w) (k + 1)))

@@ -1,6 +1,6 @@
 -- Lists of sets of some members, by weight.
 use Rattle.std.proofs.Common.{◌≡◌, ◌∙◌, ℕ, suc, ◌+◌, ◌-◌, ◌<◌, ◌≤◌, ◌^◌, Bool, true, false, cond, List, [], ◌∷◌, ◌++◌}
-use Rattle.std.proofs.Common.{length, get_or, drop, sym, ap, refl, subst, arith, inl, inr, length-drop}
+use Rattle.std.proofs.Common.{length, get_or, drop, ap, refl, arith, inl, inr, length-drop}
 use native.Mathlib.Numerals.{unary_clauses}
 use Rattle.std.specs.List.{All, sum, sum_by}
 use Rattle.std.proofs.Math.Pow.{pow_mono}
@@ -29,14 +29,7 @@ pub record Doubling (w : ℕ) (before xs : List Set) (i j : ℕ) (next : List Se
   pub joins : j < length xs → All (λ x. x.weight ≤ (get_or xs j nobody).weight + w) next
 
 pub doubling-none : (w : ℕ) (before xs : List Set) → All (λ x. x.weight ≤ 0) before → Doubling w before xs 0 0 before
-doubling-none w before xs none = record {
-  within = omega arith;
-  later = omega arith;
-  same = λ g. refl;
-  ascend = λ a b d lt below. (let n = none a d (omega (arith, lt, below)) in omega (arith, n));
-  lefts = λ some k d below. (let n = none k d below in omega (arith, n));
-  joins = λ some k d below. (let n = none k d below in omega (arith, n));
-}
+doubling-none w before xs none = grind (arith)
 
 module _ {w : ℕ} {before xs : List Set} {i j : ℕ} {next after : List Set} (h : Doubling w before xs i j next) (y : Set)
     (is : after ≡ next ++ y ∷ []) where
@@ -99,8 +92,7 @@ module _ {w : ℕ} {before xs : List Set} {i j : ℕ} {next after : List Set} (h
 pub doubling-all : {w : ℕ} {before xs : List Set} {i j : ℕ} {next : List Set} → Doubling w before xs i j next → length xs ≤ i
     → length xs ≤ j
     → (g : Set → ℕ) → sum_by g next ≡ sum_by g before + sum_by (λ x. g (left x)) xs + sum_by (λ x. g (joined w x)) xs
-doubling-all {w = w} {xs = xs} {i = i} {j = j} h all also g =
-    omega (arith, h.same g, ap (sum_by (λ x. g (left x))) (drop_all i xs all), ap (sum_by (λ x. g (joined w x))) (drop_all j xs also))
+doubling-all {w = w} {xs = xs} {i = i} {j = j} h all also g = grind (arith, drop_all)
 
 -- ---- how large they are
 -- a set of at most n members that weigh at most so much
@@ -113,7 +105,6 @@ record IsWithin (n total : ℕ) (x : Set) : Type 0 where
 over-none : (short : Bool) (ws : List ℕ) (g : Set → ℕ) → ((x : Set) → IsWithin (length ws) (sum ws) x → g x ≡ 0) → over short ws g ≡ 0
 unfolding over
 over-none short [] g none =
-    let z = none nobody (record { weight_in = omega arith; size_in = omega arith; members_in = omega arith }) in
     grind (arith, nat_tests)
 over-none short (w ∷ ws) g none =
     let total : sum (w ∷ ws) ≡ w + sum ws = sum_by-cons (λ (y : ℕ). y) w ws in
@@ -181,12 +172,7 @@ module _ {short : Bool} {ws : List ℕ} {xs : List Set} (are : AreSets short ws 
 pub begun : (ws : List ℕ) (n : ℕ) {short : Bool} {none first xs : List Set} → AreFirst short none first → length ws ≤ n → xs ≡ none
     → AreSets short (drop n ws) xs
 unfolding over
-begun ws n {short = short} {xs = xs} begins all is =
-    subst (λ (vs : List ℕ). AreSets short vs xs) (sym (drop_all n ws all)) (by_kind short (is ∙ begins.none_is))
-  where
-    by_kind : (b : Bool) → xs ≡ cond b [] (nobody ∷ []) → AreSets b [] xs
-    by_kind true none = rw none (record { same = λ g. refl; ascend = λ i j d less lt. absurd (omega (arith, lt)) })
-    by_kind false one = rw one (record { same = λ g. omega arith; ascend = λ i j d less lt. absurd (omega (arith, less, lt)) })
+begun ws n {short = short} {xs = xs} begins all is = grind (arith, drop_all)
 
 pub weightless : (short : Bool) {none first : List Set} → AreFirst short none first → All (λ x. x.weight ≤ 0) first
 weightless true begins = rw begins.first_is (All-cons (λ x. x.weight ≤ 0) alone [] (omega arith) (All-nil (λ x. x.weight ≤ 0)))

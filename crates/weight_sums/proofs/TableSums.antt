@@ -1,6 +1,6 @@
 -- Numbers of sets by their keys, added by key.
 use Rattle.std.proofs.Common.{◌≡◌, ◌∙◌, ℕ, zero, suc, ◌+◌, ◌*◌, ◌<◌, ◌≤◌, ◌^◌, cond, eqb, ltb, List, [], ◌∷◌, ◌++◌}
-use Rattle.std.proofs.Common.{length, get_or, take, ap, refl, arith}
+use Rattle.std.proofs.Common.{length, get_or, take, refl, arith}
 use Rattle.std.specs.List.{All, sum_by}
 use Rattle.std.proofs.lemmas.Bool.{le-ltb}
 use Rattle.std.proofs.lemmas.Bool.Decides.{nat_tests}
@@ -24,23 +24,12 @@ pub of-more : (key : Set → ℕ) (f : ℕ → Set → ℕ) (xs : List Set) (n h
     → AreOfKeys key f (take n xs) old → here ≡ key (get_or xs n d)
     → ((k s : ℕ) → s ≤ 40 → get_or (get_or new k []) s 0 ≡ get_or (get_or old k []) s 0 + cond (eqb k here) (h s) 0)
     → ((s : ℕ) → s ≤ 40 → h s ≡ f s (get_or xs n d)) → AreOfKeys key f (take (n + 1) xs) new
-of-more key f xs n here d old new h lt are is row gives = record {
-  each = λ k s small. (
-      let o = are.each k s small in
-      let m = sum_by_more (λ x. cond (eqb (key x) k) (f s x) 0) xs n d lt in
-      let r = row k s small in
-      let g = gives s small in
-      grind (arith, nat_tests));
-}
+of-more key f xs n here d old new h lt are is row gives = grind (arith, sum_by_more, nat_tests)
 
 -- how much each row has at most
 pub of-few : (key : Set → ℕ) (f : ℕ → Set → ℕ) (xs : List Set) (rows : List (List ℕ)) → AreOfKeys key f xs rows
     → ((s : ℕ) (x : Set) → f s x ≤ 2 ^ 20) → (k s : ℕ) → s ≤ 40 → get_or (get_or rows k []) s 0 ≤ length xs * 2 ^ 20
-of-few key f xs rows are few k s small =
-    let e = are.each k s small in
-    let most = sum_by-le (λ (x : Set). cond (eqb (key x) k) (f s x) 0) (2 ^ 20) xs
-    (λ i d lt. cond-most (eqb (key (get_or xs i d)) k) (f s (get_or xs i d)) (2 ^ 20) (few s (get_or xs i d))) in
-    omega (arith, e, most)
+of-few key f xs rows are few k s small = grind (arith, sum_by-le, cond-most)
 
 -- ---- the rows of the first n keys without the member of place p, added
 pub added_to : ℕ → ℕ → (Set → ℕ) → (Set → ℕ) → List Set → ℕ
@@ -60,11 +49,11 @@ added-further n p key g xs =
   where
     one : (k v : ℕ) → cond (ltb k (n + 1)) (cond (has p k) 0 v) 0 ≡ cond (ltb k n) (cond (has p k) 0 v) 0
         + cond (has p n) 0 (cond (eqb k n) v 0)
-    one k v = let same : k ≡ n → has p k ≡ has p n = λ e. ap (has p) e in grind (arith, nat_tests)
+    one k v = grind (arith, nat_tests)
 
 pub added-all : (m n p : ℕ) (key g : Set → ℕ) (xs : List Set) → All (λ x. key x < m) xs → m ≤ n
     → added_to n p key g xs ≡ sum_by (λ x. cond (has p (key x)) 0 (g x)) xs
 unfolding added_to
 added-all m n p key g xs keys all =
     sum-alike (λ x. cond (ltb (key x) n) (cond (has p (key x)) 0 (g x)) 0) (λ x. cond (has p (key x)) 0 (g x)) xs nobody
-    (λ k lt. let below = keys k nobody lt in grind (arith, nat_tests))
+    (λ k lt. grind (arith, nat_tests))

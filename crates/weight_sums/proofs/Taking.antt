@@ -5,27 +5,22 @@ use Rattle.std.specs.List.{All}
 use Rattle.std.proofs.lemmas.Bool.Decides.{nat_tests}
 use Rattle.std.proofs.Math.Nat.{mul-le-mul_left}
 use Rattle.std.proofs.lemmas.Nat.{pow_pos}
-use native.Mathlib.Numerals.{unary_clauses}
-use Rattle.std.proofs.lemmas.List.{take_all}
 use Rattle.std.proofs.lemmas.List.Sums.{sum_by_push, sum_by_more, sum_by-drop_more}
-use Rattle.std.proofs.lemmas.List.Elements.{All-nil, All-push}
+use Rattle.std.proofs.lemmas.List.Elements.{All-push}
 use Rattle.weight_sums.specs.declared.row.Open.{Open}
 use Rattle.weight_sums.specs.Endings.{choose, fill, one_of_size, taken}
-use Rattle.weight_sums.specs.Inner.Rows.{weigh, prefixes, AreTaken}
+use Rattle.weight_sums.specs.Inner.Rows.{weigh, prefixes}
 
 pub choose-most : (m k : ℕ) → choose m k ≤ 2 ^ m
 unfolding choose
 choose-most zero zero = omega arith
 choose-most zero (suc k) = omega arith
 choose-most (suc m) zero = pow_pos (suc m)
-choose-most (suc m) (suc k) = let double : 2 ^ suc m ≡ 2 ^ m + 2 ^ m = simp unary_clauses (omega arith) in
-    omega (arith, choose-most m k, choose-most m (suc k), double)
+choose-most (suc m) (suc k) = grind (arith, choose-most m k, choose-most m (suc k))
 
 -- so many more at place k
 bumped : (xs : List ℕ) (k s v : ℕ) → k < length xs → get_or (set xs k (get_or xs k 0 + v)) s 0 ≡ get_or xs s 0 + v * one_of_size s k
-bumped xs k s v lt =
-    let n : ℕ = get_or xs k 0 + v in
-    grind (arith, nat_tests, get_or-set_same xs k n 0 lt, get_or-set_other xs k s n 0)
+bumped xs k s v lt = grind (arith, nat_tests, get_or-set_same, get_or-set_other)
 
 -- what is counted of one prefix that is complete: at one size, so many times
 fill-is : (heads s left size end times : ℕ) → end ≡ max size heads → times ≡ cond (ltb heads size) 1 (choose left (heads - size))
@@ -99,21 +94,12 @@ module _ {w heads left : ℕ} {row : List Open} {before : List ℕ} {i : ℕ} {d
 pub taking-none : (w heads left : ℕ) (row : List Open) (done : List ℕ) (others : List Open) → length done ≡ 41 → others ≡ []
     → ((s : ℕ) → s ≤ 40 → get_or done s 0 + prefixes row * 2 ^ left < 2 ^ 64)
     → Taking w heads left row done 0 done others
-taking-none w heads left row done others long none room = rw none (record {
-  long = long;
-  counted = λ g s small. refl;
-  room = room;
-  sizes = λ p all. All-nil (λ o. o.size ≤ p + 1);
-})
+taking-none w heads left row done others long none room = grind (arith)
 
 pub get_or-zeros : (n s : ℕ) → get_or {A = ℕ} (replicate {A = ℕ} n 0) s 0 ≡ 0
 get_or-zeros zero s = refl
 get_or-zeros (suc n) zero = refl
 get_or-zeros (suc n) (suc s) = get_or-zeros n s
-
-pub taking-all : {w heads left i : ℕ} {row : List Open} {before done : List ℕ} {others : List Open}
-    → Taking w heads left row before i done others → length row ≤ i → AreTaken w heads left before done row others
-taking-all {i = i} {row = row} h all = record { counted = rw (take_all i row all) at h.counted; sizes = h.sizes }
 
 -- ---- rows of choices
 pub choose-none : (m : ℕ) → choose m 0 ≡ 1
@@ -124,10 +110,7 @@ choose-none (suc m) = refl
 pub choose-more : (m k : ℕ) → 1 ≤ k → choose (m + 1) k ≡ choose m k + choose m (k - 1)
 unfolding choose
 choose-more m zero pos = absurd (omega arith)
-choose-more m (suc k) pos =
-    let e : m + 1 ≡ suc m = omega arith in
-    let f : suc k - 1 ≡ k = omega arith in
-    omega (arith, ap (λ (n : ℕ). choose n (suc k)) e, ap (choose m) f)
+choose-more m (suc k) pos = grind (arith)
 
 pub choose-zero : (k : ℕ) → get_or (1 ∷ replicate 40 0) k 0 ≡ choose 0 k
 unfolding choose

@@ -1,4 +1,5 @@
-use Rattle.std.proofs.Common.{◌≡◌, ◌∙◌, ◌≤◌, ℕ, List, get_or, length, arith}
+use Rattle.std.proofs.Common.{◌≡◌, ◌≤◌, ℕ, get_or, arith}
+use Rattle.std.proofs.lemmas.Bool.Decides.{nat_tests}
 use Rattle.weight_sums.specs.Endings.{AreEndings, endings, left_out}
 use Rattle.weight_sums.proofs.EndingLaws.{past-end}
 use Rattle.weight_sums.proofs.Members.{member-tallied, tallied-more}
@@ -7,13 +8,7 @@ use Rattle.weight_sums.proofs.halves.by_halves.Goals.{After-endings_without, Aft
 
 -- without the member of a place behind the last, all are left
 whole : (c : After-endings_without) → AreEndings c.args.weights.now c.args.heads c.args.quota (record { sizes = c.endings_without.result })
-whole c =
-    let ws : List ℕ = c.args.weights.now in
-    record {
-      long = c.endings_without.ensures.long;
-      sizes = λ s small. c.endings_without.ensures.sizes s small
-          ∙ (λ i. endings (past-end (length ws) ws (omega arith) i) c.args.heads s (c.in_ok-halves.ensures.quota i) 0);
-    }
+whole c = grind (arith, nat_tests, past-end)
 
 others : (c : After-endings_without-without) (s : ℕ) → s ≤ 40
     → get_or c.endings_without-without.result s 0 ≡ endings (left_out c.loop-place.place c.args.weights.now) c.args.heads s c.args.quota 0

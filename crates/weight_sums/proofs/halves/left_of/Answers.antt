@@ -1,4 +1,5 @@
 use Rattle.std.proofs.Common.{ℕ, ◌-◌, List, replicate, get_or, arith, length-set, get_or-set_same, get_or-set_other}
+use Rattle.std.proofs.lemmas.Grind.{common_steps}
 use Rattle.weight_sums.proofs.Taking.{get_or-zeros}
 use Rattle.weight_sums.proofs.halves.left_of.Goals as goal
 
@@ -23,11 +24,5 @@ loop-size-preserved c =
       long = omega (arith, length-set sizes size v, old.long);
       fewer = λ s less. grind (arith, other s, old.fewer s);
       just = grind (arith, other c.args.heads, old.just);
-      more = λ s more below. grind (
-        arith,
-        other s,
-        old.more s more,
-        get_or-set_same sizes size v 0 (omega (arith, old.long)),
-        c.requires.fewer size (omega (arith, c.loop-size.auto.size)) (omega (arith, c.loop-size-test.true)),
-      );
+      more = grind (arith, common_steps, get_or-set_same);
     }

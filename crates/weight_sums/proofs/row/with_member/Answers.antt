@@ -1,13 +1,12 @@
 use Rattle.std.proofs.Common.{◌≤◌, ◌∙◌, ap, arith}
+use Rattle.std.proofs.lemmas.Grind.{common_steps}
 use Rattle.weight_sums.specs.declared.row.Open.{Open}
 use Rattle.weight_sums.proofs.Taking.{taking-none, taking-complete, taking-other, taking-fits, filled-most}
 use Rattle.weight_sums.proofs.row.with_member.Goals as goal
 use Rattle.weight_sums.proofs.row.with_member.Goals.{then-prefix-weight, else-prefix-weight+in_ok-push}
 
 pub loop-prefix-init : goal.loop-prefix-init
-loop-prefix-init c =
-    taking-none c.args.weight c.args.heads.now.asked c.args.left c.args.row.now c.args.done.now c.reserve.new.self.items c.told-done
-    (c.in_ok-reserve.ensures.items ∙ c.clear.ensures.items) c.requires.room
+loop-prefix-init c = grind (arith, common_steps, taking-none)
 
 pub overflow_mul-done : goal.overflow_mul-done
 overflow_mul-done c =

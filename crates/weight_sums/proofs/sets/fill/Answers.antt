@@ -1,4 +1,5 @@
 use Rattle.std.proofs.Common.{◌∙◌, ◌==◌, ◌++◌, length, drop, ap, arith, List}
+use Rattle.std.proofs.lemmas.Grind.{common_steps}
 use Rattle.weight_sums.specs.Inner.Sets.{AreSets}
 use Rattle.weight_sums.specs.declared.sets.Set.{Set}
 use Rattle.weight_sums.proofs.SetLists.{begun, weightless, light-enough, few-members, small-enough, sets-further}
@@ -32,8 +33,7 @@ with_first-requires-clause-sizes c =
     c.requires.few
 
 pub with_first-requires-clause-before : goal.with_first-requires-clause-before
-with_first-requires-clause-before c =
-    rw (c.in_ok-extend_from_slice-2.ensures.items, c.clear-in-loop-place.ensures.items) (weightless _ c.requires.begins)
+with_first-requires-clause-before c = grind (arith, common_steps, weightless)
 
 pub loop-place-preserved : goal.loop-place-preserved
 loop-place-preserved c =

@@ -1,5 +1,6 @@
 use Rattle.std.proofs.Common.{arith}
 use Rattle.std.proofs.lemmas.Nat.{shr_below}
+use Rattle.std.proofs.lemmas.Grind.{common_steps}
 use Rattle.weight_sums.specs.Inner.Sets.{nobody}
 use Rattle.weight_sums.proofs.FittingSets.{here-few}
 use Rattle.weight_sums.proofs.GroupSums.{paired-rows, paired-more, paired-further, paired-all}
@@ -15,9 +16,7 @@ pub add-requires-clause-few : goal.add-requires-clause-few
 add-requires-clause-few c j = here-few c.args.others.now c.let_in.new.self j c.let_in.ensures.entered c.requires.others
 
 pub add-requires-then-is_any-clause-key : goal.add-requires-then-is_any-clause-key
-add-requires-then-is_any-clause-key c =
-    let below = shr_below _ c.args.digits c.args.digits (c.requires.list.within c.loop-set.set-index nobody c.loop-set-test.true) in
-    omega (arith, c.loop-set.invariant.high_long, below, c.high.ensures)
+add-requires-then-is_any-clause-key c = grind (arith, common_steps, shr_below)
 
 pub add-requires-then-is_any-clause-room : goal.add-requires-then-is_any-clause-room
 add-requires-then-is_any-clause-room c k s small =

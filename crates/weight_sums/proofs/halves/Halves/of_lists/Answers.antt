@@ -1,4 +1,5 @@
-use Rattle.std.proofs.Common.{◌∙◌, sym, arith}
+use Rattle.std.proofs.Common.{arith}
+use Rattle.std.proofs.lemmas.Grind.{common_steps}
 use Rattle.weight_sums.proofs.SetLists.{copied, half-of}
 use Rattle.weight_sums.proofs.halves.Halves.of_lists.Goals as goal
 
@@ -23,16 +24,4 @@ new-requires-3-clause-list c = half-of (copied c.deref-5.ensures.value c.in_ok-f
     (omega (arith, c.split_at.ensures.front_len, c.requires.few)) (omega (arith, c.split_at.ensures.front_len, c.split_at.ensures.back_len))
 
 pub returns-clause-are : goal.returns-clause-are
-returns-clause-are c = record {
-  first = c.deref.result.now;
-  second = c.deref-2.result.now;
-  second_shortened = c.deref-4.result.now;
-  first_shortened = c.deref-5.result.now;
-  first_are = rw (c.deref.ensures.value, sym c.split_at.ensures.front) c.in_ok-fill_sets.ensures;
-  second_are = rw (c.deref-2.ensures.value, sym c.split_at.ensures.back) c.in_ok-fill_sets-2.ensures;
-  second_shortened_are = rw (c.deref-4.ensures.value, sym c.split_at.ensures.back) c.in_ok-fill_shortened.ensures;
-  first_shortened_are = rw (c.deref-5.ensures.value, sym c.split_at.ensures.front) c.in_ok-fill_shortened-2.ensures;
-  won = c.in_ok-won.ensures;
-  shortened = rw (c.deref-3.ensures.value ∙ sym c.deref.ensures.value) at c.in_ok-shortened.ensures;
-  own = c.in_ok-own.ensures;
-}
+returns-clause-are c = grind (arith, common_steps)

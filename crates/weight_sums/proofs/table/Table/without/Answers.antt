@@ -1,6 +1,7 @@
 use Rattle.std.proofs.Common.{◌≡◌, ◌∙◌, ◌+◌, ◌<◌, ◌≤◌, ℕ, [], List, get_or, length, ap, sym, arith}
 use Rattle.std.proofs.lemmas.Bool.Decides.{nat_tests}
 use Rattle.std.proofs.lemmas.List.{get_or_default}
+use Rattle.std.proofs.lemmas.Grind.{common_steps}
 use Rattle.weight_sums.proofs.Taking.{get_or-zeros}
 use Rattle.weight_sums.proofs.TableSums.{added-none, added-further, added-all}
 use Rattle.weight_sums.proofs.table.Table.without.Goals as goal
@@ -37,29 +38,15 @@ loop-key-preserved c =
     elim c.if-key-place-ne1.branch [
       | then-key-place-ne1 w ↦
           let is : (s : ℕ) → s ≤ 40 → get_or c.if-key-place-ne1.sum s 0 ≡ get_or c.loop-key.sum s 0
-          + get_or (get_or rows n []) s 0 = λ s small.
-          (let row =
-          row-of rows n s w.index.result.now w.index.result.now
-          (omega (arith, c.len-key-end.ensures, c.loop-key-test.true)) w.index.ensures in
-          omega (arith, ap (λ (l : List ℕ). get_or l s 0) w.sum-is, w.add_row.ensures s small, row)) in
+          + get_or (get_or rows n []) s 0 = grind (arith, common_steps, row-of) in
           record {
-            added = λ key f xs s are small.
-                grind (
-                  arith,
-                  nat_tests,
-                  added-further n c.args.place key (f s) xs,
-                  old.added key f xs s are small,
-                  are.each n s small,
-                  is s small,
-                );
+            added = grind (arith, common_steps, nat_tests, added-further);
             room = λ s small. omega (arith, old.room s small, c.requires.rows.few n s small, is s small);
           }
       | else-key-place-ne1 w ↦
-          let is : (s : ℕ) → get_or c.if-key-place-ne1.sum s 0 ≡ get_or c.loop-key.sum s 0 =
-          λ s. ap (λ (l : List ℕ). get_or l s 0) w.sum-is in
+          let is : (s : ℕ) → get_or c.if-key-place-ne1.sum s 0 ≡ get_or c.loop-key.sum s 0 = grind (arith, common_steps) in
           record {
-            added = λ key f xs s are small.
-                grind (arith, nat_tests, added-further n c.args.place key (f s) xs, old.added key f xs s are small, is s);
+            added = grind (arith, common_steps, nat_tests, added-further);
             room = λ s small. omega (arith, old.room s small, is s);
           }
     ]
