@@ -38,10 +38,10 @@ met-seen n (r ∷ rs) f h same =
     each i lt (inr some) = ap (λ (b : Bool). cond b 1 0 * get_or r.weights i 0)
         (same i lt (or_left (not (get_or r.weights i 0 == 0)) (has_weight rs i) (ap not (ne_eqb (get_or r.weights i 0) 0 some))))
 
-joint-of : (g a b : GameView) → AreChambersOf g a b
+joint-of : {g a b : GameView} → AreChambersOf g a b
     → IsJoint (length g.names) (has_weight a.rules) (has_weight b.rules) (met (length g.names) g.rules) (met (length g.names) a.rules)
     (met (length g.names) b.rules)
-joint-of g a b are = record {
+joint-of {g = g} {a = a} {b = b} are = record {
   both = are.both;
   sees_own = λ f h same. met-seen (length g.names) a.rules f h same;
   sees_other = λ f h same. met-seen (length g.names) b.rules f h same;
@@ -53,11 +53,9 @@ joint-of g a b are = record {
 
 pub chamber-sizes : (g a b : GameView) (s : ℕ) → IsGame g → IsGame a → IsGame b → AreChambersOf g a b
     → minimal_of_size g s ≡ paired (minimal_of_size a) (minimal_of_size b) s
-chamber-sizes g a b s is_g is_a is_b are =
-    joint-sizes g a b is_g is_a is_b are.first are.second (has_weight a.rules) (has_weight b.rules) (joint-of g a b are) s
+chamber-sizes g a b s is_g is_a is_b are = joint-sizes is_g is_a is_b are.first are.second (joint-of are) s
 
 pub chamber-members : (g a b : GameView) (i s : ℕ) → IsGame g → IsGame a → IsGame b → AreChambersOf g a b → i < length g.names
     → minimal_of_member_size g i s
     ≡ paired (minimal_of_member_size a i) (minimal_of_size b) s + paired (minimal_of_size a) (minimal_of_member_size b i) s
-chamber-members g a b i s is_g is_a is_b are lt =
-    joint-members g a b is_g is_a is_b are.first are.second (has_weight a.rules) (has_weight b.rules) (joint-of g a b are) i s lt
+chamber-members g a b i s is_g is_a is_b are lt = joint-members is_g is_a is_b are.first are.second (joint-of are) i s lt

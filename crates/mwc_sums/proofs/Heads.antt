@@ -36,8 +36,7 @@ size-without n p c lt inside =
     let ones : (d : ℕ) → weight (replicate n 1) d ≡ size n d * 1 = λ d.
     alike-weight (replicate n 1) 1 d (λ q low. get_or-replicate {A = ℕ} n q 1 0 (omega (arith, low, long))) ∙ ap (λ (k : ℕ). size k d * 1) long in
     let less = rw long at (weight-without (replicate n 1) p c (omega (arith, lt, long)) (rw long (eqb-true _ _ inside))) in
-    let one = get_or-replicate {A = ℕ} n p 1 0 lt in
-    omega (arith, less, one, ones c, ones (c - 2 ^ (n - 1 - p)))
+    omega (arith, less, get_or-replicate {A = ℕ} n p 1 0 lt, ones c, ones (c - 2 ^ (n - 1 - p)))
 
 -- a condition, and so many members
 pub by-heads : (n : ℕ) (won : ℕ → Bool) (heads c : ℕ) → IsMin n (λ x. won x && leb heads (size n x)) c

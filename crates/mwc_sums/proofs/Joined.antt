@@ -48,7 +48,7 @@ few-of_member_size g i s is = few-of g (λ c. contains g i c && (size_of g c == 
 abbrev pub Holds : List ℕ → (ℕ → ℕ) → Type 0
 Holds xs f = (s : ℕ) → s ≤ 40 → get_or xs s 0 ≡ f s
 
-module _ (g a b : GameView) (is_g : IsGame g) (is_a : IsGame a) (is_b : IsGame b) (are : AreChambersOf g a b) where
+module _ {g a b : GameView} (is_g : IsGame g) (is_a : IsGame a) (is_b : IsGame b) (are : AreChambersOf g a b) where
   pub all-pairs : (xs ys : List ℕ) → Holds xs (minimal_of_size a) → Holds ys (minimal_of_size b) → (s : ℕ) → s ≤ 40
       → paired (λ j. get_or xs j 0) (λ j. get_or ys j 0) s ≡ minimal_of_size g s
   all-pairs xs ys own other s small =
@@ -71,6 +71,4 @@ module _ (g a b : GameView) (is_g : IsGame g) (is_a : IsGame a) (is_b : IsGame b
   first-few i xs ys lt own other s small =
       let same = paired-same (λ j. get_or xs j 0) (minimal_of_member_size a i) (λ j. get_or ys j 0) (minimal_of_size b) s
       (λ j le. own j (omega (arith, le, small))) (λ j le. other j (omega (arith, le, small))) in
-      let all = chamber-members g a b i s is_g is_a is_b are lt in
-      let few = few-of_member_size g i s is_g in
-      omega (arith, same, all, few)
+      omega (arith, same, chamber-members g a b i s is_g is_a is_b are lt, few-of_member_size g i s is_g)

@@ -15,9 +15,9 @@ pub record IsJoint (n : ℕ) (own other : ℕ → Bool) (won_g won_a won_b : (�
   pub sees_other : Sees n other won_b
   pub apart : (i : ℕ) → i < n → own i ≡ true → other i ≡ false
 
-pub flipped-joint : (n : ℕ) (own other : ℕ → Bool) (won_g won_a won_b : (ℕ → Bool) → Bool) → IsJoint n own other won_g won_a won_b
+pub flipped-joint : {n : ℕ} {own other : ℕ → Bool} {won_g won_a won_b : (ℕ → Bool) → Bool} → IsJoint n own other won_g won_a won_b
     → IsJoint n other own won_g won_b won_a
-flipped-joint n own other won_g won_a won_b joint = record {
+flipped-joint joint = record {
   both = λ f. let b = joint.both f in grind (arith, nat_tests);
   sees_own = joint.sees_other;
   sees_other = joint.sees_own;
@@ -25,16 +25,16 @@ flipped-joint n own other won_g won_a won_b joint = record {
 }
 
 -- no member of a least set is unseen
-pub least-seen : (n : ℕ) (side : ℕ → Bool) (won : (ℕ → Bool) → Bool) (f : ℕ → Bool) → Sees n side won → IsLeast n won f
+pub least-seen : {n : ℕ} (side : ℕ → Bool) {won : (ℕ → Bool) → Bool} {f : ℕ → Bool} → Sees n side won → IsLeast n won f
     → (i : ℕ) → i < n → f i ≡ true → side i ≡ true
-least-seen n side won f sees least i lt inside = true_from_ne_false (side i) (λ unseen.
+least-seen side {won = won} {f = f} sees least i lt inside = true_from_ne_false (side i) (λ unseen.
     both_ways (won (less f i)) (least.needs i lt inside)
     (sees (less f i) f (λ j lj seen. less-same f i j (λ e. both_ways (side j) (ap side e ∙ unseen) seen)) ∙ least.wins))
 
-module _ (n : ℕ) (own other : ℕ → Bool) (won_g won_a won_b : (ℕ → Bool) → Bool) (joint : IsJoint n own other won_g won_a won_b) where
+module _ {n : ℕ} {own other : ℕ → Bool} {won_g won_a won_b : (ℕ → Bool) → Bool} (joint : IsJoint n own other won_g won_a won_b) where
   -- a least set is, of each side, a least set
-  pub least-half : (c x : ℕ → Bool) → IsLeast n won_g c → ((i : ℕ) → i < n → x i ≡ (c i && own i)) → IsLeast n won_a x
-  least-half c x least is = record {
+  pub least-half : {c : ℕ → Bool} (x : ℕ → Bool) → IsLeast n won_g c → ((i : ℕ) → i < n → x i ≡ (c i && own i)) → IsLeast n won_a x
+  least-half {c = c} x least is = record {
     wins = joint.sees_own x c same ∙ (and_parts (won_a c) (won_b c) wins).0;
     needs = λ i lt inside.
         (let parts = and_parts (c i) (own i) (sym (is i lt) ∙ inside) in
@@ -52,8 +52,8 @@ module _ (n : ℕ) (own other : ℕ → Bool) (won_g won_a won_b : (ℕ → Bool
       same i lt seen = let e = is i lt in grind (arith, nat_tests)
 
   -- each of its members is on a side
-  pub least-sides : (c : ℕ → Bool) → IsLeast n won_g c → (i : ℕ) → i < n → c i ≡ true → (own i || other i) ≡ true
-  least-sides c least i lt inside = elim (cases_Bool (own i)) [
+  pub least-sides : {c : ℕ → Bool} → IsLeast n won_g c → (i : ℕ) → i < n → c i ≡ true → (own i || other i) ≡ true
+  least-sides {c = c} least i lt inside = elim (cases_Bool (own i)) [
     | inl seen ↦ or_left (own i) (other i) seen
     | inr unseen ↦ or_right (own i) (other i) (true_from_ne_false (other i) (λ none.
         both_ways (won_g (less c i)) (least.needs i lt inside)
@@ -64,24 +64,24 @@ module _ (n : ℕ) (own other : ℕ → Bool) (won_g won_a won_b : (ℕ → Bool
   ]
 
   -- members of the one set are not of the other
-  pub least-apart : (x y : ℕ → Bool) → IsLeast n won_a x → IsLeast n won_b y → (i : ℕ) → i < n → x i ≡ true → y i ≡ false
-  least-apart x y least_x least_y i lt inside =
-      let a = least-seen n own won_a x joint.sees_own least_x i lt inside in
-      let b = least-seen n other won_b y joint.sees_other least_y i lt in
+  pub least-apart : {x y : ℕ → Bool} → IsLeast n won_a x → IsLeast n won_b y → (i : ℕ) → i < n → x i ≡ true → y i ≡ false
+  least-apart {y = y} least_x least_y i lt inside =
+      let a = least-seen own joint.sees_own least_x i lt inside in
+      let b = least-seen other joint.sees_other least_y i lt in
       let c = joint.apart i lt a in
       grind (arith, nat_tests)
 
   -- of the two together, those of one side are the one set
-  pub least-own : (x y : ℕ → Bool) → IsLeast n won_a x → IsLeast n won_b y → (i : ℕ) → i < n → ((x i || y i) && own i) ≡ x i
-  least-own x y least_x least_y i lt =
-      let a = least-seen n own won_a x joint.sees_own least_x i lt in
-      let b = least-seen n other won_b y joint.sees_other least_y i lt in
+  pub least-own : {x y : ℕ → Bool} → IsLeast n won_a x → IsLeast n won_b y → (i : ℕ) → i < n → ((x i || y i) && own i) ≡ x i
+  least-own {x = x} {y = y} least_x least_y i lt =
+      let a = least-seen own joint.sees_own least_x i lt in
+      let b = least-seen other joint.sees_other least_y i lt in
       let c = joint.apart i lt in
       grind (arith, nat_tests)
 
   -- two least sets together are a least set
-  pub least-union : (c x y : ℕ → Bool) → IsLeast n won_a x → IsLeast n won_b y → ((i : ℕ) → i < n → c i ≡ (x i || y i)) → IsLeast n won_g c
-  least-union c x y least_x least_y is = record {
+  pub least-union : (c : ℕ → Bool) {x y : ℕ → Bool} → IsLeast n won_a x → IsLeast n won_b y → ((i : ℕ) → i < n → c i ≡ (x i || y i)) → IsLeast n won_g c
+  least-union c {x = x} {y = y} least_x least_y is = record {
     wins = joint.both c
         ∙ and_from (won_a c) (won_b c) (joint.sees_own c x in_x ∙ least_x.wins) (joint.sees_other c y in_y ∙ least_y.wins);
     needs = λ i lt inside.
@@ -96,13 +96,13 @@ module _ (n : ℕ) (own other : ℕ → Bool) (won_g won_a won_b : (ℕ → Bool
       in_x : (i : ℕ) → i < n → own i ≡ true → c i ≡ x i
       in_x i lt seen =
           let e = is i lt in
-          let b = least-seen n other won_b y joint.sees_other least_y i lt in
+          let b = least-seen other joint.sees_other least_y i lt in
           let d = joint.apart i lt in
           grind (arith, nat_tests)
 
       in_y : (i : ℕ) → i < n → other i ≡ true → c i ≡ y i
       in_y i lt seen =
           let e = is i lt in
-          let b = least-seen n own won_a x joint.sees_own least_x i lt in
+          let b = least-seen own joint.sees_own least_x i lt in
           let d = joint.apart i lt in
           grind (arith, nat_tests)

@@ -44,7 +44,7 @@ pub record ArePairs (p : ℕ → Bool) (q : ℕ → ℕ → Bool) (one two : ℕ
   pub parts : (c : ℕ) → c < n → p c ≡ true → (q (one c) (two c) ≡ true) × (both (one c) (two c) ≡ c)
   pub whole : (x y : ℕ) → x < a → y < b → q x y ≡ true → (p (both x y) ≡ true) × (one (both x y) ≡ x) × (two (both x y) ≡ y)
 
-module _ (p : ℕ → Bool) (q : ℕ → ℕ → Bool) (one two : ℕ → ℕ) (both : ℕ → ℕ → ℕ) (n a b : ℕ) (are : ArePairs p q one two both n a b) where
+module _ {p : ℕ → Bool} {q : ℕ → ℕ → Bool} {one two : ℕ → ℕ} {both : ℕ → ℕ → ℕ} {n a b : ℕ} (are : ArePairs p q one two both n a b) where
   same-pair : (c x y : ℕ) → c < n → x < a → y < b → ((y == two c) && ((x == one c) && p c)) ≡ ((c == both x y) && q x y)
   same-pair c x y lc lx ly = same_test _ _
       (λ h. (let k = and_parts (y == two c) ((x == one c) && p c) h in
@@ -87,37 +87,38 @@ pub record Holds (n : ℕ) (won : (ℕ → Bool) → Bool) (m : ℕ) (ranks : Li
   pub inside : (f : ℕ → Bool) → IsLeast n won f → (i : ℕ) → i < n → f i ≡ true → get_or ranks i 0 < m
 
 -- the set of a coalition, by the places of another ranking
-moved : (n : ℕ) (won : (ℕ → Bool) → Bool) (a b : ℕ) (ra rb : List ℕ) (own other : ℕ → Bool) → LooksAt n won → Holds n won a ra own
+moved : {n : ℕ} {won : (ℕ → Bool) → Bool} {a b : ℕ} {ra rb : List ℕ} {own other : ℕ → Bool} → LooksAt n won → Holds n won a ra own
     → Holds n won b rb other → (c : ℕ) → c < 2 ^ a → own c ≡ true
     → (other (as_mask b rb (seen a ra c)) ≡ true) × (as_mask a ra (seen b rb (as_mask b rb (seen a ra c))) ≡ c)
     × ((i : ℕ) → i < n → seen b rb (as_mask b rb (seen a ra c)) i ≡ seen a ra c i)
-moved n won a b ra rb own other looks ha hb c lc min =
+moved {n = n} {won = won} {a = a} {b = b} {ra = ra} {rb = rb} looks ha hb c lc min =
     let least = (ha.least c lc).0 min in
-    let same = mask-seen n b rb hb.seats (seen a ra c) (hb.inside (seen a ra c) least) in (
+    let same = mask-seen hb.seats (seen a ra c) (hb.inside (seen a ra c) least) in (
       (hb.least _ (mask-less b rb (seen a ra c))).1 (least-same n won _ _ looks (λ i lt. sym (same i lt)) least),
-      sym (mask-is n a ra ha.seats _ c lc (λ i lt. sym (same i lt))),
+      sym (mask-is ha.seats _ c lc (λ i lt. sym (same i lt))),
       same,
     )
 
 -- of two rankings, as many pass tests that say the same of the same set
-pub alike-count : (n : ℕ) (won : (ℕ → Bool) → Bool) (a b : ℕ) (ra rb : List ℕ) (own other : ℕ → Bool) → LooksAt n won → Holds n won a ra own
+pub alike-count : {n : ℕ} {won : (ℕ → Bool) → Bool} {a b : ℕ} {ra rb : List ℕ} {own other : ℕ → Bool} → LooksAt n won → Holds n won a ra own
     → Holds n won b rb other → (t u : ℕ → Bool) → ((c x : ℕ) → ((i : ℕ) → i < n → seen a ra c i ≡ seen b rb x i) → t c ≡ u x)
     → length (filter t (filter own (down (2 ^ a)))) ≡ length (filter u (filter other (down (2 ^ b))))
 unfolding down
-alike-count n won a b ra rb own other looks ha hb t u same =
-    paired-off own (λ x y. other x) (λ c. as_mask b rb (seen a ra c)) (λ c. 0) (λ x y. as_mask a ra (seen b rb x)) (2 ^ a) (2 ^ b) 1 (record {
+alike-count {n = n} {won = won} {a = a} {b = b} {ra = ra} {rb = rb} {own = own} {other = other} looks ha hb t u same =
+    paired-off {p = own} {q = λ x y. other x} {one = λ c. as_mask b rb (seen a ra c)} {two = λ c. 0} {both = λ x y. as_mask a ra (seen b rb x)}
+    {n = 2 ^ a} {a = 2 ^ b} {b = 1} (record {
       first = λ c. mask-less b rb (seen a ra c);
       second = λ c. omega arith;
       below = λ x y. mask-less a ra (seen b rb x);
-      parts = λ c lc min. (let h = moved n won a b ra rb own other looks ha hb c lc min in (h.0, h.1));
-      whole = λ x y lx ly min. (let h = moved n won b a rb ra other own looks hb ha x lx min in (h.0, h.1, (omega arith)));
+      parts = λ c lc min. (let h = moved looks ha hb c lc min in (h.0, h.1));
+      whole = λ x y lx ly min. (let h = moved looks hb ha x lx min in (h.0, h.1, (omega arith)));
     }) t
     ∙ sum-down (λ x. 0 + one_if (other x && t (as_mask a ra (seen b rb x)))) (λ x. one_if (other x && u x)) (2 ^ b) (λ x lx. each x (other x) refl lx)
     ∙ sym (count-both other u (down (2 ^ b)))
   where
     each : (x : ℕ) (b' : Bool) → other x ≡ b' → x < 2 ^ b → 0 + one_if (other x && t (as_mask a ra (seen b rb x))) ≡ one_if (other x && u x)
     each x true min lx =
-        let h = moved n won b a rb ra other own looks hb ha x lx min in
+        let h = moved looks hb ha x lx min in
         let e = ap (λ (d : Bool). one_if (other x && d)) (same _ x h.2) in
         omega (arith, e)
     each x false lost lx = (λ k. 0 + one_if (lost k && t (as_mask a ra (seen b rb x)))) ∙ sym (λ k. one_if (lost k && u x))

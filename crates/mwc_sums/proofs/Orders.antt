@@ -27,21 +27,19 @@ module _ (g h : GameView) (is_g : IsGame g) (is_h : IsGame h) (same : AreRulesOf
 
   holds : Holds (length g.names) (met (length g.names) g.rules) (length h.names) h.ranks (minimal (votes_of h))
   holds = subst (λ (w : (ℕ → Bool) → Bool). Holds (length g.names) w (length h.names) h.ranks (minimal (votes_of h)))
-      (λ k f. sym (same.alike f) k) (game-holds h is_h (length g.names) same.members)
+      (λ k f. sym (same.alike f) k) (game-holds is_h (length g.names) same.members)
 
   count-same : (s t : ℕ → Bool) → ((c d : ℕ) → AreAlike c d → s c ≡ t d)
       → length (filter t (minimal_coalitions (votes_of h))) ≡ length (filter s (minimal_coalitions (votes_of g)))
   unfolding minimal_coalitions
-  count-same s t tests = sym (alike-count (length g.names) (met (length g.names) g.rules) (length g.names) (length h.names) g.ranks h.ranks
-      (minimal (votes_of g)) (minimal (votes_of h)) (met-looks (length g.names) g.rules) (game-holds g is_g (length g.names) refl) holds s t tests)
+  count-same s t tests = sym (alike-count (met-looks (length g.names) g.rules) (game-holds is_g (length g.names) refl) holds s t tests)
 
   sizes : (s c d : ℕ) → AreAlike c d → (size_of g c == s) ≡ (size_of h d == s)
-  sizes s c d alike = ap (λ (k : ℕ). k == s) (alike-size (length g.names) (length g.names) (length h.names) g.ranks h.ranks
-      (game-holds g is_g (length g.names) refl).seats holds.seats c d alike)
+  sizes s c d alike = ap (λ (k : ℕ). k == s) (alike-size (game-holds is_g (length g.names) refl).seats holds.seats c d alike)
 
   members : (i c d : ℕ) → i < length g.names → AreAlike c d → contains g i c ≡ contains h i d
   members i c d lt alike =
-      sym (seen-contains g is_g c i lt) ∙ alike i lt ∙ seen-contains h is_h d i (let long = same.members in omega (arith, lt, long))
+      sym (seen-contains is_g c i lt) ∙ alike i lt ∙ seen-contains is_h d i (let long = same.members in omega (arith, lt, long))
 
   pub counts-alike : (t : Tables) → AreCounts h (minimal_coalitions (votes_of h)) t → AreCounts g (minimal_coalitions (votes_of g)) t
   counts-alike t counts =

@@ -30,19 +30,19 @@ two-ways : (m b d e t : Bool) → (m ≡ true → t ≡ ((b || d) && e)) → (m 
 two-ways m b d e t is apart = grind (arith, nat_tests)
 
 -- a game of so many members as another
-module _ (n : ℕ) (a : GameView) (is : IsGame a) (long : length a.names ≡ n) where
+module _ {n : ℕ} {a : GameView} (is : IsGame a) (long : length a.names ≡ n) where
   over-seats : IsSeating n (length a.names) a.ranks
-  over-seats = subst (λ (k : ℕ). IsSeating k (length a.names) a.ranks) long (game-seats a is)
+  over-seats = subst (λ (k : ℕ). IsSeating k (length a.names) a.ranks) long (game-seats is)
 
   over-least : (x : ℕ) → (minimal (votes_of a) x ≡ true) ↔ IsLeast n (met n a.rules) (seen (length a.names) a.ranks x)
-  over-least x = subst (λ (k : ℕ). (minimal (votes_of a) x ≡ true) ↔ IsLeast k (met k a.rules) (seen (length a.names) a.ranks x)) long (game-least a is x)
+  over-least x = subst (λ (k : ℕ). (minimal (votes_of a) x ≡ true) ↔ IsLeast k (met k a.rules) (seen (length a.names) a.ranks x)) long (game-least is x)
 
   over-seen : (f : ℕ → Bool) (i : ℕ) → i < n → seen (length a.names) a.ranks (as_mask (length a.names) a.ranks f) i ≡ f i
-  over-seen f i lt = mask-seen n (length a.names) a.ranks over-seats f
+  over-seen f i lt = mask-seen over-seats f
       (λ j lj _. (let below = over-seats.are.place_below j lj in omega (arith, below, long))) i lt
 
-module _ (g a b : GameView) (is_g : IsGame g) (is_a : IsGame a) (is_b : IsGame b) (la : length a.names ≡ length g.names)
-    (lb : length b.names ≡ length g.names) (own other : ℕ → Bool)
+module _ {g a b : GameView} (is_g : IsGame g) (is_a : IsGame a) (is_b : IsGame b) (la : length a.names ≡ length g.names)
+    (lb : length b.names ≡ length g.names) {own other : ℕ → Bool}
     (joint : IsJoint (length g.names) own other (met (length g.names) g.rules) (met (length g.names) a.rules) (met (length g.names) b.rules)) where
   abbrev n : ℕ
   n = length g.names
@@ -63,11 +63,11 @@ module _ (g a b : GameView) (is_g : IsGame g) (is_a : IsGame a) (is_b : IsGame b
   min_pair x y = minimal (votes_of a) x && minimal (votes_of b) y
 
   joint' : IsJoint (length g.names) other own (met (length g.names) g.rules) (met (length g.names) b.rules) (met (length g.names) a.rules)
-  joint' = flipped-joint n own other (met n g.rules) (met n a.rules) (met n b.rules) joint
+  joint' = flipped-joint joint
 
   joined : (x y i : ℕ) → i < n → in_g (union x y) i ≡ (in_a x i || in_b y i)
   unfolding union
-  joined x y i lt = over-seen n g is_g refl (λ j. in_a x j || in_b y j) i lt
+  joined x y i lt = over-seen is_g refl (λ j. in_a x j || in_b y j) i lt
 
   pairs : ArePairs (minimal (votes_of g)) min_pair (λ c. as_mask (length a.names) a.ranks (λ i. in_g c i && own i))
       (λ c. as_mask (length b.names) b.ranks (λ i. in_g c i && other i)) union (2 ^ n) (2 ^ length a.names) (2 ^ length b.names)
@@ -77,27 +77,26 @@ module _ (g a b : GameView) (is_g : IsGame g) (is_a : IsGame a) (is_b : IsGame b
     second = λ c. mask-less (length b.names) b.ranks (λ i. in_g c i && other i);
     below = λ x y. mask-less n g.ranks (λ i. in_a x i || in_b y i);
     parts = λ c lc min.
-        (let least = (game-least g is_g c).0 min in
-        let in_x = over-seen n a is_a la (λ i. in_g c i && own i) in
-        let in_y = over-seen n b is_b lb (λ i. in_g c i && other i) in (
+        (let least = (game-least is_g c).0 min in
+        let in_x = over-seen is_a la (λ i. in_g c i && own i) in
+        let in_y = over-seen is_b lb (λ i. in_g c i && other i) in (
           and_from _ _
-              ((over-least n a is_a la _).1 (least-half n own other (met n g.rules) (met n a.rules) (met n b.rules) joint (in_g c) _ least in_x))
-              ((over-least n b is_b lb _).1 (least-half n other own (met n g.rules) (met n b.rules) (met n a.rules) joint' (in_g c) _ least in_y)),
-          sym (mask-is n n g.ranks (game-seats g is_g) _ c lc (λ i lt.
-              on-sides (in_g c i) (own i) (other i) (least-sides n own other (met n g.rules) (met n a.rules) (met n b.rules) joint (in_g c) least i lt)
+              ((over-least is_a la _).1 (least-half joint _ least in_x))
+              ((over-least is_b lb _).1 (least-half joint' _ least in_y)),
+          sym (mask-is (game-seats is_g) _ c lc (λ i lt.
+              on-sides (in_g c i) (own i) (other i) (least-sides joint least i lt)
               ∙ sym (λ k. in_x i lt k || in_y i lt k))),
         ));
     whole = λ x y lx ly min.
         (let p = and_parts (minimal (votes_of a) x) (minimal (votes_of b) y) min in
-        let least_a = (over-least n a is_a la x).0 p.0 in
-        let least_b = (over-least n b is_b lb y).0 p.1 in (
-          (game-least g is_g (union x y)).1 (least-union n own other (met n g.rules) (met n a.rules) (met n b.rules) joint (in_g (union x y)) (in_a x)
-              (in_b y) least_a least_b (joined x y)),
-          sym (mask-is n (length a.names) a.ranks (over-seats n a is_a la) _ x lx (λ i lt. sym (ap (λ (d : Bool). d && own i) (joined x y i lt)
-              ∙ least-own n own other (met n g.rules) (met n a.rules) (met n b.rules) joint (in_a x) (in_b y) least_a least_b i lt))),
-          sym (mask-is n (length b.names) b.ranks (over-seats n b is_b lb) _ y ly (λ i lt. sym (ap (λ (d : Bool). d && other i)
+        let least_a = (over-least is_a la x).0 p.0 in
+        let least_b = (over-least is_b lb y).0 p.1 in (
+          (game-least is_g (union x y)).1 (least-union joint (in_g (union x y)) least_a least_b (joined x y)),
+          sym (mask-is (over-seats is_a la) _ x lx (λ i lt. sym (ap (λ (d : Bool). d && own i) (joined x y i lt)
+              ∙ least-own joint least_a least_b i lt))),
+          sym (mask-is (over-seats is_b lb) _ y ly (λ i lt. sym (ap (λ (d : Bool). d && other i)
               (joined x y i lt ∙ or_comm (in_a x i) (in_b y i))
-              ∙ least-own n other own (met n g.rules) (met n b.rules) (met n a.rules) joint' (in_b y) (in_a x) least_b least_a i lt))),
+              ∙ least-own joint' least_b least_a i lt))),
         ));
   }
 
@@ -109,30 +108,30 @@ module _ (g a b : GameView) (is_g : IsGame g) (is_a : IsGame a) (is_b : IsGame b
 
   counted : (t : ℕ → Bool) → length (filter t (minimal_coalitions (votes_of g))) ≡ sum_by (λ x. sum_by (λ y. one_if (min_pair x y && t (union x y))) all_b) all_a
   unfolding minimal_coalitions
-  counted t = paired-off (minimal (votes_of g)) min_pair _ _ union (2 ^ n) (2 ^ length a.names) (2 ^ length b.names) pairs t
+  counted t = paired-off pairs t
 
   -- ---- by size and by member
   min-apart : (x y : ℕ) → min_pair x y ≡ true → (i : ℕ) → i < n → in_a x i ≡ true → in_b y i ≡ false
   min-apart x y min i lt inside =
       let p = and_parts (minimal (votes_of a) x) (minimal (votes_of b) y) min in
-      least-apart n own other (met n g.rules) (met n a.rules) (met n b.rules) joint (in_a x) (in_b y)
-      ((over-least n a is_a la x).0 p.0) ((over-least n b is_b lb y).0 p.1) i lt inside
+      least-apart joint
+      ((over-least is_a la x).0 p.0) ((over-least is_b lb y).0 p.1) i lt inside
 
   size-union : (x y : ℕ) → min_pair x y ≡ true → size_of g (union x y) ≡ size_of a x + size_of b y
   size-union x y min =
-      sym (seen-size n n g.ranks (game-seats g is_g) (union x y))
+      sym (seen-size (game-seats is_g) (union x y))
       ∙ sum-range (λ i. one_if (in_g (union x y) i)) (λ i. one_if (in_a x i) + one_if (in_b y i)) 0 n
       (λ i _ lt. ap (λ (d : Bool). one_if d) (joined x y i (omega (arith, lt)))
       ∙ one-sum (in_a x i) (in_b y i) (min-apart x y min i (omega (arith, lt))))
       ∙ sum-plus (λ i. one_if (in_a x i)) (λ i. one_if (in_b y i)) (range_with_len 0 n)
-      ∙ (λ k. seen-size n (length a.names) a.ranks (over-seats n a is_a la) x k + seen-size n (length b.names) b.ranks (over-seats n b is_b lb) y k)
+      ∙ (λ k. seen-size (over-seats is_a la) x k + seen-size (over-seats is_b lb) y k)
 
   -- what the parts contain
   a-contains : (x i : ℕ) → i < n → in_a x i ≡ contains a i x
-  a-contains x i lt = seen-contains a is_a x i (omega (arith, lt, la))
+  a-contains x i lt = seen-contains is_a x i (omega (arith, lt, la))
 
   b-contains : (y i : ℕ) → i < n → in_b y i ≡ contains b i y
-  b-contains y i lt = seen-contains b is_b y i (omega (arith, lt, lb))
+  b-contains y i lt = seen-contains is_b y i (omega (arith, lt, lb))
 
   pub joint-sizes : (s : ℕ) → minimal_of_size g s ≡ paired (minimal_of_size a) (minimal_of_size b) s
   unfolding minimal_coalitions
@@ -152,7 +151,7 @@ module _ (g a b : GameView) (is_g : IsGame g) (is_a : IsGame a) (is_b : IsGame b
       counted (λ c. contains g i c && (size_of g c == s))
       ∙ (λ k. sum_by (λ x. sum_by (λ y. two-ways (min_pair x y) (contains a i x) (contains b i y) (of_size x y)
       (contains g i (union x y) && (size_of g (union x y) == s))
-      (λ min. (λ j. (sym (seen-contains g is_g (union x y) i lt) ∙ joined x y i lt ∙ (λ k. a-contains x i lt k || b-contains y i lt k)) j
+      (λ min. (λ j. (sym (seen-contains is_g (union x y) i lt) ∙ joined x y i lt ∙ (λ k. a-contains x i lt k || b-contains y i lt k)) j
       && (size-union x y min j == s)))
       (λ min in'. sym (b-contains y i lt) ∙ min-apart x y min i lt (a-contains x i lt ∙ in')) k) all_b) all_a)
       ∙ (λ k. sum_by (λ x. sum-plus (of_a x) (of_b x) all_b k) all_a)

@@ -31,7 +31,7 @@ weight-seen n m ranks is r ws c long at =
     ∙ (λ k. sum_by (λ p. cond (has (long k) p c) 1 0 * get_or ws p 0) (range_with_len 0 (long k)))
     ∙ sum-range (λ p. cond (has m p c) 1 0 * get_or ws p 0) (λ p. cond (has m p c) 1 0 * get_or r.weights (member_at ranks p) 0) 0 m
     (λ p _ lt. ap (λ (x : ℕ). cond (has m p c) 1 0 * x) (at p (omega (arith, lt))))
-    ∙ sym (seen-sum n m ranks is (λ i b. cond b 1 0 * get_or r.weights i 0) (λ i. omega arith) c)
+    ∙ sym (seen-sum is (λ i b. cond b 1 0 * get_or r.weights i 0) (λ i. omega arith) c)
 
 pub ranked-at : (ranks : List ℕ) (r : RuleView) (p : ℕ) → p < length ranks
     → get_or (rule_by_rank ranks r).weights p 0 ≡ get_or r.weights (member_at ranks p) 0
@@ -62,7 +62,7 @@ minimal-min v c = (
 )
 
 -- ---- games
-module _ (g : GameView) (is : IsGame g) where
+module _ {g : GameView} (is : IsGame g) where
   pub game-seats : IsSeating (length g.names) (length g.names) g.ranks
   game-seats = record { few = omega arith; are = ranks-are g is; each = game-rank_places g is }
 
@@ -80,7 +80,7 @@ module _ (g : GameView) (is : IsGame g) where
   pub game-least : (c : ℕ) → (minimal (votes_of g) c ≡ true) ↔ IsLeast (length g.names) (met (length g.names) g.rules) (seen (length g.names) g.ranks c)
   game-least c =
       let same : wins (votes_of g).rules ≡ (λ x. met (length g.names) g.rules (seen (length g.names) g.ranks x)) = λ k x. wins-each g.rules x k in
-      let set = least-min (length g.names) (length g.names) g.ranks game-seats (met (length g.names) g.rules) (met-looks (length g.names) g.rules) c in (
+      let set = least-min game-seats (met (length g.names) g.rules) (met-looks (length g.names) g.rules) c in (
         λ min. set.1 (subst (λ (w : ℕ → Bool). IsMin (length g.names) w c) same ((minimal-min (votes_of g) c).0 min)),
         λ least. (minimal-min (votes_of g) c).1 (subst (λ (w : ℕ → Bool). IsMin (length g.names) w c) (sym same) (set.0 least)),
       )

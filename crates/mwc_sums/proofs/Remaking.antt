@@ -29,8 +29,7 @@ fair-of g k is lt =
       light = λ i. elim (cases_lt i (length g.names)) [
         | inl within ↦ light i within
         | inr past ↦
-            let zero = get_or_past (rule_at g.rules k).weights i 0 (omega (arith, full, past)) in
-            omega (arith, zero)
+            omega (arith, get_or_past (rule_at g.rules k).weights i 0 (omega (arith, full, past)))
       ];
     }
 

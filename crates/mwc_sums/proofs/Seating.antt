@@ -126,7 +126,7 @@ sum-cut f m (suc n) le none = elim (cases_eq m (suc n)) [
       omega (arith, rest, last, more, e)
 ]
 
-module _ (n m : ℕ) (ranks : List ℕ) (is : IsSeating n m ranks) where
+module _ {n m : ℕ} {ranks : List ℕ} (is : IsSeating n m ranks) where
   pub seen-at : (c p : ℕ) → p < m → seen m ranks c (member_at ranks p) ≡ has m p c
   seen-at c p lt = let back = is.are.place_back p (let few = is.few in omega (arith, lt, few)) in grind (arith, nat_tests)
 
@@ -199,10 +199,10 @@ module _ (n m : ℕ) (ranks : List ℕ) (is : IsSeating n m ranks) where
   )
 
 -- the same set of two rankings has one size
-pub alike-size : (n a b : ℕ) (ra rb : List ℕ) → IsSeating n a ra → IsSeating n b rb → (c x : ℕ)
+pub alike-size : {n a b : ℕ} {ra rb : List ℕ} → IsSeating n a ra → IsSeating n b rb → (c x : ℕ)
     → ((i : ℕ) → i < n → seen a ra c i ≡ seen b rb x i) → size a c ≡ size b x
-alike-size n a b ra rb is_a is_b c x alike =
-    sym (seen-size n a ra is_a c)
+alike-size {n = n} {a = a} {b = b} {ra = ra} {rb = rb} is_a is_b c x alike =
+    sym (seen-size is_a c)
     ∙ sum-range (λ i. one_if (seen a ra c i)) (λ i. one_if (seen b rb x i)) 0 n
     (λ i _ lt. ap (λ (d : Bool). one_if d) (alike i (omega (arith, lt))))
-    ∙ seen-size n b rb is_b x
+    ∙ seen-size is_b x

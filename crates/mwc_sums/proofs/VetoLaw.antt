@@ -18,6 +18,5 @@ vetoer-in v p c votes inside veto below won = true_from_ne_false (has v.members 
     let less = beside (λ q. has (length ws) q c) (λ q. get_or ws q 0) (length ws) p (omega (arith, full, inside)) (ap (λ (n : ℕ). has n p c) full ∙ out) in
     let own = weight-sum ws c in
     let all = row-sum ws (length ws) refl in
-    let short = veto.2 in
     both_ways _ (list_all_at (λ (x : RuleView). leb x.quota (weight x.weights c)) v.rules veto.0 (record { quota = 0; weights = [] }) veto.1
-    (lt-leb _ _ (omega (arith, less, own, all, short)))) won))
+    (lt-leb _ _ (omega (arith, less, own, all, veto.2)))) won))

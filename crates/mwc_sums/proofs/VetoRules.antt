@@ -62,9 +62,7 @@ fair-rest n veto r fair some = record {
   quota = good (rest_of n veto r) some (
       let met = good-met r fair.quota in
       let all = row-sum r.weights n fair.full in
-      let parts = both-sums n veto (λ i. get_or r.weights i 0) in
-      let own = made-sum (λ i. cond (veto i) 0 (get_or r.weights i 0)) n in
-      omega (arith, met, all, parts, own)
+      omega (arith, met, all, both-sums n veto (λ i. get_or r.weights i 0), made-sum (λ i. cond (veto i) 0 (get_or r.weights i 0)) n)
       );
   light = λ k. light-made (λ i. cond (veto i) 0 (get_or r.weights i 0)) n k (λ i lt. less (veto i) (get_or r.weights i 0) (fair.light i));
 }
@@ -90,8 +88,7 @@ fair-beside n veto rs fair k d lt =
 pub few-beside : (n : ℕ) (veto : ℕ → Bool) (rs : List RuleView) → length (rules_beside n veto rs) ≤ length rs + 1
 few-beside n veto rs =
     let both = length-filter_both (λ (r : RuleView). ltb 0 r.quota) (λ r. not (ltb 0 r.quota)) (λ r. refl) (rule_for n veto ∷ map (rest_of n veto) rs) in
-    let all = length-map rs (rest_of n veto) in
-    omega (arith, both, all)
+    omega (arith, both, length-map rs (rest_of n veto))
 
 -- with one rule more
 pub beside-more : (n : ℕ) (veto : ℕ → Bool) (rs : List RuleView) (k : ℕ) (d : RuleView) → k < length rs

@@ -2,6 +2,7 @@
 ghost use Rattle.coalitions.specs.declared.limits.TheConstants.{RULES};
 ghost use Rattle.council_game.specs.Game.{votes_of};
 ghost use Rattle.council_game.specs.Votes.{minimal_coalitions, rule_at};
+ghost use Rattle.mwc_sums.specs.Chambers.{chamber_of};
 ghost use Rattle.mwc_sums.specs.Inner.Rules.{AreOfChambers, AreRulesOf};
 ghost use Rattle.mwc_sums.specs.Statute.{is_counted};
 ghost use Rattle.power_index.specs.Tables.{AreCounts};
@@ -29,6 +30,23 @@ impl Statute {
         Ok(true)
     }
 
+    /// The game of the rules of the first rule's chamber, counted.
+    fn first_chamber(&self, alloc: Global, game: &Game) -> Result<Counted, Memory>
+        requires some { 0 < length self.now.rules }
+        requires chambers { AreOfChambers self.now.members self.now.rules }
+        requires members { self.now.members ≡ length game.now.names }
+        ensures names { IfOk result (λ c. c.game.names ≡ game.now.names) }
+        ensures rules { IfOk result (λ c. c.game.rules
+            ≡ chamber_of self.now.members self.now.rules (rule_at self.now.rules 0)) }
+    {
+        let (_members, _own) = (game.members(), self.members());
+        let chamber = self.beside(alloc, 0, true)?;
+        let (weights, seats) = chamber.seats().unwrap();
+        let first = chamber.game(alloc, game)?;
+        let counts = count_seated(alloc, &first, weights, seats)?;
+        Ok(Counted::new(first, counts))
+    }
+
     /// The counts of a game by these rules, of chambers: those of the first rule's chamber and of the others, paired.
     pub(crate) fn count(&self, alloc: Global, game: &Game) -> Result<Box<Counts>, Memory>
         requires some { 0 < length self.now.rules }
@@ -38,17 +56,27 @@ impl Statute {
         ensures { IfOk result (λ c. AreCounts game.now (minimal_coalitions (votes_of game.now)) c.value) }
     {
         let (_members, _own) = (game.members(), self.members());
-        let chamber = self.beside(alloc, 0, true)?;
-        let (weights, seats) = chamber.seats().unwrap();
-        let first = chamber.game(alloc, game)?;
-        let counts = count_seated(alloc, &first, weights, seats)?;
+        let first = self.first_chamber(alloc, game)?;
         let others = self.beside(alloc, 0, false)?;
         if others.rules() == 0 {
-            return Ok(counts);
+            return Ok(first.counts);
         }
         let second = others.game(alloc, game)?;
         let of_others = others.count(alloc, &second)?;
-        let (first, second) = (Counted::new(first, counts), Counted::new(second, of_others));
-        boxed_joined(alloc, game, &first, &second)
+        boxed_joined(alloc, game, &first, &Counted::new(second, of_others))
+    }
+
+    /// The game of these rules with the members of another, counted.
+    pub(crate) fn counted(&self, alloc: Global, game: &Game) -> Result<Counted, Memory>
+        requires some { 0 < length self.now.rules }
+        requires few { length self.now.rules ≤ RULES }
+        requires chambers { AreOfChambers self.now.members self.now.rules }
+        requires members { self.now.members ≡ length game.now.names }
+        ensures names { IfOk result (λ c. c.game.names ≡ game.now.names) }
+        ensures rules { IfOk result (λ c. c.game.rules ≡ self.now.rules) }
+    {
+        let part = self.game(alloc, game)?;
+        let counts = self.count(alloc, &part)?;
+        Ok(Counted::new(part, counts))
     }
 }

@@ -1,10 +1,12 @@
 //! Games of which sums count a part: what stands beside it is left for others to count.
+ghost use Rattle.coalitions.specs.declared.limits.TheConstants.{RULES};
 ghost use Rattle.council_game.specs.Game.{votes_of};
 ghost use Rattle.council_game.specs.Votes.{minimal_coalitions};
 ghost use Rattle.mwc_sums.specs.Chambers.{AreChambersOf};
-ghost use Rattle.mwc_sums.specs.Statute.{IsCountedInPart, left};
+ghost use Rattle.mwc_sums.specs.Inner.Rules.{AreRulesOf};
+ghost use Rattle.mwc_sums.specs.Statute.{IsCountedInPart, left, statute};
 ghost use Rattle.power_index.specs.Tables.{AreCounts};
-ghost use Rattle.std.specs.Prelude.{◌≡◌, ◌↔◌, IfOk, IfSome, IsSome};
+ghost use Rattle.std.specs.Prelude.{◌≡◌, ◌↔◌, ◌+◌, ◌≤◌, IfOk, IfSome, IsSome, length};
 
 use crate::counted::{Counted, boxed_joined};
 use crate::statute::Statute;
@@ -37,6 +39,27 @@ impl Parts {
     }
 }
 
+/// The two parts of a game that consists of these rules, where sums count some of them, and leave some.
+fn parts_of(alloc: Global, game: &Game, whole: &Statute) -> Result<Option<Parts>, Memory>
+    requires members { whole.now.members ≡ length game.now.names }
+    requires rules { whole.now.rules ≡ statute game.now }
+    requires few { length whole.now.rules ≤ RULES + 1 }
+    requires game { AreRulesOf game.now whole.now.members whole.now.rules }
+    ensures parts { IfOk result (λ parts. IfSome parts (λ p. AreChambersOf game.now p.counted.game p.left)) }
+    ensures left { IfOk result (λ parts. IfSome parts (λ p. p.left.rules ≡ left game.now)) }
+    ensures kind { IfOk result (λ parts. IsSome parts ↔ IsCountedInPart game.now) }
+{
+    let _members = whole.members();
+    let counted = whole.part(alloc, true)?;
+    let others = whole.part(alloc, false)?;
+    if counted.rules() == 0 || others.rules() == 0 {
+        return Ok(None);
+    }
+    let counted = counted.counted(alloc, game)?;
+    let left = others.game(alloc, game)?;
+    Ok(Some(Parts { counted, left }))
+}
+
 /// A game that `count_by_sums` does not count, in two: sums count those that can veto, and each chamber of one rule, or of
 /// weights and heads; what is left is of the other rules alone. None where sums count nothing of it, or leave nothing.
 ///
@@ -49,15 +72,5 @@ pub fn part_by_sums(alloc: Global, game: &Game) -> Result<Option<Parts>, Memory>
     ensures kind { IfOk result (λ parts. IsSome parts ↔ IsCountedInPart game.now) }
 {
     let statute = Statute::of(alloc, game)?;
-    let counted = statute.part(alloc, true)?;
-    let others = statute.part(alloc, false)?;
-    if counted.rules() == 0 || others.rules() == 0 {
-        return Ok(None);
-    }
-    let part = counted.game(alloc, game)?;
-    let counts = counted.count(alloc, &part)?;
-    Ok(Some(Parts {
-        counted: Counted::new(part, counts),
-        left: others.game(alloc, game)?,
-    }))
+    parts_of(alloc, game, &statute)
 }

@@ -3,23 +3,22 @@ use Rattle.std.proofs.Common.{◌≡◌, ◌∙◌, ◌⊎◌, ℕ, ◌+◌, ◌
 use Rattle.std.proofs.Common.{length, get_or, take, min, sym, ap, refl, arith, inl, inr}
 use Rattle.std.specs.List.{All, sum_by}
 use Rattle.std.proofs.lemmas.Bool.{cases_lt}
+use Rattle.std.proofs.lemmas.Bool.Decides.{nat_tests}
 use Rattle.std.proofs.lemmas.List.{get_or_default, take_all, length-take}
 use Rattle.std.proofs.lemmas.Nat.Bits.{bit_at_above, bit_at_cat_low, bit_at_cat_high}
 use Rattle.std.proofs.lemmas.Nat.{pow_pos, shr_split, shr_below}
 use Rattle.std.proofs.Math.Nat.{mod-lt}
 use Rattle.std.proofs.Math.Pow.{pow_mono}
-use Rattle.std.proofs.lemmas.List.Elements.{All-weaker}
-use Rattle.weight_sums.proofs.SetLists.{all-most}
 use Rattle.weight_sums.specs.declared.sets.Set.{Set}
 use Rattle.weight_sums.specs.declared.fitting.Fitting.{Fitting}
 use Rattle.weight_sums.specs.declared.groups.Groups.{Groups}
-use Rattle.weight_sums.specs.Inner.Sets.{nobody, fits, met, has, AreSets, IsHalf}
+use Rattle.weight_sums.specs.Inner.Sets.{nobody, fits, met, has, IsHalf, IsHalfOf}
 use Rattle.weight_sums.specs.Inner.Fitting.{AreEntered, AreOfNeed, Meet}
-use Rattle.weight_sums.specs.Inner.Tables.{AreOfKeys}
+use Rattle.weight_sums.specs.Inner.Tables.{AreOfKeys, HasRows}
 use Rattle.weight_sums.specs.Inner.Groups.{low_of, high_of, AreGroups}
 use Rattle.weight_sums.proofs.SetLaws.{sum-same}
-use Rattle.weight_sums.proofs.FittingSets.{added, fits-few, sum-alike, cond-most}
-use Rattle.weight_sums.proofs.TableSums.{of-more, of-few, of-same}
+use Rattle.weight_sums.proofs.FittingSets.{added, fits-few, sum-alike}
+use Rattle.weight_sums.proofs.TableSums.{of-more, of-few}
 
 -- ---- the sets of a list, one after another
 -- of the first n sets: the others that meet the quota with them, and that what meets their needs will meet those of the next
@@ -32,51 +31,35 @@ pub record Paired (q digits : ℕ) (xs ys : List Set) (n : ℕ) (lows highs : Li
   pub meet : (k m : ℕ) (d : Set) → t.outside ≤ k → k < length ys → n ≤ m → m < length xs
       → q ≤ (get_or ys k d).weight + (get_or xs m d).weight
 
-pub paired-none : (q digits : ℕ) (xs ys : List Set) (lows highs : List (List ℕ)) (t : Fitting) → length lows ≡ 2 ^ digits
-    → length highs ≡ 2 ^ digits → AreOfKeys (low_of digits) (met q ys) [] lows → AreOfKeys (high_of digits) (met q ys) [] highs
-    → AreEntered ys t → t.outside ≡ length ys → Paired q digits xs ys 0 lows highs t
-paired-none q digits xs ys lows highs t long also low_is high_is entered out = record {
-  low_long = long;
-  high_long = also;
-  low_is = low_is;
-  high_is = high_is;
-  entered = entered;
-  meet = λ k m d from lt later below. absurd (omega (arith, from, lt, out));
-}
+module _ {q digits : ℕ} {xs ys : List Set} {n : ℕ} {lows highs : List (List ℕ)} {t : Fitting} (h : Paired q digits xs ys n lows highs t)
+    (first : IsHalf xs) where
+  -- what the rows have is far from too much
+  pub paired-rows : digits ≤ 10 → IsHalf ys → HasRows lows × HasRows highs
+  paired-rows few second = (rows lows (low_of digits) h.low_long h.low_is, rows highs (high_of digits) h.high_long h.high_is)
+    where
+      rows : (l : List (List ℕ)) (key : Set → ℕ) → length l ≡ 2 ^ digits → AreOfKeys key (met q ys) (take n xs) l → HasRows l
+      rows l key long are = record {
+        long = (let up : 2 ^ digits ≤ 2 ^ 10 = pow_mono few in omega (arith, long, up));
+        few = λ k s small. (
+            let most = of-few key (met q ys) (take n xs) l are (λ i x. fits-few (q - x.weight) x.size i ys second) k s small in
+            omega (arith, most, length-take n xs, first.long));
+      }
 
--- what the rows have is far from too much
-pub paired-room : (q : ℕ) (xs ys : List Set) (n : ℕ) (key : Set → ℕ) (rows : List (List ℕ)) → AreOfKeys key (met q ys) (take n xs) rows
-    → IsHalf xs → IsHalf ys → (k s : ℕ) → s ≤ 40 → get_or (get_or rows k []) s 0 ≤ 2 ^ 40
-paired-room q xs ys n key rows are first second k s small =
-    let few = of-few key (met q ys) (take n xs) rows are (λ i x. fits-few (q - x.weight) x.size i ys second) k s small in
-    let l = length-take n xs in
-    let long = first.long in
-    omega (arith, few, l, long)
+  pub next-meets : n < length xs → (need : ℕ) (d : Set) → need ≡ q - (get_or xs n d).weight → Meet need t.outside ys
+  next-meets lt need d is k e from within =
+      omega (arith, h.meet k n e from within (omega arith) lt, ap (λ (y : Set). y.weight) (get_or_default xs n d e lt), is)
 
-module _ (q digits : ℕ) (xs ys : List Set) (n : ℕ) (lows highs : List (List ℕ)) (t : Fitting) (h : Paired q digits xs ys n lows highs t) (first : IsHalf xs)
-    (lt : n < length xs) where
-  pub next-meets : (need : ℕ) (d : Set) → need ≡ q - (get_or xs n d).weight → Meet need t.outside ys
-  next-meets need d is k e from within =
-      let m = h.meet k n e from within (omega arith) lt in
-      let b = ap (λ (y : Set). y.weight) (get_or_default xs n d e lt) in
-      omega (arith, m, b, is)
-
-  later : (k m : ℕ) (e : Set) → n ≤ m → m < length xs → q ≤ (get_or ys k e).weight + (get_or xs n e).weight
-      → q ≤ (get_or ys k e).weight + (get_or xs m e).weight
-  later k m e from below enough = elim (cases_lt n m) [
-    | inl more ↦ (let up = first.ascend n m e more below in omega (arith, up, enough))
-    | inr same ↦ (let f = ap (λ (i : ℕ). (get_or xs i e).weight) (let g : n ≡ m = omega (arith, from, same) in g) in omega (arith, f, enough))
-  ]
-
-  pub paired-more : (need low high : ℕ) (d : Set) (u : Fitting) (more_lows more_highs : List (List ℕ)) → need ≡ q - (get_or xs n d).weight
-      → low ≡ low_of digits (get_or xs n d) → high ≡ high_of digits (get_or xs n d)
+  -- one set more
+  pub paired-more : n < length xs → {need low high : ℕ} (d : Set) {u : Fitting} {more_lows more_highs : List (List ℕ)}
+      → need ≡ q - (get_or xs n d).weight → low ≡ low_of digits (get_or xs n d) → high ≡ high_of digits (get_or xs n d)
       → AreOfNeed need ys u → AreEntered ys u → Meet need u.outside ys → length more_lows ≡ length lows → length more_highs ≡ length highs
       → ((k s : ℕ) → s ≤ 40 → get_or (get_or more_lows k []) s 0 ≡ get_or (get_or lows k []) s 0
       + cond (eqb k low) (cond (leb (get_or xs n d).size s) (get_or u.here (s - (get_or xs n d).size) 0) 0) 0)
       → ((k s : ℕ) → s ≤ 40 → get_or (get_or more_highs k []) s 0 ≡ get_or (get_or highs k []) s 0
       + cond (eqb k high) (cond (leb (get_or xs n d).size s) (get_or u.here (s - (get_or xs n d).size) 0) 0) 0)
       → Paired q digits xs ys (n + 1) more_lows more_highs u
-  paired-more need low high d u more_lows more_highs is low_key high_key are entered meet low_long high_long low_row high_row =
+  paired-more lt {need = need} {low = low} {high = high} d {u = u} {more_lows = more_lows} {more_highs = more_highs} is low_key high_key are
+      entered meet low_long high_long low_row high_row =
       let x : Set = get_or xs n d in
       let row : ℕ → ℕ = λ s. cond (leb x.size s) (get_or u.here (s - x.size) 0) 0 in
       let gives : (s : ℕ) → s ≤ 40 → row s ≡ met q ys s x = λ s small. added need ys u x.size s are
@@ -87,62 +70,29 @@ module _ (q digits : ℕ) (xs ys : List Set) (n : ℕ) (lows highs : List (List 
         low_is = of-more (low_of digits) (met q ys) xs n low d lows more_lows row lt h.low_is low_key low_row gives;
         high_is = of-more (high_of digits) (met q ys) xs n high d highs more_highs row lt h.high_is high_key high_row gives;
         entered = entered;
-        meet = λ k m e from within next below. later k m e (omega (arith, next)) below
-            (let c = meet k e from within in
+        meet = λ k m e from within next below. (
+            let up = first.ascend n m e (omega (arith, next)) below in
             let b = ap (λ (y : Set). y.weight) (get_or_default xs n d e lt) in
-            omega (arith, c, b, is));
+            omega (arith, meet k e from within, b, is, up));
       }
 
   -- a set with which none of the others meets the quota
-  pub paired-further : (need : ℕ) (d : Set) (u : Fitting) → need ≡ q - (get_or xs n d).weight → AreOfNeed need ys u → AreEntered ys u
+  pub paired-further : n < length xs → {need : ℕ} (d : Set) {u : Fitting} → need ≡ q - (get_or xs n d).weight → AreOfNeed need ys u
+      → AreEntered ys u
       → Meet need u.outside ys → ((s : ℕ) → get_or u.here s 0 ≡ 0) → Paired q digits xs ys (n + 1) lows highs u
-  paired-further need d u is are entered meet none =
-      paired-more need (low_of digits (get_or xs n d)) (high_of digits (get_or xs n d)) d u lows highs is refl refl are entered meet refl refl
+  paired-further lt d {u = u} is are entered meet none =
+      paired-more lt d is refl refl are entered meet refl refl
       (λ k s small. same (eqb k (low_of digits (get_or xs n d))) s (get_or (get_or lows k []) s 0))
       (λ k s small. same (eqb k (high_of digits (get_or xs n d))) s (get_or (get_or highs k []) s 0))
     where
       same : (b : Bool) (s m : ℕ) → m ≡ m + cond b (cond (leb (get_or xs n d).size s) (get_or u.here (s - (get_or xs n d).size) 0) 0) 0
-      same b s m =
-          let z = cond-most b _ 0 (cond-most (leb (get_or xs n d).size s) (get_or u.here (s - (get_or xs n d).size) 0) 0
-          (let e = none (s - (get_or xs n d).size) in omega (arith, e))) in
-          omega (arith, z)
+      same b s m = grind (arith, nat_tests, none (s - (get_or xs n d).size))
 
-pub paired-all : (q : ℕ) (xs ys all others : List Set) (n : ℕ) (t : Fitting) (g : Groups)
-    → Paired q g.digits xs ys n g.low.rows.items g.high.rows.items t → length xs ≤ n → g.digits ≤ 10
-    → All (λ x. x.members < 2 ^ (g.digits + g.digits)) xs → IsHalf xs → IsHalf ys → AreSets all xs → AreSets others ys
-    → AreGroups q all others g
-paired-all q xs ys all others n t g h end few within first second are also = record {
-  rows = record {
-    digits = few;
-    low_long = h.low_long;
-    high_long = h.high_long;
-    low_rows = record { long = short g.low.rows.items h.low_long; few = paired-room q xs ys n (low_of g.digits) g.low.rows.items h.low_is first second };
-    high_rows = record {
-      long = short g.high.rows.items h.high_long;
-      few = paired-room q xs ys n (high_of g.digits) g.high.rows.items h.high_is first second;
-    };
-  };
-  within = All-weaker (λ x. x.members ≤ m - 1) (λ x. x.members < m) (λ x le. (let pos = pow_pos (g.digits + g.digits) in omega (arith, le, pos))) all
-      (all-most (λ x. x.members) (m - 1) all xs (λ f. sym (are.same f))
-      (All-weaker (λ x. x.members < m) (λ x. x.members ≤ m - 1) (λ x lt. omega (arith, lt)) xs within));
-  low_is = of-same (low_of g.digits) (met q ys) (met q others) all xs g.low.rows.items are same (whole (low_of g.digits) g.low.rows.items h.low_is);
-  high_is =
-      of-same (high_of g.digits) (met q ys) (met q others) all xs g.high.rows.items are same (whole (high_of g.digits) g.high.rows.items h.high_is);
-}
-  where
-    m : ℕ
-    m = 2 ^ (g.digits + g.digits)
-
-    short : (rows : List (List ℕ)) → length rows ≡ 2 ^ g.digits → length rows ≤ 2 ^ 10
-    short rows is = let up : 2 ^ g.digits ≤ 2 ^ 10 = pow_mono few in omega (arith, is, up)
-
-    same : (s : ℕ) (x : Set) → met q ys s x ≡ met q others s x
-    same s x = also.same (fits (q - x.weight) x.size s)
-
-    whole : (key : Set → ℕ) (rows : List (List ℕ)) → AreOfKeys key (met q ys) (take n xs) rows → AreOfKeys key (met q ys) xs rows
-    whole key rows of = record {
-      each = λ k s small. of.each k s small ∙ ap (sum_by (λ x. cond (eqb (key x) k) (met q ys s x) 0)) (take_all n xs end);
-    }
+pub paired-all : {q : ℕ} {xs ys : List Set} {n : ℕ} {t : Fitting} (g : Groups)
+    → Paired q g.digits xs ys n g.low.rows.items g.high.rows.items t → length xs ≤ n → g.digits ≤ 10 → IsHalfOf g.digits xs → IsHalf ys
+    → AreGroups q xs ys g
+paired-all {xs = xs} {n = n} g h end few first second =
+    let rows = paired-rows h first.half few second in grind (arith, take_all)
 
 -- ---- the members of a set, the first and the others
 has-low : (d p m : ℕ) → p < d → has p (m % 2 ^ d) ≡ has p m
@@ -156,30 +106,24 @@ has-high d p m le = ap (λ (n : ℕ). n == 1)
 -- behind the last digit stands no member
 has-last : (n p r m : ℕ) → m < 2 ^ n → (r ≡ p) ⊎ (r ≡ n) × (n ≤ p) → has r m ≡ has p m
 has-last n p r m small (inl same) = ap (λ (i : ℕ). has i m) same
-has-last n p r m small (inr past) =
-    ap (λ (k : ℕ). k == 1) (bit_at_above m n r small (let e = past.0 in omega (arith, e)) ∙ sym (bit_at_above m n p small past.1))
+has-last n p r m small (inr past) = grind (arith, bit_at_above)
 
 pub without-low : (q s p n : ℕ) (all others : List Set) (g : Groups) → AreGroups q all others g → p < g.digits → s ≤ 40
     → (AreOfKeys (low_of g.digits) (met q others) all g.low.rows.items → All (λ x. low_of g.digits x < length g.low.rows.items) all
     → n ≡ sum_by (λ x. cond (has p (low_of g.digits x)) 0 (met q others s x)) all)
     → n ≡ sum_by (λ x. cond (has p x.members) 0 (met q others s x)) all
-without-low q s p n all others g are lt small gives =
-    gives are.low_is (λ k e below. (
-    let l = are.rows.low_long in
-    let f = mod-lt (get_or all k e).members (pow_pos g.digits) in
-    omega (arith, l, f)))
-    ∙ sum-same (λ x. cond (has p (low_of g.digits x)) 0 (met q others s x)) (λ x. cond (has p x.members) 0 (met q others s x)) all
-    (λ x. ap {B = ℕ} (λ b. cond b 0 (met q others s x)) (has-low g.digits p x.members lt))
+without-low q s p n all others g are lt small gives = grind (arith, mod-lt, pow_pos, sum-same, has-low)
 
-pub without-high : (q s p r n : ℕ) (all others : List Set) (g : Groups) → AreGroups q all others g → g.digits ≤ p → r ≡ min (p - g.digits) g.digits
-    → s ≤ 40 → (AreOfKeys (high_of g.digits) (met q others) all g.high.rows.items → All (λ x. high_of g.digits x < length g.high.rows.items) all
+pub without-high : (q s p r n : ℕ) (all others : List Set) (g : Groups) → AreGroups q all others g → g.digits ≤ p
+    → r ≡ min (p - g.digits) g.digits
+    → s ≤ 40 → (AreOfKeys (high_of g.digits) (met q others) all g.high.rows.items
+    → All (λ x. high_of g.digits x < length g.high.rows.items) all
     → n ≡ sum_by (λ x. cond (has r (high_of g.digits x)) 0 (met q others s x)) all)
     → n ≡ sum_by (λ x. cond (has p x.members) 0 (met q others s x)) all
 without-high q s p r n all others g are le is small gives =
     gives are.high_is (λ k e below. (
-    let l = are.rows.high_long in
     let f = shr_below (get_or all k e).members g.digits g.digits (are.within k e below) in
-    omega (arith, l, f)))
+    omega (arith, are.rows.high_long, f)))
     ∙ sum-alike (λ x. cond (has r (high_of g.digits x)) 0 (met q others s x)) (λ x. cond (has p x.members) 0 (met q others s x)) all nobody
     (λ k below. (let x : Set = get_or all k nobody in ap {B = ℕ} (λ b. cond b 0 (met q others s x)) (one x (are.within k nobody below))))
   where

@@ -21,6 +21,20 @@ fn total_of(weights: &[u64]) -> u64
     total
 }
 
+/// The tallies of these coalitions, by sums or by halves.
+fn tallies_of(alloc: Global, weights: &[u64], quota: u64, asked: &Heads) -> Result<Tallies, Memory>
+    requires few { length weights.now ≤ MEMBERS }
+    requires light { sum weights.now ≤ TOTAL }
+    requires some { 0 < quota }
+    ensures { IfOk result (AreAllEndings weights.now asked.now.asked quota) }
+{
+    let total = total_of(weights);
+    if let Some(tallies) = by_sums(alloc, weights, quota, total, asked)? {
+        return Ok(tallies);
+    }
+    by_halves(alloc, weights, quota, asked.asked)
+}
+
 /// How many coalitions members with these weights lead to from a quota, by size: of all, and by place of those that contain
 /// it; on the heap. Each meets the quota and loses it without its last member, and has more members than the heads
 /// that are asked for, or just so many and meets the quota. By sums where their rows have room, and else by halves, in 64 MB.
@@ -45,11 +59,7 @@ pub fn count_endings(
     requires heads { heads ≤ MEMBERS }
     ensures { IfOk result (λ t. AreAllEndings weights.now heads quota t.value) }
 {
-    let total = total_of(weights);
     let asked = Heads::new(alloc, heads)?;
-    if let Some(tallies) = by_sums(alloc, weights, quota, total, &asked)? {
-        return Ok(Box::new(alloc, tallies)?);
-    }
-    let tallies = by_halves(alloc, weights, quota, heads)?;
+    let tallies = tallies_of(alloc, weights, quota, &asked)?;
     Ok(Box::new(alloc, tallies)?)
 }

@@ -1,9 +1,8 @@
 //! How many pairs of sets of two lists meet a quota, by size and by the members of the one.
 ghost use Rattle.std.specs.Prelude.{◌≡◌, ℕ, ◌+◌, ◌/◌, ◌%◌, ◌<◌, ◌≤◌, ◌^◌, if◌then◌else◌, IfOk, List, slice_index, sum_by};
-ghost use Rattle.std.specs.List.{All};
 ghost use Rattle.coalitions.specs.declared.limits.TheConstants.{MEMBERS};
 ghost use Rattle.weight_sums.specs.declared.sets.Set.{Set};
-ghost use Rattle.weight_sums.specs.Inner.Sets.{AreSets, IsHalf, has, met};
+ghost use Rattle.weight_sums.specs.Inner.Sets.{IsHalf, IsHalfOf, has, met};
 ghost use Rattle.weight_sums.specs.Inner.Groups.{AreGroups, HaveRows};
 
 use crate::fitting::Fitting;
@@ -47,12 +46,10 @@ impl Groups {
         quota: u64,
         digits: u32,
     ) -> Result<Groups, Memory>
-        requires list { IsHalf list.now }
+        requires list { IsHalfOf digits list.now }
         requires others { IsHalf others.now }
         requires digits { digits ≤ 10 }
-        requires within { All (λ x. x.members < 2 ^ (digits + digits)) list.now }
-        ensures { IfOk result (λ groups. (all all_others : List Set) → AreSets all list.now
-            → AreSets all_others others.now → AreGroups quota all all_others groups) }
+        ensures { IfOk result (AreGroups quota list.now others.now) }
     {
         let mut lows = Table::new(alloc, 1 << digits)?;
         let mut highs = Table::new(alloc, 1 << digits)?;
@@ -74,8 +71,8 @@ impl Groups {
     /// How many there are without the member of a place, which may be behind the last.
     pub(crate) fn without(&self, place: usize) -> [u64; limits::SIZES]
         requires { HaveRows self.now }
-        ensures { (quota : ℕ) (all others : List Set) (s : ℕ) → AreGroups quota all others self.now
-            → s ≤ MEMBERS → slice_index result s ≡ sum_by (λ x. if has place x.members then 0 else met quota others s x) all }
+        ensures { (quota : ℕ) (xs others : List Set) (s : ℕ) → AreGroups quota xs others self.now
+            → s ≤ MEMBERS → slice_index result s ≡ sum_by (λ x. if has place x.members then 0 else met quota others s x) xs }
     {
         let digits = self.digits as usize;
         if place < digits {

@@ -3,9 +3,8 @@ ghost use Rattle.coalitions.specs.declared.limits.TheConstants.{MEMBERS, SIZES, 
 ghost use Rattle.weight_sums.specs.declared.sets.Set.{Set};
 ghost use Rattle.weight_sums.specs.Endings.{AreAllEndings, endings, left_out};
 ghost use Rattle.weight_sums.specs.Inner.Halves.{AreHalves, AreLeft, ArePairs};
-ghost use Rattle.weight_sums.specs.Inner.Sets.{AreSets, IsHalf, has, met};
+ghost use Rattle.weight_sums.specs.Inner.Sets.{IsHalfOf, has, met};
 ghost use Rattle.weight_sums.specs.Inner.Groups.{HaveRows};
-ghost use Rattle.std.specs.List.{All};
 ghost use Rattle.std.specs.Prelude.{◌≡◌, ℕ, ◌+◌, ◌-◌, ◌<◌, ◌≤◌, ◌^◌, if◌then◌else◌, IfOk, List, length, slice_index, sum, sum_by};
 
 use crate::by_size::BySize;
@@ -30,13 +29,10 @@ impl Pairs {
         quota: u64,
         digits: u32,
     ) -> Result<Pairs, Memory>
-        requires first { IsHalf first.now }
-        requires second { IsHalf second.now }
+        requires first { IsHalfOf digits first.now }
+        requires second { IsHalfOf digits second.now }
         requires digits { digits ≤ 10 }
-        requires first_within { All (λ x. x.members < 2 ^ (digits + digits)) first.now }
-        requires second_within { All (λ x. x.members < 2 ^ (digits + digits)) second.now }
-        ensures { IfOk result (λ pairs. (xs ys : List Set) → AreSets xs first.now → AreSets ys second.now
-            → ArePairs quota xs ys pairs) }
+        ensures { IfOk result (ArePairs quota first.now second.now) }
     {
         Ok(Pairs {
             first: Groups::new(alloc, first, second, quota, digits)?,
@@ -96,7 +92,14 @@ struct Halves {
 
 impl Halves {
     /// The sets of the second half are in one list after another, and so are those of the first.
-    fn new(alloc: Global, weights: &[u64], quota: u64) -> Result<Halves, Memory>
+    fn of_lists(
+        alloc: Global,
+        weights: &[u64],
+        quota: u64,
+        first: &mut Vec<Set>,
+        second: &mut Vec<Set>,
+        spare: &mut Vec<Set>,
+    ) -> Result<Halves, Memory>
         requires few { length weights.now ≤ MEMBERS }
         requires light { sum weights.now ≤ TOTAL }
         ensures quota { IfOk result (λ halves. halves.quota ≡ quota) }
@@ -104,24 +107,33 @@ impl Halves {
     {
         let (front, back) = weights.split_at(weights.len() / 2);
         let digits = ((back.len() + 1) / 2) as u32;
-        let (mut first, mut second, mut spare) = (
-            Vec::new(alloc),
-            Vec::new(alloc),
-            Vec::new(alloc),
-        );
-        fill_sets(front, &mut first, &mut spare)?;
-        fill_sets(back, &mut second, &mut spare)?;
-        let won = Pairs::new(alloc, &first, &second, quota, digits)?;
-        fill_shortened(back, &mut second, &mut spare)?;
-        let shortened = Pairs::new(alloc, &first, &second, quota, digits)?;
-        fill_shortened(front, &mut first, &mut spare)?;
-        let own = Groups::new(alloc, &first, &[NOBODY], quota, digits)?;
+        fill_sets(front, first, spare)?;
+        fill_sets(back, second, spare)?;
+        let won = Pairs::new(alloc, first, second, quota, digits)?;
+        fill_shortened(back, second, spare)?;
+        let shortened = Pairs::new(alloc, first, second, quota, digits)?;
+        fill_shortened(front, first, spare)?;
+        let own = Groups::new(alloc, first, &[NOBODY], quota, digits)?;
         Ok(Halves {
             quota,
             won,
             shortened,
             own,
         })
+    }
+
+    fn new(alloc: Global, weights: &[u64], quota: u64) -> Result<Halves, Memory>
+        requires few { length weights.now ≤ MEMBERS }
+        requires light { sum weights.now ≤ TOTAL }
+        ensures quota { IfOk result (λ halves. halves.quota ≡ quota) }
+        ensures are { IfOk result (AreHalves weights.now) }
+    {
+        let (mut first, mut second, mut spare) = (
+            Vec::new(alloc),
+            Vec::new(alloc),
+            Vec::new(alloc),
+        );
+        Halves::of_lists(alloc, weights, quota, &mut first, &mut second, &mut spare)
     }
 
     /// How many coalitions of each size the members lead to without that of a place, which is that of none behind the last.

@@ -2,8 +2,7 @@
 ghost use Rattle.std.specs.Prelude.{◌≡◌, ℕ, ◌+◌, ◌*◌, ◌<◌, ◌≤◌, ◌^◌, IfOk, length, slice_index, take, drop};
 ghost use Rattle.std.specs.List.{All};
 ghost use Rattle.coalitions.specs.declared.limits.TheConstants.{MEMBERS};
-ghost use Rattle.weight_sums.specs.Endings.{fill, taken};
-ghost use Rattle.weight_sums.specs.Inner.Rows.{prefixes, weigh};
+ghost use Rattle.weight_sums.specs.Inner.Rows.{AreMerged, AreTaken, prefixes, weigh};
 
 use crate::choices::Heads;
 use coalitions::{Memory, limits};
@@ -44,11 +43,7 @@ pub(crate) fn with_member(
     requires left { left ≤ MEMBERS }
     requires sizes { All (λ o. o.size < MEMBERS) row.now }
     requires room { (s : ℕ) → s ≤ MEMBERS → slice_index done.old s + prefixes row.now * 2 ^ left < 2 ^ 64 }
-    ensures counted { IfOk result (λ _. (g : ℕ → ℕ → ℕ) (s : ℕ) → s ≤ MEMBERS
-        → slice_index done.new s + weigh g others.new.items
-        ≡ slice_index done.old s + weigh (taken weight (fill heads.now.asked s left) g) row.now) }
-    ensures sizes { IfOk result (λ _. (p : ℕ) → All (λ o. o.size ≤ p) row.now
-        → All (λ o. o.size ≤ p + 1) others.new.items) }
+    ensures { IfOk result (λ _. AreTaken weight heads.now.asked left done.old done.new row.now others.new.items) }
 {
     others.clear();
     others.reserve(row.len())?;
@@ -109,10 +104,7 @@ fn next_open(a: &[Open], b: &[Open], i: &mut usize, j: &mut usize) -> Open
 /// Merges two ascending rows into one: prefixes with the same need and size go together.
 pub(crate) fn merge(a: &[Open], b: &[Open], row: &mut Vec<Open>) -> Result<(), Memory>
     requires { prefixes a.now + prefixes b.now < 2 ^ 64 }
-    ensures all { IfOk result (λ _. (g : ℕ → ℕ → ℕ) →
-        weigh g row.new.items ≡ weigh g a.now + weigh g b.now) }
-    ensures sizes { IfOk result (λ _. (p : ℕ) → All (λ o. o.size ≤ p) a.now
-        → All (λ o. o.size ≤ p) b.now → All (λ o. o.size ≤ p) row.new.items) }
+    ensures { IfOk result (λ _. AreMerged a.now b.now row.new.items) }
 {
     row.clear();
     row.reserve(a.len())?;

@@ -2,7 +2,7 @@
 ghost use Rattle.std.specs.Prelude.{◌≡◌, ℕ, ◌+◌, ◌-◌, ◌<◌, ◌≤◌, ◌^◌, IfOk, List, [], ◌∷◌, true, length, slice_index, sum, drop};
 ghost use Rattle.std.specs.List.{All};
 ghost use Rattle.coalitions.specs.declared.limits.TheConstants.{MEMBERS};
-ghost use Rattle.weight_sums.specs.Inner.Rows.{AreOfPrefixes, at_most, come_to};
+ghost use Rattle.weight_sums.specs.Inner.Rows.{AreOfPrefixes, GoesOn, at_most, come_to};
 
 use crate::choices::Heads;
 use crate::row::{Open, merge, still_open, with_member};
@@ -31,22 +31,27 @@ pub(crate) struct Rows {
 }
 
 impl Rows {
-    /// The empty prefix, which misses the quota.
-    pub(crate) fn new(alloc: Global, quota: u64) -> Result<Rows, Memory>
-        ensures { IfOk result (λ rows. rows.row.items ≡
+    /// No prefix.
+    pub(crate) fn new(alloc: Global) -> Rows {
+        Rows {
+            row: Vec::new(alloc),
+            taken: Vec::new(alloc),
+            next: Vec::new(alloc),
+        }
+    }
+
+    /// Begins with the empty prefix, which misses the quota.
+    pub(crate) fn begin(&mut self, quota: u64) -> Result<(), Memory>
+        ensures { IfOk result (λ _. self.new.row.items ≡
             record { need = quota; size = 0; ways = 1 } ∷ []) }
     {
-        let mut row = Vec::new(alloc);
-        row.push(Open {
+        self.row.clear();
+        self.row.push(Open {
             need: quota,
             size: 0,
             ways: 1,
         })?;
-        Ok(Rows {
-            row,
-            taken: Vec::new(alloc),
-            next: Vec::new(alloc),
-        })
+        Ok(())
     }
 
     /// Takes over the prefixes of another row.
@@ -71,13 +76,8 @@ impl Rows {
         requires left { left < MEMBERS }
         requires sizes { All (λ o. o.size < MEMBERS) self.old.row.items }
         requires room { (s : ℕ) → s ≤ MEMBERS → at_most s (left + 1) done.old self.old.row.items < 2 ^ 64 }
-        ensures counted { IfOk result (λ _. (ws : List ℕ) (s : ℕ) → sum ws ≤ rest
-            → length ws ≡ left → s ≤ MEMBERS → come_to heads.now.asked s ws done.new self.new.row.items
-            ≡ come_to heads.now.asked s (weight ∷ ws) done.old self.old.row.items) }
-        ensures few { IfOk result (λ _. (s : ℕ) → s ≤ MEMBERS
-            → at_most s left done.new self.new.row.items ≤ at_most s (left + 1) done.old self.old.row.items) }
-        ensures sizes { IfOk result (λ _. (p : ℕ) → All (λ o. o.size ≤ p) self.old.row.items
-            → All (λ o. o.size ≤ p + 1) self.new.row.items) }
+        ensures { IfOk result (λ _. GoesOn weight rest left heads.now.asked done.old done.new
+            self.old.row.items self.new.row.items) }
     {
         with_member(&self.row, weight, left, heads, done, &mut self.taken)?;
         let end = still_open(&self.row, rest);

@@ -1,8 +1,8 @@
 //! Lists of sets of some members, by weight.
-ghost use Rattle.std.specs.Prelude.{◌≡◌, ℕ, ◌+◌, ◌*◌, ◌-◌, ◌<◌, ◌≤◌, ◌^◌, IfOk, length, sum, sum_by};
+ghost use Rattle.std.specs.Prelude.{◌≡◌, ℕ, ◌+◌, ◌*◌, ◌-◌, ◌==◌, ◌<◌, ◌≤◌, ◌^◌, true, false, IfOk, length, sum, sum_by};
 ghost use Rattle.std.specs.List.{All};
 ghost use Rattle.coalitions.specs.declared.limits.TheConstants.{TOTAL};
-ghost use Rattle.weight_sums.specs.Inner.Sets.{AreSets, Ascend, alone, chosen, joined, left, shortened_of, nobody, sets_of};
+ghost use Rattle.weight_sums.specs.Inner.Sets.{AreFirst, AreSets, Ascend, joined, left};
 
 use coalitions::Memory;
 use std::mem;
@@ -102,10 +102,8 @@ fn fill(
 ) -> Result<(), Memory>
     requires few { length weights.now ≤ 20 }
     requires light { sum weights.now ≤ TOTAL }
-    requires none { All (λ x. x ≡ nobody) none.now }
-    requires first { All (λ x. x ≡ alone) first.now }
-    requires one { length none.now + length first.now ≤ 1 }
-    ensures { IfOk result (λ _. AreSets (chosen none.now first.now weights.now) sets.new.items) }
+    requires begins { AreFirst (length none.now == 0) none.now first.now }
+    ensures { IfOk result (λ _. AreSets (length none.now == 0) weights.now sets.new.items) }
 {
     sets.clear();
     sets.extend_from_slice(none)?;
@@ -128,7 +126,7 @@ pub(crate) fn fill_sets(
 ) -> Result<(), Memory>
     requires few { length weights.now ≤ 20 }
     requires light { sum weights.now ≤ TOTAL }
-    ensures { IfOk result (λ _. AreSets (sets_of weights.now) sets.new.items) }
+    ensures { IfOk result (λ _. AreSets false weights.now sets.new.items) }
 {
     fill(weights, &[NOBODY], &[], sets, spare)
 }
@@ -141,7 +139,7 @@ pub(crate) fn fill_shortened(
 ) -> Result<(), Memory>
     requires few { length weights.now ≤ 20 }
     requires light { sum weights.now ≤ TOTAL }
-    ensures { IfOk result (λ _. AreSets (shortened_of weights.now) sets.new.items) }
+    ensures { IfOk result (λ _. AreSets true weights.now sets.new.items) }
 {
     fill(weights, &[], &[ALONE], sets, spare)
 }

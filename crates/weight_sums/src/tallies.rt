@@ -19,7 +19,7 @@ pub struct Tallies {
 
 /// The tally of all coalitions that complete a quota; none where there is no room.
 fn tally_all(
-    alloc: Global,
+    rows: &mut Rows,
     weights: &[u64],
     quota: u64,
     total: u64,
@@ -30,7 +30,7 @@ fn tally_all(
     ensures { IfOk result (λ tally. IfSome tally (AreEndings weights.now heads.now.asked quota)) }
 {
     let mut sizes = [0; limits::SIZES];
-    let mut rows = Rows::new(alloc, quota)?;
+    rows.begin(quota)?;
     if !rows.finish(weights, 0, total, heads, &mut sizes)? {
         return Ok(None);
     }
@@ -55,7 +55,8 @@ pub(crate) fn difference(all: &BySize, part: &[u64; limits::SIZES]) -> BySize
 /// lead to without its member. The rows up to a place are those of one member less, so that one less is left
 /// to fill a coalition up. None where there is no room.
 fn tally_each(
-    alloc: Global,
+    rows: &mut Rows,
+    others: &mut Rows,
     weights: &[u64],
     quota: u64,
     total: u64,
@@ -71,8 +72,7 @@ fn tally_each(
         AreEndingsWith weights.now heads.now.asked quota p (slice_index_or each p no_sizes))) }
 {
     let mut each = [*all; limits::MEMBERS];
-    let mut rows = Rows::new(alloc, quota)?;
-    let mut others = Rows::new(alloc, quota)?;
+    rows.begin(quota)?;
     let mut done = [0; limits::SIZES];
     let mut rest = total;
     for place in 0..weights.len() {
@@ -89,6 +89,30 @@ fn tally_each(
     Ok(Some(each))
 }
 
+/// The tallies of the coalitions that members lead to, with room for the rows; none where there is too little.
+fn tally(
+    rows: &mut Rows,
+    others: &mut Rows,
+    weights: &[u64],
+    quota: u64,
+    total: u64,
+    heads: &Heads,
+) -> Result<Option<Tallies>, Memory>
+    requires few { length weights.now ≤ MEMBERS }
+    requires total { total ≡ sum weights.now }
+    requires less { (p s : ℕ) → p < length weights.now → s ≤ MEMBERS →
+        endings (left_out p weights.now) heads.now.asked s quota 0 ≤ endings weights.now heads.now.asked s quota 0 }
+    ensures { IfOk result (λ tallies. IfSome tallies (AreAllEndings weights.now heads.now.asked quota)) }
+{
+    let Some(all) = tally_all(rows, weights, quota, total, heads)? else {
+        return Ok(None);
+    };
+    let Some(each) = tally_each(rows, others, weights, quota, total, heads, &all)? else {
+        return Ok(None);
+    };
+    Ok(Some(Tallies { all, each }))
+}
+
 /// The tallies of the coalitions that members lead to; none where there is no room for the rows.
 pub(crate) fn by_sums(
     alloc: Global,
@@ -103,11 +127,6 @@ pub(crate) fn by_sums(
         endings (left_out p weights.now) heads.now.asked s quota 0 ≤ endings weights.now heads.now.asked s quota 0 }
     ensures { IfOk result (λ tallies. IfSome tallies (AreAllEndings weights.now heads.now.asked quota)) }
 {
-    let Some(all) = tally_all(alloc, weights, quota, total, heads)? else {
-        return Ok(None);
-    };
-    let Some(each) = tally_each(alloc, weights, quota, total, heads, &all)? else {
-        return Ok(None);
-    };
-    Ok(Some(Tallies { all, each }))
+    let (mut rows, mut others) = (Rows::new(alloc), Rows::new(alloc));
+    tally(&mut rows, &mut others, weights, quota, total, heads)
 }

@@ -1,10 +1,10 @@
 -- Members in two halves.
-use Rattle.std.specs.Prelude.{ℕ, ◌+◌, ◌/◌, ◌<◌, ◌≤◌, ◌≡◌, List, [], ◌∷◌, length, take, drop, slice_index}
+use Rattle.std.specs.Prelude.{ℕ, ◌+◌, ◌/◌, ◌<◌, ◌≤◌, ◌≡◌, true, false, List, [], ◌∷◌, length, take, drop, slice_index}
 use Rattle.coalitions.specs.declared.limits.TheConstants.{MEMBERS}
 use Rattle.weight_sums.specs.declared.sets.Set.{Set}
 use Rattle.weight_sums.specs.declared.halves.Pairs.{Pairs}
 use Rattle.weight_sums.specs.declared.halves.Halves.{Halves}
-use Rattle.weight_sums.specs.Inner.Sets.{nobody, sets_of, shortened_of}
+use Rattle.weight_sums.specs.Inner.Sets.{nobody, AreSets}
 use Rattle.weight_sums.specs.Inner.Groups.{AreGroups}
 
 -- how many pairs of sets meet a quota, by the members of the one and by those of the other
@@ -14,9 +14,17 @@ pub record ArePairs (quota : ℕ) (xs ys : List Set) (p : Pairs) : Type 0 where
 
 -- which sets of the members meet the quota, and which do so without their last member: one of the second half, or of the first
 pub record AreHalves (ws : List ℕ) (h : Halves) : Type 0 where
-  pub won : ArePairs h.quota (sets_of (take (length ws / 2) ws)) (sets_of (drop (length ws / 2) ws)) h.won
-  pub shortened : ArePairs h.quota (sets_of (take (length ws / 2) ws)) (shortened_of (drop (length ws / 2) ws)) h.shortened
-  pub own : AreGroups h.quota (shortened_of (take (length ws / 2) ws)) (nobody ∷ []) h.own
+  pub first : List Set
+  pub second : List Set
+  pub second_shortened : List Set
+  pub first_shortened : List Set
+  pub first_are : AreSets false (take (length ws / 2) ws) first
+  pub second_are : AreSets false (drop (length ws / 2) ws) second
+  pub second_shortened_are : AreSets true (drop (length ws / 2) ws) second_shortened
+  pub first_shortened_are : AreSets true (take (length ws / 2) ws) first_shortened
+  pub won : ArePairs h.quota first second h.won
+  pub shortened : ArePairs h.quota first second_shortened h.shortened
+  pub own : AreGroups h.quota first_shortened (nobody ∷ []) h.own
 
 -- numbers by size of coalitions that meet a quota, but those that do so without their last member: of just so many heads, or more
 pub record AreLeft (heads : ℕ) (won shortened own sizes : List ℕ) : Type 0 where

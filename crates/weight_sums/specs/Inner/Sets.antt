@@ -1,5 +1,5 @@
 -- Sets of some members, and how many of them meet a need.
-use Rattle.std.specs.Prelude.{ℕ, ◌+◌, ◌-◌, ◌*◌, ◌/◌, ◌%◌, ◌==◌, ◌≤◌, ◌^◌, ◌≡◌, Bool, if◌then◌else◌, nat_le, List, [], ◌∷◌, ◌++◌, length, map, sum_by}
+use Rattle.std.specs.Prelude.{ℕ, ◌+◌, ◌-◌, ◌*◌, ◌/◌, ◌%◌, ◌==◌, ◌<◌, ◌≤◌, ◌^◌, ◌≡◌, Bool, if◌then◌else◌, nat_le, List, [], ◌∷◌, length, sum_by}
 use Rattle.std.specs.List.{All, AllPairs}
 use Rattle.weight_sums.specs.declared.sets.Set.{Set}
 use Rattle.weight_sums.specs.Endings.{one_of_size}
@@ -20,26 +20,24 @@ left x = record { weight = x.weight; members = 2 * x.members; size = x.size }
 abbrev pub joined : ℕ → Set → Set
 joined w x = record { weight = x.weight + w; members = 2 * x.members + 1; size = x.size + 1 }
 
--- sets that begin with some of no member, and have some of the first member alone for each
-unfoldable pub chosen : List Set → List Set → List ℕ → List Set
-chosen none first [] = none
-chosen none first (w ∷ ws) = first ++ (map left (chosen none first ws) ++ map (joined w) (chosen none first ws))
+-- a number of each set of members with these weights, added; where they are shortened, of each but the empty one, by what it weighs without its
+-- last member
+unfoldable pub over : Bool → List ℕ → (Set → ℕ) → ℕ
+over short [] g = if short then 0 else g nobody
+over short (w ∷ ws) g = (if short then g alone else 0) + (over short ws (λ x. g (left x)) + over short ws (λ x. g (joined w x)))
 
--- all sets of members with these weights
-abbrev pub sets_of : List ℕ → List Set
-sets_of = chosen (nobody ∷ []) []
-
--- all of them but the empty one, each by what it weighs without its last member
-abbrev pub shortened_of : List ℕ → List Set
-shortened_of = chosen [] (alone ∷ [])
+-- lists that begin with the sets of no member, and with that of the first alone
+pub record AreFirst (short : Bool) (none first : List Set) : Type 0 where
+  pub none_is : none ≡ (if short then [] else nobody ∷ [])
+  pub first_is : first ≡ (if short then alone ∷ [] else [])
 
 -- sets by weight
 abbrev pub Ascend : List Set → Type 0
 Ascend xs = AllPairs (λ x y. x.weight ≤ y.weight) xs
 
--- these sets, by weight
-pub record AreSets (all xs : List Set) : Type 0 where
-  pub same : (g : Set → ℕ) → sum_by g xs ≡ sum_by g all
+-- all sets of members with these weights, by weight
+pub record AreSets (short : Bool) (ws : List ℕ) (xs : List Set) : Type 0 where
+  pub same : (g : Set → ℕ) → sum_by g xs ≡ over short ws g
   pub ascend : Ascend xs
 
 -- whether the member of place p is in a set with these members
@@ -59,3 +57,8 @@ pub record IsHalf (xs : List Set) : Type 0 where
   pub ascend : Ascend xs
   pub long : length xs ≤ 2 ^ 20
   pub sizes : All (λ x. x.size ≤ 20) xs
+
+-- the same, with places for at most twice as many members as there are digits
+pub record IsHalfOf (digits : ℕ) (xs : List Set) : Type 0 where
+  pub half : IsHalf xs
+  pub within : All (λ x. x.members < 2 ^ (digits + digits)) xs

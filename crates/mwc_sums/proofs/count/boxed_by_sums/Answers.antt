@@ -7,26 +7,21 @@ pub returns-then-rules-gt0-clause-kind : goal.returns-then-rules-gt0-clause-kind
 returns-then-rules-gt0-clause-kind c = (
   λ no. absurd (cc),
   λ none. absurd (
-      let some = c.if-rules-gt0.true in
-      let own = c.rules-2.ensures in
       let left = ap (λ (l : List RuleView). length l) (rw (c.in_ok-statute.ensures.members, c.in_ok-statute.ensures.rules) at c.in_ok-part.ensures.rules) in
-      omega (arith, some, own, left, none)),
+      omega (arith, c.if-rules-gt0.true, c.rules-2.ensures, left, none)),
 )
 
 pub count-requires-clause-chambers : goal.count-requires-clause-chambers
 count-requires-clause-chambers c =
     all-counted c.in_ok-statute.statute.members c.in_ok-statute.statute.rules c.in_ok-statute.ensures.fair
-    (let none = c.if-rules-gt0.false in
-    let own = c.rules-2.ensures in
-    let left = ap (λ (l : List RuleView). length l) c.in_ok-part.ensures.rules in
-    omega (arith, none, own, left))
+    (let left = ap (λ (l : List RuleView). length l) c.in_ok-part.ensures.rules in
+    omega (arith, c.if-rules-gt0.false, c.rules-2.ensures, left))
 
 pub returns-clause-kind : goal.returns-clause-kind
 returns-clause-kind c = (
   λ _.
-      (let none = c.if-rules-gt0.false in
-      let own = c.rules-2.ensures in
+      (let own = c.rules-2.ensures in
       let left = ap (λ (l : List RuleView). length l) (rw (c.in_ok-statute.ensures.members, c.in_ok-statute.ensures.rules) at c.in_ok-part.ensures.rules) in
-      omega (arith, none, own, left)),
+      omega (arith, c.if-rules-gt0.false, own, left)),
   λ _. refl,
 )

@@ -10,9 +10,8 @@ loop-member-preserved c =
     let k : ℕ = c.loop-member.member in
     let before = c.loop-member.invariant in
     let own = c.vote_of-vote.ensures.vote in
-    let one = c.vote_of-vote.ensures.one in
     record {
       weights = c.in_ok-push.ensures.items ∙ (λ i. before.weights i ++ own i ∷ []) ∙ sym (map-range_with_len_more vote 0 k k (omega arith));
       quota = let more = sum_by-range-more vote k in let was = before.quota in omega (arith, more, was, own);
-      few = let was = before.few in omega (arith, was, one);
+      few = let was = before.few in omega (arith, was, c.vote_of-vote.ensures.one);
     }

@@ -1,53 +1,33 @@
-use Rattle.std.proofs.Common.{◌≡◌, ◌∙◌, ◌-◌, ◌≤◌, ℕ, List, get_or, length, ap, refl, arith}
-use Rattle.weight_sums.specs.Endings.{endings, left_out}
+use Rattle.std.proofs.Common.{◌≡◌, ◌≤◌, ℕ, get_or, arith}
+use Rattle.std.proofs.lemmas.Bool.Decides.{nat_tests}
+use Rattle.weight_sums.specs.Endings.{AreEndings, endings, left_out}
 use Rattle.weight_sums.proofs.EndingLaws.{past-end}
-use Rattle.weight_sums.proofs.Members.{member-tallied}
-use Rattle.weight_sums.proofs.HalfSums.{tallied-more}
+use Rattle.weight_sums.proofs.Members.{member-tallied, tallied-more}
 use Rattle.weight_sums.proofs.halves.by_halves.Goals as goal
+use Rattle.weight_sums.proofs.halves.by_halves.Goals.{After-endings_without, After-endings_without-without}
 
 -- without the member of a place behind the last, all are left
-whole : (ws : List ℕ) (heads q quota : ℕ) (sizes : List ℕ) → quota ≡ q
-    → ((s : ℕ) → s ≤ 40 → get_or sizes s 0 ≡ endings (left_out (length ws) ws) heads s quota 0)
-    → (s : ℕ) → s ≤ 40 → get_or sizes s 0 ≡ endings ws heads s q 0
-whole ws heads q quota sizes same are s small =
-    are s small ∙ (λ i. endings (past-end (length ws) ws (omega arith) i) heads s (same i) 0)
+whole : (c : After-endings_without) → AreEndings c.args.weights.now c.args.heads c.args.quota (record { sizes = c.endings_without.result })
+whole c = grind (arith, nat_tests, past-end)
 
-others : (ws : List ℕ) (heads p q quota : ℕ) (sizes : List ℕ) → quota ≡ q
-    → ((s : ℕ) → s ≤ 40 → get_or sizes s 0 ≡ endings (left_out p ws) heads s quota 0)
-    → (s : ℕ) → s ≤ 40 → get_or sizes s 0 ≡ endings (left_out p ws) heads s q 0
-others ws heads p q quota sizes same are s small = are s small ∙ ap (λ (n : ℕ). endings (left_out p ws) heads s n 0) same
+others : (c : After-endings_without-without) (s : ℕ) → s ≤ 40
+    → get_or c.endings_without-without.result s 0 ≡ endings (left_out c.loop-place.place c.args.weights.now) c.args.heads s c.args.quota 0
+others c s small = rw c.in_ok-halves.ensures.quota at c.endings_without-without.ensures.sizes s small
 
 pub difference-requires : goal.difference-requires
 difference-requires c s small =
-    let lt : c.loop-place.place ≤ length c.args.weights.now - 1 = omega arith in
-    let without = others c.args.weights.now c.args.heads _ c.args.quota _ c.endings_without-without.result c.in_ok-halves.ensures.quota
-    c.endings_without-without.ensures.sizes s small in
-    let all = whole c.args.weights.now c.args.heads c.args.quota _ c.endings_without.result c.in_ok-halves.ensures.quota
-    c.endings_without.ensures.sizes s small in
+    let at = goal.at.difference-requires c in
     let less = c.requires.less c.loop-place.place s c.loop-place-test.true small in
-    omega (arith, without, all, less)
+    omega (arith, others at.After-endings_without-without s small, (whole at.After-endings_without).sizes s small, less)
 
 pub loop-place-preserved : goal.loop-place-preserved
 loop-place-preserved c =
-    tallied-more c.args.weights.now c.args.heads c.args.quota c.loop-place.place c.loop-place.each _ _ c.loop-place.invariant refl (omega arith)
-    (member-tallied c.args.weights.now c.endings_without-without.result c.args.heads c.args.quota c.loop-place.place
-    (record { sizes = c.endings_without.result }) c.difference.result
-    (record {
-      long = c.endings_without.ensures.long;
-      sizes = whole c.args.weights.now c.args.heads c.args.quota _ c.endings_without.result c.in_ok-halves.ensures.quota
-          c.endings_without.ensures.sizes;
-    })
-    c.difference.ensures.long
-    (others c.args.weights.now c.args.heads _ c.args.quota _ c.endings_without-without.result c.in_ok-halves.ensures.quota
-    c.endings_without-without.ensures.sizes)
-    c.difference.ensures.sizes)
+    let at = goal.at.loop-place-preserved c in
+    tallied-more c.loop-place.invariant (omega arith) (member-tallied _ c.difference.result (whole at.After-endings_without)
+    c.difference.ensures.long (others at.After-endings_without-without) c.difference.ensures.sizes)
 
 pub returns : goal.returns
 returns c = record {
-  all = record {
-    long = c.endings_without.ensures.long;
-    sizes = whole c.args.weights.now c.args.heads c.args.quota _ c.endings_without.result c.in_ok-halves.ensures.quota
-        c.endings_without.ensures.sizes;
-  };
+  all = whole (goal.at.returns c).After-endings_without;
   each = λ p lt. c.loop-place.invariant.tallies p (omega arith);
 }

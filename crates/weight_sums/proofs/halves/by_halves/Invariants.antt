@@ -1,4 +1,4 @@
-use Rattle.weight_sums.proofs.HalfSums.{Tallied}
+use Rattle.weight_sums.proofs.Members.{Tallied}
 use Rattle.weight_sums.proofs.halves.by_halves.Given as goal
 
 abbrev pub invariant-loop-place : goal.invariant-loop-place

@@ -1,11 +1,11 @@
-use Rattle.std.proofs.Common.{◌≤◌, length, drop}
-use Rattle.weight_sums.specs.Inner.Sets.{AreSets, chosen}
+use Rattle.std.proofs.Common.{◌≤◌, ◌==◌, length, drop}
+use Rattle.weight_sums.specs.Inner.Sets.{AreSets}
 use Rattle.weight_sums.proofs.sets.fill.Given as goal
 
 abbrev pub invariant-loop-place : goal.invariant-loop-place
 invariant-loop-place l = record {
   within : l.place ≤ length l.weights;
-  are : AreSets (chosen l.none l.first (drop l.place l.weights)) l.sets.items;
+  are : AreSets (length l.none == 0) (drop l.place l.weights) l.sets.items;
 }
 
 abbrev pub decreases-loop-place : goal.decreases-loop-place

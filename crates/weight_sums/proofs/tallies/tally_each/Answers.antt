@@ -1,62 +1,36 @@
-use Rattle.std.proofs.Common.{◌≡◌, ◌∙◌, ℕ, ◌+◌, ◌-◌, ◌<◌, length, get_or, replicate, refl, subst, arith}
-use Rattle.weight_sums.proofs.Members.{get_or-zeros}
-use Rattle.weight_sums.specs.Inner.Rows.{AreOfPrefixes}
-use Rattle.weight_sums.proofs.Passing.{prefixes-more, rest-less, rest-fits}
-use Rattle.weight_sums.proofs.Members.{passed-none, passed-more, prefixes-later, prefixes-room-more, without-is, member-tallied}
+use Rattle.std.proofs.Common.{◌≡◌, ◌∙◌, ℕ, ◌≤◌, get_or, replicate, refl, arith}
+use Rattle.weight_sums.specs.Endings.{endings, left_out}
+use Rattle.weight_sums.proofs.Taking.{get_or-zeros}
+use Rattle.weight_sums.proofs.Passing.{prefixes-room}
+use Rattle.weight_sums.proofs.Members.{passed-none, passed-more, prefixes-later, without-is, member-tallied}
 use Rattle.weight_sums.proofs.tallies.tally_each.Goals as goal
+use Rattle.weight_sums.proofs.tallies.tally_each.Goals.{Else-not-branch}
 
 pub loop-place-init : goal.loop-place-init
 loop-place-init c =
-    passed-none c.args.weights.now (replicate 41 0) c.args.heads.now.asked c.args.quota c.args.total c.in_ok-rows.rows.row.items
-    (replicate 40 c.args.all.now) c.requires.few (get_or-zeros 41) c.in_ok-rows.ensures c.requires.total refl
+    passed-none c.args.weights.now (replicate 41 0) c.args.heads.now.asked c.args.quota c.args.total c.begin.new.self.row.items
+    (replicate 40 c.args.all.now) c.requires.few (get_or-zeros 41) c.in_ok-begin.ensures c.requires.total refl
 
 pub finish-requires-clause-row : goal.finish-requires-clause-row
-finish-requires-clause-row c =
-    prefixes-later c.loop-place.place (length c.args.weights.now - (c.loop-place.place + 1)) c.loop-place.done c.loop-place.rows.row.items
-    c.copy.new.self.row.items (c.in_ok-copy.ensures ∙ c.deref.ensures.value) (c.loop-place.invariant.are (omega arith))
+finish-requires-clause-row c = prefixes-later (c.in_ok-copy.ensures ∙ c.deref.ensures.value) (c.loop-place.invariant.are (omega arith))
+
+-- what is counted without the member
+without : (c : Else-not-branch) (s : ℕ) → s ≤ 40
+    → get_or c.finish.new.done s 0 ≡ endings (left_out c.loop-place.place c.args.weights.now) c.args.heads.now.asked s c.args.quota 0
+without c =
+    without-is c.loop-place.invariant (omega arith) _ (c.in_ok-copy.ensures
+    ∙ c.deref.ensures.value) (c.in_ok-finish.ensures c.if-not-branch.false)
 
 pub difference-requires : goal.difference-requires
 difference-requires c s small =
-    let lt : c.loop-place.place < length c.args.weights.now = omega arith in
-    let less = rest-less c.args.weights.now c.loop-place.place c.loop-place.rest lt c.loop-place.invariant.rest_is in
-    let left = without-is c.args.weights.now c.args.heads.now.asked c.args.quota c.loop-place.place c.loop-place.rest
-    (c.loop-place.rest - get_or c.args.weights.now c.loop-place.place 0) c.loop-place.done c.finish.new.done
-    c.loop-place.rows.row.items c.copy.new.self.row.items c.loop-place.each lt c.loop-place.invariant
-    (c.in_ok-copy.ensures ∙ c.deref.ensures.value) less (omega arith)
-    (c.in_ok-finish.ensures c.if-not-branch.false) s small in
-    let most = c.requires.less c.loop-place.place s lt small in
-    let all = c.requires.all.sizes s small in
-    omega (arith, left, most, all)
+    let left = without (goal.at.difference-requires c).Else-not-branch s small in
+    omega (arith, left, c.requires.less c.loop-place.place s (omega arith) small, c.requires.all.sizes s small)
 
 pub go_on-requires-clause-room : goal.go_on-requires-clause-room
-go_on-requires-clause-room c =
-    let left = c.saturating_sub-left.ensures in
-    prefixes-room-more c.loop-place.place (length c.args.weights.now - (c.loop-place.place + 1)) (c.saturating_sub-left.result + 1)
-    c.loop-place.done c.loop-place.rows.row.items (omega (arith, left))
-    (c.loop-place.invariant.are (omega arith))
+go_on-requires-clause-room c = prefixes-room (c.loop-place.invariant.are (omega arith)) (omega (arith, c.saturating_sub-left.ensures))
 
 pub loop-place-preserved : goal.loop-place-preserved
 loop-place-preserved c =
-    let left-is = c.saturating_sub-left.ensures in
-    let lt : c.loop-place.place < length c.args.weights.now = omega arith in
-    let less = rest-less c.args.weights.now c.loop-place.place c.loop-place.rest lt c.loop-place.invariant.rest_is in
-    let fits = rest-fits c.args.weights.now c.loop-place.place c.loop-place.rest lt c.loop-place.invariant.rest_is in
-    let left = without-is c.args.weights.now c.args.heads.now.asked c.args.quota c.loop-place.place c.loop-place.rest
-    (c.loop-place.rest - get_or c.args.weights.now c.loop-place.place 0) c.loop-place.done c.finish.new.done
-    c.loop-place.rows.row.items c.copy.new.self.row.items c.loop-place.each lt c.loop-place.invariant
-    (c.in_ok-copy.ensures ∙ c.deref.ensures.value) less (omega arith)
-    (c.in_ok-finish.ensures c.if-not-branch.false) in
-    passed-more c.args.weights.now c.args.heads.now.asked c.args.quota c.loop-place.place c.loop-place.rest
-    (c.loop-place.rest - get_or c.args.weights.now c.loop-place.place 0) c.saturating_sub-left.result c.loop-place.done c.go_on.new.done
-    c.loop-place.rows.row.items c.go_on.new.self.row.items c.loop-place.each _ c.difference.result lt c.loop-place.invariant less
-    (omega (arith, fits)) refl left-is
-    c.in_ok-go_on.ensures.counted
-    (λ more. prefixes-more c.loop-place.place c.saturating_sub-left.result c.loop-place.done c.go_on.new.done c.loop-place.rows.row.items
-    c.go_on.new.self.row.items
-    (subst (λ (m : ℕ). AreOfPrefixes c.loop-place.place m c.loop-place.done c.loop-place.rows.row.items)
-    (let e : length c.args.weights.now - (c.loop-place.place + 1) ≡ c.saturating_sub-left.result + 1 = omega (arith, more, left-is) in
-    e) (c.loop-place.invariant.are lt))
-    c.in_ok-go_on.ensures.few c.in_ok-go_on.ensures.sizes)
-    (member-tallied c.args.weights.now c.finish.new.done c.args.heads.now.asked c.args.quota c.loop-place.place c.args.all.now
-    c.difference.result c.requires.all c.difference.ensures.long left c.difference.ensures.sizes)
-    (omega arith)
+    passed-more c.loop-place.invariant (omega arith) c.saturating_sub-left.ensures c.in_ok-go_on.ensures
+    (member-tallied _ c.difference.result c.requires.all c.difference.ensures.long
+    (without (goal.at.loop-place-preserved c).Else-not-branch) c.difference.ensures.sizes) (omega arith)

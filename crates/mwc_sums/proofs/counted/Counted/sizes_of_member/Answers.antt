@@ -16,15 +16,13 @@ loop-size-init c = record {
 
 pub returns : goal.returns
 returns c s small =
-    let last = c.loop-size-test.false in
     let own = c.members-size-end.ensures.members in
     let count = c.args.self.now.are.members in
-    let in' = c.requires in
     elim (cases_lt s c.loop-size.size) [
       | inl lt ↦ c.loop-size.invariant.done s lt
-          ∙ c.args.self.now.are.of_member_size c.args.member s (omega (arith, in', count))
+          ∙ c.args.self.now.are.of_member_size c.args.member s (omega (arith, c.requires, count))
           (let e = c.loop-size.auto.size-end in let d = ap (λ (t : Tables). t.members) c.deref.ensures in omega (arith, lt, own, e, d))
       | inr le ↦ c.loop-size.invariant.rest s le
           ∙ none-of_member_size c.args.self.now.game c.args.member (minimal_coalitions (votes_of c.args.self.now.game)) s
-          (let d = ap (λ (t : Tables). t.members) c.deref.ensures in omega (arith, le, last, own, count, d))
+          (let d = ap (λ (t : Tables). t.members) c.deref.ensures in omega (arith, le, c.loop-size-test.false, own, count, d))
     ]

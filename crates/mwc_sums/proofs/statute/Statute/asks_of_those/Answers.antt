@@ -6,18 +6,14 @@ use Rattle.mwc_sums.proofs.statute.Statute.asks_of_those.Goals as goal
 
 pub returns : goal.returns
 returns c =
-    let last = c.loop-member-test.false in
-    let own = c.members-member-end.ensures.count in
     sym (any-none (λ i. gives_each c.args.self.now.members (get_or (rule_at c.args.self.now.rules c.args.heads).weights i 0)
     (rule_at c.args.self.now.rules c.args.heads) (rule_at c.args.self.now.rules c.args.weights)) c.args.self.now.members
-    (λ i lt. c.loop-member.invariant i (omega (arith, last, own, lt))))
+    (λ i lt. c.loop-member.invariant i (omega (arith, c.loop-member-test.false, c.members-member-end.ensures.count, lt))))
 
 pub returns-then-gives_each : goal.returns-then-gives_each
 returns-then-gives_each c =
-    let inside = c.loop-member-test.true in
-    let own = c.members-member-end.ensures.count in
     sym (any-at (λ i. gives_each c.args.self.now.members (get_or (rule_at c.args.self.now.rules c.args.heads).weights i 0)
     (rule_at c.args.self.now.rules c.args.heads) (rule_at c.args.self.now.rules c.args.weights)) c.args.self.now.members c.loop-member.member
-    (omega (arith, inside, own))
+    (omega (arith, c.loop-member-test.true, c.members-member-end.ensures.count))
     (ap (λ (e : ℕ). gives_each c.args.self.now.members e (rule_at c.args.self.now.rules c.args.heads) (rule_at c.args.self.now.rules c.args.weights))
     (sym c.weight.ensures) ∙ sym c.gives_each.ensures ∙ c.if-gives_each.true))

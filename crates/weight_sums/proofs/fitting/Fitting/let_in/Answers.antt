@@ -1,19 +1,14 @@
-use Rattle.std.proofs.Common.{◌-◌, get_or, arith}
+use Rattle.std.proofs.Common.{arith}
+use Rattle.std.proofs.lemmas.Grind.{common_steps}
 use Rattle.weight_sums.specs.Inner.Sets.{nobody}
 use Rattle.weight_sums.proofs.FittingSets.{here-few, all-entered}
 use Rattle.weight_sums.proofs.fitting.Fitting.let_in.Goals as goal
 
 pub enter-requires-clause-here : goal.enter-requires-clause-here
-enter-requires-clause-here c =
-    let most =
-    here-few c.args.sets.now c.loop-self.self (get_or c.args.sets.now (c.loop-self.self.outside - 1) nobody).size c.loop-self.invariant.entered
-    c.requires.half in
-    omega (arith, most)
+enter-requires-clause-here c = grind (arith, common_steps, here-few)
 
 pub returns-else-need-sets-clause-all : goal.returns-else-need-sets-clause-all
-returns-else-need-sets-clause-all c =
-    all-entered c.args.need c.args.sets.now c.loop-self.self nobody c.loop-self.invariant.entered
-    c.loop-self.invariant.meet c.requires.half (λ some. c.if-need-sets.false)
+returns-else-need-sets-clause-all c = grind (arith, common_steps, all-entered)
 
 pub returns-after-loop-self-clause-all : goal.returns-after-loop-self-clause-all
 returns-after-loop-self-clause-all c =

@@ -1,33 +1,27 @@
-use Rattle.std.proofs.Common.{◌+◌, sym, subst, arith}
+use Rattle.std.proofs.Common.{arith}
 use Rattle.std.proofs.lemmas.Nat.{shr_below}
+use Rattle.std.proofs.lemmas.Grind.{common_steps}
 use Rattle.weight_sums.specs.Inner.Sets.{nobody}
-use Rattle.weight_sums.specs.Inner.Groups.{low_of, high_of}
 use Rattle.weight_sums.proofs.FittingSets.{here-few}
-use Rattle.weight_sums.proofs.GroupSums.{Paired, paired-room, paired-more, paired-further, paired-all}
+use Rattle.weight_sums.proofs.GroupSums.{paired-rows, paired-more, paired-further, paired-all}
 use Rattle.weight_sums.proofs.groups.Groups.new.Goals as goal
 use Rattle.weight_sums.proofs.groups.Groups.new.Goals.{then-is_any, else-is_any}
-use Rattle.weight_sums.specs.declared.table.Table.{Table}
 
 pub add-requires-clause-room : goal.add-requires-clause-room
 add-requires-clause-room c k s small =
-    let most = paired-room c.args.quota c.args.list.now c.args.others.now c.loop-set.set-index (low_of c.args.digits) c.loop-set.lows.rows.items
-    c.loop-set.invariant.low_is c.requires.list c.requires.others k s small in
-    omega (arith, most)
+    let rows = paired-rows c.loop-set.invariant c.requires.list.half c.requires.digits c.requires.others in
+    omega (arith, rows.0.few k s small)
 
 pub add-requires-clause-few : goal.add-requires-clause-few
 add-requires-clause-few c j = here-few c.args.others.now c.let_in.new.self j c.let_in.ensures.entered c.requires.others
 
 pub add-requires-then-is_any-clause-key : goal.add-requires-then-is_any-clause-key
-add-requires-then-is_any-clause-key c =
-    let long = c.loop-set.invariant.high_long in
-    let below = shr_below _ c.args.digits c.args.digits (c.requires.within c.loop-set.set-index nobody c.loop-set-test.true) in
-    omega (arith, long, below, c.high.ensures)
+add-requires-then-is_any-clause-key c = grind (arith, common_steps, shr_below)
 
 pub add-requires-then-is_any-clause-room : goal.add-requires-then-is_any-clause-room
 add-requires-then-is_any-clause-room c k s small =
-    let most = paired-room c.args.quota c.args.list.now c.args.others.now c.loop-set.set-index (high_of c.args.digits) c.loop-set.highs.rows.items
-    c.loop-set.invariant.high_is c.requires.list c.requires.others k s small in
-    omega (arith, most)
+    let rows = paired-rows c.loop-set.invariant c.requires.list.half c.requires.digits c.requires.others in
+    omega (arith, rows.1.few k s small)
 
 pub add-requires-then-is_any-clause-few : goal.add-requires-then-is_any-clause-few
 add-requires-then-is_any-clause-few c j = here-few c.args.others.now c.let_in.new.self j c.let_in.ensures.entered c.requires.others
@@ -35,29 +29,14 @@ add-requires-then-is_any-clause-few c j = here-few c.args.others.now c.let_in.ne
 pub loop-set-preserved : goal.loop-set-preserved
 loop-set-preserved c =
     elim c.if-is_any.branch [
-      | then-is_any w ↦
-          subst (λ (t : Table). Paired c.args.quota c.args.digits c.args.list.now c.args.others.now (c.loop-set.set-index + 1) t.rows.items
-          c.if-is_any.highs.rows.items c.let_in.new.self) (sym w.lows-is)
-          (subst (λ (t : Table). Paired c.args.quota c.args.digits c.args.list.now c.args.others.now (c.loop-set.set-index + 1)
-          w.add.new.self.rows.items t.rows.items c.let_in.new.self) (sym w.highs-is)
-          (paired-more c.args.quota c.args.digits c.args.list.now c.args.others.now c.loop-set.set-index c.loop-set.lows.rows.items
-          c.loop-set.highs.rows.items c.loop-set.fitting c.loop-set.invariant c.requires.list c.loop-set-test.true c.saturating_sub.result
-          w.low.result w.high.result nobody c.let_in.new.self w.add.new.self.rows.items w.add-then-is_any.new.self.rows.items
+      | then-is_any w ↦ rw (w.lows-is, w.highs-is) (paired-more c.loop-set.invariant c.requires.list.half c.loop-set-test.true nobody
           c.saturating_sub.ensures w.low.ensures w.high.ensures c.let_in.ensures.all c.let_in.ensures.entered c.let_in.ensures.meet
-          w.add.ensures.long w.add-then-is_any.ensures.long w.add.ensures.row w.add-then-is_any.ensures.row))
-      | else-is_any w ↦
-          subst (λ (t : Table). Paired c.args.quota c.args.digits c.args.list.now c.args.others.now (c.loop-set.set-index + 1) t.rows.items
-          c.if-is_any.highs.rows.items c.let_in.new.self) (sym w.lows-is)
-          (subst (λ (t : Table). Paired c.args.quota c.args.digits c.args.list.now c.args.others.now (c.loop-set.set-index + 1)
-          c.loop-set.lows.rows.items t.rows.items c.let_in.new.self) (sym w.highs-is)
-          (paired-further c.args.quota c.args.digits c.args.list.now c.args.others.now c.loop-set.set-index c.loop-set.lows.rows.items
-          c.loop-set.highs.rows.items c.loop-set.fitting c.loop-set.invariant c.requires.list c.loop-set-test.true c.saturating_sub.result
-          nobody c.let_in.new.self c.saturating_sub.ensures c.let_in.ensures.all c.let_in.ensures.entered c.let_in.ensures.meet
-          (c.is_any.ensures w.if-is_any.false)))
+          w.add.ensures.long w.add-then-is_any.ensures.long w.add.ensures.row w.add-then-is_any.ensures.row)
+      | else-is_any w ↦ rw (w.lows-is, w.highs-is) (paired-further c.loop-set.invariant c.requires.list.half c.loop-set-test.true nobody
+          c.saturating_sub.ensures c.let_in.ensures.all c.let_in.ensures.entered c.let_in.ensures.meet (c.is_any.ensures w.if-is_any.false))
     ]
 
 pub returns : goal.returns
-returns c all others are also =
-    paired-all c.args.quota c.args.list.now c.args.others.now all others c.loop-set.set-index c.loop-set.fitting
-    (record { digits = c.args.digits; low = c.loop-set.lows; high = c.loop-set.highs }) c.loop-set.invariant c.loop-set-test.false
-    c.requires.digits c.requires.within c.requires.list c.requires.others are also
+returns c =
+    paired-all (record { digits = c.args.digits; low = c.loop-set.lows; high = c.loop-set.highs }) c.loop-set.invariant
+    c.loop-set-test.false c.requires.digits c.requires.list c.requires.others

@@ -4,11 +4,11 @@ use Rattle.weight_sums.proofs.GroupSums.{without-low, without-high}
 use Rattle.weight_sums.proofs.groups.Groups.without.Goals as goal
 
 pub returns-then-place-digits : goal.returns-then-place-digits
-returns-then-place-digits c quota all others s are small =
-    without-low quota s c.args.place _ all others c.args.self.now are c.if-place-digits.true small
-    (λ of keys. c.without.ensures (low_of c.args.self.now.digits) (met quota others) all s of keys small)
+returns-then-place-digits c quota xs others s are small =
+    without-low quota s c.args.place _ xs others c.args.self.now are c.if-place-digits.true small
+    (λ of keys. c.without.ensures (low_of c.args.self.now.digits) (met quota others) xs s of keys small)
 
 pub returns-else-place-digits : goal.returns-else-place-digits
-returns-else-place-digits c quota all others s are small =
-    without-high quota s c.args.place c.min.result _ all others c.args.self.now are c.if-place-digits.false c.min.ensures small
-    (λ of keys. c.without-else-place-digits.ensures (high_of c.args.self.now.digits) (met quota others) all s of keys small)
+returns-else-place-digits c quota xs others s are small =
+    without-high quota s c.args.place c.min.result _ xs others c.args.self.now are c.if-place-digits.false c.min.ensures small
+    (λ of keys. c.without-else-place-digits.ensures (high_of c.args.self.now.digits) (met quota others) xs s of keys small)

@@ -1,0 +1,15 @@
+use Rattle.std.proofs.Common.{◌≤◌, arith}
+use Rattle.std.proofs.lemmas.List.{take_rest}
+use Rattle.std.proofs.lemmas.List.Elements.{All-append, All-drop}
+use Rattle.std.proofs.lemmas.List.Sums.{sum_by-append}
+use Rattle.weight_sums.specs.declared.row.Open.{Open}
+use Rattle.weight_sums.proofs.row.merge.Goals as goal
+
+pub returns : goal.returns
+returns c =
+    rw (c.in_ok-extend_from_slice-2.ensures.items, c.in_ok-extend_from_slice.ensures.items) (simp take_rest (record {
+      all = λ g. simp sum_by-append (omega (arith, c.loop-i.invariant.all g));
+      sizes = λ p a b.
+          All-append (λ (o : Open). o.size ≤ p) _ _ (All-append (λ (o : Open). o.size ≤ p) _ _ (c.loop-i.invariant.sizes p a b)
+          (All-drop (λ (o : Open). o.size ≤ p) _ _ a)) (All-drop (λ (o : Open). o.size ≤ p) _ _ b);
+    }))
