@@ -1,6 +1,7 @@
 -- Sets that win where they win under two conditions, each of which sees members of its own.
 use Rattle.std.proofs.Common.{◌≡◌, ◌∙◌, ◌&&◌, ◌||◌, ℕ, ◌<◌, Bool, true, false, sym, ap, arith, inl, inr}
-use Rattle.std.proofs.lemmas.Bool.{cases_Bool, and_parts, and_from, and_left, and_right, or_cases, or_left, or_right, both_ways, true_from_ne_false}
+use Rattle.std.proofs.lemmas.Bool.{cases_Bool, false_from_ne_true, and_parts, and_from, and_left, and_right, or_cases, or_left, or_right, both_ways, true_from_ne_false}
+use Rattle.std.proofs.Math.Bool.{and-true}
 use Rattle.std.proofs.lemmas.Bool.Decides.{nat_tests}
 use Rattle.mwc_sums.proofs.Seating.{less, IsLeast, less-same, less-alike}
 
@@ -15,14 +16,30 @@ pub record IsJoint (n : ℕ) (own other : ℕ → Bool) (won_g won_a won_b : (�
   pub sees_other : Sees n other won_b
   pub apart : (i : ℕ) → i < n → own i ≡ true → other i ≡ false
 
+-- what two sets together hold of one side, where each of them is on its own side
+of-one : (x y o : Bool) → (x ≡ true → o ≡ true) → (y ≡ true → o ≡ false) → ((x || y) && o) ≡ x
+of-one x y o own other = grind (arith, nat_tests)
+
+one-seen : (c x y o : Bool) → c ≡ (x || y) → o ≡ true → (y ≡ true → o ≡ false) → c ≡ x
+one-seen c x y o is seen other = grind (arith, nat_tests)
+
+first-lost : (x y : Bool) → (x && y) ≡ false → y ≡ true → x ≡ false
+first-lost x y lost own = grind (arith, nat_tests)
+
+turned : (x y : Bool) → (x || y) ≡ (y || x)
+turned x y = grind (arith, nat_tests)
+
 pub flipped-joint : {n : ℕ} {own other : ℕ → Bool} {won_g won_a won_b : (ℕ → Bool) → Bool} → IsJoint n own other won_g won_a won_b
     → IsJoint n other own won_g won_b won_a
-flipped-joint joint = record {
-  both = λ f. let b = joint.both f in grind (arith, nat_tests);
+flipped-joint {own = own} {other = other} {won_a = won_a} {won_b = won_b} joint = record {
+  both = λ f. joint.both f ∙ both-turned (won_a f) (won_b f);
   sees_own = joint.sees_other;
   sees_other = joint.sees_own;
-  apart = λ i lt seen. let a = joint.apart i lt in grind (arith, nat_tests);
+  apart = λ i lt seen. false_from_ne_true (own i) (λ e. both_ways (other i) (joint.apart i lt e) seen);
 }
+  where
+    both-turned : (x y : Bool) → (x && y) ≡ (y && x)
+    both-turned x y = grind (arith, nat_tests)
 
 -- no member of a least set is unseen
 pub least-seen : {n : ℕ} (side : ℕ → Bool) {won : (ℕ → Bool) → Bool} {f : ℕ → Bool} → Sees n side won → IsLeast n won f
@@ -42,14 +59,14 @@ module _ {n : ℕ} {own other : ℕ → Bool} {won_g won_a won_b : (ℕ → Bool
         joint.sees_other (less c i) c (λ j lj seen. less-same c i j (λ e. both_ways (other j)
         (joint.apart j lj (ap own e ∙ parts.1)) seen)) ∙ (and_parts (won_a c) (won_b c) wins).1 in
         joint.sees_own (less x i) (less c i) (λ j lj seen. less-alike x c i j (same j lj seen))
-        ∙ (let lost = sym (joint.both (less c i)) ∙ least.needs i lt parts.0 in grind (arith, nat_tests)));
+        ∙ first-lost _ _ (sym (joint.both (less c i)) ∙ least.needs i lt parts.0) rest);
   }
     where
       wins : (won_a c && won_b c) ≡ true
       wins = sym (joint.both c) ∙ least.wins
 
       same : (i : ℕ) → i < n → own i ≡ true → x i ≡ c i
-      same i lt seen = let e = is i lt in grind (arith, nat_tests)
+      same i lt seen = is i lt ∙ (λ k. c i && seen k) ∙ and-true (c i)
 
   -- each of its members is on a side
   pub least-sides : {c : ℕ → Bool} → IsLeast n won_g c → (i : ℕ) → i < n → c i ≡ true → (own i || other i) ≡ true
@@ -65,19 +82,20 @@ module _ {n : ℕ} {own other : ℕ → Bool} {won_g won_a won_b : (ℕ → Bool
 
   -- members of the one set are not of the other
   pub least-apart : {x y : ℕ → Bool} → IsLeast n won_a x → IsLeast n won_b y → (i : ℕ) → i < n → x i ≡ true → y i ≡ false
-  least-apart {y = y} least_x least_y i lt inside =
-      let a = least-seen own joint.sees_own least_x i lt inside in
-      let b = least-seen other joint.sees_other least_y i lt in
-      let c = joint.apart i lt a in
-      grind (arith, nat_tests)
+  least-apart {y = y} least_x least_y i lt inside = false_from_ne_true (y i) (λ e. both_ways (other i)
+      (joint.apart i lt (least-seen own joint.sees_own least_x i lt inside)) (least-seen other joint.sees_other least_y i lt e))
+
+  other-out : {y : ℕ → Bool} → IsLeast n won_b y → (i : ℕ) → i < n → y i ≡ true → own i ≡ false
+  other-out least_y i lt inside = false_from_ne_true (own i) (λ e. both_ways (other i)
+      (joint.apart i lt e) (least-seen other joint.sees_other least_y i lt inside))
+
+  own-out : {x : ℕ → Bool} → IsLeast n won_a x → (i : ℕ) → i < n → x i ≡ true → other i ≡ false
+  own-out least_x i lt inside = joint.apart i lt (least-seen own joint.sees_own least_x i lt inside)
 
   -- of the two together, those of one side are the one set
   pub least-own : {x y : ℕ → Bool} → IsLeast n won_a x → IsLeast n won_b y → (i : ℕ) → i < n → ((x i || y i) && own i) ≡ x i
   least-own {x = x} {y = y} least_x least_y i lt =
-      let a = least-seen own joint.sees_own least_x i lt in
-      let b = least-seen other joint.sees_other least_y i lt in
-      let c = joint.apart i lt in
-      grind (arith, nat_tests)
+      of-one (x i) (y i) (own i) (least-seen own joint.sees_own least_x i lt) (other-out least_y i lt)
 
   -- two least sets together are a least set
   pub least-union : (c : ℕ → Bool) {x y : ℕ → Bool} → IsLeast n won_a x → IsLeast n won_b y → ((i : ℕ) → i < n → c i ≡ (x i || y i)) → IsLeast n won_g c
@@ -94,15 +112,7 @@ module _ {n : ℕ} {own other : ℕ → Bool} {won_g won_a won_b : (ℕ → Bool
   }
     where
       in_x : (i : ℕ) → i < n → own i ≡ true → c i ≡ x i
-      in_x i lt seen =
-          let e = is i lt in
-          let b = least-seen other joint.sees_other least_y i lt in
-          let d = joint.apart i lt in
-          grind (arith, nat_tests)
+      in_x i lt seen = one-seen (c i) (x i) (y i) (own i) (is i lt) seen (other-out least_y i lt)
 
       in_y : (i : ℕ) → i < n → other i ≡ true → c i ≡ y i
-      in_y i lt seen =
-          let e = is i lt in
-          let b = least-seen own joint.sees_own least_x i lt in
-          let d = joint.apart i lt in
-          grind (arith, nat_tests)
+      in_y i lt seen = one-seen (c i) (y i) (x i) (other i) (is i lt ∙ turned (x i) (y i)) seen (own-out least_x i lt)

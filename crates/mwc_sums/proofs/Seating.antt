@@ -5,8 +5,8 @@ use native.Mathlib.Numerals.{unary_clauses}
 use Rattle.std.specs.List.{sum_by, range_with_len}
 use Rattle.std.proofs.lemmas.Bool.{cases_lt, cases_eq, and_parts, le-ltb, ltb-true}
 use Rattle.std.proofs.lemmas.List.Sums.{length-filter}
-use Rattle.std.proofs.lemmas.Nat.Bits.{bit_at-suc, same_from_bits_below}
-use Rattle.coalitions.proofs.Shared.Digits.{has-kept, has-gone}
+use Rattle.std.proofs.lemmas.Nat.Bits.{bit_at-suc}
+use Rattle.coalitions.proofs.Shared.Digits.{has-kept, has-gone, same-places}
 use Rattle.coalitions.proofs.Shared.Ranges.{sum_by-range-more}
 use Rattle.std.proofs.lemmas.Bool.Decides.{nat_tests}
 use Rattle.council_game.specs.Votes.{has, size, without}
@@ -56,16 +56,6 @@ mask-has test (suc n) p lt = elim (cases_lt p n) [
 
     last-digit : (m : ℕ) (b : Bool) → ((2 * m + one_if b) / 2 ^ 0 % 2 == 1) ≡ b
     last-digit m b = grind (arith, nat_tests)
-
--- coalitions with the same places are the same
-same-places : (n c d : ℕ) → c < 2 ^ n → d < 2 ^ n → ((p : ℕ) → p < n → has n p c ≡ has n p d) → c ≡ d
-unfolding has
-same-places n c d lc ld same = same_from_bits_below n c d lc ld (λ i lt.
-    (let place : n - 1 - (n - 1 - i) ≡ i = omega (arith, lt) in
-    digits (c / 2 ^ i % 2) (d / 2 ^ i % 2) (omega arith) (omega arith) (rw place at (same (n - 1 - i) (omega (arith, lt))))))
-  where
-    digits : (a b : ℕ) → a < 2 → b < 2 → (a == 1) ≡ (b == 1) → a ≡ b
-    digits a b la lb e = grind (arith, nat_tests)
 
 -- ---- sets of members
 -- a set without one of its members

@@ -1,4 +1,4 @@
-use Rattle.std.proofs.Common.{◌≡◌, ◌∙◌, ◌+◌, ◌<◌, not, List, ℕ, [], length, ap, sym, arith}
+use Rattle.std.proofs.Common.{◌∙◌, ◌<◌, not, List, ℕ, [], length, ap, sym, arith}
 use Rattle.council_game.specs.Votes.{RuleView, rule_at}
 use Rattle.mwc_sums.specs.Chambers.{met, share}
 use Rattle.mwc_sums.specs.Inner.Rules.{AreOfChambers}
