@@ -39,7 +39,8 @@ impl Statute {
         ensures rules { IfOk result (λ c. c.game.rules
             ≡ chamber_of self.now.members self.now.rules (rule_at self.now.rules 0)) }
     {
-        let (_members, _own) = (game.members(), self.members());
+        game.was_checked();
+        self.rules_are_fair();
         let chamber = self.beside(alloc, 0, true)?;
         let (weights, seats) = chamber.seats().unwrap();
         let first = chamber.game(alloc, game)?;
@@ -55,7 +56,8 @@ impl Statute {
         requires game { AreRulesOf game.now self.now.members self.now.rules }
         ensures { IfOk result (λ c. AreCounts game.now (minimal_coalitions (votes_of game.now)) c.value) }
     {
-        let (_members, _own) = (game.members(), self.members());
+        game.was_checked();
+        self.rules_are_fair();
         let first = self.first_chamber(alloc, game)?;
         let others = self.beside(alloc, 0, false)?;
         if others.rules() == 0 {

@@ -25,7 +25,7 @@ impl Counted {
         requires { AreCounts game (minimal_coalitions (votes_of game)) counts.value }
         ensures { result.game ≡ game }
     {
-        let _members = game.members();
+        game.was_checked();
         Counted { game, counts }
     }
 
@@ -87,7 +87,7 @@ fn joined_all(game: &Game, first: &Counted, second: &Counted) -> Tally
     requires { AreChambersOf game.now first.now.game second.now.game }
     ensures { IsTallyOf (length game.now.names) (λ _. true) (minimal_coalitions (votes_of game.now)) result }
 {
-    let _members = game.members();
+    game.was_checked();
     Tally {
         sizes: pairs(&first.sizes(), &second.sizes()),
     }
@@ -100,7 +100,7 @@ fn joined_each(game: &Game, first: &Counted, second: &Counted, place: usize) -> 
     ensures { IsTallyOf (length game.now.names) (has (length game.now.names) place)
         (minimal_coalitions (votes_of game.now)) result }
 {
-    let _members = game.members();
+    game.was_checked();
     let member = game.member_at(place);
     let mut sizes = pairs(&first.sizes_of_member(member), &second.sizes());
     let others = pairs(&first.sizes(), &second.sizes_of_member(member));

@@ -49,7 +49,7 @@ fn parts_of(alloc: Global, game: &Game, whole: &Statute) -> Result<Option<Parts>
     ensures left { IfOk result (λ parts. IfSome parts (λ p. p.left.rules ≡ left game.now)) }
     ensures kind { IfOk result (λ parts. IsSome parts ↔ IsCountedInPart game.now) }
 {
-    let _members = whole.members();
+    whole.rules_are_fair();
     let counted = whole.part(alloc, true)?;
     let others = whole.part(alloc, false)?;
     if counted.rules() == 0 || others.rules() == 0 {

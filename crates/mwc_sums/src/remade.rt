@@ -29,11 +29,11 @@ pub(crate) fn remade(alloc: Global, game: &Game, rules: Vec<Rule>) -> Result<Gam
     ensures names { IfOk result (λ made. made.names ≡ game.now.names) }
     ensures rules { IfOk result (λ made. made.rules ≡ rule_views rules.items) }
 {
-    let _members = game.members();
+    game.was_checked();
     let names = copied_names(alloc, game)?;
     match Game::with_rules(alloc, None, names, rules) {
         Ok(made) => {
-            let _members = made.members();
+            made.was_checked();
             Ok(made)
         }
         Err(fault) => {

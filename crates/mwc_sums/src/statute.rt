@@ -50,6 +50,13 @@ impl Statute {
         Ok(Statute { members, rules })
     }
 
+    /// Each rule is one that a game can have. Nothing runs: a caller writes it where the prover is to know.
+    pub(crate) fn rules_are_fair(&self)
+        ensures { All (IsFair self.now.members) self.now.rules }
+    {
+        let _ = &self.rules;
+    }
+
     /// How many members there are; each rule is one that a game can have.
     pub(crate) fn members(&self) -> usize
         ensures count { result ≡ self.now.members }
@@ -150,7 +157,7 @@ impl Statute {
         ensures names { IfOk result (λ made. made.names ≡ game.now.names) }
         ensures rules { IfOk result (λ made. made.rules ≡ self.now.rules) }
     {
-        let _members = self.members();
+        self.rules_are_fair();
         let mut rules = Vec::with_capacity(alloc, self.rules())?;
         for rule in 0..self.rules() {
             rules.push(self.copied(alloc, rule)?)?;

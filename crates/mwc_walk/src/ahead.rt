@@ -54,8 +54,7 @@ impl Ahead {
     pub(crate) fn of(game: &Game) -> Ahead
         ensures { AheadIs (votes_of game.now) result }
     {
-        // for the prover alone: its clauses tell what every game keeps
-        let _members = game.members();
+        game.was_checked();
         let rules = game.rules();
         let vetoes = Vetoes::of_each(game, &lanes_of(game)[..rules]);
         let mut outlooks = [Outlook::of(game, &vetoes, 0); limits::RULES];

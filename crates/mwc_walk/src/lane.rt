@@ -64,8 +64,7 @@ pub(crate) fn lanes_of(game: &Game) -> [Lane; limits::RULES]
     ensures lanes { LanesAre (votes_of game.now).members 0 0 (votes_of game.now).rules
         (take (length (votes_of game.now).rules) result) }
 {
-    // for the prover alone: its clauses tell what every game keeps
-    let _members = game.members();
+    game.was_checked();
     let mut lanes = [Lane::new(game, 0); limits::RULES];
     for rule in 0..game.rules() {
         lanes[rule] = Lane::new(game, rule);

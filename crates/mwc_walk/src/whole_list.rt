@@ -20,8 +20,7 @@ pub fn list_all(alloc: Global, game: &Game, most: u32) -> Result<Option<Vec<Coal
     ensures more { IfOk result
         (λ o. IfNone o (most < length (minimal_coalitions (votes_of game.now)))) }
 {
-    // for the prover alone: its clauses tell what every game keeps
-    let _members = game.members();
+    game.was_checked();
     let mut walk = Walk::new(game, 0, 0);
     let mut list = Vec::new(alloc);
     for _ in 0..most {

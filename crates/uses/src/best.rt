@@ -18,8 +18,7 @@ pub fn lightest(game: &Game) -> Option<Coalition>
         ≤ weight (rule_at (votes_of game.now).rules 0).weights c)
         (minimal_coalitions (votes_of game.now))) }
 {
-    // for the prover alone: its clauses tell what every game keeps
-    let _members = game.members();
+    game.was_checked();
     one_slice_is_the_whole();
     minimal_coalitions_can_be_counted();
     let mut walk = Walk::new(game, 0, 0);

@@ -14,8 +14,7 @@ pub fn is_blocking(game: &Game, coalition: Coalition) -> bool
         ((i : ℕ) → i < length game.now.names → contains game.now i c ≡ true
         → contains game.now i coalition ≡ false) → wins (votes_of game.now).rules c ≡ false) }
 {
-    // for the prover alone: its clauses tell what every game keeps
-    let _members = game.members();
+    game.was_checked();
     larger_coalitions_win();
     !game.wins(outsiders(game, coalition))
 }

@@ -61,8 +61,7 @@ pub fn first_of_bytes(alloc: Global, bytes: &[u8]) -> Result<Option<(Index, Inde
         × (COALITIONS < length (minimal_coalitions (votes_of g))))) }
 {
     let game = parse_game(alloc, bytes)?;
-    // for the prover alone: its clauses tell what every game keeps
-    let _members = game.members();
+    game.was_checked();
     Ok(both_indices(alloc, &game, 0)?)
 }
 
@@ -73,8 +72,7 @@ pub fn indices_add_up(game: &Game)
     ensures public_good { AddUpToOne
         (map (public_good game.now (minimal_coalitions (votes_of game.now))) (members game.now)) }
 {
-    // for the prover alone: its clauses tell what every game keeps
-    let _members = game.members();
+    game.was_checked();
     minimal_coalitions_can_be_counted();
     deegan_packel_adds_up();
     public_good_adds_up();

@@ -8,7 +8,7 @@ use Rattle.mwc_sums.proofs.counted.joined_each.Goals.{After-sizes_of_member-2}
 
 pub pairs-sizes-requires : goal.pairs-sizes-requires
 pairs-sizes-requires c =
-    first-few c.members-members.ensures.game c.args.first.now.is c.args.second.now.is c.requires.chambers _ _ _
+    first-few c.was_checked.ensures.game c.args.first.now.is c.args.second.now.is c.requires.chambers _ _ _
     c.member_at-member.ensures.below c.sizes_of_member.ensures c.sizes.ensures
 
 pairs-are : (c : After-sizes_of_member-2) (s : ℕ) → s ≤ 40
@@ -16,13 +16,13 @@ pairs-are : (c : After-sizes_of_member-2) (s : ℕ) → s ≤ 40
     + paired (λ j. get_or c.sizes-2.result j 0) (λ j. get_or c.sizes_of_member-2.result j 0) s
     ≡ minimal_of_member_size c.args.game.now c.member_at-member.result s
 pairs-are c =
-    each-pairs c.members-members.ensures.game c.args.first.now.is c.args.second.now.is c.requires.chambers _ _ _ _ _
+    each-pairs c.was_checked.ensures.game c.args.first.now.is c.args.second.now.is c.requires.chambers _ _ _ _ _
     c.member_at-member.ensures.below c.sizes_of_member.ensures c.sizes.ensures c.sizes-2.ensures c.sizes_of_member-2.ensures
 
 pub pairs-others-requires : goal.pairs-others-requires
 pairs-others-requires c s small =
     let all = pairs-are (goal.at.pairs-others-requires c).After-sizes_of_member-2 s small in
-    omega (arith, all, few-of_member_size c.args.game.now c.member_at-member.result s c.members-members.ensures.game)
+    omega (arith, all, few-of_member_size c.args.game.now c.member_at-member.result s c.was_checked.ensures.game)
 
 pub overflow_add-sizes : goal.overflow_add-sizes
 overflow_add-sizes c =
@@ -30,7 +30,7 @@ overflow_add-sizes c =
     omega (
       arith,
       pairs-are (goal.at.overflow_add-sizes c).After-sizes_of_member-2 c.loop-size.size small,
-      few-of_member_size c.args.game.now c.member_at-member.result c.loop-size.size c.members-members.ensures.game,
+      few-of_member_size c.args.game.now c.member_at-member.result c.loop-size.size c.was_checked.ensures.game,
       c.loop-size.invariant.rest c.loop-size.size (omega arith),
       c.pairs-sizes.ensures.sizes c.loop-size.size small,
       c.pairs-others.ensures.sizes c.loop-size.size small,

@@ -40,8 +40,8 @@ counted-requires-clause-chambers c =
     let n : ℕ = c.args.whole.now.members in
     let rs : List RuleView = c.args.whole.now.rules in
     rw (c.in_ok-counted.ensures.members, c.in_ok-counted.ensures.rules)
-    (chambers-within n rs c.members-members.ensures.fair (is_counted n rs) (counted-closed n rs c.members-members.ensures.fair)
-    (own-chamber n rs c.members-members.ensures.fair))
+    (chambers-within n rs c.rules_are_fair.ensures (is_counted n rs) (counted-closed n rs c.rules_are_fair.ensures)
+    (own-chamber n rs c.rules_are_fair.ensures))
 
 pub game-requires-clause-few : goal.game-requires-clause-few
 game-requires-clause-few c = omega (arith, few (goal.at.game-requires-clause-few c).In_ok-others, c.requires.few, c.if-rules-eq0.false, c.rules.ensures)
@@ -50,7 +50,7 @@ pub returns-clause-parts : goal.returns-clause-parts
 returns-clause-parts c =
     let n : ℕ = c.args.whole.now.members in
     let rs : List RuleView = c.args.whole.now.rules in
-    parts-are n rs c.members-members.ensures.fair (is_counted n rs) (counted-closed n rs c.members-members.ensures.fair)
+    parts-are n rs c.rules_are_fair.ensures (is_counted n rs) (counted-closed n rs c.rules_are_fair.ensures)
     c.args.game.now c.in_ok-counted-2.counted.game c.in_ok-left.left c.requires.game c.in_ok-counted-2.ensures.names c.in_ok-left.ensures.names
     (c.in_ok-counted-2.ensures.rules ∙ c.in_ok-counted.ensures.rules) (c.in_ok-left.ensures.rules ∙ c.in_ok-others.ensures.rules)
 

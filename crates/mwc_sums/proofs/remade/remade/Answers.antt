@@ -18,17 +18,17 @@ with_rules-requires-clause-full c k d lt =
 
 pub returns-in-Ok-clause-names : goal.returns-in-Ok-clause-names
 returns-in-Ok-clause-names c =
-    (made-rules c.args.game.now c.in-Ok.made _ c.members-members.ensures.game c.requires.fair
+    (made-rules c.args.game.now c.in-Ok.made _ c.was_checked.ensures.game c.requires.fair
     (rw c.in_ok-names.ensures at c.in-Ok.ensures)).0
 
 pub returns-in-Ok-clause-rules : goal.returns-in-Ok-clause-rules
 returns-in-Ok-clause-rules c =
-    (made-rules c.args.game.now c.in-Ok.made _ c.members-members.ensures.game c.requires.fair
+    (made-rules c.args.game.now c.in-Ok.made _ c.was_checked.ensures.game c.requires.fair
     (rw c.in_ok-names.ensures at c.in-Ok.ensures)).1
 
 pub prove-unreachable-requires : goal.prove-unreachable-requires
 prove-unreachable-requires c =
-    let memory = only-memory c.args.game.now c.in-Err.fault _ c.members-members.ensures.game c.requires.fair
+    let memory = only-memory c.args.game.now c.in-Err.fault _ c.was_checked.ensures.game c.requires.fair
     (rw c.in_ok-names.ensures at c.in-Err.ensures) in
     elim c.match-matches.branch [
       | in-Memory w ↦ both_ways _ c.if-prove.true w.matches-is

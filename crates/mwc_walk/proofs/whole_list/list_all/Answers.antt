@@ -8,13 +8,13 @@ loop-preserved c = one-more c.loop.invariant c.in-Some.ensures.next c.in_ok-push
 
 pub returns-in-None-clause-all : goal.returns-in-None-clause-all
 returns-in-None-clause-all c =
-    lists-all c.args.game.now c.args.most c.members-members.ensures.votes c.loop.invariant c.in-None.ensures.next.0 (omega arith)
+    lists-all c.args.game.now c.args.most c.was_checked.ensures.votes c.loop.invariant c.in-None.ensures.next.0 (omega arith)
 
 pub returns-in-Some-next-clause-more : goal.returns-in-Some-next-clause-more
 returns-in-Some-next-clause-more c =
-    more-than (votes_of c.args.game.now) c.args.most c.members-members.ensures.votes c.loop.invariant c.in-Some-next.ensures.next
+    more-than (votes_of c.args.game.now) c.args.most c.was_checked.ensures.votes c.loop.invariant c.in-Some-next.ensures.next
     (omega arith)
 
 pub returns-in-None-next-clause-all : goal.returns-in-None-next-clause-all
 returns-in-None-next-clause-all c =
-    lists-all c.args.game.now c.args.most c.members-members.ensures.votes c.loop.invariant c.in-None-next.ensures.next.0 (omega arith)
+    lists-all c.args.game.now c.args.most c.was_checked.ensures.votes c.loop.invariant c.in-None-next.ensures.next.0 (omega arith)

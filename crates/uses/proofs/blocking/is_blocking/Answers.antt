@@ -29,7 +29,7 @@ returns c =
     let out = c.outsiders.result in (
       λ lost other apart. false_from_ne_true (wins (votes_of g).rules other) (λ won. both_ways _
           (sym c.wins.ensures ∙ not-is _ lost)
-          (c.larger_coalitions_win.ensures (votes_of g) c.members-members.ensures.votes other out
-          (inside g c.members-members.ensures.game other out c.args.coalition c.outsiders.ensures.members apart) won)),
+          (c.larger_coalitions_win.ensures (votes_of g) c.was_checked.ensures.votes other out
+          (inside g c.was_checked.ensures.game other out c.args.coalition c.outsiders.ensures.members apart) won)),
       λ all. ap not (c.wins.ensures ∙ all out (λ i li within. not-is _ (sym (c.outsiders.ensures.members i li) ∙ within))),
     )

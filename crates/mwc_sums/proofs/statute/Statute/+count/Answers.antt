@@ -11,7 +11,7 @@ pub returns-then-rules-eq0 : goal.returns-then-rules-eq0
 returns-then-rules-eq0 t c =
     let n : ℕ = c.args.self.now.members in
     let rs : List RuleView = c.args.self.now.rules in
-    counts-alike c.args.game.now c.in_ok-first.first.game c.members-members.ensures.game c.in_ok-first.first.is
+    counts-alike c.args.game.now c.in_ok-first.first.game c.was_checked.ensures.game c.in_ok-first.first.is
     (all-of n rs (share n (rule_at rs 0)) c.args.game.now c.in_ok-first.first.game c.requires.game c.in_ok-first.ensures.names
     c.in_ok-first.ensures.rules (ap (λ (l : List RuleView). length l) (sym c.in_ok-others.ensures.rules) ∙ sym c.rules.ensures ∙ c.if-rules-eq0.true))
     c.in_ok-first.first.counts.value c.in_ok-first.first.are
