@@ -40,7 +40,7 @@ pub(crate) struct Equipment {
 }
 
 impl Equipment {
-    /// That of a worker that may be given so many slices.
+    /// That of a worker that may be given `slices` slices.
     pub fn new(alloc: Global, slices: u16) -> Result<Equipment, GatherFault>
         ensures { IfErr result IsEarly }
     {
