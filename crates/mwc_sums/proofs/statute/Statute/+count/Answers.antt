@@ -24,7 +24,7 @@ fewer t c =
     omega (
       arith,
       both-few (share n (rule_at rs 0)) rs,
-      chamber-some n rs c.members-own.ensures.fair 0 c.requires.some,
+      chamber-some n rs c.rules_are_fair.ensures 0 c.requires.some,
       ap (λ (l : List RuleView). length l) c.in_ok-others.ensures.rules,
     )
 
@@ -35,11 +35,11 @@ pub count-requires : goal.count-requires
 count-requires t c =
     let n : ℕ = c.args.self.now.members in
     let rs : List RuleView = c.args.self.now.rules in
-    let fair = c.members-own.ensures.fair in
+    let fair = c.rules_are_fair.ensures in
     let less = fewer _ (goal.at.count-requires t c).In_ok-others in
     let chambers : AreOfChambers c.in_ok-others.others.members c.in_ok-others.others.rules = rw (c.in_ok-others.ensures.members, c.in_ok-others.ensures.rules)
-    (chambers-within n rs c.members-own.ensures.fair (λ x. not (share n (rule_at rs 0) x)) (others-closed n rs c.members-own.ensures.fair (share n (rule_at rs 0))
-    (chamber-closed n rs c.members-own.ensures.fair c.requires.chambers 0 c.requires.some)) (λ j lj _. c.requires.chambers j (record { quota = 0; weights = [] }) lj)) in (
+    (chambers-within n rs c.rules_are_fair.ensures (λ x. not (share n (rule_at rs 0) x)) (others-closed n rs c.rules_are_fair.ensures (share n (rule_at rs 0))
+    (chamber-closed n rs c.rules_are_fair.ensures c.requires.chambers 0 c.requires.some)) (λ j lj _. c.requires.chambers j (record { quota = 0; weights = [] }) lj)) in (
       omega (arith, c.decreases, less),
       (
         omega (arith, c.if-rules-eq0.false, c.rules.ensures),
@@ -60,6 +60,6 @@ pub boxed_joined-requires : goal.boxed_joined-requires
 boxed_joined-requires t c =
     let n : ℕ = c.args.self.now.members in
     let rs : List RuleView = c.args.self.now.rules in
-    rw c.new.ensures (parts-are n rs c.members-own.ensures.fair (share n (rule_at rs 0)) (chamber-closed n rs c.members-own.ensures.fair c.requires.chambers 0
+    rw c.new.ensures (parts-are n rs c.rules_are_fair.ensures (share n (rule_at rs 0)) (chamber-closed n rs c.rules_are_fair.ensures c.requires.chambers 0
     c.requires.some) c.args.game.now c.in_ok-first.first.game c.in_ok-second.second c.requires.game c.in_ok-first.ensures.names
     c.in_ok-second.ensures.names c.in_ok-first.ensures.rules (c.in_ok-second.ensures.rules ∙ c.in_ok-others.ensures.rules))
