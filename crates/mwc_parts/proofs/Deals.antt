@@ -22,10 +22,7 @@ cons_if false j x a c e = e
 pub share_of-more : (w j : ℕ) (hs : List ℕ) (h : ℕ)
     → share_from w j (hs ++ h ∷ []) ≡ share_from w j hs ++ cond (eqb w h) ((j + length hs) ∷ []) []
 share_of-more w j [] h = let e : j ≡ j + 0 = omega arith in ap (λ (k : ℕ). cond (eqb w h) (k ∷ []) []) e
-share_of-more w j (x ∷ hs) h =
-    let e : (j + 1) + length hs ≡ j + suc (length hs) = omega arith in
-    cons_if (eqb w x) j (share_from w (j + 1) (hs ++ h ∷ [])) (share_from w (j + 1) hs) (cond (eqb w h) ((j + suc (length hs)) ∷ []) [])
-    (share_of-more w (j + 1) hs h ∙ ap (λ (k : ℕ). share_from w (j + 1) hs ++ cond (eqb w h) (k ∷ []) []) e)
+share_of-more w j (x ∷ hs) h = grind (arith, share_of-more w (j + 1) hs h, cons_if)
 
 pub share_of-other : (hs : List ℕ) (w h : ℕ) → (w ≡ h → ⊥) → share_of (hs ++ h ∷ []) w ≡ share_of hs w
 share_of-other hs w h ne = grind (arith, common_steps, append-nil, ne_eqb, share_of-more)
@@ -36,29 +33,20 @@ share_of-same hs w h e = grind (arith, common_steps, eq-eqb, share_of-more)
 others : (hs : List ℕ) (i from k : ℕ)
     → i < from → map (share_of (hs ++ i ∷ [])) (range_with_len from k) ≡ map (share_of hs) (range_with_len from k)
 others hs i from zero h = refl
-others hs i from (suc k) h =
-    let e : share_of (hs ++ i ∷ []) from ≡ share_of hs from = share_of-other hs from i (λ q. omega arith) in
-    let r = others hs i (from + 1) k (omega arith) in
-    ap (λ (x : List ℕ). x ∷ map (share_of (hs ++ i ∷ [])) (range_with_len (from + 1) k)) e
-    ∙ ap (λ (xs : List (List ℕ)). share_of hs from ∷ xs) r
+others hs i from (suc k) h = grind (arith, others hs i (from + 1) k (omega arith), share_of-other)
 
 -- worker i, in the row from worker `from` on, is given the next slice
 pub deal_from : (hs : List ℕ) (i from k n : ℕ) → from + n ≡ i → n < k
     → map (share_of (hs ++ i ∷ [])) (range_with_len from k) ≡ set (map (share_of hs) (range_with_len from k)) n
     (share_of hs i ++ length hs ∷ [])
 deal_from hs i from zero n e h = absurd (omega arith)
-deal_from hs i from (suc k) zero e h =
-    let q : from ≡ i = omega arith in
-    ap (λ (x : List ℕ). x ∷ map (share_of (hs ++ i ∷ [])) (range_with_len (from + 1) k)) (share_of-same hs from i q)
-    ∙ ap (λ (xs : List (List ℕ)). (share_of hs i ++ length hs ∷ []) ∷ xs) (others hs i (from + 1) k (omega arith))
-deal_from hs i from (suc k) (suc n) e h =
-    ap (λ (x : List ℕ). x ∷ map (share_of (hs ++ i ∷ [])) (range_with_len (from + 1) k)) (share_of-other hs from i (λ q. omega arith))
-    ∙ ap (λ (xs : List (List ℕ)). share_of hs from ∷ xs) (deal_from hs i (from + 1) k n (omega arith) (omega arith))
+deal_from hs i from (suc k) zero e h = grind (arith, share_of-same, others)
+deal_from hs i from (suc k) (suc n) e h = grind (arith, deal_from hs i (from + 1) k n (omega arith) (omega arith), share_of-other)
 
 -- what a worker holds ascends
 ascends_weaker : (m n : ℕ) (s : List ℕ) → m ≤ n → AscendsFrom n s → AscendsFrom m s
 ascends_weaker m n [] l a = tt
-ascends_weaker m n (j ∷ s) l a = let b = a.0 in (omega arith, a.1)
+ascends_weaker m n (j ∷ s) l a = (omega arith, a.1)
 
 ascends_if : (b : Bool) (j : ℕ) (s : List ℕ) → AscendsFrom (j + 1) s → AscendsFrom j (cond b (j ∷ s) s)
 ascends_if true j s a = (omega arith, a)
@@ -71,10 +59,8 @@ held_ascends w j (h ∷ hs) = ascends_if (eqb w h) j (share_from w (j + 1) hs) (
 increases : (n : ℕ) (s : List ℕ) → AscendsFrom n s → IsStrictlyIncreasing s
 increases n [] a k l = absurd (omega arith)
 increases n (i ∷ []) a k l = absurd (omega arith)
-increases n (i ∷ j ∷ s) a zero l = let b = a.1 in let c = b.0 in omega arith
-increases n (i ∷ j ∷ s) a (suc k) l =
-    let e : suc k + 1 ≡ suc (k + 1) = omega arith in
-    rw e (increases (i + 1) (j ∷ s) a.1 k (omega arith))
+increases n (i ∷ j ∷ s) a zero l = let b = a.1 in omega arith
+increases n (i ∷ j ∷ s) a (suc k) l = grind (arith, increases (i + 1) (j ∷ s) a.1 k (omega arith))
 
 pub held_increases : (w : ℕ) (hs : List ℕ) → IsStrictlyIncreasing (share_of hs w)
 held_increases w hs = increases 0 (share_of hs w) (held_ascends w 0 hs)
@@ -94,8 +80,7 @@ sum_up_to f k hs a (suc m) l =
     let below : h < k = a m 0 (omega arith) in
     let more : take (suc m) hs ≡ first ++ h ∷ [] = rw (← add-one) (take_more hs m 0 (omega arith)) in
     let number : length first ≡ m = length-take-le m hs (omega arith) in
-    let held : get_or (shares_by first k) h [] ≡ share_of first h =
-    get_or-map-range_with_len (share_of first) 0 k h h [] below (omega arith) in
+    let held : get_or (shares_by first k) h [] ≡ share_of first h = grind (arith, get_or-map-range_with_len) in
     let before = sum_up_to f k hs a m (omega arith) in
     let dealt = deal_from first h 0 k h (omega arith) below in
     let given = sum_by-set (sum_by f) (shares_by first k) h (share_of first h ++ length first ∷ []) []

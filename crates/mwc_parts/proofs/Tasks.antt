@@ -26,7 +26,6 @@ all_taken n [] (j ∷ given) last left told a h e =
 all_taken n (i ∷ s) [] last left true a h e = cc
 all_taken n (i ∷ s) [] last left false a h e = cc
 all_taken n (i ∷ s) (j ∷ given) last left told a h e =
-    let q : i ≡ j = cc in
     let r : (open_words s ++ last ∷ []) ++ left ≡ open_words given ++ end_words told = cc in
     let t = all_taken n s given last left told (All-tail (λ j. j < n) j given a) h r in
     (cc, t.1)

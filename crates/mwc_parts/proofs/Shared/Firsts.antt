@@ -1,5 +1,5 @@
 -- The first deals, and what the end of the deal tells.
-use Rattle.std.specs.Prelude.{◌≡◌, ◌⊎◌, ℕ, zero, suc, ◌+◌, ◌<◌, ◌≤◌, Bool, true, false, ◌||◌, cond, List, [], ◌∷◌, ◌++◌, Option, None, IsSome, length, map, replicate, All, refl}
+use Rattle.std.specs.Prelude.{◌≡◌, ◌⊎◌, ℕ, zero, suc, ◌+◌, ◌<◌, ◌≤◌, Bool, false, ◌||◌, cond, List, [], ◌∷◌, ◌++◌, Option, None, length, map, replicate, All, refl}
 use Rattle.std.proofs.lemmas.Grind.{common_steps}
 use Rattle.std.specs.List.{range_with_len}
 use Rattle.std.specs.List.Sorted.{IsStrictlyIncreasing}
@@ -23,9 +23,7 @@ no_shares : (desks : List DeskView) (from : ℕ) → All IsFresh desks
     → given_slices desks ≡ map (share_of []) (range_with_len from (length desks))
 no_shares [] from a = refl
 no_shares (s ∷ desks) from a =
-    let h = All-head IsFresh s desks a in
-    ap (λ (x : List ℕ). x ∷ given_slices desks) h.none_given
-    ∙ ap (λ (xs : List (List ℕ)). [] ∷ xs) (no_shares desks (from + 1) (All-tail IsFresh s desks a))
+    let h = All-head IsFresh s desks a in grind (arith, no_shares desks (from + 1) (All-tail IsFresh s desks a))
 
 -- before the first deal
 pub begin : (n : ℕ) (early : Bool) (desks : List DeskView) → All IsFresh desks → DealsOneEach n 0 early (replicate n None) early desks
@@ -38,8 +36,7 @@ begin n early desks a = record {
       all_slices = omega arith;
       by_workers = λ k d l. absurd (omega arith);
       given_are = no_shares desks 0 a;
-      told_late = All-weaker IsFresh (λ (s : DeskView). s.told ≡ true → (n ≡ 0) ⊎ (early ≡ true))
-          (λ x h q. absurd (false≢true (sym h.not_told ∙ q))) desks a;
+      told_late = grind (arith, false≢true);
       stops_are = sym (ap (λ (b : Bool). early || b) (none_ill desks (All-weaker IsFresh IsWell (λ x h. h.well) desks a)) ∙ or-false early);
       none_early = λ z. refl;
     };
@@ -62,25 +59,14 @@ pub first_turn : {n : ℕ} {early stopped stops : Bool} {marks after : List (Opt
     → DealsOneEach n (k + 1) early after stops (set desks k t)
 unfolding turn_nothing turn_one
 first_turn {n} {early} {stopped} {stops} desks k s t l e fresh f r =
-    let d = f.deal in let old = d.in_order in let most = f.at_most in
-    elim r.gives [
+    let d = f.deal in let old = d.in_order in elim r.gives [
       | inl g ↦
           let full : stops ≡ false → old.free ≡ 0
-          = λ z. elim (g.told_if (g.why (g.idle_is ∙ or-false s.idle ∙ fresh.idle))) [
-            | inl told ↦ absurd (false≢true (sym fresh.not_told ∙ told))
-            | inr why ↦ elim why [
-              | inl all ↦ none_free old.holders old.free (subst (λ (m : List (Option ℕ)). All IsSome m) old.marks_are all)
-              | inr y ↦ absurd (false≢true (sym z ∙ y))
-            ]
-          ] in
+          = grind (arith, or-false, false≢true, none_free) in
           record {
             deal = record {
               in_order = turn_nothing desks k s t l e old r g;
-              begins = λ z w v u.
-                  elim (near w k v) [
-                    | inl b ↦ d.begins (went_on s t k r z) w b u
-                    | inr b ↦ let q = full z in absurd (omega arith)
-                  ];
+              begins = grind (arith, near, went_on);
             };
             at_most = omega arith;
           }
@@ -127,10 +113,7 @@ each_within {n} g desks deal =
     let a : sum_by (coalition_count g) (given_slices desks) ≡ coalition_count g (range_with_len 0 (length d.holders)) =
     ap (sum_by (coalition_count g)) d.given_are ∙ shares_sum (λ j. length (g.slice j)) (length desks) d.holders d.by_workers in
     let m : coalition_count g (range_with_len 0 (length d.holders)) ≤ coalition_count g (range_with_len 0 n) =
-    sum_by-range-le (λ j. length (g.slice j)) (length d.holders) n (omega arith) in
-    All-weaker (λ (s : List ℕ). coalition_count g s ≤ sum_by (coalition_count g) (given_slices desks))
-    (λ (s : List ℕ). coalition_count g s ≤ coalition_count g (range_with_len 0 n)) (λ s l. omega arith) (given_slices desks)
-    (get_or-le-sum_by (coalition_count g) (given_slices desks))
+    sum_by-range-le (λ j. length (g.slice j)) (length d.holders) n (omega arith) in grind (arith, get_or-le-sum_by)
 
 -- the first slice that a worker holds
 begins_with : (w j : ℕ) (hs : List ℕ) (m : ℕ) → j + m ≡ w → m < length hs → ((v : ℕ) → v < m + 1 → get_or hs v 0 ≡ j + v) → (rest : List ℕ)
@@ -152,7 +135,7 @@ begins_with w j (x ∷ hs) (suc m) e l h =
 pub first_held : (hs : List ℕ) (w : ℕ) → w < length hs → ((v : ℕ) → v < w + 1 → get_or hs v 0 ≡ v) → (rest : List ℕ)
     × (share_of hs w ≡ w ∷ rest)
 first_held hs w l h =
-    begins_with w 0 hs w (omega arith) l (λ v b. let o = h v b in omega arith)
+    begins_with w 0 hs w (omega arith) l (λ v b. omega arith)
 
 -- the first slice of worker w is slice w, where there are more than w slices and workers
 pub share_begins : {n k : ℕ} {early stopped : Bool} {marks : List (Option ℕ)} (desks : List DeskView)
@@ -161,8 +144,4 @@ pub share_begins : {n k : ℕ} {early stopped : Bool} {marks : List (Option ℕ)
 share_begins desks d z e w a b =
     let o = d.begins z w a b in
     let h = first_held d.in_order.holders w o.0 (λ v u. let q = d.begins z v (omega arith) (omega arith) in q.1) in
-    let zero : 0 + w ≡ w = omega arith in (
-      h.0,
-      ap (λ (s : List (List ℕ)). get_or s w []) d.in_order.given_are ∙ share_at d.in_order.holders 0 (length desks) w (omega arith)
-          ∙ ap (share_of d.in_order.holders) zero ∙ h.1,
-    )
+    grind (arith, share_at)

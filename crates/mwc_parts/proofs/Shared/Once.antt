@@ -5,6 +5,8 @@ use Rattle.std.proofs.Common.{eqb, ap, arith, sym, ◌∙◌}
 use Rattle.std.proofs.lemmas.Bool.{lt-ltb}
 use Rattle.std.proofs.lemmas.List.Sums.{sum_by-append, sum_by-cons}
 use Rattle.std.specs.List.{sum_by}
+use Rattle.std.proofs.lemmas.Bool.Decides.{nat_tests}
+use Rattle.std.proofs.lemmas.Grind.{common_steps}
 use Rattle.mwc_parts.specs.Inner.Times.{times_in}
 use Rattle.mwc_parts.specs.Shared.Deals.{AreDealt}
 use Rattle.mwc_parts.specs.Parts.{shares, HasEachSliceOnce}
@@ -15,11 +17,7 @@ use Rattle.mwc_parts.proofs.Shared.Firsts.{dealt_once}
 count_is : (j : ℕ) (parts : List Part)
     → count_by (λ i. eqb i j) (flat_map (λ (p : Part). p.slices.items) parts) ≡ sum_by (times_in j) (shares parts)
 count_is j [] = refl
-count_is j (p ∷ parts) =
-    let a = sum_by-append (λ (i : ℕ). cond {A = ℕ} (eqb i j) 1 0) p.slices.items (flat_map (λ (p : Part). p.slices.items) parts) in
-    let t = sum_by-cons (times_in j) p.slices.items (shares parts) in
-    let r = count_is j parts in
-    omega arith
+count_is j (p ∷ parts) = grind (arith, nat_tests, common_steps, count_is j parts, sum_by-append, sum_by-cons)
 
 -- where all slices are dealt, each stands in the parts once
 pub dealt_each_once : {n : ℕ} (parts : List Part) → AreDealt n (shares parts) → HasEachSliceOnce n parts

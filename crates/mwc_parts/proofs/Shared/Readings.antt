@@ -2,7 +2,7 @@
 use Rattle.std.specs.Prelude.{◌≡◌, ℕ, zero, suc, ◌+◌, ◌-◌, ◌<◌, ◌≤◌, Bool, List, [], ◌∷◌, ◌++◌, length, map, take, drop, refl}
 use Rattle.std.proofs.lemmas.Grind.{common_steps}
 use Rattle.std.specs.List.{flat_map}
-use Rattle.std.proofs.Common.{get_or, ap, arith, sym, ◌∙◌, append_assoc}
+use Rattle.std.proofs.Common.{get_or, ap, arith, ◌∙◌, append_assoc}
 use Rattle.std.proofs.lemmas.List.{append-nil, length-append}
 use Rattle.std.proofs.lemmas.List.Elements.{filter_map-append}
 use Rattle.std.proofs.lemmas.List.Concat.{length-flat_map}
@@ -24,9 +24,7 @@ ones-slice j (c ∷ l) rest = ap (λ (w : List ℕ). c ∷ w) (ones-slice j l re
 done_counts-slice : (n j : ℕ) (l : List ℕ) (rest : List Word)
     → done_counts n (((Open j ∷ map One l) ++ Done j ∷ []) ++ rest) ≡ (n + length l) ∷ done_counts (n + length l) rest
 done_counts-slice n j [] rest = let e : n ≡ n + 0 = omega arith in ap (λ (m : ℕ). m ∷ done_counts m rest) e
-done_counts-slice n j (c ∷ l) rest =
-    let e : (n + 1) + length l ≡ n + suc (length l) = omega arith in
-    done_counts-slice (n + 1) j l rest ∙ ap (λ (m : ℕ). m ∷ done_counts m rest) e
+done_counts-slice n j (c ∷ l) rest = grind (arith, done_counts-slice (n + 1) j l rest)
 
 -- the coalitions that a wording tells are its slices joined
 pub ones-wording : (g : Slicing) (s : List ℕ) → ones (wording g s) ≡ flat_map g.slice s
@@ -36,9 +34,7 @@ ones-wording g (j ∷ s) = ones-slice j (g.slice j) (wording g s) ∙ ap (λ (w 
 -- and its Done words stand where the slices end
 pub done_counts-wording : (g : Slicing) (n : ℕ) (s : List ℕ) → done_counts n (wording g s) ≡ ends_from g n s
 done_counts-wording g n [] = refl
-done_counts-wording g n (j ∷ s) =
-    done_counts-slice n j (g.slice j) (wording g s)
-    ∙ ap (λ (w : List ℕ). (n + length (g.slice j)) ∷ w) (done_counts-wording g (n + length (g.slice j)) s)
+done_counts-wording g n (j ∷ s) = grind (arith, done_counts-wording g (n + length (g.slice j)) s, done_counts-slice)
 
 pub length-joined : (g : Slicing) (s : List ℕ) → length (flat_map g.slice s) ≡ coalition_count g s
 length-joined g s = length-flat_map g.slice s
@@ -59,9 +55,7 @@ piece_from g pre n (j ∷ s) zero e l = middle pre (g.slice j) (flat_map g.slice
 piece_from g pre n (j ∷ s) (suc m) e l =
     let k = n + length (g.slice j) in
     let f : length (pre ++ g.slice j) ≡ k = let q = length-append pre (g.slice j) in omega arith in
-    ap (λ (w : List ℕ). take (get_or (ends_from g k s) m 0 - get_or (k ∷ ends_from g k s) m 0) (drop (get_or (k ∷ ends_from g k s) m 0) w))
-    (sym (append_assoc pre (g.slice j) (flat_map g.slice s)))
-    ∙ piece_from g (pre ++ g.slice j) k s m f (omega arith)
+    grind (arith, piece_from g (pre ++ g.slice j) k s m f (omega arith), append_assoc)
 
 pub piece_is : (g : Slicing) (s : List ℕ) (m : ℕ) → m < length s
     → take (get_or (ends_from g 0 s) m 0 - get_or (0 ∷ ends_from g 0 s) m 0)
@@ -73,9 +67,7 @@ rises_from : (g : Slicing) (n : ℕ) (s : List ℕ) (m : ℕ) → m < length (en
     → (get_or (n ∷ ends_from g n s) m 0 ≤ get_or (ends_from g n s) m 0) × (get_or (ends_from g n s) m 0 ≤ n + coalition_count g s)
 rises_from g n [] m l = absurd (omega arith)
 rises_from g n (j ∷ s) zero l = (omega arith, omega (arith, coalitions-cons g j s))
-rises_from g n (j ∷ s) (suc m) l =
-    let r = rises_from g (n + length (g.slice j)) s m (omega arith) in
-    (r.0, omega (arith, coalitions-cons g j s))
+rises_from g n (j ∷ s) (suc m) l = grind (arith, rises_from g (n + length (g.slice j)) s m (omega arith), coalitions-cons)
 
 last_from : (g : Slicing) (n : ℕ) (s : List ℕ) → get_or (n ∷ ends_from g n s) (length (ends_from g n s)) 0 ≡ n + coalition_count g s
 last_from g n [] = omega arith
@@ -88,9 +80,7 @@ ones-append xs ys = filter_map-append one_in xs ys
 pub done_counts-append : (n : ℕ) (xs ys : List Word) → done_counts n (xs ++ ys) ≡ done_counts n xs ++ done_counts (n + length (ones xs)) ys
 done_counts-append n [] ys = let e : n ≡ n + 0 = omega arith in ap (λ (m : ℕ). done_counts m ys) e
 done_counts-append n (Open j ∷ xs) ys = done_counts-append n xs ys
-done_counts-append n (One c ∷ xs) ys =
-    let e : (n + 1) + length (ones xs) ≡ n + suc (length (ones xs)) = omega arith in
-    done_counts-append (n + 1) xs ys ∙ ap (λ (m : ℕ). done_counts (n + 1) xs ++ done_counts m ys) e
+done_counts-append n (One c ∷ xs) ys = grind (arith, done_counts-append (n + 1) xs ys)
 done_counts-append n (Done j ∷ xs) ys = ap (λ (w : List ℕ). n ∷ w) (done_counts-append n xs ys)
 done_counts-append n (End cut ∷ xs) ys = done_counts-append n xs ys
 
@@ -109,7 +99,7 @@ ends_of g s =
     let k = length-joined g s in
     record {
       one_end_each = length-ends g 0 s;
-      ends_rise = λ m l. let h = rises_from g 0 s m l in let a = h.1 in (h.0, omega arith);
+      ends_rise = λ m l. let h = rises_from g 0 s m l in (h.0, omega arith);
       last_end = omega (arith, last_from g 0 s);
     }
 

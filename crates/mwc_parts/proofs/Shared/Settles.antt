@@ -20,16 +20,11 @@ use Rattle.mwc_parts.proofs.Tasks.{all_taken, cut_taken}
 whole_settles : (g : Slicing) (most : ℕ) (taken left : List Word) (given : List ℕ) (told : Bool) (words : List Word)
     → All (λ j. j < g.slices) given → taken ++ left ≡ open_words given ++ end_words told → IsWholeSending g most taken words
     → IsSentWhole g most given told words
-whole_settles g most taken left given told words a e w =
-    let t = all_taken g.slices w.slices given w.last left told a w.ends (ap (λ (x : List Word). x ++ left) (sym w.tasks_are) ∙ e) in
-    let same = ap (coalition_count g) t.0 in
-    record { words_are = w.words_are ∙ ap (λ (s : List ℕ). wording g s ++ End false ∷ []) t.0; was_told = t.1; few = omega arith }
+whole_settles g most taken left given told words a e w = grind (arith, all_taken)
 
 cut_settles : (g : Slicing) (most : ℕ) (taken left : List Word) (given : List ℕ) (told : Bool) (words : List Word)
     → taken ++ left ≡ open_words given ++ end_words told → IsCutSending g most taken words → IsCutShort g most given words
-cut_settles g most taken left given told words e w =
-    let t = cut_taken g w.slices given w.slice left told (ap (λ (x : List Word). x ++ left) (sym w.tasks_are) ∙ e) in
-    record { before = _; words_are = w.words_are; many = omega arith }
+cut_settles g most taken left given told words e w = grind (arith, cut_taken)
 
 pub settles : (g : Slicing) (most : ℕ) (taken left : List Word) (given : List ℕ) (told : Bool) (words : List Word)
     → All (λ j. j < g.slices) given → taken ++ left ≡ open_words given ++ end_words told → IsWholeSending g most taken words
@@ -48,8 +43,7 @@ uncut g (j ∷ s) = list_any-append is_cut (slice_words g j) (wording g s) ∙ r
 
 sent_uncut : {g : Slicing} {most : ℕ} {given : List ℕ} {told : Bool} {words : List Word} → IsSentWhole g most given told words
     → has_cut words ≡ false
-sent_uncut {g} {most} {given} a = ap has_cut a.words_are ∙ list_any-append is_cut (wording g given) (End false ∷ [])
-    ∙ rw (uncut g given) refl
+sent_uncut {g} {most} {given} a = grind (arith, list_any-append, uncut)
 
 was_cut : {g : Slicing} {most : ℕ} {given : List ℕ} {words : List Word} → IsCutShort g most given words → has_cut words ≡ true
 was_cut c = ap has_cut c.words_are ∙ list_any-append is_cut c.before (End true ∷ []) ∙ or-true (has_cut c.before)

@@ -16,13 +16,11 @@ use Rattle.mwc_parts.proofs.Deals.{deal_from}
 
 -- the first free slice is the one after those that have a holder
 pub first_free : (hs : List ℕ) (free j : ℕ) → IsFirstFree (map Some hs ++ replicate free None) j → (j ≡ length hs) × (0 < free)
-first_free [] zero j h = let l = h.0 in absurd (omega arith)
+first_free [] zero j h = absurd (omega arith)
 first_free [] (suc free) zero h = (refl, omega arith)
 first_free [] (suc free) (suc j) h = absurd (false≢true (h.2 0 (omega arith)))
-first_free (x ∷ hs) free zero h = let e = h.1 in cc
-first_free (x ∷ hs) free (suc j) h =
-    let r = first_free hs free j (omega arith, h.1, λ k q. h.2 (suc k) (omega arith)) in
-    (omega arith, r.1)
+first_free (x ∷ hs) free zero h = cc
+first_free (x ∷ hs) free (suc j) h = grind (arith, first_free hs free j (omega arith, h.1, λ k q. h.2 (suc k) (omega arith)))
 
 pub set_free : (hs : List ℕ) (free w : ℕ)
     → set (map Some hs ++ replicate (suc free) None) (length hs) (Some w) ≡ map Some (hs ++ w ∷ []) ++ replicate free None
@@ -74,8 +72,7 @@ ill_set : (desks : List DeskView) (i : ℕ) (s t : DeskView) → i < length desk
     → list_any is_ill (set desks i t) ≡ (list_any is_ill desks || is_ill t)
 ill_set [] i s t l e h = absurd (omega arith)
 ill_set (x ∷ desks) zero s t l e h = or_moves (is_ill t) (list_any is_ill desks) (is_ill x) (λ q. h (ap is_ill e ∙ q))
-ill_set (x ∷ desks) (suc i) s t l e h =
-    ap (λ (b : Bool). is_ill x || b) (ill_set desks i s t (omega arith) e h) ∙ sym (or_assoc (is_ill x) (list_any is_ill desks) (is_ill t))
+ill_set (x ∷ desks) (suc i) s t l e h = grind (arith, ill_set desks i s t (omega arith) e h, or_assoc)
 
 -- the deal is stopped exactly where it should be after a turn too
 pub stops_then : (early : Bool) (desks : List DeskView) (stopped stops : Bool) (i : ℕ)
@@ -229,10 +226,4 @@ all_dealt {n} {k} {stopped} {early} {marks} desks z l deal well told =
     let d = deal.in_order in
     let same : length (given_slices desks) ≡ length desks = length-map desks (λ (s : DeskView). s.given) in
     let go : stopped ≡ false = well_goes_on desks z deal well in
-    let none : d.free ≡ 0 = none_left desks l go d.told_late told in
-    record {
-      holders = d.holders;
-      each_held = omega arith;
-      by_workers = subst (λ (m : ℕ). All (λ h. h < m) d.holders) (sym same) d.by_workers;
-      shares_are = d.given_are ∙ ap (shares_by d.holders) (sym same);
-    }
+    let none : d.free ≡ 0 = none_left desks l go d.told_late told in grind (arith)

@@ -1,4 +1,4 @@
-use Rattle.std.proofs.Common.{List, length, ap, arith}
+use Rattle.std.proofs.Common.{List, ap, arith}
 use Rattle.mwc_parts.specs.declared.part.Part.{Part}
 use Rattle.std.proofs.lemmas.List.{take_all}
 use Rattle.std.specs.List.{sum_by}
@@ -10,7 +10,6 @@ use Rattle.mwc_parts.proofs.gathered.Gathered.piece.Goals as goal
 pub unreachable-requires : goal.unreachable-requires
 unreachable-requires c =
     let parts : List Part = c.args.self.now.parts.items in
-    let q = ap length c.deref-part-items.ensures.value in
     let all = ap (λ (w : List Part). sum_by (times_in c.args.j) (shares w)) (take_all c.loop-part.part-index parts (omega arith)) in
     let once = each_once c.args.self.now.slices parts c.args.self.now.each_slice_once c.args.j c.requires in
     omega arith

@@ -1,4 +1,5 @@
-use Rattle.std.proofs.Common.{rules, arith}
+use Rattle.std.proofs.Common.{arith}
+use Rattle.std.proofs.lemmas.Bool.Decides.{nat_tests}
 use Rattle.mwc_pipe.proofs.Counting.{closed_step, full_step, accepted_step}
 use Rattle.mwc_pipe.proofs.pipe.Pipe.put.Goals as goal
 
@@ -10,5 +11,4 @@ returns-then-len-self-clause-step g c =
     full_step _ _ (rw (← c.self.view_is) c.if-self.false) (rw (← c.self.view_is) (omega (arith, c.self.invariant)))
 
 pub returns-clause-step : goal.returns-clause-step
-returns-clause-step g c =
-    accepted_step _ _ _ (rw (← c.self.view_is) c.if-self.false) (rw (← c.self.view_is) (omega arith)) (search rules)
+returns-clause-step g c = grind (arith, nat_tests, accepted_step)
