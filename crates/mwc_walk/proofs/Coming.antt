@@ -47,21 +47,13 @@ still-kept a b i t f g cheaper kept none =
 pub price-falls : (p : Price) (i t f g d : ℕ) → 0 < t → i * p.other ≤ p.own * t → IsPrice p f g
     → IsPrice (record { own = i; other = t }) (d * t + f) (d * i + g)
 price-falls p i t f g d some cheaper is =
-    let kept = still-kept p.own p.other i t f g cheaper is.kept is.none in
-    record {
-      kept = omega (arith, kept);
-      none = λ empty. absurd (omega (arith, empty, some));
-    }
+    let kept = still-kept p.own p.other i t f g cheaper is.kept is.none in grind (arith)
 
 -- with one who is not cheaper
 pub price-stays : (p : Price) (i t f g d : ℕ) → p.own * t ≤ i * p.other → (p.other ≡ 0 → t ≡ 0) → IsPrice p f g
     → IsPrice p (d * t + f) (d * i + g)
 price-stays p i t f g d dearer none is =
-    let more : d * (p.own * t) ≤ d * (i * p.other) = mul-le d (p.own * t) d (i * p.other) (omega arith) dearer in
-    record {
-      kept = omega (arith, more, is.kept);
-      none = λ empty. let z = none empty in let n = is.none empty in rw (z, n) (omega arith);
-    }
+    let more : d * (p.own * t) ≤ d * (i * p.other) = mul-le d (p.own * t) d (i * p.other) (omega arith) dearer in grind (arith)
 
 -- the least that is weighed: rounded up
 pub rounded-up : (x b g : ℕ) → 0 < b → x ≤ b * g → div_ceil x b ≤ g
@@ -75,9 +67,7 @@ weight-from ws n p c below le =
     let after : length (drop (p + 1) (take n ws)) ≡ n - (p + 1) = length-drop (p + 1) (take n ws) ∙ ap (λ (i : ℕ). i - (p + 1)) size in
     let cut : drop p (take n ws) ≡ get_or ws p 0 ∷ drop (p + 1) (take n ws) =
     (let e : suc p ≡ p + 1 = omega arith in rw e at (drop-cons (take n ws) p 0 (omega (arith, size)))) ∙ ap
-    (λ (w : ℕ). w ∷ drop (p + 1) (take n ws)) (get_or-take n ws p 0 below) in
-    ap (λ (l : List ℕ). weight l c) cut ∙ weight-cons (get_or ws p 0) (drop (p + 1) (take n ws)) c
-    ∙ ap (λ (i : ℕ). c / 2 ^ i % 2 * get_or ws p 0 + weight (drop (p + 1) (take n ws)) c) after
+    (λ (w : ℕ). w ∷ drop (p + 1) (take n ws)) (get_or-take n ws p 0 below) in grind (arith, weight-cons)
 
 -- past the last place there is none
 pub weight-past : (ws : List ℕ) (n p c : ℕ) → n ≤ p → n ≤ length ws → weight (drop p (take n ws)) c ≡ 0
@@ -104,8 +94,7 @@ sums-step n p ws before after below le fits without with_it c covered =
       | inr other ↦
           let one : c / 2 ^ (n - (p + 1)) % 2 ≡ 1 = omega (arith, other, bit_at-lt c (n - (p + 1))) in
           let more : get_or ws p 0 + weight (drop (p + 1) (take n ws)) c ≡ weight (drop p (take n ws)) c = omega (arith, rw one at all) in
-          let room : get_or ws p 0 + weight (drop (p + 1) (take n ws)) c < 2 ^ 64 = omega
-          (arith, weight-le (drop (p + 1) (take n ws)) c, sum-from ws n p le below, drop-most (take n ws) p, fits) in
+          let room : get_or ws p 0 + weight (drop (p + 1) (take n ws)) c < 2 ^ 64 = grind (arith, weight-le, sum-from, drop-most) in
           subst (Covers after) more (with_it _ room covered)
     ]
 

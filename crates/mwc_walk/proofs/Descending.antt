@@ -1,5 +1,5 @@
 -- The numbers below a bound, descending, filtered.
-use Rattle.std.proofs.Common.{◌≡◌, ℕ, zero, suc, ◌+◌, ◌*◌, ◌/◌, ◌^◌, ◌<◌, ◌≤◌, Bool, true, false, ◌&&◌, eqb, List, [], ◌∷◌, ◌++◌, refl, ap, ◌∙◌, arith, zero-add, inl, inr}
+use Rattle.std.proofs.Common.{◌≡◌, ℕ, zero, suc, ◌+◌, ◌*◌, ◌/◌, ◌^◌, ◌<◌, ◌≤◌, Bool, true, false, ◌&&◌, eqb, List, [], ◌∷◌, ◌++◌, refl, ap, ◌∙◌, arith, zero-add}
 use Rattle.std.proofs.lemmas.Grind.{common_steps}
 use Rattle.std.specs.List.{filter}
 use Rattle.std.proofs.Math.Bool.{and-true}
@@ -25,18 +25,13 @@ down-split low (suc more) =
 -- both tests at once
 filter-filter : (q p : ℕ → Bool) (xs : List ℕ) → filter q (filter p xs) ≡ filter (λ c. p c && q c) xs
 filter-filter q p [] = refl
-filter-filter q p (x ∷ xs) =
-    elim (cases_Bool (p x)) [
-      | inl passes ↦ rw (passes, filter-filter q p xs) refl
-      | inr fails ↦ rw (fails, filter-filter q p xs) refl
-    ]
+filter-filter q p (x ∷ xs) = grind (arith, filter-filter q p xs, cases_Bool)
 
 -- tests that agree on these numbers
 filter-above : (p q : ℕ → Bool) (low more : ℕ) → ((c : ℕ) → low ≤ c → c < low + more → p c ≡ q c)
     → filter p (above low more) ≡ filter q (above low more)
 filter-above p q low zero same = refl
-filter-above p q low (suc more) same =
-    rw (same (low + more) (omega arith) (omega arith), filter-above p q low more (λ c from to. same c from (omega arith))) refl
+filter-above p q low (suc more) same = grind (arith, filter-above p q low more (λ c from to. same c from (omega arith)))
 
 filter-never : (xs : List ℕ) → filter (λ (c : ℕ). false) xs ≡ []
 filter-never [] = refl
@@ -72,15 +67,7 @@ pub filter-block : (q p : ℕ → Bool) (low more : ℕ) → ((c : ℕ) → low 
 filter-block q p low more passes fails =
     let top : filter q (filter p (above low more)) ≡ filter p (above low more) =
     filter-filter q p (above low more) ∙ filter-above _ p low more (λ c from to. rw (passes c from to) (and-true (p c))) in
-    let none = filter-filter_none q p low fails in
-    rw (
-      down-split low more,
-      filter-append p (above low more) (down low),
-      filter-append q (filter p (above low more)) (filter p (down low)),
-      top,
-      none,
-      append-nil (filter p (above low more)),
-    ) refl
+    let none = filter-filter_none q p low fails in grind (arith, down-split, filter-append, append-nil)
 
 -- ---- the numbers of a block, which have one quotient
 pub block-prefix : (x h c : ℕ) → x * 2 ^ h ≤ c → c < x * 2 ^ h + 2 ^ h → c / 2 ^ h ≡ x

@@ -1,5 +1,5 @@
 -- Arrays that are filled place by place.
-use Rattle.std.proofs.Common.{◌≡◌, ◌≢◌, ◌∙◌, ℕ, ◌+◌, ◌<◌, ◌≤◌, List, length, get_or, set, subst, sym, arith, inl, inr, below_more, get_or-set_other, get_or-set_same, length-set}
+use Rattle.std.proofs.Common.{◌≡◌, ℕ, ◌+◌, ◌<◌, ◌≤◌, List, length, get_or, set, arith, get_or-set_other, get_or-set_same, length-set}
 use Rattle.std.proofs.lemmas.Bool.{cases_eq}
 
 -- of n elements those before place k are as they are to be
@@ -9,12 +9,7 @@ pub record FilledTo {A : Type 0} (Fits : ℕ → A → Type 0) (d : A) (n k : �
 
 pub fill-next : {A : Type 0} {Fits : ℕ → A → Type 0} {d : A} {n k : ℕ} {xs : List A} {x : A} → FilledTo Fits d n k xs → k < n → Fits k x
     → FilledTo Fits d n (k + 1) (set xs k x)
-fill-next {A} {Fits} {d} {n} {k} {xs} {x} filled room fits = record {
-  long = length-set xs k x ∙ filled.long;
-  done = below_more (λ i. Fits i (get_or (set xs k x) i d)) k
-      (λ i lt. let other : i ≢ k = omega arith in subst (Fits i) (sym (get_or-set_other xs k i x d other)) (filled.done i lt))
-      (subst (Fits k) (sym (get_or-set_same xs k x d (omega (arith, filled.long)))) fits);
-}
+fill-next {A} {Fits} {d} {n} {k} {xs} {x} filled room fits = grind (arith, length-set, get_or-set_other, get_or-set_same)
 
 -- of n elements those from place k to place m are as they are to be
 pub record FilledFrom {A : Type 0} (Fits : ℕ → A → Type 0) (d : A) (n m k : ℕ) (xs : List A) : Type 0 where
@@ -24,11 +19,5 @@ pub record FilledFrom {A : Type 0} (Fits : ℕ → A → Type 0) (d : A) (n m k 
 pub fill-before : {A : Type 0} {Fits : ℕ → A → Type 0} {d : A} {n m k : ℕ} {xs : List A} (j : ℕ) {x : A} → FilledFrom Fits d n m k xs
     → j + 1 ≡ k
     → j < n → Fits j x → FilledFrom Fits d n m j (set xs j x)
-fill-before {A} {Fits} {d} {n} {m} {k} {xs} j {x} filled next room fits = record {
-  long = length-set xs j x ∙ filled.long;
-  done = λ i from to. elim (cases_eq i j) [
-    | inl same ↦ subst (λ (p : ℕ). Fits p (get_or (set xs j x) p d)) (sym same)
-        (subst (Fits j) (sym (get_or-set_same xs j x d (omega (arith, filled.long)))) fits)
-    | inr other ↦ subst (Fits i) (sym (get_or-set_other xs j i x d other)) (filled.done i (omega (arith, from, next, other)) to)
-  ];
-}
+fill-before {A} {Fits} {d} {n} {m} {k} {xs} j {x} filled next room fits =
+    grind (arith, length-set, cases_eq, get_or-set_same, get_or-set_other)

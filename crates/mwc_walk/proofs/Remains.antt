@@ -7,6 +7,7 @@ use Rattle.std.proofs.lemmas.Bool.{cond_both}
 use Rattle.std.proofs.lemmas.List.{length-append, length-drop, get_or-drop, take_more, take-append-drop}
 use Rattle.std.proofs.lemmas.List.Elements.{filter-append}
 use Rattle.std.proofs.lemmas.Nat.{mul-le, pow-add}
+use Rattle.std.proofs.lemmas.Bool.Decides.{nat_tests}
 use Rattle.council_game.specs.Votes.{Votes, minimal, down, minimal_coalitions}
 use Rattle.council_game.specs.Shared.Below.{minimal_below}
 use Rattle.mwc_walk.specs.Slices.{slice}
@@ -60,14 +61,7 @@ given-more : (s before after : List ℕ) (c : ℕ) → before ≡ drop (length s
 given-more s before after c ends first =
     let size : length before ≡ suc (length after) = ap length first in
     let kept : length before ≡ length s - (length s - length before) = ap length ends ∙ length-drop (length s - length before) s in
-    let next : length s - length after ≡ length s - length before + 1 = omega (arith, size, kept) in
-    let lt : length s - length before < length s = omega (arith, size, kept) in
-    let at : get_or s (length s - length before) 0 ≡ c =
-    (let same : length s - length before + 0 ≡ length s - length before = omega arith in
-    ap (λ (k : ℕ). get_or s k 0) (sym same) ∙ sym (get_or-drop (length s - length before) s 0 0)
-    ∙ ap (λ (l : List ℕ). get_or l 0 0) (sym ends ∙ first)) in
-    ap (λ (k : ℕ). take k s) next ∙ take_more s (length s - length before) 0 lt
-    ∙ ap (λ (x : ℕ). take (length s - length before) s ++ x ∷ []) at
+    let at : get_or s (length s - length before) 0 ≡ c = grind (arith, nat_tests, common_steps, get_or-drop) in grind (arith, take_more)
 
 -- the coalitions that a cursor has given
 abbrev given-by : Votes → Cursor → List ℕ
@@ -125,11 +119,4 @@ module _ (v : Votes) (n : ℕ) (a b : Cursor) where
 -- with one rule, the visits are bounded by what was given
 pub visits-most : {v : Votes} {a : Cursor} → CursorIs v a → (a.rules ≡ 1 → a.fresh ≡ true → a.place ≡ a.bits) → length v.rules ≡ 1
     → a.visits ≤ a.bits + (v.members - a.bits) * (length (slice v a.bits a.number) - length (rest_of_slice v a))
-visits-most {v} {a} is rests one =
-    let most = rest-most is (rests (is.rules ∙ one)) one in
-    let whole : ℕ = length (slice v a.bits a.number) in
-    let rest : ℕ = length (rest_of_slice v a) in
-    let long : rest ≤ whole = rest-short is in
-    let e : whole ≡ whole - rest + rest = omega arith in
-    let parts = ap (λ (i : ℕ). (v.members - a.bits) * i) e ∙ mul-add (v.members - a.bits) (whole - rest) rest in
-    omega (arith, most, parts)
+visits-most {v} {a} is rests one = grind (arith, rest-most, rest-short, mul-add)

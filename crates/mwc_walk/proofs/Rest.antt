@@ -1,12 +1,10 @@
 -- What is left of a slice, at a place of the walk.
-use Rattle.std.proofs.Common.{◌≡◌, ℕ, zero, suc, ◌+◌, ◌-◌, ◌*◌, ◌/◌, ◌%◌, ◌^◌, ◌<◌, ◌≤◌, ap, ◌∙◌, arith, inl, inr, true, false, eqb, [], ◌∷◌, sym}
+use Rattle.std.proofs.Common.{◌≡◌, ℕ, zero, suc, ◌+◌, ◌-◌, ◌*◌, ◌/◌, ◌%◌, ◌^◌, ◌<◌, ◌≤◌, ap, ◌∙◌, arith, inl, inr, true, false, eqb, [], ◌∷◌}
 use Rattle.std.proofs.lemmas.Nat.{div-mul-add, pow_pos, pow-add, mul-le}
-use Rattle.std.proofs.Math.Nat.{pow-suc}
 use Rattle.std.proofs.lemmas.Bool.{cases_lt, and_left, eq-eqb, cond-true, false_from_ne_true, both_ways}
 use Rattle.std.proofs.lemmas.Grind.{common_steps}
-use Rattle.std.specs.List.{filter}
 use Rattle.std.proofs.lemmas.Nat.Bits.{bit_at_cat_low}
-use Rattle.council_game.specs.Votes.{Votes, IsVotes, has, without, wins, minimal, down, minimal_coalitions}
+use Rattle.council_game.specs.Votes.{Votes, IsVotes, has, without, wins, minimal, minimal_coalitions}
 use Rattle.council_game.specs.Shared.Below.{minimal_below}
 use Rattle.council_game.proofs.Shared.Meanings.{needs-each-member}
 use Rattle.mwc_walk.specs.Slices.{slice}
@@ -23,7 +21,6 @@ some_digit (suc h) r pos below =
           let found = some_digit h r pos less in
           (found.0, omega (arith, found.1), found.2, found.3)
       | inr more ↦
-          let double : 2 ^ suc h ≡ 2 ^ h * 2 = pow-suc 2 h in
           let e : r ≡ 1 * 2 ^ h + (r - 2 ^ h) = omega arith in
           let one : r / 2 ^ h ≡ 1 = ap (λ (i : ℕ). i / 2 ^ h) e ∙ div-mul-add 1 (2 ^ h) (r - 2 ^ h) (omega arith) in
           (h, omega arith, more, ap (λ (i : ℕ). i % 2) one)
@@ -39,26 +36,19 @@ unfolding has without
 above-not_minimal v p x c game le win low high min =
     let found = some_digit (v.members - p) (c - x * 2 ^ (v.members - p)) (omega arith) (omega arith) in
     let e : c ≡ x * 2 ^ (v.members - p) + (c - x * 2 ^ (v.members - p)) = omega arith in
-    let digit : c / 2 ^ found.0 % 2 ≡ 1 =
-    ap (λ (i : ℕ). i / 2 ^ found.0 % 2) e ∙ bit_at_cat_low x (v.members - p) (c - x * 2 ^ (v.members - p)) found.0 found.1 ∙ found.3 in
+    let digit : c / 2 ^ found.0 % 2 ≡ 1 = grind (arith, bit_at_cat_low) in
     let place : v.members - 1 - (v.members - 1 - found.0) ≡ found.0 = omega arith in
-    let inside : eqb (c / 2 ^ (v.members - 1 - (v.members - 1 - found.0)) % 2) 1 ≡ true =
-    eq-eqb _ _ (ap (λ (i : ℕ). c / 2 ^ i % 2) place ∙ digit) in
-    let prefix : (c - 2 ^ found.0) / 2 ^ (v.members - p) ≡ x =
-    block-prefix x (v.members - p) (c - 2 ^ found.0) (omega arith) (omega arith) in
-    let prefix' : (c - 2 ^ (v.members - 1 - (v.members - 1 - found.0))) / 2 ^ (v.members - p) ≡ x =
-    ap (λ (i : ℕ). (c - 2 ^ i) / 2 ^ (v.members - p)) place ∙ prefix in
-    let still : wins v.rules (c - 2 ^ (v.members - 1 - (v.members - 1 - found.0))) ≡ true =
-    wins-below v.members v.rules game.rules p (c - 2 ^ (v.members - 1 - (v.members - 1 - found.0))) le
-    (ap (wins_at v.rules p) prefix' ∙ win) in
+    let inside : eqb (c / 2 ^ (v.members - 1 - (v.members - 1 - found.0)) % 2) 1 ≡ true = grind (arith, eq-eqb) in
+    let prefix : (c - 2 ^ found.0) / 2 ^ (v.members - p) ≡ x = grind (arith, block-prefix) in
+    let prefix' : (c - 2 ^ (v.members - 1 - (v.members - 1 - found.0))) / 2 ^ (v.members - p) ≡ x = grind (arith) in
+    let still : wins v.rules (c - 2 ^ (v.members - 1 - (v.members - 1 - found.0))) ≡ true = grind (arith, wins-below) in
     let lost = ((needs-each-member v c).0 min).1 (v.members - 1 - found.0) (omega (arith, game.some)) inside in
     both_ways _ lost still
 
 -- a prefix that cannot reach some quota has nothing below it
 pub dead-nothing : (v : Votes) (p x : ℕ) → IsVotes v → p ≤ v.members → reaches v.rules p x ≡ false → NothingBelow v p x
 dead-nothing v p x game le dead =
-    λ c prefix. unfold minimal in and_left _ _ (false_from_ne_true _ (λ w.
-    both_ways _ dead (ap (reaches v.rules p) (sym prefix) ∙ loses-below v.members v.rules game.rules p c le w)))
+    λ c prefix. unfold minimal in grind (arith, and_left, false_from_ne_true, both_ways, loses-below)
 
 -- where nothing is below a prefix, it leaves the same
 pub left-nothing : (v : Votes) (k j p x : ℕ) → NothingBelow v p x
@@ -72,12 +62,7 @@ pub left-won : (v : Votes) (k j p x : ℕ) → IsVotes v → p ≤ v.members →
 unfolding slice_below minimal_below
 left-won v k j p x game le win =
     let pos : 0 < 2 ^ (v.members - p) = pow_pos (v.members - p) in
-    let e : (x + 1) * 2 ^ (v.members - p) ≡ (x * 2 ^ (v.members - p) + 1) + (2 ^ (v.members - p) - 1) =
-    omega (arith, next-block x (v.members - p)) in
-    ap (in_slice v k j) (
-    ap (λ (i : ℕ). filter (minimal v) (down i)) e
-    ∙ filter-down_skip (minimal v) (x * 2 ^ (v.members - p) + 1) (2 ^ (v.members - p) - 1)
-    (λ c low high. false_from_ne_true _ (above-not_minimal v p x c game le win (omega arith) (omega arith))))
+    let e : (x + 1) * 2 ^ (v.members - p) ≡ (x * 2 ^ (v.members - p) + 1) + (2 ^ (v.members - p) - 1) = grind (arith, next-block) in grind (arith, filter-down_skip, false_from_ne_true, above-not_minimal)
 
 -- c itself, where it is minimal and in the slice
 pub left-take : (v : Votes) (k j c : ℕ) → minimal v c ≡ true → c / 2 ^ (v.members - k) ≡ 2 ^ k - 1 - j
@@ -90,15 +75,10 @@ pub left-all : (v : Votes) (k j : ℕ) → k ≤ v.members → j < 2 ^ k
     → slice_below v k j ((2 ^ k - 1 - j + 1) * 2 ^ (v.members - k)) ≡ slice v k j
 unfolding slice_below minimal_below in_slice slice minimal_coalitions
 left-all v k j le below =
-    let whole : 2 ^ v.members ≡ 2 ^ k * 2 ^ (v.members - k) =
-    ap (λ (i : ℕ). 2 ^ i) (let e : v.members ≡ k + (v.members - k) = omega arith in e) ∙ pow-add 2 k (v.members - k) in
-    let m : (2 ^ k - 1 - j + 1) * 2 ^ (v.members - k) ≤ 2 ^ k * 2 ^ (v.members - k) =
-    mul-le (2 ^ k - 1 - j + 1) (2 ^ (v.members - k)) (2 ^ k) (2 ^ (v.members - k)) (omega arith) (omega arith) in
+    let whole : 2 ^ v.members ≡ 2 ^ k * 2 ^ (v.members - k) = grind (arith, pow-add) in
+    let m : (2 ^ k - 1 - j + 1) * 2 ^ (v.members - k) ≤ 2 ^ k * 2 ^ (v.members - k) = grind (arith, mul-le) in
     let e : (2 ^ k - 1 - j + 1) * 2 ^ (v.members - k) + (2 ^ v.members - (2 ^ k - 1 - j + 1) * 2 ^ (v.members - k)) ≡ 2 ^ v.members =
-    omega arith in
-    sym (rw e at (filter-filter_skip (λ c. eqb (c / 2 ^ (v.members - k)) (2 ^ k - 1 - j)) (minimal v)
-    ((2 ^ k - 1 - j + 1) * 2 ^ (v.members - k)) (2 ^ v.members - (2 ^ k - 1 - j + 1) * 2 ^ (v.members - k))
-    (λ c low high. past-block (2 ^ k - 1 - j) (v.members - k) c low)))
+    omega arith in grind (arith, filter-filter_skip, past-block)
 
 -- where it ends, nothing is
 pub left-none : (v : Votes) (k j : ℕ) → slice_below v k j ((2 ^ k - 1 - j) * 2 ^ (v.members - k)) ≡ []

@@ -195,8 +195,7 @@ sum-from ws m p le below = grind (arith, common_steps)
 pub sum-before : (ws rest : List ℕ) (m k : ℕ) → m ≤ length ws → 0 < k → k ≤ m
     → FilledFrom (λ q r. r ≡ sum (drop q (take m ws))) 0 41 m k rest
     → get_or ws (k - 1) 0 + get_or rest (k - 1 + 1) 0 ≡ sum (drop (k - 1) (take m ws))
-sum-before ws rest m k le some most filled =
-    omega (arith, sum-from ws m (k - 1) le (omega arith), filled.done (k - 1 + 1) (omega arith) (omega arith))
+sum-before ws rest m k le some most filled = grind (arith, sum-from)
 
 pub drop-most : (xs : List ℕ) (p : ℕ) → sum (drop p xs) ≤ sum xs
 drop-most xs p = omega (arith, sum_by-take-drop (λ (y : ℕ). y) xs p)

@@ -6,7 +6,7 @@ use Rattle.std.specs.Int.{w64, trailing_zeros}
 use Rattle.std.specs.Int.Bits.{bit_and}
 use Rattle.std.proofs.Math.Nat.{pow-suc}
 use Rattle.std.proofs.Math.Pow.{pow_mono}
-use Rattle.std.proofs.lemmas.Bool.{cases_eq, cases_lt, cases_Bool, both_ways, and_parts, and_from, le-leb, leb-true, eq-eqb, eqb-true, false_from_ne_true}
+use Rattle.std.proofs.lemmas.Bool.{cases_eq, cases_lt, cases_Bool, both_ways, and_parts, and_from, le-leb, leb-true, eq-eqb, false_from_ne_true}
 use Rattle.std.proofs.lemmas.Bool.Decides.{nat_tests}
 use Rattle.std.proofs.lemmas.List.{length-drop, get_or-take}
 use Rattle.std.proofs.lemmas.Nat.{shr-shr, div-add-mod', and_le_l}
@@ -116,11 +116,7 @@ unfolding has
 up-to-last n rest q few pos short below in' =
     let up : 2 ^ n ≤ 2 ^ 40 = pow_mono few in
     let zeros = bit_at-trailing_zeros w64 rest pos (omega arith) in
-    let one : rest / 2 ^ (n - 1 - q) % 2 ≡ 1 = eqb-true _ _ in' in
-    elim (cases_lt (n - 1 - q) (trailing_zeros w64 rest)) [
-      | inl low ↦ let none : rest / 2 ^ (n - 1 - q) % 2 ≡ 0 = zeros.2 _ low in absurd (omega (arith, none, one))
-      | inr high ↦ omega (arith, high, below)
-    ]
+    grind (arith, cases_lt)
 
 -- what the first rule can not spare of a place, it can spare of no place before it
 first-keeps : (rs : List RuleView) (e q m : ℕ) → IsRanked rs → 1 ≤ length rs → e < get_or (rule_at rs 0).weights q 0 → m ≤ q

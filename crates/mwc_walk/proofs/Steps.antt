@@ -319,9 +319,7 @@ pub first-lanes : (v : Votes) (k j m : ℕ) (ls : List Lane) → m ≡ length v.
 first-lanes v k j m ls e le are =
     let pos : 0 < 2 ^ k = pow_pos k in
     let small : 2 ^ k - 1 - j < 1 * 2 ^ k = omega arith in
-    let zero_is : (2 ^ k - 1 - j) / 2 ^ k ≡ 0 =
-    (let b : (2 ^ k - 1 - j) / 2 ^ k < 1 = div_below (2 ^ k - 1 - j) (2 ^ k) 1 pos small in omega (arith, b)) in
+    let zero_is : (2 ^ k - 1 - j) / 2 ^ k ≡ 0 = grind (arith, div_below) in
     let k0 : k - 0 ≡ k = omega arith in
-    let x : (1 * 2 ^ k % 2 ^ 64 - 1 - j) / 2 ^ (k - 0) ≡ 0 = ap (λ (i : ℕ). i / 2 ^ (k - 0)) (first-number k j le)
-    ∙ ap (λ (i : ℕ). (2 ^ k - 1 - j) / 2 ^ i) k0 ∙ zero_is in
+    let x : (1 * 2 ^ k % 2 ^ 64 - 1 - j) / 2 ^ (k - 0) ≡ 0 = grind (arith, first-number) in
     rw (x, e) are

@@ -2,6 +2,7 @@
 use Rattle.std.proofs.Common.{◌≡◌, ◌+◌, ◌<◌, ◌≤◌, ◌++◌, ◌∷◌, [], ℕ, List, length, take, sym, ap, ◌∙◌, append-nil, append_assoc, length-append, arith}
 use Rattle.std.proofs.lemmas.Grind.{common_steps}
 use Rattle.std.proofs.lemmas.List.{take_at, take_all}
+use Rattle.std.proofs.lemmas.Bool.Decides.{nat_tests}
 use Rattle.council_game.specs.Votes.{IsVotes, Votes, minimal_coalitions}
 use Rattle.council_game.specs.Game.{GameView, votes_of}
 use Rattle.council_game.proofs.Shared.Listing.{listing-is}
@@ -21,10 +22,7 @@ pub record HasFirst (whole list to_come : List ℕ) (n : ℕ) : Type 0 where
 pub one-more : {whole list to_come rest more : List ℕ} {n c : ℕ} → HasFirst whole list to_come n → to_come ≡ c ∷ rest
     → more ≡ list ++ c ∷ []
     → HasFirst whole more rest (n + 1)
-one-more {list} {rest} {c} has next pushed = record {
-  joined = rw pushed (append_assoc list (c ∷ []) rest ∙ ap (λ (l : List ℕ). list ++ l) (sym next) ∙ has.joined);
-  count = rw pushed (omega (arith, length-append list (c ∷ []), has.count));
-}
+one-more {list} {rest} {c} has next pushed = grind (arith, append_assoc, length-append)
 
 pub first-ones : {whole list to_come : List ℕ} {n : ℕ} → HasFirst whole list to_come n → (most : ℕ) → n ≡ most → list ≡ take most whole
 first-ones {list} {to_come} has most full = sym (ap (take most) (sym has.joined) ∙ take_at list to_come most (has.count ∙ full))
@@ -35,18 +33,15 @@ at-end {list} has none = sym (append-nil list) ∙ ap (λ (l : List ℕ). list +
 
 pub first-all : {whole list to_come : List ℕ} {n : ℕ} → HasFirst whole list to_come n → to_come ≡ [] → (most : ℕ) → n ≤ most
     → list ≡ take most whole
-first-all {whole} has none most few =
-    let all = at-end has none in all ∙ sym (take_all most whole (omega (arith, ap length all, has.count, few)))
+first-all {whole} has none most few = grind (arith, nat_tests, common_steps, at-end, take_all)
 
 pub lists-all : (g : GameView) (most : ℕ) {list to_come : List ℕ} {n : ℕ} → IsVotes (votes_of g)
     → HasFirst (slice (votes_of g) 0 0) list to_come n
     → to_come ≡ [] → n ≤ most → ListsAll g most list
-lists-all g most game has none few =
-    let all = at-end has none ∙ one-slice (votes_of g) game in grind (arith, common_steps, listing-is)
+lists-all g most game has none few = grind (arith, at-end, one-slice, common_steps, listing-is)
 
 -- a walk with more to come has more
 pub more-than : (v : Votes) (most : ℕ) {list to_come rest : List ℕ} {n c : ℕ} → IsVotes v → HasFirst (slice v 0 0) list to_come n
     → to_come ≡ c ∷ rest
     → most ≤ n → most < length (minimal_coalitions v)
-more-than v most {list} {to_come} game has next many =
-    omega (arith, ap length has.joined, length-append list to_come, ap length next, ap length (one-slice v game), has.count)
+more-than v most {list} {to_come} game has next many = grind (arith, length-append, one-slice)

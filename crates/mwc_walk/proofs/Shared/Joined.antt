@@ -21,12 +21,10 @@ joined-from p h whole s (suc count) all =
     let le : suc count * 2 ^ h ≤ whole * 2 ^ h = mul-le (suc count) (2 ^ h) whole (2 ^ h) (omega arith) (omega arith) in
     let e : suc count * 2 ^ h + (whole * 2 ^ h - suc count * 2 ^ h) ≡ whole * 2 ^ h = omega arith in
     let past : (c : ℕ) → suc count * 2 ^ h ≤ c → c < suc count * 2 ^ h + (whole * 2 ^ h - suc count * 2 ^ h)
-    → eqb (c / 2 ^ h) (whole - 1 - s) ≡ false =
-    λ c low high. rw number (past-block count h c (omega (arith, size, low))) in
+    → eqb (c / 2 ^ h) (whole - 1 - s) ≡ false = grind (arith, past-block) in
     let inside : (c : ℕ) → count * 2 ^ h ≤ c → c < count * 2 ^ h + 2 ^ h → eqb (c / 2 ^ h) (whole - 1 - s) ≡ true =
     λ c low high. eq-eqb _ _ (block-prefix count h c low high ∙ sym number) in
-    let below : (c : ℕ) → c < count * 2 ^ h → eqb (c / 2 ^ h) (whole - 1 - s) ≡ false =
-    λ c high. rw number (before-block count h c high) in
+    let below : (c : ℕ) → c < count * 2 ^ h → eqb (c / 2 ^ h) (whole - 1 - s) ≡ false = grind (arith, before-block) in
     let first = rw (e, size) at (filter-filter_skip q p (suc count * 2 ^ h) (whole * 2 ^ h - suc count * 2 ^ h) past) in
     let block = filter-block q p (count * 2 ^ h) (2 ^ h) inside below in
     rw (first, rest, size) (sym block)
@@ -35,8 +33,7 @@ joined-from p h whole s (suc count) all =
 pub slices-joined : (v : Votes) → SlicesMakeTheWhole v
 unfolding slice minimal_coalitions
 slices-joined v k few le =
-    let whole : 2 ^ v.members ≡ 2 ^ k * 2 ^ (v.members - k) =
-    ap (λ (i : ℕ). 2 ^ i) (let e : v.members ≡ k + (v.members - k) = omega arith in e) ∙ pow-add 2 k (v.members - k) in
+    let whole : 2 ^ v.members ≡ 2 ^ k * 2 ^ (v.members - k) = grind (arith, pow-add) in
     subst (λ (i : ℕ). flat_map (λ j. filter (λ c. eqb (c / 2 ^ (v.members - k)) (2 ^ k - 1 - j)) (filter (minimal v) (down i)))
     (range_with_len 0 (2 ^ k)) ≡ filter (minimal v) (down i)) (sym whole)
     (joined-from (minimal v) (v.members - k) (2 ^ k) 0 (2 ^ k) (omega arith))

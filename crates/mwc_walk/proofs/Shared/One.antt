@@ -1,13 +1,12 @@
 -- In a game of one rule, what wins first on the way down is minimal.
-use Rattle.std.proofs.Common.{◌≡◌, ℕ, ◌+◌, ◌-◌, ◌*◌, ◌/◌, ◌%◌, ◌^◌, ◌<◌, ◌≤◌, true, false, List, [], ◌∷◌, length, take, get_or, sym, ap, ◌∙◌, arith, inl, inr}
+use Rattle.std.proofs.Common.{◌≡◌, ℕ, ◌+◌, ◌-◌, ◌*◌, ◌/◌, ◌%◌, ◌^◌, ◌<◌, ◌≤◌, true, false, List, [], ◌∷◌, length, get_or, sym, ap, ◌∙◌, arith, inl, inr}
 use Rattle.std.proofs.lemmas.Grind.{common_steps}
 use Rattle.std.specs.List.{AllByRecursion}
 use Rattle.std.proofs.lemmas.List.Sums.{length-filter, count_by-le-length}
 use Rattle.std.proofs.lemmas.Nat.Bits.{bit_at_cat_low, bit_at-zero}
 use Rattle.std.proofs.lemmas.Nat.{shr-shr, shl-shr, mul-le}
 use Rattle.std.proofs.Math.Pow.{pow_mono}
-use Rattle.std.proofs.Math.Bool.{and-true}
-use Rattle.std.proofs.lemmas.Bool.{and_left, lt-leb, leb-false, eqb-true, cases_lt, both_ways}
+use Rattle.std.proofs.lemmas.Bool.{and_left, lt-leb, eqb-true, cases_lt, both_ways}
 use Rattle.council_game.specs.Votes.{RuleView, Votes, IsRule, IsRanked, IsVotes, has, without, weight, wins, minimal}
 use Rattle.mwc_walk.specs.Slices.{slice}
 use Rattle.mwc_walk.specs.Inner.Places.{wins_at}
@@ -23,11 +22,8 @@ place-before n p x q le below in' =
     elim (cases_lt q p) [
       | inl less ↦ less
       | inr past ↦
-          let zero_more : x * 2 ^ (n - p) + 0 ≡ x * 2 ^ (n - p) = omega arith in
-          let digit : (x * 2 ^ (n - p) + 0) / 2 ^ (n - 1 - q) % 2 ≡ 0 / 2 ^ (n - 1 - q) % 2 =
-          bit_at_cat_low x (n - p) 0 (n - 1 - q) (omega arith) in
-          let none : x * 2 ^ (n - p) / 2 ^ (n - 1 - q) % 2 ≡ 0 = ap (λ (i : ℕ). i / 2 ^ (n - 1 - q) % 2) (sym zero_more) ∙ digit
-          ∙ bit_at-zero (n - 1 - q) in
+          let digit : (x * 2 ^ (n - p) + 0) / 2 ^ (n - 1 - q) % 2 ≡ 0 / 2 ^ (n - 1 - q) % 2 = grind (arith, bit_at_cat_low) in
+          let none : x * 2 ^ (n - p) / 2 ^ (n - 1 - q) % 2 ≡ 0 = grind (arith, bit_at-zero) in
           let some : x * 2 ^ (n - p) / 2 ^ (n - 1 - q) % 2 ≡ 1 = eqb-true _ _ in' in
           absurd (omega (arith, none, some))
     ]
@@ -45,12 +41,8 @@ one-loses n p x q (r ∷ []) one all ranked pos le lost below in' =
     let pe : p - 1 + 1 ≡ p = omega arith in
     let xe : 2 * (x / 2) + x % 2 ≡ x = omega arith in
     let more = rw (pe, xe) at (weight-step all.0 (p - 1) (x / 2) (x % 2) (omega arith) (omega arith)) in
-    let most : x % 2 * get_or r.weights (p - 1) 0 ≤ 1 * get_or r.weights (p - 1) 0 =
-    mul-le (x % 2) (get_or r.weights (p - 1) 0) 1 (get_or r.weights (p - 1) 0) (omega arith) (omega arith) in
-    let heavier : get_or r.weights (p - 1) 0 ≤ get_or r.weights q 0 = ranked q (p - 1) (omega arith) (omega arith) in
-    let short : weight (take (p - 1) r.weights) (x / 2) < r.quota = leb-false _ _ (sym (and-true _) ∙ lost) in
-    let loses : weight r.weights (x * 2 ^ (n - p) - 2 ^ (n - 1 - q)) < r.quota =
-    omega (arith, less, weight-block all.0 p x le, more, most, heavier, short) in
+    let most : x % 2 * get_or r.weights (p - 1) 0 ≤ 1 * get_or r.weights (p - 1) 0 = grind (arith, mul-le) in
+    let loses : weight r.weights (x * 2 ^ (n - p) - 2 ^ (n - 1 - q)) < r.quota = grind (arith, weight-block) in
     and_left _ _ (lt-leb _ _ loses)
 
 pub one-minimal : (v : Votes) (p x : ℕ) → IsVotes v → length v.rules ≡ 1 → 0 < p → p ≤ v.members → wins_at v.rules p x ≡ true
@@ -73,10 +65,7 @@ won-odd n p x rs pos le all won lost =
 pub empty-loses : (n : ℕ) (rs : List RuleView) → 1 ≤ length rs → AllByRecursion (IsRule n) rs → wins_at rs 0 0 ≡ false
 unfolding wins_at
 empty-loses n [] some all = absurd (omega (arith, some))
-empty-loses n (r ∷ rs) some all =
-    let z : weight (take 0 r.weights) 0 ≡ 0 = weight-zero (take 0 r.weights) in
-    let loses : weight (take 0 r.weights) 0 < r.quota = omega (arith, all.0.some, z) in
-    and_left _ _ (lt-leb _ _ loses)
+empty-loses n (r ∷ rs) some all = grind (arith, weight-zero, and_left, lt-leb)
 
 -- a slice is shorter than a count of visits can grow
 pub slice-short : (v : Votes) (k j : ℕ) → IsVotes v → length (slice v k j) ≤ 2 ^ 40

@@ -1,5 +1,6 @@
 use Rattle.std.proofs.Common.{◌≡◌, ◌-◌, [], length, take, drop, arith, refl}
 use Rattle.std.proofs.lemmas.List.{drop_all, length-take-le}
+use Rattle.std.proofs.lemmas.Grind.{common_steps}
 use Rattle.mwc_walk.proofs.Filled.{fill-before}
 use Rattle.mwc_walk.proofs.Rules.{same-at, sum-before, drop-most}
 use Rattle.mwc_walk.proofs.lane.rest_of.Goals as goal
@@ -8,8 +9,7 @@ pub loop-place-init : goal.loop-place-init
 loop-place-init c = record {
   long = refl;
   done = λ q lo hi.
-      let size : length (take c.args.members c.args.weights.now) ≡ c.args.members =
-      length-take-le c.args.members c.args.weights.now (omega arith) in
+      let size : length (take c.args.members c.args.weights.now) ≡ c.args.members = grind (arith, common_steps, length-take-le) in
       let none : drop q (take c.args.members c.args.weights.now) ≡ [] = drop_all q (take c.args.members c.args.weights.now) (omega arith) in
       rw none (same-at 0 41 q);
 }

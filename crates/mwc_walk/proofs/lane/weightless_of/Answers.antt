@@ -1,6 +1,6 @@
 use mir.Val.{bool_byte}
-use Rattle.std.proofs.Common.{◌≡◌, ◌==◌, ◌+◌, ◌*◌, ◌<◌, ℕ, Bool, true, false, get_or, refl, ◌∙◌, arith, below_more}
-use Rattle.council_game.specs.Votes.{has}
+use Rattle.std.proofs.Common.{◌≡◌, ◌==◌, ◌<◌, ℕ, Bool, true, false, get_or, refl, arith}
+use Rattle.std.proofs.lemmas.Grind.{common_steps}
 use Rattle.mwc_walk.proofs.Spared.{next-digit}
 use Rattle.mwc_walk.proofs.lane.weightless_of.Goals as goal
 
@@ -12,9 +12,4 @@ pub loop-place-preserved : goal.loop-place-preserved
 loop-place-preserved c =
     let digit = digit-is (get_or c.args.weights.now c.loop-place.place 0 == 0) c.from.result c.from.ensures in
     let next = next-digit c.loop-place.place c.loop-place.mask c.from.result digit.0 c.loop-place.invariant.below in
-    record {
-      below = next.below;
-      done = below_more (λ q. has (c.loop-place.place + 1) q (2 * c.loop-place.mask + c.from.result) ≡
-          (get_or c.args.weights.now q 0 == 0)) _
-          (λ q lt. next.before q lt ∙ c.loop-place.invariant.done q lt) (next.here ∙ digit.1);
-    }
+    grind (arith, common_steps)

@@ -1,4 +1,5 @@
 use Rattle.std.proofs.Common.{refl, arith}
+use Rattle.std.proofs.lemmas.Grind.{common_steps}
 use Rattle.mwc_walk.proofs.Filled.{fill-next}
 use Rattle.mwc_walk.proofs.ahead.Outlook.of.Goals as goal
 
@@ -6,9 +7,7 @@ pub loop-other-init : goal.loop-other-init
 loop-other-init c = record { long = refl; done = λ t none. absurd (omega arith) }
 
 pub loop-other-preserved : goal.loop-other-preserved
-loop-other-preserved c =
-    fill-next c.loop-other.invariant (omega (arith, c.members-members.ensures.votes.few_rules, c.rules-other-end.ensures.votes))
-    (λ p d le. rw c.members-members.ensures.count at (c.new.ensures p d (omega (arith, le, c.members-members.ensures.count))))
+loop-other-preserved c = grind (arith, common_steps, fill-next)
 
 pub returns : goal.returns
 returns c =

@@ -1,5 +1,6 @@
 use Rattle.std.proofs.Common.{◌<◌, length, arith}
 use Rattle.std.proofs.lemmas.Slice.Zip.{AllZip-long}
+use Rattle.std.proofs.lemmas.Grind.{common_steps}
 use Rattle.council_game.specs.Game.{votes_of}
 use Rattle.mwc_walk.specs.Inner.Lanes.{no_lane}
 use Rattle.mwc_walk.proofs.Filled.{fill-next}
@@ -12,12 +13,7 @@ loop-rule-preserved c =
     let count = AllZip-long _ v.rules c.args.lanes.now c.requires.lanes in
     let below : c.loop-rule.rule < length v.rules = omega (arith, count, c.loop-rule-test.true) in
     let lane = lane-of v.members 0 0 v.rules c.args.lanes.now c.requires.lanes c.loop-rule.rule below no_lane in
-    fill-next c.loop-rule.invariant (omega (arith, c.requires.few, c.loop-rule-test.true)) (λ p le.
-    let asked = c.of.ensures p (omega (arith, le, c.requires.members)) in
-    record {
-      most = omega (arith, asked, lane.quota);
-      least = λ d won. let more = c.brought-vetoes.ensures c.loop-rule.rule p d below le won in omega (arith, asked, lane.quota, more);
-    })
+    grind (arith, common_steps, fill-next)
 
 pub returns : goal.returns
 returns c = λ i below.

@@ -1,4 +1,5 @@
-use Rattle.std.proofs.Common.{arith, below_more}
+use Rattle.std.proofs.Common.{arith}
+use Rattle.std.proofs.lemmas.Grind.{common_steps}
 use Rattle.mwc_walk.proofs.Spared.{lane-here}
 use Rattle.mwc_walk.proofs.cursor.Cursor.spares.Goals as goal
 
@@ -10,6 +11,4 @@ returns-then-self-rule-clause-none c = λ _ spare.
 
 pub loop-rule-preserved : goal.loop-rule-preserved
 loop-rule-preserved c =
-    let here = lane-here c.requires.is c.loop-rule.rule c.loop-rule-test.true in
-    below_more _ _ c.loop-rule.invariant
-    (omega (arith, c.if-self-rule.false, here.weights c.args.place (omega (arith, c.requires.place, c.requires.is.members))))
+    let here = lane-here c.requires.is c.loop-rule.rule c.loop-rule-test.true in grind (arith, common_steps)

@@ -1,7 +1,8 @@
-use Rattle.std.proofs.Common.{◌∙◌, ◌<◌, ◌+◌, arith, below_more}
+use Rattle.std.proofs.Common.{◌<◌, ◌+◌, arith, below_more}
 use Rattle.mwc_walk.proofs.intervals.Intervals.with.Goals as goal
 use Rattle.mwc_walk.proofs.intervals.Intervals.with.Goals.{else-without-self-via-then-without-self+else-self-without, then-with-self, else-with-self, else-without-self-via-else-without-self}
 use Rattle.std.proofs.lemmas.Bool.{both_ways, eq-eqb}
+use Rattle.std.proofs.lemmas.Grind.{common_steps}
 
 pub loop-without-preserved-then-self-without : goal.loop-without-preserved-then-self-without
 loop-without-preserved-then-self-without c = record {
@@ -16,13 +17,7 @@ loop-without-preserved-then-self-without c = record {
 pub loop-without-preserved : goal.loop-without-preserved
 loop-without-preserved c =
     let few = c.loop-without.invariant in
-    let below : c.loop-without.with < c.args.self.now.count = elim c.else-without-self.branch [
-      | else-without-self-via-then-without-self+else-self-without w ↦ elim w.if-with-self.branch [
-        | then-with-self w' ↦ absurd (both_ways _ w.if-self-without.false (w'.value-is ∙ eq-eqb _ _ w'.if-with-self.true))
-        | else-with-self w' ↦ omega (arith, w'.if-with-self.false, few.with_few)
-      ]
-      | else-without-self-via-else-without-self w ↦ omega (arith, w.if-without-self.false, c.loop-without-test.true, few.without_few)
-    ] in
+    let below : c.loop-without.with < c.args.self.now.count = grind (arith, common_steps, both_ways, eq-eqb) in
     record {
       few = c.push-else-without-self.ensures.few;
       without_few = c.loop-without.invariant.without_few;

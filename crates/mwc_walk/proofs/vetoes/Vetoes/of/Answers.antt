@@ -1,4 +1,5 @@
 use Rattle.std.proofs.Common.{◌<◌, ◌-◌, ap, arith, get_or, ℕ}
+use Rattle.std.proofs.lemmas.Grind.{common_steps}
 use Rattle.mwc_walk.specs.Inner.Lanes.{no_lane}
 use Rattle.mwc_walk.proofs.Filled.{fill-next}
 use Rattle.mwc_walk.proofs.Coming.{vetoed-fit, split-is}
@@ -6,8 +7,7 @@ use Rattle.mwc_walk.proofs.vetoes.Vetoes.of.Goals as goal
 
 pub loop-place-preserved : goal.loop-place-preserved
 loop-place-preserved c =
-    let room : c.loop-place.place < 40 = omega
-    (arith, c.loop-place-test.true, c.members-members.ensures.count, c.members-members.ensures.votes.few) in
+    let room : c.loop-place.place < 40 = grind (arith, common_steps) in
     record {
       vetoed = fill-next c.loop-place.invariant.vetoed room c.vetoed_weight-part.ensures;
       free = fill-next c.loop-place.invariant.free room
