@@ -122,6 +122,7 @@ impl Halves {
         })
     }
 
+    /// The same, with lists of its own.
     fn new(alloc: Global, weights: &[u64], quota: u64) -> Result<Halves, Memory>
         requires few { length weights.now ≤ MEMBERS }
         requires light { sum weights.now ≤ TOTAL }
