@@ -54,10 +54,9 @@ falls-rest w ws falls a b le lt = falls (suc a) (suc b) (omega arith) (omega ari
 pub place-of : (n c : ℕ) → c < 2 ^ n → 0 < c → (p : ℕ) × (p < n) × (has n p c ≡ true)
 place-of zero c lt pos = absurd (omega arith)
 place-of (suc n) c lt pos = elim (cases_lt c (2 ^ n)) [
-  | inl low ↦ let found = place-of n c low pos in (suc found.0, (let l = found.1 in omega arith), rest-out n found.0 c ∙ found.2)
+  | inl low ↦ let found = place-of n c low pos in (suc found.0, (omega arith), rest-out n found.0 c ∙ found.2)
   | inr high ↦
       let low : ℕ = c - 2 ^ n in
-      let double : 2 ^ suc n ≡ 2 ^ n + 2 ^ n = double-pow n in
       let below : low < 2 ^ n = omega arith in
       let e : 2 ^ n + low ≡ c = omega arith in
       (0, omega arith, ap (has (suc n) 0) (sym e) ∙ first-in n low below)
@@ -118,16 +117,7 @@ module _ (w : ℕ) (ws : List ℕ) (r c : ℕ) (lt : c < 2 ^ length ws) where
       omega (arith, n, weight-with w ws c lt, place-le ws found.0 c found.1 found.2)
 
 pub least-first : (w : ℕ) (ws : List ℕ) (r : ℕ) → 0 < r → r ≤ w → IsLeast (w ∷ ws) r (2 ^ length ws + 0)
-least-first w ws r pos enough = record { met = (let e = whole in omega (arith, e)); needed = needed-first }
-  where
-    whole : weight (w ∷ ws) (2 ^ length ws + 0) ≡ w + 0
-    whole = grind (arith, weight-with w ws 0 (pow_pos (length ws)), weight-zero ws)
-
-    needed-first : (p : ℕ) → p < length (w ∷ ws) → has (length (w ∷ ws)) p (2 ^ length ws + 0) ≡ true
-        → weight (w ∷ ws) (2 ^ length ws + 0) < r + get_or (w ∷ ws) p 0
-    needed-first zero below inside = let e = whole in omega (arith, e)
-    needed-first (suc p) below inside =
-        absurd (both_ways _ (has-none (length ws) p) (sym (rest-in (length ws) p 0 (omega arith)) ∙ inside))
+least-first w ws r pos enough = grind (arith, weight-with, pow_pos, weight-zero, both_ways, has-none, rest-in)
 
 -- ---- the list of them
 pub same_test : (a b : Bool) → (a ≡ true → b ≡ true) → (b ≡ true → a ≡ true) → a ≡ b

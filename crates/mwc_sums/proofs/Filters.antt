@@ -1,5 +1,5 @@
 -- What passes a test.
-use Rattle.std.proofs.Common.{◌≡◌, ◌∙◌, ◌&&◌, Bool, true, false, cond, List, [], ◌∷◌, get_or, filter, map, refl, All}
+use Rattle.std.proofs.Common.{◌≡◌, ◌&&◌, Bool, true, false, cond, List, [], ◌∷◌, filter, map, refl, All}
 use Rattle.std.proofs.Common.{arith}
 use Rattle.std.proofs.lemmas.Bool.Decides.{nat_tests}
 use Rattle.std.proofs.lemmas.List.Elements.{All-head, All-tail}
@@ -24,8 +24,4 @@ filter-map p f (x ∷ xs) = grind (arith, nat_tests, filter-map p f xs)
 
 -- of what passes one test, what passes another, where this passes the first
 pub filter-within : {X : Type 0} (p q : X → Bool) (xs : List X) → All (λ y. q y ≡ true → p y ≡ true) xs → filter q (filter p xs) ≡ filter q xs
-filter-within p q xs all =
-    filter-both p q xs ∙ filter-same (λ x. p x && q x) q xs (λ k d lt. within (p (get_or xs k d)) (q (get_or xs k d)) (all k d lt))
-  where
-    within : (b d : Bool) → (d ≡ true → b ≡ true) → (b && d) ≡ d
-    within b d h = grind (arith, nat_tests)
+filter-within p q xs all = grind (arith, filter-both, filter-same, nat_tests)

@@ -41,56 +41,17 @@ size-without n p c lt inside =
 -- a condition, and so many members
 pub by-heads : (n : ℕ) (won : ℕ → Bool) (heads c : ℕ) → IsMin n (λ x. won x && leb heads (size n x)) c
     ↔ (((size n c ≡ heads) × (won c ≡ true)) ⊎ ((heads < size n c) × IsMin n won c))
-by-heads n won heads c = (
-  λ min. elim (cases_lt heads (size n c)) [
-    | inl less ↦ inr (
-      less,
-      record {
-        wins = let w = min.wins in grind (arith, nat_tests);
-        needs = λ p lt inside. let m = min.needs p lt inside in let one = size-without n p c lt inside in grind (arith, nat_tests);
-      },
-    )
-    | inr most ↦ let w = min.wins in inl (grind (arith, nat_tests), grind (arith, nat_tests))
-  ],
-  λ h. elim h [
-    | inl (same, met) ↦ record {
-      wins = grind (arith, nat_tests);
-      needs = λ p lt inside. let one = size-without n p c lt inside in grind (arith, nat_tests);
-    }
-    | inr (less, min) ↦ record {
-      wins = let w = min.wins in grind (arith, nat_tests);
-      needs = λ p lt inside. let m = min.needs p lt inside in grind (arith, nat_tests);
-    }
-  ],
-)
+by-heads n won heads c = grind (arith, cases_lt, nat_tests, size-without)
 
 -- ---- by weights
 pub least-weights : (ws : List ℕ) (r c : ℕ) → IsMin (length ws) (λ x. leb r (weight ws x)) c ↔ IsLeast ws r c
 unfolding has without
-least-weights ws r c = (
-  λ min. record {
-    met = let w = min.wins in grind (arith, nat_tests);
-    needed = λ p lt inside. let m = min.needs p lt inside in let less = weight-without ws p c lt in grind (arith, nat_tests);
-  },
-  λ least. record {
-    wins = let w = least.met in grind (arith, nat_tests);
-    needs = λ p lt inside. let need = least.needed p lt inside in let less = weight-without ws p c lt in grind (arith, nat_tests);
-  },
-)
+least-weights ws r c = grind (arith, nat_tests, weight-without)
 
 pub met-min : (ws : List ℕ) (heads q c : ℕ) → IsMin (length ws) (λ x. leb q (weight ws x) && leb heads (size (length ws) x)) c ↔ AreMet ws heads q 0 c
 met-min ws heads q c =
     let parts = by-heads (length ws) (λ x. leb q (weight ws x)) heads c in
-    let least = least-weights ws q c in (
-      λ min. elim (parts.0 min) [
-        | inl (same, met) ↦ inl (omega (arith, same), leb-true _ _ met)
-        | inr (less, alone) ↦ inr (omega (arith, less), least.0 alone)
-      ],
-      λ h. parts.1 (elim h [
-        | inl (same, met) ↦ inl (omega (arith, same), le-leb _ _ met)
-        | inr (less, alone) ↦ inr (omega (arith, less), least.1 alone)
-      ]),
-    )
+    let least = least-weights ws q c in grind (arith, leb-true, le-leb)
 
 -- ---- in a game of two rules
 two-wins : (v : Votes) (heads x : ℕ) → IsVotes v → length v.rules ≡ 2 → AsksForHeads v.members heads (rule_at v.rules 1)
@@ -105,11 +66,8 @@ two-wins v heads x votes two asks =
     by_rules (r ∷ []) two asks full = absurd (omega (arith, two))
     by_rules (r ∷ s ∷ t ∷ rs) two asks full = absurd (omega (arith, two))
     by_rules (r ∷ s ∷ []) two asks full =
-        let weighs : weight s.weights x ≡ size v.members x * asks.each =
-        alike-weight s.weights asks.each x (λ p lt. asks.same p (omega (arith, lt, full))) ∙ ap (λ (n : ℕ). size n x * asks.each) full in
+        let weighs : weight s.weights x ≡ size v.members x * asks.each = grind (arith, alike-weight) in
         let enough = asks.enough (size v.members x) in
-        let a = enough.0 in
-        let b = enough.1 in
         grind (arith, nat_tests)
 
 pub heads-law : (v : Votes) (heads c : ℕ) → IsVotes v → length v.rules ≡ 2 → AsksForHeads v.members heads (rule_at v.rules 1)
@@ -146,15 +104,11 @@ minimal-completing v votes one = by_rules v.rules refl one
     by_rules (r ∷ s ∷ rs) is one = absurd (omega (arith, one))
     by_rules (r ∷ []) is one =
         let rule : IsRule v.members r = (subst (λ (l : List RuleView). AllByRecursion (IsRule v.members) l) is votes.rules).0 in
-        let ws : List ℕ = r.weights in
-        let same : wins v.rules ≡ (λ x. leb r.quota (weight r.weights x) && leb 0 (size (length r.weights) x)) =
-        λ k x. (ap (λ (rs : List RuleView). wins rs x) is ∙ alone (leb r.quota (weight r.weights x)) (size (length r.weights) x)) k in
         let led : (c : ℕ) → c < 2 ^ length r.weights → minimal v c ≡ leads r.weights 0 r.quota 0 c = λ c lt.
         (let lead = leads-are r.weights 0 r.quota 0 c (subst IsRanked is votes.ranked) (let some = rule.some in omega (arith, some)) lt in
         let met = met-min r.weights 0 r.quota c in
         let least : (minimal v c ≡ true) ↔ IsMin (length r.weights) (λ x. leb r.quota (weight r.weights x) && leb 0 (size (length r.weights) x)) c =
-        subst (λ (n : ℕ). (minimal v c ≡ true) ↔ IsMin n (λ x. leb r.quota (weight r.weights x) && leb 0 (size (length r.weights) x)) c) (sym rule.full)
-        (subst (λ (w : ℕ → Bool). (minimal v c ≡ true) ↔ IsMin v.members w c) same (minimal-min v c)) in
+        grind (arith, minimal-min) in
         same_test (minimal v c) (leads r.weights 0 r.quota 0 c) (λ h. lead.1 (met.0 (least.0 h))) (λ h. least.1 (met.1 (lead.0 h)))) in
         ap (λ (n : ℕ). filter (minimal v) (down (2 ^ n))) (sym rule.full)
         ∙ filter-same (minimal v) (leads r.weights 0 r.quota 0) (down (2 ^ length r.weights))

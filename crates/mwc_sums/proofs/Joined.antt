@@ -1,5 +1,5 @@
 -- The tallies of a game whose rules are those of two others.
-use Rattle.std.proofs.Common.{◌≡◌, ◌∙◌, ◌==◌, ◌&&◌, ℕ, ◌+◌, ◌-◌, ◌*◌, ◌^◌, ◌<◌, ◌≤◌, Bool, List}
+use Rattle.std.proofs.Common.{◌≡◌, ◌∙◌, ◌==◌, ◌&&◌, ℕ, ◌+◌, ◌^◌, ◌<◌, ◌≤◌, Bool, List}
 use Rattle.std.proofs.Common.{length, get_or, filter, sym, ap, arith}
 use Rattle.std.specs.List.{sum_by, range_with_len}
 use Rattle.std.proofs.lemmas.Bool.{ne_eqb, and_right}
@@ -19,9 +19,7 @@ pub sum-more : (f : ℕ → ℕ) (j n : ℕ) → j < n → sum_by f (range_with_
 sum-more f j n lt = omega (arith, sum_by-range-more f j, sum_by-range-le f (j + 1) n (omega (arith, lt)))
 
 paired-same : (f h k l : ℕ → ℕ) (s : ℕ) → ((j : ℕ) → j ≤ s → f j ≡ h j) → ((j : ℕ) → j ≤ s → k j ≡ l j) → paired f k s ≡ paired h l s
-paired-same f h k l s own other =
-    sum-range (λ j. f j * k (s - j)) (λ j. h j * l (s - j)) 0 (s + 1)
-    (λ j _ lt. (λ i. own j (omega (arith, lt)) i * other (s - j) (omega arith) i))
+paired-same f h k l s own other = grind (arith, sum-range)
 
 -- no coalition has more members than there are
 pub none-of_size : (g : GameView) (list : List ℕ) (s : ℕ) → length g.names < s → 0 ≡ count_of_size g s list

@@ -31,22 +31,12 @@ turned x y = grind (arith, nat_tests)
 
 pub flipped-joint : {n : ℕ} {own other : ℕ → Bool} {won_g won_a won_b : (ℕ → Bool) → Bool} → IsJoint n own other won_g won_a won_b
     → IsJoint n other own won_g won_b won_a
-flipped-joint {own = own} {other = other} {won_a = won_a} {won_b = won_b} joint = record {
-  both = λ f. joint.both f ∙ both-turned (won_a f) (won_b f);
-  sees_own = joint.sees_other;
-  sees_other = joint.sees_own;
-  apart = λ i lt seen. false_from_ne_true (own i) (λ e. both_ways (other i) (joint.apart i lt e) seen);
-}
-  where
-    both-turned : (x y : Bool) → (x && y) ≡ (y && x)
-    both-turned x y = grind (arith, nat_tests)
+flipped-joint {own = own} {other = other} {won_a = won_a} {won_b = won_b} joint = grind (arith, false_from_ne_true, both_ways, nat_tests)
 
 -- no member of a least set is unseen
 pub least-seen : {n : ℕ} (side : ℕ → Bool) {won : (ℕ → Bool) → Bool} {f : ℕ → Bool} → Sees n side won → IsLeast n won f
     → (i : ℕ) → i < n → f i ≡ true → side i ≡ true
-least-seen side {won = won} {f = f} sees least i lt inside = true_from_ne_false (side i) (λ unseen.
-    both_ways (won (less f i)) (least.needs i lt inside)
-    (sees (less f i) f (λ j lj seen. less-same f i j (λ e. both_ways (side j) (ap side e ∙ unseen) seen)) ∙ least.wins))
+least-seen side {won = won} {f = f} sees least i lt inside = grind (arith, true_from_ne_false, both_ways, less, less-same)
 
 module _ {n : ℕ} {own other : ℕ → Bool} {won_g won_a won_b : (ℕ → Bool) → Bool} (joint : IsJoint n own other won_g won_a won_b) where
   -- a least set is, of each side, a least set

@@ -38,10 +38,7 @@ behind w ws heads r a c = cond (leb r w) (filled heads (length ws) (a + 1) c) (l
 
 leads-in : (w : ℕ) (ws : List ℕ) (heads r a c : ℕ) → leads (w ∷ ws) heads r a (2 ^ length ws + c) ≡ behind w ws heads r a c
 unfolding leads
-leads-in w ws heads r a c =
-    let same : 2 ^ length ws + c - 2 ^ length ws ≡ c = omega arith in
-    cond-false (ltb (2 ^ length ws + c) (2 ^ length ws)) _ _ (le-ltb (2 ^ length ws + c) (2 ^ length ws) (omega arith))
-    ∙ ap (λ (x : ℕ). cond (leb r w) (filled heads (length ws) (a + 1) x) (leads ws heads (r - w) (a + 1) x)) same
+leads-in w ws heads r a c = grind (arith, cond-false, le-ltb)
 
 -- ---- coalitions of n places that have none of place p; all, where p is no place
 abbrev pub lacks : ℕ → ℕ → ℕ → Bool
@@ -54,10 +51,7 @@ besides (suc n) zero = n
 besides (suc n) (suc p) = suc (besides n p)
 
 lacks-more : (n p c d : ℕ) → (p < n → has (suc n) (suc p) d ≡ has n p c) → lacks (suc n) (suc p) d ≡ lacks n p c
-lacks-more n p c d same = elim (cases_lt p n) [
-  | inl low ↦ (λ i. not (lt-ltb (suc p) (suc n) (omega (arith, low)) i && same low i)) ∙ sym (λ i. not (lt-ltb p n low i && has n p c))
-  | inr high ↦ (λ i. not (le-ltb (suc p) (suc n) (omega (arith, high)) i && has (suc n) (suc p) d)) ∙ sym (λ i. not (le-ltb p n high i && has n p c))
-]
+lacks-more n p c d same = grind (arith, cases_lt, lt-ltb, le-ltb)
 
 lacks-in : (n p c : ℕ) → c < 2 ^ n → lacks (suc n) (suc p) (2 ^ n + c) ≡ lacks n p c
 lacks-in n p c lt = lacks-more n p c (2 ^ n + c) (λ low. rest-in n p c low)
@@ -333,8 +327,7 @@ unfolding down
 only-none zero test pos passes fails = absurd (omega arith)
 only-none (suc zero) test pos passes fails = cond-true (test 0) (0 ∷ []) [] passes
 only-none (suc (suc n)) test pos passes fails =
-    cond-false (test (suc n)) (suc n ∷ filter test (down (suc n))) (filter test (down (suc n))) (fails (suc n) (omega arith) (omega arith))
-    ∙ only-none (suc n) test (omega arith) passes (λ c some lt. fails c some (omega arith))
+    grind (arith, only-none (suc n) test (omega arith) passes (λ c some lt. fails c some (omega arith)), cond-false)
 
 pub leads-list : (ws : List ℕ) (r a : ℕ) → filter (leads ws 0 r a) (down (2 ^ length ws)) ≡ completing ws r
 unfolding leads completing down

@@ -18,8 +18,7 @@ count-both m t xs = ap (λ (l : List ℕ). length l) (filter-both m t xs) ∙ le
 pub sum-down : (f h : ℕ → ℕ) (n : ℕ) → ((c : ℕ) → c < n → f c ≡ h c) → sum_by f (down n) ≡ sum_by h (down n)
 unfolding down
 sum-down f h zero same = refl
-sum-down f h (suc n) same =
-    omega (arith, sum_by-cons f n (down n), sum_by-cons h n (down n), same n (omega arith), sum-down f h n (λ c lt. same c (omega (arith, lt))))
+sum-down f h (suc n) same = grind (arith, sum-down f h n (λ c lt. same c (omega (arith, lt))), sum_by-cons)
 
 -- one number alone counts
 one-of : (f : ℕ → ℕ) (u n : ℕ) → u < n → sum_by (λ x. cond (x == u) (f x) 0) (down n) ≡ f u

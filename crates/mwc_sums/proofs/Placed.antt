@@ -45,9 +45,7 @@ ranked-at ranks r p lt =
 -- ---- who meets rules
 pub weighs-same : (n : ℕ) (r : RuleView) (f h : ℕ → Bool)
     → ((i : ℕ) → i < n → cond (f i) 1 0 * get_or r.weights i 0 ≡ cond (h i) 1 0 * get_or r.weights i 0) → weighs n r f ≡ weighs n r h
-weighs-same n r f h same =
-    sum-range (λ i. cond (f i) 1 0 * get_or r.weights i 0) (λ i. cond (h i) 1 0 * get_or r.weights i 0) 0 n
-    (λ i _ lt. same i (omega (arith, lt)))
+weighs-same n r f h same = grind (arith, sum-range)
 
 pub met-looks : (n : ℕ) (rs : List RuleView) → LooksAt n (met n rs)
 met-looks n [] f h same = refl
@@ -56,10 +54,7 @@ met-looks n (r ∷ rs) f h same =
     (λ i lt. ap (λ (b : Bool). cond b 1 0 * get_or r.weights i 0) (same i lt)) k) && met-looks n rs f h same k)
 
 pub minimal-min : (v : Votes) (c : ℕ) → (minimal v c ≡ true) ↔ IsMin v.members (wins v.rules) c
-minimal-min v c = (
-  λ min. (let parts = (needs-each-member v c).0 min in record { wins = parts.0; needs = parts.1 }),
-  λ min. (needs-each-member v c).1 (min.wins, min.needs),
-)
+minimal-min v c = grind (arith, needs-each-member)
 
 -- ---- games
 module _ {g : GameView} (is : IsGame g) where

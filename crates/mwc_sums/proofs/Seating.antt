@@ -1,7 +1,6 @@
 -- Coalitions of the first places of a ranking, and the sets of members that they hold.
 use Rattle.std.proofs.Common.{◌≡◌, ◌∙◌, ◌↔◌, ◌==◌, ◌&&◌, not, ℕ, zero, suc, ◌+◌, ◌-◌, ◌*◌, ◌/◌, ◌%◌, ◌^◌, ◌<◌, ◌≤◌, Bool, true, false, cond, eqb, ltb}
 use Rattle.std.proofs.Common.{List, get_or, sym, ap, refl, arith, inl, inr}
-use native.Mathlib.Numerals.{unary_clauses}
 use Rattle.std.specs.List.{sum_by, range_with_len}
 use Rattle.std.proofs.lemmas.Bool.{cases_lt, cases_eq, and_parts, le-ltb, ltb-true}
 use Rattle.std.proofs.lemmas.List.Sums.{length-filter}
@@ -27,12 +26,7 @@ mask_of test (suc n) = 2 * mask_of test n + one_if (test n)
 mask-below : (test : ℕ → Bool) (n : ℕ) → mask_of test n < 2 ^ n
 unfolding mask_of
 mask-below test zero = omega arith
-mask-below test (suc n) =
-    let two : 2 ^ suc n ≡ 2 ^ n + 2 ^ n = simp unary_clauses (omega arith) in
-    omega (arith, mask-below test n, two, bit (test n))
-  where
-    bit : (b : Bool) → one_if b < 2
-    bit b = grind (arith, nat_tests)
+mask-below test (suc n) = grind (arith, mask-below test n, nat_tests)
 
 mask-has : (test : ℕ → Bool) (n p : ℕ) → p < n → has n p (mask_of test n) ≡ test p
 unfolding mask_of has
@@ -84,10 +78,7 @@ LooksAt n won = (f h : ℕ → Bool) → ((i : ℕ) → i < n → f i ≡ h i) �
 
 pub least-same : (n : ℕ) (won : (ℕ → Bool) → Bool) (f h : ℕ → Bool) → LooksAt n won → ((i : ℕ) → i < n → f i ≡ h i) → IsLeast n won f
     → IsLeast n won h
-least-same n won f h looks same least = record {
-  wins = sym (looks f h same) ∙ least.wins;
-  needs = λ i lt inside. sym (looks (less f i) (less h i) (λ j lj. less-alike f h i j (same j lj))) ∙ least.needs i lt (same i lt ∙ inside);
-}
+least-same n won f h looks same least = grind (arith, less-alike)
 
 -- ---- n members, of whom the first m by rank have a place
 pub record IsSeating (n m : ℕ) (ranks : List ℕ) : Type 0 where

@@ -28,9 +28,9 @@ share-at n i a b lt one other =
 share-member : (n : ℕ) (a b : RuleView) → share n a b ≡ true
     → (i : ℕ) × (i < n) × (0 < get_or a.weights i 0) × (0 < get_or b.weights i 0)
 share-member n a b they = elim (missing (λ i. ltb 0 (get_or a.weights i 0) && ltb 0 (get_or b.weights i 0)) (λ i. false) n) [
-  | inl found ↦ let passes = found.2 in (found.0, found.1, grind (arith, nat_tests), grind (arith, nat_tests))
+  | inl found ↦ (found.0, found.1, grind (arith, nat_tests), grind (arith, nat_tests))
   | inr none ↦ absurd (let out = any-none (λ i. ltb 0 (get_or a.weights i 0) && ltb 0 (get_or b.weights i 0)) n
-      (λ i lt. let h = none i lt in grind (arith, nat_tests)) in grind (arith, nat_tests))
+      (λ i lt. grind (arith, nat_tests)) in grind (arith, nat_tests))
 ]
 
 share-turned : (n : ℕ) (a b : RuleView) → share n a b ≡ true → share n b a ≡ true
@@ -40,7 +40,7 @@ share-self : (n : ℕ) (r : RuleView) → IsFair n r → share n r r ≡ true
 share-self n r fair = elim (missing (λ i. ltb 0 (get_or r.weights i 0)) (λ i. false) n) [
   | inl found ↦ let some = ltb-true 0 _ found.2 in share-at n found.0 r r found.1 some some
   | inr none ↦ absurd (
-      let total = alike-sum r.weights 0 (λ p lt. let full = fair.full in let h = none p in grind (arith, nat_tests)) in
+      let total = alike-sum r.weights 0 (λ p lt. grind (arith, nat_tests)) in
       grind (arith, good-met r fair.quota, good-some r fair.quota, total))
 ]
 

@@ -14,8 +14,7 @@ any-at t n i lt passes =
     list_any_at t (range_with_len 0 n) i 0 (omega (arith, long, lt)) (ap t (places-at n i 0 lt) ∙ passes)
 
 pub any-none : (t : ℕ → Bool) (n : ℕ) → ((i : ℕ) → i < n → t i ≡ false) → list_any t (range_with_len 0 n) ≡ false
-any-none t n none = list_any_none t (range_with_len 0 n) (λ k d below.
-    (let lt : k < n = (let long = length-range_with_len 0 n in omega (arith, long, below)) in ap t (places-at n k d lt) ∙ none k lt))
+any-none t n none = grind (arith, list_any_none, length-range_with_len, places-at)
 
 pub all-lost : (t : ℕ → Bool) (n i : ℕ) → i < n → t i ≡ false → list_all t (range_with_len 0 n) ≡ false
 all-lost t n i lt fails =
@@ -23,8 +22,7 @@ all-lost t n i lt fails =
     list_all_at t (range_with_len 0 n) i 0 (omega (arith, long, lt)) (ap t (places-at n i 0 lt) ∙ fails)
 
 pub all-each : (t : ℕ → Bool) (n : ℕ) → ((i : ℕ) → i < n → t i ≡ true) → list_all t (range_with_len 0 n) ≡ true
-all-each t n each = list_all-from_AllPass t (range_with_len 0 n) (λ k d below.
-    (let lt : k < n = (let long = length-range_with_len 0 n in omega (arith, long, below)) in ap t (places-at n k d lt) ∙ each k lt))
+all-each t n each = grind (arith, list_all-from_AllPass, length-range_with_len, places-at)
 
 pub all-at : (t : ℕ → Bool) (n i : ℕ) → i < n → list_all t (range_with_len 0 n) ≡ true → t i ≡ true
 all-at t n i lt all =

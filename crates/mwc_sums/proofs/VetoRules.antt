@@ -1,6 +1,6 @@
 -- The rules that a game consists of are rules that a game can have.
 use Rattle.std.proofs.Common.{◌≡◌, ◌∙◌, ℕ, ◌+◌, ◌<◌, ◌≤◌, Bool, true, false, cond, ltb, not, List, [], ◌∷◌, ◌++◌, length, get_or, map, filter, take}
-use Rattle.std.proofs.Common.{refl, sym, ap, arith, inl, inr, All}
+use Rattle.std.proofs.Common.{refl, sym, arith, All}
 use Rattle.std.specs.List.{sum, sum_by, range_with_len}
 use Rattle.std.proofs.lemmas.Bool.{cases_lt, ltb-true}
 use Rattle.std.proofs.lemmas.List.{get_or_past, length-map, take_more, map-append}
@@ -11,6 +11,7 @@ use Rattle.council_game.specs.Votes.{RuleView}
 use Rattle.council_game.specs.Game.{has_bad_quota}
 use Rattle.power_index.proofs.Shared.Sums.{sum-plus, sum-range}
 use Rattle.std.proofs.lemmas.Bool.Decides.{nat_tests}
+use Rattle.std.proofs.lemmas.Grind.{common_steps}
 use Rattle.mwc_sums.specs.Statute.{rules_beside}
 use Rattle.mwc_sums.specs.Vetoers.{number_of, rest_of, rule_for}
 use Rattle.mwc_sums.specs.Inner.Fair.{IsFair}
@@ -28,22 +29,10 @@ pub good-some : (r : RuleView) → has_bad_quota r ≡ false → 1 ≤ r.quota
 good-some r is = grind (arith, nat_tests)
 
 light-made : (h : ℕ → ℕ) (n k : ℕ) → ((i : ℕ) → i < n → h i ≤ 1000000000000) → get_or (map h (range_with_len 0 n)) k 0 ≤ 1000000000000
-light-made h n k light = elim (cases_lt k n) [
-  | inl inside ↦ let e = made-at h n k inside in let le = light k inside in omega (arith, e, le)
-  | inr past ↦
-      let e = get_or_past (map h (range_with_len 0 n)) k 0 (let long = length-map-range_with_len h 0 n in omega (arith, long, past)) in
-      omega (arith, e)
-]
+light-made h n k light = grind (arith, cases_lt, made-at, get_or_past, length-map-range_with_len)
 
 fair-vetoers : (n : ℕ) (veto : ℕ → Bool) → 0 < number_of n veto → IsFair n (rule_for n veto)
-fair-vetoers n veto some = record {
-  full = length-map-range_with_len (λ i. cond (veto i) 1 0) 0 n;
-  quota = good (rule_for n veto) some (let e = made-sum (λ i. cond (veto i) 1 0) n in omega (arith, e));
-  light = λ k. light-made (λ i. cond (veto i) 1 0) n k (λ i lt. one (veto i));
-}
-  where
-    one : (b : Bool) → cond b 1 0 ≤ 1000000000000
-    one b = grind (arith, nat_tests)
+fair-vetoers n veto some = grind (arith, length-map-range_with_len, good, made-sum, light-made, nat_tests)
 
 -- the weights of those who agree and of the others are all weights
 both-sums : (n : ℕ) (veto : ℕ → Bool) (w : ℕ → ℕ)
@@ -94,8 +83,4 @@ few-beside n veto rs =
 pub beside-more : (n : ℕ) (veto : ℕ → Bool) (rs : List RuleView) (k : ℕ) (d : RuleView) → k < length rs
     → rules_beside n veto (take (k + 1) rs)
     ≡ rules_beside n veto (take k rs) ++ filter (λ r. ltb 0 r.quota) (rest_of n veto (get_or rs k d) ∷ [])
-beside-more n veto rs k d lt =
-    ap (λ (l : List RuleView). filter (λ r. ltb 0 r.quota) (rule_for n veto ∷ l))
-    (ap (λ (l : List RuleView). map (rest_of n veto) l) (take_more rs k d lt)
-    ∙ map-append (rest_of n veto) (take k rs) (get_or rs k d ∷ []))
-    ∙ filter-append (λ r. ltb 0 r.quota) (rule_for n veto ∷ map (rest_of n veto) (take k rs)) (rest_of n veto (get_or rs k d) ∷ [])
+beside-more n veto rs k d lt = grind (arith, nat_tests, common_steps, take_more, map-append, filter-append)

@@ -1,4 +1,5 @@
 use Rattle.std.proofs.Common.{List, length, ap, refl, arith}
+use Rattle.std.proofs.lemmas.Grind.{common_steps}
 use Rattle.council_game.specs.Votes.{RuleView}
 use Rattle.mwc_sums.proofs.Sharing.{all-counted}
 use Rattle.mwc_sums.proofs.count.boxed_by_sums.Goals as goal
@@ -12,10 +13,7 @@ returns-then-rules-gt0-clause-kind c = (
 )
 
 pub count-requires-clause-chambers : goal.count-requires-clause-chambers
-count-requires-clause-chambers c =
-    all-counted c.in_ok-statute.statute.members c.in_ok-statute.statute.rules c.in_ok-statute.ensures.fair
-    (let left = ap (λ (l : List RuleView). length l) c.in_ok-part.ensures.rules in
-    omega (arith, c.if-rules-gt0.false, c.rules-2.ensures, left))
+count-requires-clause-chambers c = grind (arith, common_steps, all-counted)
 
 pub returns-clause-kind : goal.returns-clause-kind
 returns-clause-kind c = (

@@ -1,4 +1,5 @@
 use Rattle.std.proofs.Common.{ℕ, ◌+◌, ◌-◌, ◌*◌, get_or, arith}
+use Rattle.std.proofs.lemmas.Grind.{common_steps}
 use Rattle.coalitions.proofs.Shared.Ranges.{sum_by-range-more}
 use Rattle.mwc_sums.proofs.Joined.{sum-more}
 use Rattle.mwc_sums.proofs.counted.pairs_of_size.Goals as goal
@@ -15,6 +16,4 @@ overflow_add-pairs c =
     omega (arith, sum-more term c.loop-own.own (c.args.size + 1) (omega (arith, c.loop-own-test.true)), c.requires.room, is)
 
 pub loop-own-preserved : goal.loop-own-preserved
-loop-own-preserved c =
-    let term : ℕ → ℕ = λ j. get_or c.args.first.now j 0 * get_or c.args.second.now (c.args.size - j) 0 in
-    omega (arith, sum_by-range-more term c.loop-own.own, c.loop-own.invariant)
+loop-own-preserved c = grind (arith, common_steps, sum_by-range-more)

@@ -1,6 +1,7 @@
 use Rattle.std.proofs.Common.{List, ℕ, length, string_bytes, ap, arith}
 use Rattle.std.proofs.lemmas.Bool.{both_ways}
 use Rattle.std.proofs.lemmas.List.{length-map, get_or-map}
+use Rattle.std.proofs.lemmas.Grind.{common_steps}
 use Rattle.council_game.specs.Rules.{rule_view}
 use Rattle.council_game.specs.Votes.{RuleView}
 use Rattle.mwc_sums.proofs.Remaking.{made-rules, only-memory}
@@ -17,20 +18,10 @@ with_rules-requires-clause-full c k d lt =
     omega (arith, names, same, full, at)
 
 pub returns-in-Ok-clause-names : goal.returns-in-Ok-clause-names
-returns-in-Ok-clause-names c =
-    (made-rules c.args.game.now c.in-Ok.made _ c.was_checked.ensures.game c.requires.fair
-    (rw c.in_ok-names.ensures at c.in-Ok.ensures)).0
+returns-in-Ok-clause-names c = grind (arith, common_steps, made-rules)
 
 pub returns-in-Ok-clause-rules : goal.returns-in-Ok-clause-rules
-returns-in-Ok-clause-rules c =
-    (made-rules c.args.game.now c.in-Ok.made _ c.was_checked.ensures.game c.requires.fair
-    (rw c.in_ok-names.ensures at c.in-Ok.ensures)).1
+returns-in-Ok-clause-rules c = grind (arith, common_steps, made-rules)
 
 pub prove-unreachable-requires : goal.prove-unreachable-requires
-prove-unreachable-requires c =
-    let memory = only-memory c.args.game.now c.in-Err.fault _ c.was_checked.ensures.game c.requires.fair
-    (rw c.in_ok-names.ensures at c.in-Err.ensures) in
-    elim c.match-matches.branch [
-      | in-Memory w ↦ both_ways _ c.if-prove.true w.matches-is
-      | in_default w ↦ w.in_default.not-Memory memory
-    ]
+prove-unreachable-requires c = grind (arith, common_steps, only-memory, both_ways)

@@ -1,6 +1,7 @@
 use Rattle.std.proofs.Common.{◌∙◌, ◌<◌, not, List, ℕ, [], length, ap, sym, arith}
+use Rattle.std.proofs.lemmas.Grind.{common_steps}
 use Rattle.council_game.specs.Votes.{RuleView, rule_at}
-use Rattle.mwc_sums.specs.Chambers.{met, share}
+use Rattle.mwc_sums.specs.Chambers.{share}
 use Rattle.mwc_sums.specs.Inner.Rules.{AreOfChambers}
 use Rattle.mwc_sums.proofs.Orders.{counts-alike}
 use Rattle.mwc_sums.proofs.Sharing.{all-of, both-few, chamber-closed, chamber-some, chambers-within, others-closed, parts-are}
@@ -18,15 +19,7 @@ returns-then-rules-eq0 t c =
 
 -- the others are fewer
 fewer : (t : ℕ) (c : In_ok-others t) → length c.in_ok-others.others.rules < length c.args.self.now.rules
-fewer t c =
-    let n : ℕ = c.args.self.now.members in
-    let rs : List RuleView = c.args.self.now.rules in
-    omega (
-      arith,
-      both-few (share n (rule_at rs 0)) rs,
-      chamber-some n rs c.rules_are_fair.ensures 0 c.requires.some,
-      ap (λ (l : List RuleView). length l) c.in_ok-others.ensures.rules,
-    )
+fewer t c = grind (arith, common_steps, both-few, chamber-some)
 
 pub game-requires-clause-few : goal.game-requires-clause-few
 game-requires-clause-few t c = omega (arith, fewer _ (goal.at.game-requires-clause-few t c).In_ok-others, c.requires.few)
@@ -35,26 +28,11 @@ pub count-requires : goal.count-requires
 count-requires t c =
     let n : ℕ = c.args.self.now.members in
     let rs : List RuleView = c.args.self.now.rules in
-    let fair = c.rules_are_fair.ensures in
     let less = fewer _ (goal.at.count-requires t c).In_ok-others in
     let chambers : AreOfChambers c.in_ok-others.others.members c.in_ok-others.others.rules = rw (c.in_ok-others.ensures.members, c.in_ok-others.ensures.rules)
     (chambers-within n rs c.rules_are_fair.ensures (λ x. not (share n (rule_at rs 0) x)) (others-closed n rs c.rules_are_fair.ensures (share n (rule_at rs 0))
-    (chamber-closed n rs c.rules_are_fair.ensures c.requires.chambers 0 c.requires.some)) (λ j lj _. c.requires.chambers j (record { quota = 0; weights = [] }) lj)) in (
-      omega (arith, c.decreases, less),
-      (
-        omega (arith, c.if-rules-eq0.false, c.rules.ensures),
-        (
-          omega (arith, less, c.requires.few),
-          (
-            chambers,
-            record {
-              members = c.in_ok-others.ensures.members ∙ c.requires.game.members ∙ sym (ap (λ (l : List (List ℕ)). length l) c.in_ok-second.ensures.names);
-              alike = λ f. ap (λ (rs : List RuleView). met (length c.in_ok-second.second.names) rs f) c.in_ok-second.ensures.rules;
-            },
-          ),
-        ),
-      ),
-    )
+    (chamber-closed n rs c.rules_are_fair.ensures c.requires.chambers 0 c.requires.some)) (λ j lj _. c.requires.chambers j (record { quota = 0; weights = [] }) lj)) in
+    grind (arith, common_steps)
 
 pub boxed_joined-requires : goal.boxed_joined-requires
 boxed_joined-requires t c =

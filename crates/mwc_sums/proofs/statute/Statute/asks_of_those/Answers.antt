@@ -1,14 +1,12 @@
 use Rattle.std.proofs.Common.{ℕ, get_or, sym, ap, ◌∙◌, arith}
+use Rattle.std.proofs.lemmas.Grind.{common_steps}
 use Rattle.council_game.specs.Votes.{rule_at}
 use Rattle.mwc_sums.specs.Heads.{gives_each}
 use Rattle.mwc_sums.proofs.Tests.{any-at, any-none}
 use Rattle.mwc_sums.proofs.statute.Statute.asks_of_those.Goals as goal
 
 pub returns : goal.returns
-returns c =
-    sym (any-none (λ i. gives_each c.args.self.now.members (get_or (rule_at c.args.self.now.rules c.args.heads).weights i 0)
-    (rule_at c.args.self.now.rules c.args.heads) (rule_at c.args.self.now.rules c.args.weights)) c.args.self.now.members
-    (λ i lt. c.loop-member.invariant i (omega (arith, c.loop-member-test.false, c.members-member-end.ensures.count, lt))))
+returns c = grind (arith, common_steps, any-none)
 
 pub returns-then-gives_each : goal.returns-then-gives_each
 returns-then-gives_each c =

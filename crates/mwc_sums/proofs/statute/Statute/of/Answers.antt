@@ -1,3 +1,5 @@
+use Rattle.std.proofs.lemmas.Grind.{common_steps}
+use Rattle.std.proofs.Common.{arith}
 use Rattle.mwc_sums.proofs.Statutes.{statute-are, statute-fair, statute-few, statute-some}
 use Rattle.mwc_sums.proofs.statute.Statute.of.Goals as goal
 
@@ -16,5 +18,4 @@ returns-clause-fair c =
     rw (c.members-members.ensures.count, c.in_ok-rules.ensures) (statute-fair c.args.game.now c.members-members.ensures.game)
 
 pub returns-clause-game : goal.returns-clause-game
-returns-clause-game c =
-    rw (c.members-members.ensures.count, c.in_ok-rules.ensures) (statute-are c.args.game.now c.members-members.ensures.game)
+returns-clause-game c = grind (arith, common_steps, statute-are)
