@@ -3,7 +3,7 @@ use Rattle.std.specs.Prelude.{◌≡◌, ℕ, ◌<◌, ◌≤◌, Bool, true, fa
 use Rattle.std.specs.List.{AllZip}
 use Rattle.std.proofs.Common.{get_or, append_assoc, ap, subst, arith, sym, ◌∙◌}
 use Rattle.std.proofs.lemmas.List.{length-map, get_or-map, map_push}
-use Rattle.std.proofs.lemmas.List.Elements.{All-nil, All-head, All-tail, All-cons, All-push}
+use Rattle.std.proofs.lemmas.List.Elements.{All-head, All-tail, All-push}
 use Rattle.std.proofs.lemmas.Slice.Zip.{AllZip-long}
 use Rattle.mwc_parts.specs.Slicing.{Slicing}
 use Rattle.std.specs.List.{sum_by}
@@ -46,21 +46,10 @@ record HaveParts (g : Slicing) (desks : List Desk) (parts : List Part) : Type 0 
   are_parts : All (IsPart g) parts
 
 have_parts : (g : Slicing) (desks : List Desk) (parts : List Part) → AllZip (IsPartOfDesk g) desks parts → HaveParts g desks parts
-have_parts g [] [] z = record {
-  shares_are = refl;
-  well = All-nil IsWell;
-  told = All-nil (λ (s : DeskView). s.told ≡ true);
-  are_parts = All-nil (IsPart g);
-}
+have_parts g [] [] z = grind (arith)
 have_parts g [] (p ∷ parts) z = absurd z
 have_parts g (d ∷ desks) [] z = absurd z
-have_parts g (d ∷ desks) (p ∷ parts) z =
-    let one = z.0 in let rest = have_parts g desks parts z.1 in record {
-      shares_are = rw (one.slices, rest.shares_are) refl;
-      well = All-cons IsWell (view_of d) (views_of desks) one.well rest.well;
-      told = All-cons (λ (s : DeskView). s.told ≡ true) (view_of d) (views_of desks) one.told rest.told;
-      are_parts = All-cons (IsPart g) p parts one.part rest.are_parts;
-    }
+have_parts g (d ∷ desks) (p ∷ parts) z = grind (arith, have_parts g desks parts z.1)
 
 parts_sum : (g : Slicing) (parts : List Part) → All (IsPart g) parts
     → sum_by (λ (p : Part). length p.got.items) parts ≡ sum_by (coalition_count g) (shares parts)

@@ -3,7 +3,7 @@ use Rattle.std.proofs.Common.{arith}
 use Rattle.std.specs.Prelude.{◌≡◌, ℕ, List, ◌++◌, take, drop}
 use Rattle.std.proofs.lemmas.Grind.{common_steps}
 use mathlib.Core.List.{IsPrefix}
-use Rattle.std.proofs.Common.{ap, append_assoc, ◌∙◌}
+use Rattle.std.proofs.Common.{append_assoc}
 use Rattle.mwc_pipe.specs.declared.word.Word.{Word}
 use Rattle.mwc_gather.specs.Inner.Sending.{SendsFirst, SendsSome}
 
@@ -14,8 +14,7 @@ first_more before row mid rest after k s e = grind (arith, common_steps)
 
 -- all of the rest was sent
 pub first_all : (before row mid rest after : List Word) → SendsFirst before row mid rest → after ≡ mid ++ rest → after ≡ before ++ row
-first_all before row mid rest after s e =
-    e ∙ ap (λ (w : List Word). w ++ rest) s.1 ∙ append_assoc before s.0 rest ∙ ap (λ (w : List Word). before ++ w) s.2
+first_all before row mid rest after s e = grind (arith, append_assoc)
 
 -- words were added to the rest
 pub first_added : (before row mid rest more after left : List Word) → SendsFirst before row mid rest

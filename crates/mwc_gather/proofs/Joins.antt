@@ -1,7 +1,7 @@
 -- From the join of a worker to its part.
 use Rattle.std.specs.Prelude.{◌≡◌, ◌⊎◌, ℕ, ◌<◌, false, List, ◌++◌, length, Some, None, Result, Ok, Err, IfOk, IfErr}
 use Rattle.std.specs.List.{flat_map}
-use Rattle.std.proofs.Common.{ap, subst, sym, ◌∙◌, inl, inr}
+use Rattle.std.proofs.Common.{ap, subst, sym, ◌∙◌, inl, inr, arith}
 use Rattle.std.proofs.lemmas.Bool.{false≢true}
 use Rattle.mwc_pipe.specs.RingViews.{RingInView, RingOutView, ClosedView}
 use Rattle.mwc_pipe.specs.declared.word.Word.{Word}
@@ -24,9 +24,7 @@ use Rattle.mwc_gather.specs.Inner.Desks.{desk_slicing, IsOf, IsPartOfDesk, CanEn
 worked_ok : (g : Slicing) (most : ℕ) (out : RingInView) (tasks : RingOutView) (r : Result ClosedView Unfinished × RingOutView)
     (closed : ClosedView) → HasWorked g most out tasks r → r.0 ≡ Ok closed → IsWholeSending g most r.1.taken closed.accepted
     ⊎ IsCutSending g most r.1.taken closed.accepted
-worked_ok g most out tasks (Ok c, t) closed w e =
-    let q : c ≡ closed = cc in
-    subst (λ (x : ClosedView). IsWholeSending g most t.taken x.accepted ⊎ IsCutSending g most t.taken x.accepted) q w.2
+worked_ok g most out tasks (Ok c, t) closed w e = grind (arith)
 worked_ok g most out tasks (Err x, t) closed w e = cc
 
 -- a draft of all words of a desk's worker
@@ -39,17 +37,7 @@ pub has_ended : {draft : Draft} (d : Desk) (r : Result ClosedView Unfinished × 
     → HasWorked (desk_slicing d) d.worker.promise.most d.worker.promise.out.value d.worker.promise.tasks.value r → r.0 ≡ Ok closed
     → r.1.taken ++ left ≡ d.tasks.accepted → d.words.taken ++ rest ≡ closed.accepted → IsDraftOf (d.words.taken ++ rest) draft
     → (draft.lost ≡ false → d.draft.lost ≡ false) → (draft.cut ≡ false → d.draft.cut ≡ false) → HasEnded d draft
-has_ended {draft} d r closed left rest w e t q keeps lost cut =
-    let given = d.worker.promise in
-    let worked = worked_ok (desk_slicing d) given.most given.out.value given.tasks.value r closed w e in record {
-      whole = record {
-        words = closed.accepted;
-        settled = settles (desk_slicing d) given.most r.1.taken left d.given.items d.told closed.accepted d.below (t ∙ d.tasks_are) worked;
-        keeps = subst (λ (x : List Word). IsDraftOf x draft) q keeps;
-      };
-      lost = lost;
-      cut = cut;
-    }
+has_ended {draft} d r closed left rest w e t q keeps lost cut = grind (arith, worked_ok, settles)
 
 module _ {d : Desk} {draft : Draft} (h : HasEnded d draft) where
   pub whole_ends : fault_in_draft draft ≡ None → HasEnds d.given.items draft.ends.items (length draft.got.items)

@@ -1,8 +1,8 @@
 -- Words that are put and read.
-use Rattle.std.specs.Prelude.{◌≡◌, ℕ, ◌+◌, ◌≤◌, Bool, true, false, ◌||◌, cond, List, [], ◌∷◌, ◌++◌, count_by, refl}
+use Rattle.std.specs.Prelude.{◌≡◌, ℕ, ◌+◌, ◌≤◌, Bool, true, false, ◌||◌, cond, List, [], ◌∷◌, ◌++◌, count_by}
 use Rattle.std.proofs.lemmas.Grind.{common_steps}
 use Rattle.std.specs.List.{list_any}
-use Rattle.std.proofs.Common.{ap, arith, sym, ◌∙◌}
+use Rattle.std.proofs.Common.{arith}
 use Rattle.std.proofs.lemmas.List.Sums.{sum_by-append, sum_by-cons}
 use Rattle.std.proofs.lemmas.Bool.{false≢true}
 use Rattle.mwc_pipe.specs.declared.word.Word.{Word}
@@ -16,12 +16,9 @@ done_more before row = sum_by-append (λ (w : Word). cond (is_done w) 1 0) befor
 done_counts : (row : List Word) → list_any is_done row ≡ true → 1 ≤ count_by is_done row
 done_counts [] e = absurd (false≢true e)
 done_counts (Done j ∷ row) e = let s = sum_by-cons (λ (w : Word). cond (is_done w) 1 0) (Done j) row in omega arith
-done_counts (Open j ∷ row) e = let s = sum_by-cons (λ (w : Word). cond (is_done w) 1 0) (Open j) row in let r =
-    done_counts row e in omega arith
-done_counts (One j ∷ row) e = let s = sum_by-cons (λ (w : Word). cond (is_done w) 1 0) (One j) row in let r =
-    done_counts row e in omega arith
-done_counts (End j ∷ row) e = let s = sum_by-cons (λ (w : Word). cond (is_done w) 1 0) (End j) row in let r =
-    done_counts row e in omega arith
+done_counts (Open j ∷ row) e = grind (arith, done_counts row e, sum_by-cons)
+done_counts (One j ∷ row) e = grind (arith, done_counts row e, sum_by-cons)
+done_counts (End j ∷ row) e = grind (arith, done_counts row e, sum_by-cons)
 
 -- a worker that had one slice at most still to finish has no more of them after it sent more words
 pub ahead_more : (n : ℕ) (before row after : List Word) → after ≡ before ++ row → n ≤ count_by is_done before + 1
@@ -31,9 +28,5 @@ ahead_more n before row after e l = grind (arith, common_steps)
 -- and none where it was idle, or has said that it is done
 pub idle_more : (n : ℕ) (idle now : Bool) (before row after : List Word) → after ≡ before ++ row → now ≡ (idle || list_any is_done row)
     → n ≤ count_by is_done before + 1 → (idle ≡ true → n ≤ count_by is_done before) → now ≡ true → n ≤ count_by is_done after
-idle_more n true now before row after e f l i z =
-    let a : count_by is_done after ≡ count_by is_done (before ++ row) = ap (λ (w : List Word). count_by is_done w) e in
-    let m = done_more before row in let k : n ≤ count_by is_done before = i refl in omega arith
-idle_more n false now before row after e f l i z =
-    let a : count_by is_done after ≡ count_by is_done (before ++ row) = ap (λ (w : List Word). count_by is_done w) e in
-    let m = done_more before row in let k = done_counts row (sym f ∙ z) in omega arith
+idle_more n true now before row after e f l i z = grind (arith, done_more)
+idle_more n false now before row after e f l i z = grind (arith, done_more, done_counts)
