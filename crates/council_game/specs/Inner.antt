@@ -3,5 +3,5 @@ pub mod Standings
 pub mod Along
 pub mod Parts
 pub mod View
-pub mod Weighing
+pub mod Held
 pub mod Checks

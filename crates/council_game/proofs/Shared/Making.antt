@@ -11,7 +11,7 @@ use Rattle.std.proofs.lemmas.Bool.{ne_eqb, eq-eqb, ltb-false, or_parts}
 use Rattle.std.proofs.lemmas.Grind.{common_steps}
 use Rattle.council_game.specs.declared.rule.Rule.{Rule}
 use Rattle.council_game.specs.Votes.{RuleView, IsVotes}
-use Rattle.council_game.specs.Inner.Weighing.{votes}
+use Rattle.council_game.specs.Inner.Held.{votes}
 use Rattle.council_game.specs.Ranks.{places, member_at, rank_place, rank_places, members_by_rank, rule_by_rank}
 use Rattle.council_game.specs.Inner.Along.{place_in, rule_along, weights_at}
 use Rattle.council_game.specs.Rules.{rule_view, rule_views}

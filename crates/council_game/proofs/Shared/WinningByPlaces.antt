@@ -1,17 +1,17 @@
 -- Whether a coalition wins, and is minimal, place by place and rule by rule.
 use Rattle.std.proofs.lemmas.Grind.{common_steps}
-use Rattle.std.proofs.Common.{◌≡◌, ℕ, ◌+◌, ◌-◌, ◌*◌, ◌/◌, ◌%◌, ◌^◌, ◌<◌, ◌≤◌, true, false, List, length, take, get_or, sum, sym, ap, ◌∙◌, arith}
+use Rattle.std.proofs.Common.{◌≡◌, ℕ, ◌+◌, ◌-◌, ◌*◌, ◌/◌, ◌%◌, ◌^◌, ◌<◌, ◌≤◌, true, false, List, length, take, get_or, sum, cond, sym, ap, ◌∙◌, arith}
 use Rattle.std.proofs.lemmas.List.Elements.{All-from_recursion}
 use Rattle.std.proofs.lemmas.List.Sums.{sum_by-take-drop, sum_by-drop_more}
 use Rattle.std.proofs.lemmas.Nat.{shr-shr}
 use Rattle.std.proofs.lemmas.Bool.{both_ways, and_left, false_from_ne_true}
 use Rattle.council_game.specs.Votes.{RuleView, Votes, IsRule, IsVotes, rule_at, has, without, weight, wins, minimal}
 use Rattle.std.proofs.lemmas.List.{length-map, get_or-map, get_or_read, take_all}
-use Rattle.std.proofs.lemmas.List.Folds.{list_all_at, list_all_more}
+use Rattle.std.proofs.lemmas.List.Folds.{list_all-map, list_all_at, list_all_more}
 use Rattle.std.proofs.lemmas.Bool.Decides.{nat_tests}
 use Rattle.council_game.specs.declared.rule.Rule.{Rule}
 use Rattle.council_game.specs.Rules.{rule_view, rule_views}
-use Rattle.council_game.specs.Inner.Weighing.{votes}
+use Rattle.council_game.specs.Inner.Held.{votes}
 use Rattle.council_game.proofs.Shared.Meanings.{needs-each-member}
 use Rattle.council_game.proofs.Shared.Weights.{weight-more, weight-le, weight-without}
 
@@ -44,9 +44,9 @@ partial-fits ws p x below = grind (arith, nat_tests, sum_by-take-drop, sum_by-dr
 pub weight-all : (ws : List ℕ) (p c s : ℕ) → length ws ≤ p → s ≡ weight (take p ws) (c / 2 ^ (length ws - p)) → s ≡ weight ws c
 weight-all ws p c s le is = grind (arith, nat_tests, take_all)
 
-pub not-minimal : (v : Votes) (c p : ℕ) → p < v.members → has v.members p c ≡ true → wins v.rules (without v.members p c) ≡ true
-    → minimal v c ≡ false
-not-minimal v c p below inside won = grind (arith, nat_tests, false_from_ne_true, both_ways, needs-each-member)
+pub not-minimal : (v : Votes) (c p m : ℕ) → p < v.members → has v.members p c ≡ true → m ≡ cond (has v.members p c) (without v.members p c) c
+    → wins v.rules m ≡ true → false ≡ minimal v c
+not-minimal v c p m below inside less won = grind (arith, nat_tests, false_from_ne_true, both_ways, needs-each-member)
 
 pub is-minimal : (v : Votes) (c p : ℕ) → v.members ≤ p → wins v.rules c ≡ true
     → ((q : ℕ) → q < p → has v.members q c ≡ true → wins v.rules (without v.members q c) ≡ false) → true ≡ minimal v c
@@ -73,30 +73,13 @@ pub sum-without : (n : ℕ) (r : RuleView) (c p s : ℕ) → IsRule n r → p < 
 unfolding has without
 sum-without n r c p s is below inside sums = grind (arith, nat_tests, weight-without)
 
--- the same of a rule as the code holds it
-pub less-at : (n : ℕ) (rules : List Rule) (r c p s x y : ℕ) (rule : Rule) → IsVotes (votes n rules) → r < length rules
-    → rule ≡ get_or rules r rule → p < n → has n p c ≡ true
-    → s ≡ weight (rule_at (rule_views rules) r).weights c → x ≡ get_or rule.weights.items p x → y ≡ s - x
-    → y ≡ weight (rule_at (rule_views rules) r).weights (without n p c)
-less-at n rules r c p s x y rule game below at place inside sums read less =
-    let is = held-rule n rules r rule game below at in
-    let first = get_or_read rule.weights.items p x (omega (arith, is.full)) read 0 in
-    let held : rule_at (rule_views rules) r ≡ rule_view rule = rule-at rules r rule below at in
-    let whole = sum-without n (rule_view rule) c p s is place inside (sums ∙ ap (λ (v : RuleView). weight v.weights c) held) in
-    rw held (omega (arith, less, first, whole))
-
 -- a rule whose quota the coalition does not meet, and one whose quota it meets
-pub lost-at : (rules : List Rule) (r c s : ℕ) (rule : Rule) → r < length rules → rule ≡ get_or rules r rule
-    → s ≡ weight (rule_at (rule_views rules) r).weights c → s < rule.quota
-    → wins (rule_views rules) c ≡ false
+pub lost-at : (rules : List Rule) (r c s : ℕ) (rule : Rule) → r < length rules → rule ≡ get_or rules r rule → s ≡ weight rule.weights.items c
+    → s < rule.quota → false ≡ wins (rule_views rules) c
 unfolding wins
 lost-at rules r c s rule below at is less = grind (arith, nat_tests, rule-at, list_all_at, count-rules)
 
-pub won-at : (rules : List Rule) (r c s : ℕ) (rule : Rule) → r < length rules → rule ≡ get_or rules r rule
-    → s ≡ weight (rule_at (rule_views rules) r).weights c
-    → wins (take r (rule_views rules)) c ≡ true → rule.quota ≤ s → wins (take (r + 1) (rule_views rules)) c ≡ true
+pub won-at : (rules : List Rule) (r c s : ℕ) (rule : Rule) → r < length rules → rule ≡ get_or rules r rule → s ≡ weight rule.weights.items c
+    → rule.quota ≤ s → wins (rule_views (take r rules)) c ≡ true → wins (rule_views (take (r + 1) rules)) c ≡ true
 unfolding wins
-won-at rules r c s rule below at is won more = grind (arith, nat_tests, common_steps, rule-at, list_all_more, count-rules)
-
-pub wins-all : (rs : List RuleView) (i c : ℕ) → length rs ≤ i → wins (take i rs) c ≡ true → wins rs c ≡ true
-wins-all rs i c le won = ap (λ (l : List RuleView). wins l c) (sym (take_all i rs le)) ∙ won
+won-at rules r c s rule below at is more won = grind (arith, nat_tests, common_steps, list_all-map, list_all_more)

@@ -1,0 +1,7 @@
+use Rattle.std.proofs.Common.{◌≡◌, take, true}
+use Rattle.council_game.specs.Votes.{wins}
+use Rattle.council_game.specs.Rules.{rule_views}
+use Rattle.council_game.proofs.winning.wins.Given as goal
+
+abbrev pub invariant-loop-rule : goal.invariant-loop-rule
+invariant-loop-rule l = wins (rule_views (take l.rule-index l.rules)) l.coalition ≡ true
