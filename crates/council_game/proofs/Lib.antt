@@ -1,7 +1,6 @@
 pub mod Shared
 mod Names
 mod Order
-mod Sorting
 mod Named
 mod Monotone
 mod Places

@@ -1,5 +1,4 @@
 -- What only proofs, private functions and invariants need: no public contract mentions it.
-pub mod Standings
 pub mod Along
 pub mod Parts
 pub mod View

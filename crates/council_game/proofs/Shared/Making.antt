@@ -1,19 +1,18 @@
 -- The tables of a game that is made.
 use Rattle.std.proofs.lemmas.Bool.Decides.{nat_tests}
-use Rattle.std.proofs.Common.{◌≡◌, ℕ, ◌-◌, ◌^◌, ◌<◌, ◌≤◌, min, eqb, List, [], ◌∷◌, length, get_or, map, sum, refl, sym, ap, ◌∙◌, subst, arith, All, Option, Ok, String, Global, string_bytes, option_map}
+use Rattle.std.proofs.Common.{◌≡◌, ℕ, ◌-◌, ◌^◌, ◌<◌, ◌≤◌, min, List, [], ◌∷◌, length, get_or, map, sum, refl, sym, ap, ◌∙◌, subst, arith, All, Option, Ok, String, Global, string_bytes, option_map}
 use Rattle.std.specs.List.{AllByRecursion}
-use Rattle.std.proofs.lemmas.List.{length-map, get_or-map, same_lists, get_or_default}
+use Rattle.std.proofs.lemmas.List.{length-map, get_or-map}
 use Rattle.std.proofs.lemmas.List.FromFn.{length-range_with_len}
 use Rattle.std.proofs.lemmas.List.Elements.{All-map, recursion_from_All}
-use Rattle.std.proofs.lemmas.List.Sums.{position_or_len_is}
 use Rattle.std.proofs.lemmas.List.Sorted.{All-permutation}
-use Rattle.std.proofs.lemmas.Bool.{ne_eqb, eq-eqb, ltb-false, or_parts}
+use Rattle.std.proofs.lemmas.Bool.{ltb-false, or_parts}
 use Rattle.std.proofs.lemmas.Grind.{common_steps}
 use Rattle.council_game.specs.declared.rule.Rule.{Rule}
 use Rattle.council_game.specs.Votes.{RuleView, IsVotes}
 use Rattle.council_game.specs.Inner.Held.{votes}
-use Rattle.council_game.specs.Ranks.{places, member_at, rank_place, rank_places, members_by_rank, rule_by_rank}
-use Rattle.council_game.specs.Inner.Along.{place_in, rule_along, weights_at}
+use Rattle.council_game.specs.Ranks.{places, member_at, rank_places, members_by_rank, rule_by_rank}
+use Rattle.council_game.specs.Inner.Along.{rule_along, weights_at}
 use Rattle.council_game.specs.Rules.{rule_view, rule_views}
 use Rattle.council_game.specs.Game.{GameView, IsGame, made_game, first_weights, total, votes_of}
 use Rattle.council_game.specs.Inner.Parts.{game_of_parts}
@@ -22,34 +21,6 @@ use Rattle.council_game.proofs.Shared.Rankings.{IsRanking, ranking-member_at, ra
 use Rattle.council_game.proofs.Order.{ranking}
 use Rattle.council_game.proofs.Shared.WinningByPlaces.{held-rule}
 use Rattle.council_game.proofs.Shared.Games.{passed, votes-are, light-weights, light-sum}
-
--- the place of each member in a ranking is its rank place
-ranking-places : (ws qs : List ℕ) → IsRanking ws qs → map (place_in qs) (places qs) ≡ rank_places ws
-ranking-places ws qs r =
-    let len = ranking-length ws qs r in
-    let len2 = length-rank_places ws in
-    let len3 = length-range_with_len 0 (length qs) in
-    let len4 : length (map (place_in qs) (places qs)) ≡ length qs = length-map (places qs) (place_in qs) ∙ len3 in
-    same_lists (map (place_in qs) (places qs)) (rank_places ws) (len4 ∙ len ∙ sym len2)
-    (λ i d lt.
-    let below : i < length ws = omega (arith, len4, len) in
-    let found = place-found ws qs i r below in
-    let first : place_in qs i ≡ found.0 =
-    position_or_len_is (λ y. eqb y i) qs found.0 0 (omega (arith, found.1))
-    (λ k less. ne_eqb _ _ (λ e.
-    let in' : k < length qs = omega (arith, less, found.1) in
-    let other : rank_place ws i ≡ k = ap (rank_place ws) (sym e) ∙ rank-of ws qs k r in' in
-    omega (arith, found.3, other, less)))
-    (λ _. eq-eqb _ _ found.2) in
-    get_or-map (place_in qs) (places qs) i 0 d (omega (arith, len4, len3))
-    ∙ ap (place_in qs) (places-at (length qs) i 0 (omega (arith, len4)))
-    ∙ first ∙ sym found.3 ∙ sym (rank_places-at ws i below)
-    ∙ get_or_default (rank_places ws) i 0 d (omega (arith, len2)))
-
-pub order-places : (ws os : List ℕ) → os ≡ members_by_rank (rank_places ws) → map (place_in os) (places os) ≡ rank_places ws
-order-places ws os e =
-    let found = ranking ws in
-    ap (λ (l : List ℕ). map (place_in l) (places l)) (e ∙ sym (ranking-is ws found.0 found.1)) ∙ ranking-places ws found.0 found.1
 
 pub order-below : (ws os : List ℕ) → os ≡ members_by_rank (rank_places ws) → All (λ i. i < length ws) os
 order-below ws os e =

@@ -1,16 +1,16 @@
 use Rattle.std.proofs.lemmas.Grind.{common_steps}
 use Rattle.std.proofs.Common.{◌≡◌, arith}
-use Rattle.council_game.specs.Votes.{wins, weight}
+use Rattle.council_game.specs.Votes.{weight}
 use Rattle.council_game.proofs.Shared.WinningByPlaces.{held-rule, lost-at, won-at}
 use Rattle.council_game.proofs.winning.wins.Goals as goal
 
 pub weight_of-requires-clause-few : goal.weight_of-requires-clause-few
-weight_of-requires-clause-few c = 
+weight_of-requires-clause-few c =
     let is = held-rule c.args.members c.args.rules.now c.loop-rule.rule-index c.rule-item.result c.requires (omega arith) c.rule-item.is in
     grind (arith, common_steps)
 
 pub weight_of-requires-clause-fits : goal.weight_of-requires-clause-fits
-weight_of-requires-clause-fits c = 
+weight_of-requires-clause-fits c =
     let is = held-rule c.args.members c.args.rules.now c.loop-rule.rule-index c.rule-item.result c.requires (omega arith) c.rule-item.is in
     grind (arith, common_steps)
 
