@@ -1,5 +1,5 @@
 -- The votes of a game.
-use Rattle.std.proofs.Common.{◌≡◌, ℕ, suc, ◌*◌, ◌<◌, ◌≤◌, Bool, false, not, ◌||◌, ltb, List, [], ◌∷◌, length, get_or, map, sum, refl, sym, ap, ◌∙◌, subst, arith, inl, inr, Option, Some, None, Ok}
+use Rattle.std.proofs.Common.{◌≡◌, ℕ, suc, ◌*◌, ◌<◌, ◌≤◌, Bool, false, not, ◌||◌, ltb, List, [], ◌∷◌, length, get_or, map, sum, refl, sym, ap, ◌∙◌, subst, arith, inl, inr, Option, None, Ok}
 use Rattle.std.specs.List.{AllByRecursion, list_any, range_with_len, position, position_or_len}
 use Rattle.std.proofs.lemmas.List.FromFn.{length-range_with_len}
 use Rattle.std.specs.Option.{option_map_or}
@@ -48,12 +48,9 @@ unfolding made_game
 makes title names rules a b c d e f = grind (arith, nat_tests)
 
 -- ---- no weight is above the limit
-some-none : (i : ℕ) → ◌≡◌ {A = Option ℕ} (Some i) None → ⊥
-some-none i h = cc
-
 -- a test that finds no entry was tried on all
 pub none-found : {X : Type 0} (f : X → Bool) (xs : List X) → position f xs ≡ None → length xs ≤ position_or_len f xs
-none-found f xs none = grind (arith, nat_tests, cases_lt, some-none, cond-true, lt-ltb)
+none-found f xs none = grind (arith, nat_tests, cases_lt, cond-true, lt-ltb)
 
 pub position-none : (f : ℕ → Bool) (n : ℕ) → position f (range_with_len 0 n) ≡ None → (i : ℕ) → i < n → f i ≡ false
 position-none f n none i lt =

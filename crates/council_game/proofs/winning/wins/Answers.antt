@@ -1,7 +1,9 @@
+use Rattle.std.proofs.lemmas.List.Folds.{list_all_at, list_all-map, list_all_more}
+use Rattle.std.proofs.lemmas.Bool.Decides.{nat_tests}
 use Rattle.std.proofs.lemmas.Grind.{common_steps}
 use Rattle.std.proofs.Common.{◌≡◌, arith}
-use Rattle.council_game.specs.Votes.{weight}
-use Rattle.council_game.proofs.Shared.WinningByPlaces.{held-rule, lost-at, won-at}
+use Rattle.council_game.specs.Votes.{weight, wins}
+use Rattle.council_game.proofs.Shared.WinningByPlaces.{held-rule, rule-at, count-rules}
 use Rattle.council_game.proofs.winning.wins.Goals as goal
 
 pub weight_of-requires-clause-few : goal.weight_of-requires-clause-few
@@ -15,9 +17,11 @@ weight_of-requires-clause-fits c =
     grind (arith, common_steps)
 
 pub returns-then-weight_of-rule : goal.returns-then-weight_of-rule
+unfolding wins
 returns-then-weight_of-rule c =
     let weighs : c.weight_of.result ≡ weight c.rule-item.result.weights.items c.args.coalition = grind arith in
-    lost-at c.args.rules.now c.loop-rule.rule-index _ _ c.rule-item.result (omega arith) c.rule-item.is weighs c.if-weight_of-rule.true
+    grind (arith, nat_tests, rule-at, list_all_at, count-rules)
 
 pub loop-rule-preserved : goal.loop-rule-preserved
-loop-rule-preserved c = grind (arith, won-at)
+unfolding wins
+loop-rule-preserved c = grind (arith, nat_tests, common_steps, list_all-map, list_all_more)
