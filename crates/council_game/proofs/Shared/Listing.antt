@@ -1,10 +1,9 @@
 -- The list of minimal coalitions.
-use Rattle.std.proofs.Common.{◌≡◌, ℕ, zero, suc, ◌-◌, ◌*◌, ◌/◌, ◌%◌, ◌^◌, ◌<◌, ◌≤◌, Bool, true, false, not, List, [], ◌∷◌, ◌++◌, length, sum, refl, ap, arith}
+use Rattle.std.proofs.Common.{◌≡◌, ℕ, zero, suc, ◌-◌, ◌/◌, ◌%◌, ◌^◌, ◌<◌, ◌≤◌, Bool, true, false, not, List, [], ◌∷◌, ◌++◌, length, sum, refl, ap, arith}
 use Rattle.std.specs.List.{AllByRecursion, All, AllPairs, filter}
-use Rattle.std.proofs.lemmas.Nat.{pow_pos, one_shl}
+use Rattle.std.proofs.lemmas.Nat.{pow_pos}
 use Rattle.std.proofs.lemmas.Nat.Bits.{bit_at_ones}
 use Rattle.std.proofs.lemmas.List.{append_assoc, append-nil}
-use Rattle.std.proofs.Math.Nat.{pow-le-pow_right}
 use Rattle.std.proofs.lemmas.List.Elements.{All-cons, All-nil, All-filter, filter_passes}
 use Rattle.std.proofs.lemmas.List.Kept.{AllPairs-cons, AllPairs-filter}
 use Rattle.std.proofs.lemmas.List.Sums.{sum_by-cons}
@@ -71,11 +70,6 @@ listing-is v game =
     }
 
 -- ---- the list, filled from above
-pub listed-start : (v : Votes) (xs : List ℕ) (n : ℕ) → xs ≡ [] → n ≡ v.members → n ≤ 20
-    → (xs ++ minimal_below v (1 * 2 ^ n % 2 ^ 64) ≡ minimal_coalitions v) × (1 * 2 ^ n % 2 ^ 64 ≤ 2 ^ 20)
-unfolding minimal_coalitions minimal_below
-listed-start v xs n none e few = grind (arith, nat_tests, one_shl, pow-le-pow_right)
-
 pub listed-more : (v : Votes) (xs ys all : List ℕ) (m c : ℕ) → 0 < m → c ≡ m - 1 → minimal v c ≡ true → ys ≡ xs ++ c ∷ []
     → xs ++ minimal_below v m ≡ all → ys ++ minimal_below v (m - 1) ≡ all
 unfolding minimal_below down

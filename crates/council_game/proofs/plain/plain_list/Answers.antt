@@ -1,17 +1,17 @@
+use Rattle.council_game.specs.Shared.Below.{minimal_below}
+use Rattle.std.proofs.lemmas.Nat.{one_shl}
+use Rattle.std.proofs.lemmas.Bool.Decides.{nat_tests}
 use Rattle.std.proofs.lemmas.Grind.{common_steps}
 use Rattle.std.proofs.Common.{◌^◌, ◌<◌, ◌≤◌, ◌∙◌, ap, length, sym, arith}
 use Rattle.std.proofs.Math.Nat.{pow-le-pow_right}
 use Rattle.council_game.specs.Votes.{minimal_coalitions}
 use Rattle.council_game.specs.Game.{votes_of}
-use Rattle.council_game.proofs.Shared.Listing.{listing-is, listed-start, listed-more, listed-less, listed-all}
+use Rattle.council_game.proofs.Shared.Listing.{listing-is, listed-more, listed-less, listed-all}
 use Rattle.council_game.proofs.plain.plain_list.Goals as goal
 
 pub loop-mask-init : goal.loop-mask-init
-loop-mask-init c =
-    let start = listed-start
-    (votes_of c.args.game.now) c.new-list.result.items c.members-members.result c.new-list.ensures.items c.members-members.ensures.count
-    (omega (arith, c.members-members.ensures.count, c.requires)) in
-    record { range = start.1; done = start.0 }
+unfolding minimal_coalitions minimal_below
+loop-mask-init c = grind (arith, nat_tests, one_shl, pow-le-pow_right)
 
 pub loop-mask-preserved-in-Continue-1 : goal.loop-mask-preserved-in-Continue-1
 loop-mask-preserved-in-Continue-1 c = record {
