@@ -9,5 +9,4 @@ returns-then-len-left-clause-many c = λ z.
     let f = λ (p : Part). length p.got.items in
     let a = sum_by_more f c.args.parts.now c.loop-part.part-index part c.loop-part-test.true in
     let q = ap f c.part-item.is in
-    let b = sum_by-take-le f c.args.parts.now (c.loop-part.part-index + 1) in
-    omega arith
+    let b = sum_by-take-le f c.args.parts.now (c.loop-part.part-index + 1) in grind (arith)
