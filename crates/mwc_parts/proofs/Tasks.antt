@@ -1,6 +1,6 @@
 -- What was taken of the tasks that were given.
 use Rattle.std.specs.Prelude.{◌≡◌, ℕ, ◌+◌, ◌<◌, ◌≤◌, Bool, true, false, List, [], ◌∷◌, ◌++◌, length, All, refl}
-use Rattle.std.proofs.Common.{ap, arith}
+use Rattle.std.proofs.Common.{arith}
 use Rattle.std.proofs.lemmas.List.Elements.{All-head, All-tail}
 use Rattle.mwc_parts.specs.Slicing.{Slicing}
 use Rattle.mwc_pipe.specs.declared.word.Word.{Word}
@@ -40,6 +40,5 @@ cut_taken g (i ∷ s) [] slice left true e = cc
 cut_taken g (i ∷ s) [] slice left false e = cc
 cut_taken g (i ∷ s) (j ∷ given) slice left told e =
     let q : i ≡ j = cc in
-    let f = ap (λ (k : ℕ). length (g.slice k)) q in
     let r : (open_words s ++ Open slice ∷ []) ++ left ≡ open_words given ++ end_words told = cc in
     let t = cut_taken g s given slice left told r in grind (arith, coalitions-cons)
