@@ -39,6 +39,5 @@ cut_taken g [] (j ∷ given) slice left told e = grind (arith, coalitions-cons)
 cut_taken g (i ∷ s) [] slice left true e = cc
 cut_taken g (i ∷ s) [] slice left false e = cc
 cut_taken g (i ∷ s) (j ∷ given) slice left told e =
-    let q : i ≡ j = cc in
     let r : (open_words s ++ Open slice ∷ []) ++ left ≡ open_words given ++ end_words told = cc in
     let t = cut_taken g s given slice left told r in grind (arith, coalitions-cons)
