@@ -15,7 +15,7 @@ returns-then-not-fits-clause-many g c =
     let job = c.args.job.now in
     let sum = complete_sum c.requires in
     let all = all_total_is job.guarded job.bits job.bits_fit.0 job.bits_fit.1 in
-    let items = ap (sum_by (λ (p : Part). length p.got.items)) c.as_slice.ensures.value in grind (arith)
+    grind (arith)
 
 pub invariant_of-result : goal.invariant_of-result
 invariant_of-result g c = grind (arith, dealt_each_once)
