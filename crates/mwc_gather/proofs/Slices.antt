@@ -28,8 +28,7 @@ starts_cut : (g : Slicing) (j left : ℕ) (given rest : List ℕ) → g.slice j 
 starts_cut g j left given rest e l =
     let n : ℕ = left - length given in
     let sum : left ≡ length given + n = omega arith in
-    let first : take left (g.slice j) ≡ given ++ take n rest = ap (λ (k : ℕ). take k (g.slice j)) sum
-    ∙ ap (λ (w : List ℕ). take (length given + n) w) e ∙ take-append-add given rest n in
+    let first : take left (g.slice j) ≡ given ++ take n rest = grind (arith, take-append-add) in
     (map One (take n rest), ap (λ (w : List Word). Open j ∷ w) (sym (map-append One given (take n rest)) ∙ ap (map One) (sym first)))
 
 -- what was sent of a slice before it is cut is a beginning of its sending

@@ -59,7 +59,7 @@ held_ascends w j (h ∷ hs) = ascends_if (eqb w h) j (share_from w (j + 1) hs) (
 increases : (n : ℕ) (s : List ℕ) → AscendsFrom n s → IsStrictlyIncreasing s
 increases n [] a k l = absurd (omega arith)
 increases n (i ∷ []) a k l = absurd (omega arith)
-increases n (i ∷ j ∷ s) a zero l = let b = a.1 in omega arith
+increases n (i ∷ j ∷ s) a zero l = omega arith
 increases n (i ∷ j ∷ s) a (suc k) l = grind (arith, increases (i + 1) (j ∷ s) a.1 k (omega arith))
 
 pub held_increases : (w : ℕ) (hs : List ℕ) → IsStrictlyIncreasing (share_of hs w)
@@ -85,8 +85,7 @@ sum_up_to f k hs a (suc m) l =
     let dealt = deal_from first h 0 k h (omega arith) below in
     let given = sum_by-set (sum_by f) (shares_by first k) h (share_of first h ++ length first ∷ []) []
     (omega (arith, length-map-range_with_len (share_of first) 0 k)) in
-    let next = rw add-one at (sum_by-range-more f m) in
-    rw (more, dealt) (omega (arith, given, ap (sum_by f) held, sum_by_push f (share_of first h) (length first), before, next, ap f number))
+    let next = rw add-one at (sum_by-range-more f m) in grind (arith, sum_by_push)
 
 -- any sum over the shares is the sum over the slices
 pub shares_sum : (f : ℕ → ℕ) (k : ℕ) (hs : List ℕ) → All (λ h. h < k) hs
@@ -98,8 +97,7 @@ range_once : (i n : ℕ) → times_in i (range_with_len 0 n) ≡ cond (ltb i n) 
 range_once i zero = grind (arith, nat_tests)
 range_once i (suc n) =
     let rest = range_once i n in
-    let next = rw add-one at (sum_by-range-more (λ x. cond (eqb x i) 1 0) n) in
-    grind (arith, nat_tests)
+    let next = rw add-one at (sum_by-range-more (λ x. cond (eqb x i) 1 0) n) in grind (arith, nat_tests)
 
 -- each slice stands once in the shares, and no other number does
 pub each_held_once : (i k : ℕ) (hs : List ℕ) → All (λ h. h < k) hs → sum_by (times_in i) (shares_by hs k) ≡ cond (ltb i (length hs)) 1 0

@@ -1,6 +1,6 @@
 -- What was taken of the tasks that were given.
 use Rattle.std.specs.Prelude.{◌≡◌, ℕ, ◌+◌, ◌<◌, ◌≤◌, Bool, true, false, List, [], ◌∷◌, ◌++◌, length, All, refl}
-use Rattle.std.proofs.Common.{ap, arith}
+use Rattle.std.proofs.Common.{arith}
 use Rattle.std.proofs.lemmas.List.Elements.{All-head, All-tail}
 use Rattle.mwc_parts.specs.Slicing.{Slicing}
 use Rattle.mwc_pipe.specs.declared.word.Word.{Word}
@@ -27,8 +27,7 @@ all_taken n (i ∷ s) [] last left true a h e = cc
 all_taken n (i ∷ s) [] last left false a h e = cc
 all_taken n (i ∷ s) (j ∷ given) last left told a h e =
     let r : (open_words s ++ last ∷ []) ++ left ≡ open_words given ++ end_words told = cc in
-    let t = all_taken n s given last left told (All-tail (λ j. j < n) j given a) h r in
-    (cc, t.1)
+    let t = all_taken n s given last left told (All-tail (λ j. j < n) j given a) h r in grind (arith)
 
 -- the slices that were taken before the cut, and the one that was cut, were given first
 pub cut_taken : (g : Slicing) (s given : List ℕ) (slice : ℕ) (left : List Word) (told : Bool)
@@ -36,14 +35,9 @@ pub cut_taken : (g : Slicing) (s given : List ℕ) (slice : ℕ) (left : List Wo
     → coalition_count g s + length (g.slice slice) ≤ coalition_count g given
 cut_taken g [] [] slice left true e = cc
 cut_taken g [] [] slice left false e = cc
-cut_taken g [] (j ∷ given) slice left told e =
-    let q : slice ≡ j = cc in
-    let r = ap (λ (k : ℕ). length (g.slice k)) q in omega (arith, coalitions-cons g j given)
+cut_taken g [] (j ∷ given) slice left told e = grind (arith, coalitions-cons)
 cut_taken g (i ∷ s) [] slice left true e = cc
 cut_taken g (i ∷ s) [] slice left false e = cc
 cut_taken g (i ∷ s) (j ∷ given) slice left told e =
-    let q : i ≡ j = cc in
-    let f = ap (λ (k : ℕ). length (g.slice k)) q in
     let r : (open_words s ++ Open slice ∷ []) ++ left ≡ open_words given ++ end_words told = cc in
-    let t = cut_taken g s given slice left told r in
-    omega (arith, coalitions-cons g i s, coalitions-cons g j given)
+    let t = cut_taken g s given slice left told r in grind (arith, coalitions-cons)

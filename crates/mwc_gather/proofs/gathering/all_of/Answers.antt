@@ -15,13 +15,10 @@ returns-then-not-fits-clause-many g c =
     let job = c.args.job.now in
     let sum = complete_sum c.requires in
     let all = all_total_is job.guarded job.bits job.bits_fit.0 job.bits_fit.1 in
-    let over = c.fits.ensures.many c.if-not-fits.true in
-    let items = ap (sum_by (λ (p : Part). length p.got.items)) c.as_slice.ensures.value in
-    omega arith
+    grind (arith)
 
 pub invariant_of-result : goal.invariant_of-result
-invariant_of-result g c =
-    record { each_slice_once = rw c.slice_count.ensures (dealt_each_once c.args.parts.items c.requires.dealt) }
+invariant_of-result g c = grind (arith, dealt_each_once)
 
 pub returns-clause-gathers : goal.returns-clause-gathers
 returns-clause-gathers g c =
@@ -31,7 +28,6 @@ returns-clause-gathers g c =
     let parts : List Part = c.args.parts.items in
     let sum = complete_sum complete in
     let all = all_total_is job.guarded job.bits job.bits_fit.0 job.bits_fit.1 in
-    let under = c.fits.ensures.few c.if-not-fits.false in
     let items = ap (sum_by (λ (p : Part). length p.got.items)) c.as_slice.ensures.value in
     record {
       a_part_each = complete.a_part_each;

@@ -29,7 +29,6 @@ loop-desk-preserved-else-is_err g c =
 
 pub returns-in-None-fault-clause-parts : goal.returns-in-None-fault-clause-parts
 returns-in-None-fault-clause-parts g c = λ some.
-    let ok = c.args.desks.ok in
     all_complete c.args.desks.items (into_iter_items c.loop-desk.desk-iterator) c.loop-desk.parts.items c.loop-desk.invariant
     (grind (arith, common_steps)) (search rules) c.requires.dealt.1 (omega arith) some
 

@@ -1,4 +1,4 @@
-use Rattle.std.proofs.Common.{◌+◌, length, ap, arith}
+use Rattle.std.proofs.Common.{◌+◌, length, arith}
 use Rattle.mwc_parts.specs.declared.part.Part.{Part}
 use Rattle.std.proofs.lemmas.List.Sums.{sum_by-take-le, sum_by_more}
 use Rattle.mwc_parts.proofs.part.fits.Goals as goal
@@ -8,6 +8,4 @@ returns-then-len-left-clause-many c = λ z.
     let part : Part = c.part-item.result in
     let f = λ (p : Part). length p.got.items in
     let a = sum_by_more f c.args.parts.now c.loop-part.part-index part c.loop-part-test.true in
-    let q = ap f c.part-item.is in
-    let b = sum_by-take-le f c.args.parts.now (c.loop-part.part-index + 1) in
-    omega arith
+    let b = sum_by-take-le f c.args.parts.now (c.loop-part.part-index + 1) in grind (arith)

@@ -1,5 +1,4 @@
-use Rattle.std.proofs.Common.{◌∙◌, take}
-use Rattle.mwc_gather.specs.Inner.Desks.{view_of}
+use Rattle.std.proofs.Common.{arith}
 use Rattle.mwc_gather.proofs.Deals.{turn_after}
 use Rattle.mwc_gather.proofs.dealing.Deal.turn.Goals as goal
 
@@ -7,15 +6,4 @@ pub deal_to-requires : goal.deal_to-requires
 deal_to-requires g c = record { slices = rw c.read-count.ensures.worker c.requires.slices; worker = c.requires.worker }
 
 pub returns : goal.returns
-returns g c =
-    let read = c.read-count.ensures in
-    let dealt = c.deal_to.ensures in
-    record {
-      worker = dealt.same.0 ∙ read.worker;
-      turns = (
-        take c.read-count.result c.read-count.new.row,
-        dealt.same.1 ∙ read.taken.1,
-        turn_after (view_of c.args.desk.now) (view_of c.read-count.new.self) (view_of c.deal_to.new.desk) c.args.worker read.same.0
-            read.same.1 read.idle read.lost read.cut dealt.turns,
-      );
-    }
+returns g c = grind (arith, turn_after)
