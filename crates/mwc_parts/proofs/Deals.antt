@@ -27,9 +27,6 @@ share_of-more w j (x ∷ hs) h = grind (arith, share_of-more w (j + 1) hs h, con
 pub share_of-other : (hs : List ℕ) (w h : ℕ) → (w ≡ h → ⊥) → share_of (hs ++ h ∷ []) w ≡ share_of hs w
 share_of-other hs w h ne = grind (arith, common_steps, append-nil, ne_eqb, share_of-more)
 
-pub share_of-same : (hs : List ℕ) (w h : ℕ) → w ≡ h → share_of (hs ++ h ∷ []) w ≡ share_of hs h ++ length hs ∷ []
-share_of-same hs w h e = grind (arith, common_steps, eq-eqb, share_of-more)
-
 others : (hs : List ℕ) (i from k : ℕ)
     → i < from → map (share_of (hs ++ i ∷ [])) (range_with_len from k) ≡ map (share_of hs) (range_with_len from k)
 others hs i from zero h = refl
@@ -40,7 +37,7 @@ pub deal_from : (hs : List ℕ) (i from k n : ℕ) → from + n ≡ i → n < k
     → map (share_of (hs ++ i ∷ [])) (range_with_len from k) ≡ set (map (share_of hs) (range_with_len from k)) n
     (share_of hs i ++ length hs ∷ [])
 deal_from hs i from zero n e h = absurd (omega arith)
-deal_from hs i from (suc k) zero e h = grind (arith, share_of-same, others)
+deal_from hs i from (suc k) zero e h = grind (arith, common_steps, others, eq-eqb, share_of-more)
 deal_from hs i from (suc k) (suc n) e h = grind (arith, deal_from hs i (from + 1) k n (omega arith) (omega arith), share_of-other)
 
 -- what a worker holds ascends

@@ -1,17 +1,10 @@
 -- Rows of numbers.
 use Rattle.std.specs.Prelude.{◌≡◌, ℕ, ◌+◌, List, [], ◌∷◌, ◌++◌, map}
-use Rattle.std.proofs.lemmas.Grind.{common_steps}
 use Rattle.std.specs.List.{range_with_len, flat_map}
 use Rattle.std.proofs.Common.{ap, arith, sym, ◌∙◌}
-use Rattle.std.proofs.lemmas.List.{flat_map_more, map-append}
+use Rattle.std.proofs.lemmas.List.{map-append}
 use Rattle.std.proofs.lemmas.List.Folds.{flat_map-map}
 use Rattle.std.proofs.lemmas.List.FromFn.{map-range_with_len_more}
-use Rattle.coalitions.proofs.Shared.Ranges.{range-more}
-
--- one more slice
-pub in_order_more : (slice : ℕ → List ℕ) (n : ℕ) (all piece : List ℕ) → all ≡ flat_map slice (range_with_len 0 n) → piece ≡ slice n
-    → all ++ piece ≡ flat_map slice (range_with_len 0 (n + 1))
-in_order_more slice n all piece e f = grind (arith, common_steps, flat_map_more, range-more)
 
 -- one more piece of a row
 pub pieces_more : {X : Type 0} (f : X → List ℕ) (slice : ℕ → List ℕ) (n : ℕ) (row : List X) (x : X)

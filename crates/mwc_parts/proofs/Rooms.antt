@@ -1,5 +1,5 @@
 -- Drafts that lose nothing while there is room.
-use Rattle.std.specs.Prelude.{◌≡◌, ℕ, ◌+◌, ◌<◌, Bool, true, false, refl}
+use Rattle.std.specs.Prelude.{◌≡◌, ℕ, ◌+◌, ◌<◌, Bool, true, false}
 use Rattle.std.proofs.Common.{arith, inl, inr}
 use Rattle.mwc_parts.specs.Drafts.{Grows, LacksRoom, LosesForWantOfRoom}
 use Rattle.mwc_parts.specs.declared.draft.Draft.{Draft}
@@ -14,12 +14,7 @@ lacks_more old mid i n l a (inl e) = inl (omega arith)
 lacks_more old mid i n l a (inr (inl e)) = inr (inl (omega arith))
 lacks_more old mid i n l a (inr (inr e)) = inr (inr (omega arith))
 
-loses_by : (old mid new : Draft) (i n : ℕ) (b : Bool) → mid.lost ≡ b → i < n → Grows old i mid →
+pub loses_by : (old mid new : Draft) (i n : ℕ) (b : Bool) → mid.lost ≡ b → i < n → Grows old i mid →
     LosesForWantOfRoom old n mid → LosesForWantOfRoom mid 1 new → LosesForWantOfRoom old n new
 loses_by old mid new i n true e l a f s = λ x z. f x e
 loses_by old mid new i n false e l a f s = λ x z. lacks_more old mid i n l a (s e z)
-
--- one more word is lost only where there was no room for all
-pub loses_more : (old mid new : Draft) (i n : ℕ) → i < n → Grows old i mid →
-    LosesForWantOfRoom old n mid → LosesForWantOfRoom mid 1 new → LosesForWantOfRoom old n new
-loses_more old mid new i n l a f s = loses_by old mid new i n mid.lost refl l a f s

@@ -1,12 +1,12 @@
 -- From the join of a worker to what is known of its words.
 use Rattle.std.specs.Prelude.{◌≡◌, ◌⊎◌, ℕ, ◌<◌, Bool, true, false, List, [], ◌∷◌, ◌++◌, None, Some, if◌then◌else◌, map, All, refl}
-use Rattle.std.proofs.Common.{ap, arith, sym, ◌∙◌, inl, inr}
+use Rattle.std.proofs.Common.{arith, sym, ◌∙◌, inl, inr}
 use Rattle.std.proofs.lemmas.Bool.{false≢true}
 use Rattle.std.proofs.Math.Bool.{or-true}
 use Rattle.std.proofs.lemmas.List.Folds.{list_any-append}
 use Rattle.mwc_parts.specs.Slicing.{Slicing}
 use Rattle.mwc_pipe.specs.declared.word.Word.{Word}
-use Rattle.mwc_pipe.specs.declared.word.Word.TheVariants.{One, Done, End}
+use Rattle.mwc_pipe.specs.declared.word.Word.TheVariants.{One, Done}
 use Rattle.mwc_parts.specs.Wording.{open_words, wording, coalition_count, IsWholeSending, IsCutSending, slice_words}
 use Rattle.mwc_parts.specs.Shared.Wording.{end_words}
 use Rattle.mwc_parts.specs.Drafts.{is_cut, has_cut, fault_in_draft}
@@ -17,11 +17,6 @@ use Rattle.mwc_parts.specs.declared.fault.GatherFault.TheVariants.{TooMany, Memo
 use Rattle.mwc_parts.proofs.Shared.Readings.{Reads, reads}
 use Rattle.mwc_parts.proofs.Tasks.{all_taken, cut_taken}
 
-whole_settles : (g : Slicing) (most : ℕ) (taken left : List Word) (given : List ℕ) (told : Bool) (words : List Word)
-    → All (λ j. j < g.slices) given → taken ++ left ≡ open_words given ++ end_words told → IsWholeSending g most taken words
-    → IsSentWhole g most given told words
-whole_settles g most taken left given told words a e w = grind (arith, all_taken)
-
 cut_settles : (g : Slicing) (most : ℕ) (taken left : List Word) (given : List ℕ) (told : Bool) (words : List Word)
     → taken ++ left ≡ open_words given ++ end_words told → IsCutSending g most taken words → IsCutShort g most given words
 cut_settles g most taken left given told words e w = grind (arith, cut_taken)
@@ -29,7 +24,7 @@ cut_settles g most taken left given told words e w = grind (arith, cut_taken)
 pub settles : (g : Slicing) (most : ℕ) (taken left : List Word) (given : List ℕ) (told : Bool) (words : List Word)
     → All (λ j. j < g.slices) given → taken ++ left ≡ open_words given ++ end_words told → IsWholeSending g most taken words
     ⊎ IsCutSending g most taken words → AreSettled g most given told words
-settles g most taken left given told words a e (inl w) = inl (whole_settles g most taken left given told words a e w)
+settles g most taken left given told words a e (inl w) = grind (arith, all_taken)
 settles g most taken left given told words a e (inr w) = inr (cut_settles g most taken left given told words e w)
 
 -- a whole sending tells of no cut
@@ -45,14 +40,11 @@ sent_uncut : {g : Slicing} {most : ℕ} {given : List ℕ} {told : Bool} {words 
     → has_cut words ≡ false
 sent_uncut {g} {most} {given} a = grind (arith, list_any-append, uncut)
 
-was_cut : {g : Slicing} {most : ℕ} {given : List ℕ} {words : List Word} → IsCutShort g most given words → has_cut words ≡ true
-was_cut c = ap has_cut c.words_are ∙ list_any-append is_cut c.before (End true ∷ []) ∙ or-true (has_cut c.before)
-
 -- by whether a word told of a cut
 all_sent : {g : Slicing} {most : ℕ} {given : List ℕ} {told : Bool} {words : List Word} → AreSettled g most given told words
     → has_cut words ≡ false → IsSentWhole g most given told words
 all_sent (inl a) e = a
-all_sent (inr c) e = absurd (false≢true (sym e ∙ was_cut c))
+all_sent (inr c) e = grind (arith, false≢true, list_any-append, or-true)
 
 cut_is_many : {g : Slicing} {most : ℕ} {given : List ℕ} {told : Bool} {words : List Word} → AreSettled g most given told words
     → has_cut words ≡ true → most < coalition_count g given

@@ -57,9 +57,6 @@ or_stays a b true d p q e = refl
 or_stays a b false true p q e = refl
 or_stays a b false false p q e = let x = p refl in let y = q refl in sym (ap (λ (z : Bool). z || b) x ∙ y) ∙ e
 
-pub ill_stays : (s t : DeskView) → (t.lost ≡ false → s.lost ≡ false) → (t.cut ≡ false → s.cut ≡ false) → is_ill s ≡ true → is_ill t ≡ true
-ill_stays s t lost cut e = or_stays s.lost s.cut t.lost t.cut lost cut e
-
 pub not_ill : (s : DeskView) → IsWell s → is_ill s ≡ false
 not_ill s w = ap (λ (z : Bool). z || s.cut) w.0 ∙ w.1
 
@@ -79,7 +76,7 @@ pub stops_then : (early : Bool) (desks : List DeskView) (stopped stops : Bool) (
     (s t : DeskView) {done : Bool} {marks after : List (Option ℕ)} → i < length desks → s ≡ get_or desks i s
     → TakesTurn done marks stopped s i after stops t → stopped ≡ (early || list_any is_ill desks)
     → stops ≡ (early || list_any is_ill (set desks i t))
-stops_then early desks stopped stops i s t l e r h = grind (arith, common_steps, ill_set, ill_stays, or_assoc)
+stops_then early desks stopped stops i s t l e r h = grind (arith, common_steps, ill_set, or_assoc, or_stays)
 
 pub stays_by : (a b x : Bool) → b ≡ (a || x) → a ≡ true → b ≡ true
 stays_by a b x e h = e ∙ ap (λ (z : Bool). z || x) h

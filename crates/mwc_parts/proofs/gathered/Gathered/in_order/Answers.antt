@@ -1,7 +1,8 @@
+use Rattle.coalitions.proofs.Shared.Ranges.{range-more}
+use Rattle.std.proofs.lemmas.List.{flat_map_more}
 use Rattle.std.proofs.Common.{arith}
 use Rattle.std.proofs.lemmas.Grind.{common_steps}
-use Rattle.mwc_parts.proofs.Ranges.{in_order_more}
 use Rattle.mwc_parts.proofs.gathered.Gathered.in_order.Goals as goal
 
 pub loop-j-preserved : goal.loop-j-preserved
-loop-j-preserved c = grind (arith, common_steps, in_order_more)
+loop-j-preserved c = grind (arith, common_steps, flat_map_more, range-more)
