@@ -1,12 +1,8 @@
 -- Drafts that lose nothing while there is room.
-use Rattle.std.specs.Prelude.{◌≡◌, ℕ, ◌+◌, ◌<◌, Bool, true, false}
+use Rattle.std.specs.Prelude.{◌≡◌, ℕ, ◌<◌, Bool, true, false}
 use Rattle.std.proofs.Common.{arith, inl, inr}
 use Rattle.mwc_parts.specs.Drafts.{Grows, LacksRoom, LosesForWantOfRoom}
 use Rattle.mwc_parts.specs.declared.draft.Draft.{Draft}
-
--- a draft grows, and then by one more
-pub grows_more : (old mid new : Draft) (i : ℕ) → Grows old i mid → Grows mid 1 new → Grows old (i + 1) new
-grows_more old mid new i a b = record { got_room = omega arith; got_more = omega arith; ends_room = omega arith; ends_more = omega arith }
 
 -- what has no room for one more after it grew had no room for all
 lacks_more : (old mid : Draft) (i n : ℕ) → i < n → Grows old i mid → LacksRoom mid 1 → LacksRoom old n

@@ -1,4 +1,5 @@
 -- From the join of a worker to what is known of its words.
+use Rattle.std.proofs.lemmas.Bool.Decides.{nat_tests}
 use Rattle.std.specs.Prelude.{◌≡◌, ◌⊎◌, ℕ, ◌<◌, Bool, true, false, List, [], ◌∷◌, ◌++◌, None, Some, if◌then◌else◌, map, All, refl}
 use Rattle.std.proofs.Common.{arith, sym, ◌∙◌, inl, inr}
 use Rattle.std.proofs.lemmas.Bool.{false≢true}
@@ -10,22 +11,18 @@ use Rattle.mwc_pipe.specs.declared.word.Word.TheVariants.{One, Done}
 use Rattle.mwc_parts.specs.Wording.{open_words, wording, coalition_count, IsWholeSending, IsCutSending, slice_words}
 use Rattle.mwc_parts.specs.Shared.Wording.{end_words}
 use Rattle.mwc_parts.specs.Drafts.{is_cut, has_cut, fault_in_draft}
-use Rattle.mwc_parts.specs.Shared.Settled.{IsSentWhole, IsCutShort, AreSettled, HasAllWords}
+use Rattle.mwc_parts.specs.Shared.Settled.{IsSentWhole, AreSettled, HasAllWords}
 use Rattle.mwc_parts.specs.declared.draft.Draft.{Draft}
 use Rattle.mwc_parts.specs.declared.fault.GatherFault.{GatherFault}
 use Rattle.mwc_parts.specs.declared.fault.GatherFault.TheVariants.{TooMany, Memory}
 use Rattle.mwc_parts.proofs.Shared.Readings.{Reads, reads}
 use Rattle.mwc_parts.proofs.Tasks.{all_taken, cut_taken}
 
-cut_settles : (g : Slicing) (most : ℕ) (taken left : List Word) (given : List ℕ) (told : Bool) (words : List Word)
-    → taken ++ left ≡ open_words given ++ end_words told → IsCutSending g most taken words → IsCutShort g most given words
-cut_settles g most taken left given told words e w = grind (arith, cut_taken)
-
 pub settles : (g : Slicing) (most : ℕ) (taken left : List Word) (given : List ℕ) (told : Bool) (words : List Word)
     → All (λ j. j < g.slices) given → taken ++ left ≡ open_words given ++ end_words told → IsWholeSending g most taken words
     ⊎ IsCutSending g most taken words → AreSettled g most given told words
 settles g most taken left given told words a e (inl w) = grind (arith, all_taken)
-settles g most taken left given told words a e (inr w) = inr (cut_settles g most taken left given told words e w)
+settles g most taken left given told words a e (inr w) = grind (arith, nat_tests, cut_taken)
 
 -- a whole sending tells of no cut
 uncut_ones : (l : List ℕ) (j : ℕ) → has_cut (map One l ++ Done j ∷ []) ≡ false

@@ -1,8 +1,9 @@
+use Rattle.std.proofs.lemmas.Bool.Decides.{nat_tests}
 use Rattle.std.proofs.Common.{◌≡◌, ◌+◌, ◌++◌, ◌∷◌, [], List, take, append_assoc, arith}
 use Rattle.std.proofs.lemmas.List.{take_more}
 use Rattle.std.proofs.lemmas.Grind.{common_steps}
 use Rattle.mwc_pipe.specs.declared.word.Word.{Word}
-use Rattle.mwc_parts.proofs.Rooms.{grows_more, loses_by}
+use Rattle.mwc_parts.proofs.Rooms.{loses_by}
 use Rattle.mwc_parts.proofs.draft.Draft.hear_row.Goals as goal
 
 pub loop-word-preserved : goal.loop-word-preserved
@@ -11,4 +12,4 @@ loop-word-preserved c =
     let row : List Word = c.args.row.now in
     let word : Word = c.word-item.result in
     let more : take (at + 1) row ≡ take at row ++ word ∷ [] = grind (arith, common_steps, take_more) in
-    grind (arith, common_steps, append_assoc, grows_more, loses_by)
+    grind (arith, nat_tests, common_steps, append_assoc, loses_by)
