@@ -15,11 +15,13 @@ TOP = os.path.dirname(os.path.dirname(os.path.realpath(__file__)))
 CRATES = sorted(os.listdir(f"{TOP}/crates"))
 # the module that a path leads to: its crate, its room, and its name
 CITED = re.compile(r"\b(?:Rattle\.)?(\w+)(?:\.|::)(proofs|specs)(?:\.|::)(?:(Shared|Inner)(?:\.|::))?(\w+)")
+# a line that takes names of several modules
+TAKEN = re.compile(r"\buse ([\w.]+)\.\{([^}\n]*)\}")
 
 
 def read(path):
     with open(path, encoding="utf-8") as it:
-        return it.read()
+        return TAKEN.sub(lambda m: " ".join(f"{m[1]}.{name.strip()}" for name in m[2].split(",")), it.read())
 
 
 def modules(path):

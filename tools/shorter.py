@@ -27,7 +27,9 @@ OPEN, CLOSE = "([{", ")]}"
 
 def imports(text):
     """What a file takes from other modules, by name."""
-    return {name.strip(): m[1] for m in re.finditer(r"^(?:pub )?use ([^{\n]*)\.\{([^}]*)\}", text, re.M) for name in m[2].split(",")}
+    lines = re.finditer(r"^(?:pub )?use ([^{\n]*)\.\{([^}]*)\}", text, re.M)
+    paths = [f"{m[1]}.{name.strip()}" for m in lines for name in m[2].split(",")]
+    return {name: module for module, name in (path.rsplit(".", 1) for path in paths)}
 
 
 def lemmas_of(text):
