@@ -1,5 +1,4 @@
 pub mod Shared
-mod Names
 mod Order
 mod Named
 mod Monotone
