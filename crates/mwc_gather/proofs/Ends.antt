@@ -1,9 +1,11 @@
 -- The end of gathering.
+use Rattle.std.proofs.lemmas.Grind.{common_steps}
+use Rattle.std.proofs.lemmas.Bool.Decides.{nat_tests}
 use Rattle.std.specs.Prelude.{◌≡◌, ℕ, ◌<◌, ◌≤◌, Bool, true, false, List, [], ◌∷◌, ◌++◌, Option, Some, None, cond, All, length, map, slice_get, refl}
 use Rattle.std.specs.List.{AllZip}
 use Rattle.std.proofs.Common.{get_or, append_assoc, ap, subst, arith, sym, ◌∙◌}
 use Rattle.std.proofs.lemmas.List.{length-map, get_or-map, map_push}
-use Rattle.std.proofs.lemmas.List.Elements.{All-head, All-tail, All-push}
+use Rattle.std.proofs.lemmas.List.Elements.{All-head, All-tail}
 use Rattle.std.proofs.lemmas.Slice.Zip.{AllZip-long}
 use Rattle.mwc_parts.specs.Slicing.{Slicing}
 use Rattle.std.specs.List.{sum_by}
@@ -57,8 +59,7 @@ parts_sum g [] a = refl
 parts_sum g (p ∷ parts) a =
     let part = All-head (IsPart g) p parts a in
     let x = ap length part.0 in let b = length-joined g p.slices.items in
-    let c = parts_sum g parts (All-tail (IsPart g) p parts a) in
-    omega (arith, sum_by-cons (λ (p : Part). length p.got.items) p parts, sum_by-cons (coalition_count g) p.slices.items (shares parts))
+    let c = parts_sum g parts (All-tail (IsPart g) p parts a) in grind (arith, nat_tests, common_steps, sum_by-cons)
 
 -- all parts have as many coalitions as the slices
 pub complete_sum : {g : Slicing} {workers : ℕ} {parts : List Part} → IsComplete g workers parts
@@ -70,8 +71,7 @@ end_increases parts d = all_of_map IsStrictlyIncreasing (λ (p : Part). p.slices
 
 pub fresh_push : (desks : List Desk) (d : Desk) → All IsFresh (views_of desks) → IsFresh (view_of d)
     → All IsFresh (views_of (desks ++ d ∷ []))
-fresh_push desks d a f =
-    subst (λ (w : List DeskView). All IsFresh w) (sym (map_push view_of desks d)) (All-push IsFresh (views_of desks) (view_of d) a f)
+fresh_push desks d a f = grind (arith, nat_tests, common_steps, map_push)
 
 pub many_is_new_or_old : (m : Met) (why : GatherFault) (P : Type 0) → (why ≡ TooMany → P) → (m.many ≡ true → P)
     → (also m why).many ≡ true → P

@@ -1,3 +1,5 @@
+use Rattle.std.proofs.lemmas.Grind.{common_steps}
+use Rattle.std.proofs.lemmas.Bool.Decides.{nat_tests}
 use Rattle.std.proofs.Common.{List, length, ap, arith}
 use Rattle.mwc_parts.specs.Slicing.{Slicing}
 use Rattle.std.specs.List.{sum_by}
@@ -14,8 +16,7 @@ pub returns-then-not-fits-clause-many : goal.returns-then-not-fits-clause-many
 returns-then-not-fits-clause-many g c =
     let job = c.args.job.now in
     let sum = complete_sum c.requires in
-    let all = all_total_is job.guarded job.bits job.bits_fit.0 job.bits_fit.1 in
-    grind (arith)
+    let all = all_total_is job.guarded job.bits job.bits_fit.0 job.bits_fit.1 in grind (arith, nat_tests, common_steps)
 
 pub invariant_of-result : goal.invariant_of-result
 invariant_of-result g c = grind (arith, dealt_each_once)
