@@ -63,14 +63,9 @@ digit-added_below n c k lt below out =
     let fits : (c / 2 ^ k + 2) * 2 ^ k ≤ 2 * 2 ^ (n - 1 - k) * 2 ^ k = grind (arith, mul-le) in
     omega (arith, fits, whole, parts, low)
 
-out-digit : (n q c : ℕ) → has n q c ≡ false → c / 2 ^ (n - 1 - q) % 2 ≡ 0
+pub out-digit : (n q c : ℕ) → has n q c ≡ false → c / 2 ^ (n - 1 - q) % 2 ≡ 0
 unfolding has
 out-digit n q c out = grind (arith, mod-lt, eqb-false)
-
--- a place that is out, taken in
-pub has-added : (n q c : ℕ) → has n q c ≡ false → has n q (c + 2 ^ (n - 1 - q)) ≡ true
-unfolding has
-has-added n q c out = eq-eqb _ _ (digit-added c (n - 1 - q) (out-digit n q c out))
 
 pub has-beside : (n p q c : ℕ) → p < n → q < n → p ≢ q → has n q c ≡ false → has n p (c + 2 ^ (n - 1 - q)) ≡ has n p c
 unfolding has

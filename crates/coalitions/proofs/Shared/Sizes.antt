@@ -1,9 +1,9 @@
 -- The size of a coalition by its binary digits.
-use Rattle.std.proofs.Common.{◌≡◌, ℕ, zero, suc, ◌+◌, ◌-◌, ◌*◌, ◌/◌, ◌%◌, ◌^◌, ◌<◌, ◌≤◌, length, sym, ap, ◌∙◌, arith, count_ones, filter, true}
+use Rattle.std.proofs.Common.{◌≡◌, ℕ, zero, suc, ◌+◌, ◌-◌, ◌*◌, ◌/◌, ◌%◌, ◌^◌, ◌<◌, ◌≤◌, length, sym, ap, ◌∙◌, arith, count_ones, filter}
 use Rattle.std.specs.List.{range_with_len}
 use Rattle.std.proofs.lemmas.Nat.{ones_cat, ones-le, mod-pow-add}
 use Rattle.std.specs.Int.Count.{ones-ones}
-use Rattle.std.proofs.Math.Nat.{mod-eq_of_lt, mod-lt, div-mul-le_self, mul-le-mul_right}
+use Rattle.std.proofs.Math.Nat.{mod-eq_of_lt, mod-lt}
 use Rattle.std.proofs.lemmas.Nat.{pow_pos}
 use Rattle.std.proofs.lemmas.Bool.{cond_both, eqb-true, eqb-false}
 use Rattle.std.proofs.lemmas.Bool.Decides.{nat_tests}
@@ -33,8 +33,3 @@ size-ones n c below = size-from n 0 n c (omega arith) ∙ ap count_ones (mod-eq_
 -- a place's digit, as the code makes it
 pub digit-shifted : (n p : ℕ) → n ≤ 40 → p < n → 1 * 2 ^ (n - 1 - p) % 18446744073709551616 ≡ 2 ^ (n - 1 - p)
 digit-shifted n p few below = grind (arith, nat_tests, common_steps, mod-eq_of_lt)
-
--- a number is at least the digit of a place that is in it
-pub has-least : (n p c : ℕ) → has n p c ≡ true → 2 ^ (n - 1 - p) ≤ c
-unfolding has
-has-least n p c in' = grind (arith, eqb-true, div-mul-le_self, mul-le-mul_right)

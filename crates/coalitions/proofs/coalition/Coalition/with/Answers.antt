@@ -1,9 +1,9 @@
-use Rattle.std.proofs.Common.{arith}
+use Rattle.std.proofs.Common.{arith, eq-eqb}
 use Rattle.std.proofs.lemmas.Bool.{cond-false}
 use Rattle.std.proofs.lemmas.Grind.{common_steps}
-use Rattle.coalitions.specs.Coalitions.{with_member}
+use Rattle.coalitions.specs.Coalitions.{with_member, has}
 use Rattle.coalitions.proofs.Shared.Sizes.{digit-shifted}
-use Rattle.coalitions.proofs.Shared.Digits.{has-added, has-beside, added-below, added-room}
+use Rattle.coalitions.proofs.Shared.Digits.{has-beside, added-below, added-room, digit-added, out-digit}
 use Rattle.coalitions.proofs.coalition.Coalition.with.Goals as goal
 
 pub invariant_of-result : goal.invariant_of-result
@@ -14,7 +14,8 @@ unfolding with_member
 returns-else-has-clause-mask c = grind (arith, common_steps, digit-shifted, cond-false)
 
 pub returns-else-has-clause-inside : goal.returns-else-has-clause-inside
-returns-else-has-clause-inside c = grind (arith, common_steps, digit-shifted, has-added)
+unfolding has
+returns-else-has-clause-inside c = grind (arith, common_steps, digit-shifted, eq-eqb, digit-added, out-digit)
 
 pub returns-else-has-clause-others : goal.returns-else-has-clause-others
 returns-else-has-clause-others c p lt other = grind (arith, common_steps, digit-shifted, has-beside)

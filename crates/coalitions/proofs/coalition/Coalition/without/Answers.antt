@@ -1,13 +1,15 @@
+use Rattle.std.proofs.Math.Nat.{div-mul-le_self, mul-le-mul_right}
 use Rattle.std.proofs.Common.{arith}
-use Rattle.std.proofs.lemmas.Bool.{cond-true}
+use Rattle.std.proofs.lemmas.Bool.{cond-true, eqb-true}
 use Rattle.std.proofs.lemmas.Grind.{common_steps}
-use Rattle.coalitions.specs.Coalitions.{without}
-use Rattle.coalitions.proofs.Shared.Sizes.{digit-shifted, has-least}
+use Rattle.coalitions.specs.Coalitions.{without, has}
+use Rattle.coalitions.proofs.Shared.Sizes.{digit-shifted}
 use Rattle.coalitions.proofs.Shared.Digits.{has-gone, has-kept}
 use Rattle.coalitions.proofs.coalition.Coalition.without.Goals as goal
 
 pub overflow_sub-self-inside : goal.overflow_sub-self-inside
-overflow_sub-self-inside c = grind (arith, common_steps, digit-shifted, has-least)
+unfolding has
+overflow_sub-self-inside c = grind (arith, common_steps, digit-shifted, eqb-true, div-mul-le_self, mul-le-mul_right)
 
 pub returns-then-has-clause-mask : goal.returns-then-has-clause-mask
 unfolding without
