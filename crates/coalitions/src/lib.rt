@@ -3,7 +3,9 @@
 
 mod coalition;
 pub mod limits;
+mod lists;
 mod memory;
 
 pub use coalition::Coalition;
+pub use lists::listed;
 pub use memory::Memory;

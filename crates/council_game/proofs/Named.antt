@@ -1,12 +1,16 @@
 -- Coalitions made of members, and the members of a coalition.
-use Rattle.std.proofs.Common.{◌≡◌, ◌≢◌, ℕ, ◌+◌, ◌<◌, ◌==◌, ◌||◌, Bool, true, List, length, get_or, take, sym, ap, ◌∙◌, inl, inr}
-use Rattle.std.specs.List.{list_any}
-use Rattle.std.proofs.lemmas.Bool.{cases_eq, eq-eqb, ne_eqb, or_right}
+use Rattle.std.proofs.Common.{arith}
+use Rattle.std.proofs.lemmas.Bool.Decides.{nat_tests}
+use Rattle.std.proofs.Common.{◌≡◌, ◌≢◌, ℕ, ◌+◌, ◌<◌, ◌==◌, ◌||◌, Bool, true, false, List, [], ◌∷◌, ◌++◌, length, get_or, take, map, filter, sym, ap, ◌∙◌, inl, inr}
+use Rattle.std.specs.List.{list_any, range_with_len}
+use Rattle.std.proofs.lemmas.Bool.{cases_eq, eq-eqb, ne_eqb, cond-true, cond-false, or_right}
 use Rattle.std.proofs.Math.Bool.{or-false}
+use Rattle.std.proofs.lemmas.List.{map-append, append-nil}
 use Rattle.std.proofs.lemmas.List.Folds.{list_any_more}
 use Rattle.council_game.specs.Votes.{has}
 use Rattle.council_game.specs.Ranks.{member_at}
 use Rattle.council_game.specs.Game.{GameView, IsGame}
+use Rattle.council_game.proofs.Shared.Lists.{filter_one_more}
 use Rattle.council_game.proofs.Shared.Making.{ranks-are}
 
 -- one more member is taken in
@@ -28,3 +32,14 @@ taken-in g ms k place a b game lt member at inside kept before i below =
           kept (get_or g.ranks i 0) (are.place_below i below) other ∙ before i below
           ∙ sym (more ∙ ap (λ (t : Bool). list_any (λ j. j == i) (take k ms) || t) (ne_eqb _ _ apart) ∙ or-false _)
     ]
+
+-- a place that is in, and one that is not
+pub place-in : (ranks xs ys : List ℕ) (n c p m : ℕ) → has n p c ≡ true → m ≡ member_at ranks p → ys ≡ xs ++ m ∷ []
+    → xs ≡ map (member_at ranks) (filter (λ q. has n q c) (range_with_len 0 p))
+    → ys ≡ map (member_at ranks) (filter (λ q. has n q c) (range_with_len 0 (p + 1)))
+place-in ranks xs ys n c p m in' is pushed before = grind (arith, nat_tests, filter_one_more, cond-true, map-append)
+
+pub place-out : (ranks xs : List ℕ) (n c p : ℕ) → has n p c ≡ false
+    → xs ≡ map (member_at ranks) (filter (λ q. has n q c) (range_with_len 0 p))
+    → xs ≡ map (member_at ranks) (filter (λ q. has n q c) (range_with_len 0 (p + 1)))
+place-out ranks xs n c p out before = grind (arith, nat_tests, filter_one_more, cond-false, append-nil)

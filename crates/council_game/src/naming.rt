@@ -48,7 +48,21 @@ impl Game {
             (places_of (length self.now.names) coalition)) }
     {
         let count = self.members();
-        let places = (0..count).filter(|place| coalition.has(count, *place));
-        Ok(places.map(|place| self.member_at(place)).collect(alloc)?)
+        let mut members = Vec::new(alloc);
+        for place in 0..count {
+            if coalition.has(count, place) {
+                self.push_member(&mut members, place)?;
+            }
+        }
+        Ok(members)
+    }
+
+    /// Adds the member at a place by rank to a row.
+    fn push_member(&self, members: &mut Vec<usize>, place: usize) -> Result<(), Memory>
+        requires { place < length self.now.names }
+        ensures { OnOk result (members.new.items
+            ≡ members.old.items ++ member_at self.now.ranks place ∷ []) }
+    {
+        Ok(members.push(self.member_at(place))?)
     }
 }

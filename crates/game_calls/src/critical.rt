@@ -32,9 +32,11 @@ pub fn critical_members(
     ensures { IfOk result
         (λ v. v.items ≡ filter (is_critical game.now coalition) (members game.now)) }
 {
-    Ok(
-        (0..game.members())
-            .filter(|member| is_critical(game, coalition, *member))
-            .collect(alloc)?,
-    )
+    let mut critical = Vec::new(alloc);
+    for member in 0..game.members() {
+        if is_critical(game, coalition, member) {
+            critical.push(member)?;
+        }
+    }
+    Ok(critical)
 }

@@ -47,12 +47,13 @@ pub fn coalitions_with(
 {
     let members = game.members();
     let place = game.place_of(member);
-    Ok(
-        list.iter()
-            .copied()
-            .filter(|coalition| coalition.has(members, place))
-            .collect(alloc)?,
-    )
+    let mut found = Vec::new(alloc);
+    for coalition in list {
+        if coalition.has(members, place) {
+            found.push(*coalition)?;
+        }
+    }
+    Ok(found)
 }
 
 /// All minimal winning coalitions of a game of at most 20 members, by the walk and by trying each: one

@@ -1,0 +1,7 @@
+use Rattle.std.proofs.Common.{◌≡◌}
+use Rattle.std.specs.List.{filter, range_with_len}
+use Rattle.game_calls.specs.Critical.{is_critical}
+use Rattle.game_calls.proofs.critical.critical_members.Given as goal
+
+abbrev pub invariant-loop-member : goal.invariant-loop-member
+invariant-loop-member l = l.critical.items ≡ filter (is_critical l.game l.coalition) (range_with_len 0 l.member)
