@@ -11,7 +11,7 @@ use Rattle.mwc_parts.specs.Wording.{slice_words, cut_words}
 use Rattle.mwc_gather.specs.Sending.{sending}
 use Rattle.mwc_gather.specs.Inner.Sending.{SendsFirst, SendsSome}
 use Rattle.mwc_gather.proofs.Slices.{starts_sending, whole_starts}
-use Rattle.mwc_gather.proofs.FirstWords.{first_added, first_all, some_starts}
+use Rattle.mwc_gather.proofs.FirstWords.{none_sent, first_added, first_all, some_starts}
 
 -- of slice j, which has these coalitions, of which `wanted` are wanted, some are given and `left` may still be; their words went into
 -- the pipe but for the parcel
@@ -60,28 +60,26 @@ module _ {all : List ℕ} {j wanted left : ℕ} {before : List Word} where
       )
 
   -- with the word that ends it, where nothing is to come
-  sends_end : {out row mid new : List Word} (g : Slicing) → g.slice j ≡ all → (u : UnderWay all j wanted left before [] out row)
-      → SendsFirst out (row ++ Done j ∷ []) mid new
-      → SendsFirst before (slice_words g j) mid new
-  sends_end {out} {row} {mid} {new} g e u s =
+  whole_row : {out row : List Word} (g : Slicing) → g.slice j ≡ all → UnderWay all j wanted left before [] out row
+      → SendsFirst before (slice_words g j) out (row ++ Done j ∷ [])
+  whole_row {out} {row} g e u =
       let whole : g.slice j ≡ u.given = e ∙ u.split ∙ append-nil u.given in
-      subst (λ (w : List ℕ). SendsFirst before ((Open j ∷ map One w) ++ Done j ∷ []) mid new) (sym whole)
-      (first_added before (Open j ∷ map One u.given) out row (Done j ∷ []) mid new u.first s)
+      subst (λ (w : List ℕ). SendsFirst before ((Open j ∷ map One w) ++ Done j ∷ []) out (row ++ Done j ∷ [])) (sym whole)
+      (first_added before (Open j ∷ map One u.given) out row (Done j ∷ []) out (row ++ Done j ∷ []) u.first (none_sent out (row ++ Done j ∷ [])))
 
   short : {out row : List Word} (g : Slicing) → g.slice j ≡ all → UnderWay all j wanted left before [] out row
       → left + length (g.slice j) ≡ wanted
   short g e u = let count = u.count in let whole = ap length (e ∙ u.split ∙ append-nil u.given) in omega arith
 
-  pub takes_some_at_end : {out row mid new after : List Word} (g : Slicing) → g.slice j ≡ all → UnderWay all j wanted left before [] out row
-      → 0 < left → SendsFirst out (row ++ Done j ∷ []) mid new
-      → SendsSome mid new after → (words : List Word) × (after ≡ before ++ words) × IsPrefix words (sending g j wanted)
-  takes_some_at_end {out} {row} {mid} {new} {after} g e u more s some =
+  pub takes_some_at_end : {out row after : List Word} (g : Slicing) → g.slice j ≡ all → UnderWay all j wanted left before [] out row
+      → 0 < left → SendsSome out (row ++ Done j ∷ []) after → (words : List Word) × (after ≡ before ++ words) × IsPrefix words (sending g j wanted)
+  takes_some_at_end {out} {row} {after} g e u more some =
       let count = short g e u in
-      some_starts before (slice_words g j) mid new after (sending g j wanted) (sends_end g e u s) some
+      some_starts before (slice_words g j) out (row ++ Done j ∷ []) after (sending g j wanted) (whole_row g e u) some
       (whole_starts g j wanted (omega arith))
 
-  pub sent_whole : {out row mid new after : List Word} (g : Slicing) → g.slice j ≡ all → UnderWay all j wanted left before [] out row
-      → 0 < left → SendsFirst out (row ++ Done j ∷ []) mid new
-      → after ≡ mid ++ new → (after ≡ before ++ slice_words g j) × (length (g.slice j) < wanted) × (left + length (g.slice j) ≡ wanted)
-  sent_whole {out} {row} {mid} {new} {after} g e u more s sent =
-      let count = short g e u in (first_all before (slice_words g j) mid new after (sends_end g e u s) sent, omega arith, count)
+  pub sent_whole : {out row after : List Word} (g : Slicing) → g.slice j ≡ all → UnderWay all j wanted left before [] out row
+      → 0 < left → after ≡ out ++ (row ++ Done j ∷ [])
+      → (after ≡ before ++ slice_words g j) × (length (g.slice j) < wanted) × (left + length (g.slice j) ≡ wanted)
+  sent_whole {out} {row} {after} g e u more sent =
+      let count = short g e u in (first_all before (slice_words g j) out (row ++ Done j ∷ []) after (whole_row g e u) sent, omega arith, count)

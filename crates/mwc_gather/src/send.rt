@@ -79,6 +79,26 @@ fn add<W: PutsRows<P>, R: Wait, P: PipeIn<Word>>(
     true
 }
 
+/// Adds the last word to the parcel, and sends it all; false where the pipe refuses a word for good.
+fn send_last<W: PutsRows<P>, R: Wait, P: PipeIn<Word>>(
+    rt: &R,
+    parcel: &mut Parcel,
+    word: Word,
+    out: &mut P,
+    pair: BellPair<'_>,
+) -> bool
+    ensures identity { P.identity out.new ≡ P.identity out.old }
+    ensures sent { IsTrue result → (P.accepted out.new ≡ P.accepted out.old ++ (parcel.old ++ word ∷ []))
+        × (P.broken out.new ≡ P.broken out.old) }
+    ensures refused { IsFalse result → SendsSome (P.accepted out.old) (parcel.old ++ word ∷ [])
+        (P.accepted out.new) × (P.broken out.new ≡ true) }
+{
+    if !add::<W, _, _>(rt, parcel, word, out, pair) {
+        return false;
+    }
+    send::<W, _, _>(rt, parcel.words(), out, pair)
+}
+
 /// Passes the gate, and sends the words of a slice, but of its coalitions no more than the first
 /// `left`, which is 1 to 4,000,001. While the pipe is full it waits. It takes no memory.
 ///
@@ -159,21 +179,19 @@ fn send_walk<W: PutsRows<P>, R: Wait, P: PipeIn<Word>, G: Told>(
     let mut left = left;
     let mut last = LastTold::nothing(&walk, left);
     while let Some(coalition) = next_told(guarded, &mut walk, &mut last, left) {
-        if !add::<W, _, _>(rt, &mut parcel, Word::One(coalition), out, pair) {
-            return Sent::Refused;
-        }
-        left -= 1;
-        if left == 0 {
-            if !send::<W, _, _>(rt, parcel.words(), out, pair) {
+        let word = Word::One(coalition);
+        if left == 1 {
+            if !send_last::<W, _, _>(rt, &mut parcel, word, out, pair) {
                 return Sent::Refused;
             }
             return Sent::Cut;
         }
+        if !add::<W, _, _>(rt, &mut parcel, word, out, pair) {
+            return Sent::Refused;
+        }
+        left -= 1;
     }
-    if !add::<W, _, _>(rt, &mut parcel, Word::Done(slice), out, pair) {
-        return Sent::Refused;
-    }
-    if !send::<W, _, _>(rt, parcel.words(), out, pair) {
+    if !send_last::<W, _, _>(rt, &mut parcel, Word::Done(slice), out, pair) {
         return Sent::Refused;
     }
     Sent::Whole { left }

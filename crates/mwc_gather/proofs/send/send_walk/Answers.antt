@@ -3,6 +3,7 @@ use Rattle.std.proofs.Common.{rules, arith, refl, sym, add-zero, ◌∙◌, ap}
 use Rattle.std.proofs.lemmas.List.{append-nil}
 use Rattle.mwc_pipe.specs.declared.word.Word.{Word}
 use Rattle.mwc_pipe.specs.declared.word.Word.TheVariants.{Open}
+use Rattle.mwc_gather.proofs.FirstWords.{none_sent}
 use Rattle.mwc_gather.proofs.UnderWay.{one_more, takes_some, sent_cut, takes_some_at_end, sent_whole}
 use Rattle.mwc_gather.proofs.send.send_walk.Goals as goal
 
@@ -26,42 +27,21 @@ loop-coalition-init g c = record {
 pub push-requires : goal.push-requires
 push-requires g c = let none = ap length c.new-parcel.ensures in omega arith
 
-pub returns-then-not-add : goal.returns-then-not-add
-returns-then-not-add g c =
-    let i = c.loop-coalition.invariant in
-    let no = c.if-not-add.ensures.refused refl in
-    record {
-      identity = c.if-not-add.ensures.identity ∙ i.same;
-      sends = λ h e. (no.1, takes_some h e i.sent no.0);
-      unbroken = tt;
-    }
+pub returns-then-not-send_last-clause-sends : goal.returns-then-not-send_last-clause-sends
+returns-then-not-send_last-clause-sends g c h e =
+    let some = c.if-left-eq1.true in
+    let more = one_more {next = 0} c.in-Some.coalition c.loop-coalition.invariant.sent c.in-Some.ensures (omega arith) (none_sent _ _) in
+    let no = c.if-not-send_last.ensures.refused refl in (no.1, takes_some h e more no.0)
 
-pub returns-then-not-send : goal.returns-then-not-send
-returns-then-not-send g c =
-    let i = c.loop-coalition.invariant in
-    let some = i.some_left in
-    let added = c.if-not-add.ensures.added refl in
-    let more = one_more {next = 0} c.in-Some.coalition i.sent c.in-Some.ensures (omega arith) added.0 in
-    let no = c.if-not-send.ensures.refused refl in
-    record {
-      identity = c.if-not-send.ensures.identity ∙ c.if-not-add.ensures.identity ∙ i.same;
-      sends = λ h e. (no.1, takes_some h e more (rw c.words.ensures at no.0));
-      unbroken = tt;
-    }
+pub returns-then-left-eq1-clause-sends : goal.returns-then-left-eq1-clause-sends
+returns-then-left-eq1-clause-sends g c h e =
+    let some = c.if-left-eq1.true in
+    let more = one_more {next = 0} c.in-Some.coalition c.loop-coalition.invariant.sent c.in-Some.ensures (omega arith) (none_sent _ _) in
+    sent_cut h e more refl (c.if-not-send_last.ensures.sent refl).0
 
-pub returns-then-left-eq0 : goal.returns-then-left-eq0
-returns-then-left-eq0 g c =
-    let i = c.loop-coalition.invariant in
-    let some = i.some_left in
-    let added = c.if-not-add.ensures.added refl in
-    let more = one_more {next = 0} c.in-Some.coalition i.sent c.in-Some.ensures (omega arith) added.0 in
-    let sent = c.if-not-send.ensures.sent refl in
-    record {
-      identity = c.if-not-send.ensures.identity ∙ c.if-not-add.ensures.identity ∙ i.same;
-      sends = λ h e. sent_cut h e more (omega arith)
-          (sent.0 ∙ ap (λ (w : List Word). g.P.PipeIn.accepted c.add.new.out ++ w) c.words.ensures);
-      unbroken = sent.1 ∙ added.1 ∙ i.broken;
-    }
+pub returns-then-not-add-clause-sends : goal.returns-then-not-add-clause-sends
+returns-then-not-add-clause-sends g c h e =
+    let no = c.if-not-add.ensures.refused refl in (no.1, takes_some h e c.loop-coalition.invariant.sent no.0)
 
 pub loop-coalition-preserved : goal.loop-coalition-preserved
 loop-coalition-preserved g c =
@@ -70,41 +50,17 @@ loop-coalition-preserved g c =
     record {
       same = c.if-not-add.ensures.identity ∙ c.loop-coalition.invariant.same;
       broken = added.1 ∙ c.loop-coalition.invariant.broken;
-      some_left = omega arith;
+      some_left = omega (arith, c.if-left-eq1.false);
       sent = one_more c.in-Some.coalition c.loop-coalition.invariant.sent c.in-Some.ensures (omega arith) added.0;
     }
 
-pub returns-then-not-add-2 : goal.returns-then-not-add-2
-returns-then-not-add-2 g c =
-    let i = c.loop-coalition.invariant in
-    let no = c.if-not-add-2.ensures.refused refl in
-    record {
-      identity = c.if-not-add-2.ensures.identity ∙ i.same;
-      sends = λ h e. (no.1, takes_some h e i.sent no.0);
-      unbroken = tt;
-    }
-
-pub returns-then-not-send-2 : goal.returns-then-not-send-2
-returns-then-not-send-2 g c =
-    let i = c.loop-coalition.invariant in
+pub returns-then-not-send_last-2-clause-sends : goal.returns-then-not-send_last-2-clause-sends
+returns-then-not-send_last-2-clause-sends g c h e =
     let none : c.loop-coalition.walk.to_come ≡ [] = search rules in
-    let added = c.if-not-add-2.ensures.added refl in
-    let no = c.if-not-send-2.ensures.refused refl in
-    record {
-      identity = c.if-not-send-2.ensures.identity ∙ c.if-not-add-2.ensures.identity ∙ i.same;
-      sends = λ h e. (no.1, takes_some_at_end h e (rw none at i.sent) i.some_left added.0 (rw c.words-2.ensures at no.0));
-      unbroken = tt;
-    }
+    let no = c.if-not-send_last-2.ensures.refused refl in
+    (no.1, takes_some_at_end h e (rw none at c.loop-coalition.invariant.sent) c.loop-coalition.invariant.some_left no.0)
 
-pub returns : goal.returns
-returns g c =
-    let i = c.loop-coalition.invariant in
+pub returns-clause-sends : goal.returns-clause-sends
+returns-clause-sends g c h e =
     let none : c.loop-coalition.walk.to_come ≡ [] = search rules in
-    let added = c.if-not-add-2.ensures.added refl in
-    let sent = c.if-not-send-2.ensures.sent refl in
-    record {
-      identity = c.if-not-send-2.ensures.identity ∙ c.if-not-add-2.ensures.identity ∙ i.same;
-      sends = λ h e. sent_whole h e (rw none at i.sent) i.some_left added.0
-          (sent.0 ∙ ap (λ (w : List Word). g.P.PipeIn.accepted c.add-2.new.out ++ w) c.words-2.ensures);
-      unbroken = sent.1 ∙ added.1 ∙ i.broken;
-    }
+    sent_whole h e (rw none at c.loop-coalition.invariant.sent) c.loop-coalition.invariant.some_left (c.if-not-send_last-2.ensures.sent refl).0

@@ -1,0 +1,10 @@
+use Rattle.std.proofs.Common.{[], ◌∷◌, refl}
+use Rattle.mwc_gather.proofs.FirstWords.{some_of_more, some_later}
+use Rattle.mwc_gather.proofs.send.send_last.Goals as goal
+
+pub returns-then-not-add-clause-refused : goal.returns-then-not-add-clause-refused
+returns-then-not-add-clause-refused g c = λ _. let no = c.if-not-add.ensures.refused refl in (some_of_more _ _ _ (c.args.word ∷ []) no.0, no.1)
+
+pub returns-clause-refused : goal.returns-clause-refused
+returns-clause-refused g c = λ h. let no = c.send.ensures.refused h in
+    (some_later _ _ _ _ _ (c.if-not-add.ensures.added refl).0 (rw c.words.ensures at no.0), no.1)
