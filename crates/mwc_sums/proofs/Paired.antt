@@ -7,9 +7,11 @@ use Rattle.power_index.proofs.Shared.Sums.{sum-times, sum-range, sum-filter, sum
 use Rattle.std.proofs.lemmas.Bool.Decides.{nat_tests}
 use Rattle.mwc_sums.specs.Chambers.{paired}
 use Rattle.mwc_sums.proofs.Filters.{filter-none}
-use Rattle.mwc_sums.proofs.Leads.{shifted}
 use Rattle.mwc_sums.proofs.Matching.{count-both}
 use Rattle.mwc_sums.proofs.Seating.{one_if}
+
+shifted : (a x s : ℕ) → a ≤ s → (a + x == s) ≡ (x == s - a)
+shifted a x s le = grind (arith, nat_tests)
 
 -- those of a list that fill so many up to s
 filling : (q : ℕ → Bool) (k : ℕ → ℕ) (ys : List ℕ) (j s : ℕ) → length (filter (λ y. q y && (j + k y == s)) ys)
