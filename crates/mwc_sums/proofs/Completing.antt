@@ -2,7 +2,7 @@
 use Rattle.std.proofs.Common.{◌≡◌, ◌∙◌, ◌↔◌, ◌⊎◌, ℕ, zero, suc, ◌+◌, ◌-◌, ◌*◌, ◌/◌, ◌%◌, ◌^◌, ◌<◌, ◌≤◌, ◌==◌, Bool, true, false, cond, ltb}
 use Rattle.std.proofs.Common.{List, [], ◌∷◌, ◌++◌, length, get_or, map, sym, ap, refl, arith, inl, inr}
 use native.Mathlib.Numerals.{unary_clauses}
-use Rattle.std.proofs.lemmas.Bool.{cases_lt, eqb-true, both_ways}
+use Rattle.std.proofs.lemmas.Bool.{cases_lt, eqb-true}
 use Rattle.std.proofs.lemmas.Nat.{pow_pos}
 use Rattle.std.proofs.lemmas.Nat.Bits.{bit_at_cat_low, bit_at_cat_high, bit_at_above}
 use Rattle.council_game.specs.Votes.{RuleView, has, size, weight, wins, down}
@@ -66,49 +66,25 @@ no-size : (n : ℕ) → size n 0 ≡ 0
 no-size zero = refl
 no-size (suc n) = size-left n 0 (pow_pos n) ∙ no-size n
 
--- what its last member weighs
-unfoldable pub last : List ℕ → ℕ → ℕ
-last [] c = 0
-last (w ∷ ws) c = cond (ltb c (2 ^ length ws)) (last ws c) (cond (c - 2 ^ length ws == 0) w (last ws (c - 2 ^ length ws)))
+-- the place of its last member
+unfoldable pub last : ℕ → ℕ → ℕ
+last zero c = 0
+last (suc n) c = cond (ltb c (2 ^ n)) (suc (last n c)) (cond (c - 2 ^ n == 0) 0 (suc (last n (c - 2 ^ n))))
 
-last-member : (ws : List ℕ) (c : ℕ) → c < 2 ^ length ws → 0 < c → (p : ℕ) × (p < length ws) × (has (length ws) p c ≡ true) × (get_or ws p 0 ≡ last ws c)
+last-in : (n c : ℕ) → c < 2 ^ n → 0 < c → (last n c < n) × (has n (last n c) c ≡ true)
 unfolding last
-last-member [] c lt pos = absurd (omega arith)
-last-member (w ∷ ws) c lt pos = elim (cases_lt c (2 ^ length ws)) [
-  | inl low ↦
-      let found = last-member ws c low pos in
-      (suc found.0, omega arith, rest-out (length ws) found.0 c ∙ found.2, grind (arith, nat_tests))
-  | inr high ↦
-      let n : ℕ = length ws in
-      let d : ℕ = c - 2 ^ n in
-      let low : d < 2 ^ n = (let e = double-pow n in omega (arith, e)) in
-      let is : 2 ^ n + d ≡ c = omega arith in elim (cases_lt 0 d) [
-        | inl some ↦
-            let found = last-member ws d low some in
-            (suc found.0, omega arith, ap (has (suc n) (suc found.0)) (sym is) ∙ rest-in n found.0 d found.1 ∙ found.2, grind (arith, nat_tests))
-        | inr none ↦ (0, omega arith, ap (has (suc n) 0) (sym is) ∙ first-in n d low, grind (arith, nat_tests))
-      ]
-]
+last-in zero c lt pos = absurd (omega arith)
+last-in (suc n) c lt pos =
+    let again = last-in n (c - 2 ^ n) in
+    grind (arith, nat_tests, again, last-in n c, rest-out, first-in n (c - 2 ^ n), rest-in n (last n (c - 2 ^ n)) (c - 2 ^ n), double-pow n, cases_lt c (2 ^ n))
 
-last-lightest : (ws : List ℕ) (p c : ℕ) → Falls ws → c < 2 ^ length ws → p < length ws → has (length ws) p c ≡ true → last ws c ≤ get_or ws p 0
+last-behind : (n p c : ℕ) → c < 2 ^ n → p < n → has n p c ≡ true → p ≤ last n c
 unfolding last
-last-lightest [] p c falls lt below inside = absurd (omega arith)
-last-lightest (w ∷ ws) zero c falls lt below inside =
-    let d : ℕ = c - 2 ^ length ws in
-    let high : 2 ^ length ws ≤ c = grind (arith, first-out, cases_lt, both_ways) in
-    let low : d < 2 ^ length ws = (let e = double-pow (length ws) in omega (arith, e)) in
-    elim (cases_lt 0 d) [
-      | inl some ↦
-          let found = last-member ws d low some in
-          let heavier = falls 0 (suc found.0) (omega arith) (let l = found.1 in omega arith) in
-          grind (arith, nat_tests, heavier, found.3)
-      | inr none ↦ grind (arith, nat_tests)
-    ]
-last-lightest (w ∷ ws) (suc p) c falls lt below inside =
-    let n : ℕ = length ws in
-    let again = last-lightest ws p in
-    let rest = falls-rest w ws falls in
-    grind (arith, nat_tests, again, rest, rest-out, rest-in n p (c - 2 ^ n), double-pow n, cases_lt c (2 ^ n), has-none n p)
+last-behind zero p c lt below inside = absurd (omega arith)
+last-behind (suc n) zero c lt below inside = omega arith
+last-behind (suc n) (suc p) c lt below inside =
+    let again = last-behind n p in
+    grind (arith, nat_tests, again, rest-out, rest-in n p (c - 2 ^ n), double-pow n, cases_lt c (2 ^ n), has-none n p)
 
 -- what a place weighs, its coalitions weigh at least
 place-le : (ws : List ℕ) (p c : ℕ) → p < length ws → has (length ws) p c ≡ true → get_or ws p 0 ≤ weight ws c
@@ -117,23 +93,20 @@ place-le ws p c lt inside = let e = weight-without ws p c lt (eqb-true _ _ insid
 
 -- a coalition is empty, or has some member, and weighs at least as much as the last
 pub none-or-some : (ws : List ℕ) (c : ℕ) → c < 2 ^ length ws → ((c ≡ 0) × (size (length ws) c ≡ 0) × (weight ws c ≡ 0))
-    ⊎ ((0 < c) × (0 < size (length ws) c) × (last ws c ≤ weight ws c))
+    ⊎ ((0 < c) × (0 < size (length ws) c) × (get_or ws (last (length ws) c) 0 ≤ weight ws c))
 none-or-some ws c lt = elim (cases_lt 0 c) [
-  | inl some ↦
-      let found = last-member ws c lt some in
-      inr (some, size-pos-at (length ws) found.0 c found.1 found.2, let le = place-le ws found.0 c found.1 found.2 in omega (arith, le, found.3))
+  | inl some ↦ let is = last-in (length ws) c lt some in inr (some, size-pos-at _ _ c is.0 is.1, place-le ws _ c is.0 is.1)
   | inr none ↦ let z : c ≡ 0 = omega arith in inl (z, ap (size (length ws)) z ∙ no-size (length ws), ap (weight ws) z ∙ weight-zero ws)
 ]
 
-pub least-last : (ws : List ℕ) (r c : ℕ) → Falls ws → 0 < r → c < 2 ^ length ws → IsLeast ws r c ↔ ((r ≤ weight ws c) × (weight ws c < r + last ws c))
-least-last ws r c falls pos lt = elim (none-or-some ws c lt) [
-  | inl none ↦ (λ h. absurd (let m = h.met in omega (arith, m)), λ h. absurd (omega arith))
-  | inr some ↦
-      let found = last-member ws c lt some.0 in (
-        λ h. (h.met, let n = h.needed found.0 found.1 found.2 in omega (arith, n)),
-        λ h. record { met = h.0; needed = λ p below inside. omega (arith, last-lightest ws p c falls lt below inside) },
-      )
-]
+pub least-last : (ws : List ℕ) (r c : ℕ) → Falls ws → 0 < r → c < 2 ^ length ws
+    → IsLeast ws r c ↔ ((r ≤ weight ws c) × (weight ws c < r + get_or ws (last (length ws) c) 0))
+least-last ws r c falls pos lt =
+    let empty = none-or-some ws c lt in
+    let is = last-in (length ws) c lt in (
+      λ h. let m = h.met in let n = h.needed (last (length ws) c) in grind (arith),
+      λ h. record { met = h.0; needed = λ p below inside. grind (arith, falls p (last (length ws) c), last-behind (length ws) p c) },
+    )
 
 -- ---- the list of them
 pub same_test : (a b : Bool) → (a ≡ true → b ≡ true) → (b ≡ true → a ≡ true) → a ≡ b
@@ -142,10 +115,7 @@ same_test a b f g = grind (arith, nat_tests)
 pub down-two : (m n : ℕ) → down (m + n) ≡ map (λ c. n + c) (down m) ++ down n
 unfolding down
 down-two zero n = ap down (let e : zero + n ≡ n = omega arith in e)
-down-two (suc m) n =
-    let e : suc m + n ≡ suc (m + n) = omega arith in
-    let first : m + n ≡ n + m = omega arith in
-    ap down e ∙ ap (λ (l : List ℕ). (m + n) ∷ l) (down-two m n) ∙ ap (λ (k : ℕ). k ∷ (map (λ c. n + c) (down m) ++ down n)) first
+down-two (suc m) n = ap down (let e : suc m + n ≡ suc (n + m) = omega arith in e) ∙ grind (arith, down-two m n)
 
 pub wins-one : (r : RuleView) (c : ℕ) → (wins (r ∷ []) c ≡ true) ↔ (r.quota ≤ weight r.weights c)
 unfolding wins

@@ -1,6 +1,6 @@
 -- The coalitions that members lead to, the heaviest first, and how many they are.
 use Rattle.std.proofs.Common.{◌≡◌, ◌∙◌, ◌↔◌, ◌⊎◌, ℕ, zero, suc, ◌+◌, ◌-◌, ◌*◌, ◌^◌, ◌<◌, ◌≤◌, ◌==◌, ◌&&◌, ◌||◌, not, Bool, true, false, cond, leb, ltb}
-use Rattle.std.proofs.Common.{List, [], ◌∷◌, ◌++◌, map, filter, length, ap, refl, arith, inl, inr}
+use Rattle.std.proofs.Common.{List, [], ◌∷◌, ◌++◌, map, filter, length, get_or, ap, refl, arith, inl, inr}
 use Rattle.std.proofs.lemmas.Bool.{cases_lt, cond-false, cond-true, le-ltb, lt-ltb}
 use Rattle.std.proofs.lemmas.Bool.Decides.{nat_tests}
 use Rattle.mwc_sums.specs.Completing.{completing}
@@ -119,9 +119,9 @@ abbrev pub AreMet : List ℕ → ℕ → ℕ → ℕ → ℕ → Type 0
 AreMet ws heads r a c =
     ((a + size (length ws) c ≡ heads) × (r ≤ weight ws c)) ⊎ ((heads < a + size (length ws) c) × IsLeast ws r c)
 
--- by what all weigh, and the last member
+-- by what all weigh, and by the last member
 by-last : (ws : List ℕ) (heads r a c : ℕ) → 0 < r → c < 2 ^ length ws → leads ws heads r a c
-    ≡ (leb r (weight ws c) && ((a + size (length ws) c == heads) || (ltb heads (a + size (length ws) c) && ltb (weight ws c) (r + last ws c))))
+    ≡ (leb r (weight ws c) && ((a + size (length ws) c == heads) || (ltb heads (a + size (length ws) c) && ltb (weight ws c) (r + get_or ws (last (length ws) c) 0))))
 unfolding leads last
 by-last [] heads r a c pos lt = grind (arith, nat_tests, weight-nil)
 by-last (w ∷ ws) heads r a c pos lt = elim (cases_lt c (2 ^ length ws)) [
