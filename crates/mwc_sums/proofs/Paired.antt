@@ -1,30 +1,19 @@
 -- Pairs of two lists that have a size together.
-use Rattle.std.proofs.Common.{◌≡◌, ◌∙◌, ◌==◌, ◌&&◌, ℕ, ◌+◌, ◌-◌, ◌*◌, ◌≤◌, Bool, cond, leb, List, length}
-use Rattle.std.proofs.Common.{filter, sym, ap, arith, inl, inr}
+use Rattle.std.proofs.Common.{◌≡◌, ◌∙◌, ◌==◌, ◌&&◌, ℕ, ◌+◌, ◌-◌, ◌*◌, ◌≤◌, Bool, cond, leb, List, [], ◌∷◌, length}
+use Rattle.std.proofs.Common.{filter, sym, ap, arith}
 use Rattle.std.specs.List.{sum_by}
-use Rattle.std.proofs.lemmas.Bool.{cases_lt, ne_eqb, and_parts, and_right, le-leb, leb-true, lt-leb}
+use Rattle.std.proofs.lemmas.Bool.{and_parts, leb-true}
 use Rattle.power_index.proofs.Shared.Sums.{sum-times, sum-range, sum-filter, sum-by_size}
 use Rattle.std.proofs.lemmas.Bool.Decides.{nat_tests}
 use Rattle.mwc_sums.specs.Chambers.{paired}
-use Rattle.mwc_sums.proofs.Filters.{filter-none}
 use Rattle.mwc_sums.proofs.Matching.{count-both}
 use Rattle.mwc_sums.proofs.Seating.{one_if}
-
-shifted : (a x s : ℕ) → a ≤ s → (a + x == s) ≡ (x == s - a)
-shifted a x s le = grind (arith, nat_tests)
 
 -- those of a list that fill so many up to s
 filling : (q : ℕ → Bool) (k : ℕ → ℕ) (ys : List ℕ) (j s : ℕ) → length (filter (λ y. q y && (j + k y == s)) ys)
     ≡ cond (leb j s) (length (filter (λ y. q y && (k y == s - j)) ys)) 0
-filling q k ys j s = elim (cases_lt s j) [
-  | inl above ↦
-      (λ i. length (filter (λ y. and_right (q y) (j + k y == s) (ne_eqb (j + k y) s (λ e. omega (arith, e, above))) i) ys))
-      ∙ ap (λ (l : List ℕ). length l) (filter-none ys)
-      ∙ sym (ap (λ (b : Bool). cond b (length (filter (λ y. q y && (k y == s - j)) ys)) 0) (lt-leb j s above))
-  | inr within ↦
-      (λ i. length (filter (λ y. q y && shifted j (k y) s within i) ys))
-      ∙ sym (ap (λ (b : Bool). cond b (length (filter (λ y. q y && (k y == s - j)) ys)) 0) (le-leb j s within))
-]
+filling q k [] j s = grind (arith, nat_tests)
+filling q k (y ∷ ys) j s = grind (arith, nat_tests, filling q k ys j s)
 
 apart-test : (m n p q e : Bool) → one_if ((m && n) && ((p && q) && e)) ≡ one_if (n && (q && e)) * one_if (m && p)
 apart-test m n p q e = grind (arith, nat_tests)

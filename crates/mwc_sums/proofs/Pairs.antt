@@ -91,7 +91,7 @@ module _ {g a b : GameView} (is_g : IsGame g) (is_a : IsGame a) (is_b : IsGame b
         (let p = and_parts (minimal (votes_of a) x) (minimal (votes_of b) y) min in
         let least_a = (over-least is_a la x).0 p.0 in
         let least_b = (over-least is_b lb y).0 p.1 in (
-          (game-least is_g (union x y)).1 (least-union joint (in_g (union x y)) least_a least_b (joined x y)),
+          (game-least is_g (union x y)).1 (least-union joint least_a least_b (in_g (union x y)) (joined x y)),
           sym (mask-is (over-seats is_a la) _ x lx (λ i lt. sym (ap (λ (d : Bool). d && own i) (joined x y i lt)
               ∙ least-own joint least_a least_b i lt))),
           sym (mask-is (over-seats is_b lb) _ y ly (λ i lt. sym (ap (λ (d : Bool). d && other i)
