@@ -1,17 +1,17 @@
 -- The tallies of a game whose rules are those of two others.
-use Rattle.std.proofs.Common.{◌≡◌, ◌∙◌, ◌==◌, ◌&&◌, ℕ, ◌+◌, ◌^◌, ◌<◌, ◌≤◌, Bool, List}
-use Rattle.std.proofs.Common.{length, get_or, filter, sym, ap, arith}
+use Rattle.std.proofs.Common.{◌≡◌, ◌∙◌, ◌==◌, ◌&&◌, ℕ, ◌+◌, ◌^◌, ◌<◌, ◌≤◌, Bool, List, [], ◌∷◌}
+use Rattle.std.proofs.Common.{length, get_or, filter, sym, refl, arith}
+use Rattle.std.proofs.lemmas.Bool.Decides.{nat_tests}
 use Rattle.std.specs.List.{sum_by, range_with_len}
-use Rattle.std.proofs.lemmas.Bool.{ne_eqb, and_right}
 use Rattle.coalitions.proofs.Shared.Ranges.{sum_by-range-more, sum_by-range-le}
 use Rattle.council_game.specs.Votes.{minimal_coalitions}
 use Rattle.council_game.specs.Game.{GameView, IsGame, votes_of}
 use Rattle.power_index.specs.Counting.{size_of, contains, count_of_size, count_of_member_size}
+use Rattle.std.proofs.lemmas.Bool.{cases_lt}
 use Rattle.power_index.proofs.Shared.Members.{size-le}
 use Rattle.power_index.proofs.Shared.Minimal.{minimal-few}
 use Rattle.power_index.proofs.Shared.Sums.{sum-range, length-filter-le}
 use Rattle.mwc_sums.specs.Chambers.{AreChambersOf, paired, minimal_of_size, minimal_of_member_size}
-use Rattle.mwc_sums.proofs.Filters.{filter-none}
 use Rattle.mwc_sums.proofs.Apart.{chamber-sizes, chamber-members}
 
 -- a number of a sum, with what is before it
@@ -23,15 +23,14 @@ paired-same f h k l s own other = grind (arith, sum-range)
 
 -- no coalition has more members than there are
 pub none-of_size : (g : GameView) (list : List ℕ) (s : ℕ) → length g.names < s → 0 ≡ count_of_size g s list
-none-of_size g list s above =
-    sym ((λ i. length (filter (λ c. ne_eqb (size_of g c) s (λ e. (let le = size-le (length g.names) c in omega (arith, e, above, le))) i) list))
-    ∙ ap (λ (l : List ℕ). length l) (filter-none list))
+none-of_size g [] s above = refl
+none-of_size g (c ∷ list) s above = grind (arith, nat_tests, none-of_size g list s above, size-le (length g.names) c)
 
 pub none-of_member_size : (g : GameView) (m : ℕ) (list : List ℕ) (s : ℕ) → length g.names < s → 0 ≡ count_of_member_size g m s list
-none-of_member_size g m list s above =
-    sym ((λ i. length (filter (λ c. and_right (contains g m c) (size_of g c == s) (ne_eqb (size_of g c) s (λ e.
-    (let le = size-le (length g.names) c in omega (arith, e, above, le)))) i) list))
-    ∙ ap (λ (l : List ℕ). length l) (filter-none list))
+none-of_member_size g m [] s above = refl
+none-of_member_size g m (c ∷ list) s above = grind (arith, nat_tests, none-of_member_size g m list s above, size-le (length g.names) c)
+
+pub ruleset counts_by_size = (cases_lt, none-of_size, none-of_member_size)
 
 few-of : (g : GameView) (p : ℕ → Bool) → IsGame g → length (filter p (minimal_coalitions (votes_of g))) ≤ 2 ^ 40
 few-of g p is = let a = length-filter-le p (minimal_coalitions (votes_of g)) in let b = minimal-few g is in omega (arith, a, b)

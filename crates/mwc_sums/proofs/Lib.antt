@@ -7,9 +7,9 @@ mod AlikeRules
 mod Joining
 mod Paired
 mod Pairs
-mod Apart
+pub mod Apart
 mod Remaking
-mod Joined
+pub mod Joined
 mod Vetoing
 mod VetoRules
 pub mod OneChamber

@@ -3,6 +3,7 @@ ghost use Rattle.coalitions.specs.declared.limits.TheConstants.{MEMBERS, SIZES};
 ghost use Rattle.council_game.specs.Game.{IsGame, votes_of};
 ghost use Rattle.council_game.specs.Votes.{has, minimal_coalitions};
 ghost use Rattle.mwc_sums.specs.Chambers.{AreChambersOf, minimal_of_member_size, minimal_of_size, paired};
+ghost use Rattle.mwc_sums.specs.Inner.NoTally.{IsOfNone};
 ghost use Rattle.power_index.specs.Tables.{AreCounts, IsTallyOf};
 ghost use Rattle.std.specs.Prelude.{◌≡◌, ℕ, ◌+◌, ◌<◌, ◌≤◌, ◌^◌, true, IfOk, length, slice_index};
 
@@ -30,10 +31,11 @@ impl Counted {
     }
 
     /// How many coalitions have each size.
+    #[tactic(auto, using(crate::proofs::Joined::counts_by_size))]
     fn sizes(&self) -> [u64; limits::SIZES]
         ensures { (s : ℕ) → s ≤ MEMBERS → slice_index result s ≡ minimal_of_size self.now.game s }
     {
-        let mut sizes = [0; limits::SIZES];
+        let mut sizes = no_tally().sizes;
         for size in 0..self.counts.members() + 1 {
             sizes[size] = self.counts.wide_of_size(size);
         }
@@ -41,16 +43,26 @@ impl Counted {
     }
 
     /// How many coalitions that contain a member have each size.
+    #[tactic(auto, using(crate::proofs::Joined::counts_by_size))]
     fn sizes_of_member(&self, member: usize) -> [u64; limits::SIZES]
         requires { member < length self.now.game.names }
         ensures { (s : ℕ) → s ≤ MEMBERS
             → slice_index result s ≡ minimal_of_member_size self.now.game member s }
     {
-        let mut sizes = [0; limits::SIZES];
+        let mut sizes = no_tally().sizes;
         for size in 0..self.counts.members() + 1 {
             sizes[size] = self.counts.wide_of_member_size(member, size);
         }
         sizes
+    }
+}
+
+/// The tally of no coalition.
+fn no_tally() -> Tally
+    ensures { IsOfNone result }
+{
+    Tally {
+        sizes: [0; limits::SIZES],
     }
 }
 
