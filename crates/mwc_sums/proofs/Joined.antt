@@ -12,7 +12,7 @@ use Rattle.power_index.proofs.Shared.Members.{size-le}
 use Rattle.power_index.proofs.Shared.Minimal.{minimal-few}
 use Rattle.power_index.proofs.Shared.Sums.{length-filter-le}
 use Rattle.mwc_sums.specs.Chambers.{AreChambersOf, paired, minimal_of_size, minimal_of_member_size}
-use Rattle.mwc_sums.proofs.Apart.{chamber-sizes, chamber-members}
+use Rattle.mwc_sums.proofs.Pairs.{chamber-sizes, chamber-members}
 
 -- the pairs of a size, with one more
 pub pairs-more : (first second : List ℕ) (size own : ℕ) → own < size + 1
@@ -51,7 +51,7 @@ module _ {g a b : GameView} (is_g : IsGame g) (is_a : IsGame a) (is_b : IsGame b
     (own : (s : ℕ) → get_or xs s 0 ≡ minimal_of_size a s) (other : (s : ℕ) → get_or ys s 0 ≡ minimal_of_size b s) where
   pub all-pairs : (s : ℕ) → (paired (λ j. get_or xs j 0) (λ j. get_or ys j 0) s ≡ minimal_of_size g s) × (minimal_of_size g s ≤ 2 ^ 40)
   all-pairs s = (
-    (λ k. paired (λ j. own j k) (λ j. other j k) s) ∙ sym (chamber-sizes g a b s is_g is_a is_b are),
+    (λ k. paired (λ j. own j k) (λ j. other j k) s) ∙ sym (chamber-sizes g a b is_g is_a is_b are s),
     few-of g (λ c. size_of g c == s) is_g,
   )
 
@@ -60,6 +60,6 @@ module _ {g a b : GameView} (is_g : IsGame g) (is_a : IsGame a) (is_b : IsGame b
       → ArePairs us ys xs vs (minimal_of_place_size g p)
   each-pairs i p us vs first second lt place s = (
     (λ k. paired (λ j. first j k) (λ j. other j k) s + paired (λ j. own j k) (λ j. second j k) s)
-        ∙ sym (chamber-members g a b i s is_g is_a is_b are lt) ∙ (λ k. minimal_of_place_size g (place k) s),
+        ∙ sym (chamber-members g a b is_g is_a is_b are i s lt) ∙ (λ k. minimal_of_place_size g (place k) s),
     few-of g (λ c. has (length g.names) p c && (size_of g c == s)) is_g,
   )

@@ -6,8 +6,8 @@ mod VetoLaw
 mod AlikeRules
 mod Joining
 mod Paired
-mod Pairs
-pub mod Apart
+pub mod Pairs
+mod Apart
 mod Remaking
 pub mod Joined
 mod Vetoing

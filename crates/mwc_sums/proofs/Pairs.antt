@@ -8,7 +8,8 @@ use Rattle.council_game.specs.Game.{GameView, IsGame, votes_of}
 use Rattle.power_index.specs.Counting.{contains, size_of}
 use Rattle.power_index.proofs.Shared.Sums.{sum-plus, sum-range}
 use Rattle.std.proofs.lemmas.Bool.Decides.{nat_tests}
-use Rattle.mwc_sums.specs.Chambers.{met, paired, minimal_of_size, minimal_of_member_size}
+use Rattle.mwc_sums.proofs.Apart.{has_weight, joint-of}
+use Rattle.mwc_sums.specs.Chambers.{AreChambersOf, met, paired, minimal_of_size, minimal_of_member_size}
 use Rattle.mwc_sums.proofs.Joining.{IsJoint, flipped-joint, least-half, least-sides, least-apart, least-own, least-union}
 use Rattle.mwc_sums.proofs.Matching.{ArePairs, paired-off}
 use Rattle.mwc_sums.proofs.Paired.{pairs-of_size}
@@ -27,9 +28,7 @@ module _ {n : ℕ} {a : GameView} (is : IsGame a) (long : length a.names ≡ n) 
   over-seen f i lt = mask-seen over-seats f
       (λ j lj _. (let below = over-seats.are.place_below j lj in omega (arith, below, long))) i lt
 
-module _ {g a b : GameView} (is_g : IsGame g) (is_a : IsGame a) (is_b : IsGame b) (la : length a.names ≡ length g.names)
-    (lb : length b.names ≡ length g.names) {own other : ℕ → Bool}
-    (joint : IsJoint (length g.names) own other (met (length g.names) g.rules) (met (length g.names) a.rules) (met (length g.names) b.rules)) where
+module _ (g a b : GameView) (is_g : IsGame g) (is_a : IsGame a) (is_b : IsGame b) (are : AreChambersOf g a b) where
   abbrev n : ℕ
   n = length g.names
 
@@ -48,7 +47,16 @@ module _ {g a b : GameView} (is_g : IsGame g) (is_a : IsGame a) (is_b : IsGame b
   abbrev min_pair : ℕ → ℕ → Bool
   min_pair x y = minimal (votes_of a) x && minimal (votes_of b) y
 
-  joint' : IsJoint (length g.names) other own (met (length g.names) g.rules) (met (length g.names) b.rules) (met (length g.names) a.rules)
+  abbrev own : ℕ → Bool
+  own = has_weight a.rules
+
+  abbrev other : ℕ → Bool
+  other = has_weight b.rules
+
+  joint : IsJoint n own other (met n g.rules) (met n a.rules) (met n b.rules)
+  joint = joint-of are
+
+  joint' : IsJoint n other own (met n g.rules) (met n b.rules) (met n a.rules)
   joint' = flipped-joint joint
 
   joined : (x y i : ℕ) → i < n → in_g (union x y) i ≡ (in_a x i || in_b y i)
@@ -64,18 +72,18 @@ module _ {g a b : GameView} (is_g : IsGame g) (is_a : IsGame a) (is_b : IsGame b
     below = λ x y. mask-less n g.ranks (λ i. in_a x i || in_b y i);
     parts = λ c lc min.
         (let least = (game-least is_g c).0 min in
-        let in_x = over-seen is_a la (λ i. in_g c i && own i) in
-        let in_y = over-seen is_b lb (λ i. in_g c i && other i) in (
-          and_from _ _ ((over-least is_a la _).1 (least-half joint _ least in_x)) ((over-least is_b lb _).1 (least-half joint' _ least in_y)),
+        let in_x = over-seen is_a are.first (λ i. in_g c i && own i) in
+        let in_y = over-seen is_b are.second (λ i. in_g c i && other i) in (
+          and_from _ _ ((over-least is_a are.first _).1 (least-half joint _ least in_x)) ((over-least is_b are.second _).1 (least-half joint' _ least in_y)),
           sym (mask-is (game-seats is_g) _ c lc (λ i lt. grind (arith, nat_tests, in_x i lt, in_y i lt, least-sides joint least i lt))),
         ));
     whole = λ x y lx ly min.
         (let p = and_parts (minimal (votes_of a) x) (minimal (votes_of b) y) min in
-        let least_a = (over-least is_a la x).0 p.0 in
-        let least_b = (over-least is_b lb y).0 p.1 in (
+        let least_a = (over-least is_a are.first x).0 p.0 in
+        let least_b = (over-least is_b are.second y).0 p.1 in (
           (game-least is_g (union x y)).1 (least-union joint least_a least_b (in_g (union x y)) (joined x y)),
-          sym (mask-is (over-seats is_a la) _ x lx (λ i lt. grind (arith, nat_tests, joined x y i lt, least-own joint least_a least_b i lt))),
-          sym (mask-is (over-seats is_b lb) _ y ly (λ i lt. grind (arith, nat_tests, joined x y i lt, least-own joint' least_b least_a i lt))),
+          sym (mask-is (over-seats is_a are.first) _ x lx (λ i lt. grind (arith, nat_tests, joined x y i lt, least-own joint least_a least_b i lt))),
+          sym (mask-is (over-seats is_b are.second) _ y ly (λ i lt. grind (arith, nat_tests, joined x y i lt, least-own joint' least_b least_a i lt))),
         ));
   }
 
@@ -93,7 +101,7 @@ module _ {g a b : GameView} (is_g : IsGame g) (is_a : IsGame a) (is_b : IsGame b
   min-apart : (x y : ℕ) → min_pair x y ≡ true → (i : ℕ) → i < n → in_a x i ≡ true → in_b y i ≡ false
   min-apart x y min =
       let p = and_parts (minimal (votes_of a) x) (minimal (votes_of b) y) min in
-      least-apart joint ((over-least is_a la x).0 p.0) ((over-least is_b lb y).0 p.1)
+      least-apart joint ((over-least is_a are.first x).0 p.0) ((over-least is_b are.second y).0 p.1)
 
   size-union : (x y : ℕ) → min_pair x y ≡ true → size_of g (union x y) ≡ size_of a x + size_of b y
   size-union x y min =
@@ -101,11 +109,11 @@ module _ {g a b : GameView} (is_g : IsGame g) (is_a : IsGame a) (is_b : IsGame b
       ∙ sum-range (λ i. one_if (in_g (union x y) i)) (λ i. one_if (in_a x i) + one_if (in_b y i)) 0 n
       (λ i _ lt. grind (arith, nat_tests, joined x y i, min-apart x y min i))
       ∙ sum-plus (λ i. one_if (in_a x i)) (λ i. one_if (in_b y i)) (range_with_len 0 n)
-      ∙ (λ k. seen-size (over-seats is_a la) x k + seen-size (over-seats is_b lb) y k)
+      ∙ (λ k. seen-size (over-seats is_a are.first) x k + seen-size (over-seats is_b are.second) y k)
 
-  pub joint-sizes : (s : ℕ) → minimal_of_size g s ≡ paired (minimal_of_size a) (minimal_of_size b) s
+  pub chamber-sizes : (s : ℕ) → minimal_of_size g s ≡ paired (minimal_of_size a) (minimal_of_size b) s
   unfolding minimal_coalitions
-  joint-sizes s =
+  chamber-sizes s =
       counted (λ c. size_of g c == s) ∙ (λ k. sum_by (λ x. sum_by (λ y. each x y k) all_b) all_a)
       ∙ pairs-of_size (minimal (votes_of a)) (minimal (votes_of b)) (λ x. true) (λ y. true) (size_of a) (size_of b) all_a all_b s
     where
@@ -119,10 +127,10 @@ module _ {g a b : GameView} (is_g : IsGame g) (is_a : IsGame a) (is_b : IsGame b
   abbrev of_b : ℕ → ℕ → ℕ → ℕ → ℕ
   of_b i s x y = one_if (min_pair x y && (contains b i y && (size_of a x + size_of b y == s)))
 
-  pub joint-members : (i s : ℕ) → i < length g.names → minimal_of_member_size g i s
+  pub chamber-members : (i s : ℕ) → i < length g.names → minimal_of_member_size g i s
       ≡ paired (minimal_of_member_size a i) (minimal_of_size b) s + paired (minimal_of_size a) (minimal_of_member_size b i) s
   unfolding minimal_coalitions
-  joint-members i s lt =
+  chamber-members i s lt =
       counted (λ c. contains g i c && (size_of g c == s)) ∙ (λ k. sum_by (λ x. sum_by (λ y. each x y k) all_b) all_a)
       ∙ (λ k. sum_by (λ x. sum-plus (of_a i s x) (of_b i s x) all_b k) all_a)
       ∙ sum-plus (λ x. sum_by (of_a i s x) all_b) (λ x. sum_by (of_b i s x) all_b) all_a
@@ -131,6 +139,8 @@ module _ {g a b : GameView} (is_g : IsGame g) (is_a : IsGame a) (is_b : IsGame b
     where
       each : (x y : ℕ) → one_if (min_pair x y && (contains g i (union x y) && (size_of g (union x y) == s))) ≡ of_a i s x y + of_b i s x y
       each x y =
-          let in_x = seen-contains is_a x i (omega (arith, lt, la)) in
-          let in_y = seen-contains is_b y i (omega (arith, lt, lb)) in
+          let in_x = seen-contains is_a x i (let e = are.first in omega (arith, lt, e)) in
+          let in_y = seen-contains is_b y i (let e = are.second in omega (arith, lt, e)) in
           grind (arith, nat_tests, in_x, in_y, seen-contains is_g (union x y) i lt, joined x y i lt, size-union x y, min-apart x y)
+
+pub ruleset laws = (chamber-sizes, chamber-members)

@@ -28,8 +28,7 @@ weight-sum ws c = sum-filter (λ p. get_or ws p 0) (λ p. has (length ws) p c) (
 pub weight-seen : (n m : ℕ) (ranks : List ℕ) → IsSeating n m ranks → (r : RuleView) (ws : List ℕ) (c : ℕ) → length ws ≡ m
     → ((p : ℕ) → p < m → get_or ws p 0 ≡ get_or r.weights (member_at ranks p) 0) → weight ws c ≡ weighs n r (seen m ranks c)
 weight-seen n m ranks is r ws c long at =
-    weight-sum ws c
-    ∙ (λ k. sum_by (λ p. cond (has (long k) p c) 1 0 * get_or ws p 0) (range_with_len 0 (long k)))
+    simp long at (weight-sum ws c)
     ∙ sum-range (λ p. cond (has m p c) 1 0 * get_or ws p 0) (λ p. cond (has m p c) 1 0 * get_or r.weights (member_at ranks p) 0) 0 m
     (λ p _ lt. ap (λ (x : ℕ). cond (has m p c) 1 0 * x) (at p (omega (arith, lt))))
     ∙ sym (seen-sum is (λ i b. cond b 1 0 * get_or r.weights i 0) (λ i. omega arith) c)
@@ -38,10 +37,8 @@ pub ranked-at : (ranks : List ℕ) (r : RuleView) (p : ℕ) → p < length ranks
     → get_or (rule_by_rank ranks r).weights p 0 ≡ get_or r.weights (member_at ranks p) 0
 ranked-at ranks r p lt =
     let long = length-range_with_len 0 (length ranks) in
-    let ordered = length-map (places ranks) (member_at ranks) in
-    get_or-map (λ m. get_or r.weights m 0) (members_by_rank ranks) p 0 0 (omega (arith, ordered, long, lt))
-    ∙ ap (λ (m : ℕ). get_or r.weights m 0)
-    (get_or-map (member_at ranks) (places ranks) p 0 0 (omega (arith, long, lt)) ∙ ap (member_at ranks) (places-at (length ranks) p 0 lt))
+    let at = get_or-map (member_at ranks) (places ranks) p 0 0 (omega (arith, long, lt)) in
+    grind (arith, at, get_or-map (λ m. get_or r.weights m 0) (members_by_rank ranks) p 0 0, length-map (places ranks) (member_at ranks), places-at (length ranks) p 0 lt)
 
 -- ---- who meets rules
 -- a member has weight in some rule
@@ -87,10 +84,8 @@ module _ {g : GameView} (is : IsGame g) where
   pub game-least : (c : ℕ) → (minimal (votes_of g) c ≡ true) ↔ IsLeast (length g.names) (met (length g.names) g.rules) (seen (length g.names) g.ranks c)
   game-least c =
       let same : wins (votes_of g).rules ≡ (λ x. met (length g.names) g.rules (seen (length g.names) g.ranks x)) = λ k x. wins-each g.rules x k in
-      let set = least-min game-seats (met (length g.names) g.rules) (met-looks (length g.names) g.rules) c in (
-        λ min. set.1 (subst (λ (w : ℕ → Bool). IsMin (length g.names) w c) same ((minimal-min (votes_of g) c).0 min)),
-        λ least. (minimal-min (votes_of g) c).1 (subst (λ (w : ℕ → Bool). IsMin (length g.names) w c) (sym same) (set.0 least)),
-      )
+      let min = subst (λ (won : ℕ → Bool). (minimal (votes_of g) c ≡ true) ↔ IsMin (length g.names) won c) same (minimal-min (votes_of g) c) in
+      grind (arith, min, least-min game-seats (met (length g.names) g.rules) (met-looks (length g.names) g.rules) c)
 
   pub game-holds : (n : ℕ) → length g.names ≡ n → Holds n (met n g.rules) (length g.names) g.ranks (minimal (votes_of g))
   game-holds n e = subst (λ (n : ℕ). Holds n (met n g.rules) (length g.names) g.ranks (minimal (votes_of g))) e (record {
