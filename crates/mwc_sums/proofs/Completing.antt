@@ -1,5 +1,5 @@
 -- Coalitions that meet a need, and lose it without any one of their members, by their first member.
-use Rattle.std.proofs.Common.{◌≡◌, ◌∙◌, ◌↔◌, ◌⊎◌, ℕ, zero, suc, ◌+◌, ◌-◌, ◌*◌, ◌/◌, ◌%◌, ◌^◌, ◌<◌, ◌≤◌, ◌==◌, Bool, true, false, cond, ltb}
+use Rattle.std.proofs.Common.{◌≡◌, ◌∙◌, ◌↔◌, ◌⊎◌, ℕ, zero, suc, ◌+◌, ◌-◌, ◌/◌, ◌%◌, ◌^◌, ◌<◌, ◌≤◌, ◌==◌, true, false, cond, ltb}
 use Rattle.std.proofs.Common.{List, [], ◌∷◌, ◌++◌, length, get_or, map, sym, ap, refl, arith, inl, inr}
 use native.Mathlib.Numerals.{unary_clauses}
 use Rattle.std.proofs.lemmas.Bool.{cases_lt, eqb-true}
@@ -14,6 +14,7 @@ use Rattle.std.proofs.lemmas.Nat.{ones_cat}
 use Rattle.council_game.proofs.Shared.WeightByDigits.{weight-cons}
 use Rattle.council_game.proofs.Shared.Weights.{weight-skip, weight-zero, weight-without}
 use Rattle.std.proofs.lemmas.Bool.Decides.{nat_tests}
+pub use Rattle.std.specs.Cmp.{both_ways as same_test}
 
 -- ---- coalitions of one place more
 pub first-in : (n c : ℕ) → c < 2 ^ n → has (suc n) 0 (2 ^ n + c) ≡ true
@@ -44,7 +45,6 @@ weight-left w ws c lt = grind (arith, weight-cons w ws c, bit_at_above c (length
 
 pub size-with : (n c : ℕ) → c < 2 ^ n → size (suc n) (2 ^ n + c) ≡ size n c + 1
 size-with n c lt =
-    let e : 1 * 2 ^ n + c ≡ 2 ^ n + c = omega arith in
     grind (arith, size-ones (suc n) (2 ^ n + c), size-ones n c lt, ones_cat n 1 c lt, ones-ones 1, double-pow n)
 
 pub size-left : (n c : ℕ) → c < 2 ^ n → size (suc n) c ≡ size n c
@@ -109,9 +109,6 @@ least-last ws r c falls pos lt =
     )
 
 -- ---- the list of them
-pub same_test : (a b : Bool) → (a ≡ true → b ≡ true) → (b ≡ true → a ≡ true) → a ≡ b
-same_test a b f g = grind (arith, nat_tests)
-
 pub down-two : (m n : ℕ) → down (m + n) ≡ map (λ c. n + c) (down m) ++ down n
 unfolding down
 down-two zero n = ap down (let e : zero + n ≡ n = omega arith in e)

@@ -99,11 +99,10 @@ leads-lacking (w ∷ ws) (suc p) heads s r a =
 
 pub leads-all : (ws : List ℕ) (heads s r a : ℕ) → count (λ c. leads ws heads r a c && (a + size (length ws) c == s)) (down (2 ^ length ws)) ≡ endings ws heads s r a
 leads-all ws heads s r a =
-    (λ i. count (λ c. leads ws heads r a c && (lacks-none c i && (a + size (length ws) c == s))) (down (2 ^ length ws)))
-    ∙ leads-lacking ws (length ws) heads s r a ∙ ap (λ (l : List ℕ). endings l heads s r a) (left_out-past (length ws) ws (omega arith))
-  where
-    lacks-none : (c : ℕ) → true ≡ lacks (length ws) (length ws) c
-    lacks-none c = grind (arith, nat_tests)
+    let n : ℕ = length ws in
+    let lacks-none : (c : ℕ) → true ≡ lacks n n c = λ c. grind (arith, nat_tests) in
+    (λ i. count (λ c. leads ws heads r a c && (lacks-none c i && (a + size n c == s))) (down (2 ^ n)))
+    ∙ leads-lacking ws n heads s r a ∙ ap (λ (l : List ℕ). endings l heads s r a) (left_out-past n ws (omega arith))
 
 -- those with a place are those that the members do not lead to without it
 pub leads-parted : (ws : List ℕ) (p heads s r a : ℕ) → p < length ws → endings (left_out p ws) heads s r a
