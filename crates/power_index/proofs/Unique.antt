@@ -1,55 +1,35 @@
 -- A fraction has one form in lowest terms.
-use Rattle.std.proofs.Common.{◌≡◌, ◌∙◌, ℕ, ◌+◌, ◌*◌, ◌-◌, ◌≤◌, ◌<◌, ap, subst, arith, zero, suc, inl, inr}
+use Rattle.std.proofs.Common.{◌≡◌, ◌∙◌, ℕ, ◌+◌, ◌*◌, ◌/◌, ◌%◌, ◌≤◌, ◌<◌, sym, ap, subst, arith, zero, suc}
 use Rattle.std.proofs.lemmas.Grind.{common_steps}
 use Rattle.std.specs.Int.{IsGcd, ◌∣◌}
-use Rattle.std.proofs.lemmas.Nat.Gcd.{IsGcd-from_zero, IsGcd-swap, IsGcd-from_sub, dvd_antisymm, dvd_refl, dvd-zero}
-use Rattle.std.proofs.lemmas.Bool.{cases_lt}
-use Rattle.std.proofs.Math.Nat.{dvd-add, dvd-mul_left, mul-sub, mul-le-mul, eq_of_mul-eq-mul_right}
+use Rattle.std.proofs.lemmas.Nat.Gcd.{IsGcd-from_zero, IsGcd-from_mod, dvd_antisymm, dvd_refl, dvd-zero}
+use Rattle.std.proofs.Math.Nat.{add-mul-mod_self_left, div-add-mod, dvd-mod_iff, dvd-mul_left, mod-eq_of_lt, mod-lt, mul-le-mul, eq_of_mul-eq-mul_right}
 use Rattle.power_index.specs.Fractions.{AreCoprime, IsIndex, IsLowestOf, SameFraction}
 
-coprime-swap : (x y : ℕ) → AreCoprime x y → AreCoprime y x
-coprime-swap x y h d dx dy = h d dy dx
-
 -- with 0, only 1 is coprime
-one-with-zero : (y : ℕ) → AreCoprime 0 y → y ≡ 1
+one-with-zero : (x : ℕ) → AreCoprime x 0 → x ≡ 1
 one-with-zero zero h = let two : 2 ≤ 1 = h 2 (dvd-zero 2) (dvd-zero 2) in absurd (omega arith)
-one-with-zero (suc y) h = let le : suc y ≤ 1 = h (suc y) (dvd-zero (suc y)) (dvd_refl (suc y)) in omega arith
+one-with-zero (suc x) h = let le : suc x ≤ 1 = h (suc x) (dvd_refl (suc x)) (dvd-zero (suc x)) in omega arith
 
-from-zero : (m y : ℕ) → AreCoprime 0 y → IsGcd (m * 0) (m * y) m
-from-zero m y h =
-    let one = one-with-zero y h in
-    let e : m * y ≡ m = ap (λ (k : ℕ). m * k) one ∙ omega arith in
-    IsGcd-swap (m * y) (m * 0) m (subst (λ (k : ℕ). IsGcd (m * y) (m * 0) k) e (IsGcd-from_zero (m * y) (m * 0) (omega arith)))
+mul-mod : (m x y : ℕ) → 0 < m → 0 < y → m * x % (m * y) ≡ m * (x % y)
+mul-mod m x y some pos =
+    let parts : m * x ≡ m * (x % y) + m * y * (x / y) = omega (arith, ap (λ k. m * k) (div-add-mod x y)) in
+    let less : m * suc (x % y) ≤ m * y = mul-le-mul (omega arith) (mod-lt x pos) in
+    ap (λ k. k % (m * y)) parts ∙ add-mul-mod_self_left (m * (x % y)) (m * y) (x / y) ∙ mod-eq_of_lt (omega (arith, less, some))
 
-scaled : (n m x y : ℕ) → x + y ≤ n → AreCoprime x y → IsGcd (m * x) (m * y) m
-scaled n m zero y le h = from-zero m y h
-scaled n m (suc x) zero le h = IsGcd-swap (m * 0) (m * suc x) m (from-zero m (suc x) (coprime-swap (suc x) 0 h))
-scaled zero m (suc x) (suc y) le h = absurd (omega arith)
-scaled (suc n) m (suc x) (suc y) le h = elim (cases_lt x y) [
-  | inl lt ↦
-      let e : m * (suc y - suc x) ≡ m * suc y - m * suc x = less (suc y) (suc x) (omega arith) in
-      IsGcd-swap (m * suc y) (m * suc x) m
-      (IsGcd-from_sub (m * suc y) (m * suc x) m (grow (suc x) (suc y) (omega arith))
-      (subst (λ (k : ℕ). IsGcd k (m * suc x) m) e
-      (scaled n m (suc y - suc x) (suc x) (omega arith) (lower (suc y) (suc x) (omega arith) (coprime-swap (suc x) (suc y) h)))))
-  | inr ge ↦
-      let e : m * (suc x - suc y) ≡ m * suc x - m * suc y = less (suc x) (suc y) (omega arith) in
-      IsGcd-from_sub (m * suc x) (m * suc y) m (grow (suc y) (suc x) (omega arith))
-      (subst (λ (k : ℕ). IsGcd k (m * suc y) m) e
-      (scaled n m (suc x - suc y) (suc y) (omega arith) (lower (suc x) (suc y) (omega arith) h)))
-]
-  where
-    grow : (a b : ℕ) → a ≤ b → m * a ≤ m * b
-    grow a b le = mul-le-mul (omega arith) le
-
-    less : (a b : ℕ) → b ≤ a → m * (a - b) ≡ m * a - m * b
-    less a b le = mul-sub m a b
-
-    lower : (a b : ℕ) → b ≤ a → AreCoprime a b → AreCoprime (a - b) b
-    lower a b le h d da db = h d (let e : a - b + b ≡ a = omega arith in subst (λ (k : ℕ). d ∣ k) e (dvd-add d da db)) db
+scaled : (n m x y : ℕ) → y ≤ n → 0 < m → AreCoprime x y → IsGcd (m * x) (m * y) m
+scaled n m x zero le some h =
+    let e : m * x ≡ m = ap (λ k. m * k) (one-with-zero x h) ∙ omega arith in
+    subst (λ (k : ℕ). IsGcd (m * x) (m * 0) k) e (IsGcd-from_zero (m * x) (m * 0) (omega arith))
+scaled zero m x (suc y) le some h = absurd (omega arith)
+scaled (suc n) m x (suc y) le some h =
+    let less : x % suc y < suc y = mod-lt x (omega arith) in
+    let rest = scaled n m (suc y) (x % suc y) (omega (arith, less)) some (λ d dy dr. h d ((dvd-mod_iff d dy).0 dr) dy) in
+    IsGcd-from_mod (m * x) (m * suc y) m (subst (λ (k : ℕ). IsGcd (m * suc y) k m) (sym (mul-mod m x (suc y) some (omega arith))) rest)
 
 divides-other : (t u v : ℕ) → AreCoprime t u → u ∣ v * t → u ∣ v
-divides-other t u v h d = (scaled (t + u) v t u (omega arith) h).2 u d (dvd-mul_left u v)
+divides-other t u zero h d = dvd-zero u
+divides-other t u (suc v) h d = (scaled u (suc v) t u (omega arith) (omega arith) h).2 u d (dvd-mul_left u (suc v))
 
 same-pair : (t u t' u' : ℕ) → t ≡ t' → u ≡ u' → ◌≡◌ {A = ℕ × ℕ} (t, u) (t', u')
 same-pair t u t' u' e f = cc

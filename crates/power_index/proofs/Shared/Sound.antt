@@ -1,5 +1,5 @@
 -- Tables that hold the tallies of a list hold its counts, and what holds of counts.
-use Rattle.std.proofs.Common.{◌≡◌, ◌∙◌, ◌==◌, ◌&&◌, ℕ, ◌+◌, ◌^◌, ◌<◌, ◌≤◌, List, [], ◌∷◌, ◌++◌, length, get_or, replicate, cond, true, sym, ap, refl, arith, subst, suc, length-append}
+use Rattle.std.proofs.Common.{◌≡◌, ◌∙◌, ◌==◌, ◌&&◌, ℕ, ◌+◌, ◌^◌, ◌<◌, ◌≤◌, List, [], ◌∷◌, ◌++◌, length, get_or, replicate, cond, Bool, true, sym, ap, refl, arith, subst, suc, length-append}
 use Rattle.std.proofs.lemmas.Grind.{common_steps}
 use Rattle.std.specs.List.{All, filter}
 use Rattle.std.proofs.lemmas.List.{get_or-replicate}
@@ -52,25 +52,15 @@ pub some-sound : (t : Tables) → AreOfSomeList t → AreSound t
 some-sound t h =
     let game = h.tallies.of_game.is_game in
     let counts = tallies-are_counts h.game h.list t h.tallies in
+    let few : (p : ℕ → Bool) → length (filter p h.list) ≤ table_total t = λ p. omega (arith, length-filter-le p h.list, counts.total) in
     record {
       some_members = omega (arith, counts.members, (votes-are h.game game).some);
       few_members = omega (arith, counts.members, few-members h.game game);
       few = omega (arith, counts.total, h.few);
-      few_of_size = λ s le. omega (arith, counts.of_size s le, length-filter-le (λ c. size_of h.game c == s) h.list, counts.total);
-      few_of_member = λ i lt. omega (arith, counts.of_member i lt, length-filter-le (contains h.game i) h.list, counts.total);
-      few_of_member_size = λ i s lt le. omega (
-        arith,
-        counts.of_member_size i s lt le,
-        length-filter-le (λ c. contains h.game i c && (size_of h.game c == s)) h.list,
-        counts.total,
-      );
-      memberships = omega (
-        arith,
-        memberships-are h.game h.list t counts,
-        memberships h.game h.list game,
-        sizes-some h.game h.list (few-members h.game game) h.coalitions,
-        counts.total,
-      );
+      few_of_size = λ s le. omega (arith, counts.of_size s le, few (λ c. size_of h.game c == s));
+      few_of_member = λ i lt. omega (arith, counts.of_member i lt, few (contains h.game i));
+      few_of_member_size = λ i s lt le. omega (arith, counts.of_member_size i s lt le, few (λ c. contains h.game i c && (size_of h.game c == s)));
+      memberships = grind (arith, counts.total, memberships-are h.game h.list t counts, memberships h.game h.list game, sizes-some, few-members);
       light = λ i lt. weight-light h.game h.list t i lt counts;
     }
 
