@@ -77,17 +77,14 @@ kept {t} h = record {
 }
 
 -- no coalition is counted
-pub none-hold : (g : GameView) (m : ℕ) (ranks : List ℕ) (all one : Tally) → IsGame g → m ≡ length g.names
-    → ((i : ℕ) → i < m → get_or ranks i 0 ≡ get_or g.ranks i 0)
-    → IsTallyOf (length g.names) (λ c. true) [] all → ((p : ℕ) → IsTallyOf (length g.names) (has (length g.names) p) [] one)
-    → AreTallies g [] (record { members = m; ranks = ranks; all = all; each = replicate 40 one })
-none-hold g m ranks all one game m-is same whole each = record {
+pub none-hold : (g : GameView) (m : ℕ) (ranks : List ℕ) (none : Tally) → IsGame g → m ≡ length g.names
+    → ((i : ℕ) → i < m → get_or ranks i 0 ≡ get_or g.ranks i 0) → length none.sizes ≡ 41 → ((s : ℕ) → get_or none.sizes s 0 ≡ 0)
+    → AreTallies g [] (record { members = m; ranks = ranks; all = none; each = replicate 40 none })
+none-hold g m ranks none game m-is same long sizes = record {
   of_game = record { is_game = game; members = m-is; ranks = same };
   tallies = record {
-    all = whole;
-    each = λ p lt. (let few =
-        few-members g game in subst (IsTallyOf (length g.names) (has (length g.names) p) [])
-        (sym (get_or-replicate 40 p one no_tally (omega (arith, lt, few)))) (each p));
+    all = record { long = long; sizes = λ s _. sizes s };
+    each = λ p lt. rw (get_or-replicate 40 p none no_tally (omega (arith, lt, few-members g game))) (record { long = long; sizes = λ s _. sizes s });
   };
 }
 

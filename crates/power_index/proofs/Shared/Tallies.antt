@@ -24,9 +24,6 @@ get_or-zeros (suc n) (suc s) = get_or-zeros n s
 length-filter-push : (q : ℕ → Bool) (list : List ℕ) (c : ℕ) → length (filter q (list ++ c ∷ [])) ≡ length (filter q list) + cond (q c) 1 0
 length-filter-push q list c = simp length-filter (sum_by_push (λ x. cond (q x) 1 0) list c)
 
-pub tally-none : (n : ℕ) (p : ℕ → Bool) (t : Tally) → length t.sizes ≡ 41 → ((s : ℕ) → get_or t.sizes s 0 ≡ 0) → IsTallyOf n p [] t
-tally-none n p t long sizes = record { long = long; sizes = λ s _. sizes s }
-
 -- one more at place k
 bumped : (xs : List ℕ) (k s : ℕ) → k < length xs → get_or (set xs k (get_or xs k 0 + 1)) s 0 ≡ get_or xs s 0 + cond (k == s) 1 0
 bumped xs k s lt = grind (arith, common_steps, cases_eq, get_or-set_other, get_or-set_same, nat_tests)
