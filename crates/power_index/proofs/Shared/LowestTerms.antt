@@ -1,9 +1,9 @@
 -- The greatest common divisor by search is the one that Euclid's algorithm finds, and what it gives is in lowest terms.
-use Rattle.std.proofs.Common.{◌≡◌, ◌≢◌, ℕ, zero, suc, ◌/◌, ◌%◌, ◌<◌, ◌≤◌, true, false, sym, ap, subst, arith}
+use Rattle.std.proofs.Common.{◌≡◌, ℕ, zero, suc, ◌/◌, ◌%◌, ◌<◌, ◌≤◌, true, sym, ap, subst, arith}
 use Rattle.std.proofs.lemmas.Grind.{common_steps}
 use Rattle.std.specs.Int.{IsGcd, ◌∣◌}
 use Rattle.std.proofs.lemmas.Nat.Gcd.{IsGcd-from_zero, IsGcd-from_mod, le_from_IsGcd, le_of_dvd, dvd_of_mod-eq-zero, mod-eq-zero_of_dvd}
-use Rattle.std.proofs.lemmas.Bool.{cond_both, both_ways}
+use Rattle.std.proofs.lemmas.Bool.{cond_both}
 use Rattle.std.proofs.Math.Nat.{mod-lt, one-dvd}
 use Rattle.std.proofs.lemmas.Bool.Decides.{nat_tests}
 use Rattle.power_index.specs.Fractions.{divides_both, common_divisor_up_to, greatest_common_divisor, lowest_terms, IsLowestOf, HasLowestTerms}
@@ -29,11 +29,9 @@ found-greatest : (a b n d : ℕ) → 0 < d → d ≤ n → d ∣ a → d ∣ b �
 unfolding common_divisor_up_to
 found-greatest a b zero d pos le da db = absurd (omega arith)
 found-greatest a b (suc n) d pos le da db =
-    cond_both (divides_both a b (suc n)) (suc n) (common_divisor_up_to a b n) (λ g. d ≤ g) (λ _. le)
-    (λ fails. let other = differs fails in found-greatest a b n d pos (omega (arith, other)) da db)
-  where
-    differs : divides_both a b (suc n) ≡ false → d ≢ suc n
-    differs fails same = both_ways _ fails (subst (λ (k : ℕ). divides_both a b k ≡ true) same (to-test a b d da db))
+    let last : d ≡ suc n → divides_both a b (suc n) ≡ true = λ e. to-test a b (suc n) (subst (λ k. k ∣ a) e da) (subst (λ k. k ∣ b) e db) in
+    let before : d ≤ n → d ≤ common_divisor_up_to a b n = λ low. found-greatest a b n d pos low da db in
+    grind (arith, nat_tests)
 
 pub gcd-is : (a b g : ℕ) → 0 < b → IsGcd a b g → greatest_common_divisor a b ≡ g
 gcd-is a b g pos h =
