@@ -1,15 +1,20 @@
 -- Coalitions that meet a need, and lose it without any one of their members, by their first member.
-use Rattle.std.proofs.Common.{◌≡◌, ◌∙◌, ◌↔◌, ℕ, zero, suc, ◌+◌, ◌-◌, ◌/◌, ◌%◌, ◌^◌, ◌<◌, ◌≤◌, ◌==◌, Bool, true, false}
-use Rattle.std.proofs.Common.{List, [], ◌∷◌, ◌++◌, length, get_or, map, sym, ap, arith, inl, inr}
+use Rattle.std.proofs.Common.{◌≡◌, ◌∙◌, ◌↔◌, ◌⊎◌, ℕ, zero, suc, ◌+◌, ◌-◌, ◌/◌, ◌%◌, ◌^◌, ◌<◌, ◌≤◌, ◌==◌, true, false, cond, ltb}
+use Rattle.std.proofs.Common.{List, [], ◌∷◌, ◌++◌, length, get_or, map, sym, ap, refl, arith, inl, inr}
 use native.Mathlib.Numerals.{unary_clauses}
-use Rattle.std.proofs.lemmas.Bool.{cases_lt, eqb-true, both_ways}
+use Rattle.std.proofs.lemmas.Bool.{cases_lt, eqb-true}
 use Rattle.std.proofs.lemmas.Nat.{pow_pos}
 use Rattle.std.proofs.lemmas.Nat.Bits.{bit_at_cat_low, bit_at_cat_high, bit_at_above}
-use Rattle.council_game.specs.Votes.{RuleView, has, weight, wins, down}
+use Rattle.council_game.specs.Votes.{RuleView, has, size, weight, wins, down}
 use Rattle.coalitions.proofs.Shared.Digits.{has-none}
+use Rattle.coalitions.proofs.Shared.Sizes.{size-ones}
+use Rattle.power_index.proofs.Shared.Members.{size-pos-at}
+use Rattle.std.specs.Int.Count.{ones-ones}
+use Rattle.std.proofs.lemmas.Nat.{ones_cat}
 use Rattle.council_game.proofs.Shared.WeightByDigits.{weight-cons}
 use Rattle.council_game.proofs.Shared.Weights.{weight-skip, weight-zero, weight-without}
 use Rattle.std.proofs.lemmas.Bool.Decides.{nat_tests}
+pub use Rattle.std.specs.Cmp.{both_ways as same_test}
 
 -- ---- coalitions of one place more
 pub first-in : (n c : ℕ) → c < 2 ^ n → has (suc n) 0 (2 ^ n + c) ≡ true
@@ -38,6 +43,13 @@ weight-with w ws c lt =
 pub weight-left : (w : ℕ) (ws : List ℕ) (c : ℕ) → c < 2 ^ length ws → weight (w ∷ ws) c ≡ weight ws c
 weight-left w ws c lt = grind (arith, weight-cons w ws c, bit_at_above c (length ws) (length ws) lt (omega arith))
 
+pub size-with : (n c : ℕ) → c < 2 ^ n → size (suc n) (2 ^ n + c) ≡ size n c + 1
+size-with n c lt =
+    grind (arith, size-ones (suc n) (2 ^ n + c), size-ones n c lt, ones_cat n 1 c lt, ones-ones 1, double-pow n)
+
+pub size-left : (n c : ℕ) → c < 2 ^ n → size (suc n) c ≡ size n c
+size-left n c lt = let d = double-pow n in size-ones (suc n) c (omega (arith, d)) ∙ sym (size-ones n c lt)
+
 -- ---- a coalition that meets a need, and loses it without any one of its members
 pub record IsLeast (ws : List ℕ) (r c : ℕ) : Type 0 where
   pub met : r ≤ weight ws c
@@ -50,86 +62,57 @@ Falls ws = (a b : ℕ) → a ≤ b → b < length ws → get_or ws b 0 ≤ get_o
 pub falls-rest : (w : ℕ) (ws : List ℕ) → Falls (w ∷ ws) → Falls ws
 falls-rest w ws falls a b le lt = falls (suc a) (suc b) (omega arith) (omega arith)
 
--- a coalition that is not empty has a place
-pub place-of : (n c : ℕ) → c < 2 ^ n → 0 < c → (p : ℕ) × (p < n) × (has n p c ≡ true)
-place-of zero c lt pos = absurd (omega arith)
-place-of (suc n) c lt pos = elim (cases_lt c (2 ^ n)) [
-  | inl low ↦ let found = place-of n c low pos in (suc found.0, (omega arith), rest-out n found.0 c ∙ found.2)
-  | inr high ↦
-      let low : ℕ = c - 2 ^ n in
-      let below : low < 2 ^ n = omega arith in
-      let e : 2 ^ n + low ≡ c = omega arith in
-      (0, omega arith, ap (has (suc n) 0) (sym e) ∙ first-in n low below)
-]
+no-size : (n : ℕ) → size n 0 ≡ 0
+no-size zero = refl
+no-size (suc n) = size-left n 0 (pow_pos n) ∙ no-size n
+
+-- the place of its last member
+unfoldable pub last : ℕ → ℕ → ℕ
+last zero c = 0
+last (suc n) c = cond (ltb c (2 ^ n)) (suc (last n c)) (cond (c - 2 ^ n == 0) 0 (suc (last n (c - 2 ^ n))))
+
+last-in : (n c : ℕ) → c < 2 ^ n → 0 < c → (last n c < n) × (has n (last n c) c ≡ true)
+unfolding last
+last-in zero c lt pos = absurd (omega arith)
+last-in (suc n) c lt pos =
+    let again = last-in n (c - 2 ^ n) in
+    grind (arith, nat_tests, again, last-in n c, rest-out, first-in n (c - 2 ^ n), rest-in n (last n (c - 2 ^ n)) (c - 2 ^ n), double-pow n, cases_lt c (2 ^ n))
+
+last-behind : (n p c : ℕ) → c < 2 ^ n → p < n → has n p c ≡ true → p ≤ last n c
+unfolding last
+last-behind zero p c lt below inside = absurd (omega arith)
+last-behind (suc n) zero c lt below inside = omega arith
+last-behind (suc n) (suc p) c lt below inside =
+    let again = last-behind n p in
+    grind (arith, nat_tests, again, rest-out, rest-in n p (c - 2 ^ n), double-pow n, cases_lt c (2 ^ n), has-none n p)
 
 -- what a place weighs, its coalitions weigh at least
 place-le : (ws : List ℕ) (p c : ℕ) → p < length ws → has (length ws) p c ≡ true → get_or ws p 0 ≤ weight ws c
 unfolding has
 place-le ws p c lt inside = let e = weight-without ws p c lt (eqb-true _ _ inside) in omega (arith, e)
 
-module _ (w : ℕ) (ws : List ℕ) (r c : ℕ) (lt : c < 2 ^ length ws) where
-  pub least-out : IsLeast (w ∷ ws) r c ↔ IsLeast ws r c
-  least-out = (
-    λ h. (record {
-      met = let m = h.met in grind (arith, weight-left w ws c lt);
-      needed = λ p below inside. let n = h.needed (suc p) in grind (arith, weight-left w ws c lt, rest-out (length ws) p c);
-    }),
-    λ h. (record {
-      met = let m = h.met in grind (arith, weight-left w ws c lt);
-      needed = needed-out h;
-    }),
-  )
-    where
-      needed-out : IsLeast ws r c → (p : ℕ) → p < length (w ∷ ws) → has (length (w ∷ ws)) p c ≡ true
-          → weight (w ∷ ws) c < r + get_or (w ∷ ws) p 0
-      needed-out h zero below inside = absurd (both_ways _ (first-out (length ws) c lt) inside)
-      needed-out h (suc p) below inside = let n = h.needed p in grind (arith, weight-left w ws c lt, rest-out (length ws) p c)
+-- a coalition is empty, or has some member, and weighs at least as much as the last
+pub none-or-some : (ws : List ℕ) (c : ℕ) → c < 2 ^ length ws → ((c ≡ 0) × (size (length ws) c ≡ 0) × (weight ws c ≡ 0))
+    ⊎ ((0 < c) × (0 < size (length ws) c) × (get_or ws (last (length ws) c) 0 ≤ weight ws c))
+none-or-some ws c lt = elim (cases_lt 0 c) [
+  | inl some ↦ let is = last-in (length ws) c lt some in inr (some, size-pos-at _ _ c is.0 is.1, place-le ws _ c is.0 is.1)
+  | inr none ↦ let z : c ≡ 0 = omega arith in inl (z, ap (size (length ws)) z ∙ no-size (length ws), ap (weight ws) z ∙ weight-zero ws)
+]
 
-  pub least-in : Falls (w ∷ ws) → w < r → IsLeast (w ∷ ws) r (2 ^ length ws + c) ↔ IsLeast ws (r - w) c
-  least-in falls more = (
-    λ h. (record {
-      met = let m = h.met in grind (arith, weight-with w ws c lt);
-      needed = λ p below inside. let n = h.needed (suc p) in grind (arith, weight-with w ws c lt, rest-in (length ws) p c below);
-    }),
-    λ h. (record {
-      met = let m = h.met in grind (arith, weight-with w ws c lt);
-      needed = needed-in h;
-    }),
-  )
-    where
-      some : IsLeast ws (r - w) c → 0 < c
-      some h = let m = h.met in grind (arith, weight-zero ws)
-
-      needed-in : IsLeast ws (r - w) c → (p : ℕ) → p < length (w ∷ ws) → has (length (w ∷ ws)) p (2 ^ length ws + c) ≡ true
-          → weight (w ∷ ws) (2 ^ length ws + c) < r + get_or (w ∷ ws) p 0
-      needed-in h zero below inside =
-          let found = place-of (length ws) c lt (some h) in
-          let n = h.needed found.0 found.1 found.2 in
-          let heavier = falls 0 (suc found.0) (omega arith) (let l = found.1 in omega arith) in
-          omega (arith, n, heavier, weight-with w ws c lt)
-      needed-in h (suc p) below inside = let n = h.needed p in grind (arith, weight-with w ws c lt, rest-in (length ws) p c (omega arith))
-
-  -- with a first member that meets the need alone, no other is needed
-  pub least-alone : 0 < c → r ≤ w → IsLeast (w ∷ ws) r (2 ^ length ws + c) → ⊥
-  least-alone pos enough h =
-      let found = place-of (length ws) c lt pos in
-      let n = h.needed (suc found.0) (let l = found.1 in omega arith) (rest-in (length ws) found.0 c found.1 ∙ found.2) in
-      omega (arith, n, weight-with w ws c lt, place-le ws found.0 c found.1 found.2)
-
-pub least-first : (w : ℕ) (ws : List ℕ) (r : ℕ) → 0 < r → r ≤ w → IsLeast (w ∷ ws) r (2 ^ length ws + 0)
-least-first w ws r pos enough = grind (arith, weight-with, pow_pos, weight-zero, both_ways, has-none, rest-in)
+pub least-last : (ws : List ℕ) (r c : ℕ) → Falls ws → 0 < r → c < 2 ^ length ws
+    → IsLeast ws r c ↔ ((r ≤ weight ws c) × (weight ws c < r + get_or ws (last (length ws) c) 0))
+least-last ws r c falls pos lt =
+    let empty = none-or-some ws c lt in
+    let is = last-in (length ws) c lt in (
+      λ h. let m = h.met in let n = h.needed (last (length ws) c) in grind (arith),
+      λ h. record { met = h.0; needed = λ p below inside. grind (arith, falls p (last (length ws) c), last-behind (length ws) p c) },
+    )
 
 -- ---- the list of them
-pub same_test : (a b : Bool) → (a ≡ true → b ≡ true) → (b ≡ true → a ≡ true) → a ≡ b
-same_test a b f g = grind (arith, nat_tests)
-
 pub down-two : (m n : ℕ) → down (m + n) ≡ map (λ c. n + c) (down m) ++ down n
 unfolding down
 down-two zero n = ap down (let e : zero + n ≡ n = omega arith in e)
-down-two (suc m) n =
-    let e : suc m + n ≡ suc (m + n) = omega arith in
-    let first : m + n ≡ n + m = omega arith in
-    ap down e ∙ ap (λ (l : List ℕ). (m + n) ∷ l) (down-two m n) ∙ ap (λ (k : ℕ). k ∷ (map (λ c. n + c) (down m) ++ down n)) first
+down-two (suc m) n = ap down (let e : suc m + n ≡ suc (n + m) = omega arith in e) ∙ grind (arith, down-two m n)
 
 pub wins-one : (r : RuleView) (c : ℕ) → (wins (r ∷ []) c ≡ true) ↔ (r.quota ≤ weight r.weights c)
 unfolding wins

@@ -1,72 +1,65 @@
 -- The tallies of a game whose rules are those of two others.
-use Rattle.std.proofs.Common.{◌≡◌, ◌∙◌, ◌==◌, ◌&&◌, ℕ, ◌+◌, ◌^◌, ◌<◌, ◌≤◌, Bool, List}
-use Rattle.std.proofs.Common.{length, get_or, filter, sym, ap, arith}
+use Rattle.std.proofs.Common.{◌≡◌, ◌∙◌, ◌==◌, ◌&&◌, ℕ, ◌+◌, ◌-◌, ◌*◌, ◌^◌, ◌<◌, ◌≤◌, Bool, List, [], ◌∷◌}
+use Rattle.std.proofs.Common.{length, get_or, filter, sym, refl, arith}
+use Rattle.std.proofs.lemmas.Bool.Decides.{nat_tests}
 use Rattle.std.specs.List.{sum_by, range_with_len}
-use Rattle.std.proofs.lemmas.Bool.{ne_eqb, and_right}
 use Rattle.coalitions.proofs.Shared.Ranges.{sum_by-range-more, sum_by-range-le}
-use Rattle.council_game.specs.Votes.{minimal_coalitions}
+use Rattle.council_game.specs.Votes.{has, minimal_coalitions}
 use Rattle.council_game.specs.Game.{GameView, IsGame, votes_of}
-use Rattle.power_index.specs.Counting.{size_of, contains, count_of_size, count_of_member_size}
+use Rattle.power_index.specs.Counting.{size_of, count_of_size, count_of_member_size}
+use Rattle.std.proofs.lemmas.Bool.{cases_lt}
 use Rattle.power_index.proofs.Shared.Members.{size-le}
 use Rattle.power_index.proofs.Shared.Minimal.{minimal-few}
-use Rattle.power_index.proofs.Shared.Sums.{sum-range, length-filter-le}
+use Rattle.power_index.proofs.Shared.Sums.{length-filter-le}
 use Rattle.mwc_sums.specs.Chambers.{AreChambersOf, paired, minimal_of_size, minimal_of_member_size}
-use Rattle.mwc_sums.proofs.Filters.{filter-none}
-use Rattle.mwc_sums.proofs.Apart.{chamber-sizes, chamber-members}
+use Rattle.mwc_sums.proofs.Pairs.{chamber-sizes, chamber-members}
 
--- a number of a sum, with what is before it
-pub sum-more : (f : ℕ → ℕ) (j n : ℕ) → j < n → sum_by f (range_with_len 0 j) + f j ≤ sum_by f (range_with_len 0 n)
-sum-more f j n lt = omega (arith, sum_by-range-more f j, sum_by-range-le f (j + 1) n (omega (arith, lt)))
+-- the pairs of a size, with one more
+pub pairs-more : (first second : List ℕ) (size own : ℕ) → own < size + 1
+    → get_or first own 0 * get_or second (size - own) 0 + sum_by (λ j. get_or first j 0 * get_or second (size - j) 0) (range_with_len 0 own)
+    ≤ paired (λ j. get_or first j 0) (λ j. get_or second j 0) size
+pairs-more first second size own lt =
+    let f : ℕ → ℕ = λ j. get_or first j 0 * get_or second (size - j) 0 in
+    omega (arith, sum_by-range-more f own, sum_by-range-le f (own + 1) (size + 1) (omega (arith, lt)))
 
-paired-same : (f h k l : ℕ → ℕ) (s : ℕ) → ((j : ℕ) → j ≤ s → f j ≡ h j) → ((j : ℕ) → j ≤ s → k j ≡ l j) → paired f k s ≡ paired h l s
-paired-same f h k l s own other = grind (arith, sum-range)
+pub ruleset one_more = (pairs-more, sum_by-range-more)
 
 -- no coalition has more members than there are
 pub none-of_size : (g : GameView) (list : List ℕ) (s : ℕ) → length g.names < s → 0 ≡ count_of_size g s list
-none-of_size g list s above =
-    sym ((λ i. length (filter (λ c. ne_eqb (size_of g c) s (λ e. (let le = size-le (length g.names) c in omega (arith, e, above, le))) i) list))
-    ∙ ap (λ (l : List ℕ). length l) (filter-none list))
+none-of_size g [] s above = refl
+none-of_size g (c ∷ list) s above = grind (arith, nat_tests, none-of_size g list s above, size-le (length g.names) c)
 
 pub none-of_member_size : (g : GameView) (m : ℕ) (list : List ℕ) (s : ℕ) → length g.names < s → 0 ≡ count_of_member_size g m s list
-none-of_member_size g m list s above =
-    sym ((λ i. length (filter (λ c. and_right (contains g m c) (size_of g c == s) (ne_eqb (size_of g c) s (λ e.
-    (let le = size-le (length g.names) c in omega (arith, e, above, le)))) i) list))
-    ∙ ap (λ (l : List ℕ). length l) (filter-none list))
+none-of_member_size g m [] s above = refl
+none-of_member_size g m (c ∷ list) s above = grind (arith, nat_tests, none-of_member_size g m list s above, size-le (length g.names) c)
+
+pub ruleset counts_by_size = (cases_lt, none-of_size, none-of_member_size)
 
 few-of : (g : GameView) (p : ℕ → Bool) → IsGame g → length (filter p (minimal_coalitions (votes_of g))) ≤ 2 ^ 40
 few-of g p is = let a = length-filter-le p (minimal_coalitions (votes_of g)) in let b = minimal-few g is in omega (arith, a, b)
 
-pub few-of_size : (g : GameView) (s : ℕ) → IsGame g → minimal_of_size g s ≤ 2 ^ 40
-few-of_size g s is = few-of g (λ c. size_of g c == s) is
+-- how many minimal winning coalitions of a game have size s and a place
+abbrev pub minimal_of_place_size : GameView → ℕ → ℕ → ℕ
+minimal_of_place_size g p s = length (filter (λ c. has (length g.names) p c && (size_of g c == s)) (minimal_coalitions (votes_of g)))
 
-pub few-of_member_size : (g : GameView) (i s : ℕ) → IsGame g → minimal_of_member_size g i s ≤ 2 ^ 40
-few-of_member_size g i s is = few-of g (λ c. contains g i c && (size_of g c == s)) is
+-- pairs of lists, added, have each size so many times, which fits
+abbrev pub ArePairs : List ℕ → List ℕ → List ℕ → List ℕ → (ℕ → ℕ) → Type 0
+ArePairs us ys xs vs f = (s : ℕ)
+    → (paired (λ j. get_or us j 0) (λ j. get_or ys j 0) s + paired (λ j. get_or xs j 0) (λ j. get_or vs j 0) s ≡ f s) × (f s ≤ 2 ^ 40)
 
--- a list has what a function gives for the sizes up to 40
-abbrev pub Holds : List ℕ → (ℕ → ℕ) → Type 0
-Holds xs f = (s : ℕ) → s ≤ 40 → get_or xs s 0 ≡ f s
+module _ {g a b : GameView} (is_g : IsGame g) (is_a : IsGame a) (is_b : IsGame b) (are : AreChambersOf g a b) (xs ys : List ℕ)
+    (own : (s : ℕ) → get_or xs s 0 ≡ minimal_of_size a s) (other : (s : ℕ) → get_or ys s 0 ≡ minimal_of_size b s) where
+  pub all-pairs : (s : ℕ) → (paired (λ j. get_or xs j 0) (λ j. get_or ys j 0) s ≡ minimal_of_size g s) × (minimal_of_size g s ≤ 2 ^ 40)
+  all-pairs s = (
+    (λ k. paired (λ j. own j k) (λ j. other j k) s) ∙ sym (chamber-sizes g a b is_g is_a is_b are s),
+    few-of g (λ c. size_of g c == s) is_g,
+  )
 
-module _ {g a b : GameView} (is_g : IsGame g) (is_a : IsGame a) (is_b : IsGame b) (are : AreChambersOf g a b) where
-  pub all-pairs : (xs ys : List ℕ) → Holds xs (minimal_of_size a) → Holds ys (minimal_of_size b) → (s : ℕ) → s ≤ 40
-      → paired (λ j. get_or xs j 0) (λ j. get_or ys j 0) s ≡ minimal_of_size g s
-  all-pairs xs ys own other s small =
-      paired-same (λ j. get_or xs j 0) (minimal_of_size a) (λ j. get_or ys j 0) (minimal_of_size b) s
-      (λ j le. own j (omega (arith, le, small))) (λ j le. other j (omega (arith, le, small)))
-      ∙ sym (chamber-sizes g a b s is_g is_a is_b are)
-
-  pub each-pairs : (i : ℕ) (xs ys us vs : List ℕ) → i < length g.names → Holds xs (minimal_of_member_size a i) → Holds ys (minimal_of_size b)
-      → Holds us (minimal_of_size a) → Holds vs (minimal_of_member_size b i) → (s : ℕ) → s ≤ 40
-      → paired (λ j. get_or xs j 0) (λ j. get_or ys j 0) s + paired (λ j. get_or us j 0) (λ j. get_or vs j 0) s ≡ minimal_of_member_size g i s
-  each-pairs i xs ys us vs lt own other first second s small =
-      (λ k. paired-same (λ j. get_or xs j 0) (minimal_of_member_size a i) (λ j. get_or ys j 0) (minimal_of_size b) s
-      (λ j le. own j (omega (arith, le, small))) (λ j le. other j (omega (arith, le, small))) k
-      + paired-same (λ j. get_or us j 0) (minimal_of_size a) (λ j. get_or vs j 0) (minimal_of_member_size b i) s
-      (λ j le. first j (omega (arith, le, small))) (λ j le. second j (omega (arith, le, small))) k)
-      ∙ sym (chamber-members g a b i s is_g is_a is_b are lt)
-
-  pub first-few : (i : ℕ) (xs ys : List ℕ) → i < length g.names → Holds xs (minimal_of_member_size a i) → Holds ys (minimal_of_size b)
-      → (s : ℕ) → s ≤ 40 → paired (λ j. get_or xs j 0) (λ j. get_or ys j 0) s ≤ 2 ^ 40
-  first-few i xs ys lt own other s small =
-      let same = paired-same (λ j. get_or xs j 0) (minimal_of_member_size a i) (λ j. get_or ys j 0) (minimal_of_size b) s
-      (λ j le. own j (omega (arith, le, small))) (λ j le. other j (omega (arith, le, small))) in
-      omega (arith, same, chamber-members g a b i s is_g is_a is_b are lt, few-of_member_size g i s is_g)
+  pub each-pairs : (i p : ℕ) (us vs : List ℕ) → ((s : ℕ) → get_or us s 0 ≡ minimal_of_member_size a i s)
+      → ((s : ℕ) → get_or vs s 0 ≡ minimal_of_member_size b i s) → i < length g.names → get_or g.ranks i 0 ≡ p
+      → ArePairs us ys xs vs (minimal_of_place_size g p)
+  each-pairs i p us vs first second lt place s = (
+    (λ k. paired (λ j. first j k) (λ j. other j k) s + paired (λ j. own j k) (λ j. second j k) s)
+        ∙ sym (chamber-members g a b is_g is_a is_b are i s lt) ∙ (λ k. minimal_of_place_size g (place k) s),
+    few-of g (λ c. has (length g.names) p c && (size_of g c == s)) is_g,
+  )

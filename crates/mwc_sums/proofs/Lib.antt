@@ -6,10 +6,10 @@ mod VetoLaw
 mod AlikeRules
 mod Joining
 mod Paired
-mod Pairs
+pub mod Pairs
 mod Apart
 mod Remaking
-mod Joined
+pub mod Joined
 mod Vetoing
 mod VetoRules
 pub mod OneChamber

@@ -1,5 +1,5 @@
 -- The counts of a game do not depend on the order of its rules, nor on the order of its places.
-use Rattle.std.proofs.Common.{◌≡◌, ◌∙◌, ◌==◌, ◌&&◌, ℕ, ◌<◌}
+use Rattle.std.proofs.Common.{◌≡◌, ◌∙◌, ◌==◌, ◌&&◌, ℕ, suc, ◌<◌}
 use Rattle.std.proofs.Common.{Bool, true, leb, List, [], ◌∷◌, length, filter, sym, ap, subst, refl, arith}
 use Rattle.std.specs.List.Sorted.{IsPermutation}
 use Rattle.std.proofs.lemmas.List.Sorted.{All-permutation, IsPermutation-sym}
@@ -16,9 +16,9 @@ use Rattle.mwc_sums.proofs.Matching.{Holds, alike-count}
 use Rattle.mwc_sums.proofs.Placed.{game-holds, met-looks, seen-contains}
 use Rattle.mwc_sums.proofs.Seating.{alike-size, seen}
 
-filter-all : (xs : List ℕ) → filter (λ c. true) xs ≡ xs
-filter-all [] = refl
-filter-all (x ∷ xs) = ap (λ (l : List ℕ). x ∷ l) (filter-all xs)
+count-all : (xs : List ℕ) → length (filter (λ c. true) xs) ≡ length xs
+count-all [] = refl
+count-all (x ∷ xs) = ap (λ (k : ℕ). suc k) (count-all xs)
 
 -- two games of the same members, who win in the one where they win in the other
 module _ (g h : GameView) (is_g : IsGame g) (is_h : IsGame h) (same : AreRulesOf g (length h.names) h.rules) where
@@ -38,8 +38,7 @@ module _ (g h : GameView) (is_g : IsGame g) (is_h : IsGame h) (same : AreRulesOf
   sizes s c d alike = ap (λ (k : ℕ). k == s) (alike-size (game-holds is_g (length g.names) refl).seats holds.seats c d alike)
 
   members : (i c d : ℕ) → i < length g.names → AreAlike c d → contains g i c ≡ contains h i d
-  members i c d lt alike =
-      sym (seen-contains is_g c i lt) ∙ alike i lt ∙ seen-contains is_h d i (let long = same.members in omega (arith, lt, long))
+  members i c d lt alike = grind (arith, seen-contains is_g c i, alike i, seen-contains is_h d i, same.members)
 
   pub counts-alike : (t : Tables) → AreCounts h (minimal_coalitions (votes_of h)) t → AreCounts g (minimal_coalitions (votes_of g)) t
   counts-alike t counts =
@@ -47,9 +46,7 @@ module _ (g h : GameView) (is_g : IsGame g) (is_h : IsGame h) (same : AreRulesOf
       (let m = counts.members in let long = same.members in omega (arith, lt, m, long)) in
       record {
         members = counts.members ∙ same.members;
-        total =
-            counts.total ∙ ap length (sym (filter-all (minimal_coalitions (votes_of h)))) ∙ count-same (λ c. true) (λ c. true) (λ c d alike. refl)
-            ∙ ap length (filter-all (minimal_coalitions (votes_of g)));
+        total = counts.total ∙ sym (count-all _) ∙ count-same (λ c. true) (λ c. true) (λ c d alike. refl) ∙ count-all _;
         of_size = λ s le. counts.of_size s le ∙ count-same (λ c. size_of g c == s) (λ c. size_of h c == s) (sizes s);
         of_member = λ i lt. counts.of_member i lt ∙ count-same (contains g i) (contains h i) (λ c d alike. members i c d (within i lt) alike);
         of_member_size = λ i s lt le. counts.of_member_size i s lt le

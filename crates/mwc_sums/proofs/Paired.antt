@@ -1,59 +1,34 @@
 -- Pairs of two lists that have a size together.
-use Rattle.std.proofs.Common.{◌≡◌, ◌∙◌, ◌==◌, ◌&&◌, ℕ, ◌+◌, ◌-◌, ◌*◌, ◌≤◌, Bool, cond, leb, List, length}
-use Rattle.std.proofs.Common.{filter, sym, ap, arith, inl, inr}
+use Rattle.std.proofs.Common.{◌≡◌, ◌∙◌, ◌==◌, ◌&&◌, ℕ, ◌+◌, ◌-◌, ◌*◌, Bool, leb, ◌≤◌, List, [], ◌∷◌, length}
+use Rattle.std.proofs.Common.{filter, sym, ap, arith}
 use Rattle.std.specs.List.{sum_by}
-use Rattle.std.proofs.lemmas.Bool.{cases_lt, ne_eqb, and_parts, and_right, le-leb, leb-true, lt-leb}
-use Rattle.power_index.proofs.Shared.Sums.{sum-times, sum-range, sum-filter, sum-by_size}
+use Rattle.std.proofs.lemmas.List.Sums.{sum_by-cons}
+use Rattle.mwc_sums.proofs.Filters.{filter-both}
+use Rattle.power_index.proofs.Shared.Sums.{sum-range, sum-filter, sum-by_size}
 use Rattle.std.proofs.lemmas.Bool.Decides.{nat_tests}
 use Rattle.mwc_sums.specs.Chambers.{paired}
-use Rattle.mwc_sums.proofs.Filters.{filter-none}
-use Rattle.mwc_sums.proofs.Leads.{shifted}
-use Rattle.mwc_sums.proofs.Matching.{count-both}
 use Rattle.mwc_sums.proofs.Seating.{one_if}
 
--- those of a list that fill so many up to s
-filling : (q : ℕ → Bool) (k : ℕ → ℕ) (ys : List ℕ) (j s : ℕ) → length (filter (λ y. q y && (j + k y == s)) ys)
-    ≡ cond (leb j s) (length (filter (λ y. q y && (k y == s - j)) ys)) 0
-filling q k ys j s = elim (cases_lt s j) [
-  | inl above ↦
-      (λ i. length (filter (λ y. and_right (q y) (j + k y == s) (ne_eqb (j + k y) s (λ e. omega (arith, e, above))) i) ys))
-      ∙ ap (λ (l : List ℕ). length l) (filter-none ys)
-      ∙ sym (ap (λ (b : Bool). cond b (length (filter (λ y. q y && (k y == s - j)) ys)) 0) (lt-leb j s above))
-  | inr within ↦
-      (λ i. length (filter (λ y. q y && shifted j (k y) s within i) ys))
-      ∙ sym (ap (λ (b : Bool). cond b (length (filter (λ y. q y && (k y == s - j)) ys)) 0) (le-leb j s within))
-]
-
-apart-test : (m n p q e : Bool) → one_if ((m && n) && ((p && q) && e)) ≡ one_if (n && (q && e)) * one_if (m && p)
-apart-test m n p q e = grind (arith, nat_tests)
+-- one of the first list, with those of the second that fill it up to s
+row : (n q : ℕ → Bool) (l : ℕ → ℕ) (m p : Bool) (k s : ℕ) (ys : List ℕ) → sum_by (λ y. one_if ((m && n y) && ((p && q y) && (k + l y == s)))) ys
+    ≡ one_if (m && (p && leb k s)) * length (filter (λ y. q y && (l y == s - k)) (filter n ys))
+row n q l m p k s [] = omega arith
+row n q l m p k s (y ∷ ys) =
+    grind (arith, nat_tests, row n q l m p k s ys, sum_by-cons (λ y. one_if ((m && n y) && ((p && q y) && (k + l y == s)))) y ys)
 
 pub pairs-of_size : (m n p q : ℕ → Bool) (k l : ℕ → ℕ) (xs ys : List ℕ) (s : ℕ)
     → sum_by (λ x. sum_by (λ y. one_if ((m x && n y) && ((p x && q y) && (k x + l y == s)))) ys) xs
     ≡ paired (λ j. length (filter (λ x. p x && (k x == j)) (filter m xs))) (λ j. length (filter (λ y. q y && (l y == j)) (filter n ys))) s
 pairs-of_size m n p q k l xs ys s =
-    (λ i. sum_by (λ x. one_row x i) xs)
-    ∙ sym (sum-filter (λ x. one_if (p x && leb (k x) s) * others (s - k x)) m xs)
-    ∙ sym (sum-filter (λ x. others (s - k x)) (λ x. p x && leb (k x) s) (filter m xs))
-    ∙ sym (sum-by_size (λ j. others (s - j)) k (λ x. p x && leb (k x) s) 0 (s + 1) (filter m xs)
-    (λ x in'. (omega arith, (let le = leb-true (k x) s (and_parts (p x) (leb (k x) s) in').1 in omega (arith, le)))))
-    ∙ sum-range (λ j. length (filter (λ x. (p x && leb (k x) s) && (k x == j)) (filter m xs)) * others (s - j))
+    let others : ℕ → ℕ = λ j. length (filter (λ y. q y && (l y == j)) (filter n ys)) in
+    let passes : ℕ → Bool = λ x. m x && (p x && leb (k x) s) in
+    (λ i. sum_by (λ x. row n q l (m x) (p x) (k x) s ys i) xs)
+    ∙ sym (sum-filter (λ x. others (s - k x)) passes xs)
+    ∙ sym (sum-by_size (λ j. others (s - j)) k passes 0 (s + 1) xs (λ x in'. grind (arith, nat_tests)))
+    ∙ sum-range (λ j. length (filter (λ x. passes x && (k x == j)) xs) * others (s - j))
     (λ j. length (filter (λ x. p x && (k x == j)) (filter m xs)) * others (s - j)) 0 (s + 1)
-    (λ j _ lt. (λ i. length (filter (λ x. within (p x) (k x) j (omega (arith, lt)) i) (filter m xs)) * others (s - j)))
+    (λ j _ lt. ap (λ (t : ℕ). t * others (s - j)) ((λ i. length (filter (λ x. same (m x) (p x) (k x) j (omega (arith, lt)) i) xs))
+    ∙ ap (λ (l : List ℕ). length l) (sym (filter-both m (λ x. p x && (k x == j)) xs))))
   where
-    others : ℕ → ℕ
-    others j = length (filter (λ y. q y && (l y == j)) (filter n ys))
-
-    within : (b : Bool) (a j : ℕ) → j ≤ s → ((b && leb a s) && (a == j)) ≡ (b && (a == j))
-    within b a j le = grind (arith, nat_tests)
-
-    both : (b d e : Bool) (t : ℕ) → cond e t 0 * one_if (b && d) ≡ one_if b * (one_if (d && e) * t)
-    both b d e t = grind (arith, nat_tests)
-
-    one_row : (x : ℕ) → sum_by (λ y. one_if ((m x && n y) && ((p x && q y) && (k x + l y == s)))) ys
-        ≡ one_if (m x) * (one_if (p x && leb (k x) s) * others (s - k x))
-    one_row x =
-        (λ i. sum_by (λ y. apart-test (m x) (n y) (p x) (q y) (k x + l y == s) i) ys)
-        ∙ sum-times (λ y. one_if (n y && (q y && (k x + l y == s)))) (one_if (m x && p x)) ys
-        ∙ ap (λ (t : ℕ). t * one_if (m x && p x))
-        (sym (count-both n (λ y. q y && (k x + l y == s)) ys) ∙ filling q l (filter n ys) (k x) s)
-        ∙ both (m x) (p x) (leb (k x) s) (others (s - k x))
+    same : (a b : Bool) (x j : ℕ) → j ≤ s → ((a && (b && leb x s)) && (x == j)) ≡ (a && (b && (x == j)))
+    same a b x j le = grind (arith, nat_tests)

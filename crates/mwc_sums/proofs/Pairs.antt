@@ -1,38 +1,25 @@
 -- How many coalitions of a game are one of each of two games together.
 use Rattle.std.proofs.Common.{◌≡◌, ◌∙◌, ◌↔◌, ◌==◌, ◌&&◌, ◌||◌, ℕ, ◌+◌, ◌^◌, ◌<◌, Bool, true, false, List, length, filter}
-use Rattle.std.proofs.Common.{sym, ap, refl, subst, arith}
+use Rattle.std.proofs.Common.{sym, refl, subst, arith}
 use Rattle.std.specs.List.{sum_by, range_with_len}
 use Rattle.std.proofs.lemmas.Bool.{and_parts, and_from}
-use Rattle.std.proofs.Math.Bool.{or_comm}
 use Rattle.council_game.specs.Votes.{minimal, down, minimal_coalitions}
 use Rattle.council_game.specs.Game.{GameView, IsGame, votes_of}
 use Rattle.power_index.specs.Counting.{contains, size_of}
 use Rattle.power_index.proofs.Shared.Sums.{sum-plus, sum-range}
 use Rattle.std.proofs.lemmas.Bool.Decides.{nat_tests}
-use Rattle.mwc_sums.specs.Chambers.{met, paired, minimal_of_size, minimal_of_member_size}
+use Rattle.mwc_sums.proofs.Apart.{has_weight, joint-of}
+use Rattle.mwc_sums.specs.Chambers.{AreChambersOf, met, paired, minimal_of_size, minimal_of_member_size}
 use Rattle.mwc_sums.proofs.Joining.{IsJoint, flipped-joint, least-half, least-sides, least-apart, least-own, least-union}
 use Rattle.mwc_sums.proofs.Matching.{ArePairs, paired-off}
 use Rattle.mwc_sums.proofs.Paired.{pairs-of_size}
-use Rattle.mwc_sums.proofs.Placed.{game-least, game-seats, seen-contains}
+use Rattle.mwc_sums.proofs.Placed.{game-holds, game-least, game-seats, seen-contains}
 use Rattle.mwc_sums.proofs.Seating.{IsLeast, IsSeating, as_mask, mask-is, mask-less, mask-seen, one_if, seen, seen-size}
-
-on-sides : (b s t : Bool) → (b ≡ true → (s || t) ≡ true) → b ≡ ((b && s) || (b && t))
-on-sides b s t h = grind (arith, nat_tests)
-
-under : (b t u : Bool) → (b ≡ true → t ≡ u) → one_if (b && t) ≡ one_if (b && u)
-under b t u same = grind (arith, nat_tests)
-
-one-sum : (b d : Bool) → (b ≡ true → d ≡ false) → one_if (b || d) ≡ one_if b + one_if d
-one-sum b d h = grind (arith, nat_tests)
-
-two-ways : (m b d e t : Bool) → (m ≡ true → t ≡ ((b || d) && e)) → (m ≡ true → b ≡ true → d ≡ false)
-    → one_if (m && t) ≡ one_if (m && ((b && true) && e)) + one_if (m && (d && e))
-two-ways m b d e t is apart = grind (arith, nat_tests)
 
 -- a game of so many members as another
 module _ {n : ℕ} {a : GameView} (is : IsGame a) (long : length a.names ≡ n) where
   over-seats : IsSeating n (length a.names) a.ranks
-  over-seats = subst (λ (k : ℕ). IsSeating k (length a.names) a.ranks) long (game-seats is)
+  over-seats = (game-holds is n long).seats
 
   over-least : (x : ℕ) → (minimal (votes_of a) x ≡ true) ↔ IsLeast n (met n a.rules) (seen (length a.names) a.ranks x)
   over-least x = subst (λ (k : ℕ). (minimal (votes_of a) x ≡ true) ↔ IsLeast k (met k a.rules) (seen (length a.names) a.ranks x)) long (game-least is x)
@@ -41,9 +28,7 @@ module _ {n : ℕ} {a : GameView} (is : IsGame a) (long : length a.names ≡ n) 
   over-seen f i lt = mask-seen over-seats f
       (λ j lj _. (let below = over-seats.are.place_below j lj in omega (arith, below, long))) i lt
 
-module _ {g a b : GameView} (is_g : IsGame g) (is_a : IsGame a) (is_b : IsGame b) (la : length a.names ≡ length g.names)
-    (lb : length b.names ≡ length g.names) {own other : ℕ → Bool}
-    (joint : IsJoint (length g.names) own other (met (length g.names) g.rules) (met (length g.names) a.rules) (met (length g.names) b.rules)) where
+module _ (g a b : GameView) (is_g : IsGame g) (is_a : IsGame a) (is_b : IsGame b) (are : AreChambersOf g a b) where
   abbrev n : ℕ
   n = length g.names
 
@@ -62,7 +47,16 @@ module _ {g a b : GameView} (is_g : IsGame g) (is_a : IsGame a) (is_b : IsGame b
   abbrev min_pair : ℕ → ℕ → Bool
   min_pair x y = minimal (votes_of a) x && minimal (votes_of b) y
 
-  joint' : IsJoint (length g.names) other own (met (length g.names) g.rules) (met (length g.names) b.rules) (met (length g.names) a.rules)
+  abbrev own : ℕ → Bool
+  own = has_weight a.rules
+
+  abbrev other : ℕ → Bool
+  other = has_weight b.rules
+
+  joint : IsJoint n own other (met n g.rules) (met n a.rules) (met n b.rules)
+  joint = joint-of are
+
+  joint' : IsJoint n other own (met n g.rules) (met n b.rules) (met n a.rules)
   joint' = flipped-joint joint
 
   joined : (x y i : ℕ) → i < n → in_g (union x y) i ≡ (in_a x i || in_b y i)
@@ -78,25 +72,18 @@ module _ {g a b : GameView} (is_g : IsGame g) (is_a : IsGame a) (is_b : IsGame b
     below = λ x y. mask-less n g.ranks (λ i. in_a x i || in_b y i);
     parts = λ c lc min.
         (let least = (game-least is_g c).0 min in
-        let in_x = over-seen is_a la (λ i. in_g c i && own i) in
-        let in_y = over-seen is_b lb (λ i. in_g c i && other i) in (
-          and_from _ _
-              ((over-least is_a la _).1 (least-half joint _ least in_x))
-              ((over-least is_b lb _).1 (least-half joint' _ least in_y)),
-          sym (mask-is (game-seats is_g) _ c lc (λ i lt.
-              on-sides (in_g c i) (own i) (other i) (least-sides joint least i lt)
-              ∙ sym (λ k. in_x i lt k || in_y i lt k))),
+        let in_x = over-seen is_a are.first (λ i. in_g c i && own i) in
+        let in_y = over-seen is_b are.second (λ i. in_g c i && other i) in (
+          and_from _ _ ((over-least is_a are.first _).1 (least-half joint _ least in_x)) ((over-least is_b are.second _).1 (least-half joint' _ least in_y)),
+          sym (mask-is (game-seats is_g) _ c lc (λ i lt. grind (arith, nat_tests, in_x i lt, in_y i lt, least-sides joint least i lt))),
         ));
     whole = λ x y lx ly min.
         (let p = and_parts (minimal (votes_of a) x) (minimal (votes_of b) y) min in
-        let least_a = (over-least is_a la x).0 p.0 in
-        let least_b = (over-least is_b lb y).0 p.1 in (
-          (game-least is_g (union x y)).1 (least-union joint (in_g (union x y)) least_a least_b (joined x y)),
-          sym (mask-is (over-seats is_a la) _ x lx (λ i lt. sym (ap (λ (d : Bool). d && own i) (joined x y i lt)
-              ∙ least-own joint least_a least_b i lt))),
-          sym (mask-is (over-seats is_b lb) _ y ly (λ i lt. sym (ap (λ (d : Bool). d && other i)
-              (joined x y i lt ∙ or_comm (in_a x i) (in_b y i))
-              ∙ least-own joint' least_b least_a i lt))),
+        let least_a = (over-least is_a are.first x).0 p.0 in
+        let least_b = (over-least is_b are.second y).0 p.1 in (
+          (game-least is_g (union x y)).1 (least-union joint least_a least_b (in_g (union x y)) (joined x y)),
+          sym (mask-is (over-seats is_a are.first) _ x lx (λ i lt. grind (arith, nat_tests, joined x y i lt, least-own joint least_a least_b i lt))),
+          sym (mask-is (over-seats is_b are.second) _ y ly (λ i lt. grind (arith, nat_tests, joined x y i lt, least-own joint' least_b least_a i lt))),
         ));
   }
 
@@ -112,49 +99,48 @@ module _ {g a b : GameView} (is_g : IsGame g) (is_a : IsGame a) (is_b : IsGame b
 
   -- ---- by size and by member
   min-apart : (x y : ℕ) → min_pair x y ≡ true → (i : ℕ) → i < n → in_a x i ≡ true → in_b y i ≡ false
-  min-apart x y min i lt inside =
+  min-apart x y min =
       let p = and_parts (minimal (votes_of a) x) (minimal (votes_of b) y) min in
-      least-apart joint
-      ((over-least is_a la x).0 p.0) ((over-least is_b lb y).0 p.1) i lt inside
+      least-apart joint ((over-least is_a are.first x).0 p.0) ((over-least is_b are.second y).0 p.1)
 
   size-union : (x y : ℕ) → min_pair x y ≡ true → size_of g (union x y) ≡ size_of a x + size_of b y
   size-union x y min =
       sym (seen-size (game-seats is_g) (union x y))
       ∙ sum-range (λ i. one_if (in_g (union x y) i)) (λ i. one_if (in_a x i) + one_if (in_b y i)) 0 n
-      (λ i _ lt. ap (λ (d : Bool). one_if d) (joined x y i (omega (arith, lt)))
-      ∙ one-sum (in_a x i) (in_b y i) (min-apart x y min i (omega (arith, lt))))
+      (λ i _ lt. grind (arith, nat_tests, joined x y i, min-apart x y min i))
       ∙ sum-plus (λ i. one_if (in_a x i)) (λ i. one_if (in_b y i)) (range_with_len 0 n)
-      ∙ (λ k. seen-size (over-seats is_a la) x k + seen-size (over-seats is_b lb) y k)
+      ∙ (λ k. seen-size (over-seats is_a are.first) x k + seen-size (over-seats is_b are.second) y k)
 
-  -- what the parts contain
-  a-contains : (x i : ℕ) → i < n → in_a x i ≡ contains a i x
-  a-contains x i lt = seen-contains is_a x i (omega (arith, lt, la))
-
-  b-contains : (y i : ℕ) → i < n → in_b y i ≡ contains b i y
-  b-contains y i lt = seen-contains is_b y i (omega (arith, lt, lb))
-
-  pub joint-sizes : (s : ℕ) → minimal_of_size g s ≡ paired (minimal_of_size a) (minimal_of_size b) s
+  pub chamber-sizes : (s : ℕ) → minimal_of_size g s ≡ paired (minimal_of_size a) (minimal_of_size b) s
   unfolding minimal_coalitions
-  joint-sizes s =
-      counted (λ c. size_of g c == s)
-      ∙ (λ k. sum_by (λ x. sum_by (λ y. under (min_pair x y) (size_of g (union x y) == s) (size_of a x + size_of b y == s)
-      (λ min. ap (λ (z : ℕ). z == s) (size-union x y min)) k) all_b) all_a)
+  chamber-sizes s =
+      counted (λ c. size_of g c == s) ∙ (λ k. sum_by (λ x. sum_by (λ y. each x y k) all_b) all_a)
       ∙ pairs-of_size (minimal (votes_of a)) (minimal (votes_of b)) (λ x. true) (λ y. true) (size_of a) (size_of b) all_a all_b s
+    where
+      each : (x y : ℕ) → one_if (min_pair x y && (size_of g (union x y) == s)) ≡ one_if (min_pair x y && (size_of a x + size_of b y == s))
+      each x y = grind (arith, nat_tests, size-union x y)
 
-  pub joint-members : (i s : ℕ) → i < length g.names → minimal_of_member_size g i s
+  -- those with a member have it on the one side, or on the other
+  abbrev of_a : ℕ → ℕ → ℕ → ℕ → ℕ
+  of_a i s x y = one_if (min_pair x y && ((contains a i x && true) && (size_of a x + size_of b y == s)))
+
+  abbrev of_b : ℕ → ℕ → ℕ → ℕ → ℕ
+  of_b i s x y = one_if (min_pair x y && (contains b i y && (size_of a x + size_of b y == s)))
+
+  pub chamber-members : (i s : ℕ) → i < length g.names → minimal_of_member_size g i s
       ≡ paired (minimal_of_member_size a i) (minimal_of_size b) s + paired (minimal_of_size a) (minimal_of_member_size b i) s
   unfolding minimal_coalitions
-  joint-members i s lt =
-      let of_size : ℕ → ℕ → Bool = λ x y. size_of a x + size_of b y == s in
-      let of_a : ℕ → ℕ → ℕ = λ x y. one_if (min_pair x y && ((contains a i x && true) && of_size x y)) in
-      let of_b : ℕ → ℕ → ℕ = λ x y. one_if (min_pair x y && (contains b i y && of_size x y)) in
-      counted (λ c. contains g i c && (size_of g c == s))
-      ∙ (λ k. sum_by (λ x. sum_by (λ y. two-ways (min_pair x y) (contains a i x) (contains b i y) (of_size x y)
-      (contains g i (union x y) && (size_of g (union x y) == s))
-      (λ min. (λ j. (sym (seen-contains is_g (union x y) i lt) ∙ joined x y i lt ∙ (λ k. a-contains x i lt k || b-contains y i lt k)) j
-      && (size-union x y min j == s)))
-      (λ min in'. sym (b-contains y i lt) ∙ min-apart x y min i lt (a-contains x i lt ∙ in')) k) all_b) all_a)
-      ∙ (λ k. sum_by (λ x. sum-plus (of_a x) (of_b x) all_b k) all_a)
-      ∙ sum-plus (λ x. sum_by (of_a x) all_b) (λ x. sum_by (of_b x) all_b) all_a
+  chamber-members i s lt =
+      counted (λ c. contains g i c && (size_of g c == s)) ∙ (λ k. sum_by (λ x. sum_by (λ y. each x y k) all_b) all_a)
+      ∙ (λ k. sum_by (λ x. sum-plus (of_a i s x) (of_b i s x) all_b k) all_a)
+      ∙ sum-plus (λ x. sum_by (of_a i s x) all_b) (λ x. sum_by (of_b i s x) all_b) all_a
       ∙ (λ k. pairs-of_size (minimal (votes_of a)) (minimal (votes_of b)) (contains a i) (λ y. true) (size_of a) (size_of b) all_a all_b s k
       + pairs-of_size (minimal (votes_of a)) (minimal (votes_of b)) (λ x. true) (contains b i) (size_of a) (size_of b) all_a all_b s k)
+    where
+      each : (x y : ℕ) → one_if (min_pair x y && (contains g i (union x y) && (size_of g (union x y) == s))) ≡ of_a i s x y + of_b i s x y
+      each x y =
+          let in_x = seen-contains is_a x i (let e = are.first in omega (arith, lt, e)) in
+          let in_y = seen-contains is_b y i (let e = are.second in omega (arith, lt, e)) in
+          grind (arith, nat_tests, in_x, in_y, seen-contains is_g (union x y) i lt, joined x y i lt, size-union x y, min-apart x y)
+
+pub ruleset laws = (chamber-sizes, chamber-members)

@@ -1,7 +1,8 @@
 -- The minimal winning coalitions of a game hold the least sets of members that win.
-use Rattle.std.proofs.Common.{◌≡◌, ◌∙◌, ◌↔◌, ◌&&◌, ℕ, ◌*◌, ◌<◌, Bool, true, cond, leb, List, [], ◌∷◌, length}
+use Rattle.std.proofs.Common.{◌≡◌, ◌∙◌, ◌↔◌, ◌==◌, ◌&&◌, not, ℕ, suc, ◌*◌, ◌<◌, Bool, true, false, cond, leb, List, [], ◌∷◌, length}
 use Rattle.std.proofs.Common.{get_or, map, sym, ap, refl, subst, arith}
-use Rattle.std.specs.List.{sum_by, range_with_len}
+use Rattle.std.specs.List.{list_any, sum_by, range_with_len}
+use Rattle.std.proofs.lemmas.Bool.Decides.{nat_tests}
 use Rattle.std.proofs.lemmas.Bool.{lt-ltb}
 use Rattle.std.proofs.lemmas.List.{length-map, get_or-map}
 use Rattle.std.proofs.lemmas.List.FromFn.{length-range_with_len}
@@ -14,7 +15,7 @@ use Rattle.council_game.proofs.Shared.RankPlaces.{game-rank_places}
 use Rattle.council_game.proofs.Shared.Rankings.{places-at, length-weights_by_rank}
 use Rattle.power_index.specs.Counting.{contains}
 use Rattle.power_index.proofs.Shared.Sums.{sum-filter, sum-range}
-use Rattle.mwc_sums.specs.Chambers.{weighs, met}
+use Rattle.mwc_sums.specs.Chambers.{HasNoWeight, weighs, met}
 use Rattle.mwc_sums.proofs.Matching.{Holds}
 use Rattle.mwc_sums.proofs.Seating.{IsLeast, IsMin, IsSeating, LooksAt, least-min, seen, seen-sum}
 
@@ -27,8 +28,7 @@ weight-sum ws c = sum-filter (λ p. get_or ws p 0) (λ p. has (length ws) p c) (
 pub weight-seen : (n m : ℕ) (ranks : List ℕ) → IsSeating n m ranks → (r : RuleView) (ws : List ℕ) (c : ℕ) → length ws ≡ m
     → ((p : ℕ) → p < m → get_or ws p 0 ≡ get_or r.weights (member_at ranks p) 0) → weight ws c ≡ weighs n r (seen m ranks c)
 weight-seen n m ranks is r ws c long at =
-    weight-sum ws c
-    ∙ (λ k. sum_by (λ p. cond (has (long k) p c) 1 0 * get_or ws p 0) (range_with_len 0 (long k)))
+    simp long at (weight-sum ws c)
     ∙ sum-range (λ p. cond (has m p c) 1 0 * get_or ws p 0) (λ p. cond (has m p c) 1 0 * get_or r.weights (member_at ranks p) 0) 0 m
     (λ p _ lt. ap (λ (x : ℕ). cond (has m p c) 1 0 * x) (at p (omega (arith, lt))))
     ∙ sym (seen-sum is (λ i b. cond b 1 0 * get_or r.weights i 0) (λ i. omega arith) c)
@@ -37,21 +37,30 @@ pub ranked-at : (ranks : List ℕ) (r : RuleView) (p : ℕ) → p < length ranks
     → get_or (rule_by_rank ranks r).weights p 0 ≡ get_or r.weights (member_at ranks p) 0
 ranked-at ranks r p lt =
     let long = length-range_with_len 0 (length ranks) in
-    let ordered = length-map (places ranks) (member_at ranks) in
-    get_or-map (λ m. get_or r.weights m 0) (members_by_rank ranks) p 0 0 (omega (arith, ordered, long, lt))
-    ∙ ap (λ (m : ℕ). get_or r.weights m 0)
-    (get_or-map (member_at ranks) (places ranks) p 0 0 (omega (arith, long, lt)) ∙ ap (member_at ranks) (places-at (length ranks) p 0 lt))
+    let at = get_or-map (member_at ranks) (places ranks) p 0 0 (omega (arith, long, lt)) in
+    grind (arith, at, get_or-map (λ m. get_or r.weights m 0) (members_by_rank ranks) p 0 0, length-map (places ranks) (member_at ranks), places-at (length ranks) p 0 lt)
 
 -- ---- who meets rules
-pub weighs-same : (n : ℕ) (r : RuleView) (f h : ℕ → Bool)
-    → ((i : ℕ) → i < n → cond (f i) 1 0 * get_or r.weights i 0 ≡ cond (h i) 1 0 * get_or r.weights i 0) → weighs n r f ≡ weighs n r h
-weighs-same n r f h same = grind (arith, sum-range)
+-- a member has weight in some rule
+abbrev pub has_weight : List RuleView → ℕ → Bool
+has_weight rs i = list_any (λ r. not (get_or r.weights i 0 == 0)) rs
+
+pub no-weight : (rs : List RuleView) (i : ℕ) → HasNoWeight rs i → has_weight rs i ≡ false
+no-weight [] i none = refl
+no-weight (r ∷ rs) i none =
+    grind (arith, nat_tests, none 0 r (omega arith), no-weight rs i (λ k d lt. none (suc k) d (omega (arith, lt))))
+
+-- rules see those members who have weight
+pub met-seen : (n : ℕ) (rs : List RuleView) (f h : ℕ → Bool) → ((i : ℕ) → i < n → has_weight rs i ≡ true → f i ≡ h i) → met n rs f ≡ met n rs h
+met-seen n [] f h same = refl
+met-seen n (r ∷ rs) f h same =
+    let own = sum-range (λ i. cond (f i) 1 0 * get_or r.weights i 0) (λ i. cond (h i) 1 0 * get_or r.weights i 0) 0 n
+    (λ i _ lt. let is = same i (omega (arith, lt)) in grind (arith, nat_tests)) in
+    let rest = met-seen n rs f h (λ i lt seen. same i lt (grind (arith, nat_tests))) in
+    grind (arith, nat_tests, own, rest)
 
 pub met-looks : (n : ℕ) (rs : List RuleView) → LooksAt n (met n rs)
-met-looks n [] f h same = refl
-met-looks n (r ∷ rs) f h same =
-    (λ k. leb r.quota (weighs-same n r f h
-    (λ i lt. ap (λ (b : Bool). cond b 1 0 * get_or r.weights i 0) (same i lt)) k) && met-looks n rs f h same k)
+met-looks n rs f h same = met-seen n rs f h (λ i lt _. same i lt)
 
 pub minimal-min : (v : Votes) (c : ℕ) → (minimal v c ≡ true) ↔ IsMin v.members (wins v.rules) c
 minimal-min v c = grind (arith, needs-each-member)
@@ -75,10 +84,8 @@ module _ {g : GameView} (is : IsGame g) where
   pub game-least : (c : ℕ) → (minimal (votes_of g) c ≡ true) ↔ IsLeast (length g.names) (met (length g.names) g.rules) (seen (length g.names) g.ranks c)
   game-least c =
       let same : wins (votes_of g).rules ≡ (λ x. met (length g.names) g.rules (seen (length g.names) g.ranks x)) = λ k x. wins-each g.rules x k in
-      let set = least-min game-seats (met (length g.names) g.rules) (met-looks (length g.names) g.rules) c in (
-        λ min. set.1 (subst (λ (w : ℕ → Bool). IsMin (length g.names) w c) same ((minimal-min (votes_of g) c).0 min)),
-        λ least. (minimal-min (votes_of g) c).1 (subst (λ (w : ℕ → Bool). IsMin (length g.names) w c) (sym same) (set.0 least)),
-      )
+      let min = subst (λ (won : ℕ → Bool). (minimal (votes_of g) c ≡ true) ↔ IsMin (length g.names) won c) same (minimal-min (votes_of g) c) in
+      grind (arith, min, least-min game-seats (met (length g.names) g.rules) (met-looks (length g.names) g.rules) c)
 
   pub game-holds : (n : ℕ) → length g.names ≡ n → Holds n (met n g.rules) (length g.names) g.ranks (minimal (votes_of g))
   game-holds n e = subst (λ (n : ℕ). Holds n (met n g.rules) (length g.names) g.ranks (minimal (votes_of g))) e (record {

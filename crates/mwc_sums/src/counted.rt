@@ -3,6 +3,7 @@ ghost use Rattle.coalitions.specs.declared.limits.TheConstants.{MEMBERS, SIZES};
 ghost use Rattle.council_game.specs.Game.{IsGame, votes_of};
 ghost use Rattle.council_game.specs.Votes.{has, minimal_coalitions};
 ghost use Rattle.mwc_sums.specs.Chambers.{AreChambersOf, minimal_of_member_size, minimal_of_size, paired};
+ghost use Rattle.mwc_sums.specs.Inner.NoTally.{IsOfNone};
 ghost use Rattle.power_index.specs.Tables.{AreCounts, IsTallyOf};
 ghost use Rattle.std.specs.Prelude.{◌≡◌, ℕ, ◌+◌, ◌<◌, ◌≤◌, ◌^◌, true, IfOk, length, slice_index};
 
@@ -30,10 +31,11 @@ impl Counted {
     }
 
     /// How many coalitions have each size.
+    #[tactic(auto, using(crate::proofs::Joined::counts_by_size))]
     fn sizes(&self) -> [u64; limits::SIZES]
-        ensures { (s : ℕ) → s ≤ MEMBERS → slice_index result s ≡ minimal_of_size self.now.game s }
+        ensures { (s : ℕ) → slice_index result s ≡ minimal_of_size self.now.game s }
     {
-        let mut sizes = [0; limits::SIZES];
+        let mut sizes = no_tally().sizes;
         for size in 0..self.counts.members() + 1 {
             sizes[size] = self.counts.wide_of_size(size);
         }
@@ -41,12 +43,12 @@ impl Counted {
     }
 
     /// How many coalitions that contain a member have each size.
+    #[tactic(auto, using(crate::proofs::Joined::counts_by_size))]
     fn sizes_of_member(&self, member: usize) -> [u64; limits::SIZES]
         requires { member < length self.now.game.names }
-        ensures { (s : ℕ) → s ≤ MEMBERS
-            → slice_index result s ≡ minimal_of_member_size self.now.game member s }
+        ensures { (s : ℕ) → slice_index result s ≡ minimal_of_member_size self.now.game member s }
     {
-        let mut sizes = [0; limits::SIZES];
+        let mut sizes = no_tally().sizes;
         for size in 0..self.counts.members() + 1 {
             sizes[size] = self.counts.wide_of_member_size(member, size);
         }
@@ -54,7 +56,17 @@ impl Counted {
     }
 }
 
+/// The tally of no coalition.
+fn no_tally() -> Tally
+    ensures { IsOfNone result }
+{
+    Tally {
+        sizes: [0; limits::SIZES],
+    }
+}
+
 /// How many pairs have a size together.
+#[tactic(auto, using(crate::proofs::Joined::one_more))]
 fn pairs_of_size(first: &[u64; limits::SIZES], second: &[u64; limits::SIZES], size: usize) -> u64
     requires size { size ≤ MEMBERS }
     requires room { paired (slice_index first.now) (slice_index second.now) size ≤ 2 ^ MEMBERS }
@@ -82,6 +94,19 @@ fn pairs(first: &[u64; limits::SIZES], second: &[u64; limits::SIZES]) -> [u64; l
     pairs
 }
 
+/// The numbers of two lists, size by size.
+fn added(first: &[u64; limits::SIZES], second: &[u64; limits::SIZES]) -> [u64; limits::SIZES]
+    requires { (s : ℕ) → s ≤ MEMBERS → slice_index first.now s + slice_index second.now s < 2 ^ 64 }
+    ensures long { length result ≡ SIZES }
+    ensures sizes { (s : ℕ) → s ≤ MEMBERS → slice_index result s ≡ slice_index first.now s + slice_index second.now s }
+{
+    let mut sizes = [0; limits::SIZES];
+    for size in 0..limits::SIZES {
+        sizes[size] = first[size] + second[size];
+    }
+    sizes
+}
+
 /// The tally of the coalitions of a game of two chambers: each is one of each together.
 fn joined_all(game: &Game, first: &Counted, second: &Counted) -> Tally
     requires { AreChambersOf game.now first.now.game second.now.game }
@@ -102,12 +127,15 @@ fn joined_each(game: &Game, first: &Counted, second: &Counted, place: usize) -> 
 {
     game.was_checked();
     let member = game.member_at(place);
-    let mut sizes = pairs(&first.sizes_of_member(member), &second.sizes());
-    let others = pairs(&first.sizes(), &second.sizes_of_member(member));
-    for size in 0..limits::SIZES {
-        sizes[size] += others[size];
+    let first_all = first.sizes();
+    let first_own = first.sizes_of_member(member);
+    let second_all = second.sizes();
+    let second_own = second.sizes_of_member(member);
+    let own = pairs(&first_own, &second_all);
+    let others = pairs(&first_all, &second_own);
+    Tally {
+        sizes: added(&own, &others),
     }
-    Tally { sizes }
 }
 
 /// The counts of a game of two chambers.

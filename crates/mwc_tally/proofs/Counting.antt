@@ -66,13 +66,9 @@ pub slices-room : (s : SlicedGame) (j : ℕ) → IsGame s.game.now → j < 2 ^ s
     → length (flat_map (slice_of s) (range_with_len 0 j)) + length (slice_of s j) ≤ 2 ^ 40
 slices-room s j game lt =
     let f : ℕ → ℕ = λ i. length (slice_of s i) in
-    let first = length-flat_map (slice_of s) (range_with_len 0 j) in
-    let whole = length-flat_map (slice_of s) (range_with_len 0 (2 ^ s.bits)) in
-    let same = ap (λ (l : List ℕ). length l) (all-slices s) in
-    let more = sum_by-range-more f j in
-    let less = sum_by-range-le f (j + 1) (2 ^ s.bits) (omega (arith, lt)) in
-    let most = minimal-few s.game.now game in
-    omega (arith, first, whole, same, more, less, most)
+    let most : sum_by f (range_with_len 0 (2 ^ s.bits)) ≤ 2 ^ 40 =
+    omega (arith, length-flat_map (slice_of s) (range_with_len 0 (2 ^ s.bits)), ap (λ (l : List ℕ). length l) (all-slices s), minimal-few s.game.now game) in
+    omega (arith, most, length-flat_map (slice_of s) (range_with_len 0 j), sum_by-range-more f j, sum_by-range-le f (j + 1) (2 ^ s.bits) (omega (arith, lt)))
 
 pub slices-more : (s : SlicedGame) (j : ℕ)
     → flat_map (slice_of s) (range_with_len 0 j) ++ slice_of s j ≡ flat_map (slice_of s) (range_with_len 0 (j + 1))
@@ -82,11 +78,7 @@ slices-more s j = grind (arith, common_steps, append-nil, flat_map-append, range
 pass-flat_map : (q : ℕ → Bool) (f : ℕ → List ℕ) (xs : List ℕ) → length (filter q (flat_map f xs)) ≡ sum_by (λ x. length (filter q (f x))) xs
 pass-flat_map q f [] = refl
 pass-flat_map q f (x ∷ xs) =
-    let both = ap (λ (l : List ℕ). length l) (filter-append q (f x) (flat_map f xs)) in
-    let long = length-append (filter q (f x)) (filter q (flat_map f xs)) in
-    let rest = pass-flat_map q f xs in
-    let e = sum_by-cons (λ y. length (filter q (f y))) x xs in
-    omega (arith, both, long, rest, e)
+    grind (arith, common_steps, pass-flat_map q f xs, filter-append, length-append, sum_by-cons (λ y. length (filter q (f y))) x xs)
 
 pass-permutation : (q : ℕ → Bool) (f : ℕ → List ℕ) (xs ys : List ℕ) → IsPermutation xs ys
     → length (filter q (flat_map f xs)) ≡ length (filter q (flat_map f ys))

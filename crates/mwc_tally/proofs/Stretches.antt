@@ -1,9 +1,9 @@
 -- Stretches of a list that lies in pieces.
-use Rattle.std.proofs.Common.{◌≡◌, ◌∙◌, ℕ, ◌+◌, ◌-◌, ◌<◌, ◌≤◌, zero, suc, min, List, [], ◌∷◌, ◌++◌, length, get_or, take, drop, sym, ap, arith, subst, length-append, length-drop, IfOk, Result, Ok, Err}
+use Rattle.std.proofs.Common.{◌≡◌, ℕ, ◌+◌, ◌-◌, ◌<◌, ◌≤◌, zero, suc, min, List, [], ◌∷◌, ◌++◌, length, get_or, take, drop, sym, ap, arith, subst, length-append, length-drop, IfOk, Result, Ok, Err}
 use Rattle.std.proofs.lemmas.Grind.{common_steps}
 use Rattle.std.specs.List.{All, flat_map}
 use Rattle.std.proofs.lemmas.List.{take_all, take_more, take_min, drop_min, length-take, append-nil}
-use Rattle.std.proofs.lemmas.List.Concat.{flat_map-append}
+pub use Rattle.std.proofs.lemmas.List.Concat.{flat_map-append, length-flat_map}
 use Rattle.std.proofs.lemmas.List.Elements.{All-drop, All-take}
 use Rattle.std.proofs.lemmas.List.Folds.{length-flat_map-take}
 use Rattle.council_game.specs.Game.{GameView}
@@ -17,16 +17,12 @@ use Rattle.mwc_tally.specs.declared.pieces.GivenStretch.{GivenStretch}
 pub drop-append : (n : ℕ) (xs ys : List ℕ) → drop n (xs ++ ys) ≡ drop n xs ++ drop (n - length xs) ys
 drop-append zero xs ys = let e : 0 ≡ 0 - length xs = omega arith in ap (λ (k : ℕ). xs ++ drop k ys) e
 drop-append (suc n) [] ys = let e : suc n ≡ suc n - length {A = ℕ} [] = omega arith in ap (λ (k : ℕ). drop k ys) e
-drop-append (suc n) (x ∷ xs) ys =
-    let e : n - length xs ≡ suc n - suc (length xs) = omega arith in
-    drop-append n xs ys ∙ ap (λ (k : ℕ). drop n xs ++ drop k ys) e
+drop-append (suc n) (x ∷ xs) ys = grind (arith, drop-append n xs ys)
 
 pub take-append : (n : ℕ) (xs ys : List ℕ) → take n (xs ++ ys) ≡ take n xs ++ take (n - length xs) ys
 take-append zero xs ys = let e : 0 ≡ 0 - length xs = omega arith in ap (λ (k : ℕ). take k ys) e
 take-append (suc n) [] ys = let e : suc n ≡ suc n - length {A = ℕ} [] = omega arith in ap (λ (k : ℕ). take k ys) e
-take-append (suc n) (x ∷ xs) ys =
-    let e : n - length xs ≡ suc n - suc (length xs) = omega arith in
-    ap (λ (l : List ℕ). x ∷ l) (take-append n xs ys) ∙ ap (λ (k : ℕ). x ∷ (take n xs ++ take k ys)) e
+take-append (suc n) (x ∷ xs) ys = grind (arith, take-append n xs ys)
 
 -- a piece and those before it are no longer than all
 pub pieces-length : {X : Type 0} (f : X → List ℕ) (xs : List X) (k : ℕ) (x : X) → k < length xs → x ≡ get_or xs k x
@@ -55,17 +51,7 @@ module _ {X : Type 0} (f : X → List ℕ) (xs : List X) (k skip most : ℕ) {s 
       ≤ length (flat_map f xs)
   row-room =
       let both = ap (λ (r : List ℕ). length r) row-next in
-      let sum = length-append (take most (drop skip (flat_map f (take k xs)))) (take m (take (length (f x) - a) (drop a (f x)))) in
-      omega (
-        arith,
-        both,
-        sum,
-        length-take most (drop skip (flat_map f (take (k + 1) xs))),
-        length-drop skip (flat_map f (take (k + 1) xs)),
-        ap (λ (r : List ℕ). length r) next,
-        length-append (flat_map f (take k xs)) (f x),
-        pieces-length f xs k x lt is,
-      )
+      grind (arith, common_steps, both, next, length-append, length-take, length-drop, pieces-length f xs k x lt is)
 
   -- what is left to skip and to take after it
   pub left-to_skip : s - length (f x) ≡ skip - length (flat_map f (take (k + 1) xs))
@@ -83,3 +69,5 @@ is-stretch given g list skip most is t tallies = grind (arith, common_steps)
 pub ok-counts : {E : Type 0} (g : GameView) (list : List ℕ) (r : Result Tables E) → IfOk r (AreTallies g list) → IfOk r (AreCounts g list)
 ok-counts g list (Ok t) h = tallies-are_counts g list t h
 ok-counts g list (Err e) h = h
+
+pub ruleset lengths = (length-flat_map)

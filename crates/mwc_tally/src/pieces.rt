@@ -36,15 +36,12 @@ impl<'s> Promise<Counts> for GivenStretch<'s> {
 type Counting<'s> = PromisedHandle<Counts, GivenStretch<'s>>;
 
 /// How many coalitions pieces have together.
+#[tactic(auto, using(crate::proofs::Stretches::lengths))]
 fn length_of(pieces: &[&[Coalition]]) -> usize
     requires { length (joined pieces.now) ≤ 2 ^ MEMBERS }
     ensures { result ≡ length (joined pieces.now) }
 {
-    let mut length = 0;
-    for piece in pieces {
-        length += piece.len();
-    }
-    length
+    pieces.iter().map(|piece| piece.len()).sum()
 }
 
 /// The counts of at most `most` coalitions of a list in pieces, past its first `skip`.

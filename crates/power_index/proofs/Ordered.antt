@@ -1,14 +1,10 @@
 -- Two fractions are ordered by their quotients, and where these are equal by what is left, turned upside down.
-use Rattle.std.proofs.Common.{◌≡◌, ◌∙◌, ◌≢◌, ℕ, suc, ◌+◌, ◌*◌, ◌/◌, ◌%◌, ◌<◌, ◌≤◌, ap, sym, arith, inl, inr}
+use Rattle.std.proofs.Common.{◌≡◌, ◌∙◌, ◌≢◌, ℕ, suc, ◌+◌, ◌*◌, ◌/◌, ◌%◌, ◌<◌, ◌≤◌, ap, refl, arith, inl, inr}
 use Rattle.std.proofs.lemmas.Grind.{common_steps}
 use Rattle.std.specs.Ordering.{nat_cmp, ordering_then}
 use Rattle.std.proofs.lemmas.Bool.{cases_lt, cases_eq}
 use Rattle.std.proofs.Math.Nat.{div-add-mod, mod-lt, mul-le-mul}
 use Rattle.std.proofs.lemmas.Bool.Decides.{nat_tests}
-
--- what is added to both does not count
-shifted : (k x y : ℕ) → nat_cmp (k + x) (k + y) ≡ nat_cmp x y
-shifted k x y = grind (arith, nat_tests)
 
 -- a times d is the shared part and what is left of a, times d
 parts : (a b d q : ℕ) → a / b ≡ q → a * d ≡ b * d * q + d * (a % b)
@@ -20,22 +16,14 @@ turned a b c d h =
     let first : a * d ≡ b * d * (c / d) + d * (a % b) = parts a b d (c / d) h in
     let second : c * b ≡ b * d * (c / d) + b * (c % d) = parts c d b (c / d) (λ i. c / d)
     ∙ ap (λ (n : ℕ). n * (c / d) + b * (c % d)) (omega arith) in
-    sym (shifted (b * d * (c / d)) (d * (a % b)) (b * (c % d)))
-    ∙ sym (ap (λ (n : ℕ). nat_cmp n (c * b)) first ∙ ap (λ (n : ℕ). nat_cmp (b * d * (c / d) + d * (a % b)) n) second)
+    grind (arith, nat_tests, first, second)
 
 -- a smaller quotient is a smaller fraction
 below : (a b c d : ℕ) → 0 < b → 0 < d → a / b < c / d → a * d < c * b
 below a b c d pos pos' h =
-    let first : a * d ≡ b * d * (a / b) + d * (a % b) = parts a b d (a / b) (λ i. a / b) in
-    let second : c * b ≡ d * b * (c / d) + b * (c % d) = parts c d b (c / d) (λ i. c / d) in
-    let rest : a % b < b = mod-lt a pos in
-    go (a / b) (a % b) (c / d) (b * (c % d)) h rest first second
-  where
-    go : (p r q k : ℕ) → p < q → r < b → a * d ≡ b * d * p + d * r → c * b ≡ d * b * q + k → a * d < c * b
-    go p r q k lt rest first second =
-        let one : d * suc r ≤ d * b = mul-le-mul (omega arith) rest in
-        let more : b * d * suc p ≤ b * d * q = mul-le-mul (omega arith) lt in
-        omega (arith, one, more, first, second, pos')
+    let one : d * suc (a % b) ≤ d * b = mul-le-mul (omega arith) (mod-lt a pos) in
+    let more : b * d * suc (a / b) ≤ b * d * (c / d) = mul-le-mul (omega arith) h in
+    omega (arith, one, more, parts a b d (a / b) refl, parts c d b (c / d) refl, pos')
 
 -- where the quotients differ, or nothing is left of one, these and what is left decide
 pub decided : (a b c d : ℕ) → 0 < b → 0 < d → (a / b ≡ c / d → a % b ≢ 0 → c % d ≡ 0)
@@ -52,7 +40,4 @@ decided a b c d pos pos' stop = elim (cases_lt (a / b) (c / d)) [
     last r s h =
         let p : 1 * s ≤ b * s = mul-le-mul pos (omega arith) in
         let q : 1 * r ≤ d * r = mul-le-mul pos' (omega arith) in
-        elim (cases_eq r 0) [
-          | inl none ↦ rw none (grind (arith, nat_tests))
-          | inr some ↦ rw (h some) (grind (arith, nat_tests))
-        ]
+        grind (arith, nat_tests, p, q, h, cases_eq r 0)

@@ -1,43 +1,35 @@
 -- A fraction has one form in lowest terms.
-use Rattle.std.proofs.Common.{◌≡◌, ◌∙◌, ℕ, ◌+◌, ◌*◌, ◌/◌, ◌%◌, ◌≤◌, ◌<◌, ap, subst, arith, zero, suc}
+use Rattle.std.proofs.Common.{◌≡◌, ◌∙◌, ℕ, ◌+◌, ◌*◌, ◌/◌, ◌%◌, ◌≤◌, ◌<◌, sym, ap, subst, arith, zero, suc}
 use Rattle.std.proofs.lemmas.Grind.{common_steps}
 use Rattle.std.specs.Int.{IsGcd, ◌∣◌}
-use Rattle.std.proofs.lemmas.Nat.Gcd.{IsGcd-from_zero, dvd_antisymm, dvd_trans}
-use Rattle.std.proofs.Math.Nat.{div-add-mod, mod-lt, dvd-add, dvd-mod_iff, dvd-mul_left, dvd-mul_right, mul-add-mod_self_left, eq_of_mul-eq-mul_right, pos_of_dvd_of_pos}
+use Rattle.std.proofs.lemmas.Nat.Gcd.{IsGcd-from_zero, IsGcd-from_mod, dvd_antisymm, dvd_refl, dvd-zero}
+use Rattle.std.proofs.Math.Nat.{add-mul-mod_self_left, div-add-mod, dvd-mod_iff, dvd-mul_left, mod-eq_of_lt, mod-lt, mul-le-mul, eq_of_mul-eq-mul_right}
 use Rattle.power_index.specs.Fractions.{AreCoprime, IsIndex, IsLowestOf, SameFraction}
 
--- two numbers have a greatest common divisor, and so have their multiples
-step : (b r q g : ℕ) → IsGcd b r g → IsGcd (b * q + r) b g
-step b r q g h = (
-  dvd-add g (dvd_trans g h.0 (dvd-mul_right b q)) h.1,
-  h.0,
-  λ d da db. h.2 d db ((dvd-mod_iff d db).0 (subst (λ (x : ℕ). d ∣ x) (mul-add-mod_self_left b q r) ((dvd-mod_iff d db).1 da))),
-)
+-- with 0, only 1 is coprime
+one-with-zero : (x : ℕ) → AreCoprime x 0 → x ≡ 1
+one-with-zero zero h = let two : 2 ≤ 1 = h 2 (dvd-zero 2) (dvd-zero 2) in absurd (omega arith)
+one-with-zero (suc x) h = let le : suc x ≤ 1 = h (suc x) (dvd_refl (suc x)) (dvd-zero (suc x)) in omega arith
 
-pub some-gcd : (n a b : ℕ) → b ≤ n → (g : ℕ) × ((m : ℕ) → IsGcd (m * a) (m * b) (m * g))
-some-gcd n a zero le = (a, λ m. IsGcd-from_zero (m * a) (m * 0) (omega arith))
-some-gcd zero a (suc b) le = absurd (omega arith)
-some-gcd (suc n) a (suc b) le =
-    let less : a % suc b < suc b = mod-lt a (omega arith) in
-    let rest = some-gcd n (suc b) (a % suc b) (omega (arith, less)) in (
-      rest.0,
-      λ m. subst (λ (x : ℕ). IsGcd x (m * suc b) (m * rest.0)) (omega arith ∙ ap (λ (x : ℕ). m * x) (div-add-mod a (suc b)))
-          (step (m * suc b) (m * (a % suc b)) (a / suc b) (m * rest.0) (rest.1 m)),
-    )
+mul-mod : (m x y : ℕ) → 0 < m → 0 < y → m * x % (m * y) ≡ m * (x % y)
+mul-mod m x y some pos =
+    let parts : m * x ≡ m * (x % y) + m * y * (x / y) = omega (arith, ap (λ k. m * k) (div-add-mod x y)) in
+    let less : m * suc (x % y) ≤ m * y = mul-le-mul (omega arith) (mod-lt x pos) in
+    ap (λ k. k % (m * y)) parts ∙ add-mul-mod_self_left (m * (x % y)) (m * y) (x / y) ∙ mod-eq_of_lt (omega (arith, less, some))
 
-once : (x : ℕ) → 1 * x ≡ x
-once x = omega arith
+scaled : (n m x y : ℕ) → y ≤ n → 0 < m → AreCoprime x y → IsGcd (m * x) (m * y) m
+scaled n m x zero le some h =
+    let e : m * x ≡ m = ap (λ k. m * k) (one-with-zero x h) ∙ omega arith in
+    subst (λ (k : ℕ). IsGcd (m * x) (m * 0) k) e (IsGcd-from_zero (m * x) (m * 0) (omega arith))
+scaled zero m x (suc y) le some h = absurd (omega arith)
+scaled (suc n) m x (suc y) le some h =
+    let less : x % suc y < suc y = mod-lt x (omega arith) in
+    let rest = scaled n m (suc y) (x % suc y) (omega (arith, less)) some (λ d dy dr. h d ((dvd-mod_iff d dy).0 dr) dy) in
+    IsGcd-from_mod (m * x) (m * suc y) m (subst (λ (k : ℕ). IsGcd (m * suc y) k m) (sym (mul-mod m x (suc y) some (omega arith))) rest)
 
-pub gcd-of : (a b : ℕ) → (g : ℕ) × IsGcd a b g
-gcd-of a b = let found = some-gcd b a b (omega arith) in (found.0, rw (once a, once b, once found.0) at (found.1 1))
-
-divides-other : (t u v : ℕ) → 0 < u → AreCoprime t u → u ∣ v * t → u ∣ v
-divides-other t u v pos h d =
-    let found = some-gcd u t u (omega arith) in
-    let own : IsGcd t u found.0 = rw (once t, once u, once found.0) at (found.1 1) in
-    let one : found.0 ≡ 1 = omega (arith, h found.0 own.0 own.1, pos_of_dvd_of_pos own.1 pos) in
-    let all : v * found.0 ≡ v = ap (λ (x : ℕ). v * x) one ∙ omega arith in
-    subst (λ (x : ℕ). u ∣ x) all ((found.1 v).2 u d (dvd-mul_left u v))
+divides-other : (t u v : ℕ) → AreCoprime t u → u ∣ v * t → u ∣ v
+divides-other t u zero h d = dvd-zero u
+divides-other t u (suc v) h d = (scaled u (suc v) t u (omega arith) (omega arith) h).2 u d (dvd-mul_left u (suc v))
 
 same-pair : (t u t' u' : ℕ) → t ≡ t' → u ≡ u' → ◌≡◌ {A = ℕ × ℕ} (t, u) (t', u')
 same-pair t u t' u' e f = cc
@@ -46,9 +38,9 @@ pub lowest-unique : (p q r : ℕ × ℕ) → 0 < p.1 → IsLowestOf p q → IsLo
 lowest-unique p q r pos h k =
     let cross : q.0 * r.1 ≡ r.0 * q.1 =
     eq_of_mul-eq-mul_right p.1 pos (q.0 * r.1) (r.0 * q.1) (omega (arith, ap (λ v. v * r.1) h.same, ap (λ v. v * q.1) k.same)) in
-    let a : q.1 ∣ r.1 = divides-other q.0 q.1 r.1 h.positive h.lowest
+    let a : q.1 ∣ r.1 = divides-other q.0 q.1 r.1 h.lowest
     (let e : r.0 * q.1 ≡ r.1 * q.0 = omega (arith, cross) in subst (λ (x : ℕ). q.1 ∣ x) e (dvd-mul_left q.1 r.0)) in
-    let b : r.1 ∣ q.1 = divides-other r.0 r.1 q.1 k.positive k.lowest
+    let b : r.1 ∣ q.1 = divides-other r.0 r.1 q.1 k.lowest
     (let e : q.0 * r.1 ≡ q.1 * r.0 = omega (arith, cross) in subst (λ (x : ℕ). r.1 ∣ x) e (dvd-mul_left r.1 q.0)) in
     let bottoms : q.1 ≡ r.1 = dvd_antisymm a b in
     same-pair q.0 q.1 r.0 r.1 (eq_of_mul-eq-mul_right q.1 h.positive q.0 r.0 (ap (λ v. q.0 * v) bottoms ∙ cross)) bottoms

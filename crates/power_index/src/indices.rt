@@ -2,8 +2,11 @@
 ghost use Rattle.council_game.specs.Game.{GameView};
 ghost use Rattle.power_index.specs.Fractions.{IsIndex, IsLowestOf, lowest_terms, pair_of};
 ghost use Rattle.power_index.specs.Indices.{deegan_packel, public_good};
+ghost use Rattle.coalitions.specs.declared.limits.TheConstants.{MEMBERS};
+ghost use Rattle.power_index.specs.declared.indices.TheConstants.{DENOMINATOR};
 ghost use Rattle.power_index.specs.Tables.{AreCounts, table_deegan_packel, table_public_good, table_total};
-ghost use Rattle.std.specs.Prelude.{◌≡◌, ℕ, List, ◌<◌, ◌≤◌, ◌^◌, length};
+ghost use Rattle.power_index.specs.Tables.{table_of_member_size, weighted_sum};
+ghost use Rattle.std.specs.Prelude.{◌≡◌, ℕ, ◌*◌, List, ◌<◌, ◌≤◌, ◌^◌, length};
 
 use crate::{Counts, Fraction, lowest};
 
@@ -15,9 +18,24 @@ fn share(part: u128, whole: u128) -> Fraction
     requires part { part ≤ whole }
     requires small { whole ≤ 10 ^ 30 }
     ensures lowest { IsLowestOf (part, whole) (pair_of result) }
+    ensures terms { 0 < whole → pair_of result ≡ lowest_terms (part, whole) }
     ensures index { IsIndex (pair_of result) }
 {
     lowest(part, whole.max(1))
+}
+
+/// The sum of 1 / size over the coalitions that contain a member, times `DENOMINATOR`.
+fn weight(counts: &Counts, member: usize) -> u128
+    requires { member < counts.now.members }
+    ensures sum { result ≡ weighted_sum DENOMINATOR (table_of_member_size counts.now member) counts.now.members }
+    ensures light { result ≤ DENOMINATOR * table_total counts.now }
+    ensures few { counts.now.members ≤ MEMBERS }
+{
+    let mut sum = 0;
+    for size in 1..counts.members() + 1 {
+        sum += u128::from(counts.wide_of_member_size(member, size)) * (DENOMINATOR / size as u128);
+    }
+    sum
 }
 
 /// The Deegan-Packel index of a member, in lowest terms, over each list that has these counts: the
@@ -34,10 +52,7 @@ pub fn deegan_packel(counts: &Counts, member: usize) -> Fraction
         pair_of result ≡ lowest_terms (table_deegan_packel counts.now member) }
     ensures index { IsIndex (pair_of result) }
 {
-    let mut sum = 0;
-    for size in 1..counts.members() + 1 {
-        sum += u128::from(counts.wide_of_member_size(member, size)) * (DENOMINATOR / size as u128);
-    }
+    let sum = weight(counts, member);
     share(sum, DENOMINATOR * u128::from(counts.wide_total()))
 }
 

@@ -19,11 +19,9 @@ over_one : (k : ℕ) (q : ℕ → ℕ × ℕ) (w : ℕ → ℕ) → ((i : ℕ) �
     → (pair_sum (map q is)).0 * k ≡ sum_by w is * (pair_sum (map q is)).1
 over_one k q w each [] = omega arith
 over_one k q w each (i ∷ is) =
-    rw (sum_by-cons w i is)
-    (step (q i).0 (q i).1 (w i) (pair_sum (map q is)).0 (pair_sum (map q is)).1 (sum_by w is) (each i) (over_one k q w each is))
-  where
-    step : (a b w t u s : ℕ) → a * k ≡ w * b → t * k ≡ s * u → (a * u + t * b) * k ≡ (w + s) * (b * u)
-    step a b w t u s e ih = omega (arith, ap (λ v. v * u) e, ap (λ v. v * b) ih)
+    let e = each i in
+    let again = over_one k q w each is in
+    rw (sum_by-cons w i is) (omega (arith, ap (λ v. v * (pair_sum (map q is)).1) e, ap (λ v. v * (q i).1) again))
 
 pub all_pos : (q : ℕ → ℕ × ℕ) → ((i : ℕ) → 0 < (q i).1) → (is : List ℕ) → 0 < (pair_sum (map q is)).1
 all_pos q each [] = omega arith
@@ -33,14 +31,10 @@ adds_up : (k : ℕ) (q : ℕ → ℕ × ℕ) (w : ℕ → ℕ) (is : List ℕ) �
     → sum_by w is ≡ k → AddUpToOne (map q is)
 adds_up k q w is pos each bottoms whole = record {
   positive = all_pos q bottoms is;
-  one = go (pair_sum (map q is)).0 (pair_sum (map q is)).1 (over_one k q w each is);
+  one = (let same : (pair_sum (map q is)).0 * k ≡ (pair_sum (map q is)).1 * k =
+      over_one k q w each is ∙ ap (λ v. v * (pair_sum (map q is)).1) whole ∙ omega arith in
+      omega (arith, eq_of_mul-eq-mul_right k pos (pair_sum (map q is)).0 (pair_sum (map q is)).1 same));
 }
-  where
-    go : (t u : ℕ) → t * k ≡ sum_by w is * u → t * 1 ≡ 1 * u
-    go t u e =
-        let e' : t * k ≡ u * k = e ∙ (ap (λ v. v * u) whole ∙ omega arith) in
-        let s : t ≡ u = eq_of_mul-eq-mul_right k pos t u e' in
-        omega (arith, s)
 
 -- each coalition weighs its size times the unit fraction of its size
 whole_weight : (g : GameView) (list : List ℕ) → length g.names ≤ 40 → AreNonemptyCoalitions g list

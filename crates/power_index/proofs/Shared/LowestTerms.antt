@@ -1,14 +1,14 @@
 -- The greatest common divisor by search is the one that Euclid's algorithm finds, and what it gives is in lowest terms.
-use Rattle.std.proofs.Common.{◌≡◌, ◌≢◌, ℕ, zero, suc, ◌/◌, ◌<◌, ◌≤◌, true, false, sym, ap, subst, arith}
+use Rattle.std.proofs.Common.{◌≡◌, ℕ, zero, suc, ◌/◌, ◌%◌, ◌<◌, ◌≤◌, true, sym, ap, subst, arith}
 use Rattle.std.proofs.lemmas.Grind.{common_steps}
 use Rattle.std.specs.Int.{IsGcd, ◌∣◌}
-use Rattle.std.proofs.lemmas.Nat.Gcd.{le_from_IsGcd, le_of_dvd, dvd_of_mod-eq-zero, mod-eq-zero_of_dvd}
-use Rattle.std.proofs.lemmas.Bool.{cond_both, both_ways}
-use Rattle.std.proofs.Math.Nat.{one-dvd}
+use Rattle.std.proofs.lemmas.Nat.Gcd.{IsGcd-from_zero, IsGcd-from_mod, le_from_IsGcd, le_of_dvd, dvd_of_mod-eq-zero, mod-eq-zero_of_dvd}
+use Rattle.std.proofs.lemmas.Bool.{cond_both}
+use Rattle.std.proofs.Math.Nat.{mod-lt, one-dvd}
 use Rattle.std.proofs.lemmas.Bool.Decides.{nat_tests}
 use Rattle.power_index.specs.Fractions.{divides_both, common_divisor_up_to, greatest_common_divisor, lowest_terms, IsLowestOf, HasLowestTerms}
 use Rattle.power_index.proofs.Quotients.{gcd-pos, quotient-pos, same_fraction, coprime}
-use Rattle.power_index.proofs.Unique.{gcd-of, lowest-unique}
+use Rattle.power_index.proofs.Unique.{lowest-unique}
 
 from-test : (a b d : ℕ) → divides_both a b d ≡ true → (d ∣ a) × (d ∣ b)
 from-test a b d h = (dvd_of_mod-eq-zero d (grind (arith, nat_tests)), dvd_of_mod-eq-zero d (grind (arith, nat_tests)))
@@ -29,11 +29,9 @@ found-greatest : (a b n d : ℕ) → 0 < d → d ≤ n → d ∣ a → d ∣ b �
 unfolding common_divisor_up_to
 found-greatest a b zero d pos le da db = absurd (omega arith)
 found-greatest a b (suc n) d pos le da db =
-    cond_both (divides_both a b (suc n)) (suc n) (common_divisor_up_to a b n) (λ g. d ≤ g) (λ _. le)
-    (λ fails. let other = differs fails in found-greatest a b n d pos (omega (arith, other)) da db)
-  where
-    differs : divides_both a b (suc n) ≡ false → d ≢ suc n
-    differs fails same = both_ways _ fails (subst (λ (k : ℕ). divides_both a b k ≡ true) same (to-test a b d da db))
+    let last : d ≡ suc n → divides_both a b (suc n) ≡ true = λ e. to-test a b (suc n) (subst (λ k. k ∣ a) e da) (subst (λ k. k ∣ b) e db) in
+    let before : d ≤ n → d ≤ common_divisor_up_to a b n = λ low. found-greatest a b n d pos low da db in
+    grind (arith, nat_tests)
 
 pub gcd-is : (a b g : ℕ) → 0 < b → IsGcd a b g → greatest_common_divisor a b ≡ g
 gcd-is a b g pos h =
@@ -41,6 +39,15 @@ gcd-is a b g pos h =
     let both = found-divides a b b in
     let down = le_from_IsGcd a b g (greatest_common_divisor a b) h g-pos both.0 both.1 in
     omega (arith, found-greatest a b b g g-pos (le_of_dvd pos h.1) h.0 h.1, down)
+
+-- two numbers have a greatest common divisor
+some-gcd : (n a b : ℕ) → b ≤ n → (g : ℕ) × IsGcd a b g
+some-gcd n a zero le = (a, IsGcd-from_zero a 0 (omega arith))
+some-gcd zero a (suc b) le = absurd (omega arith)
+some-gcd (suc n) a (suc b) le =
+    let less : a % suc b < suc b = mod-lt a (omega arith) in
+    let rest = some-gcd n (suc b) (a % suc b) (omega (arith, less)) in
+    (rest.0, IsGcd-from_mod a (suc b) rest.0 rest.1)
 
 -- dividing by the greatest common divisor gives lowest terms
 pub divided-is_lowest : (a b g : ℕ) → 0 < b → IsGcd a b g → IsLowestOf (a, b) (a / g, b / g)
@@ -52,7 +59,7 @@ divided-is_terms a b g pos h = ap {B = ℕ × ℕ} (λ (d : ℕ). (a / d, b / d)
 
 pub lowest_terms-lowest : (p : ℕ × ℕ) → 0 < p.1 → IsLowestOf p (lowest_terms p)
 lowest_terms-lowest p pos =
-    let found = gcd-of p.0 p.1 in
+    let found = some-gcd p.1 p.0 p.1 (omega arith) in
     subst (IsLowestOf p) (divided-is_terms p.0 p.1 found.0 pos found.1) (divided-is_lowest p.0 p.1 found.0 pos found.1)
 
 pub lowest_terms-only : (p q : ℕ × ℕ) → 0 < p.1 → IsLowestOf p q → q ≡ lowest_terms p

@@ -1,5 +1,5 @@
 -- Tables that hold the tallies of a list hold its counts, and what holds of counts.
-use Rattle.std.proofs.Common.{◌≡◌, ◌∙◌, ◌==◌, ◌&&◌, ℕ, ◌+◌, ◌^◌, ◌<◌, ◌≤◌, List, [], ◌∷◌, ◌++◌, length, get_or, replicate, cond, true, sym, ap, refl, arith, subst, suc, length-append}
+use Rattle.std.proofs.Common.{◌≡◌, ◌∙◌, ◌==◌, ◌&&◌, ℕ, ◌+◌, ◌^◌, ◌<◌, ◌≤◌, List, [], ◌∷◌, ◌++◌, length, get_or, replicate, cond, Bool, true, sym, ap, refl, arith, subst, suc, length-append}
 use Rattle.std.proofs.lemmas.Grind.{common_steps}
 use Rattle.std.specs.List.{All, filter}
 use Rattle.std.proofs.lemmas.List.{get_or-replicate}
@@ -52,25 +52,15 @@ pub some-sound : (t : Tables) → AreOfSomeList t → AreSound t
 some-sound t h =
     let game = h.tallies.of_game.is_game in
     let counts = tallies-are_counts h.game h.list t h.tallies in
+    let few : (p : ℕ → Bool) → length (filter p h.list) ≤ table_total t = λ p. omega (arith, length-filter-le p h.list, counts.total) in
     record {
       some_members = omega (arith, counts.members, (votes-are h.game game).some);
       few_members = omega (arith, counts.members, few-members h.game game);
       few = omega (arith, counts.total, h.few);
-      few_of_size = λ s le. omega (arith, counts.of_size s le, length-filter-le (λ c. size_of h.game c == s) h.list, counts.total);
-      few_of_member = λ i lt. omega (arith, counts.of_member i lt, length-filter-le (contains h.game i) h.list, counts.total);
-      few_of_member_size = λ i s lt le. omega (
-        arith,
-        counts.of_member_size i s lt le,
-        length-filter-le (λ c. contains h.game i c && (size_of h.game c == s)) h.list,
-        counts.total,
-      );
-      memberships = omega (
-        arith,
-        memberships-are h.game h.list t counts,
-        memberships h.game h.list game,
-        sizes-some h.game h.list (few-members h.game game) h.coalitions,
-        counts.total,
-      );
+      few_of_size = λ s le. omega (arith, counts.of_size s le, few (λ c. size_of h.game c == s));
+      few_of_member = λ i lt. omega (arith, counts.of_member i lt, few (contains h.game i));
+      few_of_member_size = λ i s lt le. omega (arith, counts.of_member_size i s lt le, few (λ c. contains h.game i c && (size_of h.game c == s)));
+      memberships = grind (arith, counts.total, memberships-are h.game h.list t counts, memberships h.game h.list game, sizes-some, few-members);
       light = λ i lt. weight-light h.game h.list t i lt counts;
     }
 
@@ -87,17 +77,14 @@ kept {t} h = record {
 }
 
 -- no coalition is counted
-pub none-hold : (g : GameView) (m : ℕ) (ranks : List ℕ) (all one : Tally) → IsGame g → m ≡ length g.names
-    → ((i : ℕ) → i < m → get_or ranks i 0 ≡ get_or g.ranks i 0)
-    → IsTallyOf (length g.names) (λ c. true) [] all → ((p : ℕ) → IsTallyOf (length g.names) (has (length g.names) p) [] one)
-    → AreTallies g [] (record { members = m; ranks = ranks; all = all; each = replicate 40 one })
-none-hold g m ranks all one game m-is same whole each = record {
+pub none-hold : (g : GameView) (m : ℕ) (ranks : List ℕ) (none : Tally) → IsGame g → m ≡ length g.names
+    → ((i : ℕ) → i < m → get_or ranks i 0 ≡ get_or g.ranks i 0) → length none.sizes ≡ 41 → ((s : ℕ) → get_or none.sizes s 0 ≡ 0)
+    → AreTallies g [] (record { members = m; ranks = ranks; all = none; each = replicate 40 none })
+none-hold g m ranks none game m-is same long sizes = record {
   of_game = record { is_game = game; members = m-is; ranks = same };
   tallies = record {
-    all = whole;
-    each = λ p lt. (let few =
-        few-members g game in subst (IsTallyOf (length g.names) (has (length g.names) p) [])
-        (sym (get_or-replicate 40 p one no_tally (omega (arith, lt, few)))) (each p));
+    all = record { long = long; sizes = λ s _. sizes s };
+    each = λ p lt. rw (get_or-replicate 40 p none no_tally (omega (arith, lt, few-members g game))) (record { long = long; sizes = λ s _. sizes s });
   };
 }
 

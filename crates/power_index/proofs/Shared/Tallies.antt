@@ -1,7 +1,8 @@
 -- A tally of a list, one coalition more, two lists together, and what its sizes add up to.
 use Rattle.std.proofs.Common.{◌≡◌, ◌∙◌, ◌==◌, ◌&&◌, ℕ, ◌+◌, ◌*◌, ◌<◌, ◌≤◌, List, [], ◌∷◌, ◌++◌, length, get_or, set, cond, Bool, sym, refl, arith, zero, suc, get_or-set_same, get_or-set_other, length-set, length-append, replicate}
 use Rattle.std.proofs.lemmas.Grind.{common_steps}
-use Rattle.std.specs.List.{filter}
+use Rattle.std.specs.List.{filter, sum_by, range_with_len}
+use Rattle.coalitions.proofs.Shared.Ranges.{sum_by-range-more, sum_by-range-le}
 use Rattle.std.proofs.lemmas.List.Elements.{filter-append}
 use Rattle.std.proofs.lemmas.List.Recursion.{is_sum_by}
 use Rattle.std.proofs.lemmas.List.Sums.{sum_by_push, length-filter}
@@ -22,9 +23,6 @@ get_or-zeros (suc n) (suc s) = get_or-zeros n s
 -- how many of a list with one more pass a test
 length-filter-push : (q : ℕ → Bool) (list : List ℕ) (c : ℕ) → length (filter q (list ++ c ∷ [])) ≡ length (filter q list) + cond (q c) 1 0
 length-filter-push q list c = simp length-filter (sum_by_push (λ x. cond (q x) 1 0) list c)
-
-pub tally-none : (n : ℕ) (p : ℕ → Bool) (t : Tally) → length t.sizes ≡ 41 → ((s : ℕ) → get_or t.sizes s 0 ≡ 0) → IsTallyOf n p [] t
-tally-none n p t long sizes = record { long = long; sizes = λ s _. sizes s }
 
 -- one more at place k
 bumped : (xs : List ℕ) (k s : ℕ) → k < length xs → get_or (set xs k (get_or xs k 0 + 1)) s 0 ≡ get_or xs s 0 + cond (k == s) 1 0
@@ -54,3 +52,9 @@ tally-total n p list t few h =
     (λ s _ lt. omega (arith, h.sizes s (omega arith)))
     ∙ sum-by_size (λ s. 1) (size n) p 0 (n + 1) list (λ c _. (omega arith, omega (arith, size-le n c)))
     ∙ sym (is_sum_by (λ xs. length xs) (λ x. 1) refl (λ x xs. omega arith) (filter p list))
+
+-- one size more
+pub tally-up : (t : Tally) (n s : ℕ) → s < n + 1 → get_or t.sizes s 0 + sum_by (λ k. get_or t.sizes k 0) (range_with_len 0 s) ≤ tally_total n t
+tally-up t n s lt = grind (arith, sum_by-range-more, sum_by-range-le (λ k. get_or t.sizes k 0) (s + 1) (n + 1))
+
+pub ruleset one_more = (tally-up, sum_by-range-more)

@@ -1,4 +1,4 @@
-use Rattle.std.proofs.Common.{◌∙◌, ◌<◌, ◌^◌, length, arith}
+use Rattle.std.proofs.Common.{◌∙◌, ◌<◌, ◌^◌, ℕ, length, arith}
 use Rattle.power_index.proofs.Shared.Sound.{total-is}
 use Rattle.mwc_tally.proofs.Stretches.{row-next, row-all, row-room, left-to_skip, left-to_take}
 use Rattle.mwc_tally.proofs.pieces.of_stretch.Goals as goal
@@ -20,17 +20,14 @@ count_row-requires-clause-room c =
 pub loop-piece-preserved : goal.loop-piece-preserved
 loop-piece-preserved c =
     let before = c.loop-piece.invariant in
-    let lt = c.loop-piece-test.true in
-    let is = c.piece-item.is in
-    let at = c.loop-piece.piece-index in
-    let next = row-next (λ p. p.now) c.args.pieces.now at c.args.skip c.args.most lt is before.skip before.left c.min.ensures
-    c.min-in-loop-piece.ensures in
+    let at : ℕ = c.loop-piece.piece-index in
+    let own = c.min.ensures in
+    let most = c.min-in-loop-piece.ensures in
+    let next = row-next (λ p. p.now) c.args.pieces.now at c.args.skip c.args.most c.loop-piece-test.true c.piece-item.is before.skip before.left own most in
     record {
       counted = rw next (c.count_row.ensures.tallies c.args.game.now _ before.counted);
-      skip = c.saturating_sub-skip.ensures ∙ left-to_skip (λ p. p.now) c.args.pieces.now at c.args.skip c.args.most lt is before.skip
-          before.left
-          c.min.ensures c.min-in-loop-piece.ensures;
-      left = c.saturating_sub-left.ensures ∙ left-to_take (λ p. p.now) c.args.pieces.now at c.args.skip c.args.most lt is before.skip
-          before.left
-          c.min.ensures c.min-in-loop-piece.ensures;
+      skip = c.saturating_sub-skip.ensures
+          ∙ left-to_skip (λ p. p.now) c.args.pieces.now at c.args.skip c.args.most c.loop-piece-test.true c.piece-item.is before.skip before.left own most;
+      left = c.saturating_sub-left.ensures
+          ∙ left-to_take (λ p. p.now) c.args.pieces.now at c.args.skip c.args.most c.loop-piece-test.true c.piece-item.is before.skip before.left own most;
     }

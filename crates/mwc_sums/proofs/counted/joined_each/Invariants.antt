@@ -1,9 +1,0 @@
-use Rattle.std.proofs.Common.{◌≡◌, ℕ, ◌+◌, ◌<◌, ◌≤◌, length, get_or}
-use Rattle.mwc_sums.proofs.counted.joined_each.Given as goal
-
-abbrev pub invariant-loop-size : goal.invariant-loop-size
-invariant-loop-size l = record {
-  long : length l.sizes ≡ 41;
-  done : (s : ℕ) → s < l.size → get_or l.sizes s 0 ≡ get_or l.initial.sizes s 0 + get_or l.others s 0;
-  rest : (s : ℕ) → l.size ≤ s → get_or l.sizes s 0 ≡ get_or l.initial.sizes s 0;
-}
