@@ -14,8 +14,7 @@ with_rules-requires-clause-full c k d lt =
     let names = length-map c.in_ok-names.names.items string_bytes in
     let same = ap (λ (l : List (List ℕ)). length l) c.in_ok-names.ensures in
     let full = (c.requires.fair k (rule_view d) (omega (arith, lt, long))).full in
-    let at = ap (λ (r : RuleView). length r.weights) (get_or-map rule_view c.args.rules.items k d (rule_view d) lt) in
-    omega (arith, names, same, full, at)
+    let at = ap (λ (r : RuleView). length r.weights) (get_or-map rule_view c.args.rules.items k d (rule_view d) lt) in grind (arith)
 
 pub returns-in-Ok-clause-names : goal.returns-in-Ok-clause-names
 returns-in-Ok-clause-names c = grind (arith, common_steps, made-rules)

@@ -14,5 +14,4 @@ index-requires-2 c =
     let own = ap (λ (r : RuleView). length r.weights)
     (get_or-map rule_view c.self.inside.rules.items c.args.rule c.index.result.now (rule_view c.index.result.now) (omega (arith, long, below))) in
     let full = (c.self.invariant c.args.rule (rule_view c.index.result.now) below).full in
-    let same = ap (λ r. length r.weights.items) c.index.ensures in
-    omega (arith, members, own, full, same, c.index.result.now.weights.ok.0, c.requires.member)
+    let same = ap (λ r. length r.weights.items) c.index.ensures in grind (arith)
