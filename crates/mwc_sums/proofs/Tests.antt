@@ -4,8 +4,8 @@ use Rattle.std.specs.List.{list_all, list_any, range_with_len}
 use Rattle.std.proofs.lemmas.Bool.{cases_Bool}
 use Rattle.std.proofs.lemmas.Bool.Decides.{nat_tests}
 use Rattle.std.proofs.lemmas.List.FromFn.{length-range_with_len}
-use Rattle.std.proofs.lemmas.List.Folds.{Any-from_list_any, list_all_at, list_any_at, list_any_none}
-use Rattle.std.proofs.lemmas.List.Sums.{AllPass-from_list_all, list_all-from_AllPass}
+use Rattle.std.proofs.lemmas.List.Folds.{Any-from_list_any, list_any_at, list_any_none}
+use Rattle.std.proofs.lemmas.List.Sums.{AllPass-from_list_all}
 use Rattle.council_game.proofs.Shared.Rankings.{places-at}
 
 pub any-at : (t : ℕ → Bool) (n i : ℕ) → i < n → t i ≡ true → list_any t (range_with_len 0 n) ≡ true
@@ -15,14 +15,6 @@ any-at t n i lt passes =
 
 pub any-none : (t : ℕ → Bool) (n : ℕ) → ((i : ℕ) → i < n → t i ≡ false) → list_any t (range_with_len 0 n) ≡ false
 any-none t n none = grind (arith, list_any_none, length-range_with_len, places-at)
-
-pub all-lost : (t : ℕ → Bool) (n i : ℕ) → i < n → t i ≡ false → list_all t (range_with_len 0 n) ≡ false
-all-lost t n i lt fails =
-    let long = length-range_with_len 0 n in
-    list_all_at t (range_with_len 0 n) i 0 (omega (arith, long, lt)) (ap t (places-at n i 0 lt) ∙ fails)
-
-pub all-each : (t : ℕ → Bool) (n : ℕ) → ((i : ℕ) → i < n → t i ≡ true) → list_all t (range_with_len 0 n) ≡ true
-all-each t n each = grind (arith, list_all-from_AllPass, length-range_with_len, places-at)
 
 pub all-at : (t : ℕ → Bool) (n i : ℕ) → i < n → list_all t (range_with_len 0 n) ≡ true → t i ≡ true
 all-at t n i lt all =

@@ -1,7 +1,8 @@
 -- Where all members that can veto agree, the rules ask the others for what is left.
-use Rattle.std.proofs.Common.{◌≡◌, ◌∙◌, ◌&&◌, ℕ, zero, suc, ◌+◌, ◌*◌, ◌<◌, ◌≤◌, Bool, true, false, cond, leb, ltb}
+use Rattle.std.proofs.Common.{◌≡◌, ◌∙◌, ◌&&◌, ℕ, zero, suc, ◌+◌, ◌-◌, ◌*◌, ◌<◌, ◌≤◌, Bool, true, false, cond, leb, ltb}
 use Rattle.std.proofs.Common.{List, [], ◌∷◌, length, get_or, map, filter, sym, ap, refl, arith, inl, inr, All}
-use Rattle.std.specs.List.{sum, sum_by, range_with_len}
+use Rattle.std.specs.List.{fold, sum, sum_by, range_with_len}
+use Rattle.std.proofs.lemmas.List.Sums.{sum_by-cons}
 use Rattle.std.proofs.lemmas.Bool.{cases_lt, le-leb}
 use Rattle.std.proofs.lemmas.List.FromFn.{fill_by_all, get_or-map-range_with_len}
 use Rattle.std.proofs.lemmas.List.Folds.{fold-map}
@@ -26,6 +27,11 @@ made-sum h n = fold-map (λ (a : ℕ) (p : ℕ). a + p) h 0 (range_with_len 0 n)
 
 pub made-at : (h : ℕ → ℕ) (n i : ℕ) → i < n → get_or (map h (range_with_len 0 n)) i 0 ≡ h i
 made-at h n i lt = get_or-map-range_with_len h 0 n i i 0 lt (omega arith)
+
+-- a number less each of a list
+pub less-all : (f : ℕ → ℕ) (q : ℕ) (xs : List ℕ) → fold (λ a x. a - f x) q xs ≡ q - sum_by f xs
+less-all f q [] = omega arith
+less-all f q (x ∷ xs) = grind (arith, sum_by-cons f x xs, less-all f (q - f x) xs)
 
 -- ---- the members that pass a test, without one who does not
 pub one-more : (f : ℕ → ℕ) (n : ℕ) → sum_by f (range_with_len 0 (suc n)) ≡ sum_by f (range_with_len 0 n) + f n

@@ -100,12 +100,8 @@ impl Statute {
         ensures { result ≡ share self.now.members
             (rule_at self.now.rules first) (rule_at self.now.rules second) }
     {
-        for member in 0..self.members() {
-            if self.weight(first, member) > 0 && self.weight(second, member) > 0 {
-                return true;
-            }
-        }
-        false
+        (0..self.members()).any(|member| self.weight(first, member) > 0
+            && self.weight(second, member) > 0)
     }
 
     /// The rules that share a member with one of them, or the others.

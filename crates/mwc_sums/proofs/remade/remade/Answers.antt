@@ -1,4 +1,4 @@
-use Rattle.std.proofs.Common.{List, ℕ, length, string_bytes, ap, arith}
+use Rattle.std.proofs.Common.{length, string_bytes, ap, arith}
 use Rattle.std.proofs.lemmas.Bool.{both_ways}
 use Rattle.std.proofs.lemmas.List.{length-map, get_or-map}
 use Rattle.std.proofs.lemmas.Grind.{common_steps}
@@ -12,8 +12,6 @@ pub with_rules-requires-clause-full : goal.with_rules-requires-clause-full
 with_rules-requires-clause-full c k d lt =
     let long = length-map c.args.rules.items rule_view in
     let names = length-map c.in_ok-names.names.items string_bytes in
-    let same = ap (λ (l : List (List ℕ)). length l) c.in_ok-names.ensures in
-    let full = (c.requires.fair k (rule_view d) (omega (arith, lt, long))).full in
     let at = ap (λ (r : RuleView). length r.weights) (get_or-map rule_view c.args.rules.items k d (rule_view d) lt) in grind (arith)
 
 pub returns-in-Ok-clause-names : goal.returns-in-Ok-clause-names
