@@ -137,23 +137,21 @@ module _ {n m : ℕ} {ranks : List ℕ} (is : IsSeating n m ranks) where
         | inr other ↦ grind (arith, nat_tests, has-kept m (get_or ranks j 0) (get_or ranks i 0) c)
       ]
 
-  -- a sum over the members, by place
+  -- a sum over the members, by place, where those with no place add nothing
+  pub placed-sum : (u : ℕ → ℕ) → ((i : ℕ) → i < n → m ≤ get_or ranks i 0 → u i ≡ 0)
+      → sum_by u (range_with_len 0 n) ≡ sum_by (λ p. u (member_at ranks p)) (range_with_len 0 m)
+  placed-sum u none =
+      sum-range u (λ i. u (member_at ranks (get_or ranks i 0))) 0 n (λ i _ lt. ap u (sym (is.are.member_back i (omega (arith, lt)))))
+      ∙ sym (by-member n ranks is.are.count is.each (λ p. u (member_at ranks p)))
+      ∙ sum-cut (λ p. u (member_at ranks p)) m n is.few (λ p from lt.
+      none (member_at ranks p) (is.are.member_below p lt) (let back = is.are.place_back p lt in omega (arith, back, from)))
+
   pub seen-sum : (t : ℕ → Bool → ℕ) → ((i : ℕ) → t i false ≡ 0) → (c : ℕ)
       → sum_by (λ i. t i (seen m ranks c i)) (range_with_len 0 n) ≡ sum_by (λ p. t (member_at ranks p) (has m p c)) (range_with_len 0 m)
   seen-sum t none c =
-      let own : ℕ → ℕ = λ p. t (member_at ranks p) (seen m ranks c (member_at ranks p)) in
-      sum-range (λ i. t i (seen m ranks c i)) (λ i. own (get_or ranks i 0)) 0 n
-      (λ i _ lt. ap (λ (j : ℕ). t j (seen m ranks c j)) (sym (is.are.member_back i (omega (arith, lt)))))
-      ∙ sym (by-member n ranks is.are.count is.each own)
-      ∙ sum-cut own m n is.few (λ p from lt.
-      ap (λ (b : Bool). t (member_at ranks p) b) (unseen p from lt) ∙ none (member_at ranks p))
-      ∙ sum-range own (λ p. t (member_at ranks p) (has m p c)) 0 m
-      (λ p _ lt. ap (λ (b : Bool). t (member_at ranks p) b) (seen-at c p (omega (arith, lt))))
-    where
-      unseen : (p : ℕ) → m ≤ p → p < n → seen m ranks c (member_at ranks p) ≡ false
-      unseen p from lt =
-          let back = is.are.place_back p lt in
-          ap (λ (b : Bool). b && has m (get_or ranks (member_at ranks p) 0) c) (le-ltb _ m (omega (arith, from, back)))
+      placed-sum (λ i. t i (seen m ranks c i)) (λ i _ from. ap (λ (b : Bool). t i (b && has m (get_or ranks i 0) c)) (le-ltb _ m from) ∙ none i)
+      ∙ sum-range (λ p. t (member_at ranks p) (seen m ranks c (member_at ranks p))) (λ p. t (member_at ranks p) (has m p c)) 0 m
+      (λ p _ lt. ap (t (member_at ranks p)) (seen-at c p (omega (arith, lt))))
 
   pub seen-size : (c : ℕ) → sum_by (λ i. one_if (seen m ranks c i)) (range_with_len 0 n) ≡ size m c
   seen-size c = seen-sum (λ i b. one_if b) (λ i. refl) c ∙ sym (length-filter (λ p. has m p c) (range_with_len 0 m))
