@@ -1,7 +1,7 @@
 -- Games of the same members with other rules.
 use Rattle.std.proofs.Common.{◌≡◌, None, Result, Ok, Err, ℕ, ◌<◌, ◌≤◌, false, List, []}
 use Rattle.std.proofs.Common.{length, get_or, subst, arith, All}
-use Rattle.std.proofs.lemmas.Bool.{cases_lt, le-ltb}
+use Rattle.std.proofs.lemmas.Bool.{both_ways, cases_lt, le-ltb}
 use Rattle.std.proofs.lemmas.List.{get_or_past, get_or_default}
 use Rattle.std.proofs.lemmas.List.Folds.{list_any_none}
 use Rattle.std.proofs.lemmas.List.Elements.{All-from_recursion}
@@ -48,3 +48,5 @@ made-rules g made rs is fair gives = grind (arith, made-of, ok-same)
 pub only-memory : (g : GameView) (fault : GameFault) (rs : List RuleView) → IsGame g → All (IsFair (length g.names)) rs
     → Answers (Err fault) (made_game None g.names rs) → fault ≡ Memory
 only-memory g fault rs is fair gives = grind (arith, made-of)
+
+pub ruleset remaking = (made-rules, only-memory, both_ways)

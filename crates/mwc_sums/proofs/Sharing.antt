@@ -1,5 +1,5 @@
 -- The rules that share a member with one, and the others.
-use Rattle.std.proofs.Common.{◌≡◌, ◌∙◌, ◌&&◌, ◌||◌, not, ◌⊎◌, ℕ, zero, suc, ◌+◌, ◌<◌, ◌≤◌, Bool, true, false, cond, ltb, List, [], ◌∷◌}
+use Rattle.std.proofs.Common.{◌≡◌, ◌∙◌, ◌&&◌, ◌||◌, not, ◌⊎◌, ℕ, zero, suc, ◌+◌, ◌<◌, ◌≤◌, Bool, true, false, ltb, List, [], ◌∷◌}
 use Rattle.std.proofs.Common.{length, get_or, filter, take, sym, ap, refl, arith, inl, inr, All}
 use Rattle.std.proofs.lemmas.Bool.{cases_lt, ltb-true, both_ways}
 use Rattle.std.proofs.lemmas.Bool.{true_from_ne_false}
@@ -12,9 +12,9 @@ use Rattle.council_game.specs.Game.{GameView}
 use Rattle.std.proofs.lemmas.Bool.Decides.{nat_tests}
 use Rattle.mwc_sums.specs.Chambers.{met, share, chamber_of, HasNoWeight, AreChambersOf}
 use Rattle.mwc_sums.specs.Heads.{are_of_one_chamber}
-use Rattle.mwc_sums.specs.Statute.{is_counted}
+use Rattle.mwc_sums.specs.Statute.{counted, is_counted, left, statute}
 use Rattle.mwc_sums.specs.Inner.Fair.{IsFair}
-use Rattle.mwc_sums.specs.Inner.Rules.{AreOfChambers, AreRulesOf}
+use Rattle.mwc_sums.specs.Inner.Rules.{AreOfChambers, AreRulesOf, part_of}
 use Rattle.mwc_sums.proofs.AlikeRules.{alike-sum}
 use Rattle.mwc_sums.proofs.VetoRules.{good-met, good-some}
 use Rattle.mwc_sums.proofs.Filters.{filter-both, filter-within}
@@ -129,7 +129,8 @@ module _ (n : ℕ) (rs : List RuleView) (fair : All (IsFair n) rs) where
   pub own-chamber : (j : ℕ) → j < length rs → is_counted n rs (rule_at rs j) ≡ true → are_of_one_chamber n (chamber_of n rs (rule_at rs j)) ≡ true
   own-chamber j lt is = counted-at (rule j) is j lt (self j lt)
 
-  pub all-counted : length (filter (λ x. not (is_counted n rs x)) rs) ≡ 0 → AreOfChambers n rs
+  pub all-counted : length (part_of false n rs) ≡ 0 → AreOfChambers n rs
+  unfolding part_of
   all-counted left = All-from_get_or (λ r. are_of_one_chamber n (chamber_of n rs r) ≡ true) rs none (λ j lt.
       own-chamber j lt (let some = in-filter (λ x. not (is_counted n rs x)) rs j none lt in grind (arith, nat_tests, left)))
 
@@ -190,10 +191,32 @@ all-of n rs q g a are names own none = record {
     nothing [] e = refl
     nothing (r ∷ l) e = absurd (omega (arith, e))
 
-pub kept-fair : (n k : ℕ) (p q : RuleView → Bool) (b : Bool) (rs : List RuleView) → All (IsFair n) rs
-    → All (IsFair n) (cond b (filter p (take k rs)) (filter q (take k rs)))
-kept-fair n k p q true rs fair = All-filter p (IsFair n) (take k rs) (All-take (IsFair n) k rs fair)
-kept-fair n k p q false rs fair = All-filter q (IsFair n) (take k rs) (All-take (IsFair n) k rs fair)
+pub kept-fair : (n k : ℕ) (p : RuleView → Bool) (rs : List RuleView) → All (IsFair n) rs → All (IsFair n) (filter p (take k rs))
+kept-fair n k p rs fair = All-filter p (IsFair n) (take k rs) (All-take (IsFair n) k rs fair)
 
 pub both-few : (q : RuleView → Bool) (rs : List RuleView) → length (filter q rs) + length (filter (λ x. not (q x)) rs) ≡ length rs
 both-few q rs = length-filter_both q (λ x. not (q x)) (λ x. refl) rs
+
+-- ---- the rules that sums count, and those that they leave
+pub counted-is : (g : GameView) → counted g ≡ part_of true (length g.names) (statute g)
+unfolding part_of
+counted-is g = refl
+
+pub left-is : (g : GameView) → left g ≡ part_of false (length g.names) (statute g)
+unfolding part_of
+left-is g = refl
+
+pub part-few : (n : ℕ) (rs : List RuleView) → length (part_of true n rs) + length (part_of false n rs) ≡ length rs
+unfolding part_of
+part-few n rs = both-few (is_counted n rs) rs
+
+pub counted-chambers : (n : ℕ) (rs : List RuleView) → All (IsFair n) rs → AreOfChambers n (part_of true n rs)
+unfolding part_of
+counted-chambers n rs fair = chambers-within n rs fair (is_counted n rs) (counted-closed n rs fair) (own-chamber n rs fair)
+
+pub counted-parts : (n : ℕ) (rs : List RuleView) → All (IsFair n) rs → (g a b : GameView) → AreRulesOf g n rs → a.names ≡ g.names → b.names ≡ g.names
+    → a.rules ≡ part_of true n rs → b.rules ≡ part_of false n rs → AreChambersOf g a b
+unfolding part_of
+counted-parts n rs fair = parts-are n rs fair (is_counted n rs) (counted-closed n rs fair)
+
+pub ruleset parted = (counted-is, left-is, part-few, counted-chambers, all-counted)

@@ -44,3 +44,5 @@ module _ (g : GameView) (is : IsGame g) where
       by_rules : (rs : List RuleView) → met (length g.names) g.rules (λ i. false) ≡ met (length g.names) rs (λ i. false) → 0 < length rs
       by_rules [] same = absurd (both_ways _ lost same)
       by_rules (r ∷ rs) same = omega arith
+
+pub ruleset statutes = (statute-are, statute-fair, statute-few, statute-some)

@@ -84,3 +84,5 @@ pub beside-more : (n : ℕ) (veto : ℕ → Bool) (rs : List RuleView) (k : ℕ)
     → rules_beside n veto (take (k + 1) rs)
     ≡ rules_beside n veto (take k rs) ++ filter (λ r. ltb 0 r.quota) (rest_of n veto (get_or rs k d) ∷ [])
 beside-more n veto rs k d lt = grind (arith, nat_tests, common_steps, take_more, map-append, filter-append)
+
+pub ruleset one_more = (beside-more)

@@ -140,6 +140,7 @@ fn with_rule(rules: Vec<Rule>, rule: Rule) -> Result<Vec<Rule>, Memory>
 
 /// The rule that asks for all that can veto, and what the rules ask of the others where these agree; those that ask for
 /// nothing are left out.
+#[tactic(auto, using(crate::proofs::VetoRules::one_more))]
 pub(crate) fn rules_beside_vetoers(alloc: Global, game: &Game) -> Result<Vec<Rule>, Memory>
     ensures { IfOk result (λ rules. rule_views rules.items ≡ statute game.now) }
 {
