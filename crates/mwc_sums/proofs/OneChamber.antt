@@ -1,6 +1,7 @@
 -- Games of one chamber: weights, and heads of the members who have them.
-use Rattle.std.proofs.Common.{◌==◌, ◌&&◌, ◌||◌, ◌≡◌, ℕ, true, ltb, get_or, inl, inr}
-use Rattle.std.proofs.lemmas.Bool.{and_parts, eqb-true, ltb-true, or_cases}
+use Rattle.std.proofs.lemmas.Bool.Decides.{nat_tests}
+use Rattle.std.proofs.Common.{arith, ◌==◌, ◌&&◌, ◌||◌, ◌≡◌, ℕ, true, ltb, get_or}
+use Rattle.std.proofs.lemmas.Bool.{and_parts, ltb-true}
 use Rattle.std.proofs.lemmas.List.Folds.{Any-from_list_any}
 use Rattle.std.specs.List.{range_with_len}
 use Rattle.council_game.specs.Votes.{RuleView}
@@ -15,9 +16,6 @@ those_are n h r asks =
     let parts = and_parts (ltb 0 (get_or h.weights x 0)) _ gives in (
       get_or h.weights x 0,
       ltb-true 0 _ parts.0,
-      λ i below. elim (or_cases (get_or h.weights i 0 == get_or h.weights x 0) ((get_or h.weights i 0 == 0) && (get_or r.weights i 0 == 0))
-          (all-at (λ i. (get_or h.weights i 0 == get_or h.weights x 0) || ((get_or h.weights i 0 == 0) && (get_or r.weights i 0 == 0))) n i below parts.1)) [
-            | inl same ↦ inl (eqb-true _ _ same)
-            | inr none ↦ inr (eqb-true _ _ (and_parts _ _ none).0, eqb-true _ _ (and_parts _ _ none).1)
-          ],
+      λ i below. (let each = all-at (λ i. (get_or h.weights i 0 == get_or h.weights x 0) || ((get_or h.weights i 0 == 0) && (get_or r.weights i 0 == 0))) n i
+          below parts.1 in grind (arith, nat_tests)),
     )

@@ -6,7 +6,7 @@ use Rattle.std.proofs.lemmas.Bool.{true_from_ne_false}
 use Rattle.std.proofs.Math.Bool.{and-true}
 use Rattle.std.proofs.lemmas.List.Filters.{length-filter_both}
 use Rattle.std.proofs.lemmas.List.Sums.{AllPass-from_list_all, list_all-from_AllPass}
-use Rattle.std.proofs.lemmas.List.Elements.{All-filter, All-from_get_or, All-take, filter_passes}
+use Rattle.std.proofs.lemmas.List.Elements.{All-filter, All-from_get_or, All-take}
 use Rattle.council_game.specs.Votes.{RuleView, rule_at}
 use Rattle.council_game.specs.Game.{GameView}
 use Rattle.std.proofs.lemmas.Bool.Decides.{nat_tests}
@@ -18,7 +18,7 @@ use Rattle.mwc_sums.specs.Inner.Rules.{AreOfChambers, AreRulesOf, part_of}
 use Rattle.mwc_sums.proofs.AlikeRules.{alike-sum}
 use Rattle.mwc_sums.proofs.VetoRules.{good-met, good-some}
 use Rattle.mwc_sums.proofs.Filters.{filter-both, filter-within}
-use Rattle.mwc_sums.proofs.Tests.{any-at, any-none, missing}
+use Rattle.mwc_sums.proofs.Tests.{All-passing, any-at, any-none, missing}
 
 -- ---- who has weight in two rules
 pub share-at : (n i : ℕ) (a b : RuleView) → i < n → 0 < get_or a.weights i 0 → 0 < get_or b.weights i 0 → share n a b ≡ true
@@ -68,9 +68,7 @@ two-pass p (x ∷ xs) (suc j) (suc k) d less lt pj pk = grind (arith, nat_tests,
 -- what holds of each that passes
 all-passing : (P : RuleView → Type 0) (p : RuleView → Bool) (rs : List RuleView)
     → ((m : ℕ) → m < length rs → p (rule_at rs m) ≡ true → P (rule_at rs m)) → All P (filter p rs)
-all-passing P p rs each k d lt =
-    All-filter p (λ x. p x ≡ true → P x) rs (All-from_get_or (λ x. p x ≡ true → P x) rs (record { quota = 0; weights = [] }) each) k d lt
-    (filter_passes p rs k d lt)
+all-passing P p rs each = All-passing p P rs (All-from_get_or (λ x. p x ≡ true → P x) rs (record { quota = 0; weights = [] }) each)
 
 -- ---- the rules of a chamber
 pub one-few : (n : ℕ) (rs : List RuleView) → are_of_one_chamber n rs ≡ true → length rs ≤ 2

@@ -1,10 +1,11 @@
 -- The rules that a game consists of.
-use Rattle.std.proofs.Common.{◌≡◌, ℕ, zero, suc, ◌*◌, ◌<◌, ◌≤◌, false, cond, leb, List, [], ◌∷◌, length, get_or, refl, arith, All}
+use Rattle.std.proofs.Common.{◌≡◌, ◌∙◌, ℕ, ◌*◌, ◌<◌, ◌≤◌, false, cond, leb, List, [], ◌∷◌, length, get_or, refl, arith, All}
 use Rattle.std.specs.List.{sum_by, range_with_len}
 use Rattle.std.proofs.lemmas.Bool.{both_ways, lt-leb}
 use Rattle.std.proofs.lemmas.List.Folds.{list_all_at}
 use Rattle.council_game.specs.Votes.{RuleView, rule_at}
 use Rattle.council_game.specs.Game.{GameView, IsGame}
+use Rattle.power_index.proofs.Shared.Sums.{sum-range, sum-zero}
 use Rattle.mwc_sums.specs.Chambers.{met, weighs}
 use Rattle.mwc_sums.specs.Inner.Fair.{IsFair}
 use Rattle.mwc_sums.specs.Inner.Rules.{AreRulesOf}
@@ -12,12 +13,11 @@ use Rattle.mwc_sums.specs.Statute.{statute}
 use Rattle.mwc_sums.specs.Vetoers.{can_veto}
 use Rattle.mwc_sums.proofs.Remaking.{fair-all, fair-of}
 use Rattle.mwc_sums.proofs.VetoRules.{fair-beside, few-beside, good-some}
-use Rattle.mwc_sums.proofs.Vetoing.{one-more, vetoers-both}
+use Rattle.mwc_sums.proofs.Vetoing.{vetoers-both}
 
 -- nobody weighs nothing
 nobody : (w : ℕ → ℕ) (n : ℕ) → sum_by (λ i. cond false 1 0 * w i) (range_with_len 0 n) ≡ 0
-nobody w zero = refl
-nobody w (suc n) = let last = one-more (λ i. cond false 1 0 * w i) n in let rest = nobody w n in omega (arith, last, rest)
+nobody w n = sum-range (λ i. cond false 1 0 * w i) (λ i. 0) 0 n (λ i _ _. omega arith) ∙ sum-zero (range_with_len 0 n)
 
 module _ (g : GameView) (is : IsGame g) where
   pub statute-are : AreRulesOf g (length g.names) (statute g)

@@ -1,10 +1,11 @@
 -- Tests of the members of a game.
-use Rattle.std.proofs.Common.{◌≡◌, ◌∙◌, ◌&&◌, not, ◌⊎◌, ℕ, ◌<◌, Bool, true, false, ap, sym, arith, inl, inr}
+use Rattle.std.proofs.Common.{◌≡◌, ◌∙◌, ◌&&◌, not, ◌⊎◌, ℕ, ◌<◌, Bool, true, false, All, List, filter, ap, sym, arith, inl, inr}
 use Rattle.std.specs.List.{list_all, list_any, range_with_len}
 use Rattle.std.proofs.lemmas.Bool.{cases_Bool}
 use Rattle.std.proofs.lemmas.Bool.Decides.{nat_tests}
 use Rattle.std.proofs.lemmas.List.FromFn.{length-range_with_len}
 use Rattle.std.proofs.lemmas.List.Folds.{Any-from_list_any, list_any_at, list_any_none}
+use Rattle.std.proofs.lemmas.List.Elements.{All-filter, filter_passes}
 use Rattle.std.proofs.lemmas.List.Sums.{AllPass-from_list_all}
 use Rattle.council_game.proofs.Shared.Rankings.{places-at}
 
@@ -33,3 +34,7 @@ missing veto f n =
           inl (x, omega (arith, here, lt, long), grind (arith, nat_tests), grind (arith, nat_tests))
       | inr none ↦ inr (λ i lt vetoes. let some = any-at (λ i. veto i && not (f i)) n i lt in grind (arith, nat_tests))
     ]
+
+-- what holds of each that passes
+pub All-passing : {X : Type 0} (p : X → Bool) (P : X → Type 0) (xs : List X) → All (λ x. p x ≡ true → P x) xs → All P (filter p xs)
+All-passing p P xs each k d lt = All-filter p (λ x. p x ≡ true → P x) xs each k d lt (filter_passes p xs k d lt)

@@ -1,10 +1,11 @@
 -- Where all members that can veto agree, the rules ask the others for what is left.
-use Rattle.std.proofs.Common.{◌≡◌, ◌∙◌, ◌&&◌, ℕ, zero, suc, ◌+◌, ◌-◌, ◌*◌, ◌<◌, ◌≤◌, Bool, true, false, cond, leb, ltb}
+use Rattle.std.proofs.Common.{◌≡◌, ◌∙◌, ◌&&◌, ℕ, suc, ◌+◌, ◌-◌, ◌*◌, ◌<◌, ◌≤◌, Bool, true, false, cond, leb, ltb}
 use Rattle.std.proofs.Common.{List, [], ◌∷◌, length, get_or, map, filter, sym, ap, refl, arith, inl, inr, All}
 use Rattle.std.specs.List.{fold, sum, sum_by, range_with_len}
-use Rattle.std.proofs.lemmas.List.Sums.{sum_by-cons}
-use Rattle.std.proofs.lemmas.Bool.{cases_lt, le-leb}
-use Rattle.std.proofs.lemmas.List.FromFn.{fill_by_all, get_or-map-range_with_len}
+use Rattle.std.proofs.lemmas.List.Sums.{get_or-le-sum_by, sum_by-cons}
+use Rattle.std.proofs.lemmas.Bool.{le-leb}
+use Rattle.std.proofs.lemmas.List.FromFn.{fill_by_all, get_or-map-range_with_len, length-range_with_len}
+use Rattle.council_game.proofs.Shared.Rankings.{places-at}
 use Rattle.std.proofs.lemmas.List.Folds.{fold-map}
 use Rattle.std.proofs.lemmas.List.Elements.{All-head, All-tail}
 use Rattle.coalitions.proofs.Shared.Ranges.{sum_by-range-more}
@@ -37,19 +38,28 @@ less-all f q (x ∷ xs) = grind (arith, sum_by-cons f x xs, less-all f (q - f x)
 pub one-more : (f : ℕ → ℕ) (n : ℕ) → sum_by f (range_with_len 0 (suc n)) ≡ sum_by f (range_with_len 0 n) + f n
 one-more f n = let e : suc n ≡ n + 1 = omega arith in ap (λ (k : ℕ). sum_by f (range_with_len 0 k)) e ∙ sum_by-range-more f n
 
-others-le : (f : ℕ → Bool) (w : ℕ → ℕ) (n : ℕ) → sum_by (λ i. cond (f i) 1 0 * w i) (range_with_len 0 n) ≤ sum_by w (range_with_len 0 n)
-others-le f w zero = omega arith
-others-le f w (suc n) = grind (arith, nat_tests, one-more (λ i. cond (f i) 1 0 * w i) n, one-more w n, others-le f w n)
+-- those who pass and the others weigh together what all do
+pub both-sums : (f : ℕ → Bool) (w : ℕ → ℕ) (n : ℕ)
+    → sum_by (λ i. cond (f i) (w i) 0) (range_with_len 0 n) + sum_by (λ i. cond (f i) 0 (w i)) (range_with_len 0 n) ≡ sum_by w (range_with_len 0 n)
+both-sums f w n =
+    sym (sum-plus (λ i. cond (f i) (w i) 0) (λ i. cond (f i) 0 (w i)) (range_with_len 0 n))
+    ∙ (λ k. sum_by (λ i. either (f i) (w i) k) (range_with_len 0 n))
+  where
+    either : (b : Bool) (x : ℕ) → cond b x 0 + cond b 0 x ≡ x
+    either b x = grind (arith, nat_tests)
 
 pub beside : (f : ℕ → Bool) (w : ℕ → ℕ) (n i : ℕ) → i < n → f i ≡ false
     → sum_by (λ j. cond (f j) 1 0 * w j) (range_with_len 0 n) + w i ≤ sum_by w (range_with_len 0 n)
-beside f w zero i lt out = absurd (omega arith)
-beside f w (suc n) i lt out = elim (cases_lt i n) [
-  | inl less ↦ grind (arith, nat_tests, one-more (λ j. cond (f j) 1 0 * w j) n, one-more w n, beside f w n i less out)
-  | inr last ↦
-      let here : i ≡ n = omega (arith, lt, last) in
-      grind (arith, nat_tests, one-more (λ j. cond (f j) 1 0 * w j) n, one-more w n, others-le f w n, ap f here, ap w here)
-]
+beside f w n i lt out =
+    let other : ℕ → ℕ = λ j. cond (f j) 0 (w j) in
+    let some = get_or-le-sum_by other (range_with_len 0 n) i 0 (let long = length-range_with_len 0 n in omega (arith, lt, long)) in
+    let here : other (get_or (range_with_len 0 n) i 0) ≡ w i = ap other (places-at n i 0 lt) ∙ ap (λ (b : Bool). cond b 0 (w i)) out in
+    let same : sum_by (λ j. cond (f j) 1 0 * w j) (range_with_len 0 n) ≡ sum_by (λ j. cond (f j) (w j) 0) (range_with_len 0 n) =
+    λ k. sum_by (λ j. once (f j) (w j) k) (range_with_len 0 n) in
+    omega (arith, both-sums f w n, some, here, same)
+  where
+    once : (b : Bool) (x : ℕ) → cond b 1 0 * x ≡ cond b x 0
+    once b x = grind (arith, nat_tests)
 
 module _ (n : ℕ) (veto f : ℕ → Bool) where
   -- ---- the rule that asks for each
