@@ -4,6 +4,7 @@ use Rattle.std.proofs.Common.{length, get_or, filter, take, sym, ap, refl, arith
 use Rattle.std.proofs.lemmas.Bool.{cases_lt, ltb-true, both_ways}
 use Rattle.std.proofs.lemmas.Bool.{true_from_ne_false}
 use Rattle.std.proofs.Math.Bool.{and-true}
+use Rattle.std.proofs.lemmas.List.{nil_from_length}
 use Rattle.std.proofs.lemmas.List.Filters.{length-filter_both}
 use Rattle.std.proofs.lemmas.List.Sums.{AllPass-from_list_all, list_all-from_AllPass}
 use Rattle.std.proofs.lemmas.List.Elements.{All-filter, All-from_get_or, All-take}
@@ -14,7 +15,7 @@ use Rattle.mwc_sums.specs.Chambers.{met, share, chamber_of, HasNoWeight, AreCham
 use Rattle.mwc_sums.specs.Heads.{are_of_one_chamber}
 use Rattle.mwc_sums.specs.Statute.{counted, is_counted, left, statute}
 use Rattle.mwc_sums.specs.Inner.Fair.{IsFair}
-use Rattle.mwc_sums.specs.Inner.Rules.{AreOfChambers, AreRulesOf, part_of}
+use Rattle.mwc_sums.specs.Inner.Rules.{AreOfChambers, AreRulesOf, beside_of, part_of}
 use Rattle.mwc_sums.proofs.AlikeRules.{alike-sum}
 use Rattle.mwc_sums.proofs.VetoRules.{good-met, good-some}
 use Rattle.mwc_sums.proofs.Filters.{filter-both, filter-within}
@@ -89,7 +90,8 @@ module _ (n : ℕ) (rs : List RuleView) (fair : All (IsFair n) rs) where
   self : (k : ℕ) → k < length rs → share n (rule k) (rule k) ≡ true
   self k lt = share-self n (rule k) (fair k none lt)
 
-  pub chamber-some : (k : ℕ) → k < length rs → 0 < length (chamber_of n rs (rule_at rs k))
+  pub chamber-some : (k : ℕ) → k < length rs → 0 < length (beside_of true n rs k)
+  unfolding beside_of
   chamber-some k lt = in-filter (share n (rule k)) rs k none lt (self k lt)
 
   -- a chamber has no third rule: what shares a member with one of two shares one with the other
@@ -175,25 +177,46 @@ module _ (n : ℕ) (rs : List RuleView) (fair : All (IsFair n) rs) where
       apart = λ i lt. rw (own, others) (parts-apart i (let long = are.members in omega (arith, lt, long)));
     }
 
--- those that pass are all
-pub all-of : (n : ℕ) (rs : List RuleView) (q : RuleView → Bool) (g a : GameView) → AreRulesOf g n rs → a.names ≡ g.names → a.rules ≡ filter q rs
-    → length (filter (λ x. not (q x)) rs) ≡ 0 → AreRulesOf g (length a.names) a.rules
-all-of n rs q g a are names own none = record {
-  members = ap (λ (l : List (List ℕ)). length l) names;
-  alike = λ f. are.alike f ∙ met-parted (length g.names) q rs f
-      ∙ (λ k. met (length g.names) (sym own k) f && met (length g.names) (nothing (filter (λ x. not (q x)) rs) none k) f)
-      ∙ and-true (met (length g.names) a.rules f);
-}
-  where
-    nothing : (l : List RuleView) → length l ≡ 0 → l ≡ []
-    nothing [] e = refl
-    nothing (r ∷ l) e = absurd (omega (arith, e))
+pub both-few : (q : RuleView → Bool) (rs : List RuleView) → length (filter q rs) + length (filter (λ x. not (q x)) rs) ≡ length rs
+both-few q rs = length-filter_both q (λ x. not (q x)) (λ x. refl) rs
+
+-- ---- the rules that share a member with one, and the others
+pub beside-few : (n : ℕ) (rs : List RuleView) (k : ℕ) → length (beside_of true n rs k) + length (beside_of false n rs k) ≡ length rs
+unfolding beside_of
+beside-few n rs k = both-few (share n (rule_at rs k)) rs
+
+pub beside-chamber : (n : ℕ) (rs : List RuleView) (k : ℕ) → AreOfChambers n rs → k < length rs → are_of_one_chamber n (beside_of true n rs k) ≡ true
+unfolding beside_of
+beside-chamber n rs k all lt = all k (record { quota = 0; weights = [] }) lt
+
+pub others-chambers : (n : ℕ) (rs : List RuleView) (k : ℕ) → All (IsFair n) rs → AreOfChambers n rs → k < length rs → AreOfChambers n (beside_of false n rs k)
+unfolding beside_of
+others-chambers n rs k fair all lt = chambers-within n rs fair (λ x. not (share n (rule_at rs k) x))
+    (others-closed n rs fair (share n (rule_at rs k)) (chamber-closed n rs fair all k lt)) (λ j lj _. all j (record { quota = 0; weights = [] }) lj)
+
+pub beside-parts : (n : ℕ) (rs : List RuleView) (k : ℕ) → All (IsFair n) rs → AreOfChambers n rs → k < length rs
+    → (g a b : GameView) → AreRulesOf g n rs → a.names ≡ g.names → b.names ≡ g.names → a.rules ≡ beside_of true n rs k → b.rules ≡ beside_of false n rs k
+    → AreChambersOf g a b
+unfolding beside_of
+beside-parts n rs k fair all lt = parts-are n rs fair (share n (rule_at rs k)) (chamber-closed n rs fair all k lt)
+
+-- those that share a member with it are all
+pub beside-all : (n : ℕ) (rs : List RuleView) (k : ℕ) (g a : GameView) → AreRulesOf g n rs → a.names ≡ g.names → a.rules ≡ beside_of true n rs k
+    → length (beside_of false n rs k) ≡ 0 → AreRulesOf g (length a.names) a.rules
+unfolding beside_of
+beside-all n rs k g a are names own none =
+    let q : RuleView → Bool = share n (rule_at rs k) in
+    record {
+      members = ap (λ (l : List (List ℕ)). length l) names;
+      alike = λ f. are.alike f ∙ met-parted (length g.names) q rs f
+          ∙ (λ i. met (length g.names) (sym own i) f && met (length g.names) (nil_from_length (filter (λ x. not (q x)) rs) none i) f)
+          ∙ and-true (met (length g.names) a.rules f);
+    }
+
+pub ruleset chambers = (beside-few, beside-chamber, others-chambers, chamber-some)
 
 pub kept-fair : (n k : ℕ) (p : RuleView → Bool) (rs : List RuleView) → All (IsFair n) rs → All (IsFair n) (filter p (take k rs))
 kept-fair n k p rs fair = All-filter p (IsFair n) (take k rs) (All-take (IsFair n) k rs fair)
-
-pub both-few : (q : RuleView → Bool) (rs : List RuleView) → length (filter q rs) + length (filter (λ x. not (q x)) rs) ≡ length rs
-both-few q rs = length-filter_both q (λ x. not (q x)) (λ x. refl) rs
 
 -- ---- the rules that sums count, and those that they leave
 pub counted-is : (g : GameView) → counted g ≡ part_of true (length g.names) (statute g)

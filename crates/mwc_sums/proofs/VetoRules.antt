@@ -1,5 +1,5 @@
 -- The rules that a game consists of are rules that a game can have.
-use Rattle.std.proofs.Common.{◌≡◌, ℕ, ◌+◌, ◌<◌, ◌≤◌, Bool, true, false, cond, ltb, not, List, [], ◌∷◌, ◌++◌, length, get_or, map, filter, take}
+use Rattle.std.proofs.Common.{◌≡◌, ℕ, ◌+◌, ◌<◌, ◌≤◌, Bool, true, false, ltb, not, List, [], ◌∷◌, ◌++◌, length, get_or, map, filter, take}
 use Rattle.std.proofs.Common.{refl, arith, All}
 use Rattle.std.specs.List.{sum, range_with_len}
 use Rattle.std.proofs.lemmas.Bool.{cases_lt, ltb-true}
@@ -35,18 +35,10 @@ fair-vetoers : (n : ℕ) (veto : ℕ → Bool) → 0 < number_of n veto → IsFa
 fair-vetoers n veto some = grind (arith, length-map-range_with_len, good, made-sum, light-made, nat_tests)
 
 fair-rest : (n : ℕ) (veto : ℕ → Bool) (r : RuleView) → IsFair n r → 0 < (rest_of n veto r).quota → IsFair n (rest_of n veto r)
-fair-rest n veto r fair some = record {
-  full = length-map-range_with_len (λ i. cond (veto i) 0 (get_or r.weights i 0)) 0 n;
-  quota = good (rest_of n veto r) some (
-      let met = good-met r fair.quota in
-      let all = row-sum r.weights n fair.full in
-      omega (arith, met, all, both-sums veto (λ i. get_or r.weights i 0) n, made-sum (λ i. cond (veto i) 0 (get_or r.weights i 0)) n)
-      );
-  light = λ k. light-made (λ i. cond (veto i) 0 (get_or r.weights i 0)) n k (λ i lt. less (veto i) (get_or r.weights i 0) (fair.light i));
-}
-  where
-    less : (b : Bool) (x : ℕ) → x ≤ 1000000000000 → cond b 0 x ≤ 1000000000000
-    less b x le = grind (arith, nat_tests)
+fair-rest n veto r fair some =
+    let all = row-sum r.weights n fair.full in
+    let parts = both-sums veto (λ i. get_or r.weights i 0) n in
+    grind (arith, nat_tests, length-map-range_with_len, good, good-met, made-sum, light-made, fair.light)
 
 -- each rule that is left is fair, since it asks for something
 pub fair-beside : (n : ℕ) (veto : ℕ → Bool) (rs : List RuleView) → All (IsFair n) rs → All (IsFair n) (rules_beside n veto rs)

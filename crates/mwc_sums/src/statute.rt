@@ -5,7 +5,7 @@ ghost use Rattle.council_game.specs.Rules.{rule_view};
 ghost use Rattle.council_game.specs.Votes.{rule_at};
 ghost use Rattle.mwc_sums.specs.Chambers.{chamber_of, share};
 ghost use Rattle.mwc_sums.specs.Inner.Fair.{IsFair};
-ghost use Rattle.mwc_sums.specs.Inner.Rules.{AreRulesOf, part_of};
+ghost use Rattle.mwc_sums.specs.Inner.Rules.{AreRulesOf, beside_of, part_of};
 ghost use Rattle.mwc_sums.specs.Statute.{is_counted, statute};
 ghost use Rattle.std.specs.Prelude.{◌≡◌, ◌+◌, ◌<◌, ◌≤◌, All, filter, not, if◌then◌else◌, IfOk, length, slice_index};
 
@@ -105,6 +105,7 @@ impl Statute {
     }
 
     /// The rules that share a member with one of them, or the others.
+    #[tactic(auto, unfolding(crate::specs::Inner::Rules::beside_of))]
     pub(crate) fn beside(
         &self,
         alloc: Global,
@@ -113,9 +114,7 @@ impl Statute {
     ) -> Result<Statute, Memory>
         requires { rule < length self.now.rules }
         ensures members { IfOk result (λ s. s.members ≡ self.now.members) }
-        ensures rules { IfOk result (λ s. s.rules ≡ filter (λ r. if sharing
-            then share self.now.members (rule_at self.now.rules rule) r
-            else not (share self.now.members (rule_at self.now.rules rule) r)) self.now.rules) }
+        ensures rules { IfOk result (λ s. s.rules ≡ beside_of sharing self.now.members self.now.rules rule) }
     {
         let members = self.members();
         let mut rules = Vec::with_capacity(alloc, self.rules())?;

@@ -1,11 +1,6 @@
-use Rattle.std.proofs.Common.{[]}
 use Rattle.mwc_sums.proofs.statute.Statute.first_chamber.Goals as goal
 
 pub count_seated-requires : goal.count_seated-requires
 count_seated-requires c =
     rw (c.in_ok-first.ensures.names, ← c.requires.members, ← c.in_ok-chamber.ensures.members, c.in_ok-first.ensures.rules)
     (rw c.unwrap-weights.ensures at c.seats.ensures.seats)
-
-pub unwrap-weights-requires : goal.unwrap-weights-requires
-unwrap-weights-requires c = c.seats.ensures.kind.1 (rw (c.in_ok-chamber.ensures.members, c.in_ok-chamber.ensures.rules)
-    (c.requires.chambers 0 (record { quota = 0; weights = [] }) c.requires.some))
