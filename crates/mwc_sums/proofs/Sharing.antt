@@ -1,7 +1,7 @@
 -- The rules that share a member with one, and the others.
-use Rattle.std.proofs.Common.{◌≡◌, ◌∙◌, ◌&&◌, ◌||◌, not, ◌⊎◌, ℕ, zero, suc, ◌+◌, ◌<◌, ◌≤◌, Bool, true, false, ltb, List, [], ◌∷◌}
+use Rattle.std.proofs.Common.{◌≡◌, ◌≢◌, ◌∙◌, ◌&&◌, ◌||◌, not, ◌⊎◌, ℕ, zero, suc, ◌+◌, ◌<◌, ◌≤◌, Bool, true, false, ltb, List, [], ◌∷◌}
 use Rattle.std.proofs.Common.{length, get_or, filter, take, sym, ap, refl, arith, inl, inr, All}
-use Rattle.std.proofs.lemmas.Bool.{cases_lt, ltb-true, both_ways}
+use Rattle.std.proofs.lemmas.Bool.{ltb-true, both_ways}
 use Rattle.std.proofs.lemmas.Bool.{true_from_ne_false}
 use Rattle.std.proofs.Math.Bool.{and-true}
 use Rattle.std.proofs.lemmas.List.{nil_from_length}
@@ -19,7 +19,7 @@ use Rattle.mwc_sums.specs.Inner.Rules.{AreOfChambers, AreRulesOf, beside_of, par
 use Rattle.mwc_sums.proofs.AlikeRules.{alike-sum}
 use Rattle.mwc_sums.proofs.VetoRules.{good-met, good-some}
 use Rattle.mwc_sums.proofs.Filters.{filter-both, filter-within}
-use Rattle.mwc_sums.proofs.Tests.{All-passing, any-at, any-none, missing}
+use Rattle.mwc_sums.proofs.Tests.{All-passing, any-at, any-of, missing}
 
 -- ---- who has weight in two rules
 pub share-at : (n i : ℕ) (a b : RuleView) → i < n → 0 < get_or a.weights i 0 → 0 < get_or b.weights i 0 → share n a b ≡ true
@@ -28,11 +28,8 @@ share-at n i a b lt one other =
 
 share-member : (n : ℕ) (a b : RuleView) → share n a b ≡ true
     → (i : ℕ) × (i < n) × (0 < get_or a.weights i 0) × (0 < get_or b.weights i 0)
-share-member n a b they = elim (missing (λ i. ltb 0 (get_or a.weights i 0) && ltb 0 (get_or b.weights i 0)) (λ i. false) n) [
-  | inl found ↦ (found.0, found.1, grind (arith, nat_tests), grind (arith, nat_tests))
-  | inr none ↦ absurd (let out = any-none (λ i. ltb 0 (get_or a.weights i 0) && ltb 0 (get_or b.weights i 0)) n
-      (λ i lt. grind (arith, nat_tests)) in grind (arith, nat_tests))
-]
+share-member n a b they =
+    let (i, lt, both) = any-of (λ i. ltb 0 (get_or a.weights i 0) && ltb 0 (get_or b.weights i 0)) n they in (i, lt, grind (arith, nat_tests), grind (arith, nat_tests))
 
 share-turned : (n : ℕ) (a b : RuleView) → share n a b ≡ true → share n b a ≡ true
 share-turned n a b they = let found = share-member n a b they in share-at n found.0 b a found.1 found.3 found.2
@@ -58,13 +55,18 @@ met-parted : (n : ℕ) (p : RuleView → Bool) (rs : List RuleView) (f : ℕ →
 met-parted n p [] f = refl
 met-parted n p (r ∷ rs) f = grind (arith, nat_tests, met-parted n p rs f)
 
+pub both-few : (q : RuleView → Bool) (rs : List RuleView) → length (filter q rs) + length (filter (λ x. not (q x)) rs) ≡ length rs
+both-few q rs = length-filter_both q (λ x. not (q x)) (λ x. refl) rs
+
 -- at two places a test passes
-two-pass : {X : Type 0} (p : X → Bool) (xs : List X) (j k : ℕ) (d : X) → j < k → k < length xs → p (get_or xs j d) ≡ true
+two-pass : {X : Type 0} (p : X → Bool) (xs : List X) (j k : ℕ) (d : X) → j ≢ k → j < length xs → k < length xs → p (get_or xs j d) ≡ true
     → p (get_or xs k d) ≡ true → 2 ≤ length (filter p xs)
-two-pass p [] j k d less lt pj pk = absurd (omega (arith, lt))
-two-pass p (x ∷ xs) j zero d less lt pj pk = absurd (omega (arith, less))
-two-pass p (x ∷ xs) zero (suc k) d less lt pj pk = grind (arith, nat_tests, in-filter p xs k d (omega (arith, lt)) pk)
-two-pass p (x ∷ xs) (suc j) (suc k) d less lt pj pk = grind (arith, nat_tests, two-pass p xs j k d (omega (arith, less)) (omega (arith, lt)) pj pk)
+two-pass p [] j k d other lj lk pj pk = absurd (omega (arith, lj))
+two-pass p (x ∷ xs) zero zero d other lj lk pj pk = absurd (other refl)
+two-pass p (x ∷ xs) zero (suc k) d other lj lk pj pk = grind (arith, nat_tests, in-filter p xs k d (omega (arith, lk)) pk)
+two-pass p (x ∷ xs) (suc j) zero d other lj lk pj pk = grind (arith, nat_tests, in-filter p xs j d (omega (arith, lj)) pj)
+two-pass p (x ∷ xs) (suc j) (suc k) d other lj lk pj pk =
+    grind (arith, nat_tests, two-pass p xs j k d (λ e. other (ap suc e)) (omega (arith, lj)) (omega (arith, lk)) pj pk)
 
 -- what holds of each that passes
 all-passing : (P : RuleView → Type 0) (p : RuleView → Bool) (rs : List RuleView)
@@ -102,23 +104,17 @@ module _ (n : ℕ) (rs : List RuleView) (fair : All (IsFair n) rs) where
       let turned = share-turned n (rule j) (rule k) they in
       let own-j = self j lj in
       let own-k = self k lk in
-      let apart : j ≡ k → ⊥ = λ e. both_ways _ not-so (ap (λ (i : ℕ). share n (rule i) (rule m)) e ∙ third) in
-      let two : 2 ≤ length (filter both rs) = elim (cases_lt j k) [
-        | inl less ↦ two-pass both rs j k none less lk (grind (arith, nat_tests)) (grind (arith, nat_tests))
-        | inr more ↦ two-pass both rs k j none (omega (arith, more, apart)) lj (grind (arith, nat_tests)) (grind (arith, nat_tests))
-      ] in
+      let apart : j ≢ k = λ e. both_ways _ not-so (ap (λ (i : ℕ). share n (rule i) (rule m)) e ∙ third) in
+      let two = two-pass both rs j k none apart lj lk (grind (arith, nat_tests)) (grind (arith, nat_tests)) in
       let lost = in-filter (λ x. share n (rule k) x && not (share n (rule j) x)) rs m none lm (grind (arith, nat_tests)) in
-      let parts = length-filter_both (share n (rule j)) (λ x. not (share n (rule j) x)) (λ x. refl) (filter (share n (rule k)) rs) in
-      let kept = ap (λ (l : List RuleView). length l) (filter-both (share n (rule k)) (share n (rule j)) rs) in
-      let gone = ap (λ (l : List RuleView). length l) (filter-both (share n (rule k)) (λ x. not (share n (rule j) x)) rs) in
-      omega (arith, parts, kept, gone, two, one-few n (chamber_of n rs (rule k)) of, lost)))
+      let parts = simp filter-both at (both-few (share n (rule j)) (filter (share n (rule k)) rs)) in
+      omega (arith, parts, two, one-few n (chamber_of n rs (rule k)) of, lost)))
 
   -- ---- what sums count
   counted-at : (r : RuleView) → is_counted n rs r ≡ true → (k : ℕ) → k < length rs → share n r (rule k) ≡ true
       → are_of_one_chamber n (chamber_of n rs (rule k)) ≡ true
   counted-at r is k lt they =
-      let h = AllPass-from_list_all (λ x. not (share n r x) || are_of_one_chamber n (chamber_of n rs x)) rs is k none lt in
-      grind (arith, nat_tests)
+      grind (arith, nat_tests, AllPass-from_list_all (λ x. not (share n r x) || are_of_one_chamber n (chamber_of n rs x)) rs is k none lt)
 
   counted-from : (r : RuleView) → ((k : ℕ) → k < length rs → share n r (rule k) ≡ true → are_of_one_chamber n (chamber_of n rs (rule k)) ≡ true)
       → is_counted n rs r ≡ true
@@ -176,9 +172,6 @@ module _ (n : ℕ) (rs : List RuleView) (fair : All (IsFair n) rs) where
           ∙ (λ k. met (length g.names) (sym own k) f && met (length g.names) (sym others k) f);
       apart = λ i lt. rw (own, others) (parts-apart i (let long = are.members in omega (arith, lt, long)));
     }
-
-pub both-few : (q : RuleView → Bool) (rs : List RuleView) → length (filter q rs) + length (filter (λ x. not (q x)) rs) ≡ length rs
-both-few q rs = length-filter_both q (λ x. not (q x)) (λ x. refl) rs
 
 -- ---- the rules that share a member with one, and the others
 pub beside-few : (n : ℕ) (rs : List RuleView) (k : ℕ) → length (beside_of true n rs k) + length (beside_of false n rs k) ≡ length rs
