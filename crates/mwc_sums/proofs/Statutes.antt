@@ -1,7 +1,8 @@
 -- The rules that a game consists of.
 use Rattle.std.proofs.Common.{◌≡◌, ◌∙◌, ℕ, ◌*◌, ◌<◌, ◌≤◌, false, cond, leb, List, [], ◌∷◌, length, get_or, refl, arith, All}
 use Rattle.std.specs.List.{sum_by, range_with_len}
-use Rattle.std.proofs.lemmas.Bool.{both_ways, lt-leb}
+use Rattle.std.proofs.lemmas.Bool.Decides.{nat_tests}
+use Rattle.std.proofs.lemmas.Bool.{both_ways}
 use Rattle.std.proofs.lemmas.List.Folds.{list_all_at}
 use Rattle.council_game.specs.Votes.{RuleView, rule_at}
 use Rattle.council_game.specs.Game.{GameView, IsGame}
@@ -33,10 +34,8 @@ module _ (g : GameView) (is : IsGame g) where
   lost : met (length g.names) g.rules (λ i. false) ≡ false
   lost =
       list_all_at (λ r. leb r.quota (weighs (length g.names) r (λ i. false))) g.rules 0 (record { quota = 0; weights = [] }) is.has_rule
-      (lt-leb (rule_at g.rules 0).quota (weighs (length g.names) (rule_at g.rules 0) (λ i. false))
       (let some = good-some (rule_at g.rules 0) (fair-of g 0 is is.has_rule).quota in
-      let none = nobody (λ i. get_or (rule_at g.rules 0).weights i 0) (length g.names) in
-      omega (arith, some, none)))
+      grind (arith, nat_tests, nobody (λ i. get_or (rule_at g.rules 0).weights i 0) (length g.names)))
 
   pub statute-some : 0 < length (statute g)
   statute-some = by_rules (statute g) (statute-are.alike (λ i. false))

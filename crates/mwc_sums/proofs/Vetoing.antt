@@ -1,5 +1,5 @@
 -- Where all members that can veto agree, the rules ask the others for what is left.
-use Rattle.std.proofs.Common.{◌≡◌, ◌∙◌, ◌&&◌, ℕ, suc, ◌+◌, ◌-◌, ◌*◌, ◌<◌, ◌≤◌, Bool, true, false, cond, leb, ltb}
+use Rattle.std.proofs.Common.{◌≡◌, ◌∙◌, ℕ, suc, ◌+◌, ◌-◌, ◌*◌, ◌<◌, ◌≤◌, Bool, true, false, cond, leb, ltb}
 use Rattle.std.proofs.Common.{List, [], ◌∷◌, length, get_or, map, filter, sym, ap, refl, arith, inl, inr, All}
 use Rattle.std.specs.List.{fold, sum, sum_by, range_with_len}
 use Rattle.std.proofs.lemmas.List.Sums.{get_or-le-sum_by, sum_by-cons}
@@ -63,13 +63,10 @@ beside f w n i lt out =
 
 module _ (n : ℕ) (veto f : ℕ → Bool) where
   -- ---- the rule that asks for each
-  rule-at : (i : ℕ) → i < n → cond (f i) 1 0 * get_or (rule_for n veto).weights i 0 ≡ cond (f i) 1 0 * cond (veto i) 1 0
-  rule-at i lt = ap (λ (w : ℕ). cond (f i) 1 0 * w) (made-at (λ j. cond (veto j) 1 0) n i lt)
-
   rule-weighs : weighs n (rule_for n veto) f ≡ sum_by (λ i. cond (f i) 1 0 * cond (veto i) 1 0) (range_with_len 0 n)
   rule-weighs =
       sum-range (λ i. cond (f i) 1 0 * get_or (rule_for n veto).weights i 0) (λ i. cond (f i) 1 0 * cond (veto i) 1 0) 0 n
-      (λ i _ lt. rule-at i (omega (arith, lt)))
+      (λ i _ lt. ap (λ (w : ℕ). cond (f i) 1 0 * w) (made-at (λ j. cond (veto j) 1 0) n i (omega (arith, lt))))
 
   rule-lost : (i : ℕ) → i < n → veto i ≡ true → f i ≡ false → leb (number_of n veto) (weighs n (rule_for n veto) f) ≡ false
   rule-lost i lt vetoes out =
@@ -88,11 +85,10 @@ module _ (n : ℕ) (veto f : ℕ → Bool) where
       both b d h = grind (arith, nat_tests)
 
   -- ---- what is left of a rule
-  agreed : RuleView → ℕ
+  abbrev agreed : RuleView → ℕ
   agreed r = sum_by (λ i. cond (veto i) (get_or r.weights i 0) 0) (range_with_len 0 n)
 
   rest-weighs : ((i : ℕ) → i < n → veto i ≡ true → f i ≡ true) → (r : RuleView) → weighs n r f ≡ agreed r + weighs n (rest_of n veto r) f
-  unfolding agreed
   rest-weighs all r =
       sum-range (λ i. cond (f i) 1 0 * get_or r.weights i 0)
       (λ i. cond (veto i) (get_or r.weights i 0) 0 + cond (f i) 1 0 * get_or (rest_of n veto r).weights i 0) 0 n
@@ -104,7 +100,6 @@ module _ (n : ℕ) (veto f : ℕ → Bool) where
       split b d w v h is = grind (arith, nat_tests)
 
   rests-met : ((i : ℕ) → i < n → veto i ≡ true → f i ≡ true) → (rs : List RuleView) → met n rs f ≡ met n (map (rest_of n veto) rs) f
-  unfolding agreed
   rests-met all [] = refl
   rests-met all (r ∷ rs) = grind (arith, nat_tests, rest-weighs all r, rests-met all rs)
 
@@ -129,11 +124,7 @@ pub vetoers-both : (n : ℕ) (rs : List RuleView) (f : ℕ → Bool) → All (λ
     → met n rs f ≡ met n (rules_beside n (can_veto rs) rs) f
 vetoers-both n rs f full =
     (elim (missing (can_veto rs) f n) [
-      | inl found ↦
-          vetoed-lost n rs f found.0 full found.1 found.2 found.3
-          ∙ sym (ap (λ (b : Bool). b && met n (map (rest_of n (can_veto rs)) rs) f) (rule-lost n (can_veto rs) f found.0 found.1 found.2 found.3))
-      | inr all ↦
-          rests-met n (can_veto rs) f all rs
-          ∙ sym (ap (λ (b : Bool). b && met n (map (rest_of n (can_veto rs)) rs) f) (rule-met n (can_veto rs) f all))
+      | inl (i, lt, vetoes, out) ↦ grind (arith, nat_tests, vetoed-lost n rs f i full lt vetoes out, rule-lost n (can_veto rs) f i lt vetoes out)
+      | inr all ↦ grind (arith, nat_tests, rests-met n (can_veto rs) f all rs, rule-met n (can_veto rs) f all)
     ])
     ∙ asking-met n (rule_for n (can_veto rs) ∷ map (rest_of n (can_veto rs)) rs) f
