@@ -16,7 +16,7 @@ use Rattle.mwc_sums.specs.Heads.{are_of_one_chamber}
 use Rattle.mwc_sums.specs.Statute.{counted, is_counted, left, statute}
 use Rattle.mwc_sums.specs.Inner.Fair.{IsFair}
 use Rattle.mwc_sums.specs.Inner.Rules.{AreOfChambers, AreRulesOf, beside_of, part_of}
-use Rattle.mwc_sums.proofs.AlikeRules.{alike-sum}
+use Rattle.mwc_sums.proofs.Vetoing.{alike-sum}
 use Rattle.mwc_sums.proofs.VetoRules.{good-met, good-some}
 use Rattle.mwc_sums.proofs.Filters.{filter-both, filter-within}
 use Rattle.mwc_sums.proofs.Tests.{All-passing, any-at, any-of, missing}

@@ -1,21 +1,25 @@
 -- The rules that a game consists of are rules that a game can have.
-use Rattle.std.proofs.Common.{◌≡◌, ℕ, ◌+◌, ◌<◌, ◌≤◌, Bool, true, false, ltb, not, List, [], ◌∷◌, ◌++◌, length, get_or, map, filter, take}
-use Rattle.std.proofs.Common.{refl, arith, All}
-use Rattle.std.specs.List.{sum, range_with_len}
-use Rattle.std.proofs.lemmas.Bool.{cases_lt, ltb-true}
+use Rattle.std.proofs.Common.{◌≡◌, ℕ, ◌+◌, ◌<◌, ◌≤◌, Bool, true, false, ltb, not, List, [], ◌∷◌, ◌++◌, length, get_or, map, filter, take, refl, arith, All, ◌∙◌, ◌*◌, cond, leb}
+use Rattle.std.specs.List.{sum, range_with_len, sum_by}
+use Rattle.std.proofs.lemmas.Bool.{cases_lt, ltb-true, both_ways}
 use Rattle.std.proofs.lemmas.List.{get_or_past, length-map, take_more, map-append}
 use Rattle.std.proofs.lemmas.List.FromFn.{length-map-range_with_len}
 use Rattle.std.proofs.lemmas.List.Elements.{All-cons, All-map, filter-append}
 use Rattle.std.proofs.lemmas.List.Filters.{length-filter_both}
-use Rattle.council_game.specs.Votes.{RuleView}
-use Rattle.council_game.specs.Game.{has_bad_quota}
+use Rattle.council_game.specs.Votes.{RuleView, rule_at}
+use Rattle.council_game.specs.Game.{has_bad_quota, GameView, IsGame}
 use Rattle.std.proofs.lemmas.Bool.Decides.{nat_tests}
 use Rattle.std.proofs.lemmas.Grind.{common_steps}
-use Rattle.mwc_sums.specs.Statute.{rules_beside}
-use Rattle.mwc_sums.specs.Vetoers.{number_of, rest_of, rule_for}
+use Rattle.mwc_sums.specs.Statute.{rules_beside, statute}
+use Rattle.mwc_sums.specs.Vetoers.{number_of, rest_of, rule_for, can_veto}
 use Rattle.mwc_sums.specs.Inner.Fair.{IsFair}
 use Rattle.mwc_sums.proofs.Tests.{All-passing}
-use Rattle.mwc_sums.proofs.Vetoing.{both-sums, row-sum, made-sum, made-at}
+use Rattle.mwc_sums.proofs.Vetoing.{both-sums, row-sum, made-sum, made-at, vetoers-both}
+use Rattle.std.proofs.lemmas.List.Folds.{list_all_at}
+use Rattle.power_index.proofs.Shared.Sums.{sum-range, sum-zero}
+use Rattle.mwc_sums.specs.Chambers.{met, weighs}
+use Rattle.mwc_sums.specs.Inner.Rules.{AreRulesOf}
+use Rattle.mwc_sums.proofs.Remaking.{fair-all, fair-of}
 
 good : (r : RuleView) → 0 < r.quota → r.quota ≤ sum r.weights → has_bad_quota r ≡ false
 good r some met = grind (arith, nat_tests)
@@ -61,3 +65,34 @@ pub beside-more : (n : ℕ) (veto : ℕ → Bool) (rs : List RuleView) (k : ℕ)
 beside-more n veto rs k d lt = grind (arith, nat_tests, common_steps, take_more, map-append, filter-append)
 
 pub ruleset one_more = (beside-more)
+
+-- ---- the rules that a game consists of
+-- nobody weighs nothing
+nobody : (w : ℕ → ℕ) (n : ℕ) → sum_by (λ i. cond false 1 0 * w i) (range_with_len 0 n) ≡ 0
+nobody w n = sum-range (λ i. cond false 1 0 * w i) (λ i. 0) 0 n (λ i _ _. omega arith) ∙ sum-zero (range_with_len 0 n)
+
+module _ (g : GameView) (is : IsGame g) where
+  pub statute-are : AreRulesOf g (length g.names) (statute g)
+  statute-are = record { members = refl; alike = λ f. vetoers-both (length g.names) g.rules f is.full }
+
+  pub statute-fair : All (IsFair (length g.names)) (statute g)
+  statute-fair = fair-beside (length g.names) (can_veto g.rules) g.rules (fair-all g is)
+
+  pub statute-few : length (statute g) ≤ 5
+  statute-few = let few = few-beside (length g.names) (can_veto g.rules) g.rules in let rules = is.few_rules in omega (arith, few, rules)
+
+  -- the empty coalition loses
+  lost : met (length g.names) g.rules (λ i. false) ≡ false
+  lost =
+      list_all_at (λ r. leb r.quota (weighs (length g.names) r (λ i. false))) g.rules 0 (record { quota = 0; weights = [] }) is.has_rule
+      (let some = good-some (rule_at g.rules 0) (fair-of g 0 is is.has_rule).quota in
+      grind (arith, nat_tests, nobody (λ i. get_or (rule_at g.rules 0).weights i 0) (length g.names)))
+
+  pub statute-some : 0 < length (statute g)
+  statute-some = by_rules (statute g) (statute-are.alike (λ i. false))
+    where
+      by_rules : (rs : List RuleView) → met (length g.names) g.rules (λ i. false) ≡ met (length g.names) rs (λ i. false) → 0 < length rs
+      by_rules [] same = absurd (both_ways _ lost same)
+      by_rules (r ∷ rs) same = omega arith
+
+pub ruleset statutes = (statute-are, statute-fair, statute-few, statute-some)

@@ -1,6 +1,5 @@
 -- Where all members that can veto agree, the rules ask the others for what is left.
-use Rattle.std.proofs.Common.{◌≡◌, ◌∙◌, ℕ, suc, ◌+◌, ◌-◌, ◌*◌, ◌<◌, ◌≤◌, Bool, true, false, cond, leb, ltb}
-use Rattle.std.proofs.Common.{List, [], ◌∷◌, length, get_or, map, filter, sym, ap, refl, arith, inl, inr, All}
+use Rattle.std.proofs.Common.{◌≡◌, ◌∙◌, ℕ, suc, ◌+◌, ◌-◌, ◌*◌, ◌<◌, ◌≤◌, Bool, true, false, cond, leb, ltb, List, [], ◌∷◌, length, get_or, map, filter, sym, ap, refl, arith, inl, inr, All}
 use Rattle.std.specs.List.{fold, sum, sum_by, range_with_len}
 use Rattle.std.proofs.lemmas.List.Sums.{get_or-le-sum_by, sum_by-cons}
 use Rattle.std.proofs.lemmas.Bool.{le-leb}
@@ -22,6 +21,12 @@ pub row-sum : (ws : List ℕ) (n : ℕ) → length ws ≡ n → sum ws ≡ sum_b
 row-sum ws n long =
     ap (sum_by (λ (y : ℕ). y)) (fill_by_all (λ i. get_or ws i 0) ws n 0 long (λ k lt. refl))
     ∙ fold-map (λ (a : ℕ) (p : ℕ). a + p) (λ i. get_or ws i 0) 0 (range_with_len 0 n)
+
+-- where all weigh the same
+pub alike-sum : (ws : List ℕ) (e : ℕ) → ((p : ℕ) → p < length ws → get_or ws p 0 ≡ e) → sum ws ≡ length ws * e
+alike-sum [] e same = omega arith
+alike-sum (w ∷ ws) e same =
+    grind (arith, sum_by-cons (λ (y : ℕ). y) w ws, alike-sum ws e (λ p lt. same (suc p) (omega arith)), same 0 (omega arith))
 
 pub made-sum : (h : ℕ → ℕ) (n : ℕ) → sum (map h (range_with_len 0 n)) ≡ sum_by h (range_with_len 0 n)
 made-sum h n = fold-map (λ (a : ℕ) (p : ℕ). a + p) h 0 (range_with_len 0 n)

@@ -47,7 +47,6 @@ impl Statute {
     }
 
     /// Of rules of one chamber, the one with the weights of its members, and the one that says who they are. None of others.
-    #[tactic(auto, using(crate::proofs::OneChamber::those_are))]
     pub(crate) fn seats(&self) -> Option<(usize, usize)>
         ensures seats { IfSome result (λ r. AreSeated self.now.members self.now.rules r.0 r.1) }
         ensures kind { IsSome result ↔ are_of_one_chamber self.now.members self.now.rules ≡ true }

@@ -37,7 +37,7 @@ impl Model for Statute {
 
 impl Statute {
     /// What a game consists of.
-    #[tactic(auto, using(crate::proofs::Statutes::statutes))]
+    #[tactic(auto, using(crate::proofs::VetoRules::statutes))]
     pub(crate) fn of(alloc: Global, game: &Game) -> Result<Statute, Memory>
         ensures members { IfOk result (λ s. s.members ≡ length game.now.names) }
         ensures rules { IfOk result (λ s. s.rules ≡ statute game.now) }

@@ -1,4 +1,4 @@
-use Rattle.mwc_sums.proofs.Statutes.{statute-fair}
+use Rattle.mwc_sums.proofs.VetoRules.{statute-fair}
 use Rattle.mwc_sums.proofs.statute.Statute.of.Goals as goal
 
 pub invariant_of-result : goal.invariant_of-result
