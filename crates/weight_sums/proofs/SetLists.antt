@@ -220,3 +220,5 @@ module _ (ws : List ℕ) (p : ℕ) {short : Bool} {xs : List Set} (are : AreSets
       first-sum : (b : Bool) (g : Set → ℕ) → sum_by g (cond b (alone ∷ []) []) ≡ cond b (g alone) 0
       first-sum true g = omega arith
       first-sum false g = refl
+
+pub ruleset doubling = (doubling-none, doubling-left, doubling-joined, doubling-all)
