@@ -116,12 +116,6 @@ module _ (n : ℕ) (rs : List RuleView) (fair : All (IsFair n) rs) where
   counted-at r is k lt they =
       grind (arith, nat_tests, AllPass-from_list_all (λ x. not (share n r x) || are_of_one_chamber n (chamber_of n rs x)) rs is k none lt)
 
-  counted-from : (r : RuleView) → ((k : ℕ) → k < length rs → share n r (rule k) ≡ true → are_of_one_chamber n (chamber_of n rs (rule k)) ≡ true)
-      → is_counted n rs r ≡ true
-  counted-from r each =
-      let test : RuleView → Bool = λ x. not (share n r x) || are_of_one_chamber n (chamber_of n rs x) in
-      list_all-from_AllPass test rs (All-from_get_or (λ x. test x ≡ true) rs none (λ k lt. let own = each k lt in grind (arith, nat_tests)))
-
   pub own-chamber : (j : ℕ) → j < length rs → is_counted n rs (rule_at rs j) ≡ true → are_of_one_chamber n (chamber_of n rs (rule_at rs j)) ≡ true
   own-chamber j lt is = counted-at (rule j) is j lt (self j lt)
 
@@ -131,8 +125,10 @@ module _ (n : ℕ) (rs : List RuleView) (fair : All (IsFair n) rs) where
       own-chamber j lt (let some = in-filter (λ x. not (is_counted n rs x)) rs j none lt in grind (arith, nat_tests, left)))
 
   pub counted-closed : IsClosed n rs (is_counted n rs)
-  counted-closed j m lj lm is they = counted-from (rule m) (λ k lk more. counted-at (rule j) is k lk
-      (no-third j m k lj lm lk they (counted-at (rule j) is m lm they) more))
+  counted-closed j m lj lm is they =
+      let test : RuleView → Bool = λ x. not (share n (rule m) x) || are_of_one_chamber n (chamber_of n rs x) in
+      list_all-from_AllPass test rs (All-from_get_or (λ x. test x ≡ true) rs none (λ k lk.
+      (let third = no-third j m k lj lm lk they (counted-at (rule j) is m lm they) in grind (arith, nat_tests, counted-at (rule j) is k lk))))
 
   pub chamber-closed : AreOfChambers n rs → (i : ℕ) → i < length rs → IsClosed n rs (share n (rule_at rs i))
   chamber-closed all i li j m lj lm is they = no-third i j m li lj lm is (all j none lj) they
