@@ -3,7 +3,6 @@ mod Counting
 mod Leads
 pub mod Orders
 mod VetoLaw
-mod AlikeRules
 mod Joining
 mod Paired
 pub mod Pairs
@@ -12,9 +11,7 @@ mod Remaking
 pub mod Joined
 mod Vetoing
 mod VetoRules
-pub mod OneChamber
 mod Sharing
-mod Statutes
 mod Tests
 mod Filters
 mod Seating

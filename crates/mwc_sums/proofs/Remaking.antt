@@ -1,7 +1,7 @@
 -- Games of the same members with other rules.
-use Rattle.std.proofs.Common.{◌≡◌, None, Result, Ok, Err, ℕ, ◌<◌, ◌≤◌, false, List, []}
+use Rattle.std.proofs.Common.{◌≡◌, None, Ok, Err, ℕ, ◌<◌, ◌≤◌, false, List, []}
 use Rattle.std.proofs.Common.{length, get_or, subst, arith, All}
-use Rattle.std.proofs.lemmas.Bool.{cases_lt, le-ltb}
+use Rattle.std.proofs.lemmas.Bool.{both_ways, cases_lt, le-ltb}
 use Rattle.std.proofs.lemmas.List.{get_or_past, get_or_default}
 use Rattle.std.proofs.lemmas.List.Folds.{list_any_none}
 use Rattle.std.proofs.lemmas.List.Elements.{All-from_recursion}
@@ -37,14 +37,13 @@ pub made-of : (g : GameView) (rs : List RuleView) → IsGame g → All (IsFair (
     → made_game None g.names rs ≡ Ok (record { title = None; names = g.names; rules = rs; ranks = rank_places (first_weights rs) })
 made-of g rs is fair = grind (arith, passed, makes, position_nowhere, list_any_none, le-ltb)
 
-ok-same : (a b : GameView) → ◌≡◌ {A = Result GameView GameFault} (Ok a) (Ok b) → a ≡ b
-ok-same a b h = cc
-
 -- what was made of them, or want of memory
 pub made-rules : (g made : GameView) (rs : List RuleView) → IsGame g → All (IsFair (length g.names)) rs
     → Answers (Ok made) (made_game None g.names rs) → (made.names ≡ g.names) × (made.rules ≡ rs)
-made-rules g made rs is fair gives = grind (arith, made-of, ok-same)
+made-rules g made rs is fair gives = grind (arith, made-of)
 
 pub only-memory : (g : GameView) (fault : GameFault) (rs : List RuleView) → IsGame g → All (IsFair (length g.names)) rs
     → Answers (Err fault) (made_game None g.names rs) → fault ≡ Memory
 only-memory g fault rs is fair gives = grind (arith, made-of)
+
+pub ruleset remaking = (made-rules, only-memory, both_ways)

@@ -1,18 +1,18 @@
 -- Coalitions of the first places of a ranking, and the sets of members that they hold.
-use Rattle.std.proofs.Common.{◌≡◌, ◌∙◌, ◌↔◌, ◌==◌, ◌&&◌, not, ℕ, zero, suc, ◌+◌, ◌-◌, ◌*◌, ◌/◌, ◌%◌, ◌^◌, ◌<◌, ◌≤◌, Bool, true, false, cond, eqb, ltb}
+use Rattle.std.proofs.Common.{◌≡◌, ◌∙◌, ◌↔◌, ◌&&◌, not, ℕ, zero, suc, ◌+◌, ◌^◌, ◌<◌, ◌≤◌, Bool, true, false, cond, eqb, ltb}
 use Rattle.std.proofs.Common.{List, get_or, sym, ap, refl, arith, inl, inr}
 use Rattle.std.specs.List.{sum_by, range_with_len}
-use Rattle.std.proofs.lemmas.Bool.{cases_lt, cases_eq, and_parts, le-ltb, ltb-true}
+use Rattle.std.proofs.lemmas.Bool.{cases_eq, and_parts, le-ltb, ltb-true}
 use Rattle.std.proofs.lemmas.List.Sums.{length-filter}
-use Rattle.std.proofs.lemmas.Nat.Bits.{bit_at-suc}
 use Rattle.coalitions.proofs.Shared.Digits.{has-kept, has-gone, same-places}
-use Rattle.coalitions.proofs.Shared.Ranges.{sum_by-range-more}
 use Rattle.std.proofs.lemmas.Bool.Decides.{nat_tests}
 use Rattle.council_game.specs.Votes.{has, size, without}
 use Rattle.council_game.specs.Ranks.{AreRankPlaces, member_at}
 use Rattle.council_game.proofs.Shared.Making.{RanksAre}
 use Rattle.council_game.proofs.Shared.RankPlaces.{by-member}
 use Rattle.power_index.proofs.Shared.Sums.{sum-range}
+use Rattle.mwc_sums.proofs.Completing.{double-pow, first-in, first-out, rest-in, rest-out}
+use Rattle.mwc_sums.proofs.Vetoing.{one-more}
 pub use Rattle.mwc_sums.specs.Inner.Seats.{seen}
 
 abbrev pub one_if : Bool → ℕ
@@ -21,35 +21,18 @@ one_if b = cond b 1 0
 -- ---- the coalition of the places that pass a test
 mask_of : (ℕ → Bool) → ℕ → ℕ
 mask_of test zero = 0
-mask_of test (suc n) = 2 * mask_of test n + one_if (test n)
+mask_of test (suc n) = cond (test 0) (2 ^ n + mask_of (λ p. test (suc p)) n) (mask_of (λ p. test (suc p)) n)
 
 mask-below : (test : ℕ → Bool) (n : ℕ) → mask_of test n < 2 ^ n
 unfolding mask_of
 mask-below test zero = omega arith
-mask-below test (suc n) = grind (arith, mask-below test n, nat_tests)
+mask-below test (suc n) = grind (arith, mask-below (λ p. test (suc p)) n, double-pow, nat_tests)
 
 mask-has : (test : ℕ → Bool) (n p : ℕ) → p < n → has n p (mask_of test n) ≡ test p
-unfolding mask_of has
+unfolding mask_of
 mask-has test zero p lt = absurd (omega arith)
-mask-has test (suc n) p lt = elim (cases_lt p n) [
-  | inl less ↦
-      let place : suc n - 1 - p ≡ suc (n - 1 - p) = omega (arith, less) in
-      ap (λ (k : ℕ). (2 * mask_of test n + one_if (test n)) / 2 ^ k % 2 == 1) place
-      ∙ ap (λ (x : ℕ). x == 1) (bit_at-suc (2 * mask_of test n + one_if (test n)) (n - 1 - p))
-      ∙ ap (λ (x : ℕ). x / 2 ^ (n - 1 - p) % 2 == 1) (half (mask_of test n) (test n))
-      ∙ mask-has test n p less
-  | inr last ↦
-      let same : p ≡ n = omega (arith, lt, last) in
-      let place : suc n - 1 - p ≡ 0 = omega (arith, same) in
-      ap (λ (k : ℕ). (2 * mask_of test n + one_if (test n)) / 2 ^ k % 2 == 1) place
-      ∙ last-digit (mask_of test n) (test n) ∙ ap test (sym same)
-]
-  where
-    half : (m : ℕ) (b : Bool) → (2 * m + one_if b) / 2 ≡ m
-    half m b = grind (arith, nat_tests)
-
-    last-digit : (m : ℕ) (b : Bool) → ((2 * m + one_if b) / 2 ^ 0 % 2 == 1) ≡ b
-    last-digit m b = grind (arith, nat_tests)
+mask-has test (suc n) zero lt = grind (arith, nat_tests, first-in, first-out, mask-below (λ p. test (suc p)) n)
+mask-has test (suc n) (suc p) lt = grind (arith, nat_tests, rest-in, rest-out, mask-has (λ p. test (suc p)) n p (omega (arith, lt)))
 
 -- ---- sets of members
 -- a set without one of its members
@@ -101,10 +84,7 @@ sum-cut f m (suc n) le none = elim (cases_eq m (suc n)) [
   | inl e ↦ ap (λ (k : ℕ). sum_by f (range_with_len 0 k)) (sym e)
   | inr other ↦
       let rest = sum-cut f m n (omega (arith, le, other)) (λ p from lt. none p from (omega (arith, lt))) in
-      let last = none n (omega (arith, le, other)) (omega arith) in
-      let more = sum_by-range-more f n in
-      let e = ap (λ (k : ℕ). sum_by f (range_with_len 0 k)) (let s : suc n ≡ n + 1 = omega arith in s) in
-      omega (arith, rest, last, more, e)
+      omega (arith, rest, none n (omega (arith, le, other)) (omega arith), one-more f n)
 ]
 
 module _ {n m : ℕ} {ranks : List ℕ} (is : IsSeating n m ranks) where
@@ -137,23 +117,21 @@ module _ {n m : ℕ} {ranks : List ℕ} (is : IsSeating n m ranks) where
         | inr other ↦ grind (arith, nat_tests, has-kept m (get_or ranks j 0) (get_or ranks i 0) c)
       ]
 
-  -- a sum over the members, by place
+  -- a sum over the members, by place, where those with no place add nothing
+  pub placed-sum : (u : ℕ → ℕ) → ((i : ℕ) → i < n → m ≤ get_or ranks i 0 → u i ≡ 0)
+      → sum_by u (range_with_len 0 n) ≡ sum_by (λ p. u (member_at ranks p)) (range_with_len 0 m)
+  placed-sum u none =
+      sum-range u (λ i. u (member_at ranks (get_or ranks i 0))) 0 n (λ i _ lt. ap u (sym (is.are.member_back i (omega (arith, lt)))))
+      ∙ sym (by-member n ranks is.are.count is.each (λ p. u (member_at ranks p)))
+      ∙ sum-cut (λ p. u (member_at ranks p)) m n is.few (λ p from lt.
+      none (member_at ranks p) (is.are.member_below p lt) (let back = is.are.place_back p lt in omega (arith, back, from)))
+
   pub seen-sum : (t : ℕ → Bool → ℕ) → ((i : ℕ) → t i false ≡ 0) → (c : ℕ)
       → sum_by (λ i. t i (seen m ranks c i)) (range_with_len 0 n) ≡ sum_by (λ p. t (member_at ranks p) (has m p c)) (range_with_len 0 m)
   seen-sum t none c =
-      let own : ℕ → ℕ = λ p. t (member_at ranks p) (seen m ranks c (member_at ranks p)) in
-      sum-range (λ i. t i (seen m ranks c i)) (λ i. own (get_or ranks i 0)) 0 n
-      (λ i _ lt. ap (λ (j : ℕ). t j (seen m ranks c j)) (sym (is.are.member_back i (omega (arith, lt)))))
-      ∙ sym (by-member n ranks is.are.count is.each own)
-      ∙ sum-cut own m n is.few (λ p from lt.
-      ap (λ (b : Bool). t (member_at ranks p) b) (unseen p from lt) ∙ none (member_at ranks p))
-      ∙ sum-range own (λ p. t (member_at ranks p) (has m p c)) 0 m
-      (λ p _ lt. ap (λ (b : Bool). t (member_at ranks p) b) (seen-at c p (omega (arith, lt))))
-    where
-      unseen : (p : ℕ) → m ≤ p → p < n → seen m ranks c (member_at ranks p) ≡ false
-      unseen p from lt =
-          let back = is.are.place_back p lt in
-          ap (λ (b : Bool). b && has m (get_or ranks (member_at ranks p) 0) c) (le-ltb _ m (omega (arith, from, back)))
+      placed-sum (λ i. t i (seen m ranks c i)) (λ i _ from. ap (λ (b : Bool). t i (b && has m (get_or ranks i 0) c)) (le-ltb _ m from) ∙ none i)
+      ∙ sum-range (λ p. t (member_at ranks p) (seen m ranks c (member_at ranks p))) (λ p. t (member_at ranks p) (has m p c)) 0 m
+      (λ p _ lt. ap (t (member_at ranks p)) (seen-at c p (omega (arith, lt))))
 
   pub seen-size : (c : ℕ) → sum_by (λ i. one_if (seen m ranks c i)) (range_with_len 0 n) ≡ size m c
   seen-size c = seen-sum (λ i b. one_if b) (λ i. refl) c ∙ sym (length-filter (λ p. has m p c) (range_with_len 0 m))

@@ -1,24 +1,25 @@
 -- The rules that share a member with one, and the others.
-use Rattle.std.proofs.Common.{◌≡◌, ◌∙◌, ◌&&◌, ◌||◌, not, ◌⊎◌, ℕ, zero, suc, ◌+◌, ◌<◌, ◌≤◌, Bool, true, false, cond, ltb, List, [], ◌∷◌}
+use Rattle.std.proofs.Common.{◌≡◌, ◌≢◌, ◌∙◌, ◌&&◌, ◌||◌, not, ◌⊎◌, ℕ, zero, suc, ◌+◌, ◌<◌, ◌≤◌, Bool, true, false, ltb, List, [], ◌∷◌}
 use Rattle.std.proofs.Common.{length, get_or, filter, take, sym, ap, refl, arith, inl, inr, All}
-use Rattle.std.proofs.lemmas.Bool.{cases_lt, ltb-true, both_ways}
+use Rattle.std.proofs.lemmas.Bool.{ltb-true, both_ways}
 use Rattle.std.proofs.lemmas.Bool.{true_from_ne_false}
 use Rattle.std.proofs.Math.Bool.{and-true}
+use Rattle.std.proofs.lemmas.List.{nil_from_length}
 use Rattle.std.proofs.lemmas.List.Filters.{length-filter_both}
 use Rattle.std.proofs.lemmas.List.Sums.{AllPass-from_list_all, list_all-from_AllPass}
-use Rattle.std.proofs.lemmas.List.Elements.{All-filter, All-from_get_or, All-take, filter_passes}
+use Rattle.std.proofs.lemmas.List.Elements.{All-filter, All-from_get_or, All-take}
 use Rattle.council_game.specs.Votes.{RuleView, rule_at}
 use Rattle.council_game.specs.Game.{GameView}
 use Rattle.std.proofs.lemmas.Bool.Decides.{nat_tests}
 use Rattle.mwc_sums.specs.Chambers.{met, share, chamber_of, HasNoWeight, AreChambersOf}
 use Rattle.mwc_sums.specs.Heads.{are_of_one_chamber}
-use Rattle.mwc_sums.specs.Statute.{is_counted}
+use Rattle.mwc_sums.specs.Statute.{counted, is_counted, left, statute}
 use Rattle.mwc_sums.specs.Inner.Fair.{IsFair}
-use Rattle.mwc_sums.specs.Inner.Rules.{AreOfChambers, AreRulesOf}
-use Rattle.mwc_sums.proofs.AlikeRules.{alike-sum}
+use Rattle.mwc_sums.specs.Inner.Rules.{AreOfChambers, AreRulesOf, beside_of, part_of}
+use Rattle.mwc_sums.proofs.Vetoing.{alike-sum}
 use Rattle.mwc_sums.proofs.VetoRules.{good-met, good-some}
 use Rattle.mwc_sums.proofs.Filters.{filter-both, filter-within}
-use Rattle.mwc_sums.proofs.Tests.{any-at, any-none, missing}
+use Rattle.mwc_sums.proofs.Tests.{All-passing, any-at, any-of, missing}
 
 -- ---- who has weight in two rules
 pub share-at : (n i : ℕ) (a b : RuleView) → i < n → 0 < get_or a.weights i 0 → 0 < get_or b.weights i 0 → share n a b ≡ true
@@ -27,11 +28,8 @@ share-at n i a b lt one other =
 
 share-member : (n : ℕ) (a b : RuleView) → share n a b ≡ true
     → (i : ℕ) × (i < n) × (0 < get_or a.weights i 0) × (0 < get_or b.weights i 0)
-share-member n a b they = elim (missing (λ i. ltb 0 (get_or a.weights i 0) && ltb 0 (get_or b.weights i 0)) (λ i. false) n) [
-  | inl found ↦ (found.0, found.1, grind (arith, nat_tests), grind (arith, nat_tests))
-  | inr none ↦ absurd (let out = any-none (λ i. ltb 0 (get_or a.weights i 0) && ltb 0 (get_or b.weights i 0)) n
-      (λ i lt. grind (arith, nat_tests)) in grind (arith, nat_tests))
-]
+share-member n a b they =
+    let (i, lt, both) = any-of (λ i. ltb 0 (get_or a.weights i 0) && ltb 0 (get_or b.weights i 0)) n they in (i, lt, grind (arith, nat_tests), grind (arith, nat_tests))
 
 share-turned : (n : ℕ) (a b : RuleView) → share n a b ≡ true → share n b a ≡ true
 share-turned n a b they = let found = share-member n a b they in share-at n found.0 b a found.1 found.3 found.2
@@ -57,20 +55,23 @@ met-parted : (n : ℕ) (p : RuleView → Bool) (rs : List RuleView) (f : ℕ →
 met-parted n p [] f = refl
 met-parted n p (r ∷ rs) f = grind (arith, nat_tests, met-parted n p rs f)
 
+pub both-few : (q : RuleView → Bool) (rs : List RuleView) → length (filter q rs) + length (filter (λ x. not (q x)) rs) ≡ length rs
+both-few q rs = length-filter_both q (λ x. not (q x)) (λ x. refl) rs
+
 -- at two places a test passes
-two-pass : {X : Type 0} (p : X → Bool) (xs : List X) (j k : ℕ) (d : X) → j < k → k < length xs → p (get_or xs j d) ≡ true
+two-pass : {X : Type 0} (p : X → Bool) (xs : List X) (j k : ℕ) (d : X) → j ≢ k → j < length xs → k < length xs → p (get_or xs j d) ≡ true
     → p (get_or xs k d) ≡ true → 2 ≤ length (filter p xs)
-two-pass p [] j k d less lt pj pk = absurd (omega (arith, lt))
-two-pass p (x ∷ xs) j zero d less lt pj pk = absurd (omega (arith, less))
-two-pass p (x ∷ xs) zero (suc k) d less lt pj pk = grind (arith, nat_tests, in-filter p xs k d (omega (arith, lt)) pk)
-two-pass p (x ∷ xs) (suc j) (suc k) d less lt pj pk = grind (arith, nat_tests, two-pass p xs j k d (omega (arith, less)) (omega (arith, lt)) pj pk)
+two-pass p [] j k d other lj lk pj pk = absurd (omega (arith, lj))
+two-pass p (x ∷ xs) zero zero d other lj lk pj pk = absurd (other refl)
+two-pass p (x ∷ xs) zero (suc k) d other lj lk pj pk = grind (arith, nat_tests, in-filter p xs k d (omega (arith, lk)) pk)
+two-pass p (x ∷ xs) (suc j) zero d other lj lk pj pk = grind (arith, nat_tests, in-filter p xs j d (omega (arith, lj)) pj)
+two-pass p (x ∷ xs) (suc j) (suc k) d other lj lk pj pk =
+    grind (arith, nat_tests, two-pass p xs j k d (λ e. other (ap suc e)) (omega (arith, lj)) (omega (arith, lk)) pj pk)
 
 -- what holds of each that passes
 all-passing : (P : RuleView → Type 0) (p : RuleView → Bool) (rs : List RuleView)
     → ((m : ℕ) → m < length rs → p (rule_at rs m) ≡ true → P (rule_at rs m)) → All P (filter p rs)
-all-passing P p rs each k d lt =
-    All-filter p (λ x. p x ≡ true → P x) rs (All-from_get_or (λ x. p x ≡ true → P x) rs (record { quota = 0; weights = [] }) each) k d lt
-    (filter_passes p rs k d lt)
+all-passing P p rs each = All-passing p P rs (All-from_get_or (λ x. p x ≡ true → P x) rs (record { quota = 0; weights = [] }) each)
 
 -- ---- the rules of a chamber
 pub one-few : (n : ℕ) (rs : List RuleView) → are_of_one_chamber n rs ≡ true → length rs ≤ 2
@@ -91,7 +92,8 @@ module _ (n : ℕ) (rs : List RuleView) (fair : All (IsFair n) rs) where
   self : (k : ℕ) → k < length rs → share n (rule k) (rule k) ≡ true
   self k lt = share-self n (rule k) (fair k none lt)
 
-  pub chamber-some : (k : ℕ) → k < length rs → 0 < length (chamber_of n rs (rule_at rs k))
+  pub chamber-some : (k : ℕ) → k < length rs → 0 < length (beside_of true n rs k)
+  unfolding beside_of
   chamber-some k lt = in-filter (share n (rule k)) rs k none lt (self k lt)
 
   -- a chamber has no third rule: what shares a member with one of two shares one with the other
@@ -102,40 +104,31 @@ module _ (n : ℕ) (rs : List RuleView) (fair : All (IsFair n) rs) where
       let turned = share-turned n (rule j) (rule k) they in
       let own-j = self j lj in
       let own-k = self k lk in
-      let apart : j ≡ k → ⊥ = λ e. both_ways _ not-so (ap (λ (i : ℕ). share n (rule i) (rule m)) e ∙ third) in
-      let two : 2 ≤ length (filter both rs) = elim (cases_lt j k) [
-        | inl less ↦ two-pass both rs j k none less lk (grind (arith, nat_tests)) (grind (arith, nat_tests))
-        | inr more ↦ two-pass both rs k j none (omega (arith, more, apart)) lj (grind (arith, nat_tests)) (grind (arith, nat_tests))
-      ] in
+      let apart : j ≢ k = λ e. both_ways _ not-so (ap (λ (i : ℕ). share n (rule i) (rule m)) e ∙ third) in
+      let two = two-pass both rs j k none apart lj lk (grind (arith, nat_tests)) (grind (arith, nat_tests)) in
       let lost = in-filter (λ x. share n (rule k) x && not (share n (rule j) x)) rs m none lm (grind (arith, nat_tests)) in
-      let parts = length-filter_both (share n (rule j)) (λ x. not (share n (rule j) x)) (λ x. refl) (filter (share n (rule k)) rs) in
-      let kept = ap (λ (l : List RuleView). length l) (filter-both (share n (rule k)) (share n (rule j)) rs) in
-      let gone = ap (λ (l : List RuleView). length l) (filter-both (share n (rule k)) (λ x. not (share n (rule j) x)) rs) in
-      omega (arith, parts, kept, gone, two, one-few n (chamber_of n rs (rule k)) of, lost)))
+      let parts = simp filter-both at (both-few (share n (rule j)) (filter (share n (rule k)) rs)) in
+      omega (arith, parts, two, one-few n (chamber_of n rs (rule k)) of, lost)))
 
   -- ---- what sums count
   counted-at : (r : RuleView) → is_counted n rs r ≡ true → (k : ℕ) → k < length rs → share n r (rule k) ≡ true
       → are_of_one_chamber n (chamber_of n rs (rule k)) ≡ true
   counted-at r is k lt they =
-      let h = AllPass-from_list_all (λ x. not (share n r x) || are_of_one_chamber n (chamber_of n rs x)) rs is k none lt in
-      grind (arith, nat_tests)
-
-  counted-from : (r : RuleView) → ((k : ℕ) → k < length rs → share n r (rule k) ≡ true → are_of_one_chamber n (chamber_of n rs (rule k)) ≡ true)
-      → is_counted n rs r ≡ true
-  counted-from r each =
-      let test : RuleView → Bool = λ x. not (share n r x) || are_of_one_chamber n (chamber_of n rs x) in
-      list_all-from_AllPass test rs (All-from_get_or (λ x. test x ≡ true) rs none (λ k lt. let own = each k lt in grind (arith, nat_tests)))
+      grind (arith, nat_tests, AllPass-from_list_all (λ x. not (share n r x) || are_of_one_chamber n (chamber_of n rs x)) rs is k none lt)
 
   pub own-chamber : (j : ℕ) → j < length rs → is_counted n rs (rule_at rs j) ≡ true → are_of_one_chamber n (chamber_of n rs (rule_at rs j)) ≡ true
   own-chamber j lt is = counted-at (rule j) is j lt (self j lt)
 
-  pub all-counted : length (filter (λ x. not (is_counted n rs x)) rs) ≡ 0 → AreOfChambers n rs
+  pub all-counted : length (part_of false n rs) ≡ 0 → AreOfChambers n rs
+  unfolding part_of
   all-counted left = All-from_get_or (λ r. are_of_one_chamber n (chamber_of n rs r) ≡ true) rs none (λ j lt.
       own-chamber j lt (let some = in-filter (λ x. not (is_counted n rs x)) rs j none lt in grind (arith, nat_tests, left)))
 
   pub counted-closed : IsClosed n rs (is_counted n rs)
-  counted-closed j m lj lm is they = counted-from (rule m) (λ k lk more. counted-at (rule j) is k lk
-      (no-third j m k lj lm lk they (counted-at (rule j) is m lm they) more))
+  counted-closed j m lj lm is they =
+      let test : RuleView → Bool = λ x. not (share n (rule m) x) || are_of_one_chamber n (chamber_of n rs x) in
+      list_all-from_AllPass test rs (All-from_get_or (λ x. test x ≡ true) rs none (λ k lk.
+      (let third = no-third j m k lj lm lk they (counted-at (rule j) is m lm they) in grind (arith, nat_tests, counted-at (rule j) is k lk))))
 
   pub chamber-closed : AreOfChambers n rs → (i : ℕ) → i < length rs → IsClosed n rs (share n (rule_at rs i))
   chamber-closed all i li j m lj lm is they = no-third i j m li lj lm is (all j none lj) they
@@ -176,24 +169,64 @@ module _ (n : ℕ) (rs : List RuleView) (fair : All (IsFair n) rs) where
       apart = λ i lt. rw (own, others) (parts-apart i (let long = are.members in omega (arith, lt, long)));
     }
 
--- those that pass are all
-pub all-of : (n : ℕ) (rs : List RuleView) (q : RuleView → Bool) (g a : GameView) → AreRulesOf g n rs → a.names ≡ g.names → a.rules ≡ filter q rs
-    → length (filter (λ x. not (q x)) rs) ≡ 0 → AreRulesOf g (length a.names) a.rules
-all-of n rs q g a are names own none = record {
-  members = ap (λ (l : List (List ℕ)). length l) names;
-  alike = λ f. are.alike f ∙ met-parted (length g.names) q rs f
-      ∙ (λ k. met (length g.names) (sym own k) f && met (length g.names) (nothing (filter (λ x. not (q x)) rs) none k) f)
-      ∙ and-true (met (length g.names) a.rules f);
-}
-  where
-    nothing : (l : List RuleView) → length l ≡ 0 → l ≡ []
-    nothing [] e = refl
-    nothing (r ∷ l) e = absurd (omega (arith, e))
+-- ---- the rules that share a member with one, and the others
+pub beside-few : (n : ℕ) (rs : List RuleView) (k : ℕ) → length (beside_of true n rs k) + length (beside_of false n rs k) ≡ length rs
+unfolding beside_of
+beside-few n rs k = both-few (share n (rule_at rs k)) rs
 
-pub kept-fair : (n k : ℕ) (p q : RuleView → Bool) (b : Bool) (rs : List RuleView) → All (IsFair n) rs
-    → All (IsFair n) (cond b (filter p (take k rs)) (filter q (take k rs)))
-kept-fair n k p q true rs fair = All-filter p (IsFair n) (take k rs) (All-take (IsFair n) k rs fair)
-kept-fair n k p q false rs fair = All-filter q (IsFair n) (take k rs) (All-take (IsFair n) k rs fair)
+pub beside-chamber : (n : ℕ) (rs : List RuleView) (k : ℕ) → AreOfChambers n rs → k < length rs → are_of_one_chamber n (beside_of true n rs k) ≡ true
+unfolding beside_of
+beside-chamber n rs k all lt = all k (record { quota = 0; weights = [] }) lt
 
-pub both-few : (q : RuleView → Bool) (rs : List RuleView) → length (filter q rs) + length (filter (λ x. not (q x)) rs) ≡ length rs
-both-few q rs = length-filter_both q (λ x. not (q x)) (λ x. refl) rs
+pub others-chambers : (n : ℕ) (rs : List RuleView) (k : ℕ) → All (IsFair n) rs → AreOfChambers n rs → k < length rs → AreOfChambers n (beside_of false n rs k)
+unfolding beside_of
+others-chambers n rs k fair all lt = chambers-within n rs fair (λ x. not (share n (rule_at rs k) x))
+    (others-closed n rs fair (share n (rule_at rs k)) (chamber-closed n rs fair all k lt)) (λ j lj _. all j (record { quota = 0; weights = [] }) lj)
+
+pub beside-parts : (n : ℕ) (rs : List RuleView) (k : ℕ) → All (IsFair n) rs → AreOfChambers n rs → k < length rs
+    → (g a b : GameView) → AreRulesOf g n rs → a.names ≡ g.names → b.names ≡ g.names → a.rules ≡ beside_of true n rs k → b.rules ≡ beside_of false n rs k
+    → AreChambersOf g a b
+unfolding beside_of
+beside-parts n rs k fair all lt = parts-are n rs fair (share n (rule_at rs k)) (chamber-closed n rs fair all k lt)
+
+-- those that share a member with it are all
+pub beside-all : (n : ℕ) (rs : List RuleView) (k : ℕ) (g a : GameView) → AreRulesOf g n rs → a.names ≡ g.names → a.rules ≡ beside_of true n rs k
+    → length (beside_of false n rs k) ≡ 0 → AreRulesOf g (length a.names) a.rules
+unfolding beside_of
+beside-all n rs k g a are names own none =
+    let q : RuleView → Bool = share n (rule_at rs k) in
+    record {
+      members = ap (λ (l : List (List ℕ)). length l) names;
+      alike = λ f. are.alike f ∙ met-parted (length g.names) q rs f
+          ∙ (λ i. met (length g.names) (sym own i) f && met (length g.names) (nil_from_length (filter (λ x. not (q x)) rs) none i) f)
+          ∙ and-true (met (length g.names) a.rules f);
+    }
+
+pub ruleset chambers = (beside-few, beside-chamber, others-chambers, chamber-some)
+
+pub kept-fair : (n k : ℕ) (p : RuleView → Bool) (rs : List RuleView) → All (IsFair n) rs → All (IsFair n) (filter p (take k rs))
+kept-fair n k p rs fair = All-filter p (IsFair n) (take k rs) (All-take (IsFair n) k rs fair)
+
+-- ---- the rules that sums count, and those that they leave
+pub counted-is : (g : GameView) → counted g ≡ part_of true (length g.names) (statute g)
+unfolding part_of
+counted-is g = refl
+
+pub left-is : (g : GameView) → left g ≡ part_of false (length g.names) (statute g)
+unfolding part_of
+left-is g = refl
+
+pub part-few : (n : ℕ) (rs : List RuleView) → length (part_of true n rs) + length (part_of false n rs) ≡ length rs
+unfolding part_of
+part-few n rs = both-few (is_counted n rs) rs
+
+pub counted-chambers : (n : ℕ) (rs : List RuleView) → All (IsFair n) rs → AreOfChambers n (part_of true n rs)
+unfolding part_of
+counted-chambers n rs fair = chambers-within n rs fair (is_counted n rs) (counted-closed n rs fair) (own-chamber n rs fair)
+
+pub counted-parts : (n : ℕ) (rs : List RuleView) → All (IsFair n) rs → (g a b : GameView) → AreRulesOf g n rs → a.names ≡ g.names → b.names ≡ g.names
+    → a.rules ≡ part_of true n rs → b.rules ≡ part_of false n rs → AreChambersOf g a b
+unfolding part_of
+counted-parts n rs fair = parts-are n rs fair (is_counted n rs) (counted-closed n rs fair)
+
+pub ruleset parted = (counted-is, left-is, part-few, counted-chambers, all-counted)

@@ -1,11 +1,12 @@
 -- Tests of the members of a game.
-use Rattle.std.proofs.Common.{◌≡◌, ◌∙◌, ◌&&◌, not, ◌⊎◌, ℕ, ◌<◌, Bool, true, false, ap, sym, arith, inl, inr}
+use Rattle.std.proofs.Common.{◌≡◌, ◌∙◌, ◌&&◌, not, ◌⊎◌, ℕ, ◌<◌, Bool, true, false, All, List, filter, ap, sym, arith, inl, inr}
 use Rattle.std.specs.List.{list_all, list_any, range_with_len}
 use Rattle.std.proofs.lemmas.Bool.{cases_Bool}
 use Rattle.std.proofs.lemmas.Bool.Decides.{nat_tests}
 use Rattle.std.proofs.lemmas.List.FromFn.{length-range_with_len}
-use Rattle.std.proofs.lemmas.List.Folds.{Any-from_list_any, list_all_at, list_any_at, list_any_none}
-use Rattle.std.proofs.lemmas.List.Sums.{AllPass-from_list_all, list_all-from_AllPass}
+use Rattle.std.proofs.lemmas.List.Folds.{Any-from_list_any, list_any_at}
+use Rattle.std.proofs.lemmas.List.Elements.{All-filter, filter_passes}
+use Rattle.std.proofs.lemmas.List.Sums.{AllPass-from_list_all}
 use Rattle.council_game.proofs.Shared.Rankings.{places-at}
 
 pub any-at : (t : ℕ → Bool) (n i : ℕ) → i < n → t i ≡ true → list_any t (range_with_len 0 n) ≡ true
@@ -13,16 +14,11 @@ any-at t n i lt passes =
     let long = length-range_with_len 0 n in
     list_any_at t (range_with_len 0 n) i 0 (omega (arith, long, lt)) (ap t (places-at n i 0 lt) ∙ passes)
 
-pub any-none : (t : ℕ → Bool) (n : ℕ) → ((i : ℕ) → i < n → t i ≡ false) → list_any t (range_with_len 0 n) ≡ false
-any-none t n none = grind (arith, list_any_none, length-range_with_len, places-at)
-
-pub all-lost : (t : ℕ → Bool) (n i : ℕ) → i < n → t i ≡ false → list_all t (range_with_len 0 n) ≡ false
-all-lost t n i lt fails =
+pub any-of : (t : ℕ → Bool) (n : ℕ) → list_any t (range_with_len 0 n) ≡ true → (i : ℕ) × (i < n) × (t i ≡ true)
+any-of t n some =
+    let (k, x, lt, at, passes) = Any-from_list_any t (range_with_len 0 n) some in
     let long = length-range_with_len 0 n in
-    list_all_at t (range_with_len 0 n) i 0 (omega (arith, long, lt)) (ap t (places-at n i 0 lt) ∙ fails)
-
-pub all-each : (t : ℕ → Bool) (n : ℕ) → ((i : ℕ) → i < n → t i ≡ true) → list_all t (range_with_len 0 n) ≡ true
-all-each t n each = grind (arith, list_all-from_AllPass, length-range_with_len, places-at)
+    let here : x ≡ k = sym at ∙ places-at n k x (omega (arith, lt, long)) in (x, omega (arith, here, lt, long), passes)
 
 pub all-at : (t : ℕ → Bool) (n i : ℕ) → i < n → list_all t (range_with_len 0 n) ≡ true → t i ≡ true
 all-at t n i lt all =
@@ -34,10 +30,10 @@ pub missing : (veto f : ℕ → Bool) (n : ℕ)
     → ((i : ℕ) × (i < n) × (veto i ≡ true) × (f i ≡ false)) ⊎ ((i : ℕ) → i < n → veto i ≡ true → f i ≡ true)
 missing veto f n =
     elim (cases_Bool (list_any (λ i. veto i && not (f i)) (range_with_len 0 n))) [
-      | inl some ↦
-          let (k, x, lt, at, passes) = Any-from_list_any (λ i. veto i && not (f i)) (range_with_len 0 n) some in
-          let long = length-range_with_len 0 n in
-          let here : x ≡ k = sym at ∙ places-at n k x (omega (arith, lt, long)) in
-          inl (x, omega (arith, here, lt, long), grind (arith, nat_tests), grind (arith, nat_tests))
+      | inl some ↦ let (i, lt, passes) = any-of (λ i. veto i && not (f i)) n some in inl (i, lt, grind (arith, nat_tests), grind (arith, nat_tests))
       | inr none ↦ inr (λ i lt vetoes. let some = any-at (λ i. veto i && not (f i)) n i lt in grind (arith, nat_tests))
     ]
+
+-- what holds of each that passes
+pub All-passing : {X : Type 0} (p : X → Bool) (P : X → Type 0) (xs : List X) → All (λ x. p x ≡ true → P x) xs → All P (filter p xs)
+All-passing p P xs each k d lt = All-filter p (λ x. p x ≡ true → P x) xs each k d lt (filter_passes p xs k d lt)

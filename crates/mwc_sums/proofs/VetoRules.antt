@@ -1,21 +1,25 @@
 -- The rules that a game consists of are rules that a game can have.
-use Rattle.std.proofs.Common.{◌≡◌, ◌∙◌, ℕ, ◌+◌, ◌<◌, ◌≤◌, Bool, true, false, cond, ltb, not, List, [], ◌∷◌, ◌++◌, length, get_or, map, filter, take}
-use Rattle.std.proofs.Common.{refl, sym, arith, All}
-use Rattle.std.specs.List.{sum, sum_by, range_with_len}
-use Rattle.std.proofs.lemmas.Bool.{cases_lt, ltb-true}
+use Rattle.std.proofs.Common.{◌≡◌, ℕ, ◌+◌, ◌<◌, ◌≤◌, Bool, true, false, ltb, not, List, [], ◌∷◌, ◌++◌, length, get_or, map, filter, take, refl, arith, All, ◌∙◌, ◌*◌, cond, leb}
+use Rattle.std.specs.List.{sum, range_with_len, sum_by}
+use Rattle.std.proofs.lemmas.Bool.{cases_lt, ltb-true, both_ways}
 use Rattle.std.proofs.lemmas.List.{get_or_past, length-map, take_more, map-append}
 use Rattle.std.proofs.lemmas.List.FromFn.{length-map-range_with_len}
-use Rattle.std.proofs.lemmas.List.Elements.{All-cons, All-filter, All-map, filter-append, filter_passes}
+use Rattle.std.proofs.lemmas.List.Elements.{All-cons, All-map, filter-append}
 use Rattle.std.proofs.lemmas.List.Filters.{length-filter_both}
-use Rattle.council_game.specs.Votes.{RuleView}
-use Rattle.council_game.specs.Game.{has_bad_quota}
-use Rattle.power_index.proofs.Shared.Sums.{sum-plus, sum-range}
+use Rattle.council_game.specs.Votes.{RuleView, rule_at}
+use Rattle.council_game.specs.Game.{has_bad_quota, GameView, IsGame}
 use Rattle.std.proofs.lemmas.Bool.Decides.{nat_tests}
 use Rattle.std.proofs.lemmas.Grind.{common_steps}
-use Rattle.mwc_sums.specs.Statute.{rules_beside}
-use Rattle.mwc_sums.specs.Vetoers.{number_of, rest_of, rule_for}
+use Rattle.mwc_sums.specs.Statute.{rules_beside, statute}
+use Rattle.mwc_sums.specs.Vetoers.{number_of, rest_of, rule_for, can_veto}
 use Rattle.mwc_sums.specs.Inner.Fair.{IsFair}
-use Rattle.mwc_sums.proofs.Vetoing.{row-sum, made-sum, made-at}
+use Rattle.mwc_sums.proofs.Tests.{All-passing}
+use Rattle.mwc_sums.proofs.Vetoing.{both-sums, row-sum, made-sum, made-at, vetoers-both}
+use Rattle.std.proofs.lemmas.List.Folds.{list_all_at}
+use Rattle.power_index.proofs.Shared.Sums.{sum-range, sum-zero}
+use Rattle.mwc_sums.specs.Chambers.{met, weighs}
+use Rattle.mwc_sums.specs.Inner.Rules.{AreRulesOf}
+use Rattle.mwc_sums.proofs.Remaking.{fair-all, fair-of}
 
 good : (r : RuleView) → 0 < r.quota → r.quota ≤ sum r.weights → has_bad_quota r ≡ false
 good r some met = grind (arith, nat_tests)
@@ -34,44 +38,19 @@ light-made h n k light = grind (arith, cases_lt, made-at, get_or_past, length-ma
 fair-vetoers : (n : ℕ) (veto : ℕ → Bool) → 0 < number_of n veto → IsFair n (rule_for n veto)
 fair-vetoers n veto some = grind (arith, length-map-range_with_len, good, made-sum, light-made, nat_tests)
 
--- the weights of those who agree and of the others are all weights
-both-sums : (n : ℕ) (veto : ℕ → Bool) (w : ℕ → ℕ)
-    → sum_by (λ i. cond (veto i) (w i) 0) (range_with_len 0 n) + sum_by (λ i. cond (veto i) 0 (w i)) (range_with_len 0 n)
-    ≡ sum_by w (range_with_len 0 n)
-both-sums n veto w =
-    sym (sum-plus (λ i. cond (veto i) (w i) 0) (λ i. cond (veto i) 0 (w i)) (range_with_len 0 n))
-    ∙ sum-range (λ i. cond (veto i) (w i) 0 + cond (veto i) 0 (w i)) w 0 n (λ i _ lt. either (veto i) (w i))
-  where
-    either : (b : Bool) (x : ℕ) → cond b x 0 + cond b 0 x ≡ x
-    either b x = grind (arith, nat_tests)
-
 fair-rest : (n : ℕ) (veto : ℕ → Bool) (r : RuleView) → IsFair n r → 0 < (rest_of n veto r).quota → IsFair n (rest_of n veto r)
-fair-rest n veto r fair some = record {
-  full = length-map-range_with_len (λ i. cond (veto i) 0 (get_or r.weights i 0)) 0 n;
-  quota = good (rest_of n veto r) some (
-      let met = good-met r fair.quota in
-      let all = row-sum r.weights n fair.full in
-      omega (arith, met, all, both-sums n veto (λ i. get_or r.weights i 0), made-sum (λ i. cond (veto i) 0 (get_or r.weights i 0)) n)
-      );
-  light = λ k. light-made (λ i. cond (veto i) 0 (get_or r.weights i 0)) n k (λ i lt. less (veto i) (get_or r.weights i 0) (fair.light i));
-}
-  where
-    less : (b : Bool) (x : ℕ) → x ≤ 1000000000000 → cond b 0 x ≤ 1000000000000
-    less b x le = grind (arith, nat_tests)
+fair-rest n veto r fair some =
+    let all = row-sum r.weights n fair.full in
+    let parts = both-sums veto (λ i. get_or r.weights i 0) n in
+    grind (arith, nat_tests, length-map-range_with_len, good, good-met, made-sum, light-made, fair.light)
 
--- each rule that is left is fair, if it asks for something
-fair-asking : (n : ℕ) (veto : ℕ → Bool) (rs : List RuleView) → All (IsFair n) rs
-    → All (λ r. ltb 0 r.quota ≡ true → IsFair n r) (rule_for n veto ∷ map (rest_of n veto) rs)
-fair-asking n veto rs fair =
-    All-cons (λ r. ltb 0 r.quota ≡ true → IsFair n r) (rule_for n veto) (map (rest_of n veto) rs)
+-- each rule that is left is fair, since it asks for something
+pub fair-beside : (n : ℕ) (veto : ℕ → Bool) (rs : List RuleView) → All (IsFair n) rs → All (IsFair n) (rules_beside n veto rs)
+fair-beside n veto rs fair = All-passing (λ r. ltb 0 r.quota) (IsFair n) (rule_for n veto ∷ map (rest_of n veto) rs)
+    (All-cons (λ r. ltb 0 r.quota ≡ true → IsFair n r) (rule_for n veto) (map (rest_of n veto) rs)
     (λ asks. fair-vetoers n veto (ltb-true 0 (number_of n veto) asks))
     (All-map (λ r. ltb 0 r.quota ≡ true → IsFair n r) (rest_of n veto) rs
-    (λ k d lt asks. fair-rest n veto (get_or rs k d) (fair k d lt) (ltb-true 0 _ asks)))
-
-pub fair-beside : (n : ℕ) (veto : ℕ → Bool) (rs : List RuleView) → All (IsFair n) rs → All (IsFair n) (rules_beside n veto rs)
-fair-beside n veto rs fair k d lt =
-    All-filter (λ r. ltb 0 r.quota) (λ r. ltb 0 r.quota ≡ true → IsFair n r) (rule_for n veto ∷ map (rest_of n veto) rs) (fair-asking n veto rs fair) k d lt
-    (filter_passes (λ r. ltb 0 r.quota) (rule_for n veto ∷ map (rest_of n veto) rs) k d lt)
+    (λ k d lt asks. fair-rest n veto (get_or rs k d) (fair k d lt) (ltb-true 0 _ asks))))
 
 -- at most one rule more
 pub few-beside : (n : ℕ) (veto : ℕ → Bool) (rs : List RuleView) → length (rules_beside n veto rs) ≤ length rs + 1
@@ -84,3 +63,36 @@ pub beside-more : (n : ℕ) (veto : ℕ → Bool) (rs : List RuleView) (k : ℕ)
     → rules_beside n veto (take (k + 1) rs)
     ≡ rules_beside n veto (take k rs) ++ filter (λ r. ltb 0 r.quota) (rest_of n veto (get_or rs k d) ∷ [])
 beside-more n veto rs k d lt = grind (arith, nat_tests, common_steps, take_more, map-append, filter-append)
+
+pub ruleset one_more = (beside-more)
+
+-- ---- the rules that a game consists of
+-- nobody weighs nothing
+nobody : (w : ℕ → ℕ) (n : ℕ) → sum_by (λ i. cond false 1 0 * w i) (range_with_len 0 n) ≡ 0
+nobody w n = sum-range (λ i. cond false 1 0 * w i) (λ i. 0) 0 n (λ i _ _. omega arith) ∙ sum-zero (range_with_len 0 n)
+
+module _ (g : GameView) (is : IsGame g) where
+  pub statute-are : AreRulesOf g (length g.names) (statute g)
+  statute-are = record { members = refl; alike = λ f. vetoers-both (length g.names) g.rules f is.full }
+
+  pub statute-fair : All (IsFair (length g.names)) (statute g)
+  statute-fair = fair-beside (length g.names) (can_veto g.rules) g.rules (fair-all g is)
+
+  pub statute-few : length (statute g) ≤ 5
+  statute-few = let few = few-beside (length g.names) (can_veto g.rules) g.rules in let rules = is.few_rules in omega (arith, few, rules)
+
+  -- the empty coalition loses
+  lost : met (length g.names) g.rules (λ i. false) ≡ false
+  lost =
+      list_all_at (λ r. leb r.quota (weighs (length g.names) r (λ i. false))) g.rules 0 (record { quota = 0; weights = [] }) is.has_rule
+      (let some = good-some (rule_at g.rules 0) (fair-of g 0 is is.has_rule).quota in
+      grind (arith, nat_tests, nobody (λ i. get_or (rule_at g.rules 0).weights i 0) (length g.names)))
+
+  pub statute-some : 0 < length (statute g)
+  statute-some = by_rules (statute g) (statute-are.alike (λ i. false))
+    where
+      by_rules : (rs : List RuleView) → met (length g.names) g.rules (λ i. false) ≡ met (length g.names) rs (λ i. false) → 0 < length rs
+      by_rules [] same = absurd (both_ways _ lost same)
+      by_rules (r ∷ rs) same = omega arith
+
+pub ruleset statutes = (statute-are, statute-fair, statute-few, statute-some)

@@ -1,9 +1,10 @@
 -- Where all members that can veto agree, the rules ask the others for what is left.
-use Rattle.std.proofs.Common.{◌≡◌, ◌∙◌, ◌&&◌, ℕ, zero, suc, ◌+◌, ◌*◌, ◌<◌, ◌≤◌, Bool, true, false, cond, leb, ltb}
-use Rattle.std.proofs.Common.{List, [], ◌∷◌, length, get_or, map, filter, sym, ap, refl, arith, inl, inr, All}
-use Rattle.std.specs.List.{sum, sum_by, range_with_len}
-use Rattle.std.proofs.lemmas.Bool.{cases_lt, le-leb}
-use Rattle.std.proofs.lemmas.List.FromFn.{fill_by_all, get_or-map-range_with_len}
+use Rattle.std.proofs.Common.{◌≡◌, ◌∙◌, ℕ, suc, ◌+◌, ◌-◌, ◌*◌, ◌<◌, ◌≤◌, Bool, true, false, cond, leb, ltb, List, [], ◌∷◌, length, get_or, map, filter, sym, ap, refl, arith, inl, inr, All}
+use Rattle.std.specs.List.{fold, sum, sum_by, range_with_len}
+use Rattle.std.proofs.lemmas.List.Sums.{get_or-le-sum_by, sum_by-cons}
+use Rattle.std.proofs.lemmas.Bool.{le-leb}
+use Rattle.std.proofs.lemmas.List.FromFn.{fill_by_all, get_or-map-range_with_len, length-range_with_len}
+use Rattle.council_game.proofs.Shared.Rankings.{places-at}
 use Rattle.std.proofs.lemmas.List.Folds.{fold-map}
 use Rattle.std.proofs.lemmas.List.Elements.{All-head, All-tail}
 use Rattle.coalitions.proofs.Shared.Ranges.{sum_by-range-more}
@@ -21,39 +22,56 @@ row-sum ws n long =
     ap (sum_by (λ (y : ℕ). y)) (fill_by_all (λ i. get_or ws i 0) ws n 0 long (λ k lt. refl))
     ∙ fold-map (λ (a : ℕ) (p : ℕ). a + p) (λ i. get_or ws i 0) 0 (range_with_len 0 n)
 
+-- where all weigh the same
+pub alike-sum : (ws : List ℕ) (e : ℕ) → ((p : ℕ) → p < length ws → get_or ws p 0 ≡ e) → sum ws ≡ length ws * e
+alike-sum [] e same = omega arith
+alike-sum (w ∷ ws) e same =
+    grind (arith, sum_by-cons (λ (y : ℕ). y) w ws, alike-sum ws e (λ p lt. same (suc p) (omega arith)), same 0 (omega arith))
+
 pub made-sum : (h : ℕ → ℕ) (n : ℕ) → sum (map h (range_with_len 0 n)) ≡ sum_by h (range_with_len 0 n)
 made-sum h n = fold-map (λ (a : ℕ) (p : ℕ). a + p) h 0 (range_with_len 0 n)
 
 pub made-at : (h : ℕ → ℕ) (n i : ℕ) → i < n → get_or (map h (range_with_len 0 n)) i 0 ≡ h i
 made-at h n i lt = get_or-map-range_with_len h 0 n i i 0 lt (omega arith)
 
+-- a number less each of a list
+pub less-all : (f : ℕ → ℕ) (q : ℕ) (xs : List ℕ) → fold (λ a x. a - f x) q xs ≡ q - sum_by f xs
+less-all f q [] = omega arith
+less-all f q (x ∷ xs) = grind (arith, sum_by-cons f x xs, less-all f (q - f x) xs)
+
 -- ---- the members that pass a test, without one who does not
 pub one-more : (f : ℕ → ℕ) (n : ℕ) → sum_by f (range_with_len 0 (suc n)) ≡ sum_by f (range_with_len 0 n) + f n
 one-more f n = let e : suc n ≡ n + 1 = omega arith in ap (λ (k : ℕ). sum_by f (range_with_len 0 k)) e ∙ sum_by-range-more f n
 
-others-le : (f : ℕ → Bool) (w : ℕ → ℕ) (n : ℕ) → sum_by (λ i. cond (f i) 1 0 * w i) (range_with_len 0 n) ≤ sum_by w (range_with_len 0 n)
-others-le f w zero = omega arith
-others-le f w (suc n) = grind (arith, nat_tests, one-more (λ i. cond (f i) 1 0 * w i) n, one-more w n, others-le f w n)
+-- those who pass and the others weigh together what all do
+pub both-sums : (f : ℕ → Bool) (w : ℕ → ℕ) (n : ℕ)
+    → sum_by (λ i. cond (f i) (w i) 0) (range_with_len 0 n) + sum_by (λ i. cond (f i) 0 (w i)) (range_with_len 0 n) ≡ sum_by w (range_with_len 0 n)
+both-sums f w n =
+    sym (sum-plus (λ i. cond (f i) (w i) 0) (λ i. cond (f i) 0 (w i)) (range_with_len 0 n))
+    ∙ (λ k. sum_by (λ i. either (f i) (w i) k) (range_with_len 0 n))
+  where
+    either : (b : Bool) (x : ℕ) → cond b x 0 + cond b 0 x ≡ x
+    either b x = grind (arith, nat_tests)
 
 pub beside : (f : ℕ → Bool) (w : ℕ → ℕ) (n i : ℕ) → i < n → f i ≡ false
     → sum_by (λ j. cond (f j) 1 0 * w j) (range_with_len 0 n) + w i ≤ sum_by w (range_with_len 0 n)
-beside f w zero i lt out = absurd (omega arith)
-beside f w (suc n) i lt out = elim (cases_lt i n) [
-  | inl less ↦ grind (arith, nat_tests, one-more (λ j. cond (f j) 1 0 * w j) n, one-more w n, beside f w n i less out)
-  | inr last ↦
-      let here : i ≡ n = omega (arith, lt, last) in
-      grind (arith, nat_tests, one-more (λ j. cond (f j) 1 0 * w j) n, one-more w n, others-le f w n, ap f here, ap w here)
-]
+beside f w n i lt out =
+    let other : ℕ → ℕ = λ j. cond (f j) 0 (w j) in
+    let some = get_or-le-sum_by other (range_with_len 0 n) i 0 (let long = length-range_with_len 0 n in omega (arith, lt, long)) in
+    let here : other (get_or (range_with_len 0 n) i 0) ≡ w i = ap other (places-at n i 0 lt) ∙ ap (λ (b : Bool). cond b 0 (w i)) out in
+    let same : sum_by (λ j. cond (f j) 1 0 * w j) (range_with_len 0 n) ≡ sum_by (λ j. cond (f j) (w j) 0) (range_with_len 0 n) =
+    λ k. sum_by (λ j. once (f j) (w j) k) (range_with_len 0 n) in
+    omega (arith, both-sums f w n, some, here, same)
+  where
+    once : (b : Bool) (x : ℕ) → cond b 1 0 * x ≡ cond b x 0
+    once b x = grind (arith, nat_tests)
 
 module _ (n : ℕ) (veto f : ℕ → Bool) where
   -- ---- the rule that asks for each
-  rule-at : (i : ℕ) → i < n → cond (f i) 1 0 * get_or (rule_for n veto).weights i 0 ≡ cond (f i) 1 0 * cond (veto i) 1 0
-  rule-at i lt = ap (λ (w : ℕ). cond (f i) 1 0 * w) (made-at (λ j. cond (veto j) 1 0) n i lt)
-
   rule-weighs : weighs n (rule_for n veto) f ≡ sum_by (λ i. cond (f i) 1 0 * cond (veto i) 1 0) (range_with_len 0 n)
   rule-weighs =
       sum-range (λ i. cond (f i) 1 0 * get_or (rule_for n veto).weights i 0) (λ i. cond (f i) 1 0 * cond (veto i) 1 0) 0 n
-      (λ i _ lt. rule-at i (omega (arith, lt)))
+      (λ i _ lt. ap (λ (w : ℕ). cond (f i) 1 0 * w) (made-at (λ j. cond (veto j) 1 0) n i (omega (arith, lt))))
 
   rule-lost : (i : ℕ) → i < n → veto i ≡ true → f i ≡ false → leb (number_of n veto) (weighs n (rule_for n veto) f) ≡ false
   rule-lost i lt vetoes out =
@@ -72,11 +90,10 @@ module _ (n : ℕ) (veto f : ℕ → Bool) where
       both b d h = grind (arith, nat_tests)
 
   -- ---- what is left of a rule
-  agreed : RuleView → ℕ
+  abbrev agreed : RuleView → ℕ
   agreed r = sum_by (λ i. cond (veto i) (get_or r.weights i 0) 0) (range_with_len 0 n)
 
   rest-weighs : ((i : ℕ) → i < n → veto i ≡ true → f i ≡ true) → (r : RuleView) → weighs n r f ≡ agreed r + weighs n (rest_of n veto r) f
-  unfolding agreed
   rest-weighs all r =
       sum-range (λ i. cond (f i) 1 0 * get_or r.weights i 0)
       (λ i. cond (veto i) (get_or r.weights i 0) 0 + cond (f i) 1 0 * get_or (rest_of n veto r).weights i 0) 0 n
@@ -88,7 +105,6 @@ module _ (n : ℕ) (veto f : ℕ → Bool) where
       split b d w v h is = grind (arith, nat_tests)
 
   rests-met : ((i : ℕ) → i < n → veto i ≡ true → f i ≡ true) → (rs : List RuleView) → met n rs f ≡ met n (map (rest_of n veto) rs) f
-  unfolding agreed
   rests-met all [] = refl
   rests-met all (r ∷ rs) = grind (arith, nat_tests, rest-weighs all r, rests-met all rs)
 
@@ -113,11 +129,7 @@ pub vetoers-both : (n : ℕ) (rs : List RuleView) (f : ℕ → Bool) → All (λ
     → met n rs f ≡ met n (rules_beside n (can_veto rs) rs) f
 vetoers-both n rs f full =
     (elim (missing (can_veto rs) f n) [
-      | inl found ↦
-          vetoed-lost n rs f found.0 full found.1 found.2 found.3
-          ∙ sym (ap (λ (b : Bool). b && met n (map (rest_of n (can_veto rs)) rs) f) (rule-lost n (can_veto rs) f found.0 found.1 found.2 found.3))
-      | inr all ↦
-          rests-met n (can_veto rs) f all rs
-          ∙ sym (ap (λ (b : Bool). b && met n (map (rest_of n (can_veto rs)) rs) f) (rule-met n (can_veto rs) f all))
+      | inl (i, lt, vetoes, out) ↦ grind (arith, nat_tests, vetoed-lost n rs f i full lt vetoes out, rule-lost n (can_veto rs) f i lt vetoes out)
+      | inr all ↦ grind (arith, nat_tests, rests-met n (can_veto rs) f all rs, rule-met n (can_veto rs) f all)
     ])
     ∙ asking-met n (rule_for n (can_veto rs) ∷ map (rest_of n (can_veto rs)) rs) f

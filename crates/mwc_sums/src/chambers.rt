@@ -3,10 +3,10 @@ ghost use Rattle.coalitions.specs.declared.limits.TheConstants.{RULES};
 ghost use Rattle.council_game.specs.Game.{votes_of};
 ghost use Rattle.council_game.specs.Votes.{minimal_coalitions, rule_at};
 ghost use Rattle.mwc_sums.specs.Chambers.{chamber_of};
-ghost use Rattle.mwc_sums.specs.Inner.Rules.{AreOfChambers, AreRulesOf};
+ghost use Rattle.mwc_sums.specs.Inner.Rules.{AreOfChambers, AreRulesOf, beside_of};
 ghost use Rattle.mwc_sums.specs.Statute.{is_counted};
 ghost use Rattle.power_index.specs.Tables.{AreCounts};
-ghost use Rattle.std.specs.Prelude.{◌≡◌, ◌+◌, ◌<◌, ◌≤◌, IfOk, length};
+ghost use Rattle.std.specs.Prelude.{◌≡◌, ◌+◌, ◌<◌, ◌≤◌, true, IfOk, length};
 
 use crate::counted::{Counted, boxed_joined};
 use crate::seats::count_seated;
@@ -17,6 +17,7 @@ use std::alloc::Global;
 
 impl Statute {
     /// Whether the rules that share a member with one are each of one chamber.
+    #[tactic(auto, unfolding(crate::specs::Inner::Rules::beside_of))]
     pub(crate) fn is_counted(&self, alloc: Global, rule: usize) -> Result<bool, Memory>
         requires { rule < length self.now.rules }
         ensures { IfOk result (λ is. is
@@ -31,13 +32,13 @@ impl Statute {
     }
 
     /// The game of the rules of the first rule's chamber, counted.
+    #[tactic(auto, using(crate::proofs::Sharing::chambers))]
     fn first_chamber(&self, alloc: Global, game: &Game) -> Result<Counted, Memory>
         requires some { 0 < length self.now.rules }
         requires chambers { AreOfChambers self.now.members self.now.rules }
         requires members { self.now.members ≡ length game.now.names }
         ensures names { IfOk result (λ c. c.game.names ≡ game.now.names) }
-        ensures rules { IfOk result (λ c. c.game.rules
-            ≡ chamber_of self.now.members self.now.rules (rule_at self.now.rules 0)) }
+        ensures rules { IfOk result (λ c. c.game.rules ≡ beside_of true self.now.members self.now.rules 0) }
     {
         game.was_checked();
         self.rules_are_fair();
@@ -49,6 +50,7 @@ impl Statute {
     }
 
     /// The counts of a game by these rules, of chambers: those of the first rule's chamber and of the others, paired.
+    #[tactic(auto, using(crate::proofs::Sharing::chambers))]
     pub(crate) fn count(&self, alloc: Global, game: &Game) -> Result<Box<Counts>, Memory>
         requires some { 0 < length self.now.rules }
         requires few { length self.now.rules ≤ RULES + 1 }

@@ -11,12 +11,14 @@ use power_index::Counts;
 use std::alloc::Global;
 
 /// As `count_by_sums`, on the heap.
+#[tactic(auto, using(crate::proofs::Sharing::parted))]
 fn boxed_by_sums(alloc: Global, game: &Game) -> Result<Option<Box<Counts>>, Memory>
     ensures counts { IfOk result (λ counts. IfSome counts
         (λ c. AreCounts game.now (minimal_coalitions (votes_of game.now)) c.value)) }
     ensures kind { IfOk result (λ counts. IsSome counts ↔ IsCountedBySums game.now) }
 {
     let statute = Statute::of(alloc, game)?;
+    statute.rules_are_fair();
     if statute.part(alloc, false)?.rules() > 0 {
         return Ok(None);
     }

@@ -5,7 +5,7 @@ ghost use Rattle.council_game.specs.Rules.{rule_view};
 ghost use Rattle.council_game.specs.Votes.{rule_at};
 ghost use Rattle.mwc_sums.specs.Chambers.{chamber_of, share};
 ghost use Rattle.mwc_sums.specs.Inner.Fair.{IsFair};
-ghost use Rattle.mwc_sums.specs.Inner.Rules.{AreRulesOf, others_of};
+ghost use Rattle.mwc_sums.specs.Inner.Rules.{AreRulesOf, beside_of, part_of};
 ghost use Rattle.mwc_sums.specs.Statute.{is_counted, statute};
 ghost use Rattle.std.specs.Prelude.{◌≡◌, ◌+◌, ◌<◌, ◌≤◌, All, filter, not, if◌then◌else◌, IfOk, length, slice_index};
 
@@ -37,12 +37,12 @@ impl Model for Statute {
 
 impl Statute {
     /// What a game consists of.
+    #[tactic(auto, using(crate::proofs::VetoRules::statutes))]
     pub(crate) fn of(alloc: Global, game: &Game) -> Result<Statute, Memory>
         ensures members { IfOk result (λ s. s.members ≡ length game.now.names) }
         ensures rules { IfOk result (λ s. s.rules ≡ statute game.now) }
         ensures some { IfOk result (λ s. 0 < length s.rules) }
         ensures few { IfOk result (λ s. length s.rules ≤ RULES + 1) }
-        ensures fair { IfOk result (λ s. All (IsFair s.members) s.rules) }
         ensures game { IfOk result (λ s. AreRulesOf game.now s.members s.rules) }
     {
         let members = game.members();
@@ -100,15 +100,12 @@ impl Statute {
         ensures { result ≡ share self.now.members
             (rule_at self.now.rules first) (rule_at self.now.rules second) }
     {
-        for member in 0..self.members() {
-            if self.weight(first, member) > 0 && self.weight(second, member) > 0 {
-                return true;
-            }
-        }
-        false
+        (0..self.members()).any(|member| self.weight(first, member) > 0
+            && self.weight(second, member) > 0)
     }
 
     /// The rules that share a member with one of them, or the others.
+    #[tactic(auto, unfolding(crate::specs::Inner::Rules::beside_of))]
     pub(crate) fn beside(
         &self,
         alloc: Global,
@@ -117,9 +114,7 @@ impl Statute {
     ) -> Result<Statute, Memory>
         requires { rule < length self.now.rules }
         ensures members { IfOk result (λ s. s.members ≡ self.now.members) }
-        ensures rules { IfOk result (λ s. s.rules ≡ (if sharing
-            then chamber_of self.now.members self.now.rules (rule_at self.now.rules rule)
-            else others_of self.now.members self.now.rules (rule_at self.now.rules rule))) }
+        ensures rules { IfOk result (λ s. s.rules ≡ beside_of sharing self.now.members self.now.rules rule) }
     {
         let members = self.members();
         let mut rules = Vec::with_capacity(alloc, self.rules())?;
@@ -132,11 +127,10 @@ impl Statute {
     }
 
     /// Those that sums count, or those that they leave.
+    #[tactic(auto, unfolding(crate::specs::Inner::Rules::part_of))]
     pub(crate) fn part(&self, alloc: Global, counted: bool) -> Result<Statute, Memory>
         ensures members { IfOk result (λ s. s.members ≡ self.now.members) }
-        ensures rules { IfOk result (λ s. s.rules ≡ (if counted
-            then filter (is_counted self.now.members self.now.rules) self.now.rules
-            else filter (λ r. not (is_counted self.now.members self.now.rules r)) self.now.rules)) }
+        ensures rules { IfOk result (λ s. s.rules ≡ part_of counted self.now.members self.now.rules) }
     {
         let members = self.members();
         let mut rules = Vec::with_capacity(alloc, self.rules())?;

@@ -1,10 +1,10 @@
 //! Games in which some members can veto: where these agree, the rules ask the others for what is left.
-ghost use Rattle.coalitions.specs.declared.limits.TheConstants.{WEIGHT};
 ghost use Rattle.council_game.specs.Rules.{rule_view, rule_views};
 ghost use Rattle.council_game.specs.Votes.{rule_at};
 ghost use Rattle.mwc_sums.specs.Statute.{statute};
 ghost use Rattle.mwc_sums.specs.Vetoers.{can_veto, rest_of, rule_for};
-ghost use Rattle.std.specs.Prelude.{◌≡◌, ◌<◌, ◌≤◌, ◌∷◌, ◌++◌, [], if◌then◌else◌, nat_lt, filter, IfOk, length, slice_index};
+ghost use Rattle.std.specs.List.{range_with_len};
+ghost use Rattle.std.specs.Prelude.{count_by, fold, ◌-◌, ◌≡◌, ◌<◌, ◌∷◌, ◌++◌, [], if◌then◌else◌, nat_lt, filter, IfOk, length, slice_index};
 
 use council_game::{Game, Memory, Rule};
 use std::alloc::Global;
@@ -28,8 +28,7 @@ fn can_veto(game: &Game, member: usize) -> bool
 /// 1 for a member that can veto, else 0.
 fn vote_of(game: &Game, member: usize) -> u64
     requires { member < length game.now.names }
-    ensures vote { result ≡ (if can_veto game.now.rules member then 1 else 0) }
-    ensures one { result ≤ 1 }
+    ensures { result ≡ (if can_veto game.now.rules member then 1 else 0) }
 {
     if can_veto(game, member) { 1 } else { 0 }
 }
@@ -38,9 +37,8 @@ fn vote_of(game: &Game, member: usize) -> u64
 fn agreed_weight(game: &Game, rule: usize, member: usize) -> u64
     requires rule { rule < length game.now.rules }
     requires member { member < length game.now.names }
-    ensures weight { result ≡ (if can_veto game.now.rules member
+    ensures { result ≡ (if can_veto game.now.rules member
         then slice_index (rule_at game.now.rules rule).weights member else 0) }
-    ensures light { result ≤ WEIGHT }
 {
     if can_veto(game, member) {
         game.rule_weight(rule, member)
@@ -63,38 +61,69 @@ fn other_weight(game: &Game, rule: usize, member: usize) -> u64
     }
 }
 
+/// 1 for each member that can veto, and 0 for each other.
+fn votes(alloc: Global, game: &Game) -> Result<Vec<u64>, Memory>
+    ensures { IfOk result (λ v. v.items ≡ (rule_for (length game.now.names) (can_veto game.now.rules)).weights) }
+{
+    Ok(
+        (0..game.members())
+            .map(|member| vote_of(game, member))
+            .collect(alloc)?,
+    )
+}
+
+/// How many members can veto.
+fn number_of_vetoers(game: &Game) -> usize
+    ensures { result ≡ count_by (can_veto game.now.rules) (range_with_len 0 (length game.now.names)) }
+{
+    (0..game.members())
+        .filter(|member| can_veto(game, *member))
+        .count()
+}
+
 /// The rule that asks for each member that can veto.
 fn rule_for_vetoers(alloc: Global, game: &Game) -> Result<Rule, Memory>
     ensures { IfOk result (λ r. rule_view r ≡ rule_for (length game.now.names) (can_veto game.now.rules)) }
 {
-    let members = game.members();
-    let mut weights = Vec::with_capacity(alloc, members)?;
-    let mut quota = 0;
-    for member in 0..members {
-        let vote = vote_of(game, member);
-        quota += vote;
-        weights.push(vote)?;
-    }
+    let weights = votes(alloc, game)?;
+    let quota = number_of_vetoers(game) as u64;
     Ok(Rule { quota, weights })
 }
 
-/// What a rule asks of the others where all that can veto agree.
+/// The weight of each member that can not veto, and 0 for each other.
+fn other_weights(alloc: Global, game: &Game, rule: usize) -> Result<Vec<u64>, Memory>
+    requires { rule < length game.now.rules }
+    ensures { IfOk result (λ v. v.items
+        ≡ (rest_of (length game.now.names) (can_veto game.now.rules) (rule_at game.now.rules rule)).weights) }
+{
+    Ok(
+        (0..game.members())
+            .map(|member| other_weight(game, rule, member))
+            .collect(alloc)?,
+    )
+}
+
+/// What a rule asks of the others, where all that can veto agree.
+fn rest_of_quota(game: &Game, rule: usize) -> u64
+    requires { rule < length game.now.rules }
+    ensures { result ≡ fold (λ rest i. rest - (if can_veto game.now.rules i
+        then slice_index (rule_at game.now.rules rule).weights i else 0))
+        (rule_at game.now.rules rule).quota (range_with_len 0 (length game.now.names)) }
+{
+    (0..game.members()).fold(game.rule_quota(rule), |rest, member| {
+        rest.saturating_sub(agreed_weight(game, rule, member))
+    })
+}
+
+/// What is left of a rule where all that can veto agree.
 fn rest_of_rule(alloc: Global, game: &Game, rule: usize) -> Result<Rule, Memory>
     requires { rule < length game.now.rules }
     ensures { IfOk result (λ r. rule_view r
         ≡ rest_of (length game.now.names) (can_veto game.now.rules) (rule_at game.now.rules rule)) }
 {
-    let members = game.members();
-    let mut weights = Vec::with_capacity(alloc, members)?;
-    let mut agreed = 0;
-    for member in 0..members {
-        agreed += agreed_weight(game, rule, member);
-        weights.push(other_weight(game, rule, member))?;
-    }
-    Ok(Rule {
-        quota: game.rule_quota(rule).saturating_sub(agreed),
-        weights,
-    })
+    let weights = other_weights(alloc, game, rule)?;
+    let quota = rest_of_quota(game, rule);
+    Ok(Rule { quota, weights })
 }
 
 /// Some rules, and one more where it asks for something.
@@ -111,6 +140,7 @@ fn with_rule(rules: Vec<Rule>, rule: Rule) -> Result<Vec<Rule>, Memory>
 
 /// The rule that asks for all that can veto, and what the rules ask of the others where these agree; those that ask for
 /// nothing are left out.
+#[tactic(auto, using(crate::proofs::VetoRules::one_more))]
 pub(crate) fn rules_beside_vetoers(alloc: Global, game: &Game) -> Result<Vec<Rule>, Memory>
     ensures { IfOk result (λ rules. rule_views rules.items ≡ statute game.now) }
 {

@@ -1,5 +1,5 @@
 -- What members lead to, by size: fewer than are asked for, as many, more; by their sets; and without a member.
-use Rattle.std.proofs.Common.{◌≡◌, ℕ, zero, suc, ◌+◌, ◌-◌, ◌<◌, ◌≤◌, Bool, true, false, cond, leb}
+use Rattle.std.proofs.Common.{◌≡◌, ℕ, zero, suc, ◌+◌, ◌-◌, ◌<◌, ◌≤◌, true, false, cond, leb}
 use Rattle.std.proofs.Common.{List, [], ◌∷◌, length, ap, refl, arith}
 use Rattle.std.proofs.lemmas.Bool.{cases_lt}
 use Rattle.std.proofs.lemmas.Bool.Decides.{nat_tests}
@@ -19,11 +19,6 @@ chosen-more m a s =
     let k : s - a - 1 ≡ s - (a + 1) = omega arith in
     grind (arith, nat_tests, choose-none m, choose-none (suc m), choose-more m (s - a), ap (choose m) k, ap (λ (n : ℕ). choose n (s - a)) e)
 
--- with no need left
-free-more : (short : Bool) (k s w : ℕ) (ws : List ℕ) → over short (w ∷ ws) (fits 0 k s)
-    ≡ cond short (one_of_size s (k + 1)) 0 + (over short ws (fits 0 k s) + over short ws (fits 0 (k + 1) s))
-free-more short k s w ws = grind (arith, fits-more)
-
 nobody-chosen : (k : ℕ) → choose 0 k ≡ one_of_size 0 k
 unfolding choose
 nobody-chosen zero = refl
@@ -33,30 +28,24 @@ nobody-chosen (suc k) = grind (arith, nat_tests)
 sets-free : (ws : List ℕ) (s a : ℕ) → over false ws (fits 0 a s) ≡ chosen_from (length ws) a s
 unfolding over chosen_from
 sets-free [] s a = grind (arith, nat_tests, nobody-chosen (s - a))
-sets-free (w ∷ ws) s a = grind (arith, sets-free ws s (a + 1), sets-free ws s a, free-more, chosen-more)
+sets-free (w ∷ ws) s a = grind (arith, sets-free ws s (a + 1), sets-free ws s a, fits-more, chosen-more)
 
 -- ---- endings by size: fewer than are asked for, as many, more
 fill-heads : (h left size : ℕ) → fill h h left size ≡ chosen_from left size h
 unfolding chosen_from
 fill-heads h left size = grind (arith, nat_tests)
 
-fill-few : (h s left size : ℕ) → s < h → fill h s left size ≡ 0
-fill-few h s left size less = grind (arith, nat_tests)
-
-fill-more : (h s left size : ℕ) → h < s → fill h s left size ≡ one_of_size s size
-fill-more h s left size more = grind (arith, nat_tests)
-
 endings-few : (ws : List ℕ) (h s r a : ℕ) → s < h → endings ws h s r a ≡ 0
 unfolding endings
 endings-few [] h s r a less = refl
-endings-few (w ∷ ws) h s r a less = grind (arith, endings-few ws h s (r - w) (a + 1) less, endings-few ws h s r a less, nat_tests, fill-few)
+endings-few (w ∷ ws) h s r a less = grind (arith, endings-few ws h s (r - w) (a + 1) less, endings-few ws h s r a less, nat_tests)
 
 -- of more than are asked for as many as of any, where none are asked for
 endings-more : (ws : List ℕ) (h s r a : ℕ) → h < s → endings ws h s r a ≡ endings ws 0 s r a
 unfolding endings
 endings-more [] h s r a more = refl
 endings-more (w ∷ ws) h s r a more =
-    grind (arith, nat_tests, fill-more h s (length ws) (a + 1) more, endings-more ws h s (r - w) (a + 1) more, endings-more ws h s r a more)
+    grind (arith, nat_tests, endings-more ws h s (r - w) (a + 1) more, endings-more ws h s r a more)
 
 -- of as many as heads all that meet the need
 endings-heads : (ws : List ℕ) (h r a : ℕ) → 0 < r → endings ws h h r a ≡ over false ws (fits r a h)
@@ -70,7 +59,7 @@ endings-heads (w ∷ ws) h r a pos =
 all-but-one : (s : ℕ) (ws : List ℕ) (k : ℕ) → one_of_size s k + over true ws (fits 0 k s) ≡ over false ws (fits 0 k s)
 unfolding over
 all-but-one s [] k = grind (arith, nat_tests)
-all-but-one s (w ∷ ws) k = grind (arith, all-but-one s ws k, all-but-one s ws (k + 1), free-more)
+all-but-one s (w ∷ ws) k = grind (arith, all-but-one s ws k, all-but-one s ws (k + 1), fits-more)
 
 -- what meets a need is what the members lead to, and what meets it without its last member
 endings-law : (s : ℕ) (ws : List ℕ) (d k : ℕ) → 0 < d → endings ws 0 s d k + over true ws (fits d k s) ≡ over false ws (fits d k s)
@@ -117,3 +106,5 @@ endings-less p h s [] r a = omega arith
 endings-less zero h s (w ∷ ws) r a = omega arith
 endings-less (suc p) h s (w ∷ ws) r a =
     grind (arith, endings-less p h s ws (r - w) (a + 1), endings-less p h s ws r a, cases_lt, length-left_out, fill-less, nat_tests, past-end)
+
+pub ruleset fewer = (endings-less)

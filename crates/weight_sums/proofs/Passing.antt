@@ -126,3 +126,5 @@ pub going-all : {ws : List ℕ} {heads p rest place : ℕ} {before done : List �
 unfolding endings
 going-all {ws = ws} {heads = heads} {p = p} {row = row} h past s small =
     omega (arith, h.counted s small, ap (λ (vs : List ℕ). weigh (endings vs heads s) row) (drop_all p ws past), weigh-times 0 row)
+
+pub ruleset going = (merge-few, goes-on)

@@ -110,17 +110,9 @@ over-none short (w ∷ ws) g none =
     let total : sum (w ∷ ws) ≡ w + sum ws = sum_by-cons (λ (y : ℕ). y) w ws in
     let double = double-pow (length ws) in
     let pos = pow_pos (length ws) in
-    let one = none alone (record { weight_in = omega arith; size_in = omega arith; members_in = omega (arith, double, pos) }) in
-    let out = over-none short ws (λ x. g (left x)) (λ x h. none (left x) (record {
-      weight_in = (let a = h.weight_in in omega (arith, a, total));
-      size_in = (let a = h.size_in in omega (arith, a));
-      members_in = (let a = h.members_in in omega (arith, a, double));
-    })) in
-    let with_it = over-none short ws (λ x. g (joined w x)) (λ x h. none (joined w x) (record {
-      weight_in = (let a = h.weight_in in omega (arith, a, total));
-      size_in = (let a = h.size_in in omega (arith, a));
-      members_in = (let a = h.members_in in omega (arith, a, double));
-    })) in
+    let one = none alone (grind (arith)) in
+    let out = over-none short ws (λ x. g (left x)) (λ x h. none (left x) (grind (arith))) in
+    let with_it = over-none short ws (λ x. g (joined w x)) (λ x h. none (joined w x) (grind (arith))) in
     grind (arith, nat_tests, one, out, with_it)
 
 -- so many sets
@@ -220,3 +212,5 @@ module _ (ws : List ℕ) (p : ℕ) {short : Bool} {xs : List Set} (are : AreSets
       first-sum : (b : Bool) (g : Set → ℕ) → sum_by g (cond b (alone ∷ []) []) ≡ cond b (g alone) 0
       first-sum true g = omega arith
       first-sum false g = refl
+
+pub ruleset doubling = (doubling-none, doubling-left, doubling-joined, doubling-all)

@@ -1,4 +1,5 @@
 -- Rows of prefixes, one prefix more.
+use Rattle.std.proofs.Math.Pow.{pow_mono}
 use Rattle.std.proofs.Common.{◌≡◌, ◌∙◌, ℕ, ◌+◌, ◌*◌, ◌<◌, ◌≤◌, ◌^◌, List, [], ◌∷◌, ◌++◌, length, take, drop, get_or, set, cond}
 use Rattle.std.proofs.Common.{replicate, ltb, zero, suc, max, length-set, ap, refl, arith, ◌-◌, get_or-set_same, get_or-set_other}
 use Rattle.std.specs.List.{All}
@@ -116,3 +117,10 @@ pub choose-zero : (k : ℕ) → get_or (1 ∷ replicate 40 0) k 0 ≡ choose 0 k
 unfolding choose
 choose-zero zero = refl
 choose-zero (suc k) = get_or-zeros 40 k
+
+pub choose-few : (m k : ℕ) → m ≤ 40 → choose m k ≤ 2 ^ 40
+choose-few m k few = let up : 2 ^ m ≤ 2 ^ 40 = pow_mono few in omega (arith, choose-most m k, up)
+
+pub ruleset chosen = (choose-few, choose-none, choose-more, choose-zero)
+
+pub ruleset zeros = (get_or-zeros, length-set, get_or-set_same, get_or-set_other)

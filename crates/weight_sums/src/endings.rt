@@ -14,14 +14,11 @@ fn total_of(weights: &[u64]) -> u64
     requires { sum weights.now ≤ TOTAL }
     ensures { result ≡ sum weights.now }
 {
-    let mut total = 0;
-    for weight in weights {
-        total += *weight;
-    }
-    total
+    weights.iter().sum()
 }
 
 /// The tallies of these coalitions, by sums or by halves.
+#[tactic(auto, using(crate::proofs::EndingLaws::fewer))]
 fn tallies_of(alloc: Global, weights: &[u64], quota: u64, asked: &Heads) -> Result<Tallies, Memory>
     requires few { length weights.now ≤ MEMBERS }
     requires light { sum weights.now ≤ TOTAL }

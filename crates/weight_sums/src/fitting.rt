@@ -44,6 +44,7 @@ impl Fitting {
     }
 
     /// Lets in all that meet a need, which is not above what those that are in meet.
+    #[tactic(auto, using(std::proofs::lemmas::Grind::common_steps, crate::proofs::FittingSets::entering))]
     pub(crate) fn let_in(&mut self, sets: &[Set], need: u64)
         requires half { IsHalf sets.now }
         requires entered { AreEntered sets.now self.old }
@@ -67,6 +68,7 @@ impl Fitting {
     }
 
     /// Counts them, by size, where so many members are in front of them.
+    #[tactic(auto, using(std::proofs::lemmas::Grind::common_steps, crate::proofs::FittingSets::entering))]
     pub(crate) fn add(&self, size: usize, done: &mut [u64; limits::SIZES])
         requires size { size ≤ 20 }
         requires few { (j : ℕ) → slice_index self.now.here j ≤ 2 ^ 20 }

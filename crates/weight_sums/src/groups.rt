@@ -12,6 +12,7 @@ use coalitions::{Memory, limits};
 use std::alloc::Global;
 
 /// Which of the first members are in, of as many as there are digits.
+#[tactic(auto, using(std::proofs::lemmas::Grind::common_steps, std::proofs::lemmas::Nat::one_shl, std::proofs::lemmas::Nat::and_mask))]
 fn low(members: u32, digits: u32) -> usize
     requires { digits ≤ 10 }
     ensures { result ≡ members % 2 ^ digits }
@@ -39,6 +40,7 @@ pub(crate) struct Groups {
 
 impl Groups {
     /// Both lists are by weight: while the need falls, more and more of the others meet it, and each comes in once.
+    #[tactic(auto, using(std::proofs::lemmas::Grind::common_steps, std::proofs::lemmas::Nat::shr_below, crate::proofs::FittingSets::entering))]
     pub(crate) fn new(
         alloc: Global,
         list: &[Set],

@@ -59,6 +59,7 @@ impl Pairs {
 
 /// How many sets of each size there are that meet a quota, but for those that do so without their last member:
 /// of just so many heads all, of more the others, of fewer none.
+#[tactic(auto, using(std::proofs::lemmas::Grind::common_steps, crate::proofs::Taking::zeros))]
 fn left_of(
     won: &[u64; limits::SIZES],
     shortened: &[u64; limits::SIZES],

@@ -63,6 +63,7 @@ impl Rows {
         Ok(())
     }
 
+    #[tactic(auto, using(std::proofs::lemmas::Grind::common_steps, crate::proofs::Passing::going))]
     /// Decides one member more, of this weight, where all after it weigh so much: coalitions that are
     /// complete by it are counted by size.
     pub(crate) fn go_on(

@@ -62,6 +62,7 @@ impl Set {
 
 /// Puts down the sets with one member more in front, of this weight: each without and with this member, by weight.
 /// What stands there before weighs nothing.
+#[tactic(auto, using(std::proofs::lemmas::Grind::common_steps, crate::proofs::SetLists::doubling))]
 fn with_first(sets: &[Set], weight: u64, next: &mut Vec<Set>) -> Result<(), Memory>
     requires ascend { Ascend sets.now }
     requires light { All (λ x. x.weight + weight < 2 ^ 64) sets.now }

@@ -1,9 +1,10 @@
 -- Rules over members that are numbered: those that a game consists of, or some of them.
-use Rattle.std.specs.Prelude.{◌≡◌, ℕ, Bool, not, true, List, length}
+use Rattle.std.specs.Prelude.{◌≡◌, ℕ, Bool, not, if◌then◌else◌, true, List, length}
 use Rattle.std.specs.List.{All, filter}
-use Rattle.council_game.specs.Votes.{RuleView}
+use Rattle.council_game.specs.Votes.{RuleView, rule_at}
 use Rattle.council_game.specs.Game.{GameView}
 use Rattle.mwc_sums.specs.Chambers.{chamber_of, met, share}
+use Rattle.mwc_sums.specs.Statute.{is_counted}
 use Rattle.mwc_sums.specs.Heads.{are_of_one_chamber}
 
 -- how many members there are, and the rules
@@ -11,9 +12,13 @@ pub record StatuteView : Type 0 where
   pub members : ℕ
   pub rules : List RuleView
 
--- the rules that share no member with one
-abbrev pub others_of : ℕ → List RuleView → RuleView → List RuleView
-others_of n rs r = filter (λ x. not (share n r x)) rs
+-- of some rules those that sums count, or the others
+unfoldable pub part_of : Bool → ℕ → List RuleView → List RuleView
+part_of counted n rs = filter (λ r. if counted then is_counted n rs r else not (is_counted n rs r)) rs
+
+-- of some rules those that share a member with one, or the others
+unfoldable pub beside_of : Bool → ℕ → List RuleView → ℕ → List RuleView
+beside_of sharing n rs k = filter (λ r. if sharing then share n (rule_at rs k) r else not (share n (rule_at rs k) r)) rs
 
 -- those that share a member with any one of them are of one chamber
 abbrev pub AreOfChambers : ℕ → List RuleView → Type 0

@@ -4,6 +4,5 @@ use Rattle.mwc_sums.specs.Statute.{is_counted}
 use Rattle.mwc_sums.proofs.statute.Statute.part.Given as goal
 
 abbrev pub invariant-loop-rule : goal.invariant-loop-rule
-invariant-loop-rule l = rule_views l.rules.items ≡ cond l.counted
-    (filter (is_counted l.self.members l.self.rules) (take l.rule l.self.rules))
-    (filter (λ r. not (is_counted l.self.members l.self.rules r)) (take l.rule l.self.rules))
+invariant-loop-rule l = rule_views l.rules.items ≡ filter (λ r. cond l.counted
+    (is_counted l.self.members l.self.rules r) (not (is_counted l.self.members l.self.rules r))) (take l.rule l.self.rules)

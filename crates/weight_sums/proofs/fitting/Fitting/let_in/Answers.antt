@@ -1,14 +1,7 @@
 use Rattle.std.proofs.Common.{arith}
-use Rattle.std.proofs.lemmas.Grind.{common_steps}
 use Rattle.weight_sums.specs.Inner.Sets.{nobody}
-use Rattle.weight_sums.proofs.FittingSets.{here-few, all-entered}
+use Rattle.weight_sums.proofs.FittingSets.{all-entered}
 use Rattle.weight_sums.proofs.fitting.Fitting.let_in.Goals as goal
-
-pub enter-requires-clause-here : goal.enter-requires-clause-here
-enter-requires-clause-here c = grind (arith, common_steps, here-few)
-
-pub returns-else-need-sets-clause-all : goal.returns-else-need-sets-clause-all
-returns-else-need-sets-clause-all c = grind (arith, common_steps, all-entered)
 
 pub returns-after-loop-self-clause-all : goal.returns-after-loop-self-clause-all
 returns-after-loop-self-clause-all c =

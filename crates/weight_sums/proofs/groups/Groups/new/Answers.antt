@@ -1,8 +1,5 @@
 use Rattle.std.proofs.Common.{arith}
-use Rattle.std.proofs.lemmas.Nat.{shr_below}
-use Rattle.std.proofs.lemmas.Grind.{common_steps}
 use Rattle.weight_sums.specs.Inner.Sets.{nobody}
-use Rattle.weight_sums.proofs.FittingSets.{here-few}
 use Rattle.weight_sums.proofs.GroupSums.{paired-rows, paired-more, paired-further, paired-all}
 use Rattle.weight_sums.proofs.groups.Groups.new.Goals as goal
 use Rattle.weight_sums.proofs.groups.Groups.new.Goals.{then-is_any, else-is_any}
@@ -12,19 +9,10 @@ add-requires-clause-room c k s small =
     let rows = paired-rows c.loop-set.invariant c.requires.list.half c.requires.digits c.requires.others in
     omega (arith, rows.0.few k s small)
 
-pub add-requires-clause-few : goal.add-requires-clause-few
-add-requires-clause-few c j = here-few c.args.others.now c.let_in.new.self j c.let_in.ensures.entered c.requires.others
-
-pub add-requires-then-is_any-clause-key : goal.add-requires-then-is_any-clause-key
-add-requires-then-is_any-clause-key c = grind (arith, common_steps, shr_below)
-
 pub add-requires-then-is_any-clause-room : goal.add-requires-then-is_any-clause-room
 add-requires-then-is_any-clause-room c k s small =
     let rows = paired-rows c.loop-set.invariant c.requires.list.half c.requires.digits c.requires.others in
     omega (arith, rows.1.few k s small)
-
-pub add-requires-then-is_any-clause-few : goal.add-requires-then-is_any-clause-few
-add-requires-then-is_any-clause-few c j = here-few c.args.others.now c.let_in.new.self j c.let_in.ensures.entered c.requires.others
 
 pub loop-set-preserved : goal.loop-set-preserved
 loop-set-preserved c =
