@@ -22,7 +22,6 @@ use Rattle.mwc_walk.specs.declared.lane.Lane.{Lane}
 use Rattle.mwc_walk.specs.Inner.Lanes.{lane_needs, no_lane}
 use Rattle.mwc_walk.specs.Inner.Vetoes.{IsSplit, vetoed_part}
 use Rattle.mwc_walk.specs.Inner.Places.{LaneIs, LanesAre}
-use Rattle.mwc_walk.proofs.Filled.{FilledTo}
 
 -- a cheaper price is kept, too
 still-kept : (a b i t f g : ℕ) → i * b ≤ a * t → a * f ≤ b * g → (b ≡ 0 → f ≡ 0) → i * f ≤ t * g
@@ -154,14 +153,15 @@ module _ (n : ℕ) (ws vs fs : List ℕ) (lw : n ≤ length ws) (lv : n ≤ leng
       let more = λ (xs : List ℕ) (long : n ≤ length xs). sum_by_more (λ (y : ℕ). y) xs m 0 (omega (arith, le, long)) in
       rw (← add-one) (omega (arith, parts-fit m (omega (arith, le)), more vs lv, more fs lf, more ws lw, parted m (omega (arith, le))))
 
--- how far the weights of a lane are parted
-pub record AreParted (ls : List Lane) (i place : ℕ) (vs fs : List ℕ) : Type 0 where
-  pub vetoed : FilledTo (λ q part. part ≡ vetoed_part ls i q) 0 40 place vs
-  pub free : FilledTo (λ q part. part ≡ get_or (get_or ls i no_lane).weights q 0 - vetoed_part ls i q) 0 40 place fs
+-- the weights of a lane in two parts
+pub record AreParted (ls : List Lane) (i n : ℕ) (vs fs : List ℕ) : Type 0 where
+  pub vetoed_long : length vs ≡ 40
+  pub free_long : length fs ≡ 40
+  pub vetoed : (q : ℕ) → q < n → get_or vs q 0 ≡ vetoed_part ls i q
+  pub free : (q : ℕ) → q < n → get_or fs q 0 ≡ get_or (get_or ls i no_lane).weights q 0 - get_or vs q 0
 
--- all of them are
-module _ {v : Votes} {ls : List Lane} {i n place : ℕ} {vs fs : List ℕ} (game : IsVotes v) (members : n ≡ v.members) (end : n ≤ place)
-    (below : i < length ls) (are : LanesAre v.members 0 0 v.rules ls) (parts : AreParted ls i place vs fs) where
+module _ {v : Votes} {ls : List Lane} {i n : ℕ} {vs fs : List ℕ} (game : IsVotes v) (members : n ≡ v.members) (below : i < length ls)
+    (are : LanesAre v.members 0 0 v.rules ls) (parts : AreParted ls i n vs fs) where
   lane : LaneIs v.members 0 0 (rule_at v.rules i) (get_or ls i no_lane)
   lane = lane-of v.members 0 0 v.rules ls are i (omega (arith, AllZip-long _ v.rules ls are, below)) no_lane
 
@@ -172,14 +172,14 @@ module _ {v : Votes} {ls : List Lane} {i n place : ℕ} {vs fs : List ℕ} (game
   parted q lt =
       let all : ℕ = get_or (get_or ls i no_lane).weights q 0 in
       let part = cond_both (list_any (lane_needs q) ls) all 0 (λ w. w ≤ all) (λ _. omega arith) (λ _. omega arith) in
-      let room : q < place = omega (arith, lt, members, end) in
-      omega (arith, part, parts.vetoed.done q room, parts.free.done q room, lane.weights q lt)
+      let room : q < n = omega (arith, lt, members) in
+      omega (arith, part, parts.vetoed q room, parts.free q room, lane.weights q lt)
 
   both-fit : sum (take v.members vs) + sum (take v.members fs) < 2 ^ 64
   both-fit =
       let all = parts-fit v.members (rule_at v.rules i).weights vs fs (omega (arith, lane.rule.full))
-      (omega (arith, parts.vetoed.long, game.few))
-      (omega (arith, parts.free.long, game.few)) parted v.members (omega arith) in
+      (omega (arith, parts.vetoed_long, game.few))
+      (omega (arith, parts.free_long, game.few)) parted v.members (omega arith) in
       omega (arith, rw whole at all, lane.rule.light)
 
   pub vetoed-fit : sum (take n vs) < 2 ^ 64
@@ -187,7 +187,7 @@ module _ {v : Votes} {ls : List Lane} {i n place : ℕ} {vs fs : List ℕ} (game
 
   inside : (c : ℕ) → wins v.rules c ≡ true → (q : ℕ) → q < v.members → (get_or vs q 0 ≡ 0) ⊎ (c / 2 ^ (v.members - (q + 1)) % 2 ≡ 1)
   inside c won q lt = elim (cases_Bool (list_any (lane_needs q) ls)) [
-    | inr spare ↦ inl (parts.vetoed.done q (omega (arith, lt, members, end)) ∙ cond-false (list_any (lane_needs q) ls) _ 0 spare)
+    | inr spare ↦ inl (parts.vetoed q (omega (arith, lt, members)) ∙ cond-false (list_any (lane_needs q) ls) _ 0 spare)
     | inl needs ↦
         let e : v.members - 1 - q ≡ v.members - (q + 1) = omega arith in
         let kept = rw e at (vetoer-in v.members q c v.rules ls lt are needs won) in
@@ -201,11 +201,11 @@ module _ {v : Votes} {ls : List Lane} {i n place : ℕ} {vs fs : List ℕ} (game
   pub split-is : (brings : List ℕ) → ((p : ℕ) → p ≤ n → get_or brings p 0 ≡ sum (drop p (take n vs)))
       → IsSplit v i (record { brings = brings; free = fs })
   split-is brings sums = record {
-    room = omega (arith, parts.free.long, game.few);
+    room = omega (arith, parts.free_long, game.few);
     fits = omega (arith, both-fit);
     parts = λ p c le won.
         let all = split-from v.members (rule_at v.rules i).weights vs fs (omega (arith, lane.rule.full))
-        (omega (arith, parts.vetoed.long, game.few))
-        (omega (arith, parts.free.long, game.few)) parted c (v.members - p) p (inside c won) (omega arith) in
+        (omega (arith, parts.vetoed_long, game.few))
+        (omega (arith, parts.free_long, game.few)) parted c (v.members - p) p (inside c won) (omega arith) in
         rw (rw members at (sums p (omega (arith, le, members)))) (rw whole at all);
   }

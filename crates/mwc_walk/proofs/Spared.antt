@@ -20,6 +20,7 @@ use Rattle.mwc_walk.specs.declared.lane.Lane.{Lane}
 use Rattle.mwc_walk.specs.declared.vetoes.Vetoes.{Vetoes}
 use Rattle.mwc_walk.specs.declared.cursor.Cursor.{Cursor}
 use Rattle.mwc_walk.specs.Inner.Lanes.{no_lane}
+use Rattle.mwc_walk.specs.Inner.Asked.{asked_at}
 use Rattle.mwc_walk.specs.Inner.Places.{LaneIs, NothingBelow, NoneWins, IsExcess, AreExcesses, CanSpare, wins_at}
 use Rattle.mwc_walk.specs.Inner.Spared.{lane_at, IsEnough, IsNeed, NoneSpared, Tried}
 use Rattle.mwc_walk.specs.Inner.Vetoes.{IsSplit}
@@ -165,21 +166,35 @@ module _ {v : Votes} {a : Cursor} (is : CursorIs v a) where
       let here = lane-here i below in
       omega (arith, meets i c below prefix won, there-and-comes i c below prefix won, comes c prefix won, most, here.quota)
 
+  -- what is there beyond what the rule asks is passed by each winning coalition below
+  pub excess-is : (i e : ℕ) → i < length v.rules → e ≡ (lane_at a.lanes i).sum - asked_at a.asked i a.place → IsExcess v a.place a.prefix i e
+  excess-is i e below is-e = λ c prefix won.
+      let asked = is.asked i below a.place is.place.to in
+      let lt : i < a.rules = omega (arith, below, is.rules) in
+      omega (arith, meets i c lt prefix won, there-and-comes i c lt prefix won, asked.least c won, is-e)
+
+  pub enough-is : (i e : ℕ) → i < length v.rules → e ≡ (lane_at a.lanes i).sum - asked_at a.asked i a.place
+      → weight (take a.place (rule_at v.rules i).weights) a.prefix - (rule_at v.rules i).quota ≤ e
+  enough-is i e below is-e =
+      let here = lane-here i (omega (arith, below, is.rules)) in
+      omega (arith, (is.asked i below a.place is.place.to).most, here.sum_is, is-e)
+
   -- what the quota asks for beside what is there and what vetoers bring
-  pub short-need : (i t : ℕ) (s : Vetoes) → i < a.rules → IsSplit v i s
-      → t ≡ min (2 ^ 64 - 1) ((lane_at a.lanes i).sum + get_or s.brings a.place 0)
-      → IsNeed v a.place a.prefix s ((lane_at a.lanes i).quota - t)
-  short-need i t s below split capped = λ c prefix won.
-      let here = lane-here i below in
+  pub short-need : (i e : ℕ) (s : Vetoes) → i < length v.rules → IsSplit v i s
+      → e ≡ (lane_at a.lanes i).quota - min (2 ^ 64 - 1) ((lane_at a.lanes i).sum + get_or s.brings a.place 0)
+      → IsNeed v a.place a.prefix s e
+  short-need i e s below split is-e = λ c prefix won.
+      let lt : i < a.rules = omega (arith, below, is.rules) in
+      let here = lane-here i lt in
       omega (
         arith,
-        meets i c below prefix won,
-        there-and-comes i c below prefix won,
+        meets i c lt prefix won,
+        there-and-comes i c lt prefix won,
         split.parts a.place c is.place.to won,
         here.quota,
         here.rule.met,
         here.rule.light,
-        capped,
+        is-e,
       )
 
   -- ---- who can be spared

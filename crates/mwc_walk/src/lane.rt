@@ -8,6 +8,7 @@ ghost use Rattle.council_game.specs.Votes.{rule_at, has};
 ghost use Rattle.mwc_walk.specs.Inner.Places.{LaneIs, LanesAre};
 ghost use Rattle.mwc_walk.specs.Inner.Lanes.{lane_reaches, lane_wins, lane_with, lane_without};
 
+use crate::fill::filled;
 use council_game::{Game, limits};
 
 /// What the walk knows of one rule.
@@ -65,11 +66,11 @@ pub(crate) fn lanes_of(game: &Game) -> [Lane; limits::RULES]
         (take (length (votes_of game.now).rules) result) }
 {
     game.was_checked();
-    let mut lanes = [Lane::new(game, 0); limits::RULES];
-    for rule in 0..game.rules() {
-        lanes[rule] = Lane::new(game, rule);
-    }
-    lanes
+    filled(
+        Lane::new(game, 0),
+        game.rules(),
+        |rule| Lane::new(game, rule),
+    )
 }
 
 /// The weights of a rule, in rank order.
@@ -79,12 +80,11 @@ fn weights_of(game: &Game, rule: usize) -> [u64; limits::MEMBERS]
     ensures same { (q : ℕ) → q < (votes_of game.now).members →
         slice_index result q ≡ slice_index (rule_at (votes_of game.now).rules rule).weights q }
 {
-    let members = game.members();
-    let mut weights = [0; limits::MEMBERS];
-    for place in 0..members {
-        weights[place] = game.rule_weight(rule, game.member_at(place));
-    }
-    weights
+    filled(
+        0,
+        game.members(),
+        |place| game.rule_weight(rule, game.member_at(place)),
+    )
 }
 
 /// What the places from each one on weigh together.
