@@ -38,9 +38,7 @@ one-loses n p x q (r ∷ []) one all ranked pos le lost below in' =
     let before : q < p = place-before n p x q le below in' in
     let some : x * 2 ^ (n - p) / 2 ^ (n - 1 - q) % 2 ≡ 1 = eqb-true _ _ in' in
     let less = rw long at (weight-without r.weights q (x * 2 ^ (n - p)) (omega arith) (rw long some)) in
-    let pe : p - 1 + 1 ≡ p = omega arith in
-    let xe : 2 * (x / 2) + x % 2 ≡ x = omega arith in
-    let more = rw (pe, xe) at (weight-step all.0 (p - 1) (x / 2) (x % 2) (omega arith) (omega arith)) in
+    let more = weight-step all.0 (p - 1) p (x / 2) x (x % 2) (omega arith) (omega arith) (omega arith) (omega arith) in
     let most : x % 2 * get_or r.weights (p - 1) 0 ≤ 1 * get_or r.weights (p - 1) 0 = grind (arith, mul-le) in
     let loses : weight r.weights (x * 2 ^ (n - p) - 2 ^ (n - 1 - q)) < r.quota = grind (arith, weight-block) in
     and_left _ _ (lt-leb _ _ loses)
@@ -55,10 +53,7 @@ pub won-odd : (n p x : ℕ) (rs : List RuleView) → 0 < p → p ≤ n → AllBy
 won-odd n p x rs pos le all won lost =
     elim (cases_lt 0 (x % 2)) [
       | inl some ↦ omega arith
-      | inr none ↦
-          let pe : p - 1 + 1 ≡ p = omega arith in
-          let xe : 2 * (x / 2) ≡ x = omega arith in
-          absurd (both_ways _ lost (sym (rw (pe, xe) at (wins-over n rs all (p - 1) (x / 2) (omega arith))) ∙ won))
+      | inr none ↦ absurd (both_ways _ lost (sym (wins-over n rs all (p - 1) p (x / 2) x (omega arith) (omega arith) (omega arith)) ∙ won))
     ]
 
 -- no places win nothing
