@@ -64,12 +64,8 @@ next-digit p m b digit short =
 has-below : (n p x c q : ℕ) → p ≤ n → q < n → c / 2 ^ (n - p) ≡ x → has n q (x * 2 ^ (n - p)) ≡ true → has n q c ≡ true
 unfolding has
 has-below n p x c q le below prefix in' =
-    let before = place-before n p x q le below (unfold has in in') in
     let e : n - 1 - q ≡ n - (q + 1) = omega arith in
-    let f : (n - p) + (p - (q + 1)) ≡ n - (q + 1) = omega arith in
-    let here : x * 2 ^ (n - p) / 2 ^ (n - 1 - q) ≡ x / 2 ^ (p - (q + 1)) = rw e (in-slice n (q + 1) p x (omega arith) le) in
-    let there : c / 2 ^ (n - 1 - q) ≡ x / 2 ^ (p - (q + 1)) = rw e (sym (rw (f, prefix) at (shr-shr c (n - p) (p - (q + 1))))) in
-    ap (λ (i : ℕ). i % 2 == 1) (there ∙ sym here) ∙ in'
+    grind (arith, common_steps, place-before, in-slice, shr-shr)
 
 -- ---- rule by rule
 -- a winning coalition meets each quota
@@ -116,8 +112,7 @@ up-to-last : (n rest q : ℕ) → n ≤ 40 → 0 < rest → rest < 2 ^ n → q <
 unfolding has
 up-to-last n rest q few pos short below in' =
     let up : 2 ^ n ≤ 2 ^ 40 = pow_mono few in
-    let zeros = bit_at-trailing_zeros w64 rest pos (omega arith) in
-    grind (arith, cases_lt)
+    let zeros = bit_at-trailing_zeros w64 rest pos (omega arith) in grind (arith, common_steps, cases_lt)
 
 -- what the first rule can not spare of a place, it can spare of no place before it
 first-keeps : (rs : List RuleView) (e q m : ℕ) → IsRanked rs → 1 ≤ length rs → e < get_or (rule_at rs 0).weights q 0 → m ≤ q
@@ -150,9 +145,7 @@ module _ {v : Votes} {a : Cursor} (is : CursorIs v a) where
   module _ (i c : ℕ) (below : i < a.rules) (prefix : c / 2 ^ (v.members - a.place) ≡ a.prefix) (won : wins v.rules c ≡ true) where
     pub there-and-comes : weight (rule_at v.rules i).weights c ≡ (lane_at a.lanes i).sum + weight
         (drop a.place (rule_at v.rules i).weights) c
-    there-and-comes =
-        let here = lane-here i below in
-        omega (arith, rw prefix at (weight-parts v.members a.place c (rule_at v.rules i) here.rule is.place.to), here.sum_is)
+    there-and-comes = grind (arith, common_steps, weight-parts, lane-here)
 
     pub meets : (rule_at v.rules i).quota ≤ weight (rule_at v.rules i).weights c
     meets = (met-at v.members c v.rules is.game.rules won i (omega (arith, below, is.rules))).1
@@ -162,22 +155,15 @@ module _ {v : Votes} {a : Cursor} (is : CursorIs v a) where
       → ((c : ℕ) → c / 2 ^ (v.members - a.place) ≡ a.prefix → wins v.rules c ≡ true
       → b ≤ weight (drop a.place (rule_at v.rules i).weights) c)
       → IsExcess v a.place a.prefix i (t - (lane_at a.lanes i).quota)
-  least-excess i t b below most comes = λ c prefix won.
-      let here = lane-here i below in
-      omega (arith, meets i c below prefix won, there-and-comes i c below prefix won, comes c prefix won, most, here.quota)
+  least-excess i t b below most comes = λ c prefix won. grind (arith, common_steps, meets, there-and-comes, lane-here)
 
   -- what is there beyond what the rule asks is passed by each winning coalition below
   pub excess-is : (i e : ℕ) → i < length v.rules → e ≡ (lane_at a.lanes i).sum - asked_at a.asked i a.place → IsExcess v a.place a.prefix i e
-  excess-is i e below is-e = λ c prefix won.
-      let asked = is.asked i below a.place is.place.to in
-      let lt : i < a.rules = omega (arith, below, is.rules) in
-      omega (arith, meets i c lt prefix won, there-and-comes i c lt prefix won, asked.least c won, is-e)
+  excess-is i e below is-e = λ c prefix won. grind (arith, common_steps, meets, there-and-comes)
 
   pub enough-is : (i e : ℕ) → i < length v.rules → e ≡ (lane_at a.lanes i).sum - asked_at a.asked i a.place
       → weight (take a.place (rule_at v.rules i).weights) a.prefix - (rule_at v.rules i).quota ≤ e
-  enough-is i e below is-e =
-      let here = lane-here i (omega (arith, below, is.rules)) in
-      omega (arith, (is.asked i below a.place is.place.to).most, here.sum_is, is-e)
+  enough-is i e below is-e = grind (arith, common_steps, lane-here)
 
   -- what the quota asks for beside what is there and what vetoers bring
   pub short-need : (i e : ℕ) (s : Vetoes) → i < length v.rules → IsSplit v i s
@@ -233,13 +219,7 @@ module _ {v : Votes} {a : Cursor} (is : CursorIs v a) where
     last-place short =
         let last = lowest-place v.members rest is.game.few pos short in
         let left = lowest-cleared v.members rest is.game.few pos short in
-        record {
-          small = omega (arith, last.0, is.members);
-          below = omega (arith, last.0, is.members);
-          inside = rw is.members last.1;
-          left = rw is.members left;
-          less = rw left (omega (arith, without-less v.members (v.members - 1 - trailing_zeros w64 rest) rest pos));
-        }
+        grind (arith, common_steps, without-less)
 
     -- where the first rule can not spare the last place of those left, no place can be spared
     pub first-keeps-all : {es : List ℕ} → Tried v a.place a.prefix es rest
