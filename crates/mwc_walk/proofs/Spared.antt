@@ -4,7 +4,6 @@ use Rattle.std.proofs.lemmas.Grind.{common_steps}
 use Rattle.std.specs.List.{AllByRecursion}
 use Rattle.std.specs.Int.{w64, trailing_zeros}
 use Rattle.std.specs.Int.Bits.{bit_and}
-use Rattle.std.proofs.Math.Nat.{pow-suc}
 use Rattle.std.proofs.Math.Pow.{pow_mono}
 use Rattle.std.proofs.lemmas.Bool.{cases_eq, cases_lt, cases_Bool, both_ways, and_parts, and_from, le-leb, leb-true, eq-eqb, false_from_ne_true}
 use Rattle.std.proofs.lemmas.Bool.Decides.{nat_tests}
@@ -27,7 +26,7 @@ use Rattle.mwc_walk.specs.Inner.Vetoes.{IsSplit}
 use Rattle.mwc_walk.specs.Inner.Cursor.{CursorIs}
 use Rattle.mwc_walk.proofs.Shared.One.{place-before, in-slice}
 use Rattle.mwc_walk.proofs.Rules.{weight-block, weight-split, wins-prefix, lane-of}
-use Rattle.mwc_walk.proofs.Steps.{enter-short}
+use Rattle.mwc_walk.proofs.Steps.{enter-short, short-step}
 
 and-digit : (a b : ℕ) → a < 2 → b < 2 → (min a b == 1) ≡ (a == 1 && b == 1)
 and-digit a b la lb = grind (arith, nat_tests)
@@ -49,16 +48,8 @@ pub next-digit : (p m b : ℕ) → b < 2 → m < 2 ^ p → NextDigit p m b
 unfolding has
 next-digit p m b digit short =
     let half : (2 * m + b) / 2 ≡ m = omega arith in
-    let twice : 2 ^ (p + 1) ≡ 2 ^ p * 2 = ap (λ (i : ℕ). 2 ^ i) (let e : p + 1 ≡ suc p = omega arith in e) ∙ pow-suc 2 p in
-    let none : p + 1 - 1 - p ≡ 0 = omega arith in
-    let last : (2 * m + b) / 2 ^ 0 % 2 ≡ b = omega arith in
-    record {
-      below = omega (arith, twice);
-      before = λ q lt.
-          let e : 1 + (p - 1 - q) ≡ p + 1 - 1 - q = omega arith in
-          sym (ap (λ (i : ℕ). i % 2 == 1) (rw (half, e) at (shr-shr (2 * m + b) 1 (p - 1 - q))));
-      here = rw (none, last) refl;
-    }
+    let shifted = λ (q : ℕ). shr-shr (2 * m + b) 1 q in
+    grind (arith, common_steps, short-step)
 
 -- a place that is in the prefix is in each coalition below it
 has-below : (n p x c q : ℕ) → p ≤ n → q < n → c / 2 ^ (n - p) ≡ x → has n q (x * 2 ^ (n - p)) ≡ true → has n q c ≡ true
@@ -96,7 +87,7 @@ pub weight-parts : (n p c : ℕ) (r : RuleView) → IsRule n r → p ≤ n
     → weight r.weights c ≡ weight (take p r.weights) (c / 2 ^ (n - p)) + weight (drop p r.weights) c
 weight-parts n p c r is le =
     let long : length (drop p r.weights) ≡ n - p = length-drop p r.weights ∙ ap (λ (i : ℕ). i - p) is.full in
-    weight-split is p c le ∙ ap (λ (w : ℕ). weight (take p r.weights) (c / 2 ^ (n - p)) + w) (rw long at (weight-low (drop p r.weights) c))
+    omega (arith, weight-split is p c le, rw long at (weight-low (drop p r.weights) c))
 
 -- ---- one place after another
 -- the last place of rest, as the cursor computes it
@@ -172,16 +163,7 @@ module _ {v : Votes} {a : Cursor} (is : CursorIs v a) where
   short-need i e s below split is-e = λ c prefix won.
       let lt : i < a.rules = omega (arith, below, is.rules) in
       let here = lane-here i lt in
-      omega (
-        arith,
-        meets i c lt prefix won,
-        there-and-comes i c lt prefix won,
-        split.parts a.place c is.place.to won,
-        here.quota,
-        here.rule.met,
-        here.rule.light,
-        is-e,
-      )
+      omega (arith, meets i c lt prefix won, there-and-comes i c lt prefix won, split.parts a.place c is.place.to won)
 
   -- ---- who can be spared
   -- a member whom each rule can spare, by what each coalition below has beyond the quotas, is needed in none of them

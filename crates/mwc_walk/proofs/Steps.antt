@@ -21,22 +21,20 @@ use Rattle.mwc_walk.proofs.Rules.{lanes-in, lanes-out, lanes-up, fits-in, fits-o
 use Rattle.mwc_walk.specs.declared.asked.Asked.{Asked}
 use Rattle.mwc_walk.specs.Inner.Asked.{AreAsked}
 
+-- one digit more
+pub short-step : (p q : ℕ) → q ≡ p + 1 → 2 ^ q ≡ 2 ^ p * 2
+short-step p q next = ap (λ (i : ℕ). 2 ^ i) (let d : q ≡ suc p = omega arith in d) ∙ pow-suc 2 p
+
 -- a block is two halves
 halves : (n p q x y : ℕ) → p < n → q ≡ p + 1 → y ≡ 2 * x → y * 2 ^ (n - q) ≡ x * 2 ^ (n - p)
 halves n p q x y below next twice =
-    let e : 2 ^ (n - p) ≡ 2 ^ (n - q) * 2 =
-    ap (λ (i : ℕ). 2 ^ i) (let d : n - p ≡ suc (n - q) = omega arith in d) ∙ pow-suc 2 (n - q) in
-    rw (e, twice) (omega arith)
+    let e = short-step (n - q) (n - p) (omega arith) in rw (e, twice) (omega arith)
 
 -- one digit less
 half-shift : (x y k p q : ℕ) → q ≡ p + 1 → x ≡ y / 2 → k ≤ p → x / 2 ^ (p - k) ≡ y / 2 ^ (q - k)
 half-shift x y k p q next half le =
     let e : 1 + (p - k) ≡ q - k = omega arith in
     rw (← half, e) at (shr-shr y 1 (p - k))
-
--- one digit more
-short-step : (p q : ℕ) → q ≡ p + 1 → 2 ^ q ≡ 2 ^ p * 2
-short-step p q next = ap (λ (i : ℕ). 2 ^ i) (let d : q ≡ suc p = omega arith in d) ∙ pow-suc 2 p
 
 -- ---- the places of a slice
 -- the place before, which does not win either
