@@ -30,22 +30,19 @@ module _ {X Y : Type 0} (R : X → Y → Type 0) where
   pub list_all-beside : (p : X → Bool) (q : Y → Bool) → ((x : X) (y : Y) → R x y → q y ≡ p x) → (xs : List X) (ys : List Y) → AllZip R xs ys
       → list_all q ys ≡ list_all p xs
   list_all-beside p q same [] [] are = refl
-  list_all-beside p q same [] (y ∷ ys) are = elim are [ ]
-  list_all-beside p q same (x ∷ xs) [] are = elim are [ ]
   list_all-beside p q same (x ∷ xs) (y ∷ ys) are = rw (same x y are.0, list_all-beside p q same xs ys are.1) refl
+  list_all-beside p q same xs ys are = elim are [ ]
 
   pub AllZip-moved : (S : X → Y → Type 0) (f : Y → Y) → ((x : X) (y : Y) → R x y → S x (f y)) → (xs : List X) (ys : List Y) → AllZip R xs ys
       → AllZip S xs (map f ys)
   AllZip-moved S f move [] [] are = tt
-  AllZip-moved S f move [] (y ∷ ys) are = elim are [ ]
-  AllZip-moved S f move (x ∷ xs) [] are = elim are [ ]
   AllZip-moved S f move (x ∷ xs) (y ∷ ys) are = (move x y are.0, AllZip-moved S f move xs ys are.1)
+  AllZip-moved S f move xs ys are = elim are [ ]
 
   pub All-beside : (Q : Y → Type 0) → ((x : X) (y : Y) → R x y → Q y) → (xs : List X) (ys : List Y) → AllZip R xs ys → All Q ys
   All-beside Q fits [] [] are = All-nil Q
-  All-beside Q fits [] (y ∷ ys) are = elim are [ ]
-  All-beside Q fits (x ∷ xs) [] are = elim are [ ]
   All-beside Q fits (x ∷ xs) (y ∷ ys) are = All-cons Q y ys (fits x y are.0) (All-beside Q fits xs ys are.1)
+  All-beside Q fits xs ys are = elim are [ ]
 
 module _ {n : ℕ} {r : RuleView} (is : IsRule n r) where
   pub weight-block : (p x : ℕ) → p ≤ n → weight r.weights (x * 2 ^ (n - p)) ≡ weight (take p r.weights) x

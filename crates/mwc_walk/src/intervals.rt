@@ -165,17 +165,15 @@ impl Intervals {
         ensures { MatchOption result ((y : ℕ) → Covers self.now y → y < number)
             (λ m. (y : ℕ) → Covers self.now y → number ≤ y → m ≤ y) }
     {
-        let mut least = None;
+        let mut found = false;
+        let mut least = u64::MAX;
         for at in 0..self.count {
             let item = self.items[at];
             if number <= item.most {
-                let here = item.least.max(number);
-                least = Some(match least {
-                    Some(before) => here.min(before),
-                    None => here,
-                });
+                found = true;
+                least = least.min(item.least.max(number));
             }
         }
-        least
+        if found { Some(least) } else { None }
     }
 }
