@@ -100,11 +100,8 @@ sums-step n p ws before after below le fits without with_it c covered =
 -- who is out weighs nothing
 weight-out : (ws : List ℕ) (q c : ℕ) → q < length ws → c / 2 ^ (length ws - 1 - q) % 2 ≡ 0 → weight ws c + get_or ws q 0 ≤ sum ws
 weight-out ws q c below out =
-    let digit : (c + 2 ^ (length ws - 1 - q)) / 2 ^ (length ws - 1 - q) % 2 ≡ 1 = digit-added c (length ws - 1 - q) out in
-    let more = weight-without ws q (c + 2 ^ (length ws - 1 - q)) below digit in
     let back : c + 2 ^ (length ws - 1 - q) - 2 ^ (length ws - 1 - q) ≡ c = omega arith in
-    let most = weight-le ws (c + 2 ^ (length ws - 1 - q)) in
-    omega (arith, rw back at more, most)
+    grind (arith, common_steps, digit-added, weight-without, weight-le)
 
 -- a rule that needs the member of a place is not met without it
 needs-it : (n q c : ℕ) (r : RuleView) (l : Lane) → q < n → LaneIs n 0 0 r l → lane_needs q l ≡ true → r.quota ≤ weight r.weights c
@@ -130,22 +127,14 @@ module _ (n : ℕ) (ws vs fs : List ℕ) (lw : n ≤ length ws) (lv : n ≤ leng
   -- where the first part is in the coalition, it is weighed whole
   pub split-from : (c k p : ℕ) → ((q : ℕ) → q < n → (get_or vs q 0 ≡ 0) ⊎ (c / 2 ^ (n - (q + 1)) % 2 ≡ 1)) → p + k ≡ n
       → sum (drop p (take n vs)) + weight (drop p (take n fs)) c ≡ weight (drop p (take n ws)) c
-  split-from c zero p inside at =
-      let none : drop p (take n vs) ≡ [] = drop_all p (take n vs) (omega (arith, length-take-le n vs lv)) in
-      rw (none, weight-past fs n p c (omega arith) lf, weight-past ws n p c (omega arith) lw) refl
+  split-from c zero p inside at = grind (arith, common_steps, weight-past, drop_all, length-take-le)
   split-from c (suc k) p inside at =
       let below : p < n = omega arith in
       let rest = split-from c k (p + 1) inside (omega arith) in
       let first = sum-from vs n p lv below in
       let others = weight-from fs n p c below lf in
       let all = weight-from ws n p c below lw in
-      let whole = parted p below in
-      elim (inside p below) [
-        | inl none ↦
-            let same : get_or fs p 0 ≡ get_or ws p 0 = omega (arith, whole, none) in
-            omega (arith, rest, first, rw same at others, all, none)
-        | inr one ↦ omega (arith, rest, first, rw one at others, rw one at all, whole)
-      ]
+      let whole = parted p below in grind (arith, common_steps, get_or)
 
   pub parts-fit : (m : ℕ) → m ≤ n → sum (take m vs) + sum (take m fs) ≡ sum (take m ws)
   parts-fit zero le = refl
@@ -179,24 +168,13 @@ module _ {v : Votes} {ls : List Lane} {i n : ℕ} {vs fs : List ℕ} (game : IsV
   both-fit =
       let all = parts-fit v.members (rule_at v.rules i).weights vs fs (omega (arith, lane.rule.full))
       (omega (arith, parts.vetoed_long, game.few))
-      (omega (arith, parts.free_long, game.few)) parted v.members (omega arith) in
-      omega (arith, rw whole at all, lane.rule.light)
+      (omega (arith, parts.free_long, game.few)) parted v.members (omega arith) in grind (arith, common_steps, whole)
 
   pub vetoed-fit : sum (take n vs) < 2 ^ 64
   vetoed-fit = rw members (omega (arith, both-fit))
 
   inside : (c : ℕ) → wins v.rules c ≡ true → (q : ℕ) → q < v.members → (get_or vs q 0 ≡ 0) ⊎ (c / 2 ^ (v.members - (q + 1)) % 2 ≡ 1)
-  inside c won q lt = elim (cases_Bool (list_any (lane_needs q) ls)) [
-    | inr spare ↦ inl (parts.vetoed q (omega (arith, lt, members)) ∙ cond-false (list_any (lane_needs q) ls) _ 0 spare)
-    | inl needs ↦
-        let e : v.members - 1 - q ≡ v.members - (q + 1) = omega arith in
-        let kept = rw e at (vetoer-in v.members q c v.rules ls lt are needs won) in
-        let digit : c / 2 ^ (v.members - (q + 1)) % 2 < 2 = bit_at-lt c (v.members - (q + 1)) in
-        inr (elim (cases_eq (c / 2 ^ (v.members - (q + 1)) % 2) 0) [
-          | inl out ↦ absurd (kept out)
-          | inr other ↦ omega (arith, digit, other)
-        ])
-  ]
+  inside c won q lt = grind (arith, common_steps, cases_Bool, cond-false, vetoer-in, bit_at-lt, cases_eq)
 
   pub split-is : (brings : List ℕ) → ((p : ℕ) → p ≤ n → get_or brings p 0 ≡ sum (drop p (take n vs)))
       → IsSplit v i (record { brings = brings; free = fs })

@@ -4,7 +4,7 @@ use Rattle.std.proofs.lemmas.Nat.{div-mul-add, pow_pos, pow-add, mul-le}
 use Rattle.std.proofs.lemmas.Bool.{cases_lt, and_left, eq-eqb, cond-true, false_from_ne_true, both_ways}
 use Rattle.std.proofs.lemmas.Grind.{common_steps}
 use Rattle.std.proofs.lemmas.Nat.Bits.{bit_at_cat_low}
-use Rattle.council_game.specs.Votes.{Votes, IsVotes, has, without, wins, minimal, minimal_coalitions}
+use Rattle.council_game.specs.Votes.{Votes, IsVotes, has, without, minimal, minimal_coalitions}
 use Rattle.council_game.specs.Shared.Below.{minimal_below}
 use Rattle.council_game.proofs.Shared.Meanings.{needs-each-member}
 use Rattle.mwc_walk.specs.Slices.{slice}
@@ -40,10 +40,7 @@ above-not_minimal v p x c game le win low high min =
     let place : v.members - 1 - (v.members - 1 - found.0) ≡ found.0 = omega arith in
     let inside : eqb (c / 2 ^ (v.members - 1 - (v.members - 1 - found.0)) % 2) 1 ≡ true = grind (arith, eq-eqb) in
     let prefix : (c - 2 ^ found.0) / 2 ^ (v.members - p) ≡ x = grind (arith, block-prefix) in
-    let prefix' : (c - 2 ^ (v.members - 1 - (v.members - 1 - found.0))) / 2 ^ (v.members - p) ≡ x = grind (arith) in
-    let still : wins v.rules (c - 2 ^ (v.members - 1 - (v.members - 1 - found.0))) ≡ true = grind (arith, wins-below) in
-    let lost = ((needs-each-member v c).0 min).1 (v.members - 1 - found.0) (omega (arith, game.some)) inside in
-    both_ways _ lost still
+    grind (arith, common_steps, both_ways, wins-below, needs-each-member)
 
 -- a prefix that cannot reach some quota has nothing below it
 pub dead-nothing : (v : Votes) (p x : ℕ) → IsVotes v → p ≤ v.members → reaches v.rules p x ≡ false → NothingBelow v p x

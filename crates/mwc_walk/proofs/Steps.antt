@@ -124,8 +124,7 @@ module _ {v : Votes} {a : Cursor} (is : CursorIs v a) where
     pub in-room : a.place < v.members
     in-room =
         let can = reach-is true reach in
-        let lost = win-is false lose in
-        grind (arith, both_ways, full-reach v.members v.rules is.game.rules a.place a.prefix)
+        let lost = win-is false lose in grind (arith, common_steps, both_ways, full-reach)
 
     pub in-fits : All (λ l. l.sum + get_or l.weights a.place 0 < 2 ^ 64) (take a.rules a.lanes)
     in-fits = fits-in v.members a.place a.prefix v.rules (take a.rules a.lanes) in-room is.lanes
@@ -156,8 +155,7 @@ module _ {v : Votes} {a : Cursor} (is : CursorIs v a) where
 
     -- and with one rule it is minimal there
     pub one-is : a.bits < a.place → a.rules ≡ 1 → minimal v (a.prefix * 2 ^ (v.members - a.place)) ≡ true
-    one-is lt one =
-        one-minimal v a.place a.prefix is.game (sym is.rules ∙ one) (omega arith) is.place.to won (is.place.passed lt)
+    one-is lt one = grind (arith, common_steps, one-minimal)
 
     -- there was a visit for it
     won-visited : 1 ≤ cond (ltb a.bits a.place) (a.prefix % 2) a.bits
@@ -171,8 +169,7 @@ module _ {v : Votes} {a : Cursor} (is : CursorIs v a) where
   -- the number of a prefix with zeros after it
   pub enter-short : a.prefix * 2 ^ (v.members - a.place) < 2 ^ v.members
   enter-short =
-      let e : a.place + (v.members - a.place) ≡ v.members = omega (arith, is.place.to) in
-      rw e at (shl_below a.prefix a.place (v.members - a.place) is.place.short)
+      let e : a.place + (v.members - a.place) ≡ v.members = omega (arith, is.place.to) in grind (arith, common_steps, shl_below)
 
   pub enter-mask : a.prefix * 2 ^ (a.members - a.place) % 2 ^ 64 ≡ a.prefix * 2 ^ (v.members - a.place)
   enter-mask =

@@ -17,8 +17,7 @@ loop-place-init c = record {
 pub overflow_add-rest-in-loop-place : goal.overflow_add-rest-in-loop-place
 overflow_add-rest-in-loop-place c =
     let here = sum-before c.args.weights.now c.loop-place.rest c.args.members c.loop-place.place (omega arith) (omega arith) (omega arith)
-    c.loop-place.invariant in
-    omega (arith, here, drop-most (take c.args.members c.args.weights.now) (c.loop-place.place - 1), c.requires.fits)
+    c.loop-place.invariant in grind (arith, common_steps, drop-most)
 
 pub loop-place-preserved : goal.loop-place-preserved
 loop-place-preserved c =

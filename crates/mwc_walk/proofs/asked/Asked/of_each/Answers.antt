@@ -1,9 +1,7 @@
 use Rattle.council_game.specs.Game.{votes_of}
-use Rattle.std.proofs.Common.{rules, ◌≡◌, ◌-◌, ◌≤◌, ℕ, get_or, arith, []}
+use Rattle.std.proofs.Common.{get_or, arith, []}
 use Rattle.std.proofs.lemmas.Grind.{common_steps}
 use Rattle.std.proofs.lemmas.Slice.Zip.{AllZip-long}
-use Rattle.mwc_walk.specs.Inner.Asked.{asked_at}
-use Rattle.mwc_walk.specs.Inner.Vetoes.{vetoes_at}
 use Rattle.mwc_walk.specs.Inner.Lanes.{no_lane}
 use Rattle.mwc_walk.proofs.Rules.{lane-of}
 use Rattle.mwc_walk.proofs.asked.Asked.of_each.Goals as goal
@@ -14,6 +12,4 @@ returns c = λ i below.
     let count = AllZip-long _ v.rules c.args.lanes.now c.requires.lanes in
     let lane = lane-of v.members 0 0 v.rules c.args.lanes.now c.requires.lanes i below no_lane in
     let made = c.filled.ensures.made i (record { before = [] }) (omega (arith, count, below)) in
-    let is : (p : ℕ) → p ≤ 40 → asked_at c.filled.result i p ≡ (get_or c.args.lanes.now i no_lane).quota
-    - get_or (vetoes_at c.brought-vetoes.result i).brings p 0 = search rules in
-    grind (arith, common_steps)
+    grind (arith, common_steps, get_or)
