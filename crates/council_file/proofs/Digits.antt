@@ -1,4 +1,5 @@
 -- The symbols of a text, from its front.
+use Rattle.std.proofs.lemmas.Grind.{common_steps}
 use Rattle.std.proofs.lemmas.List.{length-map, map_push, take_all, take-append-drop}
 use Rattle.std.proofs.lemmas.List.FromFn.{map-range_with_len_more, length-map-range_with_len}
 use Rattle.std.specs.List.{range_with_len}
@@ -54,8 +55,7 @@ pub digits_fit : (ds : List ℕ) (i : ℕ) → AllDigits 10 ds → length ds ≤
 digits_fit ds i whole short below =
     let small = digits_value_short (numerals_by_value (AllDigits 10) tells_digits) ds 18 whole short in
     let part = digits_value-take-le 10 ds (i + 1) (omega arith) in
-    let more = digits_more ds i whole below in
-    omega (arith, small, part, more)
+    let more = digits_more ds i whole below in grind (arith, nat_tests, common_steps)
 
 -- one name more
 pub names_more : (names : List (String Global)) (name : String Global) (k : ℕ) → map string_bytes names ≡ map decimal (range_with_len 1 k)
