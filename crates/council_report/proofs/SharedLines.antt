@@ -15,7 +15,7 @@ use Rattle.council_report.specs.declared.seat.Seat.{Seat}
 use Rattle.council_report.specs.declared.subtotal.Subtotal.{Subtotal}
 use Rattle.council_report.specs.declared.shared_line.SharedLine.{SharedLine}
 use Rattle.council_report.specs.Lines.{with_tab, names_of}
-use Rattle.council_report.specs.Inner.SharedLine.{places_before, name_at, fields_of, weight_of_places, IsSeat, AreSeats, IsSubtotal, IsLine, IsWholeLine, SameBefore}
+use Rattle.council_report.specs.Inner.SharedLine.{places_before, fields_of, weight_of_places, IsSeat, AreSeats, IsSubtotal, IsLine, IsWholeLine, SameBefore}
 use Rattle.council_report.proofs.Beginnings.{before-none, before-in, before-out, before-same, before-front, before-all, fields-none, fields-append, fields-more, fields-all, fields-fit, weights-none, weights-more, weights-all, weights-light}
 
 -- what is read past the subtotals
@@ -85,8 +85,7 @@ added-short g line seat is more in' seat-is =
     let next = ap (λ (qs : List ℕ). length (fields_of g qs)) (before-in n line.coalition line.end in') in
     let field = ap (λ (t : List ℕ). length t) seat-is.field in
     let names = ap (λ (t : List ℕ). length t) is.names in
-    let whole = ap (λ (t : List ℕ). length t) (fields-more g ps line.end) in
-    omega (arith, fit, next, field, names, whole, length-append (fields_of g ps) (with_tab (name_at g line.end)))
+    let whole = ap (λ (t : List ℕ). length t) (fields-more g ps line.end) in grind (arith, nat_tests, common_steps, length-append)
 
 -- ---- the whole line
 pub whole-names : (g : GameView) (c : ℕ) (line : SharedLine) → IsWholeLine g c line → line.names.items ≡ flat_map with_tab (names_of g c)
