@@ -1,7 +1,7 @@
 -- The places of a coalition, one by one, and what their members add to a line.
 use Rattle.std.proofs.lemmas.Grind.{common_steps}
 use Rattle.std.proofs.Common.{◌≡◌, ℕ, zero, suc, ◌+◌, ◌-◌, ◌<◌, ◌≤◌, ◌++◌, Bool, true, false, cond, List, [], ◌∷◌, length, filter, take, drop, slice_index, refl, sym, ap, ◌∙◌, arith, inl, inr}
-use Rattle.std.specs.List.{flat_map, range_with_len, AllByRecursion}
+use Rattle.std.specs.List.{flat_map, range_with_len}
 use Rattle.std.proofs.lemmas.Bool.{cases_lt, cond-true, cond-false}
 use Rattle.std.proofs.lemmas.Grind.{flat_map-append}
 use Rattle.std.proofs.lemmas.List.{map-append, map-id, append-nil, length-map, get_or_past, take-append-drop}
@@ -109,8 +109,7 @@ weights-more g r ps p = grind (arith, nat_tests, sum_by-cons, weights-append, we
 pub rule-is : (g : GameView) → IsGame g → (r : ℕ) → r < length g.rules → IsRule (length g.names) (rule_at (votes_of g).rules r)
 rule-is g game r lt =
     let votes = votes-are g game in
-    let each : AllByRecursion (IsRule (length g.names)) (votes_of g).rules = votes.rules in
-    let long : length (votes_of g).rules ≡ length g.rules = length-map g.rules _ in grind (arith, nat_tests, common_steps)
+    grind (arith, nat_tests, common_steps)
 
 pub weights-all : (g : GameView) → IsGame g → (r c : ℕ) → r < length g.rules
     → weight_of_places g r (places_before (length g.names) c (length g.names)) ≡ weight (rule_at (votes_of g).rules r).weights c

@@ -1,5 +1,5 @@
 -- A line at its end, one place more, and cut at a place.
-use Rattle.std.proofs.Common.{◌≡◌, ℕ, ◌+◌, ◌^◌, ◌<◌, ◌≤◌, ◌++◌, true, false, List, [], ◌∷◌, length, take, get_or, Vec, set, ap, ◌∙◌, arith, length-append}
+use Rattle.std.proofs.Common.{◌≡◌, ℕ, ◌+◌, ◌^◌, ◌<◌, ◌≤◌, ◌++◌, true, false, List, [], ◌∷◌, length, take, get_or, Vec, set, ap, arith, length-append}
 use Rattle.std.specs.Global.{Global}
 use Rattle.std.specs.Vec.{vec_capacity}
 use Rattle.std.specs.List.{flat_map}
@@ -30,8 +30,7 @@ pub line-kept : (g : GameView) (line : SharedLine) (names : Vec ℕ Global) (k c
 line-kept g line names k c d is le same cut room =
     let n : ℕ = length g.names in
     let front = before-front n line.coalition k line.end le in
-    let all : line.names.items ≡ fields_of g (places_before n line.coalition k) ++ fields_of g front.0 =
-    is.names ∙ ap (fields_of g) front.1 ∙ fields-append g (places_before n line.coalition k) front.0 in
+    let all : line.names.items ≡ fields_of g (places_before n line.coalition k) ++ fields_of g front.0 = grind (arith, fields-append) in
     grind (arith, take-append_seam, before-same)
 
 -- the subtotals with one more
@@ -71,8 +70,7 @@ added-light g line d seat is more in' seat-is r lt =
     let n : ℕ = length g.names in
     let ps : List ℕ = places_before n line.coalition line.end in
     let light = weights-light g is.game r line.coalition (line.end + 1) (omega (arith, more)) in
-    let next = ap (weight_of_places g r) (before-in n line.coalition line.end in') in
-    omega (arith, light, next, weights-more g r ps line.end, (is.subtotals line.end d (omega arith)).weights r lt, seat-is.weights r lt)
+    let next = ap (weight_of_places g r) (before-in n line.coalition line.end in') in grind (arith, weights-more)
 
 -- and the names still fit
 pub added-short : (g : GameView) (line : SharedLine) (seat : Seat) → IsLine g line → line.end < length g.names
@@ -83,8 +81,6 @@ added-short g line seat is more in' seat-is =
     let ps : List ℕ = places_before n line.coalition line.end in
     let fit = fields-fit g is.game line.coalition (line.end + 1) (omega (arith, more, is.few)) in
     let next = ap (λ (qs : List ℕ). length (fields_of g qs)) (before-in n line.coalition line.end in') in
-    let field = ap (λ (t : List ℕ). length t) seat-is.field in
-    let names = ap (λ (t : List ℕ). length t) is.names in
     let whole = ap (λ (t : List ℕ). length t) (fields-more g ps line.end) in grind (arith, nat_tests, common_steps, length-append)
 
 -- ---- the whole line

@@ -45,7 +45,6 @@ pub stopped-whole : (before held : Option (List ℕ)) (block : Block) (heading l
     → block.bytes.items ≡ heading → StopsIn (progress_of before block) lines held n → (n ≤ length (heading ++ lines))
     × Appends before held (take n (heading ++ lines))
 stopped-whole before held block heading lines n none is s =
-    let long = ap (λ (t : List ℕ). length t) is in
     let text : heading ++ lines ≡ (heading ++ s.front) ++ s.rest = grind (arith, append_assoc) in
     let first : take n (heading ++ lines) ≡ take n (heading ++ s.front) = grind (arith, take-append-le, length-append) in
     let tells : Appends (option_map (λ h. h ++ heading) before) s.at.bytes s.front = grind (arith) in
