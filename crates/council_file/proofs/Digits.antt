@@ -54,8 +54,7 @@ pub digits_fit : (ds : List ℕ) (i : ℕ) → AllDigits 10 ds → length ds ≤
     → digits_value 10 (take i ds) * 10 + (get_or ds i 0 - 48) < 10 ^ 18
 digits_fit ds i whole short below =
     let small = digits_value_short (numerals_by_value (AllDigits 10) tells_digits) ds 18 whole short in
-    let part = digits_value-take-le 10 ds (i + 1) (omega arith) in
-    let more = digits_more ds i whole below in grind (arith, nat_tests, common_steps)
+    grind (arith, common_steps, nat_tests, digits_value-take-le, digits_more)
 
 -- one name more
 pub names_more : (names : List (String Global)) (name : String Global) (k : ℕ) → map string_bytes names ≡ map decimal (range_with_len 1 k)
