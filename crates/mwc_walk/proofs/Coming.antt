@@ -4,6 +4,7 @@ use Rattle.std.specs.Int.{div_ceil}
 use Rattle.std.proofs.lemmas.Grind.{common_steps}
 use Rattle.std.proofs.lemmas.Bool.{cases_lt, cases_eq, both_ways, and_parts, or_cases, leb-true, ltb-true, cases_Bool, cond_both, cond-false}
 use Rattle.std.proofs.lemmas.Nat.{mul-le}
+use Rattle.std.proofs.Math.Nat.{le_of_mul-le-mul_left}
 use Rattle.std.proofs.lemmas.List.{drop_all, length-take-le, get_or-take, take_all}
 use Rattle.std.proofs.lemmas.Nat.Bits.{bit_at-lt}
 use Rattle.std.specs.List.{list_any}
@@ -30,16 +31,9 @@ still-kept a b i t f g cheaper kept none =
       | inl some ↦
           let first : i * b * f ≤ a * t * f = mul-le (i * b) f (a * t) f cheaper (omega arith) in
           let second : t * (a * f) ≤ t * (b * g) = mul-le t (a * f) t (b * g) (omega arith) kept in
-          let both : b * (i * f) ≤ b * (t * g) = omega (arith, first, second) in
-          elim (cases_lt (t * g) (i * f)) [
-            | inl more ↦
-                let over : b * (t * g + 1) ≤ b * (i * f) = mul-le b (t * g + 1) b (i * f) (omega arith) (omega arith) in
-                absurd (omega (arith, over, both, some))
-            | inr fine ↦ fine
-          ]
+          let both : b * (i * f) ≤ b * (t * g) = omega (arith, first, second) in le_of_mul-le-mul_left both some
       | inr empty ↦
-          let nothing : f ≡ 0 = none (omega arith) in
-          rw nothing (omega arith)
+          let nothing : f ≡ 0 = none (omega arith) in rw nothing (omega arith)
     ]
 
 -- with a cheaper member

@@ -48,8 +48,7 @@ pub next-digit : (p m b : ℕ) → b < 2 → m < 2 ^ p → NextDigit p m b
 unfolding has
 next-digit p m b digit short =
     let half : (2 * m + b) / 2 ≡ m = omega arith in
-    let shifted = λ (q : ℕ). shr-shr (2 * m + b) 1 q in
-    grind (arith, common_steps, short-step)
+    grind (arith, common_steps, short-step, shr-shr (2 * m + b) 1)
 
 -- a place that is in the prefix is in each coalition below it
 has-below : (n p x c q : ℕ) → p ≤ n → q < n → c / 2 ^ (n - p) ≡ x → has n q (x * 2 ^ (n - p)) ≡ true → has n q c ≡ true
@@ -74,9 +73,9 @@ still-wins : (n c q : ℕ) (rs : List RuleView) → AllByRecursion (IsRule n) rs
 unfolding wins
 still-wins n c q [] all below in' free = refl
 still-wins n c q (r ∷ rs) all below in' free =
-    let first : r.quota + get_or r.weights q 0 ≤ weight r.weights c = free 0 (omega arith) in
     let less = sum-without n r c q (weight r.weights c) all.0 below in' refl in
-    and_from _ _ (le-leb _ _ (omega (arith, first, less))) (still-wins n c q rs all.1 below in' (λ i lt. free (suc i) (omega (arith, lt))))
+    let more = still-wins n c q rs all.1 below in' (λ i lt. free (suc i) (omega (arith, lt))) in
+    and_from _ _ (le-leb _ _ (omega (arith, free 0 (omega arith), less))) more
 
 -- ---- what is there and what comes
 -- digits above the places of a list weigh nothing
@@ -108,8 +107,7 @@ up-to-last n rest q few pos short below in' =
 -- what the first rule can not spare of a place, it can spare of no place before it
 first-keeps : (rs : List RuleView) (e q m : ℕ) → IsRanked rs → 1 ≤ length rs → e < get_or (rule_at rs 0).weights q 0 → m ≤ q
     → q < length (rule_at rs 0).weights → e < get_or (rule_at rs 0).weights m 0
-first-keeps [] e q m ranked some keeps before below = absurd (omega (arith, some))
-first-keeps (r ∷ rs) e q m ranked some keeps before below = let heavier = ranked m q before below in omega (arith, keeps, heavier)
+first-keeps rs e q m ranked some keeps before below = grind (arith, common_steps)
 
 module _ {v : Votes} {p x rest : ℕ} {es : List ℕ} (tried : Tried v p x es rest) where
   pub tried-more : (q : ℕ) → 0 < rest → q < v.members → has v.members q rest ≡ true → (CanSpare v es q → ⊥)
@@ -178,16 +176,11 @@ module _ {v : Votes} {a : Cursor} (is : CursorIs v a) where
       → minimal v (a.prefix * 2 ^ (v.members - a.place)) ≡ true
   kept-minimal es enough kept won =
       let x : ℕ = a.prefix * 2 ^ (v.members - a.place) in
-      (needs-each-member v x).1 (
-        wins-prefix v.members v.rules is.game.rules a.place a.prefix is.place.to ∙ won,
-        λ q below in'. false_from_ne_true _ (λ still. kept q below in' (λ i lt.
-            let met = met-at v.members (without v.members q x) v.rules is.game.rules still i lt in
-            let less = sum-without v.members (rule_at v.rules i) x q (weight (take a.place (rule_at v.rules i).weights) a.prefix) met.0
-            below in'
-            (sym (weight-block met.0 a.place a.prefix is.place.to)) in
-            let most = enough i lt in
-            omega (arith, met.1, met.0.some, less, most))),
-      )
+      let whole = wins-prefix v.members v.rules is.game.rules a.place a.prefix is.place.to in
+      (needs-each-member v x).1 (whole ∙ won, λ q below in'. false_from_ne_true _ (λ still. kept q below in' (λ i lt.
+      let met = met-at v.members (without v.members q x) v.rules is.game.rules still i lt in
+      let less = sum-without v.members (rule_at v.rules i) x q _ met.0 below in' (sym (weight-block met.0 a.place a.prefix is.place.to)) in
+      omega (arith, met.1, met.0.some, less, enough i lt))))
 
   pub none-nothing : NoneWins v a.place a.prefix → NothingBelow v a.place a.prefix
   none-nothing none = λ c prefix. false_from_ne_true _ (λ min. none c prefix (((needs-each-member v c).0 min).0))
@@ -206,16 +199,12 @@ module _ {v : Votes} {a : Cursor} (is : CursorIs v a) where
     -- where the first rule can not spare the last place of those left, no place can be spared
     pub first-keeps-all : {es : List ℕ} → Tried v a.place a.prefix es rest
         → get_or es 0 0 < get_or (rule_at v.rules 0).weights (a.members - 1 - trailing_zeros w64 rest) 0 → NoneSpared v a.place a.prefix es
-    first-keeps-all {es} tried keeps =
-        let last = last-place tried.below in
-        let first = lane-here 0 (omega (arith, is.rules, is.game.has_rule)) in
-        λ m below in'. elim (cases_Bool (has v.members m rest)) [
-          | inl still ↦ λ spare.
-              let before = up-to-last v.members rest m is.game.few pos tried.below below still in
-              let less = first-keeps v.rules (get_or es 0 0) (a.members - 1 - trailing_zeros w64 rest) m is.game.ranked is.game.has_rule
-              keeps
-              (omega (arith, before, is.members)) (omega (arith, last.below, first.rule.full)) in
-              let most = spare 0 is.game.has_rule in
-              absurd (omega (arith, less, most))
-          | inr out ↦ tried.kept m below in' out
-        ]
+    first-keeps-all {es} tried keeps = λ m below in' spare. elim (cases_Bool (has v.members m rest)) [
+      | inl still ↦
+          let last = last-place tried.below in
+          let first = lane-here 0 (omega (arith, is.rules, is.game.has_rule)) in
+          let before = up-to-last v.members rest m is.game.few pos tried.below below still in
+          let less = first-keeps v.rules _ _ m is.game.ranked is.game.has_rule keeps (omega (arith, before)) (omega (arith, last.below)) in
+          absurd (omega (arith, less, spare 0 is.game.has_rule))
+      | inr out ↦ tried.kept m below in' out spare
+    ]

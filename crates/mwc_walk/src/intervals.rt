@@ -134,6 +134,7 @@ impl Intervals {
     fn widen(&mut self, at: usize, other: Interval)
         requires { at < 8 }
         ensures count { self.new.count ≡ self.old.count }
+        ensures covers { (y : ℕ) → Covers self.old y → Covers self.new y }
         ensures kept { (k y : ℕ) → InInterval self.old k y → InInterval self.new k y }
         ensures new { (y : ℕ) → other.least ≤ y → y ≤ other.most → InInterval self.new at y }
     {
