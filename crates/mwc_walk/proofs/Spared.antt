@@ -177,10 +177,13 @@ module _ {v : Votes} {a : Cursor} (is : CursorIs v a) where
   kept-minimal es enough kept won =
       let x : ℕ = a.prefix * 2 ^ (v.members - a.place) in
       let whole = wins-prefix v.members v.rules is.game.rules a.place a.prefix is.place.to in
-      (needs-each-member v x).1 (whole ∙ won, λ q below in'. false_from_ne_true _ (λ still. kept q below in' (λ i lt.
-      let met = met-at v.members (without v.members q x) v.rules is.game.rules still i lt in
-      let less = sum-without v.members (rule_at v.rules i) x q _ met.0 below in' (sym (weight-block met.0 a.place a.prefix is.place.to)) in
-      omega (arith, met.1, met.0.some, less, enough i lt))))
+      (needs-each-member v x).1 (
+        whole ∙ won,
+        λ q below in'. false_from_ne_true _ (λ still. kept q below in' (λ i lt.
+            let met = met-at v.members (without v.members q x) v.rules is.game.rules still i lt in
+            let less = sum-without v.members (rule_at v.rules i) x q _ met.0 below in' (sym (weight-block met.0 a.place a.prefix is.place.to)) in
+            omega (arith, met.1, met.0.some, less, enough i lt))),
+      )
 
   pub none-nothing : NoneWins v a.place a.prefix → NothingBelow v a.place a.prefix
   none-nothing none = λ c prefix. false_from_ne_true _ (λ min. none c prefix (((needs-each-member v c).0 min).0))

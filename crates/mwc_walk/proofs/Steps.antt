@@ -119,12 +119,12 @@ module _ {v : Votes} {a : Cursor} (is : CursorIs v a) where
     enter-spare nothing fixed = grind (arith, common_steps, left-nothing, open-most, pass-by)
 
   -- a prefix that reaches and does not win has a place after it
-  module _ (reach : list_all (lane_reaches a.place) (take a.rules a.lanes) ≡ true)
-      (lose : list_all lane_wins (take a.rules a.lanes) ≡ false) where
+  module _ {reaching winning : Bool} (reaches-is : reaching ≡ list_all (lane_reaches a.place) (take a.rules a.lanes))
+      (wins-is : winning ≡ list_all lane_wins (take a.rules a.lanes)) (reach : reaching ≡ true) (lose : winning ≡ false) where
     pub in-room : a.place < v.members
     in-room =
-        let can = reach-is true reach in
-        let lost = win-is false lose in grind (arith, common_steps, both_ways, full-reach)
+        let can = reach-is true (sym reaches-is ∙ reach) in
+        let lost = win-is false (sym wins-is ∙ lose) in grind (arith, common_steps, both_ways, full-reach)
 
     pub in-fits : All (λ l. l.sum + get_or l.weights a.place 0 < 2 ^ 64) (take a.rules a.lanes)
     in-fits = fits-in v.members a.place a.prefix v.rules (take a.rules a.lanes) in-room is.lanes
@@ -134,18 +134,24 @@ module _ {v : Votes} {a : Cursor} (is : CursorIs v a) where
         → IsPart (lane_with a.place) a.lanes ls a.rules
         → Steps v a On (record a { lanes = ls; prefix = 2 * a.prefix + 1; place = a.place + 1; visits = t })
     enter-in fresh ls t counted holds part =
-        let can = reach-is true reach in
-        let lost = win-is false lose in
+        let can = reach-is true (sym reaches-is ∙ reach) in
+        let lost = win-is false (sym wins-is ∙ lose) in
         known On (λ f. record a { lanes = ls; prefix = 2 * a.prefix + 1; place = a.place + 1; visits = t; fresh = f }) true fresh (λ is.
         let place = place-down v a.bits a.number a.place (a.place + 1) a.prefix (2 * a.prefix + 1) refl (omega arith) in-room lost is.place in
         grind (arith, common_steps, lanes-in, reaches-in, slice-short, halves)) is
 
+  -- the number of a prefix with zeros after it
+  pub enter-short : a.prefix * 2 ^ (v.members - a.place) < 2 ^ v.members
+  enter-short =
+      let e : a.place + (v.members - a.place) ≡ v.members = omega (arith, is.place.to) in grind (arith, common_steps, shl_below)
+
+  pub enter-mask : a.prefix * 2 ^ (a.members - a.place) % 2 ^ 64 ≡ a.prefix * 2 ^ (v.members - a.place)
+  enter-mask =
+      ap (λ (i : ℕ). a.prefix * 2 ^ (i - a.place) % 2 ^ 64) is.members
+      ∙ shl_whole a.prefix a.place (v.members - a.place) 64 is.place.short (omega (arith, is.place.to, is.game.few))
+
   -- ---- a winning prefix
   module _ (won : wins_at v.rules a.place a.prefix ≡ true) where
-    won-left : slice_below v a.bits a.number ((a.prefix + 1) * 2 ^ (v.members - a.place)) ≡ slice_below v a.bits a.number
-        (a.prefix * 2 ^ (v.members - a.place) + 1)
-    won-left = left-won v a.bits a.number a.place a.prefix is.game is.place.to won
-
     -- past the fixed places it has its last place in
     last-in : a.bits < a.place → a.prefix % 2 ≡ 1
     last-in lt = won-odd v.members a.place a.prefix v.rules (omega arith) is.place.to is.game.rules won (is.place.passed lt)
@@ -162,19 +168,10 @@ module _ {v : Votes} {a : Cursor} (is : CursorIs v a) where
     won-visited = grind (arith, common_steps, cond-true, lt-ltb, last-in, cond-false, le-ltb, both_ways, empty-loses, cases_lt)
 
     -- a minimal one is given
-    pub enter-give : a.fresh ≡ true → minimal v (a.prefix * 2 ^ (v.members - a.place)) ≡ true
-        → Steps v a (Give (a.prefix * 2 ^ (v.members - a.place))) (record a { fresh = false })
-    enter-give fresh min = grind (arith, common_steps, in-slice, known, left-take, open-most, won-left, won-visited)
-
-  -- the number of a prefix with zeros after it
-  pub enter-short : a.prefix * 2 ^ (v.members - a.place) < 2 ^ v.members
-  enter-short =
-      let e : a.place + (v.members - a.place) ≡ v.members = omega (arith, is.place.to) in grind (arith, common_steps, shl_below)
-
-  pub enter-mask : a.prefix * 2 ^ (a.members - a.place) % 2 ^ 64 ≡ a.prefix * 2 ^ (v.members - a.place)
-  enter-mask =
-      ap (λ (i : ℕ). a.prefix * 2 ^ (i - a.place) % 2 ^ 64) is.members
-      ∙ shl_whole a.prefix a.place (v.members - a.place) 64 is.place.short (omega (arith, is.place.to, is.game.few))
+    pub enter-give : a.fresh ≡ true → (m : ℕ) → m ≡ a.prefix * 2 ^ (a.members - a.place) % 2 ^ 64
+        → minimal v (a.prefix * 2 ^ (v.members - a.place)) ≡ true → Steps v a (Give m) (record a { fresh = false })
+    enter-give fresh m found min =
+        rw (found ∙ enter-mask) (grind (arith, common_steps, in-slice, known, left-take, open-most, left-won, won-visited))
 
   -- between two calls no descent is under way
   pub rest-most : (a.fresh ≡ true → a.place ≡ a.bits) → length v.rules ≡ 1
