@@ -169,10 +169,10 @@ fits-out n p q x rs ls below next odd are =
     All-beside (LaneIs n q x) (λ l. get_or l.weights p 0 ≤ l.sum) (λ r l is.
     omega (arith, weight-step is.rule p q (x / 2) x 1 below next (omega arith) (omega arith), is.sum_is, is.weights p below)) rs ls are
 
-pub same-at : {A : Type 0} (x : A) (n q : ℕ) → get_or (replicate n x) q x ≡ x
-same-at x zero q = refl
-same-at x (suc n) zero = refl
-same-at x (suc n) (suc q) = same-at x n q
+pub same_at : {A : Type 0} (x : A) (n q : ℕ) → get_or (replicate n x) q x ≡ x
+same_at x zero q = refl
+same_at x (suc n) zero = refl
+same_at x (suc n) (suc q) = same_at x n q
 
 pub same-weights : (n : ℕ) (ws vs : List ℕ) → n ≤ length ws → length vs ≡ n → ((q : ℕ) → q < n → get_or ws q 0 ≡ get_or vs q 0)
     → take n ws ≡ vs

@@ -28,15 +28,9 @@ use Rattle.mwc_walk.proofs.Shared.One.{place-before, in-slice}
 use Rattle.mwc_walk.proofs.Rules.{weight-block, weight-split, wins-prefix, lane-of}
 use Rattle.mwc_walk.proofs.Steps.{enter-short, short-step}
 
-and-digit : (a b : ℕ) → a < 2 → b < 2 → (min a b == 1) ≡ (a == 1 && b == 1)
-and-digit a b la lb = grind (arith, nat_tests)
-
 pub has-and : (n q a b : ℕ) → has n q (bit_and a b) ≡ (has n q a && has n q b)
 unfolding has
-has-and n q a b = grind (arith, common_steps, and-digit, bit_at_and)
-
-pub and-less : (a b m : ℕ) → a ≤ m → bit_and a b ≤ m
-and-less a b m le = let less = and_le_l a b in omega (arith, less)
+has-and n q a b = grind (arith, nat_tests, common_steps, bit_at_and)
 
 -- a mask of p places, with one digit more
 pub record NextDigit (p m b : ℕ) : Type 0 where
@@ -121,7 +115,7 @@ module _ {v : Votes} {p x rest : ℕ} {es : List ℕ} (tried : Tried v p x es re
   pub tried-weightless : (i : ℕ) (l : Lane) → i < length v.rules → LaneIs v.members p x (rule_at v.rules i) l → get_or es i 0 ≡ 0
       → Tried v p x es (bit_and rest l.weightless)
   tried-weightless i l below is nothing =
-      grind (arith, common_steps, and-less, and_from, and_parts, both_ways, cases_Bool, eq-eqb, has-and)
+      grind (arith, common_steps, and_le_l, and_from, and_parts, both_ways, cases_Bool, eq-eqb, has-and)
 
 module _ {v : Votes} {a : Cursor} (is : CursorIs v a) where
   -- ---- what is there and what comes

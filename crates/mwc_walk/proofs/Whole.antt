@@ -14,6 +14,9 @@ use Rattle.mwc_walk.proofs.Shared.Joined.{slices-joined}
 pub one-slice : (v : Votes) → IsVotes v → slice v 0 0 ≡ minimal_coalitions v
 one-slice v game = sym (append-nil (slice v 0 0)) ∙ slices-joined v 0 (omega arith) (omega arith)
 
+-- what the laws rest on
+pub ruleset slices = (slices-joined, one-slice)
+
 -- the list has the first n of the whole, and the others are to come
 pub record HasFirst (whole list to_come : List ℕ) (n : ℕ) : Type 0 where
   pub joined : list ++ to_come ≡ whole

@@ -77,8 +77,8 @@ pub(crate) fn lanes_of(game: &Game) -> [Lane; limits::RULES]
 fn weights_of(game: &Game, rule: usize) -> [u64; limits::MEMBERS]
     requires { rule < length game.now.rules }
     ensures long { length result ≡ MEMBERS }
-    ensures same { (q : ℕ) → q < (votes_of game.now).members →
-        slice_index result q ≡ slice_index (rule_at (votes_of game.now).rules rule).weights q }
+    ensures same { take (votes_of game.now).members result
+        ≡ (rule_at (votes_of game.now).rules rule).weights }
 {
     filled(
         0,

@@ -2,7 +2,7 @@ use Rattle.std.proofs.Common.{◌≡◌, ◌-◌, [], length, take, drop, arith,
 use Rattle.std.proofs.lemmas.List.{drop_all, length-take-le}
 use Rattle.std.proofs.lemmas.Grind.{common_steps}
 use Rattle.mwc_walk.proofs.Filled.{fill-before}
-use Rattle.mwc_walk.proofs.Rules.{same-at, sum-before, drop-most}
+use Rattle.mwc_walk.proofs.Rules.{same_at, sum-before, drop-most}
 use Rattle.mwc_walk.proofs.lane.rest_of.Goals as goal
 
 pub loop-place-init : goal.loop-place-init
@@ -11,7 +11,7 @@ loop-place-init c = record {
   done = λ q lo hi.
       let size : length (take c.args.members c.args.weights.now) ≡ c.args.members = grind (arith, common_steps, length-take-le) in
       let none : drop q (take c.args.members c.args.weights.now) ≡ [] = drop_all q (take c.args.members c.args.weights.now) (omega arith) in
-      rw none (same-at 0 41 q);
+      rw none (same_at 0 41 q);
 }
 
 pub overflow_add-rest-in-loop-place : goal.overflow_add-rest-in-loop-place
