@@ -27,6 +27,7 @@ fn mark(byte: u8) -> Token<'static>
 }
 
 /// How many digits stand first.
+#[tactic(auto, using(std::proofs::lemmas::Int::Digits::digits_more))]
 fn digits_in_front(bytes: &[u8]) -> usize
     ensures within { result ≤ length bytes.now }
     ensures digits { AllDigits 10 (take result bytes.now) }
@@ -40,6 +41,7 @@ fn digits_in_front(bytes: &[u8]) -> usize
 }
 
 /// The text from its first byte that is not blank.
+#[tactic(auto, using(crate::proofs::Digits::symbols_behind_blank))]
 fn after_blanks(text: &[u8]) -> &[u8]
     ensures same { symbols result.now ≡ symbols text.now }
     ensures all { begins_with_blank result.now ≡ false }

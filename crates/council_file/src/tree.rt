@@ -27,6 +27,7 @@ pub(crate) fn tree_of(alloc: Global, bytes: &[u8]) -> Result<Table, GameFault>
 }
 
 /// The value at a key.
+#[tactic(auto, using(toml::proofs::Views::table_get))]
 pub(crate) fn value_at<'a>(table: &'a Table, key: &str) -> Option<&'a Value>
     ensures { option_map (λ v. view v.now) result ≡ get_member key.now (table_view table.now) }
 {

@@ -94,3 +94,6 @@ pub line-first : (g : GameView) (line : SharedLine) → IsGame g → AreSeats g 
     → line.names.items ≡ [] → 4096 ≤ vec_capacity line.names → length line.subtotals ≡ 41 →
     ((d : Subtotal) → IsSubtotal g [] (get_or line.subtotals 0 d)) → IsLine g line
 line-first g line game seats start none room long subtotal = grind (arith, nat_tests, before-none, few-members, fields-none)
+
+-- what the names of a whole line rest on
+pub ruleset whole = (whole-names)

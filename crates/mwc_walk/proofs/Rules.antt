@@ -4,11 +4,11 @@ use Rattle.std.specs.List.{All, AllByRecursion, AllZip, list_all}
 use Rattle.std.proofs.lemmas.Bool.{and_from, and_parts, le-leb, leb-true}
 use Rattle.std.proofs.lemmas.List.Elements.{All-nil, All-cons}
 use Rattle.std.proofs.lemmas.Grind.{common_steps}
-use Rattle.std.proofs.lemmas.List.{drop_all, map-id, length-take-le, ext_get_or, get_or-take}
+use Rattle.std.proofs.lemmas.List.{length-map, drop_all, map-id, length-take-le, ext_get_or, get_or-take}
 use Rattle.std.proofs.lemmas.List.Sums.{sum_by-drop_more, sum_by-take-drop}
 use Rattle.std.proofs.lemmas.Bool.Decides.{nat_tests}
 use Rattle.council_game.specs.Votes.{RuleView, IsRule, weight, wins, rule_at}
-use Rattle.council_game.proofs.Shared.Weights.{weight-at, weight-le, weight-more, weight-prefix}
+use Rattle.council_game.proofs.Shared.Weights.{weight-zero, weight-at, weight-le, weight-more, weight-prefix}
 use Rattle.mwc_walk.specs.Inner.Places.{reaches, wins_at, LaneIs, LanesAre}
 use Rattle.mwc_walk.specs.declared.lane.Lane.{Lane}
 use Rattle.mwc_walk.specs.Inner.Lanes.{lane_reaches, lane_wins, lane_with, lane_without}
@@ -208,3 +208,6 @@ lane-of n p x [] (l ∷ ls) are i below d = elim are [ ]
 lane-of n p x (r ∷ rs) [] are i below d = elim are [ ]
 lane-of n p x (r ∷ rs) (l ∷ ls) are zero below d = are.0
 lane-of n p x (r ∷ rs) (l ∷ ls) are (suc i) below d = lane-of n p x rs ls are.1 i (omega (arith, below)) d
+
+-- what the lane of a rule rests on
+pub ruleset lane_made = (common_steps, length-map, get_or-take, weight-zero)

@@ -48,3 +48,6 @@ pub more-than : (v : Votes) (most : ℕ) {list to_come rest : List ℕ} {n c : �
     → to_come ≡ c ∷ rest
     → most ≤ n → most < length (minimal_coalitions v)
 more-than v most {list} {to_come} game has next many = grind (arith, length-append, one-slice)
+
+-- what a list of a slice rests on
+pub ruleset listed = (one-more, first-ones, first-all)

@@ -27,6 +27,7 @@ pub(crate) struct Lane {
 
 impl Lane {
     /// The lane of a rule, with no member in.
+    #[tactic(auto, using(crate::proofs::Rules::lane_made))]
     pub(crate) fn new(game: &Game, rule: usize) -> Lane
         requires { rule < length game.now.rules }
         ensures { LaneIs (votes_of game.now).members 0 0
