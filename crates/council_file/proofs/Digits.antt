@@ -87,3 +87,8 @@ symbols_behind_number (b ∷ bs) n some digit whole stop = number_in_front b bs 
 
 pub names_count : (names : List (String Global)) (n : ℕ) → map string_bytes names ≡ map decimal (range_with_len 1 n) → n ≡ length names
 names_count names n same = grind (arith, length-map-range_with_len, length-map)
+
+-- what the scanner rests on
+pub ruleset first_symbols = (symbols_end, symbols_behind_number, symbols_behind_mark)
+
+pub ruleset values = (digits_fit, digit_at, digits_more)

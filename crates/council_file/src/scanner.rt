@@ -57,6 +57,7 @@ fn after_blanks(text: &[u8]) -> &[u8]
 }
 
 /// The first symbol of a text that begins with no blank, and what is left behind it.
+#[tactic(auto, using(crate::proofs::Digits::first_symbols))]
 fn first_symbol(text: &[u8]) -> Option<(Token<'_>, &[u8])>
     requires { begins_with_blank text.now ≡ false }
     ensures is { MatchOption result (symbols text.now ≡ [])
@@ -74,6 +75,7 @@ fn first_symbol(text: &[u8]) -> Option<(Token<'_>, &[u8])>
 }
 
 /// The value of 1 to 18 digits.
+#[tactic(auto, using(crate::proofs::Digits::values))]
 fn value_of(digits: &[u8]) -> Option<u64>
     requires { AllDigits 10 digits.now }
     ensures { result ≡ value_of digits.now }

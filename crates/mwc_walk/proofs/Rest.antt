@@ -57,7 +57,8 @@ pub left-won : (v : Votes) (k j p x : ℕ) → IsVotes v → p ≤ v.members →
 unfolding slice_below minimal_below
 left-won v k j p x game le win =
     let pos : 0 < 2 ^ (v.members - p) = pow_pos (v.members - p) in
-    let e : (x + 1) * 2 ^ (v.members - p) ≡ (x * 2 ^ (v.members - p) + 1) + (2 ^ (v.members - p) - 1) = grind (arith, next-block) in grind (arith, filter-down_skip, false_from_ne_true, above-not_minimal)
+    let e : (x + 1) * 2 ^ (v.members - p) ≡ (x * 2 ^ (v.members - p) + 1) + (2 ^ (v.members - p) - 1) = grind (arith, next-block) in
+    grind (arith, filter-down_skip, false_from_ne_true, above-not_minimal)
 
 -- c itself, where it is minimal and in the slice
 pub left-take : (v : Votes) (k j c : ℕ) → minimal v c ≡ true → c / 2 ^ (v.members - k) ≡ 2 ^ k - 1 - j

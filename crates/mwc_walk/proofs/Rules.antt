@@ -89,7 +89,12 @@ module _ (n : ℕ) (rs : List RuleView) (all : AllByRecursion (IsRule n) rs) whe
   unfolding reaches
   reaches-in p q x y below next more =
       list_all-more (IsRule n) _ _ (λ r is h.
-      le-leb _ _ (omega (arith, leb-true _ _ h, weight-step is p q x y 1 below next more (omega arith), rw (← next) at (rest-step is p below)))) rs all
+      le-leb _ _ (omega (
+        arith,
+        leb-true _ _ h,
+        weight-step is p q x y 1 below next more (omega arith),
+        rw (← next) at (rest-step is p below),
+      ))) rs all
 
   -- the next place is left out
   pub wins-over : (p q x y : ℕ) → p < n → q ≡ p + 1 → y ≡ 2 * x → wins_at rs q y ≡ wins_at rs p x

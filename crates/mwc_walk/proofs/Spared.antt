@@ -141,7 +141,8 @@ module _ {v : Votes} {a : Cursor} (is : CursorIs v a) where
   least-excess i t b below most comes = λ c prefix won. grind (arith, common_steps, meets, there-and-comes, lane-here)
 
   -- what is there beyond what the rule asks is passed by each winning coalition below
-  pub excess-is : (i e : ℕ) → i < length v.rules → e ≡ (lane_at a.lanes i).sum - asked_at a.asked i a.place → IsExcess v a.place a.prefix i e
+  pub excess-is : (i e : ℕ) → i < length v.rules → e ≡ (lane_at a.lanes i).sum - asked_at a.asked i a.place
+      → IsExcess v a.place a.prefix i e
   excess-is i e below is-e = λ c prefix won. grind (arith, common_steps, meets, there-and-comes)
 
   pub enough-is : (i e : ℕ) → i < length v.rules → e ≡ (lane_at a.lanes i).sum - asked_at a.asked i a.place
@@ -175,7 +176,8 @@ module _ {v : Votes} {a : Cursor} (is : CursorIs v a) where
         whole ∙ won,
         λ q below in'. false_from_ne_true _ (λ still. kept q below in' (λ i lt.
             let met = met-at v.members (without v.members q x) v.rules is.game.rules still i lt in
-            let less = sum-without v.members (rule_at v.rules i) x q _ met.0 below in' (sym (weight-block met.0 a.place a.prefix is.place.to)) in
+            let less = sum-without v.members (rule_at v.rules i) x q _ met.0 below in'
+            (sym (weight-block met.0 a.place a.prefix is.place.to)) in
             omega (arith, met.1, met.0.some, less, enough i lt))),
       )
 

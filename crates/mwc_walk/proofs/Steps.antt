@@ -71,7 +71,8 @@ module _ {v : Votes} {a : Cursor} (is : CursorIs v a) where
     pub back-up : (a.prefix % 2 ≡ 1 → ⊥) → Steps v a On (record a { prefix = a.prefix / 2; place = a.place - 1 })
     back-up even =
         known On (λ f. record a { prefix = a.prefix / 2; place = a.place - 1; fresh = f }) false stale (λ is.
-        let place = place-up v a.bits a.number (a.place - 1) a.place (a.prefix / 2) a.prefix is.game (omega arith) refl (omega (arith, is.place.from)) is.place in
+        let place = place-up v a.bits a.number (a.place - 1) a.place (a.prefix / 2) a.prefix is.game (omega arith) refl
+        (omega (arith, is.place.from)) is.place in
         grind (arith, common_steps, lanes-up, halves)) is
 
     -- the last member is left out
@@ -80,8 +81,10 @@ module _ {v : Votes} {a : Cursor} (is : CursorIs v a) where
           → Steps v a On (record a { lanes = ls; prefix = a.prefix - 1; fresh = true })
       back-out ls part =
           known On (λ _. record a { lanes = ls; prefix = a.prefix - 1; fresh = true }) false stale (λ is.
-          let up = place-up v a.bits a.number (a.place - 1) a.place (a.prefix / 2) a.prefix is.game (omega arith) refl (omega arith) is.place in
-          let place = place-down v a.bits a.number (a.place - 1) a.place (a.prefix / 2) (a.prefix - 1) (omega arith) (omega arith) (omega (arith, is.place.to)) (is.place.passed (omega (arith, is.place.from))) up in
+          let up = place-up v a.bits a.number (a.place - 1) a.place (a.prefix / 2) a.prefix is.game (omega arith) refl
+          (omega arith) is.place in
+          let place = place-down v a.bits a.number (a.place - 1) a.place (a.prefix / 2) (a.prefix - 1) (omega arith) (omega arith)
+          (omega (arith, is.place.to)) (is.place.passed (omega (arith, is.place.from))) up in
           grind (arith, common_steps, lanes-out)) is
 
       pub out-fits : All (λ l. get_or l.weights (a.place - 1) 0 ≤ l.sum) (take a.rules a.lanes)
@@ -137,7 +140,8 @@ module _ {v : Votes} {a : Cursor} (is : CursorIs v a) where
         let can = reach-is true (sym reaches-is ∙ reach) in
         let lost = win-is false (sym wins-is ∙ lose) in
         known On (λ f. record a { lanes = ls; prefix = 2 * a.prefix + 1; place = a.place + 1; visits = t; fresh = f }) true fresh (λ is.
-        let place = place-down v a.bits a.number a.place (a.place + 1) a.prefix (2 * a.prefix + 1) refl (omega arith) in-room lost is.place in
+        let place = place-down v a.bits a.number a.place (a.place + 1) a.prefix (2 * a.prefix + 1) refl (omega arith)
+        in-room lost is.place in
         grind (arith, common_steps, lanes-in, reaches-in, slice-short, halves)) is
 
   -- the number of a prefix with zeros after it

@@ -5,6 +5,7 @@ pub returns : goal.returns
 returns c = record {
   splits = c.of_each-vetoes.ensures;
   outlooks = λ i below.
-      let made = c.filled-outlooks.ensures.made i (record { sums = record { from = [] }; prices = [] }) (omega (arith, below, c.rules-rules.ensures.votes)) in
+      let made = c.filled-outlooks.ensures.made i (record { sums = record { from = [] }; prices = [] })
+      (omega (arith, below, c.rules-rules.ensures.votes)) in
       search rules;
 }

@@ -19,7 +19,9 @@ loop-at-preserved c =
     ]
 
 pub returns-then-found : goal.returns-then-found
-returns-then-found c = λ y covered from. c.loop-at.invariant.least covered.0 (omega (arith, covered.1, c.loop-at-test.false)) y covered.2 from
+returns-then-found c =
+    λ y covered from. c.loop-at.invariant.least covered.0 (omega (arith, covered.1, c.loop-at-test.false)) y covered.2 from
 
 pub returns-else-found : goal.returns-else-found
-returns-else-found c = λ y covered. c.loop-at.invariant.none c.if-found.false covered.0 (omega (arith, covered.1, c.loop-at-test.false)) y covered.2
+returns-else-found c =
+    λ y covered. c.loop-at.invariant.none c.if-found.false covered.0 (omega (arith, covered.1, c.loop-at-test.false)) y covered.2

@@ -3,7 +3,8 @@ use Rattle.mwc_walk.proofs.Coming.{AreParted, vetoed-fit, split-is}
 use Rattle.mwc_walk.proofs.vetoes.Vetoes.of.Goals as goal
 use Rattle.mwc_walk.proofs.vetoes.Vetoes.of.Goals.{After-filled-free}
 
-parts : (c : After-filled-free) → AreParted c.args.lanes.now c.args.rule c.members-members.result c.filled-vetoed.result c.filled-free.result
+parts : (c : After-filled-free)
+    → AreParted c.args.lanes.now c.args.rule c.members-members.result c.filled-vetoed.result c.filled-free.result
 parts c = record {
   vetoed_long = c.filled-vetoed.ensures.long;
   free_long = c.filled-free.ensures.long;
