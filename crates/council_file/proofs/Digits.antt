@@ -1,4 +1,5 @@
 -- The symbols of a text, from its front.
+use Rattle.std.proofs.lemmas.Grind.{common_steps}
 use Rattle.std.proofs.lemmas.List.{length-map, map_push, take_all, take-append-drop}
 use Rattle.std.proofs.lemmas.List.FromFn.{map-range_with_len_more, length-map-range_with_len}
 use Rattle.std.specs.List.{range_with_len}
@@ -53,9 +54,7 @@ pub digits_fit : (ds : List ℕ) (i : ℕ) → AllDigits 10 ds → length ds ≤
     → digits_value 10 (take i ds) * 10 + (get_or ds i 0 - 48) < 10 ^ 18
 digits_fit ds i whole short below =
     let small = digits_value_short (numerals_by_value (AllDigits 10) tells_digits) ds 18 whole short in
-    let part = digits_value-take-le 10 ds (i + 1) (omega arith) in
-    let more = digits_more ds i whole below in
-    omega (arith, small, part, more)
+    grind (arith, common_steps, nat_tests, digits_value-take-le, digits_more)
 
 -- one name more
 pub names_more : (names : List (String Global)) (name : String Global) (k : ℕ) → map string_bytes names ≡ map decimal (range_with_len 1 k)
@@ -88,3 +87,8 @@ symbols_behind_number (b ∷ bs) n some digit whole stop = number_in_front b bs 
 
 pub names_count : (names : List (String Global)) (n : ℕ) → map string_bytes names ≡ map decimal (range_with_len 1 n) → n ≡ length names
 names_count names n same = grind (arith, length-map-range_with_len, length-map)
+
+-- what the scanner rests on
+pub ruleset first_symbols = (symbols_end, symbols_behind_number, symbols_behind_mark)
+
+pub ruleset values = (digits_fit, digit_at, digits_more)

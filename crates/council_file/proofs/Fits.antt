@@ -57,3 +57,6 @@ pub all_held : (rules : List Rule) (t : Members) (names : List (String Global)) 
 all_held rules t names ds same members named =
     let len : length (member_list t) ≡ length names = grind (arith, length-map) in
     held_full rules (length names) (rw (same, ← len) (rules_full t))
+
+-- what the game of a tree rests on
+pub ruleset held = (held_count, all_held)

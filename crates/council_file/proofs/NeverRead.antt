@@ -1,4 +1,5 @@
 -- No bytes have the fault Read: it is that of a reader.
+use Rattle.std.proofs.lemmas.Result.{err_from_is_err_and}
 use Rattle.std.proofs.Common.{◌+◌, ◌≢◌, ◌∷◌, [], ℕ, Bool, true, false, List, Option, Some, None, Result, Ok, Err, subst, length, not, IfErr}
 use Rattle.std.specs.Prelude.{ok_or, if◌then◌else◌}
 use Rattle.std.specs.Option.{option_map_or}
@@ -77,3 +78,6 @@ pub never-read : {X Y : Type 0} (view : X → Y) (answer : Result X GameFault) (
 never-read view (Ok x) wanted own h = tt
 never-read view (Err Read) wanted own h = absurd (subst NoRead h own).own
 never-read view (Err fault) wanted own h = λ e. absurd (cc)
+
+-- what a parse rests on
+pub ruleset unread = (never-read, of-bracket, of-tree, to-tree, err_from_is_err_and)

@@ -54,19 +54,9 @@ next_is w ps ws small rest = rw (value_is w small, rest) refl
 weights_read : (w : ℕ) (ws : List ℕ) → AllByRecursion (λ v. v < 10 ^ 18) (w ∷ ws)
     → weights_of (symbols (joined_numbers (codes ", ") (w ∷ ws) ++ codes "]")) ≡ Some (w ∷ ws)
 unfolding symbols
-weights_read w [] small =
-    ap (λ (t : List ℕ). weights_of (symbols (t ++ codes "]"))) (one-number (codes ", ") w)
-    ∙ ap weights_of (symbols-decimal w (codes "]") small.0 refl)
-    ∙ last_is w small.0
+weights_read w [] small = grind (arith, nat_tests, common_steps, one-number, symbols-decimal, last_is)
 weights_read w (v ∷ ws) small =
-    let rest : List ℕ = joined_numbers (codes ", ") (v ∷ ws) in
-    let regrouped : joined_numbers (codes ", ") (w ∷ v ∷ ws) ++ codes "]" ≡ decimal w ++ (codes ", " ++ (rest ++ codes "]")) =
-    ap (λ (t : List ℕ). t ++ codes "]") (next-numbers (codes ", ") w v ws)
-    ∙ append_assoc (decimal w) (codes ", " ++ rest) (codes "]")
-    ∙ ap (λ (t : List ℕ). decimal w ++ t) (append_assoc (codes ", ") rest (codes "]")) in
-    ap (λ (t : List ℕ). weights_of (symbols t)) regrouped
-    ∙ ap weights_of (symbols-decimal w (codes ", " ++ (rest ++ codes "]")) small.0 refl)
-    ∙ next_is w (symbols (rest ++ codes "]")) (v ∷ ws) small.0 (weights_read v ws small.1)
+    grind (arith, common_steps, weights_read v ws small.1, next-numbers, append_assoc, symbols-decimal, next_is)
 
 joined_short : (ws : List ℕ) → AllByRecursion (λ v. v < 10 ^ 18) ws → length (joined_numbers (codes ", ") ws) ≤ 20 * length ws
 joined_short [] small = omega arith
@@ -165,8 +155,7 @@ rule_game n r fits =
 
 fits_at : (g : GameView) (k : ℕ) → IsGame g → k < length g.rules → Fits (length g.names) (rule_at g.rules k)
 fits_at g k game below =
-    let p = passed g game.made in
-    grind (arith, nat_tests, common_steps, ltb-false, light-weights, none-any)
+    let p = passed g game.made in grind (arith, nat_tests, common_steps, ltb-false, light-weights, none-any)
 
 pub reads_back : (g : GameView) → IsGame g → NotationReadsBack g
 reads_back g game k below = rule_game (length g.names) (rule_at g.rules k) (fits_at g k game below)

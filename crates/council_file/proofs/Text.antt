@@ -19,3 +19,6 @@ not_text bytes bad =
 pub is_text : (bytes text : List ℕ) (t : Members) → text ≡ bytes → IsUtf8 bytes → parse_document text ≡ Some t → tree_of bytes ≡ Ok t
 unfolding tree_of
 is_text bytes text t same good read = grind (arith, is_utf8-from_IsUtf8)
+
+-- what reading a tree rests on
+pub ruleset texts = (not_text, is_text)

@@ -134,3 +134,6 @@ rule_without_semicolon ps qs rs q h k l = grind (arith, rule_by_steps)
 pub rule_is : (ps qs rs ts : List Symbol) (q : ℕ) (weights : Option (List ℕ)) → after_opening ps ≡ Some qs → first_number qs ≡ Some (q, rs)
     → after_semicolon rs ≡ Some ts → weights ≡ weights_of ts → option_map (λ ws. record { quota = q; weights = ws }) weights ≡ rule_of ps
 rule_is ps qs rs ts q weights h k l m = grind (arith, rule_by_steps)
+
+-- what the weights of a bracket rest on
+pub ruleset commas = (after_comma, after_nothing, after_closing, after_stray, no_number)

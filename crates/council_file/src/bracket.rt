@@ -18,6 +18,7 @@ pub fn is_bracket(bytes: &[u8]) -> bool
 }
 
 /// The weights up to the bracket that closes the text, and nothing where the text breaks the grammar.
+#[tactic(auto, using(crate::proofs::Weights::commas))]
 fn weights_of(alloc: Global, scanner: &mut Scanner<'_>) -> Result<Option<Vec<u64>>, AllocError>
     ensures { IfOk result (λ o. option_map (λ v. v.items) o ≡ weights_of scanner.old) }
 {
@@ -66,6 +67,7 @@ pub fn bracket_rule(alloc: Global, bytes: &[u8]) -> Result<Option<Rule>, Memory>
 }
 
 /// The numbers 1 to `count`, in decimal.
+#[tactic(auto, using(crate::proofs::Digits::names_more))]
 fn counted_names(alloc: Global, count: usize) -> Result<Vec<String>, AllocError>
     ensures { IfOk result (λ v. map string_bytes v.items ≡ counted_names count) }
 {
@@ -77,7 +79,7 @@ fn counted_names(alloc: Global, count: usize) -> Result<Vec<String>, AllocError>
 }
 
 /// The game of a bracket text, or the first fault.
-#[tactic(auto, unfolding(crate::specs::Bracket::game_of_bracket))]
+#[tactic(auto, using(crate::proofs::Digits::names_count), unfolding(crate::specs::Bracket::game_of_bracket))]
 pub(crate) fn game_of_bracket(alloc: Global, bytes: &[u8]) -> Result<Game, GameFault>
     ensures { Answers result (game_of_bracket bytes.now) }
 {

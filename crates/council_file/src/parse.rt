@@ -25,7 +25,7 @@ fn copy_of(alloc: Global, title: Option<&str>) -> Result<Option<String>, AllocEr
     }
 }
 
-#[tactic(auto, unfolding(crate::specs::File::game_of_tree))]
+#[tactic(auto, using(crate::proofs::Fits::held), unfolding(crate::specs::File::game_of_tree))]
 fn game_of_tree(alloc: Global, table: &Table) -> Result<Game, GameFault>
     ensures { Answers result (game_of_tree (table_view table.now)) }
 {
@@ -54,7 +54,7 @@ fn game_of_tree(alloc: Global, table: &Table) -> Result<Game, GameFault>
 ///
 /// The first fault of the file in the order of its checks, which is never Read; or Memory where a growth
 /// was refused.
-#[tactic(auto, unfolding(crate::specs::File::game_of))]
+#[tactic(auto, using(crate::proofs::NeverRead::unread), unfolding(crate::specs::File::game_of))]
 pub fn parse_game(alloc: Global, bytes: &[u8]) -> Result<Game, GameFault>
     ensures game { Answers result (game_of bytes.now) }
     ensures no_read { IfErr result (λ fault. fault ≢ Read) }

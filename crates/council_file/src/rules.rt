@@ -49,6 +49,7 @@ fn rule_from(alloc: Global, table: &Table, n: usize, r: usize) -> Result<Rule, A
     Ok(Rule { quota, weights })
 }
 
+#[tactic(auto, using(crate::proofs::Views::rules_more))]
 fn rules_at(alloc: Global, table: &Table, n: usize) -> Result<Vec<Rule>, AllocError>
     ensures { IfOk result (λ v. rule_views v.items
         ≡ map (rule_from (table_view table.now) n) (range_with_len 0 n)) }

@@ -27,6 +27,7 @@ fn mark(byte: u8) -> Token<'static>
 }
 
 /// How many digits stand first.
+#[tactic(auto, using(std::proofs::lemmas::Int::Digits::digits_more))]
 fn digits_in_front(bytes: &[u8]) -> usize
     ensures within { result ≤ length bytes.now }
     ensures digits { AllDigits 10 (take result bytes.now) }
@@ -40,6 +41,7 @@ fn digits_in_front(bytes: &[u8]) -> usize
 }
 
 /// The text from its first byte that is not blank.
+#[tactic(auto, using(crate::proofs::Digits::symbols_behind_blank))]
 fn after_blanks(text: &[u8]) -> &[u8]
     ensures same { symbols result.now ≡ symbols text.now }
     ensures all { begins_with_blank result.now ≡ false }
@@ -55,6 +57,7 @@ fn after_blanks(text: &[u8]) -> &[u8]
 }
 
 /// The first symbol of a text that begins with no blank, and what is left behind it.
+#[tactic(auto, using(crate::proofs::Digits::first_symbols))]
 fn first_symbol(text: &[u8]) -> Option<(Token<'_>, &[u8])>
     requires { begins_with_blank text.now ≡ false }
     ensures is { MatchOption result (symbols text.now ≡ [])
@@ -72,6 +75,7 @@ fn first_symbol(text: &[u8]) -> Option<(Token<'_>, &[u8])>
 }
 
 /// The value of 1 to 18 digits.
+#[tactic(auto, using(crate::proofs::Digits::values))]
 fn value_of(digits: &[u8]) -> Option<u64>
     requires { AllDigits 10 digits.now }
     ensures { result ≡ value_of digits.now }

@@ -11,7 +11,7 @@ use std::alloc::Global;
 use toml::{Table, Value};
 
 /// The tree of a text.
-#[tactic(auto, unfolding(crate::specs::File::tree_of))]
+#[tactic(auto, using(crate::proofs::Text::texts), unfolding(crate::specs::File::tree_of))]
 pub(crate) fn tree_of(alloc: Global, bytes: &[u8]) -> Result<Table, GameFault>
     ensures { Gives table_view result (tree_of bytes.now) }
 {
@@ -27,6 +27,7 @@ pub(crate) fn tree_of(alloc: Global, bytes: &[u8]) -> Result<Table, GameFault>
 }
 
 /// The value at a key.
+#[tactic(auto, using(toml::proofs::Views::table_get))]
 pub(crate) fn value_at<'a>(table: &'a Table, key: &str) -> Option<&'a Value>
     ensures { option_map (λ v. view v.now) result ≡ get_member key.now (table_view table.now) }
 {

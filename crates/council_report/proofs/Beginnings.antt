@@ -1,10 +1,11 @@
 -- The places of a coalition, one by one, and what their members add to a line.
+use Rattle.std.proofs.lemmas.Grind.{common_steps}
 use Rattle.std.proofs.Common.{◌≡◌, ℕ, zero, suc, ◌+◌, ◌-◌, ◌<◌, ◌≤◌, ◌++◌, Bool, true, false, cond, List, [], ◌∷◌, length, filter, take, drop, slice_index, refl, sym, ap, ◌∙◌, arith, inl, inr}
-use Rattle.std.specs.List.{flat_map, range_with_len, AllByRecursion}
+use Rattle.std.specs.List.{flat_map, range_with_len}
 use Rattle.std.proofs.lemmas.Bool.{cases_lt, cond-true, cond-false}
 use Rattle.std.proofs.lemmas.Grind.{flat_map-append}
 use Rattle.std.proofs.lemmas.List.{map-append, map-id, append-nil, length-map, get_or_past, take-append-drop}
-use Rattle.std.proofs.lemmas.List.Elements.{All-from_recursion, filter-append}
+use Rattle.std.proofs.lemmas.List.Elements.{filter-append}
 use Rattle.std.proofs.lemmas.List.FromFn.{filter_of_map_range_with_len_more, take-map-range_with_len, length-range_with_len}
 use Rattle.std.proofs.lemmas.List.Sums.{sum_by-append, sum_by-cons}
 use Rattle.std.proofs.lemmas.Bool.Decides.{nat_tests}
@@ -50,8 +51,7 @@ before-further n c k (suc m) none le =
 pub before-all : (n c k : ℕ) → k ≤ n → HasNoneFrom n k c → places_before n c n ≡ places_before n c k
 before-all n c k le none =
     let m = n - k in
-    let e : k + m ≡ n = omega (arith, le) in
-    ap (places_before n c) (sym e) ∙ before-further n c k m none (omega (arith, e))
+    let e : k + m ≡ n = omega (arith, le) in grind (arith, nat_tests, common_steps, before-further)
 
 -- those of the places from k on come behind
 pub before-front : (n c k j : ℕ) → k ≤ j → (rest : List ℕ) × (places_before n c j ≡ places_before n c k ++ rest)
@@ -108,10 +108,7 @@ weights-more g r ps p = grind (arith, nat_tests, sum_by-cons, weights-append, we
 -- a rule of the game
 pub rule-is : (g : GameView) → IsGame g → (r : ℕ) → r < length g.rules → IsRule (length g.names) (rule_at (votes_of g).rules r)
 rule-is g game r lt =
-    let votes = votes-are g game in
-    let each : AllByRecursion (IsRule (length g.names)) (votes_of g).rules = votes.rules in
-    let long : length (votes_of g).rules ≡ length g.rules = length-map g.rules _ in
-    All-from_recursion (IsRule (length g.names)) (votes_of g).rules each r _ (omega (arith, long, lt))
+    let votes = votes-are g game in grind (arith, common_steps, nat_tests)
 
 pub weights-all : (g : GameView) → IsGame g → (r c : ℕ) → r < length g.rules
     → weight_of_places g r (places_before (length g.names) c (length g.names)) ≡ weight (rule_at (votes_of g).rules r).weights c
@@ -128,8 +125,7 @@ weights-past g r past [] = weights-none g r
 weights-past g r past (p ∷ ps) =
     let first = weights-append g r (p ∷ []) ps in
     let alone = weights-more g r [] p in
-    let light = under-none g r p past in
-    omega (arith, first, alone, light, weights-none g r, weights-past g r past ps)
+    let light = under-none g r p past in grind (arith, nat_tests, common_steps, weights-past g r past ps, weights-none)
 
 pub weights-light : (g : GameView) → IsGame g → (r c k : ℕ) → k ≤ length g.names
     → weight_of_places g r (places_before (length g.names) c k) ≤ 40000000000000

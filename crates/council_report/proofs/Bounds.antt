@@ -57,8 +57,7 @@ with_slashes-fits values few h = let fit = length-with_slashes values h in omega
 fraction-fits : (p : ℕ × ℕ) → AreBelow (10 ^ 28) p → IsField (decimal p.0 ++ 47 ∷ decimal p.1)
 fraction-fits p below =
     let first = length-decimal-le_wide 28 p.0 (omega arith) below.0 (omega arith) in
-    let last = length-decimal-le_wide 28 p.1 (omega arith) below.1 (omega arith) in
-    omega (arith, first, last, length-append (decimal p.0) (47 ∷ decimal p.1))
+    let last = length-decimal-le_wide 28 p.1 (omega arith) below.1 (omega arith) in grind (arith, length-append)
 
 -- ---- rows of fields
 pub each-field : {X : Type 0} (f : X → List ℕ) → ((x : X) → IsField (f x)) → (xs : List X) → AllByRecursion IsField (map f xs)

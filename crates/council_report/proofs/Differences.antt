@@ -49,3 +49,6 @@ none-behind n c few pos below =
     let wide : c < 2 ^ 64 = omega (arith, below, up) in
     let low = lowest-place n c few pos below in
     let digits = bit_at-trailing_zeros w64 c pos wide in grind (arith)
+
+-- what the last place rests on
+pub ruleset last = (none-behind)

@@ -20,8 +20,7 @@ ready-takes ready refused fits = omega (arith, ready.room, ready.free, refused.f
 -- what puts a text after one that was told puts both
 pub puts-next : (x y : List ℕ) (first next last : Option (List ℕ)) (a b c : Block) (r : Result (Unit {0}) WriteFault)
     → Tells (progress_of first a) (progress_of next b) x → Puts y next b last c r → Puts (x ++ y) first a last c r
-puts-next x y first next last a b c (Ok u) before more =
-    record { tells = tells-then (progress_of first a) (progress_of next b) (progress_of last c) x y before more.tells; ready = more.ready }
+puts-next x y first next last a b c (Ok u) before more = grind (arith, common_steps, tells-then)
 puts-next x y first next last a b c (Err fault) before more =
     stopped-next (progress_of first a) (progress_of next b) x y last fault.written before more
 

@@ -1,5 +1,5 @@
 -- A line at its end, one place more, and cut at a place.
-use Rattle.std.proofs.Common.{◌≡◌, ℕ, ◌+◌, ◌^◌, ◌<◌, ◌≤◌, ◌++◌, true, false, List, [], ◌∷◌, length, take, get_or, Vec, set, ap, ◌∙◌, arith, length-append}
+use Rattle.std.proofs.Common.{◌≡◌, ℕ, ◌+◌, ◌^◌, ◌<◌, ◌≤◌, ◌++◌, true, false, List, [], ◌∷◌, length, take, get_or, Vec, set, arith, length-append}
 use Rattle.std.specs.Global.{Global}
 use Rattle.std.specs.Vec.{vec_capacity}
 use Rattle.std.specs.List.{flat_map}
@@ -15,7 +15,7 @@ use Rattle.council_report.specs.declared.seat.Seat.{Seat}
 use Rattle.council_report.specs.declared.subtotal.Subtotal.{Subtotal}
 use Rattle.council_report.specs.declared.shared_line.SharedLine.{SharedLine}
 use Rattle.council_report.specs.Lines.{with_tab, names_of}
-use Rattle.council_report.specs.Inner.SharedLine.{places_before, name_at, fields_of, weight_of_places, IsSeat, AreSeats, IsSubtotal, IsLine, IsWholeLine, SameBefore}
+use Rattle.council_report.specs.Inner.SharedLine.{places_before, IsSeat, AreSeats, IsSubtotal, IsLine, IsWholeLine, SameBefore}
 use Rattle.council_report.proofs.Beginnings.{before-none, before-in, before-out, before-same, before-front, before-all, fields-none, fields-append, fields-more, fields-all, fields-fit, weights-none, weights-more, weights-all, weights-light}
 
 -- what is read past the subtotals
@@ -30,9 +30,7 @@ pub line-kept : (g : GameView) (line : SharedLine) (names : Vec ℕ Global) (k c
 line-kept g line names k c d is le same cut room =
     let n : ℕ = length g.names in
     let front = before-front n line.coalition k line.end le in
-    let all : line.names.items ≡ fields_of g (places_before n line.coalition k) ++ fields_of g front.0 =
-    is.names ∙ ap (fields_of g) front.1 ∙ fields-append g (places_before n line.coalition k) front.0 in
-    grind (arith, take-append_seam, before-same)
+    grind (arith, common_steps, take-append_seam, before-same, fields-append)
 
 -- the subtotals with one more
 subtotals-more : (g : GameView) (c : ℕ) (sums : List Subtotal) (k : ℕ) (next : Subtotal) → length sums ≡ 41 → k < 40 →
@@ -68,25 +66,16 @@ pub added-light : (g : GameView) (line : SharedLine) (d : Subtotal) (seat : Seat
     → has (length g.names) line.end line.coalition ≡ true → IsSeat g line.end seat →
     (r : ℕ) → r < 4 → get_or (get_or line.subtotals line.end d).weights r 0 + get_or seat.weights r 0 < 2 ^ 64
 added-light g line d seat is more in' seat-is r lt =
-    let n : ℕ = length g.names in
-    let ps : List ℕ = places_before n line.coalition line.end in
     let light = weights-light g is.game r line.coalition (line.end + 1) (omega (arith, more)) in
-    let next = ap (weight_of_places g r) (before-in n line.coalition line.end in') in
-    omega (arith, light, next, weights-more g r ps line.end, (is.subtotals line.end d (omega arith)).weights r lt, seat-is.weights r lt)
+    grind (arith, common_steps, weights-more, before-in)
 
 -- and the names still fit
 pub added-short : (g : GameView) (line : SharedLine) (seat : Seat) → IsLine g line → line.end < length g.names
     → has (length g.names) line.end line.coalition ≡ true → IsSeat g line.end seat →
     length line.names.items + length seat.field.items ≤ 3400
 added-short g line seat is more in' seat-is =
-    let n : ℕ = length g.names in
-    let ps : List ℕ = places_before n line.coalition line.end in
     let fit = fields-fit g is.game line.coalition (line.end + 1) (omega (arith, more, is.few)) in
-    let next = ap (λ (qs : List ℕ). length (fields_of g qs)) (before-in n line.coalition line.end in') in
-    let field = ap (λ (t : List ℕ). length t) seat-is.field in
-    let names = ap (λ (t : List ℕ). length t) is.names in
-    let whole = ap (λ (t : List ℕ). length t) (fields-more g ps line.end) in
-    omega (arith, fit, next, field, names, whole, length-append (fields_of g ps) (with_tab (name_at g line.end)))
+    grind (arith, common_steps, nat_tests, length-append, before-in, fields-more)
 
 -- ---- the whole line
 pub whole-names : (g : GameView) (c : ℕ) (line : SharedLine) → IsWholeLine g c line → line.names.items ≡ flat_map with_tab (names_of g c)
@@ -105,3 +94,6 @@ pub line-first : (g : GameView) (line : SharedLine) → IsGame g → AreSeats g 
     → line.names.items ≡ [] → 4096 ≤ vec_capacity line.names → length line.subtotals ≡ 41 →
     ((d : Subtotal) → IsSubtotal g [] (get_or line.subtotals 0 d)) → IsLine g line
 line-first g line game seats start none room long subtotal = grind (arith, nat_tests, before-none, few-members, fields-none)
+
+-- what the names of a whole line rest on
+pub ruleset whole = (whole-names)

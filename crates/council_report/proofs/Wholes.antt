@@ -45,9 +45,5 @@ pub stopped-whole : (before held : Option (List ℕ)) (block : Block) (heading l
     → block.bytes.items ≡ heading → StopsIn (progress_of before block) lines held n → (n ≤ length (heading ++ lines))
     × Appends before held (take n (heading ++ lines))
 stopped-whole before held block heading lines n none is s =
-    let long = ap (λ (t : List ℕ). length t) is in
-    let count : s.at.count ≡ length heading + length s.front = omega (arith, s.tells.count, none, long) in
-    let text : heading ++ lines ≡ (heading ++ s.front) ++ s.rest = grind (arith, append_assoc) in
-    let first : take n (heading ++ lines) ≡ take n (heading ++ s.front) = grind (arith, take-append-le, length-append) in
     let tells : Appends (option_map (λ h. h ++ heading) before) s.at.bytes s.front = grind (arith) in
-    grind (arith, length-append, appends-part)
+    grind (arith, common_steps, length-append, appends-part, append_assoc, take-append-le)

@@ -18,6 +18,7 @@ pub(crate) fn first_difference(members: usize, a: Coalition, b: Coalition) -> us
 }
 
 /// The place behind the last one that is in a coalition.
+#[tactic(auto, using(crate::proofs::Differences::last))]
 pub(crate) fn past_last(members: usize, coalition: Coalition) -> usize
     requires few { members ≤ MEMBERS }
     requires some { 0 < coalition }

@@ -139,6 +139,7 @@ impl SharedLine {
     }
 
     /// The names of the coalition's members, in rank order.
+    #[tactic(auto, using(crate::proofs::SharedLines::whole))]
     fn push_names(&self, out: &mut Vec<u8>, game: &Game) -> Result<(), AllocError>
         requires { IsWholeLine game.now self.now.coalition self.now }
         ensures items { OnOk result (out.new.items ≡ out.old.items

@@ -4,6 +4,7 @@ use Rattle.std.specs.Int.{div_ceil}
 use Rattle.std.proofs.lemmas.Grind.{common_steps}
 use Rattle.std.proofs.lemmas.Bool.{cases_lt, cases_eq, both_ways, and_parts, or_cases, leb-true, ltb-true, cases_Bool, cond_both, cond-false}
 use Rattle.std.proofs.lemmas.Nat.{mul-le}
+use Rattle.std.proofs.Math.Nat.{le_of_mul-le-mul_left}
 use Rattle.std.proofs.lemmas.List.{drop_all, length-take-le, get_or-take, take_all}
 use Rattle.std.proofs.lemmas.Nat.Bits.{bit_at-lt}
 use Rattle.std.specs.List.{list_any}
@@ -22,7 +23,6 @@ use Rattle.mwc_walk.specs.declared.lane.Lane.{Lane}
 use Rattle.mwc_walk.specs.Inner.Lanes.{lane_needs, no_lane}
 use Rattle.mwc_walk.specs.Inner.Vetoes.{IsSplit, vetoed_part}
 use Rattle.mwc_walk.specs.Inner.Places.{LaneIs, LanesAre}
-use Rattle.mwc_walk.proofs.Filled.{FilledTo}
 
 -- a cheaper price is kept, too
 still-kept : (a b i t f g : ℕ) → i * b ≤ a * t → a * f ≤ b * g → (b ≡ 0 → f ≡ 0) → i * f ≤ t * g
@@ -31,16 +31,9 @@ still-kept a b i t f g cheaper kept none =
       | inl some ↦
           let first : i * b * f ≤ a * t * f = mul-le (i * b) f (a * t) f cheaper (omega arith) in
           let second : t * (a * f) ≤ t * (b * g) = mul-le t (a * f) t (b * g) (omega arith) kept in
-          let both : b * (i * f) ≤ b * (t * g) = omega (arith, first, second) in
-          elim (cases_lt (t * g) (i * f)) [
-            | inl more ↦
-                let over : b * (t * g + 1) ≤ b * (i * f) = mul-le b (t * g + 1) b (i * f) (omega arith) (omega arith) in
-                absurd (omega (arith, over, both, some))
-            | inr fine ↦ fine
-          ]
+          let both : b * (i * f) ≤ b * (t * g) = omega (arith, first, second) in le_of_mul-le-mul_left both some
       | inr empty ↦
-          let nothing : f ≡ 0 = none (omega arith) in
-          rw nothing (omega arith)
+          let nothing : f ≡ 0 = none (omega arith) in rw nothing (omega arith)
     ]
 
 -- with a cheaper member
@@ -58,6 +51,11 @@ price-stays p i t f g d dearer none is =
 -- the least that is weighed: rounded up
 pub rounded-up : (x b g : ℕ) → 0 < b → x ≤ b * g → div_ceil x b ≤ g
 rounded-up x b g some le = grind (arith, common_steps)
+
+-- what a price rests on
+pub ruleset cheapest = (price-falls, price-stays)
+
+pub ruleset rounding = (mul-le, rounded-up)
 
 -- the member of place p, and those after it
 pub weight-from : (ws : List ℕ) (n p c : ℕ) → p < n → n ≤ length ws
@@ -101,11 +99,8 @@ sums-step n p ws before after below le fits without with_it c covered =
 -- who is out weighs nothing
 weight-out : (ws : List ℕ) (q c : ℕ) → q < length ws → c / 2 ^ (length ws - 1 - q) % 2 ≡ 0 → weight ws c + get_or ws q 0 ≤ sum ws
 weight-out ws q c below out =
-    let digit : (c + 2 ^ (length ws - 1 - q)) / 2 ^ (length ws - 1 - q) % 2 ≡ 1 = digit-added c (length ws - 1 - q) out in
-    let more = weight-without ws q (c + 2 ^ (length ws - 1 - q)) below digit in
     let back : c + 2 ^ (length ws - 1 - q) - 2 ^ (length ws - 1 - q) ≡ c = omega arith in
-    let most = weight-le ws (c + 2 ^ (length ws - 1 - q)) in
-    omega (arith, rw back at more, most)
+    grind (arith, common_steps, digit-added, weight-without, weight-le)
 
 -- a rule that needs the member of a place is not met without it
 needs-it : (n q c : ℕ) (r : RuleView) (l : Lane) → q < n → LaneIs n 0 0 r l → lane_needs q l ≡ true → r.quota ≤ weight r.weights c
@@ -131,22 +126,14 @@ module _ (n : ℕ) (ws vs fs : List ℕ) (lw : n ≤ length ws) (lv : n ≤ leng
   -- where the first part is in the coalition, it is weighed whole
   pub split-from : (c k p : ℕ) → ((q : ℕ) → q < n → (get_or vs q 0 ≡ 0) ⊎ (c / 2 ^ (n - (q + 1)) % 2 ≡ 1)) → p + k ≡ n
       → sum (drop p (take n vs)) + weight (drop p (take n fs)) c ≡ weight (drop p (take n ws)) c
-  split-from c zero p inside at =
-      let none : drop p (take n vs) ≡ [] = drop_all p (take n vs) (omega (arith, length-take-le n vs lv)) in
-      rw (none, weight-past fs n p c (omega arith) lf, weight-past ws n p c (omega arith) lw) refl
+  split-from c zero p inside at = grind (arith, common_steps, weight-past, drop_all, length-take-le)
   split-from c (suc k) p inside at =
       let below : p < n = omega arith in
       let rest = split-from c k (p + 1) inside (omega arith) in
       let first = sum-from vs n p lv below in
       let others = weight-from fs n p c below lf in
       let all = weight-from ws n p c below lw in
-      let whole = parted p below in
-      elim (inside p below) [
-        | inl none ↦
-            let same : get_or fs p 0 ≡ get_or ws p 0 = omega (arith, whole, none) in
-            omega (arith, rest, first, rw same at others, all, none)
-        | inr one ↦ omega (arith, rest, first, rw one at others, rw one at all, whole)
-      ]
+      let whole = parted p below in grind (arith, common_steps, get_or)
 
   pub parts-fit : (m : ℕ) → m ≤ n → sum (take m vs) + sum (take m fs) ≡ sum (take m ws)
   parts-fit zero le = refl
@@ -154,14 +141,15 @@ module _ (n : ℕ) (ws vs fs : List ℕ) (lw : n ≤ length ws) (lv : n ≤ leng
       let more = λ (xs : List ℕ) (long : n ≤ length xs). sum_by_more (λ (y : ℕ). y) xs m 0 (omega (arith, le, long)) in
       rw (← add-one) (omega (arith, parts-fit m (omega (arith, le)), more vs lv, more fs lf, more ws lw, parted m (omega (arith, le))))
 
--- how far the weights of a lane are parted
-pub record AreParted (ls : List Lane) (i place : ℕ) (vs fs : List ℕ) : Type 0 where
-  pub vetoed : FilledTo (λ q part. part ≡ vetoed_part ls i q) 0 40 place vs
-  pub free : FilledTo (λ q part. part ≡ get_or (get_or ls i no_lane).weights q 0 - vetoed_part ls i q) 0 40 place fs
+-- the weights of a lane in two parts
+pub record AreParted (ls : List Lane) (i n : ℕ) (vs fs : List ℕ) : Type 0 where
+  pub vetoed_long : length vs ≡ 40
+  pub free_long : length fs ≡ 40
+  pub vetoed : (q : ℕ) → q < n → get_or vs q 0 ≡ vetoed_part ls i q
+  pub free : (q : ℕ) → q < n → get_or fs q 0 ≡ get_or (get_or ls i no_lane).weights q 0 - get_or vs q 0
 
--- all of them are
-module _ {v : Votes} {ls : List Lane} {i n place : ℕ} {vs fs : List ℕ} (game : IsVotes v) (members : n ≡ v.members) (end : n ≤ place)
-    (below : i < length ls) (are : LanesAre v.members 0 0 v.rules ls) (parts : AreParted ls i place vs fs) where
+module _ {v : Votes} {ls : List Lane} {i n : ℕ} {vs fs : List ℕ} (game : IsVotes v) (members : n ≡ v.members) (below : i < length ls)
+    (are : LanesAre v.members 0 0 v.rules ls) (parts : AreParted ls i n vs fs) where
   lane : LaneIs v.members 0 0 (rule_at v.rules i) (get_or ls i no_lane)
   lane = lane-of v.members 0 0 v.rules ls are i (omega (arith, AllZip-long _ v.rules ls are, below)) no_lane
 
@@ -172,40 +160,29 @@ module _ {v : Votes} {ls : List Lane} {i n place : ℕ} {vs fs : List ℕ} (game
   parted q lt =
       let all : ℕ = get_or (get_or ls i no_lane).weights q 0 in
       let part = cond_both (list_any (lane_needs q) ls) all 0 (λ w. w ≤ all) (λ _. omega arith) (λ _. omega arith) in
-      let room : q < place = omega (arith, lt, members, end) in
-      omega (arith, part, parts.vetoed.done q room, parts.free.done q room, lane.weights q lt)
+      let room : q < n = omega (arith, lt, members) in
+      omega (arith, part, parts.vetoed q room, parts.free q room, lane.weights q lt)
 
   both-fit : sum (take v.members vs) + sum (take v.members fs) < 2 ^ 64
   both-fit =
       let all = parts-fit v.members (rule_at v.rules i).weights vs fs (omega (arith, lane.rule.full))
-      (omega (arith, parts.vetoed.long, game.few))
-      (omega (arith, parts.free.long, game.few)) parted v.members (omega arith) in
-      omega (arith, rw whole at all, lane.rule.light)
+      (omega (arith, parts.vetoed_long, game.few))
+      (omega (arith, parts.free_long, game.few)) parted v.members (omega arith) in grind (arith, common_steps, whole)
 
   pub vetoed-fit : sum (take n vs) < 2 ^ 64
   vetoed-fit = rw members (omega (arith, both-fit))
 
   inside : (c : ℕ) → wins v.rules c ≡ true → (q : ℕ) → q < v.members → (get_or vs q 0 ≡ 0) ⊎ (c / 2 ^ (v.members - (q + 1)) % 2 ≡ 1)
-  inside c won q lt = elim (cases_Bool (list_any (lane_needs q) ls)) [
-    | inr spare ↦ inl (parts.vetoed.done q (omega (arith, lt, members, end)) ∙ cond-false (list_any (lane_needs q) ls) _ 0 spare)
-    | inl needs ↦
-        let e : v.members - 1 - q ≡ v.members - (q + 1) = omega arith in
-        let kept = rw e at (vetoer-in v.members q c v.rules ls lt are needs won) in
-        let digit : c / 2 ^ (v.members - (q + 1)) % 2 < 2 = bit_at-lt c (v.members - (q + 1)) in
-        inr (elim (cases_eq (c / 2 ^ (v.members - (q + 1)) % 2) 0) [
-          | inl out ↦ absurd (kept out)
-          | inr other ↦ omega (arith, digit, other)
-        ])
-  ]
+  inside c won q lt = grind (arith, common_steps, cases_Bool, cond-false, vetoer-in, bit_at-lt, cases_eq)
 
   pub split-is : (brings : List ℕ) → ((p : ℕ) → p ≤ n → get_or brings p 0 ≡ sum (drop p (take n vs)))
       → IsSplit v i (record { brings = brings; free = fs })
   split-is brings sums = record {
-    room = omega (arith, parts.free.long, game.few);
+    room = omega (arith, parts.free_long, game.few);
     fits = omega (arith, both-fit);
     parts = λ p c le won.
         let all = split-from v.members (rule_at v.rules i).weights vs fs (omega (arith, lane.rule.full))
-        (omega (arith, parts.vetoed.long, game.few))
-        (omega (arith, parts.free.long, game.few)) parted c (v.members - p) p (inside c won) (omega arith) in
+        (omega (arith, parts.vetoed_long, game.few))
+        (omega (arith, parts.free_long, game.few)) parted c (v.members - p) p (inside c won) (omega arith) in
         rw (rw members at (sums p (omega (arith, le, members)))) (rw whole at all);
   }

@@ -33,21 +33,14 @@ filter-above : (p q : ℕ → Bool) (low more : ℕ) → ((c : ℕ) → low ≤ 
 filter-above p q low zero same = refl
 filter-above p q low (suc more) same = grind (arith, filter-above p q low more (λ c from to. same c from (omega arith)))
 
-filter-never : (xs : List ℕ) → filter (λ (c : ℕ). false) xs ≡ []
-filter-never [] = refl
-filter-never (x ∷ xs) = filter-never xs
-
 -- numbers that fail the test may be left out at the top
 pub filter-down_skip : (p : ℕ → Bool) (low more : ℕ) → ((c : ℕ) → low ≤ c → c < low + more → p c ≡ false)
     → filter p (down (low + more)) ≡ filter p (down low)
-filter-down_skip p low more fails =
-    rw (
-      down-split low more,
-      filter-append p (above low more) (down low),
-      filter-above p (λ c. false) low more fails,
-      filter-never
-          (above low more),
-    ) refl
+unfolding down
+filter-down_skip p low zero fails = grind (arith, common_steps)
+filter-down_skip p low (suc more) fails =
+    let e : low + suc more ≡ suc (low + more) = omega arith in
+    grind (arith, common_steps, filter-down_skip p low more (λ c from to. fails c from (omega arith)))
 
 pub filter-filter_skip : (q p : ℕ → Bool) (low more : ℕ) → ((c : ℕ) → low ≤ c → c < low + more → q c ≡ false)
     → filter q (filter p (down (low + more))) ≡ filter q (filter p (down low))

@@ -1,15 +1,6 @@
--- Arrays that are filled place by place.
+-- Arrays that are filled from the back, place by place.
 use Rattle.std.proofs.Common.{◌≡◌, ℕ, ◌+◌, ◌<◌, ◌≤◌, List, length, get_or, set, arith, get_or-set_other, get_or-set_same, length-set}
 use Rattle.std.proofs.lemmas.Bool.{cases_eq}
-
--- of n elements those before place k are as they are to be
-pub record FilledTo {A : Type 0} (Fits : ℕ → A → Type 0) (d : A) (n k : ℕ) (xs : List A) : Type 0 where
-  pub long : length xs ≡ n
-  pub done : (i : ℕ) → i < k → Fits i (get_or xs i d)
-
-pub fill-next : {A : Type 0} {Fits : ℕ → A → Type 0} {d : A} {n k : ℕ} {xs : List A} {x : A} → FilledTo Fits d n k xs → k < n → Fits k x
-    → FilledTo Fits d n (k + 1) (set xs k x)
-fill-next {A} {Fits} {d} {n} {k} {xs} {x} filled room fits = grind (arith, length-set, get_or-set_other, get_or-set_same)
 
 -- of n elements those from place k to place m are as they are to be
 pub record FilledFrom {A : Type 0} (Fits : ℕ → A → Type 0) (d : A) (n m k : ℕ) (xs : List A) : Type 0 where

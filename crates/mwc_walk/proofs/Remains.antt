@@ -1,5 +1,5 @@
 -- What is still to come is the end of the slice.
-use Rattle.std.proofs.Common.{◌≡◌, ◌≢◌, ℕ, suc, ◌+◌, ◌-◌, ◌*◌, ◌/◌, ◌^◌, ◌<◌, ◌≤◌, Bool, true, eqb, List, [], ◌∷◌, ◌++◌, length, get_or, take, drop, refl, sym, ap, ◌∙◌, arith}
+use Rattle.std.proofs.Common.{◌≡◌, ◌≢◌, ℕ, ◌+◌, ◌-◌, ◌*◌, ◌^◌, ◌<◌, ◌≤◌, Bool, true, List, [], ◌∷◌, ◌++◌, length, get_or, take, drop, refl, sym, ap, ◌∙◌, arith}
 use Rattle.std.proofs.lemmas.Grind.{common_steps}
 use Rattle.std.specs.List.{filter}
 use Rattle.std.proofs.Math.Nat.{mul-add}
@@ -8,7 +8,7 @@ use Rattle.std.proofs.lemmas.List.{length-append, length-drop, get_or-drop, take
 use Rattle.std.proofs.lemmas.List.Elements.{filter-append}
 use Rattle.std.proofs.lemmas.Nat.{mul-le, pow-add}
 use Rattle.std.proofs.lemmas.Bool.Decides.{nat_tests}
-use Rattle.council_game.specs.Votes.{Votes, minimal, down, minimal_coalitions}
+use Rattle.council_game.specs.Votes.{Votes, down, minimal_coalitions}
 use Rattle.council_game.specs.Shared.Below.{minimal_below}
 use Rattle.mwc_walk.specs.Slices.{slice}
 use Rattle.mwc_walk.specs.WalkView.{WalkView}
@@ -35,8 +35,7 @@ left-ends : (v : Votes) (k j b : ℕ) → b ≤ 2 ^ v.members → EndsWith (slic
 unfolding slice_below minimal_below in_slice slice minimal_coalitions
 left-ends v k j b le =
     let e : b + (2 ^ v.members - b) ≡ 2 ^ v.members = omega arith in
-    let ends = filter-ends (λ c. eqb (c / 2 ^ (v.members - k)) (2 ^ k - 1 - j)) (minimal v) b (2 ^ v.members - b) in
-    rw e at ends
+    grind (arith, common_steps, filter-ends)
 
 ends-with-rest : {v : Votes} {a : Cursor} → CursorIs v a → EndsWith (slice v a.bits a.number) (rest_of_slice v a)
 ends-with-rest {v} {a} is =
@@ -59,9 +58,8 @@ rest-is is = drop-front _ _ (ends-with-rest is)
 given-more : (s before after : List ℕ) (c : ℕ) → before ≡ drop (length s - length before) s → before ≡ c ∷ after
     → take (length s - length after) s ≡ take (length s - length before) s ++ c ∷ []
 given-more s before after c ends first =
-    let size : length before ≡ suc (length after) = ap length first in
-    let kept : length before ≡ length s - (length s - length before) = ap length ends ∙ length-drop (length s - length before) s in
-    let at : get_or s (length s - length before) 0 ≡ c = grind (arith, nat_tests, common_steps, get_or-drop) in grind (arith, take_more)
+    let at : get_or s (length s - length before) 0 ≡ c = grind (arith, nat_tests, common_steps, get_or-drop) in
+    grind (arith, common_steps, take_more, length-drop)
 
 -- the coalitions that a cursor has given
 abbrev given-by : Votes → Cursor → List ℕ
@@ -86,9 +84,7 @@ module _ {v : Votes} {a b : Cursor} where
   given-same h same = grind (arith, common_steps)
 
   pub given-next : {c : ℕ} → CursorIs v a → GivesNext v a c b → given-by v b ≡ given-by v a ++ c ∷ []
-  given-next {c} is h =
-      ap (λ (s : List ℕ). take (length s - length (rest_of_slice v b)) s) (same-slice h.follows)
-      ∙ given-more (slice v a.bits a.number) (rest_of_slice v a) (rest_of_slice v b) c (rest-is is) h.first
+  given-next {c} is h = grind (arith, common_steps, same-slice, given-more, rest-is)
 
   pub given-end : FindsEnd v a b → given-by v b ≡ given-by v a
   given-end h = given-same h.follows (h.none_after ∙ sym h.none)
@@ -107,16 +103,14 @@ module _ (v : Votes) (n : ℕ) (a b : Cursor) where
   pub seek-falls : (s : Step) → 0 < n → SomeSteps v a s b → (s ≡ On → (b.visits ≡ a.visits + n) × (b.visits < 2 ^ 64)) → sought s ≢ seek.End
       → seeks_left (view-at v b) < seeks_left (view-at v a)
   unfolding seeks_left
-  seek-falls On pos h counts more =
-      let visits = (counts refl).0 in
-      let fits = (counts refl).1 in
-      rw h.1 (omega (arith, pos, visits, fits))
-  seek-falls (Give c) pos h counts more =
-      let size : length (rest_of_slice v a) ≡ length (rest_of_slice v b) + 1 = ap length h.first ∙ (omega arith) in
-      rw size (omega arith)
+  seek-falls On pos h counts more = grind (arith, common_steps)
+  seek-falls (Give c) pos h counts more = grind (arith, common_steps)
   seek-falls End pos h counts more = absurd (more refl)
 
 -- with one rule, the visits are bounded by what was given
 pub visits-most : {v : Votes} {a : Cursor} → CursorIs v a → (a.rules ≡ 1 → a.fresh ≡ true → a.place ≡ a.bits) → length v.rules ≡ 1
     → a.visits ≤ a.bits + (v.members - a.bits) * (length (slice v a.bits a.number) - length (rest_of_slice v a))
 visits-most {v} {a} is rests one = grind (arith, rest-most, rest-short, mul-add)
+
+-- what the calls of a walk rest on
+pub ruleset walking = (given-next, given-end, visits-most)

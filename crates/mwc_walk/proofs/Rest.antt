@@ -1,30 +1,28 @@
 -- What is left of a slice, at a place of the walk.
-use Rattle.std.proofs.Common.{◌≡◌, ℕ, zero, suc, ◌+◌, ◌-◌, ◌*◌, ◌/◌, ◌%◌, ◌^◌, ◌<◌, ◌≤◌, ap, ◌∙◌, arith, inl, inr, true, false, eqb, [], ◌∷◌}
-use Rattle.std.proofs.lemmas.Nat.{div-mul-add, pow_pos, pow-add, mul-le}
-use Rattle.std.proofs.lemmas.Bool.{cases_lt, and_left, eq-eqb, cond-true, false_from_ne_true, both_ways}
+use Rattle.std.proofs.Common.{◌≡◌, ℕ, ◌+◌, ◌-◌, ◌*◌, ◌/◌, ◌%◌, ◌^◌, ◌<◌, ◌≤◌, arith, true, false, eqb, [], ◌∷◌}
+use Rattle.std.proofs.lemmas.Nat.{pow_pos, pow-add, mul-le}
+use Rattle.std.proofs.lemmas.Bool.{and_left, eq-eqb, cond-true, false_from_ne_true, both_ways}
 use Rattle.std.proofs.lemmas.Grind.{common_steps}
 use Rattle.std.proofs.lemmas.Nat.Bits.{bit_at_cat_low}
-use Rattle.council_game.specs.Votes.{Votes, IsVotes, has, without, wins, minimal, minimal_coalitions}
+use Rattle.council_game.specs.Votes.{Votes, IsVotes, has, without, minimal, minimal_coalitions}
 use Rattle.council_game.specs.Shared.Below.{minimal_below}
 use Rattle.council_game.proofs.Shared.Meanings.{needs-each-member}
 use Rattle.mwc_walk.specs.Slices.{slice}
 use Rattle.mwc_walk.specs.Inner.Places.{in_slice, slice_below, reaches, wins_at, NothingBelow}
+use Rattle.coalitions.proofs.Shared.Digits.{lowest-place}
+use Rattle.std.specs.Int.{w64, trailing_zeros}
+use Rattle.std.proofs.lemmas.Bool.{eqb-true}
 use Rattle.mwc_walk.proofs.Descending.{filter-down_skip, filter-filter_skip, filter-filter_none, filter-down_take, block-prefix, before-block, past-block}
 use Rattle.mwc_walk.proofs.Rules.{wins-below, loses-below}
 
 -- a digit that is set
-pub some_digit : (h r : ℕ) → 0 < r → r < 2 ^ h → (b : ℕ) × (b < h) × (2 ^ b ≤ r) × (r / 2 ^ b % 2 ≡ 1)
-some_digit zero r pos below = absurd (omega arith)
-some_digit (suc h) r pos below =
-    elim (cases_lt r (2 ^ h)) [
-      | inl less ↦
-          let found = some_digit h r pos less in
-          (found.0, omega (arith, found.1), found.2, found.3)
-      | inr more ↦
-          let e : r ≡ 1 * 2 ^ h + (r - 2 ^ h) = omega arith in
-          let one : r / 2 ^ h ≡ 1 = ap (λ (i : ℕ). i / 2 ^ h) e ∙ div-mul-add 1 (2 ^ h) (r - 2 ^ h) (omega arith) in
-          (h, omega arith, more, ap (λ (i : ℕ). i % 2) one)
-    ]
+some_digit : (h r : ℕ) → h ≤ 40 → 0 < r → r < 2 ^ h → (b : ℕ) × (b < h) × (2 ^ b ≤ r) × (r / 2 ^ b % 2 ≡ 1)
+unfolding has
+some_digit h r few pos below =
+    let last = lowest-place h r few pos below in
+    let back : h - 1 - (h - 1 - trailing_zeros w64 r) ≡ trailing_zeros w64 r = omega (arith, last.0) in
+    let digit = eqb-true _ _ (rw back at last.1) in
+    (trailing_zeros w64 r, last.0, grind (arith, common_steps), digit)
 
 pub next-block : (x h : ℕ) → (x + 1) * 2 ^ h ≡ x * 2 ^ h + 2 ^ h
 next-block x h = omega arith
@@ -34,16 +32,13 @@ above-not_minimal : (v : Votes) (p x c : ℕ) → IsVotes v → p ≤ v.members 
     → c < x * 2 ^ (v.members - p) + 2 ^ (v.members - p) → minimal v c ≡ true → ⊥
 unfolding has without
 above-not_minimal v p x c game le win low high min =
-    let found = some_digit (v.members - p) (c - x * 2 ^ (v.members - p)) (omega arith) (omega arith) in
+    let found = some_digit (v.members - p) (c - x * 2 ^ (v.members - p)) (omega (arith, game.few)) (omega arith) (omega arith) in
     let e : c ≡ x * 2 ^ (v.members - p) + (c - x * 2 ^ (v.members - p)) = omega arith in
     let digit : c / 2 ^ found.0 % 2 ≡ 1 = grind (arith, bit_at_cat_low) in
     let place : v.members - 1 - (v.members - 1 - found.0) ≡ found.0 = omega arith in
     let inside : eqb (c / 2 ^ (v.members - 1 - (v.members - 1 - found.0)) % 2) 1 ≡ true = grind (arith, eq-eqb) in
     let prefix : (c - 2 ^ found.0) / 2 ^ (v.members - p) ≡ x = grind (arith, block-prefix) in
-    let prefix' : (c - 2 ^ (v.members - 1 - (v.members - 1 - found.0))) / 2 ^ (v.members - p) ≡ x = grind (arith) in
-    let still : wins v.rules (c - 2 ^ (v.members - 1 - (v.members - 1 - found.0))) ≡ true = grind (arith, wins-below) in
-    let lost = ((needs-each-member v c).0 min).1 (v.members - 1 - found.0) (omega (arith, game.some)) inside in
-    both_ways _ lost still
+    grind (arith, common_steps, both_ways, wins-below, needs-each-member)
 
 -- a prefix that cannot reach some quota has nothing below it
 pub dead-nothing : (v : Votes) (p x : ℕ) → IsVotes v → p ≤ v.members → reaches v.rules p x ≡ false → NothingBelow v p x
@@ -62,7 +57,8 @@ pub left-won : (v : Votes) (k j p x : ℕ) → IsVotes v → p ≤ v.members →
 unfolding slice_below minimal_below
 left-won v k j p x game le win =
     let pos : 0 < 2 ^ (v.members - p) = pow_pos (v.members - p) in
-    let e : (x + 1) * 2 ^ (v.members - p) ≡ (x * 2 ^ (v.members - p) + 1) + (2 ^ (v.members - p) - 1) = grind (arith, next-block) in grind (arith, filter-down_skip, false_from_ne_true, above-not_minimal)
+    let e : (x + 1) * 2 ^ (v.members - p) ≡ (x * 2 ^ (v.members - p) + 1) + (2 ^ (v.members - p) - 1) = grind (arith, next-block) in
+    grind (arith, filter-down_skip, false_from_ne_true, above-not_minimal)
 
 -- c itself, where it is minimal and in the slice
 pub left-take : (v : Votes) (k j c : ℕ) → minimal v c ≡ true → c / 2 ^ (v.members - k) ≡ 2 ^ k - 1 - j

@@ -4,11 +4,11 @@ use Rattle.std.specs.List.{All, AllByRecursion, AllZip, list_all}
 use Rattle.std.proofs.lemmas.Bool.{and_from, and_parts, le-leb, leb-true}
 use Rattle.std.proofs.lemmas.List.Elements.{All-nil, All-cons}
 use Rattle.std.proofs.lemmas.Grind.{common_steps}
-use Rattle.std.proofs.lemmas.List.{drop_all, map-id, length-take-le, ext_get_or, get_or-take}
+use Rattle.std.proofs.lemmas.List.{length-map, drop_all, map-id, length-take-le, ext_get_or, get_or-take}
 use Rattle.std.proofs.lemmas.List.Sums.{sum_by-drop_more, sum_by-take-drop}
 use Rattle.std.proofs.lemmas.Bool.Decides.{nat_tests}
 use Rattle.council_game.specs.Votes.{RuleView, IsRule, weight, wins, rule_at}
-use Rattle.council_game.proofs.Shared.Weights.{weight-at, weight-le, weight-more, weight-prefix}
+use Rattle.council_game.proofs.Shared.Weights.{weight-zero, weight-at, weight-le, weight-more, weight-prefix}
 use Rattle.mwc_walk.specs.Inner.Places.{reaches, wins_at, LaneIs, LanesAre}
 use Rattle.mwc_walk.specs.declared.lane.Lane.{Lane}
 use Rattle.mwc_walk.specs.Inner.Lanes.{lane_reaches, lane_wins, lane_with, lane_without}
@@ -30,22 +30,19 @@ module _ {X Y : Type 0} (R : X → Y → Type 0) where
   pub list_all-beside : (p : X → Bool) (q : Y → Bool) → ((x : X) (y : Y) → R x y → q y ≡ p x) → (xs : List X) (ys : List Y) → AllZip R xs ys
       → list_all q ys ≡ list_all p xs
   list_all-beside p q same [] [] are = refl
-  list_all-beside p q same [] (y ∷ ys) are = elim are [ ]
-  list_all-beside p q same (x ∷ xs) [] are = elim are [ ]
   list_all-beside p q same (x ∷ xs) (y ∷ ys) are = rw (same x y are.0, list_all-beside p q same xs ys are.1) refl
+  list_all-beside p q same xs ys are = elim are [ ]
 
   pub AllZip-moved : (S : X → Y → Type 0) (f : Y → Y) → ((x : X) (y : Y) → R x y → S x (f y)) → (xs : List X) (ys : List Y) → AllZip R xs ys
       → AllZip S xs (map f ys)
   AllZip-moved S f move [] [] are = tt
-  AllZip-moved S f move [] (y ∷ ys) are = elim are [ ]
-  AllZip-moved S f move (x ∷ xs) [] are = elim are [ ]
   AllZip-moved S f move (x ∷ xs) (y ∷ ys) are = (move x y are.0, AllZip-moved S f move xs ys are.1)
+  AllZip-moved S f move xs ys are = elim are [ ]
 
   pub All-beside : (Q : Y → Type 0) → ((x : X) (y : Y) → R x y → Q y) → (xs : List X) (ys : List Y) → AllZip R xs ys → All Q ys
   All-beside Q fits [] [] are = All-nil Q
-  All-beside Q fits [] (y ∷ ys) are = elim are [ ]
-  All-beside Q fits (x ∷ xs) [] are = elim are [ ]
   All-beside Q fits (x ∷ xs) (y ∷ ys) are = All-cons Q y ys (fits x y are.0) (All-beside Q fits xs ys are.1)
+  All-beside Q fits xs ys are = elim are [ ]
 
 module _ {n : ℕ} {r : RuleView} (is : IsRule n r) where
   pub weight-block : (p x : ℕ) → p ≤ n → weight r.weights (x * 2 ^ (n - p)) ≡ weight (take p r.weights) x
@@ -55,17 +52,14 @@ module _ {n : ℕ} {r : RuleView} (is : IsRule n r) where
       → p ≤ n → weight r.weights c ≡ weight (take p r.weights) (c / 2 ^ (n - p)) + weight (drop p r.weights) (c % 2 ^ (n - p))
   weight-split p c le = rw is.full at (weight-at r.weights p c (omega (arith, is.full)))
 
-  pub weight-step : (p x b : ℕ)
-      → p < n → b < 2 → weight (take (p + 1) r.weights) (2 * x + b) ≡ weight (take p r.weights) x + b * get_or r.weights p 0
-  weight-step p x b below digit = weight-more r.weights p x b (omega (arith, is.full)) digit
+  -- the next place, with its digit
+  pub weight-step : (p q x y b : ℕ) → p < n → q ≡ p + 1 → y ≡ 2 * x + b → b < 2
+      → weight (take q r.weights) y ≡ weight (take p r.weights) x + b * get_or r.weights p 0
+  weight-step p q x y b below next more digit = rw (next, more) (weight-more r.weights p x b (omega (arith, is.full)) digit)
 
   -- the next place is left out
-  pub weight-over : (p x : ℕ) → p < n → weight (take (p + 1) r.weights) (2 * x) ≡ weight (take p r.weights) x
-  weight-over p x below =
-      let e : 2 * x + 0 ≡ 2 * x = omega arith in
-      let out : weight (take (p + 1) r.weights) (2 * x) ≡ weight (take p r.weights) x + 0 * get_or r.weights p 0 =
-      rw e at (weight-step p x 0 below (omega arith)) in
-      omega arith
+  pub weight-over : (p q x y : ℕ) → p < n → q ≡ p + 1 → y ≡ 2 * x → weight (take q r.weights) y ≡ weight (take p r.weights) x
+  weight-over p q x y below next twice = omega (arith, weight-step p q x y 0 below next (omega arith) (omega arith))
 
   pub rest-step : (p : ℕ) → p < n → sum (drop p r.weights) ≡ get_or r.weights p 0 + sum (drop (p + 1) r.weights)
   rest-step p below = sum_by-drop_more (λ (y : ℕ). y) r.weights p 0 (omega (arith, is.full))
@@ -85,24 +79,27 @@ module _ (n : ℕ) (rs : List RuleView) (all : AllByRecursion (IsRule n) rs) whe
   unfolding wins reaches
   loses-below p c le = grind (arith, common_steps, le-leb, leb-true, list_all-more, weight-le, weight-split)
 
-  pub wins-more : (p x b : ℕ) → p < n → b < 2 → wins_at rs p x ≡ true → wins_at rs (p + 1) (2 * x + b) ≡ true
+  pub wins-more : (p q x y : ℕ) → p < n → q ≡ p + 1 → x ≡ y / 2 → wins_at rs p x ≡ true → wins_at rs q y ≡ true
   unfolding wins_at
-  wins-more p x b below digit =
+  wins-more p q x y below next half =
       list_all-more (IsRule n) _ _ (λ r is h.
-      let met : r.quota ≤ weight (take p r.weights) x = leb-true _ _ h in
-      le-leb _ _ (omega (arith, met, weight-step is p x b below digit))) rs all
+      le-leb _ _ (omega (arith, leb-true _ _ h, weight-step is p q x y (y % 2) below next (omega arith) (omega arith)))) rs all
 
-  pub reaches-in : (p x : ℕ) → p < n → reaches rs p x ≡ true → reaches rs (p + 1) (2 * x + 1) ≡ true
+  pub reaches-in : (p q x y : ℕ) → p < n → q ≡ p + 1 → y ≡ 2 * x + 1 → reaches rs p x ≡ true → reaches rs q y ≡ true
   unfolding reaches
-  reaches-in p x below =
+  reaches-in p q x y below next more =
       list_all-more (IsRule n) _ _ (λ r is h.
-      let met : r.quota ≤ weight (take p r.weights) x + sum (drop p r.weights) = leb-true _ _ h in
-      le-leb _ _ (omega (arith, met, weight-step is p x 1 below (omega arith), rest-step is p below))) rs all
+      le-leb _ _ (omega (
+        arith,
+        leb-true _ _ h,
+        weight-step is p q x y 1 below next more (omega arith),
+        rw (← next) at (rest-step is p below),
+      ))) rs all
 
   -- the next place is left out
-  pub wins-over : (p x : ℕ) → p < n → wins_at rs (p + 1) (2 * x) ≡ wins_at rs p x
+  pub wins-over : (p q x y : ℕ) → p < n → q ≡ p + 1 → y ≡ 2 * x → wins_at rs q y ≡ wins_at rs p x
   unfolding wins_at
-  wins-over p x below = list_all-same (IsRule n) _ _ (λ r is. rw (weight-over is p x below) refl) rs all
+  wins-over p q x y below next twice = list_all-same (IsRule n) _ _ (λ r is. rw (weight-over is p q x y below next twice) refl) rs all
 
   -- past the last place, what reaches the quotas wins
   pub full-reach : (p x : ℕ) → n ≤ p → reaches rs p x ≡ wins_at rs p x
@@ -127,21 +124,21 @@ lane-at : {n p q x y : ℕ} {r : RuleView} {l : Lane} (s : ℕ) → LaneIs n p x
 lane-at s is e = grind (arith, common_steps)
 
 -- place p is taken in
-pub lanes-in : (n p x : ℕ) (rs : List RuleView) (ls : List Lane) → p < n → LanesAre n p x rs ls
-    → LanesAre n (p + 1) (2 * x + 1) rs (map (lane_with p) ls)
-lanes-in n p x rs ls below are =
-    AllZip-moved (LaneIs n p x) (LaneIs n (p + 1) (2 * x + 1)) (lane_with p) (λ r l is.
-    lane-at _ is (omega (arith, weight-step is.rule p x 1 below (omega arith), is.sum_is, is.weights p below))) rs ls are
+pub lanes-in : (n p q x y : ℕ) (rs : List RuleView) (ls : List Lane) → p < n → q ≡ p + 1 → y ≡ 2 * x + 1 → LanesAre n p x rs ls
+    → LanesAre n q y rs (map (lane_with p) ls)
+lanes-in n p q x y rs ls below next more are =
+    AllZip-moved (LaneIs n p x) (LaneIs n q y) (lane_with p) (λ r l is.
+    lane-at _ is (omega (arith, weight-step is.rule p q x y 1 below next more (omega arith), is.sum_is, is.weights p below))) rs ls are
 
 -- it comes out again
-pub lanes-out : (n p y : ℕ) (rs : List RuleView) (ls : List Lane) → p < n → LanesAre n (p + 1) (2 * y + 1) rs ls
-    → LanesAre n (p + 1) (2 * y) rs (map (lane_without p) ls)
-lanes-out n p y rs ls below are =
-    AllZip-moved (LaneIs n (p + 1) (2 * y + 1)) (LaneIs n (p + 1) (2 * y)) (lane_without p) (λ r l is.
+pub lanes-out : (n p q x y : ℕ) (rs : List RuleView) (ls : List Lane) → p < n → q ≡ p + 1 → x ≡ y + 1 → y % 2 ≡ 0 → LanesAre n q x rs ls
+    → LanesAre n q y rs (map (lane_without p) ls)
+lanes-out n p q x y rs ls below next less even are =
+    AllZip-moved (LaneIs n q x) (LaneIs n q y) (lane_without p) (λ r l is.
     lane-at _ is (omega (
       arith,
-      weight-step is.rule p y 1 below (omega arith),
-      weight-over is.rule p y below,
+      weight-step is.rule p q (y / 2) x 1 below next (omega arith) (omega arith),
+      weight-over is.rule p q (y / 2) y below next (omega arith),
       is.sum_is,
       is.weights p below,
     ))) rs ls are
@@ -154,12 +151,14 @@ lanes-stay n p q x y rs ls same are =
     rw map-id at (AllZip-moved (LaneIs n p x) (LaneIs n q y) (λ l. l) (λ r l is. lane-at l.sum is (is.sum_is ∙ same r is.rule)) rs ls are)
 
 -- back to the place before, which is not in
-pub lanes-up : (n p y : ℕ) (rs : List RuleView) (ls : List Lane) → p < n → LanesAre n (p + 1) (2 * y) rs ls → LanesAre n p y rs ls
-lanes-up n p y rs ls below = lanes-stay n (p + 1) p (2 * y) y rs ls (λ r is. weight-over is p y below)
+pub lanes-up : (n p q x y : ℕ) (rs : List RuleView) (ls : List Lane) → p < n → q ≡ p + 1 → y ≡ 2 * x → LanesAre n q y rs ls
+    → LanesAre n p x rs ls
+lanes-up n p q x y rs ls below next twice = lanes-stay n q p y x rs ls (λ r is. weight-over is p q x y below next twice)
 
 -- place p is passed by
-pub lanes-pass : (n p y : ℕ) (rs : List RuleView) (ls : List Lane) → p < n → LanesAre n p y rs ls → LanesAre n (p + 1) (2 * y) rs ls
-lanes-pass n p y rs ls below = lanes-stay n p (p + 1) y (2 * y) rs ls (λ r is. sym (weight-over is p y below))
+pub lanes-pass : (n p q x y : ℕ) (rs : List RuleView) (ls : List Lane) → p < n → q ≡ p + 1 → y ≡ 2 * x → LanesAre n p x rs ls
+    → LanesAre n q y rs ls
+lanes-pass n p q x y rs ls below next twice = lanes-stay n p q x y rs ls (λ r is. sym (weight-over is p q x y below next twice))
 
 pub fits-in : (n p x : ℕ) (rs : List RuleView) (ls : List Lane) → p < n → LanesAre n p x rs ls
     → All (λ l. l.sum + get_or l.weights p 0 < 2 ^ 64) ls
@@ -169,16 +168,16 @@ fits-in n p x rs ls below are =
     let most : weight (take p r.weights) x ≤ sum (take p r.weights) = weight-le (take p r.weights) x in
     omega (arith, cut, rest-step is.rule p below, most, is.rule.light, is.sum_is, is.weights p below)) rs ls are
 
-pub fits-out : (n p y : ℕ) (rs : List RuleView) (ls : List Lane) → p < n → LanesAre n (p + 1) (2 * y + 1) rs ls
+pub fits-out : (n p q x : ℕ) (rs : List RuleView) (ls : List Lane) → p < n → q ≡ p + 1 → x % 2 ≡ 1 → LanesAre n q x rs ls
     → All (λ l. get_or l.weights p 0 ≤ l.sum) ls
-fits-out n p y rs ls below are =
-    All-beside (LaneIs n (p + 1) (2 * y + 1)) (λ l. get_or l.weights p 0 ≤ l.sum) (λ r l is.
-    omega (arith, weight-step is.rule p y 1 below (omega arith), is.sum_is, is.weights p below)) rs ls are
+fits-out n p q x rs ls below next odd are =
+    All-beside (LaneIs n q x) (λ l. get_or l.weights p 0 ≤ l.sum) (λ r l is.
+    omega (arith, weight-step is.rule p q (x / 2) x 1 below next (omega arith) (omega arith), is.sum_is, is.weights p below)) rs ls are
 
-pub same-at : {A : Type 0} (x : A) (n q : ℕ) → get_or (replicate n x) q x ≡ x
-same-at x zero q = refl
-same-at x (suc n) zero = refl
-same-at x (suc n) (suc q) = same-at x n q
+pub same_at : {A : Type 0} (x : A) (n q : ℕ) → get_or (replicate n x) q x ≡ x
+same_at x zero q = refl
+same_at x (suc n) zero = refl
+same_at x (suc n) (suc q) = same_at x n q
 
 pub same-weights : (n : ℕ) (ws vs : List ℕ) → n ≤ length ws → length vs ≡ n → ((q : ℕ) → q < n → get_or ws q 0 ≡ get_or vs q 0)
     → take n ws ≡ vs
@@ -214,3 +213,6 @@ lane-of n p x [] (l ∷ ls) are i below d = elim are [ ]
 lane-of n p x (r ∷ rs) [] are i below d = elim are [ ]
 lane-of n p x (r ∷ rs) (l ∷ ls) are zero below d = are.0
 lane-of n p x (r ∷ rs) (l ∷ ls) are (suc i) below d = lane-of n p x rs ls are.1 i (omega (arith, below)) d
+
+-- what the lane of a rule rests on
+pub ruleset lane_made = (common_steps, length-map, get_or-take, weight-zero)

@@ -4,7 +4,6 @@ use Rattle.std.proofs.lemmas.Grind.{common_steps}
 use Rattle.std.specs.List.{AllByRecursion}
 use Rattle.std.specs.Int.{w64, trailing_zeros}
 use Rattle.std.specs.Int.Bits.{bit_and}
-use Rattle.std.proofs.Math.Nat.{pow-suc}
 use Rattle.std.proofs.Math.Pow.{pow_mono}
 use Rattle.std.proofs.lemmas.Bool.{cases_eq, cases_lt, cases_Bool, both_ways, and_parts, and_from, le-leb, leb-true, eq-eqb, false_from_ne_true}
 use Rattle.std.proofs.lemmas.Bool.Decides.{nat_tests}
@@ -20,23 +19,18 @@ use Rattle.mwc_walk.specs.declared.lane.Lane.{Lane}
 use Rattle.mwc_walk.specs.declared.vetoes.Vetoes.{Vetoes}
 use Rattle.mwc_walk.specs.declared.cursor.Cursor.{Cursor}
 use Rattle.mwc_walk.specs.Inner.Lanes.{no_lane}
+use Rattle.mwc_walk.specs.Inner.Asked.{asked_at}
 use Rattle.mwc_walk.specs.Inner.Places.{LaneIs, NothingBelow, NoneWins, IsExcess, AreExcesses, CanSpare, wins_at}
 use Rattle.mwc_walk.specs.Inner.Spared.{lane_at, IsEnough, IsNeed, NoneSpared, Tried}
 use Rattle.mwc_walk.specs.Inner.Vetoes.{IsSplit}
 use Rattle.mwc_walk.specs.Inner.Cursor.{CursorIs}
 use Rattle.mwc_walk.proofs.Shared.One.{place-before, in-slice}
 use Rattle.mwc_walk.proofs.Rules.{weight-block, weight-split, wins-prefix, lane-of}
-use Rattle.mwc_walk.proofs.Steps.{enter-short}
-
-and-digit : (a b : ℕ) → a < 2 → b < 2 → (min a b == 1) ≡ (a == 1 && b == 1)
-and-digit a b la lb = grind (arith, nat_tests)
+use Rattle.mwc_walk.proofs.Steps.{enter-short, short-step}
 
 pub has-and : (n q a b : ℕ) → has n q (bit_and a b) ≡ (has n q a && has n q b)
 unfolding has
-has-and n q a b = grind (arith, common_steps, and-digit, bit_at_and)
-
-pub and-less : (a b m : ℕ) → a ≤ m → bit_and a b ≤ m
-and-less a b m le = let less = and_le_l a b in omega (arith, less)
+has-and n q a b = grind (arith, nat_tests, common_steps, bit_at_and)
 
 -- a mask of p places, with one digit more
 pub record NextDigit (p m b : ℕ) : Type 0 where
@@ -48,27 +42,14 @@ pub next-digit : (p m b : ℕ) → b < 2 → m < 2 ^ p → NextDigit p m b
 unfolding has
 next-digit p m b digit short =
     let half : (2 * m + b) / 2 ≡ m = omega arith in
-    let twice : 2 ^ (p + 1) ≡ 2 ^ p * 2 = ap (λ (i : ℕ). 2 ^ i) (let e : p + 1 ≡ suc p = omega arith in e) ∙ pow-suc 2 p in
-    let none : p + 1 - 1 - p ≡ 0 = omega arith in
-    let last : (2 * m + b) / 2 ^ 0 % 2 ≡ b = omega arith in
-    record {
-      below = omega (arith, twice);
-      before = λ q lt.
-          let e : 1 + (p - 1 - q) ≡ p + 1 - 1 - q = omega arith in
-          sym (ap (λ (i : ℕ). i % 2 == 1) (rw (half, e) at (shr-shr (2 * m + b) 1 (p - 1 - q))));
-      here = rw (none, last) refl;
-    }
+    grind (arith, common_steps, short-step, shr-shr (2 * m + b) 1)
 
 -- a place that is in the prefix is in each coalition below it
 has-below : (n p x c q : ℕ) → p ≤ n → q < n → c / 2 ^ (n - p) ≡ x → has n q (x * 2 ^ (n - p)) ≡ true → has n q c ≡ true
 unfolding has
 has-below n p x c q le below prefix in' =
-    let before = place-before n p x q le below (unfold has in in') in
     let e : n - 1 - q ≡ n - (q + 1) = omega arith in
-    let f : (n - p) + (p - (q + 1)) ≡ n - (q + 1) = omega arith in
-    let here : x * 2 ^ (n - p) / 2 ^ (n - 1 - q) ≡ x / 2 ^ (p - (q + 1)) = rw e (in-slice n (q + 1) p x (omega arith) le) in
-    let there : c / 2 ^ (n - 1 - q) ≡ x / 2 ^ (p - (q + 1)) = rw e (sym (rw (f, prefix) at (shr-shr c (n - p) (p - (q + 1))))) in
-    ap (λ (i : ℕ). i % 2 == 1) (there ∙ sym here) ∙ in'
+    grind (arith, common_steps, place-before, in-slice, shr-shr)
 
 -- ---- rule by rule
 -- a winning coalition meets each quota
@@ -86,9 +67,9 @@ still-wins : (n c q : ℕ) (rs : List RuleView) → AllByRecursion (IsRule n) rs
 unfolding wins
 still-wins n c q [] all below in' free = refl
 still-wins n c q (r ∷ rs) all below in' free =
-    let first : r.quota + get_or r.weights q 0 ≤ weight r.weights c = free 0 (omega arith) in
     let less = sum-without n r c q (weight r.weights c) all.0 below in' refl in
-    and_from _ _ (le-leb _ _ (omega (arith, first, less))) (still-wins n c q rs all.1 below in' (λ i lt. free (suc i) (omega (arith, lt))))
+    let more = still-wins n c q rs all.1 below in' (λ i lt. free (suc i) (omega (arith, lt))) in
+    and_from _ _ (le-leb _ _ (omega (arith, free 0 (omega arith), less))) more
 
 -- ---- what is there and what comes
 -- digits above the places of a list weigh nothing
@@ -99,7 +80,7 @@ pub weight-parts : (n p c : ℕ) (r : RuleView) → IsRule n r → p ≤ n
     → weight r.weights c ≡ weight (take p r.weights) (c / 2 ^ (n - p)) + weight (drop p r.weights) c
 weight-parts n p c r is le =
     let long : length (drop p r.weights) ≡ n - p = length-drop p r.weights ∙ ap (λ (i : ℕ). i - p) is.full in
-    weight-split is p c le ∙ ap (λ (w : ℕ). weight (take p r.weights) (c / 2 ^ (n - p)) + w) (rw long at (weight-low (drop p r.weights) c))
+    omega (arith, weight-split is p c le, rw long at (weight-low (drop p r.weights) c))
 
 -- ---- one place after another
 -- the last place of rest, as the cursor computes it
@@ -115,14 +96,12 @@ up-to-last : (n rest q : ℕ) → n ≤ 40 → 0 < rest → rest < 2 ^ n → q <
 unfolding has
 up-to-last n rest q few pos short below in' =
     let up : 2 ^ n ≤ 2 ^ 40 = pow_mono few in
-    let zeros = bit_at-trailing_zeros w64 rest pos (omega arith) in
-    grind (arith, cases_lt)
+    let zeros = bit_at-trailing_zeros w64 rest pos (omega arith) in grind (arith, common_steps, cases_lt)
 
 -- what the first rule can not spare of a place, it can spare of no place before it
 first-keeps : (rs : List RuleView) (e q m : ℕ) → IsRanked rs → 1 ≤ length rs → e < get_or (rule_at rs 0).weights q 0 → m ≤ q
     → q < length (rule_at rs 0).weights → e < get_or (rule_at rs 0).weights m 0
-first-keeps [] e q m ranked some keeps before below = absurd (omega (arith, some))
-first-keeps (r ∷ rs) e q m ranked some keeps before below = let heavier = ranked m q before below in omega (arith, keeps, heavier)
+first-keeps rs e q m ranked some keeps before below = grind (arith, common_steps)
 
 module _ {v : Votes} {p x rest : ℕ} {es : List ℕ} (tried : Tried v p x es rest) where
   pub tried-more : (q : ℕ) → 0 < rest → q < v.members → has v.members q rest ≡ true → (CanSpare v es q → ⊥)
@@ -136,7 +115,7 @@ module _ {v : Votes} {p x rest : ℕ} {es : List ℕ} (tried : Tried v p x es re
   pub tried-weightless : (i : ℕ) (l : Lane) → i < length v.rules → LaneIs v.members p x (rule_at v.rules i) l → get_or es i 0 ≡ 0
       → Tried v p x es (bit_and rest l.weightless)
   tried-weightless i l below is nothing =
-      grind (arith, common_steps, and-less, and_from, and_parts, both_ways, cases_Bool, eq-eqb, has-and)
+      grind (arith, common_steps, and_le_l, and_from, and_parts, both_ways, cases_Bool, eq-eqb, has-and)
 
 module _ {v : Votes} {a : Cursor} (is : CursorIs v a) where
   -- ---- what is there and what comes
@@ -149,9 +128,7 @@ module _ {v : Votes} {a : Cursor} (is : CursorIs v a) where
   module _ (i c : ℕ) (below : i < a.rules) (prefix : c / 2 ^ (v.members - a.place) ≡ a.prefix) (won : wins v.rules c ≡ true) where
     pub there-and-comes : weight (rule_at v.rules i).weights c ≡ (lane_at a.lanes i).sum + weight
         (drop a.place (rule_at v.rules i).weights) c
-    there-and-comes =
-        let here = lane-here i below in
-        omega (arith, rw prefix at (weight-parts v.members a.place c (rule_at v.rules i) here.rule is.place.to), here.sum_is)
+    there-and-comes = grind (arith, common_steps, weight-parts, lane-here)
 
     pub meets : (rule_at v.rules i).quota ≤ weight (rule_at v.rules i).weights c
     meets = (met-at v.members c v.rules is.game.rules won i (omega (arith, below, is.rules))).1
@@ -161,26 +138,25 @@ module _ {v : Votes} {a : Cursor} (is : CursorIs v a) where
       → ((c : ℕ) → c / 2 ^ (v.members - a.place) ≡ a.prefix → wins v.rules c ≡ true
       → b ≤ weight (drop a.place (rule_at v.rules i).weights) c)
       → IsExcess v a.place a.prefix i (t - (lane_at a.lanes i).quota)
-  least-excess i t b below most comes = λ c prefix won.
-      let here = lane-here i below in
-      omega (arith, meets i c below prefix won, there-and-comes i c below prefix won, comes c prefix won, most, here.quota)
+  least-excess i t b below most comes = λ c prefix won. grind (arith, common_steps, meets, there-and-comes, lane-here)
+
+  -- what is there beyond what the rule asks is passed by each winning coalition below
+  pub excess-is : (i e : ℕ) → i < length v.rules → e ≡ (lane_at a.lanes i).sum - asked_at a.asked i a.place
+      → IsExcess v a.place a.prefix i e
+  excess-is i e below is-e = λ c prefix won. grind (arith, common_steps, meets, there-and-comes)
+
+  pub enough-is : (i e : ℕ) → i < length v.rules → e ≡ (lane_at a.lanes i).sum - asked_at a.asked i a.place
+      → weight (take a.place (rule_at v.rules i).weights) a.prefix - (rule_at v.rules i).quota ≤ e
+  enough-is i e below is-e = grind (arith, common_steps, lane-here)
 
   -- what the quota asks for beside what is there and what vetoers bring
-  pub short-need : (i t : ℕ) (s : Vetoes) → i < a.rules → IsSplit v i s
-      → t ≡ min (2 ^ 64 - 1) ((lane_at a.lanes i).sum + get_or s.brings a.place 0)
-      → IsNeed v a.place a.prefix s ((lane_at a.lanes i).quota - t)
-  short-need i t s below split capped = λ c prefix won.
-      let here = lane-here i below in
-      omega (
-        arith,
-        meets i c below prefix won,
-        there-and-comes i c below prefix won,
-        split.parts a.place c is.place.to won,
-        here.quota,
-        here.rule.met,
-        here.rule.light,
-        capped,
-      )
+  pub short-need : (i e : ℕ) (s : Vetoes) → i < length v.rules → IsSplit v i s
+      → e ≡ (lane_at a.lanes i).quota - min (2 ^ 64 - 1) ((lane_at a.lanes i).sum + get_or s.brings a.place 0)
+      → IsNeed v a.place a.prefix s e
+  short-need i e s below split is-e = λ c prefix won.
+      let lt : i < a.rules = omega (arith, below, is.rules) in
+      let here = lane-here i lt in
+      omega (arith, meets i c lt prefix won, there-and-comes i c lt prefix won, split.parts a.place c is.place.to won)
 
   -- ---- who can be spared
   -- a member whom each rule can spare, by what each coalition below has beyond the quotas, is needed in none of them
@@ -195,15 +171,14 @@ module _ {v : Votes} {a : Cursor} (is : CursorIs v a) where
       → minimal v (a.prefix * 2 ^ (v.members - a.place)) ≡ true
   kept-minimal es enough kept won =
       let x : ℕ = a.prefix * 2 ^ (v.members - a.place) in
+      let whole = wins-prefix v.members v.rules is.game.rules a.place a.prefix is.place.to in
       (needs-each-member v x).1 (
-        wins-prefix v.members v.rules is.game.rules a.place a.prefix is.place.to ∙ won,
+        whole ∙ won,
         λ q below in'. false_from_ne_true _ (λ still. kept q below in' (λ i lt.
             let met = met-at v.members (without v.members q x) v.rules is.game.rules still i lt in
-            let less = sum-without v.members (rule_at v.rules i) x q (weight (take a.place (rule_at v.rules i).weights) a.prefix) met.0
-            below in'
+            let less = sum-without v.members (rule_at v.rules i) x q _ met.0 below in'
             (sym (weight-block met.0 a.place a.prefix is.place.to)) in
-            let most = enough i lt in
-            omega (arith, met.1, met.0.some, less, most))),
+            omega (arith, met.1, met.0.some, less, enough i lt))),
       )
 
   pub none-nothing : NoneWins v a.place a.prefix → NothingBelow v a.place a.prefix
@@ -218,27 +193,17 @@ module _ {v : Votes} {a : Cursor} (is : CursorIs v a) where
     last-place short =
         let last = lowest-place v.members rest is.game.few pos short in
         let left = lowest-cleared v.members rest is.game.few pos short in
-        record {
-          small = omega (arith, last.0, is.members);
-          below = omega (arith, last.0, is.members);
-          inside = rw is.members last.1;
-          left = rw is.members left;
-          less = rw left (omega (arith, without-less v.members (v.members - 1 - trailing_zeros w64 rest) rest pos));
-        }
+        grind (arith, common_steps, without-less)
 
     -- where the first rule can not spare the last place of those left, no place can be spared
     pub first-keeps-all : {es : List ℕ} → Tried v a.place a.prefix es rest
         → get_or es 0 0 < get_or (rule_at v.rules 0).weights (a.members - 1 - trailing_zeros w64 rest) 0 → NoneSpared v a.place a.prefix es
-    first-keeps-all {es} tried keeps =
-        let last = last-place tried.below in
-        let first = lane-here 0 (omega (arith, is.rules, is.game.has_rule)) in
-        λ m below in'. elim (cases_Bool (has v.members m rest)) [
-          | inl still ↦ λ spare.
-              let before = up-to-last v.members rest m is.game.few pos tried.below below still in
-              let less = first-keeps v.rules (get_or es 0 0) (a.members - 1 - trailing_zeros w64 rest) m is.game.ranked is.game.has_rule
-              keeps
-              (omega (arith, before, is.members)) (omega (arith, last.below, first.rule.full)) in
-              let most = spare 0 is.game.has_rule in
-              absurd (omega (arith, less, most))
-          | inr out ↦ tried.kept m below in' out
-        ]
+    first-keeps-all {es} tried keeps = λ m below in' spare. elim (cases_Bool (has v.members m rest)) [
+      | inl still ↦
+          let last = last-place tried.below in
+          let first = lane-here 0 (omega (arith, is.rules, is.game.has_rule)) in
+          let before = up-to-last v.members rest m is.game.few pos tried.below below still in
+          let less = first-keeps v.rules _ _ m is.game.ranked is.game.has_rule keeps (omega (arith, before)) (omega (arith, last.below)) in
+          absurd (omega (arith, less, spare 0 is.game.has_rule))
+      | inr out ↦ tried.kept m below in' out spare
+    ]

@@ -14,6 +14,9 @@ use Rattle.mwc_walk.proofs.Shared.Joined.{slices-joined}
 pub one-slice : (v : Votes) → IsVotes v → slice v 0 0 ≡ minimal_coalitions v
 one-slice v game = sym (append-nil (slice v 0 0)) ∙ slices-joined v 0 (omega arith) (omega arith)
 
+-- what the laws rest on
+pub ruleset slices = (slices-joined, one-slice)
+
 -- the list has the first n of the whole, and the others are to come
 pub record HasFirst (whole list to_come : List ℕ) (n : ℕ) : Type 0 where
   pub joined : list ++ to_come ≡ whole
@@ -45,3 +48,6 @@ pub more-than : (v : Votes) (most : ℕ) {list to_come rest : List ℕ} {n c : �
     → to_come ≡ c ∷ rest
     → most ≤ n → most < length (minimal_coalitions v)
 more-than v most {list} {to_come} game has next many = grind (arith, length-append, one-slice)
+
+-- what a list of a slice rests on
+pub ruleset listed = (one-more, first-ones, first-all)

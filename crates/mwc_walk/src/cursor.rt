@@ -11,6 +11,7 @@ ghost use Rattle.mwc_walk.specs.Inner.Cursor.{CursorIs, Steps, SomeSteps, Starts
 
 use crate::ahead::Ahead;
 use crate::asked::Asked;
+use crate::fill::filled;
 use crate::lane::{Lane, all_reach, all_win, lanes_of, leave_out, take_in};
 use crate::step::Step;
 use council_game::{Coalition, Game, limits};
@@ -288,12 +289,11 @@ impl Cursor {
         ensures are { AreExcesses (votes_of game.now) self.now.place self.now.prefix result }
         ensures enough { IsEnough (votes_of game.now) self.now.place self.now.prefix result }
     {
-        let mut excess = [0; limits::RULES];
-        for rule in 0..self.rules {
-            let asked = self.asked[rule].before[self.place];
-            excess[rule] = self.lanes[rule].sum.saturating_sub(asked);
-        }
-        excess
+        filled(0, self.rules, |rule| {
+            self.lanes[rule]
+                .sum
+                .saturating_sub(self.asked[rule].before[self.place])
+        })
     }
 
     /// Whether no coalition below is minimal by what can still come: some quota can not be met by any sum that
@@ -365,12 +365,13 @@ impl Cursor {
         requires ahead { AheadIs (votes_of game.now) ahead.now }
         ensures { AreNeeds (votes_of game.now) self.now.place self.now.prefix ahead.now.vetoes result }
     {
-        let mut short = [0; limits::RULES];
-        for rule in 0..self.rules {
-            let there = self.there(ahead, rule);
-            short[rule] = self.lanes[rule].quota.saturating_sub(there);
-        }
-        short
+        filled(
+            0,
+            self.rules,
+            |rule| self.lanes[rule]
+                .quota
+                .saturating_sub(self.there(ahead, rule)),
+        )
     }
 
     /// What is there under a rule, with what vetoers bring.

@@ -134,6 +134,7 @@ impl Intervals {
     fn widen(&mut self, at: usize, other: Interval)
         requires { at < 8 }
         ensures count { self.new.count ≡ self.old.count }
+        ensures covers { (y : ℕ) → Covers self.old y → Covers self.new y }
         ensures kept { (k y : ℕ) → InInterval self.old k y → InInterval self.new k y }
         ensures new { (y : ℕ) → other.least ≤ y → y ≤ other.most → InInterval self.new at y }
     {
@@ -165,17 +166,15 @@ impl Intervals {
         ensures { MatchOption result ((y : ℕ) → Covers self.now y → y < number)
             (λ m. (y : ℕ) → Covers self.now y → number ≤ y → m ≤ y) }
     {
-        let mut least = None;
+        let mut found = false;
+        let mut least = u64::MAX;
         for at in 0..self.count {
             let item = self.items[at];
             if number <= item.most {
-                let here = item.least.max(number);
-                least = Some(match least {
-                    Some(before) => here.min(before),
-                    None => here,
-                });
+                found = true;
+                least = least.min(item.least.max(number));
             }
         }
-        least
+        if found { Some(least) } else { None }
     }
 }

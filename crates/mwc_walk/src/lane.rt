@@ -8,6 +8,7 @@ ghost use Rattle.council_game.specs.Votes.{rule_at, has};
 ghost use Rattle.mwc_walk.specs.Inner.Places.{LaneIs, LanesAre};
 ghost use Rattle.mwc_walk.specs.Inner.Lanes.{lane_reaches, lane_wins, lane_with, lane_without};
 
+use crate::fill::filled;
 use council_game::{Game, limits};
 
 /// What the walk knows of one rule.
@@ -26,6 +27,7 @@ pub(crate) struct Lane {
 
 impl Lane {
     /// The lane of a rule, with no member in.
+    #[tactic(auto, using(crate::proofs::Rules::lane_made))]
     pub(crate) fn new(game: &Game, rule: usize) -> Lane
         requires { rule < length game.now.rules }
         ensures { LaneIs (votes_of game.now).members 0 0
@@ -65,26 +67,25 @@ pub(crate) fn lanes_of(game: &Game) -> [Lane; limits::RULES]
         (take (length (votes_of game.now).rules) result) }
 {
     game.was_checked();
-    let mut lanes = [Lane::new(game, 0); limits::RULES];
-    for rule in 0..game.rules() {
-        lanes[rule] = Lane::new(game, rule);
-    }
-    lanes
+    filled(
+        Lane::new(game, 0),
+        game.rules(),
+        |rule| Lane::new(game, rule),
+    )
 }
 
 /// The weights of a rule, in rank order.
 fn weights_of(game: &Game, rule: usize) -> [u64; limits::MEMBERS]
     requires { rule < length game.now.rules }
     ensures long { length result ≡ MEMBERS }
-    ensures same { (q : ℕ) → q < (votes_of game.now).members →
-        slice_index result q ≡ slice_index (rule_at (votes_of game.now).rules rule).weights q }
+    ensures same { take (votes_of game.now).members result
+        ≡ (rule_at (votes_of game.now).rules rule).weights }
 {
-    let members = game.members();
-    let mut weights = [0; limits::MEMBERS];
-    for place in 0..members {
-        weights[place] = game.rule_weight(rule, game.member_at(place));
-    }
-    weights
+    filled(
+        0,
+        game.members(),
+        |place| game.rule_weight(rule, game.member_at(place)),
+    )
 }
 
 /// What the places from each one on weigh together.

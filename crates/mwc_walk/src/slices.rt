@@ -24,6 +24,7 @@ pub fn slice_count(bits: u8) -> u16
 /// # Errors
 ///
 /// `Memory` where a growth was refused.
+#[tactic(auto, using(crate::proofs::Whole::listed))]
 pub fn list_slice(
     alloc: Global,
     game: &Game,

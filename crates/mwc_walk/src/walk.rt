@@ -71,6 +71,7 @@ impl<'a> Walk<'a> {
 
     /// The next coalition of the slice; none at its end, and ever after. What was given so far and what is
     /// still to come are the whole slice.
+    #[tactic(auto, using(crate::proofs::Remains::walking))]
     pub fn next(&mut self) -> Option<Coalition>
         ensures next { MatchOption result ((self.old.to_come ≡ []) × (self.new.to_come ≡ []))
             (λ c. self.old.to_come ≡ c ∷ self.new.to_come) }
@@ -116,6 +117,7 @@ impl<'a> Walk<'a> {
     ///
     /// It is never below the number of coalitions given. With one rule it is at most `bits` plus,
     /// for each coalition given, the number of places that are not fixed.
+    #[tactic(auto, using(crate::proofs::Remains::walking))]
     pub fn visits(&self) -> u64
         ensures count { result ≡ self.now.visits }
         ensures rest { self.now.to_come ≡

@@ -1,4 +1,5 @@
 -- The slices joined are the whole list.
+use Rattle.std.proofs.lemmas.Grind.{common_steps}
 use Rattle.std.proofs.Common.{◌≡◌, ℕ, zero, suc, ◌+◌, ◌-◌, ◌*◌, ◌/◌, ◌^◌, ◌<◌, ◌≤◌, Bool, true, false, eqb, sym, ap, ◌∙◌, subst, arith}
 use Rattle.std.specs.List.{filter, flat_map, range_with_len}
 use Rattle.std.proofs.lemmas.Bool.{eq-eqb}
@@ -25,9 +26,7 @@ joined-from p h whole s (suc count) all =
     let inside : (c : ℕ) → count * 2 ^ h ≤ c → c < count * 2 ^ h + 2 ^ h → eqb (c / 2 ^ h) (whole - 1 - s) ≡ true =
     λ c low high. eq-eqb _ _ (block-prefix count h c low high ∙ sym number) in
     let below : (c : ℕ) → c < count * 2 ^ h → eqb (c / 2 ^ h) (whole - 1 - s) ≡ false = grind (arith, before-block) in
-    let first = rw (e, size) at (filter-filter_skip q p (suc count * 2 ^ h) (whole * 2 ^ h - suc count * 2 ^ h) past) in
-    let block = filter-block q p (count * 2 ^ h) (2 ^ h) inside below in
-    rw (first, rest, size) (sym block)
+    grind (arith, common_steps, filter-filter_skip, filter-block)
 
 -- ---- the law
 pub slices-joined : (v : Votes) → SlicesMakeTheWhole v

@@ -7,7 +7,7 @@ use Rattle.std.proofs.lemmas.Nat.Bits.{bit_at_cat_low, bit_at-zero}
 use Rattle.std.proofs.lemmas.Nat.{shr-shr, shl-shr, mul-le}
 use Rattle.std.proofs.Math.Pow.{pow_mono}
 use Rattle.std.proofs.lemmas.Bool.{and_left, lt-leb, eqb-true, cases_lt, both_ways}
-use Rattle.council_game.specs.Votes.{RuleView, Votes, IsRule, IsRanked, IsVotes, has, without, weight, wins, minimal}
+use Rattle.council_game.specs.Votes.{RuleView, Votes, IsRule, IsRanked, IsVotes, has, without, wins, minimal}
 use Rattle.mwc_walk.specs.Slices.{slice}
 use Rattle.mwc_walk.specs.Inner.Places.{wins_at}
 use Rattle.council_game.proofs.Shared.Meanings.{needs-each-member}
@@ -38,12 +38,9 @@ one-loses n p x q (r ∷ []) one all ranked pos le lost below in' =
     let before : q < p = place-before n p x q le below in' in
     let some : x * 2 ^ (n - p) / 2 ^ (n - 1 - q) % 2 ≡ 1 = eqb-true _ _ in' in
     let less = rw long at (weight-without r.weights q (x * 2 ^ (n - p)) (omega arith) (rw long some)) in
-    let pe : p - 1 + 1 ≡ p = omega arith in
-    let xe : 2 * (x / 2) + x % 2 ≡ x = omega arith in
-    let more = rw (pe, xe) at (weight-step all.0 (p - 1) (x / 2) (x % 2) (omega arith) (omega arith)) in
+    let more = weight-step all.0 (p - 1) p (x / 2) x (x % 2) (omega arith) (omega arith) (omega arith) (omega arith) in
     let most : x % 2 * get_or r.weights (p - 1) 0 ≤ 1 * get_or r.weights (p - 1) 0 = grind (arith, mul-le) in
-    let loses : weight r.weights (x * 2 ^ (n - p) - 2 ^ (n - 1 - q)) < r.quota = grind (arith, weight-block) in
-    and_left _ _ (lt-leb _ _ loses)
+    grind (arith, common_steps, and_left, lt-leb, weight-block)
 
 pub one-minimal : (v : Votes) (p x : ℕ) → IsVotes v → length v.rules ≡ 1 → 0 < p → p ≤ v.members → wins_at v.rules p x ≡ true
     → wins_at v.rules (p - 1) (x / 2) ≡ false → minimal v (x * 2 ^ (v.members - p)) ≡ true
@@ -52,14 +49,7 @@ one-minimal v p x game one pos le won lost = grind (arith, common_steps, needs-e
 -- a prefix that wins first by its last place has that place in it
 pub won-odd : (n p x : ℕ) (rs : List RuleView) → 0 < p → p ≤ n → AllByRecursion (IsRule n) rs → wins_at rs p x ≡ true
     → wins_at rs (p - 1) (x / 2) ≡ false → x % 2 ≡ 1
-won-odd n p x rs pos le all won lost =
-    elim (cases_lt 0 (x % 2)) [
-      | inl some ↦ omega arith
-      | inr none ↦
-          let pe : p - 1 + 1 ≡ p = omega arith in
-          let xe : 2 * (x / 2) ≡ x = omega arith in
-          absurd (both_ways _ lost (sym (rw (pe, xe) at (wins-over n rs all (p - 1) (x / 2) (omega arith))) ∙ won))
-    ]
+won-odd n p x rs pos le all won lost = grind (arith, common_steps, cases_lt, both_ways, wins-over)
 
 -- no places win nothing
 pub empty-loses : (n : ℕ) (rs : List RuleView) → 1 ≤ length rs → AllByRecursion (IsRule n) rs → wins_at rs 0 0 ≡ false

@@ -16,11 +16,9 @@ shared n a b x d = grind (arith, common_steps)
 pub overflow_sub-result : goal.overflow_sub-result
 overflow_sub-result c =
     let d = masks-differ c.args.members c.args.a c.args.b c.mask.result c.mask-2.result c.mask.ensures.same c.mask-2.ensures.same
-    (differs c.args.members c.args.a c.args.b c.requires.few c.requires.a_below c.requires.b_below) in
-    (shared c.args.members c.args.a c.args.b (bit_xor c.mask.result c.mask-2.result) d).0
+    (differs c.args.members c.args.a c.args.b c.requires.few c.requires.a_below c.requires.b_below) in grind (arith, shared)
 
 pub returns-clause-same : goal.returns-clause-same
 returns-clause-same c =
     let d = masks-differ c.args.members c.args.a c.args.b c.mask.result c.mask-2.result c.mask.ensures.same c.mask-2.ensures.same
-    (differs c.args.members c.args.a c.args.b c.requires.few c.requires.a_below c.requires.b_below) in
-    (shared c.args.members c.args.a c.args.b (bit_xor c.mask.result c.mask-2.result) d).1
+    (differs c.args.members c.args.a c.args.b c.requires.few c.requires.a_below c.requires.b_below) in grind (arith, shared)

@@ -17,8 +17,7 @@ returns-in_err-put_shown_sizes g c =
     let stopped =
     stopped-first _ (coalitions ++ sizes) (lines_of_members c.args.counted.now) _ _
     (stopped-next _ _ coalitions sizes _ _ c.in_ok-put_shown_coalitions.ensures.tells c.in_err-put_shown_sizes.ensures)
-    in
-    rw (p.1, p.2) stopped
+    in grind (arith, common_steps)
 
 pub returns : goal.returns
 unfolding lines_of

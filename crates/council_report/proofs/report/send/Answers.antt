@@ -1,3 +1,5 @@
+use Rattle.std.proofs.lemmas.Grind.{common_steps}
+use Rattle.std.proofs.Common.{arith}
 use Rattle.std.proofs.Common.{ℕ, List, []}
 use Rattle.std.specs.List.{flat_map}
 use Rattle.std.proofs.lemmas.Result.{err_from_is_err_and}
@@ -10,8 +12,7 @@ returns-in_err-put_lines-clause-err g c =
     let p = err_from_is_err_and c.from_residual-in_err-put_lines.result c.from_residual-in_err-put_lines.ensures.1 in
     let stopped = stopped-next _ _ []
     (lines_of c.args.shown c.args.counted.now (flat_map (λ p. p.now) c.args.pieces.now)) _ _ c.in_ok-settle.ensures.ok
-    c.in_err-put_lines.ensures in
-    rw (p.1, p.2) stopped
+    c.in_err-put_lines.ensures in grind (arith, common_steps)
 
 pub returns-clause-err : goal.returns-clause-err
 returns-clause-err g c =

@@ -2,7 +2,7 @@ use Rattle.std.proofs.Common.{◌≡◌, ◌-◌, [], length, take, drop, arith,
 use Rattle.std.proofs.lemmas.List.{drop_all, length-take-le}
 use Rattle.std.proofs.lemmas.Grind.{common_steps}
 use Rattle.mwc_walk.proofs.Filled.{fill-before}
-use Rattle.mwc_walk.proofs.Rules.{same-at, sum-before, drop-most}
+use Rattle.mwc_walk.proofs.Rules.{same_at, sum-before, drop-most}
 use Rattle.mwc_walk.proofs.lane.rest_of.Goals as goal
 
 pub loop-place-init : goal.loop-place-init
@@ -11,14 +11,13 @@ loop-place-init c = record {
   done = λ q lo hi.
       let size : length (take c.args.members c.args.weights.now) ≡ c.args.members = grind (arith, common_steps, length-take-le) in
       let none : drop q (take c.args.members c.args.weights.now) ≡ [] = drop_all q (take c.args.members c.args.weights.now) (omega arith) in
-      rw none (same-at 0 41 q);
+      rw none (same_at 0 41 q);
 }
 
 pub overflow_add-rest-in-loop-place : goal.overflow_add-rest-in-loop-place
 overflow_add-rest-in-loop-place c =
     let here = sum-before c.args.weights.now c.loop-place.rest c.args.members c.loop-place.place (omega arith) (omega arith) (omega arith)
-    c.loop-place.invariant in
-    omega (arith, here, drop-most (take c.args.members c.args.weights.now) (c.loop-place.place - 1), c.requires.fits)
+    c.loop-place.invariant in grind (arith, common_steps, drop-most)
 
 pub loop-place-preserved : goal.loop-place-preserved
 loop-place-preserved c =

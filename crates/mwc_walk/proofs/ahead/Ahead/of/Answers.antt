@@ -1,7 +1,11 @@
-use Rattle.std.proofs.Common.{arith}
-use Rattle.mwc_walk.proofs.Filled.{fill-next}
+use Rattle.std.proofs.Common.{rules, arith, []}
 use Rattle.mwc_walk.proofs.ahead.Ahead.of.Goals as goal
 
-pub loop-rule-preserved : goal.loop-rule-preserved
-loop-rule-preserved c =
-    fill-next c.loop-rule.invariant (omega (arith, c.was_checked.ensures.votes.few_rules, c.rules-rules.ensures.votes)) c.of.ensures
+pub returns : goal.returns
+returns c = record {
+  splits = c.of_each-vetoes.ensures;
+  outlooks = λ i below.
+      let made = c.filled-outlooks.ensures.made i (record { sums = record { from = [] }; prices = [] })
+      (omega (arith, below, c.rules-rules.ensures.votes)) in
+      search rules;
+}

@@ -1,7 +1,6 @@
-use Rattle.std.proofs.Common.{◌^◌, ◌≤◌, ℕ, refl, sym, ◌∙◌, arith, false, true, subst}
+use Rattle.std.proofs.Common.{◌^◌, ◌≤◌, refl, sym, ◌∙◌, arith, false, true}
 use Rattle.std.proofs.Math.Pow.{pow_mono}
 use Rattle.council_game.specs.Game.{votes_of}
-use Rattle.mwc_walk.specs.Inner.Cursor.{GivesNext}
 use Rattle.mwc_walk.proofs.Steps.{enter-dead, enter-spare, enter-in, enter-give, enter-mask, enter-short, reach-is, win-is, in-fits, in-room, is-part}
 use Rattle.mwc_walk.proofs.cursor.Cursor.enter.Goals as goal
 use Rattle.mwc_walk.proofs.cursor.Cursor.enter.Goals.{then-not-all_reach-via-then-not-all_reach, then-not-all_reach-via-else-not-all_reach+then-passes_by}
@@ -16,17 +15,15 @@ returns-then-not-all_reach-clause-steps c = elim c.then-not-all_reach.branch [
 
 pub take_in-requires-clause-place : goal.take_in-requires-clause-place
 take_in-requires-clause-place c =
-    let room = in-room c.requires.is (sym c.all_reach.ensures ∙ c.if-not-all_reach.false) (sym c.all_win.ensures ∙ c.if-not-all_win.true) in
+    let room = in-room c.requires.is c.all_reach.ensures c.all_win.ensures c.if-not-all_reach.false c.if-not-all_win.true in
     omega (arith, room, c.requires.is.game.few)
 
 pub take_in-requires-clause-fits : goal.take_in-requires-clause-fits
-take_in-requires-clause-fits c =
-    in-fits c.requires.is (sym c.all_reach.ensures ∙ c.if-not-all_reach.false) (sym c.all_win.ensures ∙ c.if-not-all_win.true)
+take_in-requires-clause-fits c = in-fits c.requires.is c.all_reach.ensures c.all_win.ensures c.if-not-all_reach.false c.if-not-all_win.true
 
 pub returns-then-not-all_win-clause-steps : goal.returns-then-not-all_win-clause-steps
 returns-then-not-all_win-clause-steps c =
-    enter-in c.requires.is (sym c.all_reach.ensures ∙ c.if-not-all_reach.false) (sym c.all_win.ensures ∙ c.if-not-all_win.true)
-    c.requires.fresh
+    enter-in c.requires.is c.all_reach.ensures c.all_win.ensures c.if-not-all_reach.false c.if-not-all_win.true c.requires.fresh
     _ _ c.saturating_add-self.ensures (omega arith) (is-part _ _ _ _ _ c.take_in.ensures c.requires.is.room)
 
 pub of_mask-found-requires : goal.of_mask-found-requires
@@ -37,6 +34,4 @@ of_mask-found-requires c =
 pub returns-clause-steps : goal.returns-clause-steps
 returns-clause-steps c =
     let won = win-is c.requires.is true (sym c.all_win.ensures ∙ c.if-not-all_win.false) in
-    subst (λ (i : ℕ). GivesNext (votes_of c.args.game.now) c.args.self.now i (record c.args.self.now { fresh = false }))
-    (sym (c.of_mask-found.ensures ∙ enter-mask c.requires.is))
-    (enter-give c.requires.is won c.requires.fresh (c.if-passes_by.ensures.none refl won))
+    enter-give c.requires.is won c.requires.fresh _ c.of_mask-found.ensures (c.if-passes_by.ensures.none refl won)

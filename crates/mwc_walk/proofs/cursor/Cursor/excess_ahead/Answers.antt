@@ -1,3 +1,4 @@
+use Rattle.std.proofs.lemmas.Grind.{common_steps}
 use Rattle.std.proofs.Common.{◌<◌, ◌+◌, length, get_or, arith}
 use Rattle.council_game.specs.Game.{votes_of}
 use Rattle.mwc_walk.specs.Inner.Vetoes.{vetoes_at}
@@ -21,5 +22,4 @@ pub returns-in-None : goal.returns-in-None
 returns-in-None c = λ d prefix won.
     let outlook = c.requires.ahead.outlooks c.args.rule (omega (arith, c.requires.rule, c.requires.is.rules)) in
     let short = c.in-None.ensures _ (outlook.sums c.args.self.now.place d c.requires.is.place.to) in
-    let need = c.need-need.ensures d prefix won in
-    omega (arith, short, need)
+    grind (arith, common_steps)

@@ -6,8 +6,7 @@ use Rattle.mwc_walk.proofs.cursor.Cursor.spares.Goals as goal
 pub returns-then-self-rule-clause-none : goal.returns-then-self-rule-clause-none
 returns-then-self-rule-clause-none c = λ _ spare.
     let here = lane-here c.requires.is c.loop-rule.rule c.loop-rule-test.true in
-    let free = spare c.loop-rule.rule (omega (arith, c.loop-rule-test.true, c.requires.is.rules)) in
-    absurd (omega (arith, free, c.if-self-rule.true, here.weights c.args.place (omega (arith, c.requires.place, c.requires.is.members))))
+    grind (arith, common_steps)
 
 pub loop-rule-preserved : goal.loop-rule-preserved
 loop-rule-preserved c =

@@ -30,13 +30,7 @@ loop-without-preserved c =
     }
 
 pub returns-clause-without : goal.returns-clause-without
-returns-clause-without c =
-    λ y covered. c.loop-without.invariant.without covered.0
-    (omega (arith, covered.1, c.loop-without-test.false, c.loop-without.invariant.without_few, c.loop-without.invariant.with_few)) y
-    covered.2
+returns-clause-without c = λ y covered. c.loop-without.invariant.without covered.0 (omega (arith, covered.1)) y covered.2
 
 pub returns-clause-with : goal.returns-clause-with
-returns-clause-with c =
-    λ y fits covered. c.loop-without.invariant.with covered.0
-    (omega (arith, covered.1, c.loop-without-test.false, c.loop-without.invariant.without_few, c.loop-without.invariant.with_few)) y fits
-    covered.2
+returns-clause-with c = λ y fits covered. c.loop-without.invariant.with covered.0 (omega (arith, covered.1)) y fits covered.2

@@ -1,12 +1,12 @@
 use Rattle.std.proofs.Common.{◌-◌, ◌+◌, arith}
 use Rattle.std.proofs.lemmas.Grind.{common_steps}
 use Rattle.mwc_walk.proofs.Filled.{fill-before}
-use Rattle.mwc_walk.proofs.Rules.{same-at}
+use Rattle.mwc_walk.proofs.Rules.{same_at}
 use Rattle.mwc_walk.proofs.Coming.{weight-past, price-step}
 use Rattle.mwc_walk.proofs.price.Prices.new.Goals as goal
 
 pub loop-place-init : goal.loop-place-init
-loop-place-init c = grind (arith, common_steps, same-at, weight-past)
+loop-place-init c = grind (arith, common_steps, same_at, weight-past)
 
 pub loop-place-preserved : goal.loop-place-preserved
 loop-place-preserved c =

@@ -1,5 +1,5 @@
-use Rattle.mwc_walk.proofs.Rules.{same-at}
+use Rattle.mwc_walk.proofs.Rules.{same_at}
 use Rattle.mwc_walk.proofs.vetoes.Vetoes.none.Goals as goal
 
 pub returns : goal.returns
-returns c = λ p. same-at 0 41 p
+returns c = λ p. same_at 0 41 p

@@ -1,26 +1,23 @@
-use Rattle.std.proofs.Common.{◌<◌, ◌-◌, ap, arith, get_or, ℕ}
-use Rattle.std.proofs.lemmas.Grind.{common_steps}
-use Rattle.mwc_walk.specs.Inner.Lanes.{no_lane}
-use Rattle.mwc_walk.proofs.Filled.{fill-next}
-use Rattle.mwc_walk.proofs.Coming.{vetoed-fit, split-is}
+use Rattle.std.proofs.Common.{rules}
+use Rattle.mwc_walk.proofs.Coming.{AreParted, vetoed-fit, split-is}
 use Rattle.mwc_walk.proofs.vetoes.Vetoes.of.Goals as goal
+use Rattle.mwc_walk.proofs.vetoes.Vetoes.of.Goals.{After-filled-free}
 
-pub loop-place-preserved : goal.loop-place-preserved
-loop-place-preserved c =
-    let room : c.loop-place.place < 40 = grind (arith, common_steps) in
-    record {
-      vetoed = fill-next c.loop-place.invariant.vetoed room c.vetoed_weight-part.ensures;
-      free = fill-next c.loop-place.invariant.free room
-          (ap (λ (part : ℕ). get_or (get_or c.args.lanes.now c.args.rule no_lane).weights c.loop-place.place 0 - part)
-          c.vetoed_weight-part.ensures);
-    }
+parts : (c : After-filled-free)
+    → AreParted c.args.lanes.now c.args.rule c.members-members.result c.filled-vetoed.result c.filled-free.result
+parts c = record {
+  vetoed_long = c.filled-vetoed.ensures.long;
+  free_long = c.filled-free.ensures.long;
+  vetoed = λ q lt. let made = c.filled-vetoed.ensures.made q 0 lt in search rules;
+  free = λ q lt. let made = c.filled-free.ensures.made q 0 lt in search rules;
+}
 
 pub rest_of-requires-clause-fits : goal.rest_of-requires-clause-fits
 rest_of-requires-clause-fits c =
-    vetoed-fit c.members-members.ensures.votes c.members-members.ensures.count c.loop-place-test.false c.requires.rule c.requires.lanes
-    c.loop-place.invariant
+    vetoed-fit c.members-members.ensures.votes c.members-members.ensures.count c.requires.rule c.requires.lanes
+    (parts (goal.at.rest_of-requires-clause-fits c).After-filled-free)
 
 pub returns : goal.returns
 returns c =
-    split-is c.members-members.ensures.votes c.members-members.ensures.count c.loop-place-test.false c.requires.rule c.requires.lanes
-    c.loop-place.invariant c.rest_of.result c.rest_of.ensures
+    split-is c.members-members.ensures.votes c.members-members.ensures.count c.requires.rule c.requires.lanes
+    (parts (goal.at.returns c).After-filled-free) c.rest_of.result c.rest_of.ensures
