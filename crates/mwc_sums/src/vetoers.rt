@@ -6,6 +6,7 @@ ghost use Rattle.mwc_sums.specs.Vetoers.{can_veto, rest_of, rule_for};
 ghost use Rattle.std.specs.List.{range_with_len};
 ghost use Rattle.std.specs.Prelude.{count_by, fold, ◌-◌, ◌≡◌, ◌<◌, ◌∷◌, ◌++◌, [], if◌then◌else◌, nat_lt, filter, IfOk, length, slice_index};
 
+use coalitions::listed;
 use council_game::{Game, Memory, Rule};
 use std::alloc::Global;
 
@@ -65,11 +66,7 @@ fn other_weight(game: &Game, rule: usize, member: usize) -> u64
 fn votes(alloc: Global, game: &Game) -> Result<Vec<u64>, Memory>
     ensures { IfOk result (λ v. v.items ≡ (rule_for (length game.now.names) (can_veto game.now.rules)).weights) }
 {
-    Ok(
-        (0..game.members())
-            .map(|member| vote_of(game, member))
-            .collect(alloc)?,
-    )
+    Ok(listed(alloc, game.members(), |member| vote_of(game, member))?)
 }
 
 /// How many members can veto.
@@ -96,11 +93,11 @@ fn other_weights(alloc: Global, game: &Game, rule: usize) -> Result<Vec<u64>, Me
     ensures { IfOk result (λ v. v.items
         ≡ (rest_of (length game.now.names) (can_veto game.now.rules) (rule_at game.now.rules rule)).weights) }
 {
-    Ok(
-        (0..game.members())
-            .map(|member| other_weight(game, rule, member))
-            .collect(alloc)?,
-    )
+    Ok(listed(
+        alloc,
+        game.members(),
+        |member| other_weight(game, rule, member),
+    )?)
 }
 
 /// What a rule asks of the others, where all that can veto agree.
