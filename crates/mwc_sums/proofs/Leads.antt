@@ -90,13 +90,8 @@ leads-lacking (w ∷ ws) zero heads s r a =
     let parts = count-first (λ c. leads (w ∷ ws) heads r a c && (lacks (suc n) 0 c && (a + size (suc n) c == s))) (λ c. false)
     (λ c. leads ws heads r a c && (lacks n n c && (a + size n c == s))) n
     (λ c lt. grind (arith, nat_tests, first-in)) (λ c lt. grind (arith, nat_tests, leads-out, first-out, size-left)) in
-    omega (
-      arith,
-      parts,
-      count-never (down (2 ^ n)),
-      leads-lacking ws n heads s r a,
-      ap (λ (l : List ℕ). endings l heads s r a) (left_out-past n ws (omega arith)),
-    )
+    let all = ap (λ (l : List ℕ). endings l heads s r a) (left_out-past n ws (omega arith)) in
+    omega (arith, parts, count-never (down (2 ^ n)), leads-lacking ws n heads s r a, all)
 leads-lacking (w ∷ ws) (suc p) heads s r a =
     let n : ℕ = length ws in
     let behind : ℕ → Bool = λ c. cond (leb r w) (size n c == heads - (a + 1)) (leads ws heads (r - w) (a + 1) c) in

@@ -30,12 +30,9 @@ sum-one f u (suc n) lt none = elim (cases_eq n u) [
   | inl here ↦
       let rest = sum-none f n (λ x low. none x (omega arith) (λ e. omega (arith, e, here))) in
       omega (arith, sum_by-cons f n (down n), rest, ap f here)
-  | inr other ↦ omega (
-    arith,
-    sum_by-cons f n (down n),
-    none n (omega arith) other,
-    sum-one f u n (omega (arith, other)) (λ x low. none x (omega arith)),
-  )
+  | inr other ↦
+      let rest = sum-one f u n (omega (arith, other)) (λ x low. none x (omega arith)) in
+      omega (arith, sum_by-cons f n (down n), none n (omega arith) other, rest)
 ]
 
 -- those that pass p are one of each pair that passes q
