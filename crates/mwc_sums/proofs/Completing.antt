@@ -75,8 +75,9 @@ last-in : (n c : ℕ) → c < 2 ^ n → 0 < c → (last n c < n) × (has n (last
 unfolding last
 last-in zero c lt pos = absurd (omega arith)
 last-in (suc n) c lt pos =
-    let again = last-in n (c - 2 ^ n) in
-    grind (arith, nat_tests, again, last-in n c, rest-out, first-in n (c - 2 ^ n), rest-in n (last n (c - 2 ^ n)) (c - 2 ^ n), double-pow n, cases_lt c (2 ^ n))
+    let d : ℕ = c - 2 ^ n in
+    let again = last-in n d in
+    grind (arith, nat_tests, again, last-in n c, rest-out, first-in n d, rest-in n (last n d) d, double-pow n, cases_lt c (2 ^ n))
 
 last-behind : (n p c : ℕ) → c < 2 ^ n → p < n → has n p c ≡ true → p ≤ last n c
 unfolding last

@@ -25,7 +25,8 @@ filter-first q one rest n within without =
     let below = down-below h h (omega arith) in
     ap (filter q) (ap down (double-pow n) ∙ down-two h h) ∙ filter-append q (map (λ c. h + c) (down h)) (down h)
     ∙ (λ i. (filter-map q (λ c. h + c) (down h) ∙ ap (map (λ c. h + c)) (filter-same (λ c. q (h + c)) one (down h)
-    (λ k d lt. within (get_or (down h) k d) (below k d lt)))) i ++ filter-same q rest (down h) (λ k d lt. without (get_or (down h) k d) (below k d lt)) i)
+    (λ k d lt. within (get_or (down h) k d) (below k d lt)))) i
+    ++ filter-same q rest (down h) (λ k d lt. without (get_or (down h) k d) (below k d lt)) i)
 
 pub count-first : (q one rest : ℕ → Bool) (n : ℕ) → ((c : ℕ) → c < 2 ^ n → q (2 ^ n + c) ≡ one c) → ((c : ℕ) → c < 2 ^ n → q c ≡ rest c)
     → count q (down (2 ^ suc n)) ≡ count one (down (2 ^ n)) + count rest (down (2 ^ n))

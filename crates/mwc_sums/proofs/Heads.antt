@@ -99,7 +99,8 @@ minimal-completing v votes one =
     let led : (c : ℕ) → c < 2 ^ length ws → minimal v c ≡ leads ws 0 r.quota 0 c = λ c lt.
     (let lead = leads-are ws 0 r.quota 0 c (falls-first v.rules votes.ranked) (let some = rule.some in omega (arith, some)) lt in
     let min = subst (λ (won : ℕ → Bool). (minimal v c ≡ true) ↔ IsMin v.members won c) same (minimal-min v c) in
-    let met = subst (λ (n : ℕ). IsMin n (λ x. leb r.quota (weight ws x) && leb 0 (size (length ws) x)) c ↔ AreMet ws 0 r.quota 0 c) rule.full (met-min ws 0 r.quota c) in
+    let met = subst (λ (n : ℕ). IsMin n (λ x. leb r.quota (weight ws x) && leb 0 (size (length ws) x)) c ↔ AreMet ws 0 r.quota 0 c)
+    rule.full (met-min ws 0 r.quota c) in
     same_test _ _ (λ h. lead.1 (met.0 (min.0 h))) (λ h. min.1 (met.1 (lead.0 h)))) in
     ap (λ (n : ℕ). filter (minimal v) (down (2 ^ n))) (sym rule.full)
     ∙ filter-same (minimal v) (leads ws 0 r.quota 0) (down (2 ^ length ws))

@@ -43,7 +43,8 @@ unfolding choose
 choose-none zero = refl
 choose-none (suc n) = refl
 
-chosen : (ws : List ℕ) (p k : ℕ) → count (λ c. lacks (length ws) p c && (size (length ws) c == k)) (down (2 ^ length ws)) ≡ choose (length (left_out p ws)) k
+chosen : (ws : List ℕ) (p k : ℕ)
+    → count (λ c. lacks (length ws) p c && (size (length ws) c == k)) (down (2 ^ length ws)) ≡ choose (length (left_out p ws)) k
 unfolding choose down left_out
 chosen [] p zero = grind (arith, nat_tests)
 chosen [] p (suc k) = grind (arith, nat_tests)
@@ -59,7 +60,8 @@ chosen (w ∷ ws) (suc p) zero =
     omega (arith, parts, count-never (down (2 ^ n)), chosen ws p 0, choose-none (length (left_out p ws)))
 chosen (w ∷ ws) (suc p) (suc k) =
     let n : ℕ = length ws in
-    let parts = count-first (λ c. lacks (suc n) (suc p) c && (size (suc n) c == suc k)) (λ c. lacks n p c && (size n c == k)) (λ c. lacks n p c && (size n c == suc k)) n
+    let parts = count-first (λ c. lacks (suc n) (suc p) c && (size (suc n) c == suc k)) (λ c. lacks n p c && (size n c == k))
+    (λ c. lacks n p c && (size n c == suc k)) n
     (λ c lt. grind (arith, nat_tests, rest-in, size-with)) (λ c lt. grind (arith, nat_tests, rest-out, size-left)) in
     omega (arith, parts, chosen ws p k, chosen ws p (suc k))
 
@@ -88,7 +90,8 @@ leads-lacking (w ∷ ws) zero heads s r a =
     let parts = count-first (λ c. leads (w ∷ ws) heads r a c && (lacks (suc n) 0 c && (a + size (suc n) c == s))) (λ c. false)
     (λ c. leads ws heads r a c && (lacks n n c && (a + size n c == s))) n
     (λ c lt. grind (arith, nat_tests, first-in)) (λ c lt. grind (arith, nat_tests, leads-out, first-out, size-left)) in
-    omega (arith, parts, count-never (down (2 ^ n)), leads-lacking ws n heads s r a, ap (λ (l : List ℕ). endings l heads s r a) (left_out-past n ws (omega arith)))
+    let all = ap (λ (l : List ℕ). endings l heads s r a) (left_out-past n ws (omega arith)) in
+    omega (arith, parts, count-never (down (2 ^ n)), leads-lacking ws n heads s r a, all)
 leads-lacking (w ∷ ws) (suc p) heads s r a =
     let n : ℕ = length ws in
     let behind : ℕ → Bool = λ c. cond (leb r w) (size n c == heads - (a + 1)) (leads ws heads (r - w) (a + 1) c) in
@@ -120,7 +123,8 @@ AreMet ws heads r a c =
 
 -- by what all weigh, and by the last member
 by-last : (ws : List ℕ) (heads r a c : ℕ) → 0 < r → c < 2 ^ length ws → leads ws heads r a c
-    ≡ (leb r (weight ws c) && ((a + size (length ws) c == heads) || (ltb heads (a + size (length ws) c) && ltb (weight ws c) (r + get_or ws (last (length ws) c) 0))))
+    ≡ (leb r (weight ws c) && ((a + size (length ws) c == heads)
+    || (ltb heads (a + size (length ws) c) && ltb (weight ws c) (r + get_or ws (last (length ws) c) 0))))
 unfolding leads last
 by-last [] heads r a c pos lt = grind (arith, nat_tests, weight-nil)
 by-last (w ∷ ws) heads r a c pos lt = elim (cases_lt c (2 ^ length ws)) [
@@ -145,19 +149,22 @@ nobody : (n : ℕ) → filter (λ c. size n c == 0) (down (2 ^ n)) ≡ 0 ∷ []
 unfolding down
 nobody zero = refl
 nobody (suc n) =
-    filter-first (λ c. size (suc n) c == 0) (λ c. false) (λ c. size n c == 0) n (λ c lt. grind (arith, nat_tests, size-with)) (λ c lt. grind (arith, size-left))
+    filter-first (λ c. size (suc n) c == 0) (λ c. false) (λ c. size n c == 0) n (λ c lt. grind (arith, nat_tests, size-with))
+    (λ c lt. grind (arith, size-left))
     ∙ (λ i. map (λ c. 2 ^ n + c) (filter-none (down (2 ^ n)) i) ++ nobody n i)
 
 pub leads-list : (ws : List ℕ) (r a : ℕ) → filter (leads ws 0 r a) (down (2 ^ length ws)) ≡ completing ws r
 unfolding leads completing down
 leads-list [] r a = refl
 leads-list (w ∷ ws) r a =
-    filter-first (leads (w ∷ ws) 0 r a) (λ c. cond (leb r w) (size (length ws) c == 0 - (a + 1)) (leads ws 0 (r - w) (a + 1) c)) (leads ws 0 r a) (length ws)
+    filter-first (leads (w ∷ ws) 0 r a) (λ c. cond (leb r w) (size (length ws) c == 0 - (a + 1)) (leads ws 0 (r - w) (a + 1) c))
+    (leads ws 0 r a) (length ws)
     (λ c lt. leads-in w ws 0 r a c) (λ c lt. leads-out w ws 0 r a c lt)
     ∙ (λ i. map (λ c. 2 ^ length ws + c) (first (leb r w) (leads-list ws (r - w) (a + 1)) i) ++ leads-list ws r a i)
   where
     first : (b : Bool) → filter (leads ws 0 (r - w) (a + 1)) (down (2 ^ length ws)) ≡ completing ws (r - w)
         → filter (λ c. cond b (size (length ws) c == 0 - (a + 1)) (leads ws 0 (r - w) (a + 1) c)) (down (2 ^ length ws))
         ≡ cond b (0 ∷ []) (completing ws (r - w))
-    first true again = ap (λ (k : ℕ). filter (λ c. size (length ws) c == k) (down (2 ^ length ws))) (let e : 0 - (a + 1) ≡ 0 = omega arith in e) ∙ nobody (length ws)
+    first true again =
+        ap (λ (k : ℕ). filter (λ c. size (length ws) c == k) (down (2 ^ length ws))) (let e : 0 - (a + 1) ≡ 0 = omega arith in e) ∙ nobody (length ws)
     first false again = again

@@ -30,7 +30,9 @@ sum-one f u (suc n) lt none = elim (cases_eq n u) [
   | inl here ↦
       let rest = sum-none f n (λ x low. none x (omega arith) (λ e. omega (arith, e, here))) in
       omega (arith, sum_by-cons f n (down n), rest, ap f here)
-  | inr other ↦ omega (arith, sum_by-cons f n (down n), none n (omega arith) other, sum-one f u n (omega (arith, other)) (λ x low. none x (omega arith)))
+  | inr other ↦
+      let rest = sum-one f u n (omega (arith, other)) (λ x low. none x (omega arith)) in
+      omega (arith, sum_by-cons f n (down n), none n (omega arith) other, rest)
 ]
 
 -- those that pass p are one of each pair that passes q
@@ -52,20 +54,24 @@ module _ {p : ℕ → Bool} {q : ℕ → ℕ → Bool} {one two : ℕ → ℕ} {
 
   each : (t : ℕ → Bool) (c : ℕ) (m : Bool) → p c ≡ m → c < n → sum_by (λ x. sum_by (of t c x) (down b)) (down a) ≡ one_if (m && t c)
   unfolding of
-  each t c false is lc = sum-none _ a (λ x lx. sum-none (of t c x) b (λ y ly. of-none t c x y (λ e h. grind (arith, are.whole x y lx ly h, both_ways))))
+  each t c false is lc =
+      sum-none _ a (λ x lx. sum-none (of t c x) b (λ y ly. of-none t c x y (λ e h. grind (arith, are.whole x y lx ly h, both_ways))))
   each t c true is lc =
       let has = are.parts c lc is in
       sum-one (λ x. sum_by (of t c x) (down b)) (one c) a (are.first c)
       (λ x lx other. sum-none (of t c x) b (λ y ly. of-none t c x y (λ e h. grind (arith, are.whole x y lx ly h))))
-      ∙ sum-one (of t c (one c)) (two c) b (are.second c) (λ y ly other. of-none t c (one c) y (λ e h. grind (arith, are.whole (one c) y (are.first c) ly h)))
+      ∙ sum-one (of t c (one c)) (two c) b (are.second c)
+      (λ y ly other. of-none t c (one c) y (λ e h. grind (arith, are.whole (one c) y (are.first c) ly h)))
       ∙ grind (arith, nat_tests, has)
 
   pub paired-off : (t : ℕ → Bool) → length (filter t (filter p (down n))) ≡ sum_by (λ x. sum_by (λ y. one_if (q x y && t (both x y))) (down b)) (down a)
   unfolding of
   paired-off t =
-      count-both p t (down n) ∙ sum-down (λ c. one_if (p c && t c)) (λ c. sum_by (λ x. sum_by (of t c x) (down b)) (down a)) n (λ c lc. sym (each t c (p c) refl lc))
+      count-both p t (down n)
+      ∙ sum-down (λ c. one_if (p c && t c)) (λ c. sum_by (λ x. sum_by (of t c x) (down b)) (down a)) n (λ c lc. sym (each t c (p c) refl lc))
       ∙ exchange (λ c x. sum_by (of t c x) (down b)) (down n) (down a)
-      ∙ (λ k. sum_by (λ x. (exchange (λ c y. of t c x y) (down n) (down b) ∙ (λ k. sum_by (λ y. (sum-one (λ c. of t c x y) (both x y) n (are.below x y)
+      ∙ (λ k. sum_by (λ x. (exchange (λ c y. of t c x y) (down n) (down b)
+      ∙ (λ k. sum_by (λ y. (sum-one (λ c. of t c x y) (both x y) n (are.below x y)
       (λ c lc other. of-none t c x y (λ e h. other e)) ∙ found x y) k) (down b))) k) (down a))
     where
       found : (x y : ℕ) → of t (both x y) x y ≡ one_if (q x y && t (both x y))

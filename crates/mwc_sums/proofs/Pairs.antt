@@ -74,7 +74,8 @@ module _ (g a b : GameView) (is_g : IsGame g) (is_a : IsGame a) (is_b : IsGame b
         (let least = (game-least is_g c).0 min in
         let in_x = over-seen is_a are.first (λ i. in_g c i && own i) in
         let in_y = over-seen is_b are.second (λ i. in_g c i && other i) in (
-          and_from _ _ ((over-least is_a are.first _).1 (least-half joint _ least in_x)) ((over-least is_b are.second _).1 (least-half joint' _ least in_y)),
+          and_from _ _ ((over-least is_a are.first _).1 (least-half joint _ least in_x))
+              ((over-least is_b are.second _).1 (least-half joint' _ least in_y)),
           sym (mask-is (game-seats is_g) _ c lc (λ i lt. grind (arith, nat_tests, in_x i lt, in_y i lt, least-sides joint least i lt))),
         ));
     whole = λ x y lx ly min.
@@ -83,7 +84,8 @@ module _ (g a b : GameView) (is_g : IsGame g) (is_a : IsGame a) (is_b : IsGame b
         let least_b = (over-least is_b are.second y).0 p.1 in (
           (game-least is_g (union x y)).1 (least-union joint least_a least_b (in_g (union x y)) (joined x y)),
           sym (mask-is (over-seats is_a are.first) _ x lx (λ i lt. grind (arith, nat_tests, joined x y i lt, least-own joint least_a least_b i lt))),
-          sym (mask-is (over-seats is_b are.second) _ y ly (λ i lt. grind (arith, nat_tests, joined x y i lt, least-own joint' least_b least_a i lt))),
+          sym (mask-is (over-seats is_b are.second) _ y ly
+              (λ i lt. grind (arith, nat_tests, joined x y i lt, least-own joint' least_b least_a i lt))),
         ));
   }
 

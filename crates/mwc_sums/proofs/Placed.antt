@@ -38,7 +38,8 @@ pub ranked-at : (ranks : List ℕ) (r : RuleView) (p : ℕ) → p < length ranks
 ranked-at ranks r p lt =
     let long = length-range_with_len 0 (length ranks) in
     let at = get_or-map (member_at ranks) (places ranks) p 0 0 (omega (arith, long, lt)) in
-    grind (arith, at, get_or-map (λ m. get_or r.weights m 0) (members_by_rank ranks) p 0 0, length-map (places ranks) (member_at ranks), places-at (length ranks) p 0 lt)
+    let rule = get_or-map (λ m. get_or r.weights m 0) (members_by_rank ranks) p 0 0 in
+    grind (arith, at, rule, length-map (places ranks) (member_at ranks), places-at (length ranks) p 0 lt)
 
 -- ---- who meets rules
 -- a member has weight in some rule

@@ -66,9 +66,11 @@ pub slices-room : (s : SlicedGame) (j : ℕ) → IsGame s.game.now → j < 2 ^ s
     → length (flat_map (slice_of s) (range_with_len 0 j)) + length (slice_of s j) ≤ 2 ^ 40
 slices-room s j game lt =
     let f : ℕ → ℕ = λ i. length (slice_of s i) in
+    let ends = ap (λ (l : List ℕ). length l) (all-slices s) in
     let most : sum_by f (range_with_len 0 (2 ^ s.bits)) ≤ 2 ^ 40 =
-    omega (arith, length-flat_map (slice_of s) (range_with_len 0 (2 ^ s.bits)), ap (λ (l : List ℕ). length l) (all-slices s), minimal-few s.game.now game) in
-    omega (arith, most, length-flat_map (slice_of s) (range_with_len 0 j), sum_by-range-more f j, sum_by-range-le f (j + 1) (2 ^ s.bits) (omega (arith, lt)))
+    omega (arith, length-flat_map (slice_of s) (range_with_len 0 (2 ^ s.bits)), ends, minimal-few s.game.now game) in
+    let less = sum_by-range-le f (j + 1) (2 ^ s.bits) (omega (arith, lt)) in
+    omega (arith, most, length-flat_map (slice_of s) (range_with_len 0 j), sum_by-range-more f j, less)
 
 pub slices-more : (s : SlicedGame) (j : ℕ)
     → flat_map (slice_of s) (range_with_len 0 j) ++ slice_of s j ≡ flat_map (slice_of s) (range_with_len 0 (j + 1))

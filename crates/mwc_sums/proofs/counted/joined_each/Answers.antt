@@ -6,7 +6,8 @@ use Rattle.mwc_sums.proofs.counted.joined_each.Goals.{After-sizes_of_member-seco
 pairs-are : (c : After-sizes_of_member-second_own) → ArePairs c.sizes_of_member-first_own.result c.sizes-second_all.result c.sizes-first_all.result
     c.sizes_of_member-second_own.result (minimal_of_place_size c.args.game.now c.args.place)
 pairs-are c =
-    each-pairs c.was_checked.ensures.game c.args.first.now.is c.args.second.now.is c.requires.chambers _ _ c.sizes-first_all.ensures c.sizes-second_all.ensures _ _ _ _
+    each-pairs c.was_checked.ensures.game c.args.first.now.is c.args.second.now.is c.requires.chambers _ _
+    c.sizes-first_all.ensures c.sizes-second_all.ensures _ _ _ _
     c.sizes_of_member-first_own.ensures c.sizes_of_member-second_own.ensures c.member_at-member.ensures.below c.member_at-member.ensures.back
 
 pub pairs-own-requires : goal.pairs-own-requires

@@ -23,11 +23,14 @@ loop-piece-preserved c =
     let at : ℕ = c.loop-piece.piece-index in
     let own = c.min.ensures in
     let most = c.min-in-loop-piece.ensures in
-    let next = row-next (λ p. p.now) c.args.pieces.now at c.args.skip c.args.most c.loop-piece-test.true c.piece-item.is before.skip before.left own most in
+    let next = row-next (λ p. p.now) c.args.pieces.now at c.args.skip c.args.most c.loop-piece-test.true c.piece-item.is
+    before.skip before.left own most in
     record {
       counted = rw next (c.count_row.ensures.tallies c.args.game.now _ before.counted);
       skip = c.saturating_sub-skip.ensures
-          ∙ left-to_skip (λ p. p.now) c.args.pieces.now at c.args.skip c.args.most c.loop-piece-test.true c.piece-item.is before.skip before.left own most;
+          ∙ left-to_skip (λ p. p.now) c.args.pieces.now at c.args.skip c.args.most c.loop-piece-test.true c.piece-item.is before.skip
+          before.left own most;
       left = c.saturating_sub-left.ensures
-          ∙ left-to_take (λ p. p.now) c.args.pieces.now at c.args.skip c.args.most c.loop-piece-test.true c.piece-item.is before.skip before.left own most;
+          ∙ left-to_take (λ p. p.now) c.args.pieces.now at c.args.skip c.args.most c.loop-piece-test.true c.piece-item.is before.skip
+          before.left own most;
     }

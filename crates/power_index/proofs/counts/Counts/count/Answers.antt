@@ -18,12 +18,14 @@ invariant_of-self c =
     let below = rw (← c.self.view_is) at c.requires.below in
     let room = rw (← c.self.view_is) at c.requires.room in
     let own = c.self.invariant.of_some in
-    kept (more-some _ _ c.args.coalition own c.requires.some below room (more-hold own.game own.list _ _ _ _ _ (size-is c) c.add.ensures c.add_to_places.ensures own.tallies))
+    kept (more-some _ _ c.args.coalition own c.requires.some below room
+    (more-hold own.game own.list _ _ _ _ _ (size-is c) c.add.ensures c.add_to_places.ensures own.tallies))
 
 pub returns-clause-total : goal.returns-clause-total
 returns-clause-total c =
     let own = c.self.invariant.of_some in
-    rw (← c.self.view_is) (more-total _ _ c.args.coalition own (more-hold own.game own.list _ _ _ _ _ (size-is c) c.add.ensures c.add_to_places.ensures own.tallies))
+    rw (← c.self.view_is) (more-total _ _ c.args.coalition own
+    (more-hold own.game own.list _ _ _ _ _ (size-is c) c.add.ensures c.add_to_places.ensures own.tallies))
 
 pub returns-clause-tallies : goal.returns-clause-tallies
 returns-clause-tallies c g list = rw (← c.self.view_is) (more-hold g list _ _ _ _ _ (size-is c) c.add.ensures c.add_to_places.ensures)
