@@ -29,7 +29,8 @@ share-at n i a b lt one other =
 share-member : (n : ℕ) (a b : RuleView) → share n a b ≡ true
     → (i : ℕ) × (i < n) × (0 < get_or a.weights i 0) × (0 < get_or b.weights i 0)
 share-member n a b they =
-    let (i, lt, both) = any-of (λ i. ltb 0 (get_or a.weights i 0) && ltb 0 (get_or b.weights i 0)) n they in (i, lt, grind (arith, nat_tests), grind (arith, nat_tests))
+    let (i, lt, both) = any-of (λ i. ltb 0 (get_or a.weights i 0) && ltb 0 (get_or b.weights i 0)) n they in
+    (i, lt, grind (arith, nat_tests), grind (arith, nat_tests))
 
 share-turned : (n : ℕ) (a b : RuleView) → share n a b ≡ true → share n b a ≡ true
 share-turned n a b they = let found = share-member n a b they in share-at n found.0 b a found.1 found.3 found.2
@@ -178,14 +179,15 @@ pub beside-chamber : (n : ℕ) (rs : List RuleView) (k : ℕ) → AreOfChambers 
 unfolding beside_of
 beside-chamber n rs k all lt = all k (record { quota = 0; weights = [] }) lt
 
-pub others-chambers : (n : ℕ) (rs : List RuleView) (k : ℕ) → All (IsFair n) rs → AreOfChambers n rs → k < length rs → AreOfChambers n (beside_of false n rs k)
+pub others-chambers : (n : ℕ) (rs : List RuleView) (k : ℕ) → All (IsFair n) rs → AreOfChambers n rs → k < length rs
+    → AreOfChambers n (beside_of false n rs k)
 unfolding beside_of
 others-chambers n rs k fair all lt = chambers-within n rs fair (λ x. not (share n (rule_at rs k) x))
     (others-closed n rs fair (share n (rule_at rs k)) (chamber-closed n rs fair all k lt)) (λ j lj _. all j (record { quota = 0; weights = [] }) lj)
 
 pub beside-parts : (n : ℕ) (rs : List RuleView) (k : ℕ) → All (IsFair n) rs → AreOfChambers n rs → k < length rs
-    → (g a b : GameView) → AreRulesOf g n rs → a.names ≡ g.names → b.names ≡ g.names → a.rules ≡ beside_of true n rs k → b.rules ≡ beside_of false n rs k
-    → AreChambersOf g a b
+    → (g a b : GameView) → AreRulesOf g n rs → a.names ≡ g.names → b.names ≡ g.names
+    → a.rules ≡ beside_of true n rs k → b.rules ≡ beside_of false n rs k → AreChambersOf g a b
 unfolding beside_of
 beside-parts n rs k fair all lt = parts-are n rs fair (share n (rule_at rs k)) (chamber-closed n rs fair all k lt)
 

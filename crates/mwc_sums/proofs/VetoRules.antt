@@ -1,5 +1,6 @@
 -- The rules that a game consists of are rules that a game can have.
-use Rattle.std.proofs.Common.{◌≡◌, ℕ, ◌+◌, ◌<◌, ◌≤◌, Bool, true, false, ltb, not, List, [], ◌∷◌, ◌++◌, length, get_or, map, filter, take, refl, arith, All, ◌∙◌, ◌*◌, cond, leb}
+use Rattle.std.proofs.Common.{◌≡◌, ℕ, ◌+◌, ◌<◌, ◌≤◌, Bool, true, false, ltb, not, List, [], ◌∷◌, ◌++◌, length, get_or, map, filter, take, refl, arith}
+use Rattle.std.proofs.Common.{All, ◌∙◌, ◌*◌, cond, leb}
 use Rattle.std.specs.List.{sum, range_with_len, sum_by}
 use Rattle.std.proofs.lemmas.Bool.{cases_lt, ltb-true, both_ways}
 use Rattle.std.proofs.lemmas.List.{get_or_past, length-map, take_more, map-append}

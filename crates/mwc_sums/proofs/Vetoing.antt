@@ -1,5 +1,6 @@
 -- Where all members that can veto agree, the rules ask the others for what is left.
-use Rattle.std.proofs.Common.{◌≡◌, ◌∙◌, ℕ, suc, ◌+◌, ◌-◌, ◌*◌, ◌<◌, ◌≤◌, Bool, true, false, cond, leb, ltb, List, [], ◌∷◌, length, get_or, map, filter, sym, ap, refl, arith, inl, inr, All}
+use Rattle.std.proofs.Common.{◌≡◌, ◌∙◌, ℕ, suc, ◌+◌, ◌-◌, ◌*◌, ◌<◌, ◌≤◌, Bool, true, false, cond, leb, ltb, List, [], ◌∷◌, length, get_or, map}
+use Rattle.std.proofs.Common.{filter, sym, ap, refl, arith, inl, inr, All}
 use Rattle.std.specs.List.{fold, sum, sum_by, range_with_len}
 use Rattle.std.proofs.lemmas.List.Sums.{get_or-le-sum_by, sum_by-cons}
 use Rattle.std.proofs.lemmas.Bool.{le-leb}

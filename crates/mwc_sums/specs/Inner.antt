@@ -1,4 +1,5 @@
 -- What only proofs, private functions and invariants need: no public contract mentions it.
 pub mod Fair
+pub mod NoTally
 pub mod Rules
 pub mod Seats

@@ -2,4 +2,5 @@ use Rattle.mwc_sums.proofs.Sharing.{kept-fair}
 use Rattle.mwc_sums.proofs.statute.Statute.beside.Goals as goal
 
 pub invariant_of-result : goal.invariant_of-result
-invariant_of-result c = rw (c.members-members.ensures.count, c.loop-other.invariant) (kept-fair _ c.loop-other.other _ _ c.members-members.ensures.fair)
+invariant_of-result c =
+    rw (c.members-members.ensures.count, c.loop-other.invariant) (kept-fair _ c.loop-other.other _ _ c.members-members.ensures.fair)

@@ -2,4 +2,5 @@ use Rattle.mwc_sums.proofs.Sharing.{kept-fair}
 use Rattle.mwc_sums.proofs.statute.Statute.part.Goals as goal
 
 pub invariant_of-result : goal.invariant_of-result
-invariant_of-result c = rw (c.members-members.ensures.count, c.loop-rule.invariant) (kept-fair _ c.loop-rule.rule _ _ c.members-members.ensures.fair)
+invariant_of-result c =
+    rw (c.members-members.ensures.count, c.loop-rule.invariant) (kept-fair _ c.loop-rule.rule _ _ c.members-members.ensures.fair)
