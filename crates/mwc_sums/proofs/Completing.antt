@@ -71,7 +71,7 @@ unfoldable pub last : ℕ → ℕ → ℕ
 last zero c = 0
 last (suc n) c = cond (ltb c (2 ^ n)) (suc (last n c)) (cond (c - 2 ^ n == 0) 0 (suc (last n (c - 2 ^ n))))
 
-last-in : (n c : ℕ) → c < 2 ^ n → 0 < c → (last n c < n) × (has n (last n c) c ≡ true)
+pub last-in : (n c : ℕ) → c < 2 ^ n → 0 < c → (last n c < n) × (has n (last n c) c ≡ true)
 unfolding last
 last-in zero c lt pos = absurd (omega arith)
 last-in (suc n) c lt pos =
@@ -79,7 +79,7 @@ last-in (suc n) c lt pos =
     let again = last-in n d in
     grind (arith, nat_tests, again, last-in n c, rest-out, first-in n d, rest-in n (last n d) d, double-pow n, cases_lt c (2 ^ n))
 
-last-behind : (n p c : ℕ) → c < 2 ^ n → p < n → has n p c ≡ true → p ≤ last n c
+pub last-behind : (n p c : ℕ) → c < 2 ^ n → p < n → has n p c ≡ true → p ≤ last n c
 unfolding last
 last-behind zero p c lt below inside = absurd (omega arith)
 last-behind (suc n) zero c lt below inside = omega arith
@@ -99,15 +99,6 @@ none-or-some ws c lt = elim (cases_lt 0 c) [
   | inl some ↦ let is = last-in (length ws) c lt some in inr (some, size-pos-at _ _ c is.0 is.1, place-le ws _ c is.0 is.1)
   | inr none ↦ let z : c ≡ 0 = omega arith in inl (z, ap (size (length ws)) z ∙ no-size (length ws), ap (weight ws) z ∙ weight-zero ws)
 ]
-
-pub least-last : (ws : List ℕ) (r c : ℕ) → Falls ws → 0 < r → c < 2 ^ length ws
-    → IsLeast ws r c ↔ ((r ≤ weight ws c) × (weight ws c < r + get_or ws (last (length ws) c) 0))
-least-last ws r c falls pos lt =
-    let empty = none-or-some ws c lt in
-    let is = last-in (length ws) c lt in (
-      λ h. let m = h.met in let n = h.needed (last (length ws) c) in grind (arith),
-      λ h. record { met = h.0; needed = λ p below inside. grind (arith, falls p (last (length ws) c), last-behind (length ws) p c) },
-    )
 
 -- ---- the list of them
 pub down-two : (m n : ℕ) → down (m + n) ≡ map (λ c. n + c) (down m) ++ down n

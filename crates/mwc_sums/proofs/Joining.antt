@@ -2,7 +2,7 @@
 use Rattle.std.proofs.Common.{◌≡◌, ◌∙◌, ◌&&◌, ◌||◌, ℕ, ◌<◌, Bool, true, false, arith}
 use Rattle.std.proofs.lemmas.Bool.{false_from_ne_true, both_ways, true_from_ne_false}
 use Rattle.std.proofs.lemmas.Bool.Decides.{nat_tests}
-use Rattle.mwc_sums.proofs.Seating.{less, IsLeast, less-same}
+use Rattle.mwc_sums.proofs.Seating.{less, IsLeast}
 
 -- a test of sets sees these members alone
 abbrev pub Sees : ℕ → (ℕ → Bool) → ((ℕ → Bool) → Bool) → Type 0
@@ -22,7 +22,7 @@ flipped-joint {own = own} {other = other} {won_a = won_a} {won_b = won_b} joint 
 -- no member of a least set is unseen
 pub least-seen : {n : ℕ} (side : ℕ → Bool) {won : (ℕ → Bool) → Bool} {f : ℕ → Bool} → Sees n side won → IsLeast n won f
     → (i : ℕ) → i < n → f i ≡ true → side i ≡ true
-least-seen side {won = won} {f = f} sees least i lt inside = grind (arith, true_from_ne_false, both_ways, less, less-same)
+least-seen side {won = won} {f = f} sees least i lt inside = grind (arith, nat_tests, true_from_ne_false, both_ways, less)
 
 module _ {n : ℕ} {own other : ℕ → Bool} {won_g won_a won_b : (ℕ → Bool) → Bool} (joint : IsJoint n own other won_g won_a won_b) where
   -- a least set is, of each side, a least set

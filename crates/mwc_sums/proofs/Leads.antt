@@ -1,4 +1,5 @@
 -- The coalitions that members lead to, the heaviest first, and how many they are.
+use Rattle.mwc_sums.proofs.Completing.{last-in, last-behind}
 use Rattle.std.proofs.Common.{◌≡◌, ◌∙◌, ◌↔◌, ◌⊎◌, ℕ, zero, suc, ◌+◌, ◌-◌, ◌*◌, ◌^◌, ◌<◌, ◌≤◌, ◌==◌, ◌&&◌, ◌||◌, not, Bool, true, false, cond, leb, ltb}
 use Rattle.std.proofs.Common.{List, [], ◌∷◌, ◌++◌, map, filter, length, get_or, ap, refl, arith, inl, inr}
 use Rattle.std.proofs.lemmas.Bool.{cases_lt, cond-false, cond-true, le-ltb, lt-ltb}
@@ -8,7 +9,7 @@ use Rattle.council_game.specs.Votes.{has, size, weight, down}
 use Rattle.council_game.proofs.Shared.WeightByDigits.{weight-nil}
 use Rattle.weight_sums.specs.Endings.{choose, one_of_size, fill, endings, left_out}
 use Rattle.mwc_sums.proofs.Filters.{filter-none}
-use Rattle.mwc_sums.proofs.Completing.{IsLeast, Falls, double-pow, first-in, first-out, last, least-last, none-or-some, rest-in, rest-out, size-left, size-with, weight-left, weight-with}
+use Rattle.mwc_sums.proofs.Completing.{IsLeast, Falls, double-pow, first-in, first-out, last, none-or-some, rest-in, rest-out, size-left, size-with, weight-left, weight-with}
 use Rattle.mwc_sums.proofs.Counting.{count, count-and, count-first, count-never, count-parted, filter-first}
 
 -- a coalition that members lead to, from a need and a number of members: where the first meets the need, others behind it fill it up to the heads
@@ -139,10 +140,7 @@ by-last (w ∷ ws) heads r a c pos lt = elim (cases_lt c (2 ^ length ws)) [
 ]
 
 pub leads-are : (ws : List ℕ) (heads r a c : ℕ) → Falls ws → 0 < r → c < 2 ^ length ws → (leads ws heads r a c ≡ true) ↔ AreMet ws heads r a c
-leads-are ws heads r a c falls pos lt =
-    let is = by-last ws heads r a c pos lt in
-    let least = least-last ws r c falls pos lt in
-    grind (arith, nat_tests)
+leads-are ws heads r a c falls pos lt = grind (arith, by-last, none-or-some, last-in, last-behind)
 
 -- ---- the list of them, where no heads are asked for
 nobody : (n : ℕ) → filter (λ c. size n c == 0) (down (2 ^ n)) ≡ 0 ∷ []

@@ -39,9 +39,6 @@ mask-has test (suc n) (suc p) lt = grind (arith, nat_tests, rest-in, rest-out, m
 abbrev pub less : (ℕ → Bool) → ℕ → ℕ → Bool
 less f i j = f j && not (eqb j i)
 
-pub less-same : (f : ℕ → Bool) (i j : ℕ) → (j ≡ i → ⊥) → less f i j ≡ f j
-less-same f i j other = grind (arith, nat_tests)
-
 pub less-alike : (f h : ℕ → Bool) (i j : ℕ) → f j ≡ h j → less f i j ≡ less h i j
 less-alike f h i j same = ap (λ (b : Bool). b && not (eqb j i)) same
 

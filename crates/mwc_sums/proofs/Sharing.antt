@@ -26,14 +26,8 @@ pub share-at : (n i : ℕ) (a b : RuleView) → i < n → 0 < get_or a.weights i
 share-at n i a b lt one other =
     any-at (λ i. ltb 0 (get_or a.weights i 0) && ltb 0 (get_or b.weights i 0)) n i lt (grind (arith, nat_tests))
 
-share-member : (n : ℕ) (a b : RuleView) → share n a b ≡ true
-    → (i : ℕ) × (i < n) × (0 < get_or a.weights i 0) × (0 < get_or b.weights i 0)
-share-member n a b they =
-    let (i, lt, both) = any-of (λ i. ltb 0 (get_or a.weights i 0) && ltb 0 (get_or b.weights i 0)) n they in
-    (i, lt, grind (arith, nat_tests), grind (arith, nat_tests))
-
 share-turned : (n : ℕ) (a b : RuleView) → share n a b ≡ true → share n b a ≡ true
-share-turned n a b they = let found = share-member n a b they in share-at n found.0 b a found.1 found.3 found.2
+share-turned n a b they = grind (arith, nat_tests, share-at, any-of)
 
 share-self : (n : ℕ) (r : RuleView) → IsFair n r → share n r r ≡ true
 share-self n r fair = elim (missing (λ i. ltb 0 (get_or r.weights i 0)) (λ i. false) n) [
