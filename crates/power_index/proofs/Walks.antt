@@ -1,6 +1,6 @@
 -- One walk over the places of a coalition, that counts it at each.
-use Rattle.std.proofs.Common.{◌≡◌, ℕ, ◌^◌, ◌<◌, ◌≤◌, List, length, get_or, cond, true, false, arith}
-use Rattle.council_game.specs.Votes.{has, without}
+use Rattle.std.proofs.Common.{◌≡◌, ℕ, ◌^◌, ◌<◌, List, length, get_or, cond, true, false}
+use Rattle.council_game.specs.Votes.{has}
 use Rattle.power_index.specs.declared.tally.Tally.{Tally}
 use Rattle.power_index.specs.Tables.{no_tally}
 use Rattle.power_index.specs.Inner.Tables.{with_one}
@@ -13,7 +13,3 @@ pub record Walked (n c size : ℕ) (old now : List Tally) (rest : ℕ) : Type 0 
   pub waiting : (p : ℕ) → p < n → has n p rest ≡ true → get_or now p no_tally ≡ get_or old p no_tally
   pub done : (p : ℕ) → p < n
       → has n p rest ≡ false → get_or now p no_tally ≡ cond (has n p c) (with_one (get_or old p no_tally) size) (get_or old p no_tally)
-
-pub without-le : (n q c : ℕ) → without n q c ≤ c
-unfolding without
-without-le n q c = omega arith

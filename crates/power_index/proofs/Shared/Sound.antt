@@ -1,4 +1,6 @@
 -- Tables that hold the tallies of a list hold its counts, and what holds of counts.
+use Rattle.std.proofs.lemmas.List.Sums.{length-filter, sum_by_push}
+use Rattle.std.proofs.lemmas.Bool.Decides.{nat_tests}
 use Rattle.std.proofs.Common.{length-set}
 use Rattle.std.proofs.Common.{◌≡◌, ◌∙◌, ◌==◌, ◌&&◌, ℕ, ◌+◌, ◌^◌, ◌<◌, ◌≤◌, List, [], ◌∷◌, ◌++◌, length, get_or, replicate, cond, Bool, true, sym, ap, refl, arith, subst, suc, length-append}
 use Rattle.std.proofs.lemmas.Grind.{common_steps}
@@ -15,7 +17,7 @@ use Rattle.power_index.specs.Tables.{Tables, IsTallyOf, AreTallies, AreOfOneGame
 use Rattle.power_index.specs.Inner.Tables.{AreOfSomeList, AreKept, IsJoined, with_one}
 use Rattle.power_index.proofs.Shared.Sums.{length-filter-le}
 use Rattle.power_index.proofs.Shared.Members.{few-members, memberships, sizes-some, size-le}
-use Rattle.power_index.proofs.Shared.Tallies.{tally-total, tally-few, bumped, length-filter-push}
+use Rattle.power_index.proofs.Shared.Tallies.{tally-total, tally-few, bumped}
 use Rattle.power_index.proofs.Weights.{weight-light, memberships-are}
 
 filter-all : (list : List ℕ) → length (filter (λ (c : ℕ). true) list) ≡ length list
@@ -99,7 +101,7 @@ pub more-hold : (g : GameView) (list : List ℕ) (t : Tables) (c s : ℕ) (all :
     → get_or each p no_tally ≡ cond (has t.members p c) (with_one (get_or t.each p no_tally) s) (get_or t.each p no_tally))
     → AreTallies g list t → AreTallies g (list ++ c ∷ []) (record { members = t.members; ranks = t.ranks; all = all; each = each })
 more-hold g list t c s all each s-is all-is each-is h =
-    grind (arith, common_steps, few-members, size-le, bumped, length-filter-push, length-set)
+    grind (arith, nat_tests, common_steps, few-members, size-le, bumped, length-set, length-filter, sum_by_push)
 
 pub more-some : (t u : Tables) (c : ℕ) (h : AreOfSomeList t) → 0 < c → c < 2 ^ t.members → table_total t < 2 ^ 40
     → AreTallies h.game (h.list ++ c ∷ []) u → AreOfSomeList u

@@ -1,10 +1,9 @@
 -- A tally of a list, one coalition more, two lists together, and what its sizes add up to.
-use Rattle.std.proofs.Common.{◌≡◌, ◌∙◌, ◌==◌, ◌&&◌, ℕ, ◌+◌, ◌*◌, ◌<◌, ◌≤◌, List, [], ◌∷◌, ◌++◌, length, get_or, set, cond, Bool, sym, refl, arith, zero, suc, get_or-set_same, get_or-set_other, replicate}
+use Rattle.std.proofs.Common.{◌≡◌, ◌∙◌, ◌==◌, ◌&&◌, ℕ, ◌+◌, ◌*◌, ◌<◌, ◌≤◌, List, length, get_or, set, cond, Bool, sym, refl, arith, zero, suc, get_or-set_same, get_or-set_other, replicate}
 use Rattle.std.proofs.lemmas.Grind.{common_steps}
 use Rattle.std.specs.List.{filter, sum_by, range_with_len}
 use Rattle.coalitions.proofs.Shared.Ranges.{sum_by-range-more, sum_by-range-le}
 use Rattle.std.proofs.lemmas.List.Recursion.{is_sum_by}
-use Rattle.std.proofs.lemmas.List.Sums.{sum_by_push, length-filter}
 use Rattle.std.proofs.lemmas.Bool.{cases_eq}
 use Rattle.std.proofs.lemmas.Bool.Decides.{nat_tests}
 use Rattle.council_game.specs.Votes.{size}
@@ -17,10 +16,6 @@ pub get_or-zeros : (n s : ℕ) → get_or {A = ℕ} (replicate {A = ℕ} n 0) s 
 get_or-zeros zero s = refl
 get_or-zeros (suc n) zero = refl
 get_or-zeros (suc n) (suc s) = get_or-zeros n s
-
--- how many of a list with one more pass a test
-pub length-filter-push : (q : ℕ → Bool) (list : List ℕ) (c : ℕ) → length (filter q (list ++ c ∷ [])) ≡ length (filter q list) + cond (q c) 1 0
-length-filter-push q list c = simp length-filter (sum_by_push (λ x. cond (q x) 1 0) list c)
 
 -- one more at place k
 pub bumped : (xs : List ℕ) (k s : ℕ) → k < length xs → get_or (set xs k (get_or xs k 0 + 1)) s 0 ≡ get_or xs s 0 + cond (k == s) 1 0
