@@ -14,8 +14,7 @@ one-with-zero (suc x) h = let le : suc x ≤ 1 = h (suc x) (dvd_refl (suc x)) (d
 mul-mod : (m x y : ℕ) → 0 < m → 0 < y → m * x % (m * y) ≡ m * (x % y)
 mul-mod m x y some pos =
     let parts : m * x ≡ m * (x % y) + m * y * (x / y) = omega (arith, ap (λ k. m * k) (div-add-mod x y)) in
-    let less : m * suc (x % y) ≤ m * y = mul-le-mul (omega arith) (mod-lt x pos) in
-    ap (λ k. k % (m * y)) parts ∙ add-mul-mod_self_left (m * (x % y)) (m * y) (x / y) ∙ mod-eq_of_lt (omega (arith, less, some))
+    grind (arith, common_steps, add-mul-mod_self_left, mod-eq_of_lt, mul-le-mul, mod-lt)
 
 scaled : (n m x y : ℕ) → y ≤ n → 0 < m → AreCoprime x y → IsGcd (m * x) (m * y) m
 scaled n m x zero le some h =

@@ -2,9 +2,8 @@ use Rattle.council_game.specs.Votes.{without}
 use Rattle.std.proofs.lemmas.Bool.Decides.{nat_tests}
 use Rattle.std.proofs.lemmas.Bool.{both_ways, cases_eq, cond-true}
 use Rattle.std.proofs.lemmas.Grind.{common_steps}
-use Rattle.std.proofs.Common.{◌≡◌, ℕ, ◌-◌, ◌≤◌, ◌^◌, arith, subst, sym, get_or, get_or-set_same}
+use Rattle.std.proofs.Common.{ℕ, ◌-◌, arith, get_or, get_or-set_same}
 use Rattle.std.specs.Int.{w64, trailing_zeros}
-use Rattle.power_index.specs.declared.tally.Tally.{Tally}
 use Rattle.coalitions.proofs.Shared.Digits.{lowest-place, lowest-cleared, has-gone, has-kept, has-none}
 use Rattle.power_index.proofs.counts.add_to_places.Goals as goal
 
@@ -14,11 +13,7 @@ overflow_sub-place-in-loop-rest c =
     omega (arith, next.0)
 
 pub add-requires-clause-room : goal.add-requires-clause-room
-add-requires-clause-room c =
-    let next = lowest-place c.args.members c.loop-rest.rest c.requires.few (omega arith) c.loop-rest.invariant.below in
-    let place : ℕ = c.args.members - 1 - trailing_zeros w64 c.loop-rest.rest in
-    let waits = c.loop-rest.invariant.waiting place (omega (arith, next.0)) next.1 in
-    subst (λ (t : Tally). get_or t.sizes c.args.size 0 ≤ 2 ^ 40) (sym waits) (c.requires.room place (omega (arith, next.0)))
+add-requires-clause-room c = grind (arith, common_steps, get_or, lowest-place)
 
 pub loop-rest-preserved : goal.loop-rest-preserved
 unfolding without
@@ -29,5 +24,4 @@ loop-rest-preserved c =
     grind (arith, nat_tests, common_steps, both_ways, cases_eq, cond-true, get_or-set_same, has-gone, has-kept)
 
 pub returns : goal.returns
-returns c p lt =
-    let none : c.loop-rest.rest ≡ 0 = omega arith in grind (arith, has-none)
+returns c p lt = grind (arith, common_steps, has-none)
