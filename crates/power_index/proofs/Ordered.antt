@@ -13,10 +13,9 @@ parts a b d q h = grind (arith, common_steps, div-add-mod)
 -- with one quotient, a / b is to c / d as d / (c % d) is to b / (a % b)
 pub turned : (a b c d : ℕ) → a / b ≡ c / d → nat_cmp (d * (a % b)) (b * (c % d)) ≡ nat_cmp (a * d) (c * b)
 turned a b c d h =
-    let first : a * d ≡ b * d * (c / d) + d * (a % b) = parts a b d (c / d) h in
     let second : c * b ≡ b * d * (c / d) + b * (c % d) = parts c d b (c / d) (λ i. c / d)
     ∙ ap (λ (n : ℕ). n * (c / d) + b * (c % d)) (omega arith) in
-    grind (arith, nat_tests, first, second)
+    grind (arith, common_steps, nat_tests, parts)
 
 -- a smaller quotient is a smaller fraction
 below : (a b c d : ℕ) → 0 < b → 0 < d → a / b < c / d → a * d < c * b

@@ -14,8 +14,7 @@ one-with-zero (suc x) h = let le : suc x ≤ 1 = h (suc x) (dvd_refl (suc x)) (d
 mul-mod : (m x y : ℕ) → 0 < m → 0 < y → m * x % (m * y) ≡ m * (x % y)
 mul-mod m x y some pos =
     let parts : m * x ≡ m * (x % y) + m * y * (x / y) = omega (arith, ap (λ k. m * k) (div-add-mod x y)) in
-    let less : m * suc (x % y) ≤ m * y = mul-le-mul (omega arith) (mod-lt x pos) in
-    ap (λ k. k % (m * y)) parts ∙ add-mul-mod_self_left (m * (x % y)) (m * y) (x / y) ∙ mod-eq_of_lt (omega (arith, less, some))
+    grind (arith, common_steps, add-mul-mod_self_left, mod-eq_of_lt, mul-le-mul, mod-lt)
 
 scaled : (n m x y : ℕ) → y ≤ n → 0 < m → AreCoprime x y → IsGcd (m * x) (m * y) m
 scaled n m x zero le some h =
@@ -31,9 +30,6 @@ divides-other : (t u v : ℕ) → AreCoprime t u → u ∣ v * t → u ∣ v
 divides-other t u zero h d = dvd-zero u
 divides-other t u (suc v) h d = (scaled u (suc v) t u (omega arith) (omega arith) h).2 u d (dvd-mul_left u (suc v))
 
-same-pair : (t u t' u' : ℕ) → t ≡ t' → u ≡ u' → ◌≡◌ {A = ℕ × ℕ} (t, u) (t', u')
-same-pair t u t' u' e f = cc
-
 pub lowest-unique : (p q r : ℕ × ℕ) → 0 < p.1 → IsLowestOf p q → IsLowestOf p r → q ≡ r
 lowest-unique p q r pos h k =
     let cross : q.0 * r.1 ≡ r.0 * q.1 =
@@ -42,8 +38,7 @@ lowest-unique p q r pos h k =
     (let e : r.0 * q.1 ≡ r.1 * q.0 = omega (arith, cross) in subst (λ (x : ℕ). q.1 ∣ x) e (dvd-mul_left q.1 r.0)) in
     let b : r.1 ∣ q.1 = divides-other r.0 r.1 q.1 k.lowest
     (let e : q.0 * r.1 ≡ q.1 * r.0 = omega (arith, cross) in subst (λ (x : ℕ). r.1 ∣ x) e (dvd-mul_left r.1 q.0)) in
-    let bottoms : q.1 ≡ r.1 = dvd_antisymm a b in
-    same-pair q.0 q.1 r.0 r.1 (eq_of_mul-eq-mul_right q.1 h.positive q.0 r.0 (ap (λ v. q.0 * v) bottoms ∙ cross)) bottoms
+    let bottoms : q.1 ≡ r.1 = dvd_antisymm a b in grind (arith, eq_of_mul-eq-mul_right)
 
 -- two indices that are the same number
 pub index_unique : (p q : ℕ × ℕ) → IsIndex p → IsIndex q → SameFraction p q → p ≡ q

@@ -35,10 +35,8 @@ found-greatest a b (suc n) d pos le da db =
 
 pub gcd-is : (a b g : ℕ) → 0 < b → IsGcd a b g → greatest_common_divisor a b ≡ g
 gcd-is a b g pos h =
-    let g-pos = gcd-pos a b g pos h in
     let both = found-divides a b b in
-    let down = le_from_IsGcd a b g (greatest_common_divisor a b) h g-pos both.0 both.1 in
-    omega (arith, found-greatest a b b g g-pos (le_of_dvd pos h.1) h.0 h.1, down)
+    grind (arith, common_steps, found-greatest, le_of_dvd, gcd-pos, le_from_IsGcd)
 
 -- two numbers have a greatest common divisor
 some-gcd : (n a b : ℕ) → b ≤ n → (g : ℕ) × IsGcd a b g

@@ -26,11 +26,6 @@ unfolding deegan_packel
 deegan-packel-bottom g list t i lt some h =
     mul-pos (bottom_pos (length g.names) (sizes_of_member g list i) (within g list t i lt h)) some
 
-pub public-good-bottom : (g : GameView) (list : List ℕ) (t : Tables) (i : ℕ) → 1 ≤ table_memberships t → AreCounts g list t
-    → 0 < (public_good g list i).1
-unfolding public_good
-public-good-bottom g list t i some h = let e = memberships-are g list t h in omega (arith, some, e)
-
 pub public-good-is : (g : GameView) (list : List ℕ) (t : Tables) (i top bottom : ℕ) → i < t.members → AreCounts g list t
     → IsLowestOf (table_public_good t i) (top, bottom) → IsLowestOf (public_good g list i) (top, bottom)
 unfolding public_good
@@ -46,6 +41,5 @@ deegan-packel-same g list t i lt few some h =
 
 pub public-good-same : (g : GameView) (list : List ℕ) (t : Tables) (i : ℕ) → i < t.members → 1 ≤ table_memberships t
     → AreCounts g list t → lowest_terms (table_public_good t i) ≡ lowest_terms (public_good g list i)
-public-good-same g list t i lt some h =
-    lowest_terms-only (public_good g list i) (lowest_terms (table_public_good t i)) (public-good-bottom g list t i some h)
-    (public-good-is g list t i _ _ lt h (lowest_terms-lowest (table_public_good t i) some))
+unfolding public_good
+public-good-same g list t i lt some h = grind (arith, lowest_terms-only, public-good-is, lowest_terms-lowest, memberships-are)

@@ -1,11 +1,12 @@
 -- How large the numbers of an index are in lowest terms.
+use Rattle.std.proofs.lemmas.Grind.{common_steps}
 use Rattle.std.proofs.Common.{ℕ, ◌*◌, ◌^◌, ◌<◌, ◌≤◌, length, get_or, arith}
 use Rattle.std.specs.List.{range_with_len}
 use Rattle.std.proofs.Math.Nat.{div-le_self}
 use Rattle.std.proofs.lemmas.List.Sums.{sum_by-le}
 use Rattle.std.proofs.lemmas.List.FromFn.{length-range_with_len, get_or-range_with_len}
 use Rattle.power_index.specs.Tables.{Tables, AreSound, table_of_member, table_memberships, table_deegan_packel, table_public_good}
-use Rattle.power_index.specs.Fractions.{lowest_terms, greatest_common_divisor}
+use Rattle.power_index.specs.Fractions.{lowest_terms}
 
 -- a pair of numbers below a bound
 abbrev pub AreBelow : ℕ → ℕ × ℕ → Type 0
@@ -14,9 +15,7 @@ AreBelow k p = (p.0 < k) × (p.1 < k)
 -- lowest terms are no greater
 lowest-below : (k : ℕ) (p : ℕ × ℕ) → AreBelow k p → AreBelow k (lowest_terms p)
 unfolding lowest_terms
-lowest-below k p h =
-    let d : ℕ = greatest_common_divisor p.0 p.1 in
-    (omega (arith, div-le_self p.0 d, h.0), omega (arith, div-le_self p.1 d, h.1))
+lowest-below k p h = grind (arith, common_steps, div-le_self)
 
 pub deegan_packel-wide : (t : Tables) (i : ℕ) → AreSound t → i < t.members → AreBelow (10 ^ 28) (lowest_terms (table_deegan_packel t i))
 deegan_packel-wide t i sound lt =

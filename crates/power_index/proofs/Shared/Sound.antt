@@ -1,9 +1,12 @@
 -- Tables that hold the tallies of a list hold its counts, and what holds of counts.
+use Rattle.std.proofs.lemmas.List.Sums.{length-filter, sum_by_push}
+use Rattle.std.proofs.lemmas.Bool.Decides.{nat_tests}
+use Rattle.std.proofs.Common.{length-set}
 use Rattle.std.proofs.Common.{◌≡◌, ◌∙◌, ◌==◌, ◌&&◌, ℕ, ◌+◌, ◌^◌, ◌<◌, ◌≤◌, List, [], ◌∷◌, ◌++◌, length, get_or, replicate, cond, Bool, true, sym, ap, refl, arith, subst, suc, length-append}
 use Rattle.std.proofs.lemmas.Grind.{common_steps}
 use Rattle.std.specs.List.{All, filter}
 use Rattle.std.proofs.lemmas.List.{get_or-replicate}
-use Rattle.std.proofs.lemmas.List.Elements.{All-append}
+use Rattle.std.proofs.lemmas.List.Elements.{All-append, filter-append}
 use Rattle.council_game.specs.Votes.{has, size}
 use Rattle.council_game.specs.Game.{GameView, IsGame, AreNonemptyCoalitions}
 use Rattle.council_game.proofs.Shared.Games.{votes-are}
@@ -14,7 +17,7 @@ use Rattle.power_index.specs.Tables.{Tables, IsTallyOf, AreTallies, AreOfOneGame
 use Rattle.power_index.specs.Inner.Tables.{AreOfSomeList, AreKept, IsJoined, with_one}
 use Rattle.power_index.proofs.Shared.Sums.{length-filter-le}
 use Rattle.power_index.proofs.Shared.Members.{few-members, memberships, sizes-some, size-le}
-use Rattle.power_index.proofs.Shared.Tallies.{tally-total, tally-few, tally-more, tally-join}
+use Rattle.power_index.proofs.Shared.Tallies.{tally-total, tally-few, bumped}
 use Rattle.power_index.proofs.Weights.{weight-light, memberships-are}
 
 filter-all : (list : List ℕ) → length (filter (λ (c : ℕ). true) list) ≡ length list
@@ -98,7 +101,7 @@ pub more-hold : (g : GameView) (list : List ℕ) (t : Tables) (c s : ℕ) (all :
     → get_or each p no_tally ≡ cond (has t.members p c) (with_one (get_or t.each p no_tally) s) (get_or t.each p no_tally))
     → AreTallies g list t → AreTallies g (list ++ c ∷ []) (record { members = t.members; ranks = t.ranks; all = all; each = each })
 more-hold g list t c s all each s-is all-is each-is h =
-    grind (arith, common_steps, few-members, size-le, tally-more)
+    grind (arith, nat_tests, common_steps, few-members, size-le, bumped, length-set, length-filter, sum_by_push)
 
 pub more-some : (t u : Tables) (c : ℕ) (h : AreOfSomeList t) → 0 < c → c < 2 ^ t.members → table_total t < 2 ^ 40
     → AreTallies h.game (h.list ++ c ∷ []) u → AreOfSomeList u
@@ -110,7 +113,7 @@ pub join-hold : (g : GameView) (first second : List ℕ) (s t : Tables) (all : T
     → ((p : ℕ) → p < s.members → IsJoined (get_or s.each p no_tally) (get_or t.each p no_tally) (get_or each p no_tally))
     → AreTallies g first s
     → AreTallies g second t → AreTallies g (first ++ second) (record { members = s.members; ranks = s.ranks; all = all; each = each })
-join-hold g first second s t all each long sum each-is a b = grind (arith, common_steps, tally-join)
+join-hold g first second s t all each long sum each-is a b = grind (arith, common_steps, filter-append, length-append)
 
 -- the tables of a list of a game are those of the list in another game with the same rank places
 pub of-first : (s t : Tables) (g g' : GameView) (first second : List ℕ) → AreOfOneGame s t → AreTallies g first s → AreTallies g' second t
@@ -142,6 +145,3 @@ join-total s t u a b one made =
     let moved = of-first s t a.game b.game a.list b.list one a.tallies b.tallies in
     let both = total-is a.game (a.list ++ b.list) u (made moved) in
     omega (arith, total-is a.game a.list s a.tallies, total-is b.game b.list t b.tallies, both, length-append a.list b.list)
-
-pub same-game : (s t u : Tables) → AreOfOneGame s t → AreOfOneGame t u → AreOfOneGame s u
-same-game s t u a b = grind (arith, common_steps)

@@ -1,17 +1,14 @@
 -- A tally of a list, one coalition more, two lists together, and what its sizes add up to.
-use Rattle.std.proofs.Common.{◌≡◌, ◌∙◌, ◌==◌, ◌&&◌, ℕ, ◌+◌, ◌*◌, ◌<◌, ◌≤◌, List, [], ◌∷◌, ◌++◌, length, get_or, set, cond, Bool, sym, refl, arith, zero, suc, get_or-set_same, get_or-set_other, length-set, length-append, replicate}
+use Rattle.std.proofs.Common.{◌≡◌, ◌∙◌, ◌==◌, ◌&&◌, ℕ, ◌+◌, ◌*◌, ◌<◌, ◌≤◌, List, length, get_or, set, cond, Bool, sym, refl, arith, zero, suc, get_or-set_same, get_or-set_other, replicate}
 use Rattle.std.proofs.lemmas.Grind.{common_steps}
 use Rattle.std.specs.List.{filter, sum_by, range_with_len}
 use Rattle.coalitions.proofs.Shared.Ranges.{sum_by-range-more, sum_by-range-le}
-use Rattle.std.proofs.lemmas.List.Elements.{filter-append}
 use Rattle.std.proofs.lemmas.List.Recursion.{is_sum_by}
-use Rattle.std.proofs.lemmas.List.Sums.{sum_by_push, length-filter}
 use Rattle.std.proofs.lemmas.Bool.{cases_eq}
 use Rattle.std.proofs.lemmas.Bool.Decides.{nat_tests}
 use Rattle.council_game.specs.Votes.{size}
 use Rattle.power_index.specs.declared.tally.Tally.{Tally}
 use Rattle.power_index.specs.Tables.{tally_total, IsTallyOf}
-use Rattle.power_index.specs.Inner.Tables.{with_one}
 use Rattle.power_index.proofs.Shared.Members.{size-le}
 use Rattle.power_index.proofs.Shared.Sums.{sum-range, sum-by_size, length-filter-le}
 
@@ -20,24 +17,9 @@ get_or-zeros zero s = refl
 get_or-zeros (suc n) zero = refl
 get_or-zeros (suc n) (suc s) = get_or-zeros n s
 
--- how many of a list with one more pass a test
-length-filter-push : (q : ℕ → Bool) (list : List ℕ) (c : ℕ) → length (filter q (list ++ c ∷ [])) ≡ length (filter q list) + cond (q c) 1 0
-length-filter-push q list c = simp length-filter (sum_by_push (λ x. cond (q x) 1 0) list c)
-
 -- one more at place k
-bumped : (xs : List ℕ) (k s : ℕ) → k < length xs → get_or (set xs k (get_or xs k 0 + 1)) s 0 ≡ get_or xs s 0 + cond (k == s) 1 0
+pub bumped : (xs : List ℕ) (k s : ℕ) → k < length xs → get_or (set xs k (get_or xs k 0 + 1)) s 0 ≡ get_or xs s 0 + cond (k == s) 1 0
 bumped xs k s lt = grind (arith, common_steps, cases_eq, get_or-set_other, get_or-set_same, nat_tests)
-
--- one coalition more, which passes or not
-pub tally-more : (n : ℕ) (p : ℕ → Bool) (list : List ℕ) (c s : ℕ) (t v : Tally) → s ≡ size n c → s ≤ 40 → v ≡ cond (p c) (with_one t s) t
-    → IsTallyOf n p list t → IsTallyOf n p (list ++ c ∷ []) v
-tally-more n p list c s t v is small v-is h = grind (arith, common_steps, bumped, length-filter-push, length-set)
-
--- two lists, one after the other
-pub tally-join : (n : ℕ) (p : ℕ → Bool) (first second : List ℕ) (s t u : Tally) → length u.sizes ≡ 41
-    → ((k : ℕ) → k ≤ 40 → get_or u.sizes k 0 ≡ get_or s.sizes k 0 + get_or t.sizes k 0)
-    → IsTallyOf n p first s → IsTallyOf n p second t → IsTallyOf n p (first ++ second) u
-tally-join n p first second s t u long sum a b = grind (arith, common_steps, filter-append, length-append)
 
 -- no number of a tally is greater than the list is long
 pub tally-few : (n : ℕ) (p : ℕ → Bool) (list : List ℕ) (t : Tally) (s : ℕ) → s ≤ 40 → IsTallyOf n p list t

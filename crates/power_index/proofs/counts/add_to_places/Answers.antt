@@ -1,8 +1,10 @@
-use Rattle.std.proofs.Common.{◌≡◌, ℕ, ◌-◌, ◌≤◌, ◌^◌, arith, subst, sym, get_or}
+use Rattle.council_game.specs.Votes.{without}
+use Rattle.std.proofs.lemmas.Bool.Decides.{nat_tests}
+use Rattle.std.proofs.lemmas.Bool.{both_ways, cases_eq, cond-true}
+use Rattle.std.proofs.lemmas.Grind.{common_steps}
+use Rattle.std.proofs.Common.{ℕ, ◌-◌, arith, get_or, get_or-set_same}
 use Rattle.std.specs.Int.{w64, trailing_zeros}
-use Rattle.power_index.specs.declared.tally.Tally.{Tally}
-use Rattle.coalitions.proofs.Shared.Digits.{lowest-place, lowest-cleared}
-use Rattle.power_index.proofs.Walks.{Walked, walked-step, walked-all}
+use Rattle.coalitions.proofs.Shared.Digits.{lowest-place, lowest-cleared, has-gone, has-kept, has-none}
 use Rattle.power_index.proofs.counts.add_to_places.Goals as goal
 
 pub overflow_sub-place-in-loop-rest : goal.overflow_sub-place-in-loop-rest
@@ -11,23 +13,15 @@ overflow_sub-place-in-loop-rest c =
     omega (arith, next.0)
 
 pub add-requires-clause-room : goal.add-requires-clause-room
-add-requires-clause-room c =
-    let next = lowest-place c.args.members c.loop-rest.rest c.requires.few (omega arith) c.loop-rest.invariant.below in
-    let place : ℕ = c.args.members - 1 - trailing_zeros w64 c.loop-rest.rest in
-    let waits = c.loop-rest.invariant.waiting place (omega (arith, next.0)) next.1 in
-    subst (λ (t : Tally). get_or t.sizes c.args.size 0 ≤ 2 ^ 40) (sym waits) (c.requires.room place (omega (arith, next.0)))
+add-requires-clause-room c = grind (arith, common_steps, get_or, lowest-place)
 
 pub loop-rest-preserved : goal.loop-rest-preserved
+unfolding without
 loop-rest-preserved c =
     let next = lowest-place c.args.members c.loop-rest.rest c.requires.few (omega arith) c.loop-rest.invariant.below in
     let place : ℕ = c.args.members - 1 - trailing_zeros w64 c.loop-rest.rest in
     let left = lowest-cleared c.args.members c.loop-rest.rest c.requires.few (omega arith) c.loop-rest.invariant.below in
-    walked-step c.args.members c.args.coalition c.args.size c.args.by_place.now c.loop-rest.by_place c.loop-rest.rest _ place _
-    c.requires.few (omega (arith, next.0)) next.1 left c.add.ensures c.loop-rest.invariant
+    grind (arith, nat_tests, common_steps, both_ways, cases_eq, cond-true, get_or-set_same, has-gone, has-kept)
 
 pub returns : goal.returns
-returns c p lt =
-    let none : c.loop-rest.rest ≡ 0 = omega arith in
-    walked-all c.args.members c.args.coalition c.args.size c.args.by_place.now c.loop-rest.by_place p lt
-    (subst (λ (r : ℕ). Walked c.args.members c.args.coalition c.args.size c.args.by_place.now c.loop-rest.by_place r) none
-    c.loop-rest.invariant)
+returns c p lt = grind (arith, common_steps, has-none)

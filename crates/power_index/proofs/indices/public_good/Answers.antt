@@ -7,5 +7,4 @@ pub returns-clause-lowest : goal.returns-clause-lowest
 returns-clause-lowest c g list h = grind (arith, common_steps, public-good-is g list c.args.counts.now c.args.member)
 
 pub returns-clause-terms : goal.returns-clause-terms
-returns-clause-terms c g list some h =
-    grind (arith, common_steps, public-good-same g list c.args.counts.now c.args.member c.requires, h.total)
+returns-clause-terms c g list some h = grind (arith, common_steps, public-good-same)

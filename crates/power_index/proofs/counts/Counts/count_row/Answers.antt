@@ -1,8 +1,8 @@
+use Rattle.std.proofs.lemmas.Grind.{common_steps}
 use Rattle.std.proofs.Common.{arith, ◌+◌, ◌≡◌, ◌∙◌, ◌++◌, [], ◌∷◌, List, ℕ, sym, ap, subst, take, get_or, append_assoc}
 use Rattle.std.proofs.lemmas.List.{take_all, get_or_default}
 use Rattle.std.proofs.lemmas.List.{take_more}
 use Rattle.power_index.specs.Tables.{AreTallies}
-use Rattle.power_index.proofs.Shared.Sound.{same-game}
 use Rattle.power_index.proofs.counts.Counts.count_row.Goals as goal
 
 pub loop-coalition-preserved : goal.loop-coalition-preserved
@@ -15,7 +15,7 @@ loop-coalition-preserved c =
     let more : take k row ++ c.coalition-item.result ∷ [] ≡ take (k + 1) row = ap (λ (x : ℕ). take k row ++ x ∷ []) item
     ∙ sym (take_more row k 0 c.loop-coalition-test.true) in
     record {
-      game = same-game _ _ _ before.game c.count.ensures.game;
+      game = grind (arith, common_steps);
       total = omega (arith, before.total, c.count.ensures.total);
       tallies = λ g list h. subst (λ (l : List ℕ). AreTallies g l c.count.new.self)
           (append_assoc list (take k row) (c.coalition-item.result ∷ []) ∙ ap (λ (l : List ℕ). list ++ l) more)
