@@ -61,11 +61,6 @@ passed-none ws done heads q rest row each few none is all long = record {
   tallied = record { long = long; tallies = λ k below. absurd (omega arith) };
 }
 
--- the row of the others, where they go on
-pub prefixes-later : {p left : ℕ} {done : List ℕ} {row others : List Open} → others ≡ row → AreOfPrefixes p left done row
-    → AreOfPrefixes (p + 1) left done others
-prefixes-later same are = rw same (record { few = are.few; sizes = λ i d lt. (let le = are.sizes i d lt in omega (arith, le)) })
-
 module _ {ws : List ℕ} {heads q p rest : ℕ} {done : List ℕ} {row : List Open} {each : List BySize}
     (h : Passed ws heads q p rest done row each)
     (lt : p < length ws) where

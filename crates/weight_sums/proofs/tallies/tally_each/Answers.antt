@@ -2,7 +2,7 @@ use Rattle.std.proofs.Common.{◌≡◌, ◌∙◌, ℕ, ◌≤◌, get_or, repl
 use Rattle.weight_sums.specs.Endings.{endings, left_out}
 use Rattle.weight_sums.proofs.Taking.{get_or-zeros}
 use Rattle.weight_sums.proofs.Passing.{prefixes-room}
-use Rattle.weight_sums.proofs.Members.{passed-none, passed-more, prefixes-later, without-is, member-tallied}
+use Rattle.weight_sums.proofs.Members.{passed-none, passed-more, without-is, member-tallied}
 use Rattle.weight_sums.proofs.tallies.tally_each.Goals as goal
 use Rattle.weight_sums.proofs.tallies.tally_each.Goals.{Else-not-branch}
 
@@ -12,7 +12,7 @@ loop-place-init c =
     (replicate 40 c.args.all.now) c.requires.few (get_or-zeros 41) c.in_ok-begin.ensures c.requires.total refl
 
 pub finish-requires-clause-row : goal.finish-requires-clause-row
-finish-requires-clause-row c = prefixes-later (c.in_ok-copy.ensures ∙ c.deref.ensures.value) (c.loop-place.invariant.are (omega arith))
+finish-requires-clause-row c = grind (arith)
 
 -- what is counted without the member
 without : (c : Else-not-branch) (s : ℕ) → s ≤ 40
