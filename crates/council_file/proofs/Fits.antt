@@ -24,9 +24,6 @@ none_gives f (Some x) d h = absurd (false≢true (sym h))
 one_to_four : (ds : List Data) → are_quotas ds ≡ true → (0 < length ds) × (length ds ≤ 4)
 one_to_four ds h = (grind (arith, nat_tests), grind (arith, nat_tests))
 
-pub rules_count : (t : Members) → breaks_rules t ≡ false → lacks_quota t ≡ false → (0 < length (rules_of t)) × (length (rules_of t) ≤ 4)
-rules_count t ok quota = grind (arith, cases_Bool, none_gives, quotas_pass, length-map-range_with_len, one_to_four)
-
 only_full : (t : Members) → length (only_rule t).weights ≡ length (member_list t)
 unfolding only_rule
 only_full t = length-map (member_list t) _
@@ -49,7 +46,7 @@ rules_full t =
 -- what the code holds
 pub held_count : (rules : List Rule) (t : Members) → rule_views rules ≡ rules_of t → breaks_rules t ≡ false → lacks_quota t ≡ false
     → (0 < length rules) × (length rules ≤ 4)
-held_count rules t same ok quota = grind (arith, rules_count, length-map)
+held_count rules t same ok quota = grind (arith, length-map, cases_Bool, none_gives, quotas_pass, length-map-range_with_len, one_to_four)
 
 pub all_held : (rules : List Rule) (t : Members) (names : List (String Global)) (ds : List Data) → rule_views rules ≡ rules_of t
     → ds ≡ member_list t → map string_bytes names ≡ map name_from ds
