@@ -11,7 +11,7 @@ use Rattle.council_game.specs.declared.fault.GameFault.TheVariants.{Bracket}
 use Rattle.council_game.specs.Fault.{◌>>=◌}
 use Rattle.council_game.specs.Votes.{RuleView, rule_at}
 use Rattle.council_game.specs.Game.{GameView, IsGame, made_game, is_heavy, has_bad_quota}
-use Rattle.council_game.proofs.Shared.Games.{passed, none-any, light-weights, light-sum}
+use Rattle.council_game.proofs.Shared.Games.{passed, none-any, light-weights, light-sum, position_nowhere}
 use Rattle.council_file.specs.Bracket.{Symbol, number, opening, closing, comma, semicolon, symbols, value_of, weights_of, rule_of, is_bracket, begins_bracket, begins_with_digit, game_of_bracket, nameless_game}
 use Rattle.council_file.specs.File.{game_of}
 use Rattle.council_text.specs.Joined.{joined_numbers}
@@ -20,7 +20,7 @@ use Rattle.council_file.specs.Laws.{lone_game, NotationReadsBack}
 use Rattle.council_file.proofs.Digits.{symbols-number}
 use Rattle.council_text.proofs.Shared.Joins.{one-number, next-numbers}
 use Rattle.council_game.proofs.Shared.Games.{nowhere_below}
-use Rattle.council_file.proofs.Named.{names_pass, repeats_pass}
+use Rattle.council_file.proofs.Named.{repeats_pass, name_at, decimal_name}
 
 -- ---- numbers
 
@@ -125,7 +125,7 @@ weights_pass n m r same fits = grind (arith, nowhere_below, le-ltb)
 
 made : (n : ℕ) (r : RuleView) → Fits n r → nameless_game r ≡ Ok (lone_game r)
 unfolding made_game
-made n r fits = grind (arith, length-map-range_with_len, count_passes, names_pass, repeats_pass, weights_pass)
+made n r fits = grind (arith, nat_tests, length-map-range_with_len, count_passes, repeats_pass, weights_pass, position_nowhere, name_at, decimal_name)
 
 bracket_game : (text : List ℕ) (r : RuleView) → rule_of (symbols text) ≡ Some r → game_of_bracket text ≡ nameless_game r
 unfolding game_of_bracket
