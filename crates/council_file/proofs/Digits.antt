@@ -43,12 +43,9 @@ number_in_front b bs zero digit whole stop = absurd (false≢true (sym stop ∙ 
 number_in_front b bs (suc n) digit whole stop = ap (λ (t : List ℕ). symbols (b ∷ t)) (sym (take-append-drop n bs))
     ∙ symbols-number b (take n bs) (drop n bs) whole stop
 
-digit_value-minus : (c : ℕ) → (48 ≤ c) × (c ≤ 57) → digit_value c ≡ c - 48
-digit_value-minus c range = grind (arith, nat_tests)
-
 pub digits_more : (ds : List ℕ) (i : ℕ) → AllDigits 10 ds → i < length ds
     → digits_value 10 (take (i + 1) ds) ≡ digits_value 10 (take i ds) * 10 + (get_or ds i 0 - 48)
-digits_more ds i whole below = grind (arith, digits_value_more, digit_value-minus, digit_at)
+digits_more ds i whole below = grind (arith, nat_tests, digits_value_more, digit_at)
 
 pub digits_fit : (ds : List ℕ) (i : ℕ) → AllDigits 10 ds → length ds ≤ 18 → i < length ds
     → digits_value 10 (take i ds) * 10 + (get_or ds i 0 - 48) < 10 ^ 18

@@ -1,5 +1,5 @@
 -- The rules of a tree that passed the checks fit a game.
-use Rattle.std.proofs.Common.{◌≡◌, ℕ, ◌<◌, ◌≤◌, Bool, true, false, not, ◌&&◌, ◌||◌, List, [], length, map, Option, Some, None, is_some, codes, refl, sym, arith, All, inl, inr, String, Global, string_bytes}
+use Rattle.std.proofs.Common.{◌≡◌, ℕ, ◌<◌, ◌≤◌, Bool, true, false, List, [], length, map, Option, Some, None, is_some, codes, refl, sym, arith, All, inl, inr, String, Global, string_bytes}
 use Rattle.std.specs.List.{range_with_len}
 use Rattle.std.specs.Option.{option_map_or}
 use Rattle.std.proofs.lemmas.Bool.Decides.{nat_tests}
@@ -14,18 +14,12 @@ use Rattle.std.proofs.lemmas.List.Elements.{All-nil, All-cons, All-map}
 use Rattle.council_game.proofs.Shared.RuleLists.{held_full}
 use Rattle.council_file.specs.File.{has_key, elements_at, are_quotas, breaks_rules, lacks_quota, member_list, only_rule, rule_from, rules_of, name_from}
 
-quotas_pass : (q qs aq w v : Bool) → q ≡ false → not qs ≡ false → ((q && qs) || (qs && not aq) || (q && w) || (qs && v)) ≡ false → aq ≡ true
-quotas_pass q qs aq w v a b h = grind (arith, nat_tests)
-
 none_gives : (f : Data → Bool) (o : Option Data) (d : Bool) → is_some o ≡ false → option_map_or f o d ≡ d
 none_gives f None d h = refl
 none_gives f (Some x) d h = absurd (false≢true (sym h))
 
 one_to_four : (ds : List Data) → are_quotas ds ≡ true → (0 < length ds) × (length ds ≤ 4)
 one_to_four ds h = (grind (arith, nat_tests), grind (arith, nat_tests))
-
-pub rules_count : (t : Members) → breaks_rules t ≡ false → lacks_quota t ≡ false → (0 < length (rules_of t)) × (length (rules_of t) ≤ 4)
-rules_count t ok quota = grind (arith, cases_Bool, none_gives, quotas_pass, length-map-range_with_len, one_to_four)
 
 only_full : (t : Members) → length (only_rule t).weights ≡ length (member_list t)
 unfolding only_rule
@@ -49,7 +43,7 @@ rules_full t =
 -- what the code holds
 pub held_count : (rules : List Rule) (t : Members) → rule_views rules ≡ rules_of t → breaks_rules t ≡ false → lacks_quota t ≡ false
     → (0 < length rules) × (length rules ≤ 4)
-held_count rules t same ok quota = grind (arith, rules_count, length-map)
+held_count rules t same ok quota = grind (arith, nat_tests, length-map, cases_Bool, none_gives, length-map-range_with_len, one_to_four)
 
 pub all_held : (rules : List Rule) (t : Members) (names : List (String Global)) (ds : List Data) → rule_views rules ≡ rules_of t
     → ds ≡ member_list t → map string_bytes names ≡ map name_from ds

@@ -10,7 +10,7 @@ use Rattle.std.proofs.lemmas.Fmt.{decimal_is_IsNumeral, length-decimal-le, decim
 use Rattle.std.proofs.lemmas.List.Folds.{list_any_none}
 use Rattle.std.proofs.lemmas.List.FromFn.{length-map-range_with_len, get_or-map-range_with_len, take-map-range_with_len}
 use Rattle.council_game.specs.Game.{is_plain, is_name, is_repeat}
-use Rattle.council_game.proofs.Shared.Games.{nowhere_below, position_nowhere}
+use Rattle.council_game.proofs.Shared.Games.{nowhere_below}
 use Rattle.council_file.specs.Bracket.{counted_names}
 
 plain_digit : (b : ℕ) → digit_value b < 10 → (nat_le 32 b && not (b == 127)) ≡ true
@@ -23,16 +23,13 @@ plain_digits (d ∷ ds) h = rw (plain_digit d h.0, plain_digits ds h.1) refl
 name_test : (ds : List ℕ) → AllDigits 10 ds → 0 < length ds → length ds ≤ 64 → is_name ds ≡ true
 name_test ds whole some few = rw (plain_digits ds whole) (grind (arith, nat_tests))
 
-decimal_name : (k : ℕ) → k ≤ 40 → is_name (decimal k) ≡ true
+pub decimal_name : (k : ℕ) → k ≤ 40 → is_name (decimal k) ≡ true
 decimal_name k few =
     let numeral = decimal_is_IsNumeral k (omega arith) in
     name_test (decimal k) numeral.0.1 numeral.0.0 (omega (arith, length-decimal-le 2 k (omega arith) (omega arith) (omega arith)))
 
-name_at : (n i : ℕ) (d : List ℕ) → i < n → get_or (counted_names n) i d ≡ decimal (1 + i)
+pub name_at : (n i : ℕ) (d : List ℕ) → i < n → get_or (counted_names n) i d ≡ decimal (1 + i)
 name_at n i d below = get_or-map-range_with_len decimal 1 n i (1 + i) d below refl
-
-pub names_pass : (n : ℕ) → n ≤ 40 → position (λ name. not (is_name name)) (counted_names n) ≡ None
-names_pass n few = grind (arith, position_nowhere, length-map-range_with_len, name_at, decimal_name)
 
 other_name : (j k : ℕ) → j ≤ 40 → k ≤ 40 → (j ≢ k) → pointwise nat_eq (decimal j) (decimal k) ≡ false
 other_name j k small few other =

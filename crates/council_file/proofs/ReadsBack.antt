@@ -1,6 +1,6 @@
 -- The notation of a rule is read as the game of this rule.
-use Rattle.std.proofs.Common.{◌≡◌, ℕ, ◌+◌, ◌*◌, ◌^◌, ◌<◌, ◌≤◌, suc, List, [], ◌∷◌, ◌++◌, length, get_or, codes, decimal, true, false, not, ◌||◌, nat_lt, Option, Some, None, option_map, ok_or, Ok, refl, ap, ◌∙◌, arith, append_assoc, length-append}
-use Rattle.std.specs.List.{AllByRecursion, list_any, position, range_with_len}
+use Rattle.std.proofs.Common.{◌≡◌, ℕ, ◌+◌, ◌*◌, ◌^◌, ◌<◌, ◌≤◌, suc, List, [], ◌∷◌, ◌++◌, length, get_or, codes, decimal, true, false, ◌||◌, nat_lt, Option, Some, None, option_map, ok_or, Ok, refl, ap, ◌∙◌, arith, append_assoc, length-append}
+use Rattle.std.specs.List.{AllByRecursion, position, range_with_len}
 use Rattle.std.specs.Str.Parse.{AllDigits}
 use Rattle.std.proofs.lemmas.Bool.{or_parts, le-leb, le-ltb, ltb-false}
 use Rattle.std.proofs.lemmas.Fmt.{decimal_is_IsNumeral, length-decimal-le}
@@ -10,9 +10,8 @@ use Rattle.std.proofs.lemmas.Grind.{common_steps}
 use Rattle.council_game.specs.declared.fault.GameFault.TheVariants.{Bracket}
 use Rattle.council_game.specs.Fault.{◌>>=◌}
 use Rattle.council_game.specs.Votes.{RuleView, rule_at}
-use Rattle.council_game.specs.Ranks.{places, rank_places}
-use Rattle.council_game.specs.Game.{GameView, IsGame, made_game, is_name, is_repeat, is_heavy, has_bad_quota}
-use Rattle.council_game.proofs.Shared.Games.{passed, none-any, light-weights, light-sum}
+use Rattle.council_game.specs.Game.{GameView, IsGame, made_game, is_heavy, has_bad_quota}
+use Rattle.council_game.proofs.Shared.Games.{passed, none-any, light-weights, light-sum, position_nowhere}
 use Rattle.council_file.specs.Bracket.{Symbol, number, opening, closing, comma, semicolon, symbols, value_of, weights_of, rule_of, is_bracket, begins_bracket, begins_with_digit, game_of_bracket, nameless_game}
 use Rattle.council_file.specs.File.{game_of}
 use Rattle.council_text.specs.Joined.{joined_numbers}
@@ -21,7 +20,7 @@ use Rattle.council_file.specs.Laws.{lone_game, NotationReadsBack}
 use Rattle.council_file.proofs.Digits.{symbols-number}
 use Rattle.council_text.proofs.Shared.Joins.{one-number, next-numbers}
 use Rattle.council_game.proofs.Shared.Games.{nowhere_below}
-use Rattle.council_file.proofs.Named.{names_pass, repeats_pass}
+use Rattle.council_file.proofs.Named.{repeats_pass, name_at, decimal_name}
 
 -- ---- numbers
 
@@ -86,13 +85,10 @@ weights_small n r fits = all_small r.weights (λ i lt. fits.light i (omega (arit
 tail_of : RuleView → List ℕ
 tail_of r = joined_numbers (codes ", ") r.weights ++ codes "]"
 
-regrouped_text : (a b c d e : List ℕ) → a ++ b ++ c ++ d ++ e ≡ a ++ (b ++ (c ++ (d ++ e)))
-regrouped_text a b c d e = simp append_assoc
-
 text_symbols : (r : RuleView) → r.quota < 10 ^ 18
     → symbols (notation r) ≡ opening ∷ number (decimal r.quota) ∷ semicolon ∷ symbols (tail_of r)
 unfolding notation tail_of symbols
-text_symbols r small = grind (arith, nat_tests, common_steps, regrouped_text, symbols-decimal)
+text_symbols r small = grind (arith, nat_tests, common_steps, symbols-decimal)
 
 tail_weights : (ws : List ℕ) → 0 < length ws → AllByRecursion (λ v. v < 10 ^ 18) ws
     → weights_of (symbols (joined_numbers (codes ", ") ws ++ codes "]")) ≡ Some ws
@@ -121,13 +117,6 @@ text_short n r fits = grind (arith, nat_tests, common_steps, lengths_of_five, sh
 
 -- ---- the game
 
-made_by : (names : List (List ℕ)) (r : RuleView) → (nat_lt (length names) 1 || nat_lt 40 (length names)) ≡ false
-    → position (λ name. not (is_name name)) names ≡ None → position (is_repeat names) (places names) ≡ None
-    → position (is_heavy (r ∷ [])) (range_with_len 0 (length names)) ≡ None → list_any has_bad_quota (r ∷ []) ≡ false
-    → made_game None names (r ∷ []) ≡ Ok (record { title = None; names = names; rules = r ∷ []; ranks = rank_places r.weights })
-unfolding made_game
-made_by names r members named other light quota = rw (members, named, other, light, quota) refl
-
 count_passes : (n m : ℕ) → m ≡ n → 0 < n → n ≤ 40 → (nat_lt m 1 || nat_lt 40 m) ≡ false
 count_passes n m same some few = rw (le-ltb m 1 (omega arith), le-ltb 40 m (omega arith)) refl
 
@@ -135,7 +124,8 @@ weights_pass : (n m : ℕ) (r : RuleView) → m ≡ n → Fits n r → position 
 weights_pass n m r same fits = grind (arith, nowhere_below, le-ltb)
 
 made : (n : ℕ) (r : RuleView) → Fits n r → nameless_game r ≡ Ok (lone_game r)
-made n r fits = grind (arith, length-map-range_with_len, made_by, count_passes, names_pass, repeats_pass, weights_pass)
+unfolding made_game
+made n r fits = grind (arith, nat_tests, length-map-range_with_len, count_passes, repeats_pass, weights_pass, position_nowhere, name_at, decimal_name)
 
 bracket_game : (text : List ℕ) (r : RuleView) → rule_of (symbols text) ≡ Some r → game_of_bracket text ≡ nameless_game r
 unfolding game_of_bracket

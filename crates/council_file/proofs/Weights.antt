@@ -50,10 +50,6 @@ one_more : (text left ps : List Symbol) (front : List ℕ) (n : ℕ) → Reads t
     → Reads text (front ++ n ∷ []) ps
 one_more text left ps front n before now = grind (arith, by_number, joined_front)
 
-all_read : (text left : List Symbol) (front : List ℕ) (n : ℕ) → Reads text front left → first_number left ≡ Some (n, closing ∷ [])
-    → Some (front ++ n ∷ []) ≡ weights_of text
-all_read text left front n before now = sym (before ∙ ap (option_map (λ ws. front ++ ws)) (by_number left ∙ ap from_number now))
-
 pub no_number : (text left : List Symbol) (front : List ℕ) → Reads text front left → None ≡ first_number left → None ≡ weights_of text
 no_number text left front before now = sym (before ∙ ap (option_map (λ ws. front ++ ws)) (by_number left ∙ ap from_number (sym now)))
 
@@ -74,7 +70,7 @@ after_comma text left rest ps front n t before now is comma_is = grind (arith, o
 
 pub after_closing : (text left rest ps : List Symbol) (front : List ℕ) (n : ℕ) (t : Token) → Reads text front left
     → Some (n, rest) ≡ first_number left → rest ≡ symbol t ∷ ps → t ≡ Closing → ps ≡ [] → Some (front ++ n ∷ []) ≡ weights_of text
-after_closing text left rest ps front n t before now is closing_is end = grind (arith, all_read)
+after_closing text left rest ps front n t before now is closing_is end = grind (arith, by_number)
 
 pub after_closing_more : (text left rest ps us : List Symbol) (front : List ℕ) (n : ℕ) (t u : Token) → Reads text front left
     → Some (n, rest) ≡ first_number left → rest ≡ symbol t ∷ ps → t ≡ Closing → ps ≡ symbol u ∷ us → None ≡ weights_of text
@@ -115,21 +111,11 @@ one_quota : (o : Option ℕ) (ps : List Symbol)
 one_quota None ps = refl
 one_quota (Some n) ps = refl
 
-rule_by_steps : (ps : List Symbol) → rule_of ps ≡ option_and_then behind_opening (after_opening ps)
+pub rule_by_steps : (ps : List Symbol) → rule_of ps ≡ option_and_then behind_opening (after_opening ps)
 unfolding rule_of
 rule_by_steps (opening ∷ number ds ∷ semicolon ∷ ps) = one_quota (value_of ds) ps
 rule_by_steps (opening ∷ number ds ∷ ps) = no_semicolon (value_of ds) ps refl
 rule_by_steps ps = refl
-
-pub rule_without_opening : (ps : List Symbol) → after_opening ps ≡ None → None ≡ rule_of ps
-rule_without_opening ps h = sym (rule_by_steps ps ∙ ap (option_and_then behind_opening) h)
-
-pub rule_without_quota : (ps qs : List Symbol) → after_opening ps ≡ Some qs → first_number qs ≡ None → None ≡ rule_of ps
-rule_without_quota ps qs h k = sym (rule_by_steps ps ∙ ap (option_and_then behind_opening) h ∙ ap (option_and_then behind_quota) k)
-
-pub rule_without_semicolon : (ps qs rs : List Symbol) (q : ℕ) → after_opening ps ≡ Some qs → first_number qs ≡ Some (q, rs)
-    → after_semicolon rs ≡ None → None ≡ rule_of ps
-rule_without_semicolon ps qs rs q h k l = grind (arith, rule_by_steps)
 
 pub rule_is : (ps qs rs ts : List Symbol) (q : ℕ) (weights : Option (List ℕ)) → after_opening ps ≡ Some qs → first_number qs ≡ Some (q, rs)
     → after_semicolon rs ≡ Some ts → weights ≡ weights_of ts → option_map (λ ws. record { quota = q; weights = ws }) weights ≡ rule_of ps

@@ -1,7 +1,7 @@
 -- The places of a coalition, one by one, and what their members add to a line.
 use Rattle.std.proofs.lemmas.Grind.{common_steps}
 use Rattle.std.proofs.Common.{◌≡◌, ℕ, zero, suc, ◌+◌, ◌-◌, ◌<◌, ◌≤◌, ◌++◌, Bool, true, false, cond, List, [], ◌∷◌, length, filter, take, drop, slice_index, refl, sym, ap, ◌∙◌, arith, inl, inr}
-use Rattle.std.specs.List.{flat_map, range_with_len}
+use Rattle.std.specs.List.{range_with_len}
 use Rattle.std.proofs.lemmas.Bool.{cases_lt, cond-true, cond-false}
 use Rattle.std.proofs.lemmas.Grind.{flat_map-append}
 use Rattle.std.proofs.lemmas.List.{map-append, map-id, append-nil, length-map, get_or_past, take-append-drop}
@@ -15,7 +15,7 @@ use Rattle.council_game.proofs.Shared.Games.{votes-are}
 use Rattle.council_game.proofs.Shared.Meanings.{weighs-its-members}
 use Rattle.council_game.proofs.Shared.Weights.{weight-le}
 use Rattle.power_index.proofs.Shared.Sums.{length-filter-le}
-use Rattle.council_report.specs.Lines.{with_tab, names_of}
+use Rattle.council_report.specs.Lines.{with_tab}
 use Rattle.council_report.specs.Inner.SharedLine.{places_before, name_at, fields_of, weights_under, weight_of_places, HasNoneFrom, SameBefore}
 use Rattle.council_report.proofs.Bounds.{with_tab-fits, each-field, name-fits}
 
@@ -81,10 +81,6 @@ fields-more g ps p = fields-append g ps (p ∷ []) ∙ ap (λ (t : List ℕ). fi
 pub fields-none : (g : GameView) → fields_of g [] ≡ []
 unfolding fields_of
 fields-none g = refl
-
-pub fields-all : (g : GameView) (c : ℕ) → fields_of g (places_before (length g.names) c (length g.names)) ≡ flat_map with_tab (names_of g c)
-unfolding fields_of places_before
-fields-all g c = refl
 
 pub fields-fit : (g : GameView) → IsGame g → (c k : ℕ) → k ≤ 40 → length (fields_of g (places_before (length g.names) c k)) ≤ 3400
 unfolding fields_of

@@ -1,5 +1,5 @@
 -- A line at its end, one place more, and cut at a place.
-use Rattle.std.proofs.Common.{◌≡◌, ℕ, ◌+◌, ◌^◌, ◌<◌, ◌≤◌, ◌++◌, true, false, List, [], ◌∷◌, length, take, get_or, Vec, set, arith, length-append}
+use Rattle.std.proofs.Common.{◌≡◌, ℕ, ◌+◌, ◌^◌, ◌<◌, ◌≤◌, ◌++◌, true, List, [], ◌∷◌, length, take, get_or, Vec, set, arith, length-append}
 use Rattle.std.specs.Global.{Global}
 use Rattle.std.specs.Vec.{vec_capacity}
 use Rattle.std.specs.List.{flat_map}
@@ -15,8 +15,8 @@ use Rattle.council_report.specs.declared.seat.Seat.{Seat}
 use Rattle.council_report.specs.declared.subtotal.Subtotal.{Subtotal}
 use Rattle.council_report.specs.declared.shared_line.SharedLine.{SharedLine}
 use Rattle.council_report.specs.Lines.{with_tab, names_of}
-use Rattle.council_report.specs.Inner.SharedLine.{places_before, IsSeat, AreSeats, IsSubtotal, IsLine, IsWholeLine, SameBefore}
-use Rattle.council_report.proofs.Beginnings.{before-none, before-in, before-out, before-same, before-front, before-all, fields-none, fields-append, fields-more, fields-all, fields-fit, weights-none, weights-more, weights-all, weights-light}
+use Rattle.council_report.specs.Inner.SharedLine.{places_before, IsSeat, AreSeats, IsSubtotal, IsLine, IsWholeLine, SameBefore, fields_of}
+use Rattle.council_report.proofs.Beginnings.{before-none, before-in, before-same, before-front, before-all, fields-none, fields-append, fields-more, fields-fit, weights-none, weights-more, weights-all, weights-light}
 
 -- what is read past the subtotals
 abbrev pub no_subtotal : Subtotal
@@ -33,17 +33,11 @@ line-kept g line names k c d is le same cut room =
     grind (arith, common_steps, take-append_seam, before-same, fields-append)
 
 -- the subtotals with one more
-subtotals-more : (g : GameView) (c : ℕ) (sums : List Subtotal) (k : ℕ) (next : Subtotal) → length sums ≡ 41 → k < 40 →
+pub subtotals-more : (g : GameView) (c : ℕ) (sums : List Subtotal) (k : ℕ) (next : Subtotal) → length sums ≡ 41 → k < 40 →
     ((j : ℕ) (d : Subtotal) → j ≤ k → IsSubtotal g (places_before (length g.names) c j) (get_or sums j d)) →
     IsSubtotal g (places_before (length g.names) c (k + 1)) next →
     (j : ℕ) (d : Subtotal) → j ≤ k + 1 → IsSubtotal g (places_before (length g.names) c j) (get_or (set sums (k + 1) next) j d)
 subtotals-more g c sums k next long few each last j d le = grind (arith, nat_tests, cases_lt, get_or-set_other, get_or-set_same)
-
--- the next place, which is not in
-pub line-passed : (g : GameView) (line : SharedLine) (d : Subtotal) → IsLine g line → line.end < length g.names
-    → has (length g.names) line.end line.coalition ≡ false →
-    IsLine g (record line { end = line.end + 1; subtotals = set line.subtotals (line.end + 1) (get_or line.subtotals line.end d) })
-line-passed g line d is more out = grind (arith, nat_tests, common_steps, before-out, length-set, subtotals-more)
 
 -- a subtotal with the seat of place p more
 pub subtotal-more : (g : GameView) (ps : List ℕ) (p : ℕ) (now next : Subtotal) (seat : Seat) → IsSubtotal g ps now → IsSeat g p seat →
@@ -79,7 +73,8 @@ added-short g line seat is more in' seat-is =
 
 -- ---- the whole line
 pub whole-names : (g : GameView) (c : ℕ) (line : SharedLine) → IsWholeLine g c line → line.names.items ≡ flat_map with_tab (names_of g c)
-whole-names g c line w = grind (arith, nat_tests, before-all, fields-all)
+unfolding fields_of places_before
+whole-names g c line w = grind (arith, nat_tests, before-all)
 
 pub whole_weight : (g : GameView) (c : ℕ) (line : SharedLine) (d : Subtotal) → IsWholeLine g c line → (r : ℕ) → r < length g.rules
     → get_or (get_or line.subtotals line.end d).weights r 0 ≡ weight (rule_at (votes_of g).rules r).weights c

@@ -1,16 +1,16 @@
 use Rattle.std.proofs.Common.{sym, Some, None, arith}
 use Rattle.std.proofs.lemmas.Grind.{common_steps}
-use Rattle.council_file.proofs.Weights.{rule_without_opening, rule_without_quota, rule_without_semicolon, rule_is}
+use Rattle.council_file.proofs.Weights.{rule_is, rule_by_steps}
 use Rattle.council_file.proofs.bracket.bracket_rule.Goals as goal
 
 pub returns-then-not-take_opening : goal.returns-then-not-take_opening
-returns-then-not-take_opening c = rw (← c.new-scanner.ensures) (rule_without_opening c.new-scanner.result c.if-not-take_opening.ensures)
+returns-then-not-take_opening c = grind (arith, rule_by_steps)
 
 pub returns-in_default : goal.returns-in_default
-returns-in_default c = grind (arith, common_steps, rule_without_quota)
+returns-in_default c = grind (arith, common_steps, rule_by_steps)
 
 pub returns-then-not-take_semicolon : goal.returns-then-not-take_semicolon
-returns-then-not-take_semicolon c = grind (arith, common_steps, rule_without_semicolon)
+returns-then-not-take_semicolon c = grind (arith, common_steps, rule_by_steps)
 
 pub returns-in-Some-2 : goal.returns-in-Some-2
 returns-in-Some-2 c = rw (← c.new-scanner.ensures)

@@ -1,5 +1,10 @@
-use Rattle.council_report.proofs.SharedLines.{line-passed, no_subtotal}
+use Rattle.std.proofs.lemmas.List.{length-set}
+use Rattle.council_report.proofs.Beginnings.{before-out}
+use Rattle.std.proofs.lemmas.Grind.{common_steps}
+use Rattle.std.proofs.lemmas.Bool.Decides.{nat_tests}
+use Rattle.std.proofs.Common.{arith}
+use Rattle.council_report.proofs.SharedLines.{no_subtotal, subtotals-more}
 use Rattle.council_report.proofs.shared_line.SharedLine.pass.Goals as goal
 
 pub returns-clause-line : goal.returns-clause-line
-returns-clause-line c = line-passed c.args.game.now c.args.self.now no_subtotal c.requires.line c.requires.more c.requires.out
+returns-clause-line c = grind (arith, nat_tests, common_steps, no_subtotal, before-out, length-set, subtotals-more)
