@@ -80,9 +80,8 @@ sum_up_to f k hs a (suc m) l =
     let held : get_or (shares_by first k) h [] ≡ share_of first h = grind (arith, get_or-map-range_with_len) in
     let before = sum_up_to f k hs a m (omega arith) in
     let dealt = deal_from first h 0 k h (omega arith) below in
-    let given = sum_by-set (sum_by f) (shares_by first k) h (share_of first h ++ length first ∷ []) []
-    (omega (arith, length-map-range_with_len (share_of first) 0 k)) in
-    let next = rw add-one at (sum_by-range-more f m) in grind (arith, sum_by_push)
+    let next = rw add-one at (sum_by-range-more f m) in
+    grind (arith, common_steps, sum_by_push, sum_by-set, length-map-range_with_len)
 
 -- any sum over the shares is the sum over the slices
 pub shares_sum : (f : ℕ → ℕ) (k : ℕ) (hs : List ℕ) → All (λ h. h < k) hs

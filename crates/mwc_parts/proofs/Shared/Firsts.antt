@@ -110,10 +110,9 @@ pub each_within : {n k : ℕ} {early stopped : Bool} {marks : List (Option ℕ)}
     → All (λ (s : List ℕ). coalition_count g s ≤ coalition_count g (range_with_len 0 n)) (given_slices desks)
 each_within {n} g desks deal =
     let d = deal.in_order in
-    let a : sum_by (coalition_count g) (given_slices desks) ≡ coalition_count g (range_with_len 0 (length d.holders)) =
-    ap (sum_by (coalition_count g)) d.given_are ∙ shares_sum (λ j. length (g.slice j)) (length desks) d.holders d.by_workers in
     let m : coalition_count g (range_with_len 0 (length d.holders)) ≤ coalition_count g (range_with_len 0 n) =
-    sum_by-range-le (λ j. length (g.slice j)) (length d.holders) n (omega arith) in grind (arith, get_or-le-sum_by)
+    sum_by-range-le (λ j. length (g.slice j)) (length d.holders) n (omega arith) in
+    grind (arith, common_steps, get_or-le-sum_by, shares_sum)
 
 -- the first slice that a worker holds
 begins_with : (w j : ℕ) (hs : List ℕ) (m : ℕ) → j + m ≡ w → m < length hs → ((v : ℕ) → v < m + 1 → get_or hs v 0 ≡ j + v) → (rest : List ℕ)
