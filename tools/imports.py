@@ -4,7 +4,7 @@
     tools/imports.py NAME..
 
 Modules of one library stand together in a line, as `use Rattle.mwc_walk.proofs.{Rest.rest-is, Rules.same-weights}`; what std's
-`Common` has comes from there. Where a crate has a file `proofs/Words.antt`, the words of other libraries and of the definitions
+`Common` has comes from there. Where a crate has a file `proofs/Imports.antt`, the words of other libraries and of the definitions
 that two or more files of proofs take go through it, and it is written anew. `rt check` judges what comes of it.
 """
 import collections
@@ -102,16 +102,16 @@ class Proofs:
 
     def __init__(self, crate, common):
         self.crate, self.home = crate, f"Rattle.{crate}.proofs"
-        self.words = f"{TOP}/crates/{crate}/proofs/Words.antt"
+        self.words = f"{TOP}/crates/{crate}/proofs/Imports.antt"
         through = {name: module for line in read(self.words).split("\n") for module, name in taken(line)} if os.path.exists(self.words) else {}
         self.texts, self.uses = {}, {}
         for path in glob.glob(f"{TOP}/crates/{crate}/proofs/**/*.antt", recursive=True):
-            if os.path.basename(path) in ("Lib.antt", "Words.antt"):
+            if os.path.basename(path) in ("Lib.antt", "Imports.antt"):
                 continue
             self.texts[path] = text = read(path)
             open_here = opened(text)
             pairs = [it for line in text.split("\n") if not line.startswith("pub") for it in taken(line)]
-            pairs = [(through[name] if module == f"{self.home}.Words" else module, name) for module, name in pairs]
+            pairs = [(through[name] if module == f"{self.home}.Imports" else module, name) for module, name in pairs]
             self.uses[path] = [
                 (COMMON if module.startswith("Rattle.std.") and name in common and name not in open_here else module, name) for module, name in pairs
             ]
@@ -131,7 +131,7 @@ class Proofs:
         shared = self.shared() if has_words else {}
         before = after = 0
         for path, text in self.texts.items():
-            pairs = [(f"{self.home}.Words" if shared.get(name) == module else module, name) for module, name in self.uses[path]]
+            pairs = [(f"{self.home}.Imports" if shared.get(name) == module else module, name) for module, name in self.uses[path]]
             lines = text.split("\n")
             mine = [k for k, line in enumerate(lines) if line.startswith("use ") and taken(line)]
             if mine:

@@ -1,4 +1,4 @@
-//! Coalitions, and what every crate shares: want of memory, and the limits. `council_game` passes them on.
+//! Coalitions, and what every crate shares: lists by place, want of memory, and the limits. `council_game` passes them on.
 #![tactic(auto)]
 
 mod coalition;

@@ -1,7 +1,6 @@
 -- What a buffer shows.
-use Rattle.std.proofs.Common.{◌≡◌, ◌≤◌, ◌++◌, ◌∙◌, ℕ, List, [], length, take, drop, min, ap, sym, arith}
-use Rattle.std.proofs.lemmas.List.{take_all, take_min, drop_all, drop_min, length-take-le}
-use Rattle.std.proofs.Math.Nat.{min_comm}
+use Rattle.std.proofs.Common.{◌≡◌, ◌≤◌, ◌++◌, ◌∙◌, ℕ, List, [], length, take, drop, min, ap, sym, arith, take_all, length-take-le}
+use Rattle.std.proofs.{Math.Nat.min_comm, lemmas.List.take_min, lemmas.List.drop_all, lemmas.List.drop_min}
 use Rattle.council_c.specs.Answer.{Shows}
 
 -- a copy of as much as fits

@@ -1,15 +1,10 @@
 -- The symbols of a text, from its front.
-use Rattle.std.proofs.lemmas.Grind.{common_steps}
-use Rattle.std.proofs.lemmas.List.{length-map, map_push, take_all, take-append-drop}
-use Rattle.std.proofs.lemmas.List.FromFn.{map-range_with_len_more, length-map-range_with_len}
-use Rattle.std.specs.List.{range_with_len}
-use Rattle.std.proofs.Common.{String, Global, string_bytes, map, decimal, ◌≡◌, ℕ, ◌+◌, ◌-◌, ◌*◌, ◌^◌, ◌<◌, ◌≤◌, zero, suc, List, [], ◌∷◌, ◌++◌, length, take, drop, get_or, Bool, true, false, refl, sym, ap, ◌∙◌, arith}
-use Rattle.std.specs.Char.{is_ascii_digit, digit_value}
-use Rattle.std.specs.Str.Parse.{AllDigits, digits_value}
-use Rattle.std.proofs.lemmas.Bool.{false≢true}
-use Rattle.std.proofs.lemmas.Bool.Decides.{nat_tests}
+use Rattle.std.proofs.lemmas.{Int.Digits.digits_value_more, List.FromFn.map-range_with_len_more, List.FromFn.length-map-range_with_len}
+use Rattle.std.proofs.lemmas.{Bool.false≢true, Bool.Decides.nat_tests, Grind.common_steps, List.length-map, List.map_push}
+use Rattle.std.proofs.Common.{take_all, take-append-drop, String, Global, string_bytes, map, decimal, ◌≡◌, ℕ, ◌+◌, ◌-◌, ◌*◌, ◌^◌, ◌<◌, ◌≤◌}
+use Rattle.std.proofs.Common.{zero, suc, List, [], ◌∷◌, ◌++◌, length, take, drop, get_or, Bool, true, false, refl, sym, ap, ◌∙◌, arith}
+use Rattle.std.specs.{Char.is_ascii_digit, Char.digit_value, List.range_with_len, Str.Parse.AllDigits, Str.Parse.digits_value}
 use Rattle.std.proofs.lemmas.Str.Parse.{digit_at, digits_value_short, digits_value-take-le, numerals_by_value, tells_digits}
-use Rattle.std.proofs.lemmas.Int.Digits.{digits_value_more}
 use Rattle.council_file.specs.Bracket.{number, mark, symbols, is_blank, begins_with_digit, with_digit}
 use Rattle.council_file.specs.Inner.Scan.{begins_with_blank}
 

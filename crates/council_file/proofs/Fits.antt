@@ -1,18 +1,14 @@
 -- The rules of a tree that passed the checks fit a game.
-use Rattle.std.proofs.Common.{◌≡◌, ℕ, ◌<◌, ◌≤◌, Bool, true, false, List, [], length, map, Option, Some, None, is_some, codes, refl, sym, arith, All, inl, inr, String, Global, string_bytes}
-use Rattle.std.specs.List.{range_with_len}
-use Rattle.std.specs.Option.{option_map_or}
-use Rattle.std.proofs.lemmas.Bool.Decides.{nat_tests}
-use Rattle.std.proofs.lemmas.Bool.{cases_Bool, false≢true}
-use Rattle.std.proofs.lemmas.List.FromFn.{length-map-range_with_len}
+use Rattle.std.proofs.Common.{◌≡◌, ℕ, ◌<◌, ◌≤◌, Bool, true, false, List, [], length, map, Option, Some, None, is_some, codes, refl, sym}
+use Rattle.std.proofs.Common.{arith, All, inl, inr, String, Global, string_bytes}
+use Rattle.std.specs.{List.range_with_len, Option.option_map_or}
+use Rattle.std.proofs.lemmas.List.{length-map, Elements.All-nil, Elements.All-cons, Elements.All-map, FromFn.length-map-range_with_len}
+use Rattle.std.proofs.lemmas.Bool.{cases_Bool, false≢true, Decides.nat_tests}
 use Rattle.toml.specs.Data.{Data, Members}
-use Rattle.council_game.specs.declared.rule.Rule.{Rule}
-use Rattle.council_game.specs.Votes.{RuleView}
-use Rattle.council_game.specs.Rules.{rule_views}
-use Rattle.std.proofs.lemmas.List.{length-map}
-use Rattle.std.proofs.lemmas.List.Elements.{All-nil, All-cons, All-map}
+use Rattle.council_game.specs.{Rules.rule_views, Votes.RuleView, declared.rule.Rule.Rule}
 use Rattle.council_game.proofs.Shared.RuleLists.{held_full}
-use Rattle.council_file.specs.File.{has_key, elements_at, are_quotas, breaks_rules, lacks_quota, member_list, only_rule, rule_from, rules_of, name_from}
+use Rattle.council_file.specs.File.{has_key, elements_at, are_quotas, breaks_rules, lacks_quota, member_list, only_rule, rule_from}
+use Rattle.council_file.specs.File.{rules_of, name_from}
 
 none_gives : (f : Data → Bool) (o : Option Data) (d : Bool) → is_some o ≡ false → option_map_or f o d ≡ d
 none_gives f None d h = refl

@@ -1,9 +1,6 @@
 -- Bytes that a reader gave, where all of them are known.
-use Rattle.std.proofs.Common.{◌≡◌, ℕ, List, Option, Some, None, arith}
-use Rattle.std.proofs.lemmas.List.{append-nil, length-append}
-use Rattle.std.proofs.lemmas.Bool.{lt-ltb}
-use Rattle.council_file.specs.File.{game_of}
-use Rattle.council_file.specs.Reads.{Gave}
+use Rattle.std.proofs.Common.{◌≡◌, ℕ, List, Option, Some, None, arith, append-nil, length-append, lt-ltb}
+use Rattle.council_file.specs.{File.game_of, Reads.Gave}
 
 pub known_bytes : (all bytes : List ℕ) (after : Option (List ℕ)) → Gave (Some all) after bytes → game_of bytes ≡ game_of all
 unfolding game_of

@@ -1,14 +1,10 @@
 -- The game of a rule without names passes the checks of a game.
-use Rattle.std.proofs.Common.{◌≡◌, ◌≢◌, ℕ, ◌+◌, ◌<◌, ◌≤◌, List, [], ◌∷◌, length, get_or, decimal, true, false, not, ◌&&◌, ◌==◌, nat_le, nat_eq, None, inl, inr, refl, sym, arith}
-use Rattle.std.specs.List.{position, range_with_len}
-use Rattle.std.specs.Char.{digit_value}
-use Rattle.std.specs.Str.Parse.{AllDigits}
-use Rattle.std.specs.Cmp.Lexicographic.{pointwise, same_text}
-use Rattle.std.proofs.lemmas.Bool.{cases_Bool}
-use Rattle.std.proofs.lemmas.Bool.Decides.{nat_tests}
-use Rattle.std.proofs.lemmas.Fmt.{decimal_is_IsNumeral, length-decimal-le, decimal_injective}
-use Rattle.std.proofs.lemmas.List.Folds.{list_any_none}
+use Rattle.std.proofs.Common.{◌≡◌, ◌≢◌, ℕ, ◌+◌, ◌<◌, ◌≤◌, List, [], ◌∷◌, length, get_or, decimal, true, false, not, ◌&&◌, ◌==◌, nat_le}
+use Rattle.std.proofs.Common.{nat_eq, None, inl, inr, refl, sym, arith, position}
+use Rattle.std.specs.{Char.digit_value, Cmp.Lexicographic.pointwise, Cmp.Lexicographic.same_text, List.range_with_len, Str.Parse.AllDigits}
 use Rattle.std.proofs.lemmas.List.FromFn.{length-map-range_with_len, get_or-map-range_with_len, take-map-range_with_len}
+use Rattle.std.proofs.lemmas.{Fmt.decimal_is_IsNumeral, Fmt.length-decimal-le, Fmt.decimal_injective, List.Folds.list_any_none}
+use Rattle.std.proofs.lemmas.Bool.{cases_Bool, Decides.nat_tests}
 use Rattle.council_game.specs.Game.{is_plain, is_name, is_repeat}
 use Rattle.council_game.proofs.Shared.Games.{nowhere_below}
 use Rattle.council_file.specs.Bracket.{counted_names}

@@ -1,17 +1,12 @@
 -- No bytes have the fault Read: it is that of a reader.
 use Rattle.std.proofs.lemmas.Result.{err_from_is_err_and}
 use Rattle.std.proofs.Common.{◌+◌, ◌≢◌, ◌∷◌, [], ℕ, Bool, true, false, List, Option, Some, None, Result, Ok, Err, subst, length, not, IfErr}
-use Rattle.std.specs.Prelude.{ok_or, if◌then◌else◌}
-use Rattle.std.specs.Option.{option_map_or}
-use Rattle.std.specs.Str.{is_utf8}
-use Rattle.std.proofs.Common.{arith}
-use Rattle.toml.specs.Data.{Data, Members, as_str}
-use Rattle.toml.specs.Parse.{parse_document}
-use Rattle.council_game.specs.declared.fault.GameFault.{GameFault}
+use Rattle.std.proofs.Common.{ok_or, if◌then◌else◌, arith}
+use Rattle.std.specs.{Option.option_map_or, Str.is_utf8}
+use Rattle.toml.specs.{Data.Data, Data.Members, Data.as_str, Parse.parse_document}
+use Rattle.council_game.specs.{Game.is_title, Game.made_game, Votes.RuleView, declared.fault.GameFault.GameFault}
 use Rattle.council_game.specs.declared.fault.GameFault.TheVariants.{Read, Text, Title, Bracket}
 use Rattle.council_game.specs.Fault.{◌>>=◌, refuse, refuse_at, Gives}
-use Rattle.council_game.specs.Votes.{RuleView}
-use Rattle.council_game.specs.Game.{is_title, made_game}
 use Rattle.council_file.specs.Bracket.{counted_names, game_of_bracket, symbols, rule_of}
 use Rattle.council_file.specs.File.{game_of_tree, title_from, tree_of}
 

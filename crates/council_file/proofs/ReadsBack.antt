@@ -1,26 +1,19 @@
 -- The notation of a rule is read as the game of this rule.
-use Rattle.std.proofs.Common.{◌≡◌, ℕ, ◌+◌, ◌*◌, ◌^◌, ◌<◌, ◌≤◌, suc, List, [], ◌∷◌, ◌++◌, length, get_or, codes, decimal, true, false, ◌||◌, nat_lt, Option, Some, None, option_map, ok_or, Ok, refl, ap, ◌∙◌, arith, append_assoc, length-append}
-use Rattle.std.specs.List.{AllByRecursion, position, range_with_len}
-use Rattle.std.specs.Str.Parse.{AllDigits}
-use Rattle.std.proofs.lemmas.Bool.{or_parts, le-leb, le-ltb, ltb-false}
-use Rattle.std.proofs.lemmas.Fmt.{decimal_is_IsNumeral, length-decimal-le}
-use Rattle.std.proofs.lemmas.List.FromFn.{length-map-range_with_len}
-use Rattle.std.proofs.lemmas.Bool.Decides.{nat_tests}
-use Rattle.std.proofs.lemmas.Grind.{common_steps}
-use Rattle.council_game.specs.declared.fault.GameFault.TheVariants.{Bracket}
-use Rattle.council_game.specs.Fault.{◌>>=◌}
-use Rattle.council_game.specs.Votes.{RuleView, rule_at}
+use Rattle.std.proofs.Common.{◌≡◌, ℕ, ◌+◌, ◌*◌, ◌^◌, ◌<◌, ◌≤◌, suc, List, [], ◌∷◌, ◌++◌, length, get_or, codes, decimal, true, false, ◌||◌}
+use Rattle.std.proofs.Common.{nat_lt, Option, Some, None, option_map, ok_or, Ok, refl, ap, ◌∙◌, arith, append_assoc, length-append}
+use Rattle.std.proofs.Common.{position, le-leb, le-ltb, ltb-false}
+use Rattle.std.specs.{List.AllByRecursion, List.range_with_len, Str.Parse.AllDigits}
+use Rattle.std.proofs.lemmas.{Fmt.decimal_is_IsNumeral, Fmt.length-decimal-le, Grind.common_steps, List.FromFn.length-map-range_with_len}
+use Rattle.std.proofs.lemmas.Bool.{or_parts, Decides.nat_tests}
+use Rattle.council_game.specs.{Fault.◌>>=◌, Votes.RuleView, Votes.rule_at, declared.fault.GameFault.TheVariants.Bracket}
 use Rattle.council_game.specs.Game.{GameView, IsGame, made_game, is_heavy, has_bad_quota}
-use Rattle.council_game.proofs.Shared.Games.{passed, none-any, light-weights, light-sum, position_nowhere}
-use Rattle.council_file.specs.Bracket.{Symbol, number, opening, closing, comma, semicolon, symbols, value_of, weights_of, rule_of, is_bracket, begins_bracket, begins_with_digit, game_of_bracket, nameless_game}
-use Rattle.council_file.specs.File.{game_of}
-use Rattle.council_text.specs.Joined.{joined_numbers}
-use Rattle.council_text.specs.Notation.{notation}
-use Rattle.council_file.specs.Laws.{lone_game, NotationReadsBack}
-use Rattle.council_file.proofs.Digits.{symbols-number}
+use Rattle.council_game.proofs.Shared.Games.{passed, none-any, light-weights, light-sum, position_nowhere, nowhere_below}
+use Rattle.council_file.specs.Bracket.{Symbol, number, opening, closing, comma, semicolon, symbols, value_of, weights_of, rule_of}
+use Rattle.council_file.specs.Bracket.{is_bracket, begins_bracket, begins_with_digit, game_of_bracket, nameless_game}
+use Rattle.council_file.specs.{File.game_of, Laws.lone_game, Laws.NotationReadsBack}
+use Rattle.council_text.specs.{Joined.joined_numbers, Notation.notation}
+use Rattle.council_file.proofs.{Digits.symbols-number, Named.repeats_pass, Named.name_at, Named.decimal_name}
 use Rattle.council_text.proofs.Shared.Joins.{one-number, next-numbers}
-use Rattle.council_game.proofs.Shared.Games.{nowhere_below}
-use Rattle.council_file.proofs.Named.{repeats_pass, name_at, decimal_name}
 
 -- ---- numbers
 

@@ -1,10 +1,8 @@
 -- The tree of a text.
-use Rattle.std.proofs.Common.{◌≡◌, List, ℕ, Some, Ok, Err, refl, inl, inr, arith}
-use Rattle.std.specs.Str.{IsUtf8, is_utf8}
-use Rattle.std.proofs.lemmas.Bool.{cases_Bool}
-use Rattle.std.proofs.lemmas.Str.{IsUtf8-from_is_utf8, is_utf8-from_IsUtf8}
-use Rattle.toml.specs.Data.{Members}
-use Rattle.toml.specs.Parse.{parse_document}
+use Rattle.std.proofs.Common.{◌≡◌, List, ℕ, Some, Ok, Err, refl, inl, inr, arith, IsUtf8}
+use Rattle.std.specs.Str.{is_utf8}
+use Rattle.std.proofs.lemmas.{Bool.cases_Bool, Str.IsUtf8-from_is_utf8, Str.is_utf8-from_IsUtf8}
+use Rattle.toml.specs.{Data.Members, Parse.parse_document}
 use Rattle.council_game.specs.declared.fault.GameFault.TheVariants.{Text}
 use Rattle.council_file.specs.File.{tree_of}
 

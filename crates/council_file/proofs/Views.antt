@@ -1,16 +1,10 @@
 -- A table and an array of toml as lists.
 use Rattle.std.proofs.Common.{◌≡◌, ℕ, List, [], ◌∷◌, ◌++◌, ◌+◌, map, String, Global, string_bytes, nat_eq, not, refl, ap}
-use Rattle.std.specs.Map.{keys_of}
-use Rattle.toml.specs.Data.{Data}
-use Rattle.toml.specs.View.{view, items_view, members_view}
-use Rattle.toml.specs.declared.value.Value.{Value}
+use Rattle.std.specs.{Cmp.Lexicographic.pointwise, List.list_any, List.range_with_len, Map.keys_of}
+use Rattle.toml.specs.{Data.Data, View.view, View.items_view, View.members_view, declared.value.Value.Value}
 use Rattle.council_file.specs.File.{elements, keys, has_other_key}
-use Rattle.std.specs.List.{list_any, range_with_len}
 use Rattle.std.proofs.lemmas.List.{map_push}
-use Rattle.council_game.specs.declared.rule.Rule.{Rule}
-use Rattle.council_game.specs.Votes.{RuleView}
-use Rattle.council_game.specs.Rules.{rule_view, rule_views}
-use Rattle.std.specs.Cmp.Lexicographic.{pointwise}
+use Rattle.council_game.specs.{Rules.rule_view, Rules.rule_views, Votes.RuleView, declared.rule.Rule.Rule}
 use Rattle.council_game.proofs.Shared.Lists.{list_any_map, map_one_more}
 
 pub elements_view : (vs : List Value) → elements (items_view vs) ≡ map view vs

@@ -6,3 +6,4 @@ mod Places
 mod Bounds
 mod Seen
 pub mod AllLaws
+mod Imports

@@ -1,8 +1,5 @@
 -- Laws of games: monotone weights, minimal coalitions.
-use Rattle.std.proofs.lemmas.Bool.Decides.{nat_tests}
-use Rattle.std.proofs.Common.{ℕ, ◌/◌, ◌%◌, ◌^◌, ◌<◌, ◌≤◌, List, [], ◌∷◌, length, arith}
-use Rattle.std.proofs.lemmas.Nat.{mul-le}
-use Rattle.council_game.specs.Votes.{weight}
+use Rattle.council_game.proofs.Imports.{nat_tests, ℕ, ◌/◌, ◌%◌, ◌^◌, ◌<◌, ◌≤◌, List, [], ◌∷◌, length, arith, mul-le, weight}
 use Rattle.council_game.proofs.Shared.WeightByDigits.{weight-nil, weight-cons}
 
 -- fewer members weigh no more

@@ -1,17 +1,9 @@
 -- Coalitions made of members, and the members of a coalition.
-use Rattle.std.proofs.Common.{arith}
-use Rattle.std.proofs.lemmas.Bool.Decides.{nat_tests}
-use Rattle.std.proofs.Common.{◌≡◌, ◌≢◌, ℕ, ◌+◌, ◌<◌, ◌==◌, ◌||◌, Bool, true, false, List, [], ◌∷◌, ◌++◌, length, get_or, take, map, filter, sym, ap, ◌∙◌, inl, inr}
-use Rattle.std.specs.List.{list_any, range_with_len}
-use Rattle.std.proofs.lemmas.Bool.{cases_eq, eq-eqb, ne_eqb, cond-true, cond-false, or_right}
-use Rattle.std.proofs.Math.Bool.{or-false}
-use Rattle.std.proofs.lemmas.List.{map-append, append-nil}
-use Rattle.std.proofs.lemmas.List.Folds.{list_any_more}
-use Rattle.council_game.specs.Votes.{has}
-use Rattle.council_game.specs.Ranks.{member_at}
-use Rattle.council_game.specs.Game.{GameView, IsGame}
-use Rattle.council_game.proofs.Shared.Lists.{filter_one_more}
-use Rattle.council_game.proofs.Shared.Making.{ranks-are}
+use Rattle.council_game.proofs.Imports.{arith, nat_tests, ◌≡◌, ◌≢◌, ℕ, ◌+◌, ◌<◌, ◌==◌, ◌||◌, Bool, true, false, List, [], ◌∷◌, ◌++◌, length}
+use Rattle.council_game.proofs.Imports.{get_or, take, map, filter, sym, ap, ◌∙◌, inl, inr, list_any, range_with_len, cases_eq, eq-eqb}
+use Rattle.council_game.proofs.Imports.{ne_eqb, cond-true, cond-false, append-nil, has, member_at, GameView, IsGame}
+use Rattle.std.proofs.{Math.Bool.or-false, lemmas.Bool.or_right, lemmas.List.map-append, lemmas.List.Folds.list_any_more}
+use Rattle.council_game.proofs.Shared.{Lists.filter_one_more, Making.ranks-are}
 
 -- one more member is taken in
 pub taken-in : (g : GameView) (ms : List ℕ) (k place a b : ℕ) → IsGame g → k < length ms → get_or ms k 0 < length g.names

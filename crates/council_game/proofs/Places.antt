@@ -1,10 +1,8 @@
 -- Tests of the places of a range that pass another test.
-use Rattle.std.proofs.Common.{◌≡◌, ℕ, suc, ◌<◌, Bool, true, false, not, ◌||◌, List, [], ◌∷◌, length, get_or, filter, refl, sym, ◌∙◌, arith, inl, inr}
-use Rattle.std.specs.List.{list_all, range_with_len}
-use Rattle.std.proofs.lemmas.Bool.{and_cases, not-false, or_parts}
-use Rattle.std.proofs.lemmas.List.FromFn.{length-range_with_len}
-use Rattle.std.proofs.lemmas.List.Sums.{AllPass-from_list_all, list_all-from_AllPass}
-use Rattle.std.proofs.lemmas.Bool.Decides.{nat_tests}
+use Rattle.council_game.proofs.Imports.{◌≡◌, ℕ, suc, ◌<◌, Bool, true, false, not, ◌||◌, List, [], ◌∷◌, length, get_or, filter, refl, sym}
+use Rattle.council_game.proofs.Imports.{◌∙◌, arith, inl, inr, list_all, range_with_len, not-false, or_parts, length-range_with_len}
+use Rattle.council_game.proofs.Imports.{nat_tests}
+use Rattle.std.proofs.lemmas.{Bool.and_cases, List.Sums.AllPass-from_list_all, List.Sums.list_all-from_AllPass}
 use Rattle.council_game.proofs.Shared.Rankings.{places-at}
 
 -- a place is out, or it passes

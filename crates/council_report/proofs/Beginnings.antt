@@ -1,22 +1,14 @@
 -- The places of a coalition, one by one, and what their members add to a line.
-use Rattle.std.proofs.lemmas.Grind.{common_steps}
-use Rattle.std.proofs.Common.{◌≡◌, ℕ, zero, suc, ◌+◌, ◌-◌, ◌<◌, ◌≤◌, ◌++◌, Bool, true, false, cond, List, [], ◌∷◌, length, filter, take, drop, slice_index, refl, sym, ap, ◌∙◌, arith, inl, inr}
-use Rattle.std.specs.List.{range_with_len}
-use Rattle.std.proofs.lemmas.Bool.{cases_lt, cond-true, cond-false}
-use Rattle.std.proofs.lemmas.Grind.{flat_map-append}
-use Rattle.std.proofs.lemmas.List.{map-append, map-id, append-nil, length-map, get_or_past, take-append-drop}
-use Rattle.std.proofs.lemmas.List.Elements.{filter-append}
-use Rattle.std.proofs.lemmas.List.FromFn.{filter_of_map_range_with_len_more, take-map-range_with_len, length-range_with_len}
-use Rattle.std.proofs.lemmas.List.Sums.{sum_by-append, sum_by-cons}
-use Rattle.std.proofs.lemmas.Bool.Decides.{nat_tests}
-use Rattle.council_game.specs.Votes.{IsRule, has, weight, rule_at}
-use Rattle.council_game.specs.Game.{GameView, IsGame, votes_of}
-use Rattle.council_game.proofs.Shared.Games.{votes-are}
+use Rattle.council_report.proofs.Imports.{common_steps, ◌≡◌, ℕ, zero, suc, ◌+◌, ◌-◌, ◌<◌, ◌≤◌, ◌++◌, Bool, true, false, cond, List, [], ◌∷◌}
+use Rattle.council_report.proofs.Imports.{votes-are, weight-le, with_tab, places_before, fields_of, weights_under, HasNoneFrom, SameBefore}
+use Rattle.council_report.proofs.Imports.{length, take, drop, slice_index, refl, sym, ap, ◌∙◌, arith, inl, inr, range_with_len, cases_lt}
+use Rattle.council_report.proofs.Imports.{cond-true, flat_map-append, append-nil, length-map, take-append-drop, take-map-range_with_len}
+use Rattle.council_report.proofs.Imports.{length-range_with_len, nat_tests, IsRule, has, weight, rule_at, GameView, IsGame, votes_of}
+use Rattle.std.proofs.lemmas.List.{map-append, get_or_past, FromFn.filter_of_map_range_with_len_more, Sums.sum_by-append, Sums.sum_by-cons}
+use Rattle.std.proofs.{Common.filter, Common.map-id, lemmas.Bool.cond-false, lemmas.List.Elements.filter-append}
 use Rattle.council_game.proofs.Shared.Meanings.{weighs-its-members}
-use Rattle.council_game.proofs.Shared.Weights.{weight-le}
 use Rattle.power_index.proofs.Shared.Sums.{length-filter-le}
-use Rattle.council_report.specs.Lines.{with_tab}
-use Rattle.council_report.specs.Inner.SharedLine.{places_before, name_at, fields_of, weights_under, weight_of_places, HasNoneFrom, SameBefore}
+use Rattle.council_report.specs.Inner.SharedLine.{name_at, weight_of_places}
 use Rattle.council_report.proofs.Bounds.{with_tab-fits, each-field, name-fits}
 
 -- ---- the places before one

@@ -1,15 +1,11 @@
 -- Where two coalitions differ first, and where the last member of one is.
-use Rattle.std.proofs.Common.{◌≡◌, ℕ, suc, ◌+◌, ◌-◌, ◌/◌, ◌%◌, ◌^◌, ◌<◌, ◌≤◌, bit_xor, arith, inl, inr}
-use Rattle.std.specs.Int.{w64, leading_zeros, trailing_zeros}
-use Rattle.std.proofs.lemmas.Bool.{cases_lt}
+use Rattle.council_report.proofs.Imports.{◌≡◌, ℕ, suc, ◌+◌, ◌-◌, ◌^◌, ◌<◌, ◌≤◌, bit_xor, arith, inl, inr, w64, leading_zeros, cases_lt}
+use Rattle.council_report.proofs.Imports.{nat_tests, has, HasNoneFrom, SameBefore}
+use Rattle.std.proofs.Common.{◌/◌, ◌%◌, pow-suc, pow_mono}
+use Rattle.std.specs.Int.{trailing_zeros}
 use Rattle.std.proofs.lemmas.Nat.{leading_length, xor_lt}
 use Rattle.std.proofs.lemmas.Nat.Bits.{bit_at_xor, bit_at_above, bit_at-lt, bit_at-trailing_zeros}
-use Rattle.std.proofs.Math.Nat.{pow-suc}
-use Rattle.std.proofs.Math.Pow.{pow_mono}
-use Rattle.std.proofs.lemmas.Bool.Decides.{nat_tests}
-use Rattle.council_game.specs.Votes.{has}
 use Rattle.coalitions.proofs.Shared.Digits.{lowest-place}
-use Rattle.council_report.specs.Inner.SharedLine.{HasNoneFrom, SameBefore}
 
 -- equal digits
 same-digit : (a b i : ℕ) → bit_xor a b / 2 ^ i % 2 ≡ 0 → a / 2 ^ i % 2 ≡ b / 2 ^ i % 2

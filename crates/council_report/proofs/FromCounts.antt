@@ -1,15 +1,11 @@
 -- The lines from the counts of a list are those of the list.
-use Rattle.std.proofs.Common.{◌≡◌, ◌∙◌, ◌<◌, ◌≤◌, ◌+◌, ◌++◌, ℕ, zero, suc, List, [], map, length, cond, refl, ap, sym, arith, Bool, true, false}
-use Rattle.std.specs.List.{flat_map, range_with_len}
+use Rattle.council_report.proofs.Imports.{Bool, true, false, flat_map, range_with_len, nat_tests, Counted, Shown, size_line, line_of_size}
+use Rattle.council_report.proofs.Imports.{◌≡◌, ◌∙◌, ◌<◌, ◌≤◌, ◌+◌, ◌++◌, ℕ, zero, suc, List, [], map, length, cond, refl, ap, sym, arith}
+use Rattle.council_report.proofs.Imports.{line_of_member, lines_of}
 use Rattle.std.proofs.lemmas.List.Folds.{flat_map-map}
-use Rattle.std.proofs.lemmas.Bool.Decides.{nat_tests}
 use Rattle.power_index.specs.Tables.{AreCounts}
 use Rattle.power_index.proofs.Shared.Printed.{deegan-packel-same, public-good-same}
-use Rattle.council_report.specs.declared.counted.Counted.{Counted}
-use Rattle.council_report.specs.declared.shown.Shown.{Shown}
-use Rattle.council_report.specs.Lines.{size_line}
 use Rattle.council_report.specs.Report.{heading, size_line_of, member_line_of, report_over}
-use Rattle.council_report.specs.Inner.Lines.{line_of_size, line_of_member, lines_of}
 
 -- two functions that agree on a range
 range-same : {X : Type 0} (f h : ℕ → X) (a n : ℕ) → ((i : ℕ) → a ≤ i → i < a + n → f i ≡ h i)

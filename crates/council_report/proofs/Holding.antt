@@ -1,8 +1,6 @@
 -- What a writer holds of what it was told.
-use Rattle.std.proofs.Common.{◌≡◌, ◌≤◌, ◌+◌, ◌-◌, ◌++◌, ℕ, List, length, take, Option, Some, None, option_map, sym, ap, ◌∙◌, arith, length-append}
-use Rattle.std.specs.Io.KnownBytes.{Appends}
-use Rattle.std.proofs.Math.Seq.{take-append-add}
-use Rattle.council_report.specs.Inner.Told.{HoldsBut}
+use Rattle.council_report.proofs.Imports.{◌≡◌, ◌≤◌, ◌+◌, ◌-◌, ◌++◌, ℕ, List, length, take, Option, Some, None, option_map, sym, ap, ◌∙◌}
+use Rattle.council_report.proofs.Imports.{arith, length-append, Appends, take-append-add, HoldsBut}
 
 -- part of the block went out
 pub holds-part : (before after : Option (List ℕ)) (bytes : List ℕ) (done : ℕ) → done ≤ length bytes → Appends before after (take done bytes)

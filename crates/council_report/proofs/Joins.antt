@@ -1,13 +1,6 @@
 -- Lists in pieces.
-use Rattle.std.proofs.Common.{◌≡◌, ℕ, List, [], ◌∷◌, true, refl, sym, ◌∙◌, arith}
-use Rattle.std.specs.List.{flat_map}
-use Rattle.std.proofs.lemmas.Bool.{cond-true}
-use Rattle.std.proofs.lemmas.Grind.{flat_map-append}
-use Rattle.std.proofs.lemmas.Bool.Decides.{nat_tests}
-use Rattle.council_game.specs.Game.{GameView}
-use Rattle.council_report.specs.declared.shown.Shown.{Shown}
-use Rattle.council_report.specs.Lines.{coalition_line}
-use Rattle.council_report.specs.Report.{coalition_lines}
+use Rattle.council_report.proofs.Imports.{◌≡◌, ℕ, List, [], ◌∷◌, true, refl, sym, ◌∙◌, arith, flat_map, cond-true, flat_map-append}
+use Rattle.council_report.proofs.Imports.{nat_tests, GameView, Shown, coalition_line, coalition_lines}
 
 -- the texts of the pieces' elements are those of the list's
 pub texts-joined : {X Y Z : Type 0} (f : Y → List Z) (h : X → List Y) (xs : List X)

@@ -1,15 +1,9 @@
 -- Texts told one after another, through a block that stays ready.
-use Rattle.std.proofs.Common.{◌≡◌, ◌≤◌, ◌++◌, ℕ, List, [], length, Option, Result, Ok, Err, OnOk, IfErr, Vec, arith}
-use Rattle.std.specs.Global.{Global}
-use Rattle.std.specs.Vec.{vec_capacity}
-use Rattle.std.proofs.lemmas.Bool.Decides.{nat_tests}
-use Rattle.std.proofs.lemmas.Grind.{common_steps}
+use Rattle.council_report.proofs.Imports.{◌≡◌, ◌≤◌, ◌++◌, ℕ, List, [], length, Option, Result, Ok, Err, IfErr, Vec, arith, Global}
+use Rattle.council_report.proofs.Imports.{vec_capacity, nat_tests, common_steps, progress_of, Tells, HasStopped, Block}
+use Rattle.std.proofs.Common.{OnOk}
 use Rattle.council_text.specs.Room.{MakesRoomFor}
-use Rattle.council_report.specs.Inner.Told.{progress_of, Tells, HasStopped}
-use Rattle.council_report.specs.Inner.Ready.{HasRoom, IsReady}
-use Rattle.council_report.specs.Inner.Puts.{Puts}
-use Rattle.council_report.specs.declared.output.Block.{Block}
-use Rattle.council_report.specs.declared.output.WriteFault.{WriteFault}
+use Rattle.council_report.specs.{Inner.Puts.Puts, Inner.Ready.HasRoom, Inner.Ready.IsReady, declared.output.WriteFault.WriteFault}
 use Rattle.council_report.proofs.Telling.{tells-then, tells-same, tells-block, stopped-next, stopped-after}
 
 -- a block that is ready refuses no line of 4096 bytes

@@ -11,3 +11,4 @@ pub mod SharedLines
 mod Differences
 mod Joins
 mod FromCounts
+mod Imports

@@ -1,7 +1,5 @@
 -- The room of the block, line by line.
-use Rattle.std.proofs.Common.{◌≡◌, ◌≤◌, ◌++◌, ℕ, List, Vec}
-use Rattle.std.specs.Global.{Global}
-use Rattle.std.specs.Vec.{vec_capacity}
+use Rattle.council_report.proofs.Imports.{◌≡◌, ◌≤◌, ◌++◌, ℕ, List, Vec, Global, vec_capacity}
 
 -- a text was put, and the room stays or grows
 pub record Put (old new : Vec ℕ Global) (text : List ℕ) : Type 0 where

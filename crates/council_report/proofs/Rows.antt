@@ -1,11 +1,8 @@
 -- Rows of texts, one text more.
-use Rattle.std.proofs.Common.{◌≡◌, ℕ, ◌+◌, ◌<◌, ◌≤◌, ◌++◌, length, zero-add, List, [], ◌∷◌, map, sym, ap, ◌∙◌, append_assoc, arith}
-use Rattle.std.specs.List.{flat_map, range_with_len}
-use Rattle.std.proofs.lemmas.Grind.{flat_map-append}
-use Rattle.std.proofs.lemmas.List.{append-nil}
-use Rattle.std.proofs.lemmas.List.FromFn.{take-map-range_with_len, get_or-map-range_with_len, length-map-range_with_len}
-use Rattle.std.proofs.lemmas.List.Folds.{length-flat_map-take}
-use Rattle.council_report.specs.Lines.{with_tab}
+use Rattle.council_report.proofs.Imports.{◌≡◌, ℕ, ◌+◌, ◌<◌, ◌≤◌, ◌++◌, length, zero-add, List, [], ◌∷◌, map, sym, ap, ◌∙◌, append_assoc}
+use Rattle.council_report.proofs.Imports.{arith, flat_map, range_with_len, flat_map-append, append-nil, take-map-range_with_len}
+use Rattle.council_report.proofs.Imports.{length-map-range_with_len, length-flat_map-take, with_tab}
+use Rattle.std.proofs.lemmas.List.FromFn.{get_or-map-range_with_len}
 
 pub rows-more : {X : Type 0} (f : X → List ℕ) (xs : List X) (x : X) → flat_map f (xs ++ x ∷ []) ≡ flat_map f xs ++ f x
 rows-more f xs x = flat_map-append f xs (x ∷ []) ∙ ap (λ (t : List ℕ). flat_map f xs ++ t) (append-nil (f x))

@@ -1,22 +1,13 @@
 -- A line at its end, one place more, and cut at a place.
-use Rattle.std.proofs.Common.{◌≡◌, ℕ, ◌+◌, ◌^◌, ◌<◌, ◌≤◌, ◌++◌, true, List, [], ◌∷◌, length, take, get_or, Vec, set, arith, length-append}
-use Rattle.std.specs.Global.{Global}
-use Rattle.std.specs.Vec.{vec_capacity}
-use Rattle.std.specs.List.{flat_map}
-use Rattle.std.proofs.Math.Seq.{take-append_seam}
-use Rattle.std.proofs.lemmas.Bool.{cases_lt}
-use Rattle.std.proofs.lemmas.List.{get_or-set_other, get_or-set_same, length-set}
-use Rattle.std.proofs.lemmas.Bool.Decides.{nat_tests}
-use Rattle.std.proofs.lemmas.Grind.{common_steps}
-use Rattle.council_game.specs.Votes.{has, weight, rule_at}
-use Rattle.council_game.specs.Game.{GameView, IsGame, votes_of}
-use Rattle.power_index.proofs.Shared.Members.{few-members}
-use Rattle.council_report.specs.declared.seat.Seat.{Seat}
-use Rattle.council_report.specs.declared.subtotal.Subtotal.{Subtotal}
-use Rattle.council_report.specs.declared.shared_line.SharedLine.{SharedLine}
-use Rattle.council_report.specs.Lines.{with_tab, names_of}
-use Rattle.council_report.specs.Inner.SharedLine.{places_before, IsSeat, AreSeats, IsSubtotal, IsLine, IsWholeLine, SameBefore, fields_of}
-use Rattle.council_report.proofs.Beginnings.{before-none, before-in, before-same, before-front, before-all, fields-none, fields-append, fields-more, fields-fit, weights-none, weights-more, weights-all, weights-light}
+use Rattle.council_report.proofs.Imports.{length-append, Global, vec_capacity, flat_map, cases_lt, length-set, nat_tests, common_steps, has}
+use Rattle.council_report.proofs.Imports.{weight, rule_at, GameView, IsGame, votes_of, few-members, with_tab, names_of, places_before}
+use Rattle.council_report.proofs.Imports.{◌≡◌, ℕ, ◌+◌, ◌^◌, ◌<◌, ◌≤◌, ◌++◌, true, List, [], ◌∷◌, length, take, get_or, Vec, arith}
+use Rattle.council_report.proofs.Imports.{IsSeat, AreSeats, IsLine, SameBefore, fields_of}
+use Rattle.std.proofs.{Common.set, Common.get_or-set_other, Common.get_or-set_same, Math.Seq.take-append_seam}
+use Rattle.council_report.specs.{Inner.SharedLine.IsSubtotal, Inner.SharedLine.IsWholeLine, declared.shared_line.SharedLine.SharedLine}
+use Rattle.council_report.specs.declared.{seat.Seat.Seat, subtotal.Subtotal.Subtotal}
+use Rattle.council_report.proofs.Beginnings.{before-none, before-in, before-same, before-front, before-all, fields-none, fields-append}
+use Rattle.council_report.proofs.Beginnings.{fields-more, fields-fit, weights-none, weights-more, weights-all, weights-light}
 
 -- what is read past the subtotals
 abbrev pub no_subtotal : Subtotal

@@ -1,14 +1,10 @@
 -- A row of texts told one after another: one more, and where it stops.
-use Rattle.std.proofs.Common.{◌≡◌, ◌<◌, ◌≤◌, ◌+◌, ◌^◌, ◌++◌, ℕ, List, length, get_or, take, drop, Option, sym, ap, ◌∙◌, subst, arith}
-use Rattle.std.specs.List.{flat_map, range_with_len}
-use Rattle.std.proofs.lemmas.Grind.{flat_map-append, common_steps}
-use Rattle.std.proofs.lemmas.List.{take_all, take_more, take-append-drop}
-use Rattle.std.proofs.lemmas.List.Folds.{length-flat_map-take}
-use Rattle.std.proofs.lemmas.List.FromFn.{get_or-range_with_len, length-range_with_len}
-use Rattle.std.proofs.lemmas.Bool.Decides.{nat_tests}
-use Rattle.council_report.specs.Inner.Told.{Progress, Tells, StopsIn}
-use Rattle.council_report.proofs.Rows.{rows-more}
-use Rattle.council_report.proofs.Telling.{tells-then, stopped-first, stopped-next}
+use Rattle.council_report.proofs.Imports.{◌≡◌, ◌<◌, ◌≤◌, ◌+◌, ◌^◌, ◌++◌, ℕ, List, length, get_or, take, drop, Option, sym, ap, ◌∙◌, subst}
+use Rattle.council_report.proofs.Imports.{length-flat_map-take, get_or-range_with_len, length-range_with_len, nat_tests, Progress, Tells}
+use Rattle.council_report.proofs.Imports.{arith, flat_map, range_with_len, flat_map-append, common_steps, take_all, take-append-drop}
+use Rattle.council_report.proofs.Imports.{StopsIn}
+use Rattle.std.proofs.lemmas.List.{take_more}
+use Rattle.council_report.proofs.{Rows.rows-more, Telling.tells-then, Telling.stopped-first, Telling.stopped-next}
 
 -- x is number i of a row
 pub record IsNext {X : Type 0} (xs : List X) (i : ℕ) (x : X) : Type 0 where

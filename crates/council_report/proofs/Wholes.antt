@@ -1,12 +1,8 @@
 -- A report as a heading and the lines after it.
-use Rattle.std.proofs.Common.{◌≡◌, ◌≤◌, ◌+◌, ◌-◌, ◌++◌, ℕ, List, [], length, take, Option, Some, None, option_map, refl, ap, ◌∙◌, arith, append_assoc, length-append}
-use Rattle.std.specs.Io.KnownBytes.{Appends}
-use Rattle.std.proofs.Math.Seq.{take-append-add}
+use Rattle.council_report.proofs.Imports.{◌≡◌, ◌≤◌, ◌+◌, ◌-◌, ◌++◌, ℕ, List, [], length, take, Option, Some, None, option_map, refl, ap}
+use Rattle.council_report.proofs.Imports.{◌∙◌, arith, append_assoc, length-append, Appends, take-append-add, nat_tests, common_steps}
+use Rattle.council_report.proofs.Imports.{progress_of, HoldsBut, StopsIn, Block}
 use Rattle.std.proofs.lemmas.List.{take-append-le}
-use Rattle.std.proofs.lemmas.Bool.Decides.{nat_tests}
-use Rattle.std.proofs.lemmas.Grind.{common_steps}
-use Rattle.council_report.specs.Inner.Told.{progress_of, HoldsBut, StopsIn}
-use Rattle.council_report.specs.declared.output.Block.{Block}
 
 pub after-none : {a b c : List ℕ} → c ≡ a ++ b → a ≡ [] → c ≡ b
 after-none {b = b} more none = more ∙ ap (λ (t : List ℕ). t ++ b) none

@@ -1,17 +1,11 @@
 -- One member more or less leaves the others as they were.
-use Rattle.std.proofs.Common.{◌≡◌, ◌≢◌, ◌∙◌, ℕ, ◌+◌, ◌<◌, Bool, true, false, ◌||◌, List, [], ◌∷◌, ◌++◌, length, get_or, take, filter, sym, ap, arith, Option, Some, None, inl, inr}
-use Rattle.std.proofs.lemmas.Grind.{common_steps}
+use Rattle.std.proofs.Common.{◌≡◌, ◌≢◌, ◌∙◌, ℕ, ◌+◌, ◌<◌, Bool, true, false, ◌||◌, List, [], ◌∷◌, ◌++◌, length, get_or, take, filter, sym}
+use Rattle.std.proofs.Common.{ap, arith, Option, Some, None, inl, inr, eq-eqb, ne_eqb, append-nil}
+use Rattle.std.proofs.{Math.Bool.or-false, lemmas.Grind.common_steps, lemmas.List.Folds.list_any_more}
 use Rattle.std.specs.List.{list_any, range_with_len}
-use Rattle.std.proofs.lemmas.Bool.{cases_eq, cond-true, cond-false, eq-eqb, ne_eqb, or_right}
-use Rattle.std.proofs.Math.Bool.{or-false}
-use Rattle.std.proofs.lemmas.List.{append-nil}
-use Rattle.std.proofs.lemmas.List.Folds.{list_any_more}
-use Rattle.council_game.specs.Votes.{has}
-use Rattle.council_game.specs.Ranks.{member_at}
-use Rattle.council_game.specs.Game.{GameView, IsGame}
-use Rattle.council_game.specs.Members.{contains}
-use Rattle.council_game.proofs.Shared.Lists.{filter_one_more}
-use Rattle.council_game.proofs.Shared.Making.{ranks-are}
+use Rattle.std.proofs.lemmas.Bool.{cases_eq, cond-true, cond-false, or_right}
+use Rattle.council_game.specs.{Game.GameView, Game.IsGame, Members.contains, Ranks.member_at, Votes.has}
+use Rattle.council_game.proofs.Shared.{Lists.filter_one_more, Making.ranks-are}
 use Rattle.game_calls.specs.Named.{member_named, is_that, is_named}
 
 pub others_kept : (g : GameView) → IsGame g → (n m place a b : ℕ) → n ≡ length g.names → place ≡ get_or g.ranks m 0 → m < length g.names

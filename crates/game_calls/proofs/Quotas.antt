@@ -1,15 +1,12 @@
 -- The first rule of a game at another quota.
-use Rattle.std.proofs.Common.{◌≡◌, ◌∙◌, ℕ, ◌<◌, ◌≤◌, false, ◌||◌, ltb, List, [], ◌∷◌, length, get_or, sum, refl, ap, sym, arith, Option, Result, Ok, Err}
-use Rattle.std.proofs.lemmas.Grind.{common_steps}
+use Rattle.std.proofs.Common.{◌≡◌, ◌∙◌, ℕ, ◌<◌, ◌≤◌, false, ◌||◌, ltb, List, [], ◌∷◌, length, get_or, sum, refl, ap, sym, arith, Option}
+use Rattle.std.proofs.Common.{Result, Ok, Err, le-ltb}
+use Rattle.std.proofs.lemmas.{Grind.common_steps, List.Elements.All-cons, List.Elements.All-nil, List.Elements.recursion_from_All}
+use Rattle.std.proofs.lemmas.Bool.{or_parts}
 use Rattle.std.specs.List.{list_any}
-use Rattle.std.proofs.lemmas.Bool.{or_parts, le-ltb}
-use Rattle.std.proofs.lemmas.List.Elements.{All-cons, All-nil, recursion_from_All}
-use Rattle.council_game.specs.declared.fault.GameFault.{GameFault}
-use Rattle.council_game.specs.declared.fault.GameFault.TheVariants.{Memory}
-use Rattle.council_game.specs.Fault.{Answers}
-use Rattle.council_game.specs.Votes.{RuleView, rule_at}
+use Rattle.council_game.specs.{Ranks.rank_places, declared.fault.GameFault.GameFault, declared.fault.GameFault.TheVariants.Memory}
+use Rattle.council_game.specs.{Fault.Answers, Votes.RuleView, Votes.rule_at}
 use Rattle.council_game.specs.Game.{GameView, IsGame, made_game, total, first_weights, is_heavy, has_bad_quota}
-use Rattle.council_game.specs.Ranks.{rank_places}
 use Rattle.council_game.proofs.Shared.Games.{passed, makes, first-full, nowhere_below, position-none}
 use Rattle.game_calls.specs.Quotas.{at_quota}
 

@@ -1,17 +1,12 @@
 -- Turns of desks.
-use Rattle.std.specs.Prelude.{◌≡◌, ℕ, ◌+◌, ◌<◌, Bool, false, ◌||◌, zero, suc, [], ◌∷◌, List, Option, None, All, length, replicate}
-use Rattle.std.proofs.lemmas.Grind.{common_steps}
-use Rattle.std.proofs.Common.{set, get_or, subst, arith, sym}
-use Rattle.std.proofs.Math.Bool.{or-false}
-use Rattle.std.proofs.lemmas.List.{length-set, map-set, get_or-set_other, length-map, get_or_default}
-use Rattle.std.proofs.lemmas.List.Elements.{All-head, All-tail}
-use Rattle.mwc_parts.specs.Slicing.{Slicing}
-use Rattle.mwc_parts.specs.Shared.Dealing.{DeskView, DealsInTurn, TakesTurn, DealsOneEach, IsFresh}
+use Rattle.mwc_gather.proofs.Imports.{◌≡◌, ℕ, ◌+◌, ◌<◌, Bool, false, ◌||◌, [], ◌∷◌, List, Option, None, All, length, common_steps, get_or}
+use Rattle.mwc_gather.proofs.Imports.{subst, arith, sym, length-map, All-head, All-tail, Slicing, DeskView, IsFresh, Desk, Deal, AllOf}
+use Rattle.mwc_gather.proofs.Imports.{view_of, views_of, DealsTo, DealsFirst}
+use Rattle.std.proofs.Common.{zero, suc, replicate, set, length-set, get_or-set_other}
+use Rattle.std.proofs.{Math.Bool.or-false, lemmas.List.map-set, lemmas.List.get_or_default}
+use Rattle.mwc_parts.specs.Shared.Dealing.{DealsInTurn, TakesTurn, DealsOneEach}
 use Rattle.mwc_parts.proofs.Shared.Turns as turns
 use Rattle.mwc_parts.proofs.Shared.Firsts as firsts
-use Rattle.mwc_gather.specs.declared.desk.Desk.{Desk}
-use Rattle.mwc_gather.specs.declared.dealing.Deal.{Deal}
-use Rattle.mwc_gather.specs.Inner.Desks.{AllOf, view_of, views_of, DealsTo, DealsFirst}
 
 view_at : (desks : List Desk) (i : ℕ) (d : Desk) → i < length desks → d ≡ get_or desks i d
     → view_of d ≡ get_or (views_of desks) i (view_of d)

@@ -1,33 +1,15 @@
 -- The end of gathering.
-use Rattle.std.proofs.lemmas.Grind.{common_steps}
-use Rattle.std.proofs.lemmas.Bool.Decides.{nat_tests}
-use Rattle.std.specs.Prelude.{◌≡◌, ℕ, ◌<◌, ◌≤◌, Bool, true, false, List, [], ◌∷◌, ◌++◌, Option, Some, None, cond, All, length, map, slice_get, refl}
-use Rattle.std.specs.List.{AllZip}
-use Rattle.std.proofs.Common.{get_or, append_assoc, ap, subst, arith, sym, ◌∙◌}
-use Rattle.std.proofs.lemmas.List.{length-map, get_or-map, map_push}
-use Rattle.std.proofs.lemmas.List.Elements.{All-head, All-tail}
-use Rattle.std.proofs.lemmas.Slice.Zip.{AllZip-long}
-use Rattle.mwc_parts.specs.Slicing.{Slicing}
-use Rattle.std.specs.List.{sum_by}
-use Rattle.std.proofs.lemmas.List.Sums.{sum_by-cons}
-use Rattle.mwc_parts.specs.Wording.{coalition_count}
+use Rattle.mwc_gather.proofs.Imports.{common_steps, nat_tests, ◌≡◌, ℕ, ◌<◌, ◌≤◌, Bool, true, false, List, [], ◌∷◌, ◌++◌, Option, Some, None}
+use Rattle.mwc_gather.proofs.Imports.{IsPart, fault_of, also, Part, Met, GatherFault, Memory, length-joined, Desk, Deal, view_of, views_of}
+use Rattle.mwc_gather.proofs.Imports.{cond, All, length, map, refl, AllZip, get_or, append_assoc, ap, subst, arith, sym, ◌∙◌, length-map}
+use Rattle.mwc_gather.proofs.Imports.{map_push, All-head, All-tail, Slicing, sum_by, sum_by-cons, coalition_count, DeskView, IsFresh}
+use Rattle.mwc_gather.proofs.Imports.{DealsTo, IsPartOfDesk, all_total, IsComplete}
+use Rattle.std.proofs.{Common.slice_get, lemmas.List.get_or-map, lemmas.Slice.Zip.AllZip-long}
 use Rattle.std.specs.List.Sorted.{IsStrictlyIncreasing}
-use Rattle.mwc_parts.specs.Shared.Deals.{AreDealt}
-use Rattle.mwc_parts.specs.Shared.Dealing.{DeskView, IsWell, given_slices, IsFresh}
-use Rattle.mwc_parts.specs.Parts.{shares}
-use Rattle.mwc_parts.specs.Shared.Settled.{IsPart}
-use Rattle.mwc_parts.specs.Fault.{fault_of, also}
-use Rattle.mwc_parts.specs.declared.part.Part.{Part}
-use Rattle.mwc_parts.specs.declared.fault.Met.{Met}
-use Rattle.mwc_parts.specs.declared.fault.GatherFault.{GatherFault}
-use Rattle.mwc_parts.specs.declared.fault.GatherFault.TheVariants.{TooMany, Start, Memory, Ring}
-use Rattle.mwc_parts.proofs.Shared.Turns as turns
+use Rattle.mwc_parts.specs.declared.fault.GatherFault.TheVariants.{TooMany, Start, Ring}
+use Rattle.mwc_parts.specs.{Parts.shares, Shared.Dealing.IsWell, Shared.Dealing.given_slices, Shared.Deals.AreDealt}
 use Rattle.mwc_parts.proofs.Shared.Firsts.{each_within, dealt_total, dealt_increase, share_begins}
-use Rattle.mwc_parts.proofs.Shared.Readings.{length-joined}
-use Rattle.mwc_gather.specs.declared.desk.Desk.{Desk}
-use Rattle.mwc_gather.specs.declared.dealing.Deal.{Deal}
-use Rattle.mwc_gather.specs.Inner.Desks.{view_of, views_of, DealsTo, IsPartOfDesk}
-use Rattle.mwc_gather.specs.Inner.Gathering.{all_total, IsComplete}
+use Rattle.mwc_parts.proofs.Shared.Turns as turns
 
 module _ {X Y : Type 0} where
   all_of_map : (P : Y → Type 0) (f : X → Y) (xs : List X) → All P (map f xs) → All (λ x. P (f x)) xs

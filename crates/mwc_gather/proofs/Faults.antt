@@ -1,14 +1,6 @@
 -- The faults that were met.
-use Rattle.std.specs.Prelude.{◌≡◌, ℕ, List, [], ◌∷◌, ◌++◌, Option, Some, None, refl}
-use Rattle.std.proofs.Common.{ap, sym, ◌∙◌}
-use Rattle.mwc_parts.specs.Slicing.{Slicing}
-use Rattle.mwc_parts.specs.Fault.{also}
-use Rattle.mwc_parts.specs.Shared.Fault.{also_all}
-use Rattle.mwc_parts.specs.declared.fault.Met.{Met}
-use Rattle.mwc_parts.specs.declared.fault.GatherFault.{GatherFault}
-use Rattle.mwc_parts.specs.declared.fault.GatherFault.TheVariants.{Memory}
-use Rattle.mwc_gather.specs.declared.desk.Desk.{Desk}
-use Rattle.mwc_gather.specs.Inner.Desks.{CanEndWith}
+use Rattle.mwc_gather.proofs.Imports.{◌≡◌, ℕ, List, [], ◌∷◌, ◌++◌, Option, Some, None, refl, ap, sym, ◌∙◌, Slicing, also, also_all, Met}
+use Rattle.mwc_gather.proofs.Imports.{GatherFault, Memory, Desk, CanEndWith}
 
 -- one more fault
 pub noted_more : (m : Met) (whys : List (Option GatherFault)) (why : GatherFault)

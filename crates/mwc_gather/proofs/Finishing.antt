@@ -1,23 +1,9 @@
 -- Workers that are joined, one after another.
-use Rattle.std.specs.Prelude.{◌≡◌, ℕ, ◌<◌, ◌≤◌, Bool, true, false, List, [], ◌∷◌, ◌++◌, Option, Some, None, All, length, refl}
-use Rattle.std.specs.Option.{is_some}
-use Rattle.std.specs.List.{AllZip}
-use Rattle.std.proofs.Common.{ap, subst, arith, sym, ◌∙◌}
-use Rattle.std.proofs.lemmas.Bool.{false≢true}
-use Rattle.std.proofs.lemmas.List.{append-nil}
-use Rattle.std.proofs.lemmas.List.Elements.{All-rest}
-use Rattle.std.proofs.lemmas.Slice.Zip.{all_zipped_more}
-use Rattle.mwc_parts.specs.Slicing.{Slicing}
-use Rattle.mwc_parts.specs.Wording.{coalition_count}
-use Rattle.mwc_parts.specs.Fault.{fault_of, also}
-use Rattle.mwc_parts.specs.Shared.Fault.{also_all}
-use Rattle.mwc_parts.specs.declared.part.Part.{Part}
-use Rattle.mwc_parts.specs.declared.fault.Met.{Met}
-use Rattle.mwc_parts.specs.declared.fault.GatherFault.{GatherFault}
-use Rattle.mwc_gather.specs.declared.desk.Desk.{Desk}
-use Rattle.mwc_gather.specs.declared.dealing.Deal.{Deal}
-use Rattle.mwc_gather.specs.Inner.Desks.{IsOf, AllOf, CanEndWith, IsPartOfDesk, DealsTo}
-use Rattle.mwc_gather.specs.Inner.Gathering.{all_total, IsComplete}
+use Rattle.mwc_gather.proofs.Imports.{fault_of, also, also_all, Part, Met, GatherFault, Desk, Deal, IsOf, AllOf, CanEndWith, IsPartOfDesk}
+use Rattle.mwc_gather.proofs.Imports.{◌≡◌, ℕ, ◌<◌, ◌≤◌, Bool, true, false, List, [], ◌∷◌, ◌++◌, Option, Some, None, All, length, refl}
+use Rattle.mwc_gather.proofs.Imports.{is_some, AllZip, ap, subst, arith, sym, ◌∙◌, false≢true, append-nil, Slicing, coalition_count}
+use Rattle.mwc_gather.proofs.Imports.{DealsTo, all_total, IsComplete}
+use Rattle.std.proofs.lemmas.{List.Elements.All-rest, Slice.Zip.all_zipped_more}
 use Rattle.mwc_gather.proofs.Ends.{many_is_new_or_old, one_is_met, head_of, one_done, desks_within, completes}
 use Rattle.mwc_gather.proofs.Faults.{noted_after, noted_none}
 

@@ -1,13 +1,6 @@
 -- Words that go into a pipe, the first of a row.
-use Rattle.std.proofs.Common.{arith}
-use Rattle.std.specs.Prelude.{◌≡◌, ℕ, List, [], ◌++◌, take, drop, refl}
-use Rattle.std.proofs.Common.{sym, ap, ◌∙◌}
-use Rattle.std.proofs.lemmas.List.{append-nil}
-use Rattle.std.proofs.lemmas.Grind.{common_steps}
-use mathlib.Core.List.{IsPrefix}
-use Rattle.std.proofs.Common.{append_assoc}
-use Rattle.mwc_pipe.specs.declared.word.Word.{Word}
-use Rattle.mwc_gather.specs.Inner.Sending.{SendsFirst, SendsSome}
+use Rattle.mwc_gather.proofs.Imports.{arith, ◌≡◌, ℕ, List, [], ◌++◌, take, drop, refl, sym, ap, ◌∙◌, append-nil, common_steps, IsPrefix}
+use Rattle.mwc_gather.proofs.Imports.{append_assoc, Word, SendsFirst, SendsSome}
 
 -- nothing of a row was sent
 pub none_sent : (before row : List Word) → SendsFirst before row before row

@@ -1,25 +1,13 @@
 -- From the join of a worker to its part.
-use Rattle.std.specs.Prelude.{◌≡◌, ◌⊎◌, ℕ, ◌<◌, false, List, ◌++◌, length, Some, None, Result, Ok, Err, IfOk, IfErr}
-use Rattle.std.specs.List.{flat_map}
-use Rattle.std.proofs.Common.{ap, subst, sym, ◌∙◌, inl, inr, arith}
-use Rattle.std.proofs.lemmas.Bool.{false≢true}
-use Rattle.mwc_pipe.specs.RingViews.{RingInView, RingOutView, ClosedView}
-use Rattle.mwc_pipe.specs.declared.word.Word.{Word}
-use Rattle.mwc_pipe.specs.declared.closed.Unfinished.{Unfinished}
-use Rattle.mwc_parts.specs.Slicing.{Slicing}
-use Rattle.mwc_parts.specs.Wording.{IsWholeSending, IsCutSending, coalition_count}
-use Rattle.mwc_parts.specs.Pieces.{HasEnds}
-use Rattle.mwc_parts.specs.Drafts.{IsDraftOf, IsPartOfDraft, fault_in_draft}
-use Rattle.mwc_parts.specs.Shared.Settled.{HasAllWords, IsPart, ends_from}
-use Rattle.mwc_parts.specs.Shared.Fault.{fault_in}
-use Rattle.mwc_parts.specs.declared.draft.Draft.{Draft}
-use Rattle.mwc_parts.specs.declared.part.Part.{Part}
-use Rattle.mwc_parts.specs.declared.fault.GatherFault.{GatherFault}
+use Rattle.mwc_gather.proofs.Imports.{Slicing, coalition_count, IsDraftOf, IsPart, Part, GatherFault, Desk, IsOf, IsPartOfDesk, CanEndWith}
+use Rattle.mwc_gather.proofs.Imports.{◌≡◌, ℕ, ◌<◌, false, List, ◌++◌, length, Some, None, ap, subst, sym, ◌∙◌, arith, false≢true, Word}
+use Rattle.std.proofs.Common.{◌⊎◌, Result, Ok, Err, IfOk, IfErr, flat_map, inl, inr}
+use Rattle.mwc_pipe.specs.{RingViews.RingInView, RingViews.RingOutView, RingViews.ClosedView, declared.closed.Unfinished.Unfinished}
+use Rattle.mwc_parts.specs.{Shared.Settled.HasAllWords, Shared.Settled.ends_from, Wording.IsWholeSending, Wording.IsCutSending}
+use Rattle.mwc_parts.specs.{Drafts.IsPartOfDraft, Drafts.fault_in_draft, Pieces.HasEnds, Shared.Fault.fault_in, declared.draft.Draft.Draft}
 use Rattle.mwc_parts.proofs.Shared.Readings.{has_ends}
 use Rattle.mwc_parts.proofs.Shared.Settles.{settles, kept_by, lost_or_cut, whole_sent, whole_reads, whole_many}
-use Rattle.mwc_gather.specs.Sending.{HasWorked}
-use Rattle.mwc_gather.specs.declared.desk.Desk.{Desk}
-use Rattle.mwc_gather.specs.Inner.Desks.{desk_slicing, IsOf, IsPartOfDesk, CanEndWith}
+use Rattle.mwc_gather.specs.{Inner.Desks.desk_slicing, Sending.HasWorked}
 
 worked_ok : (g : Slicing) (most : ℕ) (out : RingInView) (tasks : RingOutView) (r : Result ClosedView Unfinished × RingOutView)
     (closed : ClosedView) → HasWorked g most out tasks r → r.0 ≡ Ok closed → IsWholeSending g most r.1.taken closed.accepted

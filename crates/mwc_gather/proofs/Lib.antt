@@ -8,3 +8,4 @@ mod Ends
 mod Finishing
 mod Faults
 mod Wholes
+mod Imports

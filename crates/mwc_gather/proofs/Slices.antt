@@ -1,15 +1,8 @@
 -- The words of a slice as far as they were sent.
-use Rattle.std.specs.Prelude.{◌≡◌, ℕ, ◌+◌, ◌-◌, ◌<◌, ◌≤◌, nat_lt, Bool, true, false, if◌then◌else◌, List, [], ◌∷◌, ◌++◌, length, map, take, refl}
-use mathlib.Core.List.{IsPrefix}
-use Rattle.std.proofs.Common.{ap, arith, append_assoc, sym, ◌∙◌}
-use Rattle.std.proofs.lemmas.Bool.Decides.{nat_tests}
-use Rattle.std.proofs.lemmas.List.{append-nil, map-append}
-use Rattle.std.proofs.Math.Seq.{take-append-add}
-use Rattle.mwc_pipe.specs.declared.word.Word.{Word}
-use Rattle.mwc_pipe.specs.declared.word.Word.TheVariants.{Open, One, Done}
-use Rattle.mwc_parts.specs.Slicing.{Slicing}
-use Rattle.mwc_parts.specs.Wording.{slice_words, cut_words}
-use Rattle.mwc_gather.specs.Sending.{sending}
+use Rattle.mwc_gather.proofs.Imports.{◌≡◌, ℕ, ◌+◌, ◌<◌, ◌≤◌, Bool, true, false, List, [], ◌∷◌, ◌++◌, length, map, take, refl, IsPrefix, ap}
+use Rattle.mwc_gather.proofs.Imports.{arith, append_assoc, sym, ◌∙◌, nat_tests, append-nil, map-append, Word, Open, One, Done, Slicing}
+use Rattle.mwc_gather.proofs.Imports.{slice_words, cut_words, sending}
+use Rattle.std.proofs.{Common.◌-◌, Common.nat_lt, Common.if◌then◌else◌, Math.Seq.take-append-add}
 
 module _ {W : Type 0} (one : ℕ → W) where
   -- what was sent is a beginning of all words

@@ -1,15 +1,8 @@
 -- A slice on its way into a pipe.
-use Rattle.std.specs.Prelude.{◌≡◌, ℕ, ◌+◌, ◌<◌, ◌≤◌, List, [], ◌∷◌, ◌++◌, length, map, take}
-use mathlib.Core.List.{IsPrefix}
-use Rattle.std.proofs.Common.{ap, subst, arith, append_assoc, sym, ◌∙◌}
-use Rattle.std.proofs.lemmas.List.{append-nil, map-append, length-append}
-use Rattle.std.proofs.Math.Seq.{take-append_seam}
-use Rattle.mwc_pipe.specs.declared.word.Word.{Word}
-use Rattle.mwc_pipe.specs.declared.word.Word.TheVariants.{Open, One, Done}
-use Rattle.mwc_parts.specs.Slicing.{Slicing}
-use Rattle.mwc_parts.specs.Wording.{slice_words, cut_words}
-use Rattle.mwc_gather.specs.Sending.{sending}
-use Rattle.mwc_gather.specs.Inner.Sending.{SendsFirst, SendsSome}
+use Rattle.mwc_gather.proofs.Imports.{append_assoc, sym, ◌∙◌, append-nil, map-append, Word, Open, One, Done, Slicing, slice_words}
+use Rattle.mwc_gather.proofs.Imports.{◌≡◌, ℕ, ◌+◌, ◌<◌, ◌≤◌, List, [], ◌∷◌, ◌++◌, length, map, take, IsPrefix, ap, subst, arith}
+use Rattle.mwc_gather.proofs.Imports.{cut_words, sending, SendsFirst, SendsSome}
+use Rattle.std.proofs.{Common.length-append, Math.Seq.take-append_seam}
 use Rattle.mwc_gather.proofs.Slices.{starts_sending, whole_starts}
 use Rattle.mwc_gather.proofs.FirstWords.{none_sent, first_added, first_all, some_starts}
 

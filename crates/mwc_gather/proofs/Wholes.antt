@@ -1,20 +1,11 @@
 -- The slices of a game and its minimal winning coalitions.
-use Rattle.std.proofs.Common.{arith}
-use Rattle.std.specs.Prelude.{◌≡◌, ℕ, ◌≤◌, ◌^◌, List, length, All}
-use Rattle.std.proofs.lemmas.Grind.{common_steps}
+use Rattle.mwc_gather.proofs.Imports.{arith, ◌≡◌, ℕ, ◌≤◌, List, length, All, common_steps, ap, sym, ◌∙◌, votes_of, slices-joined, Slicing}
+use Rattle.mwc_gather.proofs.Imports.{IsPart, Part, length-joined, slicing, all_total}
+use Rattle.std.proofs.{Common.◌^◌, lemmas.List.Elements.All-weaker}
 use Rattle.std.specs.List.{range_with_len}
-use Rattle.std.proofs.Common.{ap, sym, ◌∙◌}
-use Rattle.std.proofs.lemmas.List.Elements.{All-weaker}
-use Rattle.council_game.specs.Votes.{minimal_coalitions}
-use Rattle.council_game.specs.Game.{GameView, votes_of}
-use Rattle.mwc_walk.proofs.Shared.Joined.{slices-joined}
-use Rattle.mwc_parts.specs.Slicing.{Slicing}
+use Rattle.council_game.specs.{Game.GameView, Votes.minimal_coalitions}
 use Rattle.mwc_parts.specs.Parts.{HasPieces}
-use Rattle.mwc_parts.specs.Shared.Settled.{IsPart}
-use Rattle.mwc_parts.specs.declared.part.Part.{Part}
-use Rattle.mwc_parts.proofs.Shared.Readings.{length-joined, piece_is}
-use Rattle.mwc_gather.specs.Slicings.{slicing}
-use Rattle.mwc_gather.specs.Inner.Gathering.{all_total}
+use Rattle.mwc_parts.proofs.Shared.Readings.{piece_is}
 
 -- the slices have as many coalitions as there are
 pub all_total_is : (game : GameView) (bits : ℕ) → bits ≤ 10 → bits ≤ length game.names

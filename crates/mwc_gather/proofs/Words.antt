@@ -1,13 +1,8 @@
 -- Words that are put and read.
-use Rattle.std.specs.Prelude.{◌≡◌, ℕ, ◌+◌, ◌≤◌, Bool, true, false, ◌||◌, cond, List, [], ◌∷◌, ◌++◌, count_by}
-use Rattle.std.proofs.lemmas.Grind.{common_steps}
-use Rattle.std.specs.List.{list_any}
-use Rattle.std.proofs.Common.{arith}
-use Rattle.std.proofs.lemmas.List.Sums.{sum_by-append, sum_by-cons}
-use Rattle.std.proofs.lemmas.Bool.{false≢true}
-use Rattle.mwc_pipe.specs.declared.word.Word.{Word}
-use Rattle.mwc_pipe.specs.declared.word.Word.TheVariants.{Open, One, Done, End}
-use Rattle.mwc_parts.specs.Shared.Wording.{is_done}
+use Rattle.mwc_gather.proofs.Imports.{◌≡◌, ℕ, ◌+◌, ◌≤◌, Bool, true, false, ◌||◌, cond, List, [], ◌∷◌, ◌++◌, common_steps, list_any, arith}
+use Rattle.mwc_gather.proofs.Imports.{sum_by-cons, false≢true, Word, Open, One, Done, is_done}
+use Rattle.std.proofs.{Common.count_by, lemmas.List.Sums.sum_by-append}
+use Rattle.mwc_pipe.specs.declared.word.Word.TheVariants.{End}
 
 -- the words that tell that a slice is whole
 done_more : (before row : List Word) → count_by is_done (before ++ row) ≡ count_by is_done before + count_by is_done row

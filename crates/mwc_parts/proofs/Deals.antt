@@ -1,18 +1,12 @@
 -- Deals, one slice at a time.
-use Rattle.std.specs.Prelude.{◌≡◌, ℕ, zero, suc, ◌+◌, ◌<◌, ◌≤◌, Bool, true, false, cond, List, [], ◌∷◌, ◌++◌, length, map, All, refl}
-use Rattle.std.proofs.lemmas.Grind.{common_steps}
-use Rattle.std.specs.List.{range_with_len}
-use Rattle.std.specs.List.Sorted.{IsStrictlyIncreasing}
-use Rattle.std.proofs.Common.{eqb, ltb, set, get_or, take, add-one, ap, arith, ◌∙◌}
-use Rattle.std.proofs.lemmas.Bool.{eq-eqb, ne_eqb}
-use Rattle.std.proofs.lemmas.Bool.Decides.{nat_tests}
-use Rattle.std.proofs.lemmas.List.{append-nil, take_all, take_more, length-take-le}
-use Rattle.std.proofs.lemmas.List.FromFn.{get_or-map-range_with_len, length-map-range_with_len}
-use Rattle.std.specs.List.{sum_by}
+use Rattle.std.proofs.Common.{ltb, set, get_or, take, add-one, ap, arith, ◌∙◌, eq-eqb, ne_eqb, append-nil, take_all, length-take-le, sum_by}
+use Rattle.std.proofs.Common.{◌≡◌, ℕ, zero, suc, ◌+◌, ◌<◌, ◌≤◌, Bool, true, false, cond, List, [], ◌∷◌, ◌++◌, length, map, All, refl, eqb}
+use Rattle.std.proofs.lemmas.{Bool.Decides.nat_tests, List.FromFn.get_or-map-range_with_len, List.FromFn.length-map-range_with_len}
+use Rattle.std.proofs.lemmas.{Grind.common_steps, List.take_more, List.Sums.sum_by-cons, List.Sums.sum_by_push, List.Sums.sum_by-set}
+use Rattle.std.specs.List.{range_with_len, Sorted.IsStrictlyIncreasing}
 use Rattle.mwc_parts.specs.Inner.Times.{times_in}
 use Rattle.mwc_parts.specs.Shared.Deals.{share_from, share_of, shares_by, AscendsFrom}
 use Rattle.coalitions.proofs.Shared.Ranges.{sum_by-range-more}
-use Rattle.std.proofs.lemmas.List.Sums.{sum_by-cons, sum_by_push, sum_by-set}
 
 cons_if : (b : Bool) (j : ℕ) (x a c : List ℕ) → x ≡ a ++ c → cond b (j ∷ x) x ≡ cond b (j ∷ a) a ++ c
 cons_if true j x a c e = ap (λ (w : List ℕ). j ∷ w) e

@@ -1,9 +1,7 @@
 -- Drafts, one word at a time.
-use Rattle.std.specs.Prelude.{◌≡◌, false, ◌||◌, [], ◌∷◌, ◌++◌, length}
+use Rattle.std.proofs.Common.{◌≡◌, false, ◌||◌, [], ◌∷◌, ◌++◌, length}
 use Rattle.mwc_pipe.specs.declared.word.Word.{Word}
-use Rattle.mwc_parts.specs.Pieces.{ones, done_counts}
-use Rattle.mwc_parts.specs.Drafts.{is_cut}
-use Rattle.mwc_parts.specs.declared.draft.Draft.{Draft}
+use Rattle.mwc_parts.specs.{Drafts.is_cut, Pieces.ones, Pieces.done_counts, declared.draft.Draft.Draft}
 
 -- the draft kept one more word, or lost it
 pub record Hears (old : Draft) (word : Word) (new : Draft) : Type 0 where

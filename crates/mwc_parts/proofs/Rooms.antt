@@ -1,8 +1,6 @@
 -- Drafts that lose nothing while there is room.
-use Rattle.std.specs.Prelude.{◌≡◌, ℕ, ◌<◌, Bool, true, false}
-use Rattle.std.proofs.Common.{arith, inl, inr}
-use Rattle.mwc_parts.specs.Drafts.{Grows, LacksRoom, LosesForWantOfRoom}
-use Rattle.mwc_parts.specs.declared.draft.Draft.{Draft}
+use Rattle.std.proofs.Common.{◌≡◌, ℕ, ◌<◌, Bool, true, false, arith, inl, inr}
+use Rattle.mwc_parts.specs.{Drafts.Grows, Drafts.LacksRoom, Drafts.LosesForWantOfRoom, declared.draft.Draft.Draft}
 
 -- what has no room for one more after it grew had no room for all
 lacks_more : (old mid : Draft) (i n : ℕ) → i < n → Grows old i mid → LacksRoom mid 1 → LacksRoom old n

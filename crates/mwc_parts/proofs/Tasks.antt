@@ -1,13 +1,10 @@
 -- What was taken of the tasks that were given.
-use Rattle.std.specs.Prelude.{◌≡◌, ℕ, ◌+◌, ◌<◌, ◌≤◌, Bool, true, false, List, [], ◌∷◌, ◌++◌, length, All, refl}
-use Rattle.std.proofs.Common.{arith}
+use Rattle.std.proofs.Common.{◌≡◌, ℕ, ◌+◌, ◌<◌, ◌≤◌, Bool, true, false, List, [], ◌∷◌, ◌++◌, length, All, refl, arith}
 use Rattle.std.proofs.lemmas.List.Elements.{All-head, All-tail}
-use Rattle.mwc_parts.specs.Slicing.{Slicing}
+use Rattle.mwc_parts.specs.{Shared.Wording.end_words, Slicing.Slicing, Wording.open_words, Wording.IsLast, Wording.coalition_count}
 use Rattle.mwc_pipe.specs.declared.word.Word.{Word}
 use Rattle.mwc_pipe.specs.declared.word.Word.TheVariants.{Open, One, Done, End}
-use Rattle.mwc_parts.specs.Wording.{open_words, IsLast, coalition_count}
 use Rattle.mwc_parts.proofs.Shared.Readings.{coalitions-cons}
-use Rattle.mwc_parts.specs.Shared.Wording.{end_words}
 
 -- no word that ends the work is a task that gives a slice
 not_last : (n j : ℕ) (last : Word) → last ≡ Open j → j < n → IsLast n last → ⊥

@@ -1,19 +1,13 @@
 -- The counts of a history and the items inside.
-use Rattle.std.proofs.Common.{◌≡◌, ℕ, ◌-◌, ◌<◌, ◌==◌, Bool, true, false, ◌||◌, List, [], ◌∷◌, ◌++◌, length, slice_get, if◌then◌else◌, refl, ap, sym, ◌∙◌, arith, drop, append_assoc, length-append, not}
-use Rattle.std.proofs.lemmas.Grind.{common_steps}
-use Rattle.std.proofs.lemmas.Bool.Decides.{nat_tests}
+use Rattle.std.proofs.Common.{◌≡◌, ℕ, ◌-◌, ◌<◌, ◌==◌, Bool, true, false, ◌||◌, List, [], ◌∷◌, ◌++◌, length, slice_get, if◌then◌else◌, refl}
+use Rattle.std.proofs.Common.{ap, sym, ◌∙◌, arith, drop, append_assoc, length-append, not, append-nil}
+use Rattle.std.proofs.lemmas.{Bool.Decides.nat_tests, Grind.common_steps, List.Elements.filter_map-append, List.Folds.list_any-append}
 use Rattle.std.proofs.Math.Bool.{or-false, or-true}
-use Rattle.std.proofs.lemmas.List.{append-nil}
-use Rattle.std.proofs.lemmas.List.Elements.{filter_map-append}
-use Rattle.std.proofs.lemmas.List.Folds.{list_any-append}
-use Rattle.mwc_pipe.specs.declared.step.Step.{Step}
-use Rattle.mwc_pipe.specs.declared.step.Step.TheVariants.{Put, Take, Close}
-use Rattle.mwc_pipe.specs.declared.reply.Reply.{Reply}
+use Rattle.mwc_pipe.specs.declared.{reply.Reply.Reply, step.Step.TheVariants.Put, step.Step.TheVariants.Take, step.Step.TheVariants.Close}
+use Rattle.mwc_pipe.specs.{Calls.reply_of_taken, Calls.reply_of_close, Calls.TakesOut, PipeView.PipeView, PipeView.Leaves, PipeView.IsStep}
+use Rattle.mwc_pipe.specs.declared.{step.Step.Step, taken.Taken.Taken}
 use Rattle.mwc_pipe.specs.declared.reply.Reply.TheVariants.{Accepted, Full, Closed, Item, Empty, Ended, First, Again}
 use Rattle.mwc_pipe.specs.History.{Event, is_close, items_in, items_out, reply_of_take, reply_to, history_after}
-use Rattle.mwc_pipe.specs.PipeView.{PipeView, Leaves, IsStep}
-use Rattle.mwc_pipe.specs.Calls.{reply_of_taken, reply_of_close, TakesOut}
-use Rattle.mwc_pipe.specs.declared.taken.Taken.{Taken}
 use Rattle.mwc_pipe.specs.declared.taken.Taken.TheVariants as taken
 
 pub get_after : {X : Type 0} (xs ys : List X) → slice_get (xs ++ ys) (length xs) ≡ slice_get ys 0

@@ -1,14 +1,9 @@
 -- What calls that move many items stand for.
-use Rattle.std.specs.Prelude.{◌≡◌, ℕ, ◌+◌, ◌<◌, ◌≤◌, Bool, true, false, List, [], ◌∷◌, ◌++◌, length, refl, suc, zero}
-use Rattle.std.proofs.lemmas.Grind.{common_steps}
-use Rattle.std.proofs.Common.{ap, ◌∙◌, sym, arith, append_assoc, length-append}
+use Rattle.std.proofs.Common.{◌≡◌, ℕ, ◌+◌, ◌<◌, ◌≤◌, Bool, true, false, List, [], ◌∷◌, ◌++◌, length, refl, suc, zero, ap, ◌∙◌, sym, arith}
+use Rattle.std.proofs.Common.{append_assoc, length-append, append-nil}
+use Rattle.std.proofs.lemmas.{Grind.common_steps, List.Elements.filter_map-append, List.Folds.list_any-append}
 use Rattle.std.proofs.Math.Bool.{or-false}
-use Rattle.std.proofs.lemmas.List.{append-nil}
-use Rattle.std.proofs.lemmas.List.Elements.{filter_map-append}
-use Rattle.std.proofs.lemmas.List.Folds.{list_any-append}
-use Rattle.mwc_pipe.specs.declared.step.Step.{Step}
-use Rattle.mwc_pipe.specs.declared.step.Step.TheVariants.{Put, Take}
-use Rattle.mwc_pipe.specs.declared.reply.Reply.{Reply}
+use Rattle.mwc_pipe.specs.declared.{reply.Reply.Reply, step.Step.Step, step.Step.TheVariants.Put, step.Step.TheVariants.Take}
 use Rattle.mwc_pipe.specs.declared.reply.Reply.TheVariants.{Accepted, Full, Item, Empty}
 use Rattle.mwc_pipe.specs.History.{Event, item_in, item_out, is_close, has_close, items_in, items_out, reply_to}
 use Rattle.mwc_pipe.specs.RowSteps.{puts_of, takes_of, AreAnswered, IsSeenByIn, IsSeenByOut}

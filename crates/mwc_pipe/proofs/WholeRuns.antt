@@ -1,21 +1,17 @@
 -- What holds after every list of steps.
-use Rattle.std.proofs.Common.{◌≡◌, ◌≢◌, ℕ, ◌+◌, ◌<◌, ◌≤◌, ◌==◌, Bool, true, false, ◌||◌, List, [], ◌∷◌, ◌++◌, length, Option, Some, None, slice_get, take, refl, ap, sym, ◌∙◌, arith, suc, zero, length-append, length-drop, get_or, zero-add, add-zero}
-use Rattle.std.proofs.lemmas.Grind.{common_steps}
-use Rattle.std.proofs.Math.Bool.{or-false, or-true, or_assoc}
+use Rattle.std.proofs.Common.{slice_get, take, refl, ap, sym, ◌∙◌, arith, suc, zero, length-append, length-drop, get_or, zero-add, add-zero}
+use Rattle.std.proofs.Common.{◌≡◌, ◌≢◌, ℕ, ◌+◌, ◌<◌, ◌≤◌, ◌==◌, Bool, true, false, ◌||◌, List, [], ◌∷◌, ◌++◌, length, Option, Some, None}
+use Rattle.std.proofs.Common.{filter_map, option_to_list}
+use Rattle.std.proofs.{Math.Bool.or-false, Math.Bool.or-true, Math.Bool.or_assoc, lemmas.List.Elements.filter_map-append}
+use Rattle.std.proofs.lemmas.{Grind.common_steps, List.map-append, List.take_more, List.Folds.list_any-append, Option.slice_get-map}
 use Rattle.std.proofs.lemmas.Bool.{eqb-false}
-use Rattle.std.specs.List.{list_any, filter_map}
-use Rattle.std.specs.Option.{option_to_list}
-use Rattle.std.proofs.lemmas.List.{map-append, take_more}
-use Rattle.std.proofs.lemmas.List.Elements.{filter_map-append}
-use Rattle.std.proofs.lemmas.Option.{slice_get-map}
-use Rattle.std.proofs.lemmas.List.Folds.{list_any-append}
-use Rattle.mwc_pipe.specs.declared.step.Step.{Step}
+use Rattle.std.specs.List.{list_any}
+use Rattle.mwc_pipe.specs.declared.{reply.Reply.Reply, reply.Reply.TheVariants.Accepted, reply.Reply.TheVariants.First, step.Step.Step}
 use Rattle.mwc_pipe.specs.declared.step.Step.TheVariants.{Put, Take, Close}
-use Rattle.mwc_pipe.specs.declared.reply.Reply.{Reply}
-use Rattle.mwc_pipe.specs.History.{Event, item_in, item_out, is_close, has_close, items_in, items_out, reply_to, history_after, history, replies, IsLawful}
 use Rattle.mwc_pipe.specs.PipeView.{PipeView, Leaves, IsStep}
+use Rattle.mwc_pipe.specs.History.{Event, item_in, item_out, is_close, has_close, items_in, items_out, reply_to, history_after, history}
+use Rattle.mwc_pipe.specs.History.{replies, IsLawful}
 use Rattle.mwc_pipe.specs.Laws.{NothingIsLost, NothingEntersAfterClose, EachReplyIsCounted, HasPast}
-use Rattle.mwc_pipe.specs.declared.reply.Reply.TheVariants.{Accepted, First}
 use Rattle.mwc_pipe.proofs.Counting.{holding, leaves_closed, history_after_more, stepped, reply_is, leaves_step, capacity_stays, get_after}
 
 get_first : {X : Type 0} (xs ys : List X) (k : ℕ) (x : X) → slice_get xs k ≡ Some x → slice_get (xs ++ ys) k ≡ Some x

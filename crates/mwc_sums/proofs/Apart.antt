@@ -1,10 +1,7 @@
 -- The counts of a game whose rules are those of two games that share no member.
-use Rattle.std.proofs.Common.{length, inl, inr}
-use Rattle.std.proofs.lemmas.Bool.{both_ways}
-use Rattle.council_game.specs.Game.{GameView}
-use Rattle.mwc_sums.specs.Chambers.{AreChambersOf, met}
-pub use Rattle.mwc_sums.proofs.Placed.{has_weight, met-seen, no-weight}
+use Rattle.mwc_sums.proofs.Imports.{length, inl, inr, both_ways, GameView, AreChambersOf, met}
 use Rattle.mwc_sums.proofs.Joining.{IsJoint}
+pub use Rattle.mwc_sums.proofs.Placed.{has_weight, met-seen, no-weight}
 
 pub joint-of : {g a b : GameView} → AreChambersOf g a b
     → IsJoint (length g.names) (has_weight a.rules) (has_weight b.rules) (met (length g.names) g.rules) (met (length g.names) a.rules)

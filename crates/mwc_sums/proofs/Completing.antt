@@ -1,19 +1,14 @@
 -- Coalitions that meet a need, and lose it without any one of their members, by their first member.
-use Rattle.std.proofs.Common.{◌≡◌, ◌∙◌, ◌↔◌, ◌⊎◌, ℕ, zero, suc, ◌+◌, ◌-◌, ◌/◌, ◌%◌, ◌^◌, ◌<◌, ◌≤◌, ◌==◌, true, false, cond, ltb}
-use Rattle.std.proofs.Common.{List, [], ◌∷◌, ◌++◌, length, get_or, map, sym, ap, refl, arith, inl, inr}
+use Rattle.mwc_sums.proofs.Imports.{◌≡◌, ◌∙◌, ◌↔◌, ◌⊎◌, ℕ, zero, suc, ◌+◌, ◌-◌, ◌^◌, ◌<◌, ◌≤◌, ◌==◌, true, false, cond, ltb, List, [], ◌∷◌}
+use Rattle.mwc_sums.proofs.Imports.{◌++◌, length, get_or, map, sym, ap, refl, arith, inl, inr, cases_lt, eqb-true, RuleView, has, size}
+use Rattle.mwc_sums.proofs.Imports.{weight, wins, down, weight-without, nat_tests}
+use Rattle.std.proofs.lemmas.Nat.{ones_cat, Bits.bit_at_cat_low, Bits.bit_at_cat_high, Bits.bit_at_above}
+use Rattle.std.proofs.Common.{◌/◌, ◌%◌, pow_pos}
 use native.Mathlib.Numerals.{unary_clauses}
-use Rattle.std.proofs.lemmas.Bool.{cases_lt, eqb-true}
-use Rattle.std.proofs.lemmas.Nat.{pow_pos}
-use Rattle.std.proofs.lemmas.Nat.Bits.{bit_at_cat_low, bit_at_cat_high, bit_at_above}
-use Rattle.council_game.specs.Votes.{RuleView, has, size, weight, wins, down}
-use Rattle.coalitions.proofs.Shared.Digits.{has-none}
-use Rattle.coalitions.proofs.Shared.Sizes.{size-ones}
+use Rattle.coalitions.proofs.Shared.{Digits.has-none, Sizes.size-ones}
 use Rattle.power_index.proofs.Shared.Members.{size-pos-at}
 use Rattle.std.specs.Int.Count.{ones-ones}
-use Rattle.std.proofs.lemmas.Nat.{ones_cat}
-use Rattle.council_game.proofs.Shared.WeightByDigits.{weight-cons}
-use Rattle.council_game.proofs.Shared.Weights.{weight-skip, weight-zero, weight-without}
-use Rattle.std.proofs.lemmas.Bool.Decides.{nat_tests}
+use Rattle.council_game.proofs.Shared.{WeightByDigits.weight-cons, Weights.weight-skip, Weights.weight-zero}
 pub use Rattle.std.specs.Cmp.{both_ways as same_test}
 
 -- ---- coalitions of one place more

@@ -1,12 +1,7 @@
 -- How many coalitions pass a test.
-use Rattle.std.proofs.Common.{◌≡◌, ◌∙◌, ℕ, suc, ◌+◌, ◌*◌, ◌^◌, ◌<◌, ◌&&◌, not, Bool, true, false, cond, List, [], ◌∷◌, ◌++◌}
-use Rattle.std.proofs.Common.{length, get_or, map, filter, ap, arith, length-append}
-use Rattle.std.proofs.lemmas.List.{length-map}
-use Rattle.std.proofs.lemmas.List.Elements.{filter-append}
-use Rattle.std.proofs.Math.Bool.{and-true, and-false}
-use Rattle.council_game.specs.Votes.{down}
-use Rattle.council_game.proofs.Shared.Listing.{down-below}
-use Rattle.std.proofs.lemmas.Bool.Decides.{nat_tests}
+use Rattle.mwc_sums.proofs.Imports.{◌≡◌, ◌∙◌, ℕ, suc, ◌+◌, ◌*◌, ◌^◌, ◌<◌, ◌&&◌, not, Bool, true, false, cond, List, [], ◌∷◌, ◌++◌, length}
+use Rattle.mwc_sums.proofs.Imports.{get_or, map, filter, ap, arith, length-map, filter-append, and-true, down, down-below, nat_tests}
+use Rattle.std.proofs.{Common.length-append, Math.Bool.and-false}
 use Rattle.mwc_sums.proofs.Filters.{filter-map, filter-both, filter-none, filter-same}
 use Rattle.mwc_sums.proofs.Completing.{double-pow, down-two}
 

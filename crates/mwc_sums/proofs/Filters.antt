@@ -1,8 +1,6 @@
 -- What passes a test.
-use Rattle.std.proofs.Common.{◌≡◌, ◌&&◌, Bool, true, false, cond, List, [], ◌∷◌, filter, map, refl, All}
-use Rattle.std.proofs.Common.{arith}
-use Rattle.std.proofs.lemmas.Bool.Decides.{nat_tests}
-use Rattle.std.proofs.lemmas.List.Elements.{All-head, All-tail}
+use Rattle.mwc_sums.proofs.Imports.{◌≡◌, ◌&&◌, Bool, true, false, cond, List, [], ◌∷◌, filter, map, refl, All, arith, nat_tests, All-head}
+use Rattle.mwc_sums.proofs.Imports.{All-tail}
 
 pub filter-none : {X : Type 0} (xs : List X) → filter (λ x. false) xs ≡ []
 filter-none [] = refl

@@ -1,23 +1,15 @@
 -- Where some weight and so many heads are asked for.
-use Rattle.std.proofs.Common.{◌≡◌, ◌∙◌, ◌↔◌, ◌⊎◌, ◌&&◌, ℕ, ◌+◌, ◌-◌, ◌*◌, ◌^◌, ◌<◌, ◌≤◌, Bool, true, cond, leb, List, [], ◌∷◌, length, filter, get_or, take, replicate}
-use Rattle.std.proofs.Common.{sym, ap, subst, arith}
-use Rattle.std.specs.List.{range_with_len}
-use Rattle.std.proofs.lemmas.Bool.{cases_lt, le-leb, leb-true, eqb-true}
-use Rattle.std.proofs.lemmas.List.{get_or-replicate, length-replicate}
-use Rattle.std.proofs.lemmas.List.Sums.{length-filter}
-use Rattle.council_game.specs.Votes.{RuleView, Votes, IsRanked, IsVotes, down, minimal_coalitions, has, without, weight, size, wins, minimal, rule_at}
-use Rattle.council_game.proofs.Shared.Weights.{weight-without}
-use Rattle.council_game.proofs.Shared.WinningByPlaces.{rule-is}
-use Rattle.power_index.proofs.Shared.Sums.{sum-range, sum-times}
-use Rattle.std.proofs.lemmas.Bool.Decides.{nat_tests}
+use Rattle.mwc_sums.proofs.Imports.{◌≡◌, ◌∙◌, ◌↔◌, ◌⊎◌, ◌&&◌, ℕ, ◌+◌, ◌-◌, ◌*◌, ◌^◌, ◌<◌, ◌≤◌, Bool, true, cond, leb, List, [], ◌∷◌, length}
+use Rattle.mwc_sums.proofs.Imports.{filter, get_or, take, sym, ap, subst, arith, range_with_len, cases_lt, le-leb, eqb-true, length-filter}
+use Rattle.mwc_sums.proofs.Imports.{RuleView, Votes, IsVotes, down, minimal_coalitions, has, without, weight, size, wins, minimal, rule_at}
+use Rattle.mwc_sums.proofs.Imports.{weight-without, rule-is, sum-range, nat_tests, down-below, completing}
+use Rattle.std.proofs.{Common.replicate, Common.leb-true, lemmas.List.get_or-replicate, lemmas.List.length-replicate}
+use Rattle.council_game.specs.Votes.{IsRanked}
+use Rattle.power_index.proofs.Shared.Sums.{sum-times}
 use Rattle.mwc_sums.specs.Heads.{AsksForHeads, first_rule, IsMinimalByHeads}
 use Rattle.mwc_sums.proofs.Completing.{Falls, IsLeast, same_test, wins-one}
-use Rattle.council_game.proofs.Shared.Listing.{down-below}
-use Rattle.mwc_sums.specs.Completing.{completing}
-use Rattle.mwc_sums.proofs.Filters.{filter-same}
+use Rattle.mwc_sums.proofs.{Filters.filter-same, Placed.minimal-min, Placed.weight-sum, Seating.IsMin}
 use Rattle.mwc_sums.proofs.Leads.{AreMet, leads, leads-are, leads-list}
-use Rattle.mwc_sums.proofs.Placed.{minimal-min, weight-sum}
-use Rattle.mwc_sums.proofs.Seating.{IsMin}
 
 -- where all weigh the same
 pub alike-weight : (ws : List ℕ) (e c : ℕ) → ((p : ℕ) → p < length ws → get_or ws p 0 ≡ e) → weight ws c ≡ size (length ws) c * e

@@ -1,17 +1,11 @@
 -- The tallies of a game whose rules are those of two others.
-use Rattle.std.proofs.Common.{◌≡◌, ◌∙◌, ◌==◌, ◌&&◌, ℕ, ◌+◌, ◌-◌, ◌*◌, ◌^◌, ◌<◌, ◌≤◌, Bool, List, [], ◌∷◌}
-use Rattle.std.proofs.Common.{length, get_or, filter, sym, refl, arith}
-use Rattle.std.proofs.lemmas.Bool.Decides.{nat_tests}
-use Rattle.std.specs.List.{sum_by, range_with_len}
-use Rattle.coalitions.proofs.Shared.Ranges.{sum_by-range-more, sum_by-range-le}
-use Rattle.council_game.specs.Votes.{has, minimal_coalitions}
-use Rattle.council_game.specs.Game.{GameView, IsGame, votes_of}
-use Rattle.power_index.specs.Counting.{size_of, count_of_size, count_of_member_size}
-use Rattle.std.proofs.lemmas.Bool.{cases_lt}
-use Rattle.power_index.proofs.Shared.Members.{size-le}
-use Rattle.power_index.proofs.Shared.Minimal.{minimal-few}
-use Rattle.power_index.proofs.Shared.Sums.{length-filter-le}
-use Rattle.mwc_sums.specs.Chambers.{AreChambersOf, paired, minimal_of_size, minimal_of_member_size}
+use Rattle.mwc_sums.proofs.Imports.{◌≡◌, ◌∙◌, ◌==◌, ◌&&◌, ℕ, ◌+◌, ◌-◌, ◌*◌, ◌^◌, ◌<◌, ◌≤◌, Bool, List, [], ◌∷◌, length, get_or, filter, sym}
+use Rattle.mwc_sums.proofs.Imports.{refl, arith, nat_tests, sum_by, range_with_len, sum_by-range-more, has, minimal_coalitions, GameView}
+use Rattle.mwc_sums.proofs.Imports.{IsGame, votes_of, size_of, cases_lt, minimal-few, AreChambersOf, paired, minimal_of_size}
+use Rattle.mwc_sums.proofs.Imports.{minimal_of_member_size}
+use Rattle.coalitions.proofs.Shared.Ranges.{sum_by-range-le}
+use Rattle.power_index.specs.Counting.{count_of_size, count_of_member_size}
+use Rattle.power_index.proofs.Shared.{Members.size-le, Sums.length-filter-le}
 use Rattle.mwc_sums.proofs.Pairs.{chamber-sizes, chamber-members}
 
 -- the pairs of a size, with one more

@@ -1,7 +1,6 @@
 -- Sets that win where they win under two conditions, each of which sees members of its own.
-use Rattle.std.proofs.Common.{◌≡◌, ◌∙◌, ◌&&◌, ◌||◌, ℕ, ◌<◌, Bool, true, false, arith}
-use Rattle.std.proofs.lemmas.Bool.{false_from_ne_true, both_ways, true_from_ne_false}
-use Rattle.std.proofs.lemmas.Bool.Decides.{nat_tests}
+use Rattle.mwc_sums.proofs.Imports.{◌≡◌, ◌∙◌, ◌&&◌, ◌||◌, ℕ, ◌<◌, Bool, true, false, arith, both_ways, true_from_ne_false, nat_tests}
+use Rattle.std.proofs.lemmas.Bool.{false_from_ne_true}
 use Rattle.mwc_sums.proofs.Seating.{less, IsLeast}
 
 -- a test of sets sees these members alone

@@ -1,15 +1,13 @@
 -- The coalitions that members lead to, the heaviest first, and how many they are.
-use Rattle.mwc_sums.proofs.Completing.{last-in, last-behind}
-use Rattle.std.proofs.Common.{◌≡◌, ◌∙◌, ◌↔◌, ◌⊎◌, ℕ, zero, suc, ◌+◌, ◌-◌, ◌*◌, ◌^◌, ◌<◌, ◌≤◌, ◌==◌, ◌&&◌, ◌||◌, not, Bool, true, false, cond, leb, ltb}
-use Rattle.std.proofs.Common.{List, [], ◌∷◌, ◌++◌, map, filter, length, get_or, ap, refl, arith, inl, inr}
-use Rattle.std.proofs.lemmas.Bool.{cases_lt, cond-false, cond-true, le-ltb, lt-ltb}
-use Rattle.std.proofs.lemmas.Bool.Decides.{nat_tests}
-use Rattle.mwc_sums.specs.Completing.{completing}
-use Rattle.council_game.specs.Votes.{has, size, weight, down}
+use Rattle.mwc_sums.proofs.Completing.{last-in, last-behind, IsLeast, Falls, double-pow, first-in, first-out, last, none-or-some, rest-in}
+use Rattle.mwc_sums.proofs.Completing.{rest-out, size-left, size-with, weight-left, weight-with}
+use Rattle.mwc_sums.proofs.Imports.{false, cond, leb, ltb, List, [], ◌∷◌, ◌++◌, map, filter, length, get_or, ap, refl, arith, inl, inr}
+use Rattle.mwc_sums.proofs.Imports.{◌≡◌, ◌∙◌, ◌↔◌, ◌⊎◌, ℕ, zero, suc, ◌+◌, ◌-◌, ◌*◌, ◌^◌, ◌<◌, ◌≤◌, ◌==◌, ◌&&◌, ◌||◌, not, Bool, true}
+use Rattle.mwc_sums.proofs.Imports.{cases_lt, le-ltb, lt-ltb, nat_tests, completing, has, size, weight, down}
+use Rattle.std.proofs.lemmas.Bool.{cond-false, cond-true}
 use Rattle.council_game.proofs.Shared.WeightByDigits.{weight-nil}
 use Rattle.weight_sums.specs.Endings.{choose, one_of_size, fill, endings, left_out}
 use Rattle.mwc_sums.proofs.Filters.{filter-none}
-use Rattle.mwc_sums.proofs.Completing.{IsLeast, Falls, double-pow, first-in, first-out, last, none-or-some, rest-in, rest-out, size-left, size-with, weight-left, weight-with}
 use Rattle.mwc_sums.proofs.Counting.{count, count-and, count-first, count-never, count-parted, filter-first}
 
 -- a coalition that members lead to, from a need and a number of members: where the first meets the need, others behind it fill it up to the heads

@@ -19,3 +19,4 @@ mod Matching
 mod Placed
 pub mod Heads
 mod Seated
+mod Imports

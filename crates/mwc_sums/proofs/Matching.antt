@@ -1,12 +1,8 @@
 -- As many coalitions pass one test as pass another.
-use Rattle.std.proofs.Common.{◌≡◌, ◌∙◌, ◌↔◌, ◌==◌, ◌&&◌, ℕ, zero, suc, ◌+◌, ◌^◌, ◌<◌, Bool, true, false, List, length, get_or, filter}
-use Rattle.std.proofs.Common.{sym, ap, refl, arith, inl, inr}
-use Rattle.std.specs.List.{sum_by}
-use Rattle.std.proofs.lemmas.Bool.{both_ways, cases_eq}
-use Rattle.std.proofs.lemmas.List.Sums.{sum_by-cons, length-filter}
-use Rattle.council_game.specs.Votes.{down}
-use Rattle.power_index.proofs.Shared.Sums.{exchange, sum-zero}
-use Rattle.std.proofs.lemmas.Bool.Decides.{nat_tests}
+use Rattle.mwc_sums.proofs.Imports.{◌≡◌, ◌∙◌, ◌↔◌, ◌==◌, ◌&&◌, ℕ, zero, suc, ◌+◌, ◌^◌, ◌<◌, Bool, true, false, List, length, get_or, filter}
+use Rattle.mwc_sums.proofs.Imports.{sym, ap, refl, arith, inl, inr, sum_by, both_ways, cases_eq, sum_by-cons, length-filter, down, sum-zero}
+use Rattle.mwc_sums.proofs.Imports.{nat_tests}
+use Rattle.power_index.proofs.Shared.Sums.{exchange}
 use Rattle.mwc_sums.proofs.Filters.{filter-both}
 use Rattle.mwc_sums.proofs.Seating.{one_if, IsLeast, IsSeating, LooksAt, as_mask, least-same, mask-is, mask-less, mask-seen, seen}
 

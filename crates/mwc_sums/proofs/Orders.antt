@@ -1,20 +1,12 @@
 -- The counts of a game do not depend on the order of its rules, nor on the order of its places.
-use Rattle.std.proofs.Common.{◌≡◌, ◌∙◌, ◌==◌, ◌&&◌, ℕ, suc, ◌<◌}
-use Rattle.std.proofs.Common.{Bool, true, leb, List, [], ◌∷◌, length, filter, sym, ap, subst, refl, arith}
-use Rattle.std.specs.List.Sorted.{IsPermutation}
-use Rattle.std.proofs.lemmas.List.Sorted.{All-permutation, IsPermutation-sym}
-use Rattle.std.proofs.lemmas.List.Sums.{AllPass-from_list_all, list_all-from_AllPass}
-use Rattle.council_game.specs.Votes.{RuleView, minimal, minimal_coalitions}
-use Rattle.council_game.specs.Game.{GameView, IsGame, votes_of}
-use Rattle.power_index.specs.Counting.{contains, size_of}
+use Rattle.mwc_sums.proofs.Imports.{◌≡◌, ◌∙◌, ◌==◌, ◌&&◌, ℕ, suc, ◌<◌, Bool, true, leb, List, [], ◌∷◌, length, filter, sym, ap, subst, refl}
+use Rattle.mwc_sums.proofs.Imports.{arith, AllPass-from_list_all, list_all-from_AllPass, RuleView, minimal, minimal_coalitions, GameView}
+use Rattle.mwc_sums.proofs.Imports.{IsGame, votes_of, contains, size_of, met, weighs, AreRulesOf}
+use Rattle.std.proofs.{Common.IsPermutation, lemmas.List.Sorted.All-permutation, lemmas.List.Sorted.IsPermutation-sym}
 use Rattle.power_index.specs.Tables.{Tables, AreCounts}
-use Rattle.mwc_sums.specs.Chambers.{met, weighs}
-use Rattle.mwc_sums.specs.Inner.Rules.{AreRulesOf}
 use Rattle.mwc_sums.specs.Orders.{HaveTheSameRules}
-use Rattle.mwc_sums.proofs.Completing.{same_test}
-use Rattle.mwc_sums.proofs.Matching.{Holds, alike-count}
-use Rattle.mwc_sums.proofs.Placed.{game-holds, met-looks, seen-contains}
-use Rattle.mwc_sums.proofs.Seating.{alike-size, seen}
+use Rattle.mwc_sums.proofs.{Matching.Holds, Matching.alike-count, Placed.game-holds, Placed.met-looks, Placed.seen-contains}
+use Rattle.mwc_sums.proofs.{Completing.same_test, Seating.alike-size, Seating.seen}
 
 count-all : (xs : List ℕ) → length (filter (λ c. true) xs) ≡ length xs
 count-all [] = refl

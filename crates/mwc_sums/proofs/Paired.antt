@@ -1,13 +1,8 @@
 -- Pairs of two lists that have a size together.
-use Rattle.std.proofs.Common.{◌≡◌, ◌∙◌, ◌==◌, ◌&&◌, ℕ, ◌+◌, ◌-◌, ◌*◌, Bool, leb, ◌≤◌, List, [], ◌∷◌, length}
-use Rattle.std.proofs.Common.{filter, sym, ap, arith}
-use Rattle.std.specs.List.{sum_by}
-use Rattle.std.proofs.lemmas.List.Sums.{sum_by-cons}
-use Rattle.mwc_sums.proofs.Filters.{filter-both}
-use Rattle.power_index.proofs.Shared.Sums.{sum-range, sum-filter, sum-by_size}
-use Rattle.std.proofs.lemmas.Bool.Decides.{nat_tests}
-use Rattle.mwc_sums.specs.Chambers.{paired}
-use Rattle.mwc_sums.proofs.Seating.{one_if}
+use Rattle.mwc_sums.proofs.Imports.{◌≡◌, ◌∙◌, ◌==◌, ◌&&◌, ℕ, ◌+◌, ◌-◌, ◌*◌, Bool, leb, ◌≤◌, List, [], ◌∷◌, length, filter, sym, ap, arith}
+use Rattle.mwc_sums.proofs.Imports.{sum_by, sum_by-cons, sum-range, sum-filter, nat_tests, paired}
+use Rattle.mwc_sums.proofs.{Filters.filter-both, Seating.one_if}
+use Rattle.power_index.proofs.Shared.Sums.{sum-by_size}
 
 -- one of the first list, with those of the second that fill it up to s
 row : (n q : ℕ → Bool) (l : ℕ → ℕ) (m p : Bool) (k s : ℕ) (ys : List ℕ) → sum_by (λ y. one_if ((m && n y) && ((p && q y) && (k + l y == s)))) ys

@@ -1,18 +1,10 @@
 -- How many coalitions of a game are one of each of two games together.
-use Rattle.std.proofs.Common.{◌≡◌, ◌∙◌, ◌↔◌, ◌==◌, ◌&&◌, ◌||◌, ℕ, ◌+◌, ◌^◌, ◌<◌, Bool, true, false, List, length, filter}
-use Rattle.std.proofs.Common.{sym, refl, subst, arith}
-use Rattle.std.specs.List.{sum_by, range_with_len}
-use Rattle.std.proofs.lemmas.Bool.{and_parts, and_from}
-use Rattle.council_game.specs.Votes.{minimal, down, minimal_coalitions}
-use Rattle.council_game.specs.Game.{GameView, IsGame, votes_of}
-use Rattle.power_index.specs.Counting.{contains, size_of}
-use Rattle.power_index.proofs.Shared.Sums.{sum-plus, sum-range}
-use Rattle.std.proofs.lemmas.Bool.Decides.{nat_tests}
-use Rattle.mwc_sums.proofs.Apart.{has_weight, joint-of}
-use Rattle.mwc_sums.specs.Chambers.{AreChambersOf, met, paired, minimal_of_size, minimal_of_member_size}
+use Rattle.mwc_sums.proofs.Imports.{subst, arith, sum_by, range_with_len, and_parts, and_from, minimal, down, minimal_coalitions, GameView}
+use Rattle.mwc_sums.proofs.Imports.{◌≡◌, ◌∙◌, ◌↔◌, ◌==◌, ◌&&◌, ◌||◌, ℕ, ◌+◌, ◌^◌, ◌<◌, Bool, true, false, List, length, filter, sym, refl}
+use Rattle.mwc_sums.proofs.Imports.{IsGame, votes_of, contains, size_of, sum-plus, sum-range, nat_tests, AreChambersOf, met, paired}
+use Rattle.mwc_sums.proofs.Imports.{minimal_of_size, minimal_of_member_size}
+use Rattle.mwc_sums.proofs.{Apart.has_weight, Apart.joint-of, Matching.ArePairs, Matching.paired-off, Paired.pairs-of_size}
 use Rattle.mwc_sums.proofs.Joining.{IsJoint, flipped-joint, least-half, least-sides, least-apart, least-own, least-union}
-use Rattle.mwc_sums.proofs.Matching.{ArePairs, paired-off}
-use Rattle.mwc_sums.proofs.Paired.{pairs-of_size}
 use Rattle.mwc_sums.proofs.Placed.{game-holds, game-least, game-seats, seen-contains}
 use Rattle.mwc_sums.proofs.Seating.{IsLeast, IsSeating, as_mask, mask-is, mask-less, mask-seen, one_if, seen, seen-size}
 

@@ -1,21 +1,10 @@
 -- The minimal winning coalitions of a game hold the least sets of members that win.
-use Rattle.std.proofs.Common.{◌≡◌, ◌∙◌, ◌↔◌, ◌==◌, ◌&&◌, not, ℕ, suc, ◌*◌, ◌<◌, Bool, true, false, cond, leb, List, [], ◌∷◌, length}
-use Rattle.std.proofs.Common.{get_or, map, sym, ap, refl, subst, arith}
-use Rattle.std.specs.List.{list_any, sum_by, range_with_len}
-use Rattle.std.proofs.lemmas.Bool.Decides.{nat_tests}
-use Rattle.std.proofs.lemmas.Bool.{lt-ltb}
-use Rattle.std.proofs.lemmas.List.{length-map, get_or-map}
-use Rattle.std.proofs.lemmas.List.FromFn.{length-range_with_len}
-use Rattle.council_game.specs.Votes.{RuleView, Votes, has, wins, weight, minimal}
-use Rattle.council_game.specs.Ranks.{places, member_at, members_by_rank, rule_by_rank}
-use Rattle.council_game.specs.Game.{GameView, IsGame, votes_of}
-use Rattle.council_game.proofs.Shared.Making.{ranks-are}
-use Rattle.council_game.proofs.Shared.Meanings.{needs-each-member}
-use Rattle.council_game.proofs.Shared.RankPlaces.{game-rank_places}
-use Rattle.council_game.proofs.Shared.Rankings.{places-at, length-weights_by_rank}
-use Rattle.power_index.specs.Counting.{contains}
-use Rattle.power_index.proofs.Shared.Sums.{sum-filter, sum-range}
-use Rattle.mwc_sums.specs.Chambers.{HasNoWeight, weighs, met}
+use Rattle.mwc_sums.proofs.Imports.{GameView, IsGame, votes_of, ranks-are, places-at, contains, sum-filter, sum-range, HasNoWeight, weighs}
+use Rattle.mwc_sums.proofs.Imports.{◌≡◌, ◌∙◌, ◌↔◌, ◌==◌, ◌&&◌, not, ℕ, suc, ◌*◌, ◌<◌, Bool, true, false, cond, leb, List, [], ◌∷◌, length}
+use Rattle.mwc_sums.proofs.Imports.{length-map, get_or-map, length-range_with_len, RuleView, Votes, has, wins, weight, minimal, member_at}
+use Rattle.mwc_sums.proofs.Imports.{get_or, map, sym, ap, refl, subst, arith, list_any, sum_by, range_with_len, nat_tests, lt-ltb, met}
+use Rattle.council_game.specs.Ranks.{places, members_by_rank, rule_by_rank}
+use Rattle.council_game.proofs.Shared.{Meanings.needs-each-member, RankPlaces.game-rank_places, Rankings.length-weights_by_rank}
 use Rattle.mwc_sums.proofs.Matching.{Holds}
 use Rattle.mwc_sums.proofs.Seating.{IsLeast, IsMin, IsSeating, LooksAt, least-min, seen, seen-sum}
 

@@ -1,18 +1,10 @@
 -- Games of the same members with other rules.
-use Rattle.std.proofs.Common.{◌≡◌, None, Ok, Err, ℕ, ◌<◌, ◌≤◌, false, List, []}
-use Rattle.std.proofs.Common.{length, get_or, subst, arith, All}
-use Rattle.std.proofs.lemmas.Bool.{both_ways, cases_lt, le-ltb}
-use Rattle.std.proofs.lemmas.List.{get_or_past, get_or_default}
-use Rattle.std.proofs.lemmas.List.Folds.{list_any_none}
-use Rattle.std.proofs.lemmas.List.Elements.{All-from_recursion}
-use Rattle.council_game.specs.Votes.{RuleView, rule_at}
-use Rattle.council_game.specs.declared.fault.GameFault.{GameFault}
-use Rattle.council_game.specs.declared.fault.GameFault.TheVariants.{Memory}
-use Rattle.council_game.specs.Fault.{Answers}
-use Rattle.council_game.specs.Ranks.{rank_places}
-use Rattle.council_game.specs.Game.{GameView, IsGame, made_game, first_weights, has_bad_quota}
+use Rattle.mwc_sums.proofs.Imports.{◌≡◌, ℕ, ◌<◌, ◌≤◌, false, List, [], length, get_or, subst, arith, All, both_ways, cases_lt, le-ltb}
+use Rattle.mwc_sums.proofs.Imports.{get_or_past, All-from_recursion, RuleView, rule_at, GameView, IsGame, has_bad_quota, IsFair}
+use Rattle.std.proofs.{Common.None, Common.Ok, Common.Err, lemmas.List.get_or_default, lemmas.List.Folds.list_any_none}
+use Rattle.council_game.specs.{Ranks.rank_places, declared.fault.GameFault.GameFault, declared.fault.GameFault.TheVariants.Memory}
+use Rattle.council_game.specs.{Fault.Answers, Game.made_game, Game.first_weights}
 use Rattle.council_game.proofs.Shared.Games.{passed, none-any, light-weights, makes, position_nowhere}
-use Rattle.mwc_sums.specs.Inner.Fair.{IsFair}
 
 -- each rule of a game is one that a game can have
 pub fair-of : (g : GameView) (k : ℕ) → IsGame g → k < length g.rules → IsFair (length g.names) (rule_at g.rules k)

@@ -1,16 +1,11 @@
 -- Coalitions of the first places of a ranking, and the sets of members that they hold.
-use Rattle.std.proofs.Common.{◌≡◌, ◌∙◌, ◌↔◌, ◌&&◌, not, ℕ, zero, suc, ◌+◌, ◌^◌, ◌<◌, ◌≤◌, Bool, true, false, cond, eqb, ltb}
-use Rattle.std.proofs.Common.{List, get_or, sym, ap, refl, arith, inl, inr}
-use Rattle.std.specs.List.{sum_by, range_with_len}
-use Rattle.std.proofs.lemmas.Bool.{cases_eq, and_parts, le-ltb, ltb-true}
-use Rattle.std.proofs.lemmas.List.Sums.{length-filter}
+use Rattle.mwc_sums.proofs.Imports.{◌≡◌, ◌∙◌, ◌↔◌, ◌&&◌, not, ℕ, zero, suc, ◌+◌, ◌^◌, ◌<◌, ◌≤◌, Bool, true, false, cond, ltb, List, get_or}
+use Rattle.mwc_sums.proofs.Imports.{sym, ap, refl, arith, inl, inr, sum_by, range_with_len, cases_eq, and_parts, le-ltb, ltb-true}
+use Rattle.mwc_sums.proofs.Imports.{length-filter, nat_tests, has, size, without, member_at, RanksAre, sum-range}
+use Rattle.std.proofs.Common.{eqb}
 use Rattle.coalitions.proofs.Shared.Digits.{has-kept, has-gone, same-places}
-use Rattle.std.proofs.lemmas.Bool.Decides.{nat_tests}
-use Rattle.council_game.specs.Votes.{has, size, without}
-use Rattle.council_game.specs.Ranks.{AreRankPlaces, member_at}
-use Rattle.council_game.proofs.Shared.Making.{RanksAre}
+use Rattle.council_game.specs.Ranks.{AreRankPlaces}
 use Rattle.council_game.proofs.Shared.RankPlaces.{by-member}
-use Rattle.power_index.proofs.Shared.Sums.{sum-range}
 use Rattle.mwc_sums.proofs.Completing.{double-pow, first-in, first-out, rest-in, rest-out}
 use Rattle.mwc_sums.proofs.Vetoing.{one-more}
 pub use Rattle.mwc_sums.specs.Inner.Seats.{seen}

@@ -1,24 +1,12 @@
 -- The rules that share a member with one, and the others.
-use Rattle.std.proofs.Common.{◌≡◌, ◌≢◌, ◌∙◌, ◌&&◌, ◌||◌, not, ◌⊎◌, ℕ, zero, suc, ◌+◌, ◌<◌, ◌≤◌, Bool, true, false, ltb, List, [], ◌∷◌}
-use Rattle.std.proofs.Common.{length, get_or, filter, take, sym, ap, refl, arith, inl, inr, All}
-use Rattle.std.proofs.lemmas.Bool.{ltb-true, both_ways}
-use Rattle.std.proofs.lemmas.Bool.{true_from_ne_false}
-use Rattle.std.proofs.Math.Bool.{and-true}
-use Rattle.std.proofs.lemmas.List.{nil_from_length}
-use Rattle.std.proofs.lemmas.List.Filters.{length-filter_both}
-use Rattle.std.proofs.lemmas.List.Sums.{AllPass-from_list_all, list_all-from_AllPass}
-use Rattle.std.proofs.lemmas.List.Elements.{All-filter, All-from_get_or, All-take}
-use Rattle.council_game.specs.Votes.{RuleView, rule_at}
-use Rattle.council_game.specs.Game.{GameView}
-use Rattle.std.proofs.lemmas.Bool.Decides.{nat_tests}
-use Rattle.mwc_sums.specs.Chambers.{met, share, chamber_of, HasNoWeight, AreChambersOf}
-use Rattle.mwc_sums.specs.Heads.{are_of_one_chamber}
-use Rattle.mwc_sums.specs.Statute.{counted, is_counted, left, statute}
-use Rattle.mwc_sums.specs.Inner.Fair.{IsFair}
-use Rattle.mwc_sums.specs.Inner.Rules.{AreOfChambers, AreRulesOf, beside_of, part_of}
-use Rattle.mwc_sums.proofs.Vetoing.{alike-sum}
-use Rattle.mwc_sums.proofs.VetoRules.{good-met, good-some}
-use Rattle.mwc_sums.proofs.Filters.{filter-both, filter-within}
+use Rattle.mwc_sums.proofs.Imports.{◌≡◌, ◌≢◌, ◌∙◌, ◌&&◌, ◌||◌, not, ◌⊎◌, ℕ, zero, suc, ◌+◌, ◌<◌, ◌≤◌, Bool, true, false, ltb, List, [], ◌∷◌}
+use Rattle.mwc_sums.proofs.Imports.{true_from_ne_false, and-true, length-filter_both, AllPass-from_list_all, list_all-from_AllPass}
+use Rattle.mwc_sums.proofs.Imports.{All-filter, All-from_get_or, RuleView, rule_at, GameView, nat_tests, met, share, chamber_of}
+use Rattle.mwc_sums.proofs.Imports.{HasNoWeight, AreChambersOf, are_of_one_chamber, is_counted, statute, IsFair, AreRulesOf}
+use Rattle.mwc_sums.proofs.Imports.{length, get_or, filter, take, sym, ap, refl, arith, inl, inr, All, ltb-true, both_ways}
+use Rattle.std.proofs.lemmas.List.{nil_from_length, Elements.All-take}
+use Rattle.mwc_sums.specs.{Inner.Rules.AreOfChambers, Inner.Rules.beside_of, Inner.Rules.part_of, Statute.counted, Statute.left}
+use Rattle.mwc_sums.proofs.{Filters.filter-both, Filters.filter-within, VetoRules.good-met, VetoRules.good-some, Vetoing.alike-sum}
 use Rattle.mwc_sums.proofs.Tests.{All-passing, any-at, any-of, missing}
 
 -- ---- who has weight in two rules

@@ -1,13 +1,8 @@
 -- Tests of the members of a game.
-use Rattle.std.proofs.Common.{◌≡◌, ◌∙◌, ◌&&◌, not, ◌⊎◌, ℕ, ◌<◌, Bool, true, false, All, List, filter, ap, sym, arith, inl, inr}
-use Rattle.std.specs.List.{list_all, list_any, range_with_len}
-use Rattle.std.proofs.lemmas.Bool.{cases_Bool}
-use Rattle.std.proofs.lemmas.Bool.Decides.{nat_tests}
-use Rattle.std.proofs.lemmas.List.FromFn.{length-range_with_len}
-use Rattle.std.proofs.lemmas.List.Folds.{Any-from_list_any, list_any_at}
-use Rattle.std.proofs.lemmas.List.Elements.{All-filter, filter_passes}
-use Rattle.std.proofs.lemmas.List.Sums.{AllPass-from_list_all}
-use Rattle.council_game.proofs.Shared.Rankings.{places-at}
+use Rattle.mwc_sums.proofs.Imports.{list_all, list_any, range_with_len, nat_tests, length-range_with_len, All-filter, AllPass-from_list_all}
+use Rattle.mwc_sums.proofs.Imports.{◌≡◌, ◌∙◌, ◌&&◌, not, ◌⊎◌, ℕ, ◌<◌, Bool, true, false, All, List, filter, ap, sym, arith, inl, inr}
+use Rattle.mwc_sums.proofs.Imports.{places-at}
+use Rattle.std.proofs.lemmas.{Bool.cases_Bool, List.Elements.filter_passes, List.Folds.Any-from_list_any, List.Folds.list_any_at}
 
 pub any-at : (t : ℕ → Bool) (n i : ℕ) → i < n → t i ≡ true → list_any t (range_with_len 0 n) ≡ true
 any-at t n i lt passes =

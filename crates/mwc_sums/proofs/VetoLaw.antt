@@ -1,13 +1,9 @@
 -- A member without whom some rule can not be met is in each winning coalition.
-use Rattle.std.proofs.Common.{◌≡◌, ◌∙◌, ℕ, ◌^◌, ◌<◌, true, leb, List, [], length, get_or}
-use Rattle.std.proofs.Common.{ap, refl, arith}
-use Rattle.std.proofs.lemmas.Bool.{lt-leb, true_from_ne_false, both_ways}
-use Rattle.std.proofs.lemmas.List.Folds.{list_all_at}
-use Rattle.council_game.specs.Votes.{RuleView, Votes, IsVotes, rule_at, has, weight, wins}
-use Rattle.council_game.proofs.Shared.WinningByPlaces.{rule-is}
+use Rattle.mwc_sums.proofs.Imports.{◌≡◌, ◌∙◌, ℕ, ◌^◌, ◌<◌, true, leb, List, [], length, get_or, ap, refl, arith, true_from_ne_false}
+use Rattle.mwc_sums.proofs.Imports.{both_ways, list_all_at, RuleView, Votes, IsVotes, rule_at, has, weight, wins, rule-is}
+use Rattle.std.proofs.lemmas.Bool.{lt-leb}
 use Rattle.mwc_sums.specs.Vetoers.{IsVetoer}
-use Rattle.mwc_sums.proofs.Placed.{weight-sum}
-use Rattle.mwc_sums.proofs.Vetoing.{beside, row-sum}
+use Rattle.mwc_sums.proofs.{Placed.weight-sum, Vetoing.beside, Vetoing.row-sum}
 
 pub vetoer-in : (v : Votes) (p c : ℕ) → IsVotes v → p < v.members → IsVetoer v p → c < 2 ^ v.members → wins v.rules c ≡ true
     → has v.members p c ≡ true

@@ -1,26 +1,12 @@
 -- The rules that a game consists of are rules that a game can have.
-use Rattle.std.proofs.Common.{◌≡◌, ℕ, ◌+◌, ◌<◌, ◌≤◌, Bool, true, false, ltb, not, List, [], ◌∷◌, ◌++◌, length, get_or, map, filter, take, refl, arith}
-use Rattle.std.proofs.Common.{All, ◌∙◌, ◌*◌, cond, leb}
-use Rattle.std.specs.List.{sum, range_with_len, sum_by}
-use Rattle.std.proofs.lemmas.Bool.{cases_lt, ltb-true, both_ways}
-use Rattle.std.proofs.lemmas.List.{get_or_past, length-map, take_more, map-append}
-use Rattle.std.proofs.lemmas.List.FromFn.{length-map-range_with_len}
-use Rattle.std.proofs.lemmas.List.Elements.{All-cons, All-map, filter-append}
-use Rattle.std.proofs.lemmas.List.Filters.{length-filter_both}
-use Rattle.council_game.specs.Votes.{RuleView, rule_at}
-use Rattle.council_game.specs.Game.{has_bad_quota, GameView, IsGame}
-use Rattle.std.proofs.lemmas.Bool.Decides.{nat_tests}
-use Rattle.std.proofs.lemmas.Grind.{common_steps}
-use Rattle.mwc_sums.specs.Statute.{rules_beside, statute}
-use Rattle.mwc_sums.specs.Vetoers.{number_of, rest_of, rule_for, can_veto}
-use Rattle.mwc_sums.specs.Inner.Fair.{IsFair}
-use Rattle.mwc_sums.proofs.Tests.{All-passing}
+use Rattle.mwc_sums.proofs.Imports.{take, refl, arith, All, ◌∙◌, ◌*◌, cond, leb, sum, range_with_len, sum_by, cases_lt, ltb-true, both_ways}
+use Rattle.mwc_sums.proofs.Imports.{◌≡◌, ℕ, ◌+◌, ◌<◌, ◌≤◌, Bool, true, false, ltb, not, List, [], ◌∷◌, ◌++◌, length, get_or, map, filter}
+use Rattle.mwc_sums.proofs.Imports.{rule_at, has_bad_quota, GameView, IsGame, nat_tests, common_steps, rules_beside, statute, number_of}
+use Rattle.mwc_sums.proofs.Imports.{get_or_past, length-map, length-map-range_with_len, filter-append, length-filter_both, RuleView}
+use Rattle.mwc_sums.proofs.Imports.{rest_of, rule_for, can_veto, IsFair, list_all_at, sum-range, sum-zero, met, weighs, AreRulesOf}
+use Rattle.std.proofs.lemmas.List.{take_more, map-append, Elements.All-cons, Elements.All-map}
+use Rattle.mwc_sums.proofs.{Remaking.fair-all, Remaking.fair-of, Tests.All-passing}
 use Rattle.mwc_sums.proofs.Vetoing.{both-sums, row-sum, made-sum, made-at, vetoers-both}
-use Rattle.std.proofs.lemmas.List.Folds.{list_all_at}
-use Rattle.power_index.proofs.Shared.Sums.{sum-range, sum-zero}
-use Rattle.mwc_sums.specs.Chambers.{met, weighs}
-use Rattle.mwc_sums.specs.Inner.Rules.{AreRulesOf}
-use Rattle.mwc_sums.proofs.Remaking.{fair-all, fair-of}
 
 good : (r : RuleView) → 0 < r.quota → r.quota ≤ sum r.weights → has_bad_quota r ≡ false
 good r some met = grind (arith, nat_tests)

@@ -1,20 +1,10 @@
 -- Where all members that can veto agree, the rules ask the others for what is left.
-use Rattle.std.proofs.Common.{◌≡◌, ◌∙◌, ℕ, suc, ◌+◌, ◌-◌, ◌*◌, ◌<◌, ◌≤◌, Bool, true, false, cond, leb, ltb, List, [], ◌∷◌, length, get_or, map}
-use Rattle.std.proofs.Common.{filter, sym, ap, refl, arith, inl, inr, All}
-use Rattle.std.specs.List.{fold, sum, sum_by, range_with_len}
-use Rattle.std.proofs.lemmas.List.Sums.{get_or-le-sum_by, sum_by-cons}
-use Rattle.std.proofs.lemmas.Bool.{le-leb}
-use Rattle.std.proofs.lemmas.List.FromFn.{fill_by_all, get_or-map-range_with_len, length-range_with_len}
-use Rattle.council_game.proofs.Shared.Rankings.{places-at}
-use Rattle.std.proofs.lemmas.List.Folds.{fold-map}
-use Rattle.std.proofs.lemmas.List.Elements.{All-head, All-tail}
-use Rattle.coalitions.proofs.Shared.Ranges.{sum_by-range-more}
-use Rattle.council_game.specs.Votes.{RuleView}
-use Rattle.power_index.proofs.Shared.Sums.{sum-plus, sum-range}
-use Rattle.std.proofs.lemmas.Bool.Decides.{nat_tests}
-use Rattle.mwc_sums.specs.Chambers.{weighs, met}
-use Rattle.mwc_sums.specs.Statute.{rules_beside}
-use Rattle.mwc_sums.specs.Vetoers.{can_veto, number_of, rest_of, rule_for}
+use Rattle.mwc_sums.proofs.Imports.{◌≡◌, ◌∙◌, ℕ, suc, ◌+◌, ◌-◌, ◌*◌, ◌<◌, ◌≤◌, Bool, true, false, cond, leb, ltb, List, [], ◌∷◌, length}
+use Rattle.mwc_sums.proofs.Imports.{le-leb, length-range_with_len, places-at, All-head, All-tail, sum_by-range-more, RuleView, sum-plus}
+use Rattle.mwc_sums.proofs.Imports.{get_or, map, filter, sym, ap, refl, arith, inl, inr, All, sum, sum_by, range_with_len, sum_by-cons}
+use Rattle.mwc_sums.proofs.Imports.{sum-range, nat_tests, weighs, met, rules_beside, can_veto, number_of, rest_of, rule_for}
+use Rattle.std.proofs.lemmas.List.{Folds.fold-map, FromFn.fill_by_all, FromFn.get_or-map-range_with_len, Sums.get_or-le-sum_by}
+use Rattle.std.proofs.Common.{fold}
 use Rattle.mwc_sums.proofs.Tests.{missing}
 
 -- a row of weights adds up over its places

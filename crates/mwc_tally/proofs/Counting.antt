@@ -1,23 +1,16 @@
 -- Slices counted one after the other, and in any order.
-use Rattle.std.proofs.Common.{◌≡◌, ◌∙◌, ℕ, ◌+◌, ◌^◌, ◌<◌, ◌≤◌, suc, Bool, List, [], ◌∷◌, ◌++◌, length, get_or, sym, ap, refl, arith, subst, length-append}
-use Rattle.std.proofs.lemmas.Grind.{common_steps}
-use Rattle.std.specs.List.{All, filter, flat_map, range_with_len, sum_by}
-use Rattle.std.specs.List.Sorted.{IsPermutation}
-use Rattle.std.proofs.lemmas.List.{append_assoc, append-nil}
-use Rattle.std.proofs.lemmas.List.Elements.{All-filter, filter-append}
-use Rattle.std.proofs.lemmas.List.FromFn.{fill_by_all, length-range_with_len, get_or-range_with_len}
-use Rattle.std.proofs.lemmas.List.Concat.{flat_map-append, length-flat_map}
-use Rattle.std.proofs.lemmas.List.Sums.{sum_by-cons}
-use Rattle.std.proofs.lemmas.List.Sorted.{sum_by-IsPermutation}
-use Rattle.council_game.specs.Game.{GameView, IsGame, votes_of}
-use Rattle.council_game.specs.Votes.{minimal_coalitions}
+use Rattle.std.proofs.Common.{◌≡◌, ◌∙◌, ℕ, ◌+◌, ◌^◌, ◌<◌, ◌≤◌, suc, Bool, List, [], ◌∷◌, ◌++◌, length, get_or, sym, ap, refl, arith, subst}
+use Rattle.std.proofs.Common.{length-append, All, filter, flat_map, sum_by, IsPermutation, append_assoc, append-nil}
+use Rattle.std.proofs.lemmas.List.{FromFn.fill_by_all, FromFn.length-range_with_len, FromFn.get_or-range_with_len, Sums.sum_by-cons}
+use Rattle.std.proofs.lemmas.List.{Concat.flat_map-append, Concat.length-flat_map, Elements.All-filter, Elements.filter-append}
+use Rattle.std.proofs.lemmas.{Grind.common_steps, List.Sorted.sum_by-IsPermutation}
+use Rattle.std.specs.List.{range_with_len}
+use Rattle.council_game.specs.{Game.GameView, Game.IsGame, Game.votes_of, Votes.minimal_coalitions}
 use Rattle.council_game.proofs.Shared.Games.{votes-are}
 use Rattle.mwc_walk.specs.Slices.{slice}
-use Rattle.mwc_walk.proofs.Shared.Joined.{slices-joined}
-use Rattle.mwc_walk.proofs.Shared.One.{slice-short}
+use Rattle.mwc_walk.proofs.Shared.{Joined.slices-joined, One.slice-short}
 use Rattle.power_index.specs.Tables.{Tables, AreTallies, AreCounts, table_total}
-use Rattle.power_index.proofs.Shared.Minimal.{minimal-are-coalitions, minimal-few}
-use Rattle.power_index.proofs.Shared.Sound.{total-is, tallies-are_counts}
+use Rattle.power_index.proofs.Shared.{Minimal.minimal-are-coalitions, Minimal.minimal-few, Sound.total-is, Sound.tallies-are_counts}
 use Rattle.coalitions.proofs.Shared.Ranges.{range-more, sum_by-range-more, sum_by-range-le}
 use Rattle.mwc_tally.specs.Inner.Shares.{CountedUpTo, CountSlices, CountWhole, slice_of}
 use Rattle.mwc_tally.specs.declared.sliced_game.SlicedGame.{SlicedGame}

@@ -1,18 +1,13 @@
 -- Stretches of a list that lies in pieces.
-use Rattle.std.proofs.Common.{◌≡◌, ℕ, ◌+◌, ◌-◌, ◌<◌, ◌≤◌, zero, suc, min, List, [], ◌∷◌, ◌++◌, length, get_or, take, drop, sym, ap, arith, subst, length-append, length-drop, IfOk, Result, Ok, Err}
+use Rattle.std.proofs.Common.{◌≡◌, ℕ, ◌+◌, ◌-◌, ◌<◌, ◌≤◌, zero, suc, min, List, [], ◌∷◌, ◌++◌, length, get_or, take, drop, sym, ap, arith}
+use Rattle.std.proofs.Common.{subst, length-append, length-drop, IfOk, Result, Ok, Err, All, flat_map, take_all, length-take, append-nil}
+use Rattle.std.proofs.lemmas.List.{take_more, take_min, drop_min, Elements.All-drop, Elements.All-take, Folds.length-flat_map-take}
 use Rattle.std.proofs.lemmas.Grind.{common_steps}
-use Rattle.std.specs.List.{All, flat_map}
-use Rattle.std.proofs.lemmas.List.{take_all, take_more, take_min, drop_min, length-take, append-nil}
-pub use Rattle.std.proofs.lemmas.List.Concat.{flat_map-append, length-flat_map}
-use Rattle.std.proofs.lemmas.List.Elements.{All-drop, All-take}
-use Rattle.std.proofs.lemmas.List.Folds.{length-flat_map-take}
 use Rattle.council_game.specs.Game.{GameView}
 use Rattle.power_index.specs.Tables.{Tables, AreTallies, AreCounts}
-use Rattle.power_index.proofs.Shared.Pieces.{pieces-all}
-use Rattle.power_index.proofs.Shared.Sound.{tallies-are_counts}
-use Rattle.mwc_tally.specs.Pieces.{joined}
-use Rattle.mwc_tally.specs.Inner.Threads.{IsGivenStretch}
-use Rattle.mwc_tally.specs.declared.pieces.GivenStretch.{GivenStretch}
+use Rattle.power_index.proofs.Shared.{Pieces.pieces-all, Sound.tallies-are_counts}
+use Rattle.mwc_tally.specs.{Inner.Threads.IsGivenStretch, Pieces.joined, declared.pieces.GivenStretch.GivenStretch}
+pub use Rattle.std.proofs.lemmas.List.Concat.{flat_map-append, length-flat_map}
 
 pub drop-append : (n : ℕ) (xs ys : List ℕ) → drop n (xs ++ ys) ≡ drop n xs ++ drop (n - length xs) ys
 drop-append zero xs ys = let e : 0 ≡ 0 - length xs = omega arith in ap (λ (k : ℕ). xs ++ drop k ys) e

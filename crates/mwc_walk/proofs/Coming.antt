@@ -1,28 +1,16 @@
 -- What the members from a place on weigh in a coalition, by one rule for what they weigh by another, and vetoers among them.
-use Rattle.std.proofs.Common.{◌≡◌, ℕ, ◌+◌, ◌*◌, ◌<◌, ◌≤◌, arith, inl, inr, suc, ◌-◌, ◌/◌, ◌%◌, ◌^◌, List, ◌∷◌, length, take, drop, get_or, sum, ap, subst, ◌∙◌, drop-cons, length-drop, ◌⊎◌, zero, true, false, [], refl, add-one}
-use Rattle.std.specs.Int.{div_ceil}
-use Rattle.std.proofs.lemmas.Grind.{common_steps}
-use Rattle.std.proofs.lemmas.Bool.{cases_lt, cases_eq, both_ways, and_parts, or_cases, leb-true, ltb-true, cases_Bool, cond_both, cond-false}
-use Rattle.std.proofs.lemmas.Nat.{mul-le}
-use Rattle.std.proofs.Math.Nat.{le_of_mul-le-mul_left}
-use Rattle.std.proofs.lemmas.List.{drop_all, length-take-le, get_or-take, take_all}
-use Rattle.std.proofs.lemmas.Nat.Bits.{bit_at-lt}
-use Rattle.std.specs.List.{list_any}
-use Rattle.std.proofs.lemmas.List.Sums.{sum_by_more}
-use Rattle.std.proofs.lemmas.Slice.Zip.{AllZip-long}
-use Rattle.council_game.specs.Votes.{weight, RuleView, Votes, IsVotes, rule_at, wins}
-use Rattle.council_game.proofs.Shared.Weights.{weight-le, weight-without}
+use Rattle.mwc_walk.proofs.Imports.{get_or, sum, ap, subst, ◌∙◌, length-drop, zero, true, false, [], refl, common_steps, cases_lt, cases_eq}
+use Rattle.mwc_walk.proofs.Imports.{◌≡◌, ℕ, ◌+◌, ◌*◌, ◌<◌, ◌≤◌, arith, inl, inr, suc, ◌-◌, ◌/◌, ◌%◌, ◌^◌, List, ◌∷◌, length, take, drop}
+use Rattle.mwc_walk.proofs.Imports.{both_ways, and_parts, leb-true, cases_Bool, cond_both, cond-false, mul-le, drop_all, length-take-le}
+use Rattle.mwc_walk.proofs.Imports.{get_or-take, take_all, AllZip-long, weight, RuleView, Votes, IsVotes, rule_at, wins, weight-le}
+use Rattle.mwc_walk.proofs.Imports.{weight-without, IsPrice, Intervals, Covers, Lane, no_lane, IsSplit, LaneIs, LanesAre}
+use Rattle.std.proofs.Common.{drop-cons, ◌⊎◌, add-one, ltb-true}
+use Rattle.std.specs.{Int.div_ceil, List.list_any}
+use Rattle.std.proofs.{Math.Nat.le_of_mul-le-mul_left, lemmas.Bool.or_cases, lemmas.List.Sums.sum_by_more, lemmas.Nat.Bits.bit_at-lt}
 use Rattle.council_game.proofs.Shared.WeightByDigits.{weight-nil, weight-cons}
 use Rattle.coalitions.proofs.Shared.Digits.{digit-added}
-use Rattle.mwc_walk.specs.declared.price.Price.{Price}
-use Rattle.mwc_walk.specs.Inner.Prices.{IsPrice}
-use Rattle.mwc_walk.specs.declared.intervals.Intervals.{Intervals}
-use Rattle.mwc_walk.specs.Inner.Covers.{Covers}
+use Rattle.mwc_walk.specs.{Inner.Lanes.lane_needs, Inner.Vetoes.vetoed_part, declared.price.Price.Price}
 use Rattle.mwc_walk.proofs.Rules.{sum-from, drop-most, lane-of}
-use Rattle.mwc_walk.specs.declared.lane.Lane.{Lane}
-use Rattle.mwc_walk.specs.Inner.Lanes.{lane_needs, no_lane}
-use Rattle.mwc_walk.specs.Inner.Vetoes.{IsSplit, vetoed_part}
-use Rattle.mwc_walk.specs.Inner.Places.{LaneIs, LanesAre}
 
 -- a cheaper price is kept, too
 still-kept : (a b i t f g : ℕ) → i * b ≤ a * t → a * f ≤ b * g → (b ≡ 0 → f ≡ 0) → i * f ≤ t * g

@@ -1,9 +1,8 @@
 -- What lies in intervals, when one of them changes.
-use Rattle.std.proofs.Common.{◌≡◌, ◌≢◌, ℕ, ◌+◌, ◌<◌, ◌≤◌, length, slice_set, refl, arith, inl, inr, get_or-set_other, get_or-set_same}
-use Rattle.std.proofs.lemmas.Bool.{cases_eq}
-use Rattle.mwc_walk.specs.declared.intervals.Interval.{Interval}
-use Rattle.mwc_walk.specs.declared.intervals.Intervals.{Intervals}
-use Rattle.mwc_walk.specs.Inner.Covers.{interval_at, InInterval, Covers, CoversBut}
+use Rattle.mwc_walk.proofs.Imports.{◌≡◌, ◌≢◌, ℕ, ◌+◌, ◌<◌, ◌≤◌, length, refl, arith, inl, inr, get_or-set_other, get_or-set_same, cases_eq}
+use Rattle.mwc_walk.proofs.Imports.{Intervals, InInterval, Covers, CoversBut}
+use Rattle.std.proofs.Common.{slice_set}
+use Rattle.mwc_walk.specs.{Inner.Covers.interval_at, declared.intervals.Interval.Interval}
 
 -- intervals of which one is written anew
 abbrev written : Intervals → ℕ → Interval → Intervals

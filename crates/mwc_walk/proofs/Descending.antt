@@ -1,14 +1,7 @@
 -- The numbers below a bound, descending, filtered.
-use Rattle.std.proofs.Common.{◌≡◌, ℕ, zero, suc, ◌+◌, ◌*◌, ◌/◌, ◌^◌, ◌<◌, ◌≤◌, Bool, true, false, ◌&&◌, eqb, List, [], ◌∷◌, ◌++◌, refl, ap, ◌∙◌, arith, zero-add}
-use Rattle.std.proofs.lemmas.Grind.{common_steps}
-use Rattle.std.specs.List.{filter}
-use Rattle.std.proofs.Math.Bool.{and-true}
-use Rattle.std.proofs.Math.Nat.{lt-div-mul-add}
-use Rattle.std.proofs.lemmas.Bool.{cases_Bool, and_right, ne_eqb}
-use Rattle.std.proofs.lemmas.List.{append-nil}
-use Rattle.std.proofs.lemmas.List.Elements.{filter-append}
-use Rattle.std.proofs.lemmas.Nat.{pow_pos}
-use Rattle.council_game.specs.Votes.{down}
+use Rattle.mwc_walk.proofs.Imports.{◌≡◌, ℕ, zero, suc, ◌+◌, ◌*◌, ◌/◌, ◌^◌, ◌<◌, ◌≤◌, Bool, true, false, ◌&&◌, eqb, List, [], ◌∷◌, ◌++◌}
+use Rattle.mwc_walk.proofs.Imports.{refl, ap, ◌∙◌, arith, common_steps, filter, cases_Bool, append-nil, filter-append, pow_pos, down}
+use Rattle.std.proofs.{Common.zero-add, Common.ne_eqb, Math.Bool.and-true, Math.Nat.lt-div-mul-add, lemmas.Bool.and_right}
 
 -- the numbers from low on, as many as there are more
 abbrev pub above : ℕ → ℕ → List ℕ

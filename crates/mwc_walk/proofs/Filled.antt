@@ -1,6 +1,7 @@
 -- Arrays that are filled from the back, place by place.
-use Rattle.std.proofs.Common.{◌≡◌, ℕ, ◌+◌, ◌<◌, ◌≤◌, List, length, get_or, set, arith, get_or-set_other, get_or-set_same, length-set}
-use Rattle.std.proofs.lemmas.Bool.{cases_eq}
+use Rattle.mwc_walk.proofs.Imports.{◌≡◌, ℕ, ◌+◌, ◌<◌, ◌≤◌, List, length, get_or, arith, get_or-set_other, get_or-set_same, length-set}
+use Rattle.mwc_walk.proofs.Imports.{cases_eq}
+use Rattle.std.proofs.Common.{set}
 
 -- of n elements those from place k to place m are as they are to be
 pub record FilledFrom {A : Type 0} (Fits : ℕ → A → Type 0) (d : A) (n m k : ℕ) (xs : List A) : Type 0 where

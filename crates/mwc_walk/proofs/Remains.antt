@@ -1,26 +1,13 @@
 -- What is still to come is the end of the slice.
-use Rattle.std.proofs.Common.{◌≡◌, ◌≢◌, ℕ, ◌+◌, ◌-◌, ◌*◌, ◌^◌, ◌<◌, ◌≤◌, Bool, true, List, [], ◌∷◌, ◌++◌, length, get_or, take, drop, refl, sym, ap, ◌∙◌, arith}
-use Rattle.std.proofs.lemmas.Grind.{common_steps}
-use Rattle.std.specs.List.{filter}
-use Rattle.std.proofs.Math.Nat.{mul-add}
-use Rattle.std.proofs.lemmas.Bool.{cond_both}
-use Rattle.std.proofs.lemmas.List.{length-append, length-drop, get_or-drop, take_more, take-append-drop}
-use Rattle.std.proofs.lemmas.List.Elements.{filter-append}
-use Rattle.std.proofs.lemmas.Nat.{mul-le, pow-add}
-use Rattle.std.proofs.lemmas.Bool.Decides.{nat_tests}
-use Rattle.council_game.specs.Votes.{Votes, down, minimal_coalitions}
-use Rattle.council_game.specs.Shared.Below.{minimal_below}
-use Rattle.mwc_walk.specs.Slices.{slice}
-use Rattle.mwc_walk.specs.WalkView.{WalkView}
-use Rattle.mwc_walk.specs.Seeks.{Seeks, seeks_left}
-use Rattle.mwc_walk.specs.declared.step.Step.{Step}
-use Rattle.mwc_walk.specs.declared.step.Step.TheVariants.{On, Give, End}
+use Rattle.mwc_walk.proofs.Imports.{◌≡◌, ◌≢◌, ℕ, ◌+◌, ◌-◌, ◌*◌, ◌^◌, ◌<◌, ◌≤◌, Bool, true, List, [], ◌∷◌, ◌++◌, length, get_or, take, drop}
+use Rattle.mwc_walk.proofs.Imports.{mul-le, pow-add, nat_tests, Votes, down, minimal_coalitions, minimal_below, slice, Step, On, Give, End}
+use Rattle.mwc_walk.proofs.Imports.{refl, sym, ap, ◌∙◌, arith, common_steps, filter, cond_both, length-append, length-drop, filter-append}
+use Rattle.mwc_walk.proofs.Imports.{in_slice, slice_below, Cursor, rest_of_slice, CursorIs, SomeSteps}
+use Rattle.std.proofs.{Common.mul-add, Common.get_or-drop, Common.take-append-drop, lemmas.List.take_more}
+use Rattle.mwc_walk.specs.{Seeks.Seeks, Seeks.seeks_left, WalkView.WalkView}
+use Rattle.mwc_walk.specs.Inner.Cursor.{bound, Follows, GivesNext, FindsEnd, sought}
+use Rattle.mwc_walk.proofs.{Descending.down-split, Steps.rest-most}
 use Rattle.mwc_walk.specs.declared.seek.Seek.TheVariants as seek
-use Rattle.mwc_walk.specs.Inner.Places.{in_slice, slice_below}
-use Rattle.mwc_walk.specs.declared.cursor.Cursor.{Cursor}
-use Rattle.mwc_walk.specs.Inner.Cursor.{bound, rest_of_slice, CursorIs, Follows, GivesNext, FindsEnd, SomeSteps, sought}
-use Rattle.mwc_walk.proofs.Descending.{down-split}
-use Rattle.mwc_walk.proofs.Steps.{rest-most}
 
 -- a list that ends with another
 record EndsWith (whole end : List ℕ) : Type 0 where

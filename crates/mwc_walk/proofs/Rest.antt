@@ -1,18 +1,10 @@
 -- What is left of a slice, at a place of the walk.
-use Rattle.std.proofs.Common.{◌≡◌, ℕ, ◌+◌, ◌-◌, ◌*◌, ◌/◌, ◌%◌, ◌^◌, ◌<◌, ◌≤◌, arith, true, false, eqb, [], ◌∷◌}
-use Rattle.std.proofs.lemmas.Nat.{pow_pos, pow-add, mul-le}
-use Rattle.std.proofs.lemmas.Bool.{and_left, eq-eqb, cond-true, false_from_ne_true, both_ways}
-use Rattle.std.proofs.lemmas.Grind.{common_steps}
-use Rattle.std.proofs.lemmas.Nat.Bits.{bit_at_cat_low}
-use Rattle.council_game.specs.Votes.{Votes, IsVotes, has, without, minimal, minimal_coalitions}
-use Rattle.council_game.specs.Shared.Below.{minimal_below}
-use Rattle.council_game.proofs.Shared.Meanings.{needs-each-member}
-use Rattle.mwc_walk.specs.Slices.{slice}
-use Rattle.mwc_walk.specs.Inner.Places.{in_slice, slice_below, reaches, wins_at, NothingBelow}
-use Rattle.coalitions.proofs.Shared.Digits.{lowest-place}
-use Rattle.std.specs.Int.{w64, trailing_zeros}
-use Rattle.std.proofs.lemmas.Bool.{eqb-true}
-use Rattle.mwc_walk.proofs.Descending.{filter-down_skip, filter-filter_skip, filter-filter_none, filter-down_take, block-prefix, before-block, past-block}
+use Rattle.mwc_walk.proofs.Imports.{mul-le, and_left, eq-eqb, cond-true, false_from_ne_true, both_ways, common_steps, bit_at_cat_low, Votes}
+use Rattle.mwc_walk.proofs.Imports.{IsVotes, has, without, minimal, minimal_coalitions, minimal_below, needs-each-member, slice, in_slice}
+use Rattle.mwc_walk.proofs.Imports.{◌≡◌, ℕ, ◌+◌, ◌-◌, ◌*◌, ◌/◌, ◌%◌, ◌^◌, ◌<◌, ◌≤◌, arith, true, false, eqb, [], ◌∷◌, pow_pos, pow-add}
+use Rattle.mwc_walk.proofs.Imports.{slice_below, reaches, wins_at, NothingBelow, lowest-place, w64, trailing_zeros, eqb-true}
+use Rattle.mwc_walk.proofs.Descending.{filter-down_skip, filter-filter_skip, filter-filter_none, filter-down_take, block-prefix}
+use Rattle.mwc_walk.proofs.Descending.{before-block, past-block}
 use Rattle.mwc_walk.proofs.Rules.{wins-below, loses-below}
 
 -- a digit that is set

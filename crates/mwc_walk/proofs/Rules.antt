@@ -1,17 +1,13 @@
 -- What a rule's places weigh at a prefix x of p places, and the lanes of the walk, which stand for the rules there.
-use Rattle.std.proofs.Common.{◌≡◌, Bool, true, List, [], ◌∷◌, map, refl, ℕ, ◌+◌, ◌-◌, ◌*◌, ◌/◌, ◌%◌, ◌^◌, ◌<◌, ◌≤◌, take, drop, get_or, sum, arith, zero, suc, leb, length, replicate, sym, ◌∙◌}
-use Rattle.std.specs.List.{All, AllByRecursion, AllZip, list_all}
-use Rattle.std.proofs.lemmas.Bool.{and_from, and_parts, le-leb, leb-true}
-use Rattle.std.proofs.lemmas.List.Elements.{All-nil, All-cons}
-use Rattle.std.proofs.lemmas.Grind.{common_steps}
-use Rattle.std.proofs.lemmas.List.{length-map, drop_all, map-id, length-take-le, ext_get_or, get_or-take}
-use Rattle.std.proofs.lemmas.List.Sums.{sum_by-drop_more, sum_by-take-drop}
-use Rattle.std.proofs.lemmas.Bool.Decides.{nat_tests}
-use Rattle.council_game.specs.Votes.{RuleView, IsRule, weight, wins, rule_at}
-use Rattle.council_game.proofs.Shared.Weights.{weight-zero, weight-at, weight-le, weight-more, weight-prefix}
-use Rattle.mwc_walk.specs.Inner.Places.{reaches, wins_at, LaneIs, LanesAre}
-use Rattle.mwc_walk.specs.declared.lane.Lane.{Lane}
-use Rattle.mwc_walk.specs.Inner.Lanes.{lane_reaches, lane_wins, lane_with, lane_without}
+use Rattle.mwc_walk.proofs.Imports.{le-leb, leb-true, common_steps, length-map, drop_all, length-take-le, get_or-take, nat_tests, RuleView}
+use Rattle.mwc_walk.proofs.Imports.{get_or, sum, arith, zero, suc, length, sym, ◌∙◌, All, AllByRecursion, list_all, and_from, and_parts}
+use Rattle.mwc_walk.proofs.Imports.{◌≡◌, Bool, true, List, [], ◌∷◌, map, refl, ℕ, ◌+◌, ◌-◌, ◌*◌, ◌/◌, ◌%◌, ◌^◌, ◌<◌, ◌≤◌, take, drop}
+use Rattle.mwc_walk.proofs.Imports.{IsRule, weight, wins, rule_at, weight-zero, weight-le, reaches, wins_at, LaneIs, LanesAre, Lane}
+use Rattle.mwc_walk.proofs.Imports.{lane_reaches, lane_wins, lane_with, lane_without}
+use Rattle.std.proofs.Common.{leb, replicate, map-id, ext_get_or}
+use Rattle.std.specs.List.{AllZip}
+use Rattle.std.proofs.lemmas.List.{Elements.All-nil, Elements.All-cons, Sums.sum_by-drop_more, Sums.sum_by-take-drop}
+use Rattle.council_game.proofs.Shared.Weights.{weight-at, weight-more, weight-prefix}
 use Rattle.mwc_walk.proofs.Filled.{FilledFrom}
 
 module _ {X : Type 0} (P : X → Type 0) (p q : X → Bool) where

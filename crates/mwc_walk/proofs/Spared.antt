@@ -1,32 +1,18 @@
 -- The members that each rule can spare, and the prefixes below which nothing is minimal.
-use Rattle.std.proofs.Common.{◌≡◌, ℕ, zero, suc, ◌+◌, ◌-◌, ◌*◌, ◌/◌, ◌%◌, ◌^◌, ◌<◌, ◌≤◌, ◌==◌, ◌&&◌, min, true, List, [], ◌∷◌, length, take, drop, get_or, refl, sym, ap, ◌∙◌, subst, arith, inl, inr}
-use Rattle.std.proofs.lemmas.Grind.{common_steps}
-use Rattle.std.specs.List.{AllByRecursion}
-use Rattle.std.specs.Int.{w64, trailing_zeros}
-use Rattle.std.specs.Int.Bits.{bit_and}
-use Rattle.std.proofs.Math.Pow.{pow_mono}
-use Rattle.std.proofs.lemmas.Bool.{cases_eq, cases_lt, cases_Bool, both_ways, and_parts, and_from, le-leb, leb-true, eq-eqb, false_from_ne_true}
-use Rattle.std.proofs.lemmas.Bool.Decides.{nat_tests}
-use Rattle.std.proofs.lemmas.List.{length-drop, get_or-take}
-use Rattle.std.proofs.lemmas.Nat.{shr-shr, div-add-mod', and_le_l}
-use Rattle.std.proofs.lemmas.Nat.Bits.{bit_at-trailing_zeros, bit_at_and}
-use Rattle.council_game.specs.Votes.{RuleView, Votes, IsRule, IsRanked, rule_at, has, without, weight, wins, minimal}
-use Rattle.coalitions.proofs.Shared.Digits.{has-kept, has-gone, has-none, lowest-place, lowest-cleared, without-less}
-use Rattle.council_game.proofs.Shared.WinningByPlaces.{sum-without}
-use Rattle.council_game.proofs.Shared.Meanings.{needs-each-member}
-use Rattle.council_game.proofs.Shared.Weights.{weight-skip}
-use Rattle.mwc_walk.specs.declared.lane.Lane.{Lane}
-use Rattle.mwc_walk.specs.declared.vetoes.Vetoes.{Vetoes}
-use Rattle.mwc_walk.specs.declared.cursor.Cursor.{Cursor}
-use Rattle.mwc_walk.specs.Inner.Lanes.{no_lane}
-use Rattle.mwc_walk.specs.Inner.Asked.{asked_at}
-use Rattle.mwc_walk.specs.Inner.Places.{LaneIs, NothingBelow, NoneWins, IsExcess, AreExcesses, CanSpare, wins_at}
-use Rattle.mwc_walk.specs.Inner.Spared.{lane_at, IsEnough, IsNeed, NoneSpared, Tried}
-use Rattle.mwc_walk.specs.Inner.Vetoes.{IsSplit}
-use Rattle.mwc_walk.specs.Inner.Cursor.{CursorIs}
-use Rattle.mwc_walk.proofs.Shared.One.{place-before, in-slice}
+use Rattle.mwc_walk.proofs.Imports.{◌≡◌, ℕ, zero, suc, ◌+◌, ◌-◌, ◌*◌, ◌/◌, ◌%◌, ◌^◌, ◌<◌, ◌≤◌, ◌==◌, ◌&&◌, min, true, List, [], ◌∷◌, length}
+use Rattle.mwc_walk.proofs.Imports.{IsRule, IsRanked, rule_at, has, without, weight, wins, minimal, lowest-place, needs-each-member, Lane}
+use Rattle.mwc_walk.proofs.Imports.{leb-true, eq-eqb, false_from_ne_true, nat_tests, length-drop, get_or-take, shr-shr, RuleView, Votes}
+use Rattle.mwc_walk.proofs.Imports.{take, drop, get_or, refl, sym, ap, ◌∙◌, subst, arith, inl, inr, common_steps, AllByRecursion, w64}
+use Rattle.mwc_walk.proofs.Imports.{trailing_zeros, pow_mono, cases_eq, cases_lt, cases_Bool, both_ways, and_parts, and_from, le-leb}
+use Rattle.mwc_walk.proofs.Imports.{Cursor, no_lane, LaneIs, NothingBelow, IsExcess, wins_at, IsNeed, Tried, IsSplit, CursorIs}
+use Rattle.std.proofs.{Common.bit_and, Common.div-add-mod', lemmas.Nat.Bits.bit_at-trailing_zeros, lemmas.Nat.Bits.bit_at_and}
+use Rattle.std.proofs.lemmas.Nat.{and_le_l}
+use Rattle.coalitions.proofs.Shared.Digits.{has-kept, has-gone, has-none, lowest-cleared, without-less}
+use Rattle.council_game.proofs.Shared.{Weights.weight-skip, WinningByPlaces.sum-without}
+use Rattle.mwc_walk.specs.Inner.{Places.NoneWins, Places.AreExcesses, Places.CanSpare, Spared.lane_at, Spared.IsEnough, Spared.NoneSpared}
+use Rattle.mwc_walk.specs.{Inner.Asked.asked_at, declared.vetoes.Vetoes.Vetoes}
+use Rattle.mwc_walk.proofs.{Shared.One.place-before, Shared.One.in-slice, Steps.enter-short, Steps.short-step}
 use Rattle.mwc_walk.proofs.Rules.{weight-block, weight-split, wins-prefix, lane-of}
-use Rattle.mwc_walk.proofs.Steps.{enter-short, short-step}
 
 pub has-and : (n q a b : ℕ) → has n q (bit_and a b) ≡ (has n q a && has n q b)
 unfolding has

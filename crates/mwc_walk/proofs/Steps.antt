@@ -1,25 +1,17 @@
 -- The moves of a cursor, and where it starts.
-use Rattle.std.proofs.Common.{◌≡◌, ℕ, suc, ◌+◌, ◌-◌, ◌*◌, ◌/◌, ◌%◌, ◌^◌, ◌<◌, ◌≤◌, Bool, min, true, false, cond, ltb, List, ◌++◌, map, length, take, get_or, refl, sym, ap, ◌∙◌, subst, arith}
-use Rattle.std.proofs.lemmas.Grind.{common_steps}
-use Rattle.std.proofs.lemmas.Nat.{shr-shr, pow_pos, shl_below, shl_whole, one_shl, div_below}
-use Rattle.std.proofs.Math.Nat.{pow-suc}
-use Rattle.std.proofs.lemmas.Bool.{lt-ltb, le-ltb, cases_lt, both_ways, false_from_ne_true, cond-true, cond-false, cond_both, eq-eqb, eqb-true}
-use Rattle.std.specs.List.{All, list_all}
-use Rattle.council_game.specs.Votes.{RuleView, Votes, IsVotes, minimal, has}
+use Rattle.mwc_walk.proofs.Imports.{false_from_ne_true, cond-true, cond-false, cond_both, eq-eqb, eqb-true, All, list_all, RuleView, Votes}
+use Rattle.mwc_walk.proofs.Imports.{◌≡◌, ℕ, suc, ◌+◌, ◌-◌, ◌*◌, ◌/◌, ◌%◌, ◌^◌, ◌<◌, ◌≤◌, Bool, min, true, false, List, ◌++◌, map, length}
+use Rattle.mwc_walk.proofs.Imports.{take, get_or, refl, sym, ap, ◌∙◌, subst, arith, common_steps, shr-shr, pow_pos, cases_lt, both_ways}
+use Rattle.mwc_walk.proofs.Imports.{lane_wins, slice, slice_below, reaches, wins_at, LanesAre, NothingBelow, rest_of_slice, CursorIs}
+use Rattle.mwc_walk.proofs.Imports.{IsVotes, minimal, has, Lane, Cursor, Step, On, Give, End, lane_with, lane_without, lane_reaches}
+use Rattle.std.proofs.Common.{cond, ltb, pow-suc, lt-ltb, le-ltb}
+use Rattle.std.proofs.lemmas.Nat.{shl_below, shl_whole, one_shl, div_below}
 use Rattle.council_game.proofs.Shared.WinningByPlaces.{fixed-half}
-use Rattle.mwc_walk.specs.declared.lane.Lane.{Lane}
-use Rattle.mwc_walk.specs.declared.cursor.Cursor.{Cursor}
-use Rattle.mwc_walk.specs.declared.step.Step.{Step}
-use Rattle.mwc_walk.specs.declared.step.Step.TheVariants.{On, Give, End}
-use Rattle.mwc_walk.specs.Inner.Lanes.{lane_with, lane_without, lane_reaches, lane_wins}
-use Rattle.mwc_walk.specs.Slices.{slice}
-use Rattle.mwc_walk.specs.Inner.Places.{slice_below, reaches, wins_at, LanesAre, NothingBelow}
-use Rattle.mwc_walk.specs.Inner.Cursor.{rest_of_slice, IsPlace, CursorIs, Steps, Starts}
+use Rattle.mwc_walk.specs.{Inner.Asked.AreAsked, Inner.Cursor.IsPlace, Inner.Cursor.Steps, Inner.Cursor.Starts, declared.asked.Asked.Asked}
 use Rattle.mwc_walk.proofs.Rest.{dead-nothing, left-nothing, left-won, left-take, left-none, left-all}
 use Rattle.mwc_walk.proofs.Shared.One.{one-minimal, won-odd, empty-loses, slice-short, in-slice}
-use Rattle.mwc_walk.proofs.Rules.{lanes-in, lanes-out, lanes-up, fits-in, fits-out, lanes-reach, lanes-win, wins-more, reaches-in, full-reach, lanes-pass}
-use Rattle.mwc_walk.specs.declared.asked.Asked.{Asked}
-use Rattle.mwc_walk.specs.Inner.Asked.{AreAsked}
+use Rattle.mwc_walk.proofs.Rules.{lanes-in, lanes-out, lanes-up, fits-in, fits-out, lanes-reach, lanes-win, wins-more, reaches-in}
+use Rattle.mwc_walk.proofs.Rules.{full-reach, lanes-pass}
 
 -- one digit more
 pub short-step : (p q : ℕ) → q ≡ p + 1 → 2 ^ q ≡ 2 ^ p * 2

@@ -1,12 +1,9 @@
 -- Lists that a walk fills, and the one slice at no bits, which is the list of all coalitions.
-use Rattle.std.proofs.Common.{◌≡◌, ◌+◌, ◌<◌, ◌≤◌, ◌++◌, ◌∷◌, [], ℕ, List, length, take, sym, ap, ◌∙◌, append-nil, append_assoc, length-append, arith}
-use Rattle.std.proofs.lemmas.Grind.{common_steps}
-use Rattle.std.proofs.lemmas.List.{take_at, take_all}
-use Rattle.std.proofs.lemmas.Bool.Decides.{nat_tests}
-use Rattle.council_game.specs.Votes.{IsVotes, Votes, minimal_coalitions}
-use Rattle.council_game.specs.Game.{GameView, votes_of}
-use Rattle.council_game.proofs.Shared.Listing.{listing-is}
-use Rattle.mwc_walk.specs.Slices.{slice}
+use Rattle.mwc_walk.proofs.Imports.{arith, common_steps, take_all, nat_tests, IsVotes, Votes, minimal_coalitions, votes_of, listing-is}
+use Rattle.mwc_walk.proofs.Imports.{◌≡◌, ◌+◌, ◌<◌, ◌≤◌, ◌++◌, ◌∷◌, [], ℕ, List, length, take, sym, ap, ◌∙◌, append-nil, length-append}
+use Rattle.mwc_walk.proofs.Imports.{slice}
+use Rattle.std.proofs.Common.{append_assoc, take_at}
+use Rattle.council_game.specs.Game.{GameView}
 use Rattle.mwc_walk.specs.Listed.{ListsAll}
 use Rattle.mwc_walk.proofs.Shared.Joined.{slices-joined}
 

@@ -5,3 +5,4 @@ pub mod Unique
 mod Units
 mod Walks
 mod Weights
+mod Imports

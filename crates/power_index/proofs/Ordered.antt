@@ -1,10 +1,8 @@
 -- Two fractions are ordered by their quotients, and where these are equal by what is left, turned upside down.
-use Rattle.std.proofs.Common.{◌≡◌, ◌∙◌, ◌≢◌, ℕ, suc, ◌+◌, ◌*◌, ◌/◌, ◌%◌, ◌<◌, ◌≤◌, ap, refl, arith, inl, inr}
-use Rattle.std.proofs.lemmas.Grind.{common_steps}
-use Rattle.std.specs.Ordering.{nat_cmp, ordering_then}
-use Rattle.std.proofs.lemmas.Bool.{cases_lt, cases_eq}
-use Rattle.std.proofs.Math.Nat.{div-add-mod, mod-lt, mul-le-mul}
-use Rattle.std.proofs.lemmas.Bool.Decides.{nat_tests}
+use Rattle.power_index.proofs.Imports.{◌≡◌, ◌∙◌, ◌≢◌, ℕ, suc, ◌+◌, ◌*◌, ◌/◌, ◌%◌, ◌<◌, ◌≤◌, ap, refl, arith, inl, inr, common_steps}
+use Rattle.power_index.proofs.Imports.{cases_lt, cases_eq, div-add-mod, mod-lt, mul-le-mul, nat_tests}
+use Rattle.std.proofs.Common.{nat_cmp}
+use Rattle.std.specs.Ordering.{ordering_then}
 
 -- a times d is the shared part and what is left of a, times d
 parts : (a b d q : ℕ) → a / b ≡ q → a * d ≡ b * d * q + d * (a % b)

@@ -1,10 +1,10 @@
 -- A fraction has one form in lowest terms.
-use Rattle.std.proofs.Common.{◌≡◌, ◌∙◌, ℕ, ◌+◌, ◌*◌, ◌/◌, ◌%◌, ◌≤◌, ◌<◌, sym, ap, subst, arith, zero, suc}
-use Rattle.std.proofs.lemmas.Grind.{common_steps}
-use Rattle.std.specs.Int.{IsGcd, ◌∣◌}
-use Rattle.std.proofs.lemmas.Nat.Gcd.{IsGcd-from_zero, IsGcd-from_mod, dvd_antisymm, dvd_refl, dvd-zero}
-use Rattle.std.proofs.Math.Nat.{add-mul-mod_self_left, div-add-mod, dvd-mod_iff, dvd-mul_left, mod-eq_of_lt, mod-lt, mul-le-mul, eq_of_mul-eq-mul_right}
-use Rattle.power_index.specs.Fractions.{AreCoprime, IsIndex, IsLowestOf, SameFraction}
+use Rattle.power_index.proofs.Imports.{◌≡◌, ◌∙◌, ℕ, ◌+◌, ◌*◌, ◌/◌, ◌%◌, ◌≤◌, ◌<◌, sym, ap, subst, arith, zero, suc, common_steps, IsGcd}
+use Rattle.power_index.proofs.Imports.{◌∣◌, IsGcd-from_zero, IsGcd-from_mod, div-add-mod, mod-lt, mul-le-mul, eq_of_mul-eq-mul_right}
+use Rattle.power_index.proofs.Imports.{AreCoprime, IsLowestOf, SameFraction}
+use Rattle.std.proofs.{Common.mod-eq_of_lt, Math.Nat.add-mul-mod_self_left, Math.Nat.dvd-mod_iff, Math.Nat.dvd-mul_left}
+use Rattle.std.proofs.lemmas.Nat.Gcd.{dvd_antisymm, dvd_refl, dvd-zero}
+use Rattle.power_index.specs.Fractions.{IsIndex}
 
 -- with 0, only 1 is coprime
 one-with-zero : (x : ℕ) → AreCoprime x 0 → x ≡ 1

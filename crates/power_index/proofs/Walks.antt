@@ -1,9 +1,5 @@
 -- One walk over the places of a coalition, that counts it at each.
-use Rattle.std.proofs.Common.{◌≡◌, ℕ, ◌^◌, ◌<◌, List, length, get_or, cond, true, false}
-use Rattle.council_game.specs.Votes.{has}
-use Rattle.power_index.specs.declared.tally.Tally.{Tally}
-use Rattle.power_index.specs.Tables.{no_tally}
-use Rattle.power_index.specs.Inner.Tables.{with_one}
+use Rattle.power_index.proofs.Imports.{◌≡◌, ℕ, ◌^◌, ◌<◌, List, length, get_or, cond, true, false, has, Tally, no_tally, with_one}
 
 -- of the places of c, those in rest are still to be counted
 pub record Walked (n c size : ℕ) (old now : List Tally) (rest : ℕ) : Type 0 where

@@ -1,15 +1,12 @@
 -- What the table of a member's sizes weighs: the unit fractions of its coalitions, over the common denominator.
-use Rattle.std.proofs.Common.{◌≡◌, ◌∙◌, ℕ, ◌+◌, ◌*◌, ◌/◌, ◌<◌, ◌≤◌, List, length, sym, ap, arith}
-use Rattle.std.specs.List.{filter, sum_by, range_with_len, AllByRecursion}
+use Rattle.power_index.proofs.Imports.{◌≡◌, ◌∙◌, ℕ, ◌+◌, ◌*◌, ◌/◌, ◌<◌, ◌≤◌, List, length, sym, ap, arith, filter, sum_by, range_with_len}
+use Rattle.power_index.proofs.Imports.{AllByRecursion, fold-map, GameView, members, contains, count_of_member, size_of, Tables, AreCounts}
+use Rattle.power_index.proofs.Imports.{denominator, weighted_sum, table_total, table_of_member, table_of_member_size, table_memberships}
+use Rattle.power_index.proofs.Imports.{sizes_of_member}
 use Rattle.std.proofs.lemmas.List.{length-map}
-use Rattle.std.proofs.lemmas.List.Folds.{fold-map}
-use Rattle.council_game.specs.Game.{GameView}
-use Rattle.power_index.specs.Counting.{members, contains, count_of_member, size_of, count_of_member_size}
-use Rattle.power_index.specs.Tables.{Tables, AreCounts, denominator, weighted_sum, table_total, table_of_member, table_of_member_size, table_memberships}
-use Rattle.power_index.specs.Indices.{sizes_of_member}
-use Rattle.power_index.proofs.Shared.Sums.{sum-range, sum-by_size, length-filter-le}
+use Rattle.power_index.specs.Counting.{count_of_member_size}
+use Rattle.power_index.proofs.{Shared.Sums.sum-range, Shared.Sums.sum-by_size, Shared.Sums.length-filter-le, Units.sum_few}
 use Rattle.power_index.proofs.Shared.Members.{sizes-within, size-pos-in, size-le}
-use Rattle.power_index.proofs.Units.{sum_few}
 
 pub within : (g : GameView) (list : List ℕ) (t : Tables) (i : ℕ) → i < t.members → AreCounts g list t
     → AllByRecursion (λ s. (0 < s) × (s ≤ length g.names)) (sizes_of_member g list i)

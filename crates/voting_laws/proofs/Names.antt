@@ -1,15 +1,10 @@
 -- Names and rank places are distinct.
-use Rattle.std.proofs.Common.{◌≡◌, ◌∙◌, ℕ, ◌<◌, true, List, [], length, get_or, take, sym, ap, arith, nat_eq}
+use Rattle.std.proofs.Common.{◌≡◌, ◌∙◌, ℕ, ◌<◌, true, List, [], length, get_or, take, sym, ap, arith, nat_eq, get_or-take, length-take}
+use Rattle.std.proofs.lemmas.{Bool.cases_eq, Bool.cases_lt, Bool.both_ways, List.Folds.list_any_at, Slice.Eq.bytes_eq-Decides}
 use Rattle.std.proofs.lemmas.Grind.{common_steps}
 use Rattle.std.specs.Cmp.Lexicographic.{pointwise}
-use Rattle.std.proofs.lemmas.Bool.{cases_eq, cases_lt, both_ways}
-use Rattle.std.proofs.lemmas.List.{get_or-take, length-take}
-use Rattle.std.proofs.lemmas.List.Folds.{list_any_at}
-use Rattle.std.proofs.lemmas.Slice.Eq.{bytes_eq-Decides}
-use Rattle.council_game.specs.Game.{GameView, IsGame, is_repeat}
-use Rattle.council_game.specs.Ranks.{member_at}
-use Rattle.council_game.proofs.Shared.Games.{passed, position-none}
-use Rattle.council_game.proofs.Shared.Making.{ranks-are}
+use Rattle.council_game.specs.{Game.GameView, Game.IsGame, Game.is_repeat, Ranks.member_at}
+use Rattle.council_game.proofs.Shared.{Games.passed, Games.position-none, Making.ranks-are}
 
 pub distinct_places : (g : GameView) → IsGame g → (i j : ℕ) → i < length g.names → j < length g.names
     → get_or g.ranks i 0 ≡ get_or g.ranks j 0

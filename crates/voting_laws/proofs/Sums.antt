@@ -2,9 +2,8 @@
 use Rattle.std.proofs.Common.{◌≡◌, ◌∙◌, ℕ, ◌+◌, ◌*◌, ◌<◌, List, [], ◌∷◌, length, map, ap, refl, arith}
 use Rattle.std.proofs.Math.Nat.{eq_of_mul-eq-mul_right}
 use Rattle.council_game.specs.Game.{GameView, IsGame, AreNonemptyCoalitions}
-use Rattle.power_index.specs.Counting.{members}
+use Rattle.power_index.specs.{Counting.members, Indices.deegan_packel, Indices.public_good}
 use Rattle.power_index.specs.Fractions.{pair_sum, AddUpToOne, SameFraction, lowest_terms}
-use Rattle.power_index.specs.Indices.{deegan_packel, public_good}
 use Rattle.power_index.proofs.Shared.AddUp.{all_pos, deegan_packel_bottom, public_good_bottom, deegan_packel_adds_up, public_good_adds_up}
 use Rattle.power_index.proofs.Shared.LowestTerms.{lowest_terms-lowest}
 

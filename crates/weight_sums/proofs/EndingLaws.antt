@@ -1,12 +1,7 @@
 -- What members lead to, by size: fewer than are asked for, as many, more; by their sets; and without a member.
-use Rattle.std.proofs.Common.{◌≡◌, ℕ, zero, suc, ◌+◌, ◌-◌, ◌<◌, ◌≤◌, true, false, cond, leb}
-use Rattle.std.proofs.Common.{List, [], ◌∷◌, length, ap, refl, arith}
-use Rattle.std.proofs.lemmas.Bool.{cases_lt}
-use Rattle.std.proofs.lemmas.Bool.Decides.{nat_tests}
-use Rattle.weight_sums.specs.Endings.{choose, one_of_size, fill, endings, left_out}
-use Rattle.weight_sums.specs.Inner.Sets.{over, fits}
-use Rattle.weight_sums.proofs.SetLaws.{fits-more}
-use Rattle.weight_sums.proofs.Taking.{choose-none, choose-more}
+use Rattle.weight_sums.proofs.Imports.{◌≡◌, ℕ, zero, suc, ◌+◌, ◌-◌, ◌<◌, ◌≤◌, true, false, cond, leb, List, [], ◌∷◌, length, ap, refl}
+use Rattle.weight_sums.proofs.Imports.{arith, cases_lt, nat_tests, choose, one_of_size, fill, endings, left_out, over, fits}
+use Rattle.weight_sums.proofs.{SetLaws.fits-more, Taking.choose-none, Taking.choose-more}
 
 -- ---- what meets the quota is filled up in any way
 unfoldable pub chosen_from : ℕ → ℕ → ℕ → ℕ

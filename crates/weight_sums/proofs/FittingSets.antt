@@ -1,16 +1,8 @@
 -- The sets of a half that meet a need, one more and all of them.
-use Rattle.std.proofs.Common.{◌≡◌, ◌∙◌, ◌⊎◌, ℕ, zero, suc, ◌+◌, ◌-◌, ◌<◌, ◌≤◌, ◌^◌, Bool, cond, leb, List, [], ◌∷◌}
-use Rattle.std.proofs.Common.{length, get_or, drop, refl, arith, inl, inr, length-drop}
-use Rattle.std.specs.List.{sum_by}
-use Rattle.std.proofs.lemmas.Bool.{cases_eq, cases_lt}
-use Rattle.std.proofs.lemmas.Bool.Decides.{nat_tests}
+use Rattle.weight_sums.proofs.Imports.{◌≡◌, ◌∙◌, ◌⊎◌, ℕ, zero, suc, ◌+◌, ◌-◌, ◌<◌, ◌≤◌, ◌^◌, Bool, cond, leb, List, [], ◌∷◌, length, get_or}
+use Rattle.weight_sums.proofs.Imports.{drop, refl, arith, inl, inr, length-drop, sum_by, cases_eq, cases_lt, nat_tests, sum_by-cons}
+use Rattle.weight_sums.proofs.Imports.{sum_by-le, Set, Fitting, one_of_size, fits, IsHalf, AreEntered, AreOfNeed, Meet}
 use Rattle.std.proofs.lemmas.List.{get_or_past}
-use Rattle.std.proofs.lemmas.List.Sums.{sum_by-cons, sum_by-le}
-use Rattle.weight_sums.specs.declared.sets.Set.{Set}
-use Rattle.weight_sums.specs.declared.fitting.Fitting.{Fitting}
-use Rattle.weight_sums.specs.Endings.{one_of_size}
-use Rattle.weight_sums.specs.Inner.Sets.{fits, IsHalf}
-use Rattle.weight_sums.specs.Inner.Fitting.{AreEntered, AreOfNeed, Meet}
 use Rattle.weight_sums.proofs.SetLaws.{sum-zero}
 
 -- sums of numbers that agree at each place

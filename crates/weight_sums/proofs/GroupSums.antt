@@ -1,24 +1,13 @@
 -- Pairs of sets of two lists that meet a quota, by the members of the one.
-use Rattle.std.proofs.Common.{◌≡◌, ◌∙◌, ◌⊎◌, ℕ, ◌+◌, ◌-◌, ◌/◌, ◌%◌, ◌==◌, ◌<◌, ◌≤◌, ◌^◌, Bool, cond, eqb, leb, List, []}
-use Rattle.std.proofs.Common.{length, get_or, take, min, sym, ap, refl, arith, inl, inr}
-use Rattle.std.specs.List.{All, sum_by}
-use Rattle.std.proofs.lemmas.Bool.{cases_lt}
-use Rattle.std.proofs.lemmas.Bool.Decides.{nat_tests}
-use Rattle.std.proofs.lemmas.List.{get_or_default, take_all, length-take}
-use Rattle.std.proofs.lemmas.Nat.Bits.{bit_at_above, bit_at_cat_low, bit_at_cat_high}
-use Rattle.std.proofs.lemmas.Nat.{pow_pos, shr_split, shr_below}
-use Rattle.std.proofs.Math.Nat.{mod-lt}
-use Rattle.std.proofs.Math.Pow.{pow_mono}
-use Rattle.weight_sums.specs.declared.sets.Set.{Set}
-use Rattle.weight_sums.specs.declared.fitting.Fitting.{Fitting}
-use Rattle.weight_sums.specs.declared.groups.Groups.{Groups}
-use Rattle.weight_sums.specs.Inner.Sets.{nobody, fits, met, has, IsHalf, IsHalfOf}
-use Rattle.weight_sums.specs.Inner.Fitting.{AreEntered, AreOfNeed, Meet}
-use Rattle.weight_sums.specs.Inner.Tables.{AreOfKeys, HasRows}
-use Rattle.weight_sums.specs.Inner.Groups.{low_of, high_of, AreGroups}
+use Rattle.weight_sums.proofs.Imports.{length-take, pow_pos, pow_mono, Set, Fitting, nobody, fits, met, has, IsHalf, IsHalfOf, AreEntered}
+use Rattle.weight_sums.proofs.Imports.{◌≡◌, ◌∙◌, ◌⊎◌, ℕ, ◌+◌, ◌-◌, ◌/◌, ◌%◌, ◌==◌, ◌<◌, ◌≤◌, ◌^◌, Bool, cond, eqb, leb, List, [], length}
+use Rattle.weight_sums.proofs.Imports.{get_or, take, sym, ap, refl, arith, inl, inr, All, sum_by, cases_lt, nat_tests, get_or_default}
+use Rattle.weight_sums.proofs.Imports.{AreOfNeed, Meet, AreOfKeys, low_of, high_of}
+use Rattle.std.proofs.lemmas.Nat.{shr_split, shr_below, Bits.bit_at_above, Bits.bit_at_cat_low, Bits.bit_at_cat_high}
+use Rattle.std.proofs.Common.{min, take_all, mod-lt}
+use Rattle.weight_sums.specs.{Inner.Groups.AreGroups, Inner.Tables.HasRows, declared.groups.Groups.Groups}
+use Rattle.weight_sums.proofs.{FittingSets.added, FittingSets.fits-few, FittingSets.sum-alike, TableSums.of-more, TableSums.of-few}
 use Rattle.weight_sums.proofs.SetLaws.{sum-same}
-use Rattle.weight_sums.proofs.FittingSets.{added, fits-few, sum-alike}
-use Rattle.weight_sums.proofs.TableSums.{of-more, of-few}
 
 -- ---- the sets of a list, one after another
 -- of the first n sets: the others that meet the quota with them, and that what meets their needs will meet those of the next

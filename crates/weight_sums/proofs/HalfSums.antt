@@ -1,15 +1,9 @@
 -- Tallies of the coalitions that members lead to, from the sets of their two halves.
-use Rattle.std.proofs.Common.{◌≡◌, ◌∙◌, ℕ, zero, suc, ◌+◌, ◌-◌, ◌/◌, ◌<◌, ◌≤◌, Bool, true, false, cond, leb, List, [], ◌∷◌, ◌++◌}
-use Rattle.std.proofs.Common.{length, get_or, take, drop, sym, ap, refl, arith, inl, inr, length-take}
-use Rattle.std.specs.List.{sum_by}
-use Rattle.std.proofs.lemmas.Bool.{cases_lt, cases_order}
-use Rattle.std.proofs.lemmas.Bool.Decides.{nat_tests}
-use Rattle.std.proofs.lemmas.List.{take-append-drop}
-use Rattle.weight_sums.specs.declared.sets.Set.{Set}
-use Rattle.weight_sums.specs.declared.halves.Halves.{Halves}
-use Rattle.weight_sums.specs.Endings.{one_of_size, endings, left_out}
-use Rattle.weight_sums.specs.Inner.Sets.{nobody, over, has, fits, met, AreSets}
-use Rattle.weight_sums.specs.Inner.Halves.{AreHalves, AreLeft}
+use Rattle.weight_sums.proofs.Imports.{length, get_or, take, drop, sym, ap, refl, arith, inl, inr, length-take, sum_by, cases_lt, nat_tests}
+use Rattle.weight_sums.proofs.Imports.{◌≡◌, ◌∙◌, ℕ, zero, suc, ◌+◌, ◌-◌, ◌/◌, ◌<◌, ◌≤◌, Bool, true, false, cond, leb, List, [], ◌∷◌, ◌++◌}
+use Rattle.weight_sums.proofs.Imports.{Set, one_of_size, endings, left_out, nobody, over, has, fits, met, AreSets}
+use Rattle.std.proofs.{Common.take-append-drop, lemmas.Bool.cases_order}
+use Rattle.weight_sums.specs.{Inner.Halves.AreHalves, Inner.Halves.AreLeft, declared.halves.Halves.Halves}
 use Rattle.weight_sums.proofs.EndingLaws.{past-end, endings-counted}
 use Rattle.weight_sums.proofs.SetLaws.{sum-one, sum-if, sum-swap, fits-halves, fits-turned, left_out-over}
 

@@ -8,3 +8,4 @@ mod FittingSets
 mod TableSums
 mod GroupSums
 mod HalfSums
+mod Imports

@@ -1,15 +1,10 @@
 -- The tallies of a member's coalitions, as the passes give them.
-use Rattle.std.proofs.Common.{◌≡◌, ◌∙◌, ℕ, zero, suc, ◌+◌, ◌-◌, ◌<◌, ◌≤◌, List, [], ◌∷◌, ◌++◌, length, take, drop, get_or}
-use Rattle.std.proofs.Common.{set, get_or-set_same, get_or-set_other, length-set, length-drop, sym, ap, refl, arith}
-use Rattle.std.specs.List.{sum}
-use Rattle.std.proofs.Math.Pow.{pow_mono}
-use Rattle.std.proofs.lemmas.Bool.{cases_eq}
-use Rattle.std.proofs.lemmas.List.{append_assoc, take_more}
-use Rattle.std.proofs.lemmas.List.Sums.{sum_by-cons, sum_by-drop_more}
-use Rattle.weight_sums.specs.declared.by_size.BySize.{BySize}
-use Rattle.weight_sums.specs.Endings.{no_sizes, endings, left_out, AreEndings, AreEndingsWith}
-use Rattle.weight_sums.specs.declared.row.Open.{Open}
-use Rattle.weight_sums.specs.Inner.Rows.{weigh, AreOfPrefixes, GoesOn}
+use Rattle.weight_sums.proofs.Imports.{cases_eq, sum_by-cons, sum_by-drop_more, endings, left_out, AreEndings, Open, weigh, AreOfPrefixes}
+use Rattle.weight_sums.proofs.Imports.{◌≡◌, ◌∙◌, ℕ, zero, suc, ◌+◌, ◌-◌, ◌<◌, ◌≤◌, List, [], ◌∷◌, ◌++◌, length, take, drop, get_or, set}
+use Rattle.weight_sums.proofs.Imports.{get_or-set_same, get_or-set_other, length-set, length-drop, sym, ap, refl, arith, sum, pow_mono}
+use Rattle.weight_sums.proofs.Imports.{GoesOn}
+use Rattle.std.proofs.{Common.append_assoc, lemmas.List.take_more}
+use Rattle.weight_sums.specs.{Endings.no_sizes, Endings.AreEndingsWith, declared.by_size.BySize.BySize}
 use Rattle.weight_sums.proofs.Passing.{prefixes-more}
 
 -- the row of the empty prefix

@@ -1,17 +1,9 @@
 -- A row of prefixes, one member further.
-use Rattle.std.proofs.Common.{◌≡◌, ℕ, ◌+◌, ◌-◌, ◌*◌, ◌<◌, ◌≤◌, ◌^◌, List, [], ◌∷◌, length, take, drop, get_or, ap, refl, arith, length-drop}
-use Rattle.std.specs.List.{sum}
-use Rattle.std.proofs.lemmas.Bool.Decides.{nat_tests}
-use Rattle.std.proofs.lemmas.List.Sums.{sum_by-cons, sum_by-take-le, sum_by-drop_more}
-use Rattle.std.proofs.lemmas.List.{drop_more, drop_all}
-use Rattle.std.proofs.lemmas.List.Elements.{All-take}
-use Rattle.std.proofs.Math.Nat.{mul-le-mul_left, mul-le-mul_right}
-use Rattle.std.proofs.Math.Pow.{pow_mono}
-use Rattle.std.proofs.lemmas.Nat.{pow_pos}
-use Rattle.std.proofs.lemmas.Grind.{common_steps}
-use Rattle.weight_sums.specs.declared.row.Open.{Open}
-use Rattle.weight_sums.specs.Endings.{fill, taken, endings}
-use Rattle.weight_sums.specs.Inner.Rows.{weigh, prefixes, AreMerged, AreOfPrefixes, AreTaken, GoesOn}
+use Rattle.weight_sums.proofs.Imports.{pow_mono, pow_pos, common_steps, Open, fill, taken, endings, weigh, prefixes, AreOfPrefixes, GoesOn}
+use Rattle.weight_sums.proofs.Imports.{◌≡◌, ℕ, ◌+◌, ◌-◌, ◌*◌, ◌<◌, ◌≤◌, ◌^◌, List, [], ◌∷◌, length, take, drop, get_or, ap, refl, arith}
+use Rattle.weight_sums.proofs.Imports.{length-drop, sum, nat_tests, sum_by-cons, sum_by-drop_more, drop_more, drop_all, mul-le-mul_left}
+use Rattle.std.proofs.{Common.mul-le-mul_right, lemmas.List.Elements.All-take, lemmas.List.Sums.sum_by-take-le}
+use Rattle.weight_sums.specs.Inner.Rows.{AreMerged, AreTaken}
 use Rattle.weight_sums.proofs.Taking.{fill-most}
 
 weigh-times : (x : ℕ) (row : List Open) → weigh (λ r a. x) row ≡ prefixes row * x

@@ -1,13 +1,8 @@
 -- Sums over sets of some members: with one member more, without one, and of members in two halves.
-use Rattle.std.proofs.Common.{◌≡◌, ◌∙◌, ℕ, zero, suc, ◌+◌, ◌-◌, ◌*◌, ◌/◌, ◌%◌, ◌==◌, ◌^◌, Bool, true, false, cond, eqb, leb, List, [], ◌∷◌, ◌++◌}
-use Rattle.std.proofs.Common.{sym, ap, refl, arith}
-use Rattle.std.proofs.lemmas.Bool.Decides.{nat_tests}
-use Rattle.std.proofs.lemmas.List.Sums.{sum_by-cons}
+use Rattle.weight_sums.proofs.Imports.{◌≡◌, ◌∙◌, ℕ, zero, suc, ◌+◌, ◌-◌, ◌*◌, ◌/◌, ◌%◌, ◌==◌, ◌^◌, Bool, true, false, cond, eqb, leb, List}
+use Rattle.weight_sums.proofs.Imports.{[], ◌∷◌, ◌++◌, sym, ap, refl, arith, nat_tests, sum_by-cons, sum_by, Set, one_of_size, left_out}
+use Rattle.weight_sums.proofs.Imports.{alone, joined, over, has, fits}
 use Rattle.std.proofs.lemmas.Nat.Bits.{bit_at-suc, bit_at-zero, bit_at_lowest}
-use Rattle.std.specs.List.{sum_by}
-use Rattle.weight_sums.specs.declared.sets.Set.{Set}
-use Rattle.weight_sums.specs.Endings.{one_of_size, left_out}
-use Rattle.weight_sums.specs.Inner.Sets.{alone, joined, over, has, fits}
 
 -- ---- sums over lists
 pub sum-same : (f g : Set → ℕ) (xs : List Set) → ((x : Set) → f x ≡ g x) → sum_by f xs ≡ sum_by g xs

@@ -1,18 +1,12 @@
 -- Lists of sets of some members, by weight.
-use Rattle.std.proofs.Common.{◌≡◌, ◌∙◌, ℕ, suc, ◌+◌, ◌-◌, ◌<◌, ◌≤◌, ◌^◌, Bool, true, false, cond, List, [], ◌∷◌, ◌++◌}
-use Rattle.std.proofs.Common.{length, get_or, drop, ap, refl, arith, inl, inr, length-drop}
+use Rattle.weight_sums.proofs.Imports.{get_or, drop, ap, refl, arith, inl, inr, length-drop, All, sum, sum_by, pow_mono, pow_pos, cases_eq}
+use Rattle.weight_sums.proofs.Imports.{nat_tests, drop_all, drop_more, All-push, sum_by-cons, sum_by_push, sum_by-drop_more, Set, nobody}
+use Rattle.weight_sums.proofs.Imports.{◌≡◌, ◌∙◌, ℕ, suc, ◌+◌, ◌-◌, ◌<◌, ◌≤◌, ◌^◌, Bool, true, false, cond, List, [], ◌∷◌, ◌++◌, length}
+use Rattle.weight_sums.proofs.Imports.{alone, joined, over, AreSets, IsHalf, IsHalfOf}
 use native.Mathlib.Numerals.{unary_clauses}
-use Rattle.std.specs.List.{All, sum, sum_by}
-use Rattle.std.proofs.Math.Pow.{pow_mono}
-use Rattle.std.proofs.lemmas.Nat.{pow_pos}
-use Rattle.std.proofs.lemmas.Bool.{cases_eq}
-use Rattle.std.proofs.lemmas.Bool.Decides.{nat_tests}
-use Rattle.std.proofs.lemmas.List.{drop_all, drop_more}
-use Rattle.std.proofs.lemmas.List.Quantifiers.{all_pairs_push}
-use Rattle.std.proofs.lemmas.List.Elements.{All-nil, All-cons, All-push}
-use Rattle.std.proofs.lemmas.List.Sums.{sum_by-cons, sum_by_push, sum_by-drop_more, sum_by-take-drop, get_or-le-sum_by}
-use Rattle.weight_sums.specs.declared.sets.Set.{Set}
-use Rattle.weight_sums.specs.Inner.Sets.{nobody, alone, left, joined, over, AreFirst, Ascend, AreSets, IsHalf, IsHalfOf}
+use Rattle.std.proofs.lemmas.List.{Quantifiers.all_pairs_push, Sums.sum_by-take-drop, Sums.get_or-le-sum_by}
+use Rattle.std.proofs.lemmas.List.Elements.{All-nil, All-cons}
+use Rattle.weight_sums.specs.Inner.Sets.{left, AreFirst, Ascend}
 
 double-pow : (n : ℕ) → 2 ^ suc n ≡ 2 ^ n + 2 ^ n
 double-pow n = simp unary_clauses (omega arith)

@@ -1,15 +1,8 @@
 -- Numbers of sets by their keys, added by key.
-use Rattle.std.proofs.Common.{◌≡◌, ◌∙◌, ℕ, zero, suc, ◌+◌, ◌*◌, ◌<◌, ◌≤◌, ◌^◌, cond, eqb, ltb, List, [], ◌∷◌, ◌++◌}
-use Rattle.std.proofs.Common.{length, get_or, take, refl, arith}
-use Rattle.std.specs.List.{All, sum_by}
-use Rattle.std.proofs.lemmas.Bool.{le-ltb}
-use Rattle.std.proofs.lemmas.Bool.Decides.{nat_tests}
-use Rattle.std.proofs.lemmas.List.Sums.{sum_by_more, sum_by-le}
-use Rattle.weight_sums.specs.declared.sets.Set.{Set}
-use Rattle.weight_sums.specs.Inner.Sets.{nobody, has}
-use Rattle.weight_sums.specs.Inner.Tables.{AreOfKeys}
-use Rattle.weight_sums.proofs.SetLaws.{sum-if, sum-plus, sum-zero}
-use Rattle.weight_sums.proofs.FittingSets.{cond-most, sum-alike}
+use Rattle.weight_sums.proofs.Imports.{◌≡◌, ◌∙◌, ℕ, zero, suc, ◌+◌, ◌*◌, ◌<◌, ◌≤◌, ◌^◌, cond, eqb, ltb, List, [], ◌∷◌, ◌++◌, length, get_or}
+use Rattle.weight_sums.proofs.Imports.{take, refl, arith, All, sum_by, nat_tests, sum_by_more, sum_by-le, Set, nobody, has, AreOfKeys}
+use Rattle.std.proofs.Common.{le-ltb}
+use Rattle.weight_sums.proofs.{FittingSets.cond-most, FittingSets.sum-alike, SetLaws.sum-if, SetLaws.sum-plus, SetLaws.sum-zero}
 
 -- a row of nothing more
 pub zeros-more : (rows : List (List ℕ)) (row : List ℕ) → ((k s : ℕ) → get_or (get_or rows k []) s 0 ≡ 0) → ((s : ℕ) → get_or row s 0 ≡ 0)

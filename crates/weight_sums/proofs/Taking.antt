@@ -1,16 +1,9 @@
 -- Rows of prefixes, one prefix more.
-use Rattle.std.proofs.Math.Pow.{pow_mono}
-use Rattle.std.proofs.Common.{◌≡◌, ◌∙◌, ℕ, ◌+◌, ◌*◌, ◌<◌, ◌≤◌, ◌^◌, List, [], ◌∷◌, ◌++◌, length, take, drop, get_or, set, cond}
-use Rattle.std.proofs.Common.{replicate, ltb, zero, suc, max, length-set, ap, refl, arith, ◌-◌, get_or-set_same, get_or-set_other}
-use Rattle.std.specs.List.{All}
-use Rattle.std.proofs.lemmas.Bool.Decides.{nat_tests}
-use Rattle.std.proofs.Math.Nat.{mul-le-mul_left}
-use Rattle.std.proofs.lemmas.Nat.{pow_pos}
-use Rattle.std.proofs.lemmas.List.Sums.{sum_by_push, sum_by_more, sum_by-drop_more}
-use Rattle.std.proofs.lemmas.List.Elements.{All-push}
-use Rattle.weight_sums.specs.declared.row.Open.{Open}
-use Rattle.weight_sums.specs.Endings.{choose, fill, one_of_size, taken}
-use Rattle.weight_sums.specs.Inner.Rows.{weigh, prefixes}
+use Rattle.weight_sums.proofs.Imports.{pow_mono, ◌≡◌, ◌∙◌, ℕ, ◌+◌, ◌*◌, ◌<◌, ◌≤◌, ◌^◌, List, [], ◌∷◌, ◌++◌, length, take, drop, get_or, set}
+use Rattle.weight_sums.proofs.Imports.{cond, replicate, ltb, zero, suc, length-set, ap, refl, arith, ◌-◌, get_or-set_same, get_or-set_other}
+use Rattle.weight_sums.proofs.Imports.{All, nat_tests, mul-le-mul_left, pow_pos, sum_by_push, sum_by_more, sum_by-drop_more, All-push, Open}
+use Rattle.weight_sums.proofs.Imports.{choose, fill, one_of_size, taken, weigh, prefixes}
+use Rattle.std.proofs.Common.{max}
 
 pub choose-most : (m k : ℕ) → choose m k ≤ 2 ^ m
 unfolding choose

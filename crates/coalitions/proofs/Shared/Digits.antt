@@ -1,13 +1,11 @@
 -- Taking a place away from a coalition leaves its other places.
-use Rattle.std.proofs.Common.{◌≡◌, ◌≢◌, ◌∙◌, ℕ, ◌+◌, ◌-◌, ◌*◌, ◌/◌, ◌%◌, ◌^◌, ◌<◌, ◌≤◌, ◌==◌, true, false, zero, suc, sym, ap, arith, eq-eqb}
-use Rattle.std.specs.Int.{w64, trailing_zeros}
-use Rattle.std.specs.Int.Bits.{bit_and}
-use Rattle.std.proofs.lemmas.Nat.Bits.{bit_at-lt, bit_at-trailing_zeros, bit_at_above, bit_at_cat_low, bit_at_cat_high, bit_at-suc, bit_at-zero, bit_at_and, same_from_bits, same_from_bits_below}
-use Rattle.std.proofs.lemmas.Nat.{pow_pos, pow-add, mul-le, div-mul-add, and_block, and_le_r}
-use Rattle.std.proofs.lemmas.Bool.{cases_lt, eqb-true, eqb-false}
-use Rattle.std.proofs.Math.Nat.{mod-lt, div-add-mod}
-use Rattle.std.proofs.Math.Pow.{pow_mono}
-use Rattle.std.proofs.lemmas.Bool.Decides.{nat_tests}
+use Rattle.std.proofs.Common.{◌≡◌, ◌≢◌, ◌∙◌, ℕ, ◌+◌, ◌-◌, ◌*◌, ◌/◌, ◌%◌, ◌^◌, ◌<◌, ◌≤◌, ◌==◌, true, false, zero, suc, sym, ap, arith}
+use Rattle.std.proofs.Common.{eq-eqb, w64, bit_and, pow_pos, pow-add, eqb-true, mod-lt, pow_mono}
+use Rattle.std.specs.Int.{trailing_zeros}
+use Rattle.std.proofs.lemmas.Nat.Bits.{bit_at-lt, bit_at-trailing_zeros, bit_at_above, bit_at_cat_low, bit_at_cat_high, bit_at-suc}
+use Rattle.std.proofs.lemmas.Nat.Bits.{bit_at-zero, bit_at_and, same_from_bits, same_from_bits_below}
+use Rattle.std.proofs.lemmas.Nat.{mul-le, div-mul-add, and_block, and_le_r}
+use Rattle.std.proofs.{Math.Nat.div-add-mod, lemmas.Bool.cases_lt, lemmas.Bool.eqb-false, lemmas.Bool.Decides.nat_tests}
 use Rattle.coalitions.specs.Coalitions.{has, without}
 
 -- a number whose digit k is 1, with that digit and without

@@ -1,12 +1,8 @@
 -- The size of a coalition by its binary digits.
 use Rattle.std.proofs.Common.{◌≡◌, ℕ, zero, suc, ◌+◌, ◌-◌, ◌*◌, ◌/◌, ◌%◌, ◌^◌, ◌<◌, ◌≤◌, length, sym, ap, ◌∙◌, arith, count_ones, filter}
-use Rattle.std.specs.List.{range_with_len}
-use Rattle.std.proofs.lemmas.Nat.{ones_cat, ones-le, mod-pow-add}
-use Rattle.std.specs.Int.Count.{ones-ones}
-use Rattle.std.proofs.Math.Nat.{mod-eq_of_lt, mod-lt}
-use Rattle.std.proofs.lemmas.Nat.{pow_pos}
-use Rattle.std.proofs.lemmas.Bool.{cond_both, eqb-true, eqb-false}
-use Rattle.std.proofs.lemmas.Bool.Decides.{nat_tests}
+use Rattle.std.proofs.Common.{mod-eq_of_lt, mod-lt, pow_pos, eqb-true}
+use Rattle.std.specs.{Int.Count.ones-ones, List.range_with_len}
+use Rattle.std.proofs.lemmas.{Bool.cond_both, Bool.eqb-false, Bool.Decides.nat_tests, Nat.ones_cat, Nat.ones-le, Nat.mod-pow-add}
 use Rattle.std.proofs.lemmas.Grind.{common_steps}
 use Rattle.coalitions.specs.Coalitions.{has, size}
 

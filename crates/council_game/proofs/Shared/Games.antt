@@ -1,19 +1,15 @@
 -- The votes of a game.
-use Rattle.std.proofs.Common.{◌≡◌, ℕ, suc, ◌*◌, ◌<◌, ◌≤◌, Bool, false, not, ◌||◌, ltb, List, [], ◌∷◌, length, get_or, map, sum, refl, sym, ap, ◌∙◌, subst, arith, inl, inr, Option, None, Ok}
-use Rattle.std.specs.List.{AllByRecursion, list_any, range_with_len, position, position_or_len}
-use Rattle.std.proofs.lemmas.List.FromFn.{length-range_with_len}
+use Rattle.council_game.proofs.Imports.{rank_places, rule_by_rank, members_by_rank, weights_at, GameView, IsGame, made_game, first_weights}
+use Rattle.council_game.proofs.Imports.{◌≡◌, ℕ, suc, ◌*◌, ◌<◌, ◌≤◌, Bool, false, not, ◌||◌, List, [], ◌∷◌, length, get_or, map, sum, refl}
+use Rattle.council_game.proofs.Imports.{position, position_or_len, length-range_with_len, length-map, get_or_default, recursion_from_All}
+use Rattle.council_game.proofs.Imports.{fails_before_first, nat_tests, cases_lt, or_parts, cond-true, RuleView, IsRule, IsVotes, places}
+use Rattle.council_game.proofs.Imports.{sym, ap, ◌∙◌, subst, arith, inl, inr, Option, Ok, AllByRecursion, list_any, range_with_len}
+use Rattle.council_game.proofs.Imports.{votes_of, is_name, has_bad_quota}
+use Rattle.std.proofs.Common.{ltb, None, lt-ltb, le-ltb}
 use Rattle.std.specs.Option.{option_map_or}
-use Rattle.std.proofs.lemmas.List.{length-map, get_or_default, get_or_past}
-use Rattle.std.proofs.lemmas.List.Elements.{recursion_from_All}
-use Rattle.std.proofs.lemmas.List.Sums.{sum_by-le, fails_before_first}
-use Rattle.std.proofs.lemmas.Bool.Decides.{nat_tests}
-use Rattle.std.proofs.lemmas.Bool.{cases_lt, or_parts, lt-ltb, le-ltb, cond-true}
+use Rattle.std.proofs.lemmas.List.{get_or_past, Sums.sum_by-le}
 use Rattle.council_game.specs.declared.fault.GameFault.TheVariants.{Title, Members, Name, SameName, Weight, QuotaRange}
-use Rattle.council_game.specs.Fault.{◌>>=◌, refuse, refuse_at}
-use Rattle.council_game.specs.Votes.{RuleView, IsRule, IsRanked, IsVotes}
-use Rattle.council_game.specs.Ranks.{places, rank_places, rule_by_rank, members_by_rank}
-use Rattle.council_game.specs.Inner.Along.{weights_at}
-use Rattle.council_game.specs.Game.{GameView, IsGame, made_game, first_weights, votes_of, is_title, is_name, is_repeat, is_heavy, has_bad_quota}
+use Rattle.council_game.specs.{Fault.◌>>=◌, Fault.refuse, Fault.refuse_at, Game.is_title, Game.is_repeat, Game.is_heavy, Votes.IsRanked}
 use Rattle.council_game.proofs.Shared.Rankings.{ranking-sum, ranking-falls, length-weights_by_rank, length-rank_places, places-at}
 use Rattle.council_game.proofs.Order.{ranking}
 

@@ -1,21 +1,12 @@
 -- The list of minimal coalitions.
-use Rattle.std.proofs.Common.{◌≡◌, ℕ, zero, suc, ◌-◌, ◌/◌, ◌%◌, ◌^◌, ◌<◌, ◌≤◌, Bool, true, false, not, List, [], ◌∷◌, ◌++◌, length, sum, refl, ap, arith}
-use Rattle.std.specs.List.{AllByRecursion, All, AllPairs, filter}
-use Rattle.std.proofs.lemmas.Nat.{pow_pos}
-use Rattle.std.proofs.lemmas.Nat.Bits.{bit_at_ones}
-use Rattle.std.proofs.lemmas.List.{append_assoc, append-nil}
-use Rattle.std.proofs.lemmas.List.Elements.{All-cons, All-nil, All-filter, filter_passes}
-use Rattle.std.proofs.lemmas.List.Kept.{AllPairs-cons, AllPairs-filter}
-use Rattle.std.proofs.lemmas.List.Sums.{sum_by-cons}
-use Rattle.std.proofs.lemmas.List.Filters.{length-filter_both}
-use Rattle.std.proofs.lemmas.Bool.{and_parts, both_ways, cond-true, cond-false}
-use Rattle.std.proofs.lemmas.Bool.Decides.{nat_tests}
-use Rattle.council_game.specs.Votes.{RuleView, Votes, IsRule, IsVotes, weight, wins, minimal, down, minimal_coalitions}
-use Rattle.council_game.specs.Shared.Below.{minimal_below}
-use Rattle.council_game.specs.Laws.{IsListing}
-use Rattle.council_game.proofs.Shared.WeightByDigits.{weight-nil, weight-cons}
-use Rattle.council_game.proofs.Shared.Weights.{weight-zero}
-use Rattle.council_game.proofs.Shared.Subsets.{minimal-inside}
+use Rattle.council_game.proofs.Imports.{length, sum, refl, ap, arith, AllByRecursion, All, AllPairs, filter, pow_pos, append-nil, All-cons}
+use Rattle.council_game.proofs.Imports.{◌≡◌, ℕ, zero, suc, ◌-◌, ◌/◌, ◌%◌, ◌^◌, ◌<◌, ◌≤◌, Bool, true, false, not, List, [], ◌∷◌, ◌++◌}
+use Rattle.council_game.proofs.Imports.{All-nil, AllPairs-cons, sum_by-cons, and_parts, both_ways, cond-true, cond-false, nat_tests}
+use Rattle.council_game.proofs.Imports.{RuleView, Votes, IsRule, IsVotes, weight, wins, minimal, minimal_coalitions, minimal_below}
+use Rattle.std.proofs.lemmas.List.{Elements.All-filter, Elements.filter_passes, Filters.length-filter_both, Kept.AllPairs-filter}
+use Rattle.std.proofs.{Common.append_assoc, lemmas.Nat.Bits.bit_at_ones}
+use Rattle.council_game.specs.{Laws.IsListing, Votes.down}
+use Rattle.council_game.proofs.Shared.{Subsets.minimal-inside, WeightByDigits.weight-nil, WeightByDigits.weight-cons, Weights.weight-zero}
 
 -- a coalition that has all members weighs all
 weight-full : (ws : List ℕ) (c : ℕ) → ((i : ℕ) → i < length ws → c / 2 ^ i % 2 ≡ 1) → weight ws c ≡ sum ws

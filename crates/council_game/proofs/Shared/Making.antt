@@ -1,25 +1,15 @@
 -- The tables of a game that is made.
-use Rattle.std.proofs.lemmas.Bool.Decides.{nat_tests}
-use Rattle.std.proofs.Common.{◌≡◌, ℕ, ◌-◌, ◌^◌, ◌<◌, ◌≤◌, min, List, [], ◌∷◌, length, get_or, map, sum, refl, sym, ap, ◌∙◌, subst, arith, All, Option, Ok, String, Global, string_bytes, option_map}
-use Rattle.std.specs.List.{AllByRecursion}
-use Rattle.std.proofs.lemmas.List.{length-map, get_or-map}
-use Rattle.std.proofs.lemmas.List.FromFn.{length-range_with_len}
-use Rattle.std.proofs.lemmas.List.Elements.{All-map, recursion_from_All}
-use Rattle.std.proofs.lemmas.List.Sorted.{All-permutation}
-use Rattle.std.proofs.lemmas.Bool.{ltb-false, or_parts}
-use Rattle.std.proofs.lemmas.Grind.{common_steps}
-use Rattle.council_game.specs.declared.rule.Rule.{Rule}
-use Rattle.council_game.specs.Votes.{RuleView, IsVotes}
-use Rattle.council_game.specs.Inner.Held.{votes}
-use Rattle.council_game.specs.Ranks.{places, member_at, rank_places, members_by_rank, rule_by_rank}
-use Rattle.council_game.specs.Inner.Along.{rule_along, weights_at}
-use Rattle.council_game.specs.Rules.{rule_view, rule_views}
-use Rattle.council_game.specs.Game.{GameView, IsGame, made_game, first_weights, total, votes_of}
-use Rattle.council_game.specs.Inner.Parts.{game_of_parts}
-use Rattle.council_game.proofs.Shared.RuleLists.{held_full}
-use Rattle.council_game.proofs.Shared.Rankings.{IsRanking, ranking-member_at, ranking-below, ranking-is, ranking-length, rank-of, rank_places-at, ranking-falls, ranking-weights_at, length-rank_places, place-found, places-at, places-below}
-use Rattle.council_game.proofs.Order.{ranking}
-use Rattle.council_game.proofs.Shared.WinningByPlaces.{held-rule}
+use Rattle.council_game.proofs.Imports.{recursion_from_All, All-permutation, or_parts, common_steps, Rule, RuleView, IsVotes, votes, places}
+use Rattle.council_game.proofs.Imports.{nat_tests, ◌≡◌, ℕ, ◌-◌, ◌^◌, ◌<◌, ◌≤◌, min, List, [], ◌∷◌, length, get_or, map, sum, refl, sym, ap}
+use Rattle.council_game.proofs.Imports.{◌∙◌, subst, arith, All, Option, Ok, AllByRecursion, length-map, get_or-map, length-range_with_len}
+use Rattle.council_game.proofs.Imports.{member_at, rank_places, members_by_rank, rule_by_rank, rule_along, weights_at, rule_view}
+use Rattle.council_game.proofs.Imports.{rule_views, GameView, IsGame, made_game, first_weights, total, votes_of, game_of_parts}
+use Rattle.std.proofs.Common.{String, Global, string_bytes, option_map, ltb-false}
+use Rattle.std.proofs.lemmas.List.Elements.{All-map}
+use Rattle.council_game.proofs.{Order.ranking, Shared.RuleLists.held_full, Shared.WinningByPlaces.held-rule}
+use Rattle.council_game.proofs.Shared.Rankings.{rank_places-at, ranking-falls, ranking-weights_at, length-rank_places, place-found}
+use Rattle.council_game.proofs.Shared.Rankings.{IsRanking, ranking-member_at, ranking-below, ranking-is, ranking-length, rank-of}
+use Rattle.council_game.proofs.Shared.Rankings.{places-at, places-below}
 use Rattle.council_game.proofs.Shared.Games.{passed, votes-are, light-weights, light-sum}
 
 pub order-below : (ws os : List ℕ) → os ≡ members_by_rank (rank_places ws) → All (λ i. i < length ws) os

@@ -1,9 +1,7 @@
 -- What the definitions of weight and minimal say of each member.
-use Rattle.std.proofs.Common.{not, length, slice_index, sym}
-use Rattle.std.specs.List.{list_all}
-use Rattle.std.proofs.lemmas.Bool.{and_parts, and_from, not-true, not_from_false}
-use Rattle.std.proofs.lemmas.List.Sums.{sum-map}
-use Rattle.council_game.specs.Votes.{Votes, has, without, wins, weight, places_of, minimal}
+use Rattle.council_game.proofs.Imports.{not, length, slice_index, sym, list_all, and_parts, and_from, sum-map, Votes, has, without, wins}
+use Rattle.council_game.proofs.Imports.{weight, places_of, minimal}
+use Rattle.std.proofs.lemmas.Bool.{not-true, not_from_false}
 use Rattle.council_game.specs.Laws.{WeighsItsMembers, NeedsEachMember}
 use Rattle.council_game.proofs.Places.{each-place, all-places}
 

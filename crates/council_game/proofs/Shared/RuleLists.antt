@@ -1,8 +1,5 @@
 -- The rules of a game as records, and as the code holds them.
-use Rattle.std.proofs.Common.{◌≡◌, ℕ, List, length, arith, All}
-use Rattle.std.proofs.lemmas.List.{length-map, get_or-map}
-use Rattle.council_game.specs.declared.rule.Rule.{Rule}
-use Rattle.council_game.specs.Rules.{rule_view, rule_views}
+use Rattle.council_game.proofs.Imports.{◌≡◌, ℕ, List, length, arith, All, length-map, get_or-map, Rule, rule_view, rule_views}
 
 -- the rules that the code holds are as full as the records say
 pub held_full : (rules : List Rule) (n : ℕ) → All (λ r. length r.weights ≡ n) (rule_views rules)

@@ -1,15 +1,12 @@
 -- No proper subset of a minimal coalition wins.
-use Rattle.std.proofs.Common.{not, zero, suc, sym, ◌≡◌, ℕ, ◌-◌, ◌/◌, ◌%◌, ◌^◌, ◌<◌, ◌≤◌, true, List, [], ◌∷◌, refl, ap, ◌∙◌, arith, inl, inr}
-use Rattle.std.specs.List.{AllByRecursion, list_all}
-use Rattle.std.proofs.lemmas.Nat.Bits.{bit_at-lt, same_from_bits_below}
-use Rattle.std.proofs.lemmas.Bool.{and_from, cases_Bool, not-false, eq-eqb, cases_eq, false_from_ne_true, both_ways}
-use Rattle.std.proofs.lemmas.Bool.Decides.{nat_tests}
-use Rattle.council_game.specs.Votes.{RuleView, Votes, IsRule, IsVotes, has, without, wins, minimal, places_of}
+use Rattle.council_game.proofs.Imports.{cases_eq, false_from_ne_true, both_ways, nat_tests, RuleView, Votes, IsRule, IsVotes, has, without}
+use Rattle.council_game.proofs.Imports.{not, zero, suc, sym, ◌≡◌, ℕ, ◌-◌, ◌/◌, ◌%◌, ◌^◌, ◌<◌, ◌≤◌, true, List, [], ◌∷◌, refl, ap, ◌∙◌}
+use Rattle.council_game.proofs.Imports.{arith, inl, inr, AllByRecursion, list_all, bit_at-lt, and_from, cases_Bool, not-false, eq-eqb}
+use Rattle.council_game.proofs.Imports.{wins, minimal, places_of, digit-kept, has-none}
+use Rattle.std.proofs.lemmas.Nat.Bits.{same_from_bits_below}
 use Rattle.council_game.specs.Laws.{ProperSubsetsLose}
-use Rattle.coalitions.proofs.Shared.Digits.{digit-kept, has-kept, has-none, without-less}
-use Rattle.council_game.proofs.Monotone.{weight-mono}
-use Rattle.council_game.proofs.Places.{spare-place}
-use Rattle.council_game.proofs.Shared.Meanings.{needs-each-member}
+use Rattle.coalitions.proofs.Shared.Digits.{has-kept, without-less}
+use Rattle.council_game.proofs.{Monotone.weight-mono, Places.spare-place, Shared.Meanings.needs-each-member}
 
 -- where a set wins, each set wins that has all its places
 pub wins-mono : (n a c : ℕ) (rs : List RuleView) → AllByRecursion (IsRule n) rs → ((i : ℕ) → i < n → a / 2 ^ i % 2 ≤ c / 2 ^ i % 2)

@@ -1,10 +1,7 @@
 -- The weight of a coalition, one binary digit after another.
-use Rattle.std.proofs.lemmas.Bool.Decides.{nat_tests}
-use Rattle.std.proofs.Common.{◌≡◌, ℕ, suc, ◌+◌, ◌*◌, ◌/◌, ◌%◌, ◌^◌, ◌<◌, List, [], ◌∷◌, length, filter, slice_index, refl, sym, ap, ◌∙◌, arith}
-use Rattle.std.specs.List.{range_with_len, sum_by}
-use Rattle.std.proofs.lemmas.Bool.{cond_both, eqb-true, eqb-false}
-use Rattle.std.proofs.lemmas.List.Sums.{sum_by-cons}
-use Rattle.council_game.specs.Votes.{has, weight}
+use Rattle.council_game.proofs.Imports.{nat_tests, ◌≡◌, ℕ, suc, ◌+◌, ◌*◌, ◌/◌, ◌%◌, ◌^◌, ◌<◌, List, [], ◌∷◌, length, filter, slice_index}
+use Rattle.council_game.proofs.Imports.{refl, sym, ap, ◌∙◌, arith, range_with_len, sum_by, sum_by-cons, has, weight}
+use Rattle.std.proofs.{Common.eqb-true, lemmas.Bool.cond_both, lemmas.Bool.eqb-false}
 
 -- the last of the places is the lowest digit
 by_digits : List ℕ → ℕ → ℕ

@@ -1,15 +1,12 @@
 -- The weight of a coalition, split at a prefix of its places.
-use Rattle.std.proofs.lemmas.Bool.Decides.{nat_tests}
-use Rattle.std.proofs.Common.{◌≡◌, ◌≢◌, ℕ, zero, suc, ◌+◌, ◌-◌, ◌*◌, ◌/◌, ◌%◌, ◌^◌, ◌<◌, ◌≤◌, List, [], ◌∷◌, ◌++◌, length, take, drop, get_or, sum, ◌∙◌, arith}
-use Rattle.std.proofs.lemmas.Nat.Bits.{bit_at_cat_low, bit_at_cat_high, bit_at-lt, bit_at-zero}
-use Rattle.std.proofs.lemmas.Nat.{div-add-mod', mod_below, pow_pos, mul-le, div-mul-add, mod-mul-add}
-use Rattle.std.proofs.lemmas.List.{length-append, take-append-drop, length-drop, take_more}
-use Rattle.std.proofs.lemmas.List.Sums.{sum_by-cons}
-use Rattle.std.proofs.lemmas.Grind.{common_steps}
-use Rattle.council_game.specs.Votes.{weight}
-use Rattle.coalitions.proofs.Shared.Digits.{digit-kept, digit-gone}
-use Rattle.council_game.proofs.Shared.WeightByDigits.{weight-nil, weight-cons}
-use Rattle.council_game.proofs.Monotone.{weight-mono}
+use Rattle.council_game.proofs.Imports.{nat_tests, ◌≡◌, ◌≢◌, ℕ, zero, suc, ◌+◌, ◌-◌, ◌*◌, ◌/◌, ◌%◌, ◌^◌, ◌<◌, ◌≤◌, List, [], ◌∷◌, ◌++◌}
+use Rattle.council_game.proofs.Imports.{length, take, get_or, sum, ◌∙◌, arith, bit_at-lt, pow_pos, mul-le, sum_by-cons, common_steps}
+use Rattle.council_game.proofs.Imports.{weight, digit-kept}
+use Rattle.std.proofs.Common.{drop, div-add-mod', length-append, take-append-drop, length-drop}
+use Rattle.std.proofs.lemmas.Nat.{mod_below, div-mul-add, mod-mul-add, Bits.bit_at_cat_low, Bits.bit_at_cat_high, Bits.bit_at-zero}
+use Rattle.std.proofs.lemmas.List.{take_more}
+use Rattle.coalitions.proofs.Shared.Digits.{digit-gone}
+use Rattle.council_game.proofs.{Monotone.weight-mono, Shared.WeightByDigits.weight-nil, Shared.WeightByDigits.weight-cons}
 
 -- coalitions with the same digits at the places of ws weigh the same
 weight-same : (ws : List ℕ) (a c : ℕ) → ((i : ℕ) → i < length ws → a / 2 ^ i % 2 ≡ c / 2 ^ i % 2) → weight ws a ≡ weight ws c

@@ -1,14 +1,8 @@
 -- Whether a coalition wins, and is minimal, place by place and rule by rule.
-use Rattle.std.proofs.lemmas.Grind.{common_steps}
-use Rattle.std.proofs.Common.{◌≡◌, ℕ, ◌+◌, ◌-◌, ◌*◌, ◌/◌, ◌%◌, ◌^◌, ◌<◌, true, false, List, length, take, get_or, sym, ap, ◌∙◌, arith}
-use Rattle.std.proofs.lemmas.List.Elements.{All-from_recursion}
-use Rattle.std.proofs.lemmas.Nat.{shr-shr}
-use Rattle.council_game.specs.Votes.{RuleView, Votes, IsRule, IsVotes, rule_at, has, without, weight}
-use Rattle.std.proofs.lemmas.List.{length-map, get_or-map}
-use Rattle.std.proofs.lemmas.Bool.Decides.{nat_tests}
-use Rattle.council_game.specs.declared.rule.Rule.{Rule}
-use Rattle.council_game.specs.Rules.{rule_view, rule_views}
-use Rattle.council_game.specs.Inner.Held.{votes}
+use Rattle.council_game.proofs.Imports.{common_steps, ◌≡◌, ℕ, ◌+◌, ◌-◌, ◌*◌, ◌/◌, ◌%◌, ◌^◌, ◌<◌, true, false, List, length, take, get_or}
+use Rattle.council_game.proofs.Imports.{sym, ap, ◌∙◌, arith, All-from_recursion, RuleView, Votes, IsRule, IsVotes, rule_at, has, without}
+use Rattle.council_game.proofs.Imports.{weight, length-map, get_or-map, nat_tests, Rule, rule_view, rule_views, votes}
+use Rattle.std.proofs.Common.{shr-shr}
 use Rattle.council_game.proofs.Shared.Weights.{weight-more, weight-without}
 
 -- the digits above a place, and above the next

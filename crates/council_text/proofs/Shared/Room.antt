@@ -1,7 +1,5 @@
 -- Room that stays, and a text that is refused behind others.
-use Rattle.std.proofs.Common.{◌≡◌, ◌≤◌, ◌+◌, ◌++◌, ℕ, List, length, Vec, Result, Ok, Err, ap, arith, length-append}
-use Rattle.std.specs.Global.{Global}
-use Rattle.std.specs.Vec.{vec_capacity}
+use Rattle.std.proofs.Common.{◌≡◌, ◌≤◌, ◌+◌, ◌++◌, ℕ, List, length, Vec, Result, Ok, Err, ap, arith, length-append, Global, vec_capacity}
 use Rattle.council_text.specs.Room.{MakesRoomFor}
 
 -- equal vectors have the same room

@@ -1,22 +1,16 @@
 -- The first deals, and what the end of the deal tells.
-use Rattle.std.specs.Prelude.{◌≡◌, ◌⊎◌, ℕ, zero, suc, ◌+◌, ◌<◌, ◌≤◌, Bool, false, ◌||◌, cond, List, [], ◌∷◌, ◌++◌, Option, None, length, map, replicate, All, refl}
-use Rattle.std.proofs.lemmas.Grind.{common_steps}
-use Rattle.std.specs.List.{range_with_len}
-use Rattle.std.specs.List.Sorted.{IsStrictlyIncreasing}
-use Rattle.std.proofs.Common.{ltb, set, get_or, ap, subst, arith, sym, ◌∙◌, inl, inr}
+use Rattle.std.proofs.Common.{◌≡◌, ◌⊎◌, ℕ, zero, suc, ◌+◌, ◌<◌, ◌≤◌, Bool, false, ◌||◌, cond, List, [], ◌∷◌, ◌++◌, Option, None, length}
+use Rattle.std.proofs.Common.{map, replicate, All, refl, ltb, set, get_or, ap, subst, arith, sym, ◌∙◌, inl, inr, eq-eqb, ne_eqb}
+use Rattle.std.proofs.Common.{length-append, sum_by}
+use Rattle.std.proofs.lemmas.{Bool.false≢true, Grind.common_steps, List.get_or_push, List.Sums.get_or-le-sum_by}
 use Rattle.std.proofs.Math.Bool.{or-false}
-use Rattle.std.proofs.lemmas.Bool.{false≢true, eq-eqb, ne_eqb}
-use Rattle.std.proofs.lemmas.List.{length-append, get_or_push}
+use Rattle.std.specs.List.{range_with_len, Sorted.IsStrictlyIncreasing}
 use Rattle.std.proofs.lemmas.List.Elements.{All-head, All-tail, All-map, All-weaker}
 use Rattle.coalitions.proofs.Shared.Ranges.{sum_by-range-le}
-use Rattle.mwc_parts.specs.Slicing.{Slicing}
-use Rattle.std.specs.List.{sum_by}
+use Rattle.mwc_parts.specs.{Shared.Deals.share_from, Shared.Deals.share_of, Shared.Deals.AreDealt, Slicing.Slicing, Wording.coalition_count}
 use Rattle.mwc_parts.specs.Inner.Times.{times_in}
-use Rattle.mwc_parts.specs.Wording.{coalition_count}
-use Rattle.mwc_parts.specs.Shared.Deals.{share_from, share_of, AreDealt}
 use Rattle.mwc_parts.specs.Shared.Dealing.{DeskView, IsWell, given_slices, DealsInTurn, TakesTurn, DealsOneEach, IsFresh}
 use Rattle.mwc_parts.proofs.Deals.{shares_sum, each_held_once, held_increases}
-use Rattle.std.proofs.lemmas.List.Sums.{get_or-le-sum_by}
 use Rattle.mwc_parts.proofs.Shared.Turns.{turn_nothing, turn_one, none_free, none_ill, still_held, went_on, share_at}
 
 no_shares : (desks : List DeskView) (from : ℕ) → All IsFresh desks

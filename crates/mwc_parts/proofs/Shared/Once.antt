@@ -1,16 +1,7 @@
 -- Each slice once.
-use Rattle.std.specs.Prelude.{◌≡◌, ℕ, ◌<◌, Bool, cond, List, [], ◌∷◌, count_by, refl}
-use Rattle.std.specs.List.{flat_map}
-use Rattle.std.proofs.Common.{eqb, ap, arith, sym, ◌∙◌}
-use Rattle.std.proofs.lemmas.Bool.{lt-ltb}
-use Rattle.std.proofs.lemmas.List.Sums.{sum_by-append, sum_by-cons}
-use Rattle.std.specs.List.{sum_by}
-use Rattle.std.proofs.lemmas.Bool.Decides.{nat_tests}
-use Rattle.std.proofs.lemmas.Grind.{common_steps}
-use Rattle.mwc_parts.specs.Inner.Times.{times_in}
-use Rattle.mwc_parts.specs.Shared.Deals.{AreDealt}
-use Rattle.mwc_parts.specs.Parts.{shares, HasEachSliceOnce}
-use Rattle.mwc_parts.specs.declared.part.Part.{Part}
+use Rattle.std.proofs.Common.{◌≡◌, ℕ, ◌<◌, Bool, cond, List, [], ◌∷◌, count_by, refl, flat_map, eqb, ap, arith, sym, ◌∙◌, lt-ltb, sum_by}
+use Rattle.std.proofs.lemmas.{Bool.Decides.nat_tests, Grind.common_steps, List.Sums.sum_by-append, List.Sums.sum_by-cons}
+use Rattle.mwc_parts.specs.{Inner.Times.times_in, Parts.shares, Parts.HasEachSliceOnce, Shared.Deals.AreDealt, declared.part.Part.Part}
 use Rattle.mwc_parts.proofs.Shared.Firsts.{dealt_once}
 
 -- how often a slice stands in all parts

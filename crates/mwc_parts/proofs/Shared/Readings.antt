@@ -1,17 +1,10 @@
 -- What the words of whole slices tell.
-use Rattle.std.specs.Prelude.{◌≡◌, ℕ, zero, suc, ◌+◌, ◌-◌, ◌<◌, ◌≤◌, Bool, List, [], ◌∷◌, ◌++◌, length, map, take, drop, refl}
-use Rattle.std.proofs.lemmas.Grind.{common_steps}
-use Rattle.std.specs.List.{flat_map}
-use Rattle.std.proofs.Common.{get_or, ap, arith, ◌∙◌, append_assoc}
-use Rattle.std.proofs.lemmas.List.{append-nil, length-append}
-use Rattle.std.proofs.lemmas.List.Elements.{filter_map-append}
-use Rattle.std.proofs.lemmas.List.Concat.{length-flat_map}
-use Rattle.mwc_parts.specs.Slicing.{Slicing}
+use Rattle.std.proofs.Common.{◌≡◌, ℕ, zero, suc, ◌+◌, ◌-◌, ◌<◌, ◌≤◌, Bool, List, [], ◌∷◌, ◌++◌, length, map, take, drop, refl, flat_map}
+use Rattle.std.proofs.Common.{get_or, ap, arith, ◌∙◌, append_assoc, append-nil, length-append}
+use Rattle.std.proofs.lemmas.{Grind.common_steps, List.Concat.length-flat_map, List.Elements.filter_map-append, List.Sums.sum_by-cons}
+use Rattle.mwc_parts.specs.{Shared.Settled.IsSentWhole, Shared.Settled.ends_from, Slicing.Slicing, Wording.wording, Wording.coalition_count}
 use Rattle.mwc_pipe.specs.declared.word.Word.{Word}
 use Rattle.mwc_pipe.specs.declared.word.Word.TheVariants.{Open, One, Done, End}
-use Rattle.mwc_parts.specs.Wording.{wording, coalition_count}
-use Rattle.std.proofs.lemmas.List.Sums.{sum_by-cons}
-use Rattle.mwc_parts.specs.Shared.Settled.{IsSentWhole, ends_from}
 use Rattle.mwc_parts.specs.Pieces.{one_in, ones, done_counts, HasEnds}
 
 pub coalitions-cons : (g : Slicing) (j : ℕ) (s : List ℕ) → coalition_count g (j ∷ s) ≡ length (g.slice j) + coalition_count g s

@@ -1,22 +1,13 @@
 -- From the join of a worker to what is known of its words.
-use Rattle.std.proofs.lemmas.Bool.Decides.{nat_tests}
-use Rattle.std.specs.Prelude.{◌≡◌, ◌⊎◌, ℕ, ◌<◌, Bool, true, false, List, [], ◌∷◌, ◌++◌, None, Some, if◌then◌else◌, map, All, refl}
-use Rattle.std.proofs.Common.{arith, sym, ◌∙◌, inl, inr}
-use Rattle.std.proofs.lemmas.Bool.{false≢true}
-use Rattle.std.proofs.Math.Bool.{or-true}
-use Rattle.std.proofs.lemmas.List.Folds.{list_any-append}
-use Rattle.mwc_parts.specs.Slicing.{Slicing}
-use Rattle.mwc_pipe.specs.declared.word.Word.{Word}
-use Rattle.mwc_pipe.specs.declared.word.Word.TheVariants.{One, Done}
+use Rattle.std.proofs.{Math.Bool.or-true, lemmas.Bool.false≢true, lemmas.Bool.Decides.nat_tests, lemmas.List.Folds.list_any-append}
+use Rattle.std.proofs.Common.{◌≡◌, ◌⊎◌, ℕ, ◌<◌, Bool, true, false, List, [], ◌∷◌, ◌++◌, None, Some, if◌then◌else◌, map, All, refl, arith}
+use Rattle.std.proofs.Common.{sym, ◌∙◌, inl, inr}
+use Rattle.mwc_parts.specs.declared.fault.GatherFault.{GatherFault, TheVariants.TooMany, TheVariants.Memory}
+use Rattle.mwc_parts.specs.{Shared.Settled.IsSentWhole, Shared.Settled.AreSettled, Shared.Settled.HasAllWords, declared.draft.Draft.Draft}
+use Rattle.mwc_parts.specs.{Drafts.is_cut, Drafts.has_cut, Drafts.fault_in_draft, Shared.Wording.end_words, Slicing.Slicing}
+use Rattle.mwc_pipe.specs.declared.word.Word.{Word, TheVariants.One, TheVariants.Done}
 use Rattle.mwc_parts.specs.Wording.{open_words, wording, coalition_count, IsWholeSending, IsCutSending, slice_words}
-use Rattle.mwc_parts.specs.Shared.Wording.{end_words}
-use Rattle.mwc_parts.specs.Drafts.{is_cut, has_cut, fault_in_draft}
-use Rattle.mwc_parts.specs.Shared.Settled.{IsSentWhole, AreSettled, HasAllWords}
-use Rattle.mwc_parts.specs.declared.draft.Draft.{Draft}
-use Rattle.mwc_parts.specs.declared.fault.GatherFault.{GatherFault}
-use Rattle.mwc_parts.specs.declared.fault.GatherFault.TheVariants.{TooMany, Memory}
-use Rattle.mwc_parts.proofs.Shared.Readings.{Reads, reads}
-use Rattle.mwc_parts.proofs.Tasks.{all_taken, cut_taken}
+use Rattle.mwc_parts.proofs.{Shared.Readings.Reads, Shared.Readings.reads, Tasks.all_taken, Tasks.cut_taken}
 
 pub settles : (g : Slicing) (most : ℕ) (taken left : List Word) (given : List ℕ) (told : Bool) (words : List Word)
     → All (λ j. j < g.slices) given → taken ++ left ≡ open_words given ++ end_words told → IsWholeSending g most taken words

@@ -1,18 +1,17 @@
 -- One turn of the deal.
-use Rattle.std.specs.Prelude.{◌≡◌, ◌⊎◌, ℕ, zero, suc, ◌+◌, ◌<◌, Bool, true, false, ◌||◌, List, [], ◌∷◌, ◌++◌, Option, Some, None, IsSome, length, map, replicate, All, refl}
-use Rattle.std.proofs.lemmas.Grind.{common_steps}
+use Rattle.std.proofs.Common.{◌≡◌, ◌⊎◌, ℕ, zero, suc, ◌+◌, ◌<◌, Bool, true, false, ◌||◌, List, [], ◌∷◌, ◌++◌, Option, Some, None, IsSome}
+use Rattle.std.proofs.Common.{length, map, replicate, All, refl, set, get_or, ap, subst, arith, sym, ◌∙◌, inl, inr, length-set}
+use Rattle.std.proofs.Common.{length-append}
+use Rattle.std.proofs.{Math.Bool.or_assoc, Math.Bool.or-false, Math.Bool.or-true, lemmas.List.FromFn.get_or-map-range_with_len}
+use Rattle.std.proofs.lemmas.{Bool.false≢true, Grind.common_steps}
 use Rattle.std.specs.List.{range_with_len, list_any}
-use Rattle.std.proofs.Common.{set, get_or, ap, subst, arith, sym, ◌∙◌, inl, inr}
-use Rattle.std.proofs.Math.ListN as list
-use Rattle.std.proofs.lemmas.List.{length-set, length-map, length-append, get_or-map, set-get_or, map-set}
-use Rattle.std.proofs.lemmas.List.FromFn.{get_or-map-range_with_len}
-use Rattle.std.proofs.Math.Bool.{or_assoc, or-false, or-true}
-use Rattle.std.proofs.lemmas.Bool.{false≢true}
+use Rattle.std.proofs.lemmas.List.{length-map, get_or-map, set-get_or, map-set}
 use Rattle.std.proofs.lemmas.List.Elements.{All-head, All-tail, All-weaker, All-set, All-push}
-use Rattle.mwc_parts.specs.Table.{IsFirstFree}
-use Rattle.mwc_parts.specs.Shared.Deals.{share_of, shares_by, AreDealt}
-use Rattle.mwc_parts.specs.Shared.Dealing.{DeskView, IsWell, is_ill, given_slices, DealsInOrder, DealsInTurn, GivesNothing, GivesOne, TakesTurn}
+use Rattle.mwc_parts.specs.{Shared.Deals.share_of, Shared.Deals.shares_by, Shared.Deals.AreDealt, Table.IsFirstFree}
+use Rattle.mwc_parts.specs.Shared.Dealing.{DeskView, IsWell, is_ill, given_slices, DealsInOrder, DealsInTurn, GivesNothing, GivesOne}
+use Rattle.mwc_parts.specs.Shared.Dealing.{TakesTurn}
 use Rattle.mwc_parts.proofs.Deals.{deal_from}
+use Rattle.std.proofs.Math.ListN as list
 
 -- the first free slice is the one after those that have a holder
 pub first_free : (hs : List ℕ) (free j : ℕ) → IsFirstFree (map Some hs ++ replicate free None) j → (j ≡ length hs) × (0 < free)

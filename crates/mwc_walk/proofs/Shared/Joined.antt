@@ -1,11 +1,8 @@
 -- The slices joined are the whole list.
-use Rattle.std.proofs.lemmas.Grind.{common_steps}
-use Rattle.std.proofs.Common.{◌≡◌, ℕ, zero, suc, ◌+◌, ◌-◌, ◌*◌, ◌/◌, ◌^◌, ◌<◌, ◌≤◌, Bool, true, false, eqb, sym, ap, ◌∙◌, subst, arith}
-use Rattle.std.specs.List.{filter, flat_map, range_with_len}
-use Rattle.std.proofs.lemmas.Bool.{eq-eqb}
-use Rattle.std.proofs.lemmas.Nat.{pow-add, mul-le}
-use Rattle.council_game.specs.Votes.{Votes, minimal, down, minimal_coalitions}
-use Rattle.mwc_walk.specs.Slices.{slice}
+use Rattle.mwc_walk.proofs.Imports.{common_steps, ◌≡◌, ℕ, zero, suc, ◌+◌, ◌-◌, ◌*◌, ◌/◌, ◌^◌, ◌<◌, ◌≤◌, Bool, true, false, eqb, sym, ap}
+use Rattle.mwc_walk.proofs.Imports.{◌∙◌, subst, arith, filter, eq-eqb, pow-add, mul-le, Votes, minimal, down, minimal_coalitions, slice}
+use Rattle.std.proofs.Common.{flat_map}
+use Rattle.std.specs.List.{range_with_len}
 use Rattle.mwc_walk.specs.Laws.{SlicesMakeTheWhole}
 use Rattle.mwc_walk.proofs.Descending.{filter-filter_skip, filter-block, block-prefix, before-block, past-block}
 

@@ -1,18 +1,9 @@
 -- In a game of one rule, what wins first on the way down is minimal.
-use Rattle.std.proofs.Common.{◌≡◌, ℕ, ◌+◌, ◌-◌, ◌*◌, ◌/◌, ◌%◌, ◌^◌, ◌<◌, ◌≤◌, true, false, List, [], ◌∷◌, length, get_or, sym, ap, ◌∙◌, arith, inl, inr}
-use Rattle.std.proofs.lemmas.Grind.{common_steps}
-use Rattle.std.specs.List.{AllByRecursion}
-use Rattle.std.proofs.lemmas.List.Sums.{length-filter, count_by-le-length}
-use Rattle.std.proofs.lemmas.Nat.Bits.{bit_at_cat_low, bit_at-zero}
-use Rattle.std.proofs.lemmas.Nat.{shr-shr, shl-shr, mul-le}
-use Rattle.std.proofs.Math.Pow.{pow_mono}
-use Rattle.std.proofs.lemmas.Bool.{and_left, lt-leb, eqb-true, cases_lt, both_ways}
-use Rattle.council_game.specs.Votes.{RuleView, Votes, IsRule, IsRanked, IsVotes, has, without, wins, minimal}
-use Rattle.mwc_walk.specs.Slices.{slice}
-use Rattle.mwc_walk.specs.Inner.Places.{wins_at}
-use Rattle.council_game.proofs.Shared.Meanings.{needs-each-member}
-use Rattle.council_game.proofs.Shared.Listing.{listing-is}
-use Rattle.council_game.proofs.Shared.Weights.{weight-without, weight-zero}
+use Rattle.mwc_walk.proofs.Imports.{◌∙◌, arith, inl, inr, common_steps, AllByRecursion, bit_at_cat_low, shr-shr, mul-le, pow_mono, and_left}
+use Rattle.mwc_walk.proofs.Imports.{eqb-true, cases_lt, both_ways, RuleView, Votes, IsRule, IsRanked, IsVotes, has, without, wins, minimal}
+use Rattle.mwc_walk.proofs.Imports.{◌≡◌, ℕ, ◌+◌, ◌-◌, ◌*◌, ◌/◌, ◌%◌, ◌^◌, ◌<◌, ◌≤◌, true, false, List, [], ◌∷◌, length, get_or, sym, ap}
+use Rattle.mwc_walk.proofs.Imports.{slice, wins_at, needs-each-member, listing-is, weight-without, weight-zero}
+use Rattle.std.proofs.lemmas.{Bool.lt-leb, List.Sums.length-filter, List.Sums.count_by-le-length, Nat.shl-shr, Nat.Bits.bit_at-zero}
 use Rattle.mwc_walk.proofs.Rules.{weight-block, weight-step, wins-prefix, wins-over}
 
 -- places past the prefix are not in it

@@ -1,18 +1,12 @@
 -- Each index adds up to 1 over the members.
-use Rattle.std.proofs.Common.{◌≡◌, ◌∙◌, ℕ, ◌+◌, ◌*◌, ◌/◌, ◌<◌, ◌≤◌, List, [], ◌∷◌, suc, length, map, cond, ap, refl, arith}
-use Rattle.std.specs.List.{filter, sum_by}
-use Rattle.std.proofs.lemmas.List.Sums.{sum_by-cons}
-use Rattle.std.proofs.lemmas.List.Folds.{fold-map}
-use Rattle.std.proofs.Math.Nat.{mul-pos, eq_of_mul-eq-mul_right}
-use Rattle.council_game.specs.Game.{GameView, IsGame, AreNonemptyCoalitions}
-use Rattle.council_game.proofs.Shared.Games.{votes-are}
-use Rattle.power_index.specs.Counting.{members, contains, size_of, count_of_member}
-use Rattle.power_index.specs.Fractions.{unit_sum, pair_sum, AddUpToOne}
-use Rattle.power_index.specs.Indices.{deegan_packel, public_good, sizes_of_member}
+use Rattle.power_index.proofs.Imports.{◌≡◌, ◌∙◌, ℕ, ◌+◌, ◌*◌, ◌/◌, ◌<◌, ◌≤◌, List, [], ◌∷◌, suc, length, map, cond, ap, refl, arith, filter}
+use Rattle.power_index.proofs.Imports.{AreNonemptyCoalitions, votes-are, members, contains, size_of, count_of_member, unit_sum}
+use Rattle.power_index.proofs.Imports.{sum_by, sum_by-cons, fold-map, mul-pos, eq_of_mul-eq-mul_right, GameView, IsGame}
+use Rattle.power_index.proofs.Imports.{deegan_packel, public_good, sizes_of_member, denominator}
+use Rattle.power_index.specs.Fractions.{pair_sum, AddUpToOne}
 use Rattle.power_index.proofs.Shared.Sums.{exchange, sum-filter, sum-times}
 use Rattle.power_index.proofs.Shared.Members.{few-members, members-of, memberships, sizes-some, sizes-within, size-pos, size-le}
 use Rattle.power_index.proofs.Units.{over_common, each_divides, divides, bottom_pos}
-use Rattle.power_index.specs.Tables.{denominator}
 
 -- pairs that are w i over one bottom k add up to the sum of w over k
 over_one : (k : ℕ) (q : ℕ → ℕ × ℕ) (w : ℕ → ℕ) → ((i : ℕ) → (q i).0 * k ≡ w i * (q i).1) → (is : List ℕ)

@@ -1,12 +1,9 @@
 -- The greatest common divisor by search is the one that Euclid's algorithm finds, and what it gives is in lowest terms.
-use Rattle.std.proofs.Common.{◌≡◌, ℕ, zero, suc, ◌/◌, ◌%◌, ◌<◌, ◌≤◌, true, sym, ap, subst, arith}
-use Rattle.std.proofs.lemmas.Grind.{common_steps}
-use Rattle.std.specs.Int.{IsGcd, ◌∣◌}
-use Rattle.std.proofs.lemmas.Nat.Gcd.{IsGcd-from_zero, IsGcd-from_mod, le_from_IsGcd, le_of_dvd, dvd_of_mod-eq-zero, mod-eq-zero_of_dvd}
-use Rattle.std.proofs.lemmas.Bool.{cond_both}
-use Rattle.std.proofs.Math.Nat.{mod-lt, one-dvd}
-use Rattle.std.proofs.lemmas.Bool.Decides.{nat_tests}
-use Rattle.power_index.specs.Fractions.{divides_both, common_divisor_up_to, greatest_common_divisor, lowest_terms, IsLowestOf, HasLowestTerms}
+use Rattle.power_index.proofs.Imports.{◌≡◌, ℕ, zero, suc, ◌/◌, ◌%◌, ◌<◌, ◌≤◌, true, sym, ap, subst, arith, common_steps, IsGcd, ◌∣◌}
+use Rattle.power_index.proofs.Imports.{IsGcd-from_zero, IsGcd-from_mod, le_of_dvd, mod-lt, nat_tests, lowest_terms, IsLowestOf}
+use Rattle.std.proofs.lemmas.{Bool.cond_both, Nat.Gcd.le_from_IsGcd, Nat.Gcd.dvd_of_mod-eq-zero, Nat.Gcd.mod-eq-zero_of_dvd}
+use Rattle.std.proofs.Math.Nat.{one-dvd}
+use Rattle.power_index.specs.Fractions.{divides_both, common_divisor_up_to, greatest_common_divisor, HasLowestTerms}
 use Rattle.power_index.proofs.Quotients.{gcd-pos, quotient-pos, same_fraction, coprime}
 use Rattle.power_index.proofs.Unique.{lowest-unique}
 

@@ -1,19 +1,12 @@
 -- What a game's rank places give: the members of a coalition are as many as its places.
-use Rattle.std.proofs.Common.{◌≡◌, ◌∙◌, ◌==◌, ℕ, ◌-◌, ◌/◌, ◌%◌, ◌^◌, ◌<◌, ◌≤◌, List, [], ◌∷◌, suc, length, get_or, map, cond, true, sym, ap, arith, inl, inr}
-use Rattle.std.specs.List.{filter, sum_by, count_by, range_with_len, AllByRecursion}
-use Rattle.std.specs.Int.{w64, trailing_zeros}
-use Rattle.std.proofs.lemmas.List.Sums.{sum_by-cons, get_or-le-sum_by, length-filter}
+use Rattle.power_index.proofs.Imports.{◌≡◌, ◌∙◌, ◌==◌, ℕ, ◌-◌, ◌/◌, ◌%◌, ◌^◌, ◌<◌, ◌≤◌, List, [], ◌∷◌, suc, length, get_or, map, cond, true}
+use Rattle.power_index.proofs.Imports.{sym, ap, arith, inl, inr, filter, sum_by, range_with_len, AllByRecursion, w64, trailing_zeros}
+use Rattle.power_index.proofs.Imports.{sum_by-cons, length-filter, length-range_with_len, get_or-range_with_len, cases_lt, has, size}
+use Rattle.power_index.proofs.Imports.{GameView, IsGame, AreNonemptyCoalitions, votes-are, ranks-are, members, contains, size_of}
+use Rattle.power_index.proofs.Imports.{count_of_member, sizes_of_member, lowest-place}
+use Rattle.std.proofs.{Common.count_by, lemmas.List.Sums.get_or-le-sum_by}
 use Rattle.std.proofs.lemmas.List.Elements.{All-map, All-weaker, filter_passes, recursion_from_All}
-use Rattle.std.proofs.lemmas.List.FromFn.{length-range_with_len, get_or-range_with_len}
-use Rattle.std.proofs.lemmas.Bool.{cases_lt}
-use Rattle.council_game.specs.Votes.{has, size}
-use Rattle.council_game.specs.Game.{GameView, IsGame, AreNonemptyCoalitions}
-use Rattle.council_game.proofs.Shared.Games.{votes-are}
-use Rattle.council_game.proofs.Shared.Making.{ranks-are}
 use Rattle.council_game.proofs.Shared.RankPlaces.{by-member, game-rank_places}
-use Rattle.power_index.specs.Counting.{members, contains, size_of, count_of_member}
-use Rattle.power_index.specs.Indices.{sizes_of_member}
-use Rattle.coalitions.proofs.Shared.Digits.{lowest-place}
 use Rattle.power_index.proofs.Shared.Sums.{exchange, length-filter-le}
 
 pub few-members : (g : GameView) → IsGame g → length g.names ≤ 40

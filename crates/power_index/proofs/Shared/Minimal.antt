@@ -1,10 +1,7 @@
 -- The minimal winning coalitions of a game can be counted.
-use Rattle.std.proofs.Common.{◌^◌, ◌<◌, ◌≤◌, length, arith}
-use Rattle.std.proofs.lemmas.Grind.{common_steps}
-use Rattle.std.proofs.Math.Pow.{pow_mono}
-use Rattle.council_game.specs.Votes.{minimal_coalitions}
-use Rattle.council_game.specs.Game.{GameView, IsGame, votes_of, AreNonemptyCoalitions}
-use Rattle.council_game.proofs.Shared.Games.{votes-are}
+use Rattle.power_index.proofs.Imports.{◌^◌, ◌<◌, ◌≤◌, length, arith, common_steps, GameView, IsGame, AreNonemptyCoalitions, votes-are}
+use Rattle.std.proofs.Common.{pow_mono}
+use Rattle.council_game.specs.{Game.votes_of, Votes.minimal_coalitions}
 use Rattle.council_game.proofs.Shared.Listing.{listing-is}
 use Rattle.power_index.proofs.Shared.Members.{few-members}
 

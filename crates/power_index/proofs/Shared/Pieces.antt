@@ -1,7 +1,6 @@
 -- Lists in pieces.
-use Rattle.std.proofs.Common.{◌++◌, List, [], ◌∷◌, length, refl, subst}
-use Rattle.std.specs.List.{All, flat_map}
-use Rattle.std.proofs.lemmas.List.{take_at, drop_at}
+use Rattle.power_index.proofs.Imports.{◌++◌, List, [], ◌∷◌, length, refl, subst, All}
+use Rattle.std.proofs.Common.{flat_map, take_at, drop_at}
 use Rattle.std.proofs.lemmas.List.Elements.{All-nil, All-cons, All-drop, All-take}
 
 all-front : {Y : Type 0} (P : Y → Type 0) (ys zs : List Y) → All P (ys ++ zs) → All P ys

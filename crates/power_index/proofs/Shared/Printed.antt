@@ -1,14 +1,9 @@
 -- The fractions that the code makes, as the indices.
-use Rattle.std.proofs.Common.{◌≡◌, ◌∙◌, ℕ, ◌*◌, ◌<◌, ◌≤◌, List, length, sym, ap, arith}
-use Rattle.std.proofs.lemmas.Grind.{common_steps}
-use Rattle.std.proofs.Math.Nat.{mul-pos}
-use Rattle.council_game.specs.Game.{GameView}
-use Rattle.power_index.specs.Tables.{Tables, denominator, AreCounts, table_total, table_memberships, table_deegan_packel, table_public_good}
-use Rattle.power_index.specs.Fractions.{IsLowestOf, lowest_terms}
-use Rattle.power_index.specs.Indices.{deegan_packel, public_good, sizes_of_member}
-use Rattle.power_index.proofs.Units.{mean, bottom_pos}
+use Rattle.power_index.proofs.Imports.{◌≡◌, ◌∙◌, ℕ, ◌*◌, ◌<◌, ◌≤◌, List, length, sym, ap, arith, common_steps, mul-pos, GameView, Tables}
+use Rattle.power_index.proofs.Imports.{denominator, AreCounts, table_total, table_memberships, table_deegan_packel, table_public_good}
+use Rattle.power_index.proofs.Imports.{IsLowestOf, lowest_terms, deegan_packel, public_good, sizes_of_member}
+use Rattle.power_index.proofs.{Shared.LowestTerms.lowest_terms-lowest, Shared.LowestTerms.lowest_terms-only, Units.mean, Units.bottom_pos}
 use Rattle.power_index.proofs.Weights.{within, weight, memberships-are}
-use Rattle.power_index.proofs.Shared.LowestTerms.{lowest_terms-lowest, lowest_terms-only}
 
 pub deegan-packel-is : (g : GameView) (list : List ℕ) (t : Tables) (i top bottom : ℕ) → i < t.members → t.members ≤ 40 → AreCounts g list t
     → IsLowestOf (table_deegan_packel t i) (top, bottom) → IsLowestOf (deegan_packel g list i) (top, bottom)

@@ -1,12 +1,8 @@
 -- How large the numbers of an index are in lowest terms.
-use Rattle.std.proofs.lemmas.Grind.{common_steps}
-use Rattle.std.proofs.Common.{ℕ, ◌*◌, ◌^◌, ◌<◌, ◌≤◌, length, get_or, arith}
-use Rattle.std.specs.List.{range_with_len}
-use Rattle.std.proofs.Math.Nat.{div-le_self}
+use Rattle.power_index.proofs.Imports.{length-range_with_len, get_or-range_with_len, Tables, AreSound, table_of_member, table_memberships}
+use Rattle.power_index.proofs.Imports.{common_steps, ℕ, ◌*◌, ◌^◌, ◌<◌, ◌≤◌, length, get_or, arith, range_with_len, div-le_self}
+use Rattle.power_index.proofs.Imports.{table_deegan_packel, table_public_good, lowest_terms}
 use Rattle.std.proofs.lemmas.List.Sums.{sum_by-le}
-use Rattle.std.proofs.lemmas.List.FromFn.{length-range_with_len, get_or-range_with_len}
-use Rattle.power_index.specs.Tables.{Tables, AreSound, table_of_member, table_memberships, table_deegan_packel, table_public_good}
-use Rattle.power_index.specs.Fractions.{lowest_terms}
 
 -- a pair of numbers below a bound
 abbrev pub AreBelow : ℕ → ℕ × ℕ → Type 0

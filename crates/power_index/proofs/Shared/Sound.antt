@@ -1,24 +1,15 @@
 -- Tables that hold the tallies of a list hold its counts, and what holds of counts.
-use Rattle.std.proofs.lemmas.List.Sums.{length-filter, sum_by_push}
-use Rattle.std.proofs.lemmas.Bool.Decides.{nat_tests}
+use Rattle.power_index.proofs.Imports.{length-filter, nat_tests, ◌≡◌, ◌∙◌, ◌==◌, ◌&&◌, ℕ, ◌+◌, ◌^◌, ◌<◌, ◌≤◌, List, [], ◌∷◌, ◌++◌, length}
+use Rattle.power_index.proofs.Imports.{get_or, replicate, cond, Bool, true, sym, ap, refl, arith, subst, suc, length-append, common_steps}
+use Rattle.power_index.proofs.Imports.{contains, size_of, Tables, IsTallyOf, AreTallies, AreOfOneGame, AreCounts, AreSound, no_tally}
+use Rattle.power_index.proofs.Imports.{All, filter, has, size, GameView, IsGame, AreNonemptyCoalitions, votes-are, ranks-are, Tally}
+use Rattle.power_index.proofs.Imports.{tally_total, table_total, IsJoined, with_one}
+use Rattle.std.proofs.lemmas.List.{get_or-replicate, Elements.All-append, Elements.filter-append, Sums.sum_by_push}
 use Rattle.std.proofs.Common.{length-set}
-use Rattle.std.proofs.Common.{◌≡◌, ◌∙◌, ◌==◌, ◌&&◌, ℕ, ◌+◌, ◌^◌, ◌<◌, ◌≤◌, List, [], ◌∷◌, ◌++◌, length, get_or, replicate, cond, Bool, true, sym, ap, refl, arith, subst, suc, length-append}
-use Rattle.std.proofs.lemmas.Grind.{common_steps}
-use Rattle.std.specs.List.{All, filter}
-use Rattle.std.proofs.lemmas.List.{get_or-replicate}
-use Rattle.std.proofs.lemmas.List.Elements.{All-append, filter-append}
-use Rattle.council_game.specs.Votes.{has, size}
-use Rattle.council_game.specs.Game.{GameView, IsGame, AreNonemptyCoalitions}
-use Rattle.council_game.proofs.Shared.Games.{votes-are}
-use Rattle.council_game.proofs.Shared.Making.{ranks-are}
-use Rattle.power_index.specs.declared.tally.Tally.{Tally}
-use Rattle.power_index.specs.Counting.{contains, size_of}
-use Rattle.power_index.specs.Tables.{Tables, IsTallyOf, AreTallies, AreOfOneGame, AreCounts, AreSound, no_tally, tally_total, table_total}
-use Rattle.power_index.specs.Inner.Tables.{AreOfSomeList, AreKept, IsJoined, with_one}
-use Rattle.power_index.proofs.Shared.Sums.{length-filter-le}
-use Rattle.power_index.proofs.Shared.Members.{few-members, memberships, sizes-some, size-le}
-use Rattle.power_index.proofs.Shared.Tallies.{tally-total, tally-few, bumped}
+use Rattle.power_index.specs.Inner.Tables.{AreOfSomeList, AreKept}
+use Rattle.power_index.proofs.Shared.{Sums.length-filter-le, Tallies.tally-total, Tallies.tally-few, Tallies.bumped}
 use Rattle.power_index.proofs.Weights.{weight-light, memberships-are}
+use Rattle.power_index.proofs.Shared.Members.{few-members, memberships, sizes-some, size-le}
 
 filter-all : (list : List ℕ) → length (filter (λ (c : ℕ). true) list) ≡ length list
 filter-all [] = refl

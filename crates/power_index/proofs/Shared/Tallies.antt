@@ -1,16 +1,10 @@
 -- A tally of a list, one coalition more, two lists together, and what its sizes add up to.
-use Rattle.std.proofs.Common.{◌≡◌, ◌∙◌, ◌==◌, ◌&&◌, ℕ, ◌+◌, ◌*◌, ◌<◌, ◌≤◌, List, length, get_or, set, cond, Bool, sym, refl, arith, zero, suc, get_or-set_same, get_or-set_other, replicate}
-use Rattle.std.proofs.lemmas.Grind.{common_steps}
-use Rattle.std.specs.List.{filter, sum_by, range_with_len}
+use Rattle.power_index.proofs.Imports.{◌≡◌, ◌∙◌, ◌==◌, ◌&&◌, ℕ, ◌+◌, ◌*◌, ◌<◌, ◌≤◌, List, length, get_or, cond, Bool, sym, refl, arith}
+use Rattle.power_index.proofs.Imports.{zero, suc, get_or-set_same, replicate, common_steps, filter, sum_by, range_with_len, cases_eq}
+use Rattle.power_index.proofs.Imports.{nat_tests, size, Tally, tally_total, IsTallyOf}
+use Rattle.std.proofs.{Common.set, Common.get_or-set_other, lemmas.List.Recursion.is_sum_by}
 use Rattle.coalitions.proofs.Shared.Ranges.{sum_by-range-more, sum_by-range-le}
-use Rattle.std.proofs.lemmas.List.Recursion.{is_sum_by}
-use Rattle.std.proofs.lemmas.Bool.{cases_eq}
-use Rattle.std.proofs.lemmas.Bool.Decides.{nat_tests}
-use Rattle.council_game.specs.Votes.{size}
-use Rattle.power_index.specs.declared.tally.Tally.{Tally}
-use Rattle.power_index.specs.Tables.{tally_total, IsTallyOf}
-use Rattle.power_index.proofs.Shared.Members.{size-le}
-use Rattle.power_index.proofs.Shared.Sums.{sum-range, sum-by_size, length-filter-le}
+use Rattle.power_index.proofs.Shared.{Members.size-le, Sums.sum-range, Sums.sum-by_size, Sums.length-filter-le}
 
 pub get_or-zeros : (n s : ℕ) → get_or {A = ℕ} (replicate {A = ℕ} n 0) s 0 ≡ 0
 get_or-zeros zero s = refl

@@ -1,11 +1,9 @@
 use Rattle.std.proofs.Common.{ℕ, List, Some, subst, ap, arith, length}
-use Rattle.council_report.specs.Outcome.{Falls}
-use Rattle.council_report.specs.Report.{report}
-use Rattle.council_report.specs.declared.fault.ReportFault.{ReportFault}
+use Rattle.council_report.specs.{Outcome.Falls, Report.report, declared.fault.ReportFault.ReportFault}
 use Rattle.council_c.specs.Answer.{Shows}
+use Rattle.council_c.proofs.filled.fill_with.Goals.{in-Ok, in-Err-Write+in_ok-length-in-Err-Write}
 use Rattle.council_c.proofs.Buffers.{after-none, shows-beginning}
 use Rattle.council_c.proofs.filled.fill_with.Goals as goal
-use Rattle.council_c.proofs.filled.fill_with.Goals.{in-Ok, in-Err-Write+in_ok-length-in-Err-Write}
 
 pub returns-clause-text : goal.returns-clause-text
 returns-clause-text c =

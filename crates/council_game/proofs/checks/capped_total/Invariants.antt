@@ -1,5 +1,4 @@
-use Rattle.std.proofs.Common.{◌≡◌, ◌-◌, ◌^◌, min, take}
-use Rattle.std.specs.List.{sum}
+use Rattle.council_game.proofs.Imports.{◌≡◌, ◌-◌, ◌^◌, min, take, sum}
 use Rattle.council_game.proofs.checks.capped_total.Given as goal
 
 abbrev pub invariant-loop-weight : goal.invariant-loop-weight

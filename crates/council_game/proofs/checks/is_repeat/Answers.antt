@@ -1,7 +1,5 @@
-use Rattle.council_game.proofs.Shared.Lists.{list_any_map}
-use Rattle.std.proofs.lemmas.List.{get_or-map, take-map}
-use Rattle.std.proofs.lemmas.Bool.Decides.{nat_tests}
-use Rattle.std.proofs.Common.{arith}
+use Rattle.council_game.proofs.{Imports.get_or-map, Imports.nat_tests, Imports.arith, Shared.Lists.list_any_map}
+use Rattle.std.proofs.lemmas.List.{take-map}
 use Rattle.council_game.proofs.checks.is_repeat.Goals as goal
 
 pub returns : goal.returns

@@ -1,11 +1,6 @@
-use Rattle.council_game.specs.Shared.Below.{minimal_below}
-use Rattle.std.proofs.lemmas.Nat.{one_shl}
-use Rattle.std.proofs.lemmas.Bool.Decides.{nat_tests}
-use Rattle.std.proofs.lemmas.Grind.{common_steps}
-use Rattle.std.proofs.Common.{◌^◌, ◌<◌, ◌≤◌, ◌∙◌, ap, length, sym, arith}
-use Rattle.std.proofs.Math.Nat.{pow-le-pow_right}
-use Rattle.council_game.specs.Votes.{minimal_coalitions}
-use Rattle.council_game.specs.Game.{votes_of}
+use Rattle.council_game.proofs.Imports.{minimal_below, nat_tests, common_steps, ◌^◌, ◌<◌, ◌≤◌, ◌∙◌, ap, length, sym, arith}
+use Rattle.council_game.proofs.Imports.{minimal_coalitions, votes_of}
+use Rattle.std.proofs.{Math.Nat.pow-le-pow_right, lemmas.Nat.one_shl}
 use Rattle.council_game.proofs.Shared.Listing.{listing-is, listed-more, listed-less, listed-all}
 use Rattle.council_game.proofs.plain.plain_list.Goals as goal
 

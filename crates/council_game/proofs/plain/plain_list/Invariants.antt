@@ -1,7 +1,4 @@
-use Rattle.std.proofs.Common.{◌≡◌, ◌≤◌, ◌++◌, ◌^◌}
-use Rattle.council_game.specs.Votes.{minimal_coalitions}
-use Rattle.council_game.specs.Shared.Below.{minimal_below}
-use Rattle.council_game.specs.Game.{votes_of}
+use Rattle.council_game.proofs.Imports.{◌≡◌, ◌≤◌, ◌++◌, ◌^◌, minimal_coalitions, minimal_below, votes_of}
 use Rattle.council_game.proofs.plain.plain_list.Given as goal
 
 abbrev pub invariant-loop-mask : goal.invariant-loop-mask

@@ -1,9 +1,6 @@
-use Rattle.council_game.specs.Votes.{minimal}
+use Rattle.council_game.proofs.Imports.{minimal, false_from_ne_true, both_ways, nat_tests, common_steps, arith}
 use Rattle.council_game.proofs.Shared.Meanings.{needs-each-member}
-use Rattle.std.proofs.lemmas.Bool.{false_from_ne_true, both_ways, and_left}
-use Rattle.std.proofs.lemmas.Bool.Decides.{nat_tests}
-use Rattle.std.proofs.lemmas.Grind.{common_steps}
-use Rattle.std.proofs.Common.{arith}
+use Rattle.std.proofs.lemmas.Bool.{and_left}
 use Rattle.council_game.proofs.winning.is_minimal.Goals as goal
 
 pub returns-then-not-wins : goal.returns-then-not-wins

@@ -1,6 +1,4 @@
-use Rattle.std.proofs.Common.{◌≡◌, ◌<◌, ℕ, true, false}
-use Rattle.council_game.specs.Votes.{has, without, wins}
-use Rattle.council_game.specs.Rules.{rule_views}
+use Rattle.council_game.proofs.Imports.{◌≡◌, ◌<◌, ℕ, true, false, has, without, wins, rule_views}
 use Rattle.council_game.proofs.winning.is_minimal.Given as goal
 
 abbrev pub invariant-loop-place : goal.invariant-loop-place

@@ -1,14 +1,8 @@
-use Rattle.std.proofs.lemmas.List.{take_all}
-use Rattle.council_game.proofs.Shared.Weights.{weight-le}
-use Rattle.std.proofs.lemmas.List.Sums.{sum_by-take-drop, sum_by-drop_more}
-use Rattle.council_game.specs.Votes.{has}
-use Rattle.std.proofs.lemmas.Bool.Decides.{nat_tests}
-use Rattle.std.proofs.lemmas.Grind.{common_steps}
-use Rattle.std.proofs.Common.{sym, arith}
-use Rattle.council_game.proofs.Shared.WeightByDigits.{weight-nil}
-use Rattle.council_game.proofs.Shared.WinningByPlaces.{weight-out, weight-next}
+use Rattle.std.proofs.{Common.take_all, lemmas.List.Sums.sum_by-take-drop, lemmas.List.Sums.sum_by-drop_more}
+use Rattle.council_game.proofs.Shared.{WeightByDigits.weight-nil, WinningByPlaces.weight-out, WinningByPlaces.weight-next}
+use Rattle.council_game.proofs.{Shared.Weights.weight-le, winning.weight_of.Goals.then-has, winning.weight_of.Goals.else-has}
+use Rattle.council_game.proofs.Imports.{has, nat_tests, common_steps, sym, arith}
 use Rattle.council_game.proofs.winning.weight_of.Goals as goal
-use Rattle.council_game.proofs.winning.weight_of.Goals.{then-has, else-has}
 
 pub loop-place-init : goal.loop-place-init
 loop-place-init c = sym (weight-nil _)

@@ -1,5 +1,4 @@
-use Rattle.std.proofs.Common.{◌≡◌, ◌-◌, ◌/◌, ◌^◌, take}
-use Rattle.council_game.specs.Votes.{weight}
+use Rattle.council_game.proofs.Imports.{◌≡◌, ◌-◌, ◌/◌, ◌^◌, take, weight}
 use Rattle.council_game.proofs.winning.weight_of.Given as goal
 
 abbrev pub invariant-loop-place : goal.invariant-loop-place

@@ -1,8 +1,5 @@
-use Rattle.std.proofs.lemmas.List.Folds.{list_all_at, list_all-map, list_all_more}
-use Rattle.std.proofs.lemmas.Bool.Decides.{nat_tests}
-use Rattle.std.proofs.lemmas.Grind.{common_steps}
-use Rattle.std.proofs.Common.{◌≡◌, arith}
-use Rattle.council_game.specs.Votes.{weight, wins}
+use Rattle.std.proofs.lemmas.List.Folds.{list_all_at, list_all_more}
+use Rattle.council_game.proofs.Imports.{list_all-map, nat_tests, common_steps, ◌≡◌, arith, weight, wins}
 use Rattle.council_game.proofs.Shared.WinningByPlaces.{held-rule, rule-at, count-rules}
 use Rattle.council_game.proofs.winning.wins.Goals as goal
 

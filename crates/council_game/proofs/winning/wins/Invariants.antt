@@ -1,6 +1,4 @@
-use Rattle.std.proofs.Common.{◌≡◌, take, true}
-use Rattle.council_game.specs.Votes.{wins}
-use Rattle.council_game.specs.Rules.{rule_views}
+use Rattle.council_game.proofs.Imports.{◌≡◌, take, true, wins, rule_views}
 use Rattle.council_game.proofs.winning.wins.Given as goal
 
 abbrev pub invariant-loop-rule : goal.invariant-loop-rule

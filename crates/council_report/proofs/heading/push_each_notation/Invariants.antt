@@ -1,7 +1,5 @@
-use Rattle.std.proofs.Common.{take}
-use Rattle.std.specs.List.{flat_map}
+use Rattle.council_report.proofs.{Imports.take, Imports.flat_map, Room.Put}
 use Rattle.council_report.specs.Lines.{notation_line}
-use Rattle.council_report.proofs.Room.{Put}
 use Rattle.council_report.proofs.heading.push_each_notation.Given as goal
 
 abbrev pub invariant-loop-rule : goal.invariant-loop-rule

@@ -1,9 +1,6 @@
-use Rattle.std.proofs.Common.{zero-add, ◌++◌, ℕ, List, length, map, decimal, arith, ap, ◌∙◌, sym}
-use Rattle.std.specs.List.{flat_map, range_with_len}
+use Rattle.council_report.proofs.Imports.{zero-add, ◌++◌, ℕ, List, length, map, decimal, arith, ap, ◌∙◌, sym, flat_map, range_with_len}
+use Rattle.council_report.proofs.Imports.{common_steps, table_of_member_size, with_tab}
 use Rattle.std.proofs.lemmas.List.FromFn.{map-range_with_len_more}
-use Rattle.std.proofs.lemmas.Grind.{common_steps}
-use Rattle.power_index.specs.Tables.{table_of_member_size}
-use Rattle.council_report.specs.Lines.{with_tab}
 use Rattle.council_text.proofs.Shared.Room.{takes-not}
 use Rattle.council_report.proofs.Rows.{put-row, field-within}
 use Rattle.council_report.proofs.indices.push_counts.Goals as goal

@@ -1,7 +1,4 @@
-use Rattle.std.proofs.Common.{map, decimal}
-use Rattle.std.specs.List.{flat_map, range_with_len}
-use Rattle.power_index.specs.Tables.{table_of_member_size}
-use Rattle.council_report.specs.Lines.{with_tab}
+use Rattle.council_report.proofs.Imports.{map, decimal, flat_map, range_with_len, table_of_member_size, with_tab}
 use Rattle.council_report.proofs.Room.{Put}
 use Rattle.council_report.proofs.indices.push_counts.Given as goal
 

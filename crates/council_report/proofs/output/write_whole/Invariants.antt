@@ -1,5 +1,4 @@
-use Rattle.std.proofs.Common.{◌-◌, ◌≤◌, length, take}
-use Rattle.std.specs.Io.KnownBytes.{Appends}
+use Rattle.council_report.proofs.Imports.{◌-◌, ◌≤◌, length, take, Appends}
 use Rattle.council_report.proofs.output.write_whole.Given as goal
 
 abbrev pub invariant-loop-written : goal.invariant-loop-written

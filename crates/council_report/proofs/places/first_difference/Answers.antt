@@ -1,7 +1,5 @@
-use Rattle.std.proofs.Common.{◌≡◌, ◌-◌, ◌≤◌, ℕ, subst, sym, ap, ◌∙◌, arith, bit_xor}
-use Rattle.std.specs.Int.{w64, leading_zeros}
-use Rattle.std.proofs.lemmas.Grind.{common_steps}
-use Rattle.council_report.specs.Inner.SharedLine.{SameBefore}
+use Rattle.council_report.proofs.Imports.{◌≡◌, ◌-◌, ◌≤◌, ℕ, subst, sym, ap, ◌∙◌, arith, bit_xor, w64, leading_zeros, common_steps}
+use Rattle.council_report.proofs.Imports.{SameBefore}
 use Rattle.council_report.proofs.Differences.{Differs, differs}
 use Rattle.council_report.proofs.places.first_difference.Goals as goal
 

@@ -1,11 +1,6 @@
-use Rattle.std.proofs.Common.{◌++◌, ℕ, List, arith}
-use Rattle.std.specs.List.{flat_map}
-use Rattle.std.proofs.lemmas.Result.{err_from_is_err_and}
-use Rattle.std.proofs.lemmas.Grind.{common_steps}
-use Rattle.council_report.specs.Report.{coalition_lines}
-use Rattle.council_report.specs.Inner.Lines.{lines_of_sizes, lines_of_members, lines_of}
-use Rattle.council_report.proofs.Telling.{tells-then, stopped-first, stopped-next}
-use Rattle.council_report.proofs.Lasting.{puts-next}
+use Rattle.council_report.proofs.Imports.{◌++◌, ℕ, List, arith, flat_map, err_from_is_err_and, common_steps, coalition_lines, lines_of}
+use Rattle.council_report.specs.Inner.Lines.{lines_of_sizes, lines_of_members}
+use Rattle.council_report.proofs.{Lasting.puts-next, Telling.tells-then, Telling.stopped-first, Telling.stopped-next}
 use Rattle.council_report.proofs.report.put_lines.Goals as goal
 
 pub returns-in_err-put_shown_sizes : goal.returns-in_err-put_shown_sizes

@@ -1,5 +1,4 @@
-use Rattle.std.proofs.Common.{◌<◌, ◌^◌, length, arith}
-use Rattle.std.proofs.lemmas.Grind.{common_steps}
+use Rattle.council_report.proofs.Imports.{◌<◌, ◌^◌, length, arith, common_steps}
 use Rattle.power_index.proofs.Shared.Pieces.{pieces-all}
 use Rattle.council_report.proofs.Joins.{listed-text}
 use Rattle.council_report.proofs.report.put_shown_coalitions.Goals as goal

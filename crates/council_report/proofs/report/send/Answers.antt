@@ -1,9 +1,4 @@
-use Rattle.std.proofs.lemmas.Grind.{common_steps}
-use Rattle.std.proofs.Common.{arith}
-use Rattle.std.proofs.Common.{ℕ, List, []}
-use Rattle.std.specs.List.{flat_map}
-use Rattle.std.proofs.lemmas.Result.{err_from_is_err_and}
-use Rattle.council_report.specs.Inner.Lines.{lines_of}
+use Rattle.council_report.proofs.Imports.{common_steps, arith, ℕ, List, [], flat_map, err_from_is_err_and, lines_of}
 use Rattle.council_report.proofs.Telling.{tells-then, stopped-next, stopped-after, err-map}
 use Rattle.council_report.proofs.report.send.Goals as goal
 

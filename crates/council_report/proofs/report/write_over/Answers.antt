@@ -1,10 +1,6 @@
-use Rattle.std.proofs.Common.{◌≡◌, ◌∙◌, ℕ, List, length, ap, arith}
-use Rattle.std.specs.Io.KnownBytes.{Appends}
-use Rattle.council_report.specs.declared.output.Block.{Block}
-use Rattle.council_report.specs.Outcome.{Falls}
-use Rattle.council_report.specs.declared.fault.ReportFault.TheVariants.{Write}
-use Rattle.council_report.proofs.Bounds.{lines-count}
-use Rattle.council_report.proofs.FromCounts.{from-counts}
+use Rattle.council_report.proofs.Imports.{◌≡◌, ◌∙◌, ℕ, List, length, ap, arith, Appends, Block}
+use Rattle.council_report.specs.{Outcome.Falls, declared.fault.ReportFault.TheVariants.Write}
+use Rattle.council_report.proofs.{Bounds.lines-count, FromCounts.from-counts}
 use Rattle.council_report.proofs.Wholes.{after-none, counts-whole, appends-whole, stopped-whole}
 use Rattle.council_report.proofs.report.write_over.Goals as goal
 

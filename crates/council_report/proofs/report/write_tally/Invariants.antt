@@ -1,4 +1,4 @@
-use Rattle.council_game.specs.Game.{votes_of}
+use Rattle.council_report.proofs.Imports.{votes_of}
 use Rattle.council_game.specs.Votes.{minimal_coalitions}
 use Rattle.council_report.proofs.report.write_tally.Given as goal
 

@@ -1,4 +1,4 @@
-use Rattle.council_report.specs.Inner.SharedLine.{AreSeats}
+use Rattle.council_report.proofs.Imports.{AreSeats}
 use Rattle.council_report.proofs.seat.seats_of.Given as goal
 
 -- the seats of the first so many places

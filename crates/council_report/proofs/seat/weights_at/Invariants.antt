@@ -1,5 +1,4 @@
-use Rattle.std.proofs.Common.{◌≡◌, ◌<◌, ◌≤◌, ℕ, length, slice_index}
-use Rattle.council_report.specs.Inner.SharedLine.{weights_under}
+use Rattle.council_report.proofs.Imports.{◌≡◌, ◌<◌, ◌≤◌, ℕ, length, slice_index, weights_under}
 use Rattle.council_report.proofs.seat.weights_at.Given as goal
 
 -- the first so many are there, and the others are 0

@@ -1,6 +1,4 @@
-use Rattle.std.proofs.Common.{arith}
-use Rattle.std.proofs.lemmas.Result.{err_from_is_err_and}
-use Rattle.council_report.specs.Inner.Lines.{line_of_member}
+use Rattle.council_report.proofs.Imports.{arith, err_from_is_err_and, line_of_member}
 use Rattle.council_report.proofs.Turns.{next-number, numbers-told, turn-told, turn-counts, turn-stopped}
 use Rattle.council_report.proofs.stream.put_members.Goals as goal
 

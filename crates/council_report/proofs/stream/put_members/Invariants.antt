@@ -1,8 +1,4 @@
-use Rattle.std.specs.List.{flat_map, range_with_len}
-use Rattle.std.proofs.Common.{take}
-use Rattle.council_report.specs.Inner.Lines.{line_of_member}
-use Rattle.council_report.specs.Inner.Told.{progress_of}
-use Rattle.council_report.specs.Inner.Puts.{Lasts}
+use Rattle.council_report.proofs.Imports.{flat_map, range_with_len, take, line_of_member, progress_of, Lasts}
 use Rattle.council_report.proofs.stream.put_members.Given as goal
 
 abbrev pub invariant-loop-member : goal.invariant-loop-member

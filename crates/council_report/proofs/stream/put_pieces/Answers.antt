@@ -1,8 +1,4 @@
-use Rattle.std.specs.List.{flat_map}
-use Rattle.std.proofs.lemmas.Result.{err_from_is_err_and}
-use Rattle.std.proofs.lemmas.Grind.{common_steps}
-use Rattle.std.proofs.Common.{arith}
-use Rattle.council_report.specs.Lines.{coalition_line}
+use Rattle.council_report.proofs.Imports.{flat_map, err_from_is_err_and, common_steps, arith, coalition_line}
 use Rattle.council_report.proofs.Turns.{IsNext, turn-counts, turn-stopped}
 use Rattle.council_report.proofs.stream.put_pieces.Goals as goal
 

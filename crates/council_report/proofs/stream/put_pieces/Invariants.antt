@@ -1,9 +1,4 @@
-use Rattle.std.proofs.Common.{take}
-use Rattle.std.specs.List.{flat_map}
-use Rattle.council_report.specs.Lines.{coalition_line}
-use Rattle.council_report.specs.Inner.SharedLine.{IsReadyLine}
-use Rattle.council_report.specs.Inner.Told.{progress_of}
-use Rattle.council_report.specs.Inner.Puts.{Lasts}
+use Rattle.council_report.proofs.Imports.{take, flat_map, coalition_line, IsReadyLine, progress_of, Lasts}
 use Rattle.council_report.proofs.stream.put_pieces.Given as goal
 
 abbrev pub invariant-loop-piece : goal.invariant-loop-piece

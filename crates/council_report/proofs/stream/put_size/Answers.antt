@@ -1,7 +1,5 @@
-use Rattle.std.proofs.Common.{refl, arith}
-use Rattle.std.proofs.lemmas.Grind.{common_steps}
+use Rattle.council_report.proofs.{Imports.refl, Imports.arith, Imports.common_steps, Lasting.ready-takes, Lasting.puts-line}
 use Rattle.council_report.proofs.Bounds.{size-fits}
-use Rattle.council_report.proofs.Lasting.{ready-takes, puts-line}
 use Rattle.council_report.proofs.stream.put_size.Goals as goal
 
 pub unreachable-requires : goal.unreachable-requires

@@ -1,7 +1,4 @@
-use Rattle.std.proofs.Common.{◌≡◌, ◌+◌, ◌-◌, arith}
-use Rattle.std.proofs.lemmas.Result.{err_from_is_err_and}
-use Rattle.std.proofs.lemmas.Grind.{common_steps}
-use Rattle.council_report.specs.Inner.Lines.{line_of_size}
+use Rattle.council_report.proofs.Imports.{◌≡◌, ◌+◌, ◌-◌, arith, err_from_is_err_and, common_steps, line_of_size}
 use Rattle.council_report.proofs.Turns.{next-number, numbers-told, turn-told, turn-counts, turn-stopped}
 use Rattle.council_report.proofs.stream.put_sizes.Goals as goal
 

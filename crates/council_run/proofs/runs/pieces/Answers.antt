@@ -1,5 +1,4 @@
-use Rattle.std.proofs.Common.{◌∙◌}
-use Rattle.std.specs.List.{flat_map}
+use Rattle.std.proofs.Common.{◌∙◌, flat_map}
 use Rattle.council_run.proofs.Whole.{is-listed, ok-map}
 use Rattle.council_run.proofs.runs.pieces.Goals as goal
 

@@ -1,11 +1,9 @@
-use Rattle.std.proofs.Common.{ℕ, List, ◌<◌, arith, length, append_assoc, length-append}
-use Rattle.std.proofs.lemmas.List.{take_all}
+use Rattle.std.proofs.Common.{ℕ, List, ◌<◌, arith, length, append_assoc, length-append, take_all}
 use Rattle.std.proofs.lemmas.Grind.{common_steps}
-use Rattle.council_text.proofs.Fronts.{further, still, on-err}
-use Rattle.council_text.proofs.Shared.Room.{takes-not, room-is}
+use Rattle.council_text.proofs.joined.push_joined.Goals.{then-r-gt0+in_ok-extend_from_slice, else-r-gt0}
+use Rattle.council_text.proofs.{Fronts.further, Fronts.still, Fronts.on-err, Shared.Room.takes-not, Shared.Room.room-is}
 use Rattle.council_text.proofs.Shared.Joins.{put-first, put-more, more-within, next-within}
 use Rattle.council_text.proofs.joined.push_joined.Goals as goal
-use Rattle.council_text.proofs.joined.push_joined.Goals.{then-r-gt0+in_ok-extend_from_slice, else-r-gt0}
 
 pub loop-r-preserved : goal.loop-r-preserved
 loop-r-preserved g c = record {

@@ -1,9 +1,5 @@
-use Rattle.std.proofs.Common.{◌≡◌, ◌++◌, ◌≤◌, ℕ, List, length, take, Vec}
-use Rattle.std.specs.Global.{Global}
-use Rattle.std.specs.Vec.{vec_capacity}
-use Rattle.council_text.specs.Front.{StaysInFront}
-use Rattle.council_text.specs.Joined.{joined_numbers}
-use Rattle.council_text.specs.Joined.{GivesEach}
+use Rattle.std.proofs.Common.{◌≡◌, ◌++◌, ◌≤◌, ℕ, List, length, take, Vec, Global, vec_capacity}
+use Rattle.council_text.specs.{Front.StaysInFront, Joined.joined_numbers, Joined.GivesEach}
 use Rattle.council_text.proofs.joined.push_joined.Given as goal
 
 -- the first r values are there, and the room stays or grows

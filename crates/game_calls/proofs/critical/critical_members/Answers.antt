@@ -1,8 +1,8 @@
 use Rattle.std.proofs.Common.{◌∙◌, sym}
 use Rattle.game_calls.specs.Critical.{is_critical}
+use Rattle.game_calls.proofs.critical.critical_members.Goals.{then-is_critical+in_ok-push, else-is_critical}
 use Rattle.game_calls.proofs.Others.{passes, fails}
 use Rattle.game_calls.proofs.critical.critical_members.Goals as goal
-use Rattle.game_calls.proofs.critical.critical_members.Goals.{then-is_critical+in_ok-push, else-is_critical}
 
 pub loop-member-preserved : goal.loop-member-preserved
 loop-member-preserved c =

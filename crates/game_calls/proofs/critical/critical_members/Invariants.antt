@@ -1,5 +1,5 @@
-use Rattle.std.proofs.Common.{◌≡◌}
-use Rattle.std.specs.List.{filter, range_with_len}
+use Rattle.std.proofs.Common.{◌≡◌, filter}
+use Rattle.std.specs.List.{range_with_len}
 use Rattle.game_calls.specs.Critical.{is_critical}
 use Rattle.game_calls.proofs.critical.critical_members.Given as goal
 

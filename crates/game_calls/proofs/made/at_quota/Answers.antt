@@ -1,7 +1,6 @@
 use Rattle.std.proofs.lemmas.Bool.{both_ways}
-use Rattle.game_calls.proofs.Quotas.{only-memory}
+use Rattle.game_calls.proofs.{Quotas.only-memory, made.at_quota.Goals.in-Memory, made.at_quota.Goals.in_default}
 use Rattle.game_calls.proofs.made.at_quota.Goals as goal
-use Rattle.game_calls.proofs.made.at_quota.Goals.{in-Memory, in_default}
 
 pub prove-unreachable-requires : goal.prove-unreachable-requires
 prove-unreachable-requires c =

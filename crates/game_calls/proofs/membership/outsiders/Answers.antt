@@ -1,5 +1,4 @@
-use Rattle.std.proofs.Common.{◌∙◌, length, get_or, ap, arith}
-use Rattle.std.proofs.lemmas.Nat.{pow_pos}
+use Rattle.std.proofs.Common.{◌∙◌, length, get_or, ap, arith, pow_pos}
 use Rattle.council_game.specs.Votes.{has}
 use Rattle.coalitions.proofs.Shared.Digits.{has-none}
 use Rattle.game_calls.proofs.membership.outsiders.Goals as goal

@@ -1,6 +1,5 @@
 use Rattle.std.proofs.Common.{◌≡◌, ◌+◌, length}
-use Rattle.council_game.specs.Game.{votes_of}
-use Rattle.council_game.specs.Votes.{minimal_coalitions}
+use Rattle.council_game.specs.{Game.votes_of, Votes.minimal_coalitions}
 use Rattle.game_calls.proofs.walked.count_by_walk.Given as goal
 
 abbrev pub invariant-loop-coalition : goal.invariant-loop-coalition

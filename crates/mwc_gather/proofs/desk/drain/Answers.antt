@@ -1,6 +1,4 @@
-use Rattle.std.proofs.Common.{List, [], ◌∷◌, ◌++◌, append_assoc, ap, subst, sym, ◌∙◌}
-use Rattle.mwc_pipe.specs.declared.word.Word.{Word}
-use Rattle.mwc_parts.specs.Drafts.{IsDraftOf}
+use Rattle.mwc_gather.proofs.Imports.{List, [], ◌∷◌, ◌++◌, append_assoc, ap, subst, sym, ◌∙◌, Word, IsDraftOf}
 use Rattle.mwc_gather.proofs.desk.drain.Goals as goal
 
 pub loop-word-preserved : goal.loop-word-preserved

@@ -1,6 +1,4 @@
-use Rattle.std.proofs.Common.{◌≡◌, ◌++◌, List, false, length}
-use Rattle.mwc_pipe.specs.declared.word.Word.{Word}
-use Rattle.mwc_parts.specs.Drafts.{IsDraftOf}
+use Rattle.mwc_gather.proofs.Imports.{◌≡◌, ◌++◌, List, false, length, Word, IsDraftOf}
 use Rattle.mwc_gather.proofs.desk.drain.Given as goal
 
 abbrev pub invariant-loop-word : goal.invariant-loop-word

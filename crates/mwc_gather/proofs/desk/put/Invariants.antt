@@ -1,4 +1,4 @@
-use Rattle.std.proofs.Common.{◌≡◌}
+use Rattle.mwc_gather.proofs.Imports.{◌≡◌}
 use Rattle.mwc_gather.proofs.desk.put.Given as goal
 
 abbrev pub invariant-loop : goal.invariant-loop

@@ -1,6 +1,4 @@
-use Rattle.std.proofs.Common.{◌≡◌, take}
-use Rattle.std.specs.List.{list_any}
-use Rattle.mwc_parts.specs.Shared.Wording.{is_done}
+use Rattle.mwc_gather.proofs.Imports.{◌≡◌, take, list_any, is_done}
 use Rattle.mwc_gather.proofs.desk.told_by.Given as goal
 
 abbrev pub invariant-loop-word : goal.invariant-loop-word

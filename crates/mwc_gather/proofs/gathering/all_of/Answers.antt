@@ -1,15 +1,7 @@
-use Rattle.std.proofs.lemmas.Grind.{common_steps}
-use Rattle.std.proofs.lemmas.Bool.Decides.{nat_tests}
-use Rattle.std.proofs.Common.{List, length, ap, arith}
-use Rattle.mwc_parts.specs.Slicing.{Slicing}
-use Rattle.std.specs.List.{sum_by}
-use Rattle.mwc_parts.specs.declared.part.Part.{Part}
+use Rattle.mwc_gather.proofs.Imports.{common_steps, nat_tests, List, length, ap, arith, Slicing, sum_by, Part, votes_of, slices-joined}
+use Rattle.mwc_gather.proofs.Imports.{slicing}
 use Rattle.mwc_parts.proofs.Shared.Once.{dealt_each_once}
-use Rattle.council_game.specs.Game.{votes_of}
-use Rattle.mwc_walk.proofs.Shared.Joined.{slices-joined}
-use Rattle.mwc_gather.specs.Slicings.{slicing}
-use Rattle.mwc_gather.proofs.Wholes.{all_total_is, all_pieces}
-use Rattle.mwc_gather.proofs.Ends.{complete_sum, end_increases}
+use Rattle.mwc_gather.proofs.{Ends.complete_sum, Ends.end_increases, Wholes.all_total_is, Wholes.all_pieces}
 use Rattle.mwc_gather.proofs.gathering.all_of.Goals as goal
 
 pub returns-then-not-fits-clause-many : goal.returns-then-not-fits-clause-many

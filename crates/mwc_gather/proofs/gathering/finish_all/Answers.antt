@@ -1,8 +1,4 @@
-use Rattle.std.proofs.Common.{rules, arith}
-use Rattle.std.proofs.lemmas.Grind.{common_steps}
-use Rattle.std.specs.Vec.Iter.{into_iter_items}
-use Rattle.mwc_parts.specs.declared.fault.GatherFault.TheVariants.{Memory}
-use Rattle.mwc_gather.specs.Slicings.{slicing}
+use Rattle.mwc_gather.proofs.Imports.{rules, arith, common_steps, into_iter_items, Memory, slicing}
 use Rattle.mwc_gather.proofs.Faults.{memory_ends}
 use Rattle.mwc_gather.proofs.Finishing.{none_joined, fault_met, part_kept, all_complete}
 use Rattle.mwc_gather.proofs.gathering.finish_all.Goals as goal

@@ -1,6 +1,4 @@
-use Rattle.std.specs.Vec.Iter.{into_iter_items}
-use Rattle.mwc_gather.specs.Slicings.{slicing}
-use Rattle.mwc_gather.proofs.Finishing.{Finishing}
+use Rattle.mwc_gather.proofs.{Finishing.Finishing, Imports.into_iter_items, Imports.slicing}
 use Rattle.mwc_gather.proofs.gathering.finish_all.Given as goal
 
 abbrev pub invariant-loop-desk : goal.invariant-loop-desk

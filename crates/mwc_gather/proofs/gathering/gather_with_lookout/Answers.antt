@@ -1,5 +1,4 @@
-use Rattle.std.proofs.Common.{arith}
-use Rattle.std.proofs.lemmas.Grind.{common_steps}
+use Rattle.mwc_gather.proofs.Imports.{arith, common_steps}
 use Rattle.mwc_gather.proofs.gathering.gather_with_lookout.Goals as goal
 
 pub new-job-requires : goal.new-job-requires

@@ -1,12 +1,5 @@
-use Rattle.std.proofs.lemmas.Grind.{common_steps}
-use Rattle.std.proofs.Common.{List, subst, sym, arith, rules}
-use Rattle.std.specs.Prelude.{All}
-use Rattle.std.proofs.lemmas.List.Elements.{All-push}
-use Rattle.mwc_parts.specs.Shared.Dealing.{IsFresh}
-use Rattle.mwc_parts.specs.Slicing.{Slicing}
-use Rattle.mwc_gather.specs.Slicings.{slicing}
-use Rattle.mwc_gather.specs.declared.desk.Desk.{Desk}
-use Rattle.mwc_gather.specs.Inner.Desks.{views_of, IsOf, AllOf}
+use Rattle.mwc_gather.proofs.Imports.{common_steps, List, subst, sym, arith, rules, All, All-push, IsFresh, Slicing, slicing, Desk}
+use Rattle.mwc_gather.proofs.Imports.{views_of, IsOf, AllOf}
 use Rattle.mwc_gather.proofs.Ends.{fresh_push}
 use Rattle.mwc_gather.proofs.gathering.open_all.Goals as goal
 

@@ -1,13 +1,6 @@
-use Rattle.std.proofs.Common.{ℕ, List, length, drop, subst, ap, sym, ◌∙◌, arith}
-use Rattle.std.proofs.lemmas.Grind.{common_steps}
-use Rattle.std.specs.Prelude.{Bool}
-use Rattle.std.specs.Option.{is_some}
-use Rattle.std.proofs.lemmas.List.{take_at}
-use Rattle.std.proofs.Math.Pow.{pow_mono}
-use Rattle.mwc_parts.specs.Fault.{fault_of}
-use Rattle.mwc_gather.specs.declared.desk.Desk.{Desk}
-use Rattle.mwc_gather.specs.Slicings.{slicing}
-use Rattle.mwc_gather.specs.Inner.Desks.{DealsTo}
+use Rattle.mwc_gather.proofs.Imports.{ℕ, List, length, drop, subst, ap, sym, ◌∙◌, arith, common_steps, Bool, is_some, fault_of, Desk}
+use Rattle.mwc_gather.proofs.Imports.{slicing, DealsTo}
+use Rattle.std.proofs.Common.{take_at, pow_mono}
 use Rattle.mwc_gather.proofs.Wholes.{all_total_is}
 use Rattle.mwc_gather.proofs.gathering.run.Goals as goal
 

@@ -1,4 +1,4 @@
-use Rattle.std.proofs.Common.{◌≡◌}
+use Rattle.mwc_gather.proofs.Imports.{◌≡◌}
 use Rattle.mwc_walk.specs.Seeks.{seeks_left}
 use Rattle.mwc_gather.proofs.seeking.next_told.Given as goal
 

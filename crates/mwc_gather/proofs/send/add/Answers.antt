@@ -1,5 +1,4 @@
-use Rattle.std.proofs.Common.{arith}
-use Rattle.std.proofs.lemmas.Grind.{common_steps}
+use Rattle.mwc_gather.proofs.Imports.{arith, common_steps}
 use Rattle.mwc_gather.proofs.send.add.Goals as goal
 
 pub returns-then-not-is_full : goal.returns-then-not-is_full

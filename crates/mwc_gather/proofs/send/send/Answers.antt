@@ -1,6 +1,4 @@
-use Rattle.std.proofs.lemmas.Grind.{common_steps}
-use Rattle.std.proofs.Common.{drop, arith}
-use Rattle.mwc_gather.proofs.FirstWords.{first_more}
+use Rattle.mwc_gather.proofs.{FirstWords.first_more, Imports.common_steps, Imports.drop, Imports.arith}
 use Rattle.mwc_gather.proofs.send.send.Goals as goal
 
 pub loop-init : goal.loop-init

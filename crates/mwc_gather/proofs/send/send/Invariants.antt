@@ -1,5 +1,4 @@
-use Rattle.std.proofs.Common.{◌≡◌}
-use Rattle.mwc_gather.specs.Inner.Sending.{SendsFirst}
+use Rattle.mwc_gather.proofs.Imports.{◌≡◌, SendsFirst}
 use Rattle.mwc_gather.proofs.send.send.Given as goal
 
 abbrev pub invariant-loop : goal.invariant-loop

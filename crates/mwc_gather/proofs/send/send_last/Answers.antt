@@ -1,5 +1,4 @@
-use Rattle.std.proofs.Common.{[], ◌∷◌, refl}
-use Rattle.mwc_gather.proofs.FirstWords.{some_of_more, some_later}
+use Rattle.mwc_gather.proofs.{FirstWords.some_of_more, FirstWords.some_later, Imports.[], Imports.◌∷◌, Imports.refl}
 use Rattle.mwc_gather.proofs.send.send_last.Goals as goal
 
 pub returns-then-not-add-clause-refused : goal.returns-then-not-add-clause-refused

@@ -1,8 +1,5 @@
-use Rattle.std.specs.Prelude.{◌≡◌, [], ◌∷◌, ◌++◌, List, length}
-use Rattle.std.proofs.Common.{rules, arith, refl, sym, add-zero, ◌∙◌, ap}
-use Rattle.std.proofs.lemmas.List.{append-nil}
-use Rattle.mwc_pipe.specs.declared.word.Word.{Word}
-use Rattle.mwc_pipe.specs.declared.word.Word.TheVariants.{Open}
+use Rattle.mwc_gather.proofs.Imports.{◌≡◌, [], ◌∷◌, ◌++◌, List, length, rules, arith, refl, sym, ◌∙◌, ap, append-nil, Word, Open}
+use Rattle.std.proofs.Common.{add-zero}
 use Rattle.mwc_gather.proofs.FirstWords.{none_sent}
 use Rattle.mwc_gather.proofs.UnderWay.{one_more, takes_some, sent_cut, takes_some_at_end, sent_whole}
 use Rattle.mwc_gather.proofs.send.send_walk.Goals as goal

@@ -1,5 +1,4 @@
-use Rattle.std.proofs.Common.{◌≡◌, ◌<◌}
-use Rattle.mwc_gather.proofs.UnderWay.{UnderWay}
+use Rattle.mwc_gather.proofs.{Imports.◌≡◌, Imports.◌<◌, UnderWay.UnderWay}
 use Rattle.mwc_gather.proofs.send.send_walk.Given as goal
 
 abbrev pub invariant-loop-coalition : goal.invariant-loop-coalition

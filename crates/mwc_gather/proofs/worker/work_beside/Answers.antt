@@ -1,14 +1,6 @@
-use Rattle.std.proofs.lemmas.Grind.{common_steps}
-use Rattle.std.specs.Prelude.{◌≡◌, ℕ, ◌+◌, ◌<◌, List, [], ◌∷◌, ◌++◌, length}
-use Rattle.std.proofs.Common.{rules, arith, sym, ◌∙◌, ap}
-use Rattle.std.proofs.lemmas.List.Elements.{All-push}
-use Rattle.mwc_pipe.specs.declared.word.Word.{Word}
-use Rattle.mwc_pipe.specs.declared.word.Word.TheVariants.{Open}
-use Rattle.mwc_parts.specs.Slicing.{Slicing}
-use Rattle.mwc_parts.specs.Wording.{slice_words, coalition_count}
-use Rattle.mwc_gather.specs.Slicings.{slicing}
-use Rattle.std.proofs.lemmas.List.{flat_map_more, map_push}
-use Rattle.std.proofs.lemmas.List.Sums.{sum_by_push}
+use Rattle.mwc_gather.proofs.Imports.{common_steps, ◌≡◌, ℕ, ◌+◌, ◌<◌, List, [], ◌∷◌, ◌++◌, length, rules, arith, sym, ◌∙◌, ap, All-push}
+use Rattle.mwc_gather.proofs.Imports.{Word, Open, Slicing, slice_words, coalition_count, slicing, map_push}
+use Rattle.std.proofs.lemmas.List.{flat_map_more, Sums.sum_by_push}
 use Rattle.mwc_gather.proofs.worker.work_beside.Goals as goal
 
 pub loop-init : goal.loop-init

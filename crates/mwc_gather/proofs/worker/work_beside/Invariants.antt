@@ -1,7 +1,5 @@
-use Rattle.std.proofs.Common.{◌≡◌, ℕ, ◌+◌, ◌<◌, List}
-use Rattle.std.specs.Prelude.{All}
-use Rattle.mwc_parts.specs.Wording.{open_words, wording, coalition_count}
-use Rattle.mwc_gather.specs.Slicings.{slicing}
+use Rattle.mwc_gather.proofs.Imports.{◌≡◌, ℕ, ◌+◌, ◌<◌, List, All, coalition_count, slicing}
+use Rattle.mwc_parts.specs.Wording.{open_words, wording}
 use Rattle.mwc_gather.proofs.worker.work_beside.Given as goal
 
 abbrev pub invariant-loop : goal.invariant-loop

@@ -1,5 +1,4 @@
-use Rattle.std.proofs.Common.{arith}
-use Rattle.std.proofs.lemmas.Grind.{common_steps}
+use Rattle.std.proofs.{Common.arith, lemmas.Grind.common_steps}
 use Rattle.mwc_pipe.proofs.WholeRuns.{replayed_closed, replayed_short, nothing_enters_after_close_lem}
 use Rattle.mwc_pipe.proofs.trace.replay.Goals as goal
 

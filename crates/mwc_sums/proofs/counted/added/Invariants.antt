@@ -1,4 +1,4 @@
-use Rattle.std.proofs.Common.{◌≡◌, ℕ, ◌+◌, ◌<◌, length, get_or}
+use Rattle.mwc_sums.proofs.Imports.{◌≡◌, ℕ, ◌+◌, ◌<◌, length, get_or}
 use Rattle.mwc_sums.proofs.counted.added.Given as goal
 
 abbrev pub invariant-loop-size : goal.invariant-loop-size

@@ -1,7 +1,4 @@
-use Rattle.std.proofs.Common.{◌≡◌, ℕ, ◌<◌, length, get_or}
-use Rattle.council_game.specs.Game.{votes_of}
-use Rattle.council_game.specs.Votes.{has, minimal_coalitions}
-use Rattle.power_index.specs.Tables.{IsTallyOf, no_tally}
+use Rattle.mwc_sums.proofs.Imports.{◌≡◌, ℕ, ◌<◌, length, get_or, votes_of, has, minimal_coalitions, IsTallyOf, no_tally}
 use Rattle.mwc_sums.proofs.counted.joined.Given as goal
 
 abbrev pub ghost-of_tallies : goal.ghost-of_tallies

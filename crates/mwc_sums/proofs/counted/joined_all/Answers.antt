@@ -1,5 +1,4 @@
-use Rattle.std.proofs.Common.{arith}
-use Rattle.mwc_sums.proofs.Joined.{all-pairs}
+use Rattle.mwc_sums.proofs.{Imports.arith, Joined.all-pairs}
 use Rattle.mwc_sums.proofs.counted.joined_all.Goals as goal
 
 pub pairs-requires : goal.pairs-requires

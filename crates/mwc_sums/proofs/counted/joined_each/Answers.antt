@@ -1,7 +1,6 @@
-use Rattle.std.proofs.Common.{arith}
+use Rattle.mwc_sums.proofs.{Imports.arith, counted.joined_each.Goals.After-sizes_of_member-second_own}
 use Rattle.mwc_sums.proofs.Joined.{ArePairs, each-pairs, minimal_of_place_size}
 use Rattle.mwc_sums.proofs.counted.joined_each.Goals as goal
-use Rattle.mwc_sums.proofs.counted.joined_each.Goals.{After-sizes_of_member-second_own}
 
 pairs-are : (c : After-sizes_of_member-second_own) → ArePairs c.sizes_of_member-first_own.result c.sizes-second_all.result c.sizes-first_all.result
     c.sizes_of_member-second_own.result (minimal_of_place_size c.args.game.now c.args.place)

@@ -1,5 +1,4 @@
-use Rattle.std.proofs.Common.{refl}
-use Rattle.power_index.proofs.Shared.Tallies.{get_or-zeros}
+use Rattle.mwc_sums.proofs.Imports.{refl, get_or-zeros}
 use Rattle.mwc_sums.proofs.counted.no_tally.Goals as goal
 
 pub returns : goal.returns

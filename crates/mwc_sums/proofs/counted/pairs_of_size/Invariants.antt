@@ -1,5 +1,4 @@
-use Rattle.std.proofs.Common.{◌≡◌, ◌-◌, ◌*◌, get_or}
-use Rattle.std.specs.List.{sum_by, range_with_len}
+use Rattle.mwc_sums.proofs.Imports.{◌≡◌, ◌-◌, ◌*◌, get_or, sum_by, range_with_len}
 use Rattle.mwc_sums.proofs.counted.pairs_of_size.Given as goal
 
 abbrev pub invariant-loop-own : goal.invariant-loop-own

@@ -1,5 +1,4 @@
-use Rattle.std.proofs.Common.{◌∙◌}
-use Rattle.mwc_sums.proofs.Sharing.{counted-parts}
+use Rattle.mwc_sums.proofs.{Imports.◌∙◌, Sharing.counted-parts}
 use Rattle.mwc_sums.proofs.parts.parts_of.Goals as goal
 
 pub returns-clause-parts : goal.returns-clause-parts

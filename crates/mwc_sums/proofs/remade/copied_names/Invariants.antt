@@ -1,4 +1,4 @@
-use Rattle.std.proofs.Common.{◌≡◌, map, string_bytes, take}
+use Rattle.mwc_sums.proofs.Imports.{◌≡◌, map, string_bytes, take}
 use Rattle.mwc_sums.proofs.remade.copied_names.Given as goal
 
 abbrev pub invariant-loop-member : goal.invariant-loop-member

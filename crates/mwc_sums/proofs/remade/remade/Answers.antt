@@ -1,6 +1,4 @@
-use Rattle.std.proofs.Common.{◌∙◌, length, string_bytes, sym, ap}
-use Rattle.std.proofs.lemmas.List.{length-map}
-use Rattle.council_game.proofs.Shared.RuleLists.{held_full}
+use Rattle.mwc_sums.proofs.Imports.{◌∙◌, length, string_bytes, sym, ap, length-map, held_full}
 use Rattle.mwc_sums.proofs.remade.remade.Goals as goal
 
 pub with_rules-requires-clause-full : goal.with_rules-requires-clause-full

@@ -1,5 +1,4 @@
-use Rattle.std.proofs.Common.{◌≡◌, false, take}
-use Rattle.mwc_sums.specs.Vetoers.{can_veto}
+use Rattle.mwc_sums.proofs.Imports.{◌≡◌, false, take, can_veto}
 use Rattle.mwc_sums.proofs.vetoers.can_veto.Given as goal
 
 abbrev pub invariant-loop-rule : goal.invariant-loop-rule

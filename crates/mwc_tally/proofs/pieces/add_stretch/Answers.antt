@@ -1,7 +1,5 @@
-use Rattle.std.proofs.Common.{ℕ, ◌+◌, List, length, length-append, take, drop, sym, ap, arith, subst}
+use Rattle.std.proofs.Common.{ℕ, ◌+◌, List, length, length-append, take, drop, sym, ap, arith, subst, length-take, take-add}
 use Rattle.mwc_tally.specs.Pieces.{joined}
-use Rattle.std.proofs.lemmas.List.{length-take}
-use Rattle.std.proofs.Math.Seq.{take-add}
 use Rattle.power_index.specs.Tables.{AreTallies}
 use Rattle.power_index.proofs.Shared.Sound.{total-is}
 use Rattle.mwc_tally.proofs.Stretches.{is-stretch}

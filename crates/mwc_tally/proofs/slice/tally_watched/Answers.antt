@@ -1,7 +1,7 @@
 use Rattle.std.proofs.Common.{◌<◌, ◌^◌, ℕ, subst, sym, arith}
 use Rattle.mwc_tally.proofs.Counting.{counted-step, slice-next, slice-room}
-use Rattle.mwc_tally.proofs.slice.tally_watched.Goals as goal
 use Rattle.mwc_tally.proofs.slice.tally_watched.Goals.{in-Found, in-NotYet}
+use Rattle.mwc_tally.proofs.slice.tally_watched.Goals as goal
 
 pub count-requires-clause-some : goal.count-requires-clause-some
 count-requires-clause-some g c = (slice-next c.args.slices c.args.j c.in-Found.ensures.seeks.0 c.loop-coalition.invariant.counted).0

@@ -1,5 +1,4 @@
-use Rattle.std.proofs.Common.{◌≡◌}
-use Rattle.std.specs.Prelude.{All}
+use Rattle.std.proofs.Common.{◌≡◌, All}
 use Rattle.std.specs.Vec.Iter.{into_iter_items}
 use Rattle.mwc_tally.specs.Inner.Shares.{IsShare}
 use Rattle.mwc_tally.proofs.threads.join_all.Given as goal

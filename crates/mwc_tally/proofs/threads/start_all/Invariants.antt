@@ -1,5 +1,4 @@
-use Rattle.std.proofs.Common.{◌≡◌, ◌≤◌, vec_len, vec_capacity}
-use Rattle.std.specs.Prelude.{All}
+use Rattle.std.proofs.Common.{◌≡◌, ◌≤◌, vec_len, vec_capacity, All}
 use Rattle.mwc_tally.proofs.threads.start_all.Given as goal
 
 abbrev pub invariant-loop : goal.invariant-loop

@@ -1,4 +1,5 @@
-use Rattle.std.proofs.Common.{◌≡◌, ◌<◌, ℕ, length, slice_index_or}
+use Rattle.mwc_walk.proofs.Imports.{◌≡◌, ◌<◌, ℕ, length}
+use Rattle.std.proofs.Common.{slice_index_or}
 use Rattle.mwc_walk.proofs.fill.filled.Given as goal
 
 abbrev pub invariant-loop-place : goal.invariant-loop-place

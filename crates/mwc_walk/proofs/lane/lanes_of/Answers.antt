@@ -1,6 +1,4 @@
-use Rattle.std.proofs.Common.{rules, arith}
-use Rattle.mwc_walk.specs.Inner.Lanes.{no_lane}
-use Rattle.mwc_walk.proofs.Rules.{lanes-from}
+use Rattle.mwc_walk.proofs.{Imports.rules, Imports.arith, Imports.no_lane, Rules.lanes-from}
 use Rattle.mwc_walk.proofs.lane.lanes_of.Goals as goal
 
 pub returns-clause-lanes : goal.returns-clause-lanes

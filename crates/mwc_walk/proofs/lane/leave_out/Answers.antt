@@ -1,7 +1,4 @@
-use Rattle.std.proofs.Common.{arith}
-use Rattle.std.proofs.lemmas.List.{get_or_default}
-use Rattle.std.proofs.lemmas.List.Edits.{map_over_more}
-use Rattle.mwc_walk.specs.Inner.Lanes.{lane_without}
+use Rattle.mwc_walk.proofs.Imports.{arith, get_or_default, map_over_more, lane_without}
 use Rattle.mwc_walk.proofs.lane.leave_out.Goals as goal
 
 pub loop-lane-preserved : goal.loop-lane-preserved

@@ -1,5 +1,4 @@
-use Rattle.std.proofs.Common.{◌≡◌, ◌++◌, map, take, drop}
-use Rattle.mwc_walk.specs.Inner.Lanes.{lane_without}
+use Rattle.mwc_walk.proofs.Imports.{◌≡◌, ◌++◌, map, take, drop, lane_without}
 use Rattle.mwc_walk.proofs.lane.leave_out.Given as goal
 
 abbrev pub invariant-loop-lane : goal.invariant-loop-lane

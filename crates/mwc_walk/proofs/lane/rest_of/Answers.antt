@@ -1,8 +1,5 @@
-use Rattle.std.proofs.Common.{◌≡◌, ◌-◌, [], length, take, drop, arith, refl}
-use Rattle.std.proofs.lemmas.List.{drop_all, length-take-le}
-use Rattle.std.proofs.lemmas.Grind.{common_steps}
-use Rattle.mwc_walk.proofs.Filled.{fill-before}
-use Rattle.mwc_walk.proofs.Rules.{same_at, sum-before, drop-most}
+use Rattle.mwc_walk.proofs.Imports.{◌≡◌, ◌-◌, [], length, take, drop, arith, refl, drop_all, length-take-le, common_steps}
+use Rattle.mwc_walk.proofs.{Filled.fill-before, Rules.same_at, Rules.sum-before, Rules.drop-most}
 use Rattle.mwc_walk.proofs.lane.rest_of.Goals as goal
 
 pub loop-place-init : goal.loop-place-init

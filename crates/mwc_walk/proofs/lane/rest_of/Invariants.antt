@@ -1,4 +1,4 @@
-use Rattle.std.proofs.Common.{◌≡◌, drop, take, sum}
+use Rattle.mwc_walk.proofs.Imports.{◌≡◌, drop, take, sum}
 use Rattle.mwc_walk.proofs.Filled.{FilledFrom}
 use Rattle.mwc_walk.proofs.lane.rest_of.Given as goal
 

@@ -1,6 +1,5 @@
 use mir.Val.{bool_byte}
-use Rattle.std.proofs.Common.{◌≡◌, ◌==◌, ◌<◌, ℕ, Bool, true, false, get_or, refl, arith}
-use Rattle.std.proofs.lemmas.Grind.{common_steps}
+use Rattle.mwc_walk.proofs.Imports.{◌≡◌, ◌==◌, ◌<◌, ℕ, Bool, true, false, get_or, refl, arith, common_steps}
 use Rattle.mwc_walk.proofs.Spared.{next-digit}
 use Rattle.mwc_walk.proofs.lane.weightless_of.Goals as goal
 

@@ -1,5 +1,4 @@
-use Rattle.std.proofs.Common.{◌≡◌, ◌==◌, ◌^◌, ◌<◌, ℕ, slice_index}
-use Rattle.council_game.specs.Votes.{has}
+use Rattle.mwc_walk.proofs.Imports.{◌≡◌, ◌==◌, ◌^◌, ◌<◌, ℕ, slice_index, has}
 use Rattle.mwc_walk.proofs.lane.weightless_of.Given as goal
 
 abbrev pub invariant-loop-place : goal.invariant-loop-place

@@ -1,6 +1,4 @@
-use Rattle.std.proofs.Common.{rules, arith}
-use Rattle.std.proofs.lemmas.Grind.{common_steps}
-use Rattle.std.proofs.lemmas.List.{length-map}
+use Rattle.mwc_walk.proofs.Imports.{rules, arith, common_steps, length-map}
 use Rattle.mwc_walk.proofs.Rules.{same-weights}
 use Rattle.mwc_walk.proofs.lane.weights_of.Goals as goal
 

@@ -1,6 +1,4 @@
-use Rattle.std.proofs.Common.{arith}
-use Rattle.council_game.specs.Game.{votes_of}
-use Rattle.mwc_walk.proofs.Whole.{one-more, lists-all, more-than}
+use Rattle.mwc_walk.proofs.{Imports.arith, Imports.votes_of, Whole.one-more, Whole.lists-all, Whole.more-than}
 use Rattle.mwc_walk.proofs.whole_list.list_all.Goals as goal
 
 pub loop-preserved : goal.loop-preserved

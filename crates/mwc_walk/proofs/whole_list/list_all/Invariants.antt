@@ -1,6 +1,4 @@
-use Rattle.council_game.specs.Game.{votes_of}
-use Rattle.mwc_walk.specs.Slices.{slice}
-use Rattle.mwc_walk.proofs.Whole.{HasFirst}
+use Rattle.mwc_walk.proofs.{Imports.votes_of, Imports.slice, Whole.HasFirst}
 use Rattle.mwc_walk.proofs.whole_list.list_all.Given as goal
 
 abbrev pub invariant-loop : goal.invariant-loop

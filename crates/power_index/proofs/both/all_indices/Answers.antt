@@ -1,6 +1,4 @@
-use Rattle.std.proofs.lemmas.Grind.{common_steps}
-use Rattle.std.proofs.Common.{arith}
-use Rattle.std.proofs.lemmas.List.{length-append}
+use Rattle.power_index.proofs.Imports.{common_steps, arith, length-append}
 use Rattle.council_game.proofs.Shared.Lists.{map_one_more}
 use Rattle.power_index.proofs.both.all_indices.Goals as goal
 

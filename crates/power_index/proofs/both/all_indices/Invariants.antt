@@ -1,8 +1,5 @@
-use Rattle.std.proofs.Common.{◌≡◌, ℕ, List, length, map}
-use Rattle.std.specs.List.{range_with_len}
-use Rattle.council_game.specs.Game.{GameView}
+use Rattle.power_index.proofs.Imports.{◌≡◌, ℕ, List, length, map, range_with_len, GameView, AreCounts}
 use Rattle.power_index.specs.Both.{indices_of_member}
-use Rattle.power_index.specs.Tables.{AreCounts}
 use Rattle.power_index.proofs.both.all_indices.Given as goal
 
 abbrev pub invariant-loop-member : goal.invariant-loop-member

@@ -1,10 +1,8 @@
 use Rattle.council_game.specs.Votes.{without}
-use Rattle.std.proofs.lemmas.Bool.Decides.{nat_tests}
-use Rattle.std.proofs.lemmas.Bool.{both_ways, cases_eq, cond-true}
-use Rattle.std.proofs.lemmas.Grind.{common_steps}
-use Rattle.std.proofs.Common.{ℕ, ◌-◌, arith, get_or, get_or-set_same}
-use Rattle.std.specs.Int.{w64, trailing_zeros}
-use Rattle.coalitions.proofs.Shared.Digits.{lowest-place, lowest-cleared, has-gone, has-kept, has-none}
+use Rattle.power_index.proofs.Imports.{nat_tests, cases_eq, common_steps, ℕ, ◌-◌, arith, get_or, get_or-set_same, w64, trailing_zeros}
+use Rattle.power_index.proofs.Imports.{lowest-place}
+use Rattle.std.proofs.lemmas.Bool.{both_ways, cond-true}
+use Rattle.coalitions.proofs.Shared.Digits.{lowest-cleared, has-gone, has-kept, has-none}
 use Rattle.power_index.proofs.counts.add_to_places.Goals as goal
 
 pub overflow_sub-place-in-loop-rest : goal.overflow_sub-place-in-loop-rest

@@ -1,6 +1,4 @@
-use Rattle.std.proofs.Common.{◌≡◌, ℕ, ◌<◌, ◌≤◌, length, get_or}
-use Rattle.power_index.specs.Tables.{no_tally}
-use Rattle.power_index.specs.Inner.Tables.{IsJoined}
+use Rattle.power_index.proofs.Imports.{◌≡◌, ℕ, ◌<◌, ◌≤◌, length, get_or, no_tally, IsJoined}
 use Rattle.power_index.proofs.counts.join_places.Given as goal
 
 abbrev pub invariant-loop-place : goal.invariant-loop-place

@@ -1,5 +1,4 @@
-use Rattle.power_index.proofs.Shared.LowestTerms.{divided-is_lowest, divided-is_terms}
-use Rattle.power_index.proofs.Quotients.{gcd-pos}
+use Rattle.power_index.proofs.{Quotients.gcd-pos, Shared.LowestTerms.divided-is_lowest, Shared.LowestTerms.divided-is_terms}
 use Rattle.power_index.proofs.fraction.lowest.Goals as goal
 
 pub nonzero_div-result : goal.nonzero_div-result

@@ -1,4 +1,4 @@
-use Rattle.std.proofs.Common.{take}
+use Rattle.power_index.proofs.Imports.{take}
 use Rattle.std.specs.Fmt.{HasWritten, IsPlainFormatter}
 use Rattle.power_index.proofs.index.write_digits.Given as goal
 

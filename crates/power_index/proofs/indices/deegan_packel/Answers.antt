@@ -1,6 +1,4 @@
-use Rattle.std.proofs.lemmas.Grind.{common_steps}
-use Rattle.std.proofs.Common.{arith}
-use Rattle.power_index.proofs.Shared.Printed.{deegan-packel-is, deegan-packel-same}
+use Rattle.power_index.proofs.{Imports.common_steps, Imports.arith, Shared.Printed.deegan-packel-is, Shared.Printed.deegan-packel-same}
 use Rattle.power_index.proofs.indices.deegan_packel.Goals as goal
 
 pub returns-clause-lowest : goal.returns-clause-lowest

@@ -1,6 +1,4 @@
-use Rattle.std.proofs.Common.{arith}
-use Rattle.std.proofs.lemmas.Grind.{common_steps}
-use Rattle.power_index.proofs.Shared.Printed.{public-good-is, public-good-same}
+use Rattle.power_index.proofs.{Imports.arith, Imports.common_steps, Shared.Printed.public-good-is, Shared.Printed.public-good-same}
 use Rattle.power_index.proofs.indices.public_good.Goals as goal
 
 pub returns-clause-lowest : goal.returns-clause-lowest

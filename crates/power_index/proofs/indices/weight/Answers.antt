@@ -1,6 +1,4 @@
-use Rattle.std.proofs.lemmas.Grind.{common_steps}
-use Rattle.std.proofs.Common.{arith}
-use Rattle.std.proofs.Math.Nat.{div-le_self, mul-le-mul}
+use Rattle.power_index.proofs.Imports.{common_steps, arith, div-le_self, mul-le-mul}
 use Rattle.power_index.proofs.Units.{weighted_sum-more}
 use Rattle.power_index.proofs.indices.weight.Goals as goal
 

@@ -1,6 +1,4 @@
-use Rattle.std.proofs.Common.{◌*◌, ◌≡◌, ◌≤◌, ◌-◌, ◌^◌}
-use Rattle.power_index.specs.Tables.{table_of_member_size}
-use Rattle.power_index.specs.Tables.{weighted_sum}
+use Rattle.power_index.proofs.Imports.{◌*◌, ◌≡◌, ◌≤◌, ◌-◌, ◌^◌, table_of_member_size, weighted_sum}
 use Rattle.power_index.proofs.indices.weight.Given as goal
 
 abbrev pub invariant-loop-size : goal.invariant-loop-size

@@ -1,8 +1,7 @@
-use Rattle.std.proofs.lemmas.Grind.{common_steps}
-use Rattle.std.proofs.Common.{◌≡◌, ◌≢◌, ◌/◌, ◌%◌, arith}
+use Rattle.power_index.proofs.Imports.{common_steps, ◌≡◌, ◌≢◌, ◌/◌, ◌%◌, arith}
+use Rattle.power_index.proofs.order.order.Goals.{then-loop-x-test+then-x-ne0+else-y-ne0, then-loop-x-test+else-x-ne0, else-loop-x-test}
 use Rattle.power_index.proofs.Ordered.{turned, decided}
 use Rattle.power_index.proofs.order.order.Goals as goal
-use Rattle.power_index.proofs.order.order.Goals.{then-loop-x-test+then-x-ne0+else-y-ne0, then-loop-x-test+else-x-ne0, else-loop-x-test}
 
 pub loop-x-preserved : goal.loop-x-preserved
 loop-x-preserved c = grind (arith, common_steps, turned)

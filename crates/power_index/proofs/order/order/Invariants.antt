@@ -1,4 +1,4 @@
-use Rattle.std.proofs.Common.{◌≡◌, ◌<◌, ◌+◌}
+use Rattle.power_index.proofs.Imports.{◌≡◌, ◌<◌, ◌+◌}
 use Rattle.power_index.specs.Fractions.{fraction_cmp, pair_of}
 use Rattle.power_index.proofs.order.order.Given as goal
 

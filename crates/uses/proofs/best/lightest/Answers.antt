@@ -1,7 +1,6 @@
 use Rattle.std.proofs.Common.{◌≡◌, ℕ, ◌<◌, ◌≤◌, All, Contains, List, [], ◌∷◌, ◌++◌, append_assoc, sym, ap, ◌∙◌, subst, arith}
 use Rattle.std.proofs.lemmas.List.Elements.{All-push, All-weaker, Contains-push, Contains-append_left}
-use Rattle.council_game.specs.Game.{votes_of}
-use Rattle.council_game.specs.Votes.{minimal_coalitions, rule_at, weight}
+use Rattle.council_game.specs.{Game.votes_of, Votes.minimal_coalitions, Votes.rule_at, Votes.weight}
 use Rattle.mwc_walk.specs.WalkView.{given}
 use Rattle.uses.proofs.best.lightest.Goals as goal
 

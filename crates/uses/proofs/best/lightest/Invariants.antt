@@ -1,6 +1,5 @@
 use Rattle.std.proofs.Common.{◌≡◌, ◌++◌, ◌≤◌, All, Contains, length}
-use Rattle.council_game.specs.Game.{votes_of}
-use Rattle.council_game.specs.Votes.{minimal_coalitions, rule_at, weight}
+use Rattle.council_game.specs.{Game.votes_of, Votes.minimal_coalitions, Votes.rule_at, Votes.weight}
 use Rattle.mwc_walk.specs.WalkView.{given}
 use Rattle.uses.proofs.best.lightest.Given as goal
 

@@ -1,5 +1,4 @@
-use Rattle.std.proofs.Common.{◌≡◌, take}
-use Rattle.std.specs.List.{filter}
+use Rattle.std.proofs.Common.{◌≡◌, take, filter}
 use Rattle.power_index.specs.Counting.{contains}
 use Rattle.uses.proofs.listed.coalitions_with.Given as goal
 

@@ -1,6 +1,5 @@
 use Rattle.std.proofs.Common.{◌≡◌, length, map, take}
-use Rattle.council_game.specs.Game.{votes_of}
-use Rattle.council_game.specs.Votes.{minimal_coalitions}
+use Rattle.council_game.specs.{Game.votes_of, Votes.minimal_coalitions}
 use Rattle.game_calls.specs.Quotas.{at_quota}
 use Rattle.uses.proofs.quotas.counts_at_quotas.Given as goal
 

@@ -1,5 +1,4 @@
-use Rattle.std.proofs.Common.{below_more}
-use Rattle.std.proofs.lemmas.Bool.{both_ways}
+use Rattle.std.proofs.{Common.below_more, lemmas.Bool.both_ways}
 use Rattle.uses.proofs.tables.most_powerful.Goals as goal
 
 pub loop-i-preserved : goal.loop-i-preserved

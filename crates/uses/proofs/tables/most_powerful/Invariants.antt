@@ -1,5 +1,4 @@
-use Rattle.std.proofs.Common.{◌≡◌, ◌≢◌, ◌<◌, ℕ, length, slice_index_or}
-use Rattle.std.specs.declared.cmp.Ordering.TheVariants.{Less}
+use Rattle.std.proofs.Common.{◌≡◌, ◌≢◌, ◌<◌, ℕ, length, slice_index_or, Less}
 use Rattle.power_index.specs.Fractions.{fraction_cmp}
 use Rattle.uses.proofs.tables.most_powerful.Given as goal
 

@@ -1,5 +1,4 @@
-use Rattle.std.proofs.Common.{◌≡◌, ℕ, ◌-◌, ◌<◌, ◌≤◌, [], length, get_or}
-use Rattle.weight_sums.specs.Endings.{choose}
+use Rattle.weight_sums.proofs.Imports.{◌≡◌, ℕ, ◌-◌, ◌<◌, ◌≤◌, [], length, get_or, choose}
 use Rattle.weight_sums.proofs.choices.choices.Given as goal
 
 abbrev pub invariant-loop-count : goal.invariant-loop-count

@@ -1,10 +1,7 @@
-use Rattle.std.proofs.Common.{◌≡◌, ◌≤◌, ℕ, get_or, arith}
-use Rattle.std.proofs.lemmas.Bool.Decides.{nat_tests}
-use Rattle.weight_sums.specs.Endings.{AreEndings, endings, left_out}
-use Rattle.weight_sums.proofs.EndingLaws.{past-end}
-use Rattle.weight_sums.proofs.Members.{member-tallied, tallied-more}
-use Rattle.weight_sums.proofs.halves.by_halves.Goals as goal
+use Rattle.weight_sums.proofs.Imports.{◌≡◌, ◌≤◌, ℕ, get_or, arith, nat_tests, AreEndings, endings, left_out}
 use Rattle.weight_sums.proofs.halves.by_halves.Goals.{After-endings_without, After-endings_without-without}
+use Rattle.weight_sums.proofs.{EndingLaws.past-end, Members.member-tallied, Members.tallied-more}
+use Rattle.weight_sums.proofs.halves.by_halves.Goals as goal
 
 -- without the member of a place behind the last, all are left
 whole : (c : After-endings_without) → AreEndings c.args.weights.now c.args.heads c.args.quota (record { sizes = c.endings_without.result })

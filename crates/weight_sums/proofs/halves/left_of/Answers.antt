@@ -1,4 +1,4 @@
-use Rattle.std.proofs.Common.{ℕ, replicate, get_or, arith, length-set, get_or-set_same, get_or-set_other}
+use Rattle.weight_sums.proofs.Imports.{ℕ, replicate, get_or, arith, length-set, get_or-set_same, get_or-set_other}
 use Rattle.weight_sums.proofs.Taking.{get_or-zeros}
 use Rattle.weight_sums.proofs.halves.left_of.Goals as goal
 

@@ -1,8 +1,5 @@
-use Rattle.std.proofs.Common.{◌≤◌, arith}
-use Rattle.std.proofs.lemmas.List.{take_rest}
-use Rattle.std.proofs.lemmas.List.Elements.{All-append, All-drop}
-use Rattle.std.proofs.lemmas.List.Sums.{sum_by-append}
-use Rattle.weight_sums.specs.declared.row.Open.{Open}
+use Rattle.weight_sums.proofs.Imports.{◌≤◌, arith, Open}
+use Rattle.std.proofs.lemmas.List.{take_rest, Elements.All-append, Elements.All-drop, Sums.sum_by-append}
 use Rattle.weight_sums.proofs.row.merge.Goals as goal
 
 pub returns : goal.returns

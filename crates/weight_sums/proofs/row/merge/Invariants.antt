@@ -1,6 +1,4 @@
-use Rattle.std.proofs.Common.{◌≡◌, ℕ, ◌+◌, ◌-◌, ◌≤◌, length, drop}
-use Rattle.std.specs.List.{All}
-use Rattle.weight_sums.specs.Inner.Rows.{weigh}
+use Rattle.weight_sums.proofs.Imports.{◌≡◌, ℕ, ◌+◌, ◌-◌, ◌≤◌, length, drop, All, weigh}
 use Rattle.weight_sums.proofs.row.merge.Given as goal
 
 abbrev pub invariant-loop-i : goal.invariant-loop-i

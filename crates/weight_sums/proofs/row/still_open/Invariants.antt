@@ -1,5 +1,4 @@
-use Rattle.std.proofs.Common.{length, take, ◌≡◌, ℕ, ◌<◌, ◌≤◌}
-use Rattle.weight_sums.specs.Inner.Rows.{weigh}
+use Rattle.weight_sums.proofs.Imports.{length, take, ◌≡◌, ℕ, ◌<◌, ◌≤◌, weigh}
 use Rattle.weight_sums.proofs.row.still_open.Given as goal
 
 abbrev pub invariant-loop-end : goal.invariant-loop-end

@@ -1,9 +1,7 @@
-use Rattle.std.proofs.Common.{◌≤◌, ◌∙◌, ap, arith}
-use Rattle.std.proofs.lemmas.Grind.{common_steps}
-use Rattle.weight_sums.specs.declared.row.Open.{Open}
+use Rattle.weight_sums.proofs.Imports.{◌≤◌, ◌∙◌, ap, arith, common_steps, Open}
 use Rattle.weight_sums.proofs.Taking.{taking-none, taking-complete, taking-other, taking-fits, filled-most}
-use Rattle.weight_sums.proofs.row.with_member.Goals as goal
 use Rattle.weight_sums.proofs.row.with_member.Goals.{then-prefix-weight, else-prefix-weight+in_ok-push}
+use Rattle.weight_sums.proofs.row.with_member.Goals as goal
 
 pub loop-prefix-init : goal.loop-prefix-init
 loop-prefix-init c = grind (arith, common_steps, taking-none)

@@ -1,6 +1,4 @@
-use Rattle.std.proofs.Common.{◌∙◌, ◌++◌, ap, arith, List}
-use Rattle.std.proofs.lemmas.Grind.{common_steps}
-use Rattle.weight_sums.specs.declared.sets.Set.{Set}
+use Rattle.weight_sums.proofs.Imports.{◌∙◌, ◌++◌, ap, arith, List, common_steps, Set}
 use Rattle.weight_sums.proofs.SetLists.{begun, weightless, light-enough, few-members, small-enough, sets-further}
 use Rattle.weight_sums.proofs.sets.fill.Goals as goal
 

@@ -1,5 +1,4 @@
-use Rattle.std.proofs.Common.{◌≤◌, ◌==◌, length, drop}
-use Rattle.weight_sums.specs.Inner.Sets.{AreSets}
+use Rattle.weight_sums.proofs.Imports.{◌≤◌, ◌==◌, length, drop, AreSets}
 use Rattle.weight_sums.proofs.sets.fill.Given as goal
 
 abbrev pub invariant-loop-place : goal.invariant-loop-place

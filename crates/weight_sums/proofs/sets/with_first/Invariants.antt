@@ -1,4 +1,4 @@
-use Rattle.std.proofs.Common.{length, ◌-◌, ◌+◌, ◌≤◌}
+use Rattle.weight_sums.proofs.Imports.{length, ◌-◌, ◌+◌, ◌≤◌}
 use Rattle.weight_sums.proofs.SetLists.{Doubling}
 use Rattle.weight_sums.proofs.sets.with_first.Given as goal
 

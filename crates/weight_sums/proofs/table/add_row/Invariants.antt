@@ -1,4 +1,4 @@
-use Rattle.std.proofs.Common.{◌≡◌, ℕ, ◌+◌, ◌<◌, ◌≤◌, get_or}
+use Rattle.weight_sums.proofs.Imports.{◌≡◌, ℕ, ◌+◌, ◌<◌, ◌≤◌, get_or}
 use Rattle.weight_sums.proofs.table.add_row.Given as goal
 
 abbrev pub invariant-loop-size : goal.invariant-loop-size

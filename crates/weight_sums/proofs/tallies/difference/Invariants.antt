@@ -1,4 +1,4 @@
-use Rattle.std.proofs.Common.{◌≡◌, ℕ, ◌+◌, ◌<◌, length, get_or}
+use Rattle.weight_sums.proofs.Imports.{◌≡◌, ℕ, ◌+◌, ◌<◌, length, get_or}
 use Rattle.weight_sums.proofs.tallies.difference.Given as goal
 
 abbrev pub invariant-loop-size : goal.invariant-loop-size

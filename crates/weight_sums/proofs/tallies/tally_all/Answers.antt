@@ -1,6 +1,4 @@
-use Rattle.std.proofs.Common.{length, ◌-◌, arith}
-use Rattle.weight_sums.proofs.Taking.{get_or-zeros}
-use Rattle.weight_sums.proofs.Members.{prefixes-start, weigh-start}
+use Rattle.weight_sums.proofs.{Imports.length, Imports.◌-◌, Imports.arith, Members.prefixes-start, Members.weigh-start, Taking.get_or-zeros}
 use Rattle.weight_sums.proofs.tallies.tally_all.Goals as goal
 
 pub finish-requires-clause-row : goal.finish-requires-clause-row

@@ -1,10 +1,7 @@
-use Rattle.std.proofs.Common.{◌≡◌, ◌∙◌, ℕ, ◌≤◌, get_or, replicate, refl, arith}
-use Rattle.weight_sums.specs.Endings.{endings, left_out}
-use Rattle.weight_sums.proofs.Taking.{get_or-zeros}
-use Rattle.weight_sums.proofs.Passing.{prefixes-room}
+use Rattle.weight_sums.proofs.Imports.{◌≡◌, ◌∙◌, ℕ, ◌≤◌, get_or, replicate, refl, arith, endings, left_out}
+use Rattle.weight_sums.proofs.{Passing.prefixes-room, Taking.get_or-zeros, tallies.tally_each.Goals.Else-not-branch}
 use Rattle.weight_sums.proofs.Members.{passed-none, passed-more, without-is, member-tallied}
 use Rattle.weight_sums.proofs.tallies.tally_each.Goals as goal
-use Rattle.weight_sums.proofs.tallies.tally_each.Goals.{Else-not-branch}
 
 pub loop-place-init : goal.loop-place-init
 loop-place-init c =

@@ -1,6 +1,4 @@
-use Rattle.std.proofs.Common.{arith, eq-eqb}
-use Rattle.std.proofs.lemmas.Bool.{cond-false}
-use Rattle.std.proofs.lemmas.Grind.{common_steps}
+use Rattle.std.proofs.{Common.arith, Common.eq-eqb, lemmas.Bool.cond-false, lemmas.Grind.common_steps}
 use Rattle.coalitions.specs.Coalitions.{with_member, has}
 use Rattle.coalitions.proofs.Shared.Sizes.{digit-shifted}
 use Rattle.coalitions.proofs.Shared.Digits.{has-beside, added-below, added-room, digit-added, out-digit}

@@ -1,10 +1,7 @@
-use Rattle.std.proofs.Math.Nat.{div-mul-le_self, mul-le-mul_right}
-use Rattle.std.proofs.Common.{arith}
-use Rattle.std.proofs.lemmas.Bool.{cond-true, eqb-true}
-use Rattle.std.proofs.lemmas.Grind.{common_steps}
+use Rattle.std.proofs.Common.{div-mul-le_self, mul-le-mul_right, arith, eqb-true}
+use Rattle.std.proofs.lemmas.{Bool.cond-true, Grind.common_steps}
 use Rattle.coalitions.specs.Coalitions.{without, has}
-use Rattle.coalitions.proofs.Shared.Sizes.{digit-shifted}
-use Rattle.coalitions.proofs.Shared.Digits.{has-gone, has-kept}
+use Rattle.coalitions.proofs.Shared.{Digits.has-gone, Digits.has-kept, Sizes.digit-shifted}
 use Rattle.coalitions.proofs.coalition.Coalition.without.Goals as goal
 
 pub overflow_sub-self-inside : goal.overflow_sub-self-inside

@@ -1,7 +1,4 @@
-use Rattle.std.proofs.lemmas.Grind.{common_steps}
-use Rattle.std.proofs.Common.{get_or, refl, arith}
-use Rattle.std.proofs.lemmas.Nat.{pow_pos}
-use Rattle.coalitions.proofs.Shared.Digits.{has-none}
+use Rattle.council_game.proofs.Imports.{common_steps, get_or, refl, arith, pow_pos, has-none}
 use Rattle.council_game.proofs.Named.{taken-in}
 use Rattle.council_game.proofs.game.Game.coalition_of.Goals as goal
 

@@ -1,6 +1,4 @@
-use Rattle.std.proofs.Common.{◌≡◌, ◌<◌, ◌^◌, ◌==◌, ℕ, length, take, get_or}
-use Rattle.std.specs.List.{list_any}
-use Rattle.council_game.specs.Votes.{has}
+use Rattle.council_game.proofs.Imports.{◌≡◌, ◌<◌, ◌^◌, ◌==◌, ℕ, length, take, get_or, list_any, has}
 use Rattle.council_game.proofs.game.Game.coalition_of.Given as goal
 
 abbrev pub invariant-loop-member : goal.invariant-loop-member

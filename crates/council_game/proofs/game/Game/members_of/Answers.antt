@@ -1,9 +1,7 @@
-use Rattle.std.proofs.Common.{ℕ, length, refl, sym, ap, ◌∙◌}
-use Rattle.council_game.specs.Ranks.{member_at}
-use Rattle.council_game.specs.Votes.{has}
+use Rattle.council_game.proofs.Imports.{ℕ, length, refl, sym, ap, ◌∙◌, member_at, has}
+use Rattle.council_game.proofs.game.Game.members_of.Goals.{then-has+in_ok-push_member, else-has}
 use Rattle.council_game.proofs.Named.{place-in, place-out}
 use Rattle.council_game.proofs.game.Game.members_of.Goals as goal
-use Rattle.council_game.proofs.game.Game.members_of.Goals.{then-has+in_ok-push_member, else-has}
 
 pub loop-place-preserved : goal.loop-place-preserved
 loop-place-preserved c =

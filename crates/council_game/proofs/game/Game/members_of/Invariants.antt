@@ -1,7 +1,4 @@
-use Rattle.std.proofs.Common.{◌≡◌, length, map}
-use Rattle.std.specs.List.{filter, range_with_len}
-use Rattle.council_game.specs.Ranks.{member_at}
-use Rattle.council_game.specs.Votes.{has}
+use Rattle.council_game.proofs.Imports.{◌≡◌, length, map, filter, range_with_len, member_at, has}
 use Rattle.council_game.proofs.game.Game.members_of.Given as goal
 
 abbrev pub invariant-loop-place : goal.invariant-loop-place

@@ -1,6 +1,4 @@
-use Rattle.std.proofs.Common.{◌++◌, ℕ, List, sym, ap, ◌∙◌, subst, arith}
-use Rattle.std.proofs.lemmas.Grind.{common_steps}
-use Rattle.council_report.specs.Inner.SharedLine.{IsSeat}
+use Rattle.council_report.proofs.Imports.{◌++◌, ℕ, List, sym, ap, ◌∙◌, subst, arith, common_steps, IsSeat}
 use Rattle.council_report.proofs.SharedLines.{line-added, subtotal-more, no_subtotal, added-light, added-short}
 use Rattle.council_report.proofs.shared_line.SharedLine.add.Goals as goal
 

@@ -1,5 +1,4 @@
-use Rattle.std.proofs.Common.{◌≡◌, ◌-◌}
-use Rattle.council_report.specs.Inner.SharedLine.{IsLine}
+use Rattle.council_report.proofs.Imports.{◌≡◌, ◌-◌, IsLine}
 use Rattle.council_report.proofs.shared_line.SharedLine.move_to.Given as goal
 
 -- it is a line of the coalition, as far as it has come

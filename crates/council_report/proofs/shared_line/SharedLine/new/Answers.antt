@@ -1,5 +1,5 @@
-use Rattle.std.proofs.Common.{◌^◌, ◌<◌, length, refl, arith}
-use Rattle.std.proofs.lemmas.Nat.{pow_pos}
+use Rattle.council_report.proofs.Imports.{◌^◌, ◌<◌, length, refl, arith}
+use Rattle.std.proofs.Common.{pow_pos}
 use Rattle.council_report.proofs.SharedLines.{line-first, none-subtotal}
 use Rattle.council_report.proofs.shared_line.SharedLine.new.Goals as goal
 

@@ -1,5 +1,4 @@
-use Rattle.std.proofs.Common.{◌<◌, ◌^◌}
-use Rattle.std.specs.List.{All}
+use Rattle.std.proofs.Common.{◌<◌, ◌^◌, All}
 use Rattle.count_tests.proofs.mwc_tally_tests.pieces.coalitions.Given as goal
 
 abbrev pub invariant-loop-mask : goal.invariant-loop-mask

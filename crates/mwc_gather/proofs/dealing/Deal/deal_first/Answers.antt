@@ -1,7 +1,4 @@
-use Rattle.std.proofs.lemmas.Grind.{common_steps}
-use Rattle.std.proofs.Common.{◌≡◌, ◌<◌, ℕ, length, subst, arith}
-use Rattle.mwc_gather.specs.Slicings.{slicing}
-use Rattle.mwc_gather.specs.Inner.Desks.{DealsFirst}
+use Rattle.mwc_gather.proofs.Imports.{common_steps, ◌≡◌, ◌<◌, ℕ, length, subst, arith, slicing, DealsFirst}
 use Rattle.mwc_gather.proofs.Deals.{first_of_place, deal_starts}
 use Rattle.mwc_gather.proofs.dealing.Deal.deal_first.Goals as goal
 

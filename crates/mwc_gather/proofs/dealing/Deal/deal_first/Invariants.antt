@@ -1,5 +1,4 @@
-use Rattle.mwc_gather.specs.Slicings.{slicing}
-use Rattle.mwc_gather.specs.Inner.Desks.{DealsFirst}
+use Rattle.mwc_gather.proofs.Imports.{slicing, DealsFirst}
 use Rattle.mwc_gather.proofs.dealing.Deal.deal_first.Given as goal
 
 abbrev pub invariant-loop-i : goal.invariant-loop-i

@@ -1,5 +1,4 @@
-use Rattle.std.proofs.Common.{arith}
-use Rattle.std.proofs.lemmas.Grind.{common_steps}
+use Rattle.mwc_gather.proofs.Imports.{arith, common_steps}
 use Rattle.mwc_gather.proofs.dealing.Deal.deal_to.Goals as goal
 
 pub returns-then-desk : goal.returns-then-desk

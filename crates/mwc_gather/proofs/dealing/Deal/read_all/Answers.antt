@@ -1,5 +1,4 @@
-use Rattle.std.proofs.lemmas.Grind.{common_steps}
-use Rattle.std.proofs.Common.{◌<◌, length, arith}
+use Rattle.mwc_gather.proofs.Imports.{common_steps, ◌<◌, length, arith}
 use Rattle.mwc_gather.proofs.Deals.{turn_of}
 use Rattle.mwc_gather.proofs.dealing.Deal.read_all.Goals as goal
 

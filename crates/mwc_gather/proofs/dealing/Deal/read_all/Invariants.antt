@@ -1,5 +1,4 @@
-use Rattle.mwc_gather.specs.Slicings.{slicing}
-use Rattle.mwc_gather.specs.Inner.Desks.{DealsTo}
+use Rattle.mwc_gather.proofs.Imports.{slicing, DealsTo}
 use Rattle.mwc_gather.proofs.dealing.Deal.read_all.Given as goal
 
 abbrev pub invariant-loop : goal.invariant-loop

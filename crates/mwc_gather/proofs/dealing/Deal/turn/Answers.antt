@@ -1,5 +1,4 @@
-use Rattle.std.proofs.Common.{arith}
-use Rattle.mwc_gather.proofs.Deals.{turn_after}
+use Rattle.mwc_gather.proofs.{Deals.turn_after, Imports.arith}
 use Rattle.mwc_gather.proofs.dealing.Deal.turn.Goals as goal
 
 pub deal_to-requires : goal.deal_to-requires

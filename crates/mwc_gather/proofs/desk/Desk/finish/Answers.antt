@@ -1,4 +1,4 @@
-use Rattle.std.proofs.Common.{◌∙◌}
+use Rattle.mwc_gather.proofs.Imports.{◌∙◌}
 use Rattle.mwc_gather.proofs.Joins.{has_ended, whole_ends, part_answered, end_answered}
 use Rattle.mwc_gather.proofs.desk.Desk.finish.Goals as goal
 

@@ -1,5 +1,4 @@
-use Rattle.std.proofs.Common.{List, length, take, ap, ◌||◌, Bool}
-use Rattle.mwc_pipe.specs.declared.word.Word.{Word}
+use Rattle.mwc_gather.proofs.Imports.{List, length, take, ap, ◌||◌, Bool, Word}
 use Rattle.mwc_gather.proofs.Words.{ahead_more, idle_more}
 use Rattle.mwc_gather.proofs.desk.Desk.read.Goals as goal
 

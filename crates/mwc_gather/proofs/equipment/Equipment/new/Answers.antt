@@ -1,5 +1,4 @@
-use Rattle.std.proofs.Common.{arith}
-use Rattle.std.proofs.lemmas.Grind.{common_steps}
+use Rattle.mwc_gather.proofs.Imports.{arith, common_steps}
 use Rattle.mwc_gather.proofs.equipment.Equipment.new.Goals as goal
 
 pub invariant_of-result : goal.invariant_of-result

@@ -1,5 +1,4 @@
-use Rattle.std.proofs.Common.{arith}
-use Rattle.std.proofs.lemmas.Grind.{common_steps}
+use Rattle.mwc_gather.proofs.Imports.{arith, common_steps}
 use Rattle.mwc_gather.proofs.putting.WordByWordPutsRows.put_row.Goals as goal
 
 pub loop-accepted-init : goal.loop-accepted-init

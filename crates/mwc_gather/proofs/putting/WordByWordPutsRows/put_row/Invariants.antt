@@ -1,4 +1,4 @@
-use Rattle.std.proofs.Common.{◌≡◌, ◌++◌, take}
+use Rattle.mwc_gather.proofs.Imports.{◌≡◌, ◌++◌, take}
 use Rattle.mwc_gather.proofs.putting.WordByWordPutsRows.put_row.Given as goal
 
 abbrev pub invariant-loop-accepted : goal.invariant-loop-accepted

@@ -1,7 +1,6 @@
 use Rattle.std.proofs.Common.{◌≡◌, ◌++◌, List, take, false, length}
 use Rattle.mwc_pipe.specs.declared.word.Word.{Word}
-use Rattle.mwc_parts.specs.Drafts.{IsDraftOf}
-use Rattle.mwc_parts.specs.Drafts.{Grows, LosesForWantOfRoom}
+use Rattle.mwc_parts.specs.Drafts.{IsDraftOf, Grows, LosesForWantOfRoom}
 use Rattle.mwc_parts.proofs.draft.Draft.hear_row.Given as goal
 
 abbrev pub invariant-loop-word : goal.invariant-loop-word

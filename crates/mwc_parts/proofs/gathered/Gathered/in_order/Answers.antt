@@ -1,7 +1,5 @@
 use Rattle.coalitions.proofs.Shared.Ranges.{range-more}
-use Rattle.std.proofs.lemmas.List.{flat_map_more}
-use Rattle.std.proofs.Common.{arith}
-use Rattle.std.proofs.lemmas.Grind.{common_steps}
+use Rattle.std.proofs.{Common.arith, lemmas.Grind.common_steps, lemmas.List.flat_map_more}
 use Rattle.mwc_parts.proofs.gathered.Gathered.in_order.Goals as goal
 
 pub loop-j-preserved : goal.loop-j-preserved

@@ -1,6 +1,5 @@
-use Rattle.std.proofs.Common.{◌≡◌, ℕ, List}
-use Rattle.std.specs.Prelude.{All}
-use Rattle.std.specs.List.{flat_map, range_with_len}
+use Rattle.std.proofs.Common.{◌≡◌, ℕ, List, All, flat_map}
+use Rattle.std.specs.List.{range_with_len}
 use Rattle.mwc_parts.specs.Parts.{HasPieces}
 use Rattle.mwc_parts.proofs.gathered.Gathered.in_order.Given as goal
 

@@ -1,7 +1,5 @@
-use Rattle.std.proofs.lemmas.Grind.{common_steps}
-use Rattle.std.proofs.Common.{List, arith}
+use Rattle.std.proofs.{Common.List, Common.arith, Common.take_all, lemmas.Grind.common_steps}
 use Rattle.mwc_parts.specs.declared.part.Part.{Part}
-use Rattle.std.proofs.lemmas.List.{take_all}
 use Rattle.mwc_parts.proofs.Shared.Once.{each_once}
 use Rattle.mwc_parts.proofs.gathered.Gathered.piece.Goals as goal
 

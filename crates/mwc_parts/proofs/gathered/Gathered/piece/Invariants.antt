@@ -1,7 +1,5 @@
-use Rattle.std.proofs.Common.{◌≡◌, take}
-use Rattle.std.specs.List.{sum_by}
-use Rattle.mwc_parts.specs.Inner.Times.{times_in}
-use Rattle.mwc_parts.specs.Parts.{shares}
+use Rattle.std.proofs.Common.{◌≡◌, take, sum_by}
+use Rattle.mwc_parts.specs.{Inner.Times.times_in, Parts.shares}
 use Rattle.mwc_parts.proofs.gathered.Gathered.piece.Given as goal
 
 abbrev pub invariant-loop-part : goal.invariant-loop-part

@@ -1,5 +1,4 @@
-use Rattle.std.proofs.Common.{arith}
-use Rattle.std.proofs.lemmas.Grind.{common_steps}
+use Rattle.std.proofs.{Common.arith, lemmas.Grind.common_steps}
 use Rattle.mwc_parts.proofs.Ranges.{pieces_more, same_joined}
 use Rattle.mwc_parts.proofs.gathered.Gathered.pieces.Goals as goal
 

@@ -1,7 +1,4 @@
-use Rattle.std.proofs.Common.{arith}
-use Rattle.std.proofs.lemmas.Grind.{common_steps}
-use Rattle.std.proofs.lemmas.List.{length-take}
-use Rattle.std.proofs.Math.Seq.{take-set-lt}
+use Rattle.std.proofs.{Common.arith, Common.length-take, Math.Seq.take-set-lt, lemmas.Grind.common_steps}
 use Rattle.mwc_parts.proofs.marks.Marks.give.Goals as goal
 
 pub returns-clause-marks : goal.returns-clause-marks

@@ -1,5 +1,4 @@
-use Rattle.std.proofs.Common.{None}
-use Rattle.std.proofs.lemmas.List.{take-replicate}
+use Rattle.std.proofs.{Common.None, lemmas.List.take-replicate}
 use Rattle.mwc_parts.proofs.marks.Marks.new.Goals as goal
 
 pub returns : goal.returns

@@ -1,5 +1,4 @@
-use Rattle.std.proofs.Common.{arith}
-use Rattle.std.proofs.lemmas.Bool.Decides.{nat_tests}
+use Rattle.std.proofs.{Common.arith, lemmas.Bool.Decides.nat_tests}
 use Rattle.mwc_pipe.proofs.Counting.{closed_step, full_step, accepted_step}
 use Rattle.mwc_pipe.proofs.pipe.Pipe.put.Goals as goal
 

@@ -1,5 +1,4 @@
-use Rattle.std.proofs.Common.{arith, length-append}
-use Rattle.std.proofs.lemmas.Grind.{common_steps}
+use Rattle.std.proofs.{Common.arith, Common.length-append, lemmas.Grind.common_steps}
 use Rattle.mwc_pipe.proofs.RowSteps.{puts_answered}
 use Rattle.mwc_pipe.proofs.ring_in.RingIn.put_some.Goals as goal
 

@@ -1,6 +1,4 @@
-use Rattle.std.proofs.Common.{arith, nat_lt}
-use Rattle.std.proofs.lemmas.Grind.{common_steps}
-use Rattle.std.proofs.lemmas.List.{nil_from_length}
+use Rattle.std.proofs.{Common.arith, Common.nat_lt, lemmas.Grind.common_steps, lemmas.List.nil_from_length}
 use Rattle.mwc_pipe.proofs.RowSteps.{takes_answered}
 use Rattle.mwc_pipe.proofs.ring_out.RingOut.take_some.Goals as goal
 

@@ -1,4 +1,4 @@
-use Rattle.std.proofs.Common.{◌≡◌, ℕ, ◌<◌, ◌≤◌, length, get_or}
+use Rattle.mwc_sums.proofs.Imports.{◌≡◌, ℕ, ◌<◌, ◌≤◌, length, get_or}
 use Rattle.power_index.specs.Tables.{table_of_size}
 use Rattle.mwc_sums.proofs.counted.Counted.sizes.Given as goal
 

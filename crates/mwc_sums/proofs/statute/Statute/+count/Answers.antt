@@ -1,7 +1,5 @@
-use Rattle.std.proofs.Common.{◌∙◌, List, length, ap, sym}
-use Rattle.council_game.specs.Votes.{RuleView}
-use Rattle.mwc_sums.proofs.Orders.{counts-alike}
-use Rattle.mwc_sums.proofs.Sharing.{beside-all, beside-parts}
+use Rattle.mwc_sums.proofs.Imports.{◌∙◌, List, length, ap, sym, RuleView}
+use Rattle.mwc_sums.proofs.{Orders.counts-alike, Sharing.beside-all, Sharing.beside-parts}
 use Rattle.mwc_sums.proofs.statute.Statute.+count.Goals as goal
 
 pub returns-then-rules-eq0 : goal.returns-then-rules-eq0

@@ -1,4 +1,4 @@
-use Rattle.std.proofs.Common.{length}
+use Rattle.mwc_sums.proofs.Imports.{length}
 use Rattle.mwc_sums.proofs.statute.Statute.+count.Given as goal
 
 abbrev pub decreases-count : goal.decreases-count

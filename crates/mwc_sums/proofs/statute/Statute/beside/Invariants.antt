@@ -1,7 +1,4 @@
-use Rattle.std.proofs.Common.{◌≡◌, cond, filter, not, take}
-use Rattle.council_game.specs.Rules.{rule_views}
-use Rattle.council_game.specs.Votes.{rule_at}
-use Rattle.mwc_sums.specs.Chambers.{share}
+use Rattle.mwc_sums.proofs.Imports.{◌≡◌, cond, filter, not, take, rule_views, rule_at, share}
 use Rattle.mwc_sums.proofs.statute.Statute.beside.Given as goal
 
 abbrev pub invariant-loop-other : goal.invariant-loop-other

@@ -1,5 +1,4 @@
-use Rattle.std.proofs.Common.{◌≡◌, take}
-use Rattle.council_game.specs.Rules.{rule_views}
+use Rattle.mwc_sums.proofs.Imports.{◌≡◌, take, rule_views}
 use Rattle.mwc_sums.proofs.statute.Statute.game.Given as goal
 
 abbrev pub invariant-loop-rule : goal.invariant-loop-rule

@@ -1,9 +1,4 @@
-use Rattle.std.proofs.Common.{◌≡◌, true, take}
-use Rattle.std.specs.List.{list_all}
-use Rattle.council_game.specs.Votes.{rule_at}
-use Rattle.std.proofs.Common.{◌≡◌, ◌||◌, not, true}
-use Rattle.mwc_sums.specs.Chambers.{chamber_of, share}
-use Rattle.mwc_sums.specs.Heads.{are_of_one_chamber}
+use Rattle.mwc_sums.proofs.Imports.{◌≡◌, true, take, list_all, rule_at, ◌||◌, not, chamber_of, share, are_of_one_chamber}
 use Rattle.mwc_sums.proofs.statute.Statute.is_counted.Given as goal
 
 abbrev pub invariant-loop-other : goal.invariant-loop-other

@@ -1,6 +1,4 @@
-use Rattle.std.proofs.Common.{◌≡◌, cond, filter, not, take}
-use Rattle.council_game.specs.Rules.{rule_views}
-use Rattle.mwc_sums.specs.Statute.{is_counted}
+use Rattle.mwc_sums.proofs.Imports.{◌≡◌, cond, filter, not, take, rule_views, is_counted}
 use Rattle.mwc_sums.proofs.statute.Statute.part.Given as goal
 
 abbrev pub invariant-loop-rule : goal.invariant-loop-rule

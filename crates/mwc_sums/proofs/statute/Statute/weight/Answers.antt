@@ -1,7 +1,5 @@
-use Rattle.std.proofs.Common.{length, ap, arith}
-use Rattle.std.proofs.lemmas.List.{length-map}
+use Rattle.mwc_sums.proofs.Imports.{length, ap, arith, length-map, held_full}
 use Rattle.council_game.specs.Rules.{rule_view}
-use Rattle.council_game.proofs.Shared.RuleLists.{held_full}
 use Rattle.mwc_sums.specs.Inner.Rules.{StatuteView}
 use Rattle.mwc_sums.proofs.statute.Statute.weight.Goals as goal
 

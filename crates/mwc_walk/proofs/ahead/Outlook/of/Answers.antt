@@ -1,4 +1,4 @@
-use Rattle.std.proofs.Common.{rules, arith, []}
+use Rattle.mwc_walk.proofs.Imports.{rules, arith, []}
 use Rattle.mwc_walk.proofs.ahead.Outlook.of.Goals as goal
 
 pub returns : goal.returns

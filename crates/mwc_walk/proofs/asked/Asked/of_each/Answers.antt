@@ -1,8 +1,4 @@
-use Rattle.council_game.specs.Game.{votes_of}
-use Rattle.std.proofs.Common.{get_or, arith, []}
-use Rattle.std.proofs.lemmas.Grind.{common_steps}
-use Rattle.std.proofs.lemmas.Slice.Zip.{AllZip-long}
-use Rattle.mwc_walk.specs.Inner.Lanes.{no_lane}
+use Rattle.mwc_walk.proofs.Imports.{votes_of, get_or, arith, [], common_steps, AllZip-long, no_lane}
 use Rattle.mwc_walk.proofs.Rules.{lane-of}
 use Rattle.mwc_walk.proofs.asked.Asked.of_each.Goals as goal
 

@@ -1,6 +1,6 @@
 use Rattle.mwc_walk.proofs.Steps.{back-up, back-out, back-end, out-fits, is-part}
-use Rattle.mwc_walk.proofs.cursor.Cursor.back.Goals as goal
 use Rattle.mwc_walk.proofs.cursor.Cursor.back.Goals.{then-self-eq1, else-self-eq1}
+use Rattle.mwc_walk.proofs.cursor.Cursor.back.Goals as goal
 
 pub returns-then-self-clause-steps : goal.returns-then-self-clause-steps
 returns-then-self-clause-steps c = back-end c.requires.is c.requires.stale c.if-self.true

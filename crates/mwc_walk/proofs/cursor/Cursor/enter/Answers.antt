@@ -1,9 +1,9 @@
-use Rattle.std.proofs.Common.{◌^◌, ◌≤◌, refl, sym, ◌∙◌, arith, false, true}
-use Rattle.std.proofs.Math.Pow.{pow_mono}
-use Rattle.council_game.specs.Game.{votes_of}
-use Rattle.mwc_walk.proofs.Steps.{enter-dead, enter-spare, enter-in, enter-give, enter-mask, enter-short, reach-is, win-is, in-fits, in-room, is-part}
+use Rattle.mwc_walk.proofs.Imports.{◌^◌, ◌≤◌, refl, sym, ◌∙◌, arith, false, true, pow_mono, votes_of}
+use Rattle.mwc_walk.proofs.Steps.{enter-dead, enter-spare, enter-in, enter-give, enter-mask, enter-short, reach-is, win-is, in-fits}
+use Rattle.mwc_walk.proofs.Steps.{in-room, is-part}
+use Rattle.mwc_walk.proofs.cursor.Cursor.enter.Goals.{then-not-all_reach-via-else-not-all_reach+then-passes_by}
+use Rattle.mwc_walk.proofs.cursor.Cursor.enter.Goals.{then-not-all_reach-via-then-not-all_reach}
 use Rattle.mwc_walk.proofs.cursor.Cursor.enter.Goals as goal
-use Rattle.mwc_walk.proofs.cursor.Cursor.enter.Goals.{then-not-all_reach-via-then-not-all_reach, then-not-all_reach-via-else-not-all_reach+then-passes_by}
 
 pub returns-then-not-all_reach-clause-steps : goal.returns-then-not-all_reach-clause-steps
 returns-then-not-all_reach-clause-steps c = elim c.then-not-all_reach.branch [

@@ -1,5 +1,4 @@
-use Rattle.std.proofs.Common.{rules, arith}
-use Rattle.mwc_walk.proofs.Spared.{excess-is, enough-is}
+use Rattle.mwc_walk.proofs.{Imports.rules, Imports.arith, Spared.excess-is, Spared.enough-is}
 use Rattle.mwc_walk.proofs.cursor.Cursor.excess.Goals as goal
 
 pub returns-clause-are : goal.returns-clause-are

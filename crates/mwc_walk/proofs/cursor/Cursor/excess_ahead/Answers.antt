@@ -1,7 +1,4 @@
-use Rattle.std.proofs.lemmas.Grind.{common_steps}
-use Rattle.std.proofs.Common.{◌<◌, ◌+◌, length, get_or, arith}
-use Rattle.council_game.specs.Game.{votes_of}
-use Rattle.mwc_walk.specs.Inner.Vetoes.{vetoes_at}
+use Rattle.mwc_walk.proofs.Imports.{common_steps, ◌<◌, ◌+◌, length, get_or, arith, votes_of, vetoes_at}
 use Rattle.mwc_walk.proofs.Spared.{least-excess}
 use Rattle.mwc_walk.proofs.cursor.Cursor.excess_ahead.Goals as goal
 

@@ -1,4 +1,4 @@
-use Rattle.std.proofs.Common.{arith}
+use Rattle.mwc_walk.proofs.Imports.{arith}
 use Rattle.mwc_walk.proofs.Spared.{lane-here, last-place, tried-more, tried-all, spared-nothing, first-keeps-all}
 use Rattle.mwc_walk.proofs.cursor.Cursor.has_spared.Goals as goal
 

@@ -1,6 +1,4 @@
-use Rattle.std.proofs.Common.{◌≡◌, ◌<◌, ℕ, length, slice_index}
-use Rattle.council_game.specs.Game.{votes_of}
-use Rattle.mwc_walk.specs.Inner.Places.{IsExcess}
+use Rattle.mwc_walk.proofs.Imports.{◌≡◌, ◌<◌, ℕ, length, slice_index, votes_of, IsExcess}
 use Rattle.mwc_walk.proofs.cursor.Cursor.leads_nowhere.Given as goal
 
 abbrev pub invariant-loop-rule : goal.invariant-loop-rule

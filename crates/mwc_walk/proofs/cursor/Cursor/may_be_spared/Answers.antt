@@ -1,8 +1,6 @@
-use Rattle.std.proofs.Common.{arith}
-use Rattle.mwc_walk.proofs.Steps.{enter-mask}
-use Rattle.mwc_walk.proofs.Spared.{lane-here, tried-first, tried-weightless}
-use Rattle.mwc_walk.proofs.cursor.Cursor.may_be_spared.Goals as goal
 use Rattle.mwc_walk.proofs.cursor.Cursor.may_be_spared.Goals.{then-excess-rule-eq0, else-excess-rule-eq0}
+use Rattle.mwc_walk.proofs.{Imports.arith, Spared.lane-here, Spared.tried-first, Spared.tried-weightless, Steps.enter-mask}
+use Rattle.mwc_walk.proofs.cursor.Cursor.may_be_spared.Goals as goal
 
 pub loop-rule-init : goal.loop-rule-init
 loop-rule-init c = tried-first c.requires c.args.excess.now _ (enter-mask c.requires)

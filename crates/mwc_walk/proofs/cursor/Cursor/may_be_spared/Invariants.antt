@@ -1,5 +1,4 @@
-use Rattle.council_game.specs.Game.{votes_of}
-use Rattle.mwc_walk.specs.Inner.Spared.{Tried}
+use Rattle.mwc_walk.proofs.Imports.{votes_of, Tried}
 use Rattle.mwc_walk.proofs.cursor.Cursor.may_be_spared.Given as goal
 
 abbrev pub invariant-loop-rule : goal.invariant-loop-rule

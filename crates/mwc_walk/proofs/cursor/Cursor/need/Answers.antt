@@ -1,7 +1,6 @@
-use Rattle.std.proofs.Common.{◌<◌, length, arith}
-use Rattle.council_game.specs.Game.{votes_of}
-use Rattle.mwc_walk.proofs.cursor.Cursor.need.Goals as goal
+use Rattle.mwc_walk.proofs.Imports.{◌<◌, length, arith, votes_of}
 use Rattle.mwc_walk.proofs.cursor.Cursor.need.Goals.{then-other-rule, else-other-rule}
+use Rattle.mwc_walk.proofs.cursor.Cursor.need.Goals as goal
 
 pub loop-other-preserved : goal.loop-other-preserved
 loop-other-preserved c =

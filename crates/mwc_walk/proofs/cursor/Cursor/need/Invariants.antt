@@ -1,6 +1,4 @@
-use Rattle.council_game.specs.Game.{votes_of}
-use Rattle.mwc_walk.specs.Inner.Spared.{IsNeed}
-use Rattle.mwc_walk.specs.Inner.Vetoes.{vetoes_at}
+use Rattle.mwc_walk.proofs.Imports.{votes_of, IsNeed, vetoes_at}
 use Rattle.mwc_walk.proofs.cursor.Cursor.need.Given as goal
 
 abbrev pub invariant-loop-other : goal.invariant-loop-other

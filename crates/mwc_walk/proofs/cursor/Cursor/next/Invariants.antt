@@ -1,6 +1,4 @@
-use Rattle.council_game.specs.Game.{votes_of}
-use Rattle.mwc_walk.specs.declared.step.Step.TheVariants.{On}
-use Rattle.mwc_walk.specs.Inner.Cursor.{SomeSteps, steps_left}
+use Rattle.mwc_walk.proofs.Imports.{votes_of, On, SomeSteps, steps_left}
 use Rattle.mwc_walk.proofs.cursor.Cursor.next.Given as goal
 
 abbrev pub invariant-loop-step : goal.invariant-loop-step

@@ -1,5 +1,4 @@
-use Rattle.std.proofs.Common.{rules, arith}
-use Rattle.mwc_walk.proofs.Spared.{short-need}
+use Rattle.mwc_walk.proofs.{Imports.rules, Imports.arith, Spared.short-need}
 use Rattle.mwc_walk.proofs.cursor.Cursor.short_of_each.Goals as goal
 
 pub returns : goal.returns

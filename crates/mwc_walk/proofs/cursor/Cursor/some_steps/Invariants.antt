@@ -1,7 +1,4 @@
-use Rattle.council_game.specs.Game.{votes_of}
-use Rattle.std.proofs.Common.{◌≤◌, ◌+◌}
-use Rattle.mwc_walk.specs.declared.step.Step.TheVariants.{On}
-use Rattle.mwc_walk.specs.Inner.Cursor.{SomeSteps}
+use Rattle.mwc_walk.proofs.Imports.{votes_of, ◌≤◌, ◌+◌, On, SomeSteps}
 use Rattle.mwc_walk.proofs.cursor.Cursor.some_steps.Given as goal
 
 abbrev pub invariant-loop : goal.invariant-loop

@@ -1,6 +1,4 @@
-use Rattle.std.proofs.Common.{arith}
-use Rattle.std.proofs.lemmas.Grind.{common_steps}
-use Rattle.mwc_walk.proofs.Spared.{lane-here}
+use Rattle.mwc_walk.proofs.{Imports.arith, Imports.common_steps, Spared.lane-here}
 use Rattle.mwc_walk.proofs.cursor.Cursor.spares.Goals as goal
 
 pub returns-then-self-rule-clause-none : goal.returns-then-self-rule-clause-none

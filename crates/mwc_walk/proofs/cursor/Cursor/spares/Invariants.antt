@@ -1,6 +1,4 @@
-use Rattle.std.proofs.Common.{◌≤◌, ◌<◌, ℕ, slice_index}
-use Rattle.council_game.specs.Game.{votes_of}
-use Rattle.council_game.specs.Votes.{rule_at}
+use Rattle.mwc_walk.proofs.Imports.{◌≤◌, ◌<◌, ℕ, slice_index, votes_of, rule_at}
 use Rattle.mwc_walk.proofs.cursor.Cursor.spares.Given as goal
 
 abbrev pub invariant-loop-rule : goal.invariant-loop-rule

@@ -1,9 +1,6 @@
-use Rattle.std.proofs.Common.{sym, ◌∙◌}
-use Rattle.std.proofs.lemmas.Bool.{eqb-true}
-use Rattle.mwc_walk.proofs.Steps.{one-is, even-loses}
-use Rattle.mwc_walk.proofs.Spared.{kept-minimal}
+use Rattle.mwc_walk.proofs.{Spared.kept-minimal, cursor.Cursor.spares_one.Goals.then-self-eq1, cursor.Cursor.spares_one.Goals.else-self-eq1}
+use Rattle.mwc_walk.proofs.{Imports.sym, Imports.◌∙◌, Imports.eqb-true, Steps.one-is, Steps.even-loses}
 use Rattle.mwc_walk.proofs.cursor.Cursor.spares_one.Goals as goal
-use Rattle.mwc_walk.proofs.cursor.Cursor.spares_one.Goals.{then-self-eq1, else-self-eq1}
 
 pub returns-then-self-eq0-clause-none : goal.returns-then-self-eq0-clause-none
 returns-then-self-eq0-clause-none c =

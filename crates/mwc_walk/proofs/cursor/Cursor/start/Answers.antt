@@ -1,6 +1,4 @@
-use Rattle.council_game.specs.Game.{votes_of}
-use Rattle.std.proofs.Common.{◌≡◌, arith}
-use Rattle.std.proofs.lemmas.Grind.{common_steps}
+use Rattle.mwc_walk.proofs.Imports.{votes_of, ◌≡◌, arith, common_steps}
 use Rattle.mwc_walk.proofs.Rules.{fits-in}
 use Rattle.mwc_walk.proofs.Steps.{is-part, first-lanes, first-number, fixed-in, fixed-pass, starts}
 use Rattle.mwc_walk.proofs.cursor.Cursor.start.Goals as goal

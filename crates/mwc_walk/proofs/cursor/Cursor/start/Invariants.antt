@@ -1,6 +1,4 @@
-use Rattle.council_game.specs.Game.{votes_of}
-use Rattle.std.proofs.Common.{◌≤◌, ◌/◌, ◌^◌, ◌-◌, length, take}
-use Rattle.mwc_walk.specs.Inner.Places.{LanesAre}
+use Rattle.mwc_walk.proofs.Imports.{votes_of, ◌≤◌, ◌/◌, ◌^◌, ◌-◌, length, take, LanesAre}
 use Rattle.mwc_walk.proofs.cursor.Cursor.start.Given as goal
 
 abbrev pub invariant-loop-place : goal.invariant-loop-place

@@ -1,5 +1,4 @@
-use Rattle.std.proofs.Common.{◌≡◌, arith, length-set}
-use Rattle.std.proofs.lemmas.Grind.{common_steps}
+use Rattle.mwc_walk.proofs.Imports.{◌≡◌, arith, length-set, common_steps}
 use Rattle.mwc_walk.proofs.Covered.{hole-on, hole-filled}
 use Rattle.mwc_walk.proofs.intervals.Intervals.close_up.Goals as goal
 

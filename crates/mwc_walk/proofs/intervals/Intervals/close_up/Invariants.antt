@@ -1,5 +1,4 @@
-use Rattle.std.proofs.Common.{◌≡◌, ℕ, length}
-use Rattle.mwc_walk.specs.Inner.Covers.{CoversBut}
+use Rattle.mwc_walk.proofs.Imports.{◌≡◌, ℕ, length, CoversBut}
 use Rattle.mwc_walk.proofs.intervals.Intervals.close_up.Given as goal
 
 abbrev pub invariant-loop-at : goal.invariant-loop-at

@@ -1,5 +1,4 @@
-use Rattle.std.proofs.Common.{arith}
-use Rattle.mwc_walk.proofs.Covered.{hole-made}
+use Rattle.mwc_walk.proofs.{Covered.hole-made, Imports.arith}
 use Rattle.mwc_walk.proofs.intervals.Intervals.crowd.Goals as goal
 
 pub returns-else-saturating_sub-gap-clause-kept : goal.returns-else-saturating_sub-gap-clause-kept

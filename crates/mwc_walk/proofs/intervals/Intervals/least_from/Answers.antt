@@ -1,7 +1,6 @@
-use Rattle.std.proofs.Common.{refl, arith, below_more}
-use Rattle.std.proofs.lemmas.Bool.{both_ways}
-use Rattle.mwc_walk.proofs.intervals.Intervals.least_from.Goals as goal
+use Rattle.mwc_walk.proofs.Imports.{refl, arith, below_more, both_ways}
 use Rattle.mwc_walk.proofs.intervals.Intervals.least_from.Goals.{then-number-item, else-number-item}
+use Rattle.mwc_walk.proofs.intervals.Intervals.least_from.Goals as goal
 
 pub loop-at-preserved : goal.loop-at-preserved
 loop-at-preserved c =

@@ -1,5 +1,4 @@
-use Rattle.std.proofs.Common.{◌≡◌, ◌<◌, ◌≤◌, ℕ, false}
-use Rattle.mwc_walk.specs.Inner.Covers.{InInterval}
+use Rattle.mwc_walk.proofs.Imports.{◌≡◌, ◌<◌, ◌≤◌, ℕ, false, InInterval}
 use Rattle.mwc_walk.proofs.intervals.Intervals.least_from.Given as goal
 
 abbrev pub invariant-loop-at : goal.invariant-loop-at

@@ -1,8 +1,7 @@
-use Rattle.std.proofs.Common.{◌<◌, ◌+◌, arith, below_more}
+use Rattle.mwc_walk.proofs.Imports.{◌<◌, ◌+◌, arith, below_more, both_ways, eq-eqb, common_steps}
+use Rattle.mwc_walk.proofs.intervals.Intervals.with.Goals.{else-without-self-via-then-without-self+else-self-without, then-with-self}
+use Rattle.mwc_walk.proofs.intervals.Intervals.with.Goals.{else-with-self, else-without-self-via-else-without-self}
 use Rattle.mwc_walk.proofs.intervals.Intervals.with.Goals as goal
-use Rattle.mwc_walk.proofs.intervals.Intervals.with.Goals.{else-without-self-via-then-without-self+else-self-without, then-with-self, else-with-self, else-without-self-via-else-without-self}
-use Rattle.std.proofs.lemmas.Bool.{both_ways, eq-eqb}
-use Rattle.std.proofs.lemmas.Grind.{common_steps}
 
 pub loop-without-preserved-then-self-without : goal.loop-without-preserved-then-self-without
 loop-without-preserved-then-self-without c = record {

@@ -1,5 +1,4 @@
-use Rattle.std.proofs.Common.{◌<◌, ◌≤◌, ◌+◌, ◌-◌, ◌*◌, ◌^◌, ℕ}
-use Rattle.mwc_walk.specs.Inner.Covers.{Covers, InInterval}
+use Rattle.mwc_walk.proofs.Imports.{◌<◌, ◌≤◌, ◌+◌, ◌-◌, ◌*◌, ◌^◌, ℕ, Covers, InInterval}
 use Rattle.mwc_walk.proofs.intervals.Intervals.with.Given as goal
 
 abbrev pub invariant-loop-without : goal.invariant-loop-without

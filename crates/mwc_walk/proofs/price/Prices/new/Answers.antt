@@ -1,8 +1,5 @@
-use Rattle.std.proofs.Common.{◌-◌, ◌+◌, arith}
-use Rattle.std.proofs.lemmas.Grind.{common_steps}
-use Rattle.mwc_walk.proofs.Filled.{fill-before}
-use Rattle.mwc_walk.proofs.Rules.{same_at}
-use Rattle.mwc_walk.proofs.Coming.{weight-past, price-step}
+use Rattle.mwc_walk.proofs.Imports.{◌-◌, ◌+◌, arith, common_steps}
+use Rattle.mwc_walk.proofs.{Coming.weight-past, Coming.price-step, Filled.fill-before, Rules.same_at}
 use Rattle.mwc_walk.proofs.price.Prices.new.Goals as goal
 
 pub loop-place-init : goal.loop-place-init

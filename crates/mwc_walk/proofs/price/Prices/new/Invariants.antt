@@ -1,6 +1,4 @@
-use Rattle.std.proofs.Common.{ℕ, take, drop}
-use Rattle.council_game.specs.Votes.{weight}
-use Rattle.mwc_walk.specs.Inner.Prices.{IsPrice}
+use Rattle.mwc_walk.proofs.Imports.{ℕ, take, drop, weight, IsPrice}
 use Rattle.mwc_walk.proofs.Filled.{FilledFrom}
 use Rattle.mwc_walk.proofs.price.Prices.new.Given as goal
 

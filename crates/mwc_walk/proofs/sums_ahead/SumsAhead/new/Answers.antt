@@ -1,8 +1,6 @@
-use Rattle.std.proofs.Common.{◌-◌, ◌+◌, [], refl, arith}
+use Rattle.mwc_walk.proofs.Imports.{◌-◌, ◌+◌, [], refl, arith, Intervals}
 use Rattle.std.proofs.lemmas.List.{get_or-replicate}
-use Rattle.mwc_walk.specs.declared.intervals.Intervals.{Intervals}
-use Rattle.mwc_walk.proofs.Filled.{fill-before}
-use Rattle.mwc_walk.proofs.Coming.{weight-past, sums-step}
+use Rattle.mwc_walk.proofs.{Coming.weight-past, Coming.sums-step, Filled.fill-before}
 use Rattle.mwc_walk.proofs.sums_ahead.SumsAhead.new.Goals as goal
 
 abbrev none : Intervals

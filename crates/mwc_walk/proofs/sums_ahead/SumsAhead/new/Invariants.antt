@@ -1,6 +1,4 @@
-use Rattle.std.proofs.Common.{◌≤◌, ℕ, [], take, drop}
-use Rattle.council_game.specs.Votes.{weight}
-use Rattle.mwc_walk.specs.Inner.Covers.{Covers}
+use Rattle.mwc_walk.proofs.Imports.{◌≤◌, ℕ, [], take, drop, weight, Covers}
 use Rattle.mwc_walk.proofs.Filled.{FilledFrom}
 use Rattle.mwc_walk.proofs.sums_ahead.SumsAhead.new.Given as goal
 

@@ -1,7 +1,5 @@
-use Rattle.std.proofs.Common.{rules}
-use Rattle.mwc_walk.proofs.Coming.{AreParted, vetoed-fit, split-is}
+use Rattle.mwc_walk.proofs.{Coming.AreParted, Coming.vetoed-fit, Coming.split-is, Imports.rules, vetoes.Vetoes.of.Goals.After-filled-free}
 use Rattle.mwc_walk.proofs.vetoes.Vetoes.of.Goals as goal
-use Rattle.mwc_walk.proofs.vetoes.Vetoes.of.Goals.{After-filled-free}
 
 parts : (c : After-filled-free)
     → AreParted c.args.lanes.now c.args.rule c.members-members.result c.filled-vetoed.result c.filled-free.result

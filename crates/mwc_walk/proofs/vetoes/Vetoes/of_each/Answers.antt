@@ -1,6 +1,4 @@
-use Rattle.std.proofs.Common.{rules, arith, []}
-use Rattle.std.proofs.lemmas.Slice.Zip.{AllZip-long}
-use Rattle.council_game.specs.Game.{votes_of}
+use Rattle.mwc_walk.proofs.Imports.{rules, arith, [], AllZip-long, votes_of}
 use Rattle.mwc_walk.proofs.vetoes.Vetoes.of_each.Goals as goal
 
 pub returns : goal.returns

@@ -1,6 +1,5 @@
-use Rattle.mwc_walk.proofs.Remains.{given-whole, follows-of}
+use Rattle.mwc_walk.proofs.{Remains.given-whole, Remains.follows-of, walk.Walk.next.Goals.in-Give, walk.Walk.next.Goals.in-End}
 use Rattle.mwc_walk.proofs.walk.Walk.next.Goals as goal
-use Rattle.mwc_walk.proofs.walk.Walk.next.Goals.{in-Give, in-End}
 
 pub returns-clause-whole : goal.returns-clause-whole
 returns-clause-whole c = given-whole (follows-of c.find.result c.find.ensures.steps).is

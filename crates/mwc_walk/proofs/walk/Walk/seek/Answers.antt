@@ -1,4 +1,4 @@
-use Rattle.council_game.specs.Game.{votes_of}
+use Rattle.mwc_walk.proofs.Imports.{votes_of}
 use Rattle.mwc_walk.proofs.Remains.{seeks-are, seek-falls, given-whole, follows-of}
 use Rattle.mwc_walk.proofs.walk.Walk.seek.Goals as goal
 

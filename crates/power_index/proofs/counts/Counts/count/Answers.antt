@@ -1,5 +1,4 @@
-use Rattle.std.proofs.Common.{arith, ◌≡◌, ◌∙◌}
-use Rattle.council_game.specs.Votes.{size}
+use Rattle.power_index.proofs.Imports.{arith, ◌≡◌, ◌∙◌, size}
 use Rattle.power_index.proofs.Shared.Sound.{kept, more-hold, more-some, more-total}
 use Rattle.power_index.proofs.counts.Counts.count.Goals as goal
 

@@ -1,8 +1,5 @@
-use Rattle.std.proofs.lemmas.Grind.{common_steps}
-use Rattle.std.proofs.Common.{arith, ◌+◌, ◌≡◌, ◌∙◌, ◌++◌, [], ◌∷◌, List, ℕ, sym, ap, subst, take, get_or, append_assoc}
-use Rattle.std.proofs.lemmas.List.{take_all, get_or_default}
-use Rattle.std.proofs.lemmas.List.{take_more}
-use Rattle.power_index.specs.Tables.{AreTallies}
+use Rattle.power_index.proofs.Imports.{common_steps, arith, ◌+◌, ◌≡◌, ◌∙◌, ◌++◌, [], ◌∷◌, List, ℕ, sym, ap, subst, take, get_or, AreTallies}
+use Rattle.std.proofs.{Common.append_assoc, Common.take_all, lemmas.List.get_or_default, lemmas.List.take_more}
 use Rattle.power_index.proofs.counts.Counts.count_row.Goals as goal
 
 pub loop-coalition-preserved : goal.loop-coalition-preserved

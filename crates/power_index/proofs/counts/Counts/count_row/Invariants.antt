@@ -1,6 +1,4 @@
-use Rattle.std.proofs.Common.{◌≡◌, ℕ, ◌+◌, ◌++◌, List, take}
-use Rattle.council_game.specs.Game.{GameView}
-use Rattle.power_index.specs.Tables.{AreOfOneGame, AreTallies, table_total}
+use Rattle.power_index.proofs.Imports.{◌≡◌, ℕ, ◌+◌, ◌++◌, List, take, GameView, AreOfOneGame, AreTallies, table_total}
 use Rattle.power_index.proofs.counts.Counts.count_row.Given as goal
 
 abbrev pub invariant-loop-coalition : goal.invariant-loop-coalition

@@ -1,6 +1,4 @@
-use Rattle.std.proofs.Common.{◌≡◌, ◌≤◌, ◌*◌, ◌^◌, sum_by}
-use Rattle.std.specs.List.{range_with_len}
-use Rattle.power_index.specs.Tables.{table_of_member}
+use Rattle.power_index.proofs.Imports.{◌≡◌, ◌≤◌, ◌*◌, ◌^◌, sum_by, range_with_len, table_of_member}
 use Rattle.power_index.proofs.counts.Counts.memberships.Given as goal
 
 abbrev pub invariant-loop-i : goal.invariant-loop-i

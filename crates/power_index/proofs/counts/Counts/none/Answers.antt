@@ -1,5 +1,4 @@
-use Rattle.std.proofs.Common.{arith, [], replicate}
-use Rattle.power_index.specs.Tables.{AreTallies}
+use Rattle.power_index.proofs.Imports.{arith, [], replicate, AreTallies}
 use Rattle.power_index.proofs.Shared.Sound.{kept, none-hold, none-some, tallies-are_counts}
 use Rattle.power_index.proofs.counts.Counts.none.Goals as goal
 

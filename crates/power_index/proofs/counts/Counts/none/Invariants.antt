@@ -1,4 +1,4 @@
-use Rattle.std.proofs.Common.{◌≡◌, ℕ, ◌<◌, get_or, length}
+use Rattle.power_index.proofs.Imports.{◌≡◌, ℕ, ◌<◌, get_or, length}
 use Rattle.power_index.proofs.counts.Counts.none.Given as goal
 
 abbrev pub invariant-loop-i : goal.invariant-loop-i

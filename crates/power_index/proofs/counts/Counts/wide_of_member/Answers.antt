@@ -1,4 +1,4 @@
-use Rattle.std.proofs.Common.{arith}
+use Rattle.power_index.proofs.Imports.{arith}
 use Rattle.power_index.proofs.counts.Counts.wide_of_member.Goals as goal
 
 pub total-requires-clause-room : goal.total-requires-clause-room

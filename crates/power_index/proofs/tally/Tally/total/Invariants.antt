@@ -1,5 +1,4 @@
-use Rattle.std.proofs.Common.{◌≡◌, get_or, sum_by}
-use Rattle.std.specs.List.{range_with_len}
+use Rattle.power_index.proofs.Imports.{◌≡◌, get_or, sum_by, range_with_len}
 use Rattle.power_index.proofs.tally.Tally.total.Given as goal
 
 abbrev pub invariant-loop-size : goal.invariant-loop-size

@@ -1,6 +1,4 @@
-use Rattle.std.proofs.Common.{arith}
-use Rattle.weight_sums.specs.Inner.Sets.{nobody}
-use Rattle.weight_sums.proofs.FittingSets.{all-entered}
+use Rattle.weight_sums.proofs.{FittingSets.all-entered, Imports.arith, Imports.nobody}
 use Rattle.weight_sums.proofs.fitting.Fitting.let_in.Goals as goal
 
 pub returns-after-loop-self-clause-all : goal.returns-after-loop-self-clause-all

@@ -1,4 +1,4 @@
-use Rattle.weight_sums.specs.Inner.Fitting.{AreEntered, Meet}
+use Rattle.weight_sums.proofs.Imports.{AreEntered, Meet}
 use Rattle.weight_sums.proofs.fitting.Fitting.let_in.Given as goal
 
 abbrev pub invariant-loop-self : goal.invariant-loop-self

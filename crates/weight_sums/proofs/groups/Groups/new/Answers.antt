@@ -1,8 +1,6 @@
-use Rattle.std.proofs.Common.{arith}
-use Rattle.weight_sums.specs.Inner.Sets.{nobody}
+use Rattle.weight_sums.proofs.{Imports.arith, Imports.nobody, groups.Groups.new.Goals.then-is_any, groups.Groups.new.Goals.else-is_any}
 use Rattle.weight_sums.proofs.GroupSums.{paired-rows, paired-more, paired-further, paired-all}
 use Rattle.weight_sums.proofs.groups.Groups.new.Goals as goal
-use Rattle.weight_sums.proofs.groups.Groups.new.Goals.{then-is_any, else-is_any}
 
 pub add-requires-clause-room : goal.add-requires-clause-room
 add-requires-clause-room c k s small =

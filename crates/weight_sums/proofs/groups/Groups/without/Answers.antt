@@ -1,6 +1,4 @@
-use Rattle.weight_sums.specs.Inner.Groups.{low_of, high_of}
-use Rattle.weight_sums.specs.Inner.Sets.{met}
-use Rattle.weight_sums.proofs.GroupSums.{without-low, without-high}
+use Rattle.weight_sums.proofs.{GroupSums.without-low, GroupSums.without-high, Imports.low_of, Imports.high_of, Imports.met}
 use Rattle.weight_sums.proofs.groups.Groups.without.Goals as goal
 
 pub returns-then-place-digits : goal.returns-then-place-digits

@@ -1,9 +1,7 @@
-use Rattle.std.proofs.Common.{◌≤◌, ℕ, [], ◌∷◌, get_or}
-use Rattle.weight_sums.specs.Endings.{left_out}
-use Rattle.weight_sums.specs.Inner.Sets.{nobody}
+use Rattle.weight_sums.proofs.Imports.{◌≤◌, ℕ, [], ◌∷◌, get_or, left_out, nobody}
 use Rattle.weight_sums.proofs.HalfSums.{AreMet, all-met, enough-won, left-is}
-use Rattle.weight_sums.proofs.halves.Halves.endings_without.Goals as goal
 use Rattle.weight_sums.proofs.halves.Halves.endings_without.Goals.{After-without-own}
+use Rattle.weight_sums.proofs.halves.Halves.endings_without.Goals as goal
 
 met-at : (c : After-without-own) (s : ℕ) → s ≤ 40
     → AreMet (left_out c.args.place c.args.weights.now) c.args.self.now.quota s (get_or c.without-won.result s 0)

@@ -1,6 +1,4 @@
-use Rattle.std.proofs.Common.{arith}
-use Rattle.std.proofs.lemmas.Grind.{common_steps}
-use Rattle.weight_sums.proofs.SetLists.{copied, half-of}
+use Rattle.weight_sums.proofs.{Imports.arith, Imports.common_steps, SetLists.copied, SetLists.half-of}
 use Rattle.weight_sums.proofs.halves.Halves.of_lists.Goals as goal
 
 pub new-requires-clause-first : goal.new-requires-clause-first

@@ -1,5 +1,4 @@
-use Rattle.std.proofs.Common.{refl, arith}
-use Rattle.weight_sums.proofs.Passing.{prefixes-room, going-more, going-all}
+use Rattle.weight_sums.proofs.{Imports.refl, Imports.arith, Passing.prefixes-room, Passing.going-more, Passing.going-all}
 use Rattle.weight_sums.proofs.rows.Rows.finish.Goals as goal
 
 pub go_on-requires-clause-room : goal.go_on-requires-clause-room

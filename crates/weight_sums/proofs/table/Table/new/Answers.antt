@@ -1,6 +1,4 @@
-use Rattle.std.proofs.Common.{arith}
-use Rattle.weight_sums.proofs.Taking.{get_or-zeros}
-use Rattle.weight_sums.proofs.TableSums.{zeros-more}
+use Rattle.weight_sums.proofs.{Imports.arith, TableSums.zeros-more, Taking.get_or-zeros}
 use Rattle.weight_sums.proofs.table.Table.new.Goals as goal
 
 pub loop-rows-preserved : goal.loop-rows-preserved

@@ -1,4 +1,4 @@
-use Rattle.std.proofs.Common.{◌≡◌, ℕ, ◌-◌, ◌≤◌, [], get_or, length}
+use Rattle.weight_sums.proofs.Imports.{◌≡◌, ℕ, ◌-◌, ◌≤◌, [], get_or, length}
 use Rattle.weight_sums.proofs.table.Table.new.Given as goal
 
 abbrev pub invariant-loop-rows : goal.invariant-loop-rows

@@ -1,11 +1,8 @@
-use Rattle.std.proofs.Common.{◌≡◌, ◌∙◌, ◌+◌, ◌<◌, ◌≤◌, ℕ, [], List, get_or, length, ap, sym, arith}
-use Rattle.std.proofs.lemmas.Bool.Decides.{nat_tests}
-use Rattle.std.proofs.lemmas.List.{get_or_default}
-use Rattle.std.proofs.lemmas.Grind.{common_steps}
-use Rattle.weight_sums.proofs.Taking.{get_or-zeros}
-use Rattle.weight_sums.proofs.TableSums.{added-none, added-further, added-all}
-use Rattle.weight_sums.proofs.table.Table.without.Goals as goal
+use Rattle.weight_sums.proofs.Imports.{◌≡◌, ◌∙◌, ◌+◌, ◌<◌, ◌≤◌, ℕ, [], List, get_or, length, ap, sym, arith, nat_tests, get_or_default}
+use Rattle.weight_sums.proofs.Imports.{common_steps}
 use Rattle.weight_sums.proofs.table.Table.without.Goals.{then-key-place-ne1, else-key-place-ne1}
+use Rattle.weight_sums.proofs.{TableSums.added-none, TableSums.added-further, TableSums.added-all, Taking.get_or-zeros}
+use Rattle.weight_sums.proofs.table.Table.without.Goals as goal
 
 -- a row, and no default
 row-of : (rows : List (List ℕ)) (k s : ℕ) (d row : List ℕ) → k < length rows → row ≡ get_or rows k d

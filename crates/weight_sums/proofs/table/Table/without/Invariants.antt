@@ -1,6 +1,4 @@
-use Rattle.std.proofs.Common.{◌≡◌, ℕ, ◌*◌, ◌≤◌, ◌^◌, List, get_or}
-use Rattle.weight_sums.specs.declared.sets.Set.{Set}
-use Rattle.weight_sums.specs.Inner.Tables.{AreOfKeys}
+use Rattle.weight_sums.proofs.Imports.{◌≡◌, ℕ, ◌*◌, ◌≤◌, ◌^◌, List, get_or, Set, AreOfKeys}
 use Rattle.weight_sums.proofs.TableSums.{added_to}
 use Rattle.weight_sums.proofs.table.Table.without.Given as goal
 

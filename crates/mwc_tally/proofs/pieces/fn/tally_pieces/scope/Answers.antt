@@ -1,6 +1,5 @@
-use Rattle.std.proofs.Common.{◌≡◌, ℕ, ◌+◌, ◌-◌, ◌*◌, List, ap, arith, subst}
+use Rattle.std.proofs.Common.{◌≡◌, ℕ, ◌+◌, ◌-◌, ◌*◌, List, ap, arith, subst, take_all}
 use Rattle.mwc_tally.specs.Pieces.{joined}
-use Rattle.std.proofs.lemmas.List.{take_all}
 use Rattle.power_index.specs.Tables.{AreTallies}
 use Rattle.mwc_tally.proofs.pieces.fn.tally_pieces.scope.Goals as goal
 
