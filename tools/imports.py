@@ -48,7 +48,7 @@ def common_names():
 
 def opened(text):
     """The definitions that proofs of a file open: they come from where they are."""
-    return {name for line in re.findall(r"(?m)^\s*unfolding (.*)$", text) for name in line.split()}
+    return {name for line in re.findall(r"(?m)^\s*unfolding (.*)$|\bunfold (.*?) in\b", text) for name in " ".join(line).split()}
 
 
 def head_of(modules):

@@ -1,8 +1,8 @@
 -- A line at its end, one place more, and cut at a place.
 use Rattle.council_report.proofs.Imports.{length-append, Global, vec_capacity, flat_map, cases_lt, length-set, nat_tests, common_steps, has}
-use Rattle.council_report.proofs.Imports.{weight, rule_at, GameView, IsGame, votes_of, few-members, with_tab, names_of, places_before}
-use Rattle.council_report.proofs.Imports.{◌≡◌, ℕ, ◌+◌, ◌^◌, ◌<◌, ◌≤◌, ◌++◌, true, List, [], ◌∷◌, length, take, get_or, Vec, arith}
-use Rattle.council_report.proofs.Imports.{IsSeat, AreSeats, IsLine, SameBefore, fields_of}
+use Rattle.council_report.proofs.Imports.{weight, rule_at, GameView, IsGame, votes_of, few-members, with_tab, names_of, places_before, ◌≡◌}
+use Rattle.council_report.proofs.Imports.{ℕ, ◌+◌, ◌^◌, ◌<◌, ◌≤◌, ◌++◌, true, List, [], ◌∷◌, length, take, get_or, Vec, arith, IsSeat}
+use Rattle.council_report.proofs.Imports.{AreSeats, IsLine, SameBefore, fields_of}
 use Rattle.std.proofs.{Common.set, Common.get_or-set_other, Common.get_or-set_same, Math.Seq.take-append_seam}
 use Rattle.council_report.specs.{Inner.SharedLine.IsSubtotal, Inner.SharedLine.IsWholeLine, declared.shared_line.SharedLine.SharedLine}
 use Rattle.council_report.specs.declared.{seat.Seat.Seat, subtotal.Subtotal.Subtotal}

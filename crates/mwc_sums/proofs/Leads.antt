@@ -1,9 +1,9 @@
 -- The coalitions that members lead to, the heaviest first, and how many they are.
 use Rattle.mwc_sums.proofs.Completing.{last-in, last-behind, IsLeast, Falls, double-pow, first-in, first-out, last, none-or-some, rest-in}
 use Rattle.mwc_sums.proofs.Completing.{rest-out, size-left, size-with, weight-left, weight-with}
-use Rattle.mwc_sums.proofs.Imports.{false, cond, leb, ltb, List, [], ◌∷◌, ◌++◌, map, filter, length, get_or, ap, refl, arith, inl, inr}
-use Rattle.mwc_sums.proofs.Imports.{◌≡◌, ◌∙◌, ◌↔◌, ◌⊎◌, ℕ, zero, suc, ◌+◌, ◌-◌, ◌*◌, ◌^◌, ◌<◌, ◌≤◌, ◌==◌, ◌&&◌, ◌||◌, not, Bool, true}
-use Rattle.mwc_sums.proofs.Imports.{cases_lt, le-ltb, lt-ltb, nat_tests, completing, has, size, weight, down}
+use Rattle.mwc_sums.proofs.Imports.{false, cond, leb, ltb, List, [], ◌∷◌, ◌++◌, map, filter, length, get_or, ap, refl, arith, inl, inr, ◌≡◌}
+use Rattle.mwc_sums.proofs.Imports.{◌∙◌, ◌↔◌, ◌⊎◌, ℕ, zero, suc, ◌+◌, ◌-◌, ◌*◌, ◌^◌, ◌<◌, ◌≤◌, ◌==◌, ◌&&◌, ◌||◌, not, Bool, true, cases_lt}
+use Rattle.mwc_sums.proofs.Imports.{le-ltb, lt-ltb, nat_tests, completing, has, size, weight, down}
 use Rattle.std.proofs.lemmas.Bool.{cond-false, cond-true}
 use Rattle.council_game.proofs.Shared.WeightByDigits.{weight-nil}
 use Rattle.weight_sums.specs.Endings.{choose, one_of_size, fill, endings, left_out}

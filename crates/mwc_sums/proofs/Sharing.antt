@@ -1,9 +1,9 @@
 -- The rules that share a member with one, and the others.
 use Rattle.mwc_sums.proofs.Imports.{◌≡◌, ◌≢◌, ◌∙◌, ◌&&◌, ◌||◌, not, ◌⊎◌, ℕ, zero, suc, ◌+◌, ◌<◌, ◌≤◌, Bool, true, false, ltb, List, [], ◌∷◌}
+use Rattle.mwc_sums.proofs.Imports.{HasNoWeight, AreChambersOf, are_of_one_chamber, is_counted, statute, IsFair, AreRulesOf, length, get_or}
 use Rattle.mwc_sums.proofs.Imports.{true_from_ne_false, and-true, length-filter_both, AllPass-from_list_all, list_all-from_AllPass}
 use Rattle.mwc_sums.proofs.Imports.{All-filter, All-from_get_or, RuleView, rule_at, GameView, nat_tests, met, share, chamber_of}
-use Rattle.mwc_sums.proofs.Imports.{HasNoWeight, AreChambersOf, are_of_one_chamber, is_counted, statute, IsFair, AreRulesOf}
-use Rattle.mwc_sums.proofs.Imports.{length, get_or, filter, take, sym, ap, refl, arith, inl, inr, All, ltb-true, both_ways}
+use Rattle.mwc_sums.proofs.Imports.{filter, take, sym, ap, refl, arith, inl, inr, All, ltb-true, both_ways}
 use Rattle.std.proofs.lemmas.List.{nil_from_length, Elements.All-take}
 use Rattle.mwc_sums.specs.{Inner.Rules.AreOfChambers, Inner.Rules.beside_of, Inner.Rules.part_of, Statute.counted, Statute.left}
 use Rattle.mwc_sums.proofs.{Filters.filter-both, Filters.filter-within, VetoRules.good-met, VetoRules.good-some, Vetoing.alike-sum}

@@ -3,7 +3,7 @@ pub use Rattle.coalitions.proofs.Shared.Digits.{lowest-place}
 pub use Rattle.council_game.proofs.Shared.{Meanings.needs-each-member, Weights.weight-le, Weights.weight-without, Weights.weight-zero}
 pub use Rattle.council_game.proofs.Shared.Listing.{listing-is}
 pub use Rattle.council_game.specs.Game.{votes_of}
-pub use Rattle.council_game.specs.Votes.{IsRanked, IsRule, IsVotes, RuleView, Votes, minimal, rule_at, weight}
+pub use Rattle.council_game.specs.Votes.{IsRanked, IsRule, IsVotes, RuleView, Votes, rule_at, weight}
 pub use Rattle.mwc_walk.specs.declared.{cursor.Cursor.Cursor, step.Step.TheVariants.End, step.Step.TheVariants.Give, step.Step.TheVariants.On}
 pub use Rattle.mwc_walk.specs.{Inner.Covers.Covers, Inner.Covers.CoversBut, Inner.Covers.InInterval, declared.intervals.Intervals.Intervals}
 pub use Rattle.mwc_walk.specs.{Inner.Spared.IsNeed, Inner.Spared.Tried, Inner.Vetoes.IsSplit, Inner.Vetoes.vetoes_at, declared.lane.Lane.Lane}
@@ -22,6 +22,6 @@ pub use Rattle.std.proofs.lemmas.List.{drop_all, get_or_default, length-map, Edi
 pub use Rattle.std.proofs.lemmas.{Bool.Decides.nat_tests, Grind.common_steps, Nat.mul-le, Nat.Bits.bit_at_cat_low, Slice.Zip.AllZip-long}
 pub use Rattle.std.specs.{Int.trailing_zeros, List.AllByRecursion, List.list_all}
 unfoldable pub use Rattle.council_game.specs.Shared.Below.{minimal_below}
-unfoldable pub use Rattle.council_game.specs.Votes.{down, has, minimal_coalitions, wins, without}
+unfoldable pub use Rattle.council_game.specs.Votes.{down, has, minimal, minimal_coalitions, wins, without}
 unfoldable pub use Rattle.mwc_walk.specs.Inner.Places.{in_slice, reaches, slice_below, wins_at}
 unfoldable pub use Rattle.mwc_walk.specs.Slices.{slice}

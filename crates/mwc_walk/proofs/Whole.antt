@@ -1,7 +1,6 @@
 -- Lists that a walk fills, and the one slice at no bits, which is the list of all coalitions.
-use Rattle.mwc_walk.proofs.Imports.{arith, common_steps, take_all, nat_tests, IsVotes, Votes, minimal_coalitions, votes_of, listing-is}
-use Rattle.mwc_walk.proofs.Imports.{◌≡◌, ◌+◌, ◌<◌, ◌≤◌, ◌++◌, ◌∷◌, [], ℕ, List, length, take, sym, ap, ◌∙◌, append-nil, length-append}
-use Rattle.mwc_walk.proofs.Imports.{slice}
+use Rattle.mwc_walk.proofs.Imports.{arith, common_steps, take_all, nat_tests, IsVotes, Votes, minimal_coalitions, votes_of, listing-is, ◌≡◌}
+use Rattle.mwc_walk.proofs.Imports.{◌+◌, ◌<◌, ◌≤◌, ◌++◌, ◌∷◌, [], ℕ, List, length, take, sym, ap, ◌∙◌, append-nil, length-append, slice}
 use Rattle.std.proofs.Common.{append_assoc, take_at}
 use Rattle.council_game.specs.Game.{GameView}
 use Rattle.mwc_walk.specs.Listed.{ListsAll}

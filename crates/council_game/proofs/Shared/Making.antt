@@ -7,9 +7,9 @@ use Rattle.council_game.proofs.Imports.{rule_views, GameView, IsGame, made_game,
 use Rattle.std.proofs.Common.{String, Global, string_bytes, option_map, ltb-false}
 use Rattle.std.proofs.lemmas.List.Elements.{All-map}
 use Rattle.council_game.proofs.{Order.ranking, Shared.RuleLists.held_full, Shared.WinningByPlaces.held-rule}
+use Rattle.council_game.proofs.Shared.Rankings.{IsRanking, ranking-member_at, ranking-below, ranking-is, ranking-length, rank-of, places-at}
 use Rattle.council_game.proofs.Shared.Rankings.{rank_places-at, ranking-falls, ranking-weights_at, length-rank_places, place-found}
-use Rattle.council_game.proofs.Shared.Rankings.{IsRanking, ranking-member_at, ranking-below, ranking-is, ranking-length, rank-of}
-use Rattle.council_game.proofs.Shared.Rankings.{places-at, places-below}
+use Rattle.council_game.proofs.Shared.Rankings.{places-below}
 use Rattle.council_game.proofs.Shared.Games.{passed, votes-are, light-weights, light-sum}
 
 pub order-below : (ws os : List ℕ) → os ≡ members_by_rank (rank_places ws) → All (λ i. i < length ws) os

@@ -1,8 +1,8 @@
 -- No proper subset of a minimal coalition wins.
+use Rattle.council_game.proofs.Imports.{arith, inl, inr, AllByRecursion, list_all, bit_at-lt, and_from, cases_Bool, not-false, eq-eqb, wins}
 use Rattle.council_game.proofs.Imports.{cases_eq, false_from_ne_true, both_ways, nat_tests, RuleView, Votes, IsRule, IsVotes, has, without}
 use Rattle.council_game.proofs.Imports.{not, zero, suc, sym, ◌≡◌, ℕ, ◌-◌, ◌/◌, ◌%◌, ◌^◌, ◌<◌, ◌≤◌, true, List, [], ◌∷◌, refl, ap, ◌∙◌}
-use Rattle.council_game.proofs.Imports.{arith, inl, inr, AllByRecursion, list_all, bit_at-lt, and_from, cases_Bool, not-false, eq-eqb}
-use Rattle.council_game.proofs.Imports.{wins, minimal, places_of, digit-kept, has-none}
+use Rattle.council_game.proofs.Imports.{minimal, places_of, digit-kept, has-none}
 use Rattle.std.proofs.lemmas.Nat.Bits.{same_from_bits_below}
 use Rattle.council_game.specs.Laws.{ProperSubsetsLose}
 use Rattle.coalitions.proofs.Shared.Digits.{has-kept, without-less}

@@ -1,8 +1,8 @@
 -- Each index adds up to 1 over the members.
 use Rattle.power_index.proofs.Imports.{◌≡◌, ◌∙◌, ℕ, ◌+◌, ◌*◌, ◌/◌, ◌<◌, ◌≤◌, List, [], ◌∷◌, suc, length, map, cond, ap, refl, arith, filter}
-use Rattle.power_index.proofs.Imports.{AreNonemptyCoalitions, votes-are, members, contains, size_of, count_of_member, unit_sum}
-use Rattle.power_index.proofs.Imports.{sum_by, sum_by-cons, fold-map, mul-pos, eq_of_mul-eq-mul_right, GameView, IsGame}
-use Rattle.power_index.proofs.Imports.{deegan_packel, public_good, sizes_of_member, denominator}
+use Rattle.power_index.proofs.Imports.{sum_by-cons, fold-map, mul-pos, eq_of_mul-eq-mul_right, GameView, IsGame, deegan_packel, public_good}
+use Rattle.power_index.proofs.Imports.{AreNonemptyCoalitions, votes-are, members, contains, size_of, count_of_member, unit_sum, sum_by}
+use Rattle.power_index.proofs.Imports.{sizes_of_member, denominator}
 use Rattle.power_index.specs.Fractions.{pair_sum, AddUpToOne}
 use Rattle.power_index.proofs.Shared.Sums.{exchange, sum-filter, sum-times}
 use Rattle.power_index.proofs.Shared.Members.{few-members, members-of, memberships, sizes-some, sizes-within, size-pos, size-le}
