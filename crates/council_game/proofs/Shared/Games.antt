@@ -1,5 +1,5 @@
 -- The votes of a game.
-use Rattle.council_game.proofs.Imports.{rank_places, rule_by_rank, members_by_rank, weights_at, GameView, IsGame, made_game, first_weights}
+use Rattle.council_game.proofs.Imports.{rank_places, rule_by_rank, GameView, IsGame, made_game, first_weights}
 use Rattle.council_game.proofs.Imports.{◌≡◌, ℕ, suc, ◌*◌, ◌<◌, ◌≤◌, Bool, false, not, ◌||◌, List, [], ◌∷◌, length, get_or, map, sum, refl}
 use Rattle.council_game.proofs.Imports.{position, position_or_len, length-range_with_len, length-map, get_or_default, recursion_from_All}
 use Rattle.council_game.proofs.Imports.{fails_before_first, nat_tests, cases_lt, or_parts, cond-true, RuleView, IsRule, IsVotes, places}
@@ -10,8 +10,8 @@ use Rattle.std.specs.Option.{option_map_or}
 use Rattle.std.proofs.lemmas.List.{get_or_past, Sums.sum_by-le}
 use Rattle.council_game.specs.declared.fault.GameFault.TheVariants.{Title, Members, Name, SameName, Weight, QuotaRange}
 use Rattle.council_game.specs.{Fault.◌>>=◌, Fault.refuse, Fault.refuse_at, Game.is_title, Game.is_repeat, Game.is_heavy, Votes.IsRanked}
-use Rattle.council_game.proofs.Shared.Rankings.{ranking-sum, ranking-falls, length-weights_by_rank, length-rank_places, places-at}
-use Rattle.council_game.proofs.Order.{ranking}
+use Rattle.council_game.proofs.Shared.Rankings.{ranking-sum, ranked-falls, length-weights_by_rank, length-rank_places, places-at}
+use Rattle.council_game.proofs.Shared.Rankings.{weights-at}
 
 -- ---- what a game that was made has passed
 checks-passed : (title count : Bool) (name repeat weight : Option ℕ) (quota : Bool) (made g : GameView)
@@ -106,9 +106,7 @@ light-sum n ws len few light =
 pub rule-votes : (n : ℕ) (first : List ℕ) (r : RuleView) → n ≤ 40 → length first ≡ n → length r.weights ≡ n
     → ((i : ℕ) → i < n → get_or r.weights i 0 ≤ 1000000000000) → has_bad_quota r ≡ false → IsRule n (rule_by_rank (rank_places first) r)
 rule-votes n first r few len len2 light quota =
-    let found = ranking first in
-    let same : sum (weights_at r.weights (members_by_rank (rank_places first))) ≡ sum r.weights =
-    ranking-sum first found.0 r.weights found.1 (omega arith) in
+    let same = ranking-sum first r.weights (omega arith) in
     let bound = light-sum n r.weights len2 few light in grind (arith, length-weights_by_rank, length-rank_places, nat_tests)
 
 rules-votes : (n : ℕ) (first : List ℕ) (rs : List RuleView) → n ≤ 40 → length first ≡ n → AllByRecursion (λ r. length r.weights ≡ n) rs
@@ -121,9 +119,9 @@ rules-votes n first (r ∷ rs) few len full light quotas =
 rules-ranked : (rs : List RuleView) → IsRanked (map (rule_by_rank (rank_places (first_weights rs))) rs)
 rules-ranked [] = tt
 rules-ranked (r ∷ rs) = λ a b le lt.
-    let found = ranking r.weights in
     let len = length-weights_by_rank (rank_places r.weights) r.weights ∙ length-rank_places r.weights in
-    ranking-falls r.weights found.0 a b found.1 le (omega arith)
+    let inside : b < length r.weights = omega (arith, len, lt) in
+    omega (arith, ranked-falls r.weights a b le inside, weights-at r.weights a (omega (arith, le, inside)), weights-at r.weights b inside)
 
 pub first-full : (n : ℕ) (rs : List RuleView) → 0 < length rs → AllByRecursion (λ r. length r.weights ≡ n) rs
     → length (first_weights rs) ≡ n

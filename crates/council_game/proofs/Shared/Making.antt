@@ -1,23 +1,14 @@
 -- The tables of a game that is made.
-use Rattle.council_game.proofs.Imports.{recursion_from_All, All-permutation, or_parts, common_steps, Rule, RuleView, IsVotes, votes, places}
+use Rattle.council_game.proofs.Imports.{recursion_from_All, or_parts, common_steps, Rule, RuleView, IsVotes, votes}
 use Rattle.council_game.proofs.Imports.{nat_tests, ◌≡◌, ℕ, ◌-◌, ◌^◌, ◌<◌, ◌≤◌, min, List, [], ◌∷◌, length, get_or, map, sum, refl, sym, ap}
-use Rattle.council_game.proofs.Imports.{◌∙◌, subst, arith, All, Option, Ok, AllByRecursion, length-map, get_or-map, length-range_with_len}
-use Rattle.council_game.proofs.Imports.{member_at, rank_places, members_by_rank, rule_by_rank, rule_along, weights_at, rule_view}
+use Rattle.council_game.proofs.Imports.{◌∙◌, subst, arith, All, Option, Ok, AllByRecursion, length-map}
+use Rattle.council_game.proofs.Imports.{member_at, rank_places, members_by_rank, rule_by_rank, rule_along, rule_view}
 use Rattle.council_game.proofs.Imports.{rule_views, GameView, IsGame, made_game, first_weights, total, votes_of, game_of_parts}
 use Rattle.std.proofs.Common.{String, Global, string_bytes, option_map, ltb-false}
 use Rattle.std.proofs.lemmas.List.Elements.{All-map}
-use Rattle.council_game.proofs.{Order.ranking, Shared.RuleLists.held_full, Shared.WinningByPlaces.held-rule}
-use Rattle.council_game.proofs.Shared.Rankings.{IsRanking, ranking-member_at, ranking-below, ranking-is, ranking-length, rank-of, places-at}
-use Rattle.council_game.proofs.Shared.Rankings.{rank_places-at, ranking-falls, ranking-weights_at, length-rank_places, place-found}
-use Rattle.council_game.proofs.Shared.Rankings.{places-below}
+use Rattle.council_game.proofs.Shared.{RuleLists.held_full, WinningByPlaces.held-rule, Rankings.length-by_rank, Rankings.by_rank-at}
+pub use Rattle.council_game.proofs.Shared.Rankings.{RanksAre, ranks-of, ranked-falls, order-below}
 use Rattle.council_game.proofs.Shared.Games.{passed, votes-are, light-weights, light-sum}
-
-pub order-below : (ws os : List ℕ) → os ≡ members_by_rank (rank_places ws) → All (λ i. i < length ws) os
-order-below ws os e =
-    let found = ranking ws in
-    let all : All (λ i. i < length ws) found.0 =
-    All-permutation (λ i. i < length ws) (places ws) found.0 found.1.each (places-below (length ws)) in
-    subst (λ (l : List ℕ). All (λ i. i < length ws) l) (ranking-is ws found.0 found.1 ∙ sym e) all
 
 first-length : (rules : List Rule) (n : ℕ) → 0 < length rules → All (λ r. length r.weights.items ≡ n) rules
     → length (first_weights (rule_views rules)) ≡ n
@@ -86,57 +77,6 @@ is-game title names rules ks some few full made =
       full = rw size (All-map (λ r. length r.weights ≡ length names) rule_view rules full);
     }
 
--- ---- places and members
-pub record RanksAre (n : ℕ) (ranks : List ℕ) : Type 0 where
-  pub count : length ranks ≡ n
-  pub place_below : (i : ℕ) → i < n → get_or ranks i 0 < n
-  pub member_back : (i : ℕ) → i < n → member_at ranks (get_or ranks i 0) ≡ i
-  pub member_below : (p : ℕ) → p < n → member_at ranks p < n
-  pub place_back : (p : ℕ) → p < n → get_or ranks (member_at ranks p) 0 ≡ p
-
--- so are the rank places of any weights
-pub ranks-of : (ws : List ℕ) → RanksAre (length ws) (rank_places ws)
-ranks-of ws =
-    let found = ranking ws in
-    let len = ranking-length ws found.0 found.1 in
-    record {
-      count = length-rank_places ws;
-      place_below = λ i lt.
-          let at = place-found ws found.0 i found.1 lt in
-          let here = rank_places-at ws i lt in
-          omega (arith, at.3, here, at.1, len);
-      member_back = λ i lt.
-          let at = place-found ws found.0 i found.1 lt in
-          let here : get_or (rank_places ws) i 0 ≡ at.0 = rank_places-at ws i lt ∙ at.3 in
-          ap (member_at (rank_places ws)) here ∙ ranking-member_at ws found.0 at.0 found.1 at.1 ∙ at.2;
-      member_below = λ p lt.
-          let in' : p < length found.0 = omega (arith, len) in
-          let at = ranking-member_at ws found.0 p found.1 in' in
-          let below = ranking-below ws found.0 p found.1 in' in
-          omega (arith, at, below);
-      place_back = λ p lt.
-          let in' : p < length found.0 = omega (arith, len) in
-          let below = ranking-below ws found.0 p found.1 in' in
-          ap (λ (i : ℕ). get_or (rank_places ws) i 0) (ranking-member_at ws found.0 p found.1 in')
-          ∙ rank_places-at ws (get_or found.0 p 0) below ∙ rank-of ws found.0 p found.1 in';
-    }
-
--- the heaviest has the first place
-pub ranked-falls : (ws : List ℕ) (a b : ℕ) → a ≤ b → b < length ws
-    → get_or ws (member_at (rank_places ws) b) 0 ≤ get_or ws (member_at (rank_places ws) a) 0
-ranked-falls ws a b le lt =
-    let found = ranking ws in
-    let len = ranking-length ws found.0 found.1 in
-    let falls = ranking-falls ws found.0 a b found.1 le lt in
-    omega (arith, falls, at found.0 found.1 a (omega (arith, le, lt)), at found.0 found.1 b lt)
-  where
-    at : (qs : List ℕ) → IsRanking ws qs → (p : ℕ) → p < length ws
-        → get_or (weights_at ws (members_by_rank (rank_places ws))) p 0 ≡ get_or ws (member_at (rank_places ws) p) 0
-    at qs r p below =
-        let len = ranking-length ws qs r in
-        ranking-weights_at ws qs ws p r below
-        ∙ ap (λ (i : ℕ). get_or ws i 0) (sym (ranking-member_at ws qs p r (omega (arith, len, below))))
-
 -- in each game the ranks are a permutation, and `member_at` goes back
 pub ranks-are : (g : GameView) → IsGame g → RanksAre (length g.names) g.ranks
 ranks-are g game =
@@ -151,13 +91,7 @@ held-votes g n ranked game count same = rw (count, same) (votes-are g game)
 -- the members by rank, as a table
 pub order-at : (g : GameView) (os : List ℕ) (p : ℕ) → RanksAre (length g.names) g.ranks → os ≡ members_by_rank g.ranks → p < length g.names
     → (length os ≡ length g.names) × (get_or os p 0 ≡ member_at g.ranks p)
-order-at g os p are e lt =
-    let len = length-range_with_len 0 (length g.ranks) in
-    let size : length os ≡ length g.names = ap length e ∙ length-map (places g.ranks) (member_at g.ranks) ∙ len ∙ are.count in (
-      size,
-      ap (λ (l : List ℕ). get_or l p 0) e ∙ get_or-map (member_at g.ranks) (places g.ranks) p 0 0 (omega (arith, len, are.count))
-          ∙ ap (member_at g.ranks) (places-at (length g.ranks) p 0 (omega (arith, are.count))),
-    )
+order-at g os p are e lt = let count = are.count in (grind (arith, length-by_rank), grind (arith, by_rank-at))
 
 pub names-count : (names : List (String Global)) (n : ℕ) → n ≡ length names → n ≡ length (map string_bytes names)
 names-count names n e = e ∙ sym (length-map names string_bytes)
