@@ -7,3 +7,4 @@ mod Bounds
 mod Seen
 pub mod AllLaws
 mod Imports
+pub mod Searches

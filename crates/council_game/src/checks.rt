@@ -76,6 +76,7 @@ pub(crate) fn place_of_name(names: &[String], name: &str) -> Option<usize>
 }
 
 /// An earlier member has the name of this one.
+#[tactic(auto, using(crate::proofs::Searches::for_is_repeat))]
 fn is_repeat(names: &[String], k: usize) -> bool
     requires { k < length names.now }
     ensures { result ≡ is_repeat (map string_bytes names.now) k }

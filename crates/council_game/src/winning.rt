@@ -8,6 +8,7 @@ ghost use Rattle.council_game.specs.Inner.Held.{votes};
 use crate::{Coalition, Rule};
 
 /// The weight of a coalition: the last place is the lowest digit.
+#[tactic(auto, using(crate::proofs::Searches::for_weight_of), unfolding(crate::specs::Votes::has))]
 pub(crate) fn weight_of(weights: &[u64], coalition: Coalition) -> u64
     requires few { length weights.now ≤ MEMBERS }
     requires fits { sum weights.now ≤ TOTAL }
@@ -23,7 +24,7 @@ pub(crate) fn weight_of(weights: &[u64], coalition: Coalition) -> u64
     sum
 }
 
-#[tactic(auto, unfolding(crate::specs::Votes::wins))]
+#[tactic(auto, using(crate::proofs::Searches::for_wins), unfolding(crate::specs::Votes::wins))]
 pub(crate) fn wins(rules: &[Rule], members: usize, coalition: Coalition) -> bool
     requires { IsVotes (votes members rules.now) }
     ensures { result ≡ wins (rule_views rules.now) coalition }

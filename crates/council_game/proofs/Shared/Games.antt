@@ -1,10 +1,10 @@
 -- The votes of a game.
-use Rattle.council_game.proofs.Imports.{rank_places, rule_by_rank, GameView, IsGame, made_game, first_weights}
-use Rattle.council_game.proofs.Imports.{◌≡◌, ℕ, suc, ◌*◌, ◌<◌, ◌≤◌, Bool, false, not, ◌||◌, List, [], ◌∷◌, length, get_or, map, sum, refl}
-use Rattle.council_game.proofs.Imports.{position, position_or_len, length-range_with_len, length-map, get_or_default, recursion_from_All}
-use Rattle.council_game.proofs.Imports.{fails_before_first, nat_tests, cases_lt, or_parts, cond-true, RuleView, IsRule, IsVotes, places}
-use Rattle.council_game.proofs.Imports.{sym, ap, ◌∙◌, subst, arith, inl, inr, Option, Ok, AllByRecursion, list_any, range_with_len}
-use Rattle.council_game.proofs.Imports.{votes_of, is_name, has_bad_quota}
+use Rattle.council_game.proofs.Imports.{rank_places, rule_by_rank, GameView, IsGame, made_game, first_weights, ◌≡◌, ℕ, suc, ◌*◌, ◌<◌, ◌≤◌}
+use Rattle.council_game.proofs.Imports.{Bool, false, not, ◌||◌, List, [], ◌∷◌, length, get_or, map, sum, refl, position, position_or_len}
+use Rattle.council_game.proofs.Imports.{nat_tests, cases_lt, or_parts, cond-true, RuleView, IsRule, IsVotes, places, sym, ap, ◌∙◌, subst}
+use Rattle.council_game.proofs.Imports.{length-range_with_len, length-map, get_or_default, recursion_from_All, fails_before_first}
+use Rattle.council_game.proofs.Imports.{arith, inl, inr, Option, Ok, AllByRecursion, list_any, range_with_len, votes_of, is_name}
+use Rattle.council_game.proofs.Imports.{has_bad_quota}
 use Rattle.std.proofs.Common.{ltb, None, lt-ltb, le-ltb}
 use Rattle.std.specs.Option.{option_map_or}
 use Rattle.std.proofs.lemmas.List.{get_or_past, Sums.sum_by-le}

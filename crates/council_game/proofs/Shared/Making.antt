@@ -1,14 +1,14 @@
 -- The tables of a game that is made.
-use Rattle.council_game.proofs.Imports.{recursion_from_All, or_parts, common_steps, Rule, RuleView, IsVotes, votes}
-use Rattle.council_game.proofs.Imports.{nat_tests, ◌≡◌, ℕ, ◌-◌, ◌^◌, ◌<◌, ◌≤◌, min, List, [], ◌∷◌, length, get_or, map, sum, refl, sym, ap}
-use Rattle.council_game.proofs.Imports.{◌∙◌, subst, arith, All, Option, Ok, AllByRecursion, length-map}
-use Rattle.council_game.proofs.Imports.{member_at, rank_places, members_by_rank, rule_by_rank, rule_along, rule_view}
-use Rattle.council_game.proofs.Imports.{rule_views, GameView, IsGame, made_game, first_weights, total, votes_of, game_of_parts}
+use Rattle.council_game.proofs.Imports.{recursion_from_All, or_parts, common_steps, Rule, RuleView, IsVotes, votes, nat_tests, ◌≡◌, ℕ, ◌-◌}
+use Rattle.council_game.proofs.Imports.{◌^◌, ◌<◌, ◌≤◌, min, List, [], ◌∷◌, length, get_or, map, sum, refl, sym, ap, ◌∙◌, subst, arith, All}
+use Rattle.council_game.proofs.Imports.{rule_along, rule_view, rule_views, GameView, IsGame, made_game, first_weights, total, votes_of}
+use Rattle.council_game.proofs.Imports.{Option, Ok, AllByRecursion, length-map, member_at, rank_places, members_by_rank, rule_by_rank}
+use Rattle.council_game.proofs.Imports.{game_of_parts}
 use Rattle.std.proofs.Common.{String, Global, string_bytes, option_map, ltb-false}
 use Rattle.std.proofs.lemmas.List.Elements.{All-map}
-use Rattle.council_game.proofs.Shared.{RuleLists.held_full, WinningByPlaces.held-rule, Rankings.length-by_rank, Rankings.by_rank-at}
-pub use Rattle.council_game.proofs.Shared.Rankings.{RanksAre, ranks-of, ranked-falls, order-below}
+use Rattle.council_game.proofs.Shared.{Rankings.length-by_rank, Rankings.by_rank-at, RuleLists.held_full, WinningByPlaces.held-rule}
 use Rattle.council_game.proofs.Shared.Games.{passed, votes-are, light-weights, light-sum}
+pub use Rattle.council_game.proofs.Shared.Rankings.{RanksAre, ranks-of, ranked-falls, order-below}
 
 first-length : (rules : List Rule) (n : ℕ) → 0 < length rules → All (λ r. length r.weights.items ≡ n) rules
     → length (first_weights (rule_views rules)) ≡ n
