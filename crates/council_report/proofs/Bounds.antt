@@ -132,11 +132,6 @@ member-fits k i lt =
 rows-fit : {X : Type 0} (f : X → List ℕ) (xs : List X) → All (λ x. length (f x) ≤ 4096) xs → length (flat_map f xs) ≤ length xs * 4096
 rows-fit f xs all = rw (length-flat_map f xs) (sum_by-le (λ x. length (f x)) 4096 xs all)
 
--- those of n numbers from a on
-numbers-fit : (f : ℕ → List ℕ) (a n : ℕ) → ((k : ℕ) → k < n → length (f (a + k)) ≤ 4096)
-    → length (flat_map f (range_with_len a n)) ≤ n * 4096
-numbers-fit f a n h = grind (arith, nat_tests, length-range_with_len, rows-fit, get_or-range_with_len)
-
 chosen-fits : (b : Bool) (text : List ℕ) (n : ℕ) → (b ≡ true → length text ≤ n) → length (cond b text []) ≤ n
 chosen-fits b text n h = cond_both b text [] (λ t. length t ≤ n) h (λ _. omega arith)
 
@@ -145,4 +140,4 @@ pub lines-count : (shown : Shown) (k : Counted) (list : List ℕ) (told : ℕ) �
     → told + length (lines_of shown k list) < 2 ^ 64
 unfolding lines_of
 lines-count shown k list told few small =
-    grind (arith, nat_tests, chosen-fits, rows-fit, coalition-fits, numbers-fit, size-fits, member-fits, length-append)
+    grind (arith, nat_tests, chosen-fits, rows-fit, coalition-fits, length-range_with_len, get_or-range_with_len, size-fits, member-fits, length-append)

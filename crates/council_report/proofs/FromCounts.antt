@@ -1,11 +1,11 @@
 -- The lines from the counts of a list are those of the list.
 use Rattle.council_report.proofs.Imports.{Bool, true, false, flat_map, range_with_len, nat_tests, Counted, Shown, size_line, line_of_size}
 use Rattle.council_report.proofs.Imports.{◌≡◌, ◌∙◌, ◌<◌, ◌≤◌, ◌+◌, ◌++◌, ℕ, zero, suc, List, [], map, length, cond, refl, ap, sym, arith}
-use Rattle.council_report.proofs.Imports.{line_of_member, lines_of}
+use Rattle.council_report.proofs.Imports.{lines_of}
 use Rattle.std.proofs.lemmas.List.Folds.{flat_map-map}
 use Rattle.power_index.specs.Tables.{AreCounts}
 use Rattle.power_index.proofs.Shared.Printed.{deegan-packel-same, public-good-same}
-use Rattle.council_report.specs.Report.{heading, size_line_of, member_line_of, report_over}
+use Rattle.council_report.specs.Report.{heading, size_line_of, report_over}
 
 -- two functions that agree on a range
 range-same : {X : Type 0} (f h : ℕ → X) (a n : ℕ) → ((i : ℕ) → a ≤ i → i < a + n → f i ≡ h i)
@@ -26,10 +26,6 @@ size-same : (k : Counted) (list : List ℕ) → AreCounts k.game.now list k.coun
 unfolding size_line
 size-same k list h s le = grind (arith, nat_tests, range-same)
 
-member-same : (k : Counted) (list : List ℕ) → AreCounts k.game.now list k.counts.now → (i : ℕ) → i < k.members
-    → line_of_member k i ≡ member_line_of k.game.now list i
-member-same k list h i lt = grind (arith, nat_tests, deegan-packel-same, public-good-same)
-
 shown-same : (b : Bool) (x y : List ℕ) → (b ≡ true → x ≡ y) → cond b x [] ≡ cond b y []
 shown-same true x y same = same refl
 shown-same false x y same = refl
@@ -39,4 +35,4 @@ pub from-counts : (P : List ℕ → Type 0) (shown : Shown) (k : Counted) (liste
     → P (heading shown k.game.now count ++ lines_of shown k listed) → AreCounts k.game.now list k.counts.now → count ≡ length list
     → (shown.list ≡ true → listed ≡ list) → P (report_over shown k.game.now list)
 unfolding lines_of
-from-counts P shown k listed list count holds h total is = grind (arith, nat_tests, shown-same, texts-same, size-same, member-same)
+from-counts P shown k listed list count holds h total is = grind (arith, nat_tests, shown-same, texts-same, size-same, deegan-packel-same, public-good-same)

@@ -4,3 +4,4 @@ mod Deals
 mod Tasks
 mod Drafts
 mod Rooms
+pub mod Searches

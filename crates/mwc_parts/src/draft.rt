@@ -45,6 +45,7 @@ impl Draft {
     }
 
     /// Keeps one more word.
+    #[tactic(auto, using(crate::proofs::Searches::for_hear))]
     pub fn hear(&mut self, word: Word)
         ensures keeps { (words : List Word) → IsDraftOf words self.old →
             IsDraftOf (words ++ word ∷ []) self.new }

@@ -24,6 +24,7 @@ impl Gathered {
     /// # Errors
     ///
     /// Memory where a growth was refused.
+    #[tactic(auto, using(crate::proofs::Searches::for_in_order))]
     pub fn in_order(&self, alloc: Global) -> Result<Vec<Coalition>, Memory>
         ensures { (slice : ℕ → List ℕ) → All (HasPieces slice) self.now.parts.items
             → IfOk result (λ all. all.items ≡ flat_map slice (range_with_len 0 self.now.slices)) }
@@ -41,6 +42,7 @@ impl Gathered {
     /// # Errors
     ///
     /// Memory where a growth was refused.
+    #[tactic(auto, using(crate::proofs::Searches::for_pieces))]
     pub fn pieces(&self, alloc: Global) -> Result<Vec<&[Coalition]>, Memory>
         ensures each { (slice : ℕ → List ℕ) → All (HasPieces slice) self.now.parts.items
             → IfOk result (λ row.

@@ -38,6 +38,7 @@ impl Marks {
     }
 
     /// Gives the slice to the worker and answers true, if it has no holder; else changes nothing.
+    #[tactic(auto, using(crate::proofs::Searches::for_give))]
     pub fn give(&mut self, slice: u16, worker: u8) -> bool
         requires slice { slice < length self.old }
         requires worker { worker < WORKERS }
