@@ -36,7 +36,7 @@ enum council_status {
 /*
  * Reads the bytes of a game file, and puts its report into text, or the words of a fault; of either as much as fits
  * into room bytes, with no byte 0 behind it. *length is then the length of the whole text: where that is more than room,
- * call again with so much room.
+ * call again with room for *length bytes.
  *
  * No pointer may be NULL, not even where its length is 0, and text and *length may overlap nothing else of the call.
  * A call takes from malloc up to 64 MB for a tally, else 8 to 16 bytes for each coalition, and for a while up to three

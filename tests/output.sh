@@ -47,7 +47,7 @@ if needs python3 "long reports"; then
         length=$(wc -c <"$temp/oracle")
         run "$temp/$game" --list --sizes --notation
         printed "a report of $length bytes, $game" "$temp/oracle"
-        # so many bytes are taken, and then no more: the program is told by a failed write
+        # $taken bytes are taken, and then no more: the program is told by a failed write
         for taken in 61439 65535 65536 65537 70000 $((length - 1)); do
             name="$taken bytes of a report are taken, $game"
             if timeout "$seconds" python3 - "$program" "$temp/$game" "$taken" "$temp/err" >"$temp/out" <<'END'

@@ -30,7 +30,7 @@ two_parts() {
     } | awk '{ printf "[[member]]\nname = \"%d\"\nweights = [%s]\n", NR, $0 }'
 }
 
-# listed NAME COUNT: the last run succeeded, and its report has so many coalitions, and as many lines
+# listed NAME COUNT: the last run succeeded, and its report has COUNT coalitions, and as many lines
 # for them.
 listed() {
     if succeeded "$1"; then

@@ -69,7 +69,7 @@ same_as_run() {
         printed "--tally of $name" "$temp/wanted"
     fi
 }
-# repeat COUNT WORD: the word so many times
+# repeat COUNT WORD: the word COUNT times
 repeat() {
     local left
     for ((left = $1; left > 0; left--)); do echo "$2"; done

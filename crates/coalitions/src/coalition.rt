@@ -49,7 +49,7 @@ impl Coalition {
         self.mask
     }
 
-    /// In a game of so many members, at most 40, whether the member of this rank place is in. Places
+    /// In a game of `members` members, at most 40, whether the member of this rank place is in. Places
     /// count from 0, the heaviest first.
     pub fn has(self, members: usize, place: usize) -> bool
         requires few { members ≤ MEMBERS }
@@ -59,7 +59,7 @@ impl Coalition {
         (self.mask >> (members - 1 - place)) % 2 == 1
     }
 
-    /// In a game of so many members, at most 40, the coalition with the member of this rank place besides;
+    /// In a game of `members` members, at most 40, the coalition with the member of this rank place besides;
     /// the same where that member is in.
     pub fn with(self, members: usize, place: usize) -> Coalition
         requires few { members ≤ MEMBERS }
@@ -80,7 +80,7 @@ impl Coalition {
         }
     }
 
-    /// In a game of so many members, at most 40, the coalition without the member of this rank place;
+    /// In a game of `members` members, at most 40, the coalition without the member of this rank place;
     /// the same where that member is not in.
     pub fn without(self, members: usize, place: usize) -> Coalition
         requires few { members ≤ MEMBERS }

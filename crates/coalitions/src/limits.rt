@@ -2,46 +2,46 @@
 ghost use Rattle.std.specs.Prelude.{◌≡◌, ◌*◌, ◌^◌, ◌+◌};
 ghost use Rattle.coalitions.specs.declared.limits.TheConstants.{MEMBERS, SIZES, RULES, WEIGHT, TOTAL, TITLE_BYTES, NAME_BYTES, FILE_BYTES, BITS, SLICES, WORKERS, COALITIONS, CAPACITY, PLAIN_MEMBERS};
 
-/// A game has at most so many members.
+/// The most members that a game can have.
 pub const MEMBERS: usize = 40;
 
 /// How many sizes a coalition can have: 0 to 40 members.
 pub const SIZES: usize = 41;
 
-/// A game has at most so many rules.
+/// The most rules that a game can have.
 pub const RULES: usize = 4;
 
-/// No weight is greater.
+/// The greatest weight of a member.
 pub const WEIGHT: u64 = 1_000_000_000_000;
 
-/// No total of a rule's weights is greater: so many members of the greatest weight.
+/// The greatest total of a rule's weights: that of 40 members of the greatest weight.
 pub const TOTAL: u64 = 40_000_000_000_000;
 
-/// A title has at most so many bytes.
+/// The most bytes of a title.
 pub const TITLE_BYTES: usize = 200;
 
-/// The name of a member has at most so many bytes.
+/// The most bytes of a member's name.
 pub const NAME_BYTES: usize = 64;
 
-/// A game file has at most so many bytes.
+/// The most bytes of a game file.
 pub const FILE_BYTES: usize = 65_536;
 
-/// At most so many members are fixed in each slice.
+/// The most members that are fixed in each slice.
 pub const BITS: u8 = 10;
 
-/// A game is cut into at most so many slices: 2^10.
+/// The most slices that a game is cut into: 2^10.
 pub const SLICES: usize = 1_024;
 
-/// A run has at most so many worker threads.
+/// The most worker threads of a run.
 pub const WORKERS: u8 = 16;
 
-/// A run keeps at most so many coalitions.
+/// The most coalitions that a run keeps.
 pub const COALITIONS: u32 = 4_000_000;
 
-/// A ring has room for at most so many words.
+/// The most words that a ring can have room for.
 pub const CAPACITY: usize = 65_536;
 
-/// Each coalition of a game is tried only where it has at most so many members.
+/// The most members of a game of which each coalition is tried.
 pub const PLAIN_MEMBERS: usize = 20;
 
 /// What the limits are, as numbers: contracts and definitions name them.

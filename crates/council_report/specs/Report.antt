@@ -12,7 +12,7 @@ use Rattle.council_report.specs.Lines.{title_line, members_line, quota_line, tot
 abbrev pub notation_lines : Shown → GameView → List ℕ
 notation_lines shown g = if shown.notation then flat_map notation_line g.rules else []
 
--- the lines before those of the coalitions, of which there are so many
+-- the lines before those of the `count` coalitions
 abbrev pub heading : Shown → GameView → ℕ → List ℕ
 heading shown g count =
     title_line g ++ members_line g ++ quota_line g ++ total_line g

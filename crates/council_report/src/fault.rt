@@ -11,7 +11,7 @@ pub enum ReportFault {
     /// A growth was refused, and nothing was written.
     #[error("out of memory")]
     Memory,
-    /// The writer failed after it took so many bytes.
+    /// The writer failed after it took `written` bytes.
     #[error("output failed")]
     Write { written: u64 },
 }

@@ -49,7 +49,7 @@ fn push_notations(out: &mut Vec<u8>, game: &Game, shown: Shown) -> Result<(), Me
     }
 }
 
-/// The lines before those of the coalitions, of which there are so many.
+/// The lines before those of the `count` coalitions.
 pub(crate) fn push_heading(
     out: &mut Vec<u8>,
     game: &Game,

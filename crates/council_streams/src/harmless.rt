@@ -11,7 +11,7 @@ fn is_harmful(letter: char) -> bool {
         )
 }
 
-/// A writer that passes on so many letters, dots in place of the next one, and none behind it.
+/// A writer that passes on the letters that are `left`, dots in place of the next one, and none behind it.
 #[derive(Drop)]
 struct Cut<'a, W> {
     writer: &'a mut W,

@@ -22,7 +22,7 @@ pub fn push_decimal(out: &mut Vec<u8>, number: u64) -> Result<(), AllocError>
     out.extend_from_slice(buffer.format(number).as_bytes())
 }
 
-/// Appends so many values in decimal, with the separator between each two.
+/// Appends `count` values in decimal, with the separator between each two.
 ///
 /// # Errors
 ///

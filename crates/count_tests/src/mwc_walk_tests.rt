@@ -178,7 +178,7 @@ fn all_lists_agree(rt: &impl Abort, alloc: Global, game: &Game) {
     let plain = plain_list(alloc, game).expect(rt, "a plain list");
     let whole = list_all(alloc, game, 4_000_000)
         .expect(rt, "memory")
-        .expect(rt, "at most so many");
+        .expect(rt, "no more than the limit");
     same(
         rt,
         whole.as_slice() == plain.as_slice(),
@@ -233,7 +233,7 @@ fn counts_of_slices(rt: &impl Abort, alloc: Global, game: &Game, counts: &[usize
     }
     let all = list_all(alloc, game, whole)
         .expect(rt, "memory")
-        .expect(rt, "at most so many");
+        .expect(rt, "no more than the limit");
     same(rt, all.len(), whole as usize, "all coalitions");
     let fewer = list_all(alloc, game, whole - 1).expect(rt, "memory");
     same(rt, fewer.is_none(), true, "more than asked for");
@@ -300,6 +300,6 @@ fn a_plain_list_of_twenty_members(rt: HostRuntime) {
     same(&rt, plain.len(), 184_756, "coalitions");
     let all = list_all(rt.alloc(), &twenty, 184_756)
         .expect(&rt, "memory")
-        .expect(&rt, "at most so many");
+        .expect(&rt, "no more than the limit");
     same(&rt, all.as_slice() == plain.as_slice(), true, "one list");
 }

@@ -173,7 +173,7 @@ fn cuts_above_the_most(rt: HostRuntime) {
     }
 }
 
-/// Pairs of forty members, and a game of so many coalitions that nobody could list them.
+/// Pairs of forty members, and a game that has more coalitions than anybody could list.
 #[test]
 fn counts_pairs(rt: HostRuntime) {
     for (quota, bits, workers, most, wanted) in [

@@ -5,7 +5,7 @@ use Rattle.mwc_gather.proofs.Imports.{is_some, AllZip, ap, subst, arith, sym, �
 use Rattle.mwc_gather.proofs.Imports.{DealsTo, all_total, IsComplete}
 use Rattle.std.proofs.lemmas.{List.Elements.All-rest, Slice.Zip.all_zipped_more}
 use Rattle.mwc_gather.proofs.Ends.{many_is_new_or_old, one_is_met, head_of, one_done, desks_within, completes}
-use Rattle.mwc_gather.proofs.Faults.{noted_after, noted_none}
+use Rattle.mwc_gather.proofs.Faults.{noted_after}
 
 -- some of the workers have ended, and the rest are still to be joined: what was met follows from their answers, and where nothing was met
 -- all of them are parts
@@ -37,46 +37,45 @@ none_joined {desks = desks} e f h few =
       none = λ n. (n, tt);
     })
 
-module _ {g : Slicing} {most : ℕ} {start met : Met} {desks old rest : List Desk} {parts : List Part} where
-  -- one more has ended with a fault
-  pub fault_met : {after : Met} {left : List Part} (d : Desk) (why : GatherFault) → Finishing g most start desks old met parts
-      → old ≡ d ∷ rest → after ≡ also met why
-      → (IsOf g most d → CanEndWith g most d (Some why))
+module _ {g : Slicing} {most : ℕ} {start met after : Met} {desks old rest : List Desk} {parts left : List Part} where
+  -- one more has ended
+  one_ended : (d : Desk) (w : Option GatherFault) (f : Finishing g most start desks old met parts) → old ≡ d ∷ rest
+      → after ≡ also_all met (w ∷ []) → CanEndWith g most d w → (after.many ≡ true → most < all_total g)
+      → (fault_of after ≡ None → (fault_of start ≡ None) × AllZip (IsPartOfDesk g) (f.done ++ d ∷ []) left)
       → Finishing g most start desks rest after left
-  fault_met {after} {left} d why f step e own =
-      let within : Desk → Type 0 = λ d. coalition_count g d.given.items ≤ all_total g in
-      let ends = own (head_of (IsOf g most) d rest old step f.all_of) in
-      let few : within d = head_of within d rest old step f.within in record {
-        all_of = All-rest (IsOf g most) d rest old step f.all_of;
-        within = All-rest within d rest old step f.within;
-        many = λ z. many_is_new_or_old met why (most < all_total g) (λ t. let over = ends.2 t in omega arith) f.many
-            (sym (ap (λ (m : Met). m.many) e) ∙ z);
-        done = f.done ++ d ∷ [];
-        split = one_done f.done rest old desks d step f.split;
-        whys = f.whys ++ Some why ∷ [];
-        ends = all_zipped_more (CanEndWith g most) f.done f.whys d (Some why) f.ends ends;
-        met_is = noted_after start met after f.whys why f.met_is e;
-        none = λ n. absurd (one_is_met met why (sym (ap fault_of e) ∙ n));
-      }
-
-  -- one more has ended with a part
-  pub part_kept : {longer : List Part} (d : Desk) (p : Part) → Finishing g most start desks old met parts → old ≡ d ∷ rest
-      → longer ≡ parts ++ p ∷ []
-      → (IsOf g most d → IsPartOfDesk g d p) → (IsOf g most d → CanEndWith g most d None)
-      → Finishing g most start desks rest met longer
-  part_kept {longer} d p f step e part ends =
-      let own = head_of (IsOf g most) d rest old step f.all_of in record {
+  one_ended d w f step e ends many none =
+      record {
         all_of = All-rest (IsOf g most) d rest old step f.all_of;
         within = All-rest (λ (d : Desk). coalition_count g d.given.items ≤ all_total g) d rest old step f.within;
-        many = f.many;
+        many = many;
         done = f.done ++ d ∷ [];
         split = one_done f.done rest old desks d step f.split;
-        whys = f.whys ++ None ∷ [];
-        ends = all_zipped_more (CanEndWith g most) f.done f.whys d None f.ends (ends own);
-        met_is = f.met_is ∙ sym (noted_none start f.whys);
-        none = λ n. let kept = f.none n in
-            (kept.0, rw e (all_zipped_more (IsPartOfDesk g) f.done parts d p kept.1 (part own)));
+        whys = f.whys ++ w ∷ [];
+        ends = all_zipped_more (CanEndWith g most) f.done f.whys d w f.ends ends;
+        met_is = noted_after start met after f.whys w f.met_is e;
+        none = none;
       }
+
+  -- with a fault
+  pub fault_met : (d : Desk) (why : GatherFault) → Finishing g most start desks old met parts → old ≡ d ∷ rest → after ≡ also met why
+      → (IsOf g most d → CanEndWith g most d (Some why)) → Finishing g most start desks rest after left
+  fault_met d why f step e own =
+      let within : Desk → Type 0 = λ d. coalition_count g d.given.items ≤ all_total g in
+      let ends = own (head_of (IsOf g most) d rest old step f.all_of) in
+      let few : within d = head_of within d rest old step f.within in
+      one_ended d (Some why) f step e ends
+      (λ z. many_is_new_or_old met why (most < all_total g) (λ t. let over = ends.2 t in omega arith) f.many (sym (ap (λ (m : Met). m.many) e) ∙ z))
+      (λ n. absurd (one_is_met met why (sym (ap fault_of e) ∙ n)))
+
+  -- with a part
+  pub part_kept : (d : Desk) (p : Part) → Finishing g most start desks old met parts → old ≡ d ∷ rest → left ≡ parts ++ p ∷ []
+      → after ≡ met → (IsOf g most d → IsPartOfDesk g d p) → (IsOf g most d → CanEndWith g most d None)
+      → Finishing g most start desks rest after left
+  part_kept d p f step e same part ends =
+      let own = head_of (IsOf g most) d rest old step f.all_of in
+      one_ended d None f step same (ends own) (λ z. f.many (sym (ap (λ (m : Met). m.many) same) ∙ z))
+      (λ n. let kept = f.none (sym (ap fault_of same) ∙ n) in
+      (kept.0, rw e (all_zipped_more (IsPartOfDesk g) f.done parts d p kept.1 (part own))))
 
 -- all have ended: where nothing was met, the parts are complete
 pub all_complete : {g : Slicing} {most workers : ℕ} {start met : Met} {deal : Deal} (desks rest : List Desk)

@@ -48,7 +48,7 @@ fn random_statutes_by_every_subset(rt: HostRuntime) {
             assert!(rt; game.members() <= 20);
             let plain = plain_list(rt.alloc(), &game).expect(&rt, "a plain list");
             let whole = list_all(rt.alloc(), &game, 4_000_000).expect(&rt, "memory");
-            let whole = whole.expect(&rt, "at most so many");
+            let whole = whole.expect(&rt, "no more than the limit");
             let agree = whole.as_slice() == plain.as_slice();
             same(&rt, agree, true, (seed, rules));
         }

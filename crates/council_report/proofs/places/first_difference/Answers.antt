@@ -7,7 +7,7 @@ use Rattle.council_report.proofs.places.first_difference.Goals as goal
 masks-differ : (n a b x y : ℕ) → x ≡ a → y ≡ b → Differs n a b (bit_xor a b) → Differs n a b (bit_xor x y)
 masks-differ n a b x y first second = subst (Differs n a b) (ap (λ (u : ℕ). bit_xor u b) (sym first) ∙ ap (bit_xor x) (sym second))
 
--- so many places are the same
+-- the places before the first difference are the same
 shared : (n a b x : ℕ) → Differs n a b x → (64 - leading_zeros w64 x ≤ n) × SameBefore n (n - (64 - leading_zeros w64 x)) a b
 shared n a b x d = grind (arith, common_steps)
 

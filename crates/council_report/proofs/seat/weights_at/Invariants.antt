@@ -1,7 +1,7 @@
 use Rattle.council_report.proofs.Imports.{◌≡◌, ◌<◌, ◌≤◌, ℕ, length, slice_index, weights_under}
 use Rattle.council_report.proofs.seat.weights_at.Given as goal
 
--- the first so many are there, and the others are 0
+-- the weights under the rules before this one are there, and the others are 0
 abbrev pub invariant-loop-rule : goal.invariant-loop-rule
 invariant-loop-rule l = record {
   long : length l.weights ≡ 4;

@@ -1,4 +1,4 @@
-use Rattle.mwc_gather.proofs.Imports.{rules, arith, common_steps, into_iter_items, Memory, slicing}
+use Rattle.mwc_gather.proofs.Imports.{refl, rules, arith, common_steps, into_iter_items, Memory, slicing}
 use Rattle.mwc_gather.proofs.Faults.{memory_ends}
 use Rattle.mwc_gather.proofs.Finishing.{none_joined, fault_met, part_kept, all_complete}
 use Rattle.mwc_gather.proofs.gathering.finish_all.Goals as goal
@@ -21,7 +21,7 @@ pub loop-desk-preserved-else-is_err : goal.loop-desk-preserved-else-is_err
 loop-desk-preserved-else-is_err g c =
     let job = c.args.job.now in
     part_kept c.in-Some.desk c.in-Ok.part c.loop-desk.invariant c.in-Some.ensures.steps.0
-    (search rules) (c.in-Ok.ensures.part (slicing job.guarded job.bits) job.most) (c.in-Ok.ensures.ends (slicing job.guarded job.bits) job.most)
+    (search rules) refl (c.in-Ok.ensures.part (slicing job.guarded job.bits) job.most) (c.in-Ok.ensures.ends (slicing job.guarded job.bits) job.most)
 
 pub returns-in-None-fault-clause-parts : goal.returns-in-None-fault-clause-parts
 returns-in-None-fault-clause-parts g c = λ some.

@@ -1,7 +1,7 @@
 use Rattle.council_report.proofs.Imports.{◌≡◌, ◌+◌, ◌<◌, ◌≤◌, ℕ, length, slice_index}
 use Rattle.council_report.proofs.subtotal.Subtotal.with.Given as goal
 
--- the first so many were added
+-- the weights under the rules before this one were added
 abbrev pub invariant-loop-rule : goal.invariant-loop-rule
 invariant-loop-rule l = record {
   long : length l.weights ≡ 4;
