@@ -1,10 +1,10 @@
 -- What holds after every list of steps.
 use Rattle.std.proofs.Common.{slice_get, take, refl, ap, sym, ◌∙◌, arith, suc, zero, length-append, length-drop, get_or, zero-add, add-zero}
-use Rattle.std.proofs.Common.{◌≡◌, ◌≢◌, ℕ, ◌+◌, ◌<◌, ◌≤◌, ◌==◌, Bool, true, false, ◌||◌, List, [], ◌∷◌, ◌++◌, length, Option, Some, None}
+use Rattle.std.proofs.Common.{◌≡◌, ℕ, ◌+◌, ◌<◌, ◌≤◌, Bool, true, false, ◌||◌, List, [], ◌∷◌, ◌++◌, length, Option, Some, None}
 use Rattle.std.proofs.Common.{filter_map, option_to_list}
 use Rattle.std.proofs.{Math.Bool.or-false, Math.Bool.or-true, Math.Bool.or_assoc, lemmas.List.Elements.filter_map-append}
 use Rattle.std.proofs.lemmas.{Grind.common_steps, List.map-append, List.take_more, List.Folds.list_any-append, Option.slice_get-map}
-use Rattle.std.proofs.lemmas.Bool.{eqb-false}
+use Rattle.std.proofs.lemmas.Bool.{cases_Bool, Decides.nat_tests}
 use Rattle.std.specs.List.{list_any}
 use Rattle.mwc_pipe.specs.declared.{reply.Reply.Reply, reply.Reply.TheVariants.Accepted, reply.Reply.TheVariants.First, step.Step.Step}
 use Rattle.mwc_pipe.specs.declared.step.Step.TheVariants.{Put, Take, Close}
@@ -12,7 +12,7 @@ use Rattle.mwc_pipe.specs.PipeView.{PipeView, Leaves, IsStep}
 use Rattle.mwc_pipe.specs.History.{Event, item_in, item_out, is_close, has_close, items_in, items_out, reply_to, history_after, history}
 use Rattle.mwc_pipe.specs.History.{replies, IsLawful}
 use Rattle.mwc_pipe.specs.Laws.{NothingIsLost, NothingEntersAfterClose, EachReplyIsCounted, HasPast}
-use Rattle.mwc_pipe.proofs.Counting.{holding, leaves_closed, history_after_more, stepped, reply_is, leaves_step, capacity_stays, get_after}
+use Rattle.mwc_pipe.proofs.Counting.{holding, history_after_more, stepped, reply_is, leaves_step, get_after}
 
 get_first : {X : Type 0} (xs ys : List X) (k : ℕ) (x : X) → slice_get xs k ≡ Some x → slice_get (xs ++ ys) k ≡ Some x
 get_first [] ys k x e = absurd (cc)
@@ -31,17 +31,9 @@ module _ {T : Type 0} where
     pub same : pipe.capacity ≡ capacity
     pub short : length pipe.inside ≤ pipe.capacity
 
-  short_put : (pipe : PipeView T) (x : T) (closed full : Bool) → pipe.closed ≡ closed → (length pipe.inside == pipe.capacity) ≡ full →
-      length pipe.inside ≤ pipe.capacity → length (stepped pipe (Put x)).inside ≤ pipe.capacity
-  short_put pipe x true full ec ef short = rw ec short
-  short_put pipe x false true ec ef short = rw (ec, ef) short
-  short_put pipe x false false ec ef short =
-      let other : length pipe.inside ≢ pipe.capacity = eqb-false _ _ ef in
-      rw (ec, ef, length-append) (omega arith)
-
   -- no step leaves more inside than the capacity
   short_step : (pipe : PipeView T) (step : Step T) → length pipe.inside ≤ pipe.capacity → length (stepped pipe step).inside ≤ pipe.capacity
-  short_step pipe (Put x) short = short_put pipe x _ _ refl refl short
+  short_step pipe (Put x) short = grind (arith, common_steps, nat_tests, cases_Bool)
   short_step pipe Take short = omega (arith, length-drop 1 pipe.inside)
   short_step pipe Close short = short
 
@@ -50,8 +42,8 @@ module _ {T : Type 0} where
   kept_step capacity past step kept = record {
     pipe = stepped kept.pipe step;
     leaves = rw (← kept.same, reply_is past kept.pipe step kept.leaves) (leaves_step past kept.pipe step kept.leaves);
-    same = capacity_stays kept.pipe step ∙ kept.same;
-    short = rw (capacity_stays kept.pipe step) (short_step kept.pipe step kept.short);
+    same = kept.same;
+    short = short_step kept.pipe step kept.short;
   }
 
   pub kept_after : (capacity : ℕ) (past : List (Event T)) (steps : List (Step T)) → Kept capacity past
@@ -196,7 +188,13 @@ module _ {T : Type 0} where
   past_of : (capacity : ℕ) (xs : List T) (closed : Bool) → HasPast (holding capacity xs closed)
   past_of capacity xs false = (filled xs, leaves_filled capacity xs)
   past_of capacity xs true =
-      (filled xs ++ (Close, First) ∷ [], leaves_closed (filled xs) (holding capacity xs false) First (leaves_filled capacity xs))
+      (filled xs ++ (Close, First) ∷ [], leaves_step (filled xs) (holding capacity xs false) Close (leaves_filled capacity xs))
 
   pub each_pipe_has_a_past_lem : (pipe : PipeView T) → HasPast pipe
   each_pipe_has_a_past_lem pipe = past_of pipe.capacity pipe.inside pipe.closed
+
+-- what the laws rest on
+pub ruleset laws = (nothing_is_lost_lem, nothing_enters_after_close_lem, each_reply_is_counted_lem, each_pipe_has_a_past_lem)
+
+-- what a whole history rests on
+pub ruleset replaying = (common_steps, replayed_closed, replayed_short)
