@@ -1,4 +1,4 @@
-use Rattle.std.proofs.{Common.arith}
+use Rattle.std.proofs.Common.{arith}
 use Rattle.mwc_pipe.proofs.Counting.{closed_step, full_step}
 use Rattle.mwc_pipe.proofs.pipe.Pipe.put.Goals as goal
 
