@@ -4,7 +4,8 @@ ghost use Rattle.coalitions.specs.declared.limits.TheConstants.{BITS, MEMBERS, R
 ghost use Rattle.council_game.specs.Game.{votes_of};
 ghost use Rattle.council_game.specs.Votes.{minimal};
 ghost use Rattle.mwc_walk.specs.Inner.Places.{wins_at, NothingBelow, NoneWins, IsExcess, AreExcesses, CanSpare};
-ghost use Rattle.mwc_walk.specs.Inner.Spared.{lane_at, IsEnough, IsNeed, AreNeeds, NoneSpared, Tried};
+ghost use Rattle.mwc_walk.specs.Inner.Lanes.{lane_at};
+ghost use Rattle.mwc_walk.specs.Inner.Spared.{IsEnough, IsNeed, AreNeeds, NoneSpared, Tried};
 ghost use Rattle.mwc_walk.specs.Inner.Vetoes.{vetoes_at};
 ghost use Rattle.mwc_walk.specs.Inner.Ahead.{AheadIs};
 ghost use Rattle.mwc_walk.specs.Inner.Cursor.{CursorIs, Steps, SomeSteps, Starts};
@@ -61,15 +62,10 @@ impl Cursor {
         let members = game.members();
         let rules = game.rules();
         let bits = bits as usize;
-        let mut lanes = lanes_of(game);
-        let asked = Asked::of_each(game, &lanes[..rules]);
         let prefix = (1 << bits) - 1 - number as u64;
-        let fixed = Coalition::of_mask(prefix);
-        for place in 0..bits {
-            if fixed.has(bits, place) {
-                take_in(&mut lanes[..rules], place);
-            }
-        }
+        let fixed = Coalition::of_mask(prefix << (members - bits));
+        let lanes = lanes_of(game, fixed);
+        let asked = Asked::of_each(game, &lanes[..rules]);
         Cursor {
             lanes,
             asked,

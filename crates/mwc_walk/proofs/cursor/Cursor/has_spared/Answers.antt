@@ -1,5 +1,5 @@
-use Rattle.mwc_walk.proofs.Imports.{arith}
-use Rattle.mwc_walk.proofs.Spared.{lane-here, last-place, tried-more, tried-all, spared-nothing, first-keeps-all}
+use Rattle.mwc_walk.proofs.{Imports.arith, Steps.lane-here}
+use Rattle.mwc_walk.proofs.Spared.{last-place, tried-more, tried-all, spared-nothing, first-keeps-all}
 use Rattle.mwc_walk.proofs.cursor.Cursor.has_spared.Goals as goal
 
 pub overflow_sub-place-in-loop-rest : goal.overflow_sub-place-in-loop-rest

@@ -1,5 +1,5 @@
 use Rattle.mwc_walk.proofs.cursor.Cursor.may_be_spared.Goals.{then-excess-rule-eq0, else-excess-rule-eq0}
-use Rattle.mwc_walk.proofs.{Imports.arith, Spared.lane-here, Spared.tried-first, Spared.tried-weightless, Steps.enter-mask}
+use Rattle.mwc_walk.proofs.{Imports.arith, Spared.tried-first, Spared.tried-weightless, Steps.enter-mask, Steps.lane-here}
 use Rattle.mwc_walk.proofs.cursor.Cursor.may_be_spared.Goals as goal
 
 pub loop-rule-init : goal.loop-rule-init

@@ -12,10 +12,10 @@ parts c = record {
 
 pub rest_of-requires-clause-fits : goal.rest_of-requires-clause-fits
 rest_of-requires-clause-fits c =
-    vetoed-fit c.members-members.ensures.votes c.members-members.ensures.count c.requires.rule c.requires.lanes
+    vetoed-fit c.members-members.ensures.votes c.members-members.ensures.count c.requires.rule c.requires.count c.requires.lanes
     (parts (goal.at.rest_of-requires-clause-fits c).After-filled-free)
 
 pub returns : goal.returns
 returns c =
-    split-is c.members-members.ensures.votes c.members-members.ensures.count c.requires.rule c.requires.lanes
+    split-is c.members-members.ensures.votes c.members-members.ensures.count c.requires.rule c.requires.count c.requires.lanes
     (parts (goal.at.returns c).After-filled-free) c.rest_of.result c.rest_of.ensures
