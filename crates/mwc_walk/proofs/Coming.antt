@@ -5,8 +5,8 @@ use Rattle.mwc_walk.proofs.Imports.{both_ways, and_parts, leb-true, cases_Bool, 
 use Rattle.mwc_walk.proofs.Imports.{get_or-take, weight, RuleView, Votes, IsVotes, rule_at, wins, weight-le, weight-without, IsPrice}
 use Rattle.mwc_walk.proofs.Imports.{Intervals, Covers, Lane, no_lane, IsSplit, LaneIs, LanesAre, lane_at, LanesStand, get_or_default}
 use Rattle.std.proofs.Common.{take_all, drop-cons, ◌⊎◌, add-one, ltb-true}
-use Rattle.std.proofs.{Math.Nat.le_of_mul-le-mul_left, lemmas.List.Folds.Any-from_list_any}
-use Rattle.std.proofs.lemmas.{List.Sums.sum_by_more, Nat.Bits.bit_at-lt}
+use Rattle.std.proofs.{Math.Nat.le_of_mul-le-mul_left, lemmas.List.Folds.Any-from_list_any, lemmas.List.Sums.sum_by_more}
+use Rattle.std.proofs.lemmas.Nat.Bits.{bit_at-lt}
 use Rattle.std.specs.{Int.div_ceil, List.list_any}
 use Rattle.council_game.proofs.Shared.WeightByDigits.{weight-nil, weight-cons}
 use Rattle.coalitions.proofs.Shared.Digits.{digit-added}
@@ -153,13 +153,10 @@ module _ {v : Votes} {ls : List Lane} {i n : ℕ} {vs fs : List ℕ} (game : IsV
       (omega (arith, parts.vetoed_long, game.few))
       (omega (arith, parts.free_long, game.few)) parted v.members (omega arith) in grind (arith, common_steps, whole)
 
-  pub vetoed-fit : sum (take n vs) < 2 ^ 64
-  vetoed-fit = rw members (omega (arith, both-fit))
-
   inside : (c : ℕ) → wins v.rules c ≡ true → (q : ℕ) → q < v.members → (get_or vs q 0 ≡ 0) ⊎ (c / 2 ^ (v.members - (q + 1)) % 2 ≡ 1)
   inside c won q lt = grind (arith, common_steps, cases_Bool, cond-false, vetoer-in, bit_at-lt, cases_eq)
 
-  pub split-is : (brings : List ℕ) → ((p : ℕ) → p ≤ n → get_or brings p 0 ≡ sum (drop p (take n vs)))
+  pub split-is : (brings : List ℕ) → (sum (take n vs) < 2 ^ 64 → (p : ℕ) → p ≤ n → get_or brings p 0 ≡ sum (drop p (take n vs)))
       → IsSplit v i (record { brings = brings; free = fs })
   split-is brings sums = record {
     room = omega (arith, parts.free_long, game.few);
@@ -168,5 +165,5 @@ module _ {v : Votes} {ls : List Lane} {i n : ℕ} {vs fs : List ℕ} (game : IsV
         let all = split-from v.members (rule_at v.rules i).weights vs fs (omega (arith, lane.rule.full))
         (omega (arith, parts.vetoed_long, game.few))
         (omega (arith, parts.free_long, game.few)) parted c (v.members - p) p (inside c won) (omega arith) in
-        rw (rw members at (sums p (omega (arith, le, members)))) (rw whole at all);
+        rw (rw members at (sums (rw members (omega (arith, both-fit))) p (omega (arith, le, members)))) (rw whole at all);
   }

@@ -1,27 +1,25 @@
--- What is still to come is the end of the slice.
+-- What is still to come is the end of the slice; the slice at no bits is the whole list.
 use Rattle.mwc_walk.proofs.Imports.{pow-add, nat_tests, Votes, down, minimal_coalitions, minimal_below, slice, Step, On, Give, End, sym, ap}
 use Rattle.mwc_walk.proofs.Imports.{◌∙◌, arith, common_steps, filter, cond_both, length-drop, filter-append, in_slice, slice_below, Cursor}
 use Rattle.mwc_walk.proofs.Imports.{◌≡◌, ℕ, ◌+◌, ◌-◌, ◌*◌, ◌^◌, ◌≤◌, Bool, true, List, [], ◌∷◌, ◌++◌, length, get_or, take, drop, mul-le}
-use Rattle.mwc_walk.proofs.Imports.{rest_of_slice, CursorIs, SomeSteps, IsPlace}
+use Rattle.mwc_walk.proofs.Imports.{rest_of_slice, CursorIs, SomeSteps, IsPlace, IsVotes, votes_of, listing-is, append-nil}
 use Rattle.std.proofs.Common.{length-append, if◌then◌else◌, mul-add, get_or-drop, take-append-drop}
 use Rattle.std.proofs.lemmas.List.{take_more}
 use Rattle.mwc_walk.specs.Inner.Cursor.{bound, Follows, GivesNext, FindsEnd}
-use Rattle.mwc_walk.proofs.{Descending.down-split, Steps.rest-most}
+use Rattle.mwc_walk.proofs.{Rest.down-split, Shared.Joined.slices-joined, Steps.rest-most}
+use Rattle.council_game.specs.Game.{GameView}
+use Rattle.mwc_walk.specs.Listed.{ListsAll}
 
 -- a list that ends with another
 record EndsWith (whole end : List ℕ) : Type 0 where
   pub front : List ℕ
   pub joined : whole ≡ front ++ end
 
--- of two descending counts, filtered, the longer ends with the shorter
-filter-ends : (q p : ℕ → Bool) (low more : ℕ) → EndsWith (filter q (filter p (down (low + more)))) (filter q (filter p (down low)))
-filter-ends q p low more = grind (arith, common_steps, down-split, filter-append)
-
 left-ends : (v : Votes) (k j b : ℕ) → b ≤ 2 ^ v.members → EndsWith (slice v k j) (slice_below v k j b)
 unfolding slice_below minimal_below in_slice slice minimal_coalitions
 left-ends v k j b le =
     let e : b + (2 ^ v.members - b) ≡ 2 ^ v.members = omega arith in
-    grind (arith, common_steps, filter-ends)
+    grind (arith, common_steps, down-split, filter-append)
 
 bound-below : {v : Votes} {k j p x : ℕ} (fresh : Bool) → IsPlace v k j p x
     → (if fresh then x + 1 else x) * 2 ^ (v.members - p) ≤ 2 ^ v.members
@@ -87,3 +85,19 @@ visits-most {v} {a} is rests one = grind (arith, rest-most, rest-short, mul-add)
 
 -- what the calls of a walk rest on
 pub ruleset walking = (given-same, given-next, given-end, visits-most)
+
+-- ---- the whole list
+-- at no bits there is one slice, which is the whole
+pub one-slice : (v : Votes) → IsVotes v → slice v 0 0 ≡ minimal_coalitions v
+one-slice v game = sym (append-nil (slice v 0 0)) ∙ slices-joined v 0 (omega arith) (omega arith)
+
+-- what the laws rest on
+pub ruleset slices = (slices-joined, one-slice)
+
+-- the first ones are all, where no others are to come
+pub lists-all : (g : GameView) (most : ℕ) (list : List ℕ) → IsVotes (votes_of g) → list ≡ take most (slice (votes_of g) 0 0)
+    → drop most (slice (votes_of g) 0 0) ≡ [] → ListsAll g most list
+lists-all g most list game first none = grind (arith, one-slice, common_steps, listing-is, length-drop)
+
+-- what the list of all rests on
+pub ruleset whole_list = (lists-all, one-slice, length-drop)

@@ -1,12 +1,18 @@
 -- What a rule's places weigh at a prefix x of p places, and the lanes of the walk, which stand for the rules there.
 use Rattle.mwc_walk.proofs.Imports.{le-leb, leb-true, common_steps, length-map, drop_all, length-take-le, get_or-take, nat_tests, RuleView}
 use Rattle.mwc_walk.proofs.Imports.{get_or, sum, arith, zero, suc, length, sym, ◌∙◌, All, AllByRecursion, list_all, and_from, and_parts}
+use Rattle.mwc_walk.proofs.Imports.{lane_reaches, lane_wins, lane_with, lane_without, leb, sum_by-take-drop, has-none, lane_at, subst}
 use Rattle.mwc_walk.proofs.Imports.{◌≡◌, Bool, true, List, [], ◌∷◌, map, refl, ℕ, ◌+◌, ◌-◌, ◌*◌, ◌/◌, ◌%◌, ◌^◌, ◌<◌, ◌≤◌, take, drop}
 use Rattle.mwc_walk.proofs.Imports.{IsRule, weight, wins, rule_at, weight-zero, weight-le, reaches, wins_at, LaneIs, LanesAre, Lane}
-use Rattle.mwc_walk.proofs.Imports.{lane_reaches, lane_wins, lane_with, lane_without, leb, sum_by-take-drop, has-none, lane_at}
+use Rattle.mwc_walk.proofs.Imports.{length-drop, ap}
 use Rattle.std.proofs.lemmas.List.Sums.{sum_by-drop_more, AllPass-from_list_all}
-use Rattle.std.proofs.Common.{replicate, map-id, ext_get_or}
-use Rattle.council_game.proofs.Shared.Weights.{weight-at, weight-more, weight-prefix}
+use Rattle.std.proofs.Common.{replicate, map-id, ext_get_or, div-add-mod'}
+use Rattle.council_game.proofs.Shared.Weights.{weight-at, weight-more, weight-prefix, weight-skip}
+
+-- what holds from the back on
+pub from-back : (P : ℕ → Type 0) (m : ℕ) → P m → ((p : ℕ) → p < m → P (p + 1) → P p) → (k p : ℕ) → p + k ≡ m → P p
+from-back P m last step zero p at = subst P (let e : m ≡ p = omega arith in e) last
+from-back P m last step (suc k) p at = step p (omega arith) (from-back P m last step k (p + 1) (omega arith))
 
 module _ {X : Type 0} (P : X → Type 0) (p q : X → Bool) where
   pub list_all-more : ((x : X) → P x → p x ≡ true → q x ≡ true) → (xs : List X) → AllByRecursion P xs → list_all p xs ≡ true
@@ -28,13 +34,19 @@ lanes-pass p q (r ∷ rs) [] le same = absurd (omega (arith, le))
 lanes-pass p q (r ∷ rs) (l ∷ ls) le same =
     rw (same 0 (omega arith), lanes-pass p q rs ls (omega (arith, le)) (λ i lt. same (suc i) (omega (arith, lt)))) refl
 
+-- digits above the places of a list weigh nothing
+weight-low : (ws : List ℕ) (c : ℕ) → weight ws (c % 2 ^ length ws) ≡ weight ws c
+weight-low ws c = sym (weight-skip ws (c / 2 ^ length ws) (c % 2 ^ length ws)) ∙ ap (weight ws) (div-add-mod' c (2 ^ length ws))
+
 module _ {n : ℕ} {r : RuleView} (is : IsRule n r) where
   pub weight-block : (p x : ℕ) → p ≤ n → weight r.weights (x * 2 ^ (n - p)) ≡ weight (take p r.weights) x
   weight-block p x le = rw is.full at (weight-prefix r.weights p x (omega (arith, is.full)))
 
-  pub weight-split : (p c : ℕ)
-      → p ≤ n → weight r.weights c ≡ weight (take p r.weights) (c / 2 ^ (n - p)) + weight (drop p r.weights) (c % 2 ^ (n - p))
-  weight-split p c le = rw is.full at (weight-at r.weights p c (omega (arith, is.full)))
+  -- the places of a prefix, and those after it
+  pub weight-parts : (p c : ℕ) → p ≤ n → weight r.weights c ≡ weight (take p r.weights) (c / 2 ^ (n - p)) + weight (drop p r.weights) c
+  weight-parts p c le =
+      let long : length (drop p r.weights) ≡ n - p = length-drop p r.weights ∙ ap (λ (i : ℕ). i - p) is.full in
+      omega (arith, rw is.full at (weight-at r.weights p c (omega (arith, is.full))), rw long at (weight-low (drop p r.weights) c))
 
   -- the next place, with its digit
   pub weight-step : (p q x y b : ℕ) → p < n → q ≡ p + 1 → y ≡ 2 * x + b → b < 2
@@ -56,12 +68,12 @@ module _ (n : ℕ) (rs : List RuleView) (all : AllByRecursion (IsRule n) rs) whe
   -- a set with a winning prefix wins
   pub wins-below : (p c : ℕ) → p ≤ n → wins_at rs p (c / 2 ^ (n - p)) ≡ true → wins rs c ≡ true
   unfolding wins wins_at
-  wins-below p c le = grind (arith, common_steps, le-leb, leb-true, list_all-more, weight-split)
+  wins-below p c le = grind (arith, common_steps, le-leb, leb-true, list_all-more, weight-parts)
 
   -- a set whose prefix cannot reach some quota loses
   pub loses-below : (p c : ℕ) → p ≤ n → wins rs c ≡ true → reaches rs p (c / 2 ^ (n - p)) ≡ true
   unfolding wins reaches
-  loses-below p c le = grind (arith, common_steps, le-leb, leb-true, list_all-more, weight-le, weight-split)
+  loses-below p c le = grind (arith, common_steps, le-leb, leb-true, list_all-more, weight-le, weight-parts)
 
   pub wins-more : (p q x y : ℕ) → p < n → q ≡ p + 1 → x ≡ y / 2 → wins_at rs p x ≡ true → wins_at rs q y ≡ true
   unfolding wins_at

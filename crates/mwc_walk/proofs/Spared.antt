@@ -1,18 +1,18 @@
 -- The members that each rule can spare, and the prefixes below which nothing is minimal.
 use Rattle.mwc_walk.proofs.Imports.{false_from_ne_true, nat_tests, length-drop, shr-shr, RuleView, Votes, take, drop, get_or, refl, sym, ap}
 use Rattle.mwc_walk.proofs.Imports.{both_ways, and_parts, and_from, le-leb, Cursor, LaneIs, NothingBelow, IsExcess, wins_at, IsNeed, Tried}
+use Rattle.mwc_walk.proofs.Imports.{rule_at, has, without, weight, wins, minimal, lowest-place, needs-each-member, Lane, eq-eqb, IsSplit}
 use Rattle.mwc_walk.proofs.Imports.{◌≡◌, ℕ, ◌+◌, ◌-◌, ◌*◌, ◌/◌, ◌%◌, ◌^◌, ◌<◌, ◌≤◌, ◌&&◌, min, true, List, [], length, IsRule, IsRanked}
 use Rattle.mwc_walk.proofs.Imports.{◌∙◌, arith, inl, inr, common_steps, w64, trailing_zeros, pow_mono, cases_eq, cases_lt, cases_Bool}
-use Rattle.mwc_walk.proofs.Imports.{rule_at, has, without, weight, wins, minimal, lowest-place, needs-each-member, Lane, eq-eqb}
-use Rattle.mwc_walk.proofs.Imports.{IsSplit, CursorIs, has-none, lane_at, IsVotes, get_or_default}
+use Rattle.mwc_walk.proofs.Imports.{CursorIs, has-none, lane_at, IsVotes, get_or_default}
 use Rattle.std.proofs.lemmas.{List.Sums.list_all-from_AllPass, Nat.and_le_l, Nat.Bits.bit_at-trailing_zeros, Nat.Bits.bit_at_and}
-use Rattle.std.proofs.Common.{bit_and, div-add-mod'}
+use Rattle.std.proofs.Common.{bit_and}
 use Rattle.coalitions.proofs.Shared.Digits.{has-kept, has-gone, lowest-cleared, without-less}
-use Rattle.council_game.proofs.Shared.{Weights.weight-skip, WinningByPlaces.sum-without, WinningByPlaces.rule-is}
+use Rattle.council_game.proofs.Shared.WinningByPlaces.{sum-without, rule-is}
 use Rattle.mwc_walk.specs.Inner.{Asked.asked_at, Places.NoneWins, Places.AreExcesses, Places.CanSpare, Spared.IsEnough, Spared.NoneSpared}
 use Rattle.mwc_walk.specs.declared.vetoes.Vetoes.{Vetoes}
 use Rattle.mwc_walk.proofs.{Shared.One.place-before, Shared.One.in-slice, Steps.enter-short, Steps.lane-here, Steps.sum-here}
-use Rattle.mwc_walk.proofs.Rules.{weight-block, weight-split, wins-prefix, met-at}
+use Rattle.mwc_walk.proofs.Rules.{weight-block, weight-parts, wins-prefix, met-at}
 
 pub has-and : (n q a b : ℕ) → has n q (bit_and a b) ≡ (has n q a && has n q b)
 unfolding has
@@ -36,28 +36,9 @@ still-wins v c q game below in' free = list_all-from_AllPass _ v.rules (λ i d l
     let less = sum-without v.members (rule_at v.rules i) c q _ (rule-is v i game lt) below in' refl in
     rw same (le-leb _ _ (omega (arith, free i lt, less))))
 
--- ---- what is there and what comes
--- digits above the places of a list weigh nothing
-weight-low : (ws : List ℕ) (c : ℕ) → weight ws (c % 2 ^ length ws) ≡ weight ws c
-weight-low ws c = sym (weight-skip ws (c / 2 ^ length ws) (c % 2 ^ length ws)) ∙ ap (weight ws) (div-add-mod' c (2 ^ length ws))
-
-pub weight-parts : (n p c : ℕ) (r : RuleView) → IsRule n r → p ≤ n
-    → weight r.weights c ≡ weight (take p r.weights) (c / 2 ^ (n - p)) + weight (drop p r.weights) c
-weight-parts n p c r is le =
-    let long : length (drop p r.weights) ≡ n - p = length-drop p r.weights ∙ ap (λ (i : ℕ). i - p) is.full in
-    omega (arith, weight-split is p c le, rw long at (weight-low (drop p r.weights) c))
-
 -- ---- one place after another
--- the last place of rest, as the cursor computes it
-pub record LastPlace (v : Votes) (a : Cursor) (rest : ℕ) : Type 0 where
-  pub small : trailing_zeros w64 rest < a.members
-  pub below : a.members - 1 - trailing_zeros w64 rest < v.members
-  pub inside : has v.members (a.members - 1 - trailing_zeros w64 rest) rest ≡ true
-  pub left : bit_and rest (rest - 1) ≡ without v.members (a.members - 1 - trailing_zeros w64 rest) rest
-  pub less : bit_and rest (rest - 1) < rest
-
 -- no place of rest comes after its last
-up-to-last : (n rest q : ℕ) → n ≤ 40 → 0 < rest → rest < 2 ^ n → q < n → has n q rest ≡ true → q ≤ n - 1 - trailing_zeros w64 rest
+pub up-to-last : (n rest q : ℕ) → n ≤ 40 → 0 < rest → rest < 2 ^ n → q < n → has n q rest ≡ true → q ≤ n - 1 - trailing_zeros w64 rest
 unfolding has
 up-to-last n rest q few pos short below in' =
     let up : 2 ^ n ≤ 2 ^ 40 = pow_mono few in
@@ -68,10 +49,24 @@ first-keeps : (rs : List RuleView) (e q m : ℕ) → IsRanked rs → 1 ≤ lengt
     → q < length (rule_at rs 0).weights → e < get_or (rule_at rs 0).weights m 0
 first-keeps rs e q m ranked some keeps before below = grind (arith, common_steps)
 
+-- what the last place of a mask rests on
+pub ruleset last = (common_steps, lowest-place, lowest-cleared, up-to-last)
+
 module _ {v : Votes} {p x rest : ℕ} {es : List ℕ} (tried : Tried v p x es rest) where
   pub tried-more : (q : ℕ) → 0 < rest → q < v.members → has v.members q rest ≡ true → (CanSpare v es q → ⊥)
       → Tried v p x es (without v.members q rest)
   tried-more q pos below in' kept = grind (arith, common_steps, both_ways, cases_eq, has-gone, has-kept, without-less)
+
+  -- where the first rule can not spare the last place of those left, no place can be spared
+  pub first-keeps-all : (q : ℕ) → IsVotes v → ((m : ℕ) → m < v.members → has v.members m rest ≡ true → m ≤ q) → q < v.members
+      → get_or es 0 0 < get_or (rule_at v.rules 0).weights q 0 → NoneSpared v p x es
+  first-keeps-all q game last below keeps = λ m lt in' spare. elim (cases_Bool (has v.members m rest)) [
+    | inl still ↦
+        let less = first-keeps v.rules _ q m game.ranked game.has_rule keeps (last m lt still)
+        (omega (arith, below, (rule-is v 0 game game.has_rule).full)) in
+        absurd (omega (arith, less, spare 0 game.has_rule))
+    | inr out ↦ tried.kept m lt in' out spare
+  ]
 
   pub tried-all : rest ≡ 0 → NoneSpared v p x es
   tried-all none = λ q below in'. tried.kept q below in' (ap (has v.members q) none ∙ has-none v.members q)
@@ -89,7 +84,7 @@ module _ {v : Votes} {a : Cursor} (is : CursorIs v a) where
     pub there-and-comes : weight (rule_at v.rules i).weights c ≡ (lane_at a.lanes i).sum + weight
         (drop a.place (rule_at v.rules i).weights) c
     there-and-comes =
-        let parts = weight-parts v.members a.place c (rule_at v.rules i) (lane-here is i below).rule is.place.to in
+        let parts = weight-parts (lane-here is i below).rule a.place c is.place.to in
         omega (arith, sum-here is i below, rw prefix at parts)
 
     pub meets : (rule_at v.rules i).quota ≤ weight (rule_at v.rules i).weights c
@@ -148,25 +143,5 @@ module _ {v : Votes} {a : Cursor} (is : CursorIs v a) where
   none-nothing none = λ c prefix. false_from_ne_true _ (λ min. none c prefix (((needs-each-member v c).0 min).0))
 
   -- all members of the prefix are still to be tried
-  pub tried-first : (es : List ℕ) (m : ℕ) → m ≡ a.prefix * 2 ^ (v.members - a.place) → Tried v a.place a.prefix es m
+  pub tried-first : (es : List ℕ) (m : ℕ) → m ≡ a.prefix * 2 ^ (a.members - a.place) → Tried v a.place a.prefix es m
   tried-first es m same = grind (arith, common_steps, both_ways, enter-short)
-
-  module _ {rest : ℕ} (pos : 0 < rest) where
-    pub last-place : rest < 2 ^ v.members → LastPlace v a rest
-    last-place short =
-        let last = lowest-place v.members rest is.game.few pos short in
-        let left = lowest-cleared v.members rest is.game.few pos short in
-        grind (arith, common_steps, without-less)
-
-    -- where the first rule can not spare the last place of those left, no place can be spared
-    pub first-keeps-all : {es : List ℕ} → Tried v a.place a.prefix es rest
-        → get_or es 0 0 < get_or (rule_at v.rules 0).weights (a.members - 1 - trailing_zeros w64 rest) 0 → NoneSpared v a.place a.prefix es
-    first-keeps-all {es} tried keeps = λ m below in' spare. elim (cases_Bool (has v.members m rest)) [
-      | inl still ↦
-          let last = last-place tried.below in
-          let first = lane-here is 0 (omega (arith, is.rules, is.game.has_rule)) in
-          let before = up-to-last v.members rest m is.game.few pos tried.below below still in
-          let less = first-keeps v.rules _ _ m is.game.ranked is.game.has_rule keeps (omega (arith, before)) (omega (arith, last.below)) in
-          absurd (omega (arith, less, spare 0 is.game.has_rule))
-      | inr out ↦ tried.kept m below in' out spare
-    ]

@@ -7,7 +7,7 @@ use Rattle.mwc_walk.proofs.Imports.{sym, ap, ◌∙◌, subst, arith, common_ste
 use Rattle.mwc_walk.proofs.Imports.{sum_by-take-drop, no_lane, weight, weight-le, rule_at, LaneIs, leb, get_or-take, get_or_default, sum}
 use Rattle.mwc_walk.proofs.Imports.{drop}
 use Rattle.std.proofs.Common.{cond, ltb, pow-suc, lt-ltb, le-ltb, length-take}
-use Rattle.std.proofs.lemmas.Nat.{shl_below, shl_whole, one_shl}
+use Rattle.std.proofs.lemmas.Nat.{shl_below, shl_whole}
 use Rattle.mwc_walk.specs.{Inner.Asked.AreAsked, Inner.Cursor.Steps, Inner.Cursor.Starts, declared.asked.Asked.Asked}
 use Rattle.mwc_walk.proofs.Rest.{dead-nothing, left-nothing, left-won, left-take, left-none, left-all}
 use Rattle.mwc_walk.proofs.Shared.One.{one-minimal, won-odd, empty-loses, slice-short, in-slice}
@@ -26,6 +26,9 @@ halves n p q x y below next twice =
 pub fixed-mask : (n k x : ℕ) → k ≤ n → n ≤ 40 → x < 2 ^ k → (x * 2 ^ (n - k) % 2 ^ 64 ≡ x * 2 ^ (n - k)) × (x * 2 ^ (n - k) < 2 ^ n)
 fixed-mask n k x le few short =
     let e : k + (n - k) ≡ n = omega arith in (shl_whole x k (n - k) 64 short (omega arith), grind (arith, common_steps, shl_below))
+
+-- what the mask of a prefix rests on
+pub ruleset masks = (common_steps, fixed-mask, pow_mono)
 
 -- one digit less
 half-shift : (x y k p q : ℕ) → q ≡ p + 1 → x ≡ y / 2 → k ≤ p → x / 2 ^ (p - k) ≡ y / 2 ^ (q - k)
@@ -149,22 +152,22 @@ module _ {v : Votes} {a : Cursor} (is : CursorIs v a) where
 
   -- ---- a fresh place
   -- what the tests on the lanes say of the rules
-  pub reach-is : (t : Bool) → list_all (lane_reaches a.place) (take a.rules a.lanes) ≡ t → reaches v.rules a.place a.prefix ≡ t
+  pub reach-is : list_all (lane_reaches a.place) (take a.rules a.lanes) ≡ reaches v.rules a.place a.prefix
   unfolding reaches
-  reach-is t h =
-      sym (rw (← is.rules) at (lanes-pass (λ r. leb r.quota (weight (take a.place r.weights) a.prefix + sum (drop a.place r.weights)))
+  reach-is =
+      rw (← is.rules) at (lanes-pass (λ r. leb r.quota (weight (take a.place r.weights) a.prefix + sum (drop a.place r.weights)))
       (lane_reaches a.place) v.rules a.lanes (omega (arith, is.rules, is.room)) (λ i lt.
       let own = lane-here i (omega (arith, lt, is.rules)) in
       let here = sum-here i (omega (arith, lt, is.rules)) in
-      rw (sub-leb, own.quota, here, own.rest a.place is.place.to) refl))) ∙ h
+      rw (sub-leb, own.quota, here, own.rest a.place is.place.to) refl))
 
-  pub win-is : (t : Bool) → list_all lane_wins (take a.rules a.lanes) ≡ t → wins_at v.rules a.place a.prefix ≡ t
+  pub win-is : list_all lane_wins (take a.rules a.lanes) ≡ wins_at v.rules a.place a.prefix
   unfolding wins_at
-  win-is t h =
-      sym (rw (← is.rules) at (lanes-pass (λ r. leb r.quota (weight (take a.place r.weights) a.prefix)) lane_wins v.rules a.lanes
+  win-is =
+      rw (← is.rules) at (lanes-pass (λ r. leb r.quota (weight (take a.place r.weights) a.prefix)) lane_wins v.rules a.lanes
       (omega (arith, is.rules, is.room)) (λ i lt.
       let own = lane-here i (omega (arith, lt, is.rules)) in
-      let here = sum-here i (omega (arith, lt, is.rules)) in rw (own.quota, here) refl))) ∙ h
+      let here = sum-here i (omega (arith, lt, is.rules)) in rw (own.quota, here) refl))
 
   module _ (fresh : a.fresh ≡ true) where
     -- a prefix is passed by, where nothing is left below it and no visit is owed
@@ -183,12 +186,9 @@ module _ {v : Votes} {a : Cursor} (is : CursorIs v a) where
     enter-spare nothing fixed = grind (arith, common_steps, left-nothing, open-most, pass-by)
 
   -- a prefix that reaches and does not win has a place after it
-  module _ {reaching winning : Bool} (reaches-is : reaching ≡ list_all (lane_reaches a.place) (take a.rules a.lanes))
-      (wins-is : winning ≡ list_all lane_wins (take a.rules a.lanes)) (reach : reaching ≡ true) (lose : winning ≡ false) where
+  module _ (can : reaches v.rules a.place a.prefix ≡ true) (lost : wins_at v.rules a.place a.prefix ≡ false) where
     pub in-room : a.place < v.members
-    in-room =
-        let can = reach-is true (sym reaches-is ∙ reach) in
-        let lost = win-is false (sym wins-is ∙ lose) in grind (arith, common_steps, both_ways, full-reach)
+    in-room = grind (arith, common_steps, both_ways, full-reach)
 
     pub in-fits : All (λ l. l.sum + get_or l.weights a.place 0 < 2 ^ 64) (take a.rules a.lanes)
     in-fits = λ i d lt.
@@ -210,8 +210,6 @@ module _ {v : Votes} {a : Cursor} (is : CursorIs v a) where
         → IsPart (lane_with a.place) a.lanes ls a.rules
         → Steps v a On (record a { lanes = ls; prefix = 2 * a.prefix + 1; place = a.place + 1; visits = t })
     enter-in fresh ls t counted holds part =
-        let can = reach-is true (sym reaches-is ∙ reach) in
-        let lost = win-is false (sym wins-is ∙ lose) in
         known On (λ f. record a { lanes = ls; prefix = 2 * a.prefix + 1; place = a.place + 1; visits = t; fresh = f }) true fresh (λ is.
         let place = place-down v a.bits a.number a.place (a.place + 1) a.prefix (2 * a.prefix + 1) refl (omega arith)
         in-room lost is.place in
@@ -221,9 +219,6 @@ module _ {v : Votes} {a : Cursor} (is : CursorIs v a) where
   -- the number of a prefix with zeros after it
   pub enter-short : a.prefix * 2 ^ (v.members - a.place) < 2 ^ v.members
   enter-short = (fixed-mask v.members a.place a.prefix is.place.to is.game.few is.place.short).1
-
-  pub enter-mask : a.prefix * 2 ^ (a.members - a.place) % 2 ^ 64 ≡ a.prefix * 2 ^ (v.members - a.place)
-  enter-mask = rw is.members (fixed-mask v.members a.place a.prefix is.place.to is.game.few is.place.short).0
 
   -- ---- a winning prefix
   module _ (won : wins_at v.rules a.place a.prefix ≡ true) where
@@ -243,32 +238,21 @@ module _ {v : Votes} {a : Cursor} (is : CursorIs v a) where
     won-visited = grind (arith, common_steps, cond-true, lt-ltb, last-in, cond-false, le-ltb, both_ways, empty-loses, cases_lt)
 
     -- a minimal one is given
-    pub enter-give : a.fresh ≡ true → (m : ℕ) → m ≡ a.prefix * 2 ^ (a.members - a.place) % 2 ^ 64
+    pub enter-give : a.fresh ≡ true → (m : ℕ) → m ≡ a.prefix * 2 ^ (a.members - a.place)
         → minimal v (a.prefix * 2 ^ (v.members - a.place)) ≡ true → Steps v a (Give m) (record a { fresh = false })
     enter-give fresh m found min =
-        rw (found ∙ enter-mask) (grind (arith, common_steps, in-slice, known, left-take, open-most, left-won, won-visited))
+        rw (found, is.members) (grind (arith, common_steps, in-slice, known, left-take, open-most, left-won, won-visited))
 
   -- between two calls no descent is under way
   pub rest-most : (a.fresh ≡ true → a.place ≡ a.bits) → length v.rules ≡ 1
       → a.visits + (v.members - a.bits) * length (rest_of_slice v a) ≤ a.bits + (v.members - a.bits) * length (slice v a.bits a.number)
   rest-most rests one = grind (arith, common_steps)
 
-pub first-number : (k j : ℕ) → k ≤ 10 → 1 * 2 ^ k % 2 ^ 64 - 1 - j ≡ 2 ^ k - 1 - j
-first-number k j le = ap (λ (i : ℕ). i - 1 - j) (one_shl k 64 (omega arith))
-
 -- the lanes, where the walk starts
 pub lanes-first : (v : Votes) (k x m : ℕ) (ls : List Lane) → k ≤ v.members → m ≡ x * 2 ^ (v.members - k) → LanesStand v ls
     → ((i : ℕ) → i < length v.rules → (lane_at ls i).sum ≡ weight (rule_at v.rules i).weights m) → LanesAre v k x ls
 unfolding LanesAre
 lanes-first v k x m ls le mask own sums = (own, λ i lt. sums i lt ∙ rw mask (weight-block (own i lt).rule k x le))
-
--- the mask of the fixed places
-pub start-mask : (n k j : ℕ) → k ≤ 10 → k ≤ n → n ≤ 40 → j < 2 ^ k
-    → ((1 * 2 ^ k % 2 ^ 64 - 1 - j) * 2 ^ (n - k) % 2 ^ 64 ≡ (2 ^ k - 1 - j) * 2 ^ (n - k)) × ((2 ^ k - 1 - j) * 2 ^ (n - k) < 2 ^ 40)
-start-mask n k j small le few below =
-    let mask = fixed-mask n k (2 ^ k - 1 - j) le few (omega arith) in
-    let most : 2 ^ n ≤ 2 ^ 40 = pow_mono few in
-    rw (first-number k j small) (mask.0, omega (arith, mask.1, most))
 
 pub starts : (v : Votes) (k j x m n fixed : ℕ) (ls : List Lane) (qs : List Asked) → IsVotes v → k ≤ v.members → j < 2 ^ k → n ≡ v.members
     → m ≡ length v.rules → m ≤ length ls → AreAsked v qs → fixed ≡ (2 ^ k - 1 - j) * 2 ^ (v.members - k) → LanesStand v ls

@@ -1,9 +1,9 @@
 //! How far a walk has come, and its steps.
-ghost use Rattle.std.specs.Prelude.{◌≡◌, ◌≢◌, ◌*◌, ◌+◌, ◌-◌, ◌^◌, ◌<◌, ◌≤◌, false, true, min, length, slice_index, IfSome, MatchOption};
+ghost use Rattle.std.specs.Prelude.{◌≡◌, ◌≢◌, ℕ, ◌*◌, ◌+◌, ◌-◌, ◌^◌, ◌<◌, ◌≤◌, false, true, bit_and, min, length, slice_index, IfSome, MatchOption};
 ghost use Rattle.coalitions.specs.declared.limits.TheConstants.{BITS, MEMBERS, RULES};
 ghost use Rattle.council_game.specs.Game.{votes_of};
-ghost use Rattle.council_game.specs.Votes.{minimal};
-ghost use Rattle.mwc_walk.specs.Inner.Places.{wins_at, NothingBelow, NoneWins, IsExcess, AreExcesses, CanSpare};
+ghost use Rattle.council_game.specs.Votes.{has, without, minimal};
+ghost use Rattle.mwc_walk.specs.Inner.Places.{reaches, wins_at, NothingBelow, IsExcess, AreExcesses, CanSpare};
 ghost use Rattle.mwc_walk.specs.Inner.Lanes.{lane_at};
 ghost use Rattle.mwc_walk.specs.Inner.Spared.{IsEnough, IsNeed, AreNeeds, NoneSpared, Tried};
 ghost use Rattle.mwc_walk.specs.Inner.Vetoes.{vetoes_at};
@@ -51,6 +51,29 @@ fn look_ahead(game: &Game, ahead: &mut Option<Ahead>)
     *ahead = Some(Ahead::of(game));
 }
 
+/// The fixed places of a slice, as a number.
+#[inline(always)]
+fn first_prefix(bits: usize, number: u16) -> u64
+    requires few { bits ≤ BITS }
+    requires number { number < 2 ^ bits }
+    ensures { result ≡ 2 ^ bits - 1 - number }
+{
+    (1 << bits) - 1 - number as u64
+}
+
+/// The rank mask of the members of a prefix.
+#[tactic(auto, using(crate::proofs::Steps::masks))]
+#[inline(always)]
+fn mask_of(prefix: u64, place: usize, members: usize) -> u64
+    requires few { members ≤ MEMBERS }
+    requires place { place ≤ members }
+    requires short { prefix < 2 ^ place }
+    ensures mask { result ≡ prefix * 2 ^ (members - place) }
+    ensures below { result < 2 ^ MEMBERS }
+{
+    prefix << (members - place)
+}
+
 impl Cursor {
     /// The cursor at the fixed places of a slice, which is all still to come.
     pub(crate) fn start(game: &Game, bits: u8, number: u16) -> Cursor
@@ -62,8 +85,8 @@ impl Cursor {
         let members = game.members();
         let rules = game.rules();
         let bits = bits as usize;
-        let prefix = (1 << bits) - 1 - number as u64;
-        let fixed = Coalition::of_mask(prefix << (members - bits));
+        let prefix = first_prefix(bits, number);
+        let fixed = Coalition::of_mask(mask_of(prefix, bits, members));
         let lanes = lanes_of(game, fixed);
         let asked = Asked::of_each(game, &lanes[..rules]);
         Cursor {
@@ -219,20 +242,38 @@ impl Cursor {
     {
         let rules = self.rules;
         let place = self.place;
-        if !all_reach(&self.lanes[..rules], place) || self.passes_by(game, ahead) {
+        if !self.reaches(game) || self.passes_by(game, ahead) {
             self.fresh = false;
             return Step::On;
         }
-        if !all_win(&self.lanes[..rules]) {
+        if !self.wins(game) {
             take_in(&mut self.lanes[..rules], place);
             self.prefix = 2 * self.prefix + 1;
             self.place += 1;
             self.visits = self.visits.saturating_add(1);
             return Step::On;
         }
-        let found = Coalition::of_mask(self.prefix << (self.members - place));
+        let found = Coalition::of_mask(mask_of(self.prefix, place, self.members));
         self.fresh = false;
         Step::Give(found)
+    }
+
+    /// Whether each quota can still be met.
+    #[inline(always)]
+    fn reaches(&self, game: &Game) -> bool
+        requires { CursorIs (votes_of game.now) self.now }
+        ensures { result ≡ reaches (votes_of game.now).rules self.now.place self.now.prefix }
+    {
+        all_reach(&self.lanes[..self.rules], self.place)
+    }
+
+    /// Whether the prefix wins by itself.
+    #[inline(always)]
+    fn wins(&self, game: &Game) -> bool
+        requires { CursorIs (votes_of game.now) self.now }
+        ensures { result ≡ wins_at (votes_of game.now).rules self.now.place self.now.prefix }
+    {
+        all_win(&self.lanes[..self.rules])
     }
 
     /// Whether the prefix is passed by, since no coalition below it is minimal: a member can be spared by what is
@@ -311,7 +352,7 @@ impl Cursor {
         self.has_spared(game, &excess)
     }
 
-    /// The least by which each winning coalition below passes a rule's quota; none where there is none.
+    /// The least by which each winning coalition below passes a rule's quota; none where there is none, so that none is minimal.
     fn excess_ahead(
         &self,
         game: &Game,
@@ -323,7 +364,7 @@ impl Cursor {
         requires ahead { AheadIs (votes_of game.now) ahead.now }
         requires short { AreNeeds (votes_of game.now) self.now.place self.now.prefix ahead.now.vetoes short.now }
         requires rule { rule < self.now.rules }
-        ensures { MatchOption result (NoneWins (votes_of game.now) self.now.place self.now.prefix)
+        ensures { MatchOption result (NothingBelow (votes_of game.now) self.now.place self.now.prefix)
             (λ e. IsExcess (votes_of game.now) self.now.place self.now.prefix rule e) }
     {
         let need = self.need(game, ahead, short, rule);
@@ -395,7 +436,7 @@ impl Cursor {
     {
         let mut rest = self.may_be_spared(game, excess);
         while rest != 0 {
-            let place = self.members - 1 - rest.trailing_zeros() as usize;
+            let place = self.last_place(game, rest);
             if self.lanes[0].weights[place] > excess[0] {
                 return false;
             }
@@ -407,6 +448,22 @@ impl Cursor {
         false
     }
 
+    /// The last place of a mask of some members.
+    #[tactic(auto, using(crate::proofs::Spared::last))]
+    #[inline(always)]
+    fn last_place(&self, game: &Game, rest: u64) -> usize
+        requires is { CursorIs (votes_of game.now) self.now }
+        requires some { 0 < rest }
+        requires short { rest < 2 ^ (votes_of game.now).members }
+        ensures below { result < (votes_of game.now).members }
+        ensures inside { has (votes_of game.now).members result rest ≡ true }
+        ensures last { (q : ℕ) → q < (votes_of game.now).members →
+            has (votes_of game.now).members q rest ≡ true → q ≤ result }
+        ensures left { bit_and rest (rest - 1) ≡ without (votes_of game.now).members result rest }
+    {
+        self.members - 1 - rest.trailing_zeros() as usize
+    }
+
     /// Of the members of the prefix those that each rule may spare: a rule that passes its quota by nothing spares
     /// none that has a weight.
     #[inline(always)]
@@ -414,7 +471,7 @@ impl Cursor {
         requires { CursorIs (votes_of game.now) self.now }
         ensures { Tried (votes_of game.now) self.now.place self.now.prefix excess.now result }
     {
-        let mut few = self.prefix << (self.members - self.place);
+        let mut few = mask_of(self.prefix, self.place, self.members);
         for rule in 0..self.rules {
             if excess[rule] == 0 {
                 few &= self.lanes[rule].weightless;

@@ -92,9 +92,8 @@ fn weights_of(game: &Game, rule: usize) -> [u64; limits::MEMBERS]
 
 /// What the places from each one on weigh together.
 pub(crate) fn rest_of(weights: &[u64; limits::MEMBERS], members: usize) -> [u64; limits::SIZES]
-    requires members { members ≤ MEMBERS }
-    requires fits { sum (take members weights.now) < 2 ^ 64 }
-    ensures { (q : ℕ) → q ≤ members →
+    requires { members ≤ MEMBERS }
+    ensures { sum (take members weights.now) < 2 ^ 64 → (q : ℕ) → q ≤ members →
         slice_index result q ≡ sum (drop q (take members weights.now)) }
 {
     filled_back(

@@ -1,5 +1,5 @@
 use Rattle.mwc_walk.proofs.Imports.{◌-◌, take, drop, weight, arith, rules, common_steps, IsPrice}
-use Rattle.mwc_walk.proofs.{Coming.weight-past, Coming.price-step, Filled.from-back}
+use Rattle.mwc_walk.proofs.{Coming.weight-past, Coming.price-step, Rules.from-back}
 use Rattle.mwc_walk.specs.Inner.Prices.{price_at}
 use Rattle.mwc_walk.proofs.price.Prices.new.Goals as goal
 

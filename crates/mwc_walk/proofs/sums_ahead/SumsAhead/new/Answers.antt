@@ -1,5 +1,5 @@
 use Rattle.mwc_walk.proofs.Imports.{◌≡◌, ◌-◌, ◌+◌, [], take, drop, weight, get_or, arith, rules, Intervals, Covers, inl, inr, cases_lt}
-use Rattle.mwc_walk.proofs.{Coming.weight-past, Coming.sums-step, Filled.from-back}
+use Rattle.mwc_walk.proofs.{Coming.weight-past, Coming.sums-step, Rules.from-back}
 use Rattle.mwc_walk.proofs.sums_ahead.SumsAhead.new.Goals as goal
 
 abbrev none : Intervals
