@@ -4,6 +4,7 @@ ghost use Rattle.coalitions.specs.declared.limits.TheConstants.{BITS, MEMBERS, R
 ghost use Rattle.council_game.specs.Game.{votes_of};
 ghost use Rattle.council_game.specs.Votes.{has, without, minimal};
 ghost use Rattle.mwc_walk.specs.Inner.Places.{reaches, wins_at, NothingBelow, IsExcess, AreExcesses, CanSpare};
+ghost use Rattle.mwc_walk.specs.Inner.Asked.{asked_at};
 ghost use Rattle.mwc_walk.specs.Inner.Lanes.{lane_at};
 ghost use Rattle.mwc_walk.specs.Inner.Spared.{IsEnough, IsNeed, AreNeeds, NoneSpared, Tried};
 ghost use Rattle.mwc_walk.specs.Inner.Vetoes.{vetoes_at};
@@ -319,18 +320,32 @@ impl Cursor {
         self.has_spared(game, &self.excess(game))
     }
 
-    /// By how much each rule's quota is passed by what is there and what vetoers bring; 0 where it is not.
+    /// By how much each rule's quota is passed by what is there and what vetoers bring; 0 where it is not. All four at once: a
+    /// loop over the rules writes the array number by number, and a copy that reads it at once waits for that.
     #[inline(always)]
     fn excess(&self, game: &Game) -> [u64; limits::RULES]
         requires { CursorIs (votes_of game.now) self.now }
         ensures are { AreExcesses (votes_of game.now) self.now.place self.now.prefix result }
         ensures enough { IsEnough (votes_of game.now) self.now.place self.now.prefix result }
     {
-        filled(0, self.rules, |rule| {
-            self.lanes[rule]
-                .sum
-                .saturating_sub(self.asked[rule].before[self.place])
-        })
+        [
+            self.passed_by(0),
+            self.passed_by(1),
+            self.passed_by(2),
+            self.passed_by(3),
+        ]
+    }
+
+    /// By how much a rule's quota is passed by what is there and what vetoers bring.
+    #[inline(always)]
+    fn passed_by(&self, rule: usize) -> u64
+        requires rule { rule < RULES }
+        requires place { self.now.place ≤ MEMBERS }
+        ensures { result ≡ (lane_at self.now.lanes rule).sum - asked_at self.now.asked rule self.now.place }
+    {
+        self.lanes[rule]
+            .sum
+            .saturating_sub(self.asked[rule].before[self.place])
     }
 
     /// Whether no coalition below is minimal by what can still come: some quota can not be met by any sum that
