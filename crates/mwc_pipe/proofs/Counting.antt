@@ -1,6 +1,6 @@
 -- The counts of a history and the items inside.
 use Rattle.std.proofs.Common.{◌≡◌, ℕ, ◌-◌, ◌<◌, ◌==◌, Bool, true, false, ◌||◌, List, [], ◌∷◌, ◌++◌, length, slice_get, if◌then◌else◌, refl}
-use Rattle.std.proofs.Common.{ap, sym, ◌∙◌, arith, drop, append_assoc, length-append, not, append-nil}
+use Rattle.std.proofs.Common.{ap, sym, arith, drop, append_assoc, length-append, not, append-nil}
 use Rattle.std.proofs.lemmas.{Bool.Decides.nat_tests, Grind.common_steps, List.Elements.filter_map-append, List.Folds.list_any-append}
 use Rattle.std.proofs.Math.Bool.{or-false, or-true}
 use Rattle.mwc_pipe.specs.declared.{reply.Reply.Reply, step.Step.TheVariants.Put, step.Step.TheVariants.Take, step.Step.TheVariants.Close}
@@ -39,13 +39,14 @@ module _ {T : Type 0} where
   reply_in pipe Take = reply_of_take (slice_get pipe.inside 0) pipe.closed
   reply_in pipe Close = if pipe.closed then Again else First
 
-  -- what is inside after the step
+  -- what is inside after the step: a put that is accepted comes last, and the oldest is taken out
+  abbrev pub inside_after : PipeView T → Step T → List T
+  inside_after pipe (Put x) = pipe.inside ++ items_in ((Put x, reply_in pipe (Put x)) ∷ [])
+  inside_after pipe Take = drop 1 pipe.inside
+  inside_after pipe Close = pipe.inside
+
   abbrev pub stepped : PipeView T → Step T → PipeView T
-  stepped pipe (Put x) =
-      if pipe.closed then pipe
-      else (if length pipe.inside == pipe.capacity then pipe else (record pipe { inside = pipe.inside ++ x ∷ [] }))
-  stepped pipe Take = record pipe { inside = drop 1 pipe.inside }
-  stepped pipe Close = record pipe { closed = true }
+  stepped pipe step = record { capacity = pipe.capacity; inside = inside_after pipe step; closed = pipe.closed || is_close step }
 
   -- counting gives the reply that the items inside give
   pub reply_is : (past : List (Event T)) (pipe : PipeView T) (step : Step T) → Leaves past pipe →
@@ -54,83 +55,53 @@ module _ {T : Type 0} where
   reply_is past pipe Take leaves = rw (← leaves.closed, oldest past pipe leaves) refl
   reply_is past pipe Close leaves = rw (← leaves.closed) refl
 
-  -- a step that moves the items inside by what it takes in and gives out
-  leaves_by : (past : List (Event T)) (pipe new : PipeView T) (event : Event T) → Leaves past pipe →
-      items_out (event ∷ []) ++ new.inside ≡ pipe.inside ++ items_in (event ∷ []) → new.closed ≡ (pipe.closed || is_close event.0) →
-      Leaves (past ++ event ∷ []) new
-  leaves_by past pipe new event leaves moved shut = grind (arith, common_steps, append_assoc, filter_map-append, list_any-append, or-false)
+  oldest_out : (xs : List T) (closed : Bool) → items_out ((Take, reply_of_take (slice_get xs 0) closed) ∷ []) ++ drop 1 xs ≡ xs ++ []
+  oldest_out [] true = refl
+  oldest_out [] false = refl
+  oldest_out (x ∷ xs) closed = sym (append-nil (x ∷ xs))
 
-  -- a close
-  pub leaves_closed : (past : List (Event T)) (pipe : PipeView T) (reply : Reply T) → Leaves past pipe →
-      Leaves (past ++ (Close, reply) ∷ []) (record pipe { closed = true })
-  leaves_closed past pipe reply leaves =
-      leaves_by past pipe _ (Close, reply) leaves (sym (append-nil pipe.inside)) (sym (or-true pipe.closed))
+  -- a step moves the items inside by what it takes in and gives out
+  moved : (pipe : PipeView T) (step : Step T) →
+      items_out ((step, reply_in pipe step) ∷ []) ++ inside_after pipe step ≡ pipe.inside ++ items_in ((step, reply_in pipe step) ∷ [])
+  moved pipe (Put x) = refl
+  moved pipe Take = oldest_out pipe.inside pipe.closed
+  moved pipe Close = sym (append-nil pipe.inside)
+
+  -- the step leads from what a pipe holds to what it holds then
+  pub leaves_step : (past : List (Event T)) (pipe : PipeView T) (step : Step T) → Leaves past pipe →
+      Leaves (past ++ (step, reply_in pipe step) ∷ []) (stepped pipe step)
+  leaves_step past pipe step leaves =
+      let move = moved pipe step in
+      grind (arith, common_steps, append_assoc, filter_map-append, list_any-append, or-false)
 
   abbrev pub holding : ℕ → List T → Bool → PipeView T
   holding capacity inside closed = record { capacity = capacity; inside = inside; closed = closed }
 
-  -- the step leads from what a pipe holds to what it holds then
-  leaves_put : (past : List (Event T)) (n : ℕ) (xs : List T) (x : T) (closed full : Bool) → Leaves past (holding n xs closed) →
-      (length xs == n) ≡ full →
-      Leaves (past ++ (Put x, reply_in (holding n xs closed) (Put x)) ∷ []) (stepped (holding n xs closed) (Put x))
-  leaves_put past n xs x true full leaves e = leaves_by past (holding n xs true) _ (Put x, Closed) leaves (sym (append-nil xs)) refl
-  leaves_put past n xs x false true leaves e = rw e (leaves_by past (holding n xs false) (holding n xs false) (Put x, Full) leaves (sym (append-nil xs)) refl)
-  leaves_put past n xs x false false leaves e = rw e (leaves_by past (holding n xs false) (holding n (xs ++ x ∷ []) false) (Put x, Accepted) leaves refl refl)
-
-  leaves_take : (past : List (Event T)) (n : ℕ) (xs : List T) (closed : Bool) → Leaves past (holding n xs closed) →
-      Leaves (past ++ (Take, reply_in (holding n xs closed) Take) ∷ []) (stepped (holding n xs closed) Take)
-  leaves_take past n [] true leaves = leaves_by past (holding n [] true) _ (Take, Ended) leaves refl refl
-  leaves_take past n [] false leaves = leaves_by past (holding n [] false) _ (Take, Empty) leaves refl refl
-  leaves_take past n (x ∷ xs) closed leaves =
-      leaves_by past (holding n (x ∷ xs) closed) _ (Take, Item x) leaves (sym (append-nil (x ∷ xs))) (sym (or-false closed))
-
-  pub leaves_step : (past : List (Event T)) (pipe : PipeView T) (step : Step T) → Leaves past pipe →
-      Leaves (past ++ (step, reply_in pipe step) ∷ []) (stepped pipe step)
-  leaves_step past pipe (Put x) leaves = leaves_put past pipe.capacity pipe.inside x pipe.closed _ leaves refl
-  leaves_step past pipe Take leaves = leaves_take past pipe.capacity pipe.inside pipe.closed leaves
-  leaves_step past pipe Close leaves = leaves_closed past pipe _ leaves
-
-  capacity_put : (pipe : PipeView T) (x : T) (b f : Bool) → pipe.closed ≡ b → (length pipe.inside == pipe.capacity) ≡ f →
-      (stepped pipe (Put x)).capacity ≡ pipe.capacity
-  capacity_put pipe x true f eb ef = rw eb refl
-  capacity_put pipe x false true eb ef = rw (eb, ef) refl
-  capacity_put pipe x false false eb ef = rw (eb, ef) refl
-
-  -- no step changes the capacity
-  pub capacity_stays : (pipe : PipeView T) (step : Step T) → (stepped pipe step).capacity ≡ pipe.capacity
-  capacity_stays pipe (Put x) = capacity_put pipe x _ _ refl refl
-  capacity_stays pipe Take = refl
-  capacity_stays pipe Close = refl
-
   -- an answer and a new state that the items inside give are a step
   pub is_step : (old new : PipeView T) (step : Step T) (reply : Reply T) →
       reply ≡ reply_in old step → new ≡ stepped old step → IsStep old step reply new
-  is_step old new step reply er en = grind (arith, common_steps, capacity_stays, leaves_step, reply_is)
+  is_step old new step reply er en = grind (arith, common_steps, leaves_step, reply_is)
 
   -- the steps one by one
 
   pub closed_step : (pipe : PipeView T) (x : T) → pipe.closed ≡ true → IsStep pipe (Put x) Closed pipe
-  closed_step pipe x ec = is_step pipe pipe (Put x) Closed (rw ec refl) (rw ec refl)
+  closed_step pipe x ec = is_step pipe pipe (Put x) Closed (rw ec refl) (grind (arith, common_steps, or-false))
 
   pub full_step : (pipe : PipeView T) (x : T) → pipe.closed ≡ false → length pipe.inside ≡ pipe.capacity → IsStep pipe (Put x) Full pipe
   full_step pipe x ec ef =
       let full : (length pipe.inside == pipe.capacity) ≡ true = grind (arith, nat_tests) in
-      is_step pipe pipe (Put x) Full (rw (ec, full) refl) (rw (ec, full) refl)
+      is_step pipe pipe (Put x) Full (rw (ec, full) refl) (grind (arith, common_steps, or-false))
 
   pub accepted_step : (pipe new : PipeView T) (x : T) → pipe.closed ≡ false → length pipe.inside < pipe.capacity →
       new ≡ record pipe { inside = pipe.inside ++ x ∷ [] } → IsStep pipe (Put x) Accepted new
   accepted_step pipe new x ec less en =
       let full : (length pipe.inside == pipe.capacity) ≡ false = grind (arith, nat_tests) in
-      is_step pipe new (Put x) Accepted (rw (ec, full) refl) (en ∙ rw (ec, full) refl)
-
-  none_left : (pipe : PipeView T) → pipe.inside ≡ [] → pipe ≡ stepped pipe Take
-  none_left pipe e =
-      ap (λ xs. holding pipe.capacity xs pipe.closed) e ∙ sym (ap (λ xs. holding pipe.capacity (drop 1 xs) pipe.closed) e)
+      is_step pipe new (Put x) Accepted (rw (ec, full) refl) (grind (arith, common_steps, or-false))
 
   pub take_step : (old new : PipeView T) (outcome : Taken T) → TakesOut old outcome new → IsStep old Take (reply_of_taken outcome) new
-  take_step old new (taken.Item x) e = is_step old new Take (Item x) (rw e refl) (rw e refl)
-  take_step old new taken.Empty e = is_step old new Take Empty (rw (e.0, e.1) refl) (e.2 ∙ none_left old e.0)
-  take_step old new taken.Ended e = is_step old new Take Ended (rw (e.0, e.1) refl) (e.2 ∙ none_left old e.0)
+  take_step old new (taken.Item x) e = is_step old new Take (Item x) (rw e refl) (grind (arith, common_steps, or-false))
+  take_step old new taken.Empty e = is_step old new Take Empty (rw (e.0, e.1) refl) (grind (arith, common_steps, or-false))
+  take_step old new taken.Ended e = is_step old new Take Ended (rw (e.0, e.1) refl) (grind (arith, common_steps, or-false))
 
   close_reply : (closed first : Bool) → first ≡ not closed → (reply_of_close {T = T} first) ≡ (if closed then Again else First)
   close_reply true first e = rw e refl
@@ -138,4 +109,7 @@ module _ {T : Type 0} where
 
   pub close_step : (old new : PipeView T) (first : Bool) → first ≡ not old.closed → new ≡ record old { closed = true } →
       IsStep old Close (reply_of_close first) new
-  close_step old new first ef en = is_step old new Close (reply_of_close first) (close_reply old.closed first ef) en
+  close_step old new first ef en = is_step old new Close (reply_of_close first) (close_reply old.closed first ef) (grind (arith, common_steps, or-true))
+
+-- what the calls of a pipe rest on
+pub ruleset stepping = (nat_tests, accepted_step, close_step)

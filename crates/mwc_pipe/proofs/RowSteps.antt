@@ -1,13 +1,14 @@
 -- What calls that move many items stand for.
 use Rattle.std.proofs.Common.{◌≡◌, ℕ, ◌+◌, ◌<◌, ◌≤◌, Bool, true, false, List, [], ◌∷◌, ◌++◌, length, refl, suc, zero, ap, ◌∙◌, sym, arith}
-use Rattle.std.proofs.Common.{append_assoc, length-append, append-nil}
-use Rattle.std.proofs.lemmas.{Grind.common_steps, List.Elements.filter_map-append, List.Folds.list_any-append}
+use Rattle.std.proofs.Common.{append_assoc, length-append, append-nil, nat_lt}
+use Rattle.std.proofs.lemmas.{Grind.common_steps, List.nil_from_length, List.Elements.filter_map-append, List.Folds.list_any-append}
 use Rattle.std.proofs.Math.Bool.{or-false}
 use Rattle.mwc_pipe.specs.declared.{reply.Reply.Reply, step.Step.Step, step.Step.TheVariants.Put, step.Step.TheVariants.Take}
+use Rattle.mwc_pipe.specs.PipeView.{PipeView, Leaves}
 use Rattle.mwc_pipe.specs.declared.reply.Reply.TheVariants.{Accepted, Full, Item, Empty}
-use Rattle.mwc_pipe.specs.History.{Event, item_in, item_out, is_close, has_close, items_in, items_out, reply_to}
+use Rattle.mwc_pipe.specs.History.{Event, has_close, items_in, items_out, reply_to}
 use Rattle.mwc_pipe.specs.RowSteps.{puts_of, takes_of, AreAnswered, IsSeenByIn, IsSeenByOut}
-use Rattle.mwc_pipe.proofs.Counting.{get_after}
+use Rattle.mwc_pipe.proofs.Counting.{holding, reply_is, leaves_step}
 
 module _ {T : Type 0} where
   answered_none : (capacity : ℕ) (past : List (Event T)) → AreAnswered capacity past []
@@ -29,14 +30,9 @@ module _ {T : Type 0} where
   put_full capacity past x unclosed e = grind (arith, common_steps)
 
   -- a put that is accepted, as the past has it
-  in_more : (past : List (Event T)) (x : T) → length (items_in (past ++ (Put x, Accepted) ∷ [])) ≡ length (items_in past) + 1
-  in_more past x = ap length (filter_map-append item_in past ((Put x, Accepted) ∷ [])) ∙ length-append (items_in past) (x ∷ [])
-
-  out_same : (past : List (Event T)) (x : T) → items_out (past ++ (Put x, Accepted) ∷ []) ≡ items_out past
-  out_same past x = filter_map-append item_out past ((Put x, Accepted) ∷ []) ∙ append-nil (items_out past)
-
-  open_put : (past : List (Event T)) (x : T) → has_close past ≡ false → has_close (past ++ (Put x, Accepted) ∷ []) ≡ false
-  open_put past x unclosed = rw (list_any-append (λ event. is_close event.0) past ((Put x, Accepted) ∷ []), or-false) unclosed
+  put_counts : (past : List (Event T)) (x : T) → (length (items_in (past ++ (Put x, Accepted) ∷ [])) ≡ length (items_in past) + 1)
+      × (items_out (past ++ (Put x, Accepted) ∷ []) ≡ items_out past) × (has_close (past ++ (Put x, Accepted) ∷ []) ≡ has_close past)
+  put_counts past x = grind (arith, common_steps, filter_map-append, list_any-append, or-false)
 
   puts_on : (capacity : ℕ) (past : List (Event T)) (row : List T) (n : ℕ) → has_close past ≡ false → n ≤ length row →
       length (items_out past) ≤ length (items_in past) → length (items_in past) + n ≤ length (items_out past) + capacity →
@@ -47,13 +43,10 @@ module _ {T : Type 0} where
       let last = put_full capacity past x unclosed (omega (arith, full (omega arith))) in
       answered_more capacity past (Put x) Full [] last (answered_none capacity (past ++ (Put x, Full) ∷ []))
   puts_on capacity past (x ∷ row) (suc n) unclosed l few room full =
-      let after : List (Event T) = past ++ (Put x, Accepted) ∷ [] in
-      let more : length (items_in after) ≡ length (items_in past) + 1 = in_more past x in
-      let same : length (items_out after) ≡ length (items_out past) = ap length (out_same past x) in
-      let shut = open_put past x unclosed in
+      let (more, same, shut) = put_counts past x in
       let reply = put_accepted capacity past x unclosed few (omega arith) in
-      answered_more capacity past (Put x) Accepted (puts_of row n) reply
-      (puts_on capacity after row n shut (omega arith) (omega arith) (omega arith) (λ z. omega (arith, full (omega arith))))
+      answered_more capacity past (Put x) Accepted (puts_of row n) reply (puts_on capacity (past ++ (Put x, Accepted) ∷ []) row n (shut ∙ unclosed)
+      (omega arith) (omega (arith, ap length same)) (omega (arith, ap length same)) (λ z. omega (arith, ap length same, full (omega arith))))
 
   -- a row that is put in is answered as a pipe answers it
   pub puts_answered : (capacity gone : ℕ) (accepted : List T) (past : List (Event T)) (row : List T) (n : ℕ) →
@@ -62,42 +55,22 @@ module _ {T : Type 0} where
       AreAnswered capacity past (puts_of row n)
   puts_answered capacity gone accepted past row n seen l room full = grind (arith, common_steps, puts_on)
 
-  -- the reply to a take
-  take_oldest : (capacity : ℕ) (past : List (Event T)) (x : T) (rest : List T) → items_in past ≡ items_out past ++ x ∷ rest →
-      reply_to capacity past Take ≡ Item x
-  take_oldest capacity past x rest e = grind (arith, common_steps, get_after)
-
-  take_none : (capacity : ℕ) (past : List (Event T)) → has_close past ≡ false → items_in past ≡ items_out past ++ [] →
-      reply_to capacity past Take ≡ Empty
-  take_none capacity past unclosed e = grind (arith, common_steps, get_after)
-
-  in_same : (past : List (Event T)) (x : T) → items_in (past ++ (Take, Item x) ∷ []) ≡ items_in past
-  in_same past x = filter_map-append item_in past ((Take, Item x) ∷ []) ∙ append-nil (items_in past)
-
-  out_more : (past : List (Event T)) (x : T) → items_out (past ++ (Take, Item x) ∷ []) ≡ items_out past ++ x ∷ []
-  out_more past x = filter_map-append item_out past ((Take, Item x) ∷ [])
-
-  open_take : (past : List (Event T)) (x : T) → has_close past ≡ false → has_close (past ++ (Take, Item x) ∷ []) ≡ false
-  open_take past x unclosed = rw (list_any-append (λ event. is_close event.0) past ((Take, Item x) ∷ []), or-false) unclosed
-
-  takes_on : (capacity : ℕ) (past : List (Event T)) (items known : List T) (short : Bool) → has_close past ≡ false →
-      items_in past ≡ items_out past ++ (items ++ known) → (short ≡ true → known ≡ []) → AreAnswered capacity past (takes_of items short)
-  takes_on capacity past [] known false unclosed e none = answered_none capacity past
-  takes_on capacity past [] known true unclosed e none =
-      let start : items_in past ≡ items_out past ++ known = e in
-      let last : items_in past ≡ items_out past ++ [] = start ∙ ap (λ (w : List T). items_out past ++ w) (none refl) in
-      let reply = take_none capacity past unclosed last in
-      answered_more capacity past Take Empty [] reply (answered_none capacity (past ++ (Take, Empty) ∷ []))
-  takes_on capacity past (x ∷ items) known short unclosed e none =
-      let after : List (Event T) = past ++ (Take, Item x) ∷ [] in
-      let left : items_in after ≡ items_out after ++ (items ++ known) =
-      in_same past x ∙ e ∙ sym (append_assoc (items_out past) (x ∷ []) (items ++ known))
-      ∙ ap (λ (w : List T). w ++ (items ++ known)) (sym (out_more past x)) in
-      answered_more capacity past Take (Item x) (takes_of items short) (take_oldest capacity past x (items ++ known) e)
-      (takes_on capacity after items known short (open_take past x unclosed) left none)
+  takes_on : (capacity : ℕ) (past : List (Event T)) (items known : List T) (short : Bool) →
+      Leaves past (holding capacity (items ++ known) false) → (short ≡ true → known ≡ []) → AreAnswered capacity past (takes_of items short)
+  takes_on capacity past [] known false leaves none = answered_none capacity past
+  takes_on capacity past [] known true leaves none =
+      answered_more capacity past Take Empty [] (rw (none refl) at (reply_is past (holding capacity known false) Take leaves))
+      (answered_none capacity (past ++ (Take, Empty) ∷ []))
+  takes_on capacity past (x ∷ items) known short leaves none =
+      let pipe : PipeView T = holding capacity (x ∷ (items ++ known)) false in
+      answered_more capacity past Take (Item x) (takes_of items short) (reply_is past pipe Take leaves)
+      (takes_on capacity (past ++ (Take, Item x) ∷ []) items known short (leaves_step past pipe Take leaves) none)
 
   -- a row that is taken is answered as a pipe answers it
   pub takes_answered : (capacity : ℕ) (taken items known : List T) (past : List (Event T)) (short : Bool) →
       IsSeenByOut ((taken ++ items) ++ known) taken past →
       (short ≡ true → known ≡ []) → AreAnswered capacity past (takes_of items short)
   takes_answered capacity taken items known past short seen none = grind (arith, common_steps, append_assoc, takes_on)
+
+-- what a call that takes words rests on
+pub ruleset takes = (common_steps, nat_lt, nil_from_length, takes_answered)

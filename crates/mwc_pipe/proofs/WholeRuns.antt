@@ -1,18 +1,18 @@
 -- What holds after every list of steps.
 use Rattle.std.proofs.Common.{slice_get, take, refl, ap, sym, ◌∙◌, arith, suc, zero, length-append, length-drop, get_or, zero-add, add-zero}
-use Rattle.std.proofs.Common.{◌≡◌, ◌≢◌, ℕ, ◌+◌, ◌<◌, ◌≤◌, ◌==◌, Bool, true, false, ◌||◌, List, [], ◌∷◌, ◌++◌, length, Option, Some, None}
-use Rattle.std.proofs.Common.{filter_map, option_to_list}
+use Rattle.std.proofs.Common.{◌≡◌, ℕ, ◌+◌, ◌<◌, ◌≤◌, Bool, true, false, ◌||◌, List, [], ◌∷◌, ◌++◌, length, Option, Some, None, filter_map}
+use Rattle.std.proofs.Common.{option_to_list}
 use Rattle.std.proofs.{Math.Bool.or-false, Math.Bool.or-true, Math.Bool.or_assoc, lemmas.List.Elements.filter_map-append}
-use Rattle.std.proofs.lemmas.{Grind.common_steps, List.map-append, List.take_more, List.Folds.list_any-append, Option.slice_get-map}
-use Rattle.std.proofs.lemmas.Bool.{eqb-false}
+use Rattle.std.proofs.lemmas.{Bool.Decides.nat_tests, List.map-append, List.take_more, List.Folds.list_any-append, Option.slice_get-map}
+use Rattle.std.proofs.lemmas.{Bool.cases_Bool, Grind.common_steps}
 use Rattle.std.specs.List.{list_any}
 use Rattle.mwc_pipe.specs.declared.{reply.Reply.Reply, reply.Reply.TheVariants.Accepted, reply.Reply.TheVariants.First, step.Step.Step}
 use Rattle.mwc_pipe.specs.declared.step.Step.TheVariants.{Put, Take, Close}
 use Rattle.mwc_pipe.specs.PipeView.{PipeView, Leaves, IsStep}
 use Rattle.mwc_pipe.specs.History.{Event, item_in, item_out, is_close, has_close, items_in, items_out, reply_to, history_after, history}
-use Rattle.mwc_pipe.specs.History.{replies, IsLawful}
+use Rattle.mwc_pipe.specs.History.{replies}
 use Rattle.mwc_pipe.specs.Laws.{NothingIsLost, NothingEntersAfterClose, EachReplyIsCounted, HasPast}
-use Rattle.mwc_pipe.proofs.Counting.{holding, leaves_closed, history_after_more, stepped, reply_is, leaves_step, capacity_stays, get_after}
+use Rattle.mwc_pipe.proofs.Counting.{holding, history_after_more, stepped, reply_is, leaves_step, inside_count, get_after}
 
 get_first : {X : Type 0} (xs ys : List X) (k : ℕ) (x : X) → slice_get xs k ≡ Some x → slice_get (xs ++ ys) k ≡ Some x
 get_first [] ys k x e = absurd (cc)
@@ -31,17 +31,9 @@ module _ {T : Type 0} where
     pub same : pipe.capacity ≡ capacity
     pub short : length pipe.inside ≤ pipe.capacity
 
-  short_put : (pipe : PipeView T) (x : T) (closed full : Bool) → pipe.closed ≡ closed → (length pipe.inside == pipe.capacity) ≡ full →
-      length pipe.inside ≤ pipe.capacity → length (stepped pipe (Put x)).inside ≤ pipe.capacity
-  short_put pipe x true full ec ef short = rw ec short
-  short_put pipe x false true ec ef short = rw (ec, ef) short
-  short_put pipe x false false ec ef short =
-      let other : length pipe.inside ≢ pipe.capacity = eqb-false _ _ ef in
-      rw (ec, ef, length-append) (omega arith)
-
   -- no step leaves more inside than the capacity
   short_step : (pipe : PipeView T) (step : Step T) → length pipe.inside ≤ pipe.capacity → length (stepped pipe step).inside ≤ pipe.capacity
-  short_step pipe (Put x) short = short_put pipe x _ _ refl refl short
+  short_step pipe (Put x) short = grind (arith, common_steps, nat_tests, cases_Bool)
   short_step pipe Take short = omega (arith, length-drop 1 pipe.inside)
   short_step pipe Close short = short
 
@@ -50,8 +42,8 @@ module _ {T : Type 0} where
   kept_step capacity past step kept = record {
     pipe = stepped kept.pipe step;
     leaves = rw (← kept.same, reply_is past kept.pipe step kept.leaves) (leaves_step past kept.pipe step kept.leaves);
-    same = capacity_stays kept.pipe step ∙ kept.same;
-    short = rw (capacity_stays kept.pipe step) (short_step kept.pipe step kept.short);
+    same = kept.same;
+    short = short_step kept.pipe step kept.short;
   }
 
   pub kept_after : (capacity : ℕ) (past : List (Event T)) (steps : List (Step T)) → Kept capacity past
@@ -68,12 +60,9 @@ module _ {T : Type 0} where
     short = omega arith;
   })
 
-  kept_rest : (capacity : ℕ) (past : List (Event T)) → Kept capacity past →
-      (rest : List T) × IsLawful (items_in past) (items_out past) rest × (length rest ≤ capacity)
-  kept_rest capacity past kept = (kept.pipe.inside, kept.leaves.lawful, omega (arith, kept.same, kept.short))
-
   pub nothing_is_lost_lem : (capacity : ℕ) (steps : List (Step T)) → NothingIsLost capacity steps
-  nothing_is_lost_lem capacity steps = kept_rest capacity _ (kept_history capacity steps)
+  nothing_is_lost_lem capacity steps =
+      let kept = kept_history capacity steps in (kept.pipe.inside, kept.leaves.lawful, omega (arith, kept.same, kept.short))
 
   -- a close among the steps is a close in the history
   pub shut_after : (capacity : ℕ) (past : List (Event T)) (steps : List (Step T)) →
@@ -126,15 +115,6 @@ module _ {T : Type 0} where
     pub leaves : Leaves (history capacity steps) pipe
     pub same : pipe.capacity ≡ capacity
 
-  -- one step more
-  pub replayed_more : (capacity : ℕ) (steps : List (Step T)) (given : List (Reply T)) (ins outs : List T) (old new : PipeView T)
-      (step : Step T) (reply : Reply T) →
-      Replayed capacity steps given ins outs old → IsStep old step reply new →
-      Replayed capacity (steps ++ step ∷ []) (given ++ reply ∷ []) (ins ++ option_to_list (item_in (step, reply)))
-      (outs ++ option_to_list (item_out (step, reply))) new
-  replayed_more capacity steps given ins outs old new step reply so_far next =
-      grind (arith, common_steps, filter_map-append, history_after_more, map-append, one_out)
-
   -- the pipe is closed where a close stands among the steps
   pub replayed_closed : (capacity : ℕ) (steps : List (Step T)) (pipe : PipeView T) →
       Leaves (history capacity steps) pipe → pipe.closed ≡ list_any is_close steps
@@ -145,18 +125,10 @@ module _ {T : Type 0} where
       Leaves (history capacity steps) pipe → length pipe.inside ≤ capacity
   replayed_short capacity steps pipe leaves =
       let past : List (Event T) = history capacity steps in
-      let (rest, lawful, short) = nothing_is_lost_lem capacity steps in
-      omega (
-        arith,
-        short,
-        ap length lawful,
-        ap length leaves.lawful,
-        length-append (items_out past) rest,
-        length-append
-            (items_out past) pipe.inside,
-      )
+      let kept = kept_history capacity steps in
+      omega (arith, inside_count past pipe leaves, inside_count past kept.pipe kept.leaves, kept.same, kept.short)
 
-  -- the same, for a loop over the steps
+  -- one step more
   pub replayed_next : (capacity : ℕ) (steps : List (Step T)) (i : ℕ) (given given' : List (Reply T)) (ins ins' outs outs' : List T)
       (old new : PipeView T) (step : Step T) (reply : Reply T) →
       Replayed capacity (take i steps) given ins outs old → IsStep old step reply new →
@@ -168,7 +140,7 @@ module _ {T : Type 0} where
   replayed_next capacity steps i given given' ins ins' outs outs' old new step reply so_far next less at eg eins eouts =
       let longer : take (i + 1) steps ≡ take i steps ++ step ∷ [] =
       take_more steps i step less ∙ ap (λ s. take i steps ++ s ∷ []) (sym at) in
-      rw (longer, eg, eins, eouts) (replayed_more capacity (take i steps) given ins outs old new step reply so_far next)
+      rw (longer, eg, eins, eouts) (grind (arith, common_steps, filter_map-append, history_after_more, map-append, one_out))
 
   pub each_reply_is_counted_lem : (capacity : ℕ) (steps : List (Step T)) → EachReplyIsCounted capacity steps
   each_reply_is_counted_lem capacity steps k step at = grind (arith, common_steps, event_at, slice_get-map, zero-add)
@@ -178,25 +150,23 @@ module _ {T : Type 0} where
   filled [] = []
   filled (x ∷ xs) = (Put x, Accepted) ∷ filled xs
 
-  came_filled : (xs : List T) → items_in (filled xs) ≡ xs
-  came_filled [] = refl
-  came_filled (x ∷ xs) = ap (λ ys. x ∷ ys) (came_filled xs)
-
-  gone_filled : (xs : List T) → items_out (filled xs) ≡ []
-  gone_filled [] = refl
-  gone_filled (x ∷ xs) = gone_filled xs
-
-  shut_filled : (xs : List T) → has_close (filled xs) ≡ false
-  shut_filled [] = refl
-  shut_filled (x ∷ xs) = shut_filled xs
+  filled_is : (xs : List T) → (items_in (filled xs) ≡ xs) × (items_out (filled xs) ≡ []) × (has_close (filled xs) ≡ false)
+  filled_is [] = (refl, refl, refl)
+  filled_is (x ∷ xs) = let (came, gone, shut) = filled_is xs in (ap (λ ys. x ∷ ys) came, gone, shut)
 
   leaves_filled : (capacity : ℕ) (xs : List T) → Leaves (filled xs) (holding capacity xs false)
-  leaves_filled capacity xs = grind (arith, common_steps, came_filled, gone_filled, shut_filled)
+  leaves_filled capacity xs = let (came, gone, shut) = filled_is xs in record { lawful = rw (gone, came) refl; closed = sym shut }
 
   past_of : (capacity : ℕ) (xs : List T) (closed : Bool) → HasPast (holding capacity xs closed)
   past_of capacity xs false = (filled xs, leaves_filled capacity xs)
   past_of capacity xs true =
-      (filled xs ++ (Close, First) ∷ [], leaves_closed (filled xs) (holding capacity xs false) First (leaves_filled capacity xs))
+      (filled xs ++ (Close, First) ∷ [], leaves_step (filled xs) (holding capacity xs false) Close (leaves_filled capacity xs))
 
   pub each_pipe_has_a_past_lem : (pipe : PipeView T) → HasPast pipe
   each_pipe_has_a_past_lem pipe = past_of pipe.capacity pipe.inside pipe.closed
+
+-- what the laws rest on
+pub ruleset laws = (nothing_is_lost_lem, nothing_enters_after_close_lem, each_reply_is_counted_lem, each_pipe_has_a_past_lem)
+
+-- what a whole history rests on
+pub ruleset replaying = (common_steps, replayed_closed, replayed_short)

@@ -6,22 +6,26 @@ ghost use Rattle.mwc_pipe.specs.PipeView.{PipeView};
 ghost use Rattle.mwc_pipe.specs.declared.step.Step.{Step};
 
 /// What came out is the beginning of what went in, and at most `capacity` items are left.
+#[tactic(auto, using(crate::proofs::WholeRuns::laws))]
 pub fn nothing_is_lost<T>()
     ensures { (capacity : ℕ) (steps : List (Step T)) → NothingIsLost capacity steps }
 {}
 
 /// Each put after a close is answered Closed.
+#[tactic(auto, using(crate::proofs::WholeRuns::laws))]
 pub fn nothing_enters_after_close<T>()
     ensures { (capacity : ℕ) (steps : List (Step T))
         → NothingEntersAfterClose steps (replies capacity steps) }
 {}
 
 /// The reply to a step is counted from the steps before it and the replies to them.
+#[tactic(auto, using(crate::proofs::WholeRuns::laws))]
 pub fn each_reply_is_counted<T>()
     ensures { (capacity : ℕ) (steps : List (Step T)) → EachReplyIsCounted capacity steps }
 {}
 
 /// Whatever a pipe holds, some history leaves it so.
+#[tactic(auto, using(crate::proofs::WholeRuns::laws))]
 pub fn each_pipe_has_a_past<T>()
     ensures { (pipe : PipeView T) → HasPast pipe }
 {}

@@ -52,6 +52,7 @@ impl<T> Pipe<T> {
     ///
     /// Hands the item back, and changes nothing: Closed after a close; else Full where `capacity`
     /// items are inside; else Memory where a growth was refused.
+    #[tactic(auto, using(crate::proofs::Counting::stepping))]
     pub fn put(&mut self, item: T) -> Result<(), Refused<T>>
         ensures ok { OnOk result
             (self.new ≡ record self.old { inside = self.old.inside ++ item ∷ [] }) }
@@ -87,6 +88,7 @@ impl<T> Pipe<T> {
     }
 
     /// Closes the pipe: the first close answers true, and a later one changes nothing.
+    #[tactic(auto, using(crate::proofs::Counting::stepping))]
     pub fn close(&mut self) -> bool
         ensures first { result ≡ not self.old.closed }
         ensures closed { self.new ≡ record self.old { closed = true } }

@@ -2,15 +2,16 @@
 use Rattle.mwc_walk.proofs.Imports.{get_or, sum, ap, subst, ◌∙◌, length-drop, zero, true, false, [], refl, common_steps, cases_lt, cases_eq}
 use Rattle.mwc_walk.proofs.Imports.{◌≡◌, ℕ, ◌+◌, ◌*◌, ◌<◌, ◌≤◌, arith, inl, inr, suc, ◌-◌, ◌/◌, ◌%◌, ◌^◌, List, ◌∷◌, length, take, drop}
 use Rattle.mwc_walk.proofs.Imports.{both_ways, and_parts, leb-true, cases_Bool, cond_both, cond-false, mul-le, drop_all, length-take-le}
-use Rattle.mwc_walk.proofs.Imports.{get_or-take, take_all, AllZip-long, weight, RuleView, Votes, IsVotes, rule_at, wins, weight-le}
-use Rattle.mwc_walk.proofs.Imports.{weight-without, IsPrice, Intervals, Covers, Lane, no_lane, IsSplit, LaneIs, LanesAre}
-use Rattle.std.proofs.Common.{drop-cons, ◌⊎◌, add-one, ltb-true}
+use Rattle.mwc_walk.proofs.Imports.{get_or-take, weight, RuleView, Votes, IsVotes, rule_at, wins, weight-le, weight-without, IsPrice}
+use Rattle.mwc_walk.proofs.Imports.{Intervals, Covers, Lane, no_lane, IsSplit, LaneIs, LanesAre, lane_at, LanesStand, get_or_default}
+use Rattle.std.proofs.Common.{take_all, drop-cons, ◌⊎◌, add-one, ltb-true}
+use Rattle.std.proofs.{Math.Nat.le_of_mul-le-mul_left, lemmas.List.Folds.Any-from_list_any, lemmas.List.Sums.sum_by_more}
+use Rattle.std.proofs.lemmas.Nat.Bits.{bit_at-lt}
 use Rattle.std.specs.{Int.div_ceil, List.list_any}
-use Rattle.std.proofs.{Math.Nat.le_of_mul-le-mul_left, lemmas.Bool.or_cases, lemmas.List.Sums.sum_by_more, lemmas.Nat.Bits.bit_at-lt}
 use Rattle.council_game.proofs.Shared.WeightByDigits.{weight-nil, weight-cons}
 use Rattle.coalitions.proofs.Shared.Digits.{digit-added}
 use Rattle.mwc_walk.specs.{Inner.Lanes.lane_needs, Inner.Vetoes.vetoed_part, declared.price.Price.Price}
-use Rattle.mwc_walk.proofs.Rules.{sum-from, drop-most, lane-of}
+use Rattle.mwc_walk.proofs.Rules.{sum-from, drop-most, met-at}
 
 -- a cheaper price is kept, too
 still-kept : (a b i t f g : ℕ) → i * b ≤ a * t → a * f ≤ b * g → (b ≡ 0 → f ≡ 0) → i * f ≤ t * g
@@ -91,22 +92,17 @@ weight-out ws q c below out =
     grind (arith, common_steps, digit-added, weight-without, weight-le)
 
 -- a rule that needs the member of a place is not met without it
-needs-it : (n q c : ℕ) (r : RuleView) (l : Lane) → q < n → LaneIs n 0 0 r l → lane_needs q l ≡ true → r.quota ≤ weight r.weights c
+needs-it : (n q c : ℕ) (r : RuleView) (l : Lane) → q < n → LaneIs n r l → lane_needs q l ≡ true → r.quota ≤ weight r.weights c
     → c / 2 ^ (n - 1 - q) % 2 ≡ 0 → ⊥
 needs-it n q c r l below is needs met out = grind (arith, common_steps, ltb-true, weight-out)
 
-pub vetoer-in : (n q c : ℕ) (rs : List RuleView) (ls : List Lane) → q < n → LanesAre n 0 0 rs ls → list_any (lane_needs q) ls ≡ true
-    → wins rs c ≡ true → c / 2 ^ (n - 1 - q) % 2 ≡ 0 → ⊥
-unfolding wins
-vetoer-in n q c [] [] below are needs won out = absurd (both_ways false refl needs)
-vetoer-in n q c [] (l ∷ ls) below are needs won out = elim are [ ]
-vetoer-in n q c (r ∷ rs) [] below are needs won out = elim are [ ]
-vetoer-in n q c (r ∷ rs) (l ∷ ls) below are needs won out =
-    let met = and_parts _ _ won in
-    elim (or_cases _ _ needs) [
-      | inl here ↦ needs-it n q c r l below are.0 here (leb-true _ _ met.0) out
-      | inr later ↦ vetoer-in n q c rs ls below are.1 later met.1 out
-    ]
+pub vetoer-in : (v : Votes) (q c : ℕ) (ls : List Lane) → q < v.members → length ls ≡ length v.rules → LanesStand v ls
+    → list_any (lane_needs q) ls ≡ true → wins v.rules c ≡ true → c / 2 ^ (v.members - 1 - q) % 2 ≡ 0 → ⊥
+vetoer-in v q c ls below count are needs won out =
+    let (k, l, lt, at, need) = Any-from_list_any (lane_needs q) ls needs in
+    let room : k < length v.rules = omega (arith, lt, count) in
+    let same : lane_at ls k ≡ l = get_or_default ls k _ l lt ∙ at in
+    needs-it v.members q c (rule_at v.rules k) l below (rw same at (are k room)) need (met-at v.rules c k won room) out
 
 -- ---- weights in two parts
 module _ (n : ℕ) (ws vs fs : List ℕ) (lw : n ≤ length ws) (lv : n ≤ length vs) (lf : n ≤ length fs)
@@ -134,19 +130,19 @@ pub record AreParted (ls : List Lane) (i n : ℕ) (vs fs : List ℕ) : Type 0 wh
   pub vetoed_long : length vs ≡ 40
   pub free_long : length fs ≡ 40
   pub vetoed : (q : ℕ) → q < n → get_or vs q 0 ≡ vetoed_part ls i q
-  pub free : (q : ℕ) → q < n → get_or fs q 0 ≡ get_or (get_or ls i no_lane).weights q 0 - get_or vs q 0
+  pub free : (q : ℕ) → q < n → get_or fs q 0 ≡ get_or (lane_at ls i).weights q 0 - get_or vs q 0
 
 module _ {v : Votes} {ls : List Lane} {i n : ℕ} {vs fs : List ℕ} (game : IsVotes v) (members : n ≡ v.members) (below : i < length ls)
-    (are : LanesAre v.members 0 0 v.rules ls) (parts : AreParted ls i n vs fs) where
-  lane : LaneIs v.members 0 0 (rule_at v.rules i) (get_or ls i no_lane)
-  lane = lane-of v.members 0 0 v.rules ls are i (omega (arith, AllZip-long _ v.rules ls are, below)) no_lane
+    (count : length ls ≡ length v.rules) (are : LanesStand v ls) (parts : AreParted ls i n vs fs) where
+  lane : LaneIs v.members (rule_at v.rules i) (lane_at ls i)
+  lane = are i (omega (arith, count, below))
 
   whole : take v.members (rule_at v.rules i).weights ≡ (rule_at v.rules i).weights
   whole = take_all v.members _ (omega (arith, lane.rule.full))
 
   parted : (q : ℕ) → q < v.members → get_or vs q 0 + get_or fs q 0 ≡ get_or (rule_at v.rules i).weights q 0
   parted q lt =
-      let all : ℕ = get_or (get_or ls i no_lane).weights q 0 in
+      let all : ℕ = get_or (lane_at ls i).weights q 0 in
       let part = cond_both (list_any (lane_needs q) ls) all 0 (λ w. w ≤ all) (λ _. omega arith) (λ _. omega arith) in
       let room : q < n = omega (arith, lt, members) in
       omega (arith, part, parts.vetoed q room, parts.free q room, lane.weights q lt)
@@ -157,13 +153,10 @@ module _ {v : Votes} {ls : List Lane} {i n : ℕ} {vs fs : List ℕ} (game : IsV
       (omega (arith, parts.vetoed_long, game.few))
       (omega (arith, parts.free_long, game.few)) parted v.members (omega arith) in grind (arith, common_steps, whole)
 
-  pub vetoed-fit : sum (take n vs) < 2 ^ 64
-  vetoed-fit = rw members (omega (arith, both-fit))
-
   inside : (c : ℕ) → wins v.rules c ≡ true → (q : ℕ) → q < v.members → (get_or vs q 0 ≡ 0) ⊎ (c / 2 ^ (v.members - (q + 1)) % 2 ≡ 1)
   inside c won q lt = grind (arith, common_steps, cases_Bool, cond-false, vetoer-in, bit_at-lt, cases_eq)
 
-  pub split-is : (brings : List ℕ) → ((p : ℕ) → p ≤ n → get_or brings p 0 ≡ sum (drop p (take n vs)))
+  pub split-is : (brings : List ℕ) → (sum (take n vs) < 2 ^ 64 → (p : ℕ) → p ≤ n → get_or brings p 0 ≡ sum (drop p (take n vs)))
       → IsSplit v i (record { brings = brings; free = fs })
   split-is brings sums = record {
     room = omega (arith, parts.free_long, game.few);
@@ -172,5 +165,5 @@ module _ {v : Votes} {ls : List Lane} {i n : ℕ} {vs fs : List ℕ} (game : IsV
         let all = split-from v.members (rule_at v.rules i).weights vs fs (omega (arith, lane.rule.full))
         (omega (arith, parts.vetoed_long, game.few))
         (omega (arith, parts.free_long, game.few)) parted c (v.members - p) p (inside c won) (omega arith) in
-        rw (rw members at (sums p (omega (arith, le, members)))) (rw whole at all);
+        rw (rw members at (sums (rw members (omega (arith, both-fit))) p (omega (arith, le, members)))) (rw whole at all);
   }

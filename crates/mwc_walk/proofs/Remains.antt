@@ -1,33 +1,35 @@
--- What is still to come is the end of the slice.
-use Rattle.mwc_walk.proofs.Imports.{◌≡◌, ◌≢◌, ℕ, ◌+◌, ◌-◌, ◌*◌, ◌^◌, ◌<◌, ◌≤◌, Bool, true, List, [], ◌∷◌, ◌++◌, length, get_or, take, drop}
-use Rattle.mwc_walk.proofs.Imports.{mul-le, pow-add, nat_tests, Votes, down, minimal_coalitions, minimal_below, slice, Step, On, Give, End}
-use Rattle.mwc_walk.proofs.Imports.{refl, sym, ap, ◌∙◌, arith, common_steps, filter, cond_both, length-append, length-drop, filter-append}
-use Rattle.mwc_walk.proofs.Imports.{in_slice, slice_below, Cursor, rest_of_slice, CursorIs, SomeSteps}
-use Rattle.std.proofs.{Common.mul-add, Common.get_or-drop, Common.take-append-drop, lemmas.List.take_more}
-use Rattle.mwc_walk.specs.{Seeks.Seeks, Seeks.seeks_left, WalkView.WalkView}
-use Rattle.mwc_walk.specs.Inner.Cursor.{bound, Follows, GivesNext, FindsEnd, sought}
-use Rattle.mwc_walk.proofs.{Descending.down-split, Steps.rest-most}
-use Rattle.mwc_walk.specs.declared.seek.Seek.TheVariants as seek
+-- What is still to come is the end of the slice; the slice at no bits is the whole list.
+use Rattle.mwc_walk.proofs.Imports.{pow-add, nat_tests, Votes, down, minimal_coalitions, minimal_below, slice, Step, On, Give, End, sym, ap}
+use Rattle.mwc_walk.proofs.Imports.{◌∙◌, arith, common_steps, filter, cond_both, length-drop, filter-append, in_slice, slice_below, Cursor}
+use Rattle.mwc_walk.proofs.Imports.{◌≡◌, ℕ, ◌+◌, ◌-◌, ◌*◌, ◌^◌, ◌≤◌, Bool, true, List, [], ◌∷◌, ◌++◌, length, get_or, take, drop, mul-le}
+use Rattle.mwc_walk.proofs.Imports.{rest_of_slice, CursorIs, SomeSteps, IsPlace, IsVotes, votes_of, listing-is, append-nil}
+use Rattle.std.proofs.Common.{length-append, if◌then◌else◌, mul-add, get_or-drop, take-append-drop}
+use Rattle.std.proofs.lemmas.List.{take_more}
+use Rattle.mwc_walk.specs.Inner.Cursor.{bound, Follows, GivesNext, FindsEnd}
+use Rattle.mwc_walk.proofs.{Rest.down-split, Shared.Joined.slices-joined, Steps.rest-most}
+use Rattle.council_game.specs.Game.{GameView}
+use Rattle.mwc_walk.specs.Listed.{ListsAll}
 
 -- a list that ends with another
 record EndsWith (whole end : List ℕ) : Type 0 where
   pub front : List ℕ
   pub joined : whole ≡ front ++ end
 
--- of two descending counts, filtered, the longer ends with the shorter
-filter-ends : (q p : ℕ → Bool) (low more : ℕ) → EndsWith (filter q (filter p (down (low + more)))) (filter q (filter p (down low)))
-filter-ends q p low more = grind (arith, common_steps, down-split, filter-append)
-
 left-ends : (v : Votes) (k j b : ℕ) → b ≤ 2 ^ v.members → EndsWith (slice v k j) (slice_below v k j b)
 unfolding slice_below minimal_below in_slice slice minimal_coalitions
 left-ends v k j b le =
     let e : b + (2 ^ v.members - b) ≡ 2 ^ v.members = omega arith in
-    grind (arith, common_steps, filter-ends)
+    grind (arith, common_steps, down-split, filter-append)
+
+bound-below : {v : Votes} {k j p x : ℕ} (fresh : Bool) → IsPlace v k j p x
+    → (if fresh then x + 1 else x) * 2 ^ (v.members - p) ≤ 2 ^ v.members
+bound-below {v} {k} {j} {p} {x} fresh place =
+    let whole : 2 ^ v.members ≡ 2 ^ p * 2 ^ (v.members - p) = (let to = place.to in grind (arith, pow-add)) in
+    let most = cond_both fresh (x + 1) x (λ i. i ≤ 2 ^ p) (λ _. omega arith) (λ _. omega arith) in
+    rw whole (mul-le _ (2 ^ (v.members - p)) (2 ^ p) (2 ^ (v.members - p)) most (omega arith))
 
 ends-with-rest : {v : Votes} {a : Cursor} → CursorIs v a → EndsWith (slice v a.bits a.number) (rest_of_slice v a)
-ends-with-rest {v} {a} is =
-    let below : bound v a ≤ 2 ^ v.members = grind (arith, common_steps, cond_both, mul-le, pow-add) in
-    left-ends v a.bits a.number (bound v a) below
+ends-with-rest {v} {a} is = left-ends v a.bits a.number (bound v a) (bound-below a.fresh is.place)
 
 rest-short : {v : Votes} {a : Cursor} → CursorIs v a → length (rest_of_slice v a) ≤ length (slice v a.bits a.number)
 rest-short {v} {a} is =
@@ -67,7 +69,7 @@ module _ {v : Votes} {a b : Cursor} where
   same-slice h = ap (λ (k : ℕ). slice v k b.number) h.bits ∙ ap (slice v a.bits) h.number
 
   -- steps that came to no coalition have given the same
-  given-same : Follows v a b → rest_of_slice v b ≡ rest_of_slice v a → given-by v b ≡ given-by v a
+  pub given-same : Follows v a b → rest_of_slice v b ≡ rest_of_slice v a → given-by v b ≡ given-by v a
   given-same h same = grind (arith, common_steps)
 
   pub given-next : {c : ℕ} → CursorIs v a → GivesNext v a c b → given-by v b ≡ given-by v a ++ c ∷ []
@@ -76,28 +78,26 @@ module _ {v : Votes} {a b : Cursor} where
   pub given-end : FindsEnd v a b → given-by v b ≡ given-by v a
   given-end h = given-same h.follows (h.none_after ∙ sym h.none)
 
--- what contracts see of a cursor
-abbrev view-at : Votes → Cursor → WalkView
-view-at v c = record { votes = v; bits = c.bits; number = c.number; to_come = rest_of_slice v c; visits = c.visits }
-
-module _ (v : Votes) (n : ℕ) (a b : Cursor) where
-  pub seeks-are : (s : Step) → CursorIs v a → SomeSteps v a s b → (s ≡ On → (b.visits ≡ a.visits + n) × (b.visits < 2 ^ 64))
-      → Seeks n (view-at v a) (sought s) (view-at v b)
-  seeks-are On is h counts = ((counts refl).0, h.1, given-same h.0 h.1)
-  seeks-are (Give c) is h counts = (h.first, given-next is h)
-  seeks-are End is h counts = (h.none, h.none_after, given-end h)
-
-  pub seek-falls : (s : Step) → 0 < n → SomeSteps v a s b → (s ≡ On → (b.visits ≡ a.visits + n) × (b.visits < 2 ^ 64)) → sought s ≢ seek.End
-      → seeks_left (view-at v b) < seeks_left (view-at v a)
-  unfolding seeks_left
-  seek-falls On pos h counts more = grind (arith, common_steps)
-  seek-falls (Give c) pos h counts more = grind (arith, common_steps)
-  seek-falls End pos h counts more = absurd (more refl)
-
 -- with one rule, the visits are bounded by what was given
 pub visits-most : {v : Votes} {a : Cursor} → CursorIs v a → (a.rules ≡ 1 → a.fresh ≡ true → a.place ≡ a.bits) → length v.rules ≡ 1
     → a.visits ≤ a.bits + (v.members - a.bits) * (length (slice v a.bits a.number) - length (rest_of_slice v a))
 visits-most {v} {a} is rests one = grind (arith, rest-most, rest-short, mul-add)
 
 -- what the calls of a walk rest on
-pub ruleset walking = (given-next, given-end, visits-most)
+pub ruleset walking = (given-same, given-next, given-end, visits-most)
+
+-- ---- the whole list
+-- at no bits there is one slice, which is the whole
+pub one-slice : (v : Votes) → IsVotes v → slice v 0 0 ≡ minimal_coalitions v
+one-slice v game = sym (append-nil (slice v 0 0)) ∙ slices-joined v 0 (omega arith) (omega arith)
+
+-- what the laws rest on
+pub ruleset slices = (slices-joined, one-slice)
+
+-- the first ones are all, where no others are to come
+pub lists-all : (g : GameView) (most : ℕ) (list : List ℕ) → IsVotes (votes_of g) → list ≡ take most (slice (votes_of g) 0 0)
+    → drop most (slice (votes_of g) 0 0) ≡ [] → ListsAll g most list
+lists-all g most list game first none = grind (arith, one-slice, common_steps, listing-is, length-drop)
+
+-- what the list of all rests on
+pub ruleset whole_list = (lists-all, one-slice, length-drop)

@@ -1,34 +1,22 @@
 -- The members that each rule can spare, and the prefixes below which nothing is minimal.
-use Rattle.mwc_walk.proofs.Imports.{◌≡◌, ℕ, zero, suc, ◌+◌, ◌-◌, ◌*◌, ◌/◌, ◌%◌, ◌^◌, ◌<◌, ◌≤◌, ◌==◌, ◌&&◌, min, true, List, [], ◌∷◌, length}
-use Rattle.mwc_walk.proofs.Imports.{IsRule, IsRanked, rule_at, has, without, weight, wins, minimal, lowest-place, needs-each-member, Lane}
-use Rattle.mwc_walk.proofs.Imports.{leb-true, eq-eqb, false_from_ne_true, nat_tests, length-drop, get_or-take, shr-shr, RuleView, Votes}
-use Rattle.mwc_walk.proofs.Imports.{take, drop, get_or, refl, sym, ap, ◌∙◌, subst, arith, inl, inr, common_steps, AllByRecursion, w64}
-use Rattle.mwc_walk.proofs.Imports.{trailing_zeros, pow_mono, cases_eq, cases_lt, cases_Bool, both_ways, and_parts, and_from, le-leb}
-use Rattle.mwc_walk.proofs.Imports.{Cursor, no_lane, LaneIs, NothingBelow, IsExcess, wins_at, IsNeed, Tried, IsSplit, CursorIs}
-use Rattle.std.proofs.{Common.bit_and, Common.div-add-mod', lemmas.Nat.Bits.bit_at-trailing_zeros, lemmas.Nat.Bits.bit_at_and}
-use Rattle.std.proofs.lemmas.Nat.{and_le_l}
-use Rattle.coalitions.proofs.Shared.Digits.{has-kept, has-gone, has-none, lowest-cleared, without-less}
-use Rattle.council_game.proofs.Shared.{Weights.weight-skip, WinningByPlaces.sum-without}
-use Rattle.mwc_walk.specs.Inner.{Places.NoneWins, Places.AreExcesses, Places.CanSpare, Spared.lane_at, Spared.IsEnough, Spared.NoneSpared}
-use Rattle.mwc_walk.specs.{Inner.Asked.asked_at, declared.vetoes.Vetoes.Vetoes}
-use Rattle.mwc_walk.proofs.{Shared.One.place-before, Shared.One.in-slice, Steps.enter-short, Steps.short-step}
-use Rattle.mwc_walk.proofs.Rules.{weight-block, weight-split, wins-prefix, lane-of}
+use Rattle.mwc_walk.proofs.Imports.{false_from_ne_true, nat_tests, length-drop, shr-shr, RuleView, Votes, take, drop, get_or, refl, sym, ap}
+use Rattle.mwc_walk.proofs.Imports.{both_ways, and_parts, and_from, le-leb, Cursor, LaneIs, NothingBelow, IsExcess, wins_at, IsNeed, Tried}
+use Rattle.mwc_walk.proofs.Imports.{rule_at, has, without, weight, wins, minimal, lowest-place, needs-each-member, Lane, eq-eqb, IsSplit}
+use Rattle.mwc_walk.proofs.Imports.{◌≡◌, ℕ, ◌+◌, ◌-◌, ◌*◌, ◌/◌, ◌%◌, ◌^◌, ◌<◌, ◌≤◌, ◌&&◌, min, true, List, [], length, IsRule, IsRanked}
+use Rattle.mwc_walk.proofs.Imports.{◌∙◌, arith, inl, inr, common_steps, w64, trailing_zeros, pow_mono, cases_eq, cases_lt, cases_Bool}
+use Rattle.mwc_walk.proofs.Imports.{CursorIs, has-none, lane_at, IsVotes, get_or_default}
+use Rattle.std.proofs.lemmas.{List.Sums.list_all-from_AllPass, Nat.and_le_l, Nat.Bits.bit_at-trailing_zeros, Nat.Bits.bit_at_and}
+use Rattle.std.proofs.Common.{bit_and}
+use Rattle.coalitions.proofs.Shared.Digits.{has-kept, has-gone, lowest-cleared, without-less}
+use Rattle.council_game.proofs.Shared.WinningByPlaces.{sum-without, rule-is}
+use Rattle.mwc_walk.specs.Inner.{Asked.asked_at, Places.NoneWins, Places.AreExcesses, Places.CanSpare, Spared.IsEnough, Spared.NoneSpared}
+use Rattle.mwc_walk.specs.declared.vetoes.Vetoes.{Vetoes}
+use Rattle.mwc_walk.proofs.{Shared.One.place-before, Shared.One.in-slice, Steps.enter-short, Steps.lane-here, Steps.sum-here}
+use Rattle.mwc_walk.proofs.Rules.{weight-block, weight-parts, wins-prefix, met-at}
 
 pub has-and : (n q a b : ℕ) → has n q (bit_and a b) ≡ (has n q a && has n q b)
 unfolding has
 has-and n q a b = grind (arith, nat_tests, common_steps, bit_at_and)
-
--- a mask of p places, with one digit more
-pub record NextDigit (p m b : ℕ) : Type 0 where
-  pub below : 2 * m + b < 2 ^ (p + 1)
-  pub before : (q : ℕ) → q < p → has (p + 1) q (2 * m + b) ≡ has p q m
-  pub here : has (p + 1) p (2 * m + b) ≡ (b == 1)
-
-pub next-digit : (p m b : ℕ) → b < 2 → m < 2 ^ p → NextDigit p m b
-unfolding has
-next-digit p m b digit short =
-    let half : (2 * m + b) / 2 ≡ m = omega arith in
-    grind (arith, common_steps, short-step, shr-shr (2 * m + b) 1)
 
 -- a place that is in the prefix is in each coalition below it
 has-below : (n p x c q : ℕ) → p ≤ n → q < n → c / 2 ^ (n - p) ≡ x → has n q (x * 2 ^ (n - p)) ≡ true → has n q c ≡ true
@@ -38,47 +26,19 @@ has-below n p x c q le below prefix in' =
     grind (arith, common_steps, place-before, in-slice, shr-shr)
 
 -- ---- rule by rule
--- a winning coalition meets each quota
-pub met-at : (n c : ℕ) (rs : List RuleView) → AllByRecursion (IsRule n) rs → wins rs c ≡ true → (i : ℕ) → i < length rs
-    → IsRule n (rule_at rs i) × ((rule_at rs i).quota ≤ weight (rule_at rs i).weights c)
-unfolding wins
-met-at n c [] all won i below = absurd (omega (arith, below))
-met-at n c (r ∷ rs) all won zero below = (all.0, leb-true _ _ (and_parts _ _ won).0)
-met-at n c (r ∷ rs) all won (suc i) below = met-at n c rs all.1 (and_parts _ _ won).1 i (omega (arith, below))
-
 -- without a member that each quota is passed by, a coalition wins still
-still-wins : (n c q : ℕ) (rs : List RuleView) → AllByRecursion (IsRule n) rs → q < n → has n q c ≡ true
-    → ((i : ℕ) → i < length rs → (rule_at rs i).quota + get_or (rule_at rs i).weights q 0 ≤ weight (rule_at rs i).weights c)
-    → wins rs (without n q c) ≡ true
+still-wins : (v : Votes) (c q : ℕ) → IsVotes v → q < v.members → has v.members q c ≡ true
+    → ((i : ℕ) → i < length v.rules → (rule_at v.rules i).quota + get_or (rule_at v.rules i).weights q 0 ≤ weight (rule_at v.rules i).weights c)
+    → wins v.rules (without v.members q c) ≡ true
 unfolding wins
-still-wins n c q [] all below in' free = refl
-still-wins n c q (r ∷ rs) all below in' free =
-    let less = sum-without n r c q (weight r.weights c) all.0 below in' refl in
-    let more = still-wins n c q rs all.1 below in' (λ i lt. free (suc i) (omega (arith, lt))) in
-    and_from _ _ (le-leb _ _ (omega (arith, free 0 (omega arith), less))) more
-
--- ---- what is there and what comes
--- digits above the places of a list weigh nothing
-weight-low : (ws : List ℕ) (c : ℕ) → weight ws (c % 2 ^ length ws) ≡ weight ws c
-weight-low ws c = sym (weight-skip ws (c / 2 ^ length ws) (c % 2 ^ length ws)) ∙ ap (weight ws) (div-add-mod' c (2 ^ length ws))
-
-pub weight-parts : (n p c : ℕ) (r : RuleView) → IsRule n r → p ≤ n
-    → weight r.weights c ≡ weight (take p r.weights) (c / 2 ^ (n - p)) + weight (drop p r.weights) c
-weight-parts n p c r is le =
-    let long : length (drop p r.weights) ≡ n - p = length-drop p r.weights ∙ ap (λ (i : ℕ). i - p) is.full in
-    omega (arith, weight-split is p c le, rw long at (weight-low (drop p r.weights) c))
+still-wins v c q game below in' free = list_all-from_AllPass _ v.rules (λ i d lt.
+    let same = get_or_default v.rules i d (record { quota = 0; weights = [] }) lt in
+    let less = sum-without v.members (rule_at v.rules i) c q _ (rule-is v i game lt) below in' refl in
+    rw same (le-leb _ _ (omega (arith, free i lt, less))))
 
 -- ---- one place after another
--- the last place of rest, as the cursor computes it
-pub record LastPlace (v : Votes) (a : Cursor) (rest : ℕ) : Type 0 where
-  pub small : trailing_zeros w64 rest < a.members
-  pub below : a.members - 1 - trailing_zeros w64 rest < v.members
-  pub inside : has v.members (a.members - 1 - trailing_zeros w64 rest) rest ≡ true
-  pub left : bit_and rest (rest - 1) ≡ without v.members (a.members - 1 - trailing_zeros w64 rest) rest
-  pub less : bit_and rest (rest - 1) < rest
-
 -- no place of rest comes after its last
-up-to-last : (n rest q : ℕ) → n ≤ 40 → 0 < rest → rest < 2 ^ n → q < n → has n q rest ≡ true → q ≤ n - 1 - trailing_zeros w64 rest
+pub up-to-last : (n rest q : ℕ) → n ≤ 40 → 0 < rest → rest < 2 ^ n → q < n → has n q rest ≡ true → q ≤ n - 1 - trailing_zeros w64 rest
 unfolding has
 up-to-last n rest q few pos short below in' =
     let up : 2 ^ n ≤ 2 ^ 40 = pow_mono few in
@@ -89,42 +49,53 @@ first-keeps : (rs : List RuleView) (e q m : ℕ) → IsRanked rs → 1 ≤ lengt
     → q < length (rule_at rs 0).weights → e < get_or (rule_at rs 0).weights m 0
 first-keeps rs e q m ranked some keeps before below = grind (arith, common_steps)
 
+-- what the last place of a mask rests on
+pub ruleset last = (common_steps, lowest-place, lowest-cleared, up-to-last)
+
 module _ {v : Votes} {p x rest : ℕ} {es : List ℕ} (tried : Tried v p x es rest) where
   pub tried-more : (q : ℕ) → 0 < rest → q < v.members → has v.members q rest ≡ true → (CanSpare v es q → ⊥)
       → Tried v p x es (without v.members q rest)
   tried-more q pos below in' kept = grind (arith, common_steps, both_ways, cases_eq, has-gone, has-kept, without-less)
 
+  -- where the first rule can not spare the last place of those left, no place can be spared
+  pub first-keeps-all : (q : ℕ) → IsVotes v → ((m : ℕ) → m < v.members → has v.members m rest ≡ true → m ≤ q) → q < v.members
+      → get_or es 0 0 < get_or (rule_at v.rules 0).weights q 0 → NoneSpared v p x es
+  first-keeps-all q game last below keeps = λ m lt in' spare. elim (cases_Bool (has v.members m rest)) [
+    | inl still ↦
+        let less = first-keeps v.rules _ q m game.ranked game.has_rule keeps (last m lt still)
+        (omega (arith, below, (rule-is v 0 game game.has_rule).full)) in
+        absurd (omega (arith, less, spare 0 game.has_rule))
+    | inr out ↦ tried.kept m lt in' out spare
+  ]
+
   pub tried-all : rest ≡ 0 → NoneSpared v p x es
   tried-all none = λ q below in'. tried.kept q below in' (ap (has v.members q) none ∙ has-none v.members q)
 
   -- a rule that passes its quota by nothing spares only who weighs nothing
-  pub tried-weightless : (i : ℕ) (l : Lane) → i < length v.rules → LaneIs v.members p x (rule_at v.rules i) l → get_or es i 0 ≡ 0
+  pub tried-weightless : (i : ℕ) (l : Lane) → i < length v.rules → LaneIs v.members (rule_at v.rules i) l → get_or es i 0 ≡ 0
       → Tried v p x es (bit_and rest l.weightless)
   tried-weightless i l below is nothing =
       grind (arith, common_steps, and_le_l, and_from, and_parts, both_ways, cases_Bool, eq-eqb, has-and)
 
 module _ {v : Votes} {a : Cursor} (is : CursorIs v a) where
   -- ---- what is there and what comes
-  pub lane-here : (i : ℕ) → i < a.rules → LaneIs v.members a.place a.prefix (rule_at v.rules i) (lane_at a.lanes i)
-  lane-here i below =
-      subst (λ (l : Lane). LaneIs v.members a.place a.prefix (rule_at v.rules i) l) (get_or-take a.rules a.lanes i no_lane below)
-      (lane-of v.members a.place a.prefix v.rules (take a.rules a.lanes) is.lanes i (omega (arith, below, is.rules)) no_lane)
-
   -- what a winning coalition that begins with the prefix weighs by rule i
   module _ (i c : ℕ) (below : i < a.rules) (prefix : c / 2 ^ (v.members - a.place) ≡ a.prefix) (won : wins v.rules c ≡ true) where
     pub there-and-comes : weight (rule_at v.rules i).weights c ≡ (lane_at a.lanes i).sum + weight
         (drop a.place (rule_at v.rules i).weights) c
-    there-and-comes = grind (arith, common_steps, weight-parts, lane-here)
+    there-and-comes =
+        let parts = weight-parts (lane-here is i below).rule a.place c is.place.to in
+        omega (arith, sum-here is i below, rw prefix at parts)
 
     pub meets : (rule_at v.rules i).quota ≤ weight (rule_at v.rules i).weights c
-    meets = (met-at v.members c v.rules is.game.rules won i (omega (arith, below, is.rules))).1
+    meets = met-at v.rules c i won (omega (arith, below, is.rules))
 
   -- the excess over the quota with what comes at the least
   pub least-excess : (i t b : ℕ) → i < a.rules → t ≤ (lane_at a.lanes i).sum + b
       → ((c : ℕ) → c / 2 ^ (v.members - a.place) ≡ a.prefix → wins v.rules c ≡ true
       → b ≤ weight (drop a.place (rule_at v.rules i).weights) c)
       → IsExcess v a.place a.prefix i (t - (lane_at a.lanes i).quota)
-  least-excess i t b below most comes = λ c prefix won. grind (arith, common_steps, meets, there-and-comes, lane-here)
+  least-excess i t b below most comes = λ c prefix won. grind (arith, common_steps, meets, there-and-comes, lane-here, sum-here)
 
   -- what is there beyond what the rule asks is passed by each winning coalition below
   pub excess-is : (i e : ℕ) → i < length v.rules → e ≡ (lane_at a.lanes i).sum - asked_at a.asked i a.place
@@ -133,7 +104,7 @@ module _ {v : Votes} {a : Cursor} (is : CursorIs v a) where
 
   pub enough-is : (i e : ℕ) → i < length v.rules → e ≡ (lane_at a.lanes i).sum - asked_at a.asked i a.place
       → weight (take a.place (rule_at v.rules i).weights) a.prefix - (rule_at v.rules i).quota ≤ e
-  enough-is i e below is-e = grind (arith, common_steps, lane-here)
+  enough-is i e below is-e = grind (arith, common_steps, sum-here)
 
   -- what the quota asks for beside what is there and what vetoers bring
   pub short-need : (i e : ℕ) (s : Vetoes) → i < length v.rules → IsSplit v i s
@@ -141,7 +112,7 @@ module _ {v : Votes} {a : Cursor} (is : CursorIs v a) where
       → IsNeed v a.place a.prefix s e
   short-need i e s below split is-e = λ c prefix won.
       let lt : i < a.rules = omega (arith, below, is.rules) in
-      let here = lane-here i lt in
+      let here = lane-here is i lt in
       omega (arith, meets i c lt prefix won, there-and-comes i c lt prefix won, split.parts a.place c is.place.to won)
 
   -- ---- who can be spared
@@ -161,35 +132,16 @@ module _ {v : Votes} {a : Cursor} (is : CursorIs v a) where
       (needs-each-member v x).1 (
         whole ∙ won,
         λ q below in'. false_from_ne_true _ (λ still. kept q below in' (λ i lt.
-            let met = met-at v.members (without v.members q x) v.rules is.game.rules still i lt in
-            let less = sum-without v.members (rule_at v.rules i) x q _ met.0 below in'
-            (sym (weight-block met.0 a.place a.prefix is.place.to)) in
-            omega (arith, met.1, met.0.some, less, enough i lt))),
+            let rule = rule-is v i is.game lt in
+            let met = met-at v.rules (without v.members q x) i still lt in
+            let less = sum-without v.members (rule_at v.rules i) x q _ rule below in'
+            (sym (weight-block rule a.place a.prefix is.place.to)) in
+            omega (arith, met, rule.some, less, enough i lt))),
       )
 
   pub none-nothing : NoneWins v a.place a.prefix → NothingBelow v a.place a.prefix
   none-nothing none = λ c prefix. false_from_ne_true _ (λ min. none c prefix (((needs-each-member v c).0 min).0))
 
   -- all members of the prefix are still to be tried
-  pub tried-first : (es : List ℕ) (m : ℕ) → m ≡ a.prefix * 2 ^ (v.members - a.place) → Tried v a.place a.prefix es m
+  pub tried-first : (es : List ℕ) (m : ℕ) → m ≡ a.prefix * 2 ^ (a.members - a.place) → Tried v a.place a.prefix es m
   tried-first es m same = grind (arith, common_steps, both_ways, enter-short)
-
-  module _ {rest : ℕ} (pos : 0 < rest) where
-    pub last-place : rest < 2 ^ v.members → LastPlace v a rest
-    last-place short =
-        let last = lowest-place v.members rest is.game.few pos short in
-        let left = lowest-cleared v.members rest is.game.few pos short in
-        grind (arith, common_steps, without-less)
-
-    -- where the first rule can not spare the last place of those left, no place can be spared
-    pub first-keeps-all : {es : List ℕ} → Tried v a.place a.prefix es rest
-        → get_or es 0 0 < get_or (rule_at v.rules 0).weights (a.members - 1 - trailing_zeros w64 rest) 0 → NoneSpared v a.place a.prefix es
-    first-keeps-all {es} tried keeps = λ m below in' spare. elim (cases_Bool (has v.members m rest)) [
-      | inl still ↦
-          let last = last-place tried.below in
-          let first = lane-here 0 (omega (arith, is.rules, is.game.has_rule)) in
-          let before = up-to-last v.members rest m is.game.few pos tried.below below still in
-          let less = first-keeps v.rules _ _ m is.game.ranked is.game.has_rule keeps (omega (arith, before)) (omega (arith, last.below)) in
-          absurd (omega (arith, less, spare 0 is.game.has_rule))
-      | inr out ↦ tried.kept m below in' out spare
-    ]

@@ -1,17 +1,17 @@
 -- The moves of a cursor, and where it starts.
-use Rattle.mwc_walk.proofs.Imports.{false_from_ne_true, cond-true, cond-false, cond_both, eq-eqb, eqb-true, All, list_all, RuleView, Votes}
-use Rattle.mwc_walk.proofs.Imports.{◌≡◌, ℕ, suc, ◌+◌, ◌-◌, ◌*◌, ◌/◌, ◌%◌, ◌^◌, ◌<◌, ◌≤◌, Bool, min, true, false, List, ◌++◌, map, length}
-use Rattle.mwc_walk.proofs.Imports.{take, get_or, refl, sym, ap, ◌∙◌, subst, arith, common_steps, shr-shr, pow_pos, cases_lt, both_ways}
-use Rattle.mwc_walk.proofs.Imports.{lane_wins, slice, slice_below, reaches, wins_at, LanesAre, NothingBelow, rest_of_slice, CursorIs}
-use Rattle.mwc_walk.proofs.Imports.{IsVotes, minimal, has, Lane, Cursor, Step, On, Give, End, lane_with, lane_without, lane_reaches}
-use Rattle.std.proofs.Common.{cond, ltb, pow-suc, lt-ltb, le-ltb}
-use Rattle.std.proofs.lemmas.Nat.{shl_below, shl_whole, one_shl, div_below}
-use Rattle.council_game.proofs.Shared.WinningByPlaces.{fixed-half}
-use Rattle.mwc_walk.specs.{Inner.Asked.AreAsked, Inner.Cursor.IsPlace, Inner.Cursor.Steps, Inner.Cursor.Starts, declared.asked.Asked.Asked}
+use Rattle.mwc_walk.proofs.Imports.{slice, slice_below, reaches, wins_at, LanesAre, NothingBelow, rest_of_slice, CursorIs, IsVotes, minimal}
+use Rattle.mwc_walk.proofs.Imports.{false_from_ne_true, cond-true, cond-false, cond_both, All, list_all, RuleView, Votes, ◌≡◌, ℕ, suc, ◌+◌}
+use Rattle.mwc_walk.proofs.Imports.{◌-◌, ◌*◌, ◌/◌, ◌%◌, ◌^◌, ◌<◌, ◌≤◌, Bool, min, true, false, List, ◌++◌, map, length, take, get_or, refl}
+use Rattle.mwc_walk.proofs.Imports.{Lane, Cursor, Step, On, Give, End, lane_with, lane_without, lane_reaches, IsPlace, lane_at, LanesStand}
+use Rattle.mwc_walk.proofs.Imports.{sym, ap, ◌∙◌, subst, arith, common_steps, shr-shr, pow_pos, pow_mono, cases_lt, both_ways, lane_wins}
+use Rattle.mwc_walk.proofs.Imports.{sum_by-take-drop, no_lane, weight, weight-le, rule_at, LaneIs, leb, get_or-take, get_or_default, sum}
+use Rattle.mwc_walk.proofs.Imports.{drop}
+use Rattle.std.proofs.Common.{cond, ltb, pow-suc, lt-ltb, le-ltb, length-take}
+use Rattle.std.proofs.lemmas.Nat.{shl_below, shl_whole}
+use Rattle.mwc_walk.specs.{Inner.Asked.AreAsked, Inner.Cursor.Steps, Inner.Cursor.Starts, declared.asked.Asked.Asked}
 use Rattle.mwc_walk.proofs.Rest.{dead-nothing, left-nothing, left-won, left-take, left-none, left-all}
 use Rattle.mwc_walk.proofs.Shared.One.{one-minimal, won-odd, empty-loses, slice-short, in-slice}
-use Rattle.mwc_walk.proofs.Rules.{lanes-in, lanes-out, lanes-up, fits-in, fits-out, lanes-reach, lanes-win, wins-more, reaches-in}
-use Rattle.mwc_walk.proofs.Rules.{full-reach, lanes-pass}
+use Rattle.mwc_walk.proofs.Rules.{wins-more, reaches-in, full-reach, weight-step, weight-over, weight-block, rest-step, sub-leb, lanes-pass}
 
 -- one digit more
 pub short-step : (p q : ℕ) → q ≡ p + 1 → 2 ^ q ≡ 2 ^ p * 2
@@ -21,6 +21,14 @@ short-step p q next = ap (λ (i : ℕ). 2 ^ i) (let d : q ≡ suc p = omega arit
 halves : (n p q x y : ℕ) → p < n → q ≡ p + 1 → y ≡ 2 * x → y * 2 ^ (n - q) ≡ x * 2 ^ (n - p)
 halves n p q x y below next twice =
     let e = short-step (n - q) (n - p) (omega arith) in rw (e, twice) (omega arith)
+
+-- the number of the first k places of n, with zeros after it
+pub fixed-mask : (n k x : ℕ) → k ≤ n → n ≤ 40 → x < 2 ^ k → (x * 2 ^ (n - k) % 2 ^ 64 ≡ x * 2 ^ (n - k)) × (x * 2 ^ (n - k) < 2 ^ n)
+fixed-mask n k x le few short =
+    let e : k + (n - k) ≡ n = omega arith in (shl_whole x k (n - k) 64 short (omega arith), grind (arith, common_steps, shl_below))
+
+-- what the mask of a prefix rests on
+pub ruleset masks = (common_steps, fixed-mask, pow_mono)
 
 -- one digit less
 half-shift : (x y k p q : ℕ) → q ≡ p + 1 → x ≡ y / 2 → k ≤ p → x / 2 ^ (p - k) ≡ y / 2 ^ (q - k)
@@ -47,16 +55,60 @@ known {v} {a} s b f e = subst (λ (g : Bool). CursorIs v (record a { fresh = g }
 -- what a call on the first lanes leaves in the array
 pub record IsPart (f : Lane → Lane) (old new : List Lane) (k : ℕ) : Type 0 where
   pub room : k ≤ length new
-  pub taken : take k new ≡ map f (take k old)
+  pub each : (i : ℕ) → i < k → lane_at new i ≡ f (lane_at old i)
 
 pub is-part : (f : Lane → Lane) (new q old : List Lane) (k : ℕ) → new ≡ map f (take k old) → k ≤ length old → IsPart f old (new ++ q) k
 is-part f new q old k e le = grind (arith, common_steps)
+
+-- the lane with another sum
+lane-moved : {n : ℕ} {r : RuleView} {l : Lane} (s : ℕ) → LaneIs n r l → LaneIs n r (record l { sum = s })
+lane-moved s is = grind (arith, common_steps)
+
+module _ (v : Votes) (p q x y : ℕ) (below : p < v.members) (next : q ≡ p + 1) where
+  -- place p is taken in
+  pub lanes-in : (old new : List Lane) (k : ℕ) → y ≡ 2 * x + 1 → k ≡ length v.rules → IsPart (lane_with p) old new k → LanesAre v p x old
+      → LanesAre v q y new
+  unfolding LanesAre
+  lanes-in old new k more all part are = (
+    λ i lt. rw (part.each i (omega (arith, lt, all))) (lane-moved _ (are.0 i lt)),
+    λ i lt. rw (part.each i (omega (arith, lt, all))) (let own = are.0 i lt in
+        omega (arith, weight-step own.rule p q x y 1 below next more (omega arith), are.1 i lt, own.weights p below)),
+  )
+
+  -- it comes out again
+  pub lanes-out : (old new : List Lane) (k : ℕ) → x ≡ y + 1 → y % 2 ≡ 0 → k ≡ length v.rules → IsPart (lane_without p) old new k
+      → LanesAre v q x old → LanesAre v q y new
+  unfolding LanesAre
+  lanes-out old new k less even all part are = (
+    λ i lt. rw (part.each i (omega (arith, lt, all))) (lane-moved _ (are.0 i lt)),
+    λ i lt. rw (part.each i (omega (arith, lt, all))) (let own = are.0 i lt in omega (
+      arith,
+      weight-step own.rule p q (y / 2) x 1 below next (omega arith) (omega arith),
+      weight-over own.rule p q (y / 2) y below next (omega arith),
+      are.1 i lt,
+      own.weights p below,
+    )),
+  )
+
+  -- back to the place before, which is not in
+  pub lanes-up : (ls : List Lane) → y ≡ 2 * x → LanesAre v q y ls → LanesAre v p x ls
+  unfolding LanesAre
+  lanes-up ls twice are = (are.0, λ i lt. are.1 i lt ∙ weight-over (are.0 i lt).rule p q x y below next twice)
 
 -- a descent takes at most a visit for each place after the fixed ones
 open-most : (v : Votes) (p x most : ℕ) → cond (reaches v.rules p x) most 0 ≤ most
 open-most v p x most = cond_both (reaches v.rules p x) most 0 (λ i. i ≤ most) (λ _. omega arith) (λ _. omega arith)
 
 module _ {v : Votes} {a : Cursor} (is : CursorIs v a) where
+  -- ---- the lanes at the place
+  pub lane-here : (i : ℕ) → i < a.rules → LaneIs v.members (rule_at v.rules i) (lane_at a.lanes i)
+  unfolding LanesAre
+  lane-here i below = is.lanes.0 i (omega (arith, below, is.rules))
+
+  pub sum-here : (i : ℕ) → i < a.rules → (lane_at a.lanes i).sum ≡ weight (take a.place (rule_at v.rules i).weights) a.prefix
+  unfolding LanesAre
+  sum-here i below = is.lanes.1 i (omega (arith, below, is.rules))
+
   -- ---- coming back, where the last place is not a fixed one
   module _ (stale : a.fresh ≡ false) (more : a.place ≡ a.bits → ⊥) where
     -- back to the place before, which is not in
@@ -65,7 +117,8 @@ module _ {v : Votes} {a : Cursor} (is : CursorIs v a) where
         known On (λ f. record a { prefix = a.prefix / 2; place = a.place - 1; fresh = f }) false stale (λ is.
         let place = place-up v a.bits a.number (a.place - 1) a.place (a.prefix / 2) a.prefix is.game (omega arith) refl
         (omega (arith, is.place.from)) is.place in
-        grind (arith, common_steps, lanes-up, halves)) is
+        let lanes = lanes-up v (a.place - 1) a.place (a.prefix / 2) a.prefix (omega (arith, is.place.to)) (omega arith) a.lanes (omega arith) is.lanes in
+        grind (arith, common_steps, halves)) is
 
     -- the last member is left out
     module _ (odd : a.prefix % 2 ≡ 1) where
@@ -77,10 +130,18 @@ module _ {v : Votes} {a : Cursor} (is : CursorIs v a) where
           (omega arith) is.place in
           let place = place-down v a.bits a.number (a.place - 1) a.place (a.prefix / 2) (a.prefix - 1) (omega arith) (omega arith)
           (omega (arith, is.place.to)) (is.place.passed (omega (arith, is.place.from))) up in
-          grind (arith, common_steps, lanes-out)) is
+          let lanes = lanes-out v (a.place - 1) a.place a.prefix (a.prefix - 1) (omega (arith, is.place.to)) (omega arith) a.lanes ls a.rules
+          (omega arith) (omega arith) is.rules part is.lanes in
+          grind (arith, common_steps)) is
 
       pub out-fits : All (λ l. get_or l.weights (a.place - 1) 0 ≤ l.sum) (take a.rules a.lanes)
-      out-fits = grind (arith, common_steps, fits-out)
+      out-fits = λ i d lt.
+          let below : i < a.rules = omega (arith, lt, length-take a.rules a.lanes) in
+          let own = lane-here i below in
+          let step = weight-step own.rule (a.place - 1) a.place (a.prefix / 2) a.prefix 1 (omega (arith, is.place.to, is.place.from)) (omega arith)
+          (omega arith) (omega arith) in
+          rw (get_or-take a.rules a.lanes i d below, get_or_default a.lanes i d no_lane (omega (arith, below, is.room)))
+          (omega (arith, step, sum-here i below, own.weights (a.place - 1) (omega (arith, is.place.to, is.place.from))))
 
   -- nothing is left
   pub back-end : a.fresh ≡ false → a.place ≡ a.bits → Steps v a End a
@@ -91,11 +152,22 @@ module _ {v : Votes} {a : Cursor} (is : CursorIs v a) where
 
   -- ---- a fresh place
   -- what the tests on the lanes say of the rules
-  pub reach-is : (t : Bool) → list_all (lane_reaches a.place) (take a.rules a.lanes) ≡ t → reaches v.rules a.place a.prefix ≡ t
-  reach-is t h = sym (lanes-reach v.members a.place a.prefix v.rules (take a.rules a.lanes) is.place.to is.lanes) ∙ h
+  pub reach-is : list_all (lane_reaches a.place) (take a.rules a.lanes) ≡ reaches v.rules a.place a.prefix
+  unfolding reaches
+  reach-is =
+      rw (← is.rules) at (lanes-pass (λ r. leb r.quota (weight (take a.place r.weights) a.prefix + sum (drop a.place r.weights)))
+      (lane_reaches a.place) v.rules a.lanes (omega (arith, is.rules, is.room)) (λ i lt.
+      let own = lane-here i (omega (arith, lt, is.rules)) in
+      let here = sum-here i (omega (arith, lt, is.rules)) in
+      rw (sub-leb, own.quota, here, own.rest a.place is.place.to) refl))
 
-  pub win-is : (t : Bool) → list_all lane_wins (take a.rules a.lanes) ≡ t → wins_at v.rules a.place a.prefix ≡ t
-  win-is t h = sym (lanes-win v.members a.place a.prefix v.rules (take a.rules a.lanes) is.lanes) ∙ h
+  pub win-is : list_all lane_wins (take a.rules a.lanes) ≡ wins_at v.rules a.place a.prefix
+  unfolding wins_at
+  win-is =
+      rw (← is.rules) at (lanes-pass (λ r. leb r.quota (weight (take a.place r.weights) a.prefix)) lane_wins v.rules a.lanes
+      (omega (arith, is.rules, is.room)) (λ i lt.
+      let own = lane-here i (omega (arith, lt, is.rules)) in
+      let here = sum-here i (omega (arith, lt, is.rules)) in rw (own.quota, here) refl))
 
   module _ (fresh : a.fresh ≡ true) where
     -- a prefix is passed by, where nothing is left below it and no visit is owed
@@ -114,37 +186,39 @@ module _ {v : Votes} {a : Cursor} (is : CursorIs v a) where
     enter-spare nothing fixed = grind (arith, common_steps, left-nothing, open-most, pass-by)
 
   -- a prefix that reaches and does not win has a place after it
-  module _ {reaching winning : Bool} (reaches-is : reaching ≡ list_all (lane_reaches a.place) (take a.rules a.lanes))
-      (wins-is : winning ≡ list_all lane_wins (take a.rules a.lanes)) (reach : reaching ≡ true) (lose : winning ≡ false) where
+  module _ (can : reaches v.rules a.place a.prefix ≡ true) (lost : wins_at v.rules a.place a.prefix ≡ false) where
     pub in-room : a.place < v.members
-    in-room =
-        let can = reach-is true (sym reaches-is ∙ reach) in
-        let lost = win-is false (sym wins-is ∙ lose) in grind (arith, common_steps, both_ways, full-reach)
+    in-room = grind (arith, common_steps, both_ways, full-reach)
 
     pub in-fits : All (λ l. l.sum + get_or l.weights a.place 0 < 2 ^ 64) (take a.rules a.lanes)
-    in-fits = fits-in v.members a.place a.prefix v.rules (take a.rules a.lanes) in-room is.lanes
+    in-fits = λ i d lt.
+        let below : i < a.rules = omega (arith, lt, length-take a.rules a.lanes) in
+        let own = lane-here i below in
+        let cut = sum_by-take-drop (λ (y : ℕ). y) (rule_at v.rules i).weights a.place in
+        rw (get_or-take a.rules a.lanes i d below, get_or_default a.lanes i d no_lane (omega (arith, below, is.room))) (omega (
+          arith,
+          cut,
+          rest-step own.rule a.place in-room,
+          weight-le (take a.place (rule_at v.rules i).weights) a.prefix,
+          own.rule.light,
+          sum-here i below,
+          own.weights a.place in-room,
+        ))
 
     -- the next member is taken in
     pub enter-in : a.fresh ≡ true → (ls : List Lane) (t : ℕ) → t ≡ min (a.visits + 1) (2 ^ 64 - 1) → a.visits < 2 ^ 64
         → IsPart (lane_with a.place) a.lanes ls a.rules
         → Steps v a On (record a { lanes = ls; prefix = 2 * a.prefix + 1; place = a.place + 1; visits = t })
     enter-in fresh ls t counted holds part =
-        let can = reach-is true (sym reaches-is ∙ reach) in
-        let lost = win-is false (sym wins-is ∙ lose) in
         known On (λ f. record a { lanes = ls; prefix = 2 * a.prefix + 1; place = a.place + 1; visits = t; fresh = f }) true fresh (λ is.
         let place = place-down v a.bits a.number a.place (a.place + 1) a.prefix (2 * a.prefix + 1) refl (omega arith)
         in-room lost is.place in
-        grind (arith, common_steps, lanes-in, reaches-in, slice-short, halves)) is
+        let lanes = lanes-in v a.place (a.place + 1) a.prefix (2 * a.prefix + 1) in-room refl a.lanes ls a.rules refl is.rules part is.lanes in
+        grind (arith, common_steps, reaches-in, slice-short, halves)) is
 
   -- the number of a prefix with zeros after it
   pub enter-short : a.prefix * 2 ^ (v.members - a.place) < 2 ^ v.members
-  enter-short =
-      let e : a.place + (v.members - a.place) ≡ v.members = omega (arith, is.place.to) in grind (arith, common_steps, shl_below)
-
-  pub enter-mask : a.prefix * 2 ^ (a.members - a.place) % 2 ^ 64 ≡ a.prefix * 2 ^ (v.members - a.place)
-  enter-mask =
-      ap (λ (i : ℕ). a.prefix * 2 ^ (i - a.place) % 2 ^ 64) is.members
-      ∙ shl_whole a.prefix a.place (v.members - a.place) 64 is.place.short (omega (arith, is.place.to, is.game.few))
+  enter-short = (fixed-mask v.members a.place a.prefix is.place.to is.game.few is.place.short).1
 
   -- ---- a winning prefix
   module _ (won : wins_at v.rules a.place a.prefix ≡ true) where
@@ -164,34 +238,25 @@ module _ {v : Votes} {a : Cursor} (is : CursorIs v a) where
     won-visited = grind (arith, common_steps, cond-true, lt-ltb, last-in, cond-false, le-ltb, both_ways, empty-loses, cases_lt)
 
     -- a minimal one is given
-    pub enter-give : a.fresh ≡ true → (m : ℕ) → m ≡ a.prefix * 2 ^ (a.members - a.place) % 2 ^ 64
+    pub enter-give : a.fresh ≡ true → (m : ℕ) → m ≡ a.prefix * 2 ^ (a.members - a.place)
         → minimal v (a.prefix * 2 ^ (v.members - a.place)) ≡ true → Steps v a (Give m) (record a { fresh = false })
     enter-give fresh m found min =
-        rw (found ∙ enter-mask) (grind (arith, common_steps, in-slice, known, left-take, open-most, left-won, won-visited))
+        rw (found, is.members) (grind (arith, common_steps, in-slice, known, left-take, open-most, left-won, won-visited))
 
   -- between two calls no descent is under way
   pub rest-most : (a.fresh ≡ true → a.place ≡ a.bits) → length v.rules ≡ 1
       → a.visits + (v.members - a.bits) * length (rest_of_slice v a) ≤ a.bits + (v.members - a.bits) * length (slice v a.bits a.number)
   rest-most rests one = grind (arith, common_steps)
 
-pub first-number : (k j : ℕ) → k ≤ 10 → 1 * 2 ^ k % 2 ^ 64 - 1 - j ≡ 2 ^ k - 1 - j
-first-number k j le = ap (λ (i : ℕ). i - 1 - j) (one_shl k 64 (omega arith))
+-- the lanes, where the walk starts
+pub lanes-first : (v : Votes) (k x m : ℕ) (ls : List Lane) → k ≤ v.members → m ≡ x * 2 ^ (v.members - k) → LanesStand v ls
+    → ((i : ℕ) → i < length v.rules → (lane_at ls i).sum ≡ weight (rule_at v.rules i).weights m) → LanesAre v k x ls
+unfolding LanesAre
+lanes-first v k x m ls le mask own sums = (own, λ i lt. sums i lt ∙ rw mask (weight-block (own i lt).rule k x le))
 
--- one fixed place more
-pub fixed-in : (n k p x : ℕ) (rs : List RuleView) (ls : List Lane) → p < k → k ≤ n → has k p x ≡ true → LanesAre n p (x / 2 ^ (k - p)) rs ls
-    → LanesAre n (p + 1) (x / 2 ^ (k - (p + 1))) rs (map (lane_with p) ls)
-unfolding has
-fixed-in n k p x rs ls below le inside are = grind (arith, common_steps, eqb-true, fixed-half, lanes-in)
-
-pub fixed-pass : (n k p x : ℕ) (rs : List RuleView) (ls : List Lane) → p < k → k ≤ n → has k p x ≡ false
-    → LanesAre n p (x / 2 ^ (k - p)) rs ls → LanesAre n (p + 1) (x / 2 ^ (k - (p + 1))) rs ls
-unfolding has
-fixed-pass n k p x rs ls below le outside are = grind (arith, common_steps, both_ways, eq-eqb, fixed-half, lanes-pass)
-
-pub starts : (v : Votes) (k j x m n : ℕ) (ls : List Lane) (qs : List Asked) → IsVotes v → k ≤ v.members → j < 2 ^ k → n ≡ v.members
-    → m ≡ length v.rules
-    → m ≤ length ls → AreAsked v qs
-    → LanesAre v.members k (x / 2 ^ (k - k)) v.rules (take m ls) → x ≡ 2 ^ k - 1 - j
+pub starts : (v : Votes) (k j x m n fixed : ℕ) (ls : List Lane) (qs : List Asked) → IsVotes v → k ≤ v.members → j < 2 ^ k → n ≡ v.members
+    → m ≡ length v.rules → m ≤ length ls → AreAsked v qs → fixed ≡ (2 ^ k - 1 - j) * 2 ^ (v.members - k) → LanesStand v ls
+    → ((i : ℕ) → i < length v.rules → (lane_at ls i).sum ≡ weight (rule_at v.rules i).weights fixed) → x ≡ 2 ^ k - 1 - j
     → Starts v k j (record {
       lanes = ls;
       asked = qs;
@@ -204,12 +269,6 @@ pub starts : (v : Votes) (k j x m n : ℕ) (ls : List Lane) (qs : List Asked) �
       fresh = true;
       visits = k;
     })
-starts v k j x m n ls qs game le below members rules room asked are prefix =
+starts v k j x m n fixed ls qs game le below members rules room asked mask own sums prefix =
+    let lanes = lanes-first v k x fixed ls le (rw prefix mask) own sums in
     grind (arith, common_steps, cond-false, le-ltb, left-all, pow_pos)
-
-pub first-lanes : (v : Votes) (k j m : ℕ) (ls : List Lane) → m ≡ length v.rules → k ≤ 10
-    → LanesAre v.members 0 0 v.rules (take (length v.rules) ls)
-    → LanesAre v.members 0 ((1 * 2 ^ k % 2 ^ 64 - 1 - j) / 2 ^ (k - 0)) v.rules (take m ls)
-first-lanes v k j m ls e le are =
-    let x : (1 * 2 ^ k % 2 ^ 64 - 1 - j) / 2 ^ (k - 0) ≡ 0 = grind (arith, first-number, div_below, pow_pos) in
-    rw (x, e) are

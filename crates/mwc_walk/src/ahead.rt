@@ -10,7 +10,7 @@ use crate::lane::lanes_of;
 use crate::price::{Price, Prices};
 use crate::sums_ahead::SumsAhead;
 use crate::vetoes::Vetoes;
-use council_game::{Game, limits};
+use council_game::{Coalition, Game, limits};
 
 /// What the members who are no vetoers can still bring by one rule.
 #[derive(Clone, Copy)]
@@ -58,7 +58,7 @@ impl Ahead {
     {
         game.was_checked();
         let rules = game.rules();
-        let vetoes = Vetoes::of_each(game, &lanes_of(game)[..rules]);
+        let vetoes = Vetoes::of_each(game, &lanes_of(game, Coalition::none())[..rules]);
         let outlooks = filled(
             Outlook::of(game, &vetoes, 0),
             rules,

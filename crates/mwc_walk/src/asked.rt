@@ -3,7 +3,7 @@ ghost use Rattle.std.specs.Prelude.{◌≡◌, ◌-◌, ◌≤◌, ℕ, length, 
 ghost use Rattle.coalitions.specs.declared.limits.TheConstants.{MEMBERS, RULES};
 ghost use Rattle.council_game.specs.Game.{votes_of};
 ghost use Rattle.mwc_walk.specs.Inner.Asked.{AreAsked};
-ghost use Rattle.mwc_walk.specs.Inner.Places.{LanesAre};
+ghost use Rattle.mwc_walk.specs.Inner.Places.{LanesStand};
 
 use crate::fill::filled;
 use crate::lane::Lane;
@@ -34,7 +34,8 @@ impl Asked {
     pub(crate) fn of_each(game: &Game, lanes: &[Lane]) -> [Asked; limits::RULES]
         requires members { (votes_of game.now).members ≤ MEMBERS }
         requires few { length lanes.now ≤ RULES }
-        requires lanes { LanesAre (votes_of game.now).members 0 0 (votes_of game.now).rules lanes.now }
+        requires count { length lanes.now ≡ length (votes_of game.now).rules }
+        requires lanes { LanesStand (votes_of game.now) lanes.now }
         ensures { AreAsked (votes_of game.now) result }
     {
         let vetoes = brought(game, lanes);

@@ -1,10 +1,12 @@
 //! How far a walk has come, and its steps.
-ghost use Rattle.std.specs.Prelude.{◌≡◌, ◌≢◌, ◌*◌, ◌+◌, ◌-◌, ◌^◌, ◌<◌, ◌≤◌, false, true, min, length, slice_index, IfSome, MatchOption};
+ghost use Rattle.std.specs.Prelude.{◌≡◌, ◌≢◌, ℕ, ◌*◌, ◌+◌, ◌-◌, ◌^◌, ◌<◌, ◌≤◌, false, true, bit_and, min, length, slice_index, IfSome, MatchOption};
 ghost use Rattle.coalitions.specs.declared.limits.TheConstants.{BITS, MEMBERS, RULES};
 ghost use Rattle.council_game.specs.Game.{votes_of};
-ghost use Rattle.council_game.specs.Votes.{minimal};
-ghost use Rattle.mwc_walk.specs.Inner.Places.{wins_at, NothingBelow, NoneWins, IsExcess, AreExcesses, CanSpare};
-ghost use Rattle.mwc_walk.specs.Inner.Spared.{lane_at, IsEnough, IsNeed, AreNeeds, NoneSpared, Tried};
+ghost use Rattle.council_game.specs.Votes.{has, without, minimal};
+ghost use Rattle.mwc_walk.specs.Inner.Places.{reaches, wins_at, NothingBelow, IsExcess, AreExcesses, CanSpare};
+ghost use Rattle.mwc_walk.specs.Inner.Asked.{asked_at};
+ghost use Rattle.mwc_walk.specs.Inner.Lanes.{lane_at};
+ghost use Rattle.mwc_walk.specs.Inner.Spared.{IsEnough, IsNeed, AreNeeds, NoneSpared, Tried};
 ghost use Rattle.mwc_walk.specs.Inner.Vetoes.{vetoes_at};
 ghost use Rattle.mwc_walk.specs.Inner.Ahead.{AheadIs};
 ghost use Rattle.mwc_walk.specs.Inner.Cursor.{CursorIs, Steps, SomeSteps, Starts};
@@ -50,6 +52,29 @@ fn look_ahead(game: &Game, ahead: &mut Option<Ahead>)
     *ahead = Some(Ahead::of(game));
 }
 
+/// The fixed places of a slice, as a number.
+#[inline(always)]
+fn first_prefix(bits: usize, number: u16) -> u64
+    requires few { bits ≤ BITS }
+    requires number { number < 2 ^ bits }
+    ensures { result ≡ 2 ^ bits - 1 - number }
+{
+    (1 << bits) - 1 - number as u64
+}
+
+/// The rank mask of the members of a prefix.
+#[tactic(auto, using(crate::proofs::Steps::masks))]
+#[inline(always)]
+fn mask_of(prefix: u64, place: usize, members: usize) -> u64
+    requires few { members ≤ MEMBERS }
+    requires place { place ≤ members }
+    requires short { prefix < 2 ^ place }
+    ensures mask { result ≡ prefix * 2 ^ (members - place) }
+    ensures below { result < 2 ^ MEMBERS }
+{
+    prefix << (members - place)
+}
+
 impl Cursor {
     /// The cursor at the fixed places of a slice, which is all still to come.
     pub(crate) fn start(game: &Game, bits: u8, number: u16) -> Cursor
@@ -61,15 +86,10 @@ impl Cursor {
         let members = game.members();
         let rules = game.rules();
         let bits = bits as usize;
-        let mut lanes = lanes_of(game);
+        let prefix = first_prefix(bits, number);
+        let fixed = Coalition::of_mask(mask_of(prefix, bits, members));
+        let lanes = lanes_of(game, fixed);
         let asked = Asked::of_each(game, &lanes[..rules]);
-        let prefix = (1 << bits) - 1 - number as u64;
-        let fixed = Coalition::of_mask(prefix);
-        for place in 0..bits {
-            if fixed.has(bits, place) {
-                take_in(&mut lanes[..rules], place);
-            }
-        }
         Cursor {
             lanes,
             asked,
@@ -223,20 +243,38 @@ impl Cursor {
     {
         let rules = self.rules;
         let place = self.place;
-        if !all_reach(&self.lanes[..rules], place) || self.passes_by(game, ahead) {
+        if !self.reaches(game) || self.passes_by(game, ahead) {
             self.fresh = false;
             return Step::On;
         }
-        if !all_win(&self.lanes[..rules]) {
+        if !self.wins(game) {
             take_in(&mut self.lanes[..rules], place);
             self.prefix = 2 * self.prefix + 1;
             self.place += 1;
             self.visits = self.visits.saturating_add(1);
             return Step::On;
         }
-        let found = Coalition::of_mask(self.prefix << (self.members - place));
+        let found = Coalition::of_mask(mask_of(self.prefix, place, self.members));
         self.fresh = false;
         Step::Give(found)
+    }
+
+    /// Whether each quota can still be met.
+    #[inline(always)]
+    fn reaches(&self, game: &Game) -> bool
+        requires { CursorIs (votes_of game.now) self.now }
+        ensures { result ≡ reaches (votes_of game.now).rules self.now.place self.now.prefix }
+    {
+        all_reach(&self.lanes[..self.rules], self.place)
+    }
+
+    /// Whether the prefix wins by itself.
+    #[inline(always)]
+    fn wins(&self, game: &Game) -> bool
+        requires { CursorIs (votes_of game.now) self.now }
+        ensures { result ≡ wins_at (votes_of game.now).rules self.now.place self.now.prefix }
+    {
+        all_win(&self.lanes[..self.rules])
     }
 
     /// Whether the prefix is passed by, since no coalition below it is minimal: a member can be spared by what is
@@ -282,18 +320,32 @@ impl Cursor {
         self.has_spared(game, &self.excess(game))
     }
 
-    /// By how much each rule's quota is passed by what is there and what vetoers bring; 0 where it is not.
+    /// By how much each rule's quota is passed by what is there and what vetoers bring; 0 where it is not. All four at once: a
+    /// loop over the rules writes the array number by number, and a copy that reads it at once waits for that.
     #[inline(always)]
     fn excess(&self, game: &Game) -> [u64; limits::RULES]
         requires { CursorIs (votes_of game.now) self.now }
         ensures are { AreExcesses (votes_of game.now) self.now.place self.now.prefix result }
         ensures enough { IsEnough (votes_of game.now) self.now.place self.now.prefix result }
     {
-        filled(0, self.rules, |rule| {
-            self.lanes[rule]
-                .sum
-                .saturating_sub(self.asked[rule].before[self.place])
-        })
+        [
+            self.passed_by(0),
+            self.passed_by(1),
+            self.passed_by(2),
+            self.passed_by(3),
+        ]
+    }
+
+    /// By how much a rule's quota is passed by what is there and what vetoers bring.
+    #[inline(always)]
+    fn passed_by(&self, rule: usize) -> u64
+        requires rule { rule < RULES }
+        requires place { self.now.place ≤ MEMBERS }
+        ensures { result ≡ (lane_at self.now.lanes rule).sum - asked_at self.now.asked rule self.now.place }
+    {
+        self.lanes[rule]
+            .sum
+            .saturating_sub(self.asked[rule].before[self.place])
     }
 
     /// Whether no coalition below is minimal by what can still come: some quota can not be met by any sum that
@@ -315,7 +367,7 @@ impl Cursor {
         self.has_spared(game, &excess)
     }
 
-    /// The least by which each winning coalition below passes a rule's quota; none where there is none.
+    /// The least by which each winning coalition below passes a rule's quota; none where there is none, so that none is minimal.
     fn excess_ahead(
         &self,
         game: &Game,
@@ -327,7 +379,7 @@ impl Cursor {
         requires ahead { AheadIs (votes_of game.now) ahead.now }
         requires short { AreNeeds (votes_of game.now) self.now.place self.now.prefix ahead.now.vetoes short.now }
         requires rule { rule < self.now.rules }
-        ensures { MatchOption result (NoneWins (votes_of game.now) self.now.place self.now.prefix)
+        ensures { MatchOption result (NothingBelow (votes_of game.now) self.now.place self.now.prefix)
             (λ e. IsExcess (votes_of game.now) self.now.place self.now.prefix rule e) }
     {
         let need = self.need(game, ahead, short, rule);
@@ -399,7 +451,7 @@ impl Cursor {
     {
         let mut rest = self.may_be_spared(game, excess);
         while rest != 0 {
-            let place = self.members - 1 - rest.trailing_zeros() as usize;
+            let place = self.last_place(game, rest);
             if self.lanes[0].weights[place] > excess[0] {
                 return false;
             }
@@ -411,6 +463,22 @@ impl Cursor {
         false
     }
 
+    /// The last place of a mask of some members.
+    #[tactic(auto, using(crate::proofs::Spared::last))]
+    #[inline(always)]
+    fn last_place(&self, game: &Game, rest: u64) -> usize
+        requires is { CursorIs (votes_of game.now) self.now }
+        requires some { 0 < rest }
+        requires short { rest < 2 ^ (votes_of game.now).members }
+        ensures below { result < (votes_of game.now).members }
+        ensures inside { has (votes_of game.now).members result rest ≡ true }
+        ensures last { (q : ℕ) → q < (votes_of game.now).members →
+            has (votes_of game.now).members q rest ≡ true → q ≤ result }
+        ensures left { bit_and rest (rest - 1) ≡ without (votes_of game.now).members result rest }
+    {
+        self.members - 1 - rest.trailing_zeros() as usize
+    }
+
     /// Of the members of the prefix those that each rule may spare: a rule that passes its quota by nothing spares
     /// none that has a weight.
     #[inline(always)]
@@ -418,7 +486,7 @@ impl Cursor {
         requires { CursorIs (votes_of game.now) self.now }
         ensures { Tried (votes_of game.now) self.now.place self.now.prefix excess.now result }
     {
-        let mut few = self.prefix << (self.members - self.place);
+        let mut few = mask_of(self.prefix, self.place, self.members);
         for rule in 0..self.rules {
             if excess[rule] == 0 {
                 few &= self.lanes[rule].weightless;

@@ -1,6 +1,6 @@
 //! Sums of weights, as a few intervals.
 ghost use Rattle.std.specs.Prelude.{◌≡◌, ◌<◌, ◌≤◌, ◌+◌, ◌^◌, ℕ, MatchOption};
-ghost use Rattle.mwc_walk.specs.Inner.Covers.{Covers, CoversBut, InInterval};
+ghost use Rattle.mwc_walk.specs.Inner.Covers.{Covers, InInterval};
 
 /// How many intervals there are at most.
 const INTERVALS: usize = 8;
@@ -34,22 +34,21 @@ impl Intervals {
 
     /// Each sum, and each with this weight besides.
     pub(crate) fn with(&self, weight: u64) -> Intervals
-        requires { self.now.count ≤ 8 }
         ensures few { result.count ≤ 8 }
-        ensures without { (y : ℕ) → Covers self.now y → Covers result y }
-        ensures with { (y : ℕ) → weight + y < 2 ^ 64 → Covers self.now y → Covers result (weight + y) }
+        ensures without { self.now.count ≤ 8 → (y : ℕ) → Covers self.now y → Covers result y }
+        ensures with { self.now.count ≤ 8 →
+            (y : ℕ) → weight + y < 2 ^ 64 → Covers self.now y → Covers result (weight + y) }
     {
         let mut all = Intervals {
             count: 0,
             items: self.items,
         };
+        let count = self.count.min(INTERVALS);
         let mut without = 0;
         let mut with = 0;
-        while without + with < 2 * self.count {
+        while without + with < 2 * count {
             let more = self.moved(with, weight);
-            if without < self.count
-                && (with == self.count || self.items[without].least <= more.least)
-            {
+            if without < count && (with == count || self.items[without].least <= more.least) {
                 all.push(self.items[without]);
                 without += 1;
             } else {
@@ -62,8 +61,7 @@ impl Intervals {
 
     /// An interval with a weight besides; the last one where there is none at this place.
     fn moved(&self, at: usize, weight: u64) -> Interval
-        requires { self.now.count ≤ 8 }
-        ensures { at < self.now.count → (y : ℕ) → weight + y < 2 ^ 64 → InInterval self.now at y →
+        ensures { at < 8 → (y : ℕ) → weight + y < 2 ^ 64 → InInterval self.now at y →
             (result.least ≤ weight + y) × (weight + y ≤ result.most) }
     {
         let item = self.items[at.min(INTERVALS - 1)];
@@ -106,7 +104,8 @@ impl Intervals {
         } else {
             let next = self.items[near + 1];
             self.widen(near, next);
-            self.close_up(near + 1, interval);
+            self.items.copy_within(near + 2..INTERVALS, near + 1);
+            self.items[last] = interval;
         }
     }
 
@@ -143,21 +142,6 @@ impl Intervals {
             least: item.least.min(other.least),
             most: item.most.max(other.most),
         };
-    }
-
-    /// Moves the intervals behind a place to the left by one, over the one that stands there, and puts another one
-    /// last.
-    fn close_up(&mut self, place: usize, interval: Interval)
-        requires full { self.old.count ≡ 8 }
-        requires place { place < 8 }
-        ensures full { self.new.count ≡ 8 }
-        ensures kept { (y : ℕ) → CoversBut self.old place y → Covers self.new y }
-        ensures new { (y : ℕ) → interval.least ≤ y → y ≤ interval.most → Covers self.new y }
-    {
-        for at in place..INTERVALS - 1 {
-            self.items[at] = self.items[at + 1];
-        }
-        self.items[INTERVALS - 1] = interval;
     }
 
     /// The least number that is not below this one and lies in an interval; none where there is none.

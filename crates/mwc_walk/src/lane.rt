@@ -4,12 +4,12 @@ ghost use Rattle.std.specs.Prelude.{◌≡◌, ◌==◌, ◌+◌, ◌^◌, ◌<�
 ghost use Rattle.std.specs.List.{list_all, All, sum};
 ghost use Rattle.coalitions.specs.declared.limits.TheConstants.{MEMBERS, RULES};
 ghost use Rattle.council_game.specs.Game.{votes_of};
-ghost use Rattle.council_game.specs.Votes.{rule_at, has};
-ghost use Rattle.mwc_walk.specs.Inner.Places.{LaneIs, LanesAre};
-ghost use Rattle.mwc_walk.specs.Inner.Lanes.{lane_reaches, lane_wins, lane_with, lane_without};
+ghost use Rattle.council_game.specs.Votes.{rule_at, has, weight};
+ghost use Rattle.mwc_walk.specs.Inner.Places.{LaneIs, LanesStand};
+ghost use Rattle.mwc_walk.specs.Inner.Lanes.{lane_at, lane_reaches, lane_wins, lane_with, lane_without};
 
-use crate::fill::filled;
-use council_game::{Game, limits};
+use crate::fill::{filled, filled_back};
+use council_game::{Coalition, Game, limits};
 
 /// What the walk knows of one rule.
 #[derive(Clone, Copy)]
@@ -26,18 +26,19 @@ pub(crate) struct Lane {
 }
 
 impl Lane {
-    /// The lane of a rule, with no member in.
+    /// The lane of a rule, with the members of a coalition in.
     #[tactic(auto, using(crate::proofs::Rules::lane_made))]
-    pub(crate) fn new(game: &Game, rule: usize) -> Lane
+    pub(crate) fn new(game: &Game, rule: usize, fixed: Coalition) -> Lane
         requires { rule < length game.now.rules }
-        ensures { LaneIs (votes_of game.now).members 0 0
+        ensures lane { LaneIs (votes_of game.now).members
             (rule_at (votes_of game.now).rules rule) result }
+        ensures sum { result.sum ≡ weight (rule_at (votes_of game.now).rules rule).weights fixed }
     {
         let members = game.members();
         let weights = weights_of(game, rule);
         Lane {
             quota: game.rule_quota(rule),
-            sum: 0,
+            sum: game.rule_weight_of(rule, fixed),
             weightless: weightless_of(&weights, members),
             weights,
             rest: rest_of(&weights, members),
@@ -60,17 +61,18 @@ impl Lane {
     }
 }
 
-/// The lane of each rule, with no member in, and copies past the last.
-pub(crate) fn lanes_of(game: &Game) -> [Lane; limits::RULES]
+/// The lane of each rule, with the members of a coalition in, and copies past the last.
+pub(crate) fn lanes_of(game: &Game, fixed: Coalition) -> [Lane; limits::RULES]
     ensures long { length result ≡ RULES }
-    ensures lanes { LanesAre (votes_of game.now).members 0 0 (votes_of game.now).rules
-        (take (length (votes_of game.now).rules) result) }
+    ensures lanes { LanesStand (votes_of game.now) result }
+    ensures sums { (i : ℕ) → i < length (votes_of game.now).rules →
+        (lane_at result i).sum ≡ weight (rule_at (votes_of game.now).rules i).weights fixed }
 {
     game.was_checked();
     filled(
-        Lane::new(game, 0),
+        Lane::new(game, 0, fixed),
         game.rules(),
-        |rule| Lane::new(game, rule),
+        |rule| Lane::new(game, rule, fixed),
     )
 }
 
@@ -90,28 +92,30 @@ fn weights_of(game: &Game, rule: usize) -> [u64; limits::MEMBERS]
 
 /// What the places from each one on weigh together.
 pub(crate) fn rest_of(weights: &[u64; limits::MEMBERS], members: usize) -> [u64; limits::SIZES]
-    requires members { members ≤ MEMBERS }
-    requires fits { sum (take members weights.now) < 2 ^ 64 }
-    ensures { (q : ℕ) → q ≤ members →
+    requires { members ≤ MEMBERS }
+    ensures { sum (take members weights.now) < 2 ^ 64 → (q : ℕ) → q ≤ members →
         slice_index result q ≡ sum (drop q (take members weights.now)) }
 {
-    let mut rest = [0; limits::SIZES];
-    for place in (0..members).rev() {
-        rest[place] = weights[place] + rest[place + 1];
-    }
-    rest
+    filled_back(
+        0,
+        members,
+        |place, behind: u64| behind.saturating_add(weights[place]),
+    )
 }
 
 /// The rank mask of the members without weight.
+#[tactic(auto, using(crate::proofs::Rules::weightless))]
 fn weightless_of(weights: &[u64; limits::MEMBERS], members: usize) -> u64
     requires { members ≤ MEMBERS }
     ensures { (q : ℕ) → q < members → has members q result ≡ (slice_index weights.now q == 0) }
 {
-    let mut mask = 0;
+    let mut none = Coalition::none();
     for place in 0..members {
-        mask = 2 * mask + u64::from(weights[place] == 0);
+        if weights[place] == 0 {
+            none = none.with(members, place);
+        }
     }
-    mask
+    none.mask()
 }
 
 /// Whether each quota can still be met, by all members from a place on.

@@ -1,5 +1,5 @@
 //! The slices of a game: how many there are, and one as a list.
-ghost use Rattle.std.specs.Prelude.{◌≡◌, ◌≤◌, ◌<◌, ◌^◌, length, take, IfOk};
+ghost use Rattle.std.specs.Prelude.{◌≡◌, ◌≤◌, ◌<◌, ◌^◌, length, take, drop, IfOk, OnOk};
 ghost use Rattle.coalitions.specs.declared.limits.TheConstants.{BITS};
 ghost use Rattle.council_game.specs.Game.{votes_of};
 ghost use Rattle.mwc_walk.specs.Slices.{slice};
@@ -24,7 +24,6 @@ pub fn slice_count(bits: u8) -> u16
 /// # Errors
 ///
 /// `Memory` where a growth was refused.
-#[tactic(auto, using(crate::proofs::Whole::listed))]
 pub fn list_slice(
     alloc: Global,
     game: &Game,
@@ -38,6 +37,18 @@ pub fn list_slice(
     ensures { IfOk result (λ v. v.items ≡ take most (slice (votes_of game.now) bits j)) }
 {
     let mut walk = Walk::new(game, bits, j);
+    list_next(alloc, &mut walk, most)
+}
+
+/// The next `most` coalitions of a walk, or all that are still to come where there are no more.
+pub(crate) fn list_next(
+    alloc: Global,
+    walk: &mut Walk<'_>,
+    most: u32,
+) -> Result<Vec<Coalition>, Memory>
+    ensures list { IfOk result (λ v. v.items ≡ take most walk.old.to_come) }
+    ensures rest { OnOk result (walk.new.to_come ≡ drop most walk.old.to_come) }
+{
     let mut list = Vec::new(alloc);
     for _ in 0..most {
         match walk.next() {

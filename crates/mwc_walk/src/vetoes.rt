@@ -4,7 +4,7 @@ ghost use Rattle.std.specs.List.{list_any};
 ghost use Rattle.coalitions.specs.declared.limits.TheConstants.{MEMBERS, RULES};
 ghost use Rattle.council_game.specs.Game.{votes_of};
 ghost use Rattle.mwc_walk.specs.Inner.Lanes.{lane_needs};
-ghost use Rattle.mwc_walk.specs.Inner.Places.{LanesAre};
+ghost use Rattle.mwc_walk.specs.Inner.Places.{LanesStand};
 ghost use Rattle.mwc_walk.specs.Inner.Vetoes.{IsSplit, SplitsAre, BringsAre, vetoed_part};
 
 use crate::fill::filled;
@@ -24,7 +24,7 @@ pub(crate) struct Vetoes {
 impl Vetoes {
     /// Nothing known of any vetoer.
     fn none() -> Vetoes
-        ensures { (p : ℕ) → slice_index result.brings p ≡ 0 }
+        ensures { (p : ℕ) → p ≤ MEMBERS → slice_index result.brings p ≡ 0 }
     {
         Vetoes {
             brings: [0; limits::SIZES],
@@ -35,7 +35,8 @@ impl Vetoes {
     /// The parts of one rule.
     fn of(game: &Game, lanes: &[Lane], rule: usize) -> Vetoes
         requires rule { rule < length lanes.now }
-        requires lanes { LanesAre (votes_of game.now).members 0 0 (votes_of game.now).rules lanes.now }
+        requires count { length lanes.now ≡ length (votes_of game.now).rules }
+        requires lanes { LanesStand (votes_of game.now) lanes.now }
         ensures { IsSplit (votes_of game.now) rule result }
     {
         let members = game.members();
@@ -54,7 +55,8 @@ impl Vetoes {
     /// The parts of each rule, and copies past the last.
     pub(crate) fn of_each(game: &Game, lanes: &[Lane]) -> [Vetoes; limits::RULES]
         requires few { length lanes.now ≤ RULES }
-        requires lanes { LanesAre (votes_of game.now).members 0 0 (votes_of game.now).rules lanes.now }
+        requires count { length lanes.now ≡ length (votes_of game.now).rules }
+        requires lanes { LanesStand (votes_of game.now) lanes.now }
         ensures { SplitsAre (votes_of game.now) result }
     {
         filled(
@@ -67,8 +69,10 @@ impl Vetoes {
 
 /// What vetoers bring under each rule. Under one rule it is not asked for, and nothing is known of them.
 pub(crate) fn brought(game: &Game, lanes: &[Lane]) -> [Vetoes; limits::RULES]
+    requires members { (votes_of game.now).members ≤ MEMBERS }
     requires few { length lanes.now ≤ RULES }
-    requires lanes { LanesAre (votes_of game.now).members 0 0 (votes_of game.now).rules lanes.now }
+    requires count { length lanes.now ≡ length (votes_of game.now).rules }
+    requires lanes { LanesStand (votes_of game.now) lanes.now }
     ensures { BringsAre (votes_of game.now) result }
 {
     if lanes.len() == 1 {

@@ -93,6 +93,7 @@ impl<'a> Walk<'a> {
     /// Seeks the next coalition of the slice as `next` does, but makes at most `visits` visits, 1 or more: after these
     /// it answers NotYet, and goes on when it is called again. Nothing else is changed then. Under one rule, where the
     /// next coalition is near, it never answers NotYet, nor where the count of visits could not hold that many more.
+    #[tactic(auto, using(crate::proofs::Remains::walking), unfolding(crate::specs::Seeks::seeks_left))]
     pub fn seek(&mut self, visits: u64) -> Seek
         requires { 0 < visits }
         ensures seeks { Seeks visits self.old result self.new }
@@ -105,9 +106,11 @@ impl<'a> Walk<'a> {
         ensures few { length self.old.votes.rules ≢ 1 → self.new.visits ≤ self.old.visits + visits }
         ensures falls { result ≢ Seek.End → seeks_left self.new < seeks_left self.old }
     {
-        self.cursor
-            .seek(self.game, &mut self.ahead, visits)
-            .sought()
+        match self.cursor.seek(self.game, &mut self.ahead, visits) {
+            Step::On => Seek::NotYet,
+            Step::Give(coalition) => Seek::Found(coalition),
+            Step::End => Seek::End,
+        }
     }
 
     /// How many visits there were. Each fixed place is visited once, when it is checked, and a later place

@@ -5,6 +5,7 @@ ghost use Rattle.council_game.specs.Game.{votes_of};
 ghost use Rattle.mwc_walk.specs.Listed.{ListsAll};
 
 use crate::Walk;
+use crate::slices::list_next;
 use council_game::{Coalition, Game, Memory};
 use std::alloc::Global;
 
@@ -15,6 +16,7 @@ use std::alloc::Global;
 /// # Errors
 ///
 /// `Memory` where a growth was refused.
+#[tactic(auto, using(crate::proofs::Remains::whole_list))]
 pub fn list_all(alloc: Global, game: &Game, most: u32) -> Result<Option<Vec<Coalition>>, Memory>
     ensures all { IfOk result (λ o. IfSome o (λ v. ListsAll game.now most v.items)) }
     ensures more { IfOk result
@@ -22,13 +24,7 @@ pub fn list_all(alloc: Global, game: &Game, most: u32) -> Result<Option<Vec<Coal
 {
     game.was_checked();
     let mut walk = Walk::new(game, 0, 0);
-    let mut list = Vec::new(alloc);
-    for _ in 0..most {
-        match walk.next() {
-            Some(coalition) => list.push(coalition)?,
-            None => return Ok(Some(list)),
-        }
-    }
+    let list = list_next(alloc, &mut walk, most)?;
     match walk.next() {
         Some(_) => Ok(None),
         None => Ok(Some(list)),

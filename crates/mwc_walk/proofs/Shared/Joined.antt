@@ -4,7 +4,7 @@ use Rattle.mwc_walk.proofs.Imports.{◌∙◌, subst, arith, filter, eq-eqb, pow
 use Rattle.std.proofs.Common.{flat_map}
 use Rattle.std.specs.List.{range_with_len}
 use Rattle.mwc_walk.specs.Laws.{SlicesMakeTheWhole}
-use Rattle.mwc_walk.proofs.Descending.{filter-filter_skip, filter-block, block-prefix, before-block, past-block}
+use Rattle.mwc_walk.proofs.Rest.{filter-filter_skip, filter-block, block-prefix, before-block, past-block}
 
 -- the last slices joined, from number s on: the numbers whose first digits are below count
 joined-from : (p : ℕ → Bool) (h whole s count : ℕ) → s + count ≡ whole

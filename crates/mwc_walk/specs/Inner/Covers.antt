@@ -1,5 +1,5 @@
 -- The numbers that lie in intervals.
-use Rattle.std.specs.Prelude.{ℕ, ◌<◌, ◌≤◌, ◌≢◌, slice_index_or}
+use Rattle.std.specs.Prelude.{ℕ, ◌<◌, ◌≤◌, slice_index_or}
 use Rattle.mwc_walk.specs.declared.intervals.Interval.{Interval}
 use Rattle.mwc_walk.specs.declared.intervals.Intervals.{Intervals}
 
@@ -13,7 +13,3 @@ InInterval is k y = ((interval_at is k).least ≤ y) × (y ≤ (interval_at is k
 -- it lies in one of them
 abbrev pub Covers : Intervals → ℕ → Type 0
 Covers is y = (k : ℕ) × (k < is.count) × InInterval is k y
-
--- it lies in one of them, and not only in the one at a hole
-abbrev pub CoversBut : Intervals → ℕ → ℕ → Type 0
-CoversBut is hole y = (k : ℕ) × (k < is.count) × (k ≢ hole) × InInterval is k y

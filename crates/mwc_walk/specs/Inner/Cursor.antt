@@ -1,11 +1,9 @@
 -- How far a walk has come, and what is left to it.
-use Rattle.std.specs.Prelude.{ℕ, ◌+◌, ◌-◌, ◌*◌, ◌/◌, ◌%◌, ◌^◌, ◌≡◌, ◌≤◌, ◌<◌, false, if◌then◌else◌, ltb, List, [], ◌∷◌, length, take}
+use Rattle.std.specs.Prelude.{ℕ, ◌+◌, ◌-◌, ◌*◌, ◌/◌, ◌%◌, ◌^◌, ◌≡◌, ◌≤◌, ◌<◌, false, if◌then◌else◌, ltb, List, [], ◌∷◌, length}
 use Rattle.council_game.specs.Votes.{Votes, IsVotes}
 use Rattle.mwc_walk.specs.declared.cursor.Cursor.{Cursor}
 use Rattle.mwc_walk.specs.declared.step.Step.{Step}
 use Rattle.mwc_walk.specs.declared.step.Step.TheVariants.{On, Give, End}
-use Rattle.mwc_walk.specs.declared.seek.Seek.{Seek}
-use Rattle.mwc_walk.specs.declared.seek.Seek.TheVariants as seek
 use Rattle.mwc_walk.specs.Slices.{slice}
 use Rattle.mwc_walk.specs.Inner.Asked.{AreAsked}
 use Rattle.mwc_walk.specs.Inner.Places.{slice_below, reaches, wins_at, LanesAre}
@@ -53,7 +51,7 @@ pub record CursorIs (v : Votes) (c : Cursor) : Type 0 where
   pub members : c.members ≡ v.members
   pub rules : c.rules ≡ length v.rules
   pub room : c.rules ≤ length c.lanes
-  pub lanes : LanesAre v.members c.place c.prefix v.rules (take c.rules c.lanes)
+  pub lanes : LanesAre v c.place c.prefix c.lanes
   pub asked : AreAsked v c.asked
   pub place : IsPlace v c.bits c.number c.place c.prefix
   pub visits :
@@ -96,12 +94,6 @@ abbrev pub SomeSteps : Votes → Cursor → Step → Cursor → Type 0
 SomeSteps v a On b = Follows v a b × (rest_of_slice v b ≡ rest_of_slice v a)
 SomeSteps v a (Give m) b = GivesNext v a m b
 SomeSteps v a End b = FindsEnd v a b
-
--- what a walk tells of them
-abbrev pub sought : Step → Seek
-sought On = seek.NotYet
-sought (Give m) = seek.Found m
-sought End = seek.End
 
 -- where a walk starts: the whole slice is left, and only the fixed places are visited
 pub record Starts (v : Votes) (k j : ℕ) (c : Cursor) : Type 0 where

@@ -1,7 +1,8 @@
 -- A place of the walk: x is the number of the first p places.
 use Rattle.std.specs.Prelude.{ℕ, ◌+◌, ◌-◌, ◌/◌, ◌^◌, ◌==◌, ◌≡◌, ◌≤◌, ◌<◌, Bool, true, false, nat_le, List, length, take, drop, slice_index}
-use Rattle.std.specs.List.{filter, sum, list_all, AllZip}
+use Rattle.std.specs.List.{filter, sum, list_all}
 use Rattle.mwc_walk.specs.declared.lane.Lane.{Lane}
+use Rattle.mwc_walk.specs.Inner.Lanes.{lane_at}
 use Rattle.council_game.specs.Votes.{Votes, RuleView, IsRule, rule_at, has, weight, wins, minimal}
 use Rattle.council_game.specs.Shared.Below.{minimal_below}
 
@@ -42,14 +43,19 @@ NoneWins v p x = (c : ℕ) → c / 2 ^ (v.members - p) ≡ x → wins v.rules c 
 abbrev pub NothingBelow : Votes → ℕ → ℕ → Type 0
 NothingBelow v p x = (c : ℕ) → c / 2 ^ (v.members - p) ≡ x → minimal v c ≡ false
 
--- lane l is that of rule r, at the prefix x of p places
-pub record LaneIs (n p x : ℕ) (r : RuleView) (l : Lane) : Type 0 where
+-- lane l is that of rule r
+pub record LaneIs (n : ℕ) (r : RuleView) (l : Lane) : Type 0 where
   pub rule : IsRule n r
   pub quota : l.quota ≡ r.quota
   pub weights : (q : ℕ) → q < n → slice_index l.weights q ≡ slice_index r.weights q
   pub rest : (q : ℕ) → q ≤ n → slice_index l.rest q ≡ sum (drop q r.weights)
   pub weightless : (q : ℕ) → q < n → has n q l.weightless ≡ (slice_index r.weights q == 0)
-  pub sum_is : l.sum ≡ weight (take p r.weights) x
 
-abbrev pub LanesAre : ℕ → ℕ → ℕ → List RuleView → List Lane → Type 0
-LanesAre n p x rs ls = AllZip (LaneIs n p x) rs ls
+-- the first lanes are those of the rules
+abbrev pub LanesStand : Votes → List Lane → Type 0
+LanesStand v ls = (i : ℕ) → i < length v.rules → LaneIs v.members (rule_at v.rules i) (lane_at ls i)
+
+-- with the members of the prefix in
+unfoldable pub LanesAre : Votes → ℕ → ℕ → List Lane → Type 0
+LanesAre v p x ls =
+    LanesStand v ls × ((i : ℕ) → i < length v.rules → (lane_at ls i).sum ≡ weight (take p (rule_at v.rules i).weights) x)

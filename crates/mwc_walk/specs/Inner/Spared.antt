@@ -1,14 +1,9 @@
 -- The members of a prefix who can be spared.
-use Rattle.std.specs.Prelude.{ℕ, ◌-◌, ◌*◌, ◌/◌, ◌^◌, ◌≡◌, ◌≤◌, ◌<◌, true, false, List, length, take, slice_index, slice_index_or}
+use Rattle.std.specs.Prelude.{ℕ, ◌-◌, ◌*◌, ◌/◌, ◌^◌, ◌≡◌, ◌≤◌, ◌<◌, true, false, List, length, take, slice_index}
 use Rattle.council_game.specs.Votes.{Votes, rule_at, has, weight, wins}
-use Rattle.mwc_walk.specs.declared.lane.Lane.{Lane}
 use Rattle.mwc_walk.specs.declared.vetoes.Vetoes.{Vetoes}
 use Rattle.mwc_walk.specs.Inner.Vetoes.{vetoes_at, free_from}
-use Rattle.mwc_walk.specs.Inner.Lanes.{no_lane}
 use Rattle.mwc_walk.specs.Inner.Places.{CanSpare}
-
-abbrev pub lane_at : List Lane → ℕ → Lane
-lane_at ls i = slice_index_or ls i no_lane
 
 -- no rule passes its quota by more at the prefix itself
 abbrev pub IsEnough : Votes → ℕ → ℕ → List ℕ → Type 0

@@ -3,7 +3,7 @@ use Rattle.std.specs.Prelude.{ℕ, ◌+◌, ◌≡◌, ◌<◌, ◌≤◌, ◌^�
 use Rattle.std.specs.List.{sum, list_any}
 use Rattle.council_game.specs.Votes.{Votes, rule_at, weight, wins}
 use Rattle.mwc_walk.specs.declared.lane.Lane.{Lane}
-use Rattle.mwc_walk.specs.Inner.Lanes.{no_lane, lane_needs}
+use Rattle.mwc_walk.specs.Inner.Lanes.{lane_at, lane_needs}
 use Rattle.mwc_walk.specs.declared.vetoes.Vetoes.{Vetoes}
 
 abbrev pub vetoes_at : List Vetoes → ℕ → Vetoes
@@ -11,7 +11,7 @@ vetoes_at vs i = slice_index_or vs i (record { brings = []; free = [] })
 
 -- the weight by lane i of the member of place q where it is a vetoer, and 0 where it is none
 abbrev pub vetoed_part : List Lane → ℕ → ℕ → ℕ
-vetoed_part ls i q = if list_any (lane_needs q) ls then slice_index (slice_index_or ls i no_lane).weights q else 0
+vetoed_part ls i q = if list_any (lane_needs q) ls then slice_index (lane_at ls i).weights q else 0
 
 -- what others bring: the weight of those from place p on in c
 abbrev pub free_from : Votes → Vetoes → ℕ → ℕ → ℕ

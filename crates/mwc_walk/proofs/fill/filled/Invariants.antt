@@ -1,5 +1,4 @@
-use Rattle.mwc_walk.proofs.Imports.{◌≡◌, ◌<◌, ℕ, length}
-use Rattle.std.proofs.Common.{slice_index_or}
+use Rattle.mwc_walk.proofs.Imports.{◌≡◌, ◌<◌, ℕ, length, slice_index_or}
 use Rattle.mwc_walk.proofs.fill.filled.Given as goal
 
 abbrev pub invariant-loop-place : goal.invariant-loop-place

@@ -1,23 +1,10 @@
-use Rattle.mwc_walk.proofs.Imports.{◌≡◌, ◌-◌, [], length, take, drop, arith, refl, drop_all, length-take-le, common_steps}
-use Rattle.mwc_walk.proofs.{Filled.fill-before, Rules.same_at, Rules.sum-before, Rules.drop-most}
+use Rattle.mwc_walk.proofs.Imports.{◌≡◌, ◌-◌, take, drop, sum, get_or, arith, common_steps}
+use Rattle.mwc_walk.proofs.Rules.{from-back, sum-from, drop-most}
 use Rattle.mwc_walk.proofs.lane.rest_of.Goals as goal
 
-pub loop-place-init : goal.loop-place-init
-loop-place-init c = record {
-  long = refl;
-  done = λ q lo hi.
-      let size : length (take c.args.members c.args.weights.now) ≡ c.args.members = grind (arith, common_steps, length-take-le) in
-      let none : drop q (take c.args.members c.args.weights.now) ≡ [] = drop_all q (take c.args.members c.args.weights.now) (omega arith) in
-      rw none (same_at 0 41 q);
-}
-
-pub overflow_add-rest-in-loop-place : goal.overflow_add-rest-in-loop-place
-overflow_add-rest-in-loop-place c =
-    let here = sum-before c.args.weights.now c.loop-place.rest c.args.members c.loop-place.place (omega arith) (omega arith) (omega arith)
-    c.loop-place.invariant in grind (arith, common_steps, drop-most)
-
-pub loop-place-preserved : goal.loop-place-preserved
-loop-place-preserved c =
-    fill-before (c.loop-place.place - 1) c.loop-place.invariant (omega arith) (omega arith)
-    (sum-before c.args.weights.now c.loop-place.rest c.args.members c.loop-place.place (omega arith) (omega arith) (omega arith)
-    c.loop-place.invariant)
+pub returns : goal.returns
+returns c = λ fits q le.
+    from-back (λ i. get_or c.filled_back.result i 0 ≡ sum (drop i (take c.args.members c.args.weights.now))) c.args.members
+    (let last = c.filled_back.ensures.last 0 in grind (arith, common_steps))
+    (λ p lt after. let made = c.filled_back.ensures.made p 0 lt in grind (arith, common_steps, sum-from, drop-most))
+    (c.args.members - q) q (omega arith)

@@ -1,9 +1,9 @@
 use Rattle.mwc_walk.proofs.cursor.Cursor.may_be_spared.Goals.{then-excess-rule-eq0, else-excess-rule-eq0}
-use Rattle.mwc_walk.proofs.{Imports.arith, Spared.lane-here, Spared.tried-first, Spared.tried-weightless, Steps.enter-mask}
+use Rattle.mwc_walk.proofs.{Imports.arith, Spared.tried-first, Spared.tried-weightless, Steps.lane-here}
 use Rattle.mwc_walk.proofs.cursor.Cursor.may_be_spared.Goals as goal
 
 pub loop-rule-init : goal.loop-rule-init
-loop-rule-init c = tried-first c.requires c.args.excess.now _ (enter-mask c.requires)
+loop-rule-init c = tried-first c.requires c.args.excess.now _ c.mask_of-few.ensures.mask
 
 pub loop-rule-preserved : goal.loop-rule-preserved
 loop-rule-preserved c = elim c.if-excess-rule-eq0.branch [

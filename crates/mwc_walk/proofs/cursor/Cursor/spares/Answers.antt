@@ -1,4 +1,4 @@
-use Rattle.mwc_walk.proofs.{Imports.arith, Imports.common_steps, Spared.lane-here}
+use Rattle.mwc_walk.proofs.{Imports.arith, Imports.common_steps, Steps.lane-here}
 use Rattle.mwc_walk.proofs.cursor.Cursor.spares.Goals as goal
 
 pub returns-then-self-rule-clause-none : goal.returns-then-self-rule-clause-none

@@ -1,13 +1,13 @@
-use Rattle.mwc_walk.proofs.Imports.{◌-◌, ◌+◌, arith, common_steps}
-use Rattle.mwc_walk.proofs.{Coming.weight-past, Coming.price-step, Filled.fill-before, Rules.same_at}
+use Rattle.mwc_walk.proofs.Imports.{◌-◌, take, drop, weight, arith, rules, common_steps, IsPrice}
+use Rattle.mwc_walk.proofs.{Coming.weight-past, Coming.price-step, Rules.from-back}
+use Rattle.mwc_walk.specs.Inner.Prices.{price_at}
 use Rattle.mwc_walk.proofs.price.Prices.new.Goals as goal
 
-pub loop-place-init : goal.loop-place-init
-loop-place-init c = grind (arith, common_steps, same_at, weight-past)
-
-pub loop-place-preserved : goal.loop-place-preserved
-loop-place-preserved c =
-    let next = price-step c.args.members (c.loop-place.place - 1) c.args.own.now c.args.other.now in
-    fill-before (c.loop-place.place - 1) c.loop-place.invariant (omega arith) (omega arith)
-    (λ d. next _ _ (omega arith) (omega arith) (omega arith) c.or.ensures d
-    (c.loop-place.invariant.done (c.loop-place.place - 1 + 1) (omega arith) (omega arith) d))
+pub returns : goal.returns
+returns c = λ p d le.
+    from-back (λ i. IsPrice (price_at (record { from = c.filled_back.result }) i) (weight (drop i (take c.args.members c.args.other.now)) d)
+    (weight (drop i (take c.args.members c.args.own.now)) d)) c.args.members
+    (let last = c.filled_back.ensures.last (record { own = 0; other = 0 }) in grind (arith, common_steps, weight-past))
+    (λ q lt after. let made = c.filled_back.ensures.made q (record { own = 0; other = 0 }) lt in
+    price-step c.args.members q c.args.own.now c.args.other.now _ _ lt (omega arith) (omega arith) (search rules) d after)
+    (c.args.members - p) p (omega arith)

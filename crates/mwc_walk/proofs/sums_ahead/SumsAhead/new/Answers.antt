@@ -1,26 +1,23 @@
-use Rattle.mwc_walk.proofs.Imports.{◌-◌, ◌+◌, [], refl, arith, Intervals}
-use Rattle.std.proofs.lemmas.List.{get_or-replicate}
-use Rattle.mwc_walk.proofs.{Coming.weight-past, Coming.sums-step, Filled.fill-before}
+use Rattle.mwc_walk.proofs.Imports.{◌≡◌, ◌-◌, ◌+◌, [], take, drop, weight, get_or, arith, rules, Intervals, Covers, inl, inr, cases_lt}
+use Rattle.mwc_walk.proofs.{Coming.weight-past, Coming.sums-step, Rules.from-back}
 use Rattle.mwc_walk.proofs.sums_ahead.SumsAhead.new.Goals as goal
 
 abbrev none : Intervals
 none = record { count = 0; items = [] }
 
-pub loop-place-init : goal.loop-place-init
-loop-place-init c = record {
-  long = refl;
-  done = λ p lo hi. rw (get_or-replicate {A = Intervals} 41 p c.zero-from.result none (omega arith))
-      (c.zero-from.ensures.few, λ d. rw (weight-past c.args.weights.now c.args.members p d lo (omega arith)) c.zero-from.ensures.zero);
-}
-
-pub loop-place-preserved : goal.loop-place-preserved
-loop-place-preserved c =
-    let before = c.loop-place.invariant.done (c.loop-place.place - 1 + 1) (omega arith) (omega arith) in
-    fill-before (c.loop-place.place - 1) c.loop-place.invariant (omega arith) (omega arith) (
-      c.with.ensures.few,
-      λ d. sums-step c.args.members (c.loop-place.place - 1) c.args.weights.now _ _ (omega arith) (omega arith) c.requires.fits
-          c.with.ensures.without c.with.ensures.with d (before.1 d),
-    )
+pub returns-clause-few : goal.returns-clause-few
+returns-clause-few c = λ p le. elim (cases_lt p c.args.members) [
+  | inl lt ↦ let made = c.filled_back.ensures.made p none lt in search rules
+  | inr past ↦ let last = c.filled_back.ensures.last none in let same : p ≡ c.args.members = omega arith in rw (same, last) c.zero.ensures.few
+]
 
 pub returns-clause-sums : goal.returns-clause-sums
-returns-clause-sums c = λ p d le. (c.loop-place.invariant.done p (omega arith) le).1 d
+returns-clause-sums c = λ p d le.
+    from-back (λ i. Covers (get_or c.filled_back.result i none) (weight (drop i (take c.args.members c.args.weights.now)) d)) c.args.members
+    (rw (c.filled_back.ensures.last none, weight-past c.args.weights.now c.args.members c.args.members d (omega arith) (omega arith))
+    c.zero.ensures.zero)
+    (λ q lt after.
+    let made = c.filled_back.ensures.made q none lt in
+    let few = returns-clause-few c (q + 1) (omega arith) in
+    sums-step c.args.members q c.args.weights.now _ _ lt (omega arith) c.requires.fits (search rules) (search rules) d after)
+    (c.args.members - p) p (omega arith)

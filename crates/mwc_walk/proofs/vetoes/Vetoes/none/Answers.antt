@@ -1,5 +1,6 @@
-use Rattle.mwc_walk.proofs.Rules.{same_at}
+use Rattle.mwc_walk.proofs.Imports.{arith}
+use Rattle.std.proofs.lemmas.List.{get_or-replicate}
 use Rattle.mwc_walk.proofs.vetoes.Vetoes.none.Goals as goal
 
 pub returns : goal.returns
-returns c = λ p. same_at 0 41 p
+returns c = λ p le. get_or-replicate 41 p 0 0 (omega arith)

@@ -1,4 +1,4 @@
-use Rattle.mwc_walk.proofs.{Remains.given-whole, Remains.follows-of, walk.Walk.next.Goals.in-Give, walk.Walk.next.Goals.in-End}
+use Rattle.mwc_walk.proofs.Remains.{given-whole, follows-of}
 use Rattle.mwc_walk.proofs.walk.Walk.next.Goals as goal
 
 pub returns-clause-whole : goal.returns-clause-whole
