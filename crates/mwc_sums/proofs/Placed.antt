@@ -1,23 +1,19 @@
 -- The minimal winning coalitions of a game hold the least sets of members that win.
-use Rattle.mwc_sums.proofs.Imports.{GameView, IsGame, votes_of, ranks-are, places-at, contains, sum-filter, sum-range, HasNoWeight, weighs}
+use Rattle.mwc_sums.proofs.Imports.{GameView, IsGame, votes_of, ranks-are, places-at, contains, sum-range, HasNoWeight, weighs}
 use Rattle.mwc_sums.proofs.Imports.{◌≡◌, ◌∙◌, ◌↔◌, ◌==◌, ◌&&◌, not, ℕ, suc, ◌*◌, ◌<◌, Bool, true, false, cond, leb, List, [], ◌∷◌, length}
 use Rattle.mwc_sums.proofs.Imports.{length-map, get_or-map, length-range_with_len, RuleView, Votes, has, wins, weight, minimal, member_at}
-use Rattle.mwc_sums.proofs.Imports.{get_or, map, sym, ap, refl, subst, arith, list_any, sum_by, range_with_len, nat_tests, lt-ltb, met}
+use Rattle.mwc_sums.proofs.Imports.{get_or, map, sym, ap, refl, subst, arith, list_any, nat_tests, lt-ltb, met}
 use Rattle.council_game.specs.Ranks.{places, members_by_rank, rule_by_rank}
 use Rattle.council_game.proofs.Shared.{Meanings.needs-each-member, RankPlaces.game-rank_places, Rankings.length-weights_by_rank}
 use Rattle.mwc_sums.proofs.Matching.{Holds}
+use Rattle.mwc_sums.proofs.Vetoing.{weight-sum}
 use Rattle.mwc_sums.proofs.Seating.{IsLeast, IsMin, IsSeating, LooksAt, least-min, seen, seen-sum}
-
--- ---- what a coalition weighs
-pub weight-sum : (ws : List ℕ) (c : ℕ) → weight ws c ≡ sum_by (λ p. cond (has (length ws) p c) 1 0 * get_or ws p 0) (range_with_len 0 (length ws))
-unfolding weight
-weight-sum ws c = sum-filter (λ p. get_or ws p 0) (λ p. has (length ws) p c) (range_with_len 0 (length ws))
 
 -- weights by place, and by member
 pub weight-seen : (n m : ℕ) (ranks : List ℕ) → IsSeating n m ranks → (r : RuleView) (ws : List ℕ) (c : ℕ) → length ws ≡ m
     → ((p : ℕ) → p < m → get_or ws p 0 ≡ get_or r.weights (member_at ranks p) 0) → weight ws c ≡ weighs n r (seen m ranks c)
 weight-seen n m ranks is r ws c long at =
-    simp long at (weight-sum ws c)
+    weight-sum ws m c long
     ∙ sum-range (λ p. cond (has m p c) 1 0 * get_or ws p 0) (λ p. cond (has m p c) 1 0 * get_or r.weights (member_at ranks p) 0) 0 m
     (λ p _ lt. ap (λ (x : ℕ). cond (has m p c) 1 0 * x) (at p (omega (arith, lt))))
     ∙ sym (seen-sum is (λ i b. cond b 1 0 * get_or r.weights i 0) (λ i. omega arith) c)

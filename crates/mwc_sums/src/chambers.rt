@@ -17,7 +17,7 @@ use std::alloc::Global;
 
 impl Statute {
     /// Whether the rules that share a member with one are each of one chamber.
-    #[tactic(auto, unfolding(crate::specs::Inner::Rules::beside_of))]
+    #[tactic(auto, unfolding(crate::specs::Inner::Rules::side))]
     pub(crate) fn is_counted(&self, alloc: Global, rule: usize) -> Result<bool, Memory>
         requires { rule < length self.now.rules }
         ensures { IfOk result (λ is. is
