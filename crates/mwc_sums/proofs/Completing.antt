@@ -54,9 +54,6 @@ pub record IsLeast (ws : List ℕ) (r c : ℕ) : Type 0 where
 abbrev pub Falls : List ℕ → Type 0
 Falls ws = (a b : ℕ) → a ≤ b → b < length ws → get_or ws b 0 ≤ get_or ws a 0
 
-pub falls-rest : (w : ℕ) (ws : List ℕ) → Falls (w ∷ ws) → Falls ws
-falls-rest w ws falls a b le lt = falls (suc a) (suc b) (omega arith) (omega arith)
-
 no-size : (n : ℕ) → size n 0 ≡ 0
 no-size zero = refl
 no-size (suc n) = size-left n 0 (pow_pos n) ∙ no-size n

@@ -1,13 +1,12 @@
 -- Where some weight and so many heads are asked for.
 use Rattle.mwc_sums.proofs.Imports.{◌≡◌, ◌∙◌, ◌↔◌, ◌⊎◌, ◌&&◌, ℕ, ◌+◌, ◌-◌, ◌*◌, ◌^◌, ◌<◌, ◌≤◌, Bool, true, cond, leb, List, [], ◌∷◌, length}
-use Rattle.mwc_sums.proofs.Imports.{get_or, take, sym, ap, subst, arith, range_with_len, cases_lt, eqb-true, length-filter}
-use Rattle.mwc_sums.proofs.Imports.{RuleView, Votes, IsVotes, has, without, weight, size, wins, minimal, rule_at}
-use Rattle.mwc_sums.proofs.Imports.{weight-without, rule-is, sum-range, nat_tests}
+use Rattle.mwc_sums.proofs.Imports.{get_or, take, sym, ap, subst, arith, range_with_len, cases_lt, eqb-true, length-filter, RuleView, Votes}
+use Rattle.mwc_sums.proofs.Imports.{IsVotes, has, without, weight, size, wins, minimal, rule_at, weight-without, rule-is, sum-range}
+use Rattle.mwc_sums.proofs.Imports.{nat_tests, refl}
 use Rattle.std.proofs.{Common.replicate, lemmas.List.get_or-replicate, lemmas.List.length-replicate}
 use Rattle.power_index.proofs.Shared.Sums.{sum-times}
 use Rattle.mwc_sums.specs.Heads.{AsksForHeads, first_rule, IsMinimalByHeads}
-use Rattle.mwc_sums.proofs.Completing.{IsLeast, wins-one}
-use Rattle.mwc_sums.proofs.{Placed.minimal-min, Vetoing.weight-sum, Imports.refl, Seating.IsMin}
+use Rattle.mwc_sums.proofs.{Completing.IsLeast, Completing.wins-one, Placed.minimal-min, Seating.IsMin, Vetoing.weight-sum}
 
 -- where all weigh the same
 pub alike-weight : (ws : List ℕ) (e c : ℕ) → ((p : ℕ) → p < length ws → get_or ws p 0 ≡ e) → weight ws c ≡ size (length ws) c * e

@@ -2,11 +2,11 @@
 use Rattle.mwc_sums.proofs.Imports.{◌≡◌, ◌∙◌, ◌==◌, ◌&&◌, ℕ, ◌+◌, ◌-◌, ◌*◌, ◌^◌, ◌<◌, ◌≤◌, Bool, List, [], ◌∷◌, length, get_or, filter, sym}
 use Rattle.mwc_sums.proofs.Imports.{refl, arith, nat_tests, sum_by, range_with_len, sum_by-range-more, has, minimal_coalitions, GameView}
 use Rattle.mwc_sums.proofs.Imports.{IsGame, votes_of, size_of, cases_lt, minimal-few, AreChambersOf, paired, minimal_of_size}
-use Rattle.mwc_sums.proofs.Imports.{minimal_of_member_size, sum-plus, ap}
+use Rattle.mwc_sums.proofs.Imports.{minimal_of_member_size, sum-plus, ap, of_place_size}
 use Rattle.coalitions.proofs.Shared.Ranges.{sum_by-range-le}
 use Rattle.power_index.specs.Counting.{count_of_size, count_of_member_size}
 use Rattle.power_index.proofs.Shared.{Members.size-le, Sums.length-filter-le}
-use Rattle.mwc_sums.specs.Inner.Pairs.{of_member_size, of_place_size, of_size}
+use Rattle.mwc_sums.specs.Inner.Pairs.{of_member_size, of_size}
 use Rattle.mwc_sums.proofs.Pairs.{chamber-sizes, chamber-members}
 
 -- no coalition has more members than there are

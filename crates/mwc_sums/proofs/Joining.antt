@@ -1,9 +1,10 @@
 -- Sets that win where they win under two conditions, each of which sees members of its own.
-use Rattle.mwc_sums.proofs.Imports.{◌≡◌, ◌∙◌, ◌&&◌, ◌||◌, ℕ, ◌<◌, Bool, true, false, arith, both_ways, true_from_ne_false, nat_tests}
+use Rattle.mwc_sums.proofs.Imports.{◌≡◌, ◌∙◌, ◌&&◌, ◌||◌, ℕ, ◌<◌, Bool, true, false, arith, both_ways, true_from_ne_false, nat_tests, ◌+◌}
+use Rattle.mwc_sums.proofs.Imports.{◌^◌, List, length, filter, sym, ap, refl, and-true, and_parts, and_from, size, down, sum_by}
 use Rattle.std.proofs.lemmas.Bool.{false_from_ne_true}
 use Rattle.mwc_sums.proofs.Seating.{less, IsLeast, LooksAt, as_mask, mask-is, mask-less, mask-seen, one_if, seen, seen-size}
-use Rattle.mwc_sums.proofs.{Matching.ArePairs, Matching.Holds, Matching.count-both, Matching.paired-off, Matching.sum-down, Vetoing.sum-parts}
-use Rattle.mwc_sums.proofs.Imports.{◌+◌, ◌^◌, List, length, filter, sym, ap, refl, and-true, and_parts, and_from, size, down, sum_by}
+use Rattle.mwc_sums.proofs.Matching.{ArePairs, Holds, count-both, paired-off, sum-down}
+use Rattle.mwc_sums.proofs.Vetoing.{sum-parts}
 
 -- a test of sets sees these members alone
 abbrev pub Sees : ℕ → (ℕ → Bool) → ((ℕ → Bool) → Bool) → Type 0
@@ -29,19 +30,33 @@ module _ {n : ℕ} {own other : ℕ → Bool} {won_g won_a won_b : (ℕ → Bool
   -- a least set is, of each side, a least set
   pub least-half : {c : ℕ → Bool} (x : ℕ → Bool) → IsLeast n won_g c → ((i : ℕ) → i < n → x i ≡ (c i && own i)) → IsLeast n won_a x
   least-half {c = c} x least is = record {
-    wins = joint.sees_own x c (λ j lj seen. grind (arith, nat_tests, is j lj)) ∙ grind (arith, nat_tests, joint.both c, least.wins);
-    needs = λ i lt inside.
-        (let unseen = joint.sees_other (less c i) c (λ j lj seen. grind (arith, nat_tests, is i lt, joint.apart j lj)) in
-        joint.sees_own (less x i) (less c i) (λ j lj seen. grind (arith, nat_tests, is j lj))
-        ∙ grind (arith, nat_tests, unseen, is i lt, joint.both c, joint.both (less c i), least.wins, least.needs i lt));
+    wins = grind (arith, nat_tests, joint.sees_own x c, is, joint.both c, least.wins);
+    needs = λ i lt inside. grind (
+      arith,
+      nat_tests,
+      joint.sees_other (less c i) c,
+      joint.sees_own (less x i) (less c i),
+      is,
+      joint.apart,
+      joint.both c,
+      joint.both (less c i),
+      least.wins,
+      least.needs i lt,
+    );
   }
 
   -- each of its members is on a side
   pub least-sides : {c : ℕ → Bool} → IsLeast n won_g c → (i : ℕ) → i < n → c i ≡ true → (own i || other i) ≡ true
-  least-sides {c = c} least i lt inside =
-      let own-same : own i ≡ false → won_a (less c i) ≡ won_a c = λ out. joint.sees_own (less c i) c (λ j lj seen. grind (arith, nat_tests)) in
-      let other-same : other i ≡ false → won_b (less c i) ≡ won_b c = λ out. joint.sees_other (less c i) c (λ j lj seen. grind (arith, nat_tests)) in
-      grind (arith, nat_tests, joint.both c, joint.both (less c i), least.wins, least.needs i lt)
+  least-sides {c = c} least i lt inside = grind (
+    arith,
+    nat_tests,
+    joint.sees_own (less c i) c,
+    joint.sees_other (less c i) c,
+    joint.both c,
+    joint.both (less c i),
+    least.wins,
+    least.needs i lt,
+  )
 
   module _ {x y : ℕ → Bool} (least_x : IsLeast n won_a x) (least_y : IsLeast n won_b y) where
     -- each is on its own side
@@ -59,10 +74,8 @@ module _ {n : ℕ} {own other : ℕ → Bool} {won_g won_a won_b : (ℕ → Bool
     -- two least sets together are a least set
     pub least-union : (c : ℕ → Bool) → ((i : ℕ) → i < n → c i ≡ (x i || y i)) → IsLeast n won_g c
     least-union c is =
-        let in_x = joint.sees_own c x (λ j lj seen. grind (arith, nat_tests, is j lj, on-sides j lj)) in
-        let in_y = joint.sees_other c y (λ j lj seen. grind (arith, nat_tests, is j lj, on-sides j lj)) in
         record {
-          wins = grind (arith, nat_tests, in_x, in_y, joint.both c, least_x.wins, least_y.wins);
+          wins = grind (arith, nat_tests, is, on-sides, joint.sees_own c x, joint.sees_other c y, joint.both c, least_x.wins, least_y.wins);
           needs = λ i lt inside. (
               let less_x = joint.sees_own (less c i) (less x i) (λ j lj seen. grind (arith, nat_tests, is j lj, on-sides j lj)) in
               let less_y = joint.sees_other (less c i) (less y i) (λ j lj seen. grind (arith, nat_tests, is j lj, on-sides j lj)) in

@@ -1,17 +1,17 @@
 -- The coalitions that members lead to, the heaviest first, and how many they are.
-use Rattle.mwc_sums.proofs.Completing.{last-in, last-behind, Falls, double-pow, first-in, first-out, last, none-or-some, rest-in}
-use Rattle.mwc_sums.proofs.Completing.{rest-out, size-left, size-with, weight-left, weight-with}
+use Rattle.mwc_sums.proofs.Completing.{last-in, last-behind, Falls, double-pow, first-in, first-out, last, none-or-some, rest-in, rest-out}
+use Rattle.mwc_sums.proofs.Completing.{size-left, size-with, weight-left, weight-with, same_test}
 use Rattle.mwc_sums.proofs.Imports.{false, cond, leb, ltb, List, [], ◌∷◌, ◌++◌, map, filter, length, get_or, ap, refl, arith, inl, inr, ◌≡◌}
+use Rattle.mwc_sums.proofs.Imports.{le-ltb, lt-ltb, nat_tests, has, size, weight, down, subst, RuleView, Votes, IsVotes, minimal_coalitions}
 use Rattle.mwc_sums.proofs.Imports.{◌∙◌, ◌↔◌, ℕ, zero, suc, ◌+◌, ◌-◌, ◌*◌, ◌^◌, ◌<◌, ◌≤◌, ◌==◌, ◌&&◌, ◌||◌, not, Bool, true, cases_lt}
-use Rattle.mwc_sums.proofs.Imports.{le-ltb, lt-ltb, nat_tests, completing, has, size, weight, down}
+use Rattle.mwc_sums.proofs.Imports.{minimal, rule_at, rule-is, down-below, sym, wins}
+use Rattle.mwc_sums.specs.Completing.{completing}
 use Rattle.std.proofs.lemmas.Bool.{cond-false, cond-true}
 use Rattle.council_game.proofs.Shared.WeightByDigits.{weight-nil}
 use Rattle.weight_sums.specs.Endings.{choose, one_of_size, fill, endings, left_out}
-use Rattle.mwc_sums.proofs.Filters.{filter-none, filter-same}
-use Rattle.mwc_sums.proofs.{Heads.by-heads, Heads.least-weights, Placed.minimal-min, Seating.IsMin, Completing.same_test}
+use Rattle.mwc_sums.proofs.Counting.{filter-none, filter-same, count, count-and, count-first, count-never, count-parted, filter-first}
+use Rattle.mwc_sums.proofs.{Heads.by-heads, Heads.least-weights, Placed.minimal-min, Seating.IsMin}
 use Rattle.council_game.specs.Votes.{IsRanked}
-use Rattle.mwc_sums.proofs.Imports.{subst, RuleView, Votes, IsVotes, minimal_coalitions, minimal, rule_at, rule-is, down-below, sym, wins}
-use Rattle.mwc_sums.proofs.Counting.{count, count-and, count-first, count-never, count-parted, filter-first}
 
 -- a coalition that members lead to, from a need and a number of members: where the first meets the need, others behind it fill it up to the heads
 unfoldable pub leads : List ℕ → ℕ → ℕ → ℕ → ℕ → Bool

@@ -3,7 +3,6 @@ mod Counting
 pub mod Leads
 pub mod Orders
 mod Joining
-mod Paired
 pub mod Pairs
 mod Remaking
 pub mod Joined
@@ -11,7 +10,6 @@ pub mod Vetoing
 mod VetoRules
 mod Sharing
 mod Tests
-mod Filters
 mod Seating
 mod Matching
 mod Placed

@@ -1,9 +1,9 @@
 -- As many coalitions pass one test as pass another.
-use Rattle.mwc_sums.proofs.Imports.{◌≡◌, ◌∙◌, ◌↔◌, ◌==◌, ◌&&◌, ℕ, zero, suc, ◌^◌, ◌<◌, Bool, true, false, List, length, get_or, filter}
-use Rattle.mwc_sums.proofs.Imports.{sym, ap, refl, arith, inl, inr, sum_by, both_ways, cases_eq, sum_by-cons, length-filter, down, sum-zero}
+use Rattle.mwc_sums.proofs.Imports.{◌≡◌, ◌∙◌, ◌↔◌, ◌==◌, ◌&&◌, ℕ, zero, suc, ◌^◌, ◌<◌, Bool, true, false, List, length, get_or, filter, sym}
+use Rattle.mwc_sums.proofs.Imports.{ap, refl, arith, inl, inr, sum_by, both_ways, cases_eq, sum_by-cons, length-filter, down, sum-zero}
 use Rattle.mwc_sums.proofs.Imports.{nat_tests}
 use Rattle.power_index.proofs.Shared.Sums.{exchange}
-use Rattle.mwc_sums.proofs.Filters.{filter-both}
+use Rattle.mwc_sums.proofs.Counting.{filter-both}
 use Rattle.mwc_sums.proofs.Seating.{one_if, IsLeast, IsSeating, seen}
 
 -- ---- sums over all coalitions

@@ -1,13 +1,39 @@
 -- How many coalitions of a game are one of each of two games together.
-use Rattle.mwc_sums.proofs.Imports.{arith, sum_by, minimal, down, minimal_coalitions, GameView}
-use Rattle.mwc_sums.proofs.Imports.{◌≡◌, ◌∙◌, ◌==◌, ◌&&◌, ℕ, ◌+◌, ◌^◌, ◌<◌, Bool, true, List, length, refl}
-use Rattle.mwc_sums.proofs.Imports.{IsGame, votes_of, contains, size_of, sum-plus, nat_tests, AreChambersOf, met, paired}
+use Rattle.mwc_sums.proofs.Imports.{◌≡◌, ◌∙◌, ◌==◌, ◌&&◌, ℕ, ◌+◌, ◌-◌, ◌*◌, Bool, leb, ◌≤◌, List, [], ◌∷◌, length, filter, sym, ap, arith}
+use Rattle.mwc_sums.proofs.Imports.{GameView, ◌^◌, ◌<◌, true, refl, IsGame, votes_of, contains, size_of, sum-plus, AreChambersOf, met}
+use Rattle.mwc_sums.proofs.Imports.{sum_by, sum_by-cons, sum-range, sum-filter, nat_tests, paired, minimal, down, minimal_coalitions}
 use Rattle.mwc_sums.proofs.Imports.{minimal_of_size, minimal_of_member_size}
-use Rattle.mwc_sums.proofs.{Matching.Holds, Paired.pairs-of_size, Seating.one_if}
+use Rattle.mwc_sums.proofs.{Counting.filter-both, Matching.Holds, Seating.one_if}
+use Rattle.power_index.proofs.Shared.Sums.{sum-by_size}
 use Rattle.mwc_sums.proofs.Joining.{IsJoint, apart, counted, joined, size-union, union}
 use Rattle.mwc_sums.proofs.Placed.{game-holds, has_weight, met-seen, no-weight, seen-contains}
-use Rattle.mwc_sums.proofs.Imports.{both_ways, inl, inr}
 
+-- ---- pairs of two lists that have a size together
+-- one of the first list, with those of the second that fill it up to s
+row : (n q : ℕ → Bool) (l : ℕ → ℕ) (m p : Bool) (k s : ℕ) (ys : List ℕ) → sum_by (λ y. one_if ((m && n y) && ((p && q y) && (k + l y == s)))) ys
+    ≡ one_if (m && (p && leb k s)) * length (filter (λ y. q y && (l y == s - k)) (filter n ys))
+row n q l m p k s [] = omega arith
+row n q l m p k s (y ∷ ys) =
+    grind (arith, nat_tests, row n q l m p k s ys, sum_by-cons (λ y. one_if ((m && n y) && ((p && q y) && (k + l y == s)))) y ys)
+
+pub pairs-of_size : (m n p q : ℕ → Bool) (k l : ℕ → ℕ) (xs ys : List ℕ) (s : ℕ)
+    → sum_by (λ x. sum_by (λ y. one_if ((m x && n y) && ((p x && q y) && (k x + l y == s)))) ys) xs
+    ≡ paired (λ j. length (filter (λ x. p x && (k x == j)) (filter m xs))) (λ j. length (filter (λ y. q y && (l y == j)) (filter n ys))) s
+pairs-of_size m n p q k l xs ys s =
+    let others : ℕ → ℕ = λ j. length (filter (λ y. q y && (l y == j)) (filter n ys)) in
+    let passes : ℕ → Bool = λ x. m x && (p x && leb (k x) s) in
+    (λ i. sum_by (λ x. row n q l (m x) (p x) (k x) s ys i) xs)
+    ∙ sym (sum-filter (λ x. others (s - k x)) passes xs)
+    ∙ sym (sum-by_size (λ j. others (s - j)) k passes 0 (s + 1) xs (λ x in'. grind (arith, nat_tests)))
+    ∙ sum-range (λ j. length (filter (λ x. passes x && (k x == j)) xs) * others (s - j))
+    (λ j. length (filter (λ x. p x && (k x == j)) (filter m xs)) * others (s - j)) 0 (s + 1)
+    (λ j _ lt. ap (λ (t : ℕ). t * others (s - j)) ((λ i. length (filter (λ x. same (m x) (p x) (k x) j (omega (arith, lt)) i) xs))
+    ∙ ap (λ (l : List ℕ). length l) (sym (filter-both m (λ x. p x && (k x == j)) xs))))
+  where
+    same : (a b : Bool) (x j : ℕ) → j ≤ s → ((a && (b && leb x s)) && (x == j)) ≡ (a && (b && (x == j)))
+    same a b x j le = grind (arith, nat_tests)
+
+-- ---- the coalitions of two chambers
 module _ (g a b : GameView) (is_g : IsGame g) (is_a : IsGame a) (is_b : IsGame b) (are : AreChambersOf g a b) where
   abbrev n : ℕ
   n = length g.names
@@ -17,10 +43,7 @@ module _ (g a b : GameView) (is_g : IsGame g) (is_a : IsGame a) (is_b : IsGame b
     both = are.both;
     sees_own = λ f h same. met-seen n a.rules f h same;
     sees_other = λ f h same. met-seen n b.rules f h same;
-    apart = λ i lt seen. elim (are.apart i lt) [
-      | inl none ↦ absurd (both_ways (has_weight a.rules i) (no-weight a.rules i none) seen)
-      | inr none ↦ no-weight b.rules i none
-    ];
+    apart = λ i lt seen. let side = are.apart i lt in grind (arith, nat_tests, no-weight a.rules i, no-weight b.rules i);
   }
 
   abbrev hg : Holds n (met n g.rules) n g.ranks (minimal (votes_of g))
@@ -68,9 +91,17 @@ module _ (g a b : GameView) (is_g : IsGame g) (is_a : IsGame a) (is_b : IsGame b
       each : (x y : ℕ) → x < 2 ^ length a.names → y < 2 ^ length b.names
           → one_if (min_pair x y && (contains g i (union joint hg ha hb x y) && (size_of g (union joint hg ha hb x y) == s))) ≡ of_a i s x y + of_b i s x y
       each x y lx ly =
-          let in_x = seen-contains is_a x i (let e = are.first in omega (arith, lt, e)) in
-          let in_y = seen-contains is_b y i (let e = are.second in omega (arith, lt, e)) in
-          let in_g = seen-contains is_g (union joint hg ha hb x y) i lt in
-          grind (arith, nat_tests, in_x, in_y, in_g, joined joint hg ha hb x y lx ly, size-union joint hg ha hb x y lx ly, apart joint hg ha hb x y lx ly)
+          grind (
+            arith,
+            nat_tests,
+            are.first,
+            are.second,
+            seen-contains is_a x i,
+            seen-contains is_b y i,
+            seen-contains is_g (union joint hg ha hb x y) i,
+            joined joint hg ha hb x y lx ly,
+            size-union joint hg ha hb x y lx ly,
+            apart joint hg ha hb x y lx ly,
+          )
 
 pub ruleset laws = (chamber-sizes, chamber-members)

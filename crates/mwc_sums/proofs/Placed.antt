@@ -1,12 +1,12 @@
 -- The minimal winning coalitions of a game hold the least sets of members that win.
-use Rattle.mwc_sums.proofs.Imports.{GameView, IsGame, votes_of, ranks-are, places-at, contains, sum-range, HasNoWeight, weighs}
-use Rattle.mwc_sums.proofs.Imports.{◌≡◌, ◌∙◌, ◌↔◌, ◌==◌, ◌&&◌, not, ℕ, suc, ◌*◌, ◌<◌, Bool, true, false, cond, leb, List, [], ◌∷◌, length}
-use Rattle.mwc_sums.proofs.Imports.{length-map, get_or-map, length-range_with_len, RuleView, Votes, has, wins, weight, minimal, member_at}
-use Rattle.mwc_sums.proofs.Imports.{get_or, map, sym, ap, refl, subst, arith, list_any, nat_tests, lt-ltb, met}
-use Rattle.council_game.specs.Ranks.{places, members_by_rank, rule_by_rank}
+use Rattle.mwc_sums.proofs.Imports.{◌↔◌, ◌==◌, ◌&&◌, not, ℕ, suc, ◌*◌, ◌<◌, Bool, true, false, cond, leb, List, [], ◌∷◌, length, length-map}
+use Rattle.mwc_sums.proofs.Imports.{GameView, IsGame, votes_of, ranks-are, places-at, contains, sum-range, HasNoWeight, weighs, ◌≡◌, ◌∙◌}
+use Rattle.mwc_sums.proofs.Imports.{length-range_with_len, RuleView, Votes, has, wins, weight, minimal, member_at, get_or, map, sym, ap}
+use Rattle.mwc_sums.proofs.Imports.{refl, subst, arith, list_any, nat_tests, lt-ltb, met, members_by_rank}
+use Rattle.std.proofs.lemmas.List.{get_or-map}
+use Rattle.council_game.specs.Ranks.{places, rule_by_rank}
 use Rattle.council_game.proofs.Shared.{Meanings.needs-each-member, RankPlaces.game-rank_places, Rankings.length-weights_by_rank}
-use Rattle.mwc_sums.proofs.Matching.{Holds}
-use Rattle.mwc_sums.proofs.Vetoing.{weight-sum}
+use Rattle.mwc_sums.proofs.{Matching.Holds, Vetoing.weight-sum}
 use Rattle.mwc_sums.proofs.Seating.{IsLeast, IsMin, IsSeating, LooksAt, least-min, seen, seen-sum}
 
 -- weights by place, and by member

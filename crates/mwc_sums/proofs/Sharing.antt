@@ -1,12 +1,13 @@
 -- The rules that share a member with one, and the others.
 use Rattle.mwc_sums.proofs.Imports.{◌≡◌, ◌≢◌, ◌∙◌, ◌&&◌, ◌||◌, not, ◌⊎◌, ℕ, zero, suc, ◌+◌, ◌<◌, ◌≤◌, Bool, true, false, ltb, List, [], ◌∷◌}
 use Rattle.mwc_sums.proofs.Imports.{HasNoWeight, AreChambersOf, are_of_one_chamber, is_counted, statute, IsFair, AreRulesOf, length, get_or}
-use Rattle.mwc_sums.proofs.Imports.{true_from_ne_false, length-filter_both, AllPass-from_list_all, list_all-from_AllPass}
-use Rattle.mwc_sums.proofs.Imports.{All-filter, All-from_get_or, RuleView, rule_at, GameView, nat_tests, met, share, chamber_of}
-use Rattle.mwc_sums.proofs.Imports.{filter, take, sym, ap, refl, arith, inl, inr, All, ltb-true, both_ways}
-use Rattle.std.proofs.lemmas.List.{Elements.All-take}
-use Rattle.mwc_sums.specs.{Inner.Rules.AreOfChambers, Inner.Rules.beside_of, Inner.Rules.part_of, Inner.Rules.side, Statute.counted, Statute.left}
-use Rattle.mwc_sums.proofs.{Filters.filter-both, Filters.filter-within, VetoRules.good-met, VetoRules.good-some, Vetoing.alike-sum}
+use Rattle.mwc_sums.proofs.Imports.{All-from_get_or, RuleView, rule_at, GameView, nat_tests, met, share, chamber_of, filter, take, sym, ap}
+use Rattle.mwc_sums.proofs.Imports.{true_from_ne_false, length-filter_both, AllPass-from_list_all, list_all-from_AllPass, All-filter}
+use Rattle.mwc_sums.proofs.Imports.{refl, arith, inl, inr, All, ltb-true, both_ways}
+use Rattle.std.proofs.lemmas.List.Elements.{All-take}
+use Rattle.mwc_sums.specs.Inner.Rules.{AreOfChambers, beside_of, part_of, side}
+use Rattle.mwc_sums.specs.Statute.{counted, left}
+use Rattle.mwc_sums.proofs.{Counting.filter-both, Counting.filter-within, VetoRules.good-met, VetoRules.good-some, Vetoing.alike-sum}
 use Rattle.mwc_sums.proofs.Tests.{All-passing, any-at, any-of, missing}
 
 -- ---- who has weight in two rules
@@ -125,10 +126,7 @@ module _ (n : ℕ) (rs : List RuleView) (fair : All (IsFair n) rs) where
   chamber-closed all i li j m lj lm is they = no-third i j m li lj lm is (all j none lj) they
 
   pub others-closed : (q : RuleView → Bool) → IsClosed n rs q → IsClosed n rs (λ x. not (q x))
-  others-closed q closed j m lj lm out they =
-      let back = closed m j lm lj in
-      let turned = share-turned n (rule j) (rule m) they in
-      grind (arith, nat_tests)
+  others-closed q closed j m lj lm out they = grind (arith, nat_tests, closed m j lm lj, share-turned n (rule j) (rule m))
 
   module _ (q : RuleView → Bool) (closed : IsClosed n rs q) where
     -- the rules that pass have the same chambers among themselves
@@ -144,10 +142,7 @@ module _ (n : ℕ) (rs : List RuleView) (fair : All (IsFair n) rs) where
     parts-apart : (i : ℕ) → i < n → HasNoWeight (filter q rs) i ⊎ HasNoWeight (filter (λ x. not (q x)) rs) i
     parts-apart i lt = elim (missing (λ k. q (rule k) && ltb 0 (get_or (rule k).weights i 0)) (λ k. false) (length rs)) [
       | inl found ↦ inr (all-passing (λ x. get_or x.weights i 0 ≡ 0) (λ x. not (q x)) rs (λ m lm other.
-          let own = found.2 in
-          let seen = closed found.0 m found.1 lm in
-          let they = share-at n i (rule found.0) (rule m) lt in
-          grind (arith, nat_tests)))
+          let own = found.2 in grind (arith, nat_tests, closed found.0 m found.1 lm, share-at n i (rule found.0) (rule m) lt)))
       | inr idle ↦ inl (all-passing (λ x. get_or x.weights i 0 ≡ 0) q rs (λ m lm is. let own = idle m lm in grind (arith, nat_tests)))
     ]
 

@@ -1,10 +1,10 @@
 -- The rules that a game consists of are rules that a game can have.
 use Rattle.mwc_sums.proofs.Imports.{take, refl, arith, All, ◌∙◌, ◌*◌, cond, leb, sum, range_with_len, sum_by, cases_lt, ltb-true, both_ways}
+use Rattle.mwc_sums.proofs.Imports.{length-map, length-map-range_with_len, filter-append, length-filter_both, RuleView, rest_of, rule_for}
 use Rattle.mwc_sums.proofs.Imports.{◌≡◌, ℕ, ◌+◌, ◌<◌, ◌≤◌, Bool, true, false, ltb, not, List, [], ◌∷◌, ◌++◌, length, get_or, map, filter}
-use Rattle.mwc_sums.proofs.Imports.{rule_at, has_bad_quota, GameView, IsGame, nat_tests, common_steps, rules_beside, statute, number_of}
-use Rattle.mwc_sums.proofs.Imports.{get_or_past, length-map, length-map-range_with_len, filter-append, length-filter_both, RuleView}
-use Rattle.mwc_sums.proofs.Imports.{rest_of, rule_for, can_veto, IsFair, list_all_at, sum-range, sum-zero, met, weighs, AreRulesOf}
-use Rattle.std.proofs.lemmas.List.{take_more, map-append, Elements.All-cons, Elements.All-map, Sums.sum-map}
+use Rattle.mwc_sums.proofs.Imports.{rule_at, has_bad_quota, GameView, IsGame, nat_tests, rules_beside, statute, number_of, get_or_past}
+use Rattle.mwc_sums.proofs.Imports.{can_veto, IsFair, list_all_at, sum-range, sum-zero, met, weighs, AreRulesOf, sum-map}
+use Rattle.std.proofs.lemmas.{Grind.common_steps, List.take_more, List.map-append, List.Elements.All-cons, List.Elements.All-map}
 use Rattle.mwc_sums.proofs.{Remaking.fair-all, Remaking.fair-of, Tests.All-passing}
 use Rattle.mwc_sums.proofs.Vetoing.{sum-parts, row-sum, made-at, vetoers-both}
 
@@ -71,10 +71,15 @@ module _ (g : GameView) (is : IsGame g) where
 
   -- the empty coalition loses
   lost : met (length g.names) g.rules (λ i. false) ≡ false
-  lost =
-      list_all_at (λ r. leb r.quota (weighs (length g.names) r (λ i. false))) g.rules 0 (record { quota = 0; weights = [] }) is.has_rule
-      (let some = good-some (rule_at g.rules 0) (fair-of g 0 is is.has_rule).quota in
-      grind (arith, nat_tests, nobody (λ i. get_or (rule_at g.rules 0).weights i 0) (length g.names)))
+  lost = grind (
+    arith,
+    nat_tests,
+    list_all_at (λ r. leb r.quota (weighs (length g.names) r (λ i. false))) g.rules 0,
+    good-some (rule_at g.rules 0),
+    fair-of g 0 is is.has_rule,
+    is.has_rule,
+    nobody (λ i. get_or (rule_at g.rules 0).weights i 0) (length g.names),
+  )
 
   pub statute-some : 0 < length (statute g)
   statute-some = by_rules (statute g) (statute-are.alike (λ i. false))

@@ -16,8 +16,8 @@ pub fn minimal_coalitions_complete_the_quota()
         ≡ completing (rule_at v.rules 0).weights (rule_at v.rules 0).quota }
 {}
 
-/// In a game of two rules, of which the second asks for so many heads, a coalition is minimal exactly where
-/// it has just so many members and meets the first quota, or has more members and is minimal under the first
+/// In a game of two rules, of which the second asks for a number of heads, a coalition is minimal exactly where
+/// it has just as many members and meets the first quota, or has more members and is minimal under the first
 /// rule alone.
 pub fn minimal_coalitions_by_heads()
     ensures { (v : Votes) (heads c : ℕ) → IsVotes v → length v.rules ≡ 2

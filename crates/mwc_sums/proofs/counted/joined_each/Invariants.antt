@@ -1,5 +1,4 @@
-use Rattle.mwc_sums.proofs.Imports.{◌≡◌, ℕ, ◌<◌, length, get_or}
-use Rattle.mwc_sums.specs.Inner.Pairs.{of_place_size}
+use Rattle.mwc_sums.proofs.Imports.{◌≡◌, ℕ, ◌<◌, length, get_or, of_place_size}
 use Rattle.mwc_sums.proofs.counted.joined_each.Given as goal
 
 abbrev pub invariant-loop-size : goal.invariant-loop-size
