@@ -31,32 +31,18 @@ module _ {n : ℕ} {own other : ℕ → Bool} {won_g won_a won_b : (ℕ → Bool
   pub least-half : {c : ℕ → Bool} (x : ℕ → Bool) → IsLeast n won_g c → ((i : ℕ) → i < n → x i ≡ (c i && own i)) → IsLeast n won_a x
   least-half {c = c} x least is = record {
     wins = grind (arith, nat_tests, joint.sees_own x c, is, joint.both c, least.wins);
-    needs = λ i lt inside. grind (
-      arith,
-      nat_tests,
-      joint.sees_other (less c i) c,
-      joint.sees_own (less x i) (less c i),
-      is,
-      joint.apart,
-      joint.both c,
-      joint.both (less c i),
-      least.wins,
-      least.needs i lt,
-    );
+    needs = λ i lt inside.
+        (let own-same = joint.sees_own (less x i) (less c i) in
+        let unseen = joint.sees_other (less c i) c in
+        grind (arith, nat_tests, own-same, unseen, is, joint.apart, joint.both c, joint.both (less c i), least.wins, least.needs i lt));
   }
 
   -- each of its members is on a side
   pub least-sides : {c : ℕ → Bool} → IsLeast n won_g c → (i : ℕ) → i < n → c i ≡ true → (own i || other i) ≡ true
-  least-sides {c = c} least i lt inside = grind (
-    arith,
-    nat_tests,
-    joint.sees_own (less c i) c,
-    joint.sees_other (less c i) c,
-    joint.both c,
-    joint.both (less c i),
-    least.wins,
-    least.needs i lt,
-  )
+  least-sides {c = c} least i lt inside =
+      let own-same = joint.sees_own (less c i) c in
+      let other-same = joint.sees_other (less c i) c in
+      grind (arith, nat_tests, own-same, other-same, joint.both c, joint.both (less c i), least.wins, least.needs i lt)
 
   module _ {x y : ℕ → Bool} (least_x : IsLeast n won_a x) (least_y : IsLeast n won_b y) where
     -- each is on its own side

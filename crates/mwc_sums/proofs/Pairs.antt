@@ -91,17 +91,10 @@ module _ (g a b : GameView) (is_g : IsGame g) (is_a : IsGame a) (is_b : IsGame b
       each : (x y : ℕ) → x < 2 ^ length a.names → y < 2 ^ length b.names
           → one_if (min_pair x y && (contains g i (union joint hg ha hb x y) && (size_of g (union joint hg ha hb x y) == s))) ≡ of_a i s x y + of_b i s x y
       each x y lx ly =
-          grind (
-            arith,
-            nat_tests,
-            are.first,
-            are.second,
-            seen-contains is_a x i,
-            seen-contains is_b y i,
-            seen-contains is_g (union joint hg ha hb x y) i,
-            joined joint hg ha hb x y lx ly,
-            size-union joint hg ha hb x y lx ly,
-            apart joint hg ha hb x y lx ly,
-          )
+          let in_g = seen-contains is_g (union joint hg ha hb x y) i lt in
+          let both = joined joint hg ha hb x y lx ly in
+          let size = size-union joint hg ha hb x y lx ly in
+          let one = apart joint hg ha hb x y lx ly in
+          grind (arith, nat_tests, in_g, both, size, one, are.first, are.second, seen-contains is_a x i, seen-contains is_b y i)
 
 pub ruleset laws = (chamber-sizes, chamber-members)

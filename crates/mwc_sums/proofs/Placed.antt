@@ -7,7 +7,7 @@ use Rattle.std.proofs.lemmas.List.{get_or-map}
 use Rattle.council_game.specs.Ranks.{places, rule_by_rank}
 use Rattle.council_game.proofs.Shared.{Meanings.needs-each-member, RankPlaces.game-rank_places, Rankings.length-weights_by_rank}
 use Rattle.mwc_sums.proofs.{Matching.Holds, Vetoing.weight-sum}
-use Rattle.mwc_sums.proofs.Seating.{IsLeast, IsMin, IsSeating, LooksAt, least-min, seen, seen-sum}
+use Rattle.mwc_sums.proofs.Seating.{IsMin, IsSeating, LooksAt, least-min, seen, seen-sum}
 
 -- weights by place, and by member
 pub weight-seen : (n m : ℕ) (ranks : List ℕ) → IsSeating n m ranks → (r : RuleView) (ws : List ℕ) (c : ℕ) → length ws ≡ m
@@ -67,15 +67,12 @@ module _ {g : GameView} (is : IsGame g) where
       (λ p lt. ranked-at g.ranks r p (let e = game-seats.are.count in omega (arith, lt, e))) k) && wins-each rs c k)
 
   -- a coalition is minimal exactly where its members are
-  pub game-least : (c : ℕ) → (minimal (votes_of g) c ≡ true) ↔ IsLeast (length g.names) (met (length g.names) g.rules) (seen (length g.names) g.ranks c)
-  game-least c =
-      let same : wins (votes_of g).rules ≡ (λ x. met (length g.names) g.rules (seen (length g.names) g.ranks x)) = λ k x. wins-each g.rules x k in
-      let min = subst (λ (won : ℕ → Bool). (minimal (votes_of g) c ≡ true) ↔ IsMin (length g.names) won c) same (minimal-min (votes_of g) c) in
-      grind (arith, min, least-min game-seats (met (length g.names) g.rules) (met-looks (length g.names) g.rules) c)
-
   pub game-holds : (n : ℕ) → length g.names ≡ n → Holds n (met n g.rules) (length g.names) g.ranks (minimal (votes_of g))
   game-holds n e = subst (λ (n : ℕ). Holds n (met n g.rules) (length g.names) g.ranks (minimal (votes_of g))) e (record {
     seats = game-seats;
-    least = λ c _. game-least c;
+    least = λ c _.
+        (let min = subst (λ (won : ℕ → Bool). (minimal (votes_of g) c ≡ true) ↔ IsMin (length g.names) won c)
+        (λ k x. wins-each g.rules x k) (minimal-min (votes_of g) c) in
+        grind (arith, min, least-min game-seats (met (length g.names) g.rules) (met-looks (length g.names) g.rules) c));
     inside = λ f least i lt in'. game-seats.are.place_below i lt;
   })

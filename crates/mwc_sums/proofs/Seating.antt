@@ -34,9 +34,6 @@ mask-has test (suc n) (suc p) lt = grind (arith, nat_tests, rest-in, rest-out, m
 abbrev pub less : (ℕ → Bool) → ℕ → ℕ → Bool
 less f i j = f j && not (eqb j i)
 
-pub less-alike : (f h : ℕ → Bool) (i j : ℕ) → f j ≡ h j → less f i j ≡ less h i j
-less-alike f h i j same = ap (λ (b : Bool). b && not (eqb j i)) same
-
 -- a test of sets takes one, and not without any one of its members
 pub record IsLeast (n : ℕ) (won : (ℕ → Bool) → Bool) (f : ℕ → Bool) : Type 0 where
   pub wins : won f ≡ true
@@ -50,10 +47,6 @@ pub record IsMin (n : ℕ) (won : ℕ → Bool) (c : ℕ) : Type 0 where
 -- a test of sets looks at n members
 abbrev pub LooksAt : ℕ → ((ℕ → Bool) → Bool) → Type 0
 LooksAt n won = (f h : ℕ → Bool) → ((i : ℕ) → i < n → f i ≡ h i) → won f ≡ won h
-
-pub least-same : (n : ℕ) (won : (ℕ → Bool) → Bool) (f h : ℕ → Bool) → LooksAt n won → ((i : ℕ) → i < n → f i ≡ h i) → IsLeast n won f
-    → IsLeast n won h
-least-same n won f h looks same least = grind (arith, less-alike)
 
 -- ---- n members, of whom the first m by rank have a place
 pub record IsSeating (n m : ℕ) (ranks : List ℕ) : Type 0 where
@@ -127,15 +120,9 @@ module _ {n m : ℕ} {ranks : List ℕ} (is : IsSeating n m ranks) where
       looks (seen m ranks (without m (get_or ranks i 0) c)) (less (seen m ranks c) i) (λ j lj. seen-less c i j li lj inside) in (
         λ least. record {
           wins = least.wins;
-          needs = λ p lt inside. grind (
-            arith,
-            is.few,
-            is.are.member_below p,
-            is.are.place_back p,
-            seen-at c p lt,
-            fewer (member_at ranks p),
-            least.needs (member_at ranks p),
-          );
+          needs = λ p lt inside.
+              (let at = seen-at c p lt in
+              grind (arith, at, is.few, is.are.member_below p, is.are.place_back p, fewer (member_at ranks p), least.needs (member_at ranks p)));
         },
         λ min. record {
           wins = min.wins;

@@ -1,5 +1,6 @@
 -- The rules that a game consists of are rules that a game can have.
-use Rattle.mwc_sums.proofs.Imports.{take, refl, arith, All, ◌∙◌, ◌*◌, cond, leb, sum, range_with_len, sum_by, cases_lt, ltb-true, both_ways}
+use Rattle.std.proofs.lemmas.List.{nil_from_length}
+use Rattle.mwc_sums.proofs.Imports.{take, refl, arith, All, ◌∙◌, ◌*◌, cond, leb, sum, range_with_len, sum_by, cases_lt, ltb-true}
 use Rattle.mwc_sums.proofs.Imports.{length-map, length-map-range_with_len, filter-append, length-filter_both, RuleView, rest_of, rule_for}
 use Rattle.mwc_sums.proofs.Imports.{◌≡◌, ℕ, ◌+◌, ◌<◌, ◌≤◌, Bool, true, false, ltb, not, List, [], ◌∷◌, ◌++◌, length, get_or, map, filter}
 use Rattle.mwc_sums.proofs.Imports.{rule_at, has_bad_quota, GameView, IsGame, nat_tests, rules_beside, statute, number_of, get_or_past}
@@ -29,8 +30,7 @@ fair-rest : (n : ℕ) (veto : ℕ → Bool) (r : RuleView) → IsFair n r → 0 
 fair-rest n veto r fair some =
     let all = row-sum r.weights n fair.full in
     let parts = sum-parts (λ i. get_or r.weights i 0) (λ i. cond (veto i) (get_or r.weights i 0) 0) (λ i. cond (veto i) 0 (get_or r.weights i 0)) n
-    (λ i lt. grind (arith, nat_tests)) in
-    grind (arith, nat_tests, length-map-range_with_len, good, good-met, sum-map, light-made, fair.light)
+    (λ i lt. grind (arith, nat_tests)) in grind (arith, nat_tests, length-map-range_with_len, good, good-met, sum-map, light-made)
 
 -- each rule that is left is fair, since it asks for something
 pub fair-beside : (n : ℕ) (veto : ℕ → Bool) (rs : List RuleView) → All (IsFair n) rs → All (IsFair n) (rules_beside n veto rs)
@@ -71,21 +71,12 @@ module _ (g : GameView) (is : IsGame g) where
 
   -- the empty coalition loses
   lost : met (length g.names) g.rules (λ i. false) ≡ false
-  lost = grind (
-    arith,
-    nat_tests,
-    list_all_at (λ r. leb r.quota (weighs (length g.names) r (λ i. false))) g.rules 0,
-    good-some (rule_at g.rules 0),
-    fair-of g 0 is is.has_rule,
-    is.has_rule,
-    nobody (λ i. get_or (rule_at g.rules 0).weights i 0) (length g.names),
-  )
+  lost =
+      list_all_at (λ r. leb r.quota (weighs (length g.names) r (λ i. false))) g.rules 0 (record { quota = 0; weights = [] }) is.has_rule
+      (let some = good-some (rule_at g.rules 0) (fair-of g 0 is is.has_rule).quota in
+      grind (arith, nat_tests, nobody (λ i. get_or (rule_at g.rules 0).weights i 0) (length g.names)))
 
   pub statute-some : 0 < length (statute g)
-  statute-some = by_rules (statute g) (statute-are.alike (λ i. false))
-    where
-      by_rules : (rs : List RuleView) → met (length g.names) g.rules (λ i. false) ≡ met (length g.names) rs (λ i. false) → 0 < length rs
-      by_rules [] same = absurd (both_ways _ lost same)
-      by_rules (r ∷ rs) same = omega arith
+  statute-some = grind (arith, nat_tests, lost, statute-are.alike (λ i. false), cases_lt 0 (length (statute g)), nil_from_length (statute g))
 
 pub ruleset statutes = (statute-are, statute-fair, statute-few, statute-some)

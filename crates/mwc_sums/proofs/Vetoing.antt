@@ -1,6 +1,6 @@
 -- Where all members that can veto agree, the rules ask the others for what is left.
 use Rattle.mwc_sums.proofs.Imports.{length-range_with_len, places-at, All-head, All-tail, sum_by-range-more, RuleView, sum-plus, get_or}
-use Rattle.mwc_sums.proofs.Imports.{nat_tests, weighs, met, rules_beside, can_veto, number_of, rest_of, rule_for, sum-map, ◌^◌, subst}
+use Rattle.mwc_sums.proofs.Imports.{nat_tests, weighs, met, rules_beside, can_veto, number_of, rest_of, rule_for, sum-map, ◌^◌}
 use Rattle.mwc_sums.proofs.Imports.{map, filter, ap, refl, arith, inl, inr, All, sum, sum_by, range_with_len, sum_by-cons, sum-range}
 use Rattle.mwc_sums.proofs.Imports.{◌≡◌, ◌∙◌, ℕ, suc, ◌+◌, ◌-◌, ◌*◌, ◌<◌, Bool, true, false, cond, leb, ltb, List, [], ◌∷◌, length}
 use Rattle.mwc_sums.proofs.Imports.{sum-filter, has, weight, wins, Votes, IsVotes, rule_at, rule-is, true_from_ne_false, both_ways}
@@ -17,8 +17,7 @@ row-sum ws n long = ap sum (fill_by_all (λ i. get_or ws i 0) ws n 0 long (λ k 
 -- what a coalition weighs
 pub weight-sum : (ws : List ℕ) (n c : ℕ) → length ws ≡ n → weight ws c ≡ sum_by (λ p. cond (has n p c) 1 0 * get_or ws p 0) (range_with_len 0 n)
 unfolding weight
-weight-sum ws n c long = subst (λ (n : ℕ). weight ws c ≡ sum_by (λ p. cond (has n p c) 1 0 * get_or ws p 0) (range_with_len 0 n)) long
-    (sum-filter (λ p. get_or ws p 0) (λ p. has (length ws) p c) (range_with_len 0 (length ws)))
+weight-sum ws n c long = grind (arith, nat_tests, sum-filter)
 
 -- where all weigh the same
 pub alike-sum : (ws : List ℕ) (e : ℕ) → ((p : ℕ) → p < length ws → get_or ws p 0 ≡ e) → sum ws ≡ length ws * e
@@ -81,8 +80,7 @@ vetoed-lost : (n : ℕ) (rs : List RuleView) (f : ℕ → Bool) (i : ℕ) → Al
 vetoed-lost n [] f i full lt vetoes out = absurd (cc)
 vetoed-lost n (r ∷ rs) f i full lt vetoes out =
     let own = missed r f n i (All-head (λ (x : RuleView). length x.weights ≡ n) r rs full) lt out in
-    let rest = vetoed-lost n rs f i (All-tail (λ (x : RuleView). length x.weights ≡ n) r rs full) lt in
-    grind (arith, nat_tests)
+    let rest = vetoed-lost n rs f i (All-tail (λ (x : RuleView). length x.weights ≡ n) r rs full) lt in grind (arith, nat_tests)
 
 -- rules that ask for nothing are met
 asking-met : (n : ℕ) (rs : List RuleView) (f : ℕ → Bool) → met n rs f ≡ met n (filter (λ r. ltb 0 r.quota) rs) f

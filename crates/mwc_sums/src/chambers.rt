@@ -32,7 +32,7 @@ impl Statute {
     }
 
     /// The game of the rules of the first rule's chamber, counted.
-    #[tactic(auto, using(crate::proofs::Sharing::chambers))]
+    #[tactic(auto, using(crate::proofs::Sharing::chambers, std::proofs::lemmas::Bool::Decides::nat_tests))]
     fn first_chamber(&self, alloc: Global, game: &Game) -> Result<Counted, Memory>
         requires some { 0 < length self.now.rules }
         requires chambers { AreOfChambers self.now.members self.now.rules }
