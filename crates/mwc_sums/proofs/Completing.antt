@@ -54,9 +54,6 @@ pub record IsLeast (ws : List ℕ) (r c : ℕ) : Type 0 where
 abbrev pub Falls : List ℕ → Type 0
 Falls ws = (a b : ℕ) → a ≤ b → b < length ws → get_or ws b 0 ≤ get_or ws a 0
 
-pub falls-rest : (w : ℕ) (ws : List ℕ) → Falls (w ∷ ws) → Falls ws
-falls-rest w ws falls a b le lt = falls (suc a) (suc b) (omega arith) (omega arith)
-
 no-size : (n : ℕ) → size n 0 ≡ 0
 no-size zero = refl
 no-size (suc n) = size-left n 0 (pow_pos n) ∙ no-size n
@@ -82,16 +79,14 @@ last-behind (suc n) (suc p) c lt below inside =
     let again = last-behind n p in
     grind (arith, nat_tests, again, rest-out, rest-in n p (c - 2 ^ n), double-pow n, cases_lt c (2 ^ n), has-none n p)
 
--- what a place weighs, its coalitions weigh at least
-place-le : (ws : List ℕ) (p c : ℕ) → p < length ws → has (length ws) p c ≡ true → get_or ws p 0 ≤ weight ws c
-unfolding has
-place-le ws p c lt inside = let e = weight-without ws p c lt (eqb-true _ _ inside) in omega (arith, e)
-
 -- a coalition is empty, or has some member, and weighs at least as much as the last
 pub none-or-some : (ws : List ℕ) (c : ℕ) → c < 2 ^ length ws → ((c ≡ 0) × (size (length ws) c ≡ 0) × (weight ws c ≡ 0))
     ⊎ ((0 < c) × (0 < size (length ws) c) × (get_or ws (last (length ws) c) 0 ≤ weight ws c))
+unfolding has
 none-or-some ws c lt = elim (cases_lt 0 c) [
-  | inl some ↦ let is = last-in (length ws) c lt some in inr (some, size-pos-at _ _ c is.0 is.1, place-le ws _ c is.0 is.1)
+  | inl some ↦
+      let is = last-in (length ws) c lt some in
+      let e = weight-without ws (last (length ws) c) c is.0 (eqb-true _ _ is.1) in inr (some, size-pos-at _ _ c is.0 is.1, omega (arith, e))
   | inr none ↦ let z : c ≡ 0 = omega arith in inl (z, ap (size (length ws)) z ∙ no-size (length ws), ap (weight ws) z ∙ weight-zero ws)
 ]
 

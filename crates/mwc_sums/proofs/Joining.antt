@@ -1,7 +1,10 @@
 -- Sets that win where they win under two conditions, each of which sees members of its own.
-use Rattle.mwc_sums.proofs.Imports.{◌≡◌, ◌∙◌, ◌&&◌, ◌||◌, ℕ, ◌<◌, Bool, true, false, arith, both_ways, true_from_ne_false, nat_tests}
+use Rattle.mwc_sums.proofs.Imports.{◌≡◌, ◌∙◌, ◌&&◌, ◌||◌, ℕ, ◌<◌, Bool, true, false, arith, both_ways, true_from_ne_false, nat_tests, ◌+◌}
+use Rattle.mwc_sums.proofs.Imports.{◌^◌, List, length, filter, sym, ap, refl, and-true, and_parts, and_from, size, down, sum_by}
 use Rattle.std.proofs.lemmas.Bool.{false_from_ne_true}
-use Rattle.mwc_sums.proofs.Seating.{less, IsLeast}
+use Rattle.mwc_sums.proofs.Seating.{less, IsLeast, LooksAt, as_mask, mask-is, mask-less, mask-seen, one_if, seen, seen-size}
+use Rattle.mwc_sums.proofs.Matching.{ArePairs, Holds, count-both, paired-off, sum-down}
+use Rattle.mwc_sums.proofs.Vetoing.{sum-parts}
 
 -- a test of sets sees these members alone
 abbrev pub Sees : ℕ → (ℕ → Bool) → ((ℕ → Bool) → Bool) → Type 0
@@ -27,19 +30,19 @@ module _ {n : ℕ} {own other : ℕ → Bool} {won_g won_a won_b : (ℕ → Bool
   -- a least set is, of each side, a least set
   pub least-half : {c : ℕ → Bool} (x : ℕ → Bool) → IsLeast n won_g c → ((i : ℕ) → i < n → x i ≡ (c i && own i)) → IsLeast n won_a x
   least-half {c = c} x least is = record {
-    wins = joint.sees_own x c (λ j lj seen. grind (arith, nat_tests, is j lj)) ∙ grind (arith, nat_tests, joint.both c, least.wins);
+    wins = grind (arith, nat_tests, joint.sees_own x c, is, joint.both c, least.wins);
     needs = λ i lt inside.
-        (let unseen = joint.sees_other (less c i) c (λ j lj seen. grind (arith, nat_tests, is i lt, joint.apart j lj)) in
-        joint.sees_own (less x i) (less c i) (λ j lj seen. grind (arith, nat_tests, is j lj))
-        ∙ grind (arith, nat_tests, unseen, is i lt, joint.both c, joint.both (less c i), least.wins, least.needs i lt));
+        (let own-same = joint.sees_own (less x i) (less c i) in
+        let unseen = joint.sees_other (less c i) c in
+        grind (arith, nat_tests, own-same, unseen, is, joint.apart, joint.both c, joint.both (less c i), least.wins, least.needs i lt));
   }
 
   -- each of its members is on a side
   pub least-sides : {c : ℕ → Bool} → IsLeast n won_g c → (i : ℕ) → i < n → c i ≡ true → (own i || other i) ≡ true
   least-sides {c = c} least i lt inside =
-      let own-same : own i ≡ false → won_a (less c i) ≡ won_a c = λ out. joint.sees_own (less c i) c (λ j lj seen. grind (arith, nat_tests)) in
-      let other-same : other i ≡ false → won_b (less c i) ≡ won_b c = λ out. joint.sees_other (less c i) c (λ j lj seen. grind (arith, nat_tests)) in
-      grind (arith, nat_tests, joint.both c, joint.both (less c i), least.wins, least.needs i lt)
+      let own-same = joint.sees_own (less c i) c in
+      let other-same = joint.sees_other (less c i) c in
+      grind (arith, nat_tests, own-same, other-same, joint.both c, joint.both (less c i), least.wins, least.needs i lt)
 
   module _ {x y : ℕ → Bool} (least_x : IsLeast n won_a x) (least_y : IsLeast n won_b y) where
     -- each is on its own side
@@ -57,12 +60,106 @@ module _ {n : ℕ} {own other : ℕ → Bool} {won_g won_a won_b : (ℕ → Bool
     -- two least sets together are a least set
     pub least-union : (c : ℕ → Bool) → ((i : ℕ) → i < n → c i ≡ (x i || y i)) → IsLeast n won_g c
     least-union c is =
-        let in_x = joint.sees_own c x (λ j lj seen. grind (arith, nat_tests, is j lj, on-sides j lj)) in
-        let in_y = joint.sees_other c y (λ j lj seen. grind (arith, nat_tests, is j lj, on-sides j lj)) in
         record {
-          wins = grind (arith, nat_tests, in_x, in_y, joint.both c, least_x.wins, least_y.wins);
+          wins = grind (arith, nat_tests, is, on-sides, joint.sees_own c x, joint.sees_other c y, joint.both c, least_x.wins, least_y.wins);
           needs = λ i lt inside. (
               let less_x = joint.sees_own (less c i) (less x i) (λ j lj seen. grind (arith, nat_tests, is j lj, on-sides j lj)) in
               let less_y = joint.sees_other (less c i) (less y i) (λ j lj seen. grind (arith, nat_tests, is j lj, on-sides j lj)) in
               grind (arith, nat_tests, less_x, less_y, is i lt, joint.both (less c i), least_x.needs i lt, least_y.needs i lt));
         }
+
+-- ---- coalitions that hold the least sets
+-- of a least set those of one side are a coalition
+half-seen : {n a : ℕ} {own other : ℕ → Bool} {won_g won_a won_b : (ℕ → Bool) → Bool} {ra : List ℕ} {min_a : ℕ → Bool}
+    → IsJoint n own other won_g won_a won_b → Holds n won_a a ra min_a → (c : ℕ → Bool) → IsLeast n won_g c
+    → ((i : ℕ) → i < n → seen a ra (as_mask a ra (λ i. c i && own i)) i ≡ (c i && own i)) × (min_a (as_mask a ra (λ i. c i && own i)) ≡ true)
+half-seen {a = a} {own = own} {ra = ra} joint ha c least =
+    let f : ℕ → Bool = λ i. c i && own i in
+    let same = mask-seen ha.seats f (ha.inside f (least-half joint f least (λ i lt. refl))) in
+    (same, (ha.least _ (mask-less a ra f)).1 (least-half joint _ least same))
+
+module _ {n m a b : ℕ} {own other : ℕ → Bool} {won_g won_a won_b : (ℕ → Bool) → Bool} {rg ra rb : List ℕ} {min_g min_a min_b : ℕ → Bool}
+    (joint : IsJoint n own other won_g won_a won_b) (hg : Holds n won_g m rg min_g) (ha : Holds n won_a a ra min_a) (hb : Holds n won_b b rb min_b)
+  where
+    -- two coalitions together
+    pub union : ℕ → ℕ → ℕ
+    union x y = as_mask m rg (λ i. seen a ra x i || seen b rb y i)
+
+    module _ (x y : ℕ) (lx : x < 2 ^ a) (ly : y < 2 ^ b) (min : (min_a x && min_b y) ≡ true) where
+      least-both : IsLeast n won_a (seen a ra x) × IsLeast n won_b (seen b rb y)
+      least-both = let p = and_parts (min_a x) (min_b y) min in ((ha.least x lx).0 p.0, (hb.least y ly).0 p.1)
+
+      pub joined : (i : ℕ) → i < n → seen m rg (union x y) i ≡ (seen a ra x i || seen b rb y i)
+      unfolding union
+      joined =
+          let f : ℕ → Bool = λ i. seen a ra x i || seen b rb y i in
+          mask-seen hg.seats f (hg.inside f (least-union joint least-both.0 least-both.1 f (λ i lt. refl)))
+
+      pub apart : (i : ℕ) → i < n → seen a ra x i ≡ true → seen b rb y i ≡ false
+      apart = least-apart joint least-both.0 least-both.1
+
+      pub size-union : size m (union x y) ≡ size a x + size b y
+      size-union =
+          sym (seen-size hg.seats (union x y))
+          ∙ sum-parts (λ i. one_if (seen m rg (union x y) i)) (λ i. one_if (seen a ra x i)) (λ i. one_if (seen b rb y i)) n
+          (λ i lt. grind (arith, nat_tests, joined i lt, apart i lt))
+          ∙ (λ k. seen-size ha.seats x k + seen-size hb.seats y k)
+
+    pairs : ArePairs min_g (λ x y. min_a x && min_b y) (λ c. as_mask a ra (λ i. seen m rg c i && own i))
+        (λ c. as_mask b rb (λ i. seen m rg c i && other i)) union (2 ^ m) (2 ^ a) (2 ^ b)
+    unfolding union
+    pairs = record {
+      first = λ c. mask-less a ra (λ i. seen m rg c i && own i);
+      second = λ c. mask-less b rb (λ i. seen m rg c i && other i);
+      below = λ x y. mask-less m rg (λ i. seen a ra x i || seen b rb y i);
+      parts = λ c lc min.
+          (let least = (hg.least c lc).0 min in
+          let (in_x, min_x) = half-seen joint ha (seen m rg c) least in
+          let (in_y, min_y) = half-seen (flipped-joint joint) hb (seen m rg c) least in (
+            and_from _ _ min_x min_y,
+            sym (mask-is hg.seats _ c lc (λ i lt. grind (arith, nat_tests, in_x i lt, in_y i lt, least-sides joint least i lt))),
+          ));
+      whole = λ x y lx ly min.
+          (let (least_x, least_y) = least-both x y lx ly min in
+          let in_g = joined x y lx ly min in (
+            (hg.least _ (mask-less m rg _)).1 (least-union joint least_x least_y _ in_g),
+            sym (mask-is ha.seats _ x lx (λ i lt. grind (arith, nat_tests, in_g i lt, least-own joint least_x least_y i lt))),
+            sym (mask-is hb.seats _ y ly (λ i lt. grind (arith, nat_tests, in_g i lt, least-own (flipped-joint joint) least_y least_x i lt))),
+          ));
+    }
+
+    -- how many that hold a least set pass a test, by the pairs that they are
+    pub counted : (t : ℕ → Bool) (v : ℕ → ℕ → ℕ)
+        → ((x y : ℕ) → x < 2 ^ a → y < 2 ^ b → one_if ((min_a x && min_b y) && t (union x y)) ≡ v x y)
+        → length (filter t (filter min_g (down (2 ^ m)))) ≡ sum_by (λ x. sum_by (v x) (down (2 ^ b))) (down (2 ^ a))
+    counted = paired-off pairs
+
+-- of two rankings, as many pass tests that say the same of the same set
+pub alike-count : {n a b : ℕ} {won : (ℕ → Bool) → Bool} {ra rb : List ℕ} {own other : ℕ → Bool} → LooksAt n won → Holds n won a ra own
+    → Holds n won b rb other → (t u : ℕ → Bool) → ((c x : ℕ) → ((i : ℕ) → i < n → seen a ra c i ≡ seen b rb x i) → t c ≡ u x)
+    → length (filter t (filter own (down (2 ^ a)))) ≡ length (filter u (filter other (down (2 ^ b))))
+unfolding down
+alike-count {n = n} {a = a} {b = b} {won = won} {ra = ra} {rb = rb} {own = own} {other = other} looks ha hb t u same =
+    counted joint ha hb none t (λ x y. one_if (other x && u x)) (λ x y lx ly. each x y lx ly (other x) refl)
+    ∙ sum-down _ _ (2 ^ b) (λ x lx. omega arith) ∙ sym (count-both other u (down (2 ^ b)))
+  where
+    joint : IsJoint n (λ i. true) (λ i. false) won won (λ f. true)
+    joint = record {
+      both = λ f. sym (and-true (won f));
+      sees_own = λ f h alike. looks f h (λ i lt. alike i lt refl);
+      sees_other = λ f h alike. refl;
+      apart = λ i lt in'. refl;
+    }
+
+    -- nobody has a place
+    none : Holds n (λ f. true) 0 rb (λ c. true)
+    none = record {
+      seats = record { few = omega arith; are = hb.seats.are; each = hb.seats.each };
+      least = λ c lt. (λ h. record { wins = refl; needs = λ i li in'. grind (arith, nat_tests) }, λ h. refl);
+      inside = λ f least i lt in'. absurd (both_ways true (least.needs i lt in') refl);
+    }
+
+    each : (x y : ℕ) → x < 2 ^ b → y < 2 ^ 0 → (m : Bool) → other x ≡ m → one_if ((m && true) && t (union joint ha hb none x y)) ≡ one_if (m && u x)
+    each x y lx ly false is = refl
+    each x y lx ly true is = ap (λ (b : Bool). one_if b) (same (union joint ha hb none x y) x (λ i lt.
+        joined joint ha hb none x y lx ly (grind (arith, nat_tests)) i lt ∙ grind (arith, nat_tests)))

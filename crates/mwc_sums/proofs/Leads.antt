@@ -1,14 +1,17 @@
 -- The coalitions that members lead to, the heaviest first, and how many they are.
-use Rattle.mwc_sums.proofs.Completing.{last-in, last-behind, IsLeast, Falls, double-pow, first-in, first-out, last, none-or-some, rest-in}
-use Rattle.mwc_sums.proofs.Completing.{rest-out, size-left, size-with, weight-left, weight-with}
+use Rattle.mwc_sums.proofs.Completing.{last-in, last-behind, Falls, double-pow, first-in, first-out, last, none-or-some, rest-in, rest-out}
+use Rattle.mwc_sums.proofs.Completing.{size-left, size-with, weight-left, weight-with, same_test}
 use Rattle.mwc_sums.proofs.Imports.{false, cond, leb, ltb, List, [], ◌∷◌, ◌++◌, map, filter, length, get_or, ap, refl, arith, inl, inr, ◌≡◌}
-use Rattle.mwc_sums.proofs.Imports.{◌∙◌, ◌↔◌, ◌⊎◌, ℕ, zero, suc, ◌+◌, ◌-◌, ◌*◌, ◌^◌, ◌<◌, ◌≤◌, ◌==◌, ◌&&◌, ◌||◌, not, Bool, true, cases_lt}
-use Rattle.mwc_sums.proofs.Imports.{le-ltb, lt-ltb, nat_tests, completing, has, size, weight, down}
+use Rattle.mwc_sums.proofs.Imports.{le-ltb, lt-ltb, nat_tests, has, size, weight, down, subst, RuleView, Votes, IsVotes, minimal_coalitions}
+use Rattle.mwc_sums.proofs.Imports.{◌∙◌, ◌↔◌, ℕ, zero, suc, ◌+◌, ◌-◌, ◌*◌, ◌^◌, ◌<◌, ◌≤◌, ◌==◌, ◌&&◌, ◌||◌, not, Bool, true, cases_lt}
+use Rattle.mwc_sums.proofs.Imports.{minimal, rule_at, rule-is, down-below, sym, wins}
+use Rattle.mwc_sums.specs.Completing.{completing}
 use Rattle.std.proofs.lemmas.Bool.{cond-false, cond-true}
 use Rattle.council_game.proofs.Shared.WeightByDigits.{weight-nil}
 use Rattle.weight_sums.specs.Endings.{choose, one_of_size, fill, endings, left_out}
-use Rattle.mwc_sums.proofs.Filters.{filter-none}
-use Rattle.mwc_sums.proofs.Counting.{count, count-and, count-first, count-never, count-parted, filter-first}
+use Rattle.mwc_sums.proofs.Counting.{filter-none, filter-same, count, count-and, count-first, count-never, count-parted, filter-first}
+use Rattle.mwc_sums.proofs.{Heads.by-heads, Heads.least-weights, Placed.minimal-min, Seating.IsMin}
+use Rattle.council_game.specs.Votes.{IsRanked}
 
 -- a coalition that members lead to, from a need and a number of members: where the first meets the need, others behind it fill it up to the heads
 unfoldable pub leads : List ℕ → ℕ → ℕ → ℕ → ℕ → Bool
@@ -115,11 +118,6 @@ leads-parted ws p heads s r a lt =
     omega (arith, parts, leads-all ws heads s r a, leads-lacking ws p heads s r a)
 
 -- ---- which they are
--- as many members as heads and the need met, or more members, without any one of whom it is missed
-abbrev pub AreMet : List ℕ → ℕ → ℕ → ℕ → ℕ → Type 0
-AreMet ws heads r a c =
-    ((a + size (length ws) c ≡ heads) × (r ≤ weight ws c)) ⊎ ((heads < a + size (length ws) c) × IsLeast ws r c)
-
 -- by what all weigh, and by the last member
 by-last : (ws : List ℕ) (heads r a c : ℕ) → 0 < r → c < 2 ^ length ws → leads ws heads r a c
     ≡ (leb r (weight ws c) && ((a + size (length ws) c == heads)
@@ -137,8 +135,12 @@ by-last (w ∷ ws) heads r a c pos lt = elim (cases_lt c (2 ^ length ws)) [
       grind (arith, nat_tests, again, is, low, none-or-some ws d low, size-with n d low, weight-with w ws d low)
 ]
 
-pub leads-are : (ws : List ℕ) (heads r a c : ℕ) → Falls ws → 0 < r → c < 2 ^ length ws → (leads ws heads r a c ≡ true) ↔ AreMet ws heads r a c
-leads-are ws heads r a c falls pos lt = grind (arith, by-last, none-or-some, last-in, last-behind)
+pub leads-are : (ws : List ℕ) (heads r c : ℕ) → Falls ws → 0 < r → c < 2 ^ length ws
+    → (leads ws heads r 0 c ≡ true) ↔ IsMin (length ws) (λ x. leb r (weight ws x) && leb heads (size (length ws) x)) c
+leads-are ws heads r c falls pos lt =
+    let is = by-last ws heads r 0 c pos lt in
+    let parts = by-heads (length ws) (λ x. leb r (weight ws x)) heads c in
+    let least = least-weights ws r c in grind (arith, nat_tests, none-or-some, last-in, last-behind)
 
 -- ---- the list of them, where no heads are asked for
 nobody : (n : ℕ) → filter (λ c. size n c == 0) (down (2 ^ n)) ≡ 0 ∷ []
@@ -164,3 +166,35 @@ leads-list (w ∷ ws) r a =
     first true again =
         ap (λ (k : ℕ). filter (λ c. size (length ws) c == k) (down (2 ^ length ws))) (let e : 0 - (a + 1) ≡ 0 = omega arith in e) ∙ nobody (length ws)
     first false again = again
+
+-- ---- in a game of one rule
+one-wins : (rs : List RuleView) (x : ℕ) → length rs ≡ 1
+    → wins rs x ≡ (leb (rule_at rs 0).quota (weight (rule_at rs 0).weights x) && leb 0 (size (length (rule_at rs 0).weights) x))
+unfolding wins
+one-wins [] x one = absurd (omega (arith, one))
+one-wins (r ∷ s ∷ rs) x one = absurd (omega (arith, one))
+one-wins (r ∷ []) x one = grind (arith, nat_tests)
+
+falls-first : (rs : List RuleView) → IsRanked rs → Falls (rule_at rs 0).weights
+falls-first [] ranked = λ a b le lt. absurd (omega arith)
+falls-first (r ∷ rs) ranked = ranked
+
+pub minimal-completing : (v : Votes) → IsVotes v → length v.rules ≡ 1
+    → minimal_coalitions v ≡ completing (rule_at v.rules 0).weights (rule_at v.rules 0).quota
+unfolding minimal_coalitions
+minimal-completing v votes one =
+    let r : RuleView = rule_at v.rules 0 in
+    let ws : List ℕ = r.weights in
+    let rule = rule-is v 0 votes (omega (arith, one)) in
+    let same : wins v.rules ≡ (λ x. leb r.quota (weight ws x) && leb 0 (size (length ws) x)) = λ k x. one-wins v.rules x one k in
+    let led : (c : ℕ) → c < 2 ^ length ws → minimal v c ≡ leads ws 0 r.quota 0 c = λ c lt.
+    (let lead = leads-are ws 0 r.quota c (falls-first v.rules votes.ranked) (let some = rule.some in omega (arith, some)) lt in
+    let min = subst (λ (m : ℕ). (minimal v c ≡ true) ↔ IsMin m (λ x. leb r.quota (weight ws x) && leb 0 (size (length ws) x)) c) (sym rule.full)
+    (rw same at (minimal-min v c)) in
+    same_test _ _ (λ h. lead.1 (min.0 h)) (λ h. min.1 (lead.0 h))) in
+    ap (λ (n : ℕ). filter (minimal v) (down (2 ^ n))) (sym rule.full)
+    ∙ filter-same (minimal v) (leads ws 0 r.quota 0) (down (2 ^ length ws))
+    (λ k d lt. led _ (down-below (2 ^ length ws) (2 ^ length ws) (omega arith) k d lt))
+    ∙ leads-list ws r.quota 0
+
+pub ruleset laws = (minimal-completing)

@@ -1,10 +1,10 @@
 -- As many coalitions pass one test as pass another.
-use Rattle.mwc_sums.proofs.Imports.{◌≡◌, ◌∙◌, ◌↔◌, ◌==◌, ◌&&◌, ℕ, zero, suc, ◌+◌, ◌^◌, ◌<◌, Bool, true, false, List, length, get_or, filter}
-use Rattle.mwc_sums.proofs.Imports.{sym, ap, refl, arith, inl, inr, sum_by, both_ways, cases_eq, sum_by-cons, length-filter, down, sum-zero}
+use Rattle.mwc_sums.proofs.Imports.{◌≡◌, ◌∙◌, ◌↔◌, ◌==◌, ◌&&◌, ℕ, zero, suc, ◌^◌, ◌<◌, Bool, true, false, List, length, get_or, filter, sym}
+use Rattle.mwc_sums.proofs.Imports.{ap, refl, arith, inl, inr, sum_by, both_ways, cases_eq, sum_by-cons, length-filter, down, sum-zero}
 use Rattle.mwc_sums.proofs.Imports.{nat_tests}
 use Rattle.power_index.proofs.Shared.Sums.{exchange}
-use Rattle.mwc_sums.proofs.Filters.{filter-both}
-use Rattle.mwc_sums.proofs.Seating.{one_if, IsLeast, IsSeating, LooksAt, as_mask, least-same, mask-is, mask-less, mask-seen, seen}
+use Rattle.mwc_sums.proofs.Counting.{filter-both}
+use Rattle.mwc_sums.proofs.Seating.{one_if, IsLeast, IsSeating, seen}
 
 -- ---- sums over all coalitions
 pub count-both : (m t : ℕ → Bool) (xs : List ℕ) → length (filter t (filter m xs)) ≡ sum_by (λ c. one_if (m c && t c)) xs
@@ -60,52 +60,20 @@ module _ {p : ℕ → Bool} {q : ℕ → ℕ → Bool} {one two : ℕ → ℕ} {
       (λ y ly other. of-none t c (one c) y (λ e h. grind (arith, are.whole (one c) y (are.first c) ly h)))
       ∙ grind (arith, nat_tests, has)
 
-  pub paired-off : (t : ℕ → Bool) → length (filter t (filter p (down n))) ≡ sum_by (λ x. sum_by (λ y. one_if (q x y && t (both x y))) (down b)) (down a)
+  -- where v says whether a pair passes both tests
+  pub paired-off : (t : ℕ → Bool) (v : ℕ → ℕ → ℕ) → ((x y : ℕ) → x < a → y < b → one_if (q x y && t (both x y)) ≡ v x y)
+      → length (filter t (filter p (down n))) ≡ sum_by (λ x. sum_by (v x) (down b)) (down a)
   unfolding of
-  paired-off t =
+  paired-off t v same =
       count-both p t (down n)
       ∙ sum-down (λ c. one_if (p c && t c)) (λ c. sum_by (λ x. sum_by (of t c x) (down b)) (down a)) n (λ c lc. sym (each t c (p c) refl lc))
       ∙ exchange (λ c x. sum_by (of t c x) (down b)) (down n) (down a)
-      ∙ (λ k. sum_by (λ x. (exchange (λ c y. of t c x y) (down n) (down b)
-      ∙ (λ k. sum_by (λ y. (sum-one (λ c. of t c x y) (both x y) n (are.below x y)
-      (λ c lc other. of-none t c x y (λ e h. other e)) ∙ found x y) k) (down b))) k) (down a))
-    where
-      found : (x y : ℕ) → of t (both x y) x y ≡ one_if (q x y && t (both x y))
-      found x y = grind (arith, nat_tests)
+      ∙ sum-down _ _ a (λ x lx. exchange (λ c y. of t c x y) (down n) (down b)
+      ∙ sum-down _ _ b (λ y ly. sum-one (λ c. of t c x y) (both x y) n (are.below x y) (λ c lc other. of-none t c x y (λ e h. other e))
+      ∙ grind (arith, nat_tests, same x y lx ly)))
 
 -- ---- coalitions that hold the least sets of a test, by their places in a ranking
 pub record Holds (n : ℕ) (won : (ℕ → Bool) → Bool) (m : ℕ) (ranks : List ℕ) (min : ℕ → Bool) : Type 0 where
   pub seats : IsSeating n m ranks
   pub least : (c : ℕ) → c < 2 ^ m → (min c ≡ true) ↔ IsLeast n won (seen m ranks c)
   pub inside : (f : ℕ → Bool) → IsLeast n won f → (i : ℕ) → i < n → f i ≡ true → get_or ranks i 0 < m
-
--- the set of a coalition, by the places of another ranking
-moved : {n : ℕ} {won : (ℕ → Bool) → Bool} {a b : ℕ} {ra rb : List ℕ} {own other : ℕ → Bool} → LooksAt n won → Holds n won a ra own
-    → Holds n won b rb other → (c : ℕ) → c < 2 ^ a → own c ≡ true
-    → (other (as_mask b rb (seen a ra c)) ≡ true) × (as_mask a ra (seen b rb (as_mask b rb (seen a ra c))) ≡ c)
-    × ((i : ℕ) → i < n → seen b rb (as_mask b rb (seen a ra c)) i ≡ seen a ra c i)
-moved {n = n} {won = won} {a = a} {b = b} {ra = ra} {rb = rb} looks ha hb c lc min =
-    let least = (ha.least c lc).0 min in
-    let same = mask-seen hb.seats (seen a ra c) (hb.inside (seen a ra c) least) in (
-      (hb.least _ (mask-less b rb (seen a ra c))).1 (least-same n won _ _ looks (λ i lt. sym (same i lt)) least),
-      sym (mask-is ha.seats _ c lc (λ i lt. sym (same i lt))),
-      same,
-    )
-
--- of two rankings, as many pass tests that say the same of the same set
-pub alike-count : {n : ℕ} {won : (ℕ → Bool) → Bool} {a b : ℕ} {ra rb : List ℕ} {own other : ℕ → Bool} → LooksAt n won → Holds n won a ra own
-    → Holds n won b rb other → (t u : ℕ → Bool) → ((c x : ℕ) → ((i : ℕ) → i < n → seen a ra c i ≡ seen b rb x i) → t c ≡ u x)
-    → length (filter t (filter own (down (2 ^ a)))) ≡ length (filter u (filter other (down (2 ^ b))))
-unfolding down
-alike-count {n = n} {won = won} {a = a} {b = b} {ra = ra} {rb = rb} {own = own} {other = other} looks ha hb t u same =
-    paired-off {p = own} {q = λ x y. other x} {one = λ c. as_mask b rb (seen a ra c)} {two = λ c. 0} {both = λ x y. as_mask a ra (seen b rb x)}
-    {n = 2 ^ a} {a = 2 ^ b} {b = 1} (record {
-      first = λ c. mask-less b rb (seen a ra c);
-      second = λ c. omega arith;
-      below = λ x y. mask-less a ra (seen b rb x);
-      parts = λ c lc min. (let h = moved looks ha hb c lc min in (h.0, h.1));
-      whole = λ x y lx ly min. (let h = moved looks hb ha x lx min in (h.0, h.1, (omega arith)));
-    }) t
-    ∙ sum-down (λ x. 0 + one_if (other x && t (as_mask a ra (seen b rb x)))) (λ x. one_if (other x && u x)) (2 ^ b) (λ x lx.
-    let h = moved looks hb ha x lx in grind (arith, nat_tests, h, same (as_mask a ra (seen b rb x)) x))
-    ∙ sym (count-both other u (down (2 ^ b)))

@@ -5,8 +5,8 @@ use Rattle.mwc_sums.proofs.Imports.{IsGame, votes_of, contains, size_of, met, we
 use Rattle.std.proofs.{Common.IsPermutation, lemmas.List.Sorted.All-permutation, lemmas.List.Sorted.IsPermutation-sym}
 use Rattle.power_index.specs.Tables.{Tables, AreCounts}
 use Rattle.mwc_sums.specs.Orders.{HaveTheSameRules}
-use Rattle.mwc_sums.proofs.{Matching.Holds, Matching.alike-count, Placed.game-holds, Placed.met-looks, Placed.seen-contains}
-use Rattle.mwc_sums.proofs.{Completing.same_test, Seating.alike-size, Seating.seen}
+use Rattle.mwc_sums.proofs.{Matching.Holds, Placed.game-holds, Placed.met-looks, Placed.seen-contains, Seating.alike-size, Seating.seen}
+use Rattle.mwc_sums.proofs.{Completing.same_test, Joining.alike-count}
 
 count-all : (xs : List ℕ) → length (filter (λ c. true) xs) ≡ length xs
 count-all [] = refl
@@ -52,14 +52,11 @@ met-permuted n f xs ys is all =
     let test : RuleView → Bool = λ r. leb r.quota (weighs n r f) in
     list_all-from_AllPass test ys (All-permutation (λ r. test r ≡ true) xs ys is (AllPass-from_list_all test xs all))
 
-pub same-rules : (g h : GameView) → HaveTheSameRules g h → AreRulesOf g (length h.names) h.rules
-same-rules g h same = record {
+pub same_counts : (g h : GameView) (t : Tables) → IsGame g → IsGame h → HaveTheSameRules g h
+    → AreCounts h (minimal_coalitions (votes_of h)) t → AreCounts g (minimal_coalitions (votes_of g)) t
+same_counts g h t game_g game_h same = counts-alike g h game_g game_h (record {
   members = sym same.members;
   alike = λ f. same_test (met (length g.names) g.rules f) (met (length g.names) h.rules f)
       (met-permuted (length g.names) f g.rules h.rules same.rules)
       (met-permuted (length g.names) f h.rules g.rules (IsPermutation-sym g.rules h.rules same.rules));
-}
-
-pub same_counts : (g h : GameView) (t : Tables) → IsGame g → IsGame h → HaveTheSameRules g h
-    → AreCounts h (minimal_coalitions (votes_of h)) t → AreCounts g (minimal_coalitions (votes_of g)) t
-same_counts g h t game_g game_h same = counts-alike g h game_g game_h (same-rules g h same) t
+}) t

@@ -1,23 +1,19 @@
 -- The minimal winning coalitions of a game hold the least sets of members that win.
-use Rattle.mwc_sums.proofs.Imports.{GameView, IsGame, votes_of, ranks-are, places-at, contains, sum-filter, sum-range, HasNoWeight, weighs}
-use Rattle.mwc_sums.proofs.Imports.{◌≡◌, ◌∙◌, ◌↔◌, ◌==◌, ◌&&◌, not, ℕ, suc, ◌*◌, ◌<◌, Bool, true, false, cond, leb, List, [], ◌∷◌, length}
-use Rattle.mwc_sums.proofs.Imports.{length-map, get_or-map, length-range_with_len, RuleView, Votes, has, wins, weight, minimal, member_at}
-use Rattle.mwc_sums.proofs.Imports.{get_or, map, sym, ap, refl, subst, arith, list_any, sum_by, range_with_len, nat_tests, lt-ltb, met}
-use Rattle.council_game.specs.Ranks.{places, members_by_rank, rule_by_rank}
+use Rattle.mwc_sums.proofs.Imports.{◌↔◌, ◌==◌, ◌&&◌, not, ℕ, suc, ◌*◌, ◌<◌, Bool, true, false, cond, leb, List, [], ◌∷◌, length, length-map}
+use Rattle.mwc_sums.proofs.Imports.{GameView, IsGame, votes_of, ranks-are, places-at, contains, sum-range, HasNoWeight, weighs, ◌≡◌, ◌∙◌}
+use Rattle.mwc_sums.proofs.Imports.{length-range_with_len, RuleView, Votes, has, wins, weight, minimal, member_at, get_or, map, sym, ap}
+use Rattle.mwc_sums.proofs.Imports.{refl, subst, arith, list_any, nat_tests, lt-ltb, met, members_by_rank}
+use Rattle.std.proofs.lemmas.List.{get_or-map}
+use Rattle.council_game.specs.Ranks.{places, rule_by_rank}
 use Rattle.council_game.proofs.Shared.{Meanings.needs-each-member, RankPlaces.game-rank_places, Rankings.length-weights_by_rank}
-use Rattle.mwc_sums.proofs.Matching.{Holds}
-use Rattle.mwc_sums.proofs.Seating.{IsLeast, IsMin, IsSeating, LooksAt, least-min, seen, seen-sum}
-
--- ---- what a coalition weighs
-pub weight-sum : (ws : List ℕ) (c : ℕ) → weight ws c ≡ sum_by (λ p. cond (has (length ws) p c) 1 0 * get_or ws p 0) (range_with_len 0 (length ws))
-unfolding weight
-weight-sum ws c = sum-filter (λ p. get_or ws p 0) (λ p. has (length ws) p c) (range_with_len 0 (length ws))
+use Rattle.mwc_sums.proofs.{Matching.Holds, Vetoing.weight-sum}
+use Rattle.mwc_sums.proofs.Seating.{IsMin, IsSeating, LooksAt, least-min, seen, seen-sum}
 
 -- weights by place, and by member
 pub weight-seen : (n m : ℕ) (ranks : List ℕ) → IsSeating n m ranks → (r : RuleView) (ws : List ℕ) (c : ℕ) → length ws ≡ m
     → ((p : ℕ) → p < m → get_or ws p 0 ≡ get_or r.weights (member_at ranks p) 0) → weight ws c ≡ weighs n r (seen m ranks c)
 weight-seen n m ranks is r ws c long at =
-    simp long at (weight-sum ws c)
+    weight-sum ws m c long
     ∙ sum-range (λ p. cond (has m p c) 1 0 * get_or ws p 0) (λ p. cond (has m p c) 1 0 * get_or r.weights (member_at ranks p) 0) 0 m
     (λ p _ lt. ap (λ (x : ℕ). cond (has m p c) 1 0 * x) (at p (omega (arith, lt))))
     ∙ sym (seen-sum is (λ i b. cond b 1 0 * get_or r.weights i 0) (λ i. omega arith) c)
@@ -71,15 +67,12 @@ module _ {g : GameView} (is : IsGame g) where
       (λ p lt. ranked-at g.ranks r p (let e = game-seats.are.count in omega (arith, lt, e))) k) && wins-each rs c k)
 
   -- a coalition is minimal exactly where its members are
-  pub game-least : (c : ℕ) → (minimal (votes_of g) c ≡ true) ↔ IsLeast (length g.names) (met (length g.names) g.rules) (seen (length g.names) g.ranks c)
-  game-least c =
-      let same : wins (votes_of g).rules ≡ (λ x. met (length g.names) g.rules (seen (length g.names) g.ranks x)) = λ k x. wins-each g.rules x k in
-      let min = subst (λ (won : ℕ → Bool). (minimal (votes_of g) c ≡ true) ↔ IsMin (length g.names) won c) same (minimal-min (votes_of g) c) in
-      grind (arith, min, least-min game-seats (met (length g.names) g.rules) (met-looks (length g.names) g.rules) c)
-
   pub game-holds : (n : ℕ) → length g.names ≡ n → Holds n (met n g.rules) (length g.names) g.ranks (minimal (votes_of g))
   game-holds n e = subst (λ (n : ℕ). Holds n (met n g.rules) (length g.names) g.ranks (minimal (votes_of g))) e (record {
     seats = game-seats;
-    least = λ c _. game-least c;
+    least = λ c _.
+        (let min = subst (λ (won : ℕ → Bool). (minimal (votes_of g) c ≡ true) ↔ IsMin (length g.names) won c)
+        (λ k x. wins-each g.rules x k) (minimal-min (votes_of g) c) in
+        grind (arith, min, least-min game-seats (met (length g.names) g.rules) (met-looks (length g.names) g.rules) c));
     inside = λ f least i lt in'. game-seats.are.place_below i lt;
   })

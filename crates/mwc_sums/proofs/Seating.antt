@@ -1,7 +1,7 @@
 -- Coalitions of the first places of a ranking, and the sets of members that they hold.
-use Rattle.mwc_sums.proofs.Imports.{◌≡◌, ◌∙◌, ◌↔◌, ◌&&◌, not, ℕ, zero, suc, ◌+◌, ◌^◌, ◌<◌, ◌≤◌, Bool, true, false, cond, ltb, List, get_or}
-use Rattle.mwc_sums.proofs.Imports.{sym, ap, refl, arith, inl, inr, sum_by, range_with_len, cases_eq, and_parts, le-ltb, ltb-true}
-use Rattle.mwc_sums.proofs.Imports.{length-filter, nat_tests, has, size, without, member_at, RanksAre, sum-range}
+use Rattle.mwc_sums.proofs.Imports.{◌≡◌, ◌∙◌, ◌↔◌, ◌&&◌, not, ℕ, zero, suc, ◌+◌, ◌^◌, ◌<◌, ◌≤◌, Bool, true, false, cond, List, get_or, sym}
+use Rattle.mwc_sums.proofs.Imports.{ap, refl, arith, inl, inr, sum_by, range_with_len, cases_eq, le-ltb, length-filter, nat_tests, has}
+use Rattle.mwc_sums.proofs.Imports.{size, without, member_at, RanksAre, sum-range}
 use Rattle.std.proofs.Common.{eqb}
 use Rattle.coalitions.proofs.Shared.Digits.{has-kept, has-gone, same-places}
 use Rattle.council_game.specs.Ranks.{AreRankPlaces}
@@ -34,9 +34,6 @@ mask-has test (suc n) (suc p) lt = grind (arith, nat_tests, rest-in, rest-out, m
 abbrev pub less : (ℕ → Bool) → ℕ → ℕ → Bool
 less f i j = f j && not (eqb j i)
 
-pub less-alike : (f h : ℕ → Bool) (i j : ℕ) → f j ≡ h j → less f i j ≡ less h i j
-less-alike f h i j same = ap (λ (b : Bool). b && not (eqb j i)) same
-
 -- a test of sets takes one, and not without any one of its members
 pub record IsLeast (n : ℕ) (won : (ℕ → Bool) → Bool) (f : ℕ → Bool) : Type 0 where
   pub wins : won f ≡ true
@@ -50,10 +47,6 @@ pub record IsMin (n : ℕ) (won : ℕ → Bool) (c : ℕ) : Type 0 where
 -- a test of sets looks at n members
 abbrev pub LooksAt : ℕ → ((ℕ → Bool) → Bool) → Type 0
 LooksAt n won = (f h : ℕ → Bool) → ((i : ℕ) → i < n → f i ≡ h i) → won f ≡ won h
-
-pub least-same : (n : ℕ) (won : (ℕ → Bool) → Bool) (f h : ℕ → Bool) → LooksAt n won → ((i : ℕ) → i < n → f i ≡ h i) → IsLeast n won f
-    → IsLeast n won h
-least-same n won f h looks same least = grind (arith, less-alike)
 
 -- ---- n members, of whom the first m by rank have a place
 pub record IsSeating (n m : ℕ) (ranks : List ℕ) : Type 0 where
@@ -87,27 +80,19 @@ module _ {n m : ℕ} {ranks : List ℕ} (is : IsSeating n m ranks) where
       → seen m ranks (as_mask m ranks f) i ≡ f i
   unfolding as_mask
   mask-seen f within i li =
-      let h = within i li in
-      let own : get_or ranks i 0 < m → has m (get_or ranks i 0) (mask_of (λ p. f (member_at ranks p)) m) ≡ f i = λ lt.
-      mask-has (λ p. f (member_at ranks p)) m (get_or ranks i 0) lt ∙ ap f (is.are.member_back i li) in
-      grind (arith, nat_tests)
+      grind (arith, nat_tests, within i li, mask-has (λ p. f (member_at ranks p)) m (get_or ranks i 0), ap f (is.are.member_back i li))
 
   pub mask-is : (f : ℕ → Bool) (c : ℕ) → c < 2 ^ m → ((i : ℕ) → i < n → seen m ranks c i ≡ f i) → c ≡ as_mask m ranks f
   unfolding as_mask
   mask-is f c below same = same-places m c (mask_of (λ p. f (member_at ranks p)) m) below (mask-below (λ p. f (member_at ranks p)) m) (λ p lt.
-      sym (seen-at c p lt) ∙ same (member_at ranks p) (is.are.member_below p (let few = is.few in omega (arith, lt, few)))
-      ∙ sym (mask-has (λ p. f (member_at ranks p)) m p lt))
+      grind (arith, seen-at c p lt, same (member_at ranks p), is.are.member_below p, is.few, mask-has (λ p. f (member_at ranks p)) m p lt))
 
   seen-less : (c i j : ℕ) → i < n → j < n → seen m ranks c i ≡ true
       → seen m ranks (without m (get_or ranks i 0) c) j ≡ less (seen m ranks c) i j
   seen-less c i j li lj inside =
-      let parts = and_parts (ltb (get_or ranks i 0) m) (has m (get_or ranks i 0) c) inside in
       let apart : get_or ranks j 0 ≡ get_or ranks i 0 → j ≡ i = λ e.
       sym (is.are.member_back j lj) ∙ ap (member_at ranks) e ∙ is.are.member_back i li in
-      elim (cases_eq j i) [
-        | inl same ↦ let e = ap (λ (k : ℕ). get_or ranks k 0) same in grind (arith, nat_tests, has-gone m (get_or ranks i 0) c parts.1)
-        | inr other ↦ grind (arith, nat_tests, has-kept m (get_or ranks j 0) (get_or ranks i 0) c)
-      ]
+      grind (arith, nat_tests, cases_eq j i, has-gone m (get_or ranks i 0) c, has-kept m (get_or ranks j 0) (get_or ranks i 0) c)
 
   -- a sum over the members, by place, where those with no place add nothing
   pub placed-sum : (u : ℕ → ℕ) → ((i : ℕ) → i < n → m ≤ get_or ranks i 0 → u i ≡ 0)
@@ -130,24 +115,20 @@ module _ {n m : ℕ} {ranks : List ℕ} (is : IsSeating n m ranks) where
 
   -- a coalition is minimal where its set is
   pub least-min : (won : (ℕ → Bool) → Bool) → LooksAt n won → (c : ℕ) → IsLeast n won (seen m ranks c) ↔ IsMin m (λ x. won (seen m ranks x)) c
-  least-min won looks c = (
-    λ least. record {
-      wins = least.wins;
-      needs = λ p lt inside.
-          (let below : p < n = (let few = is.few in omega (arith, lt, few)) in
-          let in' = seen-at c p lt ∙ inside in
-          let li = is.are.member_below p below in
-          ap (λ (q : ℕ). won (seen m ranks (without m q c))) (sym (is.are.place_back p below))
-          ∙ looks _ _ (λ j lj. seen-less c (member_at ranks p) j li lj in')
-          ∙ least.needs (member_at ranks p) li in');
-    },
-    λ min. record {
-      wins = min.wins;
-      needs = λ i lt inside.
-          (let parts = and_parts (ltb (get_or ranks i 0) m) (has m (get_or ranks i 0) c) inside in
-          sym (looks _ _ (λ j lj. seen-less c i j lt lj inside)) ∙ min.needs (get_or ranks i 0) (ltb-true _ _ parts.0) parts.1);
-    },
-  )
+  least-min won looks c =
+      let fewer = λ (i : ℕ) (li : i < n) (inside : seen m ranks c i ≡ true).
+      looks (seen m ranks (without m (get_or ranks i 0) c)) (less (seen m ranks c) i) (λ j lj. seen-less c i j li lj inside) in (
+        λ least. record {
+          wins = least.wins;
+          needs = λ p lt inside.
+              (let at = seen-at c p lt in
+              grind (arith, at, is.few, is.are.member_below p, is.are.place_back p, fewer (member_at ranks p), least.needs (member_at ranks p)));
+        },
+        λ min. record {
+          wins = min.wins;
+          needs = λ i lt inside. grind (arith, nat_tests, fewer i lt inside, min.needs (get_or ranks i 0));
+        },
+      )
 
 -- the same set of two rankings has one size
 pub alike-size : {n a b : ℕ} {ra rb : List ℕ} → IsSeating n a ra → IsSeating n b rb → (c x : ℕ)

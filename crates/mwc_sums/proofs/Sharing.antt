@@ -1,12 +1,13 @@
 -- The rules that share a member with one, and the others.
 use Rattle.mwc_sums.proofs.Imports.{◌≡◌, ◌≢◌, ◌∙◌, ◌&&◌, ◌||◌, not, ◌⊎◌, ℕ, zero, suc, ◌+◌, ◌<◌, ◌≤◌, Bool, true, false, ltb, List, [], ◌∷◌}
 use Rattle.mwc_sums.proofs.Imports.{HasNoWeight, AreChambersOf, are_of_one_chamber, is_counted, statute, IsFair, AreRulesOf, length, get_or}
-use Rattle.mwc_sums.proofs.Imports.{true_from_ne_false, and-true, length-filter_both, AllPass-from_list_all, list_all-from_AllPass}
-use Rattle.mwc_sums.proofs.Imports.{All-filter, All-from_get_or, RuleView, rule_at, GameView, nat_tests, met, share, chamber_of}
-use Rattle.mwc_sums.proofs.Imports.{filter, take, sym, ap, refl, arith, inl, inr, All, ltb-true, both_ways}
-use Rattle.std.proofs.lemmas.List.{nil_from_length, Elements.All-take}
-use Rattle.mwc_sums.specs.{Inner.Rules.AreOfChambers, Inner.Rules.beside_of, Inner.Rules.part_of, Statute.counted, Statute.left}
-use Rattle.mwc_sums.proofs.{Filters.filter-both, Filters.filter-within, VetoRules.good-met, VetoRules.good-some, Vetoing.alike-sum}
+use Rattle.mwc_sums.proofs.Imports.{All-from_get_or, RuleView, rule_at, GameView, nat_tests, met, share, chamber_of, filter, take, sym, ap}
+use Rattle.mwc_sums.proofs.Imports.{true_from_ne_false, length-filter_both, AllPass-from_list_all, list_all-from_AllPass, All-filter}
+use Rattle.mwc_sums.proofs.Imports.{refl, arith, inl, inr, All, ltb-true, both_ways}
+use Rattle.std.proofs.lemmas.List.Elements.{All-take}
+use Rattle.mwc_sums.specs.Inner.Rules.{AreOfChambers, beside_of, part_of, side}
+use Rattle.mwc_sums.specs.Statute.{counted, left}
+use Rattle.mwc_sums.proofs.{Counting.filter-both, Counting.filter-within, VetoRules.good-met, VetoRules.good-some, Vetoing.alike-sum}
 use Rattle.mwc_sums.proofs.Tests.{All-passing, any-at, any-of, missing}
 
 -- ---- who has weight in two rules
@@ -38,8 +39,15 @@ met-parted : (n : ℕ) (p : RuleView → Bool) (rs : List RuleView) (f : ℕ →
 met-parted n p [] f = refl
 met-parted n p (r ∷ rs) f = grind (arith, nat_tests, met-parted n p rs f)
 
-pub both-few : (q : RuleView → Bool) (rs : List RuleView) → length (filter q rs) + length (filter (λ x. not (q x)) rs) ≡ length rs
-both-few q rs = length-filter_both q (λ x. not (q x)) (λ x. refl) rs
+pub sides-few : (q : RuleView → Bool) (rs : List RuleView) → length (side true q rs) + length (side false q rs) ≡ length rs
+unfolding side
+sides-few q rs = length-filter_both q (λ x. not (q x)) (λ x. refl) rs
+
+-- where no others are, all pass
+pub all-pass : (q : RuleView → Bool) (rs : List RuleView) → length (side false q rs) ≡ 0 → side true q rs ≡ rs
+unfolding side
+all-pass q [] none = refl
+all-pass q (r ∷ rs) none = grind (arith, nat_tests, all-pass q rs)
 
 -- at two places a test passes
 two-pass : {X : Type 0} (p : X → Bool) (xs : List X) (j k : ℕ) (d : X) → j ≢ k → j < length xs → k < length xs → p (get_or xs j d) ≡ true
@@ -76,12 +84,13 @@ module _ (n : ℕ) (rs : List RuleView) (fair : All (IsFair n) rs) where
   self k lt = share-self n (rule k) (fair k none lt)
 
   pub chamber-some : (k : ℕ) → k < length rs → 0 < length (beside_of true n rs k)
-  unfolding beside_of
+  unfolding side
   chamber-some k lt = in-filter (share n (rule k)) rs k none lt (self k lt)
 
   -- a chamber has no third rule: what shares a member with one of two shares one with the other
   no-third : (j k m : ℕ) → j < length rs → k < length rs → m < length rs → share n (rule j) (rule k) ≡ true
       → are_of_one_chamber n (chamber_of n rs (rule k)) ≡ true → share n (rule k) (rule m) ≡ true → share n (rule j) (rule m) ≡ true
+  unfolding side
   no-third j k m lj lk lm they of third = true_from_ne_false (share n (rule j) (rule m)) (λ not-so.
       (let both : RuleView → Bool = λ x. share n (rule k) x && share n (rule j) x in
       let turned = share-turned n (rule j) (rule k) they in
@@ -90,7 +99,7 @@ module _ (n : ℕ) (rs : List RuleView) (fair : All (IsFair n) rs) where
       let apart : j ≢ k = λ e. both_ways _ not-so (ap (λ (i : ℕ). share n (rule i) (rule m)) e ∙ third) in
       let two = two-pass both rs j k none apart lj lk (grind (arith, nat_tests)) (grind (arith, nat_tests)) in
       let lost = in-filter (λ x. share n (rule k) x && not (share n (rule j) x)) rs m none lm (grind (arith, nat_tests)) in
-      let parts = simp filter-both at (both-few (share n (rule j)) (filter (share n (rule k)) rs)) in
+      let parts = simp filter-both at (sides-few (share n (rule j)) (filter (share n (rule k)) rs)) in
       omega (arith, parts, two, one-few n (chamber_of n rs (rule k)) of, lost)))
 
   -- ---- what sums count
@@ -103,7 +112,7 @@ module _ (n : ℕ) (rs : List RuleView) (fair : All (IsFair n) rs) where
   own-chamber j lt is = counted-at (rule j) is j lt (self j lt)
 
   pub all-counted : length (part_of false n rs) ≡ 0 → AreOfChambers n rs
-  unfolding part_of
+  unfolding side
   all-counted left = All-from_get_or (λ r. are_of_one_chamber n (chamber_of n rs r) ≡ true) rs none (λ j lt.
       own-chamber j lt (let some = in-filter (λ x. not (is_counted n rs x)) rs j none lt in grind (arith, nat_tests, left)))
 
@@ -117,15 +126,13 @@ module _ (n : ℕ) (rs : List RuleView) (fair : All (IsFair n) rs) where
   chamber-closed all i li j m lj lm is they = no-third i j m li lj lm is (all j none lj) they
 
   pub others-closed : (q : RuleView → Bool) → IsClosed n rs q → IsClosed n rs (λ x. not (q x))
-  others-closed q closed j m lj lm out they =
-      let back = closed m j lm lj in
-      let turned = share-turned n (rule j) (rule m) they in
-      grind (arith, nat_tests)
+  others-closed q closed j m lj lm out they = grind (arith, nat_tests, closed m j lm lj, share-turned n (rule j) (rule m))
 
   module _ (q : RuleView → Bool) (closed : IsClosed n rs q) where
     -- the rules that pass have the same chambers among themselves
     pub chambers-within : ((j : ℕ) → j < length rs → q (rule_at rs j) ≡ true → are_of_one_chamber n (chamber_of n rs (rule_at rs j)) ≡ true)
-        → AreOfChambers n (filter q rs)
+        → AreOfChambers n (side true q rs)
+    unfolding side
     chambers-within each = all-passing (λ r. are_of_one_chamber n (chamber_of n (filter q rs) r) ≡ true) q rs (λ j lj is.
         ap (are_of_one_chamber n) (filter-within q (share n (rule j)) rs
         (All-from_get_or (λ y. share n (rule j) y ≡ true → q y ≡ true) rs none (λ k lk they. closed j k lj lk is they)))
@@ -135,15 +142,13 @@ module _ (n : ℕ) (rs : List RuleView) (fair : All (IsFair n) rs) where
     parts-apart : (i : ℕ) → i < n → HasNoWeight (filter q rs) i ⊎ HasNoWeight (filter (λ x. not (q x)) rs) i
     parts-apart i lt = elim (missing (λ k. q (rule k) && ltb 0 (get_or (rule k).weights i 0)) (λ k. false) (length rs)) [
       | inl found ↦ inr (all-passing (λ x. get_or x.weights i 0 ≡ 0) (λ x. not (q x)) rs (λ m lm other.
-          let own = found.2 in
-          let seen = closed found.0 m found.1 lm in
-          let they = share-at n i (rule found.0) (rule m) lt in
-          grind (arith, nat_tests)))
+          let own = found.2 in grind (arith, nat_tests, closed found.0 m found.1 lm, share-at n i (rule found.0) (rule m) lt)))
       | inr idle ↦ inl (all-passing (λ x. get_or x.weights i 0 ≡ 0) q rs (λ m lm is. let own = idle m lm in grind (arith, nat_tests)))
     ]
 
-    pub parts-are : (g a b : GameView) → AreRulesOf g n rs → a.names ≡ g.names → b.names ≡ g.names → a.rules ≡ filter q rs
-        → b.rules ≡ filter (λ x. not (q x)) rs → AreChambersOf g a b
+    pub parts-are : (g a b : GameView) → AreRulesOf g n rs → a.names ≡ g.names → b.names ≡ g.names → a.rules ≡ side true q rs
+        → b.rules ≡ side false q rs → AreChambersOf g a b
+    unfolding side
     parts-are g a b are names_a names_b own others = record {
       first = ap (λ (l : List (List ℕ)). length l) names_a;
       second = ap (λ (l : List (List ℕ)). length l) names_b;
@@ -153,64 +158,31 @@ module _ (n : ℕ) (rs : List RuleView) (fair : All (IsFair n) rs) where
     }
 
 -- ---- the rules that share a member with one, and the others
-pub beside-few : (n : ℕ) (rs : List RuleView) (k : ℕ) → length (beside_of true n rs k) + length (beside_of false n rs k) ≡ length rs
-unfolding beside_of
-beside-few n rs k = both-few (share n (rule_at rs k)) rs
-
 pub beside-chamber : (n : ℕ) (rs : List RuleView) (k : ℕ) → AreOfChambers n rs → k < length rs → are_of_one_chamber n (beside_of true n rs k) ≡ true
-unfolding beside_of
+unfolding side
 beside-chamber n rs k all lt = all k (record { quota = 0; weights = [] }) lt
 
 pub others-chambers : (n : ℕ) (rs : List RuleView) (k : ℕ) → All (IsFair n) rs → AreOfChambers n rs → k < length rs
     → AreOfChambers n (beside_of false n rs k)
-unfolding beside_of
+unfolding side
 others-chambers n rs k fair all lt = chambers-within n rs fair (λ x. not (share n (rule_at rs k) x))
     (others-closed n rs fair (share n (rule_at rs k)) (chamber-closed n rs fair all k lt)) (λ j lj _. all j (record { quota = 0; weights = [] }) lj)
 
-pub beside-parts : (n : ℕ) (rs : List RuleView) (k : ℕ) → All (IsFair n) rs → AreOfChambers n rs → k < length rs
-    → (g a b : GameView) → AreRulesOf g n rs → a.names ≡ g.names → b.names ≡ g.names
-    → a.rules ≡ beside_of true n rs k → b.rules ≡ beside_of false n rs k → AreChambersOf g a b
-unfolding beside_of
-beside-parts n rs k fair all lt = parts-are n rs fair (share n (rule_at rs k)) (chamber-closed n rs fair all k lt)
-
--- those that share a member with it are all
-pub beside-all : (n : ℕ) (rs : List RuleView) (k : ℕ) (g a : GameView) → AreRulesOf g n rs → a.names ≡ g.names → a.rules ≡ beside_of true n rs k
-    → length (beside_of false n rs k) ≡ 0 → AreRulesOf g (length a.names) a.rules
-unfolding beside_of
-beside-all n rs k g a are names own none =
-    let q : RuleView → Bool = share n (rule_at rs k) in
-    record {
-      members = ap (λ (l : List (List ℕ)). length l) names;
-      alike = λ f. are.alike f ∙ met-parted (length g.names) q rs f
-          ∙ (λ i. met (length g.names) (sym own i) f && met (length g.names) (nil_from_length (filter (λ x. not (q x)) rs) none i) f)
-          ∙ and-true (met (length g.names) a.rules f);
-    }
-
-pub ruleset chambers = (beside-few, beside-chamber, others-chambers, chamber-some)
+pub ruleset chambers = (sides-few, beside-chamber, others-chambers, chamber-some)
 
 pub kept-fair : (n k : ℕ) (p : RuleView → Bool) (rs : List RuleView) → All (IsFair n) rs → All (IsFair n) (filter p (take k rs))
 kept-fair n k p rs fair = All-filter p (IsFair n) (take k rs) (All-take (IsFair n) k rs fair)
 
 -- ---- the rules that sums count, and those that they leave
 pub counted-is : (g : GameView) → counted g ≡ part_of true (length g.names) (statute g)
-unfolding part_of
+unfolding side
 counted-is g = refl
 
 pub left-is : (g : GameView) → left g ≡ part_of false (length g.names) (statute g)
-unfolding part_of
+unfolding side
 left-is g = refl
 
-pub part-few : (n : ℕ) (rs : List RuleView) → length (part_of true n rs) + length (part_of false n rs) ≡ length rs
-unfolding part_of
-part-few n rs = both-few (is_counted n rs) rs
-
 pub counted-chambers : (n : ℕ) (rs : List RuleView) → All (IsFair n) rs → AreOfChambers n (part_of true n rs)
-unfolding part_of
 counted-chambers n rs fair = chambers-within n rs fair (is_counted n rs) (counted-closed n rs fair) (own-chamber n rs fair)
 
-pub counted-parts : (n : ℕ) (rs : List RuleView) → All (IsFair n) rs → (g a b : GameView) → AreRulesOf g n rs → a.names ≡ g.names → b.names ≡ g.names
-    → a.rules ≡ part_of true n rs → b.rules ≡ part_of false n rs → AreChambersOf g a b
-unfolding part_of
-counted-parts n rs fair = parts-are n rs fair (is_counted n rs) (counted-closed n rs fair)
-
-pub ruleset parted = (counted-is, left-is, part-few, counted-chambers, all-counted)
+pub ruleset parted = (counted-is, left-is, sides-few, counted-chambers, all-counted)

@@ -1,12 +1,13 @@
 -- The rules that a game consists of are rules that a game can have.
-use Rattle.mwc_sums.proofs.Imports.{take, refl, arith, All, ◌∙◌, ◌*◌, cond, leb, sum, range_with_len, sum_by, cases_lt, ltb-true, both_ways}
+use Rattle.std.proofs.lemmas.List.{nil_from_length}
+use Rattle.mwc_sums.proofs.Imports.{take, refl, arith, All, ◌∙◌, ◌*◌, cond, leb, sum, range_with_len, sum_by, cases_lt, ltb-true}
+use Rattle.mwc_sums.proofs.Imports.{length-map, length-map-range_with_len, filter-append, length-filter_both, RuleView, rest_of, rule_for}
 use Rattle.mwc_sums.proofs.Imports.{◌≡◌, ℕ, ◌+◌, ◌<◌, ◌≤◌, Bool, true, false, ltb, not, List, [], ◌∷◌, ◌++◌, length, get_or, map, filter}
-use Rattle.mwc_sums.proofs.Imports.{rule_at, has_bad_quota, GameView, IsGame, nat_tests, common_steps, rules_beside, statute, number_of}
-use Rattle.mwc_sums.proofs.Imports.{get_or_past, length-map, length-map-range_with_len, filter-append, length-filter_both, RuleView}
-use Rattle.mwc_sums.proofs.Imports.{rest_of, rule_for, can_veto, IsFair, list_all_at, sum-range, sum-zero, met, weighs, AreRulesOf}
-use Rattle.std.proofs.lemmas.List.{take_more, map-append, Elements.All-cons, Elements.All-map}
+use Rattle.mwc_sums.proofs.Imports.{rule_at, has_bad_quota, GameView, IsGame, nat_tests, rules_beside, statute, number_of, get_or_past}
+use Rattle.mwc_sums.proofs.Imports.{can_veto, IsFair, list_all_at, sum-range, sum-zero, met, weighs, AreRulesOf, sum-map}
+use Rattle.std.proofs.lemmas.{Grind.common_steps, List.take_more, List.map-append, List.Elements.All-cons, List.Elements.All-map}
 use Rattle.mwc_sums.proofs.{Remaking.fair-all, Remaking.fair-of, Tests.All-passing}
-use Rattle.mwc_sums.proofs.Vetoing.{both-sums, row-sum, made-sum, made-at, vetoers-both}
+use Rattle.mwc_sums.proofs.Vetoing.{sum-parts, row-sum, made-at, vetoers-both}
 
 good : (r : RuleView) → 0 < r.quota → r.quota ≤ sum r.weights → has_bad_quota r ≡ false
 good r some met = grind (arith, nat_tests)
@@ -23,13 +24,13 @@ light-made : (h : ℕ → ℕ) (n k : ℕ) → ((i : ℕ) → i < n → h i ≤ 
 light-made h n k light = grind (arith, cases_lt, made-at, get_or_past, length-map-range_with_len)
 
 fair-vetoers : (n : ℕ) (veto : ℕ → Bool) → 0 < number_of n veto → IsFair n (rule_for n veto)
-fair-vetoers n veto some = grind (arith, length-map-range_with_len, good, made-sum, light-made, nat_tests)
+fair-vetoers n veto some = grind (arith, length-map-range_with_len, good, sum-map, light-made, nat_tests)
 
 fair-rest : (n : ℕ) (veto : ℕ → Bool) (r : RuleView) → IsFair n r → 0 < (rest_of n veto r).quota → IsFair n (rest_of n veto r)
 fair-rest n veto r fair some =
     let all = row-sum r.weights n fair.full in
-    let parts = both-sums veto (λ i. get_or r.weights i 0) n in
-    grind (arith, nat_tests, length-map-range_with_len, good, good-met, made-sum, light-made, fair.light)
+    let parts = sum-parts (λ i. get_or r.weights i 0) (λ i. cond (veto i) (get_or r.weights i 0) 0) (λ i. cond (veto i) 0 (get_or r.weights i 0)) n
+    (λ i lt. grind (arith, nat_tests)) in grind (arith, nat_tests, length-map-range_with_len, good, good-met, sum-map, light-made)
 
 -- each rule that is left is fair, since it asks for something
 pub fair-beside : (n : ℕ) (veto : ℕ → Bool) (rs : List RuleView) → All (IsFair n) rs → All (IsFair n) (rules_beside n veto rs)
@@ -76,10 +77,6 @@ module _ (g : GameView) (is : IsGame g) where
       grind (arith, nat_tests, nobody (λ i. get_or (rule_at g.rules 0).weights i 0) (length g.names)))
 
   pub statute-some : 0 < length (statute g)
-  statute-some = by_rules (statute g) (statute-are.alike (λ i. false))
-    where
-      by_rules : (rs : List RuleView) → met (length g.names) g.rules (λ i. false) ≡ met (length g.names) rs (λ i. false) → 0 < length rs
-      by_rules [] same = absurd (both_ways _ lost same)
-      by_rules (r ∷ rs) same = omega arith
+  statute-some = grind (arith, nat_tests, lost, statute-are.alike (λ i. false), cases_lt 0 (length (statute g)), nil_from_length (statute g))
 
 pub ruleset statutes = (statute-are, statute-fair, statute-few, statute-some)

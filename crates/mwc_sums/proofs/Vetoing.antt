@@ -1,26 +1,29 @@
 -- Where all members that can veto agree, the rules ask the others for what is left.
-use Rattle.mwc_sums.proofs.Imports.{◌≡◌, ◌∙◌, ℕ, suc, ◌+◌, ◌-◌, ◌*◌, ◌<◌, ◌≤◌, Bool, true, false, cond, leb, ltb, List, [], ◌∷◌, length}
-use Rattle.mwc_sums.proofs.Imports.{le-leb, length-range_with_len, places-at, All-head, All-tail, sum_by-range-more, RuleView, sum-plus}
-use Rattle.mwc_sums.proofs.Imports.{get_or, map, filter, sym, ap, refl, arith, inl, inr, All, sum, sum_by, range_with_len, sum_by-cons}
-use Rattle.mwc_sums.proofs.Imports.{sum-range, nat_tests, weighs, met, rules_beside, can_veto, number_of, rest_of, rule_for}
-use Rattle.std.proofs.lemmas.List.{Folds.fold-map, FromFn.fill_by_all, FromFn.get_or-map-range_with_len, Sums.get_or-le-sum_by}
+use Rattle.mwc_sums.proofs.Imports.{length-range_with_len, places-at, All-head, All-tail, sum_by-range-more, RuleView, sum-plus, get_or}
+use Rattle.mwc_sums.proofs.Imports.{nat_tests, weighs, met, rules_beside, can_veto, number_of, rest_of, rule_for, sum-map, ◌^◌}
+use Rattle.mwc_sums.proofs.Imports.{map, filter, ap, refl, arith, inl, inr, All, sum, sum_by, range_with_len, sum_by-cons, sum-range}
+use Rattle.mwc_sums.proofs.Imports.{◌≡◌, ◌∙◌, ℕ, suc, ◌+◌, ◌-◌, ◌*◌, ◌<◌, Bool, true, false, cond, leb, ltb, List, [], ◌∷◌, length}
+use Rattle.mwc_sums.proofs.Imports.{sum-filter, has, weight, wins, Votes, IsVotes, rule_at, rule-is, true_from_ne_false, both_ways}
+use Rattle.mwc_sums.proofs.Imports.{list_all_at, length-map-range_with_len}
+use Rattle.std.proofs.lemmas.List.{FromFn.fill_by_all, FromFn.get_or-map-range_with_len, Sums.get_or-le-sum_by}
 use Rattle.std.proofs.Common.{fold}
+use Rattle.mwc_sums.specs.Vetoers.{IsVetoer}
 use Rattle.mwc_sums.proofs.Tests.{missing}
 
 -- a row of weights adds up over its places
 pub row-sum : (ws : List ℕ) (n : ℕ) → length ws ≡ n → sum ws ≡ sum_by (λ i. get_or ws i 0) (range_with_len 0 n)
-row-sum ws n long =
-    ap (sum_by (λ (y : ℕ). y)) (fill_by_all (λ i. get_or ws i 0) ws n 0 long (λ k lt. refl))
-    ∙ fold-map (λ (a : ℕ) (p : ℕ). a + p) (λ i. get_or ws i 0) 0 (range_with_len 0 n)
+row-sum ws n long = ap sum (fill_by_all (λ i. get_or ws i 0) ws n 0 long (λ k lt. refl)) ∙ sum-map (λ i. get_or ws i 0) (range_with_len 0 n)
+
+-- what a coalition weighs
+pub weight-sum : (ws : List ℕ) (n c : ℕ) → length ws ≡ n → weight ws c ≡ sum_by (λ p. cond (has n p c) 1 0 * get_or ws p 0) (range_with_len 0 n)
+unfolding weight
+weight-sum ws n c long = grind (arith, nat_tests, sum-filter)
 
 -- where all weigh the same
 pub alike-sum : (ws : List ℕ) (e : ℕ) → ((p : ℕ) → p < length ws → get_or ws p 0 ≡ e) → sum ws ≡ length ws * e
 alike-sum [] e same = omega arith
 alike-sum (w ∷ ws) e same =
     grind (arith, sum_by-cons (λ (y : ℕ). y) w ws, alike-sum ws e (λ p lt. same (suc p) (omega arith)), same 0 (omega arith))
-
-pub made-sum : (h : ℕ → ℕ) (n : ℕ) → sum (map h (range_with_len 0 n)) ≡ sum_by h (range_with_len 0 n)
-made-sum h n = fold-map (λ (a : ℕ) (p : ℕ). a + p) h 0 (range_with_len 0 n)
 
 pub made-at : (h : ℕ → ℕ) (n i : ℕ) → i < n → get_or (map h (range_with_len 0 n)) i 0 ≡ h i
 made-at h n i lt = get_or-map-range_with_len h 0 n i i 0 lt (omega arith)
@@ -34,66 +37,38 @@ less-all f q (x ∷ xs) = grind (arith, sum_by-cons f x xs, less-all f (q - f x)
 pub one-more : (f : ℕ → ℕ) (n : ℕ) → sum_by f (range_with_len 0 (suc n)) ≡ sum_by f (range_with_len 0 n) + f n
 one-more f n = let e : suc n ≡ n + 1 = omega arith in ap (λ (k : ℕ). sum_by f (range_with_len 0 k)) e ∙ sum_by-range-more f n
 
--- those who pass and the others weigh together what all do
-pub both-sums : (f : ℕ → Bool) (w : ℕ → ℕ) (n : ℕ)
-    → sum_by (λ i. cond (f i) (w i) 0) (range_with_len 0 n) + sum_by (λ i. cond (f i) 0 (w i)) (range_with_len 0 n) ≡ sum_by w (range_with_len 0 n)
-both-sums f w n =
-    sym (sum-plus (λ i. cond (f i) (w i) 0) (λ i. cond (f i) 0 (w i)) (range_with_len 0 n))
-    ∙ (λ k. sum_by (λ i. either (f i) (w i) k) (range_with_len 0 n))
-  where
-    either : (b : Bool) (x : ℕ) → cond b x 0 + cond b 0 x ≡ x
-    either b x = grind (arith, nat_tests)
+-- a sum that is two together, number by number
+pub sum-parts : (f g h : ℕ → ℕ) (n : ℕ) → ((i : ℕ) → i < n → f i ≡ g i + h i)
+    → sum_by f (range_with_len 0 n) ≡ sum_by g (range_with_len 0 n) + sum_by h (range_with_len 0 n)
+sum-parts f g h n each = sum-range f (λ i. g i + h i) 0 n (λ i _ lt. each i (omega (arith, lt))) ∙ sum-plus g h (range_with_len 0 n)
 
-pub beside : (f : ℕ → Bool) (w : ℕ → ℕ) (n i : ℕ) → i < n → f i ≡ false
-    → sum_by (λ j. cond (f j) 1 0 * w j) (range_with_len 0 n) + w i ≤ sum_by w (range_with_len 0 n)
-beside f w n i lt out =
-    let other : ℕ → ℕ = λ j. cond (f j) 0 (w j) in
+-- a rule that the others miss without a member is not met without it
+pub missed : (r : RuleView) (f : ℕ → Bool) (n i : ℕ) → length r.weights ≡ n → i < n → f i ≡ false → sum r.weights < r.quota + get_or r.weights i 0
+    → leb r.quota (weighs n r f) ≡ false
+missed r f n i full lt out less =
+    let other : ℕ → ℕ = λ j. cond (f j) 0 (get_or r.weights j 0) in
+    let parts = sum-parts (λ j. get_or r.weights j 0) (λ j. cond (f j) 1 0 * get_or r.weights j 0) other n (λ j lj. grind (arith, nat_tests)) in
     let some = get_or-le-sum_by other (range_with_len 0 n) i 0 (let long = length-range_with_len 0 n in omega (arith, lt, long)) in
-    let here : other (get_or (range_with_len 0 n) i 0) ≡ w i = ap other (places-at n i 0 lt) ∙ ap (λ (b : Bool). cond b 0 (w i)) out in
-    let same : sum_by (λ j. cond (f j) 1 0 * w j) (range_with_len 0 n) ≡ sum_by (λ j. cond (f j) (w j) 0) (range_with_len 0 n) =
-    λ k. sum_by (λ j. once (f j) (w j) k) (range_with_len 0 n) in
-    omega (arith, both-sums f w n, some, here, same)
-  where
-    once : (b : Bool) (x : ℕ) → cond b 1 0 * x ≡ cond b x 0
-    once b x = grind (arith, nat_tests)
+    grind (arith, nat_tests, parts, some, places-at n i 0 lt, row-sum r.weights n full)
 
 module _ (n : ℕ) (veto f : ℕ → Bool) where
   -- ---- the rule that asks for each
-  rule-weighs : weighs n (rule_for n veto) f ≡ sum_by (λ i. cond (f i) 1 0 * cond (veto i) 1 0) (range_with_len 0 n)
-  rule-weighs =
-      sum-range (λ i. cond (f i) 1 0 * get_or (rule_for n veto).weights i 0) (λ i. cond (f i) 1 0 * cond (veto i) 1 0) 0 n
-      (λ i _ lt. ap (λ (w : ℕ). cond (f i) 1 0 * w) (made-at (λ j. cond (veto j) 1 0) n i (omega (arith, lt))))
-
   rule-lost : (i : ℕ) → i < n → veto i ≡ true → f i ≡ false → leb (number_of n veto) (weighs n (rule_for n veto) f) ≡ false
   rule-lost i lt vetoes out =
-      let less = beside f (λ j. cond (veto j) 1 0) n i lt out in
-      let own = rule-weighs in
-      grind (arith, nat_tests)
+      let total = sum-map (λ j. cond (veto j) 1 0) (range_with_len 0 n) in
+      missed (rule_for n veto) f n i (length-map-range_with_len (λ j. cond (veto j) 1 0) 0 n) lt out
+      (grind (arith, nat_tests, total, made-at (λ j. cond (veto j) 1 0) n i lt))
 
   rule-met : ((i : ℕ) → i < n → veto i ≡ true → f i ≡ true) → leb (number_of n veto) (weighs n (rule_for n veto) f) ≡ true
   rule-met all =
-      let same : weighs n (rule_for n veto) f ≡ number_of n veto =
-      rule-weighs ∙ sum-range (λ i. cond (f i) 1 0 * cond (veto i) 1 0) (λ i. cond (veto i) 1 0) 0 n
-      (λ i _ lt. both (f i) (veto i) (all i (omega (arith, lt)))) in
-      le-leb (number_of n veto) (weighs n (rule_for n veto) f) (omega (arith, same))
-    where
-      both : (b d : Bool) → (d ≡ true → b ≡ true) → cond b 1 0 * cond d 1 0 ≡ cond d 1 0
-      both b d h = grind (arith, nat_tests)
+      let same = sum-range (λ i. cond (f i) 1 0 * get_or (rule_for n veto).weights i 0) (λ i. cond (veto i) 1 0) 0 n
+      (λ i _ lt. grind (arith, nat_tests, made-at (λ j. cond (veto j) 1 0) n i, all i)) in
+      grind (arith, nat_tests, same)
 
   -- ---- what is left of a rule
-  abbrev agreed : RuleView → ℕ
-  agreed r = sum_by (λ i. cond (veto i) (get_or r.weights i 0) 0) (range_with_len 0 n)
-
-  rest-weighs : ((i : ℕ) → i < n → veto i ≡ true → f i ≡ true) → (r : RuleView) → weighs n r f ≡ agreed r + weighs n (rest_of n veto r) f
-  rest-weighs all r =
-      sum-range (λ i. cond (f i) 1 0 * get_or r.weights i 0)
-      (λ i. cond (veto i) (get_or r.weights i 0) 0 + cond (f i) 1 0 * get_or (rest_of n veto r).weights i 0) 0 n
-      (λ i _ lt. split (f i) (veto i) (get_or r.weights i 0) (get_or (rest_of n veto r).weights i 0) (all i (omega (arith, lt)))
-      (made-at (λ j. cond (veto j) 0 (get_or r.weights j 0)) n i (omega (arith, lt))))
-      ∙ sum-plus (λ i. cond (veto i) (get_or r.weights i 0) 0) (λ i. cond (f i) 1 0 * get_or (rest_of n veto r).weights i 0) (range_with_len 0 n)
-    where
-      split : (b d : Bool) (w v : ℕ) → (d ≡ true → b ≡ true) → v ≡ cond d 0 w → cond b 1 0 * w ≡ cond d w 0 + cond b 1 0 * v
-      split b d w v h is = grind (arith, nat_tests)
+  rest-weighs : ((i : ℕ) → i < n → veto i ≡ true → f i ≡ true) → (r : RuleView)
+      → weighs n r f ≡ sum_by (λ i. cond (veto i) (get_or r.weights i 0) 0) (range_with_len 0 n) + weighs n (rest_of n veto r) f
+  rest-weighs all r = sum-parts _ _ _ n (λ i lt. grind (arith, nat_tests, all i lt, made-at (λ j. cond (veto j) 0 (get_or r.weights j 0)) n i lt))
 
   rests-met : ((i : ℕ) → i < n → veto i ≡ true → f i ≡ true) → (rs : List RuleView) → met n rs f ≡ met n (map (rest_of n veto) rs) f
   rests-met all [] = refl
@@ -104,11 +79,8 @@ vetoed-lost : (n : ℕ) (rs : List RuleView) (f : ℕ → Bool) (i : ℕ) → Al
     → f i ≡ false → met n rs f ≡ false
 vetoed-lost n [] f i full lt vetoes out = absurd (cc)
 vetoed-lost n (r ∷ rs) f i full lt vetoes out =
-    let less = beside f (λ j. get_or r.weights j 0) n i lt out in
-    let all = row-sum r.weights n (All-head (λ (x : RuleView). length x.weights ≡ n) r rs full) in
-    let rest : can_veto rs i ≡ true → met n rs f ≡ false = λ later.
-    vetoed-lost n rs f i (All-tail (λ (x : RuleView). length x.weights ≡ n) r rs full) lt later out in
-    grind (arith, nat_tests)
+    let own = missed r f n i (All-head (λ (x : RuleView). length x.weights ≡ n) r rs full) lt out in
+    let rest = vetoed-lost n rs f i (All-tail (λ (x : RuleView). length x.weights ≡ n) r rs full) lt in grind (arith, nat_tests)
 
 -- rules that ask for nothing are met
 asking-met : (n : ℕ) (rs : List RuleView) (f : ℕ → Bool) → met n rs f ≡ met n (filter (λ r. ltb 0 r.quota) rs) f
@@ -124,3 +96,15 @@ vetoers-both n rs f full =
       | inr all ↦ grind (arith, nat_tests, rests-met n (can_veto rs) f all rs, rule-met n (can_veto rs) f all)
     ])
     ∙ asking-met n (rule_for n (can_veto rs) ∷ map (rest_of n (can_veto rs)) rs) f
+
+-- a member without whom some rule can not be met is in each winning coalition
+pub vetoer-in : (v : Votes) (p c : ℕ) → IsVotes v → p < v.members → IsVetoer v p → c < 2 ^ v.members → wins v.rules c ≡ true
+    → has v.members p c ≡ true
+unfolding wins
+vetoer-in v p c votes inside (r, lr, less) below won = true_from_ne_false (has v.members p c) (λ out.
+    (let full = (rule-is v r votes lr).full in
+    both_ways _ (list_all_at (λ (x : RuleView). leb x.quota (weight x.weights c)) v.rules r (record { quota = 0; weights = [] }) lr
+    (ap (leb (rule_at v.rules r).quota) (weight-sum (rule_at v.rules r).weights v.members c full)
+    ∙ missed (rule_at v.rules r) (λ q. has v.members q c) v.members p full inside out less)) won))
+
+pub ruleset laws = (vetoer-in)

@@ -1,5 +1,5 @@
 -- What only proofs, private functions and invariants need: no public contract mentions it.
 pub mod Fair
-pub mod NoTally
+pub mod Pairs
 pub mod Rules
 pub mod Seats

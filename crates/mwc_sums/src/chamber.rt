@@ -8,7 +8,7 @@ ghost use Rattle.std.specs.Prelude.{◌≡◌, ◌<◌, ◌==◌, ◌&&◌, ◌|
 use crate::statute::Statute;
 
 impl Statute {
-    /// Whether a rule gives each member so much, but nothing to some who have no weight in another rule either.
+    /// Whether a rule gives each member the weight `each`, but nothing to some who have no weight in another rule either.
     fn gives_all(&self, each: u64, heads: usize, weights: usize) -> bool
         requires heads { heads < length self.now.rules }
         requires weights { weights < length self.now.rules }
@@ -22,7 +22,7 @@ impl Statute {
         })
     }
 
-    /// Whether a rule gives each member so much above 0, but nothing to some who have no weight in another rule either.
+    /// Whether a rule gives each member the weight `each` above 0, but nothing to some who have no weight in another rule either.
     fn gives_each(&self, each: u64, heads: usize, weights: usize) -> bool
         requires heads { heads < length self.now.rules }
         requires weights { weights < length self.now.rules }

@@ -17,7 +17,7 @@ use std::alloc::Global;
 
 impl Statute {
     /// Whether the rules that share a member with one are each of one chamber.
-    #[tactic(auto, unfolding(crate::specs::Inner::Rules::beside_of))]
+    #[tactic(auto, unfolding(crate::specs::Inner::Rules::side))]
     pub(crate) fn is_counted(&self, alloc: Global, rule: usize) -> Result<bool, Memory>
         requires { rule < length self.now.rules }
         ensures { IfOk result (λ is. is
@@ -32,7 +32,7 @@ impl Statute {
     }
 
     /// The game of the rules of the first rule's chamber, counted.
-    #[tactic(auto, using(crate::proofs::Sharing::chambers))]
+    #[tactic(auto, using(crate::proofs::Sharing::chambers, std::proofs::lemmas::Bool::Decides::nat_tests))]
     fn first_chamber(&self, alloc: Global, game: &Game) -> Result<Counted, Memory>
         requires some { 0 < length self.now.rules }
         requires chambers { AreOfChambers self.now.members self.now.rules }

@@ -2,10 +2,13 @@
 ghost use Rattle.coalitions.specs.declared.limits.TheConstants.{MEMBERS, SIZES};
 ghost use Rattle.council_game.specs.Game.{IsGame, votes_of};
 ghost use Rattle.council_game.specs.Votes.{has, minimal_coalitions};
-ghost use Rattle.mwc_sums.specs.Chambers.{AreChambersOf, minimal_of_member_size, minimal_of_size, paired};
-ghost use Rattle.mwc_sums.specs.Inner.NoTally.{IsOfNone};
+ghost use Rattle.mwc_sums.specs.Chambers.{AreChambersOf, minimal_of_size};
+ghost use Rattle.mwc_sums.specs.Inner.Pairs.{of_member_size, of_place_size, of_size};
+ghost use Rattle.power_index.specs.Counting.{size_of};
+ghost use Rattle.council_game.specs.Votes.{size};
+ghost use Rattle.std.specs.List.{filter};
 ghost use Rattle.power_index.specs.Tables.{AreCounts, IsTallyOf};
-ghost use Rattle.std.specs.Prelude.{◌≡◌, ℕ, ◌+◌, ◌<◌, ◌≤◌, ◌^◌, true, IfOk, length, slice_index};
+ghost use Rattle.std.specs.Prelude.{◌≡◌, ◌==◌, ◌&&◌, ℕ, Bool, List, ◌<◌, ◌≤◌, true, IfOk, length};
 
 use council_game::{Game, Memory, limits};
 use power_index::{Counts, Tally};
@@ -30,115 +33,95 @@ impl Counted {
         Counted { game, counts }
     }
 
-    /// How many coalitions have each size.
-    #[tactic(auto, using(crate::proofs::Joined::counts_by_size))]
-    fn sizes(&self) -> [u64; limits::SIZES]
-        ensures { (s : ℕ) → slice_index result s ≡ minimal_of_size self.now.game s }
+    /// How many coalitions have a size.
+    #[tactic(auto, using(crate::proofs::Joined::above), unfolding(crate::specs::Inner::Pairs::of_size))]
+    fn of_size(&self, size: usize) -> u64
+        ensures { result ≡ of_size self.now.game size }
     {
-        let mut sizes = no_tally().sizes;
-        for size in 0..self.counts.members() + 1 {
-            sizes[size] = self.counts.wide_of_size(size);
+        if size <= self.counts.members() {
+            self.counts.wide_of_size(size)
+        } else {
+            0
         }
-        sizes
     }
 
-    /// How many coalitions that contain a member have each size.
-    #[tactic(auto, using(crate::proofs::Joined::counts_by_size))]
-    fn sizes_of_member(&self, member: usize) -> [u64; limits::SIZES]
+    /// How many coalitions that contain a member have a size.
+    #[tactic(auto, using(crate::proofs::Joined::above), unfolding(crate::specs::Inner::Pairs::of_member_size))]
+    fn of_member_size(&self, member: usize, size: usize) -> u64
         requires { member < length self.now.game.names }
-        ensures { (s : ℕ) → slice_index result s ≡ minimal_of_member_size self.now.game member s }
+        ensures { result ≡ of_member_size self.now.game member size }
     {
-        let mut sizes = no_tally().sizes;
-        for size in 0..self.counts.members() + 1 {
-            sizes[size] = self.counts.wide_of_member_size(member, size);
+        if size <= self.counts.members() {
+            self.counts.wide_of_member_size(member, size)
+        } else {
+            0
         }
-        sizes
     }
 }
 
-/// The tally of no coalition.
-fn no_tally() -> Tally
-    ensures { IsOfNone result }
-{
-    Tally {
-        sizes: [0; limits::SIZES],
-    }
-}
-
-/// How many pairs have a size together.
-#[tactic(auto, using(crate::proofs::Joined::one_more))]
-fn pairs_of_size(first: &[u64; limits::SIZES], second: &[u64; limits::SIZES], size: usize) -> u64
+/// How many coalitions of a game of two chambers have a size: pairs of one of each.
+#[tactic(auto, using(crate::proofs::Joined::pairs))]
+fn pairs_of_size(game: &Game, first: &Counted, second: &Counted, size: usize) -> u64
     requires size { size ≤ MEMBERS }
-    requires room { paired (slice_index first.now) (slice_index second.now) size ≤ 2 ^ MEMBERS }
-    ensures { result ≡ paired (slice_index first.now) (slice_index second.now) size }
+    requires chambers { AreChambersOf game.now first.now.game second.now.game }
+    ensures { result ≡ minimal_of_size game.now size }
 {
+    game.was_checked();
     let mut pairs = 0;
     for own in 0..size + 1 {
-        pairs += first[own] * second[size - own];
+        pairs += first.of_size(own) * second.of_size(size - own);
     }
     pairs
 }
 
-/// How many pairs have each size together.
-fn pairs(first: &[u64; limits::SIZES], second: &[u64; limits::SIZES]) -> [u64; limits::SIZES]
-    requires { (s : ℕ) → s ≤ MEMBERS
-        → paired (slice_index first.now) (slice_index second.now) s ≤ 2 ^ MEMBERS }
-    ensures long { length result ≡ SIZES }
-    ensures sizes { (s : ℕ) → s ≤ MEMBERS →
-        slice_index result s ≡ paired (slice_index first.now) (slice_index second.now) s }
+/// How many of those contain a place: its member is in the one or in the other.
+#[tactic(auto, using(crate::proofs::Joined::member_pairs))]
+fn pairs_of_place(game: &Game, first: &Counted, second: &Counted, place: usize, size: usize) -> u64
+    requires place { place < length game.now.names }
+    requires size { size ≤ MEMBERS }
+    requires chambers { AreChambersOf game.now first.now.game second.now.game }
+    ensures { result ≡ of_place_size game.now place size }
 {
-    let mut pairs = [0; limits::SIZES];
-    for size in 0..limits::SIZES {
-        pairs[size] = pairs_of_size(first, second, size);
+    game.was_checked();
+    let member = game.member_at(place);
+    let mut pairs = 0;
+    for own in 0..size + 1 {
+        let rest = size - own;
+        pairs += first.of_member_size(member, own) * second.of_size(rest);
+        pairs += first.of_size(own) * second.of_member_size(member, rest);
     }
     pairs
 }
 
-/// The numbers of two lists, size by size.
-fn added(first: &[u64; limits::SIZES], second: &[u64; limits::SIZES]) -> [u64; limits::SIZES]
-    requires { (s : ℕ) → s ≤ MEMBERS → slice_index first.now s + slice_index second.now s < 2 ^ 64 }
-    ensures long { length result ≡ SIZES }
-    ensures sizes { (s : ℕ) → s ≤ MEMBERS → slice_index result s ≡ slice_index first.now s + slice_index second.now s }
-{
-    let mut sizes = [0; limits::SIZES];
-    for size in 0..limits::SIZES {
-        sizes[size] = first[size] + second[size];
-    }
-    sizes
-}
-
-/// The tally of the coalitions of a game of two chambers: each is one of each together.
+/// The tally of the coalitions of a game of two chambers.
 fn joined_all(game: &Game, first: &Counted, second: &Counted) -> Tally
     requires { AreChambersOf game.now first.now.game second.now.game }
     ensures { IsTallyOf (length game.now.names) (λ _. true) (minimal_coalitions (votes_of game.now)) result }
 {
-    game.was_checked();
-    Tally {
-        sizes: pairs(&first.sizes(), &second.sizes()),
+    let mut sizes = [0; limits::SIZES];
+    for size in 0..limits::SIZES {
+        sizes[size] = pairs_of_size(game, first, second, size);
     }
+    Tally { sizes }
 }
 
-/// The tally of those that contain a place: its member is in the one or in the other.
+/// The tally of those that contain a place.
+#[tactic(auto, unfolding(crate::specs::Inner::Pairs::of_place_size))]
 fn joined_each(game: &Game, first: &Counted, second: &Counted, place: usize) -> Tally
     requires place { place < length game.now.names }
     requires chambers { AreChambersOf game.now first.now.game second.now.game }
     ensures { IsTallyOf (length game.now.names) (has (length game.now.names) place)
         (minimal_coalitions (votes_of game.now)) result }
 {
-    game.was_checked();
-    let member = game.member_at(place);
-    let first_all = first.sizes();
-    let first_own = first.sizes_of_member(member);
-    let second_all = second.sizes();
-    let second_own = second.sizes_of_member(member);
-    let own = pairs(&first_own, &second_all);
-    let others = pairs(&first_all, &second_own);
-    Tally {
-        sizes: added(&own, &others),
+    let mut sizes = [0; limits::SIZES];
+    for size in 0..limits::SIZES {
+        sizes[size] = pairs_of_place(game, first, second, place, size);
     }
+    Tally { sizes }
 }
 
 /// The counts of a game of two chambers.
+#[tactic(auto, using(power_index::proofs::Shared::Minimal::can_be_counted))]
 fn joined(game: &Game, first: &Counted, second: &Counted) -> Counts
     requires { AreChambersOf game.now first.now.game second.now.game }
     ensures { AreCounts game.now (minimal_coalitions (votes_of game.now)) result }

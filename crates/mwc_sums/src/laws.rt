@@ -10,14 +10,14 @@ ghost use Rattle.power_index.specs.Tables.{AreCounts, Tables};
 ghost use Rattle.std.specs.Prelude.{◌≡◌, ℕ, ◌+◌, ◌<◌, ◌^◌, ◌↔◌, true, length};
 
 /// In a game of one rule, the minimal winning coalitions are those that complete the quota.
-#[tactic(auto, using(crate::proofs::Heads::laws))]
+#[tactic(auto, using(crate::proofs::Leads::laws))]
 pub fn minimal_coalitions_complete_the_quota()
     ensures { (v : Votes) → IsVotes v → length v.rules ≡ 1 → minimal_coalitions v
         ≡ completing (rule_at v.rules 0).weights (rule_at v.rules 0).quota }
 {}
 
-/// In a game of two rules, of which the second asks for so many heads, a coalition is minimal exactly where
-/// it has just so many members and meets the first quota, or has more members and is minimal under the first
+/// In a game of two rules, of which the second asks for a number of heads, a coalition is minimal exactly where
+/// it has just as many members and meets the first quota, or has more members and is minimal under the first
 /// rule alone.
 pub fn minimal_coalitions_by_heads()
     ensures { (v : Votes) (heads c : ℕ) → IsVotes v → length v.rules ≡ 2
@@ -34,6 +34,7 @@ pub fn counts_do_not_depend_on_the_order_of_rules()
 {}
 
 /// A member without whom the others miss the quota of some rule is in each winning coalition.
+#[tactic(auto, using(crate::proofs::Vetoing::laws))]
 pub fn vetoers_are_in_each_winning_coalition()
     ensures { (v : Votes) (p c : ℕ) → IsVotes v → p < v.members → IsVetoer v p → c < 2 ^ v.members
         → wins v.rules c ≡ true → has v.members p c ≡ true }

@@ -12,13 +12,17 @@ pub record StatuteView : Type 0 where
   pub members : ℕ
   pub rules : List RuleView
 
+-- of some rules those that pass a test, or the others
+unfoldable pub side : Bool → (RuleView → Bool) → List RuleView → List RuleView
+side passing q rs = filter (λ r. if passing then q r else not (q r)) rs
+
 -- of some rules those that sums count, or the others
-unfoldable pub part_of : Bool → ℕ → List RuleView → List RuleView
-part_of counted n rs = filter (λ r. if counted then is_counted n rs r else not (is_counted n rs r)) rs
+abbrev pub part_of : Bool → ℕ → List RuleView → List RuleView
+part_of counted n rs = side counted (is_counted n rs) rs
 
 -- of some rules those that share a member with one, or the others
-unfoldable pub beside_of : Bool → ℕ → List RuleView → ℕ → List RuleView
-beside_of sharing n rs k = filter (λ r. if sharing then share n (rule_at rs k) r else not (share n (rule_at rs k) r)) rs
+abbrev pub beside_of : Bool → ℕ → List RuleView → ℕ → List RuleView
+beside_of sharing n rs k = side sharing (share n (rule_at rs k)) rs
 
 -- those that share a member with any one of them are of one chamber
 abbrev pub AreOfChambers : ℕ → List RuleView → Type 0

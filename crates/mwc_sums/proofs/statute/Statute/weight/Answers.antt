@@ -1,4 +1,4 @@
-use Rattle.mwc_sums.proofs.Imports.{length, ap, arith, length-map, held_full}
+use Rattle.mwc_sums.proofs.Imports.{length, ap, arith, nat_tests, length-map, held_full}
 use Rattle.council_game.specs.Rules.{rule_view}
 use Rattle.mwc_sums.specs.Inner.Rules.{StatuteView}
 use Rattle.mwc_sums.proofs.statute.Statute.weight.Goals as goal
@@ -6,7 +6,5 @@ use Rattle.mwc_sums.proofs.statute.Statute.weight.Goals as goal
 pub index-requires-2 : goal.index-requires-2
 index-requires-2 c =
     let seen = ap (λ (s : StatuteView). length s.rules) c.self.view_is in
-    let long = length-map c.self.inside.rules.items rule_view in
-    let full = held_full c.self.inside.rules.items c.self.inside.members (λ k d lt. (c.self.invariant k d lt).full) c.args.rule c.index.result.now
-    (let rule = c.requires.rule in omega (arith, seen, long, rule)) in
-    grind (arith)
+    let full = held_full c.self.inside.rules.items c.self.inside.members (λ k d lt. (c.self.invariant k d lt).full) c.args.rule c.index.result.now in
+    grind (arith, nat_tests, length-map c.self.inside.rules.items rule_view, c.requires.rule)
