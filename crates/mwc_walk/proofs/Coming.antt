@@ -1,18 +1,42 @@
--- What the members from a place on weigh in a coalition, by one rule for what they weigh by another, and vetoers among them.
+-- What the members from a place on weigh in a coalition: in intervals, by one rule for what they weigh by another, and vetoers among them.
 use Rattle.mwc_walk.proofs.Imports.{get_or, sum, ap, subst, ◌∙◌, length-drop, zero, true, false, [], refl, common_steps, cases_lt, cases_eq}
 use Rattle.mwc_walk.proofs.Imports.{◌≡◌, ℕ, ◌+◌, ◌*◌, ◌<◌, ◌≤◌, arith, inl, inr, suc, ◌-◌, ◌/◌, ◌%◌, ◌^◌, List, ◌∷◌, length, take, drop}
 use Rattle.mwc_walk.proofs.Imports.{both_ways, and_parts, leb-true, cases_Bool, cond_both, cond-false, mul-le, drop_all, length-take-le}
 use Rattle.mwc_walk.proofs.Imports.{get_or-take, weight, RuleView, Votes, IsVotes, rule_at, wins, weight-le, weight-without, IsPrice}
 use Rattle.mwc_walk.proofs.Imports.{Intervals, Covers, Lane, no_lane, IsSplit, LaneIs, LanesAre, lane_at, LanesStand, get_or_default}
-use Rattle.std.proofs.Common.{take_all, drop-cons, ◌⊎◌, add-one, ltb-true}
+use Rattle.mwc_walk.proofs.Imports.{InInterval}
+use Rattle.std.proofs.Common.{take_all, drop-cons, ◌⊎◌, add-one, ltb-true, get_or-set_same, slice_set}
 use Rattle.std.proofs.{Math.Nat.le_of_mul-le-mul_left, lemmas.List.Folds.Any-from_list_any, lemmas.List.Sums.sum_by_more}
 use Rattle.std.proofs.lemmas.Nat.Bits.{bit_at-lt}
 use Rattle.std.specs.{Int.div_ceil, List.list_any}
 use Rattle.council_game.proofs.Shared.WeightByDigits.{weight-nil, weight-cons}
 use Rattle.coalitions.proofs.Shared.Digits.{digit-added}
-use Rattle.mwc_walk.specs.{Inner.Lanes.lane_needs, Inner.Vetoes.vetoed_part, declared.price.Price.Price}
+use Rattle.mwc_walk.specs.{Inner.Vetoes.vetoed_part, declared.intervals.Interval.Interval, declared.price.Price.Price}
+use Rattle.mwc_walk.specs.Inner.{Covers.interval_at, Lanes.lane_needs}
 use Rattle.mwc_walk.proofs.Rules.{sum-from, drop-most, met-at}
 
+-- ---- in intervals
+pub in-new : (is : Intervals) (at : ℕ) (i : Interval) (y : ℕ) → at < length is.items → i.least ≤ y → y ≤ i.most
+    → InInterval (record { count = is.count; items = slice_set is.items at i }) at y
+in-new is at i y below low high = rw (get_or-set_same) (low, high)
+
+-- one interval is made wide enough for the next one, over which those behind it are moved
+pub closed-up : (is wide new : Intervals) (near y : ℕ) → near < 7 → is.count ≡ 8 → new.count ≡ 8
+    → ((k : ℕ) → InInterval is k y → InInterval wide k y) → (InInterval is (near + 1) y → InInterval wide near y)
+    → ((k : ℕ) → k ≤ near → interval_at new k ≡ interval_at wide k)
+    → ((k : ℕ) → near < k → k < 7 → interval_at new k ≡ interval_at wide (k + 1)) → Covers is y → Covers new y
+closed-up is wide new near y below full same kept next before moved (k, lt, inside) =
+    elim (cases_lt near k) [
+      | inr low ↦ (k, omega arith, rw (before k (omega arith)) (kept k inside))
+      | inl high ↦ elim (cases_eq k (near + 1)) [
+        | inl here ↦ (near, omega arith, rw (before near (omega arith)) (next (rw here at inside)))
+        | inr far ↦
+            let back : k - 1 + 1 ≡ k = omega arith in
+            (k - 1, omega arith, rw (moved (k - 1) (omega arith) (omega arith), back) (kept k inside))
+      ]
+    ]
+
+-- ---- by one rule for what they weigh by another
 -- a cheaper price is kept, too
 still-kept : (a b i t f g : ℕ) → i * b ≤ a * t → a * f ≤ b * g → (b ≡ 0 → f ≡ 0) → i * f ≤ t * g
 still-kept a b i t f g cheaper kept none =

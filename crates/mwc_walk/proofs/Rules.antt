@@ -1,10 +1,9 @@
 -- What a rule's places weigh at a prefix x of p places, and the lanes of the walk, which stand for the rules there.
 use Rattle.mwc_walk.proofs.Imports.{le-leb, leb-true, common_steps, length-map, drop_all, length-take-le, get_or-take, nat_tests, RuleView}
-use Rattle.mwc_walk.proofs.Imports.{get_or, sum, arith, zero, suc, length, sym, ◌∙◌, All, AllByRecursion, list_all, and_from, and_parts}
-use Rattle.mwc_walk.proofs.Imports.{lane_reaches, lane_wins, lane_with, lane_without, leb, sum_by-take-drop, has-none, lane_at, subst}
-use Rattle.mwc_walk.proofs.Imports.{◌≡◌, Bool, true, List, [], ◌∷◌, map, refl, ℕ, ◌+◌, ◌-◌, ◌*◌, ◌/◌, ◌%◌, ◌^◌, ◌<◌, ◌≤◌, take, drop}
-use Rattle.mwc_walk.proofs.Imports.{IsRule, weight, wins, rule_at, weight-zero, weight-le, reaches, wins_at, LaneIs, LanesAre, Lane}
-use Rattle.mwc_walk.proofs.Imports.{length-drop, ap}
+use Rattle.mwc_walk.proofs.Imports.{lane_reaches, lane_wins, lane_with, lane_without, leb, sum_by-take-drop, has-none, lane_at, subst, ◌≡◌}
+use Rattle.mwc_walk.proofs.Imports.{weight, wins, rule_at, weight-zero, weight-le, reaches, wins_at, LaneIs, LanesAre, Lane, length-drop}
+use Rattle.mwc_walk.proofs.Imports.{ap, get_or, sum, arith, zero, suc, length, sym, ◌∙◌, All, AllByRecursion, list_all, and_from, and_parts}
+use Rattle.mwc_walk.proofs.Imports.{Bool, true, List, [], ◌∷◌, map, refl, ℕ, ◌+◌, ◌-◌, ◌*◌, ◌/◌, ◌%◌, ◌^◌, ◌<◌, ◌≤◌, take, drop, IsRule}
 use Rattle.std.proofs.lemmas.List.Sums.{sum_by-drop_more, AllPass-from_list_all}
 use Rattle.std.proofs.Common.{replicate, map-id, ext_get_or, div-add-mod'}
 use Rattle.council_game.proofs.Shared.Weights.{weight-at, weight-more, weight-prefix, weight-skip}
@@ -109,14 +108,6 @@ met-at rs c i won below = leb-true _ _ (AllPass-from_list_all (λ r. leb r.quota
 
 pub sub-leb : (a b c : ℕ) → leb (a - b) c ≡ leb a (b + c)
 sub-leb a b c = grind (arith, nat_tests)
-
-pub same-weights : (n : ℕ) (ws vs : List ℕ) → n ≤ length ws → length vs ≡ n → ((q : ℕ) → q < n → get_or ws q 0 ≡ get_or vs q 0)
-    → take n ws ≡ vs
-same-weights n ws vs le long same =
-    let size : length (take n ws) ≡ n = length-take-le n ws le in
-    ext_get_or 0 (take n ws) vs (size ∙ sym long) (λ i below.
-    let lt : i < n = omega (arith, size) in
-    get_or-take n ws i 0 lt ∙ same i lt)
 
 pub sum-from : (ws : List ℕ) (m p : ℕ) → m ≤ length ws → p < m → sum (drop p (take m ws)) ≡ get_or ws p 0 + sum (drop (p + 1) (take m ws))
 sum-from ws m p le below = grind (arith, common_steps)

@@ -5,8 +5,8 @@ use Rattle.mwc_walk.proofs.Imports.{◌-◌, ◌*◌, ◌/◌, ◌%◌, ◌^◌,
 use Rattle.mwc_walk.proofs.Imports.{Lane, Cursor, Step, On, Give, End, lane_with, lane_without, lane_reaches, IsPlace, lane_at, LanesStand}
 use Rattle.mwc_walk.proofs.Imports.{sym, ap, ◌∙◌, subst, arith, common_steps, shr-shr, pow_pos, pow_mono, cases_lt, both_ways, lane_wins}
 use Rattle.mwc_walk.proofs.Imports.{sum_by-take-drop, no_lane, weight, weight-le, rule_at, LaneIs, leb, get_or-take, get_or_default, sum}
-use Rattle.mwc_walk.proofs.Imports.{drop}
-use Rattle.std.proofs.Common.{cond, ltb, pow-suc, lt-ltb, le-ltb, length-take}
+use Rattle.mwc_walk.proofs.Imports.{drop, length-take}
+use Rattle.std.proofs.Common.{cond, ltb, pow-suc, lt-ltb, le-ltb}
 use Rattle.std.proofs.lemmas.Nat.{shl_below, shl_whole}
 use Rattle.mwc_walk.specs.{Inner.Asked.AreAsked, Inner.Cursor.Steps, Inner.Cursor.Starts, declared.asked.Asked.Asked}
 use Rattle.mwc_walk.proofs.Rest.{dead-nothing, left-nothing, left-won, left-take, left-none, left-all}
@@ -47,11 +47,6 @@ place-down : (v : Votes) (k j p q x y : ℕ) → q ≡ p + 1 → x ≡ y / 2 →
 place-down v k j p q x y next half below lost is = grind (arith, common_steps, half-shift, short-step)
 
 -- ---- moves
--- a move of a cursor of which it is known whether it is fresh
-known : {v : Votes} {a : Cursor} (s : Step) (b : Bool → Cursor) (f : Bool) → a.fresh ≡ f
-    → (CursorIs v (record a { fresh = f }) → Steps v (record a { fresh = f }) s (b f)) → CursorIs v a → Steps v a s (b a.fresh)
-known {v} {a} s b f e = subst (λ (g : Bool). CursorIs v (record a { fresh = g }) → Steps v (record a { fresh = g }) s (b g)) (sym e)
-
 -- what a call on the first lanes leaves in the array
 pub record IsPart (f : Lane → Lane) (old new : List Lane) (k : ℕ) : Type 0 where
   pub room : k ≤ length new
@@ -114,25 +109,23 @@ module _ {v : Votes} {a : Cursor} (is : CursorIs v a) where
     -- back to the place before, which is not in
     pub back-up : (a.prefix % 2 ≡ 1 → ⊥) → Steps v a On (record a { prefix = a.prefix / 2; place = a.place - 1 })
     back-up even =
-        known On (λ f. record a { prefix = a.prefix / 2; place = a.place - 1; fresh = f }) false stale (λ is.
         let place = place-up v a.bits a.number (a.place - 1) a.place (a.prefix / 2) a.prefix is.game (omega arith) refl
         (omega (arith, is.place.from)) is.place in
         let lanes = lanes-up v (a.place - 1) a.place (a.prefix / 2) a.prefix (omega (arith, is.place.to)) (omega arith) a.lanes (omega arith) is.lanes in
-        grind (arith, common_steps, halves)) is
+        grind (arith, common_steps, cond-false, halves)
 
     -- the last member is left out
     module _ (odd : a.prefix % 2 ≡ 1) where
       pub back-out : (ls : List Lane) → IsPart (lane_without (a.place - 1)) a.lanes ls a.rules
           → Steps v a On (record a { lanes = ls; prefix = a.prefix - 1; fresh = true })
       back-out ls part =
-          known On (λ _. record a { lanes = ls; prefix = a.prefix - 1; fresh = true }) false stale (λ is.
           let up = place-up v a.bits a.number (a.place - 1) a.place (a.prefix / 2) a.prefix is.game (omega arith) refl
           (omega arith) is.place in
           let place = place-down v a.bits a.number (a.place - 1) a.place (a.prefix / 2) (a.prefix - 1) (omega arith) (omega arith)
           (omega (arith, is.place.to)) (is.place.passed (omega (arith, is.place.from))) up in
           let lanes = lanes-out v (a.place - 1) a.place a.prefix (a.prefix - 1) (omega (arith, is.place.to)) (omega arith) a.lanes ls a.rules
           (omega arith) (omega arith) is.rules part is.lanes in
-          grind (arith, common_steps)) is
+          grind (arith, common_steps, cond-false)
 
       pub out-fits : All (λ l. get_or l.weights (a.place - 1) 0 ≤ l.sum) (take a.rules a.lanes)
       out-fits = λ i d lt.
@@ -146,9 +139,8 @@ module _ {v : Votes} {a : Cursor} (is : CursorIs v a) where
   -- nothing is left
   pub back-end : a.fresh ≡ false → a.place ≡ a.bits → Steps v a End a
   back-end stale done =
-      known End (λ f. record a { fresh = f }) false stale (λ is.
       let first : a.prefix ≡ 2 ^ a.bits - 1 - a.number = grind (arith, common_steps) in
-      grind (arith, common_steps, left-none)) is
+      grind (arith, common_steps, cond-false, left-none)
 
   -- ---- a fresh place
   -- what the tests on the lanes say of the rules
@@ -175,7 +167,7 @@ module _ {v : Votes} {a : Cursor} (is : CursorIs v a) where
         ((a.prefix + 1) * 2 ^ (v.members - a.place))
         → (length v.rules ≡ 1 → cond (reaches v.rules a.place a.prefix) (a.place - a.bits) 0 ≡ 0)
         → Steps v a On (record a { fresh = false })
-    pass-by same none = grind (arith, common_steps, known, pow_pos)
+    pass-by same none = grind (arith, common_steps, cond-true, cond-false, pow_pos)
 
     -- a prefix that cannot reach some quota is passed by
     pub enter-dead : reaches v.rules a.place a.prefix ≡ false → Steps v a On (record a { fresh = false })
@@ -210,11 +202,10 @@ module _ {v : Votes} {a : Cursor} (is : CursorIs v a) where
         → IsPart (lane_with a.place) a.lanes ls a.rules
         → Steps v a On (record a { lanes = ls; prefix = 2 * a.prefix + 1; place = a.place + 1; visits = t })
     enter-in fresh ls t counted holds part =
-        known On (λ f. record a { lanes = ls; prefix = 2 * a.prefix + 1; place = a.place + 1; visits = t; fresh = f }) true fresh (λ is.
         let place = place-down v a.bits a.number a.place (a.place + 1) a.prefix (2 * a.prefix + 1) refl (omega arith)
         in-room lost is.place in
         let lanes = lanes-in v a.place (a.place + 1) a.prefix (2 * a.prefix + 1) in-room refl a.lanes ls a.rules refl is.rules part is.lanes in
-        grind (arith, common_steps, reaches-in, slice-short, halves)) is
+        grind (arith, common_steps, cond-true, reaches-in, slice-short, halves)
 
   -- the number of a prefix with zeros after it
   pub enter-short : a.prefix * 2 ^ (v.members - a.place) < 2 ^ v.members
@@ -241,7 +232,7 @@ module _ {v : Votes} {a : Cursor} (is : CursorIs v a) where
     pub enter-give : a.fresh ≡ true → (m : ℕ) → m ≡ a.prefix * 2 ^ (a.members - a.place)
         → minimal v (a.prefix * 2 ^ (v.members - a.place)) ≡ true → Steps v a (Give m) (record a { fresh = false })
     enter-give fresh m found min =
-        rw (found, is.members) (grind (arith, common_steps, in-slice, known, left-take, open-most, left-won, won-visited))
+        rw (found, is.members) (grind (arith, common_steps, cond-true, cond-false, in-slice, left-take, open-most, left-won, won-visited))
 
   -- between two calls no descent is under way
   pub rest-most : (a.fresh ≡ true → a.place ≡ a.bits) → length v.rules ≡ 1

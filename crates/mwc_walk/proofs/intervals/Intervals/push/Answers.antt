@@ -1,4 +1,4 @@
-use Rattle.mwc_walk.proofs.{Covered.in-new, Imports.◌<◌, Imports.length, Imports.arith}
+use Rattle.mwc_walk.proofs.{Coming.in-new, Imports.◌<◌, Imports.length, Imports.arith}
 use Rattle.mwc_walk.proofs.intervals.Intervals.push.Goals as goal
 
 pub returns-then-count-lt-INTERVALS-clause-new : goal.returns-then-count-lt-INTERVALS-clause-new
