@@ -118,7 +118,8 @@ module _ {T : Type 0} where
 
   pub close_step : (old new : PipeView T) (first : Bool) → first ≡ not old.closed → new ≡ record old { closed = true } →
       IsStep old Close (reply_of_close first) new
-  close_step old new first ef en = is_step old new Close (reply_of_close first) (close_reply old.closed first ef) (grind (arith, common_steps, or-true))
+  close_step old new first ef en =
+      is_step old new Close (reply_of_close first) (close_reply old.closed first ef) (grind (arith, common_steps, or-true))
 
   -- ---- rows of items
   answered_none : (capacity : ℕ) (past : List (Event T)) → AreAnswered capacity past []
@@ -155,8 +156,9 @@ module _ {T : Type 0} where
   puts_on capacity past (x ∷ row) (suc n) unclosed l few room full =
       let (more, same, shut) = put_counts past x in
       let reply = put_accepted capacity past x unclosed few (omega arith) in
-      answered_more capacity past (Put x) Accepted (puts_of row n) reply (puts_on capacity (past ++ (Put x, Accepted) ∷ []) row n (shut ∙ unclosed)
-      (omega arith) (omega (arith, ap length same)) (omega (arith, ap length same)) (λ z. omega (arith, ap length same, full (omega arith))))
+      let out = ap length same in
+      answered_more capacity past (Put x) Accepted (puts_of row n) reply (puts_on capacity (past ++ (Put x, Accepted) ∷ []) row n
+      (shut ∙ unclosed) (omega arith) (omega arith) (omega arith) (λ z. omega (arith, full (omega arith))))
 
   -- a row that is put in is answered as a pipe answers it
   pub puts_answered : (capacity gone : ℕ) (accepted : List T) (past : List (Event T)) (row : List T) (n : ℕ) →
