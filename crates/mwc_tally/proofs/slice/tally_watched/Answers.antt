@@ -20,5 +20,6 @@ loop-coalition-preserved g c = elim c.match-seek.branch [
     counted = counted-step w.in-Found.ensures.seeks.0 c.loop-coalition.invariant.counted _ (w.count.ensures.tallies c.args.slices.game.now);
     few = w.tell_if_enough-more.ensures;
   })
-  | in-NotYet w ↦ rw (w.counts-is, w.more-is, w.in-NotYet.ensures.seeks.1) (record { counted = c.loop-coalition.invariant.counted; few = omega arith })
+  | in-NotYet w ↦
+      rw (w.counts-is, w.more-is, w.in-NotYet.ensures.seeks.1) (record { counted = c.loop-coalition.invariant.counted; few = omega arith })
 ]

@@ -13,7 +13,8 @@ add-requires-clause-room g c =
 
 pub loop-slice-preserved : goal.loop-slice-preserved
 loop-slice-preserved g c =
-    rw (slices-more c.args.slices c.loop-slice.slice) at (c.add.ensures.tallies c.args.slices.game.now _ _ c.loop-slice.invariant c.in_ok-own.ensures)
+    rw (slices-more c.args.slices c.loop-slice.slice) at
+    (c.add.ensures.tallies c.args.slices.game.now _ _ c.loop-slice.invariant c.in_ok-own.ensures)
 
 pub returns : goal.returns
 returns g c =
