@@ -1,13 +1,14 @@
--- The counts of a history and the items inside.
+-- The counts of a history and the items inside, and what calls that move many items stand for.
 use Rattle.std.proofs.Common.{◌≡◌, ℕ, ◌-◌, ◌<◌, ◌==◌, Bool, true, false, ◌||◌, List, [], ◌∷◌, ◌++◌, length, slice_get, if◌then◌else◌, refl}
-use Rattle.std.proofs.Common.{ap, sym, arith, drop, append_assoc, length-append, not, append-nil}
-use Rattle.std.proofs.lemmas.{Bool.Decides.nat_tests, Grind.common_steps, List.Elements.filter_map-append, List.Folds.list_any-append}
-use Rattle.std.proofs.Math.Bool.{or-false, or-true}
+use Rattle.std.proofs.Common.{ap, sym, arith, drop, append_assoc, length-append, not, append-nil, ◌+◌, ◌≤◌, suc, zero, ◌∙◌, nat_lt}
+use Rattle.std.proofs.lemmas.{Bool.Decides.nat_tests, List.nil_from_length, List.Elements.filter_map-append, List.Folds.list_any-append}
+use Rattle.std.proofs.{Math.Bool.or-false, Math.Bool.or-true, lemmas.Bool.cases_Bool, lemmas.Grind.common_steps}
 use Rattle.mwc_pipe.specs.declared.{reply.Reply.Reply, step.Step.TheVariants.Put, step.Step.TheVariants.Take, step.Step.TheVariants.Close}
 use Rattle.mwc_pipe.specs.{Calls.reply_of_taken, Calls.reply_of_close, Calls.TakesOut, PipeView.PipeView, PipeView.Leaves, PipeView.IsStep}
 use Rattle.mwc_pipe.specs.declared.{step.Step.Step, taken.Taken.Taken}
 use Rattle.mwc_pipe.specs.declared.reply.Reply.TheVariants.{Accepted, Full, Closed, Item, Empty, Ended, First, Again}
-use Rattle.mwc_pipe.specs.History.{Event, is_close, items_in, items_out, reply_of_take, reply_to, history_after}
+use Rattle.mwc_pipe.specs.History.{Event, is_close, items_in, items_out, reply_of_take, reply_to, history_after, has_close}
+use Rattle.mwc_pipe.specs.RowSteps.{puts_of, takes_of, AreAnswered, IsSeenByIn, IsSeenByOut}
 use Rattle.mwc_pipe.specs.declared.taken.Taken.TheVariants as taken
 
 pub get_after : {X : Type 0} (xs ys : List X) → slice_get (xs ++ ys) (length xs) ≡ slice_get ys 0
@@ -103,13 +104,73 @@ module _ {T : Type 0} where
   take_step old new taken.Empty e = is_step old new Take Empty (rw (e.0, e.1) refl) (grind (arith, common_steps, or-false))
   take_step old new taken.Ended e = is_step old new Take Ended (rw (e.0, e.1) refl) (grind (arith, common_steps, or-false))
 
-  close_reply : (closed first : Bool) → first ≡ not closed → (reply_of_close {T = T} first) ≡ (if closed then Again else First)
-  close_reply true first e = rw e refl
-  close_reply false first e = rw e refl
-
   pub close_step : (old new : PipeView T) (first : Bool) → first ≡ not old.closed → new ≡ record old { closed = true } →
       IsStep old Close (reply_of_close first) new
-  close_step old new first ef en = is_step old new Close (reply_of_close first) (close_reply old.closed first ef) (grind (arith, common_steps, or-true))
+  close_step old new first ef en =
+      is_step old new Close (reply_of_close first) (grind (arith, common_steps, cases_Bool)) (grind (arith, common_steps, or-true))
+
+  -- ---- rows of items
+  answered_more : (capacity : ℕ) (past : List (Event T)) (step : Step T) (reply : Reply T) (events : List (Event T)) →
+      reply_to capacity past step ≡ reply → AreAnswered capacity (past ++ (step, reply) ∷ []) events →
+      AreAnswered capacity past ((step, reply) ∷ events)
+  answered_more capacity past step reply events e more = grind (arith, common_steps)
+
+  -- the reply to a put while there is room, and where there is none
+  put_accepted : (capacity : ℕ) (past : List (Event T)) (x : T) → has_close past ≡ false →
+      length (items_out past) ≤ length (items_in past) → length (items_in past) < length (items_out past) + capacity →
+      reply_to capacity past (Put x) ≡ Accepted
+  put_accepted capacity past x unclosed few room = grind (arith, common_steps)
+
+  put_full : (capacity : ℕ) (past : List (Event T)) (x : T) → has_close past ≡ false →
+      length (items_in past) ≡ length (items_out past) + capacity → reply_to capacity past (Put x) ≡ Full
+  put_full capacity past x unclosed e = grind (arith, common_steps)
+
+  -- a put that is accepted, as the past has it
+  put_counts : (past : List (Event T)) (x : T) → (length (items_in (past ++ (Put x, Accepted) ∷ [])) ≡ length (items_in past) + 1)
+      × (items_out (past ++ (Put x, Accepted) ∷ []) ≡ items_out past) × (has_close (past ++ (Put x, Accepted) ∷ []) ≡ has_close past)
+  put_counts past x = grind (arith, common_steps, filter_map-append, list_any-append, or-false)
+
+  puts_on : (capacity : ℕ) (past : List (Event T)) (row : List T) (n : ℕ) → has_close past ≡ false → n ≤ length row →
+      length (items_out past) ≤ length (items_in past) → length (items_in past) + n ≤ length (items_out past) + capacity →
+      (n < length row → length (items_in past) + n ≡ length (items_out past) + capacity) → AreAnswered capacity past (puts_of row n)
+  puts_on capacity past [] zero unclosed l few room full = sym (append-nil past)
+  puts_on capacity past [] (suc n) unclosed l few room full = absurd (omega arith)
+  puts_on capacity past (x ∷ row) zero unclosed l few room full =
+      let last = put_full capacity past x unclosed (omega (arith, full (omega arith))) in
+      answered_more capacity past (Put x) Full [] last (sym (append-nil (past ++ (Put x, Full) ∷ [])))
+  puts_on capacity past (x ∷ row) (suc n) unclosed l few room full =
+      let (more, same, shut) = put_counts past x in
+      let reply = put_accepted capacity past x unclosed few (omega arith) in
+      let out = ap length same in
+      answered_more capacity past (Put x) Accepted (puts_of row n) reply (puts_on capacity (past ++ (Put x, Accepted) ∷ []) row n
+      (shut ∙ unclosed) (omega arith) (omega arith) (omega arith) (λ z. omega (arith, full (omega arith))))
+
+  -- a row that is put in is answered as a pipe answers it
+  pub puts_answered : (capacity gone : ℕ) (accepted : List T) (past : List (Event T)) (row : List T) (n : ℕ) →
+      IsSeenByIn accepted gone past → n ≤ length row →
+      length accepted + n ≤ gone + capacity → (n < length row → length accepted + n ≡ gone + capacity) →
+      AreAnswered capacity past (puts_of row n)
+  puts_answered capacity gone accepted past row n seen l room full = grind (arith, common_steps, puts_on)
+
+  takes_on : (capacity : ℕ) (past : List (Event T)) (items known : List T) (short : Bool) →
+      Leaves past (holding capacity (items ++ known) false) → (short ≡ true → known ≡ []) → AreAnswered capacity past (takes_of items short)
+  takes_on capacity past [] known false leaves none = sym (append-nil past)
+  takes_on capacity past [] known true leaves none =
+      answered_more capacity past Take Empty [] (rw (none refl) at (reply_is past (holding capacity known false) Take leaves))
+      (sym (append-nil (past ++ (Take, Empty) ∷ [])))
+  takes_on capacity past (x ∷ items) known short leaves none =
+      let pipe : PipeView T = holding capacity (x ∷ (items ++ known)) false in
+      answered_more capacity past Take (Item x) (takes_of items short) (reply_is past pipe Take leaves)
+      (takes_on capacity (past ++ (Take, Item x) ∷ []) items known short (leaves_step past pipe Take leaves) none)
+
+  -- a row that is taken is answered as a pipe answers it
+  pub takes_answered : (capacity : ℕ) (taken items known : List T) (past : List (Event T)) (short : Bool) →
+      IsSeenByOut ((taken ++ items) ++ known) taken past →
+      (short ≡ true → known ≡ []) → AreAnswered capacity past (takes_of items short)
+  takes_answered capacity taken items known past short seen none = grind (arith, common_steps, append_assoc, takes_on)
 
 -- what the calls of a pipe rest on
 pub ruleset stepping = (nat_tests, accepted_step, close_step)
+
+-- what a call that takes words rests on
+pub ruleset takes = (common_steps, nat_lt, nil_from_length, takes_answered)

@@ -45,7 +45,7 @@ impl RingOut {
     /// Takes the oldest words into the front of a row, as many as are known and the row has room for,
     /// and says how many. The rest of the row stays. It stops short only where no further word is
     /// known. However many they are, they go by one store. It takes no memory.
-    #[tactic(auto, using(crate::proofs::RowSteps::takes))]
+    #[tactic(auto, using(crate::proofs::Counting::takes))]
     pub fn take_some(&mut self, into: &mut [Word]) -> usize
         ensures count { result ≤ length into.old }
         ensures ring { self.new.ring ≡ self.old.ring }

@@ -1,9 +1,8 @@
 -- Slices counted one after the other, and in any order.
-use Rattle.std.proofs.Common.{◌≡◌, ◌∙◌, ℕ, ◌+◌, ◌^◌, ◌<◌, ◌≤◌, suc, Bool, List, [], ◌∷◌, ◌++◌, length, get_or, sym, ap, refl, arith, subst}
+use Rattle.std.proofs.Common.{◌≡◌, ◌∙◌, ℕ, ◌+◌, ◌^◌, ◌<◌, ◌≤◌, suc, Bool, List, [], ◌∷◌, ◌++◌, length, sym, ap, refl, arith, subst}
 use Rattle.std.proofs.Common.{length-append, All, filter, flat_map, sum_by, IsPermutation, append_assoc, append-nil}
-use Rattle.std.proofs.lemmas.List.{FromFn.fill_by_all, FromFn.length-range_with_len, FromFn.get_or-range_with_len, Sums.sum_by-cons}
 use Rattle.std.proofs.lemmas.List.{Concat.flat_map-append, Concat.length-flat_map, Elements.All-filter, Elements.filter-append}
-use Rattle.std.proofs.lemmas.{Grind.common_steps, List.Sorted.sum_by-IsPermutation}
+use Rattle.std.proofs.lemmas.{Grind.common_steps, List.Sorted.sum_by-IsPermutation, List.Sums.sum_by-cons}
 use Rattle.std.specs.List.{range_with_len}
 use Rattle.council_game.specs.{Game.GameView, Game.IsGame, Game.votes_of, Votes.minimal_coalitions}
 use Rattle.council_game.proofs.Shared.Games.{votes-are}
@@ -85,15 +84,11 @@ pub permuted : (g : GameView) (f : ℕ → List ℕ) (xs ys : List ℕ) (t : Tab
 permuted g f xs ys t same h = grind (arith, common_steps, pass-permutation)
 
 -- the slices, each once, have the counts of the whole list
-pub whole-counts : (s : SlicedGame) (taken : List ℕ) (t : Tables) → IsPermutation taken (range_with_len 0 (2 ^ s.bits))
-    → CountSlices s taken t → CountWhole s t
-whole-counts s taken t same h =
-    subst (λ (l : List ℕ). AreCounts s.game.now l t) (all-slices s)
-    (tallies-are_counts s.game.now _ t (permuted s.game.now (slice_of s) taken _ t same h))
+pub whole-counts : (s : SlicedGame) (taken sorted : List ℕ) (n : ℕ) (t : Tables) → IsPermutation taken sorted → sorted ≡ range_with_len 0 n
+    → n ≡ 2 ^ s.bits → CountSlices s taken t → CountWhole s t
+whole-counts s taken sorted n t same each all h =
+    subst (λ (l : List ℕ). AreCounts s.game.now l t) (ap (flat_map (slice_of s)) (each ∙ ap (range_with_len 0) all) ∙ all-slices s)
+    (tallies-are_counts s.game.now _ t (permuted s.game.now (slice_of s) taken sorted t same h))
 
--- a list with the numbers 0, 1, .. at its places
-pub is-range : (row : List ℕ) (n : ℕ) → length row ≡ n → ((k : ℕ) → k < n → get_or row k 0 ≡ k) → row ≡ range_with_len 0 n
-is-range row n long each =
-    fill_by_all (λ k. k) row n 0 long each
-    ∙ sym (fill_by_all (λ k. k) (range_with_len 0 n) n 0 (length-range_with_len 0 n)
-    (λ k lt. get_or-range_with_len 0 n k 0 lt ∙ omega arith))
+-- what a row of numbers rests on
+pub ruleset shares = (common_steps, range-more)

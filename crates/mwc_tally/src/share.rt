@@ -69,6 +69,7 @@ impl Share {
 }
 
 /// Whether a row of numbers is 0, 1, .. up to, but not, `count`.
+#[tactic(auto, using(crate::proofs::Counting::shares))]
 fn is_each_once(row: &[u16], count: u16) -> bool
     ensures { result ≡ true → row.now ≡ range_with_len 0 count }
 {

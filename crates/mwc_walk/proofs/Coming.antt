@@ -1,18 +1,38 @@
--- What the members from a place on weigh in a coalition, by one rule for what they weigh by another, and vetoers among them.
+-- What the members from a place on weigh in a coalition: in intervals, by one rule for what they weigh by another, and vetoers among them.
 use Rattle.mwc_walk.proofs.Imports.{get_or, sum, ap, subst, ◌∙◌, length-drop, zero, true, false, [], refl, common_steps, cases_lt, cases_eq}
 use Rattle.mwc_walk.proofs.Imports.{◌≡◌, ℕ, ◌+◌, ◌*◌, ◌<◌, ◌≤◌, arith, inl, inr, suc, ◌-◌, ◌/◌, ◌%◌, ◌^◌, List, ◌∷◌, length, take, drop}
 use Rattle.mwc_walk.proofs.Imports.{both_ways, and_parts, leb-true, cases_Bool, cond_both, cond-false, mul-le, drop_all, length-take-le}
 use Rattle.mwc_walk.proofs.Imports.{get_or-take, weight, RuleView, Votes, IsVotes, rule_at, wins, weight-le, weight-without, IsPrice}
 use Rattle.mwc_walk.proofs.Imports.{Intervals, Covers, Lane, no_lane, IsSplit, LaneIs, LanesAre, lane_at, LanesStand, get_or_default}
+use Rattle.mwc_walk.proofs.Imports.{InInterval, get_or-set_same}
 use Rattle.std.proofs.Common.{take_all, drop-cons, ◌⊎◌, add-one, ltb-true}
 use Rattle.std.proofs.{Math.Nat.le_of_mul-le-mul_left, lemmas.List.Folds.Any-from_list_any, lemmas.List.Sums.sum_by_more}
 use Rattle.std.proofs.lemmas.Nat.Bits.{bit_at-lt}
 use Rattle.std.specs.{Int.div_ceil, List.list_any}
 use Rattle.council_game.proofs.Shared.WeightByDigits.{weight-nil, weight-cons}
 use Rattle.coalitions.proofs.Shared.Digits.{digit-added}
-use Rattle.mwc_walk.specs.{Inner.Lanes.lane_needs, Inner.Vetoes.vetoed_part, declared.price.Price.Price}
+use Rattle.mwc_walk.specs.{Inner.Vetoes.vetoed_part, declared.price.Price.Price}
+use Rattle.mwc_walk.specs.Inner.{Covers.interval_at, Lanes.lane_needs}
 use Rattle.mwc_walk.proofs.Rules.{sum-from, drop-most, met-at}
 
+-- ---- in intervals
+-- one interval is made wide enough for the next one, over which those behind it are moved
+pub closed-up : (is wide new : Intervals) (near y : ℕ) → near < 7 → is.count ≡ 8 → new.count ≡ 8
+    → ((k : ℕ) → InInterval is k y → InInterval wide k y) → (InInterval is (near + 1) y → InInterval wide near y)
+    → ((k : ℕ) → k ≤ near → interval_at new k ≡ interval_at wide k)
+    → ((k : ℕ) → near < k → k < 7 → interval_at new k ≡ interval_at wide (k + 1)) → Covers is y → Covers new y
+closed-up is wide new near y below full same kept next before moved (k, lt, inside) =
+    elim (cases_lt near k) [
+      | inr low ↦ (k, omega arith, rw (before k (omega arith)) (kept k inside))
+      | inl high ↦ elim (cases_eq k (near + 1)) [
+        | inl here ↦ (near, omega arith, rw (before near (omega arith)) (next (rw here at inside)))
+        | inr far ↦
+            let back : k - 1 + 1 ≡ k = omega arith in
+            (k - 1, omega arith, rw (moved (k - 1) (omega arith) (omega arith), back) (kept k inside))
+      ]
+    ]
+
+-- ---- by one rule for what they weigh by another
 -- a cheaper price is kept, too
 still-kept : (a b i t f g : ℕ) → i * b ≤ a * t → a * f ≤ b * g → (b ≡ 0 → f ≡ 0) → i * f ≤ t * g
 still-kept a b i t f g cheaper kept none =
@@ -92,17 +112,14 @@ weight-out ws q c below out =
     grind (arith, common_steps, digit-added, weight-without, weight-le)
 
 -- a rule that needs the member of a place is not met without it
-needs-it : (n q c : ℕ) (r : RuleView) (l : Lane) → q < n → LaneIs n r l → lane_needs q l ≡ true → r.quota ≤ weight r.weights c
-    → c / 2 ^ (n - 1 - q) % 2 ≡ 0 → ⊥
-needs-it n q c r l below is needs met out = grind (arith, common_steps, ltb-true, weight-out)
-
 pub vetoer-in : (v : Votes) (q c : ℕ) (ls : List Lane) → q < v.members → length ls ≡ length v.rules → LanesStand v ls
     → list_any (lane_needs q) ls ≡ true → wins v.rules c ≡ true → c / 2 ^ (v.members - 1 - q) % 2 ≡ 0 → ⊥
 vetoer-in v q c ls below count are needs won out =
     let (k, l, lt, at, need) = Any-from_list_any (lane_needs q) ls needs in
     let room : k < length v.rules = omega (arith, lt, count) in
     let same : lane_at ls k ≡ l = get_or_default ls k _ l lt ∙ at in
-    needs-it v.members q c (rule_at v.rules k) l below (rw same at (are k room)) need (met-at v.rules c k won room) out
+    let is = rw same at (are k room) in
+    let met = met-at v.rules c k won room in grind (arith, common_steps, ltb-true, weight-out)
 
 -- ---- weights in two parts
 module _ (n : ℕ) (ws vs fs : List ℕ) (lw : n ≤ length ws) (lv : n ≤ length vs) (lf : n ≤ length fs)

@@ -6,20 +6,16 @@ use Rattle.mwc_walk.proofs.Imports.{rest_of_slice, CursorIs, SomeSteps, IsPlace,
 use Rattle.std.proofs.Common.{length-append, if◌then◌else◌, mul-add, get_or-drop, take-append-drop}
 use Rattle.std.proofs.lemmas.List.{take_more}
 use Rattle.mwc_walk.specs.Inner.Cursor.{bound, Follows, GivesNext, FindsEnd}
-use Rattle.mwc_walk.proofs.{Rest.down-split, Shared.Joined.slices-joined, Steps.rest-most}
+use Rattle.mwc_walk.proofs.{Rest.down-split, Shared.Joined.slices-joined}
 use Rattle.council_game.specs.Game.{GameView}
 use Rattle.mwc_walk.specs.Listed.{ListsAll}
 
--- a list that ends with another
-record EndsWith (whole end : List ℕ) : Type 0 where
-  pub front : List ℕ
-  pub joined : whole ≡ front ++ end
-
-left-ends : (v : Votes) (k j b : ℕ) → b ≤ 2 ^ v.members → EndsWith (slice v k j) (slice_below v k j b)
+-- what is left of a slice is its end
+left-is : (v : Votes) (k j b : ℕ) → b ≤ 2 ^ v.members
+    → slice_below v k j b ≡ drop (length (slice v k j) - length (slice_below v k j b)) (slice v k j)
 unfolding slice_below minimal_below in_slice slice minimal_coalitions
-left-ends v k j b le =
-    let e : b + (2 ^ v.members - b) ≡ 2 ^ v.members = omega arith in
-    grind (arith, common_steps, down-split, filter-append)
+left-is v k j b le =
+    let e : b + (2 ^ v.members - b) ≡ 2 ^ v.members = omega arith in grind (arith, common_steps, down-split, filter-append)
 
 bound-below : {v : Votes} {k j p x : ℕ} (fresh : Bool) → IsPlace v k j p x
     → (if fresh then x + 1 else x) * 2 ^ (v.members - p) ≤ 2 ^ v.members
@@ -28,20 +24,13 @@ bound-below {v} {k} {j} {p} {x} fresh place =
     let most = cond_both fresh (x + 1) x (λ i. i ≤ 2 ^ p) (λ _. omega arith) (λ _. omega arith) in
     rw whole (mul-le _ (2 ^ (v.members - p)) (2 ^ p) (2 ^ (v.members - p)) most (omega arith))
 
-ends-with-rest : {v : Votes} {a : Cursor} → CursorIs v a → EndsWith (slice v a.bits a.number) (rest_of_slice v a)
-ends-with-rest {v} {a} is = left-ends v a.bits a.number (bound v a) (bound-below a.fresh is.place)
-
-rest-short : {v : Votes} {a : Cursor} → CursorIs v a → length (rest_of_slice v a) ≤ length (slice v a.bits a.number)
-rest-short {v} {a} is =
-    let ends = ends-with-rest is in omega (arith, ap length ends.joined, length-append ends.front (rest_of_slice v a))
-
-drop-front : (whole end : List ℕ) → EndsWith whole end → end ≡ drop (length whole - length end) whole
-drop-front whole end is = grind (arith, common_steps)
-
 -- what is still to come is the slice, less as many of its first as were given
 pub rest-is : {v : Votes} {a : Cursor} → CursorIs v a
     → rest_of_slice v a ≡ drop (length (slice v a.bits a.number) - length (rest_of_slice v a)) (slice v a.bits a.number)
-rest-is is = drop-front _ _ (ends-with-rest is)
+rest-is {v} {a} is = left-is v a.bits a.number (bound v a) (bound-below a.fresh is.place)
+
+rest-short : {v : Votes} {a : Cursor} → CursorIs v a → length (rest_of_slice v a) ≤ length (slice v a.bits a.number)
+rest-short {v} {a} is = let rest = ap length (rest-is is) in grind (arith, length-drop)
 
 -- one more was given
 given-more : (s before after : List ℕ) (c : ℕ) → before ≡ drop (length s - length before) s → before ≡ c ∷ after
@@ -81,7 +70,8 @@ module _ {v : Votes} {a b : Cursor} where
 -- with one rule, the visits are bounded by what was given
 pub visits-most : {v : Votes} {a : Cursor} → CursorIs v a → (a.rules ≡ 1 → a.fresh ≡ true → a.place ≡ a.bits) → length v.rules ≡ 1
     → a.visits ≤ a.bits + (v.members - a.bits) * (length (slice v a.bits a.number) - length (rest_of_slice v a))
-visits-most {v} {a} is rests one = grind (arith, rest-most, rest-short, mul-add)
+visits-most {v} {a} is rests one =
+    let short = rest-short is in let visits = is.visits in grind (arith, common_steps, mul-add)
 
 -- what the calls of a walk rest on
 pub ruleset walking = (given-same, given-next, given-end, visits-most)

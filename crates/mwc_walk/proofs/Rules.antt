@@ -1,11 +1,11 @@
 -- What a rule's places weigh at a prefix x of p places, and the lanes of the walk, which stand for the rules there.
+use Rattle.mwc_walk.proofs.Imports.{ap, get_or, sum, arith, zero, suc, length, sym, ◌∙◌, All, AllByRecursion, list_all, and_from, and_parts}
 use Rattle.mwc_walk.proofs.Imports.{le-leb, leb-true, common_steps, length-map, drop_all, length-take-le, get_or-take, nat_tests, RuleView}
-use Rattle.mwc_walk.proofs.Imports.{get_or, sum, arith, zero, suc, length, sym, ◌∙◌, All, AllByRecursion, list_all, and_from, and_parts}
-use Rattle.mwc_walk.proofs.Imports.{lane_reaches, lane_wins, lane_with, lane_without, leb, sum_by-take-drop, has-none, lane_at, subst}
-use Rattle.mwc_walk.proofs.Imports.{◌≡◌, Bool, true, List, [], ◌∷◌, map, refl, ℕ, ◌+◌, ◌-◌, ◌*◌, ◌/◌, ◌%◌, ◌^◌, ◌<◌, ◌≤◌, take, drop}
-use Rattle.mwc_walk.proofs.Imports.{IsRule, weight, wins, rule_at, weight-zero, weight-le, reaches, wins_at, LaneIs, LanesAre, Lane}
-use Rattle.mwc_walk.proofs.Imports.{length-drop, ap}
-use Rattle.std.proofs.lemmas.List.Sums.{sum_by-drop_more, AllPass-from_list_all}
+use Rattle.mwc_walk.proofs.Imports.{lane_reaches, lane_wins, lane_with, lane_without, leb, sum_by-take-drop, has-none, lane_at, subst, ◌≡◌}
+use Rattle.mwc_walk.proofs.Imports.{weight, wins, rule_at, weight-zero, weight-le, reaches, wins_at, LaneIs, LanesAre, Lane, length-drop}
+use Rattle.mwc_walk.proofs.Imports.{Bool, true, List, [], ◌∷◌, map, refl, ℕ, ◌+◌, ◌-◌, ◌*◌, ◌/◌, ◌%◌, ◌^◌, ◌<◌, ◌≤◌, take, drop, IsRule}
+use Rattle.mwc_walk.proofs.Imports.{list_all-from_AllPass}
+use Rattle.std.proofs.lemmas.List.{Elements.All-from_recursion, Sums.sum_by-drop_more, Sums.AllPass-from_list_all}
 use Rattle.std.proofs.Common.{replicate, map-id, ext_get_or, div-add-mod'}
 use Rattle.council_game.proofs.Shared.Weights.{weight-at, weight-more, weight-prefix, weight-skip}
 
@@ -17,10 +17,8 @@ from-back P m last step (suc k) p at = step p (omega arith) (from-back P m last 
 module _ {X : Type 0} (P : X → Type 0) (p q : X → Bool) where
   pub list_all-more : ((x : X) → P x → p x ≡ true → q x ≡ true) → (xs : List X) → AllByRecursion P xs → list_all p xs ≡ true
       → list_all q xs ≡ true
-  list_all-more more [] all h = refl
-  list_all-more more (x ∷ xs) all h =
-      let parts = and_parts (p x) (list_all p xs) h in
-      and_from _ _ (more x all.0 parts.0) (list_all-more more xs all.1 parts.1)
+  list_all-more more xs all h =
+      list_all-from_AllPass q xs (λ i d lt. more _ (All-from_recursion P xs all i d lt) (AllPass-from_list_all p xs h i d lt))
 
   pub list_all-same : ((x : X) → P x → p x ≡ q x) → (xs : List X) → AllByRecursion P xs → list_all p xs ≡ list_all q xs
   list_all-same same [] all = refl
@@ -34,10 +32,6 @@ lanes-pass p q (r ∷ rs) [] le same = absurd (omega (arith, le))
 lanes-pass p q (r ∷ rs) (l ∷ ls) le same =
     rw (same 0 (omega arith), lanes-pass p q rs ls (omega (arith, le)) (λ i lt. same (suc i) (omega (arith, lt)))) refl
 
--- digits above the places of a list weigh nothing
-weight-low : (ws : List ℕ) (c : ℕ) → weight ws (c % 2 ^ length ws) ≡ weight ws c
-weight-low ws c = sym (weight-skip ws (c / 2 ^ length ws) (c % 2 ^ length ws)) ∙ ap (weight ws) (div-add-mod' c (2 ^ length ws))
-
 module _ {n : ℕ} {r : RuleView} (is : IsRule n r) where
   pub weight-block : (p x : ℕ) → p ≤ n → weight r.weights (x * 2 ^ (n - p)) ≡ weight (take p r.weights) x
   weight-block p x le = rw is.full at (weight-prefix r.weights p x (omega (arith, is.full)))
@@ -45,8 +39,11 @@ module _ {n : ℕ} {r : RuleView} (is : IsRule n r) where
   -- the places of a prefix, and those after it
   pub weight-parts : (p c : ℕ) → p ≤ n → weight r.weights c ≡ weight (take p r.weights) (c / 2 ^ (n - p)) + weight (drop p r.weights) c
   weight-parts p c le =
-      let long : length (drop p r.weights) ≡ n - p = length-drop p r.weights ∙ ap (λ (i : ℕ). i - p) is.full in
-      omega (arith, rw is.full at (weight-at r.weights p c (omega (arith, is.full))), rw long at (weight-low (drop p r.weights) c))
+      let after : List ℕ = drop p r.weights in
+      let long : length after ≡ n - p = length-drop p r.weights ∙ ap (λ (i : ℕ). i - p) is.full in
+      -- digits above the places of a list weigh nothing
+      let low = sym (weight-skip after (c / 2 ^ length after) (c % 2 ^ length after)) ∙ ap (weight after) (div-add-mod' c (2 ^ length after)) in
+      omega (arith, rw is.full at (weight-at r.weights p c (omega (arith, is.full))), rw long at low)
 
   -- the next place, with its digit
   pub weight-step : (p q x y b : ℕ) → p < n → q ≡ p + 1 → y ≡ 2 * x + b → b < 2
@@ -106,17 +103,6 @@ module _ (n : ℕ) (rs : List RuleView) (all : AllByRecursion (IsRule n) rs) whe
 pub met-at : (rs : List RuleView) (c i : ℕ) → wins rs c ≡ true → i < length rs → (rule_at rs i).quota ≤ weight (rule_at rs i).weights c
 unfolding wins
 met-at rs c i won below = leb-true _ _ (AllPass-from_list_all (λ r. leb r.quota (weight r.weights c)) rs won i _ below)
-
-pub sub-leb : (a b c : ℕ) → leb (a - b) c ≡ leb a (b + c)
-sub-leb a b c = grind (arith, nat_tests)
-
-pub same-weights : (n : ℕ) (ws vs : List ℕ) → n ≤ length ws → length vs ≡ n → ((q : ℕ) → q < n → get_or ws q 0 ≡ get_or vs q 0)
-    → take n ws ≡ vs
-same-weights n ws vs le long same =
-    let size : length (take n ws) ≡ n = length-take-le n ws le in
-    ext_get_or 0 (take n ws) vs (size ∙ sym long) (λ i below.
-    let lt : i < n = omega (arith, size) in
-    get_or-take n ws i 0 lt ∙ same i lt)
 
 pub sum-from : (ws : List ℕ) (m p : ℕ) → m ≤ length ws → p < m → sum (drop p (take m ws)) ≡ get_or ws p 0 + sum (drop (p + 1) (take m ws))
 sum-from ws m p le below = grind (arith, common_steps)

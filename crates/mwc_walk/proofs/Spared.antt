@@ -4,9 +4,8 @@ use Rattle.mwc_walk.proofs.Imports.{both_ways, and_parts, and_from, le-leb, Curs
 use Rattle.mwc_walk.proofs.Imports.{rule_at, has, without, weight, wins, minimal, lowest-place, needs-each-member, Lane, eq-eqb, IsSplit}
 use Rattle.mwc_walk.proofs.Imports.{◌≡◌, ℕ, ◌+◌, ◌-◌, ◌*◌, ◌/◌, ◌%◌, ◌^◌, ◌<◌, ◌≤◌, ◌&&◌, min, true, List, [], length, IsRule, IsRanked}
 use Rattle.mwc_walk.proofs.Imports.{◌∙◌, arith, inl, inr, common_steps, w64, trailing_zeros, pow_mono, cases_eq, cases_lt, cases_Bool}
-use Rattle.mwc_walk.proofs.Imports.{CursorIs, has-none, lane_at, IsVotes, get_or_default}
-use Rattle.std.proofs.lemmas.{List.Sums.list_all-from_AllPass, Nat.and_le_l, Nat.Bits.bit_at-trailing_zeros, Nat.Bits.bit_at_and}
-use Rattle.std.proofs.Common.{bit_and}
+use Rattle.mwc_walk.proofs.Imports.{CursorIs, has-none, lane_at, IsVotes, get_or_default, list_all-from_AllPass}
+use Rattle.std.proofs.{Common.bit_and, lemmas.Nat.and_le_l, lemmas.Nat.Bits.bit_at-trailing_zeros, lemmas.Nat.Bits.bit_at_and}
 use Rattle.coalitions.proofs.Shared.Digits.{has-kept, has-gone, lowest-cleared, without-less}
 use Rattle.council_game.proofs.Shared.WinningByPlaces.{sum-without, rule-is}
 use Rattle.mwc_walk.specs.Inner.{Asked.asked_at, Places.NoneWins, Places.AreExcesses, Places.CanSpare, Spared.IsEnough, Spared.NoneSpared}
@@ -22,13 +21,13 @@ has-and n q a b = grind (arith, nat_tests, common_steps, bit_at_and)
 has-below : (n p x c q : ℕ) → p ≤ n → q < n → c / 2 ^ (n - p) ≡ x → has n q (x * 2 ^ (n - p)) ≡ true → has n q c ≡ true
 unfolding has
 has-below n p x c q le below prefix in' =
-    let e : n - 1 - q ≡ n - (q + 1) = omega arith in
-    grind (arith, common_steps, place-before, in-slice, shr-shr)
+    let e : n - 1 - q ≡ n - (q + 1) = omega arith in grind (arith, common_steps, place-before, in-slice, shr-shr)
 
 -- ---- rule by rule
 -- without a member that each quota is passed by, a coalition wins still
 still-wins : (v : Votes) (c q : ℕ) → IsVotes v → q < v.members → has v.members q c ≡ true
-    → ((i : ℕ) → i < length v.rules → (rule_at v.rules i).quota + get_or (rule_at v.rules i).weights q 0 ≤ weight (rule_at v.rules i).weights c)
+    → ((i : ℕ) → i < length v.rules
+    → (rule_at v.rules i).quota + get_or (rule_at v.rules i).weights q 0 ≤ weight (rule_at v.rules i).weights c)
     → wins v.rules (without v.members q c) ≡ true
 unfolding wins
 still-wins v c q game below in' free = list_all-from_AllPass _ v.rules (λ i d lt.

@@ -5,13 +5,13 @@ use Rattle.mwc_walk.proofs.Imports.{◌-◌, ◌*◌, ◌/◌, ◌%◌, ◌^◌,
 use Rattle.mwc_walk.proofs.Imports.{Lane, Cursor, Step, On, Give, End, lane_with, lane_without, lane_reaches, IsPlace, lane_at, LanesStand}
 use Rattle.mwc_walk.proofs.Imports.{sym, ap, ◌∙◌, subst, arith, common_steps, shr-shr, pow_pos, pow_mono, cases_lt, both_ways, lane_wins}
 use Rattle.mwc_walk.proofs.Imports.{sum_by-take-drop, no_lane, weight, weight-le, rule_at, LaneIs, leb, get_or-take, get_or_default, sum}
-use Rattle.mwc_walk.proofs.Imports.{drop}
-use Rattle.std.proofs.Common.{cond, ltb, pow-suc, lt-ltb, le-ltb, length-take}
+use Rattle.mwc_walk.proofs.Imports.{drop, length-take, nat_tests}
+use Rattle.std.proofs.Common.{cond, ltb, pow-suc, lt-ltb, le-ltb}
 use Rattle.std.proofs.lemmas.Nat.{shl_below, shl_whole}
 use Rattle.mwc_walk.specs.{Inner.Asked.AreAsked, Inner.Cursor.Steps, Inner.Cursor.Starts, declared.asked.Asked.Asked}
 use Rattle.mwc_walk.proofs.Rest.{dead-nothing, left-nothing, left-won, left-take, left-none, left-all}
 use Rattle.mwc_walk.proofs.Shared.One.{one-minimal, won-odd, empty-loses, slice-short, in-slice}
-use Rattle.mwc_walk.proofs.Rules.{wins-more, reaches-in, full-reach, weight-step, weight-over, weight-block, rest-step, sub-leb, lanes-pass}
+use Rattle.mwc_walk.proofs.Rules.{wins-more, reaches-in, full-reach, weight-step, weight-over, weight-block, rest-step, lanes-pass}
 
 -- one digit more
 pub short-step : (p q : ℕ) → q ≡ p + 1 → 2 ^ q ≡ 2 ^ p * 2
@@ -47,11 +47,6 @@ place-down : (v : Votes) (k j p q x y : ℕ) → q ≡ p + 1 → x ≡ y / 2 →
 place-down v k j p q x y next half below lost is = grind (arith, common_steps, half-shift, short-step)
 
 -- ---- moves
--- a move of a cursor of which it is known whether it is fresh
-known : {v : Votes} {a : Cursor} (s : Step) (b : Bool → Cursor) (f : Bool) → a.fresh ≡ f
-    → (CursorIs v (record a { fresh = f }) → Steps v (record a { fresh = f }) s (b f)) → CursorIs v a → Steps v a s (b a.fresh)
-known {v} {a} s b f e = subst (λ (g : Bool). CursorIs v (record a { fresh = g }) → Steps v (record a { fresh = g }) s (b g)) (sym e)
-
 -- what a call on the first lanes leaves in the array
 pub record IsPart (f : Lane → Lane) (old new : List Lane) (k : ℕ) : Type 0 where
   pub room : k ≤ length new
@@ -114,41 +109,39 @@ module _ {v : Votes} {a : Cursor} (is : CursorIs v a) where
     -- back to the place before, which is not in
     pub back-up : (a.prefix % 2 ≡ 1 → ⊥) → Steps v a On (record a { prefix = a.prefix / 2; place = a.place - 1 })
     back-up even =
-        known On (λ f. record a { prefix = a.prefix / 2; place = a.place - 1; fresh = f }) false stale (λ is.
         let place = place-up v a.bits a.number (a.place - 1) a.place (a.prefix / 2) a.prefix is.game (omega arith) refl
         (omega (arith, is.place.from)) is.place in
-        let lanes = lanes-up v (a.place - 1) a.place (a.prefix / 2) a.prefix (omega (arith, is.place.to)) (omega arith) a.lanes (omega arith) is.lanes in
-        grind (arith, common_steps, halves)) is
+        let lanes = lanes-up v (a.place - 1) a.place (a.prefix / 2) a.prefix (omega (arith, is.place.to)) (omega arith) a.lanes
+        (omega arith) is.lanes in
+        grind (arith, common_steps, cond-false, halves)
 
     -- the last member is left out
     module _ (odd : a.prefix % 2 ≡ 1) where
       pub back-out : (ls : List Lane) → IsPart (lane_without (a.place - 1)) a.lanes ls a.rules
           → Steps v a On (record a { lanes = ls; prefix = a.prefix - 1; fresh = true })
       back-out ls part =
-          known On (λ _. record a { lanes = ls; prefix = a.prefix - 1; fresh = true }) false stale (λ is.
           let up = place-up v a.bits a.number (a.place - 1) a.place (a.prefix / 2) a.prefix is.game (omega arith) refl
           (omega arith) is.place in
           let place = place-down v a.bits a.number (a.place - 1) a.place (a.prefix / 2) (a.prefix - 1) (omega arith) (omega arith)
           (omega (arith, is.place.to)) (is.place.passed (omega (arith, is.place.from))) up in
-          let lanes = lanes-out v (a.place - 1) a.place a.prefix (a.prefix - 1) (omega (arith, is.place.to)) (omega arith) a.lanes ls a.rules
-          (omega arith) (omega arith) is.rules part is.lanes in
-          grind (arith, common_steps)) is
+          let lanes = lanes-out v (a.place - 1) a.place a.prefix (a.prefix - 1) (omega (arith, is.place.to)) (omega arith)
+          a.lanes ls a.rules (omega arith) (omega arith) is.rules part is.lanes in
+          grind (arith, common_steps, cond-false)
 
       pub out-fits : All (λ l. get_or l.weights (a.place - 1) 0 ≤ l.sum) (take a.rules a.lanes)
       out-fits = λ i d lt.
           let below : i < a.rules = omega (arith, lt, length-take a.rules a.lanes) in
           let own = lane-here i below in
-          let step = weight-step own.rule (a.place - 1) a.place (a.prefix / 2) a.prefix 1 (omega (arith, is.place.to, is.place.from)) (omega arith)
-          (omega arith) (omega arith) in
+          let step = weight-step own.rule (a.place - 1) a.place (a.prefix / 2) a.prefix 1 (omega (arith, is.place.to, is.place.from))
+          (omega arith) (omega arith) (omega arith) in
           rw (get_or-take a.rules a.lanes i d below, get_or_default a.lanes i d no_lane (omega (arith, below, is.room)))
           (omega (arith, step, sum-here i below, own.weights (a.place - 1) (omega (arith, is.place.to, is.place.from))))
 
   -- nothing is left
   pub back-end : a.fresh ≡ false → a.place ≡ a.bits → Steps v a End a
   back-end stale done =
-      known End (λ f. record a { fresh = f }) false stale (λ is.
       let first : a.prefix ≡ 2 ^ a.bits - 1 - a.number = grind (arith, common_steps) in
-      grind (arith, common_steps, left-none)) is
+      grind (arith, common_steps, cond-false, left-none)
 
   -- ---- a fresh place
   -- what the tests on the lanes say of the rules
@@ -159,7 +152,7 @@ module _ {v : Votes} {a : Cursor} (is : CursorIs v a) where
       (lane_reaches a.place) v.rules a.lanes (omega (arith, is.rules, is.room)) (λ i lt.
       let own = lane-here i (omega (arith, lt, is.rules)) in
       let here = sum-here i (omega (arith, lt, is.rules)) in
-      rw (sub-leb, own.quota, here, own.rest a.place is.place.to) refl))
+      rw (own.quota, here, own.rest a.place is.place.to) (grind (arith, nat_tests))))
 
   pub win-is : list_all lane_wins (take a.rules a.lanes) ≡ wins_at v.rules a.place a.prefix
   unfolding wins_at
@@ -175,7 +168,7 @@ module _ {v : Votes} {a : Cursor} (is : CursorIs v a) where
         ((a.prefix + 1) * 2 ^ (v.members - a.place))
         → (length v.rules ≡ 1 → cond (reaches v.rules a.place a.prefix) (a.place - a.bits) 0 ≡ 0)
         → Steps v a On (record a { fresh = false })
-    pass-by same none = grind (arith, common_steps, known, pow_pos)
+    pass-by same none = grind (arith, common_steps, cond-true, cond-false, pow_pos)
 
     -- a prefix that cannot reach some quota is passed by
     pub enter-dead : reaches v.rules a.place a.prefix ≡ false → Steps v a On (record a { fresh = false })
@@ -210,11 +203,11 @@ module _ {v : Votes} {a : Cursor} (is : CursorIs v a) where
         → IsPart (lane_with a.place) a.lanes ls a.rules
         → Steps v a On (record a { lanes = ls; prefix = 2 * a.prefix + 1; place = a.place + 1; visits = t })
     enter-in fresh ls t counted holds part =
-        known On (λ f. record a { lanes = ls; prefix = 2 * a.prefix + 1; place = a.place + 1; visits = t; fresh = f }) true fresh (λ is.
         let place = place-down v a.bits a.number a.place (a.place + 1) a.prefix (2 * a.prefix + 1) refl (omega arith)
         in-room lost is.place in
-        let lanes = lanes-in v a.place (a.place + 1) a.prefix (2 * a.prefix + 1) in-room refl a.lanes ls a.rules refl is.rules part is.lanes in
-        grind (arith, common_steps, reaches-in, slice-short, halves)) is
+        let lanes = lanes-in v a.place (a.place + 1) a.prefix (2 * a.prefix + 1) in-room refl a.lanes ls a.rules
+        refl is.rules part is.lanes in
+        grind (arith, common_steps, cond-true, reaches-in, slice-short, halves)
 
   -- the number of a prefix with zeros after it
   pub enter-short : a.prefix * 2 ^ (v.members - a.place) < 2 ^ v.members
@@ -241,12 +234,7 @@ module _ {v : Votes} {a : Cursor} (is : CursorIs v a) where
     pub enter-give : a.fresh ≡ true → (m : ℕ) → m ≡ a.prefix * 2 ^ (a.members - a.place)
         → minimal v (a.prefix * 2 ^ (v.members - a.place)) ≡ true → Steps v a (Give m) (record a { fresh = false })
     enter-give fresh m found min =
-        rw (found, is.members) (grind (arith, common_steps, in-slice, known, left-take, open-most, left-won, won-visited))
-
-  -- between two calls no descent is under way
-  pub rest-most : (a.fresh ≡ true → a.place ≡ a.bits) → length v.rules ≡ 1
-      → a.visits + (v.members - a.bits) * length (rest_of_slice v a) ≤ a.bits + (v.members - a.bits) * length (slice v a.bits a.number)
-  rest-most rests one = grind (arith, common_steps)
+        rw (found, is.members) (grind (arith, common_steps, cond-true, cond-false, in-slice, left-take, open-most, left-won, won-visited))
 
 -- the lanes, where the walk starts
 pub lanes-first : (v : Votes) (k x m : ℕ) (ls : List Lane) → k ≤ v.members → m ≡ x * 2 ^ (v.members - k) → LanesStand v ls
@@ -257,18 +245,8 @@ lanes-first v k x m ls le mask own sums = (own, λ i lt. sums i lt ∙ rw mask (
 pub starts : (v : Votes) (k j x m n fixed : ℕ) (ls : List Lane) (qs : List Asked) → IsVotes v → k ≤ v.members → j < 2 ^ k → n ≡ v.members
     → m ≡ length v.rules → m ≤ length ls → AreAsked v qs → fixed ≡ (2 ^ k - 1 - j) * 2 ^ (v.members - k) → LanesStand v ls
     → ((i : ℕ) → i < length v.rules → (lane_at ls i).sum ≡ weight (rule_at v.rules i).weights fixed) → x ≡ 2 ^ k - 1 - j
-    → Starts v k j (record {
-      lanes = ls;
-      asked = qs;
-      rules = m;
-      members = n;
-      bits = k;
-      number = j;
-      prefix = x;
-      place = k;
-      fresh = true;
-      visits = k;
-    })
+    → Starts v k j
+    (record { lanes = ls; asked = qs; rules = m; members = n; bits = k; number = j; prefix = x; place = k; fresh = true; visits = k })
 starts v k j x m n fixed ls qs game le below members rules room asked mask own sums prefix =
     let lanes = lanes-first v k x fixed ls le (rw prefix mask) own sums in
     grind (arith, common_steps, cond-false, le-ltb, left-all, pow_pos)

@@ -1,5 +1,6 @@
 //! How far a walk has come, and its steps.
-ghost use Rattle.std.specs.Prelude.{◌≡◌, ◌≢◌, ℕ, ◌*◌, ◌+◌, ◌-◌, ◌^◌, ◌<◌, ◌≤◌, false, true, bit_and, min, length, slice_index, IfSome, MatchOption};
+ghost use Rattle.std.specs.Prelude.{◌≡◌, ◌≢◌, ℕ, ◌*◌, ◌+◌, ◌-◌, ◌^◌, ◌<◌, ◌≤◌, false, true, bit_and, min, length, slice_index};
+ghost use Rattle.std.specs.Prelude.{IfSome, MatchOption};
 ghost use Rattle.coalitions.specs.declared.limits.TheConstants.{BITS, MEMBERS, RULES};
 ghost use Rattle.council_game.specs.Game.{votes_of};
 ghost use Rattle.council_game.specs.Votes.{has, without, minimal};
@@ -404,11 +405,30 @@ impl Cursor {
         let mut need = short[rule];
         for other in 0..self.rules {
             if other != rule {
-                let price = ahead.outlooks[rule].prices[other].from[self.place];
-                need = need.max(price.of(short[other]));
+                need = need.max(self.bought(game, ahead, short, rule, other));
             }
         }
         need
+    }
+
+    /// What comes by a rule with the need of another one, at the least.
+    #[inline(always)]
+    fn bought(
+        &self,
+        game: &Game,
+        ahead: &Ahead,
+        short: &[u64; limits::RULES],
+        rule: usize,
+        other: usize,
+    ) -> u64
+        requires is { CursorIs (votes_of game.now) self.now }
+        requires ahead { AheadIs (votes_of game.now) ahead.now }
+        requires short { AreNeeds (votes_of game.now) self.now.place self.now.prefix ahead.now.vetoes short.now }
+        requires rule { rule < self.now.rules }
+        requires other { other < self.now.rules }
+        ensures { IsNeed (votes_of game.now) self.now.place self.now.prefix (vetoes_at ahead.now.vetoes rule) result }
+    {
+        ahead.outlooks[rule].prices[other].from[self.place].of(short[other])
     }
 
     /// What each rule's quota still asks for, beside what vetoers bring.

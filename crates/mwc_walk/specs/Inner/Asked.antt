@@ -7,7 +7,7 @@ use Rattle.mwc_walk.specs.declared.asked.Asked.{Asked}
 abbrev pub asked_at : List Asked → ℕ → ℕ → ℕ
 asked_at qs i p = slice_index (slice_index_or qs i (record { before = [] })).before p
 
--- no more than the quota, and so much that each winning coalition meets the quota with what it weighs from there on
+-- `asked` is at most the quota of rule i; with what a winning coalition weighs from place p on, it meets the quota
 pub record IsAsked (v : Votes) (i p asked : ℕ) : Type 0 where
   pub most : asked ≤ (rule_at v.rules i).quota
   pub least : (c : ℕ) → wins v.rules c ≡ true → (rule_at v.rules i).quota ≤ asked + weight (drop p (rule_at v.rules i).weights) c

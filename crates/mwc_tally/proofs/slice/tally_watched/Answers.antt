@@ -1,4 +1,4 @@
-use Rattle.std.proofs.Common.{◌<◌, ◌^◌, ℕ, subst, sym, arith}
+use Rattle.std.proofs.Common.{arith}
 use Rattle.mwc_tally.proofs.Counting.{counted-step, slice-next, slice-room}
 use Rattle.mwc_tally.proofs.slice.tally_watched.Goals.{in-Found, in-NotYet}
 use Rattle.mwc_tally.proofs.slice.tally_watched.Goals as goal
@@ -8,7 +8,7 @@ count-requires-clause-some g c = (slice-next c.args.slices c.args.j c.in-Found.e
 
 pub count-requires-clause-below : goal.count-requires-clause-below
 count-requires-clause-below g c =
-    subst (λ (n : ℕ). c.in-Found.coalition < 2 ^ n) (sym c.loop-coalition.invariant.counted.tallies.of_game.members)
+    rw c.loop-coalition.invariant.counted.tallies.of_game.members
     (slice-next c.args.slices c.args.j c.in-Found.ensures.seeks.0 c.loop-coalition.invariant.counted).1
 
 pub count-requires-clause-room : goal.count-requires-clause-room
@@ -16,13 +16,10 @@ count-requires-clause-room g c = slice-room c.args.slices c.args.j c.in-Found.en
 
 pub loop-coalition-preserved : goal.loop-coalition-preserved
 loop-coalition-preserved g c = elim c.match-seek.branch [
-  | in-Found w ↦ record {
-    counted = rw w.counts-is (counted-step w.in-Found.ensures.seeks.0 c.loop-coalition.invariant.counted _
-        (w.count.ensures.tallies c.args.slices.game.now));
-    few = rw w.more-is w.tell_if_enough-more.ensures;
-  }
-  | in-NotYet w ↦ record {
-    counted = rw (w.counts-is, w.in-NotYet.ensures.seeks.1) c.loop-coalition.invariant.counted;
-    few = rw w.more-is (omega arith);
-  }
+  | in-Found w ↦ rw (w.counts-is, w.more-is) (record {
+    counted = counted-step w.in-Found.ensures.seeks.0 c.loop-coalition.invariant.counted _ (w.count.ensures.tallies c.args.slices.game.now);
+    few = w.tell_if_enough-more.ensures;
+  })
+  | in-NotYet w ↦
+      rw (w.counts-is, w.more-is, w.in-NotYet.ensures.seeks.1) (record { counted = c.loop-coalition.invariant.counted; few = omega arith })
 ]

@@ -1,9 +1,10 @@
-use Rattle.mwc_walk.proofs.Imports.{rules, arith, common_steps, length-map}
-use Rattle.mwc_walk.proofs.Rules.{same-weights}
+use Rattle.mwc_walk.proofs.Imports.{rules, arith, common_steps, length, length-map, get_or-take, ◌<◌, length-take}
+use Rattle.std.proofs.lemmas.Grind.{same_number_lists}
 use Rattle.mwc_walk.proofs.lane.weights_of.Goals as goal
 
 pub returns-clause-same : goal.returns-clause-same
 returns-clause-same c =
-    same-weights _ c.filled.result _ (omega (arith, c.filled.ensures.long, c.members.ensures.votes.few))
-    (grind (arith, common_steps, length-map))
-    (λ q below. let made = c.filled.ensures.made q 0 (omega (arith, below, c.members.ensures.count)) in search rules)
+    same_number_lists _ _ (grind (arith, common_steps, length-map)) (λ q below.
+    let lt : q < length c.args.game.now.names = omega (arith, below, length-take (length c.args.game.now.names) c.filled.result) in
+    let made = c.filled.ensures.made q 0 (omega (arith, lt, c.members.ensures.count)) in
+    rw (get_or-take (length c.args.game.now.names) c.filled.result q 0 lt) (search rules))

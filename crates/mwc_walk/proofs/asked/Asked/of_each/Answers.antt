@@ -3,6 +3,5 @@ use Rattle.mwc_walk.proofs.asked.Asked.of_each.Goals as goal
 
 pub returns : goal.returns
 returns c = λ i below.
-    let lane = c.requires.lanes i below in
     let made = c.filled.ensures.made i (record { before = [] }) (omega (arith, c.requires.count, below)) in
     grind (arith, common_steps, get_or)

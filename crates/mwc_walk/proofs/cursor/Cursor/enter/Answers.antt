@@ -29,4 +29,5 @@ returns-then-not-wins-clause-steps c =
 pub returns-clause-steps : goal.returns-clause-steps
 returns-clause-steps c =
     let won = sym c.wins.ensures ∙ c.if-not-wins.false in
-    enter-give c.requires.is won c.requires.fresh _ (c.of_mask-found.ensures ∙ c.mask_of.ensures.mask) (c.if-passes_by.ensures.none refl won)
+    enter-give c.requires.is won c.requires.fresh _ (c.of_mask-found.ensures ∙ c.mask_of.ensures.mask)
+    (c.if-passes_by.ensures.none refl won)

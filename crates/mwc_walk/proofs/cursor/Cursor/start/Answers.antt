@@ -5,6 +5,7 @@ pub returns : goal.returns
 returns c =
     let count = c.members-members.ensures.count in
     let prefix = c.first_prefix-prefix.ensures in
-    starts (votes_of c.args.game.now) c.args.bits c.args.number _ _ _ _ _ _ c.members-members.ensures.votes c.requires.bits c.requires.number count
-    c.rules-rules.ensures.votes (omega arith) c.of_each-asked.ensures
-    (rw (prefix, count) at (c.of_mask-fixed.ensures ∙ c.mask_of.ensures.mask)) c.lanes_of-lanes.ensures.lanes c.lanes_of-lanes.ensures.sums prefix
+    starts (votes_of c.args.game.now) c.args.bits c.args.number _ _ _ _ _ _ c.members-members.ensures.votes c.requires.bits
+    c.requires.number count c.rules-rules.ensures.votes (omega arith) c.of_each-asked.ensures
+    (rw (prefix, count) at (c.of_mask-fixed.ensures ∙ c.mask_of.ensures.mask)) c.lanes_of-lanes.ensures.lanes
+    c.lanes_of-lanes.ensures.sums prefix

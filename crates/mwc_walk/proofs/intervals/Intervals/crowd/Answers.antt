@@ -1,4 +1,4 @@
-use Rattle.mwc_walk.proofs.{Covered.closed-up, Imports.arith, Imports.common_steps}
+use Rattle.mwc_walk.proofs.{Coming.closed-up, Imports.arith, Imports.common_steps}
 use Rattle.mwc_walk.proofs.intervals.Intervals.crowd.Goals as goal
 
 pub returns-else-saturating_sub-gap-clause-kept : goal.returns-else-saturating_sub-gap-clause-kept

@@ -8,7 +8,7 @@ none = record { count = 0; items = [] }
 pub returns-clause-few : goal.returns-clause-few
 returns-clause-few c = λ p le. elim (cases_lt p c.args.members) [
   | inl lt ↦ let made = c.filled_back.ensures.made p none lt in search rules
-  | inr past ↦ let last = c.filled_back.ensures.last none in let same : p ≡ c.args.members = omega arith in rw (same, last) c.zero.ensures.few
+  | inr past ↦ let same : p ≡ c.args.members = omega arith in rw (same, c.filled_back.ensures.last none) c.zero.ensures.few
 ]
 
 pub returns-clause-sums : goal.returns-clause-sums
