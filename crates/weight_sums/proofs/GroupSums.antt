@@ -1,10 +1,10 @@
 -- Pairs of sets of two lists that meet a quota, by the members of the one.
+use Rattle.weight_sums.proofs.Imports.{◌≡◌, ◌∙◌, ◌⊎◌, ℕ, ◌+◌, ◌-◌, ◌/◌, ◌%◌, ◌==◌, ◌<◌, ◌≤◌, ◌^◌, cond, eqb, leb, List, [], length, get_or}
 use Rattle.weight_sums.proofs.Imports.{length-take, pow_pos, pow_mono, Set, Fitting, nobody, fits, met, has, IsHalf, IsHalfOf, AreEntered}
-use Rattle.weight_sums.proofs.Imports.{◌≡◌, ◌∙◌, ◌⊎◌, ℕ, ◌+◌, ◌-◌, ◌/◌, ◌%◌, ◌==◌, ◌<◌, ◌≤◌, ◌^◌, Bool, cond, eqb, leb, List, [], length}
-use Rattle.weight_sums.proofs.Imports.{get_or, take, sym, ap, refl, arith, inl, inr, All, sum_by, cases_lt, nat_tests, get_or_default}
-use Rattle.weight_sums.proofs.Imports.{AreOfNeed, Meet, AreOfKeys, low_of, high_of}
+use Rattle.weight_sums.proofs.Imports.{take, sym, ap, arith, inl, inr, All, sum_by, cases_lt, get_or_default, AreOfNeed, Meet, AreOfKeys}
+use Rattle.weight_sums.proofs.Imports.{low_of, high_of, take_all}
 use Rattle.std.proofs.lemmas.Nat.{shr_split, shr_below, Bits.bit_at_above, Bits.bit_at_cat_low, Bits.bit_at_cat_high}
-use Rattle.std.proofs.Common.{min, take_all, mod-lt}
+use Rattle.std.proofs.Common.{min, mod-lt}
 use Rattle.weight_sums.specs.{Inner.Groups.AreGroups, Inner.Tables.HasRows, declared.groups.Groups.Groups}
 use Rattle.weight_sums.proofs.{FittingSets.added, FittingSets.fits-few, FittingSets.sum-alike, TableSums.of-more, TableSums.of-few}
 use Rattle.weight_sums.proofs.SetLaws.{sum-same}
@@ -64,18 +64,6 @@ module _ {q digits : ℕ} {xs ys : List Set} {n : ℕ} {lows highs : List (List 
             let b = ap (λ (y : Set). y.weight) (get_or_default xs n d e lt) in
             omega (arith, meet k e from within, b, is, up));
       }
-
-  -- a set with which none of the others meets the quota
-  pub paired-further : n < length xs → {need : ℕ} (d : Set) {u : Fitting} → need ≡ q - (get_or xs n d).weight → AreOfNeed need ys u
-      → AreEntered ys u
-      → Meet need u.outside ys → ((s : ℕ) → get_or u.here s 0 ≡ 0) → Paired q digits xs ys (n + 1) lows highs u
-  paired-further lt d {u = u} is are entered meet none =
-      paired-more lt d is refl refl are entered meet refl refl
-      (λ k s small. same (eqb k (low_of digits (get_or xs n d))) s (get_or (get_or lows k []) s 0))
-      (λ k s small. same (eqb k (high_of digits (get_or xs n d))) s (get_or (get_or highs k []) s 0))
-    where
-      same : (b : Bool) (s m : ℕ) → m ≡ m + cond b (cond (leb (get_or xs n d).size s) (get_or u.here (s - (get_or xs n d).size) 0) 0) 0
-      same b s m = grind (arith, nat_tests, none (s - (get_or xs n d).size))
 
 pub paired-all : {q : ℕ} {xs ys : List Set} {n : ℕ} {t : Fitting} (g : Groups)
     → Paired q g.digits xs ys n g.low.rows.items g.high.rows.items t → length xs ≤ n → g.digits ≤ 10 → IsHalfOf g.digits xs → IsHalf ys

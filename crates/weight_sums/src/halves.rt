@@ -9,7 +9,7 @@ ghost use Rattle.std.specs.Prelude.{◌≡◌, ℕ, ◌+◌, ◌-◌, ◌<◌, �
 
 use crate::by_size::BySize;
 use crate::groups::Groups;
-use crate::sets::{NOBODY, Set, fill_sets, fill_shortened};
+use crate::sets::{NOBODY, Set, fill};
 use crate::tallies::{Tallies, difference};
 use coalitions::{Memory, limits};
 use std::alloc::Global;
@@ -108,12 +108,12 @@ impl Halves {
     {
         let (front, back) = weights.split_at(weights.len() / 2);
         let digits = ((back.len() + 1) / 2) as u32;
-        fill_sets(front, first, spare)?;
-        fill_sets(back, second, spare)?;
+        fill(front, false, first, spare)?;
+        fill(back, false, second, spare)?;
         let won = Pairs::new(alloc, first, second, quota, digits)?;
-        fill_shortened(back, second, spare)?;
+        fill(back, true, second, spare)?;
         let shortened = Pairs::new(alloc, first, second, quota, digits)?;
-        fill_shortened(front, first, spare)?;
+        fill(front, true, first, spare)?;
         let own = Groups::new(alloc, first, &[NOBODY], quota, digits)?;
         Ok(Halves {
             quota,

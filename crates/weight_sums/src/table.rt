@@ -1,5 +1,5 @@
 //! Numbers by size for each choice of some members.
-ghost use Rattle.std.specs.Prelude.{◌≡◌, ℕ, ◌+◌, ◌-◌, ◌==◌, ◌<◌, ◌≤◌, ◌^◌, [], if◌then◌else◌, nat_le, IfOk, List, length, slice_index, slice_index_or, sum_by};
+ghost use Rattle.std.specs.Prelude.{◌≡◌, ℕ, ◌+◌, ◌-◌, ◌==◌, ◌<◌, ◌≤◌, ◌^◌, false, [], if◌then◌else◌, nat_le, IfOk, List, length, slice_index, slice_index_or, sum_by};
 ghost use Rattle.std.specs.List.{All};
 ghost use Rattle.coalitions.specs.declared.limits.TheConstants.{MEMBERS};
 ghost use Rattle.weight_sums.specs.declared.sets.Set.{Set};
@@ -27,16 +27,14 @@ pub(crate) struct Table {
 }
 
 impl Table {
-    /// So many rows in which nothing is counted.
+    /// A row for each choice, in which nothing is counted.
     pub(crate) fn new(alloc: Global, choices: usize) -> Result<Table, Memory>
         ensures long { IfOk result (λ table. length table.rows.items ≡ choices) }
         ensures none { IfOk result (λ table. (key : Set → ℕ) (f : ℕ → Set → ℕ)
             → AreOfKeys key f [] table.rows.items) }
     {
         let mut rows = Vec::with_capacity(alloc, choices)?;
-        while rows.len() < choices {
-            rows.push([0; limits::SIZES])?;
-        }
+        rows.resize(choices, [0; limits::SIZES])?;
         Ok(Table { rows })
     }
 
@@ -47,6 +45,7 @@ impl Table {
         requires room { (k s : ℕ) → s ≤ MEMBERS
             → slice_index (slice_index_or self.old.rows.items k []) s < 2 ^ 63 }
         requires size { size ≤ 20 }
+        requires any { fitting.now.any ≡ false → (j : ℕ) → slice_index fitting.now.here j ≡ 0 }
         requires few { (j : ℕ) → slice_index fitting.now.here j ≤ 2 ^ 20 }
         ensures long { length self.new.rows.items ≡ length self.old.rows.items }
         ensures row { (k s : ℕ) → s ≤ MEMBERS → slice_index (slice_index_or self.new.rows.items k []) s

@@ -1,9 +1,10 @@
 -- Rows of prefixes that are not complete, and how they go on.
-use Rattle.std.specs.Prelude.{ℕ, ◌+◌, ◌*◌, ◌≤◌, ◌^◌, ◌≡◌, List, [], ◌∷◌, length, sum, slice_index, slice_index_or, sum_by}
+use Rattle.std.specs.Prelude.{ℕ, ◌+◌, ◌-◌, ◌*◌, ◌≤◌, ◌^◌, ◌≡◌, List, [], ◌∷◌, length, sum, slice_index, slice_index_or, sum_by}
 use Rattle.std.specs.List.{All}
 use Rattle.coalitions.specs.declared.limits.TheConstants.{MEMBERS, SIZES}
 use Rattle.weight_sums.specs.Endings.{choose, endings, fill, taken}
 use Rattle.weight_sums.specs.declared.row.Open.{Open}
+use Rattle.weight_sums.specs.declared.by_size.BySize.{BySize}
 
 -- the sum of a number that goes with a need and a size, over the prefixes of a row
 abbrev pub weigh : (ℕ → ℕ → ℕ) → List Open → ℕ
@@ -21,10 +22,10 @@ come_to heads s ws done row = slice_index done s + weigh (endings ws heads s) ro
 abbrev pub at_most : ℕ → ℕ → List ℕ → List Open → ℕ
 at_most s left done row = slice_index done s + prefixes row * 2 ^ left
 
--- the prefixes of a row with a member more, of weight w: complete and counted by size, or others
-pub record AreTaken (w heads left : ℕ) (before done : List ℕ) (row others : List Open) : Type 0 where
+-- these prefixes of a row with a member more, of weight w: complete and counted by size, or others
+pub record AreTaken (w heads left : ℕ) (before done : List ℕ) (row these others : List Open) : Type 0 where
   pub counted : (g : ℕ → ℕ → ℕ) (s : ℕ) → s ≤ MEMBERS
-      → slice_index done s + weigh g others ≡ slice_index before s + weigh (taken w (fill heads s left) g) row
+      → slice_index done s + weigh g others ≡ slice_index before s + weigh (taken w (fill heads s left) g) these
   pub sizes : (p : ℕ) → All (λ o. o.size ≤ p) row → All (λ o. o.size ≤ p + 1) others
 
 -- the prefixes of two rows
@@ -39,10 +40,15 @@ pub record GoesOn (w rest left heads : ℕ) (before done : List ℕ) (row next :
   pub few : (s : ℕ) → s ≤ MEMBERS → at_most s left done next ≤ at_most s (left + 1) before row
   pub sizes : (p : ℕ) → All (λ o. o.size ≤ p) row → All (λ o. o.size ≤ p + 1) next
 
--- a row of prefixes of at most p members, where so many are left, and the coalitions counted by then, by size
-pub record AreOfPrefixes (p left : ℕ) (done : List ℕ) (row : List Open) : Type 0 where
+-- a row of prefixes, where this many members are left, and the coalitions counted by then, by size
+pub record AreOfPrefixes (left : ℕ) (done : List ℕ) (row : List Open) : Type 0 where
   pub few : (s : ℕ) → s ≤ MEMBERS → at_most s left done row ≤ 2 ^ MEMBERS
-  pub sizes : All (λ o. o.size ≤ p) row
+  pub sizes : All (λ o. o.size ≤ MEMBERS - left) row
+
+-- a tally has those of all that a row does not come to with members of these weights behind it
+pub record IsOfTheRest (heads : ℕ) (ws done : List ℕ) (row : List Open) (all t : BySize) : Type 0 where
+  pub long : length t.sizes ≡ SIZES
+  pub sizes : (s : ℕ) → s ≤ MEMBERS → slice_index t.sizes s + come_to heads s ws done row ≡ slice_index all.sizes s
 
 -- row m has in how many ways so many of m can be chosen
 pub record AreChoices (rows : List (List ℕ)) : Type 0 where
