@@ -100,6 +100,15 @@ unfolding endings left_out
 endings-less p h s [] r a = omega arith
 endings-less zero h s (w ∷ ws) r a = omega arith
 endings-less (suc p) h s (w ∷ ws) r a =
-    grind (arith, endings-less p h s ws (r - w) (a + 1), endings-less p h s ws r a, cases_lt, length-left_out, fill-less, nat_tests, past-end)
+    grind (
+      arith,
+      nat_tests,
+      endings-less p h s ws (r - w) (a + 1),
+      endings-less p h s ws r a,
+      cases_lt,
+      length-left_out,
+      fill-less,
+      past-end,
+    )
 
 pub ruleset fewer = (endings-less)

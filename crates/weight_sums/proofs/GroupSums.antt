@@ -1,10 +1,10 @@
 -- Pairs of sets of two lists that meet a quota, by the members of the one.
 use Rattle.weight_sums.proofs.Imports.{◌≡◌, ◌∙◌, ◌⊎◌, ℕ, ◌+◌, ◌-◌, ◌/◌, ◌%◌, ◌==◌, ◌<◌, ◌≤◌, ◌^◌, cond, eqb, leb, List, [], length, get_or}
 use Rattle.weight_sums.proofs.Imports.{length-take, pow_pos, pow_mono, Set, Fitting, nobody, fits, met, has, IsHalf, IsHalfOf, AreEntered}
-use Rattle.weight_sums.proofs.Imports.{take, sym, ap, arith, inl, inr, All, sum_by, cases_lt, get_or_default, AreOfNeed, Meet, AreOfKeys}
-use Rattle.weight_sums.proofs.Imports.{low_of, high_of, take_all}
+use Rattle.weight_sums.proofs.Imports.{take, sym, ap, arith, inl, inr, All, sum_by, cases_lt, AreOfNeed, Meet, AreOfKeys, low_of, high_of}
+use Rattle.weight_sums.proofs.Imports.{take_all}
 use Rattle.std.proofs.lemmas.Nat.{shr_split, shr_below, Bits.bit_at_above, Bits.bit_at_cat_low, Bits.bit_at_cat_high}
-use Rattle.std.proofs.Common.{min, mod-lt}
+use Rattle.std.proofs.{Common.min, Common.mod-lt, lemmas.List.get_or_default}
 use Rattle.weight_sums.specs.{Inner.Groups.AreGroups, Inner.Tables.HasRows, declared.groups.Groups.Groups}
 use Rattle.weight_sums.proofs.{FittingSets.added, FittingSets.fits-few, FittingSets.sum-alike, TableSums.of-more, TableSums.of-few}
 use Rattle.weight_sums.proofs.SetLaws.{sum-same}

@@ -1,9 +1,9 @@
 -- Tallies of the coalitions that members lead to, from the sets of their two halves.
-use Rattle.weight_sums.proofs.Imports.{length, get_or, take, drop, sym, ap, refl, arith, inl, inr, length-take, sum_by, cases_lt, nat_tests}
-use Rattle.weight_sums.proofs.Imports.{◌≡◌, ◌∙◌, ℕ, zero, suc, ◌+◌, ◌-◌, ◌/◌, ◌<◌, ◌≤◌, Bool, true, false, cond, leb, List, [], ◌∷◌, ◌++◌}
-use Rattle.weight_sums.proofs.Imports.{Set, one_of_size, endings, left_out, nobody, over, has, fits, met, AreSets}
+use Rattle.weight_sums.proofs.Imports.{◌∙◌, ℕ, zero, suc, ◌+◌, ◌-◌, ◌/◌, ◌<◌, ◌≤◌, Bool, true, false, cond, leb, List, [], ◌∷◌, ◌++◌, Set}
+use Rattle.weight_sums.proofs.Imports.{length, take, drop, sym, ap, refl, arith, inl, inr, length-take, sum_by, cases_lt, nat_tests, ◌≡◌}
+use Rattle.weight_sums.proofs.Imports.{one_of_size, endings, left_out, nobody, over, has, fits, met, AreSets, IsLeft}
 use Rattle.std.proofs.{Common.take-append-drop, lemmas.Bool.cases_order}
-use Rattle.weight_sums.specs.{Inner.Halves.AreHalves, Inner.Halves.AreLeft, declared.halves.Halves.Halves}
+use Rattle.weight_sums.specs.{Inner.Halves.AreHalves, declared.halves.Halves.Halves}
 use Rattle.weight_sums.proofs.EndingLaws.{past-end, endings-counted}
 use Rattle.weight_sums.proofs.SetLaws.{sum-one, sum-if, sum-swap, fits-halves, fits-turned, left_out-over}
 
@@ -95,9 +95,10 @@ pub enough-won : (ws : List ℕ) (heads q s won shortened own : ℕ) → AreMet 
 enough-won ws heads q s won shortened own are some above =
     omega (arith, are.won_is, are.shortened_is, (endings-counted ws heads s q some).more above)
 
-pub left-is : (ws : List ℕ) (heads q s : ℕ) (won shortened own sizes : List ℕ)
-    → AreMet ws q s (get_or won s 0) (get_or shortened s 0) (get_or own s 0) → AreLeft heads won shortened own sizes → 0 < q → s ≤ 40
-    → get_or sizes s 0 ≡ endings ws heads s q 0
-left-is ws heads q s won shortened own sizes are left some small =
+pub left-is : (ws : List ℕ) (heads q s won shortened own n : ℕ) → AreMet ws q s won shortened own → IsLeft heads s won shortened own n
+    → 0 < q → n ≡ endings ws heads s q 0
+left-is ws heads q s won shortened own n are left some =
     let law = endings-counted ws heads s q some in
     grind (arith, cases_order)
+
+pub ruleset places = (past-end)

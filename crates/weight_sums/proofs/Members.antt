@@ -1,8 +1,8 @@
 -- The tallies of a member's coalitions, as the passes give them.
-use Rattle.weight_sums.proofs.Imports.{◌+◌, ◌<◌, ◌≤◌, List, [], ◌∷◌, length, get_or, set, get_or-set_same, get_or-set_other, length-set, ap}
-use Rattle.weight_sums.proofs.Imports.{cases_eq, sum_by-cons, endings, left_out, AreEndings, Open, weigh, AreOfPrefixes, ◌≡◌, ℕ, zero, suc}
-use Rattle.weight_sums.proofs.Imports.{arith, sum, pow_mono, GoesOn, come_to}
-use Rattle.weight_sums.specs.{Endings.no_sizes, Endings.AreEndingsWith, Inner.Rows.IsOfTheRest, declared.by_size.BySize.BySize}
+use Rattle.weight_sums.proofs.Imports.{sum_by-cons, endings, left_out, Open, weigh, AreOfPrefixes, ◌≡◌, ℕ, zero, suc, arith, sum, pow_mono}
+use Rattle.weight_sums.proofs.Imports.{◌+◌, ◌<◌, ◌≤◌, List, [], ◌∷◌, length, get_or, set, get_or-set_same, get_or-set_other, ap, GoesOn}
+use Rattle.weight_sums.proofs.Imports.{come_to, no_sizes, common_steps}
+use Rattle.weight_sums.specs.{Inner.Rows.IsOfTheRest, declared.by_size.BySize.BySize}
 use Rattle.weight_sums.proofs.EndingLaws.{length-left_out}
 
 -- the row of the empty prefix
@@ -14,20 +14,6 @@ pub come-start : (ws : List ℕ) (heads q s : ℕ) (done : List ℕ) (row : List
     → row ≡ record { need = q; size = 0; ways = 1 } ∷ [] → come_to heads s ws done row ≡ endings ws heads s q 0
 come-start ws heads q s done row none is = omega (arith, none, ap (weigh (endings ws heads s)) is)
 
--- ---- the tallies of the first p members
-pub record Tallied (ws : List ℕ) (heads q p : ℕ) (each : List BySize) : Type 0 where
-  pub long : length each ≡ 40
-  pub tallies : (k : ℕ) → k < p → AreEndingsWith ws heads q k (get_or each k no_sizes)
-
-pub tallied-more : {ws : List ℕ} {heads q p : ℕ} {each : List BySize} {t : BySize} → Tallied ws heads q p each → p < 40
-    → AreEndingsWith ws heads q p t → Tallied ws heads q (p + 1) (set each p t)
-tallied-more {p = p} {each = each} {t = t} old few own = grind (arith, length-set, cases_eq, get_or-set_same, get_or-set_other)
-
-pub member-tallied : {ws : List ℕ} {heads q p : ℕ} {all : BySize} (without : List ℕ) (t : BySize) → AreEndings ws heads q all
-    → length t.sizes ≡ 41 → ((s : ℕ) → s ≤ 40 → get_or without s 0 ≡ endings (left_out p ws) heads s q 0)
-    → ((s : ℕ) → s ≤ 40 → get_or t.sizes s 0 + get_or without s 0 ≡ get_or all.sizes s 0) → AreEndingsWith ws heads q p t
-member-tallied without t is long left sum_is = grind (arith)
-
 -- ---- the members from one on
 -- what a row comes to without a member behind the next is what it comes to when the next is decided
 sum-left_out : (k : ℕ) (ws : List ℕ) → sum (left_out k ws) ≤ sum ws
@@ -36,11 +22,18 @@ sum-left_out k [] = omega arith
 sum-left_out zero (w ∷ ws) = simp sum_by-cons (omega arith)
 sum-left_out (suc k) (w ∷ ws) = simp sum_by-cons (omega (arith, sum-left_out k ws))
 
-pub come-more : {w rest left heads : ℕ} {done after : List ℕ} {row next : List Open} (later : List ℕ) (k s : ℕ)
+come-more : {w rest left heads : ℕ} {done after : List ℕ} {row next : List Open} (later : List ℕ) (k s : ℕ)
     → GoesOn w rest left heads done after row next → rest ≡ sum later → length later ≡ left + 1 → k < length later → s ≤ 40
     → come_to heads s (left_out k later) after next ≡ come_to heads s (left_out (suc k) (w ∷ later)) done row
 unfolding left_out
 come-more later k s on all one lt small = grind (arith, sum-left_out, length-left_out)
+
+pub come-less : {w rest left heads : ℕ} {done after : List ℕ} {row next : List Open} (ws later sizes : List ℕ) → ws ≡ w ∷ later
+    → GoesOn w rest left heads done after row next → rest ≡ sum later → length later ≡ left + 1
+    → ((k s : ℕ) → k < length ws → s ≤ 40 → come_to heads s (left_out k ws) done row ≤ get_or sizes s 0)
+    → (k s : ℕ) → k < length later → s ≤ 40 → come_to heads s (left_out k later) after next ≤ get_or sizes s 0
+come-less ws later sizes is on all one less k s lt small =
+    omega (arith, come-more later k s on all one lt small, (rw is at less) (suc k) s (omega (arith, lt)) small)
 
 pub tallied-from : {w rest left heads place : ℕ} {done after : List ℕ} {row next : List Open} {all own : BySize}
     (each : List BySize) (later : List ℕ) → GoesOn w rest left heads done after row next → rest ≡ sum later → length later ≡ left + 1
@@ -55,4 +48,4 @@ tallied-from {place = place} each later on all one here rest room (suc k) lt =
     let e : place + suc k ≡ place + 1 + k = omega arith in
     grind (arith, get_or-set_other, come-more)
 
-pub ruleset tallying = (come-more, tallied-from)
+pub ruleset tallying = (common_steps, get_or-set_same)

@@ -23,7 +23,8 @@ double-times : (m left : ℕ) → m * 2 ^ (left + 1) ≡ m * 2 ^ left + m * 2 ^ 
 double-times m left = grind (arith, nat_tests, common_steps)
 
 -- a row, what its prefixes are with a member more, and those that go on without it
-module _ {w heads left : ℕ} {before done : List ℕ} {row others : List Open} (taken-are : AreTaken w heads left before done row row others) where
+module _ {w heads left : ℕ} {before done : List ℕ} {row others : List Open}
+    (taken-are : AreTaken w heads left before done row row others) where
   pub merge-few : (k : ℕ) → ((s : ℕ) → s ≤ 40 → get_or before s 0 + prefixes row * 2 ^ (left + 1) < 2 ^ 64)
       → prefixes (take k row) + prefixes others < 2 ^ 64
   merge-few k room =
@@ -67,7 +68,8 @@ pub prefixes-more : {w rest left heads m : ℕ} {before done : List ℕ} {row ne
     → left < 40 → GoesOn w rest left heads before done row next → AreOfPrefixes left done next
 prefixes-more {left = left} are is lt on = let sizes = on.sizes (40 - (left + 1)) (rw is at are.sizes) in grind (arith)
 
-pub come-none : (ws : List ℕ) (heads s : ℕ) (done : List ℕ) (row : List Open) → length ws ≡ 0 → get_or done s 0 ≡ come_to heads s ws done row
+pub come-none : (ws : List ℕ) (heads s : ℕ) (done : List ℕ) (row : List Open) → length ws ≡ 0
+    → get_or done s 0 ≡ come_to heads s ws done row
 unfolding endings
 come-none [] heads s done row none = omega (arith, weigh-times 0 row)
 come-none (w ∷ ws) heads s done row none = absurd (omega arith)

@@ -59,16 +59,13 @@ record IsWithin (n total : ℕ) (x : Set) : Type 0 where
 -- what no set within these bounds has
 over-none : (short : Bool) (ws : List ℕ) (g : Set → ℕ) → ((x : Set) → IsWithin (length ws) (sum ws) x → g x ≡ 0) → over short ws g ≡ 0
 unfolding over
-over-none short [] g none =
-    grind (arith, nat_tests)
+over-none short [] g none = grind (arith, nat_tests)
 over-none short (w ∷ ws) g none =
     let total : sum (w ∷ ws) ≡ w + sum ws = sum_by-cons (λ (y : ℕ). y) w ws in
-    let double = double-pow (length ws) in
     let pos = pow_pos (length ws) in
     let one = none alone (grind (arith)) in
     let out = over-none short ws (λ x. g (left x)) (λ x h. none (left x) (grind (arith))) in
-    let with_it = over-none short ws (λ x. g (joined w x)) (λ x h. none (joined w x) (grind (arith))) in
-    grind (arith, nat_tests, one, out, with_it)
+    let with_it = over-none short ws (λ x. g (joined w x)) (λ x h. none (joined w x) (grind (arith))) in grind (arith, nat_tests)
 
 -- so many sets
 sum-ones : (xs : List Set) → sum_by (λ x. 1) xs ≡ length xs

@@ -54,3 +54,5 @@ unfolding added_to
 added-all m n p key g xs keys all =
     sum-alike (λ x. cond (ltb (key x) n) (cond (has p (key x)) 0 (g x)) 0) (λ x. cond (has p (key x)) 0 (g x)) xs nobody
     (λ k lt. grind (arith, nat_tests))
+
+pub ruleset adding = (added-further)

@@ -1,10 +1,10 @@
 -- Rows of prefixes, one prefix more.
 use Rattle.weight_sums.proofs.Imports.{pow_mono, ◌≡◌, ◌∙◌, ℕ, ◌+◌, ◌*◌, ◌<◌, ◌≤◌, ◌^◌, List, [], ◌∷◌, ◌++◌, length, take, drop, get_or, set}
-use Rattle.weight_sums.proofs.Imports.{cond, replicate, ltb, zero, suc, length-set, ap, refl, arith, ◌-◌, get_or-set_same, get_or-set_other}
-use Rattle.weight_sums.proofs.Imports.{All, nat_tests, mul-le-mul_left, pow_pos, sum_by_push, sum_by_more, sum_by-drop_more, All-push, Open}
+use Rattle.weight_sums.proofs.Imports.{nat_tests, mul-le-mul_left, pow_pos, sum_by_push, sum_by_more, sum_by-drop_more, All-push, Open}
+use Rattle.weight_sums.proofs.Imports.{cond, replicate, ltb, zero, suc, ap, refl, arith, ◌-◌, get_or-set_same, get_or-set_other, All}
 use Rattle.weight_sums.proofs.Imports.{choose, fill, one_of_size, taken, weigh, prefixes, mul-le-mul_right, take_all, sum_by-take-le}
 use Rattle.weight_sums.proofs.Imports.{AreTaken, sum_by-cons}
-use Rattle.std.proofs.Common.{max}
+use Rattle.std.proofs.Common.{length-set, max}
 
 pub choose-most : (m k : ℕ) → choose m k ≤ 2 ^ m
 unfolding choose
@@ -21,8 +21,8 @@ pub fill-most : (heads s left size : ℕ) → fill heads s left size ≤ 2 ^ lef
 fill-most heads s left size = grind (arith, nat_tests, pow_pos left, choose-most left (heads - size))
 
 -- what is counted of one prefix that is complete: at one size, this many times
-times-most : (n ways heads left size times : ℕ) → times ≡ cond (ltb heads size) 1 (choose left (heads - size)) → n + ways * 2 ^ left < 2 ^ 64
-    → n + ways * times < 2 ^ 64
+times-most : (n ways heads left size times : ℕ) → times ≡ cond (ltb heads size) 1 (choose left (heads - size))
+    → n + ways * 2 ^ left < 2 ^ 64 → n + ways * times < 2 ^ 64
 times-most n ways heads left size times is room =
     let most : times ≤ 2 ^ left = grind (arith, nat_tests, pow_pos left, choose-most left (heads - size)) in
     omega (arith, room, mul-le-mul_left ways most)
@@ -46,7 +46,8 @@ pub put-down : (w need size heads left ways s : ℕ) (g : ℕ → ℕ → ℕ) (
     → after ≡ others ++ record { need = need - w; size = size + 1; ways = ways } ∷ []
     → weigh g after ≡ weigh g others + ways * taken w (fill heads s left) g need size
 put-down w need size heads left ways s g others after more is =
-    grind (arith, nat_tests, sum_by_push (λ (p : Open). p.ways * g p.need p.size) others (record { need = need - w; size = size + 1; ways = ways }))
+    let own : Open = record { need = need - w; size = size + 1; ways = ways } in
+    grind (arith, nat_tests, sum_by_push (λ (p : Open). p.ways * g p.need p.size) others own)
 
 pub weigh-times : (x : ℕ) (row : List Open) → weigh (λ r a. x) row ≡ prefixes row * x
 weigh-times x [] = omega arith
@@ -60,8 +61,9 @@ taken-most : (w heads left s r a : ℕ) → taken w (fill heads s left) (λ x y.
 taken-most w heads left s r a = grind (arith, nat_tests, fill-most heads s left (a + 1))
 
 -- what is counted of the prefixes and what is put down are no more than they are, and what is left can fill up
-pub others-few : {w heads left : ℕ} {before done : List ℕ} {all row others : List Open} → AreTaken w heads left before done all row others → (s : ℕ)
-    → s ≤ 40 → get_or done s 0 + prefixes others * 2 ^ left ≤ get_or before s 0 + prefixes row * 2 ^ left
+pub others-few : {w heads left : ℕ} {before done : List ℕ} {all row others : List Open}
+    → AreTaken w heads left before done all row others → (s : ℕ) → s ≤ 40
+    → get_or done s 0 + prefixes others * 2 ^ left ≤ get_or before s 0 + prefixes row * 2 ^ left
 others-few {w = w} {heads = heads} {left = left} {row = row} {others = others} are s small =
     let taken-few = weigh-most (taken w (fill heads s left) (λ x y. 2 ^ left)) (2 ^ left) row (taken-most w heads left s) in
     omega (arith, are.counted (λ r a. 2 ^ left) s small, weigh-times (2 ^ left) others, taken-few)

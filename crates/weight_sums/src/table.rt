@@ -55,7 +55,22 @@ impl Table {
         fitting.add(size, &mut self.rows[key]);
     }
 
+    /// Adds the row of a key, unless the member of a place is in its choice.
+    fn add_to(&self, key: usize, place: usize, sum: &mut [u64; limits::SIZES])
+        requires key { key < length self.now.rows.items }
+        requires place { place ≤ 20 }
+        requires room { (s : ℕ) → s ≤ MEMBERS
+            → slice_index sum.old s + slice_index (slice_index_or self.now.rows.items key []) s < 2 ^ 64 }
+        ensures { (s : ℕ) → s ≤ MEMBERS → slice_index sum.new s
+            ≡ slice_index sum.old s + (if has place key then 0 else slice_index (slice_index_or self.now.rows.items key []) s) }
+    {
+        if (key >> place) % 2 != 1 {
+            add_row(sum, &self.rows[key]);
+        }
+    }
+
     /// The rows of all choices without the member of a place, added.
+    #[tactic(auto, using(std::proofs::lemmas::Grind::common_steps, crate::proofs::TableSums::adding))]
     pub(crate) fn without(&self, place: usize) -> [u64; limits::SIZES]
         requires rows { HasRows self.now.rows.items }
         requires place { place ≤ 20 }
@@ -65,9 +80,7 @@ impl Table {
     {
         let mut sum = [0; limits::SIZES];
         for key in 0..self.rows.len() {
-            if (key >> place) % 2 != 1 {
-                add_row(&mut sum, &self.rows[key]);
-            }
+            self.add_to(key, place, &mut sum);
         }
         sum
     }

@@ -3,8 +3,8 @@ use Rattle.weight_sums.proofs.sets.with_first.Goals as goal
 
 pub loop-j-preserved-then-is_light : goal.loop-j-preserved-then-is_light
 loop-j-preserved-then-is_light c =
-    doubling-left c.loop-j.invariant c.requires.ascend _ c.in_ok-push.ensures.items (c.is_light.ensures.place c.if-is_light.true) c.left.ensures
-    (rw c.joined-with.ensures at c.is_light.ensures.light c.if-is_light.true)
+    doubling-left c.loop-j.invariant c.requires.ascend _ c.in_ok-push.ensures.items (c.is_light.ensures.place c.if-is_light.true)
+    c.left.ensures (rw c.joined-with.ensures at c.is_light.ensures.light c.if-is_light.true)
 
 pub loop-j-preserved : goal.loop-j-preserved
 loop-j-preserved c =

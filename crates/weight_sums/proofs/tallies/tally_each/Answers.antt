@@ -10,5 +10,7 @@ returns c p lt =
     let rest = rw e at (c.in_ok-tally_from.ensures c.if-not-branch.false p lt) in
     record {
       long = rest.long;
-      sizes = λ s small. omega (arith, rest.sizes s small, c.in_ok-begin.ensures.come (left_out p c.args.weights.now) c.args.heads.now.asked s, c.requires.all.sizes s small);
+      sizes = λ s small. (
+          let begun = c.in_ok-begin.ensures.come (left_out p c.args.weights.now) c.args.heads.now.asked s in
+          omega (arith, rest.sizes s small, begun, c.requires.all.sizes s small));
     }

@@ -17,12 +17,11 @@ met-at c s small =
     (λ past. c.without-shortened.ensures.second q s are.first are.second_shortened are.shortened past small)
     (c.without-own.ensures q are.first_shortened (nobody ∷ []) s are.own small)
 
-pub left_of-requires-clause-fewer : goal.left_of-requires-clause-fewer
-left_of-requires-clause-fewer c s above small =
-    enough-won _ c.args.heads _ s _ _ _ (met-at (goal.at.left_of-requires-clause-fewer c).After-without-own s small) c.requires.some above
+pub left_of-requires : goal.left_of-requires
+left_of-requires c s above small =
+    enough-won _ c.args.heads _ s _ _ _ (met-at (goal.at.left_of-requires c).After-without-own s small) c.requires.some above
 
 pub returns-clause-sizes : goal.returns-clause-sizes
 returns-clause-sizes c s small =
-    left-is _ c.args.heads _ s c.without-won.result c.without-shortened.result c.without-own.result c.left_of.result
-    (met-at (goal.at.returns-clause-sizes c).After-without-own s small)
-    c.left_of.ensures c.requires.some small
+    left-is _ c.args.heads _ s _ _ _ _ (met-at (goal.at.returns-clause-sizes c).After-without-own s small) (c.left_of.ensures.are s small)
+    c.requires.some
