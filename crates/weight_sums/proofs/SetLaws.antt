@@ -68,7 +68,7 @@ fits-halves short vs ws q s =
   where
     both : (x y : Set) → cond (leb q (y.weight + x.weight)) (one_of_size s (0 + (y.size + x.size))) 0 ≡ fits (q - x.weight) x.size s y
     both x y =
-        let e : 0 + (y.size + x.size) ≡ x.size + y.size = omega arith in grind (arith, meets-less, one_of_size)
+        grind (arith, meets-less, one_of_size)
 
 -- two sets meet a quota together, whichever is named first
 pub fits-turned : (q s : ℕ) (x y : Set) → fits (q - x.weight) x.size s y ≡ fits (q - y.weight) y.size s x

@@ -63,7 +63,6 @@ over-none short [] g none = grind (arith, nat_tests)
 over-none short (w ∷ ws) g none =
     let total : sum (w ∷ ws) ≡ w + sum ws = sum_by-cons (λ (y : ℕ). y) w ws in
     let pos = pow_pos (length ws) in
-    let one = none alone (grind (arith)) in
     let out = over-none short ws (λ x. g (left x)) (λ x h. none (left x) (grind (arith))) in
     let with_it = over-none short ws (λ x. g (joined w x)) (λ x h. none (joined w x) (grind (arith))) in grind (arith, nat_tests)
 
