@@ -5,7 +5,7 @@ use Rattle.weight_sums.proofs.Imports.{take, sym, ap, arith, inl, inr, All, sum_
 use Rattle.weight_sums.proofs.Imports.{take_all}
 use Rattle.std.proofs.lemmas.Nat.{shr_split, shr_below, Bits.bit_at_above, Bits.bit_at_cat_low, Bits.bit_at_cat_high}
 use Rattle.std.proofs.{Common.min, Common.mod-lt, lemmas.List.get_or_default}
-use Rattle.weight_sums.specs.{Inner.Groups.AreGroups, Inner.Tables.HasRows, declared.groups.Groups.Groups}
+use Rattle.weight_sums.specs.{Inner.Groups.AreGroups, declared.groups.Groups.Groups}
 use Rattle.weight_sums.proofs.{FittingSets.added, FittingSets.fits-few, FittingSets.sum-alike, TableSums.of-more, TableSums.of-few}
 use Rattle.weight_sums.proofs.SetLaws.{sum-same}
 
@@ -20,19 +20,20 @@ pub record Paired (q digits : ℕ) (xs ys : List Set) (n : ℕ) (lows highs : Li
   pub meet : (k m : ℕ) (d : Set) → t.outside ≤ k → k < length ys → n ≤ m → m < length xs
       → q ≤ (get_or ys k d).weight + (get_or xs m d).weight
 
+keys-few : (key : Set → ℕ) (q : ℕ) (xs ys : List Set) (n : ℕ) (rows : List (List ℕ)) → IsHalf xs → IsHalf ys
+    → AreOfKeys key (met q ys) (take n xs) rows → (k s : ℕ) → s ≤ 40 → get_or (get_or rows k []) s 0 ≤ 2 ^ 40
+keys-few key q xs ys n rows first second are k s small =
+    let most = of-few key (met q ys) (take n xs) rows are (λ i x. fits-few (q - x.weight) x.size i ys second) k s small in
+    omega (arith, most, length-take n xs, first.long)
+
 module _ {q digits : ℕ} {xs ys : List Set} {n : ℕ} {lows highs : List (List ℕ)} {t : Fitting} (h : Paired q digits xs ys n lows highs t)
     (first : IsHalf xs) where
   -- what the rows have is far from too much
-  pub paired-rows : digits ≤ 10 → IsHalf ys → HasRows lows × HasRows highs
-  paired-rows few second = (rows lows (low_of digits) h.low_long h.low_is, rows highs (high_of digits) h.high_long h.high_is)
-    where
-      rows : (l : List (List ℕ)) (key : Set → ℕ) → length l ≡ 2 ^ digits → AreOfKeys key (met q ys) (take n xs) l → HasRows l
-      rows l key long are = record {
-        long = (let up : 2 ^ digits ≤ 2 ^ 10 = pow_mono few in omega (arith, long, up));
-        few = λ k s small. (
-            let most = of-few key (met q ys) (take n xs) l are (λ i x. fits-few (q - x.weight) x.size i ys second) k s small in
-            omega (arith, most, length-take n xs, first.long));
-      }
+  pub low-few : IsHalf ys → (k s : ℕ) → s ≤ 40 → get_or (get_or lows k []) s 0 ≤ 2 ^ 40
+  low-few second = keys-few (low_of digits) q xs ys n lows first second h.low_is
+
+  pub high-few : IsHalf ys → (k s : ℕ) → s ≤ 40 → get_or (get_or highs k []) s 0 ≤ 2 ^ 40
+  high-few second = keys-few (high_of digits) q xs ys n highs first second h.high_is
 
   pub next-meets : n < length xs → (need : ℕ) (d : Set) → need ≡ q - (get_or xs n d).weight → Meet need t.outside ys
   next-meets lt need d is k e from within =
@@ -69,7 +70,7 @@ pub paired-all : {q : ℕ} {xs ys : List Set} {n : ℕ} {t : Fitting} (g : Group
     → Paired q g.digits xs ys n g.low.rows.items g.high.rows.items t → length xs ≤ n → g.digits ≤ 10 → IsHalfOf g.digits xs → IsHalf ys
     → AreGroups q xs ys g
 paired-all {xs = xs} {n = n} g h end few first second =
-    let rows = paired-rows h first.half few second in grind (arith, take_all)
+    let up : 2 ^ g.digits ≤ 2 ^ 10 = pow_mono few in grind (arith, take_all, low-few h first.half second, high-few h first.half second)
 
 -- ---- the members of a set, the first and the others
 has-low : (d p m : ℕ) → p < d → has p (m % 2 ^ d) ≡ has p m

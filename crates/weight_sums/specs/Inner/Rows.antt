@@ -18,7 +18,7 @@ prefixes row = sum_by (λ o. o.ways) row
 abbrev pub come_to : ℕ → ℕ → List ℕ → List ℕ → List Open → ℕ
 come_to heads s ws done row = slice_index done s + weigh (endings ws heads s) row
 
--- how many of size s can there be at most, where so many members are left
+-- how many of size s can there be at most, where `left` members are left
 abbrev pub at_most : ℕ → ℕ → List ℕ → List Open → ℕ
 at_most s left done row = slice_index done s + prefixes row * 2 ^ left
 
@@ -33,7 +33,7 @@ pub record AreMerged (a b row : List Open) : Type 0 where
   pub all : (g : ℕ → ℕ → ℕ) → weigh g row ≡ weigh g a + weigh g b
   pub sizes : (p : ℕ) → All (λ o. o.size ≤ p) a → All (λ o. o.size ≤ p) b → All (λ o. o.size ≤ p) row
 
--- a row with one member more decided, of weight w, where so many are left, which weigh at most so much
+-- a row with one member more decided, of weight w, where `left` members are left, which weigh at most `rest`
 pub record GoesOn (w rest left heads : ℕ) (before done : List ℕ) (row next : List Open) : Type 0 where
   pub counted : (ws : List ℕ) (s : ℕ) → sum ws ≤ rest → length ws ≡ left → s ≤ MEMBERS
       → come_to heads s ws done next ≡ come_to heads s (w ∷ ws) before row
@@ -50,7 +50,7 @@ pub record IsOfTheRest (heads : ℕ) (ws done : List ℕ) (row : List Open) (all
   pub long : length t.sizes ≡ SIZES
   pub sizes : (s : ℕ) → s ≤ MEMBERS → slice_index t.sizes s + come_to heads s ws done row ≡ slice_index all.sizes s
 
--- row m has in how many ways so many of m can be chosen
+-- row m has, at place k, in how many ways k of m members can be chosen
 pub record AreChoices (rows : List (List ℕ)) : Type 0 where
   pub long : length rows ≡ SIZES
   pub each : (m k : ℕ) → m ≤ MEMBERS → k ≤ MEMBERS → slice_index (slice_index_or rows m []) k ≡ choose m k

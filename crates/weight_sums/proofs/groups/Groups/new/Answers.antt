@@ -1,15 +1,13 @@
-use Rattle.weight_sums.proofs.{GroupSums.paired-rows, GroupSums.paired-more, GroupSums.paired-all, Imports.arith, Imports.nobody}
+use Rattle.weight_sums.proofs.{Imports.arith, Imports.nobody}
+use Rattle.weight_sums.proofs.GroupSums.{low-few, high-few, paired-more, paired-all}
 use Rattle.weight_sums.proofs.groups.Groups.new.Goals as goal
 
 pub add-requires-clause-room : goal.add-requires-clause-room
-add-requires-clause-room c k s small =
-    let rows = paired-rows c.loop-set.invariant c.requires.list.half c.requires.digits c.requires.others in
-    omega (arith, rows.0.few k s small)
+add-requires-clause-room c k s small = omega (arith, low-few c.loop-set.invariant c.requires.list.half c.requires.others k s small)
 
 pub add-requires-in-loop-set-clause-room : goal.add-requires-in-loop-set-clause-room
 add-requires-in-loop-set-clause-room c k s small =
-    let rows = paired-rows c.loop-set.invariant c.requires.list.half c.requires.digits c.requires.others in
-    omega (arith, rows.1.few k s small)
+    omega (arith, high-few c.loop-set.invariant c.requires.list.half c.requires.others k s small)
 
 pub loop-set-preserved : goal.loop-set-preserved
 loop-set-preserved c =
