@@ -64,7 +64,8 @@ over-none short (w ∷ ws) g none =
     let total : sum (w ∷ ws) ≡ w + sum ws = sum_by-cons (λ (y : ℕ). y) w ws in
     let pos = pow_pos (length ws) in
     let out = over-none short ws (λ x. g (left x)) (λ x h. none (left x) (grind (arith))) in
-    let with_it = over-none short ws (λ x. g (joined w x)) (λ x h. none (joined w x) (grind (arith))) in grind (arith, nat_tests)
+    let with_it = over-none short ws (λ x. g (joined w x)) (λ x h. none (joined w x) (grind (arith))) in
+    grind (arith, nat_tests)
 
 -- so many sets
 sum-ones : (xs : List Set) → sum_by (λ x. 1) xs ≡ length xs

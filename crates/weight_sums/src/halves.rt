@@ -3,9 +3,9 @@ ghost use Rattle.coalitions.specs.declared.limits.TheConstants.{MEMBERS, SIZES, 
 ghost use Rattle.weight_sums.specs.declared.sets.Set.{Set};
 ghost use Rattle.weight_sums.specs.Endings.{AreAllEndings, AreEndings, AreEndingsWith, endings, left_out};
 ghost use Rattle.weight_sums.specs.Inner.Halves.{AreHalves, ArePairs, IsLeft};
-ghost use Rattle.weight_sums.specs.Inner.Sets.{IsHalfOf, has, met};
+ghost use Rattle.weight_sums.specs.Inner.Sets.{AreSets, IsHalfOf, fits, over};
 ghost use Rattle.weight_sums.specs.Inner.Groups.{HaveRows};
-ghost use Rattle.std.specs.Prelude.{◌≡◌, ℕ, ◌+◌, ◌-◌, ◌<◌, ◌≤◌, ◌^◌, if◌then◌else◌, IfOk, List, length, slice_index, sum, sum_by};
+ghost use Rattle.std.specs.Prelude.{◌≡◌, ℕ, ◌+◌, ◌-◌, ◌<◌, ◌≤◌, ◌^◌, ◌++◌, Bool, true, false, if◌then◌else◌, IfOk, List, length, slice_index, sum};
 
 use crate::by_size::BySize;
 use crate::groups::Groups;
@@ -40,14 +40,14 @@ impl Pairs {
         })
     }
 
-    /// How many there are without the member of a place, where the first half has so many members.
+    /// How many there are without the member of a place, where the first half has `front` members.
     fn without(&self, front: usize, place: usize) -> [u64; limits::SIZES]
         requires first { HaveRows self.now.first }
         requires second { HaveRows self.now.second }
-        ensures first { (quota s : ℕ) (xs ys : List Set) → ArePairs quota xs ys self.now → place < front
-            → s ≤ MEMBERS → slice_index result s ≡ sum_by (λ x. if has place x.members then 0 else met quota ys s x) xs }
-        ensures second { (quota s : ℕ) (xs ys : List Set) → ArePairs quota xs ys self.now → front ≤ place
-            → s ≤ MEMBERS → slice_index result s ≡ sum_by (λ x. if has (place - front) x.members then 0 else met quota xs s x) ys }
+        ensures { (quota s : ℕ) (short : Bool) (fr bk : List ℕ) (xs ys : List Set) → ArePairs quota xs ys self.now
+            → AreSets false fr xs → AreSets short bk ys → length fr ≡ front → s ≤ MEMBERS
+            → over short (left_out place (fr ++ bk)) (fits quota 0 s)
+            ≡ slice_index result s + (if short then over true (left_out place fr) (fits quota 0 s) else 0) }
     {
         if place < front {
             self.first.without(place)

@@ -1,4 +1,4 @@
-use Rattle.weight_sums.proofs.{Imports.arith, Imports.nobody}
+use Rattle.weight_sums.proofs.Imports.{arith, nobody}
 use Rattle.weight_sums.proofs.GroupSums.{low-few, high-few, paired-more, paired-all}
 use Rattle.weight_sums.proofs.groups.Groups.new.Goals as goal
 
