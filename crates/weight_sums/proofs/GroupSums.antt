@@ -1,11 +1,11 @@
 -- Pairs of sets of two lists that meet a quota, by the members of the one.
-use Rattle.weight_sums.proofs.Imports.{◌≡◌, ◌∙◌, ◌⊎◌, ℕ, ◌+◌, ◌-◌, ◌/◌, ◌%◌, ◌==◌, ◌<◌, ◌≤◌, ◌^◌, cond, eqb, leb, List, [], length, get_or}
 use Rattle.weight_sums.proofs.Imports.{length-take, pow_pos, pow_mono, Set, Fitting, nobody, fits, met, has, IsHalf, IsHalfOf, AreEntered}
 use Rattle.weight_sums.proofs.Imports.{take, sym, ap, arith, inl, inr, All, sum_by, cases_lt, AreOfNeed, Meet, AreOfKeys, low_of, high_of}
+use Rattle.weight_sums.proofs.Imports.{◌≡◌, ◌∙◌, ◌⊎◌, ℕ, ◌+◌, ◌-◌, ◌/◌, ◌%◌, ◌==◌, ◌<◌, ◌≤◌, ◌^◌, cond, leb, List, [], length, get_or}
 use Rattle.weight_sums.proofs.Imports.{take_all}
 use Rattle.std.proofs.lemmas.Nat.{shr_split, shr_below, Bits.bit_at_above, Bits.bit_at_cat_low, Bits.bit_at_cat_high}
 use Rattle.std.proofs.{Common.min, Common.mod-lt, lemmas.List.get_or_default}
-use Rattle.weight_sums.specs.{Inner.Groups.AreGroups, declared.groups.Groups.Groups}
+use Rattle.weight_sums.specs.{Inner.Groups.AreGroups, Inner.Tables.IsCounted, declared.groups.Groups.Groups}
 use Rattle.weight_sums.proofs.{FittingSets.added, FittingSets.fits-few, FittingSets.sum-alike, TableSums.of-more, TableSums.of-few}
 use Rattle.weight_sums.proofs.SetLaws.{sum-same}
 
@@ -42,23 +42,19 @@ module _ {q digits : ℕ} {xs ys : List Set} {n : ℕ} {lows highs : List (List 
   -- one set more
   pub paired-more : n < length xs → {need low high : ℕ} (d : Set) {u : Fitting} {more_lows more_highs : List (List ℕ)}
       → need ≡ q - (get_or xs n d).weight → low ≡ low_of digits (get_or xs n d) → high ≡ high_of digits (get_or xs n d)
-      → AreOfNeed need ys u → AreEntered ys u → Meet need u.outside ys → length more_lows ≡ length lows → length more_highs ≡ length highs
-      → ((k s : ℕ) → s ≤ 40 → get_or (get_or more_lows k []) s 0 ≡ get_or (get_or lows k []) s 0
-      + cond (eqb k low) (cond (leb (get_or xs n d).size s) (get_or u.here (s - (get_or xs n d).size) 0) 0) 0)
-      → ((k s : ℕ) → s ≤ 40 → get_or (get_or more_highs k []) s 0 ≡ get_or (get_or highs k []) s 0
-      + cond (eqb k high) (cond (leb (get_or xs n d).size s) (get_or u.here (s - (get_or xs n d).size) 0) 0) 0)
-      → Paired q digits xs ys (n + 1) more_lows more_highs u
+      → AreOfNeed need ys u → AreEntered ys u → Meet need u.outside ys → IsCounted low (get_or xs n d).size u.here lows more_lows
+      → IsCounted high (get_or xs n d).size u.here highs more_highs → Paired q digits xs ys (n + 1) more_lows more_highs u
   paired-more lt {need = need} {low = low} {high = high} d {u = u} {more_lows = more_lows} {more_highs = more_highs} is low_key high_key are
-      entered meet low_long high_long low_row high_row =
+      entered meet in_low in_high =
       let x : Set = get_or xs n d in
       let row : ℕ → ℕ = λ s. cond (leb x.size s) (get_or u.here (s - x.size) 0) 0 in
       let gives : (s : ℕ) → s ≤ 40 → row s ≡ met q ys s x = λ s small. added need ys u x.size s are
       ∙ ap (λ (m : ℕ). sum_by (fits m x.size s) ys) is in
       record {
-        low_long = low_long ∙ h.low_long;
-        high_long = high_long ∙ h.high_long;
-        low_is = of-more (low_of digits) (met q ys) xs n low d lows more_lows row lt h.low_is low_key low_row gives;
-        high_is = of-more (high_of digits) (met q ys) xs n high d highs more_highs row lt h.high_is high_key high_row gives;
+        low_long = in_low.long ∙ h.low_long;
+        high_long = in_high.long ∙ h.high_long;
+        low_is = of-more (low_of digits) (met q ys) xs n low d lows more_lows row lt h.low_is low_key in_low.row gives;
+        high_is = of-more (high_of digits) (met q ys) xs n high d highs more_highs row lt h.high_is high_key in_high.row gives;
         entered = entered;
         meet = λ k m e from within next below. (
             let up = first.ascend n m e (omega (arith, next)) below in

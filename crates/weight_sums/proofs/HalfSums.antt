@@ -1,7 +1,7 @@
 -- Tallies of the coalitions that members lead to, from the sets of their two halves.
 use Rattle.weight_sums.proofs.Imports.{length, sym, ap, refl, arith, sum_by, nat_tests, ◌≡◌, one_of_size, endings, left_out, nobody, over}
-use Rattle.weight_sums.proofs.Imports.{◌∙◌, ℕ, zero, suc, ◌+◌, ◌-◌, ◌<◌, ◌≤◌, Bool, true, false, cond, leb, List, [], ◌∷◌, ◌++◌, Set}
-use Rattle.weight_sums.proofs.Imports.{has, fits, met, AreSets, IsLeft}
+use Rattle.weight_sums.proofs.Imports.{◌∙◌, ℕ, zero, suc, ◌+◌, ◌-◌, ◌<◌, ◌≤◌, Bool, true, false, cond, leb, List, [], ◌∷◌, ◌++◌, Set, has}
+use Rattle.weight_sums.proofs.Imports.{fits, met, AreSets, IsLeft}
 use Rattle.std.proofs.lemmas.Bool.{cases_order}
 use Rattle.weight_sums.proofs.EndingLaws.{past-end, endings-counted}
 use Rattle.weight_sums.proofs.SetLaws.{sum-one, sum-if, sum-swap, fits-halves, fits-turned, left_out-over}

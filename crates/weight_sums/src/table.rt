@@ -4,7 +4,7 @@ ghost use Rattle.std.specs.List.{All};
 ghost use Rattle.coalitions.specs.declared.limits.TheConstants.{MEMBERS};
 ghost use Rattle.weight_sums.specs.declared.sets.Set.{Set};
 ghost use Rattle.weight_sums.specs.Inner.Sets.{has};
-ghost use Rattle.weight_sums.specs.Inner.Tables.{AreOfKeys, HasRows};
+ghost use Rattle.weight_sums.specs.Inner.Tables.{AreOfKeys, HasRows, IsCounted};
 
 use crate::fitting::Fitting;
 use coalitions::{Memory, limits};
@@ -47,10 +47,7 @@ impl Table {
         requires size { size ≤ 20 }
         requires any { fitting.now.any ≡ false → (j : ℕ) → slice_index fitting.now.here j ≡ 0 }
         requires few { (j : ℕ) → slice_index fitting.now.here j ≤ 2 ^ 20 }
-        ensures long { length self.new.rows.items ≡ length self.old.rows.items }
-        ensures row { (k s : ℕ) → s ≤ MEMBERS → slice_index (slice_index_or self.new.rows.items k []) s
-            ≡ slice_index (slice_index_or self.old.rows.items k []) s
-            + (if k == key then (if nat_le size s then slice_index fitting.now.here (s - size) else 0) else 0) }
+        ensures { IsCounted key size fitting.now.here self.old.rows.items self.new.rows.items }
     {
         fitting.add(size, &mut self.rows[key]);
     }

@@ -12,8 +12,7 @@ add-requires-in-loop-set-clause-room c k s small =
 pub loop-set-preserved : goal.loop-set-preserved
 loop-set-preserved c =
     paired-more c.loop-set.invariant c.requires.list.half c.loop-set-test.true nobody c.saturating_sub.ensures c.low.ensures c.high.ensures
-    c.let_in.ensures.all c.let_in.ensures.entered c.let_in.ensures.meet
-    c.add.ensures.long c.add-in-loop-set.ensures.long c.add.ensures.row c.add-in-loop-set.ensures.row
+    c.let_in.ensures.all c.let_in.ensures.entered c.let_in.ensures.meet c.add.ensures c.add-in-loop-set.ensures
 
 pub returns : goal.returns
 returns c =
