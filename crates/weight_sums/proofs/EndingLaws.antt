@@ -83,7 +83,7 @@ choose-less (suc m) (suc k) = omega arith
 fill-less : (h s left size : ℕ) → fill h s left size ≤ fill h s (suc left) size
 fill-less h s left size = grind (arith, nat_tests, choose-less left (h - size))
 
-length-left_out : (p : ℕ) (ws : List ℕ) → p < length ws → suc (length (left_out p ws)) ≡ length ws
+pub length-left_out : (p : ℕ) (ws : List ℕ) → p < length ws → suc (length (left_out p ws)) ≡ length ws
 unfolding left_out
 length-left_out p [] lt = absurd (omega arith)
 length-left_out zero (w ∷ ws) lt = refl
@@ -100,6 +100,15 @@ unfolding endings left_out
 endings-less p h s [] r a = omega arith
 endings-less zero h s (w ∷ ws) r a = omega arith
 endings-less (suc p) h s (w ∷ ws) r a =
-    grind (arith, endings-less p h s ws (r - w) (a + 1), endings-less p h s ws r a, cases_lt, length-left_out, fill-less, nat_tests, past-end)
+    grind (
+      arith,
+      nat_tests,
+      endings-less p h s ws (r - w) (a + 1),
+      endings-less p h s ws r a,
+      cases_lt,
+      length-left_out,
+      fill-less,
+      past-end,
+    )
 
 pub ruleset fewer = (endings-less)

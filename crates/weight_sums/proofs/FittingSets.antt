@@ -1,8 +1,8 @@
 -- The sets of a half that meet a need, one more and all of them.
 use Rattle.weight_sums.proofs.Imports.{◌≡◌, ◌∙◌, ◌⊎◌, ℕ, zero, suc, ◌+◌, ◌-◌, ◌<◌, ◌≤◌, ◌^◌, Bool, cond, leb, List, [], ◌∷◌, length, get_or}
-use Rattle.weight_sums.proofs.Imports.{drop, refl, arith, inl, inr, length-drop, sum_by, cases_eq, cases_lt, nat_tests, sum_by-cons}
-use Rattle.weight_sums.proofs.Imports.{sum_by-le, Set, Fitting, one_of_size, fits, IsHalf, AreEntered, AreOfNeed, Meet}
-use Rattle.std.proofs.lemmas.List.{get_or_past}
+use Rattle.weight_sums.proofs.Imports.{drop, refl, arith, inl, inr, sum_by, cases_eq, cases_lt, nat_tests, sum_by-cons, sum_by-le, Set}
+use Rattle.weight_sums.proofs.Imports.{Fitting, one_of_size, fits, IsHalf, AreEntered, AreOfNeed, Meet}
+use Rattle.std.proofs.{Common.length-drop, lemmas.List.get_or_past}
 use Rattle.weight_sums.proofs.SetLaws.{sum-zero}
 
 -- sums of numbers that agree at each place

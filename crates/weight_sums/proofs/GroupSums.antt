@@ -1,11 +1,11 @@
 -- Pairs of sets of two lists that meet a quota, by the members of the one.
 use Rattle.weight_sums.proofs.Imports.{length-take, pow_pos, pow_mono, Set, Fitting, nobody, fits, met, has, IsHalf, IsHalfOf, AreEntered}
-use Rattle.weight_sums.proofs.Imports.{◌≡◌, ◌∙◌, ◌⊎◌, ℕ, ◌+◌, ◌-◌, ◌/◌, ◌%◌, ◌==◌, ◌<◌, ◌≤◌, ◌^◌, Bool, cond, eqb, leb, List, [], length}
-use Rattle.weight_sums.proofs.Imports.{get_or, take, sym, ap, refl, arith, inl, inr, All, sum_by, cases_lt, nat_tests, get_or_default}
-use Rattle.weight_sums.proofs.Imports.{AreOfNeed, Meet, AreOfKeys, low_of, high_of}
+use Rattle.weight_sums.proofs.Imports.{take, sym, ap, arith, inl, inr, All, sum_by, cases_lt, AreOfNeed, Meet, AreOfKeys, low_of, high_of}
+use Rattle.weight_sums.proofs.Imports.{◌≡◌, ◌∙◌, ◌⊎◌, ℕ, ◌+◌, ◌-◌, ◌/◌, ◌%◌, ◌==◌, ◌<◌, ◌≤◌, ◌^◌, cond, leb, List, [], length, get_or}
+use Rattle.weight_sums.proofs.Imports.{take_all}
 use Rattle.std.proofs.lemmas.Nat.{shr_split, shr_below, Bits.bit_at_above, Bits.bit_at_cat_low, Bits.bit_at_cat_high}
-use Rattle.std.proofs.Common.{min, take_all, mod-lt}
-use Rattle.weight_sums.specs.{Inner.Groups.AreGroups, Inner.Tables.HasRows, declared.groups.Groups.Groups}
+use Rattle.std.proofs.{Common.min, Common.mod-lt, lemmas.List.get_or_default}
+use Rattle.weight_sums.specs.{Inner.Groups.AreGroups, Inner.Tables.IsCounted, declared.groups.Groups.Groups}
 use Rattle.weight_sums.proofs.{FittingSets.added, FittingSets.fits-few, FittingSets.sum-alike, TableSums.of-more, TableSums.of-few}
 use Rattle.weight_sums.proofs.SetLaws.{sum-same}
 
@@ -20,19 +20,20 @@ pub record Paired (q digits : ℕ) (xs ys : List Set) (n : ℕ) (lows highs : Li
   pub meet : (k m : ℕ) (d : Set) → t.outside ≤ k → k < length ys → n ≤ m → m < length xs
       → q ≤ (get_or ys k d).weight + (get_or xs m d).weight
 
+keys-few : (key : Set → ℕ) (q : ℕ) (xs ys : List Set) (n : ℕ) (rows : List (List ℕ)) → IsHalf xs → IsHalf ys
+    → AreOfKeys key (met q ys) (take n xs) rows → (k s : ℕ) → s ≤ 40 → get_or (get_or rows k []) s 0 ≤ 2 ^ 40
+keys-few key q xs ys n rows first second are k s small =
+    let most = of-few key (met q ys) (take n xs) rows are (λ i x. fits-few (q - x.weight) x.size i ys second) k s small in
+    omega (arith, most, length-take n xs, first.long)
+
 module _ {q digits : ℕ} {xs ys : List Set} {n : ℕ} {lows highs : List (List ℕ)} {t : Fitting} (h : Paired q digits xs ys n lows highs t)
     (first : IsHalf xs) where
   -- what the rows have is far from too much
-  pub paired-rows : digits ≤ 10 → IsHalf ys → HasRows lows × HasRows highs
-  paired-rows few second = (rows lows (low_of digits) h.low_long h.low_is, rows highs (high_of digits) h.high_long h.high_is)
-    where
-      rows : (l : List (List ℕ)) (key : Set → ℕ) → length l ≡ 2 ^ digits → AreOfKeys key (met q ys) (take n xs) l → HasRows l
-      rows l key long are = record {
-        long = (let up : 2 ^ digits ≤ 2 ^ 10 = pow_mono few in omega (arith, long, up));
-        few = λ k s small. (
-            let most = of-few key (met q ys) (take n xs) l are (λ i x. fits-few (q - x.weight) x.size i ys second) k s small in
-            omega (arith, most, length-take n xs, first.long));
-      }
+  pub low-few : IsHalf ys → (k s : ℕ) → s ≤ 40 → get_or (get_or lows k []) s 0 ≤ 2 ^ 40
+  low-few second = keys-few (low_of digits) q xs ys n lows first second h.low_is
+
+  pub high-few : IsHalf ys → (k s : ℕ) → s ≤ 40 → get_or (get_or highs k []) s 0 ≤ 2 ^ 40
+  high-few second = keys-few (high_of digits) q xs ys n highs first second h.high_is
 
   pub next-meets : n < length xs → (need : ℕ) (d : Set) → need ≡ q - (get_or xs n d).weight → Meet need t.outside ys
   next-meets lt need d is k e from within =
@@ -41,23 +42,19 @@ module _ {q digits : ℕ} {xs ys : List Set} {n : ℕ} {lows highs : List (List 
   -- one set more
   pub paired-more : n < length xs → {need low high : ℕ} (d : Set) {u : Fitting} {more_lows more_highs : List (List ℕ)}
       → need ≡ q - (get_or xs n d).weight → low ≡ low_of digits (get_or xs n d) → high ≡ high_of digits (get_or xs n d)
-      → AreOfNeed need ys u → AreEntered ys u → Meet need u.outside ys → length more_lows ≡ length lows → length more_highs ≡ length highs
-      → ((k s : ℕ) → s ≤ 40 → get_or (get_or more_lows k []) s 0 ≡ get_or (get_or lows k []) s 0
-      + cond (eqb k low) (cond (leb (get_or xs n d).size s) (get_or u.here (s - (get_or xs n d).size) 0) 0) 0)
-      → ((k s : ℕ) → s ≤ 40 → get_or (get_or more_highs k []) s 0 ≡ get_or (get_or highs k []) s 0
-      + cond (eqb k high) (cond (leb (get_or xs n d).size s) (get_or u.here (s - (get_or xs n d).size) 0) 0) 0)
-      → Paired q digits xs ys (n + 1) more_lows more_highs u
+      → AreOfNeed need ys u → AreEntered ys u → Meet need u.outside ys → IsCounted low (get_or xs n d).size u.here lows more_lows
+      → IsCounted high (get_or xs n d).size u.here highs more_highs → Paired q digits xs ys (n + 1) more_lows more_highs u
   paired-more lt {need = need} {low = low} {high = high} d {u = u} {more_lows = more_lows} {more_highs = more_highs} is low_key high_key are
-      entered meet low_long high_long low_row high_row =
+      entered meet in_low in_high =
       let x : Set = get_or xs n d in
       let row : ℕ → ℕ = λ s. cond (leb x.size s) (get_or u.here (s - x.size) 0) 0 in
       let gives : (s : ℕ) → s ≤ 40 → row s ≡ met q ys s x = λ s small. added need ys u x.size s are
       ∙ ap (λ (m : ℕ). sum_by (fits m x.size s) ys) is in
       record {
-        low_long = low_long ∙ h.low_long;
-        high_long = high_long ∙ h.high_long;
-        low_is = of-more (low_of digits) (met q ys) xs n low d lows more_lows row lt h.low_is low_key low_row gives;
-        high_is = of-more (high_of digits) (met q ys) xs n high d highs more_highs row lt h.high_is high_key high_row gives;
+        low_long = in_low.long ∙ h.low_long;
+        high_long = in_high.long ∙ h.high_long;
+        low_is = of-more (low_of digits) (met q ys) xs n low d lows more_lows row lt h.low_is low_key in_low.row gives;
+        high_is = of-more (high_of digits) (met q ys) xs n high d highs more_highs row lt h.high_is high_key in_high.row gives;
         entered = entered;
         meet = λ k m e from within next below. (
             let up = first.ascend n m e (omega (arith, next)) below in
@@ -65,23 +62,11 @@ module _ {q digits : ℕ} {xs ys : List Set} {n : ℕ} {lows highs : List (List 
             omega (arith, meet k e from within, b, is, up));
       }
 
-  -- a set with which none of the others meets the quota
-  pub paired-further : n < length xs → {need : ℕ} (d : Set) {u : Fitting} → need ≡ q - (get_or xs n d).weight → AreOfNeed need ys u
-      → AreEntered ys u
-      → Meet need u.outside ys → ((s : ℕ) → get_or u.here s 0 ≡ 0) → Paired q digits xs ys (n + 1) lows highs u
-  paired-further lt d {u = u} is are entered meet none =
-      paired-more lt d is refl refl are entered meet refl refl
-      (λ k s small. same (eqb k (low_of digits (get_or xs n d))) s (get_or (get_or lows k []) s 0))
-      (λ k s small. same (eqb k (high_of digits (get_or xs n d))) s (get_or (get_or highs k []) s 0))
-    where
-      same : (b : Bool) (s m : ℕ) → m ≡ m + cond b (cond (leb (get_or xs n d).size s) (get_or u.here (s - (get_or xs n d).size) 0) 0) 0
-      same b s m = grind (arith, nat_tests, none (s - (get_or xs n d).size))
-
 pub paired-all : {q : ℕ} {xs ys : List Set} {n : ℕ} {t : Fitting} (g : Groups)
     → Paired q g.digits xs ys n g.low.rows.items g.high.rows.items t → length xs ≤ n → g.digits ≤ 10 → IsHalfOf g.digits xs → IsHalf ys
     → AreGroups q xs ys g
 paired-all {xs = xs} {n = n} g h end few first second =
-    let rows = paired-rows h first.half few second in grind (arith, take_all)
+    let up : 2 ^ g.digits ≤ 2 ^ 10 = pow_mono few in grind (arith, take_all, low-few h first.half second, high-few h first.half second)
 
 -- ---- the members of a set, the first and the others
 has-low : (d p m : ℕ) → p < d → has p (m % 2 ^ d) ≡ has p m

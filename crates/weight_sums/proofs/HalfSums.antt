@@ -1,9 +1,8 @@
 -- Tallies of the coalitions that members lead to, from the sets of their two halves.
-use Rattle.weight_sums.proofs.Imports.{length, get_or, take, drop, sym, ap, refl, arith, inl, inr, length-take, sum_by, cases_lt, nat_tests}
-use Rattle.weight_sums.proofs.Imports.{◌≡◌, ◌∙◌, ℕ, zero, suc, ◌+◌, ◌-◌, ◌/◌, ◌<◌, ◌≤◌, Bool, true, false, cond, leb, List, [], ◌∷◌, ◌++◌}
-use Rattle.weight_sums.proofs.Imports.{Set, one_of_size, endings, left_out, nobody, over, has, fits, met, AreSets}
-use Rattle.std.proofs.{Common.take-append-drop, lemmas.Bool.cases_order}
-use Rattle.weight_sums.specs.{Inner.Halves.AreHalves, Inner.Halves.AreLeft, declared.halves.Halves.Halves}
+use Rattle.weight_sums.proofs.Imports.{length, sym, ap, refl, arith, sum_by, nat_tests, ◌≡◌, one_of_size, endings, left_out, nobody, over}
+use Rattle.weight_sums.proofs.Imports.{◌∙◌, ℕ, zero, suc, ◌+◌, ◌-◌, ◌<◌, ◌≤◌, Bool, true, false, cond, leb, List, [], ◌∷◌, ◌++◌, Set, has}
+use Rattle.weight_sums.proofs.Imports.{fits, met, AreSets, IsLeft}
+use Rattle.std.proofs.lemmas.Bool.{cases_order}
 use Rattle.weight_sums.proofs.EndingLaws.{past-end, endings-counted}
 use Rattle.weight_sums.proofs.SetLaws.{sum-one, sum-if, sum-swap, fits-halves, fits-turned, left_out-over}
 
@@ -20,23 +19,23 @@ left_out-back zero p (x ∷ xs) ys is = absurd (omega arith)
 left_out-back (suc q) p (x ∷ xs) ys is = ap (λ (l : List ℕ). x ∷ l) (left_out-back q p xs ys (omega arith))
 
 -- of members in two halves, without that of a place in the one or the other: the pairs of their sets, and the sets of the first alone
-halves-met : (short : Bool) (ws fr bk : List ℕ) (xs ys : List Set) (half : ℕ) → fr ++ bk ≡ ws → length fr ≡ half → AreSets false fr xs
-    → AreSets short bk ys → (q s place n : ℕ) → (place < half → n ≡ sum_by (λ x. cond (has place x.members) 0 (met q ys s x)) xs)
-    → (half ≤ place → n ≡ sum_by (λ y. cond (has (place - half) y.members) 0 (met q xs s y)) ys)
-    → over short (left_out place ws) (fits q 0 s) ≡ n + cond short (over true (left_out place fr) (fits q 0 s)) 0
-halves-met short ws fr bk xs ys half whole long first second q s place n front back = elim (cases_lt place half) [
-  | inl less ↦
-      let us : List ℕ = left_out place fr in
-      let is = ap (λ (l : List ℕ). over short l (fits q 0 s))
-      (ap (left_out place) (sym whole) ∙ left_out-front place fr bk (omega (arith, long, less))) ∙ fits-halves short bk us q s in
+module _ (short : Bool) (fr bk : List ℕ) (xs ys : List Set) (front : ℕ) (first : AreSets false fr xs) (second : AreSets short bk ys)
+    (long : length fr ≡ front) (q s place : ℕ) where
+  pub front-met : place < front → over short (left_out place (fr ++ bk)) (fits q 0 s)
+      ≡ sum_by (λ x. cond (has place x.members) 0 (met q ys s x)) xs + cond short (over true (left_out place fr) (fits q 0 s)) 0
+  front-met less =
+      let is = ap (λ (l : List ℕ). over short l (fits q 0 s)) (left_out-front place fr bk (omega (arith, long, less)))
+      ∙ fits-halves short bk (left_out place fr) q s in
       let out = left_out-over false place fr (λ m k. over short bk (fits (q - m) k s))
       ∙ sym (first.same (λ x. cond (has place x.members) 0 (over short bk (fits (q - x.weight) x.size s))))
       ∙ sym (λ i. sum_by (λ x. cond (has place x.members) 0 (second.same (fits (q - x.weight) x.size s) i)) xs) in
-      omega (arith, is, out, front less)
-  | inr past ↦
-      let p : ℕ = place - half in
-      let is = ap (λ (l : List ℕ). over short l (fits q 0 s))
-      (ap (left_out place) (sym whole) ∙ left_out-back place p fr bk (omega (arith, long, past)))
+      omega (arith, is, out)
+
+  pub back-met : front ≤ place → over short (left_out place (fr ++ bk)) (fits q 0 s)
+      ≡ sum_by (λ y. cond (has (place - front) y.members) 0 (met q xs s y)) ys + cond short (over true (left_out place fr) (fits q 0 s)) 0
+  back-met past =
+      let p : ℕ = place - front in
+      let is = ap (λ (l : List ℕ). over short l (fits q 0 s)) (left_out-back place p fr bk (omega (arith, long, past)))
       ∙ fits-halves short (left_out p bk) fr q s in
       let one : Set → Set → ℕ = λ x y. cond (has p y.members) 0 (fits (q - x.weight) x.size s y) in
       let out : over false fr (λ x. over short (left_out p bk) (fits (q - x.weight) x.size s))
@@ -46,14 +45,13 @@ halves-met short ws fr bk xs ys half whole long first second q s place n front b
       ∙ (λ i. sum_by (λ y. sum-if (has p y.members) (λ x. fits (q - x.weight) x.size s y) xs i) ys)
       ∙ (λ i. sum_by (λ y. cond (has p y.members) 0 (sum_by (λ x. fits-turned q s x y i) xs)) ys) in
       let same = ap (λ (l : List ℕ). cond short (over true l (fits q 0 s)) 0) (past-end place fr (omega (arith, long, past))) in
-      omega (arith, is, out, same, back past)
-]
+      omega (arith, is, out, same)
 
 -- the sets of the first half alone
 met-nobody : (q s : ℕ) (x : Set) → met q (nobody ∷ []) s x ≡ fits q 0 s x
 met-nobody q s x = sum-one (fits (q - x.weight) x.size s) nobody ∙ (grind (arith, nat_tests))
 
-own-met : (fr : List ℕ) (zs : List Set) → AreSets true fr zs → (q s place : ℕ)
+pub own-met : (fr : List ℕ) (zs : List Set) → AreSets true fr zs → (q s place : ℕ)
     → sum_by (λ x. cond (has place x.members) 0 (met q (nobody ∷ []) s x)) zs ≡ over true (left_out place fr) (fits q 0 s)
 own-met fr zs are q s place =
     are.same (λ x. cond (has place x.members) 0 (met q (nobody ∷ []) s x))
@@ -65,39 +63,16 @@ pub record AreMet (ws : List ℕ) (q s won shortened own : ℕ) : Type 0 where
   pub won_is : won ≡ over false ws (fits q 0 s)
   pub shortened_is : shortened + own ≡ over true ws (fits q 0 s)
 
--- of members in two halves, in whichever the place is
-pub all-met : (ws : List ℕ) (h : Halves) (are : AreHalves ws h) (place s won shortened own : ℕ)
-    → (place < length ws / 2 → won ≡ sum_by (λ x. cond (has place x.members) 0 (met h.quota are.second s x)) are.first)
-    → (length ws / 2 ≤ place → won ≡ sum_by (λ x. cond (has (place - length ws / 2) x.members) 0 (met h.quota are.first s x)) are.second)
-    → (place < length ws / 2 → shortened ≡ sum_by (λ x. cond (has place x.members) 0 (met h.quota are.second_shortened s x)) are.first)
-    → (length ws / 2 ≤ place
-    → shortened ≡ sum_by (λ x. cond (has (place - length ws / 2) x.members) 0 (met h.quota are.first s x)) are.second_shortened)
-    → own ≡ sum_by (λ x. cond (has place x.members) 0 (met h.quota (nobody ∷ []) s x)) are.first_shortened
-    → AreMet (left_out place ws) h.quota s won shortened own
-all-met ws h are place s won shortened own won-front won-back shortened-front shortened-back is =
-    let half : ℕ = length ws / 2 in
-    let fr : List ℕ = take half ws in
-    let bk : List ℕ = drop half ws in
-    let whole = take-append-drop half ws in
-    let long : length fr ≡ half = let l = length-take half ws in omega (arith, l) in
-    let one = halves-met false ws fr bk are.first are.second half whole long are.first_are are.second_are h.quota s place
-    won won-front won-back in
-    let two = halves-met true ws fr bk are.first are.second_shortened half whole long are.first_are are.second_shortened_are h.quota s place
-    shortened shortened-front shortened-back in
-    record {
-      won_is = omega (arith, one);
-      shortened_is = omega (arith, two, is, own-met fr are.first_shortened are.first_shortened_are h.quota s place);
-    }
-
 -- what is left of the sets that meet the quota is what the members lead to
 pub enough-won : (ws : List ℕ) (heads q s won shortened own : ℕ) → AreMet ws q s won shortened own → 0 < q → heads < s
     → shortened + own ≤ won
 enough-won ws heads q s won shortened own are some above =
     omega (arith, are.won_is, are.shortened_is, (endings-counted ws heads s q some).more above)
 
-pub left-is : (ws : List ℕ) (heads q s : ℕ) (won shortened own sizes : List ℕ)
-    → AreMet ws q s (get_or won s 0) (get_or shortened s 0) (get_or own s 0) → AreLeft heads won shortened own sizes → 0 < q → s ≤ 40
-    → get_or sizes s 0 ≡ endings ws heads s q 0
-left-is ws heads q s won shortened own sizes are left some small =
+pub left-is : (ws : List ℕ) (heads q s won shortened own n : ℕ) → AreMet ws q s won shortened own → IsLeft heads s won shortened own n
+    → 0 < q → n ≡ endings ws heads s q 0
+left-is ws heads q s won shortened own n are left some =
     let law = endings-counted ws heads s q some in
     grind (arith, cases_order)
+
+pub ruleset places = (past-end)

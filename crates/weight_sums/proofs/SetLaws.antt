@@ -54,9 +54,7 @@ over-halves : (short : Bool) (vs ws : List ℕ) (g : ℕ → ℕ → ℕ) → ov
     ≡ over false ws (λ x. over short vs (λ y. g (y.weight + x.weight) (y.size + x.size)))
     + cond short (over true ws (λ x. g x.weight x.size)) 0
 unfolding over
-over-halves short vs [] g =
-    let e : over short vs (λ x. g x.weight x.size) ≡ over short vs (λ y. g (y.weight + 0) (y.size + 0)) = grind (arith) in
-    grind (arith, nat_tests, e)
+over-halves short vs [] g = grind (arith, over, nat_tests)
 over-halves short vs (w ∷ ws) g =
     let e : over false ws (λ x. over short vs (λ y. g (y.weight + x.weight + w) (y.size + x.size + 1)))
     ≡ over false ws (λ x. over short vs (λ y. g (y.weight + (x.weight + w)) (y.size + (x.size + 1)))) = grind (arith) in
@@ -70,8 +68,7 @@ fits-halves short vs ws q s =
   where
     both : (x y : Set) → cond (leb q (y.weight + x.weight)) (one_of_size s (0 + (y.size + x.size))) 0 ≡ fits (q - x.weight) x.size s y
     both x y =
-        let e : 0 + (y.size + x.size) ≡ x.size + y.size = omega arith in
-        λ i. cond (meets-less q x.weight y.weight i) (one_of_size s (e i)) 0
+        grind (arith, meets-less, one_of_size)
 
 -- two sets meet a quota together, whichever is named first
 pub fits-turned : (q s : ℕ) (x y : Set) → fits (q - x.weight) x.size s y ≡ fits (q - y.weight) y.size s x

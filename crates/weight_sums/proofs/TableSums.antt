@@ -1,16 +1,20 @@
 -- Numbers of sets by their keys, added by key.
-use Rattle.weight_sums.proofs.Imports.{◌≡◌, ◌∙◌, ℕ, zero, suc, ◌+◌, ◌*◌, ◌<◌, ◌≤◌, ◌^◌, cond, eqb, ltb, List, [], ◌∷◌, ◌++◌, length, get_or}
+use Rattle.weight_sums.proofs.Imports.{◌≡◌, ◌∙◌, ℕ, zero, suc, ◌+◌, ◌*◌, ◌<◌, ◌≤◌, ◌^◌, cond, eqb, ltb, List, [], ◌++◌, length, get_or}
 use Rattle.weight_sums.proofs.Imports.{take, refl, arith, All, sum_by, nat_tests, sum_by_more, sum_by-le, Set, nobody, has, AreOfKeys}
+use Rattle.weight_sums.proofs.Imports.{replicate}
 use Rattle.std.proofs.Common.{le-ltb}
 use Rattle.weight_sums.proofs.{FittingSets.cond-most, FittingSets.sum-alike, SetLaws.sum-if, SetLaws.sum-plus, SetLaws.sum-zero}
+use Rattle.weight_sums.proofs.Taking.{get_or-zeros}
 
--- a row of nothing more
-pub zeros-more : (rows : List (List ℕ)) (row : List ℕ) → ((k s : ℕ) → get_or (get_or rows k []) s 0 ≡ 0) → ((s : ℕ) → get_or row s 0 ≡ 0)
-    → (k s : ℕ) → get_or (get_or (rows ++ row ∷ []) k []) s 0 ≡ 0
-zeros-more [] row none own zero s = own s
-zeros-more [] row none own (suc k) s = refl
-zeros-more (r ∷ rows) row none own zero s = none 0 s
-zeros-more (r ∷ rows) row none own (suc k) s = zeros-more rows row (λ i. none (suc i)) own k s
+-- rows of nothing
+zero-rows : (n m k s : ℕ) → get_or {A = ℕ} (get_or (replicate n (replicate {A = ℕ} m 0)) k []) s 0 ≡ 0
+zero-rows zero m k s = refl
+zero-rows (suc n) m zero s = get_or-zeros m s
+zero-rows (suc n) m (suc k) s = zero-rows n m k s
+
+pub zeroed : (n m : ℕ) (key : Set → ℕ) (f : ℕ → Set → ℕ) → AreOfKeys key f [] (take n [] ++ replicate m (replicate 41 0))
+zeroed zero m key f = record { each = λ k s small. zero-rows m 41 k s }
+zeroed (suc n) m key f = record { each = λ k s small. zero-rows m 41 k s }
 
 -- ---- one set more
 pub of-more : (key : Set → ℕ) (f : ℕ → Set → ℕ) (xs : List Set) (n here : ℕ) (d : Set) (old new : List (List ℕ)) (h : ℕ → ℕ) → n < length xs
@@ -50,3 +54,5 @@ unfolding added_to
 added-all m n p key g xs keys all =
     sum-alike (λ x. cond (ltb (key x) n) (cond (has p (key x)) 0 (g x)) 0) (λ x. cond (has p (key x)) 0 (g x)) xs nobody
     (λ k lt. grind (arith, nat_tests))
+
+pub ruleset adding = (added-further)

@@ -1,9 +1,10 @@
 -- Rows of prefixes, one prefix more.
 use Rattle.weight_sums.proofs.Imports.{pow_mono, ◌≡◌, ◌∙◌, ℕ, ◌+◌, ◌*◌, ◌<◌, ◌≤◌, ◌^◌, List, [], ◌∷◌, ◌++◌, length, take, drop, get_or, set}
-use Rattle.weight_sums.proofs.Imports.{cond, replicate, ltb, zero, suc, length-set, ap, refl, arith, ◌-◌, get_or-set_same, get_or-set_other}
-use Rattle.weight_sums.proofs.Imports.{All, nat_tests, mul-le-mul_left, pow_pos, sum_by_push, sum_by_more, sum_by-drop_more, All-push, Open}
-use Rattle.weight_sums.proofs.Imports.{choose, fill, one_of_size, taken, weigh, prefixes}
-use Rattle.std.proofs.Common.{max}
+use Rattle.weight_sums.proofs.Imports.{nat_tests, mul-le-mul_left, pow_pos, sum_by_push, sum_by_more, sum_by-drop_more, All-push, Open}
+use Rattle.weight_sums.proofs.Imports.{cond, replicate, ltb, zero, suc, ap, refl, arith, ◌-◌, get_or-set_same, get_or-set_other, All}
+use Rattle.weight_sums.proofs.Imports.{choose, fill, one_of_size, taken, weigh, prefixes, mul-le-mul_right, take_all, sum_by-take-le}
+use Rattle.weight_sums.proofs.Imports.{AreTaken, sum_by-cons}
+use Rattle.std.proofs.Common.{length-set, max}
 
 pub choose-most : (m k : ℕ) → choose m k ≤ 2 ^ m
 unfolding choose
@@ -16,79 +17,80 @@ choose-most (suc m) (suc k) = grind (arith, choose-most m k, choose-most m (suc 
 bumped : (xs : List ℕ) (k s v : ℕ) → k < length xs → get_or (set xs k (get_or xs k 0 + v)) s 0 ≡ get_or xs s 0 + v * one_of_size s k
 bumped xs k s v lt = grind (arith, nat_tests, get_or-set_same, get_or-set_other)
 
--- what is counted of one prefix that is complete: at one size, so many times
-fill-is : (heads s left size end times : ℕ) → end ≡ max size heads → times ≡ cond (ltb heads size) 1 (choose left (heads - size))
-    → times * one_of_size s end ≡ fill heads s left size
-fill-is heads s left size end times end-is times-is = grind (arith, nat_tests)
-
 pub fill-most : (heads s left size : ℕ) → fill heads s left size ≤ 2 ^ left
 fill-most heads s left size = grind (arith, nat_tests, pow_pos left, choose-most left (heads - size))
 
-pub filled-most : (heads left size times : ℕ) → times ≡ cond (ltb heads size) 1 (choose left (heads - size)) → times ≤ 2 ^ left
-filled-most heads left size times is = grind (arith, nat_tests, pow_pos left, choose-most left (heads - size))
+-- what is counted of one prefix that is complete: at one size, this many times
+times-most : (n ways heads left size times : ℕ) → times ≡ cond (ltb heads size) 1 (choose left (heads - size))
+    → n + ways * 2 ^ left < 2 ^ 64 → n + ways * times < 2 ^ 64
+times-most n ways heads left size times is room =
+    let most : times ≤ 2 ^ left = grind (arith, nat_tests, pow_pos left, choose-most left (heads - size)) in
+    omega (arith, room, mul-le-mul_left ways most)
 
--- the first i prefixes of a row with a member more of weight w: complete, or among others
-pub record Taking (w heads left : ℕ) (row : List Open) (before : List ℕ) (i : ℕ) (done : List ℕ) (others : List Open) : Type 0 where
-  pub long : length done ≡ 41
-  pub counted : (g : ℕ → ℕ → ℕ) (s : ℕ) → s ≤ 40 → get_or done s 0 + weigh g others ≡ get_or before s 0 + weigh
-      (taken w (fill heads s left) g) (take i row)
-  pub room : (s : ℕ) → s ≤ 40 → get_or done s 0 + prefixes (drop i row) * 2 ^ left < 2 ^ 64
-  pub sizes : (p : ℕ) → All (λ o. o.size ≤ p) row → All (λ o. o.size ≤ p + 1) others
+pub times-fit : (ways heads left size times : ℕ) (done : List ℕ) → times ≡ cond (ltb heads size) 1 (choose left (heads - size))
+    → ((s : ℕ) → s ≤ 40 → get_or done s 0 + ways * 2 ^ left < 2 ^ 64) → (s : ℕ) → s ≤ 40 → get_or done s 0 + ways * times < 2 ^ 64
+times-fit ways heads left size times done is room s small = times-most (get_or done s 0) ways heads left size times is (room s small)
 
-module _ {w heads left : ℕ} {row : List Open} {before : List ℕ} {i : ℕ} {done : List ℕ} {others : List Open}
-    (h : Taking w heads left row before i done others) (d : Open) (lt : i < length row) where
-  abbrev o : Open
-  o = get_or row i d
+pub product-fits : (ways heads left size times : ℕ) (done : List ℕ) → times ≡ cond (ltb heads size) 1 (choose left (heads - size))
+    → ((s : ℕ) → s ≤ 40 → get_or done s 0 + ways * 2 ^ left < 2 ^ 64) → ways * times < 2 ^ 64
+product-fits ways heads left size times done is room = omega (arith, times-fit ways heads left size times done is room 0 (omega arith))
 
-  -- what is added to a count fits
-  room-for : (s x : ℕ) → s ≤ 40 → x ≤ 2 ^ left → get_or done s 0 + o.ways * x + prefixes (drop (i + 1) row) * 2 ^ left < 2 ^ 64
-  room-for s x small le =
-      let all = sum_by-drop_more (λ (p : Open). p.ways) row i d lt in
-      omega (arith, h.room s small, ap (λ (k : ℕ). k * 2 ^ left) all, mul-le-mul_left o.ways le)
+pub complete : (w need size heads left ways end times s : ℕ) (g : ℕ → ℕ → ℕ) (done : List ℕ) → need ≤ w → end ≡ max (size + 1) heads
+    → times ≡ cond (ltb heads (size + 1)) 1 (choose left (heads - (size + 1))) → end < length done
+    → get_or (set done end (get_or done end 0 + ways * times)) s 0 ≡ get_or done s 0 + ways * taken w (fill heads s left) g need size
+complete w need size heads left ways end times s g done met end-is times-is within =
+    let one : times * one_of_size s end ≡ taken w (fill heads s left) g need size = grind (arith, nat_tests) in
+    omega (arith, bumped done end s (ways * times) within, ap (λ (k : ℕ). ways * k) one)
 
-  pub taking-fits : (end times : ℕ) → end ≤ 40 → times ≤ 2 ^ left → get_or done end 0 + (get_or row i d).ways * times < 2 ^ 64
-  taking-fits end times small le = omega (arith, room-for end times small le)
+pub put-down : (w need size heads left ways s : ℕ) (g : ℕ → ℕ → ℕ) (others after : List Open) → w < need
+    → after ≡ others ++ record { need = need - w; size = size + 1; ways = ways } ∷ []
+    → weigh g after ≡ weigh g others + ways * taken w (fill heads s left) g need size
+put-down w need size heads left ways s g others after more is =
+    let own : Open = record { need = need - w; size = size + 1; ways = ways } in
+    grind (arith, nat_tests, sum_by_push (λ (p : Open). p.ways * g p.need p.size) others own)
 
-  -- a prefix that is complete with the member is counted
-  pub taking-complete : (after : List ℕ) (end times : ℕ) → (get_or row i d).need ≤ w → end ≤ 40
-      → end ≡ max ((get_or row i d).size + 1) heads → times ≡ cond (ltb heads ((get_or row i d).size + 1)) 1
-      (choose left (heads - ((get_or row i d).size + 1)))
-      → after ≡ set done end (get_or done end 0 + (get_or row i d).ways * times) → Taking w heads left row before (i + 1) after others
-  taking-complete after end times le small-end end-is times-is is =
-      let x : ℕ → ℕ = λ s. fill heads s left (o.size + 1) in
-      let now : (s : ℕ) → get_or after s 0 ≡ get_or done s 0 + o.ways * x s = λ s.
-      (let long = h.long in
-      let bump = ap (λ (xs : List ℕ). get_or xs s 0) is ∙ bumped done end s (o.ways * times) (omega (arith, small-end, long)) in
-      omega (arith, bump, ap (λ (k : ℕ). o.ways * k) (fill-is heads s left (o.size + 1) end times end-is times-is))) in
-      record {
-        long = ap (λ (xs : List ℕ). length xs) is ∙ length-set done end (get_or done end 0 + o.ways * times) ∙ h.long;
-        counted = λ g s small. (
-            let more = sum_by_more (λ (p : Open). p.ways * taken w (fill heads s left) g p.need p.size) row i d lt in
-            grind (arith, nat_tests, more, now s, h.counted g s small));
-        room = λ s small. omega (arith, now s, room-for s (x s) small (fill-most heads s left (o.size + 1)));
-        sizes = h.sizes;
-      }
+pub weigh-times : (x : ℕ) (row : List Open) → weigh (λ r a. x) row ≡ prefixes row * x
+weigh-times x [] = omega arith
+weigh-times x (o ∷ row) = simp sum_by-cons (omega (arith, weigh-times x row))
 
-  -- one that is not is put down
-  pub taking-other : (after : List Open) → w < (get_or row i d).need
-      → after ≡ others ++ record { need = (get_or row i d).need - w; size = (get_or row i d).size + 1; ways = (get_or row i d).ways } ∷ []
-      → Taking w heads left row before (i + 1) done after
-  taking-other after more_needed is =
-      let x : Open = record { need = o.need - w; size = o.size + 1; ways = o.ways } in
-      record {
-        long = h.long;
-        counted = λ g s small. (
-            let more = sum_by_more (λ (p : Open). p.ways * taken w (fill heads s left) g p.need p.size) row i d lt in
-            let pushed = ap (weigh g) is ∙ sum_by_push (λ (p : Open). p.ways * g p.need p.size) others x in
-            grind (arith, nat_tests, more, pushed, h.counted g s small));
-        room = λ s small. omega (arith, room-for s 0 small (omega arith));
-        sizes = λ p all. rw is (All-push (λ o. o.size ≤ p + 1) others x (h.sizes p all) (let here = all i d lt in omega (arith, here)));
-      }
+weigh-most : (f : ℕ → ℕ → ℕ) (x : ℕ) (row : List Open) → ((r a : ℕ) → f r a ≤ x) → weigh f row ≤ prefixes row * x
+weigh-most f x [] most = omega arith
+weigh-most f x (o ∷ row) most = simp sum_by-cons (omega (arith, weigh-most f x row most, mul-le-mul_left o.ways (most o.need o.size)))
 
-pub taking-none : (w heads left : ℕ) (row : List Open) (done : List ℕ) (others : List Open) → length done ≡ 41 → others ≡ []
-    → ((s : ℕ) → s ≤ 40 → get_or done s 0 + prefixes row * 2 ^ left < 2 ^ 64)
-    → Taking w heads left row done 0 done others
-taking-none w heads left row done others long none room = grind (arith)
+taken-most : (w heads left s r a : ℕ) → taken w (fill heads s left) (λ x y. 2 ^ left) r a ≤ 2 ^ left
+taken-most w heads left s r a = grind (arith, nat_tests, fill-most heads s left (a + 1))
+
+-- what is counted of the prefixes and what is put down are no more than they are, and what is left can fill up
+pub others-few : {w heads left : ℕ} {before done : List ℕ} {all row others : List Open}
+    → AreTaken w heads left before done all row others → (s : ℕ) → s ≤ 40
+    → get_or done s 0 + prefixes others * 2 ^ left ≤ get_or before s 0 + prefixes row * 2 ^ left
+others-few {w = w} {heads = heads} {left = left} {row = row} {others = others} are s small =
+    let taken-few = weigh-most (taken w (fill heads s left) (λ x y. 2 ^ left)) (2 ^ left) row (taken-most w heads left s) in
+    omega (arith, are.counted (λ r a. 2 ^ left) s small, weigh-times (2 ^ left) others, taken-few)
+
+-- there is room for what is counted of the next
+pub taken-room : {w heads left : ℕ} {before done : List ℕ} (row : List Open) {others : List Open} (i : ℕ) (d : Open)
+    → AreTaken w heads left before done row (take i row) others → i < length row
+    → ((s : ℕ) → s ≤ 40 → get_or before s 0 + prefixes row * 2 ^ left < 2 ^ 64)
+    → (s : ℕ) → s ≤ 40 → get_or done s 0 + (get_or row i d).ways * 2 ^ left < 2 ^ 64
+taken-room {left = left} row i d are lt room s small =
+    let next = sum_by_more (λ (o : Open). o.ways) row i d lt in
+    let up = mul-le-mul_right (2 ^ left) (sum_by-take-le (λ (o : Open). o.ways) row (i + 1)) in
+    omega (arith, others-few are s small, room s small, ap (λ (k : ℕ). k * 2 ^ left) next, up)
+
+-- the next prefix too
+pub taken-one : {w heads left : ℕ} {before done after : List ℕ} (row : List Open) {others next : List Open} (i : ℕ) (d : Open)
+    → AreTaken w heads left before done row (take i row) others → i < length row → ((g : ℕ → ℕ → ℕ) (s : ℕ) → s ≤ 40
+    → get_or after s 0 + weigh g next ≡ get_or done s 0 + weigh g others
+    + (get_or row i d).ways * taken w (fill heads s left) g (get_or row i d).need (get_or row i d).size)
+    → ((p : ℕ) → (get_or row i d).size ≤ p → All (λ o. o.size ≤ p + 1) others → All (λ o. o.size ≤ p + 1) next)
+    → AreTaken w heads left before after row (take (i + 1) row) next
+taken-one {w = w} {heads = heads} {left = left} row i d are lt one sizes = record {
+  counted = λ g s small. (
+      let more = sum_by_more (λ (p : Open). p.ways * taken w (fill heads s left) g p.need p.size) row i d lt in
+      omega (arith, more, are.counted g s small, one g s small));
+  sizes = λ p all. sizes p (all i d lt) (are.sizes p all);
+}
 
 pub get_or-zeros : (n s : ℕ) → get_or {A = ℕ} (replicate {A = ℕ} n 0) s 0 ≡ 0
 get_or-zeros zero s = refl
@@ -115,5 +117,7 @@ pub choose-few : (m k : ℕ) → m ≤ 40 → choose m k ≤ 2 ^ 40
 choose-few m k few = let up : 2 ^ m ≤ 2 ^ 40 = pow_mono few in omega (arith, choose-most m k, up)
 
 pub ruleset chosen = (choose-few, choose-none, choose-more, choose-zero)
+
+pub ruleset taking = (times-fit, complete, put-down, taken-room, take_all)
 
 pub ruleset zeros = (get_or-zeros, length-set, get_or-set_same, get_or-set_other)

@@ -20,7 +20,7 @@ abbrev pub taken : ℕ → (ℕ → ℕ) → (ℕ → ℕ → ℕ) → ℕ → �
 taken w complete g need size = if nat_le need w then complete (size + 1) else g (need - w) (size + 1)
 
 -- how many coalitions of size s a prefix of this size leads to that meets the first quota, and that by its last member,
--- where so many members are left, and so many heads are asked for: itself where it has more, and else any others that fill it up
+-- where `left` members are left, and `heads` are asked for: itself where it has more, and else any others that fill it up
 abbrev pub fill : ℕ → ℕ → ℕ → ℕ → ℕ
 fill heads s left size =
     if nat_lt heads size then one_of_size s size else one_of_size s heads * choose left (heads - size)
@@ -41,7 +41,7 @@ left_out (suc p) (w ∷ ws) = w ∷ left_out p ws
 abbrev pub no_sizes : BySize
 no_sizes = record { sizes = [] }
 
--- a tally has so many coalitions of each size as the members lead to from a quota
+-- a tally has, of each size, as many coalitions as the members lead to from a quota
 pub record AreEndings (ws : List ℕ) (heads quota : ℕ) (t : BySize) : Type 0 where
   pub long : length t.sizes ≡ SIZES
   pub sizes : (s : ℕ) → s ≤ MEMBERS → slice_index t.sizes s ≡ endings ws heads s quota 0

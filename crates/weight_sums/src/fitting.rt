@@ -1,5 +1,5 @@
 //! The sets of a list that meet a need, by size.
-ghost use Rattle.std.specs.Prelude.{◌≡◌, ℕ, ◌+◌, ◌-◌, ◌<◌, ◌≤◌, ◌^◌, if◌then◌else◌, nat_le, IsFalse, length, slice_index};
+ghost use Rattle.std.specs.Prelude.{◌≡◌, ℕ, ◌+◌, ◌-◌, ◌<◌, ◌≤◌, ◌^◌, true, false, if◌then◌else◌, nat_le, length, slice_index};
 ghost use Rattle.coalitions.specs.declared.limits.TheConstants.{MEMBERS};
 ghost use Rattle.weight_sums.specs.Endings.{one_of_size};
 ghost use Rattle.weight_sums.specs.Inner.Sets.{IsHalf};
@@ -16,12 +16,15 @@ pub(crate) const HALF: usize = limits::MEMBERS / 2;
 pub(crate) struct Fitting {
     /// How many of them have each size.
     here: [u64; HALF + 1],
-    /// So many sets at the front of the list are not among them.
+    /// This many sets at the front of the list are not among them.
     outside: usize,
+    /// Whether there are any.
+    any: bool,
 }
 
 impl Fitting {
     /// None of a list of sets.
+    #[tactic(auto, using(std::proofs::lemmas::Grind::common_steps, crate::proofs::Taking::zeros))]
     pub(crate) fn none(sets: &[Set]) -> Fitting
         ensures entered { AreEntered sets.now result }
         ensures outside { result.outside ≡ length sets.now }
@@ -29,6 +32,7 @@ impl Fitting {
         Fitting {
             here: [0; HALF + 1],
             outside: sets.len(),
+            any: false,
         }
     }
 
@@ -39,8 +43,10 @@ impl Fitting {
         ensures here { (s : ℕ) → slice_index self.new.here s
             ≡ slice_index self.old.here s + one_of_size s set.now.size }
         ensures outside { self.new.outside ≡ self.old.outside }
+        ensures any { self.new.any ≡ true }
     {
         self.here[set.size as usize] += 1;
+        self.any = true;
     }
 
     /// Lets in all that meet a need, which is not above what those that are in meet.
@@ -59,23 +65,19 @@ impl Fitting {
         }
     }
 
-    /// Whether there are any.
-    pub(crate) fn is_any(&self, sets: &[Set]) -> bool
-        requires { AreEntered sets.now self.now }
-        ensures { IsFalse result → (s : ℕ) → slice_index self.now.here s ≡ 0 }
-    {
-        self.outside < sets.len()
-    }
-
     /// Counts them, by size, where so many members are in front of them.
     #[tactic(auto, using(std::proofs::lemmas::Grind::common_steps, crate::proofs::FittingSets::entering))]
     pub(crate) fn add(&self, size: usize, done: &mut [u64; limits::SIZES])
         requires size { size ≤ 20 }
+        requires any { self.now.any ≡ false → (j : ℕ) → slice_index self.now.here j ≡ 0 }
         requires few { (j : ℕ) → slice_index self.now.here j ≤ 2 ^ 20 }
         requires room { (s : ℕ) → s ≤ MEMBERS → slice_index done.old s < 2 ^ 63 }
         ensures { (s : ℕ) → s ≤ MEMBERS → slice_index done.new s ≡ slice_index done.old s
             + (if nat_le size s then slice_index self.now.here (s - size) else 0) }
     {
+        if !self.any {
+            return;
+        }
         for j in 0..HALF + 1 {
             done[size + j] += self.here[j];
         }

@@ -58,10 +58,8 @@ impl Groups {
         let mut fitting = Fitting::none(others);
         for set in list {
             fitting.let_in(others, quota.saturating_sub(set.weight));
-            if fitting.is_any(others) {
-                lows.add(low(set.members, digits), set.size as usize, &fitting);
-                highs.add(high(set.members, digits), set.size as usize, &fitting);
-            }
+            lows.add(low(set.members, digits), set.size as usize, &fitting);
+            highs.add(high(set.members, digits), set.size as usize, &fitting);
         }
         Ok(Groups {
             digits,

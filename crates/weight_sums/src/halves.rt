@@ -1,15 +1,15 @@
 //! Tallies of the coalitions that members lead to, from the sets of their two halves (Horowitz and Sahni 1974).
 ghost use Rattle.coalitions.specs.declared.limits.TheConstants.{MEMBERS, SIZES, TOTAL};
 ghost use Rattle.weight_sums.specs.declared.sets.Set.{Set};
-ghost use Rattle.weight_sums.specs.Endings.{AreAllEndings, endings, left_out};
-ghost use Rattle.weight_sums.specs.Inner.Halves.{AreHalves, AreLeft, ArePairs};
-ghost use Rattle.weight_sums.specs.Inner.Sets.{IsHalfOf, has, met};
+ghost use Rattle.weight_sums.specs.Endings.{AreAllEndings, AreEndings, AreEndingsWith, endings, left_out};
+ghost use Rattle.weight_sums.specs.Inner.Halves.{AreHalves, ArePairs, IsLeft};
+ghost use Rattle.weight_sums.specs.Inner.Sets.{AreSets, IsHalfOf, fits, over};
 ghost use Rattle.weight_sums.specs.Inner.Groups.{HaveRows};
-ghost use Rattle.std.specs.Prelude.{◌≡◌, ℕ, ◌+◌, ◌-◌, ◌<◌, ◌≤◌, ◌^◌, if◌then◌else◌, IfOk, List, length, slice_index, sum, sum_by};
+ghost use Rattle.std.specs.Prelude.{◌≡◌, ℕ, ◌+◌, ◌-◌, ◌<◌, ◌≤◌, ◌^◌, ◌++◌, Bool, true, false, if◌then◌else◌, IfOk, List, length, slice_index, sum};
 
 use crate::by_size::BySize;
 use crate::groups::Groups;
-use crate::sets::{NOBODY, Set, fill_sets, fill_shortened};
+use crate::sets::{NOBODY, Set, fill};
 use crate::tallies::{Tallies, difference};
 use coalitions::{Memory, limits};
 use std::alloc::Global;
@@ -40,14 +40,14 @@ impl Pairs {
         })
     }
 
-    /// How many there are without the member of a place, where the first half has so many members.
+    /// How many there are without the member of a place, where the first half has `front` members.
     fn without(&self, front: usize, place: usize) -> [u64; limits::SIZES]
         requires first { HaveRows self.now.first }
         requires second { HaveRows self.now.second }
-        ensures first { (quota s : ℕ) (xs ys : List Set) → ArePairs quota xs ys self.now → place < front
-            → s ≤ MEMBERS → slice_index result s ≡ sum_by (λ x. if has place x.members then 0 else met quota ys s x) xs }
-        ensures second { (quota s : ℕ) (xs ys : List Set) → ArePairs quota xs ys self.now → front ≤ place
-            → s ≤ MEMBERS → slice_index result s ≡ sum_by (λ x. if has (place - front) x.members then 0 else met quota xs s x) ys }
+        ensures { (quota s : ℕ) (short : Bool) (fr bk : List ℕ) (xs ys : List Set) → ArePairs quota xs ys self.now
+            → AreSets false fr xs → AreSets short bk ys → length fr ≡ front → s ≤ MEMBERS
+            → over short (left_out place (fr ++ bk)) (fits quota 0 s)
+            ≡ slice_index result s + (if short then over true (left_out place fr) (fits quota 0 s) else 0) }
     {
         if place < front {
             self.first.without(place)
@@ -57,24 +57,37 @@ impl Pairs {
     }
 }
 
-/// How many sets of each size there are that meet a quota, but for those that do so without their last member:
-/// of just so many heads all, of more the others, of fewer none.
-#[tactic(auto, using(std::proofs::lemmas::Grind::common_steps, crate::proofs::Taking::zeros))]
+/// How many sets of a size are left of those that meet a quota without those that do so without their last member:
+/// of just as many as heads all, of more the others, of fewer none.
+fn left_at(size: usize, won: u64, shortened: u64, own: u64, heads: usize) -> u64
+    requires { heads < size → shortened + own ≤ won }
+    ensures { IsLeft heads size won shortened own result }
+{
+    if size < heads {
+        0
+    } else if size == heads {
+        won
+    } else {
+        won - shortened - own
+    }
+}
+
+/// The same of each size.
 fn left_of(
     won: &[u64; limits::SIZES],
     shortened: &[u64; limits::SIZES],
     own: &[u64; limits::SIZES],
     heads: usize,
 ) -> [u64; limits::SIZES]
-    requires heads { heads ≤ MEMBERS }
-    requires fewer { (s : ℕ) → heads < s → s ≤ MEMBERS
+    requires { (s : ℕ) → heads < s → s ≤ MEMBERS
         → slice_index shortened.now s + slice_index own.now s ≤ slice_index won.now s }
-    ensures { AreLeft heads won.now shortened.now own.now result }
+    ensures long { length result ≡ SIZES }
+    ensures are { (s : ℕ) → s ≤ MEMBERS → IsLeft heads s (slice_index won.now s) (slice_index shortened.now s)
+        (slice_index own.now s) (slice_index result s) }
 {
     let mut sizes = [0; limits::SIZES];
-    sizes[heads] = won[heads];
-    for size in heads + 1..limits::SIZES {
-        sizes[size] = won[size] - shortened[size] - own[size];
+    for size in 0..limits::SIZES {
+        sizes[size] = left_at(size, won[size], shortened[size], own[size], heads);
     }
     sizes
 }
@@ -108,12 +121,12 @@ impl Halves {
     {
         let (front, back) = weights.split_at(weights.len() / 2);
         let digits = ((back.len() + 1) / 2) as u32;
-        fill_sets(front, first, spare)?;
-        fill_sets(back, second, spare)?;
+        fill(front, false, first, spare)?;
+        fill(back, false, second, spare)?;
         let won = Pairs::new(alloc, first, second, quota, digits)?;
-        fill_shortened(back, second, spare)?;
+        fill(back, true, second, spare)?;
         let shortened = Pairs::new(alloc, first, second, quota, digits)?;
-        fill_shortened(front, first, spare)?;
+        fill(front, true, first, spare)?;
         let own = Groups::new(alloc, first, &[NOBODY], quota, digits)?;
         Ok(Halves {
             quota,
@@ -154,10 +167,53 @@ impl Halves {
         let own = self.own.without(place);
         left_of(&won, &shortened, &own, heads)
     }
+
+    /// The tally of the coalitions that all members lead to.
+    #[tactic(auto, using(std::proofs::lemmas::Grind::common_steps, crate::proofs::HalfSums::places))]
+    fn all(&self, weights: &[u64], heads: usize) -> BySize
+        requires few { length weights.now ≤ MEMBERS }
+        requires halves { AreHalves weights.now self.now }
+        requires some { 0 < self.now.quota }
+        requires heads { heads ≤ MEMBERS }
+        ensures { AreEndings weights.now heads self.now.quota result }
+    {
+        BySize::of(&self.endings_without(weights, heads, weights.len()))
+    }
+
+    /// The tally of the coalitions with the member of a place: those that the others do not lead to.
+    fn with(&self, weights: &[u64], heads: usize, place: usize, all: &BySize) -> BySize
+        requires few { length weights.now ≤ MEMBERS }
+        requires halves { AreHalves weights.now self.now }
+        requires some { 0 < self.now.quota }
+        requires heads { heads ≤ MEMBERS }
+        requires all { AreEndings weights.now heads self.now.quota all.now }
+        requires less { (s : ℕ) → s ≤ MEMBERS
+            → endings (left_out place weights.now) heads s self.now.quota 0 ≤ endings weights.now heads s self.now.quota 0 }
+        ensures { AreEndingsWith weights.now heads self.now.quota place result }
+    {
+        difference(all, &self.endings_without(weights, heads, place))
+    }
+
+    /// The tallies of all coalitions that the members lead to, and by place of those that contain it.
+    fn tallies(&self, weights: &[u64], heads: usize) -> Tallies
+        requires few { length weights.now ≤ MEMBERS }
+        requires halves { AreHalves weights.now self.now }
+        requires some { 0 < self.now.quota }
+        requires heads { heads ≤ MEMBERS }
+        requires less { (p s : ℕ) → p < length weights.now → s ≤ MEMBERS
+            → endings (left_out p weights.now) heads s self.now.quota 0 ≤ endings weights.now heads s self.now.quota 0 }
+        ensures { AreAllEndings weights.now heads self.now.quota result }
+    {
+        let all = self.all(weights, heads);
+        let mut each = [all; limits::MEMBERS];
+        for place in 0..weights.len() {
+            each[place] = self.with(weights, heads, place, &all);
+        }
+        Tallies { all, each }
+    }
 }
 
-/// The tallies of the coalitions that members lead to: of all, and by place of those that contain it, which are
-/// those that the others do not lead to.
+/// The tallies of the coalitions that members lead to, by their halves.
 pub(crate) fn by_halves(
     alloc: Global,
     weights: &[u64],
@@ -173,13 +229,5 @@ pub(crate) fn by_halves(
     ensures { IfOk result (AreAllEndings weights.now heads quota) }
 {
     let halves = Halves::new(alloc, weights, quota)?;
-    let all = BySize {
-        sizes: halves.endings_without(weights, heads, weights.len()),
-    };
-    let mut each = [all; limits::MEMBERS];
-    for place in 0..weights.len() {
-        let without = halves.endings_without(weights, heads, place);
-        each[place] = difference(&all, &without);
-    }
-    Ok(Tallies { all, each })
+    Ok(halves.tallies(weights, heads))
 }

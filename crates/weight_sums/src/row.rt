@@ -2,6 +2,7 @@
 ghost use Rattle.std.specs.Prelude.{◌≡◌, ℕ, ◌+◌, ◌*◌, ◌<◌, ◌≤◌, ◌^◌, IfOk, length, slice_index, take, drop};
 ghost use Rattle.std.specs.List.{All};
 ghost use Rattle.coalitions.specs.declared.limits.TheConstants.{MEMBERS};
+ghost use Rattle.weight_sums.specs.Endings.{fill, taken};
 ghost use Rattle.weight_sums.specs.Inner.Rows.{AreMerged, AreTaken, prefixes, weigh};
 
 use crate::choices::Heads;
@@ -29,9 +30,42 @@ pub(crate) fn still_open(row: &[Open], rest: u64) -> usize
     end
 }
 
-/// Takes a member of this weight into each prefix of a row. What meets the quota by it is counted by size: alone
-/// where it has more members than are asked for, and else with any of the others that fill it up. What does not
-/// is put down.
+/// Takes a member of this weight into a prefix. What meets the quota by it is counted by size: alone where it has more
+/// members than are asked for, and else with any of the others that fill it up. What does not is put down.
+#[tactic(auto, using(std::proofs::lemmas::Grind::common_steps, crate::proofs::Taking::taking))]
+fn take_in(
+    prefix: &Open,
+    weight: u64,
+    left: usize,
+    heads: &Heads,
+    done: &mut [u64; limits::SIZES],
+    others: &mut Vec<Open>,
+) -> Result<(), Memory>
+    requires left { left ≤ MEMBERS }
+    requires size { prefix.now.size < MEMBERS }
+    requires room { (s : ℕ) → s ≤ MEMBERS → slice_index done.old s + prefix.now.ways * 2 ^ left < 2 ^ 64 }
+    ensures counted { IfOk result (λ _. (g : ℕ → ℕ → ℕ) (s : ℕ) → s ≤ MEMBERS
+        → slice_index done.new s + weigh g others.new.items ≡ slice_index done.old s + weigh g others.old.items
+        + prefix.now.ways * taken weight (fill heads.now.asked s left) g prefix.now.need prefix.now.size) }
+    ensures sizes { IfOk result (λ _. (p : ℕ) → prefix.now.size ≤ p → All (λ o. o.size ≤ p + 1) others.old.items
+        → All (λ o. o.size ≤ p + 1) others.new.items) }
+{
+    let size = prefix.size + 1;
+    if prefix.need <= weight {
+        let times = heads.filled(size, left);
+        done[size.max(heads.asked)] += prefix.ways * times;
+    } else {
+        others.push(Open {
+            need: prefix.need - weight,
+            size,
+            ways: prefix.ways,
+        })?;
+    }
+    Ok(())
+}
+
+/// Takes a member of this weight into each prefix of a row.
+#[tactic(auto, using(std::proofs::lemmas::Grind::common_steps, crate::proofs::Taking::taking))]
 pub(crate) fn with_member(
     row: &[Open],
     weight: u64,
@@ -43,22 +77,12 @@ pub(crate) fn with_member(
     requires left { left ≤ MEMBERS }
     requires sizes { All (λ o. o.size < MEMBERS) row.now }
     requires room { (s : ℕ) → s ≤ MEMBERS → slice_index done.old s + prefixes row.now * 2 ^ left < 2 ^ 64 }
-    ensures { IfOk result (λ _. AreTaken weight heads.now.asked left done.old done.new row.now others.new.items) }
+    ensures { IfOk result (λ _. AreTaken weight heads.now.asked left done.old done.new row.now row.now others.new.items) }
 {
     others.clear();
     others.reserve(row.len())?;
     for prefix in row {
-        let size = prefix.size + 1;
-        if prefix.need <= weight {
-            let times = heads.filled(size, left);
-            done[size.max(heads.asked)] += prefix.ways * times;
-        } else {
-            others.push(Open {
-                need: prefix.need - weight,
-                size,
-                ways: prefix.ways,
-            })?;
-        }
+        take_in(prefix, weight, left, heads, done, others)?;
     }
     Ok(())
 }

@@ -2,6 +2,7 @@
 ghost use Rattle.std.specs.Prelude.{◌≡◌, ℕ, ◌+◌, ◌-◌, ◌<◌, ◌≤◌, ◌^◌, IfOk, List, [], ◌∷◌, true, length, slice_index, sum, drop};
 ghost use Rattle.std.specs.List.{All};
 ghost use Rattle.coalitions.specs.declared.limits.TheConstants.{MEMBERS};
+ghost use Rattle.weight_sums.specs.Endings.{endings};
 ghost use Rattle.weight_sums.specs.Inner.Rows.{AreOfPrefixes, GoesOn, at_most, come_to};
 
 use crate::choices::Heads;
@@ -22,10 +23,15 @@ fn room_for(members: usize) -> usize
     (2 * half).min(ROOM)
 }
 
-/// The row of the prefixes of the members that are decided, and room for the next.
+/// The row of the prefixes of the members that are decided, and the coalitions that they have completed.
 #[derive(Drop)]
 pub(crate) struct Rows {
     pub row: Vec<Open>,
+    /// The coalitions that are counted by now, by size.
+    pub done: [u64; limits::SIZES],
+    /// So many entries the rows of the pass may still have together.
+    room: usize,
+    /// Room for the next row.
     taken: Vec<Open>,
     next: Vec<Open>,
 }
@@ -35,15 +41,19 @@ impl Rows {
     pub(crate) fn new(alloc: Global) -> Rows {
         Rows {
             row: Vec::new(alloc),
+            done: [0; limits::SIZES],
+            room: 0,
             taken: Vec::new(alloc),
             next: Vec::new(alloc),
         }
     }
 
-    /// Begins with the empty prefix, which misses the quota.
-    pub(crate) fn begin(&mut self, quota: u64) -> Result<(), Memory>
-        ensures { IfOk result (λ _. self.new.row.items ≡
-            record { need = quota; size = 0; ways = 1 } ∷ []) }
+    /// Begins a pass over members with the empty prefix, which misses the quota.
+    pub(crate) fn begin(&mut self, quota: u64, members: usize) -> Result<(), Memory>
+        requires { members ≤ MEMBERS }
+        ensures few { IfOk result (λ _. (left : ℕ) → left ≤ MEMBERS → AreOfPrefixes left self.new.done self.new.row.items) }
+        ensures come { IfOk result (λ _. (ws : List ℕ) (heads s : ℕ)
+            → come_to heads s ws self.new.done self.new.row.items ≡ endings ws heads s quota 0) }
     {
         self.row.clear();
         self.row.push(Open {
@@ -51,15 +61,20 @@ impl Rows {
             size: 0,
             ways: 1,
         })?;
+        self.done = [0; limits::SIZES];
+        self.room = room_for(members);
         Ok(())
     }
 
-    /// Takes over the prefixes of another row.
-    pub(crate) fn copy(&mut self, row: &[Open]) -> Result<(), Memory>
-        ensures { IfOk result (λ _. self.new.row.items ≡ row.now) }
+    /// Goes on where another pass is.
+    pub(crate) fn copy(&mut self, other: &Rows) -> Result<(), Memory>
+        ensures row { IfOk result (λ _. self.new.row.items ≡ other.now.row.items) }
+        ensures done { IfOk result (λ _. self.new.done ≡ other.now.done) }
     {
         self.row.clear();
-        self.row.extend_from_slice(row)?;
+        self.row.extend_from_slice(&other.row)?;
+        self.done = other.done;
+        self.room = other.room;
         Ok(())
     }
 
@@ -72,49 +87,50 @@ impl Rows {
         rest: u64,
         left: usize,
         heads: &Heads,
-        done: &mut [u64; limits::SIZES],
     ) -> Result<(), Memory>
         requires left { left < MEMBERS }
         requires sizes { All (λ o. o.size < MEMBERS) self.old.row.items }
-        requires room { (s : ℕ) → s ≤ MEMBERS → at_most s (left + 1) done.old self.old.row.items < 2 ^ 64 }
-        ensures { IfOk result (λ _. GoesOn weight rest left heads.now.asked done.old done.new
+        requires room { (s : ℕ) → s ≤ MEMBERS → at_most s (left + 1) self.old.done self.old.row.items < 2 ^ 64 }
+        ensures { IfOk result (λ _. GoesOn weight rest left heads.now.asked self.old.done self.new.done
             self.old.row.items self.new.row.items) }
     {
-        with_member(&self.row, weight, left, heads, done, &mut self.taken)?;
+        with_member(
+            &self.row,
+            weight,
+            left,
+            heads,
+            &mut self.done,
+            &mut self.taken,
+        )?;
         let end = still_open(&self.row, rest);
         merge(&self.row[..end], &self.taken, &mut self.next)?;
         mem::swap(&mut self.row, &mut self.next);
         Ok(())
     }
 
-    /// Decides the members from a place on, which weigh so much together; false where there is no room.
+    /// Decides these members, which weigh `rest` together; false where there is no room.
+    #[tactic(auto, using(std::proofs::lemmas::Grind::common_steps, crate::proofs::Passing::going))]
     pub(crate) fn finish(
         &mut self,
         weights: &[u64],
-        place: usize,
         rest: u64,
         heads: &Heads,
-        done: &mut [u64; limits::SIZES],
     ) -> Result<bool, Memory>
         requires few { length weights.now ≤ MEMBERS }
-        requires place { place ≤ length weights.now }
-        requires rest { rest ≡ sum (drop place weights.now) }
-        requires row { AreOfPrefixes place (length weights.now - place) done.old
-            self.old.row.items }
-        ensures { IfOk result (λ full. full ≡ true → (s : ℕ) → s ≤ MEMBERS → slice_index done.new s ≡
-            come_to heads.now.asked s (drop place weights.now) done.old self.old.row.items) }
+        requires rest { rest ≡ sum weights.now }
+        requires row { AreOfPrefixes (length weights.now) self.old.done self.old.row.items }
+        ensures { IfOk result (λ full. full ≡ true → (s : ℕ) → s ≤ MEMBERS → slice_index self.new.done s ≡
+            come_to heads.now.asked s weights.now self.old.done self.old.row.items) }
     {
-        let mut rest = rest;
-        let mut room = room_for(weights.len());
-        for p in place..weights.len() {
-            rest -= weights[p];
-            let left = weights.len() - p - 1;
-            self.go_on(weights[p], rest, left, heads, done)?;
-            if room < self.row.len() {
-                return Ok(false);
-            }
-            room -= self.row.len();
+        let Some((weight, others)) = weights.split_first() else {
+            return Ok(true);
+        };
+        let rest = rest - *weight;
+        self.go_on(*weight, rest, others.len(), heads)?;
+        if self.room < self.row.len() {
+            return Ok(false);
         }
-        Ok(true)
+        self.room -= self.row.len();
+        self.finish(others, rest, heads)
     }
 }

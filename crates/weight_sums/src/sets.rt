@@ -1,8 +1,8 @@
 //! Lists of sets of some members, by weight.
-ghost use Rattle.std.specs.Prelude.{◌≡◌, ℕ, ◌+◌, ◌*◌, ◌-◌, ◌==◌, ◌<◌, ◌≤◌, ◌^◌, true, false, IfOk, length, sum, sum_by};
+ghost use Rattle.std.specs.Prelude.{◌≡◌, ℕ, ◌+◌, ◌*◌, ◌-◌, ◌<◌, ◌≤◌, ◌^◌, if◌then◌else◌, List, [], ◌∷◌, IfOk, IsFalse, IsTrue, length, slice_index_or, sum};
 ghost use Rattle.std.specs.List.{All};
 ghost use Rattle.coalitions.specs.declared.limits.TheConstants.{TOTAL};
-ghost use Rattle.weight_sums.specs.Inner.Sets.{AreFirst, AreSets, Ascend, joined, left};
+ghost use Rattle.weight_sums.specs.Inner.Sets.{AreSets, Ascend, HasRoom, joined, left, nobody};
 
 use coalitions::Memory;
 use std::mem;
@@ -47,9 +47,7 @@ impl Set {
 
     /// The set with a member of this weight in front.
     fn joined(&self, weight: u64) -> Set
-        requires light { self.now.weight + weight < 2 ^ 64 }
-        requires members { self.now.members < 2 ^ 31 }
-        requires few { self.now.size < 2 ^ 32 - 1 }
+        requires { HasRoom weight self.now }
         ensures { result ≡ joined weight self.now }
     {
         Set {
@@ -60,87 +58,68 @@ impl Set {
     }
 }
 
-/// Puts down the sets with one member more in front, of this weight: each without and with this member, by weight.
-/// What stands there before weighs nothing.
-#[tactic(auto, using(std::proofs::lemmas::Grind::common_steps, crate::proofs::SetLists::doubling))]
-fn with_first(sets: &[Set], weight: u64, next: &mut Vec<Set>) -> Result<(), Memory>
-    requires ascend { Ascend sets.now }
-    requires light { All (λ x. x.weight + weight < 2 ^ 64) sets.now }
-    requires members { All (λ x. x.members < 2 ^ 31) sets.now }
-    requires sizes { All (λ x. x.size < 2 ^ 32 - 1) sets.now }
-    requires before { All (λ x. x.weight ≤ 0) next.old.items }
-    ensures same { IfOk result (λ _. (g : Set → ℕ) → sum_by g next.new.items ≡ sum_by g next.old.items
-        + sum_by (λ x. g (left x)) sets.now + sum_by (λ x. g (joined weight x)) sets.now) }
-    ensures ascend { IfOk result (λ _. Ascend next.new.items) }
+/// Makes a list of one set, or of none.
+fn begin(list: &mut Vec<Set>, set: Set, some: bool) -> Result<(), Memory>
+    ensures { IfOk result (λ _. list.new.items ≡ (if some then set ∷ [] else [])) }
 {
+    list.clear();
+    if some {
+        list.push(set)?;
+    }
+    Ok(())
+}
+
+/// Whether there is a set at a place, and it weighs no more than this.
+fn is_light(sets: &[Set], place: usize, weight: u64) -> bool
+    ensures place { IsTrue result → place < length sets.now }
+    ensures light { IsTrue result → (slice_index_or sets.now place nobody).weight ≤ weight }
+    ensures heavy { IsFalse result → place < length sets.now → weight < (slice_index_or sets.now place nobody).weight }
+{
+    place < sets.len() && sets[place].weight <= weight
+}
+
+/// Puts down the sets with one member more in front, of this weight, by weight: each without and with this member, and that
+/// of it alone where they are shortened. Those with the member are never further than those without.
+#[tactic(auto, using(std::proofs::lemmas::Grind::common_steps, crate::proofs::SetLists::doubling))]
+fn with_first(sets: &[Set], weight: u64, short: bool, next: &mut Vec<Set>) -> Result<(), Memory>
+    requires ascend { Ascend sets.now }
+    requires room { All (λ x. HasRoom weight x) sets.now }
+    ensures { IfOk result (λ _. (ws : List ℕ) → AreSets short ws sets.now → AreSets short (weight ∷ ws) next.new.items) }
+{
+    begin(next, ALONE, short)?;
     next.reserve(sets.len() * 2)?;
     let (mut i, mut j) = (0, 0);
-    while i < sets.len() {
-        let (out, with) = (sets[i].left(), sets[j].joined(weight));
-        if out.weight <= with.weight {
-            next.push(out)?;
+    while j < sets.len() {
+        let with = sets[j].joined(weight);
+        if is_light(sets, i, with.weight) {
+            next.push(sets[i].left())?;
             i += 1;
         } else {
             next.push(with)?;
             j += 1;
         }
     }
-    while j < sets.len() {
-        next.push(sets[j].joined(weight))?;
-        j += 1;
-    }
     Ok(())
 }
 
-/// Makes a list, by weight, of the sets that begin with these of no member: with each member more in front, those without
-/// and with it, and these of it alone. A second list is room to make it.
-fn fill(
+/// Makes a list, by weight, of all sets of members with these weights, or where they are shortened, of all but the empty one,
+/// each by what it weighs without its last member. A second list is room to make it.
+#[tactic(auto, using(std::proofs::lemmas::Grind::common_steps, crate::proofs::SetLists::filling))]
+pub(crate) fn fill(
     weights: &[u64],
-    none: &[Set],
-    first: &[Set],
+    short: bool,
     sets: &mut Vec<Set>,
     spare: &mut Vec<Set>,
 ) -> Result<(), Memory>
     requires few { length weights.now ≤ 20 }
     requires light { sum weights.now ≤ TOTAL }
-    requires begins { AreFirst (length none.now == 0) none.now first.now }
-    ensures { IfOk result (λ _. AreSets (length none.now == 0) weights.now sets.new.items) }
+    ensures { IfOk result (λ _. AreSets short weights.now sets.new.items) }
 {
-    sets.clear();
-    sets.extend_from_slice(none)?;
-    let mut place = weights.len();
-    while place > 0 {
-        place -= 1;
-        spare.clear();
-        spare.extend_from_slice(first)?;
-        with_first(sets, weights[place], spare)?;
-        mem::swap(sets, spare);
-    }
+    let Some((first, others)) = weights.split_first() else {
+        return begin(sets, NOBODY, !short);
+    };
+    fill(others, short, sets, spare)?;
+    with_first(sets, *first, short, spare)?;
+    mem::swap(sets, spare);
     Ok(())
-}
-
-/// Makes a list all sets of members with these weights.
-pub(crate) fn fill_sets(
-    weights: &[u64],
-    sets: &mut Vec<Set>,
-    spare: &mut Vec<Set>,
-) -> Result<(), Memory>
-    requires few { length weights.now ≤ 20 }
-    requires light { sum weights.now ≤ TOTAL }
-    ensures { IfOk result (λ _. AreSets false weights.now sets.new.items) }
-{
-    fill(weights, &[NOBODY], &[], sets, spare)
-}
-
-/// Makes a list all sets of members with these weights but the empty one, each by what it weighs without its last member.
-pub(crate) fn fill_shortened(
-    weights: &[u64],
-    sets: &mut Vec<Set>,
-    spare: &mut Vec<Set>,
-) -> Result<(), Memory>
-    requires few { length weights.now ≤ 20 }
-    requires light { sum weights.now ≤ TOTAL }
-    ensures { IfOk result (λ _. AreSets true weights.now sets.new.items) }
-{
-    fill(weights, &[], &[ALONE], sets, spare)
 }

@@ -1,10 +1,10 @@
 //! Numbers by size for each choice of some members.
-ghost use Rattle.std.specs.Prelude.{◌≡◌, ℕ, ◌+◌, ◌-◌, ◌==◌, ◌<◌, ◌≤◌, ◌^◌, [], if◌then◌else◌, nat_le, IfOk, List, length, slice_index, slice_index_or, sum_by};
+ghost use Rattle.std.specs.Prelude.{◌≡◌, ℕ, ◌+◌, ◌-◌, ◌==◌, ◌<◌, ◌≤◌, ◌^◌, false, [], if◌then◌else◌, nat_le, IfOk, List, length, slice_index, slice_index_or, sum_by};
 ghost use Rattle.std.specs.List.{All};
 ghost use Rattle.coalitions.specs.declared.limits.TheConstants.{MEMBERS};
 ghost use Rattle.weight_sums.specs.declared.sets.Set.{Set};
 ghost use Rattle.weight_sums.specs.Inner.Sets.{has};
-ghost use Rattle.weight_sums.specs.Inner.Tables.{AreOfKeys, HasRows};
+ghost use Rattle.weight_sums.specs.Inner.Tables.{AreOfKeys, HasRows, IsCounted};
 
 use crate::fitting::Fitting;
 use coalitions::{Memory, limits};
@@ -27,16 +27,14 @@ pub(crate) struct Table {
 }
 
 impl Table {
-    /// So many rows in which nothing is counted.
+    /// A row for each choice, in which nothing is counted.
     pub(crate) fn new(alloc: Global, choices: usize) -> Result<Table, Memory>
         ensures long { IfOk result (λ table. length table.rows.items ≡ choices) }
         ensures none { IfOk result (λ table. (key : Set → ℕ) (f : ℕ → Set → ℕ)
             → AreOfKeys key f [] table.rows.items) }
     {
         let mut rows = Vec::with_capacity(alloc, choices)?;
-        while rows.len() < choices {
-            rows.push([0; limits::SIZES])?;
-        }
+        rows.resize(choices, [0; limits::SIZES])?;
         Ok(Table { rows })
     }
 
@@ -47,16 +45,29 @@ impl Table {
         requires room { (k s : ℕ) → s ≤ MEMBERS
             → slice_index (slice_index_or self.old.rows.items k []) s < 2 ^ 63 }
         requires size { size ≤ 20 }
+        requires any { fitting.now.any ≡ false → (j : ℕ) → slice_index fitting.now.here j ≡ 0 }
         requires few { (j : ℕ) → slice_index fitting.now.here j ≤ 2 ^ 20 }
-        ensures long { length self.new.rows.items ≡ length self.old.rows.items }
-        ensures row { (k s : ℕ) → s ≤ MEMBERS → slice_index (slice_index_or self.new.rows.items k []) s
-            ≡ slice_index (slice_index_or self.old.rows.items k []) s
-            + (if k == key then (if nat_le size s then slice_index fitting.now.here (s - size) else 0) else 0) }
+        ensures { IsCounted key size fitting.now.here self.old.rows.items self.new.rows.items }
     {
         fitting.add(size, &mut self.rows[key]);
     }
 
+    /// Adds the row of a key, unless the member of a place is in its choice.
+    fn add_to(&self, key: usize, place: usize, sum: &mut [u64; limits::SIZES])
+        requires key { key < length self.now.rows.items }
+        requires place { place ≤ 20 }
+        requires room { (s : ℕ) → s ≤ MEMBERS
+            → slice_index sum.old s + slice_index (slice_index_or self.now.rows.items key []) s < 2 ^ 64 }
+        ensures { (s : ℕ) → s ≤ MEMBERS → slice_index sum.new s
+            ≡ slice_index sum.old s + (if has place key then 0 else slice_index (slice_index_or self.now.rows.items key []) s) }
+    {
+        if (key >> place) % 2 != 1 {
+            add_row(sum, &self.rows[key]);
+        }
+    }
+
     /// The rows of all choices without the member of a place, added.
+    #[tactic(auto, using(std::proofs::lemmas::Grind::common_steps, crate::proofs::TableSums::adding))]
     pub(crate) fn without(&self, place: usize) -> [u64; limits::SIZES]
         requires rows { HasRows self.now.rows.items }
         requires place { place ≤ 20 }
@@ -66,9 +77,7 @@ impl Table {
     {
         let mut sum = [0; limits::SIZES];
         for key in 0..self.rows.len() {
-            if (key >> place) % 2 != 1 {
-                add_row(&mut sum, &self.rows[key]);
-            }
+            self.add_to(key, place, &mut sum);
         }
         sum
     }

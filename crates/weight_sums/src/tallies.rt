@@ -2,7 +2,8 @@
 ghost use Rattle.coalitions.specs.declared.limits.TheConstants.{MEMBERS, SIZES};
 ghost use Rattle.weight_sums.specs.Endings.{AreAllEndings, AreEndings, AreEndingsWith, endings, left_out};
 ghost use Rattle.weight_sums.specs.Endings.{no_sizes};
-ghost use Rattle.std.specs.Prelude.{◌≡◌, ℕ, ◌+◌, ◌<◌, ◌≤◌, IfOk, IfSome, length, sum, slice_index, slice_index_or};
+ghost use Rattle.weight_sums.specs.Inner.Rows.{AreOfPrefixes, IsOfTheRest, come_to};
+ghost use Rattle.std.specs.Prelude.{◌≡◌, ℕ, ◌+◌, ◌-◌, ◌<◌, ◌≤◌, true, IfOk, IfSome, length, sum, slice_index, slice_index_or};
 
 use crate::by_size::BySize;
 use crate::choices::Heads;
@@ -29,12 +30,11 @@ fn tally_all(
     requires total { total ≡ sum weights.now }
     ensures { IfOk result (λ tally. IfSome tally (AreEndings weights.now heads.now.asked quota)) }
 {
-    let mut sizes = [0; limits::SIZES];
-    rows.begin(quota)?;
-    if !rows.finish(weights, 0, total, heads, &mut sizes)? {
+    rows.begin(quota, weights.len())?;
+    if !rows.finish(weights, total, heads)? {
         return Ok(None);
     }
-    Ok(Some(BySize { sizes }))
+    Ok(Some(BySize::of(&rows.done)))
 }
 
 /// What a tally has above another.
@@ -51,9 +51,50 @@ pub(crate) fn difference(all: &BySize, part: &[u64; limits::SIZES]) -> BySize
     BySize { sizes }
 }
 
+/// Puts down, from a place on, the tally of the coalitions that contain each of these members: of all, those that a row does
+/// not come to without it. The row is that of one member less, so that one less is left to fill a coalition up. False where
+/// there is no room.
+#[tactic(auto, using(crate::proofs::Members::tallying), unfolding(crate::specs::Endings::left_out))]
+fn tally_from(
+    rows: &mut Rows,
+    others: &mut Rows,
+    weights: &[u64],
+    rest: u64,
+    heads: &Heads,
+    all: &BySize,
+    place: usize,
+    each: &mut [BySize; limits::MEMBERS],
+) -> Result<bool, Memory>
+    requires few { place + length weights.now ≤ MEMBERS }
+    requires rest { rest ≡ sum weights.now }
+    requires row { AreOfPrefixes (length weights.now - 1) rows.old.done rows.old.row.items }
+    requires less { (k s : ℕ) → k < length weights.now → s ≤ MEMBERS →
+        come_to heads.now.asked s (left_out k weights.now) rows.old.done rows.old.row.items ≤ slice_index all.now.sizes s }
+    ensures { IfOk result (λ full. full ≡ true → (k : ℕ) → k < length weights.now
+        → IsOfTheRest heads.now.asked (left_out k weights.now) rows.old.done rows.old.row.items all.now
+        (slice_index_or each.new (place + k) no_sizes)) }
+{
+    let Some((weight, later)) = weights.split_first() else {
+        return Ok(true);
+    };
+    let rest = rest - *weight;
+    others.copy(rows)?;
+    if !others.finish(later, rest, heads)? {
+        return Ok(false);
+    }
+    let own = difference(all, &others.done);
+    if later.len() == 0 {
+        each[place] = own;
+        return Ok(true);
+    }
+    rows.go_on(*weight, rest, later.len() - 1, heads)?;
+    let full = tally_from(rows, others, later, rest, heads, all, place + 1, each)?;
+    each[place] = own;
+    Ok(full)
+}
+
 /// The tallies, by rank place, of the coalitions that contain the place: of all, those that the members do not
-/// lead to without its member. The rows up to a place are those of one member less, so that one less is left
-/// to fill a coalition up. None where there is no room.
+/// lead to without its member. None where there is no room.
 fn tally_each(
     rows: &mut Rows,
     others: &mut Rows,
@@ -72,19 +113,9 @@ fn tally_each(
         AreEndingsWith weights.now heads.now.asked quota p (slice_index_or each p no_sizes))) }
 {
     let mut each = [*all; limits::MEMBERS];
-    rows.begin(quota)?;
-    let mut done = [0; limits::SIZES];
-    let mut rest = total;
-    for place in 0..weights.len() {
-        rest -= weights[place];
-        others.copy(&rows.row)?;
-        let mut without = done;
-        if !others.finish(weights, place + 1, rest, heads, &mut without)? {
-            return Ok(None);
-        }
-        each[place] = difference(all, &without);
-        let left = (weights.len() - place).saturating_sub(2);
-        rows.go_on(weights[place], rest, left, heads, &mut done)?;
+    rows.begin(quota, weights.len())?;
+    if !tally_from(rows, others, weights, total, heads, all, 0, &mut each)? {
+        return Ok(None);
     }
     Ok(Some(each))
 }

@@ -94,9 +94,15 @@ pub more-hold : (g : GameView) (list : List ℕ) (t : Tables) (c s : ℕ) (all :
 more-hold g list t c s all each s-is all-is each-is h =
     grind (arith, nat_tests, common_steps, few-members, size-le, bumped, length-set, length-filter, sum_by_push)
 
-pub more-some : (t u : Tables) (c : ℕ) (h : AreOfSomeList t) → 0 < c → c < 2 ^ t.members → table_total t < 2 ^ 40
-    → AreTallies h.game (h.list ++ c ∷ []) u → AreOfSomeList u
-more-some t u c h some below room more = grind (arith, common_steps, length-append, total-is)
+pub more-kept : (t u : Tables) (c : ℕ) → AreKept t → 0 < c → c < 2 ^ t.members → table_total t < 2 ^ 40
+    → ((g : GameView) (list : List ℕ) → AreTallies g list t → AreTallies g (list ++ c ∷ []) u)
+    → AreKept u × (table_total u ≡ table_total t + 1)
+more-kept t u c old some below room more =
+    let own = old.of_some in
+    let tallies = more own.game own.list own.tallies in
+    let total : table_total u ≡ table_total t + 1 = grind (arith, common_steps, length-append, total-is) in
+    let grown : AreOfSomeList u = grind (arith, common_steps, length-append, total-is) in
+    (kept grown, total)
 
 -- two lists, one after the other
 pub join-hold : (g : GameView) (first second : List ℕ) (s t : Tables) (all : Tally) (each : List Tally) → length all.sizes ≡ 41
@@ -111,28 +117,25 @@ pub of-first : (s t : Tables) (g g' : GameView) (first second : List ℕ) → Ar
     → AreTallies g second t
 of-first s t g g' first second one a b = grind (arith, common_steps)
 
-pub join-some : (s t u : Tables) (a : AreOfSomeList s) (b : AreOfSomeList t) → AreOfOneGame s t → table_total s + table_total t ≤ 2 ^ 40
-    → (AreTallies a.game b.list t → AreTallies a.game (a.list ++ b.list) u) → AreOfSomeList u
-join-some s t u a b one room made =
-    let moved = of-first s t a.game b.game a.list b.list one a.tallies b.tallies in
+pub join-kept : (s t u : Tables) → AreKept s → AreKept t → AreOfOneGame s t → table_total s + table_total t ≤ 2 ^ 40
+    → ((g : GameView) (first second : List ℕ) → AreTallies g first s → AreTallies g second t → AreTallies g (first ++ second) u)
+    → AreKept u × (table_total u ≡ table_total s + table_total t)
+join-kept s t u kept-s kept-t one room made =
+    let a = kept-s.of_some in
+    let b = kept-t.of_some in
+    let all = made a.game a.list b.list a.tallies (of-first s t a.game b.game a.list b.list one a.tallies b.tallies) in
     let names : length b.game.names ≡ length a.game.names =
     omega (arith, a.tallies.of_game.members, b.tallies.of_game.members, one.members) in
     let others : AreNonemptyCoalitions a.game b.list = subst (λ (n : ℕ). All (λ c. (0 < c) × (c < 2 ^ n)) b.list) names b.coalitions in
-    record {
-      game = a.game;
-      list = a.list ++ b.list;
-      coalitions = All-append (λ c. (0 < c) × (c < 2 ^ length a.game.names)) a.list b.list a.coalitions others;
-      few = omega (arith, total-is a.game a.list s a.tallies, total-is b.game b.list t b.tallies, length-append a.list b.list, room);
-      tallies = made moved;
-    }
-
--- what was counted in all
-pub more-total : (t u : Tables) (c : ℕ) (h : AreOfSomeList t) → AreTallies h.game (h.list ++ c ∷ []) u → table_total u ≡ table_total t + 1
-more-total t u c h more = grind (arith, common_steps, length-append, total-is)
-
-pub join-total : (s t u : Tables) (a : AreOfSomeList s) (b : AreOfSomeList t) → AreOfOneGame s t
-    → (AreTallies a.game b.list t → AreTallies a.game (a.list ++ b.list) u) → table_total u ≡ table_total s + table_total t
-join-total s t u a b one made =
-    let moved = of-first s t a.game b.game a.list b.list one a.tallies b.tallies in
-    let both = total-is a.game (a.list ++ b.list) u (made moved) in
-    omega (arith, total-is a.game a.list s a.tallies, total-is b.game b.list t b.tallies, both, length-append a.list b.list)
+    let long = length-append a.list b.list in
+    let first = total-is a.game a.list s a.tallies in
+    let second = total-is b.game b.list t b.tallies in (
+      kept (record {
+        game = a.game;
+        list = a.list ++ b.list;
+        coalitions = All-append (λ c. (0 < c) × (c < 2 ^ length a.game.names)) a.list b.list a.coalitions others;
+        few = omega (arith, first, second, long, room);
+        tallies = all;
+      }),
+      omega (arith, first, second, long, total-is a.game (a.list ++ b.list) u all),
+    )

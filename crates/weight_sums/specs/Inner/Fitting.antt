@@ -1,5 +1,5 @@
 -- The sets of a list that meet a need.
-use Rattle.std.specs.Prelude.{ℕ, ◌≤◌, ◌<◌, ◌≡◌, List, length, drop, slice_index, slice_index_or, sum_by}
+use Rattle.std.specs.Prelude.{ℕ, ◌≤◌, ◌<◌, ◌≡◌, false, List, length, drop, slice_index, slice_index_or, sum_by}
 use Rattle.weight_sums.specs.declared.sets.Set.{Set}
 use Rattle.weight_sums.specs.declared.fitting.Fitting.{Fitting}
 use Rattle.weight_sums.specs.Endings.{one_of_size}
@@ -8,6 +8,7 @@ use Rattle.weight_sums.specs.Inner.Sets.{fits}
 -- the sets of a list behind those that are outside have been counted
 pub record AreEntered (sets : List Set) (t : Fitting) : Type 0 where
   pub within : t.outside ≤ length sets
+  pub none : t.any ≡ false → (s : ℕ) → slice_index t.here s ≡ 0
   pub here : (s : ℕ) → slice_index t.here s ≡ sum_by (λ x. one_of_size s x.size) (drop t.outside sets)
 
 -- the sets of a list from a place on meet a need

@@ -1,6 +1,5 @@
 -- Members in two halves.
-use Rattle.std.specs.Prelude.{ℕ, ◌+◌, ◌/◌, ◌<◌, ◌≤◌, ◌≡◌, true, false, List, [], ◌∷◌, length, take, drop, slice_index}
-use Rattle.coalitions.specs.declared.limits.TheConstants.{MEMBERS}
+use Rattle.std.specs.Prelude.{ℕ, ◌+◌, ◌/◌, ◌<◌, ◌≡◌, true, false, List, [], ◌∷◌, length, take, drop}
 use Rattle.weight_sums.specs.declared.sets.Set.{Set}
 use Rattle.weight_sums.specs.declared.halves.Pairs.{Pairs}
 use Rattle.weight_sums.specs.declared.halves.Halves.{Halves}
@@ -26,8 +25,9 @@ pub record AreHalves (ws : List ℕ) (h : Halves) : Type 0 where
   pub shortened : ArePairs h.quota first second_shortened h.shortened
   pub own : AreGroups h.quota first_shortened (nobody ∷ []) h.own
 
--- numbers by size of coalitions that meet a quota, but those that do so without their last member: of just so many heads, or more
-pub record AreLeft (heads : ℕ) (won shortened own sizes : List ℕ) : Type 0 where
-  pub fewer : (s : ℕ) → s < heads → slice_index sizes s ≡ 0
-  pub just : slice_index sizes heads ≡ slice_index won heads
-  pub more : (s : ℕ) → heads < s → s ≤ MEMBERS → slice_index sizes s + (slice_index shortened s + slice_index own s) ≡ slice_index won s
+-- of the coalitions of size s that meet a quota n are left but for those that do so without their last member: of fewer than heads
+-- none, of as many all, of more the others
+pub record IsLeft (heads s won shortened own n : ℕ) : Type 0 where
+  pub fewer : s < heads → n ≡ 0
+  pub just : s ≡ heads → n ≡ won
+  pub more : heads < s → n + (shortened + own) ≡ won

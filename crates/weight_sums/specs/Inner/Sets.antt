@@ -20,16 +20,17 @@ left x = record { weight = x.weight; members = 2 * x.members; size = x.size }
 abbrev pub joined : ℕ → Set → Set
 joined w x = record { weight = x.weight + w; members = 2 * x.members + 1; size = x.size + 1 }
 
--- a number of each set of members with these weights, added; where they are shortened, of each but the empty one, by what it weighs without its
--- last member
+-- a number of each set of members with these weights, added; where they are shortened, of each but the empty one, by what it weighs
+-- without its last member
 unfoldable pub over : Bool → List ℕ → (Set → ℕ) → ℕ
 over short [] g = if short then 0 else g nobody
 over short (w ∷ ws) g = (if short then g alone else 0) + (over short ws (λ x. g (left x)) + over short ws (λ x. g (joined w x)))
 
--- lists that begin with the sets of no member, and with that of the first alone
-pub record AreFirst (short : Bool) (none first : List Set) : Type 0 where
-  pub none_is : none ≡ (if short then [] else nobody ∷ [])
-  pub first_is : first ≡ (if short then alone ∷ [] else [])
+-- a set has room for a member more, of weight w
+pub record HasRoom (w : ℕ) (x : Set) : Type 0 where
+  pub weight : x.weight + w < 2 ^ 64
+  pub members : x.members < 2 ^ 31
+  pub size : x.size < 2 ^ 32 - 1
 
 -- sets by weight
 abbrev pub Ascend : List Set → Type 0

@@ -1,5 +1,5 @@
 use Rattle.council_game.specs.Votes.{without}
-use Rattle.power_index.proofs.Imports.{nat_tests, cases_eq, common_steps, ℕ, ◌-◌, arith, get_or, get_or-set_same, w64, trailing_zeros}
+use Rattle.power_index.proofs.Imports.{nat_tests, cases_eq, common_steps, arith, get_or, get_or-set_same}
 use Rattle.power_index.proofs.Imports.{lowest-place}
 use Rattle.std.proofs.lemmas.Bool.{both_ways, cond-true}
 use Rattle.coalitions.proofs.Shared.Digits.{lowest-cleared, has-gone, has-kept, has-none}
@@ -17,7 +17,6 @@ pub loop-rest-preserved : goal.loop-rest-preserved
 unfolding without
 loop-rest-preserved c =
     let next = lowest-place c.args.members c.loop-rest.rest c.requires.few (omega arith) c.loop-rest.invariant.below in
-    let place : ℕ = c.args.members - 1 - trailing_zeros w64 c.loop-rest.rest in
     let left = lowest-cleared c.args.members c.loop-rest.rest c.requires.few (omega arith) c.loop-rest.invariant.below in
     grind (arith, nat_tests, common_steps, both_ways, cases_eq, cond-true, get_or-set_same, has-gone, has-kept)
 

@@ -1,5 +1,5 @@
 use Rattle.power_index.proofs.Imports.{arith, ◌≡◌, ◌∙◌, size}
-use Rattle.power_index.proofs.Shared.Sound.{kept, more-hold, more-some, more-total}
+use Rattle.power_index.proofs.Shared.Sound.{more-hold, more-kept}
 use Rattle.power_index.proofs.counts.Counts.count.Goals as goal
 
 pub add-requires-clause-room : goal.add-requires-clause-room
@@ -16,15 +16,15 @@ pub invariant_of-self : goal.invariant_of-self
 invariant_of-self c =
     let below = rw (← c.self.view_is) at c.requires.below in
     let room = rw (← c.self.view_is) at c.requires.room in
-    let own = c.self.invariant.of_some in
-    kept (more-some _ _ c.args.coalition own c.requires.some below room
-    (more-hold own.game own.list _ _ _ _ _ (size-is c) c.add.ensures c.add_to_places.ensures own.tallies))
+    (more-kept _ _ c.args.coalition c.self.invariant c.requires.some below room
+    (λ g list. more-hold g list _ _ _ _ _ (size-is c) c.add.ensures c.add_to_places.ensures)).0
 
 pub returns-clause-total : goal.returns-clause-total
 returns-clause-total c =
-    let own = c.self.invariant.of_some in
-    rw (← c.self.view_is) (more-total _ _ c.args.coalition own
-    (more-hold own.game own.list _ _ _ _ _ (size-is c) c.add.ensures c.add_to_places.ensures own.tallies))
+    let below = rw (← c.self.view_is) at c.requires.below in
+    let room = rw (← c.self.view_is) at c.requires.room in
+    rw (← c.self.view_is) (more-kept _ _ c.args.coalition c.self.invariant c.requires.some below room
+    (λ g list. more-hold g list _ _ _ _ _ (size-is c) c.add.ensures c.add_to_places.ensures)).1
 
 pub returns-clause-tallies : goal.returns-clause-tallies
 returns-clause-tallies c g list = rw (← c.self.view_is) (more-hold g list _ _ _ _ _ (size-is c) c.add.ensures c.add_to_places.ensures)

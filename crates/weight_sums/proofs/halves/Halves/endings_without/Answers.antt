@@ -1,5 +1,7 @@
-use Rattle.weight_sums.proofs.Imports.{◌≤◌, ℕ, [], ◌∷◌, get_or, left_out, nobody}
-use Rattle.weight_sums.proofs.HalfSums.{AreMet, all-met, enough-won, left-is}
+use Rattle.weight_sums.proofs.Imports.{true, false, take, drop, length, length-take, List, arith, ◌/◌, ◌≡◌, ◌≤◌, ℕ, [], ◌∷◌, get_or}
+use Rattle.weight_sums.proofs.Imports.{left_out, nobody}
+use Rattle.std.proofs.Common.{take-append-drop}
+use Rattle.weight_sums.proofs.HalfSums.{AreMet, own-met, enough-won, left-is}
 use Rattle.weight_sums.proofs.halves.Halves.endings_without.Goals.{After-without-own}
 use Rattle.weight_sums.proofs.halves.Halves.endings_without.Goals as goal
 
@@ -10,19 +12,25 @@ met-at : (c : After-without-own) (s : ℕ) → s ≤ 40
 met-at c s small =
     let are = c.requires.halves in
     let q : ℕ = c.args.self.now.quota in
-    all-met c.args.weights.now c.args.self.now are c.args.place s _ _ _
-    (λ less. c.without-won.ensures.first q s are.first are.second are.won less small)
-    (λ past. c.without-won.ensures.second q s are.first are.second are.won past small)
-    (λ less. c.without-shortened.ensures.first q s are.first are.second_shortened are.shortened less small)
-    (λ past. c.without-shortened.ensures.second q s are.first are.second_shortened are.shortened past small)
-    (c.without-own.ensures q are.first_shortened (nobody ∷ []) s are.own small)
+    let half : ℕ = length c.args.weights.now / 2 in
+    let fr : List ℕ = take half c.args.weights.now in
+    let bk : List ℕ = drop half c.args.weights.now in
+    let whole = take-append-drop half c.args.weights.now in
+    let long : length fr ≡ half = let l = length-take half c.args.weights.now in omega (arith, l) in
+    let won = c.without-won.ensures q s false fr bk are.first are.second are.won are.first_are are.second_are long small in
+    let shortened = c.without-shortened.ensures q s true fr bk are.first are.second_shortened are.shortened are.first_are
+    are.second_shortened_are long small in
+    let own = c.without-own.ensures q are.first_shortened (nobody ∷ []) s are.own small in
+    record {
+      won_is = omega (arith, rw whole at won);
+      shortened_is = omega (arith, rw whole at shortened, own, own-met fr are.first_shortened are.first_shortened_are q s c.args.place);
+    }
 
-pub left_of-requires-clause-fewer : goal.left_of-requires-clause-fewer
-left_of-requires-clause-fewer c s above small =
-    enough-won _ c.args.heads _ s _ _ _ (met-at (goal.at.left_of-requires-clause-fewer c).After-without-own s small) c.requires.some above
+pub left_of-requires : goal.left_of-requires
+left_of-requires c s above small =
+    enough-won _ c.args.heads _ s _ _ _ (met-at (goal.at.left_of-requires c).After-without-own s small) c.requires.some above
 
 pub returns-clause-sizes : goal.returns-clause-sizes
 returns-clause-sizes c s small =
-    left-is _ c.args.heads _ s c.without-won.result c.without-shortened.result c.without-own.result c.left_of.result
-    (met-at (goal.at.returns-clause-sizes c).After-without-own s small)
-    c.left_of.ensures c.requires.some small
+    left-is _ c.args.heads _ s _ _ _ _ (met-at (goal.at.returns-clause-sizes c).After-without-own s small) (c.left_of.ensures.are s small)
+    c.requires.some

@@ -1,0 +1,10 @@
+use Rattle.weight_sums.proofs.{Imports.replicate, Members.prefixes-start, Members.come-start, Taking.get_or-zeros}
+use Rattle.weight_sums.proofs.rows.Rows.begin.Goals as goal
+
+pub returns-clause-few : goal.returns-clause-few
+returns-clause-few c left few =
+    prefixes-start left c.args.quota _ _ few (get_or-zeros 41) (rw c.clear.ensures.items at c.in_ok-push.ensures.items)
+
+pub returns-clause-come : goal.returns-clause-come
+returns-clause-come c ws heads s =
+    come-start ws heads c.args.quota s (replicate 41 0) _ (get_or-zeros 41 s) (rw c.clear.ensures.items at c.in_ok-push.ensures.items)

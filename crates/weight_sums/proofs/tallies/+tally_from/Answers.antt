@@ -1,0 +1,31 @@
+use Rattle.weight_sums.proofs.Imports.{arith, ap, left_out, length, sum, sum_by-cons, ◌≡◌, ◌≤◌, ◌+◌, ◌-◌, ◌∙◌, ℕ}
+use Rattle.weight_sums.proofs.{Members.come-less, Members.tallied-from, Passing.prefixes-more}
+use Rattle.std.proofs.Common.{rules}
+use Rattle.weight_sums.proofs.tallies.+tally_from.Goals as goal
+
+pub difference-own-requires : goal.difference-own-requires
+unfolding left_out
+difference-own-requires t c s small =
+    let less = (rw c.in-Some.ensures.cases.0 at c.requires.less) 0 s (omega arith) small in
+    let is = rw (c.in_ok-copy.ensures.row, c.in_ok-copy.ensures.done) at c.in_ok-finish.ensures c.if-not-branch.false s small in
+    omega (arith, less, is)
+
+pub tally_from-requires : goal.tally_from-requires
+tally_from-requires t c =
+    let parts = ap sum c.in-Some.ensures.cases.0 ∙ sum_by-cons (λ (y : ℕ). y) c.in-Some.weight.now c.in-Some.later.now in
+    let rest : c.args.rest - c.in-Some.weight.now ≡ sum c.in-Some.later.now = omega (arith, parts, c.requires.rest) in
+    let one = c.in-Some.ensures.cases.1 in
+    let some = c.if-later-eq0.false in
+    let few : c.args.place + 1 + length c.in-Some.later.now ≤ 40 = omega (arith, one, c.requires.few) in
+    let row = prefixes-more c.requires.row (omega (arith, one, some)) (omega (arith, one, c.requires.few)) c.in_ok-go_on.ensures in
+    let less = come-less _ _ _ c.in-Some.ensures.cases.0 c.in_ok-go_on.ensures rest (omega (arith, some)) c.requires.less in
+    (search rules, (few, (rest, (row, less))))
+
+pub returns : goal.returns
+returns t c full =
+    let parts = ap sum c.in-Some.ensures.cases.0 ∙ sum_by-cons (λ (y : ℕ). y) c.in-Some.weight.now c.in-Some.later.now in
+    let is = rw (c.in_ok-copy.ensures.row, c.in_ok-copy.ensures.done) at c.in_ok-finish.ensures c.if-not-branch.false in
+    rw c.in-Some.ensures.cases.0 (tallied-from _ _ c.in_ok-go_on.ensures (omega (arith, parts, c.requires.rest))
+    (omega (arith, c.if-later-eq0.false))
+    (record { long = c.difference-own.ensures.long; sizes = λ s small. omega (arith, c.difference-own.ensures.sizes s small, is s small) })
+    (c.in_ok-full.ensures full) (omega (arith, c.tally_from.array_long, c.requires.few, c.in-Some.ensures.cases.1)))
