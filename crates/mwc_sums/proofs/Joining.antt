@@ -59,14 +59,13 @@ module _ {n : ℕ} {own other : ℕ → Bool} {won_g won_a won_b : (ℕ → Bool
 
     -- two least sets together are a least set
     pub least-union : (c : ℕ → Bool) → ((i : ℕ) → i < n → c i ≡ (x i || y i)) → IsLeast n won_g c
-    least-union c is =
-        record {
-          wins = grind (arith, nat_tests, is, on-sides, joint.sees_own c x, joint.sees_other c y, joint.both c, least_x.wins, least_y.wins);
-          needs = λ i lt inside. (
-              let less_x = joint.sees_own (less c i) (less x i) (λ j lj seen. grind (arith, nat_tests, is j lj, on-sides j lj)) in
-              let less_y = joint.sees_other (less c i) (less y i) (λ j lj seen. grind (arith, nat_tests, is j lj, on-sides j lj)) in
-              grind (arith, nat_tests, less_x, less_y, is i lt, joint.both (less c i), least_x.needs i lt, least_y.needs i lt));
-        }
+    least-union c is = record {
+      wins = grind (arith, nat_tests, is, on-sides, joint.sees_own c x, joint.sees_other c y, joint.both c, least_x.wins, least_y.wins);
+      needs = λ i lt inside. (
+          let less_x = joint.sees_own (less c i) (less x i) (λ j lj seen. grind (arith, nat_tests, is j lj, on-sides j lj)) in
+          let less_y = joint.sees_other (less c i) (less y i) (λ j lj seen. grind (arith, nat_tests, is j lj, on-sides j lj)) in
+          grind (arith, nat_tests, less_x, less_y, is i lt, joint.both (less c i), least_x.needs i lt, least_y.needs i lt));
+    }
 
 -- ---- coalitions that hold the least sets
 -- of a least set those of one side are a coalition

@@ -4,10 +4,8 @@ pub mod Leads
 pub mod Orders
 mod Joining
 pub mod Pairs
-mod Remaking
-pub mod Joined
 pub mod Vetoing
-mod VetoRules
+pub mod VetoRules
 mod Sharing
 mod Tests
 mod Seating

@@ -1,14 +1,49 @@
--- The rules that a game consists of are rules that a game can have.
-use Rattle.std.proofs.lemmas.List.{nil_from_length}
-use Rattle.mwc_sums.proofs.Imports.{take, refl, arith, All, ◌∙◌, ◌*◌, cond, leb, sum, range_with_len, sum_by, cases_lt, ltb-true}
-use Rattle.mwc_sums.proofs.Imports.{length-map, length-map-range_with_len, filter-append, length-filter_both, RuleView, rest_of, rule_for}
-use Rattle.mwc_sums.proofs.Imports.{◌≡◌, ℕ, ◌+◌, ◌<◌, ◌≤◌, Bool, true, false, ltb, not, List, [], ◌∷◌, ◌++◌, length, get_or, map, filter}
-use Rattle.mwc_sums.proofs.Imports.{rule_at, has_bad_quota, GameView, IsGame, nat_tests, rules_beside, statute, number_of, get_or_past}
-use Rattle.mwc_sums.proofs.Imports.{can_veto, IsFair, list_all_at, sum-range, sum-zero, met, weighs, AreRulesOf, sum-map}
-use Rattle.std.proofs.lemmas.{Grind.common_steps, List.take_more, List.map-append, List.Elements.All-cons, List.Elements.All-map}
-use Rattle.mwc_sums.proofs.{Remaking.fair-all, Remaking.fair-of, Tests.All-passing}
+-- Rules that a game can have: those of a game, games that are made of such rules, and those that a game consists of.
+use Rattle.mwc_sums.proofs.Imports.{All-from_recursion, RuleView, rule_at, GameView, IsGame, IsFair, take, refl, ◌∙◌, ◌*◌, cond, leb, sum}
+use Rattle.mwc_sums.proofs.Imports.{rules_beside, statute, number_of, can_veto, list_all_at, sum-range, sum-zero, met, weighs, AreRulesOf}
+use Rattle.mwc_sums.proofs.Imports.{length-filter_both, rest_of, rule_for, ◌+◌, Bool, true, ltb, not, ◌∷◌, ◌++◌, map, filter, nat_tests}
+use Rattle.mwc_sums.proofs.Imports.{◌≡◌, ℕ, ◌<◌, ◌≤◌, false, List, [], length, get_or, subst, arith, All, both_ways, cases_lt, le-ltb}
+use Rattle.mwc_sums.proofs.Imports.{range_with_len, sum_by, ltb-true, length-map, length-map-range_with_len, filter-append, sum-map}
+use Rattle.std.proofs.lemmas.List.{get_or_past, nil_from_length, take_more, map-append}
+use Rattle.council_game.specs.{Game.has_bad_quota, Game.made_game, Game.first_weights, declared.fault.GameFault.TheVariants.Memory}
+use Rattle.council_game.specs.{Fault.Answers, Ranks.rank_places, declared.fault.GameFault.GameFault}
+use Rattle.std.proofs.lemmas.{Grind.common_steps, List.Elements.All-cons, List.Elements.All-map, List.Folds.list_any_none}
+use Rattle.std.proofs.Common.{None, Ok, Err}
+use Rattle.council_game.proofs.Shared.Games.{passed, none-any, light-weights, makes, position_nowhere}
+use Rattle.mwc_sums.proofs.Tests.{All-passing}
 use Rattle.mwc_sums.proofs.Vetoing.{sum-parts, row-sum, made-at, vetoers-both}
 
+-- each rule of a game is one that a game can have
+pub fair-all : (g : GameView) → IsGame g → All (IsFair (length g.names)) g.rules
+fair-all g is k d lt =
+    let light = All-from_recursion (λ (r : RuleView). (i : ℕ) → i < length g.names → get_or r.weights i 0 ≤ 1000000000000) g.rules
+    (light-weights g is) k d lt in
+    record {
+      full = is.full k d lt;
+      quota = All-from_recursion (λ (r : RuleView). has_bad_quota r ≡ false) g.rules (none-any has_bad_quota g.rules (passed g is.made).quotas) k d lt;
+      light = grind (arith, cases_lt, get_or_past, is.full k d lt);
+    }
+
+pub fair-of : (g : GameView) (k : ℕ) → IsGame g → k < length g.rules → IsFair (length g.names) (rule_at g.rules k)
+fair-of g k is lt = fair-all g is k (record { quota = 0; weights = [] }) lt
+
+-- a game is made of rules that it can have
+pub made-of : (g : GameView) (rs : List RuleView) → IsGame g → All (IsFair (length g.names)) rs
+    → made_game None g.names rs ≡ Ok (record { title = None; names = g.names; rules = rs; ranks = rank_places (first_weights rs) })
+made-of g rs is fair = grind (arith, passed, makes, position_nowhere, list_any_none, le-ltb)
+
+-- what was made of them, or want of memory
+pub made-rules : (g made : GameView) (rs : List RuleView) → IsGame g → All (IsFair (length g.names)) rs
+    → Answers (Ok made) (made_game None g.names rs) → (made.names ≡ g.names) × (made.rules ≡ rs)
+made-rules g made rs is fair gives = grind (arith, made-of)
+
+pub only-memory : (g : GameView) (fault : GameFault) (rs : List RuleView) → IsGame g → All (IsFair (length g.names)) rs
+    → Answers (Err fault) (made_game None g.names rs) → fault ≡ Memory
+only-memory g fault rs is fair gives = grind (arith, made-of)
+
+pub ruleset remaking = (made-rules, only-memory, both_ways)
+
+-- ---- what is left of rules beside vetoers
 good : (r : RuleView) → 0 < r.quota → r.quota ≤ sum r.weights → has_bad_quota r ≡ false
 good r some met = grind (arith, nat_tests)
 

@@ -1,10 +1,10 @@
 -- Where all members that can veto agree, the rules ask the others for what is left.
+use Rattle.mwc_sums.proofs.Imports.{nat_tests, weighs, met, rules_beside, can_veto, number_of, rest_of, rule_for, sum-map, ◌^◌, map, filter}
+use Rattle.mwc_sums.proofs.Imports.{ap, refl, arith, inl, inr, All, sum, sum_by, range_with_len, sum_by-cons, sum-range, ◌≡◌, ◌∙◌, ℕ, suc}
+use Rattle.mwc_sums.proofs.Imports.{◌+◌, ◌-◌, ◌*◌, ◌<◌, Bool, true, false, cond, leb, ltb, List, [], ◌∷◌, length, sum-filter, has, weight}
 use Rattle.mwc_sums.proofs.Imports.{length-range_with_len, places-at, All-head, All-tail, sum_by-range-more, RuleView, sum-plus, get_or}
-use Rattle.mwc_sums.proofs.Imports.{nat_tests, weighs, met, rules_beside, can_veto, number_of, rest_of, rule_for, sum-map, ◌^◌}
-use Rattle.mwc_sums.proofs.Imports.{map, filter, ap, refl, arith, inl, inr, All, sum, sum_by, range_with_len, sum_by-cons, sum-range}
-use Rattle.mwc_sums.proofs.Imports.{◌≡◌, ◌∙◌, ℕ, suc, ◌+◌, ◌-◌, ◌*◌, ◌<◌, Bool, true, false, cond, leb, ltb, List, [], ◌∷◌, length}
-use Rattle.mwc_sums.proofs.Imports.{sum-filter, has, weight, wins, Votes, IsVotes, rule_at, rule-is, true_from_ne_false, both_ways}
-use Rattle.mwc_sums.proofs.Imports.{list_all_at, length-map-range_with_len}
+use Rattle.mwc_sums.proofs.Imports.{wins, Votes, IsVotes, rule_at, rule-is, true_from_ne_false, both_ways, list_all_at}
+use Rattle.mwc_sums.proofs.Imports.{length-map-range_with_len}
 use Rattle.std.proofs.lemmas.List.{FromFn.fill_by_all, FromFn.get_or-map-range_with_len, Sums.get_or-le-sum_by}
 use Rattle.std.proofs.Common.{fold}
 use Rattle.mwc_sums.specs.Vetoers.{IsVetoer}
