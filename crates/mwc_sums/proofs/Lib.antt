@@ -7,10 +7,8 @@ pub mod Pairs
 pub mod Vetoing
 pub mod VetoRules
 mod Sharing
-mod Tests
 mod Seating
 mod Matching
 mod Placed
-pub mod Heads
 mod Seated
 mod Imports

@@ -92,7 +92,8 @@ module _ (g a b : GameView) (is_g : IsGame g) (is_a : IsGame a) (is_b : IsGame b
       + pairs-of_size (minimal (votes_of a)) (minimal (votes_of b)) (λ x. true) (contains b i) (size_of a) (size_of b) all_a all_b s k)
     where
       each : (x y : ℕ) → x < 2 ^ length a.names → y < 2 ^ length b.names
-          → one_if (min_pair x y && (contains g i (union joint hg ha hb x y) && (size_of g (union joint hg ha hb x y) == s))) ≡ of_a i s x y + of_b i s x y
+          → one_if (min_pair x y && (contains g i (union joint hg ha hb x y) && (size_of g (union joint hg ha hb x y) == s)))
+          ≡ of_a i s x y + of_b i s x y
       each x y lx ly =
           let in_g = seen-contains is_g (union joint hg ha hb x y) i lt in
           let both = joined joint hg ha hb x y lx ly in

@@ -10,7 +10,7 @@ use Rattle.council_game.specs.{Fault.Answers, Ranks.rank_places, declared.fault.
 use Rattle.std.proofs.lemmas.{Grind.common_steps, List.Elements.All-cons, List.Elements.All-map, List.Folds.list_any_none}
 use Rattle.std.proofs.Common.{None, Ok, Err}
 use Rattle.council_game.proofs.Shared.Games.{passed, none-any, light-weights, makes, position_nowhere}
-use Rattle.mwc_sums.proofs.Tests.{All-passing}
+use Rattle.mwc_sums.proofs.Counting.{All-passing}
 use Rattle.mwc_sums.proofs.Vetoing.{sum-parts, row-sum, made-at, vetoers-both}
 
 -- each rule of a game is one that a game can have

@@ -8,7 +8,7 @@ use Rattle.mwc_sums.proofs.Imports.{length-map-range_with_len}
 use Rattle.std.proofs.lemmas.List.{FromFn.fill_by_all, FromFn.get_or-map-range_with_len, Sums.get_or-le-sum_by}
 use Rattle.std.proofs.Common.{fold}
 use Rattle.mwc_sums.specs.Vetoers.{IsVetoer}
-use Rattle.mwc_sums.proofs.Tests.{missing}
+use Rattle.mwc_sums.proofs.Counting.{missing}
 
 -- a row of weights adds up over its places
 pub row-sum : (ws : List ℕ) (n : ℕ) → length ws ≡ n → sum ws ≡ sum_by (λ i. get_or ws i 0) (range_with_len 0 n)
