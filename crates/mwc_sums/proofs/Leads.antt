@@ -1,16 +1,16 @@
 -- The coalitions that meet a quota and have as many members as are asked for, those that members lead to, the heaviest first, and how many.
 use Rattle.mwc_sums.proofs.Imports.{◌≡◌, ◌∙◌, ◌↔◌, ◌⊎◌, ◌&&◌, ℕ, ◌+◌, ◌-◌, ◌*◌, ◌^◌, ◌<◌, ◌≤◌, Bool, true, cond, leb, List, [], ◌∷◌, length}
 use Rattle.mwc_sums.proofs.Imports.{get_or, take, sym, ap, subst, arith, range_with_len, cases_lt, eqb-true, length-filter, RuleView, Votes}
+use Rattle.mwc_sums.proofs.Imports.{IsVotes, has, without, weight, size, wins, minimal, rule_at, weight-without, rule-is, sum-range, zero}
 use Rattle.mwc_sums.proofs.Imports.{nat_tests, refl, false, ltb, ◌++◌, map, filter, inl, inr, le-ltb, lt-ltb, down, minimal_coalitions}
-use Rattle.mwc_sums.proofs.Imports.{IsVotes, has, without, weight, size, wins, minimal, rule_at, weight-without, rule-is, sum-range}
-use Rattle.mwc_sums.proofs.Imports.{zero, suc, ◌==◌, ◌||◌, not, down-below}
+use Rattle.mwc_sums.proofs.Imports.{suc, ◌==◌, ◌||◌, not, down-below}
 use Rattle.std.proofs.lemmas.{Bool.cond-false, Bool.cond-true, List.get_or-replicate, List.length-replicate}
 use Rattle.std.proofs.Common.{replicate}
 use Rattle.power_index.proofs.Shared.Sums.{sum-times}
 use Rattle.mwc_sums.specs.{Completing.completing, Heads.AsksForHeads, Heads.first_rule, Heads.IsMinimalByHeads}
 use Rattle.mwc_sums.proofs.Completing.{IsLeast, wins-one, last-in, last-behind, Falls, double-pow, first-in, first-out, last, none-or-some}
 use Rattle.mwc_sums.proofs.Completing.{rest-in, rest-out, size-left, size-with, weight-left, weight-with, same_test}
-use Rattle.mwc_sums.proofs.{Placed.minimal-min, Seating.IsMin, Vetoing.weight-sum}
+use Rattle.mwc_sums.proofs.{Placed.minimal-min, Seating.IsMin, VetoRules.weight-sum}
 use Rattle.council_game.proofs.Shared.WeightByDigits.{weight-nil}
 use Rattle.weight_sums.specs.Endings.{choose, one_of_size, fill, endings, left_out}
 use Rattle.mwc_sums.proofs.Counting.{filter-none, filter-same, count, count-and, count-first, count-never, count-parted, filter-first}

@@ -7,8 +7,8 @@ use Rattle.mwc_sums.specs.{Chambers.paired, Chambers.minimal_of_member_size, Inn
 use Rattle.coalitions.proofs.Shared.Ranges.{sum_by-range-le}
 use Rattle.power_index.specs.Counting.{count_of_size, count_of_member_size}
 use Rattle.power_index.proofs.Shared.{Members.size-le, Sums.length-filter-le, Sums.sum-by_size}
-use Rattle.mwc_sums.proofs.{Counting.filter-both, Matching.Holds, Seating.one_if}
-use Rattle.mwc_sums.proofs.Joining.{IsJoint, apart, counted, joined, size-union, union}
+use Rattle.mwc_sums.proofs.{Counting.filter-both, Seating.one_if}
+use Rattle.mwc_sums.proofs.Joining.{Holds, IsJoint, apart, counted, joined, size-union, union}
 use Rattle.mwc_sums.proofs.Placed.{game-holds, has_weight, met-seen, no-weight, seen-contains}
 
 -- ---- pairs of two lists that have a size together

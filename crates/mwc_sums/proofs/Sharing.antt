@@ -8,7 +8,7 @@ use Rattle.std.proofs.lemmas.List.Elements.{All-take}
 use Rattle.mwc_sums.specs.Inner.Rules.{AreOfChambers, beside_of, part_of, side}
 use Rattle.mwc_sums.specs.Statute.{counted, left}
 use Rattle.mwc_sums.proofs.Counting.{filter-both, filter-within, All-passing, any-at, any-of, missing}
-use Rattle.mwc_sums.proofs.{VetoRules.good-met, VetoRules.good-some, Vetoing.alike-sum}
+use Rattle.mwc_sums.proofs.VetoRules.{good-met, good-some, alike-sum}
 
 -- ---- who has weight in two rules
 pub share-at : (n i : ℕ) (a b : RuleView) → i < n → 0 < get_or a.weights i 0 → 0 < get_or b.weights i 0 → share n a b ≡ true
