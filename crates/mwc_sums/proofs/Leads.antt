@@ -1,17 +1,72 @@
--- The coalitions that members lead to, the heaviest first, and how many they are.
-use Rattle.mwc_sums.proofs.Completing.{last-in, last-behind, Falls, double-pow, first-in, first-out, last, none-or-some, rest-in, rest-out}
-use Rattle.mwc_sums.proofs.Completing.{size-left, size-with, weight-left, weight-with, same_test}
-use Rattle.mwc_sums.proofs.Imports.{false, cond, leb, ltb, List, [], ◌∷◌, ◌++◌, map, filter, length, get_or, ap, refl, arith, inl, inr, ◌≡◌}
-use Rattle.mwc_sums.proofs.Imports.{le-ltb, lt-ltb, nat_tests, has, size, weight, down, subst, RuleView, Votes, IsVotes, minimal_coalitions}
-use Rattle.mwc_sums.proofs.Imports.{◌∙◌, ◌↔◌, ℕ, zero, suc, ◌+◌, ◌-◌, ◌*◌, ◌^◌, ◌<◌, ◌≤◌, ◌==◌, ◌&&◌, ◌||◌, not, Bool, true, cases_lt}
-use Rattle.mwc_sums.proofs.Imports.{minimal, rule_at, rule-is, down-below, sym, wins}
-use Rattle.mwc_sums.specs.Completing.{completing}
-use Rattle.std.proofs.lemmas.Bool.{cond-false, cond-true}
+-- The coalitions that meet a quota and have as many members as are asked for, those that members lead to, the heaviest first, and how many.
+use Rattle.mwc_sums.proofs.Imports.{◌≡◌, ◌∙◌, ◌↔◌, ◌⊎◌, ◌&&◌, ℕ, ◌+◌, ◌-◌, ◌*◌, ◌^◌, ◌<◌, ◌≤◌, Bool, true, cond, leb, List, [], ◌∷◌, length}
+use Rattle.mwc_sums.proofs.Imports.{get_or, take, sym, ap, subst, arith, range_with_len, cases_lt, eqb-true, length-filter, RuleView, Votes}
+use Rattle.mwc_sums.proofs.Imports.{IsVotes, has, without, weight, size, wins, minimal, rule_at, weight-without, rule-is, sum-range, zero}
+use Rattle.mwc_sums.proofs.Imports.{nat_tests, refl, false, ltb, ◌++◌, map, filter, inl, inr, le-ltb, lt-ltb, down, minimal_coalitions}
+use Rattle.mwc_sums.proofs.Imports.{suc, ◌==◌, ◌||◌, not, down-below}
+use Rattle.std.proofs.lemmas.{Bool.cond-false, Bool.cond-true, List.get_or-replicate, List.length-replicate}
+use Rattle.std.proofs.Common.{replicate}
+use Rattle.power_index.proofs.Shared.Sums.{sum-times}
+use Rattle.mwc_sums.specs.{Completing.completing, Heads.AsksForHeads, Heads.first_rule, Heads.IsMinimalByHeads}
+use Rattle.mwc_sums.proofs.Completing.{IsLeast, wins-one, last-in, last-behind, Falls, double-pow, first-in, first-out, last, none-or-some}
+use Rattle.mwc_sums.proofs.Completing.{rest-in, rest-out, size-left, size-with, weight-left, weight-with, same_test}
+use Rattle.mwc_sums.proofs.{Placed.minimal-min, Seating.IsMin, VetoRules.weight-sum}
 use Rattle.council_game.proofs.Shared.WeightByDigits.{weight-nil}
 use Rattle.weight_sums.specs.Endings.{choose, one_of_size, fill, endings, left_out}
 use Rattle.mwc_sums.proofs.Counting.{filter-none, filter-same, count, count-and, count-first, count-never, count-parted, filter-first}
-use Rattle.mwc_sums.proofs.{Heads.by-heads, Heads.least-weights, Placed.minimal-min, Seating.IsMin}
 use Rattle.council_game.specs.Votes.{IsRanked}
+
+-- where all weigh the same
+pub alike-weight : (ws : List ℕ) (e c : ℕ) → ((p : ℕ) → p < length ws → get_or ws p 0 ≡ e) → weight ws c ≡ size (length ws) c * e
+alike-weight ws e c same =
+    weight-sum ws (length ws) c refl
+    ∙ sum-range (λ p. cond (has (length ws) p c) 1 0 * get_or ws p 0) (λ p. cond (has (length ws) p c) 1 0 * e) 0 (length ws)
+    (λ p _ lt. ap (λ (x : ℕ). cond (has (length ws) p c) 1 0 * x) (same p (omega (arith, lt))))
+    ∙ sum-times (λ p. cond (has (length ws) p c) 1 0) e (range_with_len 0 (length ws))
+    ∙ ap (λ (k : ℕ). k * e) (sym (length-filter (λ p. has (length ws) p c) (range_with_len 0 (length ws))))
+
+-- one member less
+size-without : (n p c : ℕ) → p < n → has n p c ≡ true → size n (without n p c) + 1 ≡ size n c
+unfolding has without
+size-without n p c lt inside =
+    let long : length (replicate n 1) ≡ n = length-replicate {A = ℕ} n 1 in
+    let ones = λ (d : ℕ). rw long at (alike-weight (replicate n 1) 1 d (λ q low. get_or-replicate {A = ℕ} n q 1 0 (omega (arith, low, long)))) in
+    let less = rw long at (weight-without (replicate n 1) p c (omega (arith, lt, long)) (rw long (eqb-true _ _ inside))) in
+    omega (arith, less, get_or-replicate {A = ℕ} n p 1 0 lt, ones c, ones (c - 2 ^ (n - 1 - p)))
+
+-- a condition, and so many members
+pub by-heads : (n : ℕ) (won : ℕ → Bool) (heads c : ℕ) → IsMin n (λ x. won x && leb heads (size n x)) c
+    ↔ (((size n c ≡ heads) × (won c ≡ true)) ⊎ ((heads < size n c) × IsMin n won c))
+by-heads n won heads c = grind (arith, cases_lt, nat_tests, size-without)
+
+-- ---- by weights
+pub least-weights : (ws : List ℕ) (r c : ℕ) → IsMin (length ws) (λ x. leb r (weight ws x)) c ↔ IsLeast ws r c
+unfolding has without
+least-weights ws r c = grind (arith, nat_tests, weight-without)
+
+-- ---- in a game of two rules
+two-wins : (n heads x : ℕ) (rs : List RuleView) → length rs ≡ 2 → AsksForHeads n heads (rule_at rs 1) → length (rule_at rs 1).weights ≡ n
+    → wins rs x ≡ (wins (take 1 rs) x && leb heads (size n x))
+unfolding wins
+two-wins n heads x [] two asks full = absurd (omega (arith, two))
+two-wins n heads x (r ∷ []) two asks full = absurd (omega (arith, two))
+two-wins n heads x (r ∷ s ∷ t ∷ rs) two asks full = absurd (omega (arith, two))
+two-wins n heads x (r ∷ s ∷ []) two asks full =
+    let weighs : weight s.weights x ≡ size n x * asks.each = grind (arith, alike-weight) in
+    let enough = asks.enough (size n x) in
+    grind (arith, nat_tests)
+
+first-wins : (rs : List RuleView) (x : ℕ) → 1 ≤ length rs → (wins (take 1 rs) x ≡ true) ↔ ((rule_at rs 0).quota ≤ weight (rule_at rs 0).weights x)
+first-wins [] x some = absurd (omega (arith, some))
+first-wins (r ∷ rs) x some = wins-one r x
+
+pub heads-law : (v : Votes) (heads c : ℕ) → IsVotes v → length v.rules ≡ 2 → AsksForHeads v.members heads (rule_at v.rules 1)
+    → c < 2 ^ v.members → (minimal v c ≡ true) ↔ IsMinimalByHeads v heads c
+heads-law v heads c votes two asks below =
+    let same : wins v.rules ≡ (λ x. wins (take 1 v.rules) x && leb heads (size v.members x)) = λ k x.
+    two-wins v.members heads x v.rules two asks ((rule-is v 1 votes (omega (arith, two))).full) k in
+    let min = subst (λ (won : ℕ → Bool). (minimal v c ≡ true) ↔ IsMin v.members won c) same (minimal-min v c) in
+    grind (arith, min, by-heads v.members (wins (take 1 v.rules)) heads c, minimal-min (first_rule v) c, first-wins v.rules c votes.has_rule)
 
 -- a coalition that members lead to, from a need and a number of members: where the first meets the need, others behind it fill it up to the heads
 unfoldable pub leads : List ℕ → ℕ → ℕ → ℕ → ℕ → Bool

@@ -5,8 +5,8 @@ use Rattle.mwc_sums.proofs.Imports.{IsGame, votes_of, contains, size_of, met, we
 use Rattle.std.proofs.{Common.IsPermutation, lemmas.List.Sorted.All-permutation, lemmas.List.Sorted.IsPermutation-sym}
 use Rattle.power_index.specs.Tables.{Tables, AreCounts}
 use Rattle.mwc_sums.specs.Orders.{HaveTheSameRules}
-use Rattle.mwc_sums.proofs.{Matching.Holds, Placed.game-holds, Placed.met-looks, Placed.seen-contains, Seating.alike-size, Seating.seen}
-use Rattle.mwc_sums.proofs.{Completing.same_test, Joining.alike-count}
+use Rattle.mwc_sums.proofs.{Joining.Holds, Joining.alike-count, Placed.game-holds, Placed.met-looks, Placed.seen-contains}
+use Rattle.mwc_sums.proofs.{Completing.same_test, Seating.alike-size, Seating.seen}
 
 count-all : (xs : List ℕ) → length (filter (λ c. true) xs) ≡ length xs
 count-all [] = refl

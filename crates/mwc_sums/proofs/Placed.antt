@@ -6,7 +6,7 @@ use Rattle.mwc_sums.proofs.Imports.{refl, subst, arith, list_any, nat_tests, lt-
 use Rattle.std.proofs.lemmas.List.{get_or-map}
 use Rattle.council_game.specs.Ranks.{places, rule_by_rank}
 use Rattle.council_game.proofs.Shared.{Meanings.needs-each-member, RankPlaces.game-rank_places, Rankings.length-weights_by_rank}
-use Rattle.mwc_sums.proofs.{Matching.Holds, Vetoing.weight-sum}
+use Rattle.mwc_sums.proofs.{Joining.Holds, VetoRules.weight-sum}
 use Rattle.mwc_sums.proofs.Seating.{IsMin, IsSeating, LooksAt, least-min, seen, seen-sum}
 
 -- weights by place, and by member

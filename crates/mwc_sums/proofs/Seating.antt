@@ -7,7 +7,7 @@ use Rattle.coalitions.proofs.Shared.Digits.{has-kept, has-gone, same-places}
 use Rattle.council_game.specs.Ranks.{AreRankPlaces}
 use Rattle.council_game.proofs.Shared.RankPlaces.{by-member}
 use Rattle.mwc_sums.proofs.Completing.{double-pow, first-in, first-out, rest-in, rest-out}
-use Rattle.mwc_sums.proofs.Vetoing.{one-more}
+use Rattle.mwc_sums.proofs.VetoRules.{one-more}
 pub use Rattle.mwc_sums.specs.Inner.Seats.{seen}
 
 abbrev pub one_if : Bool → ℕ

@@ -2,13 +2,13 @@
 use Rattle.mwc_sums.proofs.Imports.{◌≡◌, ◌≢◌, ◌∙◌, ◌&&◌, ◌||◌, not, ◌⊎◌, ℕ, zero, suc, ◌+◌, ◌<◌, ◌≤◌, Bool, true, false, ltb, List, [], ◌∷◌}
 use Rattle.mwc_sums.proofs.Imports.{HasNoWeight, AreChambersOf, are_of_one_chamber, is_counted, statute, IsFair, AreRulesOf, length, get_or}
 use Rattle.mwc_sums.proofs.Imports.{All-from_get_or, RuleView, rule_at, GameView, nat_tests, met, share, chamber_of, filter, take, sym, ap}
-use Rattle.mwc_sums.proofs.Imports.{true_from_ne_false, length-filter_both, AllPass-from_list_all, list_all-from_AllPass, All-filter}
-use Rattle.mwc_sums.proofs.Imports.{refl, arith, inl, inr, All, ltb-true, both_ways}
+use Rattle.mwc_sums.proofs.Imports.{true_from_ne_false, length-filter_both, AllPass-from_list_all, list_all-from_AllPass, All-filter, refl}
+use Rattle.mwc_sums.proofs.Imports.{arith, inl, inr, All, ltb-true, both_ways}
 use Rattle.std.proofs.lemmas.List.Elements.{All-take}
 use Rattle.mwc_sums.specs.Inner.Rules.{AreOfChambers, beside_of, part_of, side}
 use Rattle.mwc_sums.specs.Statute.{counted, left}
-use Rattle.mwc_sums.proofs.{Counting.filter-both, Counting.filter-within, VetoRules.good-met, VetoRules.good-some, Vetoing.alike-sum}
-use Rattle.mwc_sums.proofs.Tests.{All-passing, any-at, any-of, missing}
+use Rattle.mwc_sums.proofs.Counting.{filter-both, filter-within, All-passing, any-at, any-of, missing}
+use Rattle.mwc_sums.proofs.VetoRules.{good-met, good-some, alike-sum}
 
 -- ---- who has weight in two rules
 pub share-at : (n i : ℕ) (a b : RuleView) → i < n → 0 < get_or a.weights i 0 → 0 < get_or b.weights i 0 → share n a b ≡ true
@@ -94,10 +94,8 @@ module _ (n : ℕ) (rs : List RuleView) (fair : All (IsFair n) rs) where
   no-third j k m lj lk lm they of third = true_from_ne_false (share n (rule j) (rule m)) (λ not-so.
       (let both : RuleView → Bool = λ x. share n (rule k) x && share n (rule j) x in
       let turned = share-turned n (rule j) (rule k) they in
-      let own-j = self j lj in
-      let own-k = self k lk in
       let apart : j ≢ k = λ e. both_ways _ not-so (ap (λ (i : ℕ). share n (rule i) (rule m)) e ∙ third) in
-      let two = two-pass both rs j k none apart lj lk (grind (arith, nat_tests)) (grind (arith, nat_tests)) in
+      let two = two-pass both rs j k none apart lj lk (grind (arith, nat_tests, turned, self j lj)) (grind (arith, nat_tests, self k lk)) in
       let lost = in-filter (λ x. share n (rule k) x && not (share n (rule j) x)) rs m none lm (grind (arith, nat_tests)) in
       let parts = simp filter-both at (sides-few (share n (rule j)) (filter (share n (rule k)) rs)) in
       omega (arith, parts, two, one-few n (chamber_of n rs (rule k)) of, lost)))

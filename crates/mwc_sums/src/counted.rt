@@ -34,7 +34,7 @@ impl Counted {
     }
 
     /// How many coalitions have a size.
-    #[tactic(auto, using(crate::proofs::Joined::above), unfolding(crate::specs::Inner::Pairs::of_size))]
+    #[tactic(auto, using(crate::proofs::Pairs::above), unfolding(crate::specs::Inner::Pairs::of_size))]
     fn of_size(&self, size: usize) -> u64
         ensures { result ≡ of_size self.now.game size }
     {
@@ -46,7 +46,7 @@ impl Counted {
     }
 
     /// How many coalitions that contain a member have a size.
-    #[tactic(auto, using(crate::proofs::Joined::above), unfolding(crate::specs::Inner::Pairs::of_member_size))]
+    #[tactic(auto, using(crate::proofs::Pairs::above), unfolding(crate::specs::Inner::Pairs::of_member_size))]
     fn of_member_size(&self, member: usize, size: usize) -> u64
         requires { member < length self.now.game.names }
         ensures { result ≡ of_member_size self.now.game member size }
@@ -60,7 +60,7 @@ impl Counted {
 }
 
 /// How many coalitions of a game of two chambers have a size: pairs of one of each.
-#[tactic(auto, using(crate::proofs::Joined::pairs))]
+#[tactic(auto, using(crate::proofs::Pairs::pairs))]
 fn pairs_of_size(game: &Game, first: &Counted, second: &Counted, size: usize) -> u64
     requires size { size ≤ MEMBERS }
     requires chambers { AreChambersOf game.now first.now.game second.now.game }
@@ -75,7 +75,7 @@ fn pairs_of_size(game: &Game, first: &Counted, second: &Counted, size: usize) ->
 }
 
 /// How many of those contain a place: its member is in the one or in the other.
-#[tactic(auto, using(crate::proofs::Joined::member_pairs))]
+#[tactic(auto, using(crate::proofs::Pairs::member_pairs))]
 fn pairs_of_place(game: &Game, first: &Counted, second: &Counted, place: usize, size: usize) -> u64
     requires place { place < length game.now.names }
     requires size { size ≤ MEMBERS }

@@ -34,7 +34,7 @@ pub fn counts_do_not_depend_on_the_order_of_rules()
 {}
 
 /// A member without whom the others miss the quota of some rule is in each winning coalition.
-#[tactic(auto, using(crate::proofs::Vetoing::laws))]
+#[tactic(auto, using(crate::proofs::VetoRules::laws))]
 pub fn vetoers_are_in_each_winning_coalition()
     ensures { (v : Votes) (p c : ℕ) → IsVotes v → p < v.members → IsVetoer v p → c < 2 ^ v.members
         → wins v.rules c ≡ true → has v.members p c ≡ true }

@@ -21,7 +21,7 @@ fn copied_names(alloc: Global, game: &Game) -> Result<Vec<String>, Memory>
 }
 
 /// The game of the same members with other rules, and with no title. Its places are ranked by the first of them.
-#[tactic(auto, using(crate::proofs::Remaking::remaking))]
+#[tactic(auto, using(crate::proofs::VetoRules::remaking))]
 pub(crate) fn remade(alloc: Global, game: &Game, rules: Vec<Rule>) -> Result<Game, Memory>
     requires some { 0 < length rules.items }
     requires few { length rules.items ≤ RULES }

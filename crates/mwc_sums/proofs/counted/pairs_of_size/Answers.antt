@@ -1,4 +1,4 @@
-use Rattle.mwc_sums.proofs.{Imports.arith, Joined.all-pairs}
+use Rattle.mwc_sums.proofs.{Imports.arith, Pairs.all-pairs}
 use Rattle.mwc_sums.proofs.counted.pairs_of_size.Goals as goal
 
 pub returns : goal.returns

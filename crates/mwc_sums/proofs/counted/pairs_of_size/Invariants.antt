@@ -1,4 +1,4 @@
-use Rattle.mwc_sums.proofs.{Imports.◌≡◌, Imports.sum_by, Imports.range_with_len, Joined.size-pairs}
+use Rattle.mwc_sums.proofs.{Imports.◌≡◌, Imports.sum_by, Imports.range_with_len, Pairs.size-pairs}
 use Rattle.mwc_sums.proofs.counted.pairs_of_size.Given as goal
 
 abbrev pub invariant-loop-own : goal.invariant-loop-own

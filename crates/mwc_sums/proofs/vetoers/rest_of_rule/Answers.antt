@@ -1,4 +1,4 @@
-use Rattle.mwc_sums.proofs.Vetoing.{less-all}
+use Rattle.mwc_sums.proofs.VetoRules.{less-all}
 use Rattle.mwc_sums.proofs.vetoers.rest_of_rule.Goals as goal
 
 pub returns : goal.returns
