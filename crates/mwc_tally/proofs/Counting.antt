@@ -1,5 +1,5 @@
 -- Slices counted one after the other, and in any order.
-use Rattle.std.proofs.Common.{◌≡◌, ◌∙◌, ℕ, ◌+◌, ◌^◌, ◌<◌, ◌≤◌, suc, Bool, List, [], ◌∷◌, ◌++◌, length, sym, ap, refl, arith, subst}
+use Rattle.std.proofs.Common.{◌≡◌, ◌∙◌, ℕ, ◌+◌, ◌^◌, ◌<◌, ◌≤◌, Bool, List, [], ◌∷◌, ◌++◌, length, sym, ap, refl, arith, subst}
 use Rattle.std.proofs.Common.{length-append, All, filter, flat_map, sum_by, IsPermutation, append_assoc, append-nil}
 use Rattle.std.proofs.lemmas.List.{Concat.flat_map-append, Concat.length-flat_map, Elements.All-filter, Elements.filter-append}
 use Rattle.std.proofs.lemmas.{Grind.common_steps, List.Sorted.sum_by-IsPermutation, List.Sums.sum_by-cons}
@@ -13,10 +13,7 @@ use Rattle.power_index.proofs.Shared.{Minimal.minimal-are-coalitions, Minimal.mi
 use Rattle.coalitions.proofs.Shared.Ranges.{range-more, sum_by-range-more, sum_by-range-le}
 use Rattle.mwc_tally.specs.Inner.Shares.{CountedUpTo, CountSlices, CountWhole, slice_of}
 use Rattle.mwc_tally.specs.declared.sliced_game.SlicedGame.{SlicedGame}
-
-later : (P : ℕ → Type 0) (before rest : List ℕ) (c : ℕ) → All P (before ++ c ∷ rest) → P c
-later P [] rest c h = h 0 0 (omega arith)
-later P (b ∷ bs) rest c h = later P bs rest c (λ k d lt. h (suc k) d (omega (arith, lt)))
+use Rattle.std.proofs.lemmas.List.{get_or_at}
 
 -- a walk that is counted as it goes, where c is next
 module _ {g : GameView} {whole to_come rest : List ℕ} {c : ℕ} {t : Tables} (next : to_come ≡ c ∷ rest)
@@ -35,7 +32,9 @@ module _ {g : GameView} {whole to_come rest : List ℕ} {c : ℕ} {t : Tables} (
   counted-room few = grind (arith, common_steps, length-append, next-joined, total-is)
 
   pub counted-next : (P : ℕ → Type 0) → All P whole → P c
-  counted-next P all = later P h.before rest c (subst (All P) (sym next-joined) all)
+  counted-next P all =
+      let here = subst (All P) (sym next-joined) all (length h.before) c (omega (arith, length-append h.before (c ∷ rest))) in
+      rw (get_or_at h.before c rest c (length h.before) refl) at here
 
 -- what a walk over a slice gives next is a coalition of the game, and there is room for it
 module _ (s : SlicedGame) (j : ℕ) {to_come rest : List ℕ} {c : ℕ} {t : Tables} (next : to_come ≡ c ∷ rest)

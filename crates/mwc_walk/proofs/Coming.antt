@@ -11,8 +11,7 @@ use Rattle.std.proofs.lemmas.Nat.Bits.{bit_at-lt}
 use Rattle.std.specs.{Int.div_ceil, List.list_any}
 use Rattle.council_game.proofs.Shared.WeightByDigits.{weight-nil, weight-cons}
 use Rattle.coalitions.proofs.Shared.Digits.{digit-added}
-use Rattle.mwc_walk.specs.{Inner.Vetoes.vetoed_part, declared.price.Price.Price}
-use Rattle.mwc_walk.specs.Inner.{Covers.interval_at, Lanes.lane_needs}
+use Rattle.mwc_walk.specs.{Inner.Covers.interval_at, Inner.Lanes.lane_needs, Inner.Vetoes.vetoed_part, declared.price.Price.Price}
 use Rattle.mwc_walk.proofs.Rules.{sum-from, drop-most, met-at}
 
 -- ---- in intervals

@@ -42,7 +42,8 @@ module _ {n : ℕ} {r : RuleView} (is : IsRule n r) where
       let after : List ℕ = drop p r.weights in
       let long : length after ≡ n - p = length-drop p r.weights ∙ ap (λ (i : ℕ). i - p) is.full in
       -- digits above the places of a list weigh nothing
-      let low = sym (weight-skip after (c / 2 ^ length after) (c % 2 ^ length after)) ∙ ap (weight after) (div-add-mod' c (2 ^ length after)) in
+      let low = sym (weight-skip after (c / 2 ^ length after) (c % 2 ^ length after))
+      ∙ ap (weight after) (div-add-mod' c (2 ^ length after)) in
       omega (arith, rw is.full at (weight-at r.weights p c (omega (arith, is.full))), rw long at low)
 
   -- the next place, with its digit

@@ -8,7 +8,7 @@ use Rattle.mwc_walk.proofs.Imports.{CursorIs, has-none, lane_at, IsVotes, get_or
 use Rattle.std.proofs.{Common.bit_and, lemmas.Nat.and_le_l, lemmas.Nat.Bits.bit_at-trailing_zeros, lemmas.Nat.Bits.bit_at_and}
 use Rattle.coalitions.proofs.Shared.Digits.{has-kept, has-gone, lowest-cleared, without-less}
 use Rattle.council_game.proofs.Shared.WinningByPlaces.{sum-without, rule-is}
-use Rattle.mwc_walk.specs.Inner.{Asked.asked_at, Places.NoneWins, Places.AreExcesses, Places.CanSpare, Spared.IsEnough, Spared.NoneSpared}
+use Rattle.mwc_walk.specs.Inner.{Asked.asked_at, Places.AreExcesses, Places.CanSpare, Spared.IsEnough, Spared.NoneSpared}
 use Rattle.mwc_walk.specs.declared.vetoes.Vetoes.{Vetoes}
 use Rattle.mwc_walk.proofs.{Shared.One.place-before, Shared.One.in-slice, Steps.enter-short, Steps.lane-here, Steps.sum-here}
 use Rattle.mwc_walk.proofs.Rules.{weight-block, weight-parts, wins-prefix, met-at}
@@ -137,9 +137,6 @@ module _ {v : Votes} {a : Cursor} (is : CursorIs v a) where
             (sym (weight-block rule a.place a.prefix is.place.to)) in
             omega (arith, met, rule.some, less, enough i lt))),
       )
-
-  pub none-nothing : NoneWins v a.place a.prefix → NothingBelow v a.place a.prefix
-  none-nothing none = λ c prefix. false_from_ne_true _ (λ min. none c prefix (((needs-each-member v c).0 min).0))
 
   -- all members of the prefix are still to be tried
   pub tried-first : (es : List ℕ) (m : ℕ) → m ≡ a.prefix * 2 ^ (a.members - a.place) → Tried v a.place a.prefix es m

@@ -216,11 +216,8 @@ module _ {v : Votes} {a : Cursor} (is : CursorIs v a) where
   -- ---- a winning prefix
   module _ (won : wins_at v.rules a.place a.prefix ≡ true) where
     -- past the fixed places it has its last place in
-    last-in : a.bits < a.place → a.prefix % 2 ≡ 1
+    pub last-in : a.bits < a.place → a.prefix % 2 ≡ 1
     last-in lt = won-odd v.members a.place a.prefix v.rules (omega arith) is.place.to is.game.rules won (is.place.passed lt)
-
-    pub even-loses : a.bits < a.place → a.prefix % 2 ≡ 0 → ⊥
-    even-loses lt even = omega (arith, even, last-in lt)
 
     -- and with one rule it is minimal there
     pub one-is : a.bits < a.place → a.rules ≡ 1 → minimal v (a.prefix * 2 ^ (v.members - a.place)) ≡ true

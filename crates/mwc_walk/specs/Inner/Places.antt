@@ -35,10 +35,6 @@ AreExcesses v p x es = (i : ℕ) → i < length v.rules → IsExcess v p x i (sl
 abbrev pub CanSpare : Votes → List ℕ → ℕ → Type 0
 CanSpare v es q = (i : ℕ) → i < length v.rules → slice_index (rule_at v.rules i).weights q ≤ slice_index es i
 
--- no winning coalition begins with the prefix
-abbrev pub NoneWins : Votes → ℕ → ℕ → Type 0
-NoneWins v p x = (c : ℕ) → c / 2 ^ (v.members - p) ≡ x → wins v.rules c ≡ true → ⊥
-
 -- no coalition that begins with the prefix is minimal
 abbrev pub NothingBelow : Votes → ℕ → ℕ → Type 0
 NothingBelow v p x = (c : ℕ) → c / 2 ^ (v.members - p) ≡ x → minimal v c ≡ false

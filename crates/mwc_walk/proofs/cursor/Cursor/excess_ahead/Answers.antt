@@ -1,5 +1,6 @@
-use Rattle.mwc_walk.proofs.Imports.{common_steps, ◌<◌, ◌+◌, length, get_or, arith, votes_of, vetoes_at}
-use Rattle.mwc_walk.proofs.Spared.{least-excess, none-nothing}
+use Rattle.mwc_walk.proofs.Imports.{common_steps, false_from_ne_true, needs-each-member, ◌<◌, ◌+◌, length, get_or, arith, votes_of}
+use Rattle.mwc_walk.proofs.Imports.{vetoes_at}
+use Rattle.mwc_walk.proofs.Spared.{least-excess}
 use Rattle.mwc_walk.proofs.cursor.Cursor.excess_ahead.Goals as goal
 
 pub returns-in-Some : goal.returns-in-Some
@@ -16,7 +17,8 @@ returns-in-Some c =
     omega (arith, parts, comes)))
 
 pub returns-in-None : goal.returns-in-None
-returns-in-None c = none-nothing c.requires.is (λ d prefix won.
+returns-in-None c = λ d prefix. false_from_ne_true _ (λ min.
+    let won = ((needs-each-member (votes_of c.args.game.now) d).0 min).0 in
     let outlook = c.requires.ahead.outlooks c.args.rule (omega (arith, c.requires.rule, c.requires.is.rules)) in
     let short = c.in-None.ensures _ (outlook.sums c.args.self.now.place d c.requires.is.place.to) in
     grind (arith, common_steps))
