@@ -35,7 +35,7 @@ impl Counted {
 
     /// How many coalitions have a size.
     #[tactic(auto, using(crate::proofs::Pairs::above), unfolding(crate::specs::Inner::Pairs::of_size))]
-    fn of_size(&self, size: usize) -> u64
+    pub(crate) fn of_size(&self, size: usize) -> u64
         ensures { result ≡ of_size self.now.game size }
     {
         if size <= self.counts.members() {
@@ -47,7 +47,7 @@ impl Counted {
 
     /// How many coalitions that contain a member have a size.
     #[tactic(auto, using(crate::proofs::Pairs::above), unfolding(crate::specs::Inner::Pairs::of_member_size))]
-    fn of_member_size(&self, member: usize, size: usize) -> u64
+    pub(crate) fn of_member_size(&self, member: usize, size: usize) -> u64
         requires { member < length self.now.game.names }
         ensures { result ≡ of_member_size self.now.game member size }
     {
