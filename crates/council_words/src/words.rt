@@ -112,35 +112,33 @@ struct Number {
 }
 
 /// The options that take a number.
-fn numbers() -> [Number; 3] {
-    [
-        Number {
-            name: "workers",
-            value: "N",
-            default: "4",
-            help: "Worker threads, 1 to 16",
-            least: 1,
-            greatest: i64::from(limits::WORKERS),
-        },
-        Number {
-            name: "bits",
-            value: "K",
-            default: "6",
-            help: "Tuning only: how the work is cut, 0 to 10",
-            least: 0,
-            greatest: i64::from(limits::BITS),
-        },
-        Number {
-            name: "most",
-            value: "N",
-            default: "1000000",
-            help: "A game with more coalitions is refused, 1 to 4000000;
+const NUMBERS: &[Number] = &[
+    Number {
+        name: "workers",
+        value: "N",
+        default: "4",
+        help: "Worker threads, 1 to 16",
+        least: 1,
+        greatest: limits::WORKERS as i64,
+    },
+    Number {
+        name: "bits",
+        value: "K",
+        default: "6",
+        help: "Tuning only: how the work is cut, 0 to 10",
+        least: 0,
+        greatest: limits::BITS as i64,
+    },
+    Number {
+        name: "most",
+        value: "N",
+        default: "1000000",
+        help: "A game with more coalitions is refused, 1 to 4000000;
 --tally takes any number",
-            least: 1,
-            greatest: i64::from(limits::COALITIONS),
-        },
-    ]
-}
+        least: 1,
+        greatest: limits::COALITIONS as i64,
+    },
+];
 
 /// The flags, and what is said of them.
 const FLAGS: &[(&str, &str)] = &[
@@ -184,7 +182,7 @@ fn arguments<'a>(alloc: Global) -> Result<Vec<Arg<'a>>, AllocError> {
     let file = "The game file; none, or -, is standard input";
     let mut arguments = Vec::new(alloc);
     arguments.push(Arg::new(alloc, "FILE").help(file))?;
-    for number in &numbers() {
+    for number in NUMBERS {
         arguments.push(number_option(alloc, number))?;
     }
     for (name, help) in FLAGS {
