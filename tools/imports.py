@@ -64,36 +64,36 @@ def line_of(row):
     return f"use {head}.{{{', '.join(paths)}}}"
 
 
-def rows_of(module, names):
+def rows_of(module, names, width):
     """The names of a module, as many to a line as fit."""
     rows = [[]]
     for name in names:
-        if rows[-1] and len(line_of([(module, [*rows[-1], name])])) > WIDTH:
+        if rows[-1] and len(line_of([(module, [*rows[-1], name])])) > width:
             rows.append([])
         rows[-1].append(name)
     return [(module, row) for row in rows]
 
 
-def packed(pairs):
-    """Lines that take these names: modules with few of them stand together, where they are of one library and one part of it."""
-    by_module = collections.OrderedDict()
+def packed(pairs, words=""):
+    """Lines that begin with these words and take these names: modules with few of them stand together, where they are of one library and one part of it."""
+    by_module, width = collections.OrderedDict(), WIDTH - len(words)
     for module, name in pairs:
         by_module.setdefault(module, []).append(name)
     groups = collections.OrderedDict()
     for module, names in by_module.items():
         names = list(dict.fromkeys(names))
         key = module if len(names) > FEW else ".".join(module.split(".")[:3])
-        groups.setdefault(key, []).extend(rows_of(module, names))
+        groups.setdefault(key, []).extend(rows_of(module, names, width))
     lines = []
     for group in groups.values():
         rows = []
         for it in sorted(group, key=lambda it: -len(line_of([it]))):
-            room = [row for row in rows if len(line_of(sorted([*row, it]))) <= WIDTH]
+            room = [row for row in rows if len(line_of(sorted([*row, it]))) <= width]
             if room:
                 room[0].append(it)
             else:
                 rows.append([it])
-        lines += [line_of(sorted(row)) for row in rows]
+        lines += [words + line_of(sorted(row)) for row in rows]
     return lines
 
 
@@ -143,7 +143,7 @@ class Proofs:
             open_here = set().union(*(opened(it) for it in self.texts.values()))
             pairs = sorted((module, name) for name, module in shared.items())
             kinds = [[it for it in pairs if (it[1] in open_here) == is_open] for is_open in (False, True)]
-            lines = [f"{word} {line}" for word, kind in zip(("pub", "unfoldable pub"), kinds) for line in packed(kind)]
+            lines = [line for words, kind in zip(("pub ", "unfoldable pub "), kinds) for line in packed(kind, words)]
             before, after = before + read(self.words).count("\n"), after + len(lines) + 1
             write(self.words, WORDS + "\n".join(lines) + "\n")
         return before - after

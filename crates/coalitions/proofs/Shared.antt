@@ -1,4 +1,5 @@
 -- What other crates may cite.
 pub mod Digits
+pub mod Lists
 pub mod Ranges
 pub mod Sizes

@@ -1,1 +1,2 @@
 pub mod Coalitions
+pub mod Lists

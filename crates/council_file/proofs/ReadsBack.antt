@@ -118,7 +118,8 @@ weights_pass n m r same fits = grind (arith, nowhere_below, le-ltb)
 
 made : (n : ℕ) (r : RuleView) → Fits n r → nameless_game r ≡ Ok (lone_game r)
 unfolding made_game
-made n r fits = grind (arith, nat_tests, length-map-range_with_len, count_passes, repeats_pass, weights_pass, position_nowhere, name_at, decimal_name)
+made n r fits =
+    grind (arith, nat_tests, length-map-range_with_len, count_passes, repeats_pass, weights_pass, position_nowhere, name_at, decimal_name)
 
 bracket_game : (text : List ℕ) (r : RuleView) → rule_of (symbols text) ≡ Some r → game_of_bracket text ≡ nameless_game r
 unfolding game_of_bracket

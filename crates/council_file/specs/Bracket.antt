@@ -5,7 +5,8 @@
 --     number  = 1 to 18 decimal digits
 --
 -- with any blanks between two symbols, before the first and after the last.
-use Rattle.std.specs.Prelude.{ℕ, Bool, true, false, ◌||◌, ◌==◌, nat_le, List, [], ◌∷◌, length, map, decimal, Option, Some, None, Result, option_map, option_and_then, ok_or, if◌then◌else◌}
+use Rattle.std.specs.Prelude.{ℕ, Bool, true, false, ◌||◌, ◌==◌, nat_le, List, [], ◌∷◌, length, map, decimal, Option, Some, None, Result}
+use Rattle.std.specs.Prelude.{option_map, option_and_then, ok_or, if◌then◌else◌}
 use Rattle.std.specs.Char.{is_ascii_digit}
 use Rattle.std.specs.List.{range_with_len}
 use Rattle.std.specs.Str.Parse.{digits_value}

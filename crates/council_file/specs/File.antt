@@ -1,11 +1,14 @@
 -- The game that a file is, or the first fault.
-use Rattle.std.specs.Prelude.{codes, ℕ, ℤ, pos, negsuc, ◌^◌, ◌-◌, Bool, false, not, ◌&&◌, ◌||◌, ◌==◌, nat_lt, nat_le, nat_eq, List, [], ◌∷◌, length, map, slice_get, Option, Some, None, Result, Ok, Err, is_some, is_none, unwrap_or, option_and_then, ok_or, if◌then◌else◌}
+use Rattle.std.specs.Prelude.{codes, ℕ, ℤ, pos, negsuc, ◌^◌, ◌-◌, Bool, false, not, ◌&&◌, ◌||◌, ◌==◌, nat_lt, nat_le, nat_eq, List, [], ◌∷◌}
+use Rattle.std.specs.Prelude.{length, map, slice_get, Option, Some, None, Result, Ok, Err, is_some, is_none, unwrap_or, option_and_then}
+use Rattle.std.specs.Prelude.{ok_or, if◌then◌else◌}
 use Rattle.std.specs.List.{list_any, list_all, range_with_len}
 use Rattle.std.specs.Option.{option_map_or}
 use Rattle.std.specs.Str.{is_utf8}
 use Rattle.std.specs.Cmp.Lexicographic.{pointwise}
 use Rattle.coalitions.specs.declared.limits.TheConstants.{MEMBERS, RULES, FILE_BYTES}
-use Rattle.toml.specs.Data.{Data, Items, no_items, item, Members, no_members, member, get_member, get, as_str, as_integer, as_array, as_table}
+use Rattle.toml.specs.Data.{Data, Items, no_items, item, Members, no_members, member, get_member, get, as_str, as_integer, as_array}
+use Rattle.toml.specs.Data.{as_table}
 use Rattle.toml.specs.Parse.{parse_document}
 use Rattle.council_game.specs.declared.fault.GameFault.{GameFault}
 use Rattle.council_game.specs.declared.fault.GameFault.TheVariants.{TooLong, Text, UnknownKey, Title, Quota, Rules, Members as NoMembers}

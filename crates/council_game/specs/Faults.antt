@@ -1,7 +1,8 @@
 -- The numbers of the faults of a game.
 use Rattle.std.specs.Prelude.{ℕ}
 use Rattle.council_game.specs.declared.fault.GameFault.{GameFault}
-use Rattle.council_game.specs.declared.fault.GameFault.TheVariants.{Read, TooLong, Text, UnknownKey, Title, Quota, Members, Name, SameName, Weight, QuotaRange, Bracket, Rules, Memory}
+use Rattle.council_game.specs.declared.fault.GameFault.TheVariants.{Read, TooLong, Text, UnknownKey, Title, Quota, Members, Name, SameName}
+use Rattle.council_game.specs.declared.fault.GameFault.TheVariants.{Weight, QuotaRange, Bracket, Rules, Memory}
 
 abbrev pub number_of : GameFault → ℕ
 number_of Read = 1

@@ -1,5 +1,6 @@
 -- Weighted voting games as plain data, and their minimal winning coalitions.
-use Rattle.std.specs.Prelude.{ℕ, zero, suc, ◌^◌, Bool, not, ◌&&◌, nat_le, List, [], ◌∷◌, length, ◌≡◌, ◌≤◌, ◌<◌, slice_index, slice_index_or, sum_by, ⊤}
+use Rattle.std.specs.Prelude.{ℕ, zero, suc, ◌^◌, Bool, not, ◌&&◌, nat_le, List, [], ◌∷◌, length, ◌≡◌, ◌≤◌, ◌<◌, slice_index, slice_index_or}
+use Rattle.std.specs.Prelude.{sum_by, ⊤}
 use Rattle.std.specs.List.{filter, sum, list_all, AllByRecursion}
 use Rattle.coalitions.specs.declared.limits.TheConstants.{MEMBERS, RULES, TOTAL}
 unfoldable pub use Rattle.coalitions.specs.Coalitions.{has, without}

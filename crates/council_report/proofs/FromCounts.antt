@@ -35,4 +35,5 @@ pub from-counts : (P : List ℕ → Type 0) (shown : Shown) (k : Counted) (liste
     → P (heading shown k.game.now count ++ lines_of shown k listed) → AreCounts k.game.now list k.counts.now → count ≡ length list
     → (shown.list ≡ true → listed ≡ list) → P (report_over shown k.game.now list)
 unfolding lines_of
-from-counts P shown k listed list count holds h total is = grind (arith, nat_tests, shown-same, texts-same, size-same, deegan-packel-same, public-good-same)
+from-counts P shown k listed list count holds h total is =
+    grind (arith, nat_tests, shown-same, texts-same, size-same, deegan-packel-same, public-good-same)

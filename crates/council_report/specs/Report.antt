@@ -7,7 +7,8 @@ use Rattle.power_index.specs.Counting.{members, count_of_size, count_of_member, 
 use Rattle.power_index.specs.Fractions.{lowest_terms}
 use Rattle.power_index.specs.Indices.{deegan_packel, public_good}
 use Rattle.council_report.specs.declared.shown.Shown.{Shown}
-use Rattle.council_report.specs.Lines.{title_line, members_line, quota_line, total_line, notation_line, minimal_line, coalition_line, size_line, member_line}
+use Rattle.council_report.specs.Lines.{title_line, members_line, quota_line, total_line, notation_line, minimal_line, coalition_line}
+use Rattle.council_report.specs.Lines.{size_line, member_line}
 
 abbrev pub notation_lines : Shown → GameView → List ℕ
 notation_lines shown g = if shown.notation then flat_map notation_line g.rules else []

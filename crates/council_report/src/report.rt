@@ -1,7 +1,7 @@
 //! A report, written whole.
 ghost use Rattle.std.specs.Prelude.{◌≡◌, ◌+◌, ◌≤◌, ◌^◌, true, false, ℕ, List, length, IfOk, IfErr, OnOk};
-ghost use Rattle.std.specs.List.{flat_map};
 ghost use Rattle.std.specs.Io.KnownBytes.{Appends};
+ghost use Rattle.coalitions.specs.Lists.{joined};
 ghost use Rattle.coalitions.specs.declared.limits.TheConstants.{MEMBERS, COALITIONS};
 ghost use Rattle.council_game.specs.Game.{votes_of, AreNonemptyCoalitions, IsGame};
 ghost use Rattle.council_game.specs.Votes.{minimal_coalitions};
@@ -36,12 +36,11 @@ fn put_shown_coalitions<W: Write>(
     line: &mut SharedLine,
     shown: Shown,
 ) -> Result<(), WriteFault>
-    requires coalitions { AreNonemptyCoalitions game.now (flat_map (λ p. p.now) pieces.now) }
+    requires coalitions { AreNonemptyCoalitions game.now (joined pieces.now) }
     requires line { IsReadyLine game.now line.old }
     requires ready { IsReady block.old }
-    requires counted { CanCount block.old
-        (coalition_lines shown game.now (flat_map (λ p. p.now) pieces.now)) }
-    ensures { Puts (coalition_lines shown game.now (flat_map (λ p. p.now) pieces.now))
+    requires counted { CanCount block.old (coalition_lines shown game.now (joined pieces.now)) }
+    ensures { Puts (coalition_lines shown game.now (joined pieces.now))
         (W.contents writer.old) block.old (W.contents writer.new) block.new result }
 {
     if shown.list {
@@ -80,13 +79,11 @@ fn put_lines<W: Write>(
     line: &mut SharedLine,
     shown: Shown,
 ) -> Result<(), WriteFault>
-    requires coalitions { AreNonemptyCoalitions counted.now.game.now
-        (flat_map (λ p. p.now) pieces.now) }
+    requires coalitions { AreNonemptyCoalitions counted.now.game.now (joined pieces.now) }
     requires line { IsReadyLine counted.now.game.now line.old }
     requires ready { IsReady block.old }
-    requires counted { CanCount block.old
-        (lines_of shown counted.now (flat_map (λ p. p.now) pieces.now)) }
-    ensures { Puts (lines_of shown counted.now (flat_map (λ p. p.now) pieces.now))
+    requires counted { CanCount block.old (lines_of shown counted.now (joined pieces.now)) }
+    ensures { Puts (lines_of shown counted.now (joined pieces.now))
         (W.contents writer.old) block.old (W.contents writer.new) block.new result }
 {
     put_shown_coalitions(block, writer, counted.game, pieces, line, shown)?;
@@ -104,18 +101,16 @@ fn send<W: Write>(
     mut line: SharedLine,
     shown: Shown,
 ) -> Result<u64, WriteFault>
-    requires coalitions { AreNonemptyCoalitions counted.now.game.now
-        (flat_map (λ p. p.now) pieces.now) }
+    requires coalitions { AreNonemptyCoalitions counted.now.game.now (joined pieces.now) }
     requires line { IsReadyLine counted.now.game.now line }
     requires room { HasRoom block }
-    requires counted { CanCount block
-        (lines_of shown counted.now (flat_map (λ p. p.now) pieces.now)) }
+    requires counted { CanCount block (lines_of shown counted.now (joined pieces.now)) }
     ensures count { IfOk result (λ count. count ≡ (progress_of (W.contents writer.old) block).count
-        + length (lines_of shown counted.now (flat_map (λ p. p.now) pieces.now))) }
+        + length (lines_of shown counted.now (joined pieces.now))) }
     ensures ok { OnOk result (Appends (progress_of (W.contents writer.old) block).bytes
-        (W.contents writer.new) (lines_of shown counted.now (flat_map (λ p. p.now) pieces.now))) }
+        (W.contents writer.new) (lines_of shown counted.now (joined pieces.now))) }
     ensures err { IfErr result (λ fault. StopsIn (progress_of (W.contents writer.old) block)
-        (lines_of shown counted.now (flat_map (λ p. p.now) pieces.now))
+        (lines_of shown counted.now (joined pieces.now))
         (W.contents writer.new) fault.written) }
 {
     block.settle(writer)?;
@@ -136,8 +131,8 @@ fn write_over<W: Write>(
 ) -> Result<u64, ReportFault>
     ghost list: { List ℕ }
     requires some { IsGame game.now → 1 ≤ length list }
-    requires pieces { shown.list ≡ true → flat_map (λ p. p.now) pieces.now ≡ list }
-    requires coalitions { AreNonemptyCoalitions game.now (flat_map (λ p. p.now) pieces.now) }
+    requires pieces { shown.list ≡ true → joined pieces.now ≡ list }
+    requires coalitions { AreNonemptyCoalitions game.now (joined pieces.now) }
     requires counts { AreCounts game.now list counts.now }
     ensures count { IfOk result (λ count. count ≡ length (report_over shown game.now list)) }
     ensures ok { OnOk result (Appends (W.contents writer.old) (W.contents writer.new)
@@ -178,16 +173,15 @@ pub fn write_report_of<W: Write>(
     shown: Shown,
     writer: &mut W,
 ) -> Result<u64, ReportFault>
-    requires some { 1 ≤ length (flat_map (λ p. p.now) pieces.now) }
-    requires few { length (flat_map (λ p. p.now) pieces.now) ≤ 2 ^ MEMBERS }
-    requires coalitions { AreNonemptyCoalitions game.now (flat_map (λ p. p.now) pieces.now) }
-    requires counts { AreCounts game.now (flat_map (λ p. p.now) pieces.now) counts.now }
-    ensures count { IfOk result (λ count. count ≡
-        length (report_over shown game.now (flat_map (λ p. p.now) pieces.now))) }
+    requires some { 1 ≤ length (joined pieces.now) }
+    requires few { length (joined pieces.now) ≤ 2 ^ MEMBERS }
+    requires coalitions { AreNonemptyCoalitions game.now (joined pieces.now) }
+    requires counts { AreCounts game.now (joined pieces.now) counts.now }
+    ensures count { IfOk result (λ count. count ≡ length (report_over shown game.now (joined pieces.now))) }
     ensures ok { OnOk result (Appends (W.contents writer.old) (W.contents writer.new)
-        (report_over shown game.now (flat_map (λ p. p.now) pieces.now))) }
+        (report_over shown game.now (joined pieces.now))) }
     ensures err { IfErr result (Falls (W.contents writer.old) (W.contents writer.new)
-        (report_over shown game.now (flat_map (λ p. p.now) pieces.now))) }
+        (report_over shown game.now (joined pieces.now))) }
 {
     write_over(alloc, game, pieces, counts, shown, writer)
 }

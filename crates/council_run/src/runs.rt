@@ -1,6 +1,6 @@
 //! A run: from the bytes of a game to its report.
 ghost use Rattle.std.specs.Prelude.{◌≡◌, ◌<◌, IfOk, IfErr, length};
-ghost use Rattle.std.specs.List.{flat_map};
+ghost use Rattle.coalitions.specs.Lists.{joined};
 ghost use Rattle.council_report.specs.Report.{report};
 ghost use Rattle.council_run.specs.Run.{HasAtMost, Reports, Stops, count_of};
 ghost use Rattle.council_run.specs.Shows.{shown_of};
@@ -48,7 +48,7 @@ fn pieces<'a>(
     most: u32,
 ) -> Result<Vec<&'a [Coalition]>, Memory>
     requires { IsGathered game.now most gathered.now }
-    ensures { IfOk result (λ row. IsListed game.now most (flat_map (λ p. p.now) row.items)) }
+    ensures { IfOk result (λ row. IsListed game.now most (joined row.items)) }
 {
     gathered.pieces(alloc)
 }

@@ -25,7 +25,8 @@ pub some_of_more : (before row after more : List Word) → SendsSome before row 
 some_of_more before row after more s =
     (s.0 ++ more, (s.1.0, s.1.1, sym (append_assoc s.1.0 s.0 more) ∙ ap (λ (w : List Word). w ++ more) s.1.2))
 
-pub some_later : (before row mid rest after : List Word) → SendsFirst before row mid rest → SendsSome mid rest after → SendsSome before row after
+pub some_later : (before row mid rest after : List Word) → SendsFirst before row mid rest → SendsSome mid rest after
+    → SendsSome before row after
 some_later before row mid rest after s t = (
   t.0,
   (

@@ -65,7 +65,8 @@ module _ {all : List ℕ} {j wanted left : ℕ} {before : List Word} where
   short g e u = let count = u.count in let whole = ap length (e ∙ u.split ∙ append-nil u.given) in omega arith
 
   pub takes_some_at_end : {out row after : List Word} (g : Slicing) → g.slice j ≡ all → UnderWay all j wanted left before [] out row
-      → 0 < left → SendsSome out (row ++ Done j ∷ []) after → (words : List Word) × (after ≡ before ++ words) × IsPrefix words (sending g j wanted)
+      → 0 < left → SendsSome out (row ++ Done j ∷ []) after
+      → (words : List Word) × (after ≡ before ++ words) × IsPrefix words (sending g j wanted)
   takes_some_at_end {out} {row} {after} g e u more some =
       let count = short g e u in
       some_starts before (slice_words g j) out (row ++ Done j ∷ []) after (sending g j wanted) (whole_row g e u) some
@@ -75,4 +76,5 @@ module _ {all : List ℕ} {j wanted left : ℕ} {before : List Word} where
       → 0 < left → after ≡ out ++ (row ++ Done j ∷ [])
       → (after ≡ before ++ slice_words g j) × (length (g.slice j) < wanted) × (left + length (g.slice j) ≡ wanted)
   sent_whole {out} {row} {after} g e u more sent =
-      let count = short g e u in (first_all before (slice_words g j) out (row ++ Done j ∷ []) after (whole_row g e u) sent, omega arith, count)
+      let count = short g e u in
+      (first_all before (slice_words g j) out (row ++ Done j ∷ []) after (whole_row g e u) sent, omega arith, count)

@@ -11,7 +11,8 @@ use Rattle.mwc_parts.proofs.Shared.Readings.{piece_is}
 pub all_total_is : (game : GameView) (bits : ℕ) → bits ≤ 10 → bits ≤ length game.names
     → length (minimal_coalitions (votes_of game)) ≡ all_total (slicing game bits)
 all_total_is game bits few within =
-    sym (ap (λ (l : List ℕ). length l) (slices-joined (votes_of game) bits few within)) ∙ length-joined (slicing game bits) (range_with_len 0 (2 ^ bits))
+    sym (ap (λ (l : List ℕ). length l) (slices-joined (votes_of game) bits few within))
+    ∙ length-joined (slicing game bits) (range_with_len 0 (2 ^ bits))
 
 -- each piece of a part is the slice of its number
 has_pieces : (g : Slicing) (p : Part) → IsPart g p → HasPieces g.slice p

@@ -236,16 +236,12 @@ fn put<R: Wait>(rt: &R, tasks: &mut RingIn, task: Word, pair: BellPair<'_>)
 fn told_by(words: &[Word]) -> (bool, bool)
     ensures done { result.0 ≡ list_any is_done words.now }
 {
-    let mut done = false;
-    let mut ended = false;
-    for word in words {
-        match word {
-            Word::Done(_) => done = true,
-            Word::End { cut: _ } => ended = true,
-            _ => {}
-        }
-    }
-    (done, ended)
+    (
+        words.iter().any(|word| matches!(word, Word::Done(_))),
+        words
+            .iter()
+            .any(|word| matches!(word, Word::End { cut: _ })),
+    )
 }
 
 /// Keeps all words that are left.

@@ -4,7 +4,8 @@ ghost use Rattle.coalitions.specs.declared.limits.TheConstants.{BITS, WORKERS, C
 ghost use Rattle.mwc_gather.specs.Slicings.{slicing};
 ghost use Rattle.mwc_gather.specs.Sending.{HasWorked};
 ghost use Rattle.mwc_gather.specs.Inner.Sending.{TakesLast, TakesTask};
-ghost use Rattle.mwc_pipe.specs.declared.word.Word.TheVariants.{End};
+ghost use Rattle.mwc_parts.specs.Wording.{IsLast};
+ghost use Rattle.mwc_pipe.specs.declared.word.Word.TheVariants.{End, Open};
 
 use crate::guarded::{Gate, Guarded};
 use crate::job::Job;
@@ -18,6 +19,16 @@ use mwc_pipe::{Closed, RingIn, RingOut, Unfinished, Word};
 use mwc_walk::slice_count;
 use std::sync::Wait;
 
+/// The slice that a task gives, of this number of slices; none where the work ends.
+fn slice_of(task: Word, slices: u16) -> Option<u16>
+    ensures { MatchOption result (IsLast slices task) (λ j. (j < slices) × (task ≡ Open j)) }
+{
+    match task {
+        Word::Open(slice) if slice < slices => Some(slice),
+        _ => None,
+    }
+}
+
 /// Waits for the next slice; none where the work ends.
 fn next_task<R: Wait>(rt: &R, slices: u16, tasks: &mut RingOut, pair: BellPair<'_>) -> Option<u16>
     ensures ring { tasks.new.ring ≡ tasks.old.ring }
@@ -29,10 +40,7 @@ fn next_task<R: Wait>(rt: &R, slices: u16, tasks: &mut RingOut, pair: BellPair<'
         if let Some(task) = tasks.take() {
             patience.renew(pair.own);
             pair.other.ring();
-            return match task {
-                Word::Open(slice) => { if slice < slices { Some(slice) } else { None } }
-                _ => None,
-            };
+            return slice_of(task, slices);
         }
         patience.wait(rt, pair.own);
     }

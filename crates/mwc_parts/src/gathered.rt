@@ -1,6 +1,7 @@
 //! All parts.
 ghost use Rattle.std.specs.Prelude.{◌≡◌, ℕ, ◌<◌, List, All, IfOk, map};
 ghost use Rattle.std.specs.List.{flat_map, range_with_len};
+ghost use Rattle.coalitions.specs.Lists.{joined};
 ghost use Rattle.mwc_parts.specs.Parts.{HasPieces, HasEachSliceOnce};
 
 use crate::part::Part;
@@ -49,7 +50,7 @@ impl Gathered {
             map (λ p. p.now) row.items ≡ map slice (range_with_len 0 self.now.slices)) }
         ensures joined { (slice : ℕ → List ℕ) → All (HasPieces slice) self.now.parts.items
             → IfOk result (λ row.
-            flat_map (λ p. p.now) row.items ≡
+            joined row.items ≡
             flat_map slice (range_with_len 0 self.now.slices)) }
     {
         let mut row = Vec::new(alloc);

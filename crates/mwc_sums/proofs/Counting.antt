@@ -2,7 +2,7 @@
 use Rattle.mwc_sums.proofs.Imports.{list_all, list_any, range_with_len, nat_tests, length-range_with_len, All-filter, AllPass-from_list_all}
 use Rattle.mwc_sums.proofs.Imports.{◌∙◌, ◌&&◌, not, ◌⊎◌, ℕ, ◌<◌, Bool, true, false, All, List, filter, ap, sym, arith, inl, inr, length-map}
 use Rattle.mwc_sums.proofs.Imports.{places-at, cond, [], ◌∷◌, map, refl, All-head, All-tail, suc, ◌+◌, ◌*◌, ◌^◌, ◌++◌, length, get_or, ◌≡◌}
-use Rattle.mwc_sums.proofs.Imports.{filter-append, and-true, down, down-below}
+use Rattle.mwc_sums.proofs.Imports.{filter-append, filter-both, and-true, down, down-below}
 use Rattle.std.proofs.lemmas.{Bool.cases_Bool, List.Elements.filter_passes, List.Folds.Any-from_list_any, List.Folds.list_any_at}
 use Rattle.std.proofs.{Common.length-append, Math.Bool.and-false}
 use Rattle.mwc_sums.proofs.Completing.{double-pow, down-two}
@@ -28,7 +28,8 @@ pub missing : (veto f : ℕ → Bool) (n : ℕ)
     → ((i : ℕ) × (i < n) × (veto i ≡ true) × (f i ≡ false)) ⊎ ((i : ℕ) → i < n → veto i ≡ true → f i ≡ true)
 missing veto f n =
     elim (cases_Bool (list_any (λ i. veto i && not (f i)) (range_with_len 0 n))) [
-      | inl some ↦ let (i, lt, passes) = any-of (λ i. veto i && not (f i)) n some in inl (i, lt, grind (arith, nat_tests), grind (arith, nat_tests))
+      | inl some ↦ let (i, lt, passes) = any-of (λ i. veto i && not (f i)) n some in
+          inl (i, lt, grind (arith, nat_tests), grind (arith, nat_tests))
       | inr none ↦ inr (λ i lt vetoes. let some = any-at (λ i. veto i && not (f i)) n i lt in grind (arith, nat_tests))
     ]
 
@@ -47,16 +48,13 @@ filter-same p q (x ∷ xs) same =
     let rest = filter-same p q xs (All-tail (λ x. p x ≡ q x) x xs same) in
     λ i. cond (All-head (λ x. p x ≡ q x) x xs same i) (x ∷ rest i) (rest i)
 
-pub filter-both : {X : Type 0} (p q : X → Bool) (xs : List X) → filter q (filter p xs) ≡ filter (λ x. p x && q x) xs
-filter-both p q [] = refl
-filter-both p q (x ∷ xs) = grind (arith, nat_tests, filter-both p q xs)
-
 pub filter-map : {X Y : Type 0} (p : Y → Bool) (f : X → Y) (xs : List X) → filter p (map f xs) ≡ map f (filter (λ x. p (f x)) xs)
 filter-map p f [] = refl
 filter-map p f (x ∷ xs) = grind (arith, nat_tests, filter-map p f xs)
 
 -- of what passes one test, what passes another, where this passes the first
-pub filter-within : {X : Type 0} (p q : X → Bool) (xs : List X) → All (λ y. q y ≡ true → p y ≡ true) xs → filter q (filter p xs) ≡ filter q xs
+pub filter-within : {X : Type 0} (p q : X → Bool) (xs : List X) → All (λ y. q y ≡ true → p y ≡ true) xs
+    → filter q (filter p xs) ≡ filter q xs
 filter-within p q xs all = grind (arith, filter-both, filter-same, nat_tests)
 
 -- ---- how many pass a test

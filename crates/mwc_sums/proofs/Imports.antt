@@ -1,5 +1,5 @@
 -- The words of other libraries and of the definitions that two or more files of these proofs take; `tools/imports.py` writes them.
-pub use Rattle.coalitions.proofs.Shared.Ranges.{sum_by-range-more}
+pub use Rattle.coalitions.proofs.Shared.{Lists.filter-both, Lists.sum-plus, Lists.sum-zero, Ranges.sum_by-range-more}
 pub use Rattle.council_game.proofs.Shared.{Making.RanksAre, Making.ranks-are, Weights.weight-without, WinningByPlaces.rule-is}
 pub use Rattle.council_game.proofs.Shared.{Listing.down-below, Rankings.places-at, RuleLists.held_full}
 pub use Rattle.council_game.specs.{Game.GameView, Game.IsGame, Game.votes_of, Ranks.member_at, Ranks.members_by_rank, Rules.rule_views}
@@ -7,14 +7,13 @@ pub use Rattle.council_game.specs.Votes.{IsVotes, RuleView, Votes, minimal, rule
 pub use Rattle.mwc_sums.specs.Chambers.{AreChambersOf, HasNoWeight, chamber_of, met, minimal_of_size, share, weighs}
 pub use Rattle.mwc_sums.specs.{Inner.Seats.IsTallyOfPlace, Inner.Seats.key_at, Statute.is_counted, Statute.rules_beside, Statute.statute}
 pub use Rattle.mwc_sums.specs.{Heads.are_of_one_chamber, Inner.Fair.IsFair, Inner.Rules.AreRulesOf, Vetoers.can_veto}
-pub use Rattle.power_index.proofs.Shared.Minimal.{minimal-few}
-pub use Rattle.power_index.proofs.Shared.Sums.{sum-filter, sum-plus, sum-range, sum-zero}
+pub use Rattle.power_index.proofs.Shared.{Minimal.minimal-few, Sums.sum-filter, Sums.sum-range}
 pub use Rattle.power_index.specs.{Counting.contains, Counting.size_of, Tables.IsTallyOf, Tables.no_tally}
-pub use Rattle.std.proofs.Common.{All, Bool, List, [], ap, arith, cond, eqb-true, false, filter, get_or, inl, inr, le-ltb, leb, length, lt-ltb}
-pub use Rattle.std.proofs.Common.{ltb, ltb-true, map, not, refl, string_bytes, subst, suc, sum, sum_by, sym, take, true, zero, ℕ, ◌&&◌, ◌*◌}
-pub use Rattle.std.proofs.Common.{◌++◌, ◌+◌, ◌-◌, ◌<◌, ◌==◌, ◌^◌, ◌||◌, ◌↔◌, ◌∙◌, ◌∷◌, ◌≡◌, ◌≢◌, ◌≤◌, ◌⊎◌}
-pub use Rattle.std.proofs.lemmas.List.{length-map, Filters.length-filter_both, FromFn.length-map-range_with_len, FromFn.length-range_with_len}
-pub use Rattle.std.proofs.{Math.Bool.and-true, lemmas.Bool.Decides.nat_tests}
+pub use Rattle.std.proofs.Common.{lt-ltb, ltb, ltb-true, map, not, refl, string_bytes, subst, suc, sum, sum_by, sym, take, true, zero, ℕ}
+pub use Rattle.std.proofs.Common.{All, Bool, List, [], ap, arith, cond, eqb-true, false, filter, get_or, inl, inr, le-ltb, leb, length}
+pub use Rattle.std.proofs.Common.{◌&&◌, ◌*◌, ◌++◌, ◌+◌, ◌-◌, ◌<◌, ◌==◌, ◌^◌, ◌||◌, ◌↔◌, ◌∙◌, ◌∷◌, ◌≡◌, ◌≢◌, ◌≤◌, ◌⊎◌}
+pub use Rattle.std.proofs.lemmas.List.{Filters.length-filter_both, FromFn.length-map-range_with_len, FromFn.length-range_with_len}
+pub use Rattle.std.proofs.{Math.Bool.and-true, lemmas.Bool.Decides.nat_tests, lemmas.List.length-map}
 pub use Rattle.std.proofs.lemmas.Bool.{and_from, and_parts, both_ways, cases_eq, cases_lt, true_from_ne_false}
 pub use Rattle.std.proofs.lemmas.List.Elements.{All-filter, All-from_get_or, All-from_recursion, All-head, All-tail, filter-append}
 pub use Rattle.std.proofs.lemmas.List.Sums.{AllPass-from_list_all, length-filter, list_all-from_AllPass, sum_by-cons}

@@ -1,9 +1,9 @@
 -- As many coalitions pass one test as pass another, and sets that win where they win under two conditions.
 use Rattle.mwc_sums.proofs.Imports.{◌≡◌, ◌∙◌, ◌↔◌, ◌==◌, ◌&&◌, ℕ, zero, suc, ◌^◌, ◌<◌, Bool, true, false, List, length, get_or, filter, sym}
 use Rattle.mwc_sums.proofs.Imports.{ap, refl, arith, inl, inr, sum_by, both_ways, cases_eq, sum_by-cons, length-filter, down, sum-zero}
-use Rattle.mwc_sums.proofs.Imports.{nat_tests, ◌||◌, true_from_ne_false, ◌+◌, and-true, and_parts, and_from, size}
-use Rattle.power_index.proofs.Shared.Sums.{exchange}
-use Rattle.mwc_sums.proofs.{Counting.filter-both, VetoRules.sum-parts}
+use Rattle.mwc_sums.proofs.Imports.{nat_tests, ◌||◌, true_from_ne_false, ◌+◌, and-true, and_parts, and_from, size, filter-both}
+use Rattle.coalitions.proofs.Shared.Lists.{sum-swap}
+use Rattle.mwc_sums.proofs.VetoRules.{sum-parts}
 use Rattle.mwc_sums.proofs.Seating.{one_if, IsLeast, IsSeating, seen, less, LooksAt, as_mask, mask-is, mask-less, mask-seen, seen-size}
 use Rattle.std.proofs.lemmas.Bool.{false_from_ne_true}
 
@@ -68,8 +68,8 @@ module _ {p : ℕ → Bool} {q : ℕ → ℕ → Bool} {one two : ℕ → ℕ} {
   paired-off t v same =
       count-both p t (down n)
       ∙ sum-down (λ c. one_if (p c && t c)) (λ c. sum_by (λ x. sum_by (of t c x) (down b)) (down a)) n (λ c lc. sym (each t c (p c) refl lc))
-      ∙ exchange (λ c x. sum_by (of t c x) (down b)) (down n) (down a)
-      ∙ sum-down _ _ a (λ x lx. exchange (λ c y. of t c x y) (down n) (down b)
+      ∙ sum-swap (λ c x. sum_by (of t c x) (down b)) (down n) (down a)
+      ∙ sum-down _ _ a (λ x lx. sum-swap (λ c y. of t c x y) (down n) (down b)
       ∙ sum-down _ _ b (λ y ly. sum-one (λ c. of t c x y) (both x y) n (are.below x y) (λ c lc other. of-none t c x y (λ e h. other e))
       ∙ grind (arith, nat_tests, same x y lx ly)))
 
@@ -144,7 +144,8 @@ module _ {n : ℕ} {own other : ℕ → Bool} {won_g won_a won_b : (ℕ → Bool
 -- of a least set those of one side are a coalition
 half-seen : {n a : ℕ} {own other : ℕ → Bool} {won_g won_a won_b : (ℕ → Bool) → Bool} {ra : List ℕ} {min_a : ℕ → Bool}
     → IsJoint n own other won_g won_a won_b → Holds n won_a a ra min_a → (c : ℕ → Bool) → IsLeast n won_g c
-    → ((i : ℕ) → i < n → seen a ra (as_mask a ra (λ i. c i && own i)) i ≡ (c i && own i)) × (min_a (as_mask a ra (λ i. c i && own i)) ≡ true)
+    → ((i : ℕ) → i < n → seen a ra (as_mask a ra (λ i. c i && own i)) i ≡ (c i && own i))
+    × (min_a (as_mask a ra (λ i. c i && own i)) ≡ true)
 half-seen {a = a} {own = own} {ra = ra} joint ha c least =
     let f : ℕ → Bool = λ i. c i && own i in
     let same = mask-seen ha.seats f (ha.inside f (least-half joint f least (λ i lt. refl))) in
@@ -231,7 +232,8 @@ alike-count {n = n} {a = a} {b = b} {won = won} {ra = ra} {rb = rb} {own = own} 
       inside = λ f least i lt in'. absurd (both_ways true (least.needs i lt in') refl);
     }
 
-    each : (x y : ℕ) → x < 2 ^ b → y < 2 ^ 0 → (m : Bool) → other x ≡ m → one_if ((m && true) && t (union joint ha hb none x y)) ≡ one_if (m && u x)
+    each : (x y : ℕ) → x < 2 ^ b → y < 2 ^ 0 → (m : Bool) → other x ≡ m
+        → one_if ((m && true) && t (union joint ha hb none x y)) ≡ one_if (m && u x)
     each x y lx ly false is = refl
     each x y lx ly true is = ap (λ (b : Bool). one_if b) (same (union joint ha hb none x y) x (λ i lt.
         joined joint ha hb none x y lx ly (grind (arith, nat_tests)) i lt ∙ grind (arith, nat_tests)))

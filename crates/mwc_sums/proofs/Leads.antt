@@ -1,9 +1,9 @@
 -- The coalitions that meet a quota and have as many members as are asked for, those that members lead to, the heaviest first, and how many.
 use Rattle.mwc_sums.proofs.Imports.{◌≡◌, ◌∙◌, ◌↔◌, ◌⊎◌, ◌&&◌, ℕ, ◌+◌, ◌-◌, ◌*◌, ◌^◌, ◌<◌, ◌≤◌, Bool, true, cond, leb, List, [], ◌∷◌, length}
 use Rattle.mwc_sums.proofs.Imports.{get_or, take, sym, ap, subst, arith, range_with_len, cases_lt, eqb-true, length-filter, RuleView, Votes}
+use Rattle.mwc_sums.proofs.Imports.{nat_tests, refl, false, ltb, ◌++◌, map, filter, inl, inr, le-ltb, lt-ltb, down, minimal_coalitions, suc}
 use Rattle.mwc_sums.proofs.Imports.{IsVotes, has, without, weight, size, wins, minimal, rule_at, weight-without, rule-is, sum-range, zero}
-use Rattle.mwc_sums.proofs.Imports.{nat_tests, refl, false, ltb, ◌++◌, map, filter, inl, inr, le-ltb, lt-ltb, down, minimal_coalitions}
-use Rattle.mwc_sums.proofs.Imports.{suc, ◌==◌, ◌||◌, not, down-below}
+use Rattle.mwc_sums.proofs.Imports.{◌==◌, ◌||◌, not, down-below}
 use Rattle.std.proofs.lemmas.{Bool.cond-false, Bool.cond-true, List.get_or-replicate, List.length-replicate}
 use Rattle.std.proofs.Common.{replicate}
 use Rattle.power_index.proofs.Shared.Sums.{sum-times}
@@ -12,6 +12,7 @@ use Rattle.mwc_sums.proofs.Completing.{IsLeast, wins-one, last-in, last-behind, 
 use Rattle.mwc_sums.proofs.Completing.{rest-in, rest-out, size-left, size-with, weight-left, weight-with, same_test}
 use Rattle.mwc_sums.proofs.{Placed.minimal-min, Seating.IsMin, VetoRules.weight-sum}
 use Rattle.council_game.proofs.Shared.WeightByDigits.{weight-nil}
+use Rattle.weight_sums.proofs.Shared.Choices.{choose-none, left_out-past}
 use Rattle.weight_sums.specs.Endings.{choose, one_of_size, fill, endings, left_out}
 use Rattle.mwc_sums.proofs.Counting.{filter-none, filter-same, count, count-and, count-first, count-never, count-parted, filter-first}
 use Rattle.council_game.specs.Votes.{IsRanked}
@@ -30,7 +31,8 @@ size-without : (n p c : ℕ) → p < n → has n p c ≡ true → size n (withou
 unfolding has without
 size-without n p c lt inside =
     let long : length (replicate n 1) ≡ n = length-replicate {A = ℕ} n 1 in
-    let ones = λ (d : ℕ). rw long at (alike-weight (replicate n 1) 1 d (λ q low. get_or-replicate {A = ℕ} n q 1 0 (omega (arith, low, long)))) in
+    let ones =
+    λ (d : ℕ). rw long at (alike-weight (replicate n 1) 1 d (λ q low. get_or-replicate {A = ℕ} n q 1 0 (omega (arith, low, long)))) in
     let less = rw long at (weight-without (replicate n 1) p c (omega (arith, lt, long)) (rw long (eqb-true _ _ inside))) in
     omega (arith, less, get_or-replicate {A = ℕ} n p 1 0 lt, ones c, ones (c - 2 ^ (n - 1 - p)))
 
@@ -56,7 +58,8 @@ two-wins n heads x (r ∷ s ∷ []) two asks full =
     let enough = asks.enough (size n x) in
     grind (arith, nat_tests)
 
-first-wins : (rs : List RuleView) (x : ℕ) → 1 ≤ length rs → (wins (take 1 rs) x ≡ true) ↔ ((rule_at rs 0).quota ≤ weight (rule_at rs 0).weights x)
+first-wins : (rs : List RuleView) (x : ℕ) → 1 ≤ length rs
+    → (wins (take 1 rs) x ≡ true) ↔ ((rule_at rs 0).quota ≤ weight (rule_at rs 0).weights x)
 first-wins [] x some = absurd (omega (arith, some))
 first-wins (r ∷ rs) x some = wins-one r x
 
@@ -88,17 +91,6 @@ leads-in w ws heads r a c = grind (arith, cond-false, le-ltb)
 -- ---- how many coalitions of n places that have none of place p have a size; all, where p is no place
 abbrev lacks : ℕ → ℕ → ℕ → Bool
 lacks n p c = not (ltb p n && has n p c)
-
-left_out-past : (p : ℕ) (ws : List ℕ) → length ws ≤ p → left_out p ws ≡ ws
-unfolding left_out
-left_out-past p [] le = refl
-left_out-past zero (w ∷ ws) le = absurd (omega (arith, le))
-left_out-past (suc p) (w ∷ ws) le = ap (λ (l : List ℕ). w ∷ l) (left_out-past p ws (omega (arith, le)))
-
-choose-none : (n : ℕ) → choose n 0 ≡ 1
-unfolding choose
-choose-none zero = refl
-choose-none (suc n) = refl
 
 chosen : (ws : List ℕ) (p k : ℕ)
     → count (λ c. lacks (length ws) p c && (size (length ws) c == k)) (down (2 ^ length ws)) ≡ choose (length (left_out p ws)) k
@@ -157,7 +149,8 @@ leads-lacking (w ∷ ws) (suc p) heads s r a =
     (λ c lt. grind (arith, nat_tests, leads-in, rest-in, size-with)) (λ c lt. grind (arith, nat_tests, leads-out, rest-out, size-left)) in
     grind (arith, nat_tests, parts, filled ws p heads s (a + 1), leads-lacking ws p heads s (r - w) (a + 1), leads-lacking ws p heads s r a)
 
-pub leads-all : (ws : List ℕ) (heads s r a : ℕ) → count (λ c. leads ws heads r a c && (a + size (length ws) c == s)) (down (2 ^ length ws)) ≡ endings ws heads s r a
+pub leads-all : (ws : List ℕ) (heads s r a : ℕ)
+    → count (λ c. leads ws heads r a c && (a + size (length ws) c == s)) (down (2 ^ length ws)) ≡ endings ws heads s r a
 leads-all ws heads s r a =
     let n : ℕ = length ws in
     let lacks-none : (c : ℕ) → true ≡ lacks n n c = λ c. grind (arith, nat_tests) in
@@ -166,7 +159,8 @@ leads-all ws heads s r a =
 
 -- those with a place are those that the members do not lead to without it
 pub leads-parted : (ws : List ℕ) (p heads s r a : ℕ) → p < length ws → endings (left_out p ws) heads s r a
-    + count (λ c. leads ws heads r a c && (has (length ws) p c && (a + size (length ws) c == s))) (down (2 ^ length ws)) ≡ endings ws heads s r a
+    + count (λ c. leads ws heads r a c && (has (length ws) p c && (a + size (length ws) c == s))) (down (2 ^ length ws))
+    ≡ endings ws heads s r a
 leads-parted ws p heads s r a lt =
     let n : ℕ = length ws in
     let parts = count-parted (leads ws heads r a) (has n p) (lacks n p) (λ c. a + size n c == s) (down (2 ^ n)) (λ c. grind (arith, nat_tests, lt)) in
@@ -219,7 +213,8 @@ leads-list (w ∷ ws) r a =
         → filter (λ c. cond b (size (length ws) c == 0 - (a + 1)) (leads ws 0 (r - w) (a + 1) c)) (down (2 ^ length ws))
         ≡ cond b (0 ∷ []) (completing ws (r - w))
     first true again =
-        ap (λ (k : ℕ). filter (λ c. size (length ws) c == k) (down (2 ^ length ws))) (let e : 0 - (a + 1) ≡ 0 = omega arith in e) ∙ nobody (length ws)
+        ap (λ (k : ℕ). filter (λ c. size (length ws) c == k) (down (2 ^ length ws))) (let e : 0 - (a + 1) ≡ 0 = omega arith in e)
+        ∙ nobody (length ws)
     first false again = again
 
 -- ---- in a game of one rule
@@ -244,7 +239,8 @@ minimal-completing v votes one =
     let same : wins v.rules ≡ (λ x. leb r.quota (weight ws x) && leb 0 (size (length ws) x)) = λ k x. one-wins v.rules x one k in
     let led : (c : ℕ) → c < 2 ^ length ws → minimal v c ≡ leads ws 0 r.quota 0 c = λ c lt.
     (let lead = leads-are ws 0 r.quota c (falls-first v.rules votes.ranked) (let some = rule.some in omega (arith, some)) lt in
-    let min = subst (λ (m : ℕ). (minimal v c ≡ true) ↔ IsMin m (λ x. leb r.quota (weight ws x) && leb 0 (size (length ws) x)) c) (sym rule.full)
+    let min =
+    subst (λ (m : ℕ). (minimal v c ≡ true) ↔ IsMin m (λ x. leb r.quota (weight ws x) && leb 0 (size (length ws) x)) c) (sym rule.full)
     (rw same at (minimal-min v c)) in
     same_test _ _ (λ h. lead.1 (min.0 h)) (λ h. min.1 (lead.0 h))) in
     ap (λ (n : ℕ). filter (minimal v) (down (2 ^ n))) (sym rule.full)

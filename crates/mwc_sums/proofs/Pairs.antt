@@ -1,19 +1,20 @@
 -- How many coalitions of a game are one of each of two games together, and the tallies of them.
 use Rattle.mwc_sums.proofs.Imports.{◌≡◌, ◌∙◌, ◌==◌, ◌&&◌, ℕ, ◌+◌, ◌-◌, ◌*◌, ◌^◌, ◌<◌, ◌≤◌, Bool, List, [], ◌∷◌, length, get_or, filter, sym}
+use Rattle.mwc_sums.proofs.Imports.{IsGame, votes_of, size_of, cases_lt, minimal-few, AreChambersOf, minimal_of_size, sum-plus, filter-both}
 use Rattle.mwc_sums.proofs.Imports.{refl, arith, nat_tests, sum_by, range_with_len, sum_by-range-more, has, minimal_coalitions, GameView}
-use Rattle.mwc_sums.proofs.Imports.{IsGame, votes_of, size_of, cases_lt, minimal-few, AreChambersOf, minimal_of_size, sum-plus, ap}
-use Rattle.mwc_sums.proofs.Imports.{of_place_size, leb, true, contains, met, sum_by-cons, sum-range, sum-filter, minimal, down}
+use Rattle.mwc_sums.proofs.Imports.{ap, of_place_size, leb, true, contains, met, sum_by-cons, sum-range, sum-filter, minimal, down}
 use Rattle.mwc_sums.specs.{Chambers.paired, Chambers.minimal_of_member_size, Inner.Pairs.of_member_size, Inner.Pairs.of_size}
 use Rattle.coalitions.proofs.Shared.Ranges.{sum_by-range-le}
 use Rattle.power_index.specs.Counting.{count_of_size, count_of_member_size}
 use Rattle.power_index.proofs.Shared.{Members.size-le, Sums.length-filter-le, Sums.sum-by_size}
-use Rattle.mwc_sums.proofs.{Counting.filter-both, Seating.one_if}
+use Rattle.mwc_sums.proofs.Seating.{one_if}
 use Rattle.mwc_sums.proofs.Joining.{Holds, IsJoint, apart, counted, joined, size-union, union}
 use Rattle.mwc_sums.proofs.Placed.{game-holds, has_weight, met-seen, no-weight, seen-contains}
 
 -- ---- pairs of two lists that have a size together
 -- one of the first list, with those of the second that fill it up to s
-row : (n q : ℕ → Bool) (l : ℕ → ℕ) (m p : Bool) (k s : ℕ) (ys : List ℕ) → sum_by (λ y. one_if ((m && n y) && ((p && q y) && (k + l y == s)))) ys
+row : (n q : ℕ → Bool) (l : ℕ → ℕ) (m p : Bool) (k s : ℕ) (ys : List ℕ)
+    → sum_by (λ y. one_if ((m && n y) && ((p && q y) && (k + l y == s)))) ys
     ≡ one_if (m && (p && leb k s)) * length (filter (λ y. q y && (l y == s - k)) (filter n ys))
 row n q l m p k s [] = omega arith
 row n q l m p k s (y ∷ ys) =

@@ -37,7 +37,8 @@ no-weight (r ∷ rs) i none =
     grind (arith, nat_tests, none 0 r (omega arith), no-weight rs i (λ k d lt. none (suc k) d (omega (arith, lt))))
 
 -- rules see those members who have weight
-pub met-seen : (n : ℕ) (rs : List RuleView) (f h : ℕ → Bool) → ((i : ℕ) → i < n → has_weight rs i ≡ true → f i ≡ h i) → met n rs f ≡ met n rs h
+pub met-seen : (n : ℕ) (rs : List RuleView) (f h : ℕ → Bool) → ((i : ℕ) → i < n → has_weight rs i ≡ true → f i ≡ h i)
+    → met n rs f ≡ met n rs h
 met-seen n [] f h same = refl
 met-seen n (r ∷ rs) f h same =
     let own = sum-range (λ i. cond (f i) 1 0 * get_or r.weights i 0) (λ i. cond (h i) 1 0 * get_or r.weights i 0) 0 n
@@ -57,12 +58,15 @@ module _ {g : GameView} (is : IsGame g) where
   game-seats = record { few = omega arith; are = ranks-are g is; each = game-rank_places g is }
 
   pub seen-contains : (c i : ℕ) → i < length g.names → seen (length g.names) g.ranks c i ≡ contains g i c
-  seen-contains c i lt = ap (λ (b : Bool). b && contains g i c) (lt-ltb (get_or g.ranks i 0) (length g.names) ((ranks-are g is).place_below i lt))
+  seen-contains c i lt =
+      ap (λ (b : Bool). b && contains g i c) (lt-ltb (get_or g.ranks i 0) (length g.names) ((ranks-are g is).place_below i lt))
 
-  wins-each : (rs : List RuleView) (c : ℕ) → wins (map (rule_by_rank g.ranks) rs) c ≡ met (length g.names) rs (seen (length g.names) g.ranks c)
+  wins-each : (rs : List RuleView) (c : ℕ)
+      → wins (map (rule_by_rank g.ranks) rs) c ≡ met (length g.names) rs (seen (length g.names) g.ranks c)
   unfolding wins
   wins-each [] c = refl
-  wins-each (r ∷ rs) c = (λ k. leb r.quota (weight-seen (length g.names) (length g.names) g.ranks game-seats r (rule_by_rank g.ranks r).weights c
+  wins-each (r ∷ rs) c =
+      (λ k. leb r.quota (weight-seen (length g.names) (length g.names) g.ranks game-seats r (rule_by_rank g.ranks r).weights c
       (length-weights_by_rank g.ranks r.weights ∙ game-seats.are.count)
       (λ p lt. ranked-at g.ranks r p (let e = game-seats.are.count in omega (arith, lt, e))) k) && wins-each rs c k)
 

@@ -63,7 +63,8 @@ unfolding as_mask
 mask-less m ranks f = mask-below (λ p. f (member_at ranks p)) m
 
 -- a sum whose last numbers are 0
-sum-cut : (f : ℕ → ℕ) (m n : ℕ) → m ≤ n → ((p : ℕ) → m ≤ p → p < n → f p ≡ 0) → sum_by f (range_with_len 0 n) ≡ sum_by f (range_with_len 0 m)
+sum-cut : (f : ℕ → ℕ) (m n : ℕ) → m ≤ n → ((p : ℕ) → m ≤ p → p < n → f p ≡ 0)
+    → sum_by f (range_with_len 0 n) ≡ sum_by f (range_with_len 0 m)
 sum-cut f m zero le none = ap (λ (k : ℕ). sum_by f (range_with_len 0 k)) (let e : 0 ≡ m = omega (arith, le) in e)
 sum-cut f m (suc n) le none = elim (cases_eq m (suc n)) [
   | inl e ↦ ap (λ (k : ℕ). sum_by f (range_with_len 0 k)) (sym e)
@@ -84,7 +85,8 @@ module _ {n m : ℕ} {ranks : List ℕ} (is : IsSeating n m ranks) where
 
   pub mask-is : (f : ℕ → Bool) (c : ℕ) → c < 2 ^ m → ((i : ℕ) → i < n → seen m ranks c i ≡ f i) → c ≡ as_mask m ranks f
   unfolding as_mask
-  mask-is f c below same = same-places m c (mask_of (λ p. f (member_at ranks p)) m) below (mask-below (λ p. f (member_at ranks p)) m) (λ p lt.
+  mask-is f c below same =
+      same-places m c (mask_of (λ p. f (member_at ranks p)) m) below (mask-below (λ p. f (member_at ranks p)) m) (λ p lt.
       grind (arith, seen-at c p lt, same (member_at ranks p), is.are.member_below p, is.few, mask-has (λ p. f (member_at ranks p)) m p lt))
 
   seen-less : (c i j : ℕ) → i < n → j < n → seen m ranks c i ≡ true
@@ -114,7 +116,8 @@ module _ {n m : ℕ} {ranks : List ℕ} (is : IsSeating n m ranks) where
   seen-size c = seen-sum (λ i b. one_if b) (λ i. refl) c ∙ sym (length-filter (λ p. has m p c) (range_with_len 0 m))
 
   -- a coalition is minimal where its set is
-  pub least-min : (won : (ℕ → Bool) → Bool) → LooksAt n won → (c : ℕ) → IsLeast n won (seen m ranks c) ↔ IsMin m (λ x. won (seen m ranks x)) c
+  pub least-min : (won : (ℕ → Bool) → Bool) → LooksAt n won → (c : ℕ)
+      → IsLeast n won (seen m ranks c) ↔ IsMin m (λ x. won (seen m ranks x)) c
   least-min won looks c =
       let fewer = λ (i : ℕ) (li : i < n) (inside : seen m ranks c i ≡ true).
       looks (seen m ranks (without m (get_or ranks i 0) c)) (less (seen m ranks c) i) (λ j lj. seen-less c i j li lj inside) in (

@@ -1,13 +1,13 @@
 -- The rules that share a member with one, and the others.
-use Rattle.mwc_sums.proofs.Imports.{◌≡◌, ◌≢◌, ◌∙◌, ◌&&◌, ◌||◌, not, ◌⊎◌, ℕ, zero, suc, ◌+◌, ◌<◌, ◌≤◌, Bool, true, false, ltb, List, [], ◌∷◌}
-use Rattle.mwc_sums.proofs.Imports.{HasNoWeight, AreChambersOf, are_of_one_chamber, is_counted, statute, IsFair, AreRulesOf, length, get_or}
-use Rattle.mwc_sums.proofs.Imports.{All-from_get_or, RuleView, rule_at, GameView, nat_tests, met, share, chamber_of, filter, take, sym, ap}
-use Rattle.mwc_sums.proofs.Imports.{true_from_ne_false, length-filter_both, AllPass-from_list_all, list_all-from_AllPass, All-filter, refl}
-use Rattle.mwc_sums.proofs.Imports.{arith, inl, inr, All, ltb-true, both_ways}
+use Rattle.mwc_sums.proofs.Imports.{length, get_or, All-from_get_or, RuleView, rule_at, GameView, nat_tests, met, share, chamber_of, filter}
+use Rattle.mwc_sums.proofs.Imports.{List, [], ◌∷◌, HasNoWeight, AreChambersOf, are_of_one_chamber, is_counted, statute, IsFair, AreRulesOf}
+use Rattle.mwc_sums.proofs.Imports.{filter-both, ◌≡◌, ◌≢◌, ◌∙◌, ◌&&◌, ◌||◌, not, ◌⊎◌, ℕ, zero, suc, ◌+◌, ◌<◌, ◌≤◌, Bool, true, false, ltb}
+use Rattle.mwc_sums.proofs.Imports.{take, sym, ap, true_from_ne_false, length-filter_both, AllPass-from_list_all, list_all-from_AllPass}
+use Rattle.mwc_sums.proofs.Imports.{All-filter, refl, arith, inl, inr, All, ltb-true, both_ways}
 use Rattle.std.proofs.lemmas.List.Elements.{All-take}
 use Rattle.mwc_sums.specs.Inner.Rules.{AreOfChambers, beside_of, part_of, side}
 use Rattle.mwc_sums.specs.Statute.{counted, left}
-use Rattle.mwc_sums.proofs.Counting.{filter-both, filter-within, All-passing, any-at, any-of, missing}
+use Rattle.mwc_sums.proofs.Counting.{filter-within, All-passing, any-at, any-of, missing}
 use Rattle.mwc_sums.proofs.VetoRules.{good-met, good-some, alike-sum}
 
 -- ---- who has weight in two rules
@@ -106,7 +106,8 @@ module _ (n : ℕ) (rs : List RuleView) (fair : All (IsFair n) rs) where
   counted-at r is k lt they =
       grind (arith, nat_tests, AllPass-from_list_all (λ x. not (share n r x) || are_of_one_chamber n (chamber_of n rs x)) rs is k none lt)
 
-  pub own-chamber : (j : ℕ) → j < length rs → is_counted n rs (rule_at rs j) ≡ true → are_of_one_chamber n (chamber_of n rs (rule_at rs j)) ≡ true
+  pub own-chamber : (j : ℕ) → j < length rs → is_counted n rs (rule_at rs j) ≡ true
+      → are_of_one_chamber n (chamber_of n rs (rule_at rs j)) ≡ true
   own-chamber j lt is = counted-at (rule j) is j lt (self j lt)
 
   pub all-counted : length (part_of false n rs) ≡ 0 → AreOfChambers n rs
@@ -156,7 +157,8 @@ module _ (n : ℕ) (rs : List RuleView) (fair : All (IsFair n) rs) where
     }
 
 -- ---- the rules that share a member with one, and the others
-pub beside-chamber : (n : ℕ) (rs : List RuleView) (k : ℕ) → AreOfChambers n rs → k < length rs → are_of_one_chamber n (beside_of true n rs k) ≡ true
+pub beside-chamber : (n : ℕ) (rs : List RuleView) (k : ℕ) → AreOfChambers n rs → k < length rs
+    → are_of_one_chamber n (beside_of true n rs k) ≡ true
 unfolding side
 beside-chamber n rs k all lt = all k (record { quota = 0; weights = [] }) lt
 

@@ -22,7 +22,8 @@ pub row-sum : (ws : List ℕ) (n : ℕ) → length ws ≡ n → sum ws ≡ sum_b
 row-sum ws n long = ap sum (fill_by_all (λ i. get_or ws i 0) ws n 0 long (λ k lt. refl)) ∙ sum-map (λ i. get_or ws i 0) (range_with_len 0 n)
 
 -- what a coalition weighs
-pub weight-sum : (ws : List ℕ) (n c : ℕ) → length ws ≡ n → weight ws c ≡ sum_by (λ p. cond (has n p c) 1 0 * get_or ws p 0) (range_with_len 0 n)
+pub weight-sum : (ws : List ℕ) (n c : ℕ) → length ws ≡ n
+    → weight ws c ≡ sum_by (λ p. cond (has n p c) 1 0 * get_or ws p 0) (range_with_len 0 n)
 unfolding weight
 weight-sum ws n c long = grind (arith, nat_tests, sum-filter)
 
@@ -50,11 +51,13 @@ pub sum-parts : (f g h : ℕ → ℕ) (n : ℕ) → ((i : ℕ) → i < n → f i
 sum-parts f g h n each = sum-range f (λ i. g i + h i) 0 n (λ i _ lt. each i (omega (arith, lt))) ∙ sum-plus g h (range_with_len 0 n)
 
 -- a rule that the others miss without a member is not met without it
-pub missed : (r : RuleView) (f : ℕ → Bool) (n i : ℕ) → length r.weights ≡ n → i < n → f i ≡ false → sum r.weights < r.quota + get_or r.weights i 0
+pub missed : (r : RuleView) (f : ℕ → Bool) (n i : ℕ) → length r.weights ≡ n → i < n → f i ≡ false
+    → sum r.weights < r.quota + get_or r.weights i 0
     → leb r.quota (weighs n r f) ≡ false
 missed r f n i full lt out less =
     let other : ℕ → ℕ = λ j. cond (f j) 0 (get_or r.weights j 0) in
-    let parts = sum-parts (λ j. get_or r.weights j 0) (λ j. cond (f j) 1 0 * get_or r.weights j 0) other n (λ j lj. grind (arith, nat_tests)) in
+    let parts =
+    sum-parts (λ j. get_or r.weights j 0) (λ j. cond (f j) 1 0 * get_or r.weights j 0) other n (λ j lj. grind (arith, nat_tests)) in
     let some = get_or-le-sum_by other (range_with_len 0 n) i 0 (let long = length-range_with_len 0 n in omega (arith, lt, long)) in
     grind (arith, nat_tests, parts, some, places-at n i 0 lt, row-sum r.weights n full)
 
@@ -75,7 +78,8 @@ module _ (n : ℕ) (veto f : ℕ → Bool) where
   -- ---- what is left of a rule
   rest-weighs : ((i : ℕ) → i < n → veto i ≡ true → f i ≡ true) → (r : RuleView)
       → weighs n r f ≡ sum_by (λ i. cond (veto i) (get_or r.weights i 0) 0) (range_with_len 0 n) + weighs n (rest_of n veto r) f
-  rest-weighs all r = sum-parts _ _ _ n (λ i lt. grind (arith, nat_tests, all i lt, made-at (λ j. cond (veto j) 0 (get_or r.weights j 0)) n i lt))
+  rest-weighs all r =
+      sum-parts _ _ _ n (λ i lt. grind (arith, nat_tests, all i lt, made-at (λ j. cond (veto j) 0 (get_or r.weights j 0)) n i lt))
 
   rests-met : ((i : ℕ) → i < n → veto i ≡ true → f i ≡ true) → (rs : List RuleView) → met n rs f ≡ met n (map (rest_of n veto) rs) f
   rests-met all [] = refl
@@ -167,7 +171,8 @@ fair-vetoers n veto some = grind (arith, length-map-range_with_len, good, sum-ma
 fair-rest : (n : ℕ) (veto : ℕ → Bool) (r : RuleView) → IsFair n r → 0 < (rest_of n veto r).quota → IsFair n (rest_of n veto r)
 fair-rest n veto r fair some =
     let all = row-sum r.weights n fair.full in
-    let parts = sum-parts (λ i. get_or r.weights i 0) (λ i. cond (veto i) (get_or r.weights i 0) 0) (λ i. cond (veto i) 0 (get_or r.weights i 0)) n
+    let parts =
+    sum-parts (λ i. get_or r.weights i 0) (λ i. cond (veto i) (get_or r.weights i 0) 0) (λ i. cond (veto i) 0 (get_or r.weights i 0)) n
     (λ i lt. grind (arith, nat_tests)) in grind (arith, nat_tests, length-map-range_with_len, good, good-met, sum-map, light-made)
 
 -- each rule that is left is fair, since it asks for something
@@ -215,6 +220,7 @@ module _ (g : GameView) (is : IsGame g) where
       grind (arith, nat_tests, nobody (λ i. get_or (rule_at g.rules 0).weights i 0) (length g.names)))
 
   pub statute-some : 0 < length (statute g)
-  statute-some = grind (arith, nat_tests, lost, statute-are.alike (λ i. false), cases_lt 0 (length (statute g)), nil_from_length (statute g))
+  statute-some =
+      grind (arith, nat_tests, lost, statute-are.alike (λ i. false), cases_lt 0 (length (statute g)), nil_from_length (statute g))
 
 pub ruleset statutes = (statute-are, statute-fair, statute-few, statute-some)

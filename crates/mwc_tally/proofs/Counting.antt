@@ -1,7 +1,7 @@
 -- Slices counted one after the other, and in any order.
 use Rattle.std.proofs.Common.{◌≡◌, ◌∙◌, ℕ, ◌+◌, ◌^◌, ◌<◌, ◌≤◌, Bool, List, [], ◌∷◌, ◌++◌, length, sym, ap, refl, arith, subst}
 use Rattle.std.proofs.Common.{length-append, All, filter, flat_map, sum_by, IsPermutation, append_assoc, append-nil}
-use Rattle.std.proofs.lemmas.List.{Concat.flat_map-append, Concat.length-flat_map, Elements.All-filter, Elements.filter-append}
+use Rattle.std.proofs.lemmas.List.{get_or_at, Concat.flat_map-append, Concat.length-flat_map, Elements.All-filter, Elements.filter-append}
 use Rattle.std.proofs.lemmas.{Grind.common_steps, List.Sorted.sum_by-IsPermutation, List.Sums.sum_by-cons}
 use Rattle.std.specs.List.{range_with_len}
 use Rattle.council_game.specs.{Game.GameView, Game.IsGame, Game.votes_of, Votes.minimal_coalitions}
@@ -13,7 +13,6 @@ use Rattle.power_index.proofs.Shared.{Minimal.minimal-are-coalitions, Minimal.mi
 use Rattle.coalitions.proofs.Shared.Ranges.{range-more, sum_by-range-more, sum_by-range-le}
 use Rattle.mwc_tally.specs.Inner.Shares.{CountedUpTo, CountSlices, CountWhole, slice_of}
 use Rattle.mwc_tally.specs.declared.sliced_game.SlicedGame.{SlicedGame}
-use Rattle.std.proofs.lemmas.List.{get_or_at}
 
 -- a walk that is counted as it goes, where c is next
 module _ {g : GameView} {whole to_come rest : List ℕ} {c : ℕ} {t : Tables} (next : to_come ≡ c ∷ rest)

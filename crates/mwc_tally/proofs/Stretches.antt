@@ -6,7 +6,8 @@ use Rattle.std.proofs.lemmas.Grind.{common_steps}
 use Rattle.council_game.specs.Game.{GameView}
 use Rattle.power_index.specs.Tables.{Tables, AreTallies, AreCounts}
 use Rattle.power_index.proofs.Shared.{Pieces.pieces-all, Sound.tallies-are_counts}
-use Rattle.mwc_tally.specs.{Inner.Threads.IsGivenStretch, Pieces.joined, declared.pieces.GivenStretch.GivenStretch}
+use Rattle.coalitions.specs.Lists.{joined}
+use Rattle.mwc_tally.specs.{Inner.Threads.IsGivenStretch, declared.pieces.GivenStretch.GivenStretch}
 pub use Rattle.std.proofs.lemmas.List.Concat.{flat_map-append, length-flat_map}
 
 pub drop-append : (n : ℕ) (xs ys : List ℕ) → drop n (xs ++ ys) ≡ drop n xs ++ drop (n - length xs) ys

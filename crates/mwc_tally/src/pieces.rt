@@ -3,7 +3,7 @@ ghost use Rattle.coalitions.specs.declared.limits.TheConstants.{MEMBERS, WORKERS
 ghost use Rattle.council_game.specs.Game.{AreNonemptyCoalitions};
 ghost use Rattle.power_index.specs.Tables.{AreCounts, AreTallies};
 ghost use Rattle.std.specs.Prelude.{◌≡◌, ◌+◌, ◌*◌, ◌<◌, ◌≤◌, ◌^◌, ⊤, IfOk, IfErr, MatchOption, length, drop, take};
-ghost use Rattle.mwc_tally.specs.Pieces.{joined};
+ghost use Rattle.coalitions.specs.Lists.{joined};
 ghost use Rattle.mwc_tally.specs.Inner.Threads.{CanBeCounted, CountFirst, CountStretch, IsGivenStretch};
 
 use crate::fault::TallyFault;
@@ -25,7 +25,7 @@ pub(crate) struct GivenStretch<'s> {
 
 impl<'s> Promise<Counts> for GivenStretch<'s> {
     ghost use Rattle.std.specs.Prelude.{take, drop};
-    ghost use Rattle.mwc_tally.specs.Pieces.{joined};
+    ghost use Rattle.coalitions.specs.Lists.{joined};
     ghost use Rattle.power_index.specs.Tables.{AreTallies};
 
     ghost kept_by = { λ t counts. AreTallies t.game.value

@@ -4,17 +4,18 @@ pub use Rattle.council_game.proofs.Shared.{Meanings.needs-each-member, Weights.w
 pub use Rattle.council_game.proofs.Shared.Listing.{listing-is}
 pub use Rattle.council_game.specs.Game.{votes_of}
 pub use Rattle.council_game.specs.Votes.{IsRanked, IsRule, IsVotes, RuleView, Votes, rule_at, weight}
-pub use Rattle.mwc_walk.specs.declared.{cursor.Cursor.Cursor, step.Step.TheVariants.End, step.Step.TheVariants.Give, step.Step.TheVariants.On}
-pub use Rattle.mwc_walk.specs.{Inner.Covers.Covers, Inner.Covers.InInterval, declared.intervals.Intervals.Intervals, declared.lane.Lane.Lane}
-pub use Rattle.mwc_walk.specs.{Inner.Spared.IsNeed, Inner.Spared.Tried, Inner.Vetoes.IsSplit, Inner.Vetoes.vetoes_at, declared.step.Step.Step}
-pub use Rattle.mwc_walk.specs.Inner.Prices.{IsPrice}
+pub use Rattle.mwc_walk.specs.declared.{lane.Lane.Lane, step.Step.TheVariants.End, step.Step.TheVariants.Give, step.Step.TheVariants.On}
+pub use Rattle.mwc_walk.specs.{Inner.Asked.asked_at, Inner.Covers.Covers, Inner.Covers.InInterval, declared.intervals.Intervals.Intervals}
+pub use Rattle.mwc_walk.specs.{Inner.Vetoes.IsSplit, Inner.Vetoes.vetoes_at, declared.cursor.Cursor.Cursor, declared.step.Step.Step}
+pub use Rattle.mwc_walk.specs.Inner.{Prices.IsPrice, Spared.IsNeed, Spared.Tried}
 pub use Rattle.mwc_walk.specs.Inner.Cursor.{CursorIs, IsPlace, SomeSteps, rest_of_slice, steps_left}
 pub use Rattle.mwc_walk.specs.Inner.Lanes.{lane_at, lane_reaches, lane_wins, lane_with, lane_without, no_lane}
 pub use Rattle.mwc_walk.specs.Inner.Places.{IsExcess, LaneIs, LanesStand, NothingBelow}
-pub use Rattle.std.proofs.Common.{subst, suc, sum, sym, take, true, w64, zero, ℕ, ◌%◌, ◌&&◌, ◌*◌, ◌++◌, ◌+◌, ◌-◌, ◌/◌, ◌<◌, ◌^◌, ◌∙◌, ◌∷◌, ◌≡◌}
-pub use Rattle.std.proofs.Common.{All, Bool, List, [], ap, append-nil, arith, below_more, drop, eq-eqb, eqb, eqb-true, false, filter, get_or}
-pub use Rattle.std.proofs.Common.{length-take-le, map, min, pow-add, pow_mono, pow_pos, refl, rules, shr-shr, slice_index, slice_index_or, ◌≤◌}
-pub use Rattle.std.proofs.Common.{get_or-set_same, get_or-take, inl, inr, le-leb, leb, leb-true, length, length-drop, length-take}
+pub use Rattle.std.proofs.Common.{get_or, get_or-set_same, get_or-take, inl, inr, le-leb, leb, leb-true, length, length-drop, length-take}
+pub use Rattle.std.proofs.Common.{length-take-le, map, min, pow-add, pow_mono, pow_pos, refl, rules, shr-shr, slice_index, slice_index_or}
+pub use Rattle.std.proofs.Common.{subst, suc, sum, sym, take, true, w64, zero, ℕ, ◌%◌, ◌&&◌, ◌*◌, ◌++◌, ◌+◌, ◌-◌, ◌/◌, ◌<◌, ◌^◌, ◌∙◌, ◌∷◌}
+pub use Rattle.std.proofs.Common.{All, Bool, List, [], ap, append-nil, arith, below_more, drop, eq-eqb, eqb, eqb-true, false, filter}
+pub use Rattle.std.proofs.Common.{◌≡◌, ◌≤◌}
 pub use Rattle.std.proofs.lemmas.Bool.{and_from, and_left, and_parts, both_ways, cases_Bool, cases_eq, cases_lt, cond-false, cond-true}
 pub use Rattle.std.proofs.lemmas.Bool.{cond_both, false_from_ne_true}
 pub use Rattle.std.proofs.lemmas.List.{drop_all, get_or_default, length-map, Sums.list_all-from_AllPass, Sums.sum_by-take-drop}

@@ -5,6 +5,7 @@ use Rattle.mwc_walk.proofs.Imports.{◌≡◌, ℕ, zero, suc, ◌+◌, ◌*◌,
 use Rattle.mwc_walk.proofs.Imports.{without, minimal, minimal_coalitions, minimal_below, needs-each-member, slice, in_slice, ◌-◌, ◌%◌, ap}
 use Rattle.mwc_walk.proofs.Imports.{arith, common_steps, filter, cases_Bool, append-nil, filter-append, pow_pos, down}
 use Rattle.std.proofs.{Common.zero-add, Common.ne_eqb, Math.Bool.and-true, Math.Nat.lt-div-mul-add, lemmas.Bool.and_right}
+use Rattle.coalitions.proofs.Shared.Lists.{filter-both}
 use Rattle.mwc_walk.proofs.Rules.{wins-below, loses-below}
 
 -- the numbers from low on, as many as there are more
@@ -18,11 +19,6 @@ down-split low zero = ap down (let e : low + 0 ≡ low = omega arith in e)
 down-split low (suc more) =
     let e : low + suc more ≡ suc (low + more) = omega arith in
     ap down e ∙ ap (λ (l : List ℕ). (low + more) ∷ l) (down-split low more)
-
--- both tests at once
-filter-filter : (q p : ℕ → Bool) (xs : List ℕ) → filter q (filter p xs) ≡ filter (λ c. p c && q c) xs
-filter-filter q p [] = refl
-filter-filter q p (x ∷ xs) = grind (arith, filter-filter q p xs, cases_Bool)
 
 -- tests that agree on these numbers
 filter-above : (p q : ℕ → Bool) (low more : ℕ) → ((c : ℕ) → low ≤ c → c < low + more → p c ≡ q c)
@@ -41,7 +37,7 @@ filter-down_skip p low (suc more) fails =
 
 pub filter-filter_skip : (q p : ℕ → Bool) (low more : ℕ) → ((c : ℕ) → low ≤ c → c < low + more → q c ≡ false)
     → filter q (filter p (down (low + more))) ≡ filter q (filter p (down low))
-filter-filter_skip q p low more fails = grind (arith, common_steps, and_right, filter-down_skip, filter-filter)
+filter-filter_skip q p low more fails = grind (arith, common_steps, and_right, filter-down_skip, filter-both)
 
 pub filter-filter_none : (q p : ℕ → Bool) (n : ℕ) → ((c : ℕ) → c < n → q c ≡ false) → filter q (filter p (down n)) ≡ []
 unfolding down
@@ -56,7 +52,7 @@ pub filter-block : (q p : ℕ → Bool) (low more : ℕ) → ((c : ℕ) → low 
     → filter p (down (low + more)) ≡ filter q (filter p (down (low + more))) ++ filter p (down low)
 filter-block q p low more passes fails =
     let top : filter q (filter p (above low more)) ≡ filter p (above low more) =
-    filter-filter q p (above low more) ∙ filter-above _ p low more (λ c from to. rw (passes c from to) (and-true (p c))) in
+    filter-both p q (above low more) ∙ filter-above _ p low more (λ c from to. rw (passes c from to) (and-true (p c))) in
     let none = filter-filter_none q p low fails in grind (arith, down-split, filter-append, append-nil)
 
 -- ---- the numbers of a block, which have one quotient

@@ -4,11 +4,11 @@ use Rattle.mwc_walk.proofs.Imports.{both_ways, and_parts, and_from, le-leb, Curs
 use Rattle.mwc_walk.proofs.Imports.{rule_at, has, without, weight, wins, minimal, lowest-place, needs-each-member, Lane, eq-eqb, IsSplit}
 use Rattle.mwc_walk.proofs.Imports.{◌≡◌, ℕ, ◌+◌, ◌-◌, ◌*◌, ◌/◌, ◌%◌, ◌^◌, ◌<◌, ◌≤◌, ◌&&◌, min, true, List, [], length, IsRule, IsRanked}
 use Rattle.mwc_walk.proofs.Imports.{◌∙◌, arith, inl, inr, common_steps, w64, trailing_zeros, pow_mono, cases_eq, cases_lt, cases_Bool}
-use Rattle.mwc_walk.proofs.Imports.{CursorIs, has-none, lane_at, IsVotes, get_or_default, list_all-from_AllPass}
+use Rattle.mwc_walk.proofs.Imports.{CursorIs, has-none, lane_at, IsVotes, get_or_default, list_all-from_AllPass, asked_at}
 use Rattle.std.proofs.{Common.bit_and, lemmas.Nat.and_le_l, lemmas.Nat.Bits.bit_at-trailing_zeros, lemmas.Nat.Bits.bit_at_and}
 use Rattle.coalitions.proofs.Shared.Digits.{has-kept, has-gone, lowest-cleared, without-less}
 use Rattle.council_game.proofs.Shared.WinningByPlaces.{sum-without, rule-is}
-use Rattle.mwc_walk.specs.Inner.{Asked.asked_at, Places.AreExcesses, Places.CanSpare, Spared.IsEnough, Spared.NoneSpared}
+use Rattle.mwc_walk.specs.Inner.{Places.AreExcesses, Places.CanSpare, Spared.IsEnough, Spared.NoneSpared}
 use Rattle.mwc_walk.specs.declared.vetoes.Vetoes.{Vetoes}
 use Rattle.mwc_walk.proofs.{Shared.One.place-before, Shared.One.in-slice, Steps.enter-short, Steps.lane-here, Steps.sum-here}
 use Rattle.mwc_walk.proofs.Rules.{weight-block, weight-parts, wins-prefix, met-at}

@@ -8,4 +8,3 @@ pub mod Printed
 pub mod Small
 pub mod Sound
 pub mod Sums
-pub mod Tallies

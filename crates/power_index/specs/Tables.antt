@@ -1,5 +1,6 @@
 -- Tables of counts, and when they hold the counts of a list of coalitions.
-use Rattle.std.specs.Prelude.{ℕ, ◌+◌, ◌*◌, ◌/◌, ◌^◌, ◌≡◌, ◌≤◌, ◌<◌, ◌==◌, ◌&&◌, Bool, true, List, [], length, slice_index, slice_index_or, sum_by}
+use Rattle.std.specs.Prelude.{ℕ, ◌+◌, ◌*◌, ◌/◌, ◌^◌, ◌≡◌, ◌≤◌, ◌<◌, ◌==◌, ◌&&◌, Bool, true, List, [], length, slice_index, slice_index_or}
+use Rattle.std.specs.Prelude.{sum_by}
 use Rattle.std.specs.List.{filter, range_with_len}
 use Rattle.coalitions.specs.declared.limits.TheConstants.{MEMBERS, SIZES}
 use Rattle.council_game.specs.Votes.{has, size}

@@ -295,7 +295,7 @@ impl Counts {
     }
 
     /// The numbers of all members, added.
-    #[tactic(auto, using(crate::proofs::Shared::Tallies::one_more))]
+    #[tactic(auto, using(crate::proofs::Tallies::one_more))]
     pub(crate) fn memberships(&self) -> u64
         ensures sum { result ≡ table_memberships self.now }
         ensures some { table_total self.now ≤ result }

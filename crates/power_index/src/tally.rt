@@ -46,7 +46,7 @@ impl Tally {
     }
 
     /// How many coalitions of these sizes there are: 0 to so many members.
-    #[tactic(auto, using(crate::proofs::Shared::Tallies::one_more))]
+    #[tactic(auto, using(crate::proofs::Tallies::one_more))]
     pub(crate) fn total(&self, members: usize) -> u64
         requires members { members ≤ MEMBERS }
         requires room { tally_total members self.now ≤ 2 ^ MEMBERS }

@@ -1,7 +1,7 @@
 -- What members lead to, by size: fewer than are asked for, as many, more; by their sets; and without a member.
 use Rattle.weight_sums.proofs.Imports.{◌≡◌, ℕ, zero, suc, ◌+◌, ◌-◌, ◌<◌, ◌≤◌, true, false, cond, leb, List, [], ◌∷◌, length, ap, refl}
 use Rattle.weight_sums.proofs.Imports.{arith, cases_lt, nat_tests, choose, one_of_size, fill, endings, left_out, over, fits}
-use Rattle.weight_sums.proofs.{SetLaws.fits-more, Taking.choose-none, Taking.choose-more}
+use Rattle.weight_sums.proofs.{SetLaws.fits-more, Shared.Choices.choose-none, Shared.Choices.left_out-past, Taking.choose-more}
 
 -- ---- what meets the quota is filled up in any way
 unfoldable pub chosen_from : ℕ → ℕ → ℕ → ℕ
@@ -89,12 +89,6 @@ length-left_out p [] lt = absurd (omega arith)
 length-left_out zero (w ∷ ws) lt = refl
 length-left_out (suc p) (w ∷ ws) lt = omega (arith, length-left_out p ws (omega arith))
 
-pub past-end : (p : ℕ) (ws : List ℕ) → length ws ≤ p → left_out p ws ≡ ws
-unfolding left_out
-past-end p [] le = refl
-past-end zero (w ∷ ws) le = absurd (omega (arith, le))
-past-end (suc p) (w ∷ ws) le = ap (λ (l : List ℕ). w ∷ l) (past-end p ws (omega (arith, le)))
-
 pub endings-less : (p h s : ℕ) (ws : List ℕ) (r a : ℕ) → endings (left_out p ws) h s r a ≤ endings ws h s r a
 unfolding endings left_out
 endings-less p h s [] r a = omega arith
@@ -108,7 +102,7 @@ endings-less (suc p) h s (w ∷ ws) r a =
       cases_lt,
       length-left_out,
       fill-less,
-      past-end,
+      left_out-past,
     )
 
 pub ruleset fewer = (endings-less)

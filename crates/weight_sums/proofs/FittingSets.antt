@@ -1,9 +1,8 @@
 -- The sets of a half that meet a need, one more and all of them.
 use Rattle.weight_sums.proofs.Imports.{◌≡◌, ◌∙◌, ◌⊎◌, ℕ, zero, suc, ◌+◌, ◌-◌, ◌<◌, ◌≤◌, ◌^◌, Bool, cond, leb, List, [], ◌∷◌, length, get_or}
 use Rattle.weight_sums.proofs.Imports.{drop, refl, arith, inl, inr, sum_by, cases_eq, cases_lt, nat_tests, sum_by-cons, sum_by-le, Set}
-use Rattle.weight_sums.proofs.Imports.{Fitting, one_of_size, fits, IsHalf, AreEntered, AreOfNeed, Meet}
+use Rattle.weight_sums.proofs.Imports.{Fitting, one_of_size, fits, IsHalf, AreEntered, AreOfNeed, Meet, sum-zero}
 use Rattle.std.proofs.{Common.length-drop, lemmas.List.get_or_past}
-use Rattle.weight_sums.proofs.SetLaws.{sum-zero}
 
 -- sums of numbers that agree at each place
 pub sum-alike : (f g : Set → ℕ) (xs : List Set) (d : Set) → ((k : ℕ) → k < length xs → f (get_or xs k d) ≡ g (get_or xs k d))

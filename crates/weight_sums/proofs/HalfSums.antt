@@ -3,8 +3,9 @@ use Rattle.weight_sums.proofs.Imports.{length, sym, ap, refl, arith, sum_by, nat
 use Rattle.weight_sums.proofs.Imports.{◌∙◌, ℕ, zero, suc, ◌+◌, ◌-◌, ◌<◌, ◌≤◌, Bool, true, false, cond, leb, List, [], ◌∷◌, ◌++◌, Set, has}
 use Rattle.weight_sums.proofs.Imports.{fits, met, AreSets, IsLeft}
 use Rattle.std.proofs.lemmas.Bool.{cases_order}
-use Rattle.weight_sums.proofs.EndingLaws.{past-end, endings-counted}
-use Rattle.weight_sums.proofs.SetLaws.{sum-one, sum-if, sum-swap, fits-halves, fits-turned, left_out-over}
+use Rattle.weight_sums.proofs.{EndingLaws.endings-counted, Shared.Choices.left_out-past}
+use Rattle.coalitions.proofs.Shared.Lists.{sum-swap}
+use Rattle.weight_sums.proofs.SetLaws.{sum-one, sum-if, fits-halves, fits-turned, left_out-over}
 
 left_out-front : (p : ℕ) (xs ys : List ℕ) → p < length xs → left_out p (xs ++ ys) ≡ left_out p xs ++ ys
 unfolding left_out
@@ -44,7 +45,7 @@ module _ (short : Bool) (fr bk : List ℕ) (xs ys : List Set) (front : ℕ) (fir
       ∙ sym (first.same (λ x. over short bk (one x))) ∙ sym (λ i. sum_by (λ x. second.same (one x) i) xs) ∙ sum-swap one xs ys
       ∙ (λ i. sum_by (λ y. sum-if (has p y.members) (λ x. fits (q - x.weight) x.size s y) xs i) ys)
       ∙ (λ i. sum_by (λ y. cond (has p y.members) 0 (sum_by (λ x. fits-turned q s x y i) xs)) ys) in
-      let same = ap (λ (l : List ℕ). cond short (over true l (fits q 0 s)) 0) (past-end place fr (omega (arith, long, past))) in
+      let same = ap (λ (l : List ℕ). cond short (over true l (fits q 0 s)) 0) (left_out-past place fr (omega (arith, long, past))) in
       omega (arith, is, out, same)
 
 -- the sets of the first half alone
@@ -75,4 +76,4 @@ left-is ws heads q s won shortened own n are left some =
     let law = endings-counted ws heads s q some in
     grind (arith, cases_order)
 
-pub ruleset places = (past-end)
+pub ruleset places = (left_out-past)

@@ -1,3 +1,4 @@
+pub mod Shared
 mod EndingLaws
 mod Taking
 mod Passing

@@ -1,20 +1,12 @@
 -- Sums over sets of some members: with one member more, without one, and of members in two halves.
 use Rattle.weight_sums.proofs.Imports.{◌≡◌, ◌∙◌, ℕ, zero, suc, ◌+◌, ◌-◌, ◌*◌, ◌/◌, ◌%◌, ◌==◌, ◌^◌, Bool, true, false, cond, eqb, leb, List}
 use Rattle.weight_sums.proofs.Imports.{[], ◌∷◌, ◌++◌, sym, ap, refl, arith, nat_tests, sum_by-cons, sum_by, Set, one_of_size, left_out}
-use Rattle.weight_sums.proofs.Imports.{alone, joined, over, has, fits}
+use Rattle.weight_sums.proofs.Imports.{alone, joined, over, has, fits, sum-plus, sum-zero}
 use Rattle.std.proofs.lemmas.Nat.Bits.{bit_at-suc, bit_at-zero, bit_at_lowest}
 
 -- ---- sums over lists
 pub sum-same : (f g : Set → ℕ) (xs : List Set) → ((x : Set) → f x ≡ g x) → sum_by f xs ≡ sum_by g xs
 sum-same f g xs h = λ i. sum_by (λ x. h x i) xs
-
-pub sum-zero : (xs : List Set) → sum_by (λ x. 0) xs ≡ 0
-sum-zero [] = refl
-sum-zero (x ∷ xs) = simp sum_by-cons (omega (arith, sum-zero xs))
-
-pub sum-plus : (f g : Set → ℕ) (xs : List Set) → sum_by (λ x. f x + g x) xs ≡ sum_by f xs + sum_by g xs
-sum-plus f g [] = refl
-sum-plus f g (x ∷ xs) = simp sum_by-cons (omega (arith, sum-plus f g xs))
 
 pub sum-one : (g : Set → ℕ) (x : Set) → sum_by g (x ∷ []) ≡ g x
 sum-one g x = simp sum_by-cons (omega arith)
@@ -22,13 +14,6 @@ sum-one g x = simp sum_by-cons (omega arith)
 pub sum-if : (b : Bool) (g : Set → ℕ) (xs : List Set) → sum_by (λ x. cond b 0 (g x)) xs ≡ cond b 0 (sum_by g xs)
 sum-if true g xs = sum-zero xs
 sum-if false g xs = refl
-
--- a sum over the pairs of two lists, in either order
-pub sum-swap : (f : Set → Set → ℕ) (xs ys : List Set) → sum_by (λ x. sum_by (f x) ys) xs ≡ sum_by (λ y. sum_by (λ x. f x y) xs) ys
-sum-swap f [] ys = sym (sum-zero ys)
-sum-swap f (x ∷ xs) ys =
-    sum_by-cons (λ z. sum_by (f z) ys) x xs ∙ ap (λ (n : ℕ). sum_by (f x) ys + n) (sum-swap f xs ys)
-    ∙ sym (sum-plus (f x) (λ y. sum_by (λ z. f z y) xs) ys) ∙ sym (λ i. sum_by (λ y. sum_by-cons (λ z. f z y) x xs i) ys)
 
 -- ---- with one member more in front
 over-zero : (short : Bool) (ws : List ℕ) → over short ws (λ x. 0) ≡ 0

@@ -3,11 +3,8 @@ use Rattle.weight_sums.proofs.Imports.{Bool, true, false, cond, List, [], ◌∷
 use Rattle.weight_sums.proofs.Imports.{sum_by-cons, sum_by_push, sum_by-drop_more, Set, nobody, ◌≡◌, ◌∙◌, ℕ, suc, ◌+◌, ◌-◌, ◌<◌, ◌≤◌, ◌^◌}
 use Rattle.weight_sums.proofs.Imports.{get_or, drop, ap, refl, arith, All, sum, sum_by, pow_mono, pow_pos, cases_eq, nat_tests, All-push}
 use Rattle.std.proofs.{Common.not, lemmas.List.drop_all, lemmas.List.Quantifiers.all_pairs_push, lemmas.List.Sums.get_or-le-sum_by}
-use native.Mathlib.Numerals.{unary_clauses}
+use native.Mathlib.Nat.{pow-suc}
 use Rattle.weight_sums.specs.Inner.Sets.{left, Ascend, HasRoom}
-
-double-pow : (n : ℕ) → 2 ^ suc n ≡ 2 ^ n + 2 ^ n
-double-pow n = simp unary_clauses (omega arith)
 
 -- ---- all sets of members, of one member more
 -- sets of xs to place i without, and to place j with a member of weight w, by weight
@@ -76,7 +73,7 @@ over-ones : (short : Bool) (ws : List ℕ) → over short ws (λ x. 1) + cond sh
 unfolding over
 over-ones true [] = refl
 over-ones false [] = refl
-over-ones short (w ∷ ws) = let double = double-pow (length ws) in grind (arith, nat_tests, double, over-ones short ws)
+over-ones short (w ∷ ws) = let double = pow-suc 2 (length ws) in grind (arith, nat_tests, double, over-ones short ws)
 
 -- a list and what it is a copy of
 pub copied : {short : Bool} {ws : List ℕ} {xs ys : List Set} → xs ≡ ys → AreSets short ws ys → AreSets short ws xs

@@ -1,10 +1,9 @@
 -- Numbers of sets by their keys, added by key.
 use Rattle.weight_sums.proofs.Imports.{◌≡◌, ◌∙◌, ℕ, zero, suc, ◌+◌, ◌*◌, ◌<◌, ◌≤◌, ◌^◌, cond, eqb, ltb, List, [], ◌++◌, length, get_or}
 use Rattle.weight_sums.proofs.Imports.{take, refl, arith, All, sum_by, nat_tests, sum_by_more, sum_by-le, Set, nobody, has, AreOfKeys}
-use Rattle.weight_sums.proofs.Imports.{replicate}
+use Rattle.weight_sums.proofs.Imports.{replicate, get_or-zeros, sum-plus, sum-zero}
 use Rattle.std.proofs.Common.{le-ltb}
-use Rattle.weight_sums.proofs.{FittingSets.cond-most, FittingSets.sum-alike, SetLaws.sum-if, SetLaws.sum-plus, SetLaws.sum-zero}
-use Rattle.weight_sums.proofs.Taking.{get_or-zeros}
+use Rattle.weight_sums.proofs.{FittingSets.cond-most, FittingSets.sum-alike, SetLaws.sum-if}
 
 -- rows of nothing
 zero-rows : (n m k s : ℕ) → get_or {A = ℕ} (get_or (replicate n (replicate {A = ℕ} m 0)) k []) s 0 ≡ 0

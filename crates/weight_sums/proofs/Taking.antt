@@ -3,8 +3,9 @@ use Rattle.weight_sums.proofs.Imports.{pow_mono, ◌≡◌, ◌∙◌, ℕ, ◌+
 use Rattle.weight_sums.proofs.Imports.{nat_tests, mul-le-mul_left, pow_pos, sum_by_push, sum_by_more, sum_by-drop_more, All-push, Open}
 use Rattle.weight_sums.proofs.Imports.{cond, replicate, ltb, zero, suc, ap, refl, arith, ◌-◌, get_or-set_same, get_or-set_other, All}
 use Rattle.weight_sums.proofs.Imports.{choose, fill, one_of_size, taken, weigh, prefixes, mul-le-mul_right, take_all, sum_by-take-le}
-use Rattle.weight_sums.proofs.Imports.{AreTaken, sum_by-cons}
+use Rattle.weight_sums.proofs.Imports.{AreTaken, sum_by-cons, get_or-zeros}
 use Rattle.std.proofs.Common.{length-set, max}
+use Rattle.weight_sums.proofs.Shared.Choices.{choose-none}
 
 pub choose-most : (m k : ℕ) → choose m k ≤ 2 ^ m
 unfolding choose
@@ -92,17 +93,7 @@ taken-one {w = w} {heads = heads} {left = left} row i d are lt one sizes = recor
   sizes = λ p all. sizes p (all i d lt) (are.sizes p all);
 }
 
-pub get_or-zeros : (n s : ℕ) → get_or {A = ℕ} (replicate {A = ℕ} n 0) s 0 ≡ 0
-get_or-zeros zero s = refl
-get_or-zeros (suc n) zero = refl
-get_or-zeros (suc n) (suc s) = get_or-zeros n s
-
 -- ---- rows of choices
-pub choose-none : (m : ℕ) → choose m 0 ≡ 1
-unfolding choose
-choose-none zero = refl
-choose-none (suc m) = refl
-
 pub choose-more : (m k : ℕ) → 1 ≤ k → choose (m + 1) k ≡ choose m k + choose m (k - 1)
 unfolding choose
 choose-more m zero pos = absurd (omega arith)

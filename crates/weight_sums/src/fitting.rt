@@ -78,8 +78,10 @@ impl Fitting {
         if !self.any {
             return;
         }
+        // a copy is read whole before a sum is written, and added two numbers at a time
+        let here = self.here;
         for j in 0..HALF + 1 {
-            done[size + j] += self.here[j];
+            done[size + j] += here[j];
         }
     }
 }

@@ -72,7 +72,8 @@ impl Groups {
     pub(crate) fn without(&self, place: usize) -> [u64; limits::SIZES]
         requires { HaveRows self.now }
         ensures { (quota : ℕ) (xs others : List Set) (s : ℕ) → AreGroups quota xs others self.now
-            → s ≤ MEMBERS → slice_index result s ≡ sum_by (λ x. if has place x.members then 0 else met quota others s x) xs }
+            → s ≤ MEMBERS → slice_index result s
+            ≡ sum_by (λ x. if has place x.members then 0 else met quota others s x) xs }
     {
         let digits = self.digits as usize;
         if place < digits {

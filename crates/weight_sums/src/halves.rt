@@ -188,7 +188,8 @@ impl Halves {
         requires heads { heads ≤ MEMBERS }
         requires all { AreEndings weights.now heads self.now.quota all.now }
         requires less { (s : ℕ) → s ≤ MEMBERS
-            → endings (left_out place weights.now) heads s self.now.quota 0 ≤ endings weights.now heads s self.now.quota 0 }
+            → endings (left_out place weights.now) heads s self.now.quota 0
+            ≤ endings weights.now heads s self.now.quota 0 }
         ensures { AreEndingsWith weights.now heads self.now.quota place result }
     {
         difference(all, &self.endings_without(weights, heads, place))

@@ -77,7 +77,8 @@ pub(crate) fn with_member(
     requires left { left ≤ MEMBERS }
     requires sizes { All (λ o. o.size < MEMBERS) row.now }
     requires room { (s : ℕ) → s ≤ MEMBERS → slice_index done.old s + prefixes row.now * 2 ^ left < 2 ^ 64 }
-    ensures { IfOk result (λ _. AreTaken weight heads.now.asked left done.old done.new row.now row.now others.new.items) }
+    ensures { IfOk result (λ _. AreTaken weight heads.now.asked left done.old done.new row.now row.now
+        others.new.items) }
 {
     others.clear();
     others.reserve(row.len())?;

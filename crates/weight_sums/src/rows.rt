@@ -51,7 +51,8 @@ impl Rows {
     /// Begins a pass over members with the empty prefix, which misses the quota.
     pub(crate) fn begin(&mut self, quota: u64, members: usize) -> Result<(), Memory>
         requires { members ≤ MEMBERS }
-        ensures few { IfOk result (λ _. (left : ℕ) → left ≤ MEMBERS → AreOfPrefixes left self.new.done self.new.row.items) }
+        ensures few { IfOk result (λ _. (left : ℕ) → left ≤ MEMBERS
+            → AreOfPrefixes left self.new.done self.new.row.items) }
         ensures come { IfOk result (λ _. (ws : List ℕ) (heads s : ℕ)
             → come_to heads s ws self.new.done self.new.row.items ≡ endings ws heads s quota 0) }
     {

@@ -84,7 +84,8 @@ fn is_light(sets: &[Set], place: usize, weight: u64) -> bool
 fn with_first(sets: &[Set], weight: u64, short: bool, next: &mut Vec<Set>) -> Result<(), Memory>
     requires ascend { Ascend sets.now }
     requires room { All (λ x. HasRoom weight x) sets.now }
-    ensures { IfOk result (λ _. (ws : List ℕ) → AreSets short ws sets.now → AreSets short (weight ∷ ws) next.new.items) }
+    ensures { IfOk result (λ _. (ws : List ℕ) → AreSets short ws sets.now
+        → AreSets short (weight ∷ ws) next.new.items) }
 {
     begin(next, ALONE, short)?;
     next.reserve(sets.len() * 2)?;

@@ -59,7 +59,8 @@ impl Table {
         requires room { (s : ℕ) → s ≤ MEMBERS
             → slice_index sum.old s + slice_index (slice_index_or self.now.rows.items key []) s < 2 ^ 64 }
         ensures { (s : ℕ) → s ≤ MEMBERS → slice_index sum.new s
-            ≡ slice_index sum.old s + (if has place key then 0 else slice_index (slice_index_or self.now.rows.items key []) s) }
+            ≡ slice_index sum.old s
+            + (if has place key then 0 else slice_index (slice_index_or self.now.rows.items key []) s) }
     {
         if (key >> place) % 2 != 1 {
             add_row(sum, &self.rows[key]);

@@ -68,8 +68,9 @@ fn tally_from(
     requires few { place + length weights.now ≤ MEMBERS }
     requires rest { rest ≡ sum weights.now }
     requires row { AreOfPrefixes (length weights.now - 1) rows.old.done rows.old.row.items }
-    requires less { (k s : ℕ) → k < length weights.now → s ≤ MEMBERS →
-        come_to heads.now.asked s (left_out k weights.now) rows.old.done rows.old.row.items ≤ slice_index all.now.sizes s }
+    requires less { (k s : ℕ) → k < length weights.now → s ≤ MEMBERS
+        → come_to heads.now.asked s (left_out k weights.now) rows.old.done rows.old.row.items
+        ≤ slice_index all.now.sizes s }
     ensures { IfOk result (λ full. full ≡ true → (k : ℕ) → k < length weights.now
         → IsOfTheRest heads.now.asked (left_out k weights.now) rows.old.done rows.old.row.items all.now
         (slice_index_or each.new (place + k) no_sizes)) }

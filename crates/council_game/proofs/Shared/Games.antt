@@ -2,9 +2,8 @@
 use Rattle.council_game.proofs.Imports.{rank_places, rule_by_rank, GameView, IsGame, made_game, first_weights, ◌≡◌, ℕ, suc, ◌*◌, ◌<◌, ◌≤◌}
 use Rattle.council_game.proofs.Imports.{Bool, false, not, ◌||◌, List, [], ◌∷◌, length, get_or, map, sum, refl, position, position_or_len}
 use Rattle.council_game.proofs.Imports.{nat_tests, cases_lt, or_parts, cond-true, RuleView, IsRule, IsVotes, places, sym, ap, ◌∙◌, subst}
-use Rattle.council_game.proofs.Imports.{length-range_with_len, length-map, get_or_default, recursion_from_All, fails_before_first}
-use Rattle.council_game.proofs.Imports.{arith, inl, inr, Option, Ok, AllByRecursion, list_any, range_with_len, votes_of, is_name}
-use Rattle.council_game.proofs.Imports.{has_bad_quota}
+use Rattle.council_game.proofs.Imports.{length-range_with_len, length-map, get_or_default, recursion_from_All, fails_before_first, arith}
+use Rattle.council_game.proofs.Imports.{inl, inr, Option, Ok, AllByRecursion, list_any, range_with_len, votes_of, is_name, has_bad_quota}
 use Rattle.std.proofs.Common.{ltb, None, lt-ltb, le-ltb}
 use Rattle.std.specs.Option.{option_map_or}
 use Rattle.std.proofs.lemmas.List.{get_or_past, Sums.sum_by-le}
@@ -35,7 +34,8 @@ unfolding made_game
 passed g h = grind (arith, nat_tests, checks-passed)
 
 -- what passes the checks is made
-pub makes : (title : Option (List ℕ)) (names : List (List ℕ)) (rules : List RuleView) → option_map_or (λ t. not (is_title t)) title false ≡ false
+pub makes : (title : Option (List ℕ)) (names : List (List ℕ)) (rules : List RuleView)
+    → option_map_or (λ t. not (is_title t)) title false ≡ false
     → (ltb (length names) 1 || ltb 40 (length names)) ≡ false → position (λ name. not (is_name name)) names ≡ None
     → position (is_repeat names) (places names) ≡ None → position (is_heavy rules) (range_with_len 0 (length names)) ≡ None
     → list_any has_bad_quota rules ≡ false

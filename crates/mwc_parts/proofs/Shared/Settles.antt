@@ -40,7 +40,8 @@ cut_is_many (inl a) e = absurd (false≢true (sym (sent_uncut a) ∙ e))
 cut_is_many (inr c) e = c.many
 
 -- by what keeps a draft from being a part
-pub kept_by : (lost cut : Bool) → (if lost then Some Memory else (if cut then Some TooMany else None)) ≡ None → (lost ≡ false) × (cut ≡ false)
+pub kept_by : (lost cut : Bool) → (if lost then Some Memory else (if cut then Some TooMany else None)) ≡ None
+    → (lost ≡ false) × (cut ≡ false)
 kept_by true cut e = cc
 kept_by false true e = cc
 kept_by false false e = (refl, refl)

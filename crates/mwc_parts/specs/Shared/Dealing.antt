@@ -1,5 +1,6 @@
 -- How the slices are dealt.
-use Rattle.std.specs.Prelude.{◌≡◌, ◌⊎◌, ℕ, ◌+◌, ◌<◌, ◌≤◌, Bool, true, false, ◌||◌, List, [], ◌∷◌, ◌++◌, Option, Some, None, IsSome, length, map, replicate, All, slice_index, slice_set}
+use Rattle.std.specs.Prelude.{◌≡◌, ◌⊎◌, ℕ, ◌+◌, ◌<◌, ◌≤◌, Bool, true, false, ◌||◌, List, [], ◌∷◌, ◌++◌, Option, Some, None, IsSome, length}
+use Rattle.std.specs.Prelude.{map, replicate, All, slice_index, slice_set}
 use Rattle.std.specs.List.{list_any}
 use Rattle.mwc_parts.specs.Table.{IsFirstFree}
 use Rattle.mwc_parts.specs.Shared.Deals.{shares_by}

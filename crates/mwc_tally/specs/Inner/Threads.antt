@@ -4,7 +4,7 @@ use Rattle.std.specs.Prelude.{ℕ, ◌≡◌, ◌≤◌, ◌^◌, List, length, 
 use Rattle.coalitions.specs.declared.limits.TheConstants.{MEMBERS}
 use Rattle.council_game.specs.Game.{GameView, AreNonemptyCoalitions}
 use Rattle.power_index.specs.Tables.{Tables, AreTallies}
-use Rattle.mwc_tally.specs.Pieces.{joined}
+use Rattle.coalitions.specs.Lists.{joined}
 use Rattle.mwc_tally.specs.declared.pieces.GivenStretch.{GivenStretch}
 
 -- the thread counts at most `most` coalitions of this list, past its first `skip`

@@ -2,9 +2,9 @@
 use Rattle.power_index.proofs.Imports.{◌≡◌, ◌∙◌, ℕ, ◌+◌, ◌*◌, ◌/◌, ◌<◌, ◌≤◌, List, [], ◌∷◌, suc, length, map, cond, ap, refl, arith, filter}
 use Rattle.power_index.proofs.Imports.{sum_by-cons, fold-map, mul-pos, eq_of_mul-eq-mul_right, GameView, IsGame, deegan_packel, public_good}
 use Rattle.power_index.proofs.Imports.{AreNonemptyCoalitions, votes-are, members, contains, size_of, count_of_member, unit_sum, sum_by}
-use Rattle.power_index.proofs.Imports.{sizes_of_member, denominator}
+use Rattle.power_index.proofs.Imports.{sizes_of_member, denominator, sum-swap}
 use Rattle.power_index.specs.Fractions.{pair_sum, AddUpToOne}
-use Rattle.power_index.proofs.Shared.Sums.{exchange, sum-filter, sum-times}
+use Rattle.power_index.proofs.Shared.Sums.{sum-filter, sum-times}
 use Rattle.power_index.proofs.Shared.Members.{few-members, members-of, memberships, sizes-some, sizes-within, size-pos, size-le}
 use Rattle.power_index.proofs.Units.{over_common, each_divides, divides, bottom_pos}
 
@@ -44,7 +44,7 @@ whole_weight g (c ∷ cs) few h =
 weights : (g : GameView) (list : List ℕ) → IsGame g → AreNonemptyCoalitions g list
     → sum_by (λ i. sum_by (λ s. denominator / s) (sizes_of_member g list i)) (members g) ≡ length list * denominator
 weights g list game h =
-    (λ k. sum_by (λ i. own i k) (members g)) ∙ exchange (λ i c. cond (contains g i c) 1 0 * unit c) (members g) list
+    (λ k. sum_by (λ i. own i k) (members g)) ∙ sum-swap (λ i c. cond (contains g i c) 1 0 * unit c) (members g) list
     ∙ (λ k. sum_by (λ c. each c k) list) ∙ whole_weight g list (few-members g game) h
   where
     unit : ℕ → ℕ

@@ -1,13 +1,14 @@
 -- What a game's rank places give: the members of a coalition are as many as its places.
 use Rattle.power_index.proofs.Imports.{◌≡◌, ◌∙◌, ◌==◌, ℕ, ◌-◌, ◌/◌, ◌%◌, ◌^◌, ◌<◌, ◌≤◌, List, [], ◌∷◌, suc, length, get_or, map, cond, true}
-use Rattle.power_index.proofs.Imports.{sym, ap, arith, inl, inr, filter, sum_by, range_with_len, AllByRecursion, w64, trailing_zeros}
-use Rattle.power_index.proofs.Imports.{sum_by-cons, length-filter, length-range_with_len, get_or-range_with_len, cases_lt, has, size}
-use Rattle.power_index.proofs.Imports.{GameView, IsGame, AreNonemptyCoalitions, votes-are, ranks-are, members, contains, size_of}
-use Rattle.power_index.proofs.Imports.{count_of_member, sizes_of_member, lowest-place}
-use Rattle.std.proofs.{Common.count_by, lemmas.List.Sums.get_or-le-sum_by}
+use Rattle.power_index.proofs.Imports.{sym, ap, arith, inl, inr, filter, sum_by, range_with_len, AllByRecursion, sum_by-cons, length-filter}
+use Rattle.power_index.proofs.Imports.{length-range_with_len, get_or-range_with_len, cases_lt, has, size, GameView, IsGame, sizes_of_member}
+use Rattle.power_index.proofs.Imports.{AreNonemptyCoalitions, votes-are, ranks-are, members, contains, size_of, count_of_member}
+use Rattle.power_index.proofs.Imports.{lowest-place, sum-swap}
+use Rattle.std.proofs.{Common.w64, Common.count_by, lemmas.List.Sums.get_or-le-sum_by}
+use Rattle.std.specs.Int.{trailing_zeros}
 use Rattle.std.proofs.lemmas.List.Elements.{All-map, All-weaker, filter_passes, recursion_from_All}
 use Rattle.council_game.proofs.Shared.RankPlaces.{by-member, game-rank_places}
-use Rattle.power_index.proofs.Shared.Sums.{exchange, length-filter-le}
+use Rattle.power_index.proofs.Shared.Sums.{length-filter-le}
 
 pub few-members : (g : GameView) → IsGame g → length g.names ≤ 40
 few-members g is = (votes-are g is).few
@@ -39,7 +40,7 @@ size-pos n c few pos below =
 pub memberships : (g : GameView) (list : List ℕ) → IsGame g → sum_by (λ i. count_of_member g i list) (members g) ≡ sum_by (size_of g) list
 memberships g list is =
     (λ k. sum_by (λ i. length-filter (contains g i) list k) (members g))
-    ∙ exchange (λ i c. cond (contains g i c) 1 0) (members g) list
+    ∙ sum-swap (λ i c. cond (contains g i c) 1 0) (members g) list
     ∙ (λ k. sum_by (λ c. members-of g is c k) list)
 
 pub sizes-some : (g : GameView) (list : List ℕ) → length g.names ≤ 40 → AreNonemptyCoalitions g list → length list ≤ sum_by (size_of g) list

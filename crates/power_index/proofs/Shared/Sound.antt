@@ -7,8 +7,8 @@ use Rattle.power_index.proofs.Imports.{table_total, IsJoined, with_one}
 use Rattle.std.proofs.lemmas.List.{get_or-replicate, Elements.All-append, Elements.filter-append, Sums.sum_by_push}
 use Rattle.std.proofs.Common.{length-set}
 use Rattle.power_index.specs.Inner.Tables.{AreOfSomeList, AreKept}
-use Rattle.power_index.proofs.Shared.{Sums.length-filter-le, Tallies.tally-total, Tallies.tally-few, Tallies.bumped}
-use Rattle.power_index.proofs.Weights.{weight-light, memberships-are}
+use Rattle.power_index.proofs.{Tallies.tally-total, Tallies.tally-few, Tallies.bumped, Weights.weight-light, Weights.memberships-are}
+use Rattle.power_index.proofs.Shared.Sums.{length-filter-le}
 use Rattle.power_index.proofs.Shared.Members.{few-members, memberships, sizes-some, size-le}
 
 filter-all : (list : List ℕ) → length (filter (λ (c : ℕ). true) list) ≡ length list
@@ -53,8 +53,10 @@ some-sound t h =
       few = omega (arith, counts.total, h.few);
       few_of_size = λ s le. omega (arith, counts.of_size s le, few (λ c. size_of h.game c == s));
       few_of_member = λ i lt. omega (arith, counts.of_member i lt, few (contains h.game i));
-      few_of_member_size = λ i s lt le. omega (arith, counts.of_member_size i s lt le, few (λ c. contains h.game i c && (size_of h.game c == s)));
-      memberships = grind (arith, counts.total, memberships-are h.game h.list t counts, memberships h.game h.list game, sizes-some, few-members);
+      few_of_member_size =
+          λ i s lt le. omega (arith, counts.of_member_size i s lt le, few (λ c. contains h.game i c && (size_of h.game c == s)));
+      memberships =
+          grind (arith, counts.total, memberships-are h.game h.list t counts, memberships h.game h.list game, sizes-some, few-members);
       light = λ i lt. weight-light h.game h.list t i lt counts;
     }
 

@@ -1,5 +1,6 @@
 -- Sets of some members, and how many of them meet a need.
-use Rattle.std.specs.Prelude.{ℕ, ◌+◌, ◌-◌, ◌*◌, ◌/◌, ◌%◌, ◌==◌, ◌<◌, ◌≤◌, ◌^◌, ◌≡◌, Bool, if◌then◌else◌, nat_le, List, [], ◌∷◌, length, sum_by}
+use Rattle.std.specs.Prelude.{ℕ, ◌+◌, ◌-◌, ◌*◌, ◌/◌, ◌%◌, ◌==◌, ◌<◌, ◌≤◌, ◌^◌, ◌≡◌, Bool, if◌then◌else◌, nat_le, List, [], ◌∷◌, length}
+use Rattle.std.specs.Prelude.{sum_by}
 use Rattle.std.specs.List.{All, AllPairs}
 use Rattle.weight_sums.specs.declared.sets.Set.{Set}
 use Rattle.weight_sums.specs.Endings.{one_of_size}

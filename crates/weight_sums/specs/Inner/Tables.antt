@@ -1,5 +1,6 @@
 -- Numbers by size for each choice of some members.
-use Rattle.std.specs.Prelude.{ℕ, ◌+◌, ◌-◌, ◌==◌, ◌≤◌, ◌^◌, ◌≡◌, if◌then◌else◌, nat_le, List, [], length, slice_index, slice_index_or, sum_by}
+use Rattle.std.specs.Prelude.{ℕ, ◌+◌, ◌-◌, ◌==◌, ◌≤◌, ◌^◌, ◌≡◌, if◌then◌else◌, nat_le, List, [], length, slice_index, slice_index_or}
+use Rattle.std.specs.Prelude.{sum_by}
 use Rattle.coalitions.specs.declared.limits.TheConstants.{MEMBERS}
 use Rattle.weight_sums.specs.declared.sets.Set.{Set}
 

@@ -2,7 +2,8 @@ use Rattle.mwc_gather.proofs.{FirstWords.some_of_more, FirstWords.some_later, Im
 use Rattle.mwc_gather.proofs.send.send_last.Goals as goal
 
 pub returns-then-not-add-clause-refused : goal.returns-then-not-add-clause-refused
-returns-then-not-add-clause-refused g c = λ _. let no = c.if-not-add.ensures.refused refl in (some_of_more _ _ _ (c.args.word ∷ []) no.0, no.1)
+returns-then-not-add-clause-refused g c = λ _. let no = c.if-not-add.ensures.refused refl in
+    (some_of_more _ _ _ (c.args.word ∷ []) no.0, no.1)
 
 pub returns-clause-refused : goal.returns-clause-refused
 returns-clause-refused g c = λ h. let no = c.send.ensures.refused h in

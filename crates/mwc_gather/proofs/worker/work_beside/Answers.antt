@@ -18,7 +18,8 @@ loop-preserved g c =
     let count = c.slice_count-slices.ensures in let first = task.0 in
     let low : j < game.slices = omega arith in
     let sum = inv.3 in let few = sends.1 in let rest = sends.2 in
-    let more : coalition_count game (inv.0 ++ j ∷ []) ≡ coalition_count game inv.0 + length (game.slice j) = sum_by_push (λ i. length (game.slice i)) inv.0 j in (
+    let more : coalition_count game (inv.0 ++ j ∷ []) ≡ coalition_count game inv.0 + length (game.slice j) =
+    sum_by_push (λ i. length (game.slice i)) inv.0 j in (
       search rules,
       search rules,
       omega arith,

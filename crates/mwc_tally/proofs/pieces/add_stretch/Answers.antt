@@ -1,5 +1,5 @@
 use Rattle.std.proofs.{Common.arith, Common.take-add, lemmas.Grind.common_steps}
-use Rattle.mwc_tally.specs.Pieces.{joined}
+use Rattle.coalitions.specs.Lists.{joined}
 use Rattle.power_index.proofs.Shared.Sound.{total-is}
 use Rattle.mwc_tally.proofs.Stretches.{is-stretch}
 use Rattle.mwc_tally.proofs.pieces.add_stretch.Goals as goal

@@ -1,5 +1,5 @@
 use Rattle.std.proofs.Common.{◌≡◌, ◌-◌, length, take, drop}
-use Rattle.mwc_tally.specs.Pieces.{joined}
+use Rattle.coalitions.specs.Lists.{joined}
 use Rattle.power_index.specs.Tables.{AreTallies}
 use Rattle.mwc_tally.proofs.pieces.of_stretch.Given as goal
 

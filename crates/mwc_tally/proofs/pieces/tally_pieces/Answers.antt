@@ -1,4 +1,4 @@
-use Rattle.mwc_tally.specs.Pieces.{joined}
+use Rattle.coalitions.specs.Lists.{joined}
 use Rattle.mwc_tally.proofs.Stretches.{ok-counts}
 use Rattle.mwc_tally.proofs.pieces.tally_pieces.Goals as goal
 

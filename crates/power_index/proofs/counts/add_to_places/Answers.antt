@@ -1,6 +1,5 @@
 use Rattle.council_game.specs.Votes.{without}
-use Rattle.power_index.proofs.Imports.{nat_tests, cases_eq, common_steps, arith, get_or, get_or-set_same}
-use Rattle.power_index.proofs.Imports.{lowest-place}
+use Rattle.power_index.proofs.Imports.{nat_tests, cases_eq, common_steps, arith, get_or, get_or-set_same, lowest-place}
 use Rattle.std.proofs.lemmas.Bool.{both_ways, cond-true}
 use Rattle.coalitions.proofs.Shared.Digits.{lowest-cleared, has-gone, has-kept, has-none}
 use Rattle.power_index.proofs.counts.add_to_places.Goals as goal

@@ -1,6 +1,5 @@
-use Rattle.std.proofs.Common.{◌≡◌, ◌<◌, ◌-◌, ◌∷◌, [], ℕ, suc, zero, slice_index}
-use Rattle.mwc_walk.proofs.{Imports.arith, Spared.excess-is, Spared.enough-is}
-use Rattle.mwc_walk.specs.Inner.{Asked.asked_at, Lanes.lane_at}
+use Rattle.mwc_walk.proofs.Imports.{◌≡◌, ◌<◌, ◌-◌, ◌∷◌, [], ℕ, suc, zero, slice_index, arith, asked_at, lane_at}
+use Rattle.mwc_walk.proofs.Spared.{excess-is, enough-is}
 use Rattle.mwc_walk.proofs.cursor.Cursor.excess.Goals as goal
 
 -- a number for each of four rules

@@ -1,4 +1,4 @@
-use Rattle.power_index.proofs.Shared.Tallies.{get_or-zeros}
+use Rattle.coalitions.proofs.Shared.Lists.{get_or-zeros}
 use Rattle.power_index.proofs.tally.Tally.new.Goals as goal
 
 pub returns-clause-sizes : goal.returns-clause-sizes

@@ -1,4 +1,4 @@
-use Rattle.weight_sums.proofs.{Imports.replicate, Members.prefixes-start, Members.come-start, Taking.get_or-zeros}
+use Rattle.weight_sums.proofs.{Imports.replicate, Imports.get_or-zeros, Members.prefixes-start, Members.come-start}
 use Rattle.weight_sums.proofs.rows.Rows.begin.Goals as goal
 
 pub returns-clause-few : goal.returns-clause-few

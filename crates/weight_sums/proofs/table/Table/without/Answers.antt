@@ -1,5 +1,5 @@
-use Rattle.weight_sums.proofs.Imports.{◌∙◌, length, arith, sym}
-use Rattle.weight_sums.proofs.{TableSums.added-none, TableSums.added-all, Taking.get_or-zeros}
+use Rattle.weight_sums.proofs.Imports.{◌∙◌, length, arith, sym, get_or-zeros}
+use Rattle.weight_sums.proofs.TableSums.{added-none, added-all}
 use Rattle.weight_sums.proofs.table.Table.without.Goals as goal
 
 pub loop-key-init : goal.loop-key-init

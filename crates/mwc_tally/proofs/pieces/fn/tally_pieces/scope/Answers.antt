@@ -1,5 +1,5 @@
 use Rattle.std.proofs.Common.{◌≡◌, ℕ, ◌+◌, ◌-◌, ◌*◌, ◌≤◌, length, ap, arith, take_all}
-use Rattle.mwc_tally.specs.Pieces.{joined}
+use Rattle.coalitions.specs.Lists.{joined}
 use Rattle.mwc_tally.proofs.pieces.fn.tally_pieces.scope.Goals as goal
 
 pub returns : goal.returns

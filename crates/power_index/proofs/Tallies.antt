@@ -6,11 +6,6 @@ use Rattle.std.proofs.{Common.set, Common.get_or-set_other, lemmas.List.Recursio
 use Rattle.coalitions.proofs.Shared.Ranges.{sum_by-range-more, sum_by-range-le}
 use Rattle.power_index.proofs.Shared.{Members.size-le, Sums.sum-range, Sums.sum-by_size, Sums.length-filter-le}
 
-pub get_or-zeros : (n s : ℕ) → get_or {A = ℕ} (replicate {A = ℕ} n 0) s 0 ≡ 0
-get_or-zeros zero s = refl
-get_or-zeros (suc n) zero = refl
-get_or-zeros (suc n) (suc s) = get_or-zeros n s
-
 -- one more at place k
 pub bumped : (xs : List ℕ) (k s : ℕ) → k < length xs → get_or (set xs k (get_or xs k 0 + 1)) s 0 ≡ get_or xs s 0 + cond (k == s) 1 0
 bumped xs k s lt = grind (arith, common_steps, cases_eq, get_or-set_other, get_or-set_same, nat_tests)
@@ -30,7 +25,8 @@ tally-total n p list t few h =
     ∙ sym (is_sum_by (λ xs. length xs) (λ x. 1) refl (λ x xs. omega arith) (filter p list))
 
 -- one size more
-pub tally-up : (t : Tally) (n s : ℕ) → s < n + 1 → get_or t.sizes s 0 + sum_by (λ k. get_or t.sizes k 0) (range_with_len 0 s) ≤ tally_total n t
+pub tally-up : (t : Tally) (n s : ℕ) → s < n + 1
+    → get_or t.sizes s 0 + sum_by (λ k. get_or t.sizes k 0) (range_with_len 0 s) ≤ tally_total n t
 tally-up t n s lt = grind (arith, sum_by-range-more, sum_by-range-le (λ k. get_or t.sizes k 0) (s + 1) (n + 1))
 
 pub ruleset one_more = (tally-up, sum_by-range-more)
