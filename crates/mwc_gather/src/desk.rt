@@ -162,9 +162,10 @@ impl Desk {
         let count = self.words.take_some(row);
         let words = &row[..count];
         self.draft.hear_row(words);
-        let (done, ended) = told_by(words);
-        self.idle |= done;
-        self.ended |= ended;
+        self.idle |= one_tells_whole(words);
+        self.ended |= words
+            .iter()
+            .any(|word| matches!(word, Word::End { cut: _ }));
         count
     }
 
@@ -232,16 +233,18 @@ fn put<R: Wait>(rt: &R, tasks: &mut RingIn, task: Word, pair: BellPair<'_>)
     unreachable!()
 }
 
-/// Whether one of the words tells that a slice is whole, and whether one of them is an End.
-fn told_by(words: &[Word]) -> (bool, bool)
-    ensures done { result.0 ≡ list_any is_done words.now }
+/// Whether a word tells that a slice is whole.
+fn tells_whole(word: &Word) -> bool
+    ensures { result ≡ is_done word.now }
 {
-    (
-        words.iter().any(|word| matches!(word, Word::Done(_))),
-        words
-            .iter()
-            .any(|word| matches!(word, Word::End { cut: _ })),
-    )
+    matches!(word, Word::Done(_))
+}
+
+/// Whether one of the words does.
+fn one_tells_whole(words: &[Word]) -> bool
+    ensures { result ≡ list_any is_done words.now }
+{
+    words.iter().any(|word| tells_whole(word))
 }
 
 /// Keeps all words that are left.

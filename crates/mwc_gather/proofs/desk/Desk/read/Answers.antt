@@ -14,6 +14,6 @@ invariant_of-self-clause-idle_is_done c =
     let d = c.args.self.now in
     let row : List Word = take c.take_some-count.result c.take_some-count.new.into in
     let more = c.take_some-count.ensures.taken in
-    let now = ap (λ (b : Bool). d.idle || b) c.told_by-done.ensures.done in
+    let now = ap (λ (b : Bool). d.idle || b) c.one_tells_whole.ensures in
     idle_more (length d.given.items) d.idle
-    (d.idle || c.told_by-done.result.0) d.words.taken row c.take_some-count.new.self.taken more now d.one_ahead d.idle_is_done
+    (d.idle || c.one_tells_whole.result) d.words.taken row c.take_some-count.new.self.taken more now d.one_ahead d.idle_is_done
