@@ -2,9 +2,8 @@
 # Refuses the program's allocations, one after the other, and then each from one on, until no
 # refusal is met. Each time the program says that it is out of memory, or that a worker could not be
 # started, with status 5, that one line on standard error and nothing on standard output; or, where the
-# refused allocation belongs to the reading of its command line or to a thread that counts a part of the list, it does
-# exactly what it does with ample memory. At a fault of the command line it may also tell less of the
-# fault, on standard error and with status 2. The library that refuses is hostile/refuse.c.
+# refused allocation belongs to the reading of its command line, it does exactly what it does with ample memory. At a
+# fault of the command line it may also tell less of the fault, on standard error and with status 2. The library that refuses is hostile/refuse.c.
 . "$(dirname "$0")/common.sh"
 
 compile_refuse
