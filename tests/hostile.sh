@@ -3,7 +3,8 @@
 # refusal is met. Each time the program says that it is out of memory, or that a worker could not be
 # started, with status 5, that one line on standard error and nothing on standard output; or, where the
 # refused allocation belongs to the reading of its command line, it does exactly what it does with ample memory. At a
-# fault of the command line it may also tell less of the fault, on standard error and with status 2. The library that refuses is hostile/refuse.c.
+# fault of the command line it may also tell less of the fault, on standard error and with status 2. The library
+# that refuses is hostile/refuse.c.
 . "$(dirname "$0")/common.sh"
 
 compile_refuse
