@@ -2,8 +2,9 @@
 use Rattle.mwc_gather.proofs.Imports.{◌≡◌, ℕ, ◌+◌, ◌<◌, Bool, false, ◌||◌, [], ◌∷◌, List, Option, None, All, length, common_steps, get_or}
 use Rattle.mwc_gather.proofs.Imports.{subst, arith, sym, length-map, All-head, All-tail, Slicing, DeskView, IsFresh, Desk, Deal, AllOf}
 use Rattle.mwc_gather.proofs.Imports.{view_of, views_of, DealsTo, DealsFirst}
-use Rattle.std.proofs.Common.{zero, suc, replicate, set, length-set, get_or-set_other}
-use Rattle.std.proofs.{Math.Bool.or-false, lemmas.List.map-set, lemmas.List.get_or_default}
+use Rattle.std.proofs.Common.{zero, suc, not, refl, take, true, replicate, set, length-set, get_or-set_other}
+use Rattle.std.proofs.{Math.Bool.or-false, lemmas.Bool.or_parts, lemmas.Bool.Decides.nat_tests, lemmas.Grind.take-set_at}
+use Rattle.std.proofs.lemmas.List.{map-set, get_or_default, Elements.All-push}
 use Rattle.mwc_parts.specs.Shared.Dealing.{DealsInTurn, TakesTurn, DealsOneEach}
 use Rattle.mwc_parts.proofs.Shared.Turns as turns
 use Rattle.mwc_parts.proofs.Shared.Firsts as firsts
@@ -72,3 +73,11 @@ deal_starts {g} {most} deal desks a f e = record {
       (firsts.begin g.slices deal.stopped (views_of desks) f);
   to_come = λ k d low high. fresh_at desks f k d high;
 }
+
+-- the first desks have ended, and so has desk i
+pub ended_more : (desks : List Desk) (i : ℕ) (t : Desk) (running : Bool) → i < length desks
+    → (running ≡ false → All (λ d. d.ended ≡ true) (take i desks)) → (running || not t.ended) ≡ false
+    → All (λ d. d.ended ≡ true) (take (i + 1) (set desks i t))
+ended_more desks i t running lt first none =
+    let (before, here) = or_parts running (not t.ended) none in
+    rw (take-set_at desks i (i + 1) t refl lt) (All-push (λ d. d.ended ≡ true) (take i desks) t (first before) (grind (arith, nat_tests)))

@@ -5,6 +5,7 @@ use Rattle.std.specs.List.{list_any}
 use Rattle.mwc_parts.specs.Shared.Wording.{is_done}
 use Rattle.std.proofs.{Common.count_by, lemmas.List.Sums.sum_by-append}
 use Rattle.mwc_pipe.specs.declared.word.Word.TheVariants.{End}
+use Rattle.mwc_gather.specs.Inner.Sending.{is_end}
 
 -- the words that tell that a slice is whole
 done_more : (before row : List Word) → count_by is_done (before ++ row) ≡ count_by is_done before + count_by is_done row
@@ -27,3 +28,8 @@ pub idle_more : (n : ℕ) (idle now : Bool) (before row after : List Word) → a
     → n ≤ count_by is_done before + 1 → (idle ≡ true → n ≤ count_by is_done before) → now ≡ true → n ≤ count_by is_done after
 idle_more n true now before row after e f l i z = grind (arith, done_more)
 idle_more n false now before row after e f l i z = grind (arith, done_more, done_counts)
+
+-- a worker has ended where it had, or one of the words that it sent more is an End
+pub ended_after : (ended now : Bool) (before row after : List Word) → after ≡ before ++ row → ended ≡ list_any is_end before
+    → now ≡ list_any is_end row → (ended || now) ≡ list_any is_end after
+ended_after ended now before row after more was is = grind (arith, common_steps)

@@ -1,5 +1,5 @@
 //! Dealing slices to the workers while they run.
-ghost use Rattle.std.specs.Prelude.{◌≡◌, ◌<◌, ◌≤◌, ◌^◌, ◌++◌, List, All, length, replicate, false};
+ghost use Rattle.std.specs.Prelude.{◌≡◌, ◌<◌, ◌≤◌, ◌^◌, ◌++◌, List, All, length, replicate, true, false};
 ghost use Rattle.std.specs.List.{list_any};
 ghost use Rattle.coalitions.specs.declared.limits.TheConstants.{WORKERS};
 ghost use Rattle.mwc_pipe.specs.declared.word.Word.{Word};
@@ -114,8 +114,9 @@ impl Deal {
         requires all_of { AllOf (slicing job.now.guarded job.now.bits) job.now.most desks.old }
         requires fresh { All IsFresh (views_of desks.old) }
         requires marks { self.old.marks ≡ replicate (2 ^ job.now.bits) None }
-        ensures { DealsTo (slicing job.now.guarded job.now.bits) job.now.most self.old.stopped
+        ensures deals { DealsTo (slicing job.now.guarded job.now.bits) job.now.most self.old.stopped
             self.new desks.new }
+        ensures ended { All (λ d. d.ended ≡ true) desks.new }
     {
         let mut row = [Word::Open(0); WORDS];
         let mut patience = Patience::new();

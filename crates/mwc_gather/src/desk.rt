@@ -11,6 +11,7 @@ ghost use Rattle.mwc_parts.specs.Shared.Dealing.{IsFresh};
 ghost use Rattle.mwc_parts.specs.Shared.Fault.{IsEarly, fault_in};
 ghost use Rattle.mwc_gather.specs.Slicings.{slicing};
 ghost use Rattle.mwc_gather.specs.Sending.{HasWorked};
+ghost use Rattle.mwc_gather.specs.Inner.Sending.{is_end};
 
 use crate::equipment::Equipment;
 use crate::job::Job;
@@ -49,6 +50,7 @@ pub(crate) struct Desk {
     ghost tasks_are: { tasks.accepted ≡ open_words given.items ++ end_words told },
     ghost one_ahead: { length given.items ≤ count_by is_done words.taken + 1 },
     ghost idle_is_done: { idle ≡ true → length given.items ≤ count_by is_done words.taken },
+    ghost ended_is_end: { ended ≡ list_any is_end words.taken },
     ghost below: { All (λ j. j < 2 ^ worker.promise.bits) given.items },
 }
 
@@ -163,9 +165,7 @@ impl Desk {
         let words = &row[..count];
         self.draft.hear_row(words);
         self.idle |= one_tells_whole(words);
-        self.ended |= words
-            .iter()
-            .any(|word| matches!(word, Word::End { cut: _ }));
+        self.ended |= one_is_end(words);
         count
     }
 
@@ -245,6 +245,20 @@ fn one_tells_whole(words: &[Word]) -> bool
     ensures { result ≡ list_any is_done words.now }
 {
     words.iter().any(|word| tells_whole(word))
+}
+
+/// Whether a word is the last of a worker.
+fn is_end(word: &Word) -> bool
+    ensures { result ≡ is_end word.now }
+{
+    matches!(word, Word::End { cut: _ })
+}
+
+/// Whether one of the words is.
+fn one_is_end(words: &[Word]) -> bool
+    ensures { result ≡ list_any is_end words.now }
+{
+    words.iter().any(|word| is_end(word))
 }
 
 /// Keeps all words that are left.

@@ -1,5 +1,5 @@
 //! Workers that run beside each other.
-ghost use Rattle.std.specs.Prelude.{◌≡◌, ◌<◌, ◌≤◌, ◌^◌, All, List, ℕ, Option, None, false, IfOk, length, vec_len};
+ghost use Rattle.std.specs.Prelude.{◌≡◌, ◌<◌, ◌≤◌, ◌^◌, All, List, ℕ, Option, None, false, IfOk, IfErr, length, vec_len};
 ghost use Rattle.std.specs.Option.{is_some};
 ghost use Rattle.std.specs.List.{AllZip};
 ghost use Rattle.coalitions.specs.declared.limits.TheConstants.{BITS, WORKERS, COALITIONS};
@@ -129,6 +129,7 @@ fn all_of<G>(job: &Job<'_, G>, workers: u8, parts: Vec<Part>) -> Result<Gathered
         (Gathers (votes_of job.now.guarded) job.now.bits workers job.now.most) }
     ensures many { result ≡ Err GatherFault.TooMany
         → job.now.most < length (minimal_coalitions (votes_of job.now.guarded)) }
+    ensures fault { IfErr result (λ fault. fault ≡ GatherFault.TooMany) }
 {
     if !fits(parts.as_slice(), job.most) {
         return Err(GatherFault::TooMany);

@@ -36,7 +36,7 @@ size-without n p c lt inside =
     let less = rw long at (weight-without (replicate n 1) p c (omega (arith, lt, long)) (rw long (eqb-true _ _ inside))) in
     omega (arith, less, get_or-replicate {A = ℕ} n p 1 0 lt, ones c, ones (c - 2 ^ (n - 1 - p)))
 
--- a condition, and so many members
+-- a condition, and a number of members
 pub by-heads : (n : ℕ) (won : ℕ → Bool) (heads c : ℕ) → IsMin n (λ x. won x && leb heads (size n x)) c
     ↔ (((size n c ≡ heads) × (won c ≡ true)) ⊎ ((heads < size n c) × IsMin n won c))
 by-heads n won heads c = grind (arith, cases_lt, nat_tests, size-without)

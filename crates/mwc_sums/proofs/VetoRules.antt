@@ -141,7 +141,7 @@ made-of g rs is fair = grind (arith, passed, makes, position_nowhere, list_any_n
 
 -- what was made of them, or want of memory
 pub made-rules : (g made : GameView) (rs : List RuleView) → IsGame g → All (IsFair (length g.names)) rs
-    → Answers (Ok made) (made_game None g.names rs) → (made.names ≡ g.names) × (made.rules ≡ rs)
+    → Answers (Ok made) (made_game None g.names rs) → (made.title ≡ None) × (made.names ≡ g.names) × (made.rules ≡ rs)
 made-rules g made rs is fair gives = grind (arith, made-of)
 
 pub only-memory : (g : GameView) (fault : GameFault) (rs : List RuleView) → IsGame g → All (IsFair (length g.names)) rs

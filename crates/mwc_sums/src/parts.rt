@@ -6,7 +6,7 @@ ghost use Rattle.mwc_sums.specs.Chambers.{AreChambersOf};
 ghost use Rattle.mwc_sums.specs.Inner.Rules.{AreRulesOf};
 ghost use Rattle.mwc_sums.specs.Statute.{IsCountedInPart, left, statute};
 ghost use Rattle.power_index.specs.Tables.{AreCounts};
-ghost use Rattle.std.specs.Prelude.{◌≡◌, ◌↔◌, ◌+◌, ◌≤◌, IfOk, IfSome, IsSome, length};
+ghost use Rattle.std.specs.Prelude.{◌≡◌, ◌↔◌, ◌+◌, ◌≤◌, None, IfOk, IfSome, IsSome, length};
 
 use crate::counted::{Counted, boxed_joined};
 use crate::statute::Statute;
@@ -48,6 +48,8 @@ fn parts_of(alloc: Global, game: &Game, whole: &Statute) -> Result<Option<Parts>
     requires game { AreRulesOf game.now whole.now.members whole.now.rules }
     ensures parts { IfOk result (λ parts. IfSome parts (λ p. AreChambersOf game.now p.counted.game p.left)) }
     ensures left { IfOk result (λ parts. IfSome parts (λ p. p.left.rules ≡ left game.now)) }
+    ensures names { IfOk result (λ parts. IfSome parts (λ p. p.left.names ≡ game.now.names)) }
+    ensures title { IfOk result (λ parts. IfSome parts (λ p. p.left.title ≡ None)) }
     ensures kind { IfOk result (λ parts. IsSome parts ↔ IsCountedInPart game.now) }
 {
     whole.rules_are_fair();
@@ -62,7 +64,8 @@ fn parts_of(alloc: Global, game: &Game, whole: &Statute) -> Result<Option<Parts>
 }
 
 /// A game that `count_by_sums` does not count, in two: sums count those that can veto, and each chamber of one rule, or of
-/// weights and heads; what is left is of the other rules alone. None where sums count nothing of it, or leave nothing.
+/// weights and heads; what is left is a game of the same members under the other rules alone, without a title. None
+/// where sums count nothing of it, or leave nothing.
 ///
 /// # Errors
 ///
@@ -70,6 +73,8 @@ fn parts_of(alloc: Global, game: &Game, whole: &Statute) -> Result<Option<Parts>
 pub fn part_by_sums(alloc: Global, game: &Game) -> Result<Option<Parts>, Memory>
     ensures parts { IfOk result (λ parts. IfSome parts (λ p. AreChambersOf game.now p.counted.game p.left)) }
     ensures left { IfOk result (λ parts. IfSome parts (λ p. p.left.rules ≡ left game.now)) }
+    ensures names { IfOk result (λ parts. IfSome parts (λ p. p.left.names ≡ game.now.names)) }
+    ensures title { IfOk result (λ parts. IfSome parts (λ p. p.left.title ≡ None)) }
     ensures kind { IfOk result (λ parts. IsSome parts ↔ IsCountedInPart game.now) }
 {
     let statute = Statute::of(alloc, game)?;

@@ -3,7 +3,7 @@ ghost use Rattle.coalitions.specs.declared.limits.TheConstants.{RULES};
 ghost use Rattle.council_game.specs.Game.{IsGame};
 ghost use Rattle.council_game.specs.Rules.{rule_views};
 ghost use Rattle.mwc_sums.specs.Inner.Fair.{IsFair};
-ghost use Rattle.std.specs.Prelude.{◌≡◌, ◌<◌, ◌≤◌, All, IfOk, length, map, string_bytes};
+ghost use Rattle.std.specs.Prelude.{◌≡◌, ◌<◌, ◌≤◌, None, All, IfOk, length, map, string_bytes};
 
 use council_game::{Game, GameFault, Memory, Rule};
 use std::alloc::Global;
@@ -28,6 +28,7 @@ pub(crate) fn remade(alloc: Global, game: &Game, rules: Vec<Rule>) -> Result<Gam
     requires fair { All (IsFair (length game.now.names)) (rule_views rules.items) }
     ensures game { IfOk result (λ made. IsGame made) }
     ensures names { IfOk result (λ made. made.names ≡ game.now.names) }
+    ensures title { IfOk result (λ made. made.title ≡ None) }
     ensures rules { IfOk result (λ made. made.rules ≡ rule_views rules.items) }
 {
     game.was_checked();

@@ -7,7 +7,7 @@ ghost use Rattle.mwc_sums.specs.Chambers.{chamber_of, share};
 ghost use Rattle.mwc_sums.specs.Inner.Fair.{IsFair};
 ghost use Rattle.mwc_sums.specs.Inner.Rules.{AreRulesOf, beside_of, part_of};
 ghost use Rattle.mwc_sums.specs.Statute.{is_counted, statute};
-ghost use Rattle.std.specs.Prelude.{◌≡◌, ◌+◌, ◌<◌, ◌≤◌, All, filter, not, if◌then◌else◌, IfOk, length, slice_index};
+ghost use Rattle.std.specs.Prelude.{◌≡◌, ◌+◌, ◌<◌, ◌≤◌, None, All, filter, not, if◌then◌else◌, IfOk, length, slice_index};
 
 use crate::remade::remade;
 use crate::vetoers::rules_beside_vetoers;
@@ -149,6 +149,7 @@ impl Statute {
         requires few { length self.now.rules ≤ RULES }
         ensures game { IfOk result (λ made. IsGame made) }
         ensures names { IfOk result (λ made. made.names ≡ game.now.names) }
+        ensures title { IfOk result (λ made. made.title ≡ None) }
         ensures rules { IfOk result (λ made. made.rules ≡ self.now.rules) }
     {
         self.rules_are_fair();

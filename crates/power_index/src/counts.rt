@@ -221,7 +221,7 @@ impl Counts {
         self.all.total(self.members)
     }
 
-    /// The number of coalitions with so many members.
+    /// The number of coalitions of a size.
     pub fn wide_of_size(&self, size: usize) -> u64
         requires { size ≤ self.now.members }
         ensures count { result ≡ table_of_size self.now size }
@@ -241,7 +241,7 @@ impl Counts {
         each[self.ranks[member]].total(self.members)
     }
 
-    /// The number of coalitions with so many members that contain a member.
+    /// The number of coalitions of a size that contain a member.
     pub fn wide_of_member_size(&self, member: usize, size: usize) -> u64
         requires member { member < self.now.members }
         requires size { size ≤ self.now.members }
@@ -259,8 +259,8 @@ impl Counts {
         narrow(self.wide_total())
     }
 
-    /// The number of coalitions with so many members in 32 bits, or the greatest number of 32 bits
-    /// where there are more.
+    /// The number of coalitions of a size in 32 bits, or the greatest number of 32 bits where there are
+    /// more.
     pub fn of_size(&self, size: usize) -> u32
         requires { size ≤ self.now.members }
         ensures count { table_total self.now < 2 ^ 32 → result ≡ table_of_size self.now size }
@@ -281,8 +281,8 @@ impl Counts {
         narrow(self.wide_of_member(member))
     }
 
-    /// The number of coalitions with so many members that contain a member, in 32 bits, or the
-    /// greatest number of 32 bits where there are more.
+    /// The number of coalitions of a size that contain a member, in 32 bits, or the greatest number of
+    /// 32 bits where there are more.
     pub fn of_member_size(&self, member: usize, size: usize) -> u32
         requires member { member < self.now.members }
         requires size { size ≤ self.now.members }

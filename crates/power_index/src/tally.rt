@@ -45,7 +45,7 @@ impl Tally {
         }
     }
 
-    /// How many coalitions of these sizes there are: 0 to so many members.
+    /// How many coalitions of the sizes from 0 to the number of members there are.
     #[tactic(auto, using(crate::proofs::Tallies::one_more))]
     pub(crate) fn total(&self, members: usize) -> u64
         requires members { members ≤ MEMBERS }

@@ -47,7 +47,7 @@ unfolding over
 doubling-all {xs = xs} {i = i} {j = j} h all are = grind (arith, drop_all)
 
 -- ---- how large they are
--- a set of at most n members that weigh at most so much
+-- a set of at most n members, of this weight at most
 record IsWithin (n total : ℕ) (x : Set) : Type 0 where
   weight_in : x.weight ≤ total
   size_in : x.size ≤ n
@@ -64,7 +64,7 @@ over-none short (w ∷ ws) g none =
     let with_it = over-none short ws (λ x. g (joined w x)) (λ x h. none (joined w x) (grind (arith))) in
     grind (arith, nat_tests)
 
--- so many sets
+-- how many sets there are
 sum-ones : (xs : List Set) → sum_by (λ x. 1) xs ≡ length xs
 sum-ones [] = refl
 sum-ones (x ∷ xs) = simp sum_by-cons (omega (arith, sum-ones xs))

@@ -14,7 +14,7 @@ choose-most zero (suc k) = omega arith
 choose-most (suc m) zero = pow_pos (suc m)
 choose-most (suc m) (suc k) = grind (arith, choose-most m k, choose-most m (suc k))
 
--- so many more at place k
+-- v more at place k
 bumped : (xs : List ℕ) (k s v : ℕ) → k < length xs → get_or (set xs k (get_or xs k 0 + v)) s 0 ≡ get_or xs s 0 + v * one_of_size s k
 bumped xs k s v lt = grind (arith, nat_tests, get_or-set_same, get_or-set_other)
 

@@ -21,7 +21,7 @@ fn next_row(row: &[u64; limits::SIZES], of: usize) -> [u64; limits::SIZES]
     next
 }
 
-/// Row m has in how many ways so many of m members can be chosen.
+/// Row m has, for each k, in how many ways k of m members can be chosen.
 #[tactic(auto, using(std::proofs::lemmas::Grind::common_steps, crate::proofs::Taking::chosen))]
 fn choices(alloc: Global) -> Result<Vec<[u64; limits::SIZES]>, Memory>
     ensures { IfOk result (λ v. AreChoices v.items) }
@@ -42,14 +42,14 @@ fn choices(alloc: Global) -> Result<Vec<[u64; limits::SIZES]>, Memory>
 pub(crate) struct Heads {
     /// How many members are asked for, 0 to 40.
     pub asked: usize,
-    /// Row m has in how many ways so many of m members can be chosen.
+    /// Row m has, for each k, in how many ways k of m members can be chosen.
     choices: Vec<[u64; limits::SIZES]>,
     ghost few: { asked ≤ MEMBERS },
     ghost are: { AreChoices choices.items },
 }
 
 impl Heads {
-    /// So many members are asked for.
+    /// Where `asked` members are asked for, 0 to 40.
     pub(crate) fn new(alloc: Global, asked: usize) -> Result<Heads, Memory>
         requires { asked ≤ MEMBERS }
         ensures { IfOk result (λ heads. heads.asked ≡ asked) }
@@ -58,8 +58,8 @@ impl Heads {
         Ok(Heads { asked, choices })
     }
 
-    /// In how many ways a coalition of this size is filled up to so many members by others, of so many that
-    /// are left; 1 where it has more.
+    /// In how many ways a coalition of this size is filled up to as many members as are asked for, by some of the
+    /// `left` members that are left; 1 where it has more.
     pub(crate) fn filled(&self, size: usize, left: usize) -> u64
         requires { left ≤ MEMBERS }
         ensures { result ≡ (if nat_lt self.now.asked size then 1

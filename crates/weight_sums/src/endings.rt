@@ -34,7 +34,7 @@ fn tallies_of(alloc: Global, weights: &[u64], quota: u64, asked: &Heads) -> Resu
 
 /// How many coalitions members with these weights lead to from a quota, by size: of all, and by place of those that contain
 /// it; on the heap. Each meets the quota and loses it without its last member, and has more members than the heads
-/// that are asked for, or just so many and meets the quota. By sums where their rows have room, and else by halves, in 64 MB.
+/// that are asked for, or just as many and meets the quota. By sums where their rows have room, and else by halves, in 64 MB.
 ///
 /// There are at most 40 weights, of at most 40 * 10^12 together; the quota is above 0, and at most 40 heads are asked for. With
 /// the heaviest first, and all members in them, these are the minimal winning coalitions of `[quota; weights]`, where

@@ -8,7 +8,7 @@ ghost use Rattle.weight_sums.specs.Inner.Fitting.{AreEntered, AreOfNeed, Meet};
 use crate::sets::Set;
 use coalitions::limits;
 
-/// A half has at most so many members.
+/// How many members a half has at most.
 pub(crate) const HALF: usize = limits::MEMBERS / 2;
 
 /// Those sets of a half that meet a need: of a list by weight, the ones at its end.
@@ -65,7 +65,7 @@ impl Fitting {
         }
     }
 
-    /// Counts them, by size, where so many members are in front of them.
+    /// Counts them, by size, where `size` members are in front of them.
     #[tactic(auto, using(std::proofs::lemmas::Grind::common_steps, crate::proofs::FittingSets::entering))]
     pub(crate) fn add(&self, size: usize, done: &mut [u64; limits::SIZES])
         requires size { size ≤ 20 }

@@ -32,7 +32,7 @@ fn high(members: u32, digits: u32) -> usize
 /// the sets of the list are chosen from, and for each choice of the others.
 #[derive(Drop)]
 pub(crate) struct Groups {
-    /// So many are the first, and at most so many the others.
+    /// How many members are the first; at most as many are the others.
     digits: u32,
     low: Table,
     high: Table,

@@ -16,8 +16,8 @@ pub(crate) struct Open {
     pub ways: u64,
 }
 
-/// How many prefixes at the front of a row stay open where all that comes weighs so much: a row ascends
-/// by need, and those behind them can no more be completed.
+/// How many prefixes at the front of a row stay open where all members that come weigh `rest` together: a row
+/// ascends by need, and those behind them can no more be completed.
 pub(crate) fn still_open(row: &[Open], rest: u64) -> usize
     ensures within { result ≤ length row.now }
     ensures same { (g : ℕ → ℕ → ℕ) → ((need size : ℕ) → rest < need → g need size ≡ 0)

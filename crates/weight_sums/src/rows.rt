@@ -14,10 +14,11 @@ use std::mem;
 /// All rows of one pass over the members together never have more entries.
 const ROOM: usize = 1 << 20;
 
-/// So many entries all rows of one pass over the members may have together: twice as many as a half of the
-/// members has sets. With more of them the sets of the halves are counted sooner.
+/// How many entries all rows of one pass over the members may have together: twice as many as a half of the
+/// members has sets, and `ROOM` at most. With more of them the sets of the halves are counted sooner.
 fn room_for(members: usize) -> usize
     requires { members ≤ MEMBERS }
+    ensures { result ≤ 2 ^ 20 }
 {
     let half = 1usize << ((members + 1) / 2);
     (2 * half).min(ROOM)
@@ -29,7 +30,7 @@ pub(crate) struct Rows {
     pub row: Vec<Open>,
     /// The coalitions that are counted by now, by size.
     pub done: [u64; limits::SIZES],
-    /// So many entries the rows of the pass may still have together.
+    /// How many entries the rows of the pass may still have together.
     room: usize,
     /// Room for the next row.
     taken: Vec<Open>,
@@ -79,9 +80,9 @@ impl Rows {
         Ok(())
     }
 
+    /// Decides one member more, of this weight, where the `left` members after it weigh `rest` together: coalitions
+    /// that are complete by it are counted by size.
     #[tactic(auto, using(std::proofs::lemmas::Grind::common_steps, crate::proofs::Passing::going))]
-    /// Decides one member more, of this weight, where all after it weigh so much: coalitions that are
-    /// complete by it are counted by size.
     pub(crate) fn go_on(
         &mut self,
         weight: u64,

@@ -38,7 +38,7 @@ impl Table {
         Ok(Table { rows })
     }
 
-    /// Counts in the row of a key those that fit, by size, where so many members are in front of them.
+    /// Counts in the row of a key those that fit, by size, where `size` members are in front of them.
     #[tactic(auto, using(std::proofs::lemmas::Bool::Decides::nat_tests, std::proofs::lemmas::List::get_or_default))]
     pub(crate) fn add(&mut self, key: usize, size: usize, fitting: &Fitting)
         requires key { key < length self.old.rows.items }

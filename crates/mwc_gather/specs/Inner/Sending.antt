@@ -1,8 +1,13 @@
 -- What the sending of one slice, and a worker, answer: what only proofs and private functions need.
-use Rattle.std.specs.Prelude.{◌≡◌, ℕ, ◌<◌, List, [], ◌∷◌, ◌++◌}
+use Rattle.std.specs.Prelude.{◌≡◌, ℕ, ◌<◌, Bool, true, false, List, [], ◌∷◌, ◌++◌}
 use Rattle.mwc_parts.specs.Wording.{IsLast}
 use Rattle.mwc_pipe.specs.declared.word.Word.{Word}
-use Rattle.mwc_pipe.specs.declared.word.Word.TheVariants.{Open}
+use Rattle.mwc_pipe.specs.declared.word.Word.TheVariants.{End, Open}
+
+-- whether a word is the last of a worker
+abbrev pub is_end : Word → Bool
+is_end (End cut) = true
+is_end _ = false
 
 -- the first words of the row went into the pipe, and the rest is left
 abbrev pub SendsFirst : List Word → List Word → List Word → List Word → Type 0

@@ -21,7 +21,7 @@ finish_all-requires-clause-dealt g c =
     let early = c.is_some.ensures ∙ ap is_some c.fault.ensures in
     let P : Bool → List Desk → Type 0 = λ b w. DealsTo (slicing job.guarded job.bits) job.most b c.read_all.new.self w in (
       c.read_all.new.self,
-      subst (P (is_some (fault_of c.open_all-desks.result.1))) (sym all) (subst (λ b. P b new) early c.read_all.ensures),
+      subst (P (is_some (fault_of c.open_all-desks.result.1))) (sym all) (subst (λ b. P b new) early c.read_all.ensures.deals),
     )
 
 pub returns-in_err-parts-clause-many : goal.returns-in_err-parts-clause-many
@@ -37,4 +37,4 @@ pub all_of-requires : goal.all_of-requires
 all_of-requires g c = grind (arith, common_steps)
 
 pub returns : goal.returns
-returns g c = c.all_of.ensures
+returns g c = record { gathers = c.all_of.ensures.gathers; many = c.all_of.ensures.many }

@@ -1,5 +1,6 @@
-use Rattle.mwc_gather.proofs.Imports.{common_steps, ◌<◌, length, arith}
-use Rattle.mwc_gather.proofs.Deals.{turn_of}
+use Rattle.mwc_gather.proofs.Imports.{◌≡◌, true, All, subst, common_steps, ◌<◌, length, arith}
+use Rattle.std.proofs.{Common.take_all, lemmas.List.Elements.All-nil}
+use Rattle.mwc_gather.proofs.Deals.{turn_of, ended_more}
 use Rattle.mwc_gather.proofs.dealing.Deal.read_all.Goals as goal
 
 pub deal_first-requires : goal.deal_first-requires
@@ -9,7 +10,7 @@ pub loop-init : goal.loop-init
 loop-init g c = grind (arith, common_steps)
 
 pub loop-i-init : goal.loop-i-init
-loop-i-init g c = c.loop.invariant
+loop-i-init g c = (c.loop.invariant, λ _. All-nil (λ d. d.ended ≡ true))
 
 pub turn-moved-requires : goal.turn-moved-requires
 turn-moved-requires g c = grind (arith, common_steps)
@@ -17,18 +18,23 @@ turn-moved-requires g c = grind (arith, common_steps)
 pub loop-i-preserved : goal.loop-i-preserved
 loop-i-preserved g c =
     let q = c.loop-i.auto.desks in
-    let l : c.loop-i.i < length c.loop-i.desks = omega arith in
-    turn_of c.loop-i.desks c.loop-i.i c.index-desks-i.result c.turn-moved.new.desk l c.loop-i.invariant c.turn-moved.ensures.worker
-    c.turn-moved.ensures.turns.2
+    let l : c.loop-i.i < length c.loop-i.desks = omega arith in (
+      turn_of c.loop-i.desks c.loop-i.i c.index-desks-i.result c.turn-moved.new.desk l c.loop-i.invariant.0 c.turn-moved.ensures.worker
+          c.turn-moved.ensures.turns.2,
+      ended_more c.loop-i.desks c.loop-i.i c.turn-moved.new.desk c.loop-i.running l c.loop-i.invariant.1,
+    )
 
 pub returns-then-not-running : goal.returns-then-not-running
-returns-then-not-running g c = c.loop-i.invariant
+returns-then-not-running g c = record {
+  deals = c.loop-i.invariant.0;
+  ended = subst (All (λ d. d.ended ≡ true)) (take_all c.loop-i.i c.loop-i.desks (omega arith)) (c.loop-i.invariant.1 c.if-not-running.true);
+}
 
 pub loop-preserved-then-moved : goal.loop-preserved-then-moved
-loop-preserved-then-moved g c = c.loop-i.invariant
+loop-preserved-then-moved g c = c.loop-i.invariant.0
 
 pub loop-preserved : goal.loop-preserved
-loop-preserved g c = c.loop-i.invariant
+loop-preserved g c = c.loop-i.invariant.0
 
 pub offset_bounds-desks-i : goal.offset_bounds-desks-i
 offset_bounds-desks-i g c = omega arith

@@ -1,5 +1,5 @@
 use Rattle.mwc_gather.proofs.Imports.{List, length, take, ap, ◌||◌, Bool, Word}
-use Rattle.mwc_gather.proofs.Words.{ahead_more, idle_more}
+use Rattle.mwc_gather.proofs.Words.{ahead_more, ended_after, idle_more}
 use Rattle.mwc_gather.proofs.desk.Desk.read.Goals as goal
 
 pub invariant_of-self-clause-one_ahead : goal.invariant_of-self-clause-one_ahead
@@ -17,3 +17,10 @@ invariant_of-self-clause-idle_is_done c =
     let now = ap (λ (b : Bool). d.idle || b) c.one_tells_whole.ensures in
     idle_more (length d.given.items) d.idle
     (d.idle || c.one_tells_whole.result) d.words.taken row c.take_some-count.new.self.taken more now d.one_ahead d.idle_is_done
+
+pub invariant_of-self-clause-ended_is_end : goal.invariant_of-self-clause-ended_is_end
+invariant_of-self-clause-ended_is_end c =
+    let d = c.args.self.now in
+    let row : List Word = take c.take_some-count.result c.take_some-count.new.into in
+    ended_after d.ended c.one_is_end.result d.words.taken row c.take_some-count.new.self.taken c.take_some-count.ensures.taken d.ended_is_end
+    c.one_is_end.ensures
