@@ -31,12 +31,12 @@ import tempfile
 import time
 from collections import Counter
 
-# A run that takes longer, by the clock and in processor time, may take so many times what the slowest
-# untouched game takes at that time. Else it is tried again after so many seconds.
+# A run that takes longer, by the clock and in processor time, may take `TIMES` times what the
+# slowest untouched game takes at that time. Else it is tried again after `PAUSE` seconds.
 SECONDS = 1.0
 TIMES = 3
 PAUSE = 5
-# After so many seconds a run has not ended. Where other work holds all processors, each hand-over of a
+# After this many seconds a run has not ended. Where other work holds all processors, each hand-over of a
 # full ring waits for its turn, so a long list may take half a minute.
 HANGS = 5 * int(os.environ.get("SECONDS_EACH", 60))
 # Bytes that mean something in one of the two forms.

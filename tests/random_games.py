@@ -28,7 +28,7 @@ NAMES = ["A", "B'", 'the "C"', "Åland", "日本", "d/e", "a name of several wor
 
 
 def weights_of(rng, members):
-    """So many weights, not all of them 0."""
+    """A number of weights, not all of them 0."""
     most = rng.choice([0, 4, 100, 10 ** 12])
     weights = [rng.randrange(most) if most else 1 for _ in range(members)]
     if most == 10 ** 12:

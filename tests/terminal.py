@@ -20,7 +20,7 @@ class Run:
         self.process = subprocess.Popen(words, stdin=subprocess.DEVNULL, stdout=follower if both else stdout, stderr=follower)
         os.close(follower)
         self.began = began
-        # after so many seconds it first said something, and what it has said so far
+        # after how many seconds it first said something, and what it has said so far
         self.first = None
         self.told = b""
 
@@ -47,7 +47,7 @@ class Run:
         return self.process.wait()
 
     def slow_down(self, piece):
-        """Stops it six times, each time after so many seconds, so that its clock goes on for two seconds and it does not."""
+        """Stops it six times, each time after some seconds, so that its clock goes on for two seconds and it does not."""
         for _ in range(6):
             time.sleep(piece)
             self.process.send_signal(signal.SIGSTOP)
@@ -61,7 +61,7 @@ class Run:
 
 def run_slowly(words, lines, both=False):
     """Runs a program that takes some tenths of a second so that more than a second goes by until it ends: it is stopped now and
-    then, on a busier machine later, until a run has told so many slices that are begun. That run, and its status."""
+    then, on a busier machine later, until a run has told a number of slices that are begun. That run, and its status."""
     for piece in (0.005, 0.02, 0.08, 0.32):
         run = Run(words, both=both)
         run.slow_down(piece)

@@ -52,13 +52,13 @@ LOG = f"{OUT}/build.log"
 MEMORY = 3_000_000_000
 # how far a proof gives way to the first one: any other, and one that fills the time at the end
 NICE, NICE_LAST = 10, 19
-# what only the program waits for fills the time at the end if it takes at most so many seconds
+# what only the program waits for fills the time at the end if it takes at most this many seconds
 FILLS = 100
-# what fills the time at the end may use so many lanes beside those that there are processors for
+# what fills the time at the end may use this many lanes beside those that there are processors for
 MORE_LANES = 1
 # how long each proof took when it was last made from nothing
 MEASURED = f"{OUT}/seconds"
-# where that is not known: a second for so many lines of code (not of proofs and definitions), as most crates take
+# where that is not known: a second for this many lines of code (not of proofs and definitions), as most crates take
 LINES_A_SECOND = 10
 # how long the program is compiled and linked, in seconds
 COMPILED = 60
@@ -130,7 +130,7 @@ def chains(names, lines, cost):
 
 
 def minutes(left, lines, cost, took, few):
-    """How many minutes what is left takes: as so many processors share it, or as its longest chain does; as much longer or
+    """How many minutes what is left takes: as the processors share it, or as its longest chain does; as much longer or
     shorter as what was proved took."""
     # (the lowest first: what a crate stands on stands on fewer)
     names = sorted(left, key=lambda it: len(below(it, lines)))
@@ -194,7 +194,7 @@ def make_room(name, lines):
 
 
 def do(words, folder, name, nice=0):
-    """Does a command in a folder, which gives way to others by so much; what it says goes to the log of a crate. Its status."""
+    """Does a command in a folder, which gives way to others by `nice`; what it says goes to the log of a crate. Its status."""
     with open(f"{ROOMS}/{name}.log", "a", encoding="utf-8") as log:
         how = {"cwd": folder, "stdin": subprocess.DEVNULL, "stdout": log, "stderr": subprocess.STDOUT}
         if STOPPED:
@@ -207,7 +207,7 @@ def do(words, folder, name, nice=0):
 
 
 def prove_and_keep(name, lines, nice, jobs):
-    """Proves a library by `rt lib`, by so many jobs, which give way to others by so much; its status."""
+    """Proves a library by `rt lib`, by a number of jobs, which give way to others by `nice`; its status."""
     folder = make_room(name, lines)
     try:
         return do(["rt", "lib", "--jobs", str(jobs)], folder, name, nice)
@@ -303,7 +303,7 @@ def give(name, stamp):
 
 
 def prove_once(name, lines, nice, jobs):
-    """Proves a library from nothing, unless it is proved, by so many jobs; its status."""
+    """Proves a library from nothing, unless it is proved, by a number of jobs; its status."""
     made, stamp, sum = os.path.dirname(statements(name)), stamp_of(name), sum_of(name, lines)
     if text_of(f"{made}/sum") == sum:
         give(name, stamp)

@@ -2,7 +2,7 @@
  *
  *     REFUSE_AT=3 LD_PRELOAD=./refuse.so PROGRAM      refuses the third allocation alone
  *     REFUSE_FROM=3 LD_PRELOAD=./refuse.so PROGRAM    refuses the third and each later one
- *     REFUSE_OVER=65536 LD_PRELOAD=./refuse.so PROGRAM    refuses each of more bytes than so many
+ *     REFUSE_OVER=65536 LD_PRELOAD=./refuse.so PROGRAM    refuses each of more bytes than that
  *
  * Calls of malloc, calloc, realloc, aligned_alloc, memalign and posix_memalign count from 1, from the
  * start of `main` on, in all threads together: what the C library itself takes before is no part of
