@@ -1,5 +1,5 @@
 -- What a buffer shows.
-use Rattle.std.proofs.Common.{◌≡◌, ◌≤◌, ◌++◌, ◌∙◌, ℕ, List, [], length, take, drop, min, ap, sym, arith, take_all, length-take-le}
+use Rattle.std.proofs.Common.{◌≡◌, ◌≤◌, ◌++◌, ◌∙◌, ℕ, List, length, take, drop, min, ap, sym, arith, take_all, length-take-le}
 use Rattle.std.proofs.{Math.Nat.min_comm, lemmas.List.take_min, lemmas.List.drop_all, lemmas.List.drop_min}
 use Rattle.council_c.specs.Answer.{Shows}
 
@@ -11,9 +11,6 @@ shows-copy text room front n least is =
     let begin = is ∙ ap (λ (k : ℕ). take k text) (least ∙ min_comm (length text) (length room)) ∙ take_min (length room) text in
     let rest = ap (λ (k : ℕ). drop k room) least ∙ drop_min (length text) room in
     ap (λ (l : List ℕ). l ++ drop n room) begin ∙ ap (λ (l : List ℕ). take (length room) text ++ l) rest
-
-pub after-none : {a b c : List ℕ} → c ≡ a ++ b → a ≡ [] → c ≡ b
-after-none {b = b} more none = more ∙ ap (λ (t : List ℕ). t ++ b) none
 
 -- the beginning of a text, as long as the buffer, shows as the text does
 pub shows-beginning : (begin text room after : List ℕ) (n : ℕ) → n ≤ length text → begin ≡ take n text → length begin ≡ length room
