@@ -60,10 +60,12 @@ MORE_LANES = 1
 MEASURED = f"{OUT}/seconds"
 # where that is not known: a second for this many lines of code (not of proofs and definitions), as most crates take
 LINES_A_SECOND = 10
-# how long the program is compiled and linked, in seconds
-COMPILED = 60
+# how long the statements below a library are read, and how long the program is compiled and linked, in seconds
+READ, COMPILED = 15, 60
 # how many processors a proof keeps busy, on the whole
 BUSY = 1.3
+# how many times as fast a proof is with a second job
+TWO_JOBS = 1.5
 # how many seconds must have been measured until they count as much as what was guessed
 GUESSED = 120
 # what ends a build
@@ -114,7 +116,7 @@ def costs(names):
     guessed = {}
     for name in names:
         files = [f"{at}/{file}" for at, _, found in os.walk(f"{TOP}/crates/{name}/src") for file in found]
-        guessed[name] = COMPILED if name == PROGRAM else 5
+        guessed[name] = COMPILED if name == PROGRAM else READ
         for file in files:
             with open(file, "rb") as it:
                 guessed[name] += it.read().count(b"\n") / LINES_A_SECOND
@@ -396,10 +398,13 @@ class Told:
         self.few = lanes()[0]
         say(f"{self.count} proofs, {self.few} at once: some {self.minutes()} minutes where nothing else runs")
 
-    def minutes(self):
+    def costs_left(self):
+        """How many seconds each proof that has not ended still takes."""
         now = time.time()
-        left = {it: max(1, self.cost[it] - (now - self.begun.get(it, now))) for it in self.left}
-        return minutes(left, self.lines, self.cost, self.took, self.few)
+        return {it: max(1, self.cost[it] - (now - self.begun.get(it, now))) for it in self.left}
+
+    def minutes(self):
+        return minutes(self.costs_left(), self.lines, self.cost, self.took, self.few)
 
     def begin(self, name):
         self.begun[name] = time.time()
@@ -414,10 +419,20 @@ class Told:
         say(f"{text}; some {self.minutes()} min left")
 
 
+def has_two_jobs(name, left, lines, few):
+    """Whether a second job for the library with the longest chain above it ends the whole sooner: what stands beside the chain
+    must be proved by then, by the processors that are left for it. What is left is given with its seconds."""
+    names = sorted(left, key=lambda it: len(below(it, lines)))
+    chain = chains(names, lines, left)[name]
+    beside = sum(left.values()) - chain
+    return few > 2 and BUSY * beside / (few - 2) < chain - left[name] + left[name] / TWO_JOBS
+
+
 def prove_all(names, lines, prove, told):
     """Proves the libraries, each after those below it; whether all were. The one with the longest chain above it
     begins at once, and the others give way to it. The processors that are free are shared among those that can begin: a further
-    job is work of its own, since it reads the statements below once more, so that no other has one."""
+    job is work of its own, since it reads the statements below once more, so that no other has one, but for the chain's last
+    ones: see `has_two_jobs`."""
     left, nice = plan(names, lines, told.cost)
     few, all_lanes = lanes()
     running, jobs, done, first = {}, {}, [], None
@@ -437,6 +452,8 @@ def prove_all(names, lines, prove, told):
                 if name == first or has_lane:
                     waiting = sum(it in left and nice[it] == NICE for it in ready if it != name)
                     jobs[name] = max(1, (few - busy) // (waiting + 1))
+                    if name == first and all_lanes > few and has_two_jobs(name, told.costs_left(), lines, few):
+                        jobs[name] = max(2, jobs[name])
                     left.remove(name)
                     told.begin(name)
                     running[pool.submit(prove, name, lines, 0 if name == first else nice[name], jobs[name])] = name

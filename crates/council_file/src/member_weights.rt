@@ -39,7 +39,6 @@ fn weight_under(member: &Value, n: usize, r: usize) -> u64
     }
 }
 
-#[tactic(auto, using(council_game::proofs::Shared::Lists::maps))]
 pub(crate) fn only_weights(alloc: Global, members: &[Value]) -> Result<Vec<u64>, AllocError>
     ensures { IfOk result (λ v. v.items ≡ map only_weight (map view members.now)) }
 {

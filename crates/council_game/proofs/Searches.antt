@@ -1,15 +1,12 @@
 -- What the searches at functions may use.
-use Rattle.council_game.proofs.Imports.{nat_tests, get_or-map, common_steps, list_all-map}
-use Rattle.std.proofs.lemmas.List.{take-map, Folds.list_all_at, Folds.list_all_more, Sums.sum_by-take-drop, Sums.sum_by-drop_more}
-use Rattle.std.proofs.Common.{take_all}
+use Rattle.council_game.proofs.Imports.{nat_tests, get_or-map, common_steps}
+use Rattle.std.proofs.{Common.take_all, lemmas.List.take-map, lemmas.List.Sums.sum_by-take-drop, lemmas.List.Sums.sum_by-drop_more}
 use Rattle.council_game.proofs.Shared.{Lists.list_any_map, RankPlaces.game-rank_places, WeightByDigits.weight-nil, Weights.weight-le}
 use Rattle.council_game.proofs.Shared.{Games.votes-are, Making.ranks-are}
-use Rattle.council_game.proofs.Shared.WinningByPlaces.{weight-out, weight-next, held-rule, rule-at, count-rules}
+use Rattle.council_game.proofs.Shared.WinningByPlaces.{weight-out, weight-next}
 
 pub ruleset for_is_repeat = (nat_tests, get_or-map, take-map, list_any_map)
 
 pub ruleset for_was_checked = (votes-are, game-rank_places, ranks-are)
 
 pub ruleset for_weight_of = (weight-nil, nat_tests, common_steps, sum_by-take-drop, sum_by-drop_more, weight-le, weight-out, weight-next, take_all)
-
-pub ruleset for_wins = (held-rule, common_steps, nat_tests, rule-at, list_all_at, count-rules, list_all-map, list_all_more)

@@ -94,7 +94,6 @@ fn first_repeat(names: &[String]) -> Option<usize>
 }
 
 /// The first member, from 1, that repeats a name.
-#[tactic(auto, using(crate::proofs::Shared::Lists::maps))]
 pub(crate) fn check_repeats(names: &[String]) -> Result<(), GameFault>
     requires { length names.now ≤ MEMBERS }
     ensures { result ≡ check_repeats (map string_bytes names.now) }

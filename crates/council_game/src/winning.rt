@@ -24,7 +24,7 @@ pub(crate) fn weight_of(weights: &[u64], coalition: Coalition) -> u64
     sum
 }
 
-#[tactic(auto, using(crate::proofs::Searches::for_wins), unfolding(crate::specs::Votes::wins))]
+#[tactic(auto, unfolding(crate::specs::Votes::wins))]
 pub(crate) fn wins(rules: &[Rule], members: usize, coalition: Coalition) -> bool
     requires { IsVotes (votes members rules.now) }
     ensures { result ≡ wins (rule_views rules.now) coalition }

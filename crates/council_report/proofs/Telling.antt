@@ -36,7 +36,3 @@ stopped-next a b x y held n first s = record {
 -- it stopped once all of the text was told
 pub stopped-after : (a b : Progress) (x : List ℕ) (held : Option (List ℕ)) (n : ℕ) → Tells a b x → HasStopped b held n → StopsIn a x held n
 stopped-after a b x held n tells stopped = record { front = x; rest = []; at = b; whole = append-nil x; tells = tells; stopped = stopped }
-
-pub err-map : {T E : Type 0} {P Q : E → Type 0} (r : Result T E) → ((e : E) → P e → Q e) → IfErr r P → IfErr r Q
-err-map (Ok x) more h = tt
-err-map (Err e) more h = more e h

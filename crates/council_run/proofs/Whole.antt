@@ -1,5 +1,5 @@
 -- What was gathered is all that there is.
-use Rattle.std.proofs.Common.{◌≡◌, ◌≤◌, ℕ, List, length, sym, ap, subst, arith, Result, Ok, Err, IfOk}
+use Rattle.std.proofs.Common.{◌≡◌, ◌≤◌, ℕ, List, length, sym, ap, subst, arith}
 use Rattle.council_game.specs.Votes.{minimal_coalitions}
 use Rattle.council_game.specs.Game.{GameView, IsGame, votes_of, AreNonemptyCoalitions}
 use Rattle.power_index.proofs.Shared.Minimal.{minimal-some, minimal-are-coalitions}
@@ -15,7 +15,3 @@ is-listed g list m game all few =
       few = omega (arith, few, long);
       coalitions = subst (AreNonemptyCoalitions g) (sym all) (minimal-are-coalitions g game);
     }
-
-pub ok-map : {T E : Type 0} {P Q : T → Type 0} (r : Result T E) → ((t : T) → P t → Q t) → IfOk r P → IfOk r Q
-ok-map (Ok t) more h = more t h
-ok-map (Err e) more h = tt

@@ -1,8 +1,8 @@
 //! A run: from the bytes of a game to its report.
-ghost use Rattle.std.specs.Prelude.{◌≡◌, ◌<◌, IfOk, IfErr, length};
+ghost use Rattle.std.specs.Prelude.{◌≡◌, ◌<◌, ℕ, List, Option, Ok, IfOk, IfErr, length};
 ghost use Rattle.coalitions.specs.Lists.{joined};
 ghost use Rattle.council_report.specs.Report.{report};
-ghost use Rattle.council_run.specs.Run.{HasAtMost, Reports, Stops, count_of};
+ghost use Rattle.council_run.specs.Run.{HasAtMost, Reads, Reports, Stops, count_of};
 ghost use Rattle.council_run.specs.Shows.{shown_of};
 ghost use Rattle.council_run.specs.declared.fault.Cause.TheVariants as cause;
 ghost use Rattle.council_run.specs.Inner.Listed.{IsGathered, IsListed};
@@ -51,6 +51,29 @@ fn pieces<'a>(
     ensures { IfOk result (λ row. IsListed game.now most (joined row.items)) }
 {
     gathered.pieces(alloc)
+}
+
+/// Counts the coalitions that the workers listed, and writes the report of their game, of whatever bytes it was read.
+fn reported<T: Threads + Wait + Sync, W: Write>(
+    rt: &T,
+    alloc: Global,
+    game: &Game,
+    gathered: &Gathered,
+    options: &Options,
+    writer: &mut W,
+) -> Result<u64, RunFault>
+    requires { IsGathered game.now options.now.most gathered.now }
+    ensures ok { IfOk result (λ len. (unread left : Option (List ℕ)) → Reads unread left (Ok game.now)
+        → Reports (report (shown_of options.now)) (HasAtMost options.now.most) unread left
+        (W.contents writer.old) (W.contents writer.new) len) }
+    ensures err { IfErr result (λ fault. (unread left : Option (List ℕ)) → Reads unread left (Ok game.now)
+        → Stops (report (shown_of options.now)) (HasAtMost options.now.most) unread left
+        (W.contents writer.old) (W.contents writer.new) fault.cause fault.written) }
+    ensures unstopped { IfErr result (λ fault. fault.cause ≡ cause.Stopped → ⊥) }
+{
+    let pieces = pieces(alloc, game, gathered, options.most)?;
+    let counts = tally_pieces(rt, game, &pieces, options.workers)?;
+    Ok(write_report_of(alloc, game, &pieces, &counts, options.shown(), writer)?)
 }
 
 /// Reads a game, lists its minimal winning coalitions by worker threads, and writes its report and
@@ -119,7 +142,5 @@ pub fn run_with_lookout<
 {
     let game = read_game(alloc, reader)?;
     let gathered = gathered(rt, alloc, &game, options, gate, lookout)?;
-    let pieces = pieces(alloc, &game, &gathered, options.most)?;
-    let counts = tally_pieces(rt, &game, &pieces, options.workers)?;
-    Ok(write_report_of(alloc, &game, &pieces, &counts, options.shown(), writer)?)
+    reported(rt, alloc, &game, &gathered, options, writer)
 }

@@ -1,5 +1,5 @@
 //! A tally: a run that keeps no coalition.
-ghost use Rattle.std.specs.Prelude.{◌≡◌, Err, IfOk, IfErr};
+ghost use Rattle.std.specs.Prelude.{◌≡◌, ℕ, List, Option, Ok, Err, IfOk, IfErr};
 ghost use Rattle.council_game.specs.Game.{votes_of};
 ghost use Rattle.council_game.specs.Votes.{minimal_coalitions};
 ghost use Rattle.council_report.specs.Report.{report};
@@ -8,7 +8,7 @@ ghost use Rattle.mwc_parts.specs.declared.fault.GatherFault.{GatherFault};
 ghost use Rattle.mwc_parts.specs.declared.fault.GatherFault.TheVariants as gather;
 ghost use Rattle.power_index.specs.Tables.{AreCounts};
 ghost use Rattle.council_run.specs.declared.fault.Cause.TheVariants as cause;
-ghost use Rattle.council_run.specs.Run.{Reports, Stops};
+ghost use Rattle.council_run.specs.Run.{Reads, Reports, Stops};
 ghost use Rattle.council_run.specs.Tallied.{IsAnyGame, without_list};
 
 use crate::fault::RunFault;
@@ -109,6 +109,29 @@ fn count<T: Threads + Wait + Sync, V: Watch + Sync>(
     }
 }
 
+/// Counts the minimal winning coalitions of a game, and writes its report, of whatever bytes it was read.
+fn reported<T: Threads + Wait + Sync, V: Watch + Sync, W: Write>(
+    rt: &T,
+    alloc: Global,
+    game: &Game,
+    options: &Options,
+    watch: &V,
+    writer: &mut W,
+) -> Result<u64, RunFault>
+    ensures ok { IfOk result (λ len. (unread left : Option (List ℕ)) → Reads unread left (Ok game.now)
+        → Reports (report (without_list options.now)) IsAnyGame unread left
+        (W.contents writer.old) (W.contents writer.new) len) }
+    ensures err { IfErr result (λ fault. (unread left : Option (List ℕ)) → Reads unread left (Ok game.now)
+        → Stops (report (without_list options.now)) IsAnyGame unread left
+        (W.contents writer.old) (W.contents writer.new) fault.cause fault.written) }
+    ensures stopped { IfErr result (λ fault. fault.cause ≡ cause.Stopped → V.may_stop) }
+    ensures threads { IfErr result (λ fault. (why : GatherFault) →
+        fault.cause ≡ cause.Gather why → why ≡ gather.Start) }
+{
+    let counts = count(rt, alloc, game, options, watch)?;
+    Ok(write_tally(alloc, game, &counts, without_list(options), writer)?)
+}
+
 /// Reads a game, counts its minimal winning coalitions, however many these are, by sums where these serve
 /// and else by worker threads, which leave out what sums count beside them, and writes its report, with no line for a
 /// coalition, and nothing else. (`mwc_tally::tally` counts those of a game alone.) No coalition is kept, so the memory
@@ -141,6 +164,5 @@ pub fn tally<T: Threads + Wait + Sync, R: Read, W: Write, V: Watch + Sync>(
         fault.cause ≡ cause.Gather why → why ≡ gather.Start) }
 {
     let game = read_game(alloc, reader)?;
-    let counts = count(rt, alloc, &game, options, watch)?;
-    Ok(write_tally(alloc, &game, &counts, without_list(options), writer)?)
+    reported(rt, alloc, &game, options, watch, writer)
 }

@@ -169,4 +169,4 @@ module _ {T : Type 0} where
 pub ruleset laws = (nothing_is_lost_lem, nothing_enters_after_close_lem, each_reply_is_counted_lem, each_pipe_has_a_past_lem)
 
 -- what a whole history rests on
-pub ruleset replaying = (common_steps, replayed_closed, replayed_short)
+pub ruleset replaying = (replayed_closed, replayed_short)

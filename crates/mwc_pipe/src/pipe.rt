@@ -52,7 +52,6 @@ impl<T> Pipe<T> {
     ///
     /// Hands the item back, and changes nothing: Closed after a close; else Full where `capacity`
     /// items are inside; else Memory where a growth was refused.
-    #[tactic(auto, using(crate::proofs::Counting::stepping))]
     pub fn put(&mut self, item: T) -> Result<(), Refused<T>>
         ensures ok { OnOk result
             (self.new ≡ record self.old { inside = self.old.inside ++ item ∷ [] }) }

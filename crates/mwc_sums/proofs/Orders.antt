@@ -4,13 +4,10 @@ use Rattle.mwc_sums.proofs.Imports.{arith, AllPass-from_list_all, list_all-from_
 use Rattle.mwc_sums.proofs.Imports.{IsGame, votes_of, contains, size_of, met, weighs, AreRulesOf}
 use Rattle.std.proofs.{Common.IsPermutation, lemmas.List.Sorted.All-permutation, lemmas.List.Sorted.IsPermutation-sym}
 use Rattle.power_index.specs.Tables.{Tables, AreCounts}
+use Rattle.coalitions.proofs.Shared.Lists.{filter-all}
 use Rattle.mwc_sums.specs.Orders.{HaveTheSameRules}
 use Rattle.mwc_sums.proofs.{Joining.Holds, Joining.alike-count, Placed.game-holds, Placed.met-looks, Placed.seen-contains}
 use Rattle.mwc_sums.proofs.{Completing.same_test, Seating.alike-size, Seating.seen}
-
-count-all : (xs : List ℕ) → length (filter (λ c. true) xs) ≡ length xs
-count-all [] = refl
-count-all (x ∷ xs) = ap (λ (k : ℕ). suc k) (count-all xs)
 
 -- two games of the same members, who win in the one where they win in the other
 module _ (g h : GameView) (is_g : IsGame g) (is_h : IsGame h) (same : AreRulesOf g (length h.names) h.rules) where
@@ -38,7 +35,7 @@ module _ (g h : GameView) (is_g : IsGame g) (is_h : IsGame h) (same : AreRulesOf
       (let m = counts.members in let long = same.members in omega (arith, lt, m, long)) in
       record {
         members = counts.members ∙ same.members;
-        total = counts.total ∙ sym (count-all _) ∙ count-same (λ c. true) (λ c. true) (λ c d alike. refl) ∙ count-all _;
+        total = counts.total ∙ sym (filter-all _) ∙ count-same (λ c. true) (λ c. true) (λ c d alike. refl) ∙ filter-all _;
         of_size = λ s le. counts.of_size s le ∙ count-same (λ c. size_of g c == s) (λ c. size_of h c == s) (sizes s);
         of_member = λ i lt. counts.of_member i lt
             ∙ count-same (contains g i) (contains h i) (λ c d alike. members i c d (within i lt) alike);

@@ -111,8 +111,5 @@ sum-from ws m p le below = grind (arith, common_steps)
 pub drop-most : (xs : List ℕ) (p : ℕ) → sum (drop p xs) ≤ sum xs
 drop-most xs p = omega (arith, sum_by-take-drop (λ (y : ℕ). y) xs p)
 
--- what the lane of a rule rests on
-pub ruleset lane_made = (common_steps, length-map, get_or-take, weight-zero)
-
 -- what the members without weight rest on
 pub ruleset weightless = (common_steps, has-none)

@@ -27,7 +27,6 @@ pub(crate) struct Lane {
 
 impl Lane {
     /// The lane of a rule, with the members of a coalition in.
-    #[tactic(auto, using(crate::proofs::Rules::lane_made))]
     pub(crate) fn new(game: &Game, rule: usize, fixed: Coalition) -> Lane
         requires { rule < length game.now.rules }
         ensures lane { LaneIs (votes_of game.now).members

@@ -71,7 +71,6 @@ impl<'a> Walk<'a> {
 
     /// The next coalition of the slice; none at its end, and ever after. What was given so far and what is
     /// still to come are the whole slice.
-    #[tactic(auto, using(crate::proofs::Remains::walking))]
     pub fn next(&mut self) -> Option<Coalition>
         ensures next { MatchOption result ((self.old.to_come ≡ []) × (self.new.to_come ≡ []))
             (λ c. self.old.to_come ≡ c ∷ self.new.to_come) }
@@ -93,7 +92,7 @@ impl<'a> Walk<'a> {
     /// Seeks the next coalition of the slice as `next` does, but makes at most `visits` visits, 1 or more: after these
     /// it answers NotYet, and goes on when it is called again. Nothing else is changed then. Under one rule, where the
     /// next coalition is near, it never answers NotYet, nor where the count of visits could not hold that many more.
-    #[tactic(auto, using(crate::proofs::Remains::walking), unfolding(crate::specs::Seeks::seeks_left))]
+    #[tactic(auto, unfolding(crate::specs::Seeks::seeks_left))]
     pub fn seek(&mut self, visits: u64) -> Seek
         requires { 0 < visits }
         ensures seeks { Seeks visits self.old result self.new }

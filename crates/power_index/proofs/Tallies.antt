@@ -6,10 +6,6 @@ use Rattle.std.proofs.{Common.set, Common.get_or-set_other, lemmas.List.Recursio
 use Rattle.coalitions.proofs.Shared.Ranges.{sum_by-range-more, sum_by-range-le}
 use Rattle.power_index.proofs.Shared.{Members.size-le, Sums.sum-range, Sums.sum-by_size, Sums.length-filter-le}
 
--- one more at place k
-pub bumped : (xs : List ℕ) (k s : ℕ) → k < length xs → get_or (set xs k (get_or xs k 0 + 1)) s 0 ≡ get_or xs s 0 + cond (k == s) 1 0
-bumped xs k s lt = grind (arith, common_steps, cases_eq, get_or-set_other, get_or-set_same, nat_tests)
-
 -- no number of a tally is greater than the list is long
 pub tally-few : (n : ℕ) (p : ℕ → Bool) (list : List ℕ) (t : Tally) (s : ℕ) → s ≤ 40 → IsTallyOf n p list t
     → get_or t.sizes s 0 ≤ length list

@@ -35,10 +35,6 @@ module _ {q digits : ℕ} {xs ys : List Set} {n : ℕ} {lows highs : List (List 
   pub high-few : IsHalf ys → (k s : ℕ) → s ≤ 40 → get_or (get_or highs k []) s 0 ≤ 2 ^ 40
   high-few second = keys-few (high_of digits) q xs ys n highs first second h.high_is
 
-  pub next-meets : n < length xs → (need : ℕ) (d : Set) → need ≡ q - (get_or xs n d).weight → Meet need t.outside ys
-  next-meets lt need d is k e from within =
-      omega (arith, h.meet k n e from within (omega arith) lt, ap (λ (y : Set). y.weight) (get_or_default xs n d e lt), is)
-
   -- one set more
   pub paired-more : n < length xs → {need low high : ℕ} (d : Set) {u : Fitting} {more_lows more_highs : List (List ℕ)}
       → need ≡ q - (get_or xs n d).weight → low ≡ low_of digits (get_or xs n d) → high ≡ high_of digits (get_or xs n d)

@@ -5,6 +5,7 @@ use Rattle.weight_sums.proofs.Imports.{cond, replicate, ltb, zero, suc, ap, refl
 use Rattle.weight_sums.proofs.Imports.{choose, fill, one_of_size, taken, weigh, prefixes, mul-le-mul_right, take_all, sum_by-take-le}
 use Rattle.weight_sums.proofs.Imports.{AreTaken, sum_by-cons, get_or-zeros}
 use Rattle.std.proofs.Common.{length-set, max}
+use Rattle.coalitions.proofs.Shared.Lists.{bumped}
 use Rattle.weight_sums.proofs.Shared.Choices.{choose-none}
 
 pub choose-most : (m k : ℕ) → choose m k ≤ 2 ^ m
@@ -13,10 +14,6 @@ choose-most zero zero = omega arith
 choose-most zero (suc k) = omega arith
 choose-most (suc m) zero = pow_pos (suc m)
 choose-most (suc m) (suc k) = grind (arith, choose-most m k, choose-most m (suc k))
-
--- v more at place k
-bumped : (xs : List ℕ) (k s v : ℕ) → k < length xs → get_or (set xs k (get_or xs k 0 + v)) s 0 ≡ get_or xs s 0 + v * one_of_size s k
-bumped xs k s v lt = grind (arith, nat_tests, get_or-set_same, get_or-set_other)
 
 pub fill-most : (heads s left size : ℕ) → fill heads s left size ≤ 2 ^ left
 fill-most heads s left size = grind (arith, nat_tests, pow_pos left, choose-most left (heads - size))

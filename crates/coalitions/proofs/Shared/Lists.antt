@@ -1,6 +1,6 @@
--- Lists: sums over them, in either order; one test after another; zeros.
-use Rattle.std.proofs.Common.{◌≡◌, ℕ, zero, suc, ◌+◌, Bool, ◌&&◌, List, [], ◌∷◌, get_or, replicate, filter, sum_by, sym, ap, ◌∙◌, arith}
-use Rattle.std.proofs.Common.{refl}
+-- Lists: sums over them, in either order; one test after another, and one that all pass; one place changed; zeros.
+use Rattle.std.proofs.Common.{◌≡◌, ℕ, zero, suc, ◌+◌, ◌*◌, ◌<◌, Bool, true, ◌&&◌, ◌==◌, cond, List, [], ◌∷◌, length, get_or, set, replicate}
+use Rattle.std.proofs.Common.{filter, sum_by, sym, ap, refl, ◌∙◌, arith, get_or-set_same, get_or-set_other}
 use Rattle.std.proofs.lemmas.{Bool.Decides.nat_tests, List.Sums.sum_by-cons}
 
 pub sum-zero : {A : Type 0} (xs : List A) → sum_by (λ x. 0) xs ≡ 0
@@ -21,6 +21,14 @@ sum-swap f (x ∷ xs) ys =
 pub filter-both : {A : Type 0} (p q : A → Bool) (xs : List A) → filter q (filter p xs) ≡ filter (λ x. p x && q x) xs
 filter-both p q [] = refl
 filter-both p q (x ∷ xs) = grind (arith, nat_tests, filter-both p q xs)
+
+pub filter-all : {A : Type 0} (xs : List A) → length (filter (λ x. true) xs) ≡ length xs
+filter-all [] = refl
+filter-all (x ∷ xs) = ap (λ (n : ℕ). suc n) (filter-all xs)
+
+-- v more at place k
+pub bumped : (xs : List ℕ) (k s v : ℕ) → k < length xs → get_or (set xs k (get_or xs k 0 + v)) s 0 ≡ get_or xs s 0 + v * cond (k == s) 1 0
+bumped xs k s v lt = grind (arith, nat_tests, get_or-set_same, get_or-set_other)
 
 pub get_or-zeros : (n k : ℕ) → get_or {A = ℕ} (replicate {A = ℕ} n 0) k 0 ≡ 0
 get_or-zeros zero k = refl

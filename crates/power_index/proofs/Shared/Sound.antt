@@ -7,13 +7,10 @@ use Rattle.power_index.proofs.Imports.{table_total, IsJoined, with_one}
 use Rattle.std.proofs.lemmas.List.{get_or-replicate, Elements.All-append, Elements.filter-append, Sums.sum_by_push}
 use Rattle.std.proofs.Common.{length-set}
 use Rattle.power_index.specs.Inner.Tables.{AreOfSomeList, AreKept}
-use Rattle.power_index.proofs.{Tallies.tally-total, Tallies.tally-few, Tallies.bumped, Weights.weight-light, Weights.memberships-are}
+use Rattle.coalitions.proofs.Shared.Lists.{bumped, filter-all}
+use Rattle.power_index.proofs.{Tallies.tally-total, Tallies.tally-few, Weights.weight-light, Weights.memberships-are}
 use Rattle.power_index.proofs.Shared.Sums.{length-filter-le}
 use Rattle.power_index.proofs.Shared.Members.{few-members, memberships, sizes-some, size-le}
-
-filter-all : (list : List ℕ) → length (filter (λ (c : ℕ). true) list) ≡ length list
-filter-all [] = refl
-filter-all (c ∷ cs) = ap (λ n. suc n) (filter-all cs)
 
 -- the tally of a member's coalitions
 member-tally : (g : GameView) (list : List ℕ) (t : Tables) (i : ℕ) → i < t.members → AreTallies g list t

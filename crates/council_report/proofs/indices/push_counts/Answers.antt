@@ -1,8 +1,8 @@
 use Rattle.council_report.proofs.Imports.{zero-add, ◌++◌, ℕ, List, length, map, decimal, arith, ap, ◌∙◌, sym, flat_map, range_with_len}
 use Rattle.council_report.proofs.Imports.{common_steps, table_of_member_size, with_tab}
-use Rattle.std.proofs.lemmas.List.FromFn.{map-range_with_len_more}
+use Rattle.std.proofs.lemmas.List.{flat_map_more, FromFn.map-range_with_len_more}
 use Rattle.council_text.proofs.Shared.Room.{takes-not}
-use Rattle.council_report.proofs.Rows.{put-row, field-within}
+use Rattle.council_report.proofs.Rows.{field-within}
 use Rattle.council_report.proofs.indices.push_counts.Goals as goal
 
 pub loop-member-preserved : goal.loop-member-preserved
@@ -12,7 +12,7 @@ loop-member-preserved c =
     let k : ℕ = c.loop-member.member in
     record {
       items = rw (c.loop-member.invariant.items, c.wide_of_member_size.ensures.count) at c.in_ok-push_number.ensures.items
-          ∙ put-row with_tab start (map text (range_with_len 0 k)) (text k)
+          ∙ flat_map_more with_tab start (map text (range_with_len 0 k)) (text k)
           ∙ ap (λ (ts : List (List ℕ)). start ++ flat_map with_tab ts) (sym (map-range_with_len_more text 0 k k (zero-add k)));
       capacity = omega (arith, c.loop-member.invariant.capacity, c.in_ok-push_number.ensures.room.capacity);
     }

@@ -1,5 +1,6 @@
 use Rattle.council_report.proofs.Imports.{common_steps, arith, ℕ, List, [], flat_map, err_from_is_err_and, lines_of}
-use Rattle.council_report.proofs.Telling.{tells-then, stopped-next, stopped-after, err-map}
+use Rattle.council_report.proofs.Telling.{tells-then, stopped-next, stopped-after}
+use Rattle.std.proofs.lemmas.Result.{IfErr-weaker}
 use Rattle.council_report.proofs.report.send.Goals as goal
 
 pub returns-in_err-put_lines-clause-err : goal.returns-in_err-put_lines-clause-err
@@ -13,4 +14,4 @@ pub returns-clause-err : goal.returns-clause-err
 returns-clause-err g c =
     let text : List ℕ = lines_of c.args.shown c.args.counted.now (flat_map (λ p. p.now) c.args.pieces.now) in
     let all = tells-then _ _ _ [] text c.in_ok-settle.ensures.ok c.in_ok-put_lines.ensures.tells in
-    err-map c.finish.result (λ fault stopped. stopped-after _ _ text _ _ all stopped) c.finish.ensures.err
+    IfErr-weaker c.finish.result _ _ (λ fault stopped. stopped-after _ _ text _ _ all stopped) c.finish.ensures.err
