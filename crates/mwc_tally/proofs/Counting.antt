@@ -2,6 +2,7 @@
 use Rattle.std.proofs.Common.{◌≡◌, ◌∙◌, ℕ, ◌+◌, ◌^◌, ◌<◌, ◌≤◌, Bool, List, [], ◌∷◌, ◌++◌, length, sym, ap, refl, arith, subst}
 use Rattle.std.proofs.Common.{length-append, All, filter, flat_map, sum_by, IsPermutation, append_assoc, append-nil}
 use Rattle.std.proofs.lemmas.List.{get_or_at, Concat.flat_map-append, Concat.length-flat_map, Elements.All-filter, Elements.filter-append}
+use Rattle.std.proofs.lemmas.List.Elements.{All-head, All-tail}
 use Rattle.std.proofs.lemmas.{Grind.common_steps, List.Sorted.sum_by-IsPermutation, List.Sums.sum_by-cons}
 use Rattle.std.specs.List.{range_with_len}
 use Rattle.council_game.specs.{Game.GameView, Game.IsGame, Game.votes_of, Votes.minimal_coalitions}
@@ -11,8 +12,8 @@ use Rattle.mwc_walk.proofs.Shared.{Joined.slices-joined, One.slice-short}
 use Rattle.power_index.specs.Tables.{Tables, AreTallies, AreCounts, table_total}
 use Rattle.power_index.proofs.Shared.{Minimal.minimal-are-coalitions, Minimal.minimal-few, Sound.total-is, Sound.tallies-are_counts}
 use Rattle.coalitions.proofs.Shared.Ranges.{range-more, sum_by-range-more, sum_by-range-le}
-use Rattle.mwc_tally.specs.Inner.Shares.{CountedUpTo, CountSlices, CountWhole, slice_of}
-use Rattle.mwc_tally.specs.declared.sliced_game.SlicedGame.{SlicedGame}
+use Rattle.mwc_tally.specs.Inner.Shares.{CountedUpTo, CountSlices, CountWhole, IsShare, slice_of}
+use Rattle.mwc_tally.specs.declared.{share.Share.Share, sliced_game.SlicedGame.SlicedGame}
 
 -- a walk that is counted as it goes, where c is next
 module _ {g : GameView} {whole to_come rest : List ℕ} {c : ℕ} {t : Tables} (next : to_come ≡ c ∷ rest)
@@ -87,6 +88,19 @@ pub whole-counts : (s : SlicedGame) (taken sorted : List ℕ) (n : ℕ) (t : Tab
 whole-counts s taken sorted n t same each all h =
     subst (λ (l : List ℕ). AreCounts s.game.now l t) (ap (flat_map (slice_of s)) (each ∙ ap (range_with_len 0) all) ∙ all-slices s)
     (tallies-are_counts s.game.now _ t (permuted s.game.now (slice_of s) taken sorted t same h))
+
+-- of what has a property, the first and the others have it
+module _ {X : Type 0} (P : X → Type 0) {x : X} {rest all : List X} (begins : all ≡ x ∷ rest) (h : All P all) where
+  pub first-of : P x
+  first-of = All-head P x rest (subst (All P) begins h)
+
+  pub others-of : All P rest
+  others-of = All-tail P x rest (subst (All P) begins h)
+
+-- what a thread counted of the slices that it was given, as they are read
+pub same-share : {s given : SlicedGame} {taken : List ℕ} {t : Tables} (share : Share) → given ≡ s → IsShare given share
+    → taken ≡ share.taken.items → t ≡ share.counts.value → CountSlices s taken t
+same-share share own h items counts = rw (items, counts) (rw own at h)
 
 -- what a row of numbers rests on
 pub ruleset shares = (common_steps, range-more)
