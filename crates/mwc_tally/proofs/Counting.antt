@@ -100,7 +100,9 @@ module _ {X : Type 0} (P : X → Type 0) {x : X} {rest all : List X} (begins : a
 -- what a thread counted of the slices that it was given, as they are read
 pub same-share : {s given : SlicedGame} {taken : List ℕ} {t : Tables} (share : Share) → given ≡ s → IsShare given share
     → taken ≡ share.taken.items → t ≡ share.counts.value → CountSlices s taken t
-same-share share own h items counts = rw (items, counts) (rw own at h)
+same-share {s} {t = t} share own h items counts =
+    subst (λ (l : List ℕ). CountSlices s l t) (sym items)
+    (subst (CountSlices s share.taken.items) (sym counts) (subst (λ (u : SlicedGame). IsShare u share) own h))
 
 -- what a row of numbers rests on
 pub ruleset shares = (common_steps, range-more)
