@@ -171,7 +171,7 @@ fn flag<'a>(alloc: Global, name: &'a str, help: &'a str) -> Result<Arg<'a>, Allo
         .help(help)
         .action(ArgAction::SetTrue);
     if name == "tally" {
-        flag.conflicts_with("list")?.conflicts_with("most")
+        flag.conflicts_with_all(&["list", "most"])
     } else {
         Ok(flag)
     }
@@ -207,12 +207,11 @@ fn file_of<'a>(matches: &ArgMatches<'a>) -> Option<&'a str> {
 
 /// What the parser found; none where a number is missing or out of its range.
 fn wanted_of<'a>(matches: &ArgMatches<'a>) -> Option<Wanted<'a>> {
-    let workers = u8::try_from(matches.get_one::<u32>("workers")?).ok()?;
-    let bits = u8::try_from(matches.get_one::<u32>("bits")?).ok()?;
+    let workers = matches.get_one::<u8>("workers")?;
+    let bits = matches.get_one::<u8>("bits")?;
     let most = matches.get_one::<u32>("most")?;
-    let few_workers = 1 <= workers && workers <= limits::WORKERS;
-    let few_coalitions = 1 <= most && most <= limits::COALITIONS;
-    if !few_workers || limits::BITS < bits || !few_coalitions {
+    let few = workers <= limits::WORKERS && bits <= limits::BITS && most <= limits::COALITIONS;
+    if workers == 0 || most == 0 || !few {
         return None;
     }
     Some(Wanted {
