@@ -48,10 +48,12 @@ impl File<'_> {
     /// Says which member before the one with this index has its name.
     pub fn say_same_name(self, said: &mut Said, index: usize) {
         self.source.say_place(said, index, "name");
+        let Some(Value::String(name)) = self.value_of(index, "name") else {
+            return;
+        };
         for earlier in 0..index {
-            if let Some(Value::String(name)) = self.value_of(earlier, "name")
-                && let Some(Value::String(again)) = self.value_of(index, "name")
-                && name.as_str() == again.as_str()
+            if let Some(Value::String(other)) = self.value_of(earlier, "name")
+                && other.as_str() == name.as_str()
             {
                 let number = earlier.saturating_add(1);
                 let name = short(name.as_str());

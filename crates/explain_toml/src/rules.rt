@@ -17,20 +17,11 @@ impl File<'_> {
         said.line("weight goes with quota, and weights go with quotas");
     }
 
-    /// Says which keys do not go together, or what is wrong with the quotas.
-    pub fn say_rules(self, said: &mut Said) {
-        let Some(value) = self.value_at("quotas") else {
-            self.source.say_key(said, "quota");
-            self.say_mixed(said, "weights");
-            return;
-        };
-        self.source.say_key(said, "quotas");
+    /// Says what is wrong with the value of `quotas`, or which member has a key that does not go with it.
+    fn say_quotas(self, said: &mut Said, value: &Value) {
         let quotas = elements(Some(value));
         let wanted = "quotas are 1 to 4 whole numbers";
-        if self.value_at("quota").is_some() {
-            self.source.say_key(said, "quota");
-            said.line("quota and quotas are both there: a game has one of them");
-        } else if !matches!(value, Value::Array(_)) {
+        if !matches!(value, Value::Array(_)) {
             say_value(said, value, "quotas are an array of 1 to 4 whole numbers");
         } else if quotas.is_empty() || limits::RULES < quotas.len() {
             let count = quotas.len();
@@ -42,6 +33,22 @@ impl File<'_> {
                 }
             }
             self.say_mixed(said, "weight");
+        }
+    }
+
+    /// Says which keys do not go together, or what is wrong with the quotas.
+    pub fn say_rules(self, said: &mut Said) {
+        let Some(value) = self.value_at("quotas") else {
+            self.source.say_key(said, "quota");
+            self.say_mixed(said, "weights");
+            return;
+        };
+        self.source.say_key(said, "quotas");
+        if self.value_at("quota").is_some() {
+            self.source.say_key(said, "quota");
+            said.line("quota and quotas are both there: a game has one of them");
+        } else {
+            self.say_quotas(said, value);
         }
     }
 }
