@@ -11,10 +11,10 @@ pub use Rattle.std.proofs.Common.{All, AllPairs, Bool, IsPermutation, List, Ok, 
 pub use Rattle.std.proofs.Common.{◌≢◌, ◌≤◌}
 pub use Rattle.std.proofs.lemmas.Bool.{and_from, and_parts, both_ways, cases_Bool, cases_eq, cases_lt, cond-false, cond-true}
 pub use Rattle.std.proofs.lemmas.Bool.{false_from_ne_true, not-false, or_parts}
-pub use Rattle.std.proofs.lemmas.List.{Folds.list_all-map, FromFn.fill_by_all, FromFn.get_or-range_with_len, FromFn.length-range_with_len}
-pub use Rattle.std.proofs.lemmas.List.{Kept.AllPairs-cons, Sums.fails_before_first, Sums.sum-map, Sums.sum_by-cons}
-pub use Rattle.std.proofs.lemmas.{Bool.Decides.nat_tests, Grind.common_steps, List.Sorted.All-permutation, List.Sorted.sum_by-IsPermutation}
-pub use Rattle.std.proofs.lemmas.Nat.{mul-le, Bits.bit_at-lt}
+pub use Rattle.std.proofs.lemmas.List.{FromFn.fill_by_all, FromFn.get_or-range_with_len, FromFn.length-range_with_len, Kept.AllPairs-cons}
+pub use Rattle.std.proofs.lemmas.{Bool.Decides.nat_tests, List.Sums.fails_before_first, List.Sums.sum-map, List.Sums.sum_by-cons}
+pub use Rattle.std.proofs.lemmas.{Grind.common_steps, List.Sorted.All-permutation, List.Sorted.sum_by-IsPermutation, Nat.Bits.bit_at-lt}
+pub use Rattle.std.proofs.lemmas.Nat.{mul-le}
 pub use Rattle.std.proofs.lemmas.List.{get_or-map, get_or_default, get_or_read, length-map, same_lists}
 pub use Rattle.std.proofs.lemmas.List.Elements.{All-cons, All-from_recursion, All-nil, recursion_from_All}
 pub use Rattle.std.specs.List.{AllByRecursion, list_all, list_any, position_or_len, range_with_len}

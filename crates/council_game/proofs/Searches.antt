@@ -1,9 +1,8 @@
 -- What the searches at functions may use.
-use Rattle.council_game.proofs.Imports.{nat_tests, get_or-map, common_steps}
+use Rattle.council_game.proofs.Shared.{RankPlaces.game-rank_places, WinningByPlaces.weight-out, WinningByPlaces.weight-next}
+use Rattle.council_game.proofs.{Imports.nat_tests, Imports.get_or-map, Imports.common_steps, Shared.WeightByDigits.weight-nil}
+use Rattle.council_game.proofs.Shared.{Games.votes-are, Lists.list_any_map, Making.ranks-are, Weights.weight-le}
 use Rattle.std.proofs.{Common.take_all, lemmas.List.take-map, lemmas.List.Sums.sum_by-take-drop, lemmas.List.Sums.sum_by-drop_more}
-use Rattle.council_game.proofs.Shared.{Lists.list_any_map, RankPlaces.game-rank_places, WeightByDigits.weight-nil, Weights.weight-le}
-use Rattle.council_game.proofs.Shared.{Games.votes-are, Making.ranks-are}
-use Rattle.council_game.proofs.Shared.WinningByPlaces.{weight-out, weight-next}
 
 pub ruleset for_is_repeat = (nat_tests, get_or-map, take-map, list_any_map)
 

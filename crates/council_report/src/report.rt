@@ -98,11 +98,11 @@ fn send<W: Write>(
     writer: &mut W,
     counted: &Counted<'_>,
     pieces: &[&[Coalition]],
-    mut line: SharedLine,
+    line: &mut SharedLine,
     shown: Shown,
 ) -> Result<u64, WriteFault>
     requires coalitions { AreNonemptyCoalitions counted.now.game.now (joined pieces.now) }
-    requires line { IsReadyLine counted.now.game.now line }
+    requires line { IsReadyLine counted.now.game.now line.old }
     requires room { HasRoom block }
     requires counted { CanCount block (lines_of shown counted.now (joined pieces.now)) }
     ensures count { IfOk result (λ count. count ≡ (progress_of (W.contents writer.old) block).count
@@ -114,7 +114,7 @@ fn send<W: Write>(
         (W.contents writer.new) fault.written) }
 {
     block.settle(writer)?;
-    put_lines(&mut block, writer, counted, pieces, &mut line, shown)?;
+    put_lines(&mut block, writer, counted, pieces, line, shown)?;
     block.finish(writer)
 }
 
@@ -142,13 +142,13 @@ fn write_over<W: Write>(
 {
     let mut block = Block::new(alloc)?;
     push_heading(&mut block.bytes, game, counts.wide_total(), shown)?;
-    let line = SharedLine::new(alloc, game)?;
+    let mut line = SharedLine::new(alloc, game)?;
     let counted = Counted {
         game,
         members: counts.members(),
         counts,
     };
-    match send(block, writer, &counted, pieces, line, shown) {
+    match send(block, writer, &counted, pieces, &mut line, shown) {
         Ok(count) => Ok(count),
         Err(fault) => Err(ReportFault::Write {
             written: fault.written,

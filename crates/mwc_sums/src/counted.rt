@@ -122,7 +122,7 @@ fn joined_each(game: &Game, first: &Counted, second: &Counted, place: usize) -> 
 
 /// The counts of a game of two chambers.
 #[tactic(auto, using(power_index::proofs::Shared::Minimal::can_be_counted))]
-fn joined(game: &Game, first: &Counted, second: &Counted) -> Counts
+pub(crate) fn joined(game: &Game, first: &Counted, second: &Counted) -> Counts
     requires { AreChambersOf game.now first.now.game second.now.game }
     ensures { AreCounts game.now (minimal_coalitions (votes_of game.now)) result }
 {

@@ -8,7 +8,7 @@ ghost use Rattle.mwc_sums.specs.Statute.{IsCountedInPart, left, statute};
 ghost use Rattle.power_index.specs.Tables.{AreCounts};
 ghost use Rattle.std.specs.Prelude.{◌≡◌, ◌↔◌, ◌+◌, ◌≤◌, None, IfOk, IfSome, IsSome, length};
 
-use crate::counted::{Counted, boxed_joined};
+use crate::counted::{Counted, joined};
 use crate::statute::Statute;
 use council_game::{Game, Memory};
 use power_index::Counts;
@@ -33,9 +33,10 @@ impl Parts {
         requires counts { AreCounts self.left (minimal_coalitions (votes_of self.left)) left }
         ensures { IfOk result (λ c. AreCounts game.now (minimal_coalitions (votes_of game.now)) c) }
     {
-        let left = Counted::new(self.left, Box::new(alloc, left)?);
-        let counts = boxed_joined(alloc, game, &self.counted, &left)?;
-        Ok(Box::into_inner(counts))
+        let counts = Box::new(alloc, left)?;
+        let Parts { counted, left } = self;
+        let left = Counted::new(left, counts);
+        Ok(joined(game, &counted, &left))
     }
 }
 

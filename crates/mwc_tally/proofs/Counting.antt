@@ -1,9 +1,9 @@
 -- Slices counted one after the other, and in any order.
 use Rattle.std.proofs.Common.{◌≡◌, ◌∙◌, ℕ, ◌+◌, ◌^◌, ◌<◌, ◌≤◌, Bool, List, [], ◌∷◌, ◌++◌, length, sym, ap, refl, arith, subst}
 use Rattle.std.proofs.Common.{length-append, All, filter, flat_map, sum_by, IsPermutation, append_assoc, append-nil}
-use Rattle.std.proofs.lemmas.List.{get_or_at, Concat.flat_map-append, Concat.length-flat_map, Elements.All-filter, Elements.filter-append}
-use Rattle.std.proofs.lemmas.List.Elements.{All-head, All-tail}
-use Rattle.std.proofs.lemmas.{Grind.common_steps, List.Sorted.sum_by-IsPermutation, List.Sums.sum_by-cons}
+use Rattle.std.proofs.lemmas.List.{get_or_at, Concat.flat_map-append, Concat.length-flat_map, Sorted.sum_by-IsPermutation, Sums.sum_by-cons}
+use Rattle.std.proofs.lemmas.Grind.{common_steps}
+use Rattle.std.proofs.lemmas.List.Elements.{All-filter, filter-append, All-head, All-tail}
 use Rattle.std.specs.List.{range_with_len}
 use Rattle.council_game.specs.{Game.GameView, Game.IsGame, Game.votes_of, Votes.minimal_coalitions}
 use Rattle.council_game.proofs.Shared.Games.{votes-are}

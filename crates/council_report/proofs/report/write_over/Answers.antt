@@ -32,8 +32,8 @@ returns-in-Ok-clause-ok g c =
     c.wide_total.result (appends-whole _ _ block _ _ is c.in-Ok.ensures.ok)
     c.requires.1.1.1.1 (c.wide_total.ensures.total ∙ c.requires.1.1.1.1.total) c.requires.1.1.0
 
-pub returns-in-Err-clause-err : goal.returns-in-Err-clause-err
-returns-in-Err-clause-err g c =
+pub returns-clause-err : goal.returns-clause-err
+returns-clause-err g c =
     let is = after-none c.in_ok-push_heading.ensures.items c.in_ok-block.ensures.empty.0 in
     let block : Block = record { bytes = c.push_heading.new.out; written = c.in_ok-block.block.written } in
     from-counts (λ t. Falls (g.W.Write.contents c.args.writer.now) (g.W.Write.contents c.send.new.writer) t (Write c.in-Err.fault.written))

@@ -8,9 +8,6 @@ loop-thread-init g c =
     let gives : into_iter_items c.into_iter-thread-iterator.result ≡ c.args.threads.items = c.into_iter-thread-iterator.ensures.into_iter_gives.0 in
     record { all = c.requires.share; rest = rw gives c.requires.threads }
 
-pub add-requires-clause-own : goal.add-requires-clause-own
-add-requires-clause-own g c = c.loop-thread.invariant.all
-
 pub add-requires-clause-more : goal.add-requires-clause-more
 add-requires-clause-more g c =
     same-share c.in-Ok.share (first-of (λ t. t.promise ≡ c.args.slices) c.in-Some.ensures.steps.0 c.loop-thread.invariant.rest) c.in-Ok.ensures
@@ -27,6 +24,3 @@ loop-thread-preserved g c = record {
   all = c.loop-thread.invariant.all;
   rest = others-of (λ t. t.promise ≡ c.args.slices) c.in-Some.ensures.steps.0 c.loop-thread.invariant.rest;
 }
-
-pub returns : goal.returns
-returns g c = c.loop-thread.invariant.all

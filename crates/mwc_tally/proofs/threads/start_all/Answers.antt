@@ -9,9 +9,3 @@ loop-preserved g c = record {
   given = subst (All (λ t. t.promise ≡ c.args.work.now.slices)) (sym c.push_reserved.ensures.items)
       (All-push (λ t. t.promise ≡ c.args.work.now.slices) c.loop.threads.items c.in-Some.thread c.loop.invariant.given c.in-Some.ensures);
 }
-
-pub returns-in-None-clause-given : goal.returns-in-None-clause-given
-returns-in-None-clause-given g c = c.loop.invariant.given
-
-pub returns-clause-given : goal.returns-clause-given
-returns-clause-given g c = c.loop.invariant.given
