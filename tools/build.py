@@ -450,7 +450,9 @@ def prove_all(names, lines, prove, told):
                 if not first and name == left[0] and few > 1:
                     first = name
                 if name == first or has_lane:
-                    waiting = sum(it in left and nice[it] == NICE for it in ready if it != name)
+                    can = [it for it in ready if it != name and it in left]
+                    # (what fills the time at the end counts where nothing else is left)
+                    waiting = sum(nice[it] == NICE for it in can) or (len(can) if len(can) + 1 == len(left) else 0)
                     jobs[name] = max(1, (few - busy) // (waiting + 1))
                     if name == first and all_lanes > few and has_two_jobs(name, told.costs_left(), lines, few):
                         jobs[name] = max(2, jobs[name])

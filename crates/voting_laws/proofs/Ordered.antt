@@ -26,11 +26,6 @@ same-order a b c d A B C D pb pd pB pD e f =
 pub lowest_terms_ordered : (p q : ℕ × ℕ) → 0 < p.1 → 0 < q.1 → fraction_cmp (lowest_terms p) (lowest_terms q) ≡ fraction_cmp p q
 lowest_terms_ordered p q pp pq = grind (arith, common_steps, lowest_terms-lowest, same-order)
 
--- a fraction that is the same as each of two shows that these are the same
-through : (a b c d l m : ℕ) → 0 < m → l * b ≡ a * m → l * d ≡ c * m → a * d ≡ c * b
-through a b c d l m pos e f =
-    eq_of_mul-eq-mul_right m pos (a * d) (c * b) (omega (arith, ap (λ (n : ℕ). n * d) e, ap (λ (n : ℕ). n * b) f))
-
 -- what is the same as one of two same fractions is the same as the other
 carried : (a b c d l m : ℕ) → 0 < b → l * b ≡ a * m → a * d ≡ c * b → l * d ≡ c * m
 carried a b c d l m pos e f =
@@ -40,7 +35,7 @@ pub same_from_lowest : (p q : ℕ × ℕ) → 0 < p.1 → 0 < q.1 → lowest_ter
 same_from_lowest p q pp pq e =
     let lp = lowest_terms-lowest p pp in
     let lq = lowest_terms-lowest q pq in
-    through p.0 p.1 q.0 q.1 (lowest_terms p).0 (lowest_terms p).1 lp.positive lp.same
+    carried (lowest_terms p).0 (lowest_terms p).1 q.0 q.1 p.0 p.1 lp.positive (sym lp.same)
     (subst (λ (l : ℕ × ℕ). l.0 * q.1 ≡ q.0 * l.1) (sym e) lq.same)
 
 pub lowest_from_same : (p q : ℕ × ℕ) → 0 < p.1 → 0 < q.1 → SameFraction p q → lowest_terms p ≡ lowest_terms q
