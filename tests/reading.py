@@ -35,7 +35,7 @@ HEADLINE = [
 # in reading order: the first pattern that fits a module
 PARTS = [
     ("The mathematics", r"coalitions\.|council_game\.(Votes|Ranks|Members)|mwc_walk\.Slices|power_index\."),
-    ("The pipe", r"mwc_pipe\."),
+    ("The pipe", r"mwc_pipe\.|mwc_ring\."),
     ("The gathering", r"mwc_parts\.|mwc_gather\."),
     ("The game file", r"council_game\.|council_file\.(Bracket|File)"),
     ("The report", r"council_report\.|council_text\."),

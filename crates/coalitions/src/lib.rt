@@ -1,11 +1,14 @@
-//! Coalitions, and what every crate shares: lists by place, want of memory, and the limits. `council_game` passes them on.
+//! Coalitions, and what every crate shares: lists by place, want of memory, the limits, and which lines a report shows.
+//! `council_game` and `council_report` pass them on.
 #![tactic(auto)]
 
 mod coalition;
 pub mod limits;
 mod lists;
 mod memory;
+mod shown;
 
 pub use coalition::Coalition;
 pub use lists::listed;
 pub use memory::Memory;
+pub use shown::Shown;

@@ -5,6 +5,7 @@
 ghost use Rattle.std.specs.Prelude.{◌≡◌, IfOk, IfErr, true};
 ghost use Rattle.council_report.specs.Report.{report};
 ghost use Rattle.council_run.specs.Run.{Reports, Stops};
+ghost use Rattle.council_run.specs.Shows.{shown_of};
 ghost use Rattle.council_run.specs.declared.fault.Cause.TheVariants as cause;
 ghost use Rattle.council.specs.Inner.Wants.{IsTaken, lines_wanted};
 
@@ -81,17 +82,15 @@ fn options_of(wanted: &Wanted<'_>) -> Options
     ensures workers { result.workers ≡ wanted.now.workers }
     ensures bits { result.bits ≡ wanted.now.bits }
     ensures most { result.most ≡ wanted.now.most }
-    ensures list { result.list ≡ wanted.now.list }
-    ensures sizes { result.sizes ≡ wanted.now.sizes }
-    ensures notation { result.notation ≡ wanted.now.notation }
+    ensures shown { shown_of result ≡ wanted.now.shown }
 {
     Options {
         workers: wanted.workers,
         bits: wanted.bits,
         most: wanted.most,
-        list: wanted.list,
-        sizes: wanted.sizes,
-        notation: wanted.notation,
+        list: wanted.shown.list,
+        sizes: wanted.shown.sizes,
+        notation: wanted.shown.notation,
     }
 }
 

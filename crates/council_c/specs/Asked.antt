@@ -1,9 +1,9 @@
 -- What a call is asked for.
 use Rattle.std.specs.Prelude.{ℕ, ◌≡◌, ◌≤◌, ◌==◌, ◌&&◌, ◌||◌, nat_lt, Bool, false, if◌then◌else◌, length}
 use Rattle.coalitions.specs.declared.limits.TheConstants.{COALITIONS}
+use Rattle.coalitions.specs.declared.shown.Shown.{Shown}
 use Rattle.council_game.specs.Game.{GameView, votes_of}
 use Rattle.council_game.specs.Votes.{minimal_coalitions}
-use Rattle.council_report.specs.declared.shown.Shown.{Shown}
 use Rattle.council_c.specs.declared.options.CouncilOptions.{CouncilOptions}
 
 -- no call takes them: they ask for more than can be kept, or a tally, which keeps none, to list or to keep some

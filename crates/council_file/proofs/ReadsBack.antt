@@ -47,8 +47,7 @@ weights_read : (w : ℕ) (ws : List ℕ) → AllByRecursion (λ v. v < 10 ^ 18) 
     → weights_of (symbols (joined_numbers (codes ", ") (w ∷ ws) ++ codes "]")) ≡ Some (w ∷ ws)
 unfolding symbols
 weights_read w [] small = grind (arith, nat_tests, common_steps, one-number, symbols-decimal, last_is)
-weights_read w (v ∷ ws) small =
-    grind (arith, common_steps, weights_read v ws small.1, next-numbers, append_assoc, symbols-decimal, next_is)
+weights_read w (v ∷ ws) small = grind (arith, common_steps, weights_read v ws small.1, next-numbers, append_assoc, symbols-decimal, next_is)
 
 joined_short : (ws : List ℕ) → AllByRecursion (λ v. v < 10 ^ 18) ws → length (joined_numbers (codes ", ") ws) ≤ 20 * length ws
 joined_short [] small = omega arith

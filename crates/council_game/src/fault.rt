@@ -5,54 +5,41 @@ ghost use Rattle.council_game.specs.Faults.{number_of};
 
 use crate::Memory;
 use std::alloc::{AllocError, AllocFailed};
+use std::fmt;
 use thiserror::Error;
 
 /// The first fault of a game. Members are numbered from 1, in the order of the file.
 #[derive(Clone, Copy, Debug, Error, PartialEq, Eq)]
 pub enum GameFault {
     /// A read of the game file answered an error.
-    #[error("the game file cannot be read")]
     Read,
     /// More than 65,536 bytes.
-    #[error("the game file is longer than 65536 bytes")]
     TooLong,
     /// Not UTF-8, or not TOML; also an integer that does not fit 64 bits, and arrays or inline tables that
     /// are nested more than 80 deep.
-    #[error("the game file is not TOML")]
     Text,
     /// A key that no game file has.
-    #[error("unknown key")]
     UnknownKey,
     /// Not a string of at most 200 bytes without control characters.
-    #[error("bad title")]
     Title,
     /// No quota, or not an integer.
-    #[error("bad quota")]
     Quota,
     /// Not a list of 1 to 40 members.
-    #[error("bad member list")]
     Members,
     /// Not a string of 1 to 64 bytes without control characters.
-    #[error("bad name of member {member}")]
     Name { member: u8 },
     /// A name that an earlier member has.
-    #[error("member {member} repeats a name")]
     SameName { member: u8 },
     /// Not an integer from 0 to 10^12.
-    #[error("bad weight of member {member}")]
     Weight { member: u8 },
     /// A quota below 1, or above the total of its rule's weights.
-    #[error("quota out of range")]
     QuotaRange,
     /// A bracket text that breaks its grammar.
-    #[error("bad bracket text")]
     Bracket,
     /// Both `quota` and `quotas`, `quotas` that is no list of 1 to 4 integers, `weights` beside `quota`, or
     /// `weight` beside `quotas`.
-    #[error("bad rules")]
     Rules,
     /// A growth was refused.
-    #[error("out of memory")]
     Memory,
 }
 
@@ -78,6 +65,29 @@ impl GameFault {
             GameFault::Rules => 13,
             GameFault::Memory => 14,
         }
+    }
+}
+
+/// The text of each fault. (By hand: docs/DECISIONS.md says why.)
+impl fmt::Display for GameFault {
+    fn fmt<W: fmt::Write>(&self, f: &mut fmt::Formatter<W>) -> fmt::Result {
+        let text = match *self {
+            GameFault::Read => "the game file cannot be read",
+            GameFault::TooLong => "the game file is longer than 65536 bytes",
+            GameFault::Text => "the game file is not TOML",
+            GameFault::UnknownKey => "unknown key",
+            GameFault::Title => "bad title",
+            GameFault::Quota => "bad quota",
+            GameFault::Members => "bad member list",
+            GameFault::QuotaRange => "quota out of range",
+            GameFault::Bracket => "bad bracket text",
+            GameFault::Rules => "bad rules",
+            GameFault::Memory => "out of memory",
+            GameFault::Name { member } => return write!(f, "bad name of member {member}"),
+            GameFault::SameName { member } => return write!(f, "member {member} repeats a name"),
+            GameFault::Weight { member } => return write!(f, "bad weight of member {member}"),
+        };
+        f.write_str(text)
     }
 }
 

@@ -16,8 +16,7 @@ range-same {X} f h a (suc n) same = grind (arith, nat_tests, range-same f h (a +
 -- and so do the texts that they put
 texts-same : (f h : ℕ → List ℕ) (a n m : ℕ) → n ≡ m → ((i : ℕ) → a ≤ i → i < a + n → f i ≡ h i)
     → flat_map f (range_with_len a n) ≡ flat_map h (range_with_len a m)
-texts-same f h a n m long same =
-    sym (flat_map-map (λ t. t) f (range_with_len a n))
+texts-same f h a n m long same = sym (flat_map-map (λ t. t) f (range_with_len a n))
     ∙ ap (flat_map (λ (t : List ℕ). t)) (range-same f h a n same)
     ∙ flat_map-map (λ t. t) h (range_with_len a n) ∙ ap (λ k. flat_map h (range_with_len a k)) long
 

@@ -1,17 +1,17 @@
 -- The words of other libraries and of the definitions that two or more files of these proofs take; `tools/imports.py` writes them.
+pub use Rattle.coalitions.specs.declared.shown.Shown.{Shown}
 pub use Rattle.council_game.proofs.Shared.{Games.votes-are, Weights.weight-le}
 pub use Rattle.council_game.specs.{Game.GameView, Game.IsGame, Game.votes_of, Votes.IsRule, Votes.rule_at, Votes.weight}
 pub use Rattle.council_report.specs.{Inner.Lines.line_of_member, Inner.Lines.line_of_size, declared.counted.Counted.Counted}
-pub use Rattle.council_report.specs.{Lines.names_of, Lines.with_tab, declared.output.Block.Block, declared.shown.Shown.Shown}
-pub use Rattle.council_report.specs.{Inner.Puts.Lasts, Report.coalition_lines}
+pub use Rattle.council_report.specs.{Inner.Puts.Lasts, Lines.names_of, Lines.with_tab, Report.coalition_lines, declared.output.Block.Block}
 pub use Rattle.council_report.specs.Inner.SharedLine.{AreSeats, HasNoneFrom, IsLine, IsReadyLine, IsSeat, SameBefore}
 pub use Rattle.council_report.specs.Inner.Told.{HasStopped, HoldsBut, Progress, StopsIn, Tells, progress_of}
 pub use Rattle.power_index.proofs.Shared.Members.{few-members}
 pub use Rattle.power_index.specs.Tables.{table_of_member_size}
-pub use Rattle.std.proofs.Common.{arith, bit_xor, cond, decimal, drop, false, flat_map, get_or, inl, inr, length, length-append, length-set}
-pub use Rattle.std.proofs.Common.{map, option_map, refl, slice_index, subst, suc, sym, take, take-append-drop, take_all, true, vec_capacity}
-pub use Rattle.std.proofs.Common.{Bool, Err, Global, IfErr, List, None, Ok, Option, Result, Some, Vec, [], ap, append-nil, append_assoc}
-pub use Rattle.std.proofs.Common.{w64, zero, zero-add, ℕ, ◌++◌, ◌+◌, ◌-◌, ◌<◌, ◌^◌, ◌∙◌, ◌∷◌, ◌≡◌, ◌≤◌}
+pub use Rattle.std.proofs.Common.{decimal, drop, false, flat_map, get_or, inl, inr, length, length-append, length-set, map, option_map}
+pub use Rattle.std.proofs.Common.{Bool, Global, List, None, Option, Some, Vec, [], ap, append-nil, append_assoc, arith, bit_xor, cond}
+pub use Rattle.std.proofs.Common.{refl, slice_index, subst, suc, sym, take, take-append-drop, take_all, true, vec_capacity, w64, zero}
+pub use Rattle.std.proofs.Common.{zero-add, ℕ, ◌++◌, ◌+◌, ◌-◌, ◌<◌, ◌^◌, ◌∙◌, ◌∷◌, ◌≡◌, ◌≤◌}
 pub use Rattle.std.proofs.lemmas.{Grind.common_steps, Grind.flat_map-append, List.Folds.length-flat_map-take, Result.err_from_is_err_and}
 pub use Rattle.std.proofs.{Math.Seq.take-append-add, lemmas.Bool.cases_lt, lemmas.Bool.cond-true, lemmas.Bool.Decides.nat_tests}
 pub use Rattle.std.proofs.lemmas.List.{length-map}

@@ -1,7 +1,7 @@
 -- Texts told one after another, through a block that stays ready.
-use Rattle.council_report.proofs.Imports.{◌≡◌, ◌≤◌, ◌++◌, ℕ, List, [], length, Option, Result, Ok, Err, IfErr, Vec, arith, Global}
-use Rattle.council_report.proofs.Imports.{vec_capacity, nat_tests, common_steps, progress_of, Tells, HasStopped, Block}
-use Rattle.std.proofs.Common.{OnOk}
+use Rattle.council_report.proofs.Imports.{◌≡◌, ◌≤◌, ◌++◌, ℕ, List, [], length, Option, Vec, arith, Global, vec_capacity, nat_tests}
+use Rattle.council_report.proofs.Imports.{common_steps, progress_of, Tells, HasStopped, Block}
+use Rattle.std.proofs.Common.{Result, Ok, Err, IfErr, OnOk}
 use Rattle.council_text.specs.Room.{MakesRoomFor}
 use Rattle.council_report.specs.{Inner.Puts.Puts, Inner.Ready.HasRoom, Inner.Ready.IsReady, declared.output.WriteFault.WriteFault}
 use Rattle.council_report.proofs.Telling.{tells-then, tells-same, tells-block, stopped-next, stopped-after}

@@ -1,7 +1,7 @@
 -- Texts told one after another, and where one stops.
 use Rattle.council_report.proofs.Imports.{arith, append_assoc, length-append, subst, Appends, append-nil, nat_tests, common_steps, Progress}
-use Rattle.council_report.proofs.Imports.{◌≡◌, ◌++◌, ℕ, List, [], Option, Some, None, Result, Ok, Err, IfErr, option_map, sym, ap, ◌∙◌}
-use Rattle.council_report.proofs.Imports.{progress_of, Tells, HasStopped, StopsIn, Block}
+use Rattle.council_report.proofs.Imports.{◌≡◌, ◌++◌, ℕ, List, [], Option, Some, None, option_map, sym, ap, ◌∙◌, progress_of, Tells}
+use Rattle.council_report.proofs.Imports.{HasStopped, StopsIn, Block}
 
 pub tells-then : (a b c : Progress) (x y : List ℕ) → Tells a b x → Tells b c y → Tells a c (x ++ y)
 tells-then a b c x y first next = grind (arith, nat_tests, common_steps, length-append)

@@ -1,12 +1,12 @@
 -- The report of a game, as a function of its title, names and numbers and of its minimal winning coalitions.
 use Rattle.std.specs.Prelude.{ℕ, List, [], ◌++◌, if◌then◌else◌, length}
 use Rattle.std.specs.List.{flat_map, range_with_len}
+use Rattle.coalitions.specs.declared.shown.Shown.{Shown}
 use Rattle.council_game.specs.Votes.{minimal_coalitions}
 use Rattle.council_game.specs.Game.{GameView, votes_of}
 use Rattle.power_index.specs.Counting.{members, count_of_size, count_of_member, count_of_member_size}
 use Rattle.power_index.specs.Fractions.{lowest_terms}
 use Rattle.power_index.specs.Indices.{deegan_packel, public_good}
-use Rattle.council_report.specs.declared.shown.Shown.{Shown}
 use Rattle.council_report.specs.Lines.{title_line, members_line, quota_line, total_line, notation_line, minimal_line, coalition_line}
 use Rattle.council_report.specs.Lines.{size_line, member_line}
 

@@ -15,11 +15,10 @@ mod places;
 mod report;
 mod seat;
 mod shared_line;
-mod shown;
 mod stream;
 mod subtotal;
 mod text;
 
+pub use coalitions::Shown;
 pub use fault::ReportFault;
 pub use report::{write_report, write_report_of, write_tally};
-pub use shown::Shown;

@@ -20,7 +20,7 @@ fn are_these_numbers()
 {}
 
 /// A write or the flush failed.
-#[derive(Clone, Copy, Debug, PartialEq, Eq)]
+#[derive(Clone, Copy)]
 pub struct WriteFault {
     /// How many bytes the writer had taken.
     pub written: u64,

@@ -1,7 +1,7 @@
 -- What the report of a tally shows.
 use Rattle.std.specs.Prelude.{false}
+use Rattle.coalitions.specs.declared.shown.Shown.{Shown}
 use Rattle.council_game.specs.Game.{GameView}
-use Rattle.council_report.specs.declared.shown.Shown.{Shown}
 use Rattle.council_run.specs.declared.options.Options.{Options}
 
 -- no line for a coalition

@@ -3,7 +3,7 @@ ghost use Rattle.std.specs.Prelude.{◌≤◌};
 ghost use Rattle.coalitions.specs.declared.limits.TheConstants.{BITS, WORKERS, COALITIONS};
 
 use clap::{Arg, ArgAction, ArgMatches, Command, Error, value_parser};
-use coalitions::limits;
+use coalitions::{Shown, limits};
 use std::alloc::{AllocError, Global};
 
 /// Why there is nothing to do for a command line.
@@ -26,12 +26,8 @@ pub struct Wanted<'a> {
     pub bits: u8,
     /// The greatest number of minimal winning coalitions that a run keeps, 1 to 4,000,000.
     pub most: u32,
-    /// A line for each minimal winning coalition.
-    pub list: bool,
-    /// A line for each size that a minimal winning coalition has.
-    pub sizes: bool,
-    /// A line with the notation of each rule.
-    pub notation: bool,
+    /// The lines of the report beside those that each report has; of a tally none for a coalition.
+    pub shown: Shown,
     /// Whether the coalitions are counted and not kept.
     pub tally: bool,
     /// Lines that say more of a fault of the game.
@@ -219,9 +215,11 @@ fn wanted_of<'a>(matches: &ArgMatches<'a>) -> Option<Wanted<'a>> {
         workers,
         bits,
         most,
-        list: matches.get_flag("list"),
-        sizes: matches.get_flag("sizes"),
-        notation: matches.get_flag("notation"),
+        shown: Shown {
+            list: matches.get_flag("list"),
+            sizes: matches.get_flag("sizes"),
+            notation: matches.get_flag("notation"),
+        },
         tally: matches.get_flag("tally"),
         explain: matches.get_flag("explain"),
     })

@@ -93,11 +93,15 @@ fn line_of_key(bare: &str, first: usize, key: &str) -> Option<usize> {
 fn line_of_member(bare: &str, index: usize, key: &str) -> Option<usize> {
     let header = "[[member]]";
     let mark = if bare.contains(header) { header } else { "{" };
-    let before = index.checked_add(1)?;
-    let rest = bare.splitn(before.checked_add(1)?, mark).nth(before)?;
-    let (line, _) = line_and_column(bare.as_bytes(), bare.len().saturating_sub(rest.len()));
-    let member = rest.split(mark).next()?;
-    line_of_key(member, line, key).or(Some(line))
+    let mut line = 1usize;
+    for (number, part) in bare.split(mark).enumerate() {
+        // (the first part stands before all members)
+        if index < number {
+            return line_of_key(part, line, key).or(Some(line));
+        }
+        line = line.saturating_add(part.matches('\n').count());
+    }
+    None
 }
 
 /// The text of a game file, and what is bare of it.

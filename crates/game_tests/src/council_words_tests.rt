@@ -7,9 +7,9 @@ use std::process::Abort;
 fn asks_for(rt: &impl Abort, found: &Wanted<'_>, numbers: [u32; 3], flags: [bool; 5], label: &str) {
     let found_numbers = [u32::from(found.workers), u32::from(found.bits), found.most];
     let found_flags = [
-        found.list,
-        found.sizes,
-        found.notation,
+        found.shown.list,
+        found.shown.sizes,
+        found.shown.notation,
         found.tally,
         found.explain,
     ];

@@ -1,4 +1,4 @@
-//! The tests of `mwc_pipe`, `mwc_parts` and `mwc_gather`, which need their public calls alone: pipes, rings, gates,
+//! The tests of `mwc_ring`, `mwc_pipe`, `mwc_parts` and `mwc_gather`, which need their public calls alone: pipes, rings, gates,
 //! and lists that threads gather.
 //! They stand in one crate, since a check loads the statements of the libraries once.
 #![tactic(auto)]
@@ -9,3 +9,5 @@ mod helpers;
 mod mwc_gather_tests;
 #[cfg(test)]
 mod mwc_pipe_tests;
+#[cfg(test)]
+mod mwc_ring_tests;

@@ -8,7 +8,7 @@ pub use Rattle.mwc_parts.specs.{Wording.coalition_count, Wording.cut_words, Word
 pub use Rattle.mwc_parts.specs.{Shared.Dealing.DeskView, Shared.Dealing.IsFresh, declared.fault.GatherFault.TheVariants.Memory}
 pub use Rattle.mwc_parts.specs.{Shared.Fault.also_all, Shared.Settled.IsPart, declared.fault.Met.Met, declared.part.Part.Part}
 pub use Rattle.mwc_parts.specs.{Drafts.IsDraftOf, Fault.also, Fault.fault_of, Slicing.Slicing}
-pub use Rattle.mwc_pipe.specs.declared.word.Word.{Word, TheVariants.Done, TheVariants.One, TheVariants.Open}
+pub use Rattle.mwc_ring.specs.declared.word.Word.{Word, TheVariants.Done, TheVariants.One, TheVariants.Open}
 pub use Rattle.mwc_walk.proofs.Shared.Joined.{slices-joined}
 pub use Rattle.std.proofs.Common.{is_some, length, map, refl, rules, subst, sum_by, sym, take, true, ℕ, ◌++◌, ◌+◌, ◌<◌, ◌||◌, ◌∙◌, ◌∷◌, ◌≡◌}
 pub use Rattle.std.proofs.Common.{All, Bool, List, None, Option, Some, [], ap, append-nil, append_assoc, arith, cond, drop, false, get_or}

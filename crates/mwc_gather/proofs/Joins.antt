@@ -2,7 +2,7 @@
 use Rattle.mwc_gather.proofs.Imports.{Slicing, coalition_count, IsDraftOf, IsPart, Part, GatherFault, Desk, IsOf, IsPartOfDesk, CanEndWith}
 use Rattle.mwc_gather.proofs.Imports.{◌≡◌, ℕ, ◌<◌, false, List, ◌++◌, length, Some, None, ap, subst, sym, ◌∙◌, arith, false≢true, Word}
 use Rattle.std.proofs.Common.{◌⊎◌, Result, Ok, Err, IfOk, IfErr, flat_map, inl, inr}
-use Rattle.mwc_pipe.specs.{RingViews.RingInView, RingViews.RingOutView, RingViews.ClosedView, declared.closed.Unfinished.Unfinished}
+use Rattle.mwc_ring.specs.{RingViews.RingInView, RingViews.RingOutView, RingViews.ClosedView, declared.closed.Unfinished.Unfinished}
 use Rattle.mwc_parts.specs.{Shared.Settled.HasAllWords, Shared.Settled.ends_from, Wording.IsWholeSending, Wording.IsCutSending}
 use Rattle.mwc_parts.specs.{Drafts.IsPartOfDraft, Drafts.fault_in_draft, Pieces.HasEnds, Shared.Fault.fault_in, declared.draft.Draft.Draft}
 use Rattle.mwc_parts.proofs.Shared.Readings.{has_ends}

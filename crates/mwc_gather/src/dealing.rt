@@ -2,7 +2,7 @@
 ghost use Rattle.std.specs.Prelude.{◌≡◌, ◌<◌, ◌≤◌, ◌^◌, ◌++◌, List, All, length, replicate, true, false};
 ghost use Rattle.std.specs.List.{list_any};
 ghost use Rattle.coalitions.specs.declared.limits.TheConstants.{WORKERS};
-ghost use Rattle.mwc_pipe.specs.declared.word.Word.{Word};
+ghost use Rattle.mwc_ring.specs.declared.word.Word.{Word};
 ghost use Rattle.mwc_parts.specs.Shared.Wording.{is_done};
 ghost use Rattle.mwc_parts.specs.Shared.Dealing.{TakesTurn, IsFresh};
 ghost use Rattle.mwc_gather.specs.Slicings.{slicing};
@@ -13,7 +13,7 @@ use crate::job::Job;
 use crate::parcel::WORDS;
 use crate::waiting::{BellPair, Bells, Patience};
 use mwc_parts::Marks;
-use mwc_pipe::Word;
+use mwc_ring::Word;
 use std::sync::Wait;
 
 /// The deal of the slices to the workers.

@@ -2,7 +2,7 @@
 ghost use Rattle.std.specs.Prelude.{◌≡◌, ℕ, ◌||◌, ◌+◌, ◌<◌, ◌≤◌, ◌^◌, ◌++◌, ◌∷◌, [], List, All, IfOk, IfErr, if◌then◌else◌, IsTrue, IsFalse, true, false, count_by, length, take, vec_len, vec_capacity};
 ghost use Rattle.std.specs.List.{list_any};
 ghost use Rattle.coalitions.specs.declared.limits.TheConstants.{WORKERS};
-ghost use Rattle.mwc_pipe.specs.declared.word.Word.{Word};
+ghost use Rattle.mwc_ring.specs.declared.word.Word.{Word};
 ghost use Rattle.mwc_parts.specs.Slicing.{Slicing};
 ghost use Rattle.mwc_parts.specs.Wording.{open_words};
 ghost use Rattle.mwc_parts.specs.Drafts.{IsDraftOf, LosesForWantOfRoom};
@@ -20,7 +20,7 @@ use crate::told::Told;
 use crate::waiting::{BellPair, Bells, Patience};
 use crate::worker::work_beside;
 use mwc_parts::{Draft, GatherFault, Part};
-use mwc_pipe::{Rest, RingIn, RingOut, Word};
+use mwc_ring::{Rest, RingIn, RingOut, Word};
 use mwc_walk::slice_count;
 use std::alloc::Global;
 use std::sync::Wait;

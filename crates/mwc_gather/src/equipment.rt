@@ -6,7 +6,7 @@ ghost use Rattle.mwc_gather.specs.declared.equipment.TheConstants.{TASKS};
 
 use crate::parcel::WORDS;
 use mwc_parts::{Draft, GatherFault};
-use mwc_pipe::{RingIn, RingOut, ring};
+use mwc_ring::{RingIn, RingOut, ring};
 use std::alloc::Global;
 
 /// How many tasks a worker may be behind the gatherer.

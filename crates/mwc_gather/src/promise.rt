@@ -3,7 +3,7 @@ ghost use Rattle.mwc_gather.specs.Slicings.{slicing};
 ghost use Rattle.mwc_gather.specs.Sending.{HasWorked};
 
 use council_game::Game;
-use mwc_pipe::{Closed, RingIn, RingOut, Unfinished};
+use mwc_ring::{Closed, RingIn, RingOut, Unfinished};
 use std::snapshot::Snapshot;
 use std::thread::Promise;
 

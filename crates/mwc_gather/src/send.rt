@@ -14,7 +14,7 @@ use crate::seeking::{LastTold, next_told};
 use crate::sent::Sent;
 use crate::told::Told;
 use crate::waiting::{Bell, BellPair, Patience};
-use mwc_pipe::{PipeIn, Word};
+use mwc_ring::{PipeIn, Word};
 use mwc_walk::Walk;
 use std::sync::Wait;
 

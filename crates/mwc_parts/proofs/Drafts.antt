@@ -1,6 +1,6 @@
 -- Drafts, one word at a time.
 use Rattle.std.proofs.Common.{◌≡◌, false, ◌||◌, [], ◌∷◌, ◌++◌, length}
-use Rattle.mwc_pipe.specs.declared.word.Word.{Word}
+use Rattle.mwc_ring.specs.declared.word.Word.{Word}
 use Rattle.mwc_parts.specs.{Drafts.is_cut, Pieces.ones, Pieces.done_counts, declared.draft.Draft.Draft}
 
 -- the draft kept one more word, or lost it

@@ -2,8 +2,8 @@
 use Rattle.std.proofs.Common.{◌≡◌, ℕ, ◌+◌, ◌<◌, ◌≤◌, Bool, true, false, List, [], ◌∷◌, ◌++◌, length, All, refl, arith}
 use Rattle.std.proofs.lemmas.List.Elements.{All-head, All-tail}
 use Rattle.mwc_parts.specs.{Shared.Wording.end_words, Slicing.Slicing, Wording.open_words, Wording.IsLast, Wording.coalition_count}
-use Rattle.mwc_pipe.specs.declared.word.Word.{Word}
-use Rattle.mwc_pipe.specs.declared.word.Word.TheVariants.{Open, One, Done, End}
+use Rattle.mwc_ring.specs.declared.word.Word.{Word}
+use Rattle.mwc_ring.specs.declared.word.Word.TheVariants.{Open, One, Done, End}
 use Rattle.mwc_parts.proofs.Shared.Readings.{coalitions-cons}
 
 -- no word that ends the work is a task that gives a slice

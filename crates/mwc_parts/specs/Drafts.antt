@@ -2,8 +2,8 @@
 use Rattle.std.specs.Prelude.{◌≡◌, ◌⊎◌, ◌+◌, ◌<◌, ◌≤◌, ◌^◌, ℕ, Bool, true, false, List, Option, Some, None, if◌then◌else◌, vec_len}
 use Rattle.std.specs.List.{list_any}
 use Rattle.std.specs.Vec.{vec_capacity}
-use Rattle.mwc_pipe.specs.declared.word.Word.{Word}
-use Rattle.mwc_pipe.specs.declared.word.Word.TheVariants.{End}
+use Rattle.mwc_ring.specs.declared.word.Word.{Word}
+use Rattle.mwc_ring.specs.declared.word.Word.TheVariants.{End}
 use Rattle.mwc_parts.specs.Pieces.{ones, done_counts}
 use Rattle.mwc_parts.specs.declared.draft.Draft.{Draft}
 use Rattle.mwc_parts.specs.declared.part.Part.{Part}

@@ -1,8 +1,8 @@
 -- What a part says of its slices.
 use Rattle.std.specs.Prelude.{◌≡◌, ℕ, ◌+◌, ◌<◌, ◌≤◌, List, [], ◌∷◌, length, slice_index, Option, Some, None}
 use Rattle.std.specs.List.{filter_map}
-use Rattle.mwc_pipe.specs.declared.word.Word.{Word}
-use Rattle.mwc_pipe.specs.declared.word.Word.TheVariants.{Open, One, Done, End}
+use Rattle.mwc_ring.specs.declared.word.Word.{Word}
+use Rattle.mwc_ring.specs.declared.word.Word.TheVariants.{Open, One, Done, End}
 
 -- the coalition that a word tells
 abbrev pub one_in : Word → Option ℕ

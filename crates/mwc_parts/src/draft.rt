@@ -1,6 +1,6 @@
 //! A part as its words come.
 ghost use Rattle.std.specs.Prelude.{◌≡◌, [], ◌∷◌, ◌++◌, List, false, length, None, Some, IfOk, IfErr, OnErr, OnOk, true};
-ghost use Rattle.mwc_pipe.specs.declared.word.Word.{Word};
+ghost use Rattle.mwc_ring.specs.declared.word.Word.{Word};
 ghost use Rattle.mwc_parts.specs.Pieces.{ones, done_counts, HasEnds};
 ghost use Rattle.mwc_parts.specs.Drafts.{is_cut, IsDraftOf, IsPartOfDraft, fault_in_draft};
 ghost use Rattle.mwc_parts.specs.Drafts.{Grows, LacksRoom, LosesForWantOfRoom};
@@ -8,7 +8,7 @@ ghost use Rattle.mwc_parts.specs.Drafts.{Grows, LacksRoom, LosesForWantOfRoom};
 use crate::fault::GatherFault;
 use crate::part::Part;
 use council_game::{Coalition, Memory};
-use mwc_pipe::Word;
+use mwc_ring::Word;
 use std::alloc::Global;
 
 /// What is kept of the words of a worker as they come. Of use to a gatherer alone: its parts are made of it.

@@ -1,10 +1,3 @@
-pub mod History
 pub mod Laws
-pub mod PipeView
 pub mod Calls
 pub mod BatchView
-pub mod Refusal
-pub mod RowSteps
-pub mod RingName
-pub mod RingViews
-pub mod Inner

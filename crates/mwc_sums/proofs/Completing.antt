@@ -39,8 +39,7 @@ pub weight-left : (w : ℕ) (ws : List ℕ) (c : ℕ) → c < 2 ^ length ws → 
 weight-left w ws c lt = grind (arith, weight-cons w ws c, bit_at_above c (length ws) (length ws) lt (omega arith))
 
 pub size-with : (n c : ℕ) → c < 2 ^ n → size (suc n) (2 ^ n + c) ≡ size n c + 1
-size-with n c lt =
-    grind (arith, size-ones (suc n) (2 ^ n + c), size-ones n c lt, ones_cat n 1 c lt, ones-ones 1, double-pow n)
+size-with n c lt = grind (arith, size-ones (suc n) (2 ^ n + c), size-ones n c lt, ones_cat n 1 c lt, ones-ones 1, double-pow n)
 
 pub size-left : (n c : ℕ) → c < 2 ^ n → size (suc n) c ≡ size n c
 size-left n c lt = let d = double-pow n in size-ones (suc n) c (omega (arith, d)) ∙ sym (size-ones n c lt)

@@ -13,7 +13,7 @@ pub use Rattle.std.proofs.Common.{lt-ltb, ltb, ltb-true, map, not, refl, string_
 pub use Rattle.std.proofs.Common.{All, Bool, List, [], ap, arith, cond, eqb-true, false, filter, get_or, inl, inr, le-ltb, leb, length}
 pub use Rattle.std.proofs.Common.{◌&&◌, ◌*◌, ◌++◌, ◌+◌, ◌-◌, ◌<◌, ◌==◌, ◌^◌, ◌||◌, ◌↔◌, ◌∙◌, ◌∷◌, ◌≡◌, ◌≢◌, ◌≤◌, ◌⊎◌}
 pub use Rattle.std.proofs.lemmas.List.{Filters.length-filter_both, FromFn.length-map-range_with_len, FromFn.length-range_with_len}
-pub use Rattle.std.proofs.{Math.Bool.and-true, lemmas.Bool.Decides.nat_tests, lemmas.List.length-map}
+pub use Rattle.std.proofs.{Math.Bool.and-true, lemmas.Bool.Decides.nat_tests, lemmas.Grind.common_steps, lemmas.List.length-map}
 pub use Rattle.std.proofs.lemmas.Bool.{and_from, and_parts, both_ways, cases_eq, cases_lt, true_from_ne_false}
 pub use Rattle.std.proofs.lemmas.List.Elements.{All-filter, All-from_get_or, All-from_recursion, All-head, All-tail, filter-append}
 pub use Rattle.std.proofs.lemmas.List.Sums.{AllPass-from_list_all, length-filter, list_all-from_AllPass, sum_by-cons}

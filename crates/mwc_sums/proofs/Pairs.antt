@@ -1,8 +1,8 @@
 -- How many coalitions of a game are one of each of two games together, and the tallies of them.
 use Rattle.mwc_sums.proofs.Imports.{◌≡◌, ◌∙◌, ◌==◌, ◌&&◌, ℕ, ◌+◌, ◌-◌, ◌*◌, ◌^◌, ◌<◌, ◌≤◌, Bool, List, [], ◌∷◌, length, get_or, filter, sym}
-use Rattle.mwc_sums.proofs.Imports.{IsGame, votes_of, size_of, cases_lt, minimal-few, AreChambersOf, minimal_of_size, sum-plus, filter-both}
-use Rattle.mwc_sums.proofs.Imports.{refl, arith, nat_tests, sum_by, range_with_len, sum_by-range-more, has, minimal_coalitions, GameView}
-use Rattle.mwc_sums.proofs.Imports.{ap, of_place_size, leb, true, contains, met, sum_by-cons, sum-range, sum-filter, minimal, down}
+use Rattle.mwc_sums.proofs.Imports.{IsGame, votes_of, size_of, minimal-few, AreChambersOf, minimal_of_size, sum-plus, filter-both, refl}
+use Rattle.mwc_sums.proofs.Imports.{arith, nat_tests, sum_by, range_with_len, sum_by-range-more, has, minimal_coalitions, GameView, ap}
+use Rattle.mwc_sums.proofs.Imports.{of_place_size, leb, true, contains, met, sum_by-cons, sum-range, sum-filter, minimal, down}
 use Rattle.mwc_sums.specs.{Chambers.paired, Chambers.minimal_of_member_size, Inner.Pairs.of_member_size, Inner.Pairs.of_size}
 use Rattle.coalitions.proofs.Shared.Ranges.{sum_by-range-le}
 use Rattle.power_index.specs.Counting.{count_of_size, count_of_member_size}

@@ -33,8 +33,7 @@ has_weight rs i = list_any (λ r. not (get_or r.weights i 0 == 0)) rs
 
 pub no-weight : (rs : List RuleView) (i : ℕ) → HasNoWeight rs i → has_weight rs i ≡ false
 no-weight [] i none = refl
-no-weight (r ∷ rs) i none =
-    grind (arith, nat_tests, none 0 r (omega arith), no-weight rs i (λ k d lt. none (suc k) d (omega (arith, lt))))
+no-weight (r ∷ rs) i none = grind (arith, nat_tests, none 0 r (omega arith), no-weight rs i (λ k d lt. none (suc k) d (omega (arith, lt))))
 
 -- rules see those members who have weight
 pub met-seen : (n : ℕ) (rs : List RuleView) (f h : ℕ → Bool) → ((i : ℕ) → i < n → has_weight rs i ≡ true → f i ≡ h i)

@@ -12,8 +12,7 @@ use Rattle.mwc_sums.proofs.VetoRules.{good-met, good-some, alike-sum}
 
 -- ---- who has weight in two rules
 pub share-at : (n i : ℕ) (a b : RuleView) → i < n → 0 < get_or a.weights i 0 → 0 < get_or b.weights i 0 → share n a b ≡ true
-share-at n i a b lt one other =
-    any-at (λ i. ltb 0 (get_or a.weights i 0) && ltb 0 (get_or b.weights i 0)) n i lt (grind (arith, nat_tests))
+share-at n i a b lt one other = any-at (λ i. ltb 0 (get_or a.weights i 0) && ltb 0 (get_or b.weights i 0)) n i lt (grind (arith, nat_tests))
 
 share-turned : (n : ℕ) (a b : RuleView) → share n a b ≡ true → share n b a ≡ true
 share-turned n a b they = grind (arith, nat_tests, share-at, any-of)

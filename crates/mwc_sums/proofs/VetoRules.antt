@@ -2,14 +2,13 @@
 use Rattle.mwc_sums.proofs.Imports.{sum_by, range_with_len, sum_by-cons, sum-range, ◌≡◌, ◌∙◌, ℕ, suc, ◌+◌, ◌-◌, ◌*◌, ◌<◌, Bool, true, false}
 use Rattle.mwc_sums.proofs.Imports.{rule-is, true_from_ne_false, both_ways, length-map-range_with_len, All-from_recursion, GameView, IsGame}
 use Rattle.mwc_sums.proofs.Imports.{nat_tests, weighs, met, rules_beside, can_veto, ◌^◌, map, filter, ap, refl, arith, inl, inr, All, sum}
+use Rattle.mwc_sums.proofs.Imports.{IsFair, take, statute, sum-zero, AreRulesOf, length-filter_both, not, ◌++◌, ◌≤◌, cases_lt, le-ltb}
 use Rattle.mwc_sums.proofs.Imports.{cond, leb, ltb, List, [], ◌∷◌, length, sum-filter, has, weight, length-range_with_len, places-at}
 use Rattle.mwc_sums.proofs.Imports.{All-head, All-tail, sum_by-range-more, RuleView, sum-plus, get_or, wins, Votes, IsVotes, rule_at}
-use Rattle.mwc_sums.proofs.Imports.{IsFair, take, statute, sum-zero, AreRulesOf, length-filter_both, not, ◌++◌, ◌≤◌, subst, cases_lt}
-use Rattle.mwc_sums.proofs.Imports.{le-ltb, ltb-true, length-map, filter-append}
+use Rattle.mwc_sums.proofs.Imports.{ltb-true, length-map, filter-append, common_steps}
 use Rattle.mwc_sums.specs.Vetoers.{number_of, rest_of, rule_for, IsVetoer}
 use Rattle.std.proofs.lemmas.List.{Folds.list_all_at, Folds.list_any_none, FromFn.fill_by_all, FromFn.get_or-map-range_with_len}
 use Rattle.std.proofs.lemmas.List.{Elements.All-cons, Elements.All-map, Sums.sum-map, Sums.get_or-le-sum_by}
-use Rattle.std.proofs.lemmas.Grind.{common_steps}
 use Rattle.std.proofs.Common.{fold, None, Ok, Err}
 use Rattle.mwc_sums.proofs.Counting.{missing, All-passing}
 use Rattle.std.proofs.lemmas.List.{get_or_past, nil_from_length, take_more, map-append}

@@ -41,7 +41,6 @@ impl Parts {
 }
 
 /// The two parts of a game that consists of these rules, where sums count some of them, and leave some.
-#[tactic(auto, using(crate::proofs::Sharing::parted))]
 fn parts_of(alloc: Global, game: &Game, whole: &Statute) -> Result<Option<Parts>, Memory>
     requires members { whole.now.members ≡ length game.now.names }
     requires rules { whole.now.rules ≡ statute game.now }

@@ -1,11 +1,10 @@
 -- What the members from a place on weigh in a coalition: in intervals, by one rule for what they weigh by another, and vetoers among them.
-use Rattle.mwc_walk.proofs.Imports.{get_or, sum, ap, subst, ◌∙◌, length-drop, zero, true, false, [], refl, common_steps, cases_lt, cases_eq}
-use Rattle.mwc_walk.proofs.Imports.{◌≡◌, ℕ, ◌+◌, ◌*◌, ◌<◌, ◌≤◌, arith, inl, inr, suc, ◌-◌, ◌/◌, ◌%◌, ◌^◌, List, ◌∷◌, length, take, drop}
-use Rattle.mwc_walk.proofs.Imports.{both_ways, and_parts, leb-true, cases_Bool, cond_both, cond-false, mul-le, drop_all, length-take-le}
-use Rattle.mwc_walk.proofs.Imports.{get_or-take, weight, RuleView, Votes, IsVotes, rule_at, wins, weight-le, weight-without, IsPrice}
-use Rattle.mwc_walk.proofs.Imports.{Intervals, Covers, Lane, no_lane, IsSplit, LaneIs, LanesAre, lane_at, LanesStand, get_or_default}
-use Rattle.mwc_walk.proofs.Imports.{InInterval, get_or-set_same}
-use Rattle.std.proofs.Common.{take_all, drop-cons, ◌⊎◌, add-one, ltb-true}
+use Rattle.mwc_walk.proofs.Imports.{◌+◌, ◌*◌, ◌<◌, ◌≤◌, arith, inl, inr, suc, ◌-◌, ◌/◌, ◌%◌, ◌^◌, List, ◌∷◌, length, take, drop, cases_Bool}
+use Rattle.mwc_walk.proofs.Imports.{cond_both, cond-false, mul-le, drop_all, get_or-take, weight, Votes, IsVotes, rule_at, wins, weight-le}
+use Rattle.mwc_walk.proofs.Imports.{weight-without, IsPrice, Intervals, Covers, Lane, IsSplit, LaneIs, lane_at, LanesStand, get_or_default}
+use Rattle.mwc_walk.proofs.Imports.{get_or, sum, ap, subst, ◌∙◌, length-drop, zero, true, refl, common_steps, cases_lt, cases_eq, ◌≡◌, ℕ}
+use Rattle.mwc_walk.proofs.Imports.{InInterval}
+use Rattle.std.proofs.Common.{length-take-le, take_all, drop-cons, ◌⊎◌, add-one, ltb-true}
 use Rattle.std.proofs.{Math.Nat.le_of_mul-le-mul_left, lemmas.List.Folds.Any-from_list_any, lemmas.List.Sums.sum_by_more}
 use Rattle.std.proofs.lemmas.Nat.Bits.{bit_at-lt}
 use Rattle.std.specs.{Int.div_ceil, List.list_any}

@@ -1,14 +1,14 @@
 -- What is still to come is the end of the slice; the slice at no bits is the whole list.
-use Rattle.mwc_walk.proofs.Imports.{pow-add, nat_tests, Votes, down, minimal_coalitions, minimal_below, slice, Step, On, Give, End, sym, ap}
-use Rattle.mwc_walk.proofs.Imports.{◌∙◌, arith, common_steps, filter, cond_both, length-drop, filter-append, in_slice, slice_below, Cursor}
-use Rattle.mwc_walk.proofs.Imports.{◌≡◌, ℕ, ◌+◌, ◌-◌, ◌*◌, ◌^◌, ◌≤◌, Bool, true, List, [], ◌∷◌, ◌++◌, length, get_or, take, drop, mul-le}
-use Rattle.mwc_walk.proofs.Imports.{rest_of_slice, CursorIs, SomeSteps, IsPlace, IsVotes, votes_of, listing-is, append-nil}
-use Rattle.std.proofs.Common.{length-append, if◌then◌else◌, mul-add, get_or-drop, take-append-drop}
+use Rattle.mwc_walk.proofs.Imports.{pow-add, nat_tests, Votes, minimal_coalitions, minimal_below, slice, On, Give, End, sym, ap, ◌∙◌, arith}
+use Rattle.mwc_walk.proofs.Imports.{◌*◌, ◌^◌, ◌≤◌, Bool, true, List, [], ◌∷◌, ◌++◌, length, get_or, take, drop, mul-le, CursorIs, SomeSteps}
+use Rattle.mwc_walk.proofs.Imports.{common_steps, cond_both, length-drop, filter-append, in_slice, slice_below, Cursor, ◌≡◌, ℕ, ◌+◌, ◌-◌}
+use Rattle.mwc_walk.proofs.Imports.{IsPlace, IsVotes, votes_of, listing-is, append-nil}
+use Rattle.mwc_walk.specs.{Listed.ListsAll, declared.step.Step.Step}
+use Rattle.mwc_walk.specs.Inner.Cursor.{rest_of_slice, bound, Follows, GivesNext, FindsEnd}
+use Rattle.std.proofs.Common.{if◌then◌else◌, mul-add, get_or-drop, take-append-drop}
 use Rattle.std.proofs.lemmas.List.{take_more}
-use Rattle.mwc_walk.specs.Inner.Cursor.{bound, Follows, GivesNext, FindsEnd}
 use Rattle.mwc_walk.proofs.{Rest.down-split, Shared.Joined.slices-joined}
 use Rattle.council_game.specs.Game.{GameView}
-use Rattle.mwc_walk.specs.Listed.{ListsAll}
 
 -- what is left of a slice is its end
 left-is : (v : Votes) (k j b : ℕ) → b ≤ 2 ^ v.members

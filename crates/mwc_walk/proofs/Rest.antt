@@ -1,9 +1,9 @@
 -- The numbers below a bound, descending, filtered, and what is left of a slice at a place of the walk.
 use Rattle.mwc_walk.proofs.Imports.{mul-le, and_left, eq-eqb, cond-true, false_from_ne_true, both_ways, bit_at_cat_low, Votes, IsVotes, has}
 use Rattle.mwc_walk.proofs.Imports.{pow-add, slice_below, reaches, wins_at, NothingBelow, lowest-place, w64, trailing_zeros, eqb-true, refl}
-use Rattle.mwc_walk.proofs.Imports.{◌≡◌, ℕ, zero, suc, ◌+◌, ◌*◌, ◌/◌, ◌^◌, ◌<◌, ◌≤◌, Bool, true, false, ◌&&◌, eqb, List, [], ◌∷◌, ◌++◌, ◌∙◌}
 use Rattle.mwc_walk.proofs.Imports.{without, minimal, minimal_coalitions, minimal_below, needs-each-member, slice, in_slice, ◌-◌, ◌%◌, ap}
-use Rattle.mwc_walk.proofs.Imports.{arith, common_steps, filter, cases_Bool, append-nil, filter-append, pow_pos, down}
+use Rattle.mwc_walk.proofs.Imports.{◌≡◌, ℕ, zero, suc, ◌+◌, ◌*◌, ◌/◌, ◌^◌, ◌<◌, ◌≤◌, Bool, true, false, eqb, List, [], ◌∷◌, ◌++◌, ◌∙◌}
+use Rattle.mwc_walk.proofs.Imports.{arith, common_steps, filter, append-nil, filter-append, pow_pos, down}
 use Rattle.std.proofs.{Common.zero-add, Common.ne_eqb, Math.Bool.and-true, Math.Nat.lt-div-mul-add, lemmas.Bool.and_right}
 use Rattle.coalitions.proofs.Shared.Lists.{filter-both}
 use Rattle.mwc_walk.proofs.Rules.{wins-below, loses-below}
@@ -93,8 +93,7 @@ above-not_minimal v p x c game le win low high min =
 
 -- a prefix that cannot reach some quota has nothing below it
 pub dead-nothing : (v : Votes) (p x : ℕ) → IsVotes v → p ≤ v.members → reaches v.rules p x ≡ false → NothingBelow v p x
-dead-nothing v p x game le dead =
-    λ c prefix. unfold minimal in grind (arith, and_left, false_from_ne_true, both_ways, loses-below)
+dead-nothing v p x game le dead = λ c prefix. unfold minimal in grind (arith, and_left, false_from_ne_true, both_ways, loses-below)
 
 -- where nothing is below a prefix, it leaves the same
 pub left-nothing : (v : Votes) (k j p x : ℕ) → NothingBelow v p x

@@ -1,12 +1,10 @@
 -- What a rule's places weigh at a prefix x of p places, and the lanes of the walk, which stand for the rules there.
-use Rattle.mwc_walk.proofs.Imports.{ap, get_or, sum, arith, zero, suc, length, sym, ◌∙◌, All, AllByRecursion, list_all, and_from, and_parts}
-use Rattle.mwc_walk.proofs.Imports.{le-leb, leb-true, common_steps, length-map, drop_all, length-take-le, get_or-take, nat_tests, RuleView}
-use Rattle.mwc_walk.proofs.Imports.{lane_reaches, lane_wins, lane_with, lane_without, leb, sum_by-take-drop, has-none, lane_at, subst, ◌≡◌}
-use Rattle.mwc_walk.proofs.Imports.{weight, wins, rule_at, weight-zero, weight-le, reaches, wins_at, LaneIs, LanesAre, Lane, length-drop}
-use Rattle.mwc_walk.proofs.Imports.{Bool, true, List, [], ◌∷◌, map, refl, ℕ, ◌+◌, ◌-◌, ◌*◌, ◌/◌, ◌%◌, ◌^◌, ◌<◌, ◌≤◌, take, drop, IsRule}
-use Rattle.mwc_walk.proofs.Imports.{list_all-from_AllPass}
+use Rattle.mwc_walk.proofs.Imports.{weight-le, reaches, wins_at, Lane, length-drop, Bool, true, List, [], ◌∷◌, refl, ℕ, ◌+◌, ◌-◌, ◌*◌, ◌/◌}
+use Rattle.mwc_walk.proofs.Imports.{ap, get_or, sum, arith, zero, suc, length, sym, ◌∙◌, AllByRecursion, list_all, le-leb, common_steps}
+use Rattle.mwc_walk.proofs.Imports.{drop_all, RuleView, leb, sum_by-take-drop, has-none, lane_at, subst, ◌≡◌, weight, wins, rule_at}
+use Rattle.mwc_walk.proofs.Imports.{◌%◌, ◌^◌, ◌<◌, ◌≤◌, take, drop, IsRule, list_all-from_AllPass}
 use Rattle.std.proofs.lemmas.List.{Elements.All-from_recursion, Sums.sum_by-drop_more, Sums.AllPass-from_list_all}
-use Rattle.std.proofs.Common.{replicate, map-id, ext_get_or, div-add-mod'}
+use Rattle.std.proofs.Common.{leb-true, div-add-mod'}
 use Rattle.council_game.proofs.Shared.Weights.{weight-at, weight-more, weight-prefix, weight-skip}
 
 -- what holds from the back on

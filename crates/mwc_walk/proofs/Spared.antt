@@ -1,11 +1,12 @@
 -- The members that each rule can spare, and the prefixes below which nothing is minimal.
-use Rattle.mwc_walk.proofs.Imports.{false_from_ne_true, nat_tests, length-drop, shr-shr, RuleView, Votes, take, drop, get_or, refl, sym, ap}
-use Rattle.mwc_walk.proofs.Imports.{both_ways, and_parts, and_from, le-leb, Cursor, LaneIs, NothingBelow, IsExcess, wins_at, IsNeed, Tried}
-use Rattle.mwc_walk.proofs.Imports.{rule_at, has, without, weight, wins, minimal, lowest-place, needs-each-member, Lane, eq-eqb, IsSplit}
-use Rattle.mwc_walk.proofs.Imports.{◌≡◌, ℕ, ◌+◌, ◌-◌, ◌*◌, ◌/◌, ◌%◌, ◌^◌, ◌<◌, ◌≤◌, ◌&&◌, min, true, List, [], length, IsRule, IsRanked}
-use Rattle.mwc_walk.proofs.Imports.{◌∙◌, arith, inl, inr, common_steps, w64, trailing_zeros, pow_mono, cases_eq, cases_lt, cases_Bool}
-use Rattle.mwc_walk.proofs.Imports.{CursorIs, has-none, lane_at, IsVotes, get_or_default, list_all-from_AllPass, asked_at}
-use Rattle.std.proofs.{Common.bit_and, lemmas.Nat.and_le_l, lemmas.Nat.Bits.bit_at-trailing_zeros, lemmas.Nat.Bits.bit_at_and}
+use Rattle.mwc_walk.proofs.Imports.{wins, minimal, lowest-place, needs-each-member, Lane, eq-eqb, IsSplit, ◌≡◌, ℕ, ◌+◌, ◌-◌, ◌*◌, ◌/◌, ◌^◌}
+use Rattle.mwc_walk.proofs.Imports.{false_from_ne_true, nat_tests, shr-shr, RuleView, Votes, take, drop, get_or, refl, sym, ap, both_ways}
+use Rattle.mwc_walk.proofs.Imports.{le-leb, Cursor, LaneIs, NothingBelow, IsExcess, wins_at, IsNeed, Tried, rule_at, has, without, weight}
+use Rattle.mwc_walk.proofs.Imports.{trailing_zeros, pow_mono, cases_eq, cases_lt, cases_Bool, CursorIs, has-none, lane_at, IsVotes}
+use Rattle.mwc_walk.proofs.Imports.{◌<◌, ◌≤◌, min, true, List, [], length, IsRanked, ◌∙◌, arith, inl, inr, common_steps, w64}
+use Rattle.mwc_walk.proofs.Imports.{get_or_default, list_all-from_AllPass, asked_at}
+use Rattle.std.proofs.lemmas.{Bool.and_parts, Bool.and_from, Nat.and_le_l, Nat.Bits.bit_at-trailing_zeros, Nat.Bits.bit_at_and}
+use Rattle.std.proofs.Common.{◌&&◌, bit_and}
 use Rattle.coalitions.proofs.Shared.Digits.{has-kept, has-gone, lowest-cleared, without-less}
 use Rattle.council_game.proofs.Shared.WinningByPlaces.{sum-without, rule-is}
 use Rattle.mwc_walk.specs.Inner.{Places.AreExcesses, Places.CanSpare, Spared.IsEnough, Spared.NoneSpared}
@@ -73,8 +74,7 @@ module _ {v : Votes} {p x rest : ℕ} {es : List ℕ} (tried : Tried v p x es re
   -- a rule that passes its quota by nothing spares only who weighs nothing
   pub tried-weightless : (i : ℕ) (l : Lane) → i < length v.rules → LaneIs v.members (rule_at v.rules i) l → get_or es i 0 ≡ 0
       → Tried v p x es (bit_and rest l.weightless)
-  tried-weightless i l below is nothing =
-      grind (arith, common_steps, and_le_l, and_from, and_parts, both_ways, cases_Bool, eq-eqb, has-and)
+  tried-weightless i l below is nothing = grind (arith, common_steps, and_le_l, and_from, and_parts, both_ways, cases_Bool, eq-eqb, has-and)
 
 module _ {v : Votes} {a : Cursor} (is : CursorIs v a) where
   -- ---- what is there and what comes

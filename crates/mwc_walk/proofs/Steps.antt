@@ -1,14 +1,14 @@
 -- The moves of a cursor, and where it starts.
-use Rattle.mwc_walk.proofs.Imports.{slice, slice_below, reaches, wins_at, LanesAre, NothingBelow, rest_of_slice, CursorIs, IsVotes, minimal}
-use Rattle.mwc_walk.proofs.Imports.{false_from_ne_true, cond-true, cond-false, cond_both, All, list_all, RuleView, Votes, ◌≡◌, ℕ, suc, ◌+◌}
-use Rattle.mwc_walk.proofs.Imports.{◌-◌, ◌*◌, ◌/◌, ◌%◌, ◌^◌, ◌<◌, ◌≤◌, Bool, min, true, false, List, ◌++◌, map, length, take, get_or, refl}
-use Rattle.mwc_walk.proofs.Imports.{Lane, Cursor, Step, On, Give, End, lane_with, lane_without, lane_reaches, IsPlace, lane_at, LanesStand}
-use Rattle.mwc_walk.proofs.Imports.{sym, ap, ◌∙◌, subst, arith, common_steps, shr-shr, pow_pos, pow_mono, cases_lt, both_ways, lane_wins}
-use Rattle.mwc_walk.proofs.Imports.{sum_by-take-drop, no_lane, weight, weight-le, rule_at, LaneIs, leb, get_or-take, get_or_default, sum}
-use Rattle.mwc_walk.proofs.Imports.{drop, length-take, nat_tests}
-use Rattle.std.proofs.Common.{cond, ltb, pow-suc, lt-ltb, le-ltb}
+use Rattle.mwc_walk.proofs.Imports.{slice_below, reaches, wins_at, NothingBelow, CursorIs, IsVotes, minimal, false_from_ne_true, cond-true}
+use Rattle.mwc_walk.proofs.Imports.{cond-false, cond_both, list_all, RuleView, Votes, ◌≡◌, ℕ, suc, ◌+◌, ◌-◌, ◌*◌, ◌/◌, ◌%◌, ◌^◌, ◌<◌, ◌≤◌}
+use Rattle.mwc_walk.proofs.Imports.{min, true, false, List, ◌++◌, map, length, take, get_or, refl, Lane, Cursor, On, Give, End, lane_with}
+use Rattle.mwc_walk.proofs.Imports.{lane_without, IsPlace, lane_at, LanesStand, ap, ◌∙◌, arith, common_steps, shr-shr, pow_pos, pow_mono}
+use Rattle.mwc_walk.proofs.Imports.{cases_lt, both_ways, sum_by-take-drop, no_lane, weight, weight-le, rule_at, LaneIs, leb, get_or-take}
+use Rattle.mwc_walk.proofs.Imports.{get_or_default, sum, drop, length-take, nat_tests}
+use Rattle.mwc_walk.specs.Inner.{Asked.AreAsked, Cursor.Steps, Cursor.Starts, Lanes.lane_reaches, Lanes.lane_wins, Places.LanesAre}
+use Rattle.mwc_walk.specs.declared.asked.Asked.{Asked}
+use Rattle.std.proofs.Common.{All, cond, ltb, pow-suc, lt-ltb, le-ltb}
 use Rattle.std.proofs.lemmas.Nat.{shl_below, shl_whole}
-use Rattle.mwc_walk.specs.{Inner.Asked.AreAsked, Inner.Cursor.Steps, Inner.Cursor.Starts, declared.asked.Asked.Asked}
 use Rattle.mwc_walk.proofs.Rest.{dead-nothing, left-nothing, left-won, left-take, left-none, left-all}
 use Rattle.mwc_walk.proofs.Shared.One.{one-minimal, won-odd, empty-loses, slice-short, in-slice}
 use Rattle.mwc_walk.proofs.Rules.{wins-more, reaches-in, full-reach, weight-step, weight-over, weight-block, rest-step, lanes-pass}

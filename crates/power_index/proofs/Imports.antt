@@ -8,9 +8,9 @@ pub use Rattle.power_index.specs.{Indices.sizes_of_member, Inner.Tables.IsJoined
 pub use Rattle.power_index.specs.Tables.{table_deegan_packel, table_memberships, table_of_member, table_of_member_size, table_public_good}
 pub use Rattle.power_index.specs.Tables.{AreCounts, AreOfOneGame, AreSound, AreTallies, IsTallyOf, Tables, denominator, no_tally}
 pub use Rattle.power_index.specs.Tables.{table_total, tally_total, weighted_sum}
-pub use Rattle.std.proofs.Common.{length, length-append, map, mod-lt, mul-le-mul, mul-pos, refl, replicate, subst, suc, sum_by, sym, take}
-pub use Rattle.std.proofs.Common.{All, Bool, List, [], ap, arith, cond, div-le_self, false, filter, get_or, get_or-set_same, inl, inr}
-pub use Rattle.std.proofs.Common.{true, zero, ℕ, ◌%◌, ◌&&◌, ◌*◌, ◌++◌, ◌+◌, ◌-◌, ◌/◌, ◌<◌, ◌==◌, ◌^◌, ◌∙◌, ◌∷◌, ◌≡◌, ◌≢◌, ◌≤◌}
+pub use Rattle.std.proofs.Common.{All, Bool, List, [], ap, arith, cond, div-le_self, false, filter, get_or, inl, inr, length, length-append}
+pub use Rattle.std.proofs.Common.{map, mod-lt, mul-le-mul, mul-pos, refl, replicate, subst, suc, sum_by, sym, take, true, zero, ℕ, ◌%◌}
+pub use Rattle.std.proofs.Common.{◌&&◌, ◌*◌, ◌++◌, ◌+◌, ◌-◌, ◌/◌, ◌<◌, ◌==◌, ◌^◌, ◌∙◌, ◌∷◌, ◌≡◌, ◌≢◌, ◌≤◌}
 pub use Rattle.std.proofs.lemmas.List.{FromFn.get_or-range_with_len, FromFn.length-range_with_len, Sums.length-filter, Sums.sum_by-cons}
 pub use Rattle.std.proofs.lemmas.{Bool.cases_eq, Bool.cases_lt, Nat.Gcd.IsGcd-from_mod, Nat.Gcd.IsGcd-from_zero, Nat.Gcd.le_of_dvd}
 pub use Rattle.std.proofs.{Math.Nat.div-add-mod, Math.Nat.eq_of_mul-eq-mul_right, lemmas.Bool.Decides.nat_tests, lemmas.List.Folds.fold-map}

@@ -1,8 +1,7 @@
 -- A tally of a list, one coalition more, two lists together, and what its sizes add up to.
-use Rattle.power_index.proofs.Imports.{◌≡◌, ◌∙◌, ◌==◌, ◌&&◌, ℕ, ◌+◌, ◌*◌, ◌<◌, ◌≤◌, List, length, get_or, cond, Bool, sym, refl, arith}
-use Rattle.power_index.proofs.Imports.{zero, suc, get_or-set_same, replicate, common_steps, filter, sum_by, range_with_len, cases_eq}
-use Rattle.power_index.proofs.Imports.{nat_tests, size, Tally, tally_total, IsTallyOf}
-use Rattle.std.proofs.{Common.set, Common.get_or-set_other, lemmas.List.Recursion.is_sum_by}
+use Rattle.power_index.proofs.Imports.{◌≡◌, ◌∙◌, ◌==◌, ◌&&◌, ℕ, ◌+◌, ◌*◌, ◌<◌, ◌≤◌, List, length, get_or, Bool, sym, refl, arith, filter}
+use Rattle.power_index.proofs.Imports.{sum_by, range_with_len, size, Tally, tally_total, IsTallyOf}
+use Rattle.std.proofs.lemmas.List.Recursion.{is_sum_by}
 use Rattle.coalitions.proofs.Shared.Ranges.{sum_by-range-more, sum_by-range-le}
 use Rattle.power_index.proofs.Shared.{Members.size-le, Sums.sum-range, Sums.sum-by_size, Sums.length-filter-le}
 

@@ -28,8 +28,7 @@ lowest_terms_ordered p q pp pq = grind (arith, common_steps, lowest_terms-lowest
 
 -- what is the same as one of two same fractions is the same as the other
 carried : (a b c d l m : ℕ) → 0 < b → l * b ≡ a * m → a * d ≡ c * b → l * d ≡ c * m
-carried a b c d l m pos e f =
-    eq_of_mul-eq-mul_right b pos (l * d) (c * m) (omega (arith, ap (λ (n : ℕ). n * d) e, ap (λ (n : ℕ). n * m) f))
+carried a b c d l m pos e f = eq_of_mul-eq-mul_right b pos (l * d) (c * m) (omega (arith, ap (λ (n : ℕ). n * d) e, ap (λ (n : ℕ). n * m) f))
 
 pub same_from_lowest : (p q : ℕ × ℕ) → 0 < p.1 → 0 < q.1 → lowest_terms p ≡ lowest_terms q → SameFraction p q
 same_from_lowest p q pp pq e =

@@ -39,8 +39,7 @@ endings-few (w ∷ ws) h s r a less = grind (arith, endings-few ws h s (r - w) (
 endings-more : (ws : List ℕ) (h s r a : ℕ) → h < s → endings ws h s r a ≡ endings ws 0 s r a
 unfolding endings
 endings-more [] h s r a more = refl
-endings-more (w ∷ ws) h s r a more =
-    grind (arith, nat_tests, endings-more ws h s (r - w) (a + 1) more, endings-more ws h s r a more)
+endings-more (w ∷ ws) h s r a more = grind (arith, nat_tests, endings-more ws h s (r - w) (a + 1) more, endings-more ws h s r a more)
 
 -- of as many as heads all that meet the need
 endings-heads : (ws : List ℕ) (h r a : ℕ) → 0 < r → endings ws h h r a ≡ over false ws (fits r a h)

@@ -42,8 +42,7 @@ all-entered need sets t d h meet half last s =
     (λ k from lt. (grind (arith, nat_tests)))
   where
     below : (k : ℕ) → k < t.outside → (get_or sets k d).weight < need
-    below k lt =
-        grind (arith, cases_eq)
+    below k lt = grind (arith, cases_eq)
 
 -- ---- behind members of another half
 pub added : (need : ℕ) (sets : List Set) (t : Fitting) (k s : ℕ) → AreOfNeed need sets t

@@ -1,7 +1,7 @@
 -- Sums over sets of some members: with one member more, without one, and of members in two halves.
 use Rattle.weight_sums.proofs.Imports.{◌≡◌, ◌∙◌, ℕ, zero, suc, ◌+◌, ◌-◌, ◌*◌, ◌/◌, ◌%◌, ◌==◌, ◌^◌, Bool, true, false, cond, eqb, leb, List}
 use Rattle.weight_sums.proofs.Imports.{[], ◌∷◌, ◌++◌, sym, ap, refl, arith, nat_tests, sum_by-cons, sum_by, Set, one_of_size, left_out}
-use Rattle.weight_sums.proofs.Imports.{alone, joined, over, has, fits, sum-plus, sum-zero}
+use Rattle.weight_sums.proofs.Imports.{alone, joined, over, has, fits, sum-zero}
 use Rattle.std.proofs.lemmas.Nat.Bits.{bit_at-suc, bit_at-zero, bit_at_lowest}
 
 -- ---- sums over lists
@@ -52,8 +52,7 @@ fits-halves short vs ws q s =
     ∙ (λ i. over false ws (λ x. over short vs (λ y. both x y i)) + cond short (over true ws (fits q 0 s)) 0)
   where
     both : (x y : Set) → cond (leb q (y.weight + x.weight)) (one_of_size s (0 + (y.size + x.size))) 0 ≡ fits (q - x.weight) x.size s y
-    both x y =
-        grind (arith, meets-less, one_of_size)
+    both x y = grind (arith, meets-less, one_of_size)
 
 -- two sets meet a quota together, whichever is named first
 pub fits-turned : (q s : ℕ) (x y : Set) → fits (q - x.weight) x.size s y ≡ fits (q - y.weight) y.size s x

@@ -1,8 +1,9 @@
 -- Lists of sets of some members, by weight.
 use Rattle.weight_sums.proofs.Imports.{Bool, true, false, cond, List, [], ◌∷◌, ◌++◌, length, alone, joined, over, AreSets, IsHalf, IsHalfOf}
-use Rattle.weight_sums.proofs.Imports.{sum_by-cons, sum_by_push, sum_by-drop_more, Set, nobody, ◌≡◌, ◌∙◌, ℕ, suc, ◌+◌, ◌-◌, ◌<◌, ◌≤◌, ◌^◌}
-use Rattle.weight_sums.proofs.Imports.{get_or, drop, ap, refl, arith, All, sum, sum_by, pow_mono, pow_pos, cases_eq, nat_tests, All-push}
-use Rattle.std.proofs.{Common.not, lemmas.List.drop_all, lemmas.List.Quantifiers.all_pairs_push, lemmas.List.Sums.get_or-le-sum_by}
+use Rattle.weight_sums.proofs.Imports.{sum_by-cons, sum_by_push, Set, nobody, ◌≡◌, ◌∙◌, ℕ, ◌+◌, ◌-◌, ◌<◌, ◌≤◌, ◌^◌, get_or, drop, ap, refl}
+use Rattle.weight_sums.proofs.Imports.{arith, All, sum, sum_by, pow_mono, pow_pos, cases_eq, nat_tests}
+use Rattle.std.proofs.lemmas.List.{drop_all, Elements.All-push, Quantifiers.all_pairs_push, Sums.sum_by-drop_more, Sums.get_or-le-sum_by}
+use Rattle.std.proofs.Common.{not}
 use native.Mathlib.Nat.{pow-suc}
 use Rattle.weight_sums.specs.Inner.Sets.{left, Ascend, HasRoom}
 

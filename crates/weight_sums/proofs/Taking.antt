@@ -1,9 +1,8 @@
 -- Rows of prefixes, one prefix more.
-use Rattle.weight_sums.proofs.Imports.{pow_mono, ◌≡◌, ◌∙◌, ℕ, ◌+◌, ◌*◌, ◌<◌, ◌≤◌, ◌^◌, List, [], ◌∷◌, ◌++◌, length, take, drop, get_or, set}
-use Rattle.weight_sums.proofs.Imports.{nat_tests, mul-le-mul_left, pow_pos, sum_by_push, sum_by_more, sum_by-drop_more, All-push, Open}
-use Rattle.weight_sums.proofs.Imports.{cond, replicate, ltb, zero, suc, ap, refl, arith, ◌-◌, get_or-set_same, get_or-set_other, All}
-use Rattle.weight_sums.proofs.Imports.{choose, fill, one_of_size, taken, weigh, prefixes, mul-le-mul_right, take_all, sum_by-take-le}
-use Rattle.weight_sums.proofs.Imports.{AreTaken, sum_by-cons, get_or-zeros}
+use Rattle.weight_sums.proofs.Imports.{pow_mono, ◌≡◌, ℕ, ◌+◌, ◌*◌, ◌<◌, ◌≤◌, ◌^◌, List, [], ◌∷◌, ◌++◌, length, take, get_or, set, nat_tests}
+use Rattle.weight_sums.proofs.Imports.{mul-le-mul_left, pow_pos, sum_by_push, sum_by_more, Open, cond, replicate, ltb, zero, suc, ap, refl}
+use Rattle.weight_sums.proofs.Imports.{arith, ◌-◌, get_or-set_same, get_or-set_other, All, choose, fill, one_of_size, taken, weigh}
+use Rattle.weight_sums.proofs.Imports.{prefixes, mul-le-mul_right, take_all, sum_by-take-le, AreTaken, sum_by-cons, get_or-zeros}
 use Rattle.std.proofs.Common.{length-set, max}
 use Rattle.coalitions.proofs.Shared.Lists.{bumped}
 use Rattle.weight_sums.proofs.Shared.Choices.{choose-none}

@@ -1,9 +1,9 @@
 -- What a report is made from.
 use Rattle.std.specs.Prelude.{◌≡◌, false}
 use Rattle.coalitions.specs.declared.limits.TheConstants.{COALITIONS}
+use Rattle.coalitions.specs.declared.shown.Shown.{Shown}
 use Rattle.council_game.specs.Game.{GameView, votes_of}
 use Rattle.council_game.specs.Votes.{minimal_coalitions}
-use Rattle.council_report.specs.declared.shown.Shown.{Shown}
 use Rattle.mwc_walk.specs.Listed.{ListsAll}
 use Rattle.power_index.specs.Tables.{AreCounts}
 use Rattle.council_c.specs.declared.found.Found.{Found}

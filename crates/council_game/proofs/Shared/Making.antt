@@ -57,8 +57,7 @@ pub made-game : (title : Option (String Global)) (names ns : List (String Global
       title = option_map string_bytes title;
       names = map string_bytes ns;
       rules = rule_views rs;
-      ranks =
-          rank_places (first_weights (rule_views rs));
+      ranks = rank_places (first_weights (rule_views rs));
     })
     → made_game (option_map string_bytes title) (map string_bytes names) (rule_views rules) ≡ Ok (game_of_parts title names rules ks)
 made-game title names ns rules rs ks en er ek h = rw (ek, ← en, ← er) h

@@ -1,8 +1,8 @@
 -- What the sending of one slice, and a worker, answer: what only proofs and private functions need.
 use Rattle.std.specs.Prelude.{◌≡◌, ℕ, ◌<◌, Bool, true, false, List, [], ◌∷◌, ◌++◌}
 use Rattle.mwc_parts.specs.Wording.{IsLast}
-use Rattle.mwc_pipe.specs.declared.word.Word.{Word}
-use Rattle.mwc_pipe.specs.declared.word.Word.TheVariants.{End, Open}
+use Rattle.mwc_ring.specs.declared.word.Word.{Word}
+use Rattle.mwc_ring.specs.declared.word.Word.TheVariants.{End, Open}
 
 -- whether a word is the last of a worker
 abbrev pub is_end : Word → Bool

@@ -127,8 +127,7 @@ begins_with w j (x ∷ hs) (suc m) e l h =
 
 pub first_held : (hs : List ℕ) (w : ℕ) → w < length hs → ((v : ℕ) → v < w + 1 → get_or hs v 0 ≡ v) → (rest : List ℕ)
     × (share_of hs w ≡ w ∷ rest)
-first_held hs w l h =
-    begins_with w 0 hs w (omega arith) l (λ v b. omega arith)
+first_held hs w l h = begins_with w 0 hs w (omega arith) l (λ v b. omega arith)
 
 -- the first slice of worker w is slice w, where there are more than w slices and workers
 pub share_begins : {n k : ℕ} {early stopped : Bool} {marks : List (Option ℕ)} (desks : List DeskView)

@@ -3,8 +3,8 @@ use Rattle.std.proofs.Common.{◌≡◌, ℕ, zero, suc, ◌+◌, ◌-◌, ◌<�
 use Rattle.std.proofs.Common.{get_or, ap, arith, ◌∙◌, append_assoc, append-nil, length-append}
 use Rattle.std.proofs.lemmas.{Grind.common_steps, List.Concat.length-flat_map, List.Elements.filter_map-append, List.Sums.sum_by-cons}
 use Rattle.mwc_parts.specs.{Shared.Settled.IsSentWhole, Shared.Settled.ends_from, Slicing.Slicing, Wording.wording, Wording.coalition_count}
-use Rattle.mwc_pipe.specs.declared.word.Word.{Word}
-use Rattle.mwc_pipe.specs.declared.word.Word.TheVariants.{Open, One, Done, End}
+use Rattle.mwc_ring.specs.declared.word.Word.{Word}
+use Rattle.mwc_ring.specs.declared.word.Word.TheVariants.{Open, One, Done, End}
 use Rattle.mwc_parts.specs.Pieces.{one_in, ones, done_counts, HasEnds}
 
 pub coalitions-cons : (g : Slicing) (j : ℕ) (s : List ℕ) → coalition_count g (j ∷ s) ≡ length (g.slice j) + coalition_count g s

@@ -5,7 +5,7 @@ use Rattle.std.proofs.Common.{sym, ◌∙◌, inl, inr}
 use Rattle.mwc_parts.specs.declared.fault.GatherFault.{GatherFault, TheVariants.TooMany, TheVariants.Memory}
 use Rattle.mwc_parts.specs.{Shared.Settled.IsSentWhole, Shared.Settled.AreSettled, Shared.Settled.HasAllWords, declared.draft.Draft.Draft}
 use Rattle.mwc_parts.specs.{Drafts.is_cut, Drafts.has_cut, Drafts.fault_in_draft, Shared.Wording.end_words, Slicing.Slicing}
-use Rattle.mwc_pipe.specs.declared.word.Word.{Word, TheVariants.One, TheVariants.Done}
+use Rattle.mwc_ring.specs.declared.word.Word.{Word, TheVariants.One, TheVariants.Done}
 use Rattle.mwc_parts.specs.Wording.{open_words, wording, coalition_count, IsWholeSending, IsCutSending, slice_words}
 use Rattle.mwc_parts.proofs.{Shared.Readings.Reads, Shared.Readings.reads, Tasks.all_taken, Tasks.cut_taken}
 

@@ -1,8 +1,8 @@
 -- What is known of a worker's words, and of its part, once it has ended.
 use Rattle.std.specs.Prelude.{◌≡◌, ◌⊎◌, ℕ, ◌≤◌, ◌<◌, Bool, true, false, List, [], ◌∷◌, ◌++◌, ◌+◌, length}
 use Rattle.std.specs.List.{flat_map}
-use Rattle.mwc_pipe.specs.declared.word.Word.{Word}
-use Rattle.mwc_pipe.specs.declared.word.Word.TheVariants.{End}
+use Rattle.mwc_ring.specs.declared.word.Word.{Word}
+use Rattle.mwc_ring.specs.declared.word.Word.TheVariants.{End}
 use Rattle.mwc_parts.specs.Slicing.{Slicing}
 use Rattle.mwc_parts.specs.Wording.{wording, coalition_count}
 use Rattle.mwc_parts.specs.Drafts.{IsDraftOf}

@@ -1,7 +1,7 @@
 -- The words that a worker sends: what only proofs and private functions need.
 use Rattle.std.specs.Prelude.{Bool, true, false, List, [], ◌∷◌}
-use Rattle.mwc_pipe.specs.declared.word.Word.{Word}
-use Rattle.mwc_pipe.specs.declared.word.Word.TheVariants.{Done, End}
+use Rattle.mwc_ring.specs.declared.word.Word.{Word}
+use Rattle.mwc_ring.specs.declared.word.Word.TheVariants.{Done, End}
 
 -- the word that says that there are no more, where it was said
 abbrev pub end_words : Bool → List Word

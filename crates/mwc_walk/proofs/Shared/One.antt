@@ -2,7 +2,8 @@
 use Rattle.mwc_walk.proofs.Imports.{◌∙◌, arith, inl, inr, common_steps, AllByRecursion, bit_at_cat_low, shr-shr, mul-le, pow_mono, and_left}
 use Rattle.mwc_walk.proofs.Imports.{eqb-true, cases_lt, both_ways, RuleView, Votes, IsRule, IsRanked, IsVotes, has, without, wins, minimal}
 use Rattle.mwc_walk.proofs.Imports.{◌≡◌, ℕ, ◌+◌, ◌-◌, ◌*◌, ◌/◌, ◌%◌, ◌^◌, ◌<◌, ◌≤◌, true, false, List, [], ◌∷◌, length, get_or, sym, ap}
-use Rattle.mwc_walk.proofs.Imports.{slice, wins_at, needs-each-member, listing-is, weight-without, weight-zero}
+use Rattle.mwc_walk.proofs.Imports.{slice, wins_at, needs-each-member, listing-is, weight-without}
+use Rattle.council_game.proofs.Shared.Weights.{weight-zero}
 use Rattle.std.proofs.lemmas.{Bool.lt-leb, List.Sums.length-filter, List.Sums.count_by-le-length, Nat.shl-shr, Nat.Bits.bit_at-zero}
 use Rattle.mwc_walk.proofs.Rules.{weight-block, weight-step, wins-prefix, wins-over}
 

@@ -18,8 +18,7 @@ deegan-packel-is g list t i top bottom lt few h is = record {
 pub deegan-packel-bottom : (g : GameView) (list : List ℕ) (t : Tables) (i : ℕ) → i < t.members → 0 < length list → AreCounts g list t
     → 0 < (deegan_packel g list i).1
 unfolding deegan_packel
-deegan-packel-bottom g list t i lt some h =
-    mul-pos (bottom_pos (length g.names) (sizes_of_member g list i) (within g list t i lt h)) some
+deegan-packel-bottom g list t i lt some h = mul-pos (bottom_pos (length g.names) (sizes_of_member g list i) (within g list t i lt h)) some
 
 pub public-good-is : (g : GameView) (list : List ℕ) (t : Tables) (i top bottom : ℕ) → i < t.members → AreCounts g list t
     → IsLowestOf (table_public_good t i) (top, bottom) → IsLowestOf (public_good g list i) (top, bottom)

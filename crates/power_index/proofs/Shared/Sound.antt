@@ -1,8 +1,8 @@
 -- Tables that hold the tallies of a list hold its counts, and what holds of counts.
 use Rattle.power_index.proofs.Imports.{filter, has, size, GameView, IsGame, AreNonemptyCoalitions, votes-are, ranks-are, Tally, tally_total}
 use Rattle.power_index.proofs.Imports.{length-filter, nat_tests, ◌≡◌, ◌∙◌, ◌==◌, ◌&&◌, ℕ, ◌+◌, ◌^◌, ◌<◌, ◌≤◌, List, [], ◌∷◌, ◌++◌, length}
-use Rattle.power_index.proofs.Imports.{get_or, replicate, cond, Bool, true, sym, ap, refl, arith, subst, suc, length-append, common_steps}
-use Rattle.power_index.proofs.Imports.{contains, size_of, Tables, IsTallyOf, AreTallies, AreOfOneGame, AreCounts, AreSound, no_tally, All}
+use Rattle.power_index.proofs.Imports.{get_or, replicate, cond, Bool, true, sym, ap, arith, subst, length-append, common_steps, contains}
+use Rattle.power_index.proofs.Imports.{size_of, Tables, IsTallyOf, AreTallies, AreOfOneGame, AreCounts, AreSound, no_tally, All}
 use Rattle.power_index.proofs.Imports.{table_total, IsJoined, with_one}
 use Rattle.std.proofs.lemmas.List.{get_or-replicate, Elements.All-append, Elements.filter-append, Sums.sum_by_push}
 use Rattle.std.proofs.Common.{length-set}

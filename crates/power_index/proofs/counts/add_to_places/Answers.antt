@@ -1,6 +1,6 @@
 use Rattle.council_game.specs.Votes.{without}
-use Rattle.power_index.proofs.Imports.{nat_tests, cases_eq, common_steps, arith, get_or, get_or-set_same, lowest-place}
-use Rattle.std.proofs.lemmas.Bool.{both_ways, cond-true}
+use Rattle.power_index.proofs.Imports.{nat_tests, cases_eq, common_steps, arith, get_or, lowest-place}
+use Rattle.std.proofs.{Common.get_or-set_same, lemmas.Bool.both_ways, lemmas.Bool.cond-true}
 use Rattle.coalitions.proofs.Shared.Digits.{lowest-cleared, has-gone, has-kept, has-none}
 use Rattle.power_index.proofs.counts.add_to_places.Goals as goal
 

@@ -2,8 +2,7 @@ use Rattle.power_index.proofs.{Imports.common_steps, Imports.arith, Shared.Print
 use Rattle.power_index.proofs.indices.deegan_packel.Goals as goal
 
 pub returns-clause-lowest : goal.returns-clause-lowest
-returns-clause-lowest c g list h =
-    deegan-packel-is g list c.args.counts.now c.args.member _ _ c.requires c.weight-sum.ensures.few h
+returns-clause-lowest c g list h = deegan-packel-is g list c.args.counts.now c.args.member _ _ c.requires c.weight-sum.ensures.few h
     (rw (← c.weight-sum.ensures.sum, ← c.wide_total.ensures.total, ← c.from.ensures) c.share.ensures.lowest)
 
 pub returns-clause-terms : goal.returns-clause-terms

@@ -1,5 +1,4 @@
 use Rattle.power_index.proofs.Imports.{common_steps, ◌≡◌, ◌≢◌, ◌/◌, ◌%◌, arith}
-use Rattle.power_index.proofs.order.order.Goals.{then-loop-x-test+then-x-ne0+else-y-ne0, then-loop-x-test+else-x-ne0, else-loop-x-test}
 use Rattle.power_index.proofs.Ordered.{turned, decided}
 use Rattle.power_index.proofs.order.order.Goals as goal
 

@@ -1,6 +1,6 @@
 use Rattle.std.proofs.lemmas.{Bool.Decides.nat_tests, Grind.common_steps, List.take_more}
 use Rattle.std.proofs.Common.{◌≡◌, ◌+◌, ◌++◌, ◌∷◌, [], List, take, append_assoc, arith}
-use Rattle.mwc_pipe.specs.declared.word.Word.{Word}
+use Rattle.mwc_ring.specs.declared.word.Word.{Word}
 use Rattle.mwc_parts.proofs.Rooms.{loses_by}
 use Rattle.mwc_parts.proofs.draft.Draft.hear_row.Goals as goal
 

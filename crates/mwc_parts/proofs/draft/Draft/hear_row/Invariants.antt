@@ -1,5 +1,5 @@
 use Rattle.std.proofs.Common.{◌≡◌, ◌++◌, List, take, false, length}
-use Rattle.mwc_pipe.specs.declared.word.Word.{Word}
+use Rattle.mwc_ring.specs.declared.word.Word.{Word}
 use Rattle.mwc_parts.specs.Drafts.{IsDraftOf, Grows, LosesForWantOfRoom}
 use Rattle.mwc_parts.proofs.draft.Draft.hear_row.Given as goal
 

@@ -1,5 +1,5 @@
 use Rattle.std.proofs.{Common.arith, lemmas.Bool.Decides.nat_tests}
-use Rattle.mwc_pipe.proofs.Counting.{accepted_step, closed_step, full_step}
+use Rattle.mwc_pipe.proofs.Steps.{accepted_step, closed_step, full_step}
 use Rattle.mwc_pipe.proofs.pipe.Pipe.put.Goals as goal
 
 pub returns-then-self-clause-step : goal.returns-then-self-clause-step

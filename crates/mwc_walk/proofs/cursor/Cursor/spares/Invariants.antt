@@ -2,5 +2,4 @@ use Rattle.mwc_walk.proofs.Imports.{◌≤◌, ◌<◌, ℕ, slice_index, votes_
 use Rattle.mwc_walk.proofs.cursor.Cursor.spares.Given as goal
 
 abbrev pub invariant-loop-rule : goal.invariant-loop-rule
-invariant-loop-rule l =
-    (i : ℕ) → i < l.rule → slice_index (rule_at (votes_of l.game).rules i).weights l.place ≤ slice_index l.excess i
+invariant-loop-rule l = (i : ℕ) → i < l.rule → slice_index (rule_at (votes_of l.game).rules i).weights l.place ≤ slice_index l.excess i

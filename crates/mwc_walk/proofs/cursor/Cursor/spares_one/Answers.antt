@@ -12,5 +12,4 @@ returns-then-self-eq0-clause-none c =
     ]
 
 pub returns-clause-none : goal.returns-clause-none
-returns-clause-none c =
-    λ lost won. kept-minimal c.requires c.excess.result c.excess.ensures.enough (c.has_spared.ensures.none lost) won
+returns-clause-none c = λ lost won. kept-minimal c.requires c.excess.result c.excess.ensures.enough (c.has_spared.ensures.none lost) won

@@ -1,4 +1,5 @@
-use Rattle.mwc_walk.proofs.Imports.{◌<◌, length, arith, get_or-set_same}
+use Rattle.mwc_walk.proofs.Imports.{◌<◌, length, arith}
+use Rattle.std.proofs.Common.{get_or-set_same}
 use Rattle.mwc_walk.proofs.intervals.Intervals.push.Goals as goal
 
 pub returns-then-count-lt-INTERVALS-clause-new : goal.returns-then-count-lt-INTERVALS-clause-new

@@ -1,6 +1,4 @@
 use Rattle.mwc_walk.proofs.Imports.{◌<◌, ◌+◌, arith, below_more, both_ways, eq-eqb, common_steps}
-use Rattle.mwc_walk.proofs.intervals.Intervals.with.Goals.{else-without-count-via-then-without-count+else-self-without, then-with-count}
-use Rattle.mwc_walk.proofs.intervals.Intervals.with.Goals.{else-with-count, else-without-count-via-else-without-count}
 use Rattle.mwc_walk.proofs.intervals.Intervals.with.Goals as goal
 
 pub loop-without-preserved-then-self-without : goal.loop-without-preserved-then-self-without

@@ -2,6 +2,5 @@ use Rattle.weight_sums.proofs.{FittingSets.all-entered, Imports.arith, Imports.n
 use Rattle.weight_sums.proofs.fitting.Fitting.let_in.Goals as goal
 
 pub returns-after-loop-self-clause-all : goal.returns-after-loop-self-clause-all
-returns-after-loop-self-clause-all c =
-    all-entered c.args.need c.args.sets.now c.loop-self.self nobody c.loop-self.invariant.entered
+returns-after-loop-self-clause-all c = all-entered c.args.need c.args.sets.now c.loop-self.self nobody c.loop-self.invariant.entered
     c.loop-self.invariant.meet c.requires.half (λ some. absurd (omega (arith, some, c.loop-self-test.false)))
