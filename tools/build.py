@@ -432,7 +432,7 @@ def prove_all(names, lines, prove, told):
     """Proves the libraries, each after those below it; whether all were. The one with the longest chain above it
     begins at once, and the others give way to it. The processors that are free are shared among those that can begin: a further
     job is work of its own, since it reads the statements below once more, so that no other has one, but for the chain's last
-    ones: see `has_two_jobs`; the very last, beside which only what fills the time at the end is left, has all."""
+    ones: see `has_two_jobs`; the very last, beside which only what fills the time at the end is left, has what that leaves."""
     left, nice = plan(names, lines, told.cost)
     few, all_lanes = lanes()
     running, jobs, done, first = {}, {}, [], None
@@ -458,8 +458,8 @@ def prove_all(names, lines, prove, told):
                         jobs[name] = max(2, jobs[name])
                     left.remove(name)
                     if name == first and all(nice[it] == NICE_LAST for it in [*left, *running.values()]):
-                        # (all that is beside it gives way to it)
-                        jobs[name] = few
+                        # (what is left beside it needs one of them)
+                        jobs[name] = few - 1 if left or running else few
                     told.begin(name)
                     running[pool.submit(prove, name, lines, 0 if name == first else nice[name], jobs[name])] = name
             for it in wait(running, return_when=FIRST_COMPLETED).done:
