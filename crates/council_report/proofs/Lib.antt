@@ -2,7 +2,7 @@ mod Bounds
 mod Room
 mod Holding
 mod Telling
-mod Rows
+mod OneTextMore
 mod Turns
 mod Wholes
 mod Lasting

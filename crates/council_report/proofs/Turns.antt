@@ -4,7 +4,7 @@ use Rattle.council_report.proofs.Imports.{length-flat_map-take, get_or-range_wit
 use Rattle.council_report.proofs.Imports.{arith, flat_map, range_with_len, flat_map-append, common_steps, take_all, take-append-drop}
 use Rattle.council_report.proofs.Imports.{StopsIn}
 use Rattle.std.proofs.lemmas.List.{take_more}
-use Rattle.council_report.proofs.{Rows.rows-more, Telling.tells-then, Telling.stopped-first, Telling.stopped-next}
+use Rattle.council_report.proofs.{OneTextMore.rows-more, Telling.tells-then, Telling.stopped-first, Telling.stopped-next}
 
 -- x is number i of a row
 pub record IsNext {X : Type 0} (xs : List X) (i : ℕ) (x : X) : Type 0 where

@@ -6,9 +6,9 @@
 #![tactic(auto)]
 
 mod counted;
+mod counted_lines;
 mod fault;
 mod heading;
-mod indices;
 mod lines;
 mod output;
 mod places;

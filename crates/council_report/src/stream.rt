@@ -9,7 +9,7 @@ ghost use Rattle.council_report.specs.Inner.Ready.{IsReady, CanCount};
 ghost use Rattle.council_report.specs.Inner.Puts.{Puts};
 
 use crate::counted::Counted;
-use crate::indices::{push_member, push_size};
+use crate::counted_lines::{push_member, push_size};
 use crate::output::{Block, WriteFault};
 use crate::shared_line::SharedLine;
 use council_game::{Coalition, Game};

@@ -1,9 +1,8 @@
 -- Which ring an end is of.
-use denote.RawPtr.{Ptr}
-use Rattle.rtrb.specs.Shared.{Names}
+use Rattle.std.specs.Prelude.{ℕ, List}
 
--- where the ring lies, and the names of its parts: the two ends of one ring have the same
+-- the numbers of the places where its words and its slots lie, and three numbers of the ring: the two ends of one ring have the same
 pub record RingName : Type 0 where
-  pub words : Ptr
-  pub slots : Ptr
-  pub names : Names
+  pub words : List ℕ
+  pub slots : List ℕ
+  pub numbers : ℕ × (ℕ × ℕ)

@@ -2,4 +2,4 @@ pub mod Masks
 pub mod Minimal
 pub mod Names
 pub mod Ordered
-pub mod Sums
+pub mod LowestTermsAddUp

@@ -1,4 +1,4 @@
--- Rows of texts, one text more.
+-- Texts one behind the other, with one text more.
 use Rattle.council_report.proofs.Imports.{range_with_len, flat_map-append, append-nil, take-map-range_with_len, length-map-range_with_len}
 use Rattle.council_report.proofs.Imports.{◌≡◌, ℕ, ◌+◌, ◌<◌, ◌≤◌, ◌++◌, length, zero-add, List, [], ◌∷◌, map, ap, ◌∙◌, arith, flat_map}
 use Rattle.council_report.proofs.Imports.{length-flat_map-take, with_tab}

@@ -2,8 +2,8 @@ use Rattle.council_report.proofs.Imports.{zero-add, ◌++◌, ℕ, List, length,
 use Rattle.council_report.proofs.Imports.{common_steps, table_of_member_size, with_tab}
 use Rattle.std.proofs.lemmas.List.{flat_map_more, FromFn.map-range_with_len_more}
 use Rattle.council_text.proofs.Shared.Room.{takes-not}
-use Rattle.council_report.proofs.Rows.{field-within}
-use Rattle.council_report.proofs.indices.push_counts.Goals as goal
+use Rattle.council_report.proofs.OneTextMore.{field-within}
+use Rattle.council_report.proofs.counted_lines.push_counts.Goals as goal
 
 pub loop-member-preserved : goal.loop-member-preserved
 loop-member-preserved c =

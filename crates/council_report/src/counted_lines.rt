@@ -1,4 +1,4 @@
-//! The lines of sizes and of members.
+//! The lines of what was counted: one for each size, and one for each member.
 ghost use Rattle.std.specs.Prelude.{◌≡◌, ◌++◌, ◌<◌, ◌≤◌, ◌∷◌, length, map, OnOk, decimal};
 ghost use Rattle.std.specs.List.{flat_map};
 ghost use Rattle.power_index.specs.Counting.{members};

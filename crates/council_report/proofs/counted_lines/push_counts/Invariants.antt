@@ -1,6 +1,6 @@
 use Rattle.council_report.proofs.Imports.{map, decimal, flat_map, range_with_len, table_of_member_size, with_tab}
 use Rattle.council_report.proofs.Room.{Put}
-use Rattle.council_report.proofs.indices.push_counts.Given as goal
+use Rattle.council_report.proofs.counted_lines.push_counts.Given as goal
 
 abbrev pub invariant-loop-member : goal.invariant-loop-member
 invariant-loop-member l =
