@@ -129,6 +129,11 @@ filled ws p heads s a =
     as-fill : (m : ℕ) → one_of_size s (a + (heads - a)) * choose m (heads - a) ≡ fill heads s m a
     as-fill m = grind (arith, nat_tests, choose-none)
 
+-- a value that depends on a test
+by-test : {X : Type 0} (f : Bool → X) (b : Bool) → f b ≡ cond b (f true) (f false)
+by-test f true = refl
+by-test f false = refl
+
 leads-lacking : (ws : List ℕ) (p heads s r a : ℕ)
     → count (λ c. leads ws heads r a c && (lacks (length ws) p c && (a + size (length ws) c == s))) (down (2 ^ length ws))
     ≡ endings (left_out p ws) heads s r a
@@ -143,11 +148,13 @@ leads-lacking (w ∷ ws) zero heads s r a =
     omega (arith, parts, count-never (down (2 ^ n)), leads-lacking ws n heads s r a, all)
 leads-lacking (w ∷ ws) (suc p) heads s r a =
     let n : ℕ = length ws in
-    let behind : ℕ → Bool = λ c. cond (leb r w) (size n c == heads - (a + 1)) (leads ws heads (r - w) (a + 1) c) in
-    let parts = count-first (λ c. leads (w ∷ ws) heads r a c && (lacks (suc n) (suc p) c && (a + size (suc n) c == s)))
-    (λ c. behind c && (lacks n p c && (a + 1 + size n c == s))) (λ c. leads ws heads r a c && (lacks n p c && (a + size n c == s))) n
-    (λ c lt. grind (arith, nat_tests, leads-in, rest-in, size-with)) (λ c lt. grind (arith, nat_tests, leads-out, rest-out, size-left)) in
-    grind (arith, nat_tests, parts, filled ws p heads s (a + 1), leads-lacking ws p heads s (r - w) (a + 1), leads-lacking ws p heads s r a)
+    let behind : Bool → ℕ → Bool = λ b c.
+    cond b (size n c == heads - (a + 1)) (leads ws heads (r - w) (a + 1) c) && (lacks n p c && (a + 1 + size n c == s)) in
+    count-first (λ c. leads (w ∷ ws) heads r a c && (lacks (suc n) (suc p) c && (a + size (suc n) c == s))) (behind (leb r w))
+    (λ c. leads ws heads r a c && (lacks n p c && (a + size n c == s))) n
+    (λ c lt. grind (arith, nat_tests, leads-in, rest-in, size-with)) (λ c lt. grind (arith, nat_tests, leads-out, rest-out, size-left))
+    ∙ (λ i. (by-test (λ b. count (behind b) (down (2 ^ n))) (leb r w)
+    ∙ (λ j. cond (leb r w) (filled ws p heads s (a + 1) j) (leads-lacking ws p heads s (r - w) (a + 1) j))) i + leads-lacking ws p heads s r a i)
 
 pub leads-all : (ws : List ℕ) (heads s r a : ℕ)
     → count (λ c. leads ws heads r a c && (a + size (length ws) c == s)) (down (2 ^ length ws)) ≡ endings ws heads s r a
@@ -204,18 +211,12 @@ pub leads-list : (ws : List ℕ) (r a : ℕ) → filter (leads ws 0 r a) (down (
 unfolding leads completing down
 leads-list [] r a = refl
 leads-list (w ∷ ws) r a =
-    filter-first (leads (w ∷ ws) 0 r a) (λ c. cond (leb r w) (size (length ws) c == 0 - (a + 1)) (leads ws 0 (r - w) (a + 1) c))
-    (leads ws 0 r a) (length ws)
-    (λ c lt. leads-in w ws 0 r a c) (λ c lt. leads-out w ws 0 r a c lt)
-    ∙ (λ i. map (λ c. 2 ^ length ws + c) (first (leb r w) (leads-list ws (r - w) (a + 1)) i) ++ leads-list ws r a i)
-  where
-    first : (b : Bool) → filter (leads ws 0 (r - w) (a + 1)) (down (2 ^ length ws)) ≡ completing ws (r - w)
-        → filter (λ c. cond b (size (length ws) c == 0 - (a + 1)) (leads ws 0 (r - w) (a + 1) c)) (down (2 ^ length ws))
-        ≡ cond b (0 ∷ []) (completing ws (r - w))
-    first true again =
-        ap (λ (k : ℕ). filter (λ c. size (length ws) c == k) (down (2 ^ length ws))) (let e : 0 - (a + 1) ≡ 0 = omega arith in e)
-        ∙ nobody (length ws)
-    first false again = again
+    let n : ℕ = length ws in
+    let none : 0 - (a + 1) ≡ 0 = omega arith in
+    let behind : Bool → ℕ → Bool = λ b c. cond b (size n c == 0 - (a + 1)) (leads ws 0 (r - w) (a + 1) c) in
+    filter-first (leads (w ∷ ws) 0 r a) (behind (leb r w)) (leads ws 0 r a) n (λ c lt. leads-in w ws 0 r a c) (λ c lt. leads-out w ws 0 r a c lt)
+    ∙ (λ i. map (λ c. 2 ^ n + c) ((by-test (λ b. filter (behind b) (down (2 ^ n))) (leb r w) ∙ (λ j. cond (leb r w)
+    ((ap (λ (k : ℕ). filter (λ c. size n c == k) (down (2 ^ n))) none ∙ nobody n) j) (leads-list ws (r - w) (a + 1) j))) i) ++ leads-list ws r a i)
 
 -- ---- in a game of one rule
 one-wins : (rs : List RuleView) (x : ℕ) → length rs ≡ 1
