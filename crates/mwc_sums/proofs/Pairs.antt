@@ -102,8 +102,6 @@ module _ (g a b : GameView) (is_g : IsGame g) (is_a : IsGame a) (is_b : IsGame b
           let one = apart joint hg ha hb x y lx ly in
           grind (arith, nat_tests, in_g, both, size, one, are.first, are.second, seen-contains is_a x i, seen-contains is_b y i)
 
-pub ruleset laws = (chamber-sizes, chamber-members)
-
 -- ---- as the code counts them, size by size
 -- no coalition has more members than there are
 pub none-of_size : (g : GameView) (list : List ℕ) (s : ℕ) → length g.names < s → 0 ≡ count_of_size g s list
@@ -137,13 +135,8 @@ module _ (g a b : GameView) (is_g : IsGame g) (is_a : IsGame a) (is_b : IsGame b
   unfolding of_size
   pairs-more s j lt =
       let f : ℕ → ℕ = size-pairs a b s in
-      omega (
-        arith,
-        sum_by-range-more f j,
-        sum_by-range-le f (j + 1) (s + 1) (omega (arith, lt)),
-        all-pairs s (s + 1) _ refl refl,
-        few-of g (λ c. size_of g c == s) is_g,
-      )
+      let part = sum_by-range-le f (j + 1) (s + 1) (omega (arith, lt)) in
+      omega (arith, sum_by-range-more f j, part, all-pairs s (s + 1) _ refl refl, few-of g (λ c. size_of g c == s) is_g)
 
   pub each-pairs : (i p s n x : ℕ) → x ≡ sum_by (place-pairs a b i s) (range_with_len 0 n) → n ≡ s + 1 → i < length g.names
       → get_or g.ranks i 0 ≡ p → x ≡ of_place_size g p s
@@ -159,14 +152,9 @@ module _ (g a b : GameView) (is_g : IsGame g) (is_a : IsGame a) (is_b : IsGame b
   unfolding of_place_size
   each-more i s j lt within =
       let f : ℕ → ℕ = place-pairs a b i s in
-      let p : ℕ = get_or g.ranks i 0 in
-      omega (
-        arith,
-        sum_by-range-more f j,
-        sum_by-range-le f (j + 1) (s + 1) (omega (arith, within)),
-        each-pairs i p s (s + 1) _ refl refl lt refl,
-        few-of g (λ c. has (length g.names) p c && (size_of g c == s)) is_g,
-      )
+      let part = sum_by-range-le f (j + 1) (s + 1) (omega (arith, within)) in
+      let few = few-of g (λ c. has (length g.names) (get_or g.ranks i 0) c && (size_of g c == s)) is_g in
+      omega (arith, sum_by-range-more f j, part, each-pairs i (get_or g.ranks i 0) s (s + 1) _ refl refl lt refl, few)
 
   pub each-other : (i s j : ℕ) → i < length g.names → j < s + 1 → of_size a j * of_member_size b i (s - j) ≤ 2 ^ 40
   each-other i s j lt within = omega (arith, each-more i s j lt within)

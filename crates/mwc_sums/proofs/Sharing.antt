@@ -167,8 +167,6 @@ unfolding side
 others-chambers n rs k fair all lt = chambers-within n rs fair (λ x. not (share n (rule_at rs k) x))
     (others-closed n rs fair (share n (rule_at rs k)) (chamber-closed n rs fair all k lt)) (λ j lj _. all j (record { quota = 0; weights = [] }) lj)
 
-pub ruleset chambers = (sides-few, beside-chamber, others-chambers, chamber-some)
-
 pub kept-fair : (n k : ℕ) (p : RuleView → Bool) (rs : List RuleView) → All (IsFair n) rs → All (IsFair n) (filter p (take k rs))
 kept-fair n k p rs fair = All-filter p (IsFair n) (take k rs) (All-take (IsFair n) k rs fair)
 
@@ -183,5 +181,3 @@ left-is g = refl
 
 pub counted-chambers : (n : ℕ) (rs : List RuleView) → All (IsFair n) rs → AreOfChambers n (part_of true n rs)
 counted-chambers n rs fair = chambers-within n rs fair (is_counted n rs) (counted-closed n rs fair) (own-chamber n rs fair)
-
-pub ruleset parted = (counted-is, left-is, sides-few, counted-chambers, all-counted)

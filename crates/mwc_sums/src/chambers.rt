@@ -32,7 +32,6 @@ impl Statute {
     }
 
     /// The game of the rules of the first rule's chamber, counted.
-    #[tactic(auto, using(crate::proofs::Sharing::chambers, std::proofs::lemmas::Bool::Decides::nat_tests))]
     fn first_chamber(&self, alloc: Global, game: &Game) -> Result<Counted, Memory>
         requires some { 0 < length self.now.rules }
         requires chambers { AreOfChambers self.now.members self.now.rules }
@@ -50,7 +49,6 @@ impl Statute {
     }
 
     /// The counts of a game by these rules, of chambers: those of the first rule's chamber and of the others, paired.
-    #[tactic(auto, using(crate::proofs::Sharing::chambers))]
     pub(crate) fn count(&self, alloc: Global, game: &Game) -> Result<Box<Counts>, Memory>
         requires some { 0 < length self.now.rules }
         requires few { length self.now.rules ≤ RULES + 1 }

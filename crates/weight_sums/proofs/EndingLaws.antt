@@ -93,15 +93,7 @@ unfolding endings left_out
 endings-less p h s [] r a = omega arith
 endings-less zero h s (w ∷ ws) r a = omega arith
 endings-less (suc p) h s (w ∷ ws) r a =
-    grind (
-      arith,
-      nat_tests,
-      endings-less p h s ws (r - w) (a + 1),
-      endings-less p h s ws r a,
-      cases_lt,
-      length-left_out,
-      fill-less,
-      left_out-past,
-    )
+    let taken = endings-less p h s ws (r - w) (a + 1) in
+    grind (arith, nat_tests, taken, endings-less p h s ws r a, cases_lt, length-left_out, fill-less, left_out-past)
 
 pub ruleset fewer = (endings-less)

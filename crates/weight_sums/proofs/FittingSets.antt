@@ -67,4 +67,4 @@ pub added-all : (before done here : List ℕ) (size j s : ℕ) → Added before 
     → get_or done s 0 ≡ get_or before s 0 + cond (leb size s) (get_or here (s - size) 0) 0
 added-all before done here size j s h all = grind (arith, get_or_past, nat_tests)
 
-pub ruleset entering = (added-all, here-few, all-entered)
+pub ruleset entering = (added-all)

@@ -29,15 +29,10 @@ module _ {w heads left : ℕ} {before done : List ℕ} {row others : List Open}
       → prefixes (take k row) + prefixes others < 2 ^ 64
   merge-few k room =
       let some : 1 ≤ 2 ^ left = pow_pos left in
-      omega (
-        arith,
-        others-few taken-are 0 (omega arith),
-        room 0 (omega arith),
-        mul-le-mul_left (prefixes row) some,
-        mul-le-mul_left (prefixes others) some,
-        double-times (prefixes row) left,
-        sum_by-take-le (λ (x : Open). x.ways) row k,
-      )
+      let all = mul-le-mul_left (prefixes row) some in
+      let few = others-few taken-are 0 (omega arith) in
+      let part = sum_by-take-le (λ (x : Open). x.ways) row k in
+      omega (arith, few, room 0 (omega arith), all, mul-le-mul_left (prefixes others) some, double-times (prefixes row) left, part)
 
   pub goes-on : {next : List Open} (rest k : ℕ) → AreMerged (take k row) others next
       → ((g : ℕ → ℕ → ℕ) → ((r a : ℕ) → rest < r → g r a ≡ 0) → weigh g (take k row) ≡ weigh g row)
@@ -46,14 +41,9 @@ module _ {w heads left : ℕ} {before done : List ℕ} {row others : List Open}
   goes-on {next = next} rest k merged same = record {
     counted = λ ws s fits long small. (
         let g : ℕ → ℕ → ℕ = endings ws heads s in
-        omega (
-          arith,
-          taken-are.counted g s small,
-          merged.all g,
-          same g (λ r x more. endings-none ws heads s r x (omega (arith, fits, more))),
-          weigh-plus (taken w (fill heads s (length ws)) g) g row,
-          ap (λ (m : ℕ). weigh (taken w (fill heads s m) g) row) long,
-        ));
+        let kept = same g (λ r x more. endings-none ws heads s r x (omega (arith, fits, more))) in
+        let plus = weigh-plus (taken w (fill heads s (length ws)) g) g row in
+        omega (arith, taken-are.counted g s small, merged.all g, kept, plus, ap (λ (m : ℕ). weigh (taken w (fill heads s m) g) row) long));
     few = λ s small. (
         let front = mul-le-mul_right (2 ^ left) (sum_by-take-le (λ (o : Open). o.ways) row k) in
         let t = weigh-times (2 ^ left) in
@@ -73,5 +63,3 @@ pub come-none : (ws : List ℕ) (heads s : ℕ) (done : List ℕ) (row : List Op
 unfolding endings
 come-none [] heads s done row none = omega (arith, weigh-times 0 row)
 come-none (w ∷ ws) heads s done row none = absurd (omega arith)
-
-pub ruleset going = (merge-few, goes-on, prefixes-more, come-none)

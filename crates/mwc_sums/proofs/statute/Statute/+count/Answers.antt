@@ -1,3 +1,4 @@
+use Rattle.mwc_sums.proofs.{Imports.arith, Sharing.sides-few, Sharing.others-chambers, Sharing.chamber-some}
 use Rattle.mwc_sums.proofs.Imports.{◌∙◌, List, length, ap, sym, RuleView}
 use Rattle.mwc_sums.proofs.{Orders.counts-alike, Sharing.all-pass, Sharing.chamber-closed, Sharing.parts-are}
 use Rattle.mwc_sums.proofs.statute.Statute.+count.Goals as goal
@@ -15,3 +16,9 @@ boxed_joined-requires t c =
     rw c.new.ensures (parts-are _ _ fair _ (chamber-closed _ _ fair c.requires.chambers 0 c.requires.some) c.args.game.now c.in_ok-first.first.game
     c.in_ok-second.second c.requires.game c.in_ok-first.ensures.names c.in_ok-second.ensures.names c.in_ok-first.ensures.rules
     (c.in_ok-second.ensures.rules ∙ c.in_ok-others.ensures.rules))
+
+pub game-requires-clause-few : goal.game-requires-clause-few
+game-requires-clause-few t c = grind (arith, sides-few, chamber-some)
+
+pub count-requires : goal.count-requires
+count-requires t c = grind (arith, sides-few, others-chambers)
