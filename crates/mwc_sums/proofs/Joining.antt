@@ -1,8 +1,8 @@
 -- As many coalitions pass one test as pass another, and sets that win where they win under two conditions.
 use Rattle.mwc_sums.proofs.Imports.{◌≡◌, ◌∙◌, ◌↔◌, ◌==◌, ◌&&◌, ℕ, zero, suc, ◌^◌, ◌<◌, Bool, true, false, List, length, get_or, filter, sym}
+use Rattle.mwc_sums.proofs.Imports.{nat_tests, not, ◌||◌, true_from_ne_false, ◌+◌, and-true, and_parts, and_from, size, filter-both, eqb}
 use Rattle.mwc_sums.proofs.Imports.{ap, refl, arith, inl, inr, sum_by, both_ways, cases_eq, sum_by-cons, length-filter, down, sum-zero}
-use Rattle.mwc_sums.proofs.Imports.{nat_tests, not, ◌||◌, true_from_ne_false, ◌+◌, and-true, and_parts, and_from, size, filter-both}
-use Rattle.std.proofs.{Common.eqb, lemmas.Bool.false_from_ne_true, lemmas.Bool.or_parts}
+use Rattle.std.proofs.lemmas.Bool.{false_from_ne_true, or_parts}
 use Rattle.coalitions.proofs.Shared.Lists.{sum-swap}
 use Rattle.mwc_sums.proofs.VetoRules.{sum-parts}
 use Rattle.mwc_sums.proofs.Seating.{one_if, IsLeast, IsSeating, seen, less, LooksAt, as_mask, mask-is, mask-less, mask-seen, seen-size}
@@ -229,8 +229,7 @@ module _ {n m a b : ℕ} {own other : ℕ → Bool} {won_g won_a won_b : (ℕ �
     }
 
     -- how many that hold a least set pass a test, by the pairs that they are
-    pub counted : (t : ℕ → Bool) (v : ℕ → ℕ → ℕ)
-        → ((x y : ℕ) → x < 2 ^ a → y < 2 ^ b → one_if ((min_a x && min_b y) && t (union x y)) ≡ v x y)
+    pub counted : (t : ℕ → Bool) (v : ℕ → ℕ → ℕ) → ((x y : ℕ) → x < 2 ^ a → y < 2 ^ b → one_if ((min_a x && min_b y) && t (union x y)) ≡ v x y)
         → length (filter t (filter min_g (down (2 ^ m)))) ≡ sum_by (λ x. sum_by (v x) (down (2 ^ b))) (down (2 ^ a))
     counted = paired-off pairs
 

@@ -54,12 +54,10 @@ two-wins n heads x [] two asks full = absurd (omega (arith, two))
 two-wins n heads x (r ∷ []) two asks full = absurd (omega (arith, two))
 two-wins n heads x (r ∷ s ∷ t ∷ rs) two asks full = absurd (omega (arith, two))
 two-wins n heads x (r ∷ s ∷ []) two asks full =
-    let weighs : weight s.weights x ≡ size n x * asks.each = grind (arith, alike-weight) in
-    let enough = asks.enough (size n x) in
+    let weighs : weight s.weights x ≡ size n x * asks.each = grind (arith, alike-weight) in let enough = asks.enough (size n x) in
     grind (arith, nat_tests)
 
-first-wins : (rs : List RuleView) (x : ℕ) → 1 ≤ length rs
-    → (wins (take 1 rs) x ≡ true) ↔ ((rule_at rs 0).quota ≤ weight (rule_at rs 0).weights x)
+first-wins : (rs : List RuleView) (x : ℕ) → 1 ≤ length rs → (wins (take 1 rs) x ≡ true) ↔ ((rule_at rs 0).quota ≤ weight (rule_at rs 0).weights x)
 first-wins [] x some = absurd (omega (arith, some))
 first-wins (r ∷ rs) x some = wins-one r x
 
@@ -159,8 +157,7 @@ leads-lacking (w ∷ ws) (suc p) heads s r a =
 pub leads-all : (ws : List ℕ) (heads s r a : ℕ)
     → count (λ c. leads ws heads r a c && (a + size (length ws) c == s)) (down (2 ^ length ws)) ≡ endings ws heads s r a
 leads-all ws heads s r a =
-    let n : ℕ = length ws in
-    let lacks-none : (c : ℕ) → true ≡ lacks n n c = λ c. grind (arith, nat_tests) in
+    let n : ℕ = length ws in let lacks-none : (c : ℕ) → true ≡ lacks n n c = λ c. grind (arith, nat_tests) in
     (λ i. count (λ c. leads ws heads r a c && (lacks-none c i && (a + size n c == s))) (down (2 ^ n)))
     ∙ leads-lacking ws n heads s r a ∙ ap (λ (l : List ℕ). endings l heads s r a) (left_out-past n ws (omega arith))
 
@@ -183,19 +180,16 @@ by-last [] heads r a c pos lt = grind (arith, nat_tests, weight-nil)
 by-last (w ∷ ws) heads r a c pos lt = elim (cases_lt c (2 ^ length ws)) [
   | inl low ↦ let again = by-last ws heads r a c pos low in grind (arith, nat_tests, size-left, weight-left)
   | inr high ↦
-      let n : ℕ = length ws in
-      let d : ℕ = c - 2 ^ n in
+      let n : ℕ = length ws in let d : ℕ = c - 2 ^ n in
       let low : d < 2 ^ n = (let e = double-pow n in omega (arith, e)) in
-      let is : 2 ^ n + d ≡ c = omega arith in
-      let again = by-last ws heads (r - w) (a + 1) d in
+      let is : 2 ^ n + d ≡ c = omega arith in let again = by-last ws heads (r - w) (a + 1) d in
       grind (arith, nat_tests, again, is, low, none-or-some ws d low, size-with n d low, weight-with w ws d low)
 ]
 
 pub leads-are : (ws : List ℕ) (heads r c : ℕ) → Falls ws → 0 < r → c < 2 ^ length ws
     → (leads ws heads r 0 c ≡ true) ↔ IsMin (length ws) (λ x. leb r (weight ws x) && leb heads (size (length ws) x)) c
 leads-are ws heads r c falls pos lt =
-    let is = by-last ws heads r 0 c pos lt in
-    let parts = by-heads (length ws) (λ x. leb r (weight ws x)) heads c in
+    let is = by-last ws heads r 0 c pos lt in let parts = by-heads (length ws) (λ x. leb r (weight ws x)) heads c in
     let least = least-weights ws r c in grind (arith, nat_tests, none-or-some, last-in, last-behind)
 
 -- ---- the list of them, where no heads are asked for
@@ -211,8 +205,7 @@ pub leads-list : (ws : List ℕ) (r a : ℕ) → filter (leads ws 0 r a) (down (
 unfolding leads completing down
 leads-list [] r a = refl
 leads-list (w ∷ ws) r a =
-    let n : ℕ = length ws in
-    let none : 0 - (a + 1) ≡ 0 = omega arith in
+    let n : ℕ = length ws in let none : 0 - (a + 1) ≡ 0 = omega arith in
     let behind : Bool → ℕ → Bool = λ b c. cond b (size n c == 0 - (a + 1)) (leads ws 0 (r - w) (a + 1) c) in
     filter-first (leads (w ∷ ws) 0 r a) (behind (leb r w)) (leads ws 0 r a) n (λ c lt. leads-in w ws 0 r a c) (λ c lt. leads-out w ws 0 r a c lt)
     ∙ (λ i. map (λ c. 2 ^ n + c) ((by-test (λ b. filter (behind b) (down (2 ^ n))) (leb r w) ∙ (λ j. cond (leb r w)
@@ -234,8 +227,7 @@ pub minimal-completing : (v : Votes) → IsVotes v → length v.rules ≡ 1
     → minimal_coalitions v ≡ completing (rule_at v.rules 0).weights (rule_at v.rules 0).quota
 unfolding minimal_coalitions
 minimal-completing v votes one =
-    let r : RuleView = rule_at v.rules 0 in
-    let ws : List ℕ = r.weights in
+    let r : RuleView = rule_at v.rules 0 in let ws : List ℕ = r.weights in
     let rule = rule-is v 0 votes (omega (arith, one)) in
     let same : wins v.rules ≡ (λ x. leb r.quota (weight ws x) && leb 0 (size (length ws) x)) = λ k x. one-wins v.rules x one k in
     let led : (c : ℕ) → c < 2 ^ length ws → minimal v c ≡ leads ws 0 r.quota 0 c = λ c lt.

@@ -13,8 +13,7 @@ use Rattle.mwc_sums.proofs.Placed.{game-holds, has_weight, met-seen, no-weight, 
 
 -- ---- pairs of two lists that have a size together
 -- one of the first list, with those of the second that fill it up to s
-row : (n q : ℕ → Bool) (l : ℕ → ℕ) (m p : Bool) (k s : ℕ) (ys : List ℕ)
-    → sum_by (λ y. one_if ((m && n y) && ((p && q y) && (k + l y == s)))) ys
+row : (n q : ℕ → Bool) (l : ℕ → ℕ) (m p : Bool) (k s : ℕ) (ys : List ℕ) → sum_by (λ y. one_if ((m && n y) && ((p && q y) && (k + l y == s)))) ys
     ≡ one_if (m && (p && leb k s)) * length (filter (λ y. q y && (l y == s - k)) (filter n ys))
 row n q l m p k s [] = omega arith
 row n q l m p k s (y ∷ ys) =
@@ -96,10 +95,8 @@ module _ (g a b : GameView) (is_g : IsGame g) (is_a : IsGame a) (is_b : IsGame b
           → one_if (min_pair x y && (contains g i (union joint hg ha hb x y) && (size_of g (union joint hg ha hb x y) == s)))
           ≡ of_a i s x y + of_b i s x y
       each x y lx ly =
-          let in_g = seen-contains is_g (union joint hg ha hb x y) i lt in
-          let both = joined joint hg ha hb x y lx ly in
-          let size = size-union joint hg ha hb x y lx ly in
-          let one = apart joint hg ha hb x y lx ly in
+          let in_g = seen-contains is_g (union joint hg ha hb x y) i lt in let both = joined joint hg ha hb x y lx ly in
+          let size = size-union joint hg ha hb x y lx ly in let one = apart joint hg ha hb x y lx ly in
           grind (arith, nat_tests, in_g, both, size, one, are.first, are.second, seen-contains is_a x i, seen-contains is_b y i)
 
 -- ---- as the code counts them, size by size
@@ -130,12 +127,10 @@ module _ (g a b : GameView) (is_g : IsGame g) (is_a : IsGame a) (is_b : IsGame b
   all-pairs s n x is e =
       is ∙ ap (λ (n : ℕ). sum_by (size-pairs a b s) (range_with_len 0 n)) e ∙ sym (chamber-sizes g a b is_g is_a is_b are s)
 
-  pub pairs-more : (s j : ℕ) → j < s + 1
-      → size-pairs a b s j + sum_by (size-pairs a b s) (range_with_len 0 j) ≤ 2 ^ 40
+  pub pairs-more : (s j : ℕ) → j < s + 1 → size-pairs a b s j + sum_by (size-pairs a b s) (range_with_len 0 j) ≤ 2 ^ 40
   unfolding of_size
   pairs-more s j lt =
-      let f : ℕ → ℕ = size-pairs a b s in
-      let part = sum_by-range-le f (j + 1) (s + 1) (omega (arith, lt)) in
+      let f : ℕ → ℕ = size-pairs a b s in let part = sum_by-range-le f (j + 1) (s + 1) (omega (arith, lt)) in
       omega (arith, sum_by-range-more f j, part, all-pairs s (s + 1) _ refl refl, few-of g (λ c. size_of g c == s) is_g)
 
   pub each-pairs : (i p s n x : ℕ) → x ≡ sum_by (place-pairs a b i s) (range_with_len 0 n) → n ≡ s + 1 → i < length g.names
@@ -151,8 +146,7 @@ module _ (g a b : GameView) (is_g : IsGame g) (is_a : IsGame a) (is_b : IsGame b
       → place-pairs a b i s j + sum_by (place-pairs a b i s) (range_with_len 0 j) ≤ 2 ^ 40
   unfolding of_place_size
   each-more i s j lt within =
-      let f : ℕ → ℕ = place-pairs a b i s in
-      let part = sum_by-range-le f (j + 1) (s + 1) (omega (arith, within)) in
+      let f : ℕ → ℕ = place-pairs a b i s in let part = sum_by-range-le f (j + 1) (s + 1) (omega (arith, within)) in
       let few = few-of g (λ c. has (length g.names) (get_or g.ranks i 0) c && (size_of g c == s)) is_g in
       omega (arith, sum_by-range-more f j, part, each-pairs i (get_or g.ranks i 0) s (s + 1) _ refl refl lt refl, few)
 

@@ -1,8 +1,7 @@
 -- Coalitions of the first places of a ranking, and the sets of members that they hold.
 use Rattle.mwc_sums.proofs.Imports.{◌≡◌, ◌∙◌, ◌↔◌, ◌&&◌, not, ℕ, zero, suc, ◌+◌, ◌^◌, ◌<◌, ◌≤◌, Bool, true, false, cond, List, get_or, sym}
 use Rattle.mwc_sums.proofs.Imports.{ap, refl, arith, inl, inr, sum_by, range_with_len, cases_eq, le-ltb, length-filter, nat_tests, has}
-use Rattle.mwc_sums.proofs.Imports.{size, without, member_at, RanksAre, sum-range}
-use Rattle.std.proofs.Common.{eqb}
+use Rattle.mwc_sums.proofs.Imports.{size, without, member_at, RanksAre, sum-range, eqb}
 use Rattle.coalitions.proofs.Shared.Digits.{has-kept, has-gone, same-places}
 use Rattle.council_game.specs.Ranks.{AreRankPlaces}
 use Rattle.council_game.proofs.Shared.RankPlaces.{by-member}
@@ -63,8 +62,7 @@ unfolding as_mask
 mask-less m ranks f = mask-below (λ p. f (member_at ranks p)) m
 
 -- a sum whose last numbers are 0
-sum-cut : (f : ℕ → ℕ) (m n : ℕ) → m ≤ n → ((p : ℕ) → m ≤ p → p < n → f p ≡ 0)
-    → sum_by f (range_with_len 0 n) ≡ sum_by f (range_with_len 0 m)
+sum-cut : (f : ℕ → ℕ) (m n : ℕ) → m ≤ n → ((p : ℕ) → m ≤ p → p < n → f p ≡ 0) → sum_by f (range_with_len 0 n) ≡ sum_by f (range_with_len 0 m)
 sum-cut f m zero le none = ap (λ (k : ℕ). sum_by f (range_with_len 0 k)) (let e : 0 ≡ m = omega (arith, le) in e)
 sum-cut f m (suc n) le none = elim (cases_eq m (suc n)) [
   | inl e ↦ ap (λ (k : ℕ). sum_by f (range_with_len 0 k)) (sym e)
@@ -89,8 +87,7 @@ module _ {n m : ℕ} {ranks : List ℕ} (is : IsSeating n m ranks) where
       same-places m c (mask_of (λ p. f (member_at ranks p)) m) below (mask-below (λ p. f (member_at ranks p)) m) (λ p lt.
       grind (arith, seen-at c p lt, same (member_at ranks p), is.are.member_below p, is.few, mask-has (λ p. f (member_at ranks p)) m p lt))
 
-  seen-less : (c i j : ℕ) → i < n → j < n → seen m ranks c i ≡ true
-      → seen m ranks (without m (get_or ranks i 0) c) j ≡ less (seen m ranks c) i j
+  seen-less : (c i j : ℕ) → i < n → j < n → seen m ranks c i ≡ true → seen m ranks (without m (get_or ranks i 0) c) j ≡ less (seen m ranks c) i j
   seen-less c i j li lj inside =
       let apart : get_or ranks j 0 ≡ get_or ranks i 0 → j ≡ i = λ e.
       sym (is.are.member_back j lj) ∙ ap (member_at ranks) e ∙ is.are.member_back i li in
@@ -116,8 +113,7 @@ module _ {n m : ℕ} {ranks : List ℕ} (is : IsSeating n m ranks) where
   seen-size c = seen-sum (λ i b. one_if b) (λ i. refl) c ∙ sym (length-filter (λ p. has m p c) (range_with_len 0 m))
 
   -- a coalition is minimal where its set is
-  pub least-min : (won : (ℕ → Bool) → Bool) → LooksAt n won → (c : ℕ)
-      → IsLeast n won (seen m ranks c) ↔ IsMin m (λ x. won (seen m ranks x)) c
+  pub least-min : (won : (ℕ → Bool) → Bool) → LooksAt n won → (c : ℕ) → IsLeast n won (seen m ranks c) ↔ IsMin m (λ x. won (seen m ranks x)) c
   least-min won looks c =
       let fewer = λ (i : ℕ) (li : i < n) (inside : seen m ranks c i ≡ true).
       looks (seen m ranks (without m (get_or ranks i 0) c)) (less (seen m ranks c) i) (λ j lj. seen-less c i j li lj inside) in (

@@ -27,8 +27,7 @@ share-self n r fair = elim (missing (λ i. ltb 0 (get_or r.weights i 0)) (λ i. 
 
 -- ---- lists
 -- what passes a test stands among what passes it
-in-filter : {X : Type 0} (p : X → Bool) (xs : List X) (j : ℕ) (d : X) → j < length xs → p (get_or xs j d) ≡ true
-    → 0 < length (filter p xs)
+in-filter : {X : Type 0} (p : X → Bool) (xs : List X) (j : ℕ) (d : X) → j < length xs → p (get_or xs j d) ≡ true → 0 < length (filter p xs)
 in-filter p [] j d lt passes = absurd (omega (arith, lt))
 in-filter p (x ∷ xs) zero d lt passes = grind (arith, nat_tests)
 in-filter p (x ∷ xs) (suc j) d lt passes = grind (arith, nat_tests, in-filter p xs j d (omega (arith, lt)) passes)
@@ -105,8 +104,7 @@ module _ (n : ℕ) (rs : List RuleView) (fair : All (IsFair n) rs) where
   counted-at r is k lt they =
       grind (arith, nat_tests, AllPass-from_list_all (λ x. not (share n r x) || are_of_one_chamber n (chamber_of n rs x)) rs is k none lt)
 
-  pub own-chamber : (j : ℕ) → j < length rs → is_counted n rs (rule_at rs j) ≡ true
-      → are_of_one_chamber n (chamber_of n rs (rule_at rs j)) ≡ true
+  pub own-chamber : (j : ℕ) → j < length rs → is_counted n rs (rule_at rs j) ≡ true → are_of_one_chamber n (chamber_of n rs (rule_at rs j)) ≡ true
   own-chamber j lt is = counted-at (rule j) is j lt (self j lt)
 
   pub all-counted : length (part_of false n rs) ≡ 0 → AreOfChambers n rs

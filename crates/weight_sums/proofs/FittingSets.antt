@@ -50,8 +50,7 @@ pub added : (need : ℕ) (sets : List Set) (t : Fitting) (k s : ℕ) → AreOfNe
 added need sets t k s h = elim (cases_lt s k) [
   | inl few ↦
       (let none : (x : Set) → fits need k s x ≡ 0 = λ x. grind (arith, nat_tests) in
-      let all : sum_by (fits need k s) sets ≡ 0 = (λ i. sum_by (λ x. none x i) sets) ∙ sum-zero sets in
-      grind (arith, nat_tests))
+      let all : sum_by (fits need k s) sets ≡ 0 = (λ i. sum_by (λ x. none x i) sets) ∙ sum-zero sets in grind (arith, nat_tests))
   | inr enough ↦
       (let one : (x : Set) → fits need 0 (s - k) x ≡ fits need k s x = λ x. grind (arith, nat_tests) in
       grind (arith, nat_tests, h (s - k)))

@@ -22,6 +22,7 @@ fn next_row(row: &[u64; limits::SIZES], of: usize) -> [u64; limits::SIZES]
 }
 
 /// Row m has, for each k, in how many ways k of m members can be chosen.
+#[tactic(auto, using(std::proofs::lemmas::Grind::common_steps, crate::proofs::Taking::chosen))]
 fn choices(alloc: Global) -> Result<Vec<[u64; limits::SIZES]>, Memory>
     ensures { IfOk result (λ v. AreChoices v.items) }
 {

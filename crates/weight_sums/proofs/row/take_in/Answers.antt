@@ -1,4 +1,5 @@
-use Rattle.weight_sums.proofs.{Imports.arith, Taking.complete, Taking.product-fits, Taking.put-down, Taking.times-fit}
+use Rattle.weight_sums.proofs.Imports.{arith}
+use Rattle.weight_sums.proofs.Taking.{complete, product-fits, put-down, times-fit}
 use Rattle.weight_sums.proofs.row.take_in.Goals as goal
 
 pub overflow_mul-done : goal.overflow_mul-done

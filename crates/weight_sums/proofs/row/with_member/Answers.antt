@@ -1,5 +1,4 @@
-use Rattle.weight_sums.proofs.Taking.{taken-room}
-use Rattle.weight_sums.proofs.{Imports.Open, Taking.taken-one}
+use Rattle.weight_sums.proofs.{Imports.Open, Taking.taken-room, Taking.taken-one}
 use Rattle.weight_sums.proofs.row.with_member.Goals as goal
 
 pub loop-prefix-preserved : goal.loop-prefix-preserved

@@ -1,6 +1,6 @@
-use Rattle.mwc_sums.proofs.{Imports.arith, Sharing.sides-few, Sharing.others-chambers, Sharing.chamber-some}
-use Rattle.mwc_sums.proofs.Imports.{◌∙◌, List, length, ap, sym, RuleView}
-use Rattle.mwc_sums.proofs.{Orders.counts-alike, Sharing.all-pass, Sharing.chamber-closed, Sharing.parts-are}
+use Rattle.mwc_sums.proofs.Imports.{arith, ◌∙◌, List, length, ap, sym, RuleView}
+use Rattle.mwc_sums.proofs.Sharing.{sides-few, others-chambers, chamber-some, all-pass, chamber-closed, parts-are}
+use Rattle.mwc_sums.proofs.Orders.{counts-alike}
 use Rattle.mwc_sums.proofs.statute.Statute.+count.Goals as goal
 
 pub returns-then-rules-eq0 : goal.returns-then-rules-eq0

@@ -1,5 +1,4 @@
-use Rattle.weight_sums.proofs.FittingSets.{here-few}
-use Rattle.weight_sums.proofs.{FittingSets.all-entered, Imports.arith, Imports.nobody}
+use Rattle.weight_sums.proofs.{FittingSets.here-few, FittingSets.all-entered, Imports.arith, Imports.nobody}
 use Rattle.weight_sums.proofs.fitting.Fitting.let_in.Goals as goal
 
 pub returns-after-loop-self-clause-all : goal.returns-after-loop-self-clause-all

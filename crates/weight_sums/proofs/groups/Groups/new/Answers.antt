@@ -1,7 +1,5 @@
 use Rattle.weight_sums.proofs.FittingSets.{here-few}
-use Rattle.std.proofs.lemmas.Nat.{shr_below}
-use Rattle.weight_sums.proofs.Imports.{common_steps}
-use Rattle.weight_sums.proofs.Imports.{arith, nobody}
+use Rattle.weight_sums.proofs.Imports.{shr_below, common_steps, arith, nobody}
 use Rattle.weight_sums.proofs.GroupSums.{low-few, high-few, paired-more, paired-all}
 use Rattle.weight_sums.proofs.groups.Groups.new.Goals as goal
 
