@@ -13,10 +13,10 @@ pub use Rattle.std.proofs.Common.{All, Bool, List, [], ap, arith, cond, eqb, eqb
 pub use Rattle.std.proofs.Common.{lt-ltb, ltb, ltb-true, map, not, refl, string_bytes, subst, suc, sum, sum_by, sym, take, true, zero, ℕ}
 pub use Rattle.std.proofs.Common.{◌&&◌, ◌*◌, ◌++◌, ◌+◌, ◌-◌, ◌<◌, ◌==◌, ◌^◌, ◌||◌, ◌↔◌, ◌∙◌, ◌∷◌, ◌≡◌, ◌≢◌, ◌≤◌, ◌⊎◌}
 pub use Rattle.std.proofs.lemmas.List.{Filters.length-filter_both, FromFn.length-map-range_with_len, FromFn.length-range_with_len}
-pub use Rattle.std.proofs.{Math.Bool.and-true, lemmas.Bool.Decides.nat_tests, lemmas.List.length-map}
+pub use Rattle.std.proofs.{Math.Bool.and-true, lemmas.Bool.Decides.nat_tests, lemmas.Grind.common_steps, lemmas.List.length-map}
 pub use Rattle.std.proofs.lemmas.Bool.{and_from, and_parts, both_ways, cases_eq, cases_lt, true_from_ne_false}
 pub use Rattle.std.proofs.lemmas.List.Elements.{All-filter, All-from_get_or, All-from_recursion, All-head, All-tail, filter-append}
 pub use Rattle.std.proofs.lemmas.List.Sums.{AllPass-from_list_all, length-filter, list_all-from_AllPass, sum_by-cons}
 pub use Rattle.std.specs.List.{list_all, list_any, range_with_len}
 unfoldable pub use Rattle.council_game.specs.Votes.{down, has, minimal_coalitions, weight, wins, without}
-unfoldable pub use Rattle.mwc_sums.specs.Inner.Pairs.{of_place_size}
+unfoldable pub use Rattle.mwc_sums.specs.Inner.{Pairs.of_place_size, Rules.side}

@@ -58,8 +58,7 @@ module _ {p : ℕ → Bool} {q : ℕ → ℕ → Bool} {one two : ℕ → ℕ} {
       sum-one (λ x. sum_by (of t c x) (down b)) (one c) a (are.first c)
       (λ x lx other. sum-none (of t c x) b (λ y ly. of-none t c x y (λ e h. grind (arith, are.whole x y lx ly h))))
       ∙ sum-one (of t c (one c)) (two c) b (are.second c)
-      (λ y ly other. of-none t c (one c) y (λ e h. grind (arith, are.whole (one c) y (are.first c) ly h)))
-      ∙ grind (arith, nat_tests, has)
+      (λ y ly other. of-none t c (one c) y (λ e h. grind (arith, are.whole (one c) y (are.first c) ly h))) ∙ grind (arith, nat_tests, has)
 
   -- where v says whether a pair passes both tests
   pub paired-off : (t : ℕ → Bool) (v : ℕ → ℕ → ℕ) → ((x y : ℕ) → x < a → y < b → one_if (q x y && t (both x y)) ≡ v x y)
@@ -68,8 +67,7 @@ module _ {p : ℕ → Bool} {q : ℕ → ℕ → Bool} {one two : ℕ → ℕ} {
   paired-off t v same =
       count-both p t (down n)
       ∙ sum-down (λ c. one_if (p c && t c)) (λ c. sum_by (λ x. sum_by (of t c x) (down b)) (down a)) n (λ c lc. sym (each t c (p c) refl lc))
-      ∙ sum-swap (λ c x. sum_by (of t c x) (down b)) (down n) (down a)
-      ∙ sum-down _ _ a (λ x lx. sum-swap (λ c y. of t c x y) (down n) (down b)
+      ∙ sum-swap (λ c x. sum_by (of t c x) (down b)) (down n) (down a) ∙ sum-down _ _ a (λ x lx. sum-swap (λ c y. of t c x y) (down n) (down b)
       ∙ sum-down _ _ b (λ y ly. sum-one (λ c. of t c x y) (both x y) n (are.below x y) (λ c lc other. of-none t c x y (λ e h. other e))
       ∙ grind (arith, nat_tests, same x y lx ly)))
 
@@ -172,8 +170,7 @@ half-seen : {n a : ℕ} {own other : ℕ → Bool} {won_g won_a won_b : (ℕ →
     → ((i : ℕ) → i < n → seen a ra (as_mask a ra (λ i. c i && own i)) i ≡ (c i && own i))
     × (min_a (as_mask a ra (λ i. c i && own i)) ≡ true)
 half-seen {a = a} {own = own} {ra = ra} joint ha c least =
-    let f : ℕ → Bool = λ i. c i && own i in
-    let same = mask-seen ha.seats f (ha.inside f (least-half joint f least (λ i lt. refl))) in
+    let f : ℕ → Bool = λ i. c i && own i in let same = mask-seen ha.seats f (ha.inside f (least-half joint f least (λ i lt. refl))) in
     (same, (ha.least _ (mask-less a ra f)).1 (least-half joint _ least same))
 
 module _ {n m a b : ℕ} {own other : ℕ → Bool} {won_g won_a won_b : (ℕ → Bool) → Bool} {rg ra rb : List ℕ} {min_g min_a min_b : ℕ → Bool}
@@ -258,8 +255,7 @@ alike-count {n = n} {a = a} {b = b} {won = won} {ra = ra} {rb = rb} {own = own} 
       inside = λ f least i lt in'. absurd (both_ways true (least.needs i lt in') refl);
     }
 
-    each : (x y : ℕ) → x < 2 ^ b → y < 2 ^ 0 → (m : Bool) → other x ≡ m
-        → one_if ((m && true) && t (union joint ha hb none x y)) ≡ one_if (m && u x)
+    each : (x y : ℕ) → x < 2 ^ b → y < 2 ^ 0 → (m : Bool) → other x ≡ m → one_if ((m && true) && t (union joint ha hb none x y)) ≡ one_if (m && u x)
     each x y lx ly false is = refl
     each x y lx ly true is = ap (λ (b : Bool). one_if b) (same (union joint ha hb none x y) x (λ i lt.
         joined joint ha hb none x y lx ly (grind (arith, nat_tests)) i lt ∙ grind (arith, nat_tests)))

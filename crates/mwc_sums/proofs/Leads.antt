@@ -163,8 +163,7 @@ leads-all ws heads s r a =
 
 -- those with a place are those that the members do not lead to without it
 pub leads-parted : (ws : List ℕ) (p heads s r a : ℕ) → p < length ws → endings (left_out p ws) heads s r a
-    + count (λ c. leads ws heads r a c && (has (length ws) p c && (a + size (length ws) c == s))) (down (2 ^ length ws))
-    ≡ endings ws heads s r a
+    + count (λ c. leads ws heads r a c && (has (length ws) p c && (a + size (length ws) c == s))) (down (2 ^ length ws)) ≡ endings ws heads s r a
 leads-parted ws p heads s r a lt =
     let n : ℕ = length ws in
     let parts = count-parted (leads ws heads r a) (has n p) (lacks n p) (λ c. a + size n c == s) (down (2 ^ n)) (λ c. grind (arith, nat_tests, lt)) in
@@ -198,8 +197,7 @@ unfolding down
 nobody zero = refl
 nobody (suc n) =
     filter-first (λ c. size (suc n) c == 0) (λ c. false) (λ c. size n c == 0) n (λ c lt. grind (arith, nat_tests, size-with))
-    (λ c lt. grind (arith, size-left))
-    ∙ (λ i. map (λ c. 2 ^ n + c) (filter-none (down (2 ^ n)) i) ++ nobody n i)
+    (λ c lt. grind (arith, size-left)) ∙ (λ i. map (λ c. 2 ^ n + c) (filter-none (down (2 ^ n)) i) ++ nobody n i)
 
 pub leads-list : (ws : List ℕ) (r a : ℕ) → filter (leads ws 0 r a) (down (2 ^ length ws)) ≡ completing ws r
 unfolding leads completing down
@@ -236,9 +234,7 @@ minimal-completing v votes one =
     subst (λ (m : ℕ). (minimal v c ≡ true) ↔ IsMin m (λ x. leb r.quota (weight ws x) && leb 0 (size (length ws) x)) c) (sym rule.full)
     (rw same at (minimal-min v c)) in
     same_test _ _ (λ h. lead.1 (min.0 h)) (λ h. min.1 (lead.0 h))) in
-    ap (λ (n : ℕ). filter (minimal v) (down (2 ^ n))) (sym rule.full)
-    ∙ filter-same (minimal v) (leads ws 0 r.quota 0) (down (2 ^ length ws))
-    (λ k d lt. led _ (down-below (2 ^ length ws) (2 ^ length ws) (omega arith) k d lt))
-    ∙ leads-list ws r.quota 0
+    ap (λ (n : ℕ). filter (minimal v) (down (2 ^ n))) (sym rule.full) ∙ filter-same (minimal v) (leads ws 0 r.quota 0) (down (2 ^ length ws))
+    (λ k d lt. led _ (down-below (2 ^ length ws) (2 ^ length ws) (omega arith) k d lt)) ∙ leads-list ws r.quota 0
 
 pub ruleset laws = (minimal-completing)

@@ -25,8 +25,7 @@ pub pairs-of_size : (m n p q : ℕ → Bool) (k l : ℕ → ℕ) (xs ys : List �
 pairs-of_size m n p q k l xs ys s =
     let others : ℕ → ℕ = λ j. length (filter (λ y. q y && (l y == j)) (filter n ys)) in
     let passes : ℕ → Bool = λ x. m x && (p x && leb (k x) s) in
-    (λ i. sum_by (λ x. row n q l (m x) (p x) (k x) s ys i) xs)
-    ∙ sym (sum-filter (λ x. others (s - k x)) passes xs)
+    (λ i. sum_by (λ x. row n q l (m x) (p x) (k x) s ys i) xs) ∙ sym (sum-filter (λ x. others (s - k x)) passes xs)
     ∙ sym (sum-by_size (λ j. others (s - j)) k passes 0 (s + 1) xs (λ x in'. grind (arith, nat_tests)))
     ∙ sum-range (λ j. length (filter (λ x. passes x && (k x == j)) xs) * others (s - j))
     (λ j. length (filter (λ x. p x && (k x == j)) (filter m xs)) * others (s - j)) 0 (s + 1)
@@ -142,8 +141,7 @@ module _ (g a b : GameView) (is_g : IsGame g) (is_a : IsGame a) (is_b : IsGame b
       ∙ sym (chamber-members g a b is_g is_a is_b are i s lt)
       ∙ (λ k. length (filter (λ c. has (length g.names) (place k) c && (size_of g c == s)) (minimal_coalitions (votes_of g))))
 
-  pub each-more : (i s j : ℕ) → i < length g.names → j < s + 1
-      → place-pairs a b i s j + sum_by (place-pairs a b i s) (range_with_len 0 j) ≤ 2 ^ 40
+  pub each-more : (i s j : ℕ) → i < length g.names → j < s + 1 → place-pairs a b i s j + sum_by (place-pairs a b i s) (range_with_len 0 j) ≤ 2 ^ 40
   unfolding of_place_size
   each-more i s j lt within =
       let f : ℕ → ℕ = place-pairs a b i s in let part = sum_by-range-le f (j + 1) (s + 1) (omega (arith, within)) in
@@ -154,5 +152,3 @@ module _ (g a b : GameView) (is_g : IsGame g) (is_a : IsGame a) (is_b : IsGame b
   each-other i s j lt within = omega (arith, each-more i s j lt within)
 
 pub ruleset pairs = (all-pairs, pairs-more, sum_by-range-more)
-
-pub ruleset member_pairs = (each-pairs, each-more, each-other, sum_by-range-more)

@@ -98,8 +98,7 @@ module _ {n m : ℕ} {ranks : List ℕ} (is : IsSeating n m ranks) where
       → sum_by u (range_with_len 0 n) ≡ sum_by (λ p. u (member_at ranks p)) (range_with_len 0 m)
   placed-sum u none =
       sum-range u (λ i. u (member_at ranks (get_or ranks i 0))) 0 n (λ i _ lt. ap u (sym (is.are.member_back i (omega (arith, lt)))))
-      ∙ sym (by-member n ranks is.are.count is.each (λ p. u (member_at ranks p)))
-      ∙ sum-cut (λ p. u (member_at ranks p)) m n is.few (λ p from lt.
+      ∙ sym (by-member n ranks is.are.count is.each (λ p. u (member_at ranks p))) ∙ sum-cut (λ p. u (member_at ranks p)) m n is.few (λ p from lt.
       none (member_at ranks p) (is.are.member_below p lt) (let back = is.are.place_back p lt in omega (arith, back, from)))
 
   pub seen-sum : (t : ℕ → Bool → ℕ) → ((i : ℕ) → t i false ≡ 0) → (c : ℕ)
@@ -133,7 +132,5 @@ module _ {n m : ℕ} {ranks : List ℕ} (is : IsSeating n m ranks) where
 pub alike-size : {n a b : ℕ} {ra rb : List ℕ} → IsSeating n a ra → IsSeating n b rb → (c x : ℕ)
     → ((i : ℕ) → i < n → seen a ra c i ≡ seen b rb x i) → size a c ≡ size b x
 alike-size {n = n} {a = a} {b = b} {ra = ra} {rb = rb} is_a is_b c x alike =
-    sym (seen-size is_a c)
-    ∙ sum-range (λ i. one_if (seen a ra c i)) (λ i. one_if (seen b rb x i)) 0 n
-    (λ i _ lt. ap (λ (d : Bool). one_if d) (alike i (omega (arith, lt))))
-    ∙ seen-size is_b x
+    sym (seen-size is_a c) ∙ sum-range (λ i. one_if (seen a ra c i)) (λ i. one_if (seen b rb x i)) 0 n
+    (λ i _ lt. ap (λ (d : Bool). one_if d) (alike i (omega (arith, lt)))) ∙ seen-size is_b x

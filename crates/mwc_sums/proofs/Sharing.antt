@@ -3,10 +3,9 @@ use Rattle.mwc_sums.proofs.Imports.{length, get_or, All-from_get_or, RuleView, r
 use Rattle.mwc_sums.proofs.Imports.{List, [], ◌∷◌, HasNoWeight, AreChambersOf, are_of_one_chamber, is_counted, statute, IsFair, AreRulesOf}
 use Rattle.mwc_sums.proofs.Imports.{filter-both, ◌≡◌, ◌≢◌, ◌∙◌, ◌&&◌, ◌||◌, not, ◌⊎◌, ℕ, zero, suc, ◌+◌, ◌<◌, ◌≤◌, Bool, true, false, ltb}
 use Rattle.mwc_sums.proofs.Imports.{take, sym, ap, true_from_ne_false, length-filter_both, AllPass-from_list_all, list_all-from_AllPass}
-use Rattle.mwc_sums.proofs.Imports.{All-filter, refl, arith, inl, inr, All, ltb-true, both_ways}
+use Rattle.mwc_sums.proofs.Imports.{All-filter, refl, arith, inl, inr, All, ltb-true, both_ways, side}
 use Rattle.std.proofs.lemmas.List.Elements.{All-take}
-use Rattle.mwc_sums.specs.Inner.Rules.{AreOfChambers, beside_of, part_of, side}
-use Rattle.mwc_sums.specs.Statute.{counted, left}
+use Rattle.mwc_sums.specs.{Inner.Rules.AreOfChambers, Inner.Rules.beside_of, Inner.Rules.part_of, Statute.counted, Statute.left}
 use Rattle.mwc_sums.proofs.Counting.{filter-within, All-passing, any-at, any-of, missing}
 use Rattle.mwc_sums.proofs.VetoRules.{good-met, good-some, alike-sum}
 
@@ -131,8 +130,7 @@ module _ (n : ℕ) (rs : List RuleView) (fair : All (IsFair n) rs) where
     unfolding side
     chambers-within each = all-passing (λ r. are_of_one_chamber n (chamber_of n (filter q rs) r) ≡ true) q rs (λ j lj is.
         ap (are_of_one_chamber n) (filter-within q (share n (rule j)) rs
-        (All-from_get_or (λ y. share n (rule j) y ≡ true → q y ≡ true) rs none (λ k lk they. closed j k lj lk is they)))
-        ∙ each j lj is)
+        (All-from_get_or (λ y. share n (rule j) y ≡ true → q y ≡ true) rs none (λ k lk they. closed j k lj lk is they))) ∙ each j lj is)
 
     -- a member has weight in them, or in the others
     parts-apart : (i : ℕ) → i < n → HasNoWeight (filter q rs) i ⊎ HasNoWeight (filter (λ x. not (q x)) rs) i
@@ -154,8 +152,7 @@ module _ (n : ℕ) (rs : List RuleView) (fair : All (IsFair n) rs) where
     }
 
 -- ---- the rules that share a member with one, and the others
-pub beside-chamber : (n : ℕ) (rs : List RuleView) (k : ℕ) → AreOfChambers n rs → k < length rs
-    → are_of_one_chamber n (beside_of true n rs k) ≡ true
+pub beside-chamber : (n : ℕ) (rs : List RuleView) (k : ℕ) → AreOfChambers n rs → k < length rs → are_of_one_chamber n (beside_of true n rs k) ≡ true
 unfolding side
 beside-chamber n rs k all lt = all k (record { quota = 0; weights = [] }) lt
 

@@ -5,10 +5,9 @@ use Rattle.mwc_sums.proofs.Imports.{IsFair, take, statute, sum-zero, AreRulesOf,
 use Rattle.mwc_sums.proofs.Imports.{nat_tests, weighs, met, rules_beside, can_veto, ◌^◌, map, filter, ap, refl, arith, inl, inr, All, sum}
 use Rattle.mwc_sums.proofs.Imports.{leb, ltb, List, [], ◌∷◌, length, sum-filter, has, weight, length-range_with_len, places-at, All-head}
 use Rattle.mwc_sums.proofs.Imports.{All-tail, sum_by-range-more, RuleView, sum-plus, get_or, wins, Votes, IsVotes, rule_at, ltb-true}
-use Rattle.mwc_sums.proofs.Imports.{length-map, filter-append}
+use Rattle.mwc_sums.proofs.Imports.{length-map, filter-append, common_steps}
 use Rattle.std.proofs.lemmas.List.{Folds.list_all_at, Folds.list_any_none, FromFn.fill_by_all, FromFn.get_or-map-range_with_len}
 use Rattle.std.proofs.lemmas.List.{Elements.All-cons, Elements.All-map, Sums.sum-map, Sums.get_or-le-sum_by}
-use Rattle.std.proofs.lemmas.Grind.{common_steps}
 use Rattle.mwc_sums.specs.Vetoers.{number_of, rest_of, rule_for, IsVetoer}
 use Rattle.std.proofs.Common.{fold, None, Ok, Err}
 use Rattle.mwc_sums.proofs.Counting.{missing, All-passing}
@@ -103,8 +102,7 @@ vetoers-both n rs f full =
     (elim (missing (can_veto rs) f n) [
       | inl (i, lt, vetoes, out) ↦ grind (arith, nat_tests, vetoed-lost n rs f i full lt vetoes out, rule-lost n (can_veto rs) f i lt vetoes out)
       | inr all ↦ grind (arith, nat_tests, rests-met n (can_veto rs) f all rs, rule-met n (can_veto rs) f all)
-    ])
-    ∙ asking-met n (rule_for n (can_veto rs) ∷ map (rest_of n (can_veto rs)) rs) f
+    ]) ∙ asking-met n (rule_for n (can_veto rs) ∷ map (rest_of n (can_veto rs)) rs) f
 
 -- a member without whom some rule can not be met is in each winning coalition
 pub vetoer-in : (v : Votes) (p c : ℕ) → IsVotes v → p < v.members → IsVetoer v p → c < 2 ^ v.members → wins v.rules c ≡ true

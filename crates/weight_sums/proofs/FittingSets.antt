@@ -30,8 +30,7 @@ here-few sets t s h half =
 
 pub fits-few : (need k s : ℕ) (sets : List Set) → IsHalf sets → sum_by (fits need k s) sets ≤ 2 ^ 20
 fits-few need k s sets half =
-    let most = sum_by-le (fits need k s) 1 sets (λ i d lt. cond-most _ _ 1 (cond-most _ 1 1 (omega arith))) in
-    omega (arith, most, half.long)
+    let most = sum_by-le (fits need k s) 1 sets (λ i d lt. cond-most _ _ 1 (cond-most _ 1 1 (omega arith))) in omega (arith, most, half.long)
 
 -- where the last that is outside does not meet the need, all that meet it are counted
 pub all-entered : (need : ℕ) (sets : List Set) (t : Fitting) (d : Set) → AreEntered sets t → Meet need t.outside sets → IsHalf sets

@@ -51,8 +51,7 @@ module _ {q digits : ℕ} {xs ys : List Set} {n : ℕ} {lows highs : List (List 
         high_is = of-more (high_of digits) (met q ys) xs n high d highs more_highs row lt h.high_is high_key in_high.row gives;
         entered = entered;
         meet = λ k m e from within next below. (
-            let up = first.ascend n m e (omega (arith, next)) below in
-            let b = ap (λ (y : Set). y.weight) (get_or_default xs n d e lt) in
+            let up = first.ascend n m e (omega (arith, next)) below in let b = ap (λ (y : Set). y.weight) (get_or_default xs n d e lt) in
             omega (arith, meet k e from within, b, is, up));
       }
 

@@ -33,13 +33,11 @@ module _ {w heads left : ℕ} {before done : List ℕ} {row others : List Open}
       omega (arith, few, room 0 (omega arith), all, mul-le-mul_left (prefixes others) some, double-times (prefixes row) left, part)
 
   pub goes-on : {next : List Open} (rest k : ℕ) → AreMerged (take k row) others next
-      → ((g : ℕ → ℕ → ℕ) → ((r a : ℕ) → rest < r → g r a ≡ 0) → weigh g (take k row) ≡ weigh g row)
-      → GoesOn w rest left heads before done row next
+      → ((g : ℕ → ℕ → ℕ) → ((r a : ℕ) → rest < r → g r a ≡ 0) → weigh g (take k row) ≡ weigh g row) → GoesOn w rest left heads before done row next
   unfolding endings
   goes-on {next = next} rest k merged same = record {
     counted = λ ws s fits long small. (
-        let g : ℕ → ℕ → ℕ = endings ws heads s in
-        let kept = same g (λ r x more. endings-none ws heads s r x (omega (arith, fits, more))) in
+        let g : ℕ → ℕ → ℕ = endings ws heads s in let kept = same g (λ r x more. endings-none ws heads s r x (omega (arith, fits, more))) in
         let plus = weigh-plus (taken w (fill heads s (length ws)) g) g row in
         omega (arith, taken-are.counted g s small, merged.all g, kept, plus, ap (λ (m : ℕ). weigh (taken w (fill heads s m) g) row) long));
     few = λ s small. (
