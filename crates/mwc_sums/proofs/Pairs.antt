@@ -23,8 +23,7 @@ pub pairs-of_size : (m n p q : ℕ → Bool) (k l : ℕ → ℕ) (xs ys : List �
     → sum_by (λ x. sum_by (λ y. one_if ((m x && n y) && ((p x && q y) && (k x + l y == s)))) ys) xs
     ≡ paired (λ j. length (filter (λ x. p x && (k x == j)) (filter m xs))) (λ j. length (filter (λ y. q y && (l y == j)) (filter n ys))) s
 pairs-of_size m n p q k l xs ys s =
-    let others : ℕ → ℕ = λ j. length (filter (λ y. q y && (l y == j)) (filter n ys)) in
-    let passes : ℕ → Bool = λ x. m x && (p x && leb (k x) s) in
+    let others : ℕ → ℕ = λ j. length (filter (λ y. q y && (l y == j)) (filter n ys)) in let passes : ℕ → Bool = λ x. m x && (p x && leb (k x) s) in
     (λ i. sum_by (λ x. row n q l (m x) (p x) (k x) s ys i) xs) ∙ sym (sum-filter (λ x. others (s - k x)) passes xs)
     ∙ sym (sum-by_size (λ j. others (s - j)) k passes 0 (s + 1) xs (λ x in'. grind (arith, nat_tests)))
     ∙ sum-range (λ j. length (filter (λ x. passes x && (k x == j)) xs) * others (s - j))

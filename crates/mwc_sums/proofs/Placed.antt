@@ -21,8 +21,7 @@ weight-seen n m ranks is r ws c long at =
 pub ranked-at : (ranks : List ℕ) (r : RuleView) (p : ℕ) → p < length ranks
     → get_or (rule_by_rank ranks r).weights p 0 ≡ get_or r.weights (member_at ranks p) 0
 ranked-at ranks r p lt =
-    let long = length-range_with_len 0 (length ranks) in
-    let at = get_or-map (member_at ranks) (places ranks) p 0 0 (omega (arith, long, lt)) in
+    let long = length-range_with_len 0 (length ranks) in let at = get_or-map (member_at ranks) (places ranks) p 0 0 (omega (arith, long, lt)) in
     let rule = get_or-map (λ m. get_or r.weights m 0) (members_by_rank ranks) p 0 0 in
     grind (arith, at, rule, length-map (places ranks) (member_at ranks), places-at (length ranks) p 0 lt)
 

@@ -75,8 +75,7 @@ module _ {n m : ℕ} {ranks : List ℕ} (is : IsSeating n m ranks) where
   pub seen-at : (c p : ℕ) → p < m → seen m ranks c (member_at ranks p) ≡ has m p c
   seen-at c p lt = let back = is.are.place_back p (let few = is.few in omega (arith, lt, few)) in grind (arith, nat_tests)
 
-  pub mask-seen : (f : ℕ → Bool) → ((i : ℕ) → i < n → f i ≡ true → get_or ranks i 0 < m) → (i : ℕ) → i < n
-      → seen m ranks (as_mask m ranks f) i ≡ f i
+  pub mask-seen : (f : ℕ → Bool) → ((i : ℕ) → i < n → f i ≡ true → get_or ranks i 0 < m) → (i : ℕ) → i < n → seen m ranks (as_mask m ranks f) i ≡ f i
   unfolding as_mask
   mask-seen f within i li =
       grind (arith, nat_tests, within i li, mask-has (λ p. f (member_at ranks p)) m (get_or ranks i 0), ap f (is.are.member_back i li))

@@ -20,8 +20,7 @@ share-self : (n : ℕ) (r : RuleView) → IsFair n r → share n r r ≡ true
 share-self n r fair = elim (missing (λ i. ltb 0 (get_or r.weights i 0)) (λ i. false) n) [
   | inl found ↦ let some = ltb-true 0 _ found.2 in share-at n found.0 r r found.1 some some
   | inr none ↦ absurd (
-      let total = alike-sum r.weights 0 (λ p lt. grind (arith, nat_tests)) in
-      grind (arith, good-met r fair.quota, good-some r fair.quota, total))
+      let total = alike-sum r.weights 0 (λ p lt. grind (arith, nat_tests)) in grind (arith, good-met r fair.quota, good-some r fair.quota, total))
 ]
 
 -- ---- lists

@@ -77,8 +77,7 @@ has-last n p r m small (inr past) = grind (arith, bit_at_above)
 
 pub without-low : (q s p n : ℕ) (all others : List Set) (g : Groups) → AreGroups q all others g → p < g.digits → s ≤ 40
     → (AreOfKeys (low_of g.digits) (met q others) all g.low.rows.items → All (λ x. low_of g.digits x < length g.low.rows.items) all
-    → n ≡ sum_by (λ x. cond (has p (low_of g.digits x)) 0 (met q others s x)) all)
-    → n ≡ sum_by (λ x. cond (has p x.members) 0 (met q others s x)) all
+    → n ≡ sum_by (λ x. cond (has p (low_of g.digits x)) 0 (met q others s x)) all) → n ≡ sum_by (λ x. cond (has p x.members) 0 (met q others s x)) all
 without-low q s p n all others g are lt small gives = grind (arith, mod-lt, pow_pos, sum-same, has-low)
 
 pub without-high : (q s p r n : ℕ) (all others : List Set) (g : Groups) → AreGroups q all others g → g.digits ≤ p

@@ -57,5 +57,3 @@ pub come-none : (ws : List ℕ) (heads s : ℕ) (done : List ℕ) (row : List Op
 unfolding endings
 come-none [] heads s done row none = omega (arith, weigh-times 0 row)
 come-none (w ∷ ws) heads s done row none = absurd (omega arith)
-
-pub ruleset going = (prefixes-more, come-none)

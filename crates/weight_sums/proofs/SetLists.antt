@@ -92,8 +92,7 @@ module _ {short : Bool} {ws : List ℕ} {xs : List Set} (are : AreSets short ws 
   -- the sets of at most 20 members are those of a half
   pub half-is : length ws ≤ 20 → IsHalf xs
   half-is few =
-      let up : 2 ^ length ws ≤ 2 ^ 20 = pow_mono few in
-      record {
+      let up : 2 ^ length ws ≤ 2 ^ 20 = pow_mono few in record {
         ascend = are.ascend;
         long = omega (arith, sum-ones xs, are.same (λ x. 1), over-ones short ws, up);
         sizes = λ i d lt. (let h = within i d lt in omega (arith, h.size_in, few));

@@ -110,7 +110,6 @@ impl Rows {
     }
 
     /// Decides these members, which weigh `rest` together; false where there is no room.
-    #[tactic(auto, using(std::proofs::lemmas::Grind::common_steps, crate::proofs::Passing::going))]
     pub(crate) fn finish(
         &mut self,
         weights: &[u64],

@@ -17,8 +17,7 @@ met-at c s small =
     let won = c.without-won.ensures q s false fr bk are.first are.second are.won are.first_are are.second_are long small in
     let shortened = c.without-shortened.ensures q s true fr bk are.first are.second_shortened are.shortened are.first_are
     are.second_shortened_are long small in
-    let own = c.without-own.ensures q are.first_shortened (nobody ∷ []) s are.own small in
-    record {
+    let own = c.without-own.ensures q are.first_shortened (nobody ∷ []) s are.own small in record {
       won_is = omega (arith, rw whole at won);
       shortened_is = omega (arith, rw whole at shortened, own, own-met fr are.first_shortened are.first_shortened_are q s c.args.place);
     }
