@@ -66,8 +66,7 @@ pub last-in : (n c : ℕ) → c < 2 ^ n → 0 < c → (last n c < n) × (has n (
 unfolding last
 last-in zero c lt pos = absurd (omega arith)
 last-in (suc n) c lt pos =
-    let d : ℕ = c - 2 ^ n in
-    let again = last-in n d in
+    let d : ℕ = c - 2 ^ n in let again = last-in n d in
     grind (arith, nat_tests, again, last-in n c, rest-out, first-in n d, rest-in n (last n d) d, double-pow n, cases_lt c (2 ^ n))
 
 pub last-behind : (n p c : ℕ) → c < 2 ^ n → p < n → has n p c ≡ true → p ≤ last n c

@@ -14,8 +14,7 @@ any-at t n i lt passes =
 
 pub any-of : (t : ℕ → Bool) (n : ℕ) → list_any t (range_with_len 0 n) ≡ true → (i : ℕ) × (i < n) × (t i ≡ true)
 any-of t n some =
-    let (k, x, lt, at, passes) = Any-from_list_any t (range_with_len 0 n) some in
-    let long = length-range_with_len 0 n in
+    let (k, x, lt, at, passes) = Any-from_list_any t (range_with_len 0 n) some in let long = length-range_with_len 0 n in
     let here : x ≡ k = sym at ∙ places-at n k x (omega (arith, lt, long)) in (x, omega (arith, here, lt, long), passes)
 
 pub all-at : (t : ℕ → Bool) (n i : ℕ) → i < n → list_all t (range_with_len 0 n) ≡ true → t i ≡ true
@@ -24,8 +23,7 @@ all-at t n i lt all =
     sym (ap t (places-at n i 0 lt)) ∙ AllPass-from_list_all t (range_with_len 0 n) all i 0 (omega (arith, long, lt))
 
 -- either one who passes the first test fails the second, or none does
-pub missing : (veto f : ℕ → Bool) (n : ℕ)
-    → ((i : ℕ) × (i < n) × (veto i ≡ true) × (f i ≡ false)) ⊎ ((i : ℕ) → i < n → veto i ≡ true → f i ≡ true)
+pub missing : (veto f : ℕ → Bool) (n : ℕ) → ((i : ℕ) × (i < n) × (veto i ≡ true) × (f i ≡ false)) ⊎ ((i : ℕ) → i < n → veto i ≡ true → f i ≡ true)
 missing veto f n =
     elim (cases_Bool (list_any (λ i. veto i && not (f i)) (range_with_len 0 n))) [
       | inl some ↦ let (i, lt, passes) = any-of (λ i. veto i && not (f i)) n some in
@@ -53,8 +51,7 @@ filter-map p f [] = refl
 filter-map p f (x ∷ xs) = grind (arith, nat_tests, filter-map p f xs)
 
 -- of what passes one test, what passes another, where this passes the first
-pub filter-within : {X : Type 0} (p q : X → Bool) (xs : List X) → All (λ y. q y ≡ true → p y ≡ true) xs
-    → filter q (filter p xs) ≡ filter q xs
+pub filter-within : {X : Type 0} (p q : X → Bool) (xs : List X) → All (λ y. q y ≡ true → p y ≡ true) xs → filter q (filter p xs) ≡ filter q xs
 filter-within p q xs all = grind (arith, filter-both, filter-same, nat_tests)
 
 -- ---- how many pass a test
@@ -68,8 +65,7 @@ count-never xs = ap (λ (l : List ℕ). length l) (filter-none xs)
 pub filter-first : (q one rest : ℕ → Bool) (n : ℕ) → ((c : ℕ) → c < 2 ^ n → q (2 ^ n + c) ≡ one c) → ((c : ℕ) → c < 2 ^ n → q c ≡ rest c)
     → filter q (down (2 ^ suc n)) ≡ map (λ c. 2 ^ n + c) (filter one (down (2 ^ n))) ++ filter rest (down (2 ^ n))
 filter-first q one rest n within without =
-    let h : ℕ = 2 ^ n in
-    let below = down-below h h (omega arith) in
+    let h : ℕ = 2 ^ n in let below = down-below h h (omega arith) in
     ap (filter q) (ap down (double-pow n) ∙ down-two h h) ∙ filter-append q (map (λ c. h + c) (down h)) (down h)
     ∙ (λ i. (filter-map q (λ c. h + c) (down h) ∙ ap (map (λ c. h + c)) (filter-same (λ c. q (h + c)) one (down h)
     (λ k d lt. within (get_or (down h) k d) (below k d lt)))) i

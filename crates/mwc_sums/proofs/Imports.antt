@@ -9,8 +9,8 @@ pub use Rattle.mwc_sums.specs.{Inner.Seats.IsTallyOfPlace, Inner.Seats.key_at, S
 pub use Rattle.mwc_sums.specs.{Heads.are_of_one_chamber, Inner.Fair.IsFair, Inner.Rules.AreRulesOf, Vetoers.can_veto}
 pub use Rattle.power_index.proofs.Shared.{Minimal.minimal-few, Sums.sum-filter, Sums.sum-range}
 pub use Rattle.power_index.specs.{Counting.contains, Counting.size_of, Tables.IsTallyOf, Tables.no_tally}
+pub use Rattle.std.proofs.Common.{All, Bool, List, [], ap, arith, cond, eqb, eqb-true, false, filter, get_or, inl, inr, le-ltb, leb, length}
 pub use Rattle.std.proofs.Common.{lt-ltb, ltb, ltb-true, map, not, refl, string_bytes, subst, suc, sum, sum_by, sym, take, true, zero, ℕ}
-pub use Rattle.std.proofs.Common.{All, Bool, List, [], ap, arith, cond, eqb-true, false, filter, get_or, inl, inr, le-ltb, leb, length}
 pub use Rattle.std.proofs.Common.{◌&&◌, ◌*◌, ◌++◌, ◌+◌, ◌-◌, ◌<◌, ◌==◌, ◌^◌, ◌||◌, ◌↔◌, ◌∙◌, ◌∷◌, ◌≡◌, ◌≢◌, ◌≤◌, ◌⊎◌}
 pub use Rattle.std.proofs.lemmas.List.{Filters.length-filter_both, FromFn.length-map-range_with_len, FromFn.length-range_with_len}
 pub use Rattle.std.proofs.{Math.Bool.and-true, lemmas.Bool.Decides.nat_tests, lemmas.Grind.common_steps, lemmas.List.length-map}
@@ -19,4 +19,4 @@ pub use Rattle.std.proofs.lemmas.List.Elements.{All-filter, All-from_get_or, All
 pub use Rattle.std.proofs.lemmas.List.Sums.{AllPass-from_list_all, length-filter, list_all-from_AllPass, sum_by-cons}
 pub use Rattle.std.specs.List.{list_all, list_any, range_with_len}
 unfoldable pub use Rattle.council_game.specs.Votes.{down, has, minimal_coalitions, weight, wins, without}
-unfoldable pub use Rattle.mwc_sums.specs.Inner.Pairs.{of_place_size}
+unfoldable pub use Rattle.mwc_sums.specs.Inner.{Pairs.of_place_size, Rules.side}

@@ -1,11 +1,11 @@
 -- As many coalitions pass one test as pass another, and sets that win where they win under two conditions.
 use Rattle.mwc_sums.proofs.Imports.{◌≡◌, ◌∙◌, ◌↔◌, ◌==◌, ◌&&◌, ℕ, zero, suc, ◌^◌, ◌<◌, Bool, true, false, List, length, get_or, filter, sym}
+use Rattle.mwc_sums.proofs.Imports.{nat_tests, not, ◌||◌, true_from_ne_false, ◌+◌, and-true, and_parts, and_from, size, filter-both, eqb}
 use Rattle.mwc_sums.proofs.Imports.{ap, refl, arith, inl, inr, sum_by, both_ways, cases_eq, sum_by-cons, length-filter, down, sum-zero}
-use Rattle.mwc_sums.proofs.Imports.{nat_tests, ◌||◌, true_from_ne_false, ◌+◌, and-true, and_parts, and_from, size, filter-both}
+use Rattle.std.proofs.lemmas.Bool.{false_from_ne_true, or_parts}
 use Rattle.coalitions.proofs.Shared.Lists.{sum-swap}
 use Rattle.mwc_sums.proofs.VetoRules.{sum-parts}
 use Rattle.mwc_sums.proofs.Seating.{one_if, IsLeast, IsSeating, seen, less, LooksAt, as_mask, mask-is, mask-less, mask-seen, seen-size}
-use Rattle.std.proofs.lemmas.Bool.{false_from_ne_true}
 
 -- ---- sums over all coalitions
 pub count-both : (m t : ℕ → Bool) (xs : List ℕ) → length (filter t (filter m xs)) ≡ sum_by (λ c. one_if (m c && t c)) xs
@@ -58,8 +58,7 @@ module _ {p : ℕ → Bool} {q : ℕ → ℕ → Bool} {one two : ℕ → ℕ} {
       sum-one (λ x. sum_by (of t c x) (down b)) (one c) a (are.first c)
       (λ x lx other. sum-none (of t c x) b (λ y ly. of-none t c x y (λ e h. grind (arith, are.whole x y lx ly h))))
       ∙ sum-one (of t c (one c)) (two c) b (are.second c)
-      (λ y ly other. of-none t c (one c) y (λ e h. grind (arith, are.whole (one c) y (are.first c) ly h)))
-      ∙ grind (arith, nat_tests, has)
+      (λ y ly other. of-none t c (one c) y (λ e h. grind (arith, are.whole (one c) y (are.first c) ly h))) ∙ grind (arith, nat_tests, has)
 
   -- where v says whether a pair passes both tests
   pub paired-off : (t : ℕ → Bool) (v : ℕ → ℕ → ℕ) → ((x y : ℕ) → x < a → y < b → one_if (q x y && t (both x y)) ≡ v x y)
@@ -68,8 +67,7 @@ module _ {p : ℕ → Bool} {q : ℕ → ℕ → Bool} {one two : ℕ → ℕ} {
   paired-off t v same =
       count-both p t (down n)
       ∙ sum-down (λ c. one_if (p c && t c)) (λ c. sum_by (λ x. sum_by (of t c x) (down b)) (down a)) n (λ c lc. sym (each t c (p c) refl lc))
-      ∙ sum-swap (λ c x. sum_by (of t c x) (down b)) (down n) (down a)
-      ∙ sum-down _ _ a (λ x lx. sum-swap (λ c y. of t c x y) (down n) (down b)
+      ∙ sum-swap (λ c x. sum_by (of t c x) (down b)) (down n) (down a) ∙ sum-down _ _ a (λ x lx. sum-swap (λ c y. of t c x y) (down n) (down b)
       ∙ sum-down _ _ b (λ y ly. sum-one (λ c. of t c x y) (both x y) n (are.below x y) (λ c lc other. of-none t c x y (λ e h. other e))
       ∙ grind (arith, nat_tests, same x y lx ly)))
 
@@ -99,46 +97,71 @@ pub least-seen : {n : ℕ} (side : ℕ → Bool) {won : (ℕ → Bool) → Bool}
     → (i : ℕ) → i < n → f i ≡ true → side i ≡ true
 least-seen side {won = won} {f = f} sees least i lt inside = grind (arith, nat_tests, true_from_ne_false, both_ways, less)
 
+-- ---- of tests
+-- a set without one of the other side keeps its own
+kept : (f side : ℕ → Bool) (i j : ℕ) → side i ≡ false → side j ≡ true → less f i j ≡ f j
+kept f side i j out in' = grind (arith, nat_tests)
+
+-- what is on a side each is, together, of each side what it was
+sides : (x y own other : Bool) → (x ≡ true → own ≡ true) → (y ≡ true → other ≡ true) → (own ≡ true → other ≡ false)
+    → (((x || y) && own) ≡ x) × (((x || y) && other) ≡ y) × (x ≡ true → y ≡ false)
+sides x y own other of_x of_y apart = (grind (arith, nat_tests), grind (arith, nat_tests), λ h. grind (arith, nat_tests))
+
+whole : (c own other : Bool) → (c ≡ true → (own || other) ≡ true) → c ≡ ((c && own) || (c && other))
+whole c own other on = grind (arith, nat_tests)
+
+lost : (x y a b : Bool) → (x || y) ≡ true → (x ≡ true → a ≡ false) → (y ≡ true → b ≡ false) → (a && b) ≡ false
+lost x y a b some lost_a lost_b = grind (arith, nat_tests)
+
+one-each : (x y : Bool) → (x ≡ true → y ≡ false) → one_if (x || y) ≡ one_if x + one_if y
+one-each x y apart = grind (arith, nat_tests)
+
 module _ {n : ℕ} {own other : ℕ → Bool} {won_g won_a won_b : (ℕ → Bool) → Bool} (joint : IsJoint n own other won_g won_a won_b) where
   -- a least set is, of each side, a least set
   pub least-half : {c : ℕ → Bool} (x : ℕ → Bool) → IsLeast n won_g c → ((i : ℕ) → i < n → x i ≡ (c i && own i)) → IsLeast n won_a x
-  least-half {c = c} x least is = record {
-    wins = grind (arith, nat_tests, joint.sees_own x c, is, joint.both c, least.wins);
-    needs = λ i lt inside.
-        (let own-same = joint.sees_own (less x i) (less c i) in
-        let unseen = joint.sees_other (less c i) c in
-        grind (arith, nat_tests, own-same, unseen, is, joint.apart, joint.both c, joint.both (less c i), least.wins, least.needs i lt));
-  }
+  least-half {c = c} x least is =
+      let (in_a, in_b) = and_parts (won_a c) (won_b c) (sym (joint.both c) ∙ least.wins) in
+      let mine = λ (i : ℕ) (lt : i < n) (h : own i ≡ true). is i lt ∙ ap (λ (b : Bool). c i && b) h ∙ and-true (c i) in record {
+        wins = joint.sees_own x c mine ∙ in_a;
+        needs = λ i lt inside.
+            (let (in_c, in_own) = and_parts (c i) (own i) (sym (is i lt) ∙ inside) in
+            let unseen = joint.sees_other (less c i) c (λ j lj h. kept c other i j (joint.apart i lt in_own) h) in
+            joint.sees_own (less x i) (less c i) (λ j lj h. ap (λ (b : Bool). b && not (eqb j i)) (mine j lj h))
+            ∙ sym (and-true (won_a (less c i))) ∙ ap (λ (b : Bool). won_a (less c i) && b) (sym (unseen ∙ in_b))
+            ∙ sym (joint.both (less c i)) ∙ least.needs i lt in_c);
+      }
 
   -- each of its members is on a side
   pub least-sides : {c : ℕ → Bool} → IsLeast n won_g c → (i : ℕ) → i < n → c i ≡ true → (own i || other i) ≡ true
   least-sides {c = c} least i lt inside =
-      let own-same = joint.sees_own (less c i) c in
-      let other-same = joint.sees_other (less c i) c in
-      grind (arith, nat_tests, own-same, other-same, joint.both c, joint.both (less c i), least.wins, least.needs i lt)
+      true_from_ne_false (own i || other i) (λ none.
+      let (not_own, not_other) = or_parts (own i) (other i) none in
+      let own-same = joint.sees_own (less c i) c (λ j lj h. kept c own i j not_own h) in
+      let other-same = joint.sees_other (less c i) c (λ j lj h. kept c other i j not_other h) in
+      let same = joint.both (less c i) ∙ (λ k. own-same k && other-same k) ∙ sym (joint.both c) in
+      both_ways (won_g c) (sym same ∙ least.needs i lt inside) least.wins)
 
   module _ {x y : ℕ → Bool} (least_x : IsLeast n won_a x) (least_y : IsLeast n won_b y) where
-    -- each is on its own side
-    on-sides : (i : ℕ) → i < n → (x i ≡ true → own i ≡ true) × (y i ≡ true → other i ≡ true) × (own i ≡ true → other i ≡ false)
-    on-sides i lt = (least-seen own joint.sees_own least_x i lt, least-seen other joint.sees_other least_y i lt, joint.apart i lt)
-
-    -- members of the one set are not of the other
-    pub least-apart : (i : ℕ) → i < n → x i ≡ true → y i ≡ false
-    least-apart i lt inside = grind (arith, nat_tests, on-sides i lt)
-
-    -- of the two together, those of one side are the one set
-    pub least-own : (i : ℕ) → i < n → ((x i || y i) && own i) ≡ x i
-    least-own i lt = grind (arith, nat_tests, on-sides i lt)
+    -- of the two together, those of each side are the one set and the other, and these share no member
+    pub least-parts : (i : ℕ) → i < n → (((x i || y i) && own i) ≡ x i) × (((x i || y i) && other i) ≡ y i) × (x i ≡ true → y i ≡ false)
+    least-parts i lt =
+        let of_x = least-seen own joint.sees_own least_x i lt in
+        sides (x i) (y i) (own i) (other i) of_x (least-seen other joint.sees_other least_y i lt) (joint.apart i lt)
 
     -- two least sets together are a least set
     pub least-union : (c : ℕ → Bool) → ((i : ℕ) → i < n → c i ≡ (x i || y i)) → IsLeast n won_g c
-    least-union c is = record {
-      wins = grind (arith, nat_tests, is, on-sides, joint.sees_own c x, joint.sees_other c y, joint.both c, least_x.wins, least_y.wins);
-      needs = λ i lt inside. (
-          let less_x = joint.sees_own (less c i) (less x i) (λ j lj seen. grind (arith, nat_tests, is j lj, on-sides j lj)) in
-          let less_y = joint.sees_other (less c i) (less y i) (λ j lj seen. grind (arith, nat_tests, is j lj, on-sides j lj)) in
-          grind (arith, nat_tests, less_x, less_y, is i lt, joint.both (less c i), least_x.needs i lt, least_y.needs i lt));
-    }
+    least-union c is =
+        let on = λ (i : ℕ) (lt : i < n) (side : Bool) (h : side ≡ true).
+        is i lt ∙ sym (and-true (x i || y i)) ∙ ap (λ (b : Bool). (x i || y i) && b) (sym h) in
+        let of_x = λ (i : ℕ) (lt : i < n) (h : own i ≡ true). on i lt (own i) h ∙ (least-parts i lt).0 in
+        let of_y = λ (i : ℕ) (lt : i < n) (h : other i ≡ true). (let (_, in_y, _) = least-parts i lt in on i lt (other i) h ∙ in_y) in record {
+          wins = joint.both c ∙ and_from _ _ (joint.sees_own c x of_x ∙ least_x.wins) (joint.sees_other c y of_y ∙ least_y.wins);
+          needs = λ i lt inside. (
+              let less_x = joint.sees_own (less c i) (less x i) (λ j lj h. ap (λ (b : Bool). b && not (eqb j i)) (of_x j lj h)) in
+              let less_y = joint.sees_other (less c i) (less y i) (λ j lj h. ap (λ (b : Bool). b && not (eqb j i)) (of_y j lj h)) in
+              joint.both (less c i) ∙ lost (x i) (y i) (won_a (less c i)) (won_b (less c i)) (sym (is i lt) ∙ inside)
+              (λ h. less_x ∙ least_x.needs i lt h) (λ h. less_y ∙ least_y.needs i lt h));
+        }
 
 -- ---- coalitions that hold the least sets
 -- of a least set those of one side are a coalition
@@ -147,8 +170,7 @@ half-seen : {n a : ℕ} {own other : ℕ → Bool} {won_g won_a won_b : (ℕ →
     → ((i : ℕ) → i < n → seen a ra (as_mask a ra (λ i. c i && own i)) i ≡ (c i && own i))
     × (min_a (as_mask a ra (λ i. c i && own i)) ≡ true)
 half-seen {a = a} {own = own} {ra = ra} joint ha c least =
-    let f : ℕ → Bool = λ i. c i && own i in
-    let same = mask-seen ha.seats f (ha.inside f (least-half joint f least (λ i lt. refl))) in
+    let f : ℕ → Bool = λ i. c i && own i in let same = mask-seen ha.seats f (ha.inside f (least-half joint f least (λ i lt. refl))) in
     (same, (ha.least _ (mask-less a ra f)).1 (least-half joint _ least same))
 
 module _ {n m a b : ℕ} {own other : ℕ → Bool} {won_g won_a won_b : (ℕ → Bool) → Bool} {rg ra rb : List ℕ} {min_g min_a min_b : ℕ → Bool}
@@ -169,13 +191,13 @@ module _ {n m a b : ℕ} {own other : ℕ → Bool} {won_g won_a won_b : (ℕ �
           mask-seen hg.seats f (hg.inside f (least-union joint least-both.0 least-both.1 f (λ i lt. refl)))
 
       pub apart : (i : ℕ) → i < n → seen a ra x i ≡ true → seen b rb y i ≡ false
-      apart = least-apart joint least-both.0 least-both.1
+      apart i lt = let (_, _, apart) = least-parts joint least-both.0 least-both.1 i lt in apart
 
       pub size-union : size m (union x y) ≡ size a x + size b y
       size-union =
           sym (seen-size hg.seats (union x y))
           ∙ sum-parts (λ i. one_if (seen m rg (union x y) i)) (λ i. one_if (seen a ra x i)) (λ i. one_if (seen b rb y i)) n
-          (λ i lt. grind (arith, nat_tests, joined i lt, apart i lt))
+          (λ i lt. ap one_if (joined i lt) ∙ one-each (seen a ra x i) (seen b rb y i) (apart i lt))
           ∙ (λ k. seen-size ha.seats x k + seen-size hb.seats y k)
 
     pairs : ArePairs min_g (λ x y. min_a x && min_b y) (λ c. as_mask a ra (λ i. seen m rg c i && own i))
@@ -190,20 +212,21 @@ module _ {n m a b : ℕ} {own other : ℕ → Bool} {won_g won_a won_b : (ℕ �
           let (in_x, min_x) = half-seen joint ha (seen m rg c) least in
           let (in_y, min_y) = half-seen (flipped-joint joint) hb (seen m rg c) least in (
             and_from _ _ min_x min_y,
-            sym (mask-is hg.seats _ c lc (λ i lt. grind (arith, nat_tests, in_x i lt, in_y i lt, least-sides joint least i lt))),
+            sym (mask-is hg.seats _ c lc (λ i lt. whole (seen m rg c i) (own i) (other i) (least-sides joint least i lt)
+                ∙ (λ k. sym (in_x i lt) k || sym (in_y i lt) k))),
           ));
       whole = λ x y lx ly min.
           (let (least_x, least_y) = least-both x y lx ly min in
+          let parts = least-parts joint least_x least_y in
           let in_g = joined x y lx ly min in (
             (hg.least _ (mask-less m rg _)).1 (least-union joint least_x least_y _ in_g),
-            sym (mask-is ha.seats _ x lx (λ i lt. grind (arith, nat_tests, in_g i lt, least-own joint least_x least_y i lt))),
-            sym (mask-is hb.seats _ y ly (λ i lt. grind (arith, nat_tests, in_g i lt, least-own (flipped-joint joint) least_y least_x i lt))),
+            sym (mask-is ha.seats _ x lx (λ i lt. sym (ap (λ (b : Bool). b && own i) (in_g i lt) ∙ (parts i lt).0))),
+            sym (mask-is hb.seats _ y ly (λ i lt. (let (_, in_y, _) = parts i lt in sym (ap (λ (b : Bool). b && other i) (in_g i lt) ∙ in_y)))),
           ));
     }
 
     -- how many that hold a least set pass a test, by the pairs that they are
-    pub counted : (t : ℕ → Bool) (v : ℕ → ℕ → ℕ)
-        → ((x y : ℕ) → x < 2 ^ a → y < 2 ^ b → one_if ((min_a x && min_b y) && t (union x y)) ≡ v x y)
+    pub counted : (t : ℕ → Bool) (v : ℕ → ℕ → ℕ) → ((x y : ℕ) → x < 2 ^ a → y < 2 ^ b → one_if ((min_a x && min_b y) && t (union x y)) ≡ v x y)
         → length (filter t (filter min_g (down (2 ^ m)))) ≡ sum_by (λ x. sum_by (v x) (down (2 ^ b))) (down (2 ^ a))
     counted = paired-off pairs
 
@@ -232,8 +255,7 @@ alike-count {n = n} {a = a} {b = b} {won = won} {ra = ra} {rb = rb} {own = own} 
       inside = λ f least i lt in'. absurd (both_ways true (least.needs i lt in') refl);
     }
 
-    each : (x y : ℕ) → x < 2 ^ b → y < 2 ^ 0 → (m : Bool) → other x ≡ m
-        → one_if ((m && true) && t (union joint ha hb none x y)) ≡ one_if (m && u x)
+    each : (x y : ℕ) → x < 2 ^ b → y < 2 ^ 0 → (m : Bool) → other x ≡ m → one_if ((m && true) && t (union joint ha hb none x y)) ≡ one_if (m && u x)
     each x y lx ly false is = refl
     each x y lx ly true is = ap (λ (b : Bool). one_if b) (same (union joint ha hb none x y) x (λ i lt.
         joined joint ha hb none x y lx ly (grind (arith, nat_tests)) i lt ∙ grind (arith, nat_tests)))

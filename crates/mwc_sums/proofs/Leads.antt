@@ -54,12 +54,10 @@ two-wins n heads x [] two asks full = absurd (omega (arith, two))
 two-wins n heads x (r ∷ []) two asks full = absurd (omega (arith, two))
 two-wins n heads x (r ∷ s ∷ t ∷ rs) two asks full = absurd (omega (arith, two))
 two-wins n heads x (r ∷ s ∷ []) two asks full =
-    let weighs : weight s.weights x ≡ size n x * asks.each = grind (arith, alike-weight) in
-    let enough = asks.enough (size n x) in
+    let weighs : weight s.weights x ≡ size n x * asks.each = grind (arith, alike-weight) in let enough = asks.enough (size n x) in
     grind (arith, nat_tests)
 
-first-wins : (rs : List RuleView) (x : ℕ) → 1 ≤ length rs
-    → (wins (take 1 rs) x ≡ true) ↔ ((rule_at rs 0).quota ≤ weight (rule_at rs 0).weights x)
+first-wins : (rs : List RuleView) (x : ℕ) → 1 ≤ length rs → (wins (take 1 rs) x ≡ true) ↔ ((rule_at rs 0).quota ≤ weight (rule_at rs 0).weights x)
 first-wins [] x some = absurd (omega (arith, some))
 first-wins (r ∷ rs) x some = wins-one r x
 
@@ -129,6 +127,11 @@ filled ws p heads s a =
     as-fill : (m : ℕ) → one_of_size s (a + (heads - a)) * choose m (heads - a) ≡ fill heads s m a
     as-fill m = grind (arith, nat_tests, choose-none)
 
+-- a value that depends on a test
+by-test : {X : Type 0} (f : Bool → X) (b : Bool) → f b ≡ cond b (f true) (f false)
+by-test f true = refl
+by-test f false = refl
+
 leads-lacking : (ws : List ℕ) (p heads s r a : ℕ)
     → count (λ c. leads ws heads r a c && (lacks (length ws) p c && (a + size (length ws) c == s))) (down (2 ^ length ws))
     ≡ endings (left_out p ws) heads s r a
@@ -143,24 +146,24 @@ leads-lacking (w ∷ ws) zero heads s r a =
     omega (arith, parts, count-never (down (2 ^ n)), leads-lacking ws n heads s r a, all)
 leads-lacking (w ∷ ws) (suc p) heads s r a =
     let n : ℕ = length ws in
-    let behind : ℕ → Bool = λ c. cond (leb r w) (size n c == heads - (a + 1)) (leads ws heads (r - w) (a + 1) c) in
-    let parts = count-first (λ c. leads (w ∷ ws) heads r a c && (lacks (suc n) (suc p) c && (a + size (suc n) c == s)))
-    (λ c. behind c && (lacks n p c && (a + 1 + size n c == s))) (λ c. leads ws heads r a c && (lacks n p c && (a + size n c == s))) n
-    (λ c lt. grind (arith, nat_tests, leads-in, rest-in, size-with)) (λ c lt. grind (arith, nat_tests, leads-out, rest-out, size-left)) in
-    grind (arith, nat_tests, parts, filled ws p heads s (a + 1), leads-lacking ws p heads s (r - w) (a + 1), leads-lacking ws p heads s r a)
+    let behind : Bool → ℕ → Bool = λ b c.
+    cond b (size n c == heads - (a + 1)) (leads ws heads (r - w) (a + 1) c) && (lacks n p c && (a + 1 + size n c == s)) in
+    count-first (λ c. leads (w ∷ ws) heads r a c && (lacks (suc n) (suc p) c && (a + size (suc n) c == s))) (behind (leb r w))
+    (λ c. leads ws heads r a c && (lacks n p c && (a + size n c == s))) n
+    (λ c lt. grind (arith, nat_tests, leads-in, rest-in, size-with)) (λ c lt. grind (arith, nat_tests, leads-out, rest-out, size-left))
+    ∙ (λ i. (by-test (λ b. count (behind b) (down (2 ^ n))) (leb r w)
+    ∙ (λ j. cond (leb r w) (filled ws p heads s (a + 1) j) (leads-lacking ws p heads s (r - w) (a + 1) j))) i + leads-lacking ws p heads s r a i)
 
 pub leads-all : (ws : List ℕ) (heads s r a : ℕ)
     → count (λ c. leads ws heads r a c && (a + size (length ws) c == s)) (down (2 ^ length ws)) ≡ endings ws heads s r a
 leads-all ws heads s r a =
-    let n : ℕ = length ws in
-    let lacks-none : (c : ℕ) → true ≡ lacks n n c = λ c. grind (arith, nat_tests) in
+    let n : ℕ = length ws in let lacks-none : (c : ℕ) → true ≡ lacks n n c = λ c. grind (arith, nat_tests) in
     (λ i. count (λ c. leads ws heads r a c && (lacks-none c i && (a + size n c == s))) (down (2 ^ n)))
     ∙ leads-lacking ws n heads s r a ∙ ap (λ (l : List ℕ). endings l heads s r a) (left_out-past n ws (omega arith))
 
 -- those with a place are those that the members do not lead to without it
 pub leads-parted : (ws : List ℕ) (p heads s r a : ℕ) → p < length ws → endings (left_out p ws) heads s r a
-    + count (λ c. leads ws heads r a c && (has (length ws) p c && (a + size (length ws) c == s))) (down (2 ^ length ws))
-    ≡ endings ws heads s r a
+    + count (λ c. leads ws heads r a c && (has (length ws) p c && (a + size (length ws) c == s))) (down (2 ^ length ws)) ≡ endings ws heads s r a
 leads-parted ws p heads s r a lt =
     let n : ℕ = length ws in
     let parts = count-parted (leads ws heads r a) (has n p) (lacks n p) (λ c. a + size n c == s) (down (2 ^ n)) (λ c. grind (arith, nat_tests, lt)) in
@@ -176,19 +179,16 @@ by-last [] heads r a c pos lt = grind (arith, nat_tests, weight-nil)
 by-last (w ∷ ws) heads r a c pos lt = elim (cases_lt c (2 ^ length ws)) [
   | inl low ↦ let again = by-last ws heads r a c pos low in grind (arith, nat_tests, size-left, weight-left)
   | inr high ↦
-      let n : ℕ = length ws in
-      let d : ℕ = c - 2 ^ n in
+      let n : ℕ = length ws in let d : ℕ = c - 2 ^ n in
       let low : d < 2 ^ n = (let e = double-pow n in omega (arith, e)) in
-      let is : 2 ^ n + d ≡ c = omega arith in
-      let again = by-last ws heads (r - w) (a + 1) d in
+      let is : 2 ^ n + d ≡ c = omega arith in let again = by-last ws heads (r - w) (a + 1) d in
       grind (arith, nat_tests, again, is, low, none-or-some ws d low, size-with n d low, weight-with w ws d low)
 ]
 
 pub leads-are : (ws : List ℕ) (heads r c : ℕ) → Falls ws → 0 < r → c < 2 ^ length ws
     → (leads ws heads r 0 c ≡ true) ↔ IsMin (length ws) (λ x. leb r (weight ws x) && leb heads (size (length ws) x)) c
 leads-are ws heads r c falls pos lt =
-    let is = by-last ws heads r 0 c pos lt in
-    let parts = by-heads (length ws) (λ x. leb r (weight ws x)) heads c in
+    let is = by-last ws heads r 0 c pos lt in let parts = by-heads (length ws) (λ x. leb r (weight ws x)) heads c in
     let least = least-weights ws r c in grind (arith, nat_tests, none-or-some, last-in, last-behind)
 
 -- ---- the list of them, where no heads are asked for
@@ -197,25 +197,17 @@ unfolding down
 nobody zero = refl
 nobody (suc n) =
     filter-first (λ c. size (suc n) c == 0) (λ c. false) (λ c. size n c == 0) n (λ c lt. grind (arith, nat_tests, size-with))
-    (λ c lt. grind (arith, size-left))
-    ∙ (λ i. map (λ c. 2 ^ n + c) (filter-none (down (2 ^ n)) i) ++ nobody n i)
+    (λ c lt. grind (arith, size-left)) ∙ (λ i. map (λ c. 2 ^ n + c) (filter-none (down (2 ^ n)) i) ++ nobody n i)
 
 pub leads-list : (ws : List ℕ) (r a : ℕ) → filter (leads ws 0 r a) (down (2 ^ length ws)) ≡ completing ws r
 unfolding leads completing down
 leads-list [] r a = refl
 leads-list (w ∷ ws) r a =
-    filter-first (leads (w ∷ ws) 0 r a) (λ c. cond (leb r w) (size (length ws) c == 0 - (a + 1)) (leads ws 0 (r - w) (a + 1) c))
-    (leads ws 0 r a) (length ws)
-    (λ c lt. leads-in w ws 0 r a c) (λ c lt. leads-out w ws 0 r a c lt)
-    ∙ (λ i. map (λ c. 2 ^ length ws + c) (first (leb r w) (leads-list ws (r - w) (a + 1)) i) ++ leads-list ws r a i)
-  where
-    first : (b : Bool) → filter (leads ws 0 (r - w) (a + 1)) (down (2 ^ length ws)) ≡ completing ws (r - w)
-        → filter (λ c. cond b (size (length ws) c == 0 - (a + 1)) (leads ws 0 (r - w) (a + 1) c)) (down (2 ^ length ws))
-        ≡ cond b (0 ∷ []) (completing ws (r - w))
-    first true again =
-        ap (λ (k : ℕ). filter (λ c. size (length ws) c == k) (down (2 ^ length ws))) (let e : 0 - (a + 1) ≡ 0 = omega arith in e)
-        ∙ nobody (length ws)
-    first false again = again
+    let n : ℕ = length ws in let none : 0 - (a + 1) ≡ 0 = omega arith in
+    let behind : Bool → ℕ → Bool = λ b c. cond b (size n c == 0 - (a + 1)) (leads ws 0 (r - w) (a + 1) c) in
+    filter-first (leads (w ∷ ws) 0 r a) (behind (leb r w)) (leads ws 0 r a) n (λ c lt. leads-in w ws 0 r a c) (λ c lt. leads-out w ws 0 r a c lt)
+    ∙ (λ i. map (λ c. 2 ^ n + c) ((by-test (λ b. filter (behind b) (down (2 ^ n))) (leb r w) ∙ (λ j. cond (leb r w)
+    ((ap (λ (k : ℕ). filter (λ c. size n c == k) (down (2 ^ n))) none ∙ nobody n) j) (leads-list ws (r - w) (a + 1) j))) i) ++ leads-list ws r a i)
 
 -- ---- in a game of one rule
 one-wins : (rs : List RuleView) (x : ℕ) → length rs ≡ 1
@@ -233,8 +225,7 @@ pub minimal-completing : (v : Votes) → IsVotes v → length v.rules ≡ 1
     → minimal_coalitions v ≡ completing (rule_at v.rules 0).weights (rule_at v.rules 0).quota
 unfolding minimal_coalitions
 minimal-completing v votes one =
-    let r : RuleView = rule_at v.rules 0 in
-    let ws : List ℕ = r.weights in
+    let r : RuleView = rule_at v.rules 0 in let ws : List ℕ = r.weights in
     let rule = rule-is v 0 votes (omega (arith, one)) in
     let same : wins v.rules ≡ (λ x. leb r.quota (weight ws x) && leb 0 (size (length ws) x)) = λ k x. one-wins v.rules x one k in
     let led : (c : ℕ) → c < 2 ^ length ws → minimal v c ≡ leads ws 0 r.quota 0 c = λ c lt.
@@ -243,9 +234,7 @@ minimal-completing v votes one =
     subst (λ (m : ℕ). (minimal v c ≡ true) ↔ IsMin m (λ x. leb r.quota (weight ws x) && leb 0 (size (length ws) x)) c) (sym rule.full)
     (rw same at (minimal-min v c)) in
     same_test _ _ (λ h. lead.1 (min.0 h)) (λ h. min.1 (lead.0 h))) in
-    ap (λ (n : ℕ). filter (minimal v) (down (2 ^ n))) (sym rule.full)
-    ∙ filter-same (minimal v) (leads ws 0 r.quota 0) (down (2 ^ length ws))
-    (λ k d lt. led _ (down-below (2 ^ length ws) (2 ^ length ws) (omega arith) k d lt))
-    ∙ leads-list ws r.quota 0
+    ap (λ (n : ℕ). filter (minimal v) (down (2 ^ n))) (sym rule.full) ∙ filter-same (minimal v) (leads ws 0 r.quota 0) (down (2 ^ length ws))
+    (λ k d lt. led _ (down-below (2 ^ length ws) (2 ^ length ws) (omega arith) k d lt)) ∙ leads-list ws r.quota 0
 
 pub ruleset laws = (minimal-completing)

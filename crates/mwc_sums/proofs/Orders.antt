@@ -37,8 +37,7 @@ module _ (g h : GameView) (is_g : IsGame g) (is_h : IsGame h) (same : AreRulesOf
         members = counts.members ∙ same.members;
         total = counts.total ∙ sym (filter-all _) ∙ count-same (λ c. true) (λ c. true) (λ c d alike. refl) ∙ filter-all _;
         of_size = λ s le. counts.of_size s le ∙ count-same (λ c. size_of g c == s) (λ c. size_of h c == s) (sizes s);
-        of_member = λ i lt. counts.of_member i lt
-            ∙ count-same (contains g i) (contains h i) (λ c d alike. members i c d (within i lt) alike);
+        of_member = λ i lt. counts.of_member i lt ∙ count-same (contains g i) (contains h i) (λ c d alike. members i c d (within i lt) alike);
         of_member_size = λ i s lt le. counts.of_member_size i s lt le
             ∙ count-same (λ c. contains g i c && (size_of g c == s)) (λ c. contains h i c && (size_of h c == s))
             (λ c d alike. (λ k. members i c d (within i lt) alike k && sizes s c d alike k));

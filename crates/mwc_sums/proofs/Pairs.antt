@@ -13,8 +13,7 @@ use Rattle.mwc_sums.proofs.Placed.{game-holds, has_weight, met-seen, no-weight, 
 
 -- ---- pairs of two lists that have a size together
 -- one of the first list, with those of the second that fill it up to s
-row : (n q : ℕ → Bool) (l : ℕ → ℕ) (m p : Bool) (k s : ℕ) (ys : List ℕ)
-    → sum_by (λ y. one_if ((m && n y) && ((p && q y) && (k + l y == s)))) ys
+row : (n q : ℕ → Bool) (l : ℕ → ℕ) (m p : Bool) (k s : ℕ) (ys : List ℕ) → sum_by (λ y. one_if ((m && n y) && ((p && q y) && (k + l y == s)))) ys
     ≡ one_if (m && (p && leb k s)) * length (filter (λ y. q y && (l y == s - k)) (filter n ys))
 row n q l m p k s [] = omega arith
 row n q l m p k s (y ∷ ys) =
@@ -24,10 +23,8 @@ pub pairs-of_size : (m n p q : ℕ → Bool) (k l : ℕ → ℕ) (xs ys : List �
     → sum_by (λ x. sum_by (λ y. one_if ((m x && n y) && ((p x && q y) && (k x + l y == s)))) ys) xs
     ≡ paired (λ j. length (filter (λ x. p x && (k x == j)) (filter m xs))) (λ j. length (filter (λ y. q y && (l y == j)) (filter n ys))) s
 pairs-of_size m n p q k l xs ys s =
-    let others : ℕ → ℕ = λ j. length (filter (λ y. q y && (l y == j)) (filter n ys)) in
-    let passes : ℕ → Bool = λ x. m x && (p x && leb (k x) s) in
-    (λ i. sum_by (λ x. row n q l (m x) (p x) (k x) s ys i) xs)
-    ∙ sym (sum-filter (λ x. others (s - k x)) passes xs)
+    let others : ℕ → ℕ = λ j. length (filter (λ y. q y && (l y == j)) (filter n ys)) in let passes : ℕ → Bool = λ x. m x && (p x && leb (k x) s) in
+    (λ i. sum_by (λ x. row n q l (m x) (p x) (k x) s ys i) xs) ∙ sym (sum-filter (λ x. others (s - k x)) passes xs)
     ∙ sym (sum-by_size (λ j. others (s - j)) k passes 0 (s + 1) xs (λ x in'. grind (arith, nat_tests)))
     ∙ sum-range (λ j. length (filter (λ x. passes x && (k x == j)) xs) * others (s - j))
     (λ j. length (filter (λ x. p x && (k x == j)) (filter m xs)) * others (s - j)) 0 (s + 1)
@@ -96,13 +93,9 @@ module _ (g a b : GameView) (is_g : IsGame g) (is_a : IsGame a) (is_b : IsGame b
           → one_if (min_pair x y && (contains g i (union joint hg ha hb x y) && (size_of g (union joint hg ha hb x y) == s)))
           ≡ of_a i s x y + of_b i s x y
       each x y lx ly =
-          let in_g = seen-contains is_g (union joint hg ha hb x y) i lt in
-          let both = joined joint hg ha hb x y lx ly in
-          let size = size-union joint hg ha hb x y lx ly in
-          let one = apart joint hg ha hb x y lx ly in
+          let in_g = seen-contains is_g (union joint hg ha hb x y) i lt in let both = joined joint hg ha hb x y lx ly in
+          let size = size-union joint hg ha hb x y lx ly in let one = apart joint hg ha hb x y lx ly in
           grind (arith, nat_tests, in_g, both, size, one, are.first, are.second, seen-contains is_a x i, seen-contains is_b y i)
-
-pub ruleset laws = (chamber-sizes, chamber-members)
 
 -- ---- as the code counts them, size by size
 -- no coalition has more members than there are
@@ -132,18 +125,11 @@ module _ (g a b : GameView) (is_g : IsGame g) (is_a : IsGame a) (is_b : IsGame b
   all-pairs s n x is e =
       is ∙ ap (λ (n : ℕ). sum_by (size-pairs a b s) (range_with_len 0 n)) e ∙ sym (chamber-sizes g a b is_g is_a is_b are s)
 
-  pub pairs-more : (s j : ℕ) → j < s + 1
-      → size-pairs a b s j + sum_by (size-pairs a b s) (range_with_len 0 j) ≤ 2 ^ 40
+  pub pairs-more : (s j : ℕ) → j < s + 1 → size-pairs a b s j + sum_by (size-pairs a b s) (range_with_len 0 j) ≤ 2 ^ 40
   unfolding of_size
   pairs-more s j lt =
-      let f : ℕ → ℕ = size-pairs a b s in
-      omega (
-        arith,
-        sum_by-range-more f j,
-        sum_by-range-le f (j + 1) (s + 1) (omega (arith, lt)),
-        all-pairs s (s + 1) _ refl refl,
-        few-of g (λ c. size_of g c == s) is_g,
-      )
+      let f : ℕ → ℕ = size-pairs a b s in let part = sum_by-range-le f (j + 1) (s + 1) (omega (arith, lt)) in
+      omega (arith, sum_by-range-more f j, part, all-pairs s (s + 1) _ refl refl, few-of g (λ c. size_of g c == s) is_g)
 
   pub each-pairs : (i p s n x : ℕ) → x ≡ sum_by (place-pairs a b i s) (range_with_len 0 n) → n ≡ s + 1 → i < length g.names
       → get_or g.ranks i 0 ≡ p → x ≡ of_place_size g p s
@@ -154,23 +140,14 @@ module _ (g a b : GameView) (is_g : IsGame g) (is_a : IsGame a) (is_b : IsGame b
       ∙ sym (chamber-members g a b is_g is_a is_b are i s lt)
       ∙ (λ k. length (filter (λ c. has (length g.names) (place k) c && (size_of g c == s)) (minimal_coalitions (votes_of g))))
 
-  pub each-more : (i s j : ℕ) → i < length g.names → j < s + 1
-      → place-pairs a b i s j + sum_by (place-pairs a b i s) (range_with_len 0 j) ≤ 2 ^ 40
+  pub each-more : (i s j : ℕ) → i < length g.names → j < s + 1 → place-pairs a b i s j + sum_by (place-pairs a b i s) (range_with_len 0 j) ≤ 2 ^ 40
   unfolding of_place_size
   each-more i s j lt within =
-      let f : ℕ → ℕ = place-pairs a b i s in
-      let p : ℕ = get_or g.ranks i 0 in
-      omega (
-        arith,
-        sum_by-range-more f j,
-        sum_by-range-le f (j + 1) (s + 1) (omega (arith, within)),
-        each-pairs i p s (s + 1) _ refl refl lt refl,
-        few-of g (λ c. has (length g.names) p c && (size_of g c == s)) is_g,
-      )
+      let f : ℕ → ℕ = place-pairs a b i s in let part = sum_by-range-le f (j + 1) (s + 1) (omega (arith, within)) in
+      let few = few-of g (λ c. has (length g.names) (get_or g.ranks i 0) c && (size_of g c == s)) is_g in
+      omega (arith, sum_by-range-more f j, part, each-pairs i (get_or g.ranks i 0) s (s + 1) _ refl refl lt refl, few)
 
   pub each-other : (i s j : ℕ) → i < length g.names → j < s + 1 → of_size a j * of_member_size b i (s - j) ≤ 2 ^ 40
   each-other i s j lt within = omega (arith, each-more i s j lt within)
 
 pub ruleset pairs = (all-pairs, pairs-more, sum_by-range-more)
-
-pub ruleset member_pairs = (each-pairs, each-more, each-other, sum_by-range-more)

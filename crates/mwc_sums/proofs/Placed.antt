@@ -21,8 +21,7 @@ weight-seen n m ranks is r ws c long at =
 pub ranked-at : (ranks : List ℕ) (r : RuleView) (p : ℕ) → p < length ranks
     → get_or (rule_by_rank ranks r).weights p 0 ≡ get_or r.weights (member_at ranks p) 0
 ranked-at ranks r p lt =
-    let long = length-range_with_len 0 (length ranks) in
-    let at = get_or-map (member_at ranks) (places ranks) p 0 0 (omega (arith, long, lt)) in
+    let long = length-range_with_len 0 (length ranks) in let at = get_or-map (member_at ranks) (places ranks) p 0 0 (omega (arith, long, lt)) in
     let rule = get_or-map (λ m. get_or r.weights m 0) (members_by_rank ranks) p 0 0 in
     grind (arith, at, rule, length-map (places ranks) (member_at ranks), places-at (length ranks) p 0 lt)
 
@@ -36,14 +35,12 @@ no-weight [] i none = refl
 no-weight (r ∷ rs) i none = grind (arith, nat_tests, none 0 r (omega arith), no-weight rs i (λ k d lt. none (suc k) d (omega (arith, lt))))
 
 -- rules see those members who have weight
-pub met-seen : (n : ℕ) (rs : List RuleView) (f h : ℕ → Bool) → ((i : ℕ) → i < n → has_weight rs i ≡ true → f i ≡ h i)
-    → met n rs f ≡ met n rs h
+pub met-seen : (n : ℕ) (rs : List RuleView) (f h : ℕ → Bool) → ((i : ℕ) → i < n → has_weight rs i ≡ true → f i ≡ h i) → met n rs f ≡ met n rs h
 met-seen n [] f h same = refl
 met-seen n (r ∷ rs) f h same =
     let own = sum-range (λ i. cond (f i) 1 0 * get_or r.weights i 0) (λ i. cond (h i) 1 0 * get_or r.weights i 0) 0 n
     (λ i _ lt. let is = same i (omega (arith, lt)) in grind (arith, nat_tests)) in
-    let rest = met-seen n rs f h (λ i lt seen. same i lt (grind (arith, nat_tests))) in
-    grind (arith, nat_tests, own, rest)
+    let rest = met-seen n rs f h (λ i lt seen. same i lt (grind (arith, nat_tests))) in grind (arith, nat_tests, own, rest)
 
 pub met-looks : (n : ℕ) (rs : List RuleView) → LooksAt n (met n rs)
 met-looks n rs f h same = met-seen n rs f h (λ i lt _. same i lt)
@@ -60,8 +57,7 @@ module _ {g : GameView} (is : IsGame g) where
   seen-contains c i lt =
       ap (λ (b : Bool). b && contains g i c) (lt-ltb (get_or g.ranks i 0) (length g.names) ((ranks-are g is).place_below i lt))
 
-  wins-each : (rs : List RuleView) (c : ℕ)
-      → wins (map (rule_by_rank g.ranks) rs) c ≡ met (length g.names) rs (seen (length g.names) g.ranks c)
+  wins-each : (rs : List RuleView) (c : ℕ) → wins (map (rule_by_rank g.ranks) rs) c ≡ met (length g.names) rs (seen (length g.names) g.ranks c)
   unfolding wins
   wins-each [] c = refl
   wins-each (r ∷ rs) c =

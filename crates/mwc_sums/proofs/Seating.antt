@@ -1,8 +1,7 @@
 -- Coalitions of the first places of a ranking, and the sets of members that they hold.
 use Rattle.mwc_sums.proofs.Imports.{◌≡◌, ◌∙◌, ◌↔◌, ◌&&◌, not, ℕ, zero, suc, ◌+◌, ◌^◌, ◌<◌, ◌≤◌, Bool, true, false, cond, List, get_or, sym}
 use Rattle.mwc_sums.proofs.Imports.{ap, refl, arith, inl, inr, sum_by, range_with_len, cases_eq, le-ltb, length-filter, nat_tests, has}
-use Rattle.mwc_sums.proofs.Imports.{size, without, member_at, RanksAre, sum-range}
-use Rattle.std.proofs.Common.{eqb}
+use Rattle.mwc_sums.proofs.Imports.{size, without, member_at, RanksAre, sum-range, eqb}
 use Rattle.coalitions.proofs.Shared.Digits.{has-kept, has-gone, same-places}
 use Rattle.council_game.specs.Ranks.{AreRankPlaces}
 use Rattle.council_game.proofs.Shared.RankPlaces.{by-member}
@@ -63,8 +62,7 @@ unfolding as_mask
 mask-less m ranks f = mask-below (λ p. f (member_at ranks p)) m
 
 -- a sum whose last numbers are 0
-sum-cut : (f : ℕ → ℕ) (m n : ℕ) → m ≤ n → ((p : ℕ) → m ≤ p → p < n → f p ≡ 0)
-    → sum_by f (range_with_len 0 n) ≡ sum_by f (range_with_len 0 m)
+sum-cut : (f : ℕ → ℕ) (m n : ℕ) → m ≤ n → ((p : ℕ) → m ≤ p → p < n → f p ≡ 0) → sum_by f (range_with_len 0 n) ≡ sum_by f (range_with_len 0 m)
 sum-cut f m zero le none = ap (λ (k : ℕ). sum_by f (range_with_len 0 k)) (let e : 0 ≡ m = omega (arith, le) in e)
 sum-cut f m (suc n) le none = elim (cases_eq m (suc n)) [
   | inl e ↦ ap (λ (k : ℕ). sum_by f (range_with_len 0 k)) (sym e)
@@ -77,8 +75,7 @@ module _ {n m : ℕ} {ranks : List ℕ} (is : IsSeating n m ranks) where
   pub seen-at : (c p : ℕ) → p < m → seen m ranks c (member_at ranks p) ≡ has m p c
   seen-at c p lt = let back = is.are.place_back p (let few = is.few in omega (arith, lt, few)) in grind (arith, nat_tests)
 
-  pub mask-seen : (f : ℕ → Bool) → ((i : ℕ) → i < n → f i ≡ true → get_or ranks i 0 < m) → (i : ℕ) → i < n
-      → seen m ranks (as_mask m ranks f) i ≡ f i
+  pub mask-seen : (f : ℕ → Bool) → ((i : ℕ) → i < n → f i ≡ true → get_or ranks i 0 < m) → (i : ℕ) → i < n → seen m ranks (as_mask m ranks f) i ≡ f i
   unfolding as_mask
   mask-seen f within i li =
       grind (arith, nat_tests, within i li, mask-has (λ p. f (member_at ranks p)) m (get_or ranks i 0), ap f (is.are.member_back i li))
@@ -89,8 +86,7 @@ module _ {n m : ℕ} {ranks : List ℕ} (is : IsSeating n m ranks) where
       same-places m c (mask_of (λ p. f (member_at ranks p)) m) below (mask-below (λ p. f (member_at ranks p)) m) (λ p lt.
       grind (arith, seen-at c p lt, same (member_at ranks p), is.are.member_below p, is.few, mask-has (λ p. f (member_at ranks p)) m p lt))
 
-  seen-less : (c i j : ℕ) → i < n → j < n → seen m ranks c i ≡ true
-      → seen m ranks (without m (get_or ranks i 0) c) j ≡ less (seen m ranks c) i j
+  seen-less : (c i j : ℕ) → i < n → j < n → seen m ranks c i ≡ true → seen m ranks (without m (get_or ranks i 0) c) j ≡ less (seen m ranks c) i j
   seen-less c i j li lj inside =
       let apart : get_or ranks j 0 ≡ get_or ranks i 0 → j ≡ i = λ e.
       sym (is.are.member_back j lj) ∙ ap (member_at ranks) e ∙ is.are.member_back i li in
@@ -101,8 +97,7 @@ module _ {n m : ℕ} {ranks : List ℕ} (is : IsSeating n m ranks) where
       → sum_by u (range_with_len 0 n) ≡ sum_by (λ p. u (member_at ranks p)) (range_with_len 0 m)
   placed-sum u none =
       sum-range u (λ i. u (member_at ranks (get_or ranks i 0))) 0 n (λ i _ lt. ap u (sym (is.are.member_back i (omega (arith, lt)))))
-      ∙ sym (by-member n ranks is.are.count is.each (λ p. u (member_at ranks p)))
-      ∙ sum-cut (λ p. u (member_at ranks p)) m n is.few (λ p from lt.
+      ∙ sym (by-member n ranks is.are.count is.each (λ p. u (member_at ranks p))) ∙ sum-cut (λ p. u (member_at ranks p)) m n is.few (λ p from lt.
       none (member_at ranks p) (is.are.member_below p lt) (let back = is.are.place_back p lt in omega (arith, back, from)))
 
   pub seen-sum : (t : ℕ → Bool → ℕ) → ((i : ℕ) → t i false ≡ 0) → (c : ℕ)
@@ -116,8 +111,7 @@ module _ {n m : ℕ} {ranks : List ℕ} (is : IsSeating n m ranks) where
   seen-size c = seen-sum (λ i b. one_if b) (λ i. refl) c ∙ sym (length-filter (λ p. has m p c) (range_with_len 0 m))
 
   -- a coalition is minimal where its set is
-  pub least-min : (won : (ℕ → Bool) → Bool) → LooksAt n won → (c : ℕ)
-      → IsLeast n won (seen m ranks c) ↔ IsMin m (λ x. won (seen m ranks x)) c
+  pub least-min : (won : (ℕ → Bool) → Bool) → LooksAt n won → (c : ℕ) → IsLeast n won (seen m ranks c) ↔ IsMin m (λ x. won (seen m ranks x)) c
   least-min won looks c =
       let fewer = λ (i : ℕ) (li : i < n) (inside : seen m ranks c i ≡ true).
       looks (seen m ranks (without m (get_or ranks i 0) c)) (less (seen m ranks c) i) (λ j lj. seen-less c i j li lj inside) in (
@@ -137,7 +131,5 @@ module _ {n m : ℕ} {ranks : List ℕ} (is : IsSeating n m ranks) where
 pub alike-size : {n a b : ℕ} {ra rb : List ℕ} → IsSeating n a ra → IsSeating n b rb → (c x : ℕ)
     → ((i : ℕ) → i < n → seen a ra c i ≡ seen b rb x i) → size a c ≡ size b x
 alike-size {n = n} {a = a} {b = b} {ra = ra} {rb = rb} is_a is_b c x alike =
-    sym (seen-size is_a c)
-    ∙ sum-range (λ i. one_if (seen a ra c i)) (λ i. one_if (seen b rb x i)) 0 n
-    (λ i _ lt. ap (λ (d : Bool). one_if d) (alike i (omega (arith, lt))))
-    ∙ seen-size is_b x
+    sym (seen-size is_a c) ∙ sum-range (λ i. one_if (seen a ra c i)) (λ i. one_if (seen b rb x i)) 0 n
+    (λ i _ lt. ap (λ (d : Bool). one_if d) (alike i (omega (arith, lt)))) ∙ seen-size is_b x

@@ -3,10 +3,9 @@ use Rattle.mwc_sums.proofs.Imports.{length, get_or, All-from_get_or, RuleView, r
 use Rattle.mwc_sums.proofs.Imports.{List, [], ◌∷◌, HasNoWeight, AreChambersOf, are_of_one_chamber, is_counted, statute, IsFair, AreRulesOf}
 use Rattle.mwc_sums.proofs.Imports.{filter-both, ◌≡◌, ◌≢◌, ◌∙◌, ◌&&◌, ◌||◌, not, ◌⊎◌, ℕ, zero, suc, ◌+◌, ◌<◌, ◌≤◌, Bool, true, false, ltb}
 use Rattle.mwc_sums.proofs.Imports.{take, sym, ap, true_from_ne_false, length-filter_both, AllPass-from_list_all, list_all-from_AllPass}
-use Rattle.mwc_sums.proofs.Imports.{All-filter, refl, arith, inl, inr, All, ltb-true, both_ways}
+use Rattle.mwc_sums.proofs.Imports.{All-filter, refl, arith, inl, inr, All, ltb-true, both_ways, side}
 use Rattle.std.proofs.lemmas.List.Elements.{All-take}
-use Rattle.mwc_sums.specs.Inner.Rules.{AreOfChambers, beside_of, part_of, side}
-use Rattle.mwc_sums.specs.Statute.{counted, left}
+use Rattle.mwc_sums.specs.{Inner.Rules.AreOfChambers, Inner.Rules.beside_of, Inner.Rules.part_of, Statute.counted, Statute.left}
 use Rattle.mwc_sums.proofs.Counting.{filter-within, All-passing, any-at, any-of, missing}
 use Rattle.mwc_sums.proofs.VetoRules.{good-met, good-some, alike-sum}
 
@@ -21,14 +20,12 @@ share-self : (n : ℕ) (r : RuleView) → IsFair n r → share n r r ≡ true
 share-self n r fair = elim (missing (λ i. ltb 0 (get_or r.weights i 0)) (λ i. false) n) [
   | inl found ↦ let some = ltb-true 0 _ found.2 in share-at n found.0 r r found.1 some some
   | inr none ↦ absurd (
-      let total = alike-sum r.weights 0 (λ p lt. grind (arith, nat_tests)) in
-      grind (arith, good-met r fair.quota, good-some r fair.quota, total))
+      let total = alike-sum r.weights 0 (λ p lt. grind (arith, nat_tests)) in grind (arith, good-met r fair.quota, good-some r fair.quota, total))
 ]
 
 -- ---- lists
 -- what passes a test stands among what passes it
-in-filter : {X : Type 0} (p : X → Bool) (xs : List X) (j : ℕ) (d : X) → j < length xs → p (get_or xs j d) ≡ true
-    → 0 < length (filter p xs)
+in-filter : {X : Type 0} (p : X → Bool) (xs : List X) (j : ℕ) (d : X) → j < length xs → p (get_or xs j d) ≡ true → 0 < length (filter p xs)
 in-filter p [] j d lt passes = absurd (omega (arith, lt))
 in-filter p (x ∷ xs) zero d lt passes = grind (arith, nat_tests)
 in-filter p (x ∷ xs) (suc j) d lt passes = grind (arith, nat_tests, in-filter p xs j d (omega (arith, lt)) passes)
@@ -105,8 +102,7 @@ module _ (n : ℕ) (rs : List RuleView) (fair : All (IsFair n) rs) where
   counted-at r is k lt they =
       grind (arith, nat_tests, AllPass-from_list_all (λ x. not (share n r x) || are_of_one_chamber n (chamber_of n rs x)) rs is k none lt)
 
-  pub own-chamber : (j : ℕ) → j < length rs → is_counted n rs (rule_at rs j) ≡ true
-      → are_of_one_chamber n (chamber_of n rs (rule_at rs j)) ≡ true
+  pub own-chamber : (j : ℕ) → j < length rs → is_counted n rs (rule_at rs j) ≡ true → are_of_one_chamber n (chamber_of n rs (rule_at rs j)) ≡ true
   own-chamber j lt is = counted-at (rule j) is j lt (self j lt)
 
   pub all-counted : length (part_of false n rs) ≡ 0 → AreOfChambers n rs
@@ -133,8 +129,7 @@ module _ (n : ℕ) (rs : List RuleView) (fair : All (IsFair n) rs) where
     unfolding side
     chambers-within each = all-passing (λ r. are_of_one_chamber n (chamber_of n (filter q rs) r) ≡ true) q rs (λ j lj is.
         ap (are_of_one_chamber n) (filter-within q (share n (rule j)) rs
-        (All-from_get_or (λ y. share n (rule j) y ≡ true → q y ≡ true) rs none (λ k lk they. closed j k lj lk is they)))
-        ∙ each j lj is)
+        (All-from_get_or (λ y. share n (rule j) y ≡ true → q y ≡ true) rs none (λ k lk they. closed j k lj lk is they))) ∙ each j lj is)
 
     -- a member has weight in them, or in the others
     parts-apart : (i : ℕ) → i < n → HasNoWeight (filter q rs) i ⊎ HasNoWeight (filter (λ x. not (q x)) rs) i
@@ -156,8 +151,7 @@ module _ (n : ℕ) (rs : List RuleView) (fair : All (IsFair n) rs) where
     }
 
 -- ---- the rules that share a member with one, and the others
-pub beside-chamber : (n : ℕ) (rs : List RuleView) (k : ℕ) → AreOfChambers n rs → k < length rs
-    → are_of_one_chamber n (beside_of true n rs k) ≡ true
+pub beside-chamber : (n : ℕ) (rs : List RuleView) (k : ℕ) → AreOfChambers n rs → k < length rs → are_of_one_chamber n (beside_of true n rs k) ≡ true
 unfolding side
 beside-chamber n rs k all lt = all k (record { quota = 0; weights = [] }) lt
 
@@ -166,8 +160,6 @@ pub others-chambers : (n : ℕ) (rs : List RuleView) (k : ℕ) → All (IsFair n
 unfolding side
 others-chambers n rs k fair all lt = chambers-within n rs fair (λ x. not (share n (rule_at rs k) x))
     (others-closed n rs fair (share n (rule_at rs k)) (chamber-closed n rs fair all k lt)) (λ j lj _. all j (record { quota = 0; weights = [] }) lj)
-
-pub ruleset chambers = (sides-few, beside-chamber, others-chambers, chamber-some)
 
 pub kept-fair : (n k : ℕ) (p : RuleView → Bool) (rs : List RuleView) → All (IsFair n) rs → All (IsFair n) (filter p (take k rs))
 kept-fair n k p rs fair = All-filter p (IsFair n) (take k rs) (All-take (IsFair n) k rs fair)
@@ -183,5 +175,3 @@ left-is g = refl
 
 pub counted-chambers : (n : ℕ) (rs : List RuleView) → All (IsFair n) rs → AreOfChambers n (part_of true n rs)
 counted-chambers n rs fair = chambers-within n rs fair (is_counted n rs) (counted-closed n rs fair) (own-chamber n rs fair)
-
-pub ruleset parted = (counted-is, left-is, sides-few, counted-chambers, all-counted)

@@ -1,14 +1,14 @@
 -- Members that can veto, what is left of the rules where all of them agree, and rules that a game can have.
 use Rattle.mwc_sums.proofs.Imports.{sum_by, range_with_len, sum_by-cons, sum-range, ◌≡◌, ◌∙◌, ℕ, suc, ◌+◌, ◌-◌, ◌*◌, ◌<◌, Bool, true, false}
 use Rattle.mwc_sums.proofs.Imports.{rule-is, true_from_ne_false, both_ways, length-map-range_with_len, All-from_recursion, GameView, IsGame}
+use Rattle.mwc_sums.proofs.Imports.{IsFair, take, statute, sum-zero, AreRulesOf, length-filter_both, not, ◌++◌, ◌≤◌, cases_lt, le-ltb, cond}
 use Rattle.mwc_sums.proofs.Imports.{nat_tests, weighs, met, rules_beside, can_veto, ◌^◌, map, filter, ap, refl, arith, inl, inr, All, sum}
-use Rattle.mwc_sums.proofs.Imports.{IsFair, take, statute, sum-zero, AreRulesOf, length-filter_both, not, ◌++◌, ◌≤◌, cases_lt, le-ltb}
-use Rattle.mwc_sums.proofs.Imports.{cond, leb, ltb, List, [], ◌∷◌, length, sum-filter, has, weight, length-range_with_len, places-at}
-use Rattle.mwc_sums.proofs.Imports.{All-head, All-tail, sum_by-range-more, RuleView, sum-plus, get_or, wins, Votes, IsVotes, rule_at}
-use Rattle.mwc_sums.proofs.Imports.{ltb-true, length-map, filter-append, common_steps}
-use Rattle.mwc_sums.specs.Vetoers.{number_of, rest_of, rule_for, IsVetoer}
+use Rattle.mwc_sums.proofs.Imports.{leb, ltb, List, [], ◌∷◌, length, sum-filter, has, weight, length-range_with_len, places-at, All-head}
+use Rattle.mwc_sums.proofs.Imports.{All-tail, sum_by-range-more, RuleView, sum-plus, get_or, wins, Votes, IsVotes, rule_at, ltb-true}
+use Rattle.mwc_sums.proofs.Imports.{length-map, filter-append, common_steps}
 use Rattle.std.proofs.lemmas.List.{Folds.list_all_at, Folds.list_any_none, FromFn.fill_by_all, FromFn.get_or-map-range_with_len}
 use Rattle.std.proofs.lemmas.List.{Elements.All-cons, Elements.All-map, Sums.sum-map, Sums.get_or-le-sum_by}
+use Rattle.mwc_sums.specs.Vetoers.{number_of, rest_of, rule_for, IsVetoer}
 use Rattle.std.proofs.Common.{fold, None, Ok, Err}
 use Rattle.mwc_sums.proofs.Counting.{missing, All-passing}
 use Rattle.std.proofs.lemmas.List.{get_or_past, nil_from_length, take_more, map-append}
@@ -21,8 +21,7 @@ pub row-sum : (ws : List ℕ) (n : ℕ) → length ws ≡ n → sum ws ≡ sum_b
 row-sum ws n long = ap sum (fill_by_all (λ i. get_or ws i 0) ws n 0 long (λ k lt. refl)) ∙ sum-map (λ i. get_or ws i 0) (range_with_len 0 n)
 
 -- what a coalition weighs
-pub weight-sum : (ws : List ℕ) (n c : ℕ) → length ws ≡ n
-    → weight ws c ≡ sum_by (λ p. cond (has n p c) 1 0 * get_or ws p 0) (range_with_len 0 n)
+pub weight-sum : (ws : List ℕ) (n c : ℕ) → length ws ≡ n → weight ws c ≡ sum_by (λ p. cond (has n p c) 1 0 * get_or ws p 0) (range_with_len 0 n)
 unfolding weight
 weight-sum ws n c long = grind (arith, nat_tests, sum-filter)
 
@@ -50,8 +49,7 @@ pub sum-parts : (f g h : ℕ → ℕ) (n : ℕ) → ((i : ℕ) → i < n → f i
 sum-parts f g h n each = sum-range f (λ i. g i + h i) 0 n (λ i _ lt. each i (omega (arith, lt))) ∙ sum-plus g h (range_with_len 0 n)
 
 -- a rule that the others miss without a member is not met without it
-pub missed : (r : RuleView) (f : ℕ → Bool) (n i : ℕ) → length r.weights ≡ n → i < n → f i ≡ false
-    → sum r.weights < r.quota + get_or r.weights i 0
+pub missed : (r : RuleView) (f : ℕ → Bool) (n i : ℕ) → length r.weights ≡ n → i < n → f i ≡ false → sum r.weights < r.quota + get_or r.weights i 0
     → leb r.quota (weighs n r f) ≡ false
 missed r f n i full lt out less =
     let other : ℕ → ℕ = λ j. cond (f j) 0 (get_or r.weights j 0) in
@@ -104,8 +102,7 @@ vetoers-both n rs f full =
     (elim (missing (can_veto rs) f n) [
       | inl (i, lt, vetoes, out) ↦ grind (arith, nat_tests, vetoed-lost n rs f i full lt vetoes out, rule-lost n (can_veto rs) f i lt vetoes out)
       | inr all ↦ grind (arith, nat_tests, rests-met n (can_veto rs) f all rs, rule-met n (can_veto rs) f all)
-    ])
-    ∙ asking-met n (rule_for n (can_veto rs) ∷ map (rest_of n (can_veto rs)) rs) f
+    ]) ∙ asking-met n (rule_for n (can_veto rs) ∷ map (rest_of n (can_veto rs)) rs) f
 
 -- a member without whom some rule can not be met is in each winning coalition
 pub vetoer-in : (v : Votes) (p c : ℕ) → IsVotes v → p < v.members → IsVetoer v p → c < 2 ^ v.members → wins v.rules c ≡ true
@@ -189,8 +186,7 @@ few-beside n veto rs =
     omega (arith, both, length-map rs (rest_of n veto))
 
 -- with one rule more
-pub beside-more : (n : ℕ) (veto : ℕ → Bool) (rs : List RuleView) (k : ℕ) (d : RuleView) → k < length rs
-    → rules_beside n veto (take (k + 1) rs)
+pub beside-more : (n : ℕ) (veto : ℕ → Bool) (rs : List RuleView) (k : ℕ) (d : RuleView) → k < length rs → rules_beside n veto (take (k + 1) rs)
     ≡ rules_beside n veto (take k rs) ++ filter (λ r. ltb 0 r.quota) (rest_of n veto (get_or rs k d) ∷ [])
 beside-more n veto rs k d lt = grind (arith, nat_tests, common_steps, take_more, map-append, filter-append)
 

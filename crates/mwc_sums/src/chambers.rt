@@ -32,7 +32,6 @@ impl Statute {
     }
 
     /// The game of the rules of the first rule's chamber, counted.
-    #[tactic(auto, using(crate::proofs::Sharing::chambers, std::proofs::lemmas::Bool::Decides::nat_tests))]
     fn first_chamber(&self, alloc: Global, game: &Game) -> Result<Counted, Memory>
         requires some { 0 < length self.now.rules }
         requires chambers { AreOfChambers self.now.members self.now.rules }
@@ -50,7 +49,7 @@ impl Statute {
     }
 
     /// The counts of a game by these rules, of chambers: those of the first rule's chamber and of the others, paired.
-    #[tactic(auto, using(crate::proofs::Sharing::chambers))]
+    #[cycle(count)]
     pub(crate) fn count(&self, alloc: Global, game: &Game) -> Result<Box<Counts>, Memory>
         requires some { 0 < length self.now.rules }
         requires few { length self.now.rules ≤ RULES + 1 }
@@ -60,17 +59,17 @@ impl Statute {
     {
         game.was_checked();
         self.rules_are_fair();
-        let first = self.first_chamber(alloc, game)?;
         let others = self.beside(alloc, 0, false)?;
+        let first = self.first_chamber(alloc, game)?;
         if others.rules() == 0 {
             return Ok(first.counts);
         }
-        let second = others.game(alloc, game)?;
-        let of_others = others.count(alloc, &second)?;
-        boxed_joined(alloc, game, &first, &Counted::new(second, of_others))
+        let second = others.counted(alloc, game)?;
+        boxed_joined(alloc, game, &first, &second)
     }
 
     /// The game of these rules with the members of another, counted.
+    #[cycle(count)]
     pub(crate) fn counted(&self, alloc: Global, game: &Game) -> Result<Counted, Memory>
         requires some { 0 < length self.now.rules }
         requires few { length self.now.rules ≤ RULES }

@@ -11,7 +11,6 @@ use power_index::Counts;
 use std::alloc::Global;
 
 /// As `count_by_sums`, on the heap.
-#[tactic(auto, using(crate::proofs::Sharing::parted))]
 fn boxed_by_sums(alloc: Global, game: &Game) -> Result<Option<Box<Counts>>, Memory>
     ensures counts { IfOk result (λ counts. IfSome counts
         (λ c. AreCounts game.now (minimal_coalitions (votes_of game.now)) c.value)) }

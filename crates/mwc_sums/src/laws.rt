@@ -42,7 +42,6 @@ pub fn vetoers_are_in_each_winning_coalition()
 
 /// Where the rules of a game are those of two others, and no member has weight in both, each minimal winning coalition
 /// is one of each together: so are those of a size, and of a member and a size.
-#[tactic(auto, using(crate::proofs::Pairs::laws))]
 pub fn coalitions_of_chambers_are_pairs()
     ensures sizes { (g a b : GameView) (s : ℕ) → IsGame g → IsGame a → IsGame b → AreChambersOf g a b
         → minimal_of_size g s ≡ paired (minimal_of_size a) (minimal_of_size b) s }

@@ -30,8 +30,7 @@ here-few sets t s h half =
 
 pub fits-few : (need k s : ℕ) (sets : List Set) → IsHalf sets → sum_by (fits need k s) sets ≤ 2 ^ 20
 fits-few need k s sets half =
-    let most = sum_by-le (fits need k s) 1 sets (λ i d lt. cond-most _ _ 1 (cond-most _ 1 1 (omega arith))) in
-    omega (arith, most, half.long)
+    let most = sum_by-le (fits need k s) 1 sets (λ i d lt. cond-most _ _ 1 (cond-most _ 1 1 (omega arith))) in omega (arith, most, half.long)
 
 -- where the last that is outside does not meet the need, all that meet it are counted
 pub all-entered : (need : ℕ) (sets : List Set) (t : Fitting) (d : Set) → AreEntered sets t → Meet need t.outside sets → IsHalf sets
@@ -50,8 +49,7 @@ pub added : (need : ℕ) (sets : List Set) (t : Fitting) (k s : ℕ) → AreOfNe
 added need sets t k s h = elim (cases_lt s k) [
   | inl few ↦
       (let none : (x : Set) → fits need k s x ≡ 0 = λ x. grind (arith, nat_tests) in
-      let all : sum_by (fits need k s) sets ≡ 0 = (λ i. sum_by (λ x. none x i) sets) ∙ sum-zero sets in
-      grind (arith, nat_tests))
+      let all : sum_by (fits need k s) sets ≡ 0 = (λ i. sum_by (λ x. none x i) sets) ∙ sum-zero sets in grind (arith, nat_tests))
   | inr enough ↦
       (let one : (x : Set) → fits need 0 (s - k) x ≡ fits need k s x = λ x. grind (arith, nat_tests) in
       grind (arith, nat_tests, h (s - k)))
@@ -67,4 +65,4 @@ pub added-all : (before done here : List ℕ) (size j s : ℕ) → Added before 
     → get_or done s 0 ≡ get_or before s 0 + cond (leb size s) (get_or here (s - size) 0) 0
 added-all before done here size j s h all = grind (arith, get_or_past, nat_tests)
 
-pub ruleset entering = (added-all, here-few, all-entered)
+pub ruleset entering = (added-all)

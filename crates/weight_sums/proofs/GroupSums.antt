@@ -2,9 +2,9 @@
 use Rattle.weight_sums.proofs.Imports.{length-take, pow_pos, pow_mono, Set, Fitting, nobody, fits, met, has, IsHalf, IsHalfOf, AreEntered}
 use Rattle.weight_sums.proofs.Imports.{take, sym, ap, arith, inl, inr, All, sum_by, cases_lt, AreOfNeed, Meet, AreOfKeys, low_of, high_of}
 use Rattle.weight_sums.proofs.Imports.{◌≡◌, ◌∙◌, ◌⊎◌, ℕ, ◌+◌, ◌-◌, ◌/◌, ◌%◌, ◌==◌, ◌<◌, ◌≤◌, ◌^◌, cond, leb, List, [], length, get_or}
-use Rattle.weight_sums.proofs.Imports.{take_all}
-use Rattle.std.proofs.lemmas.Nat.{shr_split, shr_below, Bits.bit_at_above, Bits.bit_at_cat_low, Bits.bit_at_cat_high}
-use Rattle.std.proofs.{Common.min, Common.mod-lt, lemmas.List.get_or_default}
+use Rattle.weight_sums.proofs.Imports.{take_all, shr_below}
+use Rattle.std.proofs.lemmas.{List.get_or_default, Nat.shr_split, Nat.Bits.bit_at_above, Nat.Bits.bit_at_cat_low, Nat.Bits.bit_at_cat_high}
+use Rattle.std.proofs.Common.{min, mod-lt}
 use Rattle.weight_sums.specs.{Inner.Groups.AreGroups, Inner.Tables.IsCounted, declared.groups.Groups.Groups}
 use Rattle.weight_sums.proofs.{FittingSets.added, FittingSets.fits-few, FittingSets.sum-alike, TableSums.of-more, TableSums.of-few}
 use Rattle.weight_sums.proofs.SetLaws.{sum-same}
@@ -17,8 +17,7 @@ pub record Paired (q digits : ℕ) (xs ys : List Set) (n : ℕ) (lows highs : Li
   pub low_is : AreOfKeys (low_of digits) (met q ys) (take n xs) lows
   pub high_is : AreOfKeys (high_of digits) (met q ys) (take n xs) highs
   pub entered : AreEntered ys t
-  pub meet : (k m : ℕ) (d : Set) → t.outside ≤ k → k < length ys → n ≤ m → m < length xs
-      → q ≤ (get_or ys k d).weight + (get_or xs m d).weight
+  pub meet : (k m : ℕ) (d : Set) → t.outside ≤ k → k < length ys → n ≤ m → m < length xs → q ≤ (get_or ys k d).weight + (get_or xs m d).weight
 
 keys-few : (key : Set → ℕ) (q : ℕ) (xs ys : List Set) (n : ℕ) (rows : List (List ℕ)) → IsHalf xs → IsHalf ys
     → AreOfKeys key (met q ys) (take n xs) rows → (k s : ℕ) → s ≤ 40 → get_or (get_or rows k []) s 0 ≤ 2 ^ 40
@@ -42,8 +41,7 @@ module _ {q digits : ℕ} {xs ys : List Set} {n : ℕ} {lows highs : List (List 
       → IsCounted high (get_or xs n d).size u.here highs more_highs → Paired q digits xs ys (n + 1) more_lows more_highs u
   paired-more lt {need = need} {low = low} {high = high} d {u = u} {more_lows = more_lows} {more_highs = more_highs} is low_key high_key are
       entered meet in_low in_high =
-      let x : Set = get_or xs n d in
-      let row : ℕ → ℕ = λ s. cond (leb x.size s) (get_or u.here (s - x.size) 0) 0 in
+      let x : Set = get_or xs n d in let row : ℕ → ℕ = λ s. cond (leb x.size s) (get_or u.here (s - x.size) 0) 0 in
       let gives : (s : ℕ) → s ≤ 40 → row s ≡ met q ys s x = λ s small. added need ys u x.size s are
       ∙ ap (λ (m : ℕ). sum_by (fits m x.size s) ys) is in
       record {
@@ -53,8 +51,7 @@ module _ {q digits : ℕ} {xs ys : List Set} {n : ℕ} {lows highs : List (List 
         high_is = of-more (high_of digits) (met q ys) xs n high d highs more_highs row lt h.high_is high_key in_high.row gives;
         entered = entered;
         meet = λ k m e from within next below. (
-            let up = first.ascend n m e (omega (arith, next)) below in
-            let b = ap (λ (y : Set). y.weight) (get_or_default xs n d e lt) in
+            let up = first.ascend n m e (omega (arith, next)) below in let b = ap (λ (y : Set). y.weight) (get_or_default xs n d e lt) in
             omega (arith, meet k e from within, b, is, up));
       }
 
@@ -80,15 +77,12 @@ has-last n p r m small (inr past) = grind (arith, bit_at_above)
 
 pub without-low : (q s p n : ℕ) (all others : List Set) (g : Groups) → AreGroups q all others g → p < g.digits → s ≤ 40
     → (AreOfKeys (low_of g.digits) (met q others) all g.low.rows.items → All (λ x. low_of g.digits x < length g.low.rows.items) all
-    → n ≡ sum_by (λ x. cond (has p (low_of g.digits x)) 0 (met q others s x)) all)
-    → n ≡ sum_by (λ x. cond (has p x.members) 0 (met q others s x)) all
+    → n ≡ sum_by (λ x. cond (has p (low_of g.digits x)) 0 (met q others s x)) all) → n ≡ sum_by (λ x. cond (has p x.members) 0 (met q others s x)) all
 without-low q s p n all others g are lt small gives = grind (arith, mod-lt, pow_pos, sum-same, has-low)
 
 pub without-high : (q s p r n : ℕ) (all others : List Set) (g : Groups) → AreGroups q all others g → g.digits ≤ p
-    → r ≡ min (p - g.digits) g.digits
-    → s ≤ 40 → (AreOfKeys (high_of g.digits) (met q others) all g.high.rows.items
-    → All (λ x. high_of g.digits x < length g.high.rows.items) all
-    → n ≡ sum_by (λ x. cond (has r (high_of g.digits x)) 0 (met q others s x)) all)
+    → r ≡ min (p - g.digits) g.digits → s ≤ 40 → (AreOfKeys (high_of g.digits) (met q others) all g.high.rows.items
+    → All (λ x. high_of g.digits x < length g.high.rows.items) all → n ≡ sum_by (λ x. cond (has r (high_of g.digits x)) 0 (met q others s x)) all)
     → n ≡ sum_by (λ x. cond (has p x.members) 0 (met q others s x)) all
 without-high q s p r n all others g are le is small gives =
     gives are.high_is (λ k e below. (

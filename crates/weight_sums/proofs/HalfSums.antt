@@ -65,15 +65,13 @@ pub record AreMet (ws : List ℕ) (q s won shortened own : ℕ) : Type 0 where
   pub shortened_is : shortened + own ≡ over true ws (fits q 0 s)
 
 -- what is left of the sets that meet the quota is what the members lead to
-pub enough-won : (ws : List ℕ) (heads q s won shortened own : ℕ) → AreMet ws q s won shortened own → 0 < q → heads < s
-    → shortened + own ≤ won
+pub enough-won : (ws : List ℕ) (heads q s won shortened own : ℕ) → AreMet ws q s won shortened own → 0 < q → heads < s → shortened + own ≤ won
 enough-won ws heads q s won shortened own are some above =
     omega (arith, are.won_is, are.shortened_is, (endings-counted ws heads s q some).more above)
 
 pub left-is : (ws : List ℕ) (heads q s won shortened own n : ℕ) → AreMet ws q s won shortened own → IsLeft heads s won shortened own n
     → 0 < q → n ≡ endings ws heads s q 0
 left-is ws heads q s won shortened own n are left some =
-    let law = endings-counted ws heads s q some in
-    grind (arith, cases_order)
+    let law = endings-counted ws heads s q some in grind (arith, cases_order)
 
 pub ruleset places = (left_out-past)

@@ -44,8 +44,7 @@ pub tallied-from : {w rest left heads place : ℕ} {done after : List ℕ} {row 
 unfolding left_out
 tallied-from each later on all one here rest room zero lt = grind (arith, get_or-set_same)
 tallied-from {place = place} each later on all one here rest room (suc k) lt =
-    let next = rest k (omega arith) in
-    let e : place + suc k ≡ place + 1 + k = omega arith in
+    let next = rest k (omega arith) in let e : place + suc k ≡ place + 1 + k = omega arith in
     grind (arith, get_or-set_other, come-more)
 
 pub ruleset tallying = (common_steps, get_or-set_same)

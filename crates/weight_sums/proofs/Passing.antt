@@ -28,35 +28,20 @@ module _ {w heads left : ℕ} {before done : List ℕ} {row others : List Open}
   pub merge-few : (k : ℕ) → ((s : ℕ) → s ≤ 40 → get_or before s 0 + prefixes row * 2 ^ (left + 1) < 2 ^ 64)
       → prefixes (take k row) + prefixes others < 2 ^ 64
   merge-few k room =
-      let some : 1 ≤ 2 ^ left = pow_pos left in
-      omega (
-        arith,
-        others-few taken-are 0 (omega arith),
-        room 0 (omega arith),
-        mul-le-mul_left (prefixes row) some,
-        mul-le-mul_left (prefixes others) some,
-        double-times (prefixes row) left,
-        sum_by-take-le (λ (x : Open). x.ways) row k,
-      )
+      let some : 1 ≤ 2 ^ left = pow_pos left in let all = mul-le-mul_left (prefixes row) some in
+      let few = others-few taken-are 0 (omega arith) in let part = sum_by-take-le (λ (x : Open). x.ways) row k in
+      omega (arith, few, room 0 (omega arith), all, mul-le-mul_left (prefixes others) some, double-times (prefixes row) left, part)
 
   pub goes-on : {next : List Open} (rest k : ℕ) → AreMerged (take k row) others next
-      → ((g : ℕ → ℕ → ℕ) → ((r a : ℕ) → rest < r → g r a ≡ 0) → weigh g (take k row) ≡ weigh g row)
-      → GoesOn w rest left heads before done row next
+      → ((g : ℕ → ℕ → ℕ) → ((r a : ℕ) → rest < r → g r a ≡ 0) → weigh g (take k row) ≡ weigh g row) → GoesOn w rest left heads before done row next
   unfolding endings
   goes-on {next = next} rest k merged same = record {
     counted = λ ws s fits long small. (
-        let g : ℕ → ℕ → ℕ = endings ws heads s in
-        omega (
-          arith,
-          taken-are.counted g s small,
-          merged.all g,
-          same g (λ r x more. endings-none ws heads s r x (omega (arith, fits, more))),
-          weigh-plus (taken w (fill heads s (length ws)) g) g row,
-          ap (λ (m : ℕ). weigh (taken w (fill heads s m) g) row) long,
-        ));
+        let g : ℕ → ℕ → ℕ = endings ws heads s in let kept = same g (λ r x more. endings-none ws heads s r x (omega (arith, fits, more))) in
+        let plus = weigh-plus (taken w (fill heads s (length ws)) g) g row in
+        omega (arith, taken-are.counted g s small, merged.all g, kept, plus, ap (λ (m : ℕ). weigh (taken w (fill heads s m) g) row) long));
     few = λ s small. (
-        let front = mul-le-mul_right (2 ^ left) (sum_by-take-le (λ (o : Open). o.ways) row k) in
-        let t = weigh-times (2 ^ left) in
+        let front = mul-le-mul_right (2 ^ left) (sum_by-take-le (λ (o : Open). o.ways) row k) in let t = weigh-times (2 ^ left) in
         let all = merged.all (λ r x. 2 ^ left) in
         omega (arith, others-few taken-are s small, double-times (prefixes row) left, front, all, t next, t others, t (take k row)));
     sizes = λ p all. merged.sizes (p + 1)
@@ -68,10 +53,7 @@ pub prefixes-more : {w rest left heads m : ℕ} {before done : List ℕ} {row ne
     → left < 40 → GoesOn w rest left heads before done row next → AreOfPrefixes left done next
 prefixes-more {left = left} are is lt on = let sizes = on.sizes (40 - (left + 1)) (rw is at are.sizes) in grind (arith)
 
-pub come-none : (ws : List ℕ) (heads s : ℕ) (done : List ℕ) (row : List Open) → length ws ≡ 0
-    → get_or done s 0 ≡ come_to heads s ws done row
+pub come-none : (ws : List ℕ) (heads s : ℕ) (done : List ℕ) (row : List Open) → length ws ≡ 0 → get_or done s 0 ≡ come_to heads s ws done row
 unfolding endings
 come-none [] heads s done row none = omega (arith, weigh-times 0 row)
 come-none (w ∷ ws) heads s done row none = absurd (omega arith)
-
-pub ruleset going = (merge-few, goes-on, prefixes-more, come-none)

@@ -36,8 +36,7 @@ fits-more short d k s w ws = λ i. cond short (fits d k s alone) 0 + (over short
 
 -- ---- of members in two halves
 over-halves : (short : Bool) (vs ws : List ℕ) (g : ℕ → ℕ → ℕ) → over short (ws ++ vs) (λ x. g x.weight x.size)
-    ≡ over false ws (λ x. over short vs (λ y. g (y.weight + x.weight) (y.size + x.size)))
-    + cond short (over true ws (λ x. g x.weight x.size)) 0
+    ≡ over false ws (λ x. over short vs (λ y. g (y.weight + x.weight) (y.size + x.size))) + cond short (over true ws (λ x. g x.weight x.size)) 0
 unfolding over
 over-halves short vs [] g = grind (arith, over, nat_tests)
 over-halves short vs (w ∷ ws) g =

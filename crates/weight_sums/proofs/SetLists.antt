@@ -59,11 +59,9 @@ over-none : (short : Bool) (ws : List ℕ) (g : Set → ℕ) → ((x : Set) → 
 unfolding over
 over-none short [] g none = grind (arith, nat_tests)
 over-none short (w ∷ ws) g none =
-    let total : sum (w ∷ ws) ≡ w + sum ws = sum_by-cons (λ (y : ℕ). y) w ws in
-    let pos = pow_pos (length ws) in
+    let total : sum (w ∷ ws) ≡ w + sum ws = sum_by-cons (λ (y : ℕ). y) w ws in let pos = pow_pos (length ws) in
     let out = over-none short ws (λ x. g (left x)) (λ x h. none (left x) (grind (arith))) in
-    let with_it = over-none short ws (λ x. g (joined w x)) (λ x h. none (joined w x) (grind (arith))) in
-    grind (arith, nat_tests)
+    let with_it = over-none short ws (λ x. g (joined w x)) (λ x h. none (joined w x) (grind (arith))) in grind (arith, nat_tests)
 
 -- how many sets there are
 sum-ones : (xs : List Set) → sum_by (λ x. 1) xs ≡ length xs
@@ -76,43 +74,35 @@ over-ones true [] = refl
 over-ones false [] = refl
 over-ones short (w ∷ ws) = let double = pow-suc 2 (length ws) in grind (arith, nat_tests, double, over-ones short ws)
 
--- a list and what it is a copy of
-pub copied : {short : Bool} {ws : List ℕ} {xs ys : List Set} → xs ≡ ys → AreSets short ws ys → AreSets short ws xs
-copied same are = rw same are
-
 module _ {short : Bool} {ws : List ℕ} {xs : List Set} (are : AreSets short ws xs) where
   -- none of them passes these bounds
   within : All (IsWithin (length ws) (sum ws)) xs
   within i d lt =
       let past : Set → ℕ = λ x. (x.weight - sum ws) + (x.size - length ws) + (x.members + 1 - 2 ^ length ws) in
-      let here = get_or-le-sum_by past xs i d lt in
-      let none = over-none short ws past (λ x h. grind (arith)) in
-      let is = are.same past in
-      grind (arith)
+      let here = get_or-le-sum_by past xs i d lt in let none = over-none short ws past (λ x h. grind (arith)) in
+      let is = are.same past in grind (arith)
 
   -- there is room for a member more
   pub roomy : (w : ℕ) (all : List ℕ) → all ≡ w ∷ ws → length all ≤ 20 → sum all ≤ 2 ^ 63 → All (HasRoom w) xs
   roomy w all is few light i d lt =
-      let h = within i d lt in
-      let few-behind : length ws ≤ 20 = omega (arith, few, ap (λ (l : List ℕ). length l) is) in
-      let up : 2 ^ length ws ≤ 2 ^ 20 = pow_mono few-behind in
-      let parts = ap sum is ∙ sum_by-cons (λ (y : ℕ). y) w ws in
+      let h = within i d lt in let few-behind : length ws ≤ 20 = omega (arith, few, ap (λ (l : List ℕ). length l) is) in
+      let up : 2 ^ length ws ≤ 2 ^ 20 = pow_mono few-behind in let parts = ap sum is ∙ sum_by-cons (λ (y : ℕ). y) w ws in
       grind (arith)
 
   -- the sets of at most 20 members are those of a half
   pub half-is : length ws ≤ 20 → IsHalf xs
   half-is few =
-      let up : 2 ^ length ws ≤ 2 ^ 20 = pow_mono few in
-      record {
+      let up : 2 ^ length ws ≤ 2 ^ 20 = pow_mono few in record {
         ascend = are.ascend;
         long = omega (arith, sum-ones xs, are.same (λ x. 1), over-ones short ws, up);
         sizes = λ i d lt. (let h = within i d lt in omega (arith, h.size_in, few));
       }
 
-  pub half-of : (digits : ℕ) → length ws ≤ 20 → length ws ≤ digits + digits → IsHalfOf digits xs
-  half-of digits few enough =
+  -- and so is a copy of them
+  pub half-of : {ys : List Set} → ys ≡ xs → (digits : ℕ) → length ws ≤ 20 → length ws ≤ digits + digits → IsHalfOf digits ys
+  half-of same digits few enough =
       let up : 2 ^ length ws ≤ 2 ^ (digits + digits) = pow_mono enough in
-      record { half = half-is few; within = λ i d lt. (let h = within i d lt in omega (arith, h.members_in, up)) }
+      rw same (record { half = half-is few; within = λ i d lt. (let h = within i d lt in omega (arith, h.members_in, up)) })
 
 pub begun : (short : Bool) (xs : List Set) → xs ≡ cond (not short) (nobody ∷ []) [] → AreSets short [] xs
 unfolding over

@@ -44,8 +44,7 @@ added-further n p key g xs =
     ∙ sum-plus (λ x. cond (ltb (key x) n) (cond (has p (key x)) 0 (g x)) 0) (λ x. cond (has p n) 0 (cond (eqb (key x) n) (g x) 0)) xs
     ∙ (λ i. added_to n p key g xs + sum-if (has p n) (λ x. cond (eqb (key x) n) (g x) 0) xs i)
   where
-    one : (k v : ℕ) → cond (ltb k (n + 1)) (cond (has p k) 0 v) 0 ≡ cond (ltb k n) (cond (has p k) 0 v) 0
-        + cond (has p n) 0 (cond (eqb k n) v 0)
+    one : (k v : ℕ) → cond (ltb k (n + 1)) (cond (has p k) 0 v) 0 ≡ cond (ltb k n) (cond (has p k) 0 v) 0 + cond (has p n) 0 (cond (eqb k n) v 0)
     one k v = grind (arith, nat_tests)
 
 pub added-all : (m n p : ℕ) (key g : Set → ℕ) (xs : List Set) → All (λ x. key x < m) xs → m ≤ n

@@ -105,6 +105,4 @@ choose-few m k few = let up : 2 ^ m ≤ 2 ^ 40 = pow_mono few in omega (arith, c
 
 pub ruleset chosen = (choose-few, choose-none, choose-more, choose-zero)
 
-pub ruleset taking = (times-fit, complete, put-down, taken-room, take_all)
-
 pub ruleset zeros = (get_or-zeros, length-set, get_or-set_same, get_or-set_other)

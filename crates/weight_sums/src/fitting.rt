@@ -50,7 +50,6 @@ impl Fitting {
     }
 
     /// Lets in all that meet a need, which is not above what those that are in meet.
-    #[tactic(auto, using(std::proofs::lemmas::Grind::common_steps, crate::proofs::FittingSets::entering))]
     pub(crate) fn let_in(&mut self, sets: &[Set], need: u64)
         requires half { IsHalf sets.now }
         requires entered { AreEntered sets.now self.old }

@@ -40,7 +40,6 @@ pub(crate) struct Groups {
 
 impl Groups {
     /// Both lists are by weight: while the need falls, more and more of the others meet it, and each comes in once.
-    #[tactic(auto, using(std::proofs::lemmas::Grind::common_steps, std::proofs::lemmas::Nat::shr_below, crate::proofs::FittingSets::entering))]
     pub(crate) fn new(
         alloc: Global,
         list: &[Set],

@@ -32,7 +32,6 @@ pub(crate) fn still_open(row: &[Open], rest: u64) -> usize
 
 /// Takes a member of this weight into a prefix. What meets the quota by it is counted by size: alone where it has more
 /// members than are asked for, and else with any of the others that fill it up. What does not is put down.
-#[tactic(auto, using(std::proofs::lemmas::Grind::common_steps, crate::proofs::Taking::taking))]
 fn take_in(
     prefix: &Open,
     weight: u64,
@@ -65,7 +64,6 @@ fn take_in(
 }
 
 /// Takes a member of this weight into each prefix of a row.
-#[tactic(auto, using(std::proofs::lemmas::Grind::common_steps, crate::proofs::Taking::taking))]
 pub(crate) fn with_member(
     row: &[Open],
     weight: u64,

@@ -82,7 +82,6 @@ impl Rows {
 
     /// Decides one member more, of this weight, where the `left` members after it weigh `rest` together: coalitions
     /// that are complete by it are counted by size.
-    #[tactic(auto, using(std::proofs::lemmas::Grind::common_steps, crate::proofs::Passing::going))]
     pub(crate) fn go_on(
         &mut self,
         weight: u64,
@@ -111,7 +110,6 @@ impl Rows {
     }
 
     /// Decides these members, which weigh `rest` together; false where there is no room.
-    #[tactic(auto, using(std::proofs::lemmas::Grind::common_steps, crate::proofs::Passing::going))]
     pub(crate) fn finish(
         &mut self,
         weights: &[u64],

@@ -1,4 +1,4 @@
-use Rattle.weight_sums.proofs.Imports.{◌≤◌, arith, Open}
+use Rattle.weight_sums.proofs.Imports.{common_steps, ◌≤◌, arith, Open}
 use Rattle.std.proofs.lemmas.List.{take_rest, Elements.All-append, Elements.All-drop, Sums.sum_by-append}
 use Rattle.weight_sums.proofs.row.merge.Goals as goal
 
@@ -10,3 +10,6 @@ returns c =
           All-append (λ (o : Open). o.size ≤ p) _ _ (All-append (λ (o : Open). o.size ≤ p) _ _ (c.loop-i.invariant.sizes p a b)
           (All-drop (λ (o : Open). o.size ≤ p) _ _ a)) (All-drop (λ (o : Open). o.size ≤ p) _ _ b);
     }))
+
+pub loop-i-preserved : goal.loop-i-preserved
+loop-i-preserved c = grind (arith, common_steps)

@@ -14,8 +14,7 @@ pub tally_from-requires : goal.tally_from-requires
 tally_from-requires t c =
     let parts = ap sum c.in-Some.ensures.cases.0 ∙ sum_by-cons (λ (y : ℕ). y) c.in-Some.weight.now c.in-Some.later.now in
     let rest : c.args.rest - c.in-Some.weight.now ≡ sum c.in-Some.later.now = omega (arith, parts, c.requires.rest) in
-    let one = c.in-Some.ensures.cases.1 in
-    let some = c.if-later-eq0.false in
+    let one = c.in-Some.ensures.cases.1 in let some = c.if-later-eq0.false in
     let few : c.args.place + 1 + length c.in-Some.later.now ≤ 40 = omega (arith, one, c.requires.few) in
     let row = prefixes-more c.requires.row (omega (arith, one, some)) (omega (arith, one, c.requires.few)) c.in_ok-go_on.ensures in
     let less = come-less _ _ _ c.in-Some.ensures.cases.0 c.in_ok-go_on.ensures rest (omega (arith, some)) c.requires.less in

@@ -6,9 +6,7 @@ tally_from-requires-clause-row c = c.in_ok-begin.ensures.few _ (omega arith)
 
 pub returns : goal.returns
 returns c p lt =
-    let e : 0 + p ≡ p = omega arith in
-    let rest = rw e at (c.in_ok-tally_from.ensures c.if-not-branch.false p lt) in
-    record {
+    let e : 0 + p ≡ p = omega arith in let rest = rw e at (c.in_ok-tally_from.ensures c.if-not-branch.false p lt) in record {
       long = rest.long;
       sizes = λ s small. (
           let begun = c.in_ok-begin.ensures.come (left_out p c.args.weights.now) c.args.heads.now.asked s in

@@ -1,17 +1,21 @@
-use Rattle.mwc_sums.proofs.Imports.{◌∙◌, List, length, ap, sym, RuleView}
-use Rattle.mwc_sums.proofs.{Orders.counts-alike, Sharing.all-pass, Sharing.chamber-closed, Sharing.parts-are}
+use Rattle.mwc_sums.proofs.Imports.{arith, ◌∙◌, List, length, ap, sym, RuleView}
+use Rattle.mwc_sums.proofs.Sharing.{sides-few, others-chambers, chamber-some, all-pass, chamber-closed, parts-are}
+use Rattle.mwc_sums.proofs.Orders.{counts-alike}
 use Rattle.mwc_sums.proofs.statute.Statute.+count.Goals as goal
 
-pub returns-then-rules-eq0 : goal.returns-then-rules-eq0
-returns-then-rules-eq0 t c =
+pub count-returns-then-rules-eq0 : goal.count-returns-then-rules-eq0
+count-returns-then-rules-eq0 t c =
     let none = ap (λ (l : List RuleView). length l) (sym c.in_ok-others.ensures.rules) ∙ sym c.rules.ensures ∙ c.if-rules-eq0.true in
     counts-alike c.args.game.now c.in_ok-first.first.game c.was_checked.ensures.game c.in_ok-first.first.is
     (rw (c.in_ok-first.ensures.names, ← c.requires.game.members, c.in_ok-first.ensures.rules ∙ all-pass _ _ none) c.requires.game)
     c.in_ok-first.first.counts.value c.in_ok-first.first.are
 
-pub boxed_joined-requires : goal.boxed_joined-requires
-boxed_joined-requires t c =
+pub count-boxed_joined-requires : goal.count-boxed_joined-requires
+count-boxed_joined-requires t c =
     let fair = c.rules_are_fair.ensures in
-    rw c.new.ensures (parts-are _ _ fair _ (chamber-closed _ _ fair c.requires.chambers 0 c.requires.some) c.args.game.now c.in_ok-first.first.game
-    c.in_ok-second.second c.requires.game c.in_ok-first.ensures.names c.in_ok-second.ensures.names c.in_ok-first.ensures.rules
-    (c.in_ok-second.ensures.rules ∙ c.in_ok-others.ensures.rules))
+    parts-are _ _ fair _ (chamber-closed _ _ fair c.requires.chambers 0 c.requires.some) c.args.game.now c.in_ok-first.first.game
+    c.in_ok-second.second.game c.requires.game c.in_ok-first.ensures.names c.in_ok-second.ensures.names c.in_ok-first.ensures.rules
+    (c.in_ok-second.ensures.rules ∙ c.in_ok-others.ensures.rules)
+
+pub count-counted-requires : goal.count-counted-requires
+count-counted-requires t c = grind (arith, sides-few, others-chambers, chamber-some)

@@ -1,6 +1,12 @@
-use Rattle.weight_sums.proofs.{FittingSets.all-entered, Imports.arith, Imports.nobody}
+use Rattle.weight_sums.proofs.{FittingSets.here-few, FittingSets.all-entered, Imports.arith, Imports.nobody}
 use Rattle.weight_sums.proofs.fitting.Fitting.let_in.Goals as goal
 
 pub returns-after-loop-self-clause-all : goal.returns-after-loop-self-clause-all
 returns-after-loop-self-clause-all c = all-entered c.args.need c.args.sets.now c.loop-self.self nobody c.loop-self.invariant.entered
     c.loop-self.invariant.meet c.requires.half (λ some. absurd (omega (arith, some, c.loop-self-test.false)))
+
+pub enter-requires-clause-here : goal.enter-requires-clause-here
+enter-requires-clause-here c = grind (arith, here-few)
+
+pub returns-else-need-sets-clause-all : goal.returns-else-need-sets-clause-all
+returns-else-need-sets-clause-all c = grind (arith, all-entered)

@@ -1,4 +1,5 @@
-use Rattle.weight_sums.proofs.Imports.{arith, nobody}
+use Rattle.weight_sums.proofs.FittingSets.{here-few}
+use Rattle.weight_sums.proofs.Imports.{shr_below, common_steps, arith, nobody}
 use Rattle.weight_sums.proofs.GroupSums.{low-few, high-few, paired-more, paired-all}
 use Rattle.weight_sums.proofs.groups.Groups.new.Goals as goal
 
@@ -18,3 +19,12 @@ pub returns : goal.returns
 returns c =
     paired-all (record { digits = c.args.digits; low = c.loop-set.lows; high = c.loop-set.highs }) c.loop-set.invariant
     c.loop-set-test.false c.requires.digits c.requires.list c.requires.others
+
+pub add-requires-clause-few : goal.add-requires-clause-few
+add-requires-clause-few c s = here-few _ _ s c.let_in.ensures.entered c.requires.others
+
+pub add-requires-in-loop-set-clause-few : goal.add-requires-in-loop-set-clause-few
+add-requires-in-loop-set-clause-few c s = here-few _ _ s c.let_in.ensures.entered c.requires.others
+
+pub add-requires-in-loop-set-clause-key : goal.add-requires-in-loop-set-clause-key
+add-requires-in-loop-set-clause-key c = grind (arith, common_steps, shr_below)

@@ -10,18 +10,14 @@ met-at : (c : After-without-own) (s : ℕ) → s ≤ 40
     (get_or c.without-shortened.result s 0)
     (get_or c.without-own.result s 0)
 met-at c s small =
-    let are = c.requires.halves in
-    let q : ℕ = c.args.self.now.quota in
-    let half : ℕ = length c.args.weights.now / 2 in
-    let fr : List ℕ = take half c.args.weights.now in
-    let bk : List ℕ = drop half c.args.weights.now in
-    let whole = take-append-drop half c.args.weights.now in
+    let are = c.requires.halves in let q : ℕ = c.args.self.now.quota in
+    let half : ℕ = length c.args.weights.now / 2 in let fr : List ℕ = take half c.args.weights.now in
+    let bk : List ℕ = drop half c.args.weights.now in let whole = take-append-drop half c.args.weights.now in
     let long : length fr ≡ half = let l = length-take half c.args.weights.now in omega (arith, l) in
     let won = c.without-won.ensures q s false fr bk are.first are.second are.won are.first_are are.second_are long small in
     let shortened = c.without-shortened.ensures q s true fr bk are.first are.second_shortened are.shortened are.first_are
     are.second_shortened_are long small in
-    let own = c.without-own.ensures q are.first_shortened (nobody ∷ []) s are.own small in
-    record {
+    let own = c.without-own.ensures q are.first_shortened (nobody ∷ []) s are.own small in record {
       won_is = omega (arith, rw whole at won);
       shortened_is = omega (arith, rw whole at shortened, own, own-met fr are.first_shortened are.first_shortened_are q s c.args.place);
     }

@@ -10,6 +10,5 @@ loop-key-init c = record {
 
 pub returns : goal.returns
 returns c key f xs s are keys small =
-    c.loop-key.invariant.added key f xs s are small
-    ∙ added-all (length c.args.self.now.rows.items) c.loop-key.key c.args.place key (f s) xs keys
+    c.loop-key.invariant.added key f xs s are small ∙ added-all (length c.args.self.now.rows.items) c.loop-key.key c.args.place key (f s) xs keys
     (let l = c.len-key-end.ensures in omega (arith, l, c.loop-key-test.false))
