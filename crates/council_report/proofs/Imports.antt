@@ -3,7 +3,8 @@ pub use Rattle.coalitions.specs.declared.shown.Shown.{Shown}
 pub use Rattle.council_game.proofs.Shared.{Games.votes-are, Weights.weight-le}
 pub use Rattle.council_game.specs.{Game.GameView, Game.IsGame, Game.votes_of, Votes.IsRule, Votes.rule_at, Votes.weight}
 pub use Rattle.council_report.specs.{Inner.Lines.line_of_member, Inner.Lines.line_of_size, declared.counted.Counted.Counted}
-pub use Rattle.council_report.specs.{Inner.Puts.Lasts, Lines.names_of, Lines.with_tab, Report.coalition_lines, declared.output.Block.Block}
+pub use Rattle.council_report.specs.{Inner.Ready.Takes, Lines.names_of, Lines.with_tab, Report.coalition_lines, declared.output.Block.Block}
+pub use Rattle.council_report.specs.Inner.Puts.{Lasts}
 pub use Rattle.council_report.specs.Inner.SharedLine.{AreSeats, HasNoneFrom, IsLine, IsReadyLine, IsSeat, SameBefore}
 pub use Rattle.council_report.specs.Inner.Told.{HasStopped, HoldsBut, Progress, StopsIn, Tells, progress_of}
 pub use Rattle.power_index.proofs.Shared.Members.{few-members}
@@ -20,4 +21,4 @@ pub use Rattle.std.proofs.lemmas.List.FromFn.{take-map-range_with_len}
 pub use Rattle.std.specs.{Int.leading_zeros, Io.KnownBytes.Appends, List.range_with_len}
 unfoldable pub use Rattle.council_game.specs.Votes.{has}
 unfoldable pub use Rattle.council_report.specs.Inner.SharedLine.{fields_of, places_before, weights_under}
-unfoldable pub use Rattle.council_report.specs.{Inner.Lines.lines_of, Lines.coalition_line, Lines.size_line}
+unfoldable pub use Rattle.council_report.specs.{Inner.Lines.lines_of, Lines.coalition_line, Lines.member_line, Lines.size_line}

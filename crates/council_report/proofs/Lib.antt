@@ -1,5 +1,4 @@
 mod Bounds
-mod Room
 mod Holding
 mod Telling
 mod OneTextMore

@@ -33,10 +33,8 @@ fn put_coalition<W: Write>(
     ensures line { IsReadyLine game.now line.new }
 {
     line.move_to(game, coalition);
-    match line.push(&mut block.bytes, game) {
-        Ok(()) => block.settle(writer),
-        Err(_) => unreachable!(),
-    }
+    line.push(block, game);
+    block.settle(writer)
 }
 
 /// A line for each coalition, in the order of the list, whichever that is.
@@ -96,10 +94,8 @@ fn put_size<W: Write>(
     ensures { Puts (line_of_size counted.now size)
         (W.contents writer.old) block.old (W.contents writer.new) block.new result }
 {
-    match push_size(&mut block.bytes, counted, size) {
-        Ok(()) => block.settle(writer),
-        Err(_) => unreachable!(),
-    }
+    push_size(block, counted, size);
+    block.settle(writer)
 }
 
 /// A line for each size that some coalition has.
@@ -133,10 +129,8 @@ fn put_member<W: Write>(
     ensures { Puts (line_of_member counted.now member)
         (W.contents writer.old) block.old (W.contents writer.new) block.new result }
 {
-    match push_member(&mut block.bytes, counted, member) {
-        Ok(()) => block.settle(writer),
-        Err(_) => unreachable!(),
-    }
+    push_member(block, counted, member);
+    block.settle(writer)
 }
 
 /// A line for each member.
