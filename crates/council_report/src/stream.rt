@@ -81,23 +81,6 @@ pub(crate) fn put_pieces<W: Write>(
     Ok(())
 }
 
-/// The line of a size, where some coalition has it.
-fn put_size<W: Write>(
-    block: &mut Block,
-    writer: &mut W,
-    counted: &Counted<'_>,
-    size: usize,
-) -> Result<(), WriteFault>
-    requires size { size ≤ counted.now.members }
-    requires ready { IsReady block.old }
-    requires counted { CanCount block.old (line_of_size counted.now size) }
-    ensures { Puts (line_of_size counted.now size)
-        (W.contents writer.old) block.old (W.contents writer.new) block.new result }
-{
-    push_size(block, counted, size);
-    block.settle(writer)
-}
-
 /// A line for each size that some coalition has.
 pub(crate) fn put_sizes<W: Write>(
     block: &mut Block,
@@ -111,26 +94,10 @@ pub(crate) fn put_sizes<W: Write>(
         (W.contents writer.old) block.old (W.contents writer.new) block.new result }
 {
     for size in 1..counted.members + 1 {
-        put_size(block, writer, counted, size)?;
+        push_size(block, counted, size);
+        block.settle(writer)?;
     }
     Ok(())
-}
-
-/// The line of a member.
-fn put_member<W: Write>(
-    block: &mut Block,
-    writer: &mut W,
-    counted: &Counted<'_>,
-    member: usize,
-) -> Result<(), WriteFault>
-    requires member { member < counted.now.members }
-    requires ready { IsReady block.old }
-    requires counted { CanCount block.old (line_of_member counted.now member) }
-    ensures { Puts (line_of_member counted.now member)
-        (W.contents writer.old) block.old (W.contents writer.new) block.new result }
-{
-    push_member(block, counted, member);
-    block.settle(writer)
 }
 
 /// A line for each member.
@@ -145,7 +112,8 @@ pub(crate) fn put_members<W: Write>(
         (W.contents writer.old) block.old (W.contents writer.new) block.new result }
 {
     for member in 0..counted.members {
-        put_member(block, writer, counted, member)?;
+        push_member(block, counted, member);
+        block.settle(writer)?;
     }
     Ok(())
 }
