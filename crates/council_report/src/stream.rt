@@ -15,28 +15,6 @@ use crate::shared_line::SharedLine;
 use council_game::{Coalition, Game};
 use std::io::Write;
 
-/// The line of a coalition.
-fn put_coalition<W: Write>(
-    block: &mut Block,
-    writer: &mut W,
-    game: &Game,
-    coalition: Coalition,
-    line: &mut SharedLine,
-) -> Result<(), WriteFault>
-    requires some { 0 < coalition }
-    requires below { coalition < 2 ^ length game.now.names }
-    requires line { IsReadyLine game.now line.old }
-    requires ready { IsReady block.old }
-    requires counted { CanCount block.old (coalition_line game.now coalition) }
-    ensures puts { Puts (coalition_line game.now coalition)
-        (W.contents writer.old) block.old (W.contents writer.new) block.new result }
-    ensures line { IsReadyLine game.now line.new }
-{
-    line.move_to(game, coalition);
-    line.push(block, game);
-    block.settle(writer)
-}
-
 /// A line for each coalition, in the order of the list, whichever that is.
 pub(crate) fn put_coalitions<W: Write>(
     block: &mut Block,
@@ -54,7 +32,9 @@ pub(crate) fn put_coalitions<W: Write>(
     ensures line { OnOk result (IsReadyLine game.now line.new) }
 {
     for coalition in list {
-        put_coalition(block, writer, game, *coalition, line)?;
+        line.move_to(game, *coalition);
+        line.push(block, game);
+        block.settle(writer)?;
     }
     Ok(())
 }
