@@ -1,6 +1,6 @@
 -- Texts told one after another, through a block that stays ready.
-use Rattle.council_report.proofs.Imports.{◌≡◌, ◌≤◌, ◌++◌, ℕ, List, [], length, Option, Vec, arith, Global, vec_capacity, nat_tests, ap, ◌∙◌}
-use Rattle.council_report.proofs.Imports.{length-append, false, common_steps, progress_of, Tells, HasStopped, Block, Takes}
+use Rattle.council_report.proofs.Imports.{◌≡◌, ◌≤◌, ◌++◌, ℕ, List, [], length, Option, arith, nat_tests, false, common_steps, progress_of}
+use Rattle.council_report.proofs.Imports.{Tells, HasStopped, Block, Takes}
 use Rattle.std.proofs.Common.{Result, Ok, Err, IfErr, OnOk}
 use Rattle.council_report.specs.{Inner.Ready.CanCount, Inner.Ready.HasRoom, Inner.Ready.IsReady, declared.output.WriteFault.WriteFault}
 use Rattle.council_report.specs.Inner.Puts.{Puts}

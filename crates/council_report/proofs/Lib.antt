@@ -1,7 +1,6 @@
 mod Bounds
 mod Holding
 mod Telling
-mod OneTextMore
 mod Turns
 mod Wholes
 mod Lasting

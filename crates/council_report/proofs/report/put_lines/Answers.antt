@@ -22,10 +22,6 @@ pub returns-in_err-put_shown_coalitions : goal.returns-in_err-put_shown_coalitio
 unfolding lines_of
 returns-in_err-put_shown_coalitions g c = grind (arith, common_steps, stopped-first)
 
-pub put_shown_coalitions-requires-clause-counted : goal.put_shown_coalitions-requires-clause-counted
-unfolding lines_of
-put_shown_coalitions-requires-clause-counted g c = grind (arith, common_steps)
-
 pub put_shown_sizes-requires-clause-counted : goal.put_shown_sizes-requires-clause-counted
 unfolding lines_of
 put_shown_sizes-requires-clause-counted g c = grind (arith, common_steps)

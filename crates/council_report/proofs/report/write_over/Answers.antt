@@ -1,4 +1,4 @@
-use Rattle.council_report.proofs.Imports.{◌≡◌, ◌∙◌, ℕ, List, length, ap, arith, Appends, Block}
+use Rattle.council_report.proofs.Imports.{◌≡◌, ◌∙◌, ℕ, List, length, ap, arith, Appends}
 use Rattle.council_report.specs.{Outcome.Falls, declared.fault.ReportFault.TheVariants.Write}
 use Rattle.council_report.proofs.{Bounds.lines-count, FromCounts.from-counts}
 use Rattle.council_report.proofs.Wholes.{after-none, counts-whole, appends-whole, stopped-whole}

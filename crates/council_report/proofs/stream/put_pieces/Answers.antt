@@ -1,5 +1,5 @@
 use Rattle.council_report.proofs.Imports.{flat_map, err_from_is_err_and, common_steps, arith, coalition_line}
-use Rattle.council_report.proofs.Turns.{IsNext, turn-told, turn-counts, turn-stopped}
+use Rattle.council_report.proofs.Turns.{IsNext, turn-counts, turn-stopped}
 use Rattle.council_report.proofs.stream.put_pieces.Goals as goal
 
 pub put_coalitions-requires-clause-counted : goal.put_coalitions-requires-clause-counted
@@ -14,15 +14,3 @@ returns-in_err-put_coalitions g c =
     rw (failed.1, failed.2)
     (turn-stopped (λ p. flat_map
     (coalition_line c.args.game.now) p.now) next c.loop-piece.invariant.lasts.tells c.in_err-put_coalitions.ensures.puts)
-
-pub loop-piece-preserved : goal.loop-piece-preserved
-loop-piece-preserved g c =
-    let next : IsNext c.args.pieces.now c.loop-piece.piece-index c.piece-item.result = grind (arith, common_steps) in
-    let lasts = c.in_ok-put_coalitions.ensures.puts in
-    record {
-      lasts = record {
-        tells = turn-told (λ p. flat_map (coalition_line c.args.game.now) p.now) next c.loop-piece.invariant.lasts.tells lasts.tells;
-        ready = lasts.ready;
-      };
-      line = c.in_ok-put_coalitions.ensures.line;
-    }
