@@ -3,7 +3,7 @@ use Rattle.council_report.proofs.Imports.{◌≡◌, ◌≤◌, ◌++◌, ℕ, L
 use Rattle.council_report.proofs.Imports.{Tells, HasStopped, Block, Takes}
 use Rattle.std.proofs.Common.{Result, Ok, Err, IfErr, OnOk}
 use Rattle.council_report.specs.{Inner.Ready.CanCount, Inner.Ready.HasRoom, Inner.Ready.IsReady, declared.output.WriteFault.WriteFault}
-use Rattle.council_report.specs.Inner.Puts.{Puts}
+use Rattle.council_report.specs.Inner.Puts.{Puts, Settles}
 use Rattle.council_report.proofs.Telling.{tells-then, tells-same, tells-block, stopped-next, stopped-after}
 
 -- what puts a text after one that was told puts both
@@ -24,12 +24,10 @@ line-counts text old pushed ready takes short few = grind (arith, common_steps, 
 
 -- such a line, in a block that was made ready again
 pub puts-line : (text : List ℕ) (held now : Option (List ℕ)) (old pushed new : Block) (r : Result (Unit {0}) WriteFault) → IsReady old
-    → Takes old pushed text → length text ≤ 4096
-    → OnOk r (Tells (progress_of held pushed) (progress_of now new) []) → OnOk r (HasRoom pushed → pushed.refused ≡ false → IsReady new)
-    → IfErr r (λ fault. HasStopped (progress_of held pushed) now fault.written) → Puts text held old now new r
-puts-line text held now old pushed new (Ok u) ready takes short told settled failed =
+    → Takes old pushed text → length text ≤ 4096 → Settles held pushed now new r → Puts text held old now new r
+puts-line text held now old pushed new (Ok u) ready takes short settled =
     let kept = line-kept ready takes short in
     grind (arith, nat_tests, common_steps, tells-same, tells-block, takes.adds.items kept)
-puts-line text held now old pushed new (Err fault) ready takes short told settled failed =
+puts-line text held now old pushed new (Err fault) ready takes short settled =
     let kept = line-kept ready takes short in
     grind (arith, nat_tests, common_steps, stopped-after, tells-block, takes.adds.items kept)

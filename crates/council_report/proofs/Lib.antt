@@ -1,5 +1,4 @@
 mod Bounds
-mod Holding
 mod Telling
 mod Turns
 mod Wholes
@@ -7,6 +6,5 @@ mod Lasting
 mod Beginnings
 pub mod SharedLines
 mod Differences
-mod Joins
 mod FromCounts
 mod Imports

@@ -59,7 +59,8 @@ pub(crate) struct Block {
 
 impl Block {
     ghost use Rattle.council_report.specs.Inner.Told.{progress_of, Tells, HasStopped};
-    ghost use Rattle.council_report.specs.Inner.Ready.{HasRoom, IsReady, CanCount, Takes};
+    ghost use Rattle.council_report.specs.Inner.Ready.{HasRoom, CanCount, Takes};
+    ghost use Rattle.council_report.specs.Inner.Puts.{Settles};
 
     /// An empty block with all its room.
     pub(crate) fn new(alloc: Global) -> Result<Block, AllocError>
@@ -112,12 +113,7 @@ impl Block {
     /// Makes ready for a line: where the next might not fit, all bytes go to the writer.
     pub(crate) fn settle<W: Write>(&mut self, writer: &mut W) -> Result<(), WriteFault>
         requires { CanCount self.old [] }
-        ensures ok { OnOk result (Tells (progress_of (W.contents writer.old) self.old)
-            (progress_of (W.contents writer.new) self.new) []) }
-        ensures ready { OnOk result (HasRoom self.old → self.old.refused ≡ false → IsReady self.new) }
-        ensures err { IfErr result (λ fault.
-            HasStopped (progress_of (W.contents writer.old) self.old)
-            (W.contents writer.new) fault.written) }
+        ensures { Settles (W.contents writer.old) self.old (W.contents writer.new) self.new result }
     {
         if self.bytes.len() + LINE <= ROOM {
             return Ok(());

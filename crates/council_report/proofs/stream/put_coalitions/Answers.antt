@@ -15,8 +15,8 @@ returns-in_err-settle-clause-puts g c =
     let next : IsNext c.args.list.now c.loop-coalition.coalition-index c.coalition-item.result = grind (arith, common_steps) in
     let failed = err_from_is_err_and c.from_residual.result c.from_residual.ensures.1 in
     let puts = puts-line _ _ _ c.loop-coalition.block c.push.new.out c.settle.new.self c.settle.result c.loop-coalition.invariant.lasts.ready
-    (rw c.move_to.ensures.coalition at c.push.ensures) (coalition-fits c.args.game.now c.loop-coalition.invariant.line.is.game c.coalition-item.result)
-    c.settle.ensures.ok c.settle.ensures.ready c.settle.ensures.err in
+    (rw c.move_to.ensures.coalition at c.push.ensures)
+    (coalition-fits c.args.game.now c.loop-coalition.invariant.line.is.game c.coalition-item.result) c.settle.ensures in
     rw (failed.1, failed.2)
     (turn-stopped (coalition_line c.args.game.now) next c.loop-coalition.invariant.lasts.tells (rw c.in_err-settle.was at puts))
 
@@ -24,10 +24,13 @@ pub loop-coalition-preserved : goal.loop-coalition-preserved
 loop-coalition-preserved g c =
     let next : IsNext c.args.list.now c.loop-coalition.coalition-index c.coalition-item.result = grind (arith, common_steps) in
     let puts = puts-line _ _ _ c.loop-coalition.block c.push.new.out c.settle.new.self c.settle.result c.loop-coalition.invariant.lasts.ready
-    (rw c.move_to.ensures.coalition at c.push.ensures) (coalition-fits c.args.game.now c.loop-coalition.invariant.line.is.game c.coalition-item.result)
-    c.settle.ensures.ok c.settle.ensures.ready c.settle.ensures.err in
+    (rw c.move_to.ensures.coalition at c.push.ensures)
+    (coalition-fits c.args.game.now c.loop-coalition.invariant.line.is.game c.coalition-item.result) c.settle.ensures in
     let lasts = rw c.in_ok-settle.was at puts in
     record {
-      lasts = record { tells = turn-told (coalition_line c.args.game.now) next c.loop-coalition.invariant.lasts.tells lasts.tells; ready = lasts.ready };
+      lasts = record {
+        tells = turn-told (coalition_line c.args.game.now) next c.loop-coalition.invariant.lasts.tells lasts.tells;
+        ready = lasts.ready;
+      };
       line = grind (arith, common_steps);
     }

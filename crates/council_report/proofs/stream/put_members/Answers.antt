@@ -15,14 +15,14 @@ returns-in_err-settle g c =
     let next = next-number 0 c.args.counted.now.members c.loop-member.member c.loop-member.member (omega arith) (omega arith) in
     let failed = err_from_is_err_and c.from_residual.result c.from_residual.ensures.1 in
     let puts = puts-line _ _ _ c.loop-member.block c.push_member.new.out c.settle.new.self c.settle.result c.loop-member.invariant.ready
-    c.push_member.ensures (member-fits c.args.counted.now c.loop-member.member (omega arith)) c.settle.ensures.ok c.settle.ensures.ready c.settle.ensures.err in
+    c.push_member.ensures (member-fits c.args.counted.now c.loop-member.member (omega arith)) c.settle.ensures in
     rw (failed.1, failed.2) (turn-stopped (line_of_member c.args.counted.now) next c.loop-member.invariant.tells (rw c.in_err-settle.was at puts))
 
 pub loop-member-preserved : goal.loop-member-preserved
 loop-member-preserved g c =
     let next = next-number 0 c.args.counted.now.members c.loop-member.member c.loop-member.member (omega arith) (omega arith) in
     let puts = puts-line _ _ _ c.loop-member.block c.push_member.new.out c.settle.new.self c.settle.result c.loop-member.invariant.ready
-    c.push_member.ensures (member-fits c.args.counted.now c.loop-member.member (omega arith)) c.settle.ensures.ok c.settle.ensures.ready c.settle.ensures.err in
+    c.push_member.ensures (member-fits c.args.counted.now c.loop-member.member (omega arith)) c.settle.ensures in
     let lasts = rw c.in_ok-settle.was at puts in
     record { tells = turn-told (line_of_member c.args.counted.now) next c.loop-member.invariant.tells lasts.tells; ready = lasts.ready }
 

@@ -15,14 +15,14 @@ returns-in_err-settle g c =
     let next = next-number 1 c.args.counted.now.members (c.loop-size.size - 1) c.loop-size.size (omega arith) (omega arith) in
     let failed = err_from_is_err_and c.from_residual.result c.from_residual.ensures.1 in
     let puts = puts-line _ _ _ c.loop-size.block c.push_size.new.out c.settle.new.self c.settle.result c.loop-size.invariant.ready
-    c.push_size.ensures (size-fits c.args.counted.now c.loop-size.size (omega arith)) c.settle.ensures.ok c.settle.ensures.ready c.settle.ensures.err in
+    c.push_size.ensures (size-fits c.args.counted.now c.loop-size.size (omega arith)) c.settle.ensures in
     rw (failed.1, failed.2) (turn-stopped (line_of_size c.args.counted.now) next c.loop-size.invariant.tells (rw c.in_err-settle.was at puts))
 
 pub loop-size-preserved : goal.loop-size-preserved
 loop-size-preserved g c =
     let next = next-number 1 c.args.counted.now.members (c.loop-size.size - 1) c.loop-size.size (omega arith) (omega arith) in
     let puts = puts-line _ _ _ c.loop-size.block c.push_size.new.out c.settle.new.self c.settle.result c.loop-size.invariant.ready
-    c.push_size.ensures (size-fits c.args.counted.now c.loop-size.size (omega arith)) c.settle.ensures.ok c.settle.ensures.ready c.settle.ensures.err in
+    c.push_size.ensures (size-fits c.args.counted.now c.loop-size.size (omega arith)) c.settle.ensures in
     let lasts = rw c.in_ok-settle.was at puts in
     let same : c.loop-size.size - 1 + 1 ≡ c.loop-size.size + 1 - 1 = omega arith in grind (arith, common_steps, turn-told)
 
