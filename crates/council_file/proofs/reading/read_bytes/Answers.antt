@@ -1,5 +1,0 @@
-use Rattle.std.proofs.{Common.arith, lemmas.Grind.common_steps}
-use Rattle.council_file.proofs.reading.read_bytes.Goals as goal
-
-pub loop-bytes-preserved : goal.loop-bytes-preserved
-loop-bytes-preserved g c = grind (arith, common_steps)
