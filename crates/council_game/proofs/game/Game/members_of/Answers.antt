@@ -1,4 +1,4 @@
-use Rattle.council_game.proofs.Imports.{ℕ, length, refl, sym, ap, ◌∙◌, member_at, has}
+use Rattle.council_game.proofs.Imports.{arith, common_steps, ℕ, length, refl, sym, ap, ◌∙◌, member_at, has}
 use Rattle.council_game.proofs.game.Game.members_of.Goals.{then-has+in_ok-push_member, else-has}
 use Rattle.council_game.proofs.Named.{place-in, place-out}
 use Rattle.council_game.proofs.game.Game.members_of.Goals as goal
@@ -14,3 +14,6 @@ loop-place-preserved c =
           c.args.coalition c.loop-place.place
           (here ∙ sym c.has.ensures ∙ w.if-has.false) c.loop-place.invariant)
     ]
+
+pub returns : goal.returns
+returns c = grind (arith, common_steps)
