@@ -11,8 +11,7 @@ loop-place-preserved c =
           (length c.args.self.now.names) c.args.coalition c.loop-place.place (member_at c.args.self.now.ranks c.loop-place.place)
           (here ∙ sym c.has.ensures ∙ w.if-has.true) refl w.in_ok-push_member.ensures c.loop-place.invariant)
       | else-has w ↦ rw w.members-is (place-out c.args.self.now.ranks c.loop-place.members.items (length c.args.self.now.names)
-          c.args.coalition c.loop-place.place
-          (here ∙ sym c.has.ensures ∙ w.if-has.false) c.loop-place.invariant)
+          c.args.coalition c.loop-place.place (here ∙ sym c.has.ensures ∙ w.if-has.false) c.loop-place.invariant)
     ]
 
 pub returns : goal.returns
