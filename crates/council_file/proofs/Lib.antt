@@ -1,7 +1,5 @@
 pub mod Views
-mod Text
 mod Fits
-pub mod Stops
 mod Digits
 mod Weights
 mod Named

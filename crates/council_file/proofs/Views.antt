@@ -1,10 +1,13 @@
--- A table and an array of toml as lists.
-use Rattle.std.proofs.Common.{◌≡◌, ℕ, List, [], ◌∷◌, ◌++◌, ◌+◌, map, String, Global, string_bytes, nat_eq, not, refl, ap}
-use Rattle.std.specs.{Cmp.Lexicographic.pointwise, List.list_any, List.range_with_len, Map.keys_of}
-use Rattle.toml.specs.{Data.Data, View.view, View.items_view, View.members_view, declared.value.Value.Value}
-use Rattle.council_file.specs.File.{elements, keys, has_other_key}
-use Rattle.std.proofs.lemmas.List.{map_push}
-use Rattle.council_game.specs.{Rules.rule_view, Rules.rule_views, Votes.RuleView, declared.rule.Rule.Rule}
+-- The tree of a text, and its tables and arrays as lists.
+use Rattle.std.proofs.Common.{◌≡◌, ℕ, List, [], ◌∷◌, ◌++◌, ◌+◌, map, String, Global, string_bytes, nat_eq, not, refl, ap, Some, Ok, Err}
+use Rattle.std.proofs.Common.{inl, inr, arith, IsUtf8}
+use Rattle.std.specs.{Cmp.Lexicographic.pointwise, List.list_any, List.range_with_len, Map.keys_of, Str.is_utf8}
+use Rattle.toml.specs.{Parse.parse_document, View.view, View.items_view, View.members_view, declared.value.Value.Value}
+use Rattle.toml.specs.Data.{Data, Members}
+use Rattle.council_file.specs.File.{elements, keys, has_other_key, tree_of}
+use Rattle.std.proofs.lemmas.{Bool.cases_Bool, List.map_push, Str.IsUtf8-from_is_utf8, Str.is_utf8-from_IsUtf8}
+use Rattle.council_game.specs.{Rules.rule_view, Rules.rule_views, declared.fault.GameFault.TheVariants.Text, declared.rule.Rule.Rule}
+use Rattle.council_game.specs.Votes.{RuleView}
 use Rattle.council_game.proofs.Shared.Lists.{list_any_map, map_one_more}
 
 pub elements_view : (vs : List Value) → elements (items_view vs) ≡ map view vs
@@ -22,3 +25,18 @@ other_key known es = rw (keys_view es, list_any_map (λ k. not (list_any (pointw
 pub rules_more : (f : ℕ → RuleView) (rules : List Rule) (rule : Rule) (r : ℕ) → rule_views rules ≡ map f (range_with_len 0 r)
     → rule_view rule ≡ f r → rule_views (rules ++ rule ∷ []) ≡ map f (range_with_len 0 (r + 1))
 rules_more f rules rule r before this = rw (map_push rule_view rules rule, map_one_more f r, before, this) refl
+
+pub not_text : (bytes : List ℕ) → ¬ (IsUtf8 bytes) → tree_of bytes ≡ Err Text
+unfolding tree_of
+not_text bytes bad =
+    elim (cases_Bool (is_utf8 bytes)) [
+      | inl valid ↦ absurd (bad (IsUtf8-from_is_utf8 bytes valid))
+      | inr broken ↦ rw broken refl
+    ]
+
+pub is_text : (bytes text : List ℕ) (t : Members) → text ≡ bytes → IsUtf8 bytes → parse_document text ≡ Some t → tree_of bytes ≡ Ok t
+unfolding tree_of
+is_text bytes text t same good read = grind (arith, is_utf8-from_IsUtf8)
+
+-- what reading a tree rests on
+pub ruleset texts = (not_text, is_text)

@@ -53,7 +53,7 @@ fn read_bytes<R: Read>(alloc: Global, reader: &mut R) -> Result<Vec<u8>, GameFau
 ///
 /// TooLong where 65,537 bytes came; Read where a read failed before that, for whatever cause, an
 /// interruption too; else those of `parse_game` over the bytes.
-#[tactic(auto, using(crate::proofs::Stops::stop_fails))]
+#[tactic(auto, using(crate::proofs::Given::stop_fails))]
 pub fn read_game<R: Read>(alloc: Global, reader: &mut R) -> Result<Game, GameFault>
     ensures { MatchResult result
         (λ game. (bytes : List ℕ) × Gave (R.remaining reader.old) (R.remaining reader.new) bytes

@@ -11,7 +11,7 @@ use std::alloc::Global;
 use toml::{Table, Value};
 
 /// The tree of a text.
-#[tactic(auto, using(crate::proofs::Text::texts), unfolding(crate::specs::File::tree_of))]
+#[tactic(auto, using(crate::proofs::Views::texts), unfolding(crate::specs::File::tree_of))]
 pub(crate) fn tree_of(alloc: Global, bytes: &[u8]) -> Result<Table, GameFault>
     ensures { Gives table_view result (tree_of bytes.now) }
 {

@@ -5,6 +5,5 @@ mod Monotone
 mod Places
 mod Bounds
 mod Seen
-pub mod AllLaws
 mod Imports
 pub mod Searches

@@ -2,10 +2,11 @@
 use Rattle.council_report.proofs.Imports.{common_steps, ◌≡◌, ℕ, zero, suc, ◌+◌, ◌-◌, ◌<◌, ◌≤◌, ◌++◌, Bool, true, false, cond, List, [], ◌∷◌}
 use Rattle.council_report.proofs.Imports.{votes-are, weight-le, with_tab, places_before, fields_of, weights_under, HasNoneFrom, SameBefore}
 use Rattle.council_report.proofs.Imports.{length, take, drop, slice_index, refl, sym, ap, ◌∙◌, arith, inl, inr, range_with_len, cases_lt}
-use Rattle.council_report.proofs.Imports.{cond-true, flat_map-append, append-nil, length-map, take-append-drop, take-map-range_with_len}
-use Rattle.council_report.proofs.Imports.{length-range_with_len, nat_tests, IsRule, has, weight, rule_at, GameView, IsGame, votes_of}
-use Rattle.std.proofs.lemmas.List.{map-append, get_or_past, FromFn.filter_of_map_range_with_len_more, Sums.sum_by-append, Sums.sum_by-cons}
-use Rattle.std.proofs.{Common.filter, Common.map-id, lemmas.Bool.cond-false, lemmas.List.Elements.filter-append}
+use Rattle.council_report.proofs.Imports.{cond-true, flat_map-append, append-nil, length-map, take-append-drop, length-range_with_len}
+use Rattle.council_report.proofs.Imports.{nat_tests, IsRule, has, weight, rule_at, GameView, IsGame, votes_of}
+use Rattle.std.proofs.lemmas.List.{map-append, get_or_past, FromFn.take-map-range_with_len, FromFn.filter_of_map_range_with_len_more}
+use Rattle.std.proofs.lemmas.{Bool.cond-false, List.Elements.filter-append, List.Sums.sum_by-append, List.Sums.sum_by-cons}
+use Rattle.std.proofs.Common.{filter, map-id}
 use Rattle.council_game.proofs.Shared.Meanings.{weighs-its-members}
 use Rattle.power_index.proofs.Shared.Sums.{length-filter-le}
 use Rattle.council_report.specs.Inner.SharedLine.{name_at, weight_of_places}

@@ -3,18 +3,18 @@ use Rattle.council_report.proofs.Imports.{◌≡◌, ℕ, ◌+◌, ◌^◌, ◌<
 use Rattle.council_report.proofs.Imports.{zero, suc, arith, length-append, flat_map, range_with_len, length-map, length-range_with_len}
 use Rattle.council_report.proofs.Imports.{GameView, IsGame, votes_of, votes-are, weight-le, table_of_member_size, few-members, Counted}
 use Rattle.council_report.proofs.Imports.{Shown, line_of_size, line_of_member, lines_of, with_tab, names_of, coalition_line, size_line}
-use Rattle.council_report.proofs.Imports.{length-map-range_with_len, get_or-range_with_len, nat_tests, common_steps, IsRule, weight}
+use Rattle.council_report.proofs.Imports.{get_or-range_with_len, nat_tests, common_steps, IsRule, weight, member_line}
+use Rattle.std.proofs.lemmas.{Fmt.length-decimal-le, Fmt.length-decimal-le_wide, List.FromFn.length-map-range_with_len, List.Sums.sum_by-le}
+use Rattle.std.proofs.lemmas.{Bool.cond_both, List.Concat.length-flat_map}
 use Rattle.std.proofs.Common.{◌*◌, codes, ◌==◌, All}
 use Rattle.std.specs.List.{AllByRecursion}
-use Rattle.std.proofs.lemmas.{Fmt.length-decimal-le, Fmt.length-decimal-le_wide, List.Concat.length-flat_map, List.Sums.sum_by-le}
-use Rattle.std.proofs.lemmas.Bool.{cond_both}
 use Rattle.council_game.specs.{Ranks.member_at, Votes.RuleView, Votes.places_of, Votes.size}
 use Rattle.council_game.proofs.Shared.Games.{names-fit, light-weights}
 use Rattle.council_text.proofs.Shared.Joins.{one-number, next-numbers}
 use Rattle.power_index.specs.{Counting.members, Fractions.lowest_terms}
 use Rattle.power_index.specs.Tables.{table_of_size, table_of_member, table_deegan_packel, table_public_good}
 use Rattle.power_index.proofs.Shared.{Members.size-le, Small.AreBelow, Small.deegan_packel-wide, Small.public_good-wide}
-use Rattle.council_report.specs.Lines.{line, with_slashes, name_of, weights_of_coalition, weights_of_member, member_line}
+use Rattle.council_report.specs.Lines.{line, with_slashes, name_of, weights_of_coalition, weights_of_member}
 
 -- a field of a line
 abbrev pub IsField : List ℕ → Type 0

@@ -1,7 +1,7 @@
--- The lines from the counts of a list are those of the list.
+-- The lines from the counts of a list, or from its pieces, are those of the list.
 use Rattle.council_report.proofs.Imports.{Bool, true, false, flat_map, range_with_len, nat_tests, Counted, Shown, size_line, line_of_size}
 use Rattle.council_report.proofs.Imports.{◌≡◌, ◌∙◌, ◌<◌, ◌≤◌, ◌+◌, ◌++◌, ℕ, zero, suc, List, [], map, length, cond, refl, ap, sym, arith}
-use Rattle.council_report.proofs.Imports.{lines_of}
+use Rattle.council_report.proofs.Imports.{lines_of, ◌∷◌, cond-true, flat_map-append, GameView, coalition_line, coalition_lines}
 use Rattle.std.proofs.lemmas.List.Folds.{flat_map-map}
 use Rattle.power_index.specs.Tables.{AreCounts}
 use Rattle.power_index.proofs.Shared.Printed.{deegan-packel-same, public-good-same}
@@ -36,3 +36,15 @@ pub from-counts : (P : List ℕ → Type 0) (shown : Shown) (k : Counted) (liste
 unfolding lines_of
 from-counts P shown k listed list count holds h total is =
     grind (arith, nat_tests, shown-same, texts-same, size-same, deegan-packel-same, public-good-same)
+
+-- the texts of the pieces' elements are those of the list's
+pub texts-joined : {X Y Z : Type 0} (f : Y → List Z) (h : X → List Y) (xs : List X)
+    → flat_map (λ x. flat_map f (h x)) xs ≡ flat_map f (flat_map h xs)
+texts-joined f h [] = refl
+texts-joined {Z} f h (x ∷ xs) = grind (arith, nat_tests, texts-joined f h xs, flat_map-append)
+
+-- where they are shown, they are the lines of the list
+pub listed-text : {X : Type 0} (shown : Shown) (g : GameView) (h : X → List ℕ) (pieces : List X) → shown.list ≡ true
+    → flat_map (λ p. flat_map (coalition_line g) (h p)) pieces ≡ coalition_lines shown g (flat_map h pieces)
+listed-text shown g h pieces is =
+    texts-joined (coalition_line g) h pieces ∙ sym (cond-true shown.list (flat_map (coalition_line g) (flat_map h pieces)) [] is)

@@ -1,15 +1,10 @@
 -- Texts told one after another, through a block that stays ready.
-use Rattle.council_report.proofs.Imports.{◌≡◌, ◌≤◌, ◌++◌, ℕ, List, [], length, Option, Vec, arith, Global, vec_capacity, nat_tests}
-use Rattle.council_report.proofs.Imports.{common_steps, progress_of, Tells, HasStopped, Block}
+use Rattle.council_report.proofs.Imports.{◌≡◌, ◌≤◌, ◌++◌, ℕ, List, [], length, Option, arith, nat_tests, false, common_steps, progress_of}
+use Rattle.council_report.proofs.Imports.{Tells, HasStopped, Block, Takes}
 use Rattle.std.proofs.Common.{Result, Ok, Err, IfErr, OnOk}
-use Rattle.council_text.specs.Room.{MakesRoomFor}
-use Rattle.council_report.specs.{Inner.Puts.Puts, Inner.Ready.HasRoom, Inner.Ready.IsReady, declared.output.WriteFault.WriteFault}
+use Rattle.council_report.specs.{Inner.Ready.CanCount, Inner.Ready.HasRoom, Inner.Ready.IsReady, declared.output.WriteFault.WriteFault}
+use Rattle.council_report.specs.Inner.Puts.{Puts, Settles}
 use Rattle.council_report.proofs.Telling.{tells-then, tells-same, tells-block, stopped-next, stopped-after}
-
--- a block that is ready refuses no line of 4096 bytes
-pub ready-takes : {E : Type 0} {block : Block} {new : Vec ℕ Global} {e : E} {text : List ℕ} → IsReady block
-    → MakesRoomFor block.bytes new (Err e) text → length text ≤ 4096 → ⊥
-ready-takes ready refused fits = omega (arith, ready.room, ready.free, refused.full, fits)
 
 -- what puts a text after one that was told puts both
 pub puts-next : (x y : List ℕ) (first next last : Option (List ℕ)) (a b c : Block) (r : Result (Unit {0}) WriteFault)
@@ -18,12 +13,21 @@ puts-next x y first next last a b c (Ok u) before more = grind (arith, common_st
 puts-next x y first next last a b c (Err fault) before more =
     stopped-next (progress_of first a) (progress_of next b) x y last fault.written before more
 
--- a line was put into a ready block, which was made ready again
+-- a line of 4096 bytes at most is put into a ready block
+line-kept : {text : List ℕ} {old pushed : Block} → IsReady old → Takes old pushed text → length text ≤ 4096 → pushed.refused ≡ false
+line-kept ready takes short = takes.fits ready.kept (omega (arith, ready.room, ready.free, short))
+
+-- the number of bytes told so far still fits
+pub line-counts : (text : List ℕ) (old pushed : Block) → IsReady old → Takes old pushed text → length text ≤ 4096 → CanCount old text
+    → CanCount pushed []
+line-counts text old pushed ready takes short few = grind (arith, common_steps, takes.adds.items (line-kept ready takes short))
+
+-- such a line, in a block that was made ready again
 pub puts-line : (text : List ℕ) (held now : Option (List ℕ)) (old pushed new : Block) (r : Result (Unit {0}) WriteFault) → IsReady old
-    → pushed.written ≡ old.written → pushed.bytes.items ≡ old.bytes.items ++ text → vec_capacity old.bytes ≤ vec_capacity pushed.bytes
-    → OnOk r (Tells (progress_of held pushed) (progress_of now new) []) → OnOk r (HasRoom pushed → IsReady new)
-    → IfErr r (λ fault. HasStopped (progress_of held pushed) now fault.written) → Puts text held old now new r
-puts-line text held now old pushed new (Ok u) ready same more grown told settled failed =
-    grind (arith, nat_tests, common_steps, tells-same, tells-block)
-puts-line text held now old pushed new (Err fault) ready same more grown told settled failed =
-    grind (arith, nat_tests, common_steps, stopped-after, tells-block)
+    → Takes old pushed text → length text ≤ 4096 → Settles held pushed now new r → Puts text held old now new r
+puts-line text held now old pushed new (Ok u) ready takes short settled =
+    let kept = line-kept ready takes short in
+    grind (arith, nat_tests, common_steps, tells-same, tells-block, takes.adds.items kept)
+puts-line text held now old pushed new (Err fault) ready takes short settled =
+    let kept = line-kept ready takes short in
+    grind (arith, nat_tests, common_steps, stopped-after, tells-block, takes.adds.items kept)

@@ -1,14 +1,10 @@
 mod Bounds
-mod Room
-mod Holding
 mod Telling
-mod OneTextMore
 mod Turns
 mod Wholes
 mod Lasting
 mod Beginnings
 pub mod SharedLines
 mod Differences
-mod Joins
 mod FromCounts
 mod Imports

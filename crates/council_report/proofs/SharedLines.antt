@@ -1,9 +1,10 @@
 -- A line at its end, one place more, and cut at a place.
-use Rattle.council_report.proofs.Imports.{length-append, Global, vec_capacity, flat_map, cases_lt, length-set, nat_tests, common_steps, has}
-use Rattle.council_report.proofs.Imports.{weight, rule_at, GameView, IsGame, votes_of, few-members, with_tab, names_of, places_before, ◌≡◌}
-use Rattle.council_report.proofs.Imports.{ℕ, ◌+◌, ◌^◌, ◌<◌, ◌≤◌, ◌++◌, true, List, [], ◌∷◌, length, take, get_or, Vec, arith, IsSeat}
-use Rattle.council_report.proofs.Imports.{AreSeats, IsLine, SameBefore, fields_of}
-use Rattle.std.proofs.{Common.set, Common.get_or-set_other, Common.get_or-set_same, Math.Seq.take-append_seam}
+use Rattle.council_report.proofs.Imports.{GameView, IsGame, votes_of, few-members, with_tab, names_of, places_before, ◌≡◌, ℕ, ◌+◌, ◌^◌, ◌<◌}
+use Rattle.council_report.proofs.Imports.{◌≤◌, ◌++◌, true, List, [], ◌∷◌, length, take, get_or, arith, IsSeat, AreSeats, IsLine, SameBefore}
+use Rattle.council_report.proofs.Imports.{length-append, flat_map, cases_lt, length-set, nat_tests, common_steps, has, weight, rule_at}
+use Rattle.council_report.proofs.Imports.{fields_of}
+use Rattle.std.proofs.Common.{Global, vec_capacity, Vec, set, get_or-set_other, get_or-set_same}
+use Rattle.std.proofs.Math.Seq.{take-append_seam}
 use Rattle.council_report.specs.{Inner.SharedLine.IsSubtotal, Inner.SharedLine.IsWholeLine, declared.shared_line.SharedLine.SharedLine}
 use Rattle.council_report.specs.declared.{seat.Seat.Seat, subtotal.Subtotal.Subtotal}
 use Rattle.council_report.proofs.Beginnings.{before-none, before-in, before-same, before-front, before-all, fields-none, fields-append}

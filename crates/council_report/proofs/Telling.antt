@@ -1,7 +1,7 @@
--- Texts told one after another, and where one stops.
+-- Texts told one after another, where one stops, and what a writer then holds.
 use Rattle.council_report.proofs.Imports.{arith, append_assoc, length-append, subst, Appends, append-nil, nat_tests, common_steps, Progress}
 use Rattle.council_report.proofs.Imports.{◌≡◌, ◌++◌, ℕ, List, [], Option, Some, None, option_map, sym, ap, ◌∙◌, progress_of, Tells}
-use Rattle.council_report.proofs.Imports.{HasStopped, StopsIn, Block}
+use Rattle.council_report.proofs.Imports.{HasStopped, StopsIn, Block, HoldsBut, take-append-add, ◌≤◌, ◌+◌, ◌-◌, length, take}
 
 pub tells-then : (a b c : Progress) (x y : List ℕ) → Tells a b x → Tells b c y → Tells a c (x ++ y)
 tells-then a b c x y first next = grind (arith, nat_tests, common_steps, length-append)
@@ -36,3 +36,12 @@ stopped-next a b x y held n first s = record {
 -- it stopped once all of the text was told
 pub stopped-after : (a b : Progress) (x : List ℕ) (held : Option (List ℕ)) (n : ℕ) → Tells a b x → HasStopped b held n → StopsIn a x held n
 stopped-after a b x held n tells stopped = record { front = x; rest = []; at = b; whole = append-nil x; tells = tells; stopped = stopped }
+
+-- part of the block went out
+pub holds-part : (before after : Option (List ℕ)) (bytes : List ℕ) (done : ℕ) → done ≤ length bytes → Appends before after (take done bytes)
+    → HoldsBut (option_map (λ held. held ++ bytes) before) after (length bytes - done)
+holds-part None after bytes done le h = tt
+holds-part (Some xs) None bytes done le h = absurd h
+holds-part (Some xs) (Some ys) bytes done le h =
+    let n : length (xs ++ bytes) - (length bytes - done) ≡ length xs + done = omega (arith, length-append xs bytes) in
+    h ∙ sym (ap (λ (k : ℕ). take k (xs ++ bytes)) n ∙ take-append-add xs bytes done)

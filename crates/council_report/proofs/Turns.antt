@@ -1,10 +1,14 @@
 -- A row of texts told one after another: one more, and where it stops.
 use Rattle.council_report.proofs.Imports.{◌≡◌, ◌<◌, ◌≤◌, ◌+◌, ◌^◌, ◌++◌, ℕ, List, length, get_or, take, drop, Option, sym, ap, ◌∙◌, subst}
-use Rattle.council_report.proofs.Imports.{length-flat_map-take, get_or-range_with_len, length-range_with_len, nat_tests, Progress, Tells}
-use Rattle.council_report.proofs.Imports.{arith, flat_map, range_with_len, flat_map-append, common_steps, take_all, take-append-drop}
-use Rattle.council_report.proofs.Imports.{StopsIn}
-use Rattle.std.proofs.lemmas.List.{take_more}
-use Rattle.council_report.proofs.{OneTextMore.rows-more, Telling.tells-then, Telling.stopped-first, Telling.stopped-next}
+use Rattle.council_report.proofs.Imports.{range_with_len, flat_map-append, common_steps, take_all, take-append-drop, StopsIn, [], ◌∷◌}
+use Rattle.council_report.proofs.Imports.{get_or-range_with_len, length-range_with_len, nat_tests, Progress, Tells, arith, flat_map}
+use Rattle.council_report.proofs.Imports.{append-nil}
+use Rattle.std.proofs.lemmas.List.{take_more, Folds.length-flat_map-take}
+use Rattle.council_report.proofs.Telling.{tells-then, stopped-first, stopped-next}
+
+-- with one more
+pub rows-more : {X : Type 0} (f : X → List ℕ) (xs : List X) (x : X) → flat_map f (xs ++ x ∷ []) ≡ flat_map f xs ++ f x
+rows-more f xs x = flat_map-append f xs (x ∷ []) ∙ ap (λ (t : List ℕ). flat_map f xs ++ t) (append-nil (f x))
 
 -- x is number i of a row
 pub record IsNext {X : Type 0} (xs : List X) (i : ℕ) (x : X) : Type 0 where

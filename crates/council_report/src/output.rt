@@ -1,5 +1,5 @@
 //! The block through which a report goes to its writer.
-ghost use Rattle.std.specs.Prelude.{◌≡◌, ◌≤◌, ◌<◌, ◌+◌, [], length, take, IfOk, IfErr, OnOk};
+ghost use Rattle.std.specs.Prelude.{◌≡◌, ◌≤◌, ◌<◌, ◌+◌, [], false, length, take, IfOk, IfErr, OnOk};
 ghost use Rattle.std.specs.Vec.{vec_capacity};
 ghost use Rattle.std.specs.Io.KnownBytes.{Appends, Keeps};
 ghost use Rattle.council_report.specs.declared.output.TheConstants.{LINE, ROOM};
@@ -48,27 +48,40 @@ fn write_whole<W: Write>(writer: &mut W, bytes: &[u8]) -> Result<(), WriteFault>
     Ok(())
 }
 
-/// Bytes on their way to a writer, and the number of those that it took before.
+/// Bytes on their way to a writer, whether memory for some was refused, and the number of those that
+/// the writer took before.
 #[derive(Drop)]
 pub(crate) struct Block {
     pub(crate) bytes: Vec<u8>,
+    pub(crate) refused: bool,
     pub(crate) written: u64,
 }
 
 impl Block {
     ghost use Rattle.council_report.specs.Inner.Told.{progress_of, Tells, HasStopped};
-    ghost use Rattle.council_report.specs.Inner.Ready.{HasRoom, IsReady, CanCount};
+    ghost use Rattle.council_report.specs.Inner.Ready.{HasRoom, CanCount, Takes};
+    ghost use Rattle.council_report.specs.Inner.Puts.{Settles};
 
     /// An empty block with all its room.
     pub(crate) fn new(alloc: Global) -> Result<Block, AllocError>
         ensures empty { IfOk result (λ block. (block.bytes.items ≡ []) × (block.written ≡ 0)) }
+        ensures kept { IfOk result (λ block. block.refused ≡ false) }
         ensures room { IfOk result HasRoom }
     {
         Ok(Block {
             // memory: a block, whose room a clause says
             bytes: Vec::with_capacity(alloc, ROOM)?,
+            refused: false,
             written: 0,
         })
+    }
+
+    /// Pushes bytes behind those that are there.
+    pub(crate) fn push(&mut self, bytes: &[u8])
+        ensures { Takes self.old self.new bytes.now }
+    {
+        // memory: what was refused is noted, and a clause says when it is not
+        self.refused |= self.bytes.extend_from_slice(bytes).is_err();
     }
 
     /// Hands all bytes to the writer.
@@ -78,6 +91,7 @@ impl Block {
             (progress_of (W.contents writer.new) self.new) []) }
         ensures empty { OnOk result (self.new.bytes.items ≡ []) }
         ensures capacity { vec_capacity self.new.bytes ≡ vec_capacity self.old.bytes }
+        ensures refused { self.new.refused ≡ self.old.refused }
         ensures err { IfErr result (λ fault.
             HasStopped (progress_of (W.contents writer.old) self.old)
             (W.contents writer.new) fault.written) }
@@ -99,12 +113,7 @@ impl Block {
     /// Makes ready for a line: where the next might not fit, all bytes go to the writer.
     pub(crate) fn settle<W: Write>(&mut self, writer: &mut W) -> Result<(), WriteFault>
         requires { CanCount self.old [] }
-        ensures ok { OnOk result (Tells (progress_of (W.contents writer.old) self.old)
-            (progress_of (W.contents writer.new) self.new) []) }
-        ensures ready { OnOk result (HasRoom self.old → IsReady self.new) }
-        ensures err { IfErr result (λ fault.
-            HasStopped (progress_of (W.contents writer.old) self.old)
-            (W.contents writer.new) fault.written) }
+        ensures { Settles (W.contents writer.old) self.old (W.contents writer.new) self.new result }
     {
         if self.bytes.len() + LINE <= ROOM {
             return Ok(());

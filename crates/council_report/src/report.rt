@@ -104,6 +104,7 @@ fn send<W: Write>(
     requires coalitions { AreNonemptyCoalitions counted.now.game.now (joined pieces.now) }
     requires line { IsReadyLine counted.now.game.now line.old }
     requires room { HasRoom block }
+    requires kept { block.refused ≡ false }
     requires counted { CanCount block (lines_of shown counted.now (joined pieces.now)) }
     ensures count { IfOk result (λ count. count ≡ (progress_of (W.contents writer.old) block).count
         + length (lines_of shown counted.now (joined pieces.now))) }
@@ -141,7 +142,11 @@ fn write_over<W: Write>(
         (report_over shown game.now list)) }
 {
     let mut block = Block::new(alloc)?;
-    push_heading(&mut block.bytes, game, counts.wide_total(), shown)?;
+    push_heading(&mut block, game, counts.wide_total(), shown);
+    if block.refused {
+        // memory: for a line of the heading it was refused
+        return Err(ReportFault::Memory);
+    }
     let mut line = SharedLine::new(alloc, game)?;
     let counted = Counted {
         game,

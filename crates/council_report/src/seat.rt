@@ -4,7 +4,6 @@ ghost use Rattle.coalitions.specs.declared.limits.TheConstants.{RULES};
 ghost use Rattle.council_game.specs.Game.{IsGame};
 ghost use Rattle.council_report.specs.Inner.SharedLine.{IsSeat, AreSeats, weights_under};
 
-use crate::text::push_field;
 use council_game::{Game, limits};
 use std::alloc::{AllocError, Global};
 
@@ -43,7 +42,8 @@ impl Seat {
     {
         let name = game.name(game.member_at(place));
         let mut field = Vec::with_capacity(alloc, 1 + name.len())?;
-        push_field(&mut field, name.as_bytes())?;
+        field.extend_from_slice(b"\t")?;
+        field.extend_from_slice(name.as_bytes())?;
         Ok(Seat {
             field,
             weights: weights_at(game, place),

@@ -1,14 +1,13 @@
 //! A line that one coalition shares with the next.
-ghost use Rattle.std.specs.Prelude.{◌≡◌, ◌++◌, ◌+◌, ◌^◌, ◌<◌, ◌≤◌, true, false, length, IfOk, OnOk};
+ghost use Rattle.std.specs.Prelude.{◌≡◌, ◌+◌, ◌^◌, ◌<◌, ◌≤◌, true, false, length, IfOk};
 ghost use Rattle.std.specs.List.{flat_map};
 ghost use Rattle.council_game.specs.Game.{votes_of};
 ghost use Rattle.council_game.specs.Votes.{has, rule_at, weight};
-ghost use Rattle.council_text.specs.Room.{MakesRoomFor};
 ghost use Rattle.council_report.specs.Lines.{coalition_line, with_tab, with_slashes, weights_of_coalition, names_of};
+ghost use Rattle.council_report.specs.Inner.Ready.{Takes};
 ghost use Rattle.council_report.specs.Inner.SharedLine.{IsLine, IsReadyLine, IsWholeLine, SameBefore};
 
-use crate::lines::end_line;
-use crate::output::LINE;
+use crate::output::{Block, LINE};
 use crate::places::{first_difference, past_last};
 use crate::seat::{Seat, seats_of};
 use crate::subtotal::Subtotal;
@@ -128,43 +127,37 @@ impl SharedLine {
     }
 
     /// The weights of the coalition, one for each rule.
-    fn push_weights(&self, out: &mut Vec<u8>, game: &Game) -> Result<(), AllocError>
+    fn push_weights(&self, out: &mut Block, game: &Game)
         requires { IsWholeLine game.now self.now.coalition self.now }
-        ensures items { OnOk result (out.new.items ≡ out.old.items
-            ++ with_tab (with_slashes (weights_of_coalition game.now self.now.coalition))) }
-        ensures room { MakesRoomFor out.old out.new result
+        ensures { Takes out.old out.new
             (with_tab (with_slashes (weights_of_coalition game.now self.now.coalition))) }
     {
-        push_values(out, game.rules(), |r| self.weight_under(game, r))
+        push_values(out, game.rules(), |r| self.weight_under(game, r));
     }
 
     /// The names of the coalition's members, in rank order.
     #[tactic(auto, using(crate::proofs::SharedLines::whole))]
-    fn push_names(&self, out: &mut Vec<u8>, game: &Game) -> Result<(), AllocError>
+    fn push_names(&self, out: &mut Block, game: &Game)
         requires { IsWholeLine game.now self.now.coalition self.now }
-        ensures items { OnOk result (out.new.items ≡ out.old.items
-            ++ flat_map with_tab (names_of game.now self.now.coalition)) }
-        ensures room { MakesRoomFor out.old out.new result
+        ensures { Takes out.old out.new
             (flat_map with_tab (names_of game.now self.now.coalition)) }
     {
-        out.extend_from_slice(&self.names)
+        out.push(&self.names);
     }
 
     /// Puts the line: `coalition`, its size, its weight under each rule, the names of its members in
     /// rank order.
     #[tactic(auto, unfolding(crate::specs::Lines::coalition_line))]
-    pub(crate) fn push(&self, out: &mut Vec<u8>, game: &Game) -> Result<(), AllocError>
+    pub(crate) fn push(&self, out: &mut Block, game: &Game)
         requires line { IsWholeLine game.now self.now.coalition self.now }
         requires below { self.now.coalition < 2 ^ length game.now.names }
-        ensures items { OnOk result
-            (out.new.items ≡ out.old.items ++ coalition_line game.now self.now.coalition) }
-        ensures room { MakesRoomFor out.old out.new result
+        ensures { Takes out.old out.new
             (coalition_line game.now self.now.coalition) }
     {
-        out.extend_from_slice(b"coalition")?;
-        push_number(out, u64::from(self.coalition.size()))?;
-        self.push_weights(out, game)?;
-        self.push_names(out, game)?;
-        end_line(out)
+        out.push(b"coalition");
+        push_number(out, u64::from(self.coalition.size()));
+        self.push_weights(out, game);
+        self.push_names(out, game);
+        out.push(b"\n");
     }
 }

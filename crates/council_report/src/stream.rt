@@ -15,30 +15,6 @@ use crate::shared_line::SharedLine;
 use council_game::{Coalition, Game};
 use std::io::Write;
 
-/// The line of a coalition.
-fn put_coalition<W: Write>(
-    block: &mut Block,
-    writer: &mut W,
-    game: &Game,
-    coalition: Coalition,
-    line: &mut SharedLine,
-) -> Result<(), WriteFault>
-    requires some { 0 < coalition }
-    requires below { coalition < 2 ^ length game.now.names }
-    requires line { IsReadyLine game.now line.old }
-    requires ready { IsReady block.old }
-    requires counted { CanCount block.old (coalition_line game.now coalition) }
-    ensures puts { Puts (coalition_line game.now coalition)
-        (W.contents writer.old) block.old (W.contents writer.new) block.new result }
-    ensures line { IsReadyLine game.now line.new }
-{
-    line.move_to(game, coalition);
-    match line.push(&mut block.bytes, game) {
-        Ok(()) => block.settle(writer),
-        Err(_) => unreachable!(),
-    }
-}
-
 /// A line for each coalition, in the order of the list, whichever that is.
 pub(crate) fn put_coalitions<W: Write>(
     block: &mut Block,
@@ -56,7 +32,9 @@ pub(crate) fn put_coalitions<W: Write>(
     ensures line { OnOk result (IsReadyLine game.now line.new) }
 {
     for coalition in list {
-        put_coalition(block, writer, game, *coalition, line)?;
+        line.move_to(game, *coalition);
+        line.push(block, game);
+        block.settle(writer)?;
     }
     Ok(())
 }
@@ -83,25 +61,6 @@ pub(crate) fn put_pieces<W: Write>(
     Ok(())
 }
 
-/// The line of a size, where some coalition has it.
-fn put_size<W: Write>(
-    block: &mut Block,
-    writer: &mut W,
-    counted: &Counted<'_>,
-    size: usize,
-) -> Result<(), WriteFault>
-    requires size { size ≤ counted.now.members }
-    requires ready { IsReady block.old }
-    requires counted { CanCount block.old (line_of_size counted.now size) }
-    ensures { Puts (line_of_size counted.now size)
-        (W.contents writer.old) block.old (W.contents writer.new) block.new result }
-{
-    match push_size(&mut block.bytes, counted, size) {
-        Ok(()) => block.settle(writer),
-        Err(_) => unreachable!(),
-    }
-}
-
 /// A line for each size that some coalition has.
 pub(crate) fn put_sizes<W: Write>(
     block: &mut Block,
@@ -115,28 +74,10 @@ pub(crate) fn put_sizes<W: Write>(
         (W.contents writer.old) block.old (W.contents writer.new) block.new result }
 {
     for size in 1..counted.members + 1 {
-        put_size(block, writer, counted, size)?;
+        push_size(block, counted, size);
+        block.settle(writer)?;
     }
     Ok(())
-}
-
-/// The line of a member.
-fn put_member<W: Write>(
-    block: &mut Block,
-    writer: &mut W,
-    counted: &Counted<'_>,
-    member: usize,
-) -> Result<(), WriteFault>
-    requires member { member < counted.now.members }
-    requires ready { IsReady block.old }
-    requires counted { CanCount block.old (line_of_member counted.now member) }
-    ensures { Puts (line_of_member counted.now member)
-        (W.contents writer.old) block.old (W.contents writer.new) block.new result }
-{
-    match push_member(&mut block.bytes, counted, member) {
-        Ok(()) => block.settle(writer),
-        Err(_) => unreachable!(),
-    }
 }
 
 /// A line for each member.
@@ -151,7 +92,8 @@ pub(crate) fn put_members<W: Write>(
         (W.contents writer.old) block.old (W.contents writer.new) block.new result }
 {
     for member in 0..counted.members {
-        put_member(block, writer, counted, member)?;
+        push_member(block, counted, member);
+        block.settle(writer)?;
     }
     Ok(())
 }

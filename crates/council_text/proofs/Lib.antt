@@ -1,2 +1,3 @@
 pub mod Shared
+mod Room
 mod Fronts

@@ -1,3 +1,2 @@
 -- What other crates may cite.
-pub mod Room
 pub mod Joins

@@ -1,7 +1,7 @@
 -- A text that is told through a block, line by line.
-use Rattle.std.specs.Prelude.{ℕ, List, Option, Result, Ok, Err}
-use Rattle.council_report.specs.Inner.Told.{Progress, progress_of, Tells, StopsIn}
-use Rattle.council_report.specs.Inner.Ready.{IsReady}
+use Rattle.std.specs.Prelude.{◌≡◌, ℕ, List, [], false, Option, Result, Ok, Err, OnOk, IfErr}
+use Rattle.council_report.specs.Inner.Told.{Progress, progress_of, Tells, HasStopped, StopsIn}
+use Rattle.council_report.specs.Inner.Ready.{HasRoom, IsReady}
 use Rattle.council_report.specs.declared.output.Block.{Block}
 use Rattle.council_report.specs.declared.output.WriteFault.{WriteFault}
 
@@ -16,3 +16,10 @@ abbrev pub Puts : List ℕ → Option (List ℕ) → Block → Option (List ℕ)
     → Result (Unit {0}) WriteFault → Type 0
 Puts text held old now new (Ok _) = Lasts (progress_of held old) now new text
 Puts text held old now new (Err fault) = StopsIn (progress_of held old) text now fault.written
+
+-- what was told stays told, and a block with its room is ready again, or writing stopped
+pub record Settles (held : Option (List ℕ)) (old : Block) (now : Option (List ℕ)) (new : Block)
+    (r : Result (Unit {0}) WriteFault) : Type 0 where
+  pub ok : OnOk r (Tells (progress_of held old) (progress_of now new) [])
+  pub ready : OnOk r (HasRoom old → old.refused ≡ false → IsReady new)
+  pub err : IfErr r (λ fault. HasStopped (progress_of held old) now fault.written)

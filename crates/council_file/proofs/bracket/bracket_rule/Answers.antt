@@ -15,11 +15,9 @@ returns-then-not-take_semicolon c = grind (arith, common_steps, rule_by_steps)
 pub returns-in-Some-2 : goal.returns-in-Some-2
 returns-in-Some-2 c = rw (← c.new-scanner.ensures)
     (rule_is c.new-scanner.result _ _ _ c.in-Some.quota (Some c.in-Some-2.weights.items) c.if-not-take_opening.ensures
-    (sym c.in-Some.ensures) c.if-not-take_semicolon.ensures
-    (rw c.in-Some-2.is at c.in_ok-weights.ensures))
+    (sym c.in-Some.ensures) c.if-not-take_semicolon.ensures (rw c.in-Some-2.is at c.in_ok-weights.ensures))
 
 pub returns-in-None : goal.returns-in-None
 returns-in-None c = rw (← c.new-scanner.ensures)
     (rule_is c.new-scanner.result _ _ _ c.in-Some.quota None c.if-not-take_opening.ensures
-    (sym c.in-Some.ensures) c.if-not-take_semicolon.ensures
-    (rw c.in-None.is at c.in_ok-weights.ensures))
+    (sym c.in-Some.ensures) c.if-not-take_semicolon.ensures (rw c.in-None.is at c.in_ok-weights.ensures))

@@ -3,3 +3,6 @@ use Rattle.council_file.proofs.member_weights.weights_under.Goals as goal
 
 pub loop-member-preserved : goal.loop-member-preserved
 loop-member-preserved c = grind (arith, common_steps)
+
+pub returns : goal.returns
+returns c = grind (arith, common_steps)

@@ -1,6 +1,6 @@
 use Rattle.council_report.proofs.Imports.{◌<◌, ◌^◌, length, arith, common_steps}
 use Rattle.power_index.proofs.Shared.Pieces.{pieces-all}
-use Rattle.council_report.proofs.Joins.{listed-text}
+use Rattle.council_report.proofs.FromCounts.{listed-text}
 use Rattle.council_report.proofs.report.put_shown_coalitions.Goals as goal
 
 pub put_pieces-requires-clause-coalitions : goal.put_pieces-requires-clause-coalitions

@@ -1,26 +1,30 @@
-use Rattle.council_report.proofs.Imports.{arith, err_from_is_err_and, line_of_member}
+use Rattle.council_report.proofs.{Bounds.member-fits, Imports.arith, Imports.err_from_is_err_and, Imports.line_of_member}
+use Rattle.council_report.proofs.Lasting.{line-counts, puts-line}
 use Rattle.council_report.proofs.Turns.{next-number, numbers-told, turn-told, turn-counts, turn-stopped}
 use Rattle.council_report.proofs.stream.put_members.Goals as goal
 
-pub put_member-requires-clause-counted : goal.put_member-requires-clause-counted
-put_member-requires-clause-counted g c =
+pub settle-requires : goal.settle-requires
+settle-requires g c =
     let next = next-number 0 c.args.counted.now.members c.loop-member.member c.loop-member.member (omega arith) (omega arith) in
-    turn-counts (line_of_member c.args.counted.now) next c.loop-member.invariant.tells c.requires.counted
+    line-counts _ c.loop-member.block c.push_member.new.out c.loop-member.invariant.ready c.push_member.ensures
+    (member-fits c.args.counted.now c.loop-member.member (omega arith))
+    (turn-counts (line_of_member c.args.counted.now) next c.loop-member.invariant.tells c.requires.counted)
 
-pub returns-in_err-put_member : goal.returns-in_err-put_member
-returns-in_err-put_member g c =
+pub returns-in_err-settle : goal.returns-in_err-settle
+returns-in_err-settle g c =
     let next = next-number 0 c.args.counted.now.members c.loop-member.member c.loop-member.member (omega arith) (omega arith) in
     let failed = err_from_is_err_and c.from_residual.result c.from_residual.ensures.1 in
-    rw (failed.1, failed.2)
-    (turn-stopped (line_of_member c.args.counted.now) next c.loop-member.invariant.tells c.in_err-put_member.ensures)
+    let puts = puts-line _ _ _ c.loop-member.block c.push_member.new.out c.settle.new.self c.settle.result c.loop-member.invariant.ready
+    c.push_member.ensures (member-fits c.args.counted.now c.loop-member.member (omega arith)) c.settle.ensures in
+    rw (failed.1, failed.2) (turn-stopped (line_of_member c.args.counted.now) next c.loop-member.invariant.tells (rw c.in_err-settle.was at puts))
 
 pub loop-member-preserved : goal.loop-member-preserved
 loop-member-preserved g c =
     let next = next-number 0 c.args.counted.now.members c.loop-member.member c.loop-member.member (omega arith) (omega arith) in
-    record {
-      tells = turn-told (line_of_member c.args.counted.now) next c.loop-member.invariant.tells c.in_ok-put_member.ensures.tells;
-      ready = c.in_ok-put_member.ensures.ready;
-    }
+    let puts = puts-line _ _ _ c.loop-member.block c.push_member.new.out c.settle.new.self c.settle.result c.loop-member.invariant.ready
+    c.push_member.ensures (member-fits c.args.counted.now c.loop-member.member (omega arith)) c.settle.ensures in
+    let lasts = rw c.in_ok-settle.was at puts in
+    record { tells = turn-told (line_of_member c.args.counted.now) next c.loop-member.invariant.tells lasts.tells; ready = lasts.ready }
 
 pub returns : goal.returns
 returns g c = record {

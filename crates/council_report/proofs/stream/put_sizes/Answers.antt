@@ -1,26 +1,33 @@
-use Rattle.council_report.proofs.Imports.{◌≡◌, ◌+◌, ◌-◌, arith, err_from_is_err_and, common_steps, line_of_size}
+use Rattle.council_report.proofs.Imports.{arith, err_from_is_err_and, line_of_size, ◌≡◌, ◌+◌, ◌-◌, common_steps}
+use Rattle.council_report.proofs.{Bounds.size-fits, Lasting.line-counts, Lasting.puts-line}
 use Rattle.council_report.proofs.Turns.{next-number, numbers-told, turn-told, turn-counts, turn-stopped}
 use Rattle.council_report.proofs.stream.put_sizes.Goals as goal
 
-pub put_size-requires-clause-counted : goal.put_size-requires-clause-counted
-put_size-requires-clause-counted g c =
+pub settle-requires : goal.settle-requires
+settle-requires g c =
     let next = next-number 1 c.args.counted.now.members (c.loop-size.size - 1) c.loop-size.size (omega arith) (omega arith) in
-    turn-counts (line_of_size c.args.counted.now) next c.loop-size.invariant.tells c.requires.counted
+    line-counts _ c.loop-size.block c.push_size.new.out c.loop-size.invariant.ready c.push_size.ensures
+    (size-fits c.args.counted.now c.loop-size.size (omega arith))
+    (turn-counts (line_of_size c.args.counted.now) next c.loop-size.invariant.tells c.requires.counted)
 
-pub returns-in_err-put_size : goal.returns-in_err-put_size
-returns-in_err-put_size g c =
+pub returns-in_err-settle : goal.returns-in_err-settle
+returns-in_err-settle g c =
     let next = next-number 1 c.args.counted.now.members (c.loop-size.size - 1) c.loop-size.size (omega arith) (omega arith) in
     let failed = err_from_is_err_and c.from_residual.result c.from_residual.ensures.1 in
-    rw (failed.1, failed.2)
-    (turn-stopped (line_of_size c.args.counted.now) next c.loop-size.invariant.tells c.in_err-put_size.ensures)
-
-pub overflow_add-size-end : goal.overflow_add-size-end
-overflow_add-size-end g c = omega (arith, c.args.counted.now.sound.few_members, c.args.counted.now.counted_members)
+    let puts = puts-line _ _ _ c.loop-size.block c.push_size.new.out c.settle.new.self c.settle.result c.loop-size.invariant.ready
+    c.push_size.ensures (size-fits c.args.counted.now c.loop-size.size (omega arith)) c.settle.ensures in
+    rw (failed.1, failed.2) (turn-stopped (line_of_size c.args.counted.now) next c.loop-size.invariant.tells (rw c.in_err-settle.was at puts))
 
 pub loop-size-preserved : goal.loop-size-preserved
 loop-size-preserved g c =
     let next = next-number 1 c.args.counted.now.members (c.loop-size.size - 1) c.loop-size.size (omega arith) (omega arith) in
+    let puts = puts-line _ _ _ c.loop-size.block c.push_size.new.out c.settle.new.self c.settle.result c.loop-size.invariant.ready
+    c.push_size.ensures (size-fits c.args.counted.now c.loop-size.size (omega arith)) c.settle.ensures in
+    let lasts = rw c.in_ok-settle.was at puts in
     let same : c.loop-size.size - 1 + 1 ≡ c.loop-size.size + 1 - 1 = omega arith in grind (arith, common_steps, turn-told)
+
+pub overflow_add-size-end : goal.overflow_add-size-end
+overflow_add-size-end g c = omega (arith, c.args.counted.now.sound.few_members, c.args.counted.now.counted_members)
 
 pub returns : goal.returns
 returns g c = record {

@@ -1,7 +1,7 @@
 use Rattle.std.proofs.Common.{ℕ, List, ◌<◌, arith, length, append_assoc, length-append, take_all}
 use Rattle.std.proofs.lemmas.Grind.{common_steps}
 use Rattle.council_text.proofs.joined.push_joined.Goals.{then-r-gt0+in_ok-extend_from_slice, else-r-gt0}
-use Rattle.council_text.proofs.{Fronts.further, Fronts.still, Fronts.on-err, Shared.Room.takes-not, Shared.Room.room-is}
+use Rattle.council_text.proofs.{Fronts.further, Fronts.still, Fronts.on-err, Room.takes-not, Room.room-is}
 use Rattle.council_text.proofs.Shared.Joins.{put-first, put-more, more-within, next-within}
 use Rattle.council_text.proofs.joined.push_joined.Goals as goal
 

@@ -1,4 +1,4 @@
-use Rattle.council_game.proofs.Imports.{ℕ, length, refl, sym, ap, ◌∙◌, member_at, has}
+use Rattle.council_game.proofs.Imports.{arith, common_steps, ℕ, length, refl, sym, ap, ◌∙◌, member_at, has}
 use Rattle.council_game.proofs.game.Game.members_of.Goals.{then-has+in_ok-push_member, else-has}
 use Rattle.council_game.proofs.Named.{place-in, place-out}
 use Rattle.council_game.proofs.game.Game.members_of.Goals as goal
@@ -11,6 +11,8 @@ loop-place-preserved c =
           (length c.args.self.now.names) c.args.coalition c.loop-place.place (member_at c.args.self.now.ranks c.loop-place.place)
           (here ∙ sym c.has.ensures ∙ w.if-has.true) refl w.in_ok-push_member.ensures c.loop-place.invariant)
       | else-has w ↦ rw w.members-is (place-out c.args.self.now.ranks c.loop-place.members.items (length c.args.self.now.names)
-          c.args.coalition c.loop-place.place
-          (here ∙ sym c.has.ensures ∙ w.if-has.false) c.loop-place.invariant)
+          c.args.coalition c.loop-place.place (here ∙ sym c.has.ensures ∙ w.if-has.false) c.loop-place.invariant)
     ]
+
+pub returns : goal.returns
+returns c = grind (arith, common_steps)

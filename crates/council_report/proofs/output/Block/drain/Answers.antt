@@ -1,4 +1,4 @@
-use Rattle.council_report.proofs.{Holding.holds-part, Imports.nat_tests, Imports.arith, Imports.common_steps}
+use Rattle.council_report.proofs.{Imports.nat_tests, Imports.arith, Imports.common_steps, Telling.holds-part}
 use Rattle.council_report.proofs.output.Block.drain.Goals as goal
 
 pub returns-in-Err-clause-err : goal.returns-in-Err-clause-err

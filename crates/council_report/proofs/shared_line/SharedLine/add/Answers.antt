@@ -17,5 +17,4 @@ returns-clause-line c =
     (subtotal-more c.args.game.now _ c.args.self.now.end _ c.with-subtotal.result c.index-seat.result.now
     (c.requires.line.subtotals c.args.self.now.end no_subtotal
     (omega arith)) is c.with-subtotal.ensures.length c.with-subtotal.ensures.long c.with-subtotal.ensures.weights)
-    (c.in-Ok.ensures.items ∙ ap (λ (t : List ℕ). c.args.self.now.names.items ++ t) c.deref.ensures.value)
-    c.in-Ok.ensures.capacity
+    (c.in-Ok.ensures.items ∙ ap (λ (t : List ℕ). c.args.self.now.names.items ++ t) c.deref.ensures.value) c.in-Ok.ensures.capacity
