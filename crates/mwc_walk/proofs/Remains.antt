@@ -45,7 +45,7 @@ given-by v a = take (length (slice v a.bits a.number) - length (rest_of_slice v 
 
 -- what was given and what is to come
 pub given-whole : {v : Votes} {a : Cursor} → CursorIs v a → given-by v a ++ rest_of_slice v a ≡ slice v a.bits a.number
-given-whole is = grind (arith, common_steps, rest-is, take-append-drop)
+given-whole is = grind (arith, rest-is, take-append-drop)
 
 -- ---- after some steps
 pub follows-of : {v : Votes} {a b : Cursor} (s : Step) → SomeSteps v a s b → Follows v a b
@@ -59,7 +59,7 @@ module _ {v : Votes} {a b : Cursor} where
 
   -- steps that came to no coalition have given the same
   pub given-same : Follows v a b → rest_of_slice v b ≡ rest_of_slice v a → given-by v b ≡ given-by v a
-  given-same h same = grind (arith, common_steps)
+  given-same h same = grind arith
 
   pub given-next : {c : ℕ} → CursorIs v a → GivesNext v a c b → given-by v b ≡ given-by v a ++ c ∷ []
   given-next {c} is h = grind (arith, common_steps, same-slice, given-more, rest-is)
@@ -71,7 +71,7 @@ module _ {v : Votes} {a b : Cursor} where
 pub visits-most : {v : Votes} {a : Cursor} → CursorIs v a → (a.rules ≡ 1 → a.fresh ≡ true → a.place ≡ a.bits) → length v.rules ≡ 1
     → a.visits ≤ a.bits + (v.members - a.bits) * (length (slice v a.bits a.number) - length (rest_of_slice v a))
 visits-most {v} {a} is rests one =
-    let short = rest-short is in let visits = is.visits in grind (arith, common_steps, mul-add)
+    let short = rest-short is in let visits = is.visits in grind (arith, mul-add)
 
 -- what the calls of a walk rest on
 pub ruleset walking = (given-same, given-next, given-end, visits-most)

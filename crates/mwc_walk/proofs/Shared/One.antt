@@ -1,8 +1,8 @@
 -- In a game of one rule, what wins first on the way down is minimal.
-use Rattle.mwc_walk.proofs.Imports.{◌∙◌, arith, inl, inr, common_steps, AllByRecursion, bit_at_cat_low, shr-shr, mul-le, pow_mono, and_left}
-use Rattle.mwc_walk.proofs.Imports.{eqb-true, cases_lt, both_ways, RuleView, Votes, IsRule, IsRanked, IsVotes, has, without, wins, minimal}
-use Rattle.mwc_walk.proofs.Imports.{◌≡◌, ℕ, ◌+◌, ◌-◌, ◌*◌, ◌/◌, ◌%◌, ◌^◌, ◌<◌, ◌≤◌, true, false, List, [], ◌∷◌, length, get_or, sym, ap}
-use Rattle.mwc_walk.proofs.Imports.{slice, wins_at, needs-each-member, listing-is, weight-without}
+use Rattle.mwc_walk.proofs.Imports.{cases_lt, both_ways, RuleView, Votes, IsRule, IsRanked, IsVotes, has, without, wins, minimal, ◌≡◌, ℕ}
+use Rattle.mwc_walk.proofs.Imports.{◌∙◌, arith, inl, inr, AllByRecursion, bit_at_cat_low, shr-shr, mul-le, pow_mono, and_left, eqb-true}
+use Rattle.mwc_walk.proofs.Imports.{◌+◌, ◌-◌, ◌*◌, ◌/◌, ◌%◌, ◌^◌, ◌<◌, ◌≤◌, true, false, List, [], ◌∷◌, length, get_or, sym, ap, slice}
+use Rattle.mwc_walk.proofs.Imports.{wins_at, needs-each-member, listing-is, weight-without}
 use Rattle.council_game.proofs.Shared.Weights.{weight-zero}
 use Rattle.std.proofs.lemmas.{Bool.lt-leb, List.Sums.length-filter, List.Sums.count_by-le-length, Nat.shl-shr, Nat.Bits.bit_at-zero}
 use Rattle.mwc_walk.proofs.Rules.{weight-block, weight-step, wins-prefix, wins-over}
@@ -32,16 +32,16 @@ one-loses n p x q (r ∷ []) one all ranked pos le lost below in' =
     let less = rw long at (weight-without r.weights q (x * 2 ^ (n - p)) (omega arith) (rw long some)) in
     let more = weight-step all.0 (p - 1) p (x / 2) x (x % 2) (omega arith) (omega arith) (omega arith) (omega arith) in
     let most : x % 2 * get_or r.weights (p - 1) 0 ≤ 1 * get_or r.weights (p - 1) 0 = grind (arith, mul-le) in
-    grind (arith, common_steps, and_left, lt-leb, weight-block)
+    grind (arith, and_left, lt-leb, weight-block)
 
 pub one-minimal : (v : Votes) (p x : ℕ) → IsVotes v → length v.rules ≡ 1 → 0 < p → p ≤ v.members → wins_at v.rules p x ≡ true
     → wins_at v.rules (p - 1) (x / 2) ≡ false → minimal v (x * 2 ^ (v.members - p)) ≡ true
-one-minimal v p x game one pos le won lost = grind (arith, common_steps, needs-each-member, one-loses, wins-prefix)
+one-minimal v p x game one pos le won lost = grind (arith, needs-each-member, one-loses, wins-prefix)
 
 -- a prefix that wins first by its last place has that place in it
 pub won-odd : (n p x : ℕ) (rs : List RuleView) → 0 < p → p ≤ n → AllByRecursion (IsRule n) rs → wins_at rs p x ≡ true
     → wins_at rs (p - 1) (x / 2) ≡ false → x % 2 ≡ 1
-won-odd n p x rs pos le all won lost = grind (arith, common_steps, cases_lt, both_ways, wins-over)
+won-odd n p x rs pos le all won lost = grind (arith, cases_lt, both_ways, wins-over)
 
 -- no places win nothing
 pub empty-loses : (n : ℕ) (rs : List RuleView) → 1 ≤ length rs → AllByRecursion (IsRule n) rs → wins_at rs 0 0 ≡ false
@@ -52,7 +52,7 @@ empty-loses n (r ∷ rs) some all = grind (arith, weight-zero, and_left, lt-leb)
 -- a slice is shorter than a count of visits can grow
 pub slice-short : (v : Votes) (k j : ℕ) → IsVotes v → length (slice v k j) ≤ 2 ^ 40
 unfolding slice
-slice-short v k j game = grind (arith, common_steps, count_by-le-length, length-filter, listing-is, pow_mono)
+slice-short v k j game = grind (arith, count_by-le-length, length-filter, listing-is, pow_mono)
 
 -- a winning prefix as a number of the slice
 pub in-slice : (n k p x : ℕ) → k ≤ p → p ≤ n → x * 2 ^ (n - p) / 2 ^ (n - k) ≡ x / 2 ^ (p - k)
