@@ -52,8 +52,7 @@ price-falls p i t f g d some cheaper is =
 -- with one who is not cheaper
 pub price-stays : (p : Price) (i t f g d : ℕ) → p.own * t ≤ i * p.other → (p.other ≡ 0 → t ≡ 0) → IsPrice p f g
     → IsPrice p (d * t + f) (d * i + g)
-price-stays p i t f g d dearer none is =
-    let more : d * (p.own * t) ≤ d * (i * p.other) = mul-le d (p.own * t) d (i * p.other) (omega arith) dearer in grind arith
+price-stays p i t f g d dearer none is = grind (arith, mul-le d (p.own * t) d (i * p.other))
 
 -- the least that is weighed: rounded up
 pub rounded-up : (x b g : ℕ) → 0 < b → x ≤ b * g → div_ceil x b ≤ g
@@ -128,11 +127,7 @@ module _ (n : ℕ) (ws vs fs : List ℕ) (lw : n ≤ length ws) (lv : n ≤ leng
   split-from c zero p inside at = grind (arith, weight-past, drop_all, length-take-le)
   split-from c (suc k) p inside at =
       let below : p < n = omega arith in
-      let rest = split-from c k (p + 1) inside (omega arith) in
-      let first = sum-from vs n p lv below in
-      let others = weight-from fs n p c below lf in
-      let all = weight-from ws n p c below lw in
-      let whole = parted p below in grind (arith, get_or)
+      grind (arith, split-from c k (p + 1) inside, sum-from vs n p lv below, weight-from fs n p c below lf, weight-from ws n p c below lw, parted p below, inside p below)
 
   pub parts-fit : (m : ℕ) → m ≤ n → sum (take m vs) + sum (take m fs) ≡ sum (take m ws)
   parts-fit zero le = refl
@@ -163,10 +158,7 @@ module _ {v : Votes} {ls : List Lane} {i n : ℕ} {vs fs : List ℕ} (game : IsV
       omega (arith, part, parts.vetoed q room, parts.free q room, lane.weights q lt)
 
   both-fit : sum (take v.members vs) + sum (take v.members fs) < 2 ^ 64
-  both-fit =
-      let all = parts-fit v.members (rule_at v.rules i).weights vs fs (omega (arith, lane.rule.full))
-      (omega (arith, parts.vetoed_long, game.few))
-      (omega (arith, parts.free_long, game.few)) parted v.members (omega arith) in grind (arith, whole)
+  both-fit = grind (arith, whole, parts-fit v.members (rule_at v.rules i).weights vs fs)
 
   inside : (c : ℕ) → wins v.rules c ≡ true → (q : ℕ) → q < v.members → (get_or vs q 0 ≡ 0) ⊎ (c / 2 ^ (v.members - (q + 1)) % 2 ≡ 1)
   inside c won q lt = grind (arith, cases_Bool, cond-false, vetoer-in, bit_at-lt, cases_eq)

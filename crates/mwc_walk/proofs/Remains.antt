@@ -2,11 +2,10 @@
 use Rattle.mwc_walk.proofs.Imports.{pow-add, nat_tests, Votes, minimal_coalitions, minimal_below, slice, On, Give, End, sym, ap, ◌∙◌, arith}
 use Rattle.mwc_walk.proofs.Imports.{◌*◌, ◌^◌, ◌≤◌, Bool, true, List, [], ◌∷◌, ◌++◌, length, get_or, take, drop, mul-le, CursorIs, SomeSteps}
 use Rattle.mwc_walk.proofs.Imports.{common_steps, cond_both, length-drop, filter-append, in_slice, slice_below, Cursor, ◌≡◌, ℕ, ◌+◌, ◌-◌}
-use Rattle.mwc_walk.proofs.Imports.{IsPlace, IsVotes, votes_of, listing-is, append-nil}
+use Rattle.mwc_walk.proofs.Imports.{IsPlace, IsVotes, votes_of, listing-is, append-nil, get_or-drop}
 use Rattle.mwc_walk.specs.{Listed.ListsAll, declared.step.Step.Step}
 use Rattle.mwc_walk.specs.Inner.Cursor.{rest_of_slice, bound, Follows, GivesNext, FindsEnd}
-use Rattle.std.proofs.Common.{if◌then◌else◌, mul-add, get_or-drop, take-append-drop}
-use Rattle.std.proofs.lemmas.List.{take_more}
+use Rattle.std.proofs.{Common.if◌then◌else◌, Common.mul-add, Common.take-append-drop, lemmas.List.take_more}
 use Rattle.mwc_walk.proofs.{Rest.down-split, Shared.Joined.slices-joined}
 use Rattle.council_game.specs.Game.{GameView}
 

@@ -33,16 +33,14 @@ still-wins : (v : Votes) (c q : ℕ) → IsVotes v → q < v.members → has v.m
 unfolding wins
 still-wins v c q game below in' free = list_all-from_AllPass _ v.rules (λ i d lt.
     let same = get_or_default v.rules i d (record { quota = 0; weights = [] }) lt in
-    let less = sum-without v.members (rule_at v.rules i) c q _ (rule-is v i game lt) below in' refl in
-    rw same (le-leb _ _ (omega (arith, free i lt, less))))
+    rw same (le-leb _ _ (omega (arith, free i lt, sum-without v.members (rule_at v.rules i) c q _ (rule-is v i game lt) below in' refl))))
 
 -- ---- one place after another
 -- no place of rest comes after its last
 pub up-to-last : (n rest q : ℕ) → n ≤ 40 → 0 < rest → rest < 2 ^ n → q < n → has n q rest ≡ true → q ≤ n - 1 - trailing_zeros w64 rest
 unfolding has
 up-to-last n rest q few pos short below in' =
-    let up : 2 ^ n ≤ 2 ^ 40 = pow_mono few in
-    let zeros = bit_at-trailing_zeros w64 rest pos (omega arith) in grind (arith, cases_lt)
+    let up : 2 ^ n ≤ 2 ^ 40 = pow_mono few in grind (arith, cases_lt, bit_at-trailing_zeros w64 rest pos)
 
 -- what the first rule can not spare of a place, it can spare of no place before it
 first-keeps : (rs : List RuleView) (e q m : ℕ) → IsRanked rs → 1 ≤ length rs → e < get_or (rule_at rs 0).weights q 0 → m ≤ q
@@ -60,13 +58,7 @@ module _ {v : Votes} {p x rest : ℕ} {es : List ℕ} (tried : Tried v p x es re
   -- where the first rule can not spare the last place of those left, no place can be spared
   pub first-keeps-all : (q : ℕ) → IsVotes v → ((m : ℕ) → m < v.members → has v.members m rest ≡ true → m ≤ q) → q < v.members
       → get_or es 0 0 < get_or (rule_at v.rules 0).weights q 0 → NoneSpared v p x es
-  first-keeps-all q game last below keeps = λ m lt in' spare. elim (cases_Bool (has v.members m rest)) [
-    | inl still ↦
-        let less = first-keeps v.rules _ q m game.ranked game.has_rule keeps (last m lt still)
-        (omega (arith, below, (rule-is v 0 game game.has_rule).full)) in
-        absurd (omega (arith, less, spare 0 game.has_rule))
-    | inr out ↦ tried.kept m lt in' out spare
-  ]
+  first-keeps-all q game last below keeps = grind (arith, cases_Bool, first-keeps, rule-is)
 
   pub tried-all : rest ≡ 0 → NoneSpared v p x es
   tried-all none = λ q below in'. tried.kept q below in' (ap (has v.members q) none ∙ has-none v.members q)
@@ -82,9 +74,7 @@ module _ {v : Votes} {a : Cursor} (is : CursorIs v a) where
   module _ (i c : ℕ) (below : i < a.rules) (prefix : c / 2 ^ (v.members - a.place) ≡ a.prefix) (won : wins v.rules c ≡ true) where
     pub there-and-comes : weight (rule_at v.rules i).weights c ≡ (lane_at a.lanes i).sum + weight
         (drop a.place (rule_at v.rules i).weights) c
-    there-and-comes =
-        let parts = weight-parts (lane-here is i below).rule a.place c is.place.to in
-        omega (arith, sum-here is i below, rw prefix at parts)
+    there-and-comes = grind (arith, weight-parts (lane-here is i below).rule a.place c is.place.to, sum-here is i below)
 
     pub meets : (rule_at v.rules i).quota ≤ weight (rule_at v.rules i).weights c
     meets = met-at v.rules c i won (omega (arith, below, is.rules))
@@ -109,10 +99,7 @@ module _ {v : Votes} {a : Cursor} (is : CursorIs v a) where
   pub short-need : (i e : ℕ) (s : Vetoes) → i < length v.rules → IsSplit v i s
       → e ≡ (lane_at a.lanes i).quota - min (2 ^ 64 - 1) ((lane_at a.lanes i).sum + get_or s.brings a.place 0)
       → IsNeed v a.place a.prefix s e
-  short-need i e s below split is-e = λ c prefix won.
-      let lt : i < a.rules = omega (arith, below, is.rules) in
-      let here = lane-here is i lt in
-      omega (arith, meets i c lt prefix won, there-and-comes i c lt prefix won, split.parts a.place c is.place.to won)
+  short-need i e s below split is-e = λ c prefix won. grind (arith, meets i c, there-and-comes i c, lane-here is i, split.parts a.place c is.place.to won)
 
   -- ---- who can be spared
   -- a member whom each rule can spare, by what each coalition below has beyond the quotas, is needed in none of them
