@@ -30,7 +30,7 @@ record HaveParts (g : Slicing) (desks : List Desk) (parts : List Part) : Type 0 
   are_parts : All (IsPart g) parts
 
 have_parts : (g : Slicing) (desks : List Desk) (parts : List Part) → AllZip (IsPartOfDesk g) desks parts → HaveParts g desks parts
-have_parts g [] [] z = grind (arith)
+have_parts g [] [] z = grind arith
 have_parts g [] (p ∷ parts) z = absurd z
 have_parts g (d ∷ desks) [] z = absurd z
 have_parts g (d ∷ desks) (p ∷ parts) z = grind (arith, have_parts g desks parts z.1)

@@ -1,6 +1,6 @@
 -- The slices of a game and its minimal winning coalitions.
-use Rattle.mwc_gather.proofs.Imports.{arith, ◌≡◌, ℕ, ◌≤◌, List, length, All, common_steps, ap, sym, ◌∙◌, votes_of, slices-joined, Slicing}
-use Rattle.mwc_gather.proofs.Imports.{IsPart, Part, length-joined, slicing, all_total}
+use Rattle.mwc_gather.proofs.Imports.{arith, ◌≡◌, ℕ, ◌≤◌, List, length, All, ap, sym, ◌∙◌, votes_of, slices-joined, Slicing, IsPart, Part}
+use Rattle.mwc_gather.proofs.Imports.{length-joined, slicing, all_total}
 use Rattle.std.proofs.{Common.◌^◌, lemmas.List.Elements.All-weaker}
 use Rattle.std.specs.List.{range_with_len}
 use Rattle.council_game.specs.{Game.GameView, Votes.minimal_coalitions}
@@ -16,7 +16,7 @@ all_total_is game bits few within =
 
 -- each piece of a part is the slice of its number
 has_pieces : (g : Slicing) (p : Part) → IsPart g p → HasPieces g.slice p
-has_pieces g p part m l = grind (arith, common_steps, piece_is)
+has_pieces g p part m l = grind (arith, piece_is)
 
 pub all_pieces : (g : Slicing) (parts : List Part) → All (IsPart g) parts → All (HasPieces g.slice) parts
 all_pieces g parts a = All-weaker (IsPart g) (HasPieces g.slice) (has_pieces g) parts a

@@ -2,7 +2,7 @@
 use Rattle.std.proofs.Common.{ltb, set, get_or, take, add-one, ap, arith, ◌∙◌, eq-eqb, ne_eqb, append-nil, take_all, length-take-le, sum_by}
 use Rattle.std.proofs.Common.{◌≡◌, ℕ, zero, suc, ◌+◌, ◌<◌, ◌≤◌, Bool, true, false, cond, List, [], ◌∷◌, ◌++◌, length, map, All, refl, eqb}
 use Rattle.std.proofs.lemmas.{Bool.Decides.nat_tests, List.FromFn.get_or-map-range_with_len, List.FromFn.length-map-range_with_len}
-use Rattle.std.proofs.lemmas.{Grind.common_steps, List.take_more, List.Sums.sum_by-cons, List.Sums.sum_by_push, List.Sums.sum_by-set}
+use Rattle.std.proofs.lemmas.List.{take_more, Sums.sum_by-cons, Sums.sum_by_push, Sums.sum_by-set}
 use Rattle.std.specs.List.{range_with_len, Sorted.IsStrictlyIncreasing}
 use Rattle.mwc_parts.specs.Inner.Times.{times_in}
 use Rattle.mwc_parts.specs.Shared.Deals.{share_from, share_of, shares_by, AscendsFrom}
@@ -19,7 +19,7 @@ share_of-more w j [] h = let e : j ≡ j + 0 = omega arith in ap (λ (k : ℕ). 
 share_of-more w j (x ∷ hs) h = grind (arith, share_of-more w (j + 1) hs h, cons_if)
 
 pub share_of-other : (hs : List ℕ) (w h : ℕ) → (w ≡ h → ⊥) → share_of (hs ++ h ∷ []) w ≡ share_of hs w
-share_of-other hs w h ne = grind (arith, common_steps, append-nil, ne_eqb, share_of-more)
+share_of-other hs w h ne = grind (arith, append-nil, ne_eqb, share_of-more)
 
 others : (hs : List ℕ) (i from k : ℕ)
     → i < from → map (share_of (hs ++ i ∷ [])) (range_with_len from k) ≡ map (share_of hs) (range_with_len from k)
@@ -31,7 +31,7 @@ pub deal_from : (hs : List ℕ) (i from k n : ℕ) → from + n ≡ i → n < k
     → map (share_of (hs ++ i ∷ [])) (range_with_len from k) ≡ set (map (share_of hs) (range_with_len from k)) n
     (share_of hs i ++ length hs ∷ [])
 deal_from hs i from zero n e h = absurd (omega arith)
-deal_from hs i from (suc k) zero e h = grind (arith, common_steps, others, eq-eqb, share_of-more)
+deal_from hs i from (suc k) zero e h = grind (arith, others, eq-eqb, share_of-more)
 deal_from hs i from (suc k) (suc n) e h = grind (arith, deal_from hs i (from + 1) k n (omega arith) (omega arith), share_of-other)
 
 -- what a worker holds ascends
@@ -75,7 +75,7 @@ sum_up_to f k hs a (suc m) l =
     let before = sum_up_to f k hs a m (omega arith) in
     let dealt = deal_from first h 0 k h (omega arith) below in
     let next = rw add-one at (sum_by-range-more f m) in
-    grind (arith, common_steps, sum_by_push, sum_by-set, length-map-range_with_len)
+    grind (arith, sum_by_push, sum_by-set, length-map-range_with_len)
 
 -- any sum over the shares is the sum over the slices
 pub shares_sum : (f : ℕ → ℕ) (k : ℕ) (hs : List ℕ) → All (λ h. h < k) hs

@@ -43,7 +43,6 @@ impl Gathered {
     /// # Errors
     ///
     /// Memory where a growth was refused.
-    #[tactic(auto, using(crate::proofs::Searches::for_pieces))]
     pub fn pieces(&self, alloc: Global) -> Result<Vec<&[Coalition]>, Memory>
         ensures each { (slice : ℕ → List ℕ) → All (HasPieces slice) self.now.parts.items
             → IfOk result (λ row.

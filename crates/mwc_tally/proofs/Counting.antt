@@ -29,7 +29,7 @@ module _ {g : GameView} {whole to_come rest : List ℕ} {c : ℕ} {t : Tables} (
   }
 
   pub counted-room : length whole ≤ 2 ^ 40 → table_total t < 2 ^ 40
-  counted-room few = grind (arith, common_steps, length-append, next-joined, total-is)
+  counted-room few = grind (arith, length-append, next-joined, total-is)
 
   pub counted-next : (P : ℕ → Type 0) → All P whole → P c
   counted-next P all =
@@ -65,22 +65,22 @@ slices-room s j game lt =
 
 pub slices-more : (s : SlicedGame) (j : ℕ)
     → flat_map (slice_of s) (range_with_len 0 j) ++ slice_of s j ≡ flat_map (slice_of s) (range_with_len 0 (j + 1))
-slices-more s j = grind (arith, common_steps, append-nil, flat_map-append, range-more)
+slices-more s j = grind (arith, append-nil, flat_map-append, range-more)
 
 -- how many of a joined list pass a test
 pass-flat_map : (q : ℕ → Bool) (f : ℕ → List ℕ) (xs : List ℕ) → length (filter q (flat_map f xs)) ≡ sum_by (λ x. length (filter q (f x))) xs
 pass-flat_map q f [] = refl
 pass-flat_map q f (x ∷ xs) =
-    grind (arith, common_steps, pass-flat_map q f xs, filter-append, length-append, sum_by-cons (λ y. length (filter q (f y))) x xs)
+    grind (arith, pass-flat_map q f xs, filter-append, length-append, sum_by-cons (λ y. length (filter q (f y))) x xs)
 
 pass-permutation : (q : ℕ → Bool) (f : ℕ → List ℕ) (xs ys : List ℕ) → IsPermutation xs ys
     → length (filter q (flat_map f xs)) ≡ length (filter q (flat_map f ys))
-pass-permutation q f xs ys h = grind (arith, common_steps, pass-flat_map, sum_by-IsPermutation)
+pass-permutation q f xs ys h = grind (arith, pass-flat_map, sum_by-IsPermutation)
 
 -- slices in another order have the same counts
 pub permuted : (g : GameView) (f : ℕ → List ℕ) (xs ys : List ℕ) (t : Tables) → IsPermutation xs ys → AreTallies g (flat_map f xs) t
     → AreTallies g (flat_map f ys) t
-permuted g f xs ys t same h = grind (arith, common_steps, pass-permutation)
+permuted g f xs ys t same h = grind (arith, pass-permutation)
 
 -- the slices, each once, have the counts of the whole list
 pub whole-counts : (s : SlicedGame) (taken sorted : List ℕ) (n : ℕ) (t : Tables) → IsPermutation taken sorted → sorted ≡ range_with_len 0 n

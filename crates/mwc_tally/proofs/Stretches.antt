@@ -37,7 +37,7 @@ module _ {X : Type 0} (f : X → List ℕ) (xs : List X) (k skip most : ℕ) {s 
 
   pub row-next : take most (drop skip (flat_map f (take (k + 1) xs)))
       ≡ take most (drop skip (flat_map f (take k xs))) ++ take m (take (length (f x) - a) (drop a (f x)))
-  row-next = rw (next, row) (grind (arith, common_steps, drop-append, take-append))
+  row-next = rw (next, row) (grind (arith, drop-append, take-append))
 
   -- what holds of all holds of what is read
   pub row-all : (P : ℕ → Type 0) → All P (flat_map f xs) → All P (take m (take (length (f x) - a) (drop a (f x))))
@@ -47,7 +47,7 @@ module _ {X : Type 0} (f : X → List ℕ) (xs : List X) (k skip most : ℕ) {s 
       ≤ length (flat_map f xs)
   row-room =
       let both = ap (λ (r : List ℕ). length r) row-next in
-      grind (arith, common_steps, both, next, length-append, length-take, length-drop, pieces-length f xs k x lt is)
+      grind (arith, both, next, length-append, length-take, length-drop, pieces-length f xs k x lt is)
 
   -- what is left to skip and to take after it
   pub left-to_skip : s - length (f x) ≡ skip - length (flat_map f (take (k + 1) xs))
@@ -60,7 +60,7 @@ module _ {X : Type 0} (f : X → List ℕ) (xs : List X) (k skip most : ℕ) {s 
 pub is-stretch : (given : GivenStretch) (g : GameView) (list : List ℕ) (skip most : ℕ) → IsGivenStretch g list skip most given
     → (t : Tables) → AreTallies given.game.value (take given.most (drop given.skip (joined given.pieces.value.now))) t
     → AreTallies g (take most (drop skip list)) t
-is-stretch given g list skip most is t tallies = grind (arith, common_steps)
+is-stretch given g list skip most is t tallies = grind arith
 
 pub ok-counts : {E : Type 0} (g : GameView) (list : List ℕ) (r : Result Tables E) → IfOk r (AreTallies g list) → IfOk r (AreCounts g list)
 ok-counts g list (Ok t) h = tallies-are_counts g list t h

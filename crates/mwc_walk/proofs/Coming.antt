@@ -47,17 +47,16 @@ still-kept a b i t f g cheaper kept none =
 pub price-falls : (p : Price) (i t f g d : ℕ) → 0 < t → i * p.other ≤ p.own * t → IsPrice p f g
     → IsPrice (record { own = i; other = t }) (d * t + f) (d * i + g)
 price-falls p i t f g d some cheaper is =
-    let kept = still-kept p.own p.other i t f g cheaper is.kept is.none in grind (arith)
+    let kept = still-kept p.own p.other i t f g cheaper is.kept is.none in grind arith
 
 -- with one who is not cheaper
 pub price-stays : (p : Price) (i t f g d : ℕ) → p.own * t ≤ i * p.other → (p.other ≡ 0 → t ≡ 0) → IsPrice p f g
     → IsPrice p (d * t + f) (d * i + g)
-price-stays p i t f g d dearer none is =
-    let more : d * (p.own * t) ≤ d * (i * p.other) = mul-le d (p.own * t) d (i * p.other) (omega arith) dearer in grind (arith)
+price-stays p i t f g d dearer none is = grind (arith, mul-le d (p.own * t) d (i * p.other))
 
 -- the least that is weighed: rounded up
 pub rounded-up : (x b g : ℕ) → 0 < b → x ≤ b * g → div_ceil x b ≤ g
-rounded-up x b g some le = grind (arith, common_steps)
+rounded-up x b g some le = grind arith
 
 -- what a price rests on
 pub ruleset cheapest = (price-falls, price-stays)
@@ -107,7 +106,7 @@ sums-step n p ws before after below le fits without with_it c covered =
 weight-out : (ws : List ℕ) (q c : ℕ) → q < length ws → c / 2 ^ (length ws - 1 - q) % 2 ≡ 0 → weight ws c + get_or ws q 0 ≤ sum ws
 weight-out ws q c below out =
     let back : c + 2 ^ (length ws - 1 - q) - 2 ^ (length ws - 1 - q) ≡ c = omega arith in
-    grind (arith, common_steps, digit-added, weight-without, weight-le)
+    grind (arith, digit-added, weight-without, weight-le)
 
 -- a rule that needs the member of a place is not met without it
 pub vetoer-in : (v : Votes) (q c : ℕ) (ls : List Lane) → q < v.members → length ls ≡ length v.rules → LanesStand v ls
@@ -117,7 +116,7 @@ vetoer-in v q c ls below count are needs won out =
     let room : k < length v.rules = omega (arith, lt, count) in
     let same : lane_at ls k ≡ l = get_or_default ls k _ l lt ∙ at in
     let is = rw same at (are k room) in
-    let met = met-at v.rules c k won room in grind (arith, common_steps, ltb-true, weight-out)
+    let met = met-at v.rules c k won room in grind (arith, ltb-true, weight-out)
 
 -- ---- weights in two parts
 module _ (n : ℕ) (ws vs fs : List ℕ) (lw : n ≤ length ws) (lv : n ≤ length vs) (lf : n ≤ length fs)
@@ -125,14 +124,10 @@ module _ (n : ℕ) (ws vs fs : List ℕ) (lw : n ≤ length ws) (lv : n ≤ leng
   -- where the first part is in the coalition, it is weighed whole
   pub split-from : (c k p : ℕ) → ((q : ℕ) → q < n → (get_or vs q 0 ≡ 0) ⊎ (c / 2 ^ (n - (q + 1)) % 2 ≡ 1)) → p + k ≡ n
       → sum (drop p (take n vs)) + weight (drop p (take n fs)) c ≡ weight (drop p (take n ws)) c
-  split-from c zero p inside at = grind (arith, common_steps, weight-past, drop_all, length-take-le)
+  split-from c zero p inside at = grind (arith, weight-past, drop_all, length-take-le)
   split-from c (suc k) p inside at =
       let below : p < n = omega arith in
-      let rest = split-from c k (p + 1) inside (omega arith) in
-      let first = sum-from vs n p lv below in
-      let others = weight-from fs n p c below lf in
-      let all = weight-from ws n p c below lw in
-      let whole = parted p below in grind (arith, common_steps, get_or)
+      grind (arith, split-from c k (p + 1) inside, sum-from vs n p lv below, weight-from fs n p c below lf, weight-from ws n p c below lw, parted p below, inside p below)
 
   pub parts-fit : (m : ℕ) → m ≤ n → sum (take m vs) + sum (take m fs) ≡ sum (take m ws)
   parts-fit zero le = refl
@@ -163,13 +158,10 @@ module _ {v : Votes} {ls : List Lane} {i n : ℕ} {vs fs : List ℕ} (game : IsV
       omega (arith, part, parts.vetoed q room, parts.free q room, lane.weights q lt)
 
   both-fit : sum (take v.members vs) + sum (take v.members fs) < 2 ^ 64
-  both-fit =
-      let all = parts-fit v.members (rule_at v.rules i).weights vs fs (omega (arith, lane.rule.full))
-      (omega (arith, parts.vetoed_long, game.few))
-      (omega (arith, parts.free_long, game.few)) parted v.members (omega arith) in grind (arith, common_steps, whole)
+  both-fit = grind (arith, whole, parts-fit v.members (rule_at v.rules i).weights vs fs)
 
   inside : (c : ℕ) → wins v.rules c ≡ true → (q : ℕ) → q < v.members → (get_or vs q 0 ≡ 0) ⊎ (c / 2 ^ (v.members - (q + 1)) % 2 ≡ 1)
-  inside c won q lt = grind (arith, common_steps, cases_Bool, cond-false, vetoer-in, bit_at-lt, cases_eq)
+  inside c won q lt = grind (arith, cases_Bool, cond-false, vetoer-in, bit_at-lt, cases_eq)
 
   pub split-is : (brings : List ℕ) → (sum (take n vs) < 2 ^ 64 → (p : ℕ) → p ≤ n → get_or brings p 0 ≡ sum (drop p (take n vs)))
       → IsSplit v i (record { brings = brings; free = fs })

@@ -2,11 +2,10 @@
 use Rattle.mwc_walk.proofs.Imports.{pow-add, nat_tests, Votes, minimal_coalitions, minimal_below, slice, On, Give, End, sym, ap, ◌∙◌, arith}
 use Rattle.mwc_walk.proofs.Imports.{◌*◌, ◌^◌, ◌≤◌, Bool, true, List, [], ◌∷◌, ◌++◌, length, get_or, take, drop, mul-le, CursorIs, SomeSteps}
 use Rattle.mwc_walk.proofs.Imports.{common_steps, cond_both, length-drop, filter-append, in_slice, slice_below, Cursor, ◌≡◌, ℕ, ◌+◌, ◌-◌}
-use Rattle.mwc_walk.proofs.Imports.{IsPlace, IsVotes, votes_of, listing-is, append-nil}
+use Rattle.mwc_walk.proofs.Imports.{IsPlace, IsVotes, votes_of, listing-is, append-nil, get_or-drop}
 use Rattle.mwc_walk.specs.{Listed.ListsAll, declared.step.Step.Step}
 use Rattle.mwc_walk.specs.Inner.Cursor.{rest_of_slice, bound, Follows, GivesNext, FindsEnd}
-use Rattle.std.proofs.Common.{if◌then◌else◌, mul-add, get_or-drop, take-append-drop}
-use Rattle.std.proofs.lemmas.List.{take_more}
+use Rattle.std.proofs.{Common.if◌then◌else◌, Common.mul-add, Common.take-append-drop, lemmas.List.take_more}
 use Rattle.mwc_walk.proofs.{Rest.down-split, Shared.Joined.slices-joined}
 use Rattle.council_game.specs.Game.{GameView}
 
@@ -45,7 +44,7 @@ given-by v a = take (length (slice v a.bits a.number) - length (rest_of_slice v 
 
 -- what was given and what is to come
 pub given-whole : {v : Votes} {a : Cursor} → CursorIs v a → given-by v a ++ rest_of_slice v a ≡ slice v a.bits a.number
-given-whole is = grind (arith, common_steps, rest-is, take-append-drop)
+given-whole is = grind (arith, rest-is, take-append-drop)
 
 -- ---- after some steps
 pub follows-of : {v : Votes} {a b : Cursor} (s : Step) → SomeSteps v a s b → Follows v a b
@@ -59,7 +58,7 @@ module _ {v : Votes} {a b : Cursor} where
 
   -- steps that came to no coalition have given the same
   pub given-same : Follows v a b → rest_of_slice v b ≡ rest_of_slice v a → given-by v b ≡ given-by v a
-  given-same h same = grind (arith, common_steps)
+  given-same h same = grind arith
 
   pub given-next : {c : ℕ} → CursorIs v a → GivesNext v a c b → given-by v b ≡ given-by v a ++ c ∷ []
   given-next {c} is h = grind (arith, common_steps, same-slice, given-more, rest-is)
@@ -71,7 +70,7 @@ module _ {v : Votes} {a b : Cursor} where
 pub visits-most : {v : Votes} {a : Cursor} → CursorIs v a → (a.rules ≡ 1 → a.fresh ≡ true → a.place ≡ a.bits) → length v.rules ≡ 1
     → a.visits ≤ a.bits + (v.members - a.bits) * (length (slice v a.bits a.number) - length (rest_of_slice v a))
 visits-most {v} {a} is rests one =
-    let short = rest-short is in let visits = is.visits in grind (arith, common_steps, mul-add)
+    let short = rest-short is in let visits = is.visits in grind (arith, mul-add)
 
 -- what the calls of a walk rest on
 pub ruleset walking = (given-same, given-next, given-end, visits-most)

@@ -3,7 +3,7 @@ use Rattle.mwc_walk.proofs.Imports.{mul-le, and_left, eq-eqb, cond-true, false_f
 use Rattle.mwc_walk.proofs.Imports.{pow-add, slice_below, reaches, wins_at, NothingBelow, lowest-place, w64, trailing_zeros, eqb-true, refl}
 use Rattle.mwc_walk.proofs.Imports.{without, minimal, minimal_coalitions, minimal_below, needs-each-member, slice, in_slice, ◌-◌, ◌%◌, ap}
 use Rattle.mwc_walk.proofs.Imports.{◌≡◌, ℕ, zero, suc, ◌+◌, ◌*◌, ◌/◌, ◌^◌, ◌<◌, ◌≤◌, Bool, true, false, eqb, List, [], ◌∷◌, ◌++◌, ◌∙◌}
-use Rattle.mwc_walk.proofs.Imports.{arith, common_steps, filter, append-nil, filter-append, pow_pos, down}
+use Rattle.mwc_walk.proofs.Imports.{arith, filter, append-nil, filter-append, pow_pos, down}
 use Rattle.std.proofs.{Common.zero-add, Common.ne_eqb, Math.Bool.and-true, Math.Nat.lt-div-mul-add, lemmas.Bool.and_right}
 use Rattle.coalitions.proofs.Shared.Lists.{filter-both}
 use Rattle.mwc_walk.proofs.Rules.{wins-below, loses-below}
@@ -30,14 +30,14 @@ filter-above p q low (suc more) same = grind (arith, filter-above p q low more (
 pub filter-down_skip : (p : ℕ → Bool) (low more : ℕ) → ((c : ℕ) → low ≤ c → c < low + more → p c ≡ false)
     → filter p (down (low + more)) ≡ filter p (down low)
 unfolding down
-filter-down_skip p low zero fails = grind (arith, common_steps)
+filter-down_skip p low zero fails = grind arith
 filter-down_skip p low (suc more) fails =
     let e : low + suc more ≡ suc (low + more) = omega arith in
-    grind (arith, common_steps, filter-down_skip p low more (λ c from to. fails c from (omega arith)))
+    grind (arith, filter-down_skip p low more (λ c from to. fails c from (omega arith)))
 
 pub filter-filter_skip : (q p : ℕ → Bool) (low more : ℕ) → ((c : ℕ) → low ≤ c → c < low + more → q c ≡ false)
     → filter q (filter p (down (low + more))) ≡ filter q (filter p (down low))
-filter-filter_skip q p low more fails = grind (arith, common_steps, and_right, filter-down_skip, filter-both)
+filter-filter_skip q p low more fails = grind (arith, and_right, filter-down_skip, filter-both)
 
 pub filter-filter_none : (q p : ℕ → Bool) (n : ℕ) → ((c : ℕ) → c < n → q c ≡ false) → filter q (filter p (down n)) ≡ []
 unfolding down
@@ -45,7 +45,7 @@ filter-filter_none q p n fails = rw zero-add at (filter-filter_skip q p 0 n (λ 
 
 -- a number that passes is the first
 pub filter-down_take : (p : ℕ → Bool) (c : ℕ) → p c ≡ true → filter p (down (c + 1)) ≡ c ∷ filter p (down c)
-filter-down_take p c passes = grind (arith, common_steps, down-split)
+filter-down_take p c passes = grind (arith, down-split)
 
 -- the top, which passes q, then the rest, which does not
 pub filter-block : (q p : ℕ → Bool) (low more : ℕ) → ((c : ℕ) → low ≤ c → c < low + more → q c ≡ true) → ((c : ℕ) → c < low → q c ≡ false)
@@ -57,13 +57,13 @@ filter-block q p low more passes fails =
 
 -- ---- the numbers of a block, which have one quotient
 pub block-prefix : (x h c : ℕ) → x * 2 ^ h ≤ c → c < x * 2 ^ h + 2 ^ h → c / 2 ^ h ≡ x
-block-prefix x h c low high = grind (arith, common_steps)
+block-prefix x h c low high = grind arith
 
 pub before-block : (x h c : ℕ) → c < x * 2 ^ h → eqb (c / 2 ^ h) x ≡ false
-before-block x h c high = grind (arith, common_steps)
+before-block x h c high = grind arith
 
 pub past-block : (x h c : ℕ) → (x + 1) * 2 ^ h ≤ c → eqb (c / 2 ^ h) x ≡ false
-past-block x h c low = grind (arith, common_steps, lt-div-mul-add, ne_eqb, pow_pos)
+past-block x h c low = grind (arith, lt-div-mul-add, ne_eqb, pow_pos)
 
 -- ---- what is left of a slice
 -- a digit that is set
@@ -73,7 +73,7 @@ some_digit h r few pos below =
     let last = lowest-place h r few pos below in
     let back : h - 1 - (h - 1 - trailing_zeros w64 r) ≡ trailing_zeros w64 r = omega (arith, last.0) in
     let digit = eqb-true _ _ (rw back at last.1) in
-    (trailing_zeros w64 r, last.0, grind (arith, common_steps), digit)
+    (trailing_zeros w64 r, last.0, grind arith, digit)
 
 pub next-block : (x h : ℕ) → (x + 1) * 2 ^ h ≡ x * 2 ^ h + 2 ^ h
 next-block x h = omega arith
@@ -89,7 +89,7 @@ above-not_minimal v p x c game le win low high min =
     let place : v.members - 1 - (v.members - 1 - found.0) ≡ found.0 = omega arith in
     let inside : eqb (c / 2 ^ (v.members - 1 - (v.members - 1 - found.0)) % 2) 1 ≡ true = grind (arith, eq-eqb) in
     let prefix : (c - 2 ^ found.0) / 2 ^ (v.members - p) ≡ x = grind (arith, block-prefix) in
-    grind (arith, common_steps, both_ways, wins-below, needs-each-member)
+    grind (arith, both_ways, wins-below, needs-each-member)
 
 -- a prefix that cannot reach some quota has nothing below it
 pub dead-nothing : (v : Votes) (p x : ℕ) → IsVotes v → p ≤ v.members → reaches v.rules p x ≡ false → NothingBelow v p x
@@ -99,7 +99,7 @@ dead-nothing v p x game le dead = λ c prefix. unfold minimal in grind (arith, a
 pub left-nothing : (v : Votes) (k j p x : ℕ) → NothingBelow v p x
     → slice_below v k j ((x + 1) * 2 ^ (v.members - p)) ≡ slice_below v k j (x * 2 ^ (v.members - p))
 unfolding slice_below minimal_below
-left-nothing v k j p x nothing = grind (arith, common_steps, block-prefix, filter-down_skip, next-block)
+left-nothing v k j p x nothing = grind (arith, block-prefix, filter-down_skip, next-block)
 
 -- below a winning prefix only the prefix with zeros is left
 pub left-won : (v : Votes) (k j p x : ℕ) → IsVotes v → p ≤ v.members → wins_at v.rules p x ≡ true
@@ -114,7 +114,7 @@ left-won v k j p x game le win =
 pub left-take : (v : Votes) (k j c : ℕ) → minimal v c ≡ true → c / 2 ^ (v.members - k) ≡ 2 ^ k - 1 - j
     → slice_below v k j (c + 1) ≡ c ∷ slice_below v k j c
 unfolding slice_below minimal_below in_slice
-left-take v k j c h inside = grind (arith, common_steps, cond-true, eq-eqb, filter-down_take)
+left-take v k j c h inside = grind (arith, cond-true, eq-eqb, filter-down_take)
 
 -- where the walk starts, the whole slice is left
 pub left-all : (v : Votes) (k j : ℕ) → k ≤ v.members → j < 2 ^ k
@@ -129,4 +129,4 @@ left-all v k j le below =
 -- where it ends, nothing is
 pub left-none : (v : Votes) (k j : ℕ) → slice_below v k j ((2 ^ k - 1 - j) * 2 ^ (v.members - k)) ≡ []
 unfolding slice_below minimal_below in_slice
-left-none v k j = grind (arith, common_steps, before-block, filter-filter_none)
+left-none v k j = grind (arith, before-block, filter-filter_none)

@@ -1,8 +1,8 @@
 -- What a rule's places weigh at a prefix x of p places, and the lanes of the walk, which stand for the rules there.
 use Rattle.mwc_walk.proofs.Imports.{weight-le, reaches, wins_at, Lane, length-drop, Bool, true, List, [], ◌∷◌, refl, ℕ, ◌+◌, ◌-◌, ◌*◌, ◌/◌}
+use Rattle.mwc_walk.proofs.Imports.{drop_all, RuleView, leb, sum_by-take-drop, has-none, lane_at, subst, ◌≡◌, weight, wins, rule_at, ◌%◌}
 use Rattle.mwc_walk.proofs.Imports.{ap, get_or, sum, arith, zero, suc, length, sym, ◌∙◌, AllByRecursion, list_all, le-leb, common_steps}
-use Rattle.mwc_walk.proofs.Imports.{drop_all, RuleView, leb, sum_by-take-drop, has-none, lane_at, subst, ◌≡◌, weight, wins, rule_at}
-use Rattle.mwc_walk.proofs.Imports.{◌%◌, ◌^◌, ◌<◌, ◌≤◌, take, drop, IsRule, list_all-from_AllPass}
+use Rattle.mwc_walk.proofs.Imports.{◌^◌, ◌<◌, ◌≤◌, take, drop, IsRule, list_all-from_AllPass}
 use Rattle.std.proofs.lemmas.List.{Elements.All-from_recursion, Sums.sum_by-drop_more, Sums.AllPass-from_list_all}
 use Rattle.std.proofs.Common.{leb-true, div-add-mod'}
 use Rattle.council_game.proofs.Shared.Weights.{weight-at, weight-more, weight-prefix, weight-skip}
@@ -64,12 +64,12 @@ module _ (n : ℕ) (rs : List RuleView) (all : AllByRecursion (IsRule n) rs) whe
   -- a set with a winning prefix wins
   pub wins-below : (p c : ℕ) → p ≤ n → wins_at rs p (c / 2 ^ (n - p)) ≡ true → wins rs c ≡ true
   unfolding wins wins_at
-  wins-below p c le = grind (arith, common_steps, le-leb, leb-true, list_all-more, weight-parts)
+  wins-below p c le = grind (arith, le-leb, leb-true, list_all-more, weight-parts)
 
   -- a set whose prefix cannot reach some quota loses
   pub loses-below : (p c : ℕ) → p ≤ n → wins rs c ≡ true → reaches rs p (c / 2 ^ (n - p)) ≡ true
   unfolding wins reaches
-  loses-below p c le = grind (arith, common_steps, le-leb, leb-true, list_all-more, weight-le, weight-parts)
+  loses-below p c le = grind (arith, le-leb, leb-true, list_all-more, weight-le, weight-parts)
 
   pub wins-more : (p q x y : ℕ) → p < n → q ≡ p + 1 → x ≡ y / 2 → wins_at rs p x ≡ true → wins_at rs q y ≡ true
   unfolding wins_at
@@ -96,7 +96,7 @@ module _ (n : ℕ) (rs : List RuleView) (all : AllByRecursion (IsRule n) rs) whe
   -- past the last place, what reaches the quotas wins
   pub full-reach : (p x : ℕ) → n ≤ p → reaches rs p x ≡ wins_at rs p x
   unfolding reaches wins_at
-  full-reach p x past = grind (arith, common_steps, drop_all, list_all-same)
+  full-reach p x past = grind (arith, drop_all, list_all-same)
 
 -- a winning coalition meets each quota
 pub met-at : (rs : List RuleView) (c i : ℕ) → wins rs c ≡ true → i < length rs → (rule_at rs i).quota ≤ weight (rule_at rs i).weights c

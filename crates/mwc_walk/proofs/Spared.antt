@@ -2,9 +2,9 @@
 use Rattle.mwc_walk.proofs.Imports.{wins, minimal, lowest-place, needs-each-member, Lane, eq-eqb, IsSplit, ◌≡◌, ℕ, ◌+◌, ◌-◌, ◌*◌, ◌/◌, ◌^◌}
 use Rattle.mwc_walk.proofs.Imports.{false_from_ne_true, nat_tests, shr-shr, RuleView, Votes, take, drop, get_or, refl, sym, ap, both_ways}
 use Rattle.mwc_walk.proofs.Imports.{le-leb, Cursor, LaneIs, NothingBelow, IsExcess, wins_at, IsNeed, Tried, rule_at, has, without, weight}
-use Rattle.mwc_walk.proofs.Imports.{trailing_zeros, pow_mono, cases_eq, cases_lt, cases_Bool, CursorIs, has-none, lane_at, IsVotes}
-use Rattle.mwc_walk.proofs.Imports.{◌<◌, ◌≤◌, min, true, List, [], length, IsRanked, ◌∙◌, arith, inl, inr, common_steps, w64}
-use Rattle.mwc_walk.proofs.Imports.{get_or_default, list_all-from_AllPass, asked_at}
+use Rattle.mwc_walk.proofs.Imports.{trailing_zeros, pow_mono, cases_eq, cases_lt, cases_Bool, CursorIs, has-none, lane_at, IsVotes, ◌<◌}
+use Rattle.mwc_walk.proofs.Imports.{◌≤◌, min, true, List, [], length, IsRanked, ◌∙◌, arith, inl, inr, common_steps, w64, get_or_default}
+use Rattle.mwc_walk.proofs.Imports.{list_all-from_AllPass, asked_at}
 use Rattle.std.proofs.lemmas.{Bool.and_parts, Bool.and_from, Nat.and_le_l, Nat.Bits.bit_at-trailing_zeros, Nat.Bits.bit_at_and}
 use Rattle.std.proofs.Common.{◌&&◌, bit_and}
 use Rattle.coalitions.proofs.Shared.Digits.{has-kept, has-gone, lowest-cleared, without-less}
@@ -16,13 +16,13 @@ use Rattle.mwc_walk.proofs.Rules.{weight-block, weight-parts, wins-prefix, met-a
 
 pub has-and : (n q a b : ℕ) → has n q (bit_and a b) ≡ (has n q a && has n q b)
 unfolding has
-has-and n q a b = grind (arith, nat_tests, common_steps, bit_at_and)
+has-and n q a b = grind (arith, nat_tests, bit_at_and)
 
 -- a place that is in the prefix is in each coalition below it
 has-below : (n p x c q : ℕ) → p ≤ n → q < n → c / 2 ^ (n - p) ≡ x → has n q (x * 2 ^ (n - p)) ≡ true → has n q c ≡ true
 unfolding has
 has-below n p x c q le below prefix in' =
-    let e : n - 1 - q ≡ n - (q + 1) = omega arith in grind (arith, common_steps, place-before, in-slice, shr-shr)
+    grind (arith, place-before n p x q le below in', in-slice n (q + 1) p x, shr-shr c (n - p) (p - (q + 1)))
 
 -- ---- rule by rule
 -- without a member that each quota is passed by, a coalition wins still
@@ -33,21 +33,19 @@ still-wins : (v : Votes) (c q : ℕ) → IsVotes v → q < v.members → has v.m
 unfolding wins
 still-wins v c q game below in' free = list_all-from_AllPass _ v.rules (λ i d lt.
     let same = get_or_default v.rules i d (record { quota = 0; weights = [] }) lt in
-    let less = sum-without v.members (rule_at v.rules i) c q _ (rule-is v i game lt) below in' refl in
-    rw same (le-leb _ _ (omega (arith, free i lt, less))))
+    rw same (le-leb _ _ (omega (arith, free i lt, sum-without v.members (rule_at v.rules i) c q _ (rule-is v i game lt) below in' refl))))
 
 -- ---- one place after another
 -- no place of rest comes after its last
 pub up-to-last : (n rest q : ℕ) → n ≤ 40 → 0 < rest → rest < 2 ^ n → q < n → has n q rest ≡ true → q ≤ n - 1 - trailing_zeros w64 rest
 unfolding has
 up-to-last n rest q few pos short below in' =
-    let up : 2 ^ n ≤ 2 ^ 40 = pow_mono few in
-    let zeros = bit_at-trailing_zeros w64 rest pos (omega arith) in grind (arith, common_steps, cases_lt)
+    let up : 2 ^ n ≤ 2 ^ 40 = pow_mono few in grind (arith, cases_lt, bit_at-trailing_zeros w64 rest pos)
 
 -- what the first rule can not spare of a place, it can spare of no place before it
 first-keeps : (rs : List RuleView) (e q m : ℕ) → IsRanked rs → 1 ≤ length rs → e < get_or (rule_at rs 0).weights q 0 → m ≤ q
     → q < length (rule_at rs 0).weights → e < get_or (rule_at rs 0).weights m 0
-first-keeps rs e q m ranked some keeps before below = grind (arith, common_steps)
+first-keeps rs e q m ranked some keeps before below = grind arith
 
 -- what the last place of a mask rests on
 pub ruleset last = (common_steps, lowest-place, lowest-cleared, up-to-last)
@@ -55,18 +53,12 @@ pub ruleset last = (common_steps, lowest-place, lowest-cleared, up-to-last)
 module _ {v : Votes} {p x rest : ℕ} {es : List ℕ} (tried : Tried v p x es rest) where
   pub tried-more : (q : ℕ) → 0 < rest → q < v.members → has v.members q rest ≡ true → (CanSpare v es q → ⊥)
       → Tried v p x es (without v.members q rest)
-  tried-more q pos below in' kept = grind (arith, common_steps, both_ways, cases_eq, has-gone, has-kept, without-less)
+  tried-more q pos below in' kept = grind (arith, both_ways, cases_eq, has-gone, has-kept, without-less)
 
   -- where the first rule can not spare the last place of those left, no place can be spared
   pub first-keeps-all : (q : ℕ) → IsVotes v → ((m : ℕ) → m < v.members → has v.members m rest ≡ true → m ≤ q) → q < v.members
       → get_or es 0 0 < get_or (rule_at v.rules 0).weights q 0 → NoneSpared v p x es
-  first-keeps-all q game last below keeps = λ m lt in' spare. elim (cases_Bool (has v.members m rest)) [
-    | inl still ↦
-        let less = first-keeps v.rules _ q m game.ranked game.has_rule keeps (last m lt still)
-        (omega (arith, below, (rule-is v 0 game game.has_rule).full)) in
-        absurd (omega (arith, less, spare 0 game.has_rule))
-    | inr out ↦ tried.kept m lt in' out spare
-  ]
+  first-keeps-all q game last below keeps = grind (arith, cases_Bool, first-keeps, rule-is)
 
   pub tried-all : rest ≡ 0 → NoneSpared v p x es
   tried-all none = λ q below in'. tried.kept q below in' (ap (has v.members q) none ∙ has-none v.members q)
@@ -74,7 +66,7 @@ module _ {v : Votes} {p x rest : ℕ} {es : List ℕ} (tried : Tried v p x es re
   -- a rule that passes its quota by nothing spares only who weighs nothing
   pub tried-weightless : (i : ℕ) (l : Lane) → i < length v.rules → LaneIs v.members (rule_at v.rules i) l → get_or es i 0 ≡ 0
       → Tried v p x es (bit_and rest l.weightless)
-  tried-weightless i l below is nothing = grind (arith, common_steps, and_le_l, and_from, and_parts, both_ways, cases_Bool, eq-eqb, has-and)
+  tried-weightless i l below is nothing = grind (arith, and_le_l, and_from, and_parts, both_ways, cases_Bool, eq-eqb, has-and)
 
 module _ {v : Votes} {a : Cursor} (is : CursorIs v a) where
   -- ---- what is there and what comes
@@ -82,9 +74,7 @@ module _ {v : Votes} {a : Cursor} (is : CursorIs v a) where
   module _ (i c : ℕ) (below : i < a.rules) (prefix : c / 2 ^ (v.members - a.place) ≡ a.prefix) (won : wins v.rules c ≡ true) where
     pub there-and-comes : weight (rule_at v.rules i).weights c ≡ (lane_at a.lanes i).sum + weight
         (drop a.place (rule_at v.rules i).weights) c
-    there-and-comes =
-        let parts = weight-parts (lane-here is i below).rule a.place c is.place.to in
-        omega (arith, sum-here is i below, rw prefix at parts)
+    there-and-comes = grind (arith, weight-parts (lane-here is i below).rule a.place c is.place.to, sum-here is i below)
 
     pub meets : (rule_at v.rules i).quota ≤ weight (rule_at v.rules i).weights c
     meets = met-at v.rules c i won (omega (arith, below, is.rules))
@@ -94,32 +84,29 @@ module _ {v : Votes} {a : Cursor} (is : CursorIs v a) where
       → ((c : ℕ) → c / 2 ^ (v.members - a.place) ≡ a.prefix → wins v.rules c ≡ true
       → b ≤ weight (drop a.place (rule_at v.rules i).weights) c)
       → IsExcess v a.place a.prefix i (t - (lane_at a.lanes i).quota)
-  least-excess i t b below most comes = λ c prefix won. grind (arith, common_steps, meets, there-and-comes, lane-here, sum-here)
+  least-excess i t b below most comes = λ c prefix won. grind (arith, meets, there-and-comes, lane-here, sum-here)
 
   -- what is there beyond what the rule asks is passed by each winning coalition below
   pub excess-is : (i e : ℕ) → i < length v.rules → e ≡ (lane_at a.lanes i).sum - asked_at a.asked i a.place
       → IsExcess v a.place a.prefix i e
-  excess-is i e below is-e = λ c prefix won. grind (arith, common_steps, meets, there-and-comes)
+  excess-is i e below is-e = λ c prefix won. grind (arith, meets, there-and-comes)
 
   pub enough-is : (i e : ℕ) → i < length v.rules → e ≡ (lane_at a.lanes i).sum - asked_at a.asked i a.place
       → weight (take a.place (rule_at v.rules i).weights) a.prefix - (rule_at v.rules i).quota ≤ e
-  enough-is i e below is-e = grind (arith, common_steps, sum-here)
+  enough-is i e below is-e = grind (arith, sum-here)
 
   -- what the quota asks for beside what is there and what vetoers bring
   pub short-need : (i e : ℕ) (s : Vetoes) → i < length v.rules → IsSplit v i s
       → e ≡ (lane_at a.lanes i).quota - min (2 ^ 64 - 1) ((lane_at a.lanes i).sum + get_or s.brings a.place 0)
       → IsNeed v a.place a.prefix s e
-  short-need i e s below split is-e = λ c prefix won.
-      let lt : i < a.rules = omega (arith, below, is.rules) in
-      let here = lane-here is i lt in
-      omega (arith, meets i c lt prefix won, there-and-comes i c lt prefix won, split.parts a.place c is.place.to won)
+  short-need i e s below split is-e = λ c prefix won. grind (arith, meets i c, there-and-comes i c, lane-here is i, split.parts a.place c is.place.to won)
 
   -- ---- who can be spared
   -- a member whom each rule can spare, by what each coalition below has beyond the quotas, is needed in none of them
   pub spared-nothing : (q : ℕ) (es : List ℕ) → q < v.members → has v.members q (a.prefix * 2 ^ (v.members - a.place)) ≡ true
       → CanSpare v es q → AreExcesses v a.place a.prefix es → NothingBelow v a.place a.prefix
   spared-nothing q es below in' spare excess =
-      grind (arith, common_steps, both_ways, false_from_ne_true, has-below, needs-each-member, still-wins)
+      grind (arith, both_ways, false_from_ne_true, has-below, needs-each-member, still-wins)
 
   -- a winning prefix of which no member can be spared is minimal
   pub kept-minimal : (es : List ℕ) → IsEnough v a.place a.prefix es → NoneSpared v a.place a.prefix es
@@ -140,4 +127,4 @@ module _ {v : Votes} {a : Cursor} (is : CursorIs v a) where
 
   -- all members of the prefix are still to be tried
   pub tried-first : (es : List ℕ) (m : ℕ) → m ≡ a.prefix * 2 ^ (a.members - a.place) → Tried v a.place a.prefix es m
-  tried-first es m same = grind (arith, common_steps, both_ways, enter-short)
+  tried-first es m same = grind (arith, both_ways, enter-short)

@@ -25,7 +25,7 @@ halves n p q x y below next twice =
 -- the number of the first k places of n, with zeros after it
 pub fixed-mask : (n k x : ℕ) → k ≤ n → n ≤ 40 → x < 2 ^ k → (x * 2 ^ (n - k) % 2 ^ 64 ≡ x * 2 ^ (n - k)) × (x * 2 ^ (n - k) < 2 ^ n)
 fixed-mask n k x le few short =
-    let e : k + (n - k) ≡ n = omega arith in (shl_whole x k (n - k) 64 short (omega arith), grind (arith, common_steps, shl_below))
+    let e : k + (n - k) ≡ n = omega arith in (shl_whole x k (n - k) 64 short (omega arith), grind (arith, shl_below))
 
 -- what the mask of a prefix rests on
 pub ruleset masks = (common_steps, fixed-mask, pow_mono)
@@ -39,12 +39,12 @@ half-shift x y k p q next half le =
 -- ---- the places of a slice
 -- the place before, which does not win either
 place-up : (v : Votes) (k j p q x y : ℕ) → IsVotes v → q ≡ p + 1 → x ≡ y / 2 → k ≤ p → IsPlace v k j q y → IsPlace v k j p x
-place-up v k j p q x y game next half le is = grind (arith, common_steps, half-shift, short-step, both_ways, false_from_ne_true, wins-more)
+place-up v k j p q x y game next half le is = grind (arith, half-shift, short-step, both_ways, false_from_ne_true, wins-more)
 
 -- the place after
 place-down : (v : Votes) (k j p q x y : ℕ) → q ≡ p + 1 → x ≡ y / 2 → p < v.members → wins_at v.rules p x ≡ false → IsPlace v k j p x
     → IsPlace v k j q y
-place-down v k j p q x y next half below lost is = grind (arith, common_steps, half-shift, short-step)
+place-down v k j p q x y next half below lost is = grind (arith, half-shift, short-step)
 
 -- ---- moves
 -- what a call on the first lanes leaves in the array
@@ -57,7 +57,7 @@ is-part f new q old k e le = grind (arith, common_steps)
 
 -- the lane with another sum
 lane-moved : {n : ℕ} {r : RuleView} {l : Lane} (s : ℕ) → LaneIs n r l → LaneIs n r (record l { sum = s })
-lane-moved s is = grind (arith, common_steps)
+lane-moved s is = grind arith
 
 module _ (v : Votes) (p q x y : ℕ) (below : p < v.members) (next : q ≡ p + 1) where
   -- place p is taken in
@@ -113,7 +113,7 @@ module _ {v : Votes} {a : Cursor} (is : CursorIs v a) where
         (omega (arith, is.place.from)) is.place in
         let lanes = lanes-up v (a.place - 1) a.place (a.prefix / 2) a.prefix (omega (arith, is.place.to)) (omega arith) a.lanes
         (omega arith) is.lanes in
-        grind (arith, common_steps, cond-false, halves)
+        grind (arith, cond-false, halves)
 
     -- the last member is left out
     module _ (odd : a.prefix % 2 ≡ 1) where
@@ -126,7 +126,7 @@ module _ {v : Votes} {a : Cursor} (is : CursorIs v a) where
           (omega (arith, is.place.to)) (is.place.passed (omega (arith, is.place.from))) up in
           let lanes = lanes-out v (a.place - 1) a.place a.prefix (a.prefix - 1) (omega (arith, is.place.to)) (omega arith)
           a.lanes ls a.rules (omega arith) (omega arith) is.rules part is.lanes in
-          grind (arith, common_steps, cond-false)
+          grind (arith, cond-false)
 
       pub out-fits : All (λ l. get_or l.weights (a.place - 1) 0 ≤ l.sum) (take a.rules a.lanes)
       out-fits = λ i d lt.
@@ -140,8 +140,8 @@ module _ {v : Votes} {a : Cursor} (is : CursorIs v a) where
   -- nothing is left
   pub back-end : a.fresh ≡ false → a.place ≡ a.bits → Steps v a End a
   back-end stale done =
-      let first : a.prefix ≡ 2 ^ a.bits - 1 - a.number = grind (arith, common_steps) in
-      grind (arith, common_steps, cond-false, left-none)
+      let first : a.prefix ≡ 2 ^ a.bits - 1 - a.number = grind arith in
+      grind (arith, cond-false, left-none)
 
   -- ---- a fresh place
   -- what the tests on the lanes say of the rules
@@ -168,20 +168,20 @@ module _ {v : Votes} {a : Cursor} (is : CursorIs v a) where
         ((a.prefix + 1) * 2 ^ (v.members - a.place))
         → (length v.rules ≡ 1 → cond (reaches v.rules a.place a.prefix) (a.place - a.bits) 0 ≡ 0)
         → Steps v a On (record a { fresh = false })
-    pass-by same none = grind (arith, common_steps, cond-true, cond-false, pow_pos)
+    pass-by same none = grind (arith, cond-true, cond-false, pow_pos)
 
     -- a prefix that cannot reach some quota is passed by
     pub enter-dead : reaches v.rules a.place a.prefix ≡ false → Steps v a On (record a { fresh = false })
-    enter-dead dead = grind (arith, common_steps, cond-false, dead-nothing, left-nothing, pass-by)
+    enter-dead dead = grind (arith, cond-false, dead-nothing, left-nothing, pass-by)
 
     -- so is one with nothing below it: with one rule, at the fixed places
     pub enter-spare : NothingBelow v a.place a.prefix → (a.rules ≡ 1 → a.place ≡ a.bits) → Steps v a On (record a { fresh = false })
-    enter-spare nothing fixed = grind (arith, common_steps, left-nothing, open-most, pass-by)
+    enter-spare nothing fixed = grind (arith, left-nothing, open-most, pass-by)
 
   -- a prefix that reaches and does not win has a place after it
   module _ (can : reaches v.rules a.place a.prefix ≡ true) (lost : wins_at v.rules a.place a.prefix ≡ false) where
     pub in-room : a.place < v.members
-    in-room = grind (arith, common_steps, both_ways, full-reach)
+    in-room = grind (arith, both_ways, full-reach)
 
     pub in-fits : All (λ l. l.sum + get_or l.weights a.place 0 < 2 ^ 64) (take a.rules a.lanes)
     in-fits = λ i d lt.
@@ -207,7 +207,7 @@ module _ {v : Votes} {a : Cursor} (is : CursorIs v a) where
         in-room lost is.place in
         let lanes = lanes-in v a.place (a.place + 1) a.prefix (2 * a.prefix + 1) in-room refl a.lanes ls a.rules
         refl is.rules part is.lanes in
-        grind (arith, common_steps, cond-true, reaches-in, slice-short, halves)
+        grind (arith, cond-true, reaches-in, slice-short, halves)
 
   -- the number of a prefix with zeros after it
   pub enter-short : a.prefix * 2 ^ (v.members - a.place) < 2 ^ v.members
@@ -221,17 +221,17 @@ module _ {v : Votes} {a : Cursor} (is : CursorIs v a) where
 
     -- and with one rule it is minimal there
     pub one-is : a.bits < a.place → a.rules ≡ 1 → minimal v (a.prefix * 2 ^ (v.members - a.place)) ≡ true
-    one-is lt one = grind (arith, common_steps, one-minimal)
+    one-is lt one = grind (arith, one-minimal)
 
     -- there was a visit for it
     won-visited : 1 ≤ cond (ltb a.bits a.place) (a.prefix % 2) a.bits
-    won-visited = grind (arith, common_steps, cond-true, lt-ltb, last-in, cond-false, le-ltb, both_ways, empty-loses, cases_lt)
+    won-visited = grind (arith, cond-true, lt-ltb, last-in, cond-false, le-ltb, both_ways, empty-loses, cases_lt)
 
     -- a minimal one is given
     pub enter-give : a.fresh ≡ true → (m : ℕ) → m ≡ a.prefix * 2 ^ (a.members - a.place)
         → minimal v (a.prefix * 2 ^ (v.members - a.place)) ≡ true → Steps v a (Give m) (record a { fresh = false })
     enter-give fresh m found min =
-        rw (found, is.members) (grind (arith, common_steps, cond-true, cond-false, in-slice, left-take, open-most, left-won, won-visited))
+        rw (found, is.members) (grind (arith, cond-true, cond-false, in-slice, left-take, open-most, left-won, won-visited))
 
 -- the lanes, where the walk starts
 pub lanes-first : (v : Votes) (k x m : ℕ) (ls : List Lane) → k ≤ v.members → m ≡ x * 2 ^ (v.members - k) → LanesStand v ls
@@ -246,4 +246,4 @@ pub starts : (v : Votes) (k j x m n fixed : ℕ) (ls : List Lane) (qs : List Ask
     (record { lanes = ls; asked = qs; rules = m; members = n; bits = k; number = j; prefix = x; place = k; fresh = true; visits = k })
 starts v k j x m n fixed ls qs game le below members rules room asked mask own sums prefix =
     let lanes = lanes-first v k x fixed ls le (rw prefix mask) own sums in
-    grind (arith, common_steps, cond-false, le-ltb, left-all, pow_pos)
+    grind (arith, cond-false, le-ltb, left-all, pow_pos)

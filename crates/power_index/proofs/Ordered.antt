@@ -1,19 +1,19 @@
 -- Two fractions are ordered by their quotients, and where these are equal by what is left, turned upside down.
-use Rattle.power_index.proofs.Imports.{◌≡◌, ◌∙◌, ◌≢◌, ℕ, suc, ◌+◌, ◌*◌, ◌/◌, ◌%◌, ◌<◌, ◌≤◌, ap, refl, arith, inl, inr, common_steps}
-use Rattle.power_index.proofs.Imports.{cases_lt, cases_eq, div-add-mod, mod-lt, mul-le-mul, nat_tests}
+use Rattle.power_index.proofs.Imports.{◌≡◌, ◌∙◌, ◌≢◌, ℕ, suc, ◌+◌, ◌*◌, ◌/◌, ◌%◌, ◌<◌, ◌≤◌, ap, refl, arith, inl, inr, cases_lt, cases_eq}
+use Rattle.power_index.proofs.Imports.{div-add-mod, mod-lt, mul-le-mul, nat_tests}
 use Rattle.std.proofs.Common.{nat_cmp}
 use Rattle.std.specs.Ordering.{ordering_then}
 
 -- a times d is the shared part and what is left of a, times d
 parts : (a b d q : ℕ) → a / b ≡ q → a * d ≡ b * d * q + d * (a % b)
-parts a b d q h = grind (arith, common_steps, div-add-mod)
+parts a b d q h = grind (arith, div-add-mod)
 
 -- with one quotient, a / b is to c / d as d / (c % d) is to b / (a % b)
 pub turned : (a b c d : ℕ) → a / b ≡ c / d → nat_cmp (d * (a % b)) (b * (c % d)) ≡ nat_cmp (a * d) (c * b)
 turned a b c d h =
     let second : c * b ≡ b * d * (c / d) + b * (c % d) = parts c d b (c / d) (λ i. c / d)
     ∙ ap (λ (n : ℕ). n * (c / d) + b * (c % d)) (omega arith) in
-    grind (arith, common_steps, nat_tests, parts)
+    grind (arith, nat_tests, parts)
 
 -- a smaller quotient is a smaller fraction
 below : (a b c d : ℕ) → 0 < b → 0 < d → a / b < c / d → a * d < c * b

@@ -1,7 +1,7 @@
 -- A fraction has one form in lowest terms.
-use Rattle.power_index.proofs.Imports.{◌≡◌, ◌∙◌, ℕ, ◌+◌, ◌*◌, ◌/◌, ◌%◌, ◌≤◌, ◌<◌, sym, ap, subst, arith, zero, suc, common_steps, IsGcd}
-use Rattle.power_index.proofs.Imports.{◌∣◌, IsGcd-from_zero, IsGcd-from_mod, div-add-mod, mod-lt, mul-le-mul, eq_of_mul-eq-mul_right}
-use Rattle.power_index.proofs.Imports.{AreCoprime, IsLowestOf, SameFraction}
+use Rattle.power_index.proofs.Imports.{IsGcd-from_zero, IsGcd-from_mod, div-add-mod, mod-lt, mul-le-mul, eq_of_mul-eq-mul_right, AreCoprime}
+use Rattle.power_index.proofs.Imports.{◌≡◌, ◌∙◌, ℕ, ◌+◌, ◌*◌, ◌/◌, ◌%◌, ◌≤◌, ◌<◌, sym, ap, subst, arith, zero, suc, IsGcd, ◌∣◌}
+use Rattle.power_index.proofs.Imports.{IsLowestOf, SameFraction}
 use Rattle.std.proofs.{Common.mod-eq_of_lt, Math.Nat.add-mul-mod_self_left, Math.Nat.dvd-mod_iff, Math.Nat.dvd-mul_left}
 use Rattle.std.proofs.lemmas.Nat.Gcd.{dvd_antisymm, dvd_refl, dvd-zero}
 use Rattle.power_index.specs.Fractions.{IsIndex}
@@ -14,7 +14,7 @@ one-with-zero (suc x) h = let le : suc x ≤ 1 = h (suc x) (dvd_refl (suc x)) (d
 mul-mod : (m x y : ℕ) → 0 < m → 0 < y → m * x % (m * y) ≡ m * (x % y)
 mul-mod m x y some pos =
     let parts : m * x ≡ m * (x % y) + m * y * (x / y) = omega (arith, ap (λ k. m * k) (div-add-mod x y)) in
-    grind (arith, common_steps, add-mul-mod_self_left, mod-eq_of_lt, mul-le-mul, mod-lt)
+    grind (arith, add-mul-mod_self_left, mod-eq_of_lt, mul-le-mul, mod-lt)
 
 scaled : (n m x y : ℕ) → y ≤ n → 0 < m → AreCoprime x y → IsGcd (m * x) (m * y) m
 scaled n m x zero le some h =
@@ -42,4 +42,4 @@ lowest-unique p q r pos h k =
 
 -- two indices that are the same number
 pub index_unique : (p q : ℕ × ℕ) → IsIndex p → IsIndex q → SameFraction p q → p ≡ q
-index_unique p q h k same = grind (arith, common_steps, lowest-unique)
+index_unique p q h k same = grind (arith, lowest-unique)

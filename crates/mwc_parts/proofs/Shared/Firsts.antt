@@ -2,8 +2,7 @@
 use Rattle.std.proofs.Common.{◌≡◌, ◌⊎◌, ℕ, zero, suc, ◌+◌, ◌<◌, ◌≤◌, Bool, false, ◌||◌, cond, List, [], ◌∷◌, ◌++◌, Option, None, length}
 use Rattle.std.proofs.Common.{map, replicate, All, refl, ltb, set, get_or, ap, subst, arith, sym, ◌∙◌, inl, inr, eq-eqb, ne_eqb}
 use Rattle.std.proofs.Common.{length-append, sum_by}
-use Rattle.std.proofs.lemmas.{Bool.false≢true, Grind.common_steps, List.get_or_push, List.Sums.get_or-le-sum_by}
-use Rattle.std.proofs.Math.Bool.{or-false}
+use Rattle.std.proofs.{Math.Bool.or-false, lemmas.Bool.false≢true, lemmas.List.get_or_push, lemmas.List.Sums.get_or-le-sum_by}
 use Rattle.std.specs.List.{range_with_len, Sorted.IsStrictlyIncreasing}
 use Rattle.std.proofs.lemmas.List.Elements.{All-head, All-tail, All-map, All-weaker}
 use Rattle.coalitions.proofs.Shared.Ranges.{sum_by-range-le}
@@ -86,11 +85,11 @@ first_turn {n} {early} {stopped} {stops} desks k s t l e fresh f r =
 
 -- who told what at the end
 pub dealt_once : {n : ℕ} {shares : List (List ℕ)} (j : ℕ) → AreDealt n shares → sum_by (times_in j) shares ≡ cond (ltb j n) 1 0
-dealt_once {n} {shares} j d = grind (arith, common_steps, each_held_once)
+dealt_once {n} {shares} j d = grind (arith, each_held_once)
 
 pub dealt_total : {n : ℕ} {shares : List (List ℕ)} (g : Slicing) → AreDealt n shares
     → sum_by (coalition_count g) shares ≡ coalition_count g (range_with_len 0 n)
-dealt_total {n} {shares} g d = grind (arith, common_steps, shares_sum)
+dealt_total {n} {shares} g d = grind (arith, shares_sum)
 
 pub dealt_increase : {n : ℕ} {shares : List (List ℕ)} → AreDealt n shares → All IsStrictlyIncreasing shares
 dealt_increase {n} {shares} d =
@@ -106,7 +105,7 @@ each_within {n} g desks deal =
     let d = deal.in_order in
     let m : coalition_count g (range_with_len 0 (length d.holders)) ≤ coalition_count g (range_with_len 0 n) =
     sum_by-range-le (λ j. length (g.slice j)) (length d.holders) n (omega arith) in
-    grind (arith, common_steps, get_or-le-sum_by, shares_sum)
+    grind (arith, get_or-le-sum_by, shares_sum)
 
 -- the first slice that a worker holds
 begins_with : (w j : ℕ) (hs : List ℕ) (m : ℕ) → j + m ≡ w → m < length hs → ((v : ℕ) → v < m + 1 → get_or hs v 0 ≡ j + v) → (rest : List ℕ)

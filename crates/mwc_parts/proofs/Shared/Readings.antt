@@ -85,7 +85,7 @@ pub record Reads (g : Slicing) (s got ends : List ℕ) : Type 0 where
 pub reads : {g : Slicing} {most : ℕ} {s : List ℕ} {told : Bool} {words : List Word} (got ends : List ℕ) → IsSentWhole g most s told words
     → got ≡ ones words → ends ≡ done_counts 0 words → Reads g s got ends
 reads {g} {most} {s} {told} {words} got ends sent a b =
-    grind (arith, common_steps, append-nil, done_counts-append, done_counts-wording, ones-append, ones-wording)
+    grind (arith, append-nil, done_counts-append, done_counts-wording, ones-append, ones-wording)
 
 ends_of : (g : Slicing) (s : List ℕ) → HasEnds s (ends_from g 0 s) (length (flat_map g.slice s))
 ends_of g s =

@@ -75,7 +75,7 @@ pub stops_then : (early : Bool) (desks : List DeskView) (stopped stops : Bool) (
     (s t : DeskView) {done : Bool} {marks after : List (Option ℕ)} → i < length desks → s ≡ get_or desks i s
     → TakesTurn done marks stopped s i after stops t → stopped ≡ (early || list_any is_ill desks)
     → stops ≡ (early || list_any is_ill (set desks i t))
-stops_then early desks stopped stops i s t l e r h = grind (arith, common_steps, ill_set, or_assoc, or_stays)
+stops_then early desks stopped stops i s t l e r h = grind (arith, ill_set, or_assoc, or_stays)
 
 pub stays_by : (a b x : Bool) → b ≡ (a || x) → a ≡ true → b ≡ true
 stays_by a b x e h = e ∙ ap (λ (z : Bool). z || x) h
@@ -222,4 +222,4 @@ all_dealt {n} {k} {stopped} {early} {marks} desks z l deal well told =
     let d = deal.in_order in
     let same : length (given_slices desks) ≡ length desks = length-map desks (λ (s : DeskView). s.given) in
     let go : stopped ≡ false = well_goes_on desks z deal well in
-    let none : d.free ≡ 0 = none_left desks l go d.told_late told in grind (arith)
+    let none : d.free ≡ 0 = none_left desks l go d.told_late told in grind arith

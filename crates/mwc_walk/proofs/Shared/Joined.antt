@@ -1,6 +1,6 @@
 -- The slices joined are the whole list.
-use Rattle.mwc_walk.proofs.Imports.{common_steps, ◌≡◌, ℕ, zero, suc, ◌+◌, ◌-◌, ◌*◌, ◌/◌, ◌^◌, ◌<◌, ◌≤◌, Bool, true, false, eqb, sym, ap}
-use Rattle.mwc_walk.proofs.Imports.{◌∙◌, subst, arith, filter, eq-eqb, pow-add, mul-le, Votes, minimal, down, minimal_coalitions, slice}
+use Rattle.mwc_walk.proofs.Imports.{◌≡◌, ℕ, zero, suc, ◌+◌, ◌-◌, ◌*◌, ◌/◌, ◌^◌, ◌≤◌, Bool, eqb, sym, ap, List, ◌++◌, ◌∙◌, arith, filter}
+use Rattle.mwc_walk.proofs.Imports.{eq-eqb, pow-add, mul-le, Votes, minimal, down, minimal_coalitions, slice}
 use Rattle.std.proofs.Common.{flat_map}
 use Rattle.std.specs.List.{range_with_len}
 use Rattle.mwc_walk.specs.Laws.{SlicesMakeTheWhole}
@@ -18,18 +18,16 @@ joined-from p h whole s (suc count) all =
     let size : suc count * 2 ^ h ≡ count * 2 ^ h + 2 ^ h = omega arith in
     let le : suc count * 2 ^ h ≤ whole * 2 ^ h = mul-le (suc count) (2 ^ h) whole (2 ^ h) (omega arith) (omega arith) in
     let e : suc count * 2 ^ h + (whole * 2 ^ h - suc count * 2 ^ h) ≡ whole * 2 ^ h = omega arith in
-    let past : (c : ℕ) → suc count * 2 ^ h ≤ c → c < suc count * 2 ^ h + (whole * 2 ^ h - suc count * 2 ^ h)
-    → eqb (c / 2 ^ h) (whole - 1 - s) ≡ false = grind (arith, past-block) in
-    let inside : (c : ℕ) → count * 2 ^ h ≤ c → c < count * 2 ^ h + 2 ^ h → eqb (c / 2 ^ h) (whole - 1 - s) ≡ true =
-    λ c low high. eq-eqb _ _ (block-prefix count h c low high ∙ sym number) in
-    let below : (c : ℕ) → c < count * 2 ^ h → eqb (c / 2 ^ h) (whole - 1 - s) ≡ false = grind (arith, before-block) in
-    grind (arith, common_steps, filter-filter_skip, filter-block)
+    let skip = rw e at (filter-filter_skip q p (suc count * 2 ^ h) (whole * 2 ^ h - suc count * 2 ^ h)
+    (λ c low high. rw number (past-block count h c (omega (arith, low))))) in
+    let block = rw (← size) at (filter-block q p (count * 2 ^ h) (2 ^ h)
+    (λ c low high. eq-eqb _ _ (block-prefix count h c low high ∙ sym number)) (λ c low. rw number (before-block count h c low))) in
+    ap (λ (xs : List ℕ). filter q (filter p (down (whole * 2 ^ h))) ++ xs) rest
+    ∙ ap (λ (xs : List ℕ). xs ++ filter p (down (count * 2 ^ h))) skip ∙ sym block
 
 -- ---- the law
 pub slices-joined : (v : Votes) → SlicesMakeTheWhole v
 unfolding slice minimal_coalitions
 slices-joined v k few le =
     let whole : 2 ^ v.members ≡ 2 ^ k * 2 ^ (v.members - k) = grind (arith, pow-add) in
-    subst (λ (i : ℕ). flat_map (λ j. filter (λ c. eqb (c / 2 ^ (v.members - k)) (2 ^ k - 1 - j)) (filter (minimal v) (down i)))
-    (range_with_len 0 (2 ^ k)) ≡ filter (minimal v) (down i)) (sym whole)
-    (joined-from (minimal v) (v.members - k) (2 ^ k) 0 (2 ^ k) (omega arith))
+    rw (← whole) at (joined-from (minimal v) (v.members - k) (2 ^ k) 0 (2 ^ k) (omega arith))

@@ -1,6 +1,6 @@
 -- The greatest common divisor by search is the one that Euclid's algorithm finds, and what it gives is in lowest terms.
-use Rattle.power_index.proofs.Imports.{◌≡◌, ℕ, zero, suc, ◌/◌, ◌%◌, ◌<◌, ◌≤◌, true, sym, ap, subst, arith, common_steps, IsGcd, ◌∣◌}
-use Rattle.power_index.proofs.Imports.{IsGcd-from_zero, IsGcd-from_mod, le_of_dvd, mod-lt, nat_tests, lowest_terms, IsLowestOf}
+use Rattle.power_index.proofs.Imports.{◌≡◌, ℕ, zero, suc, ◌/◌, ◌%◌, ◌<◌, ◌≤◌, true, sym, ap, subst, arith, IsGcd, ◌∣◌, IsGcd-from_zero}
+use Rattle.power_index.proofs.Imports.{IsGcd-from_mod, le_of_dvd, mod-lt, nat_tests, lowest_terms, IsLowestOf}
 use Rattle.std.proofs.lemmas.{Bool.cond_both, Nat.Gcd.le_from_IsGcd, Nat.Gcd.dvd_of_mod-eq-zero, Nat.Gcd.mod-eq-zero_of_dvd}
 use Rattle.std.proofs.Math.Nat.{one-dvd}
 use Rattle.power_index.specs.Fractions.{divides_both, common_divisor_up_to, greatest_common_divisor, HasLowestTerms}
@@ -33,7 +33,7 @@ found-greatest a b (suc n) d pos le da db =
 pub gcd-is : (a b g : ℕ) → 0 < b → IsGcd a b g → greatest_common_divisor a b ≡ g
 gcd-is a b g pos h =
     let both = found-divides a b b in
-    grind (arith, common_steps, found-greatest, le_of_dvd, gcd-pos, le_from_IsGcd)
+    grind (arith, found-greatest, le_of_dvd, gcd-pos, le_from_IsGcd)
 
 -- two numbers have a greatest common divisor
 some-gcd : (n a b : ℕ) → b ≤ n → (g : ℕ) × IsGcd a b g
@@ -46,7 +46,7 @@ some-gcd (suc n) a (suc b) le =
 
 -- dividing by the greatest common divisor gives lowest terms
 pub divided-is_lowest : (a b g : ℕ) → 0 < b → IsGcd a b g → IsLowestOf (a, b) (a / g, b / g)
-divided-is_lowest a b g pos h = grind (arith, common_steps, coprime, gcd-pos, quotient-pos, same_fraction)
+divided-is_lowest a b g pos h = grind (arith, coprime, gcd-pos, quotient-pos, same_fraction)
 
 pub divided-is_terms : (a b g : ℕ) → 0 < b → IsGcd a b g → ◌≡◌ {A = ℕ × ℕ} (a / g, b / g) (lowest_terms (a, b))
 unfolding lowest_terms

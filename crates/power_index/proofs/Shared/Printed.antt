@@ -1,7 +1,7 @@
 -- The fractions that the code makes, as the indices.
-use Rattle.power_index.proofs.Imports.{◌≡◌, ◌∙◌, ℕ, ◌*◌, ◌<◌, ◌≤◌, List, length, sym, ap, arith, common_steps, mul-pos, GameView, Tables}
-use Rattle.power_index.proofs.Imports.{denominator, AreCounts, table_total, table_memberships, table_deegan_packel, table_public_good}
-use Rattle.power_index.proofs.Imports.{IsLowestOf, lowest_terms, deegan_packel, public_good, sizes_of_member}
+use Rattle.power_index.proofs.Imports.{◌≡◌, ◌∙◌, ℕ, ◌*◌, ◌<◌, ◌≤◌, List, length, sym, ap, arith, mul-pos, GameView, Tables, denominator}
+use Rattle.power_index.proofs.Imports.{AreCounts, table_total, table_memberships, table_deegan_packel, table_public_good, IsLowestOf}
+use Rattle.power_index.proofs.Imports.{lowest_terms, deegan_packel, public_good, sizes_of_member}
 use Rattle.power_index.proofs.{Shared.LowestTerms.lowest_terms-lowest, Shared.LowestTerms.lowest_terms-only, Units.mean, Units.bottom_pos}
 use Rattle.power_index.proofs.Weights.{within, weight, memberships-are}
 
@@ -23,7 +23,7 @@ deegan-packel-bottom g list t i lt some h = mul-pos (bottom_pos (length g.names)
 pub public-good-is : (g : GameView) (list : List ℕ) (t : Tables) (i top bottom : ℕ) → i < t.members → AreCounts g list t
     → IsLowestOf (table_public_good t i) (top, bottom) → IsLowestOf (public_good g list i) (top, bottom)
 unfolding public_good
-public-good-is g list t i top bottom lt h is = grind (arith, common_steps, memberships-are)
+public-good-is g list t i top bottom lt h is = grind (arith, memberships-are)
 
 -- in lowest terms the indices over tables are those over each list with these counts
 pub deegan-packel-same : (g : GameView) (list : List ℕ) (t : Tables) (i : ℕ) → i < t.members → t.members ≤ 40 → 1 ≤ table_total t

@@ -1,7 +1,7 @@
 -- How large the numbers of an index are in lowest terms.
 use Rattle.power_index.proofs.Imports.{length-range_with_len, get_or-range_with_len, Tables, AreSound, table_of_member, table_memberships}
-use Rattle.power_index.proofs.Imports.{common_steps, ℕ, ◌*◌, ◌^◌, ◌<◌, ◌≤◌, length, get_or, arith, range_with_len, div-le_self}
-use Rattle.power_index.proofs.Imports.{table_deegan_packel, table_public_good, lowest_terms}
+use Rattle.power_index.proofs.Imports.{ℕ, ◌*◌, ◌^◌, ◌<◌, ◌≤◌, length, get_or, arith, range_with_len, div-le_self, table_deegan_packel}
+use Rattle.power_index.proofs.Imports.{table_public_good, lowest_terms}
 use Rattle.std.proofs.lemmas.List.Sums.{sum_by-le}
 
 -- a pair of numbers below a bound
@@ -11,7 +11,7 @@ AreBelow k p = (p.0 < k) × (p.1 < k)
 -- lowest terms are no greater
 lowest-below : (k : ℕ) (p : ℕ × ℕ) → AreBelow k p → AreBelow k (lowest_terms p)
 unfolding lowest_terms
-lowest-below k p h = grind (arith, common_steps, div-le_self)
+lowest-below k p h = grind (arith, div-le_self)
 
 pub deegan_packel-wide : (t : Tables) (i : ℕ) → AreSound t → i < t.members → AreBelow (10 ^ 28) (lowest_terms (table_deegan_packel t i))
 deegan_packel-wide t i sound lt =

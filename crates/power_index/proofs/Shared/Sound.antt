@@ -91,7 +91,7 @@ pub more-hold : (g : GameView) (list : List ℕ) (t : Tables) (c s : ℕ) (all :
     → get_or each p no_tally ≡ cond (has t.members p c) (with_one (get_or t.each p no_tally) s) (get_or t.each p no_tally))
     → AreTallies g list t → AreTallies g (list ++ c ∷ []) (record { members = t.members; ranks = t.ranks; all = all; each = each })
 more-hold g list t c s all each s-is all-is each-is h =
-    grind (arith, nat_tests, common_steps, few-members, size-le, bumped, length-set, length-filter, sum_by_push)
+    grind (arith, nat_tests, few-members, size-le, bumped, length-set, length-filter, sum_by_push)
 
 pub more-kept : (t u : Tables) (c : ℕ) → AreKept t → 0 < c → c < 2 ^ t.members → table_total t < 2 ^ 40
     → ((g : GameView) (list : List ℕ) → AreTallies g list t → AreTallies g (list ++ c ∷ []) u)
@@ -109,12 +109,12 @@ pub join-hold : (g : GameView) (first second : List ℕ) (s t : Tables) (all : T
     → ((p : ℕ) → p < s.members → IsJoined (get_or s.each p no_tally) (get_or t.each p no_tally) (get_or each p no_tally))
     → AreTallies g first s
     → AreTallies g second t → AreTallies g (first ++ second) (record { members = s.members; ranks = s.ranks; all = all; each = each })
-join-hold g first second s t all each long sum each-is a b = grind (arith, common_steps, filter-append, length-append)
+join-hold g first second s t all each long sum each-is a b = grind (arith, filter-append, length-append)
 
 -- the tables of a list of a game are those of the list in another game with the same rank places
 pub of-first : (s t : Tables) (g g' : GameView) (first second : List ℕ) → AreOfOneGame s t → AreTallies g first s → AreTallies g' second t
     → AreTallies g second t
-of-first s t g g' first second one a b = grind (arith, common_steps)
+of-first s t g g' first second one a b = grind arith
 
 pub join-kept : (s t u : Tables) → AreKept s → AreKept t → AreOfOneGame s t → table_total s + table_total t ≤ 2 ^ 40
     → ((g : GameView) (first second : List ℕ) → AreTallies g first s → AreTallies g second t → AreTallies g (first ++ second) u)

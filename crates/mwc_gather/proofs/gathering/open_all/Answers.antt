@@ -20,7 +20,7 @@ pub returns-then-is_err : goal.returns-then-is_err
 returns-then-is_err g c = grind (arith, common_steps)
 
 pub returns-in-Err : goal.returns-in-Err
-returns-in-Err g c = grind (arith, common_steps)
+returns-in-Err g c = grind arith
 
 pub returns : goal.returns
-returns g c = grind (arith, common_steps)
+returns g c = grind arith

@@ -1,5 +1,4 @@
-use Rattle.mwc_gather.proofs.Imports.{ℕ, List, length, drop, subst, ap, sym, ◌∙◌, arith, common_steps, Bool, is_some, fault_of, Desk}
-use Rattle.mwc_gather.proofs.Imports.{slicing, DealsTo}
+use Rattle.mwc_gather.proofs.Imports.{ℕ, List, length, drop, subst, ap, sym, ◌∙◌, arith, Bool, is_some, fault_of, Desk, slicing, DealsTo}
 use Rattle.std.proofs.Common.{take_at, pow_mono}
 use Rattle.mwc_gather.proofs.Wholes.{all_total_is}
 use Rattle.mwc_gather.proofs.gathering.run.Goals as goal
@@ -25,16 +24,16 @@ finish_all-requires-clause-dealt g c =
     )
 
 pub returns-in_err-parts-clause-many : goal.returns-in_err-parts-clause-many
-returns-in_err-parts-clause-many g c = grind (arith, common_steps, all_total_is)
+returns-in_err-parts-clause-many g c = grind (arith, all_total_is)
 
 pub read_all-requires : goal.read_all-requires
-read_all-requires g c = grind (arith, common_steps)
+read_all-requires g c = grind arith
 
 pub finish_all-requires-clause-start : goal.finish_all-requires-clause-start
-finish_all-requires-clause-start g c = grind (arith, common_steps)
+finish_all-requires-clause-start g c = grind arith
 
 pub all_of-requires : goal.all_of-requires
-all_of-requires g c = grind (arith, common_steps)
+all_of-requires g c = grind arith
 
 pub returns : goal.returns
 returns g c = record { gathers = c.all_of.ensures.gathers; many = c.all_of.ensures.many }

@@ -5,7 +5,7 @@ pub returns-then-not-is_full : goal.returns-then-not-is_full
 returns-then-not-is_full g c = grind (arith, common_steps)
 
 pub returns-then-not-send : goal.returns-then-not-send
-returns-then-not-send g c = grind (arith, common_steps)
+returns-then-not-send g c = grind arith
 
 pub returns : goal.returns
-returns g c = grind (arith, common_steps)
+returns g c = grind arith

@@ -1,13 +1,13 @@
-use Rattle.mwc_gather.proofs.Imports.{common_steps, ◌≡◌, ℕ, ◌+◌, ◌<◌, List, [], ◌∷◌, ◌++◌, length, rules, arith, sym, ◌∙◌, ap, All-push}
-use Rattle.mwc_gather.proofs.Imports.{Word, Open, Slicing, slice_words, coalition_count, slicing, map_push}
+use Rattle.mwc_gather.proofs.Imports.{◌≡◌, ℕ, ◌+◌, ◌<◌, List, [], ◌∷◌, ◌++◌, length, rules, arith, sym, ◌∙◌, ap, All-push, Word, Open}
+use Rattle.mwc_gather.proofs.Imports.{Slicing, slice_words, coalition_count, slicing, map_push}
 use Rattle.std.proofs.lemmas.List.{flat_map_more, Sums.sum_by_push}
 use Rattle.mwc_gather.proofs.worker.work_beside.Goals as goal
 
 pub loop-init : goal.loop-init
-loop-init g c = grind (arith, common_steps)
+loop-init g c = grind arith
 
 pub send_behind-sent-requires : goal.send_behind-sent-requires
-send_behind-sent-requires g c = grind (arith, common_steps)
+send_behind-sent-requires g c = grind arith
 
 pub loop-preserved : goal.loop-preserved
 loop-preserved g c =
@@ -33,7 +33,7 @@ loop-preserved g c =
     )
 
 pub returns-in_default : goal.returns-in_default
-returns-in_default g c = grind (arith, common_steps)
+returns-in_default g c = grind arith
 
 pub returns-in-Cut : goal.returns-in-Cut
-returns-in-Cut g c = grind (arith, common_steps)
+returns-in-Cut g c = grind arith

@@ -1,5 +1,5 @@
-use Rattle.mwc_walk.proofs.Imports.{rules, arith, common_steps, length, get_or-take, ◌<◌, length-take}
-use Rattle.std.proofs.lemmas.{Grind.same_number_lists, List.length-map}
+use Rattle.mwc_walk.proofs.Imports.{rules, arith, common_steps, length, get_or-take, ◌<◌, length-take, length-map}
+use Rattle.std.proofs.lemmas.Grind.{same_number_lists}
 use Rattle.mwc_walk.proofs.lane.weights_of.Goals as goal
 
 pub returns-clause-same : goal.returns-clause-same

@@ -10,7 +10,7 @@ overflow_sub-place-in-loop-rest c =
     omega (arith, next.0)
 
 pub add-requires-clause-room : goal.add-requires-clause-room
-add-requires-clause-room c = grind (arith, common_steps, get_or, lowest-place)
+add-requires-clause-room c = grind (arith, get_or, lowest-place)
 
 pub loop-rest-preserved : goal.loop-rest-preserved
 unfolding without
@@ -20,4 +20,4 @@ loop-rest-preserved c =
     grind (arith, nat_tests, common_steps, both_ways, cases_eq, cond-true, get_or-set_same, has-gone, has-kept)
 
 pub returns : goal.returns
-returns c p lt = grind (arith, common_steps, has-none)
+returns c p lt = grind (arith, has-none)

@@ -1,4 +1,4 @@
-use Rattle.power_index.proofs.{Imports.common_steps, Imports.arith, Shared.Printed.deegan-packel-is, Shared.Printed.deegan-packel-same}
+use Rattle.power_index.proofs.{Imports.arith, Shared.Printed.deegan-packel-is, Shared.Printed.deegan-packel-same}
 use Rattle.power_index.proofs.indices.deegan_packel.Goals as goal
 
 pub returns-clause-lowest : goal.returns-clause-lowest
@@ -7,4 +7,4 @@ returns-clause-lowest c g list h = deegan-packel-is g list c.args.counts.now c.a
 
 pub returns-clause-terms : goal.returns-clause-terms
 returns-clause-terms c g list some h =
-    grind (arith, common_steps, deegan-packel-same g list c.args.counts.now c.args.member c.requires c.weight-sum.ensures.few, h.total)
+    grind (arith, deegan-packel-same g list c.args.counts.now c.args.member c.requires c.weight-sum.ensures.few, h.total)

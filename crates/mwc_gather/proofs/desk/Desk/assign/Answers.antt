@@ -5,4 +5,4 @@ pub invariant_of-self : goal.invariant_of-self
 invariant_of-self g c = grind (arith, common_steps)
 
 pub returns : goal.returns
-returns g c = grind (arith, common_steps)
+returns g c = grind arith

@@ -8,7 +8,7 @@ pub loop-accepted-preserved : goal.loop-accepted-preserved
 loop-accepted-preserved g c = grind (arith, common_steps)
 
 pub returns-in-loop-accepted : goal.returns-in-loop-accepted
-returns-in-loop-accepted g c = grind (arith, common_steps)
+returns-in-loop-accepted g c = grind arith
 
 pub returns : goal.returns
-returns g c = grind (arith, common_steps)
+returns g c = grind arith

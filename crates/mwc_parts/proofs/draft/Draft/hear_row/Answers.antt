@@ -1,4 +1,4 @@
-use Rattle.std.proofs.lemmas.{Bool.Decides.nat_tests, Grind.common_steps, List.take_more}
+use Rattle.std.proofs.lemmas.{Bool.Decides.nat_tests, List.take_more}
 use Rattle.std.proofs.Common.{◌≡◌, ◌+◌, ◌++◌, ◌∷◌, [], List, take, append_assoc, arith}
 use Rattle.mwc_ring.specs.declared.word.Word.{Word}
 use Rattle.mwc_parts.proofs.Rooms.{loses_by}
@@ -9,5 +9,5 @@ loop-word-preserved c =
     let at = c.loop-word.word-index in
     let row : List Word = c.args.row.now in
     let word : Word = c.word-item.result in
-    let more : take (at + 1) row ≡ take at row ++ word ∷ [] = grind (arith, common_steps, take_more) in
-    grind (arith, nat_tests, common_steps, append_assoc, loses_by)
+    let more : take (at + 1) row ≡ take at row ++ word ∷ [] = grind (arith, take_more) in
+    grind (arith, nat_tests, append_assoc, loses_by)

@@ -1,5 +1,4 @@
-use Rattle.mwc_walk.proofs.Imports.{common_steps, false_from_ne_true, needs-each-member, ◌<◌, ◌+◌, length, get_or, arith, votes_of}
-use Rattle.mwc_walk.proofs.Imports.{vetoes_at}
+use Rattle.mwc_walk.proofs.Imports.{false_from_ne_true, needs-each-member, ◌<◌, ◌+◌, length, get_or, arith, votes_of, vetoes_at}
 use Rattle.mwc_walk.proofs.Spared.{least-excess}
 use Rattle.mwc_walk.proofs.cursor.Cursor.excess_ahead.Goals as goal
 
@@ -21,4 +20,4 @@ returns-in-None c = λ d prefix. false_from_ne_true _ (λ min.
     let won = ((needs-each-member (votes_of c.args.game.now) d).0 min).0 in
     let outlook = c.requires.ahead.outlooks c.args.rule (omega (arith, c.requires.rule, c.requires.is.rules)) in
     let short = c.in-None.ensures _ (outlook.sums c.args.self.now.place d c.requires.is.place.to) in
-    grind (arith, common_steps))
+    grind arith)

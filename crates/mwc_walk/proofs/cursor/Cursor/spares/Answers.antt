@@ -1,10 +1,10 @@
-use Rattle.mwc_walk.proofs.{Imports.arith, Imports.common_steps, Steps.lane-here}
+use Rattle.mwc_walk.proofs.{Imports.arith, Steps.lane-here}
 use Rattle.mwc_walk.proofs.cursor.Cursor.spares.Goals as goal
 
 pub returns-then-self-rule-clause-none : goal.returns-then-self-rule-clause-none
 returns-then-self-rule-clause-none c = λ _ spare.
-    let here = lane-here c.requires.is c.loop-rule.rule c.loop-rule-test.true in grind (arith, common_steps)
+    let here = lane-here c.requires.is c.loop-rule.rule c.loop-rule-test.true in grind arith
 
 pub loop-rule-preserved : goal.loop-rule-preserved
 loop-rule-preserved c =
-    let here = lane-here c.requires.is c.loop-rule.rule c.loop-rule-test.true in grind (arith, common_steps)
+    let here = lane-here c.requires.is c.loop-rule.rule c.loop-rule-test.true in grind arith

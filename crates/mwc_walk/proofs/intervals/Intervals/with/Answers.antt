@@ -1,4 +1,4 @@
-use Rattle.mwc_walk.proofs.Imports.{◌<◌, ◌+◌, arith, below_more, both_ways, eq-eqb, common_steps}
+use Rattle.mwc_walk.proofs.Imports.{◌<◌, ◌+◌, arith, below_more, both_ways, eq-eqb}
 use Rattle.mwc_walk.proofs.intervals.Intervals.with.Goals as goal
 
 pub loop-without-preserved-then-self-without : goal.loop-without-preserved-then-self-without
@@ -14,7 +14,7 @@ loop-without-preserved-then-self-without c = record {
 pub loop-without-preserved : goal.loop-without-preserved
 loop-without-preserved c =
     let few = c.loop-without.invariant in
-    let below : c.loop-without.with < c.min-count.result = grind (arith, common_steps, both_ways, eq-eqb) in
+    let below : c.loop-without.with < c.min-count.result = grind (arith, both_ways, eq-eqb) in
     record {
       few = c.push-else-without-count.ensures.few;
       without_few = c.loop-without.invariant.without_few;
