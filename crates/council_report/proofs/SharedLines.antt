@@ -34,8 +34,7 @@ subtotals-more g c sums k next long few each last j d le = grind (arith, nat_tes
 -- a subtotal with the seat of place p more
 pub subtotal-more : (g : GameView) (ps : List ℕ) (p : ℕ) (now next : Subtotal) (seat : Seat) → IsSubtotal g ps now → IsSeat g p seat →
     next.length ≡ now.length + length seat.field.items → length next.weights ≡ 4 →
-    ((r : ℕ) → r < 4 → get_or next.weights r 0 ≡ get_or now.weights r 0 + get_or seat.weights r 0) →
-    IsSubtotal g (ps ++ p ∷ []) next
+    ((r : ℕ) → r < 4 → get_or next.weights r 0 ≡ get_or now.weights r 0 + get_or seat.weights r 0) → IsSubtotal g (ps ++ p ∷ []) next
 subtotal-more g ps p now next seat is seat-is long four sums = grind (arith, nat_tests, fields-more, length-append, weights-more)
 
 -- the next place, which is in

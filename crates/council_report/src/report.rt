@@ -92,7 +92,6 @@ fn put_lines<W: Write>(
 }
 
 /// The lines after the heading, and the flush.
-#[tactic(auto, unfolding(crate::specs::Inner::Lines::lines_of))]
 fn send<W: Write>(
     mut block: Block,
     writer: &mut W,

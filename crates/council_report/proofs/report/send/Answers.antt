@@ -15,3 +15,7 @@ returns-clause-err g c =
     let text : List ℕ = lines_of c.args.shown c.args.counted.now (flat_map (λ p. p.now) c.args.pieces.now) in
     let all = tells-then _ _ _ [] text c.in_ok-settle.ensures.ok c.in_ok-put_lines.ensures.tells in
     IfErr-weaker c.finish.result _ _ (λ fault stopped. stopped-after _ _ text _ _ all stopped) c.finish.ensures.err
+
+pub returns-in_err-settle-clause-err : goal.returns-in_err-settle-clause-err
+unfolding lines_of
+returns-in_err-settle-clause-err g c = grind (arith, common_steps)

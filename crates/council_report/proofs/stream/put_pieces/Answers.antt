@@ -11,6 +11,5 @@ pub returns-in_err-put_coalitions : goal.returns-in_err-put_coalitions
 returns-in_err-put_coalitions g c =
     let next : IsNext c.args.pieces.now c.loop-piece.piece-index c.piece-item.result = grind (arith, common_steps) in
     let failed = err_from_is_err_and c.from_residual.result c.from_residual.ensures.1 in
-    rw (failed.1, failed.2)
-    (turn-stopped (λ p. flat_map
-    (coalition_line c.args.game.now) p.now) next c.loop-piece.invariant.lasts.tells c.in_err-put_coalitions.ensures.puts)
+    rw (failed.1, failed.2) (turn-stopped (λ p. flat_map (coalition_line c.args.game.now) p.now) next c.loop-piece.invariant.lasts.tells
+    c.in_err-put_coalitions.ensures.puts)
