@@ -25,7 +25,11 @@ pub has_ended : {draft : Draft} (d : Desk) (r : Result ClosedView Unfinished × 
     → HasWorked (desk_slicing d) d.worker.promise.most d.worker.promise.out.value d.worker.promise.tasks.value r → r.0 ≡ Ok closed
     → r.1.taken ++ left ≡ d.tasks.accepted → d.words.taken ++ rest ≡ closed.accepted → IsDraftOf (d.words.taken ++ rest) draft
     → (draft.lost ≡ false → d.draft.lost ≡ false) → (draft.cut ≡ false → d.draft.cut ≡ false) → HasEnded d draft
-has_ended {draft} d r closed left rest w e t q keeps lost cut = grind (arith, worked_ok, settles)
+has_ended {draft} d r closed left rest w e t q keeps lost cut =
+    let worked = worked_ok (desk_slicing d) d.worker.promise.most d.worker.promise.out.value d.worker.promise.tasks.value r closed w e in
+    let settled = settles (desk_slicing d) d.worker.promise.most r.1.taken left d.given.items d.told (d.words.taken ++ rest) d.below (t ∙ d.tasks_are)
+    (rw (← q) at worked) in
+    record { whole = record { words = d.words.taken ++ rest; settled = settled; keeps = keeps }; lost = lost; cut = cut }
 
 module _ {d : Desk} {draft : Draft} (h : HasEnded d draft) where
   pub whole_ends : fault_in_draft draft ≡ None → HasEnds d.given.items draft.ends.items (length draft.got.items)

@@ -99,7 +99,8 @@ module _ {v : Votes} {a : Cursor} (is : CursorIs v a) where
   pub short-need : (i e : ℕ) (s : Vetoes) → i < length v.rules → IsSplit v i s
       → e ≡ (lane_at a.lanes i).quota - min (2 ^ 64 - 1) ((lane_at a.lanes i).sum + get_or s.brings a.place 0)
       → IsNeed v a.place a.prefix s e
-  short-need i e s below split is-e = λ c prefix won. grind (arith, meets i c, there-and-comes i c, lane-here is i, split.parts a.place c is.place.to won)
+  short-need i e s below split is-e = λ c prefix won.
+      grind (arith, meets i c, there-and-comes i c, lane-here is i, split.parts a.place c is.place.to won)
 
   -- ---- who can be spared
   -- a member whom each rule can spare, by what each coalition below has beyond the quotas, is needed in none of them

@@ -19,22 +19,19 @@ short-step p q next = ap (λ (i : ℕ). 2 ^ i) (let d : q ≡ suc p = omega arit
 
 -- a block is two halves
 halves : (n p q x y : ℕ) → p < n → q ≡ p + 1 → y ≡ 2 * x → y * 2 ^ (n - q) ≡ x * 2 ^ (n - p)
-halves n p q x y below next twice =
-    let e = short-step (n - q) (n - p) (omega arith) in rw (e, twice) (omega arith)
+halves n p q x y below next twice = rw (short-step (n - q) (n - p) (omega arith), twice) (omega arith)
 
 -- the number of the first k places of n, with zeros after it
 pub fixed-mask : (n k x : ℕ) → k ≤ n → n ≤ 40 → x < 2 ^ k → (x * 2 ^ (n - k) % 2 ^ 64 ≡ x * 2 ^ (n - k)) × (x * 2 ^ (n - k) < 2 ^ n)
 fixed-mask n k x le few short =
-    let e : k + (n - k) ≡ n = omega arith in (shl_whole x k (n - k) 64 short (omega arith), grind (arith, shl_below))
+    (shl_whole x k (n - k) 64 short (omega arith), rw (let e : k + (n - k) ≡ n = omega arith in e) at (shl_below x k (n - k) short))
 
 -- what the mask of a prefix rests on
 pub ruleset masks = (common_steps, fixed-mask, pow_mono)
 
 -- one digit less
 half-shift : (x y k p q : ℕ) → q ≡ p + 1 → x ≡ y / 2 → k ≤ p → x / 2 ^ (p - k) ≡ y / 2 ^ (q - k)
-half-shift x y k p q next half le =
-    let e : 1 + (p - k) ≡ q - k = omega arith in
-    rw (← half, e) at (shr-shr y 1 (p - k))
+half-shift x y k p q next half le = rw (← half, (let e : 1 + (p - k) ≡ q - k = omega arith in e)) at (shr-shr y 1 (p - k))
 
 -- ---- the places of a slice
 -- the place before, which does not win either
@@ -111,9 +108,7 @@ module _ {v : Votes} {a : Cursor} (is : CursorIs v a) where
     back-up even =
         let place = place-up v a.bits a.number (a.place - 1) a.place (a.prefix / 2) a.prefix is.game (omega arith) refl
         (omega (arith, is.place.from)) is.place in
-        let lanes = lanes-up v (a.place - 1) a.place (a.prefix / 2) a.prefix (omega (arith, is.place.to)) (omega arith) a.lanes
-        (omega arith) is.lanes in
-        grind (arith, cond-false, halves)
+        grind (arith, cond-false, halves, lanes-up v (a.place - 1) a.place (a.prefix / 2) a.prefix)
 
     -- the last member is left out
     module _ (odd : a.prefix % 2 ≡ 1) where
@@ -139,9 +134,7 @@ module _ {v : Votes} {a : Cursor} (is : CursorIs v a) where
 
   -- nothing is left
   pub back-end : a.fresh ≡ false → a.place ≡ a.bits → Steps v a End a
-  back-end stale done =
-      let first : a.prefix ≡ 2 ^ a.bits - 1 - a.number = grind arith in
-      grind (arith, cond-false, left-none)
+  back-end stale done = grind (arith, cond-false, left-none v a.bits a.number)
 
   -- ---- a fresh place
   -- what the tests on the lanes say of the rules
@@ -245,5 +238,4 @@ pub starts : (v : Votes) (k j x m n fixed : ℕ) (ls : List Lane) (qs : List Ask
     → Starts v k j
     (record { lanes = ls; asked = qs; rules = m; members = n; bits = k; number = j; prefix = x; place = k; fresh = true; visits = k })
 starts v k j x m n fixed ls qs game le below members rules room asked mask own sums prefix =
-    let lanes = lanes-first v k x fixed ls le (rw prefix mask) own sums in
-    grind (arith, cond-false, le-ltb, left-all, pow_pos)
+    grind (arith, cond-false, le-ltb, left-all, pow_pos, lanes-first v k x fixed ls le (rw prefix mask) own sums)

@@ -1,7 +1,7 @@
 -- A fraction has one form in lowest terms.
 use Rattle.power_index.proofs.Imports.{IsGcd-from_zero, IsGcd-from_mod, div-add-mod, mod-lt, mul-le-mul, eq_of_mul-eq-mul_right, AreCoprime}
-use Rattle.power_index.proofs.Imports.{◌≡◌, ◌∙◌, ℕ, ◌+◌, ◌*◌, ◌/◌, ◌%◌, ◌≤◌, ◌<◌, sym, ap, subst, arith, zero, suc, IsGcd, ◌∣◌}
-use Rattle.power_index.proofs.Imports.{IsLowestOf, SameFraction}
+use Rattle.power_index.proofs.Imports.{◌≡◌, ◌∙◌, ℕ, ◌+◌, ◌*◌, ◌/◌, ◌%◌, ◌≤◌, ◌<◌, sym, ap, subst, arith, zero, suc, IsGcd, ◌∣◌, IsLowestOf}
+use Rattle.power_index.proofs.Imports.{SameFraction}
 use Rattle.std.proofs.{Common.mod-eq_of_lt, Math.Nat.add-mul-mod_self_left, Math.Nat.dvd-mod_iff, Math.Nat.dvd-mul_left}
 use Rattle.std.proofs.lemmas.Nat.Gcd.{dvd_antisymm, dvd_refl, dvd-zero}
 use Rattle.power_index.specs.Fractions.{IsIndex}

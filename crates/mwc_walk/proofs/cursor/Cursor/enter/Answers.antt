@@ -1,4 +1,4 @@
-use Rattle.mwc_walk.proofs.Imports.{refl, sym, ◌∙◌, arith}
+use Rattle.mwc_walk.proofs.Imports.{◌≤◌, ◌^◌, pow_mono, refl, sym, ◌∙◌, arith}
 use Rattle.mwc_walk.proofs.Steps.{enter-dead, enter-spare, enter-in, enter-give, in-fits, in-room, is-part}
 use Rattle.mwc_walk.proofs.cursor.Cursor.enter.Goals.{then-not-reaches-via-else-not-reaches+then-passes_by}
 use Rattle.mwc_walk.proofs.cursor.Cursor.enter.Goals.{then-not-reaches-via-then-not-reaches}
@@ -31,3 +31,8 @@ returns-clause-steps c =
     let won = sym c.wins.ensures ∙ c.if-not-wins.false in
     enter-give c.requires.is won c.requires.fresh _ (c.of_mask-found.ensures ∙ c.mask_of.ensures.mask)
     (c.if-passes_by.ensures.none refl won)
+
+pub overflow_mul-self : goal.overflow_mul-self
+overflow_mul-self c =
+    let is = c.requires.is in let up : 2 ^ c.args.self.now.place ≤ 2 ^ 40 = pow_mono {j = 40} (omega (arith, is.place.to, is.game.few)) in
+    omega (arith, up, is.place.short)
