@@ -2,9 +2,9 @@
 use Rattle.weight_sums.proofs.Imports.{length-take, pow_pos, pow_mono, Set, Fitting, nobody, fits, met, has, IsHalf, IsHalfOf, AreEntered}
 use Rattle.weight_sums.proofs.Imports.{take, sym, ap, arith, inl, inr, All, sum_by, cases_lt, AreOfNeed, Meet, AreOfKeys, low_of, high_of}
 use Rattle.weight_sums.proofs.Imports.{◌≡◌, ◌∙◌, ◌⊎◌, ℕ, ◌+◌, ◌-◌, ◌/◌, ◌%◌, ◌==◌, ◌<◌, ◌≤◌, ◌^◌, cond, leb, List, [], length, get_or}
-use Rattle.weight_sums.proofs.Imports.{take_all, shr_below}
+use Rattle.weight_sums.proofs.Imports.{shr_below}
 use Rattle.std.proofs.lemmas.{List.get_or_default, Nat.shr_split, Nat.Bits.bit_at_above, Nat.Bits.bit_at_cat_low, Nat.Bits.bit_at_cat_high}
-use Rattle.std.proofs.Common.{min, mod-lt}
+use Rattle.std.proofs.Common.{take_all, min, mod-lt}
 use Rattle.weight_sums.specs.{Inner.Groups.AreGroups, Inner.Tables.IsCounted, declared.groups.Groups.Groups}
 use Rattle.weight_sums.proofs.{FittingSets.added, FittingSets.fits-few, FittingSets.sum-alike, TableSums.of-more, TableSums.of-few}
 use Rattle.weight_sums.proofs.SetLaws.{sum-same}

@@ -1,5 +1,4 @@
-use Rattle.mwc_sums.proofs.Imports.{arith}
-use Rattle.mwc_sums.proofs.Sharing.{counted-is, left-is, sides-few, all-counted}
+use Rattle.mwc_sums.proofs.{Imports.arith, Sharing.left-is, Sharing.all-counted}
 use Rattle.mwc_sums.proofs.count.boxed_by_sums.Goals as goal
 
 pub returns-then-rules-gt0-clause-kind : goal.returns-then-rules-gt0-clause-kind

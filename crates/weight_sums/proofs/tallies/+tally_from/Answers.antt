@@ -1,6 +1,5 @@
 use Rattle.weight_sums.proofs.Imports.{arith, ap, left_out, length, sum, sum_by-cons, ◌≡◌, ◌≤◌, ◌+◌, ◌-◌, ◌∙◌, ℕ}
 use Rattle.weight_sums.proofs.{Members.come-less, Members.tallied-from, Passing.prefixes-more}
-use Rattle.std.proofs.Common.{rules}
 use Rattle.weight_sums.proofs.tallies.+tally_from.Goals as goal
 
 pub difference-own-requires : goal.difference-own-requires
@@ -18,7 +17,7 @@ tally_from-requires t c =
     let few : c.args.place + 1 + length c.in-Some.later.now ≤ 40 = omega (arith, one, c.requires.few) in
     let row = prefixes-more c.requires.row (omega (arith, one, some)) (omega (arith, one, c.requires.few)) c.in_ok-go_on.ensures in
     let less = come-less _ _ _ c.in-Some.ensures.cases.0 c.in_ok-go_on.ensures rest (omega (arith, some)) c.requires.less in
-    (search rules, (few, (rest, (row, less))))
+    (omega (arith, one), (few, (rest, (row, less))))
 
 pub returns : goal.returns
 returns t c full =

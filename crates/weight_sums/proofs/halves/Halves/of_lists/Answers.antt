@@ -1,4 +1,4 @@
-use Rattle.weight_sums.proofs.{Imports.arith, Imports.common_steps, SetLists.half-of}
+use Rattle.weight_sums.proofs.{Imports.arith, SetLists.half-of}
 use Rattle.weight_sums.proofs.halves.Halves.of_lists.Goals as goal
 
 pub new-requires-clause-list : goal.new-requires-clause-list
@@ -22,4 +22,4 @@ new-requires-3-clause-second c = half-of c.in_ok-fill-4.ensures c.deref-5.ensure
     (omega (arith, c.split_at.ensures.back_len, c.requires.few)) (omega arith)
 
 pub returns-clause-are : goal.returns-clause-are
-returns-clause-are c = grind (arith, common_steps)
+returns-clause-are c = grind (arith)
