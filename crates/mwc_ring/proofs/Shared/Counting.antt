@@ -63,7 +63,7 @@ module _ {T : Type 0} where
       Leaves (past ++ (step, reply_in pipe step) ∷ []) (stepped pipe step)
   leaves_step past pipe step leaves =
       let move = moved pipe step in
-      grind (arith, common_steps, append_assoc, filter_map-append, list_any-append, or-false)
+      grind (arith, append_assoc, filter_map-append, list_any-append, or-false)
 
   abbrev pub holding : ℕ → List T → Bool → PipeView T
   holding capacity inside closed = record { capacity = capacity; inside = inside; closed = closed }
@@ -77,11 +77,11 @@ module _ {T : Type 0} where
   put_accepted : (capacity : ℕ) (past : List (Event T)) (x : T) → has_close past ≡ false →
       length (items_out past) ≤ length (items_in past) → length (items_in past) < length (items_out past) + capacity →
       reply_to capacity past (Put x) ≡ Accepted
-  put_accepted capacity past x unclosed few room = grind (arith, common_steps)
+  put_accepted capacity past x unclosed few room = grind arith
 
   put_full : (capacity : ℕ) (past : List (Event T)) (x : T) → has_close past ≡ false →
       length (items_in past) ≡ length (items_out past) + capacity → reply_to capacity past (Put x) ≡ Full
-  put_full capacity past x unclosed e = grind (arith, common_steps)
+  put_full capacity past x unclosed e = grind arith
 
   -- a put that is accepted, as the past has it
   put_counts : (past : List (Event T)) (x : T) → (length (items_in (past ++ (Put x, Accepted) ∷ [])) ≡ length (items_in past) + 1)
@@ -125,7 +125,7 @@ module _ {T : Type 0} where
   pub takes_answered : (capacity : ℕ) (taken items known : List T) (past : List (Event T)) (short : Bool) →
       IsSeenByOut ((taken ++ items) ++ known) taken past →
       (short ≡ true → known ≡ []) → AreAnswered capacity past (takes_of items short)
-  takes_answered capacity taken items known past short seen none = grind (arith, common_steps, append_assoc, takes_on)
+  takes_answered capacity taken items known past short seen none = grind (arith, append_assoc, takes_on)
 
 -- what a call that takes words rests on
 pub ruleset takes = (common_steps, nat_lt, nil_from_length, takes_answered)

@@ -7,13 +7,13 @@ use Rattle.council_text.proofs.joined.push_joined.Goals as goal
 
 pub loop-r-preserved : goal.loop-r-preserved
 loop-r-preserved g c = record {
-  items = grind (arith, common_steps, put-more, put-first);
+  items = grind (arith, put-more, put-first);
   front = grind (arith, common_steps, further);
-  capacity = grind (arith, common_steps, room-is);
+  capacity = grind (arith, room-is);
 }
 
 pub returns-clause-items : goal.returns-clause-items
-returns-clause-items g c vs long each = grind (arith, common_steps, take_all)
+returns-clause-items g c vs long each = grind (arith, take_all)
 
 pub returns-clause-room : goal.returns-clause-room
 returns-clause-room g c vs long each = record { capacity = c.loop-r.invariant.capacity; full = tt }
@@ -37,4 +37,4 @@ returns-in_err-push_decimal-clause-room g c vs long each =
     let separator : List ℕ = c.args.separator.now in
     let below : c.loop-r.r < length vs = omega (arith, long, c.loop-r-test.true) in
     let before = c.loop-r.invariant.items vs long each in
-    grind (arith, common_steps, takes-not, room-is, append_assoc, more-within, length-append, next-within)
+    grind (arith, takes-not, room-is, append_assoc, more-within, length-append, next-within)
