@@ -6,13 +6,14 @@ ghost use Rattle.council_game.specs.declared.fault.GameFault.TheVariants as faul
 ghost use Rattle.council_run.specs.Run.{IsNumberOf};
 
 use council_file::parse_game;
-use council_game::{Game, GameFault, Memory};
+use council_game::{Game, GameFault};
 use mwc_sums::count_by_sums;
 use std::alloc::Global;
 
 /// How many minimal winning coalitions a game has, where sums count them.
-fn number_of(alloc: Global, game: &Game) -> Result<Option<u64>, Memory>
-    ensures { IfOk result (IsNumberOf game.now) }
+fn number_of(alloc: Global, game: &Game) -> Result<Option<u64>, GameFault>
+    ensures number { IfOk result (IsNumberOf game.now) }
+    ensures fault { IfErr result (λ why. why ≡ fault.Memory) }
 {
     match count_by_sums(alloc, game)? {
         Some(counts) => Ok(Some(counts.wide_total())),
@@ -31,5 +32,5 @@ pub fn number_by_sums(alloc: Global, bytes: &[u8]) -> Result<Option<u64>, GameFa
     ensures fault { IfErr result (λ why. (why ≡ fault.Memory) ⊎ (game_of bytes.now ≡ Err why)) }
 {
     let game = parse_game(alloc, bytes)?;
-    Ok(number_of(alloc, &game)?)
+    number_of(alloc, &game)
 }

@@ -14,7 +14,7 @@ ghost use Rattle.council_run.specs.Tallied.{IsAnyGame, without_list};
 use crate::fault::RunFault;
 use crate::options::Options;
 use council_file::read_game;
-use council_game::{Game, Memory};
+use council_game::Game;
 use council_report::{Shown, write_tally};
 use mwc_sums::{Parts, count_by_sums, part_by_sums};
 use mwc_tally::{TallyFault, Watch};
@@ -59,12 +59,14 @@ fn count_by_threads<T: Threads + Wait + Sync, V: Watch + Sync>(
 
 /// The counts of a game by those of the part that sums left. (By itself, so that threads do not want its stack too.)
 #[inline(never)]
-fn joined(alloc: Global, game: &Game, parts: Parts, left: Counts) -> Result<Counts, Memory>
+fn joined(alloc: Global, game: &Game, parts: Parts, left: Counts) -> Result<Counts, TallyFault>
     requires parts { AreChambersOf game.now parts.counted.game parts.left }
     requires counts { AreCounts parts.left (minimal_coalitions (votes_of parts.left)) left }
-    ensures { IfOk result (λ c. AreCounts game.now (minimal_coalitions (votes_of game.now)) c) }
+    ensures counts { IfOk result
+        (λ c. AreCounts game.now (minimal_coalitions (votes_of game.now)) c) }
+    ensures fault { IfErr result (λ why. why ≡ TallyFault.Memory) }
 {
-    parts.joined(alloc, game, left)
+    Ok(parts.joined(alloc, game, left)?)
 }
 
 /// The counts of all minimal winning coalitions of a game of which sums counted a part: worker threads walk over those of
@@ -84,7 +86,7 @@ fn count_left<T: Threads + Wait + Sync, V: Watch + Sync>(
     ensures stopped { result ≡ Err TallyFault.Stopped → V.may_stop }
 {
     let left = count_by_threads(rt, alloc, &parts.left, options, watch)?;
-    Ok(joined(alloc, game, parts, left)?)
+    joined(alloc, game, parts, left)
 }
 
 /// The counts of all minimal winning coalitions of a game: by sums where these serve, else by worker threads
