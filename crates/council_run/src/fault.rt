@@ -16,10 +16,10 @@ use thiserror::Error;
 #[derive(Clone, Copy, Debug, Error, PartialEq, Eq)]
 pub enum Cause {
     /// The file has no game, or could not be read.
-    #[error("{0}")]
+    #[error(transparent)]
     Game(GameFault),
     /// The minimal winning coalitions could not be gathered, or are more than a run keeps.
-    #[error("{0}")]
+    #[error(transparent)]
     Gather(GatherFault),
     /// The writer failed.
     #[error("output failed")]
