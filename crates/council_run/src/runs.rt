@@ -53,16 +53,17 @@ fn pieces<'a>(
     gathered.pieces(alloc)
 }
 
-/// Counts the coalitions that the workers listed, and writes the report of their game, of whatever bytes it was read.
-fn reported<T: Threads + Wait + Sync, W: Write>(
+/// Counts all minimal winning coalitions of a game, which lie in these pieces in listing order, and writes its report, of
+/// whatever bytes it was read.
+fn counted<T: Threads + Wait + Sync, W: Write>(
     rt: &T,
     alloc: Global,
     game: &Game,
-    gathered: &Gathered,
+    pieces: &[&[Coalition]],
     options: &Options,
     writer: &mut W,
 ) -> Result<u64, RunFault>
-    requires { IsGathered game.now options.now.most gathered.now }
+    requires { IsListed game.now options.now.most (joined pieces.now) }
     ensures ok { IfOk result (λ len. (unread left : Option (List ℕ)) → Reads unread left (Ok game.now)
         → Reports (report (shown_of options.now)) (HasAtMost options.now.most) unread left
         (W.contents writer.old) (W.contents writer.new) len) }
@@ -71,9 +72,31 @@ fn reported<T: Threads + Wait + Sync, W: Write>(
         (W.contents writer.old) (W.contents writer.new) fault.cause fault.written) }
     ensures unstopped { IfErr result (λ fault. fault.cause ≡ cause.Stopped → ⊥) }
 {
-    let pieces = pieces(alloc, game, gathered, options.most)?;
-    let counts = tally_pieces(rt, game, &pieces, options.workers)?;
-    Ok(write_report_of(alloc, game, &pieces, &counts, options.shown(), writer)?)
+    let counts = tally_pieces(rt, game, pieces, options.workers)?;
+    Ok(write_report_of(alloc, game, pieces, &counts, options.shown(), writer)?)
+}
+
+/// Lists the minimal winning coalitions of a game by worker threads, and writes its report, of whatever bytes it was read.
+fn reported<T: Threads + Wait + Sync, W: Write, G: Gate + Sync, L: Lookout + Sync>(
+    rt: &T,
+    alloc: Global,
+    game: &Game,
+    options: &Options,
+    gate: &G,
+    lookout: &L,
+    writer: &mut W,
+) -> Result<u64, RunFault>
+    ensures ok { IfOk result (λ len. (unread left : Option (List ℕ)) → Reads unread left (Ok game.now)
+        → Reports (report (shown_of options.now)) (HasAtMost options.now.most) unread left
+        (W.contents writer.old) (W.contents writer.new) len) }
+    ensures err { IfErr result (λ fault. (unread left : Option (List ℕ)) → Reads unread left (Ok game.now)
+        → Stops (report (shown_of options.now)) (HasAtMost options.now.most) unread left
+        (W.contents writer.old) (W.contents writer.new) fault.cause fault.written) }
+    ensures unstopped { IfErr result (λ fault. fault.cause ≡ cause.Stopped → ⊥) }
+{
+    let gathered = gathered(rt, alloc, game, options, gate, lookout)?;
+    let pieces = pieces(alloc, game, &gathered, options.most)?;
+    counted(rt, alloc, game, &pieces, options, writer)
 }
 
 /// Reads a game, lists its minimal winning coalitions by worker threads, and writes its report and
@@ -141,6 +164,5 @@ pub fn run_with_lookout<
     ensures unstopped { IfErr result (λ fault. fault.cause ≡ cause.Stopped → ⊥) }
 {
     let game = read_game(alloc, reader)?;
-    let gathered = gathered(rt, alloc, &game, options, gate, lookout)?;
-    reported(rt, alloc, &game, &gathered, options, writer)
+    reported(rt, alloc, &game, options, gate, lookout, writer)
 }
