@@ -26,9 +26,10 @@ impl Share {
     pub(crate) fn none(alloc: Global, slices: SlicedGame<'_>) -> Result<Share, Memory>
         ensures { IfOk result (IsShare slices.entry) }
     {
+        let counts = Box::new(alloc, Counts::none(slices.game))?;
         Ok(Share {
             taken: Vec::new(alloc),
-            counts: Box::new(alloc, Counts::none(slices.game))?,
+            counts,
         })
     }
 

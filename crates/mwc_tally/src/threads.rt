@@ -1,5 +1,5 @@
 //! The counts of all slices.
-ghost use Rattle.std.specs.Prelude.{◌≡◌, ◌≤◌, All, length, vec_len, Err, IfOk, IfErr, MatchOption, if◌then◌else◌, true, false, ⊤};
+ghost use Rattle.std.specs.Prelude.{◌≡◌, ◌≤◌, All, length, Err, IfOk, IfErr, MatchOption, if◌then◌else◌, true, false, ⊤};
 ghost use Rattle.coalitions.specs.declared.limits.TheConstants.{BITS, WORKERS};
 ghost use Rattle.council_game.specs.Game.{votes_of};
 ghost use Rattle.council_game.specs.Votes.{minimal_coalitions};
@@ -84,15 +84,14 @@ fn start<'s, E, W: Watch + Sync>(
     scope.spawn_with(work.slices, body).ok()
 }
 
-/// Starts `workers` threads, until one cannot be started: those that run, and whether they are all.
+/// Starts `workers` threads, until one cannot be started: those that run.
 fn start_all<'s, E, W: Watch + Sync>(
     scope: &Scope<'s, E>,
     alloc: Global,
     work: &SliceQueue<'s, W>,
     workers: u8,
-) -> Result<(Vec<Started<'s>>, bool), Memory>
-    ensures given { IfOk result (λ r. All (λ t. t.promise ≡ work.now.slices) r.0.items) }
-    ensures all { IfOk result (λ r. r.1 ≡ true → vec_len r.0 ≡ workers) }
+) -> Result<Vec<Started<'s>>, Memory>
+    ensures { IfOk result (λ threads. All (λ t. t.promise ≡ work.now.slices) threads.items) }
 {
     let mut threads = Vec::new(alloc);
     threads.reserve(usize::from(workers))?;
@@ -101,11 +100,11 @@ fn start_all<'s, E, W: Watch + Sync>(
             Some(thread) => threads.push_reserved(thread),
             None => {
                 work.stop();
-                return Ok((threads, false));
+                break;
             }
         }
     }
-    Ok((threads, true))
+    Ok(threads)
 }
 
 /// Starts the threads, and adds what they counted.
@@ -120,7 +119,8 @@ fn count_beside<'s, E, R: Threads, W: Watch + Sync>(
     ensures started { result ≡ Err TallyFault.Stopped → ⊥ }
 {
     let none = Share::none(alloc, work.slices)?;
-    let (threads, started) = start_all(scope, alloc, work, workers)?;
+    let threads = start_all(scope, alloc, work, workers)?;
+    let started = threads.len() == usize::from(workers);
     let (share, lost) = join_all(rt, work.slices, threads, none);
     all_of(share, started, lost)
 }
