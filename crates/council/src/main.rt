@@ -125,6 +125,34 @@ fn answer<
     }
 }
 
+/// Says what there is to say of what was answered, and of the bytes that were read, where they were kept; the status that
+/// the program ends with.
+fn ended(
+    rt: &(impl Eprint + AllocGlobal),
+    wanted: &Wanted<'_>,
+    terminal: bool,
+    answered: Result<u64, RunFault>,
+    bytes: Option<&[u8]>,
+) -> ExitCode {
+    match answered {
+        Ok(_) => {
+            if terminal && let Some(remark) = bytes.and_then(remark) {
+                let _ = eprintln!(rt; "council: {remark}");
+            }
+            ExitCode::SUCCESS
+        }
+        Err(fault) => {
+            let code = stop(rt, fault);
+            if !wanted.explain && terminal {
+                hint(rt, fault.cause);
+            } else if let Some(bytes) = bytes {
+                say_more(rt, fault.cause, bytes);
+            }
+            code
+        }
+    }
+}
+
 /// Runs on what is read, and writes to standard output; `terminal` tells whether standard error is a
 /// terminal.
 fn run_on<R: AllocGlobal + Print + Eprint + Clock + Threads + Wait + Sync, I: io::Read>(
@@ -142,23 +170,7 @@ fn run_on<R: AllocGlobal + Print + Eprint + Clock + Threads + Wait + Sync, I: io
     };
     let answered = answer(rt, wanted, &mut reader, &progress, &mut writer);
     progress.wipe();
-    match answered {
-        Ok(_) => {
-            if terminal && let Some(remark) = reader.bytes().and_then(remark) {
-                let _ = eprintln!(rt; "council: {remark}");
-            }
-            ExitCode::SUCCESS
-        }
-        Err(fault) => {
-            let code = stop(rt, fault);
-            if !wanted.explain && terminal {
-                hint(rt, fault.cause);
-            } else if let Some(bytes) = reader.bytes() {
-                say_more(rt, fault.cause, bytes);
-            }
-            code
-        }
-    }
+    ended(rt, wanted, terminal, answered, reader.bytes())
 }
 
 /// Runs on the file, or on standard input where none is named.
@@ -181,12 +193,15 @@ fn main(rt: HostRuntime) -> ExitCode {
         Ok(words) => words,
         Err(status) => return status,
     };
-    let wanted = match wanted(&rt, words.as_slice()) {
-        Ok(wanted) => wanted,
-        Err(status) => return status,
-    };
-    if wanted.file.is_none() && rt.stdin().is_terminal() {
-        let _ = eprintln!(&rt; "council: a game is read from standard input, up to its end");
+    match wanted(&rt, words.as_slice()) {
+        Ok(wanted) => {
+            if wanted.file.is_none() && rt.stdin().is_terminal() {
+                let _ = eprintln!(&rt;
+                    "council: a game is read from standard input, up to its end"
+                );
+            }
+            run_on_file(&rt, &wanted, rt.stderr().is_terminal())
+        }
+        Err(status) => status,
     }
-    run_on_file(&rt, &wanted, rt.stderr().is_terminal())
 }

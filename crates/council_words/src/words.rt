@@ -136,18 +136,20 @@ const NUMBERS: &[Number] = &[
     },
 ];
 
-/// The flags, and what is said of them.
-const FLAGS: &[(&str, &str)] = &[
-    ("list", "A line for each minimal winning coalition"),
-    ("sizes", "A line for each size of a coalition"),
-    ("notation", "A line [q; w1, .., wn] for each rule"),
+/// The flags, what is said of them, and what does not go with them.
+const FLAGS: &[(&str, &str, &[&str])] = &[
+    ("list", "A line for each minimal winning coalition", &[]),
+    ("sizes", "A line for each size of a coalition", &[]),
+    ("notation", "A line [q; w1, .., wn] for each rule", &[]),
     (
         "tally",
         "Counts the coalitions, any number of them, and keeps none",
+        &["list", "most"],
     ),
     (
         "explain",
         "Where a game is refused, lines that say where and why",
+        &[],
     ),
 ];
 
@@ -156,21 +158,21 @@ fn number_option<'a>(alloc: Global, number: &Number) -> Arg<'a> {
         .long(number.name)
         .value_name(number.value)
         .help(number.help)
-        .action(ArgAction::Set)
         .default_value(number.default)
         .value_parser(value_parser!(u32).range(number.least..=number.greatest))
 }
 
-fn flag<'a>(alloc: Global, name: &'a str, help: &'a str) -> Result<Arg<'a>, AllocError> {
-    let flag = Arg::new(alloc, name)
+fn flag<'a>(
+    alloc: Global,
+    name: &'a str,
+    help: &'a str,
+    others: &'a [&'a str],
+) -> Result<Arg<'a>, AllocError> {
+    Arg::new(alloc, name)
         .long(name)
         .help(help)
-        .action(ArgAction::SetTrue);
-    if name == "tally" {
-        flag.conflicts_with_all(&["list", "most"])
-    } else {
-        Ok(flag)
-    }
+        .action(ArgAction::SetTrue)
+        .conflicts_with_all(others)
 }
 
 /// What the command takes, in the order of `--help`.
@@ -181,24 +183,18 @@ fn arguments<'a>(alloc: Global) -> Result<Vec<Arg<'a>>, AllocError> {
     for number in NUMBERS {
         arguments.push(number_option(alloc, number))?;
     }
-    for (name, help) in FLAGS {
-        arguments.push(flag(alloc, name, help)?)?;
+    for (name, help, others) in FLAGS {
+        arguments.push(flag(alloc, name, help, others)?)?;
     }
     Ok(arguments)
 }
 
-fn command<'a>(alloc: Global, arguments: Vec<Arg<'a>>) -> Result<Command<'a>, AllocError> {
-    Command::new(alloc, "council")
-        .version(VERSION)
-        .about(ABOUT)
-        .after_help(FORMS)
-        .args(arguments)
-}
-
 /// The game file that is named; none where standard input is to be read, as `-` says too.
 fn file_of<'a>(matches: &ArgMatches<'a>) -> Option<&'a str> {
-    let file = matches.get_str("FILE")?;
-    if file == "-" { None } else { Some(file) }
+    match matches.get_str("FILE") {
+        Some("-") => None,
+        file => file,
+    }
 }
 
 /// What the parser found; none where a number is missing or out of its range.
@@ -206,8 +202,10 @@ fn wanted_of<'a>(matches: &ArgMatches<'a>) -> Option<Wanted<'a>> {
     let workers = matches.get_one::<u8>("workers")?;
     let bits = matches.get_one::<u8>("bits")?;
     let most = matches.get_one::<u32>("most")?;
-    let few = workers <= limits::WORKERS && bits <= limits::BITS && most <= limits::COALITIONS;
-    if workers == 0 || most == 0 || !few {
+    if workers == 0 || limits::WORKERS < workers || limits::BITS < bits {
+        return None;
+    }
+    if most == 0 || limits::COALITIONS < most {
         return None;
     }
     Some(Wanted {
@@ -228,7 +226,12 @@ fn wanted_of<'a>(matches: &ArgMatches<'a>) -> Option<Wanted<'a>> {
 /// What the parser makes of the words.
 fn matches_of<'a>(alloc: Global, words: &'a [String]) -> Result<ArgMatches<'a>, Error> {
     let arguments = arguments(alloc)?;
-    command(alloc, arguments)?.try_get_matches_from(words)
+    Command::new(alloc, "council")
+        .version(VERSION)
+        .about(ABOUT)
+        .after_help(FORMS)
+        .args(arguments)?
+        .try_get_matches_from(words)
 }
 
 /// Reads a command line, its first word the name of the program.
