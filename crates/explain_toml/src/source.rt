@@ -43,6 +43,23 @@ fn end_behind(end: Option<char>, letter: char) -> Option<char> {
     }
 }
 
+/// Puts down a text without blanks, comments and what stands in quotes.
+fn push_bare(bare: &mut String, text: &str) -> Result<(), Memory> {
+    let mut end = None;
+    for letter in text.chars() {
+        end = end_behind(end, letter);
+        let is_left = match letter {
+            '\n' => true,
+            ' ' | '\t' => false,
+            _ => end.is_none(),
+        };
+        if is_left {
+            bare.push(letter)?;
+        }
+    }
+    Ok(())
+}
+
 /// A text without blanks, comments and what stands in quotes. The ends of lines are left.
 ///
 /// # Errors
@@ -50,13 +67,7 @@ fn end_behind(end: Option<char>, letter: char) -> Option<char> {
 /// Memory where a growth was refused.
 pub fn bare(alloc: Global, text: &str) -> Result<String, Memory> {
     let mut bare = String::new(alloc);
-    let mut end = None;
-    for letter in text.chars() {
-        end = end_behind(end, letter);
-        if letter == '\n' || (end.is_none() && letter != ' ' && letter != '\t') {
-            bare.push(letter)?;
-        }
-    }
+    push_bare(&mut bare, text)?;
     Ok(bare)
 }
 
