@@ -49,7 +49,7 @@ fn say_more(rt: &(impl Eprint + AllocGlobal), cause: Cause, bytes: &[u8]) {
                 "  --tally counts any number of them, and --most takes up to 4000000"
             );
         }
-        _ => {}
+        Cause::Gather(_) | Cause::Write | Cause::Memory | Cause::Stopped => {}
     }
 }
 
@@ -59,7 +59,7 @@ fn hint(rt: &impl Eprint, cause: Cause) {
         Cause::Game(GameFault::Memory) => return,
         Cause::Game(_) => "--explain says where, and what is allowed",
         Cause::Gather(GatherFault::TooMany) => "--tally counts any number of them",
-        _ => return,
+        Cause::Gather(_) | Cause::Write | Cause::Memory | Cause::Stopped => return,
     };
     let _ = eprintln!(rt; "  {line}");
 }

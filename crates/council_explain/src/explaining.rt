@@ -4,7 +4,7 @@ use crate::keys::say_unknown_key;
 use crate::totals::{say_count, say_quota_range, say_weight};
 use council_file::{bracket_rule, is_bracket};
 use council_game::{GameFault, Memory, Rule};
-use explain_toml::{File, Said, Source, bare, say_no_toml};
+use explain_toml::{File, Said, bare, say_no_toml};
 use std::alloc::Global;
 use toml::Table;
 
@@ -43,7 +43,7 @@ fn say_fault(
             said.line("the file of a game of 40 members is much shorter: is it the right file?")
         }
         GameFault::Text => {
-            let text = file.source.text;
+            let text = file.text;
             return say_no_toml(said, alloc, bytes, text, is_bracket(text.as_bytes()));
         }
         GameFault::UnknownKey => say_unknown_key(said, file),
@@ -61,7 +61,7 @@ fn say_fault(
             None => file.say_weight(said, index_of(member)),
         },
         GameFault::QuotaRange => return say_quota_range(said, alloc, file, rule),
-        GameFault::Bracket => return say_misfit(said, alloc, file.source.text),
+        GameFault::Bracket => return say_misfit(said, alloc, file.text),
         GameFault::Memory => {}
     }
     Ok(())
@@ -80,12 +80,9 @@ pub fn explain(alloc: Global, bytes: &[u8], fault: GameFault) -> Result<String, 
     let bare = bare(alloc, text.as_str())?;
     let table = tree_of(alloc, text.as_str())?;
     let rule = bracket_rule(alloc, bytes)?;
-    let source = Source {
+    let file = File {
         text: text.as_str(),
         bare: bare.as_str(),
-    };
-    let file = File {
-        source,
         table: &table,
     };
     let mut said = Said::new(alloc);

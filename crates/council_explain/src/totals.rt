@@ -25,10 +25,10 @@ fn say_range(said: &mut Said, which: impl Display + Drop, quota: impl Display + 
 /// Says which quota of a file is not within its total, by the rules of its tree.
 fn say_ranges(said: &mut Said, file: File<'_>, rules: &[Rule]) {
     if let (Some(quota), Some(rule)) = (file.value_at("quota"), rules.first()) {
-        file.source.say_key(said, "quota");
+        file.say_key(said, "quota");
         return say_range(said, "the quota", short(quota), rule);
     }
-    file.source.say_key(said, "quotas");
+    file.say_key(said, "quotas");
     let quotas = elements(file.value_at("quotas"));
     for (index, rule) in rules.iter().enumerate() {
         if let Some(quota) = quotas.get(index)

@@ -1,14 +1,14 @@
 //! What is wrong with the title and the quota of a file.
 use crate::remedies::{is_share, say_factor, say_statutes};
 use crate::said::Said;
-use crate::source::Source;
 use crate::values::{elements, say_text, say_value};
 use toml::{Table, Value};
 
-/// A game file of TOML: its text, and its tree, which is empty where it is no TOML.
+/// A game file of TOML: its text, what is bare of it, and its tree, which is empty where it is no TOML.
 #[derive(Clone, Copy)]
 pub struct File<'a> {
-    pub source: Source<'a>,
+    pub text: &'a str,
+    pub bare: &'a str,
     pub table: &'a Table,
 }
 
@@ -35,7 +35,7 @@ impl<'a> File<'a> {
     pub(crate) fn say_number(self, said: &mut Said, value: &Value, wanted: &str) {
         say_value(said, value, wanted);
         match value {
-            Value::Float(_) => say_factor(said, self.source.bare),
+            Value::Float(_) => say_factor(said, self.bare),
             Value::String(text) if is_share(text.as_str()) => say_statutes(said),
             _ => {}
         }
@@ -43,7 +43,7 @@ impl<'a> File<'a> {
 
     /// Says what is wrong with the title.
     pub fn say_title(self, said: &mut Said) {
-        self.source.say_key(said, "title");
+        self.say_key(said, "title");
         if let Some(value) = self.value_at("title") {
             let wanted = "a title is a text in quotes, of at most 200 bytes, on one line";
             say_text(said, value, wanted);
@@ -52,7 +52,7 @@ impl<'a> File<'a> {
 
     /// Says what is wrong with the quota, or that there is none.
     pub fn say_quota(self, said: &mut Said) {
-        self.source.say_key(said, "quota");
+        self.say_key(said, "quota");
         if let Some(value) = self.value_at("quota") {
             self.say_number(said, value, "a quota is a whole number, without quotes");
         } else if self.table.is_empty() {

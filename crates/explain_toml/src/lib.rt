@@ -4,7 +4,7 @@
 //!
 //! ```text
 //! let mut said = Said::new(alloc);
-//! File { source, table: &table }.say_title(&mut said);
+//! File { text, bare, table: &table }.say_title(&mut said);
 //! ```
 #![tactic(auto)]
 
@@ -21,5 +21,5 @@ pub use file::File;
 pub use no_toml::say_no_toml;
 pub use remedies::say_remedy_at;
 pub use said::{Said, short};
-pub use source::{Source, bare, say_place};
+pub use source::{bare, say_place};
 pub use values::elements;

@@ -13,7 +13,7 @@ impl File<'_> {
             None => said.line(format_args!("the file has no member: {wanted}")),
             Some(Value::Array(_)) => self.say_elements(said),
             Some(value) => {
-                self.source.say_key(said, "member");
+                self.say_key(said, "member");
                 let kind = kind(value);
                 said.line(format_args!("member is {kind}: {wanted}"));
             }
@@ -38,7 +38,7 @@ impl File<'_> {
     /// Says what is wrong with the name of the member with this index.
     pub fn say_name(self, said: &mut Said, index: usize) {
         let wanted = "a name is a text in quotes, of 1 to 64 bytes, on one line";
-        self.source.say_place(said, index, "name");
+        self.say_place(said, index, "name");
         match self.value_of(index, "name") {
             None => said.line(format_args!("the member has no name: {wanted}")),
             Some(value) => say_text(said, value, wanted),
@@ -47,7 +47,7 @@ impl File<'_> {
 
     /// Says which member before the one with this index has its name.
     pub fn say_same_name(self, said: &mut Said, index: usize) {
-        self.source.say_place(said, index, "name");
+        self.say_place(said, index, "name");
         let Some(Value::String(name)) = self.value_of(index, "name") else {
             return;
         };
@@ -60,7 +60,7 @@ impl File<'_> {
                 said.line(format_args!(
                     "member {number} is named {name} too: each name stands once"
                 ));
-                self.source.say_place(said, earlier, "name");
+                self.say_place(said, earlier, "name");
                 break;
             }
         }
@@ -70,7 +70,7 @@ impl File<'_> {
     pub fn say_weight(self, said: &mut Said, index: usize) {
         let several = self.value_at("quotas").is_some();
         let key = if several { "weights" } else { "weight" };
-        self.source.say_place(said, index, key);
+        self.say_place(said, index, key);
         match self.value_of(index, key) {
             None => said.line(format_args!("the member has no {key}: each member has its own")),
             Some(value) if !several => self.say_one_weight(said, value),
@@ -93,12 +93,8 @@ impl File<'_> {
             return;
         }
         for weight in weights {
-            match weight {
-                Value::Integer(n) if 0 <= *n && (*n as u64) <= limits::WEIGHT => {}
-                _ => {
-                    self.say_one_weight(said, weight);
-                    return;
-                }
+            if !matches!(weight, Value::Integer(n) if 0 <= *n && (*n as u64) <= limits::WEIGHT) {
+                return self.say_one_weight(said, weight);
             }
         }
     }

@@ -10,7 +10,7 @@ impl File<'_> {
     fn say_mixed(self, said: &mut Said, key: &str) {
         for index in 0..self.members().len() {
             if self.value_of(index, key).is_some() {
-                self.source.say_place(said, index, key);
+                self.say_place(said, index, key);
                 break;
             }
         }
@@ -39,13 +39,13 @@ impl File<'_> {
     /// Says which keys do not go together, or what is wrong with the quotas.
     pub fn say_rules(self, said: &mut Said) {
         let Some(value) = self.value_at("quotas") else {
-            self.source.say_key(said, "quota");
+            self.say_key(said, "quota");
             self.say_mixed(said, "weights");
             return;
         };
-        self.source.say_key(said, "quotas");
+        self.say_key(said, "quotas");
         if self.value_at("quota").is_some() {
-            self.source.say_key(said, "quota");
+            self.say_key(said, "quota");
             said.line("quota and quotas are both there: a game has one of them");
         } else {
             self.say_quotas(said, value);

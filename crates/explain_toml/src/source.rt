@@ -1,4 +1,5 @@
 //! Places in the text of a game file.
+use crate::file::File;
 use crate::said::{Said, short};
 use coalitions::Memory;
 use std::alloc::Global;
@@ -48,12 +49,7 @@ fn push_bare(bare: &mut String, text: &str) -> Result<(), Memory> {
     let mut end = None;
     for letter in text.chars() {
         end = end_behind(end, letter);
-        let is_left = match letter {
-            '\n' => true,
-            ' ' | '\t' => false,
-            _ => end.is_none(),
-        };
-        if is_left {
+        if letter == '\n' || (end.is_none() && letter != ' ' && letter != '\t') {
             bare.push(letter)?;
         }
     }
@@ -115,14 +111,7 @@ fn line_of_member(bare: &str, index: usize, key: &str) -> Option<usize> {
     None
 }
 
-/// The text of a game file, and what is bare of it.
-#[derive(Clone, Copy)]
-pub struct Source<'a> {
-    pub text: &'a str,
-    pub bare: &'a str,
-}
-
-impl Source<'_> {
+impl File<'_> {
     /// Says a line, and what stands in it; nothing where there is none.
     fn say_line(self, said: &mut Said, line: Option<usize>) {
         if let Some(line) = line {

@@ -138,7 +138,7 @@ impl Draft {
                 };
                 self.ends.push(end)?;
             }
-            _ => {}
+            Word::Open(_) | Word::End { .. } => {}
         }
         Ok(())
     }
