@@ -50,12 +50,10 @@ impl<'a, I: Source> Read for Kept<'a, I> {
             (option_map (λ v. v.items) self.new.bytes) }
     {
         let count = self.reader.read_once(buffer)?;
-        let refused = match &mut self.bytes {
-            // memory: where there is no room nothing is kept, and the run goes on
-            Some(bytes) => bytes.extend_from_slice(&buffer[..count]).is_err(),
-            None => false,
-        };
-        if refused {
+        // memory: where there is no room nothing is kept, and the run goes on
+        if let Some(bytes) = &mut self.bytes
+            && bytes.extend_from_slice(&buffer[..count]).is_err()
+        {
             self.bytes = None;
         }
         Ok(count)
