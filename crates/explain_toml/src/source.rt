@@ -73,12 +73,11 @@ fn has_key(line: &[u8], key: &[u8]) -> bool {
     for (place, byte) in line.iter().enumerate() {
         if !inside
             && let Some(rest) = line.get(place..)
-            && let Some(behind) = rest.strip_prefix(key)
-            && matches!(behind.first(), Some(b'=' | b'.' | b']'))
+            && let Some([b'=' | b'.' | b']', ..]) = rest.strip_prefix(key)
         {
             return true;
         }
-        inside = byte.is_ascii_alphanumeric() || *byte == b'-' || *byte == b'_';
+        inside = byte.is_ascii_alphanumeric() || matches!(*byte, b'-' | b'_');
     }
     false
 }
