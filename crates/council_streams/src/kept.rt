@@ -50,8 +50,8 @@ impl<'a, I: Source> Read for Kept<'a, I> {
             (option_map (λ v. v.items) self.new.bytes) }
     {
         let count = self.reader.read_once(buffer)?;
-        // memory: where there is no room nothing is kept, and the run goes on
         if let Some(bytes) = &mut self.bytes
+            // memory: where there is no room nothing is kept, and the run goes on
             && bytes.extend_from_slice(&buffer[..count]).is_err()
         {
             self.bytes = None;
