@@ -49,14 +49,6 @@ pub(crate) fn check_names(names: &[String]) -> Result<(), GameFault>
     }
 }
 
-/// One of the names is this one.
-fn has_name(names: &[String], name: &str) -> bool
-    ensures { result
-        ≡ list_any (λ other. pointwise nat_eq name.now (string_bytes other)) names.now }
-{
-    names.iter().any(|other| name == other.as_str())
-}
-
 /// The place of the first name that is this one.
 fn first_named(names: &[String], name: &str) -> Option<usize>
     ensures place { result
@@ -76,12 +68,11 @@ pub(crate) fn place_of_name(names: &[String], name: &str) -> Option<usize>
 }
 
 /// An earlier member has the name of this one.
-#[tactic(auto, using(crate::proofs::Searches::for_is_repeat))]
 fn is_repeat(names: &[String], k: usize) -> bool
     requires { k < length names.now }
     ensures { result ≡ is_repeat (map string_bytes names.now) k }
 {
-    has_name(&names[..k], names[k].as_str())
+    place_of_name(&names[..k], names[k].as_str()).is_some()
 }
 
 /// The place of the first name that stands before.

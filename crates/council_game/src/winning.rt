@@ -8,7 +8,7 @@ ghost use Rattle.council_game.specs.Inner.Held.{votes};
 use crate::{Coalition, Rule};
 
 /// The weight of a coalition: the last place is the lowest digit.
-#[tactic(auto, using(crate::proofs::Searches::for_weight_of), unfolding(crate::specs::Votes::has))]
+#[tactic(auto, unfolding(crate::specs::Votes::has))]
 pub(crate) fn weight_of(weights: &[u64], coalition: Coalition) -> u64
     requires few { length weights.now ≤ MEMBERS }
     requires fits { sum weights.now ≤ TOTAL }

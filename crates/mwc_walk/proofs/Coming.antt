@@ -58,11 +58,6 @@ price-stays p i t f g d dearer none is = grind (arith, mul-le d (p.own * t) d (i
 pub rounded-up : (x b g : ℕ) → 0 < b → x ≤ b * g → div_ceil x b ≤ g
 rounded-up x b g some le = grind arith
 
--- what a price rests on
-pub ruleset cheapest = (price-falls, price-stays)
-
-pub ruleset rounding = (mul-le, rounded-up)
-
 -- the member of place p, and those after it
 pub weight-from : (ws : List ℕ) (n p c : ℕ) → p < n → n ≤ length ws
     → weight (drop p (take n ws)) c ≡ c / 2 ^ (n - (p + 1)) % 2 * get_or ws p 0 + weight (drop (p + 1) (take n ws)) c

@@ -87,6 +87,3 @@ pub ruleset slices = (slices-joined, one-slice)
 pub lists-all : (g : GameView) (most : ℕ) (list : List ℕ) → IsVotes (votes_of g) → list ≡ take most (slice (votes_of g) 0 0)
     → drop most (slice (votes_of g) 0 0) ≡ [] → ListsAll g most list
 lists-all g most list game first none = grind (arith, one-slice, common_steps, listing-is, length-drop)
-
--- what the list of all rests on
-pub ruleset whole_list = (lists-all, one-slice, length-drop)

@@ -4,10 +4,10 @@ use Rattle.mwc_walk.proofs.Imports.{false_from_ne_true, nat_tests, shr-shr, Rule
 use Rattle.mwc_walk.proofs.Imports.{le-leb, Cursor, LaneIs, NothingBelow, IsExcess, wins_at, IsNeed, Tried, rule_at, has, without, weight}
 use Rattle.mwc_walk.proofs.Imports.{trailing_zeros, pow_mono, cases_eq, cases_lt, cases_Bool, CursorIs, has-none, lane_at, IsVotes, ◌<◌}
 use Rattle.mwc_walk.proofs.Imports.{◌≤◌, min, true, List, [], length, IsRanked, ◌∙◌, arith, inl, inr, common_steps, w64, get_or_default}
-use Rattle.mwc_walk.proofs.Imports.{list_all-from_AllPass, asked_at}
+use Rattle.mwc_walk.proofs.Imports.{list_all-from_AllPass, asked_at, lowest-cleared}
 use Rattle.std.proofs.lemmas.{Bool.and_parts, Bool.and_from, Nat.and_le_l, Nat.Bits.bit_at-trailing_zeros, Nat.Bits.bit_at_and}
 use Rattle.std.proofs.Common.{◌&&◌, bit_and}
-use Rattle.coalitions.proofs.Shared.Digits.{has-kept, has-gone, lowest-cleared, without-less}
+use Rattle.coalitions.proofs.Shared.Digits.{has-kept, has-gone, without-less}
 use Rattle.council_game.proofs.Shared.WinningByPlaces.{sum-without, rule-is}
 use Rattle.mwc_walk.specs.Inner.{Places.AreExcesses, Places.CanSpare, Spared.IsEnough, Spared.NoneSpared}
 use Rattle.mwc_walk.specs.declared.vetoes.Vetoes.{Vetoes}
@@ -46,9 +46,6 @@ up-to-last n rest q few pos short below in' =
 first-keeps : (rs : List RuleView) (e q m : ℕ) → IsRanked rs → 1 ≤ length rs → e < get_or (rule_at rs 0).weights q 0 → m ≤ q
     → q < length (rule_at rs 0).weights → e < get_or (rule_at rs 0).weights m 0
 first-keeps rs e q m ranked some keeps before below = grind arith
-
--- what the last place of a mask rests on
-pub ruleset last = (common_steps, lowest-place, lowest-cleared, up-to-last)
 
 module _ {v : Votes} {p x rest : ℕ} {es : List ℕ} (tried : Tried v p x es rest) where
   pub tried-more : (q : ℕ) → 0 < rest → q < v.members → has v.members q rest ≡ true → (CanSpare v es q → ⊥)

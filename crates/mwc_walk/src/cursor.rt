@@ -484,7 +484,6 @@ impl Cursor {
     }
 
     /// The last place of a mask of some members.
-    #[tactic(auto, using(crate::proofs::Spared::last))]
     #[inline(always)]
     fn last_place(&self, game: &Game, rest: u64) -> usize
         requires is { CursorIs (votes_of game.now) self.now }

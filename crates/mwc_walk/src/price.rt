@@ -30,7 +30,6 @@ impl Price {
     }
 
     /// The price of these members and one more.
-    #[tactic(auto, using(crate::proofs::Coming::cheapest))]
     fn or(&self, own: u64, other: u64) -> Price
         ensures { (f g d : ℕ) → IsPrice self.now f g → IsPrice result (d * other + f) (d * own + g) }
     {
@@ -42,7 +41,6 @@ impl Price {
     }
 
     /// The least that members weigh by the one rule who weigh `need` by the other.
-    #[tactic(auto, using(crate::proofs::Coming::rounding))]
     pub(crate) fn of(&self, need: u64) -> u64
         ensures { (f g : ℕ) → IsPrice self.now f g → need ≤ f → result ≤ g }
     {

@@ -119,7 +119,6 @@ impl<'a> Walk<'a> {
     ///
     /// It is never below the number of coalitions given. With one rule it is at most `bits` plus,
     /// for each coalition given, the number of places that are not fixed.
-    #[tactic(auto, using(crate::proofs::Remains::walking))]
     pub fn visits(&self) -> u64
         ensures count { result ≡ self.now.visits }
         ensures rest { self.now.to_come ≡

@@ -16,7 +16,6 @@ use std::alloc::Global;
 /// # Errors
 ///
 /// `Memory` where a growth was refused.
-#[tactic(auto, using(crate::proofs::Remains::whole_list))]
 pub fn list_all(alloc: Global, game: &Game, most: u32) -> Result<Option<Vec<Coalition>>, Memory>
     ensures all { IfOk result (λ o. IfSome o (λ v. ListsAll game.now most v.items)) }
     ensures more { IfOk result

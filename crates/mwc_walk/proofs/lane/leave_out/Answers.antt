@@ -1,4 +1,4 @@
-use Rattle.mwc_walk.proofs.Imports.{arith, get_or_default, map_over_more, lane_without}
+use Rattle.mwc_walk.proofs.Imports.{arith, get_or_default, map_over_more, lane_without, common_steps}
 use Rattle.mwc_walk.proofs.lane.leave_out.Goals as goal
 
 pub loop-lane-preserved : goal.loop-lane-preserved
@@ -6,3 +6,9 @@ loop-lane-preserved c =
     map_over_more (lane_without c.args.place) c.args.lanes.now c.loop-lane.lanes c.loop-lane.lane-index _
     (omega arith) c.loop-lane.invariant
     (get_or_default c.loop-lane.lanes c.loop-lane.lane-index _ _ (omega arith))
+
+pub returns-in-len1 : goal.returns-in-len1
+returns-in-len1 c = grind (arith, common_steps)
+
+pub returns : goal.returns
+returns c = grind (arith, common_steps)

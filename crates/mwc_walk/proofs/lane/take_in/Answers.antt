@@ -1,4 +1,4 @@
-use Rattle.mwc_walk.proofs.Imports.{length-take, get_or-drop, length-map, arith, get_or_default, map_over_more, lane_with}
+use Rattle.mwc_walk.proofs.Imports.{length-take, get_or-drop, length-map, arith, get_or_default, map_over_more, lane_with, common_steps}
 use Rattle.std.proofs.lemmas.List.{get_or-append_right, Elements.All-get_or}
 use Rattle.mwc_walk.proofs.lane.take_in.Goals as goal
 
@@ -9,3 +9,9 @@ loop-lane-preserved c =
 
 pub overflow_add-lane-in-loop-lane : goal.overflow_add-lane-in-loop-lane
 overflow_add-lane-in-loop-lane c = grind (arith, get_or-append_right, length-map, length-take, get_or-drop, All-get_or)
+
+pub returns-in-len1 : goal.returns-in-len1
+returns-in-len1 c = grind (arith, common_steps)
+
+pub returns : goal.returns
+returns c = grind (arith, common_steps)

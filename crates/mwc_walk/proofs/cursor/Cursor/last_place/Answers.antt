@@ -1,5 +1,14 @@
-use Rattle.mwc_walk.proofs.Imports.{arith, lowest-place}
+use Rattle.mwc_walk.proofs.{Imports.arith, Imports.lowest-place, Imports.lowest-cleared, Spared.up-to-last}
 use Rattle.mwc_walk.proofs.cursor.Cursor.last_place.Goals as goal
 
 pub overflow_sub-result-2 : goal.overflow_sub-result-2
 overflow_sub-result-2 c = omega (arith, (lowest-place _ c.args.rest c.requires.is.game.few c.requires.some c.requires.short).0)
+
+pub returns-clause-inside : goal.returns-clause-inside
+returns-clause-inside c = grind (arith, lowest-place)
+
+pub returns-clause-last : goal.returns-clause-last
+returns-clause-last c = grind (arith, up-to-last)
+
+pub returns-clause-left : goal.returns-clause-left
+returns-clause-left c = grind (arith, lowest-cleared)

@@ -1,4 +1,5 @@
-use Rattle.mwc_walk.proofs.{Imports.◌∙◌, Imports.arith, Imports.votes_of, Steps.starts}
+use Rattle.mwc_walk.proofs.Imports.{◌∙◌, arith, votes_of, common_steps}
+use Rattle.mwc_walk.proofs.Steps.{starts}
 use Rattle.mwc_walk.proofs.cursor.Cursor.start.Goals as goal
 
 pub returns : goal.returns
@@ -9,3 +10,6 @@ returns c =
     c.requires.number count c.rules-rules.ensures.votes (omega arith) c.of_each-asked.ensures
     (rw (prefix, count) at (c.of_mask-fixed.ensures ∙ c.mask_of.ensures.mask)) c.lanes_of-lanes.ensures.lanes
     c.lanes_of-lanes.ensures.sums prefix
+
+pub of_each-asked-requires-clause-lanes : goal.of_each-asked-requires-clause-lanes
+of_each-asked-requires-clause-lanes c = grind (arith, common_steps)
