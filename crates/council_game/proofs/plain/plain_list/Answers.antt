@@ -19,21 +19,11 @@ loop-mask-preserved-in-Continue-1 c = record {
 pub loop-mask-preserved : goal.loop-mask-preserved
 loop-mask-preserved c = grind (arith, common_steps, listed-less)
 
-pub returns-clause-all : goal.returns-clause-all
-returns-clause-all c = listed-all (votes_of c.args.game.now) c.loop-mask.list.items (minimal_coalitions (votes_of c.args.game.now))
-    c.loop-mask.mask (omega arith) c.loop-mask.invariant.done
-
-pub returns-clause-some : goal.returns-clause-some
-returns-clause-some c =
+pub returns : goal.returns
+returns c =
     let all = listed-all (votes_of c.args.game.now) c.loop-mask.list.items (minimal_coalitions (votes_of c.args.game.now))
     c.loop-mask.mask (omega arith) c.loop-mask.invariant.done in
     let is = listing-is (votes_of c.args.game.now) c.members-members.ensures.votes in
-    omega (arith, ap length all, is.some)
-
-pub returns-clause-few : goal.returns-clause-few
-returns-clause-few c =
-    let all = listed-all (votes_of c.args.game.now) c.loop-mask.list.items (minimal_coalitions (votes_of c.args.game.now))
-    c.loop-mask.mask (omega arith) c.loop-mask.invariant.done in
-    let is = listing-is (votes_of c.args.game.now) c.members-members.ensures.votes in
-    let most : 2 ^ length c.args.game.now.names ≤ 2 ^ 20 = (let two : 0 < 2 = omega arith in pow-le-pow_right two c.requires) in
-    omega (arith, ap length all, is.few, most)
+    let two : 0 < 2 = omega arith in
+    let most : 2 ^ length c.args.game.now.names ≤ 2 ^ 20 = pow-le-pow_right two c.requires in
+    record { all = all; some = omega (arith, ap length all, is.some); few = omega (arith, ap length all, is.few, most) }

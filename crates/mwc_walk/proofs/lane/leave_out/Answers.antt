@@ -1,4 +1,5 @@
-use Rattle.mwc_walk.proofs.Imports.{arith, get_or_default, map_over_more, lane_without, common_steps}
+use Rattle.mwc_walk.proofs.Imports.{length-take, get_or-drop, length-map, arith, get_or_default, map_over_more, lane_without, common_steps}
+use Rattle.std.proofs.lemmas.List.{get_or-append_right, Elements.All-get_or}
 use Rattle.mwc_walk.proofs.lane.leave_out.Goals as goal
 
 pub loop-lane-preserved : goal.loop-lane-preserved
@@ -6,6 +7,9 @@ loop-lane-preserved c =
     map_over_more (lane_without c.args.place) c.args.lanes.now c.loop-lane.lanes c.loop-lane.lane-index _
     (omega arith) c.loop-lane.invariant
     (get_or_default c.loop-lane.lanes c.loop-lane.lane-index _ _ (omega arith))
+
+pub overflow_sub-lane-in-loop-lane : goal.overflow_sub-lane-in-loop-lane
+overflow_sub-lane-in-loop-lane c = grind (arith, get_or-append_right, length-map, length-take, get_or-drop, All-get_or)
 
 pub returns-in-len1 : goal.returns-in-len1
 returns-in-len1 c = grind (arith, common_steps)

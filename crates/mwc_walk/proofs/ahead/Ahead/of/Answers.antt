@@ -1,4 +1,4 @@
-use Rattle.mwc_walk.proofs.Imports.{rules, arith, [], common_steps}
+use Rattle.mwc_walk.proofs.Imports.{rules, arith, []}
 use Rattle.mwc_walk.proofs.ahead.Ahead.of.Goals as goal
 
 pub returns : goal.returns
@@ -9,6 +9,3 @@ returns c = record {
       (omega (arith, below, c.rules-rules.ensures.votes)) in
       search rules;
 }
-
-pub of_each-vetoes-requires-clause-lanes : goal.of_each-vetoes-requires-clause-lanes
-of_each-vetoes-requires-clause-lanes c = grind (arith, common_steps)
