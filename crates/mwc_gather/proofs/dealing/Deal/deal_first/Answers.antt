@@ -3,13 +3,16 @@ use Rattle.mwc_gather.proofs.Deals.{first_of_place, deal_starts}
 use Rattle.mwc_gather.proofs.dealing.Deal.deal_first.Goals as goal
 
 pub loop-i-init : goal.loop-i-init
-loop-i-init g c = deal_starts c.args.self.now c.args.desks.now c.requires.all_of c.requires.fresh c.requires.marks
+loop-i-init g c =
+    deal_starts {g = slicing c.args.job.now.guarded c.args.job.now.bits} c.args.self.now c.args.desks.now c.requires.all_of c.requires.fresh
+    c.requires.marks
 
 pub loop-i-preserved : goal.loop-i-preserved
 loop-i-preserved g c =
     let q = c.loop-i.auto.desks in
     let l : c.loop-i.i < length c.loop-i.desks = omega arith in
-    first_of_place c.loop-i.desks c.loop-i.i c.index-desks-i.result c.deal_to.new.desk l c.loop-i.invariant
+    first_of_place {g = slicing c.args.job.now.guarded c.args.job.now.bits} c.loop-i.desks c.loop-i.i c.index-desks-i.result
+    c.deal_to.new.desk l c.loop-i.invariant
     c.deal_to.ensures.same.0 c.deal_to.ensures.turns
 
 pub returns : goal.returns
