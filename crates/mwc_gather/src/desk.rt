@@ -184,9 +184,8 @@ impl Desk {
             idle: _,
             told: _,
             ended: _,
-            draft,
+            mut draft,
         } = self;
-        let mut draft = draft;
         let (closed, list) = worker.join(rt);
         let Ok(told) = tasks.close() else {
             return Err(ring_fault(&draft));
@@ -213,11 +212,10 @@ fn ring_fault(draft: &Draft) -> GatherFault
 }
 
 /// Puts a task into the ring, and sleeps at its own bell while it is full; then rings the other.
-fn put<R: Wait>(rt: &R, tasks: &mut RingIn, task: Word, pair: BellPair<'_>)
+fn put<R: Wait>(rt: &R, tasks: &mut RingIn, mut task: Word, pair: BellPair<'_>)
     ensures ring { tasks.new.ring ≡ tasks.old.ring }
     ensures accepted { tasks.new.accepted ≡ tasks.old.accepted ++ task ∷ [] }
 {
-    let mut task = task;
     let mut patience = Patience::new();
     for _ in rt.forever() {
         match tasks.put(task) {
@@ -262,13 +260,12 @@ fn one_is_end(words: &[Word]) -> bool
 }
 
 /// Keeps all words that are left.
-fn drain(rest: Rest, draft: &mut Draft)
+fn drain(mut rest: Rest, draft: &mut Draft)
     ensures keeps { (words : List Word)
         → IsDraftOf words draft.old → IsDraftOf (words ++ rest) draft.new }
     ensures lost { draft.new.lost ≡ false → draft.old.lost ≡ false }
     ensures cut { draft.new.cut ≡ false → draft.old.cut ≡ false }
 {
-    let mut rest = rest;
     while let Some(word) = rest.next() {
         draft.hear(word);
     }

@@ -161,9 +161,9 @@ pub(crate) fn send_behind<W: PutsRows<P>, R: Wait, P: PipeIn<Word>, G: Told>(
 fn send_walk<W: PutsRows<P>, R: Wait, P: PipeIn<Word>, G: Told>(
     rt: &R,
     guarded: &Guarded<'_, G>,
-    walk: Walk<'_>,
+    mut walk: Walk<'_>,
     slice: u16,
-    left: u32,
+    mut left: u32,
     out: &mut P,
     pair: BellPair<'_>,
 ) -> Sent
@@ -173,10 +173,8 @@ fn send_walk<W: PutsRows<P>, R: Wait, P: PipeIn<Word>, G: Told>(
         → Sends g slice left (P.accepted out.old) (P.accepted out.new) (P.broken out.new) result }
     ensures unbroken { BreaksOnlyIfRefused (P.broken out.old) (P.broken out.new) result }
 {
-    let mut walk = walk;
     let mut parcel = Parcel::new();
     parcel.push(Word::Open(slice));
-    let mut left = left;
     let mut last = LastTold::nothing(&walk, left);
     while let Some(coalition) = next_told(guarded, &mut walk, &mut last, left) {
         let word = Word::One(coalition);

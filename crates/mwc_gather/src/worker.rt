@@ -48,10 +48,14 @@ fn next_task<R: Wait>(rt: &R, slices: u16, tasks: &mut RingOut, pair: BellPair<'
 }
 
 /// Sends the End and closes.
-fn finish<R: Wait>(rt: &R, out: RingIn, cut: bool, pair: BellPair<'_>) -> Result<Closed, Unfinished>
+fn finish<R: Wait>(
+    rt: &R,
+    mut out: RingIn,
+    cut: bool,
+    pair: BellPair<'_>,
+) -> Result<Closed, Unfinished>
     ensures { IfOk result (λ c. (c.ring ≡ out.ring) × (c.accepted ≡ out.accepted ++ End cut ∷ [])) }
 {
-    let mut out = out;
     let end = [Word::End { cut }];
     if !send::<RowByRow, _, _>(rt, end.as_slice(), &mut out, pair) {
         unreachable!()
@@ -100,8 +104,8 @@ pub(crate) fn work_beside<R: Wait, G: Told>(
     rt: &R,
     job: &Job<'_, G>,
     worker: u8,
-    out: RingIn,
-    tasks: RingOut,
+    mut out: RingIn,
+    mut tasks: RingOut,
     pair: BellPair<'_>,
 ) -> (Result<Closed, Unfinished>, RingOut)
     requires worker { worker < WORKERS }
@@ -110,8 +114,6 @@ pub(crate) fn work_beside<R: Wait, G: Told>(
     ensures { HasWorked (slicing job.now.guarded job.now.bits) job.now.most out tasks result }
 {
     let slices = slice_count(job.bits);
-    let mut out = out;
-    let mut tasks = tasks;
     let mut left = job.most + 1;
     for _ in rt.forever() {
         let Some(slice) = next_task(rt, slices, &mut tasks, pair) else {
