@@ -1,5 +1,5 @@
 -- The words of other libraries and of the definitions that two or more files of these proofs take; `tools/imports.py` writes them.
-pub use Rattle.coalitions.proofs.Shared.Digits.{has-none, lowest-cleared, lowest-place}
+pub use Rattle.coalitions.proofs.Shared.Digits.{has-none, lowest-place}
 pub use Rattle.council_game.proofs.Shared.{Listing.listing-is, Meanings.needs-each-member, Weights.weight-le, Weights.weight-without}
 pub use Rattle.council_game.specs.Game.{votes_of}
 pub use Rattle.council_game.specs.Votes.{IsRanked, IsRule, IsVotes, RuleView, Votes, rule_at, weight}
@@ -16,9 +16,10 @@ pub use Rattle.std.proofs.Common.{length-take, map, min, pow-add, pow_mono, pow_
 pub use Rattle.std.proofs.Common.{get_or-drop, get_or-set_other, get_or-take, inl, inr, le-leb, leb, length, length-drop, length-set}
 pub use Rattle.std.proofs.lemmas.Bool.{and_left, both_ways, cases_Bool, cases_eq, cases_lt, cond-false, cond-true, cond_both}
 pub use Rattle.std.proofs.lemmas.Bool.{false_from_ne_true}
-pub use Rattle.std.proofs.lemmas.List.{drop_all, get_or_default, length-map, Sums.list_all-from_AllPass, Sums.sum_by-take-drop}
-pub use Rattle.std.proofs.lemmas.{Grind.common_steps, Grind.get_or-set_at, List.Edits.map_over_more, List.Elements.filter-append}
-pub use Rattle.std.proofs.lemmas.{Bool.Decides.nat_tests, Nat.mul-le, Nat.Bits.bit_at_cat_low}
+pub use Rattle.std.proofs.lemmas.List.{Elements.All-get_or, Elements.filter-append, Sums.list_all-from_AllPass, Sums.sum_by-take-drop}
+pub use Rattle.std.proofs.lemmas.{Grind.common_steps, Grind.get_or-set_at, List.Edits.map_over_more, Nat.mul-le, Nat.Bits.bit_at_cat_low}
+pub use Rattle.std.proofs.lemmas.Bool.Decides.{nat_tests}
+pub use Rattle.std.proofs.lemmas.List.{drop_all, get_or-append_right, get_or_default, length-map}
 pub use Rattle.std.specs.{Int.trailing_zeros, List.AllByRecursion, List.list_all}
 unfoldable pub use Rattle.council_game.specs.Shared.Below.{minimal_below}
 unfoldable pub use Rattle.council_game.specs.Votes.{down, has, minimal, minimal_coalitions, wins, without}

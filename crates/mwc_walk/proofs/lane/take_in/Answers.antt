@@ -1,5 +1,5 @@
 use Rattle.mwc_walk.proofs.Imports.{length-take, get_or-drop, length-map, arith, get_or_default, map_over_more, lane_with, common_steps}
-use Rattle.std.proofs.lemmas.List.{get_or-append_right, Elements.All-get_or}
+use Rattle.mwc_walk.proofs.Imports.{get_or-append_right, All-get_or}
 use Rattle.mwc_walk.proofs.lane.take_in.Goals as goal
 
 pub loop-lane-preserved : goal.loop-lane-preserved

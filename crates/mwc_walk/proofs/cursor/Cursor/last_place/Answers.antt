@@ -1,4 +1,5 @@
-use Rattle.mwc_walk.proofs.{Imports.arith, Imports.lowest-place, Imports.lowest-cleared, Spared.up-to-last}
+use Rattle.mwc_walk.proofs.{Imports.arith, Imports.lowest-place, Spared.up-to-last}
+use Rattle.coalitions.proofs.Shared.Digits.{lowest-cleared}
 use Rattle.mwc_walk.proofs.cursor.Cursor.last_place.Goals as goal
 
 pub overflow_sub-result-2 : goal.overflow_sub-result-2
