@@ -33,8 +33,7 @@ pub sums-fit : (g : GameView) → IsGame g → AllByRecursion (λ r. total r ≤
 sums-fit g game =
     let p = passed g game.made in
     let few : length g.names ≤ 40 = ltb-false _ _ (or_parts _ _ p.members).1 in
-    light-sums (length g.names) g.rules few
-    (recursion_from_All (λ (r : RuleView). length r.weights ≡ length g.names) g.rules game.full)
+    light-sums (length g.names) g.rules few (recursion_from_All (λ (r : RuleView). length r.weights ≡ length g.names) g.rules game.full)
     (light-weights g game)
 
 capped : (rules : List Rule) → AllByRecursion (λ r. total r ≤ 40000000000000) (rule_views rules)
