@@ -9,9 +9,7 @@ chosen_from m a s = cond (leb a s) (choose m (s - a)) 0
 
 chosen-more : (m a s : ℕ) → chosen_from m (a + 1) s + chosen_from m a s ≡ chosen_from (suc m) a s
 unfolding chosen_from
-chosen-more m a s =
-    let e : m + 1 ≡ suc m = omega arith in let k : s - a - 1 ≡ s - (a + 1) = omega arith in
-    grind (arith, nat_tests, choose-none m, choose-none (suc m), choose-more m (s - a), ap (choose m) k, ap (λ (n : ℕ). choose n (s - a)) e)
+chosen-more m a s = grind (arith, nat_tests, choose-none m, choose-none (suc m), choose-more m (s - a))
 
 nobody-chosen : (k : ℕ) → choose 0 k ≡ one_of_size 0 k
 unfolding choose
@@ -92,7 +90,6 @@ unfolding endings left_out
 endings-less p h s [] r a = omega arith
 endings-less zero h s (w ∷ ws) r a = omega arith
 endings-less (suc p) h s (w ∷ ws) r a =
-    let taken = endings-less p h s ws (r - w) (a + 1) in
-    grind (arith, nat_tests, taken, endings-less p h s ws r a, cases_lt, length-left_out, fill-less, left_out-past)
+    grind (arith, endings-less p h s ws (r - w) (a + 1), endings-less p h s ws r a, cases_lt, length-left_out, fill-less, left_out-past)
 
 pub ruleset fewer = (endings-less)

@@ -46,14 +46,7 @@ all-entered need sets t d h meet half last s =
 -- ---- behind members of another half
 pub added : (need : ℕ) (sets : List Set) (t : Fitting) (k s : ℕ) → AreOfNeed need sets t
     → cond (leb k s) (get_or t.here (s - k) 0) 0 ≡ sum_by (fits need k s) sets
-added need sets t k s h = elim (cases_lt s k) [
-  | inl few ↦
-      (let none : (x : Set) → fits need k s x ≡ 0 = λ x. grind (arith, nat_tests) in
-      let all : sum_by (fits need k s) sets ≡ 0 = (λ i. sum_by (λ x. none x i) sets) ∙ sum-zero sets in grind (arith, nat_tests))
-  | inr enough ↦
-      (let one : (x : Set) → fits need 0 (s - k) x ≡ fits need k s x = λ x. grind (arith, nat_tests) in
-      grind (arith, nat_tests, h (s - k)))
-]
+added need sets t k s h = grind (arith, nat_tests, cases_lt s k, sum-zero sets)
 
 -- ---- what fits, added to the numbers of each size from one on
 pub record Added (before done here : List ℕ) (size j : ℕ) : Type 0 where

@@ -2,7 +2,7 @@
 use Rattle.weight_sums.proofs.Imports.{length-take, pow_pos, pow_mono, Set, Fitting, nobody, fits, met, has, IsHalf, IsHalfOf, AreEntered}
 use Rattle.weight_sums.proofs.Imports.{take, sym, ap, arith, inl, inr, All, sum_by, cases_lt, AreOfNeed, Meet, AreOfKeys, low_of, high_of}
 use Rattle.weight_sums.proofs.Imports.{◌≡◌, ◌∙◌, ◌⊎◌, ℕ, ◌+◌, ◌-◌, ◌/◌, ◌%◌, ◌==◌, ◌<◌, ◌≤◌, ◌^◌, cond, leb, List, [], length, get_or}
-use Rattle.weight_sums.proofs.Imports.{shr_below}
+use Rattle.weight_sums.proofs.Imports.{shr_below, nat_tests}
 use Rattle.std.proofs.lemmas.{List.get_or_default, Nat.shr_split, Nat.Bits.bit_at_above, Nat.Bits.bit_at_cat_low, Nat.Bits.bit_at_cat_high}
 use Rattle.std.proofs.Common.{take_all, min, mod-lt}
 use Rattle.weight_sums.specs.{Inner.Groups.AreGroups, Inner.Tables.IsCounted, declared.groups.Groups.Groups}
@@ -41,18 +41,15 @@ module _ {q digits : ℕ} {xs ys : List Set} {n : ℕ} {lows highs : List (List 
       → IsCounted high (get_or xs n d).size u.here highs more_highs → Paired q digits xs ys (n + 1) more_lows more_highs u
   paired-more lt {need = need} {low = low} {high = high} d {u = u} {more_lows = more_lows} {more_highs = more_highs} is low_key high_key are
       entered meet in_low in_high =
-      let x : Set = get_or xs n d in let row : ℕ → ℕ = λ s. cond (leb x.size s) (get_or u.here (s - x.size) 0) 0 in
-      let gives : (s : ℕ) → s ≤ 40 → row s ≡ met q ys s x = λ s small. added need ys u x.size s are
-      ∙ ap (λ (m : ℕ). sum_by (fits m x.size s) ys) is in
+      let row : ℕ → ℕ = λ s. cond (leb (get_or xs n d).size s) (get_or u.here (s - (get_or xs n d).size) 0) 0 in
+      let gives : (s : ℕ) → s ≤ 40 → row s ≡ met q ys s (get_or xs n d) = grind (arith, added) in
       record {
         low_long = in_low.long ∙ h.low_long;
         high_long = in_high.long ∙ h.high_long;
         low_is = of-more (low_of digits) (met q ys) xs n low d lows more_lows row lt h.low_is low_key in_low.row gives;
         high_is = of-more (high_of digits) (met q ys) xs n high d highs more_highs row lt h.high_is high_key in_high.row gives;
         entered = entered;
-        meet = λ k m e from within next below. (
-            let up = first.ascend n m e (omega (arith, next)) below in let b = ap (λ (y : Set). y.weight) (get_or_default xs n d e lt) in
-            omega (arith, meet k e from within, b, is, up));
+        meet = grind (arith, get_or_default);
       }
 
 pub paired-all : {q : ℕ} {xs ys : List Set} {n : ℕ} {t : Fitting} (g : Groups)
@@ -63,12 +60,10 @@ paired-all {xs = xs} {n = n} g h end few first second =
 
 -- ---- the members of a set, the first and the others
 has-low : (d p m : ℕ) → p < d → has p (m % 2 ^ d) ≡ has p m
-has-low d p m lt = ap (λ (n : ℕ). n == 1)
-    (sym (bit_at_cat_low (m / 2 ^ d) d (m % 2 ^ d) p lt) ∙ ap (λ (n : ℕ). n / 2 ^ p % 2) (shr_split m d))
+has-low d p m lt = grind (arith, nat_tests, bit_at_cat_low (m / 2 ^ d) d (m % 2 ^ d) p lt, shr_split m d)
 
 has-high : (d p m : ℕ) → d ≤ p → has (p - d) (m / 2 ^ d) ≡ has p m
-has-high d p m le = ap (λ (n : ℕ). n == 1)
-    (sym (bit_at_cat_high (m / 2 ^ d) d (m % 2 ^ d) p (mod-lt m (pow_pos d)) le) ∙ ap (λ (n : ℕ). n / 2 ^ p % 2) (shr_split m d))
+has-high d p m le = grind (arith, nat_tests, bit_at_cat_high (m / 2 ^ d) d (m % 2 ^ d) p (mod-lt m (pow_pos d)) le, shr_split m d)
 
 -- behind the last digit stands no member
 has-last : (n p r m : ℕ) → m < 2 ^ n → (r ≡ p) ⊎ (r ≡ n) × (n ≤ p) → has r m ≡ has p m

@@ -71,7 +71,6 @@ enough-won ws heads q s won shortened own are some above =
 
 pub left-is : (ws : List ℕ) (heads q s won shortened own n : ℕ) → AreMet ws q s won shortened own → IsLeft heads s won shortened own n
     → 0 < q → n ≡ endings ws heads s q 0
-left-is ws heads q s won shortened own n are left some =
-    let law = endings-counted ws heads s q some in grind (arith, cases_order)
+left-is ws heads q s won shortened own n are left some = grind (arith, cases_order, endings-counted ws heads s q some)
 
 pub ruleset places = (left_out-past)

@@ -32,8 +32,7 @@ pub come-less : {w rest left heads : ℕ} {done after : List ℕ} {row next : Li
     → GoesOn w rest left heads done after row next → rest ≡ sum later → length later ≡ left + 1
     → ((k s : ℕ) → k < length ws → s ≤ 40 → come_to heads s (left_out k ws) done row ≤ get_or sizes s 0)
     → (k s : ℕ) → k < length later → s ≤ 40 → come_to heads s (left_out k later) after next ≤ get_or sizes s 0
-come-less ws later sizes is on all one less k s lt small =
-    omega (arith, come-more later k s on all one lt small, (rw is at less) (suc k) s (omega (arith, lt)) small)
+come-less ws later sizes is on all one less k s lt small = grind (arith, come-more later k s on all one lt small)
 
 pub tallied-from : {w rest left heads place : ℕ} {done after : List ℕ} {row next : List Open} {all own : BySize}
     (each : List BySize) (later : List ℕ) → GoesOn w rest left heads done after row next → rest ≡ sum later → length later ≡ left + 1
@@ -44,7 +43,6 @@ pub tallied-from : {w rest left heads place : ℕ} {done after : List ℕ} {row 
 unfolding left_out
 tallied-from each later on all one here rest room zero lt = grind (arith, get_or-set_same)
 tallied-from {place = place} each later on all one here rest room (suc k) lt =
-    let next = rest k (omega arith) in let e : place + suc k ≡ place + 1 + k = omega arith in
-    grind (arith, get_or-set_other, come-more)
+    grind (arith, get_or-set_other, come-more, rest k (omega arith))
 
 pub ruleset tallying = (common_steps, get_or-set_same)

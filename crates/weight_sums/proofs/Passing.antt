@@ -16,8 +16,7 @@ unfolding endings
 endings-none [] heads s r a short = refl
 endings-none (w ∷ ws) heads s r a short =
     let total : sum (w ∷ ws) ≡ w + sum ws = sum_by-cons (λ (y : ℕ). y) w ws in
-    let again = endings-none ws heads s (r - w) (a + 1) (omega (arith, total, short)) in
-    grind (arith, nat_tests, total, again, endings-none ws heads s r a (omega (arith, total, short)))
+    grind (arith, nat_tests, endings-none ws heads s (r - w) (a + 1), endings-none ws heads s r a)
 
 double-times : (m left : ℕ) → m * 2 ^ (left + 1) ≡ m * 2 ^ left + m * 2 ^ left
 double-times m left = grind (arith, nat_tests, common_steps)
@@ -28,22 +27,23 @@ module _ {w heads left : ℕ} {before done : List ℕ} {row others : List Open}
   pub merge-few : (k : ℕ) → ((s : ℕ) → s ≤ 40 → get_or before s 0 + prefixes row * 2 ^ (left + 1) < 2 ^ 64)
       → prefixes (take k row) + prefixes others < 2 ^ 64
   merge-few k room =
-      let some : 1 ≤ 2 ^ left = pow_pos left in let all = mul-le-mul_left (prefixes row) some in
-      let few = others-few taken-are 0 (omega arith) in let part = sum_by-take-le (λ (x : Open). x.ways) row k in
-      omega (arith, few, room 0 (omega arith), all, mul-le-mul_left (prefixes others) some, double-times (prefixes row) left, part)
+      omega (arith, room 0 (omega arith), mul-le-mul_left (prefixes others) (pow_pos left), double-times (prefixes row) left,
+      mul-le-mul_left (prefixes row) (pow_pos left), others-few taken-are 0 (omega arith), sum_by-take-le (λ (x : Open). x.ways) row k)
 
   pub goes-on : {next : List Open} (rest k : ℕ) → AreMerged (take k row) others next
       → ((g : ℕ → ℕ → ℕ) → ((r a : ℕ) → rest < r → g r a ≡ 0) → weigh g (take k row) ≡ weigh g row) → GoesOn w rest left heads before done row next
   unfolding endings
   goes-on {next = next} rest k merged same = record {
     counted = λ ws s fits long small. (
-        let g : ℕ → ℕ → ℕ = endings ws heads s in let kept = same g (λ r x more. endings-none ws heads s r x (omega (arith, fits, more))) in
-        let plus = weigh-plus (taken w (fill heads s (length ws)) g) g row in
-        omega (arith, taken-are.counted g s small, merged.all g, kept, plus, ap (λ (m : ℕ). weigh (taken w (fill heads s m) g) row) long));
+        let g : ℕ → ℕ → ℕ = endings ws heads s in
+        let kept = same g (λ r x more. endings-none ws heads s r x (omega (arith, fits, more))) in
+        omega (arith, taken-are.counted g s small, merged.all g, kept, weigh-plus (taken w (fill heads s (length ws)) g) g row,
+        ap (λ (m : ℕ). weigh (taken w (fill heads s m) g) row) long));
     few = λ s small. (
-        let front = mul-le-mul_right (2 ^ left) (sum_by-take-le (λ (o : Open). o.ways) row k) in let t = weigh-times (2 ^ left) in
-        let all = merged.all (λ r x. 2 ^ left) in
-        omega (arith, others-few taken-are s small, double-times (prefixes row) left, front, all, t next, t others, t (take k row)));
+        let front = mul-le-mul_right (2 ^ left) (sum_by-take-le (λ (o : Open). o.ways) row k) in
+        let t = weigh-times (2 ^ left) in
+        omega (arith, others-few taken-are s small, double-times (prefixes row) left, front, merged.all (λ r x. 2 ^ left), t next, t others,
+        t (take k row)));
     sizes = λ p all. merged.sizes (p + 1)
         (All-take (λ (o : Open). o.size ≤ p + 1) k row (λ i d lt. (let le = all i d lt in omega (arith, le)))) (taken-are.sizes p all);
   }

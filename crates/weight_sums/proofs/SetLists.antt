@@ -59,9 +59,9 @@ over-none : (short : Bool) (ws : List ℕ) (g : Set → ℕ) → ((x : Set) → 
 unfolding over
 over-none short [] g none = grind (arith, nat_tests)
 over-none short (w ∷ ws) g none =
-    let total : sum (w ∷ ws) ≡ w + sum ws = sum_by-cons (λ (y : ℕ). y) w ws in let pos = pow_pos (length ws) in
-    let out = over-none short ws (λ x. g (left x)) (λ x h. none (left x) (grind (arith))) in
-    let with_it = over-none short ws (λ x. g (joined w x)) (λ x h. none (joined w x) (grind (arith))) in grind (arith, nat_tests)
+    let total : sum (w ∷ ws) ≡ w + sum ws = sum_by-cons (λ (y : ℕ). y) w ws in
+    grind (arith, nat_tests, pow_pos (length ws), over-none short ws (λ x. g (left x)) (λ x h. none (left x) (grind (arith))),
+    over-none short ws (λ x. g (joined w x)) (λ x h. none (joined w x) (grind (arith))))
 
 -- how many sets there are
 sum-ones : (xs : List Set) → sum_by (λ x. 1) xs ≡ length xs
@@ -79,15 +79,14 @@ module _ {short : Bool} {ws : List ℕ} {xs : List Set} (are : AreSets short ws 
   within : All (IsWithin (length ws) (sum ws)) xs
   within i d lt =
       let past : Set → ℕ = λ x. (x.weight - sum ws) + (x.size - length ws) + (x.members + 1 - 2 ^ length ws) in
-      let here = get_or-le-sum_by past xs i d lt in let none = over-none short ws past (λ x h. grind (arith)) in
-      let is = are.same past in grind (arith)
+      grind (arith, get_or-le-sum_by past xs i d lt, over-none short ws past (λ x h. grind (arith)), are.same past)
 
   -- there is room for a member more
   pub roomy : (w : ℕ) (all : List ℕ) → all ≡ w ∷ ws → length all ≤ 20 → sum all ≤ 2 ^ 63 → All (HasRoom w) xs
   roomy w all is few light i d lt =
-      let h = within i d lt in let few-behind : length ws ≤ 20 = omega (arith, few, ap (λ (l : List ℕ). length l) is) in
-      let up : 2 ^ length ws ≤ 2 ^ 20 = pow_mono few-behind in let parts = ap sum is ∙ sum_by-cons (λ (y : ℕ). y) w ws in
-      grind (arith)
+      let few-behind : length ws ≤ 20 = omega (arith, few, ap (λ (l : List ℕ). length l) is) in
+      let up : 2 ^ length ws ≤ 2 ^ 20 = pow_mono few-behind in
+      grind (arith, within i d lt, sum_by-cons (λ (y : ℕ). y) w ws)
 
   -- the sets of at most 20 members are those of a half
   pub half-is : length ws ≤ 20 → IsHalf xs
@@ -95,7 +94,7 @@ module _ {short : Bool} {ws : List ℕ} {xs : List Set} (are : AreSets short ws 
       let up : 2 ^ length ws ≤ 2 ^ 20 = pow_mono few in record {
         ascend = are.ascend;
         long = omega (arith, sum-ones xs, are.same (λ x. 1), over-ones short ws, up);
-        sizes = λ i d lt. (let h = within i d lt in omega (arith, h.size_in, few));
+        sizes = λ i d lt. grind (arith, within i d lt);
       }
 
   -- and so is a copy of them

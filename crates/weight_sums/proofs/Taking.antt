@@ -20,9 +20,7 @@ fill-most heads s left size = grind (arith, nat_tests, pow_pos left, choose-most
 -- what is counted of one prefix that is complete: at one size, this many times
 times-most : (n ways heads left size times : ℕ) → times ≡ cond (ltb heads size) 1 (choose left (heads - size))
     → n + ways * 2 ^ left < 2 ^ 64 → n + ways * times < 2 ^ 64
-times-most n ways heads left size times is room =
-    let most : times ≤ 2 ^ left = grind (arith, nat_tests, pow_pos left, choose-most left (heads - size)) in
-    omega (arith, room, mul-le-mul_left ways most)
+times-most n ways heads left size times is room = grind (arith, pow_pos, choose-most, mul-le-mul_left)
 
 pub times-fit : (ways heads left size times : ℕ) (done : List ℕ) → times ≡ cond (ltb heads size) 1 (choose left (heads - size))
     → ((s : ℕ) → s ≤ 40 → get_or done s 0 + ways * 2 ^ left < 2 ^ 64) → (s : ℕ) → s ≤ 40 → get_or done s 0 + ways * times < 2 ^ 64
@@ -36,8 +34,7 @@ pub complete : (w need size heads left ways end times s : ℕ) (g : ℕ → ℕ 
     → times ≡ cond (ltb heads (size + 1)) 1 (choose left (heads - (size + 1))) → end < length done
     → get_or (set done end (get_or done end 0 + ways * times)) s 0 ≡ get_or done s 0 + ways * taken w (fill heads s left) g need size
 complete w need size heads left ways end times s g done met end-is times-is within =
-    let one : times * one_of_size s end ≡ taken w (fill heads s left) g need size = grind (arith, nat_tests) in
-    omega (arith, bumped done end s (ways * times) within, ap (λ (k : ℕ). ways * k) one)
+    grind (arith, nat_tests, bumped done end s (ways * times) within)
 
 pub put-down : (w need size heads left ways s : ℕ) (g : ℕ → ℕ → ℕ) (others after : List Open) → w < need
     → after ≡ others ++ record { need = need - w; size = size + 1; ways = ways } ∷ []
@@ -62,8 +59,7 @@ pub others-few : {w heads left : ℕ} {before done : List ℕ} {all row others :
     → AreTaken w heads left before done all row others → (s : ℕ) → s ≤ 40
     → get_or done s 0 + prefixes others * 2 ^ left ≤ get_or before s 0 + prefixes row * 2 ^ left
 others-few {w = w} {heads = heads} {left = left} {row = row} {others = others} are s small =
-    let taken-few = weigh-most (taken w (fill heads s left) (λ x y. 2 ^ left)) (2 ^ left) row (taken-most w heads left s) in
-    omega (arith, are.counted (λ r a. 2 ^ left) s small, weigh-times (2 ^ left) others, taken-few)
+    grind (arith, weigh-most, taken-most, weigh-times)
 
 -- there is room for what is counted of the next
 pub taken-room : {w heads left : ℕ} {before done : List ℕ} (row : List Open) {others : List Open} (i : ℕ) (d : Open)

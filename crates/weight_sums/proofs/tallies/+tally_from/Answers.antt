@@ -5,19 +5,16 @@ use Rattle.weight_sums.proofs.tallies.+tally_from.Goals as goal
 pub difference-own-requires : goal.difference-own-requires
 unfolding left_out
 difference-own-requires t c s small =
-    let less = (rw c.in-Some.ensures.cases.0 at c.requires.less) 0 s (omega arith) small in
-    let is = rw (c.in_ok-copy.ensures.row, c.in_ok-copy.ensures.done) at c.in_ok-finish.ensures c.if-not-branch.false s small in
-    omega (arith, less, is)
+    grind (arith, c.requires.less 0 s, c.in_ok-finish.ensures c.if-not-branch.false s small)
 
 pub tally_from-requires : goal.tally_from-requires
 tally_from-requires t c =
     let parts = ap sum c.in-Some.ensures.cases.0 ∙ sum_by-cons (λ (y : ℕ). y) c.in-Some.weight.now c.in-Some.later.now in
     let rest : c.args.rest - c.in-Some.weight.now ≡ sum c.in-Some.later.now = omega (arith, parts, c.requires.rest) in
-    let one = c.in-Some.ensures.cases.1 in let some = c.if-later-eq0.false in
-    let few : c.args.place + 1 + length c.in-Some.later.now ≤ 40 = omega (arith, one, c.requires.few) in
-    let row = prefixes-more c.requires.row (omega (arith, one, some)) (omega (arith, one, c.requires.few)) c.in_ok-go_on.ensures in
-    let less = come-less _ _ _ c.in-Some.ensures.cases.0 c.in_ok-go_on.ensures rest (omega (arith, some)) c.requires.less in
-    (omega (arith, one), (few, (rest, (row, less))))
+    let one = c.in-Some.ensures.cases.1 in
+    let row = prefixes-more c.requires.row (omega (arith, one, c.if-later-eq0.false)) (omega (arith, one, c.requires.few)) c.in_ok-go_on.ensures in
+    let less = come-less _ _ _ c.in-Some.ensures.cases.0 c.in_ok-go_on.ensures rest (omega (arith, c.if-later-eq0.false)) c.requires.less in
+    (omega (arith, one), (omega (arith, one, c.requires.few), (rest, (row, less))))
 
 pub returns : goal.returns
 returns t c full =

@@ -3,10 +3,7 @@ use Rattle.weight_sums.proofs.TableSums.{added-none, added-all}
 use Rattle.weight_sums.proofs.table.Table.without.Goals as goal
 
 pub loop-key-init : goal.loop-key-init
-loop-key-init c = record {
-  added = λ key f xs s are small. get_or-zeros 41 s ∙ sym (added-none c.args.place key (f s) xs);
-  room = λ s small. omega (arith, get_or-zeros 41 s);
-}
+loop-key-init c = omega (arith, get_or-zeros, added-none)
 
 pub returns : goal.returns
 returns c key f xs s are keys small =
