@@ -23,14 +23,7 @@ sum-none f n none = sum-down f (λ x. 0) n none ∙ sum-zero (down n)
 sum-one : (f : ℕ → ℕ) (u n : ℕ) → u < n → ((x : ℕ) → x < n → (x ≡ u → ⊥) → f x ≡ 0) → sum_by f (down n) ≡ f u
 unfolding down
 sum-one f u zero lt none = absurd (omega arith)
-sum-one f u (suc n) lt none = elim (cases_eq n u) [
-  | inl here ↦
-      let rest = sum-none f n (λ x low. none x (omega arith) (λ e. omega (arith, e, here))) in
-      omega (arith, sum_by-cons f n (down n), rest, ap f here)
-  | inr other ↦
-      let rest = sum-one f u n (omega (arith, other)) (λ x low. none x (omega arith)) in
-      omega (arith, sum_by-cons f n (down n), none n (omega arith) other, rest)
-]
+sum-one f u (suc n) lt none = grind (arith, cases_eq n u, sum-none f n, sum_by-cons f n (down n), sum-one f u n)
 
 -- those that pass p are one of each pair that passes q
 pub record ArePairs (p : ℕ → Bool) (q : ℕ → ℕ → Bool) (one two : ℕ → ℕ) (both : ℕ → ℕ → ℕ) (n a b : ℕ) : Type 0 where
@@ -97,70 +90,31 @@ pub least-seen : {n : ℕ} (side : ℕ → Bool) {won : (ℕ → Bool) → Bool}
     → (i : ℕ) → i < n → f i ≡ true → side i ≡ true
 least-seen side {won = won} {f = f} sees least i lt inside = grind (arith, nat_tests, true_from_ne_false, both_ways, less)
 
--- ---- of tests
--- a set without one of the other side keeps its own
-kept : (f side : ℕ → Bool) (i j : ℕ) → side i ≡ false → side j ≡ true → less f i j ≡ f j
-kept f side i j out in' = grind (arith, nat_tests)
-
--- what is on a side each is, together, of each side what it was
-sides : (x y own other : Bool) → (x ≡ true → own ≡ true) → (y ≡ true → other ≡ true) → (own ≡ true → other ≡ false)
-    → (((x || y) && own) ≡ x) × (((x || y) && other) ≡ y) × (x ≡ true → y ≡ false)
-sides x y own other of_x of_y apart = (grind (arith, nat_tests), grind (arith, nat_tests), λ h. grind (arith, nat_tests))
-
-whole : (c own other : Bool) → (c ≡ true → (own || other) ≡ true) → c ≡ ((c && own) || (c && other))
-whole c own other on = grind (arith, nat_tests)
-
-lost : (x y a b : Bool) → (x || y) ≡ true → (x ≡ true → a ≡ false) → (y ≡ true → b ≡ false) → (a && b) ≡ false
-lost x y a b some lost_a lost_b = grind (arith, nat_tests)
-
-one-each : (x y : Bool) → (x ≡ true → y ≡ false) → one_if (x || y) ≡ one_if x + one_if y
-one-each x y apart = grind (arith, nat_tests)
-
 module _ {n : ℕ} {own other : ℕ → Bool} {won_g won_a won_b : (ℕ → Bool) → Bool} (joint : IsJoint n own other won_g won_a won_b) where
   -- a least set is, of each side, a least set
   pub least-half : {c : ℕ → Bool} (x : ℕ → Bool) → IsLeast n won_g c → ((i : ℕ) → i < n → x i ≡ (c i && own i)) → IsLeast n won_a x
-  least-half {c = c} x least is =
-      let (in_a, in_b) = and_parts (won_a c) (won_b c) (sym (joint.both c) ∙ least.wins) in
-      let mine = λ (i : ℕ) (lt : i < n) (h : own i ≡ true). is i lt ∙ ap (λ (b : Bool). c i && b) h ∙ and-true (c i) in record {
-        wins = joint.sees_own x c mine ∙ in_a;
-        needs = λ i lt inside.
-            (let (in_c, in_own) = and_parts (c i) (own i) (sym (is i lt) ∙ inside) in
-            let unseen = joint.sees_other (less c i) c (λ j lj h. kept c other i j (joint.apart i lt in_own) h) in
-            joint.sees_own (less x i) (less c i) (λ j lj h. ap (λ (b : Bool). b && not (eqb j i)) (mine j lj h))
-            ∙ sym (and-true (won_a (less c i))) ∙ ap (λ (b : Bool). won_a (less c i) && b) (sym (unseen ∙ in_b))
-            ∙ sym (joint.both (less c i)) ∙ least.needs i lt in_c);
-      }
+  least-half {c = c} x least is = grind (arith, nat_tests)
 
   -- each of its members is on a side
   pub least-sides : {c : ℕ → Bool} → IsLeast n won_g c → (i : ℕ) → i < n → c i ≡ true → (own i || other i) ≡ true
-  least-sides {c = c} least i lt inside =
-      true_from_ne_false (own i || other i) (λ none.
-      let (not_own, not_other) = or_parts (own i) (other i) none in
-      let own-same = joint.sees_own (less c i) c (λ j lj h. kept c own i j not_own h) in
-      let other-same = joint.sees_other (less c i) c (λ j lj h. kept c other i j not_other h) in
-      let same = joint.both (less c i) ∙ (λ k. own-same k && other-same k) ∙ sym (joint.both c) in
-      both_ways (won_g c) (sym same ∙ least.needs i lt inside) least.wins)
+  least-sides {c = c} least i lt inside = grind (arith, nat_tests)
 
   module _ {x y : ℕ → Bool} (least_x : IsLeast n won_a x) (least_y : IsLeast n won_b y) where
     -- of the two together, those of each side are the one set and the other, and these share no member
     pub least-parts : (i : ℕ) → i < n → (((x i || y i) && own i) ≡ x i) × (((x i || y i) && other i) ≡ y i) × (x i ≡ true → y i ≡ false)
     least-parts i lt =
-        let of_x = least-seen own joint.sees_own least_x i lt in
-        sides (x i) (y i) (own i) (other i) of_x (least-seen other joint.sees_other least_y i lt) (joint.apart i lt)
+        grind (arith, nat_tests, least-seen own joint.sees_own least_x i lt, least-seen other joint.sees_other least_y i lt, joint.apart i lt)
 
     -- two least sets together are a least set
     pub least-union : (c : ℕ → Bool) → ((i : ℕ) → i < n → c i ≡ (x i || y i)) → IsLeast n won_g c
     least-union c is =
-        let on = λ (i : ℕ) (lt : i < n) (side : Bool) (h : side ≡ true).
-        is i lt ∙ sym (and-true (x i || y i)) ∙ ap (λ (b : Bool). (x i || y i) && b) (sym h) in
-        let of_x = λ (i : ℕ) (lt : i < n) (h : own i ≡ true). on i lt (own i) h ∙ (least-parts i lt).0 in
-        let of_y = λ (i : ℕ) (lt : i < n) (h : other i ≡ true). (let (_, in_y, _) = least-parts i lt in on i lt (other i) h ∙ in_y) in record {
-          wins = joint.both c ∙ and_from _ _ (joint.sees_own c x of_x ∙ least_x.wins) (joint.sees_other c y of_y ∙ least_y.wins);
+        let of_x : (i : ℕ) → i < n → own i ≡ true → c i ≡ x i = λ i lt h. grind (arith, nat_tests, is i lt, least-parts i lt) in
+        let of_y : (i : ℕ) → i < n → other i ≡ true → c i ≡ y i = λ i lt h. grind (arith, nat_tests, is i lt, least-parts i lt) in record {
+          wins = grind (arith, nat_tests, joint.both c, joint.sees_own c x of_x, joint.sees_other c y of_y);
           needs = λ i lt inside. (
               let less_x = joint.sees_own (less c i) (less x i) (λ j lj h. ap (λ (b : Bool). b && not (eqb j i)) (of_x j lj h)) in
               let less_y = joint.sees_other (less c i) (less y i) (λ j lj h. ap (λ (b : Bool). b && not (eqb j i)) (of_y j lj h)) in
-              joint.both (less c i) ∙ lost (x i) (y i) (won_a (less c i)) (won_b (less c i)) (sym (is i lt) ∙ inside)
-              (λ h. less_x ∙ least_x.needs i lt h) (λ h. less_y ∙ least_y.needs i lt h));
+              grind (arith, nat_tests, joint.both (less c i), is i lt, least_x.needs i lt, least_y.needs i lt));
         }
 
 -- ---- coalitions that hold the least sets
@@ -170,8 +124,9 @@ half-seen : {n a : ℕ} {own other : ℕ → Bool} {won_g won_a won_b : (ℕ →
     → ((i : ℕ) → i < n → seen a ra (as_mask a ra (λ i. c i && own i)) i ≡ (c i && own i))
     × (min_a (as_mask a ra (λ i. c i && own i)) ≡ true)
 half-seen {a = a} {own = own} {ra = ra} joint ha c least =
-    let f : ℕ → Bool = λ i. c i && own i in let same = mask-seen ha.seats f (ha.inside f (least-half joint f least (λ i lt. refl))) in
-    (same, (ha.least _ (mask-less a ra f)).1 (least-half joint _ least same))
+    let f : ℕ → Bool = λ i. c i && own i in
+    let same = mask-seen ha.seats f (ha.inside f (least-half joint f least (λ i lt. refl))) in
+    (same, grind (arith, ha.least, mask-less a ra f, least-half joint _ least same))
 
 module _ {n m a b : ℕ} {own other : ℕ → Bool} {won_g won_a won_b : (ℕ → Bool) → Bool} {rg ra rb : List ℕ} {min_g min_a min_b : ℕ → Bool}
     (joint : IsJoint n own other won_g won_a won_b) (hg : Holds n won_g m rg min_g) (ha : Holds n won_a a ra min_a) (hb : Holds n won_b b rb min_b)
@@ -197,8 +152,7 @@ module _ {n m a b : ℕ} {own other : ℕ → Bool} {won_g won_a won_b : (ℕ �
       size-union =
           sym (seen-size hg.seats (union x y))
           ∙ sum-parts (λ i. one_if (seen m rg (union x y) i)) (λ i. one_if (seen a ra x i)) (λ i. one_if (seen b rb y i)) n
-          (λ i lt. ap one_if (joined i lt) ∙ one-each (seen a ra x i) (seen b rb y i) (apart i lt))
-          ∙ (λ k. seen-size ha.seats x k + seen-size hb.seats y k)
+          (λ i lt. grind (arith, nat_tests, joined i lt, apart i lt)) ∙ (λ k. seen-size ha.seats x k + seen-size hb.seats y k)
 
     pairs : ArePairs min_g (λ x y. min_a x && min_b y) (λ c. as_mask a ra (λ i. seen m rg c i && own i))
         (λ c. as_mask b rb (λ i. seen m rg c i && other i)) union (2 ^ m) (2 ^ a) (2 ^ b)
@@ -212,16 +166,15 @@ module _ {n m a b : ℕ} {own other : ℕ → Bool} {won_g won_a won_b : (ℕ �
           let (in_x, min_x) = half-seen joint ha (seen m rg c) least in
           let (in_y, min_y) = half-seen (flipped-joint joint) hb (seen m rg c) least in (
             and_from _ _ min_x min_y,
-            sym (mask-is hg.seats _ c lc (λ i lt. whole (seen m rg c i) (own i) (other i) (least-sides joint least i lt)
-                ∙ (λ k. sym (in_x i lt) k || sym (in_y i lt) k))),
+            sym (mask-is hg.seats _ c lc (λ i lt. grind (arith, nat_tests, least-sides joint least i lt, in_x i lt, in_y i lt))),
           ));
       whole = λ x y lx ly min.
           (let (least_x, least_y) = least-both x y lx ly min in
           let parts = least-parts joint least_x least_y in
           let in_g = joined x y lx ly min in (
             (hg.least _ (mask-less m rg _)).1 (least-union joint least_x least_y _ in_g),
-            sym (mask-is ha.seats _ x lx (λ i lt. sym (ap (λ (b : Bool). b && own i) (in_g i lt) ∙ (parts i lt).0))),
-            sym (mask-is hb.seats _ y ly (λ i lt. (let (_, in_y, _) = parts i lt in sym (ap (λ (b : Bool). b && other i) (in_g i lt) ∙ in_y)))),
+            sym (mask-is ha.seats _ x lx (λ i lt. grind (arith, in_g i lt, parts i lt))),
+            sym (mask-is hb.seats _ y ly (λ i lt. grind (arith, in_g i lt, parts i lt))),
           ));
     }
 
@@ -240,22 +193,15 @@ alike-count {n = n} {a = a} {b = b} {won = won} {ra = ra} {rb = rb} {own = own} 
     ∙ sum-down _ _ (2 ^ b) (λ x lx. omega arith) ∙ sym (count-both other u (down (2 ^ b)))
   where
     joint : IsJoint n (λ i. true) (λ i. false) won won (λ f. true)
-    joint = record {
-      both = λ f. sym (and-true (won f));
-      sees_own = λ f h alike. looks f h (λ i lt. alike i lt refl);
-      sees_other = λ f h alike. refl;
-      apart = λ i lt in'. refl;
-    }
+    joint = grind (arith, nat_tests)
 
     -- nobody has a place
     none : Holds n (λ f. true) 0 rb (λ c. true)
     none = record {
       seats = record { few = omega arith; are = hb.seats.are; each = hb.seats.each };
-      least = λ c lt. (λ h. record { wins = refl; needs = λ i li in'. grind (arith, nat_tests) }, λ h. refl);
-      inside = λ f least i lt in'. absurd (both_ways true (least.needs i lt in') refl);
+      least = λ c lt. grind (arith, nat_tests);
+      inside = λ f least i lt in'. grind (arith);
     }
 
     each : (x y : ℕ) → x < 2 ^ b → y < 2 ^ 0 → (m : Bool) → other x ≡ m → one_if ((m && true) && t (union joint ha hb none x y)) ≡ one_if (m && u x)
-    each x y lx ly false is = refl
-    each x y lx ly true is = ap (λ (b : Bool). one_if b) (same (union joint ha hb none x y) x (λ i lt.
-        joined joint ha hb none x y lx ly (grind (arith, nat_tests)) i lt ∙ grind (arith, nat_tests)))
+    each x y lx ly m is = grind (arith, nat_tests, same (union joint ha hb none x y) x, joined joint ha hb none x y lx ly)

@@ -23,7 +23,8 @@ pub pairs-of_size : (m n p q : ℕ → Bool) (k l : ℕ → ℕ) (xs ys : List �
     → sum_by (λ x. sum_by (λ y. one_if ((m x && n y) && ((p x && q y) && (k x + l y == s)))) ys) xs
     ≡ paired (λ j. length (filter (λ x. p x && (k x == j)) (filter m xs))) (λ j. length (filter (λ y. q y && (l y == j)) (filter n ys))) s
 pairs-of_size m n p q k l xs ys s =
-    let others : ℕ → ℕ = λ j. length (filter (λ y. q y && (l y == j)) (filter n ys)) in let passes : ℕ → Bool = λ x. m x && (p x && leb (k x) s) in
+    let others : ℕ → ℕ = λ j. length (filter (λ y. q y && (l y == j)) (filter n ys)) in
+    let passes : ℕ → Bool = λ x. m x && (p x && leb (k x) s) in
     (λ i. sum_by (λ x. row n q l (m x) (p x) (k x) s ys i) xs) ∙ sym (sum-filter (λ x. others (s - k x)) passes xs)
     ∙ sym (sum-by_size (λ j. others (s - j)) k passes 0 (s + 1) xs (λ x in'. grind (arith, nat_tests)))
     ∙ sum-range (λ j. length (filter (λ x. passes x && (k x == j)) xs) * others (s - j))
@@ -42,9 +43,9 @@ module _ (g a b : GameView) (is_g : IsGame g) (is_a : IsGame a) (is_b : IsGame b
   joint : IsJoint n (has_weight a.rules) (has_weight b.rules) (met n g.rules) (met n a.rules) (met n b.rules)
   joint = record {
     both = are.both;
-    sees_own = λ f h same. met-seen n a.rules f h same;
-    sees_other = λ f h same. met-seen n b.rules f h same;
-    apart = λ i lt seen. let side = are.apart i lt in grind (arith, nat_tests, no-weight a.rules i, no-weight b.rules i);
+    sees_own = met-seen n a.rules;
+    sees_other = met-seen n b.rules;
+    apart = λ i lt seen. grind (arith, nat_tests, are.apart i lt, no-weight a.rules i, no-weight b.rules i);
   }
 
   abbrev hg : Holds n (met n g.rules) n g.ranks (minimal (votes_of g))
@@ -93,9 +94,10 @@ module _ (g a b : GameView) (is_g : IsGame g) (is_a : IsGame a) (is_b : IsGame b
           → one_if (min_pair x y && (contains g i (union joint hg ha hb x y) && (size_of g (union joint hg ha hb x y) == s)))
           ≡ of_a i s x y + of_b i s x y
       each x y lx ly =
-          let in_g = seen-contains is_g (union joint hg ha hb x y) i lt in let both = joined joint hg ha hb x y lx ly in
-          let size = size-union joint hg ha hb x y lx ly in let one = apart joint hg ha hb x y lx ly in
-          grind (arith, nat_tests, in_g, both, size, one, are.first, are.second, seen-contains is_a x i, seen-contains is_b y i)
+          let both = joined joint hg ha hb x y lx ly in
+          let size = size-union joint hg ha hb x y lx ly in
+          grind (arith, nat_tests, both, size, apart joint hg ha hb x y lx ly, seen-contains is_g (union joint hg ha hb x y) i lt, are.first,
+          are.second, seen-contains is_a x i, seen-contains is_b y i)
 
 -- ---- as the code counts them, size by size
 -- no coalition has more members than there are
@@ -110,7 +112,7 @@ none-of_member_size g m (c ∷ list) s above = grind (arith, nat_tests, none-of_
 pub ruleset above = (none-of_size, none-of_member_size)
 
 few-of : (g : GameView) (p : ℕ → Bool) → IsGame g → length (filter p (minimal_coalitions (votes_of g))) ≤ 2 ^ 40
-few-of g p is = let a = length-filter-le p (minimal_coalitions (votes_of g)) in let b = minimal-few g is in omega (arith, a, b)
+few-of g p is = omega (arith, length-filter-le p (minimal_coalitions (votes_of g)), minimal-few g is)
 
 -- the pairs of a size, and those of them that contain a member
 abbrev pub size-pairs : GameView → GameView → ℕ → ℕ → ℕ
@@ -122,14 +124,13 @@ place-pairs a b i s j = of_member_size a i j * of_size b (s - j) + of_size a j *
 module _ (g a b : GameView) (is_g : IsGame g) (is_a : IsGame a) (is_b : IsGame b) (are : AreChambersOf g a b) where
   pub all-pairs : (s n x : ℕ) → x ≡ sum_by (size-pairs a b s) (range_with_len 0 n) → n ≡ s + 1 → x ≡ minimal_of_size g s
   unfolding of_size
-  all-pairs s n x is e =
-      is ∙ ap (λ (n : ℕ). sum_by (size-pairs a b s) (range_with_len 0 n)) e ∙ sym (chamber-sizes g a b is_g is_a is_b are s)
+  all-pairs s n x is e = grind (arith, chamber-sizes g a b is_g is_a is_b are s)
 
   pub pairs-more : (s j : ℕ) → j < s + 1 → size-pairs a b s j + sum_by (size-pairs a b s) (range_with_len 0 j) ≤ 2 ^ 40
   unfolding of_size
   pairs-more s j lt =
-      let f : ℕ → ℕ = size-pairs a b s in let part = sum_by-range-le f (j + 1) (s + 1) (omega (arith, lt)) in
-      omega (arith, sum_by-range-more f j, part, all-pairs s (s + 1) _ refl refl, few-of g (λ c. size_of g c == s) is_g)
+      grind (arith, sum_by-range-le (size-pairs a b s) (j + 1) (s + 1), sum_by-range-more (size-pairs a b s) j, all-pairs s (s + 1),
+      few-of g (λ c. size_of g c == s) is_g)
 
   pub each-pairs : (i p s n x : ℕ) → x ≡ sum_by (place-pairs a b i s) (range_with_len 0 n) → n ≡ s + 1 → i < length g.names
       → get_or g.ranks i 0 ≡ p → x ≡ of_place_size g p s
@@ -143,9 +144,8 @@ module _ (g a b : GameView) (is_g : IsGame g) (is_a : IsGame a) (is_b : IsGame b
   pub each-more : (i s j : ℕ) → i < length g.names → j < s + 1 → place-pairs a b i s j + sum_by (place-pairs a b i s) (range_with_len 0 j) ≤ 2 ^ 40
   unfolding of_place_size
   each-more i s j lt within =
-      let f : ℕ → ℕ = place-pairs a b i s in let part = sum_by-range-le f (j + 1) (s + 1) (omega (arith, within)) in
-      let few = few-of g (λ c. has (length g.names) (get_or g.ranks i 0) c && (size_of g c == s)) is_g in
-      omega (arith, sum_by-range-more f j, part, each-pairs i (get_or g.ranks i 0) s (s + 1) _ refl refl lt refl, few)
+      grind (arith, sum_by-range-le (place-pairs a b i s) (j + 1) (s + 1), sum_by-range-more (place-pairs a b i s) j,
+      each-pairs i (get_or g.ranks i 0) s (s + 1), few-of g (λ c. has (length g.names) (get_or g.ranks i 0) c && (size_of g c == s)) is_g)
 
   pub each-other : (i s j : ℕ) → i < length g.names → j < s + 1 → of_size a j * of_member_size b i (s - j) ≤ 2 ^ 40
   each-other i s j lt within = omega (arith, each-more i s j lt within)

@@ -63,22 +63,16 @@ mask-less m ranks f = mask-below (λ p. f (member_at ranks p)) m
 
 -- a sum whose last numbers are 0
 sum-cut : (f : ℕ → ℕ) (m n : ℕ) → m ≤ n → ((p : ℕ) → m ≤ p → p < n → f p ≡ 0) → sum_by f (range_with_len 0 n) ≡ sum_by f (range_with_len 0 m)
-sum-cut f m zero le none = ap (λ (k : ℕ). sum_by f (range_with_len 0 k)) (let e : 0 ≡ m = omega (arith, le) in e)
-sum-cut f m (suc n) le none = elim (cases_eq m (suc n)) [
-  | inl e ↦ ap (λ (k : ℕ). sum_by f (range_with_len 0 k)) (sym e)
-  | inr other ↦
-      let rest = sum-cut f m n (omega (arith, le, other)) (λ p from lt. none p from (omega (arith, lt))) in
-      omega (arith, rest, none n (omega (arith, le, other)) (omega arith), one-more f n)
-]
+sum-cut f m zero le none = grind (arith)
+sum-cut f m (suc n) le none = grind (arith, cases_eq m (suc n), sum-cut f m n, one-more f n)
 
 module _ {n m : ℕ} {ranks : List ℕ} (is : IsSeating n m ranks) where
   pub seen-at : (c p : ℕ) → p < m → seen m ranks c (member_at ranks p) ≡ has m p c
-  seen-at c p lt = let back = is.are.place_back p (let few = is.few in omega (arith, lt, few)) in grind (arith, nat_tests)
+  seen-at c p lt = grind (arith, nat_tests, is.are.place_back p, is.few)
 
   pub mask-seen : (f : ℕ → Bool) → ((i : ℕ) → i < n → f i ≡ true → get_or ranks i 0 < m) → (i : ℕ) → i < n → seen m ranks (as_mask m ranks f) i ≡ f i
   unfolding as_mask
-  mask-seen f within i li =
-      grind (arith, nat_tests, within i li, mask-has (λ p. f (member_at ranks p)) m (get_or ranks i 0), ap f (is.are.member_back i li))
+  mask-seen f within i li = grind (arith, nat_tests, within i li, mask-has, is.are.member_back i li)
 
   pub mask-is : (f : ℕ → Bool) (c : ℕ) → c < 2 ^ m → ((i : ℕ) → i < n → seen m ranks c i ≡ f i) → c ≡ as_mask m ranks f
   unfolding as_mask
@@ -88,9 +82,8 @@ module _ {n m : ℕ} {ranks : List ℕ} (is : IsSeating n m ranks) where
 
   seen-less : (c i j : ℕ) → i < n → j < n → seen m ranks c i ≡ true → seen m ranks (without m (get_or ranks i 0) c) j ≡ less (seen m ranks c) i j
   seen-less c i j li lj inside =
-      let apart : get_or ranks j 0 ≡ get_or ranks i 0 → j ≡ i = λ e.
-      sym (is.are.member_back j lj) ∙ ap (member_at ranks) e ∙ is.are.member_back i li in
-      grind (arith, nat_tests, cases_eq j i, has-gone m (get_or ranks i 0) c, has-kept m (get_or ranks j 0) (get_or ranks i 0) c)
+      grind (arith, nat_tests, cases_eq j i, has-gone m (get_or ranks i 0) c, has-kept m (get_or ranks j 0) (get_or ranks i 0) c,
+      is.are.member_back j lj, is.are.member_back i li)
 
   -- a sum over the members, by place, where those with no place add nothing
   pub placed-sum : (u : ℕ → ℕ) → ((i : ℕ) → i < n → m ≤ get_or ranks i 0 → u i ≡ 0)
@@ -102,10 +95,7 @@ module _ {n m : ℕ} {ranks : List ℕ} (is : IsSeating n m ranks) where
 
   pub seen-sum : (t : ℕ → Bool → ℕ) → ((i : ℕ) → t i false ≡ 0) → (c : ℕ)
       → sum_by (λ i. t i (seen m ranks c i)) (range_with_len 0 n) ≡ sum_by (λ p. t (member_at ranks p) (has m p c)) (range_with_len 0 m)
-  seen-sum t none c =
-      placed-sum (λ i. t i (seen m ranks c i)) (λ i _ from. ap (λ (b : Bool). t i (b && has m (get_or ranks i 0) c)) (le-ltb _ m from) ∙ none i)
-      ∙ sum-range (λ p. t (member_at ranks p) (seen m ranks c (member_at ranks p))) (λ p. t (member_at ranks p) (has m p c)) 0 m
-      (λ p _ lt. ap (t (member_at ranks p)) (seen-at c p (omega (arith, lt))))
+  seen-sum t none c = grind (arith, placed-sum, le-ltb, sum-range, seen-at)
 
   pub seen-size : (c : ℕ) → sum_by (λ i. one_if (seen m ranks c i)) (range_with_len 0 n) ≡ size m c
   seen-size c = seen-sum (λ i b. one_if b) (λ i. refl) c ∙ sym (length-filter (λ p. has m p c) (range_with_len 0 m))
@@ -114,18 +104,8 @@ module _ {n m : ℕ} {ranks : List ℕ} (is : IsSeating n m ranks) where
   pub least-min : (won : (ℕ → Bool) → Bool) → LooksAt n won → (c : ℕ) → IsLeast n won (seen m ranks c) ↔ IsMin m (λ x. won (seen m ranks x)) c
   least-min won looks c =
       let fewer = λ (i : ℕ) (li : i < n) (inside : seen m ranks c i ≡ true).
-      looks (seen m ranks (without m (get_or ranks i 0) c)) (less (seen m ranks c) i) (λ j lj. seen-less c i j li lj inside) in (
-        λ least. record {
-          wins = least.wins;
-          needs = λ p lt inside.
-              (let at = seen-at c p lt in
-              grind (arith, at, is.few, is.are.member_below p, is.are.place_back p, fewer (member_at ranks p), least.needs (member_at ranks p)));
-        },
-        λ min. record {
-          wins = min.wins;
-          needs = λ i lt inside. grind (arith, nat_tests, fewer i lt inside, min.needs (get_or ranks i 0));
-        },
-      )
+      looks (seen m ranks (without m (get_or ranks i 0) c)) (less (seen m ranks c) i) (λ j lj. seen-less c i j li lj inside) in
+      grind (arith, nat_tests, fewer, seen-at c, is.few, is.are.member_below, is.are.place_back)
 
 -- the same set of two rankings has one size
 pub alike-size : {n a b : ℕ} {ra rb : List ℕ} → IsSeating n a ra → IsSeating n b rb → (c x : ℕ)

@@ -1,5 +1,5 @@
 -- The rules that share a member with one, and the others.
-use Rattle.mwc_sums.proofs.Imports.{length, get_or, All-from_get_or, RuleView, rule_at, GameView, nat_tests, met, share, chamber_of, filter}
+use Rattle.mwc_sums.proofs.Imports.{◌-◌, length, get_or, All-from_get_or, RuleView, rule_at, GameView, nat_tests, met, share, chamber_of, filter}
 use Rattle.mwc_sums.proofs.Imports.{List, [], ◌∷◌, HasNoWeight, AreChambersOf, are_of_one_chamber, is_counted, statute, IsFair, AreRulesOf}
 use Rattle.mwc_sums.proofs.Imports.{filter-both, ◌≡◌, ◌≢◌, ◌∙◌, ◌&&◌, ◌||◌, not, ◌⊎◌, ℕ, zero, suc, ◌+◌, ◌<◌, ◌≤◌, Bool, true, false, ltb}
 use Rattle.mwc_sums.proofs.Imports.{take, sym, ap, true_from_ne_false, length-filter_both, AllPass-from_list_all, list_all-from_AllPass}
@@ -17,18 +17,15 @@ share-turned : (n : ℕ) (a b : RuleView) → share n a b ≡ true → share n b
 share-turned n a b they = grind (arith, nat_tests, share-at, any-of)
 
 share-self : (n : ℕ) (r : RuleView) → IsFair n r → share n r r ≡ true
-share-self n r fair = elim (missing (λ i. ltb 0 (get_or r.weights i 0)) (λ i. false) n) [
-  | inl found ↦ let some = ltb-true 0 _ found.2 in share-at n found.0 r r found.1 some some
-  | inr none ↦ absurd (
-      let total = alike-sum r.weights 0 (λ p lt. grind (arith, nat_tests)) in grind (arith, good-met r fair.quota, good-some r fair.quota, total))
-]
+share-self n r fair =
+    grind (arith, nat_tests, missing (λ i. ltb 0 (get_or r.weights i 0)) (λ i. false) n, share-at n, alike-sum r.weights 0,
+    good-met r fair.quota, good-some r fair.quota)
 
 -- ---- lists
 -- what passes a test stands among what passes it
 in-filter : {X : Type 0} (p : X → Bool) (xs : List X) (j : ℕ) (d : X) → j < length xs → p (get_or xs j d) ≡ true → 0 < length (filter p xs)
 in-filter p [] j d lt passes = absurd (omega (arith, lt))
-in-filter p (x ∷ xs) zero d lt passes = grind (arith, nat_tests)
-in-filter p (x ∷ xs) (suc j) d lt passes = grind (arith, nat_tests, in-filter p xs j d (omega (arith, lt)) passes)
+in-filter p (x ∷ xs) j d lt passes = grind (arith, nat_tests, in-filter p xs (j - 1) d)
 
 met-parted : (n : ℕ) (p : RuleView → Bool) (rs : List RuleView) (f : ℕ → Bool)
     → met n rs f ≡ (met n (filter p rs) f && met n (filter (λ r. not (p r)) rs) f)
@@ -49,11 +46,8 @@ all-pass q (r ∷ rs) none = grind (arith, nat_tests, all-pass q rs)
 two-pass : {X : Type 0} (p : X → Bool) (xs : List X) (j k : ℕ) (d : X) → j ≢ k → j < length xs → k < length xs → p (get_or xs j d) ≡ true
     → p (get_or xs k d) ≡ true → 2 ≤ length (filter p xs)
 two-pass p [] j k d other lj lk pj pk = absurd (omega (arith, lj))
-two-pass p (x ∷ xs) zero zero d other lj lk pj pk = absurd (other refl)
-two-pass p (x ∷ xs) zero (suc k) d other lj lk pj pk = grind (arith, nat_tests, in-filter p xs k d (omega (arith, lk)) pk)
-two-pass p (x ∷ xs) (suc j) zero d other lj lk pj pk = grind (arith, nat_tests, in-filter p xs j d (omega (arith, lj)) pj)
-two-pass p (x ∷ xs) (suc j) (suc k) d other lj lk pj pk =
-    grind (arith, nat_tests, two-pass p xs j k d (λ e. other (ap suc e)) (omega (arith, lj)) (omega (arith, lk)) pj pk)
+two-pass p (x ∷ xs) j k d other lj lk pj pk =
+    grind (arith, nat_tests, in-filter p xs (j - 1) d, in-filter p xs (k - 1) d, two-pass p xs (j - 1) (k - 1) d)
 
 -- what holds of each that passes
 all-passing : (P : RuleView → Type 0) (p : RuleView → Bool) (rs : List RuleView)
@@ -88,10 +82,8 @@ module _ (n : ℕ) (rs : List RuleView) (fair : All (IsFair n) rs) where
       → are_of_one_chamber n (chamber_of n rs (rule k)) ≡ true → share n (rule k) (rule m) ≡ true → share n (rule j) (rule m) ≡ true
   unfolding side
   no-third j k m lj lk lm they of third = true_from_ne_false (share n (rule j) (rule m)) (λ not-so.
-      (let both : RuleView → Bool = λ x. share n (rule k) x && share n (rule j) x in
-      let turned = share-turned n (rule j) (rule k) they in
-      let apart : j ≢ k = λ e. both_ways _ not-so (ap (λ (i : ℕ). share n (rule i) (rule m)) e ∙ third) in
-      let two = two-pass both rs j k none apart lj lk (grind (arith, nat_tests, turned, self j lj)) (grind (arith, nat_tests, self k lk)) in
+      (let two = two-pass (λ x. share n (rule k) x && share n (rule j) x) rs j k none (λ e. grind (arith)) lj lk
+      (grind (arith, nat_tests, share-turned, self j lj)) (grind (arith, nat_tests, share-turned, self k lk)) in
       let lost = in-filter (λ x. share n (rule k) x && not (share n (rule j) x)) rs m none lm (grind (arith, nat_tests)) in
       let parts = simp filter-both at (sides-few (share n (rule j)) (filter (share n (rule k)) rs)) in
       omega (arith, parts, two, one-few n (chamber_of n rs (rule k)) of, lost)))
@@ -99,22 +91,21 @@ module _ (n : ℕ) (rs : List RuleView) (fair : All (IsFair n) rs) where
   -- ---- what sums count
   counted-at : (r : RuleView) → is_counted n rs r ≡ true → (k : ℕ) → k < length rs → share n r (rule k) ≡ true
       → are_of_one_chamber n (chamber_of n rs (rule k)) ≡ true
-  counted-at r is k lt they =
-      grind (arith, nat_tests, AllPass-from_list_all (λ x. not (share n r x) || are_of_one_chamber n (chamber_of n rs x)) rs is k none lt)
+  counted-at r is k lt they = grind (arith, nat_tests, AllPass-from_list_all)
 
   pub own-chamber : (j : ℕ) → j < length rs → is_counted n rs (rule_at rs j) ≡ true → are_of_one_chamber n (chamber_of n rs (rule_at rs j)) ≡ true
   own-chamber j lt is = counted-at (rule j) is j lt (self j lt)
 
   pub all-counted : length (part_of false n rs) ≡ 0 → AreOfChambers n rs
   unfolding side
-  all-counted left = All-from_get_or (λ r. are_of_one_chamber n (chamber_of n rs r) ≡ true) rs none (λ j lt.
-      own-chamber j lt (let some = in-filter (λ x. not (is_counted n rs x)) rs j none lt in grind (arith, nat_tests, left)))
+  all-counted left =
+      All-from_get_or (λ r. are_of_one_chamber n (chamber_of n rs r) ≡ true) rs none (grind (arith, nat_tests, own-chamber, in-filter))
 
   pub counted-closed : IsClosed n rs (is_counted n rs)
   counted-closed j m lj lm is they =
       let test : RuleView → Bool = λ x. not (share n (rule m) x) || are_of_one_chamber n (chamber_of n rs x) in
       list_all-from_AllPass test rs (All-from_get_or (λ x. test x ≡ true) rs none (λ k lk.
-      (let third = no-third j m k lj lm lk they (counted-at (rule j) is m lm they) in grind (arith, nat_tests, counted-at (rule j) is k lk))))
+      grind (arith, nat_tests, no-third j m k lj lm lk they, counted-at (rule j) is m lm they, counted-at (rule j) is k lk)))
 
   pub chamber-closed : AreOfChambers n rs → (i : ℕ) → i < length rs → IsClosed n rs (share n (rule_at rs i))
   chamber-closed all i li j m lj lm is they = no-third i j m li lj lm is (all j none lj) they
@@ -128,26 +119,25 @@ module _ (n : ℕ) (rs : List RuleView) (fair : All (IsFair n) rs) where
         → AreOfChambers n (side true q rs)
     unfolding side
     chambers-within each = all-passing (λ r. are_of_one_chamber n (chamber_of n (filter q rs) r) ≡ true) q rs (λ j lj is.
-        ap (are_of_one_chamber n) (filter-within q (share n (rule j)) rs
-        (All-from_get_or (λ y. share n (rule j) y ≡ true → q y ≡ true) rs none (λ k lk they. closed j k lj lk is they))) ∙ each j lj is)
+        grind (arith, each j lj is, closed j, filter-within q (share n (rule j)) rs,
+        All-from_get_or (λ y. share n (rule j) y ≡ true → q y ≡ true) rs none))
 
     -- a member has weight in them, or in the others
     parts-apart : (i : ℕ) → i < n → HasNoWeight (filter q rs) i ⊎ HasNoWeight (filter (λ x. not (q x)) rs) i
     parts-apart i lt = elim (missing (λ k. q (rule k) && ltb 0 (get_or (rule k).weights i 0)) (λ k. false) (length rs)) [
       | inl found ↦ inr (all-passing (λ x. get_or x.weights i 0 ≡ 0) (λ x. not (q x)) rs (λ m lm other.
-          let own = found.2 in grind (arith, nat_tests, closed found.0 m found.1 lm, share-at n i (rule found.0) (rule m) lt)))
-      | inr idle ↦ inl (all-passing (λ x. get_or x.weights i 0 ≡ 0) q rs (λ m lm is. let own = idle m lm in grind (arith, nat_tests)))
+          grind (arith, nat_tests, found.2, closed found.0 m found.1 lm, share-at n i (rule found.0) (rule m) lt)))
+      | inr idle ↦ inl (all-passing (λ x. get_or x.weights i 0 ≡ 0) q rs (λ m lm is. grind (arith, nat_tests, idle m lm)))
     ]
 
     pub parts-are : (g a b : GameView) → AreRulesOf g n rs → a.names ≡ g.names → b.names ≡ g.names → a.rules ≡ side true q rs
         → b.rules ≡ side false q rs → AreChambersOf g a b
     unfolding side
     parts-are g a b are names_a names_b own others = record {
-      first = ap (λ (l : List (List ℕ)). length l) names_a;
-      second = ap (λ (l : List (List ℕ)). length l) names_b;
-      both = λ f. are.alike f ∙ met-parted (length g.names) q rs f
-          ∙ (λ k. met (length g.names) (sym own k) f && met (length g.names) (sym others k) f);
-      apart = λ i lt. rw (own, others) (parts-apart i (let long = are.members in omega (arith, lt, long)));
+      first = grind (arith, names_a);
+      second = grind (arith, names_b);
+      both = λ f. grind (arith, nat_tests, are.alike f, met-parted (length g.names) q rs f);
+      apart = λ i lt. grind (arith, parts-apart i, are.members);
     }
 
 -- ---- the rules that share a member with one, and the others

@@ -41,22 +41,21 @@ less-all f q (x ∷ xs) = grind (arith, sum_by-cons f x xs, less-all f (q - f x)
 
 -- ---- the members that pass a test, without one who does not
 pub one-more : (f : ℕ → ℕ) (n : ℕ) → sum_by f (range_with_len 0 (suc n)) ≡ sum_by f (range_with_len 0 n) + f n
-one-more f n = let e : suc n ≡ n + 1 = omega arith in ap (λ (k : ℕ). sum_by f (range_with_len 0 k)) e ∙ sum_by-range-more f n
+one-more f n = grind (arith, sum_by-range-more f n)
 
 -- a sum that is two together, number by number
 pub sum-parts : (f g h : ℕ → ℕ) (n : ℕ) → ((i : ℕ) → i < n → f i ≡ g i + h i)
     → sum_by f (range_with_len 0 n) ≡ sum_by g (range_with_len 0 n) + sum_by h (range_with_len 0 n)
-sum-parts f g h n each = sum-range f (λ i. g i + h i) 0 n (λ i _ lt. each i (omega (arith, lt))) ∙ sum-plus g h (range_with_len 0 n)
+sum-parts f g h n each = grind (arith, sum-range f (λ i. g i + h i) 0 n, sum-plus g h (range_with_len 0 n))
 
 -- a rule that the others miss without a member is not met without it
 pub missed : (r : RuleView) (f : ℕ → Bool) (n i : ℕ) → length r.weights ≡ n → i < n → f i ≡ false → sum r.weights < r.quota + get_or r.weights i 0
     → leb r.quota (weighs n r f) ≡ false
 missed r f n i full lt out less =
     let other : ℕ → ℕ = λ j. cond (f j) 0 (get_or r.weights j 0) in
-    let parts =
-    sum-parts (λ j. get_or r.weights j 0) (λ j. cond (f j) 1 0 * get_or r.weights j 0) other n (λ j lj. grind (arith, nat_tests)) in
-    let some = get_or-le-sum_by other (range_with_len 0 n) i 0 (let long = length-range_with_len 0 n in omega (arith, lt, long)) in
-    grind (arith, nat_tests, parts, some, places-at n i 0 lt, row-sum r.weights n full)
+    grind (arith, nat_tests, places-at n i 0 lt, row-sum r.weights n full, length-range_with_len 0 n,
+    get_or-le-sum_by other (range_with_len 0 n) i 0,
+    sum-parts (λ j. get_or r.weights j 0) (λ j. cond (f j) 1 0 * get_or r.weights j 0) other n (λ j lj. grind (arith, nat_tests)))
 
 module _ (n : ℕ) (veto f : ℕ → Bool) where
   -- ---- the rule that asks for each
@@ -68,9 +67,8 @@ module _ (n : ℕ) (veto f : ℕ → Bool) where
 
   rule-met : ((i : ℕ) → i < n → veto i ≡ true → f i ≡ true) → leb (number_of n veto) (weighs n (rule_for n veto) f) ≡ true
   rule-met all =
-      let same = sum-range (λ i. cond (f i) 1 0 * get_or (rule_for n veto).weights i 0) (λ i. cond (veto i) 1 0) 0 n
-      (λ i _ lt. grind (arith, nat_tests, made-at (λ j. cond (veto j) 1 0) n i, all i)) in
-      grind (arith, nat_tests, same)
+      grind (arith, nat_tests, sum-range (λ i. cond (f i) 1 0 * get_or (rule_for n veto).weights i 0) (λ i. cond (veto i) 1 0) 0 n
+      (λ i _ lt. grind (arith, nat_tests, made-at (λ j. cond (veto j) 1 0) n i, all i)))
 
   -- ---- what is left of a rule
   rest-weighs : ((i : ℕ) → i < n → veto i ≡ true → f i ≡ true) → (r : RuleView)
@@ -87,8 +85,8 @@ vetoed-lost : (n : ℕ) (rs : List RuleView) (f : ℕ → Bool) (i : ℕ) → Al
     → f i ≡ false → met n rs f ≡ false
 vetoed-lost n [] f i full lt vetoes out = absurd (cc)
 vetoed-lost n (r ∷ rs) f i full lt vetoes out =
-    let own = missed r f n i (All-head (λ (x : RuleView). length x.weights ≡ n) r rs full) lt out in
-    let rest = vetoed-lost n rs f i (All-tail (λ (x : RuleView). length x.weights ≡ n) r rs full) lt in grind (arith, nat_tests)
+    grind (arith, nat_tests, missed r f n i (All-head (λ (x : RuleView). length x.weights ≡ n) r rs full) lt out,
+    vetoed-lost n rs f i (All-tail (λ (x : RuleView). length x.weights ≡ n) r rs full) lt)
 
 -- rules that ask for nothing are met
 asking-met : (n : ℕ) (rs : List RuleView) (f : ℕ → Bool) → met n rs f ≡ met n (filter (λ r. ltb 0 r.quota) rs) f
@@ -99,33 +97,28 @@ asking-met n (r ∷ rs) f = grind (arith, nat_tests, asking-met n rs f)
 pub vetoers-both : (n : ℕ) (rs : List RuleView) (f : ℕ → Bool) → All (λ r. length r.weights ≡ n) rs
     → met n rs f ≡ met n (rules_beside n (can_veto rs) rs) f
 vetoers-both n rs f full =
-    (elim (missing (can_veto rs) f n) [
-      | inl (i, lt, vetoes, out) ↦ grind (arith, nat_tests, vetoed-lost n rs f i full lt vetoes out, rule-lost n (can_veto rs) f i lt vetoes out)
-      | inr all ↦ grind (arith, nat_tests, rests-met n (can_veto rs) f all rs, rule-met n (can_veto rs) f all)
-    ]) ∙ asking-met n (rule_for n (can_veto rs) ∷ map (rest_of n (can_veto rs)) rs) f
+    grind (arith, nat_tests, missing (can_veto rs) f n, vetoed-lost n rs f, rule-lost n (can_veto rs) f, rests-met n (can_veto rs) f,
+    rule-met n (can_veto rs) f, asking-met n (rule_for n (can_veto rs) ∷ map (rest_of n (can_veto rs)) rs) f)
 
 -- a member without whom some rule can not be met is in each winning coalition
 pub vetoer-in : (v : Votes) (p c : ℕ) → IsVotes v → p < v.members → IsVetoer v p → c < 2 ^ v.members → wins v.rules c ≡ true
     → has v.members p c ≡ true
 unfolding wins
-vetoer-in v p c votes inside (r, lr, less) below won = true_from_ne_false (has v.members p c) (λ out.
-    (let full = (rule-is v r votes lr).full in
-    both_ways _ (list_all_at (λ (x : RuleView). leb x.quota (weight x.weights c)) v.rules r (record { quota = 0; weights = [] }) lr
-    (ap (leb (rule_at v.rules r).quota) (weight-sum (rule_at v.rules r).weights v.members c full)
-    ∙ missed (rule_at v.rules r) (λ q. has v.members q c) v.members p full inside out less)) won))
+vetoer-in v p c votes inside (r, lr, less) below won =
+    let full = (rule-is v r votes lr).full in
+    grind (arith, nat_tests, list_all_at (λ (x : RuleView). leb x.quota (weight x.weights c)) v.rules r (record { quota = 0; weights = [] }) lr,
+    weight-sum (rule_at v.rules r).weights v.members c full, missed (rule_at v.rules r) (λ q. has v.members q c) v.members p full inside)
 
 pub ruleset laws = (vetoer-in)
 
 -- each rule of a game is one that a game can have
 pub fair-all : (g : GameView) → IsGame g → All (IsFair (length g.names)) g.rules
-fair-all g is k d lt =
-    let light = All-from_recursion (λ (r : RuleView). (i : ℕ) → i < length g.names → get_or r.weights i 0 ≤ 1000000000000) g.rules
-    (light-weights g is) k d lt in
-    record {
-      full = is.full k d lt;
-      quota = All-from_recursion (λ (r : RuleView). has_bad_quota r ≡ false) g.rules (none-any has_bad_quota g.rules (passed g is.made).quotas) k d lt;
-      light = grind (arith, cases_lt, get_or_past, is.full k d lt);
-    }
+fair-all g is k d lt = record {
+  full = is.full k d lt;
+  quota = All-from_recursion (λ (r : RuleView). has_bad_quota r ≡ false) g.rules (none-any has_bad_quota g.rules (passed g is.made).quotas) k d lt;
+  light = grind (arith, cases_lt, get_or_past, is.full k d lt,
+      All-from_recursion (λ (r : RuleView). (i : ℕ) → i < length g.names → get_or r.weights i 0 ≤ 1000000000000) g.rules (light-weights g is) k d lt);
+}
 
 pub fair-of : (g : GameView) (k : ℕ) → IsGame g → k < length g.rules → IsFair (length g.names) (rule_at g.rules k)
 fair-of g k is lt = fair-all g is k (record { quota = 0; weights = [] }) lt
@@ -166,24 +159,21 @@ fair-vetoers n veto some = grind (arith, length-map-range_with_len, good, sum-ma
 
 fair-rest : (n : ℕ) (veto : ℕ → Bool) (r : RuleView) → IsFair n r → 0 < (rest_of n veto r).quota → IsFair n (rest_of n veto r)
 fair-rest n veto r fair some =
-    let all = row-sum r.weights n fair.full in
-    let parts =
+    grind (arith, nat_tests, length-map-range_with_len, good, good-met, sum-map, light-made, row-sum r.weights n fair.full,
     sum-parts (λ i. get_or r.weights i 0) (λ i. cond (veto i) (get_or r.weights i 0) 0) (λ i. cond (veto i) 0 (get_or r.weights i 0)) n
-    (λ i lt. grind (arith, nat_tests)) in grind (arith, nat_tests, length-map-range_with_len, good, good-met, sum-map, light-made)
+    (λ i lt. grind (arith, nat_tests)))
 
 -- each rule that is left is fair, since it asks for something
 pub fair-beside : (n : ℕ) (veto : ℕ → Bool) (rs : List RuleView) → All (IsFair n) rs → All (IsFair n) (rules_beside n veto rs)
 fair-beside n veto rs fair = All-passing (λ r. ltb 0 r.quota) (IsFair n) (rule_for n veto ∷ map (rest_of n veto) rs)
-    (All-cons (λ r. ltb 0 r.quota ≡ true → IsFair n r) (rule_for n veto) (map (rest_of n veto) rs)
-    (λ asks. fair-vetoers n veto (ltb-true 0 (number_of n veto) asks))
+    (All-cons (λ r. ltb 0 r.quota ≡ true → IsFair n r) (rule_for n veto) (map (rest_of n veto) rs) (grind (arith, nat_tests, fair-vetoers n veto))
     (All-map (λ r. ltb 0 r.quota ≡ true → IsFair n r) (rest_of n veto) rs
-    (λ k d lt asks. fair-rest n veto (get_or rs k d) (fair k d lt) (ltb-true 0 _ asks))))
+    (λ k d lt. grind (arith, nat_tests, fair-rest n veto (get_or rs k d), fair k d lt))))
 
 -- at most one rule more
 pub few-beside : (n : ℕ) (veto : ℕ → Bool) (rs : List RuleView) → length (rules_beside n veto rs) ≤ length rs + 1
 few-beside n veto rs =
-    let both = length-filter_both (λ (r : RuleView). ltb 0 r.quota) (λ r. not (ltb 0 r.quota)) (λ r. refl) (rule_for n veto ∷ map (rest_of n veto) rs) in
-    omega (arith, both, length-map rs (rest_of n veto))
+    grind (arith, length-map rs (rest_of n veto), length-filter_both (λ (r : RuleView). ltb 0 r.quota) (λ r. not (ltb 0 r.quota)) (λ r. refl))
 
 -- with one rule more
 pub beside-more : (n : ℕ) (veto : ℕ → Bool) (rs : List RuleView) (k : ℕ) (d : RuleView) → k < length rs → rules_beside n veto (take (k + 1) rs)
@@ -205,17 +195,16 @@ module _ (g : GameView) (is : IsGame g) where
   statute-fair = fair-beside (length g.names) (can_veto g.rules) g.rules (fair-all g is)
 
   pub statute-few : length (statute g) ≤ 5
-  statute-few = let few = few-beside (length g.names) (can_veto g.rules) g.rules in let rules = is.few_rules in omega (arith, few, rules)
+  statute-few = omega (arith, few-beside (length g.names) (can_veto g.rules) g.rules, is.few_rules)
 
   -- the empty coalition loses
   lost : met (length g.names) g.rules (λ i. false) ≡ false
   lost =
       list_all_at (λ r. leb r.quota (weighs (length g.names) r (λ i. false))) g.rules 0 (record { quota = 0; weights = [] }) is.has_rule
-      (let some = good-some (rule_at g.rules 0) (fair-of g 0 is is.has_rule).quota in
-      grind (arith, nat_tests, nobody (λ i. get_or (rule_at g.rules 0).weights i 0) (length g.names)))
+      (grind (arith, nat_tests, good-some (rule_at g.rules 0), fair-of g 0 is is.has_rule,
+      nobody (λ i. get_or (rule_at g.rules 0).weights i 0) (length g.names)))
 
   pub statute-some : 0 < length (statute g)
-  statute-some =
-      grind (arith, nat_tests, lost, statute-are.alike (λ i. false), cases_lt 0 (length (statute g)), nil_from_length (statute g))
+  statute-some = grind (arith, nat_tests, lost, cases_lt, nil_from_length, statute-are.alike)
 
 pub ruleset statutes = (statute-are, statute-fair, statute-few, statute-some)
