@@ -66,16 +66,15 @@ pub last-in : (n c : ℕ) → c < 2 ^ n → 0 < c → (last n c < n) × (has n (
 unfolding last
 last-in zero c lt pos = absurd (omega arith)
 last-in (suc n) c lt pos =
-    let d : ℕ = c - 2 ^ n in let again = last-in n d in
-    grind (arith, nat_tests, again, last-in n c, rest-out, first-in n d, rest-in n (last n d) d, double-pow n, cases_lt c (2 ^ n))
+    let d : ℕ = c - 2 ^ n in
+    grind (arith, nat_tests, last-in n d, last-in n c, rest-out, first-in n d, rest-in n (last n d) d, double-pow n, cases_lt c (2 ^ n))
 
 pub last-behind : (n p c : ℕ) → c < 2 ^ n → p < n → has n p c ≡ true → p ≤ last n c
 unfolding last
 last-behind zero p c lt below inside = absurd (omega arith)
 last-behind (suc n) zero c lt below inside = omega arith
 last-behind (suc n) (suc p) c lt below inside =
-    let again = last-behind n p in
-    grind (arith, nat_tests, again, rest-out, rest-in n p (c - 2 ^ n), double-pow n, cases_lt c (2 ^ n), has-none n p)
+    grind (arith, nat_tests, last-behind n p, rest-out, rest-in n p (c - 2 ^ n), double-pow n, cases_lt c (2 ^ n), has-none n p)
 
 -- a coalition is empty, or has some member, and weighs at least as much as the last
 pub none-or-some : (ws : List ℕ) (c : ℕ) → c < 2 ^ length ws → ((c ≡ 0) × (size (length ws) c ≡ 0) × (weight ws c ≡ 0))

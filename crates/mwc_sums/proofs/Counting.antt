@@ -8,28 +8,21 @@ use Rattle.std.proofs.{Common.length-append, Math.Bool.and-false}
 use Rattle.mwc_sums.proofs.Completing.{double-pow, down-two}
 
 pub any-at : (t : ℕ → Bool) (n i : ℕ) → i < n → t i ≡ true → list_any t (range_with_len 0 n) ≡ true
-any-at t n i lt passes =
-    let long = length-range_with_len 0 n in
-    list_any_at t (range_with_len 0 n) i 0 (omega (arith, long, lt)) (ap t (places-at n i 0 lt) ∙ passes)
+any-at t n i lt passes = grind (arith, list_any_at t (range_with_len 0 n) i 0, length-range_with_len 0 n, places-at n i 0 lt)
 
 pub any-of : (t : ℕ → Bool) (n : ℕ) → list_any t (range_with_len 0 n) ≡ true → (i : ℕ) × (i < n) × (t i ≡ true)
 any-of t n some =
-    let (k, x, lt, at, passes) = Any-from_list_any t (range_with_len 0 n) some in let long = length-range_with_len 0 n in
-    let here : x ≡ k = sym at ∙ places-at n k x (omega (arith, lt, long)) in (x, omega (arith, here, lt, long), passes)
+    let (k, x, lt, at, passes) = Any-from_list_any t (range_with_len 0 n) some in
+    grind (arith, length-range_with_len 0 n, places-at n k x)
 
 pub all-at : (t : ℕ → Bool) (n i : ℕ) → i < n → list_all t (range_with_len 0 n) ≡ true → t i ≡ true
-all-at t n i lt all =
-    let long = length-range_with_len 0 n in
-    sym (ap t (places-at n i 0 lt)) ∙ AllPass-from_list_all t (range_with_len 0 n) all i 0 (omega (arith, long, lt))
+all-at t n i lt all = grind (arith, length-range_with_len 0 n, places-at n i 0 lt, AllPass-from_list_all t (range_with_len 0 n) all i 0)
 
 -- either one who passes the first test fails the second, or none does
 pub missing : (veto f : ℕ → Bool) (n : ℕ) → ((i : ℕ) × (i < n) × (veto i ≡ true) × (f i ≡ false)) ⊎ ((i : ℕ) → i < n → veto i ≡ true → f i ≡ true)
 missing veto f n =
-    elim (cases_Bool (list_any (λ i. veto i && not (f i)) (range_with_len 0 n))) [
-      | inl some ↦ let (i, lt, passes) = any-of (λ i. veto i && not (f i)) n some in
-          inl (i, lt, grind (arith, nat_tests), grind (arith, nat_tests))
-      | inr none ↦ inr (λ i lt vetoes. let some = any-at (λ i. veto i && not (f i)) n i lt in grind (arith, nat_tests))
-    ]
+    let test : ℕ → Bool = λ i. veto i && not (f i) in
+    grind (arith, nat_tests, any-of test n, any-at test n, cases_Bool (list_any test (range_with_len 0 n)))
 
 -- what holds of each that passes
 pub All-passing : {X : Type 0} (p : X → Bool) (P : X → Type 0) (xs : List X) → All (λ x. p x ≡ true → P x) xs → All P (filter p xs)
@@ -43,8 +36,7 @@ filter-none (x ∷ xs) = filter-none xs
 pub filter-same : {X : Type 0} (p q : X → Bool) (xs : List X) → All (λ x. p x ≡ q x) xs → filter p xs ≡ filter q xs
 filter-same p q [] same = refl
 filter-same p q (x ∷ xs) same =
-    let rest = filter-same p q xs (All-tail (λ x. p x ≡ q x) x xs same) in
-    λ i. cond (All-head (λ x. p x ≡ q x) x xs same i) (x ∷ rest i) (rest i)
+    grind (arith, filter-same p q xs (All-tail (λ x. p x ≡ q x) x xs same), All-head (λ x. p x ≡ q x) x xs same)
 
 pub filter-map : {X Y : Type 0} (p : Y → Bool) (f : X → Y) (xs : List X) → filter p (map f xs) ≡ map f (filter (λ x. p (f x)) xs)
 filter-map p f [] = refl
@@ -65,7 +57,8 @@ count-never xs = ap (λ (l : List ℕ). length l) (filter-none xs)
 pub filter-first : (q one rest : ℕ → Bool) (n : ℕ) → ((c : ℕ) → c < 2 ^ n → q (2 ^ n + c) ≡ one c) → ((c : ℕ) → c < 2 ^ n → q c ≡ rest c)
     → filter q (down (2 ^ suc n)) ≡ map (λ c. 2 ^ n + c) (filter one (down (2 ^ n))) ++ filter rest (down (2 ^ n))
 filter-first q one rest n within without =
-    let h : ℕ = 2 ^ n in let below = down-below h h (omega arith) in
+    let h : ℕ = 2 ^ n in
+    let below = down-below h h (omega arith) in
     ap (filter q) (ap down (double-pow n) ∙ down-two h h) ∙ filter-append q (map (λ c. h + c) (down h)) (down h)
     ∙ (λ i. (filter-map q (λ c. h + c) (down h) ∙ ap (map (λ c. h + c)) (filter-same (λ c. q (h + c)) one (down h)
     (λ k d lt. within (get_or (down h) k d) (below k d lt)))) i
@@ -73,8 +66,7 @@ filter-first q one rest n within without =
 
 pub count-first : (q one rest : ℕ → Bool) (n : ℕ) → ((c : ℕ) → c < 2 ^ n → q (2 ^ n + c) ≡ one c) → ((c : ℕ) → c < 2 ^ n → q c ≡ rest c)
     → count q (down (2 ^ suc n)) ≡ count one (down (2 ^ n)) + count rest (down (2 ^ n))
-count-first q one rest n within without =
-    ap (λ (l : List ℕ). length l) (filter-first q one rest n within without) ∙ simp (length-append, length-map)
+count-first q one rest n within without = grind (arith, nat_tests, filter-first q one rest n within without, length-append, length-map)
 
 -- those with a condition and those without it
 pub count-parted : (t q without u : ℕ → Bool) (xs : List ℕ) → ((c : ℕ) → without c ≡ not (q c))
@@ -87,5 +79,4 @@ count-filter q p xs = ap (λ (l : List ℕ). length l) (filter-both p q xs)
 
 -- a condition that no coalition changes
 pub count-and : (q : ℕ → Bool) (b : Bool) (xs : List ℕ) → count (λ c. q c && b) xs ≡ cond b 1 0 * count q xs
-count-and q true xs = (λ i. count (λ c. and-true (q c) i) xs) ∙ omega arith
-count-and q false xs = (λ i. count (λ c. and-false (q c) i) xs) ∙ ap (λ (l : List ℕ). length l) (filter-none xs) ∙ omega arith
+count-and q b xs = grind (arith, nat_tests, count-never xs)

@@ -15,8 +15,7 @@ module _ (g h : GameView) (is_g : IsGame g) (is_h : IsGame h) (same : AreRulesOf
   AreAlike c d = (i : ℕ) → i < length g.names → seen (length g.names) g.ranks c i ≡ seen (length h.names) h.ranks d i
 
   holds : Holds (length g.names) (met (length g.names) g.rules) (length h.names) h.ranks (minimal (votes_of h))
-  holds = subst (λ (w : (ℕ → Bool) → Bool). Holds (length g.names) w (length h.names) h.ranks (minimal (votes_of h)))
-      (λ k f. sym (same.alike f) k) (game-holds is_h (length g.names) same.members)
+  holds = grind (arith, game-holds)
 
   count-same : (s t : ℕ → Bool) → ((c d : ℕ) → AreAlike c d → s c ≡ t d)
       → length (filter t (minimal_coalitions (votes_of h))) ≡ length (filter s (minimal_coalitions (votes_of g)))
@@ -31,8 +30,7 @@ module _ (g h : GameView) (is_g : IsGame g) (is_h : IsGame h) (same : AreRulesOf
 
   pub counts-alike : (t : Tables) → AreCounts h (minimal_coalitions (votes_of h)) t → AreCounts g (minimal_coalitions (votes_of g)) t
   counts-alike t counts =
-      let within : (i : ℕ) → i < t.members → i < length g.names = λ i lt.
-      (let m = counts.members in let long = same.members in omega (arith, lt, m, long)) in
+      let within : (i : ℕ) → i < t.members → i < length g.names = grind (arith, counts.members, same.members) in
       record {
         members = counts.members ∙ same.members;
         total = counts.total ∙ sym (filter-all _) ∙ count-same (λ c. true) (λ c. true) (λ c d alike. refl) ∙ filter-all _;

@@ -21,9 +21,8 @@ weight-seen n m ranks is r ws c long at =
 pub ranked-at : (ranks : List ℕ) (r : RuleView) (p : ℕ) → p < length ranks
     → get_or (rule_by_rank ranks r).weights p 0 ≡ get_or r.weights (member_at ranks p) 0
 ranked-at ranks r p lt =
-    let long = length-range_with_len 0 (length ranks) in let at = get_or-map (member_at ranks) (places ranks) p 0 0 (omega (arith, long, lt)) in
-    let rule = get_or-map (λ m. get_or r.weights m 0) (members_by_rank ranks) p 0 0 in
-    grind (arith, at, rule, length-map (places ranks) (member_at ranks), places-at (length ranks) p 0 lt)
+    grind (arith, places-at (length ranks) p 0 lt, length-map (places ranks) (member_at ranks), length-range_with_len 0 (length ranks),
+    get_or-map (member_at ranks) (places ranks) p 0 0, get_or-map (λ m. get_or r.weights m 0) (members_by_rank ranks) p 0 0)
 
 -- ---- who meets rules
 -- a member has weight in some rule
@@ -38,9 +37,8 @@ no-weight (r ∷ rs) i none = grind (arith, nat_tests, none 0 r (omega arith), n
 pub met-seen : (n : ℕ) (rs : List RuleView) (f h : ℕ → Bool) → ((i : ℕ) → i < n → has_weight rs i ≡ true → f i ≡ h i) → met n rs f ≡ met n rs h
 met-seen n [] f h same = refl
 met-seen n (r ∷ rs) f h same =
-    let own = sum-range (λ i. cond (f i) 1 0 * get_or r.weights i 0) (λ i. cond (h i) 1 0 * get_or r.weights i 0) 0 n
-    (λ i _ lt. let is = same i (omega (arith, lt)) in grind (arith, nat_tests)) in
-    let rest = met-seen n rs f h (λ i lt seen. same i lt (grind (arith, nat_tests))) in grind (arith, nat_tests, own, rest)
+    grind (arith, nat_tests, met-seen n rs f h,
+    sum-range (λ i. cond (f i) 1 0 * get_or r.weights i 0) (λ i. cond (h i) 1 0 * get_or r.weights i 0) 0 n)
 
 pub met-looks : (n : ℕ) (rs : List RuleView) → LooksAt n (met n rs)
 met-looks n rs f h same = met-seen n rs f h (λ i lt _. same i lt)
@@ -54,24 +52,21 @@ module _ {g : GameView} (is : IsGame g) where
   game-seats = record { few = omega arith; are = ranks-are g is; each = game-rank_places g is }
 
   pub seen-contains : (c i : ℕ) → i < length g.names → seen (length g.names) g.ranks c i ≡ contains g i c
-  seen-contains c i lt =
-      ap (λ (b : Bool). b && contains g i c) (lt-ltb (get_or g.ranks i 0) (length g.names) ((ranks-are g is).place_below i lt))
+  seen-contains c i lt = grind (arith, nat_tests, (ranks-are g is).place_below i lt)
 
   wins-each : (rs : List RuleView) (c : ℕ) → wins (map (rule_by_rank g.ranks) rs) c ≡ met (length g.names) rs (seen (length g.names) g.ranks c)
   unfolding wins
   wins-each [] c = refl
   wins-each (r ∷ rs) c =
-      (λ k. leb r.quota (weight-seen (length g.names) (length g.names) g.ranks game-seats r (rule_by_rank g.ranks r).weights c
-      (length-weights_by_rank g.ranks r.weights ∙ game-seats.are.count)
-      (λ p lt. ranked-at g.ranks r p (let e = game-seats.are.count in omega (arith, lt, e))) k) && wins-each rs c k)
+      let same = weight-seen (length g.names) (length g.names) g.ranks game-seats r (rule_by_rank g.ranks r).weights c
+      (length-weights_by_rank g.ranks r.weights ∙ game-seats.are.count) (λ p lt. grind (arith, ranked-at g.ranks r p, game-seats.are.count)) in
+      grind (arith, wins-each rs c, same)
 
   -- a coalition is minimal exactly where its members are
   pub game-holds : (n : ℕ) → length g.names ≡ n → Holds n (met n g.rules) (length g.names) g.ranks (minimal (votes_of g))
   game-holds n e = subst (λ (n : ℕ). Holds n (met n g.rules) (length g.names) g.ranks (minimal (votes_of g))) e (record {
     seats = game-seats;
-    least = λ c _.
-        (let min = subst (λ (won : ℕ → Bool). (minimal (votes_of g) c ≡ true) ↔ IsMin (length g.names) won c)
-        (λ k x. wins-each g.rules x k) (minimal-min (votes_of g) c) in
-        grind (arith, min, least-min game-seats (met (length g.names) g.rules) (met-looks (length g.names) g.rules) c));
+    least = λ c _. grind (arith, nat_tests, wins-each g.rules, minimal-min (votes_of g) c,
+        least-min game-seats (met (length g.names) g.rules) (met-looks (length g.names) g.rules) c);
     inside = λ f least i lt in'. game-seats.are.place_below i lt;
   })

@@ -8,7 +8,7 @@ use Rattle.power_index.proofs.Shared.{Members.size-le, Sums.sum-range, Sums.sum-
 -- no number of a tally is greater than the list is long
 pub tally-few : (n : ℕ) (p : ℕ → Bool) (list : List ℕ) (t : Tally) (s : ℕ) → s ≤ 40 → IsTallyOf n p list t
     → get_or t.sizes s 0 ≤ length list
-tally-few n p list t s le h = let a = h.sizes s le in let b = length-filter-le (λ c. p c && (size n c == s)) list in omega (arith, a, b)
+tally-few n p list t s le h = omega (arith, h.sizes s le, length-filter-le (λ c. p c && (size n c == s)) list)
 
 -- the sizes of a tally add up to how many pass
 pub tally-total : (n : ℕ) (p : ℕ → Bool) (list : List ℕ) (t : Tally) → n ≤ 40 → IsTallyOf n p list t

@@ -25,23 +25,17 @@ cond-most b n m le = grind (arith, nat_tests)
 -- how many are counted at most
 pub here-few : (sets : List Set) (t : Fitting) (s : ℕ) → AreEntered sets t → IsHalf sets → get_or t.here s 0 ≤ 2 ^ 20
 here-few sets t s h half =
-    let most = sum_by-le (λ (x : Set). one_of_size s x.size) 1 (drop t.outside sets) (λ k d lt. cond-most _ 1 1 (omega arith)) in
-    omega (arith, h.here s, most, length-drop t.outside sets, half.long)
+    grind (arith, h.here s, length-drop t.outside sets, sum_by-le (λ (x : Set). one_of_size s x.size) 1 (drop t.outside sets), cond-most)
 
 pub fits-few : (need k s : ℕ) (sets : List Set) → IsHalf sets → sum_by (fits need k s) sets ≤ 2 ^ 20
-fits-few need k s sets half =
-    let most = sum_by-le (fits need k s) 1 sets (λ i d lt. cond-most _ _ 1 (cond-most _ 1 1 (omega arith))) in omega (arith, most, half.long)
+fits-few need k s sets half = grind (arith, nat_tests, half.long, sum_by-le (fits need k s) 1 sets)
 
 -- where the last that is outside does not meet the need, all that meet it are counted
 pub all-entered : (need : ℕ) (sets : List Set) (t : Fitting) (d : Set) → AreEntered sets t → Meet need t.outside sets → IsHalf sets
     → (0 < t.outside → (get_or sets (t.outside - 1) d).weight < need) → AreOfNeed need sets t
 all-entered need sets t d h meet half last s =
-    h.here s ∙ sum-behind (λ x. one_of_size s x.size) (fits need 0 s) t.outside sets d
-    (λ k lt. (grind (arith, nat_tests)))
-    (λ k from lt. (grind (arith, nat_tests)))
-  where
-    below : (k : ℕ) → k < t.outside → (get_or sets k d).weight < need
-    below k lt = grind (arith, cases_eq)
+    let below : (k : ℕ) → k < t.outside → (get_or sets k d).weight < need = λ k lt. grind (arith, cases_eq) in
+    grind (arith, nat_tests, h.here s, below, sum-behind (λ x. one_of_size s x.size) (fits need 0 s) t.outside sets d)
 
 -- ---- behind members of another half
 pub added : (need : ℕ) (sets : List Set) (t : Fitting) (k s : ℕ) → AreOfNeed need sets t

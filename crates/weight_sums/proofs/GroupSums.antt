@@ -22,8 +22,8 @@ pub record Paired (q digits : ℕ) (xs ys : List Set) (n : ℕ) (lows highs : Li
 keys-few : (key : Set → ℕ) (q : ℕ) (xs ys : List Set) (n : ℕ) (rows : List (List ℕ)) → IsHalf xs → IsHalf ys
     → AreOfKeys key (met q ys) (take n xs) rows → (k s : ℕ) → s ≤ 40 → get_or (get_or rows k []) s 0 ≤ 2 ^ 40
 keys-few key q xs ys n rows first second are k s small =
-    let most = of-few key (met q ys) (take n xs) rows are (λ i x. fits-few (q - x.weight) x.size i ys second) k s small in
-    omega (arith, most, length-take n xs, first.long)
+    grind (arith, length-take n xs, first.long,
+    of-few key (met q ys) (take n xs) rows are (λ i x. fits-few (q - x.weight) x.size i ys second) k s)
 
 module _ {q digits : ℕ} {xs ys : List Set} {n : ℕ} {lows highs : List (List ℕ)} {t : Fitting} (h : Paired q digits xs ys n lows highs t)
     (first : IsHalf xs) where
@@ -43,14 +43,8 @@ module _ {q digits : ℕ} {xs ys : List Set} {n : ℕ} {lows highs : List (List 
       entered meet in_low in_high =
       let row : ℕ → ℕ = λ s. cond (leb (get_or xs n d).size s) (get_or u.here (s - (get_or xs n d).size) 0) 0 in
       let gives : (s : ℕ) → s ≤ 40 → row s ≡ met q ys s (get_or xs n d) = grind (arith, added) in
-      record {
-        low_long = in_low.long ∙ h.low_long;
-        high_long = in_high.long ∙ h.high_long;
-        low_is = of-more (low_of digits) (met q ys) xs n low d lows more_lows row lt h.low_is low_key in_low.row gives;
-        high_is = of-more (high_of digits) (met q ys) xs n high d highs more_highs row lt h.high_is high_key in_high.row gives;
-        entered = entered;
-        meet = grind (arith, get_or_default);
-      }
+      grind (arith, get_or_default, of-more (low_of digits) (met q ys) xs n low d lows more_lows row,
+      of-more (high_of digits) (met q ys) xs n high d highs more_highs row)
 
 pub paired-all : {q : ℕ} {xs ys : List Set} {n : ℕ} {t : Fitting} (g : Groups)
     → Paired q g.digits xs ys n g.low.rows.items g.high.rows.items t → length xs ≤ n → g.digits ≤ 10 → IsHalfOf g.digits xs → IsHalf ys
@@ -80,19 +74,11 @@ pub without-high : (q s p r n : ℕ) (all others : List Set) (g : Groups) → Ar
     → All (λ x. high_of g.digits x < length g.high.rows.items) all → n ≡ sum_by (λ x. cond (has r (high_of g.digits x)) 0 (met q others s x)) all)
     → n ≡ sum_by (λ x. cond (has p x.members) 0 (met q others s x)) all
 without-high q s p r n all others g are le is small gives =
-    gives are.high_is (λ k e below. (
-    let f = shr_below (get_or all k e).members g.digits g.digits (are.within k e below) in
-    omega (arith, are.rows.high_long, f)))
+    gives are.high_is (λ k e below. grind (arith, are.rows.high_long, shr_below (get_or all k e).members g.digits g.digits (are.within k e below)))
     ∙ sum-alike (λ x. cond (has r (high_of g.digits x)) 0 (met q others s x)) (λ x. cond (has p x.members) 0 (met q others s x)) all nobody
-    (λ k below. (let x : Set = get_or all k nobody in ap {B = ℕ} (λ b. cond b 0 (met q others s x)) (one x (are.within k nobody below))))
+    (λ k below. grind (arith, one (get_or all k nobody) (are.within k nobody below)))
   where
     one : (x : Set) → x.members < 2 ^ (g.digits + g.digits) → has r (high_of g.digits x) ≡ has p x.members
     one x small =
-        let back : r ≡ r + g.digits - g.digits = omega arith in
-        ap (λ (i : ℕ). has i (high_of g.digits x)) back ∙ has-high g.digits (r + g.digits) x.members (omega arith)
-        ∙ has-last (g.digits + g.digits) p (r + g.digits) x.members small (by_order (cases_lt (p - g.digits) g.digits))
-      where
-        by_order : (p - g.digits < g.digits) ⊎ (g.digits ≤ p - g.digits)
-            → (r + g.digits ≡ p) ⊎ (r + g.digits ≡ g.digits + g.digits) × (g.digits + g.digits ≤ p)
-        by_order (inl less) = inl (omega (arith, is, less, le))
-        by_order (inr past) = inr (omega (arith, is, past), omega (arith, past, le))
+        grind (arith, has-high g.digits (r + g.digits) x.members, has-last (g.digits + g.digits) p (r + g.digits) x.members small,
+        cases_lt (p - g.digits) g.digits)

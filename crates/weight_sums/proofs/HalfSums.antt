@@ -25,19 +25,14 @@ module _ (short : Bool) (fr bk : List ℕ) (xs ys : List Set) (front : ℕ) (fir
   pub front-met : place < front → over short (left_out place (fr ++ bk)) (fits q 0 s)
       ≡ sum_by (λ x. cond (has place x.members) 0 (met q ys s x)) xs + cond short (over true (left_out place fr) (fits q 0 s)) 0
   front-met less =
-      let is = ap (λ (l : List ℕ). over short l (fits q 0 s)) (left_out-front place fr bk (omega (arith, long, less)))
-      ∙ fits-halves short bk (left_out place fr) q s in
-      let out = left_out-over false place fr (λ m k. over short bk (fits (q - m) k s))
-      ∙ sym (first.same (λ x. cond (has place x.members) 0 (over short bk (fits (q - x.weight) x.size s))))
-      ∙ sym (λ i. sum_by (λ x. cond (has place x.members) 0 (second.same (fits (q - x.weight) x.size s) i)) xs) in
-      omega (arith, is, out)
+      let out = left_out-over false place fr (λ m k. over short bk (fits (q - m) k s)) in
+      let each = first.same (λ x. cond (has place x.members) 0 (over short bk (fits (q - x.weight) x.size s))) in
+      grind (arith, left_out-front place fr bk, fits-halves short bk (left_out place fr) q s, out, each, second.same)
 
   pub back-met : front ≤ place → over short (left_out place (fr ++ bk)) (fits q 0 s)
       ≡ sum_by (λ y. cond (has (place - front) y.members) 0 (met q xs s y)) ys + cond short (over true (left_out place fr) (fits q 0 s)) 0
   back-met past =
       let p : ℕ = place - front in
-      let is = ap (λ (l : List ℕ). over short l (fits q 0 s)) (left_out-back place p fr bk (omega (arith, long, past)))
-      ∙ fits-halves short (left_out p bk) fr q s in
       let one : Set → Set → ℕ = λ x y. cond (has p y.members) 0 (fits (q - x.weight) x.size s y) in
       let out : over false fr (λ x. over short (left_out p bk) (fits (q - x.weight) x.size s))
       ≡ sum_by (λ y. cond (has p y.members) 0 (met q xs s y)) ys =
@@ -45,8 +40,7 @@ module _ (short : Bool) (fr bk : List ℕ) (xs ys : List Set) (front : ℕ) (fir
       ∙ sym (first.same (λ x. over short bk (one x))) ∙ sym (λ i. sum_by (λ x. second.same (one x) i) xs) ∙ sum-swap one xs ys
       ∙ (λ i. sum_by (λ y. sum-if (has p y.members) (λ x. fits (q - x.weight) x.size s y) xs i) ys)
       ∙ (λ i. sum_by (λ y. cond (has p y.members) 0 (sum_by (λ x. fits-turned q s x y i) xs)) ys) in
-      let same = ap (λ (l : List ℕ). cond short (over true l (fits q 0 s)) 0) (left_out-past place fr (omega (arith, long, past))) in
-      omega (arith, is, out, same)
+      grind (arith, left_out-back place p fr bk, fits-halves short (left_out p bk) fr q s, out, left_out-past place fr)
 
 -- the sets of the first half alone
 met-nobody : (q s : ℕ) (x : Set) → met q (nobody ∷ []) s x ≡ fits q 0 s x
@@ -55,9 +49,8 @@ met-nobody q s x = sum-one (fits (q - x.weight) x.size s) nobody ∙ (grind (ari
 pub own-met : (fr : List ℕ) (zs : List Set) → AreSets true fr zs → (q s place : ℕ)
     → sum_by (λ x. cond (has place x.members) 0 (met q (nobody ∷ []) s x)) zs ≡ over true (left_out place fr) (fits q 0 s)
 own-met fr zs are q s place =
-    are.same (λ x. cond (has place x.members) 0 (met q (nobody ∷ []) s x))
-    ∙ (λ i. over true fr (λ x. cond (has place x.members) 0 (met-nobody q s x i)))
-    ∙ sym (left_out-over true place fr (λ m k. cond (leb q m) (one_of_size s (0 + k)) 0))
+    grind (arith, are.same (λ x. cond (has place x.members) 0 (met q (nobody ∷ []) s x)), met-nobody q s,
+    left_out-over true place fr (λ m k. cond (leb q m) (one_of_size s (0 + k)) 0))
 
 -- how many sets of these members meet a quota, and how many do so without their last member, of one half or the other
 pub record AreMet (ws : List ℕ) (q s won shortened own : ℕ) : Type 0 where
@@ -66,8 +59,7 @@ pub record AreMet (ws : List ℕ) (q s won shortened own : ℕ) : Type 0 where
 
 -- what is left of the sets that meet the quota is what the members lead to
 pub enough-won : (ws : List ℕ) (heads q s won shortened own : ℕ) → AreMet ws q s won shortened own → 0 < q → heads < s → shortened + own ≤ won
-enough-won ws heads q s won shortened own are some above =
-    omega (arith, are.won_is, are.shortened_is, (endings-counted ws heads s q some).more above)
+enough-won ws heads q s won shortened own are some above = grind (arith, endings-counted ws heads s q some)
 
 pub left-is : (ws : List ℕ) (heads q s won shortened own n : ℕ) → AreMet ws q s won shortened own → IsLeft heads s won shortened own n
     → 0 < q → n ≡ endings ws heads s q 0

@@ -12,14 +12,12 @@ pub sum-one : (g : Set → ℕ) (x : Set) → sum_by g (x ∷ []) ≡ g x
 sum-one g x = simp sum_by-cons (omega arith)
 
 pub sum-if : (b : Bool) (g : Set → ℕ) (xs : List Set) → sum_by (λ x. cond b 0 (g x)) xs ≡ cond b 0 (sum_by g xs)
-sum-if true g xs = sum-zero xs
-sum-if false g xs = refl
+sum-if b g xs = grind (arith, nat_tests, sum-zero xs)
 
 -- ---- with one member more in front
 over-zero : (short : Bool) (ws : List ℕ) → over short ws (λ x. 0) ≡ 0
 unfolding over
-over-zero true [] = refl
-over-zero false [] = refl
+over-zero short [] = grind (arith, nat_tests)
 over-zero short (w ∷ ws) = grind (arith, nat_tests, over-zero short ws)
 
 -- a set with a member more meets a need if it meets what the member leaves of it
@@ -47,11 +45,9 @@ over-halves short vs (w ∷ ws) g =
 pub fits-halves : (short : Bool) (vs ws : List ℕ) (q s : ℕ) → over short (ws ++ vs) (fits q 0 s)
     ≡ over false ws (λ x. over short vs (fits (q - x.weight) x.size s)) + cond short (over true ws (fits q 0 s)) 0
 fits-halves short vs ws q s =
-    over-halves short vs ws (λ m k. cond (leb q m) (one_of_size s (0 + k)) 0)
-    ∙ (λ i. over false ws (λ x. over short vs (λ y. both x y i)) + cond short (over true ws (fits q 0 s)) 0)
-  where
-    both : (x y : Set) → cond (leb q (y.weight + x.weight)) (one_of_size s (0 + (y.size + x.size))) 0 ≡ fits (q - x.weight) x.size s y
-    both x y = grind (arith, meets-less, one_of_size)
+    let both : (x y : Set) → cond (leb q (y.weight + x.weight)) (one_of_size s (0 + (y.size + x.size))) 0 ≡ fits (q - x.weight) x.size s y =
+        λ x y. grind (arith, meets-less, one_of_size) in
+    grind (arith, both, over-halves short vs ws (λ m k. cond (leb q m) (one_of_size s (0 + k)) 0))
 
 -- two sets meet a quota together, whichever is named first
 pub fits-turned : (q s : ℕ) (x y : Set) → fits (q - x.weight) x.size s y ≡ fits (q - y.weight) y.size s x
@@ -71,17 +67,17 @@ has-front n b odd = ap (λ (k : ℕ). k == 1) (bit_at_lowest n ∙ odd)
 pub left_out-over : (short : Bool) (p : ℕ) (ws : List ℕ) (g : ℕ → ℕ → ℕ) → over short (left_out p ws) (λ x. g x.weight x.size)
     ≡ over short ws (λ x. cond (has p x.members) 0 (g x.weight x.size))
 unfolding over left_out
-left_out-over short p [] g = λ i. cond short 0 (cond (sym (has-none p) i) 0 (g 0 0))
+left_out-over short p [] g = grind (arith, has-none p)
 left_out-over short zero (w ∷ ws) g =
     let out : over short ws (λ x. cond (has 0 (2 * x.members)) 0 (g x.weight x.size)) ≡ over short ws (λ x. g x.weight x.size) =
-    λ i. over short ws (λ x. cond (has-front (2 * x.members) 0 (omega arith) i) 0 (g x.weight x.size)) in
+        grind (arith, has-front) in
     let with_it : over short ws (λ x. cond (has 0 (2 * x.members + 1)) 0 (g (x.weight + w) (x.size + 1))) ≡ over short ws (λ x. 0) =
-    λ i. over short ws (λ x. cond (has-front (2 * x.members + 1) 1 (omega arith) i) 0 (g (x.weight + w) (x.size + 1))) in
+        grind (arith, has-front) in
     grind (arith, nat_tests, out, with_it, over-zero short ws)
 left_out-over short (suc p) (w ∷ ws) g =
-    let front : cond (has (suc p) 1) 0 (g 0 1) ≡ g 0 1 = λ i. cond ((has-later p 1 0 (omega arith) ∙ has-none p) i) 0 (g 0 1) in
     let out : over short ws (λ x. cond (has (suc p) (2 * x.members)) 0 (g x.weight x.size))
     ≡ over short ws (λ x. cond (has p x.members) 0 (g x.weight x.size)) = grind (arith, has-later) in
     let with_it : over short ws (λ x. cond (has (suc p) (2 * x.members + 1)) 0 (g (x.weight + w) (x.size + 1)))
     ≡ over short ws (λ x. cond (has p x.members) 0 (g (x.weight + w) (x.size + 1))) = grind (arith, has-later) in
-    grind (arith, nat_tests, front, out, with_it, left_out-over short p ws g, left_out-over short p ws (λ m k. g (m + w) (k + 1)))
+    grind (arith, nat_tests, has-later p 1 0, has-none p, out, with_it, left_out-over short p ws g,
+    left_out-over short p ws (λ m k. g (m + w) (k + 1)))

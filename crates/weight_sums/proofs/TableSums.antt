@@ -34,7 +34,7 @@ added_to n p key g xs = sum_by (λ x. cond (ltb (key x) n) (cond (has p (key x))
 
 pub added-none : (p : ℕ) (key g : Set → ℕ) (xs : List Set) → added_to 0 p key g xs ≡ 0
 unfolding added_to
-added-none p key g xs = (λ i. sum_by (λ x. cond (le-ltb (key x) 0 (omega arith) i) (cond (has p (key x)) 0 (g x)) 0) xs) ∙ sum-zero xs
+added-none p key g xs = grind (arith, nat_tests, sum-zero xs)
 
 pub added-further : (n p : ℕ) (key g : Set → ℕ) (xs : List Set)
     → added_to (n + 1) p key g xs ≡ added_to n p key g xs + cond (has p n) 0 (sum_by (λ x. cond (eqb (key x) n) (g x) 0) xs)
@@ -51,7 +51,6 @@ pub added-all : (m n p : ℕ) (key g : Set → ℕ) (xs : List Set) → All (λ 
     → added_to n p key g xs ≡ sum_by (λ x. cond (has p (key x)) 0 (g x)) xs
 unfolding added_to
 added-all m n p key g xs keys all =
-    sum-alike (λ x. cond (ltb (key x) n) (cond (has p (key x)) 0 (g x)) 0) (λ x. cond (has p (key x)) 0 (g x)) xs nobody
-    (λ k lt. grind (arith, nat_tests))
+    grind (arith, nat_tests, sum-alike (λ x. cond (ltb (key x) n) (cond (has p (key x)) 0 (g x)) 0) (λ x. cond (has p (key x)) 0 (g x)) xs nobody)
 
 pub ruleset adding = (added-further)

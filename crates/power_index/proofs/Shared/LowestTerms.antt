@@ -11,7 +11,7 @@ from-test : (a b d : ℕ) → divides_both a b d ≡ true → (d ∣ a) × (d �
 from-test a b d h = (dvd_of_mod-eq-zero d (grind (arith, nat_tests)), dvd_of_mod-eq-zero d (grind (arith, nat_tests)))
 
 to-test : (a b d : ℕ) → d ∣ a → d ∣ b → divides_both a b d ≡ true
-to-test a b d da db = let a0 = mod-eq-zero_of_dvd d da in let b0 = mod-eq-zero_of_dvd d db in grind (arith, nat_tests)
+to-test a b d da db = grind (arith, nat_tests, mod-eq-zero_of_dvd d da, mod-eq-zero_of_dvd d db)
 
 -- what the search finds divides both
 found-divides : (a b n : ℕ) → (common_divisor_up_to a b n ∣ a) × (common_divisor_up_to a b n ∣ b)

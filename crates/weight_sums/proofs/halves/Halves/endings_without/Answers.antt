@@ -10,16 +10,16 @@ met-at : (c : After-without-own) (s : ℕ) → s ≤ 40
     (get_or c.without-shortened.result s 0)
     (get_or c.without-own.result s 0)
 met-at c s small =
-    let are = c.requires.halves in let q : ℕ = c.args.self.now.quota in
-    let half : ℕ = length c.args.weights.now / 2 in let fr : List ℕ = take half c.args.weights.now in
-    let bk : List ℕ = drop half c.args.weights.now in let whole = take-append-drop half c.args.weights.now in
-    let long : length fr ≡ half = let l = length-take half c.args.weights.now in omega (arith, l) in
-    let won = c.without-won.ensures q s false fr bk are.first are.second are.won are.first_are are.second_are long small in
-    let shortened = c.without-shortened.ensures q s true fr bk are.first are.second_shortened are.shortened are.first_are
-    are.second_shortened_are long small in
-    let own = c.without-own.ensures q are.first_shortened (nobody ∷ []) s are.own small in record {
+    let are = c.requires.halves in
+    let half : ℕ = length c.args.weights.now / 2 in
+    let whole = take-append-drop half c.args.weights.now in
+    let long : length (take half c.args.weights.now) ≡ half = grind (arith, length-take half c.args.weights.now) in
+    let won = c.without-won.ensures _ s _ _ _ are.first are.second are.won are.first_are are.second_are long small in
+    let less = c.without-shortened.ensures _ s _ _ _ are.first _ are.shortened are.first_are are.second_shortened_are long small in
+    let own = c.without-own.ensures _ are.first_shortened (nobody ∷ []) s are.own small in record {
       won_is = omega (arith, rw whole at won);
-      shortened_is = omega (arith, rw whole at shortened, own, own-met fr are.first_shortened are.first_shortened_are q s c.args.place);
+      shortened_is = omega (arith, rw whole at less, own,
+          own-met (take half c.args.weights.now) are.first_shortened are.first_shortened_are c.args.self.now.quota s c.args.place);
     }
 
 pub left_of-requires : goal.left_of-requires
