@@ -208,7 +208,7 @@ minimal-completing v votes one =
     let rule = rule-is v 0 votes (omega (arith, one)) in
     let led : (c : ℕ) → c < 2 ^ n → minimal v c ≡ leads r.weights 0 r.quota 0 c =
         grind (arith, leads-are, falls-first, minimal-min, same_test) in
-    grind (arith, rule.full, leads-list r.weights r.quota 0, filter-same (minimal v) (leads r.weights 0 r.quota 0) (down (2 ^ n))
-    (λ k d lt. led _ (down-below (2 ^ n) (2 ^ n) (omega arith) k d lt)))
+    ap (λ (n : ℕ). filter (minimal v) (down (2 ^ n))) (sym rule.full) ∙ filter-same (minimal v) (leads r.weights 0 r.quota 0) (down (2 ^ n))
+    (λ k d lt. led _ (down-below (2 ^ n) (2 ^ n) (omega arith) k d lt)) ∙ leads-list r.weights r.quota 0
 
 pub ruleset laws = (minimal-completing)

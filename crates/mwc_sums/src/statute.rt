@@ -105,7 +105,6 @@ impl Statute {
     }
 
     /// The rules that share a member with one of them, or the others.
-    #[tactic(auto, unfolding(crate::specs::Inner::Rules::side))]
     pub(crate) fn beside(
         &self,
         alloc: Global,
@@ -127,7 +126,6 @@ impl Statute {
     }
 
     /// Those that sums count, or those that they leave.
-    #[tactic(auto, unfolding(crate::specs::Inner::Rules::side))]
     pub(crate) fn part(&self, alloc: Global, counted: bool) -> Result<Statute, Memory>
         ensures members { IfOk result (λ s. s.members ≡ self.now.members) }
         ensures rules { IfOk result (λ s. s.rules ≡ part_of counted self.now.members self.now.rules) }

@@ -1,6 +1,12 @@
+use Rattle.mwc_sums.proofs.Imports.{arith, side}
+use Rattle.std.proofs.Common.{take_all}
 use Rattle.mwc_sums.proofs.Sharing.{kept-fair}
 use Rattle.mwc_sums.proofs.statute.Statute.part.Goals as goal
 
 pub invariant_of-result : goal.invariant_of-result
 invariant_of-result c =
     rw (c.members-members.ensures.count, c.loop-rule.invariant) (kept-fair _ c.loop-rule.rule _ _ c.members-members.ensures.fair)
+
+pub returns-clause-rules : goal.returns-clause-rules
+unfolding side
+returns-clause-rules c = grind (arith, take_all)
