@@ -1,10 +1,10 @@
 -- Tests: which members pass one, what of a list does, and how many coalitions.
 use Rattle.mwc_sums.proofs.Imports.{list_all, list_any, range_with_len, nat_tests, length-range_with_len, All-filter, AllPass-from_list_all}
-use Rattle.mwc_sums.proofs.Imports.{◌∙◌, ◌&&◌, not, ◌⊎◌, ℕ, ◌<◌, Bool, true, false, All, List, filter, ap, sym, arith, inl, inr, length-map}
-use Rattle.mwc_sums.proofs.Imports.{places-at, cond, [], ◌∷◌, map, refl, All-head, All-tail, suc, ◌+◌, ◌*◌, ◌^◌, ◌++◌, length, get_or, ◌≡◌}
-use Rattle.mwc_sums.proofs.Imports.{filter-append, filter-both, and-true, down, down-below}
+use Rattle.mwc_sums.proofs.Imports.{◌∙◌, ◌&&◌, not, ◌⊎◌, ℕ, ◌<◌, Bool, true, false, All, List, filter, ap, arith, length-map, places-at}
+use Rattle.mwc_sums.proofs.Imports.{cond, [], ◌∷◌, map, refl, All-head, All-tail, suc, ◌+◌, ◌*◌, ◌^◌, ◌++◌, length, get_or, ◌≡◌}
+use Rattle.mwc_sums.proofs.Imports.{filter-append, filter-both, down, down-below}
 use Rattle.std.proofs.lemmas.{Bool.cases_Bool, List.Elements.filter_passes, List.Folds.Any-from_list_any, List.Folds.list_any_at}
-use Rattle.std.proofs.{Common.length-append, Math.Bool.and-false}
+use Rattle.std.proofs.Common.{length-append}
 use Rattle.mwc_sums.proofs.Completing.{double-pow, down-two}
 
 pub any-at : (t : ℕ → Bool) (n i : ℕ) → i < n → t i ≡ true → list_any t (range_with_len 0 n) ≡ true

@@ -9,12 +9,12 @@ pub use Rattle.mwc_sums.specs.{Inner.Seats.IsTallyOfPlace, Inner.Seats.key_at, S
 pub use Rattle.mwc_sums.specs.{Heads.are_of_one_chamber, Inner.Fair.IsFair, Inner.Rules.AreRulesOf, Vetoers.can_veto}
 pub use Rattle.power_index.proofs.Shared.{Minimal.minimal-few, Sums.sum-filter, Sums.sum-range}
 pub use Rattle.power_index.specs.{Counting.contains, Counting.size_of, Tables.IsTallyOf, Tables.no_tally}
-pub use Rattle.std.proofs.Common.{All, Bool, List, [], ap, arith, cond, eqb, eqb-true, false, filter, get_or, inl, inr, le-ltb, leb, length}
-pub use Rattle.std.proofs.Common.{lt-ltb, ltb, ltb-true, map, not, refl, string_bytes, subst, suc, sum, sum_by, sym, take, true, zero, ℕ}
-pub use Rattle.std.proofs.Common.{◌&&◌, ◌*◌, ◌++◌, ◌+◌, ◌-◌, ◌<◌, ◌==◌, ◌^◌, ◌||◌, ◌↔◌, ◌∙◌, ◌∷◌, ◌≡◌, ◌≢◌, ◌≤◌, ◌⊎◌}
+pub use Rattle.std.proofs.Common.{All, Bool, List, [], ap, arith, cond, eqb, false, filter, get_or, inl, inr, le-ltb, leb, length, ltb, map}
+pub use Rattle.std.proofs.Common.{not, refl, string_bytes, subst, suc, sum, sum_by, sym, take, take_all, true, zero, ℕ, ◌&&◌, ◌*◌, ◌++◌}
+pub use Rattle.std.proofs.Common.{◌+◌, ◌-◌, ◌<◌, ◌==◌, ◌^◌, ◌||◌, ◌↔◌, ◌∙◌, ◌∷◌, ◌≡◌, ◌≢◌, ◌≤◌, ◌⊎◌}
+pub use Rattle.std.proofs.lemmas.Bool.{both_ways, cases_eq, cases_lt, true_from_ne_false}
 pub use Rattle.std.proofs.lemmas.List.{Filters.length-filter_both, FromFn.length-map-range_with_len, FromFn.length-range_with_len}
-pub use Rattle.std.proofs.{Math.Bool.and-true, lemmas.Bool.Decides.nat_tests, lemmas.Grind.common_steps, lemmas.List.length-map}
-pub use Rattle.std.proofs.lemmas.Bool.{and_from, and_parts, both_ways, cases_eq, cases_lt, true_from_ne_false}
+pub use Rattle.std.proofs.lemmas.{Bool.Decides.nat_tests, Grind.common_steps, List.length-map}
 pub use Rattle.std.proofs.lemmas.List.Elements.{All-filter, All-from_get_or, All-from_recursion, All-head, All-tail, filter-append}
 pub use Rattle.std.proofs.lemmas.List.Sums.{AllPass-from_list_all, length-filter, list_all-from_AllPass, sum_by-cons}
 pub use Rattle.std.specs.List.{list_all, list_any, range_with_len}

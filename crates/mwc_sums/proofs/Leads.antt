@@ -1,11 +1,11 @@
 -- The coalitions that meet a quota and have as many members as are asked for, those that members lead to, the heaviest first, and how many.
 use Rattle.mwc_sums.proofs.Imports.{◌≡◌, ◌∙◌, ◌↔◌, ◌⊎◌, ◌&&◌, ℕ, ◌+◌, ◌-◌, ◌*◌, ◌^◌, ◌<◌, ◌≤◌, Bool, true, cond, leb, List, [], ◌∷◌, length}
-use Rattle.mwc_sums.proofs.Imports.{get_or, take, sym, ap, subst, arith, range_with_len, cases_lt, eqb-true, length-filter, RuleView, Votes}
-use Rattle.mwc_sums.proofs.Imports.{nat_tests, refl, false, ltb, ◌++◌, map, filter, inl, inr, le-ltb, lt-ltb, down, minimal_coalitions, suc}
-use Rattle.mwc_sums.proofs.Imports.{IsVotes, has, without, weight, size, wins, minimal, rule_at, weight-without, rule-is, sum-range, zero}
-use Rattle.mwc_sums.proofs.Imports.{◌==◌, ◌||◌, not, down-below}
+use Rattle.mwc_sums.proofs.Imports.{get_or, take, sym, ap, arith, range_with_len, cases_lt, length-filter, RuleView, Votes, nat_tests, refl}
+use Rattle.mwc_sums.proofs.Imports.{false, ltb, ◌++◌, map, filter, inl, inr, le-ltb, down, minimal_coalitions, suc, IsVotes, has, without}
+use Rattle.mwc_sums.proofs.Imports.{weight, size, wins, minimal, rule_at, weight-without, rule-is, sum-range, zero, ◌==◌, ◌||◌, not}
+use Rattle.mwc_sums.proofs.Imports.{down-below}
 use Rattle.std.proofs.lemmas.{Bool.cond-false, Bool.cond-true, List.get_or-replicate, List.length-replicate}
-use Rattle.std.proofs.Common.{replicate}
+use Rattle.std.proofs.Common.{lt-ltb, replicate}
 use Rattle.power_index.proofs.Shared.Sums.{sum-times}
 use Rattle.mwc_sums.specs.{Completing.completing, Heads.AsksForHeads, Heads.first_rule, Heads.IsMinimalByHeads}
 use Rattle.mwc_sums.proofs.Completing.{IsLeast, wins-one, last-in, last-behind, Falls, double-pow, first-in, first-out, last, none-or-some}
@@ -13,7 +13,7 @@ use Rattle.mwc_sums.proofs.Completing.{rest-in, rest-out, size-left, size-with, 
 use Rattle.mwc_sums.proofs.{Placed.minimal-min, Seating.IsMin, VetoRules.weight-sum}
 use Rattle.council_game.proofs.Shared.WeightByDigits.{weight-nil}
 use Rattle.weight_sums.proofs.Shared.Choices.{choose-none, left_out-past}
-use Rattle.weight_sums.specs.Endings.{choose, one_of_size, fill, endings, left_out}
+use Rattle.weight_sums.specs.Endings.{choose, fill, endings, left_out}
 use Rattle.mwc_sums.proofs.Counting.{filter-none, filter-same, count, count-and, count-first, count-never, count-parted, filter-first}
 use Rattle.council_game.specs.Votes.{IsRanked}
 
@@ -21,9 +21,13 @@ use Rattle.council_game.specs.Votes.{IsRanked}
 pub alike-weight : (ws : List ℕ) (e c : ℕ) → ((p : ℕ) → p < length ws → get_or ws p 0 ≡ e) → weight ws c ≡ size (length ws) c * e
 alike-weight ws e c same =
     let has_it : ℕ → ℕ = λ p. cond (has (length ws) p c) 1 0 in
-    grind (arith, weight-sum ws (length ws) c refl, sum-times has_it e (range_with_len 0 (length ws)),
-    length-filter (λ p. has (length ws) p c) (range_with_len 0 (length ws)),
-    sum-range (λ p. has_it p * get_or ws p 0) (λ p. has_it p * e) 0 (length ws) (λ p _ lt. grind (arith, same p)))
+    grind (
+      arith,
+      weight-sum ws (length ws) c refl,
+      sum-times has_it e (range_with_len 0 (length ws)),
+      length-filter (λ p. has (length ws) p c) (range_with_len 0 (length ws)),
+      sum-range (λ p. has_it p * get_or ws p 0) (λ p. has_it p * e) 0 (length ws) (λ p _ lt. grind (arith, same p)),
+    )
 
 -- one member less
 size-without : (n p c : ℕ) → p < n → has n p c ≡ true → size n (without n p c) + 1 ≡ size n c
@@ -31,7 +35,7 @@ unfolding has without
 size-without n p c lt inside =
     let long : length (replicate n 1) ≡ n = length-replicate {A = ℕ} n 1 in
     let ones : (d : ℕ) → weight (replicate n 1) d ≡ size n d =
-        λ d. grind (arith, long, alike-weight (replicate n 1) 1 d, get_or-replicate {A = ℕ} n) in
+    λ d. grind (arith, long, alike-weight (replicate n 1) 1 d, get_or-replicate {A = ℕ} n) in
     grind (arith, nat_tests, long, weight-without (replicate n 1) p c, get_or-replicate {A = ℕ} n p 1 0 lt, ones)
 
 -- a condition, and a number of members
@@ -58,8 +62,14 @@ pub heads-law : (v : Votes) (heads c : ℕ) → IsVotes v → length v.rules ≡
     → c < 2 ^ v.members → (minimal v c ≡ true) ↔ IsMinimalByHeads v heads c
 heads-law v heads c votes two asks below =
     let same : wins v.rules ≡ (λ x. wins (take 1 v.rules) x && leb heads (size v.members x)) = grind (arith, two-wins, rule-is) in
-    grind (arith, same, minimal-min v c, by-heads v.members (wins (take 1 v.rules)) heads c, minimal-min (first_rule v) c,
-    first-wins v.rules c votes.has_rule)
+    grind (
+      arith,
+      same,
+      minimal-min v c,
+      by-heads v.members (wins (take 1 v.rules)) heads c,
+      minimal-min (first_rule v) c,
+      first-wins v.rules c votes.has_rule,
+    )
 
 -- a coalition that members lead to, from a need and a number of members: where the first meets the need, others behind it fill it up to the heads
 unfoldable pub leads : List ℕ → ℕ → ℕ → ℕ → ℕ → Bool
@@ -109,8 +119,13 @@ filled : (ws : List ℕ) (p heads s a : ℕ)
     ≡ fill heads s (length (left_out p ws)) a
 filled ws p heads s a =
     (λ i. count (λ c. alike (size (length ws) c) (lacks (length ws) p c) i) (down (2 ^ length ws)))
-    ∙ grind (arith, nat_tests, choose-none, chosen ws p (heads - a),
-    count-and (λ c. lacks (length ws) p c && (size (length ws) c == heads - a)) (a + (heads - a) == s) (down (2 ^ length ws)))
+    ∙ grind (
+      arith,
+      nat_tests,
+      choose-none,
+      chosen ws p (heads - a),
+      count-and (λ c. lacks (length ws) p c && (size (length ws) c == heads - a)) (a + (heads - a) == s) (down (2 ^ length ws)),
+    )
   where
     alike : (x : ℕ) (l : Bool) → ((x == heads - a) && (l && (a + x == s))) ≡ ((l && (x == heads - a)) && (a + (heads - a) == s))
     alike x l = grind (arith, nat_tests)
@@ -167,8 +182,16 @@ by-last (w ∷ ws) heads r a c pos lt = elim (cases_lt c (2 ^ length ws)) [
 pub leads-are : (ws : List ℕ) (heads r c : ℕ) → Falls ws → 0 < r → c < 2 ^ length ws
     → (leads ws heads r 0 c ≡ true) ↔ IsMin (length ws) (λ x. leb r (weight ws x) && leb heads (size (length ws) x)) c
 leads-are ws heads r c falls pos lt =
-    grind (arith, nat_tests, none-or-some, last-in, last-behind, by-last ws heads r 0 c pos lt,
-    by-heads (length ws) (λ x. leb r (weight ws x)) heads c, least-weights ws r c)
+    grind (
+      arith,
+      nat_tests,
+      none-or-some,
+      last-in,
+      last-behind,
+      by-last ws heads r 0 c pos lt,
+      by-heads (length ws) (λ x. leb r (weight ws x)) heads c,
+      least-weights ws r c,
+    )
 
 -- ---- the list of them, where no heads are asked for
 nobody : (n : ℕ) → filter (λ c. size n c == 0) (down (2 ^ n)) ≡ 0 ∷ []
@@ -207,7 +230,7 @@ minimal-completing v votes one =
     let same : wins v.rules ≡ (λ x. leb r.quota (weight r.weights x) && leb 0 (size n x)) = λ k x. one-wins v.rules x one k in
     let rule = rule-is v 0 votes (omega (arith, one)) in
     let led : (c : ℕ) → c < 2 ^ n → minimal v c ≡ leads r.weights 0 r.quota 0 c =
-        grind (arith, leads-are, falls-first, minimal-min, same_test) in
+    grind (arith, leads-are, falls-first, minimal-min, same_test) in
     ap (λ (n : ℕ). filter (minimal v) (down (2 ^ n))) (sym rule.full) ∙ filter-same (minimal v) (leads r.weights 0 r.quota 0) (down (2 ^ n))
     (λ k d lt. led _ (down-below (2 ^ n) (2 ^ n) (omega arith) k d lt)) ∙ leads-list r.weights r.quota 0
 

@@ -1,8 +1,8 @@
 -- The minimal winning coalitions of a game hold the least sets of members that win.
-use Rattle.mwc_sums.proofs.Imports.{◌↔◌, ◌==◌, ◌&&◌, not, ℕ, suc, ◌*◌, ◌<◌, Bool, true, false, cond, leb, List, [], ◌∷◌, length, length-map}
-use Rattle.mwc_sums.proofs.Imports.{GameView, IsGame, votes_of, ranks-are, places-at, contains, sum-range, HasNoWeight, weighs, ◌≡◌, ◌∙◌}
+use Rattle.mwc_sums.proofs.Imports.{◌↔◌, ◌==◌, not, ℕ, suc, ◌*◌, ◌<◌, Bool, true, false, cond, List, [], ◌∷◌, length, length-map, GameView}
 use Rattle.mwc_sums.proofs.Imports.{length-range_with_len, RuleView, Votes, has, wins, weight, minimal, member_at, get_or, map, sym, ap}
-use Rattle.mwc_sums.proofs.Imports.{refl, subst, arith, list_any, nat_tests, lt-ltb, met, members_by_rank}
+use Rattle.mwc_sums.proofs.Imports.{IsGame, votes_of, ranks-are, places-at, contains, sum-range, HasNoWeight, weighs, ◌≡◌, ◌∙◌}
+use Rattle.mwc_sums.proofs.Imports.{refl, subst, arith, list_any, nat_tests, met, members_by_rank}
 use Rattle.std.proofs.lemmas.List.{get_or-map}
 use Rattle.council_game.specs.Ranks.{places, rule_by_rank}
 use Rattle.council_game.proofs.Shared.{Meanings.needs-each-member, RankPlaces.game-rank_places, Rankings.length-weights_by_rank}
@@ -21,8 +21,14 @@ weight-seen n m ranks is r ws c long at =
 pub ranked-at : (ranks : List ℕ) (r : RuleView) (p : ℕ) → p < length ranks
     → get_or (rule_by_rank ranks r).weights p 0 ≡ get_or r.weights (member_at ranks p) 0
 ranked-at ranks r p lt =
-    grind (arith, places-at (length ranks) p 0 lt, length-map (places ranks) (member_at ranks), length-range_with_len 0 (length ranks),
-    get_or-map (member_at ranks) (places ranks) p 0 0, get_or-map (λ m. get_or r.weights m 0) (members_by_rank ranks) p 0 0)
+    grind (
+      arith,
+      places-at (length ranks) p 0 lt,
+      length-map (places ranks) (member_at ranks),
+      length-range_with_len 0 (length ranks),
+      get_or-map (member_at ranks) (places ranks) p 0 0,
+      get_or-map (λ m. get_or r.weights m 0) (members_by_rank ranks) p 0 0,
+    )
 
 -- ---- who meets rules
 -- a member has weight in some rule
@@ -37,8 +43,12 @@ no-weight (r ∷ rs) i none = grind (arith, nat_tests, none 0 r (omega arith), n
 pub met-seen : (n : ℕ) (rs : List RuleView) (f h : ℕ → Bool) → ((i : ℕ) → i < n → has_weight rs i ≡ true → f i ≡ h i) → met n rs f ≡ met n rs h
 met-seen n [] f h same = refl
 met-seen n (r ∷ rs) f h same =
-    grind (arith, nat_tests, met-seen n rs f h,
-    sum-range (λ i. cond (f i) 1 0 * get_or r.weights i 0) (λ i. cond (h i) 1 0 * get_or r.weights i 0) 0 n)
+    grind (
+      arith,
+      nat_tests,
+      met-seen n rs f h,
+      sum-range (λ i. cond (f i) 1 0 * get_or r.weights i 0) (λ i. cond (h i) 1 0 * get_or r.weights i 0) 0 n,
+    )
 
 pub met-looks : (n : ℕ) (rs : List RuleView) → LooksAt n (met n rs)
 met-looks n rs f h same = met-seen n rs f h (λ i lt _. same i lt)
@@ -66,7 +76,12 @@ module _ {g : GameView} (is : IsGame g) where
   pub game-holds : (n : ℕ) → length g.names ≡ n → Holds n (met n g.rules) (length g.names) g.ranks (minimal (votes_of g))
   game-holds n e = subst (λ (n : ℕ). Holds n (met n g.rules) (length g.names) g.ranks (minimal (votes_of g))) e (record {
     seats = game-seats;
-    least = λ c _. grind (arith, nat_tests, wins-each g.rules, minimal-min (votes_of g) c,
-        least-min game-seats (met (length g.names) g.rules) (met-looks (length g.names) g.rules) c);
+    least = λ c _. grind (
+      arith,
+      nat_tests,
+      wins-each g.rules,
+      minimal-min (votes_of g) c,
+      least-min game-seats (met (length g.names) g.rules) (met-looks (length g.names) g.rules) c,
+    );
     inside = λ f least i lt in'. game-seats.are.place_below i lt;
   })

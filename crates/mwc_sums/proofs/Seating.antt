@@ -1,7 +1,7 @@
 -- Coalitions of the first places of a ranking, and the sets of members that they hold.
+use Rattle.mwc_sums.proofs.Imports.{ap, refl, arith, sum_by, range_with_len, cases_eq, le-ltb, length-filter, nat_tests, has, size, without}
 use Rattle.mwc_sums.proofs.Imports.{◌≡◌, ◌∙◌, ◌↔◌, ◌&&◌, not, ℕ, zero, suc, ◌+◌, ◌^◌, ◌<◌, ◌≤◌, Bool, true, false, cond, List, get_or, sym}
-use Rattle.mwc_sums.proofs.Imports.{ap, refl, arith, inl, inr, sum_by, range_with_len, cases_eq, le-ltb, length-filter, nat_tests, has}
-use Rattle.mwc_sums.proofs.Imports.{size, without, member_at, RanksAre, sum-range, eqb}
+use Rattle.mwc_sums.proofs.Imports.{member_at, RanksAre, sum-range, eqb}
 use Rattle.coalitions.proofs.Shared.Digits.{has-kept, has-gone, same-places}
 use Rattle.council_game.specs.Ranks.{AreRankPlaces}
 use Rattle.council_game.proofs.Shared.RankPlaces.{by-member}
@@ -82,8 +82,15 @@ module _ {n m : ℕ} {ranks : List ℕ} (is : IsSeating n m ranks) where
 
   seen-less : (c i j : ℕ) → i < n → j < n → seen m ranks c i ≡ true → seen m ranks (without m (get_or ranks i 0) c) j ≡ less (seen m ranks c) i j
   seen-less c i j li lj inside =
-      grind (arith, nat_tests, cases_eq j i, has-gone m (get_or ranks i 0) c, has-kept m (get_or ranks j 0) (get_or ranks i 0) c,
-      is.are.member_back j lj, is.are.member_back i li)
+      grind (
+        arith,
+        nat_tests,
+        cases_eq j i,
+        has-gone m (get_or ranks i 0) c,
+        has-kept m (get_or ranks j 0) (get_or ranks i 0) c,
+        is.are.member_back j lj,
+        is.are.member_back i li,
+      )
 
   -- a sum over the members, by place, where those with no place add nothing
   pub placed-sum : (u : ℕ → ℕ) → ((i : ℕ) → i < n → m ≤ get_or ranks i 0 → u i ≡ 0)

@@ -1,9 +1,9 @@
 -- The rules that share a member with one, and the others.
-use Rattle.mwc_sums.proofs.Imports.{◌-◌, length, get_or, All-from_get_or, RuleView, rule_at, GameView, nat_tests, met, share, chamber_of, filter}
-use Rattle.mwc_sums.proofs.Imports.{List, [], ◌∷◌, HasNoWeight, AreChambersOf, are_of_one_chamber, is_counted, statute, IsFair, AreRulesOf}
-use Rattle.mwc_sums.proofs.Imports.{filter-both, ◌≡◌, ◌≢◌, ◌∙◌, ◌&&◌, ◌||◌, not, ◌⊎◌, ℕ, zero, suc, ◌+◌, ◌<◌, ◌≤◌, Bool, true, false, ltb}
-use Rattle.mwc_sums.proofs.Imports.{take, sym, ap, true_from_ne_false, length-filter_both, AllPass-from_list_all, list_all-from_AllPass}
-use Rattle.mwc_sums.proofs.Imports.{All-filter, refl, arith, inl, inr, All, ltb-true, both_ways, side}
+use Rattle.mwc_sums.proofs.Imports.{AreRulesOf, filter-both, ◌≡◌, ◌≢◌, ◌&&◌, ◌||◌, not, ◌⊎◌, ℕ, ◌+◌, ◌<◌, ◌≤◌, Bool, true, false, ltb, take}
+use Rattle.mwc_sums.proofs.Imports.{true_from_ne_false, length-filter_both, AllPass-from_list_all, list_all-from_AllPass, All-filter, refl}
+use Rattle.mwc_sums.proofs.Imports.{◌-◌, length, get_or, All-from_get_or, RuleView, rule_at, GameView, nat_tests, met, share, chamber_of}
+use Rattle.mwc_sums.proofs.Imports.{filter, List, [], ◌∷◌, HasNoWeight, AreChambersOf, are_of_one_chamber, is_counted, statute, IsFair}
+use Rattle.mwc_sums.proofs.Imports.{arith, inl, inr, All, side}
 use Rattle.std.proofs.lemmas.List.Elements.{All-take}
 use Rattle.mwc_sums.specs.{Inner.Rules.AreOfChambers, Inner.Rules.beside_of, Inner.Rules.part_of, Statute.counted, Statute.left}
 use Rattle.mwc_sums.proofs.Counting.{filter-within, All-passing, any-at, any-of, missing}
@@ -18,8 +18,15 @@ share-turned n a b they = grind (arith, nat_tests, share-at, any-of)
 
 share-self : (n : ℕ) (r : RuleView) → IsFair n r → share n r r ≡ true
 share-self n r fair =
-    grind (arith, nat_tests, missing (λ i. ltb 0 (get_or r.weights i 0)) (λ i. false) n, share-at n, alike-sum r.weights 0,
-    good-met r fair.quota, good-some r fair.quota)
+    grind (
+      arith,
+      nat_tests,
+      missing (λ i. ltb 0 (get_or r.weights i 0)) (λ i. false) n,
+      share-at n,
+      alike-sum r.weights 0,
+      good-met r fair.quota,
+      good-some r fair.quota,
+    )
 
 -- ---- lists
 -- what passes a test stands among what passes it
@@ -119,8 +126,13 @@ module _ (n : ℕ) (rs : List RuleView) (fair : All (IsFair n) rs) where
         → AreOfChambers n (side true q rs)
     unfolding side
     chambers-within each = all-passing (λ r. are_of_one_chamber n (chamber_of n (filter q rs) r) ≡ true) q rs (λ j lj is.
-        grind (arith, each j lj is, closed j, filter-within q (share n (rule j)) rs,
-        All-from_get_or (λ y. share n (rule j) y ≡ true → q y ≡ true) rs none))
+        grind (
+          arith,
+          each j lj is,
+          closed j,
+          filter-within q (share n (rule j)) rs,
+          All-from_get_or (λ y. share n (rule j) y ≡ true → q y ≡ true) rs none,
+        ))
 
     -- a member has weight in them, or in the others
     parts-apart : (i : ℕ) → i < n → HasNoWeight (filter q rs) i ⊎ HasNoWeight (filter (λ x. not (q x)) rs) i

@@ -4,12 +4,12 @@ use Rattle.mwc_sums.proofs.Imports.{rule-is, true_from_ne_false, both_ways, leng
 use Rattle.mwc_sums.proofs.Imports.{IsFair, take, statute, sum-zero, AreRulesOf, length-filter_both, not, ◌++◌, ◌≤◌, cases_lt, le-ltb, cond}
 use Rattle.mwc_sums.proofs.Imports.{nat_tests, weighs, met, rules_beside, can_veto, ◌^◌, map, filter, ap, refl, arith, inl, inr, All, sum}
 use Rattle.mwc_sums.proofs.Imports.{leb, ltb, List, [], ◌∷◌, length, sum-filter, has, weight, length-range_with_len, places-at, All-head}
-use Rattle.mwc_sums.proofs.Imports.{All-tail, sum_by-range-more, RuleView, sum-plus, get_or, wins, Votes, IsVotes, rule_at, ltb-true}
-use Rattle.mwc_sums.proofs.Imports.{length-map, filter-append, common_steps}
+use Rattle.mwc_sums.proofs.Imports.{All-tail, sum_by-range-more, RuleView, sum-plus, get_or, wins, Votes, IsVotes, rule_at, length-map}
+use Rattle.mwc_sums.proofs.Imports.{filter-append, common_steps}
+use Rattle.std.proofs.Common.{ltb-true, fold, None, Ok, Err}
 use Rattle.std.proofs.lemmas.List.{Folds.list_all_at, Folds.list_any_none, FromFn.fill_by_all, FromFn.get_or-map-range_with_len}
 use Rattle.std.proofs.lemmas.List.{Elements.All-cons, Elements.All-map, Sums.sum-map, Sums.get_or-le-sum_by}
 use Rattle.mwc_sums.specs.Vetoers.{number_of, rest_of, rule_for, IsVetoer}
-use Rattle.std.proofs.Common.{fold, None, Ok, Err}
 use Rattle.mwc_sums.proofs.Counting.{missing, All-passing}
 use Rattle.std.proofs.lemmas.List.{get_or_past, nil_from_length, take_more, map-append}
 use Rattle.council_game.specs.{Game.has_bad_quota, Game.made_game, Game.first_weights, declared.fault.GameFault.TheVariants.Memory}
@@ -53,9 +53,15 @@ pub missed : (r : RuleView) (f : ℕ → Bool) (n i : ℕ) → length r.weights 
     → leb r.quota (weighs n r f) ≡ false
 missed r f n i full lt out less =
     let other : ℕ → ℕ = λ j. cond (f j) 0 (get_or r.weights j 0) in
-    grind (arith, nat_tests, places-at n i 0 lt, row-sum r.weights n full, length-range_with_len 0 n,
-    get_or-le-sum_by other (range_with_len 0 n) i 0,
-    sum-parts (λ j. get_or r.weights j 0) (λ j. cond (f j) 1 0 * get_or r.weights j 0) other n (λ j lj. grind (arith, nat_tests)))
+    grind (
+      arith,
+      nat_tests,
+      places-at n i 0 lt,
+      row-sum r.weights n full,
+      length-range_with_len 0 n,
+      get_or-le-sum_by other (range_with_len 0 n) i 0,
+      sum-parts (λ j. get_or r.weights j 0) (λ j. cond (f j) 1 0 * get_or r.weights j 0) other n (λ j lj. grind (arith, nat_tests)),
+    )
 
 module _ (n : ℕ) (veto f : ℕ → Bool) where
   -- ---- the rule that asks for each
@@ -67,8 +73,12 @@ module _ (n : ℕ) (veto f : ℕ → Bool) where
 
   rule-met : ((i : ℕ) → i < n → veto i ≡ true → f i ≡ true) → leb (number_of n veto) (weighs n (rule_for n veto) f) ≡ true
   rule-met all =
-      grind (arith, nat_tests, sum-range (λ i. cond (f i) 1 0 * get_or (rule_for n veto).weights i 0) (λ i. cond (veto i) 1 0) 0 n
-      (λ i _ lt. grind (arith, nat_tests, made-at (λ j. cond (veto j) 1 0) n i, all i)))
+      grind (
+        arith,
+        nat_tests,
+        sum-range (λ i. cond (f i) 1 0 * get_or (rule_for n veto).weights i 0) (λ i. cond (veto i) 1 0) 0 n
+            (λ i _ lt. grind (arith, nat_tests, made-at (λ j. cond (veto j) 1 0) n i, all i)),
+      )
 
   -- ---- what is left of a rule
   rest-weighs : ((i : ℕ) → i < n → veto i ≡ true → f i ≡ true) → (r : RuleView)
@@ -85,8 +95,12 @@ vetoed-lost : (n : ℕ) (rs : List RuleView) (f : ℕ → Bool) (i : ℕ) → Al
     → f i ≡ false → met n rs f ≡ false
 vetoed-lost n [] f i full lt vetoes out = absurd (cc)
 vetoed-lost n (r ∷ rs) f i full lt vetoes out =
-    grind (arith, nat_tests, missed r f n i (All-head (λ (x : RuleView). length x.weights ≡ n) r rs full) lt out,
-    vetoed-lost n rs f i (All-tail (λ (x : RuleView). length x.weights ≡ n) r rs full) lt)
+    grind (
+      arith,
+      nat_tests,
+      missed r f n i (All-head (λ (x : RuleView). length x.weights ≡ n) r rs full) lt out,
+      vetoed-lost n rs f i (All-tail (λ (x : RuleView). length x.weights ≡ n) r rs full) lt,
+    )
 
 -- rules that ask for nothing are met
 asking-met : (n : ℕ) (rs : List RuleView) (f : ℕ → Bool) → met n rs f ≡ met n (filter (λ r. ltb 0 r.quota) rs) f
@@ -97,8 +111,16 @@ asking-met n (r ∷ rs) f = grind (arith, nat_tests, asking-met n rs f)
 pub vetoers-both : (n : ℕ) (rs : List RuleView) (f : ℕ → Bool) → All (λ r. length r.weights ≡ n) rs
     → met n rs f ≡ met n (rules_beside n (can_veto rs) rs) f
 vetoers-both n rs f full =
-    grind (arith, nat_tests, missing (can_veto rs) f n, vetoed-lost n rs f, rule-lost n (can_veto rs) f, rests-met n (can_veto rs) f,
-    rule-met n (can_veto rs) f, asking-met n (rule_for n (can_veto rs) ∷ map (rest_of n (can_veto rs)) rs) f)
+    grind (
+      arith,
+      nat_tests,
+      missing (can_veto rs) f n,
+      vetoed-lost n rs f,
+      rule-lost n (can_veto rs) f,
+      rests-met n (can_veto rs) f,
+      rule-met n (can_veto rs) f,
+      asking-met n (rule_for n (can_veto rs) ∷ map (rest_of n (can_veto rs)) rs) f,
+    )
 
 -- a member without whom some rule can not be met is in each winning coalition
 pub vetoer-in : (v : Votes) (p c : ℕ) → IsVotes v → p < v.members → IsVetoer v p → c < 2 ^ v.members → wins v.rules c ≡ true
@@ -106,8 +128,13 @@ pub vetoer-in : (v : Votes) (p c : ℕ) → IsVotes v → p < v.members → IsVe
 unfolding wins
 vetoer-in v p c votes inside (r, lr, less) below won =
     let full = (rule-is v r votes lr).full in
-    grind (arith, nat_tests, list_all_at (λ (x : RuleView). leb x.quota (weight x.weights c)) v.rules r (record { quota = 0; weights = [] }) lr,
-    weight-sum (rule_at v.rules r).weights v.members c full, missed (rule_at v.rules r) (λ q. has v.members q c) v.members p full inside)
+    grind (
+      arith,
+      nat_tests,
+      list_all_at (λ (x : RuleView). leb x.quota (weight x.weights c)) v.rules r (record { quota = 0; weights = [] }) lr,
+      weight-sum (rule_at v.rules r).weights v.members c full,
+      missed (rule_at v.rules r) (λ q. has v.members q c) v.members p full inside,
+    )
 
 pub ruleset laws = (vetoer-in)
 
@@ -116,8 +143,13 @@ pub fair-all : (g : GameView) → IsGame g → All (IsFair (length g.names)) g.r
 fair-all g is k d lt = record {
   full = is.full k d lt;
   quota = All-from_recursion (λ (r : RuleView). has_bad_quota r ≡ false) g.rules (none-any has_bad_quota g.rules (passed g is.made).quotas) k d lt;
-  light = grind (arith, cases_lt, get_or_past, is.full k d lt,
-      All-from_recursion (λ (r : RuleView). (i : ℕ) → i < length g.names → get_or r.weights i 0 ≤ 1000000000000) g.rules (light-weights g is) k d lt);
+  light = grind (
+    arith,
+    cases_lt,
+    get_or_past,
+    is.full k d lt,
+    All-from_recursion (λ (r : RuleView). (i : ℕ) → i < length g.names → get_or r.weights i 0 ≤ 1000000000000) g.rules (light-weights g is) k d lt,
+  );
 }
 
 pub fair-of : (g : GameView) (k : ℕ) → IsGame g → k < length g.rules → IsFair (length g.names) (rule_at g.rules k)
@@ -159,9 +191,18 @@ fair-vetoers n veto some = grind (arith, length-map-range_with_len, good, sum-ma
 
 fair-rest : (n : ℕ) (veto : ℕ → Bool) (r : RuleView) → IsFair n r → 0 < (rest_of n veto r).quota → IsFair n (rest_of n veto r)
 fair-rest n veto r fair some =
-    grind (arith, nat_tests, length-map-range_with_len, good, good-met, sum-map, light-made, row-sum r.weights n fair.full,
-    sum-parts (λ i. get_or r.weights i 0) (λ i. cond (veto i) (get_or r.weights i 0) 0) (λ i. cond (veto i) 0 (get_or r.weights i 0)) n
-    (λ i lt. grind (arith, nat_tests)))
+    grind (
+      arith,
+      nat_tests,
+      length-map-range_with_len,
+      good,
+      good-met,
+      sum-map,
+      light-made,
+      row-sum r.weights n fair.full,
+      sum-parts (λ i. get_or r.weights i 0) (λ i. cond (veto i) (get_or r.weights i 0) 0) (λ i. cond (veto i) 0 (get_or r.weights i 0)) n
+          (λ i lt. grind (arith, nat_tests)),
+    )
 
 -- each rule that is left is fair, since it asks for something
 pub fair-beside : (n : ℕ) (veto : ℕ → Bool) (rs : List RuleView) → All (IsFair n) rs → All (IsFair n) (rules_beside n veto rs)
@@ -201,8 +242,13 @@ module _ (g : GameView) (is : IsGame g) where
   lost : met (length g.names) g.rules (λ i. false) ≡ false
   lost =
       list_all_at (λ r. leb r.quota (weighs (length g.names) r (λ i. false))) g.rules 0 (record { quota = 0; weights = [] }) is.has_rule
-      (grind (arith, nat_tests, good-some (rule_at g.rules 0), fair-of g 0 is is.has_rule,
-      nobody (λ i. get_or (rule_at g.rules 0).weights i 0) (length g.names)))
+      (grind (
+        arith,
+        nat_tests,
+        good-some (rule_at g.rules 0),
+        fair-of g 0 is is.has_rule,
+        nobody (λ i. get_or (rule_at g.rules 0).weights i 0) (length g.names),
+      ))
 
   pub statute-some : 0 < length (statute g)
   statute-some = grind (arith, nat_tests, lost, cases_lt, nil_from_length, statute-are.alike)

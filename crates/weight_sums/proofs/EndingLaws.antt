@@ -1,6 +1,6 @@
 -- What members lead to, by size: fewer than are asked for, as many, more; by their sets; and without a member.
-use Rattle.weight_sums.proofs.Imports.{◌≡◌, ℕ, zero, suc, ◌+◌, ◌-◌, ◌<◌, ◌≤◌, true, false, cond, leb, List, [], ◌∷◌, length, ap, refl}
-use Rattle.weight_sums.proofs.Imports.{arith, cases_lt, nat_tests, choose, one_of_size, fill, endings, left_out, over, fits}
+use Rattle.weight_sums.proofs.Imports.{◌≡◌, ℕ, zero, suc, ◌+◌, ◌-◌, ◌<◌, ◌≤◌, true, false, cond, leb, List, [], ◌∷◌, length, refl, arith}
+use Rattle.weight_sums.proofs.Imports.{cases_lt, nat_tests, choose, one_of_size, fill, endings, left_out, over, fits}
 use Rattle.weight_sums.proofs.{SetLaws.fits-more, Shared.Choices.choose-none, Shared.Choices.left_out-past, Taking.choose-more}
 
 -- ---- what meets the quota is filled up in any way

@@ -1,7 +1,7 @@
 -- The sets of a half that meet a need, one more and all of them.
-use Rattle.weight_sums.proofs.Imports.{◌≡◌, ◌∙◌, ◌⊎◌, ℕ, zero, suc, ◌+◌, ◌-◌, ◌<◌, ◌≤◌, ◌^◌, Bool, cond, leb, List, [], ◌∷◌, length, get_or}
-use Rattle.weight_sums.proofs.Imports.{drop, refl, arith, inl, inr, sum_by, cases_eq, cases_lt, nat_tests, sum_by-cons, sum_by-le, Set}
-use Rattle.weight_sums.proofs.Imports.{Fitting, one_of_size, fits, IsHalf, AreEntered, AreOfNeed, Meet, sum-zero}
+use Rattle.weight_sums.proofs.Imports.{◌≡◌, ◌⊎◌, ℕ, zero, suc, ◌+◌, ◌-◌, ◌<◌, ◌≤◌, ◌^◌, Bool, cond, leb, List, [], ◌∷◌, length, get_or}
+use Rattle.weight_sums.proofs.Imports.{drop, refl, arith, sum_by, cases_eq, cases_lt, nat_tests, sum_by-cons, sum_by-le, Set, Fitting}
+use Rattle.weight_sums.proofs.Imports.{one_of_size, fits, IsHalf, AreEntered, AreOfNeed, Meet, sum-zero}
 use Rattle.std.proofs.{Common.length-drop, lemmas.List.get_or_past}
 
 -- sums of numbers that agree at each place

@@ -1,10 +1,9 @@
 -- Pairs of sets of two lists that meet a quota, by the members of the one.
-use Rattle.weight_sums.proofs.Imports.{length-take, pow_pos, pow_mono, Set, Fitting, nobody, fits, met, has, IsHalf, IsHalfOf, AreEntered}
-use Rattle.weight_sums.proofs.Imports.{take, sym, ap, arith, inl, inr, All, sum_by, cases_lt, AreOfNeed, Meet, AreOfKeys, low_of, high_of}
-use Rattle.weight_sums.proofs.Imports.{◌≡◌, ◌∙◌, ◌⊎◌, ℕ, ◌+◌, ◌-◌, ◌/◌, ◌%◌, ◌==◌, ◌<◌, ◌≤◌, ◌^◌, cond, leb, List, [], length, get_or}
-use Rattle.weight_sums.proofs.Imports.{shr_below, nat_tests}
+use Rattle.weight_sums.proofs.Imports.{ap, arith, All, sum_by, cases_lt, AreOfNeed, Meet, AreOfKeys, low_of, high_of, ◌≡◌, ◌∙◌, ◌⊎◌, ℕ, ◌+◌}
+use Rattle.weight_sums.proofs.Imports.{length-take, pow_pos, pow_mono, Set, Fitting, nobody, met, has, IsHalf, IsHalfOf, AreEntered, take}
+use Rattle.weight_sums.proofs.Imports.{◌-◌, ◌/◌, ◌%◌, ◌<◌, ◌≤◌, ◌^◌, cond, leb, List, [], length, get_or, shr_below, nat_tests}
+use Rattle.std.proofs.Common.{inl, inr, take_all, min, mod-lt}
 use Rattle.std.proofs.lemmas.{List.get_or_default, Nat.shr_split, Nat.Bits.bit_at_above, Nat.Bits.bit_at_cat_low, Nat.Bits.bit_at_cat_high}
-use Rattle.std.proofs.Common.{take_all, min, mod-lt}
 use Rattle.weight_sums.specs.{Inner.Groups.AreGroups, Inner.Tables.IsCounted, declared.groups.Groups.Groups}
 use Rattle.weight_sums.proofs.{FittingSets.added, FittingSets.fits-few, FittingSets.sum-alike, TableSums.of-more, TableSums.of-few}
 use Rattle.weight_sums.proofs.SetLaws.{sum-same}
@@ -22,8 +21,12 @@ pub record Paired (q digits : ℕ) (xs ys : List Set) (n : ℕ) (lows highs : Li
 keys-few : (key : Set → ℕ) (q : ℕ) (xs ys : List Set) (n : ℕ) (rows : List (List ℕ)) → IsHalf xs → IsHalf ys
     → AreOfKeys key (met q ys) (take n xs) rows → (k s : ℕ) → s ≤ 40 → get_or (get_or rows k []) s 0 ≤ 2 ^ 40
 keys-few key q xs ys n rows first second are k s small =
-    grind (arith, length-take n xs, first.long,
-    of-few key (met q ys) (take n xs) rows are (λ i x. fits-few (q - x.weight) x.size i ys second) k s)
+    grind (
+      arith,
+      length-take n xs,
+      first.long,
+      of-few key (met q ys) (take n xs) rows are (λ i x. fits-few (q - x.weight) x.size i ys second) k s,
+    )
 
 module _ {q digits : ℕ} {xs ys : List Set} {n : ℕ} {lows highs : List (List ℕ)} {t : Fitting} (h : Paired q digits xs ys n lows highs t)
     (first : IsHalf xs) where
@@ -43,8 +46,12 @@ module _ {q digits : ℕ} {xs ys : List Set} {n : ℕ} {lows highs : List (List 
       entered meet in_low in_high =
       let row : ℕ → ℕ = λ s. cond (leb (get_or xs n d).size s) (get_or u.here (s - (get_or xs n d).size) 0) 0 in
       let gives : (s : ℕ) → s ≤ 40 → row s ≡ met q ys s (get_or xs n d) = grind (arith, added) in
-      grind (arith, get_or_default, of-more (low_of digits) (met q ys) xs n low d lows more_lows row,
-      of-more (high_of digits) (met q ys) xs n high d highs more_highs row)
+      grind (
+        arith,
+        get_or_default,
+        of-more (low_of digits) (met q ys) xs n low d lows more_lows row,
+        of-more (high_of digits) (met q ys) xs n high d highs more_highs row,
+      )
 
 pub paired-all : {q : ℕ} {xs ys : List Set} {n : ℕ} {t : Fitting} (g : Groups)
     → Paired q g.digits xs ys n g.low.rows.items g.high.rows.items t → length xs ≤ n → g.digits ≤ 10 → IsHalfOf g.digits xs → IsHalf ys
@@ -80,5 +87,9 @@ without-high q s p r n all others g are le is small gives =
   where
     one : (x : Set) → x.members < 2 ^ (g.digits + g.digits) → has r (high_of g.digits x) ≡ has p x.members
     one x small =
-        grind (arith, has-high g.digits (r + g.digits) x.members, has-last (g.digits + g.digits) p (r + g.digits) x.members small,
-        cases_lt (p - g.digits) g.digits)
+        grind (
+          arith,
+          has-high g.digits (r + g.digits) x.members,
+          has-last (g.digits + g.digits) p (r + g.digits) x.members small,
+          cases_lt (p - g.digits) g.digits,
+        )

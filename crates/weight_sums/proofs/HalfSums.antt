@@ -1,8 +1,8 @@
 -- Tallies of the coalitions that members lead to, from the sets of their two halves.
-use Rattle.weight_sums.proofs.Imports.{length, sym, ap, refl, arith, sum_by, nat_tests, ◌≡◌, one_of_size, endings, left_out, nobody, over}
-use Rattle.weight_sums.proofs.Imports.{◌∙◌, ℕ, zero, suc, ◌+◌, ◌-◌, ◌<◌, ◌≤◌, Bool, true, false, cond, leb, List, [], ◌∷◌, ◌++◌, Set, has}
-use Rattle.weight_sums.proofs.Imports.{fits, met, AreSets, IsLeft}
-use Rattle.std.proofs.lemmas.Bool.{cases_order}
+use Rattle.weight_sums.proofs.Imports.{ℕ, zero, suc, ◌+◌, ◌-◌, ◌<◌, ◌≤◌, Bool, true, false, cond, leb, List, [], ◌∷◌, ◌++◌, Set, has, fits}
+use Rattle.weight_sums.proofs.Imports.{length, ap, refl, arith, sum_by, nat_tests, ◌≡◌, one_of_size, endings, left_out, nobody, over, ◌∙◌}
+use Rattle.weight_sums.proofs.Imports.{met, AreSets, IsLeft}
+use Rattle.std.proofs.{Common.sym, lemmas.Bool.cases_order}
 use Rattle.weight_sums.proofs.{EndingLaws.endings-counted, Shared.Choices.left_out-past}
 use Rattle.coalitions.proofs.Shared.Lists.{sum-swap}
 use Rattle.weight_sums.proofs.SetLaws.{sum-one, sum-if, fits-halves, fits-turned, left_out-over}
@@ -49,8 +49,12 @@ met-nobody q s x = sum-one (fits (q - x.weight) x.size s) nobody ∙ (grind (ari
 pub own-met : (fr : List ℕ) (zs : List Set) → AreSets true fr zs → (q s place : ℕ)
     → sum_by (λ x. cond (has place x.members) 0 (met q (nobody ∷ []) s x)) zs ≡ over true (left_out place fr) (fits q 0 s)
 own-met fr zs are q s place =
-    grind (arith, are.same (λ x. cond (has place x.members) 0 (met q (nobody ∷ []) s x)), met-nobody q s,
-    left_out-over true place fr (λ m k. cond (leb q m) (one_of_size s (0 + k)) 0))
+    grind (
+      arith,
+      are.same (λ x. cond (has place x.members) 0 (met q (nobody ∷ []) s x)),
+      met-nobody q s,
+      left_out-over true place fr (λ m k. cond (leb q m) (one_of_size s (0 + k)) 0),
+    )
 
 -- how many sets of these members meet a quota, and how many do so without their last member, of one half or the other
 pub record AreMet (ws : List ℕ) (q s won shortened own : ℕ) : Type 0 where

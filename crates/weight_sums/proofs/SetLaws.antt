@@ -1,8 +1,8 @@
 -- Sums over sets of some members: with one member more, without one, and of members in two halves.
-use Rattle.weight_sums.proofs.Imports.{◌≡◌, ◌∙◌, ℕ, zero, suc, ◌+◌, ◌-◌, ◌*◌, ◌/◌, ◌%◌, ◌==◌, ◌^◌, Bool, true, false, cond, eqb, leb, List}
-use Rattle.weight_sums.proofs.Imports.{[], ◌∷◌, ◌++◌, sym, ap, refl, arith, nat_tests, sum_by-cons, sum_by, Set, one_of_size, left_out}
-use Rattle.weight_sums.proofs.Imports.{alone, joined, over, has, fits, sum-zero}
-use Rattle.std.proofs.lemmas.Nat.Bits.{bit_at-suc, bit_at-zero, bit_at_lowest}
+use Rattle.weight_sums.proofs.Imports.{◌≡◌, ◌∙◌, ℕ, zero, suc, ◌+◌, ◌-◌, ◌*◌, ◌/◌, ◌%◌, ◌^◌, Bool, true, false, cond, eqb, leb, List, []}
+use Rattle.weight_sums.proofs.Imports.{◌∷◌, ◌++◌, ap, arith, nat_tests, sum_by-cons, sum_by, Set, one_of_size, left_out, alone, joined}
+use Rattle.weight_sums.proofs.Imports.{over, has, fits, sum-zero}
+use Rattle.std.proofs.{Common.◌==◌, lemmas.Nat.Bits.bit_at-suc, lemmas.Nat.Bits.bit_at-zero, lemmas.Nat.Bits.bit_at_lowest}
 
 -- ---- sums over lists
 pub sum-same : (f g : Set → ℕ) (xs : List Set) → ((x : Set) → f x ≡ g x) → sum_by f xs ≡ sum_by g xs
@@ -46,7 +46,7 @@ pub fits-halves : (short : Bool) (vs ws : List ℕ) (q s : ℕ) → over short (
     ≡ over false ws (λ x. over short vs (fits (q - x.weight) x.size s)) + cond short (over true ws (fits q 0 s)) 0
 fits-halves short vs ws q s =
     let both : (x y : Set) → cond (leb q (y.weight + x.weight)) (one_of_size s (0 + (y.size + x.size))) 0 ≡ fits (q - x.weight) x.size s y =
-        λ x y. grind (arith, meets-less, one_of_size) in
+    λ x y. grind (arith, meets-less, one_of_size) in
     grind (arith, both, over-halves short vs ws (λ m k. cond (leb q m) (one_of_size s (0 + k)) 0))
 
 -- two sets meet a quota together, whichever is named first
@@ -70,14 +70,22 @@ unfolding over left_out
 left_out-over short p [] g = grind (arith, has-none p)
 left_out-over short zero (w ∷ ws) g =
     let out : over short ws (λ x. cond (has 0 (2 * x.members)) 0 (g x.weight x.size)) ≡ over short ws (λ x. g x.weight x.size) =
-        grind (arith, has-front) in
+    grind (arith, has-front) in
     let with_it : over short ws (λ x. cond (has 0 (2 * x.members + 1)) 0 (g (x.weight + w) (x.size + 1))) ≡ over short ws (λ x. 0) =
-        grind (arith, has-front) in
+    grind (arith, has-front) in
     grind (arith, nat_tests, out, with_it, over-zero short ws)
 left_out-over short (suc p) (w ∷ ws) g =
     let out : over short ws (λ x. cond (has (suc p) (2 * x.members)) 0 (g x.weight x.size))
     ≡ over short ws (λ x. cond (has p x.members) 0 (g x.weight x.size)) = grind (arith, has-later) in
     let with_it : over short ws (λ x. cond (has (suc p) (2 * x.members + 1)) 0 (g (x.weight + w) (x.size + 1)))
     ≡ over short ws (λ x. cond (has p x.members) 0 (g (x.weight + w) (x.size + 1))) = grind (arith, has-later) in
-    grind (arith, nat_tests, has-later p 1 0, has-none p, out, with_it, left_out-over short p ws g,
-    left_out-over short p ws (λ m k. g (m + w) (k + 1)))
+    grind (
+      arith,
+      nat_tests,
+      has-later p 1 0,
+      has-none p,
+      out,
+      with_it,
+      left_out-over short p ws g,
+      left_out-over short p ws (λ m k. g (m + w) (k + 1)),
+    )

@@ -1,6 +1,6 @@
 -- Lists of sets of some members, by weight.
 use Rattle.weight_sums.proofs.Imports.{Bool, true, false, cond, List, [], ◌∷◌, ◌++◌, length, alone, joined, over, AreSets, IsHalf, IsHalfOf}
-use Rattle.weight_sums.proofs.Imports.{sum_by-cons, sum_by_push, Set, nobody, ◌≡◌, ◌∙◌, ℕ, ◌+◌, ◌-◌, ◌<◌, ◌≤◌, ◌^◌, get_or, drop, ap, refl}
+use Rattle.weight_sums.proofs.Imports.{sum_by-cons, sum_by_push, Set, nobody, ◌≡◌, ℕ, ◌+◌, ◌-◌, ◌<◌, ◌≤◌, ◌^◌, get_or, drop, ap, refl}
 use Rattle.weight_sums.proofs.Imports.{arith, All, sum, sum_by, pow_mono, pow_pos, cases_eq, nat_tests}
 use Rattle.std.proofs.lemmas.List.{drop_all, Elements.All-push, Quantifiers.all_pairs_push, Sums.sum_by-drop_more, Sums.get_or-le-sum_by}
 use Rattle.std.proofs.Common.{not}
@@ -60,8 +60,13 @@ unfolding over
 over-none short [] g none = grind (arith, nat_tests)
 over-none short (w ∷ ws) g none =
     let total : sum (w ∷ ws) ≡ w + sum ws = sum_by-cons (λ (y : ℕ). y) w ws in
-    grind (arith, nat_tests, pow_pos (length ws), over-none short ws (λ x. g (left x)) (λ x h. none (left x) (grind (arith))),
-    over-none short ws (λ x. g (joined w x)) (λ x h. none (joined w x) (grind (arith))))
+    grind (
+      arith,
+      nat_tests,
+      pow_pos (length ws),
+      over-none short ws (λ x. g (left x)) (λ x h. none (left x) (grind (arith))),
+      over-none short ws (λ x. g (joined w x)) (λ x h. none (joined w x) (grind (arith))),
+    )
 
 -- how many sets there are
 sum-ones : (xs : List Set) → sum_by (λ x. 1) xs ≡ length xs

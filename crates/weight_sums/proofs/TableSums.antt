@@ -3,7 +3,6 @@ use Rattle.weight_sums.proofs.Imports.{◌≡◌, ◌∙◌, ℕ, zero, suc, ◌
 use Rattle.weight_sums.proofs.Imports.{take, refl, arith, All, sum_by, nat_tests, sum_by_more, sum_by-le, Set, nobody, has, AreOfKeys}
 use Rattle.weight_sums.proofs.Imports.{replicate, get_or-zeros, sum-zero}
 use Rattle.coalitions.proofs.Shared.Lists.{sum-plus}
-use Rattle.std.proofs.Common.{le-ltb}
 use Rattle.weight_sums.proofs.{FittingSets.cond-most, FittingSets.sum-alike, SetLaws.sum-if}
 
 -- rows of nothing

@@ -1,4 +1,4 @@
-use Rattle.weight_sums.proofs.Imports.{arith, ap, left_out, length, sum, sum_by-cons, ◌≡◌, ◌≤◌, ◌+◌, ◌-◌, ◌∙◌, ℕ}
+use Rattle.weight_sums.proofs.Imports.{arith, ap, left_out, sum, sum_by-cons, ◌≡◌, ◌-◌, ◌∙◌, ℕ}
 use Rattle.weight_sums.proofs.{Members.come-less, Members.tallied-from, Passing.prefixes-more}
 use Rattle.weight_sums.proofs.tallies.+tally_from.Goals as goal
 

@@ -1,4 +1,4 @@
-use Rattle.weight_sums.proofs.Imports.{arith, left_out, ◌+◌, ◌≡◌}
+use Rattle.weight_sums.proofs.Imports.{arith}
 use Rattle.weight_sums.proofs.tallies.tally_each.Goals as goal
 
 pub tally_from-requires-clause-row : goal.tally_from-requires-clause-row

@@ -1,6 +1,4 @@
-use Rattle.mwc_sums.proofs.Imports.{arith, side}
-use Rattle.std.proofs.Common.{take_all}
-use Rattle.mwc_sums.proofs.Sharing.{kept-fair}
+use Rattle.mwc_sums.proofs.{Imports.arith, Imports.side, Imports.take_all, Sharing.kept-fair}
 use Rattle.mwc_sums.proofs.statute.Statute.part.Goals as goal
 
 pub invariant_of-result : goal.invariant_of-result

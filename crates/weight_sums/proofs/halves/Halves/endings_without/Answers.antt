@@ -1,5 +1,4 @@
-use Rattle.weight_sums.proofs.Imports.{true, false, take, drop, length, length-take, List, arith, ◌/◌, ◌≡◌, ◌≤◌, ℕ, [], ◌∷◌, get_or}
-use Rattle.weight_sums.proofs.Imports.{left_out, nobody}
+use Rattle.weight_sums.proofs.Imports.{take, length, length-take, arith, ◌/◌, ◌≡◌, ◌≤◌, ℕ, [], ◌∷◌, get_or, left_out, nobody}
 use Rattle.std.proofs.Common.{take-append-drop}
 use Rattle.weight_sums.proofs.HalfSums.{AreMet, own-met, enough-won, left-is}
 use Rattle.weight_sums.proofs.halves.Halves.endings_without.Goals.{After-without-own}
@@ -18,8 +17,12 @@ met-at c s small =
     let less = c.without-shortened.ensures _ s _ _ _ are.first _ are.shortened are.first_are are.second_shortened_are long small in
     let own = c.without-own.ensures _ are.first_shortened (nobody ∷ []) s are.own small in record {
       won_is = omega (arith, rw whole at won);
-      shortened_is = omega (arith, rw whole at less, own,
-          own-met (take half c.args.weights.now) are.first_shortened are.first_shortened_are c.args.self.now.quota s c.args.place);
+      shortened_is = omega (
+        arith,
+        rw whole at less,
+        own,
+        own-met (take half c.args.weights.now) are.first_shortened are.first_shortened_are c.args.self.now.quota s c.args.place,
+      );
     }
 
 pub left_of-requires : goal.left_of-requires

@@ -1,4 +1,4 @@
-use Rattle.weight_sums.proofs.Imports.{◌∙◌, length, arith, sym, get_or-zeros}
+use Rattle.weight_sums.proofs.Imports.{◌∙◌, length, arith, get_or-zeros}
 use Rattle.weight_sums.proofs.TableSums.{added-none, added-all}
 use Rattle.weight_sums.proofs.table.Table.without.Goals as goal
 
