@@ -21,13 +21,9 @@ use Rattle.council_game.specs.Votes.{IsRanked}
 pub alike-weight : (ws : List ℕ) (e c : ℕ) → ((p : ℕ) → p < length ws → get_or ws p 0 ≡ e) → weight ws c ≡ size (length ws) c * e
 alike-weight ws e c same =
     let has_it : ℕ → ℕ = λ p. cond (has (length ws) p c) 1 0 in
-    grind (
-      arith,
-      weight-sum ws (length ws) c refl,
-      sum-times has_it e (range_with_len 0 (length ws)),
-      length-filter (λ p. has (length ws) p c) (range_with_len 0 (length ws)),
-      sum-range (λ p. has_it p * get_or ws p 0) (λ p. has_it p * e) 0 (length ws) (λ p _ lt. grind (arith, same p)),
-    )
+    let range = sum-range (λ p. has_it p * get_or ws p 0) (λ p. has_it p * e) 0 (length ws) (λ p _ lt. grind (arith, same p)) in
+    let inside = length-filter (λ p. has (length ws) p c) (range_with_len 0 (length ws)) in
+    grind (arith, weight-sum ws (length ws) c refl, sum-times has_it e (range_with_len 0 (length ws)), inside, range)
 
 -- one member less
 size-without : (n p c : ℕ) → p < n → has n p c ≡ true → size n (without n p c) + 1 ≡ size n c
@@ -62,14 +58,8 @@ pub heads-law : (v : Votes) (heads c : ℕ) → IsVotes v → length v.rules ≡
     → c < 2 ^ v.members → (minimal v c ≡ true) ↔ IsMinimalByHeads v heads c
 heads-law v heads c votes two asks below =
     let same : wins v.rules ≡ (λ x. wins (take 1 v.rules) x && leb heads (size v.members x)) = grind (arith, two-wins, rule-is) in
-    grind (
-      arith,
-      same,
-      minimal-min v c,
-      by-heads v.members (wins (take 1 v.rules)) heads c,
-      minimal-min (first_rule v) c,
-      first-wins v.rules c votes.has_rule,
-    )
+    let parts = by-heads v.members (wins (take 1 v.rules)) heads c in
+    grind (arith, same, minimal-min v c, parts, minimal-min (first_rule v) c, first-wins v.rules c votes.has_rule)
 
 -- a coalition that members lead to, from a need and a number of members: where the first meets the need, others behind it fill it up to the heads
 unfoldable pub leads : List ℕ → ℕ → ℕ → ℕ → ℕ → Bool
@@ -119,13 +109,8 @@ filled : (ws : List ℕ) (p heads s a : ℕ)
     ≡ fill heads s (length (left_out p ws)) a
 filled ws p heads s a =
     (λ i. count (λ c. alike (size (length ws) c) (lacks (length ws) p c) i) (down (2 ^ length ws)))
-    ∙ grind (
-      arith,
-      nat_tests,
-      choose-none,
-      chosen ws p (heads - a),
-      count-and (λ c. lacks (length ws) p c && (size (length ws) c == heads - a)) (a + (heads - a) == s) (down (2 ^ length ws)),
-    )
+    ∙ (let split = count-and (λ c. lacks (length ws) p c && (size (length ws) c == heads - a)) (a + (heads - a) == s) (down (2 ^ length ws)) in
+    grind (arith, nat_tests, choose-none, chosen ws p (heads - a), split))
   where
     alike : (x : ℕ) (l : Bool) → ((x == heads - a) && (l && (a + x == s))) ≡ ((l && (x == heads - a)) && (a + (heads - a) == s))
     alike x l = grind (arith, nat_tests)
@@ -182,16 +167,8 @@ by-last (w ∷ ws) heads r a c pos lt = elim (cases_lt c (2 ^ length ws)) [
 pub leads-are : (ws : List ℕ) (heads r c : ℕ) → Falls ws → 0 < r → c < 2 ^ length ws
     → (leads ws heads r 0 c ≡ true) ↔ IsMin (length ws) (λ x. leb r (weight ws x) && leb heads (size (length ws) x)) c
 leads-are ws heads r c falls pos lt =
-    grind (
-      arith,
-      nat_tests,
-      none-or-some,
-      last-in,
-      last-behind,
-      by-last ws heads r 0 c pos lt,
-      by-heads (length ws) (λ x. leb r (weight ws x)) heads c,
-      least-weights ws r c,
-    )
+    let parts = by-heads (length ws) (λ x. leb r (weight ws x)) heads c in
+    grind (arith, nat_tests, none-or-some, last-in, last-behind, by-last ws heads r 0 c pos lt, parts, least-weights ws r c)
 
 -- ---- the list of them, where no heads are asked for
 nobody : (n : ℕ) → filter (λ c. size n c == 0) (down (2 ^ n)) ≡ 0 ∷ []

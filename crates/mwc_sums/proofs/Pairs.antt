@@ -96,18 +96,9 @@ module _ (g a b : GameView) (is_g : IsGame g) (is_a : IsGame a) (is_b : IsGame b
       each x y lx ly =
           let both = joined joint hg ha hb x y lx ly in
           let size = size-union joint hg ha hb x y lx ly in
-          grind (
-            arith,
-            nat_tests,
-            both,
-            size,
-            apart joint hg ha hb x y lx ly,
-            seen-contains is_g (union joint hg ha hb x y) i lt,
-            are.first,
-            are.second,
-            seen-contains is_a x i,
-            seen-contains is_b y i,
-          )
+          let in_g = seen-contains is_g (union joint hg ha hb x y) i lt in
+          let one = apart joint hg ha hb x y lx ly in
+          grind (arith, nat_tests, both, size, one, in_g, are.first, are.second, seen-contains is_a x i, seen-contains is_b y i)
 
 -- ---- as the code counts them, size by size
 -- no coalition has more members than there are
@@ -139,13 +130,8 @@ module _ (g a b : GameView) (is_g : IsGame g) (is_a : IsGame a) (is_b : IsGame b
   pub pairs-more : (s j : ℕ) → j < s + 1 → size-pairs a b s j + sum_by (size-pairs a b s) (range_with_len 0 j) ≤ 2 ^ 40
   unfolding of_size
   pairs-more s j lt =
-      grind (
-        arith,
-        sum_by-range-le (size-pairs a b s) (j + 1) (s + 1),
-        sum_by-range-more (size-pairs a b s) j,
-        all-pairs s (s + 1),
-        few-of g (λ c. size_of g c == s) is_g,
-      )
+      let part = sum_by-range-le (size-pairs a b s) (j + 1) (s + 1) in
+      grind (arith, part, sum_by-range-more (size-pairs a b s) j, all-pairs s (s + 1), few-of g (λ c. size_of g c == s) is_g)
 
   pub each-pairs : (i p s n x : ℕ) → x ≡ sum_by (place-pairs a b i s) (range_with_len 0 n) → n ≡ s + 1 → i < length g.names
       → get_or g.ranks i 0 ≡ p → x ≡ of_place_size g p s
@@ -159,13 +145,9 @@ module _ (g a b : GameView) (is_g : IsGame g) (is_a : IsGame a) (is_b : IsGame b
   pub each-more : (i s j : ℕ) → i < length g.names → j < s + 1 → place-pairs a b i s j + sum_by (place-pairs a b i s) (range_with_len 0 j) ≤ 2 ^ 40
   unfolding of_place_size
   each-more i s j lt within =
-      grind (
-        arith,
-        sum_by-range-le (place-pairs a b i s) (j + 1) (s + 1),
-        sum_by-range-more (place-pairs a b i s) j,
-        each-pairs i (get_or g.ranks i 0) s (s + 1),
-        few-of g (λ c. has (length g.names) (get_or g.ranks i 0) c && (size_of g c == s)) is_g,
-      )
+      let few = few-of g (λ c. has (length g.names) (get_or g.ranks i 0) c && (size_of g c == s)) is_g in
+      let part = sum_by-range-le (place-pairs a b i s) (j + 1) (s + 1) in
+      grind (arith, part, sum_by-range-more (place-pairs a b i s) j, each-pairs i (get_or g.ranks i 0) s (s + 1), few)
 
   pub each-other : (i s j : ℕ) → i < length g.names → j < s + 1 → of_size a j * of_member_size b i (s - j) ≤ 2 ^ 40
   each-other i s j lt within = omega (arith, each-more i s j lt within)

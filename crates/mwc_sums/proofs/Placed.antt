@@ -21,14 +21,10 @@ weight-seen n m ranks is r ws c long at =
 pub ranked-at : (ranks : List ℕ) (r : RuleView) (p : ℕ) → p < length ranks
     → get_or (rule_by_rank ranks r).weights p 0 ≡ get_or r.weights (member_at ranks p) 0
 ranked-at ranks r p lt =
-    grind (
-      arith,
-      places-at (length ranks) p 0 lt,
-      length-map (places ranks) (member_at ranks),
-      length-range_with_len 0 (length ranks),
-      get_or-map (member_at ranks) (places ranks) p 0 0,
-      get_or-map (λ m. get_or r.weights m 0) (members_by_rank ranks) p 0 0,
-    )
+    let rule = get_or-map (λ m. get_or r.weights m 0) (members_by_rank ranks) p 0 0 in
+    let at = get_or-map (member_at ranks) (places ranks) p 0 0 in
+    let long = length-map (places ranks) (member_at ranks) in
+    grind (arith, places-at (length ranks) p 0 lt, long, length-range_with_len 0 (length ranks), at, rule)
 
 -- ---- who meets rules
 -- a member has weight in some rule
@@ -43,12 +39,8 @@ no-weight (r ∷ rs) i none = grind (arith, nat_tests, none 0 r (omega arith), n
 pub met-seen : (n : ℕ) (rs : List RuleView) (f h : ℕ → Bool) → ((i : ℕ) → i < n → has_weight rs i ≡ true → f i ≡ h i) → met n rs f ≡ met n rs h
 met-seen n [] f h same = refl
 met-seen n (r ∷ rs) f h same =
-    grind (
-      arith,
-      nat_tests,
-      met-seen n rs f h,
-      sum-range (λ i. cond (f i) 1 0 * get_or r.weights i 0) (λ i. cond (h i) 1 0 * get_or r.weights i 0) 0 n,
-    )
+    let range = sum-range (λ i. cond (f i) 1 0 * get_or r.weights i 0) (λ i. cond (h i) 1 0 * get_or r.weights i 0) 0 n in
+    grind (arith, nat_tests, met-seen n rs f h, range)
 
 pub met-looks : (n : ℕ) (rs : List RuleView) → LooksAt n (met n rs)
 met-looks n rs f h same = met-seen n rs f h (λ i lt _. same i lt)
@@ -76,12 +68,8 @@ module _ {g : GameView} (is : IsGame g) where
   pub game-holds : (n : ℕ) → length g.names ≡ n → Holds n (met n g.rules) (length g.names) g.ranks (minimal (votes_of g))
   game-holds n e = subst (λ (n : ℕ). Holds n (met n g.rules) (length g.names) g.ranks (minimal (votes_of g))) e (record {
     seats = game-seats;
-    least = λ c _. grind (
-      arith,
-      nat_tests,
-      wins-each g.rules,
-      minimal-min (votes_of g) c,
-      least-min game-seats (met (length g.names) g.rules) (met-looks (length g.names) g.rules) c,
-    );
+    least = λ c _.
+        (let min = least-min game-seats (met (length g.names) g.rules) (met-looks (length g.names) g.rules) c in
+        grind (arith, nat_tests, wins-each g.rules, minimal-min (votes_of g) c, min));
     inside = λ f least i lt in'. game-seats.are.place_below i lt;
   })

@@ -82,15 +82,8 @@ module _ {n m : ℕ} {ranks : List ℕ} (is : IsSeating n m ranks) where
 
   seen-less : (c i j : ℕ) → i < n → j < n → seen m ranks c i ≡ true → seen m ranks (without m (get_or ranks i 0) c) j ≡ less (seen m ranks c) i j
   seen-less c i j li lj inside =
-      grind (
-        arith,
-        nat_tests,
-        cases_eq j i,
-        has-gone m (get_or ranks i 0) c,
-        has-kept m (get_or ranks j 0) (get_or ranks i 0) c,
-        is.are.member_back j lj,
-        is.are.member_back i li,
-      )
+      let kept = has-kept m (get_or ranks j 0) (get_or ranks i 0) c in
+      grind (arith, nat_tests, cases_eq j i, has-gone m (get_or ranks i 0) c, kept, is.are.member_back j lj, is.are.member_back i li)
 
   -- a sum over the members, by place, where those with no place add nothing
   pub placed-sum : (u : ℕ → ℕ) → ((i : ℕ) → i < n → m ≤ get_or ranks i 0 → u i ≡ 0)

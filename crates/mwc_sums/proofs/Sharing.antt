@@ -18,15 +18,8 @@ share-turned n a b they = grind (arith, nat_tests, share-at, any-of)
 
 share-self : (n : ℕ) (r : RuleView) → IsFair n r → share n r r ≡ true
 share-self n r fair =
-    grind (
-      arith,
-      nat_tests,
-      missing (λ i. ltb 0 (get_or r.weights i 0)) (λ i. false) n,
-      share-at n,
-      alike-sum r.weights 0,
-      good-met r fair.quota,
-      good-some r fair.quota,
-    )
+    let some = missing (λ i. ltb 0 (get_or r.weights i 0)) (λ i. false) n in
+    grind (arith, nat_tests, some, share-at n, alike-sum r.weights 0, good-met r fair.quota, good-some r fair.quota)
 
 -- ---- lists
 -- what passes a test stands among what passes it
@@ -126,13 +119,8 @@ module _ (n : ℕ) (rs : List RuleView) (fair : All (IsFair n) rs) where
         → AreOfChambers n (side true q rs)
     unfolding side
     chambers-within each = all-passing (λ r. are_of_one_chamber n (chamber_of n (filter q rs) r) ≡ true) q rs (λ j lj is.
-        grind (
-          arith,
-          each j lj is,
-          closed j,
-          filter-within q (share n (rule j)) rs,
-          All-from_get_or (λ y. share n (rule j) y ≡ true → q y ≡ true) rs none,
-        ))
+        let within = All-from_get_or (λ y. share n (rule j) y ≡ true → q y ≡ true) rs none in
+        grind (arith, each j lj is, closed j, filter-within q (share n (rule j)) rs, within))
 
     -- a member has weight in them, or in the others
     parts-apart : (i : ℕ) → i < n → HasNoWeight (filter q rs) i ⊎ HasNoWeight (filter (λ x. not (q x)) rs) i

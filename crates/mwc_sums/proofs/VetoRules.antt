@@ -53,15 +53,9 @@ pub missed : (r : RuleView) (f : ℕ → Bool) (n i : ℕ) → length r.weights 
     → leb r.quota (weighs n r f) ≡ false
 missed r f n i full lt out less =
     let other : ℕ → ℕ = λ j. cond (f j) 0 (get_or r.weights j 0) in
-    grind (
-      arith,
-      nat_tests,
-      places-at n i 0 lt,
-      row-sum r.weights n full,
-      length-range_with_len 0 n,
-      get_or-le-sum_by other (range_with_len 0 n) i 0,
-      sum-parts (λ j. get_or r.weights j 0) (λ j. cond (f j) 1 0 * get_or r.weights j 0) other n (λ j lj. grind (arith, nat_tests)),
-    )
+    let parts = sum-parts (λ j. get_or r.weights j 0) (λ j. cond (f j) 1 0 * get_or r.weights j 0) other n (λ j lj. grind (arith, nat_tests)) in
+    let some = get_or-le-sum_by other (range_with_len 0 n) i 0 in
+    grind (arith, nat_tests, places-at n i 0 lt, row-sum r.weights n full, length-range_with_len 0 n, some, parts)
 
 module _ (n : ℕ) (veto f : ℕ → Bool) where
   -- ---- the rule that asks for each
@@ -73,12 +67,9 @@ module _ (n : ℕ) (veto f : ℕ → Bool) where
 
   rule-met : ((i : ℕ) → i < n → veto i ≡ true → f i ≡ true) → leb (number_of n veto) (weighs n (rule_for n veto) f) ≡ true
   rule-met all =
-      grind (
-        arith,
-        nat_tests,
-        sum-range (λ i. cond (f i) 1 0 * get_or (rule_for n veto).weights i 0) (λ i. cond (veto i) 1 0) 0 n
-            (λ i _ lt. grind (arith, nat_tests, made-at (λ j. cond (veto j) 1 0) n i, all i)),
-      )
+      let range = sum-range (λ i. cond (f i) 1 0 * get_or (rule_for n veto).weights i 0) (λ i. cond (veto i) 1 0) 0 n
+      (λ i _ lt. grind (arith, nat_tests, made-at (λ j. cond (veto j) 1 0) n i, all i)) in
+      grind (arith, nat_tests, range)
 
   -- ---- what is left of a rule
   rest-weighs : ((i : ℕ) → i < n → veto i ≡ true → f i ≡ true) → (r : RuleView)
@@ -95,12 +86,8 @@ vetoed-lost : (n : ℕ) (rs : List RuleView) (f : ℕ → Bool) (i : ℕ) → Al
     → f i ≡ false → met n rs f ≡ false
 vetoed-lost n [] f i full lt vetoes out = absurd (cc)
 vetoed-lost n (r ∷ rs) f i full lt vetoes out =
-    grind (
-      arith,
-      nat_tests,
-      missed r f n i (All-head (λ (x : RuleView). length x.weights ≡ n) r rs full) lt out,
-      vetoed-lost n rs f i (All-tail (λ (x : RuleView). length x.weights ≡ n) r rs full) lt,
-    )
+    let rest = vetoed-lost n rs f i (All-tail (λ (x : RuleView). length x.weights ≡ n) r rs full) lt in
+    grind (arith, nat_tests, missed r f n i (All-head (λ (x : RuleView). length x.weights ≡ n) r rs full) lt out, rest)
 
 -- rules that ask for nothing are met
 asking-met : (n : ℕ) (rs : List RuleView) (f : ℕ → Bool) → met n rs f ≡ met n (filter (λ r. ltb 0 r.quota) rs) f
@@ -111,16 +98,10 @@ asking-met n (r ∷ rs) f = grind (arith, nat_tests, asking-met n rs f)
 pub vetoers-both : (n : ℕ) (rs : List RuleView) (f : ℕ → Bool) → All (λ r. length r.weights ≡ n) rs
     → met n rs f ≡ met n (rules_beside n (can_veto rs) rs) f
 vetoers-both n rs f full =
-    grind (
-      arith,
-      nat_tests,
-      missing (can_veto rs) f n,
-      vetoed-lost n rs f,
-      rule-lost n (can_veto rs) f,
-      rests-met n (can_veto rs) f,
-      rule-met n (can_veto rs) f,
-      asking-met n (rule_for n (can_veto rs) ∷ map (rest_of n (can_veto rs)) rs) f,
-    )
+    let asking = asking-met n (rule_for n (can_veto rs) ∷ map (rest_of n (can_veto rs)) rs) f in
+    let asked = rule-lost n (can_veto rs) f in
+    let rests = rests-met n (can_veto rs) f in
+    grind (arith, nat_tests, missing (can_veto rs) f n, vetoed-lost n rs f, asked, rests, rule-met n (can_veto rs) f, asking)
 
 -- a member without whom some rule can not be met is in each winning coalition
 pub vetoer-in : (v : Votes) (p c : ℕ) → IsVotes v → p < v.members → IsVetoer v p → c < 2 ^ v.members → wins v.rules c ≡ true
@@ -128,13 +109,9 @@ pub vetoer-in : (v : Votes) (p c : ℕ) → IsVotes v → p < v.members → IsVe
 unfolding wins
 vetoer-in v p c votes inside (r, lr, less) below won =
     let full = (rule-is v r votes lr).full in
-    grind (
-      arith,
-      nat_tests,
-      list_all_at (λ (x : RuleView). leb x.quota (weight x.weights c)) v.rules r (record { quota = 0; weights = [] }) lr,
-      weight-sum (rule_at v.rules r).weights v.members c full,
-      missed (rule_at v.rules r) (λ q. has v.members q c) v.members p full inside,
-    )
+    let each = list_all_at (λ (x : RuleView). leb x.quota (weight x.weights c)) v.rules r (record { quota = 0; weights = [] }) lr in
+    let lacks = missed (rule_at v.rules r) (λ q. has v.members q c) v.members p full inside in
+    grind (arith, nat_tests, each, weight-sum (rule_at v.rules r).weights v.members c full, lacks)
 
 pub ruleset laws = (vetoer-in)
 
@@ -143,13 +120,10 @@ pub fair-all : (g : GameView) → IsGame g → All (IsFair (length g.names)) g.r
 fair-all g is k d lt = record {
   full = is.full k d lt;
   quota = All-from_recursion (λ (r : RuleView). has_bad_quota r ≡ false) g.rules (none-any has_bad_quota g.rules (passed g is.made).quotas) k d lt;
-  light = grind (
-    arith,
-    cases_lt,
-    get_or_past,
-    is.full k d lt,
-    All-from_recursion (λ (r : RuleView). (i : ℕ) → i < length g.names → get_or r.weights i 0 ≤ 1000000000000) g.rules (light-weights g is) k d lt,
-  );
+  light =
+      (let recursion = All-from_recursion (λ (r : RuleView). (i : ℕ) → i < length g.names → get_or r.weights i 0 ≤ 1000000000000) g.rules
+      (light-weights g is) k d lt in
+      grind (arith, cases_lt, get_or_past, is.full k d lt, recursion));
 }
 
 pub fair-of : (g : GameView) (k : ℕ) → IsGame g → k < length g.rules → IsFair (length g.names) (rule_at g.rules k)
@@ -191,18 +165,10 @@ fair-vetoers n veto some = grind (arith, length-map-range_with_len, good, sum-ma
 
 fair-rest : (n : ℕ) (veto : ℕ → Bool) (r : RuleView) → IsFair n r → 0 < (rest_of n veto r).quota → IsFair n (rest_of n veto r)
 fair-rest n veto r fair some =
-    grind (
-      arith,
-      nat_tests,
-      length-map-range_with_len,
-      good,
-      good-met,
-      sum-map,
-      light-made,
-      row-sum r.weights n fair.full,
-      sum-parts (λ i. get_or r.weights i 0) (λ i. cond (veto i) (get_or r.weights i 0) 0) (λ i. cond (veto i) 0 (get_or r.weights i 0)) n
-          (λ i lt. grind (arith, nat_tests)),
-    )
+    let parts =
+    sum-parts (λ i. get_or r.weights i 0) (λ i. cond (veto i) (get_or r.weights i 0) 0) (λ i. cond (veto i) 0 (get_or r.weights i 0)) n
+    (λ i lt. grind (arith, nat_tests)) in
+    grind (arith, nat_tests, length-map-range_with_len, good, good-met, sum-map, light-made, row-sum r.weights n fair.full, parts)
 
 -- each rule that is left is fair, since it asks for something
 pub fair-beside : (n : ℕ) (veto : ℕ → Bool) (rs : List RuleView) → All (IsFair n) rs → All (IsFair n) (rules_beside n veto rs)
@@ -242,13 +208,8 @@ module _ (g : GameView) (is : IsGame g) where
   lost : met (length g.names) g.rules (λ i. false) ≡ false
   lost =
       list_all_at (λ r. leb r.quota (weighs (length g.names) r (λ i. false))) g.rules 0 (record { quota = 0; weights = [] }) is.has_rule
-      (grind (
-        arith,
-        nat_tests,
-        good-some (rule_at g.rules 0),
-        fair-of g 0 is is.has_rule,
-        nobody (λ i. get_or (rule_at g.rules 0).weights i 0) (length g.names),
-      ))
+      (let none = nobody (λ i. get_or (rule_at g.rules 0).weights i 0) (length g.names) in
+      grind (arith, nat_tests, good-some (rule_at g.rules 0), fair-of g 0 is is.has_rule, none))
 
   pub statute-some : 0 < length (statute g)
   statute-some = grind (arith, nat_tests, lost, cases_lt, nil_from_length, statute-are.alike)

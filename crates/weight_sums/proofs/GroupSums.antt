@@ -21,12 +21,8 @@ pub record Paired (q digits : ℕ) (xs ys : List Set) (n : ℕ) (lows highs : Li
 keys-few : (key : Set → ℕ) (q : ℕ) (xs ys : List Set) (n : ℕ) (rows : List (List ℕ)) → IsHalf xs → IsHalf ys
     → AreOfKeys key (met q ys) (take n xs) rows → (k s : ℕ) → s ≤ 40 → get_or (get_or rows k []) s 0 ≤ 2 ^ 40
 keys-few key q xs ys n rows first second are k s small =
-    grind (
-      arith,
-      length-take n xs,
-      first.long,
-      of-few key (met q ys) (take n xs) rows are (λ i x. fits-few (q - x.weight) x.size i ys second) k s,
-    )
+    let most = of-few key (met q ys) (take n xs) rows are (λ i x. fits-few (q - x.weight) x.size i ys second) k s in
+    grind (arith, length-take n xs, first.long, most)
 
 module _ {q digits : ℕ} {xs ys : List Set} {n : ℕ} {lows highs : List (List ℕ)} {t : Fitting} (h : Paired q digits xs ys n lows highs t)
     (first : IsHalf xs) where
@@ -46,12 +42,8 @@ module _ {q digits : ℕ} {xs ys : List Set} {n : ℕ} {lows highs : List (List 
       entered meet in_low in_high =
       let row : ℕ → ℕ = λ s. cond (leb (get_or xs n d).size s) (get_or u.here (s - (get_or xs n d).size) 0) 0 in
       let gives : (s : ℕ) → s ≤ 40 → row s ≡ met q ys s (get_or xs n d) = grind (arith, added) in
-      grind (
-        arith,
-        get_or_default,
-        of-more (low_of digits) (met q ys) xs n low d lows more_lows row,
-        of-more (high_of digits) (met q ys) xs n high d highs more_highs row,
-      )
+      let highs_are = of-more (high_of digits) (met q ys) xs n high d highs more_highs row in
+      grind (arith, get_or_default, of-more (low_of digits) (met q ys) xs n low d lows more_lows row, highs_are)
 
 pub paired-all : {q : ℕ} {xs ys : List Set} {n : ℕ} {t : Fitting} (g : Groups)
     → Paired q g.digits xs ys n g.low.rows.items g.high.rows.items t → length xs ≤ n → g.digits ≤ 10 → IsHalfOf g.digits xs → IsHalf ys
@@ -87,9 +79,5 @@ without-high q s p r n all others g are le is small gives =
   where
     one : (x : Set) → x.members < 2 ^ (g.digits + g.digits) → has r (high_of g.digits x) ≡ has p x.members
     one x small =
-        grind (
-          arith,
-          has-high g.digits (r + g.digits) x.members,
-          has-last (g.digits + g.digits) p (r + g.digits) x.members small,
-          cases_lt (p - g.digits) g.digits,
-        )
+        let back = has-last (g.digits + g.digits) p (r + g.digits) x.members small in
+        grind (arith, has-high g.digits (r + g.digits) x.members, back, cases_lt (p - g.digits) g.digits)

@@ -49,12 +49,8 @@ met-nobody q s x = sum-one (fits (q - x.weight) x.size s) nobody ∙ (grind (ari
 pub own-met : (fr : List ℕ) (zs : List Set) → AreSets true fr zs → (q s place : ℕ)
     → sum_by (λ x. cond (has place x.members) 0 (met q (nobody ∷ []) s x)) zs ≡ over true (left_out place fr) (fits q 0 s)
 own-met fr zs are q s place =
-    grind (
-      arith,
-      are.same (λ x. cond (has place x.members) 0 (met q (nobody ∷ []) s x)),
-      met-nobody q s,
-      left_out-over true place fr (λ m k. cond (leb q m) (one_of_size s (0 + k)) 0),
-    )
+    let others = left_out-over true place fr (λ m k. cond (leb q m) (one_of_size s (0 + k)) 0) in
+    grind (arith, are.same (λ x. cond (has place x.members) 0 (met q (nobody ∷ []) s x)), met-nobody q s, others)
 
 -- how many sets of these members meet a quota, and how many do so without their last member, of one half or the other
 pub record AreMet (ws : List ℕ) (q s won shortened own : ℕ) : Type 0 where

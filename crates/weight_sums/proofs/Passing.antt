@@ -27,15 +27,10 @@ module _ {w heads left : ℕ} {before done : List ℕ} {row others : List Open}
   pub merge-few : (k : ℕ) → ((s : ℕ) → s ≤ 40 → get_or before s 0 + prefixes row * 2 ^ (left + 1) < 2 ^ 64)
       → prefixes (take k row) + prefixes others < 2 ^ 64
   merge-few k room =
-      omega (
-        arith,
-        room 0 (omega arith),
-        mul-le-mul_left (prefixes others) (pow_pos left),
-        double-times (prefixes row) left,
-        mul-le-mul_left (prefixes row) (pow_pos left),
-        others-few taken-are 0 (omega arith),
-        sum_by-take-le (λ (x : Open). x.ways) row k,
-      )
+      let own = mul-le-mul_left (prefixes others) (pow_pos left) in
+      let all = mul-le-mul_left (prefixes row) (pow_pos left) in
+      let part = sum_by-take-le (λ (x : Open). x.ways) row k in
+      omega (arith, room 0 (omega arith), own, double-times (prefixes row) left, all, others-few taken-are 0 (omega arith), part)
 
   pub goes-on : {next : List Open} (rest k : ℕ) → AreMerged (take k row) others next
       → ((g : ℕ → ℕ → ℕ) → ((r a : ℕ) → rest < r → g r a ≡ 0) → weigh g (take k row) ≡ weigh g row) → GoesOn w rest left heads before done row next
@@ -44,27 +39,13 @@ module _ {w heads left : ℕ} {before done : List ℕ} {row others : List Open}
     counted = λ ws s fits long small. (
         let g : ℕ → ℕ → ℕ = endings ws heads s in
         let kept = same g (λ r x more. endings-none ws heads s r x (omega (arith, fits, more))) in
-        omega (
-          arith,
-          taken-are.counted g s small,
-          merged.all g,
-          kept,
-          weigh-plus (taken w (fill heads s (length ws)) g) g row,
-          ap (λ (m : ℕ). weigh (taken w (fill heads s m) g) row) long,
-        ));
+        let same_left = ap (λ (m : ℕ). weigh (taken w (fill heads s m) g) row) long in
+        omega (arith, taken-are.counted g s small, merged.all g, kept, weigh-plus (taken w (fill heads s (length ws)) g) g row, same_left));
     few = λ s small. (
         let front = mul-le-mul_right (2 ^ left) (sum_by-take-le (λ (o : Open). o.ways) row k) in
         let t = weigh-times (2 ^ left) in
-        omega (
-          arith,
-          others-few taken-are s small,
-          double-times (prefixes row) left,
-          front,
-          merged.all (λ r x. 2 ^ left),
-          t next,
-          t others,
-          t (take k row),
-        ));
+        let times = double-times (prefixes row) left in
+        omega (arith, others-few taken-are s small, times, front, merged.all (λ r x. 2 ^ left), t next, t others, t (take k row)));
     sizes = λ p all. merged.sizes (p + 1)
         (All-take (λ (o : Open). o.size ≤ p + 1) k row (λ i d lt. (let le = all i d lt in omega (arith, le)))) (taken-are.sizes p all);
   }

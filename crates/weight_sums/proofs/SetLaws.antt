@@ -79,13 +79,5 @@ left_out-over short (suc p) (w ∷ ws) g =
     ≡ over short ws (λ x. cond (has p x.members) 0 (g x.weight x.size)) = grind (arith, has-later) in
     let with_it : over short ws (λ x. cond (has (suc p) (2 * x.members + 1)) 0 (g (x.weight + w) (x.size + 1)))
     ≡ over short ws (λ x. cond (has p x.members) 0 (g (x.weight + w) (x.size + 1))) = grind (arith, has-later) in
-    grind (
-      arith,
-      nat_tests,
-      has-later p 1 0,
-      has-none p,
-      out,
-      with_it,
-      left_out-over short p ws g,
-      left_out-over short p ws (λ m k. g (m + w) (k + 1)),
-    )
+    let joined_over = left_out-over short p ws (λ m k. g (m + w) (k + 1)) in
+    grind (arith, nat_tests, has-later p 1 0, has-none p, out, with_it, left_out-over short p ws g, joined_over)

@@ -60,13 +60,8 @@ unfolding over
 over-none short [] g none = grind (arith, nat_tests)
 over-none short (w ∷ ws) g none =
     let total : sum (w ∷ ws) ≡ w + sum ws = sum_by-cons (λ (y : ℕ). y) w ws in
-    grind (
-      arith,
-      nat_tests,
-      pow_pos (length ws),
-      over-none short ws (λ x. g (left x)) (λ x h. none (left x) (grind (arith))),
-      over-none short ws (λ x. g (joined w x)) (λ x h. none (joined w x) (grind (arith))),
-    )
+    let with_it = over-none short ws (λ x. g (joined w x)) (λ x h. none (joined w x) (grind (arith))) in
+    grind (arith, nat_tests, pow_pos (length ws), over-none short ws (λ x. g (left x)) (λ x h. none (left x) (grind (arith))), with_it)
 
 -- how many sets there are
 sum-ones : (xs : List Set) → sum_by (λ x. 1) xs ≡ length xs

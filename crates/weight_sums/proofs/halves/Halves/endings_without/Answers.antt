@@ -17,12 +17,9 @@ met-at c s small =
     let less = c.without-shortened.ensures _ s _ _ _ are.first _ are.shortened are.first_are are.second_shortened_are long small in
     let own = c.without-own.ensures _ are.first_shortened (nobody ∷ []) s are.own small in record {
       won_is = omega (arith, rw whole at won);
-      shortened_is = omega (
-        arith,
-        rw whole at less,
-        own,
-        own-met (take half c.args.weights.now) are.first_shortened are.first_shortened_are c.args.self.now.quota s c.args.place,
-      );
+      shortened_is =
+          (let met = own-met (take half c.args.weights.now) are.first_shortened are.first_shortened_are c.args.self.now.quota s c.args.place in
+          omega (arith, rw whole at less, own, met));
     }
 
 pub left_of-requires : goal.left_of-requires
