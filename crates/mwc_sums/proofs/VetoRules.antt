@@ -6,7 +6,7 @@ use Rattle.mwc_sums.proofs.Imports.{nat_tests, weighs, met, rules_beside, can_ve
 use Rattle.mwc_sums.proofs.Imports.{leb, ltb, List, [], ◌∷◌, length, sum-filter, has, weight, length-range_with_len, places-at, All-head}
 use Rattle.mwc_sums.proofs.Imports.{All-tail, sum_by-range-more, RuleView, sum-plus, get_or, wins, Votes, IsVotes, rule_at, length-map}
 use Rattle.mwc_sums.proofs.Imports.{filter-append, common_steps}
-use Rattle.std.proofs.Common.{ltb-true, fold, None, Ok, Err}
+use Rattle.std.proofs.Common.{fold, None, Ok, Err}
 use Rattle.std.proofs.lemmas.List.{Folds.list_all_at, Folds.list_any_none, FromFn.fill_by_all, FromFn.get_or-map-range_with_len}
 use Rattle.std.proofs.lemmas.List.{Elements.All-cons, Elements.All-map, Sums.sum-map, Sums.get_or-le-sum_by}
 use Rattle.mwc_sums.specs.Vetoers.{number_of, rest_of, rule_for, IsVetoer}
