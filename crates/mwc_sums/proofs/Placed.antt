@@ -1,8 +1,8 @@
 -- The minimal winning coalitions of a game hold the least sets of members that win.
+use Rattle.mwc_sums.proofs.Imports.{IsGame, votes_of, ranks-are, places-at, contains, sum-range, HasNoWeight, weighs, ◌≡◌, ◌∙◌, refl, subst}
 use Rattle.mwc_sums.proofs.Imports.{◌↔◌, ◌==◌, not, ℕ, suc, ◌*◌, ◌<◌, Bool, true, false, cond, List, [], ◌∷◌, length, length-map, GameView}
 use Rattle.mwc_sums.proofs.Imports.{length-range_with_len, RuleView, Votes, has, wins, weight, minimal, member_at, get_or, map, sym, ap}
-use Rattle.mwc_sums.proofs.Imports.{IsGame, votes_of, ranks-are, places-at, contains, sum-range, HasNoWeight, weighs, ◌≡◌, ◌∙◌}
-use Rattle.mwc_sums.proofs.Imports.{refl, subst, arith, list_any, nat_tests, met, members_by_rank}
+use Rattle.mwc_sums.proofs.Imports.{arith, list_any, nat_tests, met, members_by_rank}
 use Rattle.std.proofs.lemmas.List.{get_or-map}
 use Rattle.council_game.specs.Ranks.{places, rule_by_rank}
 use Rattle.council_game.proofs.Shared.{Meanings.needs-each-member, RankPlaces.game-rank_places, Rankings.length-weights_by_rank}
