@@ -24,14 +24,8 @@ down-contains p (suc n) m lt h =
 pub minimal_subsets : (v : Votes) → IsVotes v → HasMinimalSubsets v
 unfolding minimal_coalitions
 minimal_subsets v game c below won =
-    let found = minimal-inside v (suc c) c (omega arith) won in
-    record {
-      subset = found.0;
-      listed = down-contains (minimal v) (2 ^ v.members) found.0 (omega (arith, below, found.1)) found.2;
-      inside = found.3;
-    }
+    let found = minimal-inside v (suc c) c (omega arith) won in grind (arith, down-contains)
 
 pub vetoers_in_all : (v : Votes) → IsVotes v → HasVetoersInAll v
 vetoers_in_all v game p lt all c below won =
-    let found = minimal_subsets v game c below won in
-    found.inside p lt (All-contains (λ m. has v.members p m ≡ true) (minimal_coalitions v) found.subset all found.listed)
+    let found = minimal_subsets v game c below won in grind (arith)

@@ -15,9 +15,7 @@ distinct_places g game i j li lj same =
 
 -- a name that stands before is a repeat
 repeats : (names : List (List ℕ)) (i j : ℕ) → i < j → j < length names → get_or names i [] ≡ get_or names j [] → is_repeat names j ≡ true
-repeats names i j before below same =
-    list_any_at (pointwise nat_eq (get_or names j [])) (take j names) i [] (omega (arith, length-take j names, before, below))
-    ((bytes_eq-Decides _ _).1 (sym (get_or-take j names i [] before ∙ same)))
+repeats names i j before below same = grind (arith, list_any_at, length-take, bytes_eq-Decides, get_or-take)
 
 none-before : (g : GameView) → IsGame g → (i j : ℕ) → i < j → j < length g.names → get_or g.names i [] ≡ get_or g.names j [] → ⊥
 none-before g game i j before below same =

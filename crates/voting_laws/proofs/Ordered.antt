@@ -55,5 +55,4 @@ at_most_then_below p q r pos le lt = step p.0 p.1 q.0 q.1 r.0 r.1 pos le lt
     step a b c d e f pos le lt =
         let first : a * d * f ≤ c * b * f = mul-le-mul_right f le in
         let second : c * f * b < e * d * b = less-times b (c * f) (e * d) pos lt in
-        let both : a * f * d < e * b * d = omega (arith, first, second) in
-        lt_of_mul-lt-mul_right d both
+        let both : a * f * d < e * b * d = omega (arith, first, second) in grind (arith, lt_of_mul-lt-mul_right)
