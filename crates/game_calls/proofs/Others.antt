@@ -14,9 +14,7 @@ others_kept g game n m place a b count at lm kept i li other =
     let are = ranks-are g game in
     let rank : ℕ = get_or g.ranks i 0 in
     let apart : get_or g.ranks i 0 ≢ place = λ e.
-    other (sym (are.member_back i li) ∙ ap (member_at g.ranks) (e ∙ at) ∙ are.member_back m lm) in
-    ap (λ (k : ℕ). has k rank b) (sym count) ∙ kept rank (omega (arith, count, are.place_below i li)) apart
-    ∙ ap (λ (k : ℕ). has k rank a) count
+    other (sym (are.member_back i li) ∙ ap (member_at g.ranks) (e ∙ at) ∙ are.member_back m lm) in grind (arith)
 
 -- what passes a test among one number more
 pub passes : (p : ℕ → Bool) (n : ℕ) (xs ys : List ℕ) → p n ≡ true → ys ≡ xs ++ n ∷ [] → xs ≡ filter p (range_with_len 0 n)
@@ -37,12 +35,7 @@ named {X} text g names k m a b d lt found inside others before i li =
     let p : X → Bool = λ name. is_named g i (text name) in
     let more : list_any p (take (k + 1) names) ≡ (list_any p (take k names) || is_that i (Some m)) =
     list_any_more p names k d lt ∙ ap (λ (o : Option ℕ). list_any p (take k names) || is_that i o) found in
-    elim (cases_eq i m) [
-      | inl same ↦ ap (λ (j : ℕ). contains g j b) same ∙ inside ∙ sym (more ∙ or_right _ _ (eq-eqb _ _ same))
-      | inr other ↦
-          others i li other ∙ before i li
-          ∙ sym (more ∙ ap (λ (t : Bool). list_any p (take k names) || t) (ne_eqb _ _ other) ∙ or-false _)
-    ]
+        grind (arith, cases_eq, or_right, eq-eqb, or-false)
 
 pub unnamed : {X : Type 0} (text : X → List ℕ) (g : GameView) (names : List X) (k a : ℕ) (d : X) → k < length names
     → member_named g (text (get_or names k d)) ≡ None

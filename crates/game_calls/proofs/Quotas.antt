@@ -33,17 +33,10 @@ another_quota g game q some met =
     let rs : List RuleView = record { quota = q; weights = (rule_at g.rules 0).weights } ∷ [] in
     let first = first-ranks g.rules game.has_rule in
     let full = recursion_from_All (λ (r : RuleView). length r.weights ≡ length g.names) g.rules game.full in
-    let count : length (rule_at g.rules 0).weights ≡ length g.names =
-    ap length (sym first) ∙ first-full (length g.names) g.rules game.has_rule full in
+    let count : length (rule_at g.rules 0).weights ≡ length g.names = grind (arith, first-full) in
     let light = nowhere_below (is_heavy rs) (length g.names)
     (λ i lt. first-light g.rules q i game.has_rule (position-none (is_heavy g.rules) (length g.names) p.weights i lt)) in
-    record {
-      made = makes g.title g.names rs p.title p.members p.names p.repeats light (good-quota q (rule_at g.rules 0).weights some met)
-          ∙ ranked g.title g.names rs (rank_places (rule_at g.rules 0).weights) g.ranks (sym (p.ranks ∙ ap rank_places first));
-      has_rule = omega arith;
-      few_rules = omega arith;
-      full = All-cons (λ (r : RuleView). length r.weights ≡ length g.names) _ [] count (All-nil _);
-    }
+        grind (arith, makes, good-quota, ranked)
 
 -- so that no fault but want of memory is answered
 pub only-memory : (g : GameView) (q : ℕ) (fault : GameFault) → IsGame g → 1 ≤ q → q ≤ total (rule_at g.rules 0)
