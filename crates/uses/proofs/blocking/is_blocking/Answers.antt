@@ -1,3 +1,4 @@
+use Rattle.std.proofs.Common.{arith}
 use Rattle.std.proofs.Common.{◌≡◌, ◌∙◌, ℕ, ◌<◌, Bool, true, false, not, length, refl, sym, ap}
 use Rattle.std.proofs.lemmas.Bool.{both_ways, false_from_ne_true}
 use Rattle.council_game.specs.{Game.GameView, Game.IsGame, Game.votes_of, Members.contains, Ranks.member_at, Votes.has, Votes.wins}
@@ -16,9 +17,7 @@ inside : (g : GameView) → IsGame g → (c out coalition : ℕ)
 inside g game c out coalition others apart p lt within =
     let are = ranks-are g game in
     let back = are.place_back p lt in
-    let li = are.member_below p lt in
-    ap (λ (q : ℕ). has (length g.names) q out) (sym back) ∙ others (member_at g.ranks p) li
-    ∙ ap not (apart (member_at g.ranks p) li (ap (λ (q : ℕ). has (length g.names) q c) back ∙ within))
+    let li = are.member_below p lt in grind (arith)
 
 pub returns : goal.returns
 returns c =
