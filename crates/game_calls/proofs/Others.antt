@@ -35,7 +35,7 @@ named {X} text g names k m a b d lt found inside others before i li =
     let p : X → Bool = λ name. is_named g i (text name) in
     let more : list_any p (take (k + 1) names) ≡ (list_any p (take k names) || is_that i (Some m)) =
     list_any_more p names k d lt ∙ ap (λ (o : Option ℕ). list_any p (take k names) || is_that i o) found in
-        grind (arith, cases_eq, or_right, eq-eqb, or-false)
+    grind (arith, cases_eq, or_right, eq-eqb, or-false)
 
 pub unnamed : {X : Type 0} (text : X → List ℕ) (g : GameView) (names : List X) (k a : ℕ) (d : X) → k < length names
     → member_named g (text (get_or names k d)) ≡ None

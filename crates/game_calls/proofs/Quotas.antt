@@ -36,7 +36,7 @@ another_quota g game q some met =
     let count : length (rule_at g.rules 0).weights ≡ length g.names = grind (arith, first-full) in
     let light = nowhere_below (is_heavy rs) (length g.names)
     (λ i lt. first-light g.rules q i game.has_rule (position-none (is_heavy g.rules) (length g.names) p.weights i lt)) in
-        grind (arith, makes, good-quota, ranked)
+    grind (arith, makes, good-quota, ranked)
 
 -- so that no fault but want of memory is answered
 pub only-memory : (g : GameView) (q : ℕ) (fault : GameFault) → IsGame g → 1 ≤ q → q ≤ total (rule_at g.rules 0)

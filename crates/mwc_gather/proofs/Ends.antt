@@ -40,7 +40,8 @@ parts_sum : (g : Slicing) (parts : List Part) → All (IsPart g) parts
 parts_sum g [] a = refl
 parts_sum g (p ∷ parts) a =
     let part = All-head (IsPart g) p parts a in
-    let x = ap length part.0 in let b = length-joined g p.slices.items in
+    let x = ap length part.0 in
+    let b = length-joined g p.slices.items in
     let c = parts_sum g parts (All-tail (IsPart g) p parts a) in grind (arith, nat_tests, common_steps, sum_by-cons)
 
 -- all parts have as many coalitions as the slices

@@ -62,7 +62,9 @@ module _ {all : List ℕ} {j wanted left : ℕ} {before : List Word} where
 
   short : {out row : List Word} (g : Slicing) → g.slice j ≡ all → UnderWay all j wanted left before [] out row
       → left + length (g.slice j) ≡ wanted
-  short g e u = let count = u.count in let whole = ap length (e ∙ u.split ∙ append-nil u.given) in omega arith
+  short g e u =
+      let count = u.count in
+      let whole = ap length (e ∙ u.split ∙ append-nil u.given) in omega arith
 
   pub takes_some_at_end : {out row after : List Word} (g : Slicing) → g.slice j ≡ all → UnderWay all j wanted left before [] out row
       → 0 < left → SendsSome out (row ++ Done j ∷ []) after

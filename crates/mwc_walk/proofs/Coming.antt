@@ -121,7 +121,8 @@ module _ (n : ℕ) (ws vs fs : List ℕ) (lw : n ≤ length ws) (lv : n ≤ leng
       → sum (drop p (take n vs)) + weight (drop p (take n fs)) c ≡ weight (drop p (take n ws)) c
   split-from c zero p inside at = grind (arith, weight-past, drop_all, length-take-le)
   split-from c (suc k) p inside at =
-      let below : p < n = omega arith in let rest = split-from c k (p + 1) inside (omega arith) in
+      let below : p < n = omega arith in
+      let rest = split-from c k (p + 1) inside (omega arith) in
       grind (arith, sum-from vs n p lv below, weight-from fs n p c below lf, weight-from ws n p c below lw, parted p below, inside p below)
 
   pub parts-fit : (m : ℕ) → m ≤ n → sum (take m vs) + sum (take m fs) ≡ sum (take m ws)

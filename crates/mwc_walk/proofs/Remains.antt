@@ -70,7 +70,8 @@ module _ {v : Votes} {a b : Cursor} where
 pub visits-most : {v : Votes} {a : Cursor} → CursorIs v a → (a.rules ≡ 1 → a.fresh ≡ true → a.place ≡ a.bits) → length v.rules ≡ 1
     → a.visits ≤ a.bits + (v.members - a.bits) * (length (slice v a.bits a.number) - length (rest_of_slice v a))
 visits-most {v} {a} is rests one =
-    let short = rest-short is in let visits = is.visits in grind (arith, mul-add)
+    let short = rest-short is in
+    let visits = is.visits in grind (arith, mul-add)
 
 -- what the calls of a walk rest on
 pub ruleset walking = (given-same, given-next, given-end, visits-most)

@@ -52,8 +52,9 @@ listing-is v game =
     let found = minimal-inside v (2 ^ v.members) (2 ^ v.members - 1) (omega arith) (wins-full v.members v.rules game.rules) in
     record {
       some = some-left (minimal v) (2 ^ v.members) found.0 (omega (arith, found.1)) found.2;
-      few = (let parts = length-filter_both (minimal v) (λ c. not (minimal v c)) (λ c. refl) (down (2 ^ v.members)) in let all =
-          length-down (2 ^ v.members) in omega (arith, parts, all));
+      few =
+          (let parts = length-filter_both (minimal v) (λ c. not (minimal v c)) (λ c. refl) (down (2 ^ v.members)) in
+          let all = length-down (2 ^ v.members) in omega (arith, parts, all));
       below = All-filter (minimal v) (λ c. c < 2 ^ v.members) (down (2 ^ v.members))
           (down-below (2 ^ v.members) (2 ^ v.members) (omega arith));
       descending = AllPairs-filter (λ a b. b < a) (minimal v) (down (2 ^ v.members)) (down-descends (2 ^ v.members));

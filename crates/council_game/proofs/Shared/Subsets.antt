@@ -40,7 +40,9 @@ subsets-lose v game a c la lc min sub =
           absurd (both_ways _ (lost (eq-eqb _ _ inside)) (wins-mono v.members a (c - 2 ^ i) v.rules game.rules
           (λ j lt. elim (cases_eq j i) [
             | inl same ↦ let out : a / 2 ^ j % 2 ≡ 0 = grind (arith) in omega (arith, out)
-            | inr apart ↦ let kept = digit-kept c i j inside apart in let l = less j lt in omega (arith, kept, l)
+            | inr apart ↦
+                let kept = digit-kept c i j inside apart in
+                let l = less j lt in omega (arith, kept, l)
           ]) won))
     ])))
 

@@ -52,7 +52,8 @@ pub first_turn : {n : ℕ} {early stopped stops : Bool} {marks after : List (Opt
     → DealsOneEach n (k + 1) early after stops (set desks k t)
 unfolding turn_nothing turn_one
 first_turn {n} {early} {stopped} {stops} desks k s t l e fresh f r =
-    let d = f.deal in let old = d.in_order in elim r.gives [
+    let d = f.deal in
+    let old = d.in_order in elim r.gives [
       | inl g ↦
           let full : stops ≡ false → old.free ≡ 0
           = grind (arith, or-false, false≢true, none_free) in

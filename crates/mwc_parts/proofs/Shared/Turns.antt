@@ -54,7 +54,9 @@ given_is hs desks i s g l e =
 or_stays : (a b c d : Bool) → (c ≡ false → a ≡ false) → (d ≡ false → b ≡ false) → (a || b) ≡ true → (c || d) ≡ true
 or_stays a b true d p q e = refl
 or_stays a b false true p q e = refl
-or_stays a b false false p q e = let x = p refl in let y = q refl in sym (ap (λ (z : Bool). z || b) x ∙ y) ∙ e
+or_stays a b false false p q e =
+    let x = p refl in
+    let y = q refl in sym (ap (λ (z : Bool). z || b) x ∙ y) ∙ e
 
 pub not_ill : (s : DeskView) → IsWell s → is_ill s ≡ false
 not_ill s w = ap (λ (z : Bool). z || s.cut) w.0 ∙ w.1

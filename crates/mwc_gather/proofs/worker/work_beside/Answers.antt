@@ -11,13 +11,17 @@ send_behind-sent-requires g c = grind arith
 
 pub loop-preserved : goal.loop-preserved
 loop-preserved g c =
-    let game : Slicing = slicing c.args.job.now.guarded c.args.job.now.bits in let j = c.in-Some-next_task.slice in
+    let game : Slicing = slicing c.args.job.now.guarded c.args.job.now.bits in
+    let j = c.in-Some-next_task.slice in
     let inv = c.loop.invariant.3 in
     let task = c.in-Some-next_task.ensures.taken in
     let sends = c.in-Whole.ensures.sends in
-    let count = c.slice_count-slices.ensures in let first = task.0 in
+    let count = c.slice_count-slices.ensures in
+    let first = task.0 in
     let low : j < game.slices = omega arith in
-    let sum = inv.3 in let few = sends.1 in let rest = sends.2 in
+    let sum = inv.3 in
+    let few = sends.1 in
+    let rest = sends.2 in
     let more : coalition_count game (inv.0 ++ j ∷ []) ≡ coalition_count game inv.0 + length (game.slice j) =
     sum_by_push (λ i. length (game.slice i)) inv.0 j in (
       search rules,

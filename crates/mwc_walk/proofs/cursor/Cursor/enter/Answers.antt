@@ -34,5 +34,6 @@ returns-clause-steps c =
 
 pub overflow_mul-self : goal.overflow_mul-self
 overflow_mul-self c =
-    let is = c.requires.is in let up : 2 ^ c.args.self.now.place ≤ 2 ^ 40 = pow_mono {j = 40} (omega (arith, is.place.to, is.game.few)) in
+    let is = c.requires.is in
+    let up : 2 ^ c.args.self.now.place ≤ 2 ^ 40 = pow_mono {j = 40} (omega (arith, is.place.to, is.game.few)) in
     omega (arith, up, is.place.short)
