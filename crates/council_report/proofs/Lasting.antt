@@ -26,6 +26,8 @@ line-counts text old pushed ready takes short few = grind (arith, common_steps, 
 pub puts-line : (text : List ℕ) (held now : Option (List ℕ)) (old pushed new : Block) (r : Result (Unit {0}) WriteFault) → IsReady old
     → Takes old pushed text → length text ≤ 4096 → Settles held pushed now new r → Puts text held old now new r
 puts-line text held now old pushed new (Ok u) ready takes short settled =
-    grind (arith, line-kept, nat_tests, common_steps, tells-same, tells-block)
+    let kept = line-kept ready takes short in
+    grind (arith, nat_tests, common_steps, tells-same, tells-block, takes.adds.items kept)
 puts-line text held now old pushed new (Err fault) ready takes short settled =
-    grind (arith, line-kept, nat_tests, common_steps, stopped-after, tells-block)
+    let kept = line-kept ready takes short in
+    grind (arith, nat_tests, common_steps, stopped-after, tells-block, takes.adds.items kept)

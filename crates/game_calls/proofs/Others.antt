@@ -1,6 +1,6 @@
 -- One member more or less leaves the others as they were.
 use Rattle.std.proofs.Common.{◌≡◌, ◌≢◌, ◌∙◌, ℕ, ◌+◌, ◌<◌, Bool, true, false, ◌||◌, List, [], ◌∷◌, ◌++◌, length, get_or, take, filter, sym}
-use Rattle.std.proofs.Common.{ap, arith, Option, Some, None, inl, inr, eq-eqb, ne_eqb, append-nil}
+use Rattle.std.proofs.Common.{ap, arith, Option, Some, None, eq-eqb, append-nil}
 use Rattle.std.proofs.{Math.Bool.or-false, lemmas.Grind.common_steps, lemmas.List.Folds.list_any_more}
 use Rattle.std.specs.List.{list_any, range_with_len}
 use Rattle.std.proofs.lemmas.Bool.{cases_eq, cond-true, cond-false, or_right}

@@ -1,8 +1,8 @@
 -- A winning coalition has a minimal winning subset.
-use Rattle.std.proofs.Common.{◌≡◌, ◌≢◌, ℕ, zero, suc, ◌^◌, ◌<◌, Bool, true, [], ◌∷◌, Contains, sym, ap, ◌∙◌, arith, inl, inr, filter}
-use Rattle.std.proofs.lemmas.List.Elements.{All-contains, Contains-append_right}
+use Rattle.std.proofs.Common.{◌≡◌, ◌≢◌, ℕ, zero, suc, ◌<◌, Bool, true, [], ◌∷◌, Contains, sym, ap, ◌∙◌, arith, inl, inr, filter}
+use Rattle.std.proofs.lemmas.List.Elements.{Contains-append_right}
 use Rattle.std.proofs.lemmas.Bool.{both_ways, cases_eq, cond_both}
-use Rattle.council_game.specs.Votes.{Votes, IsVotes, has, wins, minimal, down, minimal_coalitions}
+use Rattle.council_game.specs.Votes.{Votes, IsVotes, wins, down, minimal_coalitions}
 use Rattle.council_game.proofs.Shared.Subsets.{wins-mono, digits-less, minimal-inside}
 use Rattle.voting_laws.specs.Winning.{IsSubset, HasMinimalSubsets, HasVetoersInAll}
 

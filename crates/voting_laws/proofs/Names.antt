@@ -1,8 +1,7 @@
 -- Names and rank places are distinct.
-use Rattle.std.proofs.Common.{◌≡◌, ◌∙◌, ℕ, ◌<◌, true, List, [], length, get_or, take, sym, ap, arith, nat_eq, get_or-take, length-take}
+use Rattle.std.proofs.Common.{◌≡◌, ◌∙◌, ℕ, ◌<◌, true, List, [], length, get_or, sym, ap, arith, get_or-take, length-take}
 use Rattle.std.proofs.lemmas.{Bool.cases_eq, Bool.cases_lt, Bool.both_ways, List.Folds.list_any_at, Slice.Eq.bytes_eq-Decides}
 use Rattle.std.proofs.lemmas.Grind.{common_steps}
-use Rattle.std.specs.Cmp.Lexicographic.{pointwise}
 use Rattle.council_game.specs.{Game.GameView, Game.IsGame, Game.is_repeat, Ranks.member_at}
 use Rattle.council_game.proofs.Shared.{Games.passed, Games.position-none, Making.ranks-are}
 

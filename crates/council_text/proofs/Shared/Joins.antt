@@ -47,7 +47,8 @@ more-within s (v ∷ vs) zero below some = absurd (omega arith)
 more-within s (v ∷ vs) (suc r) below some =
     let rest = length-flat_map-take (λ w. s ++ decimal w) vs r 0 (omega arith) in
     let first = length-append (decimal v) (behind s (take r vs)) in
-    let all = length-append (decimal v) (behind s vs) in grind (arith, length-append)
+    let all = length-append (decimal v) (behind s vs) in
+    omega (arith, rest, first, all, length-append s (decimal (get_or vs r 0)))
 
 pub next-within : (s vs : List ℕ) (r : ℕ)
     → r < length vs → length (joined_numbers s (take r vs)) + length (decimal (get_or vs r 0)) ≤ length (joined_numbers s vs)

@@ -1,5 +1,4 @@
-use Rattle.std.proofs.Common.{◌∙◌, ap, arith, length}
-use Rattle.council_game.specs.Game.{votes_of}
+use Rattle.std.proofs.Common.{arith}
 use Rattle.game_calls.proofs.walked.count_by_walk.Goals as goal
 
 pub loop-coalition-init : goal.loop-coalition-init
