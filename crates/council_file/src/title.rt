@@ -13,8 +13,7 @@ fn title_from(value: &Value) -> Result<Option<&str>, GameFault>
 {
     match value.as_str() {
         Some(text) if is_title(text) => Ok(Some(text)),
-        Some(_) => Err(GameFault::Title),
-        None => Err(GameFault::Title),
+        _ => Err(GameFault::Title),
     }
 }
 

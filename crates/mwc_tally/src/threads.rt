@@ -1,5 +1,5 @@
 //! The counts of all slices.
-ghost use Rattle.std.specs.Prelude.{◌≡◌, ◌≤◌, All, length, Err, IfOk, IfErr, MatchOption, if◌then◌else◌, true, false, ⊤};
+ghost use Rattle.std.specs.Prelude.{◌≡◌, ◌≢◌, ◌≤◌, All, length, Err, IfOk, IfErr, MatchOption, if◌then◌else◌, true, false, ⊤};
 ghost use Rattle.coalitions.specs.declared.limits.TheConstants.{BITS, WORKERS};
 ghost use Rattle.council_game.specs.Game.{votes_of};
 ghost use Rattle.council_game.specs.Votes.{minimal_coalitions};
@@ -56,7 +56,7 @@ pub fn tally<R: Threads + Wait + Sync, W: Watch + Sync>(
         move |scope| -> Result<Share, TallyFault>
             requires { (bits ≤ BITS) × (bits ≤ length game.now.names) }
             ensures share { IfOk result (IsShareAt game.entry.now bits) }
-            ensures started { result ≡ Err TallyFault.Stopped → ⊥ }
+            ensures started { result ≢ Err TallyFault.Stopped }
         {
             let work = SliceQueue::new(SlicedGame { game, bits }, next, watch);
             count_beside(scope, rt, alloc, &work, workers)
@@ -116,7 +116,7 @@ fn count_beside<'s, E, R: Threads, W: Watch + Sync>(
     workers: u8,
 ) -> Result<Share, TallyFault>
     ensures share { IfOk result (IsShare work.now.slices) }
-    ensures started { result ≡ Err TallyFault.Stopped → ⊥ }
+    ensures started { result ≢ Err TallyFault.Stopped }
 {
     let none = Share::none(alloc, work.slices)?;
     let threads = start_all(scope, alloc, work, workers)?;
