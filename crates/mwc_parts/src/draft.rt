@@ -11,7 +11,7 @@ use council_game::{Coalition, Memory};
 use mwc_ring::Word;
 use std::alloc::Global;
 
-/// What is kept of the words of a worker as they come. Of use to a gatherer alone: its parts are made of it.
+/// What is kept of the words of a worker as they come: its part is made of it.
 #[derive(Drop)]
 pub struct Draft {
     /// How many coalitions had come at the end of each slice.

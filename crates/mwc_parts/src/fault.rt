@@ -40,7 +40,7 @@ impl From<council_game::Memory> for GatherFault {
     }
 }
 
-/// Which faults were met. Of use to a gatherer alone, which answers the first of them.
+/// Which faults were met: a gatherer answers the first of them.
 #[derive(Clone, Copy, Debug)]
 pub struct Met {
     /// A worker could not be started.

@@ -57,7 +57,7 @@ impl Part {
     }
 }
 
-/// Whether all parts together have at most `most` coalitions. Of use to a gatherer alone.
+/// Whether all parts together have at most `most` coalitions.
 pub fn fits(parts: &[Part], most: u32) -> bool
     ensures few { result ≡ true → sum_by (λ p. length p.got.items) parts.now ≤ most }
     ensures many { result ≡ false → most < sum_by (λ p. length p.got.items) parts.now }

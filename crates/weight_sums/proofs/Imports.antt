@@ -7,7 +7,7 @@ pub use Rattle.std.proofs.lemmas.{Bool.cases_eq, Bool.cases_lt, Bool.Decides.nat
 pub use Rattle.std.proofs.lemmas.List.Sums.{sum_by-cons, sum_by-le, sum_by-take-le, sum_by_more, sum_by_push}
 pub use Rattle.weight_sums.specs.Endings.{fill, no_sizes, one_of_size, taken}
 pub use Rattle.weight_sums.specs.{Inner.Fitting.AreEntered, Inner.Fitting.AreOfNeed, Inner.Fitting.Meet, declared.fitting.Fitting.Fitting}
-pub use Rattle.weight_sums.specs.{Inner.Groups.high_of, Inner.Groups.low_of, Inner.Tables.AreOfKeys, declared.row.Open.Open}
+pub use Rattle.weight_sums.specs.{Inner.Groups.high_of, Inner.Groups.low_of, Inner.Tables.AreOfKeys, declared.row.Prefixes.Prefixes}
 pub use Rattle.weight_sums.specs.{Inner.Halves.IsLeft, declared.sets.Set.Set}
 pub use Rattle.weight_sums.specs.Inner.Rows.{AreOfPrefixes, AreTaken, GoesOn, come_to, prefixes, weigh}
 pub use Rattle.weight_sums.specs.Inner.Sets.{AreSets, IsHalf, IsHalfOf, alone, fits, has, joined, met, nobody}

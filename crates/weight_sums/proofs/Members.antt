@@ -1,16 +1,16 @@
 -- The tallies of a member's coalitions, as the passes give them.
-use Rattle.weight_sums.proofs.Imports.{sum_by-cons, endings, left_out, Open, weigh, AreOfPrefixes, ◌≡◌, ℕ, zero, suc, arith, sum, pow_mono}
+use Rattle.weight_sums.proofs.Imports.{sum_by-cons, endings, left_out, Prefixes, weigh, AreOfPrefixes, ◌≡◌, ℕ, zero, suc, arith, sum, pow_mono}
 use Rattle.weight_sums.proofs.Imports.{◌+◌, ◌<◌, ◌≤◌, List, [], ◌∷◌, length, get_or, set, get_or-set_same, get_or-set_other, ap, GoesOn}
 use Rattle.weight_sums.proofs.Imports.{come_to, no_sizes, common_steps}
 use Rattle.weight_sums.specs.{Inner.Rows.IsOfTheRest, declared.by_size.BySize.BySize}
 use Rattle.weight_sums.proofs.EndingLaws.{length-left_out}
 
 -- the row of the empty prefix
-pub prefixes-start : (n q : ℕ) (done : List ℕ) (row : List Open) → n ≤ 40 → ((s : ℕ) → get_or done s 0 ≡ 0)
+pub prefixes-start : (n q : ℕ) (done : List ℕ) (row : List Prefixes) → n ≤ 40 → ((s : ℕ) → get_or done s 0 ≡ 0)
     → row ≡ record { need = q; size = 0; ways = 1 } ∷ [] → AreOfPrefixes n done row
 prefixes-start n q done row few none is = grind (arith, pow_mono)
 
-pub come-start : (ws : List ℕ) (heads q s : ℕ) (done : List ℕ) (row : List Open) → get_or done s 0 ≡ 0
+pub come-start : (ws : List ℕ) (heads q s : ℕ) (done : List ℕ) (row : List Prefixes) → get_or done s 0 ≡ 0
     → row ≡ record { need = q; size = 0; ways = 1 } ∷ [] → come_to heads s ws done row ≡ endings ws heads s q 0
 come-start ws heads q s done row none is = omega (arith, none, ap (weigh (endings ws heads s)) is)
 
@@ -22,19 +22,19 @@ sum-left_out k [] = omega arith
 sum-left_out zero (w ∷ ws) = simp sum_by-cons (omega arith)
 sum-left_out (suc k) (w ∷ ws) = simp sum_by-cons (omega (arith, sum-left_out k ws))
 
-come-more : {w rest left heads : ℕ} {done after : List ℕ} {row next : List Open} (later : List ℕ) (k s : ℕ)
+come-more : {w rest left heads : ℕ} {done after : List ℕ} {row next : List Prefixes} (later : List ℕ) (k s : ℕ)
     → GoesOn w rest left heads done after row next → rest ≡ sum later → length later ≡ left + 1 → k < length later → s ≤ 40
     → come_to heads s (left_out k later) after next ≡ come_to heads s (left_out (suc k) (w ∷ later)) done row
 unfolding left_out
 come-more later k s on all one lt small = grind (arith, sum-left_out, length-left_out)
 
-pub come-less : {w rest left heads : ℕ} {done after : List ℕ} {row next : List Open} (ws later sizes : List ℕ) → ws ≡ w ∷ later
+pub come-less : {w rest left heads : ℕ} {done after : List ℕ} {row next : List Prefixes} (ws later sizes : List ℕ) → ws ≡ w ∷ later
     → GoesOn w rest left heads done after row next → rest ≡ sum later → length later ≡ left + 1
     → ((k s : ℕ) → k < length ws → s ≤ 40 → come_to heads s (left_out k ws) done row ≤ get_or sizes s 0)
     → (k s : ℕ) → k < length later → s ≤ 40 → come_to heads s (left_out k later) after next ≤ get_or sizes s 0
 come-less ws later sizes is on all one less k s lt small = grind (arith, come-more later k s on all one lt small)
 
-pub tallied-from : {w rest left heads place : ℕ} {done after : List ℕ} {row next : List Open} {all own : BySize}
+pub tallied-from : {w rest left heads place : ℕ} {done after : List ℕ} {row next : List Prefixes} {all own : BySize}
     (each : List BySize) (later : List ℕ) → GoesOn w rest left heads done after row next → rest ≡ sum later → length later ≡ left + 1
     → IsOfTheRest heads later done row all own → ((k : ℕ) → k < length later
     → IsOfTheRest heads (left_out k later) after next all (get_or each (place + 1 + k) no_sizes))

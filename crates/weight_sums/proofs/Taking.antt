@@ -1,6 +1,6 @@
 -- Rows of prefixes, one prefix more.
 use Rattle.weight_sums.proofs.Imports.{pow_mono, ◌≡◌, ℕ, ◌+◌, ◌*◌, ◌<◌, ◌≤◌, ◌^◌, List, [], ◌∷◌, ◌++◌, length, take, get_or, set, nat_tests}
-use Rattle.weight_sums.proofs.Imports.{mul-le-mul_left, pow_pos, sum_by_push, sum_by_more, Open, cond, replicate, ltb, zero, suc, ap, refl}
+use Rattle.weight_sums.proofs.Imports.{mul-le-mul_left, pow_pos, sum_by_push, sum_by_more, Prefixes, cond, replicate, ltb, zero, suc, ap, refl}
 use Rattle.weight_sums.proofs.Imports.{arith, ◌-◌, get_or-set_same, get_or-set_other, All, choose, fill, one_of_size, taken, weigh}
 use Rattle.weight_sums.proofs.Imports.{prefixes, mul-le-mul_right, sum_by-take-le, AreTaken, sum_by-cons, get_or-zeros}
 use Rattle.std.proofs.Common.{length-set, max}
@@ -36,18 +36,18 @@ pub complete : (w need size heads left ways end times s : ℕ) (g : ℕ → ℕ 
 complete w need size heads left ways end times s g done met end-is times-is within =
     grind (arith, nat_tests, bumped done end s (ways * times) within)
 
-pub put-down : (w need size heads left ways s : ℕ) (g : ℕ → ℕ → ℕ) (others after : List Open) → w < need
+pub put-down : (w need size heads left ways s : ℕ) (g : ℕ → ℕ → ℕ) (others after : List Prefixes) → w < need
     → after ≡ others ++ record { need = need - w; size = size + 1; ways = ways } ∷ []
     → weigh g after ≡ weigh g others + ways * taken w (fill heads s left) g need size
 put-down w need size heads left ways s g others after more is =
-    let own : Open = record { need = need - w; size = size + 1; ways = ways } in
-    grind (arith, nat_tests, sum_by_push (λ (p : Open). p.ways * g p.need p.size) others own)
+    let own : Prefixes = record { need = need - w; size = size + 1; ways = ways } in
+    grind (arith, nat_tests, sum_by_push (λ (p : Prefixes). p.ways * g p.need p.size) others own)
 
-pub weigh-times : (x : ℕ) (row : List Open) → weigh (λ r a. x) row ≡ prefixes row * x
+pub weigh-times : (x : ℕ) (row : List Prefixes) → weigh (λ r a. x) row ≡ prefixes row * x
 weigh-times x [] = omega arith
 weigh-times x (o ∷ row) = simp sum_by-cons (omega (arith, weigh-times x row))
 
-weigh-most : (f : ℕ → ℕ → ℕ) (x : ℕ) (row : List Open) → ((r a : ℕ) → f r a ≤ x) → weigh f row ≤ prefixes row * x
+weigh-most : (f : ℕ → ℕ → ℕ) (x : ℕ) (row : List Prefixes) → ((r a : ℕ) → f r a ≤ x) → weigh f row ≤ prefixes row * x
 weigh-most f x [] most = omega arith
 weigh-most f x (o ∷ row) most = simp sum_by-cons (omega (arith, weigh-most f x row most, mul-le-mul_left o.ways (most o.need o.size)))
 
@@ -55,24 +55,24 @@ taken-most : (w heads left s r a : ℕ) → taken w (fill heads s left) (λ x y.
 taken-most w heads left s r a = grind (arith, nat_tests, fill-most heads s left (a + 1))
 
 -- what is counted of the prefixes and what is put down are no more than they are, and what is left can fill up
-pub others-few : {w heads left : ℕ} {before done : List ℕ} {all row others : List Open}
+pub others-few : {w heads left : ℕ} {before done : List ℕ} {all row others : List Prefixes}
     → AreTaken w heads left before done all row others → (s : ℕ) → s ≤ 40
     → get_or done s 0 + prefixes others * 2 ^ left ≤ get_or before s 0 + prefixes row * 2 ^ left
 others-few {w = w} {heads = heads} {left = left} {row = row} {others = others} are s small =
     grind (arith, weigh-most, taken-most, weigh-times)
 
 -- there is room for what is counted of the next
-pub taken-room : {w heads left : ℕ} {before done : List ℕ} (row : List Open) {others : List Open} (i : ℕ) (d : Open)
+pub taken-room : {w heads left : ℕ} {before done : List ℕ} (row : List Prefixes) {others : List Prefixes} (i : ℕ) (d : Prefixes)
     → AreTaken w heads left before done row (take i row) others → i < length row
     → ((s : ℕ) → s ≤ 40 → get_or before s 0 + prefixes row * 2 ^ left < 2 ^ 64)
     → (s : ℕ) → s ≤ 40 → get_or done s 0 + (get_or row i d).ways * 2 ^ left < 2 ^ 64
 taken-room {left = left} row i d are lt room s small =
-    let next = sum_by_more (λ (o : Open). o.ways) row i d lt in
-    let up = mul-le-mul_right (2 ^ left) (sum_by-take-le (λ (o : Open). o.ways) row (i + 1)) in
+    let next = sum_by_more (λ (o : Prefixes). o.ways) row i d lt in
+    let up = mul-le-mul_right (2 ^ left) (sum_by-take-le (λ (o : Prefixes). o.ways) row (i + 1)) in
     omega (arith, others-few are s small, room s small, ap (λ (k : ℕ). k * 2 ^ left) next, up)
 
 -- the next prefix too
-pub taken-one : {w heads left : ℕ} {before done after : List ℕ} (row : List Open) {others next : List Open} (i : ℕ) (d : Open)
+pub taken-one : {w heads left : ℕ} {before done after : List ℕ} (row : List Prefixes) {others next : List Prefixes} (i : ℕ) (d : Prefixes)
     → AreTaken w heads left before done row (take i row) others → i < length row → ((g : ℕ → ℕ → ℕ) (s : ℕ) → s ≤ 40
     → get_or after s 0 + weigh g next ≡ get_or done s 0 + weigh g others
     + (get_or row i d).ways * taken w (fill heads s left) g (get_or row i d).need (get_or row i d).size)
@@ -80,7 +80,7 @@ pub taken-one : {w heads left : ℕ} {before done after : List ℕ} (row : List 
     → AreTaken w heads left before after row (take (i + 1) row) next
 taken-one {w = w} {heads = heads} {left = left} row i d are lt one sizes = record {
   counted = λ g s small. (
-      let more = sum_by_more (λ (p : Open). p.ways * taken w (fill heads s left) g p.need p.size) row i d lt in
+      let more = sum_by_more (λ (p : Prefixes). p.ways * taken w (fill heads s left) g p.need p.size) row i d lt in
       omega (arith, more, are.counted g s small, one g s small));
   sizes = λ p all. sizes p (all i d lt) (are.sizes p all);
 }

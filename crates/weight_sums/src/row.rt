@@ -10,7 +10,7 @@ use coalitions::{Memory, limits};
 
 /// Prefixes that miss as much to the quota and have as many members: how many of them there are.
 #[derive(Clone, Copy)]
-pub(crate) struct Open {
+pub(crate) struct Prefixes {
     pub need: u64,
     pub size: usize,
     pub ways: u64,
@@ -18,7 +18,7 @@ pub(crate) struct Open {
 
 /// How many prefixes at the front of a row stay open where all members that come weigh `rest` together: a row
 /// ascends by need, and those behind them can no more be completed.
-pub(crate) fn still_open(row: &[Open], rest: u64) -> usize
+pub(crate) fn still_open(row: &[Prefixes], rest: u64) -> usize
     ensures within { result ≤ length row.now }
     ensures same { (g : ℕ → ℕ → ℕ) → ((need size : ℕ) → rest < need → g need size ≡ 0)
         → weigh g (take result row.now) ≡ weigh g row.now }
@@ -33,12 +33,12 @@ pub(crate) fn still_open(row: &[Open], rest: u64) -> usize
 /// Takes a member of this weight into a prefix. What meets the quota by it is counted by size: alone where it has more
 /// members than are asked for, and else with any of the others that fill it up. What does not is put down.
 fn take_in(
-    prefix: &Open,
+    prefix: &Prefixes,
     weight: u64,
     left: usize,
     heads: &Heads,
     done: &mut [u64; limits::SIZES],
-    others: &mut Vec<Open>,
+    others: &mut Vec<Prefixes>,
 ) -> Result<(), Memory>
     requires left { left ≤ MEMBERS }
     requires size { prefix.now.size < MEMBERS }
@@ -54,7 +54,7 @@ fn take_in(
         let times = heads.filled(size, left);
         done[size.max(heads.asked)] += prefix.ways * times;
     } else {
-        others.push(Open {
+        others.push(Prefixes {
             need: prefix.need - weight,
             size,
             ways: prefix.ways,
@@ -65,12 +65,12 @@ fn take_in(
 
 /// Takes a member of this weight into each prefix of a row.
 pub(crate) fn with_member(
-    row: &[Open],
+    row: &[Prefixes],
     weight: u64,
     left: usize,
     heads: &Heads,
     done: &mut [u64; limits::SIZES],
-    others: &mut Vec<Open>,
+    others: &mut Vec<Prefixes>,
 ) -> Result<(), Memory>
     requires left { left ≤ MEMBERS }
     requires sizes { All (λ o. o.size < MEMBERS) row.now }
@@ -87,13 +87,13 @@ pub(crate) fn with_member(
 }
 
 /// Whether a prefix stands before another in a row, or at the same place.
-fn is_first(a: &Open, b: &Open) -> bool {
+fn is_first(a: &Prefixes, b: &Prefixes) -> bool {
     a.need < b.need || (a.need == b.need && a.size <= b.size)
 }
 
 /// The next prefix of two ascending rows from these places on, which move past it: prefixes with the same need
 /// and size go together.
-fn next_open(a: &[Open], b: &[Open], i: &mut usize, j: &mut usize) -> Open
+fn next_open(a: &[Prefixes], b: &[Prefixes], i: &mut usize, j: &mut usize) -> Prefixes
     requires left { i.old < length a.now }
     requires right { j.old < length b.now }
     requires fits { prefixes a.now + prefixes b.now < 2 ^ 64 }
@@ -110,7 +110,7 @@ fn next_open(a: &[Open], b: &[Open], i: &mut usize, j: &mut usize) -> Open
     if left.need == right.need && left.size == right.size {
         *i += 1;
         *j += 1;
-        Open {
+        Prefixes {
             need: left.need,
             size: left.size,
             ways: left.ways + right.ways,
@@ -125,7 +125,7 @@ fn next_open(a: &[Open], b: &[Open], i: &mut usize, j: &mut usize) -> Open
 }
 
 /// Merges two ascending rows into one: prefixes with the same need and size go together.
-pub(crate) fn merge(a: &[Open], b: &[Open], row: &mut Vec<Open>) -> Result<(), Memory>
+pub(crate) fn merge(a: &[Prefixes], b: &[Prefixes], row: &mut Vec<Prefixes>) -> Result<(), Memory>
     requires { prefixes a.now + prefixes b.now < 2 ^ 64 }
     ensures { IfOk result (λ _. AreMerged a.now b.now row.new.items) }
 {

@@ -6,7 +6,7 @@ ghost use Rattle.weight_sums.specs.Endings.{endings};
 ghost use Rattle.weight_sums.specs.Inner.Rows.{AreOfPrefixes, GoesOn, at_most, come_to};
 
 use crate::choices::Heads;
-use crate::row::{Open, merge, still_open, with_member};
+use crate::row::{Prefixes, merge, still_open, with_member};
 use coalitions::{Memory, limits};
 use std::alloc::Global;
 use std::mem;
@@ -27,14 +27,14 @@ fn room_for(members: usize) -> usize
 /// The row of the prefixes of the members that are decided, and the coalitions that they have completed.
 #[derive(Drop)]
 pub(crate) struct Rows {
-    pub row: Vec<Open>,
+    pub row: Vec<Prefixes>,
     /// The coalitions that are counted by now, by size.
     pub done: [u64; limits::SIZES],
     /// How many entries the rows of the pass may still have together.
     room: usize,
     /// Room for the next row.
-    taken: Vec<Open>,
-    next: Vec<Open>,
+    taken: Vec<Prefixes>,
+    next: Vec<Prefixes>,
 }
 
 impl Rows {
@@ -58,7 +58,7 @@ impl Rows {
             → come_to heads s ws self.new.done self.new.row.items ≡ endings ws heads s quota 0) }
     {
         self.row.clear();
-        self.row.push(Open {
+        self.row.push(Prefixes {
             need: quota,
             size: 0,
             ways: 1,

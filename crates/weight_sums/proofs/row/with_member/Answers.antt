@@ -1,9 +1,9 @@
-use Rattle.weight_sums.proofs.{Imports.Open, Taking.taken-room, Taking.taken-one}
+use Rattle.weight_sums.proofs.{Imports.Prefixes, Taking.taken-room, Taking.taken-one}
 use Rattle.weight_sums.proofs.row.with_member.Goals as goal
 
 pub loop-prefix-preserved : goal.loop-prefix-preserved
 loop-prefix-preserved c =
-    let d : Open = record { need = 0; size = 0; ways = 0 } in
+    let d : Prefixes = record { need = 0; size = 0; ways = 0 } in
     taken-one _ c.loop-prefix.prefix-index d c.loop-prefix.invariant c.loop-prefix-test.true c.in_ok-take_in.ensures.counted
     c.in_ok-take_in.ensures.sizes
 
