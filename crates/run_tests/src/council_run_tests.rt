@@ -75,6 +75,18 @@ const LISTED: Shown = Shown {
     notation: false,
 };
 
+/// A line for each coalition.
+const LIST: Shown = Shown {
+    list: true,
+    ..NO_LINES
+};
+
+/// A line with the notation of each rule.
+const NOTATION: Shown = Shown {
+    notation: true,
+    ..NO_LINES
+};
+
 /// Options of these numbers, under which a report shows these lines.
 fn options(workers: u8, bits: u8, most: u32, shown: Shown) -> Options
     requires workers { (1 ≤ workers) × (workers ≤ WORKERS) }
@@ -96,39 +108,13 @@ fn plain() -> Options {
     options(4, 6, 1_000_000, NO_LINES)
 }
 
-fn listing() -> Options {
-    options(3, 2, 5, LISTED)
-}
-
-fn with_notation() -> Options {
-    let shown = Shown {
-        notation: true,
-        ..NO_LINES
-    };
-    options(4, 6, 1_000_000, shown)
-}
-
-fn with_list() -> Options {
-    let shown = Shown {
-        list: true,
-        ..NO_LINES
-    };
-    options(16, 10, 1_000_000, shown)
-}
-
-fn most(most: u32) -> Options
-    requires { (1 ≤ most) × (most ≤ COALITIONS) }
-{
-    options(4, 6, most, NO_LINES)
-}
-
 /// Worked games, each with its options and its report.
 fn worked() -> [(&'static [u8], Options, &'static [u8]); 8] {
     [
         (BOARD, plain(), BOARD_REPORT),
         (
             BOARD,
-            with_list(),
+            options(16, 10, 1_000_000, LIST),
             b"members\t3\n\
             quota\t51\n\
             total\t100\n\
@@ -141,7 +127,7 @@ fn worked() -> [(&'static [u8], Options, &'static [u8]); 8] {
         ),
         (
             b"[51; 50, 49, 1]",
-            with_notation(),
+            options(4, 6, 1_000_000, NOTATION),
             b"members\t3\n\
             quota\t51\n\
             total\t100\n\
@@ -161,10 +147,10 @@ fn worked() -> [(&'static [u8], Options, &'static [u8]); 8] {
             minimal\t1\n\
             member\tA\t1\t1\t1/1\t1.000000\t1/1\t1.000000\n",
         ),
-        (FIVE, listing(), FIVE_REPORT),
+        (FIVE, options(3, 2, 5, LISTED), FIVE_REPORT),
         (
             b"[1; 1, 0, 1]",
-            with_list(),
+            options(16, 10, 1_000_000, LIST),
             b"members\t3\n\
             quota\t1\n\
             total\t2\n\
@@ -181,7 +167,7 @@ fn worked() -> [(&'static [u8], Options, &'static [u8]); 8] {
             {name = \"B\", weights = [2, 1]},\
             {name = \"C\", weights = [2, 1]},\
             {name = \"D\", weights = [1, 1]}]",
-            with_list(),
+            options(16, 10, 1_000_000, LIST),
             b"members\t4\n\
             quota\t5/3\n\
             total\t8/4\n\
@@ -454,9 +440,9 @@ const FORTY: &[u8] = b"[20; 1, 1, 1, 1, 1, 1, 1, 1, 1, 1, 1, 1, 1, 1, 1, 1, 1, 1
 #[test]
 fn refuses_more_than_the_most(rt: HostRuntime) {
     for (file, options, many) in [
-        (FIVE, most(4), true),
-        (FIVE, most(5), false),
-        (FORTY, most(1), true),
+        (FIVE, options(4, 6, 4, NO_LINES), true),
+        (FIVE, options(4, 6, 5, NO_LINES), false),
+        (FORTY, options(4, 6, 1, NO_LINES), true),
     ] {
         let mut reader = file;
         let mut written = Vec::new(rt.alloc());

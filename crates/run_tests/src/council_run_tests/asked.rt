@@ -150,7 +150,14 @@ fn a_long_report_goes_out_in_blocks(rt: HostRuntime) {
     let alloc = rt.alloc();
     let mut reader = Reader::new(TWENTY, None);
     let mut writer = Writer::new(alloc, Fails::Nothing);
-    let answer = answer(&rt, alloc, false, &mut reader, &with_list(), &mut writer);
+    let answer = answer(
+        &rt,
+        alloc,
+        false,
+        &mut reader,
+        &options(16, 10, 1_000_000, LIST),
+        &mut writer,
+    );
     let length = writer.taken.len() as u64;
     same(&rt, answer, Ok(length), "the answer");
     same(&rt, 100_000 < length, true, "a long report");
@@ -179,7 +186,14 @@ fn fails_once<R: Abort + Threads + Wait + Sync>(
 ) {
     let mut reader = Reader::new(TWENTY, None);
     let mut writer = Writer::new(alloc, fails);
-    let answer = answer(rt, alloc, false, &mut reader, &with_list(), &mut writer);
+    let answer = answer(
+        rt,
+        alloc,
+        false,
+        &mut reader,
+        &options(16, 10, 1_000_000, LIST),
+        &mut writer,
+    );
     same(rt, answer, failed(taken as u64), taken);
     same(rt, writer.taken.len(), taken, "bytes taken");
     same(rt, whole.starts_with(&writer.taken), true, taken);
@@ -197,7 +211,14 @@ fn a_failed_writer_is_not_asked_again(rt: HostRuntime) {
     let alloc = rt.alloc();
     let mut reader = Reader::new(TWENTY, None);
     let mut writer = Writer::new(alloc, Fails::Nothing);
-    let answer = answer(&rt, alloc, false, &mut reader, &with_list(), &mut writer);
+    let answer = answer(
+        &rt,
+        alloc,
+        false,
+        &mut reader,
+        &options(16, 10, 1_000_000, LIST),
+        &mut writer,
+    );
     same(&rt, answer.is_ok(), true, "a report");
     let whole = writer.taken.as_slice();
     same(&rt, 100_000 < whole.len(), true, "a long report");
@@ -233,7 +254,14 @@ fn a_tally_asks_its_writer_once(rt: HostRuntime) {
     ] {
         let mut reader = Reader::new(BOARD, None);
         let mut writer = Writer::new(alloc, fails);
-        let answer = answer(&rt, alloc, true, &mut reader, &most(1), &mut writer);
+        let answer = answer(
+            &rt,
+            alloc,
+            true,
+            &mut reader,
+            &options(4, 6, 1, NO_LINES),
+            &mut writer,
+        );
         same(&rt, answer, wanted, flushes);
         same(&rt, writer.taken.as_slice(), taken, flushes);
         same(&rt, (writer.writes, writer.empty), (1, 0), flushes);
@@ -274,7 +302,14 @@ fn a_refusal_calls_no_writer(rt: HostRuntime) {
     ] {
         let mut reader = Reader::new(file, None);
         let mut writer = Writer::new(alloc, Fails::Nothing);
-        let answer = answer(&rt, alloc, tallies, &mut reader, &most(4), &mut writer);
+        let answer = answer(
+            &rt,
+            alloc,
+            tallies,
+            &mut reader,
+            &options(4, 6, 4, NO_LINES),
+            &mut writer,
+        );
         same(&rt, answer, Err(RunFault { cause, written: 0 }), tallies);
         same(
             &rt,

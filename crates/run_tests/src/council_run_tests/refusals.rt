@@ -66,7 +66,7 @@ fn runs<R: Abort + Print + Threads + Wait + Sync>(
     is_tally: bool,
 ) {
     let mut reader = file;
-    let options = listing();
+    let options = options(3, 2, 5, LISTED);
     let mut writer = Awaiting {
         awaited: report,
         differs: false,
