@@ -33,8 +33,7 @@ impl<P: PipeIn<Word>> PutsRows<P> for WordByWord {
             let refused = match out.put(words[accepted]) {
                 Ok(()) => continue,
                 Err(Refused::Full(_)) => false,
-                Err(Refused::Closed(_)) => true,
-                Err(Refused::Memory(_)) => true,
+                Err(Refused::Closed(_) | Refused::Memory(_)) => true,
             };
             return Came { accepted, refused };
         }

@@ -88,7 +88,6 @@ pub fn words_of_slice<R: Wait>(
     let left = limits::COALITIONS + 1;
     match send_slice(rt, &guarded, bits, slice, 0, left, &mut kept) {
         Sent::Whole { left: _ } => Some(kept.words),
-        Sent::Cut => None,
-        Sent::Refused => None,
+        Sent::Cut | Sent::Refused => None,
     }
 }
