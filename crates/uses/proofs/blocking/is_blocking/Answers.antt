@@ -1,7 +1,7 @@
 use Rattle.std.proofs.Common.{arith}
 use Rattle.std.proofs.Common.{◌≡◌, ◌∙◌, ℕ, ◌<◌, Bool, true, false, not, length, refl, sym, ap}
 use Rattle.std.proofs.lemmas.Bool.{both_ways, false_from_ne_true}
-use Rattle.council_game.specs.{Game.GameView, Game.IsGame, Game.votes_of, Members.contains, Ranks.member_at, Votes.has, Votes.wins}
+use Rattle.council_game.specs.{Game.GameView, Game.IsGame, Game.votes_of, Members.contains, Votes.wins}
 use Rattle.council_game.proofs.Shared.Making.{ranks-are}
 use Rattle.voting_laws.specs.Winning.{IsSubset}
 use Rattle.uses.proofs.blocking.is_blocking.Goals as goal
