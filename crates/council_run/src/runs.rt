@@ -1,5 +1,5 @@
 //! A run: from the bytes of a game to its report.
-ghost use Rattle.std.specs.Prelude.{◌≡◌, ◌≢◌, ◌<◌, ℕ, List, Option, Ok, IfOk, IfErr, length};
+ghost use Rattle.std.specs.Prelude.{◌≡◌, ◌<◌, ℕ, List, Option, Ok, IfOk, IfErr, length};
 ghost use Rattle.coalitions.specs.Lists.{joined};
 ghost use Rattle.council_report.specs.Report.{report};
 ghost use Rattle.council_run.specs.Run.{HasAtMost, Reads, Reports, Stops, count_of};
@@ -70,7 +70,7 @@ fn counted<T: Threads + Wait + Sync, W: Write>(
     ensures err { IfErr result (λ fault. (unread left : Option (List ℕ)) → Reads unread left (Ok game.now)
         → Stops (report (shown_of options.now)) (HasAtMost options.now.most) unread left
         (W.contents writer.old) (W.contents writer.new) fault.cause fault.written) }
-    ensures unstopped { IfErr result (λ fault. fault.cause ≢ cause.Stopped) }
+    ensures unstopped { IfErr result (λ fault. fault.cause ≡ cause.Stopped → ⊥) }
 {
     let counts = tally_pieces(rt, game, pieces, options.workers)?;
     Ok(write_report_of(alloc, game, pieces, &counts, options.shown(), writer)?)
@@ -92,7 +92,7 @@ fn reported<T: Threads + Wait + Sync, W: Write, G: Gate + Sync, L: Lookout + Syn
     ensures err { IfErr result (λ fault. (unread left : Option (List ℕ)) → Reads unread left (Ok game.now)
         → Stops (report (shown_of options.now)) (HasAtMost options.now.most) unread left
         (W.contents writer.old) (W.contents writer.new) fault.cause fault.written) }
-    ensures unstopped { IfErr result (λ fault. fault.cause ≢ cause.Stopped) }
+    ensures unstopped { IfErr result (λ fault. fault.cause ≡ cause.Stopped → ⊥) }
 {
     let gathered = gathered(rt, alloc, game, options, gate, lookout)?;
     let pieces = pieces(alloc, game, &gathered, options.most)?;
@@ -128,7 +128,7 @@ pub fn run<T: Threads + Wait + Sync, R: Read, W: Write, G: Gate + Sync>(
         Stops (report (shown_of options.now)) (HasAtMost options.now.most)
         (R.remaining reader.old) (R.remaining reader.new)
         (W.contents writer.old) (W.contents writer.new) fault.cause fault.written) }
-    ensures unstopped { IfErr result (λ fault. fault.cause ≢ cause.Stopped) }
+    ensures unstopped { IfErr result (λ fault. fault.cause ≡ cause.Stopped → ⊥) }
 {
     run_with_lookout(rt, alloc, reader, options, gate, &NoLookout, writer)
 }
@@ -161,7 +161,7 @@ pub fn run_with_lookout<
         Stops (report (shown_of options.now)) (HasAtMost options.now.most)
         (R.remaining reader.old) (R.remaining reader.new)
         (W.contents writer.old) (W.contents writer.new) fault.cause fault.written) }
-    ensures unstopped { IfErr result (λ fault. fault.cause ≢ cause.Stopped) }
+    ensures unstopped { IfErr result (λ fault. fault.cause ≡ cause.Stopped → ⊥) }
 {
     let game = read_game(alloc, reader)?;
     reported(rt, alloc, &game, options, gate, lookout, writer)
