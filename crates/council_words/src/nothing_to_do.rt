@@ -71,7 +71,7 @@ fn refuse_words(rt: &(impl AllocGlobal + Print + Eprint), words: &[String]) -> E
     };
     match read_words(rt.alloc(), words.as_slice()) {
         Err(WordsFault::Parse(error)) => refuse(rt, &error),
-        _ => {
+        Ok(_) | Err(WordsFault::Range) => {
             let _ = eprintln!(rt; "council: a word of the command line is not plain");
             ExitCode::from(2)
         }
