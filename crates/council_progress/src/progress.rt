@@ -102,6 +102,18 @@ impl<'a, R: Eprint + Clock + Wait> Progress<'a, R> {
             let _ = eprint!(self.rt; "\r\x1b[K");
         }
     }
+
+    /// Adds what came, and tells of it: of a run, or of a tally with this number of slices.
+    fn add(&self, done: u64, counted: u64, looked: u64, slices: Option<u16>) {
+        let mut told = self.told.lock(self.rt);
+        told.done = told.done.wrapping_add(done);
+        told.counted = told.counted.wrapping_add(counted);
+        told.looked = told.looked.wrapping_add(looked);
+        match slices {
+            Some(slices) => self.tell(&mut told, slices),
+            None => self.tell_run(&mut told),
+        }
+    }
 }
 
 /// The line that a progress writes.
@@ -116,37 +128,26 @@ impl<'a, R: Eprint + Clock + Wait> Wipe for Line<'a, R> {
 
 impl<'a, R: Eprint + Clock + Wait> Gate for Progress<'a, R> {
     fn pass(&self, _worker: u8, _slice: u16) {
-        let mut told = self.told.lock(self.rt);
-        told.done = told.done.wrapping_add(1);
-        self.tell_run(&mut told);
+        self.add(1, 0, 0, None);
     }
 }
 
 impl<'a, R: Eprint + Clock + Wait> Lookout for Progress<'a, R> {
     fn looked(&self, prefixes: u64, met: u64) {
-        let mut told = self.told.lock(self.rt);
-        told.looked = told.looked.wrapping_add(prefixes);
-        told.counted = told.counted.wrapping_add(met);
-        self.tell_run(&mut told);
+        self.add(0, met, prefixes, None);
     }
 }
 
 impl<'a, R: Eprint + Clock + Wait> Watch for Progress<'a, R> {
     fn counted(&self, _slice: u16, slices: u16) {
-        let mut told = self.told.lock(self.rt);
-        told.done = told.done.wrapping_add(1);
-        self.tell(&mut told, slices);
+        self.add(1, 0, 0, Some(slices));
     }
 
     fn met(&self, more: u64, slices: u16) {
-        let mut told = self.told.lock(self.rt);
-        told.counted = told.counted.wrapping_add(more);
-        self.tell(&mut told, slices);
+        self.add(0, more, 0, Some(slices));
     }
 
     fn looked(&self, more: u64, slices: u16) {
-        let mut told = self.told.lock(self.rt);
-        told.looked = told.looked.wrapping_add(more);
-        self.tell(&mut told, slices);
+        self.add(0, 0, more, Some(slices));
     }
 }
