@@ -1,7 +1,8 @@
 //! Where a bracket text breaks its grammar, as the reader of such texts knows it.
+use crate::said::Said;
+use crate::values::is_digit;
 use council_file::{bracket_rule, is_bracket};
 use council_game::{Memory, limits};
-use explain_toml::{Said, say_place, say_remedy_at};
 use std::alloc::Global;
 
 /// How the front of a bracket text can end, and what is then wanted behind it. The first end that fits says it.
@@ -42,40 +43,31 @@ fn longest_front(alloc: Global, text: &str) -> Result<usize, Memory> {
     Ok(len)
 }
 
-/// Says where a text breaks the grammar.
-pub(crate) fn say_misfit(said: &mut Said, alloc: Global, text: &str) -> Result<(), Memory> {
-    let len = longest_front(alloc, text)?;
-    let (front, rest) = text.split_at_checked(len).unwrap_or((text, ""));
-    let place = if rest.is_empty() {
-        front.trim_end().len()
-    } else {
-        len
-    };
-    say_place(said, text, place);
-    match (front.as_bytes().last(), rest.as_bytes().first()) {
-        (Some(last), Some(next)) if last.is_ascii_digit() && next.is_ascii_digit() => {
-            said.line("a number has at most 18 digits")
-        }
-        _ => said.line(wanted_behind(alloc, front)?.unwrap_or("")),
+impl Said<'_> {
+    /// Says where the text breaks the grammar.
+    pub(crate) fn say_misfit(&mut self, alloc: Global) -> Result<(), Memory> {
+        let text = self.text.trim_end();
+        let place = longest_front(alloc, text)?;
+        let (front, rest) = text.split_at_checked(place).unwrap_or((text, ""));
+        let wanted = if front.ends_with(is_digit) && rest.starts_with(is_digit) {
+            "a number has at most 18 digits"
+        } else {
+            wanted_behind(alloc, front)?.unwrap_or("")
+        };
+        self.say_place(place);
+        self.line(wanted);
+        self.say_remedy_at(place);
+        Ok(())
     }
-    say_remedy_at(said, text, place);
-    Ok(())
 }
 
 /// What is to be said of a game that was read, where another may be meant: of a bracket text with a weight `000`, as a comma
 /// between thousands makes one. The bytes are those of the file.
 pub fn remark(bytes: &[u8]) -> Option<&'static str> {
-    if !is_bracket(bytes) {
-        return None;
-    }
-    for row in bytes.windows(5) {
-        if let [before, b'0', b'0', b'0', behind] = row
-            && !before.is_ascii_digit()
-            && !behind.is_ascii_digit()
-        {
-            return Some(
-                "a weight 000 was read as 0: a comma ends a weight, also between thousands",
-            );
+    let told = "a weight 000 was read as 0: a comma ends a weight, also between thousands";
+    for number in bytes.split(|byte| !byte.is_ascii_digit()) {
+        if matches!(number, b"000") && is_bracket(bytes) {
+            return Some(told);
         }
     }
     None

@@ -1,67 +1,53 @@
 //! What a fault says of bytes.
-use crate::bracket::say_misfit;
-use crate::keys::say_unknown_key;
-use crate::totals::{say_count, say_quota_range, say_weight};
-use council_file::{bracket_rule, is_bracket};
-use council_game::{GameFault, Memory, Rule};
-use explain_toml::{File, Said, bare, say_no_toml};
+use crate::said::Said;
+use crate::source::bare;
+use council_file::bracket_rule;
+use council_game::{GameFault, Memory};
 use std::alloc::Global;
 use toml::Table;
+use toml::de::Error;
 
 /// Three bytes that some editors write before a text.
 const MARK: &[u8] = b"\xEF\xBB\xBF";
 
-/// The tree of a text; empty where it is no TOML.
-fn tree_of(alloc: Global, text: &str) -> Result<Table, Memory> {
+/// What is said of a file that can not be read.
+const READ: &str = "a folder was named, or what can not be read: name a file that you may read";
+
+/// What is said of a file that is too long.
+const TOO_LONG: &str = "the file of a game of 40 members is much shorter: is it the right file?";
+
+/// The tree of a text, and why it is empty where the text is no TOML.
+fn tree_of(alloc: Global, text: &str) -> Result<(Table, Option<Error>), Memory> {
     match toml::table_from_str(alloc, text) {
-        Ok(table) => Ok(table),
+        Ok(table) => Ok((table, None)),
         // memory: a growth was refused
         Err(error) if error.is_memory() => Err(Memory),
-        Err(_) => Ok(Table::new(alloc)),
+        Err(error) => Ok((Table::new(alloc), Some(error))),
     }
 }
 
-/// The index of the member of a number from 1.
-fn index_of(member: u8) -> usize {
-    usize::from(member).saturating_sub(1)
-}
-
-/// Says what a fault says of a file, which has a rule if it is a bracket text. The members of a fault are numbered from 1.
+/// Says what a fault says of the bytes of a file, which are no TOML if there is an error.
 fn say_fault(
-    said: &mut Said,
+    said: &mut Said<'_>,
     alloc: Global,
     bytes: &[u8],
-    file: File<'_>,
-    rule: Option<&Rule>,
+    error: Option<&Error>,
     fault: GameFault,
 ) -> Result<(), Memory> {
     match fault {
-        GameFault::Read => {
-            said.line("a folder was named, or what can not be read: name a file that you may read")
-        }
-        GameFault::TooLong => {
-            said.line("the file of a game of 40 members is much shorter: is it the right file?")
-        }
-        GameFault::Text => {
-            let text = file.text;
-            return say_no_toml(said, alloc, bytes, text, is_bracket(text.as_bytes()));
-        }
-        GameFault::UnknownKey => say_unknown_key(said, file),
-        GameFault::Title => file.say_title(said),
-        GameFault::Rules => file.say_rules(said),
-        GameFault::Quota => file.say_quota(said),
-        GameFault::Members => match rule {
-            Some(rule) => say_count(said, rule),
-            None => file.say_members(said),
-        },
-        GameFault::Name { member } => file.say_name(said, index_of(member)),
-        GameFault::SameName { member } => file.say_same_name(said, index_of(member)),
-        GameFault::Weight { member } => match rule {
-            Some(rule) => say_weight(said, rule, index_of(member)),
-            None => file.say_weight(said, index_of(member)),
-        },
-        GameFault::QuotaRange => return say_quota_range(said, alloc, file, rule),
-        GameFault::Bracket => return say_misfit(said, alloc, file.text),
+        GameFault::Read => said.line(READ),
+        GameFault::TooLong => said.line(TOO_LONG),
+        GameFault::Text => said.say_no_toml(bytes, error),
+        GameFault::UnknownKey => said.say_unknown_key(),
+        GameFault::Title => said.say_title(),
+        GameFault::Rules => said.say_rules(),
+        GameFault::Quota => said.say_quota(),
+        GameFault::Members => said.say_members(),
+        GameFault::Name { member } => said.say_name(usize::from(member)),
+        GameFault::SameName { member } => said.say_same_name(usize::from(member)),
+        GameFault::Weight { member } => said.say_weight(usize::from(member)),
+        GameFault::QuotaRange => return said.say_quota_range(alloc),
+        GameFault::Bracket => return said.say_misfit(alloc),
         GameFault::Memory => {}
     }
     Ok(())
@@ -78,14 +64,20 @@ pub fn explain(alloc: Global, bytes: &[u8], fault: GameFault) -> Result<String, 
     let bytes = bytes.strip_prefix(MARK).unwrap_or(bytes);
     let text = String::from_utf8_lossy(alloc, bytes)?;
     let bare = bare(alloc, text.as_str())?;
-    let table = tree_of(alloc, text.as_str())?;
+    let (table, error) = tree_of(alloc, text.as_str())?;
     let rule = bracket_rule(alloc, bytes)?;
-    let file = File {
+    let mut said = Said {
         text: text.as_str(),
         bare: bare.as_str(),
         table: &table,
+        rule: rule.as_ref(),
+        lines: String::new(alloc),
+        failed: false,
     };
-    let mut said = Said::new(alloc);
-    say_fault(&mut said, alloc, bytes, file, rule.as_ref(), fault)?;
-    said.into_text()
+    say_fault(&mut said, alloc, bytes, error.as_ref(), fault)?;
+    if said.failed {
+        // memory: a growth was refused
+        return Err(Memory);
+    }
+    Ok(said.lines)
 }

@@ -8,8 +8,12 @@
 
 mod bracket;
 mod explaining;
-mod keys;
-mod totals;
+mod members;
+mod no_toml;
+mod rules;
+mod said;
+mod source;
+mod values;
 
 pub use bracket::remark;
 pub use explaining::explain;

@@ -1,0 +1,109 @@
+//! What is wrong with the members of a file.
+use crate::said::{Said, short};
+use crate::values::{elements, kind};
+use council_game::limits;
+use toml::Value;
+
+impl Said<'_> {
+    /// Says that there is no member, or too many, or what is in their place.
+    pub(crate) fn say_members(&mut self) {
+        if let Some(rule) = self.rule {
+            let count = rule.weights.len();
+            return self.line(format_args!("the text has {count} weights: at most 40 are allowed"));
+        }
+        let wanted = "each member begins with a line [[member]], with two brackets on each side";
+        match self.value_at("member") {
+            None => self.line(format_args!("the file has no member: {wanted}")),
+            Some(Value::Array(members)) => self.say_elements(members.as_slice()),
+            Some(value) => {
+                self.say_key("member");
+                self.line(format_args!("member is {}: {wanted}", kind(value)));
+            }
+        }
+    }
+
+    /// Says how many elements the array has, or else which is no table.
+    fn say_elements(&mut self, members: &[Value]) {
+        let count = members.len();
+        if count == 0 || limits::MEMBERS < count {
+            return self.line(format_args!("the file has {count} members: 1 to 40 are allowed"));
+        }
+        for member in members {
+            if !matches!(member, Value::Table(_)) {
+                return self.say_value(member, "a member is a table with a name and a weight");
+            }
+        }
+    }
+
+    /// Says what is wrong with the name of a member.
+    pub(crate) fn say_name(&mut self, member: usize) {
+        let wanted = "a name is a text in quotes, of 1 to 64 bytes, on one line";
+        self.say_key_of(member, "name");
+        match self.value_of(member, "name") {
+            None => self.line(format_args!("the member has no name: {wanted}")),
+            Some(value) => self.say_text(value, wanted),
+        }
+    }
+
+    /// Says which earlier member has the name of this one.
+    pub(crate) fn say_same_name(&mut self, member: usize) {
+        self.say_key_of(member, "name");
+        let name = self.value_of(member, "name");
+        for earlier in 1..member {
+            if let Some(Value::String(text)) = name
+                && self.value_of(earlier, "name") == name
+            {
+                let wanted = "each name stands once";
+                self.line(format_args!("member {earlier} is named {} too: {wanted}", short(text)));
+                return self.say_key_of(earlier, "name");
+            }
+        }
+    }
+
+    /// Says what is wrong with the weight or the weights of a member.
+    pub(crate) fn say_weight(&mut self, member: usize) {
+        if let Some(rule) = self.rule
+            && let Some(weight) = rule.weights.get(member.wrapping_sub(1))
+        {
+            let wanted = "the greatest is 1000000000000";
+            return self.line(format_args!("weight {member} is {weight}: {wanted}"));
+        }
+        let several = self.value_at("quotas").is_some();
+        let key = if several { "weights" } else { "weight" };
+        let wanted = "weights are an array, with a number for each rule";
+        self.say_key_of(member, key);
+        match self.value_of(member, key) {
+            None => self.line(format_args!("the member has no {key}: each member has its own")),
+            Some(value) if !several => self.say_one_weight(value),
+            Some(Value::Array(weights)) => self.say_weights(weights.as_slice()),
+            Some(value) => self.say_value(value, wanted),
+        }
+    }
+
+    /// Says how many weights a member has, or else which of them is none.
+    fn say_weights(&mut self, weights: &[Value]) {
+        let count = weights.len();
+        let rules = elements(self.value_at("quotas")).len();
+        if count != rules {
+            return self.line(format_args!(
+                "the number of weights is {count}, and that of quotas {rules}: a member has a weight for each rule"
+            ));
+        }
+        for weight in weights {
+            if !matches!(weight, Value::Integer(n) if 0 <= *n && (*n as u64) <= limits::WEIGHT) {
+                return self.say_one_weight(weight);
+            }
+        }
+    }
+
+    /// Says what is wrong with a weight.
+    fn say_one_weight(&mut self, value: &Value) {
+        if matches!(value, Value::Integer(_)) {
+            let value = short(value);
+            self.line(format_args!("{value} is out of range: a weight is from 0 to 1000000000000"));
+        } else {
+            let wanted = "a weight is a whole number from 0 to 1000000000000, without quotes";
+            self.say_number(value, wanted);
+        }
+    }
+}

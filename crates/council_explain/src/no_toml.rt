@@ -1,0 +1,50 @@
+//! What is said of a text that is not TOML.
+use crate::said::{Said, short};
+use council_file::is_bracket;
+use toml::de::Error;
+
+/// What stands between the columns of a table, as a spreadsheet writes it.
+const SEPARATORS: &[(char, &str)] = &[('\t', "TABs"), (';', "semicolons"), (',', "commas")];
+
+impl Said<'_> {
+    /// Says that the text looks like a table, where a line of several columns stands before those of a game file; whether
+    /// it does.
+    fn say_table(&mut self) -> bool {
+        for (index, line) in self.text.lines().enumerate() {
+            if line.starts_with(['#', '[']) || line.contains('=') {
+                break;
+            }
+            for (sign, name) in SEPARATORS {
+                if line.contains(*sign) {
+                    let number = index.saturating_add(1);
+                    self.line(format_args!("line {number}: {}", short(line)));
+                    self.line(format_args!(
+                        "that looks like a table, with {name} between its columns: docs/using/from_table.py makes a game file of it"
+                    ));
+                    return true;
+                }
+            }
+        }
+        false
+    }
+
+    /// Says which bytes are no text, or else why the text of them is not TOML.
+    pub(crate) fn say_no_toml(&mut self, bytes: &[u8], error: Option<&Error>) {
+        if bytes.starts_with(b"\xFF\xFE") || bytes.starts_with(b"\xFE\xFF") {
+            self.line("the file is saved as UTF-16: save it as UTF-8");
+        } else if let Err(error) = str::from_utf8(bytes) {
+            self.say_place(error.valid_up_to());
+            self.line("a byte there is not UTF-8: save the file as UTF-8");
+        } else if let Some(error) = error
+            && !self.say_table()
+        {
+            let place = error.span().map_or(self.text.len(), |span| span.start);
+            self.say_place(place);
+            self.line(error.message());
+            self.say_remedy_at(place);
+            if is_bracket(self.text.as_bytes()) {
+                self.line("a byte order mark stands before the bracket: save the file without one");
+            }
+        }
+    }
+}

@@ -1,0 +1,95 @@
+//! Values of a file, as an explanation shows them, and what turns a number that is not whole into one that is.
+use crate::said::{Said, short};
+use toml::Value;
+
+/// What is said of a percentage and of a fraction.
+const STATUTES: &str = "docs/STATUTES.md says how percentages and fractions become whole numbers";
+
+/// The elements of an array, and none of another value.
+pub(crate) fn elements(value: Option<&Value>) -> &[Value] {
+    match value {
+        Some(Value::Array(items)) => items.as_slice(),
+        _ => &[],
+    }
+}
+
+/// What kind of value it is.
+pub(crate) fn kind(value: &Value) -> &'static str {
+    match value {
+        Value::String(_) => "a text",
+        Value::Integer(_) => "a whole number",
+        Value::Float(_) => "a number with a point",
+        Value::Boolean(_) => "true or false",
+        Value::Datetime(_) => "a date or a time",
+        Value::Array(_) => "an array",
+        Value::Table(_) => "a table",
+    }
+}
+
+/// Whether a letter is a digit.
+pub(crate) fn is_digit(letter: char) -> bool {
+    letter.is_ascii_digit()
+}
+
+/// The most decimals of a number in a text.
+fn most_decimals(text: &str) -> usize {
+    let mut most = 0usize;
+    let mut has_digit = false;
+    for part in text.split('.') {
+        if has_digit {
+            most = most.max(part.bytes().take_while(u8::is_ascii_digit).count());
+        }
+        has_digit = part.ends_with(is_digit);
+    }
+    most
+}
+
+impl Said<'_> {
+    /// Says what a value is, and what is wanted in its place.
+    pub(crate) fn say_value(&mut self, value: &Value, wanted: &str) {
+        self.line(format_args!("{} is {}: {wanted}", short(value), kind(value)));
+    }
+
+    /// Says what is wrong with what is to be a text on one line: what it is, what it has, or else how long it is.
+    pub(crate) fn say_text(&mut self, value: &Value, wanted: &str) {
+        let Value::String(text) = value else {
+            return self.say_value(value, wanted);
+        };
+        if text.as_bytes().iter().any(u8::is_ascii_control) {
+            let has = "a TAB, the end of a line or another control character";
+            self.line(format_args!("the text has {has}: {wanted}"));
+        } else {
+            self.line(format_args!("the text has {} bytes: {wanted}", text.len()));
+        }
+    }
+
+    /// Says what a value is that is no whole number, what is wanted in its place, and what helps.
+    pub(crate) fn say_number(&mut self, value: &Value, wanted: &str) {
+        self.say_value(value, wanted);
+        match value {
+            Value::Float(_) => self.say_factor(self.bare),
+            Value::String(text) if text.contains(['%', '/']) => self.line(STATUTES),
+            _ => {}
+        }
+    }
+
+    /// Says by which power of ten the decimals of a text become whole numbers; nothing where it has none, or more than
+    /// the greatest weight has zeros.
+    fn say_factor(&mut self, text: &str) {
+        let decimals = most_decimals(text);
+        if 0 < decimals
+            && let Some(factor) = "1000000000000".get(..=decimals)
+        {
+            self.line(format_args!("multiply all weights and the quota by {factor}"));
+        }
+    }
+
+    /// Says what helps where the text can't be read on from a place.
+    pub(crate) fn say_remedy_at(&mut self, place: usize) {
+        match self.text.as_bytes().get(place) {
+            Some(b'%' | b'/') => self.line(STATUTES),
+            Some(b'.') => self.say_factor(self.text),
+            _ => {}
+        }
+    }
+}
