@@ -54,7 +54,7 @@ fn rules_at(alloc: Global, table: &Table, n: usize) -> Result<Vec<Rule>, AllocEr
     ensures { IfOk result (λ v. rule_views v.items
         ≡ map (rule_from (table_view table.now) n) (range_with_len 0 n)) }
 {
-    let mut rules = Vec::with_capacity(alloc, n)?;
+    let mut rules = Vec::new(alloc);
     for r in 0..n {
         rules.push(rule_from(alloc, table, n, r)?)?;
     }
