@@ -9,4 +9,4 @@ loop-member-preserved c = record {
 }
 
 pub returns-clause-indices : goal.returns-clause-indices
-returns-clause-indices c = grind (arith)
+returns-clause-indices c = grind arith
