@@ -54,7 +54,6 @@ pub(crate) fn difference(all: &BySize, part: &[u64; limits::SIZES]) -> BySize
 /// Puts down, from a place on, the tally of the coalitions that contain each of these members: of all, those that a row does
 /// not come to without it. The row is that of one member less, so that one less is left to fill a coalition up. False where
 /// there is no room.
-#[tactic(auto, using(crate::proofs::Members::tallying), unfolding(crate::specs::Endings::left_out))]
 fn tally_from(
     rows: &mut Rows,
     others: &mut Rows,

@@ -1,4 +1,4 @@
-use Rattle.weight_sums.proofs.Imports.{arith, ap, left_out, sum, sum_by-cons, ◌≡◌, ◌-◌, ◌∙◌, ℕ}
+use Rattle.weight_sums.proofs.Imports.{arith, ap, common_steps, get_or-set_same, left_out, sum, sum_by-cons, ◌≡◌, ◌-◌, ◌∙◌, ℕ}
 use Rattle.weight_sums.proofs.{Members.come-less, Members.tallied-from, Passing.prefixes-more}
 use Rattle.weight_sums.proofs.tallies.+tally_from.Goals as goal
 
@@ -6,6 +6,10 @@ pub difference-own-requires : goal.difference-own-requires
 unfolding left_out
 difference-own-requires t c s small =
     grind (arith, c.requires.less 0 s, c.in_ok-finish.ensures c.if-not-branch.false s small)
+
+pub returns-then-later-eq0 : goal.returns-then-later-eq0
+unfolding left_out
+returns-then-later-eq0 t c = grind (arith, common_steps, get_or-set_same)
 
 pub tally_from-requires : goal.tally_from-requires
 tally_from-requires t c =
