@@ -1,7 +1,7 @@
 //! What a game consists of, and parts of that: rules over its members.
 ghost use Rattle.coalitions.specs.declared.limits.TheConstants.{RULES};
 ghost use Rattle.council_game.specs.Game.{IsGame};
-ghost use Rattle.council_game.specs.Rules.{rule_view};
+ghost use Rattle.council_game.specs.Rules.{rule_view, rule_views};
 ghost use Rattle.council_game.specs.Votes.{rule_at};
 ghost use Rattle.mwc_sums.specs.Chambers.{chamber_of, share};
 ghost use Rattle.mwc_sums.specs.Inner.Fair.{IsFair};
@@ -140,6 +140,17 @@ impl Statute {
         Ok(Statute { members, rules })
     }
 
+    /// All of the rules.
+    fn copies(&self, alloc: Global) -> Result<Vec<Rule>, Memory>
+        ensures { IfOk result (λ rules. rule_views rules.items ≡ self.now.rules) }
+    {
+        let mut rules = Vec::with_capacity(alloc, self.rules())?;
+        for rule in 0..self.rules() {
+            rules.push(self.copied(alloc, rule)?)?;
+        }
+        Ok(rules)
+    }
+
     /// The game of these rules, with the members of another.
     pub(crate) fn game(&self, alloc: Global, game: &Game) -> Result<Game, Memory>
         requires members { self.now.members ≡ length game.now.names }
@@ -151,10 +162,6 @@ impl Statute {
         ensures rules { IfOk result (λ made. made.rules ≡ self.now.rules) }
     {
         self.rules_are_fair();
-        let mut rules = Vec::with_capacity(alloc, self.rules())?;
-        for rule in 0..self.rules() {
-            rules.push(self.copied(alloc, rule)?)?;
-        }
-        remade(alloc, game, rules)
+        remade(alloc, game, self.copies(alloc)?)
     }
 }

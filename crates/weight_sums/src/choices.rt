@@ -8,7 +8,6 @@ use coalitions::{Memory, limits};
 use std::alloc::Global;
 
 /// The row for one member more: each number and the one before it, added (Pascal 1654).
-#[tactic(auto, using(std::proofs::lemmas::Grind::common_steps, crate::proofs::Taking::chosen))]
 fn next_row(row: &[u64; limits::SIZES], of: usize) -> [u64; limits::SIZES]
     requires few { of < MEMBERS }
     requires row { (k : ℕ) → k ≤ MEMBERS → slice_index row.now k ≡ choose of k }
@@ -22,7 +21,6 @@ fn next_row(row: &[u64; limits::SIZES], of: usize) -> [u64; limits::SIZES]
 }
 
 /// Row m has, for each k, in how many ways k of m members can be chosen.
-#[tactic(auto, using(std::proofs::lemmas::Grind::common_steps, crate::proofs::Taking::chosen))]
 fn choices(alloc: Global) -> Result<Vec<[u64; limits::SIZES]>, Memory>
     ensures { IfOk result (λ v. AreChoices v.items) }
 {

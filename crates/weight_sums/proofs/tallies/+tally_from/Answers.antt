@@ -11,6 +11,15 @@ pub returns-then-later-eq0 : goal.returns-then-later-eq0
 unfolding left_out
 returns-then-later-eq0 t c = grind (arith, common_steps, get_or-set_same)
 
+pub overflow_sub-rest : goal.overflow_sub-rest
+overflow_sub-rest t c = grind (arith, common_steps)
+
+pub finish-requires-clause-rest : goal.finish-requires-clause-rest
+finish-requires-clause-rest t c = grind (arith, common_steps)
+
+pub go_on-requires-clause-room : goal.go_on-requires-clause-room
+go_on-requires-clause-room t c = grind (arith, common_steps)
+
 pub tally_from-requires : goal.tally_from-requires
 tally_from-requires t c =
     let parts = ap sum c.in-Some.ensures.cases.0 ∙ sum_by-cons (λ (y : ℕ). y) c.in-Some.weight.now c.in-Some.later.now in
