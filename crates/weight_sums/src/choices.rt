@@ -8,6 +8,7 @@ use coalitions::{Memory, limits};
 use std::alloc::Global;
 
 /// The row for one member more: each number and the one before it, added (Pascal 1654).
+#[tactic(auto, using(std::proofs::lemmas::Grind::common_steps, crate::proofs::Taking::chosen))]
 fn next_row(row: &[u64; limits::SIZES], of: usize) -> [u64; limits::SIZES]
     requires few { of < MEMBERS }
     requires row { (k : ℕ) → k ≤ MEMBERS → slice_index row.now k ≡ choose of k }
