@@ -25,7 +25,7 @@ fn slice_of(task: Word, slices: u16) -> Option<u16>
 {
     match task {
         Word::Open(slice) if slice < slices => Some(slice),
-        _ => None,
+        Word::Open(_) | Word::One(_) | Word::Done(_) | Word::End { .. } => None,
     }
 }
 

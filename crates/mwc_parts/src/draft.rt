@@ -150,6 +150,6 @@ fn tells_cut(word: Word) -> bool
 {
     match word {
         Word::End { cut } => cut,
-        _ => false,
+        Word::Open(_) | Word::One(_) | Word::Done(_) => false,
     }
 }
