@@ -44,8 +44,7 @@ impl Equipment {
     pub fn new(alloc: Global, slices: u16) -> Result<Equipment, GatherFault>
         ensures { IfErr result IsEarly }
     {
-        let mut given = Vec::new(alloc);
-        given.reserve(usize::from(slices))?;
+        let given = Vec::with_capacity(alloc, usize::from(slices))?;
         let draft = Draft::new(alloc, slices)?;
         let (out, words) = ring(alloc, WORDS)?;
         let (tasks, list) = ring(alloc, TASKS)?;

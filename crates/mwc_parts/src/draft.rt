@@ -34,10 +34,8 @@ impl Draft {
     pub fn new(alloc: Global, slices: u16) -> Result<Draft, Memory>
         ensures { IfOk result (λ d. IsDraftOf [] d × (d.lost ≡ false) × (d.cut ≡ false)) }
     {
-        let mut ends = Vec::new(alloc);
-        ends.reserve(usize::from(slices))?;
         Ok(Draft {
-            ends,
+            ends: Vec::with_capacity(alloc, usize::from(slices))?,
             got: Vec::new(alloc),
             cut: false,
             lost: false,
