@@ -93,8 +93,7 @@ fn start_all<'s, E, W: Watch + Sync>(
 ) -> Result<Vec<Started<'s>>, Memory>
     ensures { IfOk result (λ threads. All (λ t. t.promise ≡ work.now.slices) threads.items) }
 {
-    let mut threads = Vec::new(alloc);
-    threads.reserve(usize::from(workers))?;
+    let mut threads = Vec::with_capacity(alloc, usize::from(workers))?;
     for _ in 0..workers {
         match start(scope, alloc, work) {
             Some(thread) => threads.push_reserved(thread),

@@ -130,8 +130,7 @@ pub(crate) fn merge(a: &[Prefixes], b: &[Prefixes], row: &mut Vec<Prefixes>) -> 
     ensures { IfOk result (λ _. AreMerged a.now b.now row.new.items) }
 {
     row.clear();
-    row.reserve(a.len())?;
-    row.reserve(b.len())?;
+    row.reserve(a.len().max(b.len()))?;
     let (mut i, mut j) = (0, 0);
     while i < a.len() && j < b.len() {
         row.push(next_open(a, b, &mut i, &mut j))?;

@@ -33,7 +33,7 @@ impl Table {
         ensures none { IfOk result (λ table. (key : Set → ℕ) (f : ℕ → Set → ℕ)
             → AreOfKeys key f [] table.rows.items) }
     {
-        let mut rows = Vec::with_capacity(alloc, choices)?;
+        let mut rows = Vec::new(alloc);
         rows.resize(choices, [0; limits::SIZES])?;
         Ok(Table { rows })
     }
