@@ -1,4 +1,4 @@
-use Rattle.weight_sums.proofs.{Imports.arith, SetLists.half-of}
+use Rattle.weight_sums.proofs.{SetLists.half-of}
 use Rattle.weight_sums.proofs.halves.Pairs.filled.Goals as goal
 
 pub new-requires-clause-second : goal.new-requires-clause-second
