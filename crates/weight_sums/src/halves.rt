@@ -40,29 +40,6 @@ impl Pairs {
         })
     }
 
-    /// The same, of the sets of these members of the second half, which are put into a list.
-    fn filled(
-        alloc: Global,
-        first: &[Set],
-        back: &[u64],
-        short: bool,
-        quota: u64,
-        digits: u32,
-        second: &mut Vec<Set>,
-        spare: &mut Vec<Set>,
-    ) -> Result<Pairs, Memory>
-        requires first { IsHalfOf digits first.now }
-        requires few { length back.now ≤ 20 }
-        requires enough { length back.now ≤ digits + digits }
-        requires light { sum back.now ≤ TOTAL }
-        requires digits { digits ≤ 10 }
-        ensures { IfOk result (λ pairs. (ys : List Set) × AreSets short back.now ys
-            × ArePairs quota first.now ys pairs) }
-    {
-        fill(back, short, second, spare)?;
-        Pairs::new(alloc, first, second, quota, digits)
-    }
-
     /// How many there are without the member of a place, where the first half has `front` members.
     fn without(&self, front: usize, place: usize) -> [u64; limits::SIZES]
         requires first { HaveRows self.now.first }
@@ -145,8 +122,10 @@ impl Halves {
         let (front, back) = weights.split_at(weights.len() / 2);
         let digits = ((back.len() + 1) / 2) as u32;
         fill(front, false, first, spare)?;
-        let won = Pairs::filled(alloc, first, back, false, quota, digits, second, spare)?;
-        let shortened = Pairs::filled(alloc, first, back, true, quota, digits, second, spare)?;
+        fill(back, false, second, spare)?;
+        let won = Pairs::new(alloc, first, second, quota, digits)?;
+        fill(back, true, second, spare)?;
+        let shortened = Pairs::new(alloc, first, second, quota, digits)?;
         fill(front, true, first, spare)?;
         let own = Groups::new(alloc, first, &[NOBODY], quota, digits)?;
         Ok(Halves {
