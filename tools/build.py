@@ -58,9 +58,8 @@ FILLS = 100
 MORE_LANES = 1
 # how long each proof took when it was last made from nothing
 MEASURED = f"{OUT}/seconds"
-# where that is not known: a second for this many lines of code (not of proofs and definitions), as most crates take that
-# have proofs by hand; and as the others do, which print for a person by what the kit's libraries have
-LINES_A_SECOND, LINES_WITHOUT_PROOFS = 10, 4
+# where that is not known: a second for this many lines of code (not of proofs and definitions), as most crates take
+LINES_A_SECOND = 10
 # how long the statements below a library are read, and how long the program is compiled and linked, in seconds
 READ, COMPILED = 15, 60
 # how many processors a proof keeps busy, on the whole
@@ -116,12 +115,11 @@ def costs(names):
     proofs rests on it, and what is said of the time that is left."""
     guessed = {}
     for name in names:
-        lines = LINES_A_SECOND if os.path.isdir(f"{TOP}/crates/{name}/proofs") else LINES_WITHOUT_PROOFS
         files = [f"{at}/{file}" for at, _, found in os.walk(f"{TOP}/crates/{name}/src") for file in found]
         guessed[name] = COMPILED if name == PROGRAM else READ
         for file in files:
             with open(file, "rb") as it:
-                guessed[name] += it.read().count(b"\n") / lines
+                guessed[name] += it.read().count(b"\n") / LINES_A_SECOND
     return {**guessed, **{name: took for name, took in measured().items() if name in guessed}}
 
 

@@ -1,8 +1,9 @@
 //! What a fault says of bytes.
-use crate::said::Said;
-use crate::source::bare;
-use council_file::bracket_rule;
-use council_game::{GameFault, Memory};
+use crate::bracket::say_misfit;
+use crate::rules::{say_count, say_quota_range, say_range, say_unknown_key, say_weight};
+use council_file::{bracket_rule, is_bracket};
+use council_game::{GameFault, Memory, Rule};
+use explain_toml::{Said, bare};
 use std::alloc::Global;
 use toml::Table;
 use toml::de::Error;
@@ -26,28 +27,38 @@ fn tree_of(alloc: Global, text: &str) -> Result<(Table, Option<Error>), Memory> 
     }
 }
 
-/// Says what a fault says of the bytes of a file, which are no TOML if there is an error.
+/// Says what a fault says of the bytes of a file, which are no TOML if there is an error, and a bracket text if there is a rule.
 fn say_fault(
     said: &mut Said<'_>,
     alloc: Global,
     bytes: &[u8],
     error: Option<&Error>,
+    rule: Option<&Rule>,
     fault: GameFault,
 ) -> Result<(), Memory> {
     match fault {
         GameFault::Read => said.line(READ),
         GameFault::TooLong => said.line(TOO_LONG),
-        GameFault::Text => said.say_no_toml(bytes, error),
-        GameFault::UnknownKey => said.say_unknown_key(),
+        GameFault::Text => said.say_no_toml(bytes, error, is_bracket(bytes)),
+        GameFault::UnknownKey => say_unknown_key(said),
         GameFault::Title => said.say_title(),
         GameFault::Rules => said.say_rules(),
         GameFault::Quota => said.say_quota(),
-        GameFault::Members => said.say_members(),
+        GameFault::Members => match rule {
+            Some(rule) => say_count(said, rule),
+            None => said.say_members(),
+        },
         GameFault::Name { member } => said.say_name(usize::from(member)),
         GameFault::SameName { member } => said.say_same_name(usize::from(member)),
-        GameFault::Weight { member } => said.say_weight(usize::from(member)),
-        GameFault::QuotaRange => return said.say_quota_range(alloc),
-        GameFault::Bracket => return said.say_misfit(alloc),
+        GameFault::Weight { member } => match rule {
+            Some(rule) => say_weight(said, rule, usize::from(member)),
+            None => said.say_weight(usize::from(member)),
+        },
+        GameFault::QuotaRange => match rule {
+            Some(rule) => say_range(said, "the quota", rule.quota, rule),
+            None => return say_quota_range(said, alloc),
+        },
+        GameFault::Bracket => return say_misfit(said, alloc),
         GameFault::Memory => {}
     }
     Ok(())
@@ -70,11 +81,17 @@ pub fn explain(alloc: Global, bytes: &[u8], fault: GameFault) -> Result<String, 
         text: text.as_str(),
         bare: bare.as_str(),
         table: &table,
-        rule: rule.as_ref(),
         lines: String::new(alloc),
         failed: false,
     };
-    say_fault(&mut said, alloc, bytes, error.as_ref(), fault)?;
+    say_fault(
+        &mut said,
+        alloc,
+        bytes,
+        error.as_ref(),
+        rule.as_ref(),
+        fault,
+    )?;
     if said.failed {
         // memory: a growth was refused
         return Err(Memory);

@@ -8,12 +8,7 @@
 
 mod bracket;
 mod explaining;
-mod members;
-mod no_toml;
 mod rules;
-mod said;
-mod source;
-mod values;
 
 pub use bracket::remark;
 pub use explaining::explain;

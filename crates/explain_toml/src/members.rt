@@ -1,16 +1,12 @@
 //! What is wrong with the members of a file.
 use crate::said::{Said, short};
 use crate::values::{elements, kind};
-use council_game::limits;
+use coalitions::limits;
 use toml::Value;
 
 impl Said<'_> {
     /// Says that there is no member, or too many, or what is in their place.
-    pub(crate) fn say_members(&mut self) {
-        if let Some(rule) = self.rule {
-            let count = rule.weights.len();
-            return self.line(format_args!("the text has {count} weights: at most 40 are allowed"));
-        }
+    pub fn say_members(&mut self) {
         let wanted = "each member begins with a line [[member]], with two brackets on each side";
         match self.value_at("member") {
             None => self.line(format_args!("the file has no member: {wanted}")),
@@ -36,7 +32,7 @@ impl Said<'_> {
     }
 
     /// Says what is wrong with the name of a member.
-    pub(crate) fn say_name(&mut self, member: usize) {
+    pub fn say_name(&mut self, member: usize) {
         let wanted = "a name is a text in quotes, of 1 to 64 bytes, on one line";
         self.say_key_of(member, "name");
         match self.value_of(member, "name") {
@@ -46,7 +42,7 @@ impl Said<'_> {
     }
 
     /// Says which earlier member has the name of this one.
-    pub(crate) fn say_same_name(&mut self, member: usize) {
+    pub fn say_same_name(&mut self, member: usize) {
         self.say_key_of(member, "name");
         let name = self.value_of(member, "name");
         for earlier in 1..member {
@@ -61,13 +57,7 @@ impl Said<'_> {
     }
 
     /// Says what is wrong with the weight or the weights of a member.
-    pub(crate) fn say_weight(&mut self, member: usize) {
-        if let Some(rule) = self.rule
-            && let Some(weight) = rule.weights.get(member.wrapping_sub(1))
-        {
-            let wanted = "the greatest is 1000000000000";
-            return self.line(format_args!("weight {member} is {weight}: {wanted}"));
-        }
+    pub fn say_weight(&mut self, member: usize) {
         let several = self.value_at("quotas").is_some();
         let key = if several { "weights" } else { "weight" };
         let wanted = "weights are an array, with a number for each rule";

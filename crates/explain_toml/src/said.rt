@@ -1,6 +1,5 @@
 //! The lines of an explanation, and the file that they are of.
 use crate::values::elements;
-use council_game::Rule;
 use council_streams::{Harmless, shown};
 use std::fmt::{Display, Write};
 use toml::{Table, Value};
@@ -10,15 +9,13 @@ const LONGEST: usize = 100;
 
 /// What is said of a game file.
 #[derive(Drop)]
-pub(crate) struct Said<'a> {
+pub struct Said<'a> {
     /// The text of the file.
     pub text: &'a str,
     /// The text without blanks, comments and what stands in quotes.
     pub bare: &'a str,
     /// The tree of the text; empty where it is no TOML.
     pub table: &'a Table,
-    /// The rule of the text; none where it is no bracket text.
-    pub rule: Option<&'a Rule>,
     /// The lines, each begun with two blanks and ended with LF.
     pub lines: String,
     /// Whether a growth was refused, so that some of them are not there.
@@ -27,7 +24,7 @@ pub(crate) struct Said<'a> {
 
 impl<'a> Said<'a> {
     /// Adds a line.
-    pub(crate) fn line(&mut self, line: impl Display + Drop) {
+    pub fn line(&mut self, line: impl Display + Drop) {
         // memory: told at the end
         if writeln!(self.lines, "  {line}").is_err() {
             self.failed = true;
@@ -35,22 +32,22 @@ impl<'a> Said<'a> {
     }
 
     /// The value at a key of the top.
-    pub(crate) fn value_at(&self, key: &str) -> Option<&'a Value> {
+    pub fn value_at(&self, key: &str) -> Option<&'a Value> {
         self.table.get(key)
     }
 
     /// The members, and none where they are no array.
-    pub(crate) fn members(&self) -> &'a [Value] {
+    pub fn members(&self) -> &'a [Value] {
         elements(self.value_at("member"))
     }
 
     /// The value at a key of a member, which has a number from 1.
-    pub(crate) fn value_of(&self, member: usize, key: &str) -> Option<&'a Value> {
+    pub fn value_of(&self, member: usize, key: &str) -> Option<&'a Value> {
         self.members().get(member.wrapping_sub(1))?.get(key)
     }
 }
 
 /// What is not the program's own, of at most as many characters as a line shows.
-pub(crate) fn short<T: Display>(what: T) -> Harmless<T> {
+pub fn short<T: Display>(what: T) -> Harmless<T> {
     shown(what, LONGEST)
 }

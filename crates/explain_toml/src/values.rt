@@ -6,7 +6,7 @@ use toml::Value;
 const STATUTES: &str = "docs/STATUTES.md says how percentages and fractions become whole numbers";
 
 /// The elements of an array, and none of another value.
-pub(crate) fn elements(value: Option<&Value>) -> &[Value] {
+pub fn elements(value: Option<&Value>) -> &[Value] {
     match value {
         Some(Value::Array(items)) => items.as_slice(),
         _ => &[],
@@ -27,7 +27,7 @@ pub(crate) fn kind(value: &Value) -> &'static str {
 }
 
 /// Whether a letter is a digit.
-pub(crate) fn is_digit(letter: char) -> bool {
+pub fn is_digit(letter: char) -> bool {
     letter.is_ascii_digit()
 }
 
@@ -85,7 +85,7 @@ impl Said<'_> {
     }
 
     /// Says what helps where the text can't be read on from a place.
-    pub(crate) fn say_remedy_at(&mut self, place: usize) {
+    pub fn say_remedy_at(&mut self, place: usize) {
         match self.text.as_bytes().get(place) {
             Some(b'%' | b'/') => self.line(STATUTES),
             Some(b'.') => self.say_factor(self.text),

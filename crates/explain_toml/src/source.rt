@@ -1,6 +1,6 @@
 //! Places in the text of a game file.
 use crate::said::{Said, short};
-use council_game::Memory;
+use coalitions::Memory;
 use std::alloc::Global;
 
 /// What ends the comment or the quotes that are open behind a letter, by what ended those before it: the end of a line, or
@@ -17,7 +17,7 @@ fn end_behind(end: Option<char>, letter: char) -> Option<char> {
 }
 
 /// A text without blanks, comments and what stands in quotes. The ends of lines are left.
-pub(crate) fn bare(alloc: Global, text: &str) -> Result<String, Memory> {
+pub fn bare(alloc: Global, text: &str) -> Result<String, Memory> {
     let mut bare = String::new(alloc);
     let mut end = None;
     for letter in text.chars() {
@@ -45,7 +45,7 @@ fn line_of_key(bare: &str, first: usize, key: &str) -> Option<usize> {
 
 impl Said<'_> {
     /// Says the line and the column of a place, and what stands in the line; the column is in characters.
-    pub(crate) fn say_place(&mut self, place: usize) {
+    pub fn say_place(&mut self, place: usize) {
         let front = self.text.get(..place).unwrap_or(self.text);
         let (_, last) = front.rsplit_once('\n').unwrap_or(("", front));
         let ends = front.matches('\n').count();
@@ -62,7 +62,7 @@ impl Said<'_> {
     }
 
     /// Says where a key of the top stands.
-    pub(crate) fn say_key(&mut self, key: &str) {
+    pub fn say_key(&mut self, key: &str) {
         if let Some(line) = line_of_key(self.bare, 1, key) {
             self.say_line(line);
         }
@@ -70,7 +70,7 @@ impl Said<'_> {
 
     /// Says where a key of a member stands, or else the member: it is behind the header, or else the brace, that has its
     /// number among its like.
-    pub(crate) fn say_key_of(&mut self, member: usize, key: &str) {
+    pub fn say_key_of(&mut self, member: usize, key: &str) {
         let is_header = self.bare.contains("[[member]]");
         let mark = if is_header { "[[member]]" } else { "{" };
         let mut line = 1usize;

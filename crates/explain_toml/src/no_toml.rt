@@ -1,6 +1,5 @@
 //! What is said of a text that is not TOML.
 use crate::said::{Said, short};
-use council_file::is_bracket;
 use toml::de::Error;
 
 /// What stands between the columns of a table, as a spreadsheet writes it.
@@ -28,8 +27,9 @@ impl Said<'_> {
         false
     }
 
-    /// Says which bytes are no text, or else why the text of them is not TOML.
-    pub(crate) fn say_no_toml(&mut self, bytes: &[u8], error: Option<&Error>) {
+    /// Says which bytes are no text, or else why the text of them is not TOML, though it begins as a bracket text does
+    /// where `is_bracket` says so.
+    pub fn say_no_toml(&mut self, bytes: &[u8], error: Option<&Error>, is_bracket: bool) {
         if bytes.starts_with(b"\xFF\xFE") || bytes.starts_with(b"\xFE\xFF") {
             self.line("the file is saved as UTF-16: save it as UTF-8");
         } else if let Err(error) = str::from_utf8(bytes) {
@@ -42,7 +42,7 @@ impl Said<'_> {
             self.say_place(place);
             self.line(error.message());
             self.say_remedy_at(place);
-            if is_bracket(self.text.as_bytes()) {
+            if is_bracket {
                 self.line("a byte order mark stands before the bracket: save the file without one");
             }
         }
