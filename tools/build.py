@@ -64,8 +64,6 @@ LINES_A_SECOND = 10
 READ, COMPILED = 15, 60
 # how many processors a proof keeps busy, on the whole
 BUSY = 1.3
-# how many times as fast a proof is with a second job
-TWO_JOBS = 1.5
 # how many seconds must have been measured until they count as much as what was guessed
 GUESSED = 120
 # what ends a build
@@ -419,20 +417,11 @@ class Told:
         say(f"{text}; some {self.minutes()} min left")
 
 
-def has_two_jobs(name, left, lines, few):
-    """Whether a second job for the library with the longest chain above it ends the whole sooner: what stands beside the chain
-    must be proved by then, by the processors that are left for it. What is left is given with its seconds."""
-    names = sorted(left, key=lambda it: len(below(it, lines)))
-    chain = chains(names, lines, left)[name]
-    beside = sum(left.values()) - chain
-    return few > 2 and BUSY * beside / (few - 2) < chain - left[name] + left[name] / TWO_JOBS
-
-
 def prove_all(names, lines, prove, told):
     """Proves the libraries, each after those below it; whether all were. The one with the longest chain above it
     begins at once, and the others give way to it. The processors that are free are shared among those that can begin: a further
-    job is work of its own, since it reads the statements below once more, so that no other has one, but for the chain's last
-    ones: see `has_two_jobs`; the very last, beside which only what fills the time at the end is left, has what that leaves."""
+    job is work of its own, since it reads the statements below once more, so that no other has one, but for the very last, beside
+    which only what fills the time at the end is left: it has what that leaves."""
     left, nice = plan(names, lines, told.cost)
     few, all_lanes = lanes()
     running, jobs, done, first = {}, {}, [], None
@@ -454,8 +443,6 @@ def prove_all(names, lines, prove, told):
                     # (what fills the time at the end counts where nothing else is left)
                     waiting = sum(nice[it] == NICE for it in can) or (len(can) if len(can) + 1 == len(left) else 0)
                     jobs[name] = max(1, (few - busy) // (waiting + 1))
-                    if name == first and all_lanes > few and has_two_jobs(name, told.costs_left(), lines, few):
-                        jobs[name] = max(2, jobs[name])
                     left.remove(name)
                     if name == first and all(nice[it] == NICE_LAST for it in [*left, *running.values()]):
                         # (what is left beside it needs one of them)
