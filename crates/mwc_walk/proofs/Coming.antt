@@ -3,14 +3,14 @@ use Rattle.mwc_walk.proofs.Imports.{◌+◌, ◌*◌, ◌<◌, ◌≤◌, arith,
 use Rattle.mwc_walk.proofs.Imports.{cond_both, cond-false, mul-le, drop_all, get_or-take, weight, Votes, IsVotes, rule_at, wins, weight-le}
 use Rattle.mwc_walk.proofs.Imports.{weight-without, IsPrice, Intervals, Covers, Lane, IsSplit, LaneIs, lane_at, LanesStand, get_or_default}
 use Rattle.mwc_walk.proofs.Imports.{get_or, sum, ap, subst, ◌∙◌, length-drop, zero, true, refl, common_steps, cases_lt, cases_eq, ◌≡◌, ℕ}
-use Rattle.mwc_walk.proofs.Imports.{InInterval}
+use Rattle.mwc_walk.proofs.Imports.{InInterval, Price}
 use Rattle.std.proofs.Common.{length-take-le, take_all, drop-cons, ◌⊎◌, add-one, ltb-true}
 use Rattle.std.proofs.{Math.Nat.le_of_mul-le-mul_left, lemmas.List.Folds.Any-from_list_any, lemmas.List.Sums.sum_by_more}
 use Rattle.std.proofs.lemmas.Nat.Bits.{bit_at-lt}
 use Rattle.std.specs.{Int.div_ceil, List.list_any}
 use Rattle.council_game.proofs.Shared.WeightByDigits.{weight-nil, weight-cons}
 use Rattle.coalitions.proofs.Shared.Digits.{digit-added}
-use Rattle.mwc_walk.specs.{Inner.Covers.interval_at, Inner.Lanes.lane_needs, Inner.Vetoes.vetoed_part, declared.price.Price.Price}
+use Rattle.mwc_walk.specs.Inner.{Covers.interval_at, Lanes.lane_needs, Vetoes.vetoed_part}
 use Rattle.mwc_walk.proofs.Rules.{sum-from, drop-most, met-at}
 
 -- ---- in intervals
