@@ -133,7 +133,7 @@ pub(crate) fn all_win(lanes: &[Lane]) -> bool
 {
     match lanes {
         [lane] => lane.wins(),
-        _ => lanes.iter().all(|lane| lane.wins()),
+        _ => lanes.iter().all(Lane::wins),
     }
 }
 
