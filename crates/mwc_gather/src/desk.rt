@@ -242,7 +242,7 @@ fn tells_whole(word: &Word) -> bool
 fn one_tells_whole(words: &[Word]) -> bool
     ensures { result ≡ list_any is_done words.now }
 {
-    words.iter().any(|word| tells_whole(word))
+    words.iter().any(tells_whole)
 }
 
 /// Whether a word is the last of a worker.
@@ -256,7 +256,7 @@ fn is_end(word: &Word) -> bool
 fn one_is_end(words: &[Word]) -> bool
     ensures { result ≡ list_any is_end words.now }
 {
-    words.iter().any(|word| is_end(word))
+    words.iter().any(is_end)
 }
 
 /// Keeps all words that are left.

@@ -60,7 +60,7 @@ module _ {X : Type 0} (f : X → List ℕ) (xs : List X) (k skip most : ℕ) {s 
 
 -- what a thread counted is what it was given to count
 pub is-stretch : (given : GivenStretch) (g : GameView) (list : List ℕ) (skip most : ℕ) → IsGivenStretch g list skip most given
-    → (t : Tables) → AreTallies given.game.value (take given.most (drop given.skip (joined given.pieces.value.now))) t
+    → (t : Tables) → AreTallies given.game.now (take given.most (drop given.skip (joined given.pieces.now))) t
     → AreTallies g (take most (drop skip list)) t
 is-stretch given g list skip most is t tallies = grind arith
 

@@ -9,16 +9,15 @@ ghost use Rattle.mwc_tally.specs.Inner.Threads.{CanBeCounted, CountFirst, CountS
 use crate::fault::TallyFault;
 use council_game::{Coalition, Game};
 use power_index::Counts;
-use std::snapshot::Snapshot;
 use std::sync::Wait;
 use std::thread;
 use std::thread::{Promise, PromisedHandle, Scope, Threads};
 
 /// What a thread was given, for proofs alone: a stretch of a list in pieces.
-#[derive(Drop)]
+#[derive(Clone, Copy)]
 pub(crate) struct GivenStretch<'s> {
-    pub game: Snapshot<Game>,
-    pub pieces: Snapshot<&'s [&'s [Coalition]]>,
+    pub game: &'s Game,
+    pub pieces: &'s [&'s [Coalition]],
     pub skip: usize,
     pub most: usize,
 }
@@ -28,8 +27,8 @@ impl<'s> Promise<Counts> for GivenStretch<'s> {
     ghost use Rattle.coalitions.specs.Lists.{joined};
     ghost use Rattle.power_index.specs.Tables.{AreTallies};
 
-    ghost kept_by = { λ t counts. AreTallies t.game.value
-        (take t.most (drop t.skip (joined t.pieces.value.now))) counts };
+    ghost kept_by = { λ t counts. AreTallies t.game.now
+        (take t.most (drop t.skip (joined t.pieces.now))) counts };
 }
 
 /// A thread that counts a stretch.
@@ -114,8 +113,8 @@ fn start<'s, E>(
         skip most t.promise) }
 {
     let given = GivenStretch {
-        game: Snapshot::of(game),
-        pieces: Snapshot::of(&pieces),
+        game,
+        pieces,
         skip,
         most,
     };

@@ -1,16 +1,17 @@
 -- What the members from a place on weigh in a coalition: in intervals, by one rule for what they weigh by another, and vetoers among them.
 use Rattle.mwc_walk.proofs.Imports.{◌+◌, ◌*◌, ◌<◌, ◌≤◌, arith, inl, inr, suc, ◌-◌, ◌/◌, ◌%◌, ◌^◌, List, ◌∷◌, length, take, drop, cases_Bool}
 use Rattle.mwc_walk.proofs.Imports.{cond_both, cond-false, mul-le, drop_all, get_or-take, weight, Votes, IsVotes, rule_at, wins, weight-le}
-use Rattle.mwc_walk.proofs.Imports.{weight-without, IsPrice, Intervals, Covers, Lane, IsSplit, LaneIs, lane_at, LanesStand, get_or_default}
-use Rattle.mwc_walk.proofs.Imports.{get_or, sum, ap, subst, ◌∙◌, length-drop, zero, true, refl, common_steps, cases_lt, cases_eq, ◌≡◌, ℕ}
-use Rattle.mwc_walk.proofs.Imports.{InInterval}
+use Rattle.mwc_walk.proofs.Imports.{weight-without, IsPrice, Covers, Lane, IsSplit, LaneIs, lane_at, LanesStand, get_or_default, get_or}
+use Rattle.mwc_walk.proofs.Imports.{sum, ap, subst, ◌∙◌, length-drop, zero, true, refl, common_steps, cases_lt, cases_eq, ◌≡◌, ℕ}
+use Rattle.mwc_walk.proofs.Imports.{InInterval, Price}
+use Rattle.mwc_walk.specs.{Inner.Covers.interval_at, Inner.Vetoes.vetoed_part, declared.intervals.Intervals.Intervals}
+use Rattle.mwc_walk.specs.Inner.Lanes.{lane_needs}
 use Rattle.std.proofs.Common.{length-take-le, take_all, drop-cons, ◌⊎◌, add-one, ltb-true}
 use Rattle.std.proofs.{Math.Nat.le_of_mul-le-mul_left, lemmas.List.Folds.Any-from_list_any, lemmas.List.Sums.sum_by_more}
 use Rattle.std.proofs.lemmas.Nat.Bits.{bit_at-lt}
 use Rattle.std.specs.{Int.div_ceil, List.list_any}
 use Rattle.council_game.proofs.Shared.WeightByDigits.{weight-nil, weight-cons}
 use Rattle.coalitions.proofs.Shared.Digits.{digit-added}
-use Rattle.mwc_walk.specs.{Inner.Covers.interval_at, Inner.Lanes.lane_needs, Inner.Vetoes.vetoed_part, declared.price.Price.Price}
 use Rattle.mwc_walk.proofs.Rules.{sum-from, drop-most, met-at}
 
 -- ---- in intervals
@@ -78,6 +79,10 @@ pub price-step : (n p : ℕ) (own other : List ℕ) (before after : Price) → p
     → IsPrice after (weight (drop p (take n other)) c) (weight (drop p (take n own)) c)
 price-step n p own other before after below lo lt step c is =
     rw (weight-from other n p c below lt, weight-from own n p c below lo) (step _ _ (c / 2 ^ (n - (p + 1)) % 2) is)
+
+-- what the members from place p on weigh in d lies in a few intervals
+abbrev pub HasSums : List ℕ → ℕ → ℕ → ℕ → Intervals → Type 0
+HasSums ws n d p z = (z.count ≤ 8) × Covers z (weight (drop p (take n ws)) d)
 
 -- a sum more, with the member of place p or without
 pub sums-step : (n p : ℕ) (ws : List ℕ) (before after : Intervals) → p < n → n ≤ length ws → sum (take n ws) < 2 ^ 64

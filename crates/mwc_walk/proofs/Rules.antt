@@ -2,15 +2,20 @@
 use Rattle.mwc_walk.proofs.Imports.{weight-le, reaches, wins_at, Lane, length-drop, Bool, true, List, [], ◌∷◌, refl, ℕ, ◌+◌, ◌-◌, ◌*◌, ◌/◌}
 use Rattle.mwc_walk.proofs.Imports.{drop_all, RuleView, leb, sum_by-take-drop, has-none, lane_at, subst, ◌≡◌, weight, wins, rule_at, ◌%◌}
 use Rattle.mwc_walk.proofs.Imports.{ap, get_or, sum, arith, zero, suc, length, sym, ◌∙◌, AllByRecursion, list_all, le-leb, common_steps}
-use Rattle.mwc_walk.proofs.Imports.{◌^◌, ◌<◌, ◌≤◌, take, drop, IsRule, list_all-from_AllPass}
+use Rattle.mwc_walk.proofs.Imports.{◌^◌, ◌<◌, ◌≤◌, take, drop, IsRule, list_all-from_AllPass, cases_eq, inl, inr, get_or-set_at}
+use Rattle.mwc_walk.proofs.Imports.{get_or-set_other}
 use Rattle.std.proofs.lemmas.List.{Elements.All-from_recursion, Sums.sum_by-drop_more, Sums.AllPass-from_list_all}
-use Rattle.std.proofs.Common.{leb-true, div-add-mod'}
+use Rattle.std.proofs.Common.{leb-true, div-add-mod', set, ◌≢◌}
 use Rattle.council_game.proofs.Shared.Weights.{weight-at, weight-more, weight-prefix, weight-skip}
 
--- what holds from the back on
-pub from-back : (P : ℕ → Type 0) (m : ℕ) → P m → ((p : ℕ) → p < m → P (p + 1) → P p) → (k p : ℕ) → p + k ≡ m → P p
-from-back P m last step zero p at = subst P (let e : m ≡ p = omega arith in e) last
-from-back P m last step (suc k) p at = step p (omega arith) (from-back P m last step k (p + 1) (omega arith))
+-- what holds of the elements of a list at their places, with one of them set anew
+pub set-keeps : {A : Type 0} (P : ℕ → A → Type 0) (xs : List A) (k p : ℕ) (x d : A) → k < length xs → P k x
+    → (p ≢ k → P p (get_or xs p d)) → P p (get_or (set xs k x) p d)
+set-keeps P xs k p x d below here rest =
+    elim (cases_eq p k) [
+      | inl same ↦ rw (same, get_or-set_at xs k k x d refl below) here
+      | inr other ↦ rw (get_or-set_other xs k p x d other) (rest other)
+    ]
 
 module _ {X : Type 0} (P : X → Type 0) (p q : X → Bool) where
   pub list_all-more : ((x : X) → P x → p x ≡ true → q x ≡ true) → (xs : List X) → AllByRecursion P xs → list_all p xs ≡ true
@@ -105,6 +110,9 @@ met-at rs c i won below = leb-true _ _ (AllPass-from_list_all (λ r. leb r.quota
 
 pub sum-from : (ws : List ℕ) (m p : ℕ) → m ≤ length ws → p < m → sum (drop p (take m ws)) ≡ get_or ws p 0 + sum (drop (p + 1) (take m ws))
 sum-from ws m p le below = grind (arith, common_steps)
+
+pub sum-past : (ws : List ℕ) (m p : ℕ) → m ≤ p → sum (drop p (take m ws)) ≡ 0
+sum-past ws m p past = grind (arith, common_steps, drop_all)
 
 pub drop-most : (xs : List ℕ) (p : ℕ) → sum (drop p xs) ≤ sum xs
 drop-most xs p = omega (arith, sum_by-take-drop (λ (y : ℕ). y) xs p)

@@ -3,10 +3,10 @@ use Rattle.mwc_walk.proofs.Imports.{slice_below, reaches, wins_at, NothingBelow,
 use Rattle.mwc_walk.proofs.Imports.{cond-false, cond_both, list_all, RuleView, Votes, ◌≡◌, ℕ, suc, ◌+◌, ◌-◌, ◌*◌, ◌/◌, ◌%◌, ◌^◌, ◌<◌, ◌≤◌}
 use Rattle.mwc_walk.proofs.Imports.{min, true, false, List, ◌++◌, map, length, take, get_or, refl, Lane, Cursor, On, Give, End, lane_with}
 use Rattle.mwc_walk.proofs.Imports.{lane_without, IsPlace, lane_at, LanesStand, ap, ◌∙◌, arith, common_steps, shr-shr, pow_pos, pow_mono}
-use Rattle.mwc_walk.proofs.Imports.{cases_lt, both_ways, sum_by-take-drop, no_lane, weight, weight-le, rule_at, LaneIs, leb, get_or-take}
+use Rattle.mwc_walk.proofs.Imports.{cases_lt, both_ways, sum_by-take-drop, weight, weight-le, rule_at, LaneIs, leb, get_or-take}
 use Rattle.mwc_walk.proofs.Imports.{get_or_default, sum, drop, length-take, nat_tests}
-use Rattle.mwc_walk.specs.Inner.{Asked.AreAsked, Cursor.Steps, Cursor.Starts, Lanes.lane_reaches, Lanes.lane_wins, Places.LanesAre}
-use Rattle.mwc_walk.specs.declared.asked.Asked.{Asked}
+use Rattle.mwc_walk.specs.Inner.{Cursor.Steps, Cursor.Starts, Lanes.no_lane, Lanes.lane_reaches, Lanes.lane_wins, Places.LanesAre}
+use Rattle.mwc_walk.specs.{Inner.Asked.AreAsked, declared.asked.Asked.Asked}
 use Rattle.std.proofs.Common.{All, cond, ltb, pow-suc, lt-ltb, le-ltb}
 use Rattle.std.proofs.lemmas.Nat.{shl_below, shl_whole}
 use Rattle.mwc_walk.proofs.Rest.{dead-nothing, left-nothing, left-won, left-take, left-none, left-all}

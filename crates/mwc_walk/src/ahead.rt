@@ -5,7 +5,6 @@ ghost use Rattle.council_game.specs.Game.{votes_of};
 ghost use Rattle.mwc_walk.specs.Inner.Vetoes.{SplitsAre};
 ghost use Rattle.mwc_walk.specs.Inner.Ahead.{AheadIs, OutlookIs};
 
-use crate::fill::filled;
 use crate::lane::lanes_of;
 use crate::price::{Price, Prices};
 use crate::sums_ahead::SumsAhead;
@@ -32,11 +31,10 @@ impl Outlook {
         let none = Prices {
             from: [Price { own: 0, other: 0 }; limits::SIZES],
         };
-        let prices = filled(
-            none,
-            game.rules(),
-            |other| Prices::new(free, &vetoes[other].free, members),
-        );
+        let mut prices = [none; limits::RULES];
+        for other in 0..game.rules() {
+            prices[other] = Prices::new(free, &vetoes[other].free, members);
+        }
         Outlook {
             sums: SumsAhead::new(free, members),
             prices,
@@ -59,11 +57,10 @@ impl Ahead {
         game.was_checked();
         let rules = game.rules();
         let vetoes = Vetoes::of_each(game, &lanes_of(game, Coalition::none())[..rules]);
-        let outlooks = filled(
-            Outlook::of(game, &vetoes, 0),
-            rules,
-            |rule| Outlook::of(game, &vetoes, rule),
-        );
+        let mut outlooks = [Outlook::of(game, &vetoes, 0); limits::RULES];
+        for rule in 1..rules {
+            outlooks[rule] = Outlook::of(game, &vetoes, rule);
+        }
         Ahead { vetoes, outlooks }
     }
 }

@@ -5,7 +5,6 @@ ghost use Rattle.council_game.specs.Game.{votes_of};
 ghost use Rattle.mwc_walk.specs.Inner.Asked.{AreAsked};
 ghost use Rattle.mwc_walk.specs.Inner.Places.{LanesStand};
 
-use crate::fill::filled;
 use crate::lane::Lane;
 use crate::vetoes::{Vetoes, brought};
 use council_game::{Game, limits};
@@ -21,13 +20,11 @@ impl Asked {
         ensures { (p : ℕ) → p ≤ MEMBERS →
             slice_index result.before p ≡ lane.now.quota - slice_index vetoes.now.brings p }
     {
-        Asked {
-            before: filled(
-                0,
-                limits::SIZES,
-                |place| lane.quota.saturating_sub(vetoes.brings[place]),
-            ),
+        let mut before = [0; limits::SIZES];
+        for place in 0..limits::SIZES {
+            before[place] = lane.quota.saturating_sub(vetoes.brings[place]);
         }
+        Asked { before }
     }
 
     /// What each rule asks, and copies past the last.
@@ -42,10 +39,10 @@ impl Asked {
         let none = Asked {
             before: [0; limits::SIZES],
         };
-        filled(
-            none,
-            lanes.len(),
-            |rule| Asked::of(&lanes[rule], &vetoes[rule]),
-        )
+        let mut asked = [none; limits::RULES];
+        for rule in 0..lanes.len() {
+            asked[rule] = Asked::of(&lanes[rule], &vetoes[rule]);
+        }
+        asked
     }
 }

@@ -14,7 +14,6 @@ ghost use Rattle.mwc_walk.specs.Inner.Cursor.{CursorIs, Steps, SomeSteps, Starts
 
 use crate::ahead::Ahead;
 use crate::asked::Asked;
-use crate::fill::filled;
 use crate::lane::{Lane, all_reach, all_win, lanes_of, leave_out, take_in};
 use crate::step::Step;
 use council_game::{Coalition, Game, limits};
@@ -437,13 +436,13 @@ impl Cursor {
         requires ahead { AheadIs (votes_of game.now) ahead.now }
         ensures { AreNeeds (votes_of game.now) self.now.place self.now.prefix ahead.now.vetoes result }
     {
-        filled(
-            0,
-            self.rules,
-            |rule| self.lanes[rule]
+        let mut short = [0; limits::RULES];
+        for rule in 0..self.rules {
+            short[rule] = self.lanes[rule]
                 .quota
-                .saturating_sub(self.there(ahead, rule)),
-        )
+                .saturating_sub(self.there(ahead, rule));
+        }
+        short
     }
 
     /// What is there under a rule, with what vetoers bring.

@@ -8,7 +8,6 @@ ghost use Rattle.council_game.specs.Votes.{rule_at, has, weight};
 ghost use Rattle.mwc_walk.specs.Inner.Places.{LaneIs, LanesStand};
 ghost use Rattle.mwc_walk.specs.Inner.Lanes.{lane_at, lane_reaches, lane_wins, lane_with, lane_without};
 
-use crate::fill::{filled, filled_back};
 use council_game::{Coalition, Game, limits};
 
 /// What the walk knows of one rule.
@@ -68,11 +67,11 @@ pub(crate) fn lanes_of(game: &Game, fixed: Coalition) -> [Lane; limits::RULES]
         (lane_at result i).sum ≡ weight (rule_at (votes_of game.now).rules i).weights fixed }
 {
     game.was_checked();
-    filled(
-        Lane::new(game, 0, fixed),
-        game.rules(),
-        |rule| Lane::new(game, rule, fixed),
-    )
+    let mut lanes = [Lane::new(game, 0, fixed); limits::RULES];
+    for rule in 1..game.rules() {
+        lanes[rule] = Lane::new(game, rule, fixed);
+    }
+    lanes
 }
 
 /// The weights of a rule, in rank order.
@@ -82,11 +81,11 @@ fn weights_of(game: &Game, rule: usize) -> [u64; limits::MEMBERS]
     ensures same { take (votes_of game.now).members result
         ≡ (rule_at (votes_of game.now).rules rule).weights }
 {
-    filled(
-        0,
-        game.members(),
-        |place| game.rule_weight(rule, game.member_at(place)),
-    )
+    let mut weights = [0; limits::MEMBERS];
+    for place in 0..game.members() {
+        weights[place] = game.rule_weight(rule, game.member_at(place));
+    }
+    weights
 }
 
 /// What the places from each one on weigh together.
@@ -95,11 +94,11 @@ pub(crate) fn rest_of(weights: &[u64; limits::MEMBERS], members: usize) -> [u64;
     ensures { sum (take members weights.now) < 2 ^ 64 → (q : ℕ) → q ≤ members →
         slice_index result q ≡ sum (drop q (take members weights.now)) }
 {
-    filled_back(
-        0,
-        members,
-        |place, behind: u64| behind.saturating_add(weights[place]),
-    )
+    let mut rest = [0u64; limits::SIZES];
+    for place in (0..members).rev() {
+        rest[place] = rest[place + 1].saturating_add(weights[place]);
+    }
+    rest
 }
 
 /// The rank mask of the members without weight.
@@ -134,7 +133,7 @@ pub(crate) fn all_win(lanes: &[Lane]) -> bool
 {
     match lanes {
         [lane] => lane.wins(),
-        _ => lanes.iter().all(|lane| lane.wins()),
+        _ => lanes.iter().all(Lane::wins),
     }
 }
 

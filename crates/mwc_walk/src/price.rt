@@ -4,7 +4,6 @@ ghost use Rattle.coalitions.specs.declared.limits.TheConstants.{MEMBERS};
 ghost use Rattle.council_game.specs.Votes.{weight};
 ghost use Rattle.mwc_walk.specs.Inner.Prices.{IsPrice, price_at};
 
-use crate::fill::filled_back;
 use council_game::limits;
 
 /// The cheapest of some members: what it weighs by one rule, `own`, and what by another, `other`. No
@@ -74,13 +73,10 @@ impl Prices {
             (weight (drop p (take members other.now)) c)
             (weight (drop p (take members own.now)) c) }
     {
-        let with = |place: usize, behind: Price| -> Price
-            requires { place < MEMBERS }
-            ensures { (f g d : ℕ) → IsPrice behind f g →
-                IsPrice result (d * slice_index other.entry.now place + f) (d * slice_index own.entry.now place + g) }
-        { behind.or(own[place], other[place]) };
-        Prices {
-            from: filled_back(Price { own: 0, other: 0 }, members, with),
+        let mut from = [Price { own: 0, other: 0 }; limits::SIZES];
+        for place in (0..members).rev() {
+            from[place] = from[place + 1].or(own[place], other[place]);
         }
+        Prices { from }
     }
 }

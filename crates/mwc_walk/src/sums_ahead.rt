@@ -6,7 +6,6 @@ ghost use Rattle.council_game.specs.Votes.{weight};
 ghost use Rattle.mwc_walk.specs.Inner.Covers.{Covers};
 ghost use Rattle.mwc_walk.specs.Inner.Ahead.{sums_at};
 
-use crate::fill::filled_back;
 use crate::intervals::Intervals;
 use council_game::limits;
 
@@ -25,15 +24,10 @@ impl SumsAhead {
         ensures sums { (p c : ℕ) → p ≤ members →
             Covers (sums_at result p) (weight (drop p (take members weights.now)) c) }
     {
-        let with = |place: usize, behind: Intervals| -> Intervals
-            requires { place < MEMBERS }
-            ensures few { result.count ≤ 8 }
-            ensures without { behind.count ≤ 8 → (y : ℕ) → Covers behind y → Covers result y }
-            ensures with { behind.count ≤ 8 → (y : ℕ) → slice_index weights.entry.now place + y < 2 ^ 64 →
-                Covers behind y → Covers result (slice_index weights.entry.now place + y) }
-        { behind.with(weights[place]) };
-        SumsAhead {
-            from: filled_back(Intervals::zero(), members, with),
+        let mut from = [Intervals::zero(); limits::SIZES];
+        for place in (0..members).rev() {
+            from[place] = from[place + 1].with(weights[place]);
         }
+        SumsAhead { from }
     }
 }

@@ -7,7 +7,6 @@ ghost use Rattle.mwc_walk.specs.Inner.Lanes.{lane_needs};
 ghost use Rattle.mwc_walk.specs.Inner.Places.{LanesStand};
 ghost use Rattle.mwc_walk.specs.Inner.Vetoes.{IsSplit, SplitsAre, BringsAre, vetoed_part};
 
-use crate::fill::filled;
 use crate::lane::{Lane, rest_of};
 use council_game::{Game, limits};
 
@@ -40,12 +39,12 @@ impl Vetoes {
         ensures { IsSplit (votes_of game.now) rule result }
     {
         let members = game.members();
-        let vetoed = filled(0, members, |place| vetoed_weight(lanes, rule, place));
-        let free = filled(
-            0,
-            members,
-            |place| lanes[rule].weights[place].saturating_sub(vetoed[place]),
-        );
+        let mut vetoed = [0; limits::MEMBERS];
+        let mut free = [0; limits::MEMBERS];
+        for place in 0..members {
+            vetoed[place] = vetoed_weight(lanes, rule, place);
+            free[place] = lanes[rule].weights[place].saturating_sub(vetoed[place]);
+        }
         Vetoes {
             brings: rest_of(&vetoed, members),
             free,
@@ -59,11 +58,11 @@ impl Vetoes {
         requires lanes { LanesStand (votes_of game.now) lanes.now }
         ensures { SplitsAre (votes_of game.now) result }
     {
-        filled(
-            Vetoes::none(),
-            lanes.len(),
-            |rule| Vetoes::of(game, lanes, rule),
-        )
+        let mut vetoes = [Vetoes::none(); limits::RULES];
+        for rule in 0..lanes.len() {
+            vetoes[rule] = Vetoes::of(game, lanes, rule);
+        }
+        vetoes
     }
 }
 

@@ -10,8 +10,8 @@ use Rattle.mwc_tally.specs.declared.pieces.GivenStretch.{GivenStretch}
 -- the thread counts at most `most` coalitions of this list, past its first `skip`
 pub record IsGivenStretch (g : GameView) (list : List ℕ) (skip most : ℕ) (given : GivenStretch)
     : Type 0 where
-  pub of_game : given.game.value ≡ g
-  pub of_list : joined given.pieces.value.now ≡ list
+  pub of_game : given.game.now ≡ g
+  pub of_list : joined given.pieces.now ≡ list
   pub past : given.skip ≡ skip
   pub at_most : given.most ≡ most
 

@@ -1,5 +1,4 @@
-use Rattle.mwc_walk.proofs.Imports.{arith}
-use Rattle.std.proofs.lemmas.List.{get_or-replicate}
+use Rattle.mwc_walk.proofs.Imports.{arith, get_or-replicate}
 use Rattle.mwc_walk.proofs.vetoes.Vetoes.none.Goals as goal
 
 pub returns : goal.returns
