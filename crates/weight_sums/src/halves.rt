@@ -22,18 +22,25 @@ struct Pairs {
 }
 
 impl Pairs {
+    /// The second half has these weights; its sets are put into a list, by way of a spare one.
     fn new(
         alloc: Global,
         first: &[Set],
-        second: &[Set],
+        back: &[u64],
+        short: bool,
         quota: u64,
         digits: u32,
+        second: &mut Vec<Set>,
+        spare: &mut Vec<Set>,
     ) -> Result<Pairs, Memory>
         requires first { IsHalfOf digits first.now }
-        requires second { IsHalfOf digits second.now }
+        requires within { length back.now ≤ digits + digits }
+        requires light { sum back.now ≤ TOTAL }
         requires digits { digits ≤ 10 }
-        ensures { IfOk result (ArePairs quota first.now second.now) }
+        ensures sets { IfOk result (λ _. AreSets short back.now second.new.items) }
+        ensures pairs { IfOk result (ArePairs quota first.now second.new.items) }
     {
+        fill(back, short, second, spare)?;
         Ok(Pairs {
             first: Groups::new(alloc, first, second, quota, digits)?,
             second: Groups::new(alloc, second, first, quota, digits)?,
@@ -121,13 +128,11 @@ impl Halves {
     {
         let (front, back) = weights.split_at(weights.len() / 2);
         let digits = ((back.len() + 1) / 2) as u32;
-        fill(front, false, first, spare)?;
-        fill(back, false, second, spare)?;
-        let won = Pairs::new(alloc, first, second, quota, digits)?;
-        fill(back, true, second, spare)?;
-        let shortened = Pairs::new(alloc, first, second, quota, digits)?;
         fill(front, true, first, spare)?;
         let own = Groups::new(alloc, first, &[NOBODY], quota, digits)?;
+        fill(front, false, first, spare)?;
+        let won = Pairs::new(alloc, first, back, false, quota, digits, second, spare)?;
+        let shortened = Pairs::new(alloc, first, back, true, quota, digits, second, spare)?;
         Ok(Halves {
             quota,
             won,
