@@ -52,15 +52,13 @@ impl Groups {
         requires digits { digits ≤ 10 }
         ensures { IfOk result (AreGroups quota list.now others.now) }
     {
-        let choices = 1 << digits;
-        let mut lows = Table::new(alloc, choices)?;
-        let mut highs = Table::new(alloc, choices)?;
+        let mut lows = Table::new(alloc, 1 << digits)?;
+        let mut highs = Table::new(alloc, 1 << digits)?;
         let mut fitting = Fitting::none(others);
         for set in list {
-            let size = set.size as usize;
             fitting.let_in(others, quota.saturating_sub(set.weight));
-            lows.add(low(set.members, digits), size, &fitting);
-            highs.add(high(set.members, digits), size, &fitting);
+            lows.add(low(set.members, digits), set.size as usize, &fitting);
+            highs.add(high(set.members, digits), set.size as usize, &fitting);
         }
         Ok(Groups {
             digits,

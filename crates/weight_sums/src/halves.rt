@@ -22,25 +22,18 @@ struct Pairs {
 }
 
 impl Pairs {
-    /// The second half has these weights; its sets are put into a list, by way of a spare one.
     fn new(
         alloc: Global,
         first: &[Set],
-        back: &[u64],
-        short: bool,
+        second: &[Set],
         quota: u64,
         digits: u32,
-        second: &mut Vec<Set>,
-        spare: &mut Vec<Set>,
     ) -> Result<Pairs, Memory>
         requires first { IsHalfOf digits first.now }
-        requires within { length back.now ≤ digits + digits }
-        requires light { sum back.now ≤ TOTAL }
+        requires second { IsHalfOf digits second.now }
         requires digits { digits ≤ 10 }
-        ensures sets { IfOk result (λ _. AreSets short back.now second.new.items) }
-        ensures pairs { IfOk result (ArePairs quota first.now second.new.items) }
+        ensures { IfOk result (ArePairs quota first.now second.now) }
     {
-        fill(back, short, second, spare)?;
         Ok(Pairs {
             first: Groups::new(alloc, first, second, quota, digits)?,
             second: Groups::new(alloc, second, first, quota, digits)?,
@@ -131,8 +124,10 @@ impl Halves {
         fill(front, true, first, spare)?;
         let own = Groups::new(alloc, first, &[NOBODY], quota, digits)?;
         fill(front, false, first, spare)?;
-        let won = Pairs::new(alloc, first, back, false, quota, digits, second, spare)?;
-        let shortened = Pairs::new(alloc, first, back, true, quota, digits, second, spare)?;
+        fill(back, false, second, spare)?;
+        let won = Pairs::new(alloc, first, second, quota, digits)?;
+        fill(back, true, second, spare)?;
+        let shortened = Pairs::new(alloc, first, second, quota, digits)?;
         Ok(Halves {
             quota,
             won,
