@@ -6,7 +6,7 @@ use Rattle.mwc_sums.proofs.Imports.{nat_tests, weighs, met, rules_beside, can_ve
 use Rattle.mwc_sums.proofs.Imports.{leb, ltb, List, [], ◌∷◌, length, sum-filter, has, weight, length-range_with_len, places-at, All-head}
 use Rattle.mwc_sums.proofs.Imports.{All-tail, sum_by-range-more, RuleView, sum-plus, get_or, wins, Votes, IsVotes, rule_at, length-map}
 use Rattle.mwc_sums.proofs.Imports.{filter-append, common_steps}
-use Rattle.std.proofs.Common.{fold, None, Ok, Err}
+use Rattle.std.proofs.Common.{None, Ok, Err}
 use Rattle.std.proofs.lemmas.List.{Folds.list_all_at, Folds.list_any_none, FromFn.fill_by_all, FromFn.get_or-map-range_with_len}
 use Rattle.std.proofs.lemmas.List.{Elements.All-cons, Elements.All-map, Sums.sum-map, Sums.get_or-le-sum_by}
 use Rattle.mwc_sums.specs.Vetoers.{number_of, rest_of, rule_for, IsVetoer}
@@ -33,11 +33,6 @@ alike-sum (w ∷ ws) e same =
 
 pub made-at : (h : ℕ → ℕ) (n i : ℕ) → i < n → get_or (map h (range_with_len 0 n)) i 0 ≡ h i
 made-at h n i lt = get_or-map-range_with_len h 0 n i i 0 lt (omega arith)
-
--- a number less each of a list
-pub less-all : (f : ℕ → ℕ) (q : ℕ) (xs : List ℕ) → fold (λ a x. a - f x) q xs ≡ q - sum_by f xs
-less-all f q [] = omega arith
-less-all f q (x ∷ xs) = grind (arith, sum_by-cons f x xs, less-all f (q - f x) xs)
 
 -- ---- the members that pass a test, without one who does not
 pub one-more : (f : ℕ → ℕ) (n : ℕ) → sum_by f (range_with_len 0 (suc n)) ≡ sum_by f (range_with_len 0 n) + f n

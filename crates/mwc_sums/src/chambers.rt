@@ -78,7 +78,7 @@ impl Statute {
         ensures names { IfOk result (λ c. c.game.names ≡ game.now.names) }
         ensures rules { IfOk result (λ c. c.game.rules ≡ self.now.rules) }
     {
-        let part = self.game(alloc, game)?;
+        let part = self.copy(alloc)?.game(alloc, game)?;
         let counts = self.count(alloc, &part)?;
         Ok(Counted::new(part, counts))
     }
