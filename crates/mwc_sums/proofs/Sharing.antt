@@ -6,7 +6,9 @@ use Rattle.mwc_sums.proofs.Imports.{filter, List, [], ◌∷◌, HasNoWeight, Ar
 use Rattle.mwc_sums.proofs.Imports.{arith, inl, inr, All, side}
 use Rattle.std.proofs.lemmas.List.Elements.{All-take}
 use Rattle.mwc_sums.specs.{Inner.Rules.AreOfChambers, Inner.Rules.beside_of, Inner.Rules.part_of, Statute.counted, Statute.left}
-use Rattle.mwc_sums.proofs.Counting.{filter-within, All-passing, any-at, any-of, missing}
+use Rattle.mwc_sums.proofs.Counting.{filter-within, All-passing, all-at, any-at, any-of, missing}
+use Rattle.mwc_sums.specs.Heads.{asks_of_those, gives_each}
+use Rattle.std.proofs.Common.{◌==◌}
 use Rattle.mwc_sums.proofs.VetoRules.{good-met, good-some, alike-sum}
 
 -- ---- who has weight in two rules
@@ -20,6 +22,16 @@ share-self : (n : ℕ) (r : RuleView) → IsFair n r → share n r r ≡ true
 share-self n r fair =
     let some = missing (λ i. ltb 0 (get_or r.weights i 0)) (λ i. false) n in
     grind (arith, nat_tests, some, share-at n, alike-sum r.weights 0, good-met r fair.quota, good-some r fair.quota)
+
+-- ---- a rule that gives the same to those with weight in another
+pub gives-at : (n each i : ℕ) (h r : RuleView) → i < n → gives_each n each h r ≡ true
+    → (get_or h.weights i 0 ≡ each) ⊎ ((get_or h.weights i 0 ≡ 0) × (get_or r.weights i 0 ≡ 0))
+gives-at n each i h r lt gives =
+    let same = all-at (λ i. (get_or h.weights i 0 == each) || ((get_or h.weights i 0 == 0) && (get_or r.weights i 0 == 0))) n i lt in
+    grind (arith, nat_tests, gives, same)
+
+pub asks-at : (n i : ℕ) (h r : RuleView) → i < n → gives_each n (get_or h.weights i 0) h r ≡ true → asks_of_those n h r ≡ true
+asks-at n i h r lt gives = any-at (λ k. gives_each n (get_or h.weights k 0) h r) n i lt gives
 
 -- ---- lists
 -- what passes a test stands among what passes it

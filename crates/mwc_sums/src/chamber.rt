@@ -8,7 +8,7 @@ use crate::statute::Statute;
 
 impl Statute {
     /// Whether a rule gives each member the weight `each` above 0, but nothing to some who have no weight in another rule either.
-    #[tactic(auto, using(crate::proofs::Counting::all_places))]
+    #[tactic(auto, using(std::proofs::lemmas::Bool::Decides::nat_tests, crate::proofs::Counting::all_more))]
     fn gives_each(&self, each: u64, heads: usize, weights: usize) -> bool
         requires heads { heads < length self.now.rules }
         requires weights { weights < length self.now.rules }
@@ -28,7 +28,7 @@ impl Statute {
     }
 
     /// A rule gives the same weight to some members, among them each with weight in another, and none to others.
-    #[tactic(auto, using(crate::proofs::Counting::any_place))]
+    #[tactic(auto, using(std::proofs::lemmas::Bool::Decides::nat_tests, crate::proofs::Counting::any_more))]
     fn asks_of_those(&self, heads: usize, weights: usize) -> bool
         requires heads { heads < length self.now.rules }
         requires weights { weights < length self.now.rules }

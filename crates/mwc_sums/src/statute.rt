@@ -105,7 +105,7 @@ impl Statute {
     }
 
     /// Whether a member has weight in both of two rules.
-    #[tactic(auto, using(crate::proofs::Counting::any_place))]
+    #[tactic(auto, using(std::proofs::lemmas::Bool::Decides::nat_tests, crate::proofs::Counting::any_more))]
     pub(crate) fn share(&self, first: usize, second: usize) -> bool
         requires first { first < length self.now.rules }
         requires second { second < length self.now.rules }
