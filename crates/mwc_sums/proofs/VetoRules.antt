@@ -138,7 +138,7 @@ pub only-memory : (g : GameView) (fault : GameFault) (rs : List RuleView) → Is
     → Answers (Err fault) (made_game None g.names rs) → fault ≡ Memory
 only-memory g fault rs is fair gives = grind (arith, made-of)
 
-pub ruleset remaking = (made-rules, only-memory, both_ways)
+pub ruleset remaking = (made-rules, only-memory)
 
 -- ---- what is left of rules beside vetoers
 good : (r : RuleView) → 0 < r.quota → r.quota ≤ sum r.weights → has_bad_quota r ≡ false

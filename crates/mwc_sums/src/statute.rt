@@ -1,6 +1,5 @@
 //! What a game consists of, and parts of that: rules over its members.
 ghost use Rattle.coalitions.specs.declared.limits.TheConstants.{RULES};
-ghost use Rattle.council_game.specs.Game.{IsGame};
 ghost use Rattle.council_game.specs.Rules.{rule_view, rule_views};
 ghost use Rattle.council_game.specs.Votes.{rule_at};
 ghost use Rattle.mwc_sums.specs.Chambers.{chamber_of, share};
@@ -174,7 +173,6 @@ impl Statute {
         requires members { self.members ≡ length game.now.names }
         requires some { 0 < length self.rules }
         requires few { length self.rules ≤ RULES }
-        ensures game { IfOk result (λ made. IsGame made) }
         ensures names { IfOk result (λ made. made.names ≡ game.now.names) }
         ensures title { IfOk result (λ made. made.title ≡ None) }
         ensures rules { IfOk result (λ made. made.rules ≡ self.rules) }
@@ -183,10 +181,7 @@ impl Statute {
         game.was_checked();
         let names = copied_names(alloc, game)?;
         match Game::with_rules(alloc, None, names, self.rules) {
-            Ok(made) => {
-                made.was_checked();
-                Ok(made)
-            }
+            Ok(made) => Ok(made),
             Err(fault) => {
                 prove!(matches!(fault, GameFault::Memory));
                 Err(Memory)
