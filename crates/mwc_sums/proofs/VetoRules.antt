@@ -5,11 +5,11 @@ use Rattle.mwc_sums.proofs.Imports.{IsFair, take, statute, sum-zero, AreRulesOf,
 use Rattle.mwc_sums.proofs.Imports.{nat_tests, weighs, met, rules_beside, can_veto, ◌^◌, map, filter, ap, refl, arith, inl, inr, All, sum}
 use Rattle.mwc_sums.proofs.Imports.{leb, ltb, List, [], ◌∷◌, length, sum-filter, has, weight, length-range_with_len, places-at, All-head}
 use Rattle.mwc_sums.proofs.Imports.{All-tail, sum_by-range-more, RuleView, sum-plus, get_or, wins, Votes, IsVotes, rule_at, length-map}
-use Rattle.mwc_sums.proofs.Imports.{filter-append, common_steps}
-use Rattle.std.proofs.Common.{None, Ok, Err}
+use Rattle.mwc_sums.proofs.Imports.{filter-append, common_steps, rest_of, rule_for}
 use Rattle.std.proofs.lemmas.List.{Folds.list_all_at, Folds.list_any_none, FromFn.fill_by_all, FromFn.get_or-map-range_with_len}
 use Rattle.std.proofs.lemmas.List.{Elements.All-cons, Elements.All-map, Sums.sum-map, Sums.get_or-le-sum_by}
-use Rattle.mwc_sums.specs.Vetoers.{number_of, rest_of, rule_for, IsVetoer}
+use Rattle.std.proofs.Common.{None, Ok, Err}
+use Rattle.mwc_sums.specs.Vetoers.{number_of, IsVetoer}
 use Rattle.mwc_sums.proofs.Counting.{missing, All-passing}
 use Rattle.std.proofs.lemmas.List.{get_or_past, nil_from_length, take_more, map-append}
 use Rattle.council_game.specs.{Game.has_bad_quota, Game.made_game, Game.first_weights, declared.fault.GameFault.TheVariants.Memory}

@@ -1,4 +1,4 @@
-use Rattle.mwc_sums.proofs.{Imports.arith, Imports.nat_tests, Imports.sum_by-range-more, Counting.pushed}
+use Rattle.mwc_sums.proofs.{Counting.pushed, Imports.arith, Imports.nat_tests, Imports.sum_by-range-more}
 use Rattle.mwc_sums.proofs.vetoers.rest_of_rule.Goals as goal
 
 pub loop-member-preserved : goal.loop-member-preserved

@@ -1,5 +1,4 @@
-use Rattle.mwc_sums.proofs.Imports.{◌≡◌, can_veto, rule_at}
-use Rattle.mwc_sums.specs.Vetoers.{rest_of}
+use Rattle.mwc_sums.proofs.Imports.{◌≡◌, can_veto, rule_at, rest_of}
 use Rattle.mwc_sums.proofs.vetoers.rest_of_rule.Given as goal
 
 abbrev pub invariant-loop-member : goal.invariant-loop-member

@@ -1,5 +1,4 @@
-use Rattle.mwc_sums.proofs.Imports.{◌≡◌, ◌≤◌, can_veto}
-use Rattle.mwc_sums.specs.Vetoers.{rule_for}
+use Rattle.mwc_sums.proofs.Imports.{◌≡◌, ◌≤◌, can_veto, rule_for}
 use Rattle.mwc_sums.proofs.vetoers.rule_for_vetoers.Given as goal
 
 abbrev pub invariant-loop-member : goal.invariant-loop-member

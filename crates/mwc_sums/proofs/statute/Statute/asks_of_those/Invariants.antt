@@ -1,5 +1,4 @@
-use Rattle.mwc_sums.proofs.Imports.{◌≡◌, false, get_or, list_any, range_with_len, rule_at}
-use Rattle.mwc_sums.specs.Heads.{gives_each}
+use Rattle.mwc_sums.proofs.Imports.{◌≡◌, false, get_or, list_any, range_with_len, rule_at, gives_each}
 use Rattle.mwc_sums.proofs.statute.Statute.asks_of_those.Given as goal
 
 abbrev pub invariant-loop-member : goal.invariant-loop-member

@@ -1,4 +1,4 @@
-use Rattle.mwc_sums.proofs.{Imports.arith, Imports.take_all}
+use Rattle.mwc_sums.proofs.Imports.{arith, take_all}
 use Rattle.mwc_sums.proofs.statute.Statute.copy.Goals as goal
 
 pub invariant_of-result : goal.invariant_of-result

@@ -1,5 +1,4 @@
-use Rattle.mwc_sums.proofs.Imports.{◌≡◌, true, rule_at}
-use Rattle.mwc_sums.specs.Heads.{gives_each}
+use Rattle.mwc_sums.proofs.Imports.{◌≡◌, true, rule_at, gives_each}
 use Rattle.mwc_sums.proofs.statute.Statute.gives_each.Given as goal
 
 abbrev pub invariant-loop-member : goal.invariant-loop-member
