@@ -1,8 +1,8 @@
 -- Members that can veto, what is left of the rules where all of them agree, and rules that a game can have.
-use Rattle.mwc_sums.proofs.Imports.{sum_by, range_with_len, sum_by-cons, sum-range, ◌≡◌, ◌∙◌, ℕ, suc, ◌+◌, ◌-◌, ◌*◌, ◌<◌, Bool, true, false}
-use Rattle.mwc_sums.proofs.Imports.{rule-is, true_from_ne_false, both_ways, length-map-range_with_len, All-from_recursion, GameView, IsGame}
+use Rattle.mwc_sums.proofs.Imports.{sum_by, range_with_len, sum_by-cons, sum-range, ◌≡◌, ◌∙◌, ℕ, suc, ◌+◌, ◌*◌, ◌<◌, Bool, true, false}
+use Rattle.mwc_sums.proofs.Imports.{rule-is, length-map-range_with_len, All-from_recursion, GameView, IsGame}
 use Rattle.mwc_sums.proofs.Imports.{IsFair, take, statute, sum-zero, AreRulesOf, length-filter_both, not, ◌++◌, ◌≤◌, cases_lt, le-ltb, cond}
-use Rattle.mwc_sums.proofs.Imports.{nat_tests, weighs, met, rules_beside, can_veto, ◌^◌, map, filter, ap, refl, arith, inl, inr, All, sum}
+use Rattle.mwc_sums.proofs.Imports.{nat_tests, weighs, met, rules_beside, can_veto, ◌^◌, map, filter, ap, refl, arith, All, sum}
 use Rattle.mwc_sums.proofs.Imports.{leb, ltb, List, [], ◌∷◌, length, sum-filter, has, weight, length-range_with_len, places-at, All-head}
 use Rattle.mwc_sums.proofs.Imports.{All-tail, sum_by-range-more, RuleView, sum-plus, get_or, wins, Votes, IsVotes, rule_at, length-map}
 use Rattle.mwc_sums.proofs.Imports.{filter-append, common_steps, rest_of, rule_for}
