@@ -2,9 +2,11 @@
 use Rattle.mwc_sums.proofs.Imports.{list_all, list_any, range_with_len, nat_tests, length-range_with_len, All-filter, AllPass-from_list_all}
 use Rattle.mwc_sums.proofs.Imports.{◌∙◌, ◌&&◌, not, ◌⊎◌, ℕ, ◌<◌, Bool, true, false, All, List, filter, ap, arith, length-map, places-at}
 use Rattle.mwc_sums.proofs.Imports.{cond, [], ◌∷◌, map, refl, All-head, All-tail, suc, ◌+◌, ◌*◌, ◌^◌, ◌++◌, length, get_or, ◌≡◌}
-use Rattle.mwc_sums.proofs.Imports.{filter-append, filter-both, down, down-below}
-use Rattle.std.proofs.lemmas.{Bool.cases_Bool, List.Elements.filter_passes, List.Folds.Any-from_list_any, List.Folds.list_any_at}
+use Rattle.mwc_sums.proofs.Imports.{filter-append, filter-both, down, down-below, ◌||◌}
+use Rattle.std.proofs.lemmas.{Bool.cases_Bool, List.Elements.filter_passes, List.FromFn.map-range_with_len_more}
 use Rattle.std.proofs.Common.{length-append}
+use Rattle.std.proofs.lemmas.List.Folds.{Any-from_list_any, list_any_at, list_any-append, list_all-append}
+use Rattle.coalitions.proofs.Shared.Ranges.{range-more}
 use Rattle.mwc_sums.proofs.Completing.{double-pow, down-two}
 
 pub any-at : (t : ℕ → Bool) (n i : ℕ) → i < n → t i ≡ true → list_any t (range_with_len 0 n) ≡ true
@@ -17,6 +19,17 @@ any-of t n some =
 
 pub all-at : (t : ℕ → Bool) (n i : ℕ) → i < n → list_all t (range_with_len 0 n) ≡ true → t i ≡ true
 all-at t n i lt all = grind (arith, length-range_with_len 0 n, places-at n i 0 lt, AllPass-from_list_all t (range_with_len 0 n) all i 0)
+
+-- one place more
+pub any_more : (t : ℕ → Bool) (n : ℕ) → list_any t (range_with_len 0 (n + 1)) ≡ (list_any t (range_with_len 0 n) || t n)
+any_more t n = grind (arith, nat_tests, range-more 0 n, list_any-append)
+
+pub all_more : (t : ℕ → Bool) (n : ℕ) → list_all t (range_with_len 0 (n + 1)) ≡ (list_all t (range_with_len 0 n) && t n)
+all_more t n = grind (arith, nat_tests, range-more 0 n, list_all-append)
+
+pub pushed : (f : ℕ → ℕ) (n : ℕ) {x : ℕ} {front all : List ℕ} → front ≡ map f (range_with_len 0 n) → x ≡ f n → all ≡ front ++ x ∷ []
+    → all ≡ map f (range_with_len 0 (n + 1))
+pushed f n is own more = grind (arith, map-range_with_len_more f 0 n n)
 
 -- either one who passes the first test fails the second, or none does
 pub missing : (veto f : ℕ → Bool) (n : ℕ) → ((i : ℕ) × (i < n) × (veto i ≡ true) × (f i ≡ false)) ⊎ ((i : ℕ) → i < n → veto i ≡ true → f i ≡ true)

@@ -153,3 +153,5 @@ module _ (g a b : GameView) (is_g : IsGame g) (is_a : IsGame a) (is_b : IsGame b
   each-other i s j lt within = omega (arith, each-more i s j lt within)
 
 pub ruleset pairs = (all-pairs, pairs-more, sum_by-range-more)
+
+pub ruleset places = (each-more, each-other, each-pairs, sum_by-range-more)

@@ -1,15 +1,15 @@
 -- Members that can veto, what is left of the rules where all of them agree, and rules that a game can have.
-use Rattle.mwc_sums.proofs.Imports.{sum_by, range_with_len, sum_by-cons, sum-range, ◌≡◌, ◌∙◌, ℕ, suc, ◌+◌, ◌-◌, ◌*◌, ◌<◌, Bool, true, false}
-use Rattle.mwc_sums.proofs.Imports.{rule-is, true_from_ne_false, both_ways, length-map-range_with_len, All-from_recursion, GameView, IsGame}
+use Rattle.mwc_sums.proofs.Imports.{sum_by, range_with_len, sum_by-cons, sum-range, ◌≡◌, ◌∙◌, ℕ, suc, ◌+◌, ◌*◌, ◌<◌, Bool, true, false}
+use Rattle.mwc_sums.proofs.Imports.{rule-is, length-map-range_with_len, All-from_recursion, GameView, IsGame}
 use Rattle.mwc_sums.proofs.Imports.{IsFair, take, statute, sum-zero, AreRulesOf, length-filter_both, not, ◌++◌, ◌≤◌, cases_lt, le-ltb, cond}
-use Rattle.mwc_sums.proofs.Imports.{nat_tests, weighs, met, rules_beside, can_veto, ◌^◌, map, filter, ap, refl, arith, inl, inr, All, sum}
+use Rattle.mwc_sums.proofs.Imports.{nat_tests, weighs, met, rules_beside, can_veto, ◌^◌, map, filter, ap, refl, arith, All, sum}
 use Rattle.mwc_sums.proofs.Imports.{leb, ltb, List, [], ◌∷◌, length, sum-filter, has, weight, length-range_with_len, places-at, All-head}
 use Rattle.mwc_sums.proofs.Imports.{All-tail, sum_by-range-more, RuleView, sum-plus, get_or, wins, Votes, IsVotes, rule_at, length-map}
-use Rattle.mwc_sums.proofs.Imports.{filter-append, common_steps}
-use Rattle.std.proofs.Common.{fold, None, Ok, Err}
+use Rattle.mwc_sums.proofs.Imports.{filter-append, common_steps, rest_of, rule_for}
 use Rattle.std.proofs.lemmas.List.{Folds.list_all_at, Folds.list_any_none, FromFn.fill_by_all, FromFn.get_or-map-range_with_len}
 use Rattle.std.proofs.lemmas.List.{Elements.All-cons, Elements.All-map, Sums.sum-map, Sums.get_or-le-sum_by}
-use Rattle.mwc_sums.specs.Vetoers.{number_of, rest_of, rule_for, IsVetoer}
+use Rattle.std.proofs.Common.{None, Ok, Err}
+use Rattle.mwc_sums.specs.Vetoers.{number_of, IsVetoer}
 use Rattle.mwc_sums.proofs.Counting.{missing, All-passing}
 use Rattle.std.proofs.lemmas.List.{get_or_past, nil_from_length, take_more, map-append}
 use Rattle.council_game.specs.{Game.has_bad_quota, Game.made_game, Game.first_weights, declared.fault.GameFault.TheVariants.Memory}
@@ -33,11 +33,6 @@ alike-sum (w ∷ ws) e same =
 
 pub made-at : (h : ℕ → ℕ) (n i : ℕ) → i < n → get_or (map h (range_with_len 0 n)) i 0 ≡ h i
 made-at h n i lt = get_or-map-range_with_len h 0 n i i 0 lt (omega arith)
-
--- a number less each of a list
-pub less-all : (f : ℕ → ℕ) (q : ℕ) (xs : List ℕ) → fold (λ a x. a - f x) q xs ≡ q - sum_by f xs
-less-all f q [] = omega arith
-less-all f q (x ∷ xs) = grind (arith, sum_by-cons f x xs, less-all f (q - f x) xs)
 
 -- ---- the members that pass a test, without one who does not
 pub one-more : (f : ℕ → ℕ) (n : ℕ) → sum_by f (range_with_len 0 (suc n)) ≡ sum_by f (range_with_len 0 n) + f n
@@ -143,7 +138,7 @@ pub only-memory : (g : GameView) (fault : GameFault) (rs : List RuleView) → Is
     → Answers (Err fault) (made_game None g.names rs) → fault ≡ Memory
 only-memory g fault rs is fair gives = grind (arith, made-of)
 
-pub ruleset remaking = (made-rules, only-memory, both_ways)
+pub ruleset remaking = (made-rules, only-memory)
 
 -- ---- what is left of rules beside vetoers
 good : (r : RuleView) → 0 < r.quota → r.quota ≤ sum r.weights → has_bad_quota r ≡ false

@@ -39,7 +39,6 @@ impl Statute {
         ensures names { IfOk result (λ c. c.game.names ≡ game.now.names) }
         ensures rules { IfOk result (λ c. c.game.rules ≡ beside_of true self.now.members self.now.rules 0) }
     {
-        game.was_checked();
         self.rules_are_fair();
         let chamber = self.beside(alloc, 0, true)?;
         let (weights, seats) = chamber.seats().unwrap();
@@ -78,7 +77,7 @@ impl Statute {
         ensures names { IfOk result (λ c. c.game.names ≡ game.now.names) }
         ensures rules { IfOk result (λ c. c.game.rules ≡ self.now.rules) }
     {
-        let part = self.game(alloc, game)?;
+        let part = self.copy(alloc)?.game(alloc, game)?;
         let counts = self.count(alloc, &part)?;
         Ok(Counted::new(part, counts))
     }

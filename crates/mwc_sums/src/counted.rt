@@ -75,6 +75,7 @@ fn pairs_of_size(game: &Game, first: &Counted, second: &Counted, size: usize) ->
 }
 
 /// How many of those contain a place: its member is in the one or in the other.
+#[tactic(auto, using(crate::proofs::Pairs::places))]
 fn pairs_of_place(game: &Game, first: &Counted, second: &Counted, place: usize, size: usize) -> u64
     requires place { place < length game.now.names }
     requires size { size ≤ MEMBERS }

@@ -20,7 +20,6 @@ mod count;
 mod counted;
 pub mod laws;
 mod parts;
-mod remade;
 mod seats;
 mod statute;
 mod vetoers;

@@ -58,8 +58,8 @@ fn parts_of(alloc: Global, game: &Game, whole: &Statute) -> Result<Option<Parts>
     if counted.rules() == 0 || others.rules() == 0 {
         return Ok(None);
     }
-    let counted = counted.counted(alloc, game)?;
     let left = others.game(alloc, game)?;
+    let counted = counted.counted(alloc, game)?;
     Ok(Some(Parts { counted, left }))
 }
 

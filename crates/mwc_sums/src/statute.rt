@@ -1,17 +1,15 @@
 //! What a game consists of, and parts of that: rules over its members.
 ghost use Rattle.coalitions.specs.declared.limits.TheConstants.{RULES};
-ghost use Rattle.council_game.specs.Game.{IsGame};
 ghost use Rattle.council_game.specs.Rules.{rule_view, rule_views};
 ghost use Rattle.council_game.specs.Votes.{rule_at};
 ghost use Rattle.mwc_sums.specs.Chambers.{chamber_of, share};
 ghost use Rattle.mwc_sums.specs.Inner.Fair.{IsFair};
 ghost use Rattle.mwc_sums.specs.Inner.Rules.{AreRulesOf, beside_of, part_of};
 ghost use Rattle.mwc_sums.specs.Statute.{is_counted, statute};
-ghost use Rattle.std.specs.Prelude.{◌≡◌, ◌+◌, ◌<◌, ◌≤◌, None, All, filter, not, if◌then◌else◌, IfOk, length, slice_index};
+ghost use Rattle.std.specs.Prelude.{◌≡◌, ◌+◌, ◌<◌, ◌≤◌, None, All, filter, not, if◌then◌else◌, IfOk, length, map, slice_index, string_bytes};
 
-use crate::remade::remade;
 use crate::vetoers::rules_beside_vetoers;
-use council_game::{Game, Memory, Rule};
+use council_game::{Game, GameFault, Memory, Rule};
 use std::alloc::Global;
 use std::marker::Model;
 
@@ -33,6 +31,18 @@ impl Model for Statute {
     ghost view = { λ s. record { members = s.members; rules = rule_views s.rules.items } };
 
     ghost invariant = { λ s. All (IsFair s.members) (rule_views s.rules.items) };
+}
+
+/// The names of a game's members.
+fn copied_names(alloc: Global, game: &Game) -> Result<Vec<String>, Memory>
+    ensures { IfOk result (λ names. map string_bytes names.items ≡ game.now.names) }
+{
+    let members = game.members();
+    let mut names = Vec::with_capacity(alloc, members)?;
+    for member in 0..members {
+        names.push(String::from_str(alloc, game.name(member))?)?;
+    }
+    Ok(names)
 }
 
 impl Statute {
@@ -82,7 +92,7 @@ impl Statute {
     }
 
     /// One of the rules.
-    fn copied(&self, alloc: Global, rule: usize) -> Result<Rule, Memory>
+    fn copied(&self, rule: usize) -> Result<Rule, Memory>
         requires { rule < length self.now.rules }
         ensures { IfOk result (λ r. rule_view r ≡ rule_at self.now.rules rule) }
     {
@@ -94,14 +104,19 @@ impl Statute {
     }
 
     /// Whether a member has weight in both of two rules.
+    #[tactic(auto, using(std::proofs::lemmas::Bool::Decides::nat_tests, crate::proofs::Counting::any_more))]
     pub(crate) fn share(&self, first: usize, second: usize) -> bool
         requires first { first < length self.now.rules }
         requires second { second < length self.now.rules }
         ensures { result ≡ share self.now.members
             (rule_at self.now.rules first) (rule_at self.now.rules second) }
     {
-        (0..self.members()).any(|member| self.weight(first, member) > 0
-            && self.weight(second, member) > 0)
+        for member in 0..self.members() {
+            if self.weight(first, member) > 0 && self.weight(second, member) > 0 {
+                return true;
+            }
+        }
+        false
     }
 
     /// The rules that share a member with one of them, or the others.
@@ -116,10 +131,10 @@ impl Statute {
         ensures rules { IfOk result (λ s. s.rules ≡ beside_of sharing self.now.members self.now.rules rule) }
     {
         let members = self.members();
-        let mut rules = Vec::with_capacity(alloc, self.rules())?;
+        let mut rules = Vec::new(alloc);
         for other in 0..self.rules() {
             if self.share(rule, other) == sharing {
-                rules.push(self.copied(alloc, other)?)?;
+                rules.push(self.copied(other)?)?;
             }
         }
         Ok(Statute { members, rules })
@@ -131,37 +146,46 @@ impl Statute {
         ensures rules { IfOk result (λ s. s.rules ≡ part_of counted self.now.members self.now.rules) }
     {
         let members = self.members();
-        let mut rules = Vec::with_capacity(alloc, self.rules())?;
+        let mut rules = Vec::new(alloc);
         for rule in 0..self.rules() {
             if self.is_counted(alloc, rule)? == counted {
-                rules.push(self.copied(alloc, rule)?)?;
+                rules.push(self.copied(rule)?)?;
             }
         }
         Ok(Statute { members, rules })
     }
 
-    /// All of the rules.
-    fn copies(&self, alloc: Global) -> Result<Vec<Rule>, Memory>
-        ensures { IfOk result (λ rules. rule_views rules.items ≡ self.now.rules) }
+    /// The same rules once more.
+    pub(crate) fn copy(&self, alloc: Global) -> Result<Statute, Memory>
+        ensures { IfOk result (λ s. s ≡ self.now) }
     {
-        let mut rules = Vec::with_capacity(alloc, self.rules())?;
+        let members = self.members();
+        let mut rules = Vec::new(alloc);
         for rule in 0..self.rules() {
-            rules.push(self.copied(alloc, rule)?)?;
+            rules.push(self.copied(rule)?)?;
         }
-        Ok(rules)
+        Ok(Statute { members, rules })
     }
 
-    /// The game of these rules, with the members of another.
-    pub(crate) fn game(&self, alloc: Global, game: &Game) -> Result<Game, Memory>
-        requires members { self.now.members ≡ length game.now.names }
-        requires some { 0 < length self.now.rules }
-        requires few { length self.now.rules ≤ RULES }
-        ensures game { IfOk result (λ made. IsGame made) }
+    /// The game of these rules, with the members of another and no title. Its places are ranked by the first of them.
+    #[tactic(auto, using(crate::proofs::VetoRules::remaking))]
+    pub(crate) fn game(self, alloc: Global, game: &Game) -> Result<Game, Memory>
+        requires members { self.members ≡ length game.now.names }
+        requires some { 0 < length self.rules }
+        requires few { length self.rules ≤ RULES }
         ensures names { IfOk result (λ made. made.names ≡ game.now.names) }
         ensures title { IfOk result (λ made. made.title ≡ None) }
-        ensures rules { IfOk result (λ made. made.rules ≡ self.now.rules) }
+        ensures rules { IfOk result (λ made. made.rules ≡ self.rules) }
     {
         self.rules_are_fair();
-        remade(alloc, game, self.copies(alloc)?)
+        game.was_checked();
+        let names = copied_names(alloc, game)?;
+        match Game::with_rules(alloc, None, names, self.rules) {
+            Ok(made) => Ok(made),
+            Err(fault) => {
+                prove!(matches!(fault, GameFault::Memory));
+                Err(Memory)
+            }
+        }
     }
 }

@@ -3,10 +3,8 @@ ghost use Rattle.council_game.specs.Rules.{rule_view, rule_views};
 ghost use Rattle.council_game.specs.Votes.{rule_at};
 ghost use Rattle.mwc_sums.specs.Statute.{statute};
 ghost use Rattle.mwc_sums.specs.Vetoers.{can_veto, rest_of, rule_for};
-ghost use Rattle.std.specs.List.{range_with_len};
-ghost use Rattle.std.specs.Prelude.{count_by, fold, ◌-◌, ◌≡◌, ◌<◌, ◌∷◌, ◌++◌, [], if◌then◌else◌, nat_lt, filter, IfOk, length, slice_index};
+ghost use Rattle.std.specs.Prelude.{◌≡◌, ◌<◌, ◌∷◌, ◌++◌, [], nat_lt, filter, IfOk, length};
 
-use coalitions::listed;
 use council_game::{Game, Memory, Rule};
 use std::alloc::Global;
 
@@ -26,113 +24,50 @@ fn can_veto(game: &Game, member: usize) -> bool
     false
 }
 
-/// 1 for a member that can veto, else 0.
-fn vote_of(game: &Game, member: usize) -> u64
-    requires { member < length game.now.names }
-    ensures { result ≡ (if can_veto game.now.rules member then 1 else 0) }
-{
-    if can_veto(game, member) { 1 } else { 0 }
-}
-
-/// The weight of a member that can veto, else 0.
-fn agreed_weight(game: &Game, rule: usize, member: usize) -> u64
-    requires rule { rule < length game.now.rules }
-    requires member { member < length game.now.names }
-    ensures { result ≡ (if can_veto game.now.rules member
-        then slice_index (rule_at game.now.rules rule).weights member else 0) }
-{
-    if can_veto(game, member) {
-        game.rule_weight(rule, member)
-    } else {
-        0
-    }
-}
-
-/// The weight of a member that can not veto, else 0.
-fn other_weight(game: &Game, rule: usize, member: usize) -> u64
-    requires rule { rule < length game.now.rules }
-    requires member { member < length game.now.names }
-    ensures { result ≡ (if can_veto game.now.rules member
-        then 0 else slice_index (rule_at game.now.rules rule).weights member) }
-{
-    if can_veto(game, member) {
-        0
-    } else {
-        game.rule_weight(rule, member)
-    }
-}
-
-/// 1 for each member that can veto, and 0 for each other.
-fn votes(alloc: Global, game: &Game) -> Result<Vec<u64>, Memory>
-    ensures { IfOk result (λ v. v.items ≡ (rule_for (length game.now.names) (can_veto game.now.rules)).weights) }
-{
-    Ok(listed(alloc, game.members(), |member| vote_of(game, member))?)
-}
-
-/// How many members can veto.
-fn number_of_vetoers(game: &Game) -> usize
-    ensures { result ≡ count_by (can_veto game.now.rules) (range_with_len 0 (length game.now.names)) }
-{
-    (0..game.members())
-        .filter(|member| can_veto(game, *member))
-        .count()
-}
-
 /// The rule that asks for each member that can veto.
 fn rule_for_vetoers(alloc: Global, game: &Game) -> Result<Rule, Memory>
     ensures { IfOk result (λ r. rule_view r ≡ rule_for (length game.now.names) (can_veto game.now.rules)) }
 {
-    let weights = votes(alloc, game)?;
-    let quota = number_of_vetoers(game) as u64;
+    let members = game.members();
+    let mut quota = 0;
+    let mut weights = Vec::with_capacity(alloc, members)?;
+    for member in 0..members {
+        let vote = if can_veto(game, member) { 1 } else { 0 };
+        quota += vote;
+        weights.push(vote)?;
+    }
     Ok(Rule { quota, weights })
 }
 
-/// The weight of each member that can not veto, and 0 for each other.
-fn other_weights(alloc: Global, game: &Game, rule: usize) -> Result<Vec<u64>, Memory>
-    requires { rule < length game.now.rules }
-    ensures { IfOk result (λ v. v.items
-        ≡ (rest_of (length game.now.names) (can_veto game.now.rules) (rule_at game.now.rules rule)).weights) }
-{
-    Ok(listed(
-        alloc,
-        game.members(),
-        |member| other_weight(game, rule, member),
-    )?)
-}
-
-/// What a rule asks of the others, where all that can veto agree.
-fn rest_of_quota(game: &Game, rule: usize) -> u64
-    requires { rule < length game.now.rules }
-    ensures { result ≡ fold (λ rest i. rest - (if can_veto game.now.rules i
-        then slice_index (rule_at game.now.rules rule).weights i else 0))
-        (rule_at game.now.rules rule).quota (range_with_len 0 (length game.now.names)) }
-{
-    (0..game.members()).fold(game.rule_quota(rule), |rest, member| {
-        rest.saturating_sub(agreed_weight(game, rule, member))
-    })
-}
-
-/// What is left of a rule where all that can veto agree.
+/// What is left of a rule where all that can veto agree: what it asks of the others, and their weights.
 fn rest_of_rule(alloc: Global, game: &Game, rule: usize) -> Result<Rule, Memory>
     requires { rule < length game.now.rules }
     ensures { IfOk result (λ r. rule_view r
         ≡ rest_of (length game.now.names) (can_veto game.now.rules) (rule_at game.now.rules rule)) }
 {
-    let weights = other_weights(alloc, game, rule)?;
-    let quota = rest_of_quota(game, rule);
+    let members = game.members();
+    let mut quota = game.rule_quota(rule);
+    let mut weights = Vec::with_capacity(alloc, members)?;
+    for member in 0..members {
+        let mut weight = game.rule_weight(rule, member);
+        if can_veto(game, member) {
+            quota = quota.saturating_sub(weight);
+            weight = 0;
+        }
+        weights.push(weight)?;
+    }
     Ok(Rule { quota, weights })
 }
 
-/// Some rules, and one more where it asks for something.
-fn with_rule(rules: Vec<Rule>, rule: Rule) -> Result<Vec<Rule>, Memory>
-    ensures { IfOk result (λ all. rule_views all.items
-        ≡ rule_views rules.items ++ filter (λ r. nat_lt 0 r.quota) (rule_view rule ∷ [])) }
+/// Puts a rule behind others where it asks for something.
+fn put(rules: &mut Vec<Rule>, rule: Rule) -> Result<(), Memory>
+    ensures { IfOk result (λ _. rule_views rules.new.items
+        ≡ rule_views rules.old.items ++ filter (λ r. nat_lt 0 r.quota) (rule_view rule ∷ [])) }
 {
-    let mut all = rules;
     if rule.quota > 0 {
-        all.push(rule)?;
+        rules.push(rule)?;
     }
-    Ok(all)
+    Ok(())
 }
 
 /// The rule that asks for all that can veto, and what the rules ask of the others where these agree; those that ask for
@@ -141,10 +76,10 @@ fn with_rule(rules: Vec<Rule>, rule: Rule) -> Result<Vec<Rule>, Memory>
 pub(crate) fn rules_beside_vetoers(alloc: Global, game: &Game) -> Result<Vec<Rule>, Memory>
     ensures { IfOk result (λ rules. rule_views rules.items ≡ statute game.now) }
 {
-    let vetoers = rule_for_vetoers(alloc, game)?;
-    let mut rules = with_rule(Vec::new(alloc), vetoers)?;
+    let mut rules = Vec::new(alloc);
+    put(&mut rules, rule_for_vetoers(alloc, game)?)?;
     for rule in 0..game.rules() {
-        rules = with_rule(rules, rest_of_rule(alloc, game, rule)?)?;
+        put(&mut rules, rest_of_rule(alloc, game, rule)?)?;
     }
     Ok(rules)
 }

@@ -1,7 +1,7 @@
 -- The tallies of a member's coalitions, as the passes give them.
-use Rattle.weight_sums.proofs.Imports.{sum_by-cons, endings, left_out, Prefixes, weigh, AreOfPrefixes, ◌≡◌, ℕ, zero, suc, arith, sum, pow_mono}
-use Rattle.weight_sums.proofs.Imports.{◌+◌, ◌<◌, ◌≤◌, List, [], ◌∷◌, length, get_or, set, get_or-set_same, get_or-set_other, ap, GoesOn}
-use Rattle.weight_sums.proofs.Imports.{come_to, no_sizes}
+use Rattle.weight_sums.proofs.Imports.{pow_mono, ◌+◌, ◌<◌, ◌≤◌, List, [], ◌∷◌, length, get_or, set, get_or-set_same, get_or-set_other, ap}
+use Rattle.weight_sums.proofs.Imports.{sum_by-cons, endings, left_out, Prefixes, weigh, AreOfPrefixes, ◌≡◌, ℕ, zero, suc, arith, sum}
+use Rattle.weight_sums.proofs.Imports.{GoesOn, come_to, no_sizes}
 use Rattle.weight_sums.specs.{Inner.Rows.IsOfTheRest, declared.by_size.BySize.BySize}
 use Rattle.weight_sums.proofs.EndingLaws.{length-left_out}
 

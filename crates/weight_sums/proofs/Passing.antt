@@ -1,7 +1,7 @@
 -- A row of prefixes, one member further.
 use Rattle.weight_sums.proofs.Imports.{◌+◌, ◌-◌, ◌*◌, ◌<◌, ◌≤◌, ◌^◌, List, [], ◌∷◌, length, take, get_or, ap, refl, arith, sum, nat_tests}
-use Rattle.weight_sums.proofs.Imports.{pow_pos, common_steps, Prefixes, fill, taken, endings, weigh, prefixes, AreOfPrefixes, GoesOn, ◌≡◌, ℕ}
-use Rattle.weight_sums.proofs.Imports.{sum_by-cons, mul-le-mul_left, mul-le-mul_right, sum_by-take-le, AreTaken, come_to}
+use Rattle.weight_sums.proofs.Imports.{pow_pos, common_steps, Prefixes, fill, taken, endings, weigh, prefixes, AreOfPrefixes, GoesOn, ◌≡◌}
+use Rattle.weight_sums.proofs.Imports.{ℕ, sum_by-cons, mul-le-mul_left, mul-le-mul_right, sum_by-take-le, AreTaken, come_to}
 use Rattle.std.proofs.lemmas.List.Elements.{All-take}
 use Rattle.weight_sums.specs.Inner.Rows.{AreMerged}
 use Rattle.weight_sums.proofs.Taking.{others-few, weigh-times}

@@ -10,7 +10,7 @@ use std::alloc::Global;
 /// The row for one member more: each number and the one before it, added (Pascal 1654).
 #[tactic(auto, using(std::proofs::lemmas::Grind::common_steps, crate::proofs::Taking::chosen))]
 fn next_row(row: &[u64; limits::SIZES], of: usize) -> [u64; limits::SIZES]
-    requires few { of < MEMBERS }
+    requires few { of ≤ MEMBERS }
     requires row { (k : ℕ) → k ≤ MEMBERS → slice_index row.now k ≡ choose of k }
     ensures { (k : ℕ) → k ≤ MEMBERS → slice_index result k ≡ choose (of + 1) k }
 {
@@ -28,10 +28,9 @@ fn choices(alloc: Global) -> Result<Vec<[u64; limits::SIZES]>, Memory>
     let mut rows = Vec::with_capacity(alloc, limits::SIZES)?;
     let mut row = [0; limits::SIZES];
     row[0] = 1;
-    rows.push(row)?;
-    for count in 1..limits::SIZES {
-        row = next_row(&row, count - 1);
+    for count in 0..limits::SIZES {
         rows.push(row)?;
+        row = next_row(&row, count);
     }
     Ok(rows)
 }

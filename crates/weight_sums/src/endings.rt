@@ -3,34 +3,10 @@ ghost use Rattle.coalitions.specs.declared.limits.TheConstants.{MEMBERS, TOTAL};
 ghost use Rattle.std.specs.Prelude.{◌≡◌, ◌≤◌, ◌<◌, IfOk, length, sum};
 ghost use Rattle.weight_sums.specs.Endings.{AreAllEndings};
 
-use crate::choices::Heads;
 use crate::halves::by_halves;
 use crate::tallies::{Tallies, by_sums};
 use coalitions::Memory;
 use std::alloc::Global;
-
-/// What weights come to together.
-fn total_of(weights: &[u64]) -> u64
-    requires { sum weights.now ≤ TOTAL }
-    ensures { result ≡ sum weights.now }
-{
-    weights.iter().sum()
-}
-
-/// The tallies of these coalitions, by sums or by halves.
-#[tactic(auto, using(crate::proofs::EndingLaws::fewer))]
-fn tallies_of(alloc: Global, weights: &[u64], quota: u64, asked: &Heads) -> Result<Tallies, Memory>
-    requires few { length weights.now ≤ MEMBERS }
-    requires light { sum weights.now ≤ TOTAL }
-    requires some { 0 < quota }
-    ensures { IfOk result (AreAllEndings weights.now asked.now.asked quota) }
-{
-    let total = total_of(weights);
-    if let Some(tallies) = by_sums(alloc, weights, quota, total, asked)? {
-        return Ok(tallies);
-    }
-    by_halves(alloc, weights, quota, asked.asked)
-}
 
 /// How many coalitions members with these weights lead to from a quota, by size: of all, and by place of those that contain
 /// it; on the heap. Each meets the quota and loses it without its last member, and has more members than the heads
@@ -44,6 +20,7 @@ fn tallies_of(alloc: Global, weights: &[u64], quota: u64, asked: &Heads) -> Resu
 ///
 /// `Memory` where a growth was refused.
 #[inline(never)]
+#[tactic(auto, using(crate::proofs::EndingLaws::fewer))]
 pub fn count_endings(
     alloc: Global,
     weights: &[u64],
@@ -56,7 +33,9 @@ pub fn count_endings(
     requires heads { heads ≤ MEMBERS }
     ensures { IfOk result (λ t. AreAllEndings weights.now heads quota t.value) }
 {
-    let asked = Heads::new(alloc, heads)?;
-    let tallies = tallies_of(alloc, weights, quota, &asked)?;
+    let tallies = match by_sums(alloc, weights, quota, heads)? {
+        Some(tallies) => tallies,
+        None => by_halves(alloc, weights, quota, heads)?,
+    };
     Ok(Box::new(alloc, tallies)?)
 }

@@ -1,5 +1,5 @@
 //! Tallies of the coalitions that complete a quota.
-ghost use Rattle.coalitions.specs.declared.limits.TheConstants.{MEMBERS, SIZES};
+ghost use Rattle.coalitions.specs.declared.limits.TheConstants.{MEMBERS, SIZES, TOTAL};
 ghost use Rattle.weight_sums.specs.Endings.{AreAllEndings, AreEndings, AreEndingsWith, endings, left_out};
 ghost use Rattle.weight_sums.specs.Endings.{no_sizes};
 ghost use Rattle.weight_sums.specs.Inner.Rows.{AreOfPrefixes, IsOfTheRest, come_to};
@@ -16,25 +16,6 @@ use std::alloc::Global;
 pub struct Tallies {
     pub all: BySize,
     pub each: [BySize; limits::MEMBERS],
-}
-
-/// The tally of all coalitions that complete a quota; none where there is no room.
-fn tally_all(
-    rows: &mut Rows,
-    weights: &[u64],
-    quota: u64,
-    total: u64,
-    heads: &Heads,
-) -> Result<Option<BySize>, Memory>
-    requires few { length weights.now ≤ MEMBERS }
-    requires total { total ≡ sum weights.now }
-    ensures { IfOk result (λ tally. IfSome tally (AreEndings weights.now heads.now.asked quota)) }
-{
-    rows.begin(quota, weights.len())?;
-    if !rows.finish(weights, total, heads)? {
-        return Ok(None);
-    }
-    Ok(Some(BySize::of(&rows.done)))
 }
 
 /// What a tally has above another.
@@ -93,33 +74,6 @@ fn tally_from(
     Ok(full)
 }
 
-/// The tallies, by rank place, of the coalitions that contain the place: of all, those that the members do not
-/// lead to without its member. None where there is no room.
-fn tally_each(
-    rows: &mut Rows,
-    others: &mut Rows,
-    weights: &[u64],
-    quota: u64,
-    total: u64,
-    heads: &Heads,
-    all: &BySize,
-) -> Result<Option<[BySize; limits::MEMBERS]>, Memory>
-    requires few { length weights.now ≤ MEMBERS }
-    requires total { total ≡ sum weights.now }
-    requires all { AreEndings weights.now heads.now.asked quota all.now }
-    requires less { (p s : ℕ) → p < length weights.now → s ≤ MEMBERS →
-        endings (left_out p weights.now) heads.now.asked s quota 0 ≤ endings weights.now heads.now.asked s quota 0 }
-    ensures { IfOk result (λ tallies. IfSome tallies (λ each. (p : ℕ) → p < length weights.now →
-        AreEndingsWith weights.now heads.now.asked quota p (slice_index_or each p no_sizes))) }
-{
-    let mut each = [*all; limits::MEMBERS];
-    rows.begin(quota, weights.len())?;
-    if !tally_from(rows, others, weights, total, heads, all, 0, &mut each)? {
-        return Ok(None);
-    }
-    Ok(Some(each))
-}
-
 /// The tallies of the coalitions that members lead to, with room for the rows; none where there is too little.
 fn tally(
     rows: &mut Rows,
@@ -135,12 +89,16 @@ fn tally(
         endings (left_out p weights.now) heads.now.asked s quota 0 ≤ endings weights.now heads.now.asked s quota 0 }
     ensures { IfOk result (λ tallies. IfSome tallies (AreAllEndings weights.now heads.now.asked quota)) }
 {
-    let Some(all) = tally_all(rows, weights, quota, total, heads)? else {
+    rows.begin(quota, weights.len())?;
+    if !rows.finish(weights, total, heads)? {
         return Ok(None);
-    };
-    let Some(each) = tally_each(rows, others, weights, quota, total, heads, &all)? else {
+    }
+    let all = BySize::of(&rows.done);
+    let mut each = [all; limits::MEMBERS];
+    rows.begin(quota, weights.len())?;
+    if !tally_from(rows, others, weights, total, heads, &all, 0, &mut each)? {
         return Ok(None);
-    };
+    }
     Ok(Some(Tallies { all, each }))
 }
 
@@ -149,15 +107,17 @@ pub(crate) fn by_sums(
     alloc: Global,
     weights: &[u64],
     quota: u64,
-    total: u64,
-    heads: &Heads,
+    heads: usize,
 ) -> Result<Option<Tallies>, Memory>
     requires few { length weights.now ≤ MEMBERS }
-    requires total { total ≡ sum weights.now }
+    requires light { sum weights.now ≤ TOTAL }
+    requires heads { heads ≤ MEMBERS }
     requires less { (p s : ℕ) → p < length weights.now → s ≤ MEMBERS →
-        endings (left_out p weights.now) heads.now.asked s quota 0 ≤ endings weights.now heads.now.asked s quota 0 }
-    ensures { IfOk result (λ tallies. IfSome tallies (AreAllEndings weights.now heads.now.asked quota)) }
+        endings (left_out p weights.now) heads s quota 0 ≤ endings weights.now heads s quota 0 }
+    ensures { IfOk result (λ tallies. IfSome tallies (AreAllEndings weights.now heads quota)) }
 {
+    let asked = Heads::new(alloc, heads)?;
     let (mut rows, mut others) = (Rows::new(alloc), Rows::new(alloc));
-    tally(&mut rows, &mut others, weights, quota, total, heads)
+    let total = weights.iter().sum();
+    tally(&mut rows, &mut others, weights, quota, total, &asked)
 }

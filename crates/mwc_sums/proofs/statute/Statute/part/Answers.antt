@@ -7,4 +7,4 @@ invariant_of-result c =
 
 pub returns-clause-rules : goal.returns-clause-rules
 unfolding side
-returns-clause-rules c = grind (arith, take_all)
+returns-clause-rules c = let all = take_all c.loop-rule.rule c.args.self.now.rules (omega arith) in rw all at c.loop-rule.invariant

@@ -1,6 +1,5 @@
-use Rattle.mwc_sums.proofs.Imports.{length, ap, arith, nat_tests, length-map, held_full}
+use Rattle.mwc_sums.proofs.Imports.{length, ap, arith, nat_tests, length-map, held_full, StatuteView}
 use Rattle.council_game.specs.Rules.{rule_view}
-use Rattle.mwc_sums.specs.Inner.Rules.{StatuteView}
 use Rattle.mwc_sums.proofs.statute.Statute.weight.Goals as goal
 
 pub index-requires-2 : goal.index-requires-2
