@@ -12,7 +12,12 @@ use crate::{GameFault, Rule, limits};
 fn is_plain(text: &str) -> bool
     ensures { result ≡ is_plain text.now }
 {
-    text.as_bytes().iter().all(|b| *b >= 32 && *b != 127)
+    for byte in text.as_bytes() {
+        if *byte < 32 || *byte == 127 {
+            return false;
+        }
+    }
+    true
 }
 
 /// Whether a text can be a title: at most 200 bytes, none below 0x20 and none 0x7F.
@@ -28,43 +33,34 @@ fn is_name(text: &str) -> bool
     1 <= text.len() && text.len() <= limits::NAME_BYTES && is_plain(text)
 }
 
-/// The place of the first name that is refused.
-fn first_bad_name(names: &[String]) -> Option<usize>
-    ensures { result ≡ position (λ name. not (is_name (string_bytes name))) names.now }
-{
-    names.iter().position(|name| !is_name(name.as_str()))
-}
-
 /// The first member, from 1, whose name is refused.
-#[tactic(auto, using(crate::proofs::Shared::Lists::position_map))]
+#[tactic(auto, using(crate::proofs::Searches::for_checks))]
 pub(crate) fn check_names(names: &[String]) -> Result<(), GameFault>
     requires { length names.now ≤ MEMBERS }
     ensures { result ≡ check_names (map string_bytes names.now) }
 {
-    match first_bad_name(names) {
-        Some(k) => Err(GameFault::Name {
-            member: k as u8 + 1,
-        }),
-        None => Ok(()),
+    for k in 0..names.len() {
+        if !is_name(names[k].as_str()) {
+            return Err(GameFault::Name {
+                member: k as u8 + 1,
+            });
+        }
     }
+    Ok(())
 }
 
 /// The place of the first name that is this one.
-fn first_named(names: &[String], name: &str) -> Option<usize>
-    ensures place { result
-        ≡ position (λ other. pointwise nat_eq name.now (string_bytes other)) names.now }
-    ensures bound { IfSome result (λ k. k < length names.now) }
-{
-    names.iter().position(|other| name == other.as_str())
-}
-
-/// The same, over the names as bytes.
-#[tactic(auto, using(crate::proofs::Shared::Lists::position_map))]
+#[tactic(auto, using(crate::proofs::Searches::for_checks))]
 pub(crate) fn place_of_name(names: &[String], name: &str) -> Option<usize>
     ensures place { result ≡ position (pointwise nat_eq name.now) (map string_bytes names.now) }
     ensures bound { IfSome result (λ k. k < length names.now) }
 {
-    first_named(names, name)
+    for k in 0..names.len() {
+        if name == names[k].as_str() {
+            return Some(k);
+        }
+    }
+    None
 }
 
 /// An earlier member has the name of this one.
@@ -75,26 +71,20 @@ fn is_repeat(names: &[String], k: usize) -> bool
     place_of_name(&names[..k], names[k].as_str()).is_some()
 }
 
-/// The place of the first name that stands before.
-fn first_repeat(names: &[String]) -> Option<usize>
-    ensures place { result ≡ position (is_repeat (map string_bytes names.now))
-        (range_with_len 0 (length names.now)) }
-    ensures bound { IfSome result (λ k. k < length names.now) }
-{
-    (0..names.len()).position(|k| is_repeat(names, k))
-}
-
 /// The first member, from 1, that repeats a name.
+#[tactic(auto, using(crate::proofs::Searches::for_checks))]
 pub(crate) fn check_repeats(names: &[String]) -> Result<(), GameFault>
     requires { length names.now ≤ MEMBERS }
     ensures { result ≡ check_repeats (map string_bytes names.now) }
 {
-    match first_repeat(names) {
-        Some(k) => Err(GameFault::SameName {
-            member: k as u8 + 1,
-        }),
-        None => Ok(()),
+    for k in 0..names.len() {
+        if is_repeat(names, k) {
+            return Err(GameFault::SameName {
+                member: k as u8 + 1,
+            });
+        }
     }
+    Ok(())
 }
 
 /// The rule gives this member a weight above the limit.
@@ -107,39 +97,33 @@ fn is_over(rule: &Rule, k: usize) -> bool
     }
 }
 
-fn any_over(rules: &[Rule], k: usize) -> bool
-    ensures { result
-        ≡ list_any (λ r. nat_lt WEIGHT (slice_index r.weights.items k)) rules.now }
-{
-    rules.iter().any(|rule| is_over(rule, k))
-}
-
 /// Some rule gives this member a weight above the limit.
-#[tactic(auto, using(crate::proofs::Shared::Lists::list_any_map))]
+#[tactic(auto, using(crate::proofs::Searches::for_checks))]
 fn is_heavy(rules: &[Rule], k: usize) -> bool
     ensures { result ≡ is_heavy (rule_views rules.now) k }
 {
-    any_over(rules, k)
-}
-
-fn first_heavy(rules: &[Rule], members: usize) -> Option<usize>
-    ensures place { result ≡ position (is_heavy (rule_views rules.now)) (range_with_len 0 members) }
-    ensures bound { IfSome result (λ k. k < members) }
-{
-    (0..members).position(|k| is_heavy(rules, k))
+    for rule in rules {
+        if is_over(rule, k) {
+            return true;
+        }
+    }
+    false
 }
 
 /// The first member, from 1, with a weight above the limit.
+#[tactic(auto, using(crate::proofs::Searches::for_checks))]
 pub(crate) fn check_weights(rules: &[Rule], members: usize) -> Result<(), GameFault>
     requires { members ≤ MEMBERS }
     ensures { result ≡ check_weights (rule_views rules.now) members }
 {
-    match first_heavy(rules, members) {
-        Some(k) => Err(GameFault::Weight {
-            member: k as u8 + 1,
-        }),
-        None => Ok(()),
+    for k in 0..members {
+        if is_heavy(rules, k) {
+            return Err(GameFault::Weight {
+                member: k as u8 + 1,
+            });
+        }
     }
+    Ok(())
 }
 
 /// The total of the weights, or the greatest number where it is greater.
@@ -159,15 +143,14 @@ fn has_bad_quota(rule: &Rule) -> bool
     rule.quota < 1 || capped_total(&rule.weights) < rule.quota
 }
 
-fn any_bad_quota(rules: &[Rule]) -> bool
-    ensures { result ≡ list_any (λ r. has_bad_quota (rule_view r)) rules.now }
-{
-    rules.iter().any(|rule| has_bad_quota(rule))
-}
-
-#[tactic(auto, using(crate::proofs::Shared::Lists::list_any_map))]
+#[tactic(auto, using(crate::proofs::Searches::for_checks))]
 pub(crate) fn has_quota_fault(rules: &[Rule]) -> bool
     ensures { result ≡ list_any has_bad_quota (rule_views rules.now) }
 {
-    any_bad_quota(rules)
+    for rule in rules {
+        if has_bad_quota(rule) {
+            return true;
+        }
+    }
+    false
 }

@@ -1,5 +1,13 @@
-use Rattle.council_game.proofs.Imports.{arith, common_steps}
+use Rattle.council_game.proofs.Imports.{arith, nat_tests, is_repeat, map, string_bytes, length, length-map}
+use Rattle.council_game.proofs.Shared.{Lists.first-place, Games.nowhere_below}
 use Rattle.council_game.proofs.checks.check_repeats.Goals as goal
 
-pub returns-in-Some : goal.returns-in-Some
-returns-in-Some c = grind (arith, common_steps)
+pub returns-then-is_repeat : goal.returns-then-is_repeat
+returns-then-is_repeat c = 
+    let ns = map string_bytes c.args.names.now in
+    grind (arith, nat_tests, length-map, first-place (is_repeat ns) (length ns) c.loop-k.k)
+
+pub returns : goal.returns
+returns c =
+    let ns = map string_bytes c.args.names.now in
+    grind (arith, nat_tests, length-map, nowhere_below (is_repeat ns) (length ns))
