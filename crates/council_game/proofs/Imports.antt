@@ -1,7 +1,7 @@
 -- The words of other libraries and of the definitions that two or more files of these proofs take; `tools/imports.py` writes them.
 pub use Rattle.coalitions.proofs.Shared.Digits.{digit-kept, has-none}
 pub use Rattle.council_game.specs.Game.{GameView, IsGame, first_weights, has_bad_quota, is_heavy, is_name, is_plain, is_repeat, total, votes_of}
-pub use Rattle.std.specs.Prelude.{nat_eq, string_bytes}
+pub use Rattle.std.specs.Prelude.{count_by, nat_eq, string_bytes}
 pub use Rattle.std.specs.Cmp.Lexicographic.{pointwise}
 pub use Rattle.council_game.specs.{Inner.Along.rule_along, Inner.Along.weights_at, Inner.View.game_view, Rules.rule_view, Rules.rule_views}
 pub use Rattle.council_game.specs.{Inner.Held.votes, Inner.Parts.game_of_parts, declared.rule.Rule.Rule}
