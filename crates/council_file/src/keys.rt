@@ -64,10 +64,15 @@ fn is_odd_member(member: &Value) -> bool
 }
 
 fn any_odd_member(members: &[Value]) -> bool
-    ensures { result ≡ list_any (λ v. option_map_or (has_other_key member_keys) (as_table (view v))
-        false) members.now }
+    ensures { result ≡ list_any (λ d. option_map_or (has_other_key member_keys) (as_table d) false)
+        (map view members.now) }
 {
-    members.iter().any(|member| is_odd_member(member))
+    for member in members {
+        if is_odd_member(member) {
+            return true;
+        }
+    }
+    false
 }
 
 /// Whether the file, or one of its members, has a key that it may not have.

@@ -15,17 +15,19 @@ fn is_integer(value: &Value) -> bool
     value.as_integer().is_some()
 }
 
-fn all_integers(values: &[Value]) -> bool
-    ensures { result ≡ list_all (λ v. is_some (as_integer (view v))) values.now }
-{
-    values.iter().all(|value| is_integer(value))
-}
-
-#[tactic(auto, using(council_game::proofs::Shared::Lists::maps))]
+/// Whether they are 1 to 4 integers.
 fn are_quotas(values: &[Value]) -> bool
     ensures { result ≡ are_quotas (map view values.now) }
 {
-    1 <= values.len() && values.len() <= limits::RULES && all_integers(values)
+    if values.len() < 1 || limits::RULES < values.len() {
+        return false;
+    }
+    for value in values {
+        if !is_integer(value) {
+            return false;
+        }
+    }
+    true
 }
 
 pub(crate) fn has_bad_quotas(table: &Table) -> bool

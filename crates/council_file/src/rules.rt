@@ -9,17 +9,23 @@ ghost use Rattle.council_game.specs.Rules.{rule_view, rule_views};
 use crate::member_weights::{only_weights, weights_under};
 use crate::members::member_list;
 use crate::quotas::{has_bad_quotas, quota_at, quota_from};
-use crate::tree::{elements_at, has_key, some_has_key, value_at};
+use crate::tree::{elements_at, has_key, value_at};
 use council_game::{Memory, Rule};
 use std::alloc::{AllocError, Global};
 use toml::Table;
 
-#[tactic(auto, using(council_game::proofs::Shared::Lists::list_any_map))]
+/// Some member has the key.
+#[tactic(auto, using(council_game::proofs::Shared::Lists::found-any))]
 fn some_member_has(table: &Table, key: &str) -> bool
     ensures { result ≡ list_any (λ d. is_some (get key.now d))
         (member_list (table_view table.now)) }
 {
-    some_has_key(member_list(table), key)
+    for member in member_list(table) {
+        if member.get(key).is_some() {
+            return true;
+        }
+    }
+    false
 }
 
 pub(crate) fn breaks_rules(table: &Table) -> bool

@@ -87,23 +87,15 @@ pub(crate) fn check_repeats(names: &[String]) -> Result<(), GameFault>
     Ok(())
 }
 
-/// The rule gives this member a weight above the limit.
-fn is_over(rule: &Rule, k: usize) -> bool
-    ensures { result ≡ nat_lt WEIGHT (slice_index rule.now.weights.items k) }
-{
-    match rule.weights.get(k) {
-        Some(weight) => limits::WEIGHT < *weight,
-        None => false,
-    }
-}
-
 /// Some rule gives this member a weight above the limit.
 #[tactic(auto, using(crate::proofs::Searches::for_checks))]
 fn is_heavy(rules: &[Rule], k: usize) -> bool
     ensures { result ≡ is_heavy (rule_views rules.now) k }
 {
     for rule in rules {
-        if is_over(rule, k) {
+        if let Some(weight) = rule.weights.get(k)
+            && limits::WEIGHT < *weight
+        {
             return true;
         }
     }
