@@ -1,5 +1,5 @@
 //! The keys that a file may have.
-ghost use Rattle.std.specs.Prelude.{◌≡◌, nat_eq, not, string_bytes, false};
+ghost use Rattle.std.specs.Prelude.{◌≡◌, map, nat_eq, not, string_bytes, false};
 ghost use Rattle.std.specs.Option.{option_map_or};
 ghost use Rattle.std.specs.List.{list_any};
 ghost use Rattle.std.specs.Map.{keys_of};
@@ -63,6 +63,7 @@ fn is_odd_member(member: &Value) -> bool
     }
 }
 
+#[tactic(auto, using(council_game::proofs::Shared::Lists::found_any))]
 fn any_odd_member(members: &[Value]) -> bool
     ensures { result ≡ list_any (λ d. option_map_or (has_other_key member_keys) (as_table d) false)
         (map view members.now) }
@@ -76,7 +77,6 @@ fn any_odd_member(members: &[Value]) -> bool
 }
 
 /// Whether the file, or one of its members, has a key that it may not have.
-#[tactic(auto, using(council_game::proofs::Shared::Lists::list_any_map))]
 pub(crate) fn has_unknown_key(table: &Table) -> bool
     ensures { result ≡ has_unknown_key (table_view table.now) }
 {
