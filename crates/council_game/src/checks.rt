@@ -12,12 +12,7 @@ use crate::{GameFault, Rule, limits};
 fn is_plain(text: &str) -> bool
     ensures { result ≡ is_plain text.now }
 {
-    for byte in text.as_bytes() {
-        if *byte < 32 || *byte == 127 {
-            return false;
-        }
-    }
-    true
+    text.as_bytes().iter().all(|b| *b >= 32 && *b != 127)
 }
 
 /// Whether a text can be a title: at most 200 bytes, none below 0x20 and none 0x7F.
@@ -33,34 +28,43 @@ fn is_name(text: &str) -> bool
     1 <= text.len() && text.len() <= limits::NAME_BYTES && is_plain(text)
 }
 
+/// The place of the first name that is refused.
+fn first_bad_name(names: &[String]) -> Option<usize>
+    ensures { result ≡ position (λ name. not (is_name (string_bytes name))) names.now }
+{
+    names.iter().position(|name| !is_name(name.as_str()))
+}
+
 /// The first member, from 1, whose name is refused.
-#[tactic(auto, using(crate::proofs::Searches::for_checks))]
+#[tactic(auto, using(crate::proofs::Shared::Lists::position_map))]
 pub(crate) fn check_names(names: &[String]) -> Result<(), GameFault>
     requires { length names.now ≤ MEMBERS }
     ensures { result ≡ check_names (map string_bytes names.now) }
 {
-    for k in 0..names.len() {
-        if !is_name(names[k].as_str()) {
-            return Err(GameFault::Name {
-                member: k as u8 + 1,
-            });
-        }
+    match first_bad_name(names) {
+        Some(k) => Err(GameFault::Name {
+            member: k as u8 + 1,
+        }),
+        None => Ok(()),
     }
-    Ok(())
 }
 
 /// The place of the first name that is this one.
-#[tactic(auto, using(crate::proofs::Searches::for_checks))]
+fn first_named(names: &[String], name: &str) -> Option<usize>
+    ensures place { result
+        ≡ position (λ other. pointwise nat_eq name.now (string_bytes other)) names.now }
+    ensures bound { IfSome result (λ k. k < length names.now) }
+{
+    names.iter().position(|other| name == other.as_str())
+}
+
+/// The same, over the names as bytes.
+#[tactic(auto, using(crate::proofs::Shared::Lists::position_map))]
 pub(crate) fn place_of_name(names: &[String], name: &str) -> Option<usize>
     ensures place { result ≡ position (pointwise nat_eq name.now) (map string_bytes names.now) }
     ensures bound { IfSome result (λ k. k < length names.now) }
 {
-    for k in 0..names.len() {
-        if name == names[k].as_str() {
-            return Some(k);
-        }
-    }
-    None
+    first_named(names, name)
 }
 
 /// An earlier member has the name of this one.

@@ -3,8 +3,8 @@ use Rattle.council_game.proofs.Imports.{recursion_from_All, or_parts, common_ste
 use Rattle.council_game.proofs.Imports.{◌^◌, ◌<◌, ◌≤◌, min, List, [], ◌∷◌, length, get_or, map, sum, refl, sym, ap, ◌∙◌, subst, arith, All}
 use Rattle.council_game.proofs.Imports.{rule_along, rule_view, rule_views, GameView, IsGame, made_game, first_weights, total, votes_of}
 use Rattle.council_game.proofs.Imports.{Option, Ok, AllByRecursion, length-map, member_at, rank_places, members_by_rank, rule_by_rank}
-use Rattle.council_game.proofs.Imports.{game_of_parts}
-use Rattle.std.proofs.Common.{String, Global, string_bytes, option_map, ltb-false}
+use Rattle.council_game.proofs.Imports.{game_of_parts, string_bytes}
+use Rattle.std.proofs.Common.{String, Global, option_map, ltb-false}
 use Rattle.std.proofs.lemmas.List.Elements.{All-map}
 use Rattle.council_game.proofs.Shared.{Rankings.length-by_rank, Rankings.by_rank-at, RuleLists.held_full, WinningByPlaces.held-rule}
 use Rattle.council_game.proofs.Shared.Games.{passed, votes-are, light-weights, light-sum}

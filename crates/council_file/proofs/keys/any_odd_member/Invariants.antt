@@ -1,6 +1,6 @@
 use Rattle.std.proofs.Common.{◌≡◌, map, take, false}
 use Rattle.std.specs.{List.list_any, Option.option_map_or}
-use Rattle.toml.specs.{View.view, Data.as_table}
+use Rattle.toml.specs.{Data.as_table, View.view}
 use Rattle.council_file.specs.File.{has_other_key, member_keys}
 use Rattle.council_file.proofs.keys.any_odd_member.Given as goal
 

@@ -1,6 +1,6 @@
-use Rattle.std.proofs.Common.{arith, is_some}
 use Rattle.std.proofs.lemmas.{Grind.common_steps, List.Folds.list_all-map, List.Folds.list_all_at}
-use Rattle.toml.specs.{View.view, Data.as_table}
+use Rattle.std.proofs.Common.{arith, is_some}
+use Rattle.toml.specs.{Data.as_table, View.view}
 use Rattle.council_file.proofs.members.are_members.Goals as goal
 
 pub returns-then-not-is_table : goal.returns-then-not-is_table

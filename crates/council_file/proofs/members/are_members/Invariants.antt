@@ -1,6 +1,6 @@
 use Rattle.std.proofs.Common.{◌≡◌, map, take, true, is_some}
 use Rattle.std.specs.List.{list_all}
-use Rattle.toml.specs.{View.view, Data.as_table}
+use Rattle.toml.specs.{Data.as_table, View.view}
 use Rattle.council_file.proofs.members.are_members.Given as goal
 
 abbrev pub invariant-loop-value : goal.invariant-loop-value

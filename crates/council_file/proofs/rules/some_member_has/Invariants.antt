@@ -1,6 +1,6 @@
 use Rattle.std.proofs.Common.{◌≡◌, map, take, false, is_some}
 use Rattle.std.specs.List.{list_any}
-use Rattle.toml.specs.{View.view, Data.get}
+use Rattle.toml.specs.{Data.get, View.view}
 use Rattle.council_file.proofs.rules.some_member_has.Given as goal
 
 abbrev pub invariant-loop-member : goal.invariant-loop-member

@@ -1,5 +1,5 @@
 use Rattle.council_game.proofs.Imports.{arith, nat_tests, is_repeat, map, string_bytes, length, length-map}
-use Rattle.council_game.proofs.Shared.{Lists.first-place, Games.nowhere_below}
+use Rattle.council_game.proofs.Shared.{Games.nowhere_below, Lists.first-place}
 use Rattle.council_game.proofs.checks.check_repeats.Goals as goal
 
 pub returns-then-is_repeat : goal.returns-then-is_repeat
