@@ -15,14 +15,14 @@ use toml::{Table, Value};
 pub fn is_top_key(key: &str) -> bool
     ensures { result ≡ list_any (pointwise nat_eq key.now) top_keys }
 {
-    key == "title" || (key == "quota" || (key == "quotas" || key == "member"))
+    matches!(key, "title" | "quota" | "quotas" | "member")
 }
 
 /// Whether a member may have the key.
 pub fn is_member_key(key: &str) -> bool
     ensures { result ≡ list_any (pointwise nat_eq key.now) member_keys }
 {
-    key == "name" || (key == "weight" || key == "weights")
+    matches!(key, "name" | "weight" | "weights")
 }
 
 fn any_other_top_key(table: &Table) -> bool

@@ -38,16 +38,6 @@ pub(crate) fn breaks_rules(table: &Table) -> bool
         || (has_key(table, "quotas") && some_member_has(table, "weight"))
 }
 
-#[tactic(auto, unfolding(crate::specs::File::only_rule))]
-fn only_rule(alloc: Global, table: &Table) -> Result<Rule, AllocError>
-    ensures { IfOk result (λ r. rule_view r ≡ only_rule (table_view table.now)) }
-{
-    let quota = quota_from(value_at(table, "quota"));
-    let members = member_list(table);
-    let weights = listed(alloc, members.len(), |k| only_weight(&members[k]))?;
-    Ok(Rule { quota, weights })
-}
-
 #[tactic(auto, unfolding(crate::specs::File::rule_from))]
 fn rule_from(alloc: Global, table: &Table, n: usize, r: usize) -> Result<Rule, AllocError>
     ensures { IfOk result (λ rule. rule_view rule ≡ rule_from (table_view table.now) n r) }
@@ -70,11 +60,15 @@ fn rules_at(alloc: Global, table: &Table, n: usize) -> Result<Vec<Rule>, AllocEr
     Ok(rules)
 }
 
+/// The rule of a file with one quota, as a list.
 fn lone_rule(alloc: Global, table: &Table) -> Result<Vec<Rule>, AllocError>
     ensures { IfOk result (λ v. rule_views v.items ≡ only_rule (table_view table.now) ∷ []) }
 {
+    let quota = quota_from(value_at(table, "quota"));
+    let members = member_list(table);
+    let weights = listed(alloc, members.len(), |k| only_weight(&members[k]))?;
     let mut rules = Vec::new(alloc);
-    rules.push(only_rule(alloc, table)?)?;
+    rules.push(Rule { quota, weights })?;
     Ok(rules)
 }
 

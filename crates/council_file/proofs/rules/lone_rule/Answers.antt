@@ -1,7 +1,7 @@
 use Rattle.std.proofs.{Common.arith, lemmas.Grind.common_steps}
 use Rattle.council_file.specs.File.{only_rule, only_weight}
 use Rattle.council_file.proofs.Views.{at_place, along_places}
-use Rattle.council_file.proofs.rules.only_rule.Goals as goal
+use Rattle.council_file.proofs.rules.lone_rule.Goals as goal
 
 pub returns : goal.returns
 unfolding only_rule
