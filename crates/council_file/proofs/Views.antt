@@ -9,6 +9,7 @@ use Rattle.toml.specs.Data.{Data, Members, no_members, table}
 use Rattle.council_file.specs.File.{elements, keys, has_other_key, tree_of}
 use Rattle.council_game.specs.{Rules.rule_view, Rules.rule_views, declared.fault.GameFault.TheVariants.Text, declared.rule.Rule.Rule}
 use Rattle.council_game.specs.Votes.{RuleView}
+use Rattle.std.proofs.lemmas.List.Folds.{list_all-map, list_all_at}
 use Rattle.council_game.proofs.Shared.Lists.{list_any_map, map_one_more}
 
 pub elements_view : (vs : List Value) → elements (items_view vs) ≡ map view vs
@@ -48,3 +49,6 @@ is_text bytes text t same good read = grind (arith, is_utf8-from_IsUtf8)
 
 -- what reading a tree rests on
 pub ruleset texts = (not_text, is_text)
+
+-- what a loop over all of a list rests on
+pub ruleset each = (list_all-map, list_all_at)

@@ -24,7 +24,7 @@ fn is_table(value: &Value) -> bool
 }
 
 /// Whether they are 1 to 40 tables.
-#[tactic(auto, using(council_game::proofs::Shared::Lists::maps))]
+#[tactic(auto, using(crate::proofs::Views::each))]
 pub(crate) fn are_members(values: &[Value]) -> bool
     ensures { result ≡ are_members (map view values.now) }
 {

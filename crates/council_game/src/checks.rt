@@ -76,7 +76,6 @@ fn is_repeat(names: &[String], k: usize) -> bool
 }
 
 /// The first member, from 1, that repeats a name.
-#[tactic(auto, using(crate::proofs::Searches::for_checks))]
 pub(crate) fn check_repeats(names: &[String]) -> Result<(), GameFault>
     requires { length names.now ≤ MEMBERS }
     ensures { result ≡ check_repeats (map string_bytes names.now) }
@@ -92,7 +91,7 @@ pub(crate) fn check_repeats(names: &[String]) -> Result<(), GameFault>
 }
 
 /// Some rule gives this member a weight above the limit.
-#[tactic(auto, using(crate::proofs::Searches::for_checks))]
+#[tactic(auto, using(crate::proofs::Shared::Lists::found_any))]
 fn is_heavy(rules: &[Rule], k: usize) -> bool
     ensures { result ≡ is_heavy (rule_views rules.now) k }
 {
@@ -107,7 +106,6 @@ fn is_heavy(rules: &[Rule], k: usize) -> bool
 }
 
 /// The first member, from 1, with a weight above the limit.
-#[tactic(auto, using(crate::proofs::Searches::for_checks))]
 pub(crate) fn check_weights(rules: &[Rule], members: usize) -> Result<(), GameFault>
     requires { members ≤ MEMBERS }
     ensures { result ≡ check_weights (rule_views rules.now) members }
@@ -139,7 +137,7 @@ fn has_bad_quota(rule: &Rule) -> bool
     rule.quota < 1 || capped_total(&rule.weights) < rule.quota
 }
 
-#[tactic(auto, using(crate::proofs::Searches::for_checks))]
+#[tactic(auto, using(crate::proofs::Shared::Lists::found_any))]
 pub(crate) fn has_quota_fault(rules: &[Rule]) -> bool
     ensures { result ≡ list_any has_bad_quota (rule_views rules.now) }
 {
