@@ -2,14 +2,14 @@
 use Rattle.std.proofs.Common.{◌≡◌, ℕ, List, [], ◌∷◌, ◌++◌, ◌+◌, map, String, Global, string_bytes, nat_eq, not, refl, ap, Some, Ok, Err}
 use Rattle.std.proofs.Common.{inl, inr, arith, IsUtf8, get_or, length}
 use Rattle.std.proofs.lemmas.{List.get_or-map, List.length-map, List.map_push, Str.IsUtf8-from_is_utf8, Str.is_utf8-from_IsUtf8}
-use Rattle.std.proofs.lemmas.{Bool.cases_Bool, Bool.Decides.nat_tests, List.FromFn.fill_by_all}
+use Rattle.std.proofs.lemmas.{Bool.Decides.nat_tests, List.Folds.list_all-map, List.Folds.list_all_at, List.FromFn.fill_by_all}
+use Rattle.std.proofs.lemmas.Bool.{cases_Bool}
 use Rattle.std.specs.{Cmp.Lexicographic.pointwise, List.list_any, List.range_with_len, Map.keys_of, Str.is_utf8}
 use Rattle.toml.specs.{Parse.parse_document, View.view, View.items_view, View.members_view, declared.value.Value.Value}
 use Rattle.toml.specs.Data.{Data, Members, no_members, table}
 use Rattle.council_file.specs.File.{elements, keys, has_other_key, tree_of}
 use Rattle.council_game.specs.{Rules.rule_view, Rules.rule_views, declared.fault.GameFault.TheVariants.Text, declared.rule.Rule.Rule}
 use Rattle.council_game.specs.Votes.{RuleView}
-use Rattle.std.proofs.lemmas.List.Folds.{list_all-map, list_all_at}
 use Rattle.council_game.proofs.Shared.Lists.{list_any_map, map_one_more}
 
 pub elements_view : (vs : List Value) → elements (items_view vs) ≡ map view vs

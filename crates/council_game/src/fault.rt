@@ -84,7 +84,12 @@ impl fmt::Display for GameFault {
             GameFault::Rules => "bad rules",
             GameFault::Memory => "out of memory",
             GameFault::Name { member } => return around(f, "bad name of member ", member, ""),
-            GameFault::SameName { member } => return around(f, "member ", member, " repeats a name"),
+            GameFault::SameName { member } => return around(
+                f,
+                "member ",
+                member,
+                " repeats a name",
+            ),
             GameFault::Weight { member } => return around(f, "bad weight of member ", member, ""),
         };
         f.write_str(text)
