@@ -6,6 +6,5 @@ use Rattle.council_file.proofs.rules.rule_from.Goals as goal
 pub returns : goal.returns
 unfolding rule_from
 returns c =
-    let weight = weight_under c.args.n c.args.r in
-    let made = c.in_ok-weights.ensures (at_place weight c.member_list-members.result.now) (λ i x lt post. grind (arith, common_steps)) in
-    grind (arith, common_steps, along_places weight c.member_list-members.result.now)
+    let made = c.in_ok-weights.ensures (at_place (weight_under c.args.n c.args.r) c.member_list-members.result.now) (λ i x lt post. grind (arith, common_steps)) in
+    grind (arith, common_steps, along_places (weight_under c.args.n c.args.r) c.member_list-members.result.now)
