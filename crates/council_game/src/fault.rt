@@ -83,27 +83,12 @@ impl fmt::Display for GameFault {
             GameFault::Bracket => "bad bracket text",
             GameFault::Rules => "bad rules",
             GameFault::Memory => "out of memory",
-            GameFault::Name { member } => return around(f, "bad name of member ", member, ""),
-            GameFault::SameName { member } => return around(
-                f,
-                "member ",
-                member,
-                " repeats a name",
-            ),
-            GameFault::Weight { member } => return around(f, "bad weight of member ", member, ""),
+            GameFault::Name { member } => return write!(f, "bad name of member {member}"),
+            GameFault::SameName { member } => return write!(f, "member {member} repeats a name"),
+            GameFault::Weight { member } => return write!(f, "bad weight of member {member}"),
         };
         f.write_str(text)
     }
-}
-
-/// The number of a member, with a text on each side.
-fn around<W: fmt::Write>(
-    f: &mut fmt::Formatter<W>,
-    before: &str,
-    member: u8,
-    behind: &str,
-) -> fmt::Result {
-    write!(f, "{before}{member}{behind}")
 }
 
 impl From<AllocError> for GameFault {
