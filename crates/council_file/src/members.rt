@@ -1,6 +1,5 @@
 //! The members of a game in a tree, and their names.
 ghost use Rattle.std.specs.Prelude.{◌≡◌, map, is_some, IfOk, string_bytes};
-ghost use Rattle.std.specs.List.{list_all};
 ghost use Rattle.toml.specs.Data.{as_table};
 ghost use Rattle.toml.specs.View.{view, table_view};
 ghost use Rattle.council_file.specs.File.{member_list, are_members, name_from};

@@ -1,6 +1,5 @@
 //! The quotas of a game in a tree.
 ghost use Rattle.std.specs.Prelude.{◌≡◌, option_map, map, is_some, not, ◌&&◌, slice_get, codes};
-ghost use Rattle.std.specs.List.{list_all};
 ghost use Rattle.toml.specs.Data.{as_integer};
 ghost use Rattle.toml.specs.View.{view, table_view};
 ghost use Rattle.council_file.specs.File.{elements_at, are_quotas, has_key, lacks_quota, quota_from};

@@ -2,13 +2,13 @@
 pub use Rattle.coalitions.proofs.Shared.Digits.{digit-kept, has-none}
 pub use Rattle.council_game.specs.Game.{GameView, IsGame, first_weights, has_bad_quota, is_heavy, is_name, is_repeat, total, votes_of}
 pub use Rattle.council_game.specs.{Inner.Along.rule_along, Inner.Along.weights_at, Inner.View.game_view, Rules.rule_view, Rules.rule_views}
-pub use Rattle.council_game.specs.{Inner.Held.votes, Inner.Parts.game_of_parts, declared.rule.Rule.Rule}
+pub use Rattle.council_game.specs.{Inner.Held.votes, declared.rule.Rule.Rule}
 pub use Rattle.council_game.specs.Ranks.{member_at, members_by_rank, outranks, places, rank_place, rank_places, rule_by_rank}
 pub use Rattle.council_game.specs.Votes.{IsRule, IsVotes, RuleView, Votes, places_of, rule_at}
-pub use Rattle.std.proofs.Common.{slice_index, string_bytes, subst, suc, sum, sum_by, sym, take, true, zero, ℕ, ◌%◌, ◌*◌, ◌++◌, ◌+◌, ◌-◌}
-pub use Rattle.std.proofs.Common.{All, AllPairs, Bool, IsPermutation, List, None, Ok, Option, [], ap, append-nil, arith, cond, count_by}
-pub use Rattle.std.proofs.Common.{eq-eqb, false, filter, get_or, inl, inr, length, map, min, ne_eqb, not, position, pow_pos, refl}
-pub use Rattle.std.proofs.Common.{◌/◌, ◌<◌, ◌==◌, ◌^◌, ◌||◌, ◌∙◌, ◌∷◌, ◌≡◌, ◌≢◌, ◌≤◌}
+pub use Rattle.std.proofs.Common.{string_bytes, subst, suc, sum, sum_by, sym, take, true, zero, ℕ, ◌%◌, ◌*◌, ◌++◌, ◌+◌, ◌-◌, ◌/◌, ◌<◌, ◌==◌}
+pub use Rattle.std.proofs.Common.{All, AllPairs, Bool, IsPermutation, List, Ok, Option, [], ap, append-nil, arith, cond, count_by, eq-eqb}
+pub use Rattle.std.proofs.Common.{false, filter, get_or, inl, inr, length, map, min, ne_eqb, not, position, pow_pos, refl, slice_index}
+pub use Rattle.std.proofs.Common.{◌^◌, ◌||◌, ◌∙◌, ◌∷◌, ◌≡◌, ◌≢◌, ◌≤◌}
 pub use Rattle.std.proofs.lemmas.Bool.{and_from, and_parts, both_ways, cases_Bool, cases_eq, cases_lt, cond-false, cond-true}
 pub use Rattle.std.proofs.lemmas.Bool.{false_from_ne_true, not-false, or_parts}
 pub use Rattle.std.proofs.lemmas.List.{FromFn.fill_by_all, FromFn.get_or-range_with_len, FromFn.length-range_with_len, Kept.AllPairs-cons}

@@ -4,8 +4,9 @@ use Rattle.council_game.proofs.Imports.{Bool, false, not, ◌||◌, List, [], �
 use Rattle.council_game.proofs.Imports.{nat_tests, cases_lt, or_parts, cond-true, RuleView, IsRule, IsVotes, places, sym, ap, ◌∙◌, subst}
 use Rattle.council_game.proofs.Imports.{length-range_with_len, length-map, get_or_default, recursion_from_All, fails_before_first, arith}
 use Rattle.council_game.proofs.Imports.{inl, inr, Option, Ok, AllByRecursion, list_any, range_with_len, votes_of, is_name, has_bad_quota}
-use Rattle.council_game.proofs.Imports.{None, is_repeat, is_heavy}
-use Rattle.std.proofs.{Common.ltb, Common.lt-ltb, Common.le-ltb, lemmas.List.get_or_past, lemmas.List.Sums.sum_by-le}
+use Rattle.council_game.proofs.Imports.{is_repeat, is_heavy}
+use Rattle.std.proofs.Common.{None, ltb, lt-ltb, le-ltb}
+use Rattle.std.proofs.lemmas.List.{get_or_past, Sums.sum_by-le}
 use Rattle.std.specs.Option.{option_map_or}
 use Rattle.council_game.specs.declared.fault.GameFault.TheVariants.{Title, Members, Name, SameName, Weight, QuotaRange}
 use Rattle.council_game.specs.{Fault.◌>>=◌, Fault.refuse, Fault.refuse_at, Game.is_title, Votes.IsRanked}
