@@ -32,10 +32,12 @@ fn some_member_has(table: &Table, key: &str) -> bool
 pub(crate) fn breaks_rules(table: &Table) -> bool
     ensures { result ≡ breaks_rules (table_view table.now) }
 {
-    (has_key(table, "quota") && has_key(table, "quotas"))
+    let one = has_key(table, "quota");
+    let several = has_key(table, "quotas");
+    (one && several)
         || has_bad_quotas(table)
-        || (has_key(table, "quota") && some_member_has(table, "weights"))
-        || (has_key(table, "quotas") && some_member_has(table, "weight"))
+        || (one && some_member_has(table, "weights"))
+        || (several && some_member_has(table, "weight"))
 }
 
 #[tactic(auto, unfolding(crate::specs::File::rule_from))]
