@@ -1,5 +1,5 @@
 //! The keys that a file may have.
-ghost use Rattle.std.specs.Prelude.{◌≡◌, nat_eq, not, string_bytes, false};
+ghost use Rattle.std.specs.Prelude.{◌≡◌, map, nat_eq, not, string_bytes, false};
 ghost use Rattle.std.specs.Option.{option_map_or};
 ghost use Rattle.std.specs.List.{list_any};
 ghost use Rattle.std.specs.Map.{keys_of};
@@ -15,14 +15,14 @@ use toml::{Table, Value};
 pub fn is_top_key(key: &str) -> bool
     ensures { result ≡ list_any (pointwise nat_eq key.now) top_keys }
 {
-    key == "title" || (key == "quota" || (key == "quotas" || key == "member"))
+    matches!(key, "title" | "quota" | "quotas" | "member")
 }
 
 /// Whether a member may have the key.
 pub fn is_member_key(key: &str) -> bool
     ensures { result ≡ list_any (pointwise nat_eq key.now) member_keys }
 {
-    key == "name" || (key == "weight" || key == "weights")
+    matches!(key, "name" | "weight" | "weights")
 }
 
 fn any_other_top_key(table: &Table) -> bool
@@ -63,15 +63,20 @@ fn is_odd_member(member: &Value) -> bool
     }
 }
 
+#[tactic(auto, using(council_game::proofs::Shared::Lists::found_any))]
 fn any_odd_member(members: &[Value]) -> bool
-    ensures { result ≡ list_any (λ v. option_map_or (has_other_key member_keys) (as_table (view v))
-        false) members.now }
+    ensures { result ≡ list_any (λ d. option_map_or (has_other_key member_keys) (as_table d) false)
+        (map view members.now) }
 {
-    members.iter().any(|member| is_odd_member(member))
+    for member in members {
+        if is_odd_member(member) {
+            return true;
+        }
+    }
+    false
 }
 
 /// Whether the file, or one of its members, has a key that it may not have.
-#[tactic(auto, using(council_game::proofs::Shared::Lists::list_any_map))]
 pub(crate) fn has_unknown_key(table: &Table) -> bool
     ensures { result ≡ has_unknown_key (table_view table.now) }
 {

@@ -1,10 +1,9 @@
 //! The weights of the members in a tree.
-ghost use Rattle.std.specs.Prelude.{◌≡◌, option_map, map, IfOk};
+ghost use Rattle.std.specs.Prelude.{◌≡◌, option_map};
 ghost use Rattle.toml.specs.View.{view};
 ghost use Rattle.council_file.specs.File.{weight_from, only_weight, weight_under};
 
 use crate::tree::elements_of;
-use std::alloc::{AllocError, Global};
 use toml::Value;
 
 fn weight_from(value: Option<&Value>) -> u64
@@ -17,7 +16,7 @@ fn weight_from(value: Option<&Value>) -> u64
 }
 
 #[tactic(auto, unfolding(crate::specs::File::only_weight))]
-fn only_weight(member: &Value) -> u64
+pub(crate) fn only_weight(member: &Value) -> u64
     ensures { result ≡ only_weight (view member.now) }
 {
     weight_from(member.get("weight"))
@@ -25,7 +24,7 @@ fn only_weight(member: &Value) -> u64
 
 /// The weight of a member under rule r of n.
 #[tactic(auto, unfolding(crate::specs::File::weight_under))]
-fn weight_under(member: &Value, n: usize, r: usize) -> u64
+pub(crate) fn weight_under(member: &Value, n: usize, r: usize) -> u64
     ensures { result ≡ weight_under n r (view member.now) }
 {
     let weights = match member.get("weights") {
@@ -37,29 +36,4 @@ fn weight_under(member: &Value, n: usize, r: usize) -> u64
     } else {
         u64::MAX
     }
-}
-
-pub(crate) fn only_weights(alloc: Global, members: &[Value]) -> Result<Vec<u64>, AllocError>
-    ensures { IfOk result (λ v. v.items ≡ map only_weight (map view members.now)) }
-{
-    let mut weights = Vec::with_capacity(alloc, members.len())?;
-    for member in members {
-        weights.push(only_weight(member))?;
-    }
-    Ok(weights)
-}
-
-pub(crate) fn weights_under(
-    alloc: Global,
-    members: &[Value],
-    n: usize,
-    r: usize,
-) -> Result<Vec<u64>, AllocError>
-    ensures { IfOk result (λ v. v.items ≡ map (λ m. weight_under n r (view m)) members.now) }
-{
-    let mut weights = Vec::with_capacity(alloc, members.len())?;
-    for member in members {
-        weights.push(weight_under(member, n, r))?;
-    }
-    Ok(weights)
 }

@@ -1,6 +1,5 @@
 //! The members of a game in a tree, and their names.
 ghost use Rattle.std.specs.Prelude.{◌≡◌, map, is_some, IfOk, string_bytes};
-ghost use Rattle.std.specs.List.{list_all};
 ghost use Rattle.toml.specs.Data.{as_table};
 ghost use Rattle.toml.specs.View.{view, table_view};
 ghost use Rattle.council_file.specs.File.{member_list, are_members, name_from};
@@ -23,17 +22,20 @@ fn is_table(value: &Value) -> bool
     value.as_table().is_some()
 }
 
-fn all_tables(values: &[Value]) -> bool
-    ensures { result ≡ list_all (λ v. is_some (as_table (view v))) values.now }
-{
-    values.iter().all(|value| is_table(value))
-}
-
-#[tactic(auto, using(council_game::proofs::Shared::Lists::maps))]
+/// Whether they are 1 to 40 tables.
+#[tactic(auto, using(crate::proofs::Views::each))]
 pub(crate) fn are_members(values: &[Value]) -> bool
     ensures { result ≡ are_members (map view values.now) }
 {
-    1 <= values.len() && values.len() <= limits::MEMBERS && all_tables(values)
+    if values.len() < 1 || limits::MEMBERS < values.len() {
+        return false;
+    }
+    for value in values {
+        if !is_table(value) {
+            return false;
+        }
+    }
+    true
 }
 
 /// The name of a member, or the empty text.

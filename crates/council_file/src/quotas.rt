@@ -1,6 +1,5 @@
 //! The quotas of a game in a tree.
 ghost use Rattle.std.specs.Prelude.{◌≡◌, option_map, map, is_some, not, ◌&&◌, slice_get, codes};
-ghost use Rattle.std.specs.List.{list_all};
 ghost use Rattle.toml.specs.Data.{as_integer};
 ghost use Rattle.toml.specs.View.{view, table_view};
 ghost use Rattle.council_file.specs.File.{elements_at, are_quotas, has_key, lacks_quota, quota_from};
@@ -15,17 +14,19 @@ fn is_integer(value: &Value) -> bool
     value.as_integer().is_some()
 }
 
-fn all_integers(values: &[Value]) -> bool
-    ensures { result ≡ list_all (λ v. is_some (as_integer (view v))) values.now }
-{
-    values.iter().all(|value| is_integer(value))
-}
-
-#[tactic(auto, using(council_game::proofs::Shared::Lists::maps))]
+/// Whether they are 1 to 4 integers.
 fn are_quotas(values: &[Value]) -> bool
     ensures { result ≡ are_quotas (map view values.now) }
 {
-    1 <= values.len() && values.len() <= limits::RULES && all_integers(values)
+    if values.len() < 1 || limits::RULES < values.len() {
+        return false;
+    }
+    for value in values {
+        if !is_integer(value) {
+            return false;
+        }
+    }
+    true
 }
 
 pub(crate) fn has_bad_quotas(table: &Table) -> bool

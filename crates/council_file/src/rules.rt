@@ -6,46 +6,47 @@ ghost use Rattle.toml.specs.View.{table_view};
 ghost use Rattle.council_file.specs.File.{member_list, breaks_rules, only_rule, rule_from, rules_of};
 ghost use Rattle.council_game.specs.Rules.{rule_view, rule_views};
 
-use crate::member_weights::{only_weights, weights_under};
+use crate::member_weights::{only_weight, weight_under};
 use crate::members::member_list;
 use crate::quotas::{has_bad_quotas, quota_at, quota_from};
-use crate::tree::{elements_at, has_key, some_has_key, value_at};
+use crate::tree::{elements_at, has_key, value_at};
+use coalitions::listed;
 use council_game::{Memory, Rule};
 use std::alloc::{AllocError, Global};
 use toml::Table;
 
-#[tactic(auto, using(council_game::proofs::Shared::Lists::list_any_map))]
+/// Some member has the key.
+#[tactic(auto, using(council_game::proofs::Shared::Lists::found_any))]
 fn some_member_has(table: &Table, key: &str) -> bool
     ensures { result ≡ list_any (λ d. is_some (get key.now d))
         (member_list (table_view table.now)) }
 {
-    some_has_key(member_list(table), key)
+    for member in member_list(table) {
+        if member.get(key).is_some() {
+            return true;
+        }
+    }
+    false
 }
 
 pub(crate) fn breaks_rules(table: &Table) -> bool
     ensures { result ≡ breaks_rules (table_view table.now) }
 {
-    (has_key(table, "quota") && has_key(table, "quotas"))
+    let one = has_key(table, "quota");
+    let several = has_key(table, "quotas");
+    (one && several)
         || has_bad_quotas(table)
-        || (has_key(table, "quota") && some_member_has(table, "weights"))
-        || (has_key(table, "quotas") && some_member_has(table, "weight"))
+        || (one && some_member_has(table, "weights"))
+        || (several && some_member_has(table, "weight"))
 }
 
-#[tactic(auto, using(council_game::proofs::Shared::Lists::maps), unfolding(crate::specs::File::only_rule))]
-fn only_rule(alloc: Global, table: &Table) -> Result<Rule, AllocError>
-    ensures { IfOk result (λ r. rule_view r ≡ only_rule (table_view table.now)) }
-{
-    let quota = quota_from(value_at(table, "quota"));
-    let weights = only_weights(alloc, member_list(table))?;
-    Ok(Rule { quota, weights })
-}
-
-#[tactic(auto, using(council_game::proofs::Shared::Lists::maps), unfolding(crate::specs::File::rule_from))]
+#[tactic(auto, unfolding(crate::specs::File::rule_from))]
 fn rule_from(alloc: Global, table: &Table, n: usize, r: usize) -> Result<Rule, AllocError>
     ensures { IfOk result (λ rule. rule_view rule ≡ rule_from (table_view table.now) n r) }
 {
     let quota = quota_at(elements_at(table, "quotas"), r);
-    let weights = weights_under(alloc, member_list(table), n, r)?;
+    let members = member_list(table);
+    let weights = listed(alloc, members.len(), |k| weight_under(&members[k], n, r))?;
     Ok(Rule { quota, weights })
 }
 
@@ -61,11 +62,15 @@ fn rules_at(alloc: Global, table: &Table, n: usize) -> Result<Vec<Rule>, AllocEr
     Ok(rules)
 }
 
+/// The rule of a file with one quota, as a list.
 fn lone_rule(alloc: Global, table: &Table) -> Result<Vec<Rule>, AllocError>
     ensures { IfOk result (λ v. rule_views v.items ≡ only_rule (table_view table.now) ∷ []) }
 {
+    let quota = quota_from(value_at(table, "quota"));
+    let members = member_list(table);
+    let weights = listed(alloc, members.len(), |k| only_weight(&members[k]))?;
     let mut rules = Vec::new(alloc);
-    rules.push(only_rule(alloc, table)?)?;
+    rules.push(Rule { quota, weights })?;
     Ok(rules)
 }
 

@@ -10,7 +10,7 @@ use std::marker::Model;
 fn is_blank(byte: u8) -> bool
     ensures { result ≡ is_blank byte }
 {
-    byte == b' ' || byte == b'\t' || byte == b'\n' || byte == b'\r'
+    matches!(byte, b' ' | b'\t' | b'\n' | b'\r')
 }
 
 fn mark(byte: u8) -> Token<'static>

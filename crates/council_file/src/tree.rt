@@ -1,7 +1,6 @@
 //! What stands in a tree of toml.
-ghost use Rattle.std.specs.Prelude.{◌≡◌, Ok, Err, option_map, map, is_some, []};
-ghost use Rattle.std.specs.List.{list_any};
-ghost use Rattle.toml.specs.Data.{get_member, get};
+ghost use Rattle.std.specs.Prelude.{◌≡◌, Ok, Err, option_map, map, []};
+ghost use Rattle.toml.specs.Data.{get_member};
 ghost use Rattle.toml.specs.View.{view, table_view};
 ghost use Rattle.council_game.specs.Fault.{Gives};
 ghost use Rattle.council_file.specs.File.{tree_of, elements_at, elements_of, has_key};
@@ -59,17 +58,4 @@ pub(crate) fn elements_at<'a>(table: &'a Table, key: &str) -> &'a [Value]
         Some(value) => elements_of(value),
         None => &[],
     }
-}
-
-fn member_has(member: &Value, key: &str) -> bool
-    ensures { result ≡ is_some (get key.now (view member.now)) }
-{
-    member.get(key).is_some()
-}
-
-/// Some member has the key.
-pub(crate) fn some_has_key(members: &[Value], key: &str) -> bool
-    ensures { result ≡ list_any (λ v. is_some (get key.now (view v))) members.now }
-{
-    members.iter().any(|member| member_has(member, key))
 }

@@ -1,6 +1,6 @@
 //! The checks of a game, in their order.
-ghost use Rattle.std.specs.Prelude.{◌≡◌, ◌≤◌, ◌<◌, ◌^◌, length, map, not, string_bytes, sum, min, ◌-◌, position, nat_eq, nat_lt, slice_index, IfSome};
-ghost use Rattle.std.specs.List.{list_any, range_with_len};
+ghost use Rattle.std.specs.Prelude.{◌≡◌, ◌≤◌, ◌<◌, ◌^◌, length, map, not, string_bytes, sum, min, ◌-◌, position, nat_eq, IfSome};
+ghost use Rattle.std.specs.List.{list_any};
 ghost use Rattle.std.specs.Cmp.Lexicographic.{pointwise};
 ghost use Rattle.coalitions.specs.declared.limits.TheConstants.{MEMBERS, WEIGHT};
 ghost use Rattle.council_game.specs.Game.{is_plain, is_title, is_name, is_repeat, is_heavy, has_bad_quota};
@@ -75,58 +75,34 @@ fn is_repeat(names: &[String], k: usize) -> bool
     place_of_name(&names[..k], names[k].as_str()).is_some()
 }
 
-/// The place of the first name that stands before.
-fn first_repeat(names: &[String]) -> Option<usize>
-    ensures place { result ≡ position (is_repeat (map string_bytes names.now))
-        (range_with_len 0 (length names.now)) }
-    ensures bound { IfSome result (λ k. k < length names.now) }
-{
-    (0..names.len()).position(|k| is_repeat(names, k))
-}
-
 /// The first member, from 1, that repeats a name.
 pub(crate) fn check_repeats(names: &[String]) -> Result<(), GameFault>
     requires { length names.now ≤ MEMBERS }
     ensures { result ≡ check_repeats (map string_bytes names.now) }
 {
-    match first_repeat(names) {
-        Some(k) => Err(GameFault::SameName {
-            member: k as u8 + 1,
-        }),
-        None => Ok(()),
+    for k in 0..names.len() {
+        if is_repeat(names, k) {
+            return Err(GameFault::SameName {
+                member: k as u8 + 1,
+            });
+        }
     }
-}
-
-/// The rule gives this member a weight above the limit.
-fn is_over(rule: &Rule, k: usize) -> bool
-    ensures { result ≡ nat_lt WEIGHT (slice_index rule.now.weights.items k) }
-{
-    match rule.weights.get(k) {
-        Some(weight) => limits::WEIGHT < *weight,
-        None => false,
-    }
-}
-
-fn any_over(rules: &[Rule], k: usize) -> bool
-    ensures { result
-        ≡ list_any (λ r. nat_lt WEIGHT (slice_index r.weights.items k)) rules.now }
-{
-    rules.iter().any(|rule| is_over(rule, k))
+    Ok(())
 }
 
 /// Some rule gives this member a weight above the limit.
-#[tactic(auto, using(crate::proofs::Shared::Lists::list_any_map))]
+#[tactic(auto, using(crate::proofs::Shared::Lists::found_any))]
 fn is_heavy(rules: &[Rule], k: usize) -> bool
     ensures { result ≡ is_heavy (rule_views rules.now) k }
 {
-    any_over(rules, k)
-}
-
-fn first_heavy(rules: &[Rule], members: usize) -> Option<usize>
-    ensures place { result ≡ position (is_heavy (rule_views rules.now)) (range_with_len 0 members) }
-    ensures bound { IfSome result (λ k. k < members) }
-{
-    (0..members).position(|k| is_heavy(rules, k))
+    for rule in rules {
+        if let Some(weight) = rule.weights.get(k)
+            && limits::WEIGHT < *weight
+        {
+            return true;
+        }
+    }
+    false
 }
 
 /// The first member, from 1, with a weight above the limit.
@@ -134,12 +110,14 @@ pub(crate) fn check_weights(rules: &[Rule], members: usize) -> Result<(), GameFa
     requires { members ≤ MEMBERS }
     ensures { result ≡ check_weights (rule_views rules.now) members }
 {
-    match first_heavy(rules, members) {
-        Some(k) => Err(GameFault::Weight {
-            member: k as u8 + 1,
-        }),
-        None => Ok(()),
+    for k in 0..members {
+        if is_heavy(rules, k) {
+            return Err(GameFault::Weight {
+                member: k as u8 + 1,
+            });
+        }
     }
+    Ok(())
 }
 
 /// The total of the weights, or the greatest number where it is greater.
@@ -159,15 +137,14 @@ fn has_bad_quota(rule: &Rule) -> bool
     rule.quota < 1 || capped_total(&rule.weights) < rule.quota
 }
 
-fn any_bad_quota(rules: &[Rule]) -> bool
-    ensures { result ≡ list_any (λ r. has_bad_quota (rule_view r)) rules.now }
-{
-    rules.iter().any(|rule| has_bad_quota(rule))
-}
-
-#[tactic(auto, using(crate::proofs::Shared::Lists::list_any_map))]
+#[tactic(auto, using(crate::proofs::Shared::Lists::found_any))]
 pub(crate) fn has_quota_fault(rules: &[Rule]) -> bool
     ensures { result ≡ list_any has_bad_quota (rule_views rules.now) }
 {
-    any_bad_quota(rules)
+    for rule in rules {
+        if has_bad_quota(rule) {
+            return true;
+        }
+    }
+    false
 }

@@ -4,11 +4,12 @@ use Rattle.council_game.proofs.Imports.{Bool, false, not, ◌||◌, List, [], �
 use Rattle.council_game.proofs.Imports.{nat_tests, cases_lt, or_parts, cond-true, RuleView, IsRule, IsVotes, places, sym, ap, ◌∙◌, subst}
 use Rattle.council_game.proofs.Imports.{length-range_with_len, length-map, get_or_default, recursion_from_All, fails_before_first, arith}
 use Rattle.council_game.proofs.Imports.{inl, inr, Option, Ok, AllByRecursion, list_any, range_with_len, votes_of, is_name, has_bad_quota}
-use Rattle.std.proofs.Common.{ltb, None, lt-ltb, le-ltb}
-use Rattle.std.specs.Option.{option_map_or}
+use Rattle.council_game.proofs.Imports.{is_repeat, is_heavy}
+use Rattle.std.proofs.Common.{None, ltb, lt-ltb, le-ltb}
 use Rattle.std.proofs.lemmas.List.{get_or_past, Sums.sum_by-le}
+use Rattle.std.specs.Option.{option_map_or}
 use Rattle.council_game.specs.declared.fault.GameFault.TheVariants.{Title, Members, Name, SameName, Weight, QuotaRange}
-use Rattle.council_game.specs.{Fault.◌>>=◌, Fault.refuse, Fault.refuse_at, Game.is_title, Game.is_repeat, Game.is_heavy, Votes.IsRanked}
+use Rattle.council_game.specs.{Fault.◌>>=◌, Fault.refuse, Fault.refuse_at, Game.is_title, Votes.IsRanked}
 use Rattle.council_game.proofs.Shared.Rankings.{ranking-sum, ranked-falls, length-weights_by_rank, length-rank_places, places-at}
 use Rattle.council_game.proofs.Shared.Rankings.{weights-at}
 

@@ -1,10 +1,11 @@
 -- The tables of a game that is made.
 use Rattle.council_game.proofs.Imports.{recursion_from_All, or_parts, common_steps, Rule, RuleView, IsVotes, votes, nat_tests, ◌≡◌, ℕ, ◌-◌}
-use Rattle.council_game.proofs.Imports.{◌^◌, ◌<◌, ◌≤◌, min, List, [], ◌∷◌, length, get_or, map, sum, refl, sym, ap, ◌∙◌, subst, arith, All}
 use Rattle.council_game.proofs.Imports.{rule_along, rule_view, rule_views, GameView, IsGame, made_game, first_weights, total, votes_of}
 use Rattle.council_game.proofs.Imports.{Option, Ok, AllByRecursion, length-map, member_at, rank_places, members_by_rank, rule_by_rank}
-use Rattle.council_game.proofs.Imports.{game_of_parts}
-use Rattle.std.proofs.Common.{String, Global, string_bytes, option_map, ltb-false}
+use Rattle.council_game.proofs.Imports.{◌<◌, ◌≤◌, List, [], ◌∷◌, length, get_or, map, sum, refl, sym, ap, ◌∙◌, subst, arith, All}
+use Rattle.council_game.proofs.Imports.{string_bytes}
+use Rattle.council_game.specs.Inner.Parts.{game_of_parts}
+use Rattle.std.proofs.Common.{String, Global, option_map, ltb-false}
 use Rattle.std.proofs.lemmas.List.Elements.{All-map}
 use Rattle.council_game.proofs.Shared.{Rankings.length-by_rank, Rankings.by_rank-at, RuleLists.held_full, WinningByPlaces.held-rule}
 use Rattle.council_game.proofs.Shared.Games.{passed, votes-are, light-weights, light-sum}
@@ -14,6 +15,12 @@ first-length : (rules : List Rule) (n : ℕ) → 0 < length rules → All (λ r.
     → length (first_weights (rule_views rules)) ≡ n
 first-length [] n some full = absurd (omega arith)
 first-length (r ∷ rs) n some full = full 0 r (omega arith)
+
+-- what the first rule ranks by
+pub first-ranks : (rules : List Rule) (r : Rule) (ws ks : List ℕ) → 0 < length rules → r ≡ get_or rules 0 r → ws ≡ r.weights.items
+    → ks ≡ rank_places ws → ks ≡ rank_places (first_weights (rule_views rules))
+first-ranks [] r ws ks some at is h = absurd (omega arith)
+first-ranks (first ∷ rules) r ws ks some at is h = h ∙ ap rank_places is ∙ ap (λ (x : Rule). rank_places x.weights.items) at
 
 pub order-fits : (rules : List Rule) (n : ℕ) (os : List ℕ) → 0 < length rules → All (λ r. length r.weights.items ≡ n) rules
     → os ≡ members_by_rank (rank_places (first_weights (rule_views rules))) → All (λ r. All (λ i. i < length r.weights.items) os) rules
@@ -35,15 +42,6 @@ sums-fit g game =
     let few : length g.names ≤ 40 = ltb-false _ _ (or_parts _ _ p.members).1 in
     light-sums (length g.names) g.rules few (recursion_from_All (λ (r : RuleView). length r.weights ≡ length g.names) g.rules game.full)
     (light-weights g game)
-
-capped : (rules : List Rule) → AllByRecursion (λ r. total r ≤ 40000000000000) (rule_views rules)
-    → map (λ r. min (sum r.weights.items) (2 ^ 64 - 1)) rules ≡ map total (rule_views rules)
-capped [] fit = refl
-capped (r ∷ rs) fit = grind (arith, nat_tests, capped rs fit.1)
-
-pub totals-are : (g : GameView) (rules : List Rule) (ts : List ℕ) → IsGame g → g.rules ≡ rule_views rules
-    → ts ≡ map (λ r. min (sum r.weights.items) (2 ^ 64 - 1)) rules → ts ≡ map total (rule_views rules)
-totals-are g rules ts game same e = e ∙ capped rules (subst (AllByRecursion (λ r. total r ≤ 40000000000000)) same (sums-fit g game))
 
 pub ranked-are : (rs xs : List RuleView) (ks os : List ℕ) → os ≡ members_by_rank ks → xs ≡ map (rule_along os) rs
     → xs ≡ map (rule_by_rank ks) rs

@@ -1,8 +1,8 @@
 -- What contracts see of a game, and what its tables hold.
-use Rattle.std.specs.Prelude.{◌≡◌, map}
+use Rattle.std.specs.Prelude.{◌≡◌}
 use Rattle.council_game.specs.declared.game.Game.TheInside.{Inside}
 use Rattle.council_game.specs.Ranks.{members_by_rank}
-use Rattle.council_game.specs.Game.{GameView, IsGame, votes_of, total}
+use Rattle.council_game.specs.Game.{GameView, IsGame, votes_of}
 use Rattle.council_game.specs.Rules.{rule_views}
 use Rattle.council_game.specs.Inner.Parts.{game_of_parts}
 
@@ -13,4 +13,3 @@ pub record IsInside (g : Inside) : Type 0 where
   pub game : IsGame (game_view g)
   pub order : g.order.items ≡ members_by_rank g.ranks.items
   pub ranked : rule_views g.ranked.items ≡ (votes_of (game_view g)).rules
-  pub totals : g.totals.items ≡ map total (rule_views g.rules.items)
