@@ -55,21 +55,25 @@ fn refuse(rt: &(impl Print + Eprint), error: &Error) -> ExitCode {
     ExitCode::from(5)
 }
 
-/// Words as they can stand in a line.
-fn harmless(alloc: Global, words: &[String]) -> Result<Vec<String>, AllocError> {
-    let mut harmless = Vec::new(alloc);
+/// Adds words to others, as they can stand in a line.
+fn add_harmless(
+    alloc: Global,
+    harmless: &mut Vec<String>,
+    words: &[String],
+) -> Result<(), AllocError> {
     for word in words {
         harmless.push(format!(in alloc; "{}", shown(word.as_str(), usize::MAX))?)?;
     }
-    Ok(harmless)
+    Ok(())
 }
 
 /// Prints what the parser says of words that it refuses, or answers by a text: of the words as they can stand in a line.
 fn refuse_words(rt: &(impl AllocGlobal + Print + Eprint), words: &[String]) -> ExitCode {
-    let Ok(words) = harmless(rt.alloc(), words) else {
+    let mut harmless = Vec::new(rt.alloc());
+    if add_harmless(rt.alloc(), &mut harmless, words).is_err() {
         return out_of_memory(rt);
-    };
-    match read_words(rt.alloc(), words.as_slice()) {
+    }
+    match read_words(rt.alloc(), harmless.as_slice()) {
         Err(WordsFault::Parse(error)) => refuse(rt, &error),
         Ok(_) | Err(WordsFault::Range) => {
             let _ = eprintln!(rt; "council: a word of the command line is not plain");
@@ -90,10 +94,13 @@ pub fn wanted<'a>(
 ) -> Result<Wanted<'a>, ExitCode> {
     match read_words(rt.alloc(), words) {
         Ok(wanted) => Ok(wanted),
-        Err(WordsFault::Parse(error)) if error.kind() == ErrorKind::OutOfMemory => {
-            Err(out_of_memory(rt))
+        Err(WordsFault::Parse(error)) => {
+            if error.kind() == ErrorKind::OutOfMemory {
+                Err(out_of_memory(rt))
+            } else {
+                Err(refuse_words(rt, words))
+            }
         }
-        Err(WordsFault::Parse(_)) => Err(refuse_words(rt, words)),
         Err(WordsFault::Range) => {
             let _ = eprintln!(rt; "council: a number of the command line is out of range");
             Err(ExitCode::from(2))

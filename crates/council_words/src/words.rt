@@ -16,7 +16,7 @@ pub enum WordsFault {
 }
 
 /// What a command line asks for. The type keeps each number in its range.
-#[derive(Debug, Drop)]
+#[derive(Drop)]
 pub struct Wanted<'a> {
     /// The game file; none where standard input is to be read.
     pub file: Option<&'a str>,
