@@ -29,13 +29,12 @@ fn no_words(rt: &impl Eprint, error: io::Error) -> ExitCode {
 ///
 /// The status to end with, where they are not UTF-8 or memory ran out. What is wrong was then said.
 pub fn command_line(rt: &(impl AllocGlobal + Env + Eprint)) -> Result<Vec<String>, ExitCode> {
-    let words = match std::env::args(rt) {
-        Ok(words) => words,
-        Err(error) => return Err(no_words(rt, error)),
-    };
-    match words.collect(rt.alloc()) {
-        Ok(words) => Ok(words),
-        Err(_) => Err(out_of_memory(rt)),
+    match std::env::args(rt) {
+        Ok(words) => match words.collect(rt.alloc()) {
+            Ok(words) => Ok(words),
+            Err(_) => Err(out_of_memory(rt)),
+        },
+        Err(error) => Err(no_words(rt, error)),
     }
 }
 
@@ -55,25 +54,21 @@ fn refuse(rt: &(impl Print + Eprint), error: &Error) -> ExitCode {
     ExitCode::from(5)
 }
 
-/// Adds words to others, as they can stand in a line.
-fn add_harmless(
-    alloc: Global,
-    harmless: &mut Vec<String>,
-    words: &[String],
-) -> Result<(), AllocError> {
+/// Words as they can stand in a line.
+fn harmless(alloc: Global, words: &[String]) -> Result<Vec<String>, AllocError> {
+    let mut harmless = Vec::new(alloc);
     for word in words {
         harmless.push(format!(in alloc; "{}", shown(word.as_str(), usize::MAX))?)?;
     }
-    Ok(())
+    Ok(harmless)
 }
 
 /// Prints what the parser says of words that it refuses, or answers by a text: of the words as they can stand in a line.
 fn refuse_words(rt: &(impl AllocGlobal + Print + Eprint), words: &[String]) -> ExitCode {
-    let mut harmless = Vec::new(rt.alloc());
-    if add_harmless(rt.alloc(), &mut harmless, words).is_err() {
+    let Ok(words) = harmless(rt.alloc(), words) else {
         return out_of_memory(rt);
-    }
-    match read_words(rt.alloc(), harmless.as_slice()) {
+    };
+    match read_words(rt.alloc(), words.as_slice()) {
         Err(WordsFault::Parse(error)) => refuse(rt, &error),
         Ok(_) | Err(WordsFault::Range) => {
             let _ = eprintln!(rt; "council: a word of the command line is not plain");
