@@ -65,41 +65,34 @@ impl<'a, R: Eprint + Clock + Wait> Progress<'a, R> {
         }
     }
 
-    /// Writes behind the line how many prefixes were looked at, where that was told.
-    fn add_looked(&self, told: &Told) {
-        let looked = told.looked;
+    /// Writes the line anew, of a run, or of a tally with this number of slices; wipes it where all slices are done.
+    fn tell(&self, told: &mut Told, slices: Option<u16>) {
+        let (done, counted, looked) = (told.done, told.counted, told.looked);
+        if let Some(slices) = slices
+            && u64::from(slices) <= done
+        {
+            if told.shown {
+                told.shown = false;
+                let _ = eprint!(self.rt; "\r\x1b[K");
+            }
+            return;
+        }
+        if !self.is_long() {
+            return;
+        }
+        told.shown = true;
+        if let Some(slices) = slices {
+            let _ = eprint!(self.rt;
+                "\rcouncil: {done} of {slices} slices, {counted} coalitions are counted"
+            );
+        } else {
+            let _ = eprint!(self.rt; "\rcouncil: slice {done} is begun");
+            if looked > 0 {
+                let _ = eprint!(self.rt; ", {counted} coalitions are found");
+            }
+        }
         if looked > 0 {
             let _ = eprint!(self.rt; ", {looked} prefixes are looked at");
-        }
-    }
-
-    /// Writes the line of a run anew.
-    fn tell_run(&self, told: &mut Told) {
-        let (begun, found) = (told.done, told.counted);
-        if self.is_long() {
-            told.shown = true;
-            let _ = eprint!(self.rt; "\rcouncil: slice {begun} is begun");
-            if told.looked > 0 {
-                let _ = eprint!(self.rt; ", {found} coalitions are found");
-            }
-            self.add_looked(told);
-        }
-    }
-
-    /// Writes the line of a tally anew, and wipes it where all is done.
-    fn tell(&self, told: &mut Told, slices: u16) {
-        let (done, counted) = (told.done, told.counted);
-        if done < u64::from(slices) {
-            if self.is_long() {
-                told.shown = true;
-                let _ = eprint!(self.rt;
-                    "\rcouncil: {done} of {slices} slices, {counted} coalitions are counted"
-                );
-                self.add_looked(told);
-            }
-        } else if told.shown {
-            told.shown = false;
-            let _ = eprint!(self.rt; "\r\x1b[K");
         }
     }
 
@@ -109,10 +102,7 @@ impl<'a, R: Eprint + Clock + Wait> Progress<'a, R> {
         told.done = told.done.wrapping_add(done);
         told.counted = told.counted.wrapping_add(counted);
         told.looked = told.looked.wrapping_add(looked);
-        match slices {
-            Some(slices) => self.tell(&mut told, slices),
-            None => self.tell_run(&mut told),
-        }
+        self.tell(&mut told, slices);
     }
 }
 

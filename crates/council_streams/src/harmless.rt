@@ -26,11 +26,10 @@ impl<W: Write> Write for Cut<'_, W> {
             };
             self.left = left.checked_sub(1);
             if left == 0 {
-                self.writer.write_str("...")?;
-            } else {
-                let shown = if is_harmful(letter) { ' ' } else { letter };
-                self.writer.write_char(shown)?;
+                return self.writer.write_str("...");
             }
+            let shown = if is_harmful(letter) { ' ' } else { letter };
+            self.writer.write_char(shown)?;
         }
         Ok(())
     }

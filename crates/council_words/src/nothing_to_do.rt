@@ -29,13 +29,12 @@ fn no_words(rt: &impl Eprint, error: io::Error) -> ExitCode {
 ///
 /// The status to end with, where they are not UTF-8 or memory ran out. What is wrong was then said.
 pub fn command_line(rt: &(impl AllocGlobal + Env + Eprint)) -> Result<Vec<String>, ExitCode> {
-    let words = match std::env::args(rt) {
-        Ok(words) => words,
-        Err(error) => return Err(no_words(rt, error)),
-    };
-    match words.collect(rt.alloc()) {
-        Ok(words) => Ok(words),
-        Err(_) => Err(out_of_memory(rt)),
+    match std::env::args(rt) {
+        Ok(words) => match words.collect(rt.alloc()) {
+            Ok(words) => Ok(words),
+            Err(_) => Err(out_of_memory(rt)),
+        },
+        Err(error) => Err(no_words(rt, error)),
     }
 }
 
@@ -90,10 +89,13 @@ pub fn wanted<'a>(
 ) -> Result<Wanted<'a>, ExitCode> {
     match read_words(rt.alloc(), words) {
         Ok(wanted) => Ok(wanted),
-        Err(WordsFault::Parse(error)) if error.kind() == ErrorKind::OutOfMemory => {
-            Err(out_of_memory(rt))
+        Err(WordsFault::Parse(error)) => {
+            if error.kind() == ErrorKind::OutOfMemory {
+                Err(out_of_memory(rt))
+            } else {
+                Err(refuse_words(rt, words))
+            }
         }
-        Err(WordsFault::Parse(_)) => Err(refuse_words(rt, words)),
         Err(WordsFault::Range) => {
             let _ = eprintln!(rt; "council: a number of the command line is out of range");
             Err(ExitCode::from(2))

@@ -16,7 +16,7 @@ pub enum WordsFault {
 }
 
 /// What a command line asks for. The type keeps each number in its range.
-#[derive(Debug, Drop)]
+#[derive(Drop)]
 pub struct Wanted<'a> {
     /// The game file; none where standard input is to be read.
     pub file: Option<&'a str>,
@@ -202,10 +202,12 @@ fn wanted_of<'a>(matches: &ArgMatches<'a>) -> Option<Wanted<'a>> {
     let workers = matches.get_one::<u8>("workers")?;
     let bits = matches.get_one::<u8>("bits")?;
     let most = matches.get_one::<u32>("most")?;
-    if workers == 0 || limits::WORKERS < workers || limits::BITS < bits {
-        return None;
-    }
-    if most == 0 || limits::COALITIONS < most {
+    if workers == 0
+        || limits::WORKERS < workers
+        || limits::BITS < bits
+        || most == 0
+        || limits::COALITIONS < most
+    {
         return None;
     }
     Some(Wanted {
@@ -240,6 +242,8 @@ fn matches_of<'a>(alloc: Global, words: &'a [String]) -> Result<ArgMatches<'a>, 
 ///
 /// `Parse` where the parser refuses it, or answers `--help` or `--version`.
 pub fn read_words<'a>(alloc: Global, words: &'a [String]) -> Result<Wanted<'a>, WordsFault> {
-    let matches = matches_of(alloc, words).map_err(WordsFault::Parse)?;
-    wanted_of(&matches).ok_or(WordsFault::Range)
+    match matches_of(alloc, words) {
+        Ok(matches) => wanted_of(&matches).ok_or(WordsFault::Range),
+        Err(error) => Err(WordsFault::Parse(error)),
+    }
 }

@@ -26,9 +26,17 @@ impl<'a> Said<'a> {
     /// Adds a line.
     pub fn line(&mut self, line: impl Display + Drop) {
         // memory: told at the end
-        if writeln!(self.lines, "  {line}").is_err() {
-            self.failed = true;
-        }
+        self.failed |= writeln!(self.lines, "  {line}").is_err();
+    }
+
+    /// Adds a line of what is there, and of what is wanted.
+    pub(crate) fn wanted(&mut self, what: impl Display + Drop, wanted: &str) {
+        self.line(format_args!("{what}: {wanted}"));
+    }
+
+    /// Adds a line of these words.
+    pub fn say(&mut self, words: &str) {
+        self.line(words);
     }
 
     /// The value at a key of the top.
@@ -43,7 +51,10 @@ impl<'a> Said<'a> {
 
     /// The value at a key of a member, which has a number from 1.
     pub fn value_of(&self, member: usize, key: &str) -> Option<&'a Value> {
-        self.members().get(member.wrapping_sub(1))?.get(key)
+        match self.members().get(member.wrapping_sub(1)) {
+            Some(value) => value.get(key),
+            None => None,
+        }
     }
 }
 
