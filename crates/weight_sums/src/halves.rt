@@ -105,7 +105,8 @@ struct Halves {
 }
 
 impl Halves {
-    /// The sets of the second half are in one list after another, and so are those of the first.
+    /// The sets of the second half are in one list after another, and so are those of the first. (Where `own` was made first, the
+    /// memory of these lists came to a third more.)
     fn of_lists(
         alloc: Global,
         weights: &[u64],
@@ -121,13 +122,13 @@ impl Halves {
     {
         let (front, back) = weights.split_at(weights.len() / 2);
         let digits = ((back.len() + 1) / 2) as u32;
-        fill(front, true, first, spare)?;
-        let own = Groups::new(alloc, first, &[NOBODY], quota, digits)?;
         fill(front, false, first, spare)?;
         fill(back, false, second, spare)?;
         let won = Pairs::new(alloc, first, second, quota, digits)?;
         fill(back, true, second, spare)?;
         let shortened = Pairs::new(alloc, first, second, quota, digits)?;
+        fill(front, true, first, spare)?;
+        let own = Groups::new(alloc, first, &[NOBODY], quota, digits)?;
         Ok(Halves {
             quota,
             won,
