@@ -1,7 +1,7 @@
 //! Where a bracket text breaks its grammar, as the reader of such texts knows it.
 use council_file::{bracket_rule, is_bracket};
 use council_game::{Memory, limits};
-use explain_toml::Said;
+use explain_toml::{Said, is_digit};
 use std::alloc::Global;
 
 /// How the front of a bracket text can end, and what is then wanted behind it. The first end that fits says it.
@@ -46,40 +46,26 @@ fn longest_front(alloc: Global, text: &str) -> Result<usize, Memory> {
 pub(crate) fn say_misfit(said: &mut Said<'_>, alloc: Global) -> Result<(), Memory> {
     let text = said.text.trim_end();
     let place = longest_front(alloc, text)?;
-    let digits = text.as_bytes().get(place.wrapping_sub(1)..);
-    let wanted = if let Some([b'0'..=b'9', b'0'..=b'9', ..]) = digits {
+    let (front, rest) = text.split_at_checked(place).unwrap_or((text, ""));
+    let wanted = if front.ends_with(is_digit) && rest.starts_with(is_digit) {
         "a number has at most 18 digits"
     } else {
-        wanted_behind(alloc, text.get(..place).unwrap_or(text))?.unwrap_or("")
+        wanted_behind(alloc, front)?.unwrap_or("")
     };
     said.say_place(place);
-    said.say(wanted);
+    said.line(wanted);
     said.say_remedy_at(place);
     Ok(())
-}
-
-/// Whether one of the numbers of a text is written `000`.
-fn has_three_zeros(bytes: &[u8]) -> bool {
-    // the zeros of a number, and more than three where it has another digit
-    let mut zeros = 0u8;
-    for byte in bytes {
-        match byte {
-            b'0' => zeros = zeros.saturating_add(1),
-            b'1'..=b'9' => zeros = 4,
-            _ if zeros == 3 => break,
-            _ => zeros = 0,
-        }
-    }
-    zeros == 3
 }
 
 /// What is to be said of a game that was read, where another may be meant: of a bracket text with a weight `000`, as a comma
 /// between thousands makes one. The bytes are those of the file.
 pub fn remark(bytes: &[u8]) -> Option<&'static str> {
     let told = "a weight 000 was read as 0: a comma ends a weight, also between thousands";
-    if has_three_zeros(bytes) && is_bracket(bytes) {
-        Some(told)
-    } else {
-        None
+    for number in bytes.split(|byte| !byte.is_ascii_digit()) {
+        if matches!(number, b"000") && is_bracket(bytes) {
+            return Some(told);
+        }
     }
+    None
 }

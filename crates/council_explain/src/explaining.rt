@@ -1,9 +1,9 @@
 //! What a fault says of bytes.
 use crate::bracket::say_misfit;
-use crate::rules::{say_members, say_quota_range, say_unknown_key, say_weight};
+use crate::rules::{say_count, say_quota_range, say_range, say_unknown_key, say_weight};
 use council_file::{bracket_rule, is_bracket};
 use council_game::{GameFault, Memory, Rule};
-use explain_toml::{Said, add_bare};
+use explain_toml::{Said, bare};
 use std::alloc::Global;
 use toml::Table;
 use toml::de::Error;
@@ -35,24 +35,33 @@ fn say_fault(
     error: Option<&Error>,
     rule: Option<&Rule>,
     fault: GameFault,
-) {
+) -> Result<(), Memory> {
     match fault {
-        GameFault::Read => said.say(READ),
-        GameFault::TooLong => said.say(TOO_LONG),
+        GameFault::Read => said.line(READ),
+        GameFault::TooLong => said.line(TOO_LONG),
         GameFault::Text => said.say_no_toml(bytes, error, is_bracket(bytes)),
         GameFault::UnknownKey => say_unknown_key(said),
         GameFault::Title => said.say_title(),
         GameFault::Rules => said.say_rules(),
         GameFault::Quota => said.say_quota(),
-        GameFault::Members => say_members(said, rule),
+        GameFault::Members => match rule {
+            Some(rule) => say_count(said, rule),
+            None => said.say_members(),
+        },
         GameFault::Name { member } => said.say_name(usize::from(member)),
         GameFault::SameName { member } => said.say_same_name(usize::from(member)),
-        GameFault::Weight { member } => say_weight(said, rule, usize::from(member)),
-        GameFault::QuotaRange => say_quota_range(said, alloc, rule),
-        // memory: told at the end
-        GameFault::Bracket => said.failed |= say_misfit(said, alloc).is_err(),
+        GameFault::Weight { member } => match rule {
+            Some(rule) => say_weight(said, rule, usize::from(member)),
+            None => said.say_weight(usize::from(member)),
+        },
+        GameFault::QuotaRange => match rule {
+            Some(rule) => say_range(said, "the quota", rule.quota, rule),
+            None => return say_quota_range(said, alloc),
+        },
+        GameFault::Bracket => return say_misfit(said, alloc),
         GameFault::Memory => {}
     }
+    Ok(())
 }
 
 /// Why a game file was refused, and where: lines of text, each begun with two blanks and ended with LF; none
@@ -65,10 +74,9 @@ fn say_fault(
 pub fn explain(alloc: Global, bytes: &[u8], fault: GameFault) -> Result<String, Memory> {
     let bytes = bytes.strip_prefix(MARK).unwrap_or(bytes);
     let text = String::from_utf8_lossy(alloc, bytes)?;
-    let mut bare = String::new(alloc);
-    add_bare(&mut bare, text.as_str())?;
-    let rule = bracket_rule(alloc, bytes)?;
+    let bare = bare(alloc, text.as_str())?;
     let (table, error) = tree_of(alloc, text.as_str())?;
+    let rule = bracket_rule(alloc, bytes)?;
     let mut said = Said {
         text: text.as_str(),
         bare: bare.as_str(),
@@ -83,7 +91,7 @@ pub fn explain(alloc: Global, bytes: &[u8], fault: GameFault) -> Result<String, 
         error.as_ref(),
         rule.as_ref(),
         fault,
-    );
+    )?;
     if said.failed {
         // memory: a growth was refused
         return Err(Memory);

@@ -16,5 +16,5 @@ mod source;
 mod values;
 
 pub use said::{Said, short};
-pub use source::add_bare;
-pub use values::elements;
+pub use source::bare;
+pub use values::{elements, is_digit};

@@ -6,21 +6,22 @@ use toml::Value;
 impl Said<'_> {
     /// Says what is wrong with the title.
     pub fn say_title(&mut self) {
-        let value = self.say_key("title");
-        self.say_text(
-            value,
-            "a title is a text in quotes, of at most 200 bytes, on one line",
-        );
+        self.say_key("title");
+        if let Some(value) = self.value_at("title") {
+            let wanted = "a title is a text in quotes, of at most 200 bytes, on one line";
+            self.say_text(value, wanted);
+        }
     }
 
     /// Says what is wrong with the quota, or that there is none.
     pub fn say_quota(&mut self) {
-        if let Some(value) = self.say_key("quota") {
+        self.say_key("quota");
+        if let Some(value) = self.value_at("quota") {
             self.say_number(value, "a quota is a whole number, without quotes");
         } else if self.table.is_empty() {
-            self.say("the file holds no game: it has neither a quota nor a member");
+            self.line("the file holds no game: it has neither a quota nor a member");
         } else {
-            self.say("the file has no quota: write a line such as quota = 51 before the members");
+            self.line("the file has no quota: write a line such as quota = 51 before the members");
         }
     }
 
@@ -32,34 +33,38 @@ impl Said<'_> {
                 break;
             }
         }
-        self.say("weight goes with quota, and weights go with quotas");
+        self.line("weight goes with quota, and weights go with quotas");
     }
 
-    /// Says which keys do not go together, or what is wrong with the quotas.
-    pub fn say_rules(&mut self) {
-        let quota = "quota";
-        let Some(value) = self.value_at("quotas") else {
-            self.say_key(quota);
-            return self.say_mixed("weights");
-        };
-        self.say_key("quotas");
-        if self.value_at(quota).is_some() {
-            self.say_key(quota);
-            return self.say("quota and quotas are both there: a game has one of them");
-        }
+    /// Says what is wrong with the value of `quotas`, or which member has a key that does not go with it.
+    fn say_quotas(&mut self, value: &Value) {
         let Value::Array(quotas) = value else {
             return self.say_value(value, "quotas are an array of 1 to 4 whole numbers");
         };
         let wanted = "quotas are 1 to 4 whole numbers";
         let count = quotas.len();
         if count == 0 || limits::RULES < count {
-            return self.wanted(format_args!("there are {count} of them"), wanted);
+            return self.line(format_args!("there are {count} of them: {wanted}"));
         }
-        for quota in quotas.as_slice() {
-            if !quota.is_integer() {
+        for quota in quotas {
+            if !matches!(quota, Value::Integer(_)) {
                 return self.say_number(quota, wanted);
             }
         }
         self.say_mixed("weight");
+    }
+
+    /// Says which keys do not go together, or what is wrong with the quotas.
+    pub fn say_rules(&mut self) {
+        let Some(value) = self.value_at("quotas") else {
+            self.say_key("quota");
+            return self.say_mixed("weights");
+        };
+        self.say_key("quotas");
+        if self.value_at("quota").is_none() {
+            return self.say_quotas(value);
+        }
+        self.say_key("quota");
+        self.line("quota and quotas are both there: a game has one of them");
     }
 }

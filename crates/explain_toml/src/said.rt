@@ -26,17 +26,9 @@ impl<'a> Said<'a> {
     /// Adds a line.
     pub fn line(&mut self, line: impl Display + Drop) {
         // memory: told at the end
-        self.failed |= writeln!(self.lines, "  {line}").is_err();
-    }
-
-    /// Adds a line of what is there, and of what is wanted.
-    pub(crate) fn wanted(&mut self, what: impl Display + Drop, wanted: &str) {
-        self.line(format_args!("{what}: {wanted}"));
-    }
-
-    /// Adds a line of these words.
-    pub fn say(&mut self, words: &str) {
-        self.line(words);
+        if writeln!(self.lines, "  {line}").is_err() {
+            self.failed = true;
+        }
     }
 
     /// The value at a key of the top.
@@ -51,10 +43,7 @@ impl<'a> Said<'a> {
 
     /// The value at a key of a member, which has a number from 1.
     pub fn value_of(&self, member: usize, key: &str) -> Option<&'a Value> {
-        match self.members().get(member.wrapping_sub(1)) {
-            Some(value) => value.get(key),
-            None => None,
-        }
+        self.members().get(member.wrapping_sub(1))?.get(key)
     }
 }
 

@@ -1,7 +1,7 @@
 //! Places in the text of a game file.
 use crate::said::{Said, short};
 use coalitions::Memory;
-use toml::Value;
+use std::alloc::Global;
 
 /// What ends the comment or the quotes that are open behind a letter, by what ended those before it: the end of a line, or
 /// quotes; `\` where the next letter ends nothing.
@@ -16,8 +16,9 @@ fn end_behind(end: Option<char>, letter: char) -> Option<char> {
     }
 }
 
-/// Adds a text to another, without blanks, comments and what stands in quotes. The ends of lines are left.
-pub fn add_bare(bare: &mut String, text: &str) -> Result<(), Memory> {
+/// A text without blanks, comments and what stands in quotes. The ends of lines are left.
+pub fn bare(alloc: Global, text: &str) -> Result<String, Memory> {
+    let mut bare = String::new(alloc);
     let mut end = None;
     for letter in text.chars() {
         end = end_behind(end, letter);
@@ -25,84 +26,60 @@ pub fn add_bare(bare: &mut String, text: &str) -> Result<(), Memory> {
             bare.push(letter)?;
         }
     }
-    Ok(())
+    Ok(bare)
 }
 
-/// The place in a bare text in which a key stands first, as a whole word before what fits a key.
-fn place_of_key(bare: &str, key: &str) -> Option<usize> {
-    let bytes = bare.as_bytes();
+/// The line of a bare text in which a key stands first, as a whole word before what fits a key; its first line has the
+/// number `first`.
+fn line_of_key(bare: &str, first: usize, key: &str) -> Option<usize> {
     for (place, _) in bare.match_indices(key) {
-        if let Some(b'=' | b'.' | b']') = bytes.get(place.wrapping_add(key.len())) {
-            match bytes.get(place.wrapping_sub(1)) {
-                Some(b'-' | b'_') => {}
-                Some(last) if last.is_ascii_alphanumeric() => {}
-                _ => return Some(place),
-            }
+        if let Some((front, rest)) = bare.split_at_checked(place)
+            && !front.ends_with(|last: char| last.is_ascii_alphanumeric() || "-_".contains(last))
+            && let Some(b'=' | b'.' | b']') = rest.as_bytes().get(key.len())
+        {
+            return Some(first.saturating_add(front.matches('\n').count()));
         }
     }
     None
 }
 
-/// The line and the column of a place in a text, both from 1, the column in characters.
-fn line_and_column(text: &str, place: usize) -> (usize, usize) {
-    let mut line = 1usize;
-    let mut column = 1usize;
-    for letter in text.get(..place).unwrap_or(text).chars() {
-        column = column.saturating_add(1);
-        if letter == '\n' {
-            line = line.saturating_add(1);
-            column = 1;
-        }
-    }
-    (line, column)
-}
-
-impl<'a> Said<'a> {
-    /// What stands in the line with this number, from 1.
-    fn row(&self, line: usize) -> &'a str {
-        self.text.lines().nth(line.wrapping_sub(1)).unwrap_or("")
-    }
-
-    /// Says the line and the column of a place, and what stands in the line.
+impl Said<'_> {
+    /// Says the line and the column of a place, and what stands in the line; the column is in characters.
     pub fn say_place(&mut self, place: usize) {
-        let (line, column) = line_and_column(self.text, place);
-        let row = short(self.row(line));
+        let front = self.text.get(..place).unwrap_or(self.text);
+        let (_, last) = front.rsplit_once('\n').unwrap_or(("", front));
+        let ends = front.matches('\n').count();
+        let row = short(self.text.lines().nth(ends).unwrap_or(""));
+        let line = ends.saturating_add(1);
+        let column = last.chars().count().saturating_add(1);
         self.line(format_args!("line {line}, column {column}: {row}"));
     }
 
-    /// Says the number of a line, and what stands in it.
-    pub(crate) fn say_row(&mut self, line: usize, row: &str) {
-        self.line(format_args!("line {line}: {}", short(row)));
+    /// Says a line, and what stands in it.
+    fn say_line(&mut self, line: usize) {
+        let row = self.text.lines().nth(line.saturating_sub(1)).unwrap_or("");
+        self.line(format_args!("line {line}: {}", short(row.trim())));
     }
 
-    /// Says the line of a place in the bare text, and what stands in it.
-    fn say_line(&mut self, place: usize) {
-        let (line, _) = line_and_column(self.bare, place);
-        self.say_row(line, self.row(line).trim());
-    }
-
-    /// Says where a key of the top stands; its value.
-    pub fn say_key(&mut self, key: &str) -> Option<&'a Value> {
-        if let Some(place) = place_of_key(self.bare, key) {
-            self.say_line(place);
+    /// Says where a key of the top stands.
+    pub fn say_key(&mut self, key: &str) {
+        if let Some(line) = line_of_key(self.bare, 1, key) {
+            self.say_line(line);
         }
-        self.value_at(key)
     }
 
     /// Says where a key of a member stands, or else the member: it is behind the header, or else the brace, that has its
-    /// number among its like; the value of the key.
-    pub fn say_key_of(&mut self, member: usize, key: &str) -> Option<&'a Value> {
-        let header = "[[member]]";
-        let mark = if self.bare.contains(header) {
-            header
-        } else {
-            "{"
-        };
-        if let Some(rest) = self.bare.splitn(member.saturating_add(1), mark).nth(member) {
-            let begin = self.bare.len().saturating_sub(rest.len());
-            let part = rest.split(mark).next().unwrap_or(rest);
-            self.say_line(begin.saturating_add(place_of_key(part, key).unwrap_or(0)));
+    /// number among its like.
+    pub fn say_key_of(&mut self, member: usize, key: &str) {
+        let is_header = self.bare.contains("[[member]]");
+        let mark = if is_header { "[[member]]" } else { "{" };
+        let mut line = 1usize;
+        // (the first part stands before all members)
+        for (number, part) in self.bare.split(mark).enumerate() {
+            if number == member {
+                return self.say_line(line_of_key(part, line, key).unwrap_or(line));
+            }
+            line = line.saturating_add(part.matches('\n').count());
         }
-        self.value_of(member, key)
     }
 }

@@ -26,22 +26,20 @@ pub(crate) fn kind(value: &Value) -> &'static str {
     }
 }
 
+/// Whether a letter is a digit.
+pub fn is_digit(letter: char) -> bool {
+    letter.is_ascii_digit()
+}
+
 /// The most decimals of a number in a text.
 fn most_decimals(text: &str) -> usize {
     let mut most = 0usize;
-    let mut decimals = 0usize;
-    let mut is_behind_point = false;
-    let mut is_behind_digit = false;
-    for byte in text.bytes() {
-        let is_digit = byte.is_ascii_digit();
-        if is_digit && is_behind_point {
-            decimals = decimals.saturating_add(1);
-            most = most.max(decimals);
-        } else {
-            decimals = 0;
-            is_behind_point = is_behind_digit && byte == b'.';
+    let mut has_digit = false;
+    for part in text.split('.') {
+        if has_digit {
+            most = most.max(part.bytes().take_while(u8::is_ascii_digit).count());
         }
-        is_behind_digit = is_digit;
+        has_digit = part.ends_with(is_digit);
     }
     most
 }
@@ -49,22 +47,19 @@ fn most_decimals(text: &str) -> usize {
 impl Said<'_> {
     /// Says what a value is, and what is wanted in its place.
     pub(crate) fn say_value(&mut self, value: &Value, wanted: &str) {
-        self.wanted(format_args!("{} is {}", short(value), kind(value)), wanted);
+        self.line(format_args!("{} is {}: {wanted}", short(value), kind(value)));
     }
 
-    /// Says what is wrong with what is to be a text on one line, a title or else a name: that there is none, what it is,
-    /// what it has, or else how long it is.
-    pub(crate) fn say_text(&mut self, value: Option<&Value>, wanted: &str) {
-        match value {
-            None => self.wanted("the member has no name", wanted),
-            Some(Value::String(text)) if text.as_bytes().iter().any(u8::is_ascii_control) => {
-                let what = "the text has a TAB, the end of a line or another control character";
-                self.wanted(what, wanted);
-            }
-            Some(Value::String(text)) => {
-                self.wanted(format_args!("the text has {} bytes", text.len()), wanted);
-            }
-            Some(value) => self.say_value(value, wanted),
+    /// Says what is wrong with what is to be a text on one line: what it is, what it has, or else how long it is.
+    pub(crate) fn say_text(&mut self, value: &Value, wanted: &str) {
+        let Value::String(text) = value else {
+            return self.say_value(value, wanted);
+        };
+        if text.as_bytes().iter().any(u8::is_ascii_control) {
+            let has = "a TAB, the end of a line or another control character";
+            self.line(format_args!("the text has {has}: {wanted}"));
+        } else {
+            self.line(format_args!("the text has {} bytes: {wanted}", text.len()));
         }
     }
 
@@ -73,7 +68,7 @@ impl Said<'_> {
         self.say_value(value, wanted);
         match value {
             Value::Float(_) => self.say_factor(self.bare),
-            Value::String(text) if text.contains(['%', '/']) => self.say(STATUTES),
+            Value::String(text) if text.contains(['%', '/']) => self.line(STATUTES),
             _ => {}
         }
     }
@@ -92,7 +87,7 @@ impl Said<'_> {
     /// Says what helps where the text can't be read on from a place.
     pub fn say_remedy_at(&mut self, place: usize) {
         match self.text.as_bytes().get(place) {
-            Some(b'%' | b'/') => self.say(STATUTES),
+            Some(b'%' | b'/') => self.line(STATUTES),
             Some(b'.') => self.say_factor(self.text),
             _ => {}
         }
