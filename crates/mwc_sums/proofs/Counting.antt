@@ -20,13 +20,6 @@ any-of t n some =
 pub all-at : (t : ℕ → Bool) (n i : ℕ) → i < n → list_all t (range_with_len 0 n) ≡ true → t i ≡ true
 all-at t n i lt all = grind (arith, length-range_with_len 0 n, places-at n i 0 lt, AllPass-from_list_all t (range_with_len 0 n) all i 0)
 
--- one place more
-pub any_more : (t : ℕ → Bool) (n : ℕ) → list_any t (range_with_len 0 (n + 1)) ≡ (list_any t (range_with_len 0 n) || t n)
-any_more t n = grind (arith, nat_tests, range-more 0 n, list_any-append)
-
-pub all_more : (t : ℕ → Bool) (n : ℕ) → list_all t (range_with_len 0 (n + 1)) ≡ (list_all t (range_with_len 0 n) && t n)
-all_more t n = grind (arith, nat_tests, range-more 0 n, list_all-append)
-
 pub pushed : (f : ℕ → ℕ) (n : ℕ) {x : ℕ} {front all : List ℕ} → front ≡ map f (range_with_len 0 n) → x ≡ f n → all ≡ front ++ x ∷ []
     → all ≡ map f (range_with_len 0 (n + 1))
 pushed f n is own more = grind (arith, map-range_with_len_more f 0 n n)

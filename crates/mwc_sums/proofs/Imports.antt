@@ -5,18 +5,17 @@ pub use Rattle.council_game.proofs.Shared.{Listing.down-below, Rankings.places-a
 pub use Rattle.council_game.specs.{Game.GameView, Game.IsGame, Game.votes_of, Ranks.member_at, Ranks.members_by_rank, Rules.rule_views}
 pub use Rattle.council_game.specs.Votes.{IsVotes, RuleView, Votes, minimal, rule_at, size}
 pub use Rattle.mwc_sums.specs.Chambers.{AreChambersOf, HasNoWeight, chamber_of, met, minimal_of_size, share, weighs}
-pub use Rattle.mwc_sums.specs.{Heads.are_of_one_chamber, Heads.asks_of_those, Heads.gives_each, Inner.Fair.IsFair}
 pub use Rattle.mwc_sums.specs.{Inner.Rules.AreRulesOf, Inner.Rules.StatuteView, Statute.is_counted, Statute.rules_beside, Statute.statute}
-pub use Rattle.mwc_sums.specs.Inner.Seats.{IsTallyOfPlace, key, key_at}
+pub use Rattle.mwc_sums.specs.{Heads.are_of_one_chamber, Inner.Fair.IsFair, Inner.Seats.IsTallyOfPlace, Inner.Seats.key, Inner.Seats.key_at}
 pub use Rattle.mwc_sums.specs.Vetoers.{can_veto, rest_of, rule_for}
 pub use Rattle.power_index.proofs.Shared.{Minimal.minimal-few, Sums.sum-filter, Sums.sum-range}
 pub use Rattle.power_index.specs.{Counting.contains, Counting.size_of, Tables.IsTallyOf, Tables.no_tally}
 pub use Rattle.std.proofs.Common.{All, Bool, List, [], ap, arith, cond, eqb, false, filter, get_or, inl, inr, le-ltb, leb, length, ltb, map}
 pub use Rattle.std.proofs.Common.{not, refl, string_bytes, subst, suc, sum, sum_by, sym, take, take_all, true, zero, ℕ, ◌&&◌, ◌*◌, ◌++◌}
 pub use Rattle.std.proofs.Common.{◌+◌, ◌-◌, ◌<◌, ◌==◌, ◌^◌, ◌||◌, ◌↔◌, ◌∙◌, ◌∷◌, ◌≡◌, ◌≢◌, ◌≤◌, ◌⊎◌}
-pub use Rattle.std.proofs.lemmas.Bool.{both_ways, cases_eq, cases_lt, true_from_ne_false}
 pub use Rattle.std.proofs.lemmas.List.{Filters.length-filter_both, FromFn.length-map-range_with_len, FromFn.length-range_with_len}
-pub use Rattle.std.proofs.lemmas.{Bool.Decides.nat_tests, Grind.common_steps, List.length-map}
+pub use Rattle.std.proofs.lemmas.{Bool.cases_eq, Bool.cases_lt, Bool.true_from_ne_false, Bool.Decides.nat_tests, Grind.common_steps}
+pub use Rattle.std.proofs.lemmas.List.{length-map}
 pub use Rattle.std.proofs.lemmas.List.Elements.{All-filter, All-from_get_or, All-from_recursion, All-head, All-tail, filter-append}
 pub use Rattle.std.proofs.lemmas.List.Sums.{AllPass-from_list_all, length-filter, list_all-from_AllPass, sum_by-cons}
 pub use Rattle.std.specs.List.{list_all, list_any, range_with_len}

@@ -1,8 +1,8 @@
 -- As many coalitions pass one test as pass another, and sets that win where they win under two conditions.
 use Rattle.mwc_sums.proofs.Imports.{◌≡◌, ◌∙◌, ◌↔◌, ◌==◌, ◌&&◌, ℕ, zero, suc, ◌^◌, ◌<◌, Bool, true, false, List, length, get_or, filter, sym}
 use Rattle.mwc_sums.proofs.Imports.{nat_tests, not, ◌||◌, true_from_ne_false, ◌+◌, size, filter-both, eqb, ap, refl, arith, sum_by}
-use Rattle.mwc_sums.proofs.Imports.{both_ways, cases_eq, sum_by-cons, length-filter, down, sum-zero}
-use Rattle.std.proofs.lemmas.Bool.{and_parts, and_from, false_from_ne_true}
+use Rattle.mwc_sums.proofs.Imports.{cases_eq, sum_by-cons, length-filter, down, sum-zero}
+use Rattle.std.proofs.lemmas.Bool.{both_ways, and_parts, and_from, false_from_ne_true}
 use Rattle.coalitions.proofs.Shared.Lists.{sum-swap}
 use Rattle.mwc_sums.proofs.VetoRules.{sum-parts}
 use Rattle.mwc_sums.proofs.Seating.{one_if, IsLeast, IsSeating, seen, less, LooksAt, as_mask, mask-is, mask-less, mask-seen, seen-size}

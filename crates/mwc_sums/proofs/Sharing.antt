@@ -3,10 +3,10 @@ use Rattle.mwc_sums.proofs.Imports.{AreRulesOf, filter-both, ◌≡◌, ◌≢�
 use Rattle.mwc_sums.proofs.Imports.{true_from_ne_false, length-filter_both, AllPass-from_list_all, list_all-from_AllPass, All-filter, refl}
 use Rattle.mwc_sums.proofs.Imports.{◌-◌, length, get_or, All-from_get_or, RuleView, rule_at, GameView, nat_tests, met, share, chamber_of}
 use Rattle.mwc_sums.proofs.Imports.{filter, List, [], ◌∷◌, HasNoWeight, AreChambersOf, are_of_one_chamber, is_counted, statute, IsFair}
-use Rattle.mwc_sums.proofs.Imports.{arith, inl, inr, All, side, asks_of_those, gives_each, ◌==◌}
+use Rattle.mwc_sums.proofs.Imports.{arith, inl, inr, All, side}
 use Rattle.std.proofs.lemmas.List.Elements.{All-take}
 use Rattle.mwc_sums.specs.{Inner.Rules.AreOfChambers, Inner.Rules.beside_of, Inner.Rules.part_of, Statute.counted, Statute.left}
-use Rattle.mwc_sums.proofs.Counting.{filter-within, All-passing, all-at, any-at, any-of, missing}
+use Rattle.mwc_sums.proofs.Counting.{filter-within, All-passing, any-at, any-of, missing}
 use Rattle.mwc_sums.proofs.VetoRules.{good-met, good-some, alike-sum}
 
 -- ---- who has weight in two rules
@@ -20,16 +20,6 @@ share-self : (n : ℕ) (r : RuleView) → IsFair n r → share n r r ≡ true
 share-self n r fair =
     let some = missing (λ i. ltb 0 (get_or r.weights i 0)) (λ i. false) n in
     grind (arith, nat_tests, some, share-at n, alike-sum r.weights 0, good-met r fair.quota, good-some r fair.quota)
-
--- ---- a rule that gives the same to those with weight in another
-pub gives-at : (n each i : ℕ) (h r : RuleView) → i < n → gives_each n each h r ≡ true
-    → (get_or h.weights i 0 ≡ each) ⊎ ((get_or h.weights i 0 ≡ 0) × (get_or r.weights i 0 ≡ 0))
-gives-at n each i h r lt gives =
-    let same = all-at (λ i. (get_or h.weights i 0 == each) || ((get_or h.weights i 0 == 0) && (get_or r.weights i 0 == 0))) n i lt in
-    grind (arith, nat_tests, gives, same)
-
-pub asks-at : (n i : ℕ) (h r : RuleView) → i < n → gives_each n (get_or h.weights i 0) h r ≡ true → asks_of_those n h r ≡ true
-asks-at n i h r lt gives = any-at (λ k. gives_each n (get_or h.weights k 0) h r) n i lt gives
 
 -- ---- lists
 -- what passes a test stands among what passes it

@@ -1,11 +1,11 @@
 -- Members that can veto, what is left of the rules where all of them agree, and rules that a game can have.
-use Rattle.mwc_sums.proofs.Imports.{sum_by, range_with_len, sum_by-cons, sum-range, ◌≡◌, ◌∙◌, ℕ, suc, ◌+◌, ◌*◌, ◌<◌, Bool, true, false}
-use Rattle.mwc_sums.proofs.Imports.{rule-is, length-map-range_with_len, All-from_recursion, GameView, IsGame}
-use Rattle.mwc_sums.proofs.Imports.{IsFair, take, statute, sum-zero, AreRulesOf, length-filter_both, not, ◌++◌, ◌≤◌, cases_lt, le-ltb, cond}
-use Rattle.mwc_sums.proofs.Imports.{nat_tests, weighs, met, rules_beside, can_veto, ◌^◌, map, filter, ap, refl, arith, All, sum}
-use Rattle.mwc_sums.proofs.Imports.{leb, ltb, List, [], ◌∷◌, length, sum-filter, has, weight, length-range_with_len, places-at, All-head}
-use Rattle.mwc_sums.proofs.Imports.{All-tail, sum_by-range-more, RuleView, sum-plus, get_or, wins, Votes, IsVotes, rule_at, length-map}
-use Rattle.mwc_sums.proofs.Imports.{filter-append, common_steps, rest_of, rule_for}
+use Rattle.mwc_sums.proofs.Imports.{sum_by-range-more, RuleView, sum-plus, get_or, wins, Votes, IsVotes, rule_at, length-map, filter-append}
+use Rattle.mwc_sums.proofs.Imports.{sum_by, range_with_len, sum_by-cons, sum-range, ◌≡◌, ◌∙◌, ℕ, suc, ◌+◌, ◌*◌, ◌<◌, Bool, true, false, met}
+use Rattle.mwc_sums.proofs.Imports.{rules_beside, can_veto, ◌^◌, map, filter, ap, refl, arith, All, sum, leb, ltb, List, [], ◌∷◌, rule-is}
+use Rattle.mwc_sums.proofs.Imports.{sum-filter, has, weight, length-range_with_len, places-at, All-head, All-tail, common_steps, rest_of}
+use Rattle.mwc_sums.proofs.Imports.{sum-zero, AreRulesOf, length-filter_both, not, ◌++◌, ◌≤◌, cases_lt, le-ltb, cond, nat_tests, weighs}
+use Rattle.mwc_sums.proofs.Imports.{length-map-range_with_len, All-from_recursion, GameView, IsGame, IsFair, take, statute, length}
+use Rattle.mwc_sums.proofs.Imports.{rule_for}
 use Rattle.std.proofs.lemmas.List.{Folds.list_all_at, Folds.list_any_none, FromFn.fill_by_all, FromFn.get_or-map-range_with_len}
 use Rattle.std.proofs.lemmas.List.{Elements.All-cons, Elements.All-map, Sums.sum-map, Sums.get_or-le-sum_by}
 use Rattle.std.proofs.Common.{None, Ok, Err}

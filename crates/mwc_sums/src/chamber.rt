@@ -2,46 +2,48 @@
 ghost use Rattle.mwc_sums.specs.Heads.{are_of_one_chamber, asks_of_those, gives_each};
 ghost use Rattle.mwc_sums.specs.Inner.Seats.{AreSeated};
 ghost use Rattle.council_game.specs.Votes.{rule_at};
-ghost use Rattle.std.specs.Prelude.{◌≡◌, ◌<◌, ◌↔◌, true, IfSome, IsSome, length};
+ghost use Rattle.std.specs.List.{list_all, range_with_len};
+ghost use Rattle.std.specs.Prelude.{◌≡◌, ◌<◌, ◌==◌, ◌&&◌, ◌||◌, ◌↔◌, true, IfSome, IsSome, length, slice_index};
 
 use crate::statute::Statute;
 
 impl Statute {
+    /// Whether a rule gives each member the weight `each`, but nothing to some who have no weight in another rule either.
+    fn gives_all(&self, each: u64, heads: usize, weights: usize) -> bool
+        requires heads { heads < length self.now.rules }
+        requires weights { weights < length self.now.rules }
+        ensures { result ≡ list_all (λ i. (slice_index (rule_at self.now.rules heads).weights i == each)
+            || ((slice_index (rule_at self.now.rules heads).weights i == 0)
+            && (slice_index (rule_at self.now.rules weights).weights i == 0))) (range_with_len 0 self.now.members) }
+    {
+        (0..self.members()).all(|member| {
+            let own = self.weight(heads, member);
+            own == each || own == 0 && self.weight(weights, member) == 0
+        })
+    }
+
     /// Whether a rule gives each member the weight `each` above 0, but nothing to some who have no weight in another rule either.
-    #[tactic(auto, using(std::proofs::lemmas::Bool::Decides::nat_tests, crate::proofs::Counting::all_more))]
     fn gives_each(&self, each: u64, heads: usize, weights: usize) -> bool
         requires heads { heads < length self.now.rules }
         requires weights { weights < length self.now.rules }
         ensures { result ≡ gives_each self.now.members each
             (rule_at self.now.rules heads) (rule_at self.now.rules weights) }
     {
-        if each == 0 {
-            return false;
-        }
-        for member in 0..self.members() {
-            let own = self.weight(heads, member);
-            if own != each && (own > 0 || self.weight(weights, member) > 0) {
-                return false;
-            }
-        }
-        true
+        each > 0 && self.gives_all(each, heads, weights)
     }
 
     /// A rule gives the same weight to some members, among them each with weight in another, and none to others.
-    #[tactic(auto, using(std::proofs::lemmas::Bool::Decides::nat_tests, crate::proofs::Counting::any_more))]
     fn asks_of_those(&self, heads: usize, weights: usize) -> bool
         requires heads { heads < length self.now.rules }
         requires weights { weights < length self.now.rules }
         ensures { result ≡ asks_of_those self.now.members
             (rule_at self.now.rules heads) (rule_at self.now.rules weights) }
     {
-        for member in 0..self.members() {
-            let each = self.weight(heads, member);
-            if self.gives_each(each, heads, weights) {
-                return true;
-            }
-        }
-        false
+        (0..self.members()).any(|member| self.gives_each(
+            self.weight(heads, member),
+            heads,
+            weights,
+        ))
     }
 
     /// Of rules of one chamber, the one with the weights of its members, and the one that says who they are. None of others.

@@ -104,19 +104,14 @@ impl Statute {
     }
 
     /// Whether a member has weight in both of two rules.
-    #[tactic(auto, using(std::proofs::lemmas::Bool::Decides::nat_tests, crate::proofs::Counting::any_more))]
     pub(crate) fn share(&self, first: usize, second: usize) -> bool
         requires first { first < length self.now.rules }
         requires second { second < length self.now.rules }
         ensures { result ≡ share self.now.members
             (rule_at self.now.rules first) (rule_at self.now.rules second) }
     {
-        for member in 0..self.members() {
-            if self.weight(first, member) > 0 && self.weight(second, member) > 0 {
-                return true;
-            }
-        }
-        false
+        (0..self.members()).any(|member| self.weight(first, member) > 0
+            && self.weight(second, member) > 0)
     }
 
     /// The rules that share a member with one of them, or the others.
