@@ -1,11 +1,10 @@
 -- The first rule of a game at another quota.
-use Rattle.std.proofs.Common.{◌≡◌, ℕ, ◌<◌, ◌≤◌, false, ◌||◌, ltb, List, [], ◌∷◌, length, get_or, sum, refl, ap, arith, Option}
-use Rattle.std.proofs.Common.{Result, Ok, Err, le-ltb}
-use Rattle.std.proofs.lemmas.{Grind.common_steps, List.Elements.recursion_from_All}
-use Rattle.std.proofs.lemmas.Bool.{or_parts}
+use Rattle.std.proofs.Common.{◌≡◌, ℕ, ◌<◌, ◌≤◌, false, ◌||◌, ltb, List, [], ◌∷◌, length, get_or, sum, refl, ap, arith, Option, Result, Ok}
+use Rattle.std.proofs.Common.{Err, le-ltb}
+use Rattle.std.proofs.lemmas.{Bool.or_parts, Grind.common_steps, List.Elements.recursion_from_All}
 use Rattle.std.specs.List.{list_any}
-use Rattle.council_game.specs.{declared.fault.GameFault.GameFault, declared.fault.GameFault.TheVariants.Memory}
-use Rattle.council_game.specs.{Fault.Answers, Votes.RuleView, Votes.rule_at}
+use Rattle.council_game.specs.{Fault.Answers, declared.fault.GameFault.GameFault, declared.fault.GameFault.TheVariants.Memory}
+use Rattle.council_game.specs.Votes.{RuleView, rule_at}
 use Rattle.council_game.specs.Game.{GameView, IsGame, made_game, total, first_weights, is_heavy, has_bad_quota}
 use Rattle.council_game.proofs.Shared.Games.{passed, makes, first-full, nowhere_below, position-none}
 use Rattle.game_calls.specs.Quotas.{at_quota}

@@ -21,11 +21,3 @@ returns g c = grind (arith, common_steps, tells-then, puts-next)
 pub returns-in_err-put_shown_coalitions : goal.returns-in_err-put_shown_coalitions
 unfolding lines_of
 returns-in_err-put_shown_coalitions g c = grind (arith, common_steps, stopped-first)
-
-pub put_shown_sizes-requires-clause-counted : goal.put_shown_sizes-requires-clause-counted
-unfolding lines_of
-put_shown_sizes-requires-clause-counted g c = grind (arith, common_steps)
-
-pub put_members-requires-clause-counted : goal.put_members-requires-clause-counted
-unfolding lines_of
-put_members-requires-clause-counted g c = grind (arith, common_steps)

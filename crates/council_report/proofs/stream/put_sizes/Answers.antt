@@ -26,9 +26,6 @@ loop-size-preserved g c =
     let lasts = rw c.in_ok-settle.was at puts in
     let same : c.loop-size.size - 1 + 1 ≡ c.loop-size.size + 1 - 1 = omega arith in grind (arith, common_steps, turn-told)
 
-pub overflow_add-size-end : goal.overflow_add-size-end
-overflow_add-size-end g c = omega (arith, c.args.counted.now.sound.few_members, c.args.counted.now.counted_members)
-
 pub returns : goal.returns
 returns g c = record {
   tells = numbers-told (line_of_size c.args.counted.now) 1 c.args.counted.now.members (c.loop-size.size - 1) (omega arith)

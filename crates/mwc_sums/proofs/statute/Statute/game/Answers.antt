@@ -4,11 +4,6 @@ use Rattle.mwc_sums.proofs.statute.Statute.game.Goals as goal
 pub with_rules-requires-clause-full : goal.with_rules-requires-clause-full
 with_rules-requires-clause-full c k d lt =
     let full = held_full c.self.inside.rules.items c.self.inside.members (λ k d lt. (c.self.invariant k d lt).full) k d lt in
-    omega (
-      arith,
-      full,
-      ap (λ (s : StatuteView). s.members) c.self.view_is,
-      c.requires.members,
-      ap length c.in_ok-names.ensures,
-      length-map c.in_ok-names.names.items string_bytes,
-    )
+    let own = ap (λ (s : StatuteView). s.members) c.self.view_is in
+    let names = ap length c.in_ok-names.ensures in
+    omega (arith, full, own, c.requires.members, names, length-map c.in_ok-names.names.items string_bytes)

@@ -2,12 +2,6 @@ use Rattle.power_index.proofs.Imports.{arith, ◌≡◌, ◌∙◌, size}
 use Rattle.power_index.proofs.Shared.Sound.{more-hold, more-kept}
 use Rattle.power_index.proofs.counts.Counts.count.Goals as goal
 
-pub add-requires-clause-room : goal.add-requires-clause-room
-add-requires-clause-room c = c.self.invariant.all_few c.from-size.result (omega arith)
-
-pub add_to_places-requires-clause-room : goal.add_to_places-requires-clause-room
-add_to_places-requires-clause-room c p lt = c.self.invariant.each_few p c.from-size.result lt (omega arith)
-
 -- the number of digits 1 is the size
 size-is : (c : goal.After-add_to_places) → c.from-size.result ≡ size c.self.inside.members c.args.coalition
 size-is c = c.from-size.ensures ∙ c.size.ensures.size c.self.inside.members (rw (← c.self.view_is) at c.requires.below)
