@@ -2,11 +2,9 @@
 use Rattle.mwc_sums.proofs.Imports.{list_all, list_any, range_with_len, nat_tests, length-range_with_len, All-filter, AllPass-from_list_all}
 use Rattle.mwc_sums.proofs.Imports.{◌∙◌, ◌&&◌, not, ◌⊎◌, ℕ, ◌<◌, Bool, true, false, All, List, filter, ap, arith, length-map, places-at}
 use Rattle.mwc_sums.proofs.Imports.{cond, [], ◌∷◌, map, refl, All-head, All-tail, suc, ◌+◌, ◌*◌, ◌^◌, ◌++◌, length, get_or, ◌≡◌}
-use Rattle.mwc_sums.proofs.Imports.{filter-append, filter-both, down, down-below, ◌||◌}
-use Rattle.std.proofs.lemmas.{Bool.cases_Bool, List.Elements.filter_passes, List.FromFn.map-range_with_len_more}
-use Rattle.std.proofs.Common.{length-append}
-use Rattle.std.proofs.lemmas.List.Folds.{Any-from_list_any, list_any_at, list_any-append, list_all-append}
-use Rattle.coalitions.proofs.Shared.Ranges.{range-more}
+use Rattle.mwc_sums.proofs.Imports.{filter-append, filter-both, down, down-below}
+use Rattle.std.proofs.lemmas.List.{Elements.filter_passes, Folds.Any-from_list_any, Folds.list_any_at, FromFn.map-range_with_len_more}
+use Rattle.std.proofs.{Common.length-append, lemmas.Bool.cases_Bool}
 use Rattle.mwc_sums.proofs.Completing.{double-pow, down-two}
 
 pub any-at : (t : ℕ → Bool) (n i : ℕ) → i < n → t i ≡ true → list_any t (range_with_len 0 n) ≡ true

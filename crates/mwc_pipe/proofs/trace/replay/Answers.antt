@@ -1,5 +1,3 @@
-use Rattle.std.proofs.Common.{◌∙◌, ap}
-use Rattle.mwc_ring.specs.History.{replies, history, items_in, items_out}
 use Rattle.mwc_pipe.proofs.WholeRuns.{nothing_enters_after_close_lem}
 use Rattle.mwc_pipe.proofs.trace.replay.Goals as goal
 
