@@ -9,13 +9,13 @@ ghost use Rattle.council_run.specs.Shows.{shown_of};
 ghost use Rattle.council_run.specs.declared.fault.Cause.TheVariants as cause;
 ghost use Rattle.council.specs.Inner.Wants.{IsTaken, lines_wanted};
 
-use council_explain::{explain, remark};
+use coalitions::sanitize;
+use council_explain::{Kept, explain, remark};
 use council_game::GameFault;
-use council_progress::{Line, Progress};
+use council_progress::{Line, Progress, Wiping};
 use council_run::{
     Cause, Options, RunFault, Watch, number_by_sums, run_with_lookout, status, tally,
 };
-use council_streams::{Kept, Wiping, shown};
 use council_words::{Wanted, command_line, wanted};
 use mwc_gather::{Gate, GatherFault, Lookout};
 use std::io::IsTerminal;
@@ -71,7 +71,7 @@ const LONGEST_PATH: usize = 4096;
 fn not_opened(rt: &impl Eprint, wanted: &Wanted<'_>, path: &str, error: &io::Error) -> ExitCode {
     let _ = eprintln!(rt; "council: the game file cannot be opened");
     if wanted.explain {
-        let path = shown(path, LONGEST_PATH);
+        let path = sanitize(path, LONGEST_PATH);
         let _ = eprintln!(rt; "  {path}: {error}");
     }
     ExitCode::from(1)

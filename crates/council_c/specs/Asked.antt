@@ -1,7 +1,7 @@
 -- What a call is asked for.
 use Rattle.std.specs.Prelude.{ℕ, ◌≡◌, ◌≤◌, ◌==◌, ◌&&◌, ◌||◌, nat_lt, Bool, false, if◌then◌else◌, length}
 use Rattle.coalitions.specs.declared.limits.TheConstants.{COALITIONS}
-use Rattle.coalitions.specs.declared.shown.Shown.{Shown}
+use Rattle.coalitions.specs.declared.report_lines.ReportLines.{ReportLines}
 use Rattle.council_game.specs.Game.{GameView, votes_of}
 use Rattle.council_game.specs.Votes.{minimal_coalitions}
 use Rattle.council_c.specs.declared.options.CouncilOptions.{CouncilOptions}
@@ -15,7 +15,7 @@ abbrev pub most_of : CouncilOptions → ℕ
 most_of o = if o.most == 0 then 1000000 else o.most
 
 -- the lines that the report shows
-abbrev pub shown_of : CouncilOptions → Shown
+abbrev pub shown_of : CouncilOptions → ReportLines
 shown_of o = record { list = o.list; sizes = o.sizes; notation = o.notation }
 
 -- a tally takes any number of minimal winning coalitions

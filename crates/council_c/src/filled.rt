@@ -12,7 +12,7 @@ use crate::page::Page;
 use crate::put::put;
 use council_file::parse_game;
 use council_game::Game;
-use council_report::{ReportFault, Shown};
+use council_report::{ReportFault, ReportLines};
 use mwc_walk::list_all;
 use std::alloc::Global;
 use std::io;
@@ -22,7 +22,7 @@ fn fill_with(
     alloc: Global,
     game: &Game,
     found: Found<'_>,
-    shown: Shown,
+    shown: ReportLines,
     room: &mut [u8],
 ) -> Result<u64, Fault>
     requires { AreAllOf game.now shown found }

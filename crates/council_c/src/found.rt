@@ -10,7 +10,7 @@ ghost use Rattle.power_index.specs.Tables.{AreCounts};
 ghost use Rattle.council_c.specs.Inner.Found.{AreAllOf};
 
 use council_game::{Coalition, Game, Memory};
-use council_report::{ReportFault, Shown, write_report, write_tally};
+use council_report::{ReportFault, ReportLines, write_report, write_tally};
 use mwc_sums::{Parts, count_by_sums, part_by_sums};
 use mwc_tally::tally_slice;
 use mwc_walk::laws::one_slice_is_the_whole;
@@ -32,7 +32,7 @@ impl Found<'_> {
         self,
         alloc: Global,
         game: &Game,
-        shown: Shown,
+        shown: ReportLines,
         writer: &mut W,
     ) -> Result<u64, ReportFault>
         requires { AreAllOf game.now shown self }

@@ -3,7 +3,7 @@ ghost use Rattle.std.specs.Prelude.{◌≡◌, true};
 ghost use Rattle.council_c.specs.Asked.{are_wrong, most_of, shown_of};
 
 use council_game::limits;
-use council_report::Shown;
+use council_report::ReportLines;
 
 /// How many coalitions a call keeps where it is not told.
 const USUAL: u32 = 1_000_000;
@@ -40,10 +40,10 @@ impl CouncilOptions {
     }
 
     /// The lines that the report shows.
-    pub(crate) fn shown(&self) -> Shown
+    pub(crate) fn shown(&self) -> ReportLines
         ensures { result ≡ shown_of self.now }
     {
-        Shown {
+        ReportLines {
             list: self.list,
             sizes: self.sizes,
             notation: self.notation,

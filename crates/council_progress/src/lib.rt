@@ -8,5 +8,7 @@
 #![tactic(auto)]
 
 mod progress;
+mod wiping;
 
 pub use progress::{Line, Progress};
+pub use wiping::{Wipe, Wiping};

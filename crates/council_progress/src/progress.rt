@@ -1,5 +1,5 @@
 //! How far a run or a tally has come, told on standard error.
-use council_streams::Wipe;
+use crate::wiping::Wipe;
 use mwc_gather::{Gate, Lookout};
 use mwc_tally::Watch;
 use std::sync::{Mutex, Wait};

@@ -2,7 +2,7 @@
 use crate::words::{Wanted, WordsFault, read_words};
 use clap::Error;
 use clap::error::ErrorKind;
-use council_streams::shown;
+use coalitions::sanitize;
 use std::alloc::{AllocError, Global};
 use std::env::Env;
 use std::io;
@@ -58,7 +58,7 @@ fn refuse(rt: &(impl Print + Eprint), error: &Error) -> ExitCode {
 fn harmless(alloc: Global, words: &[String]) -> Result<Vec<String>, AllocError> {
     let mut harmless = Vec::new(alloc);
     for word in words {
-        harmless.push(format!(in alloc; "{}", shown(word.as_str(), usize::MAX))?)?;
+        harmless.push(format!(in alloc; "{}", sanitize(word.as_str(), usize::MAX))?)?;
     }
     Ok(harmless)
 }

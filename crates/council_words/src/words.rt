@@ -3,7 +3,7 @@ ghost use Rattle.std.specs.Prelude.{◌≤◌};
 ghost use Rattle.coalitions.specs.declared.limits.TheConstants.{BITS, WORKERS, COALITIONS};
 
 use clap::{Arg, ArgAction, ArgMatches, Command, Error, value_parser};
-use coalitions::{Shown, limits};
+use coalitions::{ReportLines, limits};
 use std::alloc::{AllocError, Global};
 
 /// Why there is nothing to do for a command line.
@@ -27,7 +27,7 @@ pub struct Wanted<'a> {
     /// The greatest number of minimal winning coalitions that a run keeps, 1 to 4,000,000.
     pub most: u32,
     /// The lines of the report beside those that each report has; of a tally none for a coalition.
-    pub shown: Shown,
+    pub shown: ReportLines,
     /// Whether the coalitions are counted and not kept.
     pub tally: bool,
     /// Lines that say more of a fault of the game.
@@ -215,7 +215,7 @@ fn wanted_of<'a>(matches: &ArgMatches<'a>) -> Option<Wanted<'a>> {
         workers,
         bits,
         most,
-        shown: Shown {
+        shown: ReportLines {
             list: matches.get_flag("list"),
             sizes: matches.get_flag("sizes"),
             notation: matches.get_flag("notation"),
