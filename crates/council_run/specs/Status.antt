@@ -1,7 +1,7 @@
 -- The status that the program ends with.
 use Rattle.std.specs.Prelude.{ℕ}
 use Rattle.council_game.specs.declared.fault.GameFault.TheVariants as game
-use Rattle.mwc_parts.specs.declared.fault.GatherFault.TheVariants as gather
+use Rattle.mwc_gather.specs.declared.fault.GatherFault.TheVariants as gather
 use Rattle.council_run.specs.declared.fault.Cause.{Cause}
 use Rattle.council_run.specs.declared.fault.Cause.TheVariants as cause
 

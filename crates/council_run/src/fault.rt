@@ -1,7 +1,7 @@
 //! Why a run stopped.
 ghost use Rattle.std.specs.Prelude.{◌≡◌, ℕ};
 ghost use Rattle.council_report.specs.declared.fault.ReportFault.TheVariants as report;
-ghost use Rattle.mwc_parts.specs.declared.fault.GatherFault.TheVariants as gather;
+ghost use Rattle.mwc_gather.specs.declared.fault.GatherFault.TheVariants as gather;
 ghost use Rattle.mwc_tally.specs.declared.fault.TallyFault.TheVariants as tally;
 ghost use Rattle.council_run.specs.declared.fault.Cause.TheVariants as cause;
 ghost use Rattle.council_run.specs.Status.{number_of, status_of};

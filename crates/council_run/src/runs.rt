@@ -13,7 +13,7 @@ use council_file::read_game;
 use council_game::{Coalition, Game, Memory};
 use council_report::write_report_of;
 use mwc_gather::{Gate, GatherFault, Guarded, Lookout, NoLookout, gather_with_lookout};
-use mwc_parts::Gathered;
+use mwc_gather::Gathered;
 use mwc_tally::tally_pieces;
 use std::alloc::Global;
 use std::io::{Read, Write};

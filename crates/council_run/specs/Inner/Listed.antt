@@ -3,8 +3,8 @@ use Rattle.std.specs.Prelude.{◌≡◌, ◌≤◌, ℕ, List, length}
 use Rattle.std.specs.List.{All, flat_map, range_with_len}
 use Rattle.council_game.specs.Votes.{minimal_coalitions}
 use Rattle.council_game.specs.Game.{GameView, IsGame, votes_of, AreNonemptyCoalitions}
-use Rattle.mwc_parts.specs.Parts.{HasPieces}
-use Rattle.mwc_parts.specs.declared.gathered.Gathered.{Gathered}
+use Rattle.mwc_gather.specs.Parts.{HasPieces}
+use Rattle.mwc_gather.specs.declared.gathered.Gathered.{Gathered}
 use Rattle.council_run.specs.Run.{count_of}
 
 -- the list is all of them: there is one, there are at most `most`, and they are coalitions of the game, none of them empty
