@@ -91,11 +91,7 @@ reads {g} {most} {s} {told} {words} got ends sent a b =
 ends_of : (g : Slicing) (s : List ℕ) → HasEnds s (ends_from g 0 s) (length (flat_map g.slice s))
 ends_of g s =
     let k = length-joined g s in
-    record {
-      one_end_each = length-ends g 0 s;
-      ends_rise = λ m l. let h = rises_from g 0 s m l in (h.0, omega arith);
-      last_end = omega (arith, last_from g 0 s);
-    }
+    (length-ends g 0 s, omega (arith, last_from g 0 s), λ m l. let h = rises_from g 0 s m l in (h.0, omega arith))
 
 -- and where its slices end
 pub has_ends : {g : Slicing} {s got ends : List ℕ} → Reads g s got ends → HasEnds s ends (length got)

@@ -17,5 +17,4 @@ shares parts = map (λ (p : Part). p.slices.items) parts
 
 -- each of the slices 0 to n - 1 stands in the parts once, and no other number does
 abbrev pub HasEachSliceOnce : ℕ → List Part → Type 0
-HasEachSliceOnce n parts = (j : ℕ) →
-    count_by (λ i. i == j) (flat_map (λ (p : Part). p.slices.items) parts) ≡ (if nat_lt j n then 1 else 0)
+HasEachSliceOnce n parts = (j : ℕ) → count_by (λ i. i == j) (flat_map (λ (p : Part). p.slices.items) parts) ≡ (if nat_lt j n then 1 else 0)

@@ -2,7 +2,7 @@
 ghost use Rattle.std.specs.Prelude.{◌≡◌, ◌<◌, ◌≤◌, ◌∷◌, length, MatchOption, slice_index, true, false};
 ghost use Rattle.std.specs.List.{sum_by};
 ghost use Rattle.mwc_gather.specs.Inner.Times.{times_in};
-ghost use Rattle.mwc_gather.specs.Pieces.{Rises};
+ghost use Rattle.mwc_gather.specs.Pieces.{HasEnds};
 
 use council_game::Coalition;
 
@@ -15,9 +15,7 @@ pub struct Part {
     pub ends: Vec<u32>,
     /// The coalitions of the slices, one slice after another.
     pub got: Vec<Coalition>,
-    ghost one_end_each: { length ends.items ≡ length slices.items },
-    ghost ends_rise: { Rises ends.items (length got.items) },
-    ghost last_end: { slice_index (0 ∷ ends.items) (length ends.items) ≡ length got.items },
+    ghost ends_are: { HasEnds slices.items ends.items (length got.items) },
 }
 
 impl Part {
