@@ -1,7 +1,7 @@
 //! A gate and a pipe of one's own.
 ghost use Rattle.coalitions.specs.declared.limits.TheConstants.{BITS};
-ghost use Rattle.mwc_gather.specs.Slicings.{slicing};
-ghost use Rattle.mwc_parts.specs.Wording.{slice_words};
+ghost use Rattle.mwc_gather.specs.Slicing.{slicing};
+ghost use Rattle.mwc_gather.specs.Wording.{slice_words};
 ghost use Rattle.std.specs.Prelude.{◌≡◌, ◌≤◌, ◌<◌, ◌^◌, ℕ, IfSome, length};
 
 use council_game::{Game, limits};

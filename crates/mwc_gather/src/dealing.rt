@@ -2,18 +2,18 @@
 ghost use Rattle.std.specs.Prelude.{◌≡◌, ◌<◌, ◌≤◌, ◌^◌, ◌++◌, List, All, length, replicate, true, false};
 ghost use Rattle.std.specs.List.{list_any};
 ghost use Rattle.coalitions.specs.declared.limits.TheConstants.{WORKERS};
-ghost use Rattle.mwc_ring.specs.declared.word.Word.{Word};
-ghost use Rattle.mwc_parts.specs.Shared.Wording.{is_done};
-ghost use Rattle.mwc_parts.specs.Shared.Dealing.{TakesTurn, IsFresh};
-ghost use Rattle.mwc_gather.specs.Slicings.{slicing};
+ghost use Rattle.mwc_pipe.specs.declared.word.Word.{Word};
+ghost use Rattle.mwc_gather.specs.Inner.Sending.{is_done};
+ghost use Rattle.mwc_gather.specs.Inner.Dealing.{TakesTurn, IsFresh};
+ghost use Rattle.mwc_gather.specs.Slicing.{slicing};
 ghost use Rattle.mwc_gather.specs.Inner.Desks.{IsSameDesk, view_of, views_of, AllOf, DealsTo, DealsFirst};
 
 use crate::desk::Desk;
 use crate::job::Job;
+use crate::marks::Marks;
 use crate::parcel::WORDS;
 use crate::waiting::{BellPair, Bells, Patience};
-use mwc_parts::Marks;
-use mwc_ring::Word;
+use mwc_pipe::Word;
 use std::sync::Wait;
 
 /// The deal of the slices to the workers.

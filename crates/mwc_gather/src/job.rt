@@ -4,7 +4,7 @@ ghost use Rattle.coalitions.specs.declared.limits.TheConstants.{BITS, COALITIONS
 
 use crate::guarded::Guarded;
 use crate::promise::GivenJob;
-use mwc_ring::{RingIn, RingOut};
+use mwc_pipe::{RingIn, RingOut};
 use std::snapshot::Snapshot;
 
 /// What the workers are to do: to list the slices of the game behind a gate at `bits` bits, up to `most`

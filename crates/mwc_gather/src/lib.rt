@@ -9,12 +9,17 @@
 
 mod dealing;
 mod desk;
+mod draft;
 mod equipment;
+mod fault;
+mod gathered;
 mod gathering;
 mod guarded;
 mod job;
 mod lookout;
+mod marks;
 mod parcel;
+mod part;
 mod promise;
 mod putting;
 mod seeking;
@@ -24,10 +29,13 @@ mod told;
 mod waiting;
 mod worker;
 
+pub use fault::GatherFault;
+pub use gathered::Gathered;
 pub use gathering::{gather, gather_with_lookout};
 pub use guarded::{Gate, Guarded, NoGate};
 pub use lookout::{Lookout, NoLookout};
-pub use mwc_parts::{GatherFault, Gathered, Marks, Part};
+pub use marks::Marks;
+pub use part::Part;
 pub use send::send_slice;
 pub use sent::Sent;
 pub use worker::work;

@@ -1,8 +1,8 @@
 //! Sending the words of a slice.
 ghost use Rattle.std.specs.Prelude.{◌≡◌, ◌<◌, ◌≤◌, ◌^◌, ◌++◌, ◌∷◌, [], IsTrue, IsFalse, true, length, ◌+◌};
 ghost use Rattle.coalitions.specs.declared.limits.TheConstants.{BITS, WORKERS, COALITIONS};
-ghost use Rattle.mwc_parts.specs.Slicing.{Slicing};
-ghost use Rattle.mwc_gather.specs.Slicings.{slicing};
+ghost use Rattle.mwc_gather.specs.Slicing.{Slicing};
+ghost use Rattle.mwc_gather.specs.Slicing.{slicing};
 ghost use Rattle.mwc_gather.specs.Sending.{Sends, BreaksOnlyIfRefused};
 ghost use Rattle.mwc_gather.specs.Inner.Sending.{SendsFirst, SendsSome};
 
@@ -14,7 +14,7 @@ use crate::seeking::{LastTold, next_told};
 use crate::sent::Sent;
 use crate::told::Told;
 use crate::waiting::{Bell, BellPair, Patience};
-use mwc_ring::{PipeIn, Word};
+use mwc_pipe::{PipeIn, Word};
 use mwc_walk::Walk;
 use std::sync::Wait;
 

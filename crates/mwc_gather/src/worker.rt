@@ -1,11 +1,11 @@
 //! The body of a worker's thread.
 ghost use Rattle.std.specs.Prelude.{◌≡◌, ℕ, ◌+◌, ◌<◌, ◌≤◌, ◌^◌, ◌++◌, ◌∷◌, [], length, IfOk, MatchOption};
 ghost use Rattle.coalitions.specs.declared.limits.TheConstants.{BITS, WORKERS, COALITIONS};
-ghost use Rattle.mwc_gather.specs.Slicings.{slicing};
+ghost use Rattle.mwc_gather.specs.Slicing.{slicing};
 ghost use Rattle.mwc_gather.specs.Sending.{HasWorked};
 ghost use Rattle.mwc_gather.specs.Inner.Sending.{TakesLast, TakesTask};
-ghost use Rattle.mwc_parts.specs.Wording.{IsLast};
-ghost use Rattle.mwc_ring.specs.declared.word.Word.TheVariants.{End, Open};
+ghost use Rattle.mwc_gather.specs.Wording.{IsLast};
+ghost use Rattle.mwc_pipe.specs.declared.word.Word.TheVariants.{End, Open};
 
 use crate::guarded::{Gate, Guarded};
 use crate::job::Job;
@@ -15,7 +15,7 @@ use crate::send::{send, send_behind};
 use crate::sent::Sent;
 use crate::told::Told;
 use crate::waiting::{Bell, BellPair, Patience};
-use mwc_ring::{Closed, RingIn, RingOut, Unfinished, Word};
+use mwc_pipe::{Closed, RingIn, RingOut, Unfinished, Word};
 use mwc_walk::slice_count;
 use std::sync::Wait;
 

@@ -1,6 +1,6 @@
 use Rattle.mwc_gather.proofs.Imports.{common_steps, nat_tests, List, length, ap, arith, Slicing, sum_by, Part, votes_of, slices-joined}
 use Rattle.mwc_gather.proofs.Imports.{slicing}
-use Rattle.mwc_parts.proofs.Shared.Once.{dealt_each_once}
+use Rattle.mwc_gather.proofs.Once.{dealt_each_once}
 use Rattle.mwc_gather.proofs.{Ends.complete_sum, Ends.end_increases, Wholes.all_total_is, Wholes.all_pieces}
 use Rattle.mwc_gather.proofs.gathering.all_of.Goals as goal
 

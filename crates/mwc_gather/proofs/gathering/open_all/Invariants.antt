@@ -1,6 +1,6 @@
 use Rattle.mwc_gather.proofs.Imports.{◌≡◌, ◌≤◌, All, IsFresh, slicing, AllOf, views_of}
 use Rattle.std.proofs.Common.{vec_len, vec_capacity}
-use Rattle.mwc_parts.specs.Fault.{nothing}
+use Rattle.mwc_gather.specs.Inner.Fault.{nothing}
 use Rattle.mwc_gather.proofs.gathering.open_all.Given as goal
 
 abbrev pub invariant-loop-worker : goal.invariant-loop-worker

@@ -1,5 +1,5 @@
 use Rattle.mwc_gather.proofs.Imports.{◌≡◌, ℕ, ◌+◌, ◌<◌, List, All, coalition_count, slicing}
-use Rattle.mwc_parts.specs.Wording.{open_words, wording}
+use Rattle.mwc_gather.specs.Wording.{open_words, wording}
 use Rattle.mwc_gather.proofs.worker.work_beside.Given as goal
 
 abbrev pub invariant-loop : goal.invariant-loop
