@@ -23,7 +23,7 @@ use std::thread::Threads;
 
 /// A tally has at least 2^8 slices if there are 8 members: the last of them are the longest, and with fewer one thread
 /// would still count when the others have ended.
-const LEAST_BITS: u8 = 8;
+pub const LEAST_BITS: u8 = 8;
 
 /// A way to count the coalitions that sums leave.
 pub trait Counter {

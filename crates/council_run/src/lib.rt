@@ -16,7 +16,7 @@ mod number;
 mod runs;
 
 pub use coalitions::{Gate, NoGate, Options, limits};
-pub use counting::{ByCounting, Counter, ThreadCounter, WalkCounter};
+pub use counting::{ByCounting, Counter, LEAST_BITS, ThreadCounter, WalkCounter};
 pub use fault::{Cause, RunFault, status};
 pub use finder::Finder;
 pub use found::{Coalitions, Found};

@@ -7,7 +7,8 @@ ghost use Rattle.power_index.specs.Indices.{deegan_packel};
 ghost use Rattle.std.specs.Prelude.{◌≡◌, ◌≤◌, ◌<◌, IfOk, length};
 
 use council_game::{Game, limits};
-use mwc_tally::{NoWatch, TallyFault, tally};
+use coalitions::NoGate;
+use mwc_tally::{TallyFault, tally};
 use power_index::laws::minimal_coalitions_can_be_counted;
 use power_index::{Index, deegan_packel};
 use std::alloc::Global;
@@ -35,6 +36,6 @@ pub fn tallied_index<R: Threads + Wait + Sync>(
     // as many places as may be are fixed in each slice, so that there is work for all threads
     let bits = limits::BITS.min(game.members() as u8);
     minimal_coalitions_can_be_counted();
-    let counts = tally(rt, alloc, game, bits, workers, &NoWatch)?;
+    let counts = tally(rt, alloc, game, bits, workers, &NoGate)?;
     Ok(Index::of(deegan_packel(&counts, member)))
 }

@@ -2,8 +2,8 @@
 mod asked;
 mod gates;
 mod refusals;
+mod tallies;
 mod texts;
-mod watches;
 
 ghost use Rattle.std.specs.Prelude.{◌≤◌, ◌<◌};
 ghost use Rattle.coalitions.specs.declared.limits.TheConstants.{BITS, COALITIONS, WORKERS};
@@ -11,7 +11,7 @@ ghost use Rattle.coalitions.specs.declared.limits.TheConstants.{BITS, COALITIONS
 use crate::helpers::same;
 use council_game::GameFault;
 use council_report::ReportLines;
-use council_run::{Cause, NoWatch, Options, RunFault, run, status, tally};
+use council_run::{Cause, Options, RunFault, run, status, tally};
 use mwc_gather::{Gate, GatherFault, NoGate};
 use std::alloc::Global;
 use std::io::{Error, ErrorKind, Read, Write};
@@ -585,7 +585,6 @@ fn statuses(rt: HostRuntime) {
         (Cause::Gather(GatherFault::Ring), 5, 2),
         (Cause::Write, 5, 3),
         (Cause::Memory, 5, 4),
-        (Cause::Stopped, 5, 5),
     ];
     for (cause, wanted, number) in causes {
         same(

@@ -1,5 +1,5 @@
-//! What the program says of a command line that gives it nothing to do, and the status that it then ends with.
-use crate::words::{Wanted, WordsFault, read_words};
+//! The command line of the program, and what it prints if there is nothing to do.
+use crate::words::{Arguments, WordsFault, read_words};
 use clap::Error;
 use clap::error::ErrorKind;
 use coalitions::sanitize;
@@ -23,12 +23,12 @@ fn no_words(rt: &impl Eprint, error: io::Error) -> ExitCode {
     ExitCode::from(2)
 }
 
-/// The words of the command line.
+/// Collects the words of the command line.
 ///
 /// # Errors
 ///
-/// The status to end with, where they are not UTF-8 or memory ran out. What is wrong was then said.
-pub fn command_line(rt: &(impl AllocGlobal + Env + Eprint)) -> Result<Vec<String>, ExitCode> {
+/// The status to end with, if they are not UTF-8 or memory ran out. A fault is printed first.
+pub fn collect_words(rt: &(impl AllocGlobal + Env + Eprint)) -> Result<Vec<String>, ExitCode> {
     match std::env::args(rt) {
         Ok(words) => match words.collect(rt.alloc()) {
             Ok(words) => Ok(words),
@@ -77,18 +77,18 @@ fn refuse_words(rt: &(impl AllocGlobal + Print + Eprint), words: &[String]) -> E
     }
 }
 
-/// What these words ask for, the first of them the name of the program.
+/// Parses the words of the command line, the first of them the name of the program.
 ///
 /// # Errors
 ///
-/// The status to end with, where the parser refuses them, or answers `--help` or `--version`: the fault or the
-/// answer was then printed.
-pub fn wanted<'a>(
+/// The status to end with, if the parser refuses them, or answers `--help` or `--version`. The fault
+/// or the answer is printed first.
+pub fn parse_arguments<'a>(
     rt: &(impl AllocGlobal + Print + Eprint),
     words: &'a [String],
-) -> Result<Wanted<'a>, ExitCode> {
+) -> Result<Arguments<'a>, ExitCode> {
     match read_words(rt.alloc(), words) {
-        Ok(wanted) => Ok(wanted),
+        Ok(arguments) => Ok(arguments),
         Err(WordsFault::Parse(error)) => {
             if error.kind() == ErrorKind::OutOfMemory {
                 Err(out_of_memory(rt))
