@@ -4,7 +4,7 @@ use clap::Error;
 use clap::error::ErrorKind;
 use coalitions::sanitize;
 use std::alloc::{AllocError, Global};
-use std::env::Env;
+use std::env::{Env, FillError};
 use std::io;
 use std::process::ExitCode;
 
@@ -23,13 +23,42 @@ fn no_words(rt: &impl Eprint, error: io::Error) -> ExitCode {
     ExitCode::from(2)
 }
 
+/// The name of the program, whatever path started it.
+const NAME: &[u8] = b"council";
+
+/// The words of the command line, of which the first is `NAME`. The path that started the program may
+/// be no UTF-8, and is no argument.
+#[derive(Drop)]
+struct Named<'a, R>(&'a R);
+
+impl<'a, R: Env> Env for Named<'a, R> {
+    fn arg(&self, i: usize, buf: &mut [u8]) -> Result<usize, FillError> {
+        if i > 0 {
+            return self.0.arg(i, buf);
+        }
+        if buf.len() < NAME.len() {
+            return Err(FillError::TooLong);
+        }
+        buf[..NAME.len()].copy_from_slice(NAME);
+        Ok(NAME.len())
+    }
+
+    fn var(&self, name: &str, buf: &mut [u8]) -> Result<usize, FillError> {
+        self.0.var(name, buf)
+    }
+
+    fn var_at(&self, i: usize, buf: &mut [u8]) -> Result<usize, FillError> {
+        self.0.var_at(i, buf)
+    }
+}
+
 /// Collects the words of the command line.
 ///
 /// # Errors
 ///
 /// The status to end with, if they are not UTF-8 or memory ran out. A fault is printed first.
 pub fn collect_words(rt: &(impl AllocGlobal + Env + Eprint)) -> Result<Vec<String>, ExitCode> {
-    match std::env::args(rt) {
+    match std::env::args(&(Named(rt), rt.alloc())) {
         Ok(words) => match words.collect(rt.alloc()) {
             Ok(words) => Ok(words),
             Err(_) => Err(out_of_memory(rt)),
