@@ -28,14 +28,14 @@ pub fn same_members_are_one_coalition()
 {}
 
 /// No two members have the same rank place.
-#[tactic(auto, using(crate::proofs::Names::distinct_places))]
+#[tactic(auto, using(crate::proofs::Distinct::distinct_places))]
 pub fn rank_places_are_distinct()
     ensures { (g : GameView) → IsGame g → (i j : ℕ) → i < length g.names → j < length g.names
         → slice_index g.ranks i ≡ slice_index g.ranks j → i ≡ j }
 {}
 
 /// No two members have the same name.
-#[tactic(auto, using(crate::proofs::Names::distinct_names))]
+#[tactic(auto, using(crate::proofs::Distinct::distinct_names))]
 pub fn names_are_distinct()
     ensures { (g : GameView) → IsGame g → (i j : ℕ) → i < length g.names → j < length g.names
         → slice_index_or g.names i [] ≡ slice_index_or g.names j [] → i ≡ j }
