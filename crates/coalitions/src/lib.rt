@@ -3,12 +3,14 @@
 #![tactic(auto)]
 
 mod coalition;
+mod gate;
 pub mod limits;
 mod lists;
 mod memory;
 mod shown;
 
 pub use coalition::Coalition;
+pub use gate::{Gate, NoGate};
 pub use lists::listed;
 pub use memory::Memory;
 pub use shown::Shown;
