@@ -2,6 +2,7 @@
 pub use Rattle.council_game.specs.Game.{votes_of}
 pub use Rattle.mwc_gather.specs.Inner.Desks.{AllOf, CanEndWith, DealsFirst, DealsTo, IsOf, IsPartOfDesk, view_of, views_of}
 pub use Rattle.mwc_gather.specs.Inner.{Gathering.IsComplete, Gathering.all_total, Sending.SendsFirst, Sending.SendsSome}
+pub use Rattle.mwc_gather.specs.Inner.Jobs.{slices_of}
 pub use Rattle.mwc_gather.specs.{Slicing.slicing, declared.dealing.Deal.Deal, declared.desk.Desk.Desk}
 pub use Rattle.mwc_gather.proofs.Readings.{length-joined}
 pub use Rattle.mwc_gather.specs.{Wording.coalition_count, Wording.cut_words, Wording.slice_words, declared.fault.GatherFault.GatherFault}

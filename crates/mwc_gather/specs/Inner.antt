@@ -1,5 +1,6 @@
 -- What only proofs, private functions and invariants need: no public contract mentions it.
 pub mod Times
+pub mod Jobs
 pub mod Drafts
 pub mod Deals
 pub mod Dealing
