@@ -1,2 +1,3 @@
 pub mod Coalitions
 pub mod Lists
+pub mod SizeCounts
