@@ -11,6 +11,7 @@ mod options;
 mod report_lines;
 mod sanitized;
 mod sink;
+mod size_counts;
 mod source;
 
 pub use coalition::Coalition;
@@ -21,4 +22,5 @@ pub use options::Options;
 pub use report_lines::ReportLines;
 pub use sanitized::{Sanitized, sanitize};
 pub use sink::Sink;
+pub use size_counts::{SizeCounts, add_counts};
 pub use source::Source;

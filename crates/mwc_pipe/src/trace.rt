@@ -7,11 +7,11 @@ ghost use Rattle.mwc_pipe.specs.History.{history, replies, items_in, items_out, 
 ghost use Rattle.mwc_pipe.specs.Laws.{NothingEntersAfterClose};
 
 use crate::pipe::Pipe;
-use crate::taken::Taken;
-use coalitions::Memory;
 use crate::refused::Refused;
 use crate::reply::Reply;
 use crate::step::Step;
+use crate::taken::Taken;
+use coalitions::Memory;
 use std::alloc::Global;
 
 /// What a pipe made of a list of steps.
