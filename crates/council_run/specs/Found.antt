@@ -7,16 +7,12 @@ use Rattle.council_game.specs.Votes.{minimal_coalitions}
 use Rattle.mwc_gather.specs.declared.fault.GatherFault.TheVariants as gather
 use Rattle.mwc_gather.specs.declared.gathered.Gathered.{Gathered}
 use Rattle.mwc_gather.specs.Parts.{HasPieces}
-use Rattle.power_index.specs.Tables.{AreCounts, Tables}
+use Rattle.power_index.specs.Tables.{AreCountsOfGame}
 use Rattle.council_run.specs.declared.fault.Cause.{Cause}
 use Rattle.council_run.specs.declared.fault.Cause.TheVariants as cause
 use Rattle.council_run.specs.declared.found.Coalitions.{Coalitions}
 use Rattle.council_run.specs.declared.found.Coalitions.TheVariants as coalitions
 use Rattle.council_run.specs.declared.found.Found.{Found}
-
--- the counts of all minimal winning coalitions of a game
-abbrev pub CountAll : GameView → Tables → Type 0
-CountAll g counts = AreCounts g (minimal_coalitions (votes_of g)) counts
 
 -- the parts of the workers hold all of them, slice by slice
 pub record HoldAll (g : GameView) (r : Gathered) : Type 0 where
@@ -32,7 +28,7 @@ AreListed g lines (coalitions.Parts r) = HoldAll g r
 
 -- what the report of a game with these lines is made from
 abbrev pub IsFound : GameView → ReportLines → Found → Type 0
-IsFound g lines found = CountAll g found.counts.value × AreListed g lines found.coalitions
+IsFound g lines found = AreCountsOfGame g found.counts.value × AreListed g lines found.coalitions
 
 -- why the coalitions of a game were not found: too many are only more than are taken
 abbrev pub IsNotFound : (GameView → Type 0) → GameView → Cause → Type 0

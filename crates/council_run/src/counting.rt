@@ -1,18 +1,18 @@
 //! Counting the coalitions of a game, and keeping none: by sums, and what these leave by worker threads or by one walk.
 ghost use Rattle.std.specs.Prelude.{◌≡◌, ◌⊎◌, IfErr, IfOk};
 ghost use Rattle.coalitions.specs.Options.{lines_of, without_list};
-ghost use Rattle.council_run.specs.Found.{CountAll};
+ghost use Rattle.power_index.specs.Tables.{AreCountsOfGame};
 ghost use Rattle.council_run.specs.Run.{IsAnyGame};
 ghost use Rattle.council_run.specs.declared.fault.Cause.TheVariants as cause;
 ghost use Rattle.mwc_gather.specs.declared.fault.GatherFault.TheVariants as gather;
-ghost use Rattle.mwc_sums.specs.Chambers.{AreChambersOf};
+ghost use Rattle.mwc_sums.specs.Coverage.{ArePartsOf};
 
 use crate::fault::RunFault;
 use crate::finder::Finder;
 use crate::found::{Coalitions, Found};
 use coalitions::{Gate, Memory, Options, ReportLines};
 use council_game::Game;
-use mwc_sums::{BySums, Parts, count_by_sums};
+use mwc_sums::{Coverage, Parts, count_by_sums};
 use mwc_tally::{TallyFault, tally, tally_slice};
 use mwc_walk::laws::one_slice_is_the_whole;
 use power_index::Counts;
@@ -33,7 +33,7 @@ pub trait Counter {
     ///
     /// `Memory` if memory ran out, `Start` if a thread could not be started.
     fn count(&self, alloc: Global, game: &Game) -> Result<Box<Counts>, TallyFault>
-        ensures { IfOk result (λ counts. CountAll game.now counts.value) };
+        ensures { IfOk result (λ counts. AreCountsOfGame game.now counts.value) };
 }
 
 /// Counts by worker threads behind a gate.
@@ -49,7 +49,8 @@ impl<'a, T: Threads + Wait + Sync, G: Gate + Sync> Counter for ThreadCounter<'a,
     #[inline(never)]
     fn count(&self, alloc: Global, game: &Game) -> Result<Box<Counts>, TallyFault> {
         let bits = self.options.bits.max(LEAST_BITS).min(game.members() as u8);
-        tally(self.rt, alloc, game, bits, self.options.workers, self.gate)
+        let counts = tally(self.rt, alloc, game, bits, self.options.workers, &mwc_tally::NoWatch)?;
+        Ok(Box::new(alloc, counts)?)
     }
 }
 
@@ -81,21 +82,21 @@ fn count_rest<C: Counter>(
     parts: Parts,
     counter: &C,
 ) -> Result<Box<Counts>, TallyFault>
-    requires { AreChambersOf game.now parts.counted.game parts.left }
-    ensures { IfOk result (λ counts. CountAll game.now counts.value) }
+    requires { ArePartsOf game.now parts }
+    ensures { IfOk result (λ counts. AreCountsOfGame game.now counts.value) }
 {
     let left = counter.count(alloc, &parts.left)?;
-    Ok(parts.join(alloc, game, left)?)
+    Ok(parts.join(game, left))
 }
 
 /// Counts the coalitions of a game.
 fn count<C: Counter>(alloc: Global, game: &Game, counter: &C) -> Result<Box<Counts>, TallyFault>
-    ensures { IfOk result (λ counts. CountAll game.now counts.value) }
+    ensures { IfOk result (λ counts. AreCountsOfGame game.now counts.value) }
 {
     match count_by_sums(alloc, game)? {
-        BySums::All(counts) => Ok(counts),
-        BySums::Part(parts) => count_rest(alloc, game, parts, counter),
-        BySums::Nothing => counter.count(alloc, game),
+        Coverage::All(counts) => Ok(counts),
+        Coverage::Part(parts) => count_rest(alloc, game, parts, counter),
+        Coverage::Nothing => counter.count(alloc, game),
     }
 }
 

@@ -6,7 +6,8 @@ ghost use Rattle.council_game.specs.Game.{votes_of};
 ghost use Rattle.council_game.specs.Votes.{minimal_coalitions};
 ghost use Rattle.council_report.specs.Outcome.{Falls};
 ghost use Rattle.council_report.specs.Report.{report};
-ghost use Rattle.council_run.specs.Found.{CountAll, HoldAll, IsFound};
+ghost use Rattle.council_run.specs.Found.{HoldAll, IsFound};
+ghost use Rattle.power_index.specs.Tables.{AreCountsOfGame};
 
 use coalitions::{Coalition, Memory, ReportLines};
 use council_game::Game;
@@ -59,7 +60,7 @@ fn write_pieces<W: Write>(
     writer: &mut W,
 ) -> Result<u64, ReportFault>
     requires pieces { joined pieces.now ≡ minimal_coalitions (votes_of game.now) }
-    requires counts { CountAll game.now counts.now }
+    requires counts { AreCountsOfGame game.now counts.now }
     ensures count { IfOk result (λ count. count ≡ length (report lines game.now)) }
     ensures ok { OnOk result
         (Appends (W.contents writer.old) (W.contents writer.new) (report lines game.now)) }

@@ -2,7 +2,8 @@
 ghost use Rattle.std.specs.Prelude.{◌≡◌, ◌≤◌, Err, IfOk, length, ⊤};
 ghost use Rattle.coalitions.specs.Options.{lines_of};
 ghost use Rattle.coalitions.specs.declared.limits.TheConstants.{WORKERS};
-ghost use Rattle.council_run.specs.Found.{CountAll, HoldAll};
+ghost use Rattle.council_run.specs.Found.{HoldAll};
+ghost use Rattle.power_index.specs.Tables.{AreCountsOfGame};
 ghost use Rattle.council_run.specs.Run.{HasAtMost, count_of};
 
 use crate::fault::{Cause, RunFault};
@@ -53,7 +54,7 @@ fn count_gathered<T: Threads + Wait + Sync>(
 ) -> Result<Box<Counts>, RunFault>
     requires threads { (1 ≤ threads) × (threads ≤ WORKERS) }
     requires whole { HoldAll game.now gathered.now }
-    ensures counts { IfOk result (λ counts. CountAll game.now counts.value) }
+    ensures counts { IfOk result (λ counts. AreCountsOfGame game.now counts.value) }
 {
     let pieces = pieces(alloc, game, gathered)?;
     let counts = tally_pieces(rt, game, &pieces, threads)?;
