@@ -87,12 +87,6 @@ printed() {
     fi
 }
 
-# Whether the last run printed the standard input of this call, in which " | " stands for a TAB.
-printed_lines() {
-    sed "s/ | /$(printf '\t')/g" >"$temp/wanted"
-    printed "$1" "$temp/wanted"
-}
-
 # Whether the last run ended with the status $2, printed nothing, and wrote to standard error the
 # one line `council: $3`.
 refused() {
