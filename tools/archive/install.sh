@@ -8,10 +8,10 @@
 # need it. The program goes to bin, the library for other languages to lib and include, the manual
 # page and the completions to share, the documents and examples to share/doc/council.
 #
-# The list share/doc/council/FILES names every file that was installed and, with a / at the end, every
-# folder that was made, the last first. It is written before each step, so --uninstall also takes out
-# an install that stopped half-way. An install takes out an earlier one first. A folder where a file
-# should be is reported, and stays.
+# The list share/doc/council/FILES names every file that was installed and, with a / at the end,
+# every folder that was made, the last first. It is written before each step, so --uninstall also
+# takes out an install that stopped half-way. An install takes out an earlier one first. A folder
+# where a file should be is reported, and stays.
 set -eu
 # what is installed is for all users
 umask 022
