@@ -27,6 +27,19 @@ if cmp -s "$archive" "$temp/two/$(basename "$archive")"; then
 else
     failed "two archives are the same bytes" "they differ"
 fi
+mkdir -p "$temp/elsewhere/here"
+(cd "$temp" && CDPATH=$temp/elsewhere "$top/tools/release.sh" --draft --to here "$program") >"$temp/out" 2>&1
+name="an archive in a folder of the folder at hand, with CDPATH"
+if [ "$(cat "$temp/out")" = "$temp/here/${archive##*/}" ] && cmp -s "$temp/one/SHA256SUMS" "$temp/here/SHA256SUMS"; then
+    ok "$name"
+else
+    failed "$name" "$(tail -n 1 "$temp/out")"
+fi
+for command in cut find python3; do
+    without "$command" "$top/tools/release.sh" --draft --to "$temp/none" "$program"
+    sed -i 's/^tools.release.sh:/council:/' "$temp/err"
+    refused "no archive without $command" 1 "the command $command was not found"
+done
 if (cd "$temp/one" && sha256sum -c SHA256SUMS >/dev/null 2>&1); then ok "SHA256SUMS"; else failed "SHA256SUMS" "$(cat "$temp/one/SHA256SUMS")"; fi
 if tar tvzf "$archive" | grep -vqE '^(drwxr-xr-x|-rwxr-xr-x|-rw-r--r--) 0/0 '; then
     failed "owners and modes in the archive" "$(tar tvzf "$archive" | grep -vE '^(drwxr-xr-x|-rwxr-xr-x|-rw-r--r--) 0/0 ' | head -n 1)"

@@ -64,6 +64,17 @@ run() {
     status=$?
 }
 
+# without COMMAND WORD..: runs the words where this command of the system is missing, and keeps what `run` keeps.
+without() {
+    rm -rf "$temp/few"
+    mkdir "$temp/few"
+    ln -s /usr/bin/* "$temp/few/"
+    ln -sf /bin/* "$temp/few/"
+    rm -f "$temp/few/$1"
+    PATH=$temp/few:${kit:-} timeout "$seconds" "${@:2}" >"$temp/out" 2>"$temp/err" </dev/null
+    status=$?
+}
+
 # Whether the last run ended with status 0 and nothing on standard error.
 succeeded() {
     if [ "$status" -ne 0 ]; then

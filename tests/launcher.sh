@@ -105,20 +105,15 @@ for error in '&-' /dev/full; do
 done
 
 # ---- where a command is missing
-mkdir "$temp/few"
-ln -s /usr/bin/* "$temp/few/"
-ln -sf /bin/* "$temp/kit/rt" "$temp/few/"
 for command in cut find python3; do
     name="a first use without $command"
-    rm -rf "$copy"/crates/*/out "$temp/few/$command"
-    PATH=$temp/few timeout "$seconds" "$copy/council" >"$temp/out" 2>"$temp/err" </dev/null
-    status=$?
+    rm -rf "$copy"/crates/*/out
+    without "$command" "$copy/council"
     if [ "$status" -eq 1 ] && [ "$(wc -l <"$temp/err")" -eq 1 ] && grep -q "the command $command.* was not found" "$temp/err"; then
         ok "$name"
     else
         failed "$name" "status $status: $(tr '\n' '/' <"$temp/err")"
     fi
-    ln -s "$(command -v "$command")" "$temp/few/"
 done
 use
 

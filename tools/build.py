@@ -564,6 +564,6 @@ def main():
 
 try:
     sys.exit(main())
-except OSError as error:
+except (OSError, subprocess.CalledProcessError) as error:
     say(error)
     sys.exit(1)
