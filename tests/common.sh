@@ -64,6 +64,17 @@ run() {
     status=$?
 }
 
+# without COMMAND WORD..: runs the words where this command of the system is missing, and keeps what `run` keeps.
+without() {
+    rm -rf "$temp/few"
+    mkdir "$temp/few"
+    ln -s /usr/bin/* "$temp/few/"
+    ln -sf /bin/* "$temp/few/"
+    rm -f "$temp/few/$1"
+    PATH=$temp/few:${kit:-} timeout "$seconds" "${@:2}" >"$temp/out" 2>"$temp/err" </dev/null
+    status=$?
+}
+
 # Whether the last run ended with status 0 and nothing on standard error.
 succeeded() {
     if [ "$status" -ne 0 ]; then
@@ -85,12 +96,6 @@ printed() {
             failed "$1" "the report differs: $(diff "$temp/out" "$2" | head -n 4 | tr '\n' ';')"
         fi
     fi
-}
-
-# Whether the last run printed the standard input of this call, in which " | " stands for a TAB.
-printed_lines() {
-    sed "s/ | /$(printf '\t')/g" >"$temp/wanted"
-    printed "$1" "$temp/wanted"
 }
 
 # Whether the last run ended with the status $2, printed nothing, and wrote to standard error the

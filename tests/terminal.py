@@ -8,6 +8,7 @@ import os
 import pty
 import signal
 import subprocess
+import sys
 import time
 
 
@@ -80,3 +81,11 @@ def type_in(words, typed):
     os.write(leader, typed)
     out, err = made.communicate(timeout=60)
     return made.returncode, out, err
+
+
+if __name__ == "__main__":
+    # the words that follow are run with a terminal as standard error, and what it shows is passed on
+    run = Run(sys.argv[1:], stdout=None)
+    status = run.read_all()
+    os.write(2, run.told)
+    sys.exit(status)

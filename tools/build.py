@@ -73,7 +73,13 @@ PROOFS, STOPPED = [], []
 
 
 def say(text):
-    print(f"council: {text}", file=sys.stderr, flush=True)
+    """Says a line on standard error, if that is open and takes it."""
+    try:
+        if sys.stderr:
+            print(f"council: {text}", file=sys.stderr, flush=True)
+    except OSError:
+        # (what is still to be written, as at the end, goes nowhere)
+        os.dup2(os.open(os.devnull, os.O_WRONLY), sys.stderr.fileno())
 
 
 def lines_of_crates():
@@ -558,6 +564,6 @@ def main():
 
 try:
     sys.exit(main())
-except OSError as error:
+except (OSError, subprocess.CalledProcessError) as error:
     say(error)
     sys.exit(1)

@@ -29,6 +29,7 @@ def run(main):
     try:
         sys.stdin = sys.stdin or open(os.devnull, encoding="utf-8")
         sys.stdout = sys.stdout or open(os.devnull, "r+", encoding="utf-8")
+        sys.stderr = sys.stderr or open(os.devnull, "r+", encoding="utf-8")
         sys.stdin.reconfigure(encoding="utf-8-sig")
         sys.stdout.reconfigure(encoding="utf-8", newline="\n")
         sys.stderr.reconfigure(errors="backslashreplace")
@@ -44,8 +45,7 @@ def run(main):
         if it.filename:
             status = tell(f"{it.filename}: {it.strerror}", 1)
         else:
-            # what is still to be written, as when the program ends, goes nowhere
-            os.dup2(os.open(os.devnull, os.O_WRONLY), sys.stdout.fileno())
+            drop(sys.stdout)
             status = tell("output failed", 1)
     except KeyboardInterrupt:
         status = 130
@@ -53,8 +53,17 @@ def run(main):
 
 
 def tell(text, status):
-    print(f"{os.path.basename(sys.argv[0])}: {shown(text)}", file=sys.stderr, flush=True)
+    """Says a line on standard error, if that takes it; returns the status."""
+    try:
+        print(f"{os.path.basename(sys.argv[0])}: {shown(text)}", file=sys.stderr, flush=True)
+    except OSError:
+        drop(sys.stderr)
     return status
+
+
+def drop(file):
+    """Lets a file go nowhere that takes nothing more, also what is still to be written at the end."""
+    os.dup2(os.open(os.devnull, os.O_WRONLY), file.fileno())
 
 
 def note(text):
