@@ -1,8 +1,6 @@
 -- What a call is asked for.
 use Rattle.std.specs.Prelude.{ℕ, ◌≡◌, ◌≤◌, ◌==◌, ◌&&◌, ◌||◌, nat_lt, Bool, false, if◌then◌else◌}
-use Rattle.coalitions.specs.Options.{lines_of}
 use Rattle.coalitions.specs.declared.limits.TheConstants.{COALITIONS}
-use Rattle.coalitions.specs.declared.options.Options.{Options}
 use Rattle.coalitions.specs.declared.report_lines.ReportLines.{ReportLines}
 use Rattle.council_game.specs.Game.{GameView}
 use Rattle.council_run.specs.Run.{count_of}
@@ -19,10 +17,6 @@ most_of o = if o.most == 0 then 1000000 else o.most
 -- the optional lines of the report
 abbrev pub lines_of_call : CouncilOptions → ReportLines
 lines_of_call o = record { list = o.list; sizes = o.sizes; notation = o.notation }
-
--- these options of a run ask for the same
-abbrev pub AskForTheSame : CouncilOptions → Options → Type 0
-AskForTheSame call run = (run.most ≡ most_of call) × (lines_of run ≡ lines_of_call call)
 
 -- a tally takes any number of minimal winning coalitions
 abbrev pub IsTaken : CouncilOptions → GameView → Type 0

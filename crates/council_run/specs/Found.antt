@@ -10,6 +10,7 @@ use Rattle.mwc_gather.specs.Parts.{HasPieces}
 use Rattle.power_index.specs.Tables.{AreCountsOfGame}
 use Rattle.council_run.specs.declared.fault.Cause.{Cause}
 use Rattle.council_run.specs.declared.fault.Cause.TheVariants as cause
+use Rattle.council_run.specs.declared.fault.RunFault.{RunFault}
 use Rattle.council_run.specs.declared.found.Coalitions.{Coalitions}
 use Rattle.council_run.specs.declared.found.Coalitions.TheVariants as coalitions
 use Rattle.council_run.specs.declared.found.Found.{Found}
@@ -37,3 +38,7 @@ IsNotFound IsWithin g (cause.Gather gather.TooMany) = IsWithin g → ⊥
 IsNotFound IsWithin g (cause.Gather fault) = ⊤
 IsNotFound IsWithin g cause.Write = ⊥
 IsNotFound IsWithin g cause.Memory = ⊤
+
+-- why finding them failed, before anything was written
+abbrev pub IsFailure : (Cause → Type 0) → (GameView → Type 0) → GameView → RunFault → Type 0
+IsFailure fails IsWithin g fault = fails fault.cause × IsNotFound IsWithin g fault.cause × (fault.written ≡ 0)

@@ -40,12 +40,6 @@ IsAnyGame g = Unit {0}
 abbrev pub WritesNothing : Option (List ℕ) → Option (List ℕ) → ℕ → Type 0
 WritesNothing before after written = (written ≡ 0) × Keeps before after
 
--- A run that succeeds wrote the text of the game that it read, and nothing else; the game is within its limit.
-abbrev pub Reports : (GameView → List ℕ) → (GameView → Type 0) → (Result GameView GameFault → Type 0) → Option (List ℕ) → Option (List ℕ)
-    → ℕ → Type 0
-Reports text IsWithin Read before after len =
-    (g : GameView) × Read (Ok g) × IsWithin g × (len ≡ length (text g)) × Appends before after (text g)
-
 -- A run that stops wrote nothing, or the first bytes of the text; the fault of a game is that of the bytes read.
 abbrev pub Stops : (GameView → List ℕ) → (GameView → Type 0) → (Result GameView GameFault → Type 0) → Option (List ℕ) → Option (List ℕ)
     → Cause → ℕ → Type 0
@@ -59,8 +53,9 @@ Stops text IsWithin Read before after cause.Memory written = WritesNothing befor
 Stops text IsWithin Read before after cause.Write written =
     (g : GameView) × Read (Ok g) × IsWithin g × (written ≤ length (text g)) × Appends before after (take written (text g))
 
--- what a run answers
+-- A run that succeeds wrote the text of the game that it read, and nothing else; the game is within its limit.
 abbrev pub IsOutcome : (GameView → List ℕ) → (GameView → Type 0) → (Result GameView GameFault → Type 0) → Option (List ℕ) → Option (List ℕ)
     → Result ℕ RunFault → Type 0
-IsOutcome text IsWithin Read before after (Ok len) = Reports text IsWithin Read before after len
+IsOutcome text IsWithin Read before after (Ok len) =
+    (g : GameView) × Read (Ok g) × IsWithin g × (len ≡ length (text g)) × Appends before after (text g)
 IsOutcome text IsWithin Read before after (Err fault) = Stops text IsWithin Read before after fault.cause fault.written

@@ -1,8 +1,8 @@
 //! Ways to find the coalitions of a game.
-ghost use Rattle.std.specs.Prelude.{◌≡◌, ◌≢◌, ℕ, IfErr, IfOk, ⊤};
+ghost use Rattle.std.specs.Prelude.{◌≡◌, IfErr, IfOk};
 ghost use Rattle.coalitions.specs.declared.report_lines.ReportLines.{ReportLines};
 ghost use Rattle.council_game.specs.Game.{GameView};
-ghost use Rattle.council_run.specs.Found.{IsFound, IsNotFound};
+ghost use Rattle.council_run.specs.Found.{IsFailure, IsFound};
 ghost use Rattle.council_run.specs.declared.fault.Cause.{Cause};
 
 use crate::fault::RunFault;
@@ -34,5 +34,5 @@ pub trait Finder {
     fn find(&self, alloc: Global, game: &Game) -> Result<Found, RunFault>
         ensures takes { IfOk result (λ _. takes self.now game.now) }
         ensures found { IfOk result (IsFound game.now (lines self.now)) }
-        ensures fails { IfErr result (λ fault. fails fault.cause × IsNotFound (takes self.now) game.now fault.cause × (fault.written ≡ 0)) };
+        ensures fails { IfErr result (IsFailure fails (takes self.now) game.now) };
 }
